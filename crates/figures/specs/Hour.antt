@@ -1,0 +1,37 @@
+-- The hour that is checked whole (01): its text, its result, and the table as a value.
+-- Assumes nothing.
+use mathlib.Core.List.{List, [], _∷_, _++_}
+use Prim.Native.Nat.{ℕ}
+use lib.IntN.{pos}
+use Rattle.numbers.specs.Ints.{minus}
+use Rattle.table.specs.Table.{Table}
+use Rattle.figures.specs.Sheets.{sheet}
+
+abbrev pub hourText : List ℕ
+hourText =
+    sheet "H 3 2 4/Z 0 500000/Z 1 -200000/Z 2 -300000/B 0 0 1 100/B 1 1 2 200/"
+    ++ sheet "C 0 1000000 200000 200000 150000 7000 0 80000 30000 10000 0/"
+    ++ sheet "C 1 100000 10000 15000 0 7000 0 0 5000 5000 0/"
+    ++ sheet "C 2 100000 0 0 0 0 0 0 4999 0 0/"
+    ++ sheet "C 3 1000000 0 130000 0 7000 0 0 20000 0 -10000/"
+
+abbrev pub hourResult : List ℕ
+hourResult =
+    sheet "A 0 2599/A 1 1800/"
+    ++ sheet "M 0 0 70000000000 20000/M 1 0 9000000000 0/M 2 1 12499500000 -/M 3 2 100000000000 -/R 21/"
+
+abbrev pub hourTable : Table
+hourTable =
+    record {
+      header = record { zones = 3; borders = 2; rows = 4 };
+      nets = pos 500000 ∷ minus 200000 ∷ minus 300000 ∷ [];
+      borders = (pos 0 ∷ pos 1 ∷ pos 100 ∷ []) ∷ (pos 1 ∷ pos 2 ∷ pos 200 ∷ []) ∷ [];
+      rows =
+          (pos 1000000 ∷ pos 200000 ∷ pos 200000 ∷ pos 150000 ∷ pos 7000 ∷ pos 0 ∷ pos 80000 ∷ [])
+          ∷ (pos 100000 ∷ pos 10000 ∷ pos 15000 ∷ pos 0 ∷ pos 7000 ∷ pos 0 ∷ pos 0 ∷ [])
+          ∷ (pos 100000 ∷ pos 0 ∷ pos 0 ∷ pos 0 ∷ pos 0 ∷ pos 0 ∷ pos 0 ∷ [])
+          ∷ (pos 1000000 ∷ pos 0 ∷ pos 130000 ∷ pos 0 ∷ pos 7000 ∷ pos 0 ∷ pos 0 ∷ [])
+          ∷ [];
+      factors =
+          pos 30000 ∷ pos 10000 ∷ pos 0 ∷ pos 5000 ∷ pos 5000 ∷ pos 0 ∷ pos 4999 ∷ pos 0 ∷ pos 0 ∷ pos 20000 ∷ pos 0 ∷ minus 10000 ∷ [];
+    }

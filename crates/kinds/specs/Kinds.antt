@@ -1,0 +1,30 @@
+-- What each judging constructor answers: the value where the raw record is in range (`Ranges.antt`), else `Out`.
+-- Assumes nothing.
+use mathlib.Core.Bool.{cond}
+use mathlib.Core.List.{List}
+use Prim.Native.Nat.{ℕ}
+use lib.IntN.{ℤ}
+use Rattle.kinds.specs.declared.Header.{Header}
+use Rattle.kinds.specs.declared.HeaderRead.{HeaderRead}
+use Rattle.kinds.specs.declared.HeaderRead.the-variants as header
+use Rattle.kinds.specs.declared.ZoneRead.{ZoneRead}
+use Rattle.kinds.specs.declared.ZoneRead.the-variants as zone
+use Rattle.kinds.specs.declared.BorderRead.{BorderRead}
+use Rattle.kinds.specs.declared.BorderRead.the-variants as border
+use Rattle.kinds.specs.declared.RowRead.{RowRead}
+use Rattle.kinds.specs.declared.RowRead.the-variants as row
+use Rattle.kinds.specs.Ranges.{headerFits, zoneFits, borderFits, borderOf, rowFits, rowOf}
+
+unfoldable pub headerRead : (zones borders rows : ℕ) → HeaderRead
+headerRead zones borders rows =
+    let h : Header = record { zones = zones; borders = borders; rows = rows } in
+    cond (headerFits h) (header.Good h) header.Out
+
+unfoldable pub zoneRead : ℤ → ZoneRead
+zoneRead net = cond (zoneFits net) (zone.Good (record { net = net })) zone.Out
+
+unfoldable pub borderRead : (zones : ℕ) → List ℤ → BorderRead
+borderRead zones raw = cond (borderFits zones raw) (border.Good (borderOf raw)) border.Out
+
+unfoldable pub rowRead : List ℤ → RowRead
+rowRead raw = cond (rowFits raw) (row.Good (rowOf raw)) row.Out

@@ -1,0 +1,5 @@
+pub mod Limits
+pub mod Ranges
+pub mod Kinds
+pub mod Refusals
+pub mod Answers

@@ -1,0 +1,80 @@
+-- What each line of the table may hold (01, "The table as text", the column of ranges): each range stands here once.
+-- A raw record is the list of numbers of a line, without letter and index. Judging text and judging lent tables both cite these.
+-- Assumes nothing.
+use mathlib.Core.Bool.{Bool, cond, not, _&&_}
+use mathlib.Core.List.{List}
+use Prim.Native.Nat.{ℕ}
+use lib.Dec.{leb}
+use lib.IntN.{ℤ, pos, natAbs}
+use lib.ListN.{getD}
+use lib.Signed.{ltZ}
+use Rattle.numbers.specs.Ints.{minus, inside, sameℤ}
+use Rattle.kinds.specs.declared.Header.{Header}
+use Rattle.kinds.specs.declared.Border.{Border}
+use Rattle.kinds.specs.declared.Share.{Share}
+use Rattle.kinds.specs.declared.Share.the-variants.{Standard, Written}
+use Rattle.kinds.specs.declared.Row.{Row}
+use Rattle.kinds.specs.Limits.{zonesLeast, zonesMost, bordersLeast, bordersMost, rowsLeast, rowsMost, netMost, ltaMost, fmaxLeast, fmaxMost, flowMost, shareMost, shareStandard, vaMost, factorMost}
+
+-- number k of a raw record, or of any list of whole numbers
+abbrev pub atℤ : List ℤ → ℕ → ℤ
+atℤ raw k = getD raw k (pos 0)
+
+-- H: zones 2..16, borders 1..40, rows 1..200
+unfoldable pub headerFits : Header → Bool
+headerFits h =
+    leb zonesLeast (h .zones) && leb (h .zones) zonesMost
+    && leb bordersLeast (h .borders) && leb (h .borders) bordersMost
+    && leb rowsLeast (h .rows) && leb (h .rows) rowsMost
+
+-- Z: reference net position, kW, -100000000..100000000
+unfoldable pub zoneFits : ℤ → Bool
+zoneFits net = inside (minus netMost) (pos netMost) net
+
+-- B: from zone, to zone (both exist, not equal), LTA in MW 0..10000
+unfoldable pub exists : (zones : ℕ) → ℤ → Bool
+exists zones z = not (ltZ z (pos 0)) && ltZ z (pos zones)
+
+unfoldable pub borderFits : (zones : ℕ) → List ℤ → Bool
+borderFits zones raw =
+    exists zones (atℤ raw 0) && exists zones (atℤ raw 1) && not (sameℤ (atℤ raw 0) (atℤ raw 1))
+    && inside (pos 0) (pos ltaMost) (atℤ raw 2)
+
+unfoldable pub borderOf : List ℤ → Border
+borderOf raw = record { from = natAbs (atℤ raw 0); to = natAbs (atℤ raw 1); lta = natAbs (atℤ raw 2) }
+
+-- R as it was written: the raw number is -1 where that was "-"
+unfoldable pub shareOf : ℤ → Share
+shareOf r = cond (ltZ r (pos 0)) Standard (Written r)
+
+unfoldable pub rowOf : List ℤ → Row
+rowOf raw =
+    record {
+      fmax = atℤ raw 0;
+      frm = atℤ raw 1;
+      fref = atℤ raw 2;
+      f0all = atℤ raw 3;
+      share = shareOf (atℤ raw 4);
+      cva = atℤ raw 5;
+      iva = atℤ raw 6;
+    }
+
+-- C: Fmax kW 1..10000000, FRM kW 0..Fmax, Fref kW -20000000..20000000, F0all kW same range, R 0..10000 or "-", CVA kW 0..10000000, IVA kW same
+unfoldable pub rowFits : List ℤ → Bool
+rowFits raw =
+    inside (pos fmaxLeast) (pos fmaxMost) (rowOf raw .fmax)
+    && inside (pos 0) (rowOf raw .fmax) (rowOf raw .frm)
+    && inside (minus flowMost) (pos flowMost) (rowOf raw .fref)
+    && inside (minus flowMost) (pos flowMost) (rowOf raw .f0all)
+    && inside (minus 1) (pos shareMost) (atℤ raw 4)
+    && inside (pos 0) (pos vaMost) (rowOf raw .cva)
+    && inside (pos 0) (pos vaMost) (rowOf raw .iva)
+
+-- .. then one factor per zone, -100000..100000
+unfoldable pub factorFits : ℤ → Bool
+factorFits factor = inside (minus factorMost) (pos factorMost) factor
+
+-- what R is worth, in ten-thousandths: "-" means 7000
+unfoldable pub worth : Share → ℤ
+worth Standard = pos shareStandard
+worth (Written r) = r

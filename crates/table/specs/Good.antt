@@ -1,0 +1,27 @@
+-- What a table that was judged has: lengths as its header says, every record in range, no border given twice.
+-- Functions on judged tables ask for `Good`; that judging and reading give it is proved (`GoodLaws.antt`).
+-- Assumes nothing.
+use mathlib.Core.Path.{_≡_}
+use mathlib.Core.Bool.{true, false}
+use mathlib.Core.List.{[]}
+use Prim.Native.Nat.{ℕ, _*_, _<_}
+use lib.ListN.{length, getD}
+use Rattle.kinds.specs.Ranges.{atℤ, headerFits, zoneFits, borderFits, rowFits, factorFits}
+use Rattle.table.specs.Table.{Table, twice}
+
+pub record Good (t : Table) : Type 0 where
+  pub header : headerFits (t .header) ≡ true
+  pub nets-long : length (t .nets) ≡ t .header .zones
+  pub borders-long : length (t .borders) ≡ t .header .borders
+  pub rows-long : length (t .rows) ≡ t .header .rows
+  pub factors-long : length (t .factors) ≡ t .header .rows * t .header .zones
+  pub nets-fit : (i : ℕ) → i < t .header .zones → zoneFits (atℤ (t .nets) i) ≡ true
+  pub borders-fit : (b : ℕ) → b < t .header .borders → borderFits (t .header .zones) (getD (t .borders) b []) ≡ true
+  pub rows-fit : (i : ℕ) → i < t .header .rows → rowFits (getD (t .rows) i []) ≡ true
+  pub factors-fit : (k : ℕ) → k < t .header .rows * t .header .zones → factorFits (atℤ (t .factors) k) ≡ true
+  pub once : (b : ℕ) → b < t .header .borders → twice (t .borders) b ≡ false
+
+-- a raw border record has three numbers, a raw row record seven: what a lent record's type says of it
+pub record Shaped (t : Table) : Type 0 where
+  pub borders-wide : (b : ℕ) → b < t .header .borders → length (getD (t .borders) b []) ≡ 3
+  pub rows-wide : (i : ℕ) → i < t .header .rows → length (getD (t .rows) i []) ≡ 7

@@ -1,0 +1,105 @@
+-- The table as a value, and how lent tables are judged (01, "The table as text", "When the table is turned away").
+-- Every definition above this file speaks of a `Table`. Raw records hold no index.
+-- Assumes nothing.
+use mathlib.Core.Bool.{Bool, not, _&&_}
+use mathlib.Core.List.{List, []}
+use Prim.Native.Nat.{ℕ, _+_, _*_}
+use lib.Dec.{eqb}
+use lib.IntN.{ℤ}
+use lib.ListN.{length, getD, take, drop}
+use Rattle.numbers.specs.Below.{someBelow, allBelow}
+use Rattle.kinds.specs.declared.Header.{Header}
+use Rattle.kinds.specs.declared.Border.{Border}
+use Rattle.kinds.specs.declared.Row.{Row}
+use Rattle.kinds.specs.Ranges.{atℤ, headerFits, zoneFits, borderFits, borderOf, rowOf, rowFits, factorFits}
+use Rattle.kinds.specs.Refusals.{Judged, passed, then, unless, refuseFirst, need, outOfRange, givenTwice}
+
+-- the header, and as many items as it says: net positions, raw border and row records, and the factors of all rows (lent tables may hold more)
+pub record Table : Type 0 where
+  pub header : Header
+  pub nets : List ℤ
+  pub borders : List (List ℤ)
+  pub rows : List (List ℤ)
+  pub factors : List ℤ
+
+-- lent tables, as a call takes them
+abbrev pub lent : Header → (z : List ℤ) → (b c : List (List ℤ)) → (f : List ℤ) → Table
+lent h z b c f = record { header = h; nets = z; borders = b; rows = c; factors = f }
+
+-- row i's stretch of a table of factors starts at item i x zones
+unfoldable pub stretch : (zones : ℕ) → (factors : List ℤ) → (i : ℕ) → List ℤ
+stretch zones factors i = take zones (drop (i * zones) factors)
+
+abbrev pub borderAt : Table → (b : ℕ) → Border
+borderAt t b = borderOf (getD (t .borders) b [])
+
+abbrev pub rowAt : Table → (i : ℕ) → Row
+rowAt t i = rowOf (getD (t .rows) i [])
+
+abbrev pub factorsAt : Table → (i : ℕ) → List ℤ
+factorsAt t i = stretch (t .header .zones) (t .factors) i
+
+-- the line that a record has in the text: the H line is line 1, and then come all Z, B, C lines
+abbrev pub headerLineNo : ℕ
+headerLineNo = 1
+
+abbrev pub zoneLineNo : ℕ
+zoneLineNo = headerLineNo + 1
+
+abbrev pub borderLineNo : Header → ℕ
+borderLineNo h = zoneLineNo + h .zones
+
+abbrev pub rowLineNo : Header → ℕ
+rowLineNo h = borderLineNo h + h .borders
+
+-- .. and the line after the last
+abbrev pub pastLineNo : Header → ℕ
+pastLineNo h = rowLineNo h + h .rows
+
+-- 4: border b has the same from and to as an earlier border
+abbrev pub samePair : (x y : List ℤ) → Bool
+samePair x y = eqb (borderOf x .from) (borderOf y .from) && eqb (borderOf x .to) (borderOf y .to)
+
+unfoldable pub twice : (borders : List (List ℤ)) → (b : ℕ) → Bool
+twice borders b = someBelow b (λ e. samePair (getD borders e []) (getD borders b []))
+
+abbrev pub notTwice : Table → Judged Table
+notTwice t = refuseFirst (t .header .borders) (twice (t .borders)) givenTwice (passed t)
+
+-- a row record with its factors, all in range
+abbrev pub rowGood : (values factors : List ℤ) → Bool
+rowGood values factors = rowFits values && allBelow (length factors) (λ z. factorFits (atℤ factors z))
+
+-- 8, in the order Z, B, C, factors: room for a table of this header
+abbrev pub room : {A : Type 0} → Header → (given : Table) → Judged A → Judged A
+room h given next =
+    need (h .zones) (length (given .nets)) (need (h .borders) (length (given .borders))
+    (need (h .rows) (length (given .rows)) (need (h .rows * h .zones) (length (given .factors)) next)))
+
+-- the items that a header asks for, of lent tables that may hold more
+abbrev pub front : (given : Table) → Table
+front given =
+    let h = given .header in
+    record {
+      header = h;
+      nets = take (h .zones) (given .nets);
+      borders = take (h .borders) (given .borders);
+      rows = take (h .rows) (given .rows);
+      factors = take (h .rows * h .zones) (given .factors);
+    }
+
+-- each record in range, with the line it would have
+abbrev pub inRange : Table → Judged Table
+inRange t =
+    let h = t .header in
+    refuseFirst (h .zones) (λ i. not (zoneFits (atℤ (t .nets) i))) (λ i. outOfRange (zoneLineNo + i))
+    (refuseFirst (h .borders) (λ i. not (borderFits (h .zones) (getD (t .borders) i []))) (λ i. outOfRange (borderLineNo h + i))
+    (refuseFirst (h .rows) (λ i. not (rowGood (getD (t .rows) i []) (factorsAt t i))) (λ i. outOfRange (rowLineNo h + i))
+    (passed t)))
+
+-- a call on lent tables judges the header (3, line 1), then lengths (8), then 3 and 4
+unfoldable pub judgeLent : (given : Table) → Judged Table
+judgeLent given =
+    unless (headerFits (given .header)) (outOfRange headerLineNo)
+    (room (given .header) given
+    (then (inRange (front given)) notTwice))
