@@ -4,10 +4,10 @@
 use mathlib.Core.Bool.{Bool, not, _&&_}
 use mathlib.Core.List.{List, []}
 use Prim.Native.Nat.{ℕ, _+_, _*_}
-use lib.Dec.{eqb}
 use lib.IntN.{ℤ}
 use lib.ListN.{length, getD, take, drop}
 use Rattle.numbers.specs.Below.{someBelow, allBelow}
+use Rattle.numbers.specs.Ints.{sameℤ}
 use Rattle.kinds.specs.declared.Header.{Header}
 use Rattle.kinds.specs.declared.Border.{Border}
 use Rattle.kinds.specs.declared.Row.{Row}
@@ -58,7 +58,7 @@ pastLineNo h = rowLineNo h + h .rows
 
 -- 4: border b has the same from and to as an earlier border
 abbrev pub samePair : (x y : List ℤ) → Bool
-samePair x y = eqb (borderOf x .from) (borderOf y .from) && eqb (borderOf x .to) (borderOf y .to)
+samePair x y = sameℤ (atℤ x 0) (atℤ y 0) && sameℤ (atℤ x 1) (atℤ y 1)
 
 unfoldable pub twice : (borders : List (List ℤ)) → (b : ℕ) → Bool
 twice borders b = someBelow b (λ e. samePair (getD borders e []) (getD borders b []))
