@@ -46,10 +46,10 @@ module _ {A R : Type 0} (judge : List ℕ → ℕ → Line A) (first : ℕ) (f :
         }
 
 -- ---- round trips
-read-is : {A : Type 0} (ws ys : List A) (m n : ℕ) → read ws m ≡ read ys n → (ws ≡ ys) × (m ≡ n)
+pub read-is : {A : Type 0} (ws ys : List A) (m n : ℕ) → read ws m ≡ read ys n → (ws ≡ ys) × (m ≡ n)
 read-is ws ys m n e = (cc, cc)
 
-no-read : {A : Type 0} (w : Why) (ys : List A) (m : ℕ) → _≡_ {A = Block A} (fault w) (read ys m) → ⊥
+pub no-read : {A : Type 0} (w : Why) (ys : List A) (m : ℕ) → _≡_ {A = Block A} (fault w) (read ys m) → ⊥
 no-read {A} w ys m e = subst (λ (b : Block A). is b) e tt
   where
     is : Block A → Type 0

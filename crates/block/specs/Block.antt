@@ -3,7 +3,9 @@
 -- Assumes nothing.
 use mathlib.Core.List.{List, [], _∷_}
 use Prim.Native.Nat.{ℕ, zero, suc, _+_}
-use Rattle.kinds.specs.Refusals.{Why, Judged, refused, wrongForm, outOfRange}
+use Rattle.kinds.specs.Refusals.{Why, Judged, passed, refused, told, wrongForm, outOfRange}
+use Rattle.block.specs.declared.End.{End}
+use Rattle.block.specs.declared.End.the-variants.{At, Refused}
 use Rattle.text.specs.Line.{lineAt, after, Line, holds, form, range}
 
 -- what a run of lines comes to: what they hold and the place after them; or the refusal
@@ -32,3 +34,18 @@ linesAt judge first (suc left) text p i =
 abbrev pub withLines : {A B : Type 0} → Block A → (List A → ℕ → Judged B) → Judged B
 withLines (read xs next) f = f xs next
 withLines (fault w) f = refused w
+
+-- where a run of lines ends: what a pass that only judges comes to
+abbrev pub endOf : {A : Type 0} → Block A → Judged ℕ
+endOf (read xs next) = passed next
+endOf (fault w) = refused w
+
+-- the same as the code answers it
+abbrev pub saidEnd : End → Judged ℕ
+saidEnd (At next) = passed next
+saidEnd (Refused w) = refused (told w)
+
+-- what a run of good lines holds
+abbrev pub heldBy : {A : Type 0} → Block A → List A
+heldBy (read xs next) = xs
+heldBy (fault w) = []

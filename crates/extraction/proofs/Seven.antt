@@ -10,12 +10,11 @@ use lib.IntN.{ℤ, pos, _-ℤ_}
 use lib.Signed.{ltZ}
 use Rattle.numbers.specs.Below.{firstFrom, someBelow}
 use Rattle.numbers.proofs.BelowLaws.{first-nothing, table-get}
-use Rattle.kinds.specs.Ranges.{atℤ}
 use Rattle.kinds.specs.Refusals.{Judged, passed, refused, then, unless, refuseAt, refuseFirst, noRow, unlimited, belowZero}
 use Rattle.table.specs.Table.{Table, rowAt}
 use Rattle.margin.specs.Margin.{ramAt, sAt}
 use Rattle.margin.proofs.MarginLaws.{start-not-negative}
-use Rattle.extraction.specs.Extraction.{Rows, rowsOf, kept, gridOf, marginOf, Result, resultOf, judgeStart, outcomeOf}
+use Rattle.extraction.specs.Extraction.{rowsOf, kept, gridOf, marginOf, resultOf, judgeStart, outcomeOf}
 
 -- a judgement that is not refusal 7
 abbrev pub NotSeven : {A : Type 0} → Judged A → Type 0

@@ -14,8 +14,8 @@ use Rattle.kinds.specs.Ranges.{atℤ}
 use Rattle.kinds.specs.Refusals.{Judged, passed, refused, then, either, unless, refuseFirst, need, noRow, unlimited, belowZero}
 use Rattle.table.specs.Table.{Table, borderAt, factorsAt, judgeLent}
 use Rattle.rounds.specs.Rounds.{Grid, State, Outcome, extract, mostSharers, aloneBits}
-use Rattle.margin.specs.Margin.{pOf, ltaKw, sAt}
-use Rattle.margin.specs.States.{ramsOf, statesOf}
+use Rattle.margin.specs.Margin.{pOf, ltaKw, sAt, ramsOf}
+use Rattle.states.specs.States.{statesOf}
 
 -- the RAM and the state of each row
 pub record Rows : Type 0 where

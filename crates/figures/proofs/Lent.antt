@@ -1,4 +1,4 @@
--- What the open calls leave on the worked hour: an accepted call, and each refusal that only a lent call can give, by computation.
+-- What the open calls leave on the worked hour: an accepted call of each, and the refusals and turns that only a lent call has, by computation.
 -- Assumes nothing.
 use mathlib.Core.Path.{_≡_, refl}
 use mathlib.Core.List.{List, [], _∷_, _++_}
@@ -7,16 +7,17 @@ use lib.IntN.{ℤ, pos}
 use lib.ListN.{replicate, take, drop}
 use Rattle.numbers.specs.Ints.{minus}
 use Rattle.kinds.specs.declared.Header.{Header}
-use Rattle.kinds.specs.Refusals.{passed, refused, wrongForm, outOfRange, givenTwice, belowZero, tooShort}
-use Rattle.table.specs.Table.{Table}
+use Rattle.kinds.specs.Refusals.{passed, refused, wrongForm, outOfRange, givenTwice, unlimited, belowZero, tooShort}
+use Rattle.table.specs.Table.{lent}
 use Rattle.reading.specs.Reading.{readLeft}
-use Rattle.writing.specs.Writing.{writeLeft}
+use Rattle.writing.specs.Writing.{tableText, writeLeft}
 use Rattle.extraction.specs.Extraction.{extractLeft}
 use Rattle.result.specs.Result.{resultTextLeft, answerLeft}
 use Rattle.figures.specs.Computing.{computing}
 use Rattle.figures.specs.Sheets.{sheet}
 use Rattle.figures.specs.Hour.{hourText, hourResult, hourTable}
 
+-- the hour's tables, as they are lent
 abbrev h : Header
 h = hourTable .header
 
@@ -32,13 +33,14 @@ c = hourTable .rows
 abbrev f : List ℤ
 f = hourTable .factors
 
-abbrev lent : Header → List ℤ → (b c : List (List ℤ)) → List ℤ → Table
-lent h z b c f = record { header = h; nets = z; borders = b; rows = c; factors = f }
-
--- lent records that hold something else
+-- lent memory that holds something else
 abbrev old : (n : ℕ) → List (List ℤ)
 old n = replicate n (pos 5 ∷ [])
 
+abbrev nines : (n : ℕ) → List ℤ
+nines n = replicate n (pos 9)
+
+-- the hour's results: ATC; state, RAM, margin left (-1 where the state is not 0)
 abbrev ATCs : List (List ℤ)
 ATCs = (pos 2599 ∷ []) ∷ (pos 1800 ∷ []) ∷ []
 
@@ -47,34 +49,56 @@ lefts =
     (pos 0 ∷ pos 70000000000 ∷ pos 20000 ∷ []) ∷ (pos 0 ∷ pos 9000000000 ∷ pos 0 ∷ [])
     ∷ (pos 1 ∷ pos 12499500000 ∷ minus 1 ∷ []) ∷ (pos 2 ∷ pos 100000000000 ∷ minus 1 ∷ []) ∷ []
 
+-- row 1 with a CVA that takes its starting margin below 0, and a row record out of range
+abbrev cvaHigh : List (List ℤ)
+cvaHigh = take 1 c ++ ((pos 100000 ∷ pos 10000 ∷ pos 15000 ∷ pos 0 ∷ minus 1 ∷ pos 90000 ∷ pos 0 ∷ []) ∷ drop 2 c)
+
+abbrev frmHigh : List (List ℤ)
+frmHigh = take 1 c ++ ((pos 100000 ∷ pos 100001 ∷ pos 15000 ∷ pos 0 ∷ minus 1 ∷ pos 0 ∷ pos 0 ∷ []) ∷ drop 2 c)
+
+-- borders of which the second is as the first, and one that no kept row limits
+abbrev bTwice : List (List ℤ)
+bTwice = (pos 1 ∷ pos 2 ∷ pos 0 ∷ []) ∷ drop 1 b
+
+abbrev bBack : List (List ℤ)
+bBack = take 1 b ++ ((pos 2 ∷ pos 1 ∷ pos 200 ∷ []) ∷ [])
+
 pub record Left : Type 0 where
-  -- read: the table in front, the rest as it was; 8 in the order Z, B, C, factors, and nothing written
-  pub read-into : readLeft hourText (replicate 4 (pos 9)) (old 3) (old 4) (replicate 13 (pos 9))
-      ≡ record { answer = passed h; z = z ++ (pos 9 ∷ []); b = b ++ old 1; c = c; f = f ++ (pos 9 ∷ []) }
-  pub read-short-b : readLeft hourText (replicate 4 (pos 9)) (old 1) (old 3) []
-      ≡ record { answer = refused (tooShort 2); z = replicate 4 (pos 9); b = old 1; c = old 3; f = [] }
+  -- read: the table in front, the rest as it was
+  pub read-into : readLeft hourText (nines 4) (old 3) (old 4) (nines 13)
+      ≡ record { answer = passed h; z = z ++ nines 1; b = b ++ old 1; c = c; f = f ++ nines 1 }
+  -- .. 8 in the order Z, B, C, factors, and nothing written
+  pub read-short-z : readLeft hourText (nines 2) (old 1) (old 3) [] ≡ record { answer = refused (tooShort 3); z = nines 2; b = old 1; c = old 3; f = [] }
+  pub read-short-b : readLeft hourText (nines 4) (old 1) (old 3) [] ≡ record { answer = refused (tooShort 2); z = nines 4; b = old 1; c = old 3; f = [] }
+  pub read-short-c : readLeft hourText (nines 4) (old 2) (old 3) [] ≡ record { answer = refused (tooShort 4); z = nines 4; b = old 2; c = old 3; f = [] }
   pub read-short-f : readLeft hourText z b c (take 11 f) ≡ record { answer = refused (tooShort 12); z = z; b = b; c = c; f = take 11 f }
+  -- .. after 1 to 4
   pub read-form-first : readLeft (take 100 hourText) [] [] [] [] ≡ record { answer = refused (wrongForm 7); z = []; b = []; c = []; f = [] }
-  -- write: from tables that may be longer than needed
+  -- write: from tables that may be longer than needed; the rest of the text as it was
   pub write-out : writeLeft (lent h (z ++ z) (b ++ b) (c ++ c) (f ++ f)) (replicate 253 7) ≡ record { answer = passed 252; out = hourText ++ (7 ∷ []) }
   pub write-short : writeLeft hourTable (replicate 251 7) ≡ record { answer = refused (tooShort 252); out = replicate 251 7 }
-  -- header (3, line 1), then lengths (8), then 3 and 4 with the line the record would have
+  -- a call on lent tables judges the header (3, line 1), then lengths (8), then 3 and 4 with the line the record would have
   pub header-first : writeLeft (lent (record { zones = 3; borders = 41; rows = 4 }) [] [] [] []) [] ≡ record { answer = refused (outOfRange 1); out = [] }
   pub length-first : writeLeft (lent h (pos 100000001 ∷ []) b c f) [] ≡ record { answer = refused (tooShort 3); out = [] }
+  pub factors-short : writeLeft (lent h z bTwice frmHigh (take 11 f)) [] ≡ record { answer = refused (tooShort 12); out = [] }
   pub zone-line : writeLeft (lent h (pos 0 ∷ pos 100000001 ∷ pos 0 ∷ []) b c f) [] ≡ record { answer = refused (outOfRange 3); out = [] }
   pub border-line : writeLeft (lent h z ((pos 0 ∷ minus 1 ∷ pos 0 ∷ []) ∷ b) c f) [] ≡ record { answer = refused (outOfRange 5); out = [] }
-  pub factor-line : writeLeft (lent h z b c (take 5 f ++ (pos 100001 ∷ drop 6 f))) [] ≡ record { answer = refused (outOfRange 8); out = [] }
-  pub twice-lent : writeLeft (lent h z ((pos 1 ∷ pos 2 ∷ pos 0 ∷ []) ∷ drop 1 b) c f) [] ≡ record { answer = refused (givenTwice 1); out = [] }
+  pub row-line : writeLeft (lent h z bTwice frmHigh f) [] ≡ record { answer = refused (outOfRange 8); out = [] }
+  pub factor-line : writeLeft (lent h z b c (take 6 f ++ (pos 100001 ∷ drop 7 f))) [] ≡ record { answer = refused (outOfRange 9); out = [] }
+  pub twice-lent : writeLeft (lent h z bTwice c f) [] ≡ record { answer = refused (givenTwice 1); out = [] }
+  -- only the extraction goes on to 5, 6 and 7, so that a table it refuses can be written
+  pub write-unlimited : writeLeft (lent h z bBack c f) (replicate 252 7) ≡ record { answer = passed 252; out = tableText (lent h z bBack c f) }
+  pub extract-unlimited : extractLeft (lent h z bBack c f) [] [] ≡ record { answer = refused (unlimited 1); atcs = []; lefts = [] }
+  pub extract-below : extractLeft (lent h z b cvaHigh f) [] [] ≡ record { answer = refused (belowZero 1); atcs = []; lefts = [] }
   -- extract: results in front, the rest as it was; last comes room for results, border results before row results
   pub extract-out : extractLeft hourTable (old 3) (old 5) ≡ record { answer = passed 21; atcs = ATCs ++ old 1; lefts = lefts ++ old 1 }
   pub extract-short : extractLeft hourTable (old 2) (old 3) ≡ record { answer = refused (tooShort 4); atcs = old 2; lefts = old 3 }
   pub extract-short-both : extractLeft hourTable (old 1) (old 3) ≡ record { answer = refused (tooShort 2); atcs = old 1; lefts = old 3 }
-  pub extract-below : extractLeft (lent h z b (take 1 c ++ ((pos 100000 ∷ pos 10000 ∷ pos 15000 ∷ pos 0 ∷ minus 1 ∷ pos 90000 ∷ pos 0 ∷ []) ∷ drop 2 c)) f) [] []
-      ≡ record { answer = refused (belowZero 1); atcs = []; lefts = [] }
   -- result_text and answer
-  pub result-out : resultTextLeft hourTable (hourResult ++ (7 ∷ 8 ∷ [])) ≡ record { answer = passed 107; out = hourResult ++ (7 ∷ 8 ∷ []) }
+  pub result-out : resultTextLeft hourTable (replicate 109 7) ≡ record { answer = passed 107; out = hourResult ++ (7 ∷ 7 ∷ []) }
   pub result-short : resultTextLeft hourTable (replicate 106 7) ≡ record { answer = refused (tooShort 107); out = replicate 106 7 }
-  pub answer-out : answerLeft hourText (replicate 107 7) ≡ record { answer = passed 107; out = hourResult }
+  pub result-below : resultTextLeft (lent h z b cvaHigh f) [] ≡ record { answer = refused (belowZero 1); out = [] }
+  pub answer-out : answerLeft hourText (replicate 108 7) ≡ record { answer = passed 107; out = hourResult ++ (7 ∷ []) }
   pub answer-refused : answerLeft [] (replicate 8 7) ≡ record { answer = passed 6; out = sheet "E 2 1/" ++ (7 ∷ 7 ∷ []) }
   pub answer-short : answerLeft [] (replicate 5 7) ≡ record { answer = refused (tooShort 6); out = replicate 5 7 }
 
@@ -83,23 +107,30 @@ unfolding computing
 left =
     record {
       read-into = refl;
+      read-short-z = refl;
       read-short-b = refl;
+      read-short-c = refl;
       read-short-f = refl;
       read-form-first = refl;
       write-out = refl;
       write-short = refl;
       header-first = refl;
       length-first = refl;
+      factors-short = refl;
       zone-line = refl;
       border-line = refl;
+      row-line = refl;
       factor-line = refl;
       twice-lent = refl;
+      write-unlimited = refl;
+      extract-unlimited = refl;
+      extract-below = refl;
       extract-out = refl;
       extract-short = refl;
       extract-short-both = refl;
-      extract-below = refl;
       result-out = refl;
       result-short = refl;
+      result-below = refl;
       answer-out = refl;
       answer-refused = refl;
       answer-short = refl;

@@ -1,14 +1,23 @@
--- The laws of `specs/Refusals.antt`: what is known where a chain of judgements has passed. No contract cites this file.
+-- The laws of `specs/Refusals.antt`: what is known where a chain of judgements has passed, and what one judgement comes to. No contract cites this file.
+-- In order: `Judged`; `then` and `either`; `unless`; `refuseFirst`; `need`. `-passed` opens a chain that passed, the others take a step of one.
 -- Assumes nothing.
 use mathlib.Core.Path.{_≡_, refl, subst}
-use mathlib.Core.Bool.{Bool, true, false}
+use mathlib.Core.Bool.{Bool, true, false, cond}
 use mathlib.Core.Option.{Option, none, some}
-use Prim.Native.Nat.{ℕ}
+use Prim.Native.Nat.{ℕ, _≤_, _<_}
+use borrow.Author.Tests.{ltb-false, lt-ltb, le-ltb}
+use lib.Dec.{ltb}
 use Rattle.numbers.specs.Below.{firstFrom}
-use Rattle.kinds.specs.Refusals.{Why, Judged, passed, refused, then, unless, refuseAt, refuseFirst}
+use Rattle.numbers.proofs.BelowLaws.{first-none, first-nothing}
+use Rattle.kinds.specs.Refusals.{Why, tooShort, Judged, passed, refused, then, either, unless, refuseAt, refuseFirst, need}
+
+-- ---- Judged
 
 pub passed-is : {A : Type 0} (a b : A) → passed a ≡ passed b → a ≡ b
 passed-is a b e = cc
+
+pub refused-is : {A : Type 0} (w v : Why) → _≡_ {A = Judged A} (refused w) (refused v) → w ≡ v
+refused-is w v e = cc
 
 pub not-passed : {A : Type 0} (w : Why) (a : A) → refused w ≡ passed a → ⊥
 not-passed {A} w a e = subst (λ (j : Judged A). is j) e tt
@@ -16,6 +25,37 @@ not-passed {A} w a e = subst (λ (j : Judged A). is j) e tt
     is : Judged A → Type 0
     is (passed a) = ⊥
     is (refused w) = Unit {0}
+
+-- ---- then, either
+
+pub record Then {A B : Type 0} (j : Judged A) (next : A → Judged B) (b : B) : Type 0 where
+  pub it : A
+  pub first : j ≡ passed it
+  pub second : next it ≡ passed b
+
+module _ {A B : Type 0} where
+  pub then-passed : (j : Judged A) (next : A → Judged B) (b : B) → then j next ≡ passed b → Then j next b
+  unfolding then
+  then-passed (passed a) next b e = record { it = a; first = refl; second = e }
+  then-passed (refused w) next b e = absurd (not-passed w b e)
+
+  pub then-next : {j : Judged A} {a : A} (next : A → Judged B) → j ≡ passed a → then j next ≡ next a
+  unfolding then
+  then-next next e = rw e
+
+  pub then-refused : {j : Judged A} {w : Why} (next : A → Judged B) → j ≡ refused w → then j next ≡ refused w
+  unfolding then
+  then-refused next e = rw e
+
+  pub either-passed : {j : Judged A} {a : A} (yes-of : A → B) (no-of : Why → B) → j ≡ passed a → either j yes-of no-of ≡ yes-of a
+  unfolding either
+  either-passed yes-of no-of e = rw e
+
+  pub either-refused : {j : Judged A} {w : Why} (yes-of : A → B) (no-of : Why → B) → j ≡ refused w → either j yes-of no-of ≡ no-of w
+  unfolding either
+  either-refused yes-of no-of e = rw e
+
+-- ---- unless, refuseFirst, need
 
 module _ {A : Type 0} (a : A) where
   pub unless-passed : (ok : Bool) (w : Why) (next : Judged A) → unless ok w next ≡ passed a → (ok ≡ true) × (next ≡ passed a)
@@ -32,12 +72,43 @@ module _ {A : Type 0} (a : A) where
   unfolding refuseFirst
   first-passed n faulty w next e = at-passed (firstFrom n 0 faulty) w next e
 
-pub record Then {A B : Type 0} (j : Judged A) (next : A → Judged B) (b : B) : Type 0 where
-  pub it : A
-  pub first : j ≡ passed it
-  pub second : next it ≡ passed b
+  pub need-passed : (n has : ℕ) (next : Judged A) → need n has next ≡ passed a → (n ≤ has) × (next ≡ passed a)
+  unfolding need
+  need-passed n has next e = go (ltb has n) refl e
+    where
+      go : (t : Bool) → ltb has n ≡ t → cond t (refused (tooShort n)) next ≡ passed a → (n ≤ has) × (next ≡ passed a)
+      go true q e = absurd (not-passed (tooShort n) a e)
+      go false q e = (ltb-false has n q, e)
 
-pub then-passed : {A B : Type 0} (j : Judged A) (next : A → Judged B) (b : B) → then j next ≡ passed b → Then j next b
-unfolding then
-then-passed (passed a) next b e = record { it = a; first = refl; second = e }
-then-passed (refused w) next b e = absurd (not-passed w b e)
+module _ {A : Type 0} (next : Judged A) where
+  pub unless-ok : {ok : Bool} (w : Why) → ok ≡ true → unless ok w next ≡ next
+  unfolding unless
+  unless-ok w e = rw e
+
+  pub unless-refused : {ok : Bool} (w : Why) → ok ≡ false → unless ok w next ≡ refused w
+  unfolding unless
+  unless-refused w e = rw e
+
+  pub first-none-next : (n : ℕ) (faulty : ℕ → Bool) (w : ℕ → Why) → firstFrom n 0 faulty ≡ none → refuseFirst n faulty w next ≡ next
+  unfolding refuseFirst refuseAt
+  first-none-next n faulty w e = rw e
+
+  pub first-found : (n : ℕ) (faulty : ℕ → Bool) (w : ℕ → Why) {i : ℕ} → firstFrom n 0 faulty ≡ some i → refuseFirst n faulty w next ≡ refused (w i)
+  unfolding refuseFirst refuseAt
+  first-found n faulty w e = rw e
+
+  pub need-enough : (n has : ℕ) → n ≤ has → need n has next ≡ next
+  unfolding need
+  need-enough n has h = rw (le-ltb has n h)
+
+  pub need-short : (n has : ℕ) → has < n → need n has next ≡ refused (tooShort n)
+  unfolding need
+  need-short n has h = rw (lt-ltb has n h)
+
+-- ---- refuseFirst, by what holds of each index
+module _ {A : Type 0} (n : ℕ) (faulty : ℕ → Bool) (w : ℕ → Why) (next : Judged A) where
+  pub none-passed : (a : A) → refuseFirst n faulty w next ≡ passed a → ((i : ℕ) → i < n → faulty i ≡ false) × (next ≡ passed a)
+  none-passed a e = let f = first-passed a n faulty w next e in (first-none n faulty (f .0), f .1)
+
+  pub none-next : ((i : ℕ) → i < n → faulty i ≡ false) → refuseFirst n faulty w next ≡ next
+  none-next h = first-none-next next n faulty w (first-nothing n faulty h)

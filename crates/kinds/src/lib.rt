@@ -1,4 +1,10 @@
-// The values that a table carries, and why a table is turned away.
+// The values that a table carries, with their ranges, and why a table is turned away.
+// A range is given once, on the type that carries the value, and that type's constructor judges by it.
+// The tests of a record are joined by `&`: each may be made whatever the others say, so judging has no branch.
+ghost use mathlib.Core.Path.{_≡_};
+ghost use mathlib.Core.List.{[], _∷_};
+ghost use Rattle.kinds.specs.Ranges.{headerFits, exists, borderFits, shareOf, rowFits, factorFits, worth};
+ghost use Rattle.kinds.specs.Kinds.{headerRead, zoneRead, borderRead, rowRead};
 
 // The counts of the H line.
 pub struct Header {
@@ -24,6 +30,32 @@ impl Header {
     pub const ROWS_LEAST: usize = 1;
 
     pub const ROWS_MOST: usize = 200;
+
+    pub fn of(zones: u64, borders: u64, rows: u64) -> HeaderRead
+        ensures { λ r. ⌜ r ≡ headerRead zones borders rows ⌝ }
+    {
+        let h = Header {
+            zones: zones as usize,
+            borders: borders as usize,
+            rows: rows as usize,
+        };
+        if h.fits() {
+            HeaderRead::Good(h)
+        } else {
+            HeaderRead::Out
+        }
+    }
+
+    pub fn fits(self) -> bool
+        ensures { λ r. ⌜ r ≡ headerFits self ⌝ }
+    {
+        (Header::ZONES_LEAST <= self.zones)
+            & (self.zones <= Header::ZONES_MOST)
+            & (Header::BORDERS_LEAST <= self.borders)
+            & (self.borders <= Header::BORDERS_MOST)
+            & (Header::ROWS_LEAST <= self.rows)
+            & (self.rows <= Header::ROWS_MOST)
+    }
 }
 
 // A zone's reference net position, kW.
@@ -36,6 +68,22 @@ pub enum ZoneRead {
     Out,
 }
 
+impl Zone {
+    pub const LOWEST: i64 = -100000000;
+
+    pub const HIGHEST: i64 = 100000000;
+
+    pub fn of(raw: i64) -> ZoneRead
+        ensures { λ r. ⌜ r ≡ zoneRead raw ⌝ }
+    {
+        if numbers::inside(raw, Zone::LOWEST, Zone::HIGHEST) {
+            ZoneRead::Good(Zone { net: raw })
+        } else {
+            ZoneRead::Out
+        }
+    }
+}
+
 // From zone, to zone, LTA in MW.
 pub struct Border {
     pub from: usize,
@@ -43,15 +91,84 @@ pub struct Border {
     pub lta: u64,
 }
 
+// A lent border: from, to, LTA.
+pub type BorderRecord = [i64; Border::ITEMS];
+
 pub enum BorderRead {
     Good(Border),
     Out,
+}
+
+impl Border {
+    pub const ITEMS: usize = 3;
+
+    // MW.
+    pub const LTA_MOST: i64 = 10000;
+
+    pub fn of(zones: usize, raw: BorderRecord) -> BorderRead
+        ensures { λ r. ⌜ r ≡ borderRead zones raw ⌝ }
+    {
+        let from = raw[0];
+        let to = raw[1];
+        let lta = raw[2];
+        if Border::fits(zones, from, to, lta) {
+            BorderRead::Good(Border {
+                from: from as usize,
+                to: to as usize,
+                lta: lta as u64,
+            })
+        } else {
+            BorderRead::Out
+        }
+    }
+
+    fn fits(zones: usize, from: i64, to: i64, lta: i64) -> bool
+        ensures { λ r. ⌜ r ≡ borderFits zones (from ∷ to ∷ lta ∷ []) ⌝ }
+    {
+        exists(zones, from)
+            & exists(zones, to)
+            & !numbers::same(from, to)
+            & numbers::inside(lta, 0, Border::LTA_MOST)
+    }
+}
+
+// The zones are numbered from 0.
+fn exists(zones: usize, z: i64) -> bool
+    ensures { λ r. ⌜ r ≡ exists zones z ⌝ }
+{
+    !(z < 0) && (z as u64) < (zones as u64)
 }
 
 // R as it was written: "-", or ten-thousandths.
 pub enum Share {
     Standard,
     Written(i64),
+}
+
+impl Share {
+    // What "-" means, in ten-thousandths.
+    pub const STANDARD: i64 = 7000;
+
+    // "-" is the one raw number below 0 that a record may hold.
+    fn of(raw: i64) -> Share
+        ensures { λ r. ⌜ r ≡ shareOf raw ⌝ }
+    {
+        if raw < 0 {
+            Share::Standard
+        } else {
+            Share::Written(raw)
+        }
+    }
+
+    // Ten-thousandths of Fmax.
+    pub fn worth(self) -> i64
+        ensures { λ r. ⌜ r ≡ worth self ⌝ }
+    {
+        match self {
+            Share::Standard => Share::STANDARD,
+            Share::Written(r) => r,
+        }
+    }
 }
 
 // Powers in kW.
@@ -65,9 +182,82 @@ pub struct Row {
     pub iva: i64,
 }
 
+// A lent row: Fmax, FRM, Fref, F0all, R, CVA, IVA.
+pub type RowRecord = [i64; Row::ITEMS];
+
 pub enum RowRead {
     Good(Row),
     Out,
+}
+
+impl Row {
+    pub const ITEMS: usize = 7;
+
+    // kW.
+    pub const FMAX_LEAST: i64 = 1;
+
+    pub const FMAX_MOST: i64 = 10000000;
+
+    // Fref and F0all, kW.
+    pub const FLOW_LOWEST: i64 = -20000000;
+
+    pub const FLOW_HIGHEST: i64 = 20000000;
+
+    // R: the raw number that stands for "-", and the largest share.
+    pub const DASH: i64 = -1;
+
+    pub const SHARE_MOST: i64 = 10000;
+
+    // CVA and IVA, kW.
+    pub const VA_MOST: i64 = 10000000;
+
+    // A zone's factor on the row, hundred-thousandths.
+    pub const FACTOR_LOWEST: i64 = -100000;
+
+    pub const FACTOR_HIGHEST: i64 = 100000;
+
+    pub fn of(raw: RowRecord) -> RowRead
+        ensures { λ r. ⌜ r ≡ rowRead raw ⌝ }
+    {
+        let fmax = raw[0];
+        let frm = raw[1];
+        let fref = raw[2];
+        let f0all = raw[3];
+        let share = raw[4];
+        let cva = raw[5];
+        let iva = raw[6];
+        if Row::fits(fmax, frm, fref, f0all, share, cva, iva) {
+            RowRead::Good(Row {
+                fmax: fmax,
+                frm: frm,
+                fref: fref,
+                f0all: f0all,
+                share: Share::of(share),
+                cva: cva,
+                iva: iva,
+            })
+        } else {
+            RowRead::Out
+        }
+    }
+
+    fn fits(fmax: i64, frm: i64, fref: i64, f0all: i64, share: i64, cva: i64, iva: i64) -> bool
+        ensures { λ r. ⌜ r ≡ rowFits (fmax ∷ frm ∷ fref ∷ f0all ∷ share ∷ cva ∷ iva ∷ []) ⌝ }
+    {
+        numbers::inside(fmax, Row::FMAX_LEAST, Row::FMAX_MOST)
+            & numbers::inside(frm, 0, fmax)
+            & numbers::inside(fref, Row::FLOW_LOWEST, Row::FLOW_HIGHEST)
+            & numbers::inside(f0all, Row::FLOW_LOWEST, Row::FLOW_HIGHEST)
+            & numbers::inside(share, Row::DASH, Row::SHARE_MOST)
+            & numbers::inside(cva, 0, Row::VA_MOST)
+            & numbers::inside(iva, 0, Row::VA_MOST)
+    }
+
+    pub fn factor_fits(factor: i64) -> bool
+        ensures { λ r. ⌜ r ≡ factorFits factor ⌝ }
+    {
+        numbers::inside(factor, Row::FACTOR_LOWEST, Row::FACTOR_HIGHEST)
+    }
 }
 
 // Why a table is turned away, with the place. The numbers of 01 are `told`'s.

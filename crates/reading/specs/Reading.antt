@@ -13,7 +13,7 @@ use Rattle.kinds.specs.Refusals.{Judged, passed, refused, then, either, tooLong
 use Rattle.text.specs.Line.{lineAt, after, Line, holds, form, range}
 use Rattle.block.specs.Block.{linesAt, withLines}
 use Rattle.table.specs.Table.{Table, lent, notTwice, room, headerLineNo, zoneLineNo, borderLineNo, rowLineNo, pastLineNo}
-use Rattle.reading.specs.Lines.{headerLine, zoneLine, borderLine, rowLine, RowLine}
+use Rattle.lines.specs.Lines.{headerLine, zoneLine, borderLine, rowLine, RowLine}
 
 abbrev pub withHeader : {A : Type 0} → Line Header → (Header → Judged A) → Judged A
 withHeader (holds h) next = next h

@@ -9,6 +9,14 @@ use lib.ListN.{length, getD}
 use Rattle.kinds.specs.Ranges.{atℤ, headerFits, zoneFits, borderFits, rowFits, factorFits}
 use Rattle.table.specs.Table.{Table, twice}
 
+-- lengths as the header says, and a header in range
+pub record Exact (t : Table) : Type 0 where
+  pub header : headerFits (t .header) ≡ true
+  pub nets-long : length (t .nets) ≡ t .header .zones
+  pub borders-long : length (t .borders) ≡ t .header .borders
+  pub rows-long : length (t .rows) ≡ t .header .rows
+  pub factors-long : length (t .factors) ≡ t .header .rows * t .header .zones
+
 pub record Good (t : Table) : Type 0 where
   pub header : headerFits (t .header) ≡ true
   pub nets-long : length (t .nets) ≡ t .header .zones

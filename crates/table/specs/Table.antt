@@ -70,11 +70,12 @@ notTwice t = refuseFirst (t .header .borders) (twice (t .borders)) givenTwice (p
 abbrev pub rowGood : (values factors : List ℤ) → Bool
 rowGood values factors = rowFits values && allBelow (length factors) (λ z. factorFits (atℤ factors z))
 
--- 8, in the order Z, B, C, factors: room for a table of this header
+-- 8, in the order Z, B, C, factors: a table of this header, in buffers of so many items
+unfoldable pub roomFor : {A : Type 0} → Header → (z b c f : ℕ) → Judged A → Judged A
+roomFor h z b c f next = need (h .zones) z (need (h .borders) b (need (h .rows) c (need (h .rows * h .zones) f next)))
+
 abbrev pub room : {A : Type 0} → Header → (given : Table) → Judged A → Judged A
-room h given next =
-    need (h .zones) (length (given .nets)) (need (h .borders) (length (given .borders))
-    (need (h .rows) (length (given .rows)) (need (h .rows * h .zones) (length (given .factors)) next)))
+room h given next = roomFor h (length (given .nets)) (length (given .borders)) (length (given .rows)) (length (given .factors)) next
 
 -- the items that a header asks for, of lent tables that may hold more
 abbrev pub front : (given : Table) → Table

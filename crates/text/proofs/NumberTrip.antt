@@ -14,6 +14,7 @@ use lib.IntN.{ℤ, pos, negsuc, negℤ, natAbs}
 use lib.ListN.{length, getD, drop, length-append, length-drop, List·getD-append, List·getD-eq-default}
 use lib.Seq.{drop-append-add, drop-cons, getD-drop, drop-drop, getD-append-seam}
 use borrow.Author.Tests.{leb-true, leb-false, ltb-true, ltb-false, eqb-true, eqb-false, lt-leb, le-leb, lt-ltb, le-ltb, eq-eqb, ne-eqb}
+pub use Rattle.numbers.proofs.TestLaws.{and-both}
 use Rattle.text.specs.declared.Number.{Number}
 use Rattle.text.specs.declared.Number.the-variants.{Value, Bad}
 use Rattle.text.specs.declared.Signed.{Signed}
@@ -23,11 +24,6 @@ use Rattle.text.specs.Written.{textOf, decimal, decimalℤ}
 
 pub zero-one : _≡_ {A = ℕ} 0 1 → ⊥
 zero-one e = omega arith
-
-pub and-both : (t u : Bool) → (t && u) ≡ true → (t ≡ true) × (u ≡ true)
-and-both true true e = (refl, refl)
-and-both true false e = (refl, e)
-and-both false u e = (e, absurd (mathlib.Core.Bool.false≢true e))
 
 pub digit-range : (b : ℕ) → isDigit b ≡ true → (48 ≤ b) × (b < 58)
 digit-range b e = (leb-true 48 b (and-both (leb 48 b) (ltb b 58) e .0), ltb-true b 58 (and-both (leb 48 b) (ltb b 58) e .1))
@@ -74,7 +70,7 @@ text-enough (suc f) (suc g) n a b =
     (λ s. text-more (suc f) n s ∙ ap (λ (l : List ℕ). l ++ ((48 + n % 10) ∷ [])) (text-enough f g (n / 10) (omega (arith, ten-pow (suc f))) (omega (arith, ten-pow (suc g)))) ∙ sym (text-more (suc g) n s))
     (split n)
 
-under-pow : (n : ℕ) → n < 10 ^ suc n
+pub under-pow : (n : ℕ) → n < 10 ^ suc n
 under-pow zero = omega (arith, ten-pow 0, pow-zero 10)
 under-pow (suc n) = omega (arith, under-pow n, ten-pow (suc n))
 
@@ -319,10 +315,10 @@ pub record ReadZ (line : List ℕ) (at stop : ℕ) (z : ℤ) (next : ℕ) : Type
   pub small : natAbs z < 10 ^ 10
   pub within : next ≤ length line
 
-whole-is : (z w : ℤ) (m n : ℕ) → Whole w m ≡ Whole z n → (w ≡ z) × (m ≡ n)
+pub whole-is : (z w : ℤ) (m n : ℕ) → Whole w m ≡ Whole z n → (w ≡ z) × (m ≡ n)
 whole-is z w m n e = (cc, cc)
 
-no-whole : (place : ℕ) (z : ℤ) (n : ℕ) → Wrong place ≡ Whole z n → ⊥
+pub no-whole : (place : ℕ) (z : ℤ) (n : ℕ) → Wrong place ≡ Whole z n → ⊥
 no-whole place z n e = let x : _≡_ {A = ℕ} 0 1 = cc in zero-one x
 
 module _ (line : List ℕ) (at stop : ℕ) (z : ℤ) (next : ℕ) where
@@ -358,7 +354,7 @@ module _ (line : List ℕ) (at stop : ℕ) (z : ℤ) (next : ℕ) where
       go true h = minus (eqb-true _ _ h) (numberAt line (at + 1) stop) refl (signed-minus line at stop h ∙ e)
       go false h = plus (numberAt line at stop) refl (signed-plus line at stop h ∙ e)
 
-first-digit : (s r : List ℕ) → digits s ≡ s → 0 < length s → eqb (getD (s ++ r) 0 0) 45 ≡ false
+pub first-digit : (s r : List ℕ) → digits s ≡ s → 0 < length s → eqb (getD (s ++ r) 0 0) 45 ≡ false
 first-digit [] r e h = absurd (zero-one (omega arith))
 first-digit (b ∷ s) r e h = ne-eqb b 45 (λ q. omega (arith, digit-range b (digits-cons b s e .0)))
 

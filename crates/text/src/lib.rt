@@ -1,3 +1,17 @@
+// One line of text: its bytes, its fields, where it ends, and how it is written.
+pub mod field;
+pub mod line;
+pub mod put;
+
+// What a byte of a field is; a digit with its value.
+pub enum Class {
+    Digit(u64),
+    Minus,
+    Tab,
+    Feed,
+    Other,
+}
+
 // What a field comes to: its value and the place after the byte that ends it, or the place in the line of the first byte that no good field could have.
 pub enum Number {
     Value(u64, usize),
@@ -7,4 +21,10 @@ pub enum Number {
 pub enum Signed {
     Whole(i64, usize),
     Wrong(usize),
+}
+
+// What the last fields of a line come to: the place after them and whether every value lies in its range, or a field of wrong form.
+pub enum Fields {
+    End(usize, bool),
+    Faulty,
 }

@@ -1,0 +1,28 @@
+-- A small table that both 6 and 7 are true of. Nobody cites it: it refuses a definition that slipped.
+-- Assumes nothing.
+use mathlib.Core.Path.{_≡_, refl}
+use mathlib.Core.List.{[], _∷_}
+use lib.IntN.{pos}
+use Rattle.numbers.specs.Below.{ifZero, sum, table, firstFrom, given}
+use Rattle.numbers.specs.Ints.{maxℤ, minℤ, positivePart, sameℤ, sumℤ}
+use Rattle.kinds.specs.Ranges.{borderOf, shareOf, rowOf, worth}
+use Rattle.kinds.specs.Refusals.{refused, then, unless, refuseAt, refuseFirst, unlimited}
+use Rattle.table.specs.Table.{Table, stretch}
+use Rattle.margin.specs.Margin.{grains, f0coreOf, fuafOf, baseOf, amrOf, signedFactor, pOf, ltaKw, sOf, ltaMarginOf, ramOf, ramAt}
+use Rattle.states.specs.States.{highest, lowest, spreadOf, shifted, below, stateOf}
+use Rattle.extraction.specs.Extraction.{rowsOf, kept, gridOf, marginOf, judgeStart, outcomeOf}
+
+-- IVA 1 takes row 0 below 0, and no row limits border 1
+abbrev sixAndSeven : Table
+sixAndSeven =
+    record {
+      header = record { zones = 2; borders = 2; rows = 1 };
+      nets = pos 0 ∷ pos 0 ∷ [];
+      borders = (pos 0 ∷ pos 1 ∷ pos 100 ∷ []) ∷ (pos 1 ∷ pos 0 ∷ pos 0 ∷ []) ∷ [];
+      rows = (pos 10000 ∷ pos 0 ∷ pos 0 ∷ pos 0 ∷ pos 0 ∷ pos 0 ∷ pos 1 ∷ []) ∷ [];
+      factors = pos 20000 ∷ pos 0 ∷ [];
+    }
+
+pub six-before-seven : outcomeOf sixAndSeven ≡ refused (unlimited 1)
+unfolding ifZero sum table firstFrom given maxℤ minℤ positivePart sameℤ sumℤ borderOf shareOf rowOf worth then unless refuseAt refuseFirst stretch grains f0coreOf fuafOf baseOf amrOf signedFactor pOf ltaKw sOf ltaMarginOf ramOf ramAt highest lowest spreadOf shifted below stateOf rowsOf kept gridOf marginOf judgeStart outcomeOf
+six-before-seven = refl

@@ -1,0 +1,49 @@
+-- A small good table, two zones, one border and one row, with a line or a record of one's own in it: for examples that differ from it in one place.
+-- Assumes nothing.
+use mathlib.Core.List.{List, [], _∷_, _++_}
+use Prim.Native.Nat.{ℕ}
+use Prim.Native.String.{String}
+use lib.IntN.{ℤ, pos}
+use Rattle.kinds.specs.Refusals.{Judged}
+use Rattle.table.specs.Table.{Table, judgeLent}
+use Rattle.result.specs.Result.{answerText}
+use Rattle.figures.specs.Sheets.{sheet}
+
+abbrev pub smallText : (zone border row : List ℕ) → List ℕ
+smallText zone border row = sheet "H 2 1 1/Z 0 0/" ++ zone ++ border ++ row
+
+abbrev pub zone : List ℕ
+zone = sheet "Z 1 0/"
+
+abbrev pub border : List ℕ
+border = sheet "B 0 0 1 100/"
+
+abbrev pub row : List ℕ
+row = sheet "C 0 10000 0 0 0 0 0 0 20000 0/"
+
+-- what the program says with another line 3, line 4, and from line 5 on
+abbrev pub withZone : String → List ℕ
+withZone s = answerText (smallText (sheet s) border row)
+
+abbrev pub withBorder : String → List ℕ
+withBorder s = answerText (smallText zone (sheet s) row)
+
+abbrev pub withRow : String → List ℕ
+withRow s = answerText (smallText zone border (sheet s))
+
+-- the same table lent, with another border record or row record
+abbrev pub smallTable : (border row : List ℤ) → Table
+smallTable border row =
+    record {
+      header = record { zones = 2; borders = 1; rows = 1 };
+      nets = pos 0 ∷ pos 0 ∷ [];
+      borders = border ∷ [];
+      rows = row ∷ [];
+      factors = pos 20000 ∷ pos 0 ∷ [];
+    }
+
+abbrev pub lentBorder : (from to lta : ℤ) → Judged Table
+lentBorder from to lta = judgeLent (smallTable (from ∷ to ∷ lta ∷ []) (pos 10000 ∷ pos 0 ∷ pos 0 ∷ pos 0 ∷ pos 0 ∷ pos 0 ∷ pos 0 ∷ []))
+
+abbrev pub lentRow : (fmax frm r cva iva : ℤ) → Judged Table
+lentRow fmax frm r cva iva = judgeLent (smallTable (pos 0 ∷ pos 1 ∷ pos 100 ∷ []) (fmax ∷ frm ∷ pos 0 ∷ pos 0 ∷ r ∷ cva ∷ iva ∷ []))

@@ -1,0 +1,38 @@
+-- `kinds::Border::fits` meets its contract: each test is the definition's, in its order. Assumes nothing.
+use borrow.Author.Needs.{needs}
+use mir.Facts.{toZ-ofZ}
+use Rattle.kinds.specs.Ranges.{borderFits}
+use Rattle.kinds.proofs.Border.fits.Statement.{statement}
+use Rattle.kinds.proofs.Border.fits.Tie as tie
+
+exists-requires : tie.Need-exists-requires
+exists-requires c κs = search needs
+
+exists-requires-2 : tie.Need-exists-requires-2
+exists-requires-2 c κs = search needs
+
+same-requires : tie.Need-same-requires
+same-requires c κs = search needs
+
+inside-requires : tie.Need-inside-requires
+inside-requires c κs = search needs
+
+returns : tie.Need-returns
+unfolding borderFits
+returns c =
+    let at-same = c .before in
+    let at-to = at-same .before in
+    let at-from = at-to .before in
+    let f = at-from .before .fits in
+    simp (
+      at-from .exists .ensures,
+      at-to .exists2 .ensures,
+      at-same .same .ensures,
+      c .inside .ensures,
+      toZ-ofZ (f .from),
+      toZ-ofZ (f .to),
+      toZ-ofZ (f .lta),
+    )
+
+pub fits-spec : {M : Type 1} → statement M
+fits-spec = tie.close (tie.spec exists-requires exists-requires-2 same-requires inside-requires returns)

@@ -1,0 +1,20 @@
+-- `kinds::Header::of` meets its contract. Assumes nothing.
+use mathlib.Core.Path.{sym, _∙_}
+use borrow.Author.Needs.{needs}
+use Rattle.kinds.specs.Kinds.{headerRead}
+use Rattle.kinds.proofs.Header.of.Statement.{statement}
+use Rattle.kinds.proofs.Header.of.Tie as tie
+
+fits-requires : tie.Need-fits-requires
+fits-requires c κs = search needs
+
+returns : tie.Need-returns
+unfolding headerRead
+returns c = rw (sym (c .before .fits2 .ensures) ∙ c .if1 .taken)
+
+returns-2 : tie.Need-returns-2
+unfolding headerRead
+returns-2 c = rw (sym (c .before .fits2 .ensures) ∙ c .if1 .left)
+
+pub of-spec : {M : Type 1} → statement M
+of-spec = tie.close (tie.spec fits-requires returns returns-2)

@@ -1,0 +1,145 @@
+-- The laws of `specs/Ranges.antt` that the judging constructors and the crates above cite. No contract cites this file.
+-- Assumes nothing.
+use mathlib.Core.Path.{_≡_, refl, sym, ap, subst, _∙_}
+use mathlib.Core.Bool.{true, not, and-eq-true-iff}
+use mathlib.Core.List.{List, [], _∷_}
+use Prim.Native.Nat.{ℕ, _≤_, _<_}
+use native.Mathlib.Omega.{arith}
+use borrow.Author.Tests.{leb-true, ltb-true, le-ltb, not-true}
+use lib.Dec.{T, ltb, leb→le}
+use lib.IntN.{ℤ, pos, negsuc, natAbs}
+use lib.Signed.{ltZ, nonNeg}
+use Rattle.numbers.specs.Ints.{Within, minus, sameℤ, inside}
+use Rattle.numbers.proofs.IntLaws.{Between, same-false, inside-true, inside-within, inside-pos}
+use Rattle.kinds.specs.declared.Header.{Header}
+use Rattle.kinds.specs.Limits.{zonesLeast, zonesMost, bordersLeast, bordersMost, rowsLeast, rowsMost, netMost, ltaMost, fmaxLeast, fmaxMost, flowMost, shareMost, vaMost, factorMost}
+use Rattle.kinds.specs.Ranges.{atℤ, headerFits, zoneFits, exists, borderFits, borderOf, shareOf, rowOf, rowFits, factorFits, worth}
+
+-- ---- numbers from 0 on
+
+pub not-below : (z : ℤ) → not (ltZ z (pos 0)) ≡ true → T (nonNeg z)
+not-below (pos n) e = tt
+not-below (negsuc n) e = subst T (sym e) tt
+
+-- the test `z as u64 < zones`, of a z that is not below 0
+pub exists-test : (zones : ℕ) (z : ℤ) → not (ltZ z (pos 0)) ≡ true → ltb (natAbs z) zones ≡ exists zones z
+unfolding exists
+exists-test zones (pos n) e = rw e
+exists-test zones (negsuc n) e = absurd (subst T (sym e) tt)
+
+-- ---- a record as its numbers
+
+pub border-listed : (zones : ℕ) (raw : List ℤ) → borderFits zones (atℤ raw 0 ∷ atℤ raw 1 ∷ atℤ raw 2 ∷ []) ≡ borderFits zones raw
+unfolding borderFits
+border-listed zones raw = refl
+
+pub row-listed : (raw : List ℤ)
+    → rowFits (atℤ raw 0 ∷ atℤ raw 1 ∷ atℤ raw 2 ∷ atℤ raw 3 ∷ atℤ raw 4 ∷ atℤ raw 5 ∷ atℤ raw 6 ∷ []) ≡ rowFits raw
+unfolding rowFits rowOf
+row-listed raw = refl
+
+-- ---- what is known of a record that fits
+
+pub record HeaderIn (h : Header) : Type 0 where
+  pub zones-least : zonesLeast ≤ h .zones
+  pub zones-most : h .zones ≤ zonesMost
+  pub borders-least : bordersLeast ≤ h .borders
+  pub borders-most : h .borders ≤ bordersMost
+  pub rows-least : rowsLeast ≤ h .rows
+  pub rows-most : h .rows ≤ rowsMost
+
+pub header-in : (h : Header) → headerFits h ≡ true → HeaderIn h
+unfolding headerFits
+header-in h e =
+    let f = and-eq-true-iff _ _ .0 e in
+    let d = and-eq-true-iff _ _ .0 (f .0) in
+    let c = and-eq-true-iff _ _ .0 (d .0) in
+    let b = and-eq-true-iff _ _ .0 (c .0) in
+    let a = and-eq-true-iff _ _ .0 (b .0) in
+    record {
+      zones-least = leb-true _ _ (a .0);
+      zones-most = leb-true _ _ (a .1);
+      borders-least = leb-true _ _ (b .1);
+      borders-most = leb-true _ _ (c .1);
+      rows-least = leb-true _ _ (d .1);
+      rows-most = leb-true _ _ (f .1);
+    }
+
+pub zone-in : (net : ℤ) → zoneFits net ≡ true → Within netMost net
+unfolding zoneFits
+zone-in net e = inside-within netMost net e
+
+pub exists-in : (zones : ℕ) (z : ℤ) → exists zones z ≡ true → (z ≡ pos (natAbs z)) × (natAbs z < zones)
+unfolding exists
+exists-in zones (pos n) e = (refl, ltb-true n zones (and-eq-true-iff (not (ltZ (pos n) (pos 0))) (ltZ (pos n) (pos zones)) .0 e .1))
+exists-in zones (negsuc n) e = absurd (subst T (sym e) tt)
+
+-- the raw numbers are those of the border
+pub record BorderIn (zones : ℕ) (raw : List ℤ) : Type 0 where
+  pub from : atℤ raw 0 ≡ pos (borderOf raw .from)
+  pub to : atℤ raw 1 ≡ pos (borderOf raw .to)
+  pub lta : atℤ raw 2 ≡ pos (borderOf raw .lta)
+  pub from-below : borderOf raw .from < zones
+  pub to-below : borderOf raw .to < zones
+  pub apart : borderOf raw .from ≡ borderOf raw .to → ⊥
+  pub lta-most : borderOf raw .lta ≤ ltaMost
+
+pub border-in : (zones : ℕ) (raw : List ℤ) → borderFits zones raw ≡ true → BorderIn zones raw
+unfolding borderFits borderOf
+border-in zones raw e =
+    let d = and-eq-true-iff _ _ .0 e in
+    let c = and-eq-true-iff _ _ .0 (d .0) in
+    let b = and-eq-true-iff _ _ .0 (c .0) in
+    let from = exists-in zones (atℤ raw 0) (b .0) in
+    let to = exists-in zones (atℤ raw 1) (b .1) in
+    let lta = inside-pos 0 ltaMost (atℤ raw 2) (d .1) in
+    record {
+      from = from .0;
+      to = to .0;
+      lta = lta .is;
+      from-below = from .1;
+      to-below = to .1;
+      apart = λ q. same-false (atℤ raw 0) (atℤ raw 1) (not-true (sameℤ (atℤ raw 0) (atℤ raw 1)) (c .1)) (from .0 ∙ ap pos q ∙ sym (to .0));
+      lta-most = lta .most;
+    }
+
+pub record RowIn (raw : List ℤ) : Type 0 where
+  pub fmax : Between fmaxLeast fmaxMost (rowOf raw .fmax)
+  pub frm : Between 0 (natAbs (rowOf raw .fmax)) (rowOf raw .frm)
+  pub fref : Within flowMost (rowOf raw .fref)
+  pub f0all : Within flowMost (rowOf raw .f0all)
+  pub share : inside (minus 1) (pos shareMost) (atℤ raw 4) ≡ true
+  pub cva : Between 0 vaMost (rowOf raw .cva)
+  pub iva : Between 0 vaMost (rowOf raw .iva)
+
+pub row-in : (raw : List ℤ) → rowFits raw ≡ true → RowIn raw
+unfolding rowFits
+row-in raw e =
+    let iva = and-eq-true-iff _ _ .0 e in
+    let cva = and-eq-true-iff _ _ .0 (iva .0) in
+    let share = and-eq-true-iff _ _ .0 (cva .0) in
+    let f0all = and-eq-true-iff _ _ .0 (share .0) in
+    let fref = and-eq-true-iff _ _ .0 (f0all .0) in
+    let frm = and-eq-true-iff _ _ .0 (fref .0) in
+    let fmax = inside-pos fmaxLeast fmaxMost (rowOf raw .fmax) (frm .0) in
+    record {
+      fmax = fmax;
+      frm = inside-pos 0 (natAbs (rowOf raw .fmax)) (rowOf raw .frm) (subst (λ (z : ℤ). inside (pos 0) z (rowOf raw .frm) ≡ true) (fmax .is) (frm .1));
+      fref = inside-within flowMost (rowOf raw .fref) (fref .1);
+      f0all = inside-within flowMost (rowOf raw .f0all) (f0all .1);
+      share = share .1;
+      cva = inside-pos 0 vaMost (rowOf raw .cva) (cva .1);
+      iva = inside-pos 0 vaMost (rowOf raw .iva) (iva .1);
+    }
+
+-- what R is worth is a share of Fmax, "-" too
+pub share-in : (r : ℤ) → inside (minus 1) (pos shareMost) r ≡ true → Between 0 shareMost (worth (shareOf r))
+unfolding worth shareOf
+share-in (pos n) e =
+    rw (le-ltb n 0 (omega arith))
+    (record { is = refl; least = omega arith; most = leb→le n shareMost (inside-true (minus 1) (pos shareMost) (pos n) e .1 .le) })
+share-in (negsuc n) e = record { is = refl; least = omega arith; most = omega arith }
+
+pub factor-in : (factor : ℤ) → factorFits factor ≡ true → Within factorMost factor
+unfolding factorFits
+factor-in factor e = inside-within factorMost factor e

@@ -1,0 +1,16 @@
+-- `kinds::Row::factor_fits` meets its contract. Assumes nothing.
+use borrow.Author.Needs.{needs}
+use mir.Facts.{toZ-ofZ}
+use Rattle.kinds.specs.Ranges.{factorFits}
+use Rattle.kinds.proofs.Row.factor_fits.Statement.{statement}
+use Rattle.kinds.proofs.Row.factor_fits.Tie as tie
+
+inside-requires : tie.Need-inside-requires
+inside-requires c κs = search needs
+
+returns : tie.Need-returns
+unfolding factorFits
+returns c = simp (toZ-ofZ (c .before .fits .factor)) at (c .inside .ensures)
+
+pub factor-fits-spec : {M : Type 1} → statement M
+factor-fits-spec = tie.close (tie.spec inside-requires returns)

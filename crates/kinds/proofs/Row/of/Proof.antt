@@ -1,0 +1,77 @@
+-- `kinds::Row::of` meets its contract: the test and the row are made of the seven numbers as they were lent. Assumes nothing.
+use mathlib.Core.Path.{_≡_, sym, _∙_}
+use borrow.Author.Needs.{needs}
+use Rattle.numbers.proofs.IntLaws.{plain}
+use Rattle.kinds.specs.Ranges.{rowOf, rowFits}
+use Rattle.kinds.specs.Kinds.{rowRead}
+use Rattle.kinds.proofs.KindLaws.{row-listed}
+use Rattle.kinds.proofs.Row.of.Statement.{statement}
+use Rattle.kinds.proofs.Row.of.Tie as tie
+use Rattle.kinds.proofs.Row.of.Reads as reads
+use Rattle.kinds.proofs.Row.of.Lts as lts
+use Rattle.kinds.proofs.Row.fits.Reads as fits-reads
+use Rattle.kinds.proofs.Share.of.Reads as of-reads
+
+array-copy-out-fmax : tie.Need-array-copy-out-fmax
+array-copy-out-fmax c = search needs
+
+array-copy-out-frm : tie.Need-array-copy-out-frm
+array-copy-out-frm c = search needs
+
+array-copy-out-fref : tie.Need-array-copy-out-fref
+array-copy-out-fref c = search needs
+
+array-copy-out-f0all : tie.Need-array-copy-out-f0all
+array-copy-out-f0all c = search needs
+
+array-copy-out-share : tie.Need-array-copy-out-share
+array-copy-out-share c = search needs
+
+array-copy-out-cva : tie.Need-array-copy-out-cva
+array-copy-out-cva c = search needs
+
+array-copy-out-iva : tie.Need-array-copy-out-iva
+array-copy-out-iva c = search needs
+
+fits-requires : tie.Need-fits-requires
+fits-requires c κs = search needs
+
+of-requires : tie.Need-of-requires
+of-requires c κs = search needs
+
+-- the test is the definition's, of the record as it was lent
+said : (c : lts.After-fits2 (fits-reads.Asked, fits-reads.Learnt, of-reads.Asked, of-reads.Learnt) reads.Pre reads.Post) → c .fits2 .result ≡ rowFits (c .before .before .before .before .before .before .before .before .args .t1)
+said c =
+    let at-f0all = c .before .before .before .before in
+    let at-frm = at-f0all .before .before in
+    simp (plain, at-frm .before .fmax .given, at-frm .frm .given, at-f0all .before .fref .given, at-f0all .f0all .given, c .before .before .before .share .given, c .before .before .cva .given, c .before .iva .given) at (c .fits2 .ensures)
+    ∙ row-listed (at-frm .before .before .args .t1)
+
+returns : tie.Need-returns
+unfolding rowRead rowOf
+returns c =
+    let at-iva = c .before .before .before in
+    let at-f0all = at-iva .before .before .before in
+    let at-frm = at-f0all .before .before in
+    let fits = sym (said (c .before .before)) ∙ c .before .if1 .taken in
+    simp (plain, at-frm .before .fmax .given, at-frm .frm .given, at-f0all .before .fref .given, at-f0all .f0all .given, at-iva .before .before .share .given, at-iva .before .cva .given, at-iva .iva .given, c .of .ensures, fits)
+
+returns-2 : tie.Need-returns-2
+unfolding rowRead
+returns-2 c = rw (sym (said (c .before)) ∙ c .if1 .left)
+
+pub of-spec : {M : Type 1} → statement M
+of-spec =
+    tie.close
+    (tie.spec
+    array-copy-out-fmax
+    array-copy-out-frm
+    array-copy-out-fref
+    array-copy-out-f0all
+    array-copy-out-share
+    array-copy-out-cva
+    array-copy-out-iva
+    fits-requires
+    of-requires
+    returns
+    returns-2)

@@ -1,0 +1,24 @@
+-- `kinds::Share::worth` meets its contract. Assumes nothing.
+use mathlib.Core.Path.{sym, ap, _∙_}
+use borrow.Author.Needs.{needs}
+use Rattle.numbers.proofs.IntLaws.{plain}
+use Rattle.kinds.specs.Ranges.{worth}
+use Rattle.kinds.proofs.Share.worth.Statement.{statement}
+use Rattle.kinds.proofs.Share.worth.Tie as tie
+
+enum-told : tie.Need-enum-told
+enum-told c = search needs
+
+enum-known-self : tie.Need-enum-known-self
+enum-known-self c = search needs
+
+returns : tie.Need-returns
+unfolding worth
+returns c = sym (ap worth (c .enum-told .given .1))
+
+returns-2 : tie.Need-returns-2
+unfolding worth
+returns-2 c = plain _ (c .known-told .given .0 .1) ∙ sym (ap worth (c .before .self .given .1))
+
+pub worth-spec : {M : Type 1} → statement M
+worth-spec = tie.close (tie.spec enum-told enum-known-self returns returns-2)

@@ -1,0 +1,26 @@
+-- `kinds::Zone::of` meets its contract. Assumes nothing.
+use mathlib.Core.Path.{sym, _∙_}
+use borrow.Author.Needs.{needs}
+use mir.Facts.{toZ-ofZ}
+use Rattle.kinds.specs.Ranges.{zoneFits}
+use Rattle.kinds.specs.Kinds.{zoneRead}
+use Rattle.kinds.proofs.Zone.of.Statement.{statement}
+use Rattle.kinds.proofs.Zone.of.Tie as tie
+
+inside-requires : tie.Need-inside-requires
+inside-requires c κs = search needs
+
+returns : tie.Need-returns
+unfolding zoneRead zoneFits
+returns c =
+    let raw = toZ-ofZ (c .before .before .fits .raw) in
+    simp (raw, sym (simp raw at (c .before .inside .ensures)) ∙ c .if1 .taken)
+
+returns-2 : tie.Need-returns-2
+unfolding zoneRead zoneFits
+returns-2 c =
+    let raw = toZ-ofZ (c .before .before .fits .raw) in
+    simp (sym (simp raw at (c .before .inside .ensures)) ∙ c .if1 .left)
+
+pub of-spec : {M : Type 1} → statement M
+of-spec = tie.close (tie.spec inside-requires returns returns-2)

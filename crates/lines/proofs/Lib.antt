@@ -1,0 +1,4 @@
+pub mod HeaderTrip
+pub mod ZoneTrip
+pub mod BorderTrip
+pub mod RowTrip

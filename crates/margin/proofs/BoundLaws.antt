@@ -1,0 +1,228 @@
+-- How large each value of 01's list ("Margin of a row") can be, in grains, with the limits of the ranges as variables; and steps of its sums.
+-- No contract cites this file; `Small.antt` puts 01's numbers for the variables.
+-- Assumes nothing.
+use mathlib.Core.Path.{_≡_, refl, sym, ap, ap₂, subst, _∙_}
+use mathlib.Core.List.{List, []}
+use mathlib.Core.Logic.{_⊎_, inl, inr}
+use Prim.Native.Nat.{ℕ, zero, suc, _+_, _*_, _≤_, _<_}
+use native.Mathlib.Nat.{mul-le-mul, suc-mul, le-refl}
+use native.Mathlib.Numerals.{add-one}
+use native.Mathlib.Omega.{arith}
+use lib.IntN.{ℤ, pos, negsuc, _+ℤ_, _-ℤ_, _*ℤ_, +ℤ-idr}
+use lib.ListN.{length, getD}
+use lib.Signed.{_≤ℤ_}
+use Rattle.numbers.specs.Ints.{Within, AllWithin, maxℤ, positivePart, sumℤ}
+use Rattle.numbers.specs.Below.{sum}
+use Rattle.numbers.proofs.IntLaws.{diff, diffs, zarith, within-le, within-pos, within-mul, within-max, max-above-left, max-above-right, max-or}
+use Rattle.kinds.specs.declared.Border.{Border}
+use Rattle.kinds.specs.declared.Row.{Row}
+use Rattle.kinds.specs.Ranges.{atℤ, borderOf, worth}
+use Rattle.margin.specs.Margin.{grains, f0coreOf, fuafOf, baseOf, amrOf, signedFactor, pOf, ltaKw, sOf, ltaMarginOf, ramOf}
+use Rattle.margin.specs.Bounds.{RowWithin, BorderWithin}
+use Rattle.margin.proofs.MarginLaws.{shareLess, fifth, base-amr, lta-is, ram-largest}
+
+-- ---- a value that is another, sums and differences
+pub within-is : {m : ℕ} {x y : ℤ} → x ≡ y → Within m y → Within m x
+within-is e h = rw e h
+
+pub within-add : {m n : ℕ} {x y : ℤ} → Within m x → Within n y → Within (m + n) (x +ℤ y)
+within-add {x} {y} h k = rw (diff x, diff y) (simp diffs (omega zarith))
+
+pub within-sub : {m n : ℕ} {x y : ℤ} → Within m x → Within n y → Within (m + n) (x -ℤ y)
+within-sub {x} {y} h k = rw (diff x, diff y) (simp diffs (omega zarith))
+
+pub within-sum : {m : ℕ} (k : ℕ) (f : ℕ → ℤ) → ((i : ℕ) → i < k → Within m (f i)) → Within (k * m) (sumℤ k f)
+unfolding sumℤ
+within-sum {m} zero f h = within-pos (omega arith)
+within-sum {m} (suc k) f h = within-le (within-add (within-sum k f (λ i l. h i (omega arith))) (h k (le-refl (suc k)))) (omega (arith, suc-mul k m))
+
+pub sum-most : {m : ℕ} (k : ℕ) (f : ℕ → ℕ) → ((i : ℕ) → i < k → f i ≤ m) → sum k f ≤ k * m
+unfolding sum
+sum-most {m} zero f h = omega arith
+sum-most {m} (suc k) f h = omega (arith, sum-most k f (λ i l. h i (omega arith)), h k (le-refl (suc k)), suc-mul k m)
+
+-- ---- kW in grains
+pub within-grains : {m : ℕ} {kw : ℤ} → Within m kw → Within (m * 100000) (grains kw)
+unfolding grains
+within-grains h = within-mul h (within-pos (le-refl 100000))
+
+-- ---- F0core: up to any zone, and whole
+abbrev pub products : (factors nets : List ℤ) → (z : ℕ) → ℤ
+products factors nets z = atℤ factors z *ℤ atℤ nets z
+
+pub f0core-upto : {m factor net : ℕ} {g : ℤ} → Within m g → (factors nets : List ℤ) → length nets ≤ length factors → AllWithin factor factors → AllWithin net nets
+    → (k : ℕ) → k ≤ length nets → Within (m + k * (factor * net)) (g -ℤ sumℤ k (products factors nets))
+f0core-upto h factors nets long f n k few =
+    within-sub h (within-sum k (products factors nets) (λ z l. within-mul (f .at z (omega arith)) (n .at z (omega arith))))
+
+pub within-f0core : {flow factor net : ℕ} (row : Row) → Within flow (row .fref) → (factors nets : List ℤ) → length nets ≤ length factors → AllWithin factor factors → AllWithin net nets
+    → (zones : ℕ) → length nets ≤ zones → Within (flow * 100000 + zones * (factor * net)) (f0coreOf row factors nets)
+unfolding f0coreOf
+within-f0core {flow} {factor} {net} row h factors nets long f n zones few =
+    within-le (f0core-upto (within-grains h) factors nets long f n (length nets) (le-refl (length nets))) (omega (arith, mul-le-mul few (le-refl (factor * net))))
+
+-- the sum over zones, zone by zone; g is Fref in grains
+module _ (g : ℤ) (factors nets : List ℤ) where
+  pub f0core-none : g ≡ g -ℤ sumℤ 0 (products factors nets)
+  unfolding sumℤ
+  f0core-none = sym (+ℤ-idr g)
+
+  less-more : (x p : ℤ) → g -ℤ x -ℤ p ≡ g -ℤ (x +ℤ p)
+  less-more x p = rw (diff g, diff x, diff p) (simp diffs (omega zarith))
+
+  pub f0core-more : {f0core : ℤ} (z : ℕ) → f0core ≡ g -ℤ sumℤ z (products factors nets) → f0core -ℤ products factors nets z ≡ g -ℤ sumℤ (z + 1) (products factors nets)
+  unfolding sumℤ
+  f0core-more z e = rw (add-one z) (ap (λ (x : ℤ). x -ℤ products factors nets z) e ∙ less-more (sumℤ z (products factors nets)) (products factors nets z))
+
+pub f0core-all : (row : Row) (factors nets : List ℤ) {g : ℤ} (z : ℕ) → g ≡ grains (row .fref) → z ≡ length nets → g -ℤ sumℤ z (products factors nets) ≡ f0coreOf row factors nets
+unfolding f0coreOf
+f0core-all row factors nets z e l = ap₂ (λ (g : ℤ) (k : ℕ). g -ℤ sumℤ k (products factors nets)) e l
+
+-- ---- R x Fmax / 10000, and Fmax / 5
+module _ {fmax flow share va : ℕ} {row : Row} (within : RowWithin fmax flow share va row) where
+  pub within-share : Within (share * fmax * 10) (worth (row .share) *ℤ row .fmax *ℤ pos 10)
+  within-share = within-mul (within-mul (within .share-in) (within .fmax-in)) (within-pos (le-refl 10))
+
+  pub within-fifth : Within (fmax * 20000) (row .fmax *ℤ pos 20000)
+  within-fifth = within-mul (within .fmax-in) (within-pos (le-refl 20000))
+
+-- ---- the values that F0core gives; it is at most m
+module _ {fmax flow share va m : ℕ} {row : Row} (within : RowWithin fmax flow share va row) {f0core : ℤ} (h : Within m f0core) where
+  pub within-fuaf : Within (m + flow * 100000) (fuafOf row f0core)
+  unfolding fuafOf
+  within-fuaf = within-sub h (within-grains (within .f0all-in))
+
+  pub within-base : Within (fmax * 100000 + fmax * 100000 + m) (baseOf row f0core)
+  unfolding baseOf
+  within-base = within-sub (within-sub (within-grains (within .fmax-in)) (within-grains (within .frm-in))) h
+
+  -- F0core falls out of the first of AMR's values
+  out : (p f0all fmax frm f : ℤ) → p -ℤ (f -ℤ f0all) -ℤ (fmax -ℤ frm -ℤ f) ≡ p +ℤ f0all -ℤ (fmax -ℤ frm)
+  out p f0all fmax frm f = rw (diff p, diff f0all, diff fmax, diff frm, diff f) (simp diffs (omega zarith))
+
+  amr-first : Within (share * fmax * 10 + flow * 100000 + (fmax * 100000 + fmax * 100000)) (worth (row .share) *ℤ row .fmax *ℤ pos 10 -ℤ fuafOf row f0core -ℤ baseOf row f0core)
+  unfolding fuafOf baseOf
+  amr-first =
+      rw (out (worth (row .share) *ℤ row .fmax *ℤ pos 10) (grains (row .f0all)) (grains (row .fmax)) (grains (row .frm)) f0core)
+      (within-sub (within-add (within-share within) (within-grains (within .f0all-in))) (within-sub (within-grains (within .fmax-in)) (within-grains (within .frm-in))))
+
+  pub within-amr : Within (share * fmax * 10 + flow * 100000 + fmax * 420000 + m) (amrOf row f0core)
+  unfolding amrOf
+  within-amr =
+      within-max
+      (within-max (within-le amr-first (omega arith)) (within-le (within-sub (within-fifth within) within-base) (omega arith)))
+      (within-pos (omega arith))
+
+-- ---- S: a border factor, a border's part, the sum
+part-le : {m : ℕ} (z : ℤ) → Within m z → positivePart z ≤ m
+unfolding positivePart
+part-le (pos n) h = h .abs
+part-le (negsuc n) h = omega arith
+
+module _ {factor lta : ℕ} {factors : List ℤ} (each : AllWithin factor factors) where
+  pub p-most : {border : Border} → BorderWithin lta (length factors) border → pOf factors border ≤ 2 * factor
+  unfolding pOf signedFactor
+  p-most {border} h =
+      let w = within-sub (each .at (border .from) (h .from-in)) (each .at (border .to) (h .to-in)) in
+      part-le (atℤ factors (border .from) -ℤ atℤ factors (border .to)) (within-le w (omega arith))
+
+  pub load-most : {border : Border} → BorderWithin lta (length factors) border → pOf factors border * ltaKw border ≤ 2 * factor * (lta * 1000)
+  unfolding ltaKw
+  load-most h = mul-le-mul (p-most h) (omega (arith, h .lta-in))
+
+abbrev pub loads : (factors : List ℤ) → (borders : List (List ℤ)) → (b : ℕ) → ℕ
+loads factors borders b = pOf factors (borderOf (getD borders b [])) * ltaKw (borderOf (getD borders b []))
+
+-- the sum over borders, border by border
+module _ (factors : List ℤ) (borders : List (List ℤ)) where
+  pub s-none : 0 ≡ sum 0 (loads factors borders)
+  unfolding sum
+  s-none = refl
+
+  pub s-more : {s load : ℕ} (b : ℕ) → s ≡ sum b (loads factors borders) → load ≡ loads factors borders b → s + load ≡ sum (b + 1) (loads factors borders)
+  unfolding sum
+  s-more b e l = rw (add-one b) (ap₂ _+_ e l)
+
+  pub s-all : (b : ℕ) → b ≡ length borders → sum b (loads factors borders) ≡ sOf factors borders
+  unfolding sOf
+  s-all b e = ap (λ (k : ℕ). sum k (loads factors borders)) e
+
+-- its most, up to any border, and whole
+module _ {factor lta : ℕ} {factors : List ℤ} (each : AllWithin factor factors) (borders : List (List ℤ))
+    (within : (b : ℕ) → b < length borders → BorderWithin lta (length factors) (borderOf (getD borders b []))) where
+  pub s-upto : (k : ℕ) → k ≤ length borders → sum k (loads factors borders) ≤ k * (2 * factor * (lta * 1000))
+  s-upto k h = sum-most k (loads factors borders) (λ b l. load-most each (within b (omega arith)))
+
+  pub s-most : (n : ℕ) → length borders ≤ n → sOf factors borders ≤ n * (2 * factor * (lta * 1000))
+  unfolding sOf
+  s-most n h = omega (arith, s-upto (length borders) (le-refl (length borders)), mul-le-mul h (le-refl (2 * factor * (lta * 1000))))
+
+-- ---- LTA margin, by the sum in which 01 gives it
+pub within-lta-margin : {fmax flow share va m a n s : ℕ} {row : Row} {f0core amr : ℤ} → RowWithin fmax flow share va row → Within m f0core → Within a amr → s ≤ n
+    → Within (m + n + fmax * 100000 + a + fmax * 100000) (ltaMarginOf row f0core amr s)
+unfolding ltaMarginOf
+within-lta-margin within f g h =
+    within-max
+    (within-sub (within-sub (within-add (within-add f (within-pos h)) (within-grains (within .frm-in))) g) (within-grains (within .fmax-in)))
+    (within-pos (omega arith))
+
+-- ---- LTA margin, RAM and RAM - S, with RAM as a largest value (`ram-largest`)
+over-fifth : {x : ℤ} → pos 0 ≤ℤ x → pos 0 ≤ℤ (x *ℤ pos 20000)
+over-fifth {x} h =
+    let h′ = simp diffs at (rw (diff x) at h) in
+    rw (diff x) (simp diffs (omega (zarith, h′)))
+
+le-trans : {x y z : ℤ} → x ≤ℤ y → y ≤ℤ z → x ≤ℤ z
+le-trans {x} {y} {z} h k =
+    let h′ = simp diffs at (rw (diff x, diff y) at h) in
+    let k′ = simp diffs at (rw (diff y, diff z) at k) in
+    rw (diff x, diff z) (simp diffs (omega (zarith, h′, k′)))
+
+-- what lifts g to the larger of s and g, where g is not below 0
+lift : {g l m : ℤ} {s : ℕ} → g +ℤ l ≡ m → pos 0 ≤ℤ g → g ≤ℤ m → (m ≡ pos s) ⊎ (m ≡ g) → Within s l
+lift {g} {l} {m} e h k (inl q) =
+    let e′ = simp diffs at (rw (diff g, diff l, diff m) at e) in
+    let h′ = simp diffs at (rw (diff g) at h) in
+    let k′ = simp diffs at (rw (diff g, diff m) at k) in
+    let q′ = simp diffs at (rw (diff m) at q) in
+    rw (diff l) (simp diffs (omega (zarith, e′, h′, k′, q′)))
+lift {g} {l} {m} e h k (inr q) =
+    let e′ = simp diffs at (rw (diff g, diff l, diff m) at e) in
+    let q′ = simp diffs at (rw (diff m, diff g) at q) in
+    rw (diff l) (simp diffs (omega (zarith, e′, q′)))
+
+-- what a largest value has over one of its values that is not below 0
+over : {m : ℤ} {top s : ℕ} → Within top m → pos s ≤ℤ m → Within top (m -ℤ pos s)
+over {m} h k =
+    let k′ = simp diffs at (rw (diff m) at k) in
+    rw (diff m) (simp diffs (omega (zarith, k′)))
+
+later : (m c i s : ℤ) → m -ℤ c -ℤ i -ℤ s ≡ m -ℤ s -ℤ c -ℤ i
+later m c i s = rw (diff m, diff c, diff i, diff s) (simp diffs (omega zarith))
+
+module _ {fmax flow share va m : ℕ} {row : Row} (within : RowWithin fmax flow share va row) {f0core : ℤ} (h : Within m f0core) where
+  pub lta-margin-most : pos 0 ≤ℤ row .fmax → (s : ℕ) → Within s (ltaMarginOf row f0core (amrOf row f0core) s)
+  lta-margin-most low s =
+      let g = baseOf row f0core +ℤ amrOf row f0core in
+      let g-low : pos 0 ≤ℤ g =
+      rw (base-amr row f0core)
+      (le-trans (over-fifth low) (le-trans (max-above-right (shareLess row f0core) (fifth row f0core)) (max-above-left (maxℤ (shareLess row f0core) (fifth row f0core)) (baseOf row f0core)))) in
+      lift (lta-is row f0core s) g-low (max-above-right (pos s) g) (max-or (pos s) g)
+
+  -- `top` is over each of the four values
+  module _ (top s : ℕ) (over-s : s ≤ top) (over-share : share * fmax * 10 + (m + flow * 100000) ≤ top) (over-fmax : fmax * 20000 ≤ top) (over-base : fmax * 100000 + fmax * 100000 + m ≤ top) where
+    abbrev largest : ℤ
+    largest = maxℤ (pos s) (maxℤ (maxℤ (shareLess row f0core) (fifth row f0core)) (baseOf row f0core))
+
+    largest-in : Within top largest
+    largest-in =
+        within-max (within-pos over-s)
+        (within-max (within-max (within-le (within-sub (within-share within) (within-fuaf within h)) over-share) (within-le (within-fifth within) over-fmax)) (within-le (within-base within h) over-base))
+
+    pub within-ram : Within (top + va * 100000 + va * 100000) (ramOf row f0core s)
+    within-ram = within-is (ram-largest row f0core s) (within-sub (within-sub largest-in (within-grains (within .cva-in))) (within-grains (within .iva-in)))
+
+    pub within-start : Within (top + va * 100000 + va * 100000) (ramOf row f0core s -ℤ pos s)
+    within-start =
+        within-is (ap (λ (z : ℤ). z -ℤ pos s) (ram-largest row f0core s) ∙ later largest (grains (row .cva)) (grains (row .iva)) (pos s))
+        (within-sub (within-sub (over largest-in (max-above-left (pos s) _)) (within-grains (within .cva-in))) (within-grains (within .iva-in)))

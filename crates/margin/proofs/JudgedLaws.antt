@@ -1,0 +1,131 @@
+-- What a judged record gives to the functions of this crate: its value and its ranges; the same of a judged table's parts. No contract cites this file.
+-- Assumes nothing.
+use mathlib.Core.Path.{_≡_, refl, sym, ap, subst, _∙_}
+use mathlib.Core.Bool.{true}
+use mathlib.Core.List.{List, []}
+use Prim.Native.Nat.{ℕ, suc, _+_, _*_, _≤_, _<_}
+use native.Mathlib.Nat.{mul-le-mul, suc-mul, le-refl}
+use native.Mathlib.Omega.{arith}
+use lib.IntN.{ℤ}
+use lib.ListN.{length, getD, take, drop, length-drop}
+use lib.Seq.{length-take-le}
+use Rattle.numbers.specs.Ints.{Within, AllWithin}
+use Rattle.numbers.proofs.IntLaws.{within-le, all-part, between-within}
+use Rattle.kinds.specs.declared.Header.{Header}
+use Rattle.kinds.specs.declared.Border.{Border}
+use Rattle.kinds.specs.declared.Row.{Row}
+use Rattle.kinds.specs.declared.BorderRead.{BorderRead}
+use Rattle.kinds.specs.declared.BorderRead.the-variants as border
+use Rattle.kinds.specs.declared.RowRead.{RowRead}
+use Rattle.kinds.specs.declared.RowRead.the-variants as row
+use Rattle.kinds.specs.Limits.{bordersMost}
+use Rattle.kinds.specs.Ranges.{atℤ, borderFits, borderOf, rowFits, rowOf}
+use Rattle.kinds.specs.Kinds.{borderRead, rowRead}
+use Rattle.kinds.proofs.KindLaws.{header-in, zone-in, border-in, row-in, share-in, factor-in}
+use Rattle.table.specs.Table.{Table, stretch}
+use Rattle.table.specs.Good.{Good}
+use Rattle.margin.specs.Margin.{sOf}
+use Rattle.margin.specs.Bounds.{RowBound, FactorsBound, TableFactorsBound, NetsBound, BorderBound, BordersBound, sMost}
+use Rattle.margin.proofs.BoundLaws.{s-most}
+
+-- ---- a border that fits is read as itself
+module _ (zones : ℕ) (raw : List ℤ) (fits : borderFits zones raw ≡ true) where
+  border-good : borderRead zones raw ≡ border.Good (borderOf raw)
+  unfolding borderRead
+  border-good = rw fits
+
+  pub border-is : {r : BorderRead} {x : Border} → r ≡ borderRead zones raw → r ≡ border.Good x → x ≡ borderOf raw
+  border-is e k = cc border-good
+
+  pub border-never : {A : Type 0} {r : BorderRead} → r ≡ borderRead zones raw → r ≡ border.Out → A
+  border-never e k = let z : _≡_ {A = ℕ} 0 1 = cc border-good in absurd (omega arith)
+
+  pub border-bound : BorderBound zones (borderOf raw)
+  border-bound =
+      let b = border-in zones raw fits in
+      record { from-in = b .from-below; to-in = b .to-below; lta-in = b .lta-most }
+
+  pub border-read-bound : {r : BorderRead} {x : Border} → r ≡ borderRead zones raw → r ≡ border.Good x → BorderBound zones x
+  border-read-bound e k = rw (border-is e k) border-bound
+
+-- ---- a row likewise
+module _ (raw : List ℤ) (fits : rowFits raw ≡ true) where
+  row-good : rowRead raw ≡ row.Good (rowOf raw)
+  unfolding rowRead
+  row-good = rw fits
+
+  pub row-is : {r : RowRead} {x : Row} → r ≡ rowRead raw → r ≡ row.Good x → x ≡ rowOf raw
+  row-is e k = cc row-good
+
+  pub row-never : {A : Type 0} {r : RowRead} → r ≡ rowRead raw → r ≡ row.Out → A
+  row-never e k = let z : _≡_ {A = ℕ} 0 1 = cc row-good in absurd (omega arith)
+
+  pub row-bound : RowBound (rowOf raw)
+  unfolding rowOf
+  row-bound =
+      let r = row-in raw fits in
+      record {
+        fmax-in = between-within (r .fmax);
+        frm-in = within-le (between-within (r .frm)) (r .fmax .most);
+        fref-in = r .fref;
+        f0all-in = r .f0all;
+        share-in = between-within (share-in (atℤ raw 4) (r .share));
+        cva-in = between-within (r .cva);
+        iva-in = between-within (r .iva);
+      }
+
+  pub row-read-bound : {r : RowRead} {x : Row} → r ≡ rowRead raw → r ≡ row.Good x → RowBound x
+  row-read-bound e k = rw (row-is e k) row-bound
+
+-- ---- a row's stretch of the factors
+module _ {h : Header} {f : List ℤ} (bound : TableFactorsBound h f) (i : ℕ) (below : i < h .rows) where
+  pub stretch-ends : i * h .zones + h .zones ≤ length f
+  stretch-ends = omega (arith, bound .long, mul-le-mul below (le-refl (h .zones)), suc-mul i (h .zones))
+
+  pub stretch-long : length (stretch (h .zones) f i) ≡ h .zones
+  unfolding stretch
+  stretch-long = length-take-le (h .zones) (drop (i * h .zones) f) (omega (arith, length-drop (i * h .zones) f, stretch-ends))
+
+  pub stretch-bound : FactorsBound (stretch (h .zones) f i)
+  unfolding stretch
+  stretch-bound =
+      record {
+        some = omega (arith, stretch-long, bound .some);
+        few = omega (arith, stretch-long, bound .few);
+        each = all-part f (i * h .zones) (h .zones) stretch-ends (bound .each);
+      }
+
+  -- the same of a part that is this stretch
+  pub part-long : {part : List ℤ} → part ≡ stretch (h .zones) f i → length part ≡ h .zones
+  part-long e = ap length e ∙ stretch-long
+
+  pub part-bound : {part : List ℤ} → part ≡ stretch (h .zones) f i → FactorsBound part
+  part-bound e = rw e stretch-bound
+
+-- ---- S of judged borders
+pub s-bound : {factors : List ℤ} {borders : List (List ℤ)} {s : ℕ} → FactorsBound factors → BordersBound (length factors) borders → s ≡ sOf factors borders → s ≤ sMost
+s-bound {factors} {borders} f b e =
+    omega (arith, e, s-most (f .each) borders (λ k l. border-bound (length factors) (getD borders k []) (b .each k l)) bordersMost (b .few))
+
+-- ---- a judged table
+module _ {t : Table} (good : Good t) where
+  pub good-factors : TableFactorsBound (t .header) (t .factors)
+  good-factors =
+      let h = header-in (t .header) (good .header) in
+      record {
+        some = omega (arith, h .zones-least);
+        few = h .zones-most;
+        long = good .factors-long;
+        each = record { at = λ k l. factor-in _ (good .factors-fit k (omega (arith, good .factors-long))) };
+      }
+
+  pub good-borders : BordersBound (t .header .zones) (t .borders)
+  good-borders =
+      let h = header-in (t .header) (good .header) in
+      record {
+        few = omega (arith, good .borders-long, h .borders-most);
+        each = λ b l. good .borders-fit b (omega (arith, good .borders-long));
+      }
+
+  pub good-nets : NetsBound (t .header .zones) (t .nets)
+  good-nets = record { long = good .nets-long; each = record { at = λ z l. zone-in _ (good .nets-fit z (omega (arith, good .nets-long))) } }

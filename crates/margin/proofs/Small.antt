@@ -1,0 +1,84 @@
+-- 01, "Margin of a row": each value named in the list stays under 2^48 grains in magnitude, for every judged table. No contract cites this file.
+-- The bounds are laws with the limits as variables (`BoundLaws.antt`); here stand 01's limits.
+-- Assumes nothing.
+use Prim.Native.Nat.{ℕ, _+_, _*_, _^_, _≤_, _<_}
+use native.Mathlib.Omega.{arith}
+use lib.IntN.{ℤ, pos, natAbs, _-ℤ_}
+use lib.ListN.{getD}
+use lib.Signed.{_≤ℤ_}
+use mathlib.Core.List.{[]}
+use mathlib.Core.Path.{refl, sym, subst}
+use Rattle.numbers.specs.Ints.{Within}
+use Rattle.numbers.proofs.IntLaws.{Between, diffs, zarith}
+use Rattle.kinds.specs.Limits.{zonesMost, fmaxMost, flowMost, shareMost, vaMost}
+use Rattle.kinds.specs.Ranges.{rowOf}
+use Rattle.kinds.proofs.KindLaws.{row-in}
+use Rattle.table.specs.Table.{Table, rowAt, factorsAt}
+use Rattle.table.specs.Good.{Good}
+use Rattle.margin.specs.Margin.{f0coreOf, fuafOf, baseOf, amrOf, ltaMarginOf, sAt, ramAt}
+use Rattle.margin.specs.Bounds.{RowBound, BordersBound, f0coreMost, sMost}
+use Rattle.margin.proofs.BoundLaws.{within-f0core, within-fuaf, within-base, within-amr, lta-margin-most, within-ram, within-start}
+use Rattle.margin.proofs.JudgedLaws.{row-bound, stretch-long, stretch-bound, s-bound, good-factors, good-borders, good-nets}
+
+-- F0core of row i of a table
+abbrev pub f0coreAt : Table → (i : ℕ) → ℤ
+f0coreAt t i = f0coreOf (rowAt t i) (factorsAt t i) (t .nets)
+
+between-low : {m n : ℕ} {z : ℤ} → Between m n z → pos 0 ≤ℤ z
+between-low {z} h = rw (h .is) (simp diffs (omega zarith))
+
+pub record NamedSmall (t : Table) (i : ℕ) : Type 0 where
+  pub f0core : natAbs (f0coreAt t i) < 2 ^ 48
+  pub fuaf : natAbs (fuafOf (rowAt t i) (f0coreAt t i)) < 2 ^ 48
+  pub base : natAbs (baseOf (rowAt t i) (f0coreAt t i)) < 2 ^ 48
+  pub amr : natAbs (amrOf (rowAt t i) (f0coreAt t i)) < 2 ^ 48
+  pub s : sAt t i < 2 ^ 48
+  pub lta-margin : natAbs (ltaMarginOf (rowAt t i) (f0coreAt t i) (amrOf (rowAt t i) (f0coreAt t i)) (sAt t i)) < 2 ^ 48
+  pub ram : natAbs (ramAt t i) < 2 ^ 48
+  pub start : natAbs (ramAt t i -ℤ pos (sAt t i)) < 2 ^ 48
+
+module _ {t : Table} (good : Good t) (i : ℕ) (below : i < t .header .rows) where
+  -- the row's values, its F0core and its S
+  row-in-range : RowBound (rowAt t i)
+  row-in-range = row-bound (getD (t .rows) i []) (good .rows-fit i below)
+
+  fmax-low : pos 0 ≤ℤ rowAt t i .fmax
+  fmax-low = between-low (row-in (getD (t .rows) i []) (good .rows-fit i below) .fmax)
+
+  f0core-in : Within f0coreMost (f0coreAt t i)
+  f0core-in =
+      let f = good-factors good in
+      let n = good-nets good in
+      let long = stretch-long f i below in
+      within-f0core (rowAt t i) (row-in-range .fref-in) (factorsAt t i) (t .nets) (omega (arith, long, n .long)) (stretch-bound f i below .each) (n .each) zonesMost
+      (omega (arith, n .long, f .few))
+
+  s-in : sAt t i ≤ sMost
+  s-in =
+      s-bound (stretch-bound (good-factors good) i below)
+      (subst (λ (n : ℕ). BordersBound n (t .borders)) (sym (stretch-long (good-factors good) i below)) (good-borders good)) refl
+
+  -- over S, R x Fmax / 10000 - Fuaf, Fmax / 5 and Base
+  abbrev top : ℕ
+  top = shareMost * fmaxMost * 10 + (f0coreMost + flowMost * 100000)
+
+  ram-in : Within (top + vaMost * 100000 + vaMost * 100000) (ramAt t i)
+  unfolding ramAt
+  ram-in = within-ram row-in-range f0core-in top (sAt t i) (omega (arith, s-in)) (omega arith) (omega arith) (omega arith)
+
+  start-in : Within (top + vaMost * 100000 + vaMost * 100000) (ramAt t i -ℤ pos (sAt t i))
+  unfolding ramAt
+  start-in = within-start row-in-range f0core-in top (sAt t i) (omega (arith, s-in)) (omega arith) (omega arith) (omega arith)
+
+  pub named-values-small : NamedSmall t i
+  named-values-small =
+      record {
+        f0core = omega (arith, f0core-in .abs);
+        fuaf = omega (arith, within-fuaf row-in-range f0core-in .abs);
+        base = omega (arith, within-base row-in-range f0core-in .abs);
+        amr = omega (arith, within-amr row-in-range f0core-in .abs);
+        s = omega (arith, s-in);
+        lta-margin = omega (arith, lta-margin-most row-in-range f0core-in fmax-low (sAt t i) .abs, s-in);
+        ram = omega (arith, ram-in .abs);
+        start = omega (arith, start-in .abs);
+      }

@@ -1,0 +1,63 @@
+-- `margin::base` meets its contract. Assumes nothing.
+use mathlib.Core.Path.{_≡_}
+use borrow.Author.Needs.{sfits-of}
+use native.Mathlib.Omega.{arith}
+use lib.IntN.{_-ℤ_}
+use mir.Facts.{toZ-ofZ}
+use mir.Syntax.{w64}
+use mir.Val.{SFits}
+use Rattle.numbers.proofs.IntLaws.{within-fits, within-le}
+use Rattle.margin.specs.Margin.{grains, baseOf}
+use Rattle.margin.proofs.BoundLaws.{within-is, within-sub, within-grains}
+use Rattle.margin.proofs.base.Statement.{statement}
+use Rattle.margin.proofs.base.Tie as tie
+
+grains-requires : tie.Need-grains-requires
+grains-requires c κs =
+    let row = c .before .pre .0 in
+    simp (toZ-ofZ, within-fits (row .fmax-in) tt) (within-le (row .fmax-in) (omega arith))
+
+grains-requires-2 : tie.Need-grains-requires-2
+grains-requires-2 c κs =
+    let row = c .before .before .before .pre .0 in
+    simp (toZ-ofZ, within-fits (row .frm-in) tt) (within-le (row .frm-in) (omega arith))
+
+-- Fmax and FRM in grains, and the differences
+module _ (c : tie.After-grains2) where
+  abbrev start : tie.Start
+  start = c .before .before .before .before
+
+  fmax-is : c .before .before .grains .result ≡ grains (start .args .row .fmax)
+  fmax-is = simp (toZ-ofZ, within-fits (start .pre .0 .fmax-in) tt) at (c .before .before .grains .ensures)
+
+  frm-is : c .grains2 .result ≡ grains (start .args .row .frm)
+  frm-is = simp (toZ-ofZ, within-fits (start .pre .0 .frm-in) tt) at (c .grains2 .ensures)
+
+  fmax-fits : SFits w64 (c .before .before .grains .result)
+  fmax-fits = sfits-of (c .before .before .grains .ok)
+
+  frm-fits : SFits w64 (c .grains2 .result)
+  frm-fits = sfits-of (c .grains2 .ok)
+
+  first-fits : SFits w64 (c .before .before .grains .result -ℤ c .grains2 .result)
+  first-fits =
+      let row = start .pre .0 in
+      within-fits (within-sub (within-is fmax-is (within-grains (row .fmax-in))) (within-is frm-is (within-grains (row .frm-in)))) tt
+
+  base-fits : SFits w64 (c .before .before .grains .result -ℤ c .grains2 .result -ℤ start .args .f0core)
+  base-fits =
+      let row = start .pre .0 in
+      within-fits (within-sub (within-sub (within-is fmax-is (within-grains (row .fmax-in))) (within-is frm-is (within-grains (row .frm-in)))) (start .pre .1)) tt
+
+sub-result : tie.Need-sub-result
+sub-result c = simp (toZ-ofZ, fmax-fits c, frm-fits c) (first-fits c)
+
+sub-result-2 : tie.Need-sub-result-2
+sub-result-2 c = simp (toZ-ofZ, start c .fits .f0core, fmax-fits c, frm-fits c, first-fits c) (base-fits c)
+
+returns : tie.Need-returns
+unfolding baseOf
+returns c = simp (toZ-ofZ, start c .fits .f0core, fmax-fits c, frm-fits c, first-fits c, base-fits c) (cc (fmax-is c, frm-is c))
+
+pub base-spec : {M : Type 1} → statement M
+base-spec = tie.close (tie.spec grains-requires grains-requires-2 sub-result sub-result-2 returns)

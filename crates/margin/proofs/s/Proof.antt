@@ -1,0 +1,86 @@
+-- `margin::s` meets its contract. The loop's invariant: what is there is the sum over the first b borders. The measure is the borders that are left.
+-- Assumes nothing.
+use mathlib.Core.Path.{_≡_, refl, ap, _∙_}
+use Prim.Native.Nat.{ℕ, _+_, _*_, _-_, _≤_, _<_}
+use native.Mathlib.Numerals.{add-one}
+use native.Mathlib.Omega.{arith}
+use lib.ListN.{length, getD}
+use mathlib.Core.List.{[]}
+use Rattle.numbers.specs.Below.{sum}
+use Rattle.kinds.specs.Ranges.{borderOf}
+use Rattle.margin.specs.Margin.{sOf}
+use Rattle.margin.specs.Bounds.{BorderBound}
+use Rattle.margin.proofs.BoundLaws.{loads, s-upto, s-none, s-more, s-all}
+use Rattle.margin.proofs.JudgedLaws.{border-bound}
+use Rattle.margin.proofs.s.Statement.{statement}
+use Rattle.margin.proofs.s.Tie as tie
+
+abbrev Inv-loop : tie.InvT-loop
+Inv-loop factors borders s₀ b₀ s b = (b ≤ length borders) × (s ≡ sum b (loads factors borders))
+
+abbrev μ-loop : tie.MeasureT-loop
+μ-loop factors borders s₀ b₀ s b = length borders - b
+
+loop-holds : tie.Need-loop-holds Inv-loop μ-loop
+loop-holds c = (omega arith, s-none (c .args .factors .now) (c .args .borders .now))
+
+mul-lta-load : tie.Need-mul-lta-load Inv-loop μ-loop
+mul-lta-load c = omega arith
+
+shared-slice-copy-out-lta-load : tie.Need-shared-slice-copy-out-lta-load Inv-loop μ-loop
+shared-slice-copy-out-lta-load c = omega arith
+
+lta-load-requires : tie.Need-lta-load-requires Inv-loop μ-loop
+lta-load-requires c κs =
+    let start = c .before .before .before in
+    (start .pre .0, start .pre .1 .each (c .before .before .loop .b) (omega arith))
+
+-- a turn
+module _ (c : tie.After-lta-load Inv-loop μ-loop) where
+  abbrev start : tie.Start Inv-loop μ-loop
+  start = c .before .before .before .before
+
+  abbrev b : ℕ
+  b = c .before .before .before .loop .b
+
+  turned : c .before .before .before .loop .s + c .lta-load .result ≡ sum (b + 1) (loads (start .args .factors .now) (start .args .borders .now))
+  turned = s-more (start .args .factors .now) (start .args .borders .now) b (c .before .before .before .loop .inv .1) (c .lta-load .ensures)
+
+  bound : (k : ℕ) → k < length (start .args .borders .now) → BorderBound (length (start .args .factors .now)) (borderOf (getD (start .args .borders .now) k []))
+  bound k l = border-bound _ (getD (start .args .borders .now) k []) (start .pre .1 .each k l)
+
+add-s : tie.Need-add-s Inv-loop μ-loop
+add-s c =
+    let few : b c < length (start c .args .borders .now) = omega arith in
+    omega (arith, turned c, s-upto (start c .pre .0 .each) (start c .args .borders .now) (bound c) (b c + 1) (omega arith), start c .pre .1 .few)
+
+add-b : tie.Need-add-b Inv-loop μ-loop
+add-b c = omega arith
+
+loop-less : tie.Need-loop-less Inv-loop μ-loop
+loop-less c = omega arith
+
+loop-again : tie.Need-loop-again Inv-loop μ-loop
+loop-again c = (omega arith, turned c)
+
+returns : tie.Need-returns Inv-loop μ-loop
+returns c =
+    let l = c .before .loop in
+    let a = c .before .before .args in
+    l .inv .1 ∙ s-all (a .factors .now) (a .borders .now) (l .b) (omega arith)
+
+pub s-spec : {M : Type 1} → statement M
+s-spec =
+    tie.close
+    (tie.spec
+    Inv-loop
+    μ-loop
+    loop-holds
+    mul-lta-load
+    shared-slice-copy-out-lta-load
+    lta-load-requires
+    add-s
+    add-b
+    loop-less
+    loop-again
+    returns)

@@ -1,0 +1,70 @@
+-- What a function on one row asks of the row's values, by 01's ranges, and how large F0core, AMR and S can then be, in grains.
+-- That a judged table gives all of it is proved (`BoundLaws.antt`).
+-- Assumes nothing.
+use mathlib.Core.Path.{_≡_}
+use mathlib.Core.Bool.{true}
+use mathlib.Core.List.{List, []}
+use Prim.Native.Nat.{ℕ, _+_, _*_, _≤_, _<_}
+use lib.IntN.{ℤ}
+use lib.ListN.{length, getD}
+use Rattle.numbers.specs.Ints.{Within, AllWithin}
+use Rattle.kinds.specs.declared.Header.{Header}
+use Rattle.kinds.specs.declared.Border.{Border}
+use Rattle.kinds.specs.declared.Row.{Row}
+use Rattle.kinds.specs.Limits.{zonesMost, bordersMost, netMost, ltaMost, fmaxMost, flowMost, shareMost, vaMost, factorMost}
+use Rattle.kinds.specs.Ranges.{borderFits, worth}
+
+-- a row's values, kW and ten-thousandths, are at most these in magnitude
+pub record RowWithin (fmax flow share va : ℕ) (row : Row) : Type 0 where
+  pub fmax-in : Within fmax (row .fmax)
+  pub frm-in : Within fmax (row .frm)
+  pub fref-in : Within flow (row .fref)
+  pub f0all-in : Within flow (row .f0all)
+  pub share-in : Within share (worth (row .share))
+  pub cva-in : Within va (row .cva)
+  pub iva-in : Within va (row .iva)
+
+abbrev pub RowBound : Row → Type 0
+RowBound row = RowWithin fmaxMost flowMost shareMost vaMost row
+
+-- a row's factors
+pub record FactorsBound (factors : List ℤ) : Type 0 where
+  pub some : 0 < length factors
+  pub few : length factors ≤ zonesMost
+  pub each : AllWithin factorMost factors
+
+-- the factors of all rows
+pub record TableFactorsBound (h : Header) (factors : List ℤ) : Type 0 where
+  pub some : 0 < h .zones
+  pub few : h .zones ≤ zonesMost
+  pub long : length factors ≡ h .rows * h .zones
+  pub each : AllWithin factorMost factors
+
+-- net positions, as many as there are zones
+pub record NetsBound (zones : ℕ) (nets : List ℤ) : Type 0 where
+  pub long : length nets ≡ zones
+  pub each : AllWithin netMost nets
+
+-- a border between two of the zones, of at most so much LTA in MW
+pub record BorderWithin (lta zones : ℕ) (border : Border) : Type 0 where
+  pub from-in : border .from < zones
+  pub to-in : border .to < zones
+  pub lta-in : border .lta ≤ lta
+
+abbrev pub BorderBound : (zones : ℕ) → Border → Type 0
+BorderBound zones border = BorderWithin ltaMost zones border
+
+-- raw borders, each judged
+pub record BordersBound (zones : ℕ) (borders : List (List ℤ)) : Type 0 where
+  pub few : length borders ≤ bordersMost
+  pub each : (b : ℕ) → b < length borders → borderFits zones (getD borders b []) ≡ true
+
+-- the most that F0core, AMR and S can be, in magnitude
+abbrev pub f0coreMost : ℕ
+f0coreMost = flowMost * 100000 + zonesMost * (factorMost * netMost)
+
+abbrev pub amrMost : ℕ
+amrMost = shareMost * fmaxMost * 10 + flowMost * 100000 + fmaxMost * 420000 + f0coreMost
+
+abbrev pub sMost : ℕ
+sMost = bordersMost * (2 * factorMost * (ltaMost * 1000))

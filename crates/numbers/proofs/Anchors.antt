@@ -1,0 +1,11 @@
+-- Small computed values of `specs/Below.antt`. Nobody cites them: they refuse a definition that slipped.
+-- Assumes nothing.
+use mathlib.Core.Path.{_≡_, refl}
+use mathlib.Core.Option.{some}
+use Prim.Native.Nat.{_-_}
+use Rattle.numbers.specs.Below.{ifZero, lesser, least}
+
+-- of 10, 9 and 8, where the first does not count, the smallest is 8
+pub smallest : least 3 (λ i. i) (λ i. 10 - i) ≡ some 8
+unfolding least lesser ifZero
+smallest = refl

@@ -1,0 +1,162 @@
+-- What is known of a table that was read: its header and runs of lines (`opened`), and that it is good (`read-good`, `read-shaped`). No contract cites this file.
+-- Assumes nothing.
+use mathlib.Core.Path.{_≡_, refl, sym, ap, subst, _∙_}
+use mathlib.Core.Bool.{Bool, true, false, cond}
+use mathlib.Core.List.{List, []}
+use Prim.Native.Nat.{ℕ, _*_, _≤_, _<_}
+use native.Mathlib.Omega.{arith}
+use lib.Dec.{ltb}
+use lib.IntN.{ℤ, pos}
+use lib.ListN.{length, getD}
+use borrow.Author.Tests.{ltb-false}
+use Rattle.kinds.specs.declared.Header.{Header}
+use Rattle.kinds.specs.Limits.{bytesMost}
+use Rattle.kinds.specs.Ranges.{headerFits, zoneFits, rowFits, factorFits, atℤ}
+use Rattle.kinds.specs.Refusals.{Why, Judged, passed, refused, tooLong, wrongForm, outOfRange}
+use Rattle.kinds.proofs.RefusalLaws.{passed-is, not-passed, none-passed, then-passed}
+use Rattle.kinds.proofs.KindLaws.{header-in}
+use Rattle.text.specs.Line.{lineAt, after, Line, holds, form, range}
+use Rattle.block.specs.Block.{read, linesAt}
+use Rattle.block.proofs.BlockLaws.{allFit}
+use Rattle.block.proofs.RunLaws.{run-fits, fits-at, lines-then}
+use Rattle.table.specs.Table.{Table, stretch, twice, notTwice, headerLineNo, zoneLineNo, borderLineNo, rowLineNo, pastLineNo}
+use Rattle.table.specs.Good.{Good, Shaped}
+use Rattle.table.proofs.GoodLaws.{row-good, flat-fit}
+use Rattle.lines.specs.Lines.{RowLine, headerLine, zoneLine, borderLine, rowLine}
+use Rattle.reading.specs.Reading.{withHeader, valuesOf, factorsOf, linesOf, readText}
+use Rattle.lines.proofs.HeaderTrip.{header-read}
+use Rattle.lines.proofs.ZoneTrip.{zone-read}
+use Rattle.lines.proofs.BorderTrip.{BorderHeld, border-read}
+use Rattle.lines.proofs.RowTrip.{RowHeld, Held, row-read}
+use Rattle.reading.proofs.RowLaws.{none, values-long, values-at, factors-long, stretch-of}
+
+-- ---- the chain of H, Z, B, C lines and the end of the text, opened
+pub record Opened (text : List ℕ) (t : Table) : Type 0 where
+  pub lines : List RowLine
+  pub p : ℕ
+  pub q : ℕ
+  pub e : ℕ
+  pub header-is : headerLine (lineAt text 0) ≡ holds (t .header)
+  pub nets-are : linesAt zoneLine zoneLineNo (t .header .zones) text (after text 0) 0 ≡ read (t .nets) p
+  pub borders-are : linesAt (borderLine (t .header .zones)) (borderLineNo (t .header)) (t .header .borders) text p 0 ≡ read (t .borders) q
+  pub rows-are : linesAt (rowLine (t .header .zones)) (rowLineNo (t .header)) (t .header .rows) text q 0 ≡ read lines e
+  pub whole : length text ≤ e
+  pub values-are : valuesOf lines ≡ t .rows
+  pub factors-are : factorsOf lines ≡ t .factors
+
+header-then : {P : Type 0} (t : Table) (l : Line Header) (next : Header → Judged Table) → withHeader l next ≡ passed t → ((h : Header) → l ≡ holds h → next h ≡ passed t → P) → P
+header-then t (holds h) next e k = k h refl e
+header-then t form next e k = absurd (not-passed (wrongForm headerLineNo) t e)
+header-then t range next e k = absurd (not-passed (outOfRange headerLineNo) t e)
+
+-- a refusal where a test holds, and none was given
+cond-passed : (a b : ℕ) (w : Why) (x : Judged Table) (t : Table) → cond (ltb a b) (refused w) x ≡ passed t → (b ≤ a) × (x ≡ passed t)
+cond-passed a b w x t e = go (ltb a b) refl e
+  where
+    go : (s : Bool) → ltb a b ≡ s → cond s (refused w) x ≡ passed t → (b ≤ a) × (x ≡ passed t)
+    go true q e = absurd (not-passed w t e)
+    go false q e = (ltb-false a b q, e)
+
+pub opened : (text : List ℕ) (t : Table) → linesOf text ≡ passed t → Opened text t
+unfolding linesOf
+opened text t e =
+    header-then t (headerLine (lineAt text 0)) _ e (λ h header-is e1.
+    lines-then t (linesAt zoneLine zoneLineNo (h .zones) text (after text 0) 0) _ e1 (λ nets p nets-are e2.
+    lines-then t (linesAt (borderLine (h .zones)) (borderLineNo h) (h .borders) text p 0) _ e2 (λ borders q borders-are e3.
+    lines-then t (linesAt (rowLine (h .zones)) (rowLineNo h) (h .rows) text q 0) _ e3 (λ lines e rows-are e4.
+    let l = cond-passed e (length text) (wrongForm (pastLineNo h)) _ t e4 in
+    subst (Opened text) (passed-is _ t (l .1))
+    (record {
+      lines = lines;
+      p = p;
+      q = q;
+      e = e;
+      header-is = header-is;
+      nets-are = nets-are;
+      borders-are = borders-are;
+      rows-are = rows-are;
+      whole = l .0;
+      values-are = refl;
+      factors-are = refl;
+    })))))
+
+pub record Reading (text : List ℕ) (t : Table) : Type 0 where
+  pub short : length text ≤ bytesMost
+  pub lines : linesOf text ≡ passed t
+  pub once : (b : ℕ) → b < t .header .borders → twice (t .borders) b ≡ false
+
+pub reading : (text : List ℕ) (t : Table) → readText text ≡ passed t → Reading text t
+unfolding readText
+reading text t e =
+    let a = cond-passed bytesMost (length text) tooLong _ t e in
+    let w = then-passed (linesOf text) notTwice t (a .1) in
+    let f = none-passed _ _ _ _ t (w .second) in
+    let u : w .it ≡ t = passed-is _ _ (f .1) in
+    record { short = a .0; lines = w .first ∙ ap passed u; once = subst (λ (x : Table). (b : ℕ) → b < x .header .borders → twice (x .borders) b ≡ false) u (f .0) }
+
+-- ---- a table that was read is good
+module _ (text : List ℕ) (t : Table) (o : Opened text t) where
+  pub fits : headerFits (t .header) ≡ true
+  fits = header-read (lineAt text 0) (t .header) (o .header-is) .1
+
+  pub some : 0 < t .header .zones
+  some = omega (arith, header-in (t .header) fits .zones-least)
+
+  pub nets-held : (length (t .nets) ≡ t .header .zones) × allFit (λ i net. zoneFits net ≡ true) 0 (t .nets)
+  nets-held = run-fits zoneLine zoneLineNo (λ i net. zoneFits net ≡ true) (λ line i net e. zone-read line i net e .1) (t .header .zones) text (after text 0) 0 (t .nets) (o .p) (o .nets-are)
+
+  pub borders-held : (length (t .borders) ≡ t .header .borders) × allFit (λ i raw. BorderHeld (t .header .zones) raw) 0 (t .borders)
+  borders-held =
+      run-fits (borderLine (t .header .zones)) (borderLineNo (t .header)) (λ i raw. BorderHeld (t .header .zones) raw) (λ line i raw e. border-read (t .header .zones) line i raw e .1)
+      (t .header .borders) text (o .p) 0 (t .borders) (o .q) (o .borders-are)
+
+  pub rows-held : (length (o .lines) ≡ t .header .rows) × allFit (Held (t .header .zones)) 0 (o .lines)
+  rows-held =
+      run-fits (rowLine (t .header .zones)) (rowLineNo (t .header)) (Held (t .header .zones)) (λ line i c e. row-read (t .header .zones) some line i c e .1)
+      (t .header .rows) text (o .q) 0 (o .lines) (o .e) (o .rows-are)
+
+  border-at : (b : ℕ) → b < t .header .borders → BorderHeld (t .header .zones) (getD (t .borders) b [])
+  border-at b h = fits-at (λ i raw. BorderHeld (t .header .zones) raw) [] (t .borders) 0 (borders-held .1) b (omega (arith, borders-held .0))
+
+  row-at : (i : ℕ) → i < t .header .rows → RowHeld (t .header .zones) (getD (o .lines) i none)
+  row-at i h = fits-at (Held (t .header .zones)) none (o .lines) 0 (rows-held .1) i (omega (arith, rows-held .0))
+
+  values-is : (i : ℕ) → getD (t .rows) i [] ≡ getD (o .lines) i none .values
+  values-is i = rw (← o .values-are) (values-at (o .lines) i)
+
+  stretch-is : (i : ℕ) → i < t .header .rows → stretch (t .header .zones) (t .factors) i ≡ getD (o .lines) i none .factors
+  stretch-is i h = rw (← o .factors-are) (stretch-of (t .header .zones) (o .lines) 0 (rows-held .1) i (omega (arith, rows-held .0)))
+
+  factors-all : length (t .factors) ≡ t .header .rows * t .header .zones
+  factors-all = rw (← o .factors-are, ← rows-held .0) (factors-long (t .header .zones) (o .lines) 0 (rows-held .1))
+
+  row-fits : (i : ℕ) → i < t .header .rows → rowFits (getD (t .rows) i []) ≡ true
+  row-fits i h = let c = getD (o .lines) i none in rw (values-is i) (row-good (c .values) (c .factors) (row-at i h .good) .0)
+
+  opened-good : ((b : ℕ) → b < t .header .borders → twice (t .borders) b ≡ false) → Good t
+  opened-good once = record {
+    header = fits;
+    nets-long = nets-held .0;
+    borders-long = borders-held .0;
+    rows-long = rw (← o .values-are) (values-long (o .lines)) ∙ rows-held .0;
+    factors-long = factors-all;
+    nets-fit = λ i h. fits-at (λ i net. zoneFits net ≡ true) (pos 0) (t .nets) 0 (nets-held .1) i (omega (arith, nets-held .0));
+    borders-fit = λ b h. border-at b h .fits;
+    rows-fit = row-fits;
+    factors-fit = flat-fit (t .header .zones) (t .header .rows) (t .factors) factors-all some (λ i h.
+        subst (λ (f : List ℤ). (z : ℕ) → z < length f → factorFits (atℤ f z) ≡ true) (sym (stretch-is i h))
+        (row-good (getD (o .lines) i none .values) (getD (o .lines) i none .factors) (row-at i h .good) .1));
+    once = once;
+  }
+
+  opened-shaped : Shaped t
+  opened-shaped = record {
+    borders-wide = λ b h. border-at b h .wide;
+    rows-wide = λ i h. ap length (values-is i) ∙ row-at i h .wide;
+  }
+
+pub read-good : (text : List ℕ) (t : Table) → readText text ≡ passed t → Good t
+read-good text t e = let r = reading text t e in opened-good text t (opened text t (r .lines)) (r .once)
+
+pub read-shaped : (text : List ℕ) (t : Table) → readText text ≡ passed t → Shaped t
+read-shaped text t e = opened-shaped text t (opened text t (reading text t e .lines))

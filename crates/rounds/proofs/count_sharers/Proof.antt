@@ -1,0 +1,99 @@
+-- `rounds::count_sharers` meets its contract. The outer loop fills n row by row (`Filled`), the inner one counts the borders with p > 0 (`Counted`).
+-- Assumes nothing.
+use mathlib.Core.Logic.{⊎-elim}
+use Prim.Native.Nat.{_-_}
+use native.Mathlib.Omega.{arith}
+use Rattle.numbers.proofs.BelowLaws.{Filled, filled-none, filled-more, filled-all}
+use Rattle.rounds.specs.Rounds.{sharers}
+use Rattle.rounds.specs.Work.{flat}
+use Rattle.rounds.proofs.Loops.{Counted, counted-none, counted-up, counted-on, counted-le, counted-all}
+use Rattle.rounds.proofs.count_sharers.Statement.{statement}
+use Rattle.rounds.proofs.count_sharers.Tie as tie
+
+abbrev Inv-loop2 : tie.InvT-loop2
+Inv-loop2 rows borders p ns r n₀ b₀ n b = Counted (flat rows borders p .p r) borders b n
+
+abbrev μ-loop2 : tie.MeasureT-loop2
+μ-loop2 rows borders p ns r n₀ b₀ n b = borders - b
+
+abbrev Inv-loop : tie.InvT-loop
+Inv-loop rows borders p ns₀ r₀ ns r = Filled (sharers (flat rows borders p)) rows ns₀ ns r
+
+abbrev μ-loop : tie.MeasureT-loop
+μ-loop rows borders p ns₀ r₀ ns r = rows - r
+
+loop-holds : tie.Need-loop-holds Inv-loop2 μ-loop2 Inv-loop μ-loop
+loop-holds c = filled-none _ _ _
+
+loop2-holds : tie.Need-loop2-holds Inv-loop2 μ-loop2 Inv-loop μ-loop
+loop2-holds c = counted-none _ _
+
+factor-requires : tie.Need-factor-requires Inv-loop2 μ-loop2 Inv-loop μ-loop
+factor-requires c κs =
+    let entry = c .before .before .before .before .before .before in
+    (entry .pre .0, omega arith, omega arith)
+
+add-n : tie.Need-add-n Inv-loop2 μ-loop2 Inv-loop μ-loop
+add-n c = let at-loop2 = c .before .before .before in omega (arith, counted-le (at-loop2 .loop2 .inv))
+
+add-b : tie.Need-add-b Inv-loop2 μ-loop2 Inv-loop μ-loop
+add-b c = omega arith
+
+loop2-less : tie.Need-loop2-less Inv-loop2 μ-loop2 Inv-loop μ-loop
+loop2-less c = omega arith
+
+loop2-again : tie.Need-loop2-again Inv-loop2 μ-loop2 Inv-loop μ-loop
+loop2-again c =
+    let u = c .before .before .before .loop2 .inv in
+    let e = c .before .factor .ensures in
+    ⊎-elim
+    (λ w. counted-up u _ _ (omega arith) e (w .0 .taken) (w .1))
+    (λ w. counted-on u _ _ (omega arith) e (w .0 .left) (w .1))
+    (c .if1 .came)
+
+mul-ns : tie.Need-mul-ns Inv-loop2 μ-loop2 Inv-loop μ-loop
+mul-ns c = omega arith
+
+slice-write-ns : tie.Need-slice-write-ns Inv-loop2 μ-loop2 Inv-loop μ-loop
+slice-write-ns c = omega arith
+
+add-r : tie.Need-add-r Inv-loop2 μ-loop2 Inv-loop μ-loop
+add-r c = omega arith
+
+loop-less : tie.Need-loop-less Inv-loop2 μ-loop2 Inv-loop μ-loop
+loop-less c = omega arith
+
+loop-again : tie.Need-loop-again Inv-loop2 μ-loop2 Inv-loop μ-loop
+unfolding sharers
+loop-again c = filled-more (c .before .before .before .loop .inv) _ (omega arith) (omega arith) (counted-all (c .before .loop2 .inv) (c .loop2-test .left))
+
+same-length : tie.Need-same-length Inv-loop2 μ-loop2 Inv-loop μ-loop
+same-length c = c .before .loop .inv .as-long
+
+returns : tie.Need-returns Inv-loop2 μ-loop2 Inv-loop μ-loop
+returns c =
+    let entry = c .before .before .before .before in
+    filled-all (c .before .loop .inv) (c .loop-test .left) (entry .pre .1)
+
+pub count-sharers-spec : {M : Type 1} → statement M
+count-sharers-spec =
+    tie.close
+    (tie.spec
+    Inv-loop2
+    μ-loop2
+    Inv-loop
+    μ-loop
+    loop-holds
+    loop2-holds
+    factor-requires
+    add-n
+    add-b
+    loop2-less
+    loop2-again
+    mul-ns
+    slice-write-ns
+    add-r
+    loop-less
+    loop-again
+    same-length
+    returns)

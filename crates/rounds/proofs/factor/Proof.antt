@@ -1,0 +1,30 @@
+-- `rounds::factor` meets its contract: the place of row r's factor at border b is inside the table.
+-- Assumes nothing.
+use Prim.Native.Nat.{_<_, _+_, _*_}
+use native.Mathlib.Omega.{arith}
+use borrow.Author.Needs.{needs}
+use lib.ListN.{length}
+use Rattle.rounds.proofs.Loops.{place-inside}
+use Rattle.rounds.proofs.factor.Statement.{statement}
+use Rattle.rounds.proofs.factor.Tie as tie
+
+inside : (c : tie.Start) → c .args .r * c .args .borders + c .args .b < length (c .args .p .now)
+inside c = place-inside (c .args .rows) _ _ _ _ (c .pre .0) (c .pre .1) (c .pre .2)
+
+mul-result : tie.Need-mul-result
+mul-result c = omega (arith, inside c)
+
+add-result : tie.Need-add-result
+add-result c = omega (arith, inside c)
+
+mul-result-2 : tie.Need-mul-result-2
+mul-result-2 c = omega (arith, inside c)
+
+shared-slice-read-result : tie.Need-shared-slice-read-result
+shared-slice-read-result c = inside (c .before)
+
+returns : tie.Need-returns
+returns c = search needs
+
+pub factor-spec : {M : Type 1} → statement M
+factor-spec = tie.close (tie.spec mul-result add-result mul-result-2 shared-slice-read-result returns)

@@ -1,0 +1,138 @@
+-- `states::shifted` meets its contract. The loop's invariant: what is left to look at from zone z on comes to what the whole comes to.
+-- The measure is the zones that are left.
+-- Assumes nothing.
+use mathlib.Core.Path.{_≡_, sym, ap, _∙_}
+use mathlib.Core.Bool.{Bool, not}
+use mathlib.Core.List.{List}
+use mathlib.Core.Option.{Option}
+use Prim.Native.Nat.{ℕ, _<_, _-_}
+use native.Mathlib.Omega.{arith}
+use lib.IntN.{ℤ, _-ℤ_}
+use lib.ListN.{length}
+use mir.Facts.{toZ-ofZ}
+use mir.Syntax.{w64}
+use mir.Val.{SFits}
+use Rattle.numbers.specs.Ints.{sameℤ}
+use Rattle.numbers.specs.Below.{given}
+use Rattle.numbers.proofs.IntLaws.{within-fits}
+use Rattle.numbers.proofs.BelowLaws.{Looked, looked-none, looked-all, looked-here, looked-more}
+use Rattle.kinds.specs.Ranges.{atℤ}
+use Rattle.states.specs.States.{shifted}
+use Rattle.margin.proofs.BoundLaws.{within-sub}
+use Rattle.states.proofs.shifted.Statement.{statement}
+use Rattle.states.proofs.shifted.Tie as tie
+
+-- zone z's difference is another than zone 0's
+abbrev other : (fs gs : List ℤ) → (z : ℕ) → Bool
+other fs gs z = not (sameℤ (atℤ fs z -ℤ atℤ gs z) (atℤ fs 0 -ℤ atℤ gs 0))
+
+abbrev Inv-loop : tie.InvT-loop
+Inv-loop fs gs f0 g0 d z₀ z = Looked (length fs) (other fs gs) z
+
+abbrev μ-loop : tie.MeasureT-loop
+μ-loop fs gs f0 g0 d z₀ z = length fs - z
+
+-- zone z's factors
+module _ (s : tie.Start Inv-loop μ-loop) (z : ℕ) (h : z < length (s .args .fs .now)) where
+  f-fits : SFits w64 (atℤ (s .args .fs .now) z)
+  f-fits = within-fits (s .pre .0 .each .at z h) tt
+
+  g-fits : SFits w64 (atℤ (s .args .gs .now) z)
+  g-fits = within-fits (s .pre .1 .0 .each .at z (omega (arith, s .pre .1 .1))) tt
+
+  d-fits : SFits w64 (atℤ (s .args .fs .now) z -ℤ atℤ (s .args .gs .now) z)
+  d-fits = within-fits (within-sub (s .pre .0 .each .at z h) (s .pre .1 .0 .each .at z (omega (arith, s .pre .1 .1)))) tt
+
+shared-slice-copy-out-f0 : tie.Need-shared-slice-copy-out-f0 Inv-loop μ-loop
+shared-slice-copy-out-f0 c = c .pre .0 .some
+
+shared-slice-copy-out-g0 : tie.Need-shared-slice-copy-out-g0 Inv-loop μ-loop
+shared-slice-copy-out-g0 c = c .before .pre .1 .0 .some
+
+sub-d : tie.Need-sub-d Inv-loop μ-loop
+sub-d c =
+    let s = c .before .before in
+    let h = s .pre .0 .some in
+    simp (toZ-ofZ, f-fits s 0 h, g-fits s 0 h) (d-fits s 0 h)
+
+loop-holds : tie.Need-loop-holds Inv-loop μ-loop
+loop-holds c = looked-none _ _
+
+mul-f : tie.Need-mul-f Inv-loop μ-loop
+mul-f c = omega arith
+
+shared-slice-copy-out-f : tie.Need-shared-slice-copy-out-f Inv-loop μ-loop
+shared-slice-copy-out-f c = omega arith
+
+mul-g : tie.Need-mul-g Inv-loop μ-loop
+mul-g c = omega arith
+
+shared-slice-copy-out-g : tie.Need-shared-slice-copy-out-g Inv-loop μ-loop
+shared-slice-copy-out-g c = omega (arith, c .before .before .before .before .before .pre .1 .1)
+
+-- what the test asked
+module _ (c : tie.After-g Inv-loop μ-loop) where
+  abbrev start : tie.Start Inv-loop μ-loop
+  start = c .before .before .before .before .before .before
+
+  abbrev z : ℕ
+  z = c .before .before .before .loop .z
+
+  below : z < length (start .args .fs .now)
+  below = omega arith
+
+sub-same : tie.Need-sub-same Inv-loop μ-loop
+sub-same c = let s = start c in simp (toZ-ofZ, f-fits s (z c) (below c), g-fits s (z c) (below c)) (d-fits s (z c) (below c))
+
+same-requires : tie.Need-same-requires Inv-loop μ-loop
+same-requires c κs = tt
+
+fact : (c : tie.After-same Inv-loop μ-loop) → not (c .same .result) ≡ other (start (c .before) .args .fs .now) (start (c .before) .args .gs .now) (z (c .before))
+fact c =
+    let d = c .before in
+    let s = start d in
+    let h = s .pre .0 .some in
+    ap not (simp (toZ-ofZ, f-fits s (z d) (below d), g-fits s (z d) (below d), d-fits s (z d) (below d), f-fits s 0 h, g-fits s 0 h, d-fits s 0 h) at (c .same .ensures))
+
+returns : tie.Need-returns Inv-loop μ-loop
+unfolding shifted given
+returns c =
+    let d = c .before .before in
+    ap (λ (o : Option ℕ). not (given o)) (looked-here _ _ _ (d .before .before .before .loop .inv) (below d) (sym (fact (c .before)) ∙ c .if1 .taken))
+
+add-z : tie.Need-add-z Inv-loop μ-loop
+add-z c = omega arith
+
+loop-less : tie.Need-loop-less Inv-loop μ-loop
+loop-less c = omega arith
+
+loop-again : tie.Need-loop-again Inv-loop μ-loop
+loop-again c =
+    let d = c .before .before in
+    looked-more _ _ _ (d .before .before .before .loop .inv) (below d) (sym (fact (c .before)) ∙ c .if1 .left)
+
+returns-2 : tie.Need-returns-2 Inv-loop μ-loop
+unfolding shifted given
+returns-2 c = ap (λ (o : Option ℕ). not (given o)) (looked-all _ _ _ (c .before .loop .inv) (omega arith))
+
+pub shifted-spec : {M : Type 1} → statement M
+shifted-spec =
+    tie.close
+    (tie.spec
+    Inv-loop
+    μ-loop
+    shared-slice-copy-out-f0
+    shared-slice-copy-out-g0
+    sub-d
+    loop-holds
+    mul-f
+    shared-slice-copy-out-f
+    mul-g
+    shared-slice-copy-out-g
+    sub-same
+    same-requires
+    returns
+    add-z
+    loop-less
+    loop-again
+    returns-2)

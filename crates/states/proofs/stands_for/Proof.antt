@@ -1,0 +1,54 @@
+-- `states::stands_for` meets its contract. Assumes nothing.
+use mathlib.Core.Path.{_≡_, sym, ap₂, _∙_}
+use borrow.Author.Needs.{needs}
+use lib.IntN.{ℤ}
+use mathlib.Core.List.{List}
+use Rattle.table.specs.Table.{stretch}
+use Rattle.states.specs.States.{shifted}
+use Rattle.margin.proofs.JudgedLaws.{part-long, part-bound}
+use Rattle.states.proofs.StateLaws.{both-first, both-second}
+use Rattle.states.proofs.stands_for.Statement.{statement}
+use Rattle.states.proofs.stands_for.Tie as tie
+
+below-requires : tie.Need-below-requires
+below-requires c κs = search needs
+
+row-factors-requires : tie.Need-row-factors-requires
+row-factors-requires c κs = search needs
+
+row-factors-requires-2 : tie.Need-row-factors-requires-2
+row-factors-requires-2 c κs = search needs
+
+shifted-requires : tie.Need-shifted-requires
+shifted-requires c κs =
+    let start = c .before .before .before .before in
+    let t = start .pre .0 in
+    let j = start .pre .1 .1 .0 in
+    let i = start .pre .1 .1 .1 in (
+      part-bound t (start .args .j) j (c .before .row-factors .ensures),
+      (
+        part-bound t (start .args .i) i (c .row-factors2 .ensures),
+        part-long t (start .args .i) i (c .row-factors2 .ensures) ∙ sym (part-long t (start .args .j) j (c .before .row-factors .ensures)),
+      ),
+    )
+
+returns : tie.Need-returns
+returns c =
+    both-second (c .before .before .before .before .below .ensures) (c .before .before .before .if1 .taken)
+    (c .shifted .ensures ∙ ap₂ (λ (fs gs : List ℤ). shifted fs gs) (c .before .before .row-factors .ensures) (c .before .row-factors2 .ensures))
+
+returns-2 : tie.Need-returns-2
+returns-2 c =
+    let a = c .before .before .args in
+    both-first (shifted (stretch (a .header .zones) (a .f .now) (a .j)) (stretch (a .header .zones) (a .f .now) (a .i))) (c .before .below .ensures) (c .if1 .left)
+
+pub stands-for-spec : {M : Type 1} → statement M
+stands-for-spec =
+    tie.close
+    (tie.spec
+    below-requires
+    row-factors-requires
+    row-factors-requires-2
+    shifted-requires
+    returns
+    returns-2)

@@ -1,0 +1,48 @@
+-- `states::state_of` meets its contract. Assumes nothing.
+use mathlib.Core.Path.{_≡_, sym, ap, _∙_}
+use mathlib.Core.Bool.{Bool}
+use mathlib.Core.List.{List}
+use borrow.Author.Needs.{needs}
+use lib.IntN.{ℤ, pos}
+use lib.Signed.{ltZ}
+use Rattle.table.specs.Table.{stretch}
+use Rattle.states.specs.States.{spreadOf}
+use Rattle.margin.proofs.JudgedLaws.{part-bound}
+use Rattle.states.proofs.StateLaws.{state-spread, state-stood, state-kept}
+use Rattle.states.proofs.state_of.Statement.{statement}
+use Rattle.states.proofs.state_of.Tie as tie
+
+row-factors-requires : tie.Need-row-factors-requires
+row-factors-requires c κs = search needs
+
+spread-small-requires : tie.Need-spread-small-requires
+spread-small-requires c κs =
+    let start = c .before in
+    part-bound (start .pre .0) (start .args .i) (start .pre .1 .1) (c .row-factors .ensures)
+
+-- the test of state 1
+small : (c : tie.After-spread-small) → c .spread-small .result ≡ ltZ (spreadOf (stretch (c .before .before .args .header .zones) (c .before .before .args .f .now) (c .before .before .args .i))) (pos 5000)
+small c = c .spread-small .ensures ∙ ap (λ (fs : List ℤ). ltZ (spreadOf fs) (pos 5000)) (c .before .row-factors .ensures)
+
+returns : tie.Need-returns
+returns c =
+    let a = c .before .before .before .args in
+    λ z b r. state-spread (a .header) (a .f .now) (a .rams .now) (a .i) z b r (sym (small (c .before)) ∙ c .if1 .taken)
+
+stood-for-requires : tie.Need-stood-for-requires
+stood-for-requires c κs = search needs
+
+returns-2 : tie.Need-returns-2
+returns-2 c =
+    let a = c .before .before .before .before .before .args in
+    λ z b r. state-stood (a .header) (a .f .now) (a .rams .now) (a .i) z b r (sym (small (c .before .before .before)) ∙ c .before .before .if1 .left) (sym (c .before .stood-for .ensures) ∙ c .if2 .taken)
+
+returns-3 : tie.Need-returns-3
+returns-3 c =
+    let a = c .before .before .before .before .before .args in
+    λ z b r. state-kept (a .header) (a .f .now) (a .rams .now) (a .i) z b r (sym (small (c .before .before .before)) ∙ c .before .before .if1 .left) (sym (c .before .stood-for .ensures) ∙ c .if2 .left)
+
+pub state-of-spec : {M : Type 1} → statement M
+state-of-spec =
+    tie.close
+    (tie.spec row-factors-requires spread-small-requires returns stood-for-requires returns-2 returns-3)

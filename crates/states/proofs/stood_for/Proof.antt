@@ -1,0 +1,61 @@
+-- `states::stood_for` meets its contract. The loop's invariant: what is left to look at from row j on comes to what the whole comes to.
+-- The measure is the rows that are left.
+-- Assumes nothing.
+use mathlib.Core.Path.{_≡_, sym, ap, _∙_}
+use mathlib.Core.Bool.{_&&_}
+use mathlib.Core.Option.{Option}
+use Prim.Native.Nat.{ℕ, _-_}
+use native.Mathlib.Omega.{arith}
+use Rattle.numbers.specs.Below.{given}
+use Rattle.numbers.proofs.BelowLaws.{Looked, looked-none, looked-all, looked-here, looked-more}
+use Rattle.table.specs.Table.{stretch}
+use Rattle.states.specs.States.{below, shifted}
+use Rattle.states.proofs.stood_for.Statement.{statement}
+use Rattle.states.proofs.stood_for.Tie as tie
+
+abbrev Inv-loop : tie.InvT-loop
+Inv-loop header f rams i rows j₀ j = Looked (header .rows) (λ j. below rams j i && shifted (stretch (header .zones) f j) (stretch (header .zones) f i)) j
+
+abbrev μ-loop : tie.MeasureT-loop
+μ-loop header f rams i rows j₀ j = header .rows - j
+
+loop-holds : tie.Need-loop-holds Inv-loop μ-loop
+loop-holds c = looked-none _ _
+
+stands-for-requires : tie.Need-stands-for-requires Inv-loop μ-loop
+stands-for-requires c κs =
+    let start = c .before .before in
+    (start .pre .0, (start .pre .1 .0, (omega arith, start .pre .1 .1)))
+
+returns : tie.Need-returns Inv-loop μ-loop
+unfolding given
+returns c =
+    ap (λ (o : Option ℕ). given o)
+    (looked-here _ _ _ (c .before .before .before .loop .inv) (omega arith) (sym (c .before .stands-for .ensures) ∙ c .if1 .taken))
+
+add-j : tie.Need-add-j Inv-loop μ-loop
+add-j c = omega arith
+
+loop-less : tie.Need-loop-less Inv-loop μ-loop
+loop-less c = omega arith
+
+loop-again : tie.Need-loop-again Inv-loop μ-loop
+loop-again c = looked-more _ _ _ (c .before .before .before .loop .inv) (omega arith) (sym (c .before .stands-for .ensures) ∙ c .if1 .left)
+
+returns-2 : tie.Need-returns-2 Inv-loop μ-loop
+unfolding given
+returns-2 c = ap (λ (o : Option ℕ). given o) (looked-all _ _ _ (c .before .loop .inv) (omega arith))
+
+pub stood-for-spec : {M : Type 1} → statement M
+stood-for-spec =
+    tie.close
+    (tie.spec
+    Inv-loop
+    μ-loop
+    loop-holds
+    stands-for-requires
+    returns
+    add-j
+    loop-less
+    loop-again
+    returns-2)

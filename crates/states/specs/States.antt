@@ -1,0 +1,44 @@
+-- Row states (01, "Row states").
+-- Assumes nothing.
+use mathlib.Core.Bool.{Bool, cond, _&&_, _||_}
+use mathlib.Core.List.{List, [], _∷_}
+use Prim.Native.Nat.{ℕ}
+use lib.Dec.{ltb}
+use lib.IntN.{ℤ, pos, _-ℤ_}
+use lib.ListN.{length}
+use lib.Signed.{ltZ}
+use Rattle.numbers.specs.Ints.{maxℤ, minℤ, sameℤ}
+use Rattle.numbers.specs.Below.{table, someBelow, allBelow}
+use Rattle.kinds.specs.Ranges.{atℤ}
+use Rattle.table.specs.Table.{Table, factorsAt}
+
+-- the largest and the smallest of m and the numbers of a list
+unfoldable pub highest : ℤ → List ℤ → ℤ
+highest m [] = m
+highest m (z ∷ zs) = highest (maxℤ m z) zs
+
+unfoldable pub lowest : ℤ → List ℤ → ℤ
+lowest m [] = m
+lowest m (z ∷ zs) = lowest (minℤ m z) zs
+
+-- largest zone factor less smallest
+unfoldable pub spreadOf : (factors : List ℤ) → ℤ
+spreadOf [] = pos 0
+spreadOf (z ∷ zs) = highest z zs -ℤ lowest z zs
+
+-- two rows' factors differ by one and the same number in every zone
+unfoldable pub shifted : (fs gs : List ℤ) → Bool
+shifted fs gs = allBelow (length fs) (λ z. sameℤ (atℤ fs z -ℤ atℤ gs z) (atℤ fs 0 -ℤ atℤ gs 0))
+
+-- row j's RAM is lower than row i's, or equal with a lower index; no row is below itself, so that j is another row
+unfoldable pub below : (rams : List ℤ) → (j i : ℕ) → Bool
+below rams j i = ltZ (atℤ rams j) (atℤ rams i) || (sameℤ (atℤ rams j) (atℤ rams i) && ltb j i)
+
+-- 1: the spread is under 5000; 2: not state 1, and another row has the same factors but for one number, and is below it; 0: kept, all others
+unfoldable pub stateOf : Table → (rams : List ℤ) → (i : ℕ) → ℕ
+stateOf t rams i =
+    cond (ltZ (spreadOf (factorsAt t i)) (pos 5000)) 1
+    (cond (someBelow (t .header .rows) (λ j. below rams j i && shifted (factorsAt t j) (factorsAt t i))) 2 0)
+
+abbrev pub statesOf : Table → (rams : List ℤ) → List ℕ
+statesOf t rams = table (t .header .rows) (stateOf t rams)

@@ -1,0 +1,121 @@
+// Row states: which rows take part in the extraction.
+ghost use mathlib.Core.Path.{_≡_};
+ghost use mathlib.Core.Bool.{_&&_};
+ghost use mathlib.Core.List.{List};
+ghost use Prim.Native.Nat.{ℕ, _<_};
+ghost use lib.IntN.{ℤ, pos};
+ghost use lib.ListN.{length};
+ghost use lib.Signed.{ltZ};
+ghost use Rattle.numbers.specs.Below.{someBelow};
+ghost use Rattle.table.specs.Table.{lent, stretch};
+ghost use Rattle.margin.specs.Bounds.{FactorsBound, TableFactorsBound};
+ghost use Rattle.states.specs.States.{spreadOf, shifted, below, stateOf, statesOf};
+
+// State 1: the largest zone factor less the smallest is under 5000.
+pub fn spread_small(factors: &[i64]) -> bool
+    requires { ⌜ FactorsBound (now factors) ⌝ }
+    ensures { λ r. ⌜ r ≡ ltZ (spreadOf (now (factors .entry))) (pos 5000) ⌝ }
+{
+    let mut high = factors[0];
+    let mut low = high;
+    let mut z = 1;
+    while z < factors.len() {
+        let factor = factors[z];
+        high = numbers::larger(high, factor);
+        low = numbers::smaller(low, factor);
+        z += 1;
+    }
+    high - low < 5000
+}
+
+// Two rows' factors differ by one and the same number in every zone.
+pub fn shifted(fs: &[i64], gs: &[i64]) -> bool
+    requires { ⌜ FactorsBound (now fs) ⌝ }
+    requires { ⌜ FactorsBound (now gs) ⌝ }
+    requires { ⌜ length (now gs) ≡ length (now fs) ⌝ }
+    ensures { λ r. ⌜ r ≡ shifted (now (fs .entry)) (now (gs .entry)) ⌝ }
+{
+    let f0 = fs[0];
+    let g0 = gs[0];
+    let d = f0 - g0;
+    let mut z = 0;
+    while z < fs.len() {
+        let f = fs[z];
+        let g = gs[z];
+        if !numbers::same(f - g, d) {
+            return false;
+        }
+        z += 1;
+    }
+    true
+}
+
+// Row j's RAM is lower than row i's, or equal with a lower index.
+fn below(rams: &[i64], j: usize, i: usize) -> bool
+    requires { ⌜ (j < length (now rams)) × (i < length (now rams)) ⌝ }
+    ensures { λ r. ⌜ r ≡ below (now (rams .entry)) j i ⌝ }
+{
+    let a = rams[j];
+    let b = rams[i];
+    a < b || (numbers::same(a, b) && j < i)
+}
+
+// Row j stands for row i: it is below it, and their factors differ by one number.
+fn stands_for(header: kinds::Header, f: &[i64], rams: &[i64], j: usize, i: usize) -> bool
+    requires { ⌜ TableFactorsBound header (now f) ⌝ }
+    requires { ⌜ length (now rams) ≡ header .rows ⌝ }
+    requires { ⌜ (j < header .rows) × (i < header .rows) ⌝ }
+    ensures { λ r. ⌜ r ≡ (below (now (rams .entry)) j i && shifted (stretch (header .zones) (now (f .entry)) j) (stretch (header .zones) (now (f .entry)) i)) ⌝ }
+{
+    below(rams, j, i)
+        && shifted(
+            margin::row_factors(header, f, j),
+            margin::row_factors(header, f, i),
+        )
+}
+
+// State 2, but for state 1: another row stands for row i.
+fn stood_for(header: kinds::Header, f: &[i64], rams: &[i64], i: usize) -> bool
+    requires { ⌜ TableFactorsBound header (now f) ⌝ }
+    requires { ⌜ length (now rams) ≡ header .rows ⌝ }
+    requires { ⌜ i < header .rows ⌝ }
+    ensures { λ r. ⌜ r ≡ someBelow (header .rows) (λ j. below (now (rams .entry)) j i && shifted (stretch (header .zones) (now (f .entry)) j) (stretch (header .zones) (now (f .entry)) i)) ⌝ }
+{
+    let rows = header.rows;
+    let mut j = 0;
+    while j < rows {
+        if stands_for(header, f, rams, j, i) {
+            return true;
+        }
+        j += 1;
+    }
+    false
+}
+
+// A row's state depends on the header, the factors and the RAMs, whatever the rest of the table is.
+pub fn state_of(header: kinds::Header, f: &[i64], rams: &[i64], i: usize) -> u64
+    requires { ⌜ TableFactorsBound header (now f) ⌝ }
+    requires { ⌜ length (now rams) ≡ header .rows ⌝ }
+    requires { ⌜ i < header .rows ⌝ }
+    ensures { λ r. ⌜ ((z : List ℤ) (b c : List (List ℤ)) → r ≡ stateOf (lent header z b c (now (f .entry))) (now (rams .entry)) i) ⌝ }
+{
+    if spread_small(margin::row_factors(header, f, i)) {
+        return 1;
+    }
+    if stood_for(header, f, rams, i) {
+        return 2;
+    }
+    0
+}
+
+// The state of each row.
+pub fn fill_states(header: kinds::Header, f: &[i64], rams: &[i64], states: &mut [u64])
+    requires { ⌜ TableFactorsBound header (now f) ⌝ }
+    requires { ⌜ length (now rams) ≡ header .rows ⌝ }
+    requires { ⌜ length (now states) ≡ header .rows ⌝ }
+    ensures { λ _. ⌜ ((z : List ℤ) (b c : List (List ℤ)) → now (states .exit) ≡ statesOf (lent header z b c (now (f .entry))) (now (rams .entry))) ⌝ }
+{
+    for i in 0..header.rows {
+        states[i] = state_of(header, f, rams, i);
+    }
+}

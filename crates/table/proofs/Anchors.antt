@@ -1,0 +1,25 @@
+-- A small lent table, judged. Nobody cites it: it refuses a definition that slipped.
+-- Assumes nothing.
+use mathlib.Core.Path.{_≡_, refl}
+use mathlib.Core.List.{[], _∷_}
+use lib.IntN.{pos}
+use Rattle.numbers.specs.Below.{firstFrom, given}
+use Rattle.numbers.specs.Ints.{sameℤ, inside}
+use Rattle.kinds.specs.Ranges.{headerFits, zoneFits, exists, borderFits, shareOf, rowOf, rowFits, factorFits}
+use Rattle.kinds.specs.Refusals.{refused, then, unless, refuseAt, refuseFirst, need, outOfRange}
+use Rattle.table.specs.Table.{Table, stretch, roomFor, judgeLent}
+
+-- row 1 has FRM above Fmax: H is line 1, Z lines 2 and 3, B line 4, C lines 5 and 6
+abbrev frmAbove : Table
+frmAbove =
+    record {
+      header = record { zones = 2; borders = 1; rows = 2 };
+      nets = pos 0 ∷ pos 0 ∷ [];
+      borders = (pos 0 ∷ pos 1 ∷ pos 0 ∷ []) ∷ [];
+      rows = (pos 5 ∷ pos 5 ∷ pos 0 ∷ pos 0 ∷ pos 0 ∷ pos 0 ∷ pos 0 ∷ []) ∷ (pos 5 ∷ pos 6 ∷ pos 0 ∷ pos 0 ∷ pos 0 ∷ pos 0 ∷ pos 0 ∷ []) ∷ [];
+      factors = pos 0 ∷ pos 0 ∷ pos 0 ∷ pos 0 ∷ [];
+    }
+
+pub row-line : judgeLent frmAbove ≡ refused (outOfRange 6)
+unfolding firstFrom given sameℤ inside headerFits zoneFits exists borderFits shareOf rowOf rowFits factorFits then unless refuseAt refuseFirst need stretch roomFor judgeLent
+row-line = refl

@@ -1,0 +1,133 @@
+-- The laws of `specs/Good.antt`: what judging lent tables gives (`judged-front`, `judged-good`), and that a good table is judged to be itself (`good-judged`).
+-- Row i's factors are its stretch, so factor k of the whole table is factor k % zones of row k / zones. No contract cites this file.
+-- Assumes nothing.
+use mathlib.Core.Path.{_≡_, sym, ap, subst, _∙_}
+use mathlib.Core.Bool.{true, false, not}
+use mathlib.Core.List.{List, []}
+use Prim.Native.Nat.{ℕ, suc, _+_, _*_, _/_, _%_, _<_}
+use native.Mathlib.Nat.{div-add-mod', div-lt-iff-lt-mul, mod-lt, mul-le-mul-right, suc-mul}
+use native.Mathlib.Omega.{arith}
+use lib.IntN.{ℤ, pos}
+use lib.ListN.{length, getD, drop, length-drop}
+use lib.Seq.{length-take-le, take-all, getD-take, getD-drop}
+use borrow.Author.Tests.{not-false}
+use Rattle.numbers.proofs.TestLaws.{and-both, both-and, all-true, true-all}
+use Rattle.kinds.specs.Ranges.{atℤ, headerFits, rowFits, factorFits}
+use Rattle.kinds.specs.Refusals.{passed}
+use Rattle.kinds.proofs.KindLaws.{header-in}
+use Rattle.kinds.proofs.RefusalLaws.{passed-is, unless-passed, need-passed, none-passed, then-passed, unless-ok, need-enough, none-next, then-next}
+use Rattle.table.specs.Table.{Table, lent, stretch, factorsAt, twice, notTwice, rowGood, front, inRange, roomFor, judgeLent}
+use Rattle.table.specs.Good.{Good}
+
+-- ---- stretches
+module _ (zones rows : ℕ) (factors : List ℤ) (long : length factors ≡ rows * zones) where
+  pub stretch-long : (i : ℕ) → i < rows → length (stretch zones factors i) ≡ zones
+  unfolding stretch
+  stretch-long i h = length-take-le zones (drop (i * zones) factors) (rw length-drop (omega (arith, suc-mul i zones, mul-le-mul-right {m = suc i} {n = rows} zones h)))
+
+pub stretch-at : (zones : ℕ) (factors : List ℤ) (i z : ℕ) → z < zones → atℤ (stretch zones factors i) z ≡ atℤ factors (i * zones + z)
+unfolding stretch
+stretch-at zones factors i z h = getD-take zones (drop (i * zones) factors) z (pos 0) h ∙ getD-drop (i * zones) factors z (pos 0)
+
+-- a row record with its factors is in range: the record is, and each factor
+module _ (values factors : List ℤ) where
+  pub row-good : rowGood values factors ≡ true → (rowFits values ≡ true) × ((z : ℕ) → z < length factors → factorFits (atℤ factors z) ≡ true)
+  row-good e =
+      let a = and-both (rowFits values) _ e in
+      (a .0, all-true (length factors) (λ z. factorFits (atℤ factors z)) (a .1))
+
+  pub good-row : rowFits values ≡ true → ((z : ℕ) → z < length factors → factorFits (atℤ factors z) ≡ true) → rowGood values factors ≡ true
+  good-row a h = both-and (rowFits values) _ a (true-all (length factors) (λ z. factorFits (atℤ factors z)) h)
+
+-- row by row, and all at once
+module _ (zones rows : ℕ) (factors : List ℤ) (long : length factors ≡ rows * zones) (some : 0 < zones) where
+  pub flat-fit : ((i : ℕ) → i < rows → (z : ℕ) → z < length (stretch zones factors i) → factorFits (atℤ (stretch zones factors i) z) ≡ true)
+      → (k : ℕ) → k < rows * zones → factorFits (atℤ factors k) ≡ true
+  flat-fit h k l =
+      let i : k / zones < rows = div-lt-iff-lt-mul {k = zones} {x = k} {y = rows} some .1 l in
+      let z : k % zones < zones = mod-lt k some in
+      subst (λ (j : ℕ). factorFits (atℤ factors j) ≡ true) (div-add-mod' k zones)
+      (subst (λ (f : ℤ). factorFits f ≡ true) (stretch-at zones factors (k / zones) (k % zones) z)
+      (h (k / zones) i (k % zones) (rw (stretch-long zones rows factors long (k / zones) i) z)))
+
+  pub row-fit : ((k : ℕ) → k < rows * zones → factorFits (atℤ factors k) ≡ true) → (i : ℕ) → i < rows → (z : ℕ) → z < zones → factorFits (atℤ (stretch zones factors i) z) ≡ true
+  row-fit h i l z m =
+      rw (stretch-at zones factors i z m) (h (i * zones + z) (omega (arith, suc-mul i zones, mul-le-mul-right {m = suc i} {n = rows} zones l)))
+
+-- ---- judging gives a good table, the front of what was lent
+record Judging (given t : Table) : Type 0 where
+  is : front given ≡ t
+  good : Good (front given)
+
+judged : (given t : Table) → judgeLent given ≡ passed t → Judging given t
+unfolding judgeLent roomFor
+judged given t e =
+    let u = front given in
+    let a = unless-passed t _ _ _ e in
+    let n = need-passed t _ _ _ (a .1) in
+    let m = need-passed t _ _ _ (n .1) in
+    let o = need-passed t _ _ _ (m .1) in
+    let p = need-passed t _ _ _ (o .1) in
+    let w = then-passed (inRange u) notTwice t (p .1) in
+    let z = none-passed _ _ _ _ (w .it) (w .first) in
+    let b = none-passed _ _ _ _ (w .it) (z .1) in
+    let c = none-passed _ _ _ _ (w .it) (b .1) in
+    let i : u ≡ w .it = passed-is _ _ (c .1) in
+    let f = none-passed _ _ _ _ t (w .second) in
+    let h = header-in (given .header) (a .0) in
+    let long = length-take-le _ (given .factors) (p .0) in
+    let rows : (i : ℕ) → i < u .header .rows → rowGood (getD (u .rows) i []) (factorsAt u i) ≡ true = λ i l. not-false _ (c .0 i l) in
+    record {
+      is = i ∙ passed-is _ _ (f .1);
+      good = record {
+        header = a .0;
+        nets-long = length-take-le _ (given .nets) (n .0);
+        borders-long = length-take-le _ (given .borders) (m .0);
+        rows-long = length-take-le _ (given .rows) (o .0);
+        factors-long = long;
+        nets-fit = λ i l. not-false _ (z .0 i l);
+        borders-fit = λ i l. not-false _ (b .0 i l);
+        rows-fit = λ i l. row-good (getD (u .rows) i []) (factorsAt u i) (rows i l) .0;
+        factors-fit = flat-fit (u .header .zones) (u .header .rows) (u .factors) long (omega (arith, h .zones-least)) (λ i l. row-good (getD (u .rows) i []) (factorsAt u i) (rows i l) .1);
+        once = subst (λ (v : Table). (b : ℕ) → b < v .header .borders → twice (v .borders) b ≡ false) (sym i) (f .0);
+      };
+    }
+
+pub judged-front : (given t : Table) → judgeLent given ≡ passed t → t ≡ front given
+judged-front given t e = sym (judged given t e .is)
+
+pub judged-good : (given t : Table) → judgeLent given ≡ passed t → Good t
+judged-good given t e = let j = judged given t e in subst Good (j .is) (j .good)
+
+-- ---- a good table is judged to be itself
+lent-is : (h : Header) (z z′ : List ℤ) (b b′ c c′ : List (List ℤ)) (f f′ : List ℤ) → z ≡ z′ → b ≡ b′ → c ≡ c′ → f ≡ f′ → lent h z b c f ≡ lent h z′ b′ c′ f′
+lent-is h z z′ b b′ c c′ f f′ p q r s = cc
+
+module _ (t : Table) (g : Good t) where
+  front-same : front t ≡ t
+  front-same =
+      lent-is (t .header) _ _ _ _ _ _ _ _
+      (take-all (t .header .zones) (t .nets) (omega (arith, g .nets-long)))
+      (take-all (t .header .borders) (t .borders) (omega (arith, g .borders-long)))
+      (take-all (t .header .rows) (t .rows) (omega (arith, g .rows-long)))
+      (take-all (t .header .rows * t .header .zones) (t .factors) (omega (arith, g .factors-long)))
+
+  in-range : inRange t ≡ passed t
+  in-range =
+      let h = header-in (t .header) (g .header) in
+      none-next _ _ _ _ (λ i l. ap not (g .nets-fit i l))
+      ∙ none-next _ _ _ _ (λ i l. ap not (g .borders-fit i l))
+      ∙ none-next _ _ _ _ (λ i l. ap not (good-row (getD (t .rows) i []) (factorsAt t i) (g .rows-fit i l)
+      (λ z m. row-fit (t .header .zones) (t .header .rows) (t .factors) (g .factors-long) (omega (arith, h .zones-least)) (g .factors-fit) i l z
+      (rw (stretch-long (t .header .zones) (t .header .rows) (t .factors) (g .factors-long) i l) at m))))
+
+  pub good-judged : judgeLent t ≡ passed t
+  unfolding judgeLent roomFor
+  good-judged =
+      unless-ok _ _ (g .header)
+      ∙ need-enough _ _ _ (omega (arith, g .nets-long))
+      ∙ need-enough _ _ _ (omega (arith, g .borders-long))
+      ∙ need-enough _ _ _ (omega (arith, g .rows-long))
+      ∙ need-enough _ _ _ (omega (arith, g .factors-long))
+      ∙ then-next notTwice (ap inRange front-same ∙ in-range)
+      ∙ none-next _ _ _ _ (g .once)

@@ -1,0 +1,114 @@
+-- The laws of `specs/Table.antt`'s `judgeLent`: which record decides, and what is said where none does. No contract cites this file.
+-- Assumes nothing.
+use mathlib.Core.Path.{_≡_, sym, ap, subst, _∙_}
+use mathlib.Core.Bool.{Bool, true, false, not}
+use mathlib.Core.List.{[]}
+use mathlib.Core.Option.{none, some}
+use Prim.Native.Nat.{ℕ, _+_, _*_}
+use lib.ListN.{length, getD}
+use lib.Seq.{length-take-le}
+use Rattle.numbers.specs.Below.{firstFrom}
+use Rattle.kinds.specs.declared.Header.{Header}
+use Rattle.kinds.specs.declared.Judgement.{Judgement}
+use Rattle.kinds.specs.declared.Judgement.the-variants.{Passed, Refused}
+use Rattle.kinds.specs.declared.Refusal.{Refusal}
+use Rattle.kinds.specs.Answers.{ruled}
+use Rattle.kinds.specs.Ranges.{atℤ, headerFits, zoneFits, borderFits}
+use Rattle.kinds.specs.Refusals.{Judged, passed, refused, then, told, outOfRange, givenTwice}
+use Rattle.kinds.proofs.RefusalLaws.{then-next, then-refused, unless-ok, unless-refused, first-found, first-none-next}
+use Rattle.table.specs.Table.{Table, factorsAt, zoneLineNo, borderLineNo, rowLineNo, rowGood, headerLineNo, twice, inRange, notTwice, room, front, judgeLent}
+use Rattle.table.specs.Good.{Exact}
+use Rattle.table.proofs.RoomLaws.{Enough, room-passed, room-of}
+
+module _ (t : Table) (exact : Exact t) where
+  abbrev zoneOut : ℕ → Bool
+  zoneOut i = not (zoneFits (atℤ (t .nets) i))
+
+  abbrev borderOut : ℕ → Bool
+  borderOut i = not (borderFits (t .header .zones) (getD (t .borders) i []))
+
+  abbrev rowOut : ℕ → Bool
+  rowOut i = not (rowGood (getD (t .rows) i []) (factorsAt t i))
+
+  abbrev judged : Judged Table
+  judged = then (inRange t) notTwice
+
+  pub zone-refused : (i : ℕ) → some i ≡ firstFrom (length (t .nets)) 0 zoneOut → refused (outOfRange (zoneLineNo + i)) ≡ judged
+  zone-refused i e =
+      let e′ = subst (λ (n : ℕ). some i ≡ firstFrom n 0 zoneOut) (exact .nets-long) e in
+      sym (then-refused notTwice (first-found _ _ _ _ (sym e′)))
+
+  module _ (z : none ≡ firstFrom (length (t .nets)) 0 zoneOut) where
+    past-zones : firstFrom (t .header .zones) 0 zoneOut ≡ none
+    past-zones = sym (subst (λ (n : ℕ). none ≡ firstFrom n 0 zoneOut) (exact .nets-long) z)
+
+    pub border-refused : (i : ℕ) → some i ≡ firstFrom (length (t .borders)) 0 borderOut → refused (outOfRange (borderLineNo (t .header) + i)) ≡ judged
+    border-refused i e =
+        let e′ = subst (λ (n : ℕ). some i ≡ firstFrom n 0 borderOut) (exact .borders-long) e in
+        sym (then-refused notTwice (first-none-next _ _ _ _ past-zones ∙ first-found _ _ _ _ (sym e′)))
+
+    module _ (b : none ≡ firstFrom (length (t .borders)) 0 borderOut) where
+      past-borders : firstFrom (t .header .borders) 0 borderOut ≡ none
+      past-borders = sym (subst (λ (n : ℕ). none ≡ firstFrom n 0 borderOut) (exact .borders-long) b)
+
+      pub row-refused : (i : ℕ) → some i ≡ firstFrom (length (t .rows)) 0 rowOut → refused (outOfRange (rowLineNo (t .header) + i)) ≡ judged
+      row-refused i e =
+          let e′ = subst (λ (n : ℕ). some i ≡ firstFrom n 0 rowOut) (exact .rows-long) e in
+          sym (then-refused notTwice (first-none-next _ _ _ _ past-zones ∙ first-none-next _ _ _ _ past-borders ∙ first-found _ _ _ _ (sym e′)))
+
+      module _ (c : none ≡ firstFrom (length (t .rows)) 0 rowOut) where
+        past-rows : inRange t ≡ passed t
+        past-rows =
+            first-none-next _ _ _ _ past-zones ∙ first-none-next _ _ _ _ past-borders
+            ∙ first-none-next _ _ _ _ (sym (subst (λ (n : ℕ). none ≡ firstFrom n 0 rowOut) (exact .rows-long) c))
+
+        pub twice-refused : (i : ℕ) → some i ≡ firstFrom (length (t .borders)) 0 (twice (t .borders)) → refused (givenTwice i) ≡ judged
+        twice-refused i e =
+            let e′ = subst (λ (n : ℕ). some i ≡ firstFrom n 0 (twice (t .borders))) (exact .borders-long) e in
+            sym (then-next notTwice past-rows ∙ first-found _ _ _ _ (sym e′))
+
+        pub records-pass : none ≡ firstFrom (length (t .borders)) 0 (twice (t .borders)) → passed t ≡ judged
+        records-pass e =
+            let e′ = subst (λ (n : ℕ). none ≡ firstFrom n 0 (twice (t .borders))) (exact .borders-long) e in
+            sym (then-next notTwice past-rows ∙ first-none-next _ _ _ _ (sym e′))
+
+-- the factors of all rows, as many as the row records ask for
+pub exact-factors : (t : Table) → Exact t → length (t .factors) ≡ length (t .rows) * t .header .zones
+exact-factors t exact = exact .factors-long ∙ ap (λ (n : ℕ). n * t .header .zones) (sym (exact .rows-long))
+
+-- ---- header, lengths, and then the records of the front
+module _ (given : Table) where
+  abbrev h : Header
+  h = given .header
+
+  abbrev onward : Judged Table
+  onward = then (inRange (front given)) notTwice
+
+  pub header-refused : headerFits h ≡ false → refused (outOfRange headerLineNo) ≡ judgeLent given
+  unfolding judgeLent
+  header-refused e = sym (unless-refused _ _ e)
+
+  module _ (fits : headerFits h ≡ true) (r : Judgement) (said : ruled r h ≡ room h given (passed h)) where
+    past-header : judgeLent given ≡ then (ruled r h) (λ _. onward)
+    unfolding judgeLent
+    past-header = unless-ok _ _ fits ∙ sym (room-of h _ _ _ _ h r said onward)
+
+    pub room-refused : (w : Refusal) → r ≡ Refused w → ruled r (front given) ≡ judgeLent given
+    room-refused w e = ap (λ (j : Judgement). ruled j (front given)) e ∙ sym (past-header ∙ then-refused _ (ap (λ (j : Judgement). ruled j h) e))
+
+    module _ (ok : r ≡ Passed) where
+      pub enough : Enough h (length (given .nets)) (length (given .borders)) (length (given .rows)) (length (given .factors))
+      enough = room-passed h _ _ _ _ (passed h) h (sym said ∙ ap (λ (j : Judgement). ruled j h) ok) .0
+
+      pub room-left : judgeLent given ≡ onward
+      room-left = past-header ∙ then-next _ (ap (λ (j : Judgement). ruled j h) ok)
+
+      pub front-exact : Exact (front given)
+      front-exact =
+          record {
+            header = fits;
+            nets-long = length-take-le _ _ (enough .zones);
+            borders-long = length-take-le _ _ (enough .borders);
+            rows-long = length-take-le _ _ (enough .rows);
+            factors-long = length-take-le _ _ (enough .factors);
+          }

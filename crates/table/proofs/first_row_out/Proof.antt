@@ -1,0 +1,98 @@
+-- `table::first_row_out` meets its contract: no row before i is out of range. Assumes nothing.
+use Prim.Native.Nat.{ℕ, _-_, _+_, _*_}
+use mathlib.Core.Path.{_≡_, sym, ap, _∙_}
+use mathlib.Core.Bool.{Bool, not}
+use mathlib.Core.List.{[]}
+use native.Mathlib.Omega.{arith}
+use native.Mathlib.Nat.{mul-le-mul-right}
+use borrow.Author.Needs.{needs}
+use lib.ListN.{length, getD, take, drop}
+use Rattle.numbers.proofs.BelowLaws.{Looked, looked-none, looked-all, looked-here, looked-more}
+use Rattle.table.specs.Table.{rowGood, stretch}
+use Rattle.table.proofs.StretchLaws.{stretch-end}
+use Rattle.table.proofs.first_row_out.Statement.{statement}
+use Rattle.table.proofs.first_row_out.Tie as tie
+
+abbrev Inv-loop : tie.InvT-loop
+Inv-loop zones c f i₀ i-end i = Looked (length c) (λ i. not (rowGood (getD c i []) (stretch zones f i))) i
+
+abbrev μ-loop : tie.MeasureT-loop
+μ-loop zones c f i₀ i-end i = length c - i
+
+loop-holds : tie.Need-loop-holds Inv-loop μ-loop
+loop-holds c = looked-none _ _
+
+mul-start : tie.Need-mul-start Inv-loop μ-loop
+mul-start c = omega (arith, stretch-end (c .before .before .args .zones) (length (c .before .before .args .c .now)) (c .before .loop .i) (omega arith))
+
+mul-row-good : tie.Need-mul-row-good Inv-loop μ-loop
+mul-row-good c = search needs
+
+shared-slice-copy-out-row-good : tie.Need-shared-slice-copy-out-row-good Inv-loop μ-loop
+shared-slice-copy-out-row-good c = search needs
+
+add-row-good : tie.Need-add-row-good Inv-loop μ-loop
+add-row-good c = omega (arith, stretch-end (c .before .before .before .args .zones) (length (c .before .before .before .args .c .now)) (c .before .before .loop .i) (omega arith))
+
+mul-row-good-2 : tie.Need-mul-row-good-2 Inv-loop μ-loop
+mul-row-good-2 c = omega (arith, stretch-end (c .before .before .before .args .zones) (length (c .before .before .before .args .c .now)) (c .before .before .loop .i) (omega arith))
+
+sub-row-good : tie.Need-sub-row-good Inv-loop μ-loop
+sub-row-good c = search needs
+
+part-row-good-start : tie.Need-part-row-good-start Inv-loop μ-loop
+part-row-good-start c = search needs
+
+part-row-good-end : tie.Need-part-row-good-end Inv-loop μ-loop
+part-row-good-end c = omega (arith, stretch-end (c .before .before .before .args .zones) (length (c .before .before .before .args .c .now)) (c .before .before .loop .i) (omega arith))
+
+row-good-requires : tie.Need-row-good-requires Inv-loop μ-loop
+row-good-requires c κs = search needs
+
+judged : (c : tie.After-row-good Inv-loop μ-loop)
+    → let a = c .before .before .before .before .before .args in
+    let i = c .before .before .before .before .loop .i in
+    not (c .row-good .result) ≡ not (rowGood (getD (a .c .now) i []) (stretch (a .zones) (a .f .now) i))
+unfolding stretch
+judged c =
+    let a = c .before .before .before .before .before .args in
+    let i = c .before .before .before .before .loop .i in
+    let k : i * a .zones + a .zones - i * a .zones ≡ a .zones = omega arith in
+    ap not (c .row-good .ensures ∙ ap (λ (n : ℕ). rowGood (getD (a .c .now) i []) (take n (drop (i * a .zones) (a .f .now)))) k)
+
+returns : tie.Need-returns Inv-loop μ-loop
+returns c = looked-here _ _ _ (c .before .before .before .before .before .loop .inv) (omega arith) (sym (judged (c .before)) ∙ c .if1 .taken)
+
+add-i : tie.Need-add-i Inv-loop μ-loop
+add-i c = search needs
+
+loop-less : tie.Need-loop-less Inv-loop μ-loop
+loop-less c = search needs
+
+loop-again : tie.Need-loop-again Inv-loop μ-loop
+loop-again c = looked-more _ _ _ (c .before .before .before .before .before .loop .inv) (omega arith) (sym (judged (c .before)) ∙ c .if1 .left)
+
+returns-2 : tie.Need-returns-2 Inv-loop μ-loop
+returns-2 c = looked-all _ _ _ (c .before .loop .inv) (omega arith)
+
+pub first-row-out-spec : {M : Type 1} → statement M
+first-row-out-spec =
+    tie.close
+    (tie.spec
+    Inv-loop
+    μ-loop
+    loop-holds
+    mul-start
+    mul-row-good
+    shared-slice-copy-out-row-good
+    add-row-good
+    mul-row-good-2
+    sub-row-good
+    part-row-good-start
+    part-row-good-end
+    row-good-requires
+    returns
+    add-i
+    loop-less
+    loop-again
+    returns-2)

@@ -1,0 +1,40 @@
+-- `table::first_twice` meets its contract: no border before i was given twice. Assumes nothing.
+use Prim.Native.Nat.{_-_}
+use mathlib.Core.Path.{sym, _∙_}
+use native.Mathlib.Omega.{arith}
+use borrow.Author.Needs.{needs}
+use lib.ListN.{length}
+use Rattle.numbers.proofs.BelowLaws.{Looked, looked-none, looked-all, looked-here, looked-more}
+use Rattle.table.specs.Table.{twice}
+use Rattle.table.proofs.first_twice.Statement.{statement}
+use Rattle.table.proofs.first_twice.Tie as tie
+
+abbrev Inv-loop : tie.InvT-loop
+Inv-loop b i₀ i-end i = Looked (length b) (twice b) i
+
+abbrev μ-loop : tie.MeasureT-loop
+μ-loop b i₀ i-end i = length b - i
+
+loop-holds : tie.Need-loop-holds Inv-loop μ-loop
+loop-holds c = looked-none _ _
+
+is-twice-requires : tie.Need-is-twice-requires Inv-loop μ-loop
+is-twice-requires c κs = search needs
+
+returns : tie.Need-returns Inv-loop μ-loop
+returns c = looked-here _ _ _ (c .before .before .before .loop .inv) (omega arith) (sym (c .before .is-twice .ensures) ∙ c .if1 .taken)
+
+add-i : tie.Need-add-i Inv-loop μ-loop
+add-i c = search needs
+
+loop-less : tie.Need-loop-less Inv-loop μ-loop
+loop-less c = search needs
+
+loop-again : tie.Need-loop-again Inv-loop μ-loop
+loop-again c = looked-more _ _ _ (c .before .before .before .loop .inv) (omega arith) (sym (c .before .is-twice .ensures) ∙ c .if1 .left)
+
+returns-2 : tie.Need-returns-2 Inv-loop μ-loop
+returns-2 c = looked-all _ _ _ (c .before .loop .inv) (omega arith)
+
+pub first-twice-spec : {M : Type 1} → statement M
+first-twice-spec = tie.close (tie.spec Inv-loop μ-loop loop-holds is-twice-requires returns add-i loop-less loop-again returns-2)

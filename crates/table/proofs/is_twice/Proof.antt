@@ -1,0 +1,78 @@
+-- `table::is_twice` meets its contract. The invariant: no border before e has the same ends. A turn is `looked-more`.
+-- Assumes nothing.
+use Prim.Native.Nat.{_-_}
+use mathlib.Core.List.{[]}
+use mathlib.Core.Path.{sym, ap, _∙_}
+use native.Mathlib.Omega.{arith}
+use borrow.Author.Needs.{needs}
+use lib.ListN.{getD}
+use Rattle.numbers.specs.Below.{given}
+use Rattle.numbers.proofs.BelowLaws.{Looked, looked-none, looked-all, looked-here, looked-more}
+use Rattle.table.specs.Table.{samePair, twice}
+use Rattle.table.proofs.is_twice.Statement.{statement}
+use Rattle.table.proofs.is_twice.Tie as tie
+
+abbrev Inv-loop : tie.InvT-loop
+Inv-loop b i e₀ e = Looked i (λ e. samePair (getD b e []) (getD b i [])) e
+
+abbrev μ-loop : tie.MeasureT-loop
+μ-loop b i e₀ e = i - e
+
+loop-holds : tie.Need-loop-holds Inv-loop μ-loop
+loop-holds c = looked-none _ _
+
+mul-same-pair : tie.Need-mul-same-pair Inv-loop μ-loop
+mul-same-pair c = search needs
+
+shared-slice-copy-out-same-pair : tie.Need-shared-slice-copy-out-same-pair Inv-loop μ-loop
+shared-slice-copy-out-same-pair c = search needs
+
+mul-same-pair-2 : tie.Need-mul-same-pair-2 Inv-loop μ-loop
+mul-same-pair-2 c = search needs
+
+shared-slice-copy-out-same-pair-2 : tie.Need-shared-slice-copy-out-same-pair-2 Inv-loop μ-loop
+shared-slice-copy-out-same-pair-2 c = search needs
+
+same-pair-requires : tie.Need-same-pair-requires Inv-loop μ-loop
+same-pair-requires c κs = search needs
+
+returns : tie.Need-returns Inv-loop μ-loop
+unfolding twice given
+returns c =
+    let at-call = c .before in
+    let at-loop = at-call .before .before .before .before in
+    ap given (looked-here _ _ _ (at-loop .loop .inv) (omega arith) (sym (at-call .same-pair .ensures) ∙ c .if1 .taken))
+
+add-e : tie.Need-add-e Inv-loop μ-loop
+add-e c = search needs
+
+loop-less : tie.Need-loop-less Inv-loop μ-loop
+loop-less c = search needs
+
+loop-again : tie.Need-loop-again Inv-loop μ-loop
+loop-again c =
+    let at-call = c .before in
+    let at-loop = at-call .before .before .before .before in
+    looked-more _ _ _ (at-loop .loop .inv) (omega arith) (sym (at-call .same-pair .ensures) ∙ c .if1 .left)
+
+returns-2 : tie.Need-returns-2 Inv-loop μ-loop
+unfolding twice given
+returns-2 c = ap given (looked-all _ _ _ (c .before .loop .inv) (omega arith))
+
+pub is-twice-spec : {M : Type 1} → statement M
+is-twice-spec =
+    tie.close
+    (tie.spec
+    Inv-loop
+    μ-loop
+    loop-holds
+    mul-same-pair
+    shared-slice-copy-out-same-pair
+    mul-same-pair-2
+    shared-slice-copy-out-same-pair-2
+    same-pair-requires
+    returns
+    add-e
+    loop-less
+    loop-again
+    returns-2)

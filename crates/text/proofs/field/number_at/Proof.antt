@@ -1,0 +1,159 @@
+-- `text::field::number_at` meets its contract. The invariant is `Upto`: what was passed from `at` to i are digits worth v, with a zero first only where it is alone.
+-- The measure is what is left of the line. A turn is the law `upto-more`, and each return has a law of its own.
+-- Assumes nothing.
+use Prim.Native.Nat.{_-_, _<_, _^_}
+use mathlib.Core.Path.{_≡_, sym, _∙_}
+use mathlib.Core.Bool.{true}
+use mathlib.Core.List.{[]}
+use native.Mathlib.Omega.{arith}
+use borrow.Author.Needs.{needs}
+use lib.ListN.{length, getD, drop}
+use Rattle.text.specs.Fields.{isDigit, digits}
+use Rattle.text.proofs.NumberTrip.{digit-range}
+use Rattle.text.proofs.ClassLaws.{class-digit, class-not-digit}
+use Rattle.text.proofs.NumberLaws.{Upto, upto-none, upto-small, upto-more, upto-full, upto-empty, upto-other, upto-stop, upto-cut, digits-none, digits-end}
+use Rattle.text.proofs.field.number_at.Statement.{statement}
+use Rattle.text.proofs.field.number_at.Tie as tie
+
+abbrev Inv-loop : tie.InvT-loop
+Inv-loop line at stop i₀ v₀ i v = Upto line at i v
+
+abbrev μ-loop : tie.MeasureT-loop
+μ-loop line at stop i₀ v₀ i v = length line - i
+
+-- the byte at i is no digit; it is the digit d
+no-digit : (c : tie.At-match-keys2 Inv-loop μ-loop) →
+    let at-loop = c .before .before .before .before in
+    digits (drop (at-loop .loop .i) (at-loop .before .before .args .line .now)) ≡ []
+no-digit c =
+    let at-loop = c .before .before .before .before in
+    let line = at-loop .before .before .args .line .now in
+    let i = at-loop .loop .i in
+    digits-none line i (c .before .before .before .loop-test .taken) (class-not-digit (getD line i 0) (c .before .class-of .result) (c .before .class-of .ensures) (c .match .keys2))
+
+digit : (c : tie.After-known-told Inv-loop μ-loop) →
+    let at-loop = c .before .before .before .before .before .before in
+    let b = getD (at-loop .before .before .args .line .now) (at-loop .loop .i) 0 in
+    (isDigit b ≡ true) × (c .before .d .given .0 .0 ≡ b - 48)
+digit c =
+    let at-loop = c .before .before .before .before .before .before in
+    let at-class = c .before .before .before in
+    class-digit (getD (at-loop .before .before .args .line .now) (at-loop .loop .i) 0) (at-class .class-of .result) (at-class .class-of .ensures) (c .before .d .given .0 .0) (c .before .d .given .1)
+
+-- where one digit more may follow, those before it are at most nine
+small : (c : tie.Else3 Inv-loop μ-loop) → c .before .before .before .before .before .before .before .before .loop .v < 10 ^ 9
+small c =
+    let at-loop = c .before .before .before .before .before .before .before .before in
+    let a = at-loop .before .before .args in
+    let l = at-loop .loop in
+    upto-small (a .line .now) (a .at) (l .i) (l .v) (l .inv) (sym (c .before .full .ensures) ∙ c .if3 .left)
+
+loop-holds : tie.Need-loop-holds Inv-loop μ-loop
+loop-holds c = upto-none (c .before .args .line .now) (c .before .args .at)
+
+shared-slice-read-class-of : tie.Need-shared-slice-read-class-of Inv-loop μ-loop
+shared-slice-read-class-of c = search needs
+
+class-of-requires : tie.Need-class-of-requires Inv-loop μ-loop
+class-of-requires c κs = search needs
+
+enum-known-d : tie.Need-enum-known-d Inv-loop μ-loop
+enum-known-d c = search needs
+
+shared-slice-read-if2 : tie.Need-shared-slice-read-if2 Inv-loop μ-loop
+shared-slice-read-if2 c = search needs
+
+add-t16 : tie.Need-add-t16 Inv-loop μ-loop
+add-t16 c = search needs
+
+returns : tie.Need-returns Inv-loop μ-loop
+returns c =
+    let at-loop = c .before .before .before .before .before .before .before in
+    let a = at-loop .before .before .args in
+    let l = at-loop .loop in
+    upto-stop (a .line .now) (a .at) (l .i) (l .v) (l .inv) (no-digit (c .before .before .before)) (c .before .before .if1 .taken) (a .stop)
+    (c .before .before .before .before .before .before .loop-test .taken) (c .if2 .taken)
+
+returns-2 : tie.Need-returns-2 Inv-loop μ-loop
+returns-2 c =
+    let at-loop = c .before .before .before .before .before .before .before in
+    let a = at-loop .before .before .args in
+    let l = at-loop .loop in
+    upto-other (a .line .now) (a .at) (l .i) (l .v) (l .inv) (no-digit (c .before .before .before)) (c .before .before .if1 .taken) (a .stop)
+    (c .before .before .before .before .before .before .loop-test .taken) (c .if2 .left)
+
+returns-3 : tie.Need-returns-3 Inv-loop μ-loop
+returns-3 c =
+    let at-loop = c .before .before .before .before .before in
+    let a = at-loop .before .before .args in
+    let l = at-loop .loop in
+    upto-empty (a .line .now) (a .at) (l .i) (l .v) (l .inv) (no-digit (c .before)) (a .stop) (c .if1 .left)
+
+sub-full : tie.Need-sub-full Inv-loop μ-loop
+sub-full c = omega (arith, c .before .before .before .before .before .before .loop .inv .low)
+
+full-requires : tie.Need-full-requires Inv-loop μ-loop
+full-requires c κs = search needs
+
+returns-4 : tie.Need-returns-4 Inv-loop μ-loop
+returns-4 c =
+    let at-loop = c .before .before .before .before .before .before .before .before in
+    let a = at-loop .before .before .args in
+    let l = at-loop .loop in
+    upto-full (a .line .now) (a .at) (l .i) (l .v) (l .inv) (c .before .before .before .before .before .before .before .loop-test .taken) (digit (c .before .before) .0) (a .stop)
+    (sym (c .before .full .ensures) ∙ c .if3 .taken)
+
+mul-v : tie.Need-mul-v Inv-loop μ-loop
+mul-v c = omega (arith, small c)
+
+add-v : tie.Need-add-v Inv-loop μ-loop
+add-v c =
+    let at-loop = c .before .before .before .before .before .before .before .before in
+    let d = digit (c .before .before) in
+    omega (arith, small c, digit-range (getD (at-loop .before .before .args .line .now) (at-loop .loop .i) 0) (d .0))
+
+add-i : tie.Need-add-i Inv-loop μ-loop
+add-i c = search needs
+
+loop-less : tie.Need-loop-less Inv-loop μ-loop
+loop-less c = search needs
+
+loop-again : tie.Need-loop-again Inv-loop μ-loop
+loop-again c =
+    let at-loop = c .before .before .before .before .before .before .before .before in
+    let a = at-loop .before .before .args in
+    let l = at-loop .loop in
+    let d = digit (c .before .before) in
+    upto-more (a .line .now) (a .at) (l .i) (l .v) (l .inv) (c .before .before .before .before .before .before .before .loop-test .taken) (d .0)
+    (c .before .before .before .d .given .0 .0) (d .1) (sym (c .before .full .ensures) ∙ c .if3 .left)
+
+returns-5 : tie.Need-returns-5 Inv-loop μ-loop
+returns-5 c =
+    let a = c .before .before .before .args in
+    let l = c .before .loop in
+    upto-cut (a .line .now) (a .at) (l .i) (l .v) (l .inv) (digits-end (a .line .now) (l .i) (c .loop-test .left)) (a .stop) (c .loop-test .left)
+
+pub number-at-spec : {M : Type 1} → statement M
+number-at-spec =
+    tie.close
+    (tie.spec
+    Inv-loop
+    μ-loop
+    loop-holds
+    shared-slice-read-class-of
+    class-of-requires
+    enum-known-d
+    shared-slice-read-if2
+    add-t16
+    returns
+    returns-2
+    returns-3
+    sub-full
+    full-requires
+    returns-4
+    mul-v
+    add-v
+    add-i
+    loop-less
+    loop-again
+    returns-5)

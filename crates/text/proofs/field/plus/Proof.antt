@@ -1,0 +1,30 @@
+-- `text::field::plus` meets its contract. A number below 10^10 is the same in an i64.
+-- Assumes nothing.
+use mathlib.Core.Path.{sym, ap}
+use Prim.Native.Nat.{_<_, _^_}
+use borrow.Author.Needs.{needs}
+use Rattle.text.specs.Fields.{positive}
+use Rattle.text.proofs.FieldLaws.{read-back, fits-pos}
+use Rattle.text.proofs.field.plus.Statement.{statement}
+use Rattle.text.proofs.field.plus.Tie as tie
+
+small : (c : tie.After-known-told) → c .before .number .given .0 .0 < 10 ^ 10
+small c = rw (c .before .number .given .1) at (c .before .before .before .pre)
+
+enum-known-number : tie.Need-enum-known-number
+enum-known-number c = search needs
+
+cast-t6 : tie.Need-cast-t6
+cast-t6 c = fits-pos (c .before .number .given .0 .0) (small c)
+
+enum-known-number-2 : tie.Need-enum-known-number-2
+enum-known-number-2 c = search needs
+
+returns : tie.Need-returns
+returns c = rw (read-back (c .before .number .given .0 .0) (small c)) (ap positive (sym (c .before .number .given .1)))
+
+returns-2 : tie.Need-returns-2
+returns-2 c = ap positive (sym (c .before .number2 .given .1))
+
+pub plus-spec : {M : Type 1} → statement M
+plus-spec = tie.close (tie.spec enum-known-number cast-t6 enum-known-number-2 returns returns-2)

@@ -1,0 +1,85 @@
+-- `text::field::signed_at` meets its contract: by its first byte the field is one of the two cases of `signedAt`. What follows a minus stands in the line,
+-- so that its place fits.
+-- Assumes nothing.
+use mathlib.Core.Path.{_≡_, sym, ap, ap₂, _∙_}
+use mathlib.Core.Bool.{true}
+use Prim.Native.Nat.{ℕ, _+_}
+use native.Mathlib.Omega.{arith}
+use borrow.Author.Needs.{needs}
+use lib.Dec.{eqb}
+use lib.ListN.{getD}
+use Rattle.text.specs.declared.Number.{Number}
+use Rattle.text.specs.Fields.{positive, negative}
+use Rattle.text.proofs.NumberTrip.{signed-plus, signed-minus}
+use Rattle.text.proofs.FieldLaws.{value-lt, dash-within}
+use Rattle.text.proofs.field.signed_at.Statement.{statement}
+use Rattle.text.proofs.field.signed_at.Tie as tie
+
+dash : (c : tie.Then1) → let a = c .before .before .before .args in eqb (getD (a .line .now) (a .at) 0) 45 ≡ true
+dash c = sym (c .before .has-minus .ensures) ∙ c .if1 .taken
+
+has-minus-requires : tie.Need-has-minus-requires
+has-minus-requires c κs = search needs
+
+add-byte-at : tie.Need-add-byte-at
+add-byte-at c =
+    let a = c .before .before .before .args in
+    omega (arith, dash-within (a .line .now) (a .at) (dash c))
+
+byte-at-requires : tie.Need-byte-at-requires
+byte-at-requires c κs = search needs
+
+add-minus : tie.Need-add-minus
+add-minus c =
+    let a = c .before .before .before .before .args in
+    omega (arith, dash-within (a .line .now) (a .at) (dash (c .before)))
+
+add-number-at : tie.Need-add-number-at
+add-number-at c =
+    let a = c .before .before .before .before .args in
+    omega (arith, dash-within (a .line .now) (a .at) (dash (c .before)))
+
+number-at-requires : tie.Need-number-at-requires
+number-at-requires c κs = search needs
+
+minus-requires : tie.Need-minus-requires
+minus-requires c κs =
+    let a = c .before .before .before .before .before .args in
+    rw (c .number-at .ensures) (value-lt (a .line .now) (a .at + 1) (a .stop))
+
+returns : tie.Need-returns
+returns c =
+    let a = c .before .before .before .before .before .before .args in
+    c .minus .ensures
+    ∙ ap₂ (λ (first : ℕ) (n : Number). negative first (a .at + 1) n) (c .before .before .byte-at .ensures) (c .before .number-at .ensures)
+    ∙ signed-minus (a .line .now) (a .at) (a .stop) (dash (c .before .before .before))
+
+number-at-requires-2 : tie.Need-number-at-requires-2
+number-at-requires-2 c κs = search needs
+
+plus-requires : tie.Need-plus-requires
+plus-requires c κs =
+    let a = c .before .before .before .before .args in
+    rw (c .number-at2 .ensures) (value-lt (a .line .now) (a .at) (a .stop))
+
+returns-2 : tie.Need-returns-2
+returns-2 c =
+    let a = c .before .before .before .before .before .args in
+    let at-else = c .before .before in
+    c .plus .ensures ∙ ap positive (c .before .number-at2 .ensures) ∙ signed-plus (a .line .now) (a .at) (a .stop) (sym (at-else .before .has-minus .ensures) ∙ at-else .if1 .left)
+
+pub signed-at-spec : {M : Type 1} → statement M
+signed-at-spec =
+    tie.close
+    (tie.spec
+    has-minus-requires
+    add-byte-at
+    byte-at-requires
+    add-minus
+    add-number-at
+    number-at-requires
+    minus-requires
+    returns
+    number-at-requires-2
+    plus-requires
+    returns-2)

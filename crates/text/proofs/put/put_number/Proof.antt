@@ -1,0 +1,77 @@
+-- `text::put::put_number` meets its contract. The invariant: what is left, written before place i, gives the whole (`Digits`); a turn is `digits-more`.
+-- The measure is what is left.
+-- Assumes nothing.
+use mathlib.Core.Path.{ap}
+use Prim.Native.Nat.{ℕ, _+_}
+use native.Mathlib.Omega.{arith}
+use lib.ListN.{length-set}
+use Rattle.text.proofs.DigitLaws.{Digits, digits-none, digits-some, digits-more, digits-all}
+use Rattle.text.proofs.put.put_number.Statement.{statement}
+use Rattle.text.proofs.put.put_number.Tie as tie
+
+abbrev Inv-loop : tie.InvT-loop
+Inv-loop n out₀ at next left₀ i₀ out left i = Digits n at out₀ out left i
+
+abbrev μ-loop : tie.MeasureT-loop
+μ-loop n out₀ at next left₀ i₀ out left i = left
+
+digit-count-requires : tie.Need-digit-count-requires Inv-loop μ-loop
+digit-count-requires c κs = tt
+
+add-next : tie.Need-add-next Inv-loop μ-loop
+add-next c = omega (arith, c .digit-count .ensures)
+
+loop-holds : tie.Need-loop-holds Inv-loop μ-loop
+loop-holds c = digits-none _ _ _ _ (ap (λ (k : ℕ). c .before .before .args .at + k) (c .digit-count .ensures)) (c .before .before .pre)
+
+sub-i : tie.Need-sub-i Inv-loop μ-loop
+sub-i c = omega (arith, digits-some (c .before .loop .inv))
+
+digit-requires : tie.Need-digit-requires Inv-loop μ-loop
+digit-requires c κs = omega arith
+
+slice-write-out : tie.Need-slice-write-out Inv-loop μ-loop
+slice-write-out c =
+    let u = c .before .before .loop .inv in
+    omega (arith, digits-some u, u .place, u .room)
+
+loop-less : tie.Need-loop-less Inv-loop μ-loop
+loop-less c = omega arith
+
+loop-again : tie.Need-loop-again Inv-loop μ-loop
+loop-again c = digits-more (c .before .before .loop .inv) _ (c .digit .ensures) (omega arith)
+
+digit-requires-2 : tie.Need-digit-requires-2 Inv-loop μ-loop
+digit-requires-2 c κs = omega arith
+
+slice-write-out-2 : tie.Need-slice-write-out-2 Inv-loop μ-loop
+slice-write-out-2 c =
+    let u = c .before .before .loop .inv in
+    omega (arith, digits-some u, u .place, u .room)
+
+same-length : tie.Need-same-length Inv-loop μ-loop
+same-length c = simp length-set (c .before .before .loop .inv .kept)
+
+returns : tie.Need-returns Inv-loop μ-loop
+returns c =
+    let counted = c .before .before .before in
+    digits-all (c .before .before .loop .inv) _ _ (c .digit2 .ensures) (omega arith) (ap (λ (k : ℕ). counted .before .before .args .at + k) (counted .digit-count .ensures))
+
+pub put-number-spec : {M : Type 1} → statement M
+put-number-spec =
+    tie.close
+    (tie.spec
+    Inv-loop
+    μ-loop
+    digit-count-requires
+    add-next
+    loop-holds
+    sub-i
+    digit-requires
+    slice-write-out
+    loop-less
+    loop-again
+    digit-requires-2
+    slice-write-out-2
+    same-length
+    returns)

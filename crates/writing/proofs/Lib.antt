@@ -1,0 +1,5 @@
+pub mod BlockTrip
+pub mod TableTrip
+pub mod LengthLaws
+pub mod RoundTrip
+pub mod Longest

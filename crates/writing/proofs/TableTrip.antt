@@ -1,0 +1,162 @@
+-- The chain of H, Z, B and C lines, both ways: a text that was read is the text of its runs of lines, and that text reads as the table. No contract cites this file.
+-- Assumes nothing.
+use mathlib.Core.Path.{_≡_, sym, ap, ap₂, _∙_}
+use mathlib.Core.Bool.{true, cond}
+use mathlib.Core.List.{List, [], _++_, append-nil}
+use Prim.Native.Nat.{ℕ, _+_, _*_, _^_, _≤_, _<_}
+use native.Mathlib.Nat.{zero-add}
+use native.Mathlib.Omega.{arith}
+use lib.Dec.{ltb}
+use lib.IntN.{ℤ, pos}
+use lib.ListN.{length, getD, drop, length-drop, drop-of-length-le}
+use lib.Seq.{drop-append-seam}
+use borrow.Author.Tests.{le-ltb}
+use Rattle.kinds.specs.declared.Header.{Header}
+use Rattle.kinds.specs.Limits.{bytesMost}
+use Rattle.kinds.specs.Ranges.{zoneFits}
+use Rattle.kinds.specs.Refusals.{Judged, passed, refused, wrongForm}
+use Rattle.kinds.proofs.RefusalLaws.{none-next, then-next}
+use Rattle.kinds.proofs.KindLaws.{header-in}
+use Rattle.text.specs.Line.{lineOf, lineAt, after, holds}
+use Rattle.text.proofs.LineLaws.{line-split}
+use Rattle.block.proofs.BlockLaws.{blockText, allFit, block-read}
+use Rattle.block.proofs.RunLaws.{fits-all, lines-goes}
+use Rattle.table.specs.Table.{Table, stretch, notTwice, zoneLineNo, borderLineNo, rowLineNo, pastLineNo}
+use Rattle.table.specs.Good.{Good, Shaped}
+use Rattle.table.proofs.GoodLaws.{good-row, row-fit, stretch-long}
+use Rattle.lines.specs.Lines.{RowLine, headerLine, zoneLine, borderLine, rowLine}
+use Rattle.reading.specs.Reading.{valuesOf, factorsOf, linesOf, readText}
+use Rattle.lines.proofs.HeaderTrip.{header-read, header-written, header-one}
+use Rattle.lines.proofs.ZoneTrip.{zone-read, zone-written, zone-one}
+use Rattle.lines.proofs.BorderTrip.{BorderHeld, border-read, border-written, border-one}
+use Rattle.lines.proofs.RowTrip.{RowHeld, Held, row-read, row-written, row-one}
+use Rattle.reading.proofs.RowLaws.{none, values-at, cut, cut-long, cut-values, cut-factors, cut-at}
+use Rattle.reading.proofs.ReadLaws.{Opened, fits, some, nets-held, borders-held, rows-held}
+use Rattle.writing.specs.Writing.{headerText, tableText}
+use Rattle.writing.proofs.BlockTrip.{zoneLineOf, borderLineOf, rowLineOf, Lined, blocks, text-blocks}
+
+-- ---- what was read
+module _ (text : List ℕ) (t : Table) (o : Opened text t) where
+  read-lined : Lined t (o .lines)
+  read-lined = record {
+    nets-long = nets-held text t o .0;
+    borders-long = borders-held text t o .0;
+    lines-long = rows-held text t o .0;
+    values-are = o .values-are;
+    factors-are = o .factors-are;
+    held = rows-held text t o .1;
+  }
+
+  read-blocks : text ≡ blocks t (o .lines)
+  read-blocks =
+      let h = header-read (lineAt text 0) (t .header) (o .header-is) .0 in
+      let z = block-read zoneLine zoneLineNo zoneLineOf (λ line i net e. zone-read line i net e .0) (t .header .zones) text (after text 0) 0 (t .nets) (o .p) (o .nets-are) .0 in
+      let b = block-read (borderLine (t .header .zones)) (borderLineNo (t .header)) borderLineOf (λ line i raw e. border-read (t .header .zones) line i raw e .0) (t .header .borders) text (o .p) 0 (t .borders) (o .q) (o .borders-are) .0 in
+      let c = block-read (rowLine (t .header .zones)) (rowLineNo (t .header)) rowLineOf (λ line i c e. row-read (t .header .zones) (some text t o) line i c e .0) (t .header .rows) text (o .q) 0 (o .lines) (o .e) (o .rows-are) .0 in
+      let last : drop (o .e) text ≡ [] = drop-of-length-le text (o .whole) in
+      let d : drop (o .q) text ≡ blockText rowLineOf 0 (o .lines) = c ∙ ap (λ (l : List ℕ). blockText rowLineOf 0 (o .lines) ++ l) last ∙ append-nil _ in
+      let first : drop (length (lineOf text)) text ≡ drop (after text 0) text = ap (λ (k : ℕ). drop k text) (sym (zero-add (length (lineOf text)))) in
+      line-split text ∙ ap₂ (λ (x y : List ℕ). x ++ y) h (first ∙ z ∙ ap (λ (l : List ℕ). blockText zoneLineOf 0 (t .nets) ++ l) (b ∙ ap (λ (l : List ℕ). blockText borderLineOf 0 (t .borders) ++ l) d))
+
+  pub read-text : tableText t ≡ text
+  read-text = text-blocks t (o .lines) read-lined ∙ sym read-blocks
+
+-- ---- what is written
+abbrev ZoneFits : (i : ℕ) → ℤ → Type 0
+ZoneFits i net = (i < 10 ^ 10) × (zoneFits net ≡ true)
+
+abbrev BorderFits : (zones i : ℕ) → List ℤ → Type 0
+BorderFits zones i raw = (i < 10 ^ 10) × BorderHeld zones raw
+
+abbrev RowFits : (zones i : ℕ) → RowLine → Type 0
+RowFits zones i c = (i < 10 ^ 10) × RowHeld zones c
+
+table-is : (h : Header) (z : List ℤ) (b c c′ : List (List ℤ)) (f f′ : List ℤ) → c ≡ c′ → f ≡ f′
+    → _≡_ {A = Table} (record { header = h; nets = z; borders = b; rows = c; factors = f }) (record { header = h; nets = z; borders = b; rows = c′; factors = f′ })
+table-is h z b c c′ f f′ p q = cc
+
+module _ (t : Table) (g : Good t) (s : Shaped t) where
+  abbrev lines : List RowLine
+  lines = cut (t .header .zones) (t .rows) (t .factors)
+
+  some-zones : 0 < t .header .zones
+  some-zones = omega (arith, header-in (t .header) (g .header) .zones-least)
+
+  lines-long : length lines ≡ t .header .rows
+  lines-long = cut-long (t .header .zones) (t .rows) (t .factors) ∙ g .rows-long
+
+  values-are : valuesOf lines ≡ t .rows
+  values-are = cut-values (t .header .zones) (t .rows) (t .factors)
+
+  factors-are : factorsOf lines ≡ t .factors
+  factors-are = cut-factors (t .header .zones) (t .rows) (t .factors) (g .factors-long ∙ ap (λ (n : ℕ). n * t .header .zones) (sym (g .rows-long)))
+
+  row-held : (i : ℕ) → i < t .header .rows → RowHeld (t .header .zones) (getD lines i none)
+  row-held i h =
+      let zones = t .header .zones in
+      let v : getD (t .rows) i [] ≡ getD lines i none .values = ap (λ (rows : List (List ℤ)). getD rows i []) (sym values-are) ∙ values-at lines i in
+      let f : stretch zones (t .factors) i ≡ getD lines i none .factors = sym (cut-at zones (t .rows) (t .factors) i (omega (arith, g .rows-long))) in
+      let l = stretch-long zones (t .header .rows) (t .factors) (g .factors-long) i h in
+      record {
+        wide = ap length (sym v) ∙ s .rows-wide i h;
+        long = ap length (sym f) ∙ l;
+        good = rw (← v, ← f) (good-row (getD (t .rows) i []) (stretch zones (t .factors) i) (g .rows-fit i h)
+            (λ z k. row-fit zones (t .header .rows) (t .factors) (g .factors-long) some-zones (g .factors-fit) i h z (rw l at k)));
+      }
+
+  written-lined : Lined t lines
+  written-lined = record {
+    nets-long = g .nets-long;
+    borders-long = g .borders-long;
+    lines-long = lines-long;
+    values-are = values-are;
+    factors-are = factors-are;
+    held = fits-all (Held (t .header .zones)) none lines 0 (λ k h. row-held k (rw lines-long at h));
+  }
+
+  zones-fit : allFit ZoneFits 0 (t .nets)
+  zones-fit = fits-all ZoneFits (pos 0) (t .nets) 0 (λ k h. (omega (arith, g .nets-long, header-in (t .header) (g .header) .zones-most), g .nets-fit k (rw (g .nets-long) at h)))
+
+  borders-fit : allFit (BorderFits (t .header .zones)) 0 (t .borders)
+  borders-fit = fits-all (BorderFits (t .header .zones)) [] (t .borders) 0 (λ k h.
+      let b = rw (g .borders-long) at h in
+      (omega (arith, g .borders-long, header-in (t .header) (g .header) .borders-most), record { wide = s .borders-wide k b; fits = g .borders-fit k b }))
+
+  rows-fit : allFit (RowFits (t .header .zones)) 0 lines
+  rows-fit = fits-all (RowFits (t .header .zones)) none lines 0 (λ k h. (omega (arith, lines-long, header-in (t .header) (g .header) .rows-most), row-held k (rw lines-long at h)))
+
+  -- the first line of the text, and what follows it
+  module _ (text : List ℕ) (whole : text ≡ blocks t lines) where
+    first-line : lineAt text 0 ≡ headerText (t .header)
+    first-line = ap lineOf whole ∙ header-one (t .header) _
+
+    past-first : drop (after text 0) text ≡ blockText zoneLineOf 0 (t .nets) ++ (blockText borderLineOf 0 (t .borders) ++ blockText rowLineOf 0 lines)
+    past-first =
+        ap (λ (k : ℕ). drop k text) (zero-add (length (lineAt text 0)) ∙ ap length first-line)
+        ∙ ap (drop (length (headerText (t .header)))) whole
+        ∙ drop-append-seam (headerText (t .header)) _
+
+    blocks-read : linesOf text ≡ passed t
+    unfolding linesOf
+    blocks-read =
+        let h = t .header in
+        let done : List RowLine → ℕ → Judged Table = λ rows e.
+        cond (ltb e (length text)) (refused (wrongForm (pastLineNo h))) (passed (record { header = h; nets = t .nets; borders = t .borders; rows = valuesOf rows; factors = factorsOf rows })) in
+        let first : headerLine (lineAt text 0) ≡ holds h = ap headerLine first-line ∙ header-written h (g .header) in
+        rw first
+        (lines-goes zoneLine zoneLineNo zoneLineOf ZoneFits (λ i net f. zone-written i net (f .0) (f .1)) zone-one
+        _ (passed t) (t .nets) (h .zones) text (after text 0) (blockText borderLineOf 0 (t .borders) ++ blockText rowLineOf 0 lines) (g .nets-long) past-first zones-fit (λ p h1.
+        lines-goes (borderLine (h .zones)) (borderLineNo h) borderLineOf (BorderFits (h .zones))
+        (λ i raw f. border-written (h .zones) i raw (f .0) (header-in h (g .header) .zones-most) (f .1)) (λ i raw r. border-one (h .zones) i raw r)
+        _ (passed t) (t .borders) (h .borders) text p (blockText rowLineOf 0 lines) (g .borders-long) h1 borders-fit (λ q h2.
+        lines-goes (rowLine (h .zones)) (rowLineNo h) rowLineOf (RowFits (h .zones)) (λ i c f. row-written i (f .0) (h .zones) c some-zones (f .1)) row-one
+        done (passed t) lines (h .rows) text q [] lines-long (h2 ∙ sym (append-nil _)) rows-fit (λ e h3.
+        rw (le-ltb e (length text) (omega (arith, length-drop e text, ap length h3)))
+        (ap passed (table-is h (t .nets) (t .borders) _ _ _ _ values-are factors-are))))))
+
+  pub lines-read : linesOf (tableText t) ≡ passed t
+  lines-read = blocks-read (tableText t) (text-blocks t lines written-lined)
+
+  pub text-read : length (tableText t) ≤ bytesMost → readText (tableText t) ≡ passed t
+  unfolding readText
+  text-read short = rw (le-ltb bytesMost (length (tableText t)) short) (then-next notTwice lines-read ∙ none-next _ _ _ _ (g .once))
