@@ -1,0 +1,357 @@
+//! Makes the example hours of hours/ from fixed seeds; running it again gives
+//! the same files.
+//!
+//! `hours/make` builds and runs it.
+//! An argument: the directory to write to (hours).
+
+#[path = "../second/dice.rs"]
+mod dice;
+#[path = "../second/second.rs"]
+mod second;
+
+use dice::Dice;
+use second::{Header, Outcome, Tables};
+
+const FULL: Header = Header { zones: 16, borders: 40, rows: 200 };
+
+const SEED_PLAIN: u64 = 1;
+const PLAIN: Kind = Kind { one_way: false, steepest: 25_000, tight: 0 };
+/// Seeds looked at for the busy hour.
+const SEEDS_BUSY: std::ops::Range<u64> = 1_000..1_060;
+/// Steps of the search for the worst hour.
+const SEED_WORST: u64 = 5;
+const STEPS_WORST: u64 = 1_000;
+
+/// The hour that the rules check whole.
+const WORKED: &str = "H 3 2 4
+Z 0 500000
+Z 1 -200000
+Z 2 -300000
+B 0 0 1 100
+B 1 1 2 200
+C 0 1000000 200000 200000 150000 7000 0 80000 30000 10000 0
+C 1 100000 10000 15000 0 7000 0 0 5000 5000 0
+C 2 100000 0 0 0 0 0 0 4999 0 0
+C 3 1000000 0 130000 0 7000 0 0 20000 0 -10000
+";
+
+fn extract(t: &Tables) -> Option<Outcome> {
+    second::extract(t.header, &t.z, &t.b, &t.c, &t.f, usize::MAX, usize::MAX).ok()
+}
+
+fn rounds(t: &Tables) -> u64 {
+    extract(t).map_or(0, |outcome| outcome.rounds)
+}
+
+// ------------------------------------------------------------ a plausible hour
+
+/// Which hour of the plausible kind is made.
+#[derive(Clone, Copy)]
+struct Kind {
+    /// power runs one way through the zones: borders, positions and factors
+    one_way: bool,
+    steepest: i64,
+    /// how many of the rows have little room
+    tight: usize,
+}
+
+/// Borders from a zone to one further down, no border back.
+fn one_way_borders(d: &mut Dice) -> Vec<[i64; 3]> {
+    let mut b: Vec<[i64; 3]> = Vec::new();
+    while b.len() < FULL.borders {
+        let from = d.below(FULL.zones - 1);
+        let to = (from + 1 + d.below(5)).min(FULL.zones - 1);
+        if !b.iter().any(|r| r[0] == from as i64 && r[1] == to as i64) {
+            b.push([from as i64, to as i64, 50 * d.within(0, 6)]);
+        }
+    }
+    b
+}
+
+/// Zones on a map: a ring with a few links across it; each border both ways.
+fn plausible_borders(d: &mut Dice) -> Vec<[i64; 3]> {
+    let mut links: Vec<(usize, usize)> = (0..FULL.zones).map(|z| (z, (z + 1) % FULL.zones)).collect();
+    while links.len() < FULL.borders / 2 {
+        let one = d.below(FULL.zones);
+        let other = (one + d.of(&[4, 5, 6, 8])) % FULL.zones;
+        if !links.contains(&(one, other)) && !links.contains(&(other, one)) {
+            links.push((one, other));
+        }
+    }
+    let mut b = Vec::new();
+    for (one, other) in links {
+        b.push([one as i64, other as i64, 50 * d.within(0, 12)]);
+        b.push([other as i64, one as i64, 50 * d.within(0, 12)]);
+    }
+    b
+}
+
+fn plausible_positions(d: &mut Dice) -> Vec<i64> {
+    let mut z: Vec<i64> = (0..FULL.zones).map(|_| d.within(-5_000_000, 5_000_000)).collect();
+    let sum: i64 = z[1..].iter().sum();
+    z[0] = -sum;
+    z
+}
+
+/// Factors of a line across the way: falling from zone to zone, most of all at
+/// zone `at`.
+fn one_way_factors(d: &mut Dice, steepest: i64) -> Vec<i64> {
+    let at = 1 + d.below(FULL.zones - 1);
+    let steep = d.within(5_500, steepest);
+    let mut now = steep / 2;
+    (0..FULL.zones)
+        .map(|zone| {
+            now -= if zone == at { steep } else { d.within(0, 60) };
+            now
+        })
+        .collect()
+}
+
+/// Factors of a line near zone `at`: large there, smaller further round the
+/// ring, with the other sign on the line's other side.
+fn plausible_factors(d: &mut Dice, steepest: i64) -> Vec<i64> {
+    let at = d.below(FULL.zones);
+    let steep = d.within(1_500, steepest);
+    (0..FULL.zones)
+        .map(|zone| {
+            let away = (zone + FULL.zones - at) % FULL.zones;
+            let (side, far) = if away < FULL.zones / 2 { (1, away + 1) } else { (-1, FULL.zones - away) };
+            side * steep / far as i64 + d.within(-900, 900)
+        })
+        .collect()
+}
+
+fn plausible(seed: u64, kind: Kind) -> Tables {
+    let mut dice = Dice::new(seed);
+    let d = &mut dice;
+    let mut z = plausible_positions(d);
+    if kind.one_way {
+        z.sort();
+        z.reverse();
+    }
+    let b = if kind.one_way { one_way_borders(d) } else { plausible_borders(d) };
+    let mut c = Vec::new();
+    let mut f: Vec<i64> = Vec::new();
+    for row in 0..FULL.rows {
+        let own = if row % 25 == 24 {
+            // the same line after another outage: factors moved by one number
+            let like = f[(row - 3) * FULL.zones..(row - 2) * FULL.zones].to_vec();
+            let by = d.within(-300, 300);
+            like.iter().map(|factor| factor + by).collect()
+        } else if kind.one_way {
+            one_way_factors(d, kind.steepest)
+        } else {
+            plausible_factors(d, kind.steepest)
+        };
+        let fmax = 1_000 * d.within(400, 2_500);
+        let load: i64 = own.iter().zip(&z).map(|(factor, position)| factor * position / 100_000).sum();
+        let f0all = fmax * d.within(-15, 15) / 100;
+        let fref = (load + f0all + fmax * d.within(-10, 10) / 100).clamp(-20_000_000, 20_000_000);
+        let r = if d.one_in(3) { -1 } else { d.of(&[2_000, 5_000, 7_000, 7_000, 7_000]) };
+        f.extend(own);
+        c.push([fmax, fmax * d.within(5, 15) / 100, fref, f0all, r, 0, 0]);
+    }
+    let mut t = Tables { header: FULL, z, b, c, f };
+    // a few rows with a validation cut, never more than the row has to spare
+    for row in 0..FULL.rows {
+        let m = second::margin_of(&t, row);
+        let spare = ((m.ram - m.s) / 100_000) as i64;
+        if row < kind.tight {
+            let left = spare.min(d.within(0, 400));
+            t.c[row][6] = (spare - left).clamp(0, 10_000_000);
+        } else if row % 10 == 3 {
+            t.c[row][6] = spare.min(1_000 * d.within(0, 60));
+        } else if row % 40 == 7 {
+            t.c[row][5] = spare.min(1_000 * d.within(0, 30));
+        }
+    }
+    t
+}
+
+/// The hour of the most rounds among a number of seeds.
+fn busy() -> (Tables, u64) {
+    let mut best: Option<(u64, Tables, u64)> = None;
+    for seed in SEEDS_BUSY {
+        let mut d = Dice::new(!seed);
+        let kind = Kind {
+            one_way: true,
+            steepest: d.of(&[8_000, 15_000, 25_000]),
+            tight: d.of(&[0, 5, 10, 20]),
+        };
+        let t = plausible(seed, kind);
+        let now = rounds(&t);
+        if best.as_ref().map_or(true, |(most, _, _)| now > *most) {
+            best = Some((now, t, seed));
+        }
+    }
+    let (_, t, seed) = best.expect("a seed");
+    (t, seed)
+}
+
+// --------------------------------------------------------------- the worst hour
+
+/// What the search may change of the worst hour.
+#[derive(Clone, Debug)]
+struct Shape {
+    /// p of border 0 on the wide rows
+    small: i64,
+    /// net position of the first half of the zones, the other half less that
+    position: i64,
+    /// flow without exchange and its total on the wide rows, and R
+    fref: i64,
+    f0all: i64,
+    r: i64,
+    fmax: i64,
+    frm: i64,
+    /// wide rows lose up to so much of a factor, so that no two are parallel
+    loss: i64,
+    /// LTA of every border
+    lta: i64,
+}
+
+/// Border 0 runs between two zones of nearly equal factors, all other borders
+/// from the first half of the zones to the second half.  The wide rows are
+/// loaded by every border (n is 40) and have a large margin; the last row is
+/// loaded by every border but border 0 and has none, so the others never rise and
+/// border 0 takes a fortieth of what is left in each round.
+fn worst_of(s: &Shape, rows: usize) -> Tables {
+    let mut d = Dice::new(SEED_WORST);
+    let header = Header { rows, ..FULL };
+    let half = FULL.zones / 2;
+    let z = (0..FULL.zones).map(|zone| if zone < half { s.position } else { -s.position }).collect();
+    let mut b = vec![[0, 1, s.lta]];
+    for k in 0..FULL.borders - 1 {
+        let (from, to) = (k % half, half + (k / half + k % half) % half);
+        b.push([from as i64, to as i64, s.lta]);
+    }
+    let mut c = Vec::new();
+    let mut f: Vec<i64> = Vec::new();
+    for row in 0..rows - 1 {
+        let loss: Vec<i64> = (0..FULL.zones).map(|_| d.within(0, s.loss)).collect();
+        for zone in 0..FULL.zones {
+            // row 0 loses nothing; no row loses anything in zones 0 and 1
+            let lost = if row == 0 || zone < 2 { 0 } else { loss[zone] };
+            f.push(match zone {
+                1 => 100_000 - s.small,
+                _ if zone < half => 100_000 - lost,
+                _ => -100_000 + lost,
+            });
+        }
+        c.push([s.fmax, s.frm, s.fref, s.f0all, s.r, 0, 0]);
+    }
+    f.extend((0..FULL.zones).map(|zone| if zone < half { 5_000 } else { 0 }));
+    c.push([1, 1, 0, -20_000_000, 0, 0, 0]);
+    let mut t = Tables { header, z, b, c, f };
+    // the last row: the flow that leaves next to nothing, and the rest by CVA and IVA
+    let last = rows - 1;
+    let m = second::margin_of(&t, last);
+    t.c[last][2] = (-m.f0core / 100_000).clamp(-20_000_000, 20_000_000) as i64;
+    let m = second::margin_of(&t, last);
+    let spare = ((m.ram - m.s) / 100_000) as i64;
+    t.c[last][5] = spare.clamp(0, 10_000_000);
+    t.c[last][6] = (spare - t.c[last][5]).clamp(0, 10_000_000);
+    t
+}
+
+/// A bounded search: one value of the shape changed at a time, kept where the
+/// rounds do not fall.  It starts far from the ends of the ranges.
+fn worst() -> Tables {
+    let mut d = Dice::new(SEED_WORST);
+    let mut shape = Shape {
+        small: 500,
+        position: 1_000_000,
+        fref: 0,
+        f0all: 0,
+        r: 7_000,
+        fmax: 1_000_000,
+        frm: 100_000,
+        loss: 500,
+        lta: 100,
+    };
+    // more wide rows cost time, not rounds, so the search has three rows; judged
+    // on the rounds and, where these are equal, on the raise of border 0 alone
+    let judged = |t: &Tables| (rounds(t), alone(t));
+    let mut most = judged(&worst_of(&shape, 3));
+    for _ in 0..STEPS_WORST {
+        let mut next = shape.clone();
+        let near = |d: &mut Dice, was: i64, low: i64, high: i64| match d.below(4) {
+            0 => low,
+            1 => high,
+            _ => (was + d.within(-(high - low) / 8, (high - low) / 8)).clamp(low, high),
+        };
+        match d.below(9) {
+            0 => next.small = near(&mut d, next.small, 1, 1_000),
+            1 => next.position = near(&mut d, next.position, 0, 100_000_000),
+            2 => next.fref = near(&mut d, next.fref, -20_000_000, 20_000_000),
+            3 => next.f0all = near(&mut d, next.f0all, -20_000_000, 20_000_000),
+            4 => next.r = near(&mut d, next.r, 0, 10_000),
+            5 => next.fmax = near(&mut d, next.fmax, 1_000, 10_000_000),
+            6 => next.frm = near(&mut d, next.frm, 0, next.fmax),
+            7 => next.loss = near(&mut d, next.loss, 1, 1_000),
+            _ => next.lta = near(&mut d, next.lta, 0, 200),
+        }
+        next.frm = next.frm.min(next.fmax);
+        let now = judged(&worst_of(&next, 3));
+        if now >= most {
+            most = now;
+            shape = next;
+        }
+    }
+    println!("worst: the search ended at {} rounds with {shape:?}", most.0);
+    worst_of(&shape, FULL.rows)
+}
+
+/// The margin of row 0, as far as border 0 could take it alone.
+fn alone(t: &Tables) -> i128 {
+    let m = second::margin_of(t, 0);
+    (m.ram - m.s) / second::border_factor(&t.f[..FULL.zones], &t.b[0]).max(1)
+}
+
+/// No table has over 39 rounds more than this: while a border rises, A, its
+/// smallest floor(margin / p), loses at least the larger of floor(A / 40) and 1
+/// in a round.  A starts at 1.65 x 10^14 less 10^8 at most (p 1, each zone at its
+/// ends but the one that makes p 1, Fref, F0all, Fmax and R at their ends).
+fn ceiling() -> u64 {
+    let mut a: i128 = 165_000_000_000_000 - 100_000_000;
+    let mut rounds = 0;
+    while a / 40 > 0 {
+        a -= a / 40;
+        rounds += 1;
+    }
+    rounds
+}
+
+// ------------------------------------------------------------------------ main
+
+fn put(directory: &str, name: &str, from: &str, t: &Tables) {
+    let text = second::write(t.header, &t.z, &t.b, &t.c, &t.f, usize::MAX).expect("a good table");
+    let o = extract(t).expect("an accepted table");
+    let path = format!("{directory}/{name}.tsv");
+    std::fs::write(&path, &text).expect("written");
+    let states = |state: u8| o.rows.iter().filter(|row| row.state == state).count();
+    let bound = 2 * o.n_most as u64 * u64::from(o.l_bits);
+    println!(
+        "{path}: {from}; {} bytes, rounds {}, N {}, L {}, bound 2 N L {bound}, rows of state 0, 1, 2: {}, {}, {}, ATC sum {} MW",
+        text.len(),
+        o.rounds,
+        o.n_most,
+        o.l_bits,
+        states(0),
+        states(1),
+        states(2),
+        o.atc.iter().sum::<u64>()
+    );
+}
+
+fn main() {
+    let directory = std::env::args().nth(1).unwrap_or_else(|| "hours".to_string());
+    std::fs::create_dir_all(&directory).expect("a directory");
+    let worked = second::read(WORKED.replace(' ', "\t").as_bytes(), [usize::MAX; 4]).expect("the worked hour");
+    put(&directory, "worked", "the hour of the rules", &worked);
+    put(&directory, "plain", &format!("seed {SEED_PLAIN}"), &plausible(SEED_PLAIN, PLAIN));
+    let (t, seed) = busy();
+    put(&directory, "busy", &format!("seed {seed}, the most of seeds {SEEDS_BUSY:?}"), &t);
+    let t = worst();
+    put(&directory, "worst", &format!("seed {SEED_WORST}, {STEPS_WORST} steps"), &t);
+    println!("with n 40 and p 1 throughout, the largest margin gives {} rounds", ceiling());
+}

@@ -1,0 +1,146 @@
+/*
+ * keravnoth: fallback electricity capacities (ATCs) from one hour's table.
+ *
+ * UNITS
+ *   kW               net positions, Fmax, FRM, Fref, F0all, CVA, IVA
+ *   MW               LTA and ATC
+ *   hundred-thousandths   transfer factors (PTDF)
+ *   grains           RAM and margins; a kW is 100,000 grains (0.01 W each)
+ *   ten-thousandths  R
+ *
+ * RECORDS (no record holds its index; ranges include both ends)
+ *   header   zones 2..16, borders 1..40, rows 1..200
+ *   z        one int64_t a zone: reference net position, -100000000..100000000
+ *   b        from zone, to zone (both exist, not equal), LTA 0..10000
+ *   c        Fmax 1..10000000, FRM 0..Fmax, Fref -20000000..20000000, F0all the
+ *            same, R 0..10000 or -1 where "-" is written (it means 7000),
+ *            CVA 0..10000000, IVA 0..10000000
+ *   f        one int64_t a row and zone, -100000..100000; row i's factors start
+ *            at item i * zones
+ *   atc      one record a border: ATC
+ *   left     one record a row: state (0 kept, 1 under 5%, 2 parallel to a row
+ *            that is kept), RAM in grains, margin left in grains or -1 where the
+ *            state is not 0
+ *
+ * REFUSALS (field number of every answer; 0: no refusal)
+ *   1  more than 65,536 bytes                                       place 0
+ *   2  the first faulty line has the wrong form, kind, index or
+ *      field count, is missing, has no LF, or is extra              place: line, from 1
+ *   3  the first faulty line has right form, a value outside its
+ *      range; or a lent record or header that no text could give    place: line, from 1
+ *   4  same from and to as an earlier border                        place: first such border
+ *   5  no row of state 0                                            place 0
+ *   6  a border that loads no kept row                              place: first such border
+ *   7  a kept row's starting margin is below 0                      place: first such row
+ *   8  a lent buffer is too short                                   place: items needed in
+ *                                                                   the first short one
+ *   A lent record has the line that it would have in the text: z i is line
+ *   2 + i, b i is 2 + zones + i, c i (its factors too) 2 + zones + borders + i;
+ *   the header is line 1.
+ *
+ *   Order.  keravnoth_read: 1, then 2 and 3 line by line, 4, 8.  The calls on
+ *   lent tables: the header (3), lengths (8) in the order z, b, c, f, records
+ *   (3), 4; the extraction and the result text go on to 5, 6, 7; last comes room
+ *   for results (8), atc before left.
+ *
+ * LENT MEMORY
+ *   Each pointer goes with the count of its items (records for b, c, atc, left;
+ *   numbers for z and f; bytes for text and out) and points to that many; it is
+ *   aligned for its type and not NULL, also where the count is 0.  What is
+ *   written to overlaps nothing else that is lent.  Nothing is kept after the
+ *   call, nothing is allocated.
+ *   A refused call leaves every lent buffer as it was.  After success what lies
+ *   beyond the items needed is as it was.  A lent table may be longer than its
+ *   header says; what lies beyond is not looked at.
+ *   On refusal the fields after place are 0; without a refusal place is 0.
+ */
+#ifndef KERAVNOTH_H
+#define KERAVNOTH_H
+
+#include <stddef.h>
+#include <stdint.h>
+
+#ifdef __cplusplus
+extern "C" {
+#endif
+
+enum {
+    KERAVNOTH_ZONES_MOST = 16,
+    KERAVNOTH_BORDERS_MOST = 40,
+    KERAVNOTH_ROWS_MOST = 200,
+    KERAVNOTH_FACTORS_MOST = 3200,
+    KERAVNOTH_TEXT_MOST = 65536
+};
+
+/* Reading: the header of the table that was read. */
+struct KeravnothRead {
+    uint32_t number;
+    size_t place;
+    size_t zones;
+    size_t borders;
+    size_t rows;
+};
+
+/* Text that was written: its bytes. */
+struct KeravnothWritten {
+    uint32_t number;
+    size_t place;
+    size_t bytes;
+};
+
+/* The extraction: rounds that raised something. */
+struct KeravnothExtracted {
+    uint32_t number;
+    size_t place;
+    uint64_t rounds;
+};
+
+/* Reads a table's text into z, b, c and f.  Refusals 1, 2, 3, 4, 8. */
+struct KeravnothRead keravnoth_read(
+    const uint8_t *text, size_t n,
+    int64_t *z, size_t nz,
+    int64_t (*b)[3], size_t nb,
+    int64_t (*c)[7], size_t nc,
+    int64_t *f, size_t nf);
+
+/* Writes the tables as text; text that is read and written again is the same.
+   Refusals 3, 4, 8. */
+struct KeravnothWritten keravnoth_write(
+    size_t zones, size_t borders, size_t rows,
+    const int64_t *z, size_t nz,
+    const int64_t (*b)[3], size_t nb,
+    const int64_t (*c)[7], size_t nc,
+    const int64_t *f, size_t nf,
+    uint8_t *out, size_t nout);
+
+/* Capacities and margins from the tables.  Refusals 3 to 8. */
+struct KeravnothExtracted keravnoth_extract(
+    size_t zones, size_t borders, size_t rows,
+    const int64_t *z, size_t nz,
+    const int64_t (*b)[3], size_t nb,
+    const int64_t (*c)[7], size_t nc,
+    const int64_t *f, size_t nf,
+    int64_t (*atc)[1], size_t natc,
+    int64_t (*left)[3], size_t nleft);
+
+/* The same as text: A lines (index, ATC), M lines (index, state, RAM, margin left
+   or "-"), one R line (rounds).  Refusals 3 to 8. */
+struct KeravnothWritten keravnoth_result_text(
+    size_t zones, size_t borders, size_t rows,
+    const int64_t *z, size_t nz,
+    const int64_t (*b)[3], size_t nb,
+    const int64_t (*c)[7], size_t nc,
+    const int64_t *f, size_t nf,
+    uint8_t *out, size_t nout);
+
+/* From text to text: the result text, or one line E, number, place.  Refused
+   only where out is too short (8, bytes needed). */
+struct KeravnothWritten keravnoth_answer(
+    const uint8_t *text, size_t n,
+    uint8_t *out, size_t nout);
+
+#ifdef __cplusplus
+}
+#endif
+
+#endif

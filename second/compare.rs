@@ -1,0 +1,979 @@
+//! Compares the calculator's C interface with the reference calculator
+//! (second.rs): every answer, and every number or byte of every lent buffer,
+//! on tables, texts and lent tables made from a seed.
+//!
+//! Arguments: number of tables, number of damaged texts, seed (each may be left
+//! out).  At the first difference both answers and the table are printed and
+//! the exit code is 1.  A run that does not reach every refusal number and the
+//! other cases listed in `wanted` fails too.
+//!
+//! With SHOW_CASES set, how often each case was reached; with SHOW_EACH set,
+//! each table's and text's number before it is tried (for a library that stops
+//! the program).
+
+#[path = "calls.rs"]
+mod calls;
+#[path = "damage.rs"]
+mod damage;
+#[path = "dice.rs"]
+mod dice;
+#[path = "make.rs"]
+mod make;
+#[path = "second.rs"]
+mod second;
+
+use calls::{Extracted, Read, Written};
+use dice::Dice;
+use second::{Header, Outcome, Refusal, Tables};
+use std::collections::BTreeMap;
+use std::fmt::Debug;
+
+const TABLES: u64 = 20_000;
+const TEXTS: u64 = 20_000;
+const SEED: u64 = 20_260_101;
+
+// --------------------------------------------------------------- lent memory
+
+/// A value that no rule would write, another at each place.
+trait Mark: Copy + PartialEq + Debug {
+    fn mark(d: &mut Dice) -> Self;
+}
+
+impl Mark for u8 {
+    fn mark(d: &mut Dice) -> u8 {
+        d.next() as u8
+    }
+}
+
+impl Mark for i64 {
+    fn mark(d: &mut Dice) -> i64 {
+        d.next() as i64
+    }
+}
+
+impl<const K: usize> Mark for [i64; K] {
+    fn mark(d: &mut Dice) -> [i64; K] {
+        std::array::from_fn(|_| d.next() as i64)
+    }
+}
+
+/// Items before and after the lent part that nobody may touch.
+const BEFORE: usize = 2;
+const AFTER: usize = 3;
+
+/// A lent buffer within a larger piece of memory full of marks.
+struct Lent<T> {
+    whole: Vec<T>,
+    was: Vec<T>,
+    count: usize,
+}
+
+impl<T: Mark> Lent<T> {
+    /// Room for `count` items, full of marks.
+    fn room(d: &mut Dice, count: usize) -> Lent<T> {
+        Lent::holding(d, &[], count)
+    }
+
+    /// `count` items: the given ones in front, marks after them.
+    fn holding(d: &mut Dice, items: &[T], count: usize) -> Lent<T> {
+        let mut whole: Vec<T> = (0..BEFORE + count + AFTER).map(|_| T::mark(d)).collect();
+        let front = items.len().min(count);
+        whole[BEFORE..BEFORE + front].copy_from_slice(&items[..front]);
+        Lent { was: whole.clone(), whole, count }
+    }
+
+    fn part(&self) -> &[T] {
+        &self.whole[BEFORE..BEFORE + self.count]
+    }
+
+    fn part_mut(&mut self) -> &mut [T] {
+        &mut self.whole[BEFORE..BEFORE + self.count]
+    }
+
+    /// None where the memory is as it was but for `items` in front of the lent
+    /// part; else the first place that differs.
+    fn fault(&self, name: &str, items: &[T]) -> Option<String> {
+        let same = self.whole[..BEFORE] == self.was[..BEFORE]
+            && self.whole[BEFORE..BEFORE + items.len()] == *items
+            && self.whole[BEFORE + items.len()..] == self.was[BEFORE + items.len()..];
+        if same {
+            return None;
+        }
+        let mut wanted = self.was.clone();
+        wanted[BEFORE..BEFORE + items.len()].copy_from_slice(items);
+        let at = (0..wanted.len()).find(|at| wanted[*at] != self.whole[*at])?;
+        let place = at as i64 - BEFORE as i64;
+        Some(format!(
+            "lent {name} ({} items, {} to be written), item {place}: library {:?}, reference {:?}",
+            self.count,
+            items.len(),
+            self.whole[at],
+            wanted[at]
+        ))
+    }
+}
+
+/// Lent tables for a call, with marks beyond what the header needs.
+struct LentTables {
+    header: Header,
+    z: Lent<i64>,
+    b: Lent<[i64; 3]>,
+    c: Lent<[i64; 7]>,
+    f: Lent<i64>,
+}
+
+impl LentTables {
+    fn new(d: &mut Dice, t: &Tables, counts: [usize; 4]) -> LentTables {
+        LentTables {
+            header: t.header,
+            z: Lent::holding(d, &t.z, counts[0]),
+            b: Lent::holding(d, &t.b, counts[1]),
+            c: Lent::holding(d, &t.c, counts[2]),
+            f: Lent::holding(d, &t.f, counts[3]),
+        }
+    }
+
+    fn header(&self) -> [usize; 3] {
+        [self.header.zones, self.header.borders, self.header.rows]
+    }
+
+    /// None where nothing was changed.
+    fn fault(&self) -> Option<String> {
+        self.z
+            .fault("z", &[])
+            .or_else(|| self.b.fault("b", &[]))
+            .or_else(|| self.c.fault("c", &[]))
+            .or_else(|| self.f.fault("f", &[]))
+    }
+
+    /// The lent tables as text, whatever they hold: as many items of each as
+    /// the header asks for and as are there.
+    fn shown(&self) -> Vec<u8> {
+        fn front<T: Mark>(lent: &Lent<T>, asked: usize) -> Vec<T> {
+            lent.part()[..asked.min(lent.count)].to_vec()
+        }
+        let h = self.header;
+        let tables = Tables {
+            header: h,
+            z: front(&self.z, h.zones),
+            b: front(&self.b, h.borders),
+            c: front(&self.c, h.rows),
+            f: front(&self.f, h.rows.saturating_mul(h.zones)),
+        };
+        let mut text = damage::plain_text(&tables);
+        let lent = format!(
+            "(items lent: {} z, {} b, {} c, {} f)\n",
+            self.z.count, self.b.count, self.c.count, self.f.count
+        );
+        text.extend(lent.into_bytes());
+        text
+    }
+}
+
+// ------------------------------------------------------------- the comparison
+
+struct Comparison {
+    seed: u64,
+    kind: &'static str,
+    number: u64,
+    calls: u64,
+    texts: u64,
+    accepted: u64,
+    exchanges: u64,
+    most_rounds: u64,
+    /// how often each number was the answer, 0: no refusal
+    numbers: [u64; 9],
+    /// how often each other case was reached
+    seen: BTreeMap<String, u64>,
+}
+
+impl Comparison {
+    fn see(&mut self, what: &str) {
+        match self.seen.get_mut(what) {
+            Some(count) => *count += 1,
+            None => {
+                self.seen.insert(what.to_string(), 1);
+            }
+        }
+    }
+
+    fn fail(&self, call: &str, details: &str, shown: &[u8]) -> ! {
+        println!("DIFFERENCE in {call}");
+        println!("seed {}, {} number {}, call number {}", self.seed, self.kind, self.number, self.calls);
+        println!("{details}");
+        println!("the table's text ({} bytes):", shown.len());
+        match std::str::from_utf8(shown) {
+            Ok(text) if !text.contains(|c: char| c.is_control() && c != '\n' && c != '\t') => {
+                println!("{text}")
+            }
+            _ => println!("{}", shown.escape_ascii()),
+        }
+        std::process::exit(1);
+    }
+
+    fn count(&mut self, call: &str, number: u32) {
+        self.calls += 1;
+        self.numbers[number as usize] += 1;
+        self.see(&format!("{call} {number}"));
+    }
+
+    fn read(&mut self, d: &mut Dice, text: &[u8], room: [usize; 4]) -> Result<Tables, Refusal> {
+        let lent_text = Lent::holding(d, text, text.len());
+        let mut z = Lent::room(d, room[0]);
+        let mut b = Lent::room(d, room[1]);
+        let mut c = Lent::room(d, room[2]);
+        let mut f = Lent::room(d, room[3]);
+        let found = calls::read(lent_text.part(), z.part_mut(), b.part_mut(), c.part_mut(), f.part_mut());
+        let reference = second::read(text, room);
+        let none = Tables {
+            header: Header { zones: 0, borders: 0, rows: 0 },
+            z: vec![],
+            b: vec![],
+            c: vec![],
+            f: vec![],
+        };
+        let (number, place, t) = match &reference {
+            Ok(t) => (0, 0, t),
+            Err(refusal) => (refusal.number, refusal.place, &none),
+        };
+        let h = t.header;
+        let wanted = Read { number, place, zones: h.zones, borders: h.borders, rows: h.rows };
+        self.count("read", number);
+        if found != wanted {
+            let details = format!("library {found:?}\nreference {wanted:?}\nroom {room:?}");
+            self.fail("keravnoth_read", &details, text);
+        }
+        let fault = z
+            .fault("z", &t.z)
+            .or_else(|| b.fault("b", &t.b))
+            .or_else(|| c.fault("c", &t.c))
+            .or_else(|| f.fault("f", &t.f))
+            .or_else(|| lent_text.fault("text", &[]));
+        if let Some(fault) = fault {
+            let details = format!("{fault}\nboth answer {wanted:?}\nroom {room:?}");
+            self.fail("keravnoth_read", &details, text);
+        }
+        reference
+    }
+
+    fn text_call(
+        &mut self,
+        call: &str,
+        found: Written,
+        out: &Lent<u8>,
+        reference: &Result<Vec<u8>, Refusal>,
+        fault: Option<String>,
+        shown: &dyn Fn() -> Vec<u8>,
+    ) {
+        let (number, place, text): (u32, usize, &[u8]) = match reference {
+            Ok(text) => (0, 0, text),
+            Err(refusal) => (refusal.number, refusal.place, &[]),
+        };
+        let wanted = Written { number, place, bytes: text.len() };
+        self.count(call, number);
+        if found != wanted {
+            let details = format!(
+                "library {found:?}\nreference {wanted:?}\nroom {}\nlibrary's text:\n{}\nreference's text:\n{}",
+                out.count,
+                out.part()[..found.bytes.min(out.count)].escape_ascii(),
+                text.escape_ascii()
+            );
+            self.fail(call, &details, &shown());
+        }
+        if let Some(fault) = out.fault("out", text).or(fault) {
+            let details = format!(
+                "{fault}\nboth answer {wanted:?}\nlibrary's text:\n{}\nreference's text:\n{}",
+                out.part()[..text.len()].escape_ascii(),
+                text.escape_ascii()
+            );
+            self.fail(call, &details, &shown());
+        }
+    }
+
+    fn write(&mut self, d: &mut Dice, l: &LentTables, room: usize) -> Result<Vec<u8>, Refusal> {
+        let mut out = Lent::room(d, room);
+        let found = calls::write(l.header(), l.z.part(), l.b.part(), l.c.part(), l.f.part(), out.part_mut());
+        let reference = second::write(l.header, l.z.part(), l.b.part(), l.c.part(), l.f.part(), room);
+        self.text_call("keravnoth_write", found, &out, &reference, l.fault(), &|| l.shown());
+        reference
+    }
+
+    fn result_text(&mut self, d: &mut Dice, l: &LentTables, room: usize) -> Result<Vec<u8>, Refusal> {
+        let mut out = Lent::room(d, room);
+        let found = calls::result_text(l.header(), l.z.part(), l.b.part(), l.c.part(), l.f.part(), out.part_mut());
+        let reference = second::result_text(l.header, l.z.part(), l.b.part(), l.c.part(), l.f.part(), room);
+        self.text_call("keravnoth_result_text", found, &out, &reference, l.fault(), &|| l.shown());
+        reference
+    }
+
+    /// `answer` is the reference's answer to the text.
+    fn answer(&mut self, d: &mut Dice, text: &[u8], answer: &[u8], room: usize) {
+        let lent_text = Lent::holding(d, text, text.len());
+        let mut out = Lent::room(d, room);
+        let found = calls::answer(lent_text.part(), out.part_mut());
+        let reference = if room < answer.len() {
+            Err(Refusal { number: 8, place: answer.len() })
+        } else {
+            Ok(answer.to_vec())
+        };
+        let fault = lent_text.fault("text", &[]);
+        if reference.is_ok() && answer[0] == b'E' {
+            // "E", tab, number
+            let number = usize::from(answer[2] - b'0');
+            self.numbers[number] += 1;
+            self.see(&format!("answer E {number}"));
+        }
+        self.text_call("keravnoth_answer", found, &out, &reference, fault, &|| text.to_vec());
+    }
+
+    fn extract(&mut self, d: &mut Dice, l: &LentTables, room: [usize; 2]) -> Result<Outcome, Refusal> {
+        let mut atc = Lent::room(d, room[0]);
+        let mut left = Lent::room(d, room[1]);
+        let found = calls::extract(
+            l.header(),
+            l.z.part(),
+            l.b.part(),
+            l.c.part(),
+            l.f.part(),
+            atc.part_mut(),
+            left.part_mut(),
+        );
+        let reference =
+            second::extract(l.header, l.z.part(), l.b.part(), l.c.part(), l.f.part(), room[0], room[1]);
+        let mut wanted_atc: Vec<[i64; 1]> = Vec::new();
+        let mut wanted_left: Vec<[i64; 3]> = Vec::new();
+        let wanted = match &reference {
+            Ok(o) => {
+                wanted_atc.extend(o.atc.iter().map(|mw| [*mw as i64]));
+                wanted_left.extend(o.rows.iter().map(|row| {
+                    [i64::from(row.state), row.ram as i64, row.left.map_or(-1, |margin| margin as i64)]
+                }));
+                Extracted { number: 0, place: 0, rounds: o.rounds }
+            }
+            Err(refusal) => Extracted { number: refusal.number, place: refusal.place, rounds: 0 },
+        };
+        self.count("extract", wanted.number);
+        if found != wanted {
+            let details = format!("library {found:?}\nreference {wanted:?}\nroom {room:?}");
+            self.fail("keravnoth_extract", &details, &l.shown());
+        }
+        let fault = atc
+            .fault("atc", &wanted_atc)
+            .or_else(|| left.fault("left", &wanted_left))
+            .or_else(|| l.fault());
+        if let Some(fault) = fault {
+            let details = format!("{fault}\nboth answer {wanted:?}\nroom {room:?}");
+            self.fail("keravnoth_extract", &details, &l.shown());
+        }
+        if let Ok(outcome) = &reference {
+            self.demand_3(d, l, found, atc.part(), left.part(), outcome);
+        }
+        reference
+    }
+
+    // ----------------------------------------------------------- demand 3
+
+    /// Exchanges up to the library's own ATCs load no kept row beyond its RAM;
+    /// the library's own rounds are at most 2 N L.
+    fn demand_3(
+        &mut self,
+        d: &mut Dice,
+        l: &LentTables,
+        found: Extracted,
+        atc: &[[i64; 1]],
+        left: &[[i64; 3]],
+        outcome: &Outcome,
+    ) {
+        let bound = 2 * outcome.n_most as u64 * u64::from(outcome.l_bits);
+        if found.rounds > bound || found.rounds > 3_840 {
+            self.fail("keravnoth_extract", &format!("{} rounds, over 2 N L = {bound}", found.rounds), &l.shown());
+        }
+        let borders = l.header.borders;
+        let tops: Vec<i64> = (0..borders).map(|border| atc[border][0] * 1_000).collect();
+        self.within_margins(l, left, &tops);
+        for border in 0..borders {
+            let mut alone = vec![0; borders];
+            alone[border] = tops[border];
+            self.within_margins(l, left, &alone);
+        }
+        for _ in 0..4 {
+            let exchanges: Vec<i64> = tops
+                .iter()
+                .map(|top| match d.below(4) {
+                    0 => 0,
+                    1 => *top,
+                    _ => d.within(0, *top),
+                })
+                .collect();
+            self.within_margins(l, left, &exchanges);
+        }
+        // for one row: the borders that load it at the top, the others at 0
+        for _ in 0..4 {
+            let row = d.below(l.header.rows);
+            let exchanges: Vec<i64> = (0..borders)
+                .map(|border| if difference(l, row, border) > 0 { tops[border] } else { 0 })
+                .collect();
+            self.within_margins(l, left, &exchanges);
+        }
+    }
+
+    fn within_margins(&mut self, l: &LentTables, left: &[[i64; 3]], exchanges: &[i64]) {
+        self.exchanges += 1;
+        for row in 0..l.header.rows {
+            let [state, ram, _] = left[row];
+            if state != 0 {
+                continue;
+            }
+            let mut load: i128 = 0;
+            for (border, exchange) in exchanges.iter().enumerate() {
+                load += i128::from(difference(l, row, border)) * i128::from(*exchange);
+            }
+            if load > i128::from(ram) {
+                let details = format!("exchanges {exchanges:?} kW load row {row} with {load} grains, RAM {ram}");
+                self.fail("keravnoth_extract", &details, &l.shown());
+            }
+        }
+    }
+
+    // -------------------------------------------------------------- one table
+
+    fn table(&mut self, number: u64) {
+        self.kind = "table";
+        self.number = number;
+        let mut dice = Dice::for_case(self.seed, 1, number);
+        let d = &mut dice;
+        let (t, aim) = make::table(d);
+        let h = t.header;
+        let text = damage::plain_text(&t);
+        let needed = [h.zones, h.borders, h.rows, h.rows * h.zones];
+        let heavy = h.borders * h.rows > 1_500;
+        self.see(&format!("aim {aim:?}"));
+        self.sizes(h);
+
+        // reading, and the answer from text to text
+        let room = with_extra(d, needed);
+        let reading = self.read(d, &text, room);
+        let answer = second::answer(&text);
+        let room = answer.len() + d.below(4);
+        self.answer(d, &text, &answer, room);
+
+        // the same on lent tables
+        let counts = with_extra(d, needed);
+        let l = LentTables::new(d, &t, counts);
+        let room = text.len() + d.below(4);
+        let written = self.write(d, &l, room);
+        let room = [h.borders + d.below(3), h.rows + d.below(3)];
+        let outcome = self.extract(d, &l, room);
+        let result_room = answer.len() + d.below(4);
+        let result = self.result_text(d, &l, result_room);
+
+        // round trips: the library's own bytes and numbers are those of the
+        // reference by now, so the reference's say it for both
+        match &reading {
+            Ok(read_tables) => {
+                self.see("round trip");
+                if *read_tables != t {
+                    self.fail("keravnoth_read", "a table written and read again is another", &text);
+                }
+                if written.as_ref() != Ok(&text) {
+                    self.fail("keravnoth_write", "a text read and written again is another", &text);
+                }
+            }
+            Err(refusal) => {
+                if refusal.number != 4 {
+                    self.fail("keravnoth_read", "a table within its ranges is refused", &text);
+                }
+            }
+        }
+        match &outcome {
+            Ok(outcome) => {
+                self.accepted += 1;
+                self.features(&t, outcome);
+                // the answer from the text is the result text of the tables
+                if result.as_ref() != Ok(&answer) {
+                    self.fail("keravnoth_answer", "the answer is not the result text", &text);
+                }
+            }
+            Err(refusal) => {
+                if refusal.number == 7 && t.c.iter().all(|r| r[5] == 0 && r[6] == 0) {
+                    self.fail("keravnoth_extract", "refusal 7 without CVA and IVA", &text);
+                }
+            }
+        }
+
+        // room that is too short
+        self.short_reading(d, &text, needed);
+        self.short_answer(d, &text, &answer);
+        let room = match d.below(3) {
+            0 => 0,
+            1 => d.below(text.len()),
+            _ => text.len() - 1,
+        };
+        let _ = self.write(d, &l, room);
+        if !heavy || d.one_in(4) {
+            let room = match d.below(4) {
+                0 => [h.borders - 1, h.rows],
+                1 => [h.borders, h.rows - 1],
+                2 => [h.borders - 1, h.rows - 1],
+                _ => [d.below(h.borders + 1), d.below(h.rows + 1)],
+            };
+            let _ = self.extract(d, &l, room);
+            let room = match d.below(3) {
+                0 => 0,
+                1 => d.below(answer.len()),
+                _ => answer.len() - 1,
+            };
+            let _ = self.result_text(d, &l, room);
+        }
+
+        // lent tables that are too short, records and headers that are bad
+        let times = if heavy { 1 } else { 3 };
+        for _ in 0..times {
+            self.bad_tables(d, &t, needed);
+        }
+    }
+
+    fn short_reading(&mut self, d: &mut Dice, text: &[u8], needed: [usize; 4]) {
+        let mut room = needed;
+        match d.below(4) {
+            0 => room = [0; 4],
+            1 => room = room.map(|items| d.below(items + 2)),
+            _ => {
+                // one, and sometimes a second
+                room[d.below(4)] -= 1;
+                if d.one_in(3) {
+                    let other = d.below(4);
+                    room[other] = room[other].saturating_sub(1);
+                }
+            }
+        }
+        self.see_short("read", needed, room);
+        // reading judges the text first, whatever the room
+        let _ = self.read(d, text, room);
+    }
+
+    fn short_answer(&mut self, d: &mut Dice, text: &[u8], answer: &[u8]) {
+        let room = match d.below(3) {
+            0 => 0,
+            1 => d.below(answer.len()),
+            _ => answer.len() - 1,
+        };
+        self.answer(d, text, answer, room);
+    }
+
+    /// Which lent buffer is the first short one.
+    fn see_short(&mut self, call: &str, needed: [usize; 4], counts: [usize; 4]) {
+        for (kind, name) in ["z", "b", "c", "f"].into_iter().enumerate() {
+            if counts[kind] < needed[kind] {
+                self.see(&format!("{call} short {name}"));
+                return;
+            }
+        }
+    }
+
+    /// Bad records, a bad header, short tables, short room: some of them.
+    fn bad_tables(&mut self, d: &mut Dice, t: &Tables, needed: [usize; 4]) {
+        let mut bad = t.clone();
+        let mut counts = with_extra(d, needed);
+        let with = 1 + d.below(15);
+        if with & 1 != 0 {
+            for _ in 0..1 + d.below(2) {
+                damage::damage_record(d, &mut bad);
+            }
+        }
+        if with & 2 != 0 && d.one_in(2) {
+            damage::damage_header(d, &mut bad.header);
+        }
+        if with & 4 != 0 && d.one_in(2) {
+            match d.below(6) {
+                0 => counts = [0; 4],
+                1 => counts = counts.map(|items| d.below(items + 1)),
+                2 | 3 => {
+                    for kind in 0..4 {
+                        if d.one_in(2) {
+                            counts[kind] = needed[kind] - 1;
+                        }
+                    }
+                }
+                _ => {
+                    let kind = d.below(4);
+                    counts[kind] = needed[kind] - 1;
+                }
+            }
+        }
+        let short_room = with & 8 != 0 && d.one_in(2);
+        let h = bad.header;
+        let l = LentTables::new(d, &bad, counts);
+        self.see_short("lent", needed, counts);
+
+        let length = if short_room { d.below(60) } else { 40_000 };
+        match d.below(3) {
+            0 => {
+                // a buffer of 40,000 marks is dear: the exact length where it is known
+                let length = if short_room {
+                    length
+                } else {
+                    match second::write(h, l.z.part(), l.b.part(), l.c.part(), l.f.part(), usize::MAX) {
+                        Ok(text) => text.len() + d.below(3),
+                        Err(_) => d.below(60),
+                    }
+                };
+                let written = self.write(d, &l, length);
+                self.see_bad(&bad, written.err());
+            }
+            1 => {
+                let room = if short_room {
+                    [d.below(3), d.below(3)]
+                } else {
+                    [h.borders.min(40), h.rows.min(200)]
+                };
+                let outcome = self.extract(d, &l, room);
+                self.see_bad(&bad, outcome.err());
+            }
+            _ => {
+                let length = if short_room { length } else { 90 + 30 * (h.borders.min(40) + h.rows.min(200)) };
+                let result = self.result_text(d, &l, length);
+                self.see_bad(&bad, result.err());
+            }
+        }
+    }
+
+    /// Which kind of record was refused.
+    fn see_bad(&mut self, bad: &Tables, refusal: Option<Refusal>) {
+        let Some(Refusal { number: 3, place }) = refusal else { return };
+        let h = bad.header;
+        let kind = if place == 1 {
+            "H"
+        } else if place < 2 + h.zones {
+            "Z"
+        } else if place < 2 + h.zones + h.borders {
+            "B"
+        } else {
+            "C"
+        };
+        self.see(&format!("lent 3 {kind}"));
+    }
+
+    fn sizes(&mut self, h: Header) {
+        if h.zones == 16 {
+            self.see("16 zones");
+        }
+        if h.borders == 40 {
+            self.see("40 borders");
+        }
+        if h.rows == 200 {
+            self.see("200 rows");
+        }
+        if (h.zones, h.borders, h.rows) == (16, 40, 200) {
+            self.see("full size");
+        }
+        if (h.zones, h.borders, h.rows) == (2, 1, 1) {
+            self.see("least size");
+        }
+    }
+
+    /// What an accepted table shows.
+    fn features(&mut self, t: &Tables, o: &Outcome) {
+        self.most_rounds = self.most_rounds.max(o.rounds);
+        let h = t.header;
+        if (h.zones, h.borders, h.rows) == (16, 40, 200) {
+            self.see("accepted, full size");
+        }
+        match o.rounds {
+            0 => self.see("accepted, no round"),
+            1..=9 => self.see("accepted, rounds 1 to 9"),
+            10..=99 => self.see("accepted, rounds 10 to 99"),
+            100..=499 => self.see("accepted, rounds 100 to 499"),
+            500..=999 => self.see("accepted, rounds 500 to 999"),
+            _ => self.see("accepted, rounds from 1000"),
+        }
+        if o.rows.iter().any(|row| row.state == 1) {
+            self.see("accepted, a row of state 1");
+        }
+        if o.rows.iter().any(|row| row.state == 2) {
+            self.see("accepted, a row of state 2");
+        }
+        if t.c.iter().any(|r| r[4] == -1) {
+            self.see("accepted, R \"-\"");
+        }
+        if t.c.iter().zip(&o.rows).any(|(r, row)| row.state == 0 && r[5] + r[6] > 0) {
+            self.see("accepted, CVA or IVA on a kept row");
+        }
+        if o.rows.iter().any(|row| row.ram < 0) {
+            self.see("accepted, a RAM below 0");
+        }
+        if t.b.iter().any(|b| b[2] > 0) {
+            self.see("accepted, an LTA");
+        }
+        if o.atc.iter().any(|atc| *atc > u64::from(u32::MAX)) {
+            self.see("accepted, an ATC over 32 bits");
+        }
+        let zones = h.zones;
+        for row in 0..h.rows {
+            let own = &t.f[row * zones..(row + 1) * zones];
+            let spread = own.iter().max().unwrap() - own.iter().min().unwrap();
+            if spread == 5_000 {
+                self.see("accepted, spread 5000");
+            }
+            if spread == 4_999 {
+                self.see("accepted, spread 4999");
+            }
+            if o.rows[row].state != 2 || h.rows > 40 {
+                continue;
+            }
+            // an equal RAM at a lower index and no lower RAM, or a lower RAM at a higher index
+            let parallel = |other: &usize| {
+                let by = t.f[other * zones] - own[0];
+                (0..zones).all(|zone| t.f[other * zones + zone] - own[zone] == by)
+            };
+            let ram = o.rows[row].ram;
+            let others: Vec<usize> = (0..h.rows).filter(|other| *other != row && parallel(other)).collect();
+            if others.iter().all(|other| o.rows[*other].ram >= ram) {
+                self.see("accepted, state 2 by a tie");
+            }
+            if others.iter().all(|other| *other > row) {
+                self.see("accepted, state 2 by a later row");
+            }
+            if others.iter().any(|other| t.f[other * zones] != own[0]) {
+                self.see("accepted, state 2 with factors moved");
+            }
+        }
+        let kept: Vec<usize> = (0..h.rows).filter(|row| o.rows[*row].state == 0).collect();
+        let loads = |row: usize, b: &[i64; 3]| t.f[row * zones + b[0] as usize] > t.f[row * zones + b[1] as usize];
+        if kept.iter().any(|row| !t.b.iter().any(|b| loads(*row, b))) {
+            self.see("accepted, a kept row that no border loads");
+        }
+    }
+
+    // ------------------------------------------------------- one damaged text
+
+    fn text(&mut self, number: u64) {
+        self.kind = "damaged text";
+        self.number = number;
+        self.texts += 1;
+        let mut dice = Dice::for_case(self.seed, 2, number);
+        let d = &mut dice;
+        // full-size texts are dear here: one in ten of them is taken
+        let mut t = make::table(d).0;
+        while t.header.rows > 40 && !d.one_in(10) {
+            t = make::table(d).0;
+        }
+        let mut text = damage::plain_text(&t);
+        damage::damage(d, &mut text, t.header.zones);
+        match text.len() {
+            65_536 => self.see("text of 65,536 bytes"),
+            65_537 => self.see("text of 65,537 bytes"),
+            0 => self.see("empty text"),
+            _ => {}
+        }
+        let reference = second::read(&text, [usize::MAX; 4]);
+        let h = match &reference {
+            Ok(tables) => tables.header,
+            Err(_) => t.header,
+        };
+        let needed = [h.zones, h.borders, h.rows, h.rows * h.zones];
+        let room = match d.below(4) {
+            0 => [0; 4],
+            1 => needed.map(|items| d.below(items + 2)),
+            _ => with_extra(d, needed),
+        };
+        let reading = self.read(d, &text, room);
+        if let Err(Refusal { number: number @ (2 | 3), place }) = reading {
+            self.see_line(&t, number, place);
+        }
+        let answer = second::answer(&text);
+        let short = d.one_in(8);
+        let room = if short { d.below(answer.len()) } else { answer.len() + d.below(4) };
+        self.answer(d, &text, &answer, room);
+        if let Ok(tables) = &reference {
+            self.see("damaged text that is taken");
+            let counts = with_extra(d, needed);
+            let l = LentTables::new(d, tables, counts);
+            let written = self.write(d, &l, text.len());
+            if written.as_ref() != Ok(&text) {
+                self.fail("keravnoth_write", "a text read and written again is another", &text);
+            }
+        }
+    }
+
+    /// Which kind of line was refused, as the undamaged text has it.
+    fn see_line(&mut self, t: &Tables, number: u32, place: usize) {
+        let h = t.header;
+        let kind = if place == 1 {
+            "H"
+        } else if place < 2 + h.zones {
+            "Z"
+        } else if place < 2 + h.zones + h.borders {
+            "B"
+        } else if place < 2 + h.zones + h.borders + h.rows {
+            "C"
+        } else {
+            "after the last"
+        };
+        self.see(&format!("text {number} at line {kind}"));
+    }
+}
+
+/// From factor less to factor.
+fn difference(l: &LentTables, row: usize, border: usize) -> i64 {
+    let own = &l.f.part()[row * l.header.zones..];
+    let [from, to, _] = l.b.part()[border];
+    own[from as usize] - own[to as usize]
+}
+
+/// As many items as needed, and often a few more.
+fn with_extra(d: &mut Dice, needed: [usize; 4]) -> [usize; 4] {
+    if d.one_in(2) {
+        return needed;
+    }
+    needed.map(|items| items + d.below(4))
+}
+
+// ------------------------------------------------------- what must be reached
+
+/// Cases that a run of the default size reaches at least so often.
+fn wanted() -> Vec<(String, u64)> {
+    let mut list: Vec<(String, u64)> = Vec::new();
+    let mut add = |name: &str, count: u64| list.push((name.to_string(), count));
+    for (call, numbers) in [
+        ("read", &[0u32, 1, 2, 3, 4, 8][..]),
+        ("keravnoth_write", &[0, 3, 4, 8]),
+        ("extract", &[0, 3, 4, 5, 6, 7, 8]),
+        ("keravnoth_result_text", &[0, 3, 4, 5, 6, 7, 8]),
+        ("keravnoth_answer", &[0, 8]),
+    ] {
+        for number in numbers {
+            add(&format!("{call} {number}"), 100);
+        }
+    }
+    for number in 1..=7 {
+        add(&format!("answer E {number}"), 100);
+    }
+    for kind in ["H", "Z", "B", "C"] {
+        add(&format!("lent 3 {kind}"), 200);
+        add(&format!("text 2 at line {kind}"), 100);
+        add(&format!("text 3 at line {kind}"), 100);
+    }
+    add("text 2 at line after the last", 100);
+    for name in ["z", "b", "c", "f"] {
+        add(&format!("read short {name}"), 200);
+        add(&format!("lent short {name}"), 200);
+    }
+    add("round trip", 10_000);
+    add("16 zones", 50);
+    add("40 borders", 50);
+    add("200 rows", 40);
+    add("full size", 10);
+    add("least size", 20);
+    add("accepted, full size", 5);
+    add("accepted, no round", 200);
+    add("accepted, rounds 1 to 9", 500);
+    add("accepted, rounds 10 to 99", 500);
+    add("accepted, rounds 100 to 499", 50);
+    add("accepted, rounds 500 to 999", 10);
+    add("accepted, rounds from 1000", 10);
+    add("accepted, a row of state 1", 500);
+    add("accepted, a row of state 2", 500);
+    add("accepted, state 2 by a tie", 200);
+    add("accepted, state 2 by a later row", 200);
+    add("accepted, state 2 with factors moved", 200);
+    add("accepted, R \"-\"", 500);
+    add("accepted, CVA or IVA on a kept row", 200);
+    add("accepted, a RAM below 0", 10);
+    add("accepted, an LTA", 500);
+    add("accepted, an ATC over 32 bits", 50);
+    add("accepted, spread 5000", 200);
+    add("accepted, spread 4999", 200);
+    add("accepted, a kept row that no border loads", 50);
+    add("text of 65,536 bytes", 20);
+    add("text of 65,537 bytes", 20);
+    add("empty text", 10);
+    add("damaged text that is taken", 500);
+    list
+}
+
+/// What a run of this size is to reach of a number for the default size; at
+/// least once whatever the size, so a very small run fails here by rights.
+fn share_of(count: u64, size: u64) -> u64 {
+    (count * size / (TABLES + TEXTS)).clamp(1, count)
+}
+
+fn number(text: &str) -> Option<u64> {
+    match text.strip_prefix("0x") {
+        Some(hex) => u64::from_str_radix(hex, 16).ok(),
+        None => text.parse().ok(),
+    }
+}
+
+fn main() {
+    let mut given = [TABLES, TEXTS, SEED];
+    for (index, argument) in std::env::args().skip(1).enumerate() {
+        match number(&argument) {
+            Some(value) if index < 3 => given[index] = value,
+            _ => {
+                eprintln!("arguments: tables, damaged texts, seed; each a number, each may be left out");
+                std::process::exit(2);
+            }
+        }
+    }
+    let [tables, texts, seed] = given;
+    println!("seed {seed}, {tables} tables, {texts} damaged texts");
+    let mut c = Comparison {
+        seed,
+        kind: "",
+        number: 0,
+        calls: 0,
+        texts: 0,
+        accepted: 0,
+        exchanges: 0,
+        most_rounds: 0,
+        numbers: [0; 9],
+        seen: BTreeMap::new(),
+    };
+    let each = std::env::var_os("SHOW_EACH").is_some();
+    for number in 0..tables.max(texts) {
+        if each {
+            println!("table and damaged text {number}");
+        }
+        if number < tables {
+            c.table(number);
+        }
+        if number < texts {
+            c.text(number);
+        }
+    }
+
+    if std::env::var_os("SHOW_CASES").is_some() {
+        for (name, count) in &c.seen {
+            println!("  {count:8}  {name}");
+        }
+    }
+    let size = tables + texts;
+    let mut missed = Vec::new();
+    for (name, count) in wanted() {
+        let reached = c.seen.get(&name).copied().unwrap_or(0);
+        if reached < share_of(count, size) {
+            missed.push(format!("{name}: {reached}, wanted {}", share_of(count, size)));
+        }
+    }
+    for number in 1..=8 {
+        if c.numbers[number] < share_of(300, size) {
+            missed.push(format!("refusal {number}: {}, wanted {}", c.numbers[number], share_of(300, size)));
+        }
+    }
+    if c.accepted * 5 < tables * 2 {
+        missed.push(format!("accepted: {} of {tables} tables, wanted two fifths", c.accepted));
+    }
+    let refusals: Vec<String> =
+        (1..=8).map(|number| format!("{number}: {}", c.numbers[number])).collect();
+    println!(
+        "no difference: {} of {tables} tables accepted; calls by refusal {}; {} texts, {} calls compared, {} sets of exchanges within RAM, most rounds {}",
+        c.accepted,
+        refusals.join(", "),
+        c.texts,
+        c.calls,
+        c.exchanges,
+        c.most_rounds
+    );
+    assert!(missed.is_empty(), "cases not reached often enough: {}", missed.join("; "));
+}

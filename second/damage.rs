@@ -1,0 +1,386 @@
+//! Good texts and good lent tables made bad, in a few places.
+#![allow(dead_code)]
+
+use crate::dice::Dice;
+use crate::second::{Header, Tables};
+
+/// The table as text, without judging it: any number as it is.
+pub fn plain_text(t: &Tables) -> Vec<u8> {
+    let h = t.header;
+    let mut s = format!("H\t{}\t{}\t{}\n", h.zones, h.borders, h.rows);
+    for (i, position) in t.z.iter().enumerate() {
+        s += &format!("Z\t{i}\t{position}\n");
+    }
+    for (i, [from, to, lta]) in t.b.iter().enumerate() {
+        s += &format!("B\t{i}\t{from}\t{to}\t{lta}\n");
+    }
+    for (i, [fmax, frm, fref, f0all, r, cva, iva]) in t.c.iter().enumerate() {
+        let r = if *r == -1 { "-".to_string() } else { r.to_string() };
+        s += &format!("C\t{i}\t{fmax}\t{frm}\t{fref}\t{f0all}\t{r}\t{cva}\t{iva}");
+        let stretch = t.f.iter().skip(i.saturating_mul(h.zones)).take(h.zones);
+        for factor in stretch {
+            s += &format!("\t{factor}");
+        }
+        s += "\n";
+    }
+    s.into_bytes()
+}
+
+// ------------------------------------------------------------ damaged texts
+
+fn lines_of(text: &[u8]) -> Vec<Vec<u8>> {
+    text.split_inclusive(|byte| *byte == b'\n').map(|line| line.to_vec()).collect()
+}
+
+fn fields_of(line: &[u8]) -> Vec<Vec<u8>> {
+    let body = line.strip_suffix(b"\n").unwrap_or(line);
+    body.split(|byte| *byte == b'\t').map(|field| field.to_vec()).collect()
+}
+
+fn line_from(fields: &[Vec<u8>]) -> Vec<u8> {
+    let mut line = fields.join(&b'\t');
+    line.push(b'\n');
+    line
+}
+
+/// The ends of the range of a field and the numbers next to them.
+fn ends(d: &mut Dice, letter: &[u8], place: usize, fields: &[Vec<u8>], zones: i64) -> i64 {
+    let fmax = fields.get(2).and_then(|f| std::str::from_utf8(f).ok()).and_then(|s| s.parse().ok());
+    let fmax: i64 = fmax.unwrap_or(1);
+    let (low, high) = match (letter, place) {
+        (b"H", 1) => (2, 16),
+        (b"H", 2) => (1, 40),
+        (b"H", 3) => (1, 200),
+        (b"Z", 2) => (-100_000_000, 100_000_000),
+        (b"B", 2 | 3) => (0, zones - 1),
+        (b"B", 4) => (0, 10_000),
+        (b"C", 2) => (1, 10_000_000),
+        (b"C", 3) => (0, fmax),
+        (b"C", 4 | 5) => (-20_000_000, 20_000_000),
+        (b"C", 6) => (0, 10_000),
+        (b"C", 7 | 8) => (0, 10_000_000),
+        (b"C", place) if place >= 9 => (-100_000, 100_000),
+        _ => (0, 3),
+    };
+    d.of(&[low - 1, low, low + 1, high - 1, high, high + 1])
+}
+
+/// Numbers that are out of range nearly everywhere, and numbers that wrap.
+const FAR: [&str; 14] = [
+    "9999999999",
+    "-9999999999",
+    "4294967296",
+    "4294967297",
+    "4294967295",
+    "2147483648",
+    "-2147483648",
+    "-2147483649",
+    "1000000000",
+    "10000001",
+    "-100000001",
+    "100001",
+    "-100001",
+    "10001",
+];
+
+/// Numbers of 11 digits and more; the last ones wrap in 64 bits.
+const LONG: [&str; 10] = [
+    "10000000000",
+    "99999999999",
+    "00000000000",
+    "00000000001",
+    "-10000000000",
+    "-99999999999",
+    "18446744073709551616",
+    "18446744073709551617",
+    "-18446744073709551615",
+    "340282366920938463463374607431768211457",
+];
+
+const BYTES: &[u8] = b"0123456789-\t\n \r+.,HZBCAERhzbc_e\x00\x0b\x80\xff/:";
+
+/// A place in a line with at least two fields: line, field.
+fn some_field(d: &mut Dice, lines: &[Vec<u8>]) -> Option<(usize, usize)> {
+    for _ in 0..8 {
+        let line = d.below(lines.len());
+        let fields = fields_of(&lines[line]);
+        if fields.len() > 1 {
+            let field = 1 + d.below(fields.len() - 1);
+            return Some((line, field));
+        }
+    }
+    None
+}
+
+fn in_a_field(d: &mut Dice, text: &mut Vec<u8>, zones: i64) {
+    let mut lines = lines_of(text);
+    if lines.is_empty() {
+        return;
+    }
+    let Some((mut line, mut field)) = some_field(d, &lines) else { return };
+    // in one of eight: the header or the last line
+    if d.one_in(8) {
+        line = d.of(&[0, lines.len() - 1]);
+        let count = fields_of(&lines[line]).len();
+        if count < 2 {
+            return;
+        }
+        field = 1 + d.below(count - 1);
+    }
+    let mut fields = fields_of(&lines[line]);
+    let letter = fields[0].clone();
+    match d.below(19) {
+        0..=5 => {
+            let end = ends(d, &letter, field, &fields, zones);
+            fields[field] = end.to_string().into_bytes();
+        }
+        6 => fields[field] = d.of(&FAR).as_bytes().to_vec(),
+        7 => fields[field] = d.of(&LONG).as_bytes().to_vec(),
+        8 => {
+            // a leading zero, after a minus if there is one
+            let at = usize::from(fields[field].first() == Some(&b'-'));
+            fields[field].insert(at, b'0');
+        }
+        9 => fields[field].insert(0, b'-'),
+        10 | 11 => fields[field] = d.of(&["-", "-0"]).as_bytes().to_vec(),
+        12 | 13 => {
+            const ODD: [&str; 11] =
+                ["", "00", "+5", "-5", "--5", "5-", " 5", "5 ", "0x1", "1e3", "7.0"];
+            fields[field] = d.of(&ODD).as_bytes().to_vec();
+        }
+        14 => {
+            fields.remove(field);
+        }
+        15 => {
+            let more = d.of(&["0", "1", "-", "", "7000"]).as_bytes().to_vec();
+            fields.insert(field, more);
+        }
+        16 => {
+            let other = 1 + d.below(fields.len() - 1);
+            fields.swap(field, other);
+        }
+        17 => {
+            // from equal to to, FRM equal to Fmax, and so on
+            if field + 1 < fields.len() {
+                fields[field + 1] = fields[field].clone();
+            }
+        }
+        _ => {
+            const LETTERS: [&str; 9] = ["H", "Z", "B", "C", "", "c", "CC", "A", "-"];
+            fields[0] = d.of(&LETTERS).as_bytes().to_vec();
+        }
+    }
+    lines[line] = line_from(&fields);
+    *text = lines.concat();
+}
+
+fn in_the_lines(d: &mut Dice, text: &mut Vec<u8>) {
+    let mut lines = lines_of(text);
+    if lines.is_empty() {
+        return;
+    }
+    let one = d.below(lines.len());
+    match d.below(6) {
+        0 => {
+            lines.remove(one);
+        }
+        1 => lines.insert(one, lines[one].clone()),
+        2 => {
+            let other = d.below(lines.len());
+            lines.swap(one, other);
+        }
+        3 => {
+            let other = (one + 1) % lines.len();
+            lines.swap(one, other);
+        }
+        4 => lines.insert(one, b"\n".to_vec()),
+        _ => {
+            // CR before LF
+            let at = lines[one].len().saturating_sub(1);
+            lines[one].insert(at, b'\r');
+        }
+    }
+    *text = lines.concat();
+}
+
+fn at_the_end(d: &mut Dice, text: &mut Vec<u8>) {
+    match d.below(6) {
+        0 | 1 => {
+            text.pop();
+        }
+        2 => text.push(d.of(BYTES)),
+        3 => text.push(b'\n'),
+        4 => {
+            let lines = lines_of(text);
+            if let Some(last) = lines.last() {
+                let more = last.clone();
+                text.extend(more);
+            }
+        }
+        _ => {
+            let keep = d.below(text.len() + 1);
+            text.truncate(keep);
+        }
+    }
+}
+
+fn in_a_byte(d: &mut Dice, text: &mut Vec<u8>) {
+    if text.is_empty() {
+        return;
+    }
+    let at = d.below(text.len());
+    match d.below(3) {
+        0 => text[at] = d.of(BYTES),
+        1 => {
+            text.remove(at);
+        }
+        _ => text.insert(at, d.of(BYTES)),
+    }
+}
+
+/// A text of a length at or just beyond the most that is read.
+fn long(d: &mut Dice, text: &mut Vec<u8>) {
+    let length = d.of(&[65_535, 65_536, 65_536, 65_537, 65_537, 65_537, 65_538, 66_000, 131_072]);
+    match d.below(6) {
+        0 => text.resize(length, b'\n'),
+        1 => text.resize(length, d.of(BYTES)),
+        2 => {
+            // a field of very many digits
+            let at = 1 + d.below(text.len());
+            let more = length.saturating_sub(text.len());
+            let digits = vec![d.of(b"0123456789"); more];
+            text.splice(at..at, digits);
+        }
+        3 => {
+            let mut extra = 0;
+            while text.len() < length {
+                text.extend(format!("C\t{extra}\t1\t0\t0\t0\t-\t0\t0\t0\t0\n").into_bytes());
+                extra += 1;
+            }
+            text.truncate(length);
+        }
+        4 => {
+            text.clear();
+            text.resize(length, b'\n');
+        }
+        _ => {
+            text.clear();
+            for _ in 0..length {
+                text.push(d.of(BYTES));
+            }
+        }
+    }
+}
+
+/// Damages a good text in one to three places.
+pub fn damage(d: &mut Dice, text: &mut Vec<u8>, zones: usize) {
+    if d.one_in(50) {
+        long(d, text);
+        return;
+    }
+    if d.one_in(400) {
+        text.clear();
+        return;
+    }
+    let places = d.of(&[1, 1, 1, 2, 2, 3]);
+    for _ in 0..places {
+        match d.below(12) {
+            0..=2 => in_a_byte(d, text),
+            3..=4 => in_the_lines(d, text),
+            5 => at_the_end(d, text),
+            _ => in_a_field(d, text, zones as i64),
+        }
+    }
+}
+
+// ------------------------------------------------------ damaged lent tables
+
+/// A value for a record: out of range, at an end, or one that wraps.
+fn odd(d: &mut Dice, was: i64, low: i64, high: i64) -> i64 {
+    match d.below(12) {
+        0 => i64::MIN,
+        1 => i64::MAX,
+        2 => d.of(&[-1, -2, -3]),
+        3 | 4 => low - 1,
+        5 | 6 => high + 1,
+        7 => low,
+        8 => high,
+        9 => was.wrapping_add(1 << 32),
+        10 => was.wrapping_sub(1 << 32),
+        _ => d.of(&[i64::MIN + 1, i64::MAX - 1, was ^ (1 << 63), 1 << 31, -(1 << 31), 1 << 32]),
+    }
+}
+
+/// One value of one record changed.
+pub fn damage_record(d: &mut Dice, t: &mut Tables) {
+    let h = t.header;
+    match d.below(10) {
+        0 | 1 => {
+            let i = d.below(t.z.len());
+            t.z[i] = odd(d, t.z[i], -100_000_000, 100_000_000);
+        }
+        2..=4 => {
+            let i = d.below(t.b.len());
+            let place = d.below(3);
+            let last = h.zones as i64 - 1;
+            let high = if place == 2 { 10_000 } else { last };
+            t.b[i][place] = match d.below(6) {
+                0 if place < 2 => t.b[i][1 - place],
+                _ => odd(d, t.b[i][place], 0, high),
+            };
+        }
+        5..=7 => {
+            let i = d.below(t.c.len());
+            let place = d.below(7);
+            let (low, high) = match place {
+                0 => (1, 10_000_000),
+                1 => (0, t.c[i][0].clamp(0, 10_000_000)),
+                2 | 3 => (-20_000_000, 20_000_000),
+                4 => (-1, 10_000),
+                _ => (0, 10_000_000),
+            };
+            t.c[i][place] = odd(d, t.c[i][place], low, high);
+        }
+        8 => {
+            let i = d.below(t.f.len());
+            t.f[i] = odd(d, t.f[i], -100_000, 100_000);
+        }
+        _ => {
+            if t.b.len() > 1 {
+                let later = 1 + d.below(t.b.len() - 1);
+                let earlier = d.below(later);
+                t.b[later][0] = t.b[earlier][0];
+                t.b[later][1] = t.b[earlier][1];
+            }
+        }
+    }
+}
+
+/// A header that is out of range, or in range but not that of the tables.
+pub fn damage_header(d: &mut Dice, header: &mut Header) {
+    let place = d.below(3);
+    let (was, low, high) = match place {
+        0 => (header.zones, 2, 16),
+        1 => (header.borders, 1, 40),
+        _ => (header.rows, 1, 200),
+    };
+    let now = match d.below(12) {
+        0 => 0,
+        1 => low - 1,
+        2 => low,
+        3 => high,
+        4 => high + 1,
+        5 => usize::MAX,
+        6 => usize::MAX - was,
+        7 => was.wrapping_add(1 << 32),
+        8 => was.wrapping_add(1 << 63),
+        9 => was + 1,
+        10 => was - 1,
+        _ => was + 256,
+    };
+    match place {
+        0 => header.zones = now,
+        1 => header.borders = now,
+        _ => header.rows = now,
+    }
+}

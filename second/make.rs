@@ -1,0 +1,362 @@
+//! Tables made at random, within the ranges of the rules: every size, values
+//! at the ends of their ranges, parallel rows, rows around the 5% threshold,
+//! and tables that the extraction turns away.
+#![allow(dead_code)]
+
+use crate::dice::Dice;
+use crate::second::{margin_of, Header, Tables};
+
+/// What a table is made to show.  What it gives in the end is judged by the
+/// reference, not by this name.
+#[derive(Clone, Copy, Debug, PartialEq, Eq)]
+pub enum Aim {
+    /// each border limited by a kept row, no CVA or IVA
+    Taken,
+    /// CVA and IVA eat a row's starting margin to the last whole kW
+    Eaten,
+    /// one kW more than that
+    Overeaten,
+    /// CVA and IVA at random
+    Lifted,
+    /// no care taken that each border is limited
+    Free,
+    /// rows under 5%, a few just at it
+    Narrow,
+    /// one border given twice
+    Twice,
+    /// one border takes a small share of a wide row, the others stand still
+    Slow,
+}
+
+/// How values are drawn.
+#[derive(Clone, Copy, PartialEq, Eq)]
+enum Style {
+    /// near zero
+    Near,
+    /// anywhere in the range
+    Any,
+    /// at the ends of the range or next to them
+    Ends,
+    /// few different values, so that ties are many
+    Few,
+    /// another of these for each value
+    Mixed,
+}
+
+fn value(d: &mut Dice, style: Style, low: i64, high: i64, near: i64) -> i64 {
+    match style {
+        Style::Near => d.within(low.max(-near), high.min(near).max(low)),
+        Style::Any => d.within(low, high),
+        Style::Ends => {
+            let middle = d.within(low, high);
+            let zero = 0i64.clamp(low, high);
+            d.of(&[low, low, (low + 1).min(high), middle, zero, (high - 1).max(low), high, high])
+        }
+        Style::Few => {
+            let some = d.of(&[0, near / 2, near]);
+            some.clamp(low, high)
+        }
+        Style::Mixed => {
+            let style = d.of(&[Style::Near, Style::Any, Style::Ends, Style::Few]);
+            value(d, style, low, high, near)
+        }
+    }
+}
+
+fn sizes(d: &mut Dice) -> Header {
+    let (zones, borders, rows) = match d.below(1000) {
+        0..=549 => (d.within(2, 4), d.within(1, 4), d.within(1, 5)),
+        550..=899 => (d.within(2, 8), d.within(1, 10), d.within(1, 16)),
+        900..=979 => (d.within(2, 16), d.within(1, 40), d.within(1, 40)),
+        // one size at its end, the others small
+        980..=982 => (16, d.within(1, 4), d.within(1, 5)),
+        983..=987 => (d.within(7, 16), 40, d.within(1, 6)),
+        988..=991 => (d.within(2, 4), d.within(1, 4), 200),
+        992..=996 => (d.within(2, 16), d.within(1, 40), d.within(1, 200)),
+        _ => (16, 40, 200),
+    };
+    let borders = borders.min(zones * (zones - 1));
+    Header { zones: zones as usize, borders: borders as usize, rows: rows as usize }
+}
+
+fn net_positions(d: &mut Dice, style: Style, zones: usize) -> Vec<i64> {
+    let mut z: Vec<i64> =
+        (0..zones).map(|_| value(d, style, -100_000_000, 100_000_000, 3_000)).collect();
+    // positions that sum to zero: moving all factors of a row leaves its RAM
+    if d.one_in(2) {
+        for zone in 1..zones {
+            let rest = (-z[..zone].iter().sum::<i64>()).clamp(-100_000_000, 100_000_000);
+            if zone == zones - 1 {
+                z[zone] = rest;
+            }
+        }
+    }
+    z
+}
+
+fn borders(d: &mut Dice, style: Style, zones: usize, count: usize) -> Vec<[i64; 3]> {
+    let small = d.one_in(2);
+    let mut b: Vec<[i64; 3]> = Vec::new();
+    while b.len() < count {
+        let from = d.below(zones) as i64;
+        let to = d.below(zones) as i64;
+        if from == to || b.iter().any(|r| r[0] == from && r[1] == to) {
+            continue;
+        }
+        let lta = if small { d.within(0, 20) } else { value(d, style, 0, 10_000, 100) };
+        b.push([from, to, lta]);
+    }
+    b
+}
+
+/// A row's record without CVA and IVA.
+fn record(d: &mut Dice, style: Style) -> [i64; 7] {
+    let fmax = value(d, style, 1, 10_000_000, 400_000);
+    let frm = match d.below(4) {
+        0 => 0,
+        1 => fmax,
+        _ => value(d, style, 0, fmax, 20_000),
+    };
+    let fref = value(d, style, -20_000_000, 20_000_000, 50_000);
+    let f0all = value(d, style, -20_000_000, 20_000_000, 50_000);
+    let r = match d.below(4) {
+        0 => -1,
+        1 => d.of(&[0, 1, 7_000, 9_999, 10_000]),
+        _ => value(d, style, 0, 10_000, 3_000),
+    };
+    [fmax, frm, fref, f0all, r, 0, 0]
+}
+
+fn moved(values: &[i64], by: i64) -> Vec<i64> {
+    values.iter().map(|value| value + by).collect()
+}
+
+/// A number that moves every value within -100000..100000.
+fn a_move(d: &mut Dice, values: &[i64]) -> i64 {
+    let low = -100_000 - values.iter().min().unwrap();
+    let high = 100_000 - values.iter().max().unwrap();
+    match d.below(4) {
+        0 => 0i64.clamp(low, high),
+        1 => d.of(&[low, high]),
+        _ => d.within(low, high),
+    }
+}
+
+/// The factors of one row.
+fn factors(d: &mut Dice, zones: usize, narrow: bool) -> Vec<i64> {
+    let kind = if narrow { d.of(&[2, 3, 3, 3, 3, 6]) } else { d.of(&[0, 0, 1, 1, 1, 2, 3, 4, 5, 5, 6, 7]) };
+    match kind {
+        0 => (0..zones).map(|_| d.within(-100_000, 100_000)).collect(),
+        1 => (0..zones).map(|_| d.within(-20_000, 20_000)).collect(),
+        2 => {
+            // largest less smallest is exactly the spread
+            let spread = if narrow { d.of(&[4_998, 4_999, 4_999, 4_999]) } else { d.of(&[4_999, 5_000, 5_000, 5_001]) };
+            let mut f: Vec<i64> = (0..zones).map(|_| d.within(0, spread)).collect();
+            let top = d.below(zones);
+            let bottom = (top + 1 + d.below(zones - 1)) % zones;
+            f[top] = spread;
+            f[bottom] = 0;
+            let by = a_move(d, &f);
+            moved(&f, by)
+        }
+        3 => {
+            let f: Vec<i64> = (0..zones).map(|_| d.within(0, 4_999)).collect();
+            let by = a_move(d, &f);
+            moved(&f, by)
+        }
+        4 => (0..zones).map(|_| d.of(&[-100_000, -99_999, -1, 0, 1, 99_999, 100_000])).collect(),
+        5 => {
+            // small differences, and one zone far off
+            let mut f: Vec<i64> = (0..zones).map(|_| d.within(0, 3)).collect();
+            f[d.below(zones)] = d.of(&[-6_000, 5_000, 5_003, 9_000]);
+            let by = a_move(d, &f);
+            moved(&f, by)
+        }
+        6 => vec![d.within(-100_000, 100_000); zones],
+        _ => (0..zones).map(|_| d.of(&[-5_000, 0, 5_000, 10_000])).collect(),
+    }
+}
+
+fn spread(f: &[i64]) -> i64 {
+    f.iter().max().unwrap() - f.iter().min().unwrap()
+}
+
+/// Sees to it, as far as it goes, that each border has p > 0 on a row of 5% or
+/// more.
+fn limit_borders(d: &mut Dice, t: &mut Tables) {
+    let zones = t.header.zones;
+    let rows = t.header.rows;
+    if spread(&t.f[..zones]) < 5_000 {
+        for zone in 0..zones {
+            t.f[zone] = d.within(-30_000, 30_000);
+        }
+    }
+    if rows >= 2 {
+        let last = (rows - 1) * zones;
+        for zone in 0..zones {
+            t.f[last + zone] = -t.f[zone];
+        }
+        return;
+    }
+    for index in 0..t.b.len() {
+        let [from, to, lta] = t.b[index];
+        let given = t.b.iter().any(|r| r[0] == to && r[1] == from);
+        if t.f[from as usize] < t.f[to as usize] && !given {
+            t.b[index] = [to, from, lta];
+        }
+    }
+}
+
+/// Row `row`'s CVA and IVA so that its starting margin is under one kW, or (by
+/// `more`) just below zero.  Left as it is where they cannot be that large.
+fn eat(d: &mut Dice, t: &mut Tables, row: usize, more: i64) {
+    t.c[row][5] = 0;
+    t.c[row][6] = 0;
+    let m = margin_of(t, row);
+    let whole = ((m.ram - m.s) / 100_000) as i64 + more;
+    if whole > 20_000_000 {
+        return;
+    }
+    let low = (whole - 10_000_000).max(0);
+    let cva = d.within(low, whole.min(10_000_000));
+    t.c[row][5] = cva;
+    t.c[row][6] = whole - cva;
+}
+
+fn lift(d: &mut Dice, t: &mut Tables, style: Style) {
+    let small = d.one_in(2);
+    for row in 0..t.header.rows {
+        for place in [5, 6] {
+            t.c[row][place] = match d.below(3) {
+                0 => 0,
+                _ if small => d.within(0, 100),
+                _ => value(d, style, 0, 10_000_000, 2_000),
+            };
+        }
+    }
+}
+
+fn ordinary(d: &mut Dice, aim: Aim) -> Tables {
+    let mut header = sizes(d);
+    if aim == Aim::Twice && header.borders < 2 {
+        header.borders = 2;
+    }
+    let style = d.of(&[Style::Near, Style::Near, Style::Any, Style::Ends, Style::Few, Style::Mixed]);
+    let z = net_positions(d, style, header.zones);
+    let b = borders(d, style, header.zones, header.borders);
+    let parallel = d.of(&[0, 2, 4, 8]);
+    let mut c: Vec<[i64; 7]> = Vec::new();
+    let mut f: Vec<i64> = Vec::new();
+    for row in 0..header.rows {
+        if row > 0 && parallel > 0 && d.one_in(parallel) {
+            let like = d.below(row);
+            let own = f[like * header.zones..(like + 1) * header.zones].to_vec();
+            let by = if d.one_in(2) { 0 } else { a_move(d, &own) };
+            f.extend(moved(&own, by));
+            c.push(match d.below(3) {
+                0 => record(d, style),
+                1 => c[like],
+                _ => {
+                    let mut next = c[like];
+                    next[0] = (next[0] + d.within(-1, 1)).clamp(next[1].max(1), 10_000_000);
+                    next
+                }
+            });
+        } else {
+            f.extend(factors(d, header.zones, aim == Aim::Narrow));
+            c.push(record(d, style));
+        }
+    }
+    let mut t = Tables { header, z, b, c, f };
+    match aim {
+        Aim::Free | Aim::Narrow | Aim::Slow => {
+            if d.one_in(2) {
+                lift(d, &mut t, style);
+            }
+        }
+        Aim::Taken => limit_borders(d, &mut t),
+        Aim::Twice => {
+            let later = 1 + d.below(header.borders - 1);
+            let earlier = d.below(later);
+            t.b[later][0] = t.b[earlier][0];
+            t.b[later][1] = t.b[earlier][1];
+        }
+        Aim::Lifted => {
+            limit_borders(d, &mut t);
+            lift(d, &mut t, style);
+        }
+        Aim::Eaten | Aim::Overeaten => {
+            limit_borders(d, &mut t);
+            let one = d.below(header.rows);
+            for row in 0..header.rows {
+                if row == one || d.one_in(4) {
+                    let more = if aim == Aim::Overeaten && (row == one || d.one_in(2)) { 1 } else { 0 };
+                    eat(d, &mut t, row, more);
+                }
+            }
+        }
+    }
+    t
+}
+
+/// A wide row shared by all borders and with a large margin, of which border 0
+/// takes p; the others are stopped at once by a second row.
+fn slow(d: &mut Dice) -> Tables {
+    let most = d.one_in(3);
+    let zones = if most { 16 } else { 4 + 2 * d.below(7) };
+    let half = zones / 2;
+    let borders = if most { 36 + d.below(5) } else { 2 + d.below((half * half).min(39)) };
+    let more_rows = d.below(3);
+    let header = Header { zones, borders, rows: 2 + more_rows };
+    let position = if most { 100_000_000 } else { d.of(&[1, 1_000, 1_000_000, 100_000_000]) };
+    let z = (0..zones).map(|zone| if zone < half { position } else { -position }).collect();
+    let mut pairs: Vec<(usize, usize)> =
+        (0..half * half).map(|k| (k / half, half + k % half)).collect();
+    let mut b = vec![[0, 1, 0]];
+    while b.len() < borders {
+        let (from, to) = pairs.swap_remove(d.below(pairs.len()));
+        b.push([from as i64, to as i64, 0]);
+    }
+    let small = d.of(&[1, 1, 2, 7, 1_000]);
+    let mut f: Vec<i64> = Vec::new();
+    // the wide row
+    f.extend((0..zones).map(|zone| match zone {
+        1 => 100_000 - small,
+        _ if zone < half => 100_000,
+        _ => -100_000,
+    }));
+    // the row that stops the others
+    f.extend((0..zones).map(|zone| if zone < half { 5_000 } else { 0 }));
+    let mut c = vec![[10_000_000, 0, -20_000_000, 20_000_000, 10_000, 0, 0], [1, 1, 0, -20_000_000, 0, 0, 0]];
+    for _ in 0..more_rows {
+        f.extend((0..zones).map(|zone| match zone {
+            0 => 90_000,
+            1 => 90_000 - d.within(0, 1),
+            _ if zone < half => d.within(10_000, 90_000),
+            _ => d.within(-90_000, -10_000),
+        }));
+        c.push([10_000_000, 0, -20_000_000, 20_000_000, -1, 0, 0]);
+    }
+    let mut t = Tables { header, z, b, c, f };
+    // the second row's flow so that next to nothing is left of it
+    let m = margin_of(&t, 1);
+    let flow = (-m.f0core / 100_000) as i64;
+    t.c[1][2] = flow.clamp(-20_000_000, 20_000_000);
+    eat(d, &mut t, 1, 0);
+    t
+}
+
+pub fn table(d: &mut Dice) -> (Tables, Aim) {
+    let aim = match d.below(100) {
+        0..=46 => Aim::Taken,
+        47..=54 => Aim::Eaten,
+        55..=61 => Aim::Overeaten,
+        62..=70 => Aim::Lifted,
+        71..=81 => Aim::Free,
+        82..=89 => Aim::Narrow,
+        90..=96 => Aim::Twice,
+        _ => Aim::Slow,
+    };
+    let t = if aim == Aim::Slow { slow(d) } else { ordinary(d, aim) };
+    (t, aim)
+}

@@ -1,0 +1,1033 @@
+//! Reference calculator: from one hour's table to row margins, row states and
+//! fallback capacities (ATCs).  Written from the exact rules alone, in the
+//! plainest form, to be compared with another program.  Quoted sentences in
+//! the comments are those of the rules.
+//!
+//! All margin arithmetic is in i128 grains.
+#![allow(dead_code)]
+
+/// "1 | more than 65,536 bytes"
+pub const MOST_BYTES: usize = 65_536;
+/// "a kW is 100,000 grains"
+pub const GRAINS_PER_KW: i128 = 100_000;
+/// LTA is given in MW, exchanges are in kW.
+pub const KW_PER_MW: i128 = 1_000;
+/// How a record holds R where "-" was written.
+pub const R_DASH: i64 = -1;
+/// "\"-\" is allowed in R only and means 7000."
+pub const R_DASH_MEANS: i128 = 7_000;
+/// "largest zone factor less smallest is under 5000"
+pub const SPREAD_KEPT: i64 = 5_000;
+
+// Places of the values in a C record.
+const FMAX: usize = 0;
+const FRM: usize = 1;
+const FREF: usize = 2;
+const F0ALL: usize = 3;
+const R: usize = 4;
+const CVA: usize = 5;
+const IVA: usize = 6;
+
+#[derive(Clone, Copy, Debug, PartialEq, Eq)]
+pub struct Header {
+    pub zones: usize,
+    pub borders: usize,
+    pub rows: usize,
+}
+
+#[derive(Clone, Debug, PartialEq, Eq)]
+pub struct Tables {
+    pub header: Header,
+    /// reference net positions, kW
+    pub z: Vec<i64>,
+    /// from, to, LTA in MW
+    pub b: Vec<[i64; 3]>,
+    /// Fmax, FRM, Fref, F0all, R (-1 where "-" was written), CVA, IVA
+    pub c: Vec<[i64; 7]>,
+    /// "Row i's stretch starts at item i x zones."
+    pub f: Vec<i64>,
+}
+
+#[derive(Clone, Copy, Debug, PartialEq, Eq)]
+pub struct Refusal {
+    pub number: u32,
+    pub place: usize,
+}
+
+fn refuse<T>(number: u32, place: usize) -> Result<T, Refusal> {
+    Err(Refusal { number, place })
+}
+
+// ---------------------------------------------------------------------------
+// Lines of the text
+// ---------------------------------------------------------------------------
+
+/// The piece of the text that holds the line starting at `start`, its LF
+/// included; without LF only where the text ends first.  None at the text's end.
+fn line_at(text: &[u8], start: usize) -> Option<&[u8]> {
+    if start >= text.len() {
+        return None;
+    }
+    let mut end = start;
+    while end < text.len() {
+        end += 1;
+        if text[end - 1] == b'\n' {
+            break;
+        }
+    }
+    Some(&text[start..end])
+}
+
+/// "Lines end in one LF, fields are parted by one tab."  None where the LF is
+/// missing.  Two tabs together give an empty field, which no form takes.
+fn fields_of(line: &[u8]) -> Option<Vec<&[u8]>> {
+    let (last, body) = line.split_last()?;
+    if *last != b'\n' {
+        return None;
+    }
+    Some(body.split(|byte| *byte == b'\t').collect())
+}
+
+/// "Numbers are decimal, 1 to 10 digits, no leading zero except "0" itself"
+fn unsigned(field: &[u8]) -> Option<i64> {
+    if field.is_empty() || field.len() > 10 {
+        return None;
+    }
+    if field[0] == b'0' && field.len() > 1 {
+        return None;
+    }
+    let mut value: i64 = 0;
+    for byte in field {
+        if !byte.is_ascii_digit() {
+            return None;
+        }
+        value = value * 10 + i64::from(*byte - b'0');
+    }
+    Some(value)
+}
+
+/// "a minus only before a nonzero signed field"
+fn signed(field: &[u8]) -> Option<i64> {
+    match field.split_first() {
+        Some((b'-', digits)) => {
+            let value = unsigned(digits)?;
+            if value == 0 {
+                return None;
+            }
+            Some(-value)
+        }
+        _ => unsigned(field),
+    }
+}
+
+/// ""-" is allowed in R only"
+fn dash_or_unsigned(field: &[u8]) -> Option<i64> {
+    if field == b"-" {
+        return Some(R_DASH);
+    }
+    unsigned(field)
+}
+
+/// The letter, the field count and the index of a Z, B or C line; gives the
+/// fields after the index.
+fn form_of<'a>(line: &'a [u8], letter: &[u8], index: usize, count: usize) -> Option<Vec<&'a [u8]>> {
+    let fields = fields_of(line)?;
+    // the letter, the index, and `count` values
+    if fields.len() != 2 + count {
+        return None;
+    }
+    if fields[0] != letter {
+        return None;
+    }
+    if unsigned(fields[1])? != index as i64 {
+        return None;
+    }
+    Some(fields[2..].to_vec())
+}
+
+/// "H | zones, borders, rows"
+fn form_h(line: &[u8]) -> Option<[i64; 3]> {
+    let fields = fields_of(line)?;
+    if fields.len() != 4 || fields[0] != b"H" {
+        return None;
+    }
+    Some([unsigned(fields[1])?, unsigned(fields[2])?, unsigned(fields[3])?])
+}
+
+/// "Z | index, reference net position"
+fn form_z(line: &[u8], index: usize) -> Option<i64> {
+    let v = form_of(line, b"Z", index, 1)?;
+    signed(v[0])
+}
+
+/// "B | index, from zone, to zone, LTA"
+fn form_b(line: &[u8], index: usize) -> Option<[i64; 3]> {
+    let v = form_of(line, b"B", index, 3)?;
+    Some([unsigned(v[0])?, unsigned(v[1])?, unsigned(v[2])?])
+}
+
+/// "C | index, Fmax, FRM, Fref, F0all, R or "-", CVA, IVA, then one factor per zone"
+fn form_c(line: &[u8], index: usize, zones: usize) -> Option<([i64; 7], Vec<i64>)> {
+    let v = form_of(line, b"C", index, 7 + zones)?;
+    let record = [
+        unsigned(v[FMAX])?,
+        unsigned(v[FRM])?,
+        signed(v[FREF])?,
+        signed(v[F0ALL])?,
+        dash_or_unsigned(v[R])?,
+        unsigned(v[CVA])?,
+        unsigned(v[IVA])?,
+    ];
+    let mut factors = Vec::new();
+    for field in &v[7..] {
+        factors.push(signed(field)?);
+    }
+    Some((record, factors))
+}
+
+// ---------------------------------------------------------------------------
+// Ranges
+// ---------------------------------------------------------------------------
+
+fn within(value: i64, low: i64, high: i64) -> bool {
+    low <= value && value <= high
+}
+
+/// "zones 2..16, borders 1..40, rows 1..200"
+fn range_h(zones: i128, borders: i128, rows: i128) -> bool {
+    (2..=16).contains(&zones) && (1..=40).contains(&borders) && (1..=200).contains(&rows)
+}
+
+/// "kW, -100000000..100000000"
+fn range_z(position: i64) -> bool {
+    within(position, -100_000_000, 100_000_000)
+}
+
+/// "from zone, to zone (both exist, not equal), LTA in MW 0..10000"
+fn range_b(record: &[i64; 3], zones: usize) -> bool {
+    let [from, to, lta] = *record;
+    let last = zones as i64 - 1;
+    within(from, 0, last) && within(to, 0, last) && from != to && within(lta, 0, 10_000)
+}
+
+/// "Fmax kW 1..10000000, FRM kW 0..Fmax, Fref kW -20000000..20000000, F0all kW
+/// same range, R 0..10000 (ten-thousandths) or "-", CVA kW 0..10000000, IVA kW
+/// same, then one factor per zone, -100000..100000"
+fn range_c(record: &[i64; 7], factors: &[i64]) -> bool {
+    within(record[FMAX], 1, 10_000_000)
+        && within(record[FRM], 0, record[FMAX])
+        && within(record[FREF], -20_000_000, 20_000_000)
+        && within(record[F0ALL], -20_000_000, 20_000_000)
+        && (record[R] == R_DASH || within(record[R], 0, 10_000))
+        && within(record[CVA], 0, 10_000_000)
+        && within(record[IVA], 0, 10_000_000)
+        && factors.iter().all(|factor| within(*factor, -100_000, 100_000))
+}
+
+// ---------------------------------------------------------------------------
+// The line a record has
+// ---------------------------------------------------------------------------
+
+const LINE_H: usize = 1;
+
+fn line_z(index: usize) -> usize {
+    2 + index
+}
+
+fn line_b(header: Header, index: usize) -> usize {
+    2 + header.zones + index
+}
+
+fn line_c(header: Header, index: usize) -> usize {
+    2 + header.zones + header.borders + index
+}
+
+// ---------------------------------------------------------------------------
+// Judging steps shared by reading and by calls on lent tables
+// ---------------------------------------------------------------------------
+
+/// "4 | same from and to as an earlier border | first such border's index"
+fn judge_twice(b: &[[i64; 3]]) -> Result<(), Refusal> {
+    for later in 0..b.len() {
+        for earlier in 0..later {
+            if b[earlier][0] == b[later][0] && b[earlier][1] == b[later][1] {
+                return refuse(4, later);
+            }
+        }
+    }
+    Ok(())
+}
+
+/// "8 | a lent buffer is too short | items needed in the first short one", "in
+/// the order Z, B, C, factors"
+fn judge_lengths(header: Header, lent: [usize; 4]) -> Result<(), Refusal> {
+    let needed = [
+        header.zones,
+        header.borders,
+        header.rows,
+        header.rows * header.zones,
+    ];
+    for kind in 0..4 {
+        if lent[kind] < needed[kind] {
+            return refuse(8, needed[kind]);
+        }
+    }
+    Ok(())
+}
+
+/// Room for one result: 8 with the items needed.
+fn judge_room(room: usize, needed: usize) -> Result<(), Refusal> {
+    if room < needed {
+        return refuse(8, needed);
+    }
+    Ok(())
+}
+
+// ---------------------------------------------------------------------------
+// Reading
+// ---------------------------------------------------------------------------
+
+/// Hands out the lines of a text one after another with their numbers.
+struct Lines<'a> {
+    text: &'a [u8],
+    start: usize,
+    /// number of the line to come, from 1
+    number: usize,
+}
+
+impl<'a> Lines<'a> {
+    /// The next line, or refusal 2 at its number where it is missing.
+    fn next(&mut self) -> Result<(usize, &'a [u8]), Refusal> {
+        match line_at(self.text, self.start) {
+            None => refuse(2, self.number),
+            Some(line) => {
+                let number = self.number;
+                self.start += line.len();
+                self.number += 1;
+                Ok((number, line))
+            }
+        }
+    }
+
+    /// "Nothing follows."  Anything there is an extra line: 2.
+    fn end(&self) -> Result<(), Refusal> {
+        if self.start < self.text.len() {
+            return refuse(2, self.number);
+        }
+        Ok(())
+    }
+}
+
+/// "lines are judged one by one, form before range"
+fn judged<T>(number: usize, form: Option<T>, range: impl Fn(&T) -> bool) -> Result<T, Refusal> {
+    match form {
+        None => refuse(2, number),
+        Some(value) => {
+            if range(&value) {
+                Ok(value)
+            } else {
+                refuse(3, number)
+            }
+        }
+    }
+}
+
+/// "Order: one H line, then all Z, B, C lines, each kind by index from 0.
+/// Nothing follows."
+fn read_lines(text: &[u8]) -> Result<Tables, Refusal> {
+    let mut lines = Lines { text, start: 0, number: 1 };
+
+    let (number, line) = lines.next()?;
+    let h = judged(number, form_h(line), |h| {
+        range_h(h[0] as i128, h[1] as i128, h[2] as i128)
+    })?;
+    let header = Header {
+        zones: h[0] as usize,
+        borders: h[1] as usize,
+        rows: h[2] as usize,
+    };
+    let mut tables = Tables {
+        header,
+        z: Vec::new(),
+        b: Vec::new(),
+        c: Vec::new(),
+        f: Vec::new(),
+    };
+    for index in 0..header.zones {
+        let (number, line) = lines.next()?;
+        tables.z.push(judged(number, form_z(line, index), |p| range_z(*p))?);
+    }
+    for index in 0..header.borders {
+        let (number, line) = lines.next()?;
+        tables.b.push(judged(number, form_b(line, index), |r| range_b(r, header.zones))?);
+    }
+    for index in 0..header.rows {
+        let (number, line) = lines.next()?;
+        let (record, factors) =
+            judged(number, form_c(line, index, header.zones), |(r, f)| range_c(r, f))?;
+        tables.c.push(record);
+        tables.f.extend(factors);
+    }
+    lines.end()?;
+    Ok(tables)
+}
+
+/// "Reading judges 1 to 4 and then 8."  `room` is the number of items in the
+/// lent Z, B, C and factor buffers.
+pub fn read(text: &[u8], room: [usize; 4]) -> Result<Tables, Refusal> {
+    if text.len() > MOST_BYTES {
+        return refuse(1, 0);
+    }
+    let tables = read_lines(text)?;
+    judge_twice(&tables.b)?;
+    judge_lengths(tables.header, room)?;
+    Ok(tables)
+}
+
+// ---------------------------------------------------------------------------
+// Calls on lent tables
+// ---------------------------------------------------------------------------
+
+/// "A call on lent tables judges the header (3, line 1), then lengths (8), then
+/// 3 and 4 with the line the record would have".  The result is the front part
+/// of each lent table.
+pub fn judge(
+    header: Header,
+    z: &[i64],
+    b: &[[i64; 3]],
+    c: &[[i64; 7]],
+    f: &[i64],
+) -> Result<Tables, Refusal> {
+    if !range_h(header.zones as i128, header.borders as i128, header.rows as i128) {
+        return refuse(3, LINE_H);
+    }
+    judge_lengths(header, [z.len(), b.len(), c.len(), f.len()])?;
+    let tables = Tables {
+        header,
+        z: z[..header.zones].to_vec(),
+        b: b[..header.borders].to_vec(),
+        c: c[..header.rows].to_vec(),
+        f: f[..header.rows * header.zones].to_vec(),
+    };
+    judge_records(&tables)?;
+    judge_twice(&tables.b)?;
+    Ok(tables)
+}
+
+/// The records by their line: 3 where one is out of range.
+fn judge_records(tables: &Tables) -> Result<(), Refusal> {
+    let header = tables.header;
+    for index in 0..header.zones {
+        if !range_z(tables.z[index]) {
+            return refuse(3, line_z(index));
+        }
+    }
+    for index in 0..header.borders {
+        if !range_b(&tables.b[index], header.zones) {
+            return refuse(3, line_b(header, index));
+        }
+    }
+    for index in 0..header.rows {
+        if !range_c(&tables.c[index], factors_of(tables, index)) {
+            return refuse(3, line_c(header, index));
+        }
+    }
+    Ok(())
+}
+
+/// "Row i's stretch starts at item i x zones."
+fn factors_of(tables: &Tables, row: usize) -> &[i64] {
+    let zones = tables.header.zones;
+    &tables.f[row * zones..row * zones + zones]
+}
+
+// ---------------------------------------------------------------------------
+// Writing
+// ---------------------------------------------------------------------------
+
+/// One line: the letter, then the fields, parted by tabs, ended by LF.
+fn push_line(out: &mut Vec<u8>, letter: &str, fields: &[String]) {
+    out.extend_from_slice(letter.as_bytes());
+    for field in fields {
+        out.push(b'\t');
+        out.extend_from_slice(field.as_bytes());
+    }
+    out.push(b'\n');
+}
+
+/// "The table remembers that "-" was written, so writing gives "-" again."
+fn r_field(r: i64) -> String {
+    if r == R_DASH {
+        "-".to_string()
+    } else {
+        r.to_string()
+    }
+}
+
+fn table_text(tables: &Tables) -> Vec<u8> {
+    let header = tables.header;
+    let mut out = Vec::new();
+    push_line(
+        &mut out,
+        "H",
+        &[
+            header.zones.to_string(),
+            header.borders.to_string(),
+            header.rows.to_string(),
+        ],
+    );
+    for (index, position) in tables.z.iter().enumerate() {
+        push_line(&mut out, "Z", &[index.to_string(), position.to_string()]);
+    }
+    for (index, record) in tables.b.iter().enumerate() {
+        let mut fields = vec![index.to_string()];
+        fields.extend(record.iter().map(|value| value.to_string()));
+        push_line(&mut out, "B", &fields);
+    }
+    for (index, record) in tables.c.iter().enumerate() {
+        let mut fields = vec![index.to_string()];
+        for place in 0..7 {
+            if place == R {
+                fields.push(r_field(record[R]));
+            } else {
+                fields.push(record[place].to_string());
+            }
+        }
+        for factor in factors_of(tables, index) {
+            fields.push(factor.to_string());
+        }
+        push_line(&mut out, "C", &fields);
+    }
+    out
+}
+
+/// The table as text from lent tables; "for text the items are bytes".
+pub fn write(
+    header: Header,
+    z: &[i64],
+    b: &[[i64; 3]],
+    c: &[[i64; 7]],
+    f: &[i64],
+    room: usize,
+) -> Result<Vec<u8>, Refusal> {
+    let tables = judge(header, z, b, c, f)?;
+    let text = table_text(&tables);
+    judge_room(room, text.len())?;
+    Ok(text)
+}
+
+// ---------------------------------------------------------------------------
+// Margin of a row
+// ---------------------------------------------------------------------------
+
+/// The named values of one row, in grains.
+#[derive(Clone, Debug, PartialEq, Eq)]
+pub struct Margin {
+    pub f0core: i128,
+    pub fuaf: i128,
+    pub base: i128,
+    pub amr: i128,
+    pub s: i128,
+    pub lta_margin: i128,
+    pub ram: i128,
+}
+
+fn grains(kw: i64) -> i128 {
+    i128::from(kw) * GRAINS_PER_KW
+}
+
+/// "from factor less to factor"
+fn difference(factors: &[i64], border: &[i64; 3]) -> i128 {
+    i128::from(factors[border[0] as usize]) - i128::from(factors[border[1] as usize])
+}
+
+/// "Border factor p = factor of the from zone less that of the to zone where
+/// this is positive, else 0."
+pub fn border_factor(factors: &[i64], border: &[i64; 3]) -> i128 {
+    let d = difference(factors, border);
+    if d > 0 {
+        d
+    } else {
+        0
+    }
+}
+
+/// The whole LTA of a border in kW.
+fn lta_kw(border: &[i64; 3]) -> i128 {
+    i128::from(border[2]) * KW_PER_MW
+}
+
+/// "It equals the sum of p times LTA."
+pub fn s_by_sum(factors: &[i64], borders: &[[i64; 3]]) -> i128 {
+    let mut sum = 0;
+    for border in borders {
+        sum += border_factor(factors, border) * lta_kw(border);
+    }
+    sum
+}
+
+/// "A corner uses each border at 0 or at its whole LTA. S is the largest sum of
+/// (from factor less to factor) times exchange over all corners."
+pub fn s_by_corners(factors: &[i64], borders: &[[i64; 3]]) -> i128 {
+    let mut largest: Option<i128> = None;
+    for corner in 0u32..(1u32 << borders.len()) {
+        let mut sum = 0;
+        for (index, border) in borders.iter().enumerate() {
+            let exchange = if corner & (1 << index) != 0 { lta_kw(border) } else { 0 };
+            sum += difference(factors, border) * exchange;
+        }
+        largest = match largest {
+            Some(so_far) if so_far >= sum => Some(so_far),
+            _ => Some(sum),
+        };
+    }
+    largest.expect("there is at least the corner with every border at 0")
+}
+
+fn s_of(factors: &[i64], borders: &[[i64; 3]]) -> i128 {
+    let s = s_by_sum(factors, borders);
+    if cfg!(debug_assertions) && borders.len() <= 12 {
+        assert_eq!(s, s_by_corners(factors, borders), "S both ways");
+    }
+    s
+}
+
+/// R in ten-thousandths; "-" means 7000.
+fn r_of(record: &[i64; 7]) -> i128 {
+    if record[R] == R_DASH {
+        R_DASH_MEANS
+    } else {
+        i128::from(record[R])
+    }
+}
+
+/// The list under "Margin of a row", in its order.
+pub fn margin_of(tables: &Tables, row: usize) -> Margin {
+    let record = &tables.c[row];
+    let factors = factors_of(tables, row);
+    let fmax = grains(record[FMAX]);
+    let frm = grains(record[FRM]);
+    let fref = grains(record[FREF]);
+    let f0all = grains(record[F0ALL]);
+    let cva = grains(record[CVA]);
+    let iva = grains(record[IVA]);
+
+    // "F0core = Fref less the sum of factor times net position."
+    let mut sum = 0;
+    for zone in 0..tables.header.zones {
+        sum += i128::from(factors[zone]) * i128::from(tables.z[zone]);
+    }
+    let f0core = fref - sum;
+    // "Fuaf = F0core - F0all."
+    let fuaf = f0core - f0all;
+    // "Base = Fmax - FRM - F0core."
+    let base = fmax - frm - f0core;
+    // "AMR = the largest of R x Fmax / 10000 - Fuaf - Base, Fmax / 5 - Base, and
+    // 0. In grains both products are whole."
+    assert_eq!(r_of(record) * fmax % 10_000, 0);
+    assert_eq!(fmax % 5, 0);
+    let by_r = r_of(record) * fmax / 10_000 - fuaf - base;
+    let by_fifth = fmax / 5 - base;
+    let amr = by_r.max(by_fifth).max(0);
+    let s = s_of(factors, &tables.b);
+    // "LTA margin = the larger of F0core + S + FRM - AMR - Fmax and 0."
+    let lta_margin = (f0core + s + frm - amr - fmax).max(0);
+    // "RAM = Base + AMR + LTA margin - CVA - IVA. It may be negative."
+    let ram = base + amr + lta_margin - cva - iva;
+
+    let margin = Margin { f0core, fuaf, base, amr, s, lta_margin, ram };
+    if cfg!(debug_assertions) {
+        check_size(&margin);
+    }
+    margin
+}
+
+/// "Each value named in this list stays under 2^48 grains in magnitude"
+fn check_size(m: &Margin) {
+    for value in [m.f0core, m.fuaf, m.base, m.amr, m.s, m.lta_margin, m.ram] {
+        assert!(-(1i128 << 48) < value && value < (1i128 << 48), "2^48");
+    }
+}
+
+// ---------------------------------------------------------------------------
+// Row states
+// ---------------------------------------------------------------------------
+
+/// "largest zone factor less smallest"
+fn spread(factors: &[i64]) -> i64 {
+    let mut largest = factors[0];
+    let mut smallest = factors[0];
+    for factor in factors {
+        if *factor > largest {
+            largest = *factor;
+        }
+        if *factor < smallest {
+            smallest = *factor;
+        }
+    }
+    largest - smallest
+}
+
+/// "another row's factors differ from this row's by one and the same number in
+/// every zone"
+fn parallel(one: &[i64], other: &[i64]) -> bool {
+    let number = other[0] - one[0];
+    for zone in 0..one.len() {
+        if other[zone] - one[zone] != number {
+            return false;
+        }
+    }
+    true
+}
+
+/// The state of each row from the RAM of every row.
+fn states_of(tables: &Tables, margins: &[Margin]) -> Vec<u8> {
+    let mut states = Vec::new();
+    for row in 0..tables.header.rows {
+        states.push(state_of(tables, margins, row));
+    }
+    states
+}
+
+fn state_of(tables: &Tables, margins: &[Margin], row: usize) -> u8 {
+    let own = factors_of(tables, row);
+    // "1: largest zone factor less smallest is under 5000."
+    if spread(own) < SPREAD_KEPT {
+        return 1;
+    }
+    // "2: not state 1, and another row's factors differ ... while that row's RAM
+    // is lower, or equal with a lower index."
+    for other in 0..tables.header.rows {
+        if other == row || !parallel(own, factors_of(tables, other)) {
+            continue;
+        }
+        if margins[other].ram < margins[row].ram {
+            return 2;
+        }
+        if margins[other].ram == margins[row].ram && other < row {
+            return 2;
+        }
+    }
+    // "0: kept, all others."
+    0
+}
+
+// ---------------------------------------------------------------------------
+// Extraction
+// ---------------------------------------------------------------------------
+
+#[derive(Clone, Debug, PartialEq, Eq)]
+pub struct RowOut {
+    pub state: u8,
+    /// RAM in grains
+    pub ram: i128,
+    /// margin left in grains, None where the state isn't 0
+    pub left: Option<i128>,
+}
+
+#[derive(Clone, Debug, PartialEq, Eq)]
+pub struct Outcome {
+    /// ATC of each border in whole MW
+    pub atc: Vec<u64>,
+    pub rows: Vec<RowOut>,
+    /// rounds counted
+    pub rounds: u64,
+    /// final exchange of each border in kW
+    pub kw: Vec<u64>,
+    /// N: the largest n of a kept row
+    pub n_most: usize,
+    /// L: the least number with each border's raise alone under 2^L
+    pub l_bits: u32,
+    /// Divisions done in the rounds, the last round, which raises nothing and
+    /// is not counted, included: for each border and each kept row with p > 0
+    /// one by n and one by p, so two for each such pair in each round.
+    pub divisions: u64,
+}
+
+/// A kept row as the rounds see it.
+struct Kept {
+    /// index of the row in the table
+    row: usize,
+    /// p of each border on this row
+    p: Vec<i128>,
+    /// "n is the count of borders with p > 0 on that row, and never changes."
+    n: i128,
+    margin: i128,
+}
+
+/// The rows of state 0, each with margin RAM - S.
+fn kept_rows(tables: &Tables, margins: &[Margin], states: &[u8]) -> Vec<Kept> {
+    let mut kept = Vec::new();
+    for row in 0..tables.header.rows {
+        // "Only state 0 rows take part."
+        if states[row] != 0 {
+            continue;
+        }
+        let factors = factors_of(tables, row);
+        let p: Vec<i128> = tables.b.iter().map(|border| border_factor(factors, border)).collect();
+        let n = p.iter().filter(|p| **p > 0).count() as i128;
+        // "A row's margin starts at RAM - S."
+        let margin = margins[row].ram - margins[row].s;
+        kept.push(Kept { row, p, n, margin });
+    }
+    kept
+}
+
+/// "5 | no row of state 0 | 0"
+fn judge_any_kept(kept: &[Kept]) -> Result<(), Refusal> {
+    if kept.is_empty() {
+        return refuse(5, 0);
+    }
+    Ok(())
+}
+
+/// "6 | a border with p > 0 on no kept row | first such border's index"
+fn judge_borders_limited(kept: &[Kept], borders: usize) -> Result<(), Refusal> {
+    for border in 0..borders {
+        if !kept.iter().any(|row| row.p[border] > 0) {
+            return refuse(6, border);
+        }
+    }
+    Ok(())
+}
+
+/// "7 | a kept row's starting margin is below 0 | first such row's index"
+fn judge_starting_margins(kept: &[Kept]) -> Result<(), Refusal> {
+    for row in kept {
+        if row.margin < 0 {
+            return refuse(7, row.row);
+        }
+    }
+    Ok(())
+}
+
+/// Division downwards of numbers that are not negative.
+fn floor_div(value: i128, by: i128) -> i128 {
+    assert!(value >= 0 && by > 0);
+    value / by
+}
+
+fn smaller(so_far: Option<i128>, value: i128) -> Option<i128> {
+    match so_far {
+        Some(least) if least <= value => Some(least),
+        _ => Some(value),
+    }
+}
+
+/// "for each border, over the kept rows with p > 0, take the smallest of
+/// floor(floor(margin / n) / p), in kW"
+fn raise_of(kept: &[Kept], border: usize, divisions: &mut u64) -> i128 {
+    let mut least = None;
+    for row in kept {
+        if row.p[border] > 0 {
+            let share = floor_div(row.margin, row.n);
+            let raise = floor_div(share, row.p[border]);
+            *divisions += 2;
+            least = smaller(least, raise);
+        }
+    }
+    least.expect("each border has p > 0 on a kept row")
+}
+
+/// "a border's raise alone is the smallest floor(margin / p) at the start"
+fn raise_alone(kept: &[Kept], border: usize) -> i128 {
+    let mut least = None;
+    for row in kept {
+        if row.p[border] > 0 {
+            least = smaller(least, floor_div(row.margin, row.p[border]));
+        }
+    }
+    least.expect("each border has p > 0 on a kept row")
+}
+
+/// "L is the least number with each such raise under 2^L"
+fn l_of(kept: &[Kept], borders: usize) -> u32 {
+    let mut l = 0;
+    for border in 0..borders {
+        while raise_alone(kept, border) >= 1i128 << l {
+            l += 1;
+        }
+    }
+    l
+}
+
+/// The most borders that one kept row shares among.
+fn n_of(kept: &[Kept]) -> i128 {
+    kept.iter().map(|row| row.n).max().expect("there is a kept row")
+}
+
+/// The extraction after the tables are judged: 5, 6, 7, then the rounds.
+fn work(tables: &Tables) -> Result<Outcome, Refusal> {
+    let borders = tables.header.borders;
+    let margins: Vec<Margin> = (0..tables.header.rows).map(|row| margin_of(tables, row)).collect();
+    let states = states_of(tables, &margins);
+    let mut kept = kept_rows(tables, &margins, &states);
+    judge_any_kept(&kept)?;
+    judge_borders_limited(&kept, borders)?;
+    judge_starting_margins(&kept)?;
+
+    let n_most = n_of(&kept);
+    let l_bits = l_of(&kept, borders);
+
+    // "Each border starts at its LTA."
+    let mut kw: Vec<i128> = tables.b.iter().map(lta_kw).collect();
+    let mut rounds: u64 = 0;
+    let mut divisions: u64 = 0;
+    loop {
+        // "All raises are found from the margins at the start of the round."
+        let raises: Vec<i128> =
+            (0..borders).map(|border| raise_of(&kept, border, &mut divisions)).collect();
+        // "A round that raises nothing ends the work and is not counted."
+        if raises.iter().all(|raise| *raise == 0) {
+            break;
+        }
+        // "Then every border rises, and every row loses the sum of p times raise."
+        for border in 0..borders {
+            kw[border] += raises[border];
+        }
+        for row in kept.iter_mut() {
+            let mut loss = 0;
+            for border in 0..borders {
+                loss += row.p[border] * raises[border];
+            }
+            row.margin -= loss;
+        }
+        rounds += 1;
+    }
+
+    let rows = row_outcomes(&margins, &states, &kept);
+    let outcome = Outcome {
+        // "ATC = kW value floored to whole MW, once, at the end."
+        atc: kw.iter().map(|kw| floor_div(*kw, KW_PER_MW) as u64).collect(),
+        rows,
+        rounds,
+        kw: kw.iter().map(|kw| *kw as u64).collect(),
+        n_most: n_most as usize,
+        l_bits,
+        divisions,
+    };
+    if cfg!(debug_assertions) {
+        check_outcome(tables, &kept, &outcome);
+    }
+    Ok(outcome)
+}
+
+fn row_outcomes(margins: &[Margin], states: &[u8], kept: &[Kept]) -> Vec<RowOut> {
+    let mut rows = Vec::new();
+    for row in 0..margins.len() {
+        let left = kept.iter().find(|kept| kept.row == row).map(|kept| kept.margin);
+        rows.push(RowOut { state: states[row], ram: margins[row].ram, left });
+    }
+    rows
+}
+
+/// What the rules promise of a result.
+fn check_outcome(tables: &Tables, kept: &[Kept], outcome: &Outcome) {
+    // "rounds are at most 2 x N x L, so at most 3,840"
+    assert!(outcome.rounds <= 2 * outcome.n_most as u64 * u64::from(outcome.l_bits));
+    assert!(outcome.rounds <= 3_840);
+    for row in kept {
+        // the largest load of the row: each relieving border at 0
+        let mut load = 0;
+        for border in 0..tables.header.borders {
+            load += row.p[border] * i128::from(outcome.kw[border]);
+        }
+        assert!(row.margin >= 0);
+        assert_eq!(outcome.rows[row.row].ram - load, row.margin);
+    }
+    for border in 0..tables.header.borders {
+        assert!(i128::from(outcome.kw[border]) >= lta_kw(&tables.b[border]));
+        assert_eq!(outcome.atc[border], outcome.kw[border] / 1_000);
+    }
+}
+
+/// The tables judged, then 5, 6 and 7; "last comes room for results (8)",
+/// "border results before row results".
+pub fn extract(
+    header: Header,
+    z: &[i64],
+    b: &[[i64; 3]],
+    c: &[[i64; 7]],
+    f: &[i64],
+    room_borders: usize,
+    room_rows: usize,
+) -> Result<Outcome, Refusal> {
+    let tables = judge(header, z, b, c, f)?;
+    let outcome = work(&tables)?;
+    judge_room(room_borders, header.borders)?;
+    judge_room(room_rows, header.rows)?;
+    Ok(outcome)
+}
+
+// ---------------------------------------------------------------------------
+// Result text
+// ---------------------------------------------------------------------------
+
+/// "`A`, border index, ATC in MW, for each border. `M`, row index, state, RAM in
+/// grains, margin left in grains or "-" where the state isn't 0, for each row.
+/// `R`, rounds."
+fn outcome_text(outcome: &Outcome) -> Vec<u8> {
+    let mut out = Vec::new();
+    for (index, atc) in outcome.atc.iter().enumerate() {
+        push_line(&mut out, "A", &[index.to_string(), atc.to_string()]);
+    }
+    for (index, row) in outcome.rows.iter().enumerate() {
+        let left = match row.left {
+            Some(margin) => margin.to_string(),
+            None => "-".to_string(),
+        };
+        push_line(
+            &mut out,
+            "M",
+            &[index.to_string(), row.state.to_string(), row.ram.to_string(), left],
+        );
+    }
+    push_line(&mut out, "R", &[outcome.rounds.to_string()]);
+    out
+}
+
+/// "result text is made from the tables"; its room is in bytes.
+pub fn result_text(
+    header: Header,
+    z: &[i64],
+    b: &[[i64; 3]],
+    c: &[[i64; 7]],
+    f: &[i64],
+    room: usize,
+) -> Result<Vec<u8>, Refusal> {
+    let tables = judge(header, z, b, c, f)?;
+    let outcome = work(&tables)?;
+    let text = outcome_text(&outcome);
+    judge_room(room, text.len())?;
+    Ok(text)
+}
+
+/// "one line `E`, number, place"
+pub fn refusal_text(refusal: Refusal) -> Vec<u8> {
+    let mut out = Vec::new();
+    push_line(&mut out, "E", &[refusal.number.to_string(), refusal.place.to_string()]);
+    out
+}
+
+const ALL_ROOM: [usize; 4] = [usize::MAX; 4];
+
+/// "The program reads the table on standard input and writes this, or one line
+/// `E`, number, place."
+pub fn answer(text: &[u8]) -> Vec<u8> {
+    let result = read(text, ALL_ROOM)
+        .and_then(|t| result_text(t.header, &t.z, &t.b, &t.c, &t.f, usize::MAX));
+    match result {
+        Ok(text) => text,
+        Err(refusal) => refusal_text(refusal),
+    }
+}
+
+/// The table read and written again, or the E line.
+pub fn rewrite(text: &[u8]) -> Vec<u8> {
+    let result =
+        read(text, ALL_ROOM).and_then(|t| write(t.header, &t.z, &t.b, &t.c, &t.f, usize::MAX));
+    match result {
+        Ok(text) => text,
+        Err(refusal) => refusal_text(refusal),
+    }
+}

@@ -1,0 +1,744 @@
+//! Tests of the reference calculator: `rustc --edition 2021 --test selftest.rs`.
+
+#[path = "second.rs"]
+mod second;
+
+use second::*;
+
+const ALL: [usize; 4] = [usize::MAX; 4];
+
+/// Tabs are shown as blanks, LF as " / " or as itself.
+fn text(shown: &str) -> Vec<u8> {
+    let mut lines = shown.replace(" / ", "\n").trim().to_string();
+    lines.push('\n');
+    lines.replace(' ', "\t").into_bytes()
+}
+
+fn shown(bytes: &[u8]) -> String {
+    String::from_utf8(bytes.to_vec()).unwrap().replace('\t', " ").trim_end().replace('\n', " / ")
+}
+
+fn table(shown: &str) -> Tables {
+    read(&text(shown), ALL).expect("a good table")
+}
+
+fn out(t: &Tables) -> Result<Outcome, Refusal> {
+    extract(t.header, &t.z, &t.b, &t.c, &t.f, usize::MAX, usize::MAX)
+}
+
+fn e<T>(number: u32, place: usize) -> Result<T, Refusal> {
+    Err(Refusal { number, place })
+}
+
+/// The refusal of reading a shown text.
+fn read_refusal(bytes: &[u8]) -> Option<(u32, usize)> {
+    match read(bytes, ALL) {
+        Ok(_) => None,
+        Err(r) => Some((r.number, r.place)),
+    }
+}
+
+const HOUR: &str = "H 3 2 4
+Z 0 500000
+Z 1 -200000
+Z 2 -300000
+B 0 0 1 100
+B 1 1 2 200
+C 0 1000000 200000 200000 150000 7000 0 80000 30000 10000 0
+C 1 100000 10000 15000 0 7000 0 0 5000 5000 0
+C 2 100000 0 0 0 0 0 0 4999 0 0
+C 3 1000000 0 130000 0 7000 0 0 20000 0 -10000";
+
+const HOUR_GIVES: &str = "A 0 2599
+A 1 1800
+M 0 0 70000000000 20000
+M 1 0 9000000000 0
+M 2 1 12499500000 -
+M 3 2 100000000000 -
+R 21";
+
+/// The hour with line `number` (from 1) replaced.
+fn hour_with(number: usize, line: &str) -> Vec<u8> {
+    let mut lines: Vec<&str> = HOUR.lines().collect();
+    lines[number - 1] = line;
+    text(&lines.join("\n"))
+}
+
+// ---------------------------------------------------------------- worked hour
+
+#[test]
+fn worked_hour_byte_for_byte() {
+    assert_eq!(answer(&text(HOUR)), text(HOUR_GIVES));
+    let t = table(HOUR);
+    let o = out(&t).unwrap();
+    assert_eq!(o.n_most, 2);
+    assert_eq!(o.l_bits, 22);
+    assert_eq!(2 * o.n_most as u64 * o.l_bits as u64, 88);
+    assert_eq!(o.kw[0], 2_599_999);
+    assert_eq!(o.rounds, 21);
+    // pairs with p > 0: row 0 both borders, row 1 border 1; 22 rounds done
+    assert_eq!(o.divisions, 2 * 3 * 22);
+}
+
+#[test]
+fn worked_hour_named_values_by_hand() {
+    let t = table(HOUR);
+    // row 0: factor sum 30000 x 500000 - 10000 x 200000 = 130000 kW
+    let m = margin_of(&t, 0);
+    let kw = |v: i128| v * 100_000;
+    assert_eq!(m.f0core, kw(70_000));
+    assert_eq!(m.fuaf, kw(-80_000));
+    assert_eq!(m.base, kw(730_000));
+    // 700000 + 80000 - 730000 = 50000
+    assert_eq!(m.amr, kw(50_000));
+    assert_eq!(m.s, kw(40_000));
+    assert_eq!(m.lta_margin, 0);
+    assert_eq!(m.ram, kw(700_000));
+}
+
+#[test]
+fn worked_hour_written_again() {
+    assert_eq!(rewrite(&text(HOUR)), text(HOUR));
+    let dash = hour_with(8, "C 1 100000 10000 15000 0 - 0 0 5000 5000 0");
+    assert_eq!(rewrite(&dash), dash);
+    assert_eq!(read(&dash, ALL).unwrap().c[1][4], -1);
+    // "-" means 7000
+    assert_eq!(answer(&dash), text(HOUR_GIVES));
+}
+
+#[test]
+fn hours_that_show_two_slips() {
+    assert_eq!(
+        shown(&answer(&text(
+            "H 2 2 2 / Z 0 0 / Z 1 0 / B 0 0 1 0 / B 1 1 0 0 / C 0 100000 0 0 0 0 0 0 20000 0 / C 1 100000 0 0 0 0 0 0 0 20000"
+        ))),
+        "A 0 500 / A 1 500 / M 0 0 10000000000 0 / M 1 0 10000000000 0 / R 1"
+    );
+    assert_eq!(
+        shown(&answer(&text(
+            "H 3 2 1 / Z 0 0 / Z 1 0 / Z 2 0 / B 0 0 1 0 / B 1 0 2 0 / C 0 100000 0 0 0 0 0 0 20000 0 0"
+        ))),
+        "A 0 250 / A 1 250 / M 0 0 10000000000 0 / R 1"
+    );
+}
+
+// --------------------------------------------------------------- edge figures
+
+fn one_row(row: &str) -> Vec<u8> {
+    text(&format!("H 2 1 1 / Z 0 0 / Z 1 0 / B 0 0 1 0 / C 0 {row}"))
+}
+
+#[test]
+fn spread_5000_is_kept_4999_is_not() {
+    let kept = answer(&one_row("100000 0 0 0 0 0 0 5000 0"));
+    assert_eq!(shown(&kept), "A 0 2000 / M 0 0 10000000000 0 / R 1");
+    assert_eq!(shown(&answer(&one_row("100000 0 0 0 0 0 0 4999 0"))), "E 5 0");
+    // the spread counts every zone, also one in no border
+    let t = text("H 3 1 2 / Z 0 0 / Z 1 0 / Z 2 0 / B 0 0 1 0 / C 0 1 0 0 0 0 0 0 5000 4999 0 / C 1 1 0 0 0 0 0 0 4999 4998 0");
+    let o = out(&read(&t, ALL).unwrap()).unwrap();
+    assert_eq!(o.rows[0].state, 0);
+    assert_eq!(o.rows[1].state, 1);
+}
+
+#[test]
+fn amr_at_the_floor_of_r() {
+    let m = |frm: &str| {
+        let t = read(&one_row(&format!("100000 {frm} 0 0 7000 0 0 20000 0")), ALL).unwrap();
+        margin_of(&t, 0)
+    };
+    assert_eq!(m("30000").amr, 0);
+    assert_eq!(m("30000").s, 0);
+    assert_eq!(m("30001").amr, 100_000);
+}
+
+#[test]
+fn amr_at_a_fifth() {
+    let t = read(&one_row("100000 90000 0 0 0 0 0 20000 0"), ALL).unwrap();
+    let m = margin_of(&t, 0);
+    assert_eq!(m.base, 10_000 * 100_000);
+    assert_eq!(m.amr, 10_000 * 100_000);
+    assert_eq!(m.ram, 20_000 * 100_000);
+}
+
+#[test]
+fn lta_margin_lifts_ram_to_s() {
+    let hour = |iva: &str| {
+        text(&format!(
+            "H 2 1 1 / Z 0 0 / Z 1 0 / B 0 0 1 100 / C 0 10000 0 0 0 0 0 {iva} 20000 0"
+        ))
+    };
+    assert_eq!(shown(&answer(&hour("0"))), "A 0 100 / M 0 0 2000000000 0 / R 0");
+    let o = out(&read(&hour("0"), ALL).unwrap()).unwrap();
+    assert_eq!((o.rounds, o.atc[0], o.rows[0].ram), (0, 100, 20_000 * 100_000));
+    assert_eq!(o.l_bits, 0);
+    assert_eq!(shown(&answer(&hour("1"))), "E 7 0");
+    // a table that extraction refuses can still be written
+    assert_eq!(rewrite(&hour("1")), hour("1"));
+}
+
+#[test]
+fn two_equal_rows() {
+    let o = out(&table(
+        "H 2 1 2 / Z 0 0 / Z 1 0 / B 0 0 1 0 / C 0 100 0 0 0 0 0 0 5000 0 / C 1 100 0 0 0 0 0 0 5000 0",
+    ))
+    .unwrap();
+    assert_eq!((o.rows[0].state, o.rows[1].state), (0, 2));
+    assert_eq!(o.rows[1].left, None);
+    // a lower RAM later wins over an earlier index; factors moved by one number
+    let o = out(&table(
+        "H 2 1 2 / Z 0 0 / Z 1 0 / B 0 0 1 0 / C 0 101 0 0 0 0 0 0 5000 0 / C 1 100 0 0 0 0 0 0 4000 -1000",
+    ))
+    .unwrap();
+    assert_eq!((o.rows[0].state, o.rows[1].state), (2, 0));
+}
+
+#[test]
+fn margin_three_p_shared_by_two() {
+    // p 100000 on both borders, margin 3 kW = 3 p
+    let o = out(&table(
+        "H 3 2 1 / Z 0 0 / Z 1 0 / Z 2 0 / B 0 0 1 0 / B 1 0 2 0 / C 0 3 0 0 0 0 0 0 100000 0 0",
+    ))
+    .unwrap();
+    assert_eq!(o.kw, vec![1, 1]);
+    assert_eq!(o.rounds, 1);
+    assert_eq!(o.rows[0].left, Some(100_000));
+    assert_eq!(o.atc, vec![0, 0]);
+}
+
+#[test]
+fn border_given_twice() {
+    let hour = |second: &str| {
+        text(&format!(
+            "H 2 2 2 / Z 0 0 / Z 1 0 / B 0 0 1 0 / B 1 {second} / C 0 100 0 0 0 0 0 0 20000 0 / C 1 100 0 0 0 0 0 0 0 20000"
+        ))
+    };
+    assert_eq!(shown(&answer(&hour("0 1 5"))), "E 4 1");
+    assert_eq!(read_refusal(&hour("1 0 5")), None);
+    // the first such border is the later one, by index
+    let t = text("H 3 4 1 / Z 0 0 / Z 1 0 / Z 2 0 / B 0 0 1 0 / B 1 1 2 0 / B 2 1 2 3 / B 3 0 1 0 / C 0 1 0 0 0 0 0 0 0 0 0");
+    assert_eq!(read_refusal(&t), Some((4, 2)));
+    // a bad C line comes before 4
+    let t = text("H 2 2 1 / Z 0 0 / Z 1 0 / B 0 0 1 0 / B 1 0 1 0 / C 0 0 0 0 0 0 0 0 0 0");
+    assert_eq!(read_refusal(&t), Some((3, 6)));
+}
+
+#[test]
+fn border_that_no_kept_row_limits() {
+    assert_eq!(
+        shown(&answer(&text("H 2 1 1 / Z 0 0 / Z 1 0 / B 0 1 0 0 / C 0 100 0 0 0 0 0 0 20000 0"))),
+        "E 6 0"
+    );
+    // limited only by a row that is not kept
+    assert_eq!(
+        shown(&answer(&text(
+            "H 2 2 2 / Z 0 0 / Z 1 0 / B 0 0 1 0 / B 1 1 0 0 / C 0 100 0 0 0 0 0 0 20000 0 / C 1 100 0 0 0 0 0 0 0 4999"
+        ))),
+        "E 6 1"
+    );
+}
+
+#[test]
+fn empty_text_and_minus_zero() {
+    assert_eq!(shown(&answer(b"")), "E 2 1");
+    assert_eq!(read_refusal(&hour_with(2, "Z 0 -0")), Some((2, 2)));
+    assert_eq!(read_refusal(&hour_with(7, "C 0 1000000 200000 -0 150000 7000 0 80000 30000 10000 0")), Some((2, 7)));
+    assert_eq!(read_refusal(&hour_with(7, "C 0 1000000 200000 0 150000 7000 0 80000 30000 10000 -0")), Some((2, 7)));
+}
+
+/// A table of the given size with all kinds of lines good.
+fn sized(zones: usize, borders: usize, rows: usize) -> Vec<u8> {
+    let mut s = format!("H {zones} {borders} {rows}");
+    for i in 0..zones {
+        s += &format!("\nZ {i} 0");
+    }
+    let mut made = 0;
+    'all: for a in 0..zones {
+        for b in 0..zones {
+            if a != b {
+                if made == borders {
+                    break 'all;
+                }
+                s += &format!("\nB {made} {a} {b} 0");
+                made += 1;
+            }
+        }
+    }
+    for i in 0..rows {
+        s += &format!("\nC {i} 100 0 0 0 - 0 0");
+        for k in 0..zones {
+            s += if (i + k) % 2 == 0 { " 100000" } else { " -100000" };
+        }
+    }
+    text(&s)
+}
+
+#[test]
+fn sizes() {
+    assert_eq!(read_refusal(&sized(16, 40, 200)), None);
+    assert_eq!(read_refusal(&sized(2, 1, 1)), None);
+    assert_eq!(read_refusal(&sized(17, 40, 200)), Some((3, 1)));
+    assert_eq!(read_refusal(&sized(16, 41, 200)), Some((3, 1)));
+    assert_eq!(read_refusal(&sized(16, 40, 201)), Some((3, 1)));
+    assert_eq!(read_refusal(&text("H 1 1 1")), Some((3, 1)));
+    assert_eq!(read_refusal(&text("H 2 0 1")), Some((3, 1)));
+    assert_eq!(read_refusal(&text("H 2 1 0")), Some((3, 1)));
+    assert_eq!(rewrite(&sized(16, 40, 200)), sized(16, 40, 200));
+}
+
+// ------------------------------------------------------------------- refusals
+
+#[test]
+fn refusal_1() {
+    let mut t = text(HOUR);
+    t.resize(65_536, b'x');
+    assert_eq!(read_refusal(&t), Some((2, 11)));
+    t.push(b'x');
+    assert_eq!(read_refusal(&t), Some((1, 0)));
+    assert_eq!(read(&vec![0u8; 70_000], [0; 4]), e(1, 0));
+}
+
+#[test]
+fn refusal_2_form() {
+    // each faulty Z line 1 (line 3)
+    for line in [
+        "z 1 0", "ZZ 1 0", "B 1 0", "H 1 0", " 1 0", "Z 0 0", "Z 2 0", "Z 01 0", "Z -1 0", "Z 1", "Z 1 0 0", "Z",
+        "Z 1 00", "Z 1 01", "Z 1 +5", "Z 1 --5", "Z 1 -", "Z 1 -0", "Z 1 -05", "Z 1 5-", "Z 1 10000000000",
+        "Z 1 -10000000000", "Z 1 x", "Z 1 1.0", "Z 1 5\r", "Z  1 0", "Z 1 0 ", " Z 1 0", "",
+    ] {
+        assert_eq!(read_refusal(&hour_with(3, line)), Some((2, 3)), "{line}");
+    }
+    for line in [
+        "B 0 -1 1 100", "B 0 0 -1 100", "B 0 0 1 -100", "B 0 0 1", "B 0 0 1 100 0", "B 1 0 1 100", "B 0 - 1 100",
+        "B 0 0 1 -",
+    ] {
+        assert_eq!(read_refusal(&hour_with(5, line)), Some((2, 5)), "{line}");
+    }
+    for line in [
+        "C 0 -1000000 200000 200000 150000 7000 0 80000 30000 10000 0",
+        "C 0 1000000 -200000 200000 150000 7000 0 80000 30000 10000 0",
+        "C 0 1000000 200000 - 150000 7000 0 80000 30000 10000 0",
+        "C 0 1000000 200000 200000 - 7000 0 80000 30000 10000 0",
+        "C 0 1000000 200000 200000 150000 -7000 0 80000 30000 10000 0",
+        "C 0 1000000 200000 200000 150000 -- 0 80000 30000 10000 0",
+        "C 0 1000000 200000 200000 150000 7000 -1 80000 30000 10000 0",
+        "C 0 1000000 200000 200000 150000 7000 - 80000 30000 10000 0",
+        "C 0 1000000 200000 200000 150000 7000 0 - 30000 10000 0",
+        "C 0 1000000 200000 200000 150000 7000 0 80000 30000 10000",
+        "C 0 1000000 200000 200000 150000 7000 0 80000 30000 10000 0 0",
+        "C 0 1000000 200000 200000 150000 7000 0 80000 30000 10000 -",
+        "C 1 1000000 200000 200000 150000 7000 0 80000 30000 10000 0",
+    ] {
+        assert_eq!(read_refusal(&hour_with(7, line)), Some((2, 7)), "{line}");
+    }
+    for line in ["H 3 2", "H 3 2 4 0", "H 3 2 -4", "H 03 2 4", "H 3 2 -", "h 3 2 4", "Z 3 2 4"] {
+        assert_eq!(read_refusal(&hour_with(1, line)), Some((2, 1)), "{line}");
+    }
+    // a blank is no tab
+    assert_eq!(read_refusal(b"H 3 2 4\n"), Some((2, 1)));
+    assert_eq!(read_refusal(b"\xff"), Some((2, 1)));
+    assert_eq!(read_refusal(b"\n"), Some((2, 1)));
+}
+
+#[test]
+fn refusal_2_places() {
+    let whole = text(HOUR);
+    // missing lines: the next line's number; no LF: that line
+    let ends: Vec<usize> = whole.iter().enumerate().filter(|(_, b)| **b == b'\n').map(|(i, _)| i).collect();
+    for (line, end) in ends.iter().enumerate() {
+        assert_eq!(read_refusal(&whole[..*end]), Some((2, line + 1)), "no LF");
+        if line + 1 < ends.len() {
+            assert_eq!(read_refusal(&whole[..*end + 1]), Some((2, line + 2)), "missing");
+        }
+    }
+    // anything after the last line
+    for more in [&b"\n"[..], b"x", b"R\t1\n", b"\0", b"C\t4\n"] {
+        let mut t = whole.clone();
+        t.extend_from_slice(more);
+        assert_eq!(read_refusal(&t), Some((2, 11)));
+    }
+    // out of range and no LF: 2
+    assert_eq!(read_refusal(b"H\t17\t1\t1"), Some((2, 1)));
+    // out of range in a line before a malformed one: 3 there
+    let mut t = hour_with(2, "Z 0 100000001");
+    t.extend_from_slice(b"x");
+    assert_eq!(read_refusal(&t), Some((3, 2)));
+    // H out of range, nothing further is judged
+    assert_eq!(read_refusal(b"H\t17\t1\t1\nrubbish"), Some((3, 1)));
+}
+
+#[test]
+fn refusal_3_each_range() {
+    // (line number, start of the line, values that pass, values that don't)
+    let z = |v: &str| hour_with(2, &format!("Z 0 {v}"));
+    for v in ["100000000", "-100000000", "0"] {
+        assert_eq!(read_refusal(&z(v)), None);
+    }
+    for v in ["100000001", "-100000001", "9999999999", "-9999999999"] {
+        assert_eq!(read_refusal(&z(v)), Some((3, 2)));
+    }
+    let b = |v: &str| hour_with(5, &format!("B 0 {v}"));
+    for v in ["0 1 0", "0 1 10000", "2 0 5", "0 2 5"] {
+        assert_eq!(read_refusal(&b(v)), None);
+    }
+    for v in ["0 1 10001", "0 0 5", "3 0 5", "0 3 5", "9999999999 0 5", "9999999999 9999999999 5"] {
+        assert_eq!(read_refusal(&b(v)), Some((3, 5)));
+    }
+    let c = |place: usize, v: &str| {
+        let mut fields = vec!["10000000", "0", "0", "0", "0", "0", "0", "0", "0", "0"];
+        fields[place] = v;
+        hour_with(7, &format!("C 0 {}", fields.join(" ")))
+    };
+    for (place, good, bad) in [
+        (0, vec!["1", "10000000"], vec!["0", "10000001", "9999999999"]),
+        (1, vec!["0", "10000000"], vec!["10000001"]),
+        (2, vec!["-20000000", "20000000"], vec!["-20000001", "20000001"]),
+        (3, vec!["-20000000", "20000000"], vec!["-20000001", "20000001"]),
+        (4, vec!["0", "10000", "-"], vec!["10001", "9999999999"]),
+        (5, vec!["0", "10000000"], vec!["10000001"]),
+        (6, vec!["0", "10000000"], vec!["10000001"]),
+        (7, vec!["-100000", "100000"], vec!["-100001", "100001"]),
+        (8, vec!["-100000", "100000"], vec!["-100001", "100001"]),
+        (9, vec!["-100000", "100000"], vec!["-100001", "100001"]),
+    ] {
+        for v in good {
+            assert_eq!(read_refusal(&c(place, v)), None, "{place} {v}");
+        }
+        for v in bad {
+            assert_eq!(read_refusal(&c(place, v)), Some((3, 7)), "{place} {v}");
+        }
+    }
+    // FRM up to Fmax of its own row
+    assert_eq!(read_refusal(&hour_with(7, "C 0 500 500 0 0 0 0 0 0 0 0")), None);
+    assert_eq!(read_refusal(&hour_with(7, "C 0 500 501 0 0 0 0 0 0 0 0")), Some((3, 7)));
+    // form before range in one line
+    assert_eq!(read_refusal(&hour_with(7, "C 0 0 500 0 0 0 0 0 0 0 -0")), Some((2, 7)));
+    assert_eq!(read_refusal(&hour_with(7, "C 0 0 500 0 0 0 0 0 0 0")), Some((2, 7)));
+}
+
+#[test]
+fn refusal_7_looks_at_kept_rows_only() {
+    let hour = |row1: &str| {
+        text(&format!(
+            "H 2 1 3 / Z 0 0 / Z 1 0 / B 0 0 1 1 / C 0 100000 0 0 0 0 0 0 20000 0 / C 1 {row1} / C 2 100000 0 0 0 0 0 0 30000 0"
+        ))
+    };
+    // state 1 with a negative margin: no matter
+    assert_eq!(answer(&hour("1 0 0 0 0 9 0 4999 0"))[0], b'A');
+    assert_eq!(shown(&answer(&hour("1 0 0 0 0 9 0 9000 0"))), "E 7 1");
+    // a kept row with no border of p > 0 counts too, and keeps its margin
+    assert_eq!(shown(&answer(&hour("1 0 0 0 0 9 0 0 9000"))), "E 7 1");
+    let o = out(&read(&hour("9 0 0 0 0 9 0 0 9000"), ALL).unwrap()).unwrap();
+    assert_eq!(o.rows[1], RowOut { state: 0, ram: 0, left: Some(0) });
+    let o = out(&read(&hour("10 0 0 0 0 9 0 0 9000"), ALL).unwrap()).unwrap();
+    assert_eq!(o.rows[1].left, Some(100_000));
+    // 6 before 7
+    assert_eq!(
+        shown(&answer(&text("H 2 1 1 / Z 0 0 / Z 1 0 / B 0 1 0 0 / C 0 100 0 0 0 0 200 0 20000 0"))),
+        "E 6 0"
+    );
+}
+
+#[test]
+fn refusal_8_reading() {
+    let t = text(HOUR);
+    assert!(read(&t, [3, 2, 4, 12]).is_ok());
+    assert_eq!(read(&t, [2, 2, 4, 12]), e(8, 3));
+    assert_eq!(read(&t, [2, 0, 0, 0]), e(8, 3));
+    assert_eq!(read(&t, [3, 1, 0, 0]), e(8, 2));
+    assert_eq!(read(&t, [3, 2, 3, 0]), e(8, 4));
+    assert_eq!(read(&t, [3, 2, 4, 11]), e(8, 12));
+    // 2, 3 and 4 before 8
+    assert_eq!(read(&hour_with(10, "C 3"), [0; 4]), e(2, 10));
+    assert_eq!(read(&hour_with(2, "Z 0 100000001"), [0; 4]), e(3, 2));
+    assert_eq!(read(&hour_with(6, "B 1 0 1 0"), [0; 4]), e(4, 1));
+}
+
+#[test]
+fn lent_tables() {
+    let t = table(HOUR);
+    let j = |t: &Tables| judge(t.header, &t.z, &t.b, &t.c, &t.f);
+    assert_eq!(j(&t), Ok(t.clone()));
+    // longer lent tables: the front part
+    let mut long = t.clone();
+    long.z.push(i64::MIN);
+    long.b.push([9, 9, 9]);
+    long.c.push([-5; 7]);
+    long.f.push(i64::MAX);
+    assert_eq!(j(&long), Ok(t.clone()));
+    // the header first
+    for header in [
+        Header { zones: 17, ..t.header },
+        Header { zones: 1, ..t.header },
+        Header { borders: 0, ..t.header },
+        Header { borders: 41, ..t.header },
+        Header { rows: 0, ..t.header },
+        Header { rows: usize::MAX, ..t.header },
+    ] {
+        assert_eq!(judge(header, &[], &[], &[], &[]), e(3, 1));
+    }
+    // lengths before values
+    let bad_z = [i64::MAX; 3];
+    assert_eq!(judge(t.header, &bad_z[..2], &[], &[], &[]), e(8, 3));
+    assert_eq!(judge(t.header, &bad_z, &t.b[..1], &[], &[]), e(8, 2));
+    assert_eq!(judge(t.header, &bad_z, &t.b, &t.c[..3], &[]), e(8, 4));
+    assert_eq!(judge(t.header, &bad_z, &t.b, &t.c, &t.f[..11]), e(8, 12));
+    assert_eq!(judge(t.header, &bad_z, &t.b, &t.c, &t.f), e(3, 2));
+    // records by their line
+    let mut one = t.clone();
+    one.z[2] = -100_000_001;
+    assert_eq!(j(&one), e(3, 4));
+    for record in [[-1, 0, 0], [0, -1, 0], [0, 3, 0], [1, 1, 0], [0, 1, -1], [0, 1, 10_001], [i64::MIN, i64::MAX, 0]] {
+        let mut one = t.clone();
+        one.b[1] = record;
+        assert_eq!(j(&one), e(3, 6), "{record:?}");
+    }
+    for (place, values) in [
+        (0, vec![0, -1, 10_000_001, i64::MIN]),
+        (1, vec![-1, 1_000_001]),
+        (2, vec![20_000_001, i64::MIN]),
+        (3, vec![-20_000_001]),
+        (4, vec![-2, 10_001, i64::MIN]),
+        (5, vec![-1, 10_000_001]),
+        (6, vec![-1, 10_000_001]),
+    ] {
+        for value in values {
+            let mut one = t.clone();
+            one.c[3][place] = value;
+            assert_eq!(j(&one), e(3, 10), "{place} {value}");
+        }
+    }
+    for item in 0..12 {
+        let mut one = t.clone();
+        one.f[item] = -100_001;
+        assert_eq!(j(&one), e(3, 7 + item / 3));
+    }
+    // 4 last
+    let mut one = t.clone();
+    one.b[1] = [0, 1, 3];
+    assert_eq!(j(&one), e(4, 1));
+    one.f[11] = 100_001;
+    assert_eq!(j(&one), e(3, 10));
+}
+
+#[test]
+fn room_for_results() {
+    let t = table(HOUR);
+    let x = |t: &Tables, b, r| extract(t.header, &t.z, &t.b, &t.c, &t.f, b, r).map(|_| ());
+    assert_eq!(x(&t, 2, 4), Ok(()));
+    assert_eq!(x(&t, 1, 0), e(8, 2));
+    assert_eq!(x(&t, 2, 3), e(8, 4));
+    let size = text(HOUR_GIVES).len();
+    let rt = |t: &Tables, room| result_text(t.header, &t.z, &t.b, &t.c, &t.f, room);
+    assert_eq!(rt(&t, size), Ok(text(HOUR_GIVES)));
+    assert_eq!(rt(&t, size - 1), e(8, size));
+    let size = text(HOUR).len();
+    let w = |t: &Tables, room| write(t.header, &t.z, &t.b, &t.c, &t.f, room);
+    assert_eq!(w(&t, size), Ok(text(HOUR)));
+    assert_eq!(w(&t, size - 1), e(8, size));
+    assert_eq!(w(&t, 0), e(8, size));
+    // 5, 6 and 7 before the room for results
+    let mut five = t.clone();
+    five.f = vec![0; 12];
+    assert_eq!((x(&five, 0, 0), rt(&five, 0).map(|_| ())), (e(5, 0), e(5, 0)));
+    let mut six = t.clone();
+    six.b[1] = [2, 1, 0];
+    assert_eq!((x(&six, 0, 0), rt(&six, 0).map(|_| ())), (e(6, 1), e(6, 1)));
+    let mut seven = t.clone();
+    seven.c[1][6] = 10_000_000;
+    assert_eq!((x(&seven, 0, 0), rt(&seven, 0).map(|_| ())), (e(7, 1), e(7, 1)));
+    assert!(w(&seven, usize::MAX).is_ok());
+}
+
+// -------------------------------------------------------------- random tables
+
+struct Dice(u64);
+
+impl Dice {
+    fn next(&mut self) -> u64 {
+        self.0 ^= self.0 << 13;
+        self.0 ^= self.0 >> 7;
+        self.0 ^= self.0 << 17;
+        self.0
+    }
+    fn in_range(&mut self, low: i64, high: i64) -> i64 {
+        match self.next() % 12 {
+            0 => low,
+            1 => high,
+            _ => low + ((self.next() >> 11) % ((high - low) as u64 + 1)) as i64,
+        }
+    }
+    fn one_in(&mut self, n: u64) -> bool {
+        self.next() % n == 0
+    }
+}
+
+fn random_tables(d: &mut Dice, most_borders: i64, most_rows: i64) -> Tables {
+    let zones = d.in_range(2, 16) as usize;
+    let pairs = (zones * (zones - 1)) as i64;
+    let borders = d.in_range(1, most_borders.min(pairs)) as usize;
+    let rows = d.in_range(1, most_rows) as usize;
+    let small = d.one_in(2);
+    let z = (0..zones)
+        .map(|_| if small { d.in_range(-3_000, 3_000) } else { d.in_range(-100_000_000, 100_000_000) })
+        .collect();
+    let mut b: Vec<[i64; 3]> = Vec::new();
+    while b.len() < borders {
+        let from = d.in_range(0, zones as i64 - 1);
+        let to = d.in_range(0, zones as i64 - 1);
+        if from == to || b.iter().any(|r| r[0] == from && r[1] == to) {
+            continue;
+        }
+        b.push([from, to, if small { d.in_range(0, 3) } else { d.in_range(0, 10_000) }]);
+    }
+    let with_lifts = d.one_in(4);
+    let mut c = Vec::new();
+    let mut f: Vec<i64> = Vec::new();
+    for row in 0..rows {
+        let fmax = if small { d.in_range(1, 500_000) } else { d.in_range(1, 10_000_000) };
+        c.push([
+            fmax,
+            d.in_range(0, fmax),
+            if small { d.in_range(-1000, 1000) } else { d.in_range(-20_000_000, 20_000_000) },
+            if small { d.in_range(-1000, 1000) } else { d.in_range(-20_000_000, 20_000_000) },
+            if d.one_in(5) { -1 } else { d.in_range(0, 10_000) },
+            if with_lifts { d.in_range(0, 100) } else { 0 },
+            if with_lifts { d.in_range(0, 100) } else { 0 },
+        ]);
+        if row > 0 && d.one_in(4) {
+            // parallel to an earlier row
+            let like = (d.next() % row as u64) as usize;
+            let earlier: Vec<i64> = f[like * zones..(like + 1) * zones].to_vec();
+            let low = -100_000 - earlier.iter().min().unwrap();
+            let high = 100_000 - earlier.iter().max().unwrap();
+            let by = if d.one_in(2) { 0 } else { d.in_range(low, high) };
+            f.extend(earlier.iter().map(|v| v + by));
+        } else {
+            let most = [100_000, 2_600, 20_000, 6_000][(d.next() % 4) as usize];
+            for _ in 0..zones {
+                f.push(d.in_range(-most, most));
+            }
+        }
+    }
+    Tables { header: Header { zones, borders, rows }, z, b, c, f }
+}
+
+fn check_random(t: &Tables, seen: &mut [usize; 8]) {
+    let h = t.header;
+    // write and read again
+    let bytes = write(h, &t.z, &t.b, &t.c, &t.f, usize::MAX).expect("good tables");
+    assert!(bytes.len() <= 65_536);
+    assert_eq!(read(&bytes, ALL).as_ref(), Ok(t));
+
+    let margins: Vec<Margin> = (0..h.rows).map(|row| margin_of(t, row)).collect();
+    for (row, m) in margins.iter().enumerate() {
+        // RAM is the largest of four, less CVA and IVA
+        let r = if t.c[row][4] == -1 { 7000 } else { t.c[row][4] } as i128;
+        let fmax = t.c[row][0] as i128;
+        let largest = m.base.max(r * fmax * 10 - m.fuaf).max(fmax * 20_000).max(m.s);
+        assert_eq!(m.ram, largest - (t.c[row][5] + t.c[row][6]) as i128 * 100_000);
+        let own = &t.f[row * h.zones..(row + 1) * h.zones];
+        assert_eq!(m.s, s_by_sum(own, &t.b));
+        if h.borders <= 8 {
+            assert_eq!(m.s, s_by_corners(own, &t.b));
+        }
+    }
+    let no_lifts = t.c.iter().all(|r| r[5] == 0 && r[6] == 0);
+    match out(t) {
+        Err(r) => {
+            seen[r.number as usize] += 1;
+            assert!((5..=7).contains(&r.number));
+            // "If CVA and IVA are 0 in every row, refusal 7 isn't given."
+            assert!(!(no_lifts && r.number == 7));
+            assert_eq!(answer(&bytes), refusal_text(r));
+        }
+        Ok(o) => {
+            seen[0] += 1;
+            assert_eq!((o.atc.len(), o.kw.len(), o.rows.len()), (h.borders, h.borders, h.rows));
+            assert!(o.rounds <= 2 * o.n_most as u64 * o.l_bits as u64);
+            // rows in classes: one kept row of each class with spread 5000 or more
+            let shape = |row: usize| -> Vec<i64> {
+                let own = &t.f[row * h.zones..(row + 1) * h.zones];
+                own.iter().map(|v| v - own[0]).collect()
+            };
+            for row in 0..h.rows {
+                let mine = shape(row);
+                let wide = mine.iter().max().unwrap() - mine.iter().min().unwrap() >= 5_000;
+                let class: Vec<usize> = (0..h.rows).filter(|r| shape(*r) == mine).collect();
+                let first = *class.iter().min_by_key(|r| (margins[**r].ram, **r)).unwrap();
+                let want = if !wide { 1 } else if first == row { 0 } else { 2 };
+                assert_eq!(o.rows[row].state, want);
+                assert_eq!(o.rows[row].left.is_some(), want == 0);
+                assert_eq!(o.rows[row].ram, margins[row].ram);
+            }
+            // margins left, and no border can rise any further
+            let mut stuck = vec![false; h.borders];
+            let mut n_most = 0;
+            for row in 0..h.rows {
+                let Some(left) = o.rows[row].left else { continue };
+                let own = &t.f[row * h.zones..(row + 1) * h.zones];
+                let p: Vec<i128> = t.b.iter().map(|b| (own[b[0] as usize] - own[b[1] as usize]).max(0) as i128).collect();
+                let n = p.iter().filter(|p| **p > 0).count() as i128;
+                n_most = n_most.max(n as usize);
+                let load: i128 = p.iter().zip(&o.kw).map(|(p, k)| p * *k as i128).sum();
+                assert_eq!(left, o.rows[row].ram - load);
+                assert!(left >= 0);
+                for b in 0..h.borders {
+                    if p[b] > 0 && left / n / p[b] == 0 {
+                        stuck[b] = true;
+                    }
+                }
+            }
+            assert!(stuck.iter().all(|s| *s));
+            assert_eq!(n_most, o.n_most);
+            if h.borders == 1 && o.rows.iter().filter(|r| r.state == 0).count() == 1 {
+                seen[1] += 1;
+                assert!(o.rounds <= 1);
+            }
+            assert_eq!(answer(&bytes), result_text(h, &t.z, &t.b, &t.c, &t.f, usize::MAX).unwrap());
+        }
+    }
+}
+
+#[test]
+fn random_small_and_large() {
+    let mut d = Dice(0x9E37_79B9_7F4A_7C15);
+    let mut seen = [0; 8];
+    for _ in 0..3_000 {
+        check_random(&random_tables(&mut d, 8, 12), &mut seen);
+    }
+    for _ in 0..400 {
+        check_random(&random_tables(&mut d, 1, 3), &mut seen);
+    }
+    for _ in 0..60 {
+        check_random(&random_tables(&mut d, 40, 200), &mut seen);
+    }
+    println!("accepted, one border and one kept row, ., ., ., 5, 6, 7: {seen:?}");
+    assert!(seen[0] > 300 && seen[1] > 20 && seen[5] > 5 && seen[6] > 20 && seen[7] > 5);
+}
+
+#[test]
+fn one_byte_changed() {
+    // a text that reading takes is given back byte for byte by writing
+    let mut d = Dice(77);
+    let whole = text(HOUR);
+    let bytes = b"0123456789-\t\n ZBCHR+\r\x00\xff";
+    let mut taken = 0;
+    for _ in 0..40_000 {
+        let mut t = whole.clone();
+        let at = (d.next() % t.len() as u64) as usize;
+        let byte = bytes[(d.next() % bytes.len() as u64) as usize];
+        match d.next() % 3 {
+            0 => t[at] = byte,
+            1 => t.insert(at, byte),
+            _ => {
+                t.remove(at);
+            }
+        }
+        if let Ok(tables) = read(&t, ALL) {
+            taken += 1;
+            assert_eq!(write(tables.header, &tables.z, &tables.b, &tables.c, &tables.f, usize::MAX), Ok(t.clone()));
+        }
+        answer(&t);
+    }
+    assert!(taken > 1_000);
+}

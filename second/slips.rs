@@ -1,0 +1,262 @@
+//! Tests the comparer: one slip at a time is put into the stand-in (mock.rs
+//! and second.rs), and the comparer must see each.  Without a slip it must
+//! pass.
+//!
+//! `second/slips` builds and runs it.
+//! An argument: only the slips whose name contains it.
+
+use std::path::Path;
+use std::process::Command;
+
+struct Slip {
+    name: &'static str,
+    file: &'static str,
+    old: &'static str,
+    new: &'static str,
+}
+
+const fn slip(name: &'static str, file: &'static str, old: &'static str, new: &'static str) -> Slip {
+    Slip { name, file, old, new }
+}
+
+const SLIPS: &[Slip] = &[
+    // ---- what is lent
+    slip(
+        "reading writes z before it refuses for room",
+        "mock.rs",
+        "    match second::read(lent(text, n), [nz, nb, nc, nf]) {",
+        "    if let Ok(t) = second::read(lent(text, n), [usize::MAX; 4]) {\n        if nz >= t.z.len() {\n            z[..t.z.len()].copy_from_slice(&t.z);\n        }\n    }\n    match second::read(lent(text, n), [nz, nb, nc, nf]) {",
+    ),
+    slip(
+        "extraction writes atc before it refuses for row results",
+        "mock.rs",
+        "    match second::extract(header, z, b, c, f, natc, nleft) {",
+        "    if let Ok(o) = second::extract(header, z, b, c, f, natc, usize::MAX) {\n        atc[0] = [o.atc[0] as i64];\n    }\n    match second::extract(header, z, b, c, f, natc, nleft) {",
+    ),
+    slip(
+        "answer writes the first byte before it refuses for room",
+        "mock.rs",
+        "    if nout < answer.len() {",
+        "    if nout < answer.len() {\n        if nout > 0 {\n            *out = answer[0];\n        }",
+    ),
+    slip(
+        "text ends in a NUL beyond its bytes",
+        "mock.rs",
+        "            out[..text.len()].copy_from_slice(&text);",
+        "            out[..text.len()].copy_from_slice(&text);\n            if out.len() > text.len() {\n                out[text.len()] = 0;\n            }",
+    ),
+    slip(
+        "rest of the factor table cleared",
+        "mock.rs",
+        "            f[..t.f.len()].copy_from_slice(&t.f);",
+        "            f[..t.f.len()].copy_from_slice(&t.f);\n            f[t.f.len()..].fill(0);",
+    ),
+    slip(
+        "one item beyond the lent part is written",
+        "mock.rs",
+        "            c[..t.c.len()].copy_from_slice(&t.c);",
+        "            c[..t.c.len()].copy_from_slice(&t.c);\n            *c.as_mut_ptr().add(c.len()) = [0; 7];",
+    ),
+    slip(
+        "a lent input is changed",
+        "mock.rs",
+        "    text_to(text, lent_mut(out, nout))",
+        "    if text.is_ok() {\n        *(z as *mut i64) ^= 1;\n    }\n    text_to(text, lent_mut(out, nout))",
+    ),
+    slip("room off by one", "second.rs", "    if room < needed {", "    if room <= needed {"),
+    slip(
+        "factor length off by one",
+        "second.rs",
+        "        header.rows * header.zones,\n    ];",
+        "        header.rows * header.zones + 1,\n    ];",
+    ),
+    slip(
+        "place of 8 is what is lent",
+        "second.rs",
+        "            return refuse(8, needed[kind]);",
+        "            return refuse(8, lent[kind]);",
+    ),
+    slip(
+        "row results judged before border results",
+        "second.rs",
+        "    judge_room(room_borders, header.borders)?;\n    judge_room(room_rows, header.rows)?;",
+        "    judge_room(room_rows, header.rows)?;\n    judge_room(room_borders, header.borders)?;",
+    ),
+    slip(
+        "room for results judged before 5, 6, 7",
+        "second.rs",
+        "    let outcome = work(&tables)?;\n    judge_room(room_borders, header.borders)?;",
+        "    judge_room(room_borders, header.borders)?;\n    let outcome = work(&tables)?;",
+    ),
+    slip(
+        "reading judges room before borders given twice",
+        "second.rs",
+        "    judge_twice(&tables.b)?;\n    judge_lengths(tables.header, room)?;",
+        "    judge_lengths(tables.header, room)?;\n    judge_twice(&tables.b)?;",
+    ),
+    slip(
+        "borders given twice judged before records",
+        "second.rs",
+        "    judge_records(&tables)?;\n    judge_twice(&tables.b)?;",
+        "    judge_twice(&tables.b)?;\n    judge_records(&tables)?;",
+    ),
+    slip(
+        "header cut to 32 bits",
+        "second.rs",
+        "    if !range_h(header.zones as i128, header.borders as i128, header.rows as i128) {",
+        "    let header = Header { zones: header.zones as u32 as usize, borders: header.borders as u32 as usize, rows: header.rows as u32 as usize };\n    if !range_h(header.zones as i128, header.borders as i128, header.rows as i128) {",
+    ),
+    slip("R -2 is taken", "second.rs", "(record[R] == R_DASH ||", "(record[R] == R_DASH || record[R] == -2 ||"),
+    // ---- answers
+    slip("rounds + 1", "mock.rs", "rounds: outcome.rounds }", "rounds: outcome.rounds + 1 }"),
+    slip(
+        "the round that raises nothing is counted",
+        "second.rs",
+        "        if raises.iter().all(|raise| *raise == 0) {",
+        "        if raises.iter().all(|raise| *raise == 0) {\n            rounds += 1;",
+    ),
+    slip("margin left 0 where not kept", "mock.rs", "map_or(-1,", "map_or(0,"),
+    slip(
+        "zones said also where reading refuses",
+        "mock.rs",
+        "            zones: 0,",
+        "            zones: 2,",
+    ),
+    slip("place of 3 off by one", "second.rs", "    2 + header.zones + header.borders + index", "    1 + header.zones + header.borders + index"),
+    slip("place of a missing line off by one", "second.rs", "            None => refuse(2, self.number),", "            None => refuse(2, self.number - 1),"),
+    slip("place of 4 is the earlier border", "second.rs", "return refuse(4, later);", "return refuse(4, earlier);"),
+    slip("place of 7 counts kept rows only", "second.rs", "return refuse(7, row.row);", "return refuse(7, kept.iter().position(|other| other.row == row.row).unwrap());"),
+    slip(
+        "last LF of the result text missing",
+        "second.rs",
+        "    push_line(&mut out, \"R\", &[outcome.rounds.to_string()]);",
+        "    push_line(&mut out, \"R\", &[outcome.rounds.to_string()]);\n    out.pop();",
+    ),
+    slip(
+        "R written as 7000 for \"-\"",
+        "second.rs",
+        "        \"-\".to_string()\n    } else {\n        r.to_string()",
+        "        \"7000\".to_string()\n    } else {\n        r.to_string()",
+    ),
+    // ---- reading
+    slip("65,537 bytes are read", "second.rs", "    if text.len() > MOST_BYTES {", "    if text.len() > MOST_BYTES + 1 {"),
+    slip("65,536 bytes are refused", "second.rs", "    if text.len() > MOST_BYTES {", "    if text.len() >= MOST_BYTES {"),
+    slip("11 digits are taken", "second.rs", "field.len() > 10 {", "field.len() > 11 {"),
+    slip("10 digits are refused", "second.rs", "field.len() > 10 {", "field.len() > 9 {"),
+    slip("leading zeros are taken", "second.rs", "    if field[0] == b'0' && field.len() > 1 {", "    if field[0] == b'0' && field.len() > 12 {"),
+    slip("-0 is taken", "second.rs", "            if value == 0 {\n                return None;", "            if value == -1 {\n                return None;"),
+    slip("a value is cut to 32 bits before it is judged", "second.rs", "    Some(value)\n}\n\n/// \"a minus only", "    Some(i64::from(value as i32))\n}\n\n/// \"a minus only"),
+    slip("an LF after the last line is taken", "second.rs", "        if self.start < self.text.len() {", "        if self.start < self.text.len() && &self.text[self.start..] != b\"\\n\" {"),
+    slip("a last line without LF is taken", "second.rs", "    if *last != b'\\n' {\n        return None;\n    }\n    Some(body", "    if *last != b'\\n' {\n        return Some(line.split(|byte| *byte == b'\\t').collect());\n    }\n    Some(body"),
+    slip("FRM may pass Fmax by one", "second.rs", "within(record[FRM], 0, record[FMAX])", "within(record[FRM], 0, record[FMAX] + 1)"),
+    slip("from may equal to", "second.rs", "within(to, 0, last) && from != to", "within(to, 0, last)"),
+    slip("the zone after the last exists", "second.rs", "    let last = zones as i64 - 1;", "    let last = zones as i64;"),
+    slip("\"-\" in CVA is taken as 0", "second.rs", "        unsigned(v[CVA])?,", "        dash_or_unsigned(v[CVA])?.max(0),"),
+    slip("4 seen only next to each other", "second.rs", "        for earlier in 0..later {\n            if b[earlier]", "        for earlier in later.saturating_sub(1)..later {\n            if b[earlier]"),
+    slip("4 compares LTA too", "second.rs", "b[earlier][1] == b[later][1] {", "b[earlier][1] == b[later][1] && b[earlier][2] == b[later][2] {"),
+    slip("4 takes a border and its return as the same", "second.rs", "            if b[earlier][0] == b[later][0] &&", "            if b[earlier][0] == b[later][1] && b[earlier][1] == b[later][0] || b[earlier][0] == b[later][0] &&"),
+    // ---- margins and states
+    slip("spread 5001", "second.rs", "SPREAD_KEPT: i64 = 5_000", "SPREAD_KEPT: i64 = 5_001"),
+    slip("spread 4999", "second.rs", "SPREAD_KEPT: i64 = 5_000", "SPREAD_KEPT: i64 = 4_999"),
+    slip("tie kept at the higher index", "second.rs", "margins[row].ram && other < row {", "margins[row].ram && other > row {"),
+    slip("tie not seen", "second.rs", "margins[row].ram && other < row {", "margins[row].ram && other < row && false {"),
+    slip("parallel only where equal", "second.rs", "    let number = other[0] - one[0];", "    let number = 0;"),
+    slip("parallel does not look at the last zone", "second.rs", "    for zone in 0..one.len() {", "    for zone in 0..one.len() - 1 {"),
+    slip("\"-\" means 7001", "second.rs", "R_DASH_MEANS: i128 = 7_000", "R_DASH_MEANS: i128 = 7_001"),
+    slip("floor without Fuaf", "second.rs", "/ 10_000 - fuaf - base;", "/ 10_000 - base;"),
+    slip("no LTA margin", "second.rs", "let ram = base + amr + lta_margin - cva - iva;", "let ram = base + amr - cva - iva;"),
+    slip("IVA forgotten", "second.rs", "let ram = base + amr + lta_margin - cva - iva;", "let ram = base + amr + lta_margin - cva;"),
+    slip("S is the worst single border", "second.rs", "        sum += border_factor(factors, border) * lta_kw(border);", "        sum = sum.max(border_factor(factors, border) * lta_kw(border));"),
+    slip("RAM cut to 47 bits", "second.rs", "    let margin = Margin { f0core, fuaf, base, amr, s, lta_margin, ram };", "    let ram = if ram > (1 << 47) { ram - (1 << 47) } else { ram };\n    let margin = Margin { f0core, fuaf, base, amr, s, lta_margin, ram };"),
+    slip("the last zone's net position forgotten", "second.rs", "    for zone in 0..tables.header.zones {\n        sum +=", "    for zone in 0..tables.header.zones.min(15) {\n        sum +="),
+    // ---- extraction
+    slip("6 looks at rows under 5% too", "second.rs", "        if states[row] != 0 {\n            continue;", "        if states[row] == 2 {\n            continue;"),
+    slip("7 does not look at rows that no border loads", "second.rs", "        if row.margin < 0 {", "        if row.margin < 0 && row.n > 0 {"),
+    slip("7 judged before 6", "second.rs", "    judge_borders_limited(&kept, borders)?;\n    judge_starting_margins(&kept)?;", "    judge_starting_margins(&kept)?;\n    judge_borders_limited(&kept, borders)?;"),
+    slip("a relieving factor gains margin", "second.rs", "                loss += row.p[border] * raises[border];", "                loss += difference(factors_of(tables, row.row), &tables.b[border]) * raises[border];"),
+    slip("n counts relieving borders", "second.rs", "        let n = p.iter().filter(|p| **p > 0).count() as i128;", "        let n = tables.b.iter().filter(|b| difference(factors, b) != 0).count() as i128;"),
+    slip("division by n rounds up", "second.rs", "            let share = floor_div(row.margin, row.n);", "            let share = floor_div(row.margin + row.n - 1, row.n);"),
+    slip("raises from margins just lowered", "second.rs", "        let raises: Vec<i128> =\n            (0..borders).map(|border| raise_of(&kept, border, &mut divisions)).collect();", "        let before: Vec<i128> = kept.iter().map(|row| row.margin).collect();\n        let mut raises: Vec<i128> = Vec::new();\n        for border in 0..borders {\n            let raise = raise_of(&kept, border, &mut divisions);\n            for row in kept.iter_mut() {\n                row.margin -= row.p[border] * raise;\n            }\n            raises.push(raise);\n        }\n        for (row, before) in kept.iter_mut().zip(before) {\n            row.margin = before;\n        }"),
+    slip("cut to MW in each round", "second.rs", "            kw[border] += raises[border];", "            kw[border] += raises[border];\n            kw[border] -= kw[border] % KW_PER_MW;"),
+    slip("borders start at 0", "second.rs", "    let mut kw: Vec<i128> = tables.b.iter().map(lta_kw).collect();", "    let mut kw: Vec<i128> = tables.b.iter().map(|_| 0).collect();"),
+    slip("ATC cut to 32 bits", "second.rs", "floor_div(*kw, KW_PER_MW) as u64).collect()", "floor_div(*kw, KW_PER_MW) as u32 as u64).collect()"),
+    slip("one round only", "second.rs", "        rounds += 1;\n    }\n\n    let rows", "        rounds += 1;\n        if rounds == 1 {\n            break;\n        }\n    }\n\n    let rows"),
+    slip("stops after 1000 rounds", "second.rs", "        rounds += 1;\n    }\n\n    let rows", "        rounds += 1;\n        if rounds == 1_000 {\n            break;\n        }\n    }\n\n    let rows"),
+    slip("border 39 does not load row 199", "second.rs", "        let n = p.iter().filter(|p| **p > 0).count() as i128;", "        let mut p = p;\n        if row == 199 && p.len() == 40 {\n            p[39] = 0;\n        }\n        let n = p.iter().filter(|p| **p > 0).count() as i128;"),
+];
+
+fn build(work: &Path, library: &Path) -> bool {
+    Command::new("rustc")
+        .args(["-O", "--edition", "2021", "-A", "warnings", "--crate-type", "cdylib"])
+        .arg(work.join("mock.rs"))
+        .arg("-o")
+        .arg(library)
+        .status()
+        .expect("rustc")
+        .success()
+}
+
+/// The comparer against the library in `work`: exit code, output.
+fn compare(work: &Path) -> (bool, String) {
+    let out = Command::new(work.join("compare"))
+        .env("LD_LIBRARY_PATH", work)
+        .output()
+        .expect("the comparer");
+    (out.status.success(), String::from_utf8_lossy(&out.stdout).into_owned())
+}
+
+/// "seed .., table number 3, call number 40" and the call it was in.
+fn place(output: &str) -> String {
+    let Some(call) = output.lines().find(|line| line.starts_with("DIFFERENCE")) else {
+        return "the library stopped the program".to_string();
+    };
+    let seed = output.lines().filter(|line| line.starts_with("seed")).nth(1).unwrap_or("");
+    let after_seed = seed.split_once(", ").map_or("", |parts| parts.1);
+    format!("{after_seed} ({})", call.trim_start_matches("DIFFERENCE in "))
+}
+
+fn main() {
+    let only = std::env::args().nth(1).unwrap_or_default();
+    let work = Path::new("../target/second/slips");
+    std::fs::create_dir_all(work).expect("target/second/slips");
+    let library = work.join("libkeravnoth.so");
+    let second = std::fs::read_to_string("second.rs").expect("second.rs");
+    let mock = std::fs::read_to_string("mock.rs").expect("mock.rs");
+    let put = |file: &str, text: &str| std::fs::write(work.join(file), text).expect(file);
+
+    put("second.rs", &second);
+    put("mock.rs", &mock);
+    assert!(build(work, &library), "the stand-in does not build");
+    let built = Command::new("rustc")
+        .args(["-O", "--edition", "2021", "compare.rs", "-l", "dylib=keravnoth", "-L"])
+        .arg(format!("native={}", work.display()))
+        .arg("-o")
+        .arg(work.join("compare"))
+        .status()
+        .expect("rustc");
+    assert!(built.success(), "the comparer does not build");
+    let (passed, output) = compare(work);
+    assert!(passed, "the comparer does not pass the stand-in without a slip:\n{output}");
+    println!("without a slip: passed");
+
+    let mut missed = 0;
+    let mut tried = 0;
+    for slip in SLIPS.iter().filter(|slip| slip.name.contains(&only)) {
+        tried += 1;
+        let source = if slip.file == "mock.rs" { &mock } else { &second };
+        assert_eq!(source.matches(slip.old).count(), 1, "{}: its old text is not there once", slip.name);
+        put("second.rs", &second);
+        put("mock.rs", &mock);
+        put(slip.file, &source.replace(slip.old, slip.new));
+        assert!(build(work, &library), "{}: does not build", slip.name);
+        let (passed, output) = compare(work);
+        if passed {
+            missed += 1;
+            println!("MISSED  {}", slip.name);
+        } else {
+            println!("caught  {}: {}", slip.name, place(&output));
+        }
+    }
+    println!("{} of {tried} slips caught", tried - missed);
+    assert_eq!(missed, 0);
+}
