@@ -4,9 +4,9 @@
 use mathlib.Core.Path.{_≡_, refl, sym, ap, ap₂, subst, _∙_}
 use mathlib.Core.List.{List, []}
 use Prim.Native.Nat.{ℕ, zero, suc, _+_, _*_, _/_, _%_, _^_, _<_}
-use native.Mathlib.Nat.{pow-zero, pow-succ', two-pow-succ, div-eq-of-lt, add-div-left, mul-add-div, mul-add-mod-self-left, mul-assoc, not-suc-le-zero, add-zero, one-mul, zero-mul}
+use native.Mathlib.Nat.{pow-zero, pow-succ', two-pow-succ, div-eq-of-lt, add-div-left, mul-add-div, mul-add-mod-self-left, mul-assoc, not-suc-le-zero, one-mul, zero-mul}
 use native.Mathlib.Omega.{arith}
-use lib.IntN.{ℤ, pos, negsuc, negℤ, _+ℤ_, _*ℤ_, +ℤ-idr}
+use lib.IntN.{ℤ, pos, negsuc, negℤ, _+ℤ_, _*ℤ_}
 use lib.ListN.{length, getD}
 use lib.Signed.{_≤ℤ_, ≤ℤ-refl}
 use Rattle.numbers.specs.Ints.{positivePart, sumℤ}

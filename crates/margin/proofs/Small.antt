@@ -11,7 +11,6 @@ use mathlib.Core.Path.{refl, sym, subst}
 use Rattle.numbers.specs.Ints.{Within}
 use Rattle.numbers.proofs.IntLaws.{Between, diffs, zarith}
 use Rattle.kinds.specs.Limits.{zonesMost, fmaxMost, flowMost, shareMost, vaMost}
-use Rattle.kinds.specs.Ranges.{rowOf}
 use Rattle.kinds.proofs.KindLaws.{row-in}
 use Rattle.table.specs.Table.{Table, rowAt, factorsAt}
 use Rattle.table.specs.Good.{Good}
@@ -45,7 +44,7 @@ module _ {t : Table} (good : Good t) (i : ℕ) (below : i < t .header .rows) whe
   fmax-low : pos 0 ≤ℤ rowAt t i .fmax
   fmax-low = between-low (row-in (getD (t .rows) i []) (good .rows-fit i below) .fmax)
 
-  f0core-in : Within f0coreMost (f0coreAt t i)
+  pub f0core-in : Within f0coreMost (f0coreAt t i)
   f0core-in =
       let f = good-factors good in
       let n = good-nets good in
@@ -53,7 +52,7 @@ module _ {t : Table} (good : Good t) (i : ℕ) (below : i < t .header .rows) whe
       within-f0core (rowAt t i) (row-in-range .fref-in) (factorsAt t i) (t .nets) (omega (arith, long, n .long)) (stretch-bound f i below .each) (n .each) zonesMost
       (omega (arith, n .long, f .few))
 
-  s-in : sAt t i ≤ sMost
+  pub s-in : sAt t i ≤ sMost
   s-in =
       s-bound (stretch-bound (good-factors good) i below)
       (subst (λ (n : ℕ). BordersBound n (t .borders)) (sym (stretch-long (good-factors good) i below)) (good-borders good)) refl
@@ -62,11 +61,11 @@ module _ {t : Table} (good : Good t) (i : ℕ) (below : i < t .header .rows) whe
   abbrev top : ℕ
   top = shareMost * fmaxMost * 10 + (f0coreMost + flowMost * 100000)
 
-  ram-in : Within (top + vaMost * 100000 + vaMost * 100000) (ramAt t i)
+  pub ram-in : Within (top + vaMost * 100000 + vaMost * 100000) (ramAt t i)
   unfolding ramAt
   ram-in = within-ram row-in-range f0core-in top (sAt t i) (omega (arith, s-in)) (omega arith) (omega arith) (omega arith)
 
-  start-in : Within (top + vaMost * 100000 + vaMost * 100000) (ramAt t i -ℤ pos (sAt t i))
+  pub start-in : Within (top + vaMost * 100000 + vaMost * 100000) (ramAt t i -ℤ pos (sAt t i))
   unfolding ramAt
   start-in = within-start row-in-range f0core-in top (sAt t i) (omega (arith, s-in)) (omega arith) (omega arith) (omega arith)
 

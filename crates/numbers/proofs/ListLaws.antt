@@ -2,13 +2,13 @@
 -- `Copied` and `Filled` are the loops' invariants, each with its `-none`, `-more`, `-all`; `stretch` is a part lent mid-slice. No contract cites this file.
 -- Assumes nothing.
 use mathlib.Core.Path.{_≡_, refl, _∙_, sym, ap}
-use mathlib.Core.List.{List, _++_, append-assoc, append-nil}
+use mathlib.Core.List.{List, [], _∷_, _++_, append-assoc, append-nil}
 use Prim.Native.Nat.{ℕ, suc, _+_, _<_, _≤_}
 use native.Mathlib.Nat.{zero-add}
 use native.Mathlib.Numerals.{add-one}
 use native.Mathlib.Omega.{arith}
 use lib.ListN.{length, getD, set, take, drop, length-take, length-set, drop-of-length-le}
-use lib.Seq.{paste, length-take-le, paste-zero, paste-suc, take-all, drop-drop, drop-cons, set-at, append-snoc}
+use lib.Seq.{paste, length-take-le, paste-zero, paste-suc, take-all, drop-drop, drop-cons, getD-at, set-at}
 use Rattle.numbers.specs.Below.{table, over}
 use Rattle.numbers.proofs.BelowLaws.{table-long}
 
@@ -71,44 +71,41 @@ module _ {A : Type 0} where
       let e : i ≡ n = omega arith in
       u .is ∙ ap (λ (k : ℕ). paste d₀ 0 s k) e
 
-  -- ---- fills
+-- ---- fills
 
-  pub made-none : (f : ℕ → A) (d : List A) → d ≡ table 0 f ++ drop 0 d
+-- a buffer that a loop fills from the front: its first i items, of n, are f's, and the rest is as it was
+pub record Filled {A : Type 0} (f : ℕ → A) (n : ℕ) (old out : List A) (i : ℕ) : Type 0 where
+  pub high : i ≤ n
+  pub so-far : out ≡ table i f ++ drop i old
+  pub as-long : length out ≡ length old
+
+pub filled-none : {A : Type 0} (f : ℕ → A) (n : ℕ) (old : List A) → Filled f n old old 0
+unfolding table
+filled-none f n old = record { high = omega arith; so-far = refl; as-long = refl }
+
+module _ {A : Type 0} {f : ℕ → A} {n : ℕ} {old out : List A} {i : ℕ} (u : Filled f n old out i) where
+  -- what is still to be filled is as it was
+  pub filled-rest : (d : A) → i < length old → getD out i d ≡ getD old i d
+  filled-rest d h = rw (u .so-far, drop-cons old i d) (getD-at (table i f) (getD old i d) (drop (suc i) old) d i (table-long i f))
+
+  pub filled-more : (v : A) → i < n → n ≤ length old → v ≡ f i → Filled f n old (set out i v) (i + 1)
   unfolding table
-  made-none f d = refl
+  filled-more v h l e =
+      record {
+        high = omega arith;
+        so-far =
+            rw (u .so-far, add-one i, drop-cons old i v (omega arith), e)
+            (set-at (table i f) (getD old i (f i)) (drop (suc i) old) (f i) i (table-long i f) ∙ sym (append-assoc (table i f) (f i ∷ []) (drop (suc i) old)));
+        as-long = simp length-set (u .as-long);
+      }
 
-  pub made-more : (f : ℕ → A) (d : List A) (i : ℕ) → i < length d → set (table i f ++ drop i d) i (f i) ≡ table (i + 1) f ++ drop (i + 1) d
-  unfolding table
-  made-more f d i h =
-      ap (λ (l : List A). set (table i f ++ l) i (f i)) (drop-cons d i (f i) h)
-      ∙ set-at (table i f) (getD d i (f i)) (drop (suc i) d) (f i) i (table-long i f)
-      ∙ sym (append-snoc (table i f) (f i) (drop (suc i) d))
-      ∙ ap (λ (k : ℕ). table k f ++ drop k d) (sym (add-one i))
+  pub filled-over : n ≤ i → out ≡ over (table n f) old
+  filled-over h =
+      let e : i ≡ n = omega (arith, u .high) in
+      u .so-far ∙ ap (λ (j : ℕ). table j f ++ drop j old) e ∙ ap (λ (j : ℕ). table n f ++ drop j old) (sym (table-long n f))
 
-  pub made-all : (f : ℕ → A) (d : List A) (n : ℕ) → table n f ++ drop n d ≡ over (table n f) d
-  made-all f d n = rw (table-long n f)
-
-  -- a fill of a whole part
-  pub over-whole : (f : ℕ → A) (d : List A) (n : ℕ) → length d ≤ n → over (table n f) d ≡ table n f
-  over-whole f d n h = sym (made-all f d n) ∙ ap (λ (r : List A). table n f ++ r) (drop-of-length-le d h) ∙ append-nil (table n f)
-
-  -- the first i of n items are f's, the rest is as it was in d₀
-  pub record Filled (n : ℕ) (f : ℕ → A) (d₀ d : List A) (i : ℕ) : Type 0 where
-    pub high : i ≤ n
-    pub long : length d ≡ length d₀
-    pub is : d ≡ table i f ++ drop i d₀
-
-  pub filled-none : (n : ℕ) (f : ℕ → A) (d : List A) → Filled n f d d 0
-  filled-none n f d = record { high = omega arith; long = refl; is = made-none f d }
-
-  pub filled-more : {n : ℕ} {f : ℕ → A} {d₀ d : List A} {i : ℕ} (v : A) → n ≤ length d₀ → Filled n f d₀ d i → i < n → v ≡ f i → Filled n f d₀ (set d i v) (i + 1)
-  filled-more {n} {f} {d₀} {d} {i} v hd u h e = record {
-    high = omega arith;
-    long = simp length-set (u .long);
-    is = rw (e, u .is) (made-more f d₀ i (omega arith));
-  }
-
-  pub filled-all : {n : ℕ} {f : ℕ → A} {d₀ d : List A} {i : ℕ} → Filled n f d₀ d i → n ≤ i → d ≡ over (table n f) d₀
-  filled-all {n} {f} {d₀} {d} {i} u h =
-      let e : i ≡ n = omega arith in
-      u .is ∙ ap (λ (k : ℕ). table k f ++ drop k d₀) e ∙ made-all f d₀ n
+  -- .. and where the buffer has no more than n items, that is all of it
+  pub filled-all : n ≤ i → length old ≡ n → out ≡ table n f
+  filled-all h l =
+      let z : length old ≤ length (table n f) = omega (arith, table-long n f) in
+      filled-over h ∙ ap (λ (t : List A). table n f ++ t) (drop-of-length-le old z) ∙ append-nil (table n f)

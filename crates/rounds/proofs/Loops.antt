@@ -11,7 +11,8 @@ use native.Mathlib.Numerals.{add-one}
 use native.Mathlib.Omega.{arith}
 use lib.ListN.{length, set}
 use Rattle.numbers.specs.Below.{ifZero, count, lesser, least, orZero, at}
-use Rattle.numbers.proofs.BelowLaws.{count-le, count-pos, sum-part, Summed, summed-more, summed-all, table-long, table-get, Filled, filled-rest, filled-more}
+use Rattle.numbers.proofs.BelowLaws.{count-le, count-pos, sum-part, Summed, summed-more, summed-all, table-long, table-get}
+use Rattle.numbers.proofs.ListLaws.{Filled, filled-rest, filled-more}
 use Rattle.rounds.specs.Rounds.{Grid, sharers, raise, load, lowered, risen}
 use Rattle.rounds.specs.Work.{seen, Ready, Losable}
 

@@ -1,3 +1,4 @@
+pub mod Anchors
 pub mod StateLaws
 pub mod ShiftLaws
 pub mod OneKept

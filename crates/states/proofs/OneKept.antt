@@ -5,7 +5,7 @@ use mathlib.Core.Path.{_≡_, refl, sym, ap, subst, _∙_}
 use mathlib.Core.Bool.{Bool, true, false, cond, _&&_, _||_}
 use mathlib.Core.List.{List}
 use mathlib.Core.Logic.{_⊎_, inl, inr, ⊎-elim}
-use Prim.Native.Nat.{ℕ, zero, suc, _+_, _<_}
+use Prim.Native.Nat.{ℕ, zero, suc, _<_}
 use native.Mathlib.Nat.{not-suc-le-zero}
 use native.Mathlib.Omega.{arith}
 use borrow.Author.Count.{below-more}
@@ -16,7 +16,7 @@ use lib.ListN.{length}
 use lib.Signed.{ltZ, _≤ℤ_, _<ℤ_}
 use Rattle.numbers.specs.Ints.{sameℤ}
 use Rattle.numbers.specs.Below.{someBelow}
-use Rattle.numbers.proofs.IntLaws.{diff, diffs, zarith, ltZ-true, ltZ-false, lt-ltZ, le-ltZ, same-true, same-self, same-false}
+use Rattle.numbers.proofs.IntLaws.{diff, diffs, zarith, ltZ-true, ltZ-false, lt-ltZ, same-true, same-self}
 use Rattle.kinds.specs.Ranges.{atℤ}
 use Rattle.table.specs.Table.{Table, factorsAt}
 use Rattle.table.specs.Good.{Good}

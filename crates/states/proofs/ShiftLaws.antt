@@ -1,16 +1,15 @@
 -- Rows whose factors differ by one and the same number: it is an equivalence, and such rows have one spread. No contract cites this file.
 -- Assumes nothing.
-use mathlib.Core.Path.{_≡_, refl, sym, ap, ap₂, subst, _∙_}
+use mathlib.Core.Path.{_≡_, refl, ap, ap₂, _∙_}
 use mathlib.Core.Bool.{Bool, true, false, cond, not}
 use mathlib.Core.List.{List, [], _∷_}
 use mathlib.Core.Option.{Option, none, some}
-use Prim.Native.Nat.{ℕ, zero, suc, _≤_, _<_}
-use native.Mathlib.Nat.{not-suc-le-zero}
+use Prim.Native.Nat.{ℕ, suc, _<_}
 use native.Mathlib.Omega.{arith}
 use borrow.Author.Tests.{not-true, not-false}
-use lib.IntN.{ℤ, pos, _-ℤ_}
+use lib.IntN.{ℤ, _-ℤ_}
 use lib.ListN.{length}
-use lib.Signed.{ltZ, _≤ℤ_, _<ℤ_}
+use lib.Signed.{ltZ}
 use Rattle.numbers.specs.Ints.{maxℤ, minℤ, sameℤ}
 use Rattle.numbers.specs.Below.{firstFrom, given, someBelow, allBelow}
 use Rattle.numbers.proofs.IntLaws.{diff, diffs, zarith, same-true, same-self, ltZ-true, ltZ-false, lt-ltZ, le-ltZ}

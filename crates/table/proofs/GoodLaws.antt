@@ -14,6 +14,7 @@ use borrow.Author.Tests.{not-false}
 use Rattle.numbers.proofs.TestLaws.{and-both, both-and, all-true, true-all}
 use Rattle.kinds.specs.Ranges.{atℤ, headerFits, rowFits, factorFits}
 use Rattle.kinds.specs.Refusals.{passed}
+use Rattle.kinds.specs.declared.Header.{Header}
 use Rattle.kinds.proofs.KindLaws.{header-in}
 use Rattle.kinds.proofs.RefusalLaws.{passed-is, unless-passed, need-passed, none-passed, then-passed, unless-ok, need-enough, none-next, then-next}
 use Rattle.table.specs.Table.{Table, lent, stretch, factorsAt, twice, notTwice, rowGood, front, inRange, roomFor, judgeLent}

@@ -4,7 +4,7 @@ use mathlib.Core.Path.{_≡_, _∙_}
 use Prim.Native.Nat.{ℕ, _+_, _*_, _-_, _≤_, _<_}
 use native.Mathlib.Omega.{arith}
 use borrow.Author.Needs.{needs, sfits-of}
-use lib.IntN.{ℤ, pos, _-ℤ_, _*ℤ_}
+use lib.IntN.{ℤ, _-ℤ_, _*ℤ_}
 use lib.ListN.{length}
 use mir.Facts.{toZ-ofZ}
 use mir.Syntax.{w64}
@@ -13,7 +13,7 @@ use Rattle.numbers.specs.Ints.{Within, sumℤ}
 use Rattle.numbers.proofs.IntLaws.{within-fits, within-le, within-mul}
 use Rattle.kinds.specs.Limits.{factorMost, netMost}
 use Rattle.kinds.specs.Ranges.{atℤ}
-use Rattle.margin.specs.Margin.{grains, f0coreOf}
+use Rattle.margin.specs.Margin.{grains}
 use Rattle.margin.specs.Bounds.{f0coreMost}
 use Rattle.margin.proofs.BoundLaws.{within-is, within-grains, products, f0core-upto, f0core-none, f0core-more, f0core-all}
 use Rattle.margin.proofs.f0core.Statement.{statement}

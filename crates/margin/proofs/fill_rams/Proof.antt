@@ -1,27 +1,26 @@
 -- `margin::fill_rams` meets its contract. The loop's invariant: the first i rows have their RAM. The measure is the rows that are left.
 -- Assumes nothing.
-use mathlib.Core.Path.{_≡_, sym, ap, subst, _∙_}
+use mathlib.Core.Path.{_≡_, sym, subst, _∙_}
 use mathlib.Core.List.{List, []}
 use Prim.Native.Nat.{ℕ, _-_, _<_}
 use native.Mathlib.Omega.{arith}
 use borrow.Author.Needs.{sfits-of}
-use lib.IntN.{ℤ, pos}
+use lib.IntN.{ℤ}
 use lib.ListN.{length, getD}
 use mir.Facts.{toZ-ofZ}
 use mir.Syntax.{w64}
 use mir.Val.{SFits}
+use Rattle.numbers.proofs.ListLaws.{Filled, filled-none, filled-more, filled-all}
 use Rattle.kinds.specs.Ranges.{rowOf}
 use Rattle.table.specs.Table.{Table, lent, stretch}
-use Rattle.table.specs.Good.{Good}
 use Rattle.margin.specs.Margin.{f0coreOf, sOf, ramOf, ramAt}
 use Rattle.margin.specs.Bounds.{NetsBound, BordersBound}
-use Rattle.margin.proofs.FillLaws.{Filled, filled-none, filled-more, filled-all}
 use Rattle.margin.proofs.JudgedLaws.{part-long, part-bound, s-bound, good-factors, good-borders, good-nets}
 use Rattle.margin.proofs.fill_rams.Statement.{statement}
 use Rattle.margin.proofs.fill_rams.Tie as tie
 
 abbrev Inv-loop : tie.InvT-loop
-Inv-loop header z b c f rams₀ i₀ i-end rams i = Filled (pos 0) (header .rows) (ramAt (lent header z b c f)) i rams
+Inv-loop header z b c f rams₀ i₀ i-end rams i = Filled (ramAt (lent header z b c f)) (header .rows) rams₀ rams i
 
 abbrev μ-loop : tie.MeasureT-loop
 μ-loop header z b c f rams₀ i₀ i-end rams i = header .rows - i
@@ -33,7 +32,7 @@ unfolding ramAt
 ram-is t i e u v = cc
 
 loop-holds : tie.Need-loop-holds Inv-loop μ-loop
-loop-holds c = filled-none _ _ _ (c .pre .1)
+loop-holds c = filled-none _ _ _
 
 row-factors-requires : tie.Need-row-factors-requires Inv-loop μ-loop
 row-factors-requires c κs = (good-factors (c .before .before .pre .0), omega arith)
@@ -77,13 +76,13 @@ row-ram-requires c κs =
     )
 
 mul-t16 : tie.Need-mul-t16 Inv-loop μ-loop
-mul-t16 c = omega (arith, c .before .before .before .before .before .loop .inv .long)
+mul-t16 c = omega (arith, c .before .before .before .before .before .loop .inv .as-long, start (c .before .before .before) .pre .1)
 
 slice-set-from-rams : tie.Need-slice-set-from-rams Inv-loop μ-loop
-slice-set-from-rams c = omega (arith, c .before .before .before .before .before .loop .inv .long)
+slice-set-from-rams c = omega (arith, c .before .before .before .before .before .loop .inv .as-long, start (c .before .before .before) .pre .1)
 
 add-i : tie.Need-add-i Inv-loop μ-loop
-add-i c = omega (arith, c .before .before .before .before .before .loop .inv .long)
+add-i c = omega (arith, c .before .before .before .before .before .loop .inv .as-long, start (c .before .before .before) .pre .1)
 
 loop-less : tie.Need-loop-less Inv-loop μ-loop
 loop-less c = omega arith
@@ -93,14 +92,14 @@ loop-again c =
     let d = c .before .before .before in
     let a = start d .args in
     let k : SFits w64 (c .row-ram .result) = sfits-of (c .row-ram .ok) in
-    filled-more _ _ _ (c .before .before .before .before .before .loop .inv) (below d)
+    filled-more (c .before .before .before .before .before .loop .inv) _ (below d) (omega (arith, start d .pre .1))
     (toZ-ofZ k ∙ ram-is (lent (a .header) (a .z .now) (a .b .now) (a .c .now) (a .f .now)) (d .before .before .loop .i) (d .row-factors .ensures) (c .before .before .s .ensures) (c .row-ram .ensures))
 
 same-length : tie.Need-same-length Inv-loop μ-loop
-same-length c = c .before .loop .inv .long ∙ sym (c .before .before .pre .1)
+same-length c = c .before .loop .inv .as-long
 
 returns : tie.Need-returns Inv-loop μ-loop
-returns c = filled-all _ _ _ (c .before .loop .inv) (omega arith)
+returns c = filled-all (c .before .loop .inv) (omega arith) (c .before .before .pre .1)
 
 pub fill-rams-spec : {M : Type 1} → statement M
 fill-rams-spec =

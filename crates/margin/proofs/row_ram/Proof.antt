@@ -2,14 +2,13 @@
 use mathlib.Core.Path.{_≡_, _∙_}
 use native.Mathlib.Omega.{arith}
 use borrow.Author.Needs.{needs, sfits-of}
-use lib.ListN.{length}
 use mir.Facts.{toZ-ofZ}
 use mir.Syntax.{w64}
 use mir.Val.{SFits}
 use Rattle.numbers.specs.Ints.{Within}
 use Rattle.kinds.specs.Limits.{zonesMost}
 use Rattle.kinds.specs.Ranges.{rowOf}
-use Rattle.margin.specs.Margin.{f0coreOf, ramOf}
+use Rattle.margin.specs.Margin.{ramOf}
 use Rattle.margin.specs.Bounds.{RowBound, f0coreMost}
 use Rattle.margin.proofs.BoundLaws.{within-is, within-f0core}
 use Rattle.margin.proofs.JudgedLaws.{row-is, row-never, row-read-bound}

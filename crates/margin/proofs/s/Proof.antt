@@ -1,14 +1,12 @@
 -- `margin::s` meets its contract. The loop's invariant: what is there is the sum over the first b borders. The measure is the borders that are left.
 -- Assumes nothing.
-use mathlib.Core.Path.{_≡_, refl, ap, _∙_}
-use Prim.Native.Nat.{ℕ, _+_, _*_, _-_, _≤_, _<_}
-use native.Mathlib.Numerals.{add-one}
+use mathlib.Core.Path.{_≡_, _∙_}
+use Prim.Native.Nat.{ℕ, _+_, _-_, _≤_, _<_}
 use native.Mathlib.Omega.{arith}
 use lib.ListN.{length, getD}
 use mathlib.Core.List.{[]}
 use Rattle.numbers.specs.Below.{sum}
 use Rattle.kinds.specs.Ranges.{borderOf}
-use Rattle.margin.specs.Margin.{sOf}
 use Rattle.margin.specs.Bounds.{BorderBound}
 use Rattle.margin.proofs.BoundLaws.{loads, s-upto, s-none, s-more, s-all}
 use Rattle.margin.proofs.JudgedLaws.{border-bound}

@@ -3,7 +3,7 @@
 use mathlib.Core.Logic.{⊎-elim}
 use Prim.Native.Nat.{_-_}
 use native.Mathlib.Omega.{arith}
-use Rattle.numbers.proofs.BelowLaws.{Filled, filled-none, filled-more, filled-all}
+use Rattle.numbers.proofs.ListLaws.{Filled, filled-none, filled-more, filled-all}
 use Rattle.rounds.specs.Rounds.{sharers}
 use Rattle.rounds.specs.Work.{flat}
 use Rattle.rounds.proofs.Loops.{Counted, counted-none, counted-up, counted-on, counted-le, counted-all}

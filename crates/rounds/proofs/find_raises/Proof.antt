@@ -6,7 +6,7 @@ use mathlib.Core.Logic.{⊎-elim}
 use mathlib.Core.Path.{_∙_}
 use Prim.Native.Nat.{ℕ, _-_}
 use native.Mathlib.Omega.{arith}
-use Rattle.numbers.proofs.BelowLaws.{Filled, filled-none, filled-more, filled-all}
+use Rattle.numbers.proofs.ListLaws.{Filled, filled-none, filled-more, filled-all}
 use Rattle.rounds.specs.Rounds.{Grid, raise, raises}
 use Rattle.rounds.specs.Work.{flat}
 use Rattle.rounds.proofs.Loops.{Counted, counted-none, counted-up, counted-on, counted-le, counted-all, ready-long, ready-pos, Lowest, lowest-none, lowest-take, lowest-skip, lowest-all}

@@ -4,7 +4,8 @@
 use Prim.Native.Nat.{_+_, _*_, _-_, _^_, _<_}
 use native.Mathlib.Omega.{arith}
 use Rattle.numbers.specs.Below.{at}
-use Rattle.numbers.proofs.BelowLaws.{Summed, summed-none, Filled, filled-none, filled-all}
+use Rattle.numbers.proofs.BelowLaws.{Summed, summed-none}
+use Rattle.numbers.proofs.ListLaws.{Filled, filled-none, filled-all}
 use Rattle.rounds.specs.Rounds.{lowered}
 use Rattle.rounds.specs.Work.{flat}
 use Rattle.rounds.proofs.Loops.{terms, lose-more, lose-fits, lose-within, lose-row}

@@ -5,7 +5,8 @@ use mathlib.Core.Logic.{⊎-elim}
 use Prim.Native.Nat.{_-_}
 use native.Mathlib.Omega.{arith}
 use Rattle.numbers.specs.Below.{at}
-use Rattle.numbers.proofs.BelowLaws.{le-or-lt, Filled, filled-none, filled-rest, filled-all}
+use Rattle.numbers.proofs.BelowLaws.{le-or-lt}
+use Rattle.numbers.proofs.ListLaws.{Filled, filled-none, filled-rest, filled-all}
 use Rattle.rounds.specs.Rounds.{risen}
 use Rattle.rounds.proofs.Loops.{rise-more}
 use Rattle.rounds.proofs.rise.Statement.{statement}

@@ -1,7 +1,7 @@
 -- `states::stood_for` meets its contract. The loop's invariant: what is left to look at from row j on comes to what the whole comes to.
 -- The measure is the rows that are left.
 -- Assumes nothing.
-use mathlib.Core.Path.{_≡_, sym, ap, _∙_}
+use mathlib.Core.Path.{sym, ap, _∙_}
 use mathlib.Core.Bool.{_&&_}
 use mathlib.Core.Option.{Option}
 use Prim.Native.Nat.{ℕ, _-_}

@@ -1,0 +1,37 @@
+-- Small computed states. Nobody cites them: they refuse a definition that slipped (01, "Slips seen in hand sheets").
+-- Assumes nothing.
+use mathlib.Core.Path.{_≡_, refl}
+use mathlib.Core.List.{List, [], _∷_}
+use Prim.Native.Nat.{ℕ}
+use lib.IntN.{ℤ, pos}
+use Rattle.numbers.specs.Below.{sum, table, firstFrom, given}
+use Rattle.numbers.specs.Ints.{maxℤ, minℤ, positivePart, sameℤ, sumℤ}
+use Rattle.kinds.specs.Ranges.{borderOf, shareOf, rowOf, worth}
+use Rattle.table.specs.Table.{Table, stretch}
+use Rattle.margin.specs.Margin.{grains, f0coreOf, fuafOf, baseOf, amrOf, signedFactor, pOf, ltaKw, sOf, ltaMarginOf, ramOf, ramAt, ramsOf}
+use Rattle.states.specs.States.{highest, lowest, spreadOf, shifted, below, stateOf, statesOf}
+
+-- rows of Fmax 100000 kW, their other values 0, with these factors of two zones
+abbrev rowsWith : (rows : ℕ) → (factors : List ℤ) → Table
+rowsWith rows factors =
+    record {
+      header = record { zones = 2; borders = 1; rows = rows };
+      nets = pos 0 ∷ pos 0 ∷ [];
+      borders = (pos 0 ∷ pos 1 ∷ pos 0 ∷ []) ∷ [];
+      rows = table rows (λ i. pos 100000 ∷ pos 0 ∷ pos 0 ∷ pos 0 ∷ pos 0 ∷ pos 0 ∷ pos 0 ∷ []);
+      factors = factors;
+    }
+
+abbrev statesWith : (rows : ℕ) → (factors : List ℤ) → List ℕ
+statesWith rows factors = let t = rowsWith rows factors in statesOf t (ramsOf t)
+
+pub record Anchors : Type 0 where
+  -- spread 5000: kept; 4999: state 1
+  pub spread-5000 : statesWith 1 (pos 5000 ∷ pos 0 ∷ []) ≡ 0 ∷ []
+  pub spread-4999 : statesWith 1 (pos 4999 ∷ pos 0 ∷ []) ≡ 1 ∷ []
+  -- of two rows with equal RAM and equal factors the second is state 2
+  pub tie : statesWith 2 (pos 5000 ∷ pos 0 ∷ pos 5000 ∷ pos 0 ∷ []) ≡ 0 ∷ 2 ∷ []
+
+pub anchors : Anchors
+unfolding sum table firstFrom given maxℤ minℤ positivePart sameℤ sumℤ borderOf shareOf rowOf worth stretch grains f0coreOf fuafOf baseOf amrOf signedFactor pOf ltaKw sOf ltaMarginOf ramOf ramAt highest lowest spreadOf shifted below stateOf
+anchors = record { spread-5000 = refl; spread-4999 = refl; tie = refl }
