@@ -7,7 +7,7 @@
 //! The designs take turns; medians of processor time over many turns, as ratios
 //! to (c).  Arguments: seconds for each hour (3), then hours (all of hours/).
 
-#[path = "../second/calls.rs"]
+#[path = "calls.rs"]
 mod calls;
 #[path = "loops.rs"]
 mod loops;

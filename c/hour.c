@@ -5,6 +5,8 @@
  *
  *   cc -std=c11 -Wall -Wextra -Werror -Iinclude c/hour.c libkeravnoth.a -o hour
  *
+ * on x86-64; c/build and c/run do it elsewhere too.
+ *
  * Exit code: 0 capacities printed, 1 the table is refused, 2 the file cannot be
  * read or the capacities cannot be printed.
  */

@@ -1,12 +1,22 @@
-//! The calculator's C interface, as declared in include/keravnoth.h, with a
-//! safe wrapper for each call: a slice for each pointer and count.
-#![allow(dead_code)]
+//! The calls of include/keravnoth.h, made by another process, a bridge (see
+//! wire.rs): so the comparer runs on this machine whatever machine the library
+//! is for, and sees a call that ends the process.
+//!
+//! Each lent buffer is given with its guards; what the bridge holds after the
+//! call takes its place, guards and inputs too.
+
+#[path = "wire.rs"]
+pub mod wire;
+
+use std::ffi::OsString;
+use std::io::{Read as _, Write as _};
+use std::process::{Child, ChildStdin, ChildStdout, Command, Stdio};
+use wire::Item;
 
 /// What reading says.  `number` 0: no refusal.
-#[repr(C)]
 #[derive(Clone, Copy, Debug, PartialEq, Eq)]
 pub struct Read {
-    pub number: u32,
+    pub number: u64,
     pub place: usize,
     pub zones: usize,
     pub borders: usize,
@@ -14,197 +24,187 @@ pub struct Read {
 }
 
 /// What a call that writes text says.
-#[repr(C)]
 #[derive(Clone, Copy, Debug, PartialEq, Eq)]
 pub struct Written {
-    pub number: u32,
+    pub number: u64,
     pub place: usize,
     pub bytes: usize,
 }
 
 /// What the extraction says.
-#[repr(C)]
 #[derive(Clone, Copy, Debug, PartialEq, Eq)]
 pub struct Extracted {
-    pub number: u32,
+    pub number: u64,
     pub place: usize,
     pub rounds: u64,
 }
 
-extern "C" {
-    fn keravnoth_read(
-        text: *const u8,
-        n: usize,
-        z: *mut i64,
-        nz: usize,
-        b: *mut [i64; 3],
-        nb: usize,
-        c: *mut [i64; 7],
-        nc: usize,
-        f: *mut i64,
-        nf: usize,
-    ) -> Read;
-    fn keravnoth_write(
-        zones: usize,
-        borders: usize,
-        rows: usize,
-        z: *const i64,
-        nz: usize,
-        b: *const [i64; 3],
-        nb: usize,
-        c: *const [i64; 7],
-        nc: usize,
-        f: *const i64,
-        nf: usize,
-        out: *mut u8,
-        nout: usize,
-    ) -> Written;
-    fn keravnoth_extract(
-        zones: usize,
-        borders: usize,
-        rows: usize,
-        z: *const i64,
-        nz: usize,
-        b: *const [i64; 3],
-        nb: usize,
-        c: *const [i64; 7],
-        nc: usize,
-        f: *const i64,
-        nf: usize,
-        atc: *mut [i64; 1],
-        natc: usize,
-        left: *mut [i64; 3],
-        nleft: usize,
-    ) -> Extracted;
-    fn keravnoth_result_text(
-        zones: usize,
-        borders: usize,
-        rows: usize,
-        z: *const i64,
-        nz: usize,
-        b: *const [i64; 3],
-        nb: usize,
-        c: *const [i64; 7],
-        nc: usize,
-        f: *const i64,
-        nf: usize,
-        out: *mut u8,
-        nout: usize,
-    ) -> Written;
-    fn keravnoth_answer(text: *const u8, n: usize, out: *mut u8, nout: usize) -> Written;
+/// The bridge ended within a call: how.
+#[derive(Debug)]
+pub struct Ended(pub String);
+
+pub struct Bridge {
+    child: Child,
+    /// None once it is told that nothing follows
+    to: Option<ChildStdin>,
+    from: ChildStdout,
+    /// the request, then its answer
+    bytes: Vec<u8>,
+    /// how far the answer's bytes have been given back
+    at: usize,
 }
 
-pub fn read(
-    text: &[u8],
-    z: &mut [i64],
-    b: &mut [[i64; 3]],
-    c: &mut [[i64; 7]],
-    f: &mut [i64],
-) -> Read {
-    // Sound: each pointer comes with the length of its own slice.
-    unsafe {
-        keravnoth_read(
-            text.as_ptr(),
-            text.len(),
-            z.as_mut_ptr(),
-            z.len(),
-            b.as_mut_ptr(),
-            b.len(),
-            c.as_mut_ptr(),
-            c.len(),
-            f.as_mut_ptr(),
-            f.len(),
-        )
+/// The lent tables of a call, each with its guards.
+pub struct Lent<'a> {
+    pub header: [usize; 3],
+    pub z: &'a mut [i64],
+    pub b: &'a mut [[i64; 3]],
+    pub c: &'a mut [[i64; 7]],
+    pub f: &'a mut [i64],
+}
+
+impl Bridge {
+    /// The program and its arguments.
+    pub fn start(command: &[OsString]) -> std::io::Result<Bridge> {
+        let mut child = Command::new(&command[0])
+            .args(&command[1..])
+            .stdin(Stdio::piped())
+            .stdout(Stdio::piped())
+            .spawn()?;
+        let to = child.stdin.take();
+        let from = child.stdout.take().expect("the bridge's output");
+        Ok(Bridge { child, to, from, bytes: Vec::new(), at: 0 })
     }
-}
 
-pub fn write(
-    header: [usize; 3],
-    z: &[i64],
-    b: &[[i64; 3]],
-    c: &[[i64; 7]],
-    f: &[i64],
-    out: &mut [u8],
-) -> Written {
-    let [zones, borders, rows] = header;
-    unsafe {
-        keravnoth_write(
-            zones,
-            borders,
-            rows,
-            z.as_ptr(),
-            z.len(),
-            b.as_ptr(),
-            b.len(),
-            c.as_ptr(),
-            c.len(),
-            f.as_ptr(),
-            f.len(),
-            out.as_mut_ptr(),
-            out.len(),
-        )
+    /// Says that nothing follows; the bridge then ends without a word, with
+    /// status 0.
+    pub fn end(&mut self) -> Result<(), Ended> {
+        self.to = None;
+        self.bytes.clear();
+        match self.from.read_to_end(&mut self.bytes) {
+            Ok(0) => {}
+            Ok(more) => return Err(Ended(format!("it wrote {more} bytes that nobody asked for"))),
+            Err(error) => return Err(Ended(error.to_string())),
+        }
+        match self.child.wait() {
+            Ok(status) if status.success() => Ok(()),
+            Ok(status) => Err(Ended(status.to_string())),
+            Err(error) => Err(Ended(error.to_string())),
+        }
     }
-}
 
-pub fn extract(
-    header: [usize; 3],
-    z: &[i64],
-    b: &[[i64; 3]],
-    c: &[[i64; 7]],
-    f: &[i64],
-    atc: &mut [[i64; 1]],
-    left: &mut [[i64; 3]],
-) -> Extracted {
-    let [zones, borders, rows] = header;
-    unsafe {
-        keravnoth_extract(
-            zones,
-            borders,
-            rows,
-            z.as_ptr(),
-            z.len(),
-            b.as_ptr(),
-            b.len(),
-            c.as_ptr(),
-            c.len(),
-            f.as_ptr(),
-            f.len(),
-            atc.as_mut_ptr(),
-            atc.len(),
-            left.as_mut_ptr(),
-            left.len(),
-        )
+    fn ended(&mut self, error: std::io::Error) -> Ended {
+        self.to = None;
+        match self.child.wait() {
+            Ok(status) => Ended(format!("{error}; {status}")),
+            Err(_) => Ended(error.to_string()),
+        }
     }
-}
 
-pub fn result_text(
-    header: [usize; 3],
-    z: &[i64],
-    b: &[[i64; 3]],
-    c: &[[i64; 7]],
-    f: &[i64],
-    out: &mut [u8],
-) -> Written {
-    let [zones, borders, rows] = header;
-    unsafe {
-        keravnoth_result_text(
-            zones,
-            borders,
-            rows,
-            z.as_ptr(),
-            z.len(),
-            b.as_ptr(),
-            b.len(),
-            c.as_ptr(),
-            c.len(),
-            f.as_ptr(),
-            f.len(),
-            out.as_mut_ptr(),
-            out.len(),
-        )
+    fn begin(&mut self, call: u64, header: [usize; 3]) {
+        self.bytes.clear();
+        self.bytes.resize(8 * wire::WORDS, 0);
+        wire::set_word(&mut self.bytes, 0, call);
+        for (index, count) in header.into_iter().enumerate() {
+            wire::set_word(&mut self.bytes, 1 + index, count as u64);
+        }
     }
-}
 
-pub fn answer(text: &[u8], out: &mut [u8]) -> Written {
-    unsafe { keravnoth_answer(text.as_ptr(), text.len(), out.as_mut_ptr(), out.len()) }
+    fn lend<T: Item>(&mut self, buffer: usize, block: &[T]) {
+        let count = block.len() - wire::BEFORE - wire::AFTER;
+        wire::set_word(&mut self.bytes, buffer, count as u64);
+        wire::put_all(block, &mut self.bytes);
+    }
+
+    /// Sends what was begun and lent, and takes the answer: its fields.
+    fn ask<const FIELDS: usize>(&mut self) -> Result<[u64; FIELDS], Ended> {
+        let to = self.to.as_mut().expect("a bridge that has not ended");
+        if let Err(error) = to.write_all(&self.bytes) {
+            return Err(self.ended(error));
+        }
+        let lent = self.bytes.len() - 8 * wire::WORDS;
+        self.bytes.resize(8 * FIELDS + lent, 0);
+        if let Err(error) = self.from.read_exact(&mut self.bytes) {
+            return Err(self.ended(error));
+        }
+        self.at = 8 * FIELDS;
+        Ok(std::array::from_fn(|field| wire::word(&self.bytes, field)))
+    }
+
+    /// The buffers in the order in which they were lent.
+    fn back<T: Item>(&mut self, block: &mut [T]) {
+        self.at += wire::get_all(block, &self.bytes[self.at..]);
+    }
+
+    fn lend_tables(&mut self, l: &Lent) {
+        self.lend(wire::Z, l.z);
+        self.lend(wire::B, l.b);
+        self.lend(wire::C, l.c);
+        self.lend(wire::F, l.f);
+    }
+
+    fn tables_back(&mut self, l: &mut Lent) {
+        self.back(l.z);
+        self.back(l.b);
+        self.back(l.c);
+        self.back(l.f);
+    }
+
+    /// The header of the tables is not looked at.
+    pub fn read(&mut self, text: &mut [u8], mut l: Lent) -> Result<Read, Ended> {
+        self.begin(wire::READ, [0; 3]);
+        self.lend_tables(&l);
+        self.lend(wire::TEXT, text);
+        let [number, place, zones, borders, rows] = self.ask()?;
+        self.tables_back(&mut l);
+        self.back(text);
+        let [place, zones, borders, rows] =
+            [place, zones, borders, rows].map(|field| field as usize);
+        Ok(Read { number, place, zones, borders, rows })
+    }
+
+    pub fn write(&mut self, l: Lent, out: &mut [u8]) -> Result<Written, Ended> {
+        self.tables_to_text(wire::WRITE, l, out)
+    }
+
+    pub fn result_text(&mut self, l: Lent, out: &mut [u8]) -> Result<Written, Ended> {
+        self.tables_to_text(wire::RESULT_TEXT, l, out)
+    }
+
+    fn tables_to_text(&mut self, call: u64, mut l: Lent, out: &mut [u8]) -> Result<Written, Ended> {
+        self.begin(call, l.header);
+        self.lend_tables(&l);
+        self.lend(wire::OUT, out);
+        let [number, place, bytes] = self.ask()?;
+        self.tables_back(&mut l);
+        self.back(out);
+        Ok(Written { number, place: place as usize, bytes: bytes as usize })
+    }
+
+    pub fn extract(
+        &mut self,
+        mut l: Lent,
+        atc: &mut [[i64; 1]],
+        left: &mut [[i64; 3]],
+    ) -> Result<Extracted, Ended> {
+        self.begin(wire::EXTRACT, l.header);
+        self.lend_tables(&l);
+        self.lend(wire::ATC, atc);
+        self.lend(wire::LEFT, left);
+        let [number, place, rounds] = self.ask()?;
+        self.tables_back(&mut l);
+        self.back(atc);
+        self.back(left);
+        Ok(Extracted { number, place: place as usize, rounds })
+    }
+
+    pub fn answer(&mut self, text: &mut [u8], out: &mut [u8]) -> Result<Written, Ended> {
+        self.begin(wire::ANSWER, [0; 3]);
+        self.lend(wire::TEXT, text);
+        self.lend(wire::OUT, out);
+        let [number, place, bytes] = self.ask()?;
+        self.back(text);
+        self.back(out);
+        Ok(Written { number, place: place as usize, bytes: bytes as usize })
+    }
 }

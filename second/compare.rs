@@ -1,15 +1,17 @@
 //! Compares the calculator's C interface with the reference calculator
 //! (second.rs): every answer, and every number or byte of every lent buffer,
-//! on tables, texts and lent tables made from a seed.
+//! on tables, texts and lent tables made from a seed.  Another process makes
+//! the calls (calls.rs, wire.rs).
 //!
-//! Arguments: number of tables, number of damaged texts, seed (each may be left
-//! out).  At the first difference both answers and the table are printed and
-//! the exit code is 1.  A run that does not reach every refusal number and the
-//! other cases listed in `wanted` fails too.
+//! Arguments: that process's program and its own arguments, "--", number of
+//! tables, number of damaged texts, seed (each number may be left out).  At the
+//! first difference both answers and the table are printed and the exit code is
+//! 1; a call that ends the process is a difference too.  A run that does not
+//! reach every refusal number and the other cases listed in `wanted` fails too.
 //!
 //! With SHOW_CASES set, how often each case was reached; with SHOW_EACH set,
-//! each table's and text's number before it is tried (for a library that stops
-//! the program).
+//! each table's and text's number before it is tried (for a library that does
+//! not come back).
 
 #[path = "calls.rs"]
 mod calls;
@@ -22,10 +24,12 @@ mod make;
 #[path = "second.rs"]
 mod second;
 
-use calls::{Extracted, Read, Written};
+use calls::wire::{Item, AFTER, BEFORE};
+use calls::{Bridge, Ended, Extracted, Read, Written};
 use dice::Dice;
 use second::{Header, Outcome, Refusal, Tables};
 use std::collections::BTreeMap;
+use std::ffi::OsString;
 use std::fmt::Debug;
 
 const TABLES: u64 = 20_000;
@@ -35,7 +39,7 @@ const SEED: u64 = 20_260_101;
 // --------------------------------------------------------------- lent memory
 
 /// A value that no rule would write, another at each place.
-trait Mark: Copy + PartialEq + Debug {
+trait Mark: Item + PartialEq + Debug {
     fn mark(d: &mut Dice) -> Self;
 }
 
@@ -56,10 +60,6 @@ impl<const K: usize> Mark for [i64; K] {
         std::array::from_fn(|_| d.next() as i64)
     }
 }
-
-/// Items before and after the lent part that nobody may touch.
-const BEFORE: usize = 2;
-const AFTER: usize = 3;
 
 /// A lent buffer within a larger piece of memory full of marks.
 struct Lent<T> {
@@ -84,10 +84,6 @@ impl<T: Mark> Lent<T> {
 
     fn part(&self) -> &[T] {
         &self.whole[BEFORE..BEFORE + self.count]
-    }
-
-    fn part_mut(&mut self) -> &mut [T] {
-        &mut self.whole[BEFORE..BEFORE + self.count]
     }
 
     /// None where the memory is as it was but for `items` in front of the lent
@@ -133,8 +129,14 @@ impl LentTables {
         }
     }
 
-    fn header(&self) -> [usize; 3] {
-        [self.header.zones, self.header.borders, self.header.rows]
+    fn lend(&mut self) -> calls::Lent<'_> {
+        calls::Lent {
+            header: [self.header.zones, self.header.borders, self.header.rows],
+            z: &mut self.z.whole,
+            b: &mut self.b.whole,
+            c: &mut self.c.whole,
+            f: &mut self.f.whole,
+        }
     }
 
     /// None where nothing was changed.
@@ -146,11 +148,11 @@ impl LentTables {
             .or_else(|| self.f.fault("f", &[]))
     }
 
-    /// The lent tables as text, whatever they hold: as many items of each as
-    /// the header asks for and as are there.
+    /// The lent tables as text, whatever they held before the call: as many
+    /// items of each as the header asks for and as are there.
     fn shown(&self) -> Vec<u8> {
         fn front<T: Mark>(lent: &Lent<T>, asked: usize) -> Vec<T> {
-            lent.part()[..asked.min(lent.count)].to_vec()
+            lent.was[BEFORE..BEFORE + asked.min(lent.count)].to_vec()
         }
         let h = self.header;
         let tables = Tables {
@@ -173,6 +175,7 @@ impl LentTables {
 // ------------------------------------------------------------- the comparison
 
 struct Comparison {
+    bridge: Bridge,
     seed: u64,
     kind: &'static str,
     number: u64,
@@ -211,6 +214,17 @@ impl Comparison {
         std::process::exit(1);
     }
 
+    /// What the bridge said; a bridge that ended is a difference.
+    fn said<T>(&mut self, call: &str, found: Result<T, Ended>, shown: &dyn Fn() -> Vec<u8>) -> T {
+        match found {
+            Ok(found) => found,
+            Err(Ended(how)) => {
+                self.calls += 1;
+                self.fail(call, &format!("the process that makes the calls ended: {how}"), &shown())
+            }
+        }
+    }
+
     fn count(&mut self, call: &str, number: u32) {
         self.calls += 1;
         self.numbers[number as usize] += 1;
@@ -218,12 +232,20 @@ impl Comparison {
     }
 
     fn read(&mut self, d: &mut Dice, text: &[u8], room: [usize; 4]) -> Result<Tables, Refusal> {
-        let lent_text = Lent::holding(d, text, text.len());
+        let mut lent_text = Lent::holding(d, text, text.len());
         let mut z = Lent::room(d, room[0]);
         let mut b = Lent::room(d, room[1]);
         let mut c = Lent::room(d, room[2]);
         let mut f = Lent::room(d, room[3]);
-        let found = calls::read(lent_text.part(), z.part_mut(), b.part_mut(), c.part_mut(), f.part_mut());
+        let lent = calls::Lent {
+            header: [0; 3],
+            z: &mut z.whole,
+            b: &mut b.whole,
+            c: &mut c.whole,
+            f: &mut f.whole,
+        };
+        let found = self.bridge.read(&mut lent_text.whole, lent);
+        let found = self.said("keravnoth_read", found, &|| text.to_vec());
         let reference = second::read(text, room);
         let none = Tables {
             header: Header { zones: 0, borders: 0, rows: 0 },
@@ -237,7 +259,8 @@ impl Comparison {
             Err(refusal) => (refusal.number, refusal.place, &none),
         };
         let h = t.header;
-        let wanted = Read { number, place, zones: h.zones, borders: h.borders, rows: h.rows };
+        let wanted =
+            Read { number: number.into(), place, zones: h.zones, borders: h.borders, rows: h.rows };
         self.count("read", number);
         if found != wanted {
             let details = format!("library {found:?}\nreference {wanted:?}\nroom {room:?}");
@@ -269,7 +292,7 @@ impl Comparison {
             Ok(text) => (0, 0, text),
             Err(refusal) => (refusal.number, refusal.place, &[]),
         };
-        let wanted = Written { number, place, bytes: text.len() };
+        let wanted = Written { number: number.into(), place, bytes: text.len() };
         self.count(call, number);
         if found != wanted {
             let details = format!(
@@ -290,27 +313,30 @@ impl Comparison {
         }
     }
 
-    fn write(&mut self, d: &mut Dice, l: &LentTables, room: usize) -> Result<Vec<u8>, Refusal> {
-        let mut out = Lent::room(d, room);
-        let found = calls::write(l.header(), l.z.part(), l.b.part(), l.c.part(), l.f.part(), out.part_mut());
+    fn write(&mut self, d: &mut Dice, l: &mut LentTables, room: usize) -> Result<Vec<u8>, Refusal> {
         let reference = second::write(l.header, l.z.part(), l.b.part(), l.c.part(), l.f.part(), room);
+        let mut out = Lent::room(d, room);
+        let found = self.bridge.write(l.lend(), &mut out.whole);
+        let found = self.said("keravnoth_write", found, &|| l.shown());
         self.text_call("keravnoth_write", found, &out, &reference, l.fault(), &|| l.shown());
         reference
     }
 
-    fn result_text(&mut self, d: &mut Dice, l: &LentTables, room: usize) -> Result<Vec<u8>, Refusal> {
-        let mut out = Lent::room(d, room);
-        let found = calls::result_text(l.header(), l.z.part(), l.b.part(), l.c.part(), l.f.part(), out.part_mut());
+    fn result_text(&mut self, d: &mut Dice, l: &mut LentTables, room: usize) -> Result<Vec<u8>, Refusal> {
         let reference = second::result_text(l.header, l.z.part(), l.b.part(), l.c.part(), l.f.part(), room);
+        let mut out = Lent::room(d, room);
+        let found = self.bridge.result_text(l.lend(), &mut out.whole);
+        let found = self.said("keravnoth_result_text", found, &|| l.shown());
         self.text_call("keravnoth_result_text", found, &out, &reference, l.fault(), &|| l.shown());
         reference
     }
 
     /// `answer` is the reference's answer to the text.
     fn answer(&mut self, d: &mut Dice, text: &[u8], answer: &[u8], room: usize) {
-        let lent_text = Lent::holding(d, text, text.len());
+        let mut lent_text = Lent::holding(d, text, text.len());
         let mut out = Lent::room(d, room);
-        let found = calls::answer(lent_text.part(), out.part_mut());
+        let found = self.bridge.answer(&mut lent_text.whole, &mut out.whole);
+        let found = self.said("keravnoth_answer", found, &|| text.to_vec());
         let reference = if room < answer.len() {
             Err(Refusal { number: 8, place: answer.len() })
         } else {
@@ -326,20 +352,13 @@ impl Comparison {
         self.text_call("keravnoth_answer", found, &out, &reference, fault, &|| text.to_vec());
     }
 
-    fn extract(&mut self, d: &mut Dice, l: &LentTables, room: [usize; 2]) -> Result<Outcome, Refusal> {
-        let mut atc = Lent::room(d, room[0]);
-        let mut left = Lent::room(d, room[1]);
-        let found = calls::extract(
-            l.header(),
-            l.z.part(),
-            l.b.part(),
-            l.c.part(),
-            l.f.part(),
-            atc.part_mut(),
-            left.part_mut(),
-        );
+    fn extract(&mut self, d: &mut Dice, l: &mut LentTables, room: [usize; 2]) -> Result<Outcome, Refusal> {
         let reference =
             second::extract(l.header, l.z.part(), l.b.part(), l.c.part(), l.f.part(), room[0], room[1]);
+        let mut atc = Lent::room(d, room[0]);
+        let mut left = Lent::room(d, room[1]);
+        let found = self.bridge.extract(l.lend(), &mut atc.whole, &mut left.whole);
+        let found = self.said("keravnoth_extract", found, &|| l.shown());
         let mut wanted_atc: Vec<[i64; 1]> = Vec::new();
         let mut wanted_left: Vec<[i64; 3]> = Vec::new();
         let wanted = match &reference {
@@ -350,9 +369,9 @@ impl Comparison {
                 }));
                 Extracted { number: 0, place: 0, rounds: o.rounds }
             }
-            Err(refusal) => Extracted { number: refusal.number, place: refusal.place, rounds: 0 },
+            Err(refusal) => Extracted { number: refusal.number.into(), place: refusal.place, rounds: 0 },
         };
-        self.count("extract", wanted.number);
+        self.count("extract", wanted.number as u32);
         if found != wanted {
             let details = format!("library {found:?}\nreference {wanted:?}\nroom {room:?}");
             self.fail("keravnoth_extract", &details, &l.shown());
@@ -459,13 +478,13 @@ impl Comparison {
 
         // the same on lent tables
         let counts = with_extra(d, needed);
-        let l = LentTables::new(d, &t, counts);
+        let mut l = LentTables::new(d, &t, counts);
         let room = text.len() + d.below(4);
-        let written = self.write(d, &l, room);
+        let written = self.write(d, &mut l, room);
         let room = [h.borders + d.below(3), h.rows + d.below(3)];
-        let outcome = self.extract(d, &l, room);
+        let outcome = self.extract(d, &mut l, room);
         let result_room = answer.len() + d.below(4);
-        let result = self.result_text(d, &l, result_room);
+        let result = self.result_text(d, &mut l, result_room);
 
         // round trips: the library's own bytes and numbers are those of the
         // reference by now, so the reference's say it for both
@@ -509,7 +528,7 @@ impl Comparison {
             1 => d.below(text.len()),
             _ => text.len() - 1,
         };
-        let _ = self.write(d, &l, room);
+        let _ = self.write(d, &mut l, room);
         if !heavy || d.one_in(4) {
             let room = match d.below(4) {
                 0 => [h.borders - 1, h.rows],
@@ -517,13 +536,13 @@ impl Comparison {
                 2 => [h.borders - 1, h.rows - 1],
                 _ => [d.below(h.borders + 1), d.below(h.rows + 1)],
             };
-            let _ = self.extract(d, &l, room);
+            let _ = self.extract(d, &mut l, room);
             let room = match d.below(3) {
                 0 => 0,
                 1 => d.below(answer.len()),
                 _ => answer.len() - 1,
             };
-            let _ = self.result_text(d, &l, room);
+            let _ = self.result_text(d, &mut l, room);
         }
 
         // lent tables that are too short, records and headers that are bad
@@ -603,7 +622,7 @@ impl Comparison {
         }
         let short_room = with & 8 != 0 && d.one_in(2);
         let h = bad.header;
-        let l = LentTables::new(d, &bad, counts);
+        let mut l = LentTables::new(d, &bad, counts);
         self.see_short("lent", needed, counts);
 
         let length = if short_room { d.below(60) } else { 40_000 };
@@ -618,7 +637,7 @@ impl Comparison {
                         Err(_) => d.below(60),
                     }
                 };
-                let written = self.write(d, &l, length);
+                let written = self.write(d, &mut l, length);
                 self.see_bad(&bad, written.err());
             }
             1 => {
@@ -627,12 +646,12 @@ impl Comparison {
                 } else {
                     [h.borders.min(40), h.rows.min(200)]
                 };
-                let outcome = self.extract(d, &l, room);
+                let outcome = self.extract(d, &mut l, room);
                 self.see_bad(&bad, outcome.err());
             }
             _ => {
                 let length = if short_room { length } else { 90 + 30 * (h.borders.min(40) + h.rows.min(200)) };
-                let result = self.result_text(d, &l, length);
+                let result = self.result_text(d, &mut l, length);
                 self.see_bad(&bad, result.err());
             }
         }
@@ -788,8 +807,8 @@ impl Comparison {
         if let Ok(tables) = &reference {
             self.see("damaged text that is taken");
             let counts = with_extra(d, needed);
-            let l = LentTables::new(d, tables, counts);
-            let written = self.write(d, &l, text.len());
+            let mut l = LentTables::new(d, tables, counts);
+            let written = self.write(d, &mut l, text.len());
             if written.as_ref() != Ok(&text) {
                 self.fail("keravnoth_write", "a text read and written again is another", &text);
             }
@@ -905,20 +924,33 @@ fn number(text: &str) -> Option<u64> {
     }
 }
 
-fn main() {
+/// The command that makes the calls; tables, damaged texts, seed.
+fn arguments() -> Option<(Vec<OsString>, [u64; 3])> {
+    let mut command: Vec<OsString> = std::env::args_os().skip(1).collect();
+    let end = command.iter().position(|argument| argument == "--")?;
+    let numbers = command.split_off(end);
     let mut given = [TABLES, TEXTS, SEED];
-    for (index, argument) in std::env::args().skip(1).enumerate() {
-        match number(&argument) {
-            Some(value) if index < 3 => given[index] = value,
-            _ => {
-                eprintln!("arguments: tables, damaged texts, seed; each a number, each may be left out");
-                std::process::exit(2);
-            }
-        }
+    for (index, argument) in numbers[1..].iter().enumerate() {
+        *given.get_mut(index)? = number(argument.to_str()?)?;
     }
-    let [tables, texts, seed] = given;
+    (end > 0).then_some((command, given))
+}
+
+fn main() {
+    let Some((command, [tables, texts, seed])) = arguments() else {
+        eprintln!("arguments: a bridge and its arguments, \"--\", tables, damaged texts, seed; each of the three a number, each may be left out");
+        std::process::exit(2);
+    };
+    let bridge = match Bridge::start(&command) {
+        Ok(bridge) => bridge,
+        Err(error) => {
+            eprintln!("{}: {error}", command[0].display());
+            std::process::exit(2);
+        }
+    };
     println!("seed {seed}, {tables} tables, {texts} damaged texts");
     let mut c = Comparison {
+        bridge,
         seed,
         kind: "",
         number: 0,
@@ -941,6 +973,10 @@ fn main() {
         if number < texts {
             c.text(number);
         }
+    }
+    if let Err(Ended(how)) = c.bridge.end() {
+        println!("DIFFERENCE after the last call: the process that makes the calls ended: {how}");
+        std::process::exit(1);
     }
 
     if std::env::var_os("SHOW_CASES").is_some() {

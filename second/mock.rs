@@ -1,156 +1,88 @@
-//! The C interface made from the reference calculator (second.rs): a stand-in
-//! to test the comparer and the bench with.
-//! `rustc -O --edition 2021 --crate-type staticlib mock.rs -o libmock.a`
+//! A bridge (see wire.rs) over the reference calculator (second.rs): a stand-in
+//! for c/bridge.c over a library, to test the comparer with.
 
 #[path = "second.rs"]
 mod second;
+#[path = "wire.rs"]
+mod wire;
 
 use second::{Header, Refusal};
+use std::fs::File;
+use std::io::{BufReader, Read, Write};
+use std::ops::{Deref, DerefMut};
+use std::os::fd::AsFd;
+use std::process::ExitCode;
+use wire::{Item, AFTER, BEFORE};
 
-#[repr(C)]
-pub struct KeravnothRead {
-    number: u32,
-    place: usize,
-    zones: usize,
-    borders: usize,
-    rows: usize,
+/// A lent buffer with its guards; it stands for the lent part.
+struct Lent<T> {
+    whole: Vec<T>,
 }
 
-#[repr(C)]
-pub struct KeravnothWritten {
-    number: u32,
-    place: usize,
-    bytes: usize,
-}
+impl<T> Deref for Lent<T> {
+    type Target = [T];
 
-#[repr(C)]
-pub struct KeravnothExtracted {
-    number: u32,
-    place: usize,
-    rounds: u64,
-}
-
-unsafe fn lent<'a, T>(at: *const T, count: usize) -> &'a [T] {
-    if count == 0 {
-        &[]
-    } else {
-        std::slice::from_raw_parts(at, count)
+    fn deref(&self) -> &[T] {
+        &self.whole[BEFORE..self.whole.len() - AFTER]
     }
 }
 
-unsafe fn lent_mut<'a, T>(at: *mut T, count: usize) -> &'a mut [T] {
-    if count == 0 {
-        &mut []
-    } else {
-        std::slice::from_raw_parts_mut(at, count)
+impl<T> DerefMut for Lent<T> {
+    fn deref_mut(&mut self) -> &mut [T] {
+        let end = self.whole.len() - AFTER;
+        &mut self.whole[BEFORE..end]
     }
 }
 
-fn refused(refusal: Refusal) -> KeravnothWritten {
-    KeravnothWritten { number: refusal.number, place: refusal.place, bytes: 0 }
+struct LentTables {
+    header: Header,
+    z: Lent<i64>,
+    b: Lent<[i64; 3]>,
+    c: Lent<[i64; 7]>,
+    f: Lent<i64>,
 }
 
-fn text_to(text: Result<Vec<u8>, Refusal>, out: &mut [u8]) -> KeravnothWritten {
+fn refused(refusal: Refusal) -> [u64; 3] {
+    [u64::from(refusal.number), refusal.place as u64, 0]
+}
+
+fn text_to(text: Result<Vec<u8>, Refusal>, out: &mut Lent<u8>) -> [u64; 3] {
     match text {
         Err(refusal) => refused(refusal),
         Ok(text) => {
             out[..text.len()].copy_from_slice(&text);
-            KeravnothWritten { number: 0, place: 0, bytes: text.len() }
+            [0, 0, text.len() as u64]
         }
     }
 }
 
-/// # Safety
-/// Each pointer is to as many items as its count says.
-#[no_mangle]
-pub unsafe extern "C" fn keravnoth_read(
-    text: *const u8,
-    n: usize,
-    z: *mut i64,
-    nz: usize,
-    b: *mut [i64; 3],
-    nb: usize,
-    c: *mut [i64; 7],
-    nc: usize,
-    f: *mut i64,
-    nf: usize,
-) -> KeravnothRead {
-    let (z, b) = (lent_mut(z, nz), lent_mut(b, nb));
-    let (c, f) = (lent_mut(c, nc), lent_mut(f, nf));
-    match second::read(lent(text, n), [nz, nb, nc, nf]) {
-        Err(refusal) => KeravnothRead {
-            number: refusal.number,
-            place: refusal.place,
-            zones: 0,
-            borders: 0,
-            rows: 0,
-        },
+fn read(text: &Lent<u8>, l: &mut LentTables) -> [u64; 5] {
+    let LentTables { z, b, c, f, .. } = l;
+    let room = [z.len(), b.len(), c.len(), f.len()];
+    match second::read(text, room) {
+        Err(refusal) => {
+            let zones = 0;
+            [u64::from(refusal.number), refusal.place as u64, zones, 0, 0]
+        }
         Ok(t) => {
             z[..t.z.len()].copy_from_slice(&t.z);
             b[..t.b.len()].copy_from_slice(&t.b);
             c[..t.c.len()].copy_from_slice(&t.c);
             f[..t.f.len()].copy_from_slice(&t.f);
-            KeravnothRead {
-                number: 0,
-                place: 0,
-                zones: t.header.zones,
-                borders: t.header.borders,
-                rows: t.header.rows,
-            }
+            [0, 0, t.header.zones as u64, t.header.borders as u64, t.header.rows as u64]
         }
     }
 }
 
-/// # Safety
-/// Each pointer is to as many items as its count says.
-#[no_mangle]
-pub unsafe extern "C" fn keravnoth_write(
-    zones: usize,
-    borders: usize,
-    rows: usize,
-    z: *const i64,
-    nz: usize,
-    b: *const [i64; 3],
-    nb: usize,
-    c: *const [i64; 7],
-    nc: usize,
-    f: *const i64,
-    nf: usize,
-    out: *mut u8,
-    nout: usize,
-) -> KeravnothWritten {
-    let header = Header { zones, borders, rows };
-    let text = second::write(header, lent(z, nz), lent(b, nb), lent(c, nc), lent(f, nf), nout);
-    text_to(text, lent_mut(out, nout))
+fn write(l: &mut LentTables, out: &mut Lent<u8>) -> [u64; 3] {
+    let text = second::write(l.header, &l.z, &l.b, &l.c, &l.f, out.len());
+    text_to(text, out)
 }
 
-/// # Safety
-/// Each pointer is to as many items as its count says.
-#[no_mangle]
-pub unsafe extern "C" fn keravnoth_extract(
-    zones: usize,
-    borders: usize,
-    rows: usize,
-    z: *const i64,
-    nz: usize,
-    b: *const [i64; 3],
-    nb: usize,
-    c: *const [i64; 7],
-    nc: usize,
-    f: *const i64,
-    nf: usize,
-    atc: *mut [i64; 1],
-    natc: usize,
-    left: *mut [i64; 3],
-    nleft: usize,
-) -> KeravnothExtracted {
-    let header = Header { zones, borders, rows };
-    let (atc, left) = (lent_mut(atc, natc), lent_mut(left, nleft));
-    let (z, b, c, f) = (lent(z, nz), lent(b, nb), lent(c, nc), lent(f, nf));
-    match second::extract(header, z, b, c, f, natc, nleft) {
-        Err(refusal) => {
-            KeravnothExtracted { number: refusal.number, place: refusal.place, rounds: 0 }
-        }
+fn extract(l: &mut LentTables, atc: &mut Lent<[i64; 1]>, left: &mut Lent<[i64; 3]>) -> [u64; 3] {
+    let LentTables { header, z, b, c, f } = l;
+    match second::extract(*header, z, b, c, f, atc.len(), left.len()) {
+        Err(refusal) => refused(refusal),
         Ok(outcome) => {
             for (item, mw) in atc.iter_mut().zip(&outcome.atc) {
                 *item = [*mw as i64];
@@ -158,46 +90,147 @@ pub unsafe extern "C" fn keravnoth_extract(
             for (item, row) in left.iter_mut().zip(&outcome.rows) {
                 *item = [i64::from(row.state), row.ram as i64, row.left.map_or(-1, |m| m as i64)];
             }
-            KeravnothExtracted { number: 0, place: 0, rounds: outcome.rounds }
+            [0, 0, outcome.rounds]
         }
     }
 }
 
-/// # Safety
-/// Each pointer is to as many items as its count says.
-#[no_mangle]
-pub unsafe extern "C" fn keravnoth_result_text(
-    zones: usize,
-    borders: usize,
-    rows: usize,
-    z: *const i64,
-    nz: usize,
-    b: *const [i64; 3],
-    nb: usize,
-    c: *const [i64; 7],
-    nc: usize,
-    f: *const i64,
-    nf: usize,
-    out: *mut u8,
-    nout: usize,
-) -> KeravnothWritten {
-    let header = Header { zones, borders, rows };
-    let (z, b, c, f) = (lent(z, nz), lent(b, nb), lent(c, nc), lent(f, nf));
-    text_to(second::result_text(header, z, b, c, f, nout), lent_mut(out, nout))
+fn result_text(l: &mut LentTables, out: &mut Lent<u8>) -> [u64; 3] {
+    let text = second::result_text(l.header, &l.z, &l.b, &l.c, &l.f, out.len());
+    text_to(text, out)
 }
 
-/// # Safety
-/// Each pointer is to as many items as its count says.
-#[no_mangle]
-pub unsafe extern "C" fn keravnoth_answer(
-    text: *const u8,
-    n: usize,
-    out: *mut u8,
-    nout: usize,
-) -> KeravnothWritten {
-    let answer = second::answer(lent(text, n));
-    if nout < answer.len() {
+fn answer(text: &Lent<u8>, out: &mut Lent<u8>) -> [u64; 3] {
+    let answer = second::answer(text);
+    if out.len() < answer.len() {
         return refused(Refusal { number: 8, place: answer.len() });
     }
-    text_to(Ok(answer), lent_mut(out, nout))
+    text_to(Ok(answer), out)
+}
+
+// ------------------------------------------------------------------ the bridge
+
+/// More than any request needs; a larger count is malformed.
+const MOST_ITEMS: u64 = 1 << 20;
+
+struct Request<R> {
+    input: R,
+    words: [u64; wire::WORDS],
+    bytes: Vec<u8>,
+}
+
+impl<R: Read> Request<R> {
+    /// The words of the next request; false where there is none.
+    fn next(&mut self) -> std::io::Result<bool> {
+        let mut first = [0; 1];
+        if self.input.read(&mut first)? == 0 {
+            return Ok(false);
+        }
+        let mut bytes = [0; 8 * wire::WORDS];
+        bytes[0] = first[0];
+        self.input.read_exact(&mut bytes[1..])?;
+        self.words = std::array::from_fn(|index| wire::word(&bytes, index));
+        Ok(true)
+    }
+
+    /// The next lent buffer.
+    fn lent<T: Item>(&mut self, buffer: usize) -> std::io::Result<Lent<T>> {
+        let count = self.words[buffer];
+        if count > MOST_ITEMS {
+            return Err(std::io::Error::other("a count is too large"));
+        }
+        let items = BEFORE + count as usize + AFTER;
+        self.bytes.resize(items * T::BYTES, 0);
+        self.input.read_exact(&mut self.bytes)?;
+        let whole = self.bytes.chunks_exact(T::BYTES).map(T::got).collect();
+        Ok(Lent { whole })
+    }
+
+    fn tables(&mut self) -> std::io::Result<LentTables> {
+        let [_, zones, borders, rows, ..] = self.words.map(|word| word as usize);
+        Ok(LentTables {
+            header: Header { zones, borders, rows },
+            z: self.lent(wire::Z)?,
+            b: self.lent(wire::B)?,
+            c: self.lent(wire::C)?,
+            f: self.lent(wire::F)?,
+        })
+    }
+}
+
+fn put_tables(l: &LentTables, to: &mut Vec<u8>) {
+    wire::put_all(&l.z.whole, to);
+    wire::put_all(&l.b.whole, to);
+    wire::put_all(&l.c.whole, to);
+    wire::put_all(&l.f.whole, to);
+}
+
+fn put_fields(fields: &[u64], to: &mut Vec<u8>) {
+    for field in fields {
+        to.extend(field.to_le_bytes());
+    }
+}
+
+/// The answer to the request whose words are there.
+fn serve<R: Read>(request: &mut Request<R>, to: &mut Vec<u8>) -> std::io::Result<()> {
+    match request.words[0] {
+        wire::READ => {
+            let mut l = request.tables()?;
+            let text = request.lent(wire::TEXT)?;
+            put_fields(&read(&text, &mut l), to);
+            put_tables(&l, to);
+            wire::put_all(&text.whole, to);
+        }
+        call @ (wire::WRITE | wire::RESULT_TEXT) => {
+            let mut l = request.tables()?;
+            let mut out = request.lent(wire::OUT)?;
+            let work = if call == wire::WRITE { write } else { result_text };
+            put_fields(&work(&mut l, &mut out), to);
+            put_tables(&l, to);
+            wire::put_all(&out.whole, to);
+        }
+        wire::EXTRACT => {
+            let mut l = request.tables()?;
+            let mut atc = request.lent(wire::ATC)?;
+            let mut left = request.lent(wire::LEFT)?;
+            put_fields(&extract(&mut l, &mut atc, &mut left), to);
+            put_tables(&l, to);
+            wire::put_all(&atc.whole, to);
+            wire::put_all(&left.whole, to);
+        }
+        wire::ANSWER => {
+            let text = request.lent(wire::TEXT)?;
+            let mut out = request.lent(wire::OUT)?;
+            put_fields(&answer(&text, &mut out), to);
+            wire::put_all(&text.whole, to);
+            wire::put_all(&out.whole, to);
+        }
+        _ => return Err(std::io::Error::other("no such call")),
+    }
+    Ok(())
+}
+
+fn serve_all() -> std::io::Result<()> {
+    // as files: the standard streams' own buffers would cut an answer in two
+    let input = File::from(std::io::stdin().as_fd().try_clone_to_owned()?);
+    let input = BufReader::with_capacity(1 << 16, input);
+    let mut output = File::from(std::io::stdout().as_fd().try_clone_to_owned()?);
+    let mut request = Request { input, words: [0; wire::WORDS], bytes: Vec::new() };
+    let mut bytes = Vec::new();
+    while request.next()? {
+        bytes.clear();
+        serve(&mut request, &mut bytes)?;
+        output.write_all(&bytes)?;
+    }
+    Ok(())
+}
+
+fn main() -> ExitCode {
+    match serve_all() {
+        Ok(()) => ExitCode::SUCCESS,
+        Err(error) => {
+            eprintln!("bridge: {error}");
+            ExitCode::from(2)
+        }
+    }
 }

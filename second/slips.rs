@@ -1,6 +1,6 @@
 //! Tests the comparer: one slip at a time is put into the stand-in (mock.rs
-//! and second.rs), and the comparer must see each.  Without a slip it must
-//! pass.
+//! and second.rs), and the comparer must see each, as a difference.  Without a
+//! slip it must pass.
 //!
 //! `second/slips` builds and runs it.
 //! An argument: only the slips whose name contains it.
@@ -24,20 +24,20 @@ const SLIPS: &[Slip] = &[
     slip(
         "reading writes z before it refuses for room",
         "mock.rs",
-        "    match second::read(lent(text, n), [nz, nb, nc, nf]) {",
-        "    if let Ok(t) = second::read(lent(text, n), [usize::MAX; 4]) {\n        if nz >= t.z.len() {\n            z[..t.z.len()].copy_from_slice(&t.z);\n        }\n    }\n    match second::read(lent(text, n), [nz, nb, nc, nf]) {",
+        "    match second::read(text, room) {",
+        "    if let Ok(t) = second::read(text, [usize::MAX; 4]) {\n        if z.len() >= t.z.len() {\n            z[..t.z.len()].copy_from_slice(&t.z);\n        }\n    }\n    match second::read(text, room) {",
     ),
     slip(
         "extraction writes atc before it refuses for row results",
         "mock.rs",
-        "    match second::extract(header, z, b, c, f, natc, nleft) {",
-        "    if let Ok(o) = second::extract(header, z, b, c, f, natc, usize::MAX) {\n        atc[0] = [o.atc[0] as i64];\n    }\n    match second::extract(header, z, b, c, f, natc, nleft) {",
+        "    match second::extract(*header, z, b, c, f, atc.len(), left.len()) {",
+        "    if let Ok(o) = second::extract(*header, z, b, c, f, atc.len(), usize::MAX) {\n        atc[0] = [o.atc[0] as i64];\n    }\n    match second::extract(*header, z, b, c, f, atc.len(), left.len()) {",
     ),
     slip(
         "answer writes the first byte before it refuses for room",
         "mock.rs",
-        "    if nout < answer.len() {",
-        "    if nout < answer.len() {\n        if nout > 0 {\n            *out = answer[0];\n        }",
+        "    if out.len() < answer.len() {",
+        "    if out.len() < answer.len() {\n        if out.len() > 0 {\n            out[0] = answer[0];\n        }",
     ),
     slip(
         "text ends in a NUL beyond its bytes",
@@ -55,13 +55,25 @@ const SLIPS: &[Slip] = &[
         "one item beyond the lent part is written",
         "mock.rs",
         "            c[..t.c.len()].copy_from_slice(&t.c);",
-        "            c[..t.c.len()].copy_from_slice(&t.c);\n            *c.as_mut_ptr().add(c.len()) = [0; 7];",
+        "            c[..t.c.len()].copy_from_slice(&t.c);\n            let after = BEFORE + c.len();\n            c.whole[after] = [0; 7];",
+    ),
+    slip(
+        "one item before the lent part is written",
+        "mock.rs",
+        "            z[..t.z.len()].copy_from_slice(&t.z);",
+        "            z[..t.z.len()].copy_from_slice(&t.z);\n            z.whole[BEFORE - 1] = 0;",
     ),
     slip(
         "a lent input is changed",
         "mock.rs",
-        "    text_to(text, lent_mut(out, nout))",
-        "    if text.is_ok() {\n        *(z as *mut i64) ^= 1;\n    }\n    text_to(text, lent_mut(out, nout))",
+        "    let text = second::write(l.header, &l.z, &l.b, &l.c, &l.f, out.len());",
+        "    let text = second::write(l.header, &l.z, &l.b, &l.c, &l.f, out.len());\n    if text.is_ok() {\n        l.z[0] ^= 1;\n    }",
+    ),
+    slip(
+        "a call ends the process",
+        "mock.rs",
+        "    let answer = second::answer(text);",
+        "    let answer = second::answer(text);\n    if answer == b\"E\\t5\\t0\\n\" {\n        std::process::exit(0);\n    }",
     ),
     slip("room off by one", "second.rs", "    if room < needed {", "    if room <= needed {"),
     slip(
@@ -108,7 +120,7 @@ const SLIPS: &[Slip] = &[
     ),
     slip("R -2 is taken", "second.rs", "(record[R] == R_DASH ||", "(record[R] == R_DASH || record[R] == -2 ||"),
     // ---- answers
-    slip("rounds + 1", "mock.rs", "rounds: outcome.rounds }", "rounds: outcome.rounds + 1 }"),
+    slip("rounds + 1", "mock.rs", "[0, 0, outcome.rounds]", "[0, 0, outcome.rounds + 1]"),
     slip(
         "the round that raises nothing is counted",
         "second.rs",
@@ -119,8 +131,8 @@ const SLIPS: &[Slip] = &[
     slip(
         "zones said also where reading refuses",
         "mock.rs",
-        "            zones: 0,",
-        "            zones: 2,",
+        "            let zones = 0;",
+        "            let zones = 2;",
     ),
     slip("place of 3 off by one", "second.rs", "    2 + header.zones + header.borders + index", "    1 + header.zones + header.borders + index"),
     slip("place of a missing line off by one", "second.rs", "            None => refuse(2, self.number),", "            None => refuse(2, self.number - 1),"),
@@ -185,58 +197,54 @@ const SLIPS: &[Slip] = &[
     slip("border 39 does not load row 199", "second.rs", "        let n = p.iter().filter(|p| **p > 0).count() as i128;", "        let mut p = p;\n        if row == 199 && p.len() == 40 {\n            p[39] = 0;\n        }\n        let n = p.iter().filter(|p| **p > 0).count() as i128;"),
 ];
 
-fn build(work: &Path, library: &Path) -> bool {
+fn build(source: &Path, program: &Path) -> bool {
     Command::new("rustc")
-        .args(["-O", "--edition", "2021", "-A", "warnings", "--crate-type", "cdylib"])
-        .arg(work.join("mock.rs"))
+        .args(["-O", "--edition", "2021", "-A", "warnings"])
+        .arg(source)
         .arg("-o")
-        .arg(library)
+        .arg(program)
         .status()
         .expect("rustc")
         .success()
 }
 
-/// The comparer against the library in `work`: exit code, output.
-fn compare(work: &Path) -> (bool, String) {
+/// The comparer over the stand-in in `work`: exit code, output.
+fn compare(work: &Path, size: &[&str]) -> (Option<i32>, String) {
     let out = Command::new(work.join("compare"))
-        .env("LD_LIBRARY_PATH", work)
+        .arg(work.join("mock"))
+        .arg("--")
+        .args(size)
         .output()
         .expect("the comparer");
-    (out.status.success(), String::from_utf8_lossy(&out.stdout).into_owned())
+    (out.status.code(), String::from_utf8_lossy(&out.stdout).into_owned())
 }
 
-/// "seed .., table number 3, call number 40" and the call it was in.
-fn place(output: &str) -> String {
-    let Some(call) = output.lines().find(|line| line.starts_with("DIFFERENCE")) else {
-        return "the library stopped the program".to_string();
-    };
-    let seed = output.lines().filter(|line| line.starts_with("seed")).nth(1).unwrap_or("");
-    let after_seed = seed.split_once(", ").map_or("", |parts| parts.1);
-    format!("{after_seed} ({})", call.trim_start_matches("DIFFERENCE in "))
+/// "table number 3, call number 40" and the call it was in; None where the
+/// output tells of no difference.
+fn place(output: &str) -> Option<String> {
+    let call = output.lines().find_map(|line| line.strip_prefix("DIFFERENCE in "))?;
+    let seed = output.lines().filter(|line| line.starts_with("seed")).nth(1)?;
+    let (_, after_seed) = seed.split_once(", ")?;
+    Some(format!("{after_seed} ({call})"))
 }
 
 fn main() {
     let only = std::env::args().nth(1).unwrap_or_default();
     let work = Path::new("../target/second/slips");
     std::fs::create_dir_all(work).expect("target/second/slips");
-    let library = work.join("libkeravnoth.so");
-    let second = std::fs::read_to_string("second.rs").expect("second.rs");
-    let mock = std::fs::read_to_string("mock.rs").expect("mock.rs");
+    let text_of = |file: &str| std::fs::read_to_string(file).expect(file);
     let put = |file: &str, text: &str| std::fs::write(work.join(file), text).expect(file);
+    let second = text_of("second.rs");
+    let mock = text_of("mock.rs");
+    let stand_in = || build(&work.join("mock.rs"), &work.join("mock"));
 
     put("second.rs", &second);
     put("mock.rs", &mock);
-    assert!(build(work, &library), "the stand-in does not build");
-    let built = Command::new("rustc")
-        .args(["-O", "--edition", "2021", "compare.rs", "-l", "dylib=keravnoth", "-L"])
-        .arg(format!("native={}", work.display()))
-        .arg("-o")
-        .arg(work.join("compare"))
-        .status()
-        .expect("rustc");
-    assert!(built.success(), "the comparer does not build");
-    let (passed, output) = compare(work);
-    assert!(passed, "the comparer does not pass the stand-in without a slip:\n{output}");
+    put("wire.rs", &text_of("wire.rs"));
+    assert!(stand_in(), "the stand-in does not build");
+    assert!(build(Path::new("compare.rs"), &work.join("compare")), "the comparer does not build");
+    let (code, output) = compare(work, &["2000", "2000"]);
+    assert_eq!(code, Some(0), "the comparer does not pass the stand-in without a slip:\n{output}");
     println!("without a slip: passed");
 
     let mut missed = 0;
@@ -248,13 +256,16 @@ fn main() {
         put("second.rs", &second);
         put("mock.rs", &mock);
         put(slip.file, &source.replace(slip.old, slip.new));
-        assert!(build(work, &library), "{}: does not build", slip.name);
-        let (passed, output) = compare(work);
-        if passed {
-            missed += 1;
-            println!("MISSED  {}", slip.name);
-        } else {
-            println!("caught  {}: {}", slip.name, place(&output));
+        assert!(stand_in(), "{}: does not build", slip.name);
+        // the default size, for it ends at the first difference
+        let (code, output) = compare(work, &[]);
+        // a run that only misses cases, or cannot start, has another exit code
+        match place(&output).filter(|_| code == Some(1)) {
+            Some(place) => println!("caught  {}: {place}", slip.name),
+            None => {
+                missed += 1;
+                println!("MISSED  {}", slip.name);
+            }
         }
     }
     println!("{} of {tried} slips caught", tried - missed);

@@ -1,0 +1,173 @@
+/*
+ * Makes calls of keravnoth.h for another process: requests on standard input,
+ * answers on standard output, until the input ends.  It lets a comparer that is
+ * built for one machine try a library that is built for another (the library is
+ * for x86-64, and may run under an emulator).
+ *
+ * A word has 64 bits, the least byte first, as numbers lie in memory on x86-64.
+ *
+ * A request: twelve words, then the lent buffers.  The words are the call, its
+ * header (zones, borders, rows; 0 where the call takes none) and the counts of
+ * items of z, b, c, f, atc, left, text and out (0 where the call does not take
+ * that buffer).  The buffers that the call takes follow in this order, each with
+ * BEFORE items before the lent part and AFTER items after it.
+ *
+ * An answer: the fields of the call's struct, a word each, then the same buffers
+ * as the call left them, with what lies around them: whoever asks compares it.
+ * The buffers of a request lie in one piece of memory, one behind the other, as
+ * they came, so a call that writes beyond its buffer is seen there too.
+ *
+ * Exit code: 0 the input ended after a whole request, 2 a malformed request, or
+ * the answer cannot be written.
+ */
+#include "keravnoth.h"
+
+#include <stdio.h>
+#include <stdlib.h>
+
+_Static_assert(sizeof(size_t) == sizeof(uint64_t), "a size_t is a word");
+
+enum { BEFORE = 2, AFTER = 3 };
+
+enum { READ = 1, WRITE, EXTRACT, RESULT_TEXT, ANSWER, CALLS };
+
+/* Buffers of numbers stand before buffers of bytes, so each is aligned. */
+enum { Z, B, C, F, ATC, LEFT, TEXT, OUT, BUFFERS };
+
+static const size_t item_bytes[BUFFERS] = {
+    [Z] = sizeof(int64_t),
+    [B] = sizeof(int64_t[3]),
+    [C] = sizeof(int64_t[7]),
+    [F] = sizeof(int64_t),
+    [ATC] = sizeof(int64_t[1]),
+    [LEFT] = sizeof(int64_t[3]),
+    [TEXT] = 1,
+    [OUT] = 1,
+};
+
+/* 1: the call takes the buffer. */
+static const unsigned char takes[CALLS][BUFFERS] = {
+    [READ] = {[Z] = 1, [B] = 1, [C] = 1, [F] = 1, [TEXT] = 1},
+    [WRITE] = {[Z] = 1, [B] = 1, [C] = 1, [F] = 1, [OUT] = 1},
+    [EXTRACT] = {[Z] = 1, [B] = 1, [C] = 1, [F] = 1, [ATC] = 1, [LEFT] = 1},
+    [RESULT_TEXT] = {[Z] = 1, [B] = 1, [C] = 1, [F] = 1, [OUT] = 1},
+    [ANSWER] = {[TEXT] = 1, [OUT] = 1},
+};
+
+/* The most bytes that the buffers of a request may have, guards included. */
+#define MOST_BYTES ((size_t)1 << 20)
+
+struct request {
+    uint64_t call;
+    uint64_t zones, borders, rows;
+    uint64_t count[BUFFERS];
+};
+
+_Static_assert(sizeof(struct request) == 12 * sizeof(uint64_t), "twelve words");
+
+static int malformed(const char *what)
+{
+    fprintf(stderr, "bridge: malformed request: %s\n", what);
+    return 2;
+}
+
+/* Makes the call; how many words its answer has.  at: the lent parts. */
+static size_t make(const struct request *r, unsigned char *const *at, uint64_t *answer)
+{
+    int64_t *z = (int64_t *)at[Z];
+    int64_t (*b)[3] = (int64_t (*)[3])at[B];
+    int64_t (*c)[7] = (int64_t (*)[7])at[C];
+    int64_t *f = (int64_t *)at[F];
+    size_t nz = r->count[Z], nb = r->count[B], nc = r->count[C], nf = r->count[F];
+
+    if (r->call == READ) {
+        struct KeravnothRead said = keravnoth_read(
+            at[TEXT], r->count[TEXT], z, nz, b, nb, c, nc, f, nf);
+        answer[0] = said.number;
+        answer[1] = said.place;
+        answer[2] = said.zones;
+        answer[3] = said.borders;
+        answer[4] = said.rows;
+        return 5;
+    }
+    if (r->call == EXTRACT) {
+        struct KeravnothExtracted said = keravnoth_extract(
+            r->zones, r->borders, r->rows,
+            z, nz, (const int64_t (*)[3])b, nb, (const int64_t (*)[7])c, nc, f, nf,
+            (int64_t (*)[1])at[ATC], r->count[ATC],
+            (int64_t (*)[3])at[LEFT], r->count[LEFT]);
+        answer[0] = said.number;
+        answer[1] = said.place;
+        answer[2] = said.rounds;
+        return 3;
+    }
+    struct KeravnothWritten said;
+    if (r->call == WRITE)
+        said = keravnoth_write(
+            r->zones, r->borders, r->rows,
+            z, nz, (const int64_t (*)[3])b, nb, (const int64_t (*)[7])c, nc, f, nf,
+            at[OUT], r->count[OUT]);
+    else if (r->call == RESULT_TEXT)
+        said = keravnoth_result_text(
+            r->zones, r->borders, r->rows,
+            z, nz, (const int64_t (*)[3])b, nb, (const int64_t (*)[7])c, nc, f, nf,
+            at[OUT], r->count[OUT]);
+    else
+        said = keravnoth_answer(at[TEXT], r->count[TEXT], at[OUT], r->count[OUT]);
+    answer[0] = said.number;
+    answer[1] = said.place;
+    answer[2] = said.bytes;
+    return 3;
+}
+
+int main(void)
+{
+    /* An answer of usual size is read and written at once. */
+    static char in[1 << 16], out[1 << 18];
+    setvbuf(stdin, in, _IOFBF, sizeof in);
+    setvbuf(stdout, out, _IOFBF, sizeof out);
+
+    unsigned char *memory = malloc(MOST_BYTES);
+    if (memory == NULL) {
+        perror("bridge");
+        return 2;
+    }
+    for (;;) {
+        struct request r;
+        size_t got = fread(&r, 1, sizeof r, stdin);
+        if (got == 0 && feof(stdin))
+            return 0;
+        if (got != sizeof r)
+            return malformed("its words are cut short");
+        if (r.call == 0 || r.call >= CALLS)
+            return malformed("no such call");
+
+        unsigned char *at[BUFFERS];
+        size_t bytes = 0;
+        for (int buffer = 0; buffer < BUFFERS; buffer++) {
+            at[buffer] = NULL;
+            if (!takes[r.call][buffer]) {
+                if (r.count[buffer] != 0)
+                    return malformed("a buffer that the call does not take");
+                continue;
+            }
+            if (r.count[buffer] > MOST_BYTES)
+                return malformed("a count is too large");
+            size_t items = BEFORE + r.count[buffer] + AFTER;
+            if (items > (MOST_BYTES - bytes) / item_bytes[buffer])
+                return malformed("its buffers are too large");
+            at[buffer] = memory + bytes + BEFORE * item_bytes[buffer];
+            bytes += items * item_bytes[buffer];
+        }
+        if (fread(memory, 1, bytes, stdin) != bytes)
+            return malformed("its buffers are cut short");
+
+        uint64_t answer[5];
+        size_t words = make(&r, at, answer);
+        if (fwrite(answer, sizeof answer[0], words, stdout) != words
+            || fwrite(memory, 1, bytes, stdout) != bytes || fflush(stdout) != 0) {
+            perror("bridge: writing");
+            return 2;
+        }
+    }
+}

@@ -1,0 +1,2 @@
+pub mod RecordsLaws
+pub mod Longest

@@ -1,0 +1,102 @@
+-- The longest result text (01, "Result text"): what a buffer must hold. `Bounded` has 01's counts, and what an accepted table's values stay under.
+-- Theorems: `result-longest`, `records-longest` (the same text, made from records) and `refusal-longest`.
+-- Assumes nothing.
+use mathlib.Core.Bool.{Bool, true, false, cond}
+use mathlib.Core.List.{List, [], _∷_, _++_}
+use Prim.Native.Nat.{ℕ, zero, suc, _*_, _^_, _≤_, _<_}
+use native.Mathlib.Nat.{le-refl, lt-of-lt-of-le, suc-mul}
+use native.Mathlib.Omega.{arith}
+use lib.Dec.{lit≤}
+use lib.IntN.{natAbs}
+use lib.ListN.{length, length-append}
+use Rattle.numbers.specs.Below.{at, sum, table}
+use Rattle.kinds.specs.Limits.{bordersMost, rowsMost}
+use Rattle.kinds.specs.Ranges.{atℤ}
+use Rattle.kinds.specs.Refusals.{Why}
+use Rattle.text.specs.Fields.{dash}
+use Rattle.text.specs.Written.{decimal, decimalℤ, linesText}
+use Rattle.text.proofs.DigitLaws.{decimal-most, decimal-u64, signed-most}
+use Rattle.text.proofs.PutLaws.{lines-length}
+use Rattle.extraction.specs.Extraction.{Result, kept, atcOf, leftOf, atcRecord, rowRecord}
+use Rattle.result.specs.Result.{atcText, marginText, resultText, refusalText}
+use Rattle.result.specs.Records.{roundsLine, recordsText}
+use Rattle.result.proofs.RecordsLaws.{two-length, four-length, rounds-length, refusal-length, records-text}
+
+pub record Bounded (r : Result) : Type 0 where
+  pub borders : r .header .borders ≤ bordersMost
+  pub rows : r .header .rows ≤ rowsMost
+  -- MW
+  pub atcs : (b : ℕ) → b < r .header .borders → atcOf r b < 10 ^ 12
+  pub states : (i : ℕ) → i < r .header .rows → at (r .rows .states) i < 10
+  -- grains
+  pub rams : (i : ℕ) → i < r .header .rows → natAbs (atℤ (r .rows .rams) i) < 2 ^ 48
+  pub lefts : (i : ℕ) → i < r .header .rows → leftOf r i < 2 ^ 48
+  pub rounds : r .outcome .rounds < 10 ^ 4
+
+sum-most : (k q : ℕ) (f : ℕ → ℕ) → ((i : ℕ) → i < k → f i ≤ q) → sum k f ≤ k * q
+unfolding sum
+sum-most zero q f h = omega arith
+sum-most (suc k) q f h = omega (arith, suc-mul k q, sum-most k q f (λ i l. h i (omega arith)), h k (le-refl (suc k)))
+
+-- n lines of at most q bytes
+lines-most : (n q : ℕ) (line : ℕ → List ℕ) → ((i : ℕ) → i < n → length (line i) ≤ q) → length (linesText n 0 line) ≤ n * q
+lines-most n q line h = omega (arith, lines-length line n, sum-most n q (λ i. length (line i)) h)
+
+-- 2^48 has 15 digits
+fifteen : {n : ℕ} → n < 2 ^ 48 → n < 10 ^ 15
+fifteen h = lt-of-lt-of-le h (lit≤ tt)
+
+field-most : (t : Bool) (text : List ℕ) (k : ℕ) → 1 ≤ k → length text ≤ k → length (cond t text (dash ∷ [])) ≤ k
+field-most true text k l h = h
+field-most false text k l h = l
+
+module _ (r : Result) (u : Bounded r) where
+  -- a letter, two tabs, an LF; an index of 2 digits and an ATC of 12
+  atc-longest : (b : ℕ) → b < r .header .borders → length (atcText r b) ≤ 18
+  unfolding atcText
+  atc-longest b h =
+      omega (
+        arith,
+        two-length 65 (decimal b) (decimal (atcOf r b)),
+        decimal-most 2 b (omega arith) (omega (arith, u .borders)),
+        decimal-most 12 (atcOf r b) (omega arith) (u .atcs b h),
+      )
+
+  -- a letter, four tabs, an LF; an index of 3 digits, a state of 1, a RAM of 15 with a minus, and a margin left of 15
+  margin-longest : (i : ℕ) → i < r .header .rows → length (marginText r i) ≤ 41
+  unfolding marginText
+  margin-longest i h =
+      let left = cond (kept (r .rows) i) (decimal (leftOf r i)) (dash ∷ []) in
+      omega (
+        arith,
+        four-length 77 (decimal i) (decimal (at (r .rows .states) i)) (decimalℤ (atℤ (r .rows .rams) i)) left,
+        decimal-most 3 i (omega arith) (omega (arith, u .rows)),
+        decimal-most 1 (at (r .rows .states) i) (omega arith) (u .states i h),
+        signed-most (atℤ (r .rows .rams) i) 15 (omega arith) (fifteen (u .rams i h)),
+        field-most (kept (r .rows) i) (decimal (leftOf r i)) 15 (omega arith) (decimal-most 15 (leftOf r i) (omega arith) (fifteen (u .lefts i h))),
+      )
+
+  -- 40 lines of 18 bytes, 200 of 41, and one of 7
+  pub result-longest : length (resultText r) ≤ 8927
+  unfolding resultText
+  result-longest =
+      let atcs = linesText (r .header .borders) 0 (atcText r) in
+      let margins = linesText (r .header .rows) 0 (marginText r) in
+      omega (
+        arith,
+        u .borders,
+        u .rows,
+        length-append (atcs ++ margins) (roundsLine (r .outcome .rounds)),
+        length-append atcs margins,
+        lines-most (r .header .borders) 18 (atcText r) atc-longest,
+        lines-most (r .header .rows) 41 (marginText r) margin-longest,
+        rounds-length (r .outcome .rounds),
+        decimal-most 4 (r .outcome .rounds) (omega arith) (u .rounds),
+      )
+
+  pub records-longest : length (recordsText (table (r .header .borders) (atcRecord r)) (table (r .header .rows) (rowRecord r)) (r .outcome .rounds)) ≤ 8927
+  records-longest = rw (records-text r) result-longest
+
+-- a letter, two tabs, an LF; a number of 1 digit and a place of 20
+pub refusal-longest : (w : Why) → w .number < 10 → w .place < 2 ^ 64 → length (refusalText w) ≤ 25
+refusal-longest w h k = omega (arith, refusal-length w, decimal-most 1 (w .number) (omega arith) h, decimal-u64 (w .place) k)

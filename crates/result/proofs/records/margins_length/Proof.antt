@@ -1,0 +1,106 @@
+-- `result::records::margins_length` meets its contract: the total is that of the first i lines (`Measured`), and no line is longer than `lineMost` (`margin-most`).
+-- Assumes nothing.
+use Prim.Native.Nat.{_-_}
+use mathlib.Core.List.{[]}
+use native.Mathlib.Omega.{arith}
+use borrow.Author.Needs.{needs}
+use lib.ListN.{length, getD}
+use Rattle.numbers.proofs.IntLaws.{plain}
+use Rattle.kinds.specs.Ranges.{atℤ}
+use Rattle.result.specs.Records.{marginAt}
+use Rattle.result.proofs.RecordsLaws.{Measured, measured-none, measured-more, measured-all, margin-most}
+use Rattle.result.proofs.records.margins_length.Statement.{statement}
+use Rattle.result.proofs.records.margins_length.Tie as tie
+
+abbrev Inv-loop : tie.InvT-loop
+Inv-loop left total₀ i₀ total i = Measured (marginAt left) (length left) i total
+
+abbrev μ-loop : tie.MeasureT-loop
+μ-loop left total₀ i₀ total i = length left - i
+
+loop-holds : tie.Need-loop-holds Inv-loop μ-loop
+loop-holds c = measured-none _ _
+
+mul-margin-length : tie.Need-mul-margin-length Inv-loop μ-loop
+mul-margin-length c = omega arith
+
+index-1-margin-length : tie.Need-index-1-margin-length Inv-loop μ-loop
+index-1-margin-length c = omega arith
+
+index-2-margin-length : tie.Need-index-2-margin-length Inv-loop μ-loop
+index-2-margin-length c = search needs
+
+mul-margin-length-2 : tie.Need-mul-margin-length-2 Inv-loop μ-loop
+mul-margin-length-2 c = omega arith
+
+index-1-margin-length-2 : tie.Need-index-1-margin-length-2 Inv-loop μ-loop
+index-1-margin-length-2 c = omega arith
+
+index-2-margin-length-2 : tie.Need-index-2-margin-length-2 Inv-loop μ-loop
+index-2-margin-length-2 c = search needs
+
+mul-margin-length-3 : tie.Need-mul-margin-length-3 Inv-loop μ-loop
+mul-margin-length-3 c = omega arith
+
+index-1-margin-length-3 : tie.Need-index-1-margin-length-3 Inv-loop μ-loop
+index-1-margin-length-3 c = omega arith
+
+index-2-margin-length-3 : tie.Need-index-2-margin-length-3 Inv-loop μ-loop
+index-2-margin-length-3 c = search needs
+
+margin-length-requires : tie.Need-margin-length-requires Inv-loop μ-loop
+margin-length-requires c κs = search needs
+
+add-total : tie.Need-add-total Inv-loop μ-loop
+add-total c =
+    let start = c .before .before .before .before .before .before in
+    let at-loop = c .before .before .before .before .before .loop in
+    let row = getD (start .args .left .now) (at-loop .i) [] in
+    let state = c .before .before .before .margin-length-arg .given in
+    let ram = c .before .before .margin-length-arg2 .given in
+    let left = c .before .margin-length-arg3 .given in
+    let added = simp (plain, state, ram, left) at (c .margin-length .ensures) in
+    omega (arith, start .pre, at-loop .inv .few, at-loop .inv .summed .high, margin-most (at-loop .i) (atℤ row 0) (atℤ row 1) (atℤ row 2) (omega arith) state ram left)
+
+add-i : tie.Need-add-i Inv-loop μ-loop
+add-i c = omega arith
+
+loop-less : tie.Need-loop-less Inv-loop μ-loop
+loop-less c = omega arith
+
+loop-again : tie.Need-loop-again Inv-loop μ-loop
+loop-again c =
+    let start = c .before .before .before .before .before .before in
+    let at-loop = c .before .before .before .before .before .loop in
+    let row = getD (start .args .left .now) (at-loop .i) [] in
+    let state = c .before .before .before .margin-length-arg .given in
+    let ram = c .before .before .margin-length-arg2 .given in
+    let left = c .before .margin-length-arg3 .given in
+    let added = simp (plain, state, ram, left) at (c .margin-length .ensures) in
+    measured-more (at-loop .inv) _ (omega arith) added (margin-most (at-loop .i) (atℤ row 0) (atℤ row 1) (atℤ row 2) (omega arith) state ram left)
+
+returns : tie.Need-returns Inv-loop μ-loop
+returns c = (measured-all (c .before .loop .inv) (omega arith), omega (arith, c .before .before .pre, c .before .loop .inv .few, c .before .loop .inv .summed .high))
+
+pub margins-length-spec : {M : Type 1} → statement M
+margins-length-spec =
+    tie.close
+    (tie.spec
+    Inv-loop
+    μ-loop
+    loop-holds
+    mul-margin-length
+    index-1-margin-length
+    index-2-margin-length
+    mul-margin-length-2
+    index-1-margin-length-2
+    index-2-margin-length-2
+    mul-margin-length-3
+    index-1-margin-length-3
+    index-2-margin-length-3
+    margin-length-requires
+    add-total
+    add-i
+    loop-less
+    loop-again
+    returns)

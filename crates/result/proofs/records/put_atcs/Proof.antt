@@ -1,0 +1,78 @@
+-- `result::records::put_atcs` meets its contract: the first b lines are written. A turn is `lines-more`.
+-- Assumes nothing.
+use Prim.Native.Nat.{_-_, _≤_}
+use native.Mathlib.Omega.{arith}
+use borrow.Author.Needs.{needs}
+use lib.ListN.{length}
+use Rattle.numbers.proofs.IntLaws.{plain}
+use Rattle.text.specs.Put.{Put}
+use Rattle.text.specs.Written.{linesText}
+use Rattle.text.proofs.PutLaws.{lines-none, lines-more, lines-all, lines-le, lines-room, put-kept}
+use Rattle.result.specs.Records.{atcAt}
+use Rattle.result.proofs.records.put_atcs.Statement.{statement}
+use Rattle.result.proofs.records.put_atcs.Tie as tie
+
+abbrev Inv-loop : tie.InvT-loop
+Inv-loop atc out₀ at next₀ b₀ out next b = (b ≤ length atc) × Put (linesText b 0 (atcAt atc)) at out₀ next out
+
+abbrev μ-loop : tie.MeasureT-loop
+μ-loop atc out₀ at next₀ b₀ out next b = length atc - b
+
+loop-holds : tie.Need-loop-holds Inv-loop μ-loop
+loop-holds c = (omega arith, lines-none _ _ _)
+
+mul-put-atc : tie.Need-mul-put-atc Inv-loop μ-loop
+mul-put-atc c = omega arith
+
+index-1-put-atc : tie.Need-index-1-put-atc Inv-loop μ-loop
+index-1-put-atc c = omega arith
+
+index-2-put-atc : tie.Need-index-2-put-atc Inv-loop μ-loop
+index-2-put-atc c = search needs
+
+put-atc-requires : tie.Need-put-atc-requires Inv-loop μ-loop
+put-atc-requires c κs =
+    let start = c .before .before .before .before .before in
+    let at-loop = c .before .before .before .loop in
+    let atcs = start .args .atc .now in
+    simp (plain, c .before .put-atc-arg .given) (lines-room (atcAt atcs) (at-loop .b) (length atcs) (omega arith) (start .pre) (at-loop .inv .1))
+
+add-b : tie.Need-add-b Inv-loop μ-loop
+add-b c = omega arith
+
+loop-less : tie.Need-loop-less Inv-loop μ-loop
+loop-less c = omega arith
+
+loop-again : tie.Need-loop-again Inv-loop μ-loop
+loop-again c =
+    let start = c .before .before .before .before .before .before .before .before in
+    let at-loop = c .before .before .before .before .before .before .loop in
+    let atcs = start .args .atc .now in
+    let line = simp (plain, c .before .before .before .before .put-atc-arg .given) at (c .before .before .put-atc .ensures) in
+    (omega arith, lines-more (atcAt atcs) (omega (arith, start .pre)) (at-loop .inv .1) line)
+
+same-length : tie.Need-same-length Inv-loop μ-loop
+same-length c =
+    let start = c .before .before .before in
+    let at-loop = c .before .loop in
+    put-kept (at-loop .inv .1) (omega (arith, start .pre, lines-le (atcAt (start .args .atc .now)) (at-loop .b) _ (at-loop .inv .0)))
+
+returns : tie.Need-returns Inv-loop μ-loop
+returns c = lines-all (atcAt (c .before .before .before .args .atc .now)) (c .before .loop .inv .0) (omega arith) (c .before .loop .inv .1)
+
+pub put-atcs-spec : {M : Type 1} → statement M
+put-atcs-spec =
+    tie.close
+    (tie.spec
+    Inv-loop
+    μ-loop
+    loop-holds
+    mul-put-atc
+    index-1-put-atc
+    index-2-put-atc
+    put-atc-requires
+    add-b
+    loop-less
+    loop-again
+    same-length
+    returns)

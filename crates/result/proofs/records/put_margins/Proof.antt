@@ -1,0 +1,103 @@
+-- `result::records::put_margins` meets its contract: the first i lines are written. A turn is `lines-more`.
+-- Assumes nothing.
+use Prim.Native.Nat.{_-_, _≤_}
+use native.Mathlib.Omega.{arith}
+use borrow.Author.Needs.{needs}
+use lib.ListN.{length}
+use Rattle.numbers.proofs.IntLaws.{plain}
+use Rattle.text.specs.Put.{Put}
+use Rattle.text.specs.Written.{linesText}
+use Rattle.text.proofs.PutLaws.{lines-none, lines-more, lines-all, lines-le, lines-room, put-kept}
+use Rattle.result.specs.Records.{marginAt}
+use Rattle.result.proofs.records.put_margins.Statement.{statement}
+use Rattle.result.proofs.records.put_margins.Tie as tie
+
+abbrev Inv-loop : tie.InvT-loop
+Inv-loop left out₀ at next₀ i₀ out next i = (i ≤ length left) × Put (linesText i 0 (marginAt left)) at out₀ next out
+
+abbrev μ-loop : tie.MeasureT-loop
+μ-loop left out₀ at next₀ i₀ out next i = length left - i
+
+loop-holds : tie.Need-loop-holds Inv-loop μ-loop
+loop-holds c = (omega arith, lines-none _ _ _)
+
+mul-put-margin : tie.Need-mul-put-margin Inv-loop μ-loop
+mul-put-margin c = omega arith
+
+index-1-put-margin : tie.Need-index-1-put-margin Inv-loop μ-loop
+index-1-put-margin c = omega arith
+
+index-2-put-margin : tie.Need-index-2-put-margin Inv-loop μ-loop
+index-2-put-margin c = search needs
+
+mul-put-margin-2 : tie.Need-mul-put-margin-2 Inv-loop μ-loop
+mul-put-margin-2 c = omega arith
+
+index-1-put-margin-2 : tie.Need-index-1-put-margin-2 Inv-loop μ-loop
+index-1-put-margin-2 c = omega arith
+
+index-2-put-margin-2 : tie.Need-index-2-put-margin-2 Inv-loop μ-loop
+index-2-put-margin-2 c = search needs
+
+mul-put-margin-3 : tie.Need-mul-put-margin-3 Inv-loop μ-loop
+mul-put-margin-3 c = omega arith
+
+index-1-put-margin-3 : tie.Need-index-1-put-margin-3 Inv-loop μ-loop
+index-1-put-margin-3 c = omega arith
+
+index-2-put-margin-3 : tie.Need-index-2-put-margin-3 Inv-loop μ-loop
+index-2-put-margin-3 c = search needs
+
+put-margin-requires : tie.Need-put-margin-requires Inv-loop μ-loop
+put-margin-requires c κs =
+    let start = c .before .before .before .before .before .before .before in
+    let at-loop = c .before .before .before .before .before .loop in
+    let lefts = start .args .left .now in
+    simp (plain, c .before .before .before .put-margin-arg .given, c .before .before .put-margin-arg2 .given, c .before .put-margin-arg3 .given)
+    (lines-room (marginAt lefts) (at-loop .i) (length lefts) (omega arith) (start .pre) (at-loop .inv .1))
+
+add-i : tie.Need-add-i Inv-loop μ-loop
+add-i c = omega arith
+
+loop-less : tie.Need-loop-less Inv-loop μ-loop
+loop-less c = omega arith
+
+loop-again : tie.Need-loop-again Inv-loop μ-loop
+loop-again c =
+    let start = c .before .before .before .before .before .before .before .before .before .before in
+    let at-loop = c .before .before .before .before .before .before .before .before .loop in
+    let lefts = start .args .left .now in
+    let line = simp (plain, c .before .before .before .before .before .before .put-margin-arg .given, c .before .before .before .before .before .put-margin-arg2 .given, c .before .before .before .before .put-margin-arg3 .given) at (c .before .before .put-margin .ensures) in
+    (omega arith, lines-more (marginAt lefts) (omega (arith, start .pre)) (at-loop .inv .1) line)
+
+same-length : tie.Need-same-length Inv-loop μ-loop
+same-length c =
+    let start = c .before .before .before in
+    let at-loop = c .before .loop in
+    put-kept (at-loop .inv .1) (omega (arith, start .pre, lines-le (marginAt (start .args .left .now)) (at-loop .i) _ (at-loop .inv .0)))
+
+returns : tie.Need-returns Inv-loop μ-loop
+returns c = lines-all (marginAt (c .before .before .before .args .left .now)) (c .before .loop .inv .0) (omega arith) (c .before .loop .inv .1)
+
+pub put-margins-spec : {M : Type 1} → statement M
+put-margins-spec =
+    tie.close
+    (tie.spec
+    Inv-loop
+    μ-loop
+    loop-holds
+    mul-put-margin
+    index-1-put-margin
+    index-2-put-margin
+    mul-put-margin-2
+    index-1-put-margin-2
+    index-2-put-margin-2
+    mul-put-margin-3
+    index-1-put-margin-3
+    index-2-put-margin-3
+    put-margin-requires
+    add-i
+    loop-less
+    loop-again
+    same-length
+    returns)

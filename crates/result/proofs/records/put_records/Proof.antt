@@ -1,0 +1,40 @@
+-- `result::records::put_records` meets its contract: A lines, M lines and the R line, one after another (`text-put`).
+-- Assumes nothing.
+use Prim.Native.Nat.{_+_}
+use native.Mathlib.Omega.{arith}
+use borrow.Author.Needs.{needs}
+use lib.ListN.{length}
+use Rattle.text.proofs.PutLaws.{put-room, put-whole}
+use Rattle.result.specs.Records.{marginLines, roundsLine}
+use Rattle.result.proofs.RecordsLaws.{text-length, text-put}
+use Rattle.result.proofs.records.put_records.Statement.{statement}
+use Rattle.result.proofs.records.put_records.Tie as tie
+
+put-atcs-requires : tie.Need-put-atcs-requires
+put-atcs-requires c κs =
+    let start = c .before .before in
+    omega (arith, start .pre, text-length (start .args .atc .now) (start .args .left .now) (start .args .rounds))
+
+put-margins-requires : tie.Need-put-margins-requires
+put-margins-requires c κs =
+    let start = c .before .before .before .before .before .before in
+    let all = text-length (start .args .atc .now) (start .args .left .now) (start .args .rounds) in
+    put-room (c .before .before .before .put-atcs .ensures) (length (marginLines (start .args .left .now))) (omega (arith, start .pre))
+
+put-rounds-requires : tie.Need-put-rounds-requires
+put-rounds-requires c κs =
+    let start = c .before .before .before .before .before .before .before .before .before .before in
+    let all = text-length (start .args .atc .now) (start .args .left .now) (start .args .rounds) in
+    let last = length (roundsLine (start .args .rounds)) in
+    put-room (c .before .before .before .put-margins .ensures) last (put-room (c .before .before .before .before .before .before .before .put-atcs .ensures) (length (marginLines (start .args .left .now)) + last) (omega (arith, start .pre)))
+
+same-length : tie.Need-same-length
+same-length c = search needs
+
+returns : tie.Need-returns
+returns c = put-whole (text-put (c .before .before .before .before .before .before .before .before .before .before .before .before .before .args .atc .now) (c .before .before .before .before .before .before .before .before .before .before .before .before .before .args .left .now) (c .before .before .before .before .before .before .before .before .before .before .before .before .before .args .rounds) (c .before .before .before .before .before .before .before .before .before .before .put-atcs .ensures) (c .before .before .before .before .before .before .put-margins .ensures) (c .before .before .put-rounds .ensures))
+
+pub put-records-spec : {M : Type 1} → statement M
+put-records-spec =
+    tie.close
+    (tie.spec put-atcs-requires put-margins-requires put-rounds-requires same-length returns)

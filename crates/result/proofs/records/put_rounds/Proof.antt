@@ -1,0 +1,40 @@
+-- `result::records::put_rounds` meets its contract: the letter, the number and the LF, one after another (`line-none`, `line-more`, `line-all`).
+-- Assumes nothing.
+use mathlib.Core.List.{[], _∷_}
+use native.Mathlib.Omega.{arith}
+use Rattle.text.specs.Written.{decimal}
+use Rattle.text.proofs.PutLaws.{line-none, line-more, line-all, room-first, room-more, room-last}
+use borrow.Author.Needs.{needs}
+use Rattle.result.proofs.records.put_rounds.Statement.{statement}
+use Rattle.result.proofs.records.put_rounds.Tie as tie
+
+put-byte-requires : tie.Need-put-byte-requires
+put-byte-requires c κs =
+    let start = c .before .before in
+    room-first 82 (decimal (start .args .rounds) ∷ []) (start .pre)
+
+put-number-field-requires : tie.Need-put-number-field-requires
+put-number-field-requires c κs =
+    let start = c .before .before .before .before .before .before in
+    room-more (line-none (c .before .before .before .put-byte .ensures)) _ [] (start .pre)
+
+put-byte-requires-2 : tie.Need-put-byte-requires-2
+put-byte-requires-2 c κs =
+    let start = c .before .before .before .before .before .before .before .before .before .before in
+    let letter = line-none (c .before .before .before .before .before .before .before .put-byte .ensures) in
+    room-last (line-more (omega (arith, start .pre)) letter (c .before .before .before .put-number-field .ensures)) (start .pre)
+
+same-length : tie.Need-same-length
+same-length c = search needs
+
+returns : tie.Need-returns
+returns c =
+    let start = c .before .before .before .before .before .before .before .before .before .before .before .before .before in
+    let letter = line-none (c .before .before .before .before .before .before .before .before .before .before .put-byte .ensures) in
+    let number = line-more (omega (arith, start .pre)) letter (c .before .before .before .before .before .before .put-number-field .ensures) in
+    line-all (omega (arith, start .pre)) number (c .before .before .put-byte2 .ensures)
+
+pub put-rounds-spec : {M : Type 1} → statement M
+put-rounds-spec =
+    tie.close
+    (tie.spec put-byte-requires put-number-field-requires put-byte-requires-2 same-length returns)

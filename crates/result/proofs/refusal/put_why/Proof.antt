@@ -1,0 +1,61 @@
+-- `result::refusal::put_why` meets its contract: the letter, the two fields and the LF, one after another (`line-none`, `line-more`, `line-all`).
+-- Assumes nothing.
+use mathlib.Core.List.{[], _∷_}
+use native.Mathlib.Omega.{arith}
+use Rattle.text.specs.Written.{decimal}
+use Rattle.text.proofs.PutLaws.{line-none, line-more, line-all, room-first, room-more, room-last}
+use Rattle.result.specs.Result.{refusalText}
+use borrow.Author.Needs.{needs}
+use Rattle.result.proofs.refusal.put_why.Statement.{statement}
+use Rattle.result.proofs.refusal.put_why.Tie as tie
+
+put-byte-requires : tie.Need-put-byte-requires
+unfolding refusalText
+put-byte-requires c κs =
+    let start = c .before .before in
+    room-first 69 (decimal (start .args .number) ∷ decimal (start .args .place) ∷ []) (omega (arith, start .pre))
+
+put-number-field-requires : tie.Need-put-number-field-requires
+unfolding refusalText
+put-number-field-requires c κs =
+    let start = c .before .before .before .before .before .before in
+    room-more (line-none (c .before .before .before .put-byte .ensures)) (decimal (start .args .number)) (decimal (start .args .place) ∷ []) (omega (arith, start .pre))
+
+put-number-field-requires-2 : tie.Need-put-number-field-requires-2
+unfolding refusalText
+put-number-field-requires-2 c κs =
+    let start = c .before .before .before .before .before .before .before .before .before .before in
+    let letter = line-none (c .before .before .before .before .before .before .before .put-byte .ensures) in
+    let number = line-more (omega arith) letter (c .before .before .before .put-number-field .ensures) in
+    room-more number (decimal (start .args .place)) [] (omega (arith, start .pre))
+
+put-byte-requires-2 : tie.Need-put-byte-requires-2
+unfolding refusalText
+put-byte-requires-2 c κs =
+    let start = c .before .before .before .before .before .before .before .before .before .before .before .before .before .before in
+    let letter = line-none (c .before .before .before .before .before .before .before .before .before .before .before .put-byte .ensures) in
+    let number = line-more (omega arith) letter (c .before .before .before .before .before .before .before .put-number-field .ensures) in
+    let place = line-more (omega arith) number (c .before .before .before .put-number-field2 .ensures) in
+    room-last place (omega (arith, start .pre))
+
+same-length : tie.Need-same-length
+same-length c = search needs
+
+returns : tie.Need-returns
+unfolding refusalText
+returns c =
+    let letter = line-none (c .before .before .before .before .before .before .before .before .before .before .before .before .before .before .put-byte .ensures) in
+    let number = line-more (omega arith) letter (c .before .before .before .before .before .before .before .before .before .before .put-number-field .ensures) in
+    let place = line-more (omega arith) number (c .before .before .before .before .before .before .put-number-field2 .ensures) in
+    line-all (omega arith) place (c .before .before .put-byte2 .ensures)
+
+pub put-why-spec : {M : Type 1} → statement M
+put-why-spec =
+    tie.close
+    (tie.spec
+    put-byte-requires
+    put-number-field-requires
+    put-number-field-requires-2
+    put-byte-requires-2
+    same-length
+    returns)

@@ -1,0 +1,111 @@
+//! What goes between the comparer (calls.rs) and a bridge, the process that
+//! makes the calls: c/bridge.c over a library, mock.rs over the reference
+//! calculator.  A word has 64 bits, the least byte first.
+//!
+//! A request: twelve words, then the lent buffers.  The words are the call, its
+//! header (zones, borders, rows; 0 where the call takes none) and the counts of
+//! items of z, b, c, f, atc, left, text and out (0 where the call does not take
+//! that buffer).  The buffers that the call takes follow in this order, each
+//! with BEFORE items before the lent part and AFTER items after it; an item is
+//! as many words as it has numbers, and a byte for text and out.
+//!
+//! An answer: the fields of the call's struct, a word each, then the same
+//! buffers as the call left them.
+//!
+//! A bridge keeps the buffers of a request in one piece of memory, as they came:
+//! what a call writes beyond its buffers lands in marks that are compared.
+#![allow(dead_code)]
+
+pub const READ: u64 = 1;
+pub const WRITE: u64 = 2;
+pub const EXTRACT: u64 = 3;
+pub const RESULT_TEXT: u64 = 4;
+pub const ANSWER: u64 = 5;
+
+/// Items before and after the lent part that nobody may touch.
+pub const BEFORE: usize = 2;
+pub const AFTER: usize = 3;
+
+/// The words of a request.
+pub const WORDS: usize = 12;
+
+/// Where the count of each buffer stands among them.
+pub const Z: usize = 4;
+pub const B: usize = 5;
+pub const C: usize = 6;
+pub const F: usize = 7;
+pub const ATC: usize = 8;
+pub const LEFT: usize = 9;
+pub const TEXT: usize = 10;
+pub const OUT: usize = 11;
+
+/// An item of a lent buffer as bytes.
+pub trait Item: Copy {
+    const BYTES: usize;
+    fn put(self, to: &mut [u8]);
+    fn got(from: &[u8]) -> Self;
+}
+
+impl Item for u8 {
+    const BYTES: usize = 1;
+
+    fn put(self, to: &mut [u8]) {
+        to[0] = self;
+    }
+
+    fn got(from: &[u8]) -> u8 {
+        from[0]
+    }
+}
+
+impl Item for i64 {
+    const BYTES: usize = 8;
+
+    fn put(self, to: &mut [u8]) {
+        to.copy_from_slice(&self.to_le_bytes());
+    }
+
+    fn got(from: &[u8]) -> i64 {
+        i64::from_le_bytes(from.try_into().expect("eight bytes"))
+    }
+}
+
+impl<const K: usize> Item for [i64; K] {
+    const BYTES: usize = 8 * K;
+
+    fn put(self, to: &mut [u8]) {
+        for (number, to) in self.into_iter().zip(to.chunks_exact_mut(8)) {
+            number.put(to);
+        }
+    }
+
+    fn got(from: &[u8]) -> [i64; K] {
+        std::array::from_fn(|number| i64::got(&from[8 * number..8 * number + 8]))
+    }
+}
+
+/// Adds the items to the bytes.
+pub fn put_all<T: Item>(items: &[T], to: &mut Vec<u8>) {
+    let start = to.len();
+    to.resize(start + items.len() * T::BYTES, 0);
+    for (item, to) in items.iter().zip(to[start..].chunks_exact_mut(T::BYTES)) {
+        item.put(to);
+    }
+}
+
+/// Fills the items from the front of the bytes; how many bytes they took.
+pub fn get_all<T: Item>(items: &mut [T], from: &[u8]) -> usize {
+    let bytes = items.len() * T::BYTES;
+    for (item, from) in items.iter_mut().zip(from[..bytes].chunks_exact(T::BYTES)) {
+        *item = T::got(from);
+    }
+    bytes
+}
+
+pub fn word(bytes: &[u8], index: usize) -> u64 {
+    u64::from_le_bytes(bytes[8 * index..8 * index + 8].try_into().expect("eight bytes"))
+}
+
+pub fn set_word(bytes: &mut [u8], index: usize, word: u64) {
+    bytes[8 * index..8 * index + 8].copy_from_slice(&word.to_le_bytes());
+}
