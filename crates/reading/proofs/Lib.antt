@@ -1,2 +1,4 @@
-pub mod RowLaws
 pub mod ReadLaws
+pub mod JudgedTextLaws
+pub mod FilledLaws
+pub mod Unique

@@ -23,12 +23,13 @@ use Rattle.table.specs.Table.{Table, stretch, twice, notTwice, headerLineNo, zo
 use Rattle.table.specs.Good.{Good, Shaped}
 use Rattle.table.proofs.GoodLaws.{row-good, flat-fit}
 use Rattle.lines.specs.Lines.{RowLine, headerLine, zoneLine, borderLine, rowLine}
-use Rattle.reading.specs.Reading.{withHeader, valuesOf, factorsOf, linesOf, readText}
+use Rattle.runs.specs.Rows.{valuesOf, factorsOf}
+use Rattle.runs.proofs.RowLaws.{none, values-long, values-at, factors-long, stretch-of}
+use Rattle.reading.specs.Reading.{withHeader, linesOf, readText}
 use Rattle.lines.proofs.HeaderTrip.{header-read}
 use Rattle.lines.proofs.ZoneTrip.{zone-read}
 use Rattle.lines.proofs.BorderTrip.{BorderHeld, border-read}
 use Rattle.lines.proofs.RowTrip.{RowHeld, Held, row-read}
-use Rattle.reading.proofs.RowLaws.{none, values-long, values-at, factors-long, stretch-of}
 
 -- ---- the chain of H, Z, B, C lines and the end of the text, opened
 pub record Opened (text : List ℕ) (t : Table) : Type 0 where

@@ -1,8 +1,8 @@
 -- Reading the table (01, "The table as text", "When the table is turned away"), and what the open call `read` leaves.
 -- Assumes nothing.
 use mathlib.Core.Bool.{cond}
-use mathlib.Core.List.{List, [], _∷_, _++_}
-use Prim.Native.Nat.{ℕ, _+_}
+use mathlib.Core.List.{List}
+use Prim.Native.Nat.{ℕ}
 use lib.Dec.{ltb}
 use lib.IntN.{ℤ}
 use lib.ListN.{length}
@@ -13,21 +13,13 @@ use Rattle.kinds.specs.Refusals.{Judged, passed, refused, then, either, tooLong
 use Rattle.text.specs.Line.{lineAt, after, Line, holds, form, range}
 use Rattle.block.specs.Block.{linesAt, withLines}
 use Rattle.table.specs.Table.{Table, lent, notTwice, room, headerLineNo, zoneLineNo, borderLineNo, rowLineNo, pastLineNo}
-use Rattle.lines.specs.Lines.{headerLine, zoneLine, borderLine, rowLine, RowLine}
+use Rattle.lines.specs.Lines.{headerLine, zoneLine, borderLine, rowLine}
+use Rattle.runs.specs.Rows.{valuesOf, factorsOf}
 
 abbrev pub withHeader : {A : Type 0} → Line Header → (Header → Judged A) → Judged A
 withHeader (holds h) next = next h
 withHeader form next = refused (wrongForm headerLineNo)
 withHeader range next = refused (outOfRange headerLineNo)
-
--- the raw records of the C lines, and their factors, each row's after the one before
-abbrev pub valuesOf : List RowLine → List (List ℤ)
-valuesOf [] = []
-valuesOf (c ∷ cs) = c .values ∷ valuesOf cs
-
-abbrev pub factorsOf : List RowLine → List ℤ
-factorsOf [] = []
-factorsOf (c ∷ cs) = c .factors ++ factorsOf cs
 
 -- one H line, then all Z, B, C lines, each kind by index from 0; nothing follows
 unfoldable pub linesOf : (text : List ℕ) → Judged Table

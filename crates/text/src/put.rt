@@ -31,7 +31,7 @@ pub fn signed_length(z: i64) -> usize
 }
 
 // z without its sign. It is brought one nearer to 0 before the sign is turned: the smallest i64 has no opposite.
-fn magnitude(z: i64) -> u64
+pub fn magnitude(z: i64) -> u64
     ensures { λ r. ⌜ r ≡ natAbs z ⌝ }
 {
     if z < 0 {

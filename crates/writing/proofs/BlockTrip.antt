@@ -16,12 +16,13 @@ use Rattle.block.proofs.BlockLaws.{blockText, allFit}
 use Rattle.block.proofs.RunLaws.{lines-block}
 use Rattle.table.specs.Table.{Table, borderAt, rowAt, factorsAt, stretch}
 use Rattle.lines.specs.Lines.{RowLine}
-use Rattle.reading.specs.Reading.{valuesOf, factorsOf}
+use Rattle.runs.specs.Rows.{valuesOf, factorsOf}
 use Rattle.lines.proofs.ZoneTrip.{zoneFields}
 use Rattle.lines.proofs.BorderTrip.{borderFields}
 use Rattle.lines.proofs.RowTrip.{Held, rowFields}
-use Rattle.reading.proofs.RowLaws.{none, values-at, stretch-of}
-use Rattle.writing.specs.Writing.{headerText, zoneText, borderText, shareText, eachText, rowText, tableText}
+use Rattle.runs.proofs.RowLaws.{none, values-at, stretch-of}
+use Rattle.layout.specs.Layout.{headerText, zoneText, borderText, shareText, eachText, rowText}
+use Rattle.writing.specs.Writing.{tableText}
 
 -- ---- the lines of each kind, by what reading holds of them
 abbrev pub zoneLineOf : (i : ℕ) → (net : ℤ) → List ℕ

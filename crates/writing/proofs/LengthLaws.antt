@@ -29,7 +29,8 @@ use Rattle.text.proofs.WrittenLaws.{decimal-long, decimalℤ-long, pos-long, wi
 use Rattle.table.specs.Table.{Table, borderAt, rowAt, factorsAt, samePair, twice}
 use Rattle.table.specs.Good.{Good}
 use Rattle.table.proofs.GoodLaws.{stretch-long, row-fit}
-use Rattle.writing.specs.Writing.{headerText, zoneText, borderText, shareText, eachText, rowText, tableText}
+use Rattle.layout.specs.Layout.{headerText, zoneText, borderText, shareText, eachText, rowText}
+use Rattle.writing.specs.Writing.{tableText}
 
 -- the digits of an index
 abbrev pub digitsOf : ℕ → ℕ

@@ -1,5 +1,8 @@
 pub mod BlockTrip
 pub mod TableTrip
 pub mod LengthLaws
+pub mod LeftLaws
 pub mod RoundTrip
 pub mod Longest
+pub mod TextLaws
+pub mod Unique

@@ -25,14 +25,16 @@ use Rattle.table.specs.Table.{Table, stretch, notTwice, zoneLineNo, borderLineN
 use Rattle.table.specs.Good.{Good, Shaped}
 use Rattle.table.proofs.GoodLaws.{good-row, row-fit, stretch-long}
 use Rattle.lines.specs.Lines.{RowLine, headerLine, zoneLine, borderLine, rowLine}
-use Rattle.reading.specs.Reading.{valuesOf, factorsOf, linesOf, readText}
+use Rattle.runs.specs.Rows.{valuesOf, factorsOf}
+use Rattle.reading.specs.Reading.{linesOf, readText}
 use Rattle.lines.proofs.HeaderTrip.{header-read, header-written, header-one}
 use Rattle.lines.proofs.ZoneTrip.{zone-read, zone-written, zone-one}
 use Rattle.lines.proofs.BorderTrip.{BorderHeld, border-read, border-written, border-one}
 use Rattle.lines.proofs.RowTrip.{RowHeld, Held, row-read, row-written, row-one}
-use Rattle.reading.proofs.RowLaws.{none, values-at, cut, cut-long, cut-values, cut-factors, cut-at}
+use Rattle.runs.proofs.RowLaws.{none, values-at, cut, cut-long, cut-values, cut-factors, cut-at}
 use Rattle.reading.proofs.ReadLaws.{Opened, fits, some, nets-held, borders-held, rows-held}
-use Rattle.writing.specs.Writing.{headerText, tableText}
+use Rattle.layout.specs.Layout.{headerText}
+use Rattle.writing.specs.Writing.{tableText}
 use Rattle.writing.proofs.BlockTrip.{zoneLineOf, borderLineOf, rowLineOf, Lined, blocks, text-blocks}
 
 -- ---- what was read

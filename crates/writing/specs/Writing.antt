@@ -1,44 +1,17 @@
 -- Writing the table (01, "The table as text"), and what the open call `write` leaves.
 -- Assumes nothing.
-use mathlib.Core.List.{List, [], _∷_, _++_}
-use Prim.Native.Char.{code}
+use mathlib.Core.List.{List, [], _++_}
 use Prim.Native.Nat.{ℕ}
 use lib.IntN.{ℤ}
-use lib.ListN.{length}
+use lib.ListN.{length, getD}
 use Rattle.numbers.specs.Below.{over}
-use Rattle.kinds.specs.declared.Header.{Header}
-use Rattle.kinds.specs.declared.Border.{Border}
-use Rattle.kinds.specs.declared.Share.{Share}
-use Rattle.kinds.specs.declared.Share.the-variants as share
-use Rattle.kinds.specs.declared.Row.{Row}
-use Rattle.kinds.specs.Ranges.{atℤ}
+use Rattle.kinds.specs.declared.Written.{Written}
+use Rattle.kinds.specs.Ranges.{atℤ, borderOf, rowOf}
 use Rattle.kinds.specs.Refusals.{Judged, passed, refused, then, either, need}
-use Rattle.text.specs.Fields.{dash}
-use Rattle.text.specs.Written.{decimal, decimalℤ, lineText, linesText}
-use Rattle.table.specs.Table.{Table, borderAt, rowAt, factorsAt, judgeLent}
-
-abbrev pub headerText : Header → List ℕ
-headerText h = lineText (code "H") (decimal (h .zones) ∷ decimal (h .borders) ∷ decimal (h .rows) ∷ [])
-
-abbrev pub zoneText : (i : ℕ) → (net : ℤ) → List ℕ
-zoneText i net = lineText (code "Z") (decimal i ∷ decimalℤ net ∷ [])
-
-abbrev pub borderText : (i : ℕ) → Border → List ℕ
-borderText i b = lineText (code "B") (decimal i ∷ decimal (b .from) ∷ decimal (b .to) ∷ decimal (b .lta) ∷ [])
-
--- the table remembers that "-" was written, so writing gives "-" again
-abbrev pub shareText : Share → List ℕ
-shareText share.Standard = dash ∷ []
-shareText (share.Written r) = decimalℤ r
-
-abbrev pub eachText : List ℤ → List (List ℕ)
-eachText [] = []
-eachText (z ∷ zs) = decimalℤ z ∷ eachText zs
-
-abbrev pub rowText : (i : ℕ) → Row → (factors : List ℤ) → List ℕ
-rowText i c factors =
-    lineText (code "C") (decimal i ∷ decimalℤ (c .fmax) ∷ decimalℤ (c .frm) ∷ decimalℤ (c .fref) ∷ decimalℤ (c .f0all) ∷ shareText (c .share)
-    ∷ decimalℤ (c .cva) ∷ decimalℤ (c .iva) ∷ eachText factors)
+use Rattle.kinds.specs.Answers.{saidWritten}
+use Rattle.text.specs.Written.{linesText}
+use Rattle.table.specs.Table.{Table, borderAt, rowAt, factorsAt, stretch, judgeLent}
+use Rattle.layout.specs.Layout.{headerText, zoneText, borderText, rowText}
 
 unfoldable pub tableText : Table → List ℕ
 tableText t =
@@ -62,3 +35,27 @@ textLeft judged out =
 -- the open call `write`
 unfoldable pub writeLeft : (lent : Table) → (out : List ℕ) → TextLeft
 writeLeft lent out = textLeft (then (judgeLent lent) (λ t. passed (tableText t))) out
+
+-- what such a call says: its answer, and the lent bytes as it leaves them
+abbrev pub textSaid : Written → (out : List ℕ) → TextLeft
+textSaid r out = record { answer = saidWritten r; out = out }
+
+-- the lines of each kind, by the lent records
+abbrev pub zoneTextAt : (nets : List ℤ) → (i : ℕ) → List ℕ
+zoneTextAt nets i = zoneText i (atℤ nets i)
+
+abbrev pub borderTextAt : (borders : List (List ℤ)) → (i : ℕ) → List ℕ
+borderTextAt borders i = borderText i (borderOf (getD borders i []))
+
+abbrev pub rowTextAt : (zones : ℕ) → (rows : List (List ℤ)) → (factors : List ℤ) → (i : ℕ) → List ℕ
+rowTextAt zones rows factors i = rowText i (rowOf (getD rows i [])) (stretch zones factors i)
+
+-- .. and all of them
+abbrev pub zonesText : List ℤ → List ℕ
+zonesText nets = linesText (length nets) 0 (zoneTextAt nets)
+
+abbrev pub bordersText : List (List ℤ) → List ℕ
+bordersText borders = linesText (length borders) 0 (borderTextAt borders)
+
+abbrev pub rowsText : (zones : ℕ) → (rows : List (List ℤ)) → (factors : List ℤ) → List ℕ
+rowsText zones rows factors = linesText (length rows) 0 (rowTextAt zones rows factors)

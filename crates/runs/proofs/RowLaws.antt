@@ -1,4 +1,4 @@
--- The laws of `specs/Reading.antt`'s `valuesOf` and `factorsOf`: what C lines hold, put together (row after row) and cut up again. No contract cites this file.
+-- The laws of `specs/Rows.antt`'s `valuesOf` and `factorsOf`: what C lines hold, put together (row after row) and cut up again. No contract cites this file.
 -- Assumes nothing.
 use mathlib.Core.Path.{_≡_, refl, sym, ap, _∙_}
 use mathlib.Core.List.{List, [], _∷_, _++_}
@@ -11,7 +11,7 @@ use lib.Seq.{take-at, drop-at, drop-drop}
 use Rattle.block.proofs.BlockLaws.{allFit}
 use Rattle.table.specs.Table.{stretch}
 use Rattle.lines.specs.Lines.{RowLine}
-use Rattle.reading.specs.Reading.{valuesOf, factorsOf}
+use Rattle.runs.specs.Rows.{valuesOf, factorsOf}
 use Rattle.lines.proofs.RowTrip.{Held}
 
 -- no row

@@ -1,0 +1,28 @@
+-- What the code answers of a line, as `Line` of crate text says it. Promises are stated through these.
+-- Assumes nothing.
+use mathlib.Core.List.{List, [], _∷_}
+use lib.IntN.{ℤ, pos}
+use Rattle.kinds.specs.declared.Header.{Header}
+use Rattle.text.specs.Line.{Line, holds, form, range}
+use Rattle.lines.specs.declared.HeaderLine.{HeaderLine}
+use Rattle.lines.specs.declared.HeaderLine.the-variants as header
+use Rattle.lines.specs.declared.ZoneLine.{ZoneLine}
+use Rattle.lines.specs.declared.ZoneLine.the-variants as zone
+use Rattle.lines.specs.declared.BorderLine.{BorderLine}
+use Rattle.lines.specs.declared.BorderLine.the-variants as border
+
+abbrev pub saidHeader : HeaderLine → Line Header
+saidHeader (header.Holds h) = holds h
+saidHeader header.Form = form
+saidHeader header.Range = range
+
+abbrev pub saidZone : ZoneLine → Line ℤ
+saidZone (zone.Holds net) = holds net
+saidZone zone.Form = form
+saidZone zone.Range = range
+
+-- a border as its raw record
+abbrev pub saidBorder : BorderLine → Line (List ℤ)
+saidBorder (border.Holds b) = holds (pos (b .from) ∷ pos (b .to) ∷ pos (b .lta) ∷ [])
+saidBorder border.Form = form
+saidBorder border.Range = range

@@ -1,0 +1,48 @@
+-- `reading::filled::fill` meets its contract: each table holds what its lines hold, as the runs were judged good (`filled`). Assumes nothing.
+use Rattle.reading.proofs.FilledLaws.{nets-again, rows-again, factors-asked, filled}
+use borrow.Author.Needs.{needs}
+use Rattle.reading.proofs.filled.fill.Statement.{statement}
+use Rattle.reading.proofs.filled.fill.Tie as tie
+
+zones-filled-requires : tie.Need-zones-filled-requires
+zones-filled-requires c κs =
+    let start = c .before .before .before in
+    (start .pre .0 .zones-within, nets-again _ _ _ _ _ _ (start .pre .0) (start .pre .1 .1))
+
+copy-requires : tie.Need-copy-requires
+copy-requires c κs = search needs
+
+rows-filled-requires : tie.Need-rows-filled-requires
+rows-filled-requires c κs =
+    let start = c .before .before .before .before .before .before .before .before .before .before in
+    (start .pre .0 .rows-within, factors-asked _ _ _ _ _ _ (start .pre .0) (start .pre .1 .1), rows-again _ _ _ _ _ _ (start .pre .0) (start .pre .1 .1))
+
+same-length : tie.Need-same-length
+same-length c = search needs
+
+same-length-2 : tie.Need-same-length-2
+same-length-2 c = search needs
+
+same-length-3 : tie.Need-same-length-3
+same-length-3 c = search needs
+
+same-length-4 : tie.Need-same-length-4
+same-length-4 c = search needs
+
+returns : tie.Need-returns
+returns c =
+    let start = c .before .before .before .before .before .before .before .before .before .before .before .before .before in
+    filled _ _ _ _ _ _ (start .pre .0) (start .pre .1 .1) _ _ _ _ _ (c .before .before .before .before .before .before .before .before .before .zones-filled .ensures) (c .before .before .before .before .before .before .copy .ensures) (c .before .before .rows-filled .ensures .0) (c .before .before .rows-filled .ensures .1)
+
+pub fill-spec : {M : Type 1} → statement M
+fill-spec =
+    tie.close
+    (tie.spec
+    zones-filled-requires
+    copy-requires
+    rows-filled-requires
+    same-length
+    same-length-2
+    same-length-3
+    same-length-4
+    returns)

@@ -1,0 +1,96 @@
+-- `reading::judged::judge_text` meets its contract: the length decides, then the lines, then borders given twice. Assumes nothing.
+use mathlib.Core.Path.{_≡_, sym, ap, subst, _∙_}
+use native.Mathlib.Omega.{arith}
+use lib.ListN.{length}
+use lib.Seq.{length-take-le}
+use Rattle.kinds.specs.Limits.{bordersMost}
+use Rattle.kinds.proofs.KindLaws.{header-in}
+use Rattle.numbers.specs.First.{found}
+use Rattle.reading.specs.declared.judged.TextJudged.{TextJudged}
+use Rattle.reading.specs.declared.judged.TextJudged.the-variants.{Good}
+use Rattle.reading.specs.Reading.{linesOf}
+use Rattle.reading.specs.Places.{tableIn, placedIn, Placed}
+use Rattle.reading.proofs.JudgedTextLaws.{too-long, lines-refused, twice-refused, text-passes}
+use borrow.Author.Needs.{needs}
+use Rattle.reading.proofs.judged.judge_text.Statement.{statement}
+use Rattle.reading.proofs.judged.judge_text.Tie as tie
+
+-- the lines were judged good: where they stand, and the table that they make
+placed : (c : tie.After-known-told) → Placed (c .before .places .given .0 .0) (c .before .before .before .before .before .before .before .before .args .text .now)
+placed c = subst (λ (r : TextJudged). placedIn r (c .before .before .before .before .before .before .before .before .args .text .now)) (c .before .places .given .1) (c .before .before .before .before .judge-lines .ensures .1)
+
+lines-are : (c : tie.After-known-told)
+    → let text = c .before .before .before .before .before .before .before .before .args .text .now in
+    tableIn (Good (c .before .places .given .0 .0)) text (c .before .before .before .before .judge-lines .last .1 .0) ≡ linesOf text
+lines-are c =
+    let text = c .before .before .before .before .before .before .before .before .args .text .now in
+    sym (ap (λ (r : TextJudged). tableIn r text (c .before .before .before .before .judge-lines .last .1 .0)) (c .before .places .given .1)) ∙ c .before .before .before .before .judge-lines .ensures .0
+
+-- the memory is as long as it was
+memory-long : (c : tie.After-known-told) → length (c .before .before .before .before .judge-lines .last .1 .0) ≡ bordersMost
+memory-long c = c .before .before .before .before .judge-lines .kept .1 .0 ∙ c .before .before .before .before .before .before .before .before .pre
+
+returns : tie.Need-returns
+returns c = (too-long _ (c .if1 .taken), tt)
+
+judge-lines-requires : tie.Need-judge-lines-requires
+judge-lines-requires c κs = search needs
+
+enum-known-places : tie.Need-enum-known-places
+enum-known-places c = search needs
+
+slice-reshare-prefix-first-twice : tie.Need-slice-reshare-prefix-first-twice
+slice-reshare-prefix-first-twice c = omega (arith, header-in _ (placed (c .before) .header-fits), memory-long (c .before))
+
+slice-aggregate-first-twice : tie.Need-slice-aggregate-first-twice
+slice-aggregate-first-twice c = sym (length-take-le _ _ (omega (arith, header-in _ (placed (c .before .before) .header-fits), memory-long (c .before .before))))
+
+first-twice-requires : tie.Need-first-twice-requires
+first-twice-requires c κs = search needs
+
+enum-known-i : tie.Need-enum-known-i
+enum-known-i c = search needs
+
+enum-told : tie.Need-enum-told
+enum-told c = search needs
+
+enum-known-w : tie.Need-enum-known-w
+enum-known-w c = search needs
+
+same-length : tie.Need-same-length
+same-length c = search needs
+
+returns-2 : tie.Need-returns-2
+returns-2 c = (twice-refused _ (c .before .before .before .before .before .before .before .before .before .before .before .before .if1 .left) _ (lines-are (c .before .before .before .before .before .before)) _ (sym (ap found (c .before .i .given .1)) ∙ c .before .before .before .first-twice .ensures), tt)
+
+same-length-2 : tie.Need-same-length-2
+same-length-2 c = search needs
+
+returns-3 : tie.Need-returns-3
+returns-3 c = (text-passes _ (c .before .before .before .before .before .before .before .before .before .before .before .if1 .left) _ (lines-are (c .before .before .before .before .before)) (sym (ap found (c .enum-told .given .1)) ∙ c .before .before .first-twice .ensures), placed (c .before .before .before .before .before))
+
+same-length-3 : tie.Need-same-length-3
+same-length-3 c = search needs
+
+returns-4 : tie.Need-returns-4
+returns-4 c = (lines-refused _ (c .before .before .before .before .before .before .if1 .left) _ (sym (ap (λ (r : TextJudged). tableIn r (c .before .before .before .before .before .before .before .before .args .text .now) (c .before .before .before .before .judge-lines .last .1 .0)) (c .before .w .given .1)) ∙ c .before .before .before .before .judge-lines .ensures .0), tt)
+
+pub judge-text-spec : {M : Type 1} → statement M
+judge-text-spec =
+    tie.close
+    (tie.spec
+    returns
+    judge-lines-requires
+    enum-known-places
+    slice-reshare-prefix-first-twice
+    slice-aggregate-first-twice
+    first-twice-requires
+    enum-known-i
+    enum-told
+    enum-known-w
+    same-length
+    returns-2
+    same-length-2
+    returns-3
+    same-length-3
+    returns-4)

@@ -1,0 +1,124 @@
+-- `reading::read_judged` meets its contract: the first short table is named, or else each has the text's items in front (`front-filled`). Assumes nothing.
+use mathlib.Core.Path.{_≡_, sym, _∙_}
+use native.Mathlib.Omega.{arith}
+use lib.ListN.{length, take}
+use lib.Seq.{length-take-le}
+use Rattle.kinds.proofs.KindLaws.{header-in}
+use Rattle.table.specs.Table.{lent, front}
+use Rattle.table.specs.Good.{Exact}
+use Rattle.table.proofs.RoomLaws.{Enough, factors-most}
+use Rattle.table.proofs.JudgeLaws.{enough, front-exact}
+use Rattle.reading.proofs.FilledLaws.{room-refused, front-filled}
+use borrow.Author.Needs.{needs}
+use Rattle.reading.proofs.read_judged.Statement.{statement}
+use Rattle.reading.proofs.read_judged.Tie as tie
+
+-- past the lengths: the front parts are as long as the header says, and so is the borders' part of the memory
+room : (c : tie.After-enum-told)
+    → let a = c .before .before .before .before .before .args in
+    Enough (a .places .header) (length (a .z .now)) (length (a .b .now)) (length (a .c .now)) (length (a .f .now))
+room c =
+    let start = c .before .before .before .before .before in
+    let a = start .args in
+    enough (lent (a .places .header) (a .z .now) (a .b .now) (a .c .now) (a .f .now)) (start .pre .0 .header-fits) _ (c .before .before .judge-room .ensures) (c .enum-told .given .1)
+
+exact : (c : tie.After-enum-told)
+    → let a = c .before .before .before .before .before .args in
+    Exact (front (lent (a .places .header) (a .z .now) (a .b .now) (a .c .now) (a .f .now)))
+exact c =
+    let start = c .before .before .before .before .before in
+    let a = start .args in
+    front-exact (lent (a .places .header) (a .z .now) (a .b .now) (a .c .now) (a .f .now)) (start .pre .0 .header-fits) _ (c .before .before .judge-room .ensures) (c .enum-told .given .1)
+
+memory-long : (c : tie.Start) → length (take (c .args .places .header .borders) (c .args .memory .now)) ≡ c .args .places .header .borders
+memory-long c = length-take-le _ (c .args .memory .now) (omega (arith, header-in _ (c .pre .0 .header-fits), c .pre .1 .0))
+
+judge-room-requires : tie.Need-judge-room-requires
+judge-room-requires c κs = search needs
+
+enum-told : tie.Need-enum-told
+enum-told c = search needs
+
+enum-known-w : tie.Need-enum-known-w
+enum-known-w c = search needs
+
+returns : tie.Need-returns
+returns c = room-refused _ _ _ _ _ _ (c .before .before .before .before .before .before .pre .1 .1) _ (c .before .before .before .judge-room .ensures) _ (c .before .w .given .1)
+
+slice-aggregate-fill : tie.Need-slice-aggregate-fill
+slice-aggregate-fill c = sym (memory-long (c .before .before .before .before .before .before))
+
+slice-relend-prefix-fill : tie.Need-slice-relend-prefix-fill
+slice-relend-prefix-fill c = room (c .before) .zones
+
+slice-aggregate-fill-2 : tie.Need-slice-aggregate-fill-2
+slice-aggregate-fill-2 c = sym (exact (c .before .before) .nets-long)
+
+slice-relend-prefix-fill-2 : tie.Need-slice-relend-prefix-fill-2
+slice-relend-prefix-fill-2 c = room (c .before .before) .borders
+
+slice-aggregate-fill-3 : tie.Need-slice-aggregate-fill-3
+slice-aggregate-fill-3 c = sym (exact (c .before .before .before) .borders-long)
+
+slice-relend-prefix-fill-3 : tie.Need-slice-relend-prefix-fill-3
+slice-relend-prefix-fill-3 c = room (c .before .before .before) .rows
+
+slice-aggregate-fill-4 : tie.Need-slice-aggregate-fill-4
+slice-aggregate-fill-4 c = sym (exact (c .before .before .before .before) .rows-long)
+
+mul-fill : tie.Need-mul-fill
+mul-fill c = omega (arith, factors-most _ (c .before .before .before .before .before .before .before .before .before .pre .0 .header-fits))
+
+slice-relend-prefix-fill-4 : tie.Need-slice-relend-prefix-fill-4
+slice-relend-prefix-fill-4 c = room (c .before .before .before .before) .factors
+
+slice-aggregate-fill-5 : tie.Need-slice-aggregate-fill-5
+slice-aggregate-fill-5 c = sym (exact (c .before .before .before .before .before) .factors-long)
+
+fill-requires : tie.Need-fill-requires
+fill-requires c κs =
+    let start = c .before .before .before .before .before .before .before .before .before .before in
+    let e = exact (c .before .before .before .before .before) in
+    (start .pre .0, (memory-long start ∙ sym (e .borders-long), e))
+
+same-length : tie.Need-same-length
+same-length c = search needs
+
+same-length-2 : tie.Need-same-length-2
+same-length-2 c = search needs
+
+same-length-3 : tie.Need-same-length-3
+same-length-3 c = search needs
+
+same-length-4 : tie.Need-same-length-4
+same-length-4 c = search needs
+
+returns-2 : tie.Need-returns-2
+returns-2 c =
+    let told = c .before .before .before .before .before .before .before .before .before .before in
+    front-filled _ _ _ _ _ _ (told .before .before .before .before .before .pre .1 .1) _ (told .before .before .judge-room .ensures) (told .enum-told .given .1) _ _ _ _ (c .before .before .before .before .fill .ensures)
+
+pub read-judged-spec : {M : Type 1} → statement M
+read-judged-spec =
+    tie.close
+    (tie.spec
+    judge-room-requires
+    enum-told
+    enum-known-w
+    returns
+    slice-aggregate-fill
+    slice-relend-prefix-fill
+    slice-aggregate-fill-2
+    slice-relend-prefix-fill-2
+    slice-aggregate-fill-3
+    slice-relend-prefix-fill-3
+    slice-aggregate-fill-4
+    mul-fill
+    slice-relend-prefix-fill-4
+    slice-aggregate-fill-5
+    fill-requires
+    same-length
+    same-length-2
+    same-length-3
+    same-length-4
+    returns-2)

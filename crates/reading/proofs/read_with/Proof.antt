@@ -1,0 +1,73 @@
+-- `reading::read_with` meets its contract: a refused text leaves all as it was (`text-refused`), and a good one goes on. Assumes nothing.
+use mathlib.Core.Path.{sym, ap, subst, _∙_}
+use Rattle.reading.specs.declared.judged.TextJudged.{TextJudged}
+use Rattle.reading.specs.Places.{tableIn, placedIn}
+use Rattle.reading.proofs.FilledLaws.{text-refused}
+use borrow.Author.Needs.{needs}
+use Rattle.reading.proofs.read_with.Statement.{statement}
+use Rattle.reading.proofs.read_with.Tie as tie
+
+judge-text-requires : tie.Need-judge-text-requires
+judge-text-requires c κs = search needs
+
+enum-known-places : tie.Need-enum-known-places
+enum-known-places c = search needs
+
+read-judged-requires : tie.Need-read-judged-requires
+read-judged-requires c κs =
+    let start = c .before .before .before .before .before .before .before .before .before .before .before .before in
+    let called = c .before .before .before .before .before .before .before .before .before in
+    let text = start .args .text .now in
+    let good = c .before .before .before .before .before .before .places .given .1 in (
+      subst (λ (r : TextJudged). placedIn r text) good (called .judge-text .ensures .1),
+      (
+        called .judge-text .kept .1 .0 ∙ start .pre,
+        sym (ap (λ (r : TextJudged). tableIn r text (called .judge-text .last .1 .0)) good) ∙ called .judge-text .ensures .0,
+      ),
+    )
+
+enum-known-w : tie.Need-enum-known-w
+enum-known-w c = search needs
+
+same-length : tie.Need-same-length
+same-length c = search needs
+
+same-length-2 : tie.Need-same-length-2
+same-length-2 c = search needs
+
+same-length-3 : tie.Need-same-length-3
+same-length-3 c = search needs
+
+same-length-4 : tie.Need-same-length-4
+same-length-4 c = search needs
+
+same-length-5 : tie.Need-same-length-5
+same-length-5 c = search needs
+
+returns : tie.Need-returns
+returns c = search needs
+
+same-length-6 : tie.Need-same-length-6
+same-length-6 c = search needs
+
+returns-2 : tie.Need-returns-2
+returns-2 c =
+    let called = c .before .before .before .before in
+    text-refused _ _ _ _ _ (c .before .w .given .0 .0) (sym (ap (λ (r : TextJudged). tableIn r (called .before .before .before .args .text .now) (called .judge-text .last .1 .0)) (c .before .w .given .1)) ∙ called .judge-text .ensures .0)
+
+pub read-with-spec : {M : Type 1} → statement M
+read-with-spec =
+    tie.close
+    (tie.spec
+    judge-text-requires
+    enum-known-places
+    read-judged-requires
+    enum-known-w
+    same-length
+    same-length-2
+    same-length-3
+    same-length-4
+    same-length-5
+    returns
+    same-length-6
+    returns-2)

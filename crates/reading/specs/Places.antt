@@ -1,0 +1,62 @@
+-- A text that was judged, as the pass that fills the lent tables takes it (01, "When the table is turned away"). Promises are stated through these.
+-- `tableIn` is what judging comes to, `Placed` what the filling pass asks for, `left` what the open call leaves.
+-- Assumes nothing.
+use mathlib.Core.Path.{_≡_}
+use mathlib.Core.Bool.{true}
+use mathlib.Core.List.{List}
+use Prim.Native.Nat.{ℕ, _≤_}
+use lib.IntN.{ℤ}
+use lib.ListN.{length, take}
+use Rattle.kinds.specs.declared.Header.{Header}
+use Rattle.kinds.specs.declared.Read.{Read}
+use Rattle.kinds.specs.Answers.{saidRead}
+use Rattle.kinds.specs.Ranges.{headerFits}
+use Rattle.kinds.specs.Refusals.{Judged, passed, refused, told}
+use Rattle.text.specs.Line.{lineAt, after, holds}
+use Rattle.block.specs.Block.{Block, linesAt, heldBy}
+use Rattle.table.specs.Table.{Table, lent, zoneLineNo}
+use Rattle.lines.specs.Lines.{RowLine, headerLine, zoneLine}
+use Rattle.runs.specs.Runs.{allGood}
+use Rattle.runs.specs.Rows.{valuesOf, factorsOf, rowsIn}
+use Rattle.reading.specs.declared.judged.Places.{Places}
+use Rattle.reading.specs.declared.judged.TextJudged.{TextJudged}
+use Rattle.reading.specs.declared.judged.TextJudged.the-variants.{Good, Refused}
+use Rattle.reading.specs.Reading.{ReadLeft}
+
+-- the H line of a text holds h, and the next line begins at place `at`
+pub record Headed (text : List ℕ) (h : Header) (at : ℕ) : Type 0 where
+  pub header-is : headerLine (lineAt text 0) ≡ holds h
+  pub at-is : at ≡ after text 0
+
+-- the Z and the C lines of a text, from their places on
+abbrev pub netsAt : Places → (text : List ℕ) → Block ℤ
+netsAt p text = linesAt zoneLine zoneLineNo (p .header .zones) text (p .zones) 0
+
+abbrev pub rowsAt : Places → (text : List ℕ) → Block RowLine
+rowsAt p text = rowsIn (p .header .zones) (p .header .rows) text (p .rows)
+
+-- the table: what the Z and C lines hold where they stand, and the borders, which were read before
+abbrev pub tableAt : Places → (text : List ℕ) → (borders : List (List ℤ)) → Table
+tableAt p text borders = lent (p .header) (heldBy (netsAt p text)) borders (valuesOf (heldBy (rowsAt p text))) (factorsOf (heldBy (rowsAt p text)))
+
+-- what judging comes to; the borders are in front of the memory
+abbrev pub tableIn : TextJudged → (text : List ℕ) → (memory : List (List ℤ)) → Judged Table
+tableIn (Good p) text memory = passed (tableAt p text (take (p .header .borders) memory))
+tableIn (Refused w) text memory = refused (told w)
+
+-- lines that may be filled from their places on, without being judged again
+pub record Placed (p : Places) (text : List ℕ) : Type 0 where
+  pub header-fits : headerFits (p .header) ≡ true
+  pub zones-within : p .zones ≤ length text
+  pub rows-within : p .rows ≤ length text
+  pub nets-good : allGood (netsAt p text) ≡ true
+  pub rows-good : allGood (rowsAt p text) ≡ true
+
+-- .. where judging found them
+abbrev pub placedIn : TextJudged → (text : List ℕ) → Type 0
+placedIn (Good p) text = Placed p text
+placedIn (Refused w) text = Unit {0}
+
+-- an answer, with each lent table as it stands
+abbrev pub left : Read → (z : List ℤ) → (b c : List (List ℤ)) → (f : List ℤ) → ReadLeft
+left r z b c f = record { answer = saidRead r; z = z; b = b; c = c; f = f }

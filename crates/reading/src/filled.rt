@@ -1,0 +1,40 @@
+// Filling lent tables from a text that was judged good.
+ghost use mathlib.Core.Path.{_≡_};
+ghost use lib.ListN.{length};
+ghost use Rattle.table.specs.Table.{lent};
+ghost use Rattle.table.specs.Good.{Exact};
+ghost use Rattle.reading.specs.Places.{tableAt, Placed};
+use crate::judged::Places;
+use kinds::BorderRecord;
+use kinds::RowRecord;
+
+// Fills tables that have exactly the items of the text's table; its borders were read before.
+pub fn fill(
+    text: &[u8],
+    places: Places,
+    borders: &[BorderRecord],
+    z: &mut [i64],
+    b: &mut [BorderRecord],
+    c: &mut [RowRecord],
+    f: &mut [i64],
+)
+    requires { ⌜ Placed places (now text) ⌝ }
+    requires { ⌜ length (now borders) ≡ length (now b) ⌝ }
+    requires { ⌜ Exact (lent (places .header) (now z) (now b) (now c) (now f)) ⌝ }
+    ensures { λ _. ⌜ lent (places .header) (now (z .exit)) (now (b .exit)) (now (c .exit)) (now (f .exit)) ≡ tableAt places (now (text .entry)) (now (borders .entry)) ⌝ }
+{
+    let h = places.header;
+    let zones = h.zones;
+    runs::zones::zones_filled(text, places.zones, z);
+    copy(borders, b);
+    runs::rows::rows_filled(text, places.rows, zones, c, f);
+}
+
+fn copy(from: &[BorderRecord], to: &mut [BorderRecord])
+    requires { ⌜ length (now from) ≡ length (now to) ⌝ }
+    ensures { λ _. ⌜ now (to .exit) ≡ now (from .entry) ⌝ }
+{
+    for i in 0..from.len() {
+        to[i] = from[i];
+    }
+}

@@ -1,0 +1,3 @@
+pub mod StoredLaws
+pub mod RowLaws
+pub mod RowPasses

@@ -1,0 +1,135 @@
+-- The laws of `specs/Runs.antt`: a loop that stores what each line of a run holds, and what a judged run allows. No contract cites this file.
+-- In order: lines put before a run; a run's first line; the loop; a run that was judged.
+-- Assumes nothing.
+use mathlib.Core.Path.{_≡_, refl, sym, ap, _∙_}
+use mathlib.Core.Bool.{true, false≢true}
+use mathlib.Core.List.{List, [], _∷_, _++_}
+use Prim.Native.Nat.{ℕ, zero, suc, _+_, _-_, _≤_, _<_}
+use native.Mathlib.Nat.{sub-zero}
+use native.Mathlib.Numerals.{add-one}
+use native.Mathlib.Omega.{arith}
+use lib.ListN.{length, drop, take, set, length-set, length-drop}
+use lib.Seq.{take-suc-set, take-all}
+use Rattle.kinds.specs.Refusals.{Why, wrongForm, outOfRange, passed, refused}
+use Rattle.kinds.proofs.RefusalLaws.{passed-is, refused-is, not-passed}
+use Rattle.text.specs.Line.{lineAt, after, Line, holds, form, range}
+use Rattle.text.proofs.LineLaws.{line-length}
+use Rattle.block.specs.Block.{Block, read, fault, more, onLine, linesAt, endOf, heldBy}
+use Rattle.runs.specs.Runs.{allGood}
+
+-- ---- lines put before a run
+abbrev pub moreAll : {A : Type 0} → List A → Block A → Block A
+moreAll [] b = b
+moreAll (a ∷ xs) b = more a (moreAll xs b)
+
+module _ {A : Type 0} where
+  more-fault : (xs : List A) (w : Why) → moreAll xs (fault w) ≡ fault w
+  more-fault [] w = refl
+  more-fault (a ∷ xs) w = ap (more a) (more-fault xs w)
+
+  more-read : (xs : List A) (p : ℕ) → moreAll xs (read [] p) ≡ read xs p
+  more-read [] p = refl
+  more-read (a ∷ xs) p = ap (more a) (more-read xs p)
+
+  more-last : (xs : List A) (a : A) (b : Block A) → moreAll (xs ++ (a ∷ [])) b ≡ moreAll xs (more a b)
+  more-last [] a b = refl
+  more-last (x ∷ xs) a b = ap (more x) (more-last xs a b)
+
+  -- a pass that only judges drops what the lines hold
+  pub end-drops : (a : A) (b : Block A) → endOf (more a b) ≡ endOf b
+  end-drops a (read xs next) = refl
+  end-drops a (fault w) = refl
+
+-- the place after a line is in the text
+pub after-within : (text : List ℕ) (p : ℕ) → p ≤ length text → after text p ≤ length text
+after-within text p h = omega (arith, line-length (drop p text), length-drop p text)
+
+module _ {A : Type 0} (judge : List ℕ → ℕ → Line A) (first : ℕ) (text : List ℕ) where
+  -- ---- a run's first line
+  lines-first : (left rest p i : ℕ) → left ≡ suc rest → linesAt judge first left text p i ≡ onLine (judge (lineAt text p) i) (first + i) (linesAt judge first rest text (after text p) (i + 1))
+  unfolding linesAt
+  lines-first left rest p i e = rw e
+
+  lines-none : (left p i : ℕ) → left ≤ 0 → linesAt judge first left text p i ≡ read [] p
+  unfolding linesAt
+  lines-none left p i h =
+      let e : left ≡ 0 = omega arith in
+      rw e
+
+  -- ---- the loop: the first i items are what the lines before place p hold
+  pub record Stored (at : ℕ) (out₀ : List A) (n : ℕ) (out : List A) (i p : ℕ) : Type 0 where
+    pub all : n ≡ length out₀
+    pub as-long : length out ≡ length out₀
+    pub high : i ≤ n
+    pub within : p ≤ length text
+    pub so-far : moreAll (take i out) (linesAt judge first (n - i) text p i) ≡ linesAt judge first n text at 0
+
+  module _ (at : ℕ) (out₀ : List A) where
+    pub stored-none : at ≤ length text → Stored at out₀ (length out₀) out₀ 0 at
+    stored-none h = record { all = refl; as-long = refl; high = omega arith; within = h; so-far = rw (sub-zero (length out₀)) refl }
+
+    module _ (n : ℕ) (out : List A) (i p : ℕ) (u : Stored at out₀ n out i p) where
+      pub stored-all : n ≤ i → read out p ≡ linesAt judge first (length out₀) text at 0
+      stored-all h =
+          let full : length out ≤ i = omega (arith, u .all, u .as-long) in
+          rw (← u .all)
+          (sym (more-read out p)
+          ∙ rw (← take-all i out full, ← lines-none (n - i) p i (omega arith)) (u .so-far))
+
+      module _ (h : i < n) where
+        stored-line : (r : Line A) → judge (lineAt text p) i ≡ r → moreAll (take i out) (onLine r (first + i) (linesAt judge first (n - (i + 1)) text (after text p) (i + 1))) ≡ linesAt judge first n text at 0
+        stored-line r q =
+            rw (← q, ← lines-first (n - i) (n - (i + 1)) p i (omega arith)) (u .so-far)
+
+        pub stored-form : judge (lineAt text p) i ≡ form → fault (wrongForm (first + i)) ≡ linesAt judge first (length out₀) text at 0
+        stored-form q = rw (← u .all) (sym (more-fault (take i out) (wrongForm (first + i))) ∙ stored-line form q)
+
+        pub stored-range : judge (lineAt text p) i ≡ range → fault (outOfRange (first + i)) ≡ linesAt judge first (length out₀) text at 0
+        stored-range q = rw (← u .all) (sym (more-fault (take i out) (outOfRange (first + i))) ∙ stored-line range q)
+
+        pub stored-more : (a : A) → judge (lineAt text p) i ≡ holds a → Stored at out₀ n (set out i a) (i + 1) (after text p)
+        stored-more a q =
+            let rest = linesAt judge first (n - (i + 1)) text (after text p) (i + 1) in
+            let l : i < length out = omega (arith, u .all, u .as-long) in
+            record {
+              all = u .all;
+              as-long = length-set out i a ∙ u .as-long;
+              high = omega arith;
+              within = after-within text p (u .within);
+              so-far = ap (λ (m : ℕ). moreAll (take m (set out i a)) rest) (add-one i)
+                  ∙ ap (λ (l : List A). moreAll l rest) (take-suc-set out i a l)
+                  ∙ more-last (take i out) a rest
+                  ∙ stored-line (holds a) q;
+            }
+
+-- ---- a run that was judged
+module _ {A : Type 0} where
+  -- it ended: it is what its lines hold; or it is its refusal
+  pub run-passed : (b : Block A) (e : ℕ) → passed e ≡ endOf b → b ≡ read (heldBy b) e
+  run-passed (read xs next) e q = ap (read xs) (sym (passed-is e next q))
+  run-passed (fault w) e q = absurd (not-passed w e (sym q))
+
+  pub run-refused : (b : Block A) (w : Why) → refused w ≡ endOf b → b ≡ fault w
+  run-refused (read xs next) w q = absurd (not-passed w next q)
+  run-refused (fault v) w q = ap fault (sym (refused-is w v q))
+
+  pub run-good : (b : Block A) (e : ℕ) → passed e ≡ endOf b → allGood b ≡ true
+  run-good (read xs next) e q = refl
+  run-good (fault w) e q = absurd (not-passed w e (sym q))
+
+  pub good-never : (b : Block A) (w : Why) → allGood b ≡ true → fault w ≡ b → ⊥
+  good-never b w g e = false≢true (ap allGood e ∙ g)
+
+  -- it ends in the text
+  pub run-within : (judge : List ℕ → ℕ → Line A) (first n : ℕ) (text : List ℕ) (p i e : ℕ) → p ≤ length text → passed e ≡ endOf (linesAt judge first n text p i) → e ≤ length text
+  unfolding linesAt
+  run-within judge first zero text p i e h q = rw (passed-is e p q) h
+  run-within judge first (suc n) text p i e h q = go (judge (lineAt text p) i) (run-within judge first n text (after text p) (i + 1) e (after-within text p h)) q
+    where
+      rest : Block A
+      rest = linesAt judge first n text (after text p) (i + 1)
+
+      go : (r : Line A) → (passed e ≡ endOf rest → e ≤ length text) → passed e ≡ endOf (onLine r (first + i) rest) → e ≤ length text
+      go (holds a) ih q = ih (q ∙ end-drops a rest)
+      go form ih q = absurd (not-passed (wrongForm (first + i)) e (sym q))
+      go range ih q = absurd (not-passed (outOfRange (first + i)) e (sym q))

@@ -1,0 +1,164 @@
+-- `runs::borders::borders_read` meets its contract. The invariant: the first i items are what the lines passed hold (`Stored`).
+-- The measure is the number of lines less i. A turn is the law `stored-more`.
+-- Assumes nothing.
+use Prim.Native.Nat.{ℕ, _+_, _-_}
+use mathlib.Core.Path.{_≡_, sym, ap, _∙_}
+use mathlib.Core.List.{List, [], _∷_}
+use native.Mathlib.Omega.{arith}
+use borrow.Author.Needs.{needs}
+use lib.IntN.{pos}
+use Rattle.text.specs.Line.{lineAt, holds}
+use Rattle.table.specs.Table.{zoneLineNo}
+use Rattle.lines.specs.Lines.{borderLine}
+use Rattle.lines.specs.Said.{saidBorder}
+use Rattle.lines.proofs.SaidLaws.{Small, record-cast, border-small}
+use Rattle.runs.proofs.StoredLaws.{after-within, Stored, stored-none, stored-all, stored-form, stored-range, stored-more}
+use Rattle.runs.proofs.borders.borders_read.Statement.{statement}
+use Rattle.runs.proofs.borders.borders_read.Tie as tie
+
+abbrev Inv-loop : tie.InvT-loop
+Inv-loop text at zones b₀ n first i₀ p₀ b i p = Stored (borderLine zones) (zoneLineNo + zones) text at b₀ n b i p
+
+abbrev μ-loop : tie.MeasureT-loop
+μ-loop text at zones b₀ n first i₀ p₀ b i p = n - i
+
+-- what was said of the line at p
+line-said : (c : tie.After-border-line Inv-loop μ-loop)
+    → let l = c .before .before .before .loop in
+    let a = c .before .before .before .before .before .args in
+    borderLine (a .zones) (lineAt (a .text .now) (l .p)) (l .i) ≡ saidBorder (c .border-line .result)
+line-said c =
+    let a = c .before .before .before .before .before .args in
+    ap (λ (line : List ℕ). borderLine (a .zones) line (c .before .before .before .loop .i)) (sym (c .before .line-at .ensures)) ∙ sym (c .border-line .ensures)
+
+-- .. where it holds a border
+held : (c : tie.After-known-told Inv-loop μ-loop)
+    → let l = c .before .before .before .before .before .before .loop in
+    let a = c .before .before .before .before .before .before .before .before .args in
+    let border = c .before .border .given .0 .0 in
+    borderLine (a .zones) (lineAt (a .text .now) (l .p)) (l .i) ≡ holds (pos (border .from) ∷ pos (border .to) ∷ pos (border .lta) ∷ [])
+held c = line-said (c .before .before .before) ∙ ap saidBorder (c .before .border .given .1)
+
+small : (c : tie.After-known-told Inv-loop μ-loop)
+    → let border = c .before .border .given .0 .0 in
+    Small (border .from) (border .to) (border .lta)
+small c = border-small _ _ _ _ _ _ (c .before .before .before .before .before .before .before .before .pre .1 .0) (held c)
+
+add-first : tie.Need-add-first Inv-loop μ-loop
+add-first c = omega arith
+
+loop-holds : tie.Need-loop-holds Inv-loop μ-loop
+loop-holds c =
+    let zones = c .before .args .zones in
+    stored-none (borderLine zones) (zoneLineNo + zones) _ _ _ (c .before .pre .0)
+
+line-at-requires : tie.Need-line-at-requires Inv-loop μ-loop
+line-at-requires c κs = c .before .loop .inv .within
+
+border-line-requires : tie.Need-border-line-requires Inv-loop μ-loop
+border-line-requires c κs = search needs
+
+enum-known-border : tie.Need-enum-known-border Inv-loop μ-loop
+enum-known-border c = search needs
+
+cast-t13 : tie.Need-cast-t13 Inv-loop μ-loop
+cast-t13 c = omega (arith, small (c .before))
+
+cast-t14 : tie.Need-cast-t14 Inv-loop μ-loop
+cast-t14 c = omega (arith, small (c .before .before))
+
+cast-t15 : tie.Need-cast-t15 Inv-loop μ-loop
+cast-t15 c = omega (arith, small (c .before .before .before))
+
+mul-t17 : tie.Need-mul-t17 Inv-loop μ-loop
+mul-t17 c = omega (arith, c .before .before .before .before .before .before .before .before .before .loop .inv, c .before .before .before .before .before .before .before .before .before .before .before .pre)
+
+slice-set-from-b : tie.Need-slice-set-from-b Inv-loop μ-loop
+slice-set-from-b c = omega (arith, c .before .before .before .before .before .before .before .before .before .loop .inv)
+
+enum-told : tie.Need-enum-told Inv-loop μ-loop
+enum-told c = search needs
+
+add-t19 : tie.Need-add-t19 Inv-loop μ-loop
+add-t19 c = omega (arith, c .before .before .before .before .before .loop .inv .high)
+
+same-length : tie.Need-same-length Inv-loop μ-loop
+same-length c = c .before .before .before .before .before .loop .inv .as-long
+
+returns : tie.Need-returns Inv-loop μ-loop
+returns c =
+    let zones = c .before .before .before .before .before .before .before .args .zones in
+    let l = c .before .before .before .before .before .loop in
+    stored-form (borderLine zones) (zoneLineNo + zones) _ _ _ _ _ _ _ (l .inv) (c .before .before .before .before .loop-test .taken) (line-said (c .before .before) ∙ ap saidBorder (c .enum-told .given .1))
+
+enum-told-2 : tie.Need-enum-told-2 Inv-loop μ-loop
+enum-told-2 c = search needs
+
+add-t21 : tie.Need-add-t21 Inv-loop μ-loop
+add-t21 c = omega (arith, c .before .before .before .before .before .loop .inv .high)
+
+same-length-2 : tie.Need-same-length-2 Inv-loop μ-loop
+same-length-2 c = c .before .before .before .before .before .loop .inv .as-long
+
+returns-2 : tie.Need-returns-2 Inv-loop μ-loop
+returns-2 c =
+    let zones = c .before .before .before .before .before .before .before .args .zones in
+    let l = c .before .before .before .before .before .loop in
+    stored-range (borderLine zones) (zoneLineNo + zones) _ _ _ _ _ _ _ (l .inv) (c .before .before .before .before .loop-test .taken) (line-said (c .before .before) ∙ ap saidBorder (c .enum-told2 .given .1))
+
+add-p : tie.Need-add-p Inv-loop μ-loop
+add-p c =
+    let l = c .before .before .before .before .before .before .before .before .before .loop in
+    rw (c .before .before .before .before .before .before .before .line-at .ensures) (omega (arith, after-within (c .before .before .before .before .before .before .before .before .before .before .before .args .text .now) (l .p) (l .inv .within)))
+
+add-i : tie.Need-add-i Inv-loop μ-loop
+add-i c = omega arith
+
+loop-less : tie.Need-loop-less Inv-loop μ-loop
+loop-less c = omega arith
+
+loop-again : tie.Need-loop-again Inv-loop μ-loop
+loop-again c =
+    let zones = c .before .before .before .before .before .before .before .before .before .before .before .args .zones in
+    let l = c .before .before .before .before .before .before .before .before .before .loop in
+    rw (record-cast _ _ _ (small (c .before .before .before)), c .before .before .before .before .before .before .before .line-at .ensures)
+    (stored-more (borderLine zones) (zoneLineNo + zones) _ _ _ _ _ _ _ (l .inv) (c .before .before .before .before .before .before .before .before .loop-test .taken) _ (held (c .before .before .before)))
+
+same-length-3 : tie.Need-same-length-3 Inv-loop μ-loop
+same-length-3 c = c .before .loop .inv .as-long
+
+returns-3 : tie.Need-returns-3 Inv-loop μ-loop
+returns-3 c =
+    let zones = c .before .before .before .args .zones in
+    stored-all (borderLine zones) (zoneLineNo + zones) _ _ _ _ _ _ _ (c .before .loop .inv) (c .loop-test .left)
+
+pub borders-read-spec : {M : Type 1} → statement M
+borders-read-spec =
+    tie.close
+    (tie.spec
+    Inv-loop
+    μ-loop
+    add-first
+    loop-holds
+    line-at-requires
+    border-line-requires
+    enum-known-border
+    cast-t13
+    cast-t14
+    cast-t15
+    mul-t17
+    slice-set-from-b
+    enum-told
+    add-t19
+    same-length
+    returns
+    enum-told-2
+    add-t21
+    same-length-2
+    returns-2
+    add-p
+    add-i
+    loop-less
+    loop-again
+    same-length-3
+    returns-3)

@@ -1,0 +1,125 @@
+-- `runs::rows::rows_filled` meets its contract. The invariant: the first i rows are in their places, each with its stretch of the factors, and the lines left hold the others (`Filled`).
+-- The measure is the number of rows left. A turn is the law `filled-more`.
+-- Assumes nothing.
+use mathlib.Core.Path.{_≡_, refl, sym, _∙_}
+use Prim.Native.Nat.{_+_, _*_, _-_, _≤_}
+use native.Mathlib.Omega.{arith}
+use borrow.Author.Needs.{needs}
+use lib.ListN.{length, take, drop}
+use Rattle.runs.proofs.RowPasses.{lent-long, Filled, filled-none, filled-room, filled-good, filled-more, filled-all}
+use Rattle.runs.proofs.rows.rows_filled.Statement.{statement}
+use Rattle.runs.proofs.rows.rows_filled.Tie as tie
+
+abbrev Inv-loop : tie.InvT-loop
+Inv-loop text at zones c₀ f₀ p₀ i₀ i-end c f p i = Filled zones text at i-end c f p i
+
+abbrev μ-loop : tie.MeasureT-loop
+μ-loop text at zones c₀ f₀ p₀ i₀ i-end c f p i = i-end - i
+
+-- row i's stretch is in the lent table
+room : (c : tie.In-loop Inv-loop μ-loop)
+    → let l = c .before .loop in
+    let a = c .before .before .before .args in
+    l .i * a .zones + a .zones ≤ length (l .f)
+room c =
+    let l = c .before .loop in
+    let a = c .before .before .before .args in
+    filled-room (a .zones) (a .text .now) (a .at) (length (a .c .now)) (l .c) (l .f) (l .p) (l .i) (l .inv) (c .loop-test .taken)
+
+lent : (c : tie.In-loop Inv-loop μ-loop)
+    → let start = c .before .loop .i * c .before .before .before .args .zones in
+    let zones = c .before .before .before .args .zones in
+    length (take (start + zones - start) (drop start (c .before .loop .f))) ≡ zones
+lent c = lent-long (c .before .loop .f) _ _ (room c)
+
+loop-holds : tie.Need-loop-holds Inv-loop μ-loop
+loop-holds c =
+    let a = c .before .args in
+    filled-none (a .zones) (a .text .now) (a .at) (length (a .c .now)) (a .c .now) (a .f .now) (c .before .pre .0) refl (c .before .pre .1) (c .before .pre .2)
+
+line-at-requires : tie.Need-line-at-requires Inv-loop μ-loop
+line-at-requires c κs = c .before .loop .inv .passed .within
+
+mul-start : tie.Need-mul-start Inv-loop μ-loop
+mul-start c = omega (arith, room (c .before))
+
+add-row-filled : tie.Need-add-row-filled Inv-loop μ-loop
+add-row-filled c = omega (arith, room (c .before))
+
+mul-row-filled : tie.Need-mul-row-filled Inv-loop μ-loop
+mul-row-filled c = omega (arith, room (c .before))
+
+sub-row-filled : tie.Need-sub-row-filled Inv-loop μ-loop
+sub-row-filled c = search needs
+
+part-row-filled-start : tie.Need-part-row-filled-start Inv-loop μ-loop
+part-row-filled-start c = search needs
+
+part-row-filled-end : tie.Need-part-row-filled-end Inv-loop μ-loop
+part-row-filled-end c = omega (arith, room (c .before))
+
+row-filled-requires : tie.Need-row-filled-requires Inv-loop μ-loop
+row-filled-requires c κs =
+    let l = c .before .before .before .loop in
+    let a = c .before .before .before .before .before .args in
+    filled-good (a .zones) (a .text .now) (a .at) (length (a .c .now)) (l .c) (l .f) (l .p) (l .i) (l .inv) (c .before .before .loop-test .taken) _ (c .before .line-at .ensures) _ (lent (c .before .before))
+
+mul-t19 : tie.Need-mul-t19 Inv-loop μ-loop
+mul-t19 c = search needs
+
+slice-set-from-c : tie.Need-slice-set-from-c Inv-loop μ-loop
+slice-set-from-c c = omega (arith, c .before .before .before .before .before .loop .inv .rows-long)
+
+add-p : tie.Need-add-p Inv-loop μ-loop
+add-p c = search needs
+
+add-i : tie.Need-add-i Inv-loop μ-loop
+add-i c = search needs
+
+loop-less : tie.Need-loop-less Inv-loop μ-loop
+loop-less c = search needs
+
+loop-again : tie.Need-loop-again Inv-loop μ-loop
+loop-again c =
+    let l = c .before .before .before .before .before .loop in
+    let a = c .before .before .before .before .before .before .before .args in
+    filled-more (a .zones) (a .text .now) (a .at) (length (a .c .now)) (l .c) (l .f) (l .p) (l .i) (l .inv) (c .before .before .before .before .loop-test .taken) _ (c .before .before .before .line-at .ensures) _ (lent (c .before .before .before .before))
+    (c .before .row-filled .result) (c .before .row-filled .last .1 .0) (c .before .row-filled .kept .1 .0) (c .before .row-filled .ensures)
+
+same-length : tie.Need-same-length Inv-loop μ-loop
+same-length c = c .before .loop .inv .rows-long
+
+same-length-2 : tie.Need-same-length-2 Inv-loop μ-loop
+same-length-2 c =
+    c .before .loop .inv .factors-long ∙ sym (c .before .before .before .pre .1)
+
+returns : tie.Need-returns Inv-loop μ-loop
+returns c =
+    let a = c .before .before .before .args in
+    let l = c .before .loop in
+    filled-all (a .zones) (a .text .now) (a .at) (length (a .c .now)) (l .c) (l .f) (l .p) (l .i) (l .inv) (c .loop-test .left)
+
+pub rows-filled-spec : {M : Type 1} → statement M
+rows-filled-spec =
+    tie.close
+    (tie.spec
+    Inv-loop
+    μ-loop
+    loop-holds
+    line-at-requires
+    mul-start
+    add-row-filled
+    mul-row-filled
+    sub-row-filled
+    part-row-filled-start
+    part-row-filled-end
+    row-filled-requires
+    mul-t19
+    slice-set-from-c
+    add-p
+    add-i
+    loop-less
+    loop-again
+    same-length
+    same-length-2
+    returns)

@@ -1,0 +1,114 @@
+-- `runs::rows::rows_judged` meets its contract. The invariant: the lines left come to what all of them come to (`Passed`).
+-- The measure is the number of lines left. A turn is the law `passed-more`.
+-- Assumes nothing.
+use mathlib.Core.Path.{_≡_, sym, ap, _∙_}
+use mathlib.Core.List.{List}
+use Prim.Native.Nat.{ℕ, _-_}
+use borrow.Author.Needs.{needs}
+use Rattle.text.specs.Line.{lineAt, form, range}
+use Rattle.block.specs.Block.{endOf}
+use Rattle.block.proofs.BlockLaws.{Passed, passed-start, passed-line, passed-more, passed-all}
+use Rattle.lines.specs.Lines.{rowLine}
+use Rattle.lines.specs.SaidRow.{judgedOf}
+use Rattle.lines.proofs.RowJudge.{said-good, said-form, said-range}
+use Rattle.runs.proofs.StoredLaws.{end-drops}
+use Rattle.runs.proofs.rows.rows_judged.Statement.{statement}
+use Rattle.runs.proofs.rows.rows_judged.Tie as tie
+
+abbrev Inv-loop : tie.InvT-loop
+Inv-loop text at zones first count p₀ i₀ p i = Passed (rowLine zones) first endOf end-drops text at count i p
+
+abbrev μ-loop : tie.MeasureT-loop
+μ-loop text at zones first count p₀ i₀ p i = count - i
+
+-- the line's judgement, said of the line as the text has it
+judged : (c : tie.After-row-judged Inv-loop μ-loop)
+    → let l = c .before .before .before .loop in
+    let a = c .before .before .before .before .before .args in
+    judgedOf (rowLine (a .zones) (lineAt (a .text .now) (l .p)) (l .i)) ≡ c .row-judged .result
+judged c =
+    let l = c .before .before .before .loop in
+    let a = c .before .before .before .before .before .args in
+    ap (λ (line : List ℕ). judgedOf (rowLine (a .zones) line (l .i))) (sym (c .before .line-at .ensures)) ∙ sym (c .row-judged .ensures)
+
+loop-holds : tie.Need-loop-holds Inv-loop μ-loop
+loop-holds c =
+    let a = c .before .args in
+    passed-start (rowLine (a .zones)) (a .first) endOf end-drops (a .text .now) (a .at) (a .count) (c .before .pre .0)
+
+line-at-requires : tie.Need-line-at-requires Inv-loop μ-loop
+line-at-requires c κs = c .before .loop .inv .within
+
+row-judged-requires : tie.Need-row-judged-requires Inv-loop μ-loop
+row-judged-requires c κs = search needs
+
+enum-told : tie.Need-enum-told Inv-loop μ-loop
+enum-told c = search needs
+
+enum-told-2 : tie.Need-enum-told-2 Inv-loop μ-loop
+enum-told-2 c = search needs
+
+add-t11 : tie.Need-add-t11 Inv-loop μ-loop
+add-t11 c = search needs
+
+returns : tie.Need-returns Inv-loop μ-loop
+returns c =
+    let a = c .before .before .before .before .before .before .before .args in
+    let l = c .before .before .before .before .before .loop in
+    passed-line (rowLine (a .zones)) (a .first) endOf end-drops (a .text .now) (a .at) (a .count) (l .i) (l .p) (l .inv) (c .before .before .before .before .loop-test .taken) form (said-form _ (judged (c .before .before) ∙ c .enum-told2 .given .1))
+
+enum-told-3 : tie.Need-enum-told-3 Inv-loop μ-loop
+enum-told-3 c = search needs
+
+add-t13 : tie.Need-add-t13 Inv-loop μ-loop
+add-t13 c = search needs
+
+returns-2 : tie.Need-returns-2 Inv-loop μ-loop
+returns-2 c =
+    let a = c .before .before .before .before .before .before .before .args in
+    let l = c .before .before .before .before .before .loop in
+    passed-line (rowLine (a .zones)) (a .first) endOf end-drops (a .text .now) (a .at) (a .count) (l .i) (l .p) (l .inv) (c .before .before .before .before .loop-test .taken) range (said-range _ (judged (c .before .before) ∙ c .enum-told3 .given .1))
+
+add-p : tie.Need-add-p Inv-loop μ-loop
+add-p c = search needs
+
+add-i : tie.Need-add-i Inv-loop μ-loop
+add-i c = search needs
+
+loop-less : tie.Need-loop-less Inv-loop μ-loop
+loop-less c = search needs
+
+loop-again : tie.Need-loop-again Inv-loop μ-loop
+loop-again c =
+    let a = c .before .before .before .before .before .before .before .args in
+    let l = c .before .before .before .before .before .loop in
+    let held = said-good _ (judged (c .before .before) ∙ c .enum-told .given .1) in
+    rw (c .before .before .before .line-at .ensures) (passed-more (rowLine (a .zones)) (a .first) endOf end-drops (a .text .now) (a .at) (a .count) (l .i) (l .p) (l .inv) (c .before .before .before .before .loop-test .taken) (held .it) (held .is))
+
+returns-3 : tie.Need-returns-3 Inv-loop μ-loop
+returns-3 c =
+    let a = c .before .before .before .args in
+    let l = c .before .loop in
+    passed-all (rowLine (a .zones)) (a .first) endOf end-drops (a .text .now) (a .at) (a .count) (l .i) (l .p) (l .inv) (c .loop-test .left)
+
+pub rows-judged-spec : {M : Type 1} → statement M
+rows-judged-spec =
+    tie.close
+    (tie.spec
+    Inv-loop
+    μ-loop
+    loop-holds
+    line-at-requires
+    row-judged-requires
+    enum-told
+    enum-told-2
+    add-t11
+    returns
+    enum-told-3
+    add-t13
+    returns-2
+    add-p
+    add-i
+    loop-less
+    loop-again
+    returns-3)

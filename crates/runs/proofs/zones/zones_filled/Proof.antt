@@ -1,0 +1,122 @@
+-- `runs::zones::zones_filled` meets its contract. The invariant: the first i items are what the lines passed hold (`Stored`).
+-- The measure is the number of lines less i. A turn is the law `stored-more`; a refused line would be a refused run, which the judging excludes.
+-- Assumes nothing.
+use Prim.Native.Nat.{ℕ, _-_}
+use mathlib.Core.Path.{_≡_, sym, ap, _∙_}
+use mathlib.Core.List.{List}
+use native.Mathlib.Omega.{arith}
+use borrow.Author.Needs.{needs}
+use mir.Syntax.{w64}
+use mir.Val.{toZ, ofZ}
+use Rattle.text.specs.Line.{lineAt}
+use Rattle.block.specs.Block.{heldBy}
+use Rattle.table.specs.Table.{zoneLineNo}
+use Rattle.lines.specs.Lines.{zoneLine}
+use Rattle.lines.specs.Said.{saidZone}
+use Rattle.runs.proofs.StoredLaws.{after-within, Stored, stored-none, stored-all, stored-form, stored-range, stored-more, good-never}
+use Rattle.runs.proofs.zones.zones_filled.Statement.{statement}
+use Rattle.runs.proofs.zones.zones_filled.Tie as tie
+
+abbrev Inv-loop : tie.InvT-loop
+Inv-loop text at z₀ n i₀ p₀ z i p = Stored zoneLine zoneLineNo text at z₀ n z i p
+
+abbrev μ-loop : tie.MeasureT-loop
+μ-loop text at z₀ n i₀ p₀ z i p = n - i
+
+-- what was said of the line at p
+line-said : (c : tie.After-zone-line Inv-loop μ-loop)
+    → let l = c .before .before .before .loop in
+    zoneLine (lineAt (c .before .before .before .before .before .args .text .now) (l .p)) (l .i) ≡ saidZone (c .zone-line .result)
+line-said c = ap (λ (line : List ℕ). zoneLine line (c .before .before .before .loop .i)) (sym (c .before .line-at .ensures)) ∙ sym (c .zone-line .ensures)
+
+loop-holds : tie.Need-loop-holds Inv-loop μ-loop
+loop-holds c = stored-none zoneLine zoneLineNo _ _ _ (c .before .pre .0)
+
+line-at-requires : tie.Need-line-at-requires Inv-loop μ-loop
+line-at-requires c κs = c .before .loop .inv .within
+
+zone-line-requires : tie.Need-zone-line-requires Inv-loop μ-loop
+zone-line-requires c κs = search needs
+
+enum-known-net : tie.Need-enum-known-net Inv-loop μ-loop
+enum-known-net c = search needs
+
+mul-net : tie.Need-mul-net Inv-loop μ-loop
+mul-net c = omega (arith, c .before .before .before .before .before .before .loop .inv, c .before .before .before .before .before .before .before .before .good)
+
+slice-set-from-net : tie.Need-slice-set-from-net Inv-loop μ-loop
+slice-set-from-net c = omega (arith, c .before .before .before .before .before .before .loop .inv)
+
+enum-told : tie.Need-enum-told Inv-loop μ-loop
+enum-told c = search needs
+
+same-length : tie.Need-same-length Inv-loop μ-loop
+same-length c = c .before .before .before .before .before .loop .inv .as-long
+
+returns : tie.Need-returns Inv-loop μ-loop
+returns c =
+    let l = c .before .before .before .before .before .loop in
+    absurd (good-never _ _ (c .before .before .before .before .before .before .before .pre .1)
+    (stored-form zoneLine zoneLineNo _ _ _ _ _ _ _ (l .inv) (c .before .before .before .before .loop-test .taken) (line-said (c .before .before) ∙ ap saidZone (c .enum-told .given .1))))
+
+enum-told-2 : tie.Need-enum-told-2 Inv-loop μ-loop
+enum-told-2 c = search needs
+
+same-length-2 : tie.Need-same-length-2 Inv-loop μ-loop
+same-length-2 c = c .before .before .before .before .before .loop .inv .as-long
+
+returns-2 : tie.Need-returns-2 Inv-loop μ-loop
+returns-2 c =
+    let l = c .before .before .before .before .before .loop in
+    absurd (good-never _ _ (c .before .before .before .before .before .before .before .pre .1)
+    (stored-range zoneLine zoneLineNo _ _ _ _ _ _ _ (l .inv) (c .before .before .before .before .loop-test .taken) (line-said (c .before .before) ∙ ap saidZone (c .enum-told2 .given .1))))
+
+add-p : tie.Need-add-p Inv-loop μ-loop
+add-p c =
+    let l = c .before .before .before .before .before .before .loop in
+    rw (c .before .before .before .before .line-at .ensures) (omega (arith, after-within (c .before .before .before .before .before .before .before .before .args .text .now) (l .p) (l .inv .within)))
+
+add-i : tie.Need-add-i Inv-loop μ-loop
+add-i c = omega arith
+
+loop-less : tie.Need-loop-less Inv-loop μ-loop
+loop-less c = omega arith
+
+loop-again : tie.Need-loop-again Inv-loop μ-loop
+loop-again c =
+    let l = c .before .before .before .before .before .before .loop in
+    let net = c .before .net .given .0 .0 in
+    let plain-net : toZ w64 (ofZ w64 net) ≡ net = search needs in
+    rw (plain-net, c .before .before .before .before .line-at .ensures)
+    (stored-more zoneLine zoneLineNo _ _ _ _ _ _ _ (l .inv) (c .before .before .before .before .before .loop-test .taken) net (line-said (c .before .before .before) ∙ ap saidZone (c .before .net .given .1)))
+
+same-length-3 : tie.Need-same-length-3 Inv-loop μ-loop
+same-length-3 c = c .before .loop .inv .as-long
+
+returns-3 : tie.Need-returns-3 Inv-loop μ-loop
+returns-3 c = ap heldBy (stored-all zoneLine zoneLineNo _ _ _ _ _ _ _ (c .before .loop .inv) (c .loop-test .left))
+
+pub zones-filled-spec : {M : Type 1} → statement M
+zones-filled-spec =
+    tie.close
+    (tie.spec
+    Inv-loop
+    μ-loop
+    loop-holds
+    line-at-requires
+    zone-line-requires
+    enum-known-net
+    mul-net
+    slice-set-from-net
+    enum-told
+    same-length
+    returns
+    enum-told-2
+    same-length-2
+    returns-2
+    add-p
+    add-i
+    loop-less
+    loop-again
+    same-length-3
+    returns-3)

@@ -1,0 +1,105 @@
+-- `runs::zones::zones_judged` meets its contract. The invariant: what is left of the run, from line i on, ends as the whole does (`Passed`).
+-- The measure is the number of lines less i. A turn is the law `passed-more`.
+-- Assumes nothing.
+use Prim.Native.Nat.{ℕ, _-_}
+use mathlib.Core.Path.{_≡_, sym, ap, _∙_}
+use mathlib.Core.List.{List}
+use native.Mathlib.Omega.{arith}
+use borrow.Author.Needs.{needs}
+use Rattle.text.specs.Line.{lineAt, form, range}
+use Rattle.block.specs.Block.{endOf}
+use Rattle.block.proofs.BlockLaws.{Passed, passed-start, passed-all, passed-line, passed-more}
+use Rattle.table.specs.Table.{zoneLineNo}
+use Rattle.lines.specs.Lines.{zoneLine}
+use Rattle.lines.specs.Said.{saidZone}
+use Rattle.runs.proofs.StoredLaws.{end-drops, after-within}
+use Rattle.runs.proofs.zones.zones_judged.Statement.{statement}
+use Rattle.runs.proofs.zones.zones_judged.Tie as tie
+
+abbrev Inv-loop : tie.InvT-loop
+Inv-loop text at count i₀ p₀ i p = Passed zoneLine zoneLineNo endOf end-drops text at count i p
+
+abbrev μ-loop : tie.MeasureT-loop
+μ-loop text at count i₀ p₀ i p = count - i
+
+-- what was said of the line at p
+line-said : (c : tie.After-zone-line Inv-loop μ-loop)
+    → let l = c .before .before .before .loop in
+    zoneLine (lineAt (c .before .before .before .before .before .args .text .now) (l .p)) (l .i) ≡ saidZone (c .zone-line .result)
+line-said c = ap (λ (line : List ℕ). zoneLine line (c .before .before .before .loop .i)) (sym (c .before .line-at .ensures)) ∙ sym (c .zone-line .ensures)
+
+loop-holds : tie.Need-loop-holds Inv-loop μ-loop
+loop-holds c = passed-start zoneLine zoneLineNo endOf end-drops _ _ _ (c .before .pre .0)
+
+line-at-requires : tie.Need-line-at-requires Inv-loop μ-loop
+line-at-requires c κs = c .before .loop .inv .within
+
+zone-line-requires : tie.Need-zone-line-requires Inv-loop μ-loop
+zone-line-requires c κs = search needs
+
+enum-told : tie.Need-enum-told Inv-loop μ-loop
+enum-told c = search needs
+
+enum-told-2 : tie.Need-enum-told-2 Inv-loop μ-loop
+enum-told-2 c = search needs
+
+add-t9 : tie.Need-add-t9 Inv-loop μ-loop
+add-t9 c = omega arith
+
+returns : tie.Need-returns Inv-loop μ-loop
+returns c =
+    let l = c .before .before .before .before .before .loop in
+    passed-line zoneLine zoneLineNo endOf end-drops _ _ _ _ _ (l .inv) (c .before .before .before .before .loop-test .taken) form (line-said (c .before .before) ∙ ap saidZone (c .enum-told2 .given .1))
+
+enum-told-3 : tie.Need-enum-told-3 Inv-loop μ-loop
+enum-told-3 c = search needs
+
+add-t11 : tie.Need-add-t11 Inv-loop μ-loop
+add-t11 c = omega arith
+
+returns-2 : tie.Need-returns-2 Inv-loop μ-loop
+returns-2 c =
+    let l = c .before .before .before .before .before .loop in
+    passed-line zoneLine zoneLineNo endOf end-drops _ _ _ _ _ (l .inv) (c .before .before .before .before .loop-test .taken) range (line-said (c .before .before) ∙ ap saidZone (c .enum-told3 .given .1))
+
+add-p : tie.Need-add-p Inv-loop μ-loop
+add-p c =
+    let l = c .before .before .before .before .before .loop in
+    rw (c .before .before .before .line-at .ensures) (omega (arith, after-within (c .before .before .before .before .before .before .before .args .text .now) (l .p) (l .inv .within)))
+
+add-i : tie.Need-add-i Inv-loop μ-loop
+add-i c = omega arith
+
+loop-less : tie.Need-loop-less Inv-loop μ-loop
+loop-less c = omega arith
+
+loop-again : tie.Need-loop-again Inv-loop μ-loop
+loop-again c =
+    let l = c .before .before .before .before .before .loop in
+    rw (c .before .before .before .line-at .ensures)
+    (passed-more zoneLine zoneLineNo endOf end-drops _ _ _ _ _ (l .inv) (c .before .before .before .before .loop-test .taken) _ (line-said (c .before .before) ∙ ap saidZone (c .enum-told .given .1)))
+
+returns-3 : tie.Need-returns-3 Inv-loop μ-loop
+returns-3 c = passed-all zoneLine zoneLineNo endOf end-drops _ _ _ _ _ (c .before .loop .inv) (c .loop-test .left)
+
+pub zones-judged-spec : {M : Type 1} → statement M
+zones-judged-spec =
+    tie.close
+    (tie.spec
+    Inv-loop
+    μ-loop
+    loop-holds
+    line-at-requires
+    zone-line-requires
+    enum-told
+    enum-told-2
+    add-t9
+    returns
+    enum-told-3
+    add-t11
+    returns-2
+    add-p
+    add-i
+    loop-less
+    loop-again
+    returns-3)

@@ -1,0 +1,76 @@
+-- The text of a good table as its writers make it: header, Z, B and C lines, one after another, and their lengths. No contract cites this file.
+-- Assumes nothing.
+use mathlib.Core.Path.{_≡_, sym, ap, _∙_}
+use mathlib.Core.List.{List, _++_, append-assoc}
+use Prim.Native.Nat.{ℕ, _+_, _*_, _-_, _≤_, _<_}
+use native.Mathlib.Omega.{arith}
+use lib.ListN.{length, length-append}
+use Rattle.numbers.proofs.BelowLaws.{Summed, sum-part, summed-all}
+use Rattle.kinds.specs.Limits.{bytesMost}
+use Rattle.text.specs.Written.{linesText}
+use Rattle.text.specs.Put.{Put}
+use Rattle.text.proofs.PutLaws.{put-more, put-room, lines-length}
+use Rattle.table.specs.Table.{Table}
+use Rattle.table.specs.Good.{Good}
+use Rattle.layout.specs.Layout.{headerText}
+use Rattle.writing.specs.Writing.{tableText, zonesText, bordersText, rowsText}
+use Rattle.writing.proofs.RoundTrip.{never-too-long}
+
+-- ---- the parts of the text
+module _ (t : Table) (g : Good t) where
+  abbrev h : List ℕ
+  h = headerText (t .header)
+
+  abbrev z : List ℕ
+  z = zonesText (t .nets)
+
+  abbrev b : List ℕ
+  b = bordersText (t .borders)
+
+  abbrev c : List ℕ
+  c = rowsText (t .header .zones) (t .rows) (t .factors)
+
+  text-parts : ((h ++ z) ++ b) ++ c ≡ tableText t
+  unfolding tableText
+  text-parts = rw (g .nets-long, g .borders-long, g .rows-long) (simp append-assoc)
+
+  pub text-length : length (tableText t) ≡ length h + length z + length b + length c
+  text-length = sym (ap length text-parts) ∙ simp length-append
+
+  -- one after another
+  module _ {out o1 : List ℕ} {n1 : ℕ} (p1 : Put h 0 out n1 o1) where
+    pub zones-room : length (tableText t) ≤ length out → n1 + length z ≤ length o1
+    zones-room r = put-room p1 (length z) (omega (arith, text-length))
+
+    module _ {n2 : ℕ} {o2 : List ℕ} (p2 : Put z n1 o1 n2 o2) where
+      pub borders-room : length (tableText t) ≤ length out → n2 + length b ≤ length o2
+      borders-room r = put-room (put-more p1 (omega arith) p2) (length b) (omega (arith, text-length, length-append h z))
+
+      module _ {n3 : ℕ} {o3 : List ℕ} (p3 : Put b n2 o2 n3 o3) where
+        pub rows-room : length (tableText t) ≤ length out → n3 + length c ≤ length o3
+        rows-room r =
+            put-room (put-more (put-more p1 (omega arith) p2) (omega arith) p3) (length c)
+            (omega (arith, text-length, length-append h z, length-append (h ++ z) b))
+
+        pub text-put : {n4 : ℕ} {o4 : List ℕ} → Put c n3 o3 n4 o4 → Put (tableText t) 0 out n4 o4
+        text-put p4 = rw text-parts at (put-more (put-more (put-more p1 (omega arith) p2) (omega arith) p3) (omega arith) p4)
+
+  -- the factors of all rows, as many as the row records ask for
+  pub factors-all : length (t .factors) ≡ length (t .rows) * t .header .zones
+  factors-all = g .factors-long ∙ ap (λ (n : ℕ). n * t .header .zones) (sym (g .rows-long))
+
+  -- each part is counted without a carry
+  pub text-within : length h + length z + length b + length c ≤ bytesMost
+  text-within = omega (arith, text-length, never-too-long t g)
+
+-- ---- a row's part of the factors is as long as there are zones
+pub part-long : (i zones : ℕ) → i * zones + zones - i * zones ≡ zones
+part-long i zones = omega arith
+
+-- ---- lengths of lines, added up
+module _ (line : ℕ → List ℕ) (n : ℕ) (few : length (linesText n 0 line) ≤ bytesMost) {i s : ℕ} (u : Summed (λ i. length (line i)) n i s) where
+  pub sum-within : i < n → s + length (line i) ≤ bytesMost
+  sum-within h = omega (arith, u .total, lines-length line n, sum-part n (λ i. length (line i)) i h)
+
+  pub sum-lines : n ≤ i → s ≡ length (linesText n 0 line)
+  sum-lines h = summed-all u h ∙ sym (lines-length line n)

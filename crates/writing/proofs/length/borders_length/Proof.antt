@@ -1,0 +1,55 @@
+-- `writing::length::borders_length` meets its contract: the sum over the lines (`Summed`), within that of all.
+-- Assumes nothing.
+use mathlib.Core.Path.{_≡_}
+use Prim.Native.Nat.{_≤_, _+_, _-_}
+use native.Mathlib.Omega.{arith}
+use lib.ListN.{length}
+use Rattle.numbers.proofs.BelowLaws.{Summed, summed-none, summed-more}
+use Rattle.writing.specs.Writing.{borderTextAt}
+use Rattle.writing.proofs.TextLaws.{sum-within, sum-lines}
+use Rattle.kinds.specs.Limits.{bytesMost}
+use Rattle.writing.proofs.length.borders_length.Statement.{statement}
+use Rattle.writing.proofs.length.borders_length.Tie as tie
+
+abbrev Inv-loop : tie.InvT-loop
+Inv-loop b sum₀ i₀ i-end sum i = Summed (λ i. length (borderTextAt b i)) (length b) i sum
+
+abbrev μ-loop : tie.MeasureT-loop
+μ-loop b sum₀ i₀ i-end sum i = length b - i
+
+-- line i is counted without a carry
+within : (c : tie.In-loop Inv-loop μ-loop) → let s = c .before .before in c .before .loop .sum + length (borderTextAt (s .args .b .now) (c .before .loop .i)) ≤ bytesMost
+within c = let s = c .before .before in sum-within (borderTextAt (s .args .b .now)) (length (s .args .b .now)) (s .pre) (c .before .loop .inv) (omega arith)
+
+counted : (c : tie.After-border-length Inv-loop μ-loop) → let s = c .before .before .before .before in c .border-length .result ≡ length (borderTextAt (s .args .b .now) (c .before .before .before .loop .i))
+counted c = c .border-length .ensures
+
+loop-holds : tie.Need-loop-holds Inv-loop μ-loop
+loop-holds c = summed-none _ _
+
+mul-border-length : tie.Need-mul-border-length Inv-loop μ-loop
+mul-border-length c = omega arith
+
+shared-slice-copy-out-border-length : tie.Need-shared-slice-copy-out-border-length Inv-loop μ-loop
+shared-slice-copy-out-border-length c = omega arith
+
+border-length-requires : tie.Need-border-length-requires Inv-loop μ-loop
+border-length-requires c κs = omega (arith, within (c .before))
+
+add-sum : tie.Need-add-sum Inv-loop μ-loop
+add-sum c = omega (arith, within (c .before .before), counted c)
+
+add-i : tie.Need-add-i Inv-loop μ-loop
+add-i c = omega arith
+
+loop-less : tie.Need-loop-less Inv-loop μ-loop
+loop-less c = omega arith
+
+loop-again : tie.Need-loop-again Inv-loop μ-loop
+loop-again c = summed-more (c .before .before .before .loop .inv) _ (omega arith) (counted c)
+
+returns : tie.Need-returns Inv-loop μ-loop
+returns c = let s = c .before .before in sum-lines (borderTextAt (s .args .b .now)) (length (s .args .b .now)) (s .pre) (c .before .loop .inv) (omega arith)
+
+pub borders-length-spec : {M : Type 1} → statement M
+borders-length-spec = tie.close (tie.spec Inv-loop μ-loop loop-holds mul-border-length shared-slice-copy-out-border-length border-length-requires add-sum add-i loop-less loop-again returns)

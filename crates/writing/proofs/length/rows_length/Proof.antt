@@ -1,0 +1,77 @@
+-- `writing::length::rows_length` meets its contract: the sum over the lines (`Summed`), within that of all.
+-- Assumes nothing.
+use mathlib.Core.Path.{_≡_}
+use Prim.Native.Nat.{_≤_, _+_, _-_}
+use native.Mathlib.Omega.{arith}
+use lib.ListN.{length}
+use Rattle.numbers.proofs.BelowLaws.{Summed, summed-none, summed-more}
+use Rattle.table.specs.Table.{stretch}
+use Rattle.table.proofs.StretchLaws.{stretch-end}
+use Rattle.writing.specs.Writing.{rowTextAt}
+use Rattle.writing.proofs.TextLaws.{part-long, sum-within, sum-lines}
+use Rattle.kinds.specs.Limits.{bytesMost}
+use Rattle.writing.proofs.length.rows_length.Statement.{statement}
+use Rattle.writing.proofs.length.rows_length.Tie as tie
+
+abbrev Inv-loop : tie.InvT-loop
+Inv-loop zones c f sum₀ i₀ i-end sum i = Summed (λ i. length (rowTextAt zones c f i)) (length c) i sum
+
+abbrev μ-loop : tie.MeasureT-loop
+μ-loop zones c f sum₀ i₀ i-end sum i = length c - i
+
+-- line i is counted without a carry
+within : (c : tie.In-loop Inv-loop μ-loop) → let s = c .before .before in c .before .loop .sum + length (rowTextAt (s .args .zones) (s .args .c .now) (s .args .f .now) (c .before .loop .i)) ≤ bytesMost
+within c = let s = c .before .before in sum-within (rowTextAt (s .args .zones) (s .args .c .now) (s .args .f .now)) (length (s .args .c .now)) (s .pre .1) (c .before .loop .inv) (omega arith)
+
+counted : (c : tie.After-row-length Inv-loop μ-loop) → let s = c .before .before .before .before .before in c .row-length .result ≡ length (rowTextAt (s .args .zones) (s .args .c .now) (s .args .f .now) (c .before .before .before .before .loop .i))
+unfolding stretch
+counted c = rw (part-long (c .before .before .before .before .loop .i) (c .before .before .before .before .before .args .zones)) at (c .row-length .ensures)
+
+loop-holds : tie.Need-loop-holds Inv-loop μ-loop
+loop-holds c = summed-none _ _
+
+mul-start : tie.Need-mul-start Inv-loop μ-loop
+mul-start c = omega (arith, stretch-end (c .before .before .args .zones) (length (c .before .before .args .c .now)) (c .before .loop .i) (omega arith), c .before .before .pre .0)
+
+mul-row-length : tie.Need-mul-row-length Inv-loop μ-loop
+mul-row-length c = omega arith
+
+shared-slice-copy-out-row-length : tie.Need-shared-slice-copy-out-row-length Inv-loop μ-loop
+shared-slice-copy-out-row-length c = omega arith
+
+add-row-length : tie.Need-add-row-length Inv-loop μ-loop
+add-row-length c = omega (arith, stretch-end (c .before .before .before .args .zones) (length (c .before .before .before .args .c .now)) (c .before .before .loop .i) (omega arith), c .before .before .before .pre .0)
+
+mul-row-length-2 : tie.Need-mul-row-length-2 Inv-loop μ-loop
+mul-row-length-2 c = omega (arith, stretch-end (c .before .before .before .args .zones) (length (c .before .before .before .args .c .now)) (c .before .before .loop .i) (omega arith), c .before .before .before .pre .0)
+
+sub-row-length : tie.Need-sub-row-length Inv-loop μ-loop
+sub-row-length c = omega arith
+
+part-row-length-start : tie.Need-part-row-length-start Inv-loop μ-loop
+part-row-length-start c = omega (arith, stretch-end (c .before .before .before .args .zones) (length (c .before .before .before .args .c .now)) (c .before .before .loop .i) (omega arith), c .before .before .before .pre .0)
+
+part-row-length-end : tie.Need-part-row-length-end Inv-loop μ-loop
+part-row-length-end c = omega (arith, stretch-end (c .before .before .before .args .zones) (length (c .before .before .before .args .c .now)) (c .before .before .loop .i) (omega arith), c .before .before .before .pre .0)
+
+row-length-requires : tie.Need-row-length-requires Inv-loop μ-loop
+unfolding stretch
+row-length-requires c κs = rw (part-long (c .before .before .before .loop .i) (c .before .before .before .before .args .zones)) (omega (arith, within (c .before .before)))
+
+add-sum : tie.Need-add-sum Inv-loop μ-loop
+add-sum c = omega (arith, within (c .before .before .before), counted c)
+
+add-i : tie.Need-add-i Inv-loop μ-loop
+add-i c = omega arith
+
+loop-less : tie.Need-loop-less Inv-loop μ-loop
+loop-less c = omega arith
+
+loop-again : tie.Need-loop-again Inv-loop μ-loop
+loop-again c = summed-more (c .before .before .before .before .loop .inv) _ (omega arith) (counted c)
+
+returns : tie.Need-returns Inv-loop μ-loop
+returns c = let s = c .before .before in sum-lines (rowTextAt (s .args .zones) (s .args .c .now) (s .args .f .now)) (length (s .args .c .now)) (s .pre .1) (c .before .loop .inv) (omega arith)
+
+pub rows-length-spec : {M : Type 1} → statement M
+rows-length-spec = tie.close (tie.spec Inv-loop μ-loop loop-holds mul-start mul-row-length shared-slice-copy-out-row-length add-row-length mul-row-length-2 sub-row-length part-row-length-start part-row-length-end row-length-requires add-sum add-i loop-less loop-again returns)

@@ -1,0 +1,48 @@
+-- `writing::length::text_length` meets its contract: the lengths of its parts (`text-length`), which no good table takes past 65,536.
+-- Assumes nothing.
+use mathlib.Core.Path.{_≡_}
+use Prim.Native.Nat.{_+_}
+use native.Mathlib.Omega.{arith}
+use lib.ListN.{length}
+use Rattle.table.specs.Table.{Table, lent}
+use Rattle.writing.specs.Writing.{tableText}
+use Rattle.writing.proofs.RoundTrip.{never-too-long}
+use Rattle.writing.proofs.TextLaws.{text-length, text-within, factors-all}
+use Rattle.writing.proofs.length.text_length.Statement.{statement}
+use Rattle.writing.proofs.length.text_length.Tie as tie
+
+abbrev table : tie.Start → Table
+table s = lent (s .args .h) (s .args .z .now) (s .args .b .now) (s .args .c .now) (s .args .f .now)
+
+counted : (c : tie.After-rows-length)
+    → length (tableText (table (c .before .before .before .before))) ≡ c .before .before .before .header-length .result + c .before .before .zones-length .result + c .before .borders-length .result + c .rows-length .result
+counted c =
+    let s = c .before .before .before .before in
+    omega (arith, text-length (table s) (s .pre), c .before .before .before .header-length .ensures, c .before .before .zones-length .ensures, c .before .borders-length .ensures, c .rows-length .ensures)
+
+header-length-requires : tie.Need-header-length-requires
+header-length-requires c κs = omega (arith, text-within (table c) (c .pre))
+
+zones-length-requires : tie.Need-zones-length-requires
+zones-length-requires c κs = let s = c .before in omega (arith, text-within (table s) (s .pre))
+
+borders-length-requires : tie.Need-borders-length-requires
+borders-length-requires c κs = let s = c .before .before in omega (arith, text-within (table s) (s .pre))
+
+rows-length-requires : tie.Need-rows-length-requires
+rows-length-requires c κs = let s = c .before .before .before in (factors-all (table s) (s .pre), omega (arith, text-within (table s) (s .pre)))
+
+add-result : tie.Need-add-result
+add-result c = let s = c .before .before .before .before in omega (arith, counted c, never-too-long (table s) (s .pre))
+
+add-result-2 : tie.Need-add-result-2
+add-result-2 c = let s = c .before .before .before .before in omega (arith, counted c, never-too-long (table s) (s .pre))
+
+add-result-3 : tie.Need-add-result-3
+add-result-3 c = let s = c .before .before .before .before in omega (arith, counted c, never-too-long (table s) (s .pre))
+
+returns : tie.Need-returns
+returns c = omega (arith, counted c)
+
+pub text-length-spec : {M : Type 1} → statement M
+text-length-spec = tie.close (tie.spec header-length-requires zones-length-requires borders-length-requires rows-length-requires add-result add-result-2 add-result-3 returns)

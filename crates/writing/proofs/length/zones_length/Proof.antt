@@ -1,0 +1,56 @@
+-- `writing::length::zones_length` meets its contract: the sum over the lines (`Summed`), within that of all.
+-- Assumes nothing.
+use mathlib.Core.Path.{_≡_}
+use Prim.Native.Nat.{_≤_, _+_, _-_}
+use native.Mathlib.Omega.{arith}
+use lib.ListN.{length}
+use Rattle.numbers.proofs.BelowLaws.{Summed, summed-none, summed-more}
+use Rattle.numbers.proofs.IntLaws.{plain}
+use Rattle.writing.specs.Writing.{zoneTextAt}
+use Rattle.writing.proofs.TextLaws.{sum-within, sum-lines}
+use Rattle.kinds.specs.Limits.{bytesMost}
+use Rattle.writing.proofs.length.zones_length.Statement.{statement}
+use Rattle.writing.proofs.length.zones_length.Tie as tie
+
+abbrev Inv-loop : tie.InvT-loop
+Inv-loop z sum₀ i₀ i-end sum i = Summed (λ i. length (zoneTextAt z i)) (length z) i sum
+
+abbrev μ-loop : tie.MeasureT-loop
+μ-loop z sum₀ i₀ i-end sum i = length z - i
+
+-- line i is counted without a carry
+within : (c : tie.In-loop Inv-loop μ-loop) → let s = c .before .before in c .before .loop .sum + length (zoneTextAt (s .args .z .now) (c .before .loop .i)) ≤ bytesMost
+within c = let s = c .before .before in sum-within (zoneTextAt (s .args .z .now)) (length (s .args .z .now)) (s .pre) (c .before .loop .inv) (omega arith)
+
+counted : (c : tie.After-zone-length Inv-loop μ-loop) → let s = c .before .before .before .before in c .zone-length .result ≡ length (zoneTextAt (s .args .z .now) (c .before .before .before .loop .i))
+counted c = simp (plain, c .before .zone-length-arg .given) at (c .zone-length .ensures)
+
+loop-holds : tie.Need-loop-holds Inv-loop μ-loop
+loop-holds c = summed-none _ _
+
+mul-zone-length : tie.Need-mul-zone-length Inv-loop μ-loop
+mul-zone-length c = omega arith
+
+shared-slice-copy-out-zone-length : tie.Need-shared-slice-copy-out-zone-length Inv-loop μ-loop
+shared-slice-copy-out-zone-length c = omega arith
+
+zone-length-requires : tie.Need-zone-length-requires Inv-loop μ-loop
+zone-length-requires c κs = simp (plain, c .zone-length-arg .given) (omega (arith, within (c .before)))
+
+add-sum : tie.Need-add-sum Inv-loop μ-loop
+add-sum c = omega (arith, within (c .before .before), counted c)
+
+add-i : tie.Need-add-i Inv-loop μ-loop
+add-i c = omega arith
+
+loop-less : tie.Need-loop-less Inv-loop μ-loop
+loop-less c = omega arith
+
+loop-again : tie.Need-loop-again Inv-loop μ-loop
+loop-again c = summed-more (c .before .before .before .loop .inv) _ (omega arith) (counted c)
+
+returns : tie.Need-returns Inv-loop μ-loop
+returns c = let s = c .before .before in sum-lines (zoneTextAt (s .args .z .now)) (length (s .args .z .now)) (s .pre) (c .before .loop .inv) (omega arith)
+
+pub zones-length-spec : {M : Type 1} → statement M
+zones-length-spec = tie.close (tie.spec Inv-loop μ-loop loop-holds mul-zone-length shared-slice-copy-out-zone-length zone-length-requires add-sum add-i loop-less loop-again returns)

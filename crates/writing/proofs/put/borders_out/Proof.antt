@@ -1,0 +1,57 @@
+-- `writing::put::borders_out` meets its contract: the first i lines are written.
+-- Assumes nothing.
+use Prim.Native.Nat.{_≤_, _-_}
+use native.Mathlib.Omega.{arith}
+use lib.ListN.{length}
+use Rattle.writing.specs.Writing.{borderTextAt, bordersText}
+use Rattle.text.specs.Written.{linesText}
+use Rattle.text.specs.Put.{Put}
+use Rattle.text.proofs.PutLaws.{lines-none, lines-more, lines-all, lines-room, put-kept}
+use Rattle.writing.proofs.put.borders_out.Statement.{statement}
+use Rattle.writing.proofs.put.borders_out.Tie as tie
+
+abbrev Inv-loop : tie.InvT-loop
+Inv-loop b out₀ at next₀ i₀ i-end out next i = (i ≤ length b) × Put (linesText i 0 (borderTextAt b)) at out₀ next out
+
+abbrev μ-loop : tie.MeasureT-loop
+μ-loop b out₀ at next₀ i₀ i-end out next i = length b - i
+
+loop-holds : tie.Need-loop-holds Inv-loop μ-loop
+loop-holds c = (omega arith, lines-none _ _ _)
+
+mul-border-out : tie.Need-mul-border-out Inv-loop μ-loop
+mul-border-out c = omega arith
+
+shared-slice-copy-out-border-out : tie.Need-shared-slice-copy-out-border-out Inv-loop μ-loop
+shared-slice-copy-out-border-out c = omega arith
+
+border-out-requires : tie.Need-border-out-requires Inv-loop μ-loop
+border-out-requires c κs =
+    let s = c .before .before .before .before .before in
+    let head = c .before .before .before .loop in
+    lines-room (borderTextAt (s .args .b .now)) (head .i) (length (s .args .b .now)) (omega arith) (s .pre) (head .inv .1)
+
+add-i : tie.Need-add-i Inv-loop μ-loop
+add-i c = omega arith
+
+loop-less : tie.Need-loop-less Inv-loop μ-loop
+loop-less c = omega arith
+
+loop-again : tie.Need-loop-again Inv-loop μ-loop
+loop-again c =
+    let s = c .before .before .before .before .before .before .before .before in
+    let head = c .before .before .before .before .before .before .loop in
+    (omega arith, lines-more (borderTextAt (s .args .b .now)) (omega (arith, s .pre)) (head .inv .1) (c .before .before .border-out .ensures))
+
+-- all lines are written
+all : (c : tie.After-loop Inv-loop μ-loop) → let s = c .before .before .before in Put (bordersText (s .args .b .now)) (s .args .at) (s .args .out .now) (c .before .loop .next) (c .before .loop .out)
+all c = lines-all (borderTextAt (c .before .before .before .args .b .now)) (c .before .loop .inv .0) (omega arith) (c .before .loop .inv .1)
+
+same-length : tie.Need-same-length Inv-loop μ-loop
+same-length c = put-kept (all c) (c .before .before .before .pre)
+
+returns : tie.Need-returns Inv-loop μ-loop
+returns c = all c
+
+pub borders-out-spec : {M : Type 1} → statement M
+borders-out-spec = tie.close (tie.spec Inv-loop μ-loop loop-holds mul-border-out shared-slice-copy-out-border-out border-out-requires add-i loop-less loop-again same-length returns)

@@ -1,0 +1,80 @@
+-- `writing::put::rows_out` meets its contract: the first i lines are written.
+-- Assumes nothing.
+use Prim.Native.Nat.{_≤_, _-_}
+use native.Mathlib.Omega.{arith}
+use lib.ListN.{length}
+use Rattle.table.specs.Table.{stretch}
+use Rattle.table.proofs.StretchLaws.{stretch-end}
+use Rattle.writing.specs.Writing.{rowTextAt, rowsText}
+use Rattle.writing.proofs.TextLaws.{part-long}
+use Rattle.text.specs.Written.{linesText}
+use Rattle.text.specs.Put.{Put}
+use Rattle.text.proofs.PutLaws.{lines-none, lines-more, lines-all, lines-room, put-kept}
+use Rattle.writing.proofs.put.rows_out.Statement.{statement}
+use Rattle.writing.proofs.put.rows_out.Tie as tie
+
+abbrev Inv-loop : tie.InvT-loop
+Inv-loop zones c f out₀ at next₀ i₀ i-end out next i = (i ≤ length c) × Put (linesText i 0 (rowTextAt zones c f)) at out₀ next out
+
+abbrev μ-loop : tie.MeasureT-loop
+μ-loop zones c f out₀ at next₀ i₀ i-end out next i = length c - i
+
+loop-holds : tie.Need-loop-holds Inv-loop μ-loop
+loop-holds c = (omega arith, lines-none _ _ _)
+
+mul-start : tie.Need-mul-start Inv-loop μ-loop
+mul-start c = omega (arith, stretch-end (c .before .before .before .args .zones) (length (c .before .before .before .args .c .now)) (c .before .loop .i) (omega arith), c .before .before .before .pre .0)
+
+mul-row-out : tie.Need-mul-row-out Inv-loop μ-loop
+mul-row-out c = omega arith
+
+shared-slice-copy-out-row-out : tie.Need-shared-slice-copy-out-row-out Inv-loop μ-loop
+shared-slice-copy-out-row-out c = omega arith
+
+add-row-out : tie.Need-add-row-out Inv-loop μ-loop
+add-row-out c = omega (arith, stretch-end (c .before .before .before .before .args .zones) (length (c .before .before .before .before .args .c .now)) (c .before .before .loop .i) (omega arith), c .before .before .before .before .pre .0)
+
+mul-row-out-2 : tie.Need-mul-row-out-2 Inv-loop μ-loop
+mul-row-out-2 c = omega (arith, stretch-end (c .before .before .before .before .args .zones) (length (c .before .before .before .before .args .c .now)) (c .before .before .loop .i) (omega arith), c .before .before .before .before .pre .0)
+
+sub-row-out : tie.Need-sub-row-out Inv-loop μ-loop
+sub-row-out c = omega arith
+
+part-row-out-start : tie.Need-part-row-out-start Inv-loop μ-loop
+part-row-out-start c = omega (arith, stretch-end (c .before .before .before .before .args .zones) (length (c .before .before .before .before .args .c .now)) (c .before .before .loop .i) (omega arith), c .before .before .before .before .pre .0)
+
+part-row-out-end : tie.Need-part-row-out-end Inv-loop μ-loop
+part-row-out-end c = omega (arith, stretch-end (c .before .before .before .before .args .zones) (length (c .before .before .before .before .args .c .now)) (c .before .before .loop .i) (omega arith), c .before .before .before .before .pre .0)
+
+row-out-requires : tie.Need-row-out-requires Inv-loop μ-loop
+unfolding stretch
+row-out-requires c κs =
+    let s = c .before .before .before .before .before .before in
+    let head = c .before .before .before .before .loop in
+    rw (part-long (head .i) (s .args .zones)) (lines-room (rowTextAt (s .args .zones) (s .args .c .now) (s .args .f .now)) (head .i) (length (s .args .c .now)) (omega arith) (s .pre .1) (head .inv .1))
+
+add-i : tie.Need-add-i Inv-loop μ-loop
+add-i c = omega arith
+
+loop-less : tie.Need-loop-less Inv-loop μ-loop
+loop-less c = omega arith
+
+loop-again : tie.Need-loop-again Inv-loop μ-loop
+unfolding stretch
+loop-again c =
+    let s = c .before .before .before .before .before .before .before .before .before in
+    let head = c .before .before .before .before .before .before .before .loop in
+    (omega arith, lines-more (rowTextAt (s .args .zones) (s .args .c .now) (s .args .f .now)) (omega (arith, s .pre .1)) (head .inv .1) (rw (part-long (head .i) (s .args .zones)) at (c .before .before .row-out .ensures)))
+
+-- all lines are written
+all : (c : tie.After-loop Inv-loop μ-loop) → let s = c .before .before .before in Put (rowsText (s .args .zones) (s .args .c .now) (s .args .f .now)) (s .args .at) (s .args .out .now) (c .before .loop .next) (c .before .loop .out)
+all c = lines-all (rowTextAt (c .before .before .before .args .zones) (c .before .before .before .args .c .now) (c .before .before .before .args .f .now)) (c .before .loop .inv .0) (omega arith) (c .before .loop .inv .1)
+
+same-length : tie.Need-same-length Inv-loop μ-loop
+same-length c = put-kept (all c) (c .before .before .before .pre .1)
+
+returns : tie.Need-returns Inv-loop μ-loop
+returns c = all c
+
+pub rows-out-spec : {M : Type 1} → statement M
+rows-out-spec = tie.close (tie.spec Inv-loop μ-loop loop-holds mul-start mul-row-out shared-slice-copy-out-row-out add-row-out mul-row-out-2 sub-row-out part-row-out-start part-row-out-end row-out-requires add-i loop-less loop-again same-length returns)

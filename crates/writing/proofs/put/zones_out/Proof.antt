@@ -1,0 +1,58 @@
+-- `writing::put::zones_out` meets its contract: the first i lines are written.
+-- Assumes nothing.
+use Prim.Native.Nat.{_≤_, _-_}
+use native.Mathlib.Omega.{arith}
+use lib.ListN.{length}
+use Rattle.numbers.proofs.IntLaws.{plain}
+use Rattle.writing.specs.Writing.{zoneTextAt, zonesText}
+use Rattle.text.specs.Written.{linesText}
+use Rattle.text.specs.Put.{Put}
+use Rattle.text.proofs.PutLaws.{lines-none, lines-more, lines-all, lines-room, put-kept}
+use Rattle.writing.proofs.put.zones_out.Statement.{statement}
+use Rattle.writing.proofs.put.zones_out.Tie as tie
+
+abbrev Inv-loop : tie.InvT-loop
+Inv-loop z out₀ at next₀ i₀ i-end out next i = (i ≤ length z) × Put (linesText i 0 (zoneTextAt z)) at out₀ next out
+
+abbrev μ-loop : tie.MeasureT-loop
+μ-loop z out₀ at next₀ i₀ i-end out next i = length z - i
+
+loop-holds : tie.Need-loop-holds Inv-loop μ-loop
+loop-holds c = (omega arith, lines-none _ _ _)
+
+mul-zone-out : tie.Need-mul-zone-out Inv-loop μ-loop
+mul-zone-out c = omega arith
+
+shared-slice-copy-out-zone-out : tie.Need-shared-slice-copy-out-zone-out Inv-loop μ-loop
+shared-slice-copy-out-zone-out c = omega arith
+
+zone-out-requires : tie.Need-zone-out-requires Inv-loop μ-loop
+zone-out-requires c κs =
+    let s = c .before .before .before .before .before in
+    let head = c .before .before .before .loop in
+    simp (plain, c .before .zone-out-arg .given) (lines-room (zoneTextAt (s .args .z .now)) (head .i) (length (s .args .z .now)) (omega arith) (s .pre) (head .inv .1))
+
+add-i : tie.Need-add-i Inv-loop μ-loop
+add-i c = omega arith
+
+loop-less : tie.Need-loop-less Inv-loop μ-loop
+loop-less c = omega arith
+
+loop-again : tie.Need-loop-again Inv-loop μ-loop
+loop-again c =
+    let s = c .before .before .before .before .before .before .before .before in
+    let head = c .before .before .before .before .before .before .loop in
+    (omega arith, lines-more (zoneTextAt (s .args .z .now)) (omega (arith, s .pre)) (head .inv .1) (simp (plain, c .before .before .before .before .zone-out-arg .given) at (c .before .before .zone-out .ensures)))
+
+-- all lines are written
+all : (c : tie.After-loop Inv-loop μ-loop) → let s = c .before .before .before in Put (zonesText (s .args .z .now)) (s .args .at) (s .args .out .now) (c .before .loop .next) (c .before .loop .out)
+all c = lines-all (zoneTextAt (c .before .before .before .args .z .now)) (c .before .loop .inv .0) (omega arith) (c .before .loop .inv .1)
+
+same-length : tie.Need-same-length Inv-loop μ-loop
+same-length c = put-kept (all c) (c .before .before .before .pre)
+
+returns : tie.Need-returns Inv-loop μ-loop
+returns c = all c
+
+pub zones-out-spec : {M : Type 1} → statement M
+zones-out-spec = tie.close (tie.spec Inv-loop μ-loop loop-holds mul-zone-out shared-slice-copy-out-zone-out zone-out-requires add-i loop-less loop-again same-length returns)

@@ -1,0 +1,66 @@
+-- `writing::write` meets its contract: what judging refuses is refused (`write-refused`), and else the front of the lent tables is written (`write-on`).
+-- Assumes nothing.
+use mathlib.Core.Path.{_≡_, sym, ap, _∙_}
+use native.Mathlib.Omega.{arith}
+use borrow.Author.Needs.{needs}
+use Rattle.kinds.specs.declared.Judgement.{Judgement}
+use Rattle.kinds.specs.Refusals.{passed}
+use Rattle.kinds.specs.Answers.{ruled}
+use Rattle.table.specs.Table.{Table, lent, front, judgeLent}
+use Rattle.table.specs.Good.{Good}
+use Rattle.table.proofs.RoomLaws.{factors-most}
+use Rattle.table.proofs.GoodLaws.{judged-good}
+use Rattle.writing.proofs.LeftLaws.{write-refused, write-on}
+use Rattle.writing.proofs.write.Statement.{statement}
+use Rattle.writing.proofs.write.Tie as tie
+
+abbrev given : tie.Start → Table
+given s = lent (s .args .h) (s .args .z .now) (s .args .b .now) (s .args .c .now) (s .args .f .now)
+
+-- past the judging, the front of what was lent is a good table
+judged : (c : tie.After-enum-told) → let s = c .before .before .before .before in passed (front (given s)) ≡ judgeLent (given s)
+judged c = let s = c .before .before .before .before in sym (ap (λ (j : Judgement). ruled j (front (given s))) (c .enum-told .given .1)) ∙ c .before .before .judge .ensures
+
+good : (c : tie.After-enum-told) → Good (front (given (c .before .before .before .before)))
+good c = let s = c .before .before .before .before in judged-good (given s) (front (given s)) (sym (judged c))
+
+judge-requires : tie.Need-judge-requires
+judge-requires c κs = search needs
+
+enum-known-w : tie.Need-enum-known-w
+enum-known-w c = search needs
+
+returns : tie.Need-returns
+returns c =
+    let s = c .before .before .before .before .before in
+    write-refused (given s) (s .args .out .now) _ (sym (ap (λ (j : Judgement). ruled j (front (given s))) (c .before .w .given .1)) ∙ c .before .before .before .judge .ensures)
+
+enum-told : tie.Need-enum-told
+enum-told c = search needs
+
+slice-aggregate-write-good : tie.Need-slice-aggregate-write-good
+slice-aggregate-write-good c = sym (good (c .before) .nets-long)
+
+slice-aggregate-write-good-2 : tie.Need-slice-aggregate-write-good-2
+slice-aggregate-write-good-2 c = sym (good (c .before .before) .borders-long)
+
+slice-aggregate-write-good-3 : tie.Need-slice-aggregate-write-good-3
+slice-aggregate-write-good-3 c = sym (good (c .before .before .before) .rows-long)
+
+mul-write-good : tie.Need-mul-write-good
+mul-write-good c = omega (arith, factors-most _ (good (c .before .before .before) .header))
+
+slice-aggregate-write-good-4 : tie.Need-slice-aggregate-write-good-4
+slice-aggregate-write-good-4 c = sym (good (c .before .before .before .before) .factors-long)
+
+write-good-requires : tie.Need-write-good-requires
+write-good-requires c κs = good (c .before .before .before .before .before)
+
+same-length : tie.Need-same-length
+same-length c = search needs
+
+returns-2 : tie.Need-returns-2
+returns-2 c = let s = c .before .before .before .before .before .before .before .before .before .before .before .before in c .before .before .write-good .ensures ∙ write-on (given s) (s .args .out .now) (front (given s)) (judged (c .before .before .before .before .before .before .before .before))
+
+pub write-spec : {M : Type 1} → statement M
+write-spec = tie.close (tie.spec judge-requires enum-known-w returns enum-told slice-aggregate-write-good slice-aggregate-write-good-2 slice-aggregate-write-good-3 mul-write-good slice-aggregate-write-good-4 write-good-requires same-length returns-2)

@@ -1,0 +1,56 @@
+// How many bytes the text of a table has, before one is written.
+ghost use mathlib.Core.Path.{_≡_};
+ghost use Prim.Native.Nat.{_*_, _≤_};
+ghost use lib.ListN.{length};
+ghost use Rattle.kinds.specs.Limits.{bytesMost};
+ghost use Rattle.table.specs.Table.{lent};
+ghost use Rattle.table.specs.Good.{Good};
+ghost use Rattle.writing.specs.Writing.{tableText, zonesText, bordersText, rowsText};
+use kinds::BorderRecord;
+use kinds::Header;
+use kinds::RowRecord;
+
+fn zones_length(z: &[i64]) -> usize
+    requires { ⌜ length (zonesText (now z)) ≤ bytesMost ⌝ }
+    ensures { λ r. ⌜ r ≡ length (zonesText (now (z .entry))) ⌝ }
+{
+    let mut sum: usize = 0;
+    for i in 0..z.len() {
+        sum += layout::length::zone_length(i, z[i]);
+    }
+    sum
+}
+
+fn borders_length(b: &[BorderRecord]) -> usize
+    requires { ⌜ length (bordersText (now b)) ≤ bytesMost ⌝ }
+    ensures { λ r. ⌜ r ≡ length (bordersText (now (b .entry))) ⌝ }
+{
+    let mut sum: usize = 0;
+    for i in 0..b.len() {
+        sum += layout::length::border_length(i, b[i]);
+    }
+    sum
+}
+
+fn rows_length(zones: usize, c: &[RowRecord], f: &[i64]) -> usize
+    requires { ⌜ (length (now f) ≡ length (now c) * zones) × (length (rowsText zones (now c) (now f)) ≤ bytesMost) ⌝ }
+    ensures { λ r. ⌜ r ≡ length (rowsText zones (now (c .entry)) (now (f .entry))) ⌝ }
+{
+    let mut sum: usize = 0;
+    for i in 0..c.len() {
+        let start = i * zones;
+        sum += layout::length::row_length(i, c[i], &f[start..start + zones]);
+    }
+    sum
+}
+
+pub fn text_length(h: Header, z: &[i64], b: &[BorderRecord], c: &[RowRecord], f: &[i64]) -> usize
+    requires { ⌜ Good (lent h (now z) (now b) (now c) (now f)) ⌝ }
+    ensures { λ r. ⌜ r ≡ length (tableText (lent h (now (z .entry)) (now (b .entry)) (now (c .entry)) (now (f .entry)))) ⌝ }
+{
+    let header = layout::length::header_length(h);
+    let zones = zones_length(z);
+    let borders = borders_length(b);
+    let rows = rows_length(h.zones, c, f);
+    header + zones + borders + rows
+}

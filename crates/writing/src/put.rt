@@ -1,0 +1,62 @@
+// Writes the lines of a table into lent bytes, each kind at a place, and then all kinds from the start.
+ghost use mathlib.Core.Path.{_≡_};
+ghost use Prim.Native.Nat.{_+_, _*_, _≤_};
+ghost use lib.ListN.{length};
+ghost use Rattle.text.specs.Put.{Put};
+ghost use Rattle.table.specs.Table.{lent};
+ghost use Rattle.table.specs.Good.{Good};
+ghost use Rattle.writing.specs.Writing.{tableText, zonesText, bordersText, rowsText};
+use kinds::BorderRecord;
+use kinds::Header;
+use kinds::RowRecord;
+
+fn zones_out(z: &[i64], out: &mut [u8], at: usize) -> usize
+    requires { ⌜ at + length (zonesText (now z)) ≤ length (now out) ⌝ }
+    ensures { λ r. ⌜ Put (zonesText (now (z .entry))) at (now (out .entry)) r (now (out .exit)) ⌝ }
+{
+    let mut next = at;
+    for i in 0..z.len() {
+        next = layout::put::zone_out(i, z[i], out, next);
+    }
+    next
+}
+
+fn borders_out(b: &[BorderRecord], out: &mut [u8], at: usize) -> usize
+    requires { ⌜ at + length (bordersText (now b)) ≤ length (now out) ⌝ }
+    ensures { λ r. ⌜ Put (bordersText (now (b .entry))) at (now (out .entry)) r (now (out .exit)) ⌝ }
+{
+    let mut next = at;
+    for i in 0..b.len() {
+        next = layout::put::border_out(i, b[i], out, next);
+    }
+    next
+}
+
+fn rows_out(zones: usize, c: &[RowRecord], f: &[i64], out: &mut [u8], at: usize) -> usize
+    requires { ⌜ (length (now f) ≡ length (now c) * zones) × (at + length (rowsText zones (now c) (now f)) ≤ length (now out)) ⌝ }
+    ensures { λ r. ⌜ Put (rowsText zones (now (c .entry)) (now (f .entry))) at (now (out .entry)) r (now (out .exit)) ⌝ }
+{
+    let mut next = at;
+    for i in 0..c.len() {
+        let start = i * zones;
+        next = layout::put::row_out(i, c[i], &f[start..start + zones], out, next);
+    }
+    next
+}
+
+pub fn table_out(
+    h: Header,
+    z: &[i64],
+    b: &[BorderRecord],
+    c: &[RowRecord],
+    f: &[i64],
+    out: &mut [u8],
+) -> usize
+    requires { ⌜ Good (lent h (now z) (now b) (now c) (now f)) × (length (tableText (lent h (now z) (now b) (now c) (now f))) ≤ length (now out)) ⌝ }
+    ensures { λ r. ⌜ Put (tableText (lent h (now (z .entry)) (now (b .entry)) (now (c .entry)) (now (f .entry)))) 0 (now (out .entry)) r (now (out .exit)) ⌝ }
+{
+    let next = layout::put::header_out(h, out, 0);
+    let next = zones_out(z, out, next);
+    let next = borders_out(b, out, next);
+    rows_out(h.zones, c, f, out, next)
+}
