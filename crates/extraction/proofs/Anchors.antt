@@ -10,7 +10,8 @@ use Rattle.kinds.specs.Refusals.{refused, then, unless, refuseAt, refuseFirst, 
 use Rattle.table.specs.Table.{Table, stretch}
 use Rattle.margin.specs.Margin.{grains, f0coreOf, fuafOf, baseOf, amrOf, signedFactor, pOf, ltaKw, sOf, ltaMarginOf, ramOf, ramAt}
 use Rattle.states.specs.States.{highest, lowest, spreadOf, shifted, below, stateOf}
-use Rattle.extraction.specs.Extraction.{rowsOf, kept, gridOf, marginOf, judgeStart, outcomeOf}
+use Rattle.start.specs.Start.{rowsOf, kept, gridOf, marginOf, judgeStart}
+use Rattle.extraction.specs.Extraction.{outcomeOf}
 
 -- IVA 1 takes row 0 below 0, and no row limits border 1
 abbrev sixAndSeven : Table

@@ -11,7 +11,8 @@ use Rattle.table.proofs.GoodLaws.{judged-good}
 use Rattle.rounds.specs.Rounds.{sharers, alone, mostSharers}
 use Rattle.rounds.proofs.Theorems.{alone-under, alone-least}
 use Rattle.margin.proofs.Small.{named-values-small}
-use Rattle.extraction.specs.Extraction.{rowsOf, gridOf, startOf, Result, outcomeOf, nOf, lOf}
+use Rattle.start.specs.Start.{rowsOf, gridOf, startOf}
+use Rattle.extraction.specs.Extraction.{Result, outcomeOf, nOf, lOf}
 use Rattle.extraction.specs.Demand.{roundsMost, Demand3}
 use Rattle.extraction.proofs.DemandLaws.{accepted, g, s, demand-3}
 

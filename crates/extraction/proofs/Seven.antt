@@ -14,7 +14,8 @@ use Rattle.kinds.specs.Refusals.{Judged, passed, refused, then, unless, refuseA
 use Rattle.table.specs.Table.{Table, rowAt}
 use Rattle.margin.specs.Margin.{ramAt, sAt}
 use Rattle.margin.proofs.MarginLaws.{start-not-negative}
-use Rattle.extraction.specs.Extraction.{rowsOf, kept, gridOf, marginOf, resultOf, judgeStart, outcomeOf}
+use Rattle.start.specs.Start.{rowsOf, kept, gridOf, marginOf, judgeStart}
+use Rattle.extraction.specs.Extraction.{resultOf, outcomeOf}
 
 -- a judgement that is not refusal 7
 abbrev pub NotSeven : {A : Type 0} → Judged A → Type 0

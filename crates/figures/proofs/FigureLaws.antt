@@ -24,7 +24,8 @@ use Rattle.rounds.proofs.Theorems as rounds
 use Rattle.table.specs.Table.{Table, factorsAt}
 use Rattle.margin.specs.Margin.{f0coreOf, sOf, ramOf, ramAt, ramsOf}
 use Rattle.states.specs.States.{spreadOf, shifted, below, stateOf}
-use Rattle.extraction.specs.Extraction.{rowsOf, gridOf, startOf, Result, resultOf, outcomeOf}
+use Rattle.start.specs.Start.{rowsOf, gridOf, startOf}
+use Rattle.extraction.specs.Extraction.{Result, resultOf, outcomeOf}
 use Rattle.extraction.proofs.DemandLaws.{accepted}
 
 -- ---- spread

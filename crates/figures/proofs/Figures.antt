@@ -13,7 +13,8 @@ use Rattle.rounds.specs.Rounds.{Grid, sharers, raise}
 use Rattle.table.specs.Table.{Table, factorsAt}
 use Rattle.margin.specs.Margin.{grains, baseOf, amrOf, ramAt, ramsOf}
 use Rattle.states.specs.States.{spreadOf, stateOf}
-use Rattle.extraction.specs.Extraction.{rowsOf, Result, outcomeOf}
+use Rattle.start.specs.Start.{rowsOf}
+use Rattle.extraction.specs.Extraction.{Result, outcomeOf}
 use Rattle.result.specs.Result.{answerText}
 use Rattle.figures.specs.Computing.{computing}
 use Rattle.figures.specs.Sheets.{sheet}

@@ -2,7 +2,8 @@
 -- Assumes nothing.
 use Rattle.block.specs.Block.{linesAt}
 use Rattle.extraction.specs.Demand.{loadOf}
-use Rattle.extraction.specs.Extraction.{rowsOf, kept, gridOf, marginOf, startOf, resultOf, atcOf, leftOf, judgeStart, outcomeOf, nOf, lOf, atcRecord, rowRecord, extractLeft}
+use Rattle.start.specs.Start.{rowsOf, kept, gridOf, marginOf, startOf, judgeStart}
+use Rattle.extraction.specs.Extraction.{resultOf, atcOf, leftOf, outcomeOf, nOf, lOf, atcRecord, rowRecord, extractLeft}
 use Rattle.kinds.specs.Ranges.{headerFits, zoneFits, exists, borderFits, borderOf, shareOf, rowOf, rowFits, factorFits, worth}
 use Rattle.kinds.specs.Refusals.{then, either, unless, refuseAt, refuseFirst, need}
 use Rattle.margin.specs.Margin.{grains, f0coreOf, fuafOf, baseOf, amrOf, signedFactor, pOf, ltaKw, cornerPart, cornerSum, sOf, ltaMarginOf, ramOf, ramAt}

@@ -17,7 +17,8 @@ use Rattle.text.specs.Fields.{dash}
 use Rattle.text.specs.Written.{decimal, decimalℤ, linesText}
 use Rattle.text.proofs.DigitLaws.{decimal-most, decimal-u64, signed-most}
 use Rattle.text.proofs.PutLaws.{lines-length}
-use Rattle.extraction.specs.Extraction.{Result, kept, atcOf, leftOf, atcRecord, rowRecord}
+use Rattle.start.specs.Start.{kept}
+use Rattle.extraction.specs.Extraction.{Result, atcOf, leftOf, atcRecord, rowRecord}
 use Rattle.result.specs.Result.{atcText, marginText, resultText, refusalText}
 use Rattle.result.specs.Records.{roundsLine, recordsText}
 use Rattle.result.proofs.RecordsLaws.{two-length, four-length, rounds-length, refusal-length, records-text}

@@ -23,7 +23,8 @@ use Rattle.text.specs.Put.{Put}
 use Rattle.text.specs.Written.{decimal, decimalℤ, lineText, linesText}
 use Rattle.text.proofs.DigitLaws.{decimal-u64, signed-most}
 use Rattle.text.proofs.PutLaws.{tabbed-length, tabbed-empty, line-length, lines-length, put-more}
-use Rattle.extraction.specs.Extraction.{Result, kept, leftOf, atcRecord, rowRecord}
+use Rattle.start.specs.Start.{kept}
+use Rattle.extraction.specs.Extraction.{Result, leftOf, atcRecord, rowRecord}
 use Rattle.result.specs.Result.{atcText, marginText, resultText, refusalText}
 use Rattle.result.specs.Records.{lineMost, atcLine, leftField, marginLine, roundsLine, atcAt, marginAt, atcLines, marginLines, recordsText}
 

@@ -12,7 +12,8 @@ use Rattle.text.specs.Written.{decimal, decimalℤ, lineText, linesText}
 use Rattle.table.specs.Table.{Table, judgeLent}
 use Rattle.reading.specs.Reading.{readText}
 use Rattle.writing.specs.Writing.{TextLeft, textLeft}
-use Rattle.extraction.specs.Extraction.{Result, kept, atcOf, leftOf, outcomeOf}
+use Rattle.start.specs.Start.{kept}
+use Rattle.extraction.specs.Extraction.{Result, atcOf, leftOf, outcomeOf}
 
 -- A, border index, ATC in MW
 unfoldable pub atcText : Result → (b : ℕ) → List ℕ

@@ -1,34 +1,26 @@
--- What a caller of `extract_rounds` reads off its promise, `workOf`: the rounds, each margin and each border's exchange are those of `extract`.
+-- What a caller of `extract_rounds` reads off its promise, `workOf`: the rounds, the margins and the borders' exchanges are those of `extract`.
 -- Assumes nothing.
-use mathlib.Core.Path.{_≡_, refl}
+use mathlib.Core.Path.{_≡_, ap}
 use mathlib.Core.List.{List}
-use Prim.Native.Nat.{ℕ, _≤_, _<_}
-use native.Mathlib.Omega.{arith}
-use lib.ListN.{length, List·getD-append}
-use lib.Seq.{length-take-le}
-use Rattle.numbers.specs.Below.{at}
+use Prim.Native.Nat.{ℕ, _≤_}
+use lib.ListN.{length, take}
+use lib.Seq.{length-take-le, take-at}
 use Rattle.numbers.proofs.BelowLaws.{table-long}
-use Rattle.rounds.specs.Rounds.{Grid, State, raises, risen, apply, next, Rounds, done, more, extract}
+use Rattle.rounds.specs.Rounds.{Grid, State, raises, risen, apply, next, Rounds, done, more, Outcome, extract}
 use Rattle.rounds.specs.Work.{stateFrom, workOf}
 use Rattle.rounds.proofs.Rounds.{extracts}
 
 -- there is an exchange for each border to the end
-rounds-long : {g : Grid} {s t : State} {k : ℕ} → Rounds g s k t → length (s .x) ≡ g .borders → length (t .x) ≡ g .borders
+pub rounds-long : {g : Grid} {s t : State} {k : ℕ} → Rounds g s k t → length (s .x) ≡ g .borders → length (t .x) ≡ g .borders
 unfolding next apply
 rounds-long (done e) l = l
 rounds-long {g} (more {s = s} h w) l = rounds-long w (table-long (g .borders) (risen (raises g (s .margins)) (s .x)))
 
-module _ (g : Grid) (m x : List ℕ) where
-  pub work-rounds : workOf g m x .answer .rounds ≡ extract g (stateFrom g m x) .rounds
-  unfolding workOf
-  work-rounds = refl
-
-  pub work-margins : workOf g m x .margins ≡ extract g (stateFrom g m x) .state .margins
-  unfolding workOf
-  work-margins = refl
-
-  pub work-exchange : g .borders ≤ length x → (b : ℕ) → b < g .borders → at (workOf g m x .answer .x) b ≡ at (extract g (stateFrom g m x) .state .x) b
-  unfolding workOf
-  work-exchange l b h =
-      let n = rounds-long (extracts g (stateFrom g m x)) (length-take-le (g .borders) x l) in
-      List·getD-append (extract g (stateFrom g m x) .state .x) _ 0 b (omega arith)
+-- the rounds, the margins and an exchange for each border
+pub work-ended : (g : Grid) (m x : List ℕ) → g .borders ≤ length x
+    → _≡_ {A = Outcome} (record { rounds = workOf g m x .answer .rounds; state = record { margins = workOf g m x .margins; x = take (g .borders) (workOf g m x .answer .x) } }) (extract g (stateFrom g m x))
+unfolding workOf
+work-ended g m x l =
+    let o = extract g (stateFrom g m x) in
+    let long = rounds-long (extracts g (stateFrom g m x)) (length-take-le (g .borders) x l) in
+    ap {B = Outcome} (λ (xs : List ℕ). record { rounds = o .rounds; state = record { margins = o .state .margins; x = xs } }) (take-at (o .state .x) _ (g .borders) long)

@@ -1,0 +1,29 @@
+-- No second answer, and no second content of a lent buffer, satisfies the contract of `extract`.
+-- The theorem is about the contract itself, as the check reads it from the source (`reads.Post`), and not about a copy.
+-- Assumes nothing.
+use mathlib.Core.Path.{_≡_, sym, ap, _∙_}
+use mathlib.Core.List.{List}
+use lib.IntN.{ℤ}
+use contract.Lifetimes.{Lfts}
+use denote.Ref.{now}
+use denote.Triple.Clauses.{AtExit}
+use borrow.Fn.World.{ArgsD, ResD}
+use borrow.Fn.Kinds.{endedOf}
+use Rattle.kinds.specs.declared.Extracted.{Extracted}
+use Rattle.kinds.specs.Answers.{saidExtracted}
+use Rattle.kinds.proofs.AnswerLaws.{saidExtracted-injective}
+use Rattle.extraction.specs.Extraction.{ExtractLeft, leaves}
+use Rattle.extraction.proofs.extract.{signature}
+use Rattle.extraction.proofs.extract.Kinds as kinds
+use Rattle.extraction.proofs.extract.Reads as reads
+
+-- whatever a call may leave
+one : (may : ExtractLeft) (r r′ : Extracted) (atcs atcs′ lefts lefts′ : List (List ℤ)) → leaves (saidExtracted r) atcs lefts ≡ may → leaves (saidExtracted r′) atcs′ lefts′ ≡ may
+    → (r ≡ r′) × ((atcs ≡ atcs′) × (lefts ≡ lefts′))
+one may r r′ atcs atcs′ lefts lefts′ p q =
+    let e = p ∙ sym q in
+    (saidExtracted-injective r r′ (ap (λ (l : ExtractLeft). l .answer) e), (ap (λ (l : ExtractLeft). l .atcs) e, ap (λ (l : ExtractLeft). l .lefts) e))
+
+pub extract-once : (κs : Lfts 6) (x : ArgsD signature κs) (r r′ : ResD signature κs) (s s′ : AtExit (endedOf 6 kinds.ps kinds.r) κs) → reads.Post κs x r s → reads.Post κs x r′ s′
+    → (r ≡ r′) × ((now (s .1 .1 .1 .1 .1 .0) ≡ now (s′ .1 .1 .1 .1 .1 .0)) × (now (s .1 .1 .1 .1 .1 .1 .0) ≡ now (s′ .1 .1 .1 .1 .1 .1 .0)))
+extract-once κs x r r′ s s′ p q = one _ r r′ _ _ _ _ p q

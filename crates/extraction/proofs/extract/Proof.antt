@@ -1,0 +1,75 @@
+-- `extraction::extract` meets its contract: the judging that every call begins with, and then the front parts, a judged table. Assumes nothing.
+use mathlib.Core.Path.{sym, _∙_}
+use native.Mathlib.Omega.{arith}
+use borrow.Author.Needs.{needs}
+use Rattle.table.specs.Table.{lent, front}
+use Rattle.table.specs.Good.{Good}
+use Rattle.table.proofs.RoomLaws.{factors-most}
+use Rattle.extraction.proofs.ExtractLaws.{lent-refused, front-good, lent-judged}
+use Rattle.extraction.proofs.extract.Statement.{statement}
+use Rattle.extraction.proofs.extract.Tie as tie
+
+judge-requires : tie.Need-judge-requires
+judge-requires c κs = search needs
+
+enum-known-w : tie.Need-enum-known-w
+enum-known-w c = search needs
+
+returns : tie.Need-returns
+returns c = lent-refused _ _ (c .before .before .before .judge .ensures) _ _ _ (c .before .w .given .1)
+
+enum-told : tie.Need-enum-told
+enum-told c = search needs
+
+-- past the judging: the front parts are a judged table
+good : (c : tie.After-enum-told)
+    → let a = c .before .before .before .args in
+    Good (front (lent (a .h) (a .z .now) (a .b .now) (a .c .now) (a .f .now)))
+good c =
+    let a = c .before .before .before .args in
+    front-good (lent (a .h) (a .z .now) (a .b .now) (a .c .now) (a .f .now)) _ (c .before .before .judge .ensures) (c .enum-told .given .1)
+
+slice-aggregate-extract-judged : tie.Need-slice-aggregate-extract-judged
+slice-aggregate-extract-judged c = sym (good (c .before) .nets-long)
+
+slice-aggregate-extract-judged-2 : tie.Need-slice-aggregate-extract-judged-2
+slice-aggregate-extract-judged-2 c = sym (good (c .before .before) .borders-long)
+
+slice-aggregate-extract-judged-3 : tie.Need-slice-aggregate-extract-judged-3
+slice-aggregate-extract-judged-3 c = sym (good (c .before .before .before) .rows-long)
+
+mul-extract-judged : tie.Need-mul-extract-judged
+mul-extract-judged c = omega (arith, factors-most _ (good (c .before .before .before) .header))
+
+slice-aggregate-extract-judged-4 : tie.Need-slice-aggregate-extract-judged-4
+slice-aggregate-extract-judged-4 c = sym (good (c .before .before .before .before) .factors-long)
+
+extract-judged-requires : tie.Need-extract-judged-requires
+extract-judged-requires c κs = good (c .before .before .before .before .before .before)
+
+same-length : tie.Need-same-length
+same-length c = search needs
+
+same-length-2 : tie.Need-same-length-2
+same-length-2 c = search needs
+
+returns-2 : tie.Need-returns-2
+returns-2 c = c .before .before .extract-judged .ensures ∙ lent-judged _ _ (c .before .before .before .before .before .before .before .before .before .before .before .judge .ensures) (c .before .before .before .before .before .before .before .before .before .enum-told .given .1) _ _
+
+pub extract-spec : {M : Type 1} → statement M
+extract-spec =
+    tie.close
+    (tie.spec
+    judge-requires
+    enum-known-w
+    returns
+    enum-told
+    slice-aggregate-extract-judged
+    slice-aggregate-extract-judged-2
+    slice-aggregate-extract-judged-3
+    mul-extract-judged
+    slice-aggregate-extract-judged-4
+    extract-judged-requires
+    same-length
+    same-length-2
+    returns-2)

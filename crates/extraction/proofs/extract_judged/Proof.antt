@@ -1,0 +1,80 @@
+-- `extraction::extract_judged` meets its contract, which is that of `extract_in`: each part of the room is as long as the header says. Assumes nothing.
+use mathlib.Core.Path.{sym}
+use native.Mathlib.Nat.{mul-le-mul}
+use native.Mathlib.Omega.{arith}
+use borrow.Author.Needs.{needs}
+use lib.Seq.{length-take-le}
+use Rattle.kinds.proofs.KindLaws.{header-in}
+use Rattle.extraction.proofs.extract_judged.Statement.{statement}
+use Rattle.extraction.proofs.extract_judged.Tie as tie
+
+mul-cells : tie.Need-mul-cells
+mul-cells c =
+    let e = header-in _ (c .before .pre .header) in
+    omega (arith, mul-le-mul (e .rows-most) (e .borders-most))
+
+array-borrow-prefix-rams : tie.Need-array-borrow-prefix-rams
+array-borrow-prefix-rams c = header-in _ (c .before .pre .header) .rows-most
+
+slice-aggregate-extract-in : tie.Need-slice-aggregate-extract-in
+slice-aggregate-extract-in c = sym (length-take-le _ _ (array-borrow-prefix-rams (c .before)))
+
+array-borrow-prefix-states : tie.Need-array-borrow-prefix-states
+array-borrow-prefix-states c = header-in _ (c .before .before .pre .header) .rows-most
+
+slice-aggregate-extract-in-2 : tie.Need-slice-aggregate-extract-in-2
+slice-aggregate-extract-in-2 c = sym (length-take-le _ _ (array-borrow-prefix-states (c .before)))
+
+array-borrow-prefix-p : tie.Need-array-borrow-prefix-p
+array-borrow-prefix-p c =
+    let e = header-in _ (c .before .before .before .pre .header) in
+    mul-le-mul (e .rows-most) (e .borders-most)
+
+slice-aggregate-extract-in-3 : tie.Need-slice-aggregate-extract-in-3
+slice-aggregate-extract-in-3 c = sym (length-take-le _ _ (array-borrow-prefix-p (c .before)))
+
+array-borrow-prefix-margins : tie.Need-array-borrow-prefix-margins
+array-borrow-prefix-margins c = header-in _ (c .before .before .before .before .pre .header) .rows-most
+
+slice-aggregate-extract-in-4 : tie.Need-slice-aggregate-extract-in-4
+slice-aggregate-extract-in-4 c = sym (length-take-le _ _ (array-borrow-prefix-margins (c .before)))
+
+extract-in-requires : tie.Need-extract-in-requires
+extract-in-requires c κs =
+    let at-margins = c .before .before in
+    let at-p = at-margins .before in
+    let at-states = at-p .before in
+    let at-rams = at-states .before in (
+      c .before .before .before .before .before .before .before .pre,
+      (
+        sym (slice-aggregate-extract-in at-rams),
+        (sym (slice-aggregate-extract-in-2 at-states), (sym (slice-aggregate-extract-in-3 at-p), sym (slice-aggregate-extract-in-4 at-margins))),
+      ),
+    )
+
+same-length : tie.Need-same-length
+same-length c = search needs
+
+same-length-2 : tie.Need-same-length-2
+same-length-2 c = search needs
+
+returns : tie.Need-returns
+returns c = c .before .before .before .before .before .before .extract-in .ensures
+
+pub extract-judged-spec : {M : Type 1} → statement M
+extract-judged-spec =
+    tie.close
+    (tie.spec
+    mul-cells
+    array-borrow-prefix-rams
+    slice-aggregate-extract-in
+    array-borrow-prefix-states
+    slice-aggregate-extract-in-2
+    array-borrow-prefix-p
+    slice-aggregate-extract-in-3
+    array-borrow-prefix-margins
+    slice-aggregate-extract-in-4
+    extract-in-requires
+    same-length
+    same-length-2
+    returns)

@@ -1,0 +1,67 @@
+-- `start::fill_ltas` meets its contract. The invariant: the first k exchanges are at LTA. Assumes nothing.
+use mathlib.Core.List.{[]}
+use Prim.Native.Nat.{_-_}
+use native.Mathlib.Omega.{arith}
+use lib.ListN.{length, getD}
+use Rattle.numbers.proofs.ListLaws.{Filled, filled-none, filled-more, filled-all}
+use Rattle.kinds.specs.Ranges.{borderOf}
+use Rattle.margin.specs.Margin.{ltaKw}
+use Rattle.start.proofs.fill_ltas.Statement.{statement}
+use Rattle.start.proofs.fill_ltas.Tie as tie
+
+abbrev Inv-loop : tie.InvT-loop
+Inv-loop zones b x₀ k₀ k-end x k = Filled (λ k. ltaKw (borderOf (getD b k []))) (length b) x₀ x k
+
+abbrev μ-loop : tie.MeasureT-loop
+μ-loop zones b x₀ k₀ k-end x k = length b - k
+
+loop-holds : tie.Need-loop-holds Inv-loop μ-loop
+loop-holds c = filled-none _ _ _
+
+mul-lta-of : tie.Need-mul-lta-of Inv-loop μ-loop
+mul-lta-of c = omega arith
+
+shared-slice-copy-out-lta-of : tie.Need-shared-slice-copy-out-lta-of Inv-loop μ-loop
+shared-slice-copy-out-lta-of c = omega arith
+
+lta-of-requires : tie.Need-lta-of-requires Inv-loop μ-loop
+lta-of-requires c κs = c .before .before .before .before .pre .0 .each _ (omega arith)
+
+mul-x : tie.Need-mul-x Inv-loop μ-loop
+mul-x c = omega (arith, c .before .before .before .loop .inv .as-long)
+
+slice-write-x : tie.Need-slice-write-x Inv-loop μ-loop
+slice-write-x c = omega (arith, c .before .before .before .loop .inv .as-long)
+
+add-k : tie.Need-add-k Inv-loop μ-loop
+add-k c = omega arith
+
+loop-less : tie.Need-loop-less Inv-loop μ-loop
+loop-less c = omega arith
+
+loop-again : tie.Need-loop-again Inv-loop μ-loop
+loop-again c = filled-more (c .before .before .before .loop .inv) _ (omega arith) (omega (arith, c .before .before .before .before .before .pre .1)) (c .lta-of .ensures)
+
+same-length : tie.Need-same-length Inv-loop μ-loop
+same-length c = c .before .loop .inv .as-long
+
+returns : tie.Need-returns Inv-loop μ-loop
+returns c = filled-all (c .before .loop .inv) (omega arith) (c .before .before .before .pre .1)
+
+pub fill-ltas-spec : {M : Type 1} → statement M
+fill-ltas-spec =
+    tie.close
+    (tie.spec
+    Inv-loop
+    μ-loop
+    loop-holds
+    mul-lta-of
+    shared-slice-copy-out-lta-of
+    lta-of-requires
+    mul-x
+    slice-write-x
+    add-k
+    loop-less
+    loop-again
+    same-length
+    returns)

@@ -1,0 +1,28 @@
+-- `start::fill_rows` meets its contract. Assumes nothing.
+use mathlib.Core.Path.{ap, _∙_}
+use borrow.Author.Needs.{needs}
+use lib.ListN.{length}
+use Rattle.numbers.proofs.BelowLaws.{table-long}
+use Rattle.margin.proofs.JudgedLaws.{good-factors}
+use Rattle.start.proofs.StartLaws.{rows-are}
+use Rattle.start.proofs.fill_rows.Statement.{statement}
+use Rattle.start.proofs.fill_rows.Tie as tie
+
+fill-rams-requires : tie.Need-fill-rams-requires
+fill-rams-requires c κs = search needs
+
+fill-states-requires : tie.Need-fill-states-requires
+fill-states-requires c κs = (good-factors (c .before .before .before .before .before .before .pre .0), (ap length (c .before .before .before .fill-rams .ensures) ∙ table-long _ _, c .before .before .before .before .before .before .pre .1 .1))
+
+same-length : tie.Need-same-length
+same-length c = search needs
+
+same-length-2 : tie.Need-same-length-2
+same-length-2 c = search needs
+
+returns : tie.Need-returns
+returns c = rows-are _ _ _ (c .before .before .before .before .before .before .fill-rams .ensures) (c .before .before .fill-states .ensures (c .before .before .before .before .before .before .before .before .before .args .z .now) (c .before .before .before .before .before .before .before .before .before .args .b .now) (c .before .before .before .before .before .before .before .before .before .args .c .now))
+
+pub fill-rows-spec : {M : Type 1} → statement M
+fill-rows-spec =
+    tie.close (tie.spec fill-rams-requires fill-states-requires same-length same-length-2 returns)

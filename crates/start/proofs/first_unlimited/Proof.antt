@@ -1,0 +1,53 @@
+-- `start::first_unlimited` meets its contract. The invariant: some row limits each border before b. A turn is `looked-more`.
+-- Assumes nothing.
+use mathlib.Core.Path.{ap, sym, _∙_}
+use mathlib.Core.Bool.{not}
+use Prim.Native.Nat.{_-_}
+use native.Mathlib.Omega.{arith}
+use lib.Dec.{ltb}
+use Rattle.numbers.specs.Below.{someBelow}
+use Rattle.numbers.proofs.BelowLaws.{Looked, looked-none, looked-all, looked-here, looked-more}
+use Rattle.rounds.specs.Work.{flat}
+use Rattle.start.proofs.first_unlimited.Statement.{statement}
+use Rattle.start.proofs.first_unlimited.Tie as tie
+
+abbrev Inv-loop : tie.InvT-loop
+Inv-loop rows borders p b₀ b = Looked borders (λ b. not (someBelow rows (λ i. ltb 0 (flat rows borders p .p i b)))) b
+
+abbrev μ-loop : tie.MeasureT-loop
+μ-loop rows borders p b₀ b = borders - b
+
+loop-holds : tie.Need-loop-holds Inv-loop μ-loop
+loop-holds c = looked-none _ _
+
+is-limited-requires : tie.Need-is-limited-requires Inv-loop μ-loop
+is-limited-requires c κs = (c .before .before .before .pre, omega arith)
+
+returns : tie.Need-returns Inv-loop μ-loop
+returns c = looked-here _ _ _ (c .before .before .before .loop .inv) (omega arith) (sym (ap not (c .before .is-limited .ensures)) ∙ c .if1 .taken)
+
+add-b : tie.Need-add-b Inv-loop μ-loop
+add-b c = omega arith
+
+loop-less : tie.Need-loop-less Inv-loop μ-loop
+loop-less c = omega arith
+
+loop-again : tie.Need-loop-again Inv-loop μ-loop
+loop-again c = looked-more _ _ _ (c .before .before .before .loop .inv) (omega arith) (sym (ap not (c .before .is-limited .ensures)) ∙ c .if1 .left)
+
+returns-2 : tie.Need-returns-2 Inv-loop μ-loop
+returns-2 c = looked-all _ _ _ (c .before .loop .inv) (omega arith)
+
+pub first-unlimited-spec : {M : Type 1} → statement M
+first-unlimited-spec =
+    tie.close
+    (tie.spec
+    Inv-loop
+    μ-loop
+    loop-holds
+    is-limited-requires
+    returns
+    add-b
+    loop-less
+    loop-again
+    returns-2)

@@ -1,0 +1,58 @@
+-- `start::some_kept` meets its contract. The invariant: no row before i is of state 0. Assumes nothing.
+use mathlib.Core.Path.{ap}
+use Prim.Native.Nat.{_-_}
+use native.Mathlib.Omega.{arith}
+use borrow.Author.Tests.{eq-eqb, ne-eqb}
+use lib.Dec.{eqb}
+use lib.ListN.{length}
+use Rattle.numbers.specs.Below.{at, given}
+use Rattle.numbers.proofs.BelowLaws.{Looked, looked-none, looked-all, looked-here, looked-more}
+use Rattle.start.proofs.some_kept.Statement.{statement}
+use Rattle.start.proofs.some_kept.Tie as tie
+
+abbrev Inv-loop : tie.InvT-loop
+Inv-loop states i₀ i-end i = Looked (length states) (λ i. eqb (at states i) 0) i
+
+abbrev μ-loop : tie.MeasureT-loop
+μ-loop states i₀ i-end i = length states - i
+
+loop-holds : tie.Need-loop-holds Inv-loop μ-loop
+loop-holds c = looked-none _ _
+
+mul-if1 : tie.Need-mul-if1 Inv-loop μ-loop
+mul-if1 c = omega arith
+
+shared-slice-read-if1 : tie.Need-shared-slice-read-if1 Inv-loop μ-loop
+shared-slice-read-if1 c = omega arith
+
+returns : tie.Need-returns Inv-loop μ-loop
+unfolding given
+returns c = ap given (looked-here _ _ _ (c .before .before .before .loop .inv) (omega arith) (eq-eqb _ _ (c .if1 .taken)))
+
+add-i : tie.Need-add-i Inv-loop μ-loop
+add-i c = omega arith
+
+loop-less : tie.Need-loop-less Inv-loop μ-loop
+loop-less c = omega arith
+
+loop-again : tie.Need-loop-again Inv-loop μ-loop
+loop-again c = looked-more _ _ _ (c .before .before .before .loop .inv) (omega arith) (ne-eqb _ _ (c .if1 .left))
+
+returns-2 : tie.Need-returns-2 Inv-loop μ-loop
+unfolding given
+returns-2 c = ap given (looked-all _ _ _ (c .before .loop .inv) (omega arith))
+
+pub some-kept-spec : {M : Type 1} → statement M
+some-kept-spec =
+    tie.close
+    (tie.spec
+    Inv-loop
+    μ-loop
+    loop-holds
+    mul-if1
+    shared-slice-read-if1
+    returns
+    add-i
+    loop-less
+    loop-again
+    returns-2)
