@@ -1,0 +1,6 @@
+pub mod OutcomeLaws
+pub mod ReadLaws
+pub mod PlaceLaws
+pub mod BoundedLaws
+pub mod Within
+pub mod Unique

@@ -1,0 +1,26 @@
+-- No second answer, and no second content of the lent bytes, satisfies the contract of `result_text` or of `answer`.
+-- The theorems are about the contracts as the check reads them from the source (`reads.Post`), and not about copies.
+-- Assumes nothing.
+use mathlib.Core.Path.{_≡_}
+use contract.Lifetimes.{Lfts}
+use denote.Ref.{now}
+use denote.Triple.Clauses.{AtExit}
+use borrow.Fn.World.{ArgsD, ResD}
+use borrow.Fn.Kinds.{endedOf}
+use Rattle.writing.proofs.Unique.{said-once}
+use Rattle.answer.proofs.result_text as result-text
+use Rattle.answer.proofs.result_text.Kinds as result-text-kinds
+use Rattle.answer.proofs.result_text.Reads as result-text-reads
+use Rattle.answer.proofs.answer as answer
+use Rattle.answer.proofs.answer.Kinds as answer-kinds
+use Rattle.answer.proofs.answer.Reads as answer-reads
+
+-- `out` is the call's sixth argument
+pub result-text-once : (κs : Lfts 5) (x : ArgsD result-text.signature κs) (r r′ : ResD result-text.signature κs) (s s′ : AtExit (endedOf 5 result-text-kinds.ps result-text-kinds.r) κs)
+    → result-text-reads.Post κs x r s → result-text-reads.Post κs x r′ s′ → (r ≡ r′) × (now (s .1 .1 .1 .1 .1 .0) ≡ now (s′ .1 .1 .1 .1 .1 .0))
+result-text-once κs x r r′ s s′ p q = said-once _ _ _ _ _ p q
+
+-- `out` is the call's second argument
+pub answer-once : (κs : Lfts 2) (x : ArgsD answer.signature κs) (r r′ : ResD answer.signature κs) (s s′ : AtExit (endedOf 2 answer-kinds.ps answer-kinds.r) κs)
+    → answer-reads.Post κs x r s → answer-reads.Post κs x r′ s′ → (r ≡ r′) × (now (s .1 .0) ≡ now (s′ .1 .0))
+answer-once κs x r r′ s s′ p q = said-once _ _ _ _ _ p q

@@ -1,0 +1,35 @@
+-- The outcome of lent tables, what it is printed as (01, "Result text"), and what making its text leaves. Promises of the inner functions are stated through these.
+-- Assumes nothing.
+use mathlib.Core.List.{List}
+use Prim.Native.Nat.{ℕ}
+use Rattle.kinds.specs.Answers.{saidWritten}
+use Rattle.kinds.specs.Refusals.{Judged, passed, refused, told, then, either}
+use Rattle.table.specs.Table.{Table, judgeLent}
+use Rattle.extraction.specs.Extraction.{Result, outcomeOf}
+use Rattle.writing.specs.Writing.{TextLeft, textLeft}
+use Rattle.result.specs.Result.{resultText, refusalText}
+use Rattle.answer.specs.declared.made.Made.{Made}
+use Rattle.answer.specs.declared.made.Made.the-variants.{Text, Refused}
+
+unfoldable pub outcomeLent : (lent : Table) → Judged Result
+outcomeLent lent = then (judgeLent lent) outcomeOf
+
+-- the result text, or the E line
+unfoldable pub printed : Judged Result → List ℕ
+printed outcome = either outcome resultText refusalText
+
+-- what making the text of an outcome leaves: its refusal, or the answer that its text gives; and the lent bytes
+pub record MadeLeft : Type 0 where
+  pub answer : Judged (Judged ℕ)
+  pub out : List ℕ
+
+abbrev pub madeText : TextLeft → MadeLeft
+madeText left = record { answer = passed (left .answer); out = left .out }
+
+unfoldable pub madeLeft : Judged Result → (out : List ℕ) → MadeLeft
+madeLeft outcome out = either outcome (λ r. madeText (textLeft (passed (resultText r)) out)) (λ w. record { answer = refused w; out = out })
+
+-- .. as the code tells it
+abbrev pub saidMade : Made → (out : List ℕ) → MadeLeft
+saidMade (Text w) out = record { answer = passed (saidWritten w); out = out }
+saidMade (Refused w) out = record { answer = refused (told w); out = out }

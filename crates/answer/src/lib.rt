@@ -1,0 +1,97 @@
+// The open calls that answer in text (01, "Result text"): `result_text` of lent tables, and `answer` of a table's text.
+// They differ in what becomes of a refusal: `result_text` tells it, and `answer` writes it as the E line.
+mod made;
+
+ghost use mathlib.Core.Path.{_≡_};
+ghost use Prim.Native.Nat.{_*_, _≤_};
+ghost use lib.ListN.{length};
+ghost use Rattle.kinds.specs.Limits.{zonesMost, bordersMost, rowsMost};
+ghost use Rattle.kinds.specs.Refusals.{passed, told};
+ghost use Rattle.table.specs.Table.{lent};
+ghost use Rattle.writing.specs.Writing.{textLeft, textSaid};
+ghost use Rattle.result.specs.Result.{refusalText, resultTextLeft, answerLeft};
+ghost use Rattle.answer.specs.Made.{outcomeLent, printed};
+use crate::made::Made;
+use kinds::Border;
+use kinds::BorderRecord;
+use kinds::Header;
+use kinds::Read;
+use kinds::Refusal;
+use kinds::Row;
+use kinds::RowRecord;
+use kinds::Written;
+
+// The result text of lent tables. Any input has an answer: there is no `requires`.
+pub fn result_text(
+    h: Header,
+    z: &[i64],
+    b: &[BorderRecord],
+    c: &[RowRecord],
+    f: &[i64],
+    out: &mut [u8],
+) -> Written
+    ensures { λ r. ⌜ textSaid r (now (out .exit)) ≡ resultTextLeft (lent h (now (z .entry)) (now (b .entry)) (now (c .entry)) (now (f .entry))) (now (out .entry)) ⌝ }
+{
+    match made::make(h, z, b, c, f, out) {
+        Made::Text(written) => written,
+        Made::Refused(w) => Written::Refused(w),
+    }
+}
+
+// The answer to a table's text: the result text, or the E line. Any input has an answer: there is no `requires`.
+pub fn answer(text: &[u8], out: &mut [u8]) -> Written
+    ensures { λ r. ⌜ textSaid r (now (out .exit)) ≡ answerLeft (now (text .entry)) (now (out .entry)) ⌝ }
+{
+    let mut z: [i64; Header::ZONES_MOST] = [0; Header::ZONES_MOST];
+    let mut b: [BorderRecord; Header::BORDERS_MOST] = [[0; Border::ITEMS]; Header::BORDERS_MOST];
+    let mut c: [RowRecord; Header::ROWS_MOST] = [[0; Row::ITEMS]; Header::ROWS_MOST];
+    let mut f: [i64; Header::ROWS_MOST * Header::ZONES_MOST] = [0; Header::ROWS_MOST
+        * Header::ZONES_MOST];
+    answer_in(text, &mut z, &mut b, &mut c, &mut f, out)
+}
+
+// The tables are made in `answer`, and not here, where goals would spell them out.
+fn answer_in(
+    text: &[u8],
+    z: &mut [i64],
+    b: &mut [BorderRecord],
+    c: &mut [RowRecord],
+    f: &mut [i64],
+    out: &mut [u8],
+) -> Written
+    requires { ⌜ (zonesMost ≤ length (now z)) × (bordersMost ≤ length (now b)) × (rowsMost ≤ length (now c)) × (rowsMost * zonesMost ≤ length (now f)) ⌝ }
+    ensures { λ r. ⌜ textSaid r (now (out .exit)) ≡ answerLeft (now (text .entry)) (now (out .entry)) ⌝ }
+{
+    match reading::read(text, z, b, c, f) {
+        Read::Table(h) => answer_lent(h, z, b, c, f, out),
+        Read::Refused(w) => refusal_out(w, out),
+    }
+}
+
+// The answer to lent tables.
+fn answer_lent(
+    h: Header,
+    z: &[i64],
+    b: &[BorderRecord],
+    c: &[RowRecord],
+    f: &[i64],
+    out: &mut [u8],
+) -> Written
+    ensures { λ r. ⌜ textSaid r (now (out .exit)) ≡ textLeft (passed (printed (outcomeLent (lent h (now (z .entry)) (now (b .entry)) (now (c .entry)) (now (f .entry)))))) (now (out .entry)) ⌝ }
+{
+    match made::make(h, z, b, c, f, out) {
+        Made::Text(written) => written,
+        Made::Refused(w) => refusal_out(w, out),
+    }
+}
+
+// The E line: 8, and only then is it written.
+fn refusal_out(w: Refusal, out: &mut [u8]) -> Written
+    ensures { λ r. ⌜ textSaid r (now (out .exit)) ≡ textLeft (passed (refusalText (told w))) (now (out .entry)) ⌝ }
+{
+    let needed = result::refusal::refusal_length(w);
+    if out.len() < needed {
+        return Written::Refused(Refusal::Short(needed));
+    }
+    Written::Bytes(result::refusal::put_refusal(w, out))
+}

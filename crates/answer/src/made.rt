@@ -1,0 +1,91 @@
+// The result text of lent tables, as both open calls make it.
+ghost use mathlib.Core.Path.{_≡_};
+ghost use Prim.Native.Nat.{_≤_};
+ghost use lib.ListN.{length, take};
+ghost use Rattle.kinds.specs.Limits.{bordersMost, rowsMost};
+ghost use Rattle.kinds.specs.Refusals.{passed};
+ghost use Rattle.table.specs.Table.{lent};
+ghost use Rattle.writing.specs.Writing.{textLeft, textSaid};
+ghost use Rattle.result.specs.Records.{recordsText};
+ghost use Rattle.answer.specs.Made.{outcomeLent, saidMade, madeLeft};
+use extraction::AtcRecord;
+use extraction::BorderResult;
+use extraction::LeftRecord;
+use extraction::RowResult;
+use kinds::BorderRecord;
+use kinds::Extracted;
+use kinds::Header;
+use kinds::Refusal;
+use kinds::RowRecord;
+use kinds::Written;
+
+// The text of a result, as it was written or had no room; or why there is no result.
+pub enum Made {
+    Text(Written),
+    Refused(Refusal),
+}
+
+// A refusal, of the tables or for want of room, writes nothing.
+pub fn make(
+    h: Header,
+    z: &[i64],
+    b: &[BorderRecord],
+    c: &[RowRecord],
+    f: &[i64],
+    out: &mut [u8],
+) -> Made
+    ensures { λ r. ⌜ saidMade r (now (out .exit)) ≡ madeLeft (outcomeLent (lent h (now (z .entry)) (now (b .entry)) (now (c .entry)) (now (f .entry)))) (now (out .entry)) ⌝ }
+{
+    let mut atc: [AtcRecord; Header::BORDERS_MOST] =
+        [[0; BorderResult::ITEMS]; Header::BORDERS_MOST];
+    let mut left: [LeftRecord; Header::ROWS_MOST] = [[0; RowResult::ITEMS]; Header::ROWS_MOST];
+    make_in(h, z, b, c, f, &mut atc, &mut left, out)
+}
+
+// The records are made in `make`, and not here, where goals would spell them out.
+fn make_in(
+    h: Header,
+    z: &[i64],
+    b: &[BorderRecord],
+    c: &[RowRecord],
+    f: &[i64],
+    atc: &mut [AtcRecord],
+    left: &mut [LeftRecord],
+    out: &mut [u8],
+) -> Made
+    requires { ⌜ (bordersMost ≤ length (now atc)) × (rowsMost ≤ length (now left)) ⌝ }
+    ensures { λ r. ⌜ saidMade r (now (out .exit)) ≡ madeLeft (outcomeLent (lent h (now (z .entry)) (now (b .entry)) (now (c .entry)) (now (f .entry)))) (now (out .entry)) ⌝ }
+{
+    match extraction::extract(h, z, b, c, f, atc, left) {
+        Extracted::Rounds(rounds) => Made::Text(result_out(h, atc, left, rounds, out)),
+        Extracted::Refused(w) => Made::Refused(w),
+    }
+}
+
+// The text of as many records as the header says.
+fn result_out(
+    h: Header,
+    atc: &[AtcRecord],
+    left: &[LeftRecord],
+    rounds: u64,
+    out: &mut [u8],
+) -> Written
+    requires { ⌜ (h .borders ≤ bordersMost) × (h .rows ≤ rowsMost) × (bordersMost ≤ length (now atc)) × (rowsMost ≤ length (now left)) ⌝ }
+    ensures { λ r. ⌜ textSaid r (now (out .exit)) ≡ textLeft (passed (recordsText (take (h .borders) (now (atc .entry))) (take (h .rows) (now (left .entry))) rounds)) (now (out .entry)) ⌝ }
+{
+    let borders = h.borders;
+    let rows = h.rows;
+    records_out(&atc[..borders], &left[..rows], rounds, out)
+}
+
+// The text of records: 8, and only then is it written.
+fn records_out(atc: &[AtcRecord], left: &[LeftRecord], rounds: u64, out: &mut [u8]) -> Written
+    requires { ⌜ (length (now atc) ≤ bordersMost) × (length (now left) ≤ rowsMost) ⌝ }
+    ensures { λ r. ⌜ textSaid r (now (out .exit)) ≡ textLeft (passed (recordsText (now (atc .entry)) (now (left .entry)) rounds)) (now (out .entry)) ⌝ }
+{
+    let needed = result::records::records_length(atc, left, rounds);
+    if out.len() < needed {
+        return Written::Refused(Refusal::Short(needed));
+    }
+    Written::Bytes(result::records::put_records(atc, left, rounds, out))
+}
