@@ -1,0 +1,18 @@
+-- `cabi::refusal_number` meets its contract: no number is above 8 (`number-le`). Assumes nothing.
+use native.Mathlib.Omega.{arith}
+use borrow.Author.Needs.{needs}
+use Rattle.cabi.proofs.NumberLaws.{number-le}
+use Rattle.cabi.proofs.refusal_number.Statement.{statement}
+use Rattle.cabi.proofs.refusal_number.Tie as tie
+
+refusal-number-requires : tie.Need-refusal-number-requires
+refusal-number-requires c κs = search needs
+
+cast-result : tie.Need-cast-result
+cast-result c = omega (arith, c .refusal-number .ensures, number-le (c .before .args .w))
+
+returns : tie.Need-returns
+returns c = search needs
+
+pub refusal-number-spec : {M : Type 1} → statement M
+refusal-number-spec = tie.close (tie.spec refusal-number-requires cast-result returns)

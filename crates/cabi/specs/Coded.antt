@@ -1,0 +1,66 @@
+-- What the C interface answers: number and place of the refusal, 0 and 0 where there is none, and then the values (0 where refused).
+-- `readCoded`, `textCoded` and `extractCoded` are what contracts cite: a call's answer coded so, and each lent buffer as the call leaves it.
+-- Assumes nothing.
+use mathlib.Core.List.{List}
+use Prim.Native.Nat.{ℕ}
+use lib.IntN.{ℤ}
+use Rattle.kinds.specs.declared.Header.{Header}
+use Rattle.kinds.specs.Refusals.{Judged, passed, refused}
+use Rattle.reading.specs.Reading.{ReadLeft}
+use Rattle.writing.specs.Writing.{TextLeft}
+use Rattle.extraction.specs.Extraction.{ExtractLeft}
+use Rattle.cabi.specs.declared.KeravnothRead.{KeravnothRead}
+use Rattle.cabi.specs.declared.KeravnothWritten.{KeravnothWritten}
+use Rattle.cabi.specs.declared.KeravnothExtracted.{KeravnothExtracted}
+
+-- the header of the table that was read
+abbrev pub codedRead : Judged Header → KeravnothRead
+codedRead (passed h) = record { number = 0; place = 0; zones = h .zones; borders = h .borders; rows = h .rows }
+codedRead (refused w) = record { number = w .number; place = w .place; zones = 0; borders = 0; rows = 0 }
+
+-- the bytes of the text that was written
+abbrev pub codedWritten : Judged ℕ → KeravnothWritten
+codedWritten (passed n) = record { number = 0; place = 0; bytes = n }
+codedWritten (refused w) = record { number = w .number; place = w .place; bytes = 0 }
+
+-- the rounds
+abbrev pub codedExtracted : Judged ℕ → KeravnothExtracted
+codedExtracted (passed n) = record { number = 0; place = 0; rounds = n }
+codedExtracted (refused w) = record { number = w .number; place = w .place; rounds = 0 }
+
+-- what `keravnoth_read` leaves: its answer, and each lent table
+pub record ReadCoded : Type 0 where
+  pub answer : KeravnothRead
+  pub z : List ℤ
+  pub b : List (List ℤ)
+  pub c : List (List ℤ)
+  pub f : List ℤ
+
+abbrev pub readFound : (answer : KeravnothRead) → (z : List ℤ) → (b c : List (List ℤ)) → (f : List ℤ) → ReadCoded
+readFound answer z b c f = record { answer = answer; z = z; b = b; c = c; f = f }
+
+abbrev pub readCoded : ReadLeft → ReadCoded
+readCoded l = readFound (codedRead (l .answer)) (l .z) (l .b) (l .c) (l .f)
+
+-- what the calls that write text leave: the answer, and the lent bytes
+pub record TextCoded : Type 0 where
+  pub answer : KeravnothWritten
+  pub out : List ℕ
+
+abbrev pub textFound : (answer : KeravnothWritten) → (out : List ℕ) → TextCoded
+textFound answer out = record { answer = answer; out = out }
+
+abbrev pub textCoded : TextLeft → TextCoded
+textCoded l = textFound (codedWritten (l .answer)) (l .out)
+
+-- what `keravnoth_extract` leaves: its answer, and the lent results
+pub record ExtractCoded : Type 0 where
+  pub answer : KeravnothExtracted
+  pub atcs : List (List ℤ)
+  pub lefts : List (List ℤ)
+
+abbrev pub extractFound : (answer : KeravnothExtracted) → (atcs lefts : List (List ℤ)) → ExtractCoded
+extractFound answer atcs lefts = record { answer = answer; atcs = atcs; lefts = lefts }
+
+abbrev pub extractCoded : ExtractLeft → ExtractCoded
+extractCoded l = extractFound (codedExtracted (l .answer)) (l .atcs) (l .lefts)

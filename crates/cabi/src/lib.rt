@@ -1,0 +1,172 @@
+// The open calls for C and everything that speaks C: include/keravnoth.h. Each calls its namesake and codes the answer.
+// C hands a slice over as a pointer and the count of its items. Any input has an answer: there is no `requires`.
+ghost use mathlib.Core.Path.{_≡_};
+ghost use Rattle.kinds.specs.Refusals.{told};
+ghost use Rattle.kinds.specs.Answers.{saidRead, saidWritten, saidExtracted};
+ghost use Rattle.table.specs.Table.{lent};
+ghost use Rattle.reading.specs.Reading.{readLeft};
+ghost use Rattle.writing.specs.Writing.{writeLeft};
+ghost use Rattle.extraction.specs.Extraction.{extractLeft};
+ghost use Rattle.result.specs.Result.{resultTextLeft, answerLeft};
+ghost use Rattle.cabi.specs.Coded.{codedRead, codedWritten, codedExtracted, readFound, readCoded, textFound, textCoded, extractFound, extractCoded};
+use extraction::AtcRecord;
+use extraction::LeftRecord;
+use kinds::BorderRecord;
+use kinds::Extracted;
+use kinds::Header;
+use kinds::Read;
+use kinds::Refusal;
+use kinds::RowRecord;
+use kinds::Written;
+
+#[repr(C)]
+pub struct KeravnothRead {
+    pub number: u32,
+    pub place: usize,
+    pub zones: usize,
+    pub borders: usize,
+    pub rows: usize,
+}
+
+#[repr(C)]
+pub struct KeravnothWritten {
+    pub number: u32,
+    pub place: usize,
+    pub bytes: usize,
+}
+
+#[repr(C)]
+pub struct KeravnothExtracted {
+    pub number: u32,
+    pub place: usize,
+    pub rounds: u64,
+}
+
+// Reads a table's text into z, b, c and f.
+#[no_mangle]
+pub extern "C" fn keravnoth_read(
+    text: &[u8],
+    z: &mut [i64],
+    b: &mut [BorderRecord],
+    c: &mut [RowRecord],
+    f: &mut [i64],
+) -> KeravnothRead
+    ensures { λ r. ⌜ readFound r (now (z .exit)) (now (b .exit)) (now (c .exit)) (now (f .exit)) ≡ readCoded (readLeft (now (text .entry)) (now (z .entry)) (now (b .entry)) (now (c .entry)) (now (f .entry))) ⌝ }
+{
+    code_read(reading::read(text, z, b, c, f))
+}
+
+// Writes the tables as text.
+#[no_mangle]
+pub extern "C" fn keravnoth_write(
+    zones: usize,
+    borders: usize,
+    rows: usize,
+    z: &[i64],
+    b: &[BorderRecord],
+    c: &[RowRecord],
+    f: &[i64],
+    out: &mut [u8],
+) -> KeravnothWritten
+    ensures { λ r. ⌜ textFound r (now (out .exit)) ≡ textCoded (writeLeft (lent (record { zones = zones; borders = borders; rows = rows }) (now (z .entry)) (now (b .entry)) (now (c .entry)) (now (f .entry))) (now (out .entry))) ⌝ }
+{
+    let h = Header { zones: zones, borders: borders, rows: rows };
+    code_written(writing::write(h, z, b, c, f, out))
+}
+
+// Capacities and margins from the tables.
+#[no_mangle]
+pub extern "C" fn keravnoth_extract(
+    zones: usize,
+    borders: usize,
+    rows: usize,
+    z: &[i64],
+    b: &[BorderRecord],
+    c: &[RowRecord],
+    f: &[i64],
+    atc: &mut [AtcRecord],
+    left: &mut [LeftRecord],
+) -> KeravnothExtracted
+    ensures { λ r. ⌜ extractFound r (now (atc .exit)) (now (left .exit)) ≡ extractCoded (extractLeft (lent (record { zones = zones; borders = borders; rows = rows }) (now (z .entry)) (now (b .entry)) (now (c .entry)) (now (f .entry))) (now (atc .entry)) (now (left .entry))) ⌝ }
+{
+    let h = Header { zones: zones, borders: borders, rows: rows };
+    code_extracted(extraction::extract(h, z, b, c, f, atc, left))
+}
+
+// The same as text.
+#[no_mangle]
+pub extern "C" fn keravnoth_result_text(
+    zones: usize,
+    borders: usize,
+    rows: usize,
+    z: &[i64],
+    b: &[BorderRecord],
+    c: &[RowRecord],
+    f: &[i64],
+    out: &mut [u8],
+) -> KeravnothWritten
+    ensures { λ r. ⌜ textFound r (now (out .exit)) ≡ textCoded (resultTextLeft (lent (record { zones = zones; borders = borders; rows = rows }) (now (z .entry)) (now (b .entry)) (now (c .entry)) (now (f .entry))) (now (out .entry))) ⌝ }
+{
+    let h = Header { zones: zones, borders: borders, rows: rows };
+    code_written(answer::result_text(h, z, b, c, f, out))
+}
+
+// From text to text: the result text, or the E line.
+#[no_mangle]
+pub extern "C" fn keravnoth_answer(text: &[u8], out: &mut [u8]) -> KeravnothWritten
+    ensures { λ r. ⌜ textFound r (now (out .exit)) ≡ textCoded (answerLeft (now (text .entry)) (now (out .entry))) ⌝ }
+{
+    code_written(answer::answer(text, out))
+}
+
+fn code_read(said: Read) -> KeravnothRead
+    ensures { λ r. ⌜ r ≡ codedRead (saidRead said) ⌝ }
+{
+    match said {
+        Read::Table(h) => KeravnothRead {
+            number: 0,
+            place: 0,
+            zones: h.zones,
+            borders: h.borders,
+            rows: h.rows,
+        },
+        Read::Refused(w) => {
+            let number = refusal_number(w);
+            let place = result::refusal::refusal_place(w);
+            KeravnothRead { number: number, place: place, zones: 0, borders: 0, rows: 0 }
+        }
+    }
+}
+
+fn code_written(said: Written) -> KeravnothWritten
+    ensures { λ r. ⌜ r ≡ codedWritten (saidWritten said) ⌝ }
+{
+    match said {
+        Written::Bytes(bytes) => KeravnothWritten { number: 0, place: 0, bytes: bytes },
+        Written::Refused(w) => {
+            let number = refusal_number(w);
+            let place = result::refusal::refusal_place(w);
+            KeravnothWritten { number: number, place: place, bytes: 0 }
+        }
+    }
+}
+
+fn code_extracted(said: Extracted) -> KeravnothExtracted
+    ensures { λ r. ⌜ r ≡ codedExtracted (saidExtracted said) ⌝ }
+{
+    match said {
+        Extracted::Rounds(rounds) => KeravnothExtracted { number: 0, place: 0, rounds: rounds },
+        Extracted::Refused(w) => {
+            let number = refusal_number(w);
+            let place = result::refusal::refusal_place(w);
+            KeravnothExtracted { number: number, place: place, rounds: 0 }
+        }
+    }
+}
+
+// 1 to 8, as wide as C takes it.
+fn refusal_number(w: Refusal) -> u32
+    ensures { λ r. ⌜ r ≡ told w .number ⌝ }
+{
+    result::refusal::refusal_number(w) as u32
+}

@@ -1,0 +1,23 @@
+use Rattle.prints.proofs.PrintedLaws.{answer-printed}
+use borrow.Author.Needs.{needs}
+use Rattle.prints.proofs.answer.Statement.{statement}
+use Rattle.prints.proofs.answer.Tie as tie
+use Rattle.prints.proofs.answer.Reads as reads
+use Rattle.prints.proofs.answer.Lts as lts
+use Rattle.answer.proofs.answer.Reads as answer-reads
+use Rattle.prints.proofs.bytes_of.Reads as bytes-of-reads
+
+answer-requires : tie.Need-answer-requires
+answer-requires c κs = search needs
+
+bytes-of-requires : tie.Need-bytes-of-requires
+bytes-of-requires c κs = search needs
+
+same-length : tie.Need-same-length
+same-length c = search needs
+
+returns : tie.Need-returns
+returns c = answer-printed _ _ _ (c .before .before .before .answer .result) _ (c .bytes-of .ensures) (c .before .before .before .before .before .before .before .pre) (c .before .before .before .answer .ensures)
+
+pub answer-spec : {M : Type 1} → statement M
+answer-spec = tie.close (tie.spec answer-requires bytes-of-requires same-length returns)
