@@ -70,7 +70,11 @@ pub extern "C" fn keravnoth_write(
 ) -> KeravnothWritten
     ensures { λ r. ⌜ textFound r (now (out .exit)) ≡ textCoded (writeLeft (lent (record { zones = zones; borders = borders; rows = rows }) (now (z .entry)) (now (b .entry)) (now (c .entry)) (now (f .entry))) (now (out .entry))) ⌝ }
 {
-    let h = Header { zones: zones, borders: borders, rows: rows };
+    let h = Header {
+        zones: zones,
+        borders: borders,
+        rows: rows,
+    };
     code_written(writing::write(h, z, b, c, f, out))
 }
 
@@ -89,7 +93,11 @@ pub extern "C" fn keravnoth_extract(
 ) -> KeravnothExtracted
     ensures { λ r. ⌜ extractFound r (now (atc .exit)) (now (left .exit)) ≡ extractCoded (extractLeft (lent (record { zones = zones; borders = borders; rows = rows }) (now (z .entry)) (now (b .entry)) (now (c .entry)) (now (f .entry))) (now (atc .entry)) (now (left .entry))) ⌝ }
 {
-    let h = Header { zones: zones, borders: borders, rows: rows };
+    let h = Header {
+        zones: zones,
+        borders: borders,
+        rows: rows,
+    };
     code_extracted(extraction::extract(h, z, b, c, f, atc, left))
 }
 
@@ -107,7 +115,11 @@ pub extern "C" fn keravnoth_result_text(
 ) -> KeravnothWritten
     ensures { λ r. ⌜ textFound r (now (out .exit)) ≡ textCoded (resultTextLeft (lent (record { zones = zones; borders = borders; rows = rows }) (now (z .entry)) (now (b .entry)) (now (c .entry)) (now (f .entry))) (now (out .entry))) ⌝ }
 {
-    let h = Header { zones: zones, borders: borders, rows: rows };
+    let h = Header {
+        zones: zones,
+        borders: borders,
+        rows: rows,
+    };
     code_written(answer::result_text(h, z, b, c, f, out))
 }
 
@@ -133,7 +145,13 @@ fn code_read(said: Read) -> KeravnothRead
         Read::Refused(w) => {
             let number = refusal_number(w);
             let place = result::refusal::refusal_place(w);
-            KeravnothRead { number: number, place: place, zones: 0, borders: 0, rows: 0 }
+            KeravnothRead {
+                number: number,
+                place: place,
+                zones: 0,
+                borders: 0,
+                rows: 0,
+            }
         }
     }
 }
@@ -142,11 +160,19 @@ fn code_written(said: Written) -> KeravnothWritten
     ensures { λ r. ⌜ r ≡ codedWritten (saidWritten said) ⌝ }
 {
     match said {
-        Written::Bytes(bytes) => KeravnothWritten { number: 0, place: 0, bytes: bytes },
+        Written::Bytes(bytes) => KeravnothWritten {
+            number: 0,
+            place: 0,
+            bytes: bytes,
+        },
         Written::Refused(w) => {
             let number = refusal_number(w);
             let place = result::refusal::refusal_place(w);
-            KeravnothWritten { number: number, place: place, bytes: 0 }
+            KeravnothWritten {
+                number: number,
+                place: place,
+                bytes: 0,
+            }
         }
     }
 }
@@ -155,11 +181,19 @@ fn code_extracted(said: Extracted) -> KeravnothExtracted
     ensures { λ r. ⌜ r ≡ codedExtracted (saidExtracted said) ⌝ }
 {
     match said {
-        Extracted::Rounds(rounds) => KeravnothExtracted { number: 0, place: 0, rounds: rounds },
+        Extracted::Rounds(rounds) => KeravnothExtracted {
+            number: 0,
+            place: 0,
+            rounds: rounds,
+        },
         Extracted::Refused(w) => {
             let number = refusal_number(w);
             let place = result::refusal::refusal_place(w);
-            KeravnothExtracted { number: number, place: place, rounds: 0 }
+            KeravnothExtracted {
+                number: number,
+                place: place,
+                rounds: 0,
+            }
         }
     }
 }

@@ -39,8 +39,8 @@ pub fn rewrite(text: &[u8], out: &mut [u8]) -> usize
     let mut z: [i64; Header::ZONES_MOST] = [0; Header::ZONES_MOST];
     let mut b: [BorderRecord; Header::BORDERS_MOST] = [[0; Border::ITEMS]; Header::BORDERS_MOST];
     let mut c: [RowRecord; Header::ROWS_MOST] = [[0; Row::ITEMS]; Header::ROWS_MOST];
-    let mut f: [i64; Header::ROWS_MOST * Header::ZONES_MOST] =
-        [0; Header::ROWS_MOST * Header::ZONES_MOST];
+    let mut f: [i64; Header::ROWS_MOST * Header::ZONES_MOST] = [0; Header::ROWS_MOST
+        * Header::ZONES_MOST];
     rewrite_in(text, &mut z, &mut b, &mut c, &mut f, out)
 }
 
