@@ -1,11 +1,8 @@
+-- `prints::answer` meets its contract: the law `answer-printed`. Assumes nothing.
 use Rattle.prints.proofs.PrintedLaws.{answer-printed}
 use borrow.Author.Needs.{needs}
 use Rattle.prints.proofs.answer.Statement.{statement}
 use Rattle.prints.proofs.answer.Tie as tie
-use Rattle.prints.proofs.answer.Reads as reads
-use Rattle.prints.proofs.answer.Lts as lts
-use Rattle.answer.proofs.answer.Reads as answer-reads
-use Rattle.prints.proofs.bytes_of.Reads as bytes-of-reads
 
 answer-requires : tie.Need-answer-requires
 answer-requires c κs = search needs

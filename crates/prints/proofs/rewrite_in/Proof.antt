@@ -1,14 +1,9 @@
+-- `prints::rewrite_in` meets its contract: the laws `table-printed` and `refusal-printed`. Assumes nothing.
 use native.Mathlib.Omega.{arith}
 use Rattle.prints.proofs.PrintedLaws.{table-printed, refusal-short, refusal-printed}
 use borrow.Author.Needs.{needs}
 use Rattle.prints.proofs.rewrite_in.Statement.{statement}
 use Rattle.prints.proofs.rewrite_in.Tie as tie
-use Rattle.prints.proofs.rewrite_in.Reads as reads
-use Rattle.prints.proofs.rewrite_in.Lts as lts
-use Rattle.prints.proofs.bytes_of.Reads as bytes-of-reads
-use Rattle.reading.proofs.read.Reads as read-reads
-use Rattle.result.proofs.refusal.put_refusal.Reads as put-refusal-reads
-use Rattle.writing.proofs.write.Reads as write-reads
 
 read-requires : tie.Need-read-requires
 read-requires c κs = search needs
