@@ -1,0 +1,78 @@
+-- No second answer, and no second content of a lent buffer, satisfies the contract of a call for C.
+-- The theorems are about the contracts as the check reads them from the source (`reads.Post`), and not about copies.
+-- Assumes nothing.
+use mathlib.Core.Path.{_≡_, sym, ap, _∙_}
+use mathlib.Core.List.{List}
+use Prim.Native.Nat.{ℕ}
+use lib.IntN.{ℤ}
+use contract.Lifetimes.{Lfts}
+use denote.Ref.{now}
+use denote.Triple.Clauses.{AtExit}
+use borrow.Fn.World.{ArgsD, ResD}
+use borrow.Fn.Kinds.{endedOf}
+use Rattle.cabi.specs.declared.KeravnothRead.{KeravnothRead}
+use Rattle.cabi.specs.declared.KeravnothWritten.{KeravnothWritten}
+use Rattle.cabi.specs.declared.KeravnothExtracted.{KeravnothExtracted}
+use Rattle.cabi.specs.Coded.{ReadCoded, readFound, TextCoded, textFound, ExtractCoded, extractFound}
+use Rattle.cabi.proofs.keravnoth_read as read
+use Rattle.cabi.proofs.keravnoth_read.Kinds as read-kinds
+use Rattle.cabi.proofs.keravnoth_read.Reads as read-reads
+use Rattle.cabi.proofs.keravnoth_write as write
+use Rattle.cabi.proofs.keravnoth_write.Kinds as write-kinds
+use Rattle.cabi.proofs.keravnoth_write.Reads as write-reads
+use Rattle.cabi.proofs.keravnoth_extract as extract
+use Rattle.cabi.proofs.keravnoth_extract.Kinds as extract-kinds
+use Rattle.cabi.proofs.keravnoth_extract.Reads as extract-reads
+use Rattle.cabi.proofs.keravnoth_result_text as result-text
+use Rattle.cabi.proofs.keravnoth_result_text.Kinds as result-text-kinds
+use Rattle.cabi.proofs.keravnoth_result_text.Reads as result-text-reads
+use Rattle.cabi.proofs.keravnoth_answer as answer
+use Rattle.cabi.proofs.keravnoth_answer.Kinds as answer-kinds
+use Rattle.cabi.proofs.keravnoth_answer.Reads as answer-reads
+
+-- ---- whatever a call may leave, it leaves one thing
+read-one : (may : ReadCoded) (r r′ : KeravnothRead) (z z′ : List ℤ) (b b′ c c′ : List (List ℤ)) (f f′ : List ℤ) → readFound r z b c f ≡ may → readFound r′ z′ b′ c′ f′ ≡ may
+    → (r ≡ r′) × ((z ≡ z′) × ((b ≡ b′) × ((c ≡ c′) × (f ≡ f′))))
+read-one may r r′ z z′ b b′ c c′ f f′ p q =
+    let e = p ∙ sym q in
+    (ap (λ (l : ReadCoded). l .answer) e, (ap (λ (l : ReadCoded). l .z) e, (ap (λ (l : ReadCoded). l .b) e, (ap (λ (l : ReadCoded). l .c) e, ap (λ (l : ReadCoded). l .f) e))))
+
+text-one : (may : TextCoded) (r r′ : KeravnothWritten) (out out′ : List ℕ) → textFound r out ≡ may → textFound r′ out′ ≡ may → (r ≡ r′) × (out ≡ out′)
+text-one may r r′ out out′ p q = let e = p ∙ sym q in (ap (λ (l : TextCoded). l .answer) e, ap (λ (l : TextCoded). l .out) e)
+
+extract-one : (may : ExtractCoded) (r r′ : KeravnothExtracted) (atcs atcs′ lefts lefts′ : List (List ℤ)) → extractFound r atcs lefts ≡ may → extractFound r′ atcs′ lefts′ ≡ may
+    → (r ≡ r′) × ((atcs ≡ atcs′) × (lefts ≡ lefts′))
+extract-one may r r′ atcs atcs′ lefts lefts′ p q =
+    let e = p ∙ sym q in
+    (ap (λ (l : ExtractCoded). l .answer) e, (ap (λ (l : ExtractCoded). l .atcs) e, ap (λ (l : ExtractCoded). l .lefts) e))
+
+-- ---- the calls; the tables that `keravnoth_read` fills are its second to fifth arguments
+pub keravnoth-read-once : (κs : Lfts 5) (x : ArgsD read.signature κs) (r r′ : ResD read.signature κs) (s s′ : AtExit (endedOf 5 read-kinds.ps read-kinds.r) κs)
+    → read-reads.Post κs x r s → read-reads.Post κs x r′ s′
+    → (r ≡ r′)
+    × ((now (s .1 .0) ≡ now (s′ .1 .0))
+    × ((now (s .1 .1 .0) ≡ now (s′ .1 .1 .0))
+    × ((now (s .1 .1 .1 .0) ≡ now (s′ .1 .1 .1 .0))
+    × (now (s .1 .1 .1 .1 .0) ≡ now (s′ .1 .1 .1 .1 .0)))))
+keravnoth-read-once κs x r r′ s s′ p q = read-one _ _ _ _ _ _ _ _ _ _ _ p q
+
+-- `out` is the eighth argument
+pub keravnoth-write-once : (κs : Lfts 5) (x : ArgsD write.signature κs) (r r′ : ResD write.signature κs) (s s′ : AtExit (endedOf 5 write-kinds.ps write-kinds.r) κs)
+    → write-reads.Post κs x r s → write-reads.Post κs x r′ s′ → (r ≡ r′) × (now (s .1 .1 .1 .1 .1 .1 .1 .0) ≡ now (s′ .1 .1 .1 .1 .1 .1 .1 .0))
+keravnoth-write-once κs x r r′ s s′ p q = text-one _ _ _ _ _ p q
+
+-- the results are the eighth and the ninth
+pub keravnoth-extract-once : (κs : Lfts 6) (x : ArgsD extract.signature κs) (r r′ : ResD extract.signature κs) (s s′ : AtExit (endedOf 6 extract-kinds.ps extract-kinds.r) κs)
+    → extract-reads.Post κs x r s → extract-reads.Post κs x r′ s′
+    → (r ≡ r′) × ((now (s .1 .1 .1 .1 .1 .1 .1 .0) ≡ now (s′ .1 .1 .1 .1 .1 .1 .1 .0)) × (now (s .1 .1 .1 .1 .1 .1 .1 .1 .0) ≡ now (s′ .1 .1 .1 .1 .1 .1 .1 .1 .0)))
+keravnoth-extract-once κs x r r′ s s′ p q = extract-one _ _ _ _ _ _ _ p q
+
+-- `out` is the eighth argument
+pub keravnoth-result-text-once : (κs : Lfts 5) (x : ArgsD result-text.signature κs) (r r′ : ResD result-text.signature κs) (s s′ : AtExit (endedOf 5 result-text-kinds.ps result-text-kinds.r) κs)
+    → result-text-reads.Post κs x r s → result-text-reads.Post κs x r′ s′ → (r ≡ r′) × (now (s .1 .1 .1 .1 .1 .1 .1 .0) ≡ now (s′ .1 .1 .1 .1 .1 .1 .1 .0))
+keravnoth-result-text-once κs x r r′ s s′ p q = text-one _ _ _ _ _ p q
+
+-- `out` is the second argument
+pub keravnoth-answer-once : (κs : Lfts 2) (x : ArgsD answer.signature κs) (r r′ : ResD answer.signature κs) (s s′ : AtExit (endedOf 2 answer-kinds.ps answer-kinds.r) κs)
+    → answer-reads.Post κs x r s → answer-reads.Post κs x r′ s′ → (r ≡ r′) × (now (s .1 .0) ≡ now (s′ .1 .0))
+keravnoth-answer-once κs x r r′ s s′ p q = text-one _ _ _ _ _ p q
