@@ -21,12 +21,9 @@ use Rattle.writing.specs.Writing.{TextLeft, textLeft, textSaid}
 use Rattle.writing.proofs.LeftLaws.{text-left}
 use Rattle.result.specs.Result.{resultText, refusalText, answerText, answerLeft}
 use Rattle.result.proofs.Longest.{result-longest, refusal-longest}
+use Rattle.answer.specs.Made.{answerMost}
 use Rattle.answer.proofs.PlaceLaws.{Sound, answer-sound}
 use Rattle.answer.proofs.BoundedLaws.{accepted-bounded}
-
--- the longest text of an answer, bytes
-abbrev pub answerMost : ℕ
-answerMost = 8927
 
 -- ---- the bytes told stand in the buffer
 abbrev leftOf : (out : List ℕ) → Judged (List ℕ) → TextLeft

@@ -18,6 +18,10 @@ outcomeLent lent = then (judgeLent lent) outcomeOf
 unfoldable pub printed : Judged Result → List ℕ
 printed outcome = either outcome resultText refusalText
 
+-- the longest text of an answer, bytes (`answer-longest`)
+abbrev pub answerMost : ℕ
+answerMost = 8927
+
 -- what making the text of an outcome leaves: its refusal, or the answer that its text gives; and the lent bytes
 pub record MadeLeft : Type 0 where
   pub answer : Judged (Judged ℕ)

@@ -33,7 +33,8 @@ use Rattle.result.specs.Result.{refusalText, answerText, answerLeft}
 use Rattle.result.proofs.Longest.{refusal-longest}
 use Rattle.answer.proofs.PlaceLaws.{Sound, text-sound}
 use Rattle.answer.proofs.Within.{answer-within, answer-whole}
-use Rattle.prints.specs.Printed.{answerMost, bytesOf, rewritten, Printed}
+use Rattle.answer.specs.Made.{answerMost}
+use Rattle.prints.specs.Printed.{bytesOf, rewritten, Printed}
 
 -- ---- a buffer that begins with the text
 pub over-printed : (text out out′ : List ℕ) (n : ℕ) → n ≡ length text → out′ ≡ over text out → Printed n text out′

@@ -11,10 +11,6 @@ use Rattle.reading.specs.Reading.{readText}
 use Rattle.writing.specs.Writing.{tableText}
 use Rattle.result.specs.Result.{refusalText}
 
--- room, bytes, that no answer is too long for
-abbrev pub answerMost : ℕ
-answerMost = 8927
-
 -- how much of the buffer to print
 abbrev pub bytesOf : Written → ℕ
 bytesOf (written.Bytes n) = n
