@@ -170,6 +170,36 @@ fn hour(path: &str, budget: Duration) {
     );
 }
 
+/// Reading the same hour's text: the library beside the reference, taking turns.
+fn reading(path: &str) {
+    const TURNS: usize = 201;
+    let text = std::fs::read(path).expect("an hour");
+    let t = second::read(&text, [usize::MAX; 4]).expect("a good table");
+    let (mut z, mut b) = (vec![0; t.z.len()], vec![[0; 3]; t.b.len()]);
+    let (mut c, mut f) = (vec![[0; 7]; t.c.len()], vec![0; t.f.len()]);
+    let (mut library, mut reference) = (Vec::new(), Vec::new());
+    for _ in 0..TURNS {
+        let start = processor_time();
+        let answer = calls::read(black_box(&text), &mut z, &mut b, &mut c, &mut f);
+        library.push(processor_time() - start);
+        assert_eq!((answer.number, answer.rows), (0, t.c.len()), "the library does not read the hour");
+        let start = processor_time();
+        black_box(second::read(black_box(&text), [usize::MAX; 4]).is_ok());
+        reference.push(processor_time() - start);
+    }
+    assert!(z == t.z && b == t.b && c == t.c && f == t.f, "the library reads another table");
+    let median = |times: &mut Vec<f64>| {
+        times.sort_by(f64::total_cmp);
+        times[TURNS / 2]
+    };
+    let (library, reference) = (median(&mut library), median(&mut reference));
+    println!(
+        "  reading {} bytes: library {library:.1} us, reference {reference:.1} us, ratio {:.2}\n",
+        text.len(),
+        library / reference
+    );
+}
+
 fn main() {
     let mut arguments = std::env::args().skip(1);
     let seconds: f64 = match arguments.next() {
@@ -182,5 +212,6 @@ fn main() {
     }
     for path in &hours {
         hour(path, Duration::from_secs_f64(seconds));
+        reading(path);
     }
 }

@@ -1,6 +1,16 @@
-//! The extraction of include/keravnoth.h, linked.
+//! Reading and the extraction of include/keravnoth.h, linked.
 
-/// Its answer.
+/// The answer of reading.
+#[repr(C)]
+pub struct Read {
+    pub number: u32,
+    pub place: usize,
+    pub zones: usize,
+    pub borders: usize,
+    pub rows: usize,
+}
+
+/// The answer of the extraction.
 #[repr(C)]
 pub struct Extracted {
     pub number: u32,
@@ -8,19 +18,19 @@ pub struct Extracted {
     pub rounds: u64,
 }
 
-/// On x86-64 C hands an answer of this size back through a place that the caller
+/// On x86-64 C hands answers of these sizes back through a place that the caller
 /// names in a hidden first argument. The library is compiled so on every machine
 /// (see `run`); elsewhere that argument has to be written out.
 #[cfg(target_arch = "x86_64")]
 macro_rules! answered {
-    ($call:ident($($argument:expr),*)) => {
+    ($answer:ty, $call:ident($($argument:expr),*)) => {
         $call($($argument),*)
     };
 }
 #[cfg(not(target_arch = "x86_64"))]
 macro_rules! answered {
-    ($call:ident($($argument:expr),*)) => {{
-        let mut answer = std::mem::MaybeUninit::<Extracted>::uninit();
+    ($answer:ty, $call:ident($($argument:expr),*)) => {{
+        let mut answer = std::mem::MaybeUninit::<$answer>::uninit();
         $call(answer.as_mut_ptr(), $($argument),*);
         answer.assume_init()
     }};
@@ -28,6 +38,18 @@ macro_rules! answered {
 
 #[cfg(target_arch = "x86_64")]
 extern "C" {
+    fn keravnoth_read(
+        text: *const u8,
+        n: usize,
+        z: *mut i64,
+        nz: usize,
+        b: *mut [i64; 3],
+        nb: usize,
+        c: *mut [i64; 7],
+        nc: usize,
+        f: *mut i64,
+        nf: usize,
+    ) -> Read;
     fn keravnoth_extract(
         zones: usize,
         borders: usize,
@@ -48,6 +70,19 @@ extern "C" {
 }
 #[cfg(not(target_arch = "x86_64"))]
 extern "C" {
+    fn keravnoth_read(
+        answer: *mut Read,
+        text: *const u8,
+        n: usize,
+        z: *mut i64,
+        nz: usize,
+        b: *mut [i64; 3],
+        nb: usize,
+        c: *mut [i64; 7],
+        nc: usize,
+        f: *mut i64,
+        nf: usize,
+    );
     fn keravnoth_extract(
         answer: *mut Extracted,
         zones: usize,
@@ -79,7 +114,7 @@ pub fn extract(
 ) -> Extracted {
     let [zones, borders, rows] = header;
     unsafe {
-        answered!(keravnoth_extract(
+        answered!(Extracted, keravnoth_extract(
             zones,
             borders,
             rows,
@@ -95,6 +130,23 @@ pub fn extract(
             atc.len(),
             left.as_mut_ptr(),
             left.len()
+        ))
+    }
+}
+
+pub fn read(text: &[u8], z: &mut [i64], b: &mut [[i64; 3]], c: &mut [[i64; 7]], f: &mut [i64]) -> Read {
+    unsafe {
+        answered!(Read, keravnoth_read(
+            text.as_ptr(),
+            text.len(),
+            z.as_mut_ptr(),
+            z.len(),
+            b.as_mut_ptr(),
+            b.len(),
+            c.as_mut_ptr(),
+            c.len(),
+            f.as_mut_ptr(),
+            f.len()
         ))
     }
 }
