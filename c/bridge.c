@@ -6,11 +6,12 @@
  *
  * A word has 64 bits, the least byte first, as numbers lie in memory on x86-64.
  *
- * A request: twelve words, then the lent buffers.  The words are the call, its
- * header (zones, borders, rows; 0 where the call takes none) and the counts of
- * items of z, b, c, f, atc, left, text and out (0 where the call does not take
- * that buffer).  The buffers that the call takes follow in this order, each with
- * BEFORE items before the lent part and AFTER items after it.
+ * A request: fourteen words, then the lent buffers.  The words are the call, its
+ * header (zones, borders, rows) and its row (each 0 where the call takes none),
+ * and the counts of items of z, b, c, f, atc, left, flows, text and out (0 where
+ * the call does not take that buffer).  The buffers that the call takes follow in
+ * this order, each with BEFORE items before the lent part and AFTER items after
+ * it.
  *
  * An answer: the fields of the call's struct, a word each, then the same buffers
  * as the call left them, with what lies around them: whoever asks compares it.
@@ -29,10 +30,12 @@ _Static_assert(sizeof(size_t) == sizeof(uint64_t), "a size_t is a word");
 
 enum { BEFORE = 2, AFTER = 3 };
 
-enum { READ = 1, WRITE, EXTRACT, RESULT_TEXT, ANSWER, CALLS };
+enum {
+    READ = 1, WRITE, EXTRACT, RESULT_TEXT, ANSWER, CORNER_FLOWS, CORNER_TEXT, CALLS
+};
 
 /* Buffers of numbers stand before buffers of bytes, so each is aligned. */
-enum { Z, B, C, F, ATC, LEFT, TEXT, OUT, BUFFERS };
+enum { Z, B, C, F, ATC, LEFT, FLOWS, TEXT, OUT, BUFFERS };
 
 static const size_t item_bytes[BUFFERS] = {
     [Z] = sizeof(int64_t),
@@ -41,6 +44,7 @@ static const size_t item_bytes[BUFFERS] = {
     [F] = sizeof(int64_t),
     [ATC] = sizeof(int64_t[1]),
     [LEFT] = sizeof(int64_t[3]),
+    [FLOWS] = sizeof(int64_t),
     [TEXT] = 1,
     [OUT] = 1,
 };
@@ -52,6 +56,8 @@ static const unsigned char takes[CALLS][BUFFERS] = {
     [EXTRACT] = {[Z] = 1, [B] = 1, [C] = 1, [F] = 1, [ATC] = 1, [LEFT] = 1},
     [RESULT_TEXT] = {[Z] = 1, [B] = 1, [C] = 1, [F] = 1, [OUT] = 1},
     [ANSWER] = {[TEXT] = 1, [OUT] = 1},
+    [CORNER_FLOWS] = {[Z] = 1, [B] = 1, [C] = 1, [F] = 1, [FLOWS] = 1},
+    [CORNER_TEXT] = {[Z] = 1, [B] = 1, [C] = 1, [F] = 1, [OUT] = 1},
 };
 
 /* The most bytes that the buffers of a request may have, guards included. */
@@ -60,10 +66,11 @@ static const unsigned char takes[CALLS][BUFFERS] = {
 struct request {
     uint64_t call;
     uint64_t zones, borders, rows;
+    uint64_t row;
     uint64_t count[BUFFERS];
 };
 
-_Static_assert(sizeof(struct request) == 12 * sizeof(uint64_t), "twelve words");
+_Static_assert(sizeof(struct request) == 14 * sizeof(uint64_t), "fourteen words");
 
 static int malformed(const char *what)
 {
@@ -101,6 +108,16 @@ static size_t make(const struct request *r, unsigned char *const *at, uint64_t *
         answer[2] = said.rounds;
         return 3;
     }
+    if (r->call == CORNER_FLOWS) {
+        struct KeravnothFlows said = keravnoth_corner_flows(
+            r->zones, r->borders, r->rows,
+            z, nz, (const int64_t (*)[3])b, nb, (const int64_t (*)[7])c, nc, f, nf,
+            r->row, (int64_t *)at[FLOWS], r->count[FLOWS]);
+        answer[0] = said.number;
+        answer[1] = said.place;
+        answer[2] = said.corners;
+        return 3;
+    }
     struct KeravnothWritten said;
     if (r->call == WRITE)
         said = keravnoth_write(
@@ -112,6 +129,11 @@ static size_t make(const struct request *r, unsigned char *const *at, uint64_t *
             r->zones, r->borders, r->rows,
             z, nz, (const int64_t (*)[3])b, nb, (const int64_t (*)[7])c, nc, f, nf,
             at[OUT], r->count[OUT]);
+    else if (r->call == CORNER_TEXT)
+        said = keravnoth_corner_text(
+            r->zones, r->borders, r->rows,
+            z, nz, (const int64_t (*)[3])b, nb, (const int64_t (*)[7])c, nc, f, nf,
+            r->row, at[OUT], r->count[OUT]);
     else
         said = keravnoth_answer(at[TEXT], r->count[TEXT], at[OUT], r->count[OUT]);
     answer[0] = said.number;

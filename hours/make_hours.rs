@@ -35,6 +35,24 @@ C 2 100000 0 0 0 0 0 0 4999 0 0
 C 3 1000000 0 130000 0 7000 0 0 20000 0 -10000
 ";
 
+/// A small hour for the corner sheet, made by hand: borders that load a row and
+/// borders that relieve it, so that the largest corner of each row is neither the
+/// first nor the last.
+const PLANNER: &str = "H 4 5 3
+Z 0 900000
+Z 1 -350000
+Z 2 250000
+Z 3 -800000
+B 0 0 1 300
+B 1 1 0 150
+B 2 1 2 200
+B 3 2 3 250
+B 4 3 0 100
+C 0 1200000 120000 260000 90000 7000 0 50000 25000 5000 -8000 0
+C 1 800000 80000 -140000 -60000 - 0 0 -6000 12000 0 9000
+C 2 950000 95000 310000 120000 7000 20000 0 0 -4000 -15000 -22000
+";
+
 fn extract(t: &Tables) -> Option<Outcome> {
     second::extract(t.header, &t.z, &t.b, &t.c, &t.f, usize::MAX, usize::MAX).ok()
 }
@@ -321,6 +339,18 @@ fn ceiling() -> u64 {
     rounds
 }
 
+/// The longest corner sheet: 12 borders at the highest LTA, from zones at one end
+/// of the factors to zones at the other, the ends changing places from row to row
+/// so that the extraction accepts the table.
+fn longest_sheet() -> Tables {
+    let header = Header { zones: 16, borders: 12, rows: 200 };
+    let b = (0..12).map(|i| [i % 8, 8 + i / 8, 10_000]).collect();
+    let c = vec![[10_000_000, 0, 0, 0, -1, 0, 0]; header.rows];
+    let end = |row: usize, zone: usize| if (zone < 8) == (row % 2 == 0) { -100_000 } else { 100_000 };
+    let f = (0..header.rows).flat_map(|row| (0..header.zones).map(move |zone| end(row, zone))).collect();
+    Tables { header, z: vec![0; header.zones], b, c, f }
+}
+
 // ------------------------------------------------------------------------ main
 
 fn put(directory: &str, name: &str, from: &str, t: &Tables) {
@@ -348,6 +378,9 @@ fn main() {
     std::fs::create_dir_all(&directory).expect("a directory");
     let worked = second::read(WORKED.replace(' ', "\t").as_bytes(), [usize::MAX; 4]).expect("the worked hour");
     put(&directory, "worked", "the hour of the rules", &worked);
+    let planner = second::read(PLANNER.replace(' ', "\t").as_bytes(), [usize::MAX; 4]).expect("the small hour");
+    put(&directory, "planner", "a small hour for the corner sheet", &planner);
+    put(&directory, "sheet", "the longest corner sheet", &longest_sheet());
     put(&directory, "plain", &format!("seed {SEED_PLAIN}"), &plausible(SEED_PLAIN, PLAIN));
     let (t, seed) = busy();
     put(&directory, "busy", &format!("seed {seed}, the most of seeds {SEEDS_BUSY:?}"), &t);

@@ -5,7 +5,7 @@
  *   kW               net positions, Fmax, FRM, Fref, F0all, CVA, IVA
  *   MW               LTA and ATC
  *   hundred-thousandths   transfer factors (PTDF)
- *   grains           RAM and margins; a kW is 100,000 grains (0.01 W each)
+ *   grains           RAM, margins and flows; a kW is 100,000 grains (0.01 W each)
  *   ten-thousandths  R
  *
  * RECORDS (no record holds its index; ranges include both ends)
@@ -21,6 +21,11 @@
  *   left     one record a row: state (0 kept, 1 under 5%, 2 parallel to a row
  *            that is kept), RAM in grains, margin left in grains or -1 where the
  *            state is not 0
+ *   flows    (out of keravnoth_corner_flows) one int64_t a corner, corner 0
+ *            first; corner k uses border b at its whole LTA where bit b of k is
+ *            set, else at 0; its flow in grains is the sum over the used borders
+ *            of (from factor - to factor) * LTA in kW, without F0core, and may be
+ *            negative
  *
  * REFUSALS (field number of every answer; 0: no refusal)
  *   1  more than 65,536 bytes                                       place 0
@@ -34,21 +39,24 @@
  *   7  a kept row's starting margin is below 0                      place: first such row
  *   8  a lent buffer is too short                                   place: items needed in
  *                                                                   the first short one
+ *   9  more than 12 borders; or else no such row (corner sheet      place: border count;
+ *      only)                                                        the row's index
  *   A lent record has the line that it would have in the text: z i is line
  *   2 + i, b i is 2 + zones + i, c i (its factors too) 2 + zones + borders + i;
  *   the header is line 1.
  *
  *   Order.  keravnoth_read: 1, then 2 and 3 line by line, 4, 8.  The calls on
  *   lent tables: the header (3), lengths (8) in the order z, b, c, f, records
- *   (3), 4; the extraction and the result text go on to 5, 6, 7; last comes room
- *   for results (8), atc before left.
+ *   (3), 4; the extraction and the result text go on to 5, 6, 7, the corner sheet
+ *   to 9; last comes room for results (8), atc before left.  The corner sheet
+ *   does not judge 5, 6, 7: a table that the extraction refuses has its sheets.
  *
  * LENT MEMORY
  *   Each pointer goes with the count of its items (records for b, c, atc, left;
- *   numbers for z and f; bytes for text and out) and points to that many; it is
- *   aligned for its type and not NULL, also where the count is 0.  What is
- *   written to overlaps nothing else that is lent.  Nothing is kept after the
- *   call, nothing is allocated.
+ *   numbers for z, f and flows; bytes for text and for out that takes text) and
+ *   points to that many; it is aligned for its type and not NULL, also where the
+ *   count is 0.  What is written to overlaps nothing else that is lent.  Nothing
+ *   is kept after the call, nothing is allocated.
  *   A refused call leaves every lent buffer as it was.  After success what lies
  *   beyond the items needed is as it was.  A lent table may be longer than its
  *   header says; what lies beyond is not looked at.
@@ -69,7 +77,10 @@ enum {
     KERAVNOTH_BORDERS_MOST = 40,
     KERAVNOTH_ROWS_MOST = 200,
     KERAVNOTH_FACTORS_MOST = 3200,
-    KERAVNOTH_TEXT_MOST = 65536
+    KERAVNOTH_TEXT_MOST = 65536,
+    KERAVNOTH_CORNER_BORDERS_MOST = 12,
+    KERAVNOTH_CORNERS_MOST = 4096,
+    KERAVNOTH_CORNER_TEXT_MOST = 110592
 };
 
 /* Reading: the header of the table that was read. */
@@ -93,6 +104,13 @@ struct KeravnothExtracted {
     uint32_t number;
     size_t place;
     uint64_t rounds;
+};
+
+/* The corner sheet: corners whose flows were filled in. */
+struct KeravnothFlows {
+    uint32_t number;
+    size_t place;
+    size_t corners;
 };
 
 /* Reads a table's text into z, b, c and f.  Refusals 1, 2, 3, 4, 8. */
@@ -137,6 +155,28 @@ struct KeravnothWritten keravnoth_result_text(
    only where out is too short (8, bytes needed). */
 struct KeravnothWritten keravnoth_answer(
     const uint8_t *text, size_t n,
+    uint8_t *out, size_t nout);
+
+/* The flows of all corners of one row: 2^borders numbers.  row may be any number.
+   Refusals 3, 4, 8, 9. */
+struct KeravnothFlows keravnoth_corner_flows(
+    size_t zones, size_t borders, size_t rows,
+    const int64_t *z, size_t nz,
+    const int64_t (*b)[3], size_t nb,
+    const int64_t (*c)[7], size_t nc,
+    const int64_t *f, size_t nf,
+    size_t row,
+    int64_t *out, size_t nout);
+
+/* The same as text: a K line (row, corner, flow) for each corner.  It may pass
+   65,536 bytes: that limit is for text that is read.  Refusals 3, 4, 8, 9. */
+struct KeravnothWritten keravnoth_corner_text(
+    size_t zones, size_t borders, size_t rows,
+    const int64_t *z, size_t nz,
+    const int64_t (*b)[3], size_t nb,
+    const int64_t (*c)[7], size_t nc,
+    const int64_t *f, size_t nf,
+    size_t row,
     uint8_t *out, size_t nout);
 
 #ifdef __cplusplus

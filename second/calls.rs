@@ -39,6 +39,14 @@ pub struct Extracted {
     pub rounds: u64,
 }
 
+/// What the corner flows say.
+#[derive(Clone, Copy, Debug, PartialEq, Eq)]
+pub struct Flows {
+    pub number: u64,
+    pub place: usize,
+    pub corners: usize,
+}
+
 /// The bridge ended within a call: how.
 #[derive(Debug)]
 pub struct Ended(pub String);
@@ -110,6 +118,11 @@ impl Bridge {
         }
     }
 
+    /// The row that the call is about.
+    fn ask_for(&mut self, row: usize) {
+        wire::set_word(&mut self.bytes, wire::ROW, row as u64);
+    }
+
     fn lend<T: Item>(&mut self, buffer: usize, block: &[T]) {
         let count = block.len() - wire::BEFORE - wire::AFTER;
         wire::set_word(&mut self.bytes, buffer, count as u64);
@@ -164,15 +177,26 @@ impl Bridge {
     }
 
     pub fn write(&mut self, l: Lent, out: &mut [u8]) -> Result<Written, Ended> {
-        self.tables_to_text(wire::WRITE, l, out)
+        self.tables_to_text(wire::WRITE, l, 0, out)
     }
 
     pub fn result_text(&mut self, l: Lent, out: &mut [u8]) -> Result<Written, Ended> {
-        self.tables_to_text(wire::RESULT_TEXT, l, out)
+        self.tables_to_text(wire::RESULT_TEXT, l, 0, out)
     }
 
-    fn tables_to_text(&mut self, call: u64, mut l: Lent, out: &mut [u8]) -> Result<Written, Ended> {
+    pub fn corner_text(&mut self, l: Lent, row: usize, out: &mut [u8]) -> Result<Written, Ended> {
+        self.tables_to_text(wire::CORNER_TEXT, l, row, out)
+    }
+
+    fn tables_to_text(
+        &mut self,
+        call: u64,
+        mut l: Lent,
+        row: usize,
+        out: &mut [u8],
+    ) -> Result<Written, Ended> {
         self.begin(call, l.header);
+        self.ask_for(row);
         self.lend_tables(&l);
         self.lend(wire::OUT, out);
         let [number, place, bytes] = self.ask()?;
@@ -196,6 +220,17 @@ impl Bridge {
         self.back(atc);
         self.back(left);
         Ok(Extracted { number, place: place as usize, rounds })
+    }
+
+    pub fn corner_flows(&mut self, mut l: Lent, row: usize, flows: &mut [i64]) -> Result<Flows, Ended> {
+        self.begin(wire::CORNER_FLOWS, l.header);
+        self.ask_for(row);
+        self.lend_tables(&l);
+        self.lend(wire::FLOWS, flows);
+        let [number, place, corners] = self.ask()?;
+        self.tables_back(&mut l);
+        self.back(flows);
+        Ok(Flows { number, place: place as usize, corners: corners as usize })
     }
 
     pub fn answer(&mut self, text: &mut [u8], out: &mut [u8]) -> Result<Written, Ended> {

@@ -25,7 +25,7 @@ mod make;
 mod second;
 
 use calls::wire::{Item, AFTER, BEFORE};
-use calls::{Bridge, Ended, Extracted, Read, Written};
+use calls::{Bridge, Ended, Extracted, Flows, Read, Written};
 use dice::Dice;
 use second::{Header, Outcome, Refusal, Tables};
 use std::collections::BTreeMap;
@@ -35,6 +35,11 @@ use std::fmt::Debug;
 const TABLES: u64 = 20_000;
 const TEXTS: u64 = 20_000;
 const SEED: u64 = 20_260_101;
+
+/// One table in so many has, beside it, a table made for the corner sheet.
+const SHEET_EVERY: u64 = 30;
+/// Its borders run from 1 to this: some above the 12 that a sheet may have.
+const SHEET_BORDERS: u64 = 16;
 
 // --------------------------------------------------------------- lent memory
 
@@ -183,9 +188,10 @@ struct Comparison {
     texts: u64,
     accepted: u64,
     exchanges: u64,
+    corners: u64,
     most_rounds: u64,
     /// how often each number was the answer, 0: no refusal
-    numbers: [u64; 9],
+    numbers: [u64; 10],
     /// how often each other case was reached
     seen: BTreeMap<String, u64>,
 }
@@ -390,6 +396,180 @@ impl Comparison {
         reference
     }
 
+    // -------------------------------------------------------- corner sheet
+
+    fn corner_flows(
+        &mut self,
+        d: &mut Dice,
+        l: &mut LentTables,
+        row: usize,
+        room: usize,
+    ) -> Result<Vec<i128>, Refusal> {
+        let reference =
+            second::corner_flows(l.header, l.z.part(), l.b.part(), l.c.part(), l.f.part(), row, room);
+        let mut flows = Lent::room(d, room);
+        let found = self.bridge.corner_flows(l.lend(), row, &mut flows.whole);
+        let found = self.said("keravnoth_corner_flows", found, &|| l.shown());
+        let (wanted, wanted_flows) = match &reference {
+            Ok(list) => {
+                let numbers: Vec<i64> = list.iter().map(|flow| *flow as i64).collect();
+                (Flows { number: 0, place: 0, corners: list.len() }, numbers)
+            }
+            Err(refusal) => {
+                (Flows { number: refusal.number.into(), place: refusal.place, corners: 0 }, vec![])
+            }
+        };
+        self.count("keravnoth_corner_flows", wanted.number as u32);
+        if found != wanted {
+            let details = format!("library {found:?}\nreference {wanted:?}\nrow {row}, room {room}");
+            self.fail("keravnoth_corner_flows", &details, &l.shown());
+        }
+        let fault = flows.fault("flows", &wanted_flows).or_else(|| l.fault());
+        if let Some(fault) = fault {
+            let details = format!("{fault}\nboth answer {wanted:?}\nrow {row}, room {room}");
+            self.fail("keravnoth_corner_flows", &details, &l.shown());
+        }
+        match &reference {
+            Ok(list) => self.largest_is_s(l, row, &flows.part()[..list.len()]),
+            Err(refusal) => self.see_corner_refusal("flows", l, row, *refusal, room),
+        }
+        reference
+    }
+
+    fn corner_text(
+        &mut self,
+        d: &mut Dice,
+        l: &mut LentTables,
+        row: usize,
+        room: usize,
+    ) -> Result<Vec<u8>, Refusal> {
+        let reference =
+            second::corner_text(l.header, l.z.part(), l.b.part(), l.c.part(), l.f.part(), row, room);
+        let mut out = Lent::room(d, room);
+        let found = self.bridge.corner_text(l.lend(), row, &mut out.whole);
+        let found = self.said("keravnoth_corner_text", found, &|| l.shown());
+        self.text_call("keravnoth_corner_text", found, &out, &reference, l.fault(), &|| {
+            let mut shown = l.shown();
+            shown.extend(format!("(row {row}, room {room})\n").into_bytes());
+            shown
+        });
+        match &reference {
+            Ok(text) => {
+                self.see(&format!("sheet text of {} borders", l.header.borders));
+                if text.len() > second::MOST_BYTES {
+                    self.see("sheet text over 65,536 bytes");
+                }
+            }
+            Err(refusal) => self.see_corner_refusal("text", l, row, *refusal, room),
+        }
+        reference
+    }
+
+    /// The largest of the library's own flows is the sum of p times LTA.
+    fn largest_is_s(&mut self, l: &LentTables, row: usize, flows: &[i64]) {
+        self.corners += flows.len() as u64;
+        let mut s: i128 = 0;
+        for border in 0..l.header.borders {
+            let p = difference(l, row, border).max(0);
+            s += i128::from(p) * i128::from(l.b.part()[border][2]) * 1_000;
+        }
+        let largest = flows.iter().max().map(|flow| i128::from(*flow));
+        if largest != Some(s) {
+            let details = format!("row {row}: the largest flow is {largest:?}, S is {s}");
+            self.fail("keravnoth_corner_flows", &details, &l.shown());
+        }
+        self.see(&format!("sheet flows of {} borders", l.header.borders));
+        if flows.iter().any(|flow| *flow < 0) {
+            self.see("sheet with a flow below 0");
+        }
+        let at = flows.iter().position(|flow| i128::from(*flow) == s);
+        if at.is_some_and(|at| 0 < at && at + 1 < flows.len()) {
+            self.see("sheet whose largest flow is within");
+        }
+    }
+
+    /// Which refusal it was, and which later one it came before.
+    fn see_corner_refusal(&mut self, call: &str, l: &LentTables, row: usize, refusal: Refusal, room: usize) {
+        let h = l.header;
+        let nine = h.borders > second::MOST_CORNER_BORDERS || row >= h.rows;
+        if second::judge(h, l.z.part(), l.b.part(), l.c.part(), l.f.part()).is_err() {
+            if nine {
+                self.see(&format!("corner {call}, {} before 9", refusal.number));
+            }
+            return;
+        }
+        if !nine {
+            self.see(&format!("corner {call}, no room"));
+            return;
+        }
+        if h.borders > second::MOST_CORNER_BORDERS {
+            self.see(&format!("corner {call}, 9 for borders"));
+            if row >= h.rows {
+                self.see(&format!("corner {call}, 9 for borders before the row"));
+            }
+            if h.borders == second::MOST_CORNER_BORDERS + 1 {
+                self.see(&format!("corner {call}, 9 for 13 borders"));
+            }
+        } else {
+            self.see(&format!("corner {call}, 9 for the row"));
+            if room < 1 << h.borders {
+                self.see(&format!("corner {call}, 9 before the room"));
+            }
+        }
+    }
+
+    /// Both calls for a row of the table, for a row that is none, and with room
+    /// that is too short.
+    fn sheet(&mut self, d: &mut Dice, l: &mut LentTables) {
+        let h = l.header;
+        let row = d.below(h.rows);
+        let whole = second::corner_text(h, l.z.part(), l.b.part(), l.c.part(), l.f.part(), row, usize::MAX);
+        // where it is refused, room that would do for a few corners
+        let bytes = whole.as_ref().map_or(60, |text| text.len());
+        let corners = if whole.is_ok() { 1 << h.borders } else { 4 };
+        let more = d.below(3);
+        let flows = self.corner_flows(d, l, row, corners + more);
+        let text = self.corner_text(d, l, row, bytes + more);
+        if let (Ok(flows), Ok(text)) = (&flows, &text) {
+            let lines = text.iter().filter(|byte| **byte == b'\n').count();
+            if lines != flows.len() {
+                self.fail("keravnoth_corner_text", "not one line for each flow", &l.shown());
+            }
+        }
+        if d.one_in(2) {
+            let room = short(d, corners);
+            let _ = self.corner_flows(d, l, row, room);
+        } else {
+            let room = short(d, bytes);
+            let _ = self.corner_text(d, l, row, room);
+        }
+        if d.one_in(2) {
+            let row = no_row(d, h.rows);
+            let room = if d.one_in(2) { 0 } else { corners };
+            if d.one_in(2) {
+                let _ = self.corner_flows(d, l, row, room);
+            } else {
+                let _ = self.corner_text(d, l, row, room);
+            }
+        }
+    }
+
+    /// A table made for the corner sheet: each number of borders in turn.
+    fn sheet_table(&mut self, number: u64) {
+        self.kind = "sheet table";
+        self.number = number;
+        let mut dice = Dice::for_case(self.seed, 3, number);
+        let d = &mut dice;
+        let borders = 1 + number % SHEET_BORDERS;
+        let t = make::of_borders(d, borders as usize);
+        let h = t.header;
+        let needed = [h.zones, h.borders, h.rows, h.rows * h.zones];
+        let counts = with_extra(d, needed);
+        let mut l = LentTables::new(d, &t, counts);
+        self.sheet(d, &mut l);
+        self.bad_tables(d, &t, needed);
+    }
+
     // ----------------------------------------------------------- demand 3
 
     /// Exchanges up to the library's own ATCs load no kept row beyond its RAM;
@@ -520,6 +700,16 @@ impl Comparison {
             }
         }
 
+        // a sheet doubles with each border: large ones mostly by `sheet_table`
+        let one_in = match h.borders {
+            6..=8 => 4,
+            9..=second::MOST_CORNER_BORDERS => 40,
+            _ => 1,
+        };
+        if d.one_in(one_in) {
+            self.sheet(d, &mut l);
+        }
+
         // room that is too short
         self.short_reading(d, &text, needed);
         self.short_answer(d, &text, &answer);
@@ -626,7 +816,7 @@ impl Comparison {
         self.see_short("lent", needed, counts);
 
         let length = if short_room { d.below(60) } else { 40_000 };
-        match d.below(3) {
+        match d.below(5) {
             0 => {
                 // a buffer of 40,000 marks is dear: the exact length where it is known
                 let length = if short_room {
@@ -648,6 +838,18 @@ impl Comparison {
                 };
                 let outcome = self.extract(d, &mut l, room);
                 self.see_bad(&bad, outcome.err());
+            }
+            2 => {
+                let row = if d.one_in(3) { no_row(d, h.rows) } else { d.below(h.rows) };
+                let room = if short_room { d.below(3) } else { 1 << h.borders.min(8) };
+                let flows = self.corner_flows(d, &mut l, row, room);
+                self.see_bad(&bad, flows.err());
+            }
+            3 => {
+                let row = if d.one_in(3) { no_row(d, h.rows) } else { d.below(h.rows) };
+                let room = if short_room { length } else { 30 << h.borders.min(8) };
+                let text = self.corner_text(d, &mut l, row, room);
+                self.see_bad(&bad, text.err());
             }
             _ => {
                 let length = if short_room { length } else { 90 + 30 * (h.borders.min(40) + h.rows.min(200)) };
@@ -840,6 +1042,30 @@ fn difference(l: &LentTables, row: usize, border: usize) -> i64 {
     own[from as usize] - own[to as usize]
 }
 
+/// Less room than is needed.
+fn short(d: &mut Dice, needed: usize) -> usize {
+    match d.below(3) {
+        0 => 0,
+        1 => d.below(needed),
+        _ => needed - 1,
+    }
+}
+
+/// An index that is not below the number of rows: next to it, far off, or an
+/// index that is below it once cut to fewer bits.
+fn no_row(d: &mut Dice, rows: usize) -> usize {
+    let some = d.below(rows);
+    let row = match d.below(8) {
+        0..=2 => rows,
+        3 => rows.saturating_add(1 + d.below(300)),
+        4 => some.wrapping_add(256),
+        5 => some.wrapping_add(1 << 32),
+        6 => some.wrapping_add(1 << 63),
+        _ => usize::MAX,
+    };
+    row.max(rows)
+}
+
 /// As many items as needed, and often a few more.
 fn with_extra(d: &mut Dice, needed: [usize; 4]) -> [usize; 4] {
     if d.one_in(2) {
@@ -860,6 +1086,8 @@ fn wanted() -> Vec<(String, u64)> {
         ("extract", &[0, 3, 4, 5, 6, 7, 8]),
         ("keravnoth_result_text", &[0, 3, 4, 5, 6, 7, 8]),
         ("keravnoth_answer", &[0, 8]),
+        ("keravnoth_corner_flows", &[0, 3, 4, 8, 9]),
+        ("keravnoth_corner_text", &[0, 3, 4, 8, 9]),
     ] {
         for number in numbers {
             add(&format!("{call} {number}"), 100);
@@ -908,6 +1136,25 @@ fn wanted() -> Vec<(String, u64)> {
     add("text of 65,537 bytes", 20);
     add("empty text", 10);
     add("damaged text that is taken", 500);
+    for borders in 1..=second::MOST_CORNER_BORDERS {
+        let count = if borders <= 8 { 100 } else { 40 };
+        add(&format!("sheet flows of {borders} borders"), count);
+        add(&format!("sheet text of {borders} borders"), count);
+    }
+    add("sheet with a flow below 0", 1_000);
+    add("sheet whose largest flow is within", 1_000);
+    add("sheet text over 65,536 bytes", 25);
+    for call in ["flows", "text"] {
+        add(&format!("corner {call}, 9 for borders"), 200);
+        add(&format!("corner {call}, 9 for 13 borders"), 40);
+        add(&format!("corner {call}, 9 for borders before the row"), 100);
+        add(&format!("corner {call}, 9 for the row"), 1_000);
+        add(&format!("corner {call}, 9 before the room"), 500);
+        add(&format!("corner {call}, no room"), 1_000);
+        for number in [3, 4, 8] {
+            add(&format!("corner {call}, {number} before 9"), 100);
+        }
+    }
     list
 }
 
@@ -958,8 +1205,9 @@ fn main() {
         texts: 0,
         accepted: 0,
         exchanges: 0,
+        corners: 0,
         most_rounds: 0,
-        numbers: [0; 9],
+        numbers: [0; 10],
         seen: BTreeMap::new(),
     };
     let each = std::env::var_os("SHOW_EACH").is_some();
@@ -969,6 +1217,9 @@ fn main() {
         }
         if number < tables {
             c.table(number);
+            if number % SHEET_EVERY == 0 {
+                c.sheet_table(number / SHEET_EVERY);
+            }
         }
         if number < texts {
             c.text(number);
@@ -992,7 +1243,7 @@ fn main() {
             missed.push(format!("{name}: {reached}, wanted {}", share_of(count, size)));
         }
     }
-    for number in 1..=8 {
+    for number in 1..=9 {
         if c.numbers[number] < share_of(300, size) {
             missed.push(format!("refusal {number}: {}, wanted {}", c.numbers[number], share_of(300, size)));
         }
@@ -1001,14 +1252,15 @@ fn main() {
         missed.push(format!("accepted: {} of {tables} tables, wanted two fifths", c.accepted));
     }
     let refusals: Vec<String> =
-        (1..=8).map(|number| format!("{number}: {}", c.numbers[number])).collect();
+        (1..=9).map(|number| format!("{number}: {}", c.numbers[number])).collect();
     println!(
-        "no difference: {} of {tables} tables accepted; calls by refusal {}; {} texts, {} calls compared, {} sets of exchanges within RAM, most rounds {}",
+        "no difference: {} of {tables} tables accepted; calls by refusal {}; {} texts, {} calls compared, {} sets of exchanges within RAM, {} corners, most rounds {}",
         c.accepted,
         refusals.join(", "),
         c.texts,
         c.calls,
         c.exchanges,
+        c.corners,
         c.most_rounds
     );
     assert!(missed.is_empty(), "cases not reached often enough: {}", missed.join("; "));

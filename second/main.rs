@@ -1,11 +1,39 @@
 //! Reads the hour's table on standard input and writes the result text or the
 //! E line.  With the argument `rewrite`: the table written again, or the E line.
+//! With `corners`: the corner sheets of all rows, row 0 first, or the E line;
+//! with `corners` and a row's index, the sheet of that row.
 
 #[path = "second.rs"]
 mod second;
 
 use std::io::{Read, Write};
 use std::process::ExitCode;
+
+enum Work {
+    Answer,
+    Rewrite,
+    /// of one row, or of all
+    Corners(Option<usize>),
+}
+
+/// A row's index: a number as the table writes it.
+fn index(argument: &str) -> Option<usize> {
+    let digits = argument.bytes().all(|byte| byte.is_ascii_digit());
+    if !digits || argument.len() > 10 || argument.starts_with('0') && argument.len() > 1 {
+        return None;
+    }
+    argument.parse().ok()
+}
+
+fn work(arguments: &[String]) -> Option<Work> {
+    match arguments {
+        [] => Some(Work::Answer),
+        [word] if word == "rewrite" => Some(Work::Rewrite),
+        [word] if word == "corners" => Some(Work::Corners(None)),
+        [word, row] if word == "corners" => Some(Work::Corners(Some(index(row)?))),
+        _ => None,
+    }
+}
 
 /// More than 65,536 bytes are refused whatever follows, so one byte more than
 /// that is enough to read.
@@ -18,13 +46,9 @@ fn input() -> std::io::Result<Vec<u8>> {
 
 fn main() -> ExitCode {
     let arguments: Vec<String> = std::env::args().skip(1).collect();
-    let work: fn(&[u8]) -> Vec<u8> = match arguments.as_slice() {
-        [] => second::answer,
-        [word] if word == "rewrite" => second::rewrite,
-        _ => {
-            eprintln!("only the argument \"rewrite\" is known");
-            return ExitCode::from(2);
-        }
+    let Some(work) = work(&arguments) else {
+        eprintln!("arguments: none, \"rewrite\", \"corners\", or \"corners\" and a row's index");
+        return ExitCode::from(2);
     };
     let text = match input() {
         Ok(text) => text,
@@ -33,8 +57,13 @@ fn main() -> ExitCode {
             return ExitCode::from(2);
         }
     };
+    let answer = match work {
+        Work::Answer => second::answer(&text),
+        Work::Rewrite => second::rewrite(&text),
+        Work::Corners(only) => second::corners(&text, only),
+    };
     let mut out = std::io::stdout().lock();
-    match out.write_all(&work(&text)).and_then(|_| out.flush()) {
+    match out.write_all(&answer).and_then(|_| out.flush()) {
         Ok(()) => ExitCode::SUCCESS,
         Err(_) => ExitCode::from(2),
     }

@@ -236,8 +236,8 @@ fn lift(d: &mut Dice, t: &mut Tables, style: Style) {
     }
 }
 
-fn ordinary(d: &mut Dice, aim: Aim) -> Tables {
-    let mut header = sizes(d);
+fn ordinary(d: &mut Dice, aim: Aim, sizes: Header) -> Tables {
+    let mut header = sizes;
     if aim == Aim::Twice && header.borders < 2 {
         header.borders = 2;
     }
@@ -357,6 +357,25 @@ pub fn table(d: &mut Dice) -> (Tables, Aim) {
         90..=96 => Aim::Twice,
         _ => Aim::Slow,
     };
-    let t = if aim == Aim::Slow { slow(d) } else { ordinary(d, aim) };
+    let t = match aim {
+        Aim::Slow => slow(d),
+        _ => {
+            let header = sizes(d);
+            ordinary(d, aim, header)
+        }
+    };
     (t, aim)
+}
+
+/// A small table of so many borders, for the corner sheet: often one that the
+/// extraction turns away.
+pub fn of_borders(d: &mut Dice, borders: usize) -> Tables {
+    let mut least = 2;
+    while least * (least - 1) < borders {
+        least += 1;
+    }
+    let zones = d.of(&[least, least, least + 1, least + 4, 16]);
+    let rows = 1 + d.below(5);
+    let aim = d.of(&[Aim::Taken, Aim::Taken, Aim::Free, Aim::Free, Aim::Narrow, Aim::Lifted, Aim::Overeaten]);
+    ordinary(d, aim, Header { zones, borders, rows })
 }

@@ -100,6 +100,23 @@ fn result_text(l: &mut LentTables, out: &mut Lent<u8>) -> [u64; 3] {
     text_to(text, out)
 }
 
+fn corner_flows(l: &mut LentTables, row: usize, flows: &mut Lent<i64>) -> [u64; 3] {
+    match second::corner_flows(l.header, &l.z, &l.b, &l.c, &l.f, row, flows.len()) {
+        Err(refusal) => refused(refusal),
+        Ok(found) => {
+            for (item, flow) in flows.iter_mut().zip(&found) {
+                *item = *flow as i64;
+            }
+            [0, 0, found.len() as u64]
+        }
+    }
+}
+
+fn corner_text(l: &mut LentTables, row: usize, out: &mut Lent<u8>) -> [u64; 3] {
+    let text = second::corner_text(l.header, &l.z, &l.b, &l.c, &l.f, row, out.len());
+    text_to(text, out)
+}
+
 fn answer(text: &Lent<u8>, out: &mut Lent<u8>) -> [u64; 3] {
     let answer = second::answer(text);
     if out.len() < answer.len() {
@@ -144,6 +161,10 @@ impl<R: Read> Request<R> {
         self.input.read_exact(&mut self.bytes)?;
         let whole = self.bytes.chunks_exact(T::BYTES).map(T::got).collect();
         Ok(Lent { whole })
+    }
+
+    fn row(&self) -> usize {
+        self.words[wire::ROW] as usize
     }
 
     fn tables(&mut self) -> std::io::Result<LentTables> {
@@ -197,6 +218,22 @@ fn serve<R: Read>(request: &mut Request<R>, to: &mut Vec<u8>) -> std::io::Result
             put_tables(&l, to);
             wire::put_all(&atc.whole, to);
             wire::put_all(&left.whole, to);
+        }
+        wire::CORNER_FLOWS => {
+            let row = request.row();
+            let mut l = request.tables()?;
+            let mut flows = request.lent(wire::FLOWS)?;
+            put_fields(&corner_flows(&mut l, row, &mut flows), to);
+            put_tables(&l, to);
+            wire::put_all(&flows.whole, to);
+        }
+        wire::CORNER_TEXT => {
+            let row = request.row();
+            let mut l = request.tables()?;
+            let mut out = request.lent(wire::OUT)?;
+            put_fields(&corner_text(&mut l, row, &mut out), to);
+            put_tables(&l, to);
+            wire::put_all(&out.whole, to);
         }
         wire::ANSWER => {
             let text = request.lent(wire::TEXT)?;

@@ -1031,3 +1031,109 @@ pub fn rewrite(text: &[u8]) -> Vec<u8> {
         Err(refusal) => refusal_text(refusal),
     }
 }
+
+// ---------------------------------------------------------------------------
+// Corner sheet
+// ---------------------------------------------------------------------------
+
+/// "For a table with at most 12 borders"
+pub const MOST_CORNER_BORDERS: usize = 12;
+
+/// "9, more than 12 borders, place the border count, or else no such row, place
+/// its index"
+fn judge_sheet(header: Header, row: usize) -> Result<(), Refusal> {
+    if header.borders > MOST_CORNER_BORDERS {
+        return refuse(9, header.borders);
+    }
+    if row >= header.rows {
+        return refuse(9, row);
+    }
+    Ok(())
+}
+
+/// "border b is used when bit b of the corner's number is set"
+fn uses(corner: usize, border: usize) -> bool {
+    corner >> border & 1 == 1
+}
+
+/// "signed flow as summed for S, in grains": each used border at its whole LTA,
+/// the others at 0.
+fn corner_flow(factors: &[i64], borders: &[[i64; 3]], corner: usize) -> i128 {
+    let mut sum = 0;
+    for (index, border) in borders.iter().enumerate() {
+        if uses(corner, index) {
+            sum += difference(factors, border) * lta_kw(border);
+        }
+    }
+    sum
+}
+
+/// "every corner, each once", "numbers rising from 0"
+fn flows_of(tables: &Tables, row: usize) -> Vec<i128> {
+    let corners = 1 << tables.header.borders;
+    (0..corners).map(|corner| corner_flow(factors_of(tables, row), &tables.b, corner)).collect()
+}
+
+/// "A line is `K`, row, corner number, signed flow"
+fn sheet_text(tables: &Tables, row: usize) -> Vec<u8> {
+    let mut out = Vec::new();
+    for (corner, flow) in flows_of(tables, row).iter().enumerate() {
+        push_line(&mut out, "K", &[row.to_string(), corner.to_string(), flow.to_string()]);
+    }
+    out
+}
+
+/// One row's flows.  The tables judged, then 9, "after 4 and before the room for
+/// results"; the room is in numbers.  5, 6 and 7 are the extraction's.
+pub fn corner_flows(
+    header: Header,
+    z: &[i64],
+    b: &[[i64; 3]],
+    c: &[[i64; 7]],
+    f: &[i64],
+    row: usize,
+    room: usize,
+) -> Result<Vec<i128>, Refusal> {
+    let tables = judge(header, z, b, c, f)?;
+    judge_sheet(header, row)?;
+    let flows = flows_of(&tables, row);
+    judge_room(room, flows.len())?;
+    Ok(flows)
+}
+
+/// One row's sheet as text; the room is in bytes.
+pub fn corner_text(
+    header: Header,
+    z: &[i64],
+    b: &[[i64; 3]],
+    c: &[[i64; 7]],
+    f: &[i64],
+    row: usize,
+    room: usize,
+) -> Result<Vec<u8>, Refusal> {
+    let tables = judge(header, z, b, c, f)?;
+    judge_sheet(header, row)?;
+    let text = sheet_text(&tables, row);
+    judge_room(room, text.len())?;
+    Ok(text)
+}
+
+/// The sheet of one row of a text, or of all rows, row 0 first; or the E line.
+pub fn corners(text: &[u8], only: Option<usize>) -> Vec<u8> {
+    let tables = match read(text, ALL_ROOM) {
+        Ok(tables) => tables,
+        Err(refusal) => return refusal_text(refusal),
+    };
+    let rows = match only {
+        Some(row) => vec![row],
+        None => (0..tables.header.rows).collect(),
+    };
+    let mut sheets = Vec::new();
+    for row in rows {
+        if let Err(refusal) = judge_sheet(tables.header, row) {
+            return refusal_text(refusal);
+        }
+        sheets.extend(sheet_text(&tables, row));
+    }
+    sheets
+}

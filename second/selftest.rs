@@ -549,6 +549,163 @@ fn room_for_results() {
     assert!(w(&seven, usize::MAX).is_ok());
 }
 
+// --------------------------------------------------------------- corner sheet
+
+fn flows(t: &Tables, row: usize, room: usize) -> Result<Vec<i128>, Refusal> {
+    corner_flows(t.header, &t.z, &t.b, &t.c, &t.f, row, room)
+}
+
+fn sheet(t: &Tables, row: usize, room: usize) -> Result<Vec<u8>, Refusal> {
+    corner_text(t.header, &t.z, &t.b, &t.c, &t.f, row, room)
+}
+
+#[test]
+fn corners_of_the_worked_hour() {
+    let t = table(HOUR);
+    let billion: i128 = 1_000_000_000;
+    // row 0: border 0 (30000 - 10000) x 100000 kW, border 1 (10000 - 0) x 200000 kW
+    assert_eq!(flows(&t, 0, 4), Ok(vec![0, 2 * billion, 2 * billion, 4 * billion]));
+    // row 1: border 0 (5000 - 5000), border 1 (5000 - 0) x 200000 kW
+    assert_eq!(sheet(&t, 1, 99), Ok(text("K 1 0 0 / K 1 1 0 / K 1 2 1000000000 / K 1 3 1000000000")));
+    // rows of state 1 and 2 have their sheets too
+    assert_eq!(flows(&t, 2, 4), Ok(vec![0, 499_900_000, 0, 499_900_000]));
+    assert_eq!(flows(&t, 3, 4), Ok(vec![0, 2 * billion, 2 * billion, 4 * billion]));
+    for row in 0..4 {
+        assert_eq!(flows(&t, row, 4).unwrap().into_iter().max(), Some(margin_of(&t, row).s));
+        assert_eq!(corners(&text(HOUR), Some(row)), sheet(&t, row, usize::MAX).unwrap());
+    }
+    let all: Vec<u8> = (0..4).flat_map(|row| sheet(&t, row, usize::MAX).unwrap()).collect();
+    assert_eq!(corners(&text(HOUR), None), all);
+    assert_eq!(all.iter().filter(|byte| **byte == b'\n').count(), 16);
+}
+
+#[test]
+fn corners_by_hand() {
+    // a relieving border has a negative flow; bit 0 is border 0
+    let shown_table = "H 3 3 1 / Z 0 9 / Z 1 0 / Z 2 -9 / B 0 0 1 1 / B 1 1 0 10 / B 2 2 0 100 / C 0 1 0 7 0 0 0 0 1 0 4";
+    let t = table(shown_table);
+    assert_eq!(
+        shown(&sheet(&t, 0, usize::MAX).unwrap()),
+        "K 0 0 0 / K 0 1 1000 / K 0 2 -10000 / K 0 3 -9000 / K 0 4 300000 / K 0 5 301000 / K 0 6 290000 / K 0 7 291000"
+    );
+    // at the ends of the ranges: a factor difference of 200000 over 10000 MW
+    let t = table("H 2 2 1 / Z 0 0 / Z 1 0 / B 0 0 1 10000 / B 1 1 0 10000 / C 0 1 0 0 0 0 0 0 100000 -100000");
+    assert_eq!(flows(&t, 0, 4), Ok(vec![0, 2_000_000_000_000, -2_000_000_000_000, 0]));
+}
+
+#[test]
+fn corners_of_the_planners_hour() {
+    let bytes = include_bytes!("../hours/planner.tsv");
+    let t = read(bytes, ALL).unwrap();
+    assert!(out(&t).is_ok());
+    // the borders that load the row: 0 and 2; 1, 2 and 4; 0, 2 and 3
+    for (row, corner, flow) in [(0, 5, 8_600_000_000), (1, 22, 6_600_000_000), (2, 13, 5_150_000_000)] {
+        let list = flows(&t, row, 32).unwrap();
+        assert_eq!(list[corner], flow);
+        assert!(list.iter().all(|other| *other <= flow));
+    }
+}
+
+#[test]
+fn corners_at_most_12_borders() {
+    let t = |borders| read(&sized(16, borders, 2), ALL).unwrap();
+    assert_eq!(flows(&t(12), 1, 4_096).map(|list| list.len()), Ok(4_096));
+    assert_eq!(flows(&t(12), 1, 4_095), e(8, 4_096));
+    assert_eq!(flows(&t(13), 1, usize::MAX), e(9, 13));
+    assert_eq!(sheet(&t(13), 1, usize::MAX), e(9, 13));
+    assert_eq!(flows(&t(40), 1, usize::MAX), e(9, 40));
+    assert_eq!(shown(&corners(&sized(16, 13, 2), None)), "E 9 13");
+    assert_eq!(shown(&corners(&sized(16, 13, 2), Some(1))), "E 9 13");
+    // a sheet may pass the length that a table may have
+    let mut wide = t(12);
+    for (border, lta) in wide.b.iter_mut().zip(9_989..) {
+        border[2] = lta;
+    }
+    let long = sheet(&wide, 0, usize::MAX).unwrap();
+    assert!(long.len() > 65_536);
+    assert_eq!(sheet(&wide, 0, long.len() - 1), e(8, long.len()));
+    assert_eq!(sheet(&wide, 0, long.len()), Ok(long));
+}
+
+#[test]
+fn corner_refusals_and_their_order() {
+    let t = table(HOUR);
+    for row in [4, 5, 1 << 32, usize::MAX] {
+        assert_eq!(flows(&t, row, 4), e(9, row));
+        // 9 before the room
+        assert_eq!((flows(&t, row, 0), sheet(&t, row, 0)), (e(9, row), e(9, row)));
+    }
+    assert_eq!(shown(&corners(&text(HOUR), Some(4))), "E 9 4");
+    let size = sheet(&t, 1, usize::MAX).unwrap().len();
+    assert_eq!((flows(&t, 1, 3), flows(&t, 1, 0)), (e(8, 4), e(8, 4)));
+    assert_eq!((sheet(&t, 1, size - 1), sheet(&t, 1, 0)), (e(8, size), e(8, size)));
+    assert!(sheet(&t, 1, size).is_ok());
+    // 13 borders and no such row: the borders
+    let wide = read(&sized(16, 13, 2), ALL).unwrap();
+    assert_eq!((flows(&wide, 2, 0), sheet(&wide, 2, 0)), (e(9, 13), e(9, 13)));
+    // the header, lengths, records and 4 before 9
+    let mut one = wide.clone();
+    one.header.zones = 17;
+    assert_eq!(flows(&one, 2, 0), e(3, 1));
+    let mut one = wide.clone();
+    one.f.pop();
+    one.c[1][0] = 0;
+    assert_eq!(flows(&one, 2, 0), e(8, 32));
+    one.f.push(0);
+    one.b[12] = one.b[3];
+    assert_eq!(sheet(&one, 2, 0), e(3, 2 + 16 + 13 + 1));
+    one.c[1][0] = 1;
+    assert_eq!((flows(&one, 2, 0), sheet(&one, 2, 0)), (e(4, 12), e(4, 12)));
+    let mut twice = t.clone();
+    twice.b[1] = [0, 1, 0];
+    assert_eq!((flows(&twice, 4, 0), sheet(&twice, 0, 0)), (e(4, 1), e(4, 1)));
+    // reading refuses as ever
+    assert_eq!(shown(&corners(b"", None)), "E 2 1");
+    assert_eq!(shown(&corners(&hour_with(2, "Z 0 100000001"), Some(9))), "E 3 2");
+    assert_eq!(shown(&corners(&hour_with(6, "B 1 0 1 0"), Some(9))), "E 4 1");
+    // 5, 6 and 7 are not judged
+    let mut five = t.clone();
+    five.f = vec![0; 12];
+    let mut six = t.clone();
+    six.b[1] = [2, 1, 0];
+    let mut seven = t.clone();
+    seven.c[1][6] = 10_000_000;
+    for (number, t) in [(5, five), (6, six), (7, seven)] {
+        assert_eq!(out(&t).unwrap_err().number, number);
+        assert!(flows(&t, 1, 4).is_ok() && sheet(&t, 1, 99).is_ok());
+    }
+}
+
+#[test]
+fn largest_corner_is_s_on_random_tables() {
+    let mut d = Dice(0x5EED_0FC0_524E_5501);
+    let mut below_zero = 0;
+    for case in 0..1_500 {
+        let most = if case % 25 == 0 { 12 } else { 8 };
+        let t = random_tables(&mut d, most, 4);
+        for row in 0..t.header.rows {
+            let list = flows(&t, row, 1 << t.header.borders).unwrap();
+            let own = &t.f[row * t.header.zones..];
+            let mut s: i128 = 0;
+            let mut least: i128 = 0;
+            for [from, to, lta] in &t.b {
+                let flow = i128::from(own[*from as usize] - own[*to as usize]) * i128::from(*lta) * 1_000;
+                s += flow.max(0);
+                least += flow.min(0);
+            }
+            assert_eq!(list.iter().max(), Some(&s));
+            assert_eq!(list.iter().min(), Some(&least));
+            // setting one more bit adds that border's flow alone
+            for (corner, flow) in list.iter().enumerate() {
+                let lowest = corner & corner.wrapping_neg();
+                assert_eq!(*flow, list[corner ^ lowest] + list[lowest]);
+            }
+            below_zero += usize::from(least < 0);
+        }
+    }
+    assert!(below_zero > 500);
+}
+
 // -------------------------------------------------------------- random tables
 
 struct Dice(u64);

@@ -2,12 +2,13 @@
 //! makes the calls: c/bridge.c over a library, mock.rs over the reference
 //! calculator.  A word has 64 bits, the least byte first.
 //!
-//! A request: twelve words, then the lent buffers.  The words are the call, its
-//! header (zones, borders, rows; 0 where the call takes none) and the counts of
-//! items of z, b, c, f, atc, left, text and out (0 where the call does not take
-//! that buffer).  The buffers that the call takes follow in this order, each
-//! with BEFORE items before the lent part and AFTER items after it; an item is
-//! as many words as it has numbers, and a byte for text and out.
+//! A request: fourteen words, then the lent buffers.  The words are the call,
+//! its header (zones, borders, rows) and its row (each 0 where the call takes
+//! none), and the counts of items of z, b, c, f, atc, left, flows, text and out
+//! (0 where the call does not take that buffer).  The buffers that the call
+//! takes follow in this order, each with BEFORE items before the lent part and
+//! AFTER items after it; an item is as many words as it has numbers, and a byte
+//! for text and out.
 //!
 //! An answer: the fields of the call's struct, a word each, then the same
 //! buffers as the call left them.
@@ -21,23 +22,29 @@ pub const WRITE: u64 = 2;
 pub const EXTRACT: u64 = 3;
 pub const RESULT_TEXT: u64 = 4;
 pub const ANSWER: u64 = 5;
+pub const CORNER_FLOWS: u64 = 6;
+pub const CORNER_TEXT: u64 = 7;
 
 /// Items before and after the lent part that nobody may touch.
 pub const BEFORE: usize = 2;
 pub const AFTER: usize = 3;
 
 /// The words of a request.
-pub const WORDS: usize = 12;
+pub const WORDS: usize = 14;
+
+/// Where the row stands among them.
+pub const ROW: usize = 4;
 
 /// Where the count of each buffer stands among them.
-pub const Z: usize = 4;
-pub const B: usize = 5;
-pub const C: usize = 6;
-pub const F: usize = 7;
-pub const ATC: usize = 8;
-pub const LEFT: usize = 9;
-pub const TEXT: usize = 10;
-pub const OUT: usize = 11;
+pub const Z: usize = 5;
+pub const B: usize = 6;
+pub const C: usize = 7;
+pub const F: usize = 8;
+pub const ATC: usize = 9;
+pub const LEFT: usize = 10;
+pub const FLOWS: usize = 11;
+pub const TEXT: usize = 12;
+pub const OUT: usize = 13;
 
 /// An item of a lent buffer as bytes.
 pub trait Item: Copy {

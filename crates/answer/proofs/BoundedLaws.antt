@@ -48,7 +48,7 @@ limited t r e b h =
 
 module _ (t : Table) (good : Good t) where
   few : t .header .borders ≤ bordersMost
-  few = header-in (t .header) (good .header) .borders-most
+  few = header-in (t .header) (good .exact .header) .borders-most
 
   starts : (i : ℕ) → i < t .header .rows → at (s t .margins) i < 2 ^ namedBits
   starts = small-start t bordersMost namedBits few (λ i l. named-values-small good i l .start)
@@ -89,7 +89,7 @@ module _ (t : Table) (good : Good t) where
   pub accepted-bounded : (r : Result) → outcomeOf t ≡ passed r → Bounded r
   unfolding resultOf atcOf leftOf
   accepted-bounded r e =
-      let k = header-in (t .header) (good .header) in
+      let k = header-in (t .header) (good .exact .header) in
       let a = accepted t r e in
       subst Bounded (a .is)
       (record {

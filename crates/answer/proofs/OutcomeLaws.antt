@@ -47,7 +47,7 @@ unfolding outcomeLent resultOf
 outcome-header given r e =
     let w = then-passed (judgeLent given) outcomeOf r e in
     let f : w .it .header ≡ given .header = ap (λ (t : Table). t .header) (judged-front given (w .it) (w .first)) in
-    let h = header-in (w .it .header) (judged-good given (w .it) (w .first) .header) in
+    let h = header-in (w .it .header) (judged-good given (w .it) (w .first) .exact .header) in
     record {
       header = sym (ap (λ (v : Result). v .header) (accepted (w .it) r (w .second) .is)) ∙ f;
       borders = omega (arith, h .borders-most, ap (λ (v : Header). v .borders) f);

@@ -106,7 +106,7 @@ text-sound text =
 pub outcome-sound : (t : Table) → Good t → Sound (outcomeOf t)
 unfolding outcomeOf judgeStart
 outcome-sound t good =
-    let k = header-in (t .header) (good .header) in
+    let k = header-in (t .header) (good .exact .header) in
     then-sound (judgeStart t (rowsOf t)) _
     (unless-sound _ _ _ (record { digit = omega arith; held = omega arith })
     (first-sound (t .header .borders) _ _ _ (λ b l. record { digit = omega arith; held = omega (arith, k .borders-most) })

@@ -34,7 +34,7 @@ module _ (text : List ℕ) (z : List ℤ) (b c : List (List ℤ)) (f : List ℤ)
     (hz : zonesMost ≤ length z) (hb : bordersMost ≤ length b) (hc : rowsMost ≤ length c) (hf : rowsMost * zonesMost ≤ length f) where
   enough : (t : Table) → readText text ≡ passed t → Enough (t .header) (length z) (length b) (length c) (length f)
   enough t e =
-      let fits = read-good text t e .header in
+      let fits = read-good text t e .exact .header in
       let h = header-in (t .header) fits in
       record {
         zones = omega (arith, h .zones-most);

@@ -13,7 +13,8 @@ use borrow.Fn.Kinds.{endedOf}
 use Rattle.cabi.specs.declared.KeravnothRead.{KeravnothRead}
 use Rattle.cabi.specs.declared.KeravnothWritten.{KeravnothWritten}
 use Rattle.cabi.specs.declared.KeravnothExtracted.{KeravnothExtracted}
-use Rattle.cabi.specs.Coded.{ReadCoded, readFound, TextCoded, textFound, ExtractCoded, extractFound}
+use Rattle.cabi.specs.declared.KeravnothFlows.{KeravnothFlows}
+use Rattle.cabi.specs.Coded.{ReadCoded, readFound, TextCoded, textFound, ExtractCoded, extractFound, FlowsCoded, flowsFound}
 use Rattle.cabi.proofs.keravnoth_read as read
 use Rattle.cabi.proofs.keravnoth_read.Kinds as read-kinds
 use Rattle.cabi.proofs.keravnoth_read.Reads as read-reads
@@ -29,6 +30,12 @@ use Rattle.cabi.proofs.keravnoth_result_text.Reads as result-text-reads
 use Rattle.cabi.proofs.keravnoth_answer as answer
 use Rattle.cabi.proofs.keravnoth_answer.Kinds as answer-kinds
 use Rattle.cabi.proofs.keravnoth_answer.Reads as answer-reads
+use Rattle.cabi.proofs.keravnoth_corner_flows as corner-flows
+use Rattle.cabi.proofs.keravnoth_corner_flows.Kinds as corner-flows-kinds
+use Rattle.cabi.proofs.keravnoth_corner_flows.Reads as corner-flows-reads
+use Rattle.cabi.proofs.keravnoth_corner_text as corner-text
+use Rattle.cabi.proofs.keravnoth_corner_text.Kinds as corner-text-kinds
+use Rattle.cabi.proofs.keravnoth_corner_text.Reads as corner-text-reads
 
 -- ---- whatever a call may leave, it leaves one thing
 read-one : (may : ReadCoded) (r r′ : KeravnothRead) (z z′ : List ℤ) (b b′ c c′ : List (List ℤ)) (f f′ : List ℤ) → readFound r z b c f ≡ may → readFound r′ z′ b′ c′ f′ ≡ may
@@ -45,6 +52,9 @@ extract-one : (may : ExtractCoded) (r r′ : KeravnothExtracted) (atcs atcs′ l
 extract-one may r r′ atcs atcs′ lefts lefts′ p q =
     let e = p ∙ sym q in
     (ap (λ (l : ExtractCoded). l .answer) e, (ap (λ (l : ExtractCoded). l .atcs) e, ap (λ (l : ExtractCoded). l .lefts) e))
+
+flows-one : (may : FlowsCoded) (r r′ : KeravnothFlows) (out out′ : List ℤ) → flowsFound r out ≡ may → flowsFound r′ out′ ≡ may → (r ≡ r′) × (out ≡ out′)
+flows-one may r r′ out out′ p q = let e = p ∙ sym q in (ap (λ (l : FlowsCoded). l .answer) e, ap (λ (l : FlowsCoded). l .out) e)
 
 -- ---- the calls; the tables that `keravnoth_read` fills are its second to fifth arguments
 pub keravnoth-read-once : (κs : Lfts 5) (x : ArgsD read.signature κs) (r r′ : ResD read.signature κs) (s s′ : AtExit (endedOf 5 read-kinds.ps read-kinds.r) κs)
@@ -76,3 +86,12 @@ keravnoth-result-text-once κs x r r′ s s′ p q = text-one _ _ _ _ _ p q
 pub keravnoth-answer-once : (κs : Lfts 2) (x : ArgsD answer.signature κs) (r r′ : ResD answer.signature κs) (s s′ : AtExit (endedOf 2 answer-kinds.ps answer-kinds.r) κs)
     → answer-reads.Post κs x r s → answer-reads.Post κs x r′ s′ → (r ≡ r′) × (now (s .1 .0) ≡ now (s′ .1 .0))
 keravnoth-answer-once κs x r r′ s s′ p q = text-one _ _ _ _ _ p q
+
+-- `out` is the ninth argument, also of the text
+pub keravnoth-corner-flows-once : (κs : Lfts 5) (x : ArgsD corner-flows.signature κs) (r r′ : ResD corner-flows.signature κs) (s s′ : AtExit (endedOf 5 corner-flows-kinds.ps corner-flows-kinds.r) κs)
+    → corner-flows-reads.Post κs x r s → corner-flows-reads.Post κs x r′ s′ → (r ≡ r′) × (now (s .1 .1 .1 .1 .1 .1 .1 .1 .0) ≡ now (s′ .1 .1 .1 .1 .1 .1 .1 .1 .0))
+keravnoth-corner-flows-once κs x r r′ s s′ p q = flows-one _ _ _ _ _ p q
+
+pub keravnoth-corner-text-once : (κs : Lfts 5) (x : ArgsD corner-text.signature κs) (r r′ : ResD corner-text.signature κs) (s s′ : AtExit (endedOf 5 corner-text-kinds.ps corner-text-kinds.r) κs)
+    → corner-text-reads.Post κs x r s → corner-text-reads.Post κs x r′ s′ → (r ≡ r′) × (now (s .1 .1 .1 .1 .1 .1 .1 .1 .0) ≡ now (s′ .1 .1 .1 .1 .1 .1 .1 .1 .0))
+keravnoth-corner-text-once κs x r r′ s s′ p q = text-one _ _ _ _ _ p q

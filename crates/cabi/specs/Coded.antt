@@ -1,5 +1,5 @@
 -- What the C interface answers: number and place of the refusal, 0 and 0 where there is none, and then the values (0 where refused).
--- `readCoded`, `textCoded` and `extractCoded` are what contracts cite: a call's answer coded so, and each lent buffer as the call leaves it.
+-- `readCoded`, `textCoded`, `extractCoded` and `flowsCoded` are what contracts cite: a call's answer coded so, and each lent buffer as the call leaves it.
 -- Assumes nothing.
 use mathlib.Core.List.{List}
 use Prim.Native.Nat.{ℕ}
@@ -9,9 +9,11 @@ use Rattle.kinds.specs.Refusals.{Judged, passed, refused}
 use Rattle.reading.specs.Reading.{ReadLeft}
 use Rattle.writing.specs.Writing.{TextLeft}
 use Rattle.extraction.specs.Extraction.{ExtractLeft}
+use Rattle.corners.specs.Corners.{FlowsLeft}
 use Rattle.cabi.specs.declared.KeravnothRead.{KeravnothRead}
 use Rattle.cabi.specs.declared.KeravnothWritten.{KeravnothWritten}
 use Rattle.cabi.specs.declared.KeravnothExtracted.{KeravnothExtracted}
+use Rattle.cabi.specs.declared.KeravnothFlows.{KeravnothFlows}
 
 -- the header of the table that was read
 abbrev pub codedRead : Judged Header → KeravnothRead
@@ -27,6 +29,11 @@ codedWritten (refused w) = record { number = w .number; place = w .place; bytes 
 abbrev pub codedExtracted : Judged ℕ → KeravnothExtracted
 codedExtracted (passed n) = record { number = 0; place = 0; rounds = n }
 codedExtracted (refused w) = record { number = w .number; place = w .place; rounds = 0 }
+
+-- the corners
+abbrev pub codedFlows : Judged ℕ → KeravnothFlows
+codedFlows (passed n) = record { number = 0; place = 0; corners = n }
+codedFlows (refused w) = record { number = w .number; place = w .place; corners = 0 }
 
 -- what `keravnoth_read` leaves: its answer, and each lent table
 pub record ReadCoded : Type 0 where
@@ -64,3 +71,14 @@ extractFound answer atcs lefts = record { answer = answer; atcs = atcs; lefts = 
 
 abbrev pub extractCoded : ExtractLeft → ExtractCoded
 extractCoded l = extractFound (codedExtracted (l .answer)) (l .atcs) (l .lefts)
+
+-- what `keravnoth_corner_flows` leaves: its answer, and the lent numbers
+pub record FlowsCoded : Type 0 where
+  pub answer : KeravnothFlows
+  pub out : List ℤ
+
+abbrev pub flowsFound : (answer : KeravnothFlows) → (out : List ℤ) → FlowsCoded
+flowsFound answer out = record { answer = answer; out = out }
+
+abbrev pub flowsCoded : FlowsLeft → FlowsCoded
+flowsCoded l = flowsFound (codedFlows (l .answer)) (l .out)

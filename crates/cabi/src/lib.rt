@@ -2,17 +2,20 @@
 // C hands a slice over as a pointer and the count of its items. Any input has an answer: there is no `requires`.
 ghost use mathlib.Core.Path.{_≡_};
 ghost use Rattle.kinds.specs.Refusals.{told};
-ghost use Rattle.kinds.specs.Answers.{saidRead, saidWritten, saidExtracted};
+ghost use Rattle.kinds.specs.Answers.{saidRead, saidWritten, saidExtracted, saidFlows};
 ghost use Rattle.table.specs.Table.{lent};
 ghost use Rattle.reading.specs.Reading.{readLeft};
 ghost use Rattle.writing.specs.Writing.{writeLeft};
 ghost use Rattle.extraction.specs.Extraction.{extractLeft};
+ghost use Rattle.corners.specs.Corners.{cornersLeft};
+ghost use Rattle.cornertext.specs.CornerText.{cornerTextLeft};
 ghost use Rattle.result.specs.Result.{resultTextLeft, answerLeft};
-ghost use Rattle.cabi.specs.Coded.{codedRead, codedWritten, codedExtracted, readFound, readCoded, textFound, textCoded, extractFound, extractCoded};
+ghost use Rattle.cabi.specs.Coded.{codedRead, codedWritten, codedExtracted, codedFlows, readFound, readCoded, textFound, textCoded, extractFound, extractCoded, flowsFound, flowsCoded};
 use extraction::AtcRecord;
 use extraction::LeftRecord;
 use kinds::BorderRecord;
 use kinds::Extracted;
+use kinds::Flows;
 use kinds::Header;
 use kinds::Read;
 use kinds::Refusal;
@@ -40,6 +43,13 @@ pub struct KeravnothExtracted {
     pub number: u32,
     pub place: usize,
     pub rounds: u64,
+}
+
+#[repr(C)]
+pub struct KeravnothFlows {
+    pub number: u32,
+    pub place: usize,
+    pub corners: usize,
 }
 
 // Reads a table's text into z, b, c and f.
@@ -131,6 +141,52 @@ pub extern "C" fn keravnoth_answer(text: &[u8], out: &mut [u8]) -> KeravnothWrit
     code_written(answer::answer(text, out))
 }
 
+// The flows of all corners on one row.
+#[no_mangle]
+pub extern "C" fn keravnoth_corner_flows(
+    zones: usize,
+    borders: usize,
+    rows: usize,
+    z: &[i64],
+    b: &[BorderRecord],
+    c: &[RowRecord],
+    f: &[i64],
+    row: usize,
+    out: &mut [i64],
+) -> KeravnothFlows
+    ensures { λ r. ⌜ flowsFound r (now (out .exit)) ≡ flowsCoded (cornersLeft (lent (record { zones = zones; borders = borders; rows = rows }) (now (z .entry)) (now (b .entry)) (now (c .entry)) (now (f .entry))) row (now (out .entry))) ⌝ }
+{
+    let h = Header {
+        zones: zones,
+        borders: borders,
+        rows: rows,
+    };
+    code_flows(corners::corner_flows(h, z, b, c, f, row, out))
+}
+
+// The same as text.
+#[no_mangle]
+pub extern "C" fn keravnoth_corner_text(
+    zones: usize,
+    borders: usize,
+    rows: usize,
+    z: &[i64],
+    b: &[BorderRecord],
+    c: &[RowRecord],
+    f: &[i64],
+    row: usize,
+    out: &mut [u8],
+) -> KeravnothWritten
+    ensures { λ r. ⌜ textFound r (now (out .exit)) ≡ textCoded (cornerTextLeft (lent (record { zones = zones; borders = borders; rows = rows }) (now (z .entry)) (now (b .entry)) (now (c .entry)) (now (f .entry))) row (now (out .entry))) ⌝ }
+{
+    let h = Header {
+        zones: zones,
+        borders: borders,
+        rows: rows,
+    };
+    code_written(cornertext::corner_text(h, z, b, c, f, row, out))
+}
+
 fn code_read(said: Read) -> KeravnothRead
     ensures { λ r. ⌜ r ≡ codedRead (saidRead said) ⌝ }
 {
@@ -198,7 +254,28 @@ fn code_extracted(said: Extracted) -> KeravnothExtracted
     }
 }
 
-// 1 to 8, as wide as C takes it.
+fn code_flows(said: Flows) -> KeravnothFlows
+    ensures { λ r. ⌜ r ≡ codedFlows (saidFlows said) ⌝ }
+{
+    match said {
+        Flows::Corners(corners) => KeravnothFlows {
+            number: 0,
+            place: 0,
+            corners: corners,
+        },
+        Flows::Refused(w) => {
+            let number = refusal_number(w);
+            let place = result::refusal::refusal_place(w);
+            KeravnothFlows {
+                number: number,
+                place: place,
+                corners: 0,
+            }
+        }
+    }
+}
+
+// 1 to 9, as wide as C takes it.
 fn refusal_number(w: Refusal) -> u32
     ensures { λ r. ⌜ r ≡ told w .number ⌝ }
 {

@@ -43,7 +43,7 @@ pub accepted-demand-3 : (t : Table) (r : Result) → Good t → outcomeOf t ≡ 
 accepted-demand-3 t r good e =
     let a = accepted t r e in
     subst (Demand3 t) (a .is)
-    (demand-3 t (good .borders-long) (a .above) (header-in (t .header) (good .header) .borders-most) (λ i h. named-values-small good i h .start))
+    (demand-3 t (good .exact .borders-long) (a .above) (header-in (t .header) (good .exact .header) .borders-most) (λ i h. named-values-small good i h .start))
 
 -- .. and so of lent tables, once they are judged
 pub lent-demand-3 : (given t : Table) (r : Result) → judgeLent given ≡ passed t → outcomeOf t ≡ passed r → Demand3 t r

@@ -126,7 +126,7 @@ module _ {t : Table} (good : Good t) {r : Judgement} {rams : List ℤ} {states p
 
   ltas-are : ltas (t .borders) ≡ startOf t (rowsOf t) .x
   unfolding startOf
-  ltas-are = ap (λ (n : ℕ). table n (λ k. ltaKw (borderOf (getD (t .borders) k [])))) (good .borders-long)
+  ltas-are = ap (λ (n : ℕ). table n (λ k. ltaKw (borderOf (getD (t .borders) k [])))) (good .exact .borders-long)
 
   -- the flat table of p agrees with the grid at every row and border
   p-at : (i b : ℕ) → i < h .rows → b < h .borders → flat (h .rows) (h .borders) p .p i b ≡ gridOf t (rowsOf t) .p i b
@@ -141,12 +141,12 @@ module _ {t : Table} (good : Good t) {r : Judgement} {rams : List ℤ} {states p
   unfolding startOf
   finishable =
       let rows = rows-in t m good (q .rows) in
-      let few = header-in h (good .header) .borders-most in
+      let few = header-in h (good .exact .header) .borders-most in
       record {
         run = record {
-          header = good .header;
+          header = good .exact .header;
           borders = good-borders good;
-          borders-long = good .borders-long;
+          borders-long = good .exact .borders-long;
           p-long = ap length (q .p-is) ∙ cells-long t (rowsOf t);
           margins-long = ap length (q .margins-are) ∙ table-long (h .rows) _;
           fits = λ i l.
@@ -155,7 +155,7 @@ module _ {t : Table} (good : Good t) {r : Judgement} {rams : List ℤ} {states p
                 ap (λ (v : List ℕ). at v i) (q .margins-are),
                 small-start t bordersMost namedBits few (λ j k. named-values-small good j k .start) i l,
                 load-is i l,
-                load-le t (good .borders-long) i,
+                load-le t (good .exact .borders-long) i,
                 named-values-small good i l .s,
               );
         };
@@ -220,7 +220,7 @@ module _ (given : Table) (atcs lefts : List (List ℤ)) (hb : bordersMost ≤ le
   enough : (t : Table) → Good t → (o : Judged Result) → outcomeOf t ≡ o → then o (room atcs lefts) ≡ o
   unfolding then resultOf
   enough t good (passed r) e =
-      let h = header-in (t .header) (good .header) in
+      let h = header-in (t .header) (good .exact .header) in
       let k : t .header ≡ r .header = ap (λ (v : Result). v .header) (accepted t r e .is) in
       need-enough _ _ _ (omega (arith, h .borders-most, ap (λ (v : Header). v .borders) k)) ∙ need-enough _ _ _ (omega (arith, h .rows-most, ap (λ (v : Header). v .rows) k))
   enough t good (refused w) e = refl

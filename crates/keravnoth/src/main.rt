@@ -1,27 +1,31 @@
 // The program: a table on standard input, its answer on standard output (01, "Result text").
-// `keravnoth rewrite` writes the table again instead. Where reading or writing fails, a message on standard error says so:
-// a table that was not read to its end is not answered.
+// `keravnoth rewrite` writes the table again instead, `keravnoth corners` its corner sheets, of all rows or of the one that is named
+// (02, E1). Where reading or writing fails, a message on standard error says so: a table that was not read to its end is not answered.
 ghost use mathlib.Core.Bool.{cond};
 ghost use Prim.Native.Nat.{_≤_};
 ghost use lib.ListN.{length};
 ghost use Rattle.kinds.specs.Limits.{bytesMost};
 ghost use Rattle.result.specs.Result.{answerText};
-ghost use Rattle.prints.specs.Printed.{rewritten, Printed};
+ghost use Rattle.prints.specs.Printed.{rewritten, sheetRoom, Printed};
 ghost use Rattle.keravnoth.specs.Taken.{within};
+use arguments::Held;
 use libc::STDERR_FILENO;
 use libc::STDIN_FILENO;
 use libc::STDOUT_FILENO;
+use sheets::Rows;
 
 // One byte more than a table may have, so that a longer one is seen.
 const TEXT_ROOM: usize = 65537;
 
-// No table that is taken, and no answer, is longer.
-const OUT_ROOM: usize = 65536;
-
-// What the argument asks for.
 enum Task {
     Answer,
     Rewrite,
+    Corners(Rows),
+}
+
+// What the arguments ask for.
+enum Asked {
+    Task(Task),
     Help,
 }
 
@@ -32,67 +36,92 @@ enum Input {
 }
 
 fn main() {
-    match asked() {
-        Task::Answer => run(false),
-        Task::Rewrite => run(true),
-        Task::Help => help(),
+    match read_arguments() {
+        Asked::Task(task) => run(task),
+        Asked::Help => help(),
     }
 }
 
-fn asked() -> Task {
+fn read_arguments() -> Asked {
     let count = os::arg_count();
     if count < 2 {
-        return Task::Answer;
+        return Asked::Task(Task::Answer);
     }
-    let mut word = io::buffer();
-    let n = os::arg(1, &mut word);
-    if count == 2 && same(&word[..n], b"rewrite") {
-        return Task::Rewrite;
+    if arguments::is(1, b"corners") {
+        return read_rows(count);
     }
-    Task::Help
+    if count == 2 && arguments::is(1, b"rewrite") {
+        return Asked::Task(Task::Rewrite);
+    }
+    Asked::Help
 }
 
-fn same(word: &[u8], other: &[u8]) -> bool {
-    if word.len() != other.len() {
-        return false;
+fn read_rows(count: usize) -> Asked {
+    if count == 2 {
+        return Asked::Task(Task::Corners(Rows::Every));
     }
-    let mut i: usize = 0;
-    while i < word.len() {
-        if word[i] != other[i] {
-            return false;
+    if count == 3 {
+        if let Held::Number(row) = arguments::number(2) {
+            return Asked::Task(Task::Corners(Rows::One(row as usize)));
         }
-        i += 1;
     }
-    true
+    Asked::Help
 }
 
 fn help() {
     io::write_all(
         STDERR_FILENO,
-        b"usage: keravnoth < TABLE          the result text, or a line E, number, place\n",
+        b"usage: keravnoth < TABLE              the result text, or a line E, number, place\n",
     );
     io::write_all(
         STDERR_FILENO,
-        b"       keravnoth rewrite < TABLE  the table, written again\n",
+        b"       keravnoth rewrite < TABLE      the table, written again\n",
+    );
+    io::write_all(
+        STDERR_FILENO,
+        b"       keravnoth corners < TABLE      every corner's flow on each row\n",
+    );
+    io::write_all(
+        STDERR_FILENO,
+        b"       keravnoth corners ROW < TABLE  .. on one row\n",
     );
 }
 
-fn run(rewrite: bool) {
+fn run(task: Task) {
     let mut text = [0u8; TEXT_ROOM];
-    let mut out = [0u8; OUT_ROOM];
-    run_in(rewrite, &mut text, &mut out)
+    let mut out = [0u8; sheets::ROOM];
+    run_in(task, &mut text, &mut out)
 }
 
 // The memory is made in `run`, and not here, where goals would spell it out.
-fn run_in(rewrite: bool, text: &mut [u8], out: &mut [u8])
-    requires { ⌜ bytesMost ≤ length (now out) ⌝ }
+fn run_in(task: Task, text: &mut [u8], out: &mut [u8])
+    requires { ⌜ sheetRoom ≤ length (now out) ⌝ }
 {
     let Input::Bytes(n) = read_text(text) else {
         os::fail(b"keravnoth: reading");
         return;
     };
-    let m = put(rewrite, &text[..n], out);
-    print(&out[..m])
+    // What was written before an error stays written: the message is all that can be said.
+    if !print(task, &text[..n], out) {
+        os::fail(b"keravnoth: writing");
+    }
+}
+
+fn print(task: Task, text: &[u8], out: &mut [u8]) -> bool
+    requires { ⌜ sheetRoom ≤ length (now out) ⌝ }
+{
+    match task {
+        Task::Answer => print_text(false, text, out),
+        Task::Rewrite => print_text(true, text, out),
+        Task::Corners(rows) => sheets::print(text, rows, out),
+    }
+}
+
+fn print_text(rewrite: bool, text: &[u8], out: &mut [u8]) -> bool
+    requires { ⌜ bytesMost ≤ length (now out) ⌝ }
+{
+    let m = put(rewrite, text, out);
+    io::write_all(STDOUT_FILENO, &out[..m])
 }
 
 // The table that was read, or its answer; where it is refused, the E line.
@@ -104,13 +133,6 @@ fn put(rewrite: bool, text: &[u8], out: &mut [u8]) -> usize
         return prints::rewrite(text, out);
     }
     prints::answer(text, out)
-}
-
-// What was written before an error stays written: the message is all that can be said.
-fn print(out: &[u8]) {
-    if !io::write_all(STDOUT_FILENO, out) {
-        os::fail(b"keravnoth: writing");
-    }
 }
 
 // Reads until the input ends or the text is full.

@@ -1,9 +1,10 @@
 -- What an answer says tells the answer: `told`, `ruled` and each `said..` of `specs/Answers.antt` are injective, since what they say can be read back.
--- That an open call has one answer cites these. No contract cites this file.
+-- That an open call has one answer cites these. And that a refusal's number is one digit. No contract cites this file.
 -- Assumes nothing.
 use mathlib.Core.Path.{_≡_, refl, sym, ap, _∙_}
 use mathlib.Core.Bool.{cond}
-use Prim.Native.Nat.{ℕ}
+use Prim.Native.Nat.{ℕ, _<_}
+use native.Mathlib.Omega.{arith}
 use lib.Dec.{eqb}
 use Rattle.kinds.specs.declared.Header.{Header}
 use Rattle.kinds.specs.declared.Refusal.{Refusal}
@@ -16,8 +17,10 @@ use Rattle.kinds.specs.declared.Written.{Written}
 use Rattle.kinds.specs.declared.Written.the-variants as written
 use Rattle.kinds.specs.declared.Extracted.{Extracted}
 use Rattle.kinds.specs.declared.Extracted.the-variants as extracted
+use Rattle.kinds.specs.declared.Flows.{Flows}
+use Rattle.kinds.specs.declared.Flows.the-variants as flows
 use Rattle.kinds.specs.Refusals.{Why, Judged, passed, refused, told}
-use Rattle.kinds.specs.Answers.{ruled, saidRead, saidWritten, saidExtracted}
+use Rattle.kinds.specs.Answers.{ruled, saidRead, saidWritten, saidExtracted, saidFlows}
 
 injective : {A B : Type 0} (said : A → B) (back : B → A) → ((a : A) → back (said a) ≡ a) → (a a′ : A) → said a ≡ said a′ → a ≡ a′
 injective said back h a a′ e = sym (h a) ∙ ap back e ∙ h a′
@@ -34,7 +37,8 @@ causeOf w =
     (cond (eqb number 5) cause.NoRow
     (cond (eqb number 6) (cause.Unlimited place)
     (cond (eqb number 7) (cause.Below place)
-    (cause.Short place)))))))
+    (cond (eqb number 8) (cause.Short place)
+    (cause.Corners place))))))))
 
 cause-told : (w : Refusal) → causeOf (told w) ≡ w
 unfolding causeOf
@@ -46,9 +50,22 @@ cause-told cause.NoRow = refl
 cause-told (cause.Unlimited border) = refl
 cause-told (cause.Below row) = refl
 cause-told (cause.Short needed) = refl
+cause-told (cause.Corners place) = refl
 
 pub told-injective : (w w′ : Refusal) → told w ≡ told w′ → w ≡ w′
 told-injective = injective told causeOf cause-told
+
+-- a number is one digit
+pub told-digit : (w : Refusal) → told w .number < 10
+told-digit cause.TooLong = omega arith
+told-digit (cause.Form line) = omega arith
+told-digit (cause.Range line) = omega arith
+told-digit (cause.Twice border) = omega arith
+told-digit cause.NoRow = omega arith
+told-digit (cause.Unlimited border) = omega arith
+told-digit (cause.Below row) = omega arith
+told-digit (cause.Short needed) = omega arith
+told-digit (cause.Corners place) = omega arith
 
 -- ---- the answers
 module _ {A : Type 0} (a : A) where
@@ -99,3 +116,15 @@ extracted-said (extracted.Refused w) = ap extracted.Refused (cause-told w)
 
 pub saidExtracted-injective : (r r′ : Extracted) → saidExtracted r ≡ saidExtracted r′ → r ≡ r′
 saidExtracted-injective = injective saidExtracted extractedOf extracted-said
+
+flowsOf : Judged ℕ → Flows
+flowsOf (passed n) = flows.Corners n
+flowsOf (refused w) = flows.Refused (causeOf w)
+
+flows-said : (r : Flows) → flowsOf (saidFlows r) ≡ r
+unfolding flowsOf
+flows-said (flows.Corners n) = refl
+flows-said (flows.Refused w) = ap flows.Refused (cause-told w)
+
+pub saidFlows-injective : (r r′ : Flows) → saidFlows r ≡ saidFlows r′ → r ≡ r′
+saidFlows-injective = injective saidFlows flowsOf flows-said

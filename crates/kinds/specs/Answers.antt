@@ -10,6 +10,8 @@ use Rattle.kinds.specs.declared.Written.{Written}
 use Rattle.kinds.specs.declared.Written.the-variants as written
 use Rattle.kinds.specs.declared.Extracted.{Extracted}
 use Rattle.kinds.specs.declared.Extracted.the-variants as extracted
+use Rattle.kinds.specs.declared.Flows.{Flows}
+use Rattle.kinds.specs.declared.Flows.the-variants as flows
 use Rattle.kinds.specs.Refusals.{Judged, passed, refused, told}
 
 -- a judgement of something that stands at hand: it passed, or was refused
@@ -31,3 +33,8 @@ saidWritten (written.Refused w) = refused (told w)
 abbrev pub saidExtracted : Extracted → Judged ℕ
 saidExtracted (extracted.Rounds n) = passed n
 saidExtracted (extracted.Refused w) = refused (told w)
+
+-- corners whose flows were filled in
+abbrev pub saidFlows : Flows → Judged ℕ
+saidFlows (flows.Corners n) = passed n
+saidFlows (flows.Refused w) = refused (told w)

@@ -48,6 +48,10 @@ belowZero row = why 7 row
 abbrev pub tooShort : (needed : ℕ) → Why
 tooShort needed = why 8 needed
 
+-- 9 (02, E1) no corner sheet: more than 12 borders, or else no such row
+abbrev pub noCorners : (place : ℕ) → Why
+noCorners place = why 9 place
+
 -- the number and place of each cause that the code knows
 abbrev pub told : Refusal → Why
 told cause.TooLong = tooLong
@@ -58,6 +62,7 @@ told cause.NoRow = noRow
 told (cause.Unlimited border) = unlimited border
 told (cause.Below row) = belowZero row
 told (cause.Short needed) = tooShort needed
+told (cause.Corners place) = noCorners place
 
 -- a table, a result .. that passed, or the refusal
 pub data Judged (A : Type 0) : Type 0 where

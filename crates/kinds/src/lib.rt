@@ -270,6 +270,7 @@ pub enum Refusal {
     Unlimited(usize),
     Below(usize),
     Short(usize),
+    Corners(usize),
 }
 
 pub enum Judgement {
@@ -290,5 +291,10 @@ pub enum Written {
 
 pub enum Extracted {
     Rounds(u64),
+    Refused(Refusal),
+}
+
+pub enum Flows {
+    Corners(usize),
     Refused(Refusal),
 }

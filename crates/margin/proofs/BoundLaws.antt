@@ -13,6 +13,7 @@ use lib.ListN.{length, getD}
 use lib.Signed.{_≤ℤ_}
 use Rattle.numbers.specs.Ints.{Within, AllWithin, maxℤ, positivePart, sumℤ}
 use Rattle.numbers.specs.Below.{sum}
+use Rattle.numbers.proofs.SumLaws.{sum-most}
 use Rattle.numbers.proofs.IntLaws.{diff, diffs, zarith, within-le, within-pos, within-mul, within-max, max-above-left, max-above-right, max-or}
 use Rattle.kinds.specs.declared.Border.{Border}
 use Rattle.kinds.specs.declared.Row.{Row}
@@ -35,11 +36,6 @@ pub within-sum : {m : ℕ} (k : ℕ) (f : ℕ → ℤ) → ((i : ℕ) → i < k 
 unfolding sumℤ
 within-sum {m} zero f h = within-pos (omega arith)
 within-sum {m} (suc k) f h = within-le (within-add (within-sum k f (λ i l. h i (omega arith))) (h k (le-refl (suc k)))) (omega (arith, suc-mul k m))
-
-pub sum-most : {m : ℕ} (k : ℕ) (f : ℕ → ℕ) → ((i : ℕ) → i < k → f i ≤ m) → sum k f ≤ k * m
-unfolding sum
-sum-most {m} zero f h = omega arith
-sum-most {m} (suc k) f h = omega (arith, sum-most k f (λ i l. h i (omega arith)), h k (le-refl (suc k)), suc-mul k m)
 
 -- ---- kW in grains
 pub within-grains : {m : ℕ} {kw : ℤ} → Within m kw → Within (m * 100000) (grains kw)

@@ -121,21 +121,21 @@ s-bound {factors} {borders} f b e =
 module _ {t : Table} (good : Good t) where
   pub good-factors : TableFactorsBound (t .header) (t .factors)
   good-factors =
-      let h = header-in (t .header) (good .header) in
+      let h = header-in (t .header) (good .exact .header) in
       record {
         some = omega (arith, h .zones-least);
         few = h .zones-most;
-        long = good .factors-long;
-        each = record { at = λ k l. factor-in _ (good .factors-fit k (omega (arith, good .factors-long))) };
+        long = good .exact .factors-long;
+        each = record { at = λ k l. factor-in _ (good .factors-fit k (omega (arith, good .exact .factors-long))) };
       }
 
   pub good-borders : BordersBound (t .header .zones) (t .borders)
   good-borders =
-      let h = header-in (t .header) (good .header) in
+      let h = header-in (t .header) (good .exact .header) in
       record {
-        few = omega (arith, good .borders-long, h .borders-most);
-        each = λ b l. good .borders-fit b (omega (arith, good .borders-long));
+        few = omega (arith, good .exact .borders-long, h .borders-most);
+        each = λ b l. good .borders-fit b (omega (arith, good .exact .borders-long));
       }
 
   pub good-nets : NetsBound (t .header .zones) (t .nets)
-  good-nets = record { long = good .nets-long; each = record { at = λ z l. zone-in _ (good .nets-fit z (omega (arith, good .nets-long))) } }
+  good-nets = record { long = good .exact .nets-long; each = record { at = λ z l. zone-in _ (good .nets-fit z (omega (arith, good .exact .nets-long))) } }

@@ -1,9 +1,9 @@
--- The laws of `specs/Below.antt`'s `sum`: to a higher bound, from the first term on, and over places that are all different. No contract cites this file.
+-- The laws of `specs/Below.antt`'s `sum`: to a higher bound, of terms that are at most so large, from the first term on, and over places that are all different. No contract cites this file.
 -- Assumes nothing.
 use mathlib.Core.Path.{_≡_, refl, ap, subst}
 use mathlib.Core.Bool.{Bool, true, false, cond}
-use Prim.Native.Nat.{ℕ, zero, suc, _+_, _-_, _≤_, _<_}
-use native.Mathlib.Nat.{not-suc-le-zero, le-refl, add-zero, add-suc}
+use Prim.Native.Nat.{ℕ, zero, suc, _+_, _*_, _-_, _≤_, _<_}
+use native.Mathlib.Nat.{not-suc-le-zero, le-refl, add-zero, add-suc, suc-mul}
 use native.Mathlib.Omega.{arith}
 use lib.Dec.{eqb}
 use borrow.Author.Tests.{eqb-true, eqb-false, eq-eqb, ne-eqb}
@@ -17,6 +17,11 @@ sum-more k (suc d) f = rw (add-suc k d) (omega (arith, sum-more k d f))
 
 pub sum-upto : (k n : ℕ) (f : ℕ → ℕ) → k ≤ n → sum k f ≤ sum n f
 sum-upto k n f h = let e : k + (n - k) ≡ n = omega arith in subst (λ (m : ℕ). sum k f ≤ sum m f) e (sum-more k (n - k) f)
+
+pub sum-most : {m : ℕ} (k : ℕ) (f : ℕ → ℕ) → ((i : ℕ) → i < k → f i ≤ m) → sum k f ≤ k * m
+unfolding sum
+sum-most {m} zero f h = omega arith
+sum-most {m} (suc k) f h = omega (arith, sum-most k f (λ i l. h i (omega arith)), h k (le-refl (suc k)), suc-mul k m)
 
 -- the first term, and the rest
 pub sum-first : (k : ℕ) (f : ℕ → ℕ) → sum (suc k) f ≡ f 0 + sum k (λ i. f (suc i))

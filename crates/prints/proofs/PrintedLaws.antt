@@ -15,9 +15,9 @@ use Rattle.kinds.specs.declared.Read.the-variants as read
 use Rattle.kinds.specs.declared.Refusal.{Refusal}
 use Rattle.kinds.specs.declared.Written.{Written}
 use Rattle.kinds.specs.declared.Written.the-variants as written
-use Rattle.kinds.specs.Answers.{saidRead, saidWritten}
+use Rattle.kinds.specs.Answers.{saidRead}
 use Rattle.kinds.specs.Limits.{zonesMost, bordersMost, rowsMost, bytesMost}
-use Rattle.kinds.specs.Refusals.{Why, Judged, passed, refused, told}
+use Rattle.kinds.specs.Refusals.{Judged, passed, refused, told}
 use Rattle.kinds.proofs.AnswerLaws.{saidWritten-injective}
 use Rattle.kinds.proofs.KindLaws.{header-in}
 use Rattle.kinds.proofs.RefusalLaws.{not-passed, refused-is, then-refused, either-passed, either-refused}
@@ -30,8 +30,6 @@ use Rattle.writing.specs.Writing.{TextLeft, tableText, textSaid, writeLeft}
 use Rattle.writing.proofs.LeftLaws.{read-left, read-taken}
 use Rattle.writing.proofs.RoundTrip.{read-write, read-longest, read-then-write}
 use Rattle.result.specs.Result.{refusalText, answerText, answerLeft}
-use Rattle.result.proofs.Longest.{refusal-longest}
-use Rattle.answer.proofs.PlaceLaws.{Sound, text-sound}
 use Rattle.answer.proofs.Within.{answer-within, answer-whole}
 use Rattle.answer.specs.Made.{answerMost}
 use Rattle.prints.specs.Printed.{bytesOf, rewritten, Printed}
@@ -57,15 +55,15 @@ answer-printed text out out′ r n e room said =
 
 module _ (text : List ℕ) (z : List ℤ) (b c : List (List ℤ)) (f : List ℤ) where
   module _ (r : Read) {z′ : List ℤ} {b′ c′ : List (List ℤ)} {f′ : List ℤ} (said : left r z′ b′ c′ f′ ≡ readLeft text z b c f) where
-    answered : (j : Judged Header) → saidRead r ≡ j → readLeft text z b c f .answer ≡ j
-    answered j e = sym (ap (λ (l : ReadLeft). l .answer) said) ∙ e
+    pub answered : (h : Header) → r ≡ read.Table h → readLeft text z b c f .answer ≡ passed h
+    answered h is = sym (ap (λ (l : ReadLeft). l .answer) said) ∙ ap (λ (x : Read). saidRead x) is
 
     -- ---- a table that was read
     module _ (h : Header) (is : r ≡ read.Table h) (w : Written) (out out′ : List ℕ) (room : bytesMost ≤ length out) where
       pub table-printed : (n : ℕ) → n ≡ bytesOf w → textSaid w out′ ≡ writeLeft (lent h z′ b′ c′ f′) out → Printed n (rewritten text) out′
       unfolding rewritten
       table-printed n k wrote =
-          let e : readLeft text z b c f .answer ≡ passed h = answered (passed h) (ap (λ (x : Read). saidRead x) is) in
+          let e = answered h is in
           let t = read-taken text z b c f h e in
           let enough : length text ≤ length out = omega (arith, read-longest text (t .it) (t .read)) in
           let l = wrote ∙ ap (λ (l : ReadLeft). writeLeft (lent h (l .z) (l .b) (l .c) (l .f)) out) said ∙ read-then-write text z b c f h out e enough in
@@ -78,7 +76,7 @@ module _ (text : List ℕ) (z : List ℤ) (b c : List (List ℤ)) (f : List ℤ)
         (w : Refusal) (is : r ≡ read.Refused w) where
       enough : (t : Table) → readText text ≡ passed t → Enough (t .header) (length z) (length b) (length c) (length f)
       enough t e =
-          let fits = read-good text t e .header in
+          let fits = read-good text t e .exact .header in
           let h = header-in (t .header) fits in
           record {
             zones = omega (arith, h .zones-most);
@@ -87,7 +85,7 @@ module _ (text : List ℕ) (z : List ℤ) (b c : List (List ℤ)) (f : List ℤ)
             factors = omega (arith, factors-most (t .header) fits);
           }
 
-      refused-text : readText text ≡ refused (told w)
+      pub refused-text : readText text ≡ refused (told w)
       unfolding readLeft
       refused-text = go (readText text) refl
         where
@@ -98,9 +96,6 @@ module _ (text : List ℕ) (z : List ℤ) (b c : List (List ℤ)) (f : List ℤ)
           go (passed t) q = absurd (not-passed (told w) (t .header) (turned _ (read-left text z b c f t q (enough t q))))
           go (refused v) q = q ∙ ap refused (sym (refused-is {A = Header} (told w) v (turned _ (either-refused _ _ (then-refused _ q)))))
 
-      pub refusal-short : length (refusalText (told w)) ≤ bytesMost
-      refusal-short = let s = subst Sound refused-text (text-sound text) in omega (arith, refusal-longest (told w) (s .digit) (s .held))
-
-      pub refusal-printed : (n : ℕ) (out out′ : List ℕ) → n ≡ length (refusalText (told w)) → out′ ≡ over (refusalText (told w)) out → Printed n (rewritten text) out′
+      pub refusal-printed : {n : ℕ} {out : List ℕ} → Printed n (refusalText (told w)) out → Printed n (rewritten text) out
       unfolding rewritten
-      refusal-printed n out out′ e o = subst (λ (s : List ℕ). Printed n s out′) (sym (either-refused _ _ refused-text)) (over-printed (refusalText (told w)) out out′ n e o)
+      refusal-printed p = rw (either-refused tableText refusalText refused-text) p

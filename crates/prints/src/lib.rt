@@ -1,16 +1,19 @@
-// What a program prints for a table's text: its answer, or the table written again. A buffer is lent that nothing to print is too
-// long for, so that no refusal is left to tell.
+// What a program prints for a table's text: its answer, the table written again, or its corner sheets, row by row.
+// A buffer is lent that nothing to print is too long for, so that no refusal is left to tell.
 ghost use mathlib.Core.Path.{_≡_};
 ghost use Prim.Native.Nat.{_*_, _≤_};
 ghost use lib.ListN.{length};
 ghost use Rattle.kinds.specs.Limits.{zonesMost, bordersMost, rowsMost, bytesMost};
-ghost use Rattle.result.specs.Result.{answerText};
+ghost use Rattle.kinds.specs.Refusals.{told};
+ghost use Rattle.table.specs.Table.{lent};
+ghost use Rattle.result.specs.Result.{refusalText, answerText};
 ghost use Rattle.answer.specs.Made.{answerMost};
-ghost use Rattle.prints.specs.Printed.{bytesOf, rewritten, Printed};
+ghost use Rattle.prints.specs.Printed.{bytesOf, rewritten, sheetAt, sheetRows, refusalMost, sheetRoom, Printed};
 use kinds::Border;
 use kinds::BorderRecord;
 use kinds::Header;
 use kinds::Read;
+use kinds::Refusal;
 use kinds::Row;
 use kinds::RowRecord;
 use kinds::Written;
@@ -59,6 +62,45 @@ fn rewrite_in(
 {
     match reading::read(text, z, b, c, f) {
         Read::Table(h) => bytes_of(writing::write(h, z, b, c, f, out)),
-        Read::Refused(w) => result::refusal::put_refusal(w, out),
+        Read::Refused(w) => refusal_line(w, out),
+    }
+}
+
+// The E line.
+pub fn refusal_line(w: Refusal, out: &mut [u8]) -> usize
+    requires { ⌜ refusalMost ≤ length (now out) ⌝ }
+    ensures { λ r. ⌜ Printed r (refusalText (told w)) (now (out .exit)) ⌝ }
+{
+    let number = result::refusal::refusal_number(w);
+    let place = result::refusal::refusal_place(w) as u64;
+    result::refusal::put_why(number, place, out)
+}
+
+// For how many rows to call `sheet_row`, from row 0 on: the E line of a table that has no sheet stands for all.
+pub fn sheet_rows(h: Header) -> usize
+    ensures { λ r. ⌜ r ≡ sheetRows h ⌝ }
+{
+    if h.borders <= corners::BORDERS_MOST {
+        return h.rows;
+    }
+    1
+}
+
+// One row's corner sheet, or the E line.
+pub fn sheet_row(
+    h: Header,
+    z: &[i64],
+    b: &[BorderRecord],
+    c: &[RowRecord],
+    f: &[i64],
+    row: usize,
+    out: &mut [u8],
+) -> usize
+    requires { ⌜ sheetRoom ≤ length (now out) ⌝ }
+    ensures { λ r. ⌜ Printed r (sheetAt (lent h (now (z .entry)) (now (b .entry)) (now (c .entry)) (now (f .entry))) row) (now (out .exit)) ⌝ }
+{
+    match cornertext::corner_text(h, z, b, c, f, row, out) {
+        Written::Bytes(n) => n,
+        Written::Refused(w) => refusal_line(w, out),
     }
 }

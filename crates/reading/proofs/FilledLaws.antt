@@ -77,7 +77,7 @@ module _ (text : List ℕ) (z : List ℤ) (b c : List (List ℤ)) (f : List ℤ)
         → left (answer.Table (t .header)) (z′ ++ drop (t .header .zones) z) (b′ ++ drop (t .header .borders) b) (c′ ++ drop (t .header .rows) c) (f′ ++ drop (t .header .rows * t .header .zones) f) ≡ readLeft text z b c f
     unfolding readLeft
     front-filled ok z′ b′ c′ f′ e =
-        let g = read-good text t (sym text-is) in
+        let g = read-good text t (sym text-is) .exact in
         left-is (answer.Table (t .header))
         (over-front z′ (t .nets) z _ (ap (λ (u : Table). u .nets) e) (g .nets-long))
         (over-front b′ (t .borders) b _ (ap (λ (u : Table). u .borders) e) (g .borders-long))

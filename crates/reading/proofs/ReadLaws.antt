@@ -136,11 +136,13 @@ module _ (text : List ℕ) (t : Table) (o : Opened text t) where
 
   opened-good : ((b : ℕ) → b < t .header .borders → twice (t .borders) b ≡ false) → Good t
   opened-good once = record {
-    header = fits;
-    nets-long = nets-held .0;
-    borders-long = borders-held .0;
-    rows-long = rw (← o .values-are) (values-long (o .lines)) ∙ rows-held .0;
-    factors-long = factors-all;
+    exact = record {
+      header = fits;
+      nets-long = nets-held .0;
+      borders-long = borders-held .0;
+      rows-long = rw (← o .values-are) (values-long (o .lines)) ∙ rows-held .0;
+      factors-long = factors-all;
+    };
     nets-fit = λ i h. fits-at (λ i net. zoneFits net ≡ true) (pos 0) (t .nets) 0 (nets-held .1) i (omega (arith, nets-held .0));
     borders-fit = λ b h. border-at b h .fits;
     rows-fit = row-fits;

@@ -3,20 +3,20 @@
 -- Assumes nothing.
 use mathlib.Core.Bool.{Bool, true, false, cond}
 use mathlib.Core.List.{List, [], _∷_, _++_}
-use Prim.Native.Nat.{ℕ, zero, suc, _*_, _^_, _≤_, _<_}
-use native.Mathlib.Nat.{le-refl, lt-of-lt-of-le, suc-mul}
+use Prim.Native.Nat.{ℕ, _^_, _≤_, _<_}
+use native.Mathlib.Nat.{lt-of-lt-of-le}
 use native.Mathlib.Omega.{arith}
 use lib.Dec.{lit≤}
 use lib.IntN.{natAbs}
 use lib.ListN.{length, length-append}
-use Rattle.numbers.specs.Below.{at, sum, table}
+use Rattle.numbers.specs.Below.{at, table}
 use Rattle.kinds.specs.Limits.{bordersMost, rowsMost}
 use Rattle.kinds.specs.Ranges.{atℤ}
 use Rattle.kinds.specs.Refusals.{Why}
 use Rattle.text.specs.Fields.{dash}
 use Rattle.text.specs.Written.{decimal, decimalℤ, linesText}
 use Rattle.text.proofs.DigitLaws.{decimal-most, decimal-u64, signed-most}
-use Rattle.text.proofs.PutLaws.{lines-length}
+use Rattle.text.proofs.PutLaws.{lines-most}
 use Rattle.start.specs.Start.{kept}
 use Rattle.extraction.specs.Extraction.{Result, atcOf, leftOf, atcRecord, rowRecord}
 use Rattle.result.specs.Result.{atcText, marginText, resultText, refusalText}
@@ -33,15 +33,6 @@ pub record Bounded (r : Result) : Type 0 where
   pub rams : (i : ℕ) → i < r .header .rows → natAbs (atℤ (r .rows .rams) i) < 2 ^ 48
   pub lefts : (i : ℕ) → i < r .header .rows → leftOf r i < 2 ^ 48
   pub rounds : r .outcome .rounds < 10 ^ 4
-
-sum-most : (k q : ℕ) (f : ℕ → ℕ) → ((i : ℕ) → i < k → f i ≤ q) → sum k f ≤ k * q
-unfolding sum
-sum-most zero q f h = omega arith
-sum-most (suc k) q f h = omega (arith, suc-mul k q, sum-most k q f (λ i l. h i (omega arith)), h k (le-refl (suc k)))
-
--- n lines of at most q bytes
-lines-most : (n q : ℕ) (line : ℕ → List ℕ) → ((i : ℕ) → i < n → length (line i) ≤ q) → length (linesText n 0 line) ≤ n * q
-lines-most n q line h = omega (arith, lines-length line n, sum-most n q (λ i. length (line i)) h)
 
 -- 2^48 has 15 digits
 fifteen : {n : ℕ} → n < 2 ^ 48 → n < 10 ^ 15
@@ -89,8 +80,8 @@ module _ (r : Result) (u : Bounded r) where
         u .rows,
         length-append (atcs ++ margins) (roundsLine (r .outcome .rounds)),
         length-append atcs margins,
-        lines-most (r .header .borders) 18 (atcText r) atc-longest,
-        lines-most (r .header .rows) 41 (marginText r) margin-longest,
+        lines-most (atcText r) (r .header .borders) atc-longest,
+        lines-most (marginText r) (r .header .rows) margin-longest,
         rounds-length (r .outcome .rounds),
         decimal-most 4 (r .outcome .rounds) (omega arith) (u .rounds),
       )

@@ -20,6 +20,7 @@ pub fn refusal_number(w: Refusal) -> u64
         Refusal::Unlimited(_) => 6,
         Refusal::Below(_) => 7,
         Refusal::Short(_) => 8,
+        Refusal::Corners(_) => 9,
     }
 }
 
@@ -36,6 +37,7 @@ pub fn refusal_place(w: Refusal) -> usize
         Refusal::Unlimited(border) => border,
         Refusal::Below(row) => row,
         Refusal::Short(needed) => needed,
+        Refusal::Corners(place) => place,
     }
 }
 
@@ -56,7 +58,8 @@ pub fn put_refusal(w: Refusal, out: &mut [u8]) -> usize
     put_why(number, place, out)
 }
 
-fn put_why(number: u64, place: u64, out: &mut [u8]) -> usize
+// The E line of a number and a place.
+pub fn put_why(number: u64, place: u64, out: &mut [u8]) -> usize
     requires { ⌜ length (refusalText (why number place)) ≤ length (now out) ⌝ }
     ensures { λ r. ⌜ Put (refusalText (why number place)) 0 (now (out .entry)) r (now (out .exit)) ⌝ }
 {

@@ -81,11 +81,13 @@ judged given t e =
     record {
       is = i ∙ passed-is _ _ (f .1);
       good = record {
-        header = a .0;
-        nets-long = length-take-le _ (given .nets) (n .0);
-        borders-long = length-take-le _ (given .borders) (m .0);
-        rows-long = length-take-le _ (given .rows) (o .0);
-        factors-long = long;
+        exact = record {
+          header = a .0;
+          nets-long = length-take-le _ (given .nets) (n .0);
+          borders-long = length-take-le _ (given .borders) (m .0);
+          rows-long = length-take-le _ (given .rows) (o .0);
+          factors-long = long;
+        };
         nets-fit = λ i l. not-false _ (z .0 i l);
         borders-fit = λ i l. not-false _ (b .0 i l);
         rows-fit = λ i l. row-good (getD (u .rows) i []) (factorsAt u i) (rows i l) .0;
@@ -108,27 +110,27 @@ module _ (t : Table) (g : Good t) where
   front-same : front t ≡ t
   front-same =
       lent-is (t .header) _ _ _ _ _ _ _ _
-      (take-all (t .header .zones) (t .nets) (omega (arith, g .nets-long)))
-      (take-all (t .header .borders) (t .borders) (omega (arith, g .borders-long)))
-      (take-all (t .header .rows) (t .rows) (omega (arith, g .rows-long)))
-      (take-all (t .header .rows * t .header .zones) (t .factors) (omega (arith, g .factors-long)))
+      (take-all (t .header .zones) (t .nets) (omega (arith, g .exact .nets-long)))
+      (take-all (t .header .borders) (t .borders) (omega (arith, g .exact .borders-long)))
+      (take-all (t .header .rows) (t .rows) (omega (arith, g .exact .rows-long)))
+      (take-all (t .header .rows * t .header .zones) (t .factors) (omega (arith, g .exact .factors-long)))
 
   in-range : inRange t ≡ passed t
   in-range =
-      let h = header-in (t .header) (g .header) in
+      let h = header-in (t .header) (g .exact .header) in
       none-next _ _ _ _ (λ i l. ap not (g .nets-fit i l))
       ∙ none-next _ _ _ _ (λ i l. ap not (g .borders-fit i l))
       ∙ none-next _ _ _ _ (λ i l. ap not (good-row (getD (t .rows) i []) (factorsAt t i) (g .rows-fit i l)
-      (λ z m. row-fit (t .header .zones) (t .header .rows) (t .factors) (g .factors-long) (omega (arith, h .zones-least)) (g .factors-fit) i l z
-      (rw (stretch-long (t .header .zones) (t .header .rows) (t .factors) (g .factors-long) i l) at m))))
+      (λ z m. row-fit (t .header .zones) (t .header .rows) (t .factors) (g .exact .factors-long) (omega (arith, h .zones-least)) (g .factors-fit) i l z
+      (rw (stretch-long (t .header .zones) (t .header .rows) (t .factors) (g .exact .factors-long) i l) at m))))
 
   pub good-judged : judgeLent t ≡ passed t
   unfolding judgeLent roomFor
   good-judged =
-      unless-ok _ _ (g .header)
-      ∙ need-enough _ _ _ (omega (arith, g .nets-long))
-      ∙ need-enough _ _ _ (omega (arith, g .borders-long))
-      ∙ need-enough _ _ _ (omega (arith, g .rows-long))
-      ∙ need-enough _ _ _ (omega (arith, g .factors-long))
+      unless-ok _ _ (g .exact .header)
+      ∙ need-enough _ _ _ (omega (arith, g .exact .nets-long))
+      ∙ need-enough _ _ _ (omega (arith, g .exact .borders-long))
+      ∙ need-enough _ _ _ (omega (arith, g .exact .rows-long))
+      ∙ need-enough _ _ _ (omega (arith, g .exact .factors-long))
       ∙ then-next notTwice (ap inRange front-same ∙ in-range)
       ∙ none-next _ _ _ _ (g .once)

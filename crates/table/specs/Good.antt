@@ -18,11 +18,7 @@ pub record Exact (t : Table) : Type 0 where
   pub factors-long : length (t .factors) ≡ t .header .rows * t .header .zones
 
 pub record Good (t : Table) : Type 0 where
-  pub header : headerFits (t .header) ≡ true
-  pub nets-long : length (t .nets) ≡ t .header .zones
-  pub borders-long : length (t .borders) ≡ t .header .borders
-  pub rows-long : length (t .rows) ≡ t .header .rows
-  pub factors-long : length (t .factors) ≡ t .header .rows * t .header .zones
+  pub exact : Exact t
   pub nets-fit : (i : ℕ) → i < t .header .zones → zoneFits (atℤ (t .nets) i) ≡ true
   pub borders-fit : (b : ℕ) → b < t .header .borders → borderFits (t .header .zones) (getD (t .borders) b []) ≡ true
   pub rows-fit : (i : ℕ) → i < t .header .rows → rowFits (getD (t .rows) i []) ≡ true

@@ -3,13 +3,14 @@
 -- Assumes nothing.
 use mathlib.Core.Path.{_≡_, refl, sym, ap, ap₂, subst, _∙_}
 use mathlib.Core.List.{List, [], _∷_, _++_, append-assoc, append-nil}
-use Prim.Native.Nat.{ℕ, zero, suc, _+_, _-_, _≤_, _<_}
+use Prim.Native.Nat.{ℕ, zero, suc, _+_, _*_, _-_, _≤_, _<_}
 use native.Mathlib.Nat.{add-zero, zero-add}
 use native.Mathlib.Numerals.{add-one}
 use native.Mathlib.Omega.{arith}
 use lib.ListN.{length, take, drop, set, length-append, length-drop, take-append-drop}
 use lib.Seq.{length-take-le, take-at, drop-at, drop-drop, set-split, take-set-le}
 use Rattle.numbers.specs.Below.{sum, over}
+use Rattle.numbers.proofs.SumLaws.{sum-most}
 use Rattle.text.specs.Fields.{tab, feed}
 use Rattle.text.specs.Written.{fieldsText, lineText, linesText}
 use Rattle.text.specs.Put.{put, Put, tabbed}
@@ -201,6 +202,10 @@ module _ (line : ℕ → List ℕ) where
       ∙ length-append (linesText k 0 line) (line k)
       ∙ ap (λ (j : ℕ). j + length (line k)) (lines-length k)
 
+  -- lines of at most q bytes
+  pub lines-most : (n : ℕ) {q : ℕ} → ((i : ℕ) → i < n → length (line i) ≤ q) → length (linesText n 0 line) ≤ n * q
+  lines-most n h = omega (arith, lines-length n, sum-most n (λ i. length (line i)) h)
+
   lines-on : (k j : ℕ) → length (linesText k 0 line) ≤ length (linesText (k + j) 0 line)
   lines-on k zero = rw (add-zero k) (omega arith)
   lines-on k (suc j) =
@@ -218,3 +223,9 @@ module _ (line : ℕ → List ℕ) where
   lines-room k n l h p =
       let le : length (linesText (k + 1) 0 line) ≤ length (linesText n 0 line) = lines-le (k + 1) n (omega arith) in
       put-room p (length (line k)) (omega (arith, ap length (lines-snoc k), length-append (linesText k 0 line) (line k)))
+
+-- lines that are alike
+pub lines-cong : (k i : ℕ) (line line′ : ℕ → List ℕ) → ((j : ℕ) → j < i + k → line j ≡ line′ j) → linesText k i line ≡ linesText k i line′
+unfolding linesText
+lines-cong zero i line line′ h = refl
+lines-cong (suc k) i line line′ h = rw (h i (omega arith), lines-cong k (i + 1) line line′ (λ j l. h j (omega arith)))

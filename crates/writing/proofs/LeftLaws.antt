@@ -124,7 +124,7 @@ module _ (given t : Table) (g : Good t) (is : front given ≡ t) where
   pub front-judged : Enough (given .header) (length (given .nets)) (length (given .borders)) (length (given .rows)) (length (given .factors)) → judgeLent given ≡ passed t
   unfolding judgeLent roomFor
   front-judged n =
-      unless-ok _ _ (subst (λ (u : Table). headerFits (u .header) ≡ true) (sym is) (g .header))
+      unless-ok _ _ (subst (λ (u : Table). headerFits (u .header) ≡ true) (sym is) (g .exact .header))
       ∙ need-enough _ _ _ (n .zones)
       ∙ need-enough _ _ _ (n .borders)
       ∙ need-enough _ _ _ (n .rows)
@@ -147,13 +147,13 @@ module _ (t : Table) (g : Good t) (z : List ℤ) (b c : List (List ℤ)) (f : Li
   over-judged =
       front-judged given t g
       (table-is (t .header) _ _ _ _ _ _ _ _
-      (take-at (t .nets) _ _ (g .nets-long))
-      (take-at (t .borders) _ _ (g .borders-long))
-      (take-at (t .rows) _ _ (g .rows-long))
-      (take-at (t .factors) _ _ (g .factors-long)))
+      (take-at (t .nets) _ _ (g .exact .nets-long))
+      (take-at (t .borders) _ _ (g .exact .borders-long))
+      (take-at (t .rows) _ _ (g .exact .rows-long))
+      (take-at (t .factors) _ _ (g .exact .factors-long)))
       (record {
-        zones = over-long (t .nets) z _ (g .nets-long);
-        borders = over-long (t .borders) b _ (g .borders-long);
-        rows = over-long (t .rows) c _ (g .rows-long);
-        factors = over-long (t .factors) f _ (g .factors-long);
+        zones = over-long (t .nets) z _ (g .exact .nets-long);
+        borders = over-long (t .borders) b _ (g .exact .borders-long);
+        rows = over-long (t .rows) c _ (g .exact .rows-long);
+        factors = over-long (t .factors) f _ (g .exact .factors-long);
       })

@@ -121,7 +121,7 @@ same-place zones x y few e f q =
 -- ---- all lines
 module _ (t : Table) (g : Good t) where
   zones-most : t .header .zones ≤ zonesMost
-  zones-most = header-in (t .header) (g .header) .zones-most
+  zones-most = header-in (t .header) (g .exact .header) .zones-most
 
   low : (b : ℕ) → b < t .header .borders → place (borderAt t b) < 256
   low b h = let i = border-in (t .header .zones) (getD (t .borders) b []) (g .borders-fit b h) in omega (arith, i .from-below, i .to-below, zones-most)
@@ -149,7 +149,7 @@ module _ (t : Table) (g : Good t) where
         sum-mono (t .header .borders) (λ i. length (borderText (0 + i) (borderAt t (0 + i)))) (λ i. 14 + digitsOf i + twoDigits (place (borderAt t i)))
             (λ i h. rw (zero-add i) (border-most (t .header .zones) i (getD (t .borders) i []) zones-most (g .borders-fit i h))),
         sum-add (t .header .borders) (λ i. 14 + digitsOf i) (λ b. twoDigits (place (borderAt t b))),
-        sum-upto (t .header .borders) bordersMost (λ i. 14 + digitsOf i) (header-in (t .header) (g .header) .borders-most),
+        sum-upto (t .header .borders) bordersMost (λ i. 14 + digitsOf i) (header-in (t .header) (g .exact .header) .borders-most),
         few-two-digits,
       ))
 
@@ -158,18 +158,18 @@ module _ (t : Table) (g : Good t) where
       rw (lines-long (t .header .rows) 0 (λ i. rowText i (rowAt t i) (factorsAt t i)))
       (le-trans
       (sum-mono (t .header .rows) _ (λ i. 193 + digitsOf i) (λ i h. rw (zero-add i) (row-at i h)))
-      (sum-upto (t .header .rows) rowsMost (λ i. 193 + digitsOf i) (header-in (t .header) (g .header) .rows-most)))
+      (sum-upto (t .header .rows) rowsMost (λ i. 193 + digitsOf i) (header-in (t .header) (g .exact .header) .rows-most)))
     where
       row-at : (i : ℕ) → i < t .header .rows → length (rowText i (rowAt t i) (factorsAt t i)) ≤ 193 + digitsOf i
       row-at i h =
-          let long = stretch-long (t .header .zones) (t .header .rows) (t .factors) (g .factors-long) i h in
+          let long = stretch-long (t .header .zones) (t .header .rows) (t .factors) (g .exact .factors-long) i h in
           row-most i (getD (t .rows) i []) (factorsAt t i) (g .rows-fit i h)
-          (λ z k. row-fit (t .header .zones) (t .header .rows) (t .factors) (g .factors-long) (omega (arith, header-in (t .header) (g .header) .zones-least)) (g .factors-fit) i h z (rw long at k))
+          (λ z k. row-fit (t .header .zones) (t .header .rows) (t .factors) (g .exact .factors-long) (omega (arith, header-in (t .header) (g .exact .header) .zones-least)) (g .factors-fit) i h z (rw long at k))
           (omega (arith, long, zones-most))
 
   pub text-most : length (tableText t) ≤ 12 + sum zonesMost (λ i. 14 + digitsOf i) + (sum bordersMost (λ i. 14 + digitsOf i) + 30) + sum rowsMost (λ i. 193 + digitsOf i)
   unfolding tableText
-  text-most = simp length-append (omega (arith, header-most (t .header) (g .header), zones-length, borders-length, rows-length))
+  text-most = simp length-append (omega (arith, header-most (t .header) (g .exact .header), zones-length, borders-length, rows-length))
 
 -- 12 for the H line; 14 for a Z line and 193 for a C line; 14 for a B line and 30 times 1 more; and the digits of the indices: 22, 70 and 490
 pub longest-sum : 12 + sum zonesMost (λ i. 14 + digitsOf i) + (sum bordersMost (λ i. 14 + digitsOf i) + 30) + sum rowsMost (λ i. 193 + digitsOf i) ≡ 40008

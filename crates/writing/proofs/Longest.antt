@@ -45,11 +45,13 @@ widest-long = refl
 pub widest-good : Good widest
 unfolding widest table given firstFrom inside sameℤ headerFits exists zoneFits borderFits rowFits rowOf factorFits twice
 widest-good = record {
-  header = refl;
-  nets-long = length-replicate 16 (minus 100000000);
-  borders-long = table-long 40 widestBorder;
-  rows-long = length-replicate 200 widestRow;
-  factors-long = length-replicate 3200 (minus 100000);
+  exact = record {
+    header = refl;
+    nets-long = length-replicate 16 (minus 100000000);
+    borders-long = table-long 40 widestBorder;
+    rows-long = length-replicate 200 widestRow;
+    factors-long = length-replicate 3200 (minus 100000);
+  };
   nets-fit = λ i h. ap zoneFits (getD-replicate 16 i (minus 100000000) (pos 0) h);
   borders-fit = λ b h. not-false _ (first-none 40 (λ b. not (borderFits 16 (getD (widest .borders) b []))) refl b h);
   rows-fit = λ i h. ap rowFits (getD-replicate 200 i widestRow [] h);

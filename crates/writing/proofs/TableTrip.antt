@@ -3,7 +3,7 @@
 use mathlib.Core.Path.{_≡_, sym, ap, ap₂, _∙_}
 use mathlib.Core.Bool.{true, cond}
 use mathlib.Core.List.{List, [], _++_, append-nil}
-use Prim.Native.Nat.{ℕ, _+_, _*_, _^_, _≤_, _<_}
+use Prim.Native.Nat.{ℕ, _+_, _^_, _≤_, _<_}
 use native.Mathlib.Nat.{zero-add}
 use native.Mathlib.Omega.{arith}
 use lib.Dec.{ltb}
@@ -24,6 +24,7 @@ use Rattle.block.proofs.RunLaws.{fits-all, lines-goes}
 use Rattle.table.specs.Table.{Table, stretch, notTwice, zoneLineNo, borderLineNo, rowLineNo, pastLineNo}
 use Rattle.table.specs.Good.{Good, Shaped}
 use Rattle.table.proofs.GoodLaws.{good-row, row-fit, stretch-long}
+use Rattle.table.proofs.JudgeLaws.{exact-factors}
 use Rattle.lines.specs.Lines.{RowLine, headerLine, zoneLine, borderLine, rowLine}
 use Rattle.runs.specs.Rows.{valuesOf, factorsOf}
 use Rattle.reading.specs.Reading.{linesOf, readText}
@@ -82,34 +83,34 @@ module _ (t : Table) (g : Good t) (s : Shaped t) where
   lines = cut (t .header .zones) (t .rows) (t .factors)
 
   some-zones : 0 < t .header .zones
-  some-zones = omega (arith, header-in (t .header) (g .header) .zones-least)
+  some-zones = omega (arith, header-in (t .header) (g .exact .header) .zones-least)
 
   lines-long : length lines ≡ t .header .rows
-  lines-long = cut-long (t .header .zones) (t .rows) (t .factors) ∙ g .rows-long
+  lines-long = cut-long (t .header .zones) (t .rows) (t .factors) ∙ g .exact .rows-long
 
   values-are : valuesOf lines ≡ t .rows
   values-are = cut-values (t .header .zones) (t .rows) (t .factors)
 
   factors-are : factorsOf lines ≡ t .factors
-  factors-are = cut-factors (t .header .zones) (t .rows) (t .factors) (g .factors-long ∙ ap (λ (n : ℕ). n * t .header .zones) (sym (g .rows-long)))
+  factors-are = cut-factors (t .header .zones) (t .rows) (t .factors) (exact-factors t (g .exact))
 
   row-held : (i : ℕ) → i < t .header .rows → RowHeld (t .header .zones) (getD lines i none)
   row-held i h =
       let zones = t .header .zones in
       let v : getD (t .rows) i [] ≡ getD lines i none .values = ap (λ (rows : List (List ℤ)). getD rows i []) (sym values-are) ∙ values-at lines i in
-      let f : stretch zones (t .factors) i ≡ getD lines i none .factors = sym (cut-at zones (t .rows) (t .factors) i (omega (arith, g .rows-long))) in
-      let l = stretch-long zones (t .header .rows) (t .factors) (g .factors-long) i h in
+      let f : stretch zones (t .factors) i ≡ getD lines i none .factors = sym (cut-at zones (t .rows) (t .factors) i (omega (arith, g .exact .rows-long))) in
+      let l = stretch-long zones (t .header .rows) (t .factors) (g .exact .factors-long) i h in
       record {
         wide = ap length (sym v) ∙ s .rows-wide i h;
         long = ap length (sym f) ∙ l;
         good = rw (← v, ← f) (good-row (getD (t .rows) i []) (stretch zones (t .factors) i) (g .rows-fit i h)
-            (λ z k. row-fit zones (t .header .rows) (t .factors) (g .factors-long) some-zones (g .factors-fit) i h z (rw l at k)));
+            (λ z k. row-fit zones (t .header .rows) (t .factors) (g .exact .factors-long) some-zones (g .factors-fit) i h z (rw l at k)));
       }
 
   written-lined : Lined t lines
   written-lined = record {
-    nets-long = g .nets-long;
-    borders-long = g .borders-long;
+    nets-long = g .exact .nets-long;
+    borders-long = g .exact .borders-long;
     lines-long = lines-long;
     values-are = values-are;
     factors-are = factors-are;
@@ -117,15 +118,15 @@ module _ (t : Table) (g : Good t) (s : Shaped t) where
   }
 
   zones-fit : allFit ZoneFits 0 (t .nets)
-  zones-fit = fits-all ZoneFits (pos 0) (t .nets) 0 (λ k h. (omega (arith, g .nets-long, header-in (t .header) (g .header) .zones-most), g .nets-fit k (rw (g .nets-long) at h)))
+  zones-fit = fits-all ZoneFits (pos 0) (t .nets) 0 (λ k h. (omega (arith, g .exact .nets-long, header-in (t .header) (g .exact .header) .zones-most), g .nets-fit k (rw (g .exact .nets-long) at h)))
 
   borders-fit : allFit (BorderFits (t .header .zones)) 0 (t .borders)
   borders-fit = fits-all (BorderFits (t .header .zones)) [] (t .borders) 0 (λ k h.
-      let b = rw (g .borders-long) at h in
-      (omega (arith, g .borders-long, header-in (t .header) (g .header) .borders-most), record { wide = s .borders-wide k b; fits = g .borders-fit k b }))
+      let b = rw (g .exact .borders-long) at h in
+      (omega (arith, g .exact .borders-long, header-in (t .header) (g .exact .header) .borders-most), record { wide = s .borders-wide k b; fits = g .borders-fit k b }))
 
   rows-fit : allFit (RowFits (t .header .zones)) 0 lines
-  rows-fit = fits-all (RowFits (t .header .zones)) none lines 0 (λ k h. (omega (arith, lines-long, header-in (t .header) (g .header) .rows-most), row-held k (rw lines-long at h)))
+  rows-fit = fits-all (RowFits (t .header .zones)) none lines 0 (λ k h. (omega (arith, lines-long, header-in (t .header) (g .exact .header) .rows-most), row-held k (rw lines-long at h)))
 
   -- the first line of the text, and what follows it
   module _ (text : List ℕ) (whole : text ≡ blocks t lines) where
@@ -144,13 +145,13 @@ module _ (t : Table) (g : Good t) (s : Shaped t) where
         let h = t .header in
         let done : List RowLine → ℕ → Judged Table = λ rows e.
         cond (ltb e (length text)) (refused (wrongForm (pastLineNo h))) (passed (record { header = h; nets = t .nets; borders = t .borders; rows = valuesOf rows; factors = factorsOf rows })) in
-        let first : headerLine (lineAt text 0) ≡ holds h = ap headerLine first-line ∙ header-written h (g .header) in
+        let first : headerLine (lineAt text 0) ≡ holds h = ap headerLine first-line ∙ header-written h (g .exact .header) in
         rw first
         (lines-goes zoneLine zoneLineNo zoneLineOf ZoneFits (λ i net f. zone-written i net (f .0) (f .1)) zone-one
-        _ (passed t) (t .nets) (h .zones) text (after text 0) (blockText borderLineOf 0 (t .borders) ++ blockText rowLineOf 0 lines) (g .nets-long) past-first zones-fit (λ p h1.
+        _ (passed t) (t .nets) (h .zones) text (after text 0) (blockText borderLineOf 0 (t .borders) ++ blockText rowLineOf 0 lines) (g .exact .nets-long) past-first zones-fit (λ p h1.
         lines-goes (borderLine (h .zones)) (borderLineNo h) borderLineOf (BorderFits (h .zones))
-        (λ i raw f. border-written (h .zones) i raw (f .0) (header-in h (g .header) .zones-most) (f .1)) (λ i raw r. border-one (h .zones) i raw r)
-        _ (passed t) (t .borders) (h .borders) text p (blockText rowLineOf 0 lines) (g .borders-long) h1 borders-fit (λ q h2.
+        (λ i raw f. border-written (h .zones) i raw (f .0) (header-in h (g .exact .header) .zones-most) (f .1)) (λ i raw r. border-one (h .zones) i raw r)
+        _ (passed t) (t .borders) (h .borders) text p (blockText rowLineOf 0 lines) (g .exact .borders-long) h1 borders-fit (λ q h2.
         lines-goes (rowLine (h .zones)) (rowLineNo h) rowLineOf (RowFits (h .zones)) (λ i c f. row-written i (f .0) (h .zones) c some-zones (f .1)) row-one
         done (passed t) lines (h .rows) text q [] lines-long (h2 ∙ sym (append-nil _)) rows-fit (λ e h3.
         rw (le-ltb e (length text) (omega (arith, length-drop e text, ap length h3)))

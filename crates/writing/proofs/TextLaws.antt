@@ -12,6 +12,7 @@ use Rattle.text.specs.Put.{Put}
 use Rattle.text.proofs.PutLaws.{put-more, put-room, lines-length}
 use Rattle.table.specs.Table.{Table}
 use Rattle.table.specs.Good.{Good}
+use Rattle.table.proofs.JudgeLaws.{exact-factors}
 use Rattle.layout.specs.Layout.{headerText}
 use Rattle.writing.specs.Writing.{tableText, zonesText, bordersText, rowsText}
 use Rattle.writing.proofs.RoundTrip.{never-too-long}
@@ -32,7 +33,7 @@ module _ (t : Table) (g : Good t) where
 
   text-parts : ((h ++ z) ++ b) ++ c ≡ tableText t
   unfolding tableText
-  text-parts = rw (g .nets-long, g .borders-long, g .rows-long) (simp append-assoc)
+  text-parts = rw (g .exact .nets-long, g .exact .borders-long, g .exact .rows-long) (simp append-assoc)
 
   pub text-length : length (tableText t) ≡ length h + length z + length b + length c
   text-length = sym (ap length text-parts) ∙ simp length-append
@@ -57,7 +58,7 @@ module _ (t : Table) (g : Good t) where
 
   -- the factors of all rows, as many as the row records ask for
   pub factors-all : length (t .factors) ≡ length (t .rows) * t .header .zones
-  factors-all = g .factors-long ∙ ap (λ (n : ℕ). n * t .header .zones) (sym (g .rows-long))
+  factors-all = exact-factors t (g .exact)
 
   -- each part is counted without a carry
   pub text-within : length h + length z + length b + length c ≤ bytesMost

@@ -1,7 +1,7 @@
--- `cabi::refusal_number` meets its contract: no number is above 8 (`number-le`). Assumes nothing.
+-- `cabi::refusal_number` meets its contract: a number is one digit (`told-digit`). Assumes nothing.
 use native.Mathlib.Omega.{arith}
 use borrow.Author.Needs.{needs}
-use Rattle.cabi.proofs.NumberLaws.{number-le}
+use Rattle.kinds.proofs.AnswerLaws.{told-digit}
 use Rattle.cabi.proofs.refusal_number.Statement.{statement}
 use Rattle.cabi.proofs.refusal_number.Tie as tie
 
@@ -9,7 +9,7 @@ refusal-number-requires : tie.Need-refusal-number-requires
 refusal-number-requires c κs = search needs
 
 cast-result : tie.Need-cast-result
-cast-result c = omega (arith, c .refusal-number .ensures, number-le (c .before .args .w))
+cast-result c = omega (arith, c .refusal-number .ensures, told-digit (c .before .args .w))
 
 returns : tie.Need-returns
 returns c = search needs

@@ -1,4 +1,4 @@
--- `cases::main` is safe and ends. Nothing is kept from turn to turn; the measure is the number of arguments left.
+-- `cases::main` is safe and ends. Nothing need be known of the task; the measure is the number of arguments left.
 -- Assumes nothing.
 use Prim.Native.Nat.{_-_}
 use native.Mathlib.Omega.{arith}
@@ -6,10 +6,10 @@ use Rattle.cases.proofs.main.Statement.{statement}
 use Rattle.cases.proofs.main.Tie as tie
 
 abbrev Inv-loop : tie.InvT-loop
-Inv-loop count i₀ i = Unit {0}
+Inv-loop count task₀ i₀ task i = Unit {0}
 
 abbrev μ-loop : tie.MeasureT-loop
-μ-loop count i₀ i = count - i
+μ-loop count task₀ i₀ task i = count - i
 
 arg-count-requires : tie.Need-arg-count-requires Inv-loop μ-loop
 arg-count-requires c κs = tt
@@ -17,8 +17,8 @@ arg-count-requires c κs = tt
 loop-holds : tie.Need-loop-holds Inv-loop μ-loop
 loop-holds c = tt
 
-one-requires : tie.Need-one-requires Inv-loop μ-loop
-one-requires c κs = tt
+take-requires : tie.Need-take-requires Inv-loop μ-loop
+take-requires c κs = tt
 
 add-i : tie.Need-add-i Inv-loop μ-loop
 add-i c = omega arith
@@ -33,4 +33,4 @@ returns : tie.Need-returns Inv-loop μ-loop
 returns c = tt
 
 pub main-spec : {M : Type 1} → statement M
-main-spec = tie.close (tie.spec Inv-loop μ-loop arg-count-requires loop-holds one-requires add-i loop-less loop-again returns)
+main-spec = tie.close (tie.spec Inv-loop μ-loop arg-count-requires loop-holds take-requires add-i loop-less loop-again returns)

@@ -30,19 +30,19 @@ good c =
     front-good (lent (a .h) (a .z .now) (a .b .now) (a .c .now) (a .f .now)) _ (c .before .before .judge .ensures) (c .enum-told .given .1)
 
 slice-aggregate-extract-judged : tie.Need-slice-aggregate-extract-judged
-slice-aggregate-extract-judged c = sym (good (c .before) .nets-long)
+slice-aggregate-extract-judged c = sym (good (c .before) .exact .nets-long)
 
 slice-aggregate-extract-judged-2 : tie.Need-slice-aggregate-extract-judged-2
-slice-aggregate-extract-judged-2 c = sym (good (c .before .before) .borders-long)
+slice-aggregate-extract-judged-2 c = sym (good (c .before .before) .exact .borders-long)
 
 slice-aggregate-extract-judged-3 : tie.Need-slice-aggregate-extract-judged-3
-slice-aggregate-extract-judged-3 c = sym (good (c .before .before .before) .rows-long)
+slice-aggregate-extract-judged-3 c = sym (good (c .before .before .before) .exact .rows-long)
 
 mul-extract-judged : tie.Need-mul-extract-judged
-mul-extract-judged c = omega (arith, factors-most _ (good (c .before .before .before) .header))
+mul-extract-judged c = omega (arith, factors-most _ (good (c .before .before .before) .exact .header))
 
 slice-aggregate-extract-judged-4 : tie.Need-slice-aggregate-extract-judged-4
-slice-aggregate-extract-judged-4 c = sym (good (c .before .before .before .before) .factors-long)
+slice-aggregate-extract-judged-4 c = sym (good (c .before .before .before .before) .exact .factors-long)
 
 extract-judged-requires : tie.Need-extract-judged-requires
 extract-judged-requires c κs = good (c .before .before .before .before .before .before)

@@ -10,31 +10,31 @@ use Rattle.extraction.proofs.extract_judged.Tie as tie
 
 mul-cells : tie.Need-mul-cells
 mul-cells c =
-    let e = header-in _ (c .before .pre .header) in
+    let e = header-in _ (c .before .pre .exact .header) in
     omega (arith, mul-le-mul (e .rows-most) (e .borders-most))
 
 array-borrow-prefix-rams : tie.Need-array-borrow-prefix-rams
-array-borrow-prefix-rams c = header-in _ (c .before .pre .header) .rows-most
+array-borrow-prefix-rams c = header-in _ (c .before .pre .exact .header) .rows-most
 
 slice-aggregate-extract-in : tie.Need-slice-aggregate-extract-in
 slice-aggregate-extract-in c = sym (length-take-le _ _ (array-borrow-prefix-rams (c .before)))
 
 array-borrow-prefix-states : tie.Need-array-borrow-prefix-states
-array-borrow-prefix-states c = header-in _ (c .before .before .pre .header) .rows-most
+array-borrow-prefix-states c = header-in _ (c .before .before .pre .exact .header) .rows-most
 
 slice-aggregate-extract-in-2 : tie.Need-slice-aggregate-extract-in-2
 slice-aggregate-extract-in-2 c = sym (length-take-le _ _ (array-borrow-prefix-states (c .before)))
 
 array-borrow-prefix-p : tie.Need-array-borrow-prefix-p
 array-borrow-prefix-p c =
-    let e = header-in _ (c .before .before .before .pre .header) in
+    let e = header-in _ (c .before .before .before .pre .exact .header) in
     mul-le-mul (e .rows-most) (e .borders-most)
 
 slice-aggregate-extract-in-3 : tie.Need-slice-aggregate-extract-in-3
 slice-aggregate-extract-in-3 c = sym (length-take-le _ _ (array-borrow-prefix-p (c .before)))
 
 array-borrow-prefix-margins : tie.Need-array-borrow-prefix-margins
-array-borrow-prefix-margins c = header-in _ (c .before .before .before .before .pre .header) .rows-most
+array-borrow-prefix-margins c = header-in _ (c .before .before .before .before .pre .exact .header) .rows-most
 
 slice-aggregate-extract-in-4 : tie.Need-slice-aggregate-extract-in-4
 slice-aggregate-extract-in-4 c = sym (length-take-le _ _ (array-borrow-prefix-margins (c .before)))

@@ -1,4 +1,4 @@
--- `keravnoth::run_in` is safe: what was read, and what is printed, lie within their buffers. Assumes nothing.
+-- `keravnoth::run_in` is safe: what was read lies within its buffer. Assumes nothing.
 use mathlib.Core.Path.{subst}
 use Rattle.keravnoth.specs.declared.Input.{Input}
 use Rattle.keravnoth.specs.Taken.{within}
@@ -27,23 +27,20 @@ same-length c = search needs
 returns : tie.Need-returns
 returns c = search needs
 
-slice-reshare-prefix-put : tie.Need-slice-reshare-prefix-put
-slice-reshare-prefix-put c = subst (λ (r : Input). within r (c .before .before .before .before .before .read-text .last .0)) (c .before .n .given .1) (c .before .before .before .before .before .read-text .ensures) .0
-
-slice-aggregate-put : tie.Need-slice-aggregate-put
-slice-aggregate-put c = subst (λ (r : Input). within r (c .before .before .before .before .before .before .read-text .last .0)) (c .before .before .n .given .1) (c .before .before .before .before .before .before .read-text .ensures) .1
-
-put-requires : tie.Need-put-requires
-put-requires c κs = search needs
-
 slice-reshare-prefix-print : tie.Need-slice-reshare-prefix-print
-slice-reshare-prefix-print c = search needs
+slice-reshare-prefix-print c = subst (λ (r : Input). within r (c .before .before .before .before .before .read-text .last .0)) (c .before .n .given .1) (c .before .before .before .before .before .read-text .ensures) .0
 
 slice-aggregate-print : tie.Need-slice-aggregate-print
-slice-aggregate-print c = search needs
+slice-aggregate-print c = subst (λ (r : Input). within r (c .before .before .before .before .before .before .read-text .last .0)) (c .before .before .n .given .1) (c .before .before .before .before .before .before .read-text .ensures) .1
 
 print-requires : tie.Need-print-requires
 print-requires c κs = search needs
+
+slice-aggregate-fail-2 : tie.Need-slice-aggregate-fail-2
+slice-aggregate-fail-2 c = search needs
+
+fail-requires-2 : tie.Need-fail-requires-2
+fail-requires-2 c κs = search needs
 
 same-length-2 : tie.Need-same-length-2
 same-length-2 c = search needs
@@ -53,6 +50,15 @@ same-length-3 c = search needs
 
 returns-2 : tie.Need-returns-2
 returns-2 c = search needs
+
+same-length-4 : tie.Need-same-length-4
+same-length-4 c = search needs
+
+same-length-5 : tie.Need-same-length-5
+same-length-5 c = search needs
+
+returns-3 : tie.Need-returns-3
+returns-3 c = search needs
 
 pub run-in-spec : {M : Type 1} → statement M
 run-in-spec =
@@ -65,12 +71,14 @@ run-in-spec =
     fail-requires
     same-length
     returns
-    slice-reshare-prefix-put
-    slice-aggregate-put
-    put-requires
     slice-reshare-prefix-print
     slice-aggregate-print
     print-requires
+    slice-aggregate-fail-2
+    fail-requires-2
     same-length-2
     same-length-3
-    returns-2)
+    returns-2
+    same-length-4
+    same-length-5
+    returns-3)

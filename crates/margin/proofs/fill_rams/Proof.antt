@@ -55,10 +55,10 @@ s-requires c κs = (
 )
 
 mul-row-ram : tie.Need-mul-row-ram Inv-loop μ-loop
-mul-row-ram c = omega (arith, start (c .before) .pre .0 .rows-long, below (c .before))
+mul-row-ram c = omega (arith, start (c .before) .pre .0 .exact .rows-long, below (c .before))
 
 shared-slice-copy-out-row-ram : tie.Need-shared-slice-copy-out-row-ram Inv-loop μ-loop
-shared-slice-copy-out-row-ram c = omega (arith, start (c .before) .pre .0 .rows-long, below (c .before))
+shared-slice-copy-out-row-ram c = omega (arith, start (c .before) .pre .0 .exact .rows-long, below (c .before))
 
 row-ram-requires : tie.Need-row-ram-requires Inv-loop μ-loop
 row-ram-requires c κs =

@@ -1,65 +1,19 @@
--- `margin::p` meets its contract. Assumes nothing.
-use borrow.Author.Needs.{needs}
-use lib.IntN.{ℤ, _-ℤ_}
+-- `margin::p` meets its contract: the positive part of the signed factor. Assumes nothing.
 use mir.Facts.{toZ-ofZ}
-use mir.Syntax.{w64}
-use mir.Val.{SFits}
-use Rattle.numbers.specs.Ints.{Within}
-use Rattle.numbers.proofs.IntLaws.{within-fits}
-use Rattle.kinds.specs.Limits.{factorMost}
-use Rattle.kinds.specs.Ranges.{atℤ}
-use Rattle.margin.specs.Margin.{pOf, signedFactor}
-use Rattle.margin.proofs.BoundLaws.{within-sub}
+use borrow.Author.Needs.{needs, sfits-of}
+use Rattle.margin.specs.Margin.{pOf}
 use Rattle.margin.proofs.p.Statement.{statement}
 use Rattle.margin.proofs.p.Tie as tie
 
--- the two factors
-module _ (s : tie.Start) where
-  abbrev from : ℤ
-  from = atℤ (s .args .factors .now) (s .args .border .from)
-
-  abbrev to : ℤ
-  to = atℤ (s .args .factors .now) (s .args .border .to)
-
-  from-in : Within factorMost from
-  from-in = s .pre .0 .each .at (s .args .border .from) (s .pre .1 .from-in)
-
-  to-in : Within factorMost to
-  to-in = s .pre .0 .each .at (s .args .border .to) (s .pre .1 .to-in)
-
-  apart : SFits w64 (from -ℤ to)
-  apart = within-fits (within-sub from-in to-in) tt
-
-mul-from-factor : tie.Need-mul-from-factor
-mul-from-factor c = search needs
-
-shared-slice-copy-out-from-factor : tie.Need-shared-slice-copy-out-from-factor
-shared-slice-copy-out-from-factor c = search needs
-
-mul-to-factor : tie.Need-mul-to-factor
-mul-to-factor c = search needs
-
-shared-slice-copy-out-to-factor : tie.Need-shared-slice-copy-out-to-factor
-shared-slice-copy-out-to-factor c = search needs
-
-sub-positive : tie.Need-sub-positive
-sub-positive c = let s = c .before .before in simp (toZ-ofZ, within-fits (from-in s) tt, within-fits (to-in s) tt) (apart s)
+signed-factor-requires : tie.Need-signed-factor-requires
+signed-factor-requires c κs = search needs
 
 positive-requires : tie.Need-positive-requires
 positive-requires c κs = search needs
 
 returns : tie.Need-returns
-unfolding pOf signedFactor
-returns c = let s = c .before .before .before in simp (toZ-ofZ, within-fits (from-in s) tt, within-fits (to-in s) tt, apart s) at (c .positive .ensures)
+unfolding pOf
+returns c = rw (c .positive .ensures, toZ-ofZ (sfits-of (c .before .signed-factor .ok)), c .before .signed-factor .ensures)
 
 pub p-spec : {M : Type 1} → statement M
-p-spec =
-    tie.close
-    (tie.spec
-    mul-from-factor
-    shared-slice-copy-out-from-factor
-    mul-to-factor
-    shared-slice-copy-out-to-factor
-    sub-positive
-    positive-requires
-    returns)
+p-spec = tie.close (tie.spec signed-factor-requires positive-requires returns)

@@ -1,6 +1,5 @@
 -- `prints::rewrite_in` meets its contract: the laws `table-printed` and `refusal-printed`. Assumes nothing.
-use native.Mathlib.Omega.{arith}
-use Rattle.prints.proofs.PrintedLaws.{table-printed, refusal-short, refusal-printed}
+use Rattle.prints.proofs.PrintedLaws.{table-printed, refusal-printed}
 use borrow.Author.Needs.{needs}
 use Rattle.prints.proofs.rewrite_in.Statement.{statement}
 use Rattle.prints.proofs.rewrite_in.Tie as tie
@@ -20,8 +19,8 @@ bytes-of-requires c κs = search needs
 enum-known-w : tie.Need-enum-known-w
 enum-known-w c = search needs
 
-put-refusal-requires : tie.Need-put-refusal-requires
-put-refusal-requires c κs = omega (arith, refusal-short _ _ _ _ _ _ (c .before .before .before .before .before .before .before .before .read .ensures) (c .before .before .before .before .before .before .before .before .before .before .before .before .before .before .before .pre .0) (c .before .before .before .before .before .before .before .before .before .before .before .before .before .before .before .pre .1) (c .before .before .before .before .before .before .before .before .before .before .before .before .before .before .before .pre .2) (c .before .before .before .before .before .before .before .before .before .before .before .before .before .before .before .pre .3) _ (c .before .before .w .given .1))
+refusal-line-requires : tie.Need-refusal-line-requires
+refusal-line-requires c κs = search needs
 
 same-length : tie.Need-same-length
 same-length c = search needs
@@ -57,7 +56,7 @@ same-length-10 : tie.Need-same-length-10
 same-length-10 c = search needs
 
 returns-2 : tie.Need-returns-2
-returns-2 c = refusal-printed _ _ _ _ _ _ (c .before .before .before .before .before .before .before .before .before .before .before .read .ensures) (c .before .before .before .before .before .before .before .before .before .before .before .before .before .before .before .before .before .before .pre .0) (c .before .before .before .before .before .before .before .before .before .before .before .before .before .before .before .before .before .before .pre .1) (c .before .before .before .before .before .before .before .before .before .before .before .before .before .before .before .before .before .before .pre .2) (c .before .before .before .before .before .before .before .before .before .before .before .before .before .before .before .before .before .before .pre .3) _ (c .before .before .before .before .before .w .given .1) _ _ _ (c .before .before .put-refusal .ensures .0) (c .before .before .put-refusal .ensures .1)
+returns-2 c = refusal-printed _ _ _ _ _ _ (c .before .before .before .before .before .before .before .before .before .before .before .read .ensures) (c .before .before .before .before .before .before .before .before .before .before .before .before .before .before .before .before .before .before .pre .0) (c .before .before .before .before .before .before .before .before .before .before .before .before .before .before .before .before .before .before .pre .1) (c .before .before .before .before .before .before .before .before .before .before .before .before .before .before .before .before .before .before .pre .2) (c .before .before .before .before .before .before .before .before .before .before .before .before .before .before .before .before .before .before .pre .3) _ (c .before .before .before .before .before .w .given .1) (c .before .before .refusal-line .ensures)
 
 pub rewrite-in-spec : {M : Type 1} → statement M
 rewrite-in-spec =
@@ -68,7 +67,7 @@ rewrite-in-spec =
     write-requires
     bytes-of-requires
     enum-known-w
-    put-refusal-requires
+    refusal-line-requires
     same-length
     same-length-2
     same-length-3

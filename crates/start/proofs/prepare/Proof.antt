@@ -20,7 +20,7 @@ fill-grid-requires c κs =
     let at-rows = c .before .before .before .before .before in
     let q = entry at-rows .pre in
     let rows = rows-in _ _ (q .0) (at-rows .fill-rows .ensures) in
-    (q .0 .header, (good-factors (q .0), (good-borders (q .0), (q .0 .borders-long, (rows .states-long, q .1 .1 .1 .0)))))
+    (q .0 .exact .header, (good-factors (q .0), (good-borders (q .0), (q .0 .exact .borders-long, (rows .states-long, q .1 .1 .1 .0)))))
 
 fill-margins-requires : tie.Need-fill-margins-requires
 fill-margins-requires c κs =

@@ -39,19 +39,19 @@ enum-told : tie.Need-enum-told
 enum-told c = search needs
 
 slice-aggregate-write-good : tie.Need-slice-aggregate-write-good
-slice-aggregate-write-good c = sym (good (c .before) .nets-long)
+slice-aggregate-write-good c = sym (good (c .before) .exact .nets-long)
 
 slice-aggregate-write-good-2 : tie.Need-slice-aggregate-write-good-2
-slice-aggregate-write-good-2 c = sym (good (c .before .before) .borders-long)
+slice-aggregate-write-good-2 c = sym (good (c .before .before) .exact .borders-long)
 
 slice-aggregate-write-good-3 : tie.Need-slice-aggregate-write-good-3
-slice-aggregate-write-good-3 c = sym (good (c .before .before .before) .rows-long)
+slice-aggregate-write-good-3 c = sym (good (c .before .before .before) .exact .rows-long)
 
 mul-write-good : tie.Need-mul-write-good
-mul-write-good c = omega (arith, factors-most _ (good (c .before .before .before) .header))
+mul-write-good c = omega (arith, factors-most _ (good (c .before .before .before) .exact .header))
 
 slice-aggregate-write-good-4 : tie.Need-slice-aggregate-write-good-4
-slice-aggregate-write-good-4 c = sym (good (c .before .before .before .before) .factors-long)
+slice-aggregate-write-good-4 c = sym (good (c .before .before .before .before) .exact .factors-long)
 
 write-good-requires : tie.Need-write-good-requires
 write-good-requires c κs = good (c .before .before .before .before .before)

@@ -27,6 +27,9 @@ enum-known-w-5 c = search needs
 enum-known-w-6 : tie.Need-enum-known-w-6
 enum-known-w-6 c = search needs
 
+enum-known-w-7 : tie.Need-enum-known-w-7
+enum-known-w-7 c = search needs
+
 returns : tie.Need-returns
 returns c = search needs
 
@@ -51,6 +54,9 @@ returns-7 c = search needs
 returns-8 : tie.Need-returns-8
 returns-8 c = search needs
 
+returns-9 : tie.Need-returns-9
+returns-9 c = search needs
+
 pub refusal-place-spec : {M : Type 1} → statement M
 refusal-place-spec =
     tie.close
@@ -63,6 +69,7 @@ refusal-place-spec =
     enum-known-w-4
     enum-known-w-5
     enum-known-w-6
+    enum-known-w-7
     returns
     returns-2
     returns-3
@@ -70,4 +77,5 @@ refusal-place-spec =
     returns-5
     returns-6
     returns-7
-    returns-8)
+    returns-8
+    returns-9)

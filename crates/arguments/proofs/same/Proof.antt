@@ -1,12 +1,12 @@
--- `keravnoth::same` is safe and ends. The invariant: i is within both words, which are equally long. The measure is what is left of them.
+-- `arguments::same` is safe and ends. The invariant: i is within both words, which are equally long. The measure is what is left of them.
 -- Assumes nothing.
 use Prim.Native.Nat.{_≤_, _-_}
 use mathlib.Core.Path.{_≡_}
 use native.Mathlib.Omega.{arith}
 use lib.ListN.{length}
 use borrow.Author.Needs.{needs}
-use Rattle.keravnoth.proofs.same.Statement.{statement}
-use Rattle.keravnoth.proofs.same.Tie as tie
+use Rattle.arguments.proofs.same.Statement.{statement}
+use Rattle.arguments.proofs.same.Tie as tie
 
 abbrev Inv-loop : tie.InvT-loop
 Inv-loop word other i₀ i = (i ≤ length word) × (length word ≡ length other)

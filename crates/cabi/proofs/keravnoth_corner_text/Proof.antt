@@ -1,0 +1,22 @@
+-- `cabi::keravnoth_corner_text` meets its contract: what `corner_text` leaves, coded. Assumes nothing.
+use mathlib.Core.Path.{ap}
+use borrow.Author.Needs.{needs}
+use Rattle.cabi.specs.Coded.{textCoded}
+use Rattle.cabi.proofs.keravnoth_corner_text.Statement.{statement}
+use Rattle.cabi.proofs.keravnoth_corner_text.Tie as tie
+
+corner-text-requires : tie.Need-corner-text-requires
+corner-text-requires c κs = search needs
+
+code-written-requires : tie.Need-code-written-requires
+code-written-requires c κs = search needs
+
+same-length : tie.Need-same-length
+same-length c = search needs
+
+returns : tie.Need-returns
+returns c = rw (c .code-written .ensures) (ap textCoded (c .before .before .before .corner-text .ensures))
+
+pub keravnoth-corner-text-spec : {M : Type 1} → statement M
+keravnoth-corner-text-spec =
+    tie.close (tie.spec corner-text-requires code-written-requires same-length returns)

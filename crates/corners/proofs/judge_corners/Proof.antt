@@ -1,0 +1,31 @@
+-- `corners::judge_corners` meets its contract. Assumes nothing.
+use native.Mathlib.Omega.{arith}
+use borrow.Author.Needs.{needs}
+use Rattle.corners.proofs.SheetLaws.{table-refused, borders-refused, row-refused, sheet-passed}
+use Rattle.corners.proofs.judge_corners.Statement.{statement}
+use Rattle.corners.proofs.judge_corners.Tie as tie
+
+judge-requires : tie.Need-judge-requires
+judge-requires c κs = search needs
+
+enum-told : tie.Need-enum-told
+enum-told c = search needs
+
+enum-told-2 : tie.Need-enum-told-2
+enum-told-2 c = search needs
+
+returns : tie.Need-returns
+returns c = table-refused _ _ _ (c .before .before .judge .ensures) _ (c .enum-told2 .given .1)
+
+returns-2 : tie.Need-returns-2
+returns-2 c = let d = c .before .before in borders-refused _ _ _ (d .before .before .judge .ensures) (d .enum-told .given .1) (omega arith)
+
+returns-3 : tie.Need-returns-3
+returns-3 c = let d = c .before .before .before .before in row-refused _ _ _ (d .before .before .judge .ensures) (d .enum-told .given .1) (omega arith) (omega arith)
+
+returns-4 : tie.Need-returns-4
+returns-4 c = let d = c .before .before .before .before in sheet-passed _ _ _ (d .before .before .judge .ensures) (d .enum-told .given .1) (omega arith) (omega arith)
+
+pub judge-corners-spec : {M : Type 1} → statement M
+judge-corners-spec =
+    tie.close (tie.spec judge-requires enum-told enum-told-2 returns returns-2 returns-3 returns-4)

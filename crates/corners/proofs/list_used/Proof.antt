@@ -1,0 +1,104 @@
+-- `corners::list_used` meets its contract. The loop's invariant: the flows up to k are listed, those from k on are as they were.
+-- The measure is what is left to list.
+-- Assumes nothing.
+use mathlib.Core.Path.{refl}
+use Prim.Native.Nat.{_-_}
+use native.Mathlib.Omega.{arith}
+use lib.IntN.{ℤ, _+ℤ_}
+use mir.Facts.{toZ-ofZ}
+use mir.Syntax.{w64}
+use mir.Val.{SFits, toZ}
+use Rattle.numbers.specs.Ints.{Within}
+use Rattle.numbers.proofs.IntLaws.{within-fits}
+use Rattle.kinds.specs.Ranges.{atℤ}
+use Rattle.margin.proofs.BoundLaws.{within-add}
+use Rattle.corners.specs.Listed.{flowMost}
+use Rattle.corners.proofs.ListedLaws.{Using, using-none, using-within, using-more, using-all}
+use Rattle.corners.proofs.list_used.Statement.{statement}
+use Rattle.corners.proofs.list_used.Tie as tie
+
+abbrev Inv-loop : tie.InvT-loop
+Inv-loop part out₀ count next k₀ out k = Using (toZ w64 part) out₀ count out k
+
+abbrev μ-loop : tie.MeasureT-loop
+μ-loop part out₀ count next k₀ out k = next - k
+
+add-next : tie.Need-add-next Inv-loop μ-loop
+add-next c = omega arith
+
+-- what is read, and its sum with the part
+module _ (c : tie.After-out Inv-loop μ-loop) where
+  abbrev start : tie.Start Inv-loop μ-loop
+  start = c .before .before .before
+
+  abbrev read : ℤ
+  read = atℤ (c .before .before .loop .out) (c .before .before .loop .k - start .args .count)
+
+  read-in : Within flowMost read
+  read-in = using-within _ _ _ (start .pre .1 .1) (c .before .before .loop .inv) (start .pre .1 .0) (omega arith)
+
+  read-fits : SFits w64 read
+  read-fits = within-fits read-in tt
+
+  sum-fits : SFits w64 (read +ℤ start .args .part)
+  sum-fits = within-fits (within-add read-in (start .pre .0)) tt
+
+loop-holds : tie.Need-loop-holds Inv-loop μ-loop
+loop-holds c = using-none _ _ _ (c .pre .1 .1)
+
+sub-out : tie.Need-sub-out Inv-loop μ-loop
+sub-out c = c .before .loop .inv .low
+
+mul-out : tie.Need-mul-out Inv-loop μ-loop
+mul-out c = omega (arith, c .before .loop .inv .so-far .as-long)
+
+slice-copy-out-out : tie.Need-slice-copy-out-out Inv-loop μ-loop
+slice-copy-out-out c = omega (arith, c .before .loop .inv .so-far .as-long, c .before .before .pre .1 .1)
+
+add-out : tie.Need-add-out Inv-loop μ-loop
+add-out c = simp (toZ-ofZ, read-fits c, c .before .before .before .fits .part) (sum-fits c)
+
+mul-t12 : tie.Need-mul-t12 Inv-loop μ-loop
+mul-t12 c = omega (arith, c .before .before .loop .inv .so-far .as-long)
+
+slice-set-from-out : tie.Need-slice-set-from-out Inv-loop μ-loop
+slice-set-from-out c = omega (arith, c .before .before .loop .inv .so-far .as-long, c .before .before .before .pre .1 .1)
+
+add-k : tie.Need-add-k Inv-loop μ-loop
+add-k c = omega arith
+
+loop-less : tie.Need-loop-less Inv-loop μ-loop
+loop-less c = omega arith
+
+loop-again : tie.Need-loop-again Inv-loop μ-loop
+loop-again c =
+    let s = c .before .before .before in
+    using-more _ _ _ (s .pre .1 .1) (c .before .before .loop .inv) _ (omega arith) (simp (toZ-ofZ, read-fits c, s .fits .part, sum-fits c))
+
+same-length : tie.Need-same-length Inv-loop μ-loop
+same-length c = c .before .loop .inv .so-far .as-long
+
+returns : tie.Need-returns Inv-loop μ-loop
+returns c =
+    let s = c .before .before in
+    simp (toZ-ofZ, s .fits .part) at (using-all _ _ _ (s .pre .1 .1) (c .before .loop .inv) (omega arith) _ refl)
+
+pub list-used-spec : {M : Type 1} → statement M
+list-used-spec =
+    tie.close
+    (tie.spec
+    Inv-loop
+    μ-loop
+    add-next
+    loop-holds
+    sub-out
+    mul-out
+    slice-copy-out-out
+    add-out
+    mul-t12
+    slice-set-from-out
+    add-k
+    loop-less
+    loop-again
+    same-length
+    returns)

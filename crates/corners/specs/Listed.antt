@@ -1,0 +1,22 @@
+-- What the functions that list corners ask and leave: how large a part and a flow can be, in grains, and flows in front of what a buffer held.
+-- Assumes nothing.
+use mathlib.Core.Path.{_≡_}
+use mathlib.Core.List.{List}
+use Prim.Native.Nat.{ℕ, _*_}
+use lib.IntN.{ℤ}
+use lib.ListN.{length}
+use Rattle.numbers.specs.Below.{over}
+use Rattle.kinds.specs.Limits.{ltaMost, factorMost}
+use Rattle.corners.specs.Corners.{sheetBordersMost}
+
+-- a border's part, and a sum of parts, in magnitude
+abbrev pub partMost : ℕ
+partMost = 2 * factorMost * (ltaMost * 1000)
+
+abbrev pub flowMost : ℕ
+flowMost = sheetBordersMost * partMost
+
+-- so many flows stand in front, and the rest is as it was
+pub record Listed (flows old : List ℤ) (count : ℕ) (out : List ℤ) : Type 0 where
+  pub counted : count ≡ length flows
+  pub wrote : out ≡ over flows old

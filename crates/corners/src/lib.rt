@@ -1,0 +1,139 @@
+// The corner sheet (02, E1): every corner's flow on one row, in grains, as summed for S.
+// A corner uses border b at its whole LTA where bit b of the corner's number is set, and else at 0.
+ghost use mathlib.Core.Path.{_≡_};
+ghost use mathlib.Core.Bool.{true};
+ghost use mathlib.Core.List.{_++_};
+ghost use Prim.Native.Nat.{_+_, _^_, _<_, _≤_};
+ghost use lib.ListN.{length, take};
+ghost use Rattle.numbers.specs.Ints.{Within, AllWithin};
+ghost use Rattle.kinds.specs.Ranges.{borderFits, borderOf};
+ghost use Rattle.kinds.specs.Answers.{ruled, saidFlows};
+ghost use Rattle.table.specs.Table.{lent, front, stretch};
+ghost use Rattle.margin.specs.Bounds.{FactorsBound, TableFactorsBound, BordersBound};
+ghost use Rattle.margin.specs.Margin.{cornerPart};
+ghost use Rattle.corners.specs.Corners.{sheetBordersMost, raisedBy, flowsOf, judgeCorners, flowsLeft, cornersLeft};
+ghost use Rattle.corners.specs.Listed.{partMost, flowMost, Listed};
+use kinds::BorderRecord;
+use kinds::Flows;
+use kinds::Header;
+use kinds::Judgement;
+use kinds::Refusal;
+use kinds::RowRecord;
+
+// A sheet is made for at most so many borders.
+pub const BORDERS_MOST: usize = 12;
+
+// The flows of all corners on one row, by the corner's number. Any input has an answer: there is no `requires`.
+pub fn corner_flows(
+    h: Header,
+    z: &[i64],
+    b: &[BorderRecord],
+    c: &[RowRecord],
+    f: &[i64],
+    row: usize,
+    out: &mut [i64],
+) -> Flows
+    ensures { λ r. ⌜ flowsLeft (saidFlows r) (now (out .exit)) ≡ cornersLeft (lent h (now (z .entry)) (now (b .entry)) (now (c .entry)) (now (f .entry))) row (now (out .entry)) ⌝ }
+{
+    if let Judgement::Refused(w) = judge_corners(h, z, b, c, f, row) {
+        return Flows::Refused(w);
+    }
+    let borders = h.borders;
+    let needed = corner_count(borders);
+    if out.len() < needed {
+        return Flows::Refused(Refusal::Short(needed));
+    }
+    let factors = h.rows * h.zones;
+    Flows::Corners(list_row(h, &b[..borders], &f[..factors], row, out))
+}
+
+// The judging of a lent table, and then whether it has a sheet for this row.
+fn judge_corners(
+    h: Header,
+    z: &[i64],
+    b: &[BorderRecord],
+    c: &[RowRecord],
+    f: &[i64],
+    row: usize,
+) -> Judgement
+    ensures { λ r. ⌜ ruled r (front (lent h (now (z .entry)) (now (b .entry)) (now (c .entry)) (now (f .entry)))) ≡ judgeCorners (lent h (now (z .entry)) (now (b .entry)) (now (c .entry)) (now (f .entry))) row ⌝ }
+{
+    let judged = table::judge(h, z, b, c, f);
+    let Judgement::Passed = judged else {
+        return judged;
+    };
+    if BORDERS_MOST < h.borders {
+        return Judgement::Refused(Refusal::Corners(h.borders));
+    }
+    if h.rows <= row {
+        return Judgement::Refused(Refusal::Corners(row));
+    }
+    Judgement::Passed
+}
+
+fn corner_count(borders: usize) -> usize
+    requires { ⌜ borders ≤ sheetBordersMost ⌝ }
+    ensures { λ r. ⌜ r ≡ 2 ^ borders ⌝ }
+{
+    1 << borders
+}
+
+// The sheet of a row of a judged table.
+fn list_row(h: Header, b: &[BorderRecord], f: &[i64], row: usize, out: &mut [i64]) -> usize
+    requires { ⌜ TableFactorsBound h (now f) ⌝ }
+    requires { ⌜ BordersBound (h .zones) (now b) ⌝ }
+    requires { ⌜ length (now b) ≤ sheetBordersMost ⌝ }
+    requires { ⌜ row < h .rows ⌝ }
+    requires { ⌜ 2 ^ length (now b) ≤ length (now out) ⌝ }
+    ensures { λ r. ⌜ Listed (flowsOf (stretch (h .zones) (now (f .entry)) row) (now (b .entry))) (now (out .entry)) r (now (out .exit)) ⌝ }
+{
+    list_corners(margin::row_factors(h, f, row), b, out)
+}
+
+// The corners of all borders but the last come from the same work on the shorter list; then the same with the last one used.
+// Answers how many there are.
+fn list_corners(factors: &[i64], borders: &[BorderRecord], out: &mut [i64]) -> usize
+    requires { ⌜ FactorsBound (now factors) ⌝ }
+    requires { ⌜ BordersBound (length (now factors)) (now borders) ⌝ }
+    requires { ⌜ length (now borders) ≤ sheetBordersMost ⌝ }
+    requires { ⌜ 2 ^ length (now borders) ≤ length (now out) ⌝ }
+    ensures { λ r. ⌜ Listed (flowsOf (now (factors .entry)) (now (borders .entry))) (now (out .entry)) r (now (out .exit)) ⌝ }
+{
+    let left = borders.len();
+    if left == 0 {
+        out[0] = 0;
+        return 1;
+    }
+    let last = left - 1;
+    let part = corner_part(factors, borders[last]);
+    let count = list_corners(factors, &borders[..last], out);
+    list_used(part, out, count)
+}
+
+// After the first `count` flows, the same with one border more used. Answers how many there are then.
+fn list_used(part: i64, out: &mut [i64], count: usize) -> usize
+    requires { ⌜ Within partMost part ⌝ }
+    requires { ⌜ AllWithin flowMost (take count (now out)) ⌝ }
+    requires { ⌜ count + count ≤ length (now out) ⌝ }
+    ensures { λ r. ⌜ Listed (take count (now (out .entry)) ++ raisedBy part (take count (now (out .entry)))) (now (out .entry)) r (now (out .exit)) ⌝ }
+{
+    let next = count + count;
+    for k in count..next {
+        out[k] = out[k - count] + part;
+    }
+    next
+}
+
+// What a border's whole LTA puts on a row: below 0 where it relieves.
+// A judged border is read as itself: the other arm is never taken.
+fn corner_part(factors: &[i64], raw: BorderRecord) -> i64
+    requires { ⌜ FactorsBound (now factors) ⌝ }
+    requires { ⌜ borderFits (length (now factors)) raw ≡ true ⌝ }
+    ensures { λ r. ⌜ r ≡ cornerPart (now (factors .entry)) (borderOf raw) ⌝ }
+{
+    let kinds::BorderRead::Good(border) = kinds::Border::of(factors.len(), raw) else {
+        return 0;
+    };
+    let lta = margin::lta_kw(border);
+    margin::signed_factor(factors, border) * lta as i64
+}

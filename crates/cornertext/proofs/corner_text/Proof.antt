@@ -1,0 +1,83 @@
+-- `cornertext::corner_text` meets its contract: the flows in working memory, which has room for every sheet, and then their text.
+-- Assumes nothing.
+use mathlib.Core.Path.{sym, _∙_}
+use Prim.Native.Nat.{ℕ}
+use native.Mathlib.Nat.{le-refl}
+use borrow.Author.Needs.{needs}
+use lib.Seq.{length-take-le}
+use Rattle.table.specs.Table.{Table, lent}
+use Rattle.cornertext.specs.CornerText.{sheetMost}
+use Rattle.cornertext.proofs.CornerTextLaws.{Told, told-refused, told-passed, text-on}
+use Rattle.cornertext.proofs.corner_text.Statement.{statement}
+use Rattle.cornertext.proofs.corner_text.Tie as tie
+
+-- what was lent
+abbrev given : tie.Start → Table
+given s = lent (s .args .h) (s .args .z .now) (s .args .b .now) (s .args .c .now) (s .args .f .now)
+
+slice-aggregate-corner-flows : tie.Need-slice-aggregate-corner-flows
+slice-aggregate-corner-flows c = search needs
+
+corner-flows-requires : tie.Need-corner-flows-requires
+corner-flows-requires c κs = search needs
+
+enum-known-filled : tie.Need-enum-known-filled
+enum-known-filled c = search needs
+
+enum-known-filled-2 : tie.Need-enum-known-filled-2
+enum-known-filled-2 c = search needs
+
+-- the flows stand in front of the working memory
+module _ (c : tie.After-filled2) where
+  abbrev filled : tie.After-corner-flows
+  filled = c .before .before .before
+
+  abbrev start : tie.Start
+  start = filled .before .before .before
+
+  abbrev count : ℕ
+  count = c .filled2 .given .0 .0
+
+  told : Told (given start) (start .args .row) count (filled .corner-flows .last .1 .1 .1 .1 .1 .1 .0)
+  told = told-passed (given start) (start .args .row) _ _ (filled .corner-flows .ensures) (le-refl sheetMost) count (c .filled2 .given .1)
+
+array-share-prefix-flows : tie.Need-array-share-prefix-flows
+array-share-prefix-flows c = told (c .before) .long
+
+slice-aggregate-write-corners : tie.Need-slice-aggregate-write-corners
+slice-aggregate-write-corners c = sym (length-take-le _ _ (told (c .before .before) .long))
+
+write-corners-requires : tie.Need-write-corners-requires
+write-corners-requires c κs =
+    let d = c .before .before .before in
+    rw (length-take-le (count d) _ (told d .long)) (told d .few)
+
+returns : tie.Need-returns
+returns c =
+    let f = c .before .before .before .before in
+    let s = f .before .before .before in
+    told-refused (given s) (s .args .row) _ _ (f .corner-flows .ensures) (le-refl sheetMost) (s .args .out .now) _ (c .before .filled .given .1)
+
+same-length : tie.Need-same-length
+same-length c = search needs
+
+returns-2 : tie.Need-returns-2
+returns-2 c =
+    let d = c .before .before .before .before .before .before in
+    let s = start d in
+    c .before .before .write-corners .ensures ∙ text-on (given s) (s .args .row) (s .args .out .now) (told d)
+
+pub corner-text-spec : {M : Type 1} → statement M
+corner-text-spec =
+    tie.close
+    (tie.spec
+    slice-aggregate-corner-flows
+    corner-flows-requires
+    enum-known-filled
+    enum-known-filled-2
+    array-share-prefix-flows
+    slice-aggregate-write-corners
+    write-corners-requires
+    returns
+    same-length
+    returns-2)

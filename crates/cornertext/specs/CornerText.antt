@@ -1,0 +1,40 @@
+-- One row's corner sheet as text (02, E1), and what the open call `corner_text` leaves.
+-- Assumes nothing.
+use mathlib.Core.List.{List, [], _∷_}
+use Prim.Native.Char.{code}
+use Prim.Native.Nat.{ℕ, _+_, _^_}
+use lib.IntN.{ℤ}
+use lib.ListN.{length}
+use Rattle.kinds.specs.Ranges.{atℤ}
+use Rattle.kinds.specs.Refusals.{passed, then}
+use Rattle.text.specs.Written.{decimal, decimalℤ, lineText, linesText}
+use Rattle.table.specs.Table.{Table, factorsAt}
+use Rattle.writing.specs.Writing.{TextLeft, textLeft}
+use Rattle.corners.specs.Corners.{sheetBordersMost, flowsOf, judgeCorners}
+
+-- a sheet has at most so many corners
+abbrev pub sheetMost : ℕ
+sheetMost = 2 ^ sheetBordersMost
+
+-- `K`, row, corner number, signed flow
+abbrev pub cornerLine : (row corner : ℕ) → (flow : ℤ) → List ℕ
+cornerLine row corner flow = lineText (code "K") (decimal row ∷ decimal corner ∷ decimalℤ flow ∷ [])
+
+-- .. of numbers of at most 20 digits: letter, tabs and LF, and a minus
+abbrev pub lineMost : ℕ
+lineMost = 5 + 20 + 20 + 21
+
+abbrev pub cornerLineAt : (row : ℕ) → (flows : List ℤ) → (corner : ℕ) → List ℕ
+cornerLineAt row flows corner = cornerLine row corner (atℤ flows corner)
+
+-- .. for each corner, numbers rising from 0
+unfoldable pub cornersText : (row : ℕ) → (flows : List ℤ) → List ℕ
+cornersText row flows = linesText (length flows) 0 (cornerLineAt row flows)
+
+-- a row's sheet as text
+abbrev pub sheetText : Table → (row : ℕ) → List ℕ
+sheetText t row = cornersText row (flowsOf (factorsAt t row) (t .borders))
+
+-- refusals as for the flows, then room for the bytes of the text
+unfoldable pub cornerTextLeft : (given : Table) → (row : ℕ) → (out : List ℕ) → TextLeft
+cornerTextLeft given row out = textLeft (then (judgeCorners given row) (λ t. passed (sheetText t row))) out

@@ -1,0 +1,93 @@
+// One row's corner sheet as text (02, E1): a `K` line for each corner.
+// The text's length is counted before the first byte is stored. A sheet may pass 65,536 bytes: that limit is for input.
+ghost use mathlib.Core.Path.{_≡_};
+ghost use Prim.Native.Nat.{_+_, _≤_};
+ghost use lib.ListN.{length};
+ghost use Rattle.kinds.specs.Refusals.{passed};
+ghost use Rattle.text.specs.Put.{Put};
+ghost use Rattle.table.specs.Table.{lent};
+ghost use Rattle.writing.specs.Writing.{textSaid, textLeft};
+ghost use Rattle.cornertext.specs.CornerText.{sheetMost, lineMost, cornerLine, cornersText, cornerTextLeft};
+use kinds::BorderRecord;
+use kinds::Flows;
+use kinds::Header;
+use kinds::Refusal;
+use kinds::RowRecord;
+use kinds::Written;
+
+// The corners of twelve borders.
+pub const SHEET_MOST: usize = 1 << corners::BORDERS_MOST;
+
+// The flows stand in working memory, which has room for every sheet. Any input has an answer: there is no `requires`.
+pub fn corner_text(
+    h: Header,
+    z: &[i64],
+    b: &[BorderRecord],
+    c: &[RowRecord],
+    f: &[i64],
+    row: usize,
+    out: &mut [u8],
+) -> Written
+    ensures { λ r. ⌜ textSaid r (now (out .exit)) ≡ cornerTextLeft (lent h (now (z .entry)) (now (b .entry)) (now (c .entry)) (now (f .entry))) row (now (out .entry)) ⌝ }
+{
+    let mut flows = [0i64; SHEET_MOST];
+    let filled = corners::corner_flows(h, z, b, c, f, row, &mut flows);
+    match filled {
+        Flows::Refused(w) => Written::Refused(w),
+        Flows::Corners(count) => write_corners(row, &flows[..count], out),
+    }
+}
+
+// What is left to judge is the room for the text.
+fn write_corners(row: usize, flows: &[i64], out: &mut [u8]) -> Written
+    requires { ⌜ length (now flows) ≤ sheetMost ⌝ }
+    ensures { λ r. ⌜ textSaid r (now (out .exit)) ≡ textLeft (passed (cornersText row (now (flows .entry)))) (now (out .entry)) ⌝ }
+{
+    let needed = text_length(row, flows);
+    if out.len() < needed {
+        return Written::Refused(Refusal::Short(needed));
+    }
+    Written::Bytes(put_corners(row, flows, out))
+}
+
+fn text_length(row: usize, flows: &[i64]) -> usize
+    requires { ⌜ length (now flows) ≤ sheetMost ⌝ }
+    ensures { λ r. ⌜ r ≡ length (cornersText row (now (flows .entry))) ⌝ }
+{
+    let mut sum: usize = 0;
+    for k in 0..flows.len() {
+        sum += line_length(row, k, flows[k]);
+    }
+    sum
+}
+
+// The letter, a tab before each field, the LF; and the fields.
+fn line_length(row: usize, corner: usize, flow: i64) -> usize
+    ensures { λ r. ⌜ (r ≡ length (cornerLine row corner flow)) × (r ≤ lineMost) ⌝ }
+{
+    let row_digits = text::put::digit_count(row as u64);
+    let corner_digits = text::put::digit_count(corner as u64);
+    5 + row_digits + corner_digits + text::put::signed_length(flow)
+}
+
+fn put_corners(row: usize, flows: &[i64], out: &mut [u8]) -> usize
+    requires { ⌜ length (cornersText row (now flows)) ≤ length (now out) ⌝ }
+    ensures { λ r. ⌜ Put (cornersText row (now (flows .entry))) 0 (now (out .entry)) r (now (out .exit)) ⌝ }
+{
+    let mut next: usize = 0;
+    for k in 0..flows.len() {
+        next = put_corner(row, k, flows[k], out, next);
+    }
+    next
+}
+
+fn put_corner(row: usize, corner: usize, flow: i64, out: &mut [u8], at: usize) -> usize
+    requires { ⌜ at + length (cornerLine row corner flow) ≤ length (now out) ⌝ }
+    ensures { λ r. ⌜ Put (cornerLine row corner flow) at (now (out .entry)) r (now (out .exit)) ⌝ }
+{
+    let next = text::put::put_byte(b'K', out, at);
+    let next = text::put::put_number_field(row as u64, out, next);
+    let next = text::put::put_number_field(corner as u64, out, next);
+    let next = text::put::put_signed_field(flow, out, next);
+    text::put::put_byte(b'\n', out, next)
+}

@@ -1,0 +1,96 @@
+-- The corner sheet (02, E1) of the worked hour, and who has none, by computation.
+-- Assumes nothing.
+use mathlib.Core.Path.{_≡_, refl}
+use mathlib.Core.List.{List, [], _∷_, _++_}
+use Prim.Native.Nat.{ℕ}
+use lib.IntN.{ℤ, pos}
+use lib.ListN.{replicate, take}
+use Rattle.numbers.specs.Ints.{minus}
+use Rattle.kinds.specs.Refusals.{passed, refused, outOfRange, givenTwice, noCorners, tooShort}
+use Rattle.table.specs.Table.{Table, lent}
+use Rattle.margin.specs.Margin.{sOf}
+use Rattle.corners.specs.Corners.{judgeCorners, cornersLeft}
+use Rattle.cornertext.specs.CornerText.{cornerTextLeft}
+use Rattle.prints.specs.Printed.{oneSheet, everySheet}
+use Rattle.figures.specs.Computing.{computing}
+use Rattle.figures.specs.Sheets.{sheet}
+use Rattle.figures.specs.Hour.{hourText, hourTable}
+
+-- the hour with other borders, and with a row whose starting margin is below 0
+abbrev withBorders : List (List ℤ) → Table
+withBorders borders = lent (hourTable .header) (hourTable .nets) borders (hourTable .rows) (hourTable .factors)
+
+abbrev bBack : List (List ℤ)
+bBack = (pos 0 ∷ pos 1 ∷ pos 100 ∷ []) ∷ (pos 2 ∷ pos 1 ∷ pos 200 ∷ []) ∷ []
+
+abbrev bTwice : List (List ℤ)
+bTwice = (pos 0 ∷ pos 1 ∷ pos 100 ∷ []) ∷ (pos 0 ∷ pos 1 ∷ pos 200 ∷ []) ∷ []
+
+-- five zones, so many of thirteen borders, and one row
+abbrev borders13 : List (List ℤ)
+borders13 =
+    (pos 0 ∷ pos 1 ∷ pos 1 ∷ []) ∷ (pos 0 ∷ pos 2 ∷ pos 1 ∷ []) ∷ (pos 0 ∷ pos 3 ∷ pos 1 ∷ []) ∷ (pos 0 ∷ pos 4 ∷ pos 1 ∷ [])
+    ∷ (pos 1 ∷ pos 0 ∷ pos 1 ∷ []) ∷ (pos 1 ∷ pos 2 ∷ pos 1 ∷ []) ∷ (pos 1 ∷ pos 3 ∷ pos 1 ∷ []) ∷ (pos 1 ∷ pos 4 ∷ pos 1 ∷ [])
+    ∷ (pos 2 ∷ pos 0 ∷ pos 1 ∷ []) ∷ (pos 2 ∷ pos 1 ∷ pos 1 ∷ []) ∷ (pos 2 ∷ pos 3 ∷ pos 1 ∷ []) ∷ (pos 2 ∷ pos 4 ∷ pos 1 ∷ [])
+    ∷ (pos 3 ∷ pos 0 ∷ pos 1 ∷ []) ∷ []
+
+abbrev many : (n : ℕ) → (borders : List (List ℤ)) → Table
+many n borders =
+    lent (record { zones = 5; borders = n; rows = 1 }) (replicate 5 (pos 0)) borders
+    ((pos 10000 ∷ pos 0 ∷ pos 0 ∷ pos 0 ∷ pos 0 ∷ pos 0 ∷ pos 0 ∷ []) ∷ []) (replicate 5 (pos 0))
+
+abbrev nines : (n : ℕ) → List ℤ
+nines n = replicate n (pos 9)
+
+pub record Corners : Type 0 where
+  -- the flows in front, the rest as it was; S of row 0 is 4,000,000,000, which is also the largest flow
+  pub flows : cornersLeft hourTable 0 (nines 5) ≡ record { answer = passed 4; out = pos 0 ∷ pos 2000000000 ∷ pos 2000000000 ∷ pos 4000000000 ∷ pos 9 ∷ [] }
+  pub s : sOf (take 3 (hourTable .factors)) (hourTable .borders) ≡ 4000000000
+  -- a border that relieves the row, and the largest flow at neither end; the extraction would refuse this table (6)
+  pub relieves : cornersLeft (withBorders bBack) 0 (nines 4) ≡ record { answer = passed 4; out = pos 0 ∷ pos 2000000000 ∷ minus 2000000000 ∷ pos 0 ∷ [] }
+  -- 9 for the borders, or else for the row
+  pub borders-12 : judgeCorners (many 12 (take 12 borders13)) 0 ≡ passed (many 12 (take 12 borders13))
+  pub borders-13 : cornersLeft (many 13 borders13) 0 [] ≡ record { answer = refused (noCorners 13); out = [] }
+  pub borders-first : cornersLeft (many 13 borders13) 7 [] ≡ record { answer = refused (noCorners 13); out = [] }
+  pub no-row : cornersLeft hourTable 4 [] ≡ record { answer = refused (noCorners 4); out = [] }
+  -- .. after 3 and 4, before room for the flows
+  pub range-first : cornersLeft (many 13 ((pos 0 ∷ pos 0 ∷ pos 1 ∷ []) ∷ borders13)) 7 [] ≡ record { answer = refused (outOfRange 7); out = [] }
+  pub twice-first : cornersLeft (withBorders bTwice) 4 [] ≡ record { answer = refused (givenTwice 1); out = [] }
+  pub room-last : cornersLeft hourTable 0 (nines 3) ≡ record { answer = refused (tooShort 4); out = nines 3 }
+  -- the text
+  pub text : cornerTextLeft hourTable 1 (replicate 51 7) ≡ record { answer = passed 50; out = sheet "K 1 0 0/K 1 1 0/K 1 2 1000000000/K 1 3 1000000000/" ++ (7 ∷ []) }
+  pub text-short : cornerTextLeft hourTable 1 (replicate 49 7) ≡ record { answer = refused (tooShort 50); out = replicate 49 7 }
+  pub text-signed : cornerTextLeft (withBorders bBack) 0 (replicate 51 7)
+      ≡ record { answer = passed 51; out = sheet "K 0 0 0/K 0 1 2000000000/K 0 2 -2000000000/K 0 3 0/" }
+  -- what the program prints
+  pub one : oneSheet hourText 1 ≡ sheet "K 1 0 0/K 1 1 0/K 1 2 1000000000/K 1 3 1000000000/"
+  pub one-refused : oneSheet hourText 4 ≡ sheet "E 9 4/"
+  pub one-unread : oneSheet [] 4 ≡ sheet "E 2 1/"
+  pub every : everySheet hourText
+      ≡ sheet "K 0 0 0/K 0 1 2000000000/K 0 2 2000000000/K 0 3 4000000000/"
+      ++ sheet "K 1 0 0/K 1 1 0/K 1 2 1000000000/K 1 3 1000000000/"
+      ++ sheet "K 2 0 0/K 2 1 499900000/K 2 2 0/K 2 3 499900000/"
+      ++ sheet "K 3 0 0/K 3 1 2000000000/K 3 2 2000000000/K 3 3 4000000000/"
+
+pub corners : Corners
+unfolding computing
+corners =
+    record {
+      flows = refl;
+      s = refl;
+      relieves = refl;
+      borders-12 = refl;
+      borders-13 = refl;
+      borders-first = refl;
+      no-row = refl;
+      range-first = refl;
+      twice-first = refl;
+      room-last = refl;
+      text = refl;
+      text-short = refl;
+      text-signed = refl;
+      one = refl;
+      one-refused = refl;
+      one-unread = refl;
+      every = refl;
+    }
