@@ -1,19 +1,22 @@
 /*
  * Reads an hour's table from the file given (or from standard input) and prints
  * its capacities, one line `A`, border, ATC in MW for each border, parted by
- * tabs.  A refusal goes to standard error.
+ * tabs.  With the word `corners` before the file it prints, for each row, which
+ * use of the long-term rights loads it most: the line of its corner sheet with
+ * the largest flow.  A refusal goes to standard error.
  *
  *   cc -std=c11 -Wall -Wextra -Werror -Iinclude c/hour.c libkeravnoth.a -o hour
  *
  * on x86-64; c/build and c/run do it elsewhere too.
  *
- * Exit code: 0 capacities printed, 1 the table is refused, 2 the file cannot be
- * read or the capacities cannot be printed.
+ * Exit code: 0 all printed, 1 the table is refused, 2 the file cannot be read or
+ * the lines cannot be printed.
  */
 #include "keravnoth.h"
 
 #include <inttypes.h>
 #include <stdio.h>
+#include <string.h>
 
 /* One byte more than is ever taken, so that a longer file is seen as such. */
 static uint8_t text[KERAVNOTH_TEXT_MOST + 1];
@@ -23,6 +26,7 @@ static int64_t c[KERAVNOTH_ROWS_MOST][7];
 static int64_t f[KERAVNOTH_FACTORS_MOST];
 static int64_t atc[KERAVNOTH_BORDERS_MOST][1];
 static int64_t left[KERAVNOTH_ROWS_MOST][3];
+static int64_t flows[KERAVNOTH_CORNERS_MOST];
 
 static const char *meaning(uint32_t number)
 {
@@ -35,6 +39,7 @@ static const char *meaning(uint32_t number)
     case 6: return "no kept row limits border";
     case 7: return "starting margin below 0, row";
     case 8: return "lent buffer too short, items needed";
+    case 9: return "no corner sheet: over 12 borders, or no such row";
     default: return "unknown";
     }
 }
@@ -45,15 +50,56 @@ static int refused(uint32_t number, size_t place)
     return 1;
 }
 
+/* C before C23 does not turn int64_t (*)[3] into const int64_t (*)[3] by itself,
+   so the casts say it. */
+static int print_capacities(const struct KeravnothRead *table)
+{
+    struct KeravnothExtracted work = keravnoth_extract(
+        table->zones, table->borders, table->rows,
+        z, KERAVNOTH_ZONES_MOST,
+        (const int64_t (*)[3])b, KERAVNOTH_BORDERS_MOST,
+        (const int64_t (*)[7])c, KERAVNOTH_ROWS_MOST,
+        f, KERAVNOTH_FACTORS_MOST,
+        atc, KERAVNOTH_BORDERS_MOST, left, KERAVNOTH_ROWS_MOST);
+    if (work.number != 0)
+        return refused(work.number, work.place);
+    for (size_t border = 0; border < table->borders; border++)
+        printf("A\t%zu\t%" PRId64 "\n", border, atc[border][0]);
+    return 0;
+}
+
+static int print_heaviest_corners(const struct KeravnothRead *table)
+{
+    for (size_t row = 0; row < table->rows; row++) {
+        struct KeravnothFlows sheet = keravnoth_corner_flows(
+            table->zones, table->borders, table->rows,
+            z, KERAVNOTH_ZONES_MOST,
+            (const int64_t (*)[3])b, KERAVNOTH_BORDERS_MOST,
+            (const int64_t (*)[7])c, KERAVNOTH_ROWS_MOST,
+            f, KERAVNOTH_FACTORS_MOST,
+            row, flows, KERAVNOTH_CORNERS_MOST);
+        if (sheet.number != 0)
+            return refused(sheet.number, sheet.place);
+        size_t most = 0;
+        for (size_t corner = 1; corner < sheet.corners; corner++)
+            if (flows[corner] > flows[most])
+                most = corner;
+        printf("K\t%zu\t%zu\t%" PRId64 "\n", row, most, flows[most]);
+    }
+    return 0;
+}
+
 int main(int argc, char **argv)
 {
-    if (argc > 2) {
-        fprintf(stderr, "usage: %s [table]\n", argv[0]);
+    int corners = argc > 1 && strcmp(argv[1], "corners") == 0;
+    const char *name = argc > 1 + corners ? argv[1 + corners] : NULL;
+    if (argc > 2 + corners) {
+        fprintf(stderr, "usage: %s [corners] [table]\n", argv[0]);
         return 2;
     }
-    FILE *file = argc == 2 ? fopen(argv[1], "rb") : stdin;
+    FILE *file = name != NULL ? fopen(name, "rb") : stdin;
     if (file == NULL) {
-        perror(argv[1]);
+        perror(name);
         return 2;
     }
     size_t n = fread(text, 1, sizeof text, file);
@@ -71,23 +117,10 @@ int main(int argc, char **argv)
     if (table.number != 0)
         return refused(table.number, table.place);
 
-    /* C before C23 does not turn int64_t (*)[3] into const int64_t (*)[3] by
-       itself, so the casts say it. */
-    struct KeravnothExtracted work = keravnoth_extract(
-        table.zones, table.borders, table.rows,
-        z, KERAVNOTH_ZONES_MOST,
-        (const int64_t (*)[3])b, KERAVNOTH_BORDERS_MOST,
-        (const int64_t (*)[7])c, KERAVNOTH_ROWS_MOST,
-        f, KERAVNOTH_FACTORS_MOST,
-        atc, KERAVNOTH_BORDERS_MOST, left, KERAVNOTH_ROWS_MOST);
-    if (work.number != 0)
-        return refused(work.number, work.place);
-
-    for (size_t border = 0; border < table.borders; border++)
-        printf("A\t%zu\t%" PRId64 "\n", border, atc[border][0]);
+    int status = corners ? print_heaviest_corners(&table) : print_capacities(&table);
     if (fflush(stdout) != 0) {
         perror("writing");
         return 2;
     }
-    return 0;
+    return status;
 }
