@@ -14,17 +14,11 @@ use Rattle.cornertext.specs.CornerText.{cornerTextLeft}
 use Rattle.prints.specs.Printed.{oneSheet, everySheet}
 use Rattle.figures.specs.Computing.{computing}
 use Rattle.figures.specs.Sheets.{sheet}
-use Rattle.figures.specs.Hour.{hourText, hourTable}
+use Rattle.figures.specs.Hour.{hourText, hourTable, bTwice, bBack, nines}
 
--- the hour with other borders, and with a row whose starting margin is below 0
+-- the hour with other borders
 abbrev withBorders : List (List ℤ) → Table
 withBorders borders = lent (hourTable .header) (hourTable .nets) borders (hourTable .rows) (hourTable .factors)
-
-abbrev bBack : List (List ℤ)
-bBack = (pos 0 ∷ pos 1 ∷ pos 100 ∷ []) ∷ (pos 2 ∷ pos 1 ∷ pos 200 ∷ []) ∷ []
-
-abbrev bTwice : List (List ℤ)
-bTwice = (pos 0 ∷ pos 1 ∷ pos 100 ∷ []) ∷ (pos 0 ∷ pos 1 ∷ pos 200 ∷ []) ∷ []
 
 -- five zones, so many of thirteen borders, and one row
 abbrev borders13 : List (List ℤ)
@@ -38,9 +32,6 @@ abbrev many : (n : ℕ) → (borders : List (List ℤ)) → Table
 many n borders =
     lent (record { zones = 5; borders = n; rows = 1 }) (replicate 5 (pos 0)) borders
     ((pos 10000 ∷ pos 0 ∷ pos 0 ∷ pos 0 ∷ pos 0 ∷ pos 0 ∷ pos 0 ∷ []) ∷ []) (replicate 5 (pos 0))
-
-abbrev nines : (n : ℕ) → List ℤ
-nines n = replicate n (pos 9)
 
 pub record Corners : Type 0 where
   -- the flows in front, the rest as it was; S of row 0 is 4,000,000,000, which is also the largest flow

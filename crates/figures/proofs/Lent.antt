@@ -15,7 +15,7 @@ use Rattle.extraction.specs.Extraction.{extractLeft}
 use Rattle.result.specs.Result.{resultTextLeft, answerLeft}
 use Rattle.figures.specs.Computing.{computing}
 use Rattle.figures.specs.Sheets.{sheet}
-use Rattle.figures.specs.Hour.{hourText, hourResult, hourTable}
+use Rattle.figures.specs.Hour.{hourText, hourResult, hourTable, bTwice, bBack, nines}
 
 -- the hour's tables, as they are lent
 abbrev h : Header
@@ -37,9 +37,6 @@ f = hourTable .factors
 abbrev old : (n : ℕ) → List (List ℤ)
 old n = replicate n (pos 5 ∷ [])
 
-abbrev nines : (n : ℕ) → List ℤ
-nines n = replicate n (pos 9)
-
 -- the hour's results: ATC; state, RAM, margin left (-1 where the state is not 0)
 abbrev ATCs : List (List ℤ)
 ATCs = (pos 2599 ∷ []) ∷ (pos 1800 ∷ []) ∷ []
@@ -55,13 +52,6 @@ cvaHigh = take 1 c ++ ((pos 100000 ∷ pos 10000 ∷ pos 15000 ∷ pos 0 ∷ min
 
 abbrev frmHigh : List (List ℤ)
 frmHigh = take 1 c ++ ((pos 100000 ∷ pos 100001 ∷ pos 15000 ∷ pos 0 ∷ minus 1 ∷ pos 0 ∷ pos 0 ∷ []) ∷ drop 2 c)
-
--- borders of which the second is as the first, and one that no kept row limits
-abbrev bTwice : List (List ℤ)
-bTwice = (pos 1 ∷ pos 2 ∷ pos 0 ∷ []) ∷ drop 1 b
-
-abbrev bBack : List (List ℤ)
-bBack = take 1 b ++ ((pos 2 ∷ pos 1 ∷ pos 200 ∷ []) ∷ [])
 
 pub record Left : Type 0 where
   -- read: the table in front, the rest as it was

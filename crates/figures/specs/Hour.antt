@@ -1,8 +1,9 @@
--- The hour that is checked whole (01): its text, its result, and the table as a value.
+-- The hour that is checked whole (01): its text, its result, and the table as a value; other borders for it, and lent memory.
 -- Assumes nothing.
 use mathlib.Core.List.{List, [], _∷_, _++_}
 use Prim.Native.Nat.{ℕ}
-use lib.IntN.{pos}
+use lib.IntN.{ℤ, pos}
+use lib.ListN.{replicate, take, drop}
 use Rattle.numbers.specs.Ints.{minus}
 use Rattle.table.specs.Table.{Table}
 use Rattle.figures.specs.Sheets.{sheet}
@@ -35,3 +36,14 @@ hourTable =
       factors =
           pos 30000 ∷ pos 10000 ∷ pos 0 ∷ pos 5000 ∷ pos 5000 ∷ pos 0 ∷ pos 4999 ∷ pos 0 ∷ pos 0 ∷ pos 20000 ∷ pos 0 ∷ minus 10000 ∷ [];
     }
+
+-- borders of which the second is as the first, and one that no kept row limits
+abbrev pub bTwice : List (List ℤ)
+bTwice = (pos 1 ∷ pos 2 ∷ pos 0 ∷ []) ∷ drop 1 (hourTable .borders)
+
+abbrev pub bBack : List (List ℤ)
+bBack = take 1 (hourTable .borders) ++ ((pos 2 ∷ pos 1 ∷ pos 200 ∷ []) ∷ [])
+
+-- lent memory that holds something else
+abbrev pub nines : (n : ℕ) → List ℤ
+nines n = replicate n (pos 9)
