@@ -19,11 +19,10 @@ use Rattle.kinds.specs.declared.Flows.{Flows}
 use Rattle.kinds.specs.declared.Flows.the-variants as flows
 use Rattle.kinds.specs.declared.Refusal.{Refusal}
 use Rattle.kinds.specs.Answers.{saidFlows}
-use Rattle.kinds.specs.Refusals.{Why, Judged, passed, refused, tooShort, told}
-use Rattle.kinds.proofs.RefusalLaws.{passed-is, refused-is, not-passed, then-next, then-refused, either-passed, either-refused, need-enough, need-short}
-use Rattle.text.specs.Put.{Put}
+use Rattle.kinds.specs.Refusals.{Why, Judged, passed, refused, told}
+use Rattle.kinds.proofs.RefusalLaws.{passed-is, refused-is, not-passed, then-next, then-refused, either-refused}
 use Rattle.text.specs.Written.{decimal, decimalℤ}
-use Rattle.text.proofs.PutLaws.{line-length, tabbed-length, tabbed-empty, lines-length, put-whole}
+use Rattle.text.proofs.PutLaws.{line-length, tabbed-length, tabbed-empty, lines-length}
 use Rattle.text.proofs.WrittenLaws.{decimal-long, decimalℤ-long}
 use Rattle.table.specs.Table.{Table, factorsAt}
 use Rattle.writing.specs.Writing.{TextLeft, textLeft}

@@ -2,7 +2,7 @@
 // A border record is its ATC in MW; a row record is state, RAM and margin left, the last two in grains.
 // A writer answers the place after what it wrote, and leaves all other bytes as they were.
 ghost use mathlib.Core.Path.{_≡_};
-ghost use mathlib.Core.List.{[], _∷_};
+ghost use mathlib.Core.List.{_∷_};
 ghost use Prim.Native.Nat.{_+_, _*_, _≤_};
 ghost use lib.ListN.{length};
 ghost use Rattle.numbers.specs.Below.{over};

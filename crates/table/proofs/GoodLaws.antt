@@ -12,7 +12,7 @@ use lib.ListN.{length, getD, drop, length-drop}
 use lib.Seq.{length-take-le, take-all, getD-take, getD-drop}
 use borrow.Author.Tests.{not-false}
 use Rattle.numbers.proofs.TestLaws.{and-both, both-and, all-true, true-all}
-use Rattle.kinds.specs.Ranges.{atℤ, headerFits, rowFits, factorFits}
+use Rattle.kinds.specs.Ranges.{atℤ, rowFits, factorFits}
 use Rattle.kinds.specs.Refusals.{passed}
 use Rattle.kinds.specs.declared.Header.{Header}
 use Rattle.kinds.proofs.KindLaws.{header-in}

@@ -14,7 +14,7 @@ use Rattle.kinds.specs.declared.Judgement.the-variants.{Passed, Refused}
 use Rattle.kinds.specs.declared.Refusal.{Refusal}
 use Rattle.kinds.specs.Answers.{ruled}
 use Rattle.kinds.specs.Ranges.{atℤ, headerFits, zoneFits, borderFits}
-use Rattle.kinds.specs.Refusals.{Judged, passed, refused, then, told, outOfRange, givenTwice}
+use Rattle.kinds.specs.Refusals.{Judged, passed, refused, then, outOfRange, givenTwice}
 use Rattle.kinds.proofs.RefusalLaws.{then-next, then-refused, unless-ok, unless-refused, first-found, first-none-next}
 use Rattle.table.specs.Table.{Table, factorsAt, zoneLineNo, borderLineNo, rowLineNo, rowGood, headerLineNo, twice, inRange, notTwice, room, front, judgeLent}
 use Rattle.table.specs.Good.{Exact}

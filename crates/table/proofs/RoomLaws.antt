@@ -7,13 +7,12 @@ use lib.Dec.{ltb}
 use native.Mathlib.Nat.{mul-le-mul}
 use Rattle.kinds.specs.declared.Header.{Header}
 use Rattle.kinds.specs.declared.Judgement.{Judgement}
-use Rattle.kinds.specs.declared.Judgement.the-variants as judgement
 use Rattle.kinds.specs.Limits.{zonesMost, rowsMost}
 use Rattle.kinds.specs.Ranges.{headerFits}
-use Rattle.kinds.specs.Refusals.{Why, Judged, passed, refused, then, need, tooShort, told}
+use Rattle.kinds.specs.Refusals.{Judged, passed, refused, then, need, tooShort}
 use Rattle.kinds.specs.Answers.{ruled}
 use Rattle.kinds.proofs.KindLaws.{header-in}
-use Rattle.kinds.proofs.RefusalLaws.{passed-is, not-passed, refused-is, need-passed, need-enough, need-short}
+use Rattle.kinds.proofs.RefusalLaws.{need-passed, need-enough, need-short}
 use Rattle.table.specs.Table.{roomFor}
 
 -- rows x zones of a header in range

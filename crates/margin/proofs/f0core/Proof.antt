@@ -1,7 +1,7 @@
 -- `margin::f0core` meets its contract. The loop's invariant: what is there is Fref less the products of the first z zones.
 -- The measure is the zones that are left. Assumes nothing.
 use mathlib.Core.Path.{_≡_, _∙_}
-use Prim.Native.Nat.{ℕ, _+_, _*_, _-_, _≤_, _<_}
+use Prim.Native.Nat.{ℕ, _+_, _-_, _≤_, _<_}
 use native.Mathlib.Omega.{arith}
 use borrow.Author.Needs.{needs, sfits-of}
 use lib.IntN.{ℤ, _-ℤ_, _*ℤ_}

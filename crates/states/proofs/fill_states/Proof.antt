@@ -1,6 +1,5 @@
 -- `states::fill_states` meets its contract. The loop's invariant: the first i rows have their state. The measure is the rows that are left.
 -- Assumes nothing.
-use mathlib.Core.Path.{_∙_}
 use mathlib.Core.List.{List, []}
 use Prim.Native.Nat.{_-_}
 use native.Mathlib.Omega.{arith}

@@ -1,14 +1,13 @@
 -- `table::first_border_out` meets its contract: no border before i is out of range. Assumes nothing.
 use Prim.Native.Nat.{_-_}
-use mathlib.Core.Path.{_≡_, sym, ap, _∙_}
-use mathlib.Core.Bool.{Bool, not}
+use mathlib.Core.Path.{sym, ap, _∙_}
+use mathlib.Core.Bool.{not}
 use native.Mathlib.Omega.{arith}
 use borrow.Author.Needs.{needs}
 use mathlib.Core.List.{[]}
 use lib.ListN.{length, getD}
 use Rattle.numbers.proofs.BelowLaws.{Looked, looked-none, looked-all, looked-here, looked-more}
 use Rattle.kinds.specs.Ranges.{borderFits}
-use Rattle.kinds.specs.Kinds.{borderRead}
 use Rattle.kinds.proofs.ReadLaws.{border-good, border-out}
 use Rattle.table.proofs.first_border_out.Statement.{statement}
 use Rattle.table.proofs.first_border_out.Tie as tie

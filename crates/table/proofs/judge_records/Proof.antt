@@ -1,7 +1,6 @@
 -- `table::judge_records` meets its contract: each search is a link of the definition's chain, and the first that found something decides. Assumes nothing.
 use mathlib.Core.Path.{sym, ap, _∙_}
 use native.Mathlib.Omega.{arith}
-use lib.ListN.{length}
 use Rattle.numbers.specs.First.{found}
 use Rattle.numbers.proofs.FirstLaws.{first-within}
 use Rattle.kinds.proofs.KindLaws.{header-in}

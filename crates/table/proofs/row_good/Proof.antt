@@ -1,6 +1,5 @@
 -- `table::row_good` meets its contract: the record is judged, and then its factors. Assumes nothing.
-use mathlib.Core.Path.{_≡_, sym, ap, _∙_}
-use mathlib.Core.Bool.{Bool, _&&_}
+use mathlib.Core.Path.{sym, _∙_}
 use borrow.Author.Needs.{needs}
 use Rattle.kinds.proofs.ReadLaws.{row-good, row-out}
 use borrow.Author.Needs.{needs}
