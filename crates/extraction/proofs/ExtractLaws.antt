@@ -19,7 +19,7 @@ use Rattle.kinds.specs.Limits.{bordersMost, rowsMost}
 use Rattle.kinds.specs.Ranges.{atℤ, borderOf}
 use Rattle.kinds.specs.Refusals.{Why, Judged, passed, refused, then, either, told, tooShort}
 use Rattle.kinds.proofs.KindLaws.{header-in}
-use Rattle.kinds.proofs.RefusalLaws.{passed-is, refused-is, not-passed, then-next, then-refused, either-passed, either-refused, need-enough, need-short}
+use Rattle.kinds.proofs.RefusalLaws.{then-next, then-refused, either-passed, either-refused, need-enough, need-short}
 use Rattle.table.specs.Table.{Table, front, judgeLent}
 use Rattle.table.specs.Good.{Good}
 use Rattle.table.proofs.GoodLaws.{judged-good}
@@ -35,7 +35,7 @@ use Rattle.margin.proofs.Small.{named-values-small}
 use Rattle.start.specs.Start.{Rows, rowsOf, kept, gridOf, startOf, judgeStart}
 use Rattle.start.specs.Filled.{rowsWith, ltas, exchangesOf}
 use Rattle.start.proofs.StartLaws.{cells-at, cells-long, rows-in, PreparedAs}
-use Rattle.extraction.specs.Extraction.{Result, resultOf, atcOf, leftOf, outcomeOf, atcRecord, rowRecord, ExtractLeft, leaves, room, stored, extractLeft}
+use Rattle.extraction.specs.Extraction.{Result, resultOf, atcOf, leftOf, outcomeOf, atcRecord, rowRecord, leaves, room, stored, extractLeft}
 use Rattle.extraction.specs.Demand.{namedBits}
 use Rattle.extraction.specs.Work.{atcOfKw, leftOfRow, endedAt, endOf, Runnable, Finishable, resultWith, outcomeLeft}
 use Rattle.extraction.proofs.DemandLaws.{accepted, load-le, small-start}
@@ -232,29 +232,3 @@ module _ (given : Table) (atcs lefts : List (List ℤ)) (hb : bordersMost ≤ le
       go : (j : Judged Table) → judgeLent given ≡ j → then j (λ t. then (outcomeOf t) (room atcs lefts)) ≡ then j outcomeOf
       go (passed t) e = enough t (judged-good given t e) (outcomeOf t) refl
       go (refused w) e = refl
-
--- what such a caller reads off: the result, where the answer is a number of rounds, and else why there is none
-pub record ToldRounds (o : Judged Result) (atcs lefts : List (List ℤ)) (n : ℕ) (atcs′ lefts′ : List (List ℤ)) : Type 0 where
-  pub it : Result
-  pub is : o ≡ passed it
-  pub rounds : n ≡ it .outcome .rounds
-  pub atcs-are : atcs′ ≡ over (table (it .header .borders) (atcRecord it)) atcs
-  pub lefts-are : lefts′ ≡ over (table (it .header .rows) (rowRecord it)) lefts
-
-module _ (atcs lefts : List (List ℤ)) {atcs′ lefts′ : List (List ℤ)} where
-  pub told-rounds : (o : Judged Result) {n : ℕ} → leaves (passed n) atcs′ lefts′ ≡ either o (stored atcs lefts) (λ w. leaves (refused w) atcs lefts) → ToldRounds o atcs lefts n atcs′ lefts′
-  unfolding either
-  told-rounds (passed r) e =
-      record {
-        it = r;
-        is = refl;
-        rounds = passed-is _ _ (ap (λ (l : ExtractLeft). l .answer) e);
-        atcs-are = ap (λ (l : ExtractLeft). l .atcs) e;
-        lefts-are = ap (λ (l : ExtractLeft). l .lefts) e;
-      }
-  told-rounds (refused w) {n} e = absurd (not-passed w n (sym (ap (λ (l : ExtractLeft). l .answer) e)))
-
-  pub told-refused : (o : Judged Result) {v : Why} → leaves (refused v) atcs′ lefts′ ≡ either o (stored atcs lefts) (λ w. leaves (refused w) atcs lefts) → o ≡ refused v
-  unfolding either
-  told-refused (passed r) {v} e = absurd (not-passed v (r .outcome .rounds) (ap (λ (l : ExtractLeft). l .answer) e))
-  told-refused (refused w) {v} e = ap refused (sym (refused-is v w (ap (λ (l : ExtractLeft). l .answer) e)))

@@ -1,6 +1,6 @@
 -- What a judged record gives to the functions of this crate: its value and its ranges; the same of a judged table's parts. No contract cites this file.
 -- Assumes nothing.
-use mathlib.Core.Path.{_≡_, sym, ap, subst, _∙_}
+use mathlib.Core.Path.{_≡_, ap, _∙_}
 use mathlib.Core.Bool.{true}
 use mathlib.Core.List.{List, []}
 use Prim.Native.Nat.{ℕ, _+_, _*_, _≤_, _<_}
@@ -17,15 +17,15 @@ use Rattle.kinds.specs.declared.BorderRead.{BorderRead}
 use Rattle.kinds.specs.declared.BorderRead.the-variants as border
 use Rattle.kinds.specs.declared.RowRead.{RowRead}
 use Rattle.kinds.specs.declared.RowRead.the-variants as row
-use Rattle.kinds.specs.Limits.{bordersMost, ltaMost, factorMost}
+use Rattle.kinds.specs.Limits.{bordersMost, ltaMost}
 use Rattle.kinds.specs.Ranges.{atℤ, borderFits, borderOf, rowFits, rowOf}
 use Rattle.kinds.specs.Kinds.{borderRead, rowRead}
 use Rattle.kinds.proofs.KindLaws.{header-in, zone-in, border-in, row-in, share-in, factor-in}
 use Rattle.table.specs.Table.{Table, stretch}
 use Rattle.table.specs.Good.{Good}
-use Rattle.margin.specs.Margin.{pOf, ltaKw, sOf}
+use Rattle.margin.specs.Margin.{ltaKw, sOf}
 use Rattle.margin.specs.Bounds.{RowBound, FactorsBound, TableFactorsBound, NetsBound, BorderBound, BordersBound, sMost}
-use Rattle.margin.proofs.BoundLaws.{p-most, s-most}
+use Rattle.margin.proofs.BoundLaws.{s-most}
 
 -- ---- a border that fits is read as itself
 module _ (zones : ℕ) (raw : List ℤ) (fits : borderFits zones raw ≡ true) where
@@ -101,13 +101,7 @@ module _ {h : Header} {f : List ℤ} (bound : TableFactorsBound h f) (i : ℕ) (
   pub part-bound : {part : List ℤ} → part ≡ stretch (h .zones) f i → FactorsBound part
   part-bound e = rw e stretch-bound
 
--- ---- a border factor and an LTA of judged borders
-module _ {h : Header} {f : List ℤ} {borders : List (List ℤ)} (factors : TableFactorsBound h f) (bound : BordersBound (h .zones) borders) (i k : ℕ) (below : i < h .rows) (there : k < length borders) where
-  pub p-bound : pOf (stretch (h .zones) f i) (borderOf (getD borders k [])) ≤ 2 * factorMost
-  p-bound =
-      p-most (stretch-bound factors i below .each)
-      (subst (λ (n : ℕ). BorderBound n (borderOf (getD borders k []))) (sym (stretch-long factors i below)) (border-bound (h .zones) (getD borders k []) (bound .each k there)))
-
+-- ---- an LTA of a judged border
 pub lta-bound : (zones : ℕ) (raw : List ℤ) → borderFits zones raw ≡ true → ltaKw (borderOf raw) ≤ ltaMost * 1000
 unfolding ltaKw
 lta-bound zones raw fits = omega (arith, border-bound zones raw fits .lta-in)

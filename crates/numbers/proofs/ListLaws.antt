@@ -8,7 +8,7 @@ use native.Mathlib.Nat.{zero-add}
 use native.Mathlib.Numerals.{add-one}
 use native.Mathlib.Omega.{arith}
 use lib.ListN.{length, getD, set, take, drop, length-take, length-set, drop-of-length-le}
-use lib.Seq.{paste, length-take-le, paste-zero, paste-suc, take-all, drop-drop, drop-cons, getD-at, set-at}
+use lib.Seq.{paste, paste-zero, paste-suc, take-all, drop-drop, drop-cons, getD-at, set-at}
 use Rattle.numbers.specs.Below.{table, over}
 use Rattle.numbers.proofs.BelowLaws.{table-long}
 
@@ -27,10 +27,6 @@ module _ {A : Type 0} where
       ap (λ (k : ℕ). take n s ++ drop k p) (zero-add n)
       ∙ ap (λ (r : List A). take n s ++ r) (drop-of-length-le p h)
       ∙ append-nil (take n s)
-
-  -- a copy as new items in front of what stays
-  pub paste-over : (d s : List A) (n : ℕ) → n ≤ length s → paste d 0 s n ≡ over (take n s) d
-  paste-over d s n h = rw (length-take-le n s h, zero-add n)
 
   -- what a callee left in the part `&mut xs[a..a + n]`, said of the whole slice; k is the part's length as the code computes it
   stretched : (xs s ys : List A) (a n k : ℕ) → k ≡ n → ys ≡ take n s → take a xs ++ (ys ++ drop k (drop a xs)) ≡ paste xs a s n

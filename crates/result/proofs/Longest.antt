@@ -1,5 +1,5 @@
 -- The longest result text (01, "Result text"): what a buffer must hold. `Bounded` has 01's counts, and what an accepted table's values stay under.
--- Theorems: `result-longest`, `records-longest` (the same text, made from records) and `refusal-longest`.
+-- Theorems: `result-longest` and `refusal-longest`.
 -- Assumes nothing.
 use mathlib.Core.Bool.{Bool, true, false, cond}
 use mathlib.Core.List.{List, [], _∷_, _++_}
@@ -9,7 +9,7 @@ use native.Mathlib.Omega.{arith}
 use lib.Dec.{lit≤}
 use lib.IntN.{natAbs}
 use lib.ListN.{length, length-append}
-use Rattle.numbers.specs.Below.{at, table}
+use Rattle.numbers.specs.Below.{at}
 use Rattle.kinds.specs.Limits.{bordersMost, rowsMost}
 use Rattle.kinds.specs.Ranges.{atℤ}
 use Rattle.kinds.specs.Refusals.{Why}
@@ -18,10 +18,10 @@ use Rattle.text.specs.Written.{decimal, decimalℤ, linesText}
 use Rattle.text.proofs.DigitLaws.{decimal-most, decimal-u64, signed-most}
 use Rattle.text.proofs.PutLaws.{lines-most}
 use Rattle.start.specs.Start.{kept}
-use Rattle.extraction.specs.Extraction.{Result, atcOf, leftOf, atcRecord, rowRecord}
+use Rattle.extraction.specs.Extraction.{Result, atcOf, leftOf}
 use Rattle.result.specs.Result.{atcText, marginText, resultText, refusalText}
-use Rattle.result.specs.Records.{roundsLine, recordsText}
-use Rattle.result.proofs.RecordsLaws.{two-length, four-length, rounds-length, refusal-length, records-text}
+use Rattle.result.specs.Records.{roundsLine}
+use Rattle.result.proofs.RecordsLaws.{two-length, four-length, rounds-length, refusal-length}
 
 pub record Bounded (r : Result) : Type 0 where
   pub borders : r .header .borders ≤ bordersMost
@@ -85,9 +85,6 @@ module _ (r : Result) (u : Bounded r) where
         rounds-length (r .outcome .rounds),
         decimal-most 4 (r .outcome .rounds) (omega arith) (u .rounds),
       )
-
-  pub records-longest : length (recordsText (table (r .header .borders) (atcRecord r)) (table (r .header .rows) (rowRecord r)) (r .outcome .rounds)) ≤ 8927
-  records-longest = rw (records-text r) result-longest
 
 -- a letter, two tabs, an LF; a number of 1 digit and a place of 20
 pub refusal-longest : (w : Why) → w .number < 10 → w .place < 2 ^ 64 → length (refusalText w) ≤ 25

@@ -6,15 +6,9 @@ use mathlib.Core.List.{List, _∷_}
 use Prim.Native.Nat.{ℕ, _≤_, _<_}
 use native.Mathlib.Omega.{arith}
 use lib.Dec.{leb, eqb}
-use lib.IntN.{ℤ}
 use lib.ListN.{length, getD, drop}
 use lib.Seq.{drop-cons}
 use borrow.Author.Tests.{leb-true, eqb-true}
-use Rattle.text.specs.declared.Number.{Number}
-use Rattle.text.specs.declared.Number.the-variants.{Value, Bad}
-use Rattle.text.specs.declared.Signed.{Signed}
-use Rattle.text.specs.declared.Signed.the-variants.{Whole, Wrong}
-use Rattle.text.specs.Fields.{withNumber, withSigned}
 use Rattle.text.specs.Line.{Line, holds, form, range, headed, formThenRange}
 use Rattle.text.proofs.NumberTrip.{and-both}
 
@@ -36,26 +30,6 @@ module _ {A : Type 0} (a : A) where
   pub cond-holds : (t : Bool) (x : Line A) → cond t x form ≡ holds a → (t ≡ true) × (x ≡ holds a)
   cond-holds true x e = (refl, e)
   cond-holds false x e = absurd (no-form a e)
-
-  pub record Number-holds (n : Number) (f : ℕ → ℕ → Line A) : Type 0 where
-    pub value : ℕ
-    pub next : ℕ
-    pub is : Value value next ≡ n
-    pub rest : f value next ≡ holds a
-
-  pub number-holds : (n : Number) (f : ℕ → ℕ → Line A) → withNumber n form f ≡ holds a → Number-holds n f
-  number-holds (Value v next) f e = record { value = v; next = next; is = refl; rest = e }
-  number-holds (Bad place) f e = absurd (no-form a e)
-
-  pub record Signed-holds (s : Signed) (f : ℤ → ℕ → Line A) : Type 0 where
-    pub value : ℤ
-    pub next : ℕ
-    pub is : s ≡ Whole value next
-    pub rest : f value next ≡ holds a
-
-  pub signed-holds : (s : Signed) (f : ℤ → ℕ → Line A) → withSigned s form f ≡ holds a → Signed-holds s f
-  signed-holds (Whole z next) f e = record { value = z; next = next; is = refl; rest = e }
-  signed-holds (Wrong place) f e = absurd (no-form a e)
 
   pub judged-holds : (t u : Bool) (b : A) → formThenRange t u b ≡ holds a → (t ≡ true) × (u ≡ true) × (b ≡ a)
   judged-holds true true b e = (refl, refl, holds-is b a e)

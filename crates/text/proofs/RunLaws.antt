@@ -21,8 +21,6 @@ use Rattle.text.specs.declared.Fields.{Fields}
 use Rattle.text.specs.declared.Fields.the-variants.{End, Faulty}
 use Rattle.text.specs.Fields.{tab, feed, signedAt, Signeds, values, wrong, push, onward, signedsAt}
 use Rattle.text.specs.Run.{allInside, fieldsWithin, allRead, itemsOf}
-use Rattle.text.proofs.NumberTrip.{zero-one}
-use Rattle.text.proofs.FieldLaws.{signed-next-le}
 
 -- ---- one field more
 -- the byte that ends the first of the fields left
@@ -43,31 +41,6 @@ module _ (left rest : ℕ) (line : List ℕ) (p : ℕ) (e : left ≡ suc rest) w
 pub signeds-none : (left : ℕ) (line : List ℕ) (p : ℕ) → left ≤ 0 → signedsAt left line p ≡ values [] p
 unfolding signedsAt
 signeds-none left line p h = let e : left ≡ 0 = omega arith in subst (λ (k : ℕ). signedsAt k line p ≡ values [] p) (sym e) refl
-
--- fields that were read: as many as asked for, and they end in the line
-pub record Reached (left : ℕ) (line : List ℕ) (zs : List ℤ) (next : ℕ) : Type 0 where
-  pub all : length zs ≡ left
-  pub within : next ≤ length line
-
-pub signeds-reached : (left : ℕ) (line : List ℕ) (at : ℕ) (zs : List ℤ) (next : ℕ) → at ≤ length line → signedsAt left line at ≡ values zs next → Reached left line zs next
-unfolding signedsAt
-signeds-reached zero line at zs next h e = let a : zs ≡ [] = cc in let b : next ≡ at = cc in record { all = ap length a; within = omega arith }
-signeds-reached (suc left) line at zs next h e = field (λ m ys n l f. signeds-reached left line m ys n l f) (signedAt line at (stopOf (suc left))) refl e
-  where
-    pushed : (z : ℤ) (s : Signeds) → ((ys : List ℤ) (m : ℕ) → s ≡ values ys m → Reached left line ys m) → push z s ≡ values zs next → Reached (suc left) line zs next
-    pushed z (values ys m) ih e =
-        let a : zs ≡ z ∷ ys = cc in
-        let b : m ≡ next = cc in
-        let r = ih ys m refl in
-        record { all = ap length a ∙ ap suc (r .all); within = omega (arith, r .within) }
-    pushed z wrong ih e = let x : _≡_ {A = ℕ} 0 1 = cc in absurd (zero-one x)
-
-    field : ((m : ℕ) (ys : List ℤ) (n : ℕ) → m ≤ length line → signedsAt left line m ≡ values ys n → Reached left line ys n)
-        → (s : Signed) → signedAt line at (stopOf (suc left)) ≡ s → onward s (λ (n : ℕ). signedsAt left line n) ≡ values zs next → Reached (suc left) line zs next
-    field ih (Whole z m) q e =
-        let l = signed-next-le line at (stopOf (suc left)) z m q in
-        pushed z (signedsAt left line m) (λ ys n f. ih m ys n l f) e
-    field ih (Wrong place) q e = let x : _≡_ {A = ℕ} 0 1 = cc in absurd (zero-one x)
 
 -- ---- all of a list in a range
 -- a search from the next index on is one of what stands after the first
