@@ -1,25 +1,198 @@
-//! Times the extraction on the hours of hours/, side by side in one run:
-//! (a) the library through its C interface, (b) the reference calculator,
-//! (c) plain loops in 64-bit numbers, (d) a float loop that ends where the
-//! change looks small.  Each takes the same lent tables and does the whole
-//! call: judging, margins, states, rounds, results.
+//! Measures the calculator on the hours of hours/: designs of the extraction side by side, what is not rounds, and text.
 //!
-//! The designs take turns; medians of processor time over many turns, as ratios
-//! to (c).  Arguments: seconds for each hour (3), then hours (all of hours/).
+//!   bench [SECONDS [HOURS..]]   the designs take turns; processor time, over SECONDS (3) for each hour
+//!   bench names                 the designs
+//!   bench once DESIGN HOUR      one call of a design, inside the function `measured`: for a tool that counts
 
-#[path = "calls.rs"]
 mod calls;
-#[path = "loops.rs"]
 mod loops;
+mod old;
 #[path = "../second/second.rs"]
 mod second;
 
+use old::Lent;
 use second::Tables;
 use std::hint::black_box;
 use std::time::{Duration, Instant};
 
-/// The processor time of this thread in microseconds: what others do on the
-/// machine meanwhile does not count.
+const HOURS: [&str; 4] = ["hours/worked.tsv", "hours/plain.tsv", "hours/busy.tsv", "hours/worst.tsv"];
+
+// ---- the designs
+
+struct Hour {
+    text: Vec<u8>,
+    tables: Tables,
+}
+
+impl Hour {
+    fn lent(&self) -> Lent<'_> {
+        let Tables { header, z, b, c, f } = &self.tables;
+        Lent { zones: header.zones, borders: header.borders, rows: header.rows, z, b, c, f }
+    }
+}
+
+/// What a design writes to: each has its own.
+#[derive(PartialEq)]
+struct Room {
+    atc: Vec<[i64; 1]>,
+    left: Vec<[i64; 3]>,
+    tables: Tables,
+    out: Vec<u8>,
+}
+
+impl Room {
+    fn for_hour(hour: &Hour) -> Room {
+        let mut tables = hour.tables.clone();
+        tables.z.fill(-7);
+        tables.b.fill([-7; 3]);
+        tables.c.fill([-7; 7]);
+        tables.f.fill(-7);
+        let header = tables.header;
+        Room { atc: vec![[-7]; header.borders], left: vec![[-7; 3]; header.rows], tables, out: vec![0; 65_536] }
+    }
+}
+
+/// The library's `extract` through its C interface.
+fn proved(hour: &Hour, room: &mut Room) -> u64 {
+    calls::extract(&hour.lent(), &mut room.atc, &mut room.left).rounds
+}
+
+/// The extraction as it stood before E4.
+fn old_shape(hour: &Hour, room: &mut Room) -> u64 {
+    loops::extract(&hour.lent(), &mut room.atc, &mut room.left, loops::old_rounds).expect("accepted")
+}
+
+/// The old shape, its rounds by E4's letter.
+fn letter(hour: &Hour, room: &mut Room) -> u64 {
+    loops::extract(&hour.lent(), &mut room.atc, &mut room.left, loops::letter_rounds).expect("accepted")
+}
+
+/// The old shape with the library's rounds.
+fn new_rounds(hour: &Hour, room: &mut Room) -> u64 {
+    loops::extract(&hour.lent(), &mut room.atc, &mut room.left, loops::new_rounds).expect("accepted")
+}
+
+/// The second program, in 128-bit numbers.
+fn second_program(hour: &Hour, room: &mut Room) -> u64 {
+    let Tables { header, z, b, c, f } = &hour.tables;
+    let outcome = second::extract(*header, z, b, c, f, room.atc.len(), room.left.len()).expect("accepted");
+    for (atc, mw) in room.atc.iter_mut().zip(&outcome.atc) {
+        *atc = [*mw as i64];
+    }
+    for (left, row) in room.left.iter_mut().zip(&outcome.rows) {
+        *left = [i64::from(row.state), row.ram as i64, row.left.map_or(-1, |margin| margin as i64)];
+    }
+    outcome.rounds
+}
+
+/// The old shape, its rounds in floating point.
+fn float_loop(hour: &Hour, room: &mut Room) -> u64 {
+    loops::extract(&hour.lent(), &mut room.atc, &mut room.left, loops::float_rounds).expect("accepted")
+}
+
+/// The library's `extract` refused for want of one row result. Room for results is judged last, right before the rounds: so
+/// this is what is not rounds.
+fn proved_short(hour: &Hour, room: &mut Room) -> u64 {
+    let short = room.left.len() - 1;
+    calls::extract(&hour.lent(), &mut room.atc, &mut room.left[..short]).place as u64
+}
+
+/// The old shape refused at the same place.
+fn old_short(hour: &Hour, room: &mut Room) -> u64 {
+    let short = room.left.len() - 1;
+    let refused = loops::extract(&hour.lent(), &mut room.atc, &mut room.left[..short], loops::old_rounds);
+    refused.expect_err("one record short").1 as u64
+}
+
+/// The library's `read`: text to tables.
+fn proved_read(hour: &Hour, room: &mut Room) -> u64 {
+    let Tables { z, b, c, f, .. } = &mut room.tables;
+    calls::read(&hour.text, z, b, c, f).rows as u64
+}
+
+/// The library's `result_text`: tables to the result's text.
+fn proved_result_text(hour: &Hour, room: &mut Room) -> u64 {
+    calls::result_text(&hour.lent(), &mut room.out).bytes as u64
+}
+
+/// The library's `answer`: text to the result's text.
+fn proved_answer(hour: &Hour, room: &mut Room) -> u64 {
+    calls::answer(&hour.text, &mut room.out).bytes as u64
+}
+
+/// The library's `write`: tables to their text.
+fn proved_write(hour: &Hour, room: &mut Room) -> u64 {
+    calls::write(&hour.lent(), &mut room.out).bytes as u64
+}
+
+fn keep(text: Vec<u8>, room: &mut Room) -> u64 {
+    room.out[..text.len()].copy_from_slice(&text);
+    text.len() as u64
+}
+
+/// The second program's reading.
+fn second_read(hour: &Hour, room: &mut Room) -> u64 {
+    room.tables = second::read(&hour.text, [usize::MAX; 4]).expect("a good table");
+    room.tables.c.len() as u64
+}
+
+/// The second program's result text.
+fn second_result_text(hour: &Hour, room: &mut Room) -> u64 {
+    let Tables { header, z, b, c, f } = &hour.tables;
+    keep(second::result_text(*header, z, b, c, f, room.out.len()).expect("accepted"), room)
+}
+
+/// The second program from text to text.
+fn second_answer(hour: &Hour, room: &mut Room) -> u64 {
+    keep(second::answer(&hour.text), room)
+}
+
+/// The second program's writing.
+fn second_write(hour: &Hour, room: &mut Room) -> u64 {
+    let Tables { header, z, b, c, f } = &hour.tables;
+    keep(second::write(*header, z, b, c, f, room.out.len()).expect("a good table"), room)
+}
+
+/// What a call answers: the rounds, the items that it wants, or the rows or bytes of its text.
+type Call = fn(&Hour, &mut Room) -> u64;
+
+/// Designs of one piece of work. The first is the library's; the second is what each of them is measured against.
+struct Work {
+    name: &'static str,
+    designs: &'static [(&'static str, Call)],
+}
+
+/// The one design whose results may differ.
+const FLOAT: &str = "float loop";
+
+const WORKS: [Work; 6] = [
+    Work {
+        name: "extract",
+        designs: &[
+            ("proved", proved),
+            ("old shape", old_shape),
+            ("E4's letter", letter),
+            ("new rounds in plain Rust", new_rounds),
+            ("second program", second_program),
+            (FLOAT, float_loop),
+        ],
+    },
+    Work { name: "not rounds", designs: &[("proved", proved_short), ("old shape", old_short)] },
+    Work { name: "read", designs: &[("proved", proved_read), ("second program", second_read)] },
+    Work { name: "result_text", designs: &[("proved", proved_result_text), ("second program", second_result_text)] },
+    Work { name: "answer", designs: &[("proved", proved_answer), ("second program", second_answer)] },
+    Work { name: "write", designs: &[("proved", proved_write), ("second program", second_write)] },
+];
+
+/// The name of each design, with its work, and its call.
+fn designs() -> Vec<(String, Call)> {
+    let named = |work: &Work| work.designs.iter().map(|(name, call)| (format!("{}: {name}", work.name), *call)).collect::<Vec<_>>();
+    WORKS.iter().flat_map(named).collect()
+}
+
+// ---- time
+
+/// The processor time of this thread in microseconds: what others do on the machine meanwhile does not count.
 fn processor_time() -> f64 {
     #[repr(C)]
     struct Time {
@@ -36,182 +209,113 @@ fn processor_time() -> f64 {
     time.seconds as f64 * 1e6 + time.nanoseconds as f64 / 1e3
 }
 
-const HOURS: [&str; 4] = ["hours/worked.tsv", "hours/plain.tsv", "hours/busy.tsv", "hours/worst.tsv"];
-
-const DESIGNS: [&str; 7] = [
-    "(a) library, C interface",
-    "(b) reference, i128",
-    "(c) plain loops, u64",
-    "(c') the same, share of a row first",
-    "(d) float loop, change < 1 kW",
-    "    before the rounds in (c)",
-    "    the rounds alone in (c)",
-];
-
-struct Room {
-    atc: Vec<[i64; 1]>,
-    left: Vec<[i64; 3]>,
-}
-
-/// One call of a design; the rounds it says.
-fn call(design: usize, t: &Tables, w: &loops::Prepared, room: &mut Room) -> u64 {
-    let h = [t.header.zones, t.header.borders, t.header.rows];
-    let (atc, left) = (&mut room.atc[..], &mut room.left[..]);
-    match design {
-        0 => calls::extract(h, &t.z, &t.b, &t.c, &t.f, atc, left).rounds,
-        1 => {
-            let o = second::extract(t.header, &t.z, &t.b, &t.c, &t.f, atc.len(), left.len());
-            let o = o.expect("accepted");
-            for (item, mw) in atc.iter_mut().zip(&o.atc) {
-                *item = [*mw as i64];
-            }
-            for (item, row) in left.iter_mut().zip(&o.rows) {
-                *item = [i64::from(row.state), row.ram as i64, row.left.map_or(-1, |m| m as i64)];
-            }
-            o.rounds
-        }
-        2 => loops::extract::<{ loops::AS_WRITTEN }>(h, &t.z, &t.b, &t.c, &t.f, atc, left).expect("accepted"),
-        3 => loops::extract::<{ loops::SHARE_FIRST }>(h, &t.z, &t.b, &t.c, &t.f, atc, left).expect("accepted"),
-        4 => loops::float_extract(h, &t.z, &t.b, &t.c, &t.f, atc).expect("accepted"),
-        5 => loops::prepare(h, &t.z, &t.b, &t.c, &t.f).expect("accepted").pairs(),
-        _ => loops::rounds::<{ loops::AS_WRITTEN }, false>(w).2,
-    }
-}
-
-fn median(times: &mut [f64]) -> f64 {
-    times.sort_by(|x, y| x.total_cmp(y));
-    times[times.len() / 2]
-}
-
 /// The processor time of one call, in microseconds, over `batch` calls.
-fn timed(batch: u32, design: usize, t: &Tables, w: &loops::Prepared, room: &mut Room) -> f64 {
+fn timed(batch: u32, call: Call, hour: &Hour, room: &mut Room) -> f64 {
     let start = processor_time();
     for _ in 0..batch {
-        black_box(call(design, black_box(t), black_box(w), room));
+        black_box(call(black_box(hour), room));
     }
     (processor_time() - start) / f64::from(batch)
 }
 
-fn hour(path: &str, budget: Duration) {
-    let text = match std::fs::read(path) {
-        Ok(text) => text,
-        Err(error) => {
-            println!("{path}: {error}");
-            std::process::exit(1);
-        }
-    };
-    let t = second::read(&text, [usize::MAX; 4]).expect("a good table");
-    let h = [t.header.zones, t.header.borders, t.header.rows];
-    let w = loops::prepare(h, &t.z, &t.b, &t.c, &t.f).expect("accepted");
-    let room = || Room { atc: vec![[-7]; h[1]], left: vec![[-7; 3]; h[2]] };
-
-    // the exact designs agree before anything is timed
-    let mut rooms: Vec<Room> = DESIGNS.iter().map(|_| room()).collect();
-    let mut said: Vec<u64> = Vec::new();
-    for design in 0..DESIGNS.len() {
-        said.push(call(design, &t, &w, &mut rooms[design]));
-    }
-    for design in [0, 2, 3] {
-        assert_eq!(said[design], said[1], "{path}: rounds of {}", DESIGNS[design]);
-        assert!(rooms[design].atc == rooms[1].atc, "{path}: ATCs of {}", DESIGNS[design]);
-        assert!(rooms[design].left == rooms[1].left, "{path}: margins of {}", DESIGNS[design]);
-    }
-    let off: Vec<i64> = rooms[4].atc.iter().zip(&rooms[1].atc).map(|(x, y)| (x[0] - y[0]).abs()).collect();
-
-    // turns; a call that is short is timed in batches of at least 100 us
-    let mut times: Vec<Vec<f64>> = DESIGNS.iter().map(|_| Vec::new()).collect();
-    let once = timed(16, 2, &t, &w, &mut rooms[2]);
-    let batch = if once > 100.0 { 1 } else { (100.0 / once.max(0.1)) as u32 + 1 };
-    let begin = Instant::now();
-    while times[0].len() < 15 || (begin.elapsed() < budget && times[0].len() < 10_000) {
-        for design in 0..DESIGNS.len() {
-            times[design].push(timed(batch, design, &t, &w, &mut rooms[design]));
-        }
-    }
-
-    let turns = times[0].len();
-    let medians: Vec<f64> = times.iter_mut().map(|times| median(times)).collect();
-    let pairs = w.pairs();
-    let looked = said[1] + 1;
-    let reference = second::extract(t.header, &t.z, &t.b, &t.c, &t.f, h[1], h[2]).expect("accepted");
-    let divisions = [
-        // not seen from outside: two for each pair in each round, as the rules have it
-        format!("{} by the rules", 2 * pairs * looked),
-        format!("{}", reference.divisions),
-        format!("{}", loops::rounds::<{ loops::AS_WRITTEN }, true>(&w).3),
-        format!("{}", loops::rounds::<{ loops::SHARE_FIRST }, true>(&w).3),
-        format!("{}", loops::float_rounds::<true>(&w).2),
-        "0".to_string(),
-        String::new(),
-    ];
-    println!(
-        "{path}: {} zones, {} borders, {} rows, {} kept, {pairs} pairs with p > 0; {turns} turns of {batch}",
-        h[0],
-        h[1],
-        h[2],
-        w.kept.len()
-    );
-    println!("  {:36} {:>12} {:>8} {:>8}  divisions in the rounds", "", "median us", "of (c)", "rounds");
-    for (design, name) in DESIGNS.iter().enumerate() {
-        let rounds = if design == 5 { String::new() } else { said[design].to_string() };
-        println!(
-            "  {name:36} {:12.1} {:8.2} {rounds:>8}  {}",
-            medians[design],
-            medians[design] / medians[2],
-            divisions[design]
-        );
-    }
-    println!("  (a) / (b) {:.2}, (a) / (d) {:.2}", medians[0] / medians[1], medians[0] / medians[4]);
-    println!(
-        "  (d) differs from the exact capacities on {} of {} borders, by {} MW at most\n",
-        off.iter().filter(|mw| **mw > 0).count(),
-        h[1],
-        off.iter().max().unwrap()
-    );
+/// The median, and the least: far apart where others kept the machine busy.
+fn median_and_least(mut times: Vec<f64>) -> [f64; 2] {
+    times.sort_by(f64::total_cmp);
+    [times[times.len() / 2], times[0]]
 }
 
-/// Reading the same hour's text: the library beside the reference, taking turns.
-fn reading(path: &str) {
-    const TURNS: usize = 201;
-    let text = std::fs::read(path).expect("an hour");
-    let t = second::read(&text, [usize::MAX; 4]).expect("a good table");
-    let (mut z, mut b) = (vec![0; t.z.len()], vec![[0; 3]; t.b.len()]);
-    let (mut c, mut f) = (vec![[0; 7]; t.c.len()], vec![0; t.f.len()]);
-    let (mut library, mut reference) = (Vec::new(), Vec::new());
-    for _ in 0..TURNS {
-        let start = processor_time();
-        let answer = calls::read(black_box(&text), &mut z, &mut b, &mut c, &mut f);
-        library.push(processor_time() - start);
-        assert_eq!((answer.number, answer.rows), (0, t.c.len()), "the library does not read the hour");
-        let start = processor_time();
-        black_box(second::read(black_box(&text), [usize::MAX; 4]).is_ok());
-        reference.push(processor_time() - start);
+/// The turns, and the median and the least time of each call over them. A short call is timed in batches of about a millisecond.
+fn take_turns(calls: &[(String, Call)], hour: &Hour, rooms: &mut [Room], budget: Duration) -> (usize, Vec<[f64; 2]>) {
+    const TURNS_LEAST: usize = 15;
+    let mut batches = Vec::new();
+    for ((_, call), room) in calls.iter().zip(&mut *rooms) {
+        batches.push((1_000.0 / timed(2, *call, hour, room).max(0.1)) as u32 + 1);
     }
-    assert!(z == t.z && b == t.b && c == t.c && f == t.f, "the library reads another table");
-    let median = |times: &mut Vec<f64>| {
-        times.sort_by(f64::total_cmp);
-        times[TURNS / 2]
-    };
-    let (library, reference) = (median(&mut library), median(&mut reference));
-    println!(
-        "  reading {} bytes: library {library:.1} us, reference {reference:.1} us, ratio {:.2}\n",
-        text.len(),
-        library / reference
-    );
+    let mut times = vec![Vec::new(); calls.len()];
+    let begin = Instant::now();
+    while times[0].len() < TURNS_LEAST || begin.elapsed() < budget {
+        for (at, (_, call)) in calls.iter().enumerate() {
+            times[at].push(timed(batches[at], *call, hour, &mut rooms[at]));
+        }
+    }
+    (times[0].len(), times.into_iter().map(median_and_least).collect())
+}
+
+/// The designs of a work agree with the library's, and the library's text with the hour.
+fn compare(path: &str, hour: &Hour, said: &[u64], rooms: &[Room]) {
+    let mut first = 0;
+    for Work { name: work, designs } in WORKS {
+        for (at, (name, _)) in (first..).zip(designs) {
+            let same = said[at] == said[first] && rooms[at] == rooms[first];
+            assert!(same || *name == FLOAT, "{path}: {work}: {name} differs");
+        }
+        match work {
+            "read" => assert!(rooms[first].tables == hour.tables, "{path}: another table is read"),
+            "write" => assert!(rooms[first].out[..said[first] as usize] == hour.text, "{path}: another text is written"),
+            _ => {}
+        }
+        first += designs.len();
+    }
+}
+
+fn measure(path: &str, budget: Duration) {
+    let hour = hour_of(path);
+    let calls = designs();
+    let mut rooms: Vec<Room> = calls.iter().map(|_| Room::for_hour(&hour)).collect();
+    let said: Vec<u64> = calls.iter().zip(&mut rooms).map(|((_, call), room)| call(&hour, room)).collect();
+    compare(path, &hour, &said, &rooms);
+    let (turns, times) = take_turns(&calls, &hour, &mut rooms, budget);
+
+    let Lent { zones, borders, rows, .. } = hour.lent();
+    println!("{path}: {zones} zones, {borders} borders, {rows} rows, {} bytes; {turns} turns", hour.text.len());
+    println!("  {:38} {:>10} {:>8} {:>10} {:>8} {:>8}", "", "median us", "faster", "least us", "faster", "said");
+    let mut first = 0;
+    for Work { designs, .. } in WORKS {
+        let base = times[first + 1];
+        for at in first..first + designs.len() {
+            let [median, least] = times[at];
+            let faster = [base[0] / median, base[1] / least];
+            println!("  {:38} {median:10.2} {:8.2} {least:10.2} {:8.2} {:8}", calls[at].0, faster[0], faster[1], said[at]);
+        }
+        first += designs.len();
+    }
+    let float = calls.iter().position(|(name, _)| name.ends_with(FLOAT)).expect("a float loop");
+    let off = rooms[float].atc.iter().zip(&rooms[0].atc).map(|(x, y)| (x[0] - y[0]).abs());
+    let differ = off.clone().filter(|mw| *mw > 0).count();
+    println!("  the float loop differs on {differ} of {borders} borders, by {} MW at most\n", off.max().unwrap());
+}
+
+// ---- counting
+
+/// One call. A tool that counts looks for this name.
+#[no_mangle]
+#[inline(never)]
+fn measured(call: Call, hour: &Hour, room: &mut Room) -> u64 {
+    black_box(call(black_box(hour), room))
+}
+
+fn once(design: &str, path: &str) {
+    let (_, call) = designs().into_iter().find(|(name, _)| name == design).expect("a design");
+    let hour = hour_of(path);
+    measured(call, &hour, &mut Room::for_hour(&hour));
+}
+
+fn hour_of(path: &str) -> Hour {
+    let text = std::fs::read(path).unwrap_or_else(|error| panic!("{path}: {error}"));
+    let tables = second::read(&text, [usize::MAX; 4]).expect("a good table");
+    Hour { text, tables }
 }
 
 fn main() {
-    let mut arguments = std::env::args().skip(1);
-    let seconds: f64 = match arguments.next() {
-        None => 3.0,
-        Some(text) => text.parse().expect("seconds for each hour"),
-    };
-    let mut hours: Vec<String> = arguments.collect();
-    if hours.is_empty() {
-        hours = HOURS.iter().map(|name| name.to_string()).collect();
-    }
-    for path in &hours {
-        hour(path, Duration::from_secs_f64(seconds));
-        reading(path);
+    let arguments: Vec<String> = std::env::args().skip(1).collect();
+    let arguments: Vec<&str> = arguments.iter().map(String::as_str).collect();
+    match arguments[..] {
+        ["names"] => designs().iter().for_each(|(name, _)| println!("{name}")),
+        ["once", name, path] => once(name, path),
+        _ => {
+            let seconds = arguments.first().map_or(3.0, |text| text.parse().expect("seconds for each hour"));
+            let hours = if arguments.len() > 1 { &arguments[1..] } else { &HOURS };
+            hours.iter().for_each(|path| measure(path, Duration::from_secs_f64(seconds)));
+        }
     }
 }

@@ -1,6 +1,7 @@
-//! Reading and the extraction of include/keravnoth.h, linked.
+//! The calls of include/keravnoth.h that the bench measures, linked.
 
-/// The answer of reading.
+use crate::old::Lent;
+
 #[repr(C)]
 pub struct Read {
     pub number: u32,
@@ -10,7 +11,13 @@ pub struct Read {
     pub rows: usize,
 }
 
-/// The answer of the extraction.
+#[repr(C)]
+pub struct Written {
+    pub number: u32,
+    pub place: usize,
+    pub bytes: usize,
+}
+
 #[repr(C)]
 pub struct Extracted {
     pub number: u32,
@@ -18,135 +25,85 @@ pub struct Extracted {
     pub rounds: u64,
 }
 
-/// On x86-64 C hands answers of these sizes back through a place that the caller
-/// names in a hidden first argument. The library is compiled so on every machine
-/// (see `run`); elsewhere that argument has to be written out.
-#[cfg(target_arch = "x86_64")]
-macro_rules! answered {
-    ($answer:ty, $call:ident($($argument:expr),*)) => {
-        $call($($argument),*)
-    };
-}
-#[cfg(not(target_arch = "x86_64"))]
-macro_rules! answered {
-    ($answer:ty, $call:ident($($argument:expr),*)) => {{
-        let mut answer = std::mem::MaybeUninit::<$answer>::uninit();
-        $call(answer.as_mut_ptr(), $($argument),*);
-        answer.assume_init()
-    }};
+/// On x86-64 C hands answers of these sizes back through a place that the caller names in a hidden first argument. The
+/// library is compiled so on every machine (see `run`); elsewhere that argument has to be written out.
+macro_rules! linked {
+    ($(fn $call:ident($($argument:ident: $kind:ty),*) -> $answer:ty;)*) => {$(
+        #[cfg(target_arch = "x86_64")]
+        unsafe fn $call($($argument: $kind),*) -> $answer {
+            extern "C" {
+                fn $call($($argument: $kind),*) -> $answer;
+            }
+            $call($($argument),*)
+        }
+        #[cfg(not(target_arch = "x86_64"))]
+        unsafe fn $call($($argument: $kind),*) -> $answer {
+            extern "C" {
+                fn $call(answer: *mut $answer, $($argument: $kind),*);
+            }
+            let mut answer = std::mem::MaybeUninit::<$answer>::uninit();
+            $call(answer.as_mut_ptr(), $($argument),*);
+            answer.assume_init()
+        }
+    )*};
 }
 
-#[cfg(target_arch = "x86_64")]
-extern "C" {
+linked! {
     fn keravnoth_read(
-        text: *const u8,
-        n: usize,
-        z: *mut i64,
-        nz: usize,
-        b: *mut [i64; 3],
-        nb: usize,
-        c: *mut [i64; 7],
-        nc: usize,
-        f: *mut i64,
-        nf: usize,
+        text: *const u8, n: usize,
+        z: *mut i64, nz: usize, b: *mut [i64; 3], nb: usize, c: *mut [i64; 7], nc: usize, f: *mut i64, nf: usize
     ) -> Read;
+    fn keravnoth_write(
+        zones: usize, borders: usize, rows: usize,
+        z: *const i64, nz: usize, b: *const [i64; 3], nb: usize, c: *const [i64; 7], nc: usize, f: *const i64, nf: usize,
+        out: *mut u8, nout: usize
+    ) -> Written;
     fn keravnoth_extract(
-        zones: usize,
-        borders: usize,
-        rows: usize,
-        z: *const i64,
-        nz: usize,
-        b: *const [i64; 3],
-        nb: usize,
-        c: *const [i64; 7],
-        nc: usize,
-        f: *const i64,
-        nf: usize,
-        atc: *mut [i64; 1],
-        natc: usize,
-        left: *mut [i64; 3],
-        nleft: usize,
+        zones: usize, borders: usize, rows: usize,
+        z: *const i64, nz: usize, b: *const [i64; 3], nb: usize, c: *const [i64; 7], nc: usize, f: *const i64, nf: usize,
+        atc: *mut [i64; 1], natc: usize, left: *mut [i64; 3], nleft: usize
     ) -> Extracted;
-}
-#[cfg(not(target_arch = "x86_64"))]
-extern "C" {
-    fn keravnoth_read(
-        answer: *mut Read,
-        text: *const u8,
-        n: usize,
-        z: *mut i64,
-        nz: usize,
-        b: *mut [i64; 3],
-        nb: usize,
-        c: *mut [i64; 7],
-        nc: usize,
-        f: *mut i64,
-        nf: usize,
-    );
-    fn keravnoth_extract(
-        answer: *mut Extracted,
-        zones: usize,
-        borders: usize,
-        rows: usize,
-        z: *const i64,
-        nz: usize,
-        b: *const [i64; 3],
-        nb: usize,
-        c: *const [i64; 7],
-        nc: usize,
-        f: *const i64,
-        nf: usize,
-        atc: *mut [i64; 1],
-        natc: usize,
-        left: *mut [i64; 3],
-        nleft: usize,
-    );
+    fn keravnoth_result_text(
+        zones: usize, borders: usize, rows: usize,
+        z: *const i64, nz: usize, b: *const [i64; 3], nb: usize, c: *const [i64; 7], nc: usize, f: *const i64, nf: usize,
+        out: *mut u8, nout: usize
+    ) -> Written;
+    fn keravnoth_answer(text: *const u8, n: usize, out: *mut u8, nout: usize) -> Written;
 }
 
-pub fn extract(
-    header: [usize; 3],
-    z: &[i64],
-    b: &[[i64; 3]],
-    c: &[[i64; 7]],
-    f: &[i64],
-    atc: &mut [[i64; 1]],
-    left: &mut [[i64; 3]],
-) -> Extracted {
-    let [zones, borders, rows] = header;
-    unsafe {
-        answered!(Extracted, keravnoth_extract(
-            zones,
-            borders,
-            rows,
-            z.as_ptr(),
-            z.len(),
-            b.as_ptr(),
-            b.len(),
-            c.as_ptr(),
-            c.len(),
-            f.as_ptr(),
-            f.len(),
-            atc.as_mut_ptr(),
-            atc.len(),
-            left.as_mut_ptr(),
-            left.len()
-        ))
-    }
+/// A call on a lent table, which comes first, and on the buffers that follow it.
+macro_rules! on_lent {
+    ($call:ident($lent:expr $(, $buffer:expr)*)) => {{
+        let Lent { zones, borders, rows, z, b, c, f } = *$lent;
+        $call(
+            zones, borders, rows,
+            z.as_ptr(), z.len(), b.as_ptr(), b.len(), c.as_ptr(), c.len(), f.as_ptr(), f.len(),
+            $($buffer.as_mut_ptr(), $buffer.len()),*
+        )
+    }};
 }
 
 pub fn read(text: &[u8], z: &mut [i64], b: &mut [[i64; 3]], c: &mut [[i64; 7]], f: &mut [i64]) -> Read {
     unsafe {
-        answered!(Read, keravnoth_read(
-            text.as_ptr(),
-            text.len(),
-            z.as_mut_ptr(),
-            z.len(),
-            b.as_mut_ptr(),
-            b.len(),
-            c.as_mut_ptr(),
-            c.len(),
-            f.as_mut_ptr(),
-            f.len()
-        ))
+        keravnoth_read(
+            text.as_ptr(), text.len(),
+            z.as_mut_ptr(), z.len(), b.as_mut_ptr(), b.len(), c.as_mut_ptr(), c.len(), f.as_mut_ptr(), f.len(),
+        )
     }
+}
+
+pub fn write(t: &Lent, out: &mut [u8]) -> Written {
+    unsafe { on_lent!(keravnoth_write(t, out)) }
+}
+
+pub fn extract(t: &Lent, atc: &mut [[i64; 1]], left: &mut [[i64; 3]]) -> Extracted {
+    unsafe { on_lent!(keravnoth_extract(t, atc, left)) }
+}
+
+pub fn result_text(t: &Lent, out: &mut [u8]) -> Written {
+    unsafe { on_lent!(keravnoth_result_text(t, out)) }
+}
+
+pub fn answer(text: &[u8], out: &mut [u8]) -> Written {
+    unsafe { keravnoth_answer(text.as_ptr(), text.len(), out.as_mut_ptr(), out.len()) }
 }

@@ -1,308 +1,227 @@
-//! The extraction as plain loops in 64-bit numbers, for the bench: the same
-//! rules as second.rs, written for speed and not to be read beside the rules.
-#![allow(dead_code)]
+//! The rounds of four designs in plain Rust, and the whole call around them as it stood before document 02's E4 (old.rs).
 
-pub struct Prepared {
+use crate::old::{prepare, Lent, Refusal, Room, BORDERS_MOST, ROWS_MOST};
+
+/// What the rounds work on. A design leaves the exchanges in `x` and the margins left, and answers the rounds.
+pub struct Work<'a> {
     pub borders: usize,
-    /// index of each kept row in the table
-    pub kept: Vec<usize>,
-    /// p of kept row k and border b at item k x borders + b
-    pub p: Vec<u64>,
-    pub n: Vec<u64>,
-    /// starting margin of each kept row, grains
-    pub margin: Vec<u64>,
-    pub state: Vec<u8>,
-    pub ram: Vec<i64>,
-    /// LTA of each border in kW
-    pub start: Vec<u64>,
+    /// row after row; a row that takes no part has 0 at every border
+    pub p: &'a [u64],
+    /// how many borders have p > 0, a row
+    pub ns: &'a [u64],
+    /// grains, a row
+    pub margins: &'a mut [u64],
+    /// kW, a border
+    pub x: &'a mut [u64],
 }
 
-impl Prepared {
-    /// How many pairs of a kept row and a border have p > 0.
-    pub fn pairs(&self) -> u64 {
-        self.p.iter().filter(|p| **p > 0).count() as u64
+impl Work<'_> {
+    /// Every border rises, and every row loses the sum of p times raise.
+    fn raise(&mut self, raises: &[u64]) {
+        for (margin, row) in self.margins.iter_mut().zip(self.p.chunks_exact(self.borders)) {
+            *margin -= row.iter().zip(raises).map(|(p, raise)| p * raise).sum::<u64>();
+        }
+        for (x, raise) in self.x.iter_mut().zip(raises) {
+            *x += raise;
+        }
     }
 }
 
-pub type Refusal = (u32, usize);
-
-fn judge(
-    h: [usize; 3],
-    z: &[i64],
-    b: &[[i64; 3]],
-    c: &[[i64; 7]],
-    f: &[i64],
-) -> Result<(), Refusal> {
-    let [zones, borders, rows] = h;
-    if !(2..=16).contains(&zones) || !(1..=40).contains(&borders) || !(1..=200).contains(&rows) {
-        return Err((3, 1));
+/// The whole call with the rounds of a design. Nothing but the rounds differs from design to design.
+pub fn extract(t: &Lent, atc: &mut [[i64; 1]], left: &mut [[i64; 3]], rounds: impl Fn(&mut Work) -> u64) -> Result<u64, Refusal> {
+    let mut room = Room::new();
+    prepare(t, &mut room, atc.len(), left.len())?;
+    let (rows, borders) = (t.rows, t.borders);
+    let (p, margins) = (&room.p[..rows * borders], &mut room.margins[..rows]);
+    let mut ns = [0; ROWS_MOST];
+    for (n, row) in ns.iter_mut().zip(p.chunks_exact(borders)) {
+        *n = row.iter().filter(|p| **p > 0).count() as u64;
     }
-    for (lent, needed) in
-        [(z.len(), zones), (b.len(), borders), (c.len(), rows), (f.len(), rows * zones)]
-    {
-        if lent < needed {
-            return Err((8, needed));
-        }
+    let mut x = [0; BORDERS_MOST];
+    for (x, border) in x.iter_mut().zip(&t.b[..borders]) {
+        *x = border[2] as u64 * 1_000;
     }
-    for (i, position) in z[..zones].iter().enumerate() {
-        if !(-100_000_000..=100_000_000).contains(position) {
-            return Err((3, 2 + i));
-        }
+    let done = rounds(&mut Work { borders, p, ns: &ns[..rows], margins, x: &mut x[..borders] });
+    for (atc, x) in atc.iter_mut().zip(&x[..borders]) {
+        *atc = [(x / 1_000) as i64];
     }
-    let zone = 0..zones as i64;
-    for (i, [from, to, lta]) in b[..borders].iter().enumerate() {
-        if !zone.contains(from) || !zone.contains(to) || from == to || !(0..=10_000).contains(lta) {
-            return Err((3, 2 + zones + i));
-        }
+    for i in 0..rows {
+        let margin_left = if room.states[i] == 0 { room.margins[i] as i64 } else { -1 };
+        left[i] = [room.states[i] as i64, room.rams[i], margin_left];
     }
-    for (i, [fmax, frm, fref, f0all, r, cva, iva]) in c[..rows].iter().enumerate() {
-        let good = (1..=10_000_000).contains(fmax)
-            && (0..=*fmax).contains(frm)
-            && (-20_000_000..=20_000_000).contains(fref)
-            && (-20_000_000..=20_000_000).contains(f0all)
-            && (-1..=10_000).contains(r)
-            && (0..=10_000_000).contains(cva)
-            && (0..=10_000_000).contains(iva)
-            && f[i * zones..(i + 1) * zones].iter().all(|x| (-100_000..=100_000).contains(x));
-        if !good {
-            return Err((3, 2 + zones + borders + i));
-        }
-    }
-    for later in 0..borders {
-        for earlier in 0..later {
-            if b[earlier][..2] == b[later][..2] {
-                return Err((4, later));
-            }
-        }
-    }
-    Ok(())
+    Ok(done)
 }
 
-/// Everything before the rounds: judging, margins, states, the table of p.
-pub fn prepare(
-    h: [usize; 3],
-    z: &[i64],
-    b: &[[i64; 3]],
-    c: &[[i64; 7]],
-    f: &[i64],
-) -> Result<Prepared, Refusal> {
-    judge(h, z, b, c, f)?;
-    let [zones, borders, rows] = h;
-    let own = |row: usize| &f[row * zones..(row + 1) * zones];
-    let p_of = |row: usize, border: usize| {
-        let [from, to, _] = b[border];
-        (own(row)[from as usize] - own(row)[to as usize]).max(0)
-    };
-    let mut ram = Vec::with_capacity(rows);
-    let mut s = Vec::with_capacity(rows);
-    for row in 0..rows {
-        let [fmax, frm, fref, f0all, r, cva, iva] = c[row];
-        let flow: i64 = own(row).iter().zip(z).map(|(factor, position)| factor * position).sum();
-        let f0core = fref * 100_000 - flow;
-        let base = (fmax - frm) * 100_000 - f0core;
-        let r = if r == -1 { 7_000 } else { r };
-        let by_r = r * fmax * 10 - (f0core - f0all * 100_000) - base;
-        let amr = by_r.max(fmax * 20_000 - base).max(0);
-        let sum: i64 = (0..borders).map(|border| p_of(row, border) * b[border][2] * 1_000).sum();
-        let lta_margin = (sum - base - amr).max(0);
-        ram.push(base + amr + lta_margin - (cva + iva) * 100_000);
-        s.push(sum);
-    }
-    let mut state = vec![0; rows];
-    for row in 0..rows {
-        let mine = own(row);
-        if mine.iter().max().unwrap() - mine.iter().min().unwrap() < 5_000 {
-            state[row] = 1;
-            continue;
-        }
-        for other in 0..rows {
-            if other != row && (ram[other], other) < (ram[row], row) {
-                let by = own(other)[0] - mine[0];
-                if own(other).iter().zip(mine).all(|(x, y)| x - y == by) {
-                    state[row] = 2;
-                    break;
-                }
-            }
-        }
-    }
-    let kept: Vec<usize> = (0..rows).filter(|row| state[*row] == 0).collect();
-    if kept.is_empty() {
-        return Err((5, 0));
-    }
-    let mut p = Vec::with_capacity(kept.len() * borders);
-    for row in &kept {
-        p.extend((0..borders).map(|border| p_of(*row, border) as u64));
-    }
-    for border in 0..borders {
-        if (0..kept.len()).all(|k| p[k * borders + border] == 0) {
-            return Err((6, border));
-        }
-    }
-    let mut margin = Vec::with_capacity(kept.len());
-    for row in &kept {
-        if ram[*row] < s[*row] {
-            return Err((7, *row));
-        }
-        margin.push((ram[*row] - s[*row]) as u64);
-    }
-    let n = p.chunks(borders).map(|row| row.iter().filter(|p| **p > 0).count() as u64).collect();
-    let start = b[..borders].iter().map(|border| border[2] as u64 * 1_000).collect();
-    Ok(Prepared { borders, kept, p, n, margin, state, ram, start })
-}
-
-/// How a raise is divided out.
-pub const AS_WRITTEN: u8 = 0;
-/// Each row's margin is divided by n once a round, not once for each border.
-pub const SHARE_FIRST: u8 = 1;
-
-/// The rounds: exchanges in kW, margins left, rounds, divisions if counted.
-pub fn rounds<const HOW: u8, const COUNTED: bool>(w: &Prepared) -> (Vec<u64>, Vec<u64>, u64, u64) {
-    let borders = w.borders;
-    let kept = w.kept.len();
-    let mut kw = w.start.clone();
-    let mut margin = w.margin.clone();
-    let mut share = vec![0u64; kept];
-    let mut raise = vec![0u64; borders];
-    let mut rounds = 0;
-    let mut divisions = 0;
+/// The rounds before E4: border by border, and each of a border's rows divides its margin by n and its share by p.
+pub fn old_rounds(w: &mut Work) -> u64 {
+    let mut raises = [0; BORDERS_MOST];
+    let raises = &mut raises[..w.borders];
+    let mut done = 0;
     loop {
-        if HOW == SHARE_FIRST {
-            for k in 0..kept {
-                if w.n[k] > 0 {
-                    share[k] = margin[k] / w.n[k];
-                    if COUNTED {
-                        divisions += 1;
-                    }
+        for (b, raise) in raises.iter_mut().enumerate() {
+            let mut least = None;
+            for ((row, margin), n) in w.p.chunks_exact(w.borders).zip(&*w.margins).zip(w.ns) {
+                if row[b] > 0 {
+                    let share = margin / n / row[b];
+                    least = Some(least.map_or(share, |least: u64| least.min(share)));
+                }
+            }
+            *raise = least.unwrap_or(0);
+        }
+        if raises.iter().all(|raise| *raise == 0) {
+            return done;
+        }
+        w.raise(raises);
+        done += 1;
+    }
+}
+
+/// E4's letter and nothing beyond it: row by row, the margin divided by n once a row and round, factors of zero skipped.
+pub fn letter_rounds(w: &mut Work) -> u64 {
+    let mut raises = [0; BORDERS_MOST];
+    let raises = &mut raises[..w.borders];
+    let mut done = 0;
+    loop {
+        raises.fill(u64::MAX);
+        for ((row, margin), n) in w.p.chunks_exact(w.borders).zip(&*w.margins).zip(w.ns) {
+            if *n == 0 {
+                continue;
+            }
+            let share = margin / n;
+            for (raise, p) in raises.iter_mut().zip(row) {
+                if *p > 0 {
+                    *raise = (*raise).min(share / p);
                 }
             }
         }
-        let mut any = false;
-        for border in 0..borders {
-            let mut least = u64::MAX;
-            for k in 0..kept {
-                let p = w.p[k * borders + border];
-                if p > 0 {
-                    let own = if HOW == SHARE_FIRST { share[k] } else { margin[k] / w.n[k] };
-                    let now = own / p;
-                    if COUNTED {
-                        divisions += if HOW == SHARE_FIRST { 1 } else { 2 };
-                    }
-                    if now < least {
-                        least = now;
-                    }
+        if raises.iter().all(|raise| *raise == 0) {
+            return done;
+        }
+        w.raise(raises);
+        done += 1;
+    }
+}
+
+/// A border's bound once a row's share is known: divided only where a product shows that the bound is too high.
+fn tighten(p: u64, share: u64, bound: u64) -> u64 {
+    if bound < 1 << 44 && p < 1 << 20 {
+        return if bound * p <= share { bound } else { share / p };
+    }
+    if p == 0 { bound } else { bound.min(share / p) }
+}
+
+fn lower_bounds(row: &[u64], share: u64, rising: &[usize], bounds: &mut [u64]) {
+    for b in rising {
+        bounds[*b] = tighten(row[*b], share, bounds[*b]);
+    }
+}
+
+/// What a row loses by the exchanges `x`, and the most that one border would take of it by its bound.
+fn row_parts(row: &[u64], x: &[u64], bounds: &[u64], rising: &[usize]) -> (u64, u64) {
+    let (mut loss, mut most) = (0, 0);
+    for b in rising {
+        loss += row[*b] * x[*b];
+        most = most.max(row[*b] * bounds[*b]);
+    }
+    (loss, most)
+}
+
+/// Every row loses the sum of p times what was gained.
+fn settle(w: &mut Work, gained: &[u64], rising: &[usize]) {
+    for (margin, row) in w.margins.iter_mut().zip(w.p.chunks_exact(w.borders)) {
+        *margin -= row_parts(row, gained, gained, rising).0;
+    }
+}
+
+/// The library's rounds in plain Rust: the last raise bounds the next one, only borders that still rise are looked at, a row
+/// divides only where a product shows that a bound is above its share, and rows far from that rest for 16 rounds.
+pub fn new_rounds(w: &mut Work) -> u64 {
+    const BLOCK: u64 = 16;
+    let mut bounds = [0; BORDERS_MOST];
+    let mut gained = [0; BORDERS_MOST];
+    let mut rising: [usize; BORDERS_MOST] = std::array::from_fn(|b| b);
+    let mut near = [0; ROWS_MOST];
+    let (bounds, gained) = (&mut bounds[..w.borders], &mut gained[..w.borders]);
+    let (mut live, mut count, mut wait, mut done) = (w.borders, 0, 0, 0);
+    for (b, bound) in bounds.iter_mut().enumerate() {
+        let first = w.p.chunks_exact(w.borders).position(|row| row[b] > 0);
+        *bound = first.map_or(0, |i| w.margins[i]);
+    }
+    for ((row, margin), n) in w.p.chunks_exact(w.borders).zip(&*w.margins).zip(w.ns) {
+        let share = if *n == 0 { 0 } else { margin / n };
+        lower_bounds(row, share, &rising[..live], bounds);
+    }
+    loop {
+        if wait == 0 {
+            settle(w, gained, &rising[..live]);
+            gained.fill(0);
+            let mut kept = 0;
+            for j in 0..live {
+                rising[kept] = rising[j];
+                kept += usize::from(bounds[rising[j]] > 0);
+            }
+            live = kept;
+            count = 0;
+            for (i, row) in w.p.chunks_exact(w.borders).enumerate() {
+                let (loss, most) = row_parts(row, bounds, bounds, &rising[..live]);
+                near[count] = i;
+                count += usize::from((w.margins[i] - most * w.ns[i]) / BLOCK < loss);
+            }
+            wait = BLOCK;
+        }
+        if rising[..live].iter().all(|b| bounds[*b] == 0) {
+            settle(w, gained, &rising[..live]);
+            return done;
+        }
+        for b in 0..w.borders {
+            gained[b] += bounds[b];
+            w.x[b] += bounds[b];
+        }
+        for i in &near[..count] {
+            let row = &w.p[i * w.borders..(i + 1) * w.borders];
+            let (loss, most) = row_parts(row, gained, bounds, &rising[..live]);
+            let margin = w.margins[*i] - loss;
+            if margin < most * w.ns[*i] {
+                lower_bounds(row, margin / w.ns[*i], &rising[..live], bounds);
+            }
+        }
+        done += 1;
+        wait -= 1;
+    }
+}
+
+/// The loop in f64, which ends where the sum of the changes is under 1 kW (source document 000, Article 23(5)(b)vi).
+pub fn float_rounds(w: &mut Work) -> u64 {
+    let p: Vec<f64> = w.p.iter().map(|p| *p as f64 / 100_000.0).collect();
+    let mut margins: Vec<f64> = w.margins.iter().map(|grains| *grains as f64 / 100_000.0).collect();
+    let mut x: Vec<f64> = w.x.iter().map(|kw| *kw as f64).collect();
+    let mut raises = vec![0.0; w.borders];
+    let mut done = 0;
+    loop {
+        for (b, raise) in raises.iter_mut().enumerate() {
+            *raise = f64::INFINITY;
+            for ((row, margin), n) in p.chunks_exact(w.borders).zip(&margins).zip(w.ns) {
+                if row[b] > 0.0 {
+                    *raise = raise.min(margin.max(0.0) / *n as f64 / row[b]);
                 }
             }
-            raise[border] = least;
-            any |= least > 0;
         }
-        if !any {
+        for (margin, row) in margins.iter_mut().zip(p.chunks_exact(w.borders)) {
+            *margin -= row.iter().zip(&raises).map(|(p, raise)| p * raise).sum::<f64>();
+        }
+        for (x, raise) in x.iter_mut().zip(&raises) {
+            *x += raise;
+        }
+        done += 1;
+        if raises.iter().sum::<f64>() < 1.0 {
             break;
         }
-        for border in 0..borders {
-            kw[border] += raise[border];
-        }
-        for k in 0..kept {
-            let row = &w.p[k * borders..(k + 1) * borders];
-            let loss: u64 = row.iter().zip(&raise).map(|(p, raise)| p * raise).sum();
-            margin[k] -= loss;
-        }
-        rounds += 1;
     }
-    (kw, margin, rounds, divisions)
-}
-
-/// The whole call, as the library's extraction: results into lent records.
-pub fn extract<const HOW: u8>(
-    h: [usize; 3],
-    z: &[i64],
-    b: &[[i64; 3]],
-    c: &[[i64; 7]],
-    f: &[i64],
-    atc: &mut [[i64; 1]],
-    left: &mut [[i64; 3]],
-) -> Result<u64, Refusal> {
-    let w = prepare(h, z, b, c, f)?;
-    let (kw, margin, rounds, _) = rounds::<HOW, false>(&w);
-    if atc.len() < h[1] {
-        return Err((8, h[1]));
+    for (kw, x) in w.x.iter_mut().zip(&x) {
+        *kw = *x as u64;
     }
-    if left.len() < h[2] {
-        return Err((8, h[2]));
+    for (grains, margin) in w.margins.iter_mut().zip(&margins) {
+        *grains = (margin * 100_000.0) as u64;
     }
-    for (item, kw) in atc.iter_mut().zip(&kw) {
-        *item = [(kw / 1_000) as i64];
-    }
-    for row in 0..h[2] {
-        left[row] = [i64::from(w.state[row]), w.ram[row], -1];
-    }
-    for (row, margin) in w.kept.iter().zip(&margin) {
-        left[*row][2] = *margin as i64;
-    }
-    Ok(rounds)
-}
-
-// ------------------------------------------------------------------ float loop
-
-/// The loop in f64: equal shares of the margin, and an end where the sum of the
-/// changes is under 1 kW (source document 000, Article 23(5)(b)vi).  Exchanges
-/// in kW, rounds, divisions if counted.
-pub fn float_rounds<const COUNTED: bool>(w: &Prepared) -> (Vec<f64>, u64, u64) {
-    let borders = w.borders;
-    let kept = w.kept.len();
-    let p: Vec<f64> = w.p.iter().map(|p| *p as f64 / 100_000.0).collect();
-    let n: Vec<f64> = w.n.iter().map(|n| *n as f64).collect();
-    let mut margin: Vec<f64> = w.margin.iter().map(|grains| *grains as f64 / 100_000.0).collect();
-    let mut kw: Vec<f64> = w.start.iter().map(|kw| *kw as f64).collect();
-    let mut raise = vec![0.0; borders];
-    let mut rounds = 0;
-    let mut divisions = 0;
-    loop {
-        let mut change = 0.0;
-        for border in 0..borders {
-            let mut least = f64::INFINITY;
-            for k in 0..kept {
-                let p = p[k * borders + border];
-                if p > 0.0 {
-                    let now = margin[k].max(0.0) / n[k] / p;
-                    if COUNTED {
-                        divisions += 2;
-                    }
-                    if now < least {
-                        least = now;
-                    }
-                }
-            }
-            raise[border] = least;
-            change += least;
-        }
-        for border in 0..borders {
-            kw[border] += raise[border];
-        }
-        for k in 0..kept {
-            let row = &p[k * borders..(k + 1) * borders];
-            let loss: f64 = row.iter().zip(&raise).map(|(p, raise)| p * raise).sum();
-            margin[k] -= loss;
-        }
-        rounds += 1;
-        if change < 1.0 {
-            return (kw, rounds, divisions);
-        }
-    }
-}
-
-/// The float loop from the tables on, its capacities cut to whole MW.
-pub fn float_extract(
-    h: [usize; 3],
-    z: &[i64],
-    b: &[[i64; 3]],
-    c: &[[i64; 7]],
-    f: &[i64],
-    atc: &mut [[i64; 1]],
-) -> Result<u64, Refusal> {
-    let w = prepare(h, z, b, c, f)?;
-    let (kw, rounds, _) = float_rounds::<false>(&w);
-    for (item, kw) in atc.iter_mut().zip(&kw) {
-        *item = [(kw / 1_000.0).floor() as i64];
-    }
-    Ok(rounds)
+    done
 }

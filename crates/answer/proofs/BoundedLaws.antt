@@ -25,7 +25,7 @@ use Rattle.rounds.proofs.Theorems.{extract-demand3}
 use Rattle.margin.specs.Margin.{ltaKw, ramAt}
 use Rattle.margin.proofs.JudgedLaws.{lta-bound}
 use Rattle.margin.proofs.Small.{named-values-small}
-use Rattle.start.specs.Start.{rowsOf, gridOf, startOf, judgeStart}
+use Rattle.start.specs.Start.{rowsOf, gridOf, startOf, judgeStart, tableGrid, judgeTable}
 use Rattle.start.proofs.StartLaws.{rows-in}
 use Rattle.extraction.specs.Extraction.{Result, resultOf, atcOf, leftOf, outcomeOf}
 use Rattle.extraction.specs.Demand.{namedBits}
@@ -39,10 +39,10 @@ factor-none zero rose k h l = omega arith
 factor-none (suc q) rose k h l = omega (arith, suc-mul q rose)
 
 -- refusal 6 is not given: each border has p > 0 on some row
-limited : (t : Table) (r : Result) → outcomeOf t ≡ passed r → (b : ℕ) → b < t .header .borders → someBelow (t .header .rows) (λ i. ltb 0 (gridOf t (rowsOf t) .p i b)) ≡ true
-unfolding outcomeOf judgeStart
+limited : (t : Table) (r : Result) → outcomeOf t ≡ passed r → (b : ℕ) → b < t .header .borders → someBelow (t .header .rows) (λ i. ltb 0 (tableGrid t .p i b)) ≡ true
+unfolding outcomeOf judgeStart gridOf
 limited t r e b h =
-    let w = then-passed (judgeStart t (rowsOf t)) (λ m. passed (resultOf t m)) r e in
+    let w = then-passed (judgeTable t) (λ states. passed (resultOf t)) r e in
     let a = unless-passed (w .it) _ _ _ (w .first) in
     not-false _ (none-passed _ _ _ _ (w .it) (a .1) .0 b h)
 
@@ -65,7 +65,7 @@ module _ (t : Table) (good : Good t) where
   unfolding rowsOf
   ram-small i h = rw (table-get (t .header .rows) (ramAt t) i (pos 0) h) (named-values-small good i h .ram)
 
-  module _ (b : ℕ) (h : b < t .header .borders) (some : someBelow (t .header .rows) (λ i. ltb 0 (gridOf t (rowsOf t) .p i b)) ≡ true) where
+  module _ (b : ℕ) (h : b < t .header .borders) (some : someBelow (t .header .rows) (λ i. ltb 0 (tableGrid t .p i b)) ≡ true) where
     abbrev rose : ℕ
     rose = at (extract (g t) (s t) .state .x) b - at (s t .x) b
 
@@ -96,7 +96,7 @@ module _ (t : Table) (good : Good t) where
         borders = k .borders-most;
         rows = k .rows-most;
         atcs = λ b h. div-lt-iff-lt-mul {k = 1000} {x = at (extract (g t) (s t) .state .x) b} {y = 10 ^ 12} (omega arith) .1 (exchange-small b h (limited t r e b h));
-        states = λ i h. omega (arith, rows-in t (rowsOf t) good refl .states-in i h);
+        states = λ i h. omega (arith, rows-in t (rowsOf t) refl .states-in i h);
         rams = ram-small;
         lefts = left-small;
         rounds = omega (arith, accepted-demand-3 t r good e .most, ap (λ (v : Result). v .outcome .rounds) (a .is));

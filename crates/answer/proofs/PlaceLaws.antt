@@ -23,7 +23,7 @@ use Rattle.lines.specs.Lines.{headerLine, zoneLine, borderLine, rowLine}
 use Rattle.lines.proofs.HeaderTrip.{header-read}
 use Rattle.reading.specs.Reading.{withHeader, linesOf, readText}
 use Rattle.reading.proofs.ReadLaws.{opened, fits, read-good}
-use Rattle.start.specs.Start.{rowsOf, judgeStart}
+use Rattle.start.specs.Start.{gridOf, judgeStart, judgeTable}
 use Rattle.extraction.specs.Extraction.{outcomeOf}
 
 pub record Placed (w : Why) : Type 0 where
@@ -104,10 +104,10 @@ text-sound text =
 
 -- ---- an outcome
 pub outcome-sound : (t : Table) → Good t → Sound (outcomeOf t)
-unfolding outcomeOf judgeStart
+unfolding outcomeOf judgeStart gridOf
 outcome-sound t good =
     let k = header-in (t .header) (good .exact .header) in
-    then-sound (judgeStart t (rowsOf t)) _
+    then-sound (judgeTable t) _
     (unless-sound _ _ _ (record { digit = omega arith; held = omega arith })
     (first-sound (t .header .borders) _ _ _ (λ b l. record { digit = omega arith; held = omega (arith, k .borders-most) })
     (first-sound (t .header .rows) _ _ _ (λ i l. record { digit = omega arith; held = omega (arith, k .rows-most) }) tt)))

@@ -125,15 +125,12 @@ fn list_used(part: i64, out: &mut [i64], count: usize) -> usize
 }
 
 // What a border's whole LTA puts on a row: below 0 where it relieves.
-// A judged border is read as itself: the other arm is never taken.
 fn corner_part(factors: &[i64], raw: BorderRecord) -> i64
     requires { ⌜ FactorsBound (now factors) ⌝ }
     requires { ⌜ borderFits (length (now factors)) raw ≡ true ⌝ }
     ensures { λ r. ⌜ r ≡ cornerPart (now (factors .entry)) (borderOf raw) ⌝ }
 {
-    let kinds::BorderRead::Good(border) = kinds::Border::of(factors.len(), raw) else {
-        return 0;
-    };
+    let border = kinds::Border::judged(factors.len(), raw);
     let lta = margin::lta_kw(border);
     margin::signed_factor(factors, border) * lta as i64
 }

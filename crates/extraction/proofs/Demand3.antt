@@ -11,7 +11,7 @@ use Rattle.table.proofs.GoodLaws.{judged-good}
 use Rattle.rounds.specs.Rounds.{sharers, alone, mostSharers}
 use Rattle.rounds.proofs.Theorems.{alone-under, alone-least}
 use Rattle.margin.proofs.Small.{named-values-small}
-use Rattle.start.specs.Start.{rowsOf, gridOf, startOf}
+use Rattle.start.specs.Start.{gridOf, tableGrid, tableStart}
 use Rattle.extraction.specs.Extraction.{Result, outcomeOf, nOf, lOf}
 use Rattle.extraction.specs.Demand.{roundsMost, Demand3}
 use Rattle.extraction.proofs.DemandLaws.{accepted, g, s, demand-3}
@@ -21,20 +21,20 @@ pub rounds-most : roundsMost ≡ 3840
 rounds-most = refl
 
 -- N: no kept row shares among more borders (a row not kept has p = 0 and shares among none), and no smaller number will do
-pub n-over : (t : Table) (i : ℕ) → i < t .header .rows → sharers (gridOf t (rowsOf t)) i ≤ nOf t
+pub n-over : (t : Table) (i : ℕ) → i < t .header .rows → sharers (tableGrid t) i ≤ nOf t
 unfolding nOf mostSharers gridOf
 n-over t i h = largest-le (t .header .rows) (sharers (g t)) i h
 
-pub n-least : (t : Table) (n : ℕ) → ((i : ℕ) → i < t .header .rows → sharers (gridOf t (rowsOf t)) i ≤ n) → nOf t ≤ n
+pub n-least : (t : Table) (n : ℕ) → ((i : ℕ) → i < t .header .rows → sharers (tableGrid t) i ≤ n) → nOf t ≤ n
 unfolding nOf mostSharers gridOf
 n-least t n h = largest-under (t .header .rows) (sharers (g t)) n h
 
 -- L: each border's raise alone at the start, the smallest floor(margin / p), is under 2^L, and L is the least such number
-pub l-over : (t : Table) (b : ℕ) → b < t .header .borders → alone (gridOf t (rowsOf t)) (startOf t (rowsOf t) .margins) b < 2 ^ lOf t
+pub l-over : (t : Table) (b : ℕ) → b < t .header .borders → alone (tableGrid t) (tableStart t .margins) b < 2 ^ lOf t
 unfolding lOf gridOf
 l-over t b h = alone-under (g t) (s t .margins) b h
 
-pub l-least : (t : Table) (l : ℕ) → ((b : ℕ) → b < t .header .borders → alone (gridOf t (rowsOf t)) (startOf t (rowsOf t) .margins) b < 2 ^ l) → lOf t ≤ l
+pub l-least : (t : Table) (l : ℕ) → ((b : ℕ) → b < t .header .borders → alone (tableGrid t) (tableStart t .margins) b < 2 ^ l) → lOf t ≤ l
 unfolding lOf gridOf
 l-least t l h = alone-least (g t) (s t .margins) l h
 

@@ -32,9 +32,9 @@ use Rattle.rounds.proofs.WorkLaws.{rounds-long, work-ended}
 use Rattle.margin.specs.Margin.{ltaKw}
 use Rattle.margin.proofs.JudgedLaws.{good-borders}
 use Rattle.margin.proofs.Small.{named-values-small}
-use Rattle.start.specs.Start.{Rows, rowsOf, kept, gridOf, startOf, judgeStart}
+use Rattle.start.specs.Start.{Rows, rowsOf, kept, gridOf, startOf, tableGrid, tableStart, judgeTable}
 use Rattle.start.specs.Filled.{rowsWith, ltas, exchangesOf}
-use Rattle.start.proofs.StartLaws.{cells-at, cells-long, rows-in, PreparedAs}
+use Rattle.start.proofs.StartLaws.{cells-at, grid-long, rows-in, PreparedAs}
 use Rattle.extraction.specs.Extraction.{Result, resultOf, atcOf, leftOf, outcomeOf, atcRecord, rowRecord, leaves, room, stored, extractLeft}
 use Rattle.extraction.specs.Demand.{namedBits}
 use Rattle.extraction.specs.Work.{atcOfKw, leftOfRow, endedAt, endOf, Runnable, Finishable, resultWith, outcomeLeft}
@@ -118,36 +118,36 @@ module _ {t : Table} (good : Good t) {r : Judgement} {rams : List ℤ} {states p
   abbrev m : Rows
   m = rowsWith rams states
 
-  pub start-turned : {w : Refusal} → r ≡ Refused w → judgeStart t (rowsOf t) ≡ refused (told w)
-  start-turned e = sym (q .judged) ∙ ap (λ (j : Judgement). ruled j m) e
+  pub start-turned : {w : Refusal} → r ≡ Refused w → judgeTable t ≡ refused (told w)
+  start-turned e = sym (q .judged) ∙ ap (λ (j : Judgement). ruled j states) e
 
-  pub start-passed : r ≡ Passed → judgeStart t (rowsOf t) ≡ passed (rowsOf t)
-  start-passed e = sym (q .judged) ∙ ap (λ (j : Judgement). ruled j m) e ∙ ap passed (q .rows)
+  pub start-passed : r ≡ Passed → judgeTable t ≡ passed (rowsOf t .states)
+  start-passed e = sym (q .judged) ∙ ap (λ (j : Judgement). ruled j states) e ∙ ap (λ (n : Rows). passed (n .states)) (q .rows)
 
-  ltas-are : ltas (t .borders) ≡ startOf t (rowsOf t) .x
+  ltas-are : ltas (t .borders) ≡ tableStart t .x
   unfolding startOf
   ltas-are = ap (λ (n : ℕ). table n (λ k. ltaKw (borderOf (getD (t .borders) k [])))) (good .exact .borders-long)
 
   -- the flat table of p agrees with the grid at every row and border
-  p-at : (i b : ℕ) → i < h .rows → b < h .borders → flat (h .rows) (h .borders) p .p i b ≡ gridOf t (rowsOf t) .p i b
+  p-at : (i b : ℕ) → i < h .rows → b < h .borders → flat (h .rows) (h .borders) p .p i b ≡ tableGrid t .p i b
   unfolding gridOf
-  p-at i b l k = ap (λ (ps : List ℕ). at ps (i * h .borders + b)) (q .p-is) ∙ cells-at (gridOf t (rowsOf t)) i b l k
+  p-at i b l k = ap (λ (ps : List ℕ). at ps (i * h .borders + b)) (q .p-is) ∙ cells-at (tableGrid t) i b l k
 
-  load-is : (i : ℕ) → i < h .rows → load (flat (h .rows) (h .borders) p) i (ltas (t .borders)) ≡ load (gridOf t (rowsOf t)) i (startOf t (rowsOf t) .x)
+  load-is : (i : ℕ) → i < h .rows → load (flat (h .rows) (h .borders) p) i (ltas (t .borders)) ≡ load (tableGrid t) i (tableStart t .x)
   unfolding load gridOf
   load-is i l = sum-cong (h .borders) _ _ (λ b k. ap₂ _*_ (p-at i b l k) (ap (λ (v : List ℕ). at v b) ltas-are))
 
   pub finishable : Finishable h (t .borders) m p margins
   unfolding startOf
   finishable =
-      let rows = rows-in t m good (q .rows) in
+      let rows = rows-in t m (q .rows) in
       let few = header-in h (good .exact .header) .borders-most in
       record {
         run = record {
           header = good .exact .header;
           borders = good-borders good;
           borders-long = good .exact .borders-long;
-          p-long = ap length (q .p-is) ∙ cells-long t (rowsOf t);
+          p-long = grid-long h (t .borders) (t .factors) _ (q .p-is);
           margins-long = ap length (q .margins-are) ∙ table-long (h .rows) _;
           fits = λ i l.
               omega (
@@ -164,22 +164,22 @@ module _ {t : Table} (good : Good t) {r : Judgement} {rams : List ℤ} {states p
         states-in = rows .states-in;
       }
 
-  pub result-is : resultWith h (t .borders) m p margins ≡ resultOf t (rowsOf t)
+  pub result-is : resultWith h (t .borders) m p margins ≡ resultOf t
   unfolding resultOf gridOf
   result-is =
       ap₂ {C = Result} (λ (n : Rows) (o : Outcome). record { header = h; rows = n; outcome = o }) (q .rows)
       (ap (extract (flat (h .rows) (h .borders) p)) (ap₂ {C = State} (λ (ms xs : List ℕ). record { margins = ms; x = xs }) (q .margins-are) ltas-are)
-      ∙ same-factors (h .rows) (h .borders) _ _ p-at (startOf t (rowsOf t)))
+      ∙ same-factors (h .rows) (h .borders) _ _ p-at (tableStart t))
 
 -- ---- which judgement decides, of a judged table
 module _ (t : Table) (atcs lefts : List (List ℤ)) where
-  pub start-refused : {w : Why} → judgeStart t (rowsOf t) ≡ refused w → leaves (refused w) atcs lefts ≡ outcomeLeft (outcomeOf t) atcs lefts
+  pub start-refused : {w : Why} → judgeTable t ≡ refused w → leaves (refused w) atcs lefts ≡ outcomeLeft (outcomeOf t) atcs lefts
   unfolding outcomeLeft outcomeOf
   start-refused e = sym (either-refused _ _ (then-refused _ (then-refused _ e)))
 
-  module _ (e : judgeStart t (rowsOf t) ≡ passed (rowsOf t)) where
+  module _ (e : judgeTable t ≡ passed (rowsOf t .states)) where
     abbrev result : Result
-    result = resultOf t (rowsOf t)
+    result = resultOf t
 
     past-start : then (outcomeOf t) (room atcs lefts) ≡ room atcs lefts result
     unfolding outcomeOf

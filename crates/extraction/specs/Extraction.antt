@@ -12,7 +12,7 @@ use Rattle.kinds.specs.Ranges.{atℤ}
 use Rattle.kinds.specs.Refusals.{Judged, passed, refused, then, either, need}
 use Rattle.table.specs.Table.{Table, judgeLent}
 use Rattle.rounds.specs.Rounds.{Outcome, extract, mostSharers, aloneBits}
-use Rattle.start.specs.Start.{Rows, rowsOf, kept, gridOf, startOf, judgeStart}
+use Rattle.start.specs.Start.{Rows, rowsOf, kept, tableGrid, tableStart, judgeTable}
 
 -- the whole result: what the rows were, and where the rounds ended
 pub record Result : Type 0 where
@@ -20,8 +20,8 @@ pub record Result : Type 0 where
   pub rows : Rows
   pub outcome : Outcome
 
-unfoldable pub resultOf : Table → Rows → Result
-resultOf t m = record { header = t .header; rows = m; outcome = extract (gridOf t m) (startOf t m) }
+unfoldable pub resultOf : Table → Result
+resultOf t = record { header = t .header; rows = rowsOf t; outcome = extract (tableGrid t) (tableStart t) }
 
 -- ATC = kW value floored to whole MW
 unfoldable pub atcOf : Result → (b : ℕ) → ℕ
@@ -33,14 +33,14 @@ leftOf r i = at (r .outcome .state .margins) i
 
 -- the outcome of a judged table: 5, 6, 7, and then the rounds
 unfoldable pub outcomeOf : Table → Judged Result
-outcomeOf t = then (judgeStart t (rowsOf t)) (λ m. passed (resultOf t m))
+outcomeOf t = then (judgeTable t) (λ states. passed (resultOf t))
 
 -- N and L of demand 3
 unfoldable pub nOf : Table → ℕ
-nOf t = mostSharers (gridOf t (rowsOf t))
+nOf t = mostSharers (tableGrid t)
 
 unfoldable pub lOf : Table → ℕ
-lOf t = aloneBits (gridOf t (rowsOf t)) (startOf t (rowsOf t) .margins)
+lOf t = aloneBits (tableGrid t) (tableStart t .margins)
 
 -- result records: ATC in MW; state, RAM in grains, margin left in grains or -1 where the state is not 0
 unfoldable pub atcRecord : Result → (b : ℕ) → List ℤ
@@ -48,7 +48,7 @@ atcRecord r b = pos (atcOf r b) ∷ []
 
 unfoldable pub rowRecord : Result → (i : ℕ) → List ℤ
 rowRecord r i =
-    pos (at (r .rows .states) i) ∷ atℤ (r .rows .rams) i ∷ cond (kept (r .rows) i) (pos (leftOf r i)) (minus 1) ∷ []
+    pos (at (r .rows .states) i) ∷ atℤ (r .rows .rams) i ∷ cond (kept (r .rows .states) i) (pos (leftOf r i)) (minus 1) ∷ []
 
 -- what `extract` leaves: its answer, and the lent results; last comes room for results, border results before row results
 pub record ExtractLeft : Type 0 where

@@ -24,7 +24,7 @@ use Rattle.rounds.proofs.Theorems as rounds
 use Rattle.table.specs.Table.{Table, factorsAt}
 use Rattle.margin.specs.Margin.{f0coreOf, sOf, ramOf, ramAt, ramsOf}
 use Rattle.states.specs.States.{spreadOf, shifted, below, stateOf}
-use Rattle.start.specs.Start.{rowsOf, gridOf, startOf}
+use Rattle.start.specs.Start.{gridOf, tableGrid, tableStart}
 use Rattle.extraction.specs.Extraction.{Result, resultOf, outcomeOf}
 use Rattle.extraction.proofs.DemandLaws.{accepted}
 
@@ -38,11 +38,11 @@ below-self : (rams : List ℤ) → below rams 0 0 ≡ false
 unfolding below
 below-self rams = rw (le-ltZ (≤ℤ-refl (atℤ rams 0))) (and-last (sameℤ (atℤ rams 0) (atℤ rams 0)))
 
-pub kept-alone : (t : Table) → t .header .rows ≡ 1 → spreadOf (factorsAt t 0) ≡ pos 5000 → stateOf t (ramsOf t) 0 ≡ 0
+pub kept-alone : (t : Table) → t .header .rows ≡ 1 → spreadOf (factorsAt t 0) ≡ pos 5000 → stateOf (t .header) (t .factors) (ramsOf t) 0 ≡ 0
 unfolding stateOf firstFrom given
 kept-alone t one e = rw (e, one, below-self)
 
-pub not-one : (t : Table) (i : ℕ) → spreadOf (factorsAt t i) ≡ pos 5000 → stateOf t (ramsOf t) i ≡ 1 → ⊥
+pub not-one : (t : Table) (i : ℕ) → spreadOf (factorsAt t i) ≡ pos 5000 → stateOf (t .header) (t .factors) (ramsOf t) i ≡ 1 → ⊥
 unfolding stateOf
 not-one t i e s = go (someBelow (t .header .rows) (λ j. below (ramsOf t) j i && shifted (factorsAt t j) (factorsAt t i))) (rw e at s)
   where
@@ -50,7 +50,7 @@ not-one t i e s = go (someBelow (t .header .rows) (λ j. below (ramsOf t) j i &&
     go true h = omega arith
     go false h = omega arith
 
-pub under-5000 : (t : Table) (i : ℕ) → spreadOf (factorsAt t i) ≡ pos 4999 → stateOf t (ramsOf t) i ≡ 1
+pub under-5000 : (t : Table) (i : ℕ) → spreadOf (factorsAt t i) ≡ pos 4999 → stateOf (t .header) (t .factors) (ramsOf t) i ≡ 1
 unfolding stateOf
 under-5000 t i e = rw e
 
@@ -86,7 +86,7 @@ module _ (t : Table) (i j : ℕ) (before : i < j) (h : j < t .header .rows) (val
   ram-tie : atℤ (ramsOf t) i ≡ atℤ (ramsOf t) j
   ram-tie = table-get (t .header .rows) (ramAt t) i (pos 0) (lt-trans before h) ∙ ram-same ∙ sym (table-get (t .header .rows) (ramAt t) j (pos 0) h)
 
-  pub second-state : spreadOf (factorsAt t j) ≡ pos 5000 → stateOf t (ramsOf t) j ≡ 2
+  pub second-state : spreadOf (factorsAt t j) ≡ pos 5000 → stateOf (t .header) (t .factors) (ramsOf t) j ≡ 2
   unfolding stateOf
   second-state e = rw e (ap (λ (b : Bool). cond b 2 0) (some-true (t .header .rows) (λ k. below (ramsOf t) k j && shifted (factorsAt t k) (factorsAt t j)) i (lt-trans before h)
       (rw (below-tie (ramsOf t) i j ram-tie before, factors) (shifted-self (factorsAt t j)))))
@@ -96,7 +96,7 @@ pub one-border-alone : (t : Table) (r : Result) → outcomeOf t ≡ passed r →
 unfolding resultOf gridOf
 one-border-alone t r e one =
     subst (λ (r : Result). r .outcome .rounds ≤ 1) (accepted t r e .is)
-    (rounds.one-border (extracts (gridOf t (rowsOf t)) (startOf t (rowsOf t))) one)
+    (rounds.one-border (extracts (tableGrid t) (tableStart t)) one)
 
 -- ---- a raise
 pub three-by-two : (g : Grid) (margins : List ℕ) (b p : ℕ) → g .rows ≡ 1 → sharers g 0 ≡ 2 → g .p 0 b ≡ p → 0 < p → at margins 0 ≡ 3 * p → raise g margins b ≡ 1

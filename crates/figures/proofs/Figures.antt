@@ -38,9 +38,9 @@ twoEqual =
 
 pub record Figures : Type 0 where
   -- Spread 5000: kept (a row alone; and no row of that spread has state 1); 4999: state 1
-  pub spread-5000 : (t : Table) → t .header .rows ≡ 1 → spreadOf (factorsAt t 0) ≡ pos 5000 → stateOf t (ramsOf t) 0 ≡ 0
-  pub spread-5000-any : (t : Table) (i : ℕ) → spreadOf (factorsAt t i) ≡ pos 5000 → stateOf t (ramsOf t) i ≡ 1 → ⊥
-  pub spread-4999 : (t : Table) (i : ℕ) → spreadOf (factorsAt t i) ≡ pos 4999 → stateOf t (ramsOf t) i ≡ 1
+  pub spread-5000 : (t : Table) → t .header .rows ≡ 1 → spreadOf (factorsAt t 0) ≡ pos 5000 → stateOf (t .header) (t .factors) (ramsOf t) 0 ≡ 0
+  pub spread-5000-any : (t : Table) (i : ℕ) → spreadOf (factorsAt t i) ≡ pos 5000 → stateOf (t .header) (t .factors) (ramsOf t) i ≡ 1 → ⊥
+  pub spread-4999 : (t : Table) (i : ℕ) → spreadOf (factorsAt t i) ≡ pos 4999 → stateOf (t .header) (t .factors) (ramsOf t) i ≡ 1
   -- Fmax 100000, R 7000, F0core and F0all 0, S 0 (which AMR does not look at): FRM 30000 gives AMR 0; FRM 30001 gives 1 kW
   pub frm-30000 : (fref cva iva : ℤ) → amrOf (rowOf 100000 30000 7000 fref cva iva) (pos 0) ≡ pos 0
   pub frm-30001 : (fref cva iva : ℤ) → amrOf (rowOf 100000 30001 7000 fref cva iva) (pos 0) ≡ grains (pos 1)
@@ -56,7 +56,7 @@ pub record Figures : Type 0 where
   pub one-round : answerText (sheet "H 2 1 1/Z 0 0/Z 1 0/B 0 0 1 100/C 0 100000 0 0 0 0 0 0 20000 0/") ≡ sheet "A 0 500/M 0 0 10000000000 0/R 1/"
   -- Two equal rows of spread 5000: the second is state 2 (of any table; and of two such rows alone the first is kept)
   pub second-equal : (t : Table) (i j : ℕ) → i < j → j < t .header .rows → getD (t .rows) i [] ≡ getD (t .rows) j [] → factorsAt t i ≡ factorsAt t j
-      → spreadOf (factorsAt t j) ≡ pos 5000 → stateOf t (ramsOf t) j ≡ 2
+      → spreadOf (factorsAt t j) ≡ pos 5000 → stateOf (t .header) (t .factors) (ramsOf t) j ≡ 2
   pub two-equal : rowsOf twoEqual .states ≡ 0 ∷ 2 ∷ []
   -- Margin 3 p, n 2: raise 1 kW
   pub half-again : (g : Grid) (margins : List ℕ) (b p : ℕ) → g .rows ≡ 1 → sharers g 0 ≡ 2 → g .p 0 b ≡ p → 0 < p → at margins 0 ≡ 3 * p → raise g margins b ≡ 1

@@ -2,7 +2,7 @@
 -- Assumes nothing.
 use Rattle.block.specs.Block.{linesAt}
 use Rattle.extraction.specs.Demand.{loadOf}
-use Rattle.start.specs.Start.{rowsOf, kept, gridOf, marginOf, startOf, judgeStart}
+use Rattle.start.specs.Start.{rowsOf, kept, gridOf, startOf, judgeStart}
 use Rattle.extraction.specs.Extraction.{resultOf, atcOf, leftOf, outcomeOf, nOf, lOf, atcRecord, rowRecord, extractLeft}
 use Rattle.corners.specs.Corners.{raisedBy, cornerFlows, judgeCorners, cornersLeft}
 use Rattle.cornertext.specs.CornerText.{cornersText, cornerTextLeft}
@@ -23,5 +23,5 @@ use Rattle.text.specs.Written.{textOf, decimal, decimalℤ, fieldsText, lineTex
 use Rattle.writing.specs.Writing.{tableText, textLeft, writeLeft}
 
 unfoldable pub computing : Unit {0}
-unfolding linesAt loadOf rowsOf kept gridOf marginOf startOf resultOf atcOf leftOf judgeStart outcomeOf nOf lOf atcRecord rowRecord extractLeft raisedBy cornerFlows judgeCorners cornersLeft cornersText cornerTextLeft headerFits zoneFits exists borderFits borderOf shareOf rowOf rowFits factorFits worth then either unless refuseAt refuseFirst need grains f0coreOf fuafOf baseOf amrOf signedFactor pOf ltaKw cornerPart cornerSum sOf ltaMarginOf ramOf ramAt highest lowest spreadOf shifted below stateOf ifZero sum count largest lesser least orZero table firstFrom given maxℤ minℤ positivePart sameℤ inside sumℤ headerLine zoneLine borderLine rowLine oneSheet everySheet linesOf readText readLeft atcText marginText resultText refusalText answerText resultTextLeft answerLeft sharers raise alone raises load lowered risen apply next raised counted run extract mostSharers bitsTo bits aloneBits stretch twice roomFor judgeLent numberAt signedAt shareAt signedsAt textOf decimal decimalℤ fieldsText lineText linesText tableText textLeft writeLeft
+unfolding linesAt loadOf rowsOf kept gridOf startOf resultOf atcOf leftOf judgeStart outcomeOf nOf lOf atcRecord rowRecord extractLeft raisedBy cornerFlows judgeCorners cornersLeft cornersText cornerTextLeft headerFits zoneFits exists borderFits borderOf shareOf rowOf rowFits factorFits worth then either unless refuseAt refuseFirst need grains f0coreOf fuafOf baseOf amrOf signedFactor pOf ltaKw cornerPart cornerSum sOf ltaMarginOf ramOf ramAt highest lowest spreadOf shifted below stateOf ifZero sum count largest lesser least orZero table firstFrom given maxℤ minℤ positivePart sameℤ inside sumℤ headerLine zoneLine borderLine rowLine oneSheet everySheet linesOf readText readLeft atcText marginText resultText refusalText answerText resultTextLeft answerLeft sharers raise alone raises load lowered risen apply next raised counted run extract mostSharers bitsTo bits aloneBits stretch twice roomFor judgeLent numberAt signedAt shareAt signedsAt textOf decimal decimalℤ fieldsText lineText linesText tableText textLeft writeLeft
 computing = tt

@@ -2,8 +2,9 @@
 // A range is given once, on the type that carries the value, and that type's constructor judges by it.
 // The tests of a record are joined by `&`: each may be made whatever the others say, so judging has no branch.
 ghost use mathlib.Core.Path.{_≡_};
+ghost use mathlib.Core.Bool.{true};
 ghost use mathlib.Core.List.{[], _∷_};
-ghost use Rattle.kinds.specs.Ranges.{headerFits, exists, borderFits, shareOf, rowFits, factorFits, worth};
+ghost use Rattle.kinds.specs.Ranges.{headerFits, exists, borderFits, borderOf, shareOf, rowFits, rowOf, factorFits, worth};
 ghost use Rattle.kinds.specs.Kinds.{headerRead, zoneRead, borderRead, rowRead};
 
 // The counts of the H line.
@@ -112,13 +113,24 @@ impl Border {
         let to = raw[1];
         let lta = raw[2];
         if Border::fits(zones, from, to, lta) {
-            BorderRead::Good(Border {
-                from: from as usize,
-                to: to as usize,
-                lta: lta as u64,
-            })
+            BorderRead::Good(Border::judged(zones, raw))
         } else {
             BorderRead::Out
+        }
+    }
+
+    // A judged record as its value. It was judged once, so no test is made here.
+    pub fn judged(zones: usize, raw: BorderRecord) -> Border
+        requires { ⌜ borderFits zones raw ≡ true ⌝ }
+        ensures { λ r. ⌜ r ≡ borderOf raw ⌝ }
+    {
+        let from = raw[0];
+        let to = raw[1];
+        let lta = raw[2];
+        Border {
+            from: from as usize,
+            to: to as usize,
+            lta: lta as u64,
         }
     }
 
@@ -227,17 +239,32 @@ impl Row {
         let cva = raw[5];
         let iva = raw[6];
         if Row::fits(fmax, frm, fref, f0all, share, cva, iva) {
-            RowRead::Good(Row {
-                fmax: fmax,
-                frm: frm,
-                fref: fref,
-                f0all: f0all,
-                share: Share::of(share),
-                cva: cva,
-                iva: iva,
-            })
+            RowRead::Good(Row::judged(raw))
         } else {
             RowRead::Out
+        }
+    }
+
+    // A judged record as its value, likewise.
+    pub fn judged(raw: RowRecord) -> Row
+        requires { ⌜ rowFits raw ≡ true ⌝ }
+        ensures { λ r. ⌜ r ≡ rowOf raw ⌝ }
+    {
+        let fmax = raw[0];
+        let frm = raw[1];
+        let fref = raw[2];
+        let f0all = raw[3];
+        let share = raw[4];
+        let cva = raw[5];
+        let iva = raw[6];
+        Row {
+            fmax: fmax,
+            frm: frm,
+            fref: fref,
+            f0all: f0all,
+            share: Share::of(share),
+            cva: cva,
+            iva: iva,
         }
     }
 

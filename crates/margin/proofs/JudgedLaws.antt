@@ -1,4 +1,4 @@
--- What a judged record gives to the functions of this crate: its value and its ranges; the same of a judged table's parts. No contract cites this file.
+-- What a judged record gives to the functions of this crate, its ranges, and the same of a judged table's parts. No contract cites this file.
 -- Assumes nothing.
 use mathlib.Core.Path.{_≡_, ap, _∙_}
 use mathlib.Core.Bool.{true}
@@ -13,13 +13,8 @@ use Rattle.numbers.proofs.IntLaws.{within-le, all-part, between-within}
 use Rattle.kinds.specs.declared.Header.{Header}
 use Rattle.kinds.specs.declared.Border.{Border}
 use Rattle.kinds.specs.declared.Row.{Row}
-use Rattle.kinds.specs.declared.BorderRead.{BorderRead}
-use Rattle.kinds.specs.declared.BorderRead.the-variants as border
-use Rattle.kinds.specs.declared.RowRead.{RowRead}
-use Rattle.kinds.specs.declared.RowRead.the-variants as row
 use Rattle.kinds.specs.Limits.{bordersMost, ltaMost}
 use Rattle.kinds.specs.Ranges.{atℤ, borderFits, borderOf, rowFits, rowOf}
-use Rattle.kinds.specs.Kinds.{borderRead, rowRead}
 use Rattle.kinds.proofs.KindLaws.{header-in, zone-in, border-in, row-in, share-in, factor-in}
 use Rattle.table.specs.Table.{Table, stretch}
 use Rattle.table.specs.Good.{Good}
@@ -27,38 +22,18 @@ use Rattle.margin.specs.Margin.{ltaKw, sOf}
 use Rattle.margin.specs.Bounds.{RowBound, FactorsBound, TableFactorsBound, NetsBound, BorderBound, BordersBound, sMost}
 use Rattle.margin.proofs.BoundLaws.{s-most}
 
--- ---- a border that fits is read as itself
+-- ---- a border that fits, and a value that is this border
 module _ (zones : ℕ) (raw : List ℤ) (fits : borderFits zones raw ≡ true) where
-  border-good : borderRead zones raw ≡ border.Good (borderOf raw)
-  unfolding borderRead
-  border-good = rw fits
-
-  pub border-is : {r : BorderRead} {x : Border} → r ≡ borderRead zones raw → r ≡ border.Good x → x ≡ borderOf raw
-  border-is e k = cc border-good
-
-  pub border-never : {A : Type 0} {r : BorderRead} → r ≡ borderRead zones raw → r ≡ border.Out → A
-  border-never e k = let z : _≡_ {A = ℕ} 0 1 = cc border-good in absurd (omega arith)
-
   pub border-bound : BorderBound zones (borderOf raw)
   border-bound =
       let b = border-in zones raw fits in
       record { from-in = b .from-below; to-in = b .to-below; lta-in = b .lta-most }
 
-  pub border-read-bound : {r : BorderRead} {x : Border} → r ≡ borderRead zones raw → r ≡ border.Good x → BorderBound zones x
-  border-read-bound e k = rw (border-is e k) border-bound
+  pub border-judged : {border : Border} → border ≡ borderOf raw → BorderBound zones border
+  border-judged e = rw e border-bound
 
 -- ---- a row likewise
 module _ (raw : List ℤ) (fits : rowFits raw ≡ true) where
-  row-good : rowRead raw ≡ row.Good (rowOf raw)
-  unfolding rowRead
-  row-good = rw fits
-
-  pub row-is : {r : RowRead} {x : Row} → r ≡ rowRead raw → r ≡ row.Good x → x ≡ rowOf raw
-  row-is e k = cc row-good
-
-  pub row-never : {A : Type 0} {r : RowRead} → r ≡ rowRead raw → r ≡ row.Out → A
-  row-never e k = let z : _≡_ {A = ℕ} 0 1 = cc row-good in absurd (omega arith)
-
   pub row-bound : RowBound (rowOf raw)
   unfolding rowOf
   row-bound =
@@ -73,8 +48,8 @@ module _ (raw : List ℤ) (fits : rowFits raw ≡ true) where
         iva-in = between-within (r .iva);
       }
 
-  pub row-read-bound : {r : RowRead} {x : Row} → r ≡ rowRead raw → r ≡ row.Good x → RowBound x
-  row-read-bound e k = rw (row-is e k) row-bound
+  pub row-judged : {row : Row} → row ≡ rowOf raw → RowBound row
+  row-judged e = rw e row-bound
 
 -- ---- a row's stretch of the factors
 module _ {h : Header} {f : List ℤ} (bound : TableFactorsBound h f) (i : ℕ) (below : i < h .rows) where

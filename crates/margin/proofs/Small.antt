@@ -3,19 +3,19 @@
 -- Assumes nothing.
 use Prim.Native.Nat.{ℕ, _+_, _*_, _^_, _≤_, _<_}
 use native.Mathlib.Omega.{arith}
-use lib.IntN.{ℤ, pos, natAbs, _-ℤ_}
+use lib.IntN.{ℤ, pos, natAbs}
 use lib.ListN.{getD}
 use lib.Signed.{_≤ℤ_}
 use mathlib.Core.List.{[]}
 use mathlib.Core.Path.{refl, sym, subst}
 use Rattle.numbers.specs.Ints.{Within}
 use Rattle.numbers.proofs.IntLaws.{Between, diffs, zarith}
-use Rattle.kinds.specs.Limits.{zonesMost, fmaxMost, flowMost, shareMost, vaMost}
+use Rattle.kinds.specs.Limits.{zonesMost, fmaxMost, flowMost, shareMost}
 use Rattle.kinds.proofs.KindLaws.{row-in}
 use Rattle.table.specs.Table.{Table, rowAt, factorsAt}
 use Rattle.table.specs.Good.{Good}
-use Rattle.margin.specs.Margin.{f0coreOf, fuafOf, baseOf, amrOf, ltaMarginOf, sAt, ramAt}
-use Rattle.margin.specs.Bounds.{RowBound, BordersBound, f0coreMost, sMost}
+use Rattle.margin.specs.Margin.{f0coreOf, fuafOf, baseOf, amrOf, ltaMarginOf, sAt, ramAt, marginOf}
+use Rattle.margin.specs.Bounds.{RowBound, BordersBound, f0coreMost, sMost, ramMost}
 use Rattle.margin.proofs.BoundLaws.{within-f0core, within-fuaf, within-base, within-amr, lta-margin-most, within-ram, within-start}
 use Rattle.margin.proofs.JudgedLaws.{row-bound, stretch-long, stretch-bound, s-bound, good-factors, good-borders, good-nets}
 
@@ -31,10 +31,10 @@ pub record NamedSmall (t : Table) (i : ℕ) : Type 0 where
   pub fuaf : natAbs (fuafOf (rowAt t i) (f0coreAt t i)) < 2 ^ 48
   pub base : natAbs (baseOf (rowAt t i) (f0coreAt t i)) < 2 ^ 48
   pub amr : natAbs (amrOf (rowAt t i) (f0coreAt t i)) < 2 ^ 48
-  pub s : sAt t i < 2 ^ 48
-  pub lta-margin : natAbs (ltaMarginOf (rowAt t i) (f0coreAt t i) (amrOf (rowAt t i) (f0coreAt t i)) (sAt t i)) < 2 ^ 48
+  pub s : sAt (t .header) (t .borders) (t .factors) i < 2 ^ 48
+  pub lta-margin : natAbs (ltaMarginOf (rowAt t i) (f0coreAt t i) (amrOf (rowAt t i) (f0coreAt t i)) (sAt (t .header) (t .borders) (t .factors) i)) < 2 ^ 48
   pub ram : natAbs (ramAt t i) < 2 ^ 48
-  pub start : natAbs (ramAt t i -ℤ pos (sAt t i)) < 2 ^ 48
+  pub start : natAbs (marginOf t i) < 2 ^ 48
 
 module _ {t : Table} (good : Good t) (i : ℕ) (below : i < t .header .rows) where
   -- the row's values, its F0core and its S
@@ -52,7 +52,10 @@ module _ {t : Table} (good : Good t) (i : ℕ) (below : i < t .header .rows) whe
       within-f0core (rowAt t i) (row-in-range .fref-in) (factorsAt t i) (t .nets) (omega (arith, long, n .long)) (stretch-bound f i below .each) (n .each) zonesMost
       (omega (arith, n .long, f .few))
 
-  pub s-in : sAt t i ≤ sMost
+  abbrev s : ℕ
+  s = sAt (t .header) (t .borders) (t .factors) i
+
+  pub s-in : s ≤ sMost
   s-in =
       s-bound (stretch-bound (good-factors good) i below)
       (subst (λ (n : ℕ). BordersBound n (t .borders)) (sym (stretch-long (good-factors good) i below)) (good-borders good)) refl
@@ -61,13 +64,13 @@ module _ {t : Table} (good : Good t) (i : ℕ) (below : i < t .header .rows) whe
   abbrev top : ℕ
   top = shareMost * fmaxMost * 10 + (f0coreMost + flowMost * 100000)
 
-  pub ram-in : Within (top + vaMost * 100000 + vaMost * 100000) (ramAt t i)
+  pub ram-in : Within ramMost (ramAt t i)
   unfolding ramAt
-  ram-in = within-ram row-in-range f0core-in top (sAt t i) (omega (arith, s-in)) (omega arith) (omega arith) (omega arith)
+  ram-in = within-ram row-in-range f0core-in top s (omega (arith, s-in)) (omega arith) (omega arith) (omega arith)
 
-  pub start-in : Within (top + vaMost * 100000 + vaMost * 100000) (ramAt t i -ℤ pos (sAt t i))
+  pub start-in : Within ramMost (marginOf t i)
   unfolding ramAt
-  start-in = within-start row-in-range f0core-in top (sAt t i) (omega (arith, s-in)) (omega arith) (omega arith) (omega arith)
+  start-in = within-start row-in-range f0core-in top s (omega (arith, s-in)) (omega arith) (omega arith) (omega arith)
 
   pub named-values-small : NamedSmall t i
   named-values-small =
@@ -77,7 +80,7 @@ module _ {t : Table} (good : Good t) (i : ℕ) (below : i < t .header .rows) whe
         base = omega (arith, within-base row-in-range f0core-in .abs);
         amr = omega (arith, within-amr row-in-range f0core-in .abs);
         s = omega (arith, s-in);
-        lta-margin = omega (arith, lta-margin-most row-in-range f0core-in fmax-low (sAt t i) .abs, s-in);
+        lta-margin = omega (arith, lta-margin-most row-in-range f0core-in fmax-low s .abs, s-in);
         ram = omega (arith, ram-in .abs);
         start = omega (arith, start-in .abs);
       }

@@ -1,4 +1,4 @@
--- What a function on one row asks of the row's values, by 01's ranges, and how large F0core, AMR and S can then be, in grains.
+-- What a function on one row asks of the row's values, by 01's ranges, and how large F0core, AMR, S and RAM can then be, in grains.
 -- That a judged table gives all of it is proved (`BoundLaws.antt`).
 -- Assumes nothing.
 use mathlib.Core.Path.{_≡_}
@@ -59,7 +59,7 @@ pub record BordersBound (zones : ℕ) (borders : List (List ℤ)) : Type 0 where
   pub few : length borders ≤ bordersMost
   pub each : (b : ℕ) → b < length borders → borderFits zones (getD borders b []) ≡ true
 
--- the most that F0core, AMR and S can be, in magnitude
+-- the most that F0core, AMR, S and RAM can be, in magnitude
 abbrev pub f0coreMost : ℕ
 f0coreMost = flowMost * 100000 + zonesMost * (factorMost * netMost)
 
@@ -68,3 +68,6 @@ amrMost = shareMost * fmaxMost * 10 + flowMost * 100000 + fmaxMost * 420000 + f0
 
 abbrev pub sMost : ℕ
 sMost = bordersMost * (2 * factorMost * (ltaMost * 1000))
+
+abbrev pub ramMost : ℕ
+ramMost = shareMost * fmaxMost * 10 + (f0coreMost + flowMost * 100000) + vaMost * 100000 + vaMost * 100000

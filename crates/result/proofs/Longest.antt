@@ -58,14 +58,14 @@ module _ (r : Result) (u : Bounded r) where
   margin-longest : (i : ℕ) → i < r .header .rows → length (marginText r i) ≤ 41
   unfolding marginText
   margin-longest i h =
-      let left = cond (kept (r .rows) i) (decimal (leftOf r i)) (dash ∷ []) in
+      let left = cond (kept (r .rows .states) i) (decimal (leftOf r i)) (dash ∷ []) in
       omega (
         arith,
         four-length 77 (decimal i) (decimal (at (r .rows .states) i)) (decimalℤ (atℤ (r .rows .rams) i)) left,
         decimal-most 3 i (omega arith) (omega (arith, u .rows)),
         decimal-most 1 (at (r .rows .states) i) (omega arith) (u .states i h),
         signed-most (atℤ (r .rows .rams) i) 15 (omega arith) (fifteen (u .rams i h)),
-        field-most (kept (r .rows) i) (decimal (leftOf r i)) 15 (omega arith) (decimal-most 15 (leftOf r i) (omega arith) (fifteen (u .lefts i h))),
+        field-most (kept (r .rows .states) i) (decimal (leftOf r i)) 15 (omega arith) (decimal-most 15 (leftOf r i) (omega arith) (fifteen (u .lefts i h))),
       )
 
   -- 40 lines of 18 bytes, 200 of 41, and one of 7

@@ -150,7 +150,7 @@ module _ (r : Result) where
   atc-text b = refl
 
   -- the margin left stands in the text exactly where the state is 0, and is never below 0 there
-  left-text : (i : ℕ) → leftField (pos (at (r .rows .states) i)) (cond (kept (r .rows) i) (pos (leftOf r i)) (minus 1)) ≡ cond (kept (r .rows) i) (decimal (leftOf r i)) (dash ∷ [])
+  left-text : (i : ℕ) → leftField (pos (at (r .rows .states) i)) (cond (kept (r .rows .states) i) (pos (leftOf r i)) (minus 1)) ≡ cond (kept (r .rows .states) i) (decimal (leftOf r i)) (dash ∷ [])
   unfolding leftField sameℤ kept decimalℤ
   left-text i = go (eqb (at (r .rows .states) i) 0)
     where

@@ -23,7 +23,7 @@ atcText r b = lineText (code "A") (decimal b ∷ decimal (atcOf r b) ∷ [])
 unfoldable pub marginText : Result → (i : ℕ) → List ℕ
 marginText r i =
     lineText (code "M") (decimal i ∷ decimal (at (r .rows .states) i) ∷ decimalℤ (atℤ (r .rows .rams) i)
-    ∷ cond (kept (r .rows) i) (decimal (leftOf r i)) (dash ∷ []) ∷ [])
+    ∷ cond (kept (r .rows .states) i) (decimal (leftOf r i)) (dash ∷ []) ∷ [])
 
 -- .. and R, rounds
 unfoldable pub resultText : Result → List ℕ

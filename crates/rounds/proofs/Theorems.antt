@@ -19,11 +19,11 @@ use Rattle.rounds.proofs.Laid.{grid, laid-extract}
 -- ---- a round
 
 -- margins never go below 0: what a round takes from a row is within its margin
-pub loss-within-margin : (g : Grid) (m : List ℕ) (r : ℕ) → r < g .rows → load g r (raises g m) ≤ at m r
+pub loss-within-margin : (g : Grid) (m : List ℕ) (i : ℕ) → i < g .rows → load g i (raises g m) ≤ at m i
 loss-within-margin = one.load-fits
 
 -- what a row loses is the sum of p times raise, and it keeps the rest
-pub margin-less-loss : (g : Grid) (s : State) (r : ℕ) → r < g .rows → at (next g s .margins) r + load g r (raises g (s .margins)) ≡ at (s .margins) r
+pub margin-less-loss : (g : Grid) (s : State) (i : ℕ) → i < g .rows → at (next g s .margins) i + load g i (raises g (s .margins)) ≡ at (s .margins) i
 margin-less-loss = one.next-margin
 
 -- raises of a border never grow from round to round
@@ -41,11 +41,11 @@ pub unique : {g : Grid} {s t t′ : State} {k k′ : ℕ} → Rounds g s k t →
 unique = all.unique
 
 -- at the end each border that some row loads has a row that stops it: its share is under 1 kW, and is the smallest
-pub stopped : {g : Grid} {s t : State} {k : ℕ} → Rounds g s k t → (r b : ℕ) → r < g .rows → b < g .borders → 0 < g .p r b → Smallest (g .rows) (λ r. g .p r b) (λ r. at (t .margins) r / sharers g r / g .p r b) 0
+pub stopped : {g : Grid} {s t : State} {k : ℕ} → Rounds g s k t → (i b : ℕ) → i < g .rows → b < g .borders → 0 < g .p i b → Smallest (g .rows) (λ i. g .p i b) (λ i. at (t .margins) i / sharers g i / g .p i b) 0
 unfolding raise
-stopped {g} {s} {t} w r b hr hb hp =
-    subst (λ (v : ℕ). Smallest (g .rows) (λ r. g .p r b) (λ r. at (t .margins) r / sharers g r / g .p r b) v) (all.ended-at w b hb)
-    (least-some (g .rows) (λ r. g .p r b) (λ r. at (t .margins) r / sharers g r / g .p r b) r hr hp)
+stopped {g} {s} {t} w i b hi hb hp =
+    subst (λ (v : ℕ). Smallest (g .rows) (λ i. g .p i b) (λ i. at (t .margins) i / sharers g i / g .p i b) v) (all.ended-at w b hb)
+    (least-some (g .rows) (λ i. g .p i b) (λ i. at (t .margins) i / sharers g i / g .p i b) i hi hp)
 
 -- L of 01: each border's raise alone at the start is under 2^L ..
 pub alone-under : (g : Grid) (m : List ℕ) (b : ℕ) → b < g .borders → alone g m b < 2 ^ aloneBits g m
@@ -74,23 +74,23 @@ pub extract-demand3 : (g : Grid) (s : State) → Demand3 g s (extract g s .round
 extract-demand3 g s = demand3 (all.extracts g s)
 
 -- with at most B borders and margins under 2^E there are at most 2 B E rounds (40 and 48: 3,840)
-pub most-rounds : {g : Grid} {s t : State} {k : ℕ} → Rounds g s k t → (B E : ℕ) → g .borders ≤ B → ((r : ℕ) → r < g .rows → at (s .margins) r < 2 ^ E) → k ≤ 2 * B * E
+pub most-rounds : {g : Grid} {s t : State} {k : ℕ} → Rounds g s k t → (B E : ℕ) → g .borders ≤ B → ((i : ℕ) → i < g .rows → at (s .margins) i < 2 ^ E) → k ≤ 2 * B * E
 unfolding mostSharers sharers
 most-rounds {g} {s} w B E hb hm =
     le-trans
     (all.rounds-bound w E (λ b h. one.alone-lt g (s .margins) b (2 ^ E) (two-pow-pos E) hm))
-    (mul-le-mul-right E (mul-le-mul-left 2 (largest-under (g .rows) (sharers g) B (λ r h. le-trans (count-le (g .borders) (g .p r)) hb))))
+    (mul-le-mul-right E (mul-le-mul-left 2 (largest-under (g .rows) (sharers g) B (λ i h. le-trans (count-le (g .borders) (g .p i)) hb))))
 
 -- one border alone: 0 rounds or 1, whatever the rows
 pub one-border : {g : Grid} {s t : State} {k : ℕ} → Rounds g s k t → g .borders ≡ 1 → k ≤ 1
 one-border = all.one-border
 
 -- two grids that agree on p give equal runs: it does not matter where p stands
-pub same-factors : (rows borders : ℕ) (p p′ : ℕ → ℕ → ℕ) → ((r b : ℕ) → r < rows → b < borders → p r b ≡ p′ r b) → (s : State) → extract (grid rows borders p) s ≡ extract (grid rows borders p′) s
+pub same-factors : (rows borders : ℕ) (p p′ : ℕ → ℕ → ℕ) → ((i b : ℕ) → i < rows → b < borders → p i b ≡ p′ i b) → (s : State) → extract (grid rows borders p) s ≡ extract (grid rows borders p′) s
 same-factors = laid-extract
 
 -- the edge figure, for every p: margin 3 p, n 2 gives a raise of 1 kW
-pub half-again : (p : ℕ) → 0 < p → raise (grid 1 2 (λ r b. p)) (3 * p ∷ []) 0 ≡ 1
+pub half-again : (p : ℕ) → 0 < p → raise (grid 1 2 (λ i b. p)) (3 * p ∷ []) 0 ≡ 1
 unfolding raise sharers least lesser orZero count ifZero
 half-again zero h = absurd (not-suc-le-zero h)
 half-again (suc p) h = div-swap (3 * suc p) 2 (suc p) ∙ ap (λ (v : ℕ). v / 2) (mul-div-cancel 3 (zero-lt-suc p))

@@ -5,119 +5,167 @@ use mathlib.Core.Path.{_≡_, sym, ap, ap₂, subst, _∙_}
 use mathlib.Core.Bool.{Bool, true, false, cond, not, _&&_}
 use mathlib.Core.List.{List, [], _++_}
 use mathlib.Core.Option.{Option, none, some}
-use Prim.Native.Nat.{ℕ, suc, _+_, _*_, _/_, _≤_, _<_}
-use native.Mathlib.Nat.{add-zero, mul-le-mul-right, suc-mul, div-lt-iff-lt-mul, div-eq-of-lt, mod-eq-of-lt, mul-add-div-right, mul-add-mod-self-right}
+use mathlib.Core.Logic.{⊎-elim}
+use Prim.Native.Nat.{ℕ, suc, _+_, _*_, _/_, _%_, _≤_, _<_}
+use native.Mathlib.Nat.{zero-mul, add-zero, mul-le-mul-right, suc-mul, div-eq-of-lt, mod-eq-of-lt, mul-add-div-right, mul-add-mod-self-right}
+use native.Mathlib.Numerals.{add-one}
 use native.Mathlib.Omega.{arith}
-use lib.Dec.{ltb, eqb}
+use lib.Dec.{ltb}
 use lib.IntN.{ℤ, pos}
-use lib.ListN.{length, getD, drop}
+use lib.ListN.{length, getD, set, drop, length-set}
+use lib.Seq.{getD-set-same, getD-set-other}
 use lib.Signed.{ltZ}
-use Rattle.numbers.specs.Ints.{AllWithin}
+use Rattle.numbers.specs.Ints.{positivePart}
 use Rattle.numbers.specs.Below.{at, table, firstFrom, given, someBelow}
-use Rattle.numbers.proofs.BelowLaws.{first-cong, table-long, table-get}
+use Rattle.numbers.proofs.BelowLaws.{lt-suc-cases, first-cong, table-long, table-get, table-of}
 use Rattle.kinds.specs.declared.Header.{Header}
 use Rattle.kinds.specs.declared.Judgement.{Judgement}
 use Rattle.kinds.specs.Answers.{ruled}
 use Rattle.kinds.specs.Limits.{bordersMost}
-use Rattle.kinds.specs.Ranges.{borderOf}
-use Rattle.kinds.specs.Refusals.{Judged, passed, refused, refuseFirst, noRow, unlimited, belowZero}
+use Rattle.kinds.specs.Ranges.{atℤ, borderOf}
+use Rattle.kinds.specs.Refusals.{Judged, passed, refused, unless, refuseAt, refuseFirst, noRow, unlimited, belowZero}
 use Rattle.kinds.proofs.RefusalLaws.{unless-ok, unless-refused, first-found, first-none-next}
-use Rattle.table.specs.Table.{Table, lent, factorsAt}
-use Rattle.table.specs.Good.{Good}
+use Rattle.table.specs.Table.{Table, stretch}
 use Rattle.rounds.specs.Rounds.{Grid}
 use Rattle.rounds.specs.Work.{flat}
-use Rattle.margin.specs.Margin.{ltaKw, ramAt, ramsOf}
-use Rattle.margin.proofs.Small.{named-values-small}
+use Rattle.margin.specs.Margin.{ltaKw, ramAt, ramsOf, startsOf}
 use Rattle.states.specs.States.{spreadOf, shifted, below, stateOf, statesOf}
-use Rattle.start.specs.Start.{Rows, rowsOf, kept, gridOf, marginOf, startOf, judgeStart}
-use Rattle.start.specs.Filled.{part, rowsWith, ramMost, ltas, exchangesOf, cells, Prepared, prepared, preparedOf}
+use Rattle.start.specs.Start.{Rows, rowsOf, kept, gridOf, startOf, judgeStart, tableGrid, tableStart, judgeTable}
+use Rattle.start.specs.Filled.{rowsWith, ltas, exchangesOf, cells, Prepared, prepared, preparedOf}
 
 -- ---- a grid in one list
 module _ {rows borders : ℕ} where
   pub cell-within : (i b : ℕ) → i < rows → b < borders → i * borders + b < rows * borders
   cell-within i b hi hb = omega (arith, suc-mul i borders, mul-le-mul-right {m = suc i} {n = rows} borders hi)
 
-  pub cell-row : (k : ℕ) → 0 < borders → k < rows * borders → k / borders < rows
-  cell-row k z h = div-lt-iff-lt-mul {k = borders} {x = k} {y = rows} z .1 h
-
-pub cells-at : (g : Grid) (i b : ℕ) → i < g .rows → b < g .borders → at (cells g) (i * g .borders + b) ≡ g .p i b
-cells-at g i b hi hb =
+-- what stands at row i and border b in a list of cells
+pub cell-is : (g : Grid) (i b : ℕ) → b < g .borders → g .p ((i * g .borders + b) / g .borders) ((i * g .borders + b) % g .borders) ≡ g .p i b
+cell-is g i b hb =
     let z : 0 < g .borders = omega arith in
-    table-get (g .rows * g .borders) _ _ 0 (cell-within i b hi hb)
-    ∙ ap₂ (g .p)
+    ap₂ (g .p)
     (mul-add-div-right z i b ∙ ap (λ (q : ℕ). i + q) (div-eq-of-lt hb) ∙ add-zero i)
     (mul-add-mod-self-right i (g .borders) b ∙ mod-eq-of-lt hb)
 
--- ---- which of 5, 6 and 7 decides, with the factors in one list
-module _ (t : Table) (m : Rows) (p : List ℕ) (long : length (m .states) ≡ t .header .rows) (flat-p : p ≡ cells (gridOf t m)) where
+pub cells-at : (g : Grid) (i b : ℕ) → i < g .rows → b < g .borders → at (cells g) (i * g .borders + b) ≡ g .p i b
+cells-at g i b hi hb = table-get (g .rows * g .borders) _ _ 0 (cell-within i b hi hb) ∙ cell-is g i b hb
+
+-- ---- filling the cells, row after row: those before row i and border b are the grid's
+pub record FilledTo (g : Grid) (p : List ℕ) (i b : ℕ) : Type 0 where
+  pub row : i ≤ g .rows
+  pub border : b ≤ g .borders
+  pub long : length p ≡ g .rows * g .borders
+  pub filled : (j : ℕ) → j < i * g .borders + b → at p j ≡ g .p (j / g .borders) (j % g .borders)
+
+pub filled-to-none : (g : Grid) (p : List ℕ) → length p ≡ g .rows * g .borders → FilledTo g p 0 0
+filled-to-none g p l =
+    record { row = omega arith; border = omega arith; long = l; filled = λ j h. let n : ⊥ = omega (arith, zero-mul (g .borders)) in absurd n }
+
+module _ {g : Grid} {p : List ℕ} {i b : ℕ} (u : FilledTo g p i b) (hi : i < g .rows) where
+  pub filled-to-place : b < g .borders → i * g .borders + b < length p
+  filled-to-place hb = omega (arith, u .long, cell-within {rows = g .rows} {borders = g .borders} i b hi hb)
+
+  pub filled-to-more : b < g .borders → (v : ℕ) → v ≡ g .p i b → FilledTo g (set p (i * g .borders + b) v) i (b + 1)
+  filled-to-more hb v e =
+      let k : ℕ = i * g .borders + b in
+      record {
+        row = u .row;
+        border = omega arith;
+        long = simp length-set (u .long);
+        filled = λ j h.
+            ⊎-elim
+            (λ a. getD-set-other p k j v 0 (λ y. omega arith) ∙ u .filled j a)
+            (λ y.
+            ap (at (set p k v)) y ∙ getD-set-same p k v 0 (filled-to-place hb) ∙ e ∙ sym (cell-is g i b hb)
+            ∙ ap (λ (x : ℕ). g .p (x / g .borders) (x % g .borders)) (sym y))
+            (lt-suc-cases j k (omega arith));
+      }
+
+  pub filled-to-row : g .borders ≤ b → FilledTo g p (i + 1) 0
+  filled-to-row h =
+      record {
+        row = omega arith;
+        border = omega arith;
+        long = u .long;
+        filled = λ j l. u .filled j (omega (arith, u .border, suc-mul i (g .borders), ap (λ (x : ℕ). x * g .borders) (add-one i)));
+      }
+
+pub filled-to-all : {g : Grid} {p : List ℕ} {i : ℕ} → FilledTo g p i 0 → g .rows ≤ i → p ≡ cells g
+filled-to-all {g} {p} {i} u h =
+    let e : i ≡ g .rows = omega (arith, u .row) in
+    table-of (g .rows * g .borders) _ p 0 (u .long) (λ j l. u .filled j (omega (arith, ap (λ (x : ℕ). x * g .borders) e)))
+
+-- ---- which of 5, 6 and 7 decides
+module _ (g : Grid) (states : List ℕ) (starts : List ℤ) where
   abbrev free : ℕ → Bool
-  free b = not (someBelow (t .header .rows) (λ i. ltb 0 (flat (t .header .rows) (t .header .borders) p .p i b)))
+  free b = not (someBelow (g .rows) (λ i. ltb 0 (g .p i b)))
 
   abbrev low : ℕ → Bool
-  low i = kept m i && ltZ (marginOf t m i) (pos 0)
+  low i = kept states i && ltZ (atℤ starts i) (pos 0)
 
-  abbrev keptAt : ℕ → Bool
-  keptAt i = eqb (at (m .states) i) 0
+  module _ (long : length states ≡ g .rows) where
+    pub none-kept : someBelow (length states) (kept states) ≡ false → refused noRow ≡ judgeStart g states starts
+    unfolding judgeStart
+    none-kept e = sym (unless-refused _ _ (subst (λ (n : ℕ). someBelow n (kept states) ≡ false) long e))
 
-  -- the flat table of p agrees with the grid at every row and border
-  free-is : firstFrom (t .header .borders) 0 free ≡ firstFrom (t .header .borders) 0 (λ b. not (someBelow (t .header .rows) (λ i. ltb 0 (gridOf t m .p i b))))
-  unfolding gridOf
-  free-is =
-      first-cong (t .header .borders) _ _ (λ b hb. ap (λ (o : Option ℕ). not (given o))
-      (first-cong (t .header .rows) _ _ (λ i hi. ap (ltb 0) (ap (λ (ps : List ℕ). at ps (i * t .header .borders + b)) flat-p ∙ cells-at (gridOf t m) i b hi hb))))
+    module _ (k : someBelow (length states) (kept states) ≡ true) where
+      past-kept : judgeStart g states starts ≡ refuseFirst (g .borders) free unlimited (refuseFirst (g .rows) low belowZero (passed states))
+      unfolding judgeStart
+      past-kept = unless-ok _ _ (subst (λ (n : ℕ). someBelow n (kept states) ≡ true) long k)
 
-  pub none-kept : someBelow (length (m .states)) keptAt ≡ false → refused noRow ≡ judgeStart t m
-  unfolding judgeStart kept
-  none-kept e = sym (unless-refused _ _ (subst (λ (n : ℕ). someBelow n keptAt ≡ false) long e))
+      pub border-free : (b : ℕ) → some b ≡ firstFrom (g .borders) 0 free → refused (unlimited b) ≡ judgeStart g states starts
+      border-free b e = sym (past-kept ∙ first-found _ _ _ _ (sym e))
 
-  module _ (k : someBelow (length (m .states)) keptAt ≡ true) where
-    past-kept : judgeStart t m ≡ refuseFirst (t .header .borders) (λ b. not (someBelow (t .header .rows) (λ i. ltb 0 (gridOf t m .p i b)))) unlimited (refuseFirst (t .header .rows) low belowZero (passed m))
-    unfolding judgeStart kept
-    past-kept = unless-ok _ _ (subst (λ (n : ℕ). someBelow n keptAt ≡ true) long k)
+      module _ (u : none ≡ firstFrom (g .borders) 0 free) where
+        past-free : judgeStart g states starts ≡ refuseFirst (g .rows) low belowZero (passed states)
+        past-free = past-kept ∙ first-none-next _ _ _ _ (sym u)
 
-    pub border-free : (b : ℕ) → some b ≡ firstFrom (t .header .borders) 0 free → refused (unlimited b) ≡ judgeStart t m
-    border-free b e = sym (past-kept ∙ first-found _ _ _ _ (sym (e ∙ free-is)))
+        of-rows : firstFrom (length states) 0 low ≡ firstFrom (g .rows) 0 low
+        of-rows = ap (λ (n : ℕ). firstFrom n 0 low) long
 
-    module _ (u : none ≡ firstFrom (t .header .borders) 0 free) where
-      past-free : judgeStart t m ≡ refuseFirst (t .header .rows) low belowZero (passed m)
-      past-free = past-kept ∙ first-none-next _ _ _ _ (sym (u ∙ free-is))
+        pub row-below : (i : ℕ) → some i ≡ firstFrom (length states) 0 low → refused (belowZero i) ≡ judgeStart g states starts
+        row-below i e = sym (past-free ∙ first-found _ _ _ _ (sym (e ∙ of-rows)))
 
-      pub row-below : (i : ℕ) → some i ≡ firstFrom (t .header .rows) 0 low → refused (belowZero i) ≡ judgeStart t m
-      row-below i e = sym (past-free ∙ first-found _ _ _ _ (sym e))
+        pub may-start : none ≡ firstFrom (length states) 0 low → passed states ≡ judgeStart g states starts
+        may-start e = sym (past-free ∙ first-none-next _ _ _ _ (sym (e ∙ of-rows)))
 
-      pub may-start : none ≡ firstFrom (t .header .rows) 0 low → passed m ≡ judgeStart t m
-      may-start e = sym (past-free ∙ first-none-next _ _ _ _ (sym e))
+  -- the grid's factors in one list are judged as the grid is
+  module _ {p : List ℕ} (e : p ≡ cells g) where
+    free-is : firstFrom (g .borders) 0 (λ b. not (someBelow (g .rows) (λ i. ltb 0 (flat (g .rows) (g .borders) p .p i b)))) ≡ firstFrom (g .borders) 0 free
+    free-is =
+        first-cong (g .borders) _ _ (λ b hb. ap (λ (o : Option ℕ). not (given o))
+        (first-cong (g .rows) _ _ (λ i hi. ap (ltb 0) (ap (λ (ps : List ℕ). at ps (i * g .borders + b)) e ∙ cells-at g i b hi hb))))
+
+    judged-cells : judgeStart (flat (g .rows) (g .borders) p) states starts ≡ judgeStart g states starts
+    unfolding judgeStart refuseFirst
+    judged-cells = ap (λ (o : Option ℕ). unless (someBelow (g .rows) (kept states)) noRow (refuseAt o unlimited (refuseFirst (g .rows) low belowZero (passed states)))) free-is
 
 -- ---- what is filled in is what the definitions say
-pub rows-are : (t : Table) (rams : List ℤ) (states : List ℕ) → rams ≡ ramsOf t → states ≡ statesOf t rams → rowsWith rams states ≡ rowsOf t
+pub rows-are : (t : Table) (rams : List ℤ) (states : List ℕ) → rams ≡ ramsOf t → states ≡ statesOf (t .header) (t .factors) rams → rowsWith rams states ≡ rowsOf t
 unfolding rowsOf
-rows-are t rams states e u = ap₂ rowsWith e (u ∙ ap (statesOf t) e)
+rows-are t rams states e u = ap₂ rowsWith e (u ∙ ap (statesOf (t .header) (t .factors)) e)
 
--- p does not ask for the RAMs; nor do p, S and LTA for net positions and row records
-pub grid-of : (h : Header) (b : List (List ℤ)) (f rams : List ℤ) (states p : List ℕ) → p ≡ cells (gridOf (part h b f) (rowsWith [] states)) → p ≡ cells (gridOf (part h b f) (rowsWith rams states))
-unfolding gridOf kept
-grid-of h b f rams states p e = e
+abbrev startingWith : (n : ℕ) → (states : List ℕ) → (starts : List ℤ) → List ℕ
+startingWith n states starts = table n (λ i. cond (kept states i) (positivePart (atℤ starts i)) 0)
 
-module _ (h : Header) (z : List ℤ) (b c : List (List ℤ)) (f : List ℤ) (r : Judgement) (rams : List ℤ) (states p margins : List ℕ) where
-  abbrev m : Rows
-  m = rowsWith rams states
-
-  abbrev t : Table
-  t = lent h z b c f
-
-  pub prepared-by : m ≡ rowsOf t → p ≡ cells (gridOf (part h b f) m) → margins ≡ startOf (part h b f) m .margins → ruled r m ≡ judgeStart (part h b f) m → prepared r rams states p margins ≡ preparedOf t
-  unfolding judgeStart startOf marginOf gridOf kept preparedOf
-  prepared-by e u v w =
-      ap₂ {C = Prepared} (λ (ps ms : List ℕ). record { judged = ruled r m; rows = m; p = ps; margins = ms }) u v
-      ∙ ap {B = Prepared} (λ (j : Judged Rows). record { judged = j; rows = m; p = cells (gridOf t m); margins = startOf t m .margins }) w
-      ∙ ap {B = Prepared} (λ (n : Rows). record { judged = judgeStart t n; rows = n; p = cells (gridOf t n); margins = startOf t n .margins }) e
+pub prepared-by : (t : Table) (r : Judgement) {rams starts : List ℤ} {states p margins : List ℕ} → rowsWith rams states ≡ rowsOf t → starts ≡ startsOf t → length states ≡ t .header .rows
+    → p ≡ cells (gridOf (t .header) (t .borders) (t .factors) states) → margins ≡ startingWith (length states) states starts
+    → ruled r states ≡ judgeStart (flat (t .header .rows) (t .header .borders) p) states starts → prepared r rams states p margins ≡ preparedOf t
+unfolding preparedOf gridOf startOf
+prepared-by t r {rams} {starts} {states} {p} {margins} m s long u v w =
+    let grid : List ℕ → Grid = gridOf (t .header) (t .borders) (t .factors) in
+    let e : states ≡ rowsOf t .states = ap (λ (n : Rows). n .states) m in
+    let p-is : p ≡ cells (tableGrid t) = u ∙ ap (λ (ss : List ℕ). cells (grid ss)) e in
+    let margins-are : margins ≡ tableStart t .margins = v ∙ ap (λ (n : ℕ). startingWith n states starts) long ∙ ap₂ (startingWith (t .header .rows)) e s in
+    let judged : ruled r states ≡ judgeTable t = w ∙ judged-cells (grid states) states starts u ∙ ap₂ (λ (ss : List ℕ) (ms : List ℤ). judgeStart (grid ss) ss ms) e s in
+    ap₂ {C = Prepared} (λ (ps ms : List ℕ). record { judged = ruled r states; rows = rowsWith rams states; p = ps; margins = ms }) p-is margins-are
+    ∙ ap₂ {C = Prepared} (λ (j : Judged (List ℕ)) (n : Rows). record { judged = j; rows = n; p = cells (tableGrid t); margins = tableStart t .margins }) judged m
 
 -- .. and back: what the code left is what the definitions say
 pub record PreparedAs (t : Table) (r : Judgement) (rams : List ℤ) (states p margins : List ℕ) : Type 0 where
-  pub judged : ruled r (rowsWith rams states) ≡ judgeStart t (rowsOf t)
+  pub judged : ruled r states ≡ judgeTable t
   pub rows : rowsWith rams states ≡ rowsOf t
-  pub p-is : p ≡ cells (gridOf t (rowsOf t))
-  pub margins-are : margins ≡ startOf t (rowsOf t) .margins
+  pub p-is : p ≡ cells (tableGrid t)
+  pub margins-are : margins ≡ tableStart t .margins
 
 pub prepared-as : {t : Table} (r : Judgement) {rams : List ℤ} {states p margins : List ℕ} → prepared r rams states p margins ≡ preparedOf t → PreparedAs t r rams states p margins
 unfolding preparedOf
@@ -129,9 +177,9 @@ prepared-as r e =
       margins-are = ap (λ (q : Prepared). q .margins) e;
     }
 
-pub cells-long : (t : Table) (m : Rows) → length (cells (gridOf t m)) ≡ t .header .rows * t .header .borders
+pub grid-long : (h : Header) (b : List (List ℤ)) (f : List ℤ) (states : List ℕ) {p : List ℕ} → p ≡ cells (gridOf h b f states) → length p ≡ h .rows * h .borders
 unfolding gridOf
-cells-long t m = table-long (t .header .rows * t .header .borders) _
+grid-long h b f states e = ap length e ∙ table-long (h .rows * h .borders) _
 
 -- ---- exchanges
 pub exchanges-are : (b : List (List ℤ)) (ys zs : List ℕ) → ys ≡ ltas b → zs ≡ table bordersMost (λ k. 0) → ys ++ drop (length b) zs ≡ exchangesOf b
@@ -139,31 +187,27 @@ exchanges-are b ys zs e u =
     ap₂ (λ (y z : List ℕ). y ++ drop (length b) z) e u
     ∙ ap (λ (n : ℕ). ltas b ++ drop n (table bordersMost (λ k. 0))) (sym (table-long (length b) (λ k. ltaKw (borderOf (getD b k [])))))
 
--- ---- what is known of the rows of a judged table
+-- ---- what is known of the rows of a table
 pub record RowsIn (t : Table) (m : Rows) : Type 0 where
   pub rams-long : length (m .rams) ≡ t .header .rows
-  pub rams-in : AllWithin ramMost (m .rams)
   pub states-long : length (m .states) ≡ t .header .rows
   pub states-in : (i : ℕ) → i < t .header .rows → at (m .states) i ≤ 2
 
-state-most : (t : Table) (rams : List ℤ) (i : ℕ) → stateOf t rams i ≤ 2
+state-most : (h : Header) (f rams : List ℤ) (i : ℕ) → stateOf h f rams i ≤ 2
 unfolding stateOf
-state-most t rams i = go (ltZ (spreadOf (factorsAt t i)) (pos 5000)) (someBelow (t .header .rows) (λ j. below rams j i && shifted (factorsAt t j) (factorsAt t i)))
+state-most h f rams i = go (ltZ (spreadOf (stretch (h .zones) f i)) (pos 5000)) (someBelow (h .rows) (λ j. below rams j i && shifted (stretch (h .zones) f j) (stretch (h .zones) f i)))
   where
     go : (a b : Bool) → cond a 1 (cond b 2 0) ≤ 2
     go true b = omega arith
     go false true = omega arith
     go false false = omega arith
 
-pub rows-in : (t : Table) (m : Rows) → Good t → m ≡ rowsOf t → RowsIn t m
+pub rows-in : (t : Table) (m : Rows) → m ≡ rowsOf t → RowsIn t m
 unfolding rowsOf
-rows-in t m good e = subst (RowsIn t) (sym e) (record {
-  rams-long = table-long (t .header .rows) (ramAt t);
-  rams-in = record {
-    at = λ i l.
-        let h : i < t .header .rows = omega (arith, table-long (t .header .rows) (ramAt t)) in
-        rw (table-get (t .header .rows) (ramAt t) i (pos 0) h) (record { abs = omega (arith, named-values-small good i h .ram) });
-  };
-  states-long = table-long (t .header .rows) (stateOf t (ramsOf t));
-  states-in = λ i h. rw (table-get (t .header .rows) (stateOf t (ramsOf t)) i 0 h) (state-most t (ramsOf t) i);
-})
+rows-in t m e =
+    let state : ℕ → ℕ = stateOf (t .header) (t .factors) (ramsOf t) in
+    subst (RowsIn t) (sym e) (record {
+      rams-long = table-long (t .header .rows) (ramAt t);
+      states-long = table-long (t .header .rows) state;
+      states-in = λ i h. rw (table-get (t .header .rows) state i 0 h) (state-most (t .header) (t .factors) (ramsOf t) i);
+    })

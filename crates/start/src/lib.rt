@@ -1,24 +1,23 @@
 // What the rounds start from, and refusals 5, 6, 7. Margins are in grains, exchanges in kW.
 ghost use mathlib.Core.Path.{_≡_};
 ghost use mathlib.Core.Bool.{true, cond, not, _&&_};
-ghost use mathlib.Core.List.{[]};
 ghost use Prim.Native.Nat.{_*_, _<_, _≤_};
 ghost use lib.Dec.{ltb, eqb};
 ghost use lib.IntN.{pos};
 ghost use lib.ListN.{length};
 ghost use lib.Signed.{ltZ};
-ghost use Rattle.numbers.specs.Ints.{AllWithin, positivePart};
-ghost use Rattle.numbers.specs.Below.{at, firstFrom, someBelow};
+ghost use Rattle.numbers.specs.Ints.{positivePart};
+ghost use Rattle.numbers.specs.Below.{table, firstFrom, someBelow};
 ghost use Rattle.numbers.specs.First.{found};
 ghost use Rattle.kinds.specs.Answers.{ruled};
-ghost use Rattle.kinds.specs.Ranges.{headerFits, borderFits, borderOf};
+ghost use Rattle.kinds.specs.Ranges.{atℤ, borderFits, borderOf};
 ghost use Rattle.table.specs.Table.{lent};
 ghost use Rattle.table.specs.Good.{Good};
 ghost use Rattle.rounds.specs.Work.{flat};
-ghost use Rattle.margin.specs.Bounds.{TableFactorsBound, BordersBound};
-ghost use Rattle.margin.specs.Margin.{ltaKw};
-ghost use Rattle.start.specs.Start.{rowsOf, kept, gridOf, marginOf, startOf, judgeStart};
-ghost use Rattle.start.specs.Filled.{part, rowsWith, ramMost, ltas, exchangesOf, cells, prepared, preparedOf};
+ghost use Rattle.margin.specs.Bounds.{FactorsBound, TableFactorsBound, BordersBound};
+ghost use Rattle.margin.specs.Margin.{pOf, ltaKw, startsOf};
+ghost use Rattle.start.specs.Start.{rowsOf, kept, gridOf, judgeStart};
+ghost use Rattle.start.specs.Filled.{rowsWith, ltas, exchangesOf, cells, prepared, preparedOf};
 use kinds::BorderRecord;
 use kinds::Header;
 use kinds::Judgement;
@@ -26,7 +25,7 @@ use kinds::Refusal;
 use kinds::RowRecord;
 use numbers::First;
 
-// RAM and state of each row.
+// RAM, RAM - S and state of each row.
 fn fill_rows(
     h: Header,
     z: &[i64],
@@ -34,65 +33,54 @@ fn fill_rows(
     c: &[RowRecord],
     f: &[i64],
     rams: &mut [i64],
+    starts: &mut [i64],
     states: &mut [u64],
 )
     requires { ⌜ Good (lent h (now z) (now b) (now c) (now f)) ⌝ }
-    requires { ⌜ length (now rams) ≡ h .rows ⌝ }
+    requires { ⌜ (length (now rams) ≡ h .rows) × (length (now starts) ≡ h .rows) ⌝ }
     requires { ⌜ length (now states) ≡ h .rows ⌝ }
-    ensures { λ _. ⌜ rowsWith (now (rams .exit)) (now (states .exit)) ≡ rowsOf (lent h (now (z .entry)) (now (b .entry)) (now (c .entry)) (now (f .entry))) ⌝ }
+    ensures { λ _. ⌜ (rowsWith (now (rams .exit)) (now (states .exit)) ≡ rowsOf (lent h (now (z .entry)) (now (b .entry)) (now (c .entry)) (now (f .entry)))) × (now (starts .exit) ≡ startsOf (lent h (now (z .entry)) (now (b .entry)) (now (c .entry)) (now (f .entry)))) ⌝ }
 {
-    margin::fill_rams(h, z, b, c, f, rams);
+    margin::fill_rams(h, z, b, c, f, rams, starts);
     states::fill_states(h, f, rams, states);
 }
 
-// RAM - S of row i, which may be below 0.
-fn start_at(h: Header, b: &[BorderRecord], f: &[i64], rams: &[i64], i: usize) -> i64
-    requires { ⌜ TableFactorsBound h (now f) ⌝ }
-    requires { ⌜ BordersBound (h .zones) (now b) ⌝ }
-    requires { ⌜ AllWithin ramMost (now rams) ⌝ }
-    requires { ⌜ length (now rams) ≡ h .rows ⌝ }
-    requires { ⌜ i < h .rows ⌝ }
-    ensures { λ r. ⌜ r ≡ marginOf (part h (now (b .entry)) (now (f .entry))) (rowsWith (now (rams .entry)) []) i ⌝ }
+// p of a row at a border, which is 0 where the row takes no part.
+fn cell(state: u64, factors: &[i64], raw: BorderRecord) -> u64
+    requires { ⌜ FactorsBound (now factors) ⌝ }
+    requires { ⌜ borderFits (length (now factors)) raw ≡ true ⌝ }
+    ensures { λ r. ⌜ r ≡ cond (eqb state 0) (pOf (now (factors .entry)) (borderOf raw)) 0 ⌝ }
 {
-    let s = margin::s(margin::row_factors(h, f, i), b);
-    let ram = rams[i];
-    ram - s as i64
-}
-
-// p of row i at border k, which is 0 where the row takes no part.
-fn grid_p(h: Header, b: &[BorderRecord], f: &[i64], states: &[u64], i: usize, k: usize) -> u64
-    requires { ⌜ TableFactorsBound h (now f) ⌝ }
-    requires { ⌜ BordersBound (h .zones) (now b) ⌝ }
-    requires { ⌜ length (now states) ≡ h .rows ⌝ }
-    requires { ⌜ (i < h .rows) × (k < length (now b)) ⌝ }
-    ensures { λ r. ⌜ r ≡ gridOf (part h (now (b .entry)) (now (f .entry))) (rowsWith [] (now (states .entry))) .p i k ⌝ }
-{
-    if states[i] == 0 {
-        margin::p_at(h, b, f, i, k)
+    if state == 0 {
+        margin::p(factors, kinds::Border::judged(factors.len(), raw))
     } else {
         0
     }
 }
 
-// p of each row at each border, row after row.
+// p of each row at each border, row after row. What only the row decides is read once for the row.
 fn fill_grid(h: Header, b: &[BorderRecord], f: &[i64], states: &[u64], p: &mut [u64])
-    requires { ⌜ headerFits h ≡ true ⌝ }
     requires { ⌜ TableFactorsBound h (now f) ⌝ }
     requires { ⌜ BordersBound (h .zones) (now b) ⌝ }
     requires { ⌜ length (now b) ≡ h .borders ⌝ }
     requires { ⌜ length (now states) ≡ h .rows ⌝ }
     requires { ⌜ length (now p) ≡ h .rows * h .borders ⌝ }
-    ensures { λ _. ⌜ now (p .exit) ≡ cells (gridOf (part h (now (b .entry)) (now (f .entry))) (rowsWith [] (now (states .entry)))) ⌝ }
+    ensures { λ _. ⌜ now (p .exit) ≡ cells (gridOf h (now (b .entry)) (now (f .entry)) (now (states .entry))) ⌝ }
 {
+    let rows = h.rows;
     let borders = h.borders;
-    for k in 0..h.rows * borders {
-        p[k] = grid_p(h, b, f, states, k / borders, k % borders);
+    for i in 0..rows {
+        let state = states[i];
+        let factors = margin::row_factors(h, f, i);
+        for k in 0..borders {
+            p[i * borders + k] = cell(state, factors, b[k]);
+        }
     }
 }
 
 // 5: whether some row takes part.
 fn some_kept(states: &[u64]) -> bool
-    ensures { λ r. ⌜ r ≡ someBelow (length (now (states .entry))) (λ i. eqb (at (now (states .entry)) i) 0) ⌝ }
+    ensures { λ r. ⌜ r ≡ someBelow (length (now (states .entry))) (kept (now (states .entry))) ⌝ }
 {
     for i in 0..states.len() {
         if states[i] == 0 {
@@ -129,16 +117,13 @@ fn first_unlimited(rows: usize, borders: usize, p: &[u64]) -> First
 }
 
 // 7: the first row that takes part and starts below 0.
-fn first_below(h: Header, b: &[BorderRecord], f: &[i64], rams: &[i64], states: &[u64]) -> First
-    requires { ⌜ TableFactorsBound h (now f) ⌝ }
-    requires { ⌜ BordersBound (h .zones) (now b) ⌝ }
-    requires { ⌜ AllWithin ramMost (now rams) ⌝ }
-    requires { ⌜ (length (now rams) ≡ h .rows) × (length (now states) ≡ h .rows) ⌝ }
-    ensures { λ r. ⌜ found r ≡ firstFrom (h .rows) 0 (λ i. kept (rowsWith (now (rams .entry)) (now (states .entry))) i && ltZ (marginOf (part h (now (b .entry)) (now (f .entry))) (rowsWith (now (rams .entry)) (now (states .entry))) i) (pos 0)) ⌝ }
+fn first_below(states: &[u64], starts: &[i64]) -> First
+    requires { ⌜ length (now starts) ≡ length (now states) ⌝ }
+    ensures { λ r. ⌜ found r ≡ firstFrom (length (now (states .entry))) 0 (λ i. kept (now (states .entry)) i && ltZ (atℤ (now (starts .entry)) i) (pos 0)) ⌝ }
 {
-    for i in 0..h.rows {
+    for i in 0..states.len() {
         let state = states[i];
-        let start = start_at(h, b, f, rams, i);
+        let start = starts[i];
         if (state == 0) & (start < 0) {
             return First::At(i);
         }
@@ -147,78 +132,47 @@ fn first_below(h: Header, b: &[BorderRecord], f: &[i64], rams: &[i64], states: &
 }
 
 // 5, 6, 7, in that order.
-fn judge_start(
-    h: Header,
-    b: &[BorderRecord],
-    f: &[i64],
-    rams: &[i64],
-    states: &[u64],
-    p: &[u64],
-) -> Judgement
-    requires { ⌜ TableFactorsBound h (now f) ⌝ }
-    requires { ⌜ BordersBound (h .zones) (now b) ⌝ }
-    requires { ⌜ AllWithin ramMost (now rams) ⌝ }
-    requires { ⌜ (length (now rams) ≡ h .rows) × (length (now states) ≡ h .rows) ⌝ }
-    requires { ⌜ now p ≡ cells (gridOf (part h (now b) (now f)) (rowsWith (now rams) (now states))) ⌝ }
-    ensures { λ r. ⌜ ruled r (rowsWith (now (rams .entry)) (now (states .entry))) ≡ judgeStart (part h (now (b .entry)) (now (f .entry))) (rowsWith (now (rams .entry)) (now (states .entry))) ⌝ }
+fn judge_start(rows: usize, borders: usize, p: &[u64], states: &[u64], starts: &[i64]) -> Judgement
+    requires { ⌜ rows * borders ≤ length (now p) ⌝ }
+    requires { ⌜ (length (now states) ≡ rows) × (length (now starts) ≡ rows) ⌝ }
+    ensures { λ r. ⌜ ruled r (now (states .entry)) ≡ judgeStart (flat rows borders (now (p .entry))) (now (states .entry)) (now (starts .entry)) ⌝ }
 {
     if !some_kept(states) {
         return Judgement::Refused(Refusal::NoRow);
     }
-    if let First::At(k) = first_unlimited(h.rows, h.borders, p) {
+    if let First::At(k) = first_unlimited(rows, borders, p) {
         return Judgement::Refused(Refusal::Unlimited(k));
     }
-    if let First::At(i) = first_below(h, b, f, rams, states) {
+    if let First::At(i) = first_below(states, starts) {
         return Judgement::Refused(Refusal::Below(i));
     }
     Judgement::Passed
 }
 
-// The margin that row i starts from, which is 0 where the row takes no part.
-fn margin_at(
-    h: Header,
-    b: &[BorderRecord],
-    f: &[i64],
-    rams: &[i64],
-    states: &[u64],
-    i: usize,
-) -> u64
-    requires { ⌜ TableFactorsBound h (now f) ⌝ }
-    requires { ⌜ BordersBound (h .zones) (now b) ⌝ }
-    requires { ⌜ AllWithin ramMost (now rams) ⌝ }
-    requires { ⌜ (length (now rams) ≡ h .rows) × (length (now states) ≡ h .rows) ⌝ }
-    requires { ⌜ i < h .rows ⌝ }
-    ensures { λ r. ⌜ r ≡ cond (kept (rowsWith (now (rams .entry)) (now (states .entry))) i) (positivePart (marginOf (part h (now (b .entry)) (now (f .entry))) (rowsWith (now (rams .entry)) (now (states .entry))) i)) 0 ⌝ }
+// The margin that a row starts from, which is 0 where the row takes no part.
+fn margin_of(state: u64, start: i64) -> u64
+    ensures { λ r. ⌜ r ≡ cond (eqb state 0) (positivePart start) 0 ⌝ }
 {
-    if states[i] == 0 {
-        numbers::positive(start_at(h, b, f, rams, i))
+    if state == 0 {
+        numbers::positive(start)
     } else {
         0
     }
 }
 
 // The margins that the rounds start from.
-fn fill_margins(
-    h: Header,
-    b: &[BorderRecord],
-    f: &[i64],
-    rams: &[i64],
-    states: &[u64],
-    margins: &mut [u64],
-)
-    requires { ⌜ TableFactorsBound h (now f) ⌝ }
-    requires { ⌜ BordersBound (h .zones) (now b) ⌝ }
-    requires { ⌜ AllWithin ramMost (now rams) ⌝ }
-    requires { ⌜ (length (now rams) ≡ h .rows) × (length (now states) ≡ h .rows) ⌝ }
-    requires { ⌜ length (now margins) ≡ h .rows ⌝ }
-    ensures { λ _. ⌜ now (margins .exit) ≡ startOf (part h (now (b .entry)) (now (f .entry))) (rowsWith (now (rams .entry)) (now (states .entry))) .margins ⌝ }
+fn fill_margins(states: &[u64], starts: &[i64], margins: &mut [u64])
+    requires { ⌜ (length (now starts) ≡ length (now states)) × (length (now margins) ≡ length (now states)) ⌝ }
+    ensures { λ _. ⌜ now (margins .exit) ≡ table (length (now (states .entry))) (λ i. cond (kept (now (states .entry)) i) (positivePart (atℤ (now (starts .entry)) i)) 0) ⌝ }
 {
-    for i in 0..h.rows {
-        margins[i] = margin_at(h, b, f, rams, states, i);
+    for i in 0..states.len() {
+        let state = states[i];
+        let start = starts[i];
+        margins[i] = margin_of(state, start);
     }
 }
 
-// All that the rounds start from but the exchanges, and whether they may start.
+// All that the rounds start from but the exchanges, and whether they may start. `starts` is room to work in.
 pub fn prepare(
     h: Header,
     z: &[i64],
@@ -226,21 +180,22 @@ pub fn prepare(
     c: &[RowRecord],
     f: &[i64],
     rams: &mut [i64],
+    starts: &mut [i64],
     states: &mut [u64],
     p: &mut [u64],
     margins: &mut [u64],
 ) -> Judgement
     requires { ⌜ Good (lent h (now z) (now b) (now c) (now f)) ⌝ }
-    requires { ⌜ length (now rams) ≡ h .rows ⌝ }
+    requires { ⌜ (length (now rams) ≡ h .rows) × (length (now starts) ≡ h .rows) ⌝ }
     requires { ⌜ length (now states) ≡ h .rows ⌝ }
     requires { ⌜ length (now p) ≡ h .rows * h .borders ⌝ }
     requires { ⌜ length (now margins) ≡ h .rows ⌝ }
     ensures { λ r. ⌜ prepared r (now (rams .exit)) (now (states .exit)) (now (p .exit)) (now (margins .exit)) ≡ preparedOf (lent h (now (z .entry)) (now (b .entry)) (now (c .entry)) (now (f .entry))) ⌝ }
 {
-    fill_rows(h, z, b, c, f, rams, states);
+    fill_rows(h, z, b, c, f, rams, starts, states);
     fill_grid(h, b, f, states, p);
-    fill_margins(h, b, f, rams, states, margins);
-    judge_start(h, b, f, rams, states, p)
+    fill_margins(states, starts, margins);
+    judge_start(h.rows, h.borders, p, states, starts)
 }
 
 // The LTA of a judged border, in kW.
@@ -248,10 +203,7 @@ fn lta_of(zones: usize, raw: BorderRecord) -> u64
     requires { ⌜ borderFits zones raw ≡ true ⌝ }
     ensures { λ r. ⌜ r ≡ ltaKw (borderOf raw) ⌝ }
 {
-    let kinds::BorderRead::Good(border) = kinds::Border::of(zones, raw) else {
-        return 0;
-    };
-    margin::lta_kw(border)
+    margin::lta_kw(kinds::Border::judged(zones, raw))
 }
 
 // The LTA of each border, in kW.

@@ -23,7 +23,7 @@ rowsWith rows factors =
     }
 
 abbrev statesWith : (rows : ℕ) → (factors : List ℤ) → List ℕ
-statesWith rows factors = let t = rowsWith rows factors in statesOf t (ramsOf t)
+statesWith rows factors = let t = rowsWith rows factors in statesOf (t .header) (t .factors) (ramsOf t)
 
 pub record Anchors : Type 0 where
   -- spread 5000: kept; 4999: state 1

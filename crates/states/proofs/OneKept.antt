@@ -17,10 +17,11 @@ use lib.Signed.{ltZ, _≤ℤ_, _<ℤ_}
 use Rattle.numbers.specs.Ints.{sameℤ}
 use Rattle.numbers.specs.Below.{someBelow}
 use Rattle.numbers.proofs.IntLaws.{diff, diffs, zarith, ltZ-true, ltZ-false, lt-ltZ, same-true, same-self}
+use Rattle.kinds.specs.declared.Header.{Header}
 use Rattle.kinds.specs.Ranges.{atℤ}
-use Rattle.table.specs.Table.{Table, factorsAt}
-use Rattle.table.specs.Good.{Good}
-use Rattle.margin.proofs.JudgedLaws.{good-factors, stretch-long}
+use Rattle.table.specs.Table.{stretch}
+use Rattle.margin.specs.Bounds.{TableFactorsBound}
+use Rattle.margin.proofs.JudgedLaws.{stretch-long}
 use Rattle.states.specs.States.{spreadOf, shifted, below, stateOf}
 use Rattle.states.proofs.ShiftLaws.{some-not, not-some, shifted-self, shifted-back, shifted-on, shifted-spread}
 
@@ -156,40 +157,40 @@ module _ (rams : List ℤ) where
     first n i h e = ⊎-elim (λ r. r) (λ none. true-false e (none i h)) (search-first n)
 
 -- ---- states
-module _ (t : Table) (rams : List ℤ) (i : ℕ) where
+module _ (h : Header) (f rams : List ℤ) (i : ℕ) where
   abbrev small : Bool
-  small = ltZ (spreadOf (factorsAt t i)) (pos 5000)
+  small = ltZ (spreadOf (stretch (h .zones) f i)) (pos 5000)
 
   abbrev stood : (j : ℕ) → Bool
-  stood j = below rams j i && shifted (factorsAt t j) (factorsAt t i)
+  stood j = below rams j i && shifted (stretch (h .zones) f j) (stretch (h .zones) f i)
 
-  not-1 : (stateOf t rams i ≡ 1 → ⊥) → small ≡ false
+  not-1 : (stateOf h f rams i ≡ 1 → ⊥) → small ≡ false
   unfolding stateOf
-  not-1 = go small (someBelow (t .header .rows) stood)
+  not-1 = go small (someBelow (h .rows) stood)
     where
       go : (a b : Bool) → (_≡_ {A = ℕ} (cond a 1 (cond b 2 0)) 1 → ⊥) → a ≡ false
       go true b h = absurd (h refl)
       go false b h = refl
 
-  is-0 : small ≡ false → someBelow (t .header .rows) stood ≡ false → stateOf t rams i ≡ 0
+  is-0 : small ≡ false → someBelow (h .rows) stood ≡ false → stateOf h f rams i ≡ 0
   unfolding stateOf
   is-0 e q = rw (e, q)
 
-  from-0 : stateOf t rams i ≡ 0 → someBelow (t .header .rows) stood ≡ false
+  from-0 : stateOf h f rams i ≡ 0 → someBelow (h .rows) stood ≡ false
   unfolding stateOf
-  from-0 = go small (someBelow (t .header .rows) stood)
+  from-0 = go small (someBelow (h .rows) stood)
     where
       go : (a b : Bool) → _≡_ {A = ℕ} (cond a 1 (cond b 2 0)) 0 → b ≡ false
       go true b e = absurd (omega arith)
       go false true e = absurd (omega arith)
       go false false e = refl
 
-pub record OneKept (t : Table) (rams : List ℤ) (i : ℕ) : Type 0 where
+pub record OneKept (h : Header) (f rams : List ℤ) (i : ℕ) : Type 0 where
   pub kept : ℕ
-  pub in-range : kept < t .header .rows
-  pub alike : shifted (factorsAt t kept) (factorsAt t i) ≡ true
-  pub is-kept : stateOf t rams kept ≡ 0
-  pub only : (j : ℕ) → j < t .header .rows → shifted (factorsAt t j) (factorsAt t i) ≡ true → stateOf t rams j ≡ 0 → j ≡ kept
+  pub in-range : kept < h .rows
+  pub alike : shifted (stretch (h .zones) f kept) (stretch (h .zones) f i) ≡ true
+  pub is-kept : stateOf h f rams kept ≡ 0
+  pub only : (j : ℕ) → j < h .rows → shifted (stretch (h .zones) f j) (stretch (h .zones) f i) ≡ true → stateOf h f rams j ≡ 0 → j ≡ kept
 
 both-false : (a b : Bool) → (a ≡ true → b ≡ true → ⊥) → (a && b) ≡ false
 both-false true true h = absurd (h refl refl)
@@ -200,31 +201,34 @@ first-false : (a b : Bool) → (a && b) ≡ false → b ≡ true → a ≡ false
 first-false true b e q = true-false q e
 first-false false b e q = refl
 
-module _ {t : Table} (good : Good t) (rams : List ℤ) where
-  long : (j : ℕ) → j < t .header .rows → length (factorsAt t j) ≡ t .header .zones
-  long j h = stretch-long (good-factors good) j h
+module _ {h : Header} {f : List ℤ} (bound : TableFactorsBound h f) (rams : List ℤ) where
+  abbrev row : (j : ℕ) → List ℤ
+  row j = stretch (h .zones) f j
 
-  same-long : (j i : ℕ) → j < t .header .rows → i < t .header .rows → length (factorsAt t i) ≡ length (factorsAt t j)
-  same-long j i h k = long i k ∙ sym (long j h)
+  long : (j : ℕ) → j < h .rows → length (row j) ≡ h .zones
+  long j l = stretch-long bound j l
+
+  same-long : (j i : ℕ) → j < h .rows → i < h .rows → length (row i) ≡ length (row j)
+  same-long j i l k = long i k ∙ sym (long j l)
 
   -- of two alike rows that are both kept neither is below the other
-  one-row : (j k : ℕ) → j < t .header .rows → k < t .header .rows → shifted (factorsAt t j) (factorsAt t k) ≡ true → stateOf t rams j ≡ 0 → stateOf t rams k ≡ 0 → j ≡ k
+  one-row : (j k : ℕ) → j < h .rows → k < h .rows → shifted (row j) (row k) ≡ true → stateOf h f rams j ≡ 0 → stateOf h f rams k ≡ 0 → j ≡ k
   one-row j k hj hk e pj pk =
       lower-total rams j k
-      (first-false _ _ (some-not _ (stood t rams k) (from-0 t rams k pk) j hj) e)
-      (first-false _ _ (some-not _ (stood t rams j) (from-0 t rams j pj) k hk) (shifted-back (factorsAt t j) (factorsAt t k) (same-long j k hj hk) e))
+      (first-false _ _ (some-not _ (stood h f rams k) (from-0 h f rams k pk) j hj) e)
+      (first-false _ _ (some-not _ (stood h f rams j) (from-0 h f rams j pj) k hk) (shifted-back (row j) (row k) (same-long j k hj hk) e))
 
-  pub one-kept : (i : ℕ) → i < t .header .rows → (stateOf t rams i ≡ 1 → ⊥) → OneKept t rams i
-  one-kept i h not-small =
-      let r = first rams (λ j. shifted (factorsAt t j) (factorsAt t i)) (t .header .rows) i h (shifted-self (factorsAt t i)) in
+  pub one-kept : (i : ℕ) → i < h .rows → (stateOf h f rams i ≡ 1 → ⊥) → OneKept h f rams i
+  one-kept i in-i not-small =
+      let r = first rams (λ j. shifted (row j) (row i)) (h .rows) i in-i (shifted-self (row i)) in
       let m = r .row in
-      let same : spreadOf (factorsAt t m) ≡ spreadOf (factorsAt t i) = shifted-spread (factorsAt t m) (factorsAt t i) (same-long m i (r .in-range) h) (r .is-member) in
-      let wide : small t rams m ≡ false = ap (λ (z : ℤ). ltZ z (pos 5000)) same ∙ not-1 t rams i not-small in
-      let lowest : someBelow (t .header .rows) (stood t rams m) ≡ false =
-      not-some (t .header .rows) (stood t rams m)
-      (λ k l. both-false (below rams k m) (shifted (factorsAt t k) (factorsAt t m))
-      (λ u v. true-false u (r .lowest k l (shifted-on (factorsAt t k) (factorsAt t m) (factorsAt t i) (same-long k m l (r .in-range)) v (r .is-member))))) in
-      let zero-state : stateOf t rams m ≡ 0 = is-0 t rams m wide lowest in
+      let same : spreadOf (row m) ≡ spreadOf (row i) = shifted-spread (row m) (row i) (same-long m i (r .in-range) in-i) (r .is-member) in
+      let wide : small h f rams m ≡ false = ap (λ (z : ℤ). ltZ z (pos 5000)) same ∙ not-1 h f rams i not-small in
+      let lowest : someBelow (h .rows) (stood h f rams m) ≡ false =
+      not-some (h .rows) (stood h f rams m)
+      (λ k l. both-false (below rams k m) (shifted (row k) (row m))
+      (λ u v. true-false u (r .lowest k l (shifted-on (row k) (row m) (row i) (same-long k m l (r .in-range)) v (r .is-member))))) in
+      let zero-state : stateOf h f rams m ≡ 0 = is-0 h f rams m wide lowest in
       record {
         kept = m;
         in-range = r .in-range;
@@ -232,6 +236,6 @@ module _ {t : Table} (good : Good t) (rams : List ℤ) where
         is-kept = zero-state;
         only = λ j l e p.
             one-row j m l (r .in-range)
-            (shifted-on (factorsAt t j) (factorsAt t i) (factorsAt t m) (same-long j i l h) e (shifted-back (factorsAt t m) (factorsAt t i) (same-long m i (r .in-range) h) (r .is-member)))
+            (shifted-on (row j) (row i) (row m) (same-long j i l in-i) e (shifted-back (row m) (row i) (same-long m i (r .in-range) in-i) (r .is-member)))
             p zero-state;
       }

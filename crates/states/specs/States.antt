@@ -9,8 +9,9 @@ use lib.ListN.{length}
 use lib.Signed.{ltZ}
 use Rattle.numbers.specs.Ints.{maxℤ, minℤ, sameℤ}
 use Rattle.numbers.specs.Below.{table, someBelow, allBelow}
+use Rattle.kinds.specs.declared.Header.{Header}
 use Rattle.kinds.specs.Ranges.{atℤ}
-use Rattle.table.specs.Table.{Table, factorsAt}
+use Rattle.table.specs.Table.{stretch}
 
 -- the largest and the smallest of m and the numbers of a list
 unfoldable pub highest : ℤ → List ℤ → ℤ
@@ -35,10 +36,11 @@ unfoldable pub below : (rams : List ℤ) → (j i : ℕ) → Bool
 below rams j i = ltZ (atℤ rams j) (atℤ rams i) || (sameℤ (atℤ rams j) (atℤ rams i) && ltb j i)
 
 -- 1: the spread is under 5000; 2: not state 1, and another row has the same factors but for one number, and is below it; 0: kept, all others
-unfoldable pub stateOf : Table → (rams : List ℤ) → (i : ℕ) → ℕ
-stateOf t rams i =
-    cond (ltZ (spreadOf (factorsAt t i)) (pos 5000)) 1
-    (cond (someBelow (t .header .rows) (λ j. below rams j i && shifted (factorsAt t j) (factorsAt t i))) 2 0)
+unfoldable pub stateOf : Header → (factors rams : List ℤ) → (i : ℕ) → ℕ
+stateOf h factors rams i =
+    let row : ℕ → List ℤ = stretch (h .zones) factors in
+    cond (ltZ (spreadOf (row i)) (pos 5000)) 1
+    (cond (someBelow (h .rows) (λ j. below rams j i && shifted (row j) (row i))) 2 0)
 
-abbrev pub statesOf : Table → (rams : List ℤ) → List ℕ
-statesOf t rams = table (t .header .rows) (stateOf t rams)
+abbrev pub statesOf : Header → (factors rams : List ℤ) → List ℕ
+statesOf h factors rams = table (h .rows) (stateOf h factors rams)

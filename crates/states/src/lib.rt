@@ -1,13 +1,12 @@
 // Row states: which rows take part in the extraction.
 ghost use mathlib.Core.Path.{_≡_};
 ghost use mathlib.Core.Bool.{_&&_};
-ghost use mathlib.Core.List.{List};
 ghost use Prim.Native.Nat.{_<_};
-ghost use lib.IntN.{ℤ, pos};
+ghost use lib.IntN.{pos};
 ghost use lib.ListN.{length};
 ghost use lib.Signed.{ltZ};
 ghost use Rattle.numbers.specs.Below.{someBelow};
-ghost use Rattle.table.specs.Table.{lent, stretch};
+ghost use Rattle.table.specs.Table.{stretch};
 ghost use Rattle.margin.specs.Bounds.{FactorsBound, TableFactorsBound};
 ghost use Rattle.states.specs.States.{spreadOf, shifted, below, stateOf, statesOf};
 
@@ -28,7 +27,7 @@ pub fn spread_small(factors: &[i64]) -> bool
     high - low < 5000
 }
 
-// Two rows' factors differ by one and the same number in every zone.
+// Two rows' factors differ by one and the same number in every zone: each differs as zone 0 does.
 pub fn shifted(fs: &[i64], gs: &[i64]) -> bool
     requires { ⌜ FactorsBound (now fs) ⌝ }
     requires { ⌜ FactorsBound (now gs) ⌝ }
@@ -38,7 +37,7 @@ pub fn shifted(fs: &[i64], gs: &[i64]) -> bool
     let f0 = fs[0];
     let g0 = gs[0];
     let d = f0 - g0;
-    let mut z = 0;
+    let mut z = 1;
     while z < fs.len() {
         let f = fs[z];
         let g = gs[z];
@@ -60,18 +59,18 @@ fn below(rams: &[i64], j: usize, i: usize) -> bool
     a < b || (numbers::same(a, b) && j < i)
 }
 
-// Row j stands for row i: it is below it, and their factors differ by one number.
+// Row j stands for row i: it is below it, and their factors differ by one number. Factors first: rows that pass are few, so this test nearly always goes one way.
 fn stands_for(header: kinds::Header, f: &[i64], rams: &[i64], j: usize, i: usize) -> bool
     requires { ⌜ TableFactorsBound header (now f) ⌝ }
     requires { ⌜ length (now rams) ≡ header .rows ⌝ }
     requires { ⌜ (j < header .rows) × (i < header .rows) ⌝ }
     ensures { λ r. ⌜ r ≡ (below (now (rams .entry)) j i && shifted (stretch (header .zones) (now (f .entry)) j) (stretch (header .zones) (now (f .entry)) i)) ⌝ }
 {
-    below(rams, j, i)
-        && shifted(
-            margin::row_factors(header, f, j),
-            margin::row_factors(header, f, i),
-        )
+    shifted(
+        margin::row_factors(header, f, j),
+        margin::row_factors(header, f, i),
+    )
+        && below(rams, j, i)
 }
 
 // State 2, but for state 1: another row stands for row i.
@@ -92,12 +91,12 @@ fn stood_for(header: kinds::Header, f: &[i64], rams: &[i64], i: usize) -> bool
     false
 }
 
-// A row's state depends on the header, the factors and the RAMs, whatever the rest of the table is.
+// A row's state, by the factors and RAMs of all rows.
 pub fn state_of(header: kinds::Header, f: &[i64], rams: &[i64], i: usize) -> u64
     requires { ⌜ TableFactorsBound header (now f) ⌝ }
     requires { ⌜ length (now rams) ≡ header .rows ⌝ }
     requires { ⌜ i < header .rows ⌝ }
-    ensures { λ r. ⌜ ((z : List ℤ) (b c : List (List ℤ)) → r ≡ stateOf (lent header z b c (now (f .entry))) (now (rams .entry)) i) ⌝ }
+    ensures { λ r. ⌜ r ≡ stateOf header (now (f .entry)) (now (rams .entry)) i ⌝ }
 {
     if spread_small(margin::row_factors(header, f, i)) {
         return 1;
@@ -113,7 +112,7 @@ pub fn fill_states(header: kinds::Header, f: &[i64], rams: &[i64], states: &mut 
     requires { ⌜ TableFactorsBound header (now f) ⌝ }
     requires { ⌜ length (now rams) ≡ header .rows ⌝ }
     requires { ⌜ length (now states) ≡ header .rows ⌝ }
-    ensures { λ _. ⌜ ((z : List ℤ) (b c : List (List ℤ)) → now (states .exit) ≡ statesOf (lent header z b c (now (f .entry))) (now (rams .entry))) ⌝ }
+    ensures { λ _. ⌜ now (states .exit) ≡ statesOf header (now (f .entry)) (now (rams .entry)) ⌝ }
 {
     for i in 0..header.rows {
         states[i] = state_of(header, f, rams, i);

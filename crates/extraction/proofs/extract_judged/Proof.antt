@@ -19,36 +19,43 @@ array-borrow-prefix-rams c = header-in _ (c .before .pre .exact .header) .rows-m
 slice-aggregate-extract-in : tie.Need-slice-aggregate-extract-in
 slice-aggregate-extract-in c = sym (length-take-le _ _ (array-borrow-prefix-rams (c .before)))
 
-array-borrow-prefix-states : tie.Need-array-borrow-prefix-states
-array-borrow-prefix-states c = header-in _ (c .before .before .pre .exact .header) .rows-most
+array-borrow-prefix-starts : tie.Need-array-borrow-prefix-starts
+array-borrow-prefix-starts c = header-in _ (c .before .before .pre .exact .header) .rows-most
 
 slice-aggregate-extract-in-2 : tie.Need-slice-aggregate-extract-in-2
-slice-aggregate-extract-in-2 c = sym (length-take-le _ _ (array-borrow-prefix-states (c .before)))
+slice-aggregate-extract-in-2 c = sym (length-take-le _ _ (array-borrow-prefix-starts (c .before)))
+
+array-borrow-prefix-states : tie.Need-array-borrow-prefix-states
+array-borrow-prefix-states c = header-in _ (c .before .before .before .pre .exact .header) .rows-most
+
+slice-aggregate-extract-in-3 : tie.Need-slice-aggregate-extract-in-3
+slice-aggregate-extract-in-3 c = sym (length-take-le _ _ (array-borrow-prefix-states (c .before)))
 
 array-borrow-prefix-p : tie.Need-array-borrow-prefix-p
 array-borrow-prefix-p c =
-    let e = header-in _ (c .before .before .before .pre .exact .header) in
+    let e = header-in _ (c .before .before .before .before .pre .exact .header) in
     mul-le-mul (e .rows-most) (e .borders-most)
 
-slice-aggregate-extract-in-3 : tie.Need-slice-aggregate-extract-in-3
-slice-aggregate-extract-in-3 c = sym (length-take-le _ _ (array-borrow-prefix-p (c .before)))
+slice-aggregate-extract-in-4 : tie.Need-slice-aggregate-extract-in-4
+slice-aggregate-extract-in-4 c = sym (length-take-le _ _ (array-borrow-prefix-p (c .before)))
 
 array-borrow-prefix-margins : tie.Need-array-borrow-prefix-margins
-array-borrow-prefix-margins c = header-in _ (c .before .before .before .before .pre .exact .header) .rows-most
+array-borrow-prefix-margins c = header-in _ (c .before .before .before .before .before .pre .exact .header) .rows-most
 
-slice-aggregate-extract-in-4 : tie.Need-slice-aggregate-extract-in-4
-slice-aggregate-extract-in-4 c = sym (length-take-le _ _ (array-borrow-prefix-margins (c .before)))
+slice-aggregate-extract-in-5 : tie.Need-slice-aggregate-extract-in-5
+slice-aggregate-extract-in-5 c = sym (length-take-le _ _ (array-borrow-prefix-margins (c .before)))
 
 extract-in-requires : tie.Need-extract-in-requires
 extract-in-requires c κs =
     let at-margins = c .before .before in
     let at-p = at-margins .before in
     let at-states = at-p .before in
-    let at-rams = at-states .before in (
-      c .before .before .before .before .before .before .before .pre,
+    let at-starts = at-states .before in
+    let at-rams = at-starts .before in (
+      at-rams .before .before .pre,
       (
-        sym (slice-aggregate-extract-in at-rams),
-        (sym (slice-aggregate-extract-in-2 at-states), (sym (slice-aggregate-extract-in-3 at-p), sym (slice-aggregate-extract-in-4 at-margins))),
+        (sym (slice-aggregate-extract-in at-rams), sym (slice-aggregate-extract-in-2 at-starts)),
+        (sym (slice-aggregate-extract-in-3 at-states), (sym (slice-aggregate-extract-in-4 at-p), sym (slice-aggregate-extract-in-5 at-margins))),
       ),
     )
 
@@ -59,7 +66,7 @@ same-length-2 : tie.Need-same-length-2
 same-length-2 c = search needs
 
 returns : tie.Need-returns
-returns c = c .before .before .before .before .before .before .extract-in .ensures
+returns c = c .before .before .before .before .before .before .before .extract-in .ensures
 
 pub extract-judged-spec : {M : Type 1} → statement M
 extract-judged-spec =
@@ -68,12 +75,14 @@ extract-judged-spec =
     mul-cells
     array-borrow-prefix-rams
     slice-aggregate-extract-in
-    array-borrow-prefix-states
+    array-borrow-prefix-starts
     slice-aggregate-extract-in-2
-    array-borrow-prefix-p
+    array-borrow-prefix-states
     slice-aggregate-extract-in-3
-    array-borrow-prefix-margins
+    array-borrow-prefix-p
     slice-aggregate-extract-in-4
+    array-borrow-prefix-margins
+    slice-aggregate-extract-in-5
     extract-in-requires
     same-length
     same-length-2

@@ -1,11 +1,11 @@
--- `margin::fill_rams` meets its contract. The loop's invariant: the first i rows have their RAM. The measure is the rows that are left.
+-- `margin::fill_rams` meets its contract. The loop's invariant: the first i rows have their RAM, and RAM - S. The measure is the rows that are left.
 -- Assumes nothing.
-use mathlib.Core.Path.{_≡_, sym, subst, _∙_}
+use mathlib.Core.Path.{_≡_, sym, ap, ap₂, subst, _∙_}
 use mathlib.Core.List.{List, []}
 use Prim.Native.Nat.{ℕ, _-_, _<_}
 use native.Mathlib.Omega.{arith}
 use borrow.Author.Needs.{sfits-of}
-use lib.IntN.{ℤ}
+use lib.IntN.{ℤ, pos, _-ℤ_}
 use lib.ListN.{length, getD}
 use mir.Facts.{toZ-ofZ}
 use mir.Syntax.{w64}
@@ -13,26 +13,37 @@ use mir.Val.{SFits}
 use Rattle.numbers.proofs.ListLaws.{Filled, filled-none, filled-more, filled-all}
 use Rattle.kinds.specs.Ranges.{rowOf}
 use Rattle.table.specs.Table.{Table, lent, stretch}
-use Rattle.margin.specs.Margin.{f0coreOf, sOf, ramOf, ramAt}
+use Rattle.margin.specs.Margin.{f0coreOf, sOf, ramOf, ramAt, marginOf}
 use Rattle.margin.specs.Bounds.{NetsBound, BordersBound}
+use Rattle.margin.proofs.BoundLaws.{within-is}
 use Rattle.margin.proofs.JudgedLaws.{part-long, part-bound, s-bound, good-factors, good-borders, good-nets}
+use Rattle.margin.proofs.Small.{ram-in}
 use Rattle.margin.proofs.fill_rams.Statement.{statement}
 use Rattle.margin.proofs.fill_rams.Tie as tie
 
+-- the first i rows of both lists
+record Head (t : Table) (rams₀ starts₀ rams starts : List ℤ) (i : ℕ) : Type 0 where
+  rams-filled : Filled (ramAt t) (t .header .rows) rams₀ rams i
+  starts-filled : Filled (marginOf t) (t .header .rows) starts₀ starts i
+
 abbrev Inv-loop : tie.InvT-loop
-Inv-loop header z b c f rams₀ i₀ i-end rams i = Filled (ramAt (lent header z b c f)) (header .rows) rams₀ rams i
+Inv-loop header z b c f rams₀ starts₀ i₀ i-end rams starts i = Head (lent header z b c f) rams₀ starts₀ rams starts i
 
 abbrev μ-loop : tie.MeasureT-loop
-μ-loop header z b c f rams₀ i₀ i-end rams i = header .rows - i
+μ-loop header z b c f rams₀ starts₀ i₀ i-end rams starts i = header .rows - i
 
--- RAM of the row, from what the calls gave
-ram-is : (t : Table) (i : ℕ) {factors : List ℤ} {s : ℕ} {ram : ℤ} → factors ≡ stretch (t .header .zones) (t .factors) i → s ≡ sOf factors (t .borders)
-    → ram ≡ ramOf (rowOf (getD (t .rows) i [])) (f0coreOf (rowOf (getD (t .rows) i [])) factors (t .nets)) s → ram ≡ ramAt t i
-unfolding ramAt
-ram-is t i e u v = cc
+-- RAM of the row, and RAM - S, from what the calls gave
+module _ (t : Table) (i : ℕ) {factors : List ℤ} {s : ℕ} {ram : ℤ} (e : factors ≡ stretch (t .header .zones) (t .factors) i) (u : s ≡ sOf factors (t .borders))
+    (v : ram ≡ ramOf (rowOf (getD (t .rows) i [])) (f0coreOf (rowOf (getD (t .rows) i [])) factors (t .nets)) s) where
+  ram-is : ram ≡ ramAt t i
+  unfolding ramAt
+  ram-is = cc
+
+  start-is : ram -ℤ pos s ≡ marginOf t i
+  start-is = ap₂ (λ (r : ℤ) (n : ℕ). r -ℤ pos n) ram-is (u ∙ ap (λ (fs : List ℤ). sOf fs (t .borders)) e)
 
 loop-holds : tie.Need-loop-holds Inv-loop μ-loop
-loop-holds c = filled-none _ _ _
+loop-holds c = record { rams-filled = filled-none _ _ _; starts-filled = filled-none _ _ _ }
 
 row-factors-requires : tie.Need-row-factors-requires Inv-loop μ-loop
 row-factors-requires c κs = (good-factors (c .before .before .pre .0), omega arith)
@@ -75,31 +86,75 @@ row-ram-requires c κs =
       ),
     )
 
-mul-t16 : tie.Need-mul-t16 Inv-loop μ-loop
-mul-t16 c = omega (arith, c .before .before .before .before .before .loop .inv .as-long, start (c .before .before .before) .pre .1)
+-- RAM of the row
+module _ (c : tie.After-row-ram Inv-loop μ-loop) where
+  abbrev at-factors : tie.After-row-factors Inv-loop μ-loop
+  at-factors = c .before .before .before
 
-slice-set-from-rams : tie.Need-slice-set-from-rams Inv-loop μ-loop
-slice-set-from-rams c = omega (arith, c .before .before .before .before .before .loop .inv .as-long, start (c .before .before .before) .pre .1)
+  abbrev t : Table
+  t =
+      let a = start at-factors .args in
+      lent (a .header) (a .z .now) (a .b .now) (a .c .now) (a .f .now)
+
+  abbrev i : ℕ
+  i = at-factors .before .before .loop .i
+
+  abbrev head : Head t (start at-factors .args .rams .now) (start at-factors .args .starts .now) (at-factors .before .before .loop .rams) (at-factors .before .before .loop .starts) i
+  head = at-factors .before .before .loop .inv
+
+  ram-fits : SFits w64 (c .row-ram .result)
+  ram-fits = sfits-of (c .row-ram .ok)
+
+  ram-at : c .row-ram .result ≡ ramAt t i
+  ram-at = ram-is t i (at-factors .row-factors .ensures) (c .before .before .s .ensures) (c .row-ram .ensures)
+
+mul-ram : tie.Need-mul-ram Inv-loop μ-loop
+mul-ram c = omega (arith, head c .rams-filled .as-long, start (at-factors c) .pre .1 .0)
+
+slice-set-from-ram : tie.Need-slice-set-from-ram Inv-loop μ-loop
+slice-set-from-ram c = omega (arith, head c .rams-filled .as-long, start (at-factors c) .pre .1 .0)
+
+start-requires : tie.Need-start-requires Inv-loop μ-loop
+start-requires c κs =
+    let d = at-factors c in
+    let good = start d .pre .0 in (
+      simp (toZ-ofZ, ram-fits c) (within-is (ram-at c) (ram-in good (i c) (below d))),
+      s-bound (part-bound (good-factors good) (i c) (below d) (d .row-factors .ensures)) (subst (λ (n : ℕ). BordersBound n (start d .args .b .now)) (sym (long d)) (good-borders good)) (c .before .before .s .ensures),
+    )
+
+mul-t14 : tie.Need-mul-t14 Inv-loop μ-loop
+mul-t14 c = omega (arith, head (c .before) .starts-filled .as-long, start (at-factors (c .before)) .pre .1 .1)
+
+slice-set-from-starts : tie.Need-slice-set-from-starts Inv-loop μ-loop
+slice-set-from-starts c = omega (arith, head (c .before) .starts-filled .as-long, start (at-factors (c .before)) .pre .1 .1)
 
 add-i : tie.Need-add-i Inv-loop μ-loop
-add-i c = omega (arith, c .before .before .before .before .before .loop .inv .as-long, start (c .before .before .before) .pre .1)
+add-i c = omega (arith, head (c .before) .starts-filled .as-long, start (at-factors (c .before)) .pre .1 .1)
 
 loop-less : tie.Need-loop-less Inv-loop μ-loop
 loop-less c = omega arith
 
 loop-again : tie.Need-loop-again Inv-loop μ-loop
 loop-again c =
-    let d = c .before .before .before in
-    let a = start d .args in
-    let k : SFits w64 (c .row-ram .result) = sfits-of (c .row-ram .ok) in
-    filled-more (c .before .before .before .before .before .loop .inv) _ (below d) (omega (arith, start d .pre .1))
-    (toZ-ofZ k ∙ ram-is (lent (a .header) (a .z .now) (a .b .now) (a .c .now) (a .f .now)) (d .before .before .loop .i) (d .row-factors .ensures) (c .before .before .s .ensures) (c .row-ram .ensures))
+    let d = c .before in
+    let f = at-factors d in
+    let k : SFits w64 (c .start .result) = sfits-of (c .start .ok) in
+    record {
+      rams-filled = filled-more (head d .rams-filled) _ (below f) (omega (arith, start f .pre .1 .0)) (toZ-ofZ (ram-fits d) ∙ ram-at d);
+      starts-filled = filled-more (head d .starts-filled) _ (below f) (omega (arith, start f .pre .1 .1))
+          (toZ-ofZ k ∙ (simp (toZ-ofZ, ram-fits d) at (c .start .ensures)) ∙ start-is (t d) (i d) (f .row-factors .ensures) (d .before .before .s .ensures) (d .row-ram .ensures));
+    }
 
 same-length : tie.Need-same-length Inv-loop μ-loop
-same-length c = c .before .loop .inv .as-long
+same-length c = c .before .loop .inv .rams-filled .as-long
+
+same-length-2 : tie.Need-same-length-2 Inv-loop μ-loop
+same-length-2 c = c .before .loop .inv .starts-filled .as-long
 
 returns : tie.Need-returns Inv-loop μ-loop
-returns c = filled-all (c .before .loop .inv) (omega arith) (c .before .before .pre .1)
+returns c =
+    let q = c .before .before .pre .1 in
+    (filled-all (c .before .loop .inv .rams-filled) (omega arith) (q .0), filled-all (c .before .loop .inv .starts-filled) (omega arith) (q .1))
 
 pub fill-rams-spec : {M : Type 1} → statement M
 fill-rams-spec =
@@ -113,10 +168,14 @@ fill-rams-spec =
     mul-row-ram
     shared-slice-copy-out-row-ram
     row-ram-requires
-    mul-t16
-    slice-set-from-rams
+    mul-ram
+    slice-set-from-ram
+    start-requires
+    mul-t14
+    slice-set-from-starts
     add-i
     loop-less
     loop-again
     same-length
+    same-length-2
     returns)

@@ -2,65 +2,34 @@
 use mathlib.Core.Path.{_≡_}
 use Prim.Native.Nat.{_*_}
 use native.Mathlib.Omega.{arith}
-use borrow.Author.Needs.{needs}
 use lib.ListN.{length}
-use Rattle.kinds.specs.Ranges.{borderOf}
 use Rattle.margin.specs.Margin.{pOf, ltaKw}
 use Rattle.margin.specs.Bounds.{BorderBound}
 use Rattle.margin.proofs.BoundLaws.{load-most}
-use Rattle.margin.proofs.JudgedLaws.{border-is, border-never, border-read-bound}
+use Rattle.margin.proofs.JudgedLaws.{border-judged}
 use Rattle.margin.proofs.lta_load.Statement.{statement}
 use Rattle.margin.proofs.lta_load.Tie as tie
 
--- the border that was read
-module _ (c : tie.After-border) where
-  abbrev start : tie.Start
-  start = c .before .before .before
+judged-requires : tie.Need-judged-requires
+judged-requires c κs = c .pre .1
 
-  read-is : c .border .given .0 .0 ≡ borderOf (start .args .raw)
-  read-is = border-is (length (start .args .factors .now)) (start .args .raw) (start .pre .1) (c .before .before .of .ensures) (c .border .given .1)
-
-  read-bound : BorderBound (length (start .args .factors .now)) (c .border .given .0 .0)
-  read-bound = border-read-bound (length (start .args .factors .now)) (start .args .raw) (start .pre .1) (c .before .before .of .ensures) (c .border .given .1)
-
-of-requires : tie.Need-of-requires
-of-requires c κs = search needs
-
-enum-known-border : tie.Need-enum-known-border
-enum-known-border c = search needs
-
-enum-told : tie.Need-enum-told
-enum-told c = search needs
-
-returns : tie.Need-returns
-returns c =
-    let s = c .before .before .before in
-    border-never (length (s .args .factors .now)) (s .args .raw) (s .pre .1) (c .before .before .of .ensures) (c .enum-told .given .1)
+bound : (c : tie.After-judged) → BorderBound (length (c .before .args .factors .now)) (c .judged .result)
+bound c = border-judged _ _ (c .before .pre .1) (c .judged .ensures)
 
 p-requires : tie.Need-p-requires
-p-requires c κs = (c .before .before .before .before .pre .0, read-bound (c .before))
+p-requires c κs = (c .before .pre .0, bound c)
 
 lta-kw-requires : tie.Need-lta-kw-requires
-lta-kw-requires c κs = read-bound (c .before .before) .lta-in
+lta-kw-requires c κs = bound (c .before) .lta-in
 
 mul-result : tie.Need-mul-result
 mul-result c =
-    let b = c .before .before .before in
-    let e : c .before .p .result * c .lta-kw .result ≡ pOf (start b .args .factors .now) (b .border .given .0 .0) * ltaKw (b .border .given .0 .0) = cc (c .before .p .ensures, c .lta-kw .ensures) in
-    omega (arith, e, load-most (start b .pre .0 .each) (read-bound b))
+    let j = c .before .before in
+    let e : c .before .p .result * c .lta-kw .result ≡ pOf (j .before .args .factors .now) (j .judged .result) * ltaKw (j .judged .result) = cc (c .before .p .ensures, c .lta-kw .ensures) in
+    omega (arith, e, load-most (j .before .pre .0 .each) (bound j))
 
-returns-2 : tie.Need-returns-2
-returns-2 c = cc (c .before .p .ensures, c .lta-kw .ensures, read-is (c .before .before .before))
+returns : tie.Need-returns
+returns c = cc (c .before .p .ensures, c .lta-kw .ensures, c .before .before .judged .ensures)
 
 pub lta-load-spec : {M : Type 1} → statement M
-lta-load-spec =
-    tie.close
-    (tie.spec
-    of-requires
-    enum-known-border
-    enum-told
-    returns
-    p-requires
-    lta-kw-requires
-    mul-result
-    returns-2)
+lta-load-spec = tie.close (tie.spec judged-requires p-requires lta-kw-requires mul-result returns)

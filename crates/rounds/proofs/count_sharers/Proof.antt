@@ -11,16 +11,16 @@ use Rattle.rounds.proofs.count_sharers.Statement.{statement}
 use Rattle.rounds.proofs.count_sharers.Tie as tie
 
 abbrev Inv-loop2 : tie.InvT-loop2
-Inv-loop2 rows borders p ns r n₀ b₀ n b = Counted (flat rows borders p .p r) borders b n
+Inv-loop2 rows borders p ns i n₀ b₀ n b = Counted (flat rows borders p .p i) borders b n
 
 abbrev μ-loop2 : tie.MeasureT-loop2
-μ-loop2 rows borders p ns r n₀ b₀ n b = borders - b
+μ-loop2 rows borders p ns i n₀ b₀ n b = borders - b
 
 abbrev Inv-loop : tie.InvT-loop
-Inv-loop rows borders p ns₀ r₀ ns r = Filled (sharers (flat rows borders p)) rows ns₀ ns r
+Inv-loop rows borders p ns₀ i₀ ns i = Filled (sharers (flat rows borders p)) rows ns₀ ns i
 
 abbrev μ-loop : tie.MeasureT-loop
-μ-loop rows borders p ns₀ r₀ ns r = rows - r
+μ-loop rows borders p ns₀ i₀ ns i = rows - i
 
 loop-holds : tie.Need-loop-holds Inv-loop2 μ-loop2 Inv-loop μ-loop
 loop-holds c = filled-none _ _ _
@@ -57,8 +57,8 @@ mul-ns c = omega arith
 slice-write-ns : tie.Need-slice-write-ns Inv-loop2 μ-loop2 Inv-loop μ-loop
 slice-write-ns c = omega arith
 
-add-r : tie.Need-add-r Inv-loop2 μ-loop2 Inv-loop μ-loop
-add-r c = omega arith
+add-i : tie.Need-add-i Inv-loop2 μ-loop2 Inv-loop μ-loop
+add-i c = omega arith
 
 loop-less : tie.Need-loop-less Inv-loop2 μ-loop2 Inv-loop μ-loop
 loop-less c = omega arith
@@ -92,7 +92,7 @@ count-sharers-spec =
     loop2-again
     mul-ns
     slice-write-ns
-    add-r
+    add-i
     loop-less
     loop-again
     same-length

@@ -1,4 +1,4 @@
--- `rounds::factor` meets its contract: the place of row r's factor at border b is inside the table.
+-- `rounds::factor` meets its contract: the place of row i's factor at border b is inside the table.
 -- Assumes nothing.
 use Prim.Native.Nat.{_<_, _+_, _*_}
 use native.Mathlib.Omega.{arith}
@@ -8,7 +8,7 @@ use Rattle.rounds.proofs.Loops.{place-inside}
 use Rattle.rounds.proofs.factor.Statement.{statement}
 use Rattle.rounds.proofs.factor.Tie as tie
 
-inside : (c : tie.Start) → c .args .r * c .args .borders + c .args .b < length (c .args .p .now)
+inside : (c : tie.Start) → c .args .i * c .args .borders + c .args .b < length (c .args .p .now)
 inside c = place-inside (c .args .rows) _ _ _ _ (c .pre .0) (c .pre .1) (c .pre .2)
 
 mul-result : tie.Need-mul-result

@@ -1,80 +1,145 @@
--- `start::fill_grid` meets its contract. The invariant: the first k cells are the grid's. Cell k is row k / borders at border k % borders.
+-- `start::fill_grid` meets its contract: before row i and border k the cells are the grid's (`FilledTo`).
 -- Assumes nothing.
-use mathlib.Core.List.{[]}
-use Prim.Native.Nat.{_-_, _*_, _/_, _%_}
+use mathlib.Core.Path.{_≡_, sym, ap, subst, _∙_}
+use mathlib.Core.Bool.{true, cond}
+use mathlib.Core.List.{List, []}
+use Prim.Native.Nat.{ℕ, _-_}
 use native.Mathlib.Omega.{arith}
-use native.Mathlib.Nat.{mul-le-mul, mod-lt}
-use Rattle.numbers.proofs.ListLaws.{Filled, filled-none, filled-more, filled-all}
-use Rattle.kinds.proofs.KindLaws.{header-in}
-use Rattle.start.specs.Start.{gridOf}
-use Rattle.start.specs.Filled.{part, rowsWith}
-use Rattle.start.proofs.StartLaws.{cell-row}
+use lib.IntN.{ℤ}
+use lib.ListN.{getD}
+use Rattle.kinds.specs.Ranges.{borderFits, borderOf}
+use Rattle.margin.specs.Margin.{pOf}
+use Rattle.margin.proofs.JudgedLaws.{part-long, part-bound}
+use Rattle.start.specs.Start.{kept, gridOf}
+use Rattle.start.proofs.StartLaws.{FilledTo, filled-to-none, filled-to-place, filled-to-more, filled-to-row, filled-to-all}
 use Rattle.start.proofs.fill_grid.Statement.{statement}
 use Rattle.start.proofs.fill_grid.Tie as tie
 
+abbrev Inv-loop2 : tie.InvT-loop2
+Inv-loop2 h b f states p₀ rows borders i state factors k₀ p k = FilledTo (gridOf h b f states) p i k
+
+abbrev μ-loop2 : tie.MeasureT-loop2
+μ-loop2 h b f states p₀ rows borders i state factors k₀ p k = h .borders - k
+
 abbrev Inv-loop : tie.InvT-loop
-Inv-loop h b f states p₀ borders k₀ k-end p k = Filled (λ k. gridOf (part h b f) (rowsWith [] states) .p (k / h .borders) (k % h .borders)) (h .rows * h .borders) p₀ p k
+Inv-loop h b f states p₀ rows borders i₀ p i = FilledTo (gridOf h b f states) p i 0
 
 abbrev μ-loop : tie.MeasureT-loop
-μ-loop h b f states p₀ borders k₀ k-end p k = h .rows * h .borders - k
+μ-loop h b f states p₀ rows borders i₀ p i = h .rows - i
 
-mul-k-end : tie.Need-mul-k-end Inv-loop μ-loop
-mul-k-end c =
-    let e = header-in _ (c .before .before .before .pre .0) in
-    omega (arith, mul-le-mul (e .rows-most) (e .borders-most))
+loop-holds : tie.Need-loop-holds Inv-loop2 μ-loop2 Inv-loop μ-loop
+unfolding gridOf
+loop-holds c = filled-to-none _ _ (c .before .before .pre .1 .1 .1 .1)
 
-loop-holds : tie.Need-loop-holds Inv-loop μ-loop
-loop-holds c = filled-none _ _ _
+mul-state : tie.Need-mul-state Inv-loop2 μ-loop2 Inv-loop μ-loop
+mul-state c = omega arith
 
-div-grid-p : tie.Need-div-grid-p Inv-loop μ-loop
-div-grid-p c = omega (arith, header-in _ (c .before .before .before .before .before .pre .0) .borders-least)
+shared-slice-read-state : tie.Need-shared-slice-read-state Inv-loop2 μ-loop2 Inv-loop μ-loop
+shared-slice-read-state c = omega (arith, c .before .before .before .before .before .pre .1 .1 .1 .0)
 
-rem-grid-p : tie.Need-rem-grid-p Inv-loop μ-loop
-rem-grid-p c = omega (arith, header-in _ (c .before .before .before .before .before .pre .0) .borders-least)
+row-factors-requires : tie.Need-row-factors-requires Inv-loop2 μ-loop2 Inv-loop μ-loop
+row-factors-requires c κs = (c .before .before .before .before .before .pre .0, omega arith)
 
-grid-p-requires : tie.Need-grid-p-requires Inv-loop μ-loop
-grid-p-requires c κs =
-    let q = c .before .before .before .before .before .pre in
-    let e = header-in _ (q .0) in
-    let k = c .before .loop .k in
-    (q .1 .0, (q .1 .1 .0, (q .1 .1 .1 .1 .0, (cell-row k (omega (arith, e .borders-least)) (omega arith), omega (arith, mod-lt k {m = c .before .before .before .before .before .args .h .borders} (omega (arith, e .borders-least)), q .1 .1 .1 .0)))))
+loop2-holds : tie.Need-loop2-holds Inv-loop2 μ-loop2 Inv-loop μ-loop
+loop2-holds c = c .before .before .before .loop .inv
 
-mul-p : tie.Need-mul-p Inv-loop μ-loop
-mul-p c = omega arith
+-- the row's index, and the function's entry, from where the row's factors are read
+module _ (c : tie.After-row-factors Inv-loop2 μ-loop2 Inv-loop μ-loop) where
+  abbrev row : ℕ
+  row = c .before .before .before .loop .i
 
-slice-write-p : tie.Need-slice-write-p Inv-loop μ-loop
-slice-write-p c = omega arith
+  abbrev entry : tie.Start Inv-loop2 μ-loop2 Inv-loop μ-loop
+  entry = c .before .before .before .before .before .before
 
-add-k : tie.Need-add-k Inv-loop μ-loop
+mul-cell : tie.Need-mul-cell Inv-loop2 μ-loop2 Inv-loop μ-loop
+mul-cell c = omega (arith, c .before .before .before .before .before .before .before .before .pre .1 .1 .0)
+
+shared-slice-copy-out-cell : tie.Need-shared-slice-copy-out-cell Inv-loop2 μ-loop2 Inv-loop μ-loop
+shared-slice-copy-out-cell c = omega (arith, c .before .before .before .before .before .before .before .before .pre .1 .1 .0)
+
+cell-requires : tie.Need-cell-requires Inv-loop2 μ-loop2 Inv-loop μ-loop
+cell-requires c κs =
+    let at-row = c .before .before .before in
+    let q = entry at-row .pre in
+    let k = c .before .before .loop2 .k in
+    let e = at-row .row-factors .ensures in (
+      part-bound (q .0) (row at-row) (omega arith) e,
+      subst (λ (n : ℕ). borderFits n (getD (entry at-row .args .b .now) k []) ≡ true) (sym (part-long (q .0) (row at-row) (omega arith) e)) (q .1 .0 .each k (omega (arith, q .1 .1 .0))),
+    )
+
+mul-p : tie.Need-mul-p Inv-loop2 μ-loop2 Inv-loop μ-loop
+unfolding gridOf
+mul-p c = omega (arith, filled-to-place (c .before .before .before .loop2 .inv) (omega arith) (omega arith))
+
+add-p : tie.Need-add-p Inv-loop2 μ-loop2 Inv-loop μ-loop
+unfolding gridOf
+add-p c = omega (arith, filled-to-place (c .before .before .before .loop2 .inv) (omega arith) (omega arith))
+
+mul-p-2 : tie.Need-mul-p-2 Inv-loop2 μ-loop2 Inv-loop μ-loop
+unfolding gridOf
+mul-p-2 c = omega (arith, filled-to-place (c .before .before .before .loop2 .inv) (omega arith) (omega arith))
+
+slice-write-p : tie.Need-slice-write-p Inv-loop2 μ-loop2 Inv-loop μ-loop
+unfolding gridOf
+slice-write-p c = filled-to-place (c .before .before .before .loop2 .inv) (omega arith) (omega arith)
+
+add-k : tie.Need-add-k Inv-loop2 μ-loop2 Inv-loop μ-loop
 add-k c = omega arith
 
-loop-less : tie.Need-loop-less Inv-loop μ-loop
+loop2-less : tie.Need-loop2-less Inv-loop2 μ-loop2 Inv-loop μ-loop
+loop2-less c = omega arith
+
+loop2-again : tie.Need-loop2-again Inv-loop2 μ-loop2 Inv-loop μ-loop
+unfolding gridOf kept
+loop2-again c =
+    let at-loop2 = c .before .before .before in
+    let at-row = at-loop2 .before in
+    let a = entry at-row .args in
+    filled-to-more (at-loop2 .loop2 .inv) (omega arith) (omega arith) _
+    (c .cell .ensures ∙ ap (λ (fs : List ℤ). cond (kept (a .states .now) (row at-row)) (pOf fs (borderOf (getD (a .b .now) (at-loop2 .loop2 .k) []))) 0) (at-row .row-factors .ensures))
+
+add-i : tie.Need-add-i Inv-loop2 μ-loop2 Inv-loop μ-loop
+add-i c = omega arith
+
+loop-less : tie.Need-loop-less Inv-loop2 μ-loop2 Inv-loop μ-loop
 loop-less c = omega arith
 
-loop-again : tie.Need-loop-again Inv-loop μ-loop
-loop-again c = filled-more (c .before .before .loop .inv) _ (omega arith) (omega (arith, c .before .before .before .before .before .before .pre .1 .1 .1 .1 .1)) (c .grid-p .ensures)
-
-same-length : tie.Need-same-length Inv-loop μ-loop
-same-length c = c .before .loop .inv .as-long
-
-returns : tie.Need-returns Inv-loop μ-loop
+loop-again : tie.Need-loop-again Inv-loop2 μ-loop2 Inv-loop μ-loop
 unfolding gridOf
-returns c = filled-all (c .before .loop .inv) (omega arith) (c .before .before .before .before .before .pre .1 .1 .1 .1 .1)
+loop-again c = filled-to-row (c .before .loop2 .inv) (omega arith) (omega arith)
+
+same-length : tie.Need-same-length Inv-loop2 μ-loop2 Inv-loop μ-loop
+unfolding gridOf
+same-length c = c .before .loop .inv .long ∙ sym (c .before .before .before .before .pre .1 .1 .1 .1)
+
+returns : tie.Need-returns Inv-loop2 μ-loop2 Inv-loop μ-loop
+unfolding gridOf
+returns c = filled-to-all (c .before .loop .inv) (omega arith)
 
 pub fill-grid-spec : {M : Type 1} → statement M
 fill-grid-spec =
     tie.close
     (tie.spec
+    Inv-loop2
+    μ-loop2
     Inv-loop
     μ-loop
-    mul-k-end
     loop-holds
-    div-grid-p
-    rem-grid-p
-    grid-p-requires
+    mul-state
+    shared-slice-read-state
+    row-factors-requires
+    loop2-holds
+    mul-cell
+    shared-slice-copy-out-cell
+    cell-requires
     mul-p
+    add-p
+    mul-p-2
     slice-write-p
     add-k
+    loop2-less
+    loop2-again
+    add-i
     loop-less
     loop-again
     same-length

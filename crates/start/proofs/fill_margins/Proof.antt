@@ -2,32 +2,45 @@
 use mathlib.Core.Bool.{cond}
 use Prim.Native.Nat.{_-_}
 use native.Mathlib.Omega.{arith}
+use borrow.Author.Needs.{needs}
+use lib.ListN.{length}
 use Rattle.numbers.specs.Ints.{positivePart}
+use Rattle.numbers.proofs.IntLaws.{plain}
 use Rattle.numbers.proofs.ListLaws.{Filled, filled-none, filled-more, filled-all}
-use Rattle.start.specs.Start.{kept, marginOf, startOf}
-use Rattle.start.specs.Filled.{part, rowsWith}
+use Rattle.kinds.specs.Ranges.{atℤ}
+use Rattle.start.specs.Start.{kept}
 use Rattle.start.proofs.fill_margins.Statement.{statement}
 use Rattle.start.proofs.fill_margins.Tie as tie
 
 abbrev Inv-loop : tie.InvT-loop
-Inv-loop h b f rams states margins₀ i₀ i-end margins i = Filled (λ i. cond (kept (rowsWith rams states) i) (positivePart (marginOf (part h b f) (rowsWith rams states) i)) 0) (h .rows) margins₀ margins i
+Inv-loop states starts margins₀ i₀ i-end margins i = Filled (λ i. cond (kept states i) (positivePart (atℤ starts i)) 0) (length states) margins₀ margins i
 
 abbrev μ-loop : tie.MeasureT-loop
-μ-loop h b f rams states margins₀ i₀ i-end margins i = h .rows - i
+μ-loop states starts margins₀ i₀ i-end margins i = length states - i
 
 loop-holds : tie.Need-loop-holds Inv-loop μ-loop
 loop-holds c = filled-none _ _ _
 
-margin-at-requires : tie.Need-margin-at-requires Inv-loop μ-loop
-margin-at-requires c κs =
-    let q = c .before .before .before .before .pre in
-    (q .0, (q .1 .0, (q .1 .1 .0, (q .1 .1 .1 .0, omega arith))))
+mul-state : tie.Need-mul-state Inv-loop μ-loop
+mul-state c = omega arith
+
+shared-slice-read-state : tie.Need-shared-slice-read-state Inv-loop μ-loop
+shared-slice-read-state c = omega arith
+
+mul-start : tie.Need-mul-start Inv-loop μ-loop
+mul-start c = omega (arith, c .before .before .before .before .before .pre .0)
+
+shared-slice-copy-out-start : tie.Need-shared-slice-copy-out-start Inv-loop μ-loop
+shared-slice-copy-out-start c = omega (arith, c .before .before .before .before .before .pre .0)
+
+margin-of-requires : tie.Need-margin-of-requires Inv-loop μ-loop
+margin-of-requires c κs = search needs
 
 mul-margins : tie.Need-mul-margins Inv-loop μ-loop
-mul-margins c = omega (arith, c .before .before .loop .inv .as-long, c .before .before .before .before .before .pre .1 .1 .1 .1)
+mul-margins c = omega (arith, c .before .before .before .before .loop .inv .as-long, c .before .before .before .before .before .before .before .pre .1)
 
 slice-write-margins : tie.Need-slice-write-margins Inv-loop μ-loop
-slice-write-margins c = omega (arith, c .before .before .loop .inv .as-long, c .before .before .before .before .before .pre .1 .1 .1 .1)
+slice-write-margins c = omega (arith, c .before .before .before .before .loop .inv .as-long, c .before .before .before .before .before .before .before .pre .1)
 
 add-i : tie.Need-add-i Inv-loop μ-loop
 add-i c = omega arith
@@ -36,14 +49,14 @@ loop-less : tie.Need-loop-less Inv-loop μ-loop
 loop-less c = omega arith
 
 loop-again : tie.Need-loop-again Inv-loop μ-loop
-loop-again c = filled-more (c .before .before .loop .inv) _ (omega arith) (omega (arith, c .before .before .before .before .before .pre .1 .1 .1 .1)) (c .margin-at .ensures)
+unfolding kept
+loop-again c = filled-more (c .before .before .before .before .loop .inv) _ (omega arith) (omega (arith, c .before .before .before .before .before .before .before .pre .1)) (rw (plain _ (c .before .start .given)) at (c .margin-of .ensures))
 
 same-length : tie.Need-same-length Inv-loop μ-loop
 same-length c = c .before .loop .inv .as-long
 
 returns : tie.Need-returns Inv-loop μ-loop
-unfolding startOf
-returns c = filled-all (c .before .loop .inv) (omega arith) (c .before .before .before .before .pre .1 .1 .1 .1)
+returns c = filled-all (c .before .loop .inv) (omega arith) (c .before .before .before .before .pre .1)
 
 pub fill-margins-spec : {M : Type 1} → statement M
 fill-margins-spec =
@@ -52,7 +65,11 @@ fill-margins-spec =
     Inv-loop
     μ-loop
     loop-holds
-    margin-at-requires
+    mul-state
+    shared-slice-read-state
+    mul-start
+    shared-slice-copy-out-start
+    margin-of-requires
     mul-margins
     slice-write-margins
     add-i

@@ -3,22 +3,21 @@
 use mathlib.Core.Bool.{_&&_}
 use Prim.Native.Nat.{_-_}
 use native.Mathlib.Omega.{arith}
-use borrow.Author.Needs.{sfits-of}
 use lib.IntN.{pos}
+use lib.ListN.{length}
 use lib.Signed.{ltZ}
-use mir.Facts.{toZ-ofZ}
-use Rattle.numbers.specs.Below.{at}
+use Rattle.numbers.proofs.IntLaws.{plain}
 use Rattle.numbers.proofs.BelowLaws.{Looked, looked-none, looked-all, looked-here, looked-more}
-use Rattle.start.specs.Start.{kept, marginOf}
-use Rattle.start.specs.Filled.{part, rowsWith}
+use Rattle.kinds.specs.Ranges.{atℤ}
+use Rattle.start.specs.Start.{kept}
 use Rattle.start.proofs.first_below.Statement.{statement}
 use Rattle.start.proofs.first_below.Tie as tie
 
 abbrev Inv-loop : tie.InvT-loop
-Inv-loop h b f rams states i₀ i-end i = Looked (h .rows) (λ i. kept (rowsWith rams states) i && ltZ (marginOf (part h b f) (rowsWith rams states) i) (pos 0)) i
+Inv-loop states starts i₀ i-end i = Looked (length states) (λ i. kept states i && ltZ (atℤ starts i) (pos 0)) i
 
 abbrev μ-loop : tie.MeasureT-loop
-μ-loop h b f rams states i₀ i-end i = h .rows - i
+μ-loop states starts i₀ i-end i = length states - i
 
 loop-holds : tie.Need-loop-holds Inv-loop μ-loop
 loop-holds c = looked-none _ _
@@ -29,14 +28,15 @@ mul-state c = omega arith
 shared-slice-read-state : tie.Need-shared-slice-read-state Inv-loop μ-loop
 shared-slice-read-state c = omega arith
 
-start-at-requires : tie.Need-start-at-requires Inv-loop μ-loop
-start-at-requires c κs =
-    let q = c .before .before .before .before .pre in
-    (q .0, (q .1 .0, (q .1 .1 .0, (q .1 .1 .1 .0, omega arith))))
+mul-start : tie.Need-mul-start Inv-loop μ-loop
+mul-start c = omega (arith, c .before .before .before .pre)
+
+shared-slice-copy-out-start : tie.Need-shared-slice-copy-out-start Inv-loop μ-loop
+shared-slice-copy-out-start c = omega (arith, c .before .before .before .pre)
 
 returns : tie.Need-returns Inv-loop μ-loop
-unfolding kept marginOf
-returns c = looked-here _ _ _ (c .before .before .before .before .loop .inv) (omega arith) (rw (toZ-ofZ (sfits-of (c .before .start-at .ok)), c .before .start-at .ensures) at (c .if1 .taken))
+unfolding kept
+returns c = looked-here _ _ _ (c .before .before .before .before .loop .inv) (omega arith) (rw (plain _ (c .before .start .given)) at (c .if1 .taken))
 
 add-i : tie.Need-add-i Inv-loop μ-loop
 add-i c = omega arith
@@ -45,8 +45,8 @@ loop-less : tie.Need-loop-less Inv-loop μ-loop
 loop-less c = omega arith
 
 loop-again : tie.Need-loop-again Inv-loop μ-loop
-unfolding kept marginOf
-loop-again c = looked-more _ _ _ (c .before .before .before .before .loop .inv) (omega arith) (rw (toZ-ofZ (sfits-of (c .before .start-at .ok)), c .before .start-at .ensures) at (c .if1 .left))
+unfolding kept
+loop-again c = looked-more _ _ _ (c .before .before .before .before .loop .inv) (omega arith) (rw (plain _ (c .before .start .given)) at (c .if1 .left))
 
 returns-2 : tie.Need-returns-2 Inv-loop μ-loop
 returns-2 c = looked-all _ _ _ (c .before .loop .inv) (omega arith)
@@ -60,7 +60,8 @@ first-below-spec =
     loop-holds
     mul-state
     shared-slice-read-state
-    start-at-requires
+    mul-start
+    shared-slice-copy-out-start
     returns
     add-i
     loop-less

@@ -1,44 +1,30 @@
 -- `start::judge_start` meets its contract: each search is a link of the definition's chain, and the first that found something decides. Assumes nothing.
 use mathlib.Core.Path.{_≡_, sym, ap, _∙_}
 use mathlib.Core.Bool.{true}
-use native.Mathlib.Omega.{arith}
 use borrow.Author.Tests.{not-true, not-false}
 use borrow.Author.Needs.{needs}
-use lib.Dec.{eqb}
 use lib.ListN.{length}
-use Rattle.numbers.specs.Below.{at, someBelow}
+use Rattle.numbers.specs.Below.{someBelow}
 use Rattle.numbers.specs.First.{found}
-use Rattle.table.specs.Table.{Table}
-use Rattle.start.specs.Start.{Rows}
-use Rattle.start.specs.Filled.{part, rowsWith}
-use Rattle.start.proofs.StartLaws.{cells-long, none-kept, border-free, row-below, may-start}
+use Rattle.start.specs.Start.{kept}
+use Rattle.start.proofs.StartLaws.{none-kept, border-free, row-below, may-start}
 use Rattle.start.proofs.judge_start.Statement.{statement}
 use Rattle.start.proofs.judge_start.Tie as tie
-
--- the table and the rows that are judged
-module _ (s : tie.Start) where
-  abbrev table : Table
-  table = part (s .args .h) (s .args .b .now) (s .args .f .now)
-
-  abbrev rows : Rows
-  rows = rowsWith (s .args .rams .now) (s .args .states .now)
 
 some-kept-requires : tie.Need-some-kept-requires
 some-kept-requires c κs = search needs
 
 returns : tie.Need-returns
-returns c =
-    let s = c .before .before .before .before in
-    none-kept (table s) (rows s) _ (s .pre .1 .1 .1 .0 .1) (s .pre .1 .1 .1 .1) (sym (c .before .some-kept .ensures) ∙ not-true _ (c .if1 .taken))
+returns c = none-kept _ _ _ (c .before .before .before .before .pre .1 .0) (sym (c .before .some-kept .ensures) ∙ not-true _ (c .if1 .taken))
 
 -- past refusal 5
 some-row : (c : tie.Else1)
     → let states = c .before .before .before .before .args .states .now in
-    someBelow (length states) (λ i. eqb (at states i) 0) ≡ true
+    someBelow (length states) (kept states) ≡ true
 some-row c = sym (c .before .some-kept .ensures) ∙ not-false _ (c .if1 .left)
 
 first-unlimited-requires : tie.Need-first-unlimited-requires
-first-unlimited-requires c κs = omega (arith, ap length (c .before .before .before .before .pre .1 .1 .1 .1) ∙ cells-long _ _)
+first-unlimited-requires c κs = c .before .before .before .before .pre .0
 
 enum-known-k : tie.Need-enum-known-k
 enum-known-k c = search needs
@@ -46,16 +32,13 @@ enum-known-k c = search needs
 returns-2 : tie.Need-returns-2
 returns-2 c =
     let past-5 = c .before .before .before .before in
-    let s = past-5 .before .before .before .before in
-    border-free (table s) (rows s) _ (s .pre .1 .1 .1 .0 .1) (s .pre .1 .1 .1 .1) (some-row past-5) _ (sym (ap found (c .before .k .given .1)) ∙ c .before .before .before .first-unlimited .ensures)
+    border-free _ _ _ (past-5 .before .before .before .before .pre .1 .0) (some-row past-5) _ (sym (ap found (c .before .k .given .1)) ∙ c .before .before .before .first-unlimited .ensures)
 
 enum-told : tie.Need-enum-told
 enum-told c = search needs
 
 first-below-requires : tie.Need-first-below-requires
-first-below-requires c κs =
-    let q = c .before .before .before .before .before .before .before .pre in
-    (q .0, (q .1 .0, (q .1 .1 .0, q .1 .1 .1 .0)))
+first-below-requires c κs = c .before .before .before .before .before .before .before .pre .1 .1 ∙ sym (c .before .before .before .before .before .before .before .pre .1 .0)
 
 enum-known-i : tie.Need-enum-known-i
 enum-known-i c = search needs
@@ -64,8 +47,7 @@ returns-3 : tie.Need-returns-3
 returns-3 c =
     let past-6 = c .before .before .before .before in
     let past-5 = past-6 .before .before .before in
-    let s = past-5 .before .before .before .before in
-    row-below (table s) (rows s) _ (s .pre .1 .1 .1 .0 .1) (s .pre .1 .1 .1 .1) (some-row past-5) (sym (ap found (past-6 .enum-told .given .1)) ∙ past-6 .before .before .first-unlimited .ensures) _
+    row-below _ _ _ (past-5 .before .before .before .before .pre .1 .0) (some-row past-5) (sym (ap found (past-6 .enum-told .given .1)) ∙ past-6 .before .before .first-unlimited .ensures) _
     (sym (ap found (c .before .i .given .1)) ∙ c .before .before .before .first-below .ensures)
 
 enum-told-2 : tie.Need-enum-told-2
@@ -75,8 +57,7 @@ returns-4 : tie.Need-returns-4
 returns-4 c =
     let past-6 = c .before .before .before in
     let past-5 = past-6 .before .before .before in
-    let s = past-5 .before .before .before .before in
-    may-start (table s) (rows s) _ (s .pre .1 .1 .1 .0 .1) (s .pre .1 .1 .1 .1) (some-row past-5) (sym (ap found (past-6 .enum-told .given .1)) ∙ past-6 .before .before .first-unlimited .ensures)
+    may-start _ _ _ (past-5 .before .before .before .before .pre .1 .0) (some-row past-5) (sym (ap found (past-6 .enum-told .given .1)) ∙ past-6 .before .before .first-unlimited .ensures)
     (sym (ap found (c .enum-told2 .given .1)) ∙ c .before .before .first-below .ensures)
 
 pub judge-start-spec : {M : Type 1} → statement M

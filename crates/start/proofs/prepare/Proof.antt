@@ -1,41 +1,44 @@
 -- `start::prepare` meets its contract: what each call fills in is a part of `preparedOf`. Assumes nothing.
+use mathlib.Core.Path.{sym, ap, _∙_}
+use native.Mathlib.Omega.{arith}
 use borrow.Author.Needs.{needs}
+use lib.ListN.{length}
+use Rattle.numbers.proofs.BelowLaws.{table-long}
 use Rattle.margin.proofs.JudgedLaws.{good-factors, good-borders}
-use Rattle.start.proofs.StartLaws.{rows-in, grid-of, prepared-by}
+use Rattle.start.proofs.StartLaws.{grid-long, rows-in, prepared-by}
 use Rattle.start.proofs.prepare.Statement.{statement}
 use Rattle.start.proofs.prepare.Tie as tie
 
 fill-rows-requires : tie.Need-fill-rows-requires
 fill-rows-requires c κs = search needs
 
--- where the rows are filled in, from where the grid is; and the function's entry
+-- from one call to the call before it, and to the function's entry
+abbrev grid-before : tie.After-fill-margins → tie.After-fill-grid
+grid-before c = c .before .before .before .before .before .before
+
 abbrev rows-before : tie.After-fill-grid → tie.After-fill-rows
-rows-before c = c .before .before .before .before .before .before
+rows-before c = c .before .before .before .before .before .before .before
 
 abbrev entry : tie.After-fill-rows → tie.Start
-entry c = c .before .before .before .before .before .before
+entry c = c .before .before .before .before .before .before .before
 
 fill-grid-requires : tie.Need-fill-grid-requires
 fill-grid-requires c κs =
-    let at-rows = c .before .before .before .before .before in
+    let at-rows = c .before .before .before .before .before .before in
     let q = entry at-rows .pre in
-    let rows = rows-in _ _ (q .0) (at-rows .fill-rows .ensures) in
-    (q .0 .exact .header, (good-factors (q .0), (good-borders (q .0), (q .0 .exact .borders-long, (rows .states-long, q .1 .1 .1 .0)))))
+    (good-factors (q .0), (good-borders (q .0), (q .0 .exact .borders-long, (rows-in _ _ (at-rows .fill-rows .ensures .0) .states-long, q .1 .1 .1 .0))))
 
 fill-margins-requires : tie.Need-fill-margins-requires
 fill-margins-requires c κs =
-    let at-rows = c .before .before .before .before .before .before .before .before .before .before .before in
-    let q = entry at-rows .pre in
-    let rows = rows-in _ _ (q .0) (at-rows .fill-rows .ensures) in
-    (good-factors (q .0), (good-borders (q .0), (rows .rams-in, ((rows .rams-long, rows .states-long), q .1 .1 .1 .1))))
+    let at-rows = rows-before (c .before .before .before .before .before) in
+    let long = rows-in _ _ (at-rows .fill-rows .ensures .0) .states-long in
+    (ap length (at-rows .fill-rows .ensures .1) ∙ table-long _ _ ∙ sym long, entry at-rows .pre .1 .1 .1 .1 ∙ sym long)
 
 judge-start-requires : tie.Need-judge-start-requires
 judge-start-requires c κs =
-    let at-grid = c .before .before .before .before .before .before .before .before .before .before .before in
-    let at-rows = rows-before at-grid in
-    let good = entry at-rows .pre .0 in
-    let rows = rows-in _ _ good (at-rows .fill-rows .ensures) in
-    (good-factors good, (good-borders good, (rows .rams-in, ((rows .rams-long, rows .states-long), grid-of _ _ _ _ _ _ (at-grid .fill-grid .ensures)))))
+    let at-grid = grid-before (c .before .before .before .before .before) in
+    let said = rows-before at-grid .fill-rows .ensures in
+    (omega (arith, grid-long _ _ _ _ (at-grid .fill-grid .ensures)), (rows-in _ _ (said .0) .states-long, ap length (said .1) ∙ table-long _ _))
 
 same-length : tie.Need-same-length
 same-length c = search needs
@@ -49,11 +52,15 @@ same-length-3 c = search needs
 same-length-4 : tie.Need-same-length-4
 same-length-4 c = search needs
 
+same-length-5 : tie.Need-same-length-5
+same-length-5 c = search needs
+
 returns : tie.Need-returns
 returns c =
     let at-margins = c .before .before .before .before .before .before in
-    let at-grid = at-margins .before .before .before .before .before .before in
-    prepared-by _ _ _ _ _ (c .judge-start .result) _ _ _ _ (rows-before at-grid .fill-rows .ensures) (grid-of _ _ _ _ _ _ (at-grid .fill-grid .ensures)) (at-margins .fill-margins .ensures) (c .judge-start .ensures)
+    let at-grid = grid-before at-margins in
+    let said = rows-before at-grid .fill-rows .ensures in
+    prepared-by _ (c .judge-start .result) (said .0) (said .1) (rows-in _ _ (said .0) .states-long) (at-grid .fill-grid .ensures) (at-margins .fill-margins .ensures) (c .judge-start .ensures)
 
 pub prepare-spec : {M : Type 1} → statement M
 prepare-spec =
@@ -67,4 +74,5 @@ prepare-spec =
     same-length-2
     same-length-3
     same-length-4
+    same-length-5
     returns)

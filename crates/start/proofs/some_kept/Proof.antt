@@ -3,15 +3,15 @@ use mathlib.Core.Path.{ap}
 use Prim.Native.Nat.{_-_}
 use native.Mathlib.Omega.{arith}
 use borrow.Author.Tests.{eq-eqb, ne-eqb}
-use lib.Dec.{eqb}
 use lib.ListN.{length}
-use Rattle.numbers.specs.Below.{at, given}
+use Rattle.numbers.specs.Below.{given}
 use Rattle.numbers.proofs.BelowLaws.{Looked, looked-none, looked-all, looked-here, looked-more}
+use Rattle.start.specs.Start.{kept}
 use Rattle.start.proofs.some_kept.Statement.{statement}
 use Rattle.start.proofs.some_kept.Tie as tie
 
 abbrev Inv-loop : tie.InvT-loop
-Inv-loop states i₀ i-end i = Looked (length states) (λ i. eqb (at states i) 0) i
+Inv-loop states i₀ i-end i = Looked (length states) (kept states) i
 
 abbrev μ-loop : tie.MeasureT-loop
 μ-loop states i₀ i-end i = length states - i
@@ -26,7 +26,7 @@ shared-slice-read-if1 : tie.Need-shared-slice-read-if1 Inv-loop μ-loop
 shared-slice-read-if1 c = omega arith
 
 returns : tie.Need-returns Inv-loop μ-loop
-unfolding given
+unfolding given kept
 returns c = ap given (looked-here _ _ _ (c .before .before .before .loop .inv) (omega arith) (eq-eqb _ _ (c .if1 .taken)))
 
 add-i : tie.Need-add-i Inv-loop μ-loop
@@ -36,6 +36,7 @@ loop-less : tie.Need-loop-less Inv-loop μ-loop
 loop-less c = omega arith
 
 loop-again : tie.Need-loop-again Inv-loop μ-loop
+unfolding kept
 loop-again c = looked-more _ _ _ (c .before .before .before .loop .inv) (omega arith) (ne-eqb _ _ (c .if1 .left))
 
 returns-2 : tie.Need-returns-2 Inv-loop μ-loop

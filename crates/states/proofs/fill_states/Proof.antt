@@ -1,23 +1,20 @@
 -- `states::fill_states` meets its contract. The loop's invariant: the first i rows have their state. The measure is the rows that are left.
 -- Assumes nothing.
-use mathlib.Core.List.{List, []}
 use Prim.Native.Nat.{_-_}
 use native.Mathlib.Omega.{arith}
-use lib.IntN.{ℤ}
 use Rattle.numbers.proofs.ListLaws.{Filled, filled-none, filled-more, filled-all}
-use Rattle.table.specs.Table.{lent}
 use Rattle.states.specs.States.{stateOf}
 use Rattle.states.proofs.fill_states.Statement.{statement}
 use Rattle.states.proofs.fill_states.Tie as tie
 
 abbrev Inv-loop : tie.InvT-loop
-Inv-loop header f rams states₀ i₀ i-end states i = (z : List ℤ) (b c : List (List ℤ)) → Filled (stateOf (lent header z b c f) rams) (header .rows) states₀ states i
+Inv-loop header f rams states₀ i₀ i-end states i = Filled (stateOf header f rams) (header .rows) states₀ states i
 
 abbrev μ-loop : tie.MeasureT-loop
 μ-loop header f rams states₀ i₀ i-end states i = header .rows - i
 
 loop-holds : tie.Need-loop-holds Inv-loop μ-loop
-loop-holds c = λ z b r. filled-none _ _ _
+loop-holds c = filled-none _ _ _
 
 state-of-requires : tie.Need-state-of-requires Inv-loop μ-loop
 state-of-requires c κs =
@@ -25,25 +22,25 @@ state-of-requires c κs =
     (start .pre .0, (start .pre .1 .0, omega arith))
 
 mul-states : tie.Need-mul-states Inv-loop μ-loop
-mul-states c = omega (arith, c .before .before .loop .inv [] [] [] .as-long, c .before .before .before .before .pre .1 .1)
+mul-states c = omega (arith, c .before .before .loop .inv .as-long, c .before .before .before .before .pre .1 .1)
 
 slice-write-states : tie.Need-slice-write-states Inv-loop μ-loop
-slice-write-states c = omega (arith, c .before .before .loop .inv [] [] [] .as-long, c .before .before .before .before .pre .1 .1)
+slice-write-states c = omega (arith, c .before .before .loop .inv .as-long, c .before .before .before .before .pre .1 .1)
 
 add-i : tie.Need-add-i Inv-loop μ-loop
-add-i c = omega (arith, c .before .before .loop .inv [] [] [] .as-long, c .before .before .before .before .pre .1 .1)
+add-i c = omega (arith, c .before .before .loop .inv .as-long, c .before .before .before .before .pre .1 .1)
 
 loop-less : tie.Need-loop-less Inv-loop μ-loop
 loop-less c = omega arith
 
 loop-again : tie.Need-loop-again Inv-loop μ-loop
-loop-again c = λ z b r. filled-more (c .before .before .loop .inv z b r) _ (omega arith) (omega (arith, c .before .before .before .before .pre .1 .1)) (c .state-of .ensures z b r)
+loop-again c = filled-more (c .before .before .loop .inv) _ (omega arith) (omega (arith, c .before .before .before .before .pre .1 .1)) (c .state-of .ensures)
 
 same-length : tie.Need-same-length Inv-loop μ-loop
-same-length c = c .before .loop .inv [] [] [] .as-long
+same-length c = c .before .loop .inv .as-long
 
 returns : tie.Need-returns Inv-loop μ-loop
-returns c = λ z b r. filled-all (c .before .loop .inv z b r) (omega (arith, c .before .loop .inv [] [] [])) (c .before .before .before .pre .1 .1)
+returns c = filled-all (c .before .loop .inv) (omega arith) (c .before .before .before .pre .1 .1)
 
 pub fill-states-spec : {M : Type 1} → statement M
 fill-states-spec =

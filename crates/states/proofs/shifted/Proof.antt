@@ -1,4 +1,4 @@
--- `states::shifted` meets its contract. The loop's invariant: what is left to look at from zone z on comes to what the whole comes to.
+-- `states::shifted` meets its contract. The loop's invariant: what is left to look at from zone z on comes to what the whole comes to. Zone 0 differs as itself.
 -- The measure is the zones that are left.
 -- Assumes nothing.
 use mathlib.Core.Path.{_≡_, sym, ap, _∙_}
@@ -14,7 +14,7 @@ use mir.Syntax.{w64}
 use mir.Val.{SFits}
 use Rattle.numbers.specs.Ints.{sameℤ}
 use Rattle.numbers.specs.Below.{given}
-use Rattle.numbers.proofs.IntLaws.{within-fits}
+use Rattle.numbers.proofs.IntLaws.{within-fits, same-self}
 use Rattle.numbers.proofs.BelowLaws.{Looked, looked-none, looked-all, looked-here, looked-more}
 use Rattle.kinds.specs.Ranges.{atℤ}
 use Rattle.states.specs.States.{shifted}
@@ -56,7 +56,7 @@ sub-d c =
     simp (toZ-ofZ, f-fits s 0 h, g-fits s 0 h) (d-fits s 0 h)
 
 loop-holds : tie.Need-loop-holds Inv-loop μ-loop
-loop-holds c = looked-none _ _
+loop-holds c = looked-more _ _ 0 (looked-none _ _) (c .before .before .pre .0 .some) (ap not (same-self _))
 
 mul-f : tie.Need-mul-f Inv-loop μ-loop
 mul-f c = omega arith

@@ -3,25 +3,21 @@ use mathlib.Core.Path.{sym, ap₂, _∙_}
 use borrow.Author.Needs.{needs}
 use lib.IntN.{ℤ}
 use mathlib.Core.List.{List}
-use Rattle.table.specs.Table.{stretch}
-use Rattle.states.specs.States.{shifted}
+use Rattle.states.specs.States.{shifted, below}
 use Rattle.margin.proofs.JudgedLaws.{part-long, part-bound}
-use Rattle.states.proofs.StateLaws.{both-first, both-second}
+use Rattle.states.proofs.StateLaws.{late-first, late-second}
 use Rattle.states.proofs.stands_for.Statement.{statement}
 use Rattle.states.proofs.stands_for.Tie as tie
-
-below-requires : tie.Need-below-requires
-below-requires c κs = search needs
 
 row-factors-requires : tie.Need-row-factors-requires
 row-factors-requires c κs = search needs
 
 row-factors-requires-2 : tie.Need-row-factors-requires-2
-row-factors-requires-2 c κs = search needs
+row-factors-requires-2 c = search needs
 
 shifted-requires : tie.Need-shifted-requires
 shifted-requires c κs =
-    let start = c .before .before .before .before in
+    let start = c .before .before in
     let t = start .pre .0 in
     let j = start .pre .1 .1 .0 in
     let i = start .pre .1 .1 .1 in (
@@ -32,23 +28,22 @@ shifted-requires c κs =
       ),
     )
 
+below-requires : tie.Need-below-requires
+below-requires c κs = search needs
+
 returns : tie.Need-returns
 returns c =
-    both-second (c .before .before .before .before .below .ensures) (c .before .before .before .if1 .taken)
-    (c .shifted .ensures ∙ ap₂ (λ (fs gs : List ℤ). shifted fs gs) (c .before .before .row-factors .ensures) (c .before .row-factors2 .ensures))
+    late-first
+    (c .before .before .shifted .ensures ∙ ap₂ (λ (fs gs : List ℤ). shifted fs gs) (c .before .before .before .before .row-factors .ensures) (c .before .before .before .row-factors2 .ensures))
+    (c .before .if1 .taken) (c .below .ensures)
 
 returns-2 : tie.Need-returns-2
 returns-2 c =
-    let a = c .before .before .args in
-    both-first (shifted (stretch (a .header .zones) (a .f .now) (a .j)) (stretch (a .header .zones) (a .f .now) (a .i))) (c .before .below .ensures) (c .if1 .left)
+    let a = c .before .before .before .before .args in
+    late-second (below (a .rams .now) (a .j) (a .i))
+    (c .before .shifted .ensures ∙ ap₂ (λ (fs gs : List ℤ). shifted fs gs) (c .before .before .before .row-factors .ensures) (c .before .before .row-factors2 .ensures))
+    (c .if1 .left)
 
 pub stands-for-spec : {M : Type 1} → statement M
 stands-for-spec =
-    tie.close
-    (tie.spec
-    below-requires
-    row-factors-requires
-    row-factors-requires-2
-    shifted-requires
-    returns
-    returns-2)
+    tie.close (tie.spec row-factors-requires row-factors-requires-2 shifted-requires below-requires returns returns-2)

@@ -26,7 +26,7 @@ small c = c .spread-small .ensures ∙ ap (λ (fs : List ℤ). ltZ (spreadOf fs)
 returns : tie.Need-returns
 returns c =
     let a = c .before .before .before .args in
-    λ z b r. state-spread (a .header) (a .f .now) (a .rams .now) (a .i) z b r (sym (small (c .before)) ∙ c .if1 .taken)
+    state-spread (a .header) (a .f .now) (a .rams .now) (a .i) (sym (small (c .before)) ∙ c .if1 .taken)
 
 stood-for-requires : tie.Need-stood-for-requires
 stood-for-requires c κs = search needs
@@ -34,12 +34,12 @@ stood-for-requires c κs = search needs
 returns-2 : tie.Need-returns-2
 returns-2 c =
     let a = c .before .before .before .before .before .args in
-    λ z b r. state-stood (a .header) (a .f .now) (a .rams .now) (a .i) z b r (sym (small (c .before .before .before)) ∙ c .before .before .if1 .left) (sym (c .before .stood-for .ensures) ∙ c .if2 .taken)
+    state-stood (a .header) (a .f .now) (a .rams .now) (a .i) (sym (small (c .before .before .before)) ∙ c .before .before .if1 .left) (sym (c .before .stood-for .ensures) ∙ c .if2 .taken)
 
 returns-3 : tie.Need-returns-3
 returns-3 c =
     let a = c .before .before .before .before .before .args in
-    λ z b r. state-kept (a .header) (a .f .now) (a .rams .now) (a .i) z b r (sym (small (c .before .before .before)) ∙ c .before .before .if1 .left) (sym (c .before .stood-for .ensures) ∙ c .if2 .left)
+    state-kept (a .header) (a .f .now) (a .rams .now) (a .i) (sym (small (c .before .before .before)) ∙ c .before .before .if1 .left) (sym (c .before .stood-for .ensures) ∙ c .if2 .left)
 
 pub state-of-spec : {M : Type 1} → statement M
 state-of-spec =

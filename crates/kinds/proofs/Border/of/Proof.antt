@@ -1,15 +1,17 @@
--- `kinds::Border::of` meets its contract: a record that fits has no number below 0, so the casts lose nothing. Assumes nothing.
-use mathlib.Core.Path.{_≡_, sym, _∙_}
+-- `kinds::Border::of` meets its contract: the test is made of the three numbers as they were lent. Assumes nothing.
+use mathlib.Core.Path.{_≡_, sym, ap, _∙_}
 use borrow.Author.Needs.{needs}
-use Rattle.numbers.proofs.IntLaws.{plain, natural-cast}
-use Rattle.kinds.specs.Ranges.{borderOf, borderFits}
+use Rattle.numbers.proofs.IntLaws.{plain}
+use Rattle.kinds.specs.declared.BorderRead.the-variants as border
+use Rattle.kinds.specs.Ranges.{borderFits}
 use Rattle.kinds.specs.Kinds.{borderRead}
-use Rattle.kinds.proofs.KindLaws.{BorderIn, border-listed, border-in}
+use Rattle.kinds.proofs.KindLaws.{border-listed}
 use Rattle.kinds.proofs.Border.of.Statement.{statement}
 use Rattle.kinds.proofs.Border.of.Tie as tie
 use Rattle.kinds.proofs.Border.of.Reads as reads
 use Rattle.kinds.proofs.Border.of.Lts as lts
 use Rattle.kinds.proofs.Border.fits.Reads as fits-reads
+use Rattle.kinds.proofs.Border.judged.Reads as judged-reads
 
 array-copy-out-from : tie.Need-array-copy-out-from
 array-copy-out-from c = search needs
@@ -24,30 +26,17 @@ fits-requires : tie.Need-fits-requires
 fits-requires c κs = search needs
 
 -- the test is the definition's, of the record as it was lent
-said : (c : lts.After-fits2 (fits-reads.Asked, fits-reads.Learnt) reads.Pre reads.Post) → c .fits2 .result ≡ borderFits (c .before .before .before .before .args .zones) (c .before .before .before .before .args .t2)
+said : (c : lts.After-fits2 (fits-reads.Asked, fits-reads.Learnt, judged-reads.Asked, judged-reads.Learnt) reads.Pre reads.Post) → c .fits2 .result ≡ borderFits (c .before .before .before .before .args .zones) (c .before .before .before .before .args .t2)
 said c =
     let at-to = c .before .before in
     simp (plain, at-to .before .from .given, at-to .to .given, c .before .lta .given) at (c .fits2 .ensures) ∙ border-listed _ (at-to .before .before .args .t2)
 
--- .. so its numbers are natural
-natural : (c : lts.Then1 (fits-reads.Asked, fits-reads.Learnt) reads.Pre reads.Post) → BorderIn (c .before .before .before .before .before .args .zones) (c .before .before .before .before .before .args .t2)
-natural c = border-in _ _ (sym (said (c .before)) ∙ c .if1 .taken)
-
-cast-t16 : tie.Need-cast-t16
-cast-t16 c = natural-cast _ _ (c .before .before .before .before .from .given) (natural c .from)
-
-cast-t17 : tie.Need-cast-t17
-cast-t17 c = natural-cast _ _ (c .before .before .before .to .given) (natural c .to)
-
-cast-t18 : tie.Need-cast-t18
-cast-t18 c = natural-cast _ _ (c .before .before .lta .given) (natural c .lta)
+judged-requires : tie.Need-judged-requires
+judged-requires c κs = sym (said (c .before)) ∙ c .if1 .taken
 
 returns : tie.Need-returns
-unfolding borderRead borderOf
-returns c =
-    let at-to = c .before .before .before in
-    let fits = sym (said (c .before)) ∙ c .if1 .taken in
-    simp (plain, at-to .before .from .given, at-to .to .given, c .before .before .lta .given, fits)
+unfolding borderRead
+returns c = rw (sym (said (c .before .before)) ∙ c .before .if1 .taken) (ap border.Good (c .judged .ensures))
 
 returns-2 : tie.Need-returns-2
 unfolding borderRead
@@ -61,8 +50,6 @@ of-spec =
     array-copy-out-to
     array-copy-out-lta
     fits-requires
-    cast-t16
-    cast-t17
-    cast-t18
+    judged-requires
     returns
     returns-2)

@@ -1,8 +1,9 @@
--- `kinds::Row::of` meets its contract: the test and the row are made of the seven numbers as they were lent. Assumes nothing.
-use mathlib.Core.Path.{_≡_, sym, _∙_}
+-- `kinds::Row::of` meets its contract: the test is made of the seven numbers as they were lent. Assumes nothing.
+use mathlib.Core.Path.{_≡_, sym, ap, _∙_}
 use borrow.Author.Needs.{needs}
 use Rattle.numbers.proofs.IntLaws.{plain}
-use Rattle.kinds.specs.Ranges.{rowOf, rowFits}
+use Rattle.kinds.specs.declared.RowRead.the-variants as row
+use Rattle.kinds.specs.Ranges.{rowFits}
 use Rattle.kinds.specs.Kinds.{rowRead}
 use Rattle.kinds.proofs.KindLaws.{row-listed}
 use Rattle.kinds.proofs.Row.of.Statement.{statement}
@@ -10,7 +11,7 @@ use Rattle.kinds.proofs.Row.of.Tie as tie
 use Rattle.kinds.proofs.Row.of.Reads as reads
 use Rattle.kinds.proofs.Row.of.Lts as lts
 use Rattle.kinds.proofs.Row.fits.Reads as fits-reads
-use Rattle.kinds.proofs.Share.of.Reads as of-reads
+use Rattle.kinds.proofs.Row.judged.Reads as judged-reads
 
 array-copy-out-fmax : tie.Need-array-copy-out-fmax
 array-copy-out-fmax c = search needs
@@ -36,25 +37,20 @@ array-copy-out-iva c = search needs
 fits-requires : tie.Need-fits-requires
 fits-requires c κs = search needs
 
-of-requires : tie.Need-of-requires
-of-requires c κs = search needs
-
 -- the test is the definition's, of the record as it was lent
-said : (c : lts.After-fits2 (fits-reads.Asked, fits-reads.Learnt, of-reads.Asked, of-reads.Learnt) reads.Pre reads.Post) → c .fits2 .result ≡ rowFits (c .before .before .before .before .before .before .before .before .args .t1)
+said : (c : lts.After-fits2 (fits-reads.Asked, fits-reads.Learnt, judged-reads.Asked, judged-reads.Learnt) reads.Pre reads.Post) → c .fits2 .result ≡ rowFits (c .before .before .before .before .before .before .before .before .args .t1)
 said c =
     let at-f0all = c .before .before .before .before in
     let at-frm = at-f0all .before .before in
     simp (plain, at-frm .before .fmax .given, at-frm .frm .given, at-f0all .before .fref .given, at-f0all .f0all .given, c .before .before .before .share .given, c .before .before .cva .given, c .before .iva .given) at (c .fits2 .ensures)
     ∙ row-listed (at-frm .before .before .args .t1)
 
+judged-requires : tie.Need-judged-requires
+judged-requires c κs = sym (said (c .before)) ∙ c .if1 .taken
+
 returns : tie.Need-returns
-unfolding rowRead rowOf
-returns c =
-    let at-iva = c .before .before .before in
-    let at-f0all = at-iva .before .before .before in
-    let at-frm = at-f0all .before .before in
-    let fits = sym (said (c .before .before)) ∙ c .before .if1 .taken in
-    simp (plain, at-frm .before .fmax .given, at-frm .frm .given, at-f0all .before .fref .given, at-f0all .f0all .given, at-iva .before .before .share .given, at-iva .before .cva .given, at-iva .iva .given, c .of .ensures, fits)
+unfolding rowRead
+returns c = rw (sym (said (c .before .before)) ∙ c .before .if1 .taken) (ap row.Good (c .judged .ensures))
 
 returns-2 : tie.Need-returns-2
 unfolding rowRead
@@ -72,6 +68,6 @@ of-spec =
     array-copy-out-cva
     array-copy-out-iva
     fits-requires
-    of-requires
+    judged-requires
     returns
     returns-2)

@@ -1,0 +1,4 @@
+pub mod KeepLaws
+pub mod LoadLaws
+pub mod SortLaws
+pub mod WalkLaws

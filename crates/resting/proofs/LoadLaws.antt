@@ -1,0 +1,95 @@
+-- What rows lose, by sums of raises and by lower ones, and what is left to them (`leftTo`). The raises of a round bound those of the next (`raises-bound`). No contract cites this file.
+-- Assumes nothing.
+use mathlib.Core.Path.{_≡_, sym, ap, _∙_, subst}
+use mathlib.Core.List.{List}
+use mathlib.Core.Logic.{⊎-elim}
+use Prim.Native.Nat.{ℕ, _+_, _*_, _-_, _/_, _≤_, _<_}
+use native.Mathlib.Nat.{le-trans, mul-zero, mul-add, mul-le-mul-left, mul-le-mul-right, div-mul-le-self}
+use native.Mathlib.Omega.{arith}
+use lib.ListN.{length}
+use Rattle.numbers.specs.Below.{at, table}
+use Rattle.numbers.proofs.BelowLaws.{le-or-lt, sum-cong, sum-mono, sum-add, sum-some, largest-le, largest-under, table-get, table-cong, table-of}
+use Rattle.rounds.specs.Rounds.{Grid, sharers, raise, raises, load, lowered, risen, next, apply}
+use Rattle.rounds.proofs.LeastLaws.{Smallest}
+use Rattle.rounds.proofs.Round.{raises-are, share-fits, load-fits, raiser, raise-falls}
+use Rattle.walk.specs.Walk.{Bounds, part, mostPart}
+use Rattle.resting.specs.Resting.{leftTo}
+
+-- ---- loads
+
+module _ (g : Grid) (i : ℕ) where
+  pub load-add : (w d : List ℕ) → load g i (table (g .borders) (risen w d)) ≡ load g i d + load g i w
+  unfolding load risen
+  load-add w d =
+      sum-cong (g .borders) (λ b. g .p i b * at (table (g .borders) (risen w d)) b) (λ b. g .p i b * at d b + g .p i b * at w b)
+      (λ b hb. ap (λ (v : ℕ). g .p i b * v) (table-get (g .borders) (risen w d) b 0 hb) ∙ mul-add (g .p i b) (at d b) (at w b))
+      ∙ sum-add (g .borders) (λ b. g .p i b * at d b) (λ b. g .p i b * at w b)
+
+  pub load-none : (d : List ℕ) → ((b : ℕ) → b < g .borders → at d b ≡ 0) → load g i d ≡ 0
+  unfolding load
+  load-none d h =
+      ⊎-elim
+      (λ z. omega (arith, z))
+      (λ z.
+      let s = sum-some (g .borders) (λ b. g .p i b * at d b) z in
+      omega (arith, s .2, ap (λ (v : ℕ). g .p i (s .0) * v) (h (s .0) (s .1)), mul-zero (g .p i (s .0))))
+      (le-or-lt (load g i d) 0)
+
+  module _ (v w : List ℕ) (h : (b : ℕ) → b < g .borders → at v b ≤ at w b) where
+    pub load-less : load g i v ≤ load g i w
+    unfolding load
+    load-less = sum-mono (g .borders) (λ b. g .p i b * at v b) (λ b. g .p i b * at w b) (λ b hb. mul-le-mul-left (g .p i b) (h b hb))
+
+    pub most-less : mostPart g i v ≤ mostPart g i w
+    unfolding mostPart part
+    most-less =
+        largest-under (g .borders) (part g i v) (mostPart g i w)
+        (λ b hb. le-trans (mul-le-mul-left (g .p i b) (h b hb)) (largest-le (g .borders) (part g i w) b hb))
+
+-- ---- what is left
+
+module _ (g : Grid) (d s : List ℕ) where
+  pub left-at : (i : ℕ) → i < g .rows → at (leftTo g d s) i ≡ at s i - load g i d
+  unfolding lowered
+  left-at i hi = table-get (g .rows) (lowered g d s) i 0 hi
+
+  -- gained in two steps
+  pub left-step : (w : List ℕ) → leftTo g (table (g .borders) (risen w d)) s ≡ leftTo g w (leftTo g d s)
+  unfolding lowered
+  left-step w =
+      table-cong (g .rows) (lowered g (table (g .borders) (risen w d)) s) (lowered g w (leftTo g d s))
+      (λ i hi. omega (arith, load-add g i w d, left-at i hi))
+
+  pub left-none : ((b : ℕ) → b < g .borders → at d b ≡ 0) → length s ≡ g .rows → leftTo g d s ≡ s
+  unfolding lowered
+  left-none z l = sym (table-of (g .rows) (lowered g d s) s 0 l (λ i hi. omega (arith, load-none g i d z)))
+
+-- ---- the raises of the margins m
+
+module _ (g : Grid) (m : List ℕ) {w : List ℕ} (e : w ≡ raises g m) where
+  pub raises-within : (i : ℕ) → i < g .rows → load g i w ≤ at m i
+  raises-within i hi = rw e (load-fits g m i hi)
+
+  -- n times the most part is within the margin
+  pub most-within : (i : ℕ) → i < g .rows → mostPart g i w * sharers g i ≤ at m i
+  unfolding mostPart part
+  most-within i hi =
+      let t : mostPart g i w ≤ at m i / sharers g i =
+      largest-under (g .borders) (part g i w) (at m i / sharers g i) (λ b hb. rw (raises-are g m e b hb) (share-fits g m i b hi)) in
+      le-trans (mul-le-mul-right (sharers g i) t) (div-mul-le-self (at m i) (sharers g i))
+
+  -- raises never grow
+  fall : (b : ℕ) → raise g (leftTo g w m) b ≤ raise g m b
+  unfolding next apply
+  fall b =
+      subst (λ (l : List ℕ). raise g (leftTo g l m) b ≤ raise g m b) (sym e) (raise-falls g (record { margins = m; x = m }) b)
+
+  pub raises-less : {w′ : List ℕ} → w′ ≡ raises g (leftTo g w m) → (b : ℕ) → b < g .borders → at w′ b ≤ at w b
+  raises-less e′ b hb = omega (arith, raises-are g m e b hb, raises-are g (leftTo g w m) e′ b hb, fall b)
+
+  -- so they bound the next ones
+  pub raises-bound : Bounds g (leftTo g w m) w
+  raises-bound b hb =
+      let is = raises-are g m e b hb in
+      let s : 0 < at w b → Smallest (g .rows) (λ i. g .p i b) (λ i. at m i / sharers g i / g .p i b) (raise g m b) = λ z. raiser g m b (omega arith) in
+      record { over = omega (arith, fall b); row = λ z. s z .i; inside = λ z. s z .below; loads = λ z. s z .counts }

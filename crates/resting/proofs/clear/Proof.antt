@@ -1,0 +1,42 @@
+-- `resting::clear` meets its contract: the first b items are 0 (`Filled`).
+-- Assumes nothing.
+use mathlib.Core.Path.{refl}
+use Prim.Native.Nat.{ℕ, _-_}
+use native.Mathlib.Omega.{arith}
+use Rattle.numbers.proofs.ListLaws.{Filled, filled-none, filled-more, filled-all}
+use Rattle.resting.proofs.clear.Statement.{statement}
+use Rattle.resting.proofs.clear.Tie as tie
+
+abbrev Inv-loop : tie.InvT-loop
+Inv-loop gained₀ b₀ b-end gained b = Filled (λ (b : ℕ). 0) b-end gained₀ gained b
+
+abbrev μ-loop : tie.MeasureT-loop
+μ-loop gained₀ b₀ b-end gained b = b-end - b
+
+loop-holds : tie.Need-loop-holds Inv-loop μ-loop
+loop-holds c = filled-none _ _ _
+
+mul-gained : tie.Need-mul-gained Inv-loop μ-loop
+mul-gained c = omega arith
+
+slice-write-gained : tie.Need-slice-write-gained Inv-loop μ-loop
+slice-write-gained c = omega (arith, c .before .loop .inv .as-long)
+
+add-b : tie.Need-add-b Inv-loop μ-loop
+add-b c = omega arith
+
+loop-less : tie.Need-loop-less Inv-loop μ-loop
+loop-less c = omega arith
+
+loop-again : tie.Need-loop-again Inv-loop μ-loop
+loop-again c = filled-more (c .before .loop .inv) _ (omega arith) (omega arith) refl
+
+same-length : tie.Need-same-length Inv-loop μ-loop
+same-length c = c .before .loop .inv .as-long
+
+returns : tie.Need-returns Inv-loop μ-loop
+returns c = filled-all (c .before .loop .inv) (omega arith) refl
+
+pub clear-spec : {M : Type 1} → statement M
+clear-spec =
+    tie.close (tie.spec Inv-loop μ-loop loop-holds mul-gained slice-write-gained add-b loop-less loop-again same-length returns)

@@ -1,0 +1,92 @@
+-- `resting::settle` meets its contract: the rows before i have lost what was gained (`Filled`). A row's loss is within its margin, and so fits.
+-- Assumes nothing.
+use Prim.Native.Nat.{_-_}
+use native.Mathlib.Omega.{arith}
+use Rattle.numbers.proofs.ListLaws.{Filled, filled-none, filled-all}
+use Rattle.rounds.specs.Rounds.{lowered}
+use Rattle.rounds.specs.Work.{flat}
+use Rattle.resting.proofs.WalkLaws.{settle-partable, settle-loss, settle-more}
+use Rattle.resting.proofs.settle.Statement.{statement}
+use Rattle.resting.proofs.settle.Tie as tie
+
+abbrev Inv-loop : tie.InvT-loop
+Inv-loop rows borders p gained rising live margins₀ i₀ margins i = Filled (lowered (flat rows borders p) gained margins₀) rows margins₀ margins i
+
+abbrev μ-loop : tie.MeasureT-loop
+μ-loop rows borders p gained rising live margins₀ i₀ margins i = rows - i
+
+loop-holds : tie.Need-loop-holds Inv-loop μ-loop
+loop-holds c = filled-none _ _ _
+
+mul-old : tie.Need-mul-old Inv-loop μ-loop
+mul-old c = omega arith
+
+slice-read-old : tie.Need-slice-read-old Inv-loop μ-loop
+slice-read-old c =
+    let at-loop = c .before .before in
+    let entry = at-loop .before .before .before .before .before in
+    omega (arith, at-loop .loop .inv .as-long, entry .pre .1 .margins)
+
+row-parts-requires : tie.Need-row-parts-requires Inv-loop μ-loop
+row-parts-requires c κs =
+    let at-loop = c .before .before in
+    let entry = at-loop .before .before .before .before .before in
+    let q = entry .pre in
+    ((q .0, omega arith), settle-partable (q .1) (at-loop .loop .inv) (omega arith) (omega (arith, c .slice-known2 .given (at-loop .loop .i))))
+
+sub-margins : tie.Need-sub-margins Inv-loop μ-loop
+sub-margins c =
+    let at-row-parts = c .before in
+    let at-loop = at-row-parts .before .before .before in
+    let entry = at-loop .before .before .before .before .before in
+    omega (arith, settle-loss (entry .pre .1) (at-loop .loop .inv) (omega arith) _ (at-row-parts .row-parts .ensures .0))
+
+mul-margins : tie.Need-mul-margins Inv-loop μ-loop
+mul-margins c = omega arith
+
+slice-write-margins : tie.Need-slice-write-margins Inv-loop μ-loop
+slice-write-margins c =
+    let at-loop = c .before .before .before .before in
+    let entry = at-loop .before .before .before .before .before in
+    omega (arith, at-loop .loop .inv .as-long, entry .pre .1 .margins)
+
+add-i : tie.Need-add-i Inv-loop μ-loop
+add-i c = omega arith
+
+loop-less : tie.Need-loop-less Inv-loop μ-loop
+loop-less c = omega arith
+
+loop-again : tie.Need-loop-again Inv-loop μ-loop
+loop-again c =
+    let at-row-parts = c .before in
+    let at-loop = at-row-parts .before .before .before in
+    let entry = at-loop .before .before .before .before .before in
+    settle-more (entry .pre .1) (at-loop .loop .inv) (omega arith) _ (at-row-parts .row-parts .ensures .0)
+
+same-length : tie.Need-same-length Inv-loop μ-loop
+same-length c = c .before .loop .inv .as-long
+
+returns : tie.Need-returns Inv-loop μ-loop
+returns c =
+    let at-loop = c .before in
+    let entry = at-loop .before .before .before .before .before in
+    filled-all (at-loop .loop .inv) (omega arith) (entry .pre .1 .margins)
+
+pub settle-spec : {M : Type 1} → statement M
+settle-spec =
+    tie.close
+    (tie.spec
+    Inv-loop
+    μ-loop
+    loop-holds
+    mul-old
+    slice-read-old
+    row-parts-requires
+    sub-margins
+    mul-margins
+    slice-write-margins
+    add-i
+    loop-less
+    loop-again
+    same-length
+    returns)

@@ -1,0 +1,90 @@
+-- Which rows are looked at in a round, and which rest (02, E4), over a grid g. Margins are lent as they stood where the rows last lost (s), with what each border gained since (d).
+-- The margins of the rules are then `leftTo g d s`; bounds (w) are the raises of those. `near` lists rows, in its first `count` places; a row that it has no place for is never listed.
+-- `leftTo`, `restRounds`, `Settleable`, `Sortable`, `Sorted`, `nearRow`, `Waiting`, `Renewed` and `Walkable` are what contracts cite, here and in roundloop.
+-- Assumes nothing.
+use mathlib.Core.Path.{_≡_}
+use mathlib.Core.List.{List}
+use mathlib.Core.Logic.{_⊎_}
+use Prim.Native.Nat.{ℕ, _+_, _*_, _-_, _^_, _≤_, _<_}
+use lib.ListN.{length}
+use Rattle.numbers.specs.Below.{at, ifZero, table}
+use Rattle.rounds.specs.Rounds.{Grid, sharers, raises, load, lowered, risen}
+use Rattle.rounds.specs.Work.{Ready}
+use Rattle.walk.specs.Walk.{Listed, mostPart}
+
+-- what the rows' margins s come to, where the borders gained d
+abbrev pub leftTo : Grid → (d s : List ℕ) → List ℕ
+leftTo g d s = table (g .rows) (lowered g d s)
+
+-- the rounds that a row rests
+abbrev pub restRounds : ℕ
+restRounds = 16
+
+-- what taking the losses asks: the list holds the borders that gained, and no row loses more than its margin
+pub record Settleable (g : Grid) (s d list : List ℕ) (live : ℕ) : Type 0 where
+  pub margins : length s ≡ g .rows
+  pub gained : length d ≡ g .borders
+  pub listed : Listed (g .borders) d list live
+  pub within : (i : ℕ) → i < g .rows → load g i d ≤ at s i
+
+-- row i may rest for `wait` rounds: were each to raise by w, and with what was gained, its margin still holds n times the most part
+abbrev pub Rests : Grid → (s d w : List ℕ) (wait i : ℕ) → Type 0
+Rests g s d w wait i = wait * load g i w + load g i d + mostPart g i w * sharers g i ≤ at s i
+
+-- what sorting the rows asks: bounds w that are the raises of the margins s, listed
+pub record Sortable (g : Grid) (ns s w list : List ℕ) (live : ℕ) : Type 0 where
+  pub ready : Ready g ns s
+  pub fits : (i : ℕ) → i < g .rows → at s i < 2 ^ 64
+  pub found : w ≡ raises g s
+  pub listed : Listed (g .borders) w list live
+
+-- row i is one of the rows f 0, .., f (k - 1)
+pub record Among (f : ℕ → ℕ) (k i : ℕ) : Type 0 where
+  pub place : ℕ
+  pub before : place < k
+  pub is : f place ≡ i
+
+-- what sorting leaves, of the first i rows: each is listed or may rest for a block
+pub record Sorted (g : Grid) (s w near : List ℕ) (count i : ℕ) : Type 0 where
+  pub few : count ≤ i
+  pub inside : (j : ℕ) → j < count → at near j < i
+  pub each : (i′ : ℕ) → i′ < i → Among (at near) count i′ ⊎ (restRounds * load g i′ w + mostPart g i′ w * sharers g i′ ≤ at s i′)
+
+-- the rows that a round looks at, in order: those listed, and then those that the list has no place for
+unfoldable pub nearRow : (near : List ℕ) (count j : ℕ) → ℕ
+nearRow near count j = ifZero (count - j) (length near + (j - count)) (at near j)
+
+-- how many they are
+abbrev pub nearRows : Grid → (near : List ℕ) (count : ℕ) → ℕ
+nearRows g near count = count + (g .rows - length near)
+
+-- each row is one of those, or may rest for `wait` rounds
+pub record Watched (g : Grid) (s d w near : List ℕ) (count wait : ℕ) : Type 0 where
+  pub few : count ≤ length near
+  pub inside : (j : ℕ) → j < count → at near j < g .rows
+  pub each : (i : ℕ) → i < g .rows → Among (nearRow near count) (nearRows g near count) i ⊎ Rests g s d w wait i
+
+-- between two rounds, with `wait` left before all rows are sorted anew
+pub record Waiting (g : Grid) (ns s d w list : List ℕ) (live : ℕ) (near : List ℕ) (count wait : ℕ) : Type 0 where
+  pub ready : Ready g ns s
+  pub fits : (i : ℕ) → i < g .rows → at s i < 2 ^ 64
+  pub gained : length d ≡ g .borders
+  pub within : (i : ℕ) → i < g .rows → load g i d ≤ at s i
+  pub found : w ≡ raises g (leftTo g d s)
+  pub listed : Listed (g .borders) (table (g .borders) (risen w d)) list live
+  pub room : length near ≤ g .rows
+  pub watched : Watched g s d w near count wait
+
+-- a block goes on or is made anew: what was s with d gained is s′ with d′ gained, so the rules' margins are the same, and a round is left to it
+pub record Renewed (g : Grid) (ns s d s′ d′ w list : List ℕ) (live : ℕ) (near : List ℕ) (count wait : ℕ) : Type 0 where
+  pub waiting : Waiting g ns s′ d′ w list live near count wait
+  pub some : 0 < wait
+  pub same : leftTo g d′ s′ ≡ leftTo g d s
+
+-- what the walk asks: the borders have gained the raises w besides what they had before, and w is as yet the bounds
+pub record Walkable (g : Grid) (ns s d w list : List ℕ) (live : ℕ) (near : List ℕ) (count : ℕ) : Type 0 where
+  pub before : List ℕ
+  pub wait : ℕ
+  pub some : 0 < wait
+  pub waiting : Waiting g ns s before w list live near count wait
+  pub gained : d ≡ table (g .borders) (risen w before)

@@ -1,0 +1,2 @@
+pub mod RoundLoop
+pub mod TurnLaws

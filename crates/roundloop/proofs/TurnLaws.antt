@@ -1,0 +1,128 @@
+-- The round loop's head, where the bounds are the raises and the rows wait for the end of their block (`Found`), and what a turn leaves there. `Head` and `Turn` of RoundLoop.antt have the rounds themselves, of the margins that the rows come to.
+-- No contract cites this file.
+-- Assumes nothing.
+use mathlib.Core.Path.{_≡_, refl, sym, ap, _∙_, subst}
+use mathlib.Core.Bool.{Bool, true, false, not}
+use mathlib.Core.List.{List, _++_}
+use Prim.Native.Nat.{ℕ, _+_, _≤_, _<_}
+use native.Mathlib.Omega.{arith}
+use borrow.Author.Tests.{ltb-true, ltb-false, not-true, not-false}
+use lib.Dec.{ltb}
+use lib.ListN.{length, take, drop}
+use Rattle.numbers.specs.Below.{at, sum, count, table}
+use Rattle.numbers.proofs.BelowLaws.{count-cong, table-long, table-get}
+use Rattle.rounds.specs.Rounds.{Grid, raise, raises, risen}
+use Rattle.rounds.specs.Work.{Startable, left, workOf}
+use Rattle.rounds.proofs.Round.{raises-long, raises-are, raiser}
+use Rattle.walk.specs.Walk.{Listed}
+use Rattle.resting.specs.Resting.{leftTo, Waiting, Renewed, Walkable}
+use Rattle.resting.proofs.LoadLaws.{load-add, left-at, left-step, left-none, raises-within}
+use Rattle.resting.proofs.WalkLaws.{waiting-start, waiting-bounds, waiting-next}
+use Rattle.roundloop.specs.Loop.{Risable}
+use Rattle.roundloop.proofs.RoundLoop.{x-le-load, Head, head-start, Turn, turn-next, turn-sum, turn-end}
+
+-- m₀, x₀ and near₀ where the loop begins; s, x, d, w, list and near at its head after k rounds
+pub record Found (g : Grid) (ns m₀ x₀ near₀ s x d w list : List ℕ) (live : ℕ) (near : List ℕ) (count wait k : ℕ) : Type 0 where
+  pub head : Head g m₀ x₀ (leftTo g d s) x k
+  pub waiting : Waiting g ns s d w list live near count wait
+  pub room : length list ≡ g .borders
+  pub places : length near ≡ length near₀
+
+pub found-start : {g : Grid} {ns m x d w list near : List ℕ} → Startable g ns m x → length near ≤ g .rows → (n : ℕ) → n ≡ g .borders → d ≡ table n (λ b. 0) → list ≡ table (g .borders) (λ b. b) → w ≡ raises g m → Found g ns m x near m x d w list (g .borders) near 0 0 0
+found-start {g} {ns} {m} {x} {d} {w} {list} {near} q l n ld ed el ew =
+    let z : (b : ℕ) → b < g .borders → at d b ≡ 0 = λ b hb. ap (λ (t : List ℕ). at t b) ed ∙ table-get n (λ b. 0) b 0 (omega arith) in
+    let same : leftTo g d m ≡ m = left-none g d m z (q .ready .margins) in
+    record {
+      head = rw same (head-start g ns m x q);
+      waiting =
+          waiting-start (q .ready) (λ i hi. omega (arith, q .fits i hi)) (ap length ed ∙ table-long n (λ b. 0) ∙ ld) z (ew ∙ ap (raises g) (sym same)) el l;
+      room = ap length el ∙ table-long (g .borders) (λ b. b);
+      places = refl;
+    }
+
+module _ {g : Grid} {ns m₀ x₀ near₀ s x d w list : List ℕ} {live : ℕ} {near : List ℕ} {count′ wait k : ℕ} (u : Found g ns m₀ x₀ near₀ s x d w list live near count′ wait k) where
+  -- a block anew, or on
+  pub found-renewed : {s′ d′ list′ : List ℕ} {live′ : ℕ} {near′ : List ℕ} {count″ wait′ : ℕ} → Renewed g ns s d s′ d′ w list′ live′ near′ count″ wait′ → length list′ ≡ length list → length near′ ≡ length near → Found g ns m₀ x₀ near₀ s′ x d′ w list′ live′ near′ count″ wait′ k
+  found-renewed r el en =
+      record {
+        head = rw (r .same) (u .head);
+        waiting = r .waiting;
+        room = el ∙ u .room;
+        places = en ∙ u .places;
+      }
+
+  pub found-long : length w ≡ g .borders
+  found-long = raises-long g (leftTo g d s) (u .waiting .found)
+
+  -- as keeping those above 0 asks it, and finding one
+  pub found-listed : Listed (length w) w list live
+  found-listed = waiting-bounds (u .waiting)
+
+  module _ {r : Bool} (e : r ≡ ltb 0 (count (length w) (at w))) where
+    pub found-some : not r ≡ false → 0 < count (length w) (at w)
+    found-some t = ltb-true 0 (count (length w) (at w)) (sym e ∙ not-false r t)
+
+    pub found-none : not r ≡ true → count (length w) (at w) ≤ 0
+    found-none t = ltb-false 0 (count (length w) (at w)) (sym e ∙ not-true r t)
+
+  module _ (q : Startable g ns m₀ x₀) where
+    pub found-turn : Turn g ns m₀ x₀ (leftTo g d s) x k w (count (length w) (at w))
+    found-turn =
+        record {
+          start = q;
+          head = u .head;
+          found =
+              record {
+                number = ap (λ (j : ℕ). count j (at w)) found-long ∙ count-cong (g .borders) (at w) (raise g (leftTo g d s)) (raises-are g (leftTo g d s) (u .waiting .found));
+                list = u .waiting .found;
+              };
+        }
+
+    pub found-end : count (length w) (at w) ≤ 0 → (s′ : List ℕ) → s′ ≡ leftTo g d s → left (record { x = x; rounds = k }) s′ ≡ workOf g m₀ x₀
+    found-end z s′ e = rw e (turn-end found-turn (omega arith))
+
+  -- what is gained fits, as a loaded row's margin holds it
+  pub found-gains : Risable (g .borders) w d
+  unfolding risen
+  found-gains =
+      record {
+        raises = found-long;
+        exchanges = u .waiting .gained;
+        fits = λ b hb z.
+            let m : List ℕ = leftTo g d s in
+            let f = raiser g m b (omega (arith, raises-are g m (u .waiting .found) b hb)) in
+            omega (
+              arith,
+              table-get (g .borders) (risen w d) b 0 hb,
+              x-le-load g (table (g .borders) (risen w d)) (f .i) b hb (f .counts),
+              load-add g (f .i) w d,
+              raises-within g m (u .waiting .found) (f .i) (f .below),
+              left-at g d s (f .i) (f .below),
+              u .waiting .within (f .i) (f .below),
+              u .waiting .fits (f .i) (f .below),
+            );
+      }
+
+  module _ (some : 0 < wait) {d′ : List ℕ} (ed : d′ ≡ table (g .borders) (risen w d)) where
+    pub found-walkable : Walkable g ns s d′ w list live near count′
+    found-walkable = record { before = d; wait = wait; some = some; waiting = u .waiting; gained = ed }
+
+    found-left : leftTo g d′ s ≡ leftTo g w (leftTo g d s)
+    found-left = ap (λ (l : List ℕ). leftTo g l s) ed ∙ left-step g d s w
+
+    module _ (q : Startable g ns m₀ x₀) (rises : 0 < count (length w) (at w)) {y : List ℕ} (ey : y ≡ table (g .borders) (risen w (take (g .borders) x))) where
+      pub found-next : {w′ : List ℕ} → w′ ≡ raises g (leftTo g d′ s) → (wait′ : ℕ) → wait ≡ wait′ + 1 → Found g ns m₀ x₀ near₀ s (y ++ drop (g .borders) x) d′ w′ list live near count′ wait′ (k + 1)
+      unfolding found-walkable
+      found-next ew wait′ e =
+          record {
+            head = turn-next (found-turn q) (λ z. omega arith) (leftTo g d′ s) y found-left ey;
+            waiting = waiting-next found-walkable ew wait′ e;
+            room = u .room;
+            places = u .places;
+          }
+
+      -- less than what the rows came to before the block was renewed
+      pub found-less : {m : List ℕ} → leftTo g d s ≡ m → sum (g .rows) (at (leftTo g d′ s)) < sum (g .rows) (at m)
+      found-less e =
+          subst (λ (m : List ℕ). sum (g .rows) (at (leftTo g d′ s)) < sum (g .rows) (at m)) e
+          (turn-sum (found-turn q) (λ z. omega arith) (leftTo g d′ s) y found-left ey)

@@ -1,0 +1,209 @@
+-- `roundloop::do_rounds` meets its contract: a turn is one round of the definition, and the loop is left where a round raises nothing (`Found`, `Turn`). The measure is the sum of the margins that the rows come to, of which a round that raises something takes at least 1.
+-- Assumes nothing.
+use mathlib.Core.Path.{sym, _∙_}
+use native.Mathlib.Omega.{arith}
+use Rattle.numbers.specs.Below.{at, sum}
+use Rattle.rounds.specs.Work.{flat}
+use Rattle.resting.specs.Resting.{leftTo}
+use Rattle.resting.proofs.WalkLaws.{waiting-settleable}
+use Rattle.roundloop.proofs.RoundLoop.{front-long, turn-risable, turn-few}
+use Rattle.roundloop.proofs.TurnLaws.{Found, found-start, found-renewed, found-long, found-listed, found-some, found-none, found-turn, found-end, found-gains, found-walkable, found-next, found-less}
+use Rattle.roundloop.proofs.do_rounds.Statement.{statement}
+use Rattle.roundloop.proofs.do_rounds.Tie as tie
+
+abbrev Inv-loop : tie.InvT-loop
+Inv-loop rows borders p ns margins₀ gained₀ bounds₀ rising₀ near₀ x₀ done₀ live₀ count₀ wait₀ margins gained bounds rising near x done live count wait = Found (flat rows borders p) ns margins₀ x₀ near₀ margins x gained bounds rising live near count wait done
+
+abbrev μ-loop : tie.MeasureT-loop
+μ-loop rows borders p ns margins₀ gained₀ bounds₀ rising₀ near₀ x₀ done₀ live₀ count₀ wait₀ margins gained bounds rising near x done live count wait = sum rows (at (leftTo (flat rows borders p) gained margins))
+
+clear-requires : tie.Need-clear-requires Inv-loop μ-loop
+clear-requires c κs = tt
+
+begin-requires : tie.Need-begin-requires Inv-loop μ-loop
+begin-requires c κs =
+    let entry = c .before .before .before .before .before .before .before .before .before .before .before .before .before .before in
+    let q = entry .pre in
+    (q .0, (q .1 .0 .ready, (q .1 .1 .1 .0, q .1 .1 .0 .1)))
+
+loop-holds : tie.Need-loop-holds Inv-loop μ-loop
+loop-holds c =
+    let at-begin = c .before .before .before .before in
+    let at-clear = at-begin .before .before .before .before .before .before in
+    let entry = at-clear .before .before .before .before .before .before .before .before .before in
+    let q = entry .pre .1 in
+    let e = at-begin .begin .ensures in
+    found-start (q .0) (q .1 .1 .1) _ (q .1 .0 .0) (at-clear .clear .ensures) (e .0) (e .1)
+
+renew-requires : tie.Need-renew-requires Inv-loop μ-loop
+renew-requires c κs =
+    let at-loop = c .before .before .before .before .before in
+    let entry = at-loop .before .before .before .before .before .before .before .before .before .before .before .before .before .before .before .before .before .before .before .before in
+    (entry .pre .0, at-loop .loop .inv .waiting)
+
+rises-requires : tie.Need-rises-requires Inv-loop μ-loop
+rises-requires c κs =
+    let at-renew = c .before .before .before .before .before .before .before .before .before .before in
+    let at-loop = at-renew .before .before .before .before .before .before in
+    let u = found-renewed (at-loop .loop .inv) (at-renew .renew .ensures) (at-renew .renew .kept .1 .1 .1 .1 .1 .1 .1 .1 .1 .1 .0) (at-renew .renew .kept .1 .1 .1 .1 .1 .1 .1 .1 .1 .1 .1 .0) in
+    found-listed u
+
+settle-requires : tie.Need-settle-requires Inv-loop μ-loop
+settle-requires c κs =
+    let at-renew = c .before .before .before .before .before .before .before .before .before .before .before .before .before .before .before in
+    let entry = at-renew .before .before .before .before .before .before .before .before .before .before .before .before .before .before .before .before .before .before .before .before .before .before .before .before .before .before in
+    (entry .pre .0, waiting-settleable (at-renew .renew .ensures .waiting))
+
+rise-requires : tie.Need-rise-requires Inv-loop μ-loop
+rise-requires c κs =
+    let at-renew = c .before .before .before .before .before .before .before .before .before .before .before .before .before .before in
+    let at-loop = at-renew .before .before .before .before .before .before in
+    let u = found-renewed (at-loop .loop .inv) (at-renew .renew .ensures) (at-renew .renew .kept .1 .1 .1 .1 .1 .1 .1 .1 .1 .1 .0) (at-renew .renew .kept .1 .1 .1 .1 .1 .1 .1 .1 .1 .1 .1 .0) in
+    found-gains u
+
+array-borrow-prefix-x : tie.Need-array-borrow-prefix-x Inv-loop μ-loop
+array-borrow-prefix-x c =
+    let at-loop = c .before .before .before .before .before .before .before .before .before .before .before .before .before .before .before .before .before .before .before .before .before .before .before .before in
+    let entry = at-loop .before .before .before .before .before .before .before .before .before .before .before .before .before .before .before .before .before .before .before .before in
+    omega (arith, entry .pre .1 .0 .borders, at-loop .loop .inv .head .exchanges)
+
+slice-aggregate-rise : tie.Need-slice-aggregate-rise Inv-loop μ-loop
+slice-aggregate-rise c =
+    let at-renew = c .before .before .before .before .before .before .before .before .before .before .before .before .before .before .before .before .before .before .before in
+    let at-loop = at-renew .before .before .before .before .before .before in
+    let entry = at-loop .before .before .before .before .before .before .before .before .before .before .before .before .before .before .before .before .before .before .before .before in
+    let u = found-renewed (at-loop .loop .inv) (at-renew .renew .ensures) (at-renew .renew .kept .1 .1 .1 .1 .1 .1 .1 .1 .1 .1 .0) (at-renew .renew .kept .1 .1 .1 .1 .1 .1 .1 .1 .1 .1 .1 .0) in
+    sym (front-long (found-turn u (entry .pre .1 .0)))
+
+rise-requires-2 : tie.Need-rise-requires-2 Inv-loop μ-loop
+rise-requires-2 c κs =
+    let at-renew = c .before .before .before .before .before .before .before .before .before .before .before .before .before .before .before .before .before .before .before in
+    let at-loop = at-renew .before .before .before .before .before .before in
+    let entry = at-loop .before .before .before .before .before .before .before .before .before .before .before .before .before .before .before .before .before .before .before .before in
+    let u = found-renewed (at-loop .loop .inv) (at-renew .renew .ensures) (at-renew .renew .kept .1 .1 .1 .1 .1 .1 .1 .1 .1 .1 .0) (at-renew .renew .kept .1 .1 .1 .1 .1 .1 .1 .1 .1 .1 .1 .0) in
+    turn-risable (found-turn u (entry .pre .1 .0))
+
+walk-near-requires : tie.Need-walk-near-requires Inv-loop μ-loop
+walk-near-requires c κs =
+    let at-rise = c .before .before .before .before .before .before .before .before .before .before .before in
+    let at-renew = at-rise .before .before .before .before .before .before .before .before .before .before .before .before .before .before .before in
+    let at-loop = at-renew .before .before .before .before .before .before in
+    let entry = at-loop .before .before .before .before .before .before .before .before .before .before .before .before .before .before .before .before .before .before .before .before in
+    let u = found-renewed (at-loop .loop .inv) (at-renew .renew .ensures) (at-renew .renew .kept .1 .1 .1 .1 .1 .1 .1 .1 .1 .1 .0) (at-renew .renew .kept .1 .1 .1 .1 .1 .1 .1 .1 .1 .1 .1 .0) in
+    (entry .pre .0, found-walkable u (at-renew .renew .ensures .some) (at-rise .rise .ensures))
+
+add-done : tie.Need-add-done Inv-loop μ-loop
+add-done c =
+    let at-if1 = c .before .before .before .before .before .before .before .before .before .before .before .before .before .before .before .before .before in
+    let at-rises = at-if1 .before in
+    let at-renew = at-rises .before .before .before .before .before .before .before .before .before .before .before in
+    let at-loop = at-renew .before .before .before .before .before .before in
+    let entry = at-loop .before .before .before .before .before .before .before .before .before .before .before .before .before .before .before .before .before .before .before .before in
+    let u = found-renewed (at-loop .loop .inv) (at-renew .renew .ensures) (at-renew .renew .kept .1 .1 .1 .1 .1 .1 .1 .1 .1 .1 .0) (at-renew .renew .kept .1 .1 .1 .1 .1 .1 .1 .1 .1 .1 .1 .0) in
+    let h = found-some u (at-rises .rises .ensures) (at-if1 .if1 .left) in
+    omega (arith, turn-few (found-turn u (entry .pre .1 .0)) (λ z. omega arith))
+
+sub-wait : tie.Need-sub-wait Inv-loop μ-loop
+sub-wait c =
+    let at-renew = c .before .before .before .before .before .before .before .before .before .before .before .before .before .before .before .before .before .before .before .before .before .before .before .before .before .before .before .before .before .before in
+    omega (arith, at-renew .renew .ensures .some)
+
+loop-less : tie.Need-loop-less Inv-loop μ-loop
+loop-less c =
+    let at-rise2 = c .before .before .before .before .before .before .before .before .before .before in
+    let at-rise = at-rise2 .before .before .before .before .before in
+    let at-if1 = at-rise .before .before .before in
+    let at-rises = at-if1 .before in
+    let at-renew = at-rises .before .before .before .before .before .before .before .before .before .before .before in
+    let at-loop = at-renew .before .before .before .before .before .before in
+    let entry = at-loop .before .before .before .before .before .before .before .before .before .before .before .before .before .before .before .before .before .before .before .before in
+    let u = found-renewed (at-loop .loop .inv) (at-renew .renew .ensures) (at-renew .renew .kept .1 .1 .1 .1 .1 .1 .1 .1 .1 .1 .0) (at-renew .renew .kept .1 .1 .1 .1 .1 .1 .1 .1 .1 .1 .1 .0) in
+    let h = found-some u (at-rises .rises .ensures) (at-if1 .if1 .left) in
+    found-less u (at-renew .renew .ensures .some) (at-rise .rise .ensures) (entry .pre .1 .0) h (at-rise2 .rise2 .ensures) (at-renew .renew .ensures .same)
+
+loop-again : tie.Need-loop-again Inv-loop μ-loop
+loop-again c =
+    let at-walk-near = c .before .before .before in
+    let at-rise2 = at-walk-near .before .before .before .before .before .before .before in
+    let at-rise = at-rise2 .before .before .before .before .before in
+    let at-if1 = at-rise .before .before .before in
+    let at-rises = at-if1 .before in
+    let at-renew = at-rises .before .before .before .before .before .before .before .before .before .before .before in
+    let at-loop = at-renew .before .before .before .before .before .before in
+    let entry = at-loop .before .before .before .before .before .before .before .before .before .before .before .before .before .before .before .before .before .before .before .before in
+    let u = found-renewed (at-loop .loop .inv) (at-renew .renew .ensures) (at-renew .renew .kept .1 .1 .1 .1 .1 .1 .1 .1 .1 .1 .0) (at-renew .renew .kept .1 .1 .1 .1 .1 .1 .1 .1 .1 .1 .1 .0) in
+    let h = found-some u (at-rises .rises .ensures) (at-if1 .if1 .left) in
+    found-next u (at-renew .renew .ensures .some) (at-rise .rise .ensures) (entry .pre .1 .0) h (at-rise2 .rise2 .ensures) (at-walk-near .walk-near .ensures) _ (omega (arith, at-renew .renew .ensures .some))
+
+same-length : tie.Need-same-length Inv-loop μ-loop
+same-length c =
+    let at-settle = c .before .before in
+    let at-renew = at-settle .before .before .before .before .before .before .before .before .before .before .before .before .before .before .before .before in
+    let entry = at-renew .before .before .before .before .before .before .before .before .before .before .before .before .before .before .before .before .before .before .before .before .before .before .before .before .before .before in
+    at-settle .settle .kept .1 .1 .1 .1 .1 .1 .0 ∙ at-renew .renew .ensures .waiting .ready .margins ∙ sym (entry .pre .1 .0 .ready .margins)
+
+same-length-2 : tie.Need-same-length-2 Inv-loop μ-loop
+same-length-2 c =
+    let at-renew = c .before .before .before .before .before .before .before .before .before .before .before .before .before .before .before .before .before .before in
+    let entry = at-renew .before .before .before .before .before .before .before .before .before .before .before .before .before .before .before .before .before .before .before .before .before .before .before .before .before .before in
+    at-renew .renew .ensures .waiting .gained ∙ sym (entry .pre .1 .1 .0 .0)
+
+same-length-3 : tie.Need-same-length-3 Inv-loop μ-loop
+same-length-3 c =
+    let at-loop = c .before .before .before .before .before .before .before .before .before .before .before .before .before .before .before .before .before .before .before .before .before .before .before .before in
+    let entry = at-loop .before .before .before .before .before .before .before .before .before .before .before .before .before .before .before .before .before .before .before .before in
+    found-long (at-loop .loop .inv) ∙ sym (entry .pre .1 .1 .0 .1)
+
+same-length-4 : tie.Need-same-length-4 Inv-loop μ-loop
+same-length-4 c =
+    let at-renew = c .before .before .before .before .before .before .before .before .before .before .before .before .before .before .before .before .before .before in
+    let at-loop = at-renew .before .before .before .before .before .before in
+    let entry = at-loop .before .before .before .before .before .before .before .before .before .before .before .before .before .before .before .before .before .before .before .before in
+    let u = found-renewed (at-loop .loop .inv) (at-renew .renew .ensures) (at-renew .renew .kept .1 .1 .1 .1 .1 .1 .1 .1 .1 .1 .0) (at-renew .renew .kept .1 .1 .1 .1 .1 .1 .1 .1 .1 .1 .1 .0) in
+    u .room ∙ sym (entry .pre .1 .1 .1 .0)
+
+same-length-5 : tie.Need-same-length-5 Inv-loop μ-loop
+same-length-5 c =
+    let at-renew = c .before .before .before .before .before .before .before .before .before .before .before .before .before .before .before .before .before .before in
+    let at-loop = at-renew .before .before .before .before .before .before in
+    let u = found-renewed (at-loop .loop .inv) (at-renew .renew .ensures) (at-renew .renew .kept .1 .1 .1 .1 .1 .1 .1 .1 .1 .1 .0) (at-renew .renew .kept .1 .1 .1 .1 .1 .1 .1 .1 .1 .1 .1 .0) in
+    u .places
+
+returns : tie.Need-returns Inv-loop μ-loop
+returns c =
+    let at-settle = c .before .before in
+    let at-if1 = at-settle .before .before .before .before in
+    let at-rises = at-if1 .before in
+    let at-renew = at-rises .before .before .before .before .before .before .before .before .before .before .before in
+    let at-loop = at-renew .before .before .before .before .before .before in
+    let entry = at-loop .before .before .before .before .before .before .before .before .before .before .before .before .before .before .before .before .before .before .before .before in
+    let u = found-renewed (at-loop .loop .inv) (at-renew .renew .ensures) (at-renew .renew .kept .1 .1 .1 .1 .1 .1 .1 .1 .1 .1 .0) (at-renew .renew .kept .1 .1 .1 .1 .1 .1 .1 .1 .1 .1 .1 .0) in
+    found-end u (entry .pre .1 .0) (found-none u (at-rises .rises .ensures) (at-if1 .if1 .taken)) _ (at-settle .settle .ensures)
+
+pub do-rounds-spec : {M : Type 1} → statement M
+do-rounds-spec =
+    tie.close
+    (tie.spec
+    Inv-loop
+    μ-loop
+    clear-requires
+    begin-requires
+    loop-holds
+    renew-requires
+    rises-requires
+    settle-requires
+    rise-requires
+    array-borrow-prefix-x
+    slice-aggregate-rise
+    rise-requires-2
+    walk-near-requires
+    add-done
+    sub-wait
+    loop-less
+    loop-again
+    same-length
+    same-length-2
+    same-length-3
+    same-length-4
+    same-length-5
+    returns)

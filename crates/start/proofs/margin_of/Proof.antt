@@ -1,0 +1,18 @@
+-- `start::margin_of` meets its contract. Assumes nothing.
+use borrow.Author.Tests.{eq-eqb, ne-eqb}
+use borrow.Author.Needs.{needs}
+use mir.Facts.{toZ-ofZ}
+use Rattle.start.proofs.margin_of.Statement.{statement}
+use Rattle.start.proofs.margin_of.Tie as tie
+
+positive-requires : tie.Need-positive-requires
+positive-requires c κs = search needs
+
+returns : tie.Need-returns
+returns c = rw (eq-eqb _ _ (c .before .if1 .taken)) (simp (toZ-ofZ, c .before .before .fits .start) at (c .positive .ensures))
+
+returns-2 : tie.Need-returns-2
+returns-2 c = rw (ne-eqb _ _ (c .if1 .left))
+
+pub margin-of-spec : {M : Type 1} → statement M
+margin-of-spec = tie.close (tie.spec positive-requires returns returns-2)

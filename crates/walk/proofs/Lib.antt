@@ -1,0 +1,4 @@
+pub mod ListedLaws
+pub mod TightLaws
+pub mod PartLaws
+pub mod BoundLaws
