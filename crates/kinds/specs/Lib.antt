@@ -1,4 +1,5 @@
 pub mod Limits
+pub mod LineColumns
 pub mod Ranges
 pub mod Kinds
 pub mod Refusals

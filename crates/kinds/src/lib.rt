@@ -1,5 +1,6 @@
 // The values that a table carries, with their ranges, and why a table is turned away.
 // A range is given once, on the type that carries the value, and that type's constructor judges by it.
+// So are the columns of a line, in 01's order and without the index, one byte for each field: n a number, s a signed number, r a number or "-".
 // The tests of a record are joined by `&`: each may be made whatever the others say, so judging has no branch.
 ghost use mathlib.Core.Path.{_≡_};
 ghost use mathlib.Core.Bool.{true};
@@ -20,6 +21,9 @@ pub enum HeaderRead {
 }
 
 impl Header {
+    // Zones, borders, rows.
+    pub const COLUMNS: [u8; 3] = *b"nnn";
+
     pub const ZONES_LEAST: usize = 2;
 
     pub const ZONES_MOST: usize = 16;
@@ -70,6 +74,9 @@ pub enum ZoneRead {
 }
 
 impl Zone {
+    // Reference net position.
+    pub const COLUMNS: [u8; 1] = *b"s";
+
     pub const LOWEST: i64 = -100000000;
 
     pub const HIGHEST: i64 = 100000000;
@@ -102,6 +109,9 @@ pub enum BorderRead {
 
 impl Border {
     pub const ITEMS: usize = 3;
+
+    // From zone, to zone, LTA.
+    pub const COLUMNS: [u8; Border::ITEMS] = *b"nnn";
 
     // MW.
     pub const LTA_MOST: i64 = 10000;
@@ -204,6 +214,12 @@ pub enum RowRead {
 
 impl Row {
     pub const ITEMS: usize = 7;
+
+    // Fmax, FRM, Fref, F0all, R, CVA, IVA.
+    pub const COLUMNS: [u8; Row::ITEMS] = *b"nnssrnn";
+
+    // Then one factor per zone: as many of these as the table has zones.
+    pub const FACTOR_COLUMNS: [u8; Header::ZONES_MOST] = *b"ssssssssssssssss";
 
     // kW.
     pub const FMAX_LEAST: i64 = 1;

@@ -1,68 +1,74 @@
 -- The B line: a line that holds a raw border record is its text, and that text holds the record. No contract cites this file.
 -- Assumes nothing.
-use mathlib.Core.Path.{_≡_, refl, sym, subst, _∙_}
-use mathlib.Core.Bool.{true, _&&_}
+use mathlib.Core.Path.{_≡_, refl, sym, ap, subst}
+use mathlib.Core.Bool.{true, false}
 use mathlib.Core.List.{List, [], _∷_, _++_}
 use Prim.Native.Char.{code}
 use Prim.Native.Nat.{ℕ, _^_, _≤_, _<_}
 use native.Mathlib.Omega.{arith}
-use lib.Dec.{eqb}
 use lib.IntN.{ℤ, pos}
-use lib.ListN.{length, drop, drop-of-length-le}
-use borrow.Author.Tests.{leb-true, eqb-true, eq-eqb}
+use lib.ListN.{length}
 use Rattle.numbers.specs.Below.{table}
 use Rattle.numbers.proofs.BelowLaws.{table-of}
-use Rattle.numbers.proofs.TestLaws.{and-both}
-use Rattle.kinds.specs.declared.Border.{Border}
 use Rattle.kinds.specs.Limits.{zonesMost}
+use Rattle.kinds.specs.LineColumns.{borderColumns}
 use Rattle.kinds.specs.Ranges.{atℤ, borderFits, borderOf}
 use Rattle.kinds.proofs.KindLaws.{border-in}
-use Rattle.text.specs.Fields.{tab, feed}
-use Rattle.text.specs.Line.{lineOf, holds, form, headed, ended}
-use Rattle.text.specs.Written.{decimal, fieldsText, lineText}
-use Rattle.text.proofs.ChainLaws.{cond-holds, judged-holds, headed-line}
-use Rattle.text.proofs.FieldTrip.{number-then, number-goes}
-use Rattle.text.proofs.WrittenLaws.{headed-text, ended-text, line-one, decimal-no-feed}
+use Rattle.text.specs.Fields.{tab}
+use Rattle.text.specs.Line.{lineOf, holds, form, range}
+use Rattle.columns.specs.Columns.{values, wrong}
+use Rattle.columns.specs.ColumnText.{columnsText}
+use Rattle.columns.specs.ColumnLine.{columnsLine}
+use Rattle.columns.proofs.ColumnTrip.{tab-ends, AllKept, kept-long, line-read, line-one, judged-read, judged-written}
 use Rattle.lines.specs.Lines.{borderLine}
-
-abbrev pub borderFields : (i : ℕ) → Border → List (List ℕ)
-borderFields i b = decimal i ∷ decimal (b .from) ∷ decimal (b .to) ∷ decimal (b .lta) ∷ []
 
 -- what is known of a record that a B line holds
 pub record BorderHeld (zones : ℕ) (raw : List ℤ) : Type 0 where
   pub wide : length raw ≡ 3
   pub fits : borderFits zones raw ≡ true
 
-pub border-read : (zones : ℕ) (line : List ℕ) (i : ℕ) (raw : List ℤ) → borderLine zones line i ≡ holds raw → (line ≡ lineText (code "B") (borderFields i (borderOf raw))) × BorderHeld zones raw
-unfolding borderLine borderOf lineText fieldsText
-border-read zones line i raw e =
-    let a = cond-holds raw (headed (code "B") line) _ e in
-    number-then raw line 2 tab _ (a .1) (λ index p r1 e1.
-    number-then raw line p tab _ e1 (λ from q r2 e2.
-    number-then raw line q tab _ e2 (λ to r r3 e3.
-    number-then raw line r feed _ e3 (λ lta e r4 e4.
-    let j = judged-holds raw (ended line e && eqb index i) _ _ e4 in
-    let k = and-both (ended line e) (eqb index i) (j .0) in
-    let last : drop e line ≡ [] = drop-of-length-le line (leb-true (length line) e (k .0)) in
-    let is : index ≡ i = eqb-true index i (k .1) in
-    subst (λ (y : List ℤ). (line ≡ lineText (code "B") (borderFields i (borderOf y))) × BorderHeld zones y) (j .2)
-    (headed-line (code "B") line (a .0) ∙ rw (r1 .here, r2 .here, r3 .here, r4 .here, last, is), record { wide = refl; fits = j .1 })))))
+module _ (zones : ℕ) (raw : List ℤ) (held : BorderHeld zones raw) where
+  -- its numbers are those of the border
+  pub border-listed : pos (borderOf raw .from) ∷ pos (borderOf raw .to) ∷ pos (borderOf raw .lta) ∷ [] ≡ raw
+  unfolding table
+  border-listed =
+      let b = border-in zones raw (held .fits) in
+      rw (← b .from, ← b .to, ← b .lta) (sym (table-of 3 (atℤ raw) raw (pos 0) (held .wide) (λ i h. refl)))
+
+  border-kept : zones ≤ zonesMost → AllKept borderColumns raw
+  unfolding borderOf
+  border-kept few =
+      let b = border-in zones raw (held .fits) in
+      subst (AllKept borderColumns) border-listed ((refl, omega (arith, b .from-below)), ((refl, omega (arith, b .to-below)), ((refl, omega (arith, b .lta-most)), tt)))
+
+module _ (zones : ℕ) (line : List ℕ) (i : ℕ) (raw : List ℤ) where
+  pub border-read : borderLine zones line i ≡ holds raw → (line ≡ columnsText tab (code "B") borderColumns i raw) × BorderHeld zones raw
+  unfolding borderLine
+  border-read e =
+      let h = judged-read (borderFits zones) (λ raw. raw) tab (code "B") tab-ends borderColumns i line raw e in
+      subst (λ (y : List ℤ). (line ≡ columnsText tab (code "B") borderColumns i y) × BorderHeld zones y) (h .made)
+      (h .read .here, record { wide = kept-long borderColumns (h .zs) (h .read .kept); fits = h .fit })
+
+  -- by what was read of it
+  module _ (next : ℕ) (e : values raw next ≡ columnsLine tab (code "B") borderColumns line i) where
+    pub border-holds : borderFits zones raw ≡ true → holds (pos (borderOf raw .from) ∷ pos (borderOf raw .to) ∷ pos (borderOf raw .lta) ∷ []) ≡ borderLine zones line i
+    unfolding borderLine
+    border-holds f =
+        let w = kept-long borderColumns raw (line-read tab (code "B") tab-ends borderColumns line i raw next (sym e) .kept) in
+        rw (← e, f) (ap holds (border-listed zones raw (record { wide = w; fits = f })))
+
+    pub border-range : borderFits zones raw ≡ false → range ≡ borderLine zones line i
+    unfolding borderLine
+    border-range f = rw (← e, f)
+
+pub border-form : (zones : ℕ) (line : List ℕ) (i place : ℕ) → wrong place ≡ columnsLine tab (code "B") borderColumns line i → form ≡ borderLine zones line i
+unfolding borderLine
+border-form zones line i place e = rw (← e)
 
 module _ (zones i : ℕ) (raw : List ℤ) where
-  pub border-written : i < 10 ^ 10 → zones ≤ zonesMost → BorderHeld zones raw → borderLine zones (lineText (code "B") (borderFields i (borderOf raw))) i ≡ holds raw
-  unfolding borderLine lineText fieldsText table
-  border-written small few held =
-      let line = lineText (code "B") (borderFields i (borderOf raw)) in
-      let b = border-in zones raw (held .fits) in
-      let is : pos (borderOf raw .from) ∷ pos (borderOf raw .to) ∷ pos (borderOf raw .lta) ∷ [] ≡ raw = rw (← b .from, ← b .to, ← b .lta) (sym (table-of 3 (atℤ raw) raw (pos 0) (held .wide) (λ i h. refl))) in
-      rw (headed-text (code "B") _ _)
-      (number-goes form (holds raw) line 2 tab _ refl _ i refl small (λ p h1.
-      number-goes form (holds raw) line p tab _ refl _ (borderOf raw .from) h1 (omega (arith, b .from-below)) (λ q h2.
-      number-goes form (holds raw) line q tab _ refl _ (borderOf raw .to) h2 (omega (arith, b .to-below)) (λ r h3.
-      number-goes form (holds raw) line r feed [] refl _ (borderOf raw .lta) h3 (omega (arith, b .lta-most)) (λ e h4.
-      rw (ended-text line e h4, eq-eqb i i refl, is, held .fits))))))
+  pub border-written : i < 10 ^ 10 → zones ≤ zonesMost → BorderHeld zones raw → borderLine zones (columnsText tab (code "B") borderColumns i raw) i ≡ holds raw
+  unfolding borderLine
+  border-written small few held = judged-written (borderFits zones) (λ raw. raw) tab (code "B") tab-ends borderColumns i raw small (border-kept zones raw held few) (held .fits)
 
-  pub border-one : (r : List ℕ) → lineOf (lineText (code "B") (borderFields i (borderOf raw)) ++ r) ≡ lineText (code "B") (borderFields i (borderOf raw))
-  border-one r =
-      let b = borderOf raw in
-      line-one (code "B") (borderFields i b) r refl (decimal-no-feed i, (decimal-no-feed (b .from), (decimal-no-feed (b .to), (decimal-no-feed (b .lta), tt))))
+  pub border-one : (r : List ℕ) → lineOf (columnsText tab (code "B") borderColumns i raw ++ r) ≡ columnsText tab (code "B") borderColumns i raw
+  border-one r = line-one tab (code "B") borderColumns i raw r (omega arith) refl refl

@@ -1,50 +1,80 @@
 -- The H line: a line that holds a header is its text, and that text holds the header. No contract cites this file.
 -- Assumes nothing.
-use mathlib.Core.Path.{_≡_, refl, subst, _∙_}
-use mathlib.Core.Bool.{true}
+use mathlib.Core.Path.{_≡_, refl, sym, ap, subst, _∙_}
+use mathlib.Core.Bool.{true, false}
 use mathlib.Core.List.{List, [], _∷_, _++_}
 use Prim.Native.Char.{code}
 use Prim.Native.Nat.{ℕ}
 use native.Mathlib.Omega.{arith}
-use lib.ListN.{length, drop, drop-of-length-le}
-use borrow.Author.Tests.{leb-true}
+use lib.IntN.{ℤ, pos}
 use Rattle.kinds.specs.declared.Header.{Header}
-use Rattle.kinds.specs.Ranges.{headerFits}
+use Rattle.kinds.specs.LineColumns.{headerColumns}
+use Rattle.kinds.specs.Ranges.{atℤ, headerFits}
 use Rattle.kinds.proofs.KindLaws.{header-in}
-use Rattle.text.specs.Fields.{tab, feed}
-use Rattle.text.specs.Line.{lineOf, holds, form, headed, ended}
-use Rattle.text.specs.Written.{decimal, fieldsText, lineText}
-use Rattle.text.proofs.ChainLaws.{cond-holds, judged-holds, headed-line}
-use Rattle.text.proofs.FieldTrip.{number-then, number-goes}
-use Rattle.text.proofs.WrittenLaws.{headed-text, ended-text, line-one, decimal-no-feed}
-use Rattle.lines.specs.Lines.{headerLine}
+use Rattle.text.specs.Fields.{tab}
+use Rattle.text.specs.Line.{lineOf, holds, form, range}
+use Rattle.columns.specs.Columns.{values, wrong}
+use Rattle.columns.specs.ColumnText.{plainText}
+use Rattle.columns.specs.ColumnLine.{plainLine}
+use Rattle.columns.proofs.ColumnTrip.{tab-ends, AllKept, plain-read, plain-judged, plain-written, plain-one}
+use Rattle.lines.specs.Lines.{headerOf, headerLine}
 
-abbrev pub headerFields : Header → List (List ℕ)
-headerFields h = decimal (h .zones) ∷ decimal (h .borders) ∷ decimal (h .rows) ∷ []
+-- the raw numbers of a header
+abbrev pub headerRaw : Header → List ℤ
+headerRaw h = pos (h .zones) ∷ pos (h .borders) ∷ pos (h .rows) ∷ []
 
-pub header-read : (line : List ℕ) (h : Header) → headerLine line ≡ holds h → (line ≡ lineText (code "H") (headerFields h)) × (headerFits h ≡ true)
-unfolding headerLine lineText fieldsText
+abbrev pub headerTextOf : Header → List ℕ
+headerTextOf h = plainText tab (code "H") headerColumns (headerRaw h)
+
+raw-is : (zs : List ℤ) → AllKept headerColumns zs → headerRaw (headerOf zs) ≡ zs
+raw-is [] k = absurd k
+raw-is (a ∷ []) k = absurd (k .1)
+raw-is (a ∷ b ∷ []) k = absurd (k .1 .1)
+raw-is (a ∷ b ∷ c ∷ []) k = rw (← k .0 .0, ← k .1 .0 .0, ← k .1 .1 .0 .0)
+raw-is (a ∷ b ∷ c ∷ d ∷ zs) k = absurd (k .1 .1 .1)
+
+-- its numbers are those of the header
+pub record Numbers (zs : List ℤ) : Type 0 where
+  pub zones : atℤ zs 0 ≡ pos (headerOf zs .zones)
+  pub borders : atℤ zs 1 ≡ pos (headerOf zs .borders)
+  pub rows : atℤ zs 2 ≡ pos (headerOf zs .rows)
+
+numbers-are : (zs : List ℤ) → AllKept headerColumns zs → Numbers zs
+numbers-are zs k =
+    let e = sym (raw-is zs k) in
+    record { zones = ap (λ (l : List ℤ). atℤ l 0) e; borders = ap (λ (l : List ℤ). atℤ l 1) e; rows = ap (λ (l : List ℤ). atℤ l 2) e }
+
+pub header-read : (line : List ℕ) (h : Header) → headerLine line ≡ holds h → (line ≡ headerTextOf h) × (headerFits h ≡ true)
+unfolding headerLine
 header-read line h e =
-    let a = cond-holds h (headed (code "H") line) _ e in
-    number-then h line 2 tab _ (a .1) (λ zones p r1 e1.
-    number-then h line p tab _ e1 (λ borders q r2 e2.
-    number-then h line q feed _ e2 (λ rows e r3 e3.
-    let j = judged-holds h (ended line e) _ _ e3 in
-    let last : drop e line ≡ [] = drop-of-length-le line (leb-true (length line) e (j .0)) in
-    subst (λ (g : Header). (line ≡ lineText (code "H") (headerFields g)) × (headerFits g ≡ true)) (j .2)
-    (headed-line (code "H") line (a .0) ∙ rw (r1 .here, r2 .here, r3 .here, last), j .1))))
+    let j = plain-judged (λ zs. headerFits (headerOf zs)) headerOf tab (code "H") tab-ends headerColumns line h e in
+    subst (λ (g : Header). (line ≡ headerTextOf g) × (headerFits g ≡ true)) (j .made)
+    (j .read .here ∙ ap (plainText tab (code "H") headerColumns) (sym (raw-is (j .zs) (j .read .kept))), j .fit)
+
+module _ (line : List ℕ) where
+  module _ (zs : List ℤ) (next : ℕ) (e : values zs next ≡ plainLine tab (code "H") headerColumns line) where
+    pub header-numbers : Numbers zs
+    header-numbers = numbers-are zs (plain-read tab (code "H") tab-ends headerColumns line zs next (sym e) .kept)
+
+    pub header-holds : headerFits (headerOf zs) ≡ true → holds (headerOf zs) ≡ headerLine line
+    unfolding headerLine
+    header-holds f = rw (← e, f)
+
+    pub header-range : headerFits (headerOf zs) ≡ false → range ≡ headerLine line
+    unfolding headerLine
+    header-range f = rw (← e, f)
+
+  pub header-form : (place : ℕ) → wrong place ≡ plainLine tab (code "H") headerColumns line → form ≡ headerLine line
+  unfolding headerLine
+  header-form place e = rw (← e)
 
 module _ (h : Header) where
-  pub header-written : headerFits h ≡ true → headerLine (lineText (code "H") (headerFields h)) ≡ holds h
-  unfolding headerLine lineText fieldsText
-  header-written fits =
-      let line = lineText (code "H") (headerFields h) in
-      let i = header-in h fits in
-      rw (headed-text (code "H") _ _)
-      (number-goes form (holds h) line 2 tab _ refl _ (h .zones) refl (omega (arith, i .zones-most)) (λ p h1.
-      number-goes form (holds h) line p tab _ refl _ (h .borders) h1 (omega (arith, i .borders-most)) (λ q h2.
-      number-goes form (holds h) line q feed [] refl _ (h .rows) h2 (omega (arith, i .rows-most)) (λ e h3.
-      rw (ended-text line e h3, fits)))))
+  pub header-written : headerFits h ≡ true → headerLine (headerTextOf h) ≡ holds h
+  unfolding headerLine
+  header-written f =
+      let i = header-in h f in
+      plain-written (λ zs. headerFits (headerOf zs)) headerOf tab (code "H") tab-ends headerColumns (headerRaw h)
+      ((refl, omega (arith, i .zones-most)), ((refl, omega (arith, i .borders-most)), ((refl, omega (arith, i .rows-most)), tt))) f
 
-  pub header-one : (r : List ℕ) → lineOf (lineText (code "H") (headerFields h) ++ r) ≡ lineText (code "H") (headerFields h)
-  header-one r = line-one (code "H") (headerFields h) r refl (decimal-no-feed (h .zones), (decimal-no-feed (h .borders), (decimal-no-feed (h .rows), tt)))
+  pub header-one : (r : List ℕ) → lineOf (headerTextOf h ++ r) ≡ headerTextOf h
+  header-one r = plain-one tab (code "H") headerColumns (headerRaw h) r (omega arith) refl refl

@@ -1,51 +1,50 @@
 -- The Z line: a line that holds a net position is its text, and that text holds the net position. No contract cites this file.
 -- Assumes nothing.
-use mathlib.Core.Path.{_≡_, refl, subst, _∙_}
-use mathlib.Core.Bool.{true, _&&_}
+use mathlib.Core.Path.{_≡_, refl, subst}
+use mathlib.Core.Bool.{true, false}
 use mathlib.Core.List.{List, [], _∷_, _++_}
 use Prim.Native.Char.{code}
 use Prim.Native.Nat.{ℕ, _^_, _<_}
 use native.Mathlib.Omega.{arith}
-use lib.Dec.{eqb}
 use lib.IntN.{ℤ}
-use lib.ListN.{length, drop, drop-of-length-le}
-use borrow.Author.Tests.{leb-true, eqb-true, eq-eqb}
-use Rattle.numbers.proofs.TestLaws.{and-both}
-use Rattle.kinds.specs.Ranges.{zoneFits}
+use Rattle.kinds.specs.LineColumns.{zoneColumns}
+use Rattle.kinds.specs.Ranges.{atℤ, zoneFits}
 use Rattle.kinds.proofs.KindLaws.{zone-in}
-use Rattle.text.specs.Fields.{tab, feed}
-use Rattle.text.specs.Line.{lineOf, holds, form, headed, ended}
-use Rattle.text.specs.Written.{decimal, decimalℤ, fieldsText, lineText}
-use Rattle.text.proofs.ChainLaws.{cond-holds, judged-holds, headed-line}
-use Rattle.text.proofs.FieldTrip.{number-then, signed-then, number-goes, signed-goes}
-use Rattle.text.proofs.WrittenLaws.{headed-text, ended-text, line-one, decimal-no-feed, decimalℤ-no-feed}
+use Rattle.text.specs.Fields.{tab}
+use Rattle.text.specs.Line.{lineOf, holds, form, range}
+use Rattle.columns.specs.Columns.{values, wrong}
+use Rattle.columns.specs.ColumnText.{fieldsEnded, columnsText}
+use Rattle.columns.specs.ColumnLine.{columnsLine}
+use Rattle.columns.proofs.ColumnTrip.{tab-ends, line-one, judged-read, judged-written}
 use Rattle.lines.specs.Lines.{zoneLine}
 
-abbrev pub zoneFields : (i : ℕ) → (net : ℤ) → List (List ℕ)
-zoneFields i net = decimal i ∷ decimalℤ net ∷ []
+abbrev pub zoneTextOf : (i : ℕ) → (net : ℤ) → List ℕ
+zoneTextOf i net = columnsText tab (code "Z") zoneColumns i (net ∷ [])
 
-pub zone-read : (line : List ℕ) (i : ℕ) (net : ℤ) → zoneLine line i ≡ holds net → (line ≡ lineText (code "Z") (zoneFields i net)) × (zoneFits net ≡ true)
-unfolding zoneLine lineText fieldsText
-zone-read line i net e =
-    let a = cond-holds net (headed (code "Z") line) _ e in
-    number-then net line 2 tab _ (a .1) (λ index p r1 e1.
-    signed-then net line p feed _ e1 (λ z e r2 e2.
-    let j = judged-holds net (ended line e && eqb index i) _ _ e2 in
-    let k = and-both (ended line e) (eqb index i) (j .0) in
-    let last : drop e line ≡ [] = drop-of-length-le line (leb-true (length line) e (k .0)) in
-    let is : index ≡ i = eqb-true index i (k .1) in
-    subst (λ (y : ℤ). (line ≡ lineText (code "Z") (zoneFields i y)) × (zoneFits y ≡ true)) (j .2)
-    (headed-line (code "Z") line (a .0) ∙ rw (r1 .here, r2 .here, last, is), j .1)))
+module _ (line : List ℕ) (i : ℕ) where
+  pub zone-read : (net : ℤ) → zoneLine line i ≡ holds net → (line ≡ zoneTextOf i net) × (zoneFits net ≡ true)
+  unfolding zoneLine columnsText fieldsEnded
+  zone-read net e =
+      let h = judged-read (λ zs. zoneFits (atℤ zs 0)) (λ zs. atℤ zs 0) tab (code "Z") tab-ends zoneColumns i line net e in
+      subst (λ (y : ℤ). (line ≡ zoneTextOf i y) × (zoneFits y ≡ true)) (h .made) (h .read .here, h .fit)
+
+  module _ (zs : List ℤ) (next : ℕ) (e : values zs next ≡ columnsLine tab (code "Z") zoneColumns line i) where
+    pub zone-holds : zoneFits (atℤ zs 0) ≡ true → holds (atℤ zs 0) ≡ zoneLine line i
+    unfolding zoneLine
+    zone-holds f = rw (← e, f)
+
+    pub zone-range : zoneFits (atℤ zs 0) ≡ false → range ≡ zoneLine line i
+    unfolding zoneLine
+    zone-range f = rw (← e, f)
+
+  pub zone-form : (place : ℕ) → wrong place ≡ columnsLine tab (code "Z") zoneColumns line i → form ≡ zoneLine line i
+  unfolding zoneLine
+  zone-form place e = rw (← e)
 
 module _ (i : ℕ) (net : ℤ) where
-  pub zone-written : i < 10 ^ 10 → zoneFits net ≡ true → zoneLine (lineText (code "Z") (zoneFields i net)) i ≡ holds net
-  unfolding zoneLine lineText fieldsText
-  zone-written small fits =
-      let line = lineText (code "Z") (zoneFields i net) in
-      rw (headed-text (code "Z") _ _)
-      (number-goes form (holds net) line 2 tab _ refl _ i refl small (λ p h1.
-      signed-goes form (holds net) line p feed [] refl _ net h1 (omega (arith, zone-in net fits .abs)) (λ e h2.
-      rw (ended-text line e h2, eq-eqb i i refl, fits))))
+  pub zone-written : i < 10 ^ 10 → zoneFits net ≡ true → zoneLine (zoneTextOf i net) i ≡ holds net
+  unfolding zoneLine
+  zone-written small f = judged-written (λ zs. zoneFits (atℤ zs 0)) (λ zs. atℤ zs 0) tab (code "Z") tab-ends zoneColumns i (net ∷ []) small (omega (arith, zone-in net f .abs), tt) f
 
-  pub zone-one : (r : List ℕ) → lineOf (lineText (code "Z") (zoneFields i net) ++ r) ≡ lineText (code "Z") (zoneFields i net)
-  zone-one r = line-one (code "Z") (zoneFields i net) r refl (decimal-no-feed i, (decimalℤ-no-feed net, tt))
+  pub zone-one : (r : List ℕ) → lineOf (zoneTextOf i net ++ r) ≡ zoneTextOf i net
+  zone-one r = line-one tab (code "Z") zoneColumns i (net ∷ []) r (omega arith) refl refl

@@ -113,7 +113,7 @@ module _ (text : List ℕ) (t : Table) (o : Opened text t) where
 
   pub rows-held : (length (o .lines) ≡ t .header .rows) × allFit (Held (t .header .zones)) 0 (o .lines)
   rows-held =
-      run-fits (rowLine (t .header .zones)) (rowLineNo (t .header)) (Held (t .header .zones)) (λ line i c e. row-read (t .header .zones) some line i c e .1)
+      run-fits (rowLine (t .header .zones)) (rowLineNo (t .header)) (Held (t .header .zones)) (λ line i c e. row-read (t .header .zones) line i c e .1)
       (t .header .rows) text (o .q) 0 (o .lines) (o .e) (o .rows-are)
 
   border-at : (b : ℕ) → b < t .header .borders → BorderHeld (t .header .zones) (getD (t .borders) b [])

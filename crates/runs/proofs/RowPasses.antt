@@ -17,10 +17,10 @@ use Rattle.text.specs.Line.{lineAt, after, Line, holds, form, range}
 use Rattle.block.specs.Block.{Block, read, fault, more, onLine, linesAt, endOf, heldBy}
 use Rattle.block.proofs.BlockLaws.{no-read, Passed, passed-start, passed-line, passed-more}
 use Rattle.table.proofs.StretchLaws.{stretch-end}
-use Rattle.lines.specs.Lines.{RowLine, rowLine}
-use Rattle.lines.specs.SaidRow.{judgedOf, ownIndex, row}
+use Rattle.lines.specs.Lines.{RowLine, row, rowLine}
+use Rattle.lines.specs.SaidRow.{judgedOf}
 use Rattle.lines.specs.declared.row.RowJudged.the-variants.{Good}
-use Rattle.lines.proofs.RowJudge.{Holds, own-good, own-same}
+use Rattle.lines.proofs.RowJudge.{Holds}
 use Rattle.runs.specs.Rows.{valuesOf, factorsOf}
 use Rattle.runs.specs.Runs.{allGood}
 use Rattle.runs.specs.Rows.{rowsIn}
@@ -141,16 +141,16 @@ module _ (zones : ℕ) (text : List ℕ) (at count : ℕ) where
         line-row : rowLine zones line i ≡ holds (filled-row .it)
         line-row = ap (λ (l : List ℕ). rowLine zones l i) is ∙ filled-row .is
 
-        pub filled-good : judgedOf (rowLine n line (ownIndex line)) ≡ Good
-        filled-good = own-good zones line i (filled-row .it) line-row n long
+        pub filled-good : judgedOf (rowLine n line i) ≡ Good
+        filled-good = ap judgedOf (ap (λ (m : ℕ). rowLine m line i) long ∙ line-row)
 
         -- .. which comes back as its record and its stretch
-        pub filled-more : (r part : List ℤ) → length part ≡ n → rowLine n line (ownIndex line) ≡ holds (row r part) → Filled (set c i r) (back f part (i * zones) zones) (p + length line) (i + 1)
+        pub filled-more : (r part : List ℤ) → length part ≡ n → rowLine n line i ≡ holds (row r part) → Filled (set c i r) (back f part (i * zones) zones) (p + length line) (i + 1)
         unfolding linesAt
         filled-more r part kept held =
             let b = row r part in
             let rest = linesAt (rowLine zones) 0 (count - (i + 1)) text (after text p) (i + 1) in
-            let here : rowLine zones (lineAt text p) i ≡ holds b = filled-row .is ∙ ap holds (sym (own-same zones line i (filled-row .it) line-row n long b held)) in
+            let here : rowLine zones (lineAt text p) i ≡ holds b = ap (λ (l : List ℕ). rowLine zones l i) (sym is) ∙ ap (λ (m : ℕ). rowLine m line i) (sym long) ∙ held in
             let one : count - i ≡ suc (count - (i + 1)) = omega arith in
             let step = ap (λ (m : ℕ). linesAt (rowLine zones) 0 m text p i) one ∙ ap (λ (l : Line RowLine). onLine l (0 + i) rest) here in
             let next = passed-more (rowLine zones) 0 allGood good-more text at count i p (u .passed) h b here in

@@ -1,7 +1,7 @@
 -- What is known where a line of fields, read one after another, holds something. One law for each link of such a chain. No contract cites this file.
 -- Assumes nothing.
-use mathlib.Core.Path.{_≡_, refl, sym, ap, ap₂, subst, _∙_}
-use mathlib.Core.Bool.{Bool, true, false, cond}
+use mathlib.Core.Path.{_≡_, sym, ap, ap₂, subst, _∙_}
+use mathlib.Core.Bool.{true}
 use mathlib.Core.List.{List, _∷_}
 use Prim.Native.Nat.{ℕ, _≤_, _<_}
 use native.Mathlib.Omega.{arith}
@@ -9,7 +9,7 @@ use lib.Dec.{leb, eqb}
 use lib.ListN.{length, getD, drop}
 use lib.Seq.{drop-cons}
 use borrow.Author.Tests.{leb-true, eqb-true}
-use Rattle.text.specs.Line.{Line, holds, form, range, headed, formThenRange}
+use Rattle.text.specs.Line.{Line, holds, form, range, headed}
 use Rattle.text.proofs.NumberTrip.{and-both}
 
 pub holds-is : {A : Type 0} (a b : A) → holds a ≡ holds b → a ≡ b
@@ -26,19 +26,9 @@ no-form {A} a e = subst (λ (l : Line A). isHolds l) (sym e) tt
 pub no-range : {A : Type 0} (a : A) → range ≡ holds a → ⊥
 no-range {A} a e = subst (λ (l : Line A). isHolds l) (sym e) tt
 
-module _ {A : Type 0} (a : A) where
-  pub cond-holds : (t : Bool) (x : Line A) → cond t x form ≡ holds a → (t ≡ true) × (x ≡ holds a)
-  cond-holds true x e = (refl, e)
-  cond-holds false x e = absurd (no-form a e)
-
-  pub judged-holds : (t u : Bool) (b : A) → formThenRange t u b ≡ holds a → (t ≡ true) × (u ≡ true) × (b ≡ a)
-  judged-holds true true b e = (refl, refl, holds-is b a e)
-  judged-holds true false b e = absurd (no-range a e)
-  judged-holds false u b e = absurd (no-form a e)
-
--- a line with its letter is the letter, a tab and what stands after
-pub headed-line : (letter : ℕ) (line : List ℕ) → headed letter line ≡ true → line ≡ letter ∷ 9 ∷ drop 2 line
-headed-line letter line e =
+-- a line with its letter is the letter, the byte that parts its fields, and what stands after
+pub headed-line : (letter sep : ℕ) (line : List ℕ) → headed letter sep line ≡ true → line ≡ letter ∷ sep ∷ drop 2 line
+headed-line letter sep line e =
     let a = and-both (leb 2 (length line)) _ e in
     let b = and-both (eqb (getD line 0 0) letter) _ (a .1) in
     let two : 2 ≤ length line = leb-true 2 (length line) (a .0) in

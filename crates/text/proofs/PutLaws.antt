@@ -13,7 +13,7 @@ use Rattle.numbers.specs.Below.{sum, over}
 use Rattle.numbers.proofs.SumLaws.{sum-most}
 use Rattle.text.specs.Fields.{tab, feed}
 use Rattle.text.specs.Written.{fieldsText, lineText, linesText}
-use Rattle.text.specs.Put.{put, Put, tabbed}
+use Rattle.text.specs.Put.{put, Put}
 
 -- ---- put: the bytes before, the text, the bytes after
 pub put-nothing : (at : ℕ) (out : List ℕ) → put [] at out ≡ out
@@ -92,7 +92,12 @@ module _ {x : List ℕ} {at : ℕ} {out : List ℕ} {m : ℕ} {mid : List ℕ} (
 pub put-whole : {text out : List ℕ} {next : ℕ} {out′ : List ℕ} → Put text 0 out next out′ → (next ≡ length text) × (out′ ≡ over text out)
 put-whole {text} {out} p = (p .after ∙ zero-add (length text), p .wrote ∙ put-start text out)
 
--- ---- fields and lines: `tabbed` is a line's fields before its LF
+-- ---- fields and lines
+-- the fields of a line that are written so far: a tab before each, and no LF yet
+unfoldable pub tabbed : List (List ℕ) → List ℕ
+tabbed [] = []
+tabbed (f ∷ fs) = tab ∷ (f ++ tabbed fs)
+
 pub tabbed-append : (fs gs : List (List ℕ)) → tabbed (fs ++ gs) ≡ tabbed fs ++ tabbed gs
 unfolding tabbed
 tabbed-append [] gs = refl
@@ -122,7 +127,7 @@ tabbed-empty = refl
 pub line-length : (letter : ℕ) (fs : List (List ℕ)) → length (lineText letter fs) ≡ 2 + length (tabbed fs)
 line-length letter fs = ap length (line-tabbed letter fs) ∙ omega (arith, length-append (tabbed fs) (feed ∷ []))
 
--- a line as a chain of writes: its letter, its fields one by one or several at once, its LF
+-- a line as a chain of writes: its letter, its fields one by one, its LF
 pub record Begun (letter : ℕ) (fields : List (List ℕ)) (at : ℕ) (out : List ℕ) (next : ℕ) (out′ : List ℕ) : Type 0 where
   pub put : Put (letter ∷ tabbed fields) at out next out′
 
@@ -135,9 +140,6 @@ module _ {letter at m : ℕ} {out mid : List ℕ} where
     pub line-more : {f : List ℕ} → Put (tab ∷ f) m mid n out′ → Begun letter (fs ++ (f ∷ [])) at out n out′
     line-more {f} q = record { put = rw (tabbed-snoc fs f) (put-more (p .put) h q) }
 
-    pub line-several : (gs : List (List ℕ)) → Put (tabbed gs) m mid n out′ → Begun letter (fs ++ gs) at out n out′
-    line-several gs q = record { put = rw (tabbed-append fs gs) (put-more (p .put) h q) }
-
     pub line-all : Put (feed ∷ []) m mid n out′ → Put (lineText letter fs) at out n out′
     line-all q = rw (line-tabbed letter fs) (put-more (p .put) h q)
 
@@ -146,29 +148,13 @@ pub room-first : {at room : ℕ} (letter : ℕ) (fs : List (List ℕ)) → at + 
 room-first letter fs h = omega (arith, line-length letter fs)
 
 module _ {letter at m : ℕ} {out mid : List ℕ} {fs : List (List ℕ)} (p : Begun letter fs at out m mid) where
-  pub room-several : (gs hs : List (List ℕ)) → at + length (lineText letter (fs ++ (gs ++ hs))) ≤ length out → m + length (tabbed gs) ≤ length mid
-  room-several gs hs h =
-      let all : length (tabbed (fs ++ (gs ++ hs))) ≡ length (tabbed fs) + (length (tabbed gs) + length (tabbed hs)) =
-      ap length (tabbed-append fs (gs ++ hs) ∙ ap (λ (l : List ℕ). tabbed fs ++ l) (tabbed-append gs hs))
-      ∙ length-append (tabbed fs) (tabbed gs ++ tabbed hs)
-      ∙ ap (λ (k : ℕ). length (tabbed fs) + k) (length-append (tabbed gs) (tabbed hs))
-      in
-      put-room (p .put) (length (tabbed gs)) (omega (arith, line-length letter (fs ++ (gs ++ hs))))
-
   pub room-more : (f : List ℕ) (gs : List (List ℕ)) → at + length (lineText letter (fs ++ (f ∷ gs))) ≤ length out → m + length (tab ∷ f) ≤ length mid
-  room-more f gs h = omega (arith, room-several (f ∷ []) gs h, tabbed-length f [])
+  room-more f gs h =
+      let all : length (tabbed (fs ++ (f ∷ gs))) ≡ length (tabbed fs) + length (tabbed (f ∷ gs)) = ap length (tabbed-append fs (f ∷ gs)) ∙ length-append (tabbed fs) (tabbed (f ∷ gs)) in
+      put-room (p .put) (length (tab ∷ f)) (omega (arith, line-length letter (fs ++ (f ∷ gs)), tabbed-length f gs))
 
   pub room-last : at + length (lineText letter fs) ≤ length out → m < length mid
   room-last h = omega (arith, put-room (p .put) 1 (omega (arith, line-length letter fs)))
-
--- fields alone, as a loop writes them
-pub tabbed-none : (at : ℕ) (out : List ℕ) → Put (tabbed []) at out at out
-unfolding tabbed
-tabbed-none at out = put-none at out
-
-pub tabbed-more : (fs : List (List ℕ)) {f : List ℕ} {at m n : ℕ} {out mid out′ : List ℕ} → at ≤ length out → Put (tabbed fs) at out m mid → Put (tab ∷ f) m mid n out′
-    → Put (tabbed (fs ++ (f ∷ []))) at out n out′
-tabbed-more fs {f} h p q = rw (tabbed-snoc fs f) (put-more p h q)
 
 -- ---- linesText: the last line last
 lines-last : (k i : ℕ) (line : ℕ → List ℕ) → linesText (suc k) i line ≡ linesText k i line ++ line (i + k)

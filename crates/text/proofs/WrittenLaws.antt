@@ -1,24 +1,22 @@
--- The laws of `specs/Written.antt`'s lines: a line that is written holds no LF but its last byte, so it is the line that its text begins with; and lengths. No contract cites this file.
+-- The laws of `specs/Written.antt`: what is written of a number holds no LF; and lengths. No contract cites this file.
 -- Assumes nothing.
 use mathlib.Core.Path.{_≡_, refl, sym, ap, ap₂, _∙_}
-use mathlib.Core.Bool.{true, false}
-use mathlib.Core.List.{List, [], _∷_, _++_, map, append-assoc}
+use mathlib.Core.Bool.{true}
+use mathlib.Core.List.{List, [], _∷_}
 use Prim.Native.Nat.{ℕ, zero, suc, _+_, _^_, _≤_, _<_}
 use native.Mathlib.Nat.{add-zero}
 use native.Mathlib.Omega.{arith}
-use lib.Dec.{eqb}
 use lib.IntN.{ℤ, pos, negsuc, natAbs}
 use lib.ListN.{length, drop, length-append, length-drop}
-use borrow.Author.Tests.{ne-eqb, eq-eqb, le-leb}
+use borrow.Author.Tests.{ne-eqb, le-leb}
 use Rattle.numbers.specs.Below.{sum}
 use Rattle.numbers.proofs.BelowLaws.{sum-cong}
 use Rattle.numbers.proofs.SumLaws.{sum-first}
 use Rattle.text.specs.Fields.{digits}
-use Rattle.text.specs.Line.{lineOf, headed, ended}
-use Rattle.text.specs.Written.{decimal, decimalℤ, fieldsText, lineText, linesText}
+use Rattle.text.specs.Line.{ended}
+use Rattle.text.specs.Written.{decimal, decimalℤ, shareText, fieldsText, lineText, linesText}
 use Rattle.text.proofs.LineLaws.{noFeed}
 use Rattle.text.proofs.NumberTrip.{digit-range, digits-cons, decimal-digits, decimal-of, text-length}
-use Rattle.text.proofs.FieldTrip.{shareField}
 
 -- ---- no LF
 digits-no-feed : (s : List ℕ) → digits s ≡ s → noFeed s
@@ -35,38 +33,11 @@ unfolding decimalℤ
 decimalℤ-no-feed (pos n) = decimal-no-feed n
 decimalℤ-no-feed (negsuc n) = (refl, decimal-no-feed (suc n))
 
-pub share-no-feed : (r : ℤ) → noFeed (shareField r)
+pub share-no-feed : (r : ℤ) → noFeed (shareText r)
 share-no-feed (pos n) = decimal-no-feed n
 share-no-feed (negsuc n) = (refl, tt)
 
-abbrev pub noFeeds : List (List ℕ) → Type 0
-noFeeds [] = Unit {0}
-noFeeds (f ∷ fs) = noFeed f × noFeeds fs
-
-pub each-no-feed : (zs : List ℤ) → noFeeds (map decimalℤ zs)
-each-no-feed [] = tt
-each-no-feed (z ∷ zs) = (decimalℤ-no-feed z, each-no-feed zs)
-
--- ---- the line that a written line begins with
-line-past : (x s : List ℕ) → noFeed x → lineOf (x ++ s) ≡ x ++ lineOf s
-line-past [] s h = refl
-line-past (b ∷ x) s h = rw (h .0, line-past x s (h .1))
-
-fields-one : (fs : List (List ℕ)) (r : List ℕ) → noFeeds fs → lineOf (fieldsText fs ++ r) ≡ fieldsText fs
-unfolding fieldsText
-fields-one [] r h = refl
-fields-one (f ∷ fs) r h =
-    ap (λ (l : List ℕ). 9 ∷ l) (ap lineOf (append-assoc f (fieldsText fs) r) ∙ line-past f (fieldsText fs ++ r) (h .0) ∙ ap (λ (l : List ℕ). f ++ l) (fields-one fs r (h .1)))
-
-pub line-one : (letter : ℕ) (fs : List (List ℕ)) (r : List ℕ) → eqb letter 10 ≡ false → noFeeds fs → lineOf (lineText letter fs ++ r) ≡ lineText letter fs
-unfolding lineText
-line-one letter fs r e h = rw (e, fields-one fs r h)
-
--- ---- a written line has its letter, and ends where nothing follows
-pub headed-text : (letter : ℕ) (f : List ℕ) (fs : List (List ℕ)) → headed letter (lineText letter (f ∷ fs)) ≡ true
-unfolding lineText fieldsText
-headed-text letter f fs = rw (le-leb 2 (suc (suc (length (f ++ fieldsText fs)))) (omega arith), eq-eqb letter letter refl)
-
+-- ---- a written line ends where nothing follows
 pub ended-text : (line : List ℕ) (next : ℕ) → drop next line ≡ [] → ended line next ≡ true
 ended-text line next e = le-leb (length line) next (omega (arith, length-drop next line, ap length e))
 

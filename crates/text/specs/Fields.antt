@@ -1,13 +1,13 @@
 -- A field at a place of a line (01, "The table as text"): decimal, 1 to 10 digits, no leading zero except "0" itself,
 -- a minus only before a nonzero signed field, and then the byte that ends the field.
--- `numberAt`, `signedAt`, `shareAt` and `signedsAt` are what contracts cite. A place counts bytes from the line's start, from 0.
+-- `numberAt`, `signedAt` and `shareAt` are what contracts cite. A place counts bytes from the line's start, from 0.
 -- A field of wrong form tells the first place that no good field could have; what is above asks only whether there is one.
 -- Assumes nothing.
 use mathlib.Core.Bool.{Bool, cond, not, _&&_, _||_}
 use mathlib.Core.List.{List, [], _∷_}
-use Prim.Native.Nat.{ℕ, zero, suc, _+_, _*_, _-_, min}
+use Prim.Native.Nat.{ℕ, _+_, _*_, _-_, min}
 use lib.Dec.{leb, ltb, eqb}
-use lib.IntN.{ℤ, pos, negℤ}
+use lib.IntN.{pos, negℤ}
 use lib.ListN.{length, getD, drop}
 use Rattle.numbers.specs.Ints.{minus}
 use Rattle.text.specs.declared.Number.{Number}
@@ -80,33 +80,7 @@ shareAt line at stop =
     (cond (eqb (getD line (at + 1) 0) stop) (Whole (minus 1) (at + 2)) (Wrong (at + 1)))
     (positive (numberAt line at stop))
 
--- a number's or signed number's value and the place after it, or what is said where there is none
+-- a number's value and the place after it, or what is said where there is none
 abbrev pub withNumber : {A : Type 0} → Number → A → (ℕ → ℕ → A) → A
 withNumber (Value v next) bad f = f v next
 withNumber (Bad place) bad f = bad
-
-abbrev pub withSigned : {A : Type 0} → Signed → A → (ℤ → ℕ → A) → A
-withSigned (Whole z next) bad f = f z next
-withSigned (Wrong place) bad f = bad
-
--- several signed numbers and the place after them, or a field of wrong form
-pub data Signeds : Type 0 where
-  values : List ℤ → ℕ → Signeds
-  wrong : Signeds
-
-abbrev pub push : ℤ → Signeds → Signeds
-push z (values zs next) = values (z ∷ zs) next
-push z wrong = wrong
-
-abbrev pub onward : Signed → (ℕ → Signeds) → Signeds
-onward (Whole z next) rest = push z (rest next)
-onward (Wrong place) rest = wrong
-
--- the last n fields of a line: each ended by a tab, the last by the LF
-unfoldable pub signedsAt : (left : ℕ) → (line : List ℕ) → (at : ℕ) → Signeds
-signedsAt zero line at = values [] at
-signedsAt (suc left) line at = onward (signedAt line at (cond (leb (suc left) 1) feed tab)) (λ (next : ℕ). signedsAt left line next)
-
-abbrev pub withSigneds : {A : Type 0} → Signeds → A → (List ℤ → ℕ → A) → A
-withSigneds (values zs next) bad f = f zs next
-withSigneds wrong bad f = bad

@@ -1,16 +1,14 @@
 // The fields of a line: each is read once, byte by byte, from a given place on.
 use crate::Class;
-use crate::Fields;
 use crate::Number;
 use crate::Signed;
 ghost use mathlib.Core.Path.{_≡_};
-ghost use mathlib.Core.Bool.{true, cond, _&&_, _||_};
+ghost use mathlib.Core.Bool.{_&&_, _||_};
 ghost use Prim.Native.Nat.{_<_, _^_};
 ghost use lib.Dec.{leb, ltb, eqb};
-ghost use lib.ListN.{length, getD};
+ghost use lib.ListN.{getD};
 ghost use Rattle.text.specs.Class.{classOf};
-ghost use Rattle.text.specs.Fields.{tab, feed, dash, digitsMost, withNumber, positive, negative, numberAt, signedAt, shareAt, signedsAt};
-ghost use Rattle.text.specs.Run.{fieldsWithin, allRead, itemsOf};
+ghost use Rattle.text.specs.Fields.{dash, digitsMost, withNumber, positive, negative, numberAt, signedAt, shareAt};
 
 // What a byte of a field is.
 pub fn class_of(byte: u8) -> Class
@@ -102,7 +100,7 @@ fn byte_at(line: &[u8], at: usize) -> u8
 }
 
 // A number as a signed one. One that was read is below 10^10.
-fn plus(number: Number) -> Signed
+pub fn plus(number: Number) -> Signed
     requires { ⌜ withNumber number 0 (λ v next. v) < 10 ^ 10 ⌝ }
     ensures { λ r. ⌜ r ≡ positive number ⌝ }
 {
@@ -131,47 +129,4 @@ fn minus(first: u8, at: usize, number: Number) -> Signed
             Signed::Wrong(place)
         }
     }
-}
-
-// Judges the last n fields of a line without keeping them: the form of each, and whether every value lies in low..high.
-pub fn fields_within(n: usize, line: &[u8], at: usize, low: i64, high: i64) -> Fields
-    ensures { λ r. ⌜ r ≡ fieldsWithin low high (signedsAt n (now (line .entry)) at) ⌝ }
-{
-    let mut left = n;
-    let mut p = at;
-    let mut within = true;
-    while 0 < left {
-        let Signed::Whole(z, next) = signed_at(line, p, stop_of(left)) else {
-            return Fields::Faulty;
-        };
-        within = within & numbers::inside(z, low, high);
-        p = next;
-        left -= 1;
-    }
-    Fields::End(p, within)
-}
-
-// Fills `out` with the last fields of a line, whose form was judged before.
-pub fn fill_fields(line: &[u8], at: usize, out: &mut [i64])
-    requires { ⌜ allRead (signedsAt (length (now out)) (now line) at) ≡ true ⌝ }
-    ensures { λ _. ⌜ now (out .exit) ≡ itemsOf (signedsAt (length (now (out .entry))) (now (line .entry)) at) ⌝ }
-{
-    let n = out.len();
-    let mut p = at;
-    let mut k = 0;
-    while k < n {
-        let Signed::Whole(z, next) = signed_at(line, p, stop_of(n - k)) else {
-            return;
-        };
-        out[k] = z;
-        p = next;
-        k += 1;
-    }
-}
-
-// The byte that ends the first of the fields left: the LF where it is the last, else a tab.
-fn stop_of(left: usize) -> u8
-    ensures { λ r. ⌜ r ≡ cond (leb left 1) feed tab ⌝ }
-{
-    if left <= 1 { b'\n' } else { b'\t' }
 }

@@ -22,9 +22,3 @@ pub enum Signed {
     Whole(i64, usize),
     Wrong(usize),
 }
-
-// What the last fields of a line come to: the place after them and whether every value lies in its range, or a field of wrong form.
-pub enum Fields {
-    End(usize, bool),
-    Faulty,
-}

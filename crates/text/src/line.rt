@@ -28,15 +28,15 @@ fn line_end(text: &[u8], p: usize) -> usize
     i
 }
 
-// Whether a line begins with its letter and a tab.
-pub fn headed(line: &[u8], letter: u8) -> bool
-    ensures { λ r. ⌜ r ≡ headed letter (now (line .entry)) ⌝ }
+// Whether a line begins with its letter and the byte that parts its fields.
+pub fn headed(line: &[u8], letter: u8, sep: u8) -> bool
+    ensures { λ r. ⌜ r ≡ headed letter sep (now (line .entry)) ⌝ }
 {
     if line.len() < 2 {
         return false;
     }
     if line[0] == letter {
-        return line[1] == b'\t';
+        return line[1] == sep;
     }
     false
 }

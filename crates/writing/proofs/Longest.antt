@@ -11,10 +11,11 @@ use borrow.Author.Tests.{not-false}
 use Rattle.numbers.specs.Below.{firstFrom, given, table}
 use Rattle.numbers.specs.Ints.{minus, inside, sameℤ}
 use Rattle.numbers.proofs.BelowLaws.{first-none, table-long, table-get}
-use Rattle.kinds.specs.Ranges.{headerFits, exists, zoneFits, borderFits, borderOf, rowFits, rowOf, shareOf, factorFits}
+use Rattle.kinds.specs.Ranges.{headerFits, exists, zoneFits, borderFits, rowFits, rowOf, factorFits}
 use Rattle.table.specs.Table.{Table, twice, stretch}
 use Rattle.table.specs.Good.{Good, Shaped}
-use Rattle.text.specs.Written.{textOf, decimal, decimalℤ, fieldsText, lineText, linesText}
+use Rattle.text.specs.Written.{textOf, decimal, decimalℤ, linesText}
+use Rattle.columns.specs.ColumnText.{fieldText, fieldsEnded, indexText, columnsText, plainText}
 use Rattle.writing.specs.Writing.{tableText}
 use Rattle.writing.proofs.RoundTrip.{bytesLongest}
 
@@ -39,7 +40,7 @@ widest = record {
 }
 
 pub widest-long : length (tableText widest) ≡ bytesLongest
-unfolding widest table tableText textOf decimal decimalℤ fieldsText lineText linesText borderOf rowOf shareOf stretch
+unfolding widest table tableText textOf decimal decimalℤ fieldText fieldsEnded indexText columnsText plainText linesText stretch
 widest-long = refl
 
 pub widest-good : Good widest

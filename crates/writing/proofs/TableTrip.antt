@@ -33,10 +33,10 @@ use Rattle.lines.proofs.ZoneTrip.{zone-read, zone-written, zone-one}
 use Rattle.lines.proofs.BorderTrip.{BorderHeld, border-read, border-written, border-one}
 use Rattle.lines.proofs.RowTrip.{RowHeld, Held, row-read, row-written, row-one}
 use Rattle.runs.proofs.RowLaws.{none, values-at, cut, cut-long, cut-values, cut-factors, cut-at}
-use Rattle.reading.proofs.ReadLaws.{Opened, fits, some, nets-held, borders-held, rows-held}
-use Rattle.layout.specs.Layout.{headerText}
+use Rattle.reading.proofs.ReadLaws.{Opened, fits, nets-held, borders-held, rows-held}
+use Rattle.layout.specs.Layout.{headerText, zoneText, borderText}
 use Rattle.writing.specs.Writing.{tableText}
-use Rattle.writing.proofs.BlockTrip.{zoneLineOf, borderLineOf, rowLineOf, Lined, blocks, text-blocks}
+use Rattle.writing.proofs.BlockTrip.{rowLineOf, Lined, blocks, text-blocks}
 
 -- ---- what was read
 module _ (text : List ℕ) (t : Table) (o : Opened text t) where
@@ -53,13 +53,13 @@ module _ (text : List ℕ) (t : Table) (o : Opened text t) where
   read-blocks : text ≡ blocks t (o .lines)
   read-blocks =
       let h = header-read (lineAt text 0) (t .header) (o .header-is) .0 in
-      let z = block-read zoneLine zoneLineNo zoneLineOf (λ line i net e. zone-read line i net e .0) (t .header .zones) text (after text 0) 0 (t .nets) (o .p) (o .nets-are) .0 in
-      let b = block-read (borderLine (t .header .zones)) (borderLineNo (t .header)) borderLineOf (λ line i raw e. border-read (t .header .zones) line i raw e .0) (t .header .borders) text (o .p) 0 (t .borders) (o .q) (o .borders-are) .0 in
-      let c = block-read (rowLine (t .header .zones)) (rowLineNo (t .header)) rowLineOf (λ line i c e. row-read (t .header .zones) (some text t o) line i c e .0) (t .header .rows) text (o .q) 0 (o .lines) (o .e) (o .rows-are) .0 in
+      let z = block-read zoneLine zoneLineNo zoneText (λ line i net e. zone-read line i net e .0) (t .header .zones) text (after text 0) 0 (t .nets) (o .p) (o .nets-are) .0 in
+      let b = block-read (borderLine (t .header .zones)) (borderLineNo (t .header)) borderText (λ line i raw e. border-read (t .header .zones) line i raw e .0) (t .header .borders) text (o .p) 0 (t .borders) (o .q) (o .borders-are) .0 in
+      let c = block-read (rowLine (t .header .zones)) (rowLineNo (t .header)) rowLineOf (λ line i c e. row-read (t .header .zones) line i c e .0) (t .header .rows) text (o .q) 0 (o .lines) (o .e) (o .rows-are) .0 in
       let last : drop (o .e) text ≡ [] = drop-of-length-le text (o .whole) in
       let d : drop (o .q) text ≡ blockText rowLineOf 0 (o .lines) = c ∙ ap (λ (l : List ℕ). blockText rowLineOf 0 (o .lines) ++ l) last ∙ append-nil _ in
       let first : drop (length (lineOf text)) text ≡ drop (after text 0) text = ap (λ (k : ℕ). drop k text) (sym (zero-add (length (lineOf text)))) in
-      line-split text ∙ ap₂ (λ (x y : List ℕ). x ++ y) h (first ∙ z ∙ ap (λ (l : List ℕ). blockText zoneLineOf 0 (t .nets) ++ l) (b ∙ ap (λ (l : List ℕ). blockText borderLineOf 0 (t .borders) ++ l) d))
+      line-split text ∙ ap₂ (λ (x y : List ℕ). x ++ y) h (first ∙ z ∙ ap (λ (l : List ℕ). blockText zoneText 0 (t .nets) ++ l) (b ∙ ap (λ (l : List ℕ). blockText borderText 0 (t .borders) ++ l) d))
 
   pub read-text : tableText t ≡ text
   read-text = text-blocks t (o .lines) read-lined ∙ sym read-blocks
@@ -133,7 +133,7 @@ module _ (t : Table) (g : Good t) (s : Shaped t) where
     first-line : lineAt text 0 ≡ headerText (t .header)
     first-line = ap lineOf whole ∙ header-one (t .header) _
 
-    past-first : drop (after text 0) text ≡ blockText zoneLineOf 0 (t .nets) ++ (blockText borderLineOf 0 (t .borders) ++ blockText rowLineOf 0 lines)
+    past-first : drop (after text 0) text ≡ blockText zoneText 0 (t .nets) ++ (blockText borderText 0 (t .borders) ++ blockText rowLineOf 0 lines)
     past-first =
         ap (λ (k : ℕ). drop k text) (zero-add (length (lineAt text 0)) ∙ ap length first-line)
         ∙ ap (drop (length (headerText (t .header)))) whole
@@ -147,12 +147,12 @@ module _ (t : Table) (g : Good t) (s : Shaped t) where
         cond (ltb e (length text)) (refused (wrongForm (pastLineNo h))) (passed (record { header = h; nets = t .nets; borders = t .borders; rows = valuesOf rows; factors = factorsOf rows })) in
         let first : headerLine (lineAt text 0) ≡ holds h = ap headerLine first-line ∙ header-written h (g .exact .header) in
         rw first
-        (lines-goes zoneLine zoneLineNo zoneLineOf ZoneFits (λ i net f. zone-written i net (f .0) (f .1)) zone-one
-        _ (passed t) (t .nets) (h .zones) text (after text 0) (blockText borderLineOf 0 (t .borders) ++ blockText rowLineOf 0 lines) (g .exact .nets-long) past-first zones-fit (λ p h1.
-        lines-goes (borderLine (h .zones)) (borderLineNo h) borderLineOf (BorderFits (h .zones))
+        (lines-goes zoneLine zoneLineNo zoneText ZoneFits (λ i net f. zone-written i net (f .0) (f .1)) zone-one
+        _ (passed t) (t .nets) (h .zones) text (after text 0) (blockText borderText 0 (t .borders) ++ blockText rowLineOf 0 lines) (g .exact .nets-long) past-first zones-fit (λ p h1.
+        lines-goes (borderLine (h .zones)) (borderLineNo h) borderText (BorderFits (h .zones))
         (λ i raw f. border-written (h .zones) i raw (f .0) (header-in h (g .exact .header) .zones-most) (f .1)) (λ i raw r. border-one (h .zones) i raw r)
         _ (passed t) (t .borders) (h .borders) text p (blockText rowLineOf 0 lines) (g .exact .borders-long) h1 borders-fit (λ q h2.
-        lines-goes (rowLine (h .zones)) (rowLineNo h) rowLineOf (RowFits (h .zones)) (λ i c f. row-written i (f .0) (h .zones) c some-zones (f .1)) row-one
+        lines-goes (rowLine (h .zones)) (rowLineNo h) rowLineOf (RowFits (h .zones)) (λ i c f. row-written (h .zones) c (f .1) i (f .0)) row-one
         done (passed t) lines (h .rows) text q [] lines-long (h2 ∙ sym (append-nil _)) rows-fit (λ e h3.
         rw (le-ltb e (length text) (omega (arith, length-drop e text, ap length h3)))
         (ap passed (table-is h (t .nets) (t .borders) _ _ _ _ values-are factors-are))))))

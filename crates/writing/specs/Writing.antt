@@ -6,19 +6,19 @@ use lib.IntN.{ℤ}
 use lib.ListN.{length, getD}
 use Rattle.numbers.specs.Below.{over}
 use Rattle.kinds.specs.declared.Written.{Written}
-use Rattle.kinds.specs.Ranges.{atℤ, borderOf, rowOf}
+use Rattle.kinds.specs.Ranges.{atℤ}
 use Rattle.kinds.specs.Refusals.{Judged, passed, refused, then, either, need}
 use Rattle.kinds.specs.Answers.{saidWritten}
 use Rattle.text.specs.Written.{linesText}
-use Rattle.table.specs.Table.{Table, borderAt, rowAt, factorsAt, stretch, judgeLent}
+use Rattle.table.specs.Table.{Table, factorsAt, stretch, judgeLent}
 use Rattle.layout.specs.Layout.{headerText, zoneText, borderText, rowText}
 
 unfoldable pub tableText : Table → List ℕ
 tableText t =
     headerText (t .header)
     ++ linesText (t .header .zones) 0 (λ i. zoneText i (atℤ (t .nets) i))
-    ++ linesText (t .header .borders) 0 (λ i. borderText i (borderAt t i))
-    ++ linesText (t .header .rows) 0 (λ i. rowText i (rowAt t i) (factorsAt t i))
+    ++ linesText (t .header .borders) 0 (λ i. borderText i (getD (t .borders) i []))
+    ++ linesText (t .header .rows) 0 (λ i. rowText i (getD (t .rows) i []) (factorsAt t i))
 
 -- what a call that writes text leaves: its answer, and the lent bytes
 pub record TextLeft : Type 0 where
@@ -45,10 +45,10 @@ abbrev pub zoneTextAt : (nets : List ℤ) → (i : ℕ) → List ℕ
 zoneTextAt nets i = zoneText i (atℤ nets i)
 
 abbrev pub borderTextAt : (borders : List (List ℤ)) → (i : ℕ) → List ℕ
-borderTextAt borders i = borderText i (borderOf (getD borders i []))
+borderTextAt borders i = borderText i (getD borders i [])
 
 abbrev pub rowTextAt : (zones : ℕ) → (rows : List (List ℤ)) → (factors : List ℤ) → (i : ℕ) → List ℕ
-rowTextAt zones rows factors i = rowText i (rowOf (getD rows i [])) (stretch zones factors i)
+rowTextAt zones rows factors i = rowText i (getD rows i []) (stretch zones factors i)
 
 -- .. and all of them
 abbrev pub zonesText : List ℤ → List ℕ

@@ -1,8 +1,8 @@
 // How many bytes the text of a table has, before one is written.
 ghost use mathlib.Core.Path.{_≡_};
-ghost use Prim.Native.Nat.{_*_, _≤_};
+ghost use Prim.Native.Nat.{_*_, _<_, _≤_};
 ghost use lib.ListN.{length};
-ghost use Rattle.kinds.specs.Limits.{bytesMost};
+ghost use Rattle.kinds.specs.Limits.{zonesMost, bytesMost};
 ghost use Rattle.table.specs.Table.{lent};
 ghost use Rattle.table.specs.Good.{Good};
 ghost use Rattle.writing.specs.Writing.{tableText, zonesText, bordersText, rowsText};
@@ -33,7 +33,7 @@ fn borders_length(b: &[BorderRecord]) -> usize
 }
 
 fn rows_length(zones: usize, c: &[RowRecord], f: &[i64]) -> usize
-    requires { ⌜ (length (now f) ≡ length (now c) * zones) × (length (rowsText zones (now c) (now f)) ≤ bytesMost) ⌝ }
+    requires { ⌜ (length (now f) ≡ length (now c) * zones) × (0 < zones) × (zones ≤ zonesMost) × (length (rowsText zones (now c) (now f)) ≤ bytesMost) ⌝ }
     ensures { λ r. ⌜ r ≡ length (rowsText zones (now (c .entry)) (now (f .entry))) ⌝ }
 {
     let mut sum: usize = 0;

@@ -1,7 +1,8 @@
 // Writes the lines of a table into lent bytes, each kind at a place, and then all kinds from the start.
 ghost use mathlib.Core.Path.{_≡_};
-ghost use Prim.Native.Nat.{_+_, _*_, _≤_};
+ghost use Prim.Native.Nat.{_+_, _*_, _<_, _≤_};
 ghost use lib.ListN.{length};
+ghost use Rattle.kinds.specs.Limits.{zonesMost};
 ghost use Rattle.text.specs.Put.{Put};
 ghost use Rattle.table.specs.Table.{lent};
 ghost use Rattle.table.specs.Good.{Good};
@@ -33,7 +34,7 @@ fn borders_out(b: &[BorderRecord], out: &mut [u8], at: usize) -> usize
 }
 
 fn rows_out(zones: usize, c: &[RowRecord], f: &[i64], out: &mut [u8], at: usize) -> usize
-    requires { ⌜ (length (now f) ≡ length (now c) * zones) × (at + length (rowsText zones (now c) (now f)) ≤ length (now out)) ⌝ }
+    requires { ⌜ (length (now f) ≡ length (now c) * zones) × (0 < zones) × (zones ≤ zonesMost) × (at + length (rowsText zones (now c) (now f)) ≤ length (now out)) ⌝ }
     ensures { λ r. ⌜ Put (rowsText zones (now (c .entry)) (now (f .entry))) at (now (out .entry)) r (now (out .exit)) ⌝ }
 {
     let mut next = at;

@@ -1,44 +1,59 @@
--- `layout::length::header_length` meets its contract: the fields, and the bytes around them (`line-long`).
+-- `layout::length::header_length` meets its contract.
 -- Assumes nothing.
-use mathlib.Core.Path.{_≡_}
+use mathlib.Core.Path.{_≡_, refl}
 use mathlib.Core.List.{[], _∷_}
 use Prim.Native.Char.{code}
-use Prim.Native.Nat.{_+_}
 use native.Mathlib.Omega.{arith}
+use lib.IntN.{pos}
+use Rattle.kinds.proofs.KindLaws.{header-in}
+use Rattle.text.proofs.FieldLaws.{fits-pos}
+use Rattle.kinds.specs.LineColumns.{headerColumns}
+use Rattle.text.specs.Fields.{tab}
+use Rattle.columns.specs.ColumnText.{fieldsLength}
+use Rattle.columns.proofs.ColumnPut.{plain-long}
+use Rattle.layout.proofs.LayoutLaws.{header-raw}
 use borrow.Author.Needs.{needs}
-use lib.ListN.{length}
-use Rattle.text.specs.Written.{decimal}
-use Rattle.text.proofs.WrittenLaws.{line-long}
-use Rattle.layout.specs.Layout.{headerText}
 use Rattle.layout.proofs.length.header_length.Statement.{statement}
 use Rattle.layout.proofs.length.header_length.Tie as tie
 
--- the letter, a tab before each field, the LF; and the fields
-total : (c : tie.After-digit-count3) → length (headerText (c .before .before .before .args .h)) ≡ 5 + c .before .before .digit-count .result + c .before .digit-count2 .result + c .digit-count3 .result
-total c =
-    let h = c .before .before .before .args .h in
-    omega (arith, line-long (code "H") (decimal (h .zones) ∷ decimal (h .borders) ∷ decimal (h .rows) ∷ []), c .before .before .digit-count .ensures, c .before .digit-count2 .ensures, c .digit-count3 .ensures)
+counted : (c : tie.After-fields-length) → let h = c .before .before .before .before .before .before .args .h in c .fields-length .result ≡ fieldsLength headerColumns (pos (h .zones) ∷ pos (h .borders) ∷ pos (h .rows) ∷ [])
+counted c = rw (header-raw (c .before .before .before .before .before .before .args .h) (c .before .before .before .before .before .before .pre .0)) at (c .fields-length .ensures)
 
-digit-count-requires : tie.Need-digit-count-requires
-digit-count-requires c κs = search needs
+cast-t4 : tie.Need-cast-t4
+cast-t4 c = fits-pos _ (omega (arith, header-in (c .before .args .h) (c .before .pre .0) .zones-most))
 
-digit-count-requires-2 : tie.Need-digit-count-requires-2
-digit-count-requires-2 c κs = search needs
+cast-t5 : tie.Need-cast-t5
+cast-t5 c = fits-pos _ (omega (arith, header-in (c .before .before .args .h) (c .before .before .pre .0) .borders-most))
 
-digit-count-requires-3 : tie.Need-digit-count-requires-3
-digit-count-requires-3 c κs = search needs
+cast-t6 : tie.Need-cast-t6
+cast-t6 c = fits-pos _ (omega (arith, header-in (c .before .before .before .args .h) (c .before .before .before .pre .0) .rows-most))
+
+slice-aggregate-fields-length : tie.Need-slice-aggregate-fields-length
+slice-aggregate-fields-length c = search needs
+
+slice-aggregate-fields-length-2 : tie.Need-slice-aggregate-fields-length-2
+slice-aggregate-fields-length-2 c = search needs
+
+fields-length-requires : tie.Need-fields-length-requires
+fields-length-requires c κs =
+    let h = c .before .before .before .before .before .args .h in
+    (refl, rw (header-raw h (c .before .before .before .before .before .pre .0)) (omega (arith, plain-long tab (code "H") headerColumns (pos (h .zones) ∷ pos (h .borders) ∷ pos (h .rows) ∷ []), c .before .before .before .before .before .pre .1)))
 
 add-result : tie.Need-add-result
-add-result c = omega (arith, total c, c .before .before .before .pre)
-
-add-result-2 : tie.Need-add-result-2
-add-result-2 c = omega (arith, total c, c .before .before .before .pre)
-
-add-result-3 : tie.Need-add-result-3
-add-result-3 c = omega (arith, total c, c .before .before .before .pre)
+add-result c = omega (arith, counted c, plain-long tab (code "H") headerColumns (pos (c .before .before .before .before .before .before .args .h .zones) ∷ pos (c .before .before .before .before .before .before .args .h .borders) ∷ pos (c .before .before .before .before .before .before .args .h .rows) ∷ []), c .before .before .before .before .before .before .pre .1)
 
 returns : tie.Need-returns
-returns c = omega (arith, total c)
+returns c = omega (arith, counted c, plain-long tab (code "H") headerColumns (pos (c .before .before .before .before .before .before .args .h .zones) ∷ pos (c .before .before .before .before .before .before .args .h .borders) ∷ pos (c .before .before .before .before .before .before .args .h .rows) ∷ []))
 
 pub header-length-spec : {M : Type 1} → statement M
-header-length-spec = tie.close (tie.spec digit-count-requires digit-count-requires-2 digit-count-requires-3 add-result add-result-2 add-result-3 returns)
+header-length-spec =
+    tie.close
+    (tie.spec
+    cast-t4
+    cast-t5
+    cast-t6
+    slice-aggregate-fields-length
+    slice-aggregate-fields-length-2
+    fields-length-requires
+    add-result
+    returns)

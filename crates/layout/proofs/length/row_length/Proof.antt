@@ -1,47 +1,67 @@
--- `layout::length::row_length` meets its contract: index, values and factors, and the bytes around them (`row-length`).
+-- `layout::length::row_length` meets its contract: index and values, and the factors (`row-total`).
 -- Assumes nothing.
-use mathlib.Core.Path.{_≡_}
-use Prim.Native.Nat.{_+_}
+use mathlib.Core.Path.{_≡_, sym, ap, subst, _∙_}
+use mathlib.Core.List.{List}
+use Prim.Native.Nat.{_+_, _≤_}
 use native.Mathlib.Omega.{arith}
-use borrow.Author.Needs.{needs}
+use lib.IntN.{ℤ}
 use lib.ListN.{length}
-use Rattle.kinds.specs.Ranges.{rowOf}
-use Rattle.text.specs.Written.{decimal}
-use Rattle.text.specs.Put.{tabbed}
-use Rattle.layout.specs.Layout.{eachText, valuesText, rowText}
-use Rattle.layout.proofs.LayoutLaws.{row-length}
+use Rattle.kinds.specs.LineColumns.{Column, rowColumns, factorColumns}
+use Rattle.columns.proofs.ColumnPut.{numbers-are}
+use lib.Seq.{length-take-le}
+use Rattle.kinds.specs.Limits.{bytesMost}
+use Rattle.columns.specs.ColumnText.{fieldsLength, lineLength}
+use Rattle.columns.proofs.ColumnLaws.{factors-front}
+use Rattle.layout.specs.Layout.{rowText}
+use Rattle.layout.proofs.LayoutLaws.{row-total}
+use borrow.Author.Needs.{needs}
 use Rattle.layout.proofs.length.row_length.Statement.{statement}
 use Rattle.layout.proofs.length.row_length.Tie as tie
 
--- the letter, the index with its tab, the LF; and the other fields with theirs
-total : (s : tie.Start)
-    → length (rowText (s .args .i) (rowOf (s .args .raw)) (s .args .f .now)) ≡ 3 + length (decimal (s .args .i)) + length (tabbed (valuesText (rowOf (s .args .raw)))) + length (tabbed (eachText (s .args .f .now)))
-total s = row-length (s .args .i) (rowOf (s .args .raw)) (s .args .f .now)
+total : (s : tie.Start) → length (rowText (s .args .i) (s .args .t2) (s .args .f .now)) ≡ lineLength rowColumns (s .args .i) (s .args .t2) + fieldsLength (factorColumns (length (s .args .f .now))) (s .args .f .now)
+total s =
+    let wide : 7 ≡ length (s .args .t2) = search needs in
+    row-total (s .args .i) (s .args .t2) (s .args .f .now) ∙ ap (λ (v : List ℤ). lineLength rowColumns (s .args .i) v + fieldsLength (factorColumns (length (s .args .f .now))) (s .args .f .now)) (numbers-are rowColumns (s .args .t2) (sym wide))
 
-counted : (c : tie.After-factors-length)
-    → let s = c .before .before .before in length (rowText (s .args .i) (rowOf (s .args .raw)) (s .args .f .now)) ≡ 3 + c .before .before .digit-count .result + c .before .values-length .result + c .factors-length .result
-counted c = omega (arith, total (c .before .before .before), c .before .before .digit-count .ensures, c .before .values-length .ensures, c .factors-length .ensures)
+counted : (c : tie.After-fields-length) → let s = c .before .before .before .before .before in length (rowText (s .args .i) (s .args .t2) (s .args .f .now)) ≡ c .before .before .line-length .result + c .fields-length .result
+counted c =
+    let s = c .before .before .before .before .before in
+    let f : c .fields-length .result ≡ fieldsLength (factorColumns (length (s .args .f .now))) (s .args .f .now) = c .fields-length .ensures ∙ ap (λ (l : List Column). fieldsLength l (s .args .f .now)) (factors-front _ 16 (s .pre .1)) in
+    omega (arith, total s, c .before .before .line-length .ensures, f)
 
-digit-count-requires : tie.Need-digit-count-requires
-digit-count-requires c κs = search needs
+slice-aggregate-line-length : tie.Need-slice-aggregate-line-length
+slice-aggregate-line-length c = search needs
 
-values-length-requires : tie.Need-values-length-requires
-values-length-requires c κs = omega (arith, total (c .before), c .before .pre)
+slice-aggregate-line-length-2 : tie.Need-slice-aggregate-line-length-2
+slice-aggregate-line-length-2 c = search needs
 
-factors-length-requires : tie.Need-factors-length-requires
-factors-length-requires c κs = omega (arith, total (c .before .before), c .before .before .pre)
+line-length-requires : tie.Need-line-length-requires
+line-length-requires c κs = (search needs, omega (arith, total (c .before .before), c .before .before .pre .2))
+
+array-share-prefix-fields-length : tie.Need-array-share-prefix-fields-length
+array-share-prefix-fields-length c = search needs
+
+slice-aggregate-fields-length : tie.Need-slice-aggregate-fields-length
+slice-aggregate-fields-length c = sym (length-take-le _ _ (c .before .before .before .before .pre .1))
+
+fields-length-requires : tie.Need-fields-length-requires
+fields-length-requires c κs = (length-take-le _ _ (c .before .before .before .before .pre .1), subst (λ (l : List Column). fieldsLength l (c .before .before .before .before .args .f .now) ≤ bytesMost) (sym (factors-front _ 16 (c .before .before .before .before .pre .1))) (omega (arith, total (c .before .before .before .before), c .before .before .before .before .pre .2)))
 
 add-result : tie.Need-add-result
-add-result c = omega (arith, counted c, c .before .before .before .pre)
-
-add-result-2 : tie.Need-add-result-2
-add-result-2 c = omega (arith, counted c, c .before .before .before .pre)
-
-add-result-3 : tie.Need-add-result-3
-add-result-3 c = omega (arith, counted c, c .before .before .before .pre)
+add-result c = omega (arith, counted c, c .before .before .before .before .before .pre .2)
 
 returns : tie.Need-returns
 returns c = omega (arith, counted c)
 
 pub row-length-spec : {M : Type 1} → statement M
-row-length-spec = tie.close (tie.spec digit-count-requires values-length-requires factors-length-requires add-result add-result-2 add-result-3 returns)
+row-length-spec =
+    tie.close
+    (tie.spec
+    slice-aggregate-line-length
+    slice-aggregate-line-length-2
+    line-length-requires
+    array-share-prefix-fields-length
+    slice-aggregate-fields-length
+    fields-length-requires
+    add-result
+    returns)

@@ -1,42 +1,38 @@
--- `layout::length::zone_length` meets its contract: the fields, and the bytes around them (`line-long`).
+-- `layout::length::zone_length` meets its contract.
 -- Assumes nothing.
-use mathlib.Core.Path.{_≡_}
+use mathlib.Core.Path.{refl, sym, _∙_}
 use mathlib.Core.List.{[], _∷_}
 use Prim.Native.Char.{code}
-use Prim.Native.Nat.{_+_}
 use native.Mathlib.Omega.{arith}
-use borrow.Author.Needs.{needs}
-use lib.ListN.{length}
 use mir.Facts.{toZ-ofZ}
-use Rattle.text.specs.Written.{decimal, decimalℤ}
-use Rattle.text.proofs.WrittenLaws.{line-long}
-use Rattle.layout.specs.Layout.{zoneText}
+use Rattle.kinds.specs.LineColumns.{zoneColumns}
+use Rattle.text.specs.Fields.{tab}
+use Rattle.columns.proofs.ColumnPut.{line-long}
+use borrow.Author.Needs.{needs}
 use Rattle.layout.proofs.length.zone_length.Statement.{statement}
 use Rattle.layout.proofs.length.zone_length.Tie as tie
 
-total : (s : tie.Start) → length (zoneText (s .args .i) (s .args .net)) ≡ 4 + length (decimal (s .args .i)) + length (decimalℤ (s .args .net))
-total s = omega (arith, line-long (code "Z") (decimal (s .args .i) ∷ decimalℤ (s .args .net) ∷ []))
+slice-aggregate-line-length : tie.Need-slice-aggregate-line-length
+slice-aggregate-line-length c = search needs
 
--- .. by what was counted
-counted : (c : tie.After-signed-length) → let s = c .before .before in length (zoneText (s .args .i) (s .args .net)) ≡ 4 + c .before .digit-count .result + c .signed-length .result
-counted c =
+slice-aggregate-line-length-2 : tie.Need-slice-aggregate-line-length-2
+slice-aggregate-line-length-2 c = search needs
+
+line-length-requires : tie.Need-line-length-requires
+line-length-requires c κs =
     let s = c .before .before in
-    omega (arith, total s, c .before .digit-count .ensures, simp (toZ-ofZ, s .fits .net) at (c .signed-length .ensures))
-
-digit-count-requires : tie.Need-digit-count-requires
-digit-count-requires c κs = search needs
-
-add-result : tie.Need-add-result
-add-result c = omega (arith, total (c .before), c .before .pre, c .digit-count .ensures)
-
-signed-length-requires : tie.Need-signed-length-requires
-signed-length-requires c κs = search needs
-
-add-result-2 : tie.Need-add-result-2
-add-result-2 c = omega (arith, counted c, c .before .before .pre)
+    simp (toZ-ofZ, s .fits .net) (refl, omega (arith, line-long tab (code "Z") zoneColumns (s .args .i) (s .args .net ∷ []), s .pre))
 
 returns : tie.Need-returns
-returns c = omega (arith, counted c)
+returns c =
+    let s = c .before .before .before in
+    simp (toZ-ofZ, s .fits .net) at (c .line-length .ensures) ∙ sym (line-long tab (code "Z") zoneColumns (s .args .i) (s .args .net ∷ []))
 
 pub zone-length-spec : {M : Type 1} → statement M
-zone-length-spec = tie.close (tie.spec digit-count-requires add-result signed-length-requires add-result-2 returns)
+zone-length-spec =
+    tie.close
+    (tie.spec
+    slice-aggregate-line-length
+    slice-aggregate-line-length-2
+    line-length-requires
+    returns)

@@ -1,5 +1,7 @@
 -- `reading::filled::fill` meets its contract: each table holds what its lines hold, as the runs were judged good (`filled`). Assumes nothing.
 use Rattle.reading.proofs.FilledLaws.{nets-again, rows-again, factors-asked, filled}
+use native.Mathlib.Omega.{arith}
+use Rattle.kinds.proofs.KindLaws.{header-in}
 use borrow.Author.Needs.{needs}
 use Rattle.reading.proofs.filled.fill.Statement.{statement}
 use Rattle.reading.proofs.filled.fill.Tie as tie
@@ -15,7 +17,7 @@ copy-requires c κs = search needs
 rows-filled-requires : tie.Need-rows-filled-requires
 rows-filled-requires c κs =
     let start = c .before .before .before .before .before .before .before .before .before .before in
-    (start .pre .0 .rows-within, factors-asked _ _ _ _ _ _ (start .pre .0) (start .pre .1 .1), rows-again _ _ _ _ _ _ (start .pre .0) (start .pre .1 .1))
+    (start .pre .0 .rows-within, factors-asked _ _ _ _ _ _ (start .pre .0) (start .pre .1 .1), rows-again _ _ _ _ _ _ (start .pre .0) (start .pre .1 .1), omega (arith, header-in _ (start .pre .0 .header-fits) .zones-least), header-in _ (start .pre .0 .header-fits) .zones-most)
 
 same-length : tie.Need-same-length
 same-length c = search needs

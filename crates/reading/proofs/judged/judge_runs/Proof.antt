@@ -82,7 +82,7 @@ returns-2 c = (borders-refused (c .before .before .before .before .before .befor
 rows-judged-requires : tie.Need-rows-judged-requires
 rows-judged-requires c κs =
     let start = c .before .before .before .before .before .before .before .before .before .before .before in
-    (q-within (start .pre .0) (nets-end (c .before .before .before .before .before .before)) (borders-are c), omega (arith, bounds (start .pre .0)))
+    (q-within (start .pre .0) (nets-end (c .before .before .before .before .before .before)) (borders-are c), omega (arith, bounds (start .pre .0)), omega (arith, bounds (start .pre .0)), omega (arith, bounds (start .pre .0)))
 
 enum-known-p-3 : tie.Need-enum-known-p-3
 enum-known-p-3 c = search needs

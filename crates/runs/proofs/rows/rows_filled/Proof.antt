@@ -61,8 +61,10 @@ part-row-filled-end c = omega (arith, room (c .before))
 row-filled-requires : tie.Need-row-filled-requires Inv-loop μ-loop
 row-filled-requires c κs =
     let l = c .before .before .before .loop in
-    let a = c .before .before .before .before .before .args in
-    filled-good (a .zones) (a .text .now) (a .at) (length (a .c .now)) (l .c) (l .f) (l .p) (l .i) (l .inv) (c .before .before .loop-test .taken) _ (c .before .line-at .ensures) _ (lent (c .before .before))
+    let start = c .before .before .before .before .before in
+    let a = start .args in
+    let n = lent (c .before .before) in
+    (omega (arith, n, start .pre .3), omega (arith, n, start .pre .4), filled-good (a .zones) (a .text .now) (a .at) (length (a .c .now)) (l .c) (l .f) (l .p) (l .i) (l .inv) (c .before .before .loop-test .taken) _ (c .before .line-at .ensures) _ n)
 
 mul-t19 : tie.Need-mul-t19 Inv-loop μ-loop
 mul-t19 c = search needs
@@ -84,7 +86,7 @@ loop-again c =
     let l = c .before .before .before .before .before .loop in
     let a = c .before .before .before .before .before .before .before .args in
     filled-more (a .zones) (a .text .now) (a .at) (length (a .c .now)) (l .c) (l .f) (l .p) (l .i) (l .inv) (c .before .before .before .before .loop-test .taken) _ (c .before .before .before .line-at .ensures) _ (lent (c .before .before .before .before))
-    (c .before .row-filled .result) (c .before .row-filled .last .1 .0) (c .before .row-filled .kept .1 .0) (c .before .row-filled .ensures)
+    (c .before .row-filled .result) (c .before .row-filled .last .1 .1 .0) (c .before .row-filled .kept .1 .1 .0) (c .before .row-filled .ensures)
 
 same-length : tie.Need-same-length Inv-loop μ-loop
 same-length c = c .before .loop .inv .rows-long

@@ -1,13 +1,14 @@
 -- `writing::length::rows_length` meets its contract: the sum over the lines (`Summed`), within that of all.
 -- Assumes nothing.
 use mathlib.Core.Path.{_≡_}
-use Prim.Native.Nat.{_≤_, _+_, _-_}
+use Prim.Native.Nat.{_*_, _≤_, _+_, _-_}
 use native.Mathlib.Omega.{arith}
 use lib.ListN.{length}
 use Rattle.numbers.proofs.BelowLaws.{Summed, summed-none, summed-more}
 use Rattle.table.specs.Table.{stretch}
 use Rattle.table.proofs.StretchLaws.{stretch-end}
 use Rattle.writing.specs.Writing.{rowTextAt}
+use Rattle.runs.proofs.RowPasses.{lent-long}
 use Rattle.writing.proofs.TextLaws.{part-long, sum-within, sum-lines}
 use Rattle.kinds.specs.Limits.{bytesMost}
 use Rattle.writing.proofs.length.rows_length.Statement.{statement}
@@ -21,7 +22,7 @@ abbrev μ-loop : tie.MeasureT-loop
 
 -- line i is counted without a carry
 within : (c : tie.In-loop Inv-loop μ-loop) → let s = c .before .before in c .before .loop .sum + length (rowTextAt (s .args .zones) (s .args .c .now) (s .args .f .now) (c .before .loop .i)) ≤ bytesMost
-within c = let s = c .before .before in sum-within (rowTextAt (s .args .zones) (s .args .c .now) (s .args .f .now)) (length (s .args .c .now)) (s .pre .1) (c .before .loop .inv) (omega arith)
+within c = let s = c .before .before in sum-within (rowTextAt (s .args .zones) (s .args .c .now) (s .args .f .now)) (length (s .args .c .now)) (s .pre .3) (c .before .loop .inv) (omega arith)
 
 counted : (c : tie.After-row-length Inv-loop μ-loop) → let s = c .before .before .before .before .before in c .row-length .result ≡ length (rowTextAt (s .args .zones) (s .args .c .now) (s .args .f .now) (c .before .before .before .before .loop .i))
 unfolding stretch
@@ -56,7 +57,11 @@ part-row-length-end c = omega (arith, stretch-end (c .before .before .before .ar
 
 row-length-requires : tie.Need-row-length-requires Inv-loop μ-loop
 unfolding stretch
-row-length-requires c κs = rw (part-long (c .before .before .before .loop .i) (c .before .before .before .before .args .zones)) (omega (arith, within (c .before .before)))
+row-length-requires c κs =
+    let s = c .before .before .before .before in
+    let i = c .before .before .before .loop .i in
+    let n = lent-long (s .args .f .now) (i * s .args .zones) (s .args .zones) (omega (arith, stretch-end (s .args .zones) (length (s .args .c .now)) i (omega arith), s .pre .0)) in
+    (omega (arith, n, s .pre .1), omega (arith, n, s .pre .2), rw (part-long (c .before .before .before .loop .i) (s .args .zones)) (omega (arith, within (c .before .before))))
 
 add-sum : tie.Need-add-sum Inv-loop μ-loop
 add-sum c = omega (arith, within (c .before .before .before), counted c)
@@ -71,7 +76,7 @@ loop-again : tie.Need-loop-again Inv-loop μ-loop
 loop-again c = summed-more (c .before .before .before .before .loop .inv) _ (omega arith) (counted c)
 
 returns : tie.Need-returns Inv-loop μ-loop
-returns c = let s = c .before .before in sum-lines (rowTextAt (s .args .zones) (s .args .c .now) (s .args .f .now)) (length (s .args .c .now)) (s .pre .1) (c .before .loop .inv) (omega arith)
+returns c = let s = c .before .before in sum-lines (rowTextAt (s .args .zones) (s .args .c .now) (s .args .f .now)) (length (s .args .c .now)) (s .pre .3) (c .before .loop .inv) (omega arith)
 
 pub rows-length-spec : {M : Type 1} → statement M
 rows-length-spec = tie.close (tie.spec Inv-loop μ-loop loop-holds mul-start mul-row-length shared-slice-copy-out-row-length add-row-length mul-row-length-2 sub-row-length part-row-length-start part-row-length-end row-length-requires add-sum add-i loop-less loop-again returns)

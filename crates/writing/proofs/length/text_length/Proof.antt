@@ -4,6 +4,7 @@ use mathlib.Core.Path.{_≡_}
 use Prim.Native.Nat.{_+_}
 use native.Mathlib.Omega.{arith}
 use lib.ListN.{length}
+use Rattle.kinds.proofs.KindLaws.{header-in}
 use Rattle.table.specs.Table.{Table, lent}
 use Rattle.writing.specs.Writing.{tableText}
 use Rattle.writing.proofs.RoundTrip.{never-too-long}
@@ -21,7 +22,7 @@ counted c =
     omega (arith, text-length (table s) (s .pre), c .before .before .before .header-length .ensures, c .before .before .zones-length .ensures, c .before .borders-length .ensures, c .rows-length .ensures)
 
 header-length-requires : tie.Need-header-length-requires
-header-length-requires c κs = omega (arith, text-within (table c) (c .pre))
+header-length-requires c κs = (c .pre .exact .header, omega (arith, text-within (table c) (c .pre)))
 
 zones-length-requires : tie.Need-zones-length-requires
 zones-length-requires c κs = let s = c .before in omega (arith, text-within (table s) (s .pre))
@@ -30,7 +31,7 @@ borders-length-requires : tie.Need-borders-length-requires
 borders-length-requires c κs = let s = c .before .before in omega (arith, text-within (table s) (s .pre))
 
 rows-length-requires : tie.Need-rows-length-requires
-rows-length-requires c κs = let s = c .before .before .before in (factors-all (table s) (s .pre), omega (arith, text-within (table s) (s .pre)))
+rows-length-requires c κs = let s = c .before .before .before in (factors-all (table s) (s .pre), omega (arith, header-in (s .args .h) (s .pre .exact .header) .zones-least), header-in (s .args .h) (s .pre .exact .header) .zones-most, omega (arith, text-within (table s) (s .pre)))
 
 add-result : tie.Need-add-result
 add-result c = let s = c .before .before .before .before in omega (arith, counted c, never-too-long (table s) (s .pre))

@@ -1,11 +1,12 @@
 -- `writing::put::rows_out` meets its contract: the first i lines are written.
 -- Assumes nothing.
-use Prim.Native.Nat.{_≤_, _-_}
+use Prim.Native.Nat.{_*_, _≤_, _-_}
 use native.Mathlib.Omega.{arith}
 use lib.ListN.{length}
 use Rattle.table.specs.Table.{stretch}
 use Rattle.table.proofs.StretchLaws.{stretch-end}
 use Rattle.writing.specs.Writing.{rowTextAt, rowsText}
+use Rattle.runs.proofs.RowPasses.{lent-long}
 use Rattle.writing.proofs.TextLaws.{part-long}
 use Rattle.text.specs.Written.{linesText}
 use Rattle.text.specs.Put.{Put}
@@ -51,7 +52,8 @@ unfolding stretch
 row-out-requires c κs =
     let s = c .before .before .before .before .before .before in
     let head = c .before .before .before .before .loop in
-    rw (part-long (head .i) (s .args .zones)) (lines-room (rowTextAt (s .args .zones) (s .args .c .now) (s .args .f .now)) (head .i) (length (s .args .c .now)) (omega arith) (s .pre .1) (head .inv .1))
+    let n = lent-long (s .args .f .now) (head .i * s .args .zones) (s .args .zones) (omega (arith, stretch-end (s .args .zones) (length (s .args .c .now)) (head .i) (omega arith), s .pre .0)) in
+    (omega (arith, n, s .pre .1), omega (arith, n, s .pre .2), rw (part-long (head .i) (s .args .zones)) (lines-room (rowTextAt (s .args .zones) (s .args .c .now) (s .args .f .now)) (head .i) (length (s .args .c .now)) (omega arith) (s .pre .3) (head .inv .1)))
 
 add-i : tie.Need-add-i Inv-loop μ-loop
 add-i c = omega arith
@@ -64,14 +66,14 @@ unfolding stretch
 loop-again c =
     let s = c .before .before .before .before .before .before .before .before .before in
     let head = c .before .before .before .before .before .before .before .loop in
-    (omega arith, lines-more (rowTextAt (s .args .zones) (s .args .c .now) (s .args .f .now)) (omega (arith, s .pre .1)) (head .inv .1) (rw (part-long (head .i) (s .args .zones)) at (c .before .before .row-out .ensures)))
+    (omega arith, lines-more (rowTextAt (s .args .zones) (s .args .c .now) (s .args .f .now)) (omega (arith, s .pre .3)) (head .inv .1) (rw (part-long (head .i) (s .args .zones)) at (c .before .before .row-out .ensures)))
 
 -- all lines are written
 all : (c : tie.After-loop Inv-loop μ-loop) → let s = c .before .before .before in Put (rowsText (s .args .zones) (s .args .c .now) (s .args .f .now)) (s .args .at) (s .args .out .now) (c .before .loop .next) (c .before .loop .out)
 all c = lines-all (rowTextAt (c .before .before .before .args .zones) (c .before .before .before .args .c .now) (c .before .before .before .args .f .now)) (c .before .loop .inv .0) (omega arith) (c .before .loop .inv .1)
 
 same-length : tie.Need-same-length Inv-loop μ-loop
-same-length c = put-kept (all c) (c .before .before .before .pre .1)
+same-length c = put-kept (all c) (c .before .before .before .pre .3)
 
 returns : tie.Need-returns Inv-loop μ-loop
 returns c = all c

@@ -2,6 +2,7 @@
 -- Assumes nothing.
 use native.Mathlib.Omega.{arith}
 use borrow.Author.Needs.{needs}
+use Rattle.kinds.proofs.KindLaws.{header-in}
 use Rattle.table.specs.Table.{Table, lent}
 use Rattle.writing.proofs.TextLaws.{text-length, zones-room, borders-room, rows-room, text-put, factors-all}
 use Rattle.writing.proofs.put.table_out.Statement.{statement}
@@ -11,7 +12,7 @@ abbrev table : tie.Start → Table
 table s = lent (s .args .h) (s .args .z .now) (s .args .b .now) (s .args .c .now) (s .args .f .now)
 
 header-out-requires : tie.Need-header-out-requires
-header-out-requires c κs = let s = c .before .before in omega (arith, s .pre .1, text-length (table s) (s .pre .0))
+header-out-requires c κs = let s = c .before .before in (s .pre .0 .exact .header, omega (arith, s .pre .1, text-length (table s) (s .pre .0)))
 
 zones-out-requires : tie.Need-zones-out-requires
 zones-out-requires c κs = let s = c .before .before .before .before .before .before in zones-room (table s) (s .pre .0) (c .before .before .before .header-out .ensures) (s .pre .1)
@@ -22,7 +23,7 @@ borders-out-requires c κs = let s = c .before .before .before .before .before .
 rows-out-requires : tie.Need-rows-out-requires
 rows-out-requires c κs =
     let s = c .before .before .before .before .before .before .before .before .before .before .before .before .before .before in
-    (factors-all (table s) (s .pre .0), rows-room (table s) (s .pre .0) (c .before .before .before .before .before .before .before .before .before .before .before .header-out .ensures) (c .before .before .before .before .before .before .before .zones-out .ensures) (c .before .before .before .borders-out .ensures) (s .pre .1))
+    (factors-all (table s) (s .pre .0), omega (arith, header-in (s .args .h) (s .pre .0 .exact .header) .zones-least), header-in (s .args .h) (s .pre .0 .exact .header) .zones-most, rows-room (table s) (s .pre .0) (c .before .before .before .before .before .before .before .before .before .before .before .header-out .ensures) (c .before .before .before .before .before .before .before .zones-out .ensures) (c .before .before .before .borders-out .ensures) (s .pre .1))
 
 same-length : tie.Need-same-length
 same-length c = search needs

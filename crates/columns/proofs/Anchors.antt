@@ -1,0 +1,20 @@
+-- A line of each kind of column, written. Nobody cites it: it refuses a definition that slipped.
+-- Assumes nothing.
+use mathlib.Core.Path.{_≡_, refl}
+use mathlib.Core.List.{[], _∷_}
+use Prim.Native.Char.{code}
+use lib.IntN.{pos}
+use Rattle.numbers.specs.Ints.{minus}
+use Rattle.kinds.specs.LineColumns.{number, signed, share}
+use Rattle.text.specs.Fields.{tab, feed, dash}
+use Rattle.text.specs.Written.{textOf, decimal, decimalℤ}
+use Rattle.columns.specs.ColumnText.{fieldText, fieldsEnded, indexText, columnsText}
+
+-- index 0, the number 7, -5 and an R of "-", which a record keeps as -1: parted by tabs, and by semicolons
+pub dash-again : columnsText tab (code "C") (number ∷ signed ∷ share ∷ []) 0 (pos 7 ∷ minus 5 ∷ minus 1 ∷ []) ≡ code "C" ∷ tab ∷ 48 ∷ tab ∷ 55 ∷ tab ∷ dash ∷ 53 ∷ tab ∷ dash ∷ feed ∷ []
+unfolding columnsText indexText fieldsEnded fieldText decimal decimalℤ textOf
+dash-again = refl
+
+pub other-separator : columnsText (code ";") (code "C") (number ∷ signed ∷ []) 0 (pos 7 ∷ minus 5 ∷ []) ≡ code "C" ∷ code ";" ∷ 48 ∷ code ";" ∷ 55 ∷ code ";" ∷ dash ∷ 53 ∷ feed ∷ []
+unfolding columnsText indexText fieldsEnded fieldText decimal decimalℤ textOf
+other-separator = refl

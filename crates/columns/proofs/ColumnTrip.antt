@@ -1,0 +1,411 @@
+-- The round trip of columns, both ways and over any list of them: what was read is what stands there, and what is written reads as itself. No contract cites this file.
+-- `Ends` is all that is asked of the byte that parts the fields: it is not 0, and no digit. For a line to be one line it is no LF either.
+-- In order: what is kept of a column; one field; fields; letter and index; a whole line, and one that is judged; a line that has no index; two parts.
+-- Assumes nothing.
+use mathlib.Core.Path.{_≡_, refl, sym, ap, ap₂, subst, _∙_}
+use mathlib.Core.Bool.{Bool, true, false, cond}
+use mathlib.Core.List.{List, [], _∷_, _++_, append-assoc, append-nil}
+use Prim.Native.Nat.{ℕ, suc, _+_, _^_, _<_}
+use native.Mathlib.Nat.{not-suc-le-zero}
+use native.Mathlib.Omega.{arith}
+use lib.Dec.{eqb}
+use lib.IntN.{ℤ, pos, natAbs}
+use lib.ListN.{length, getD, drop, drop-of-length-le}
+use borrow.Author.Tests.{le-leb, leb-true, eqb-true, eq-eqb}
+use Rattle.numbers.specs.Ints.{minus}
+use Rattle.kinds.specs.LineColumns.{Column, number, signed, share}
+use Rattle.text.specs.declared.Number.{Number}
+use Rattle.text.specs.declared.Number.the-variants.{Value, Bad}
+use Rattle.text.specs.declared.Signed.{Signed}
+use Rattle.text.specs.declared.Signed.the-variants.{Whole, Wrong}
+use Rattle.text.specs.Fields.{tab, feed, isDigit, numberAt, positive, shareAt}
+use Rattle.text.specs.Line.{lineOf, holds, range, headed, ended}
+use Rattle.text.specs.Written.{decimal, decimalℤ}
+use Rattle.text.proofs.NumberTrip.{zero-one, whole-is, no-whole, number-read, number-written, number-rest, signed-read, signed-written, signed-rest}
+use Rattle.text.proofs.FieldTrip.{ShareKept, share-read, share-written}
+use Rattle.text.proofs.ChainLaws.{holds-is, no-form, no-range, headed-line}
+use Rattle.text.proofs.LineLaws.{noFeed, line-past}
+use Rattle.text.proofs.WrittenLaws.{ended-text, decimal-no-feed, decimalℤ-no-feed, share-no-feed}
+use Rattle.columns.specs.Columns.{fieldAt, Values, values, wrong, push, onward, stopOf, fieldsAt}
+use Rattle.columns.specs.ColumnText.{fieldText, fieldsEnded, indexText, columnsText, plainText}
+use Rattle.columns.specs.ColumnLine.{ownIndex, indexAt, toEnd, restAt, after, columnsLine, plainLine, judged}
+
+-- ---- what is kept of a column
+abbrev pub Kept : Column → ℤ → Type 0
+Kept number z = (z ≡ pos (natAbs z)) × (natAbs z < 10 ^ 10)
+Kept signed z = natAbs z < 10 ^ 10
+Kept share z = ShareKept z
+
+-- one value for each column
+abbrev pub AllKept : List Column → List ℤ → Type 0
+AllKept [] [] = Unit {0}
+AllKept [] (z ∷ zs) = ⊥
+AllKept (c ∷ cs) [] = ⊥
+AllKept (c ∷ cs) (z ∷ zs) = Kept c z × AllKept cs zs
+
+pub kept-long : (cs : List Column) (zs : List ℤ) → AllKept cs zs → length zs ≡ length cs
+kept-long [] [] k = refl
+kept-long [] (z ∷ zs) k = absurd k
+kept-long (c ∷ cs) [] k = absurd k
+kept-long (c ∷ cs) (z ∷ zs) k = ap suc (kept-long cs zs (k .1))
+
+-- ---- one field
+pub record FieldRead (c : Column) (line : List ℕ) (at stop : ℕ) (z : ℤ) (next : ℕ) : Type 0 where
+  pub here : drop at line ≡ fieldText c z ++ (stop ∷ drop next line)
+  pub kept : Kept c z
+
+module _ (line : List ℕ) (at stop : ℕ) (z : ℤ) (next : ℕ) where
+  number-field : (n : Number) → numberAt line at stop ≡ n → positive n ≡ Whole z next → FieldRead number line at stop z next
+  unfolding fieldText decimalℤ
+  number-field (Bad place) q e = absurd (no-whole place z next e)
+  number-field (Value v m) q e =
+      let w = whole-is z (pos v) m next e in
+      let r = number-read line at stop v m (sym q) in
+      subst (λ (y : ℤ). FieldRead number line at stop y next) (w .0)
+      (record { here = r .here ∙ ap (λ (y : ℕ). decimal v ++ (stop ∷ drop y line)) (w .1); kept = (refl, r .small) })
+
+  number-kept : (n : Number) → numberAt line at stop ≡ n → positive n ≡ Whole z next → ShareKept z
+  number-kept (Bad place) q e = absurd (no-whole place z next e)
+  number-kept (Value v m) q e = subst ShareKept (whole-is z (pos v) m next e .0) (number-read line at stop v m (sym q) .small)
+
+  share-kept : shareAt line at stop ≡ Whole z next → ShareKept z
+  unfolding shareAt
+  share-kept e = go (eqb (getD line at 0) 45) e
+    where
+      alone : (t : Bool) → cond t (Whole (minus 1) (at + 2)) (Wrong (at + 1)) ≡ Whole z next → ShareKept z
+      alone true e = subst ShareKept (whole-is z (minus 1) (at + 2) next e .0) refl
+      alone false e = absurd (no-whole (at + 1) z next e)
+
+      go : (t : Bool) → cond t (cond (eqb (getD line (at + 1) 0) stop) (Whole (minus 1) (at + 2)) (Wrong (at + 1))) (positive (numberAt line at stop)) ≡ Whole z next → ShareKept z
+      go true e = alone (eqb (getD line (at + 1) 0) stop) e
+      go false e = number-kept (numberAt line at stop) refl e
+
+  pub field-read : (c : Column) → 0 < stop → fieldAt c line at stop ≡ Whole z next → FieldRead c line at stop z next
+  unfolding fieldAt fieldText
+  field-read number some e = number-field (numberAt line at stop) refl e
+  field-read signed some e = let r = signed-read line at stop z next e in record { here = r .here; kept = r .small }
+  field-read share some e =
+      record { here = share-read line at stop z next some e .here; kept = share-kept e }
+
+pub record FieldWritten (c : Column) (line : List ℕ) (at stop : ℕ) (z : ℤ) (rest : List ℕ) : Type 0 where
+  pub next : ℕ
+  pub is : fieldAt c line at stop ≡ Whole z next
+  pub then : drop next line ≡ rest
+
+module _ (line : List ℕ) (at stop : ℕ) (z : ℤ) (rest : List ℕ) (apart : isDigit stop ≡ false) where
+  pub field-written : (c : Column) → drop at line ≡ fieldText c z ++ (stop ∷ rest) → Kept c z → FieldWritten c line at stop z rest
+  unfolding fieldAt fieldText decimalℤ
+  field-written number here k =
+      let n = natAbs z in
+      let t : drop at line ≡ decimal n ++ (stop ∷ rest) = here ∙ ap (λ (y : ℤ). decimalℤ y ++ (stop ∷ rest)) (k .0) in
+      record {
+        next = at + length (decimal n) + 1;
+        is = ap positive (number-written line at stop n rest t (k .1) apart) ∙ ap (λ (y : ℤ). Whole y (at + length (decimal n) + 1)) (sym (k .0));
+        then = number-rest line at stop n rest t;
+      }
+  field-written signed here k = record { next = at + length (decimalℤ z) + 1; is = signed-written line at stop z rest here k apart; then = signed-rest line at stop z rest here }
+  field-written share here k =
+      let w = share-written line at stop z rest here k apart in
+      record { next = w .next; is = w .is; then = w .then }
+
+pub field-no-feed : (c : Column) (z : ℤ) → noFeed (fieldText c z)
+unfolding fieldText
+field-no-feed number z = decimalℤ-no-feed z
+field-no-feed signed z = decimalℤ-no-feed z
+field-no-feed share z = share-no-feed z
+
+-- ---- fields
+values-is : (zs ys : List ℤ) (m n : ℕ) → values zs m ≡ values ys n → (zs ≡ ys) × (m ≡ n)
+values-is zs ys m n e = (cc, cc)
+
+pub no-values : (place : ℕ) (ys : List ℤ) (n : ℕ) → wrong place ≡ values ys n → ⊥
+no-values place ys n e = let x : _≡_ {A = ℕ} 0 1 = cc in zero-one x
+
+pub record FieldsRead (sep last : ℕ) (cs : List Column) (line : List ℕ) (at : ℕ) (zs : List ℤ) (next : ℕ) : Type 0 where
+  pub here : drop at line ≡ fieldsEnded sep last cs zs ++ drop next line
+  pub kept : AllKept cs zs
+
+-- a byte that ends fields
+pub record Ends (b : ℕ) : Type 0 where
+  pub some : 0 < b
+  pub apart : isDigit b ≡ false
+
+module _ (sep last : ℕ) (s : Ends sep) (l : Ends last) where
+  stop-ends : (cs : List Column) → Ends (stopOf sep last cs)
+  stop-ends [] = l
+  stop-ends (c ∷ cs) = s
+
+  pub fields-read : (cs : List Column) (line : List ℕ) (at : ℕ) (zs : List ℤ) (next : ℕ) → fieldsAt sep last cs line at ≡ values zs next → FieldsRead sep last cs line at zs next
+  unfolding fieldsAt fieldsEnded
+  fields-read [] line at zs next e =
+      let w = values-is [] zs at next e in
+      subst (λ (y : List ℤ). FieldsRead sep last [] line at y next) (w .0) (record { here = ap (λ (k : ℕ). drop k line) (w .1); kept = tt })
+  fields-read (c ∷ cs) line at zs next e = go (λ m ys. fields-read cs line m ys next) (fieldAt c line at (stopOf sep last cs)) refl e
+    where
+      stop : ℕ
+      stop = stopOf sep last cs
+
+      more : ((m : ℕ) (ys : List ℤ) → fieldsAt sep last cs line m ≡ values ys next → FieldsRead sep last cs line m ys next) → (z : ℤ) (m : ℕ) → fieldAt c line at stop ≡ Whole z m
+          → (v : Values) → fieldsAt sep last cs line m ≡ v → push z v ≡ values zs next → FieldsRead sep last (c ∷ cs) line at zs next
+      more ih z m q (wrong place) k e = absurd (no-values place zs next e)
+      more ih z m q (values ys o) k e =
+          let w = values-is (z ∷ ys) zs o next e in
+          let r = ih m ys (k ∙ ap (values ys) (w .1)) in
+          let f = field-read line at stop z m c (stop-ends cs .some) q in
+          subst (λ (y : List ℤ). FieldsRead sep last (c ∷ cs) line at y next) (w .0)
+          (record {
+            here = f .here ∙ ap (λ (l : List ℕ). fieldText c z ++ (stop ∷ l)) (r .here) ∙ sym (append-assoc (fieldText c z) (stop ∷ fieldsEnded sep last cs ys) (drop next line));
+            kept = (f .kept, r .kept);
+          })
+
+      go : ((m : ℕ) (ys : List ℤ) → fieldsAt sep last cs line m ≡ values ys next → FieldsRead sep last cs line m ys next)
+          → (s : Signed) → fieldAt c line at stop ≡ s → onward s (λ m. fieldsAt sep last cs line m) ≡ values zs next → FieldsRead sep last (c ∷ cs) line at zs next
+      go ih (Wrong place) q e = absurd (no-values place zs next e)
+      go ih (Whole z m) q e = more ih z m q (fieldsAt sep last cs line m) refl e
+
+pub record FieldsWritten (sep last : ℕ) (cs : List Column) (line : List ℕ) (at : ℕ) (zs : List ℤ) (rest : List ℕ) : Type 0 where
+  pub next : ℕ
+  pub is : fieldsAt sep last cs line at ≡ values zs next
+  pub then : drop next line ≡ rest
+
+module _ (sep last : ℕ) (s : Ends sep) (l : Ends last) (line rest : List ℕ) where
+  pub fields-written : (cs : List Column) (zs : List ℤ) (at : ℕ) → AllKept cs zs → drop at line ≡ fieldsEnded sep last cs zs ++ rest → FieldsWritten sep last cs line at zs rest
+  unfolding fieldsAt fieldsEnded
+  fields-written [] [] at k here = record { next = at; is = refl; then = here }
+  fields-written [] (z ∷ zs) at k here = absurd k
+  fields-written (c ∷ cs) [] at k here = absurd k
+  fields-written (c ∷ cs) (z ∷ zs) at k here =
+      let stop = stopOf sep last cs in
+      let t : drop at line ≡ fieldText c z ++ (stop ∷ (fieldsEnded sep last cs zs ++ rest)) = here ∙ append-assoc (fieldText c z) (stop ∷ fieldsEnded sep last cs zs) rest in
+      let f = field-written line at stop z (fieldsEnded sep last cs zs ++ rest) (stop-ends sep last s l cs .apart) c t (k .0) in
+      let w = fields-written cs zs (f .next) (k .1) (f .then) in
+      record { next = w .next; is = rw (f .is, w .is); then = w .then }
+
+-- ---- letter and index
+pub tab-ends : Ends tab
+tab-ends = record { some = omega arith; apart = refl }
+
+pub feed-ends : Ends feed
+feed-ends = record { some = omega arith; apart = refl }
+
+no-value : (place v n : ℕ) → _≡_ {A = Number} (Bad place) (Value v n) → ⊥
+no-value place v n e = let x : _≡_ {A = ℕ} 0 1 = cc in zero-one x
+
+value-is : (v w m n : ℕ) → _≡_ {A = Number} (Value v m) (Value w n) → (v ≡ w) × (m ≡ n)
+value-is v w m n e = (cc, cc)
+
+pub record IndexRead (sep letter : ℕ) (line : List ℕ) (i at : ℕ) : Type 0 where
+  pub here : line ≡ indexText sep letter i ++ drop at line
+  pub small : i < 10 ^ 10
+
+module _ (sep letter : ℕ) (line : List ℕ) (i v at : ℕ) where
+  pub index-read : indexAt sep letter line i ≡ Value v at → IndexRead sep letter line i at
+  unfolding indexAt indexText
+  index-read e = lettered (headed letter sep line) refl e
+    where
+      own : headed letter sep line ≡ true → (index next : ℕ) → numberAt line 2 sep ≡ Value index next → (t : Bool) → eqb index i ≡ t → cond t (Value index next) (Bad 2) ≡ Value v at → IndexRead sep letter line i at
+      own h index next q false k e = absurd (no-value 2 v at e)
+      own h index next q true k e =
+          let r = number-read line 2 sep index next (sym q) in
+          let x : index ≡ i = eqb-true index i k in
+          let w = value-is index v next at e in
+          record {
+            here = headed-line letter sep line h ∙ ap (λ (l : List ℕ). letter ∷ sep ∷ l)
+                (r .here ∙ ap₂ (λ (n m : ℕ). decimal n ++ (sep ∷ drop m line)) x (w .1) ∙ sym (append-assoc (decimal i) (sep ∷ []) (drop at line)));
+            small = rw x at (r .small);
+          }
+
+      numbered : headed letter sep line ≡ true → (n : Number) → numberAt line 2 sep ≡ n → ownIndex i n ≡ Value v at → IndexRead sep letter line i at
+      numbered h (Bad place) q e = absurd (no-value place v at e)
+      numbered h (Value index next) q e = own h index next q (eqb index i) refl e
+
+      lettered : (t : Bool) → headed letter sep line ≡ t → cond t (ownIndex i (numberAt line 2 sep)) (Bad 0) ≡ Value v at → IndexRead sep letter line i at
+      lettered false h e = absurd (no-value 0 v at e)
+      lettered true h e = numbered h (numberAt line 2 sep) refl e
+
+headed-is : (sep letter : ℕ) (s : List ℕ) → headed letter sep (letter ∷ sep ∷ s) ≡ true
+headed-is sep letter s = rw (le-leb 2 (suc (suc (length s))) (omega arith), eq-eqb letter letter refl, eq-eqb sep sep refl)
+
+pub record IndexWritten (sep letter : ℕ) (line : List ℕ) (i : ℕ) (rest : List ℕ) : Type 0 where
+  pub next : ℕ
+  pub is : indexAt sep letter line i ≡ Value i next
+  pub then : drop next line ≡ rest
+
+pub index-written : (sep letter i : ℕ) (rest : List ℕ) → isDigit sep ≡ false → i < 10 ^ 10 → IndexWritten sep letter (indexText sep letter i ++ rest) i rest
+unfolding indexAt indexText
+index-written sep letter i rest apart small =
+    let line = letter ∷ sep ∷ ((decimal i ++ (sep ∷ [])) ++ rest) in
+    let here : drop 2 line ≡ decimal i ++ (sep ∷ rest) = append-assoc (decimal i) (sep ∷ []) rest in
+    record {
+      next = 2 + length (decimal i) + 1;
+      is = rw (headed-is sep letter ((decimal i ++ (sep ∷ [])) ++ rest), number-written line 2 sep i rest here small apart, eq-eqb i i refl);
+      then = number-rest line 2 sep i rest here;
+    }
+
+-- ---- a whole line
+pub record LineRead (sep letter : ℕ) (cs : List Column) (line : List ℕ) (i : ℕ) (zs : List ℤ) : Type 0 where
+  pub here : line ≡ columnsText sep letter cs i zs
+  pub kept : AllKept cs zs
+  pub small : i < 10 ^ 10
+
+module _ (sep letter : ℕ) (parts : Ends sep) (cs : List Column) (line : List ℕ) (i : ℕ) (zs : List ℤ) (next : ℕ) where
+  pub line-read : columnsLine sep letter cs line i ≡ values zs next → LineRead sep letter cs line i zs
+  unfolding columnsLine restAt columnsText
+  line-read e = indexed (indexAt sep letter line i) refl e
+    where
+      end : (at : ℕ) → IndexRead sep letter line i at → (ys : List ℤ) (m : ℕ) → fieldsAt sep feed cs line at ≡ values ys m → (t : Bool) → ended line m ≡ t → cond t (values ys m) (wrong m) ≡ values zs next → LineRead sep letter cs line i zs
+      end at r ys m q false k e = absurd (no-values m zs next e)
+      end at r ys m q true k e =
+          let f = fields-read sep feed parts feed-ends cs line at ys m q in
+          let last : drop m line ≡ [] = drop-of-length-le line (leb-true (length line) m k) in
+          subst (LineRead sep letter cs line i) (values-is ys zs m next e .0)
+          (record {
+            here = r .here ∙ ap (λ (l : List ℕ). indexText sep letter i ++ l) (f .here ∙ ap (λ (l : List ℕ). fieldsEnded sep feed cs ys ++ l) last ∙ append-nil (fieldsEnded sep feed cs ys));
+            kept = f .kept;
+            small = r .small;
+          })
+
+      fielded : (at : ℕ) → IndexRead sep letter line i at → (v : Values) → fieldsAt sep feed cs line at ≡ v → toEnd line v ≡ values zs next → LineRead sep letter cs line i zs
+      fielded at r (wrong place) q e = absurd (no-values place zs next e)
+      fielded at r (values ys m) q e = end at r ys m q (ended line m) refl e
+
+      indexed : (n : Number) → indexAt sep letter line i ≡ n → after n (λ at. restAt sep cs line at) ≡ values zs next → LineRead sep letter cs line i zs
+      indexed (Bad place) q e = absurd (no-values place zs next e)
+      indexed (Value v at) q e = fielded at (index-read sep letter line i v at q) (fieldsAt sep feed cs line at) refl e
+
+pub record LineWritten (sep letter : ℕ) (cs : List Column) (i : ℕ) (zs : List ℤ) : Type 0 where
+  pub next : ℕ
+  pub is : columnsLine sep letter cs (columnsText sep letter cs i zs) i ≡ values zs next
+
+pub line-written : (sep letter : ℕ) → Ends sep → (cs : List Column) (i : ℕ) (zs : List ℤ) → i < 10 ^ 10 → AllKept cs zs → LineWritten sep letter cs i zs
+unfolding columnsLine restAt columnsText
+line-written sep letter parts cs i zs small k =
+    let rest = fieldsEnded sep feed cs zs in
+    let line = indexText sep letter i ++ rest in
+    let x = index-written sep letter i rest (parts .apart) small in
+    let f = fields-written sep feed parts feed-ends line [] cs zs (x .next) k (x .then ∙ sym (append-nil rest)) in
+    record { next = f .next; is = rw (x .is, f .is, ended-text line (f .next) (f .then)) }
+
+-- .. which is one line, whatever follows
+fields-one : (sep : ℕ) → eqb sep feed ≡ false → (c : Column) (cs : List Column) (zs : List ℤ) (r : List ℕ) → lineOf (fieldsEnded sep feed (c ∷ cs) zs ++ r) ≡ fieldsEnded sep feed (c ∷ cs) zs
+unfolding fieldsEnded
+fields-one sep other c [] zs r =
+    let f = fieldText c (getD zs 0 (pos 0)) in
+    ap lineOf (append-assoc f (feed ∷ []) r) ∙ line-past f (feed ∷ r) (field-no-feed c (getD zs 0 (pos 0)))
+fields-one sep other c (d ∷ ds) zs r =
+    let f = fieldText c (getD zs 0 (pos 0)) in
+    let rest = fieldsEnded sep feed (d ∷ ds) (drop 1 zs) in
+    ap lineOf (append-assoc f (sep ∷ rest) r) ∙ line-past f (sep ∷ (rest ++ r)) (field-no-feed c (getD zs 0 (pos 0)))
+    ∙ rw other (ap (λ (l : List ℕ). f ++ (sep ∷ l)) (fields-one sep other d ds (drop 1 zs) r))
+
+pub line-one : (sep letter : ℕ) (cs : List Column) (i : ℕ) (zs : List ℤ) (r : List ℕ) → 0 < length cs → eqb sep feed ≡ false → eqb letter feed ≡ false
+    → lineOf (columnsText sep letter cs i zs ++ r) ≡ columnsText sep letter cs i zs
+unfolding columnsText indexText
+line-one sep letter [] i zs r some other e = absurd (not-suc-le-zero some)
+line-one sep letter (c ∷ cs) i zs r some other e =
+    let rest = fieldsEnded sep feed (c ∷ cs) zs in
+    let d = decimal i in
+    let begins : (s : List ℕ) → lineOf (letter ∷ sep ∷ s) ≡ letter ∷ sep ∷ lineOf s = λ s. rw (e, other) in
+    let one : lineOf (sep ∷ (rest ++ r)) ≡ sep ∷ rest = rw other (ap (λ (l : List ℕ). sep ∷ l) (fields-one sep other c cs zs r)) in
+    begins (((d ++ (sep ∷ [])) ++ rest) ++ r)
+    ∙ ap (λ (l : List ℕ). letter ∷ sep ∷ l)
+    (ap lineOf (append-assoc (d ++ (sep ∷ [])) rest r ∙ append-assoc d (sep ∷ []) (rest ++ r))
+    ∙ line-past d (sep ∷ (rest ++ r)) (decimal-no-feed i)
+    ∙ ap (λ (l : List ℕ). d ++ l) one
+    ∙ sym (append-assoc d (sep ∷ []) rest))
+
+-- ---- a line that is judged by its values, whatever it holds of them
+pub record Judged {A : Type 0} (fits : List ℤ → Bool) (make : List ℤ → A) (v : Values) (a : A) : Type 0 where
+  pub zs : List ℤ
+  pub next : ℕ
+  pub is : v ≡ values zs next
+  pub fit : fits zs ≡ true
+  pub made : make zs ≡ a
+
+module _ {A : Type 0} (fits : List ℤ → Bool) (make : List ℤ → A) where
+  pub judged-is : (a : A) (v : Values) → judged fits make v ≡ holds a → Judged fits make v a
+  judged-is a (wrong place) e = absurd (no-form a e)
+  judged-is a (values zs next) e = go (fits zs) refl e
+    where
+      go : (t : Bool) → fits zs ≡ t → cond t (holds (make zs)) range ≡ holds a → Judged fits make (values zs next) a
+      go false q e = absurd (no-range a e)
+      go true q e = record { zs = zs; next = next; is = refl; fit = q; made = holds-is (make zs) a e }
+
+  module _ (sep letter : ℕ) (parts : Ends sep) (cs : List Column) (i : ℕ) where
+    -- a line that holds a is the text of values that make a
+    pub record Holding (line : List ℕ) (a : A) : Type 0 where
+      pub zs : List ℤ
+      pub read : LineRead sep letter cs line i zs
+      pub fit : fits zs ≡ true
+      pub made : make zs ≡ a
+
+    pub judged-read : (line : List ℕ) (a : A) → judged fits make (columnsLine sep letter cs line i) ≡ holds a → Holding line a
+    judged-read line a e =
+        let j = judged-is a (columnsLine sep letter cs line i) e in
+        record { zs = j .zs; read = line-read sep letter parts cs line i (j .zs) (j .next) (j .is); fit = j .fit; made = j .made }
+
+    -- .. and that text holds what they make
+    pub judged-written : (zs : List ℤ) → i < 10 ^ 10 → AllKept cs zs → fits zs ≡ true → judged fits make (columnsLine sep letter cs (columnsText sep letter cs i zs) i) ≡ holds (make zs)
+    judged-written zs small k f = rw (line-written sep letter parts cs i zs small k .is, f)
+
+-- ---- a line that has no index
+pub record PlainRead (sep letter : ℕ) (cs : List Column) (line : List ℕ) (zs : List ℤ) : Type 0 where
+  pub here : line ≡ plainText sep letter cs zs
+  pub kept : AllKept cs zs
+
+module _ (sep letter : ℕ) (parts : Ends sep) (cs : List Column) (line : List ℕ) (zs : List ℤ) (next : ℕ) where
+  pub plain-read : plainLine sep letter cs line ≡ values zs next → PlainRead sep letter cs line zs
+  unfolding plainLine restAt plainText
+  plain-read e = lettered (headed letter sep line) refl e
+    where
+      end : headed letter sep line ≡ true → (ys : List ℤ) (m : ℕ) → fieldsAt sep feed cs line 2 ≡ values ys m → (t : Bool) → ended line m ≡ t → cond t (values ys m) (wrong m) ≡ values zs next → PlainRead sep letter cs line zs
+      end h ys m q false k e = absurd (no-values m zs next e)
+      end h ys m q true k e =
+          let f = fields-read sep feed parts feed-ends cs line 2 ys m q in
+          let last : drop m line ≡ [] = drop-of-length-le line (leb-true (length line) m k) in
+          subst (PlainRead sep letter cs line) (values-is ys zs m next e .0)
+          (record {
+            here = headed-line letter sep line h ∙ ap (λ (l : List ℕ). letter ∷ sep ∷ l) (f .here ∙ ap (λ (l : List ℕ). fieldsEnded sep feed cs ys ++ l) last ∙ append-nil (fieldsEnded sep feed cs ys));
+            kept = f .kept;
+          })
+
+      fielded : headed letter sep line ≡ true → (v : Values) → fieldsAt sep feed cs line 2 ≡ v → toEnd line v ≡ values zs next → PlainRead sep letter cs line zs
+      fielded h (wrong place) q e = absurd (no-values place zs next e)
+      fielded h (values ys m) q e = end h ys m q (ended line m) refl e
+
+      lettered : (t : Bool) → headed letter sep line ≡ t → cond t (toEnd line (fieldsAt sep feed cs line 2)) (wrong 0) ≡ values zs next → PlainRead sep letter cs line zs
+      lettered false h e = absurd (no-values 0 zs next e)
+      lettered true h e = fielded h (fieldsAt sep feed cs line 2) refl e
+
+pub plain-one : (sep letter : ℕ) (cs : List Column) (zs : List ℤ) (r : List ℕ) → 0 < length cs → eqb sep feed ≡ false → eqb letter feed ≡ false
+    → lineOf (plainText sep letter cs zs ++ r) ≡ plainText sep letter cs zs
+unfolding plainText
+plain-one sep letter [] zs r some other e = absurd (not-suc-le-zero some)
+plain-one sep letter (c ∷ cs) zs r some other e = rw (e, other) (ap (λ (l : List ℕ). letter ∷ sep ∷ l) (fields-one sep other c cs zs r))
+
+module _ {A : Type 0} (fits : List ℤ → Bool) (make : List ℤ → A) (sep letter : ℕ) (parts : Ends sep) (cs : List Column) where
+  pub record PlainHolding (line : List ℕ) (a : A) : Type 0 where
+    pub zs : List ℤ
+    pub read : PlainRead sep letter cs line zs
+    pub fit : fits zs ≡ true
+    pub made : make zs ≡ a
+
+  pub plain-judged : (line : List ℕ) (a : A) → judged fits make (plainLine sep letter cs line) ≡ holds a → PlainHolding line a
+  plain-judged line a e =
+      let j = judged-is fits make a (plainLine sep letter cs line) e in
+      record { zs = j .zs; read = plain-read sep letter parts cs line (j .zs) (j .next) (j .is); fit = j .fit; made = j .made }
+
+  pub plain-written : (zs : List ℤ) → AllKept cs zs → fits zs ≡ true → judged fits make (plainLine sep letter cs (plainText sep letter cs zs)) ≡ holds (make zs)
+  unfolding plainLine restAt plainText
+  plain-written zs k f =
+      let rest = fieldsEnded sep feed cs zs in
+      let line = letter ∷ sep ∷ rest in
+      let w = fields-written sep feed parts feed-ends line [] cs zs 2 k (sym (append-nil rest)) in
+      rw (headed-is sep letter rest, w .is, ended-text line (w .next) (w .then), f)
+
+-- ---- two parts
+pub kept-append : (cs ds : List Column) (zs ys : List ℤ) → AllKept cs zs → AllKept ds ys → AllKept (cs ++ ds) (zs ++ ys)
+kept-append [] ds [] ys k l = l
+kept-append [] ds (z ∷ zs) ys k l = absurd k
+kept-append (c ∷ cs) ds [] ys k l = absurd k
+kept-append (c ∷ cs) ds (z ∷ zs) ys k l = (k .0, kept-append cs ds zs ys (k .1) l)

@@ -1,0 +1,4 @@
+pub mod Anchors
+pub mod ColumnLaws
+pub mod ColumnTrip
+pub mod ColumnPut

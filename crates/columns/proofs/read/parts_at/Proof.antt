@@ -1,0 +1,34 @@
+-- `columns::read::parts_at` meets its contract.
+-- Assumes nothing.
+use mathlib.Core.Path.{sym, ap, _∙_}
+use Rattle.columns.specs.declared.Fields.{Fields}
+use Rattle.kinds.specs.LineColumns.{columnsOf}
+use Rattle.columns.specs.Columns.{stored}
+use Rattle.columns.proofs.ColumnLaws.{part-bad, part-more}
+use borrow.Author.Needs.{needs}
+use Rattle.columns.proofs.read.parts_at.Statement.{statement}
+use Rattle.columns.proofs.read.parts_at.Tie as tie
+
+returns : tie.Need-returns
+returns c =
+    let s = c .before .before .before .before .before .before .before .before .before .before .before .before in
+    part-more (s .args .sep) (s .args .letter) (columnsOf (s .args .first .now)) (s .args .line .now) (s .args .i) (s .args .second .now) (s .pre .1) (c .before .before .before .before .before .before .before .head-at .last .1 .1 .1 .1 .1 .0) (c .before .rest-at .last .1 .1 .1 .1 .0) _ (c .before .rest-at .result) (ap (λ (f : Fields). stored f (c .before .before .before .before .before .before .before .head-at .last .1 .1 .1 .1 .1 .0)) (sym (c .before .before .before .before .at .given .1)) ∙ c .before .before .before .before .before .before .before .head-at .ensures) (c .before .rest-at .ensures)
+
+returns-2 : tie.Need-returns-2
+returns-2 c =
+    let s = c .before .before .before .before .before .before .before .before .before in
+    part-bad (s .args .sep) (s .args .letter) (columnsOf (s .args .first .now)) (s .args .line .now) (s .args .i) (s .args .second .now) (s .pre .1) _ (ap (λ (f : Fields). stored f (c .before .before .before .before .head-at .last .1 .1 .1 .1 .1 .0)) (sym (c .before .place .given .1)) ∙ c .before .before .before .before .head-at .ensures)
+
+pub parts-at-spec : {M : Type 1} → statement M
+parts-at-spec =
+    tie.close
+    (tie.spec
+    (λ c κs. search needs)
+    (λ c. search needs)
+    (λ c κs. search needs)
+    (λ c. search needs)
+    (λ c. search needs)
+    (λ c. search needs)
+    returns
+    (λ c. search needs)
+    returns-2)

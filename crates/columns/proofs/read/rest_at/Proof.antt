@@ -1,0 +1,32 @@
+-- `columns::read::rest_at` meets its contract.
+-- Assumes nothing.
+use mathlib.Core.Path.{sym, ap, _∙_}
+use Rattle.columns.specs.declared.Fields.{Fields}
+use Rattle.columns.specs.Columns.{stored}
+use Rattle.columns.proofs.ColumnLaws.{rest-bad, rest-more, rest-end}
+use borrow.Author.Needs.{needs}
+use Rattle.columns.proofs.read.rest_at.Statement.{statement}
+use Rattle.columns.proofs.read.rest_at.Tie as tie
+
+returns : tie.Need-returns
+returns c = rest-more _ _ _ _ (c .before .before .before .before .before .fields-at .last .1 .1 .1 .1 .1 .0) _ (ap (λ (f : Fields). stored f (c .before .before .before .before .before .fields-at .last .1 .1 .1 .1 .1 .0)) (sym (c .before .before .next .given .1)) ∙ c .before .before .before .before .before .fields-at .ensures) (c .if1 .taken)
+
+returns-2 : tie.Need-returns-2
+returns-2 c = rest-end _ _ _ _ (c .before .before .before .before .before .fields-at .last .1 .1 .1 .1 .1 .0) _ (ap (λ (f : Fields). stored f (c .before .before .before .before .before .fields-at .last .1 .1 .1 .1 .1 .0)) (sym (c .before .before .next .given .1)) ∙ c .before .before .before .before .before .fields-at .ensures) (c .if1 .left)
+
+returns-3 : tie.Need-returns-3
+returns-3 c = rest-bad _ _ _ _ _ (ap (λ (f : Fields). stored f (c .before .before .before .before .fields-at .last .1 .1 .1 .1 .1 .0)) (sym (c .before .place .given .1)) ∙ c .before .before .before .before .fields-at .ensures)
+
+pub rest-at-spec : {M : Type 1} → statement M
+rest-at-spec =
+    tie.close
+    (tie.spec
+    (λ c κs. search needs)
+    (λ c. search needs)
+    (λ c. search needs)
+    returns
+    (λ c. search needs)
+    (λ c. search needs)
+    returns-2
+    (λ c. search needs)
+    returns-3)

@@ -1,0 +1,59 @@
+-- `columns::write::fields_length` meets its contract.
+-- Assumes nothing.
+use mathlib.Core.Path.{_≡_}
+use Prim.Native.Nat.{_+_, _-_, _≤_}
+use native.Mathlib.Omega.{arith}
+use borrow.Author.Needs.{needs}
+use lib.ListN.{length}
+use Rattle.numbers.proofs.IntLaws.{plain}
+use Rattle.kinds.specs.Limits.{bytesMost}
+use Rattle.columns.proofs.ColumnPut.{textAt, Counting, counting-none, counting-within, counting-more, counting-all}
+use Rattle.columns.proofs.write.fields_length.Statement.{statement}
+use Rattle.columns.proofs.write.fields_length.Tie as tie
+
+abbrev Inv-loop : tie.InvT-loop
+Inv-loop columns values sum₀ k₀ k-end sum k = Counting columns values sum k
+
+abbrev μ-loop : tie.MeasureT-loop
+μ-loop columns values sum₀ k₀ k-end sum k = length columns - k
+
+counted : (c : tie.After-field-length Inv-loop μ-loop) → let s = c .before .before .before .before .before .before in c .field-length .result ≡ length (textAt (s .args .columns .now) (s .args .values .now) (c .before .before .before .before .loop .k))
+counted c = simp (plain, c .before .field-length-arg .given) at (c .field-length .ensures)
+
+within : (c : tie.After-field-length Inv-loop μ-loop) → c .before .before .before .before .loop .sum + (c .field-length .result + 1) ≤ bytesMost
+within c =
+    let s = c .before .before .before .before .before .before in
+    let l = c .before .before .before .before .loop in
+    omega (arith, counting-within (s .args .columns .now) (s .args .values .now) (l .inv) (s .pre .0) (c .before .before .before .loop-test .taken) _ (counted c), s .pre .1)
+
+loop-holds : tie.Need-loop-holds Inv-loop μ-loop
+loop-holds c = counting-none _ _
+
+shared-slice-read-field-length : tie.Need-shared-slice-read-field-length Inv-loop μ-loop
+shared-slice-read-field-length c = omega (arith, c .before .before .loop .inv)
+
+mul-field-length : tie.Need-mul-field-length Inv-loop μ-loop
+mul-field-length c = let s = c .before .before .before .before in omega (arith, s .pre .0)
+
+shared-slice-copy-out-field-length : tie.Need-shared-slice-copy-out-field-length Inv-loop μ-loop
+shared-slice-copy-out-field-length c = let s = c .before .before .before .before in omega (arith, s .pre .0)
+
+add-sum : tie.Need-add-sum Inv-loop μ-loop
+add-sum c = omega (arith, within c)
+
+add-sum-2 : tie.Need-add-sum-2 Inv-loop μ-loop
+add-sum-2 c = omega (arith, within c)
+
+loop-again : tie.Need-loop-again Inv-loop μ-loop
+loop-again c =
+    let s = c .before .before .before .before .before .before in
+    let l = c .before .before .before .before .loop in
+    counting-more (s .args .columns .now) (s .args .values .now) (l .inv) (s .pre .0) (c .before .before .before .loop-test .taken) _ (counted c)
+
+returns : tie.Need-returns Inv-loop μ-loop
+returns c =
+    let s = c .before .before .before in
+    counting-all (s .args .columns .now) (s .args .values .now) (c .before .loop .inv) (omega arith)
+
+pub fields-length-spec : {M : Type 1} → statement M
+fields-length-spec = tie.close (tie.spec Inv-loop μ-loop loop-holds shared-slice-read-field-length mul-field-length shared-slice-copy-out-field-length (λ c κs. search needs) add-sum add-sum-2 (λ c. omega arith) (λ c. omega arith) loop-again returns)

@@ -1,0 +1,51 @@
+-- The fields of columns as they are written (01, "The table as text"): each with the byte that ends it, and lines of them.
+-- `sep` is the byte that parts the fields, a tab in the table; the last field ends in the line's LF.
+-- Assumes nothing.
+use mathlib.Core.List.{List, [], _∷_, _++_}
+use Prim.Native.Nat.{ℕ, suc, _+_}
+use lib.IntN.{ℤ, pos}
+use lib.ListN.{length, getD, drop}
+use Rattle.kinds.specs.LineColumns.{Column, number, signed, share}
+use Rattle.text.specs.Fields.{feed}
+use Rattle.text.specs.Written.{decimal, decimalℤ, shareText}
+use Rattle.columns.specs.Columns.{stopOf}
+
+-- a column's field
+unfoldable pub fieldText : Column → ℤ → List ℕ
+fieldText number z = decimalℤ z
+fieldText signed z = decimalℤ z
+fieldText share z = shareText z
+
+-- the fields of columns, one value of zs for each (0 where zs is too short)
+unfoldable pub fieldsEnded : (sep last : ℕ) → List Column → (zs : List ℤ) → List ℕ
+fieldsEnded sep last [] zs = []
+fieldsEnded sep last (c ∷ cs) zs = fieldText c (getD zs 0 (pos 0)) ++ (stopOf sep last cs ∷ fieldsEnded sep last cs (drop 1 zs))
+
+-- how many bytes they have
+unfoldable pub fieldsLength : List Column → (zs : List ℤ) → ℕ
+fieldsLength [] zs = 0
+fieldsLength (c ∷ cs) zs = length (fieldText c (getD zs 0 (pos 0))) + 1 + fieldsLength cs (drop 1 zs)
+
+-- .. with letter and index
+abbrev pub lineLength : List Column → (i : ℕ) → (zs : List ℤ) → ℕ
+lineLength columns i zs = 3 + length (decimal i) + fieldsLength columns zs
+
+-- a line's letter and its index
+unfoldable pub indexText : (sep letter i : ℕ) → List ℕ
+indexText sep letter i = letter ∷ sep ∷ (decimal i ++ (sep ∷ []))
+
+-- a line: its letter, its index, and its columns
+unfoldable pub columnsText : (sep letter : ℕ) → List Column → (i : ℕ) → List ℤ → List ℕ
+columnsText sep letter columns i zs = indexText sep letter i ++ fieldsEnded sep feed columns zs
+
+-- a line that has no index
+unfoldable pub plainText : (sep letter : ℕ) → List Column → List ℤ → List ℕ
+plainText sep letter columns zs = letter ∷ sep ∷ fieldsEnded sep feed columns zs
+
+-- the numbers of a raw record by their columns, from number k on: one for each column (0 where the record is too short)
+abbrev pub numbersFrom : (k : ℕ) → List Column → (raw : List ℤ) → List ℤ
+numbersFrom k [] raw = []
+numbersFrom k (c ∷ cs) raw = getD raw k (pos 0) ∷ numbersFrom (suc k) cs raw
+
+abbrev pub numbersOf : List Column → (raw : List ℤ) → List ℤ
+numbersOf columns raw = numbersFrom 0 columns raw

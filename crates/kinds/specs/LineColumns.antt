@@ -1,0 +1,70 @@
+-- The columns of each line of the table (01, "The table as text": fields after the letter), in the order of 01's table. The index is no column.
+-- The code has the same lists as associated constants, one byte for each column (`Header::COLUMNS` ..): `columnOf` says what a byte means, and every
+-- reader and writer of a line (crates lines, layout) takes the constant and is proved by the list, so the two cannot part.
+-- Left to others: the ranges (`Ranges.antt`), and how a field is read and written (crate columns).
+-- Assumes nothing.
+use mathlib.Core.Bool.{cond}
+use mathlib.Core.List.{List, [], _∷_}
+use Prim.Native.Char.{code}
+use Prim.Native.Nat.{ℕ, zero, suc}
+use lib.Dec.{eqb}
+use lib.ListN.{length}
+
+-- what a column's field may be: a number; a signed number; R, which is a number or "-"
+pub data Column : Type 0 where
+  number : Column
+  signed : Column
+  share : Column
+
+-- H: zones, borders, rows
+abbrev pub headerColumns : List Column
+headerColumns =
+    number  -- zones
+    ∷ number  -- borders
+    ∷ number  -- rows
+    ∷ []
+
+-- Z: index, reference net position
+abbrev pub zoneColumns : List Column
+zoneColumns =
+    signed  -- reference net position, kW
+    ∷ []
+
+-- B: index, from zone, to zone, LTA
+abbrev pub borderColumns : List Column
+borderColumns =
+    number  -- from zone
+    ∷ number  -- to zone
+    ∷ number  -- LTA, MW
+    ∷ []
+
+-- C: index, Fmax, FRM, Fref, F0all, R, CVA, IVA; then one factor per zone
+abbrev pub rowColumns : List Column
+rowColumns =
+    number  -- Fmax, kW
+    ∷ number  -- FRM, kW
+    ∷ signed  -- Fref, kW
+    ∷ signed  -- F0all, kW
+    ∷ share  -- R, ten-thousandths, or "-"
+    ∷ number  -- CVA, kW
+    ∷ number  -- IVA, kW
+    ∷ []
+
+-- .. the numbers of a raw row record
+abbrev pub rowItems : ℕ
+rowItems = length rowColumns
+
+-- .. the factors
+abbrev pub factorColumns : (zones : ℕ) → List Column
+factorColumns zero = []
+factorColumns (suc zones) =
+    signed  -- a zone's factor, hundred-thousandths
+    ∷ factorColumns zones
+
+-- the byte by which the code names a column
+abbrev pub columnOf : ℕ → Column
+columnOf b = cond (eqb b (code "r")) share (cond (eqb b (code "s")) signed number)
+
+abbrev pub columnsOf : List ℕ → List Column
+columnsOf [] = []
+columnsOf (b ∷ bs) = columnOf b ∷ columnsOf bs
