@@ -23,12 +23,12 @@ use Rattle.table.specs.Good.{Good}
 use Rattle.rounds.specs.Rounds.{extract}
 use Rattle.rounds.proofs.Theorems.{extract-demand3}
 use Rattle.margin.specs.Margin.{ltaKw, ramAt}
+use Rattle.margin.specs.Bounds.{namedBits}
 use Rattle.margin.proofs.JudgedLaws.{lta-bound}
 use Rattle.margin.proofs.Small.{named-values-small}
 use Rattle.start.specs.Start.{rowsOf, gridOf, startOf, judgeStart, tableGrid, judgeTable}
 use Rattle.start.proofs.StartLaws.{rows-in}
 use Rattle.extraction.specs.Extraction.{Result, resultOf, atcOf, leftOf, outcomeOf}
-use Rattle.extraction.specs.Demand.{namedBits}
 use Rattle.extraction.proofs.DemandLaws.{accepted, g, s, small-start}
 use Rattle.extraction.proofs.Demand3.{accepted-demand-3}
 use Rattle.result.proofs.Longest.{Bounded}

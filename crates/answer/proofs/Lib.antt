@@ -3,4 +3,5 @@ pub mod ReadLaws
 pub mod PlaceLaws
 pub mod BoundedLaws
 pub mod Within
+pub mod Demand
 pub mod Unique

@@ -30,13 +30,13 @@ use Rattle.rounds.proofs.Rounds.{extracts}
 use Rattle.rounds.proofs.Theorems.{extract-demand3, same-factors}
 use Rattle.rounds.proofs.WorkLaws.{rounds-long, work-ended}
 use Rattle.margin.specs.Margin.{ltaKw}
+use Rattle.margin.specs.Bounds.{namedBits}
 use Rattle.margin.proofs.JudgedLaws.{good-borders}
 use Rattle.margin.proofs.Small.{named-values-small}
 use Rattle.start.specs.Start.{Rows, rowsOf, kept, gridOf, startOf, tableGrid, tableStart, judgeTable}
 use Rattle.start.specs.Filled.{rowsWith, ltas, exchangesOf}
 use Rattle.start.proofs.StartLaws.{cells-at, grid-long, rows-in, PreparedAs}
 use Rattle.extraction.specs.Extraction.{Result, resultOf, atcOf, leftOf, outcomeOf, atcRecord, rowRecord, leaves, room, stored, extractLeft}
-use Rattle.extraction.specs.Demand.{namedBits}
 use Rattle.extraction.specs.Work.{atcOfKw, leftOfRow, endedAt, endOf, Runnable, Finishable, resultWith, outcomeLeft}
 use Rattle.extraction.proofs.DemandLaws.{accepted, load-le, small-start}
 

@@ -4,16 +4,33 @@ use mathlib.Core.Path.{_≡_, refl}
 use mathlib.Core.List.{[], _∷_}
 use lib.IntN.{pos}
 use Rattle.numbers.specs.Below.{sum, largest}
-use Rattle.numbers.specs.Ints.{maxℤ, positivePart}
+use Rattle.numbers.specs.Ints.{maxℤ, positivePart, sumℤ}
 use Rattle.kinds.specs.Ranges.{borderOf, shareOf, rowOf, worth}
-use Rattle.margin.specs.Margin.{grains, fuafOf, baseOf, amrOf, signedFactor, pOf, ltaKw, sOf}
+use Rattle.table.specs.Table.{Table, stretch}
+use Rattle.margin.specs.Margin.{grains, f0coreOf, fuafOf, baseOf, amrOf, signedFactor, pOf, ltaKw, cornerPart, sOf, ltaMarginOf, ramOf, ramAt, marginOf}
+
+-- Fmax 100000 kW and nothing else, p 20000 on one border of LTA 1 MW
+abbrev small : Table
+small =
+    record {
+      header = record { zones = 2; borders = 1; rows = 1 };
+      nets = pos 0 ∷ pos 0 ∷ [];
+      borders = (pos 0 ∷ pos 1 ∷ pos 1 ∷ []) ∷ [];
+      rows = (pos 100000 ∷ pos 0 ∷ pos 0 ∷ pos 0 ∷ pos 0 ∷ pos 0 ∷ pos 0 ∷ []) ∷ [];
+      factors = pos 20000 ∷ pos 0 ∷ [];
+    }
 
 pub record Anchors : Type 0 where
   -- Fmax 100000, FRM 50000, R 7000, F0core 10000, F0all 0: Fuaf 10000, Base 40000, AMR 70000 - 10000 - 40000
   pub fuaf : amrOf (rowOf (pos 100000 ∷ pos 50000 ∷ pos 0 ∷ pos 0 ∷ pos 7000 ∷ pos 0 ∷ pos 0 ∷ [])) (grains (pos 10000)) ≡ grains (pos 20000)
   -- p 10000 on two borders, of LTA 100 and 200 MW: S is their sum
   pub s-sum : sOf (pos 20000 ∷ pos 10000 ∷ pos 0 ∷ []) ((pos 0 ∷ pos 1 ∷ pos 100 ∷ []) ∷ (pos 1 ∷ pos 2 ∷ pos 200 ∷ []) ∷ []) ≡ 3000000000
+  -- borders 0 to 1 of LTA 100 MW and back of 50: the way back relieves the row, its p is 0, and S is the first border's part alone
+  pub relieving-p : pOf (pos 20000 ∷ pos 0 ∷ []) (borderOf (pos 1 ∷ pos 0 ∷ pos 50 ∷ [])) ≡ 0
+  pub relieving-s : sOf (pos 20000 ∷ pos 0 ∷ []) ((pos 0 ∷ pos 1 ∷ pos 100 ∷ []) ∷ (pos 1 ∷ pos 0 ∷ pos 50 ∷ []) ∷ []) ≡ 2000000000
+  -- a row's margin starts at RAM - S
+  pub starts : marginOf small 0 ≡ pos 9980000000
 
 pub anchors : Anchors
-unfolding sum largest maxℤ positivePart borderOf shareOf rowOf worth grains fuafOf baseOf amrOf signedFactor pOf ltaKw sOf
-anchors = record { fuaf = refl; s-sum = refl }
+unfolding sum largest sumℤ maxℤ positivePart borderOf shareOf rowOf worth stretch grains f0coreOf fuafOf baseOf amrOf signedFactor pOf ltaKw cornerPart sOf ltaMarginOf ramOf ramAt
+anchors = record { fuaf = refl; s-sum = refl; relieving-p = refl; relieving-s = refl; starts = refl }

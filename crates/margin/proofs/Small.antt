@@ -1,23 +1,25 @@
--- 01, "Margin of a row": each value named in the list stays under 2^48 grains in magnitude, for every judged table. No contract cites this file.
+-- 01, "Margin of a row": each value named in the list stays under 2^48 in magnitude, for every judged table (p is a factor, the others are grains). No contract cites this file.
 -- The bounds are laws with the limits as variables (`BoundLaws.antt`); here stand 01's limits.
 -- Assumes nothing.
 use Prim.Native.Nat.{ℕ, _+_, _*_, _^_, _≤_, _<_}
 use native.Mathlib.Omega.{arith}
 use lib.IntN.{ℤ, pos, natAbs}
-use lib.ListN.{getD}
+use lib.ListN.{length, getD}
 use lib.Signed.{_≤ℤ_}
 use mathlib.Core.List.{[]}
-use mathlib.Core.Path.{refl, sym, subst}
+use mathlib.Core.Path.{_≡_, refl, sym, subst}
+use mathlib.Core.Bool.{true}
 use Rattle.numbers.specs.Ints.{Within}
 use Rattle.numbers.proofs.IntLaws.{Between, diffs, zarith}
-use Rattle.kinds.specs.Limits.{zonesMost, fmaxMost, flowMost, shareMost}
+use Rattle.kinds.specs.Limits.{zonesMost, fmaxMost, flowMost, shareMost, vaMost, factorMost}
+use Rattle.kinds.specs.Ranges.{borderFits}
 use Rattle.kinds.proofs.KindLaws.{row-in}
-use Rattle.table.specs.Table.{Table, rowAt, factorsAt}
+use Rattle.table.specs.Table.{Table, rowAt, borderAt, factorsAt}
 use Rattle.table.specs.Good.{Good}
-use Rattle.margin.specs.Margin.{f0coreOf, fuafOf, baseOf, amrOf, ltaMarginOf, sAt, ramAt, marginOf}
-use Rattle.margin.specs.Bounds.{RowBound, BordersBound, f0coreMost, sMost, ramMost}
-use Rattle.margin.proofs.BoundLaws.{within-f0core, within-fuaf, within-base, within-amr, lta-margin-most, within-ram, within-start}
-use Rattle.margin.proofs.JudgedLaws.{row-bound, stretch-long, stretch-bound, s-bound, good-factors, good-borders, good-nets}
+use Rattle.margin.specs.Margin.{f0coreOf, fuafOf, baseOf, amrOf, pOf, ltaMarginOf, sAt, ramAt, marginOf}
+use Rattle.margin.specs.Bounds.{RowBound, BordersBound, namedBits, f0coreMost, sMost, ramMost}
+use Rattle.margin.proofs.BoundLaws.{within-f0core, within-fuaf, within-base, within-amr, p-most, lta-margin-most, within-ram, within-start}
+use Rattle.margin.proofs.JudgedLaws.{border-bound, row-bound, stretch-long, stretch-bound, s-bound, good-factors, good-borders, good-nets}
 
 -- F0core of row i of a table
 abbrev pub f0coreAt : Table → (i : ℕ) → ℤ
@@ -27,14 +29,15 @@ between-low : {m n : ℕ} {z : ℤ} → Between m n z → pos 0 ≤ℤ z
 between-low {z} h = rw (h .is) (simp diffs (omega zarith))
 
 pub record NamedSmall (t : Table) (i : ℕ) : Type 0 where
-  pub f0core : natAbs (f0coreAt t i) < 2 ^ 48
-  pub fuaf : natAbs (fuafOf (rowAt t i) (f0coreAt t i)) < 2 ^ 48
-  pub base : natAbs (baseOf (rowAt t i) (f0coreAt t i)) < 2 ^ 48
-  pub amr : natAbs (amrOf (rowAt t i) (f0coreAt t i)) < 2 ^ 48
-  pub s : sAt (t .header) (t .borders) (t .factors) i < 2 ^ 48
-  pub lta-margin : natAbs (ltaMarginOf (rowAt t i) (f0coreAt t i) (amrOf (rowAt t i) (f0coreAt t i)) (sAt (t .header) (t .borders) (t .factors) i)) < 2 ^ 48
-  pub ram : natAbs (ramAt t i) < 2 ^ 48
-  pub start : natAbs (marginOf t i) < 2 ^ 48
+  pub f0core : natAbs (f0coreAt t i) < 2 ^ namedBits
+  pub fuaf : natAbs (fuafOf (rowAt t i) (f0coreAt t i)) < 2 ^ namedBits
+  pub base : natAbs (baseOf (rowAt t i) (f0coreAt t i)) < 2 ^ namedBits
+  pub amr : natAbs (amrOf (rowAt t i) (f0coreAt t i)) < 2 ^ namedBits
+  pub p : (b : ℕ) → b < t .header .borders → pOf (factorsAt t i) (borderAt t b) < 2 ^ namedBits
+  pub s : sAt (t .header) (t .borders) (t .factors) i < 2 ^ namedBits
+  pub lta-margin : natAbs (ltaMarginOf (rowAt t i) (f0coreAt t i) (amrOf (rowAt t i) (f0coreAt t i)) (sAt (t .header) (t .borders) (t .factors) i)) < 2 ^ namedBits
+  pub ram : natAbs (ramAt t i) < 2 ^ namedBits
+  pub start : natAbs (marginOf t i) < 2 ^ namedBits
 
 module _ {t : Table} (good : Good t) (i : ℕ) (below : i < t .header .rows) where
   -- the row's values, its F0core and its S
@@ -60,6 +63,13 @@ module _ {t : Table} (good : Good t) (i : ℕ) (below : i < t .header .rows) whe
       s-bound (stretch-bound (good-factors good) i below)
       (subst (λ (n : ℕ). BordersBound n (t .borders)) (sym (stretch-long (good-factors good) i below)) (good-borders good)) refl
 
+  pub p-in : (b : ℕ) → b < t .header .borders → pOf (factorsAt t i) (borderAt t b) ≤ 2 * factorMost
+  p-in b h =
+      let f = good-factors good in
+      let raw = getD (t .borders) b [] in
+      p-most (stretch-bound f i below .each)
+      (border-bound (length (factorsAt t i)) raw (subst (λ (n : ℕ). borderFits n raw ≡ true) (sym (stretch-long f i below)) (good .borders-fit b h)))
+
   -- over S, R x Fmax / 10000 - Fuaf, Fmax / 5 and Base
   abbrev top : ℕ
   top = shareMost * fmaxMost * 10 + (f0coreMost + flowMost * 100000)
@@ -79,6 +89,7 @@ module _ {t : Table} (good : Good t) (i : ℕ) (below : i < t .header .rows) whe
         fuaf = omega (arith, within-fuaf row-in-range f0core-in .abs);
         base = omega (arith, within-base row-in-range f0core-in .abs);
         amr = omega (arith, within-amr row-in-range f0core-in .abs);
+        p = λ b h. omega (arith, p-in b h);
         s = omega (arith, s-in);
         lta-margin = omega (arith, lta-margin-most row-in-range f0core-in fmax-low s .abs, s-in);
         ram = omega (arith, ram-in .abs);

@@ -59,6 +59,10 @@ pub record BordersBound (zones : ℕ) (borders : List (List ℤ)) : Type 0 where
   pub few : length borders ≤ bordersMost
   pub each : (b : ℕ) → b < length borders → borderFits zones (getD borders b []) ≡ true
 
+-- 01: each value named there stays under 2^48 in magnitude (`proofs/Small.antt`)
+abbrev pub namedBits : ℕ
+namedBits = 48
+
 -- the most that F0core, AMR, S and RAM can be, in magnitude
 abbrev pub f0coreMost : ℕ
 f0coreMost = flowMost * 100000 + zonesMost * (factorMost * netMost)

@@ -17,6 +17,7 @@ use Rattle.text.specs.Fields.{dash}
 use Rattle.text.specs.Written.{decimal, decimalℤ, linesText}
 use Rattle.text.proofs.DigitLaws.{decimal-most, decimal-u64, signed-most}
 use Rattle.text.proofs.PutLaws.{lines-most}
+use Rattle.margin.specs.Bounds.{namedBits}
 use Rattle.start.specs.Start.{kept}
 use Rattle.extraction.specs.Extraction.{Result, atcOf, leftOf}
 use Rattle.result.specs.Result.{atcText, marginText, resultText, refusalText}
@@ -30,12 +31,12 @@ pub record Bounded (r : Result) : Type 0 where
   pub atcs : (b : ℕ) → b < r .header .borders → atcOf r b < 10 ^ 12
   pub states : (i : ℕ) → i < r .header .rows → at (r .rows .states) i < 10
   -- grains
-  pub rams : (i : ℕ) → i < r .header .rows → natAbs (atℤ (r .rows .rams) i) < 2 ^ 48
-  pub lefts : (i : ℕ) → i < r .header .rows → leftOf r i < 2 ^ 48
+  pub rams : (i : ℕ) → i < r .header .rows → natAbs (atℤ (r .rows .rams) i) < 2 ^ namedBits
+  pub lefts : (i : ℕ) → i < r .header .rows → leftOf r i < 2 ^ namedBits
   pub rounds : r .outcome .rounds < 10 ^ 4
 
 -- 2^48 has 15 digits
-fifteen : {n : ℕ} → n < 2 ^ 48 → n < 10 ^ 15
+fifteen : {n : ℕ} → n < 2 ^ namedBits → n < 10 ^ 15
 fifteen h = lt-of-lt-of-le h (lit≤ tt)
 
 field-most : (t : Bool) (text : List ℕ) (k : ℕ) → 1 ≤ k → length text ≤ k → length (cond t text (dash ∷ [])) ≤ k

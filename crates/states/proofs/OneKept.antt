@@ -1,4 +1,4 @@
--- 01, "Row states": of rows whose factors differ by one and the same number exactly one is kept, unless their spread is under 5000. No contract cites this file.
+-- 01, "Row states": of rows whose factors differ by one and the same number exactly one is kept, unless their spread is under 5000, and its RAM is the lowest of theirs. No contract cites this file.
 -- The order of state 2, by RAM and then by index, is strict and total; the lowest of such rows is the one kept.
 -- Assumes nothing.
 use mathlib.Core.Path.{_≡_, refl, sym, ap, subst, _∙_}
@@ -76,17 +76,17 @@ module _ (rams : List ℤ) where
   lower-self a (inl h) = lt-self h
   lower-self a (inr h) = omega arith
 
+  not-lower : (j i : ℕ) → below rams j i ≡ false → atℤ rams i ≤ℤ atℤ rams j
+  not-lower j i e = go (ltZ (atℤ rams j) (atℤ rams i)) refl
+    where
+      go : (t : Bool) → ltZ (atℤ rams j) (atℤ rams i) ≡ t → atℤ rams i ≤ℤ atℤ rams j
+      go true u = true-false (lower-below j i (inl (ltZ-true u))) e
+      go false u = ltZ-false u
+
   -- of two rows one is below the other, or they are one row
   lower-total : (a b : ℕ) → below rams a b ≡ false → below rams b a ≡ false → a ≡ b
   lower-total a b p q = indices (le-both (not-lower b a q) (not-lower a b p))
     where
-      not-lower : (j i : ℕ) → below rams j i ≡ false → atℤ rams i ≤ℤ atℤ rams j
-      not-lower j i e = go (ltZ (atℤ rams j) (atℤ rams i)) refl
-        where
-          go : (t : Bool) → ltZ (atℤ rams j) (atℤ rams i) ≡ t → atℤ rams i ≤ℤ atℤ rams j
-          go true u = true-false (lower-below j i (inl (ltZ-true u))) e
-          go false u = ltZ-false u
-
       indices : atℤ rams a ≡ atℤ rams b → a ≡ b
       indices e = go (ltb a b) refl (ltb b a) refl
         where
@@ -191,6 +191,7 @@ pub record OneKept (h : Header) (f rams : List ℤ) (i : ℕ) : Type 0 where
   pub alike : shifted (stretch (h .zones) f kept) (stretch (h .zones) f i) ≡ true
   pub is-kept : stateOf h f rams kept ≡ 0
   pub only : (j : ℕ) → j < h .rows → shifted (stretch (h .zones) f j) (stretch (h .zones) f i) ≡ true → stateOf h f rams j ≡ 0 → j ≡ kept
+  pub lowest : (j : ℕ) → j < h .rows → shifted (stretch (h .zones) f j) (stretch (h .zones) f i) ≡ true → atℤ rams kept ≤ℤ atℤ rams j
 
 both-false : (a b : Bool) → (a ≡ true → b ≡ true → ⊥) → (a && b) ≡ false
 both-false true true h = absurd (h refl refl)
@@ -238,4 +239,5 @@ module _ {h : Header} {f : List ℤ} (bound : TableFactorsBound h f) (rams : Lis
             one-row j m l (r .in-range)
             (shifted-on (row j) (row i) (row m) (same-long j i l in-i) e (shifted-back (row m) (row i) (same-long m i (r .in-range) in-i) (r .is-member)))
             p zero-state;
+        lowest = λ j l e. not-lower rams j m (r .lowest j l e);
       }

@@ -1,0 +1,90 @@
+-- Demand 3, and that refusal 7 isn't given where CVA and IVA are 0, of the text that `answer` leaves: said of its bytes, for every text that it answers.
+-- Assumes nothing.
+use mathlib.Core.Path.{_≡_, refl, sym, ap, _∙_}
+use mathlib.Core.List.{List, [], _∷_, _++_}
+use mathlib.Core.Logic.{_⊎_, inl, inr}
+use Prim.Native.Char.{code}
+use Prim.Native.Nat.{ℕ, zero, suc, _<_}
+use native.Mathlib.Omega.{arith}
+use lib.IntN.{pos}
+use Rattle.numbers.specs.Below.{at}
+use Rattle.kinds.specs.Refusals.{Why, Judged, passed, refused, then, either}
+use Rattle.kinds.proofs.RefusalLaws.{then-passed, then-next, either-passed}
+use Rattle.text.specs.Written.{textOf, decimal, fieldsText, lineText, linesText}
+use Rattle.table.specs.Table.{Table, rowAt}
+use Rattle.reading.specs.Reading.{readText}
+use Rattle.reading.proofs.ReadLaws.{read-good}
+use Rattle.start.specs.Start.{judgeStart, judgeTable}
+use Rattle.extraction.specs.Extraction.{Result, outcomeOf}
+use Rattle.extraction.specs.Demand.{Demand3}
+use Rattle.extraction.proofs.Demand3.{accepted-demand-3}
+use Rattle.extraction.proofs.Seven.{NotSeven, no-refusal-7}
+use Rattle.extraction.proofs.ToldLaws.{Says, Told, told-passed, told-then, told-unless, told-first}
+use Rattle.result.specs.Result.{atcText, marginText, resultText, refusalText, answerText}
+
+-- ---- demand 3
+-- the text is a table's, and what is printed the text of a result that demand 3 is true of
+pub record TextDemand3 (text : List ℕ) : Type 0 where
+  pub table : Table
+  pub result : Result
+  pub read : readText text ≡ passed table
+  pub printed : answerText text ≡ resultText result
+  pub demand : Demand3 table result
+
+-- every text that is answered with results: an E line is the only other answer
+pub answer-demand-3 : (text : List ℕ) → (at (answerText text) 0 ≡ code "E" → ⊥) → TextDemand3 text
+unfolding answerText either refusalText lineText
+answer-demand-3 text = go (then (readText text) outcomeOf) refl
+  where
+    go : (j : Judged Result) → then (readText text) outcomeOf ≡ j → (at (either j resultText refusalText) 0 ≡ code "E" → ⊥) → TextDemand3 text
+    go (refused w) q h = absurd (h refl)
+    go (passed r) q h =
+        let a = then-passed (readText text) outcomeOf r q in
+        record {
+          table = a .it;
+          result = r;
+          read = a .first;
+          printed = either-passed resultText refusalText q;
+          demand = accepted-demand-3 (a .it) r (read-good text (a .it) (a .first)) (a .second);
+        }
+
+-- ---- no refusal 7
+-- the outcome of a table is refused by 5, 6 or 7 alone
+abbrev Late : ℕ → Type 0
+Late n = (n ≡ 5) ⊎ ((n ≡ 6) ⊎ (n ≡ 7))
+
+outcome-late : (t : Table) → Told Late (outcomeOf t)
+unfolding outcomeOf judgeStart
+outcome-late t =
+    told-then (judgeTable t) _
+    (told-unless _ _ _ (inl refl) (told-first _ _ _ _ (λ b. inr (inl refl)) (told-first _ _ _ _ (λ i. inr (inr refl)) (told-passed _))))
+    (λ m e. told-passed _)
+
+-- a result text begins with another letter
+result-letter : (r : Result) → at (resultText r) 0 ≡ code "E" → ⊥
+unfolding resultText linesText atcText marginText lineText
+result-letter r = go (r .header .borders) (r .header .rows) _
+  where
+    go : (borders rows : ℕ) (fields : List (List ℕ)) → at (linesText borders 0 (atcText r) ++ linesText rows 0 (marginText r) ++ lineText (code "R") fields) 0 ≡ code "E" → ⊥
+    go (suc borders) rows fields e = let z : _≡_ {A = ℕ} 65 69 = e in omega arith
+    go zero (suc rows) fields e = let z : _≡_ {A = ℕ} 77 69 = e in omega arith
+    go zero zero fields e = let z : _≡_ {A = ℕ} 82 69 = e in omega arith
+
+pub answer-not-7 : (text : List ℕ) (t : Table) → readText text ≡ passed t
+    → ((i : ℕ) → i < t .header .rows → rowAt t i .cva ≡ pos 0) → ((i : ℕ) → i < t .header .rows → rowAt t i .iva ≡ pos 0)
+    → at (answerText text) 0 ≡ code "E" → at (answerText text) 2 ≡ code "7" → ⊥
+unfolding answerText either refusalText lineText fieldsText decimal textOf
+answer-not-7 text t read cva iva e k = go (outcomeOf t) (outcome-late t .says) (no-refusal-7 t cva iva) (byte 0 ∙ e) (byte 2 ∙ k)
+  where
+    byte : (i : ℕ) → at (either (outcomeOf t) resultText refusalText) i ≡ at (answerText text) i
+    byte i = ap (λ (j : Judged Result). at (either j resultText refusalText) i) (sym (then-next outcomeOf read))
+
+    -- an E line's third byte is its number, where that is one digit
+    digit : (w : Why) (n : ℕ) → w .number ≡ n → at (refusalText w) 2 ≡ at (decimal n ++ fieldsText (decimal (w .place) ∷ [])) 0
+    digit w n q = ap (λ (m : ℕ). at (decimal m ++ fieldsText (decimal (w .place) ∷ [])) 0) q
+
+    go : (o : Judged Result) → Says Late o → NotSeven o → at (either o resultText refusalText) 0 ≡ code "E" → at (either o resultText refusalText) 2 ≡ code "7" → ⊥
+    go (passed r) late n e k = result-letter r e
+    go (refused w) (inl five) n e k = let z : _≡_ {A = ℕ} 53 55 = sym (digit w 5 five) ∙ k in omega arith
+    go (refused w) (inr (inl six)) n e k = let z : _≡_ {A = ℕ} 54 55 = sym (digit w 6 six) ∙ k in omega arith
+    go (refused w) (inr (inr seven)) n e k = n seven

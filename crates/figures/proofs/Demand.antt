@@ -1,0 +1,90 @@
+-- Demand 3 on the worked hour (01): it is true of its result, says what it should at the capacities, and rejects a result left at LTA and one after the first round only.
+-- Assumes nothing.
+use mathlib.Core.Path.{_≡_, refl}
+use mathlib.Core.List.{List, [], _∷_}
+use Prim.Native.Nat.{ℕ, zero, suc, _≤_, _<_}
+use native.Mathlib.Omega.{arith}
+use lib.Dec.{lit≤, lit<}
+use lib.IntN.{pos, _-ℤ_}
+use lib.Signed.{_≤ℤ_}
+use Rattle.kinds.specs.Refusals.{passed}
+use Rattle.table.specs.Table.{judgeLent}
+use Rattle.rounds.specs.Rounds.{State, next}
+use Rattle.margin.specs.Margin.{ramAt}
+use Rattle.start.specs.Start.{tableGrid, tableStart}
+use Rattle.extraction.specs.Extraction.{Result, leftOf, outcomeOf}
+use Rattle.extraction.specs.Demand.{loadOf, Demand3}
+use Rattle.extraction.proofs.Demand3.{lent-demand-3}
+use Rattle.figures.specs.Computing.{computing}
+use Rattle.figures.specs.Hour.{hourTable}
+
+-- the hour's rows, with rounds and a state of one's own
+abbrev ended : (rounds : ℕ) → State → Result
+ended rounds s =
+    record {
+      header = hourTable .header;
+      rows = record { rams = pos 70000000000 ∷ pos 9000000000 ∷ pos 12499500000 ∷ pos 100000000000 ∷ []; states = 0 ∷ 0 ∷ 1 ∷ 2 ∷ [] };
+      outcome = record { rounds = rounds; state = s };
+    }
+
+abbrev state : (margins x : List ℕ) → State
+state margins x = record { margins = margins; x = x }
+
+abbrev hourEnd : Result
+hourEnd = ended 21 (state (20000 ∷ 0 ∷ 0 ∷ 0 ∷ []) (2599999 ∷ 1800000 ∷ []))
+
+-- where it starts: at LTA, each margin RAM - S
+abbrev hourStart : State
+hourStart = tableStart hourTable
+
+both : (f g : ℕ → ℕ) → f 0 ≤ g 0 → f 1 ≤ g 1 → (b : ℕ) → b < 2 → f b ≤ g b
+both f g x y zero h = x
+both f g x y (suc zero) h = y
+both f g x y (suc (suc b)) h = absurd (omega arith)
+
+pub record HourDemand : Type 0 where
+  pub result : outcomeOf hourTable ≡ passed hourEnd
+  -- demand 3 of it ..
+  pub holds : Demand3 hourTable hourEnd
+  -- .. and at 2,599,000 and 1,800,000 kW: row 0 carries 69,980,000,000 grains of 70,000,000,000, and row 1 all of its 9,000,000,000
+  pub within-0 : loadOf hourTable 0 (2599000 ∷ 1800000 ∷ []) ≤ℤ ramAt hourTable 0
+  pub within-1 : loadOf hourTable 1 (2599000 ∷ 1800000 ∷ []) ≤ℤ ramAt hourTable 1
+  pub load-0 : loadOf hourTable 0 (2599000 ∷ 1800000 ∷ []) ≡ pos 69980000000
+  pub load-1 : loadOf hourTable 1 (2599000 ∷ 1800000 ∷ []) ≡ pos 9000000000
+  pub ram-0 : ramAt hourTable 0 ≡ pos 70000000000
+  pub ram-1 : ramAt hourTable 1 ≡ pos 9000000000
+  -- where border 0 ends, at 2,599,999 kW, row 0 carries its RAM less the 20,000 left
+  pub load-end : loadOf hourTable 0 (2599999 ∷ 1800000 ∷ []) ≡ pos 69999980000
+  pub left-end : loadOf hourTable 0 (2599999 ∷ 1800000 ∷ []) ≡ ramAt hourTable 0 -ℤ pos (leftOf hourEnd 0)
+  -- a build that leaves the exchanges at LTA, and one that does a full first round and none after
+  pub at-lta : Demand3 hourTable (ended 0 hourStart) → ⊥
+  pub one-round : Demand3 hourTable (ended 1 (next (tableGrid hourTable) hourStart)) → ⊥
+
+hour-end : outcomeOf hourTable ≡ passed hourEnd
+unfolding computing
+hour-end = refl
+
+hour-judged : judgeLent hourTable ≡ passed hourTable
+unfolding computing
+hour-judged = refl
+
+hour-holds : Demand3 hourTable hourEnd
+hour-holds = lent-demand-3 hourTable hourTable hourEnd hour-judged hour-end
+
+pub hour-demand : HourDemand
+unfolding computing
+hour-demand =
+    record {
+      result = hour-end;
+      holds = hour-holds;
+      within-0 = hour-holds .within (2599000 ∷ 1800000 ∷ []) (both _ _ (lit≤ tt) (lit≤ tt)) 0 (lit< tt) refl;
+      within-1 = hour-holds .within (2599000 ∷ 1800000 ∷ []) (both _ _ (lit≤ tt) (lit≤ tt)) 1 (lit< tt) refl;
+      load-0 = refl;
+      load-1 = refl;
+      ram-0 = refl;
+      ram-1 = refl;
+      load-end = refl;
+      left-end = refl;
+      at-lta = λ d. let e : _≡_ {A = ℕ} 1650000 0 = d .still 0 (lit< tt) in omega arith;
+      one-round = λ d. let e : _≡_ {A = ℕ} 425000 0 = d .still 0 (lit< tt) in omega arith;
+    }

@@ -1,0 +1,86 @@
+-- Two faults in one table, for each order that 01 names ("When the table is turned away"), and refusal 8's own number, by computation.
+-- A text's two faults, and 5, 6 and 7, are in `Refusals.antt`; room for results last is in `Lent.antt`.
+-- Assumes nothing.
+use mathlib.Core.Path.{_≡_, refl}
+use mathlib.Core.List.{List, [], _∷_, _++_}
+use Prim.Native.Nat.{ℕ}
+use lib.IntN.{ℤ, pos}
+use lib.ListN.{take}
+use Rattle.kinds.specs.Refusals.{Judged, refused, why}
+use Rattle.table.specs.Table.{Table, lent, judgeLent}
+use Rattle.reading.specs.Reading.{readLeft}
+use Rattle.writing.specs.Writing.{writeLeft}
+use Rattle.extraction.specs.Extraction.{extractLeft}
+use Rattle.figures.specs.Computing.{computing}
+use Rattle.figures.specs.Sheets.{sheet}
+use Rattle.figures.specs.Hour.{hourText, hourTable, bTwice}
+
+-- the hour's header with other tables
+abbrev judged : (z : List ℤ) → (b c : List (List ℤ)) → (f : List ℤ) → Judged Table
+judged z b c f = judgeLent (lent (hourTable .header) z b c f)
+
+-- one item fewer than the hour has
+abbrev shortZ : List ℤ
+shortZ = take 2 (hourTable .nets)
+
+abbrev shortB : List (List ℤ)
+shortB = take 1 (hourTable .borders)
+
+abbrev shortC : List (List ℤ)
+shortC = take 3 (hourTable .rows)
+
+abbrev shortF : List ℤ
+shortF = take 11 (hourTable .factors)
+
+-- the last item out of its range: a net position, a border to no zone, an Fmax of 0, a factor
+abbrev farZ : List ℤ
+farZ = shortZ ++ (pos 100000001 ∷ [])
+
+abbrev farB : List (List ℤ)
+farB = shortB ++ ((pos 1 ∷ pos 3 ∷ pos 200 ∷ []) ∷ [])
+
+abbrev farC : List (List ℤ)
+farC = shortC ++ ((pos 0 ∷ pos 0 ∷ pos 130000 ∷ pos 0 ∷ pos 7000 ∷ pos 0 ∷ pos 0 ∷ []) ∷ [])
+
+-- the hour with its second border as its first
+abbrev twiceText : List ℕ
+twiceText =
+    sheet "H 3 2 1/Z 0 500000/Z 1 -200000/Z 2 -300000/B 0 0 1 100/B 1 0 1 200/C 0 1000000 200000 200000 150000 7000 0 80000 30000 10000 0/"
+
+pub record Ordered : Type 0 where
+  -- refusal 8 has the number 8, in reading, on lent tables, and for each result
+  pub eight-read : readLeft hourText [] [] [] [] .answer ≡ refused (why 8 3)
+  pub eight-lent : writeLeft (lent (hourTable .header) [] [] [] []) [] .answer ≡ refused (why 8 3)
+  pub eight-text : writeLeft hourTable [] .answer ≡ refused (why 8 252)
+  pub eight-atcs : extractLeft hourTable [] [] .answer ≡ refused (why 8 2)
+  -- short tables in the order Z, B, C, factors
+  pub short-z-b : judged shortZ shortB (hourTable .rows) (hourTable .factors) ≡ refused (why 8 3)
+  pub short-b-c : judged (hourTable .nets) shortB shortC (hourTable .factors) ≡ refused (why 8 2)
+  pub short-c-f : judged (hourTable .nets) (hourTable .borders) shortC shortF ≡ refused (why 8 4)
+  -- lengths before ranges, whichever table it is
+  pub short-before-far : judged farZ farB farC shortF ≡ refused (why 8 12)
+  -- records by the line they would have: Z lines 2 to 4, B lines 5 and 6, C lines 7 to 10
+  pub far-z-b : judged farZ farB (hourTable .rows) (hourTable .factors) ≡ refused (why 3 4)
+  pub far-b-c : judged (hourTable .nets) farB farC (hourTable .factors) ≡ refused (why 3 6)
+  -- 3 before 4, also where the border comes first
+  pub far-c-twice : judged (hourTable .nets) bTwice farC (hourTable .factors) ≡ refused (why 3 10)
+  -- reading: 4 before 8
+  pub twice-before-short : readLeft twiceText [] [] [] [] .answer ≡ refused (why 4 1)
+
+pub ordered : Ordered
+unfolding computing
+ordered =
+    record {
+      eight-read = refl;
+      eight-lent = refl;
+      eight-text = refl;
+      eight-atcs = refl;
+      short-z-b = refl;
+      short-b-c = refl;
+      short-c-f = refl;
+      short-before-far = refl;
+      far-z-b = refl;
+      far-b-c = refl;
+      far-c-twice = refl;
+      twice-before-short = refl;
+    }
