@@ -37,13 +37,16 @@ enum {
 /* Buffers of numbers stand before buffers of bytes, so each is aligned. */
 enum { Z, B, C, F, ATC, LEFT, FLOWS, TEXT, OUT, BUFFERS };
 
+typedef int64_t border_record[KERAVNOTH_B_ITEMS];
+typedef int64_t row_record[KERAVNOTH_C_ITEMS];
+
 static const size_t item_bytes[BUFFERS] = {
     [Z] = sizeof(int64_t),
-    [B] = sizeof(int64_t[3]),
-    [C] = sizeof(int64_t[7]),
+    [B] = sizeof(border_record),
+    [C] = sizeof(row_record),
     [F] = sizeof(int64_t),
-    [ATC] = sizeof(int64_t[1]),
-    [LEFT] = sizeof(int64_t[3]),
+    [ATC] = sizeof(int64_t[KERAVNOTH_ATC_ITEMS]),
+    [LEFT] = sizeof(int64_t[KERAVNOTH_LEFT_ITEMS]),
     [FLOWS] = sizeof(int64_t),
     [TEXT] = 1,
     [OUT] = 1,
@@ -82,8 +85,8 @@ static int malformed(const char *what)
 static size_t make(const struct request *r, unsigned char *const *at, uint64_t *answer)
 {
     int64_t *z = (int64_t *)at[Z];
-    int64_t (*b)[3] = (int64_t (*)[3])at[B];
-    int64_t (*c)[7] = (int64_t (*)[7])at[C];
+    border_record *b = (border_record *)at[B];
+    row_record *c = (row_record *)at[C];
     int64_t *f = (int64_t *)at[F];
     size_t nz = r->count[Z], nb = r->count[B], nc = r->count[C], nf = r->count[F];
 
@@ -100,9 +103,9 @@ static size_t make(const struct request *r, unsigned char *const *at, uint64_t *
     if (r->call == EXTRACT) {
         struct KeravnothExtracted said = keravnoth_extract(
             r->zones, r->borders, r->rows,
-            z, nz, (const int64_t (*)[3])b, nb, (const int64_t (*)[7])c, nc, f, nf,
-            (int64_t (*)[1])at[ATC], r->count[ATC],
-            (int64_t (*)[3])at[LEFT], r->count[LEFT]);
+            z, nz, (const border_record *)b, nb, (const row_record *)c, nc, f, nf,
+            (int64_t (*)[KERAVNOTH_ATC_ITEMS])at[ATC], r->count[ATC],
+            (int64_t (*)[KERAVNOTH_LEFT_ITEMS])at[LEFT], r->count[LEFT]);
         answer[0] = said.number;
         answer[1] = said.place;
         answer[2] = said.rounds;
@@ -111,7 +114,7 @@ static size_t make(const struct request *r, unsigned char *const *at, uint64_t *
     if (r->call == CORNER_FLOWS) {
         struct KeravnothFlows said = keravnoth_corner_flows(
             r->zones, r->borders, r->rows,
-            z, nz, (const int64_t (*)[3])b, nb, (const int64_t (*)[7])c, nc, f, nf,
+            z, nz, (const border_record *)b, nb, (const row_record *)c, nc, f, nf,
             r->row, (int64_t *)at[FLOWS], r->count[FLOWS]);
         answer[0] = said.number;
         answer[1] = said.place;
@@ -122,17 +125,17 @@ static size_t make(const struct request *r, unsigned char *const *at, uint64_t *
     if (r->call == WRITE)
         said = keravnoth_write(
             r->zones, r->borders, r->rows,
-            z, nz, (const int64_t (*)[3])b, nb, (const int64_t (*)[7])c, nc, f, nf,
+            z, nz, (const border_record *)b, nb, (const row_record *)c, nc, f, nf,
             at[OUT], r->count[OUT]);
     else if (r->call == RESULT_TEXT)
         said = keravnoth_result_text(
             r->zones, r->borders, r->rows,
-            z, nz, (const int64_t (*)[3])b, nb, (const int64_t (*)[7])c, nc, f, nf,
+            z, nz, (const border_record *)b, nb, (const row_record *)c, nc, f, nf,
             at[OUT], r->count[OUT]);
     else if (r->call == CORNER_TEXT)
         said = keravnoth_corner_text(
             r->zones, r->borders, r->rows,
-            z, nz, (const int64_t (*)[3])b, nb, (const int64_t (*)[7])c, nc, f, nf,
+            z, nz, (const border_record *)b, nb, (const row_record *)c, nc, f, nf,
             r->row, at[OUT], r->count[OUT]);
     else
         said = keravnoth_answer(at[TEXT], r->count[TEXT], at[OUT], r->count[OUT]);

@@ -5,9 +5,14 @@
  * use of the long-term rights loads it most: the line of its corner sheet with
  * the largest flow.  A refusal goes to standard error.
  *
- *   cc -std=c11 -Wall -Wextra -Werror -Iinclude c/hour.c libkeravnoth.a -o hour
+ *   ./build
+ *   c/build c/hour.c target/lib/libkeravnoth.a hour
+ *   c/run ./hour hours/worked.tsv
  *
- * on x86-64; c/build and c/run do it elsewhere too.
+ * on every machine; on x86-64, after ./install PREFIX, also
+ *
+ *   cc -std=c11 c/hour.c -IPREFIX/include -LPREFIX/lib -lkeravnoth -o hour
+ *   ./hour hours/worked.tsv
  *
  * Exit code: 0 all printed, 1 the table is refused, 2 the file cannot be read or
  * the lines cannot be printed.
@@ -21,25 +26,25 @@
 /* One byte more than is ever taken, so that a longer file is seen as such. */
 static uint8_t text[KERAVNOTH_TEXT_MOST + 1];
 static int64_t z[KERAVNOTH_ZONES_MOST];
-static int64_t b[KERAVNOTH_BORDERS_MOST][3];
-static int64_t c[KERAVNOTH_ROWS_MOST][7];
+static int64_t b[KERAVNOTH_BORDERS_MOST][KERAVNOTH_B_ITEMS];
+static int64_t c[KERAVNOTH_ROWS_MOST][KERAVNOTH_C_ITEMS];
 static int64_t f[KERAVNOTH_FACTORS_MOST];
-static int64_t atc[KERAVNOTH_BORDERS_MOST][1];
-static int64_t left[KERAVNOTH_ROWS_MOST][3];
+static int64_t atc[KERAVNOTH_BORDERS_MOST][KERAVNOTH_ATC_ITEMS];
+static int64_t left[KERAVNOTH_ROWS_MOST][KERAVNOTH_LEFT_ITEMS];
 static int64_t flows[KERAVNOTH_CORNERS_MOST];
 
 static const char *meaning(uint32_t number)
 {
     switch (number) {
-    case 1: return "more than 65,536 bytes";
-    case 2: return "form, kind, index or field count of a line";
-    case 3: return "a value outside its range, line";
-    case 4: return "same from and to as an earlier border, border";
-    case 5: return "no row is kept";
-    case 6: return "no kept row limits border";
-    case 7: return "starting margin below 0, row";
-    case 8: return "lent buffer too short, items needed";
-    case 9: return "no corner sheet: over 12 borders, or no such row";
+    case KERAVNOTH_TOO_LONG: return "more than 65,536 bytes";
+    case KERAVNOTH_WRONG_FORM: return "form, kind, index or field count of a line";
+    case KERAVNOTH_OUT_OF_RANGE: return "a value outside its range, line";
+    case KERAVNOTH_GIVEN_TWICE: return "same from and to as an earlier border, border";
+    case KERAVNOTH_NO_ROW_KEPT: return "no row is kept";
+    case KERAVNOTH_BORDER_UNLIMITED: return "no kept row limits border";
+    case KERAVNOTH_MARGIN_BELOW_0: return "starting margin below 0, row";
+    case KERAVNOTH_BUFFER_TOO_SHORT: return "lent buffer too short, items needed";
+    case KERAVNOTH_NO_CORNER_SHEET: return "no corner sheet: over 12 borders, or no such row";
     default: return "unknown";
     }
 }
@@ -50,21 +55,21 @@ static int refused(uint32_t number, size_t place)
     return 1;
 }
 
-/* C before C23 does not turn int64_t (*)[3] into const int64_t (*)[3] by itself,
-   so the casts say it. */
+/* C before C23 does not turn a pointer to a record into one to a const record by
+   itself, so the casts say it. */
 static int print_capacities(const struct KeravnothRead *table)
 {
     struct KeravnothExtracted work = keravnoth_extract(
         table->zones, table->borders, table->rows,
         z, KERAVNOTH_ZONES_MOST,
-        (const int64_t (*)[3])b, KERAVNOTH_BORDERS_MOST,
-        (const int64_t (*)[7])c, KERAVNOTH_ROWS_MOST,
+        (const int64_t (*)[KERAVNOTH_B_ITEMS])b, KERAVNOTH_BORDERS_MOST,
+        (const int64_t (*)[KERAVNOTH_C_ITEMS])c, KERAVNOTH_ROWS_MOST,
         f, KERAVNOTH_FACTORS_MOST,
         atc, KERAVNOTH_BORDERS_MOST, left, KERAVNOTH_ROWS_MOST);
-    if (work.number != 0)
+    if (work.number != KERAVNOTH_ACCEPTED)
         return refused(work.number, work.place);
     for (size_t border = 0; border < table->borders; border++)
-        printf("A\t%zu\t%" PRId64 "\n", border, atc[border][0]);
+        printf("A\t%zu\t%" PRId64 "\n", border, atc[border][KERAVNOTH_ATC_MW]);
     return 0;
 }
 
@@ -74,11 +79,11 @@ static int print_heaviest_corners(const struct KeravnothRead *table)
         struct KeravnothFlows sheet = keravnoth_corner_flows(
             table->zones, table->borders, table->rows,
             z, KERAVNOTH_ZONES_MOST,
-            (const int64_t (*)[3])b, KERAVNOTH_BORDERS_MOST,
-            (const int64_t (*)[7])c, KERAVNOTH_ROWS_MOST,
+            (const int64_t (*)[KERAVNOTH_B_ITEMS])b, KERAVNOTH_BORDERS_MOST,
+            (const int64_t (*)[KERAVNOTH_C_ITEMS])c, KERAVNOTH_ROWS_MOST,
             f, KERAVNOTH_FACTORS_MOST,
             row, flows, KERAVNOTH_CORNERS_MOST);
-        if (sheet.number != 0)
+        if (sheet.number != KERAVNOTH_ACCEPTED)
             return refused(sheet.number, sheet.place);
         size_t most = 0;
         for (size_t corner = 1; corner < sheet.corners; corner++)
@@ -114,7 +119,7 @@ int main(int argc, char **argv)
         text, n,
         z, KERAVNOTH_ZONES_MOST, b, KERAVNOTH_BORDERS_MOST,
         c, KERAVNOTH_ROWS_MOST, f, KERAVNOTH_FACTORS_MOST);
-    if (table.number != 0)
+    if (table.number != KERAVNOTH_ACCEPTED)
         return refused(table.number, table.place);
 
     int status = corners ? print_heaviest_corners(&table) : print_capacities(&table);

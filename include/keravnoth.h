@@ -1,5 +1,6 @@
 /*
  * keravnoth: fallback electricity capacities (ATCs) from one hour's table.
+ * The rules are those of document 01 (docs/RULES.md has them in short).
  *
  * UNITS
  *   kW               net positions, Fmax, FRM, Fref, F0all, CVA, IVA
@@ -8,7 +9,8 @@
  *   grains           RAM, margins and flows; a kW is 100,000 grains (0.01 W each)
  *   ten-thousandths  R
  *
- * RECORDS (no record holds its index; ranges include both ends)
+ * RECORDS (no record holds its index; ranges include both ends; the fields have
+ * names below, KERAVNOTH_B_FROM and so on)
  *   header   zones 2..16, borders 1..40, rows 1..200
  *   z        one int64_t a zone: reference net position, -100000000..100000000
  *   b        from zone, to zone (both exist, not equal), LTA 0..10000
@@ -27,7 +29,7 @@
  *            of (from factor - to factor) * LTA in kW, without F0core, and may be
  *            negative
  *
- * REFUSALS (field number of every answer; 0: no refusal)
+ * REFUSALS (field number of every answer; 0: no refusal; names below)
  *   1  more than 65,536 bytes                                       place 0
  *   2  the first faulty line has the wrong form, kind, index or
  *      field count, is missing, has no LF, or is extra              place: line, from 1
@@ -54,13 +56,34 @@
  * LENT MEMORY
  *   Each pointer goes with the count of its items (records for b, c, atc, left;
  *   numbers for z, f and flows; bytes for text and for out that takes text) and
- *   points to that many; it is aligned for its type and not NULL, also where the
- *   count is 0.  What is written to overlaps nothing else that is lent.  Nothing
- *   is kept after the call, nothing is allocated.
+ *   points to that many; it is aligned for its type.  What is written to overlaps
+ *   nothing else that is lent.  Nothing is kept after the call, nothing is
+ *   allocated.
+ *   A pointer is not NULL, also where its count is 0: a count of 0 is allowed
+ *   everywhere, with any pointer to an object of the type.  (NULL with count 0
+ *   was tried in every call and answers as a count of 0 does; the proof does not
+ *   speak of it, and another compiler may use that no pointer is NULL.)
  *   A refused call leaves every lent buffer as it was.  After success what lies
  *   beyond the items needed is as it was.  A lent table may be longer than its
  *   header says; what lies beyond is not looked at.
  *   On refusal the fields after place are 0; without a refusal place is 0.
+ *
+ * THREADS
+ *   Calls may run in several threads at once, as long as nothing that one call
+ *   writes to is lent to another at the same time.  The library has no state: no
+ *   static variable, no heap, no file; a call touches what it is lent and its own
+ *   stack, and calls nothing but memcpy and memset.
+ *
+ * STACK
+ *   Working memory is on the stack.  KERAVNOTH_READ_STACK and so on are the bytes
+ *   that a call takes at most below its caller's frame, in whole KiB.  They are
+ *   measured, not proved: c/check.c paints the stack, makes the call on every
+ *   example hour and stored case, and looks how much of the paint is gone, on the
+ *   x86-64 code of the library.  A thread that calls needs so much beyond its own
+ *   frames.
+ *
+ * VERSION
+ *   KERAVNOTH_VERSION rises with every change of this file that a caller can see.
  */
 #ifndef KERAVNOTH_H
 #define KERAVNOTH_H
@@ -72,15 +95,96 @@
 extern "C" {
 #endif
 
+#define KERAVNOTH_VERSION 1
+
+/* The largest table, in items. */
 enum {
     KERAVNOTH_ZONES_MOST = 16,
     KERAVNOTH_BORDERS_MOST = 40,
     KERAVNOTH_ROWS_MOST = 200,
     KERAVNOTH_FACTORS_MOST = 3200,
-    KERAVNOTH_TEXT_MOST = 65536,
     KERAVNOTH_CORNER_BORDERS_MOST = 12,
-    KERAVNOTH_CORNERS_MOST = 4096,
+    KERAVNOTH_CORNERS_MOST = 4096
+};
+
+/* The longest texts, in bytes: what keravnoth_read looks at, and what each call
+   writes at most.  A buffer of this length is never too short; each is proved. */
+enum {
+    KERAVNOTH_TEXT_MOST = 65536,
+    KERAVNOTH_WRITE_MOST = 40008,
+    KERAVNOTH_RESULT_TEXT_MOST = 8927,
+    KERAVNOTH_ANSWER_MOST = 8927,
     KERAVNOTH_CORNER_TEXT_MOST = 110592
+};
+
+/* Refusals. */
+enum {
+    KERAVNOTH_ACCEPTED = 0,
+    KERAVNOTH_TOO_LONG = 1,
+    KERAVNOTH_WRONG_FORM = 2,
+    KERAVNOTH_OUT_OF_RANGE = 3,
+    KERAVNOTH_GIVEN_TWICE = 4,
+    KERAVNOTH_NO_ROW_KEPT = 5,
+    KERAVNOTH_BORDER_UNLIMITED = 6,
+    KERAVNOTH_MARGIN_BELOW_0 = 7,
+    KERAVNOTH_BUFFER_TOO_SHORT = 8,
+    KERAVNOTH_NO_CORNER_SHEET = 9
+};
+
+/* The fields of a record of b, and how many there are. */
+enum {
+    KERAVNOTH_B_FROM,
+    KERAVNOTH_B_TO,
+    KERAVNOTH_B_LTA,
+    KERAVNOTH_B_ITEMS
+};
+
+/* .. of c; R where "-" is written. */
+enum {
+    KERAVNOTH_C_FMAX,
+    KERAVNOTH_C_FRM,
+    KERAVNOTH_C_FREF,
+    KERAVNOTH_C_F0ALL,
+    KERAVNOTH_C_R,
+    KERAVNOTH_C_CVA,
+    KERAVNOTH_C_IVA,
+    KERAVNOTH_C_ITEMS,
+    KERAVNOTH_R_DASH = -1
+};
+
+/* .. of atc. */
+enum {
+    KERAVNOTH_ATC_MW,
+    KERAVNOTH_ATC_ITEMS
+};
+
+/* .. of left; the states; the margin left where the state is not 0. */
+enum {
+    KERAVNOTH_LEFT_STATE,
+    KERAVNOTH_LEFT_RAM,
+    KERAVNOTH_LEFT_MARGIN,
+    KERAVNOTH_LEFT_ITEMS,
+    KERAVNOTH_STATE_KEPT = 0,
+    KERAVNOTH_STATE_UNDER_5 = 1,
+    KERAVNOTH_STATE_PARALLEL = 2,
+    KERAVNOTH_NO_MARGIN = -1
+};
+
+/* Grains to a kW, kW to a MW. */
+enum {
+    KERAVNOTH_GRAINS_PER_KW = 100000,
+    KERAVNOTH_KW_PER_MW = 1000
+};
+
+/* The stack that each call needs, in bytes: see STACK above. */
+enum {
+    KERAVNOTH_READ_STACK = 3072,
+    KERAVNOTH_WRITE_STACK = 1024,
+    KERAVNOTH_EXTRACT_STACK = 79872,
+    KERAVNOTH_RESULT_TEXT_STACK = 81920,
+    KERAVNOTH_ANSWER_STACK = 119808,
+    KERAVNOTH_CORNER_FLOWS_STACK = 2048,
+    KERAVNOTH_CORNER_TEXT_STACK = 34816
 };
 
 /* Reading: the header of the table that was read. */
@@ -117,8 +221,8 @@ struct KeravnothFlows {
 struct KeravnothRead keravnoth_read(
     const uint8_t *text, size_t n,
     int64_t *z, size_t nz,
-    int64_t (*b)[3], size_t nb,
-    int64_t (*c)[7], size_t nc,
+    int64_t (*b)[KERAVNOTH_B_ITEMS], size_t nb,
+    int64_t (*c)[KERAVNOTH_C_ITEMS], size_t nc,
     int64_t *f, size_t nf);
 
 /* Writes the tables as text; text that is read and written again is the same.
@@ -126,8 +230,8 @@ struct KeravnothRead keravnoth_read(
 struct KeravnothWritten keravnoth_write(
     size_t zones, size_t borders, size_t rows,
     const int64_t *z, size_t nz,
-    const int64_t (*b)[3], size_t nb,
-    const int64_t (*c)[7], size_t nc,
+    const int64_t (*b)[KERAVNOTH_B_ITEMS], size_t nb,
+    const int64_t (*c)[KERAVNOTH_C_ITEMS], size_t nc,
     const int64_t *f, size_t nf,
     uint8_t *out, size_t nout);
 
@@ -135,19 +239,19 @@ struct KeravnothWritten keravnoth_write(
 struct KeravnothExtracted keravnoth_extract(
     size_t zones, size_t borders, size_t rows,
     const int64_t *z, size_t nz,
-    const int64_t (*b)[3], size_t nb,
-    const int64_t (*c)[7], size_t nc,
+    const int64_t (*b)[KERAVNOTH_B_ITEMS], size_t nb,
+    const int64_t (*c)[KERAVNOTH_C_ITEMS], size_t nc,
     const int64_t *f, size_t nf,
-    int64_t (*atc)[1], size_t natc,
-    int64_t (*left)[3], size_t nleft);
+    int64_t (*atc)[KERAVNOTH_ATC_ITEMS], size_t natc,
+    int64_t (*left)[KERAVNOTH_LEFT_ITEMS], size_t nleft);
 
 /* The same as text: A lines (index, ATC), M lines (index, state, RAM, margin left
    or "-"), one R line (rounds).  Refusals 3 to 8. */
 struct KeravnothWritten keravnoth_result_text(
     size_t zones, size_t borders, size_t rows,
     const int64_t *z, size_t nz,
-    const int64_t (*b)[3], size_t nb,
-    const int64_t (*c)[7], size_t nc,
+    const int64_t (*b)[KERAVNOTH_B_ITEMS], size_t nb,
+    const int64_t (*c)[KERAVNOTH_C_ITEMS], size_t nc,
     const int64_t *f, size_t nf,
     uint8_t *out, size_t nout);
 
@@ -162,8 +266,8 @@ struct KeravnothWritten keravnoth_answer(
 struct KeravnothFlows keravnoth_corner_flows(
     size_t zones, size_t borders, size_t rows,
     const int64_t *z, size_t nz,
-    const int64_t (*b)[3], size_t nb,
-    const int64_t (*c)[7], size_t nc,
+    const int64_t (*b)[KERAVNOTH_B_ITEMS], size_t nb,
+    const int64_t (*c)[KERAVNOTH_C_ITEMS], size_t nc,
     const int64_t *f, size_t nf,
     size_t row,
     int64_t *out, size_t nout);
@@ -173,8 +277,8 @@ struct KeravnothFlows keravnoth_corner_flows(
 struct KeravnothWritten keravnoth_corner_text(
     size_t zones, size_t borders, size_t rows,
     const int64_t *z, size_t nz,
-    const int64_t (*b)[3], size_t nb,
-    const int64_t (*c)[7], size_t nc,
+    const int64_t (*b)[KERAVNOTH_B_ITEMS], size_t nb,
+    const int64_t (*c)[KERAVNOTH_C_ITEMS], size_t nc,
     const int64_t *f, size_t nf,
     size_t row,
     uint8_t *out, size_t nout);

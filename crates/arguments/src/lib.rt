@@ -36,3 +36,18 @@ pub fn number(i: usize) -> Held {
         Number::Bad(_) => Held::Other,
     }
 }
+
+// The descriptor that argument i holds, -1 where it holds none.
+pub fn descriptor(i: usize) -> i32 {
+    match number(i) {
+        Held::Number(v) => narrow(v),
+        Held::Other => -1,
+    }
+}
+
+fn narrow(v: u64) -> i32 {
+    if v > 2147483647 {
+        return -1;
+    }
+    v as i32
+}

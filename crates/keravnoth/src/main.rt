@@ -1,6 +1,9 @@
 // The program: a table on standard input, its answer on standard output (01, "Result text").
 // `keravnoth rewrite` writes the table again instead, `keravnoth corners` its corner sheets, of all rows or of the one that is named
-// (02, E1). Where reading or writing fails, a message on standard error says so: a table that was not read to its end is not answered.
+// (02, E1). What a refusal means, and that reading or writing failed, is said on standard error: a table that was not read to its end
+// is not answered. With `--status-fd N` the program's last word is its status, on descriptor N.
+mod options;
+
 ghost use mathlib.Core.Bool.{cond};
 ghost use Prim.Native.Nat.{_≤_};
 ghost use lib.ListN.{length};
@@ -8,26 +11,15 @@ ghost use Rattle.kinds.specs.Limits.{bytesMost};
 ghost use Rattle.result.specs.Result.{answerText};
 ghost use Rattle.prints.specs.Printed.{rewritten, sheetRoom, Printed};
 ghost use Rattle.keravnoth.specs.Taken.{within};
-use arguments::Held;
-use libc::STDERR_FILENO;
 use libc::STDIN_FILENO;
 use libc::STDOUT_FILENO;
-use sheets::Rows;
+use options::Asked;
+use options::Command;
+use options::Task;
+use sheets::Ended;
 
 // One byte more than a table may have, so that a longer one is seen.
 const TEXT_ROOM: usize = 65537;
-
-enum Task {
-    Answer,
-    Rewrite,
-    Corners(Rows),
-}
-
-// What the arguments ask for.
-enum Asked {
-    Task(Task),
-    Help,
-}
 
 // What came of reading: so many bytes in front of the lent text, or an error.
 enum Input {
@@ -36,78 +28,77 @@ enum Input {
 }
 
 fn main() {
-    match read_arguments() {
+    let command = options::read_arguments();
+    let ended = obey(command);
+    tell(command.status, ended)
+}
+
+fn obey(command: Command) -> Ended {
+    if command.wrong > 0 {
+        words::misuse(command.wrong);
+        return Ended::Failed;
+    }
+    let asked = command.asked;
+    match asked {
         Asked::Task(task) => run(task),
-        Asked::Help => help(),
+        Asked::Help => written(words::usage(STDOUT_FILENO)),
+        Asked::Version => written(words::version(STDOUT_FILENO)),
     }
 }
 
-fn read_arguments() -> Asked {
-    let count = os::arg_count();
-    if count < 2 {
-        return Asked::Task(Task::Answer);
+fn written(all: bool) -> Ended {
+    if all {
+        return Ended::Answered;
     }
-    if arguments::is(1, b"corners") {
-        return read_rows(count);
-    }
-    if count == 2 && arguments::is(1, b"rewrite") {
-        return Asked::Task(Task::Rewrite);
-    }
-    Asked::Help
+    explain(Ended::Failed)
 }
 
-fn read_rows(count: usize) -> Asked {
-    if count == 2 {
-        return Asked::Task(Task::Corners(Rows::Every));
-    }
-    if count == 3 {
-        if let Held::Number(row) = arguments::number(2) {
-            return Asked::Task(Task::Corners(Rows::One(row as usize)));
-        }
-    }
-    Asked::Help
-}
-
-fn help() {
-    io::write_all(
-        STDERR_FILENO,
-        b"usage: keravnoth < TABLE              the result text, or a line E, number, place\n",
-    );
-    io::write_all(
-        STDERR_FILENO,
-        b"       keravnoth rewrite < TABLE      the table, written again\n",
-    );
-    io::write_all(
-        STDERR_FILENO,
-        b"       keravnoth corners < TABLE      every corner's flow on each row\n",
-    );
-    io::write_all(
-        STDERR_FILENO,
-        b"       keravnoth corners ROW < TABLE  .. on one row\n",
-    );
-}
-
-fn run(task: Task) {
+fn run(task: Task) -> Ended {
     let mut text = [0u8; TEXT_ROOM];
     let mut out = [0u8; sheets::ROOM];
     run_in(task, &mut text, &mut out)
 }
 
 // The memory is made in `run`, and not here, where goals would spell it out.
-fn run_in(task: Task, text: &mut [u8], out: &mut [u8])
+fn run_in(task: Task, text: &mut [u8], out: &mut [u8]) -> Ended
     requires { ⌜ sheetRoom ≤ length (now out) ⌝ }
 {
     let Input::Bytes(n) = read_text(text) else {
         os::fail(b"keravnoth: reading");
-        return;
+        return Ended::Failed;
     };
-    // What was written before an error stays written: the message is all that can be said.
-    if !print(task, &text[..n], out) {
-        os::fail(b"keravnoth: writing");
+    explain(print(task, &text[..n], out))
+}
+
+// Says on standard error what people need to know. What was written before an error stays written: the message is all that can be said.
+fn explain(ended: Ended) -> Ended {
+    match ended {
+        Ended::Answered => {}
+        Ended::Refused(number, place) => words::refusal(number, place),
+        Ended::Failed => os::fail(b"keravnoth: writing"),
+    }
+    ended
+}
+
+// Writes the status, a digit on a line: a program of this language has no exit status, so whoever starts it hands this on.
+fn tell(fd: i32, ended: Ended) {
+    if fd < 0 {
+        return;
+    }
+    match ended {
+        Ended::Answered => tell_digit(fd, b"0\n"),
+        Ended::Refused(_, _) => tell_digit(fd, b"1\n"),
+        Ended::Failed => tell_digit(fd, b"2\n"),
     }
 }
 
-fn print(task: Task, text: &[u8], out: &mut [u8]) -> bool
+fn tell_digit(fd: i32, line: &[u8]) {
+    if !io::write_all(fd, line) {
+        os::fail(b"keravnoth: status");
+    }
+}
+
+fn print(task: Task, text: &[u8], out: &mut [u8]) -> Ended
     requires { ⌜ sheetRoom ≤ length (now out) ⌝ }
 {
     match task {
@@ -117,11 +108,11 @@ fn print(task: Task, text: &[u8], out: &mut [u8]) -> bool
     }
 }
 
-fn print_text(rewrite: bool, text: &[u8], out: &mut [u8]) -> bool
+fn print_text(rewrite: bool, text: &[u8], out: &mut [u8]) -> Ended
     requires { ⌜ bytesMost ≤ length (now out) ⌝ }
 {
     let m = put(rewrite, text, out);
-    io::write_all(STDOUT_FILENO, &out[..m])
+    sheets::put(&out[..m])
 }
 
 // The table that was read, or its answer; where it is refused, the E line.

@@ -1,8 +1,10 @@
-// Prints corner sheets (02, E1) on standard output, row by row: no buffer holds more than one row's sheet.
+// Prints on standard output: a text at once, or corner sheets (02, E1) row by row, so that no buffer holds more than one row's sheet.
 // What each row's bytes are is promised by `prints`; that together they are the sheet of the text is proved there.
+ghost use mathlib.Core.Path.{_≡_};
 ghost use Prim.Native.Nat.{_≤_};
 ghost use lib.ListN.{length};
 ghost use Rattle.prints.specs.Printed.{sheetRoom};
+ghost use Rattle.sheets.specs.Heard.{refusalIn, heardOf};
 use kinds::Border;
 use kinds::BorderRecord;
 use kinds::Header;
@@ -10,6 +12,7 @@ use kinds::Read;
 use kinds::Row;
 use kinds::RowRecord;
 use libc::STDOUT_FILENO;
+use text::Number;
 
 // No row's sheet is longer: a line has at most 27 bytes.
 pub const ROOM: usize = cornertext::SHEET_MOST * 27;
@@ -20,8 +23,50 @@ pub enum Rows {
     One(usize),
 }
 
-// The sheets of the table that the text holds, or the E line. False where not all could be written.
-pub fn print(text: &[u8], rows: Rows, out: &mut [u8]) -> bool
+// What came of printing.
+pub enum Ended {
+    Answered,
+    // A line E stands there: its number and place.
+    Refused(u64, u64),
+    // Not all could be written.
+    Failed,
+}
+
+// Prints a text.
+pub fn put(printed: &[u8]) -> Ended {
+    if !io::write_all(STDOUT_FILENO, printed) {
+        return Ended::Failed;
+    }
+    heard(printed)
+}
+
+// Whether a text that is printed is a refusal, and which.
+fn heard(printed: &[u8]) -> Ended
+    ensures { λ r. ⌜ r ≡ heardOf (now (printed .entry)) ⌝ }
+{
+    if printed.len() == 0 {
+        return Ended::Answered;
+    }
+    if printed[0] == b'E' {
+        return refusal_in(printed);
+    }
+    Ended::Answered
+}
+
+fn refusal_in(line: &[u8]) -> Ended
+    ensures { λ r. ⌜ r ≡ refusalIn (now (line .entry)) ⌝ }
+{
+    let Number::Value(number, next) = text::field::number_at(line, 2, b'\t') else {
+        return Ended::Refused(0, 0);
+    };
+    let Number::Value(place, _) = text::field::number_at(line, next, b'\n') else {
+        return Ended::Refused(0, 0);
+    };
+    Ended::Refused(number, place)
+}
+
+// The sheets of the table that the text holds, or the E line.
+pub fn print(text: &[u8], rows: Rows, out: &mut [u8]) -> Ended
     requires { ⌜ sheetRoom ≤ length (now out) ⌝ }
 {
     let mut z: [i64; Header::ZONES_MOST] = [0; Header::ZONES_MOST];
@@ -41,14 +86,14 @@ fn print_in(
     c: &mut [RowRecord],
     f: &mut [i64],
     out: &mut [u8],
-) -> bool
+) -> Ended
     requires { ⌜ sheetRoom ≤ length (now out) ⌝ }
 {
     match reading::read(text, z, b, c, f) {
         Read::Table(h) => print_rows(h, z, b, c, f, rows, out),
         Read::Refused(w) => {
             let n = prints::refusal_line(w, out);
-            io::write_all(STDOUT_FILENO, &out[..n])
+            put(&out[..n])
         }
     }
 }
@@ -61,7 +106,7 @@ fn print_rows(
     f: &[i64],
     rows: Rows,
     out: &mut [u8],
-) -> bool
+) -> Ended
     requires { ⌜ sheetRoom ≤ length (now out) ⌝ }
 {
     match rows {
@@ -77,15 +122,16 @@ fn print_every(
     c: &[RowRecord],
     f: &[i64],
     out: &mut [u8],
-) -> bool
+) -> Ended
     requires { ⌜ sheetRoom ≤ length (now out) ⌝ }
 {
     for row in 0..prints::sheet_rows(h) {
-        if !print_row(h, z, b, c, f, row, out) {
-            return false;
-        }
+        let ended = print_row(h, z, b, c, f, row, out);
+        let Ended::Answered = ended else {
+            return ended;
+        };
     }
-    true
+    Ended::Answered
 }
 
 fn print_row(
@@ -96,9 +142,9 @@ fn print_row(
     f: &[i64],
     row: usize,
     out: &mut [u8],
-) -> bool
+) -> Ended
     requires { ⌜ sheetRoom ≤ length (now out) ⌝ }
 {
     let n = prints::sheet_row(h, z, b, c, f, row, out);
-    io::write_all(STDOUT_FILENO, &out[..n])
+    put(&out[..n])
 }

@@ -36,11 +36,8 @@ slice-aggregate-print c = subst (λ (r : Input). within r (c .before .before .be
 print-requires : tie.Need-print-requires
 print-requires c κs = search needs
 
-slice-aggregate-fail-2 : tie.Need-slice-aggregate-fail-2
-slice-aggregate-fail-2 c = search needs
-
-fail-requires-2 : tie.Need-fail-requires-2
-fail-requires-2 c κs = search needs
+explain-requires : tie.Need-explain-requires
+explain-requires c κs = search needs
 
 same-length-2 : tie.Need-same-length-2
 same-length-2 c = search needs
@@ -50,15 +47,6 @@ same-length-3 c = search needs
 
 returns-2 : tie.Need-returns-2
 returns-2 c = search needs
-
-same-length-4 : tie.Need-same-length-4
-same-length-4 c = search needs
-
-same-length-5 : tie.Need-same-length-5
-same-length-5 c = search needs
-
-returns-3 : tie.Need-returns-3
-returns-3 c = search needs
 
 pub run-in-spec : {M : Type 1} → statement M
 run-in-spec =
@@ -74,11 +62,7 @@ run-in-spec =
     slice-reshare-prefix-print
     slice-aggregate-print
     print-requires
-    slice-aggregate-fail-2
-    fail-requires-2
+    explain-requires
     same-length-2
     same-length-3
-    returns-2
-    same-length-4
-    same-length-5
-    returns-3)
+    returns-2)

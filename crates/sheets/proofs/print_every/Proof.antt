@@ -23,6 +23,9 @@ loop-holds c = omega arith
 print-row-requires : tie.Need-print-row-requires Inv-loop μ-loop
 print-row-requires c κs = omega arith
 
+enum-told : tie.Need-enum-told Inv-loop μ-loop
+enum-told c = search needs
+
 same-length : tie.Need-same-length Inv-loop μ-loop
 same-length c = omega arith
 
@@ -53,6 +56,7 @@ print-every-spec =
     sheet-rows-requires
     loop-holds
     print-row-requires
+    enum-told
     same-length
     returns
     add-row

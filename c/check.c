@@ -1,0 +1,246 @@
+/*
+ * Tries on the compiled library what keravnoth.h says beyond the rules:
+ *
+ *   check stack TABLE..     the stack that each call touches at most over these
+ *                           tables, beside the header's figure
+ *   check null TABLE        every call with NULL and count 0 answers as with a
+ *                           pointer and count 0
+ *   check threads TABLE     the same answers from four threads at once as from one
+ *
+ * c/build makes it and c/run runs it, on the code for x86-64.
+ *
+ * Exit code: 0 as the header says, 1 not so, 2 a misuse, or a file that cannot be
+ * read.
+ */
+#include "keravnoth.h"
+
+#include <pthread.h>
+#include <stdio.h>
+#include <string.h>
+
+enum { CALLS = 7, THREADS = 4, TURNS = 8, KIB = 1024, SPARE = 256 };
+
+/* Everything that the calls are lent, once a thread. */
+struct room {
+    struct KeravnothRead table;
+    size_t n, row;
+    int64_t z[KERAVNOTH_ZONES_MOST];
+    int64_t b[KERAVNOTH_BORDERS_MOST][KERAVNOTH_B_ITEMS];
+    int64_t c[KERAVNOTH_ROWS_MOST][KERAVNOTH_C_ITEMS];
+    int64_t f[KERAVNOTH_FACTORS_MOST];
+    int64_t atc[KERAVNOTH_BORDERS_MOST][KERAVNOTH_ATC_ITEMS];
+    int64_t left[KERAVNOTH_ROWS_MOST][KERAVNOTH_LEFT_ITEMS];
+    int64_t flows[KERAVNOTH_CORNERS_MOST];
+    uint8_t text[KERAVNOTH_TEXT_MOST + 1];
+    uint8_t out[KERAVNOTH_CORNER_TEXT_MOST];
+};
+
+static struct room rooms[THREADS];
+
+#define B(r) ((const int64_t (*)[KERAVNOTH_B_ITEMS])(r)->b)
+#define C(r) ((const int64_t (*)[KERAVNOTH_C_ITEMS])(r)->c)
+#define TABLE(r) \
+    (r)->table.zones, (r)->table.borders, (r)->table.rows, \
+    (r)->z, KERAVNOTH_ZONES_MOST, B(r), KERAVNOTH_BORDERS_MOST, \
+    C(r), KERAVNOTH_ROWS_MOST, (r)->f, KERAVNOTH_FACTORS_MOST
+
+static void read_(struct room *r)
+{
+    r->table = keravnoth_read(
+        r->text, r->n, r->z, KERAVNOTH_ZONES_MOST, r->b, KERAVNOTH_BORDERS_MOST,
+        r->c, KERAVNOTH_ROWS_MOST, r->f, KERAVNOTH_FACTORS_MOST);
+}
+
+static void write_(struct room *r)
+{
+    keravnoth_write(TABLE(r), r->out, KERAVNOTH_WRITE_MOST);
+}
+
+static void extract(struct room *r)
+{
+    keravnoth_extract(
+        TABLE(r), r->atc, KERAVNOTH_BORDERS_MOST, r->left, KERAVNOTH_ROWS_MOST);
+}
+
+static void result_text(struct room *r)
+{
+    keravnoth_result_text(TABLE(r), r->out, KERAVNOTH_RESULT_TEXT_MOST);
+}
+
+static void answer(struct room *r)
+{
+    keravnoth_answer(r->text, r->n, r->out, KERAVNOTH_ANSWER_MOST);
+}
+
+static void corner_flows(struct room *r)
+{
+    keravnoth_corner_flows(TABLE(r), r->row, r->flows, KERAVNOTH_CORNERS_MOST);
+}
+
+static void corner_text(struct room *r)
+{
+    keravnoth_corner_text(TABLE(r), r->row, r->out, KERAVNOTH_CORNER_TEXT_MOST);
+}
+
+static const struct {
+    const char *name;
+    void (*make)(struct room *);
+    size_t stack;
+} calls[CALLS] = {
+    {"read", read_, KERAVNOTH_READ_STACK},
+    {"write", write_, KERAVNOTH_WRITE_STACK},
+    {"extract", extract, KERAVNOTH_EXTRACT_STACK},
+    {"result_text", result_text, KERAVNOTH_RESULT_TEXT_STACK},
+    {"answer", answer, KERAVNOTH_ANSWER_STACK},
+    {"corner_flows", corner_flows, KERAVNOTH_CORNER_FLOWS_STACK},
+    {"corner_text", corner_text, KERAVNOTH_CORNER_TEXT_STACK},
+};
+
+static int load(struct room *r, const char *name)
+{
+    FILE *file = fopen(name, "rb");
+    if (file == NULL) {
+        perror(name);
+        return 2;
+    }
+    memset(r, 0, sizeof *r);
+    r->n = fread(r->text, 1, sizeof r->text, file);
+    int failed = ferror(file);
+    fclose(file);
+    return failed ? 2 : 0;
+}
+
+/* Paints the stack below this frame, makes the call, and looks how far down the
+   paint is gone.  What it takes itself counts too, and the call's arguments: some
+   hundred bytes, which another compiler makes more or less. */
+static size_t touched(void (*make)(struct room *), struct room *r)
+{
+    enum { DEPTH = 1 << 20, OWN = 256, PAINT = 0xa5 };
+    volatile unsigned char *top = __builtin_frame_address(0);
+    volatile unsigned char *at;
+    for (at = top - DEPTH; at < top - OWN; at++)
+        *at = PAINT;
+    make(r);
+    for (at = top - DEPTH; at < top - OWN && *at == PAINT; at++)
+        ;
+    return (size_t)(top - at);
+}
+
+/* The figure of the header is what was touched, with SPARE for another compiler of
+   this file, in whole KiB: it is never less, nor 2 KiB more. */
+static int check_stack(int count, char **names)
+{
+    struct room *r = &rooms[0];
+    size_t most[CALLS] = {0};
+    int status = 0;
+    for (int i = 0; i < count; i++) {
+        if (load(r, names[i]) != 0)
+            return 2;
+        for (int call = 0; call < CALLS; call++) {
+            size_t bytes = touched(calls[call].make, r);
+            if (bytes > most[call])
+                most[call] = bytes;
+        }
+    }
+    for (int call = 0; call < CALLS; call++) {
+        size_t figure = (most[call] + SPARE + KIB - 1) / KIB * KIB;
+        printf("%s: %zu bytes touched, so %zu; the header says %zu\n",
+            calls[call].name, most[call], figure, calls[call].stack);
+        if (calls[call].stack < most[call] || calls[call].stack >= most[call] + 2 * KIB)
+            status = 1;
+    }
+    return status;
+}
+
+#define SAME(one, other) \
+    ((one).number == (other).number && (one).place == (other).place)
+
+/* Every pointer NULL with count 0, beside one that is not NULL with count 0. */
+static int check_null(const char *name)
+{
+    struct room *r = &rooms[0];
+    if (load(r, name) != 0)
+        return 2;
+    read_(r);
+    size_t zones = r->table.zones, borders = r->table.borders, rows = r->table.rows;
+    int same = r->table.number == KERAVNOTH_ACCEPTED;
+    same &= SAME(
+        keravnoth_read(NULL, 0, NULL, 0, NULL, 0, NULL, 0, NULL, 0),
+        keravnoth_read(r->text, 0, r->z, 0, r->b, 0, r->c, 0, r->f, 0));
+    same &= SAME(
+        keravnoth_read(r->text, r->n, NULL, 0, NULL, 0, NULL, 0, NULL, 0),
+        keravnoth_read(r->text, r->n, r->z, 0, r->b, 0, r->c, 0, r->f, 0));
+    same &= SAME(
+        keravnoth_answer(NULL, 0, NULL, 0),
+        keravnoth_answer(r->text, 0, r->out, 0));
+    same &= SAME(
+        keravnoth_answer(r->text, r->n, NULL, 0),
+        keravnoth_answer(r->text, r->n, r->out, 0));
+#define NONE NULL, 0, NULL, 0, NULL, 0, NULL, 0
+#define SOME r->z, 0, B(r), 0, C(r), 0, r->f, 0
+    same &= SAME(
+        keravnoth_write(zones, borders, rows, NONE, NULL, 0),
+        keravnoth_write(zones, borders, rows, SOME, r->out, 0));
+    same &= SAME(
+        keravnoth_extract(zones, borders, rows, NONE, NULL, 0, NULL, 0),
+        keravnoth_extract(zones, borders, rows, SOME, r->atc, 0, r->left, 0));
+    same &= SAME(
+        keravnoth_extract(TABLE(r), NULL, 0, NULL, 0),
+        keravnoth_extract(TABLE(r), r->atc, 0, r->left, 0));
+    same &= SAME(
+        keravnoth_result_text(TABLE(r), NULL, 0),
+        keravnoth_result_text(TABLE(r), r->out, 0));
+    same &= SAME(
+        keravnoth_corner_flows(zones, borders, rows, NONE, 0, NULL, 0),
+        keravnoth_corner_flows(zones, borders, rows, SOME, 0, r->flows, 0));
+    same &= SAME(
+        keravnoth_corner_text(TABLE(r), 0, NULL, 0),
+        keravnoth_corner_text(TABLE(r), 0, r->out, 0));
+    puts(same ? "NULL with count 0 answers as count 0" : "NULL with count 0 answers otherwise");
+    return same ? 0 : 1;
+}
+
+static void *turns(void *lent)
+{
+    struct room *r = lent;
+    for (int turn = 0; turn < TURNS; turn++)
+        for (int call = 0; call < CALLS; call++)
+            calls[call].make(r);
+    /* The corner texts come last: the answer once more, for the comparison. */
+    answer(r);
+    return NULL;
+}
+
+static int check_threads(const char *name)
+{
+    pthread_t threads[THREADS];
+    static struct room alone;
+    if (load(&alone, name) != 0)
+        return 2;
+    turns(&alone);
+    for (int i = 0; i < THREADS; i++)
+        if (load(&rooms[i], name) != 0)
+            return 2;
+    for (int i = 0; i < THREADS; i++)
+        if (pthread_create(&threads[i], NULL, turns, &rooms[i]) != 0)
+            return 2;
+    int same = 1;
+    for (int i = 0; i < THREADS; i++) {
+        pthread_join(threads[i], NULL);
+        same &= memcmp(&rooms[i], &alone, sizeof alone) == 0;
+    }
+    puts(same ? "four threads at once answer as one" : "four threads at once answer otherwise");
+    return same ? 0 : 1;
+}
+
+int main(int argc, char **argv)
+{
+    if (argc > 2 && strcmp(argv[1], "stack") == 0)
+        return check_stack(argc - 2, argv + 2);
+    if (argc == 3 && strcmp(argv[1], "null") == 0)
+        return check_null(argv[2]);
+    if (argc == 3 && strcmp(argv[1], "threads") == 0)
+        return check_threads(argv[2]);
+    fprintf(stderr, "usage: %s stack TABLE.. | null TABLE | threads TABLE\n", argv[0]);
+    return 2;
+}

@@ -1,0 +1,51 @@
+-- `keravnoth::options::read_arguments` is safe and ends. Nothing need be known of the command; the measure is the number of arguments left.
+-- Assumes nothing.
+use Prim.Native.Nat.{_-_}
+use native.Mathlib.Omega.{arith}
+use Rattle.keravnoth.proofs.options.read_arguments.Statement.{statement}
+use Rattle.keravnoth.proofs.options.read_arguments.Tie as tie
+
+abbrev Inv-loop : tie.InvT-loop
+Inv-loop count command₀ i₀ command i = Unit {0}
+
+abbrev μ-loop : tie.MeasureT-loop
+μ-loop count command₀ i₀ command i = count - i
+
+arg-count-requires : tie.Need-arg-count-requires Inv-loop μ-loop
+arg-count-requires c κs = tt
+
+loop-holds : tie.Need-loop-holds Inv-loop μ-loop
+loop-holds c = tt
+
+take-requires : tie.Need-take-requires Inv-loop μ-loop
+take-requires c κs = tt
+
+add-i : tie.Need-add-i Inv-loop μ-loop
+add-i c = omega arith
+
+loop-less : tie.Need-loop-less Inv-loop μ-loop
+loop-less c = omega arith
+
+loop-again : tie.Need-loop-again Inv-loop μ-loop
+loop-again c = tt
+
+whole-requires : tie.Need-whole-requires Inv-loop μ-loop
+whole-requires c κs = tt
+
+returns : tie.Need-returns Inv-loop μ-loop
+returns c = tt
+
+pub read-arguments-spec : {M : Type 1} → statement M
+read-arguments-spec =
+    tie.close
+    (tie.spec
+    Inv-loop
+    μ-loop
+    arg-count-requires
+    loop-holds
+    take-requires
+    add-i
+    loop-less
+    loop-again
+    whole-requires
+    returns)

@@ -1,0 +1,25 @@
+-- `sheets::heard` meets its contract: a law for each of its three ends. Assumes nothing.
+use mathlib.Core.Path.{_∙_}
+use borrow.Author.Needs.{needs}
+use Rattle.sheets.proofs.HeardLaws.{heard-none, heard-refusal, heard-other}
+use Rattle.sheets.proofs.heard.Statement.{statement}
+use Rattle.sheets.proofs.heard.Tie as tie
+
+returns : tie.Need-returns
+returns c = heard-none _ (c .if1 .taken)
+
+shared-slice-read-if2 : tie.Need-shared-slice-read-if2
+shared-slice-read-if2 c = search needs
+
+refusal-in-requires : tie.Need-refusal-in-requires
+refusal-in-requires c κs = search needs
+
+returns-2 : tie.Need-returns-2
+returns-2 c = c .refusal-in .ensures ∙ heard-refusal _ (c .before .if2 .taken)
+
+returns-3 : tie.Need-returns-3
+returns-3 c = heard-other _ (c .if2 .left)
+
+pub heard-spec : {M : Type 1} → statement M
+heard-spec =
+    tie.close (tie.spec returns shared-slice-read-if2 refusal-in-requires returns-2 returns-3)

@@ -1,0 +1,115 @@
+// What the program says to people: how it is used, which build it is, which argument is wrong, what a refusal means and what to look at.
+// On a refusal standard output holds the E line alone (01, "Result text"), so its meaning goes to standard error.
+use libc::STDERR_FILENO;
+
+// How the program is used. False where not all could be written.
+pub fn usage(fd: i32) -> bool {
+    io::write_all(
+        fd,
+        b"usage: keravnoth < TABLE              the result, or a line E, number, place\n",
+    )
+        && io::write_all(
+            fd,
+            b"       keravnoth rewrite < TABLE      the table, written again\n",
+        )
+        && io::write_all(
+            fd,
+            b"       keravnoth corners < TABLE      every corner's flow on each row\n",
+        )
+        && io::write_all(fd, b"       keravnoth corners ROW < TABLE  .. on one row\n")
+        && io::write_all(fd, b"       keravnoth help, --help         this\n")
+        && io::write_all(
+            fd,
+            b"       keravnoth --version            which rules are built, and in which logic they are proved\n",
+        )
+        && io::write_all(
+            fd,
+            b"option: --status-fd N                 the status digit goes to descriptor N\n",
+        )
+        && io::write_all(
+            fd,
+            b"status: 0 answered, 1 refused (the E line), 2 misuse, or input or output that failed\n",
+        )
+}
+
+// Which build this is. The gate holds these words to the notes of what was built, to the C header and to the pin of the kit.
+pub fn version(fd: i32) -> bool {
+    io::write_all(
+        fd,
+        b"keravnoth: rules: document 01; requests of document 02: E1, E4; C interface: 1\n",
+    )
+        && io::write_all(fd, b"proved in the Rattle kit's logic 064da1ca440f63e7\n")
+}
+
+// Names the argument that is wrong, and says how the program is used.
+pub fn misuse(i: usize) {
+    name(i);
+    usage(STDERR_FILENO);
+}
+
+fn name(i: usize) {
+    let mut own = io::buffer();
+    let n = os::arg(i, &mut own);
+    if os::errno() != 0 {
+        os::fail(b"keravnoth: argument");
+        return;
+    }
+    io::write_all(STDERR_FILENO, b"keravnoth: '");
+    io::write_all(STDERR_FILENO, &own[..n]);
+    io::write_all(STDERR_FILENO, b"' is not known, or not wanted there\n");
+}
+
+// One line for a refusal, by its number and place (01, "When the table is turned away"; 02, E1).
+pub fn refusal(number: u64, place: u64) {
+    match number {
+        1 => say(b"keravnoth: the table has more than 65,536 bytes: send one hour alone\n"),
+        2 => say_place(
+            b"keravnoth: line ",
+            place,
+            b" has the wrong form, kind, index or field count, is missing, has no LF, or is extra: look at its letter, index, tabs, LF and stray bytes (a CR, a BOM, a blank)\n",
+        ),
+        3 => say_place(
+            b"keravnoth: line ",
+            place,
+            b" has a value outside its range: compare its fields with the ranges in docs/GUIDE.md\n",
+        ),
+        4 => say_place(
+            b"keravnoth: border ",
+            place,
+            b" has the same from and to as an earlier border: leave one of the two out\n",
+        ),
+        5 => say(
+            b"keravnoth: no row is kept: in every row the factors lie less than 5000 apart, so nothing limits the capacities: look at the factors\n",
+        ),
+        6 => say_place(
+            b"keravnoth: border ",
+            place,
+            b" loads no kept row, so nothing limits it: leave it out, or add the row that does\n",
+        ),
+        7 => say_place(
+            b"keravnoth: row ",
+            place,
+            b" has a starting margin (RAM - S) below 0: look at its CVA and IVA\n",
+        ),
+        9 => say_place(
+            b"keravnoth: no corner sheet: the table has more than 12 borders, or no such row (",
+            place,
+            b"): take borders out, or ask for a row that it has\n",
+        ),
+        _ => say_place(
+            b"keravnoth: the table is refused (",
+            place,
+            b"): see docs/GUIDE.md\n",
+        ),
+    }
+}
+
+fn say(words: &[u8]) {
+    io::write_all(STDERR_FILENO, words);
+}
+
+fn say_place(before: &[u8], place: u64, after: &[u8]) {
+    io::write_all(STDERR_FILENO, before);
+    io::print_decimal(STDERR_FILENO, place);
+    io::write_all(STDERR_FILENO, after);
+}
