@@ -107,13 +107,14 @@ enum {
     KERAVNOTH_CORNERS_MOST = 4096
 };
 
-/* The longest texts, in bytes: what keravnoth_read looks at, and what each call
-   writes at most.  A buffer of this length is never too short; each is proved. */
+/* Room for texts, in bytes: what keravnoth_read looks at, and what each call writes
+   at most, by its longest line.  A buffer of this length is never too short; each is
+   proved. */
 enum {
     KERAVNOTH_TEXT_MOST = 65536,
-    KERAVNOTH_WRITE_MOST = 40008,
-    KERAVNOTH_RESULT_TEXT_MOST = 8927,
-    KERAVNOTH_ANSWER_MOST = 8927,
+    KERAVNOTH_WRITE_MOST = 50372,
+    KERAVNOTH_RESULT_TEXT_MOST = 20726,
+    KERAVNOTH_ANSWER_MOST = 20726,
     KERAVNOTH_CORNER_TEXT_MOST = 110592
 };
 

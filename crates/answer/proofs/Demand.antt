@@ -6,8 +6,9 @@ use mathlib.Core.Logic.{_⊎_, inl, inr}
 use Prim.Native.Char.{code}
 use Prim.Native.Nat.{ℕ, zero, suc, _<_}
 use native.Mathlib.Omega.{arith}
-use lib.IntN.{pos}
-use Rattle.numbers.specs.Below.{at}
+use lib.IntN.{ℤ, pos}
+use lib.ListN.{length}
+use Rattle.numbers.specs.Below.{at, table}
 use Rattle.kinds.specs.Refusals.{Why, Judged, passed, refused, then, either}
 use Rattle.kinds.proofs.RefusalLaws.{then-passed, then-next, either-passed}
 use Rattle.text.specs.Written.{textOf, decimal, fieldsText, lineText, linesText}
@@ -15,12 +16,14 @@ use Rattle.table.specs.Table.{Table, rowAt}
 use Rattle.reading.specs.Reading.{readText}
 use Rattle.reading.proofs.ReadLaws.{read-good}
 use Rattle.start.specs.Start.{judgeStart, judgeTable}
-use Rattle.extraction.specs.Extraction.{Result, outcomeOf}
+use Rattle.extraction.specs.Extraction.{Result, outcomeOf, atcRecord, rowRecord}
 use Rattle.extraction.specs.Demand.{Demand3}
 use Rattle.extraction.proofs.Demand3.{accepted-demand-3}
 use Rattle.extraction.proofs.Seven.{NotSeven, no-refusal-7}
 use Rattle.extraction.proofs.ToldLaws.{Says, Told, told-passed, told-then, told-unless, told-first}
-use Rattle.result.specs.Result.{atcText, marginText, resultText, refusalText, answerText}
+use Rattle.result.specs.Records.{atcAt, marginAt, recordsText}
+use Rattle.result.specs.Refusal.{refusalText}
+use Rattle.answer.specs.Result.{resultText, answerText}
 
 -- ---- demand 3
 -- the text is a table's, and what is printed the text of a result that demand 3 is true of
@@ -62,13 +65,16 @@ outcome-late t =
 
 -- a result text begins with another letter
 result-letter : (r : Result) → at (resultText r) 0 ≡ code "E" → ⊥
-unfolding resultText linesText atcText marginText lineText
-result-letter r = go (r .header .borders) (r .header .rows) _
+unfolding resultText recordsText linesText lineText
+result-letter r =
+    let atcs = table (r .header .borders) (atcRecord r) in
+    let lefts = table (r .header .rows) (rowRecord r) in
+    go atcs lefts (length atcs) (length lefts) (decimal (r .outcome .rounds) ∷ [])
   where
-    go : (borders rows : ℕ) (fields : List (List ℕ)) → at (linesText borders 0 (atcText r) ++ linesText rows 0 (marginText r) ++ lineText (code "R") fields) 0 ≡ code "E" → ⊥
-    go (suc borders) rows fields e = let z : _≡_ {A = ℕ} 65 69 = e in omega arith
-    go zero (suc rows) fields e = let z : _≡_ {A = ℕ} 77 69 = e in omega arith
-    go zero zero fields e = let z : _≡_ {A = ℕ} 82 69 = e in omega arith
+    go : (atcs lefts : List (List ℤ)) (borders rows : ℕ) (fields : List (List ℕ)) → at (linesText borders 0 (atcAt atcs) ++ linesText rows 0 (marginAt lefts) ++ lineText (code "R") fields) 0 ≡ code "E" → ⊥
+    go atcs lefts (suc borders) rows fields e = let z : _≡_ {A = ℕ} 65 69 = e in omega arith
+    go atcs lefts zero (suc rows) fields e = let z : _≡_ {A = ℕ} 77 69 = e in omega arith
+    go atcs lefts zero zero fields e = let z : _≡_ {A = ℕ} 82 69 = e in omega arith
 
 pub answer-not-7 : (text : List ℕ) (t : Table) → readText text ≡ passed t
     → ((i : ℕ) → i < t .header .rows → rowAt t i .cva ≡ pos 0) → ((i : ℕ) → i < t .header .rows → rowAt t i .iva ≡ pos 0)

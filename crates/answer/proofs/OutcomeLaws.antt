@@ -20,18 +20,18 @@ use Rattle.kinds.specs.Limits.{bordersMost, rowsMost}
 use Rattle.kinds.specs.Refusals.{Why, Judged, passed, refused, then, either, told}
 use Rattle.kinds.proofs.KindLaws.{header-in}
 use Rattle.kinds.proofs.RefusalLaws.{passed-is, refused-is, not-passed, then-passed, then-next, then-refused, either-passed, either-refused}
+use Rattle.text.specs.Left.{TextLeft, textLeft, textSaid}
+use Rattle.text.proofs.LeftLaws.{text-refused}
 use Rattle.table.specs.Table.{Table, judgeLent}
 use Rattle.table.proofs.GoodLaws.{judged-front, judged-good}
 use Rattle.extraction.specs.Extraction.{Result, resultOf, outcomeOf, atcRecord, rowRecord, ExtractLeft, leaves, stored, extractLeft}
 use Rattle.extraction.proofs.DemandLaws.{accepted}
 use Rattle.extraction.proofs.ExtractLaws.{extract-roomy}
-use Rattle.writing.specs.Writing.{TextLeft, textLeft, textSaid}
-use Rattle.writing.proofs.LeftLaws.{text-left}
 use Rattle.result.specs.Records.{recordsText}
-use Rattle.result.specs.Result.{resultText, refusalText, resultTextLeft}
-use Rattle.result.proofs.RecordsLaws.{records-text}
+use Rattle.result.specs.Refusal.{refusalText}
 use Rattle.answer.specs.declared.made.Made.{Made}
 use Rattle.answer.specs.declared.made.Made.the-variants as made
+use Rattle.answer.specs.Result.{resultText, resultTextLeft}
 use Rattle.answer.specs.Made.{outcomeLent, printed, MadeLeft, madeText, madeLeft, saidMade}
 
 -- ---- the outcome of lent tables
@@ -95,6 +95,7 @@ module _ (given : Table) (atcs lefts : List (List ℤ)) (hb : bordersMost ≤ le
     pub text : recordsText (take (given .header .borders) atcs′) (take (given .header .rows) lefts′) rounds ≡ resultText it
 
   pub outcome-told : (rounds : ℕ) → e ≡ Rounds rounds → Told rounds
+  unfolding resultText
   outcome-told rounds k =
       let u = stored-from atcs lefts (outcomeLent given) rounds (told-by k) in
       let r = u .it in
@@ -106,16 +107,10 @@ module _ (given : Table) (atcs lefts : List (List ℤ)) (hb : bordersMost ≤ le
             ap (recordsText (take (given .header .borders) atcs′) (take (given .header .rows) lefts′)) (passed-is _ _ (ap (λ (l : ExtractLeft). l .answer) (u .left)))
             ∙ ap₂ (λ (a m : List (List ℤ)). recordsText a m (r .outcome .rounds))
             (stored-front _ _ (atcRecord r) atcs′ atcs (ap (λ (l : ExtractLeft). l .atcs) (u .left)) (ap (λ (v : Header). v .borders) h))
-            (stored-front _ _ (rowRecord r) lefts′ lefts (ap (λ (l : ExtractLeft). l .lefts) (u .left)) (ap (λ (v : Header). v .rows) h))
-            ∙ records-text r;
+            (stored-front _ _ (rowRecord r) lefts′ lefts (ap (λ (l : ExtractLeft). l .lefts) (u .left)) (ap (λ (v : Header). v .rows) h));
       }
 
 -- ---- making the text
-
--- a text that was written
-pub text-out : (text out : List ℕ) {n : ℕ} {out′ : List ℕ} → length text ≤ length out → (n ≡ length text) × (out′ ≡ over text out)
-    → _≡_ {A = TextLeft} (record { answer = passed n; out = out′ }) (textLeft (passed text) out)
-text-out text out h w = ap₂ {C = TextLeft} (λ (k : ℕ) (o : List ℕ). record { answer = passed k; out = o }) (w .0) (w .1) ∙ sym (text-left text out h)
 
 pub made-text : (o : Judged Result) (out : List ℕ) (r : Result) (w : Written) (out′ : List ℕ) → o ≡ passed r → textSaid w out′ ≡ textLeft (passed (resultText r)) out
     → saidMade (made.Text w) out′ ≡ madeLeft o out
@@ -174,11 +169,10 @@ module _ (given : Table) (out : List ℕ) (m : Made) (out′ : List ℕ) (said :
       u .text ∙ ap (λ (j : Judged (List ℕ)). textLeft j out) (sym (result-outcome given ∙ then-next _ (u .is)))
 
   pub result-refused : (w : Refusal) → m ≡ made.Refused w → _≡_ {A = TextLeft} (record { answer = refused (told w); out = out′ }) (resultTextLeft given out)
-  unfolding resultTextLeft textLeft
+  unfolding resultTextLeft
   result-refused w k =
       let u = none-made w k in
-      ap {B = TextLeft} (λ (o : List ℕ). record { answer = refused (told w); out = o }) (u .1)
-      ∙ sym (either-refused _ _ (then-refused _ (result-outcome given ∙ then-refused _ (u .0))))
+      ap {B = TextLeft} (λ (o : List ℕ). record { answer = refused (told w); out = o }) (u .1) ∙ text-refused out (result-outcome given ∙ then-refused _ (u .0))
 
   pub printed-result : (w : Written) → m ≡ made.Text w → textSaid w out′ ≡ textLeft (passed (printed outcome)) out
   unfolding printed

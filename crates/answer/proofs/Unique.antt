@@ -7,7 +7,7 @@ use denote.Ref.{now}
 use denote.Triple.Clauses.{AtExit}
 use borrow.Fn.World.{ArgsD, ResD}
 use borrow.Fn.Kinds.{endedOf}
-use Rattle.writing.proofs.Unique.{said-once}
+use Rattle.text.proofs.LeftLaws.{said-once}
 use Rattle.answer.proofs.result_text as result-text
 use Rattle.answer.proofs.result_text.Kinds as result-text-kinds
 use Rattle.answer.proofs.result_text.Reads as result-text-reads

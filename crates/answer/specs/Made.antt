@@ -2,14 +2,18 @@
 -- Assumes nothing.
 use mathlib.Core.List.{List}
 use Prim.Native.Nat.{ℕ}
+use Rattle.kinds.specs.declared.Written.{Written}
+use Rattle.kinds.specs.declared.Written.the-variants as written
 use Rattle.kinds.specs.Answers.{saidWritten}
 use Rattle.kinds.specs.Refusals.{Judged, passed, refused, told, then, either}
+use Rattle.text.specs.Left.{TextLeft, textLeft}
 use Rattle.table.specs.Table.{Table, judgeLent}
 use Rattle.extraction.specs.Extraction.{Result, outcomeOf}
-use Rattle.writing.specs.Writing.{TextLeft, textLeft}
-use Rattle.result.specs.Result.{resultText, refusalText}
+use Rattle.result.specs.Records.{recordsMost}
+use Rattle.result.specs.Refusal.{refusalText}
 use Rattle.answer.specs.declared.made.Made.{Made}
 use Rattle.answer.specs.declared.made.Made.the-variants.{Text, Refused}
+use Rattle.answer.specs.Result.{resultText}
 
 unfoldable pub outcomeLent : (lent : Table) → Judged Result
 outcomeLent lent = then (judgeLent lent) outcomeOf
@@ -18,9 +22,14 @@ outcomeLent lent = then (judgeLent lent) outcomeOf
 unfoldable pub printed : Judged Result → List ℕ
 printed outcome = either outcome resultText refusalText
 
--- the longest text of an answer, bytes (`answer-longest`)
+-- bytes that take every answer: no E line is longer than a line of records
 abbrev pub answerMost : ℕ
-answerMost = 8927
+answerMost = recordsMost
+
+-- the bytes that a call asks for: those that it wrote, or the place of 8
+abbrev pub bytesAsked : Written → ℕ
+bytesAsked (written.Bytes n) = n
+bytesAsked (written.Refused w) = told w .place
 
 -- what making the text of an outcome leaves: its refusal, or the answer that its text gives; and the lent bytes
 pub record MadeLeft : Type 0 where
@@ -37,3 +46,7 @@ madeLeft outcome out = either outcome (λ r. madeText (textLeft (passed (resultT
 abbrev pub saidMade : Made → (out : List ℕ) → MadeLeft
 saidMade (Text w) out = record { answer = passed (saidWritten w); out = out }
 saidMade (Refused w) out = record { answer = refused (told w); out = out }
+
+abbrev pub madeAsked : Made → ℕ
+madeAsked (Text w) = bytesAsked w
+madeAsked (Refused w) = 0

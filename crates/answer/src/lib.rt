@@ -7,10 +7,11 @@ ghost use Prim.Native.Nat.{_*_, _≤_};
 ghost use lib.ListN.{length};
 ghost use Rattle.kinds.specs.Limits.{zonesMost, bordersMost, rowsMost};
 ghost use Rattle.kinds.specs.Refusals.{passed, told};
+ghost use Rattle.text.specs.Left.{textLeft, textSaid};
 ghost use Rattle.table.specs.Table.{lent};
-ghost use Rattle.writing.specs.Writing.{textLeft, textSaid};
-ghost use Rattle.result.specs.Result.{refusalText, resultTextLeft, answerLeft};
-ghost use Rattle.answer.specs.Made.{outcomeLent, printed};
+ghost use Rattle.result.specs.Refusal.{refusalText, refusalMost};
+ghost use Rattle.answer.specs.Result.{resultTextLeft, answerLeft};
+ghost use Rattle.answer.specs.Made.{outcomeLent, printed, answerMost, bytesAsked};
 use crate::made::Made;
 use kinds::Border;
 use kinds::BorderRecord;
@@ -42,6 +43,13 @@ pub fn result_text(
 pub fn answer(text: &[u8], out: &mut [u8]) -> Written
     ensures { λ r. ⌜ textSaid r (now (out .exit)) ≡ answerLeft (now (text .entry)) (now (out .entry)) ⌝ }
 {
+    answer_within(text, out)
+}
+
+// .. and how many bytes it asks for at most, for a caller that lends as many.
+pub fn answer_within(text: &[u8], out: &mut [u8]) -> Written
+    ensures { λ r. ⌜ (textSaid r (now (out .exit)) ≡ answerLeft (now (text .entry)) (now (out .entry))) × (bytesAsked r ≤ answerMost) ⌝ }
+{
     let mut z: [i64; Header::ZONES_MOST] = [0; Header::ZONES_MOST];
     let mut b: [BorderRecord; Header::BORDERS_MOST] = [[0; Border::ITEMS]; Header::BORDERS_MOST];
     let mut c: [RowRecord; Header::ROWS_MOST] = [[0; Row::ITEMS]; Header::ROWS_MOST];
@@ -50,7 +58,7 @@ pub fn answer(text: &[u8], out: &mut [u8]) -> Written
     answer_in(text, &mut z, &mut b, &mut c, &mut f, out)
 }
 
-// The tables are made in `answer`, and not here, where goals would spell them out.
+// The tables are made in `answer_within`, and not here, where goals would spell them out.
 fn answer_in(
     text: &[u8],
     z: &mut [i64],
@@ -60,7 +68,7 @@ fn answer_in(
     out: &mut [u8],
 ) -> Written
     requires { ⌜ (zonesMost ≤ length (now z)) × (bordersMost ≤ length (now b)) × (rowsMost ≤ length (now c)) × (rowsMost * zonesMost ≤ length (now f)) ⌝ }
-    ensures { λ r. ⌜ textSaid r (now (out .exit)) ≡ answerLeft (now (text .entry)) (now (out .entry)) ⌝ }
+    ensures { λ r. ⌜ (textSaid r (now (out .exit)) ≡ answerLeft (now (text .entry)) (now (out .entry))) × (bytesAsked r ≤ answerMost) ⌝ }
 {
     match reading::read(text, z, b, c, f) {
         Read::Table(h) => answer_lent(h, z, b, c, f, out),
@@ -77,7 +85,7 @@ fn answer_lent(
     f: &[i64],
     out: &mut [u8],
 ) -> Written
-    ensures { λ r. ⌜ textSaid r (now (out .exit)) ≡ textLeft (passed (printed (outcomeLent (lent h (now (z .entry)) (now (b .entry)) (now (c .entry)) (now (f .entry)))))) (now (out .entry)) ⌝ }
+    ensures { λ r. ⌜ (textSaid r (now (out .exit)) ≡ textLeft (passed (printed (outcomeLent (lent h (now (z .entry)) (now (b .entry)) (now (c .entry)) (now (f .entry)))))) (now (out .entry))) × (bytesAsked r ≤ answerMost) ⌝ }
 {
     match made::make(h, z, b, c, f, out) {
         Made::Text(written) => written,
@@ -86,8 +94,8 @@ fn answer_lent(
 }
 
 // The E line: 8, and only then is it written.
-fn refusal_out(w: Refusal, out: &mut [u8]) -> Written
-    ensures { λ r. ⌜ textSaid r (now (out .exit)) ≡ textLeft (passed (refusalText (told w))) (now (out .entry)) ⌝ }
+pub fn refusal_out(w: Refusal, out: &mut [u8]) -> Written
+    ensures { λ r. ⌜ (textSaid r (now (out .exit)) ≡ textLeft (passed (refusalText (told w))) (now (out .entry))) × (bytesAsked r ≤ refusalMost) ⌝ }
 {
     let needed = result::refusal::refusal_length(w);
     if out.len() < needed {

@@ -4,10 +4,10 @@ ghost use Prim.Native.Nat.{_≤_};
 ghost use lib.ListN.{length, take};
 ghost use Rattle.kinds.specs.Limits.{bordersMost, rowsMost};
 ghost use Rattle.kinds.specs.Refusals.{passed};
+ghost use Rattle.text.specs.Left.{textLeft, textSaid};
 ghost use Rattle.table.specs.Table.{lent};
-ghost use Rattle.writing.specs.Writing.{textLeft, textSaid};
 ghost use Rattle.result.specs.Records.{recordsText};
-ghost use Rattle.answer.specs.Made.{outcomeLent, saidMade, madeLeft};
+ghost use Rattle.answer.specs.Made.{outcomeLent, saidMade, madeLeft, answerMost, bytesAsked, madeAsked};
 use extraction::AtcRecord;
 use extraction::BorderResult;
 use extraction::LeftRecord;
@@ -34,7 +34,7 @@ pub fn make(
     f: &[i64],
     out: &mut [u8],
 ) -> Made
-    ensures { λ r. ⌜ saidMade r (now (out .exit)) ≡ madeLeft (outcomeLent (lent h (now (z .entry)) (now (b .entry)) (now (c .entry)) (now (f .entry)))) (now (out .entry)) ⌝ }
+    ensures { λ r. ⌜ (saidMade r (now (out .exit)) ≡ madeLeft (outcomeLent (lent h (now (z .entry)) (now (b .entry)) (now (c .entry)) (now (f .entry)))) (now (out .entry))) × (madeAsked r ≤ answerMost) ⌝ }
 {
     let mut atc: [AtcRecord; Header::BORDERS_MOST] =
         [[0; BorderResult::ITEMS]; Header::BORDERS_MOST];
@@ -54,7 +54,7 @@ fn make_in(
     out: &mut [u8],
 ) -> Made
     requires { ⌜ (bordersMost ≤ length (now atc)) × (rowsMost ≤ length (now left)) ⌝ }
-    ensures { λ r. ⌜ saidMade r (now (out .exit)) ≡ madeLeft (outcomeLent (lent h (now (z .entry)) (now (b .entry)) (now (c .entry)) (now (f .entry)))) (now (out .entry)) ⌝ }
+    ensures { λ r. ⌜ (saidMade r (now (out .exit)) ≡ madeLeft (outcomeLent (lent h (now (z .entry)) (now (b .entry)) (now (c .entry)) (now (f .entry)))) (now (out .entry))) × (madeAsked r ≤ answerMost) ⌝ }
 {
     match extraction::extract(h, z, b, c, f, atc, left) {
         Extracted::Rounds(rounds) => Made::Text(result_out(h, atc, left, rounds, out)),
@@ -71,7 +71,7 @@ fn result_out(
     out: &mut [u8],
 ) -> Written
     requires { ⌜ (h .borders ≤ bordersMost) × (h .rows ≤ rowsMost) × (bordersMost ≤ length (now atc)) × (rowsMost ≤ length (now left)) ⌝ }
-    ensures { λ r. ⌜ textSaid r (now (out .exit)) ≡ textLeft (passed (recordsText (take (h .borders) (now (atc .entry))) (take (h .rows) (now (left .entry))) rounds)) (now (out .entry)) ⌝ }
+    ensures { λ r. ⌜ (textSaid r (now (out .exit)) ≡ textLeft (passed (recordsText (take (h .borders) (now (atc .entry))) (take (h .rows) (now (left .entry))) rounds)) (now (out .entry))) × (bytesAsked r ≤ answerMost) ⌝ }
 {
     let borders = h.borders;
     let rows = h.rows;
@@ -81,7 +81,7 @@ fn result_out(
 // The text of records: 8, and only then is it written.
 fn records_out(atc: &[AtcRecord], left: &[LeftRecord], rounds: u64, out: &mut [u8]) -> Written
     requires { ⌜ (length (now atc) ≤ bordersMost) × (length (now left) ≤ rowsMost) ⌝ }
-    ensures { λ r. ⌜ textSaid r (now (out .exit)) ≡ textLeft (passed (recordsText (now (atc .entry)) (now (left .entry)) rounds)) (now (out .entry)) ⌝ }
+    ensures { λ r. ⌜ (textSaid r (now (out .exit)) ≡ textLeft (passed (recordsText (now (atc .entry)) (now (left .entry)) rounds)) (now (out .entry))) × (bytesAsked r ≤ answerMost) ⌝ }
 {
     let needed = result::records::records_length(atc, left, rounds);
     if out.len() < needed {

@@ -7,7 +7,7 @@ use lib.IntN.{ℤ}
 use Rattle.kinds.specs.declared.Header.{Header}
 use Rattle.kinds.specs.Refusals.{Judged, passed, refused}
 use Rattle.reading.specs.Reading.{ReadLeft}
-use Rattle.writing.specs.Writing.{TextLeft}
+use Rattle.text.specs.Left.{TextLeft}
 use Rattle.extraction.specs.Extraction.{ExtractLeft}
 use Rattle.corners.specs.Corners.{FlowsLeft}
 use Rattle.cabi.specs.declared.KeravnothRead.{KeravnothRead}

@@ -9,7 +9,7 @@ ghost use Rattle.writing.specs.Writing.{writeLeft};
 ghost use Rattle.extraction.specs.Extraction.{extractLeft};
 ghost use Rattle.corners.specs.Corners.{cornersLeft};
 ghost use Rattle.cornertext.specs.CornerText.{cornerTextLeft};
-ghost use Rattle.result.specs.Result.{resultTextLeft, answerLeft};
+ghost use Rattle.answer.specs.Result.{resultTextLeft, answerLeft};
 ghost use Rattle.cabi.specs.Coded.{codedRead, codedWritten, codedExtracted, codedFlows, readFound, readCoded, textFound, textCoded, extractFound, extractCoded, flowsFound, flowsCoded};
 use extraction::AtcRecord;
 use extraction::LeftRecord;

@@ -2,14 +2,14 @@
 -- Assumes nothing.
 use mathlib.Core.List.{List, [], _∷_}
 use Prim.Native.Char.{code}
-use Prim.Native.Nat.{ℕ, _+_, _^_}
+use Prim.Native.Nat.{ℕ, _+_, _*_, _^_}
 use lib.IntN.{ℤ}
 use lib.ListN.{length}
 use Rattle.kinds.specs.Ranges.{atℤ}
 use Rattle.kinds.specs.Refusals.{passed, then}
+use Rattle.text.specs.Left.{TextLeft, textLeft}
 use Rattle.text.specs.Written.{decimal, decimalℤ, lineText, linesText}
 use Rattle.table.specs.Table.{Table, factorsAt}
-use Rattle.writing.specs.Writing.{TextLeft, textLeft}
 use Rattle.corners.specs.Corners.{sheetBordersMost, flowsOf, judgeCorners}
 
 -- a sheet has at most so many corners
@@ -20,9 +20,9 @@ sheetMost = 2 ^ sheetBordersMost
 abbrev pub cornerLine : (row corner : ℕ) → (flow : ℤ) → List ℕ
 cornerLine row corner flow = lineText (code "K") (decimal row ∷ decimal corner ∷ decimalℤ flow ∷ [])
 
--- .. of numbers of at most 20 digits: letter, tabs and LF, and a minus
+-- .. of machine numbers, each of at most 20 bytes: letter, tabs and LF besides
 abbrev pub lineMost : ℕ
-lineMost = 5 + 20 + 20 + 21
+lineMost = 5 + 3 * 20
 
 abbrev pub cornerLineAt : (row : ℕ) → (flows : List ℤ) → (corner : ℕ) → List ℕ
 cornerLineAt row flows corner = cornerLine row corner (atℤ flows corner)

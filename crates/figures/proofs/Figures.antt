@@ -15,7 +15,7 @@ use Rattle.margin.specs.Margin.{grains, baseOf, amrOf, ramAt, ramsOf}
 use Rattle.states.specs.States.{spreadOf, stateOf}
 use Rattle.start.specs.Start.{rowsOf}
 use Rattle.extraction.specs.Extraction.{Result, outcomeOf}
-use Rattle.result.specs.Result.{answerText}
+use Rattle.answer.specs.Result.{answerText}
 use Rattle.figures.specs.Computing.{computing}
 use Rattle.figures.specs.Sheets.{sheet}
 use Rattle.figures.specs.Small.{smallTable}

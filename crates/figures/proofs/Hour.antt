@@ -7,7 +7,7 @@ use Rattle.kinds.specs.Refusals.{passed, either}
 use Rattle.reading.specs.Reading.{readText}
 use Rattle.writing.specs.Writing.{tableText}
 use Rattle.extraction.specs.Extraction.{outcomeOf, nOf, lOf}
-use Rattle.result.specs.Result.{answerText}
+use Rattle.answer.specs.Result.{answerText}
 use Rattle.figures.specs.Computing.{computing}
 use Rattle.figures.specs.Hour.{hourText, hourResult, hourTable}
 

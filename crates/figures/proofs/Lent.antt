@@ -12,7 +12,7 @@ use Rattle.table.specs.Table.{lent}
 use Rattle.reading.specs.Reading.{readLeft}
 use Rattle.writing.specs.Writing.{tableText, writeLeft}
 use Rattle.extraction.specs.Extraction.{extractLeft}
-use Rattle.result.specs.Result.{resultTextLeft, answerLeft}
+use Rattle.answer.specs.Result.{resultTextLeft, answerLeft}
 use Rattle.figures.specs.Computing.{computing}
 use Rattle.figures.specs.Sheets.{sheet}
 use Rattle.figures.specs.Hour.{hourText, hourResult, hourTable, bTwice, bBack, nines}

@@ -10,7 +10,7 @@ use Rattle.kinds.specs.Refusals.{passed, refused, outOfRange}
 use Rattle.table.specs.Table.{Table}
 use Rattle.reading.specs.Reading.{readText}
 use Rattle.writing.specs.Writing.{tableText}
-use Rattle.result.specs.Result.{answerText}
+use Rattle.answer.specs.Result.{answerText}
 use Rattle.figures.specs.Computing.{computing}
 use Rattle.figures.specs.Sheets.{sheet}
 use Rattle.figures.specs.Small.{withZone, withBorder, withRow, lentBorder, lentRow}

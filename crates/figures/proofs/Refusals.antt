@@ -4,7 +4,7 @@
 use mathlib.Core.Path.{_≡_, refl}
 use mathlib.Core.List.{[], _∷_, _++_}
 use lib.ListN.{replicate}
-use Rattle.result.specs.Result.{answerText}
+use Rattle.answer.specs.Result.{answerText}
 use Rattle.figures.specs.Computing.{computing}
 use Rattle.figures.specs.Sheets.{sheet}
 use Rattle.figures.specs.Small.{smallText, border, row, withZone, withBorder, withRow}

@@ -15,16 +15,19 @@ use Rattle.numbers.specs.Ints.{maxℤ, minℤ, positivePart, sameℤ, inside, s
 use Rattle.lines.specs.Lines.{headerLine, zoneLine, borderLine, rowLine}
 use Rattle.prints.specs.Printed.{oneSheet, everySheet}
 use Rattle.reading.specs.Reading.{linesOf, readText, readLeft}
-use Rattle.result.specs.Result.{atcText, marginText, resultText, refusalText, answerText, resultTextLeft, answerLeft}
+use Rattle.answer.specs.Result.{resultText, answerText, resultTextLeft, answerLeft}
+use Rattle.result.specs.Records.{leftField, recordsText}
+use Rattle.result.specs.Refusal.{refusalText}
 use Rattle.rounds.specs.Rounds.{sharers, raise, alone, raises, load, lowered, risen, apply, next, raised, counted, run, extract, mostSharers, bitsTo, bits, aloneBits}
 use Rattle.table.specs.Table.{stretch, twice, roomFor, judgeLent}
 use Rattle.columns.specs.Columns.{fieldAt, fieldsAt}
 use Rattle.columns.specs.ColumnLine.{indexAt, restAt, columnsLine, plainLine}
 use Rattle.columns.specs.ColumnText.{fieldText, fieldsEnded, indexText, columnsText, plainText}
 use Rattle.text.specs.Fields.{numberAt, signedAt, shareAt}
+use Rattle.text.specs.Left.{textLeft}
 use Rattle.text.specs.Written.{textOf, decimal, decimalℤ, fieldsText, lineText, linesText}
-use Rattle.writing.specs.Writing.{tableText, textLeft, writeLeft}
+use Rattle.writing.specs.Writing.{tableText, writeLeft}
 
 unfoldable pub computing : Unit {0}
-unfolding linesAt loadOf rowsOf kept gridOf startOf resultOf atcOf leftOf judgeStart outcomeOf nOf lOf atcRecord rowRecord extractLeft raisedBy cornerFlows judgeCorners cornersLeft cornersText cornerTextLeft headerFits zoneFits exists borderFits borderOf shareOf rowOf rowFits factorFits worth then either unless refuseAt refuseFirst need grains f0coreOf fuafOf baseOf amrOf signedFactor pOf ltaKw cornerPart cornerSum sOf ltaMarginOf ramOf ramAt highest lowest spreadOf shifted below stateOf ifZero sum count largest lesser least orZero table firstFrom given maxℤ minℤ positivePart sameℤ inside sumℤ headerLine zoneLine borderLine rowLine oneSheet everySheet linesOf readText readLeft atcText marginText resultText refusalText answerText resultTextLeft answerLeft sharers raise alone raises load lowered risen apply next raised counted run extract mostSharers bitsTo bits aloneBits stretch twice roomFor judgeLent numberAt signedAt shareAt fieldAt fieldsAt indexAt restAt columnsLine plainLine fieldText fieldsEnded indexText columnsText plainText textOf decimal decimalℤ fieldsText lineText linesText tableText textLeft writeLeft
+unfolding linesAt loadOf rowsOf kept gridOf startOf resultOf atcOf leftOf judgeStart outcomeOf nOf lOf atcRecord rowRecord extractLeft raisedBy cornerFlows judgeCorners cornersLeft cornersText cornerTextLeft headerFits zoneFits exists borderFits borderOf shareOf rowOf rowFits factorFits worth then either unless refuseAt refuseFirst need grains f0coreOf fuafOf baseOf amrOf signedFactor pOf ltaKw cornerPart cornerSum sOf ltaMarginOf ramOf ramAt highest lowest spreadOf shifted below stateOf ifZero sum count largest lesser least orZero table firstFrom given maxℤ minℤ positivePart sameℤ inside sumℤ headerLine zoneLine borderLine rowLine oneSheet everySheet linesOf readText readLeft leftField recordsText resultText refusalText answerText resultTextLeft answerLeft sharers raise alone raises load lowered risen apply next raised counted run extract mostSharers bitsTo bits aloneBits stretch twice roomFor judgeLent numberAt signedAt shareAt textOf decimal decimalℤ fieldsText lineText linesText tableText textLeft writeLeft fieldAt fieldsAt indexAt restAt columnsLine plainLine fieldText fieldsEnded indexText columnsText plainText
 computing = tt

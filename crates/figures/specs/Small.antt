@@ -6,7 +6,7 @@ use Prim.Native.String.{String}
 use lib.IntN.{ℤ, pos}
 use Rattle.kinds.specs.Refusals.{Judged}
 use Rattle.table.specs.Table.{Table, judgeLent}
-use Rattle.result.specs.Result.{answerText}
+use Rattle.answer.specs.Result.{answerText}
 use Rattle.figures.specs.Sheets.{sheet}
 
 abbrev pub smallText : (zone border row : List ℕ) → List ℕ

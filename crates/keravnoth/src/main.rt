@@ -8,7 +8,7 @@ ghost use mathlib.Core.Bool.{cond};
 ghost use Prim.Native.Nat.{_≤_};
 ghost use lib.ListN.{length};
 ghost use Rattle.kinds.specs.Limits.{bytesMost};
-ghost use Rattle.result.specs.Result.{answerText};
+ghost use Rattle.answer.specs.Result.{answerText};
 ghost use Rattle.prints.specs.Printed.{rewritten, sheetRoom, Printed};
 ghost use Rattle.keravnoth.specs.Taken.{within};
 use libc::STDIN_FILENO;

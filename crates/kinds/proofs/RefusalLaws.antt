@@ -1,7 +1,7 @@
 -- The laws of `specs/Refusals.antt`: what is known where a chain of judgements has passed, and what one judgement comes to. No contract cites this file.
 -- In order: `Judged`; `then` and `either`; `unless`; `refuseFirst`; `need`. `-passed` opens a chain that passed, the others take a step of one.
 -- Assumes nothing.
-use mathlib.Core.Path.{_≡_, refl, subst}
+use mathlib.Core.Path.{_≡_, refl, sym, subst, _∙_}
 use mathlib.Core.Bool.{Bool, true, false, cond}
 use mathlib.Core.Option.{Option, none, some}
 use Prim.Native.Nat.{ℕ, _≤_, _<_}
@@ -54,6 +54,13 @@ module _ {A B : Type 0} where
   pub either-refused : {j : Judged A} {w : Why} (yes-of : A → B) (no-of : Why → B) → j ≡ refused w → either j yes-of no-of ≡ no-of w
   unfolding either
   either-refused yes-of no-of e = rw e
+
+-- what a call leaves of a judgement: an answer that passed came from what passed
+pub answer-passed : {A B C : Type 0} (j : Judged A) (yes-of : A → B) (no-of : Why → B) (answer : B → Judged C) (c : C) → ((w : Why) → answer (no-of w) ≡ refused w)
+    → answer (either j yes-of no-of) ≡ passed c → (a : A) × (j ≡ passed a) × (answer (yes-of a) ≡ passed c)
+unfolding either
+answer-passed (passed a) yes-of no-of answer c h e = (a, refl, e)
+answer-passed (refused w) yes-of no-of answer c h e = absurd (not-passed w c (sym (h w) ∙ e))
 
 -- ---- unless, refuseFirst, need
 

@@ -13,12 +13,12 @@ use Rattle.numbers.proofs.IntLaws.{within-le, all-part, between-within}
 use Rattle.kinds.specs.declared.Header.{Header}
 use Rattle.kinds.specs.declared.Border.{Border}
 use Rattle.kinds.specs.declared.Row.{Row}
-use Rattle.kinds.specs.Limits.{bordersMost, ltaMost}
+use Rattle.kinds.specs.Limits.{bordersMost}
 use Rattle.kinds.specs.Ranges.{atℤ, borderFits, borderOf, rowFits, rowOf}
 use Rattle.kinds.proofs.KindLaws.{header-in, zone-in, border-in, row-in, share-in, factor-in}
 use Rattle.table.specs.Table.{Table, stretch}
 use Rattle.table.specs.Good.{Good}
-use Rattle.margin.specs.Margin.{ltaKw, sOf}
+use Rattle.margin.specs.Margin.{sOf}
 use Rattle.margin.specs.Bounds.{RowBound, FactorsBound, TableFactorsBound, NetsBound, BorderBound, BordersBound, sMost}
 use Rattle.margin.proofs.BoundLaws.{s-most}
 
@@ -75,11 +75,6 @@ module _ {h : Header} {f : List ℤ} (bound : TableFactorsBound h f) (i : ℕ) (
 
   pub part-bound : {part : List ℤ} → part ≡ stretch (h .zones) f i → FactorsBound part
   part-bound e = rw e stretch-bound
-
--- ---- an LTA of a judged border
-pub lta-bound : (zones : ℕ) (raw : List ℤ) → borderFits zones raw ≡ true → ltaKw (borderOf raw) ≤ ltaMost * 1000
-unfolding ltaKw
-lta-bound zones raw fits = omega (arith, border-bound zones raw fits .lta-in)
 
 -- ---- S of judged borders
 pub s-bound : {factors : List ℤ} {borders : List (List ℤ)} {s : ℕ} → FactorsBound factors → BordersBound (length factors) borders → s ≡ sOf factors borders → s ≤ sMost

@@ -1,71 +1,11 @@
--- The laws of `specs/Below.antt`'s `sum`: to a higher bound, of terms that are at most so large, from the first term on, and over places that are all different. No contract cites this file.
+-- The laws of `specs/Below.antt`'s `sum`: of terms that are at most so large. No contract cites this file.
 -- Assumes nothing.
-use mathlib.Core.Path.{_≡_, refl, ap, subst}
-use mathlib.Core.Bool.{Bool, true, false, cond}
-use Prim.Native.Nat.{ℕ, zero, suc, _+_, _*_, _-_, _≤_, _<_}
-use native.Mathlib.Nat.{not-suc-le-zero, le-refl, add-zero, add-suc, suc-mul}
+use Prim.Native.Nat.{ℕ, zero, suc, _*_, _≤_, _<_}
+use native.Mathlib.Nat.{le-refl, suc-mul}
 use native.Mathlib.Omega.{arith}
-use lib.Dec.{eqb}
-use borrow.Author.Tests.{eqb-true, eqb-false, eq-eqb, ne-eqb}
 use Rattle.numbers.specs.Below.{sum}
-use Rattle.numbers.proofs.BelowLaws.{sum-mono}
-
-pub sum-more : (k d : ℕ) (f : ℕ → ℕ) → sum k f ≤ sum (k + d) f
-unfolding sum
-sum-more k zero f = rw (add-zero k) (le-refl (sum k f))
-sum-more k (suc d) f = rw (add-suc k d) (omega (arith, sum-more k d f))
-
-pub sum-upto : (k n : ℕ) (f : ℕ → ℕ) → k ≤ n → sum k f ≤ sum n f
-sum-upto k n f h = let e : k + (n - k) ≡ n = omega arith in subst (λ (m : ℕ). sum k f ≤ sum m f) e (sum-more k (n - k) f)
 
 pub sum-most : {m : ℕ} (k : ℕ) (f : ℕ → ℕ) → ((i : ℕ) → i < k → f i ≤ m) → sum k f ≤ k * m
 unfolding sum
 sum-most {m} zero f h = omega arith
 sum-most {m} (suc k) f h = omega (arith, sum-most k f (λ i l. h i (omega arith)), h k (le-refl (suc k)), suc-mul k m)
-
--- the first term, and the rest
-pub sum-first : (k : ℕ) (f : ℕ → ℕ) → sum (suc k) f ≡ f 0 + sum k (λ i. f (suc i))
-unfolding sum
-sum-first zero f = omega arith
-sum-first (suc k) f = omega (arith, sum-first k f)
-
--- ---- places all different: the terms there are among those of the whole
-module _ (c : ℕ) (w : ℕ → ℕ) where
-  abbrev without : ℕ → ℕ
-  without k = cond (eqb k c) 0 (w k)
-
-  without-le : (k : ℕ) → without k ≤ w k
-  without-le k = go (eqb k c)
-    where
-      go : (t : Bool) → cond t 0 (w k) ≤ w k
-      go true = omega arith
-      go false = le-refl (w k)
-
-  without-here : (k : ℕ) → k ≡ c → without k ≡ 0
-  without-here k e = rw (eq-eqb k c e)
-
-  without-other : (k : ℕ) → (k ≡ c → ⊥) → without k ≡ w k
-  without-other k e = rw (ne-eqb k c e)
-
-  sum-without : (m : ℕ) → c < m → sum m without + w c ≤ sum m w
-  unfolding sum
-  sum-without zero h = absurd (not-suc-le-zero h)
-  sum-without (suc m) h = go (sum-without m) (eqb m c) refl
-    where
-      go : (c < m → sum m without + w c ≤ sum m w) → (t : Bool) → eqb m c ≡ t → sum m without + without m + w c ≤ sum m w + w m
-      go ih true e = omega (arith, sum-mono m without w (λ k l. without-le k), without-here m (eqb-true m c e), ap w (eqb-true m c e))
-      go ih false e =
-          let l : c < m = omega (arith, eqb-false m c e) in
-          omega (arith, ih l, without-le m)
-
-pub sum-places : (n m : ℕ) (place w : ℕ → ℕ) → ((b : ℕ) → b < n → place b < m) → ((b e : ℕ) → e < b → b < n → place e ≡ place b → ⊥) → sum n (λ b. w (place b)) ≤ sum m w
-unfolding sum
-sum-places zero m place w low apart = omega arith
-sum-places (suc n) m place w low apart =
-    let c = place n in
-    omega (
-      arith,
-      sum-mono n (λ b. w (place b)) (λ b. without c w (place b)) (λ b h. omega (arith, without-other c w (place b) (apart n b h (le-refl (suc n))))),
-      sum-places n m place (without c w) (λ b h. low b (omega arith)) (λ b e h l. apart b e h (omega arith)),
-      sum-without c w m (low n (le-refl (suc n))),
-    )

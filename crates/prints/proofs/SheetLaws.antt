@@ -28,17 +28,18 @@ use Rattle.kinds.specs.Ranges.{atℤ}
 use Rattle.kinds.specs.Refusals.{Why, Judged, passed, refused, then, either, told, noCorners}
 use Rattle.kinds.proofs.KindLaws.{header-in}
 use Rattle.kinds.proofs.RefusalLaws.{passed-is, refused-is, not-passed, then-next, then-refused, either-passed, either-refused, unless-ok, unless-refused}
+use Rattle.text.specs.Left.{TextLeft, textLeft, textSaid}
 use Rattle.text.specs.Written.{linesText}
 use Rattle.text.proofs.DigitLaws.{decimal-most, signed-most}
+use Rattle.text.proofs.LeftLaws.{text-left, text-refused}
 use Rattle.text.proofs.PutLaws.{lines-most, lines-cong}
 use Rattle.table.specs.Table.{Table, lent, factorsAt, judgeLent}
 use Rattle.table.specs.Good.{Good}
 use Rattle.table.proofs.GoodLaws.{good-judged}
 use Rattle.reading.specs.Places.{left}
-use Rattle.reading.specs.Reading.{readText, ReadLeft, readLeft}
+use Rattle.reading.specs.Reading.{readText, readLeft}
 use Rattle.reading.proofs.ReadLaws.{read-good}
-use Rattle.writing.specs.Writing.{TextLeft, textSaid, textLeft}
-use Rattle.writing.proofs.LeftLaws.{text-left, Taken, read-taken, over-judged}
+use Rattle.reading.proofs.LeftLaws.{taken, as-read, refused-text}
 use Rattle.margin.specs.Bounds.{BordersBound}
 use Rattle.margin.proofs.JudgedLaws.{stretch-long, stretch-bound, good-factors, good-borders}
 use Rattle.corners.specs.Corners.{sheetBordersMost, partOf, flowsOf, judgeCorners}
@@ -48,9 +49,9 @@ use Rattle.corners.proofs.ListedLaws.{part-of-within}
 use Rattle.corners.proofs.SheetLaws.{Sheet, judged-sheet, flows-long}
 use Rattle.cornertext.specs.CornerText.{sheetMost, cornerLineAt, cornersText, sheetText, cornerTextLeft}
 use Rattle.cornertext.proofs.CornerTextLaws.{line-long}
-use Rattle.result.specs.Result.{refusalText}
+use Rattle.result.specs.Refusal.{refusalText}
 use Rattle.prints.specs.Printed.{oneSheet, everySheet, sheetAt, sheetRows, sheetRoom, Printed}
-use Rattle.prints.proofs.PrintedLaws.{over-printed, answered, refused-text}
+use Rattle.prints.proofs.PrintedLaws.{over-printed}
 
 -- ---- how long a row's sheet is
 module _ {t : Table} {row : ℕ} (s : Sheet t row) where
@@ -95,8 +96,8 @@ module _ (given : Table) (row : ℕ) (out : List ℕ) (r : Written) {out′ : Li
       ∙ text-left (sheetText t row) out (omega (arith, sheet-short (judged-sheet given row t q)))
 
   on-refused : (v : Why) → judgeCorners given row ≡ refused v → saidWritten r ≡ refused v
-  unfolding cornerTextLeft textLeft
-  on-refused v q = ap (λ (l : TextLeft). l .answer) (said ∙ either-refused _ _ (then-refused _ (then-refused _ q)))
+  unfolding cornerTextLeft
+  on-refused v q = ap (λ (l : TextLeft). l .answer) (said ∙ sym (text-refused out (then-refused _ q)))
 
   pub sheet-printed : (n : ℕ) → r ≡ written.Bytes n → Printed n (sheetAt given row) out′
   unfolding sheetAt
@@ -157,20 +158,21 @@ module _ (text : List ℕ) (z : List ℤ) (b c : List (List ℤ)) (f : List ℤ)
       abbrev given : Table
       given = lent h z′ b′ c′ f′
 
-      taken : Taken text z b c f h
-      taken = read-taken text z b c f h (answered text z b c f r said h is)
+      abbrev t : Table
+      t = taken text z b c f r said h is .it
 
-      good : Good (taken .it)
-      good = read-good text (taken .it) (taken .read)
+      is-read : readText text ≡ passed t
+      is-read = taken text z b c f r said h is .read
 
-      as-read : judgeLent given ≡ passed (taken .it)
-      as-read =
-          subst (λ (g : Header). judgeLent (lent g z′ b′ c′ f′) ≡ passed (taken .it)) (taken .header)
-          (ap (λ (l : ReadLeft). judgeLent (lent (taken .it .header) (l .z) (l .b) (l .c) (l .f))) (said ∙ taken .left) ∙ over-judged (taken .it) good z b c f)
+      good : Good t
+      good = read-good text t is-read
+
+      judged : judgeLent given ≡ passed t
+      judged = as-read text z b c f r said h is
 
       corners-read : (row : ℕ) → judgeCorners given row ≡ then (readText text) (λ t. judgeCorners t row)
       unfolding judgeCorners
-      corners-read row = then-next _ as-read ∙ sym (then-next _ (taken .read) ∙ then-next _ (good-judged (taken .it) good))
+      corners-read row = then-next _ judged ∙ sym (then-next _ is-read ∙ then-next _ (good-judged t good))
 
       pub one-sheet : (row : ℕ) → sheetAt given row ≡ oneSheet text row
       unfolding sheetAt oneSheet
@@ -179,8 +181,8 @@ module _ (text : List ℕ) (z : List ℤ) (b c : List (List ℤ)) (f : List ℤ)
       pub every-sheet : linesText (sheetRows h) 0 (sheetAt given) ≡ everySheet text
       unfolding everySheet
       every-sheet =
-          ap (λ (g : Header). linesText (sheetRows g) 0 (sheetAt given)) (sym (taken .header))
-          ∙ rows-printed given (taken .it) as-read (omega (arith, header-in (taken .it .header) (good .exact .header) .rows-least))
+          ap (λ (g : Header). linesText (sheetRows g) 0 (sheetAt given)) (sym (taken text z b c f r said h is .header))
+          ∙ rows-printed given t judged (omega (arith, header-in (t .header) (good .exact .header) .rows-least))
           ∙ ap (λ (j : Judged Table). either j (λ t. linesText (t .header .rows) 0 (sheetText t)) refusalText) (corners-read 0)
 
     -- it was refused, with room for the largest table

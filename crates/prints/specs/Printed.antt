@@ -16,7 +16,7 @@ use Rattle.reading.specs.Reading.{readText}
 use Rattle.writing.specs.Writing.{tableText}
 use Rattle.corners.specs.Corners.{sheetBordersMost, judgeCorners}
 use Rattle.cornertext.specs.CornerText.{sheetMost, sheetText}
-use Rattle.result.specs.Result.{refusalText}
+use Rattle.result.specs.Refusal.{refusalText}
 
 -- how much of the buffer to print
 abbrev pub bytesOf : Written → ℕ
@@ -42,10 +42,6 @@ sheetAt given row = either (judgeCorners given row) (λ t. sheetText t row) refu
 -- .. for so many rows: where the table has no sheet, the line E stands for all
 abbrev pub sheetRows : Header → ℕ
 sheetRows h = cond (leb (h .borders) sheetBordersMost) (h .rows) 1
-
--- no E line is longer: a letter, two tabs, an LF, a number of 1 digit and a place of 20
-abbrev pub refusalMost : ℕ
-refusalMost = 25
 
 -- no row's sheet is longer: a letter, three tabs, an LF, a row of 3 digits, a corner of 4, a flow of 14 and its minus
 abbrev pub sheetRoom : ℕ

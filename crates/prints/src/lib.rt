@@ -6,9 +6,10 @@ ghost use lib.ListN.{length};
 ghost use Rattle.kinds.specs.Limits.{zonesMost, bordersMost, rowsMost, bytesMost};
 ghost use Rattle.kinds.specs.Refusals.{told};
 ghost use Rattle.table.specs.Table.{lent};
-ghost use Rattle.result.specs.Result.{refusalText, answerText};
+ghost use Rattle.result.specs.Refusal.{refusalText, refusalMost};
+ghost use Rattle.answer.specs.Result.{answerText};
 ghost use Rattle.answer.specs.Made.{answerMost};
-ghost use Rattle.prints.specs.Printed.{bytesOf, rewritten, sheetAt, sheetRows, refusalMost, sheetRoom, Printed};
+ghost use Rattle.prints.specs.Printed.{bytesOf, rewritten, sheetAt, sheetRows, sheetRoom, Printed};
 use kinds::Border;
 use kinds::BorderRecord;
 use kinds::Header;
@@ -23,7 +24,7 @@ pub fn answer(text: &[u8], out: &mut [u8]) -> usize
     requires { ⌜ answerMost ≤ length (now out) ⌝ }
     ensures { λ r. ⌜ Printed r (answerText (now (text .entry))) (now (out .exit)) ⌝ }
 {
-    bytes_of(answer::answer(text, out))
+    bytes_of(answer::answer_within(text, out))
 }
 
 fn bytes_of(said: Written) -> usize
@@ -71,9 +72,7 @@ pub fn refusal_line(w: Refusal, out: &mut [u8]) -> usize
     requires { ⌜ refusalMost ≤ length (now out) ⌝ }
     ensures { λ r. ⌜ Printed r (refusalText (told w)) (now (out .exit)) ⌝ }
 {
-    let number = result::refusal::refusal_number(w);
-    let place = result::refusal::refusal_place(w) as u64;
-    result::refusal::put_why(number, place, out)
+    bytes_of(answer::refusal_out(w, out))
 }
 
 // For how many rows to call `sheet_row`, from row 0 on: the E line of a table that has no sheet stands for all.

@@ -1,2 +1,1 @@
 pub mod RecordsLaws
-pub mod Longest

@@ -1,20 +1,17 @@
 -- The result text made from result records, as the open call `extract` fills them (01, "Result text"): a border's ATC; a row's state, RAM and margin left.
--- `recordsText` and the lines of it are what contracts cite. That a result's records give its `resultText` is proofs/RecordsLaws.antt's `records-text`.
+-- `recordsText` and the lines of it are what contracts cite; the text of a result is that of its records (answer's specs/Result.antt).
 -- Assumes nothing.
 use mathlib.Core.Bool.{cond}
 use mathlib.Core.List.{List, [], _∷_, _++_}
 use Prim.Native.Char.{code}
-use Prim.Native.Nat.{ℕ}
+use Prim.Native.Nat.{ℕ, _+_, _*_}
 use lib.IntN.{ℤ, pos}
 use lib.ListN.{length, getD}
 use Rattle.numbers.specs.Ints.{sameℤ}
+use Rattle.kinds.specs.Limits.{bordersMost, rowsMost}
 use Rattle.kinds.specs.Ranges.{atℤ}
 use Rattle.text.specs.Fields.{dash}
 use Rattle.text.specs.Written.{decimal, decimalℤ, lineText, linesText}
-
--- the bytes of no line of 64-bit numbers are more: a letter, at most four fields of up to 20 bytes with a tab before each, and the LF
-abbrev pub lineMost : ℕ
-lineMost = 86
 
 -- A, border index, ATC in MW
 abbrev pub atcLine : (b : ℕ) → (atc : ℤ) → List ℕ
@@ -47,3 +44,11 @@ marginLines lefts = linesText (length lefts) 0 (marginAt lefts)
 
 unfoldable pub recordsText : (atcs lefts : List (List ℤ)) → (rounds : ℕ) → List ℕ
 recordsText atcs lefts rounds = atcLines atcs ++ marginLines lefts ++ roundsLine rounds
+
+-- no line of 64-bit numbers is longer: a letter, at most four fields of up to 20 bytes with a tab before each, and the LF
+abbrev pub resultLineMost : ℕ
+resultLineMost = 1 + 4 * 21 + 1
+
+-- .. and no text of the most records
+abbrev pub recordsMost : ℕ
+recordsMost = (bordersMost + rowsMost + 1) * resultLineMost

@@ -9,19 +9,19 @@ ghost use Rattle.numbers.specs.Below.{over};
 ghost use Rattle.kinds.specs.Limits.{bordersMost, rowsMost};
 ghost use Rattle.text.specs.Fields.{tab};
 ghost use Rattle.text.specs.Put.{Put};
-ghost use Rattle.result.specs.Records.{lineMost, atcLine, leftField, marginLine, roundsLine, atcLines, marginLines, recordsText};
+ghost use Rattle.result.specs.Records.{atcLine, leftField, marginLine, roundsLine, atcLines, marginLines, recordsText, resultLineMost, recordsMost};
 
 // How many bytes the result text has.
 pub fn records_length(atc: &[[i64; 1]], left: &[[i64; 3]], rounds: u64) -> usize
     requires { ⌜ (length (now atc) ≤ bordersMost) × (length (now left) ≤ rowsMost) ⌝ }
-    ensures { λ r. ⌜ r ≡ length (recordsText (now (atc .entry)) (now (left .entry)) rounds) ⌝ }
+    ensures { λ r. ⌜ (r ≡ length (recordsText (now (atc .entry)) (now (left .entry)) rounds)) × (r ≤ recordsMost) ⌝ }
 {
     atcs_length(atc) + margins_length(left) + rounds_length(rounds)
 }
 
 fn atcs_length(atc: &[[i64; 1]]) -> usize
     requires { ⌜ length (now atc) ≤ bordersMost ⌝ }
-    ensures { λ r. ⌜ (r ≡ length (atcLines (now (atc .entry)))) × (r ≤ bordersMost * lineMost) ⌝ }
+    ensures { λ r. ⌜ (r ≡ length (atcLines (now (atc .entry)))) × (r ≤ bordersMost * resultLineMost) ⌝ }
 {
     let mut total: usize = 0;
     let mut b: usize = 0;
@@ -41,7 +41,7 @@ fn atc_length(b: u64, atc: i64) -> usize
 
 fn margins_length(left: &[[i64; 3]]) -> usize
     requires { ⌜ length (now left) ≤ rowsMost ⌝ }
-    ensures { λ r. ⌜ (r ≡ length (marginLines (now (left .entry)))) × (r ≤ rowsMost * lineMost) ⌝ }
+    ensures { λ r. ⌜ (r ≡ length (marginLines (now (left .entry)))) × (r ≤ rowsMost * resultLineMost) ⌝ }
 {
     let mut total: usize = 0;
     let mut i: usize = 0;

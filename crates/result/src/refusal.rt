@@ -5,7 +5,7 @@ ghost use lib.ListN.{length};
 ghost use Rattle.numbers.specs.Below.{over};
 ghost use Rattle.kinds.specs.Refusals.{why, told};
 ghost use Rattle.text.specs.Put.{Put};
-ghost use Rattle.result.specs.Result.{refusalText};
+ghost use Rattle.result.specs.Refusal.{refusalText, refusalMost};
 use kinds::Refusal;
 
 pub fn refusal_number(w: Refusal) -> u64
@@ -43,7 +43,7 @@ pub fn refusal_place(w: Refusal) -> usize
 
 // How many bytes the E line has: the letter, two tabs and the LF, and the numbers.
 pub fn refusal_length(w: Refusal) -> usize
-    ensures { λ r. ⌜ r ≡ length (refusalText (told w)) ⌝ }
+    ensures { λ r. ⌜ (r ≡ length (refusalText (told w))) × (r ≤ refusalMost) ⌝ }
 {
     4 + text::put::digit_count(refusal_number(w)) + text::put::digit_count(refusal_place(w) as u64)
 }
@@ -59,7 +59,7 @@ pub fn put_refusal(w: Refusal, out: &mut [u8]) -> usize
 }
 
 // The E line of a number and a place.
-pub fn put_why(number: u64, place: u64, out: &mut [u8]) -> usize
+fn put_why(number: u64, place: u64, out: &mut [u8]) -> usize
     requires { ⌜ length (refusalText (why number place)) ≤ length (now out) ⌝ }
     ensures { λ r. ⌜ Put (refusalText (why number place)) 0 (now (out .entry)) r (now (out .exit)) ⌝ }
 {

@@ -6,8 +6,10 @@ use mathlib.Core.List.{List, [], _∷_, _++_, append-assoc, append-nil}
 use Prim.Native.Char.{code}
 use Prim.Native.Nat.{ℕ, zero, suc, _+_, _^_, _<_}
 use native.Mathlib.Omega.{arith}
+use lib.IntN.{ℤ}
 use lib.ListN.{length, getD, drop}
 use borrow.Author.Tests.{eq-eqb, ne-eqb}
+use Rattle.numbers.specs.Below.{table}
 use Rattle.kinds.specs.Refusals.{Why}
 use Rattle.text.specs.Fields.{tab, feed}
 use Rattle.text.specs.Written.{decimal, fieldsText, lineText, linesText}
@@ -17,8 +19,10 @@ use Rattle.table.specs.Table.{Table, factorsAt}
 use Rattle.writing.specs.Writing.{tableText}
 use Rattle.corners.specs.Corners.{flowsOf}
 use Rattle.cornertext.specs.CornerText.{cornerLineAt, cornersText, sheetText}
-use Rattle.extraction.specs.Extraction.{Result}
-use Rattle.result.specs.Result.{atcText, marginText, resultText, refusalText}
+use Rattle.extraction.specs.Extraction.{Result, atcRecord, rowRecord}
+use Rattle.result.specs.Records.{atcAt, marginAt, roundsLine, recordsText}
+use Rattle.result.specs.Refusal.{refusalText}
+use Rattle.answer.specs.Result.{resultText}
 use Rattle.sheets.specs.declared.Ended.the-variants.{Answered, Refused}
 use Rattle.sheets.specs.Heard.{letterE, refusalIn, heardOf}
 
@@ -57,15 +61,19 @@ unfolding linesText
 lines-other zero i line rest each last = last
 lines-other (suc left) i line rest each last = subst Other (sym (append-assoc (line i) (linesText left (i + 1) line) rest)) (each i (linesText left (i + 1) line ++ rest))
 
--- a result is heard as an answer: it begins with A, M or R
+-- a result's records are heard as an answer: their text begins with A, M or R
+records-heard : (atcs lefts : List (List ℤ)) (k : ℕ) → heardOf (recordsText atcs lefts k) ≡ Answered
+unfolding recordsText lineText
+records-heard atcs lefts k =
+    let borders = linesText (length atcs) 0 (atcAt atcs) in
+    let rows = linesText (length lefts) 0 (marginAt lefts) in
+    let other = lines-other (length atcs) 0 (atcAt atcs) (rows ++ roundsLine k) (λ b more e. omega arith) (lines-other (length lefts) 0 (marginAt lefts) (roundsLine k) (λ i more e. omega arith) (λ e. omega arith)) in
+    sym (heard-other (recordsText atcs lefts k) (subst Other (sym (append-assoc borders rows (roundsLine k))) other))
+
+-- .. and so a result
 pub result-heard : (r : Result) → heardOf (resultText r) ≡ Answered
-unfolding resultText atcText marginText lineText
-result-heard r =
-    let borders = linesText (r .header .borders) 0 (atcText r) in
-    let rows = linesText (r .header .rows) 0 (marginText r) in
-    let rounds = lineText (code "R") (decimal (r .outcome .rounds) ∷ []) in
-    let other = lines-other (r .header .borders) 0 (atcText r) (rows ++ rounds) (λ k more e. omega arith) (lines-other (r .header .rows) 0 (marginText r) rounds (λ k more e. omega arith) (λ e. omega arith)) in
-    sym (heard-other (resultText r) (subst Other (sym (append-assoc borders rows rounds)) other))
+unfolding resultText
+result-heard r = records-heard (table (r .header .borders) (atcRecord r)) (table (r .header .rows) (rowRecord r)) (r .outcome .rounds)
 
 -- .. and so is a table: it begins with H
 pub table-heard : (t : Table) → heardOf (tableText t) ≡ Answered

@@ -1,24 +1,27 @@
--- The laws of `specs/Good.antt`: what judging lent tables gives (`judged-front`, `judged-good`), and that a good table is judged to be itself (`good-judged`).
+-- The laws of `specs/Good.antt`: what judging lent tables gives (`judged-front`, `judged-good`), and that a good table in front of lent tables is what they are judged to be
+-- (`front-judged`, `good-judged`, `over-judged`).
 -- Row i's factors are its stretch, so factor k of the whole table is factor k % zones of row k / zones. No contract cites this file.
 -- Assumes nothing.
 use mathlib.Core.Path.{_≡_, sym, ap, subst, _∙_}
 use mathlib.Core.Bool.{true, false, not}
 use mathlib.Core.List.{List, []}
-use Prim.Native.Nat.{ℕ, suc, _+_, _*_, _/_, _%_, _<_}
+use Prim.Native.Nat.{ℕ, suc, _+_, _*_, _/_, _%_, _≤_, _<_}
 use native.Mathlib.Nat.{div-add-mod', div-lt-iff-lt-mul, mod-lt, mul-le-mul-right, suc-mul}
 use native.Mathlib.Omega.{arith}
 use lib.IntN.{ℤ, pos}
-use lib.ListN.{length, getD, drop, length-drop}
-use lib.Seq.{length-take-le, take-all, getD-take, getD-drop}
+use lib.ListN.{length, getD, drop, length-append, length-drop}
+use lib.Seq.{length-take-le, take-all, take-at, getD-take, getD-drop}
 use borrow.Author.Tests.{not-false}
+use Rattle.numbers.specs.Below.{over}
 use Rattle.numbers.proofs.TestLaws.{and-both, both-and, all-true, true-all}
-use Rattle.kinds.specs.Ranges.{atℤ, rowFits, factorFits}
-use Rattle.kinds.specs.Refusals.{passed}
+use Rattle.kinds.specs.Ranges.{atℤ, headerFits, rowFits, factorFits}
+use Rattle.kinds.specs.Refusals.{passed, then}
 use Rattle.kinds.specs.declared.Header.{Header}
 use Rattle.kinds.proofs.KindLaws.{header-in}
-use Rattle.kinds.proofs.RefusalLaws.{passed-is, unless-passed, need-passed, none-passed, then-passed, unless-ok, need-enough, none-next, then-next}
+use Rattle.kinds.proofs.RefusalLaws.{passed-is, unless-passed, need-passed, none-passed, then-passed, unless-ok, none-next, then-next}
 use Rattle.table.specs.Table.{Table, lent, stretch, factorsAt, twice, notTwice, rowGood, front, inRange, roomFor, judgeLent}
 use Rattle.table.specs.Good.{Good}
+use Rattle.table.proofs.RoomLaws.{Enough, room-enough}
 
 -- ---- stretches
 module _ (zones rows : ℕ) (factors : List ℤ) (long : length factors ≡ rows * zones) where
@@ -106,6 +109,9 @@ judged-good given t e = let j = judged given t e in subst Good (j .is) (j .good)
 lent-is : (h : Header) (z z′ : List ℤ) (b b′ c c′ : List (List ℤ)) (f f′ : List ℤ) → z ≡ z′ → b ≡ b′ → c ≡ c′ → f ≡ f′ → lent h z b c f ≡ lent h z′ b′ c′ f′
 lent-is h z z′ b b′ c c′ f f′ p q r s = cc
 
+over-long : {A : Type 0} (new old : List A) (n : ℕ) → length new ≡ n → n ≤ length (over new old)
+over-long new old n e = omega (arith, length-append new (drop (length new) old))
+
 module _ (t : Table) (g : Good t) where
   front-same : front t ≡ t
   front-same =
@@ -124,13 +130,38 @@ module _ (t : Table) (g : Good t) where
       (λ z m. row-fit (t .header .zones) (t .header .rows) (t .factors) (g .exact .factors-long) (omega (arith, h .zones-least)) (g .factors-fit) i l z
       (rw (stretch-long (t .header .zones) (t .header .rows) (t .factors) (g .exact .factors-long) i l) at m))))
 
-  pub good-judged : judgeLent t ≡ passed t
-  unfolding judgeLent roomFor
-  good-judged =
-      unless-ok _ _ (g .exact .header)
-      ∙ need-enough _ _ _ (omega (arith, g .exact .nets-long))
-      ∙ need-enough _ _ _ (omega (arith, g .exact .borders-long))
-      ∙ need-enough _ _ _ (omega (arith, g .exact .rows-long))
-      ∙ need-enough _ _ _ (omega (arith, g .exact .factors-long))
-      ∙ then-next notTwice (ap inRange front-same ∙ in-range)
+  -- .. and so are lent tables whose front it is
+  pub front-judged : (given : Table) → front given ≡ t → Enough (given .header) (length (given .nets)) (length (given .borders)) (length (given .rows)) (length (given .factors)) → judgeLent given ≡ passed t
+  unfolding judgeLent
+  front-judged given is n =
+      unless-ok _ _ (subst (λ (u : Table). headerFits (u .header) ≡ true) (sym is) (g .exact .header))
+      ∙ sym (room-enough _ _ _ _ _ _ (n .zones) (n .borders) (n .rows) (n .factors))
+      ∙ ap (λ (u : Table). then (inRange u) notTwice) is
+      ∙ then-next notTwice in-range
       ∙ none-next _ _ _ _ (g .once)
+
+  pub good-judged : judgeLent t ≡ passed t
+  good-judged =
+      front-judged t front-same
+      (record {
+        zones = omega (arith, g .exact .nets-long);
+        borders = omega (arith, g .exact .borders-long);
+        rows = omega (arith, g .exact .rows-long);
+        factors = omega (arith, g .exact .factors-long);
+      })
+
+  -- .. among them what is written over lent buffers
+  pub over-judged : (z : List ℤ) (b c : List (List ℤ)) (f : List ℤ) → judgeLent (lent (t .header) (over (t .nets) z) (over (t .borders) b) (over (t .rows) c) (over (t .factors) f)) ≡ passed t
+  over-judged z b c f =
+      front-judged (lent (t .header) (over (t .nets) z) (over (t .borders) b) (over (t .rows) c) (over (t .factors) f))
+      (lent-is (t .header) _ _ _ _ _ _ _ _
+      (take-at (t .nets) _ _ (g .exact .nets-long))
+      (take-at (t .borders) _ _ (g .exact .borders-long))
+      (take-at (t .rows) _ _ (g .exact .rows-long))
+      (take-at (t .factors) _ _ (g .exact .factors-long)))
+      (record {
+        zones = over-long (t .nets) z _ (g .exact .nets-long);
+        borders = over-long (t .borders) b _ (g .exact .borders-long);
+        rows = over-long (t .rows) c _ (g .exact .rows-long);
+        factors = over-long (t .factors) f _ (g .exact .factors-long);
+      })

@@ -11,7 +11,9 @@ use borrow.Author.Tests.{ltb-true}
 use lib.Dec.{lit≤}
 use lib.IntN.{ℤ, pos, negsuc, natAbs}
 use lib.ListN.{length, set, length-append, length-set}
-use lib.Signed.{ltZ}
+use lib.Signed.{ltZ, mag}
+use mir.Syntax.{w64}
+use mir.Val.{hbits}
 use Rattle.text.specs.Fields.{dash}
 use Rattle.text.specs.Written.{decimal, decimalℤ}
 use Rattle.text.specs.Put.{put, Put}
@@ -141,3 +143,8 @@ module _ (z : ℤ) where
 
       pub above-put : ltZ z (pos 0) ≡ false → Put (decimal d) at out n out′ → Put (decimalℤ z) at out n out′
       above-put e r = subst (λ (l : List ℕ). Put l at out n out′) (above e) r
+
+-- an i64 has at most twenty bytes, its minus among them
+pub decimal-i64 : (z : ℤ) → mag z < 2 ^ hbits w64 → length (decimalℤ z) ≤ 20
+decimal-i64 (pos n) h = signed-most (pos n) 19 (omega arith) (omega arith)
+decimal-i64 (negsuc n) h = signed-most (negsuc n) 19 (omega arith) (omega arith)

@@ -3,6 +3,5 @@ pub mod TableTrip
 pub mod LengthLaws
 pub mod LeftLaws
 pub mod RoundTrip
-pub mod Longest
 pub mod TextLaws
 pub mod Unique

@@ -4,11 +4,9 @@ use mathlib.Core.List.{List, [], _++_}
 use Prim.Native.Nat.{ℕ}
 use lib.IntN.{ℤ}
 use lib.ListN.{length, getD}
-use Rattle.numbers.specs.Below.{over}
-use Rattle.kinds.specs.declared.Written.{Written}
 use Rattle.kinds.specs.Ranges.{atℤ}
-use Rattle.kinds.specs.Refusals.{Judged, passed, refused, then, either, need}
-use Rattle.kinds.specs.Answers.{saidWritten}
+use Rattle.kinds.specs.Refusals.{passed, then}
+use Rattle.text.specs.Left.{TextLeft, textLeft}
 use Rattle.text.specs.Written.{linesText}
 use Rattle.table.specs.Table.{Table, factorsAt, stretch, judgeLent}
 use Rattle.layout.specs.Layout.{headerText, zoneText, borderText, rowText}
@@ -20,25 +18,9 @@ tableText t =
     ++ linesText (t .header .borders) 0 (λ i. borderText i (getD (t .borders) i []))
     ++ linesText (t .header .rows) 0 (λ i. rowText i (getD (t .rows) i []) (factorsAt t i))
 
--- what a call that writes text leaves: its answer, and the lent bytes
-pub record TextLeft : Type 0 where
-  pub answer : Judged ℕ
-  pub out : List ℕ
-
--- the text, where it is to be had and there is room for it (8, bytes); a refusal writes nothing
-unfoldable pub textLeft : Judged (List ℕ) → (out : List ℕ) → TextLeft
-textLeft judged out =
-    either (then judged (λ text. need (length text) (length out) (passed text)))
-    (λ text. record { answer = passed (length text); out = over text out })
-    (λ w. record { answer = refused w; out = out })
-
 -- the open call `write`
 unfoldable pub writeLeft : (lent : Table) → (out : List ℕ) → TextLeft
 writeLeft lent out = textLeft (then (judgeLent lent) (λ t. passed (tableText t))) out
-
--- what such a call says: its answer, and the lent bytes as it leaves them
-abbrev pub textSaid : Written → (out : List ℕ) → TextLeft
-textSaid r out = record { answer = saidWritten r; out = out }
 
 -- the lines of each kind, by the lent records
 abbrev pub zoneTextAt : (nets : List ℤ) → (i : ℕ) → List ℕ

@@ -1,7 +1,11 @@
 -- `answer::answer_lent` meets its contract: the result text (`printed-result`), or the E line (`printed-refusal`). Assumes nothing.
-use mathlib.Core.Path.{_∙_}
+use mathlib.Core.Path.{subst, _∙_}
+use Prim.Native.Nat.{_≤_}
+use native.Mathlib.Omega.{arith}
 use borrow.Author.Needs.{needs}
 use Rattle.table.specs.Table.{Table, lent}
+use Rattle.answer.specs.declared.made.Made.{Made}
+use Rattle.answer.specs.Made.{answerMost, madeAsked}
 use Rattle.answer.proofs.OutcomeLaws.{printed-result, printed-refusal}
 use Rattle.answer.proofs.answer_lent.Statement.{statement}
 use Rattle.answer.proofs.answer_lent.Tie as tie
@@ -9,39 +13,29 @@ use Rattle.answer.proofs.answer_lent.Tie as tie
 abbrev given : tie.Start → Table
 given s = lent (s .args .h) (s .args .z .now) (s .args .b .now) (s .args .c .now) (s .args .f .now)
 
-make-requires : tie.Need-make-requires
-make-requires c κs = search needs
-
-enum-known-written : tie.Need-enum-known-written
-enum-known-written c = search needs
-
-enum-known-w : tie.Need-enum-known-w
-enum-known-w c = search needs
-
-refusal-out-requires : tie.Need-refusal-out-requires
-refusal-out-requires c κs = search needs
-
-same-length : tie.Need-same-length
-same-length c = search needs
-
 returns : tie.Need-returns
-returns c = let s = c .before .before .before .before .before .before .before .before in printed-result (given s) (s .args .out .now) _ _ (c .before .before .before .before .before .make .ensures) _ (c .before .written .given .1)
-
-same-length-2 : tie.Need-same-length-2
-same-length-2 c = search needs
+returns c =
+    let s = c .before .before .before .before .before .before .before .before in
+    let made = c .before .before .before .before .before .make .ensures in
+    let is = c .before .written .given .1 in
+    (printed-result (given s) (s .args .out .now) _ _ (made .0) _ is, subst (λ (m : Made). madeAsked m ≤ answerMost) is (made .1))
 
 returns-2 : tie.Need-returns-2
-returns-2 c = let s = c .before .before .before .before .before .before .before .before .before .before .before .before in c .before .before .refusal-out .ensures ∙ printed-refusal (given s) (s .args .out .now) _ _ (c .before .before .before .before .before .before .before .before .before .make .ensures) _ (c .before .before .before .before .before .w .given .1)
+returns-2 c =
+    let called = c .before .before .before .before .before .before .before .before .before in
+    let s = called .before .before .before in
+    let answered = c .before .before .refusal-out .ensures in
+    (answered .0 ∙ printed-refusal (given s) (s .args .out .now) _ _ (called .make .ensures .0) _ (c .before .before .before .before .before .w .given .1), omega (arith, answered .1))
 
 pub answer-lent-spec : {M : Type 1} → statement M
 answer-lent-spec =
     tie.close
     (tie.spec
-    make-requires
-    enum-known-written
-    enum-known-w
-    refusal-out-requires
-    same-length
+    (λ c κs. search needs)
+    (λ c. search needs)
+    (λ c. search needs)
+    (λ c κs. search needs)
+    (λ c. search needs)
     returns
-    same-length-2
+    (λ c. search needs)
     returns-2)

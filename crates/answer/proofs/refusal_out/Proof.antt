@@ -2,27 +2,28 @@
 use native.Mathlib.Omega.{arith}
 use borrow.Author.Needs.{needs}
 use Rattle.kinds.specs.Refusals.{told}
-use Rattle.writing.proofs.LeftLaws.{text-short}
-use Rattle.result.specs.Result.{refusalText}
-use Rattle.answer.proofs.OutcomeLaws.{text-out}
+use Rattle.text.proofs.LeftLaws.{text-short, text-out}
+use Rattle.result.specs.Refusal.{refusalText}
 use Rattle.answer.proofs.refusal_out.Statement.{statement}
 use Rattle.answer.proofs.refusal_out.Tie as tie
 
-refusal-length-requires : tie.Need-refusal-length-requires
-refusal-length-requires c κs = search needs
-
 returns : tie.Need-returns
-returns c = let a = c .before .before .before .args in text-short (refusalText (told (a .w))) (a .out .now) _ (c .before .refusal-length .ensures) (omega arith)
+returns c =
+    let a = c .before .before .before .args in
+    let long = c .before .refusal-length .ensures in
+    (text-short (refusalText (told (a .w))) (a .out .now) _ (long .0) (omega arith), omega (arith, long .1))
 
 put-refusal-requires : tie.Need-put-refusal-requires
-put-refusal-requires c κs = omega (arith, c .before .before .refusal-length .ensures)
-
-same-length : tie.Need-same-length
-same-length c = search needs
+put-refusal-requires c κs = omega (arith, c .before .before .refusal-length .ensures .0)
 
 returns-2 : tie.Need-returns-2
-returns-2 c = let a = c .before .before .before .before .before .before .before .args in text-out (refusalText (told (a .w))) (a .out .now) (omega (arith, c .before .before .before .before .before .refusal-length .ensures)) (c .before .before .put-refusal .ensures)
+returns-2 c =
+    let called = c .before .before .before .before .before in
+    let a = called .before .before .args in
+    let long = called .refusal-length .ensures in
+    let put = c .before .before .put-refusal .ensures in
+    (text-out (refusalText (told (a .w))) (a .out .now) (omega (arith, long .0)) put, omega (arith, long, put .0))
 
 pub refusal-out-spec : {M : Type 1} → statement M
 refusal-out-spec =
-    tie.close (tie.spec refusal-length-requires returns put-refusal-requires same-length returns-2)
+    tie.close (tie.spec (λ c κs. search needs) returns put-refusal-requires (λ c. search needs) returns-2)

@@ -8,35 +8,20 @@ use Rattle.answer.proofs.result_text.Tie as tie
 abbrev given : tie.Start → Table
 given s = lent (s .args .h) (s .args .z .now) (s .args .b .now) (s .args .c .now) (s .args .f .now)
 
-make-requires : tie.Need-make-requires
-make-requires c κs = search needs
-
-enum-known-written : tie.Need-enum-known-written
-enum-known-written c = search needs
-
-enum-known-w : tie.Need-enum-known-w
-enum-known-w c = search needs
-
-same-length : tie.Need-same-length
-same-length c = search needs
-
 returns : tie.Need-returns
-returns c = let s = c .before .before .before .before .before .before .before .before in result-told (given s) (s .args .out .now) _ _ (c .before .before .before .before .before .make .ensures) _ (c .before .written .given .1)
-
-same-length-2 : tie.Need-same-length-2
-same-length-2 c = search needs
+returns c = let s = c .before .before .before .before .before .before .before .before in result-told (given s) (s .args .out .now) _ _ (c .before .before .before .before .before .make .ensures .0) _ (c .before .written .given .1)
 
 returns-2 : tie.Need-returns-2
-returns-2 c = let s = c .before .before .before .before .before .before .before .before in result-refused (given s) (s .args .out .now) _ _ (c .before .before .before .before .before .make .ensures) _ (c .before .w .given .1)
+returns-2 c = let s = c .before .before .before .before .before .before .before .before in result-refused (given s) (s .args .out .now) _ _ (c .before .before .before .before .before .make .ensures .0) _ (c .before .w .given .1)
 
 pub result-text-spec : {M : Type 1} → statement M
 result-text-spec =
     tie.close
     (tie.spec
-    make-requires
-    enum-known-written
-    enum-known-w
-    same-length
+    (λ c κs. search needs)
+    (λ c. search needs)
+    (λ c. search needs)
+    (λ c. search needs)
     returns
-    same-length-2
+    (λ c. search needs)
     returns-2)

@@ -7,18 +7,6 @@ use Rattle.cabi.specs.Coded.{codedFlows}
 use Rattle.cabi.proofs.code_flows.Statement.{statement}
 use Rattle.cabi.proofs.code_flows.Tie as tie
 
-enum-known-said : tie.Need-enum-known-said
-enum-known-said c = search needs
-
-enum-known-said-2 : tie.Need-enum-known-said-2
-enum-known-said-2 c = search needs
-
-refusal-number-requires : tie.Need-refusal-number-requires
-refusal-number-requires c κs = search needs
-
-refusal-place-requires : tie.Need-refusal-place-requires
-refusal-place-requires c κs = search needs
-
 returns : tie.Need-returns
 returns c = sym (ap (λ (r : Flows). codedFlows (saidFlows r)) (c .before .said .given .1))
 
@@ -28,4 +16,4 @@ returns-2 c =
     (sym (ap (λ (r : Flows). codedFlows (saidFlows r)) (c .before .before .before .said2 .given .1)))
 
 pub code-flows-spec : {M : Type 1} → statement M
-code-flows-spec = tie.close (tie.spec enum-known-said enum-known-said-2 refusal-number-requires refusal-place-requires returns returns-2)
+code-flows-spec = tie.close (tie.spec (λ c. search needs) (λ c. search needs) (λ c κs. search needs) (λ c κs. search needs) returns returns-2)

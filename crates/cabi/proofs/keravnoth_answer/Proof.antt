@@ -5,18 +5,9 @@ use Rattle.cabi.specs.Coded.{textCoded}
 use Rattle.cabi.proofs.keravnoth_answer.Statement.{statement}
 use Rattle.cabi.proofs.keravnoth_answer.Tie as tie
 
-answer-requires : tie.Need-answer-requires
-answer-requires c κs = search needs
-
-code-written-requires : tie.Need-code-written-requires
-code-written-requires c κs = search needs
-
-same-length : tie.Need-same-length
-same-length c = search needs
-
 returns : tie.Need-returns
 returns c = rw (c .code-written .ensures) (ap textCoded (c .before .before .before .answer .ensures))
 
 pub keravnoth-answer-spec : {M : Type 1} → statement M
 keravnoth-answer-spec =
-    tie.close (tie.spec answer-requires code-written-requires same-length returns)
+    tie.close (tie.spec (λ c κs. search needs) (λ c κs. search needs) (λ c. search needs) returns)

@@ -5,18 +5,9 @@ use Rattle.cabi.specs.Coded.{flowsCoded}
 use Rattle.cabi.proofs.keravnoth_corner_flows.Statement.{statement}
 use Rattle.cabi.proofs.keravnoth_corner_flows.Tie as tie
 
-corner-flows-requires : tie.Need-corner-flows-requires
-corner-flows-requires c κs = search needs
-
-code-flows-requires : tie.Need-code-flows-requires
-code-flows-requires c κs = search needs
-
-same-length : tie.Need-same-length
-same-length c = search needs
-
 returns : tie.Need-returns
 returns c = rw (c .code-flows .ensures) (ap flowsCoded (c .before .before .corner-flows .ensures))
 
 pub keravnoth-corner-flows-spec : {M : Type 1} → statement M
 keravnoth-corner-flows-spec =
-    tie.close (tie.spec corner-flows-requires code-flows-requires same-length returns)
+    tie.close (tie.spec (λ c κs. search needs) (λ c κs. search needs) (λ c. search needs) returns)

@@ -5,14 +5,8 @@ use Rattle.kinds.proofs.AnswerLaws.{told-digit}
 use Rattle.cabi.proofs.refusal_number.Statement.{statement}
 use Rattle.cabi.proofs.refusal_number.Tie as tie
 
-refusal-number-requires : tie.Need-refusal-number-requires
-refusal-number-requires c κs = search needs
-
 cast-result : tie.Need-cast-result
 cast-result c = omega (arith, c .refusal-number .ensures, told-digit (c .before .args .w))
 
-returns : tie.Need-returns
-returns c = search needs
-
 pub refusal-number-spec : {M : Type 1} → statement M
-refusal-number-spec = tie.close (tie.spec refusal-number-requires cast-result returns)
+refusal-number-spec = tie.close (tie.spec (λ c κs. search needs) cast-result (λ c. search needs))

@@ -20,12 +20,6 @@ loop-holds c = tt
 take-requires : tie.Need-take-requires Inv-loop μ-loop
 take-requires c κs = tt
 
-add-i : tie.Need-add-i Inv-loop μ-loop
-add-i c = omega arith
-
-loop-less : tie.Need-loop-less Inv-loop μ-loop
-loop-less c = omega arith
-
 loop-again : tie.Need-loop-again Inv-loop μ-loop
 loop-again c = tt
 
@@ -33,4 +27,4 @@ returns : tie.Need-returns Inv-loop μ-loop
 returns c = tt
 
 pub main-spec : {M : Type 1} → statement M
-main-spec = tie.close (tie.spec Inv-loop μ-loop arg-count-requires loop-holds take-requires add-i loop-less loop-again returns)
+main-spec = tie.close (tie.spec Inv-loop μ-loop arg-count-requires loop-holds take-requires (λ c. omega arith) (λ c. omega arith) loop-again returns)

@@ -17,19 +17,10 @@ use Rattle.corners.proofs.corner_flows.Tie as tie
 abbrev given : tie.Start → Table
 given s = lent (s .args .h) (s .args .z .now) (s .args .b .now) (s .args .c .now) (s .args .f .now)
 
-judge-corners-requires : tie.Need-judge-corners-requires
-judge-corners-requires c κs = search needs
-
-enum-known-w : tie.Need-enum-known-w
-enum-known-w c = search needs
-
 returns : tie.Need-returns
 returns c =
     let d = c .before .before .before in
     sym (corners-refused _ _ _ _ (sym (d .judge-corners .ensures) ∙ ap (λ (j : Judgement). ruled j (front (given (d .before)))) (c .before .w .given .1)))
-
-enum-told : tie.Need-enum-told
-enum-told c = search needs
 
 -- the table has a sheet for the row
 module _ (c : tie.After-enum-told) where
@@ -66,9 +57,6 @@ list-row-requires c κs =
       (good-borders (s .good), (omega (arith, s .good .exact .borders-long, s .few), (s .has, rw (s .good .exact .borders-long) (omega (arith, c .before .before .before .before .before .corner-count .ensures))))),
     )
 
-same-length : tie.Need-same-length
-same-length c = search needs
-
 returns-3 : tie.Need-returns-3
 returns-3 c =
     let d = c .before .before .before .before .before .before .before .before in
@@ -78,15 +66,15 @@ pub corner-flows-spec : {M : Type 1} → statement M
 corner-flows-spec =
     tie.close
     (tie.spec
-    judge-corners-requires
-    enum-known-w
+    (λ c κs. search needs)
+    (λ c. search needs)
     returns
-    enum-told
+    (λ c. search needs)
     corner-count-requires
     returns-2
     mul-factors
     slice-aggregate-list-row
     slice-aggregate-list-row-2
     list-row-requires
-    same-length
+    (λ c. search needs)
     returns-3)

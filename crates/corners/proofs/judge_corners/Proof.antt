@@ -5,15 +5,6 @@ use Rattle.corners.proofs.SheetLaws.{table-refused, borders-refused, ro
 use Rattle.corners.proofs.judge_corners.Statement.{statement}
 use Rattle.corners.proofs.judge_corners.Tie as tie
 
-judge-requires : tie.Need-judge-requires
-judge-requires c κs = search needs
-
-enum-told : tie.Need-enum-told
-enum-told c = search needs
-
-enum-told-2 : tie.Need-enum-told-2
-enum-told-2 c = search needs
-
 returns : tie.Need-returns
 returns c = table-refused _ _ _ (c .before .before .judge .ensures) _ (c .enum-told2 .given .1)
 
@@ -28,4 +19,4 @@ returns-4 c = let d = c .before .before .before .before in sheet-passed _ _ _ (d
 
 pub judge-corners-spec : {M : Type 1} → statement M
 judge-corners-spec =
-    tie.close (tie.spec judge-requires enum-told enum-told-2 returns returns-2 returns-3 returns-4)
+    tie.close (tie.spec (λ c κs. search needs) (λ c. search needs) (λ c. search needs) returns returns-2 returns-3 returns-4)

@@ -7,9 +7,6 @@ use Rattle.margin.proofs.JudgedLaws.{part-bound, part-long}
 use Rattle.corners.proofs.list_row.Statement.{statement}
 use Rattle.corners.proofs.list_row.Tie as tie
 
-row-factors-requires : tie.Need-row-factors-requires
-row-factors-requires c κs = search needs
-
 list-corners-requires : tie.Need-list-corners-requires
 list-corners-requires c κs =
     let s = c .before .before in
@@ -18,11 +15,8 @@ list-corners-requires c κs =
       (subst (λ (n : ℕ). BordersBound n (s .args .b .now)) (sym (part-long (s .pre .0) (s .args .row) (s .pre .1 .1 .1 .0) e)) (s .pre .1 .0), (s .pre .1 .1 .0, s .pre .1 .1 .1 .1)),
     )
 
-same-length : tie.Need-same-length
-same-length c = search needs
-
 returns : tie.Need-returns
 returns c = rw (c .before .before .before .row-factors .ensures) at (c .before .list-corners .ensures)
 
 pub list-row-spec : {M : Type 1} → statement M
-list-row-spec = tie.close (tie.spec row-factors-requires list-corners-requires same-length returns)
+list-row-spec = tie.close (tie.spec (λ c κs. search needs) list-corners-requires (λ c. search needs) returns)

@@ -23,9 +23,6 @@ Inv-loop part out₀ count next k₀ out k = Using (toZ w64 part) out₀ count o
 abbrev μ-loop : tie.MeasureT-loop
 μ-loop part out₀ count next k₀ out k = next - k
 
-add-next : tie.Need-add-next Inv-loop μ-loop
-add-next c = omega arith
-
 -- what is read, and its sum with the part
 module _ (c : tie.After-out Inv-loop μ-loop) where
   abbrev start : tie.Start Inv-loop μ-loop
@@ -64,12 +61,6 @@ mul-t12 c = omega (arith, c .before .before .loop .inv .so-far .as-long)
 slice-set-from-out : tie.Need-slice-set-from-out Inv-loop μ-loop
 slice-set-from-out c = omega (arith, c .before .before .loop .inv .so-far .as-long, c .before .before .before .pre .1 .1)
 
-add-k : tie.Need-add-k Inv-loop μ-loop
-add-k c = omega arith
-
-loop-less : tie.Need-loop-less Inv-loop μ-loop
-loop-less c = omega arith
-
 loop-again : tie.Need-loop-again Inv-loop μ-loop
 loop-again c =
     let s = c .before .before .before in
@@ -89,7 +80,7 @@ list-used-spec =
     (tie.spec
     Inv-loop
     μ-loop
-    add-next
+    (λ c. omega arith)
     loop-holds
     sub-out
     mul-out
@@ -97,8 +88,8 @@ list-used-spec =
     add-out
     mul-t12
     slice-set-from-out
-    add-k
-    loop-less
+    (λ c. omega arith)
+    (λ c. omega arith)
     loop-again
     same-length
     returns)

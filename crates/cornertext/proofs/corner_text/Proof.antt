@@ -15,18 +15,6 @@ use Rattle.cornertext.proofs.corner_text.Tie as tie
 abbrev given : tie.Start → Table
 given s = lent (s .args .h) (s .args .z .now) (s .args .b .now) (s .args .c .now) (s .args .f .now)
 
-slice-aggregate-corner-flows : tie.Need-slice-aggregate-corner-flows
-slice-aggregate-corner-flows c = search needs
-
-corner-flows-requires : tie.Need-corner-flows-requires
-corner-flows-requires c κs = search needs
-
-enum-known-filled : tie.Need-enum-known-filled
-enum-known-filled c = search needs
-
-enum-known-filled-2 : tie.Need-enum-known-filled-2
-enum-known-filled-2 c = search needs
-
 -- the flows stand in front of the working memory
 module _ (c : tie.After-filled2) where
   abbrev filled : tie.After-corner-flows
@@ -58,9 +46,6 @@ returns c =
     let s = f .before .before .before in
     told-refused (given s) (s .args .row) _ _ (f .corner-flows .ensures) (le-refl sheetMost) (s .args .out .now) _ (c .before .filled .given .1)
 
-same-length : tie.Need-same-length
-same-length c = search needs
-
 returns-2 : tie.Need-returns-2
 returns-2 c =
     let d = c .before .before .before .before .before .before in
@@ -71,13 +56,13 @@ pub corner-text-spec : {M : Type 1} → statement M
 corner-text-spec =
     tie.close
     (tie.spec
-    slice-aggregate-corner-flows
-    corner-flows-requires
-    enum-known-filled
-    enum-known-filled-2
+    (λ c. search needs)
+    (λ c κs. search needs)
+    (λ c. search needs)
+    (λ c. search needs)
     array-share-prefix-flows
     slice-aggregate-write-corners
     write-corners-requires
     returns
-    same-length
+    (λ c. search needs)
     returns-2)

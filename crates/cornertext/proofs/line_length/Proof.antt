@@ -1,4 +1,4 @@
--- `cornertext::line_length` meets its contract: a machine number has at most 20 digits. Assumes nothing.
+-- `cornertext::line_length` meets its contract: a machine number has at most 20 bytes. Assumes nothing.
 use mathlib.Core.Path.{_≡_}
 use Prim.Native.Nat.{_≤_}
 use native.Mathlib.Omega.{arith}
@@ -6,37 +6,29 @@ use borrow.Author.Needs.{needs}
 use lib.ListN.{length}
 use mir.Facts.{toZ-ofZ}
 use Rattle.text.specs.Written.{decimalℤ}
-use Rattle.cornertext.proofs.CornerTextLaws.{line-long, number-long, flow-long}
+use Rattle.text.proofs.DigitLaws.{decimal-u64, decimal-i64}
+use Rattle.cornertext.proofs.CornerTextLaws.{line-long}
 use Rattle.cornertext.proofs.line_length.Statement.{statement}
 use Rattle.cornertext.proofs.line_length.Tie as tie
 
-digit-count-requires : tie.Need-digit-count-requires
-digit-count-requires c κs = search needs
-
-digit-count-requires-2 : tie.Need-digit-count-requires-2
-digit-count-requires-2 c κs = search needs
-
 -- the fields are short
 row-short : (c : tie.After-digit-count) → c .digit-count .result ≤ 20
-row-short c = omega (arith, c .digit-count .ensures, number-long (c .before .args .row) (c .before .fits .row .fits))
+row-short c = omega (arith, c .digit-count .ensures, decimal-u64 (c .before .args .row) (c .before .fits .row .fits))
 
 corner-short : (c : tie.After-digit-count2) → c .digit-count2 .result ≤ 20
-corner-short c = omega (arith, c .digit-count2 .ensures, number-long (c .before .before .args .corner) (c .before .before .fits .corner .fits))
+corner-short c = omega (arith, c .digit-count2 .ensures, decimal-u64 (c .before .before .args .corner) (c .before .before .fits .corner .fits))
 
 flow-is : (c : tie.After-signed-length) → c .signed-length .result ≡ length (decimalℤ (c .before .before .before .args .flow))
 flow-is c = simp (toZ-ofZ, c .before .before .before .fits .flow) at (c .signed-length .ensures)
 
-flow-short : (c : tie.After-signed-length) → c .signed-length .result ≤ 21
-flow-short c = omega (arith, flow-is c, flow-long (c .before .before .before .args .flow) (c .before .before .before .fits .flow))
+flow-short : (c : tie.After-signed-length) → c .signed-length .result ≤ 20
+flow-short c = omega (arith, flow-is c, decimal-i64 (c .before .before .before .args .flow) (c .before .before .before .fits .flow .sfits))
 
 add-result : tie.Need-add-result
 add-result c = omega (arith, row-short (c .before))
 
 add-result-2 : tie.Need-add-result-2
 add-result-2 c = omega (arith, row-short (c .before), corner-short c)
-
-signed-length-requires : tie.Need-signed-length-requires
-signed-length-requires c κs = search needs
 
 add-result-3 : tie.Need-add-result-3
 add-result-3 c = omega (arith, row-short (c .before .before), corner-short (c .before), flow-short c)
@@ -52,10 +44,10 @@ pub line-length-spec : {M : Type 1} → statement M
 line-length-spec =
     tie.close
     (tie.spec
-    digit-count-requires
-    digit-count-requires-2
+    (λ c κs. search needs)
+    (λ c κs. search needs)
     add-result
     add-result-2
-    signed-length-requires
+    (λ c κs. search needs)
     add-result-3
     returns)

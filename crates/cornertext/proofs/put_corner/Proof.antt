@@ -73,9 +73,6 @@ put-signed-field-requires c κs =
 put-byte-requires-2 : tie.Need-put-byte-requires-2
 put-byte-requires-2 c κs = let d = c .before .before .before in room-last (flow-put d) (start4 d .pre)
 
-same-length : tie.Need-same-length
-same-length c = search needs
-
 returns : tie.Need-returns
 returns c =
     let d = c .before .before .before .before .before .before in
@@ -90,5 +87,5 @@ put-corner-spec =
     put-number-field-requires-2
     put-signed-field-requires
     put-byte-requires-2
-    same-length
+    (λ c. search needs)
     returns)

@@ -21,12 +21,6 @@ abbrev μ-loop : tie.MeasureT-loop
 loop-holds : tie.Need-loop-holds Inv-loop μ-loop
 loop-holds c = (omega arith, lines-none _ _ _)
 
-mul-put-corner : tie.Need-mul-put-corner Inv-loop μ-loop
-mul-put-corner c = omega arith
-
-shared-slice-copy-out-put-corner : tie.Need-shared-slice-copy-out-put-corner Inv-loop μ-loop
-shared-slice-copy-out-put-corner c = omega arith
-
 put-corner-requires : tie.Need-put-corner-requires Inv-loop μ-loop
 unfolding cornersText
 put-corner-requires c κs =
@@ -34,12 +28,6 @@ put-corner-requires c κs =
     let head = c .before .before .before .loop in
     simp (plain, c .before .put-corner-arg .given)
     (lines-room (cornerLineAt (s .args .row) (s .args .flows .now)) (head .k) (length (s .args .flows .now)) {at = 0} {out = s .args .out .now} (omega arith) (rw zero-add (s .pre)) (head .inv .1))
-
-add-k : tie.Need-add-k Inv-loop μ-loop
-add-k c = omega arith
-
-loop-less : tie.Need-loop-less Inv-loop μ-loop
-loop-less c = omega arith
 
 loop-again : tie.Need-loop-again Inv-loop μ-loop
 loop-again c =
@@ -65,11 +53,11 @@ put-corners-spec =
     Inv-loop
     μ-loop
     loop-holds
-    mul-put-corner
-    shared-slice-copy-out-put-corner
+    (λ c. omega arith)
+    (λ c. omega arith)
     put-corner-requires
-    add-k
-    loop-less
+    (λ c. omega arith)
+    (λ c. omega arith)
     loop-again
     same-length
     returns)

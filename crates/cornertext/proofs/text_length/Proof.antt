@@ -1,4 +1,4 @@
--- `cornertext::text_length` meets its contract. The loop's invariant: the lengths of the first k lines are added up (`Counted`).
+-- `cornertext::text_length` meets its contract. The loop's invariant: the lengths of the first k lines are added up (`Measured`).
 -- The measure is the corners that are left.
 -- Assumes nothing.
 use mathlib.Core.Path.{_≡_}
@@ -7,28 +7,19 @@ use native.Mathlib.Omega.{arith}
 use borrow.Author.Needs.{needs}
 use lib.ListN.{length}
 use Rattle.numbers.proofs.IntLaws.{plain}
-use Rattle.cornertext.specs.CornerText.{cornerLineAt}
-use Rattle.cornertext.proofs.CornerTextLaws.{Counted, counted-none, counted-more, counted-all, counted-fits}
+use Rattle.text.proofs.MeasureLaws.{Measured, measured-none, measured-more, measured-all}
+use Rattle.cornertext.specs.CornerText.{lineMost, cornerLineAt, cornersText}
 use Rattle.cornertext.proofs.text_length.Statement.{statement}
 use Rattle.cornertext.proofs.text_length.Tie as tie
 
 abbrev Inv-loop : tie.InvT-loop
-Inv-loop row flows sum₀ k₀ k-end sum k = Counted row flows k sum
+Inv-loop row flows sum₀ k₀ k-end sum k = Measured (cornerLineAt row flows) lineMost (length flows) k sum
 
 abbrev μ-loop : tie.MeasureT-loop
 μ-loop row flows sum₀ k₀ k-end sum k = length flows - k
 
 loop-holds : tie.Need-loop-holds Inv-loop μ-loop
-loop-holds c = counted-none _ _
-
-mul-line-length : tie.Need-mul-line-length Inv-loop μ-loop
-mul-line-length c = omega arith
-
-shared-slice-copy-out-line-length : tie.Need-shared-slice-copy-out-line-length Inv-loop μ-loop
-shared-slice-copy-out-line-length c = omega arith
-
-line-length-requires : tie.Need-line-length-requires Inv-loop μ-loop
-line-length-requires c κs = search needs
+loop-holds c = measured-none _ _ _
 
 -- the length of line k
 module _ (c : tie.After-line-length Inv-loop μ-loop) where
@@ -39,19 +30,14 @@ module _ (c : tie.After-line-length Inv-loop μ-loop) where
   counted = simp (plain, c .before .line-length-arg .given) at (c .line-length .ensures .0)
 
 add-sum : tie.Need-add-sum Inv-loop μ-loop
-add-sum c = omega (arith, counted-fits _ _ (c .before .before .before .loop .inv) (omega arith) (start c .pre), c .line-length .ensures .1)
-
-add-k : tie.Need-add-k Inv-loop μ-loop
-add-k c = omega arith
-
-loop-less : tie.Need-loop-less Inv-loop μ-loop
-loop-less c = omega arith
+add-sum c = omega (arith, c .before .before .before .loop .inv .few, start c .pre, c .line-length .ensures .1)
 
 loop-again : tie.Need-loop-again Inv-loop μ-loop
-loop-again c = counted-more _ _ (c .before .before .before .loop .inv) _ (omega arith) (counted c) (c .line-length .ensures .1)
+loop-again c = measured-more (c .before .before .before .loop .inv) _ (omega arith) (counted c) (omega (arith, counted c, c .line-length .ensures .1))
 
 returns : tie.Need-returns Inv-loop μ-loop
-returns c = counted-all _ _ (c .before .loop .inv) (omega arith)
+unfolding cornersText
+returns c = measured-all (c .before .loop .inv) (omega arith)
 
 pub text-length-spec : {M : Type 1} → statement M
 text-length-spec =
@@ -60,11 +46,11 @@ text-length-spec =
     Inv-loop
     μ-loop
     loop-holds
-    mul-line-length
-    shared-slice-copy-out-line-length
-    line-length-requires
+    (λ c. omega arith)
+    (λ c. omega arith)
+    (λ c κs. search needs)
     add-sum
-    add-k
-    loop-less
+    (λ c. omega arith)
+    (λ c. omega arith)
     loop-again
     returns)

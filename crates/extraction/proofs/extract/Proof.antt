@@ -9,17 +9,8 @@ use Rattle.extraction.proofs.ExtractLaws.{lent-refused, front-good, len
 use Rattle.extraction.proofs.extract.Statement.{statement}
 use Rattle.extraction.proofs.extract.Tie as tie
 
-judge-requires : tie.Need-judge-requires
-judge-requires c κs = search needs
-
-enum-known-w : tie.Need-enum-known-w
-enum-known-w c = search needs
-
 returns : tie.Need-returns
 returns c = lent-refused _ _ (c .before .before .before .judge .ensures) _ _ _ (c .before .w .given .1)
-
-enum-told : tie.Need-enum-told
-enum-told c = search needs
 
 -- past the judging: the front parts are a judged table
 good : (c : tie.After-enum-told)
@@ -47,12 +38,6 @@ slice-aggregate-extract-judged-4 c = sym (good (c .before .before .before .befor
 extract-judged-requires : tie.Need-extract-judged-requires
 extract-judged-requires c κs = good (c .before .before .before .before .before .before)
 
-same-length : tie.Need-same-length
-same-length c = search needs
-
-same-length-2 : tie.Need-same-length-2
-same-length-2 c = search needs
-
 returns-2 : tie.Need-returns-2
 returns-2 c = c .before .before .extract-judged .ensures ∙ lent-judged _ _ (c .before .before .before .before .before .before .before .before .before .before .before .judge .ensures) (c .before .before .before .before .before .before .before .before .before .enum-told .given .1) _ _
 
@@ -60,16 +45,16 @@ pub extract-spec : {M : Type 1} → statement M
 extract-spec =
     tie.close
     (tie.spec
-    judge-requires
-    enum-known-w
+    (λ c κs. search needs)
+    (λ c. search needs)
     returns
-    enum-told
+    (λ c. search needs)
     slice-aggregate-extract-judged
     slice-aggregate-extract-judged-2
     slice-aggregate-extract-judged-3
     mul-extract-judged
     slice-aggregate-extract-judged-4
     extract-judged-requires
-    same-length
-    same-length-2
+    (λ c. search needs)
+    (λ c. search needs)
     returns-2)

@@ -33,64 +33,13 @@ passes : (c : tie.After-enum-told)
     judgeTable t ≡ passed (rowsOf t .states)
 passes c = start-passed (entry (prepared-at c) .pre .0) (as-said (prepared-at c)) (c .enum-told .given .1)
 
-enum-known-w : tie.Need-enum-known-w
-enum-known-w c = search needs
-
-same-length : tie.Need-same-length
-same-length c = search needs
-
-same-length-2 : tie.Need-same-length-2
-same-length-2 c = search needs
-
-same-length-3 : tie.Need-same-length-3
-same-length-3 c = search needs
-
-same-length-4 : tie.Need-same-length-4
-same-length-4 c = search needs
-
-same-length-5 : tie.Need-same-length-5
-same-length-5 c = search needs
-
 returns : tie.Need-returns
 returns c =
     let at-prepare = c .before .before .before .before .before .before .before .before .before .before .before in
     start-refused _ _ _ (start-turned (entry at-prepare .pre .0) (as-said at-prepare) (c .before .w .given .1))
 
-enum-told : tie.Need-enum-told
-enum-told c = search needs
-
-same-length-6 : tie.Need-same-length-6
-same-length-6 c = search needs
-
-same-length-7 : tie.Need-same-length-7
-same-length-7 c = search needs
-
-same-length-8 : tie.Need-same-length-8
-same-length-8 c = search needs
-
-same-length-9 : tie.Need-same-length-9
-same-length-9 c = search needs
-
-same-length-10 : tie.Need-same-length-10
-same-length-10 c = search needs
-
 returns-2 : tie.Need-returns-2
 returns-2 c = short-borders _ _ _ (passes (c .before)) (c .if1 .taken)
-
-same-length-11 : tie.Need-same-length-11
-same-length-11 c = search needs
-
-same-length-12 : tie.Need-same-length-12
-same-length-12 c = search needs
-
-same-length-13 : tie.Need-same-length-13
-same-length-13 c = search needs
-
-same-length-14 : tie.Need-same-length-14
-same-length-14 c = search needs
-
-same-length-15 : tie.Need-same-length-15
-same-length-15 c = search needs
 
 returns-3 : tie.Need-returns-3
 returns-3 c = short-rows _ _ _ (passes (c .before .before)) (c .before .if1 .left) (c .if2 .taken)
@@ -99,27 +48,6 @@ finish-requires : tie.Need-finish-requires
 finish-requires c κs =
     let at-prepare = c .before .before .before .before .before .before .before .before .before .before .before .before .before .before .before .before .before .before in
     (finishable (entry at-prepare .pre .0) (as-said at-prepare), (c .before .before .before .before .before .before .before .if1 .left, c .before .before .before .before .before .before .if2 .left))
-
-same-length-16 : tie.Need-same-length-16
-same-length-16 c = search needs
-
-same-length-17 : tie.Need-same-length-17
-same-length-17 c = search needs
-
-same-length-18 : tie.Need-same-length-18
-same-length-18 c = search needs
-
-same-length-19 : tie.Need-same-length-19
-same-length-19 c = search needs
-
-same-length-20 : tie.Need-same-length-20
-same-length-20 c = search needs
-
-same-length-21 : tie.Need-same-length-21
-same-length-21 c = search needs
-
-same-length-22 : tie.Need-same-length-22
-same-length-22 c = search needs
 
 returns-4 : tie.Need-returns-4
 returns-4 c =
@@ -134,32 +62,32 @@ extract-in-spec =
     tie.close
     (tie.spec
     prepare-requires
-    enum-known-w
-    same-length
-    same-length-2
-    same-length-3
-    same-length-4
-    same-length-5
+    (λ c. search needs)
+    (λ c. search needs)
+    (λ c. search needs)
+    (λ c. search needs)
+    (λ c. search needs)
+    (λ c. search needs)
     returns
-    enum-told
-    same-length-6
-    same-length-7
-    same-length-8
-    same-length-9
-    same-length-10
+    (λ c. search needs)
+    (λ c. search needs)
+    (λ c. search needs)
+    (λ c. search needs)
+    (λ c. search needs)
+    (λ c. search needs)
     returns-2
-    same-length-11
-    same-length-12
-    same-length-13
-    same-length-14
-    same-length-15
+    (λ c. search needs)
+    (λ c. search needs)
+    (λ c. search needs)
+    (λ c. search needs)
+    (λ c. search needs)
     returns-3
     finish-requires
-    same-length-16
-    same-length-17
-    same-length-18
-    same-length-19
-    same-length-20
-    same-length-21
-    same-length-22
+    (λ c. search needs)
+    (λ c. search needs)
+    (λ c. search needs)
+    (λ c. search needs)
+    (λ c. search needs)
+    (λ c. search needs)
+    (λ c. search needs)
     returns-4)

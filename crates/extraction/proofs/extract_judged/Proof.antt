@@ -59,12 +59,6 @@ extract-in-requires c κs =
       ),
     )
 
-same-length : tie.Need-same-length
-same-length c = search needs
-
-same-length-2 : tie.Need-same-length-2
-same-length-2 c = search needs
-
 returns : tie.Need-returns
 returns c = c .before .before .before .before .before .before .before .extract-in .ensures
 
@@ -84,6 +78,6 @@ extract-judged-spec =
     array-borrow-prefix-margins
     slice-aggregate-extract-in-5
     extract-in-requires
-    same-length
-    same-length-2
+    (λ c. search needs)
+    (λ c. search needs)
     returns)

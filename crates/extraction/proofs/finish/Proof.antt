@@ -7,9 +7,6 @@ use Rattle.extraction.proofs.ExtractLaws.{front-long, front-within, lef
 use Rattle.extraction.proofs.finish.Statement.{statement}
 use Rattle.extraction.proofs.finish.Tie as tie
 
-run-requires : tie.Need-run-requires
-run-requires c κs = search needs
-
 -- the function's entry, from where the rounds ended; and an exchange for each border
 abbrev entry : tie.After-run → tie.Start
 entry c = c .before .before .before .before .before
@@ -42,15 +39,6 @@ store-lefts-requires c κs =
       lefts-fit u (at-run .run .result) (at-run .run .ensures),
     )
 
-same-length : tie.Need-same-length
-same-length c = search needs
-
-same-length-2 : tie.Need-same-length-2
-same-length-2 c = search needs
-
-same-length-3 : tie.Need-same-length-3
-same-length-3 c = search needs
-
 returns : tie.Need-returns
 returns c =
     let at-run = c .before .before .before .before .before .before .before .before .before .before .before in
@@ -60,12 +48,12 @@ pub finish-spec : {M : Type 1} → statement M
 finish-spec =
     tie.close
     (tie.spec
-    run-requires
+    (λ c κs. search needs)
     array-share-prefix-x
     slice-aggregate-store-atcs
     store-atcs-requires
     store-lefts-requires
-    same-length
-    same-length-2
-    same-length-3
+    (λ c. search needs)
+    (λ c. search needs)
+    (λ c. search needs)
     returns)

@@ -15,13 +15,10 @@ slice-aggregate-run-in c = sym (length-take-le _ _ (array-borrow-prefix-ns (c .b
 run-in-requires : tie.Need-run-in-requires
 run-in-requires c κs = (c .before .before .before .before .pre, sym (slice-aggregate-run-in (c .before)))
 
-same-length : tie.Need-same-length
-same-length c = search needs
-
 returns : tie.Need-returns
 returns c = c .before .before .before .run-in .ensures
 
 pub run-spec : {M : Type 1} → statement M
 run-spec =
     tie.close
-    (tie.spec array-borrow-prefix-ns slice-aggregate-run-in run-in-requires same-length returns)
+    (tie.spec array-borrow-prefix-ns slice-aggregate-run-in run-in-requires (λ c. search needs) returns)

@@ -14,12 +14,6 @@ exchanges-requires c κs = c .before .before .before .before .before .before .be
 extract-rounds-requires : tie.Need-extract-rounds-requires
 extract-rounds-requires c κs = (omega (arith, c .before .before .before .before .before .before .before .before .before .before .pre .0 .p-long), run-startable (c .before .before .before .before .before .before .before .before .before .before .pre .0) (c .before .before .exchanges .ensures) (c .before .before .before .before .before .count-sharers .ensures))
 
-same-length : tie.Need-same-length
-same-length c = search needs
-
-same-length-2 : tie.Need-same-length-2
-same-length-2 c = search needs
-
 returns : tie.Need-returns
 returns c = run-ended (c .before .before .before .before .before .before .before .before .before .before .before .before .before .pre .0) (c .before .before .before .before .before .exchanges .ensures) (c .before .before .extract-rounds .ensures)
 
@@ -30,6 +24,6 @@ run-in-spec =
     count-sharers-requires
     exchanges-requires
     extract-rounds-requires
-    same-length
-    same-length-2
+    (λ c. search needs)
+    (λ c. search needs)
     returns)

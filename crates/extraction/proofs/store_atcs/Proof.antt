@@ -17,12 +17,6 @@ abbrev μ-loop : tie.MeasureT-loop
 loop-holds : tie.Need-loop-holds Inv-loop μ-loop
 loop-holds c = filled-none _ _ _
 
-mul-t7 : tie.Need-mul-t7 Inv-loop μ-loop
-mul-t7 c = omega arith
-
-shared-slice-read-t9 : tie.Need-shared-slice-read-t9 Inv-loop μ-loop
-shared-slice-read-t9 c = omega arith
-
 as-record-requires : tie.Need-as-record-requires Inv-loop μ-loop
 as-record-requires c κs = tt
 
@@ -31,12 +25,6 @@ mul-t7-2 c = omega (arith, c .before .before .before .loop .inv .as-long)
 
 slice-set-from-atc : tie.Need-slice-set-from-atc Inv-loop μ-loop
 slice-set-from-atc c = omega (arith, c .before .before .before .loop .inv .as-long)
-
-add-b : tie.Need-add-b Inv-loop μ-loop
-add-b c = omega arith
-
-loop-less : tie.Need-loop-less Inv-loop μ-loop
-loop-less c = omega arith
 
 loop-again : tie.Need-loop-again Inv-loop μ-loop
 loop-again c = filled-more (c .before .before .before .loop .inv) _ (omega arith) (omega (arith, c .before .before .before .before .before .pre)) (c .as-record .ensures)
@@ -54,13 +42,13 @@ store-atcs-spec =
     Inv-loop
     μ-loop
     loop-holds
-    mul-t7
-    shared-slice-read-t9
+    (λ c. omega arith)
+    (λ c. omega arith)
     as-record-requires
     mul-t7-2
     slice-set-from-atc
-    add-b
-    loop-less
+    (λ c. omega arith)
+    (λ c. omega arith)
     loop-again
     same-length
     returns)

@@ -19,15 +19,6 @@ abbrev μ-loop : tie.MeasureT-loop
 loop-holds : tie.Need-loop-holds Inv-loop μ-loop
 loop-holds c = filled-none _ _ _
 
-mul-t9 : tie.Need-mul-t9 Inv-loop μ-loop
-mul-t9 c = omega arith
-
-shared-slice-read-t11 : tie.Need-shared-slice-read-t11 Inv-loop μ-loop
-shared-slice-read-t11 c = omega arith
-
-mul-t12 : tie.Need-mul-t12 Inv-loop μ-loop
-mul-t12 c = omega arith
-
 shared-slice-copy-out-t14 : tie.Need-shared-slice-copy-out-t14 Inv-loop μ-loop
 shared-slice-copy-out-t14 c = omega (arith, c .before .before .before .before .before .pre .0)
 
@@ -46,12 +37,6 @@ mul-t9-2 c = omega (arith, c .before .before .before .before .before .loop .inv 
 slice-set-from-left : tie.Need-slice-set-from-left Inv-loop μ-loop
 slice-set-from-left c = omega (arith, c .before .before .before .before .before .loop .inv .as-long, c .before .before .before .before .before .before .before .before .pre .0)
 
-add-i : tie.Need-add-i Inv-loop μ-loop
-add-i c = omega arith
-
-loop-less : tie.Need-loop-less Inv-loop μ-loop
-loop-less c = omega arith
-
 loop-again : tie.Need-loop-again Inv-loop μ-loop
 loop-again c = filled-more (c .before .before .before .before .before .loop .inv) _ (omega arith) (omega (arith, c .before .before .before .before .before .before .before .before .pre .0)) (rw (plain _ (c .before .before .t14 .given)) at (c .as-record .ensures))
 
@@ -68,17 +53,17 @@ store-lefts-spec =
     Inv-loop
     μ-loop
     loop-holds
-    mul-t9
-    shared-slice-read-t11
-    mul-t12
+    (λ c. omega arith)
+    (λ c. omega arith)
+    (λ c. omega arith)
     shared-slice-copy-out-t14
     mul-t15
     shared-slice-read-t17
     as-record-requires
     mul-t9-2
     slice-set-from-left
-    add-i
-    loop-less
+    (λ c. omega arith)
+    (λ c. omega arith)
     loop-again
     same-length
     returns)

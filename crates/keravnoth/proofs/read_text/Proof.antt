@@ -16,36 +16,6 @@ Inv-loop text₀ done₀ text done = (done ≤ length text) × (length text ≡ 
 abbrev μ-loop : tie.MeasureT-loop
 μ-loop text₀ done₀ text done = length text - done
 
-loop-holds : tie.Need-loop-holds Inv-loop μ-loop
-loop-holds c = omega arith
-
-sub-read-some : tie.Need-sub-read-some Inv-loop μ-loop
-sub-read-some c = omega arith
-
-part-read-some-start : tie.Need-part-read-some-start Inv-loop μ-loop
-part-read-some-start c = omega arith
-
-part-read-some-end : tie.Need-part-read-some-end Inv-loop μ-loop
-part-read-some-end c = omega arith
-
-read-some-requires : tie.Need-read-some-requires Inv-loop μ-loop
-read-some-requires c κs = search needs
-
-enum-known-more : tie.Need-enum-known-more Inv-loop μ-loop
-enum-known-more c = search needs
-
-enum-told : tie.Need-enum-told Inv-loop μ-loop
-enum-told c = search needs
-
-same-length : tie.Need-same-length Inv-loop μ-loop
-same-length c = omega arith
-
-returns : tie.Need-returns Inv-loop μ-loop
-returns c = search needs
-
-same-length-2 : tie.Need-same-length-2 Inv-loop μ-loop
-same-length-2 c = omega arith
-
 returns-2 : tie.Need-returns-2 Inv-loop μ-loop
 returns-2 c = (omega arith, simp length-take (omega arith))
 
@@ -58,9 +28,6 @@ loop-less c = omega (arith, subst (λ (r : Input). within r (c .before .before .
 loop-again : tie.Need-loop-again Inv-loop μ-loop
 loop-again c = omega (arith, subst (λ (r : Input). within r (c .before .before .before .before .before .before .read-some .last .0)) (c .before .before .more .given .1) (c .before .before .before .before .before .before .read-some .ensures))
 
-same-length-3 : tie.Need-same-length-3 Inv-loop μ-loop
-same-length-3 c = omega arith
-
 returns-3 : tie.Need-returns-3 Inv-loop μ-loop
 returns-3 c = (omega arith, simp length-take (omega arith))
 
@@ -70,19 +37,19 @@ read-text-spec =
     (tie.spec
     Inv-loop
     μ-loop
-    loop-holds
-    sub-read-some
-    part-read-some-start
-    part-read-some-end
-    read-some-requires
-    enum-known-more
-    enum-told
-    same-length
-    returns
-    same-length-2
+    (λ c. omega arith)
+    (λ c. omega arith)
+    (λ c. omega arith)
+    (λ c. omega arith)
+    (λ c κs. search needs)
+    (λ c. search needs)
+    (λ c. search needs)
+    (λ c. omega arith)
+    (λ c. search needs)
+    (λ c. omega arith)
     returns-2
     add-done
     loop-less
     loop-again
-    same-length-3
+    (λ c. omega arith)
     returns-3)

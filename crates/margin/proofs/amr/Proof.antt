@@ -86,15 +86,6 @@ module _ (c : tie.After-base) where
   second-fits : SFits w64 (fmax *ℤ pos 20000 -ℤ b)
   second-fits = within-fits (within-sub (within-fifth (start .pre .0)) b-in) tt
 
-worth-requires : tie.Need-worth-requires
-worth-requires c κs = search needs
-
-fuaf-requires : tie.Need-fuaf-requires
-fuaf-requires c κs = search needs
-
-base-requires : tie.Need-base-requires
-base-requires c κs = search needs
-
 mul-larger : tie.Need-mul-larger
 mul-larger c = let d = c .before .before in simp (toZ-ofZ, r-fits d, fmax-fits d) (product-fits d)
 
@@ -113,12 +104,6 @@ mul-larger-3 c = let d = c .before .before .before .before in simp (toZ-ofZ, fma
 sub-larger-3 : tie.Need-sub-larger-3
 sub-larger-3 c = let d = c .before .before .before .before in simp (toZ-ofZ, fmax-fits d, b-fits d, fifth-fits d) (second-fits d)
 
-larger-requires : tie.Need-larger-requires
-larger-requires c κs = search needs
-
-larger-requires-2 : tie.Need-larger-requires-2
-larger-requires-2 c κs = search needs
-
 returns : tie.Need-returns
 unfolding amrOf
 returns c =
@@ -134,15 +119,15 @@ pub amr-spec : {M : Type 1} → statement M
 amr-spec =
     tie.close
     (tie.spec
-    worth-requires
-    fuaf-requires
-    base-requires
+    (λ c κs. search needs)
+    (λ c κs. search needs)
+    (λ c κs. search needs)
     mul-larger
     mul-larger-2
     sub-larger
     sub-larger-2
     mul-larger-3
     sub-larger-3
-    larger-requires
-    larger-requires-2
+    (λ c κs. search needs)
+    (λ c κs. search needs)
     returns)

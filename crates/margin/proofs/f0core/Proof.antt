@@ -25,9 +25,6 @@ Inv-loop factors nets f0core₀ z₀ f0core z = (z ≤ length nets) × (toZ w64 
 abbrev μ-loop : tie.MeasureT-loop
 μ-loop factors nets f0core₀ z₀ f0core z = length nets - z
 
-grains-requires : tie.Need-grains-requires Inv-loop μ-loop
-grains-requires c κs = search needs
-
 -- Fref in grains
 module _ (c : tie.After-grains Inv-loop μ-loop) where
   abbrev g : ℤ
@@ -39,17 +36,8 @@ module _ (c : tie.After-grains Inv-loop μ-loop) where
 loop-holds : tie.Need-loop-holds Inv-loop μ-loop
 loop-holds c = (omega arith, f0core-none (g c) (c .before .before .args .factors .now) (c .before .before .args .nets .now))
 
-mul-factor : tie.Need-mul-factor Inv-loop μ-loop
-mul-factor c = omega arith
-
 shared-slice-copy-out-factor : tie.Need-shared-slice-copy-out-factor Inv-loop μ-loop
 shared-slice-copy-out-factor c = omega (arith, c .before .before .before .before .pre .1 .1 .long)
-
-mul-net : tie.Need-mul-net Inv-loop μ-loop
-mul-net c = omega arith
-
-shared-slice-copy-out-net : tie.Need-shared-slice-copy-out-net Inv-loop μ-loop
-shared-slice-copy-out-net c = omega arith
 
 -- in a turn
 module _ (c : tie.After-net Inv-loop μ-loop) where
@@ -99,12 +87,6 @@ mul-f0core c = simp (toZ-ofZ, within-fits (factor-in c) tt, within-fits (net-in 
 sub-f0core : tie.Need-sub-f0core Inv-loop μ-loop
 sub-f0core c = simp (toZ-ofZ, within-fits (factor-in c) tt, within-fits (net-in c) tt, product-fits c) (next-fits c)
 
-add-z : tie.Need-add-z Inv-loop μ-loop
-add-z c = omega arith
-
-loop-less : tie.Need-loop-less Inv-loop μ-loop
-loop-less c = omega arith
-
 loop-again : tie.Need-loop-again Inv-loop μ-loop
 loop-again c =
     simp (toZ-ofZ, within-fits (factor-in c) tt, within-fits (net-in c) tt, product-fits c, next-fits c)
@@ -122,15 +104,15 @@ f0core-spec =
     (tie.spec
     Inv-loop
     μ-loop
-    grains-requires
+    (λ c κs. search needs)
     loop-holds
-    mul-factor
+    (λ c. omega arith)
     shared-slice-copy-out-factor
-    mul-net
-    shared-slice-copy-out-net
+    (λ c. omega arith)
+    (λ c. omega arith)
     mul-f0core
     sub-f0core
-    add-z
-    loop-less
+    (λ c. omega arith)
+    (λ c. omega arith)
     loop-again
     returns)

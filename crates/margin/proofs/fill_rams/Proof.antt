@@ -131,9 +131,6 @@ slice-set-from-starts c = omega (arith, head (c .before) .starts-filled .as-long
 add-i : tie.Need-add-i Inv-loop μ-loop
 add-i c = omega (arith, head (c .before) .starts-filled .as-long, start (at-factors (c .before)) .pre .1 .1)
 
-loop-less : tie.Need-loop-less Inv-loop μ-loop
-loop-less c = omega arith
-
 loop-again : tie.Need-loop-again Inv-loop μ-loop
 loop-again c =
     let d = c .before in
@@ -174,7 +171,7 @@ fill-rams-spec =
     mul-t14
     slice-set-from-starts
     add-i
-    loop-less
+    (λ c. omega arith)
     loop-again
     same-length
     same-length-2

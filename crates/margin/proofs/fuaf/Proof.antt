@@ -25,9 +25,6 @@ module _ (c : tie.After-grains) where
   fuaf-fits : SFits w64 (start .args .f0core -ℤ c .grains .result)
   fuaf-fits = within-fits (within-sub (start .pre .1) (within-is f0all-is (within-grains (start .pre .0 .f0all-in)))) tt
 
-grains-requires : tie.Need-grains-requires
-grains-requires c κs = search needs
-
 sub-result : tie.Need-sub-result
 sub-result c = simp (toZ-ofZ, start c .fits .f0core, f0all-fits c) (fuaf-fits c)
 
@@ -36,4 +33,4 @@ unfolding fuafOf
 returns c = simp (toZ-ofZ, start c .fits .f0core, f0all-fits c, fuaf-fits c) (cc (f0all-is c))
 
 pub fuaf-spec : {M : Type 1} → statement M
-fuaf-spec = tie.close (tie.spec grains-requires sub-result returns)
+fuaf-spec = tie.close (tie.spec (λ c κs. search needs) sub-result returns)

@@ -5,12 +5,9 @@ use Rattle.margin.specs.Margin.{ltaKw}
 use Rattle.margin.proofs.lta_kw.Statement.{statement}
 use Rattle.margin.proofs.lta_kw.Tie as tie
 
-mul-result : tie.Need-mul-result
-mul-result c = omega arith
-
 returns : tie.Need-returns
 unfolding ltaKw
 returns c = refl
 
 pub lta-kw-spec : {M : Type 1} → statement M
-lta-kw-spec = tie.close (tie.spec mul-result returns)
+lta-kw-spec = tie.close (tie.spec (λ c. omega arith) returns)

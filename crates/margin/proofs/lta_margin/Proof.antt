@@ -77,9 +77,6 @@ module _ (c : tie.After-grains2) where
       (within-is fmax-is (within-grains (row .fmax-in))))
       tt
 
-cast-larger : tie.Need-cast-larger
-cast-larger c = search needs
-
 add-larger : tie.Need-add-larger
 add-larger c = simp (toZ-ofZ, s-is c, start c .fits .f0core) (with-s c)
 
@@ -91,9 +88,6 @@ sub-larger c = simp (toZ-ofZ, s-is c, start c .fits .f0core, start c .fits .amr,
 
 sub-larger-2 : tie.Need-sub-larger-2
 sub-larger-2 c = simp (toZ-ofZ, s-is c, start c .fits .f0core, start c .fits .amr, frm-fits c, fmax-fits c, with-s c, with-frm c, less-amr c) (less-fmax c)
-
-larger-requires : tie.Need-larger-requires
-larger-requires c κs = search needs
 
 returns : tie.Need-returns
 unfolding ltaMarginOf
@@ -110,10 +104,10 @@ lta-margin-spec =
     (tie.spec
     grains-requires
     grains-requires-2
-    cast-larger
+    (λ c. search needs)
     add-larger
     add-larger-2
     sub-larger
     sub-larger-2
-    larger-requires
+    (λ c κs. search needs)
     returns)

@@ -53,12 +53,6 @@ module _ (c : tie.After-lta-margin) where
   l-fits : SFits w64 (c .lta-margin .result)
   l-fits = sfits-of (c .lta-margin .ok)
 
-base-requires : tie.Need-base-requires
-base-requires c κs = search needs
-
-amr-requires : tie.Need-amr-requires
-amr-requires c κs = search needs
-
 lta-margin-requires : tie.Need-lta-margin-requires
 lta-margin-requires c κs =
     let s = start₁ c in
@@ -150,8 +144,8 @@ pub ram-spec : {M : Type 1} → statement M
 ram-spec =
     tie.close
     (tie.spec
-    base-requires
-    amr-requires
+    (λ c κs. search needs)
+    (λ c κs. search needs)
     lta-margin-requires
     grains-requires
     grains-requires-2

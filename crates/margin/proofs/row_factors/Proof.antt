@@ -18,12 +18,6 @@ add-result c = omega (arith, stretch-ends (c .pre .0) (c .args .i) (c .pre .1))
 mul-result : tie.Need-mul-result
 mul-result c = omega (arith, stretch-ends (c .pre .0) (c .args .i) (c .pre .1))
 
-sub-result : tie.Need-sub-result
-sub-result c = search needs
-
-part-result-start : tie.Need-part-result-start
-part-result-start c = search needs
-
 part-result-end : tie.Need-part-result-end
 part-result-end c = omega (arith, stretch-ends (c .pre .0) (c .args .i) (c .pre .1))
 
@@ -37,4 +31,4 @@ returns c =
 pub row-factors-spec : {M : Type 1} → statement M
 row-factors-spec =
     tie.close
-    (tie.spec mul-start add-result mul-result sub-result part-result-start part-result-end returns)
+    (tie.spec mul-start add-result mul-result (λ c. search needs) (λ c. search needs) part-result-end returns)

@@ -22,12 +22,6 @@ abbrev μ-loop : tie.MeasureT-loop
 loop-holds : tie.Need-loop-holds Inv-loop μ-loop
 loop-holds c = (omega arith, s-none (c .args .factors .now) (c .args .borders .now))
 
-mul-lta-load : tie.Need-mul-lta-load Inv-loop μ-loop
-mul-lta-load c = omega arith
-
-shared-slice-copy-out-lta-load : tie.Need-shared-slice-copy-out-lta-load Inv-loop μ-loop
-shared-slice-copy-out-lta-load c = omega arith
-
 lta-load-requires : tie.Need-lta-load-requires Inv-loop μ-loop
 lta-load-requires c κs =
     let start = c .before .before .before in
@@ -52,12 +46,6 @@ add-s c =
     let few : b c < length (start c .args .borders .now) = omega arith in
     omega (arith, turned c, s-upto (start c .pre .0 .each) (start c .args .borders .now) (bound c) (b c + 1) (omega arith), start c .pre .1 .few)
 
-add-b : tie.Need-add-b Inv-loop μ-loop
-add-b c = omega arith
-
-loop-less : tie.Need-loop-less Inv-loop μ-loop
-loop-less c = omega arith
-
 loop-again : tie.Need-loop-again Inv-loop μ-loop
 loop-again c = (omega arith, turned c)
 
@@ -74,11 +62,11 @@ s-spec =
     Inv-loop
     μ-loop
     loop-holds
-    mul-lta-load
-    shared-slice-copy-out-lta-load
+    (λ c. omega arith)
+    (λ c. omega arith)
     lta-load-requires
     add-s
-    add-b
-    loop-less
+    (λ c. omega arith)
+    (λ c. omega arith)
     loop-again
     returns)

@@ -30,18 +30,6 @@ module _ (s : tie.Start) where
   apart : SFits w64 (from -ℤ to)
   apart = within-fits (within-sub from-in to-in) tt
 
-mul-from-factor : tie.Need-mul-from-factor
-mul-from-factor c = search needs
-
-shared-slice-copy-out-from-factor : tie.Need-shared-slice-copy-out-from-factor
-shared-slice-copy-out-from-factor c = search needs
-
-mul-to-factor : tie.Need-mul-to-factor
-mul-to-factor c = search needs
-
-shared-slice-copy-out-to-factor : tie.Need-shared-slice-copy-out-to-factor
-shared-slice-copy-out-to-factor c = search needs
-
 sub-result : tie.Need-sub-result
 sub-result c = let s = c .before .before in simp (toZ-ofZ, within-fits (from-in s) tt, within-fits (to-in s) tt) (apart s)
 
@@ -53,9 +41,9 @@ pub signed-factor-spec : {M : Type 1} → statement M
 signed-factor-spec =
     tie.close
     (tie.spec
-    mul-from-factor
-    shared-slice-copy-out-from-factor
-    mul-to-factor
-    shared-slice-copy-out-to-factor
+    (λ c. search needs)
+    (λ c. search needs)
+    (λ c. search needs)
+    (λ c. search needs)
     sub-result
     returns)

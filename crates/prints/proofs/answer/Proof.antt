@@ -1,20 +1,16 @@
--- `prints::answer` meets its contract: the law `answer-printed`. Assumes nothing.
-use Rattle.prints.proofs.PrintedLaws.{answer-printed}
+-- `prints::answer` meets its contract: the law `text-printed`, with room for the longest. Assumes nothing.
+use native.Mathlib.Omega.{arith}
 use borrow.Author.Needs.{needs}
+use Rattle.answer.specs.Result.{answerLeft}
+use Rattle.prints.proofs.PrintedLaws.{text-printed}
 use Rattle.prints.proofs.answer.Statement.{statement}
 use Rattle.prints.proofs.answer.Tie as tie
 
-answer-requires : tie.Need-answer-requires
-answer-requires c κs = search needs
-
-bytes-of-requires : tie.Need-bytes-of-requires
-bytes-of-requires c κs = search needs
-
-same-length : tie.Need-same-length
-same-length c = search needs
-
 returns : tie.Need-returns
-returns c = answer-printed _ _ _ (c .before .before .before .answer .result) _ (c .bytes-of .ensures) (c .before .before .before .before .before .before .before .pre) (c .before .before .before .answer .ensures)
+unfolding answerLeft
+returns c =
+    let said = c .before .before .before .answer-within in
+    text-printed _ _ _ (said .result) _ (c .bytes-of .ensures) (said .ensures .0) (omega (arith, said .ensures .1, c .before .before .before .before .before .before .before .pre))
 
 pub answer-spec : {M : Type 1} → statement M
-answer-spec = tie.close (tie.spec answer-requires bytes-of-requires same-length returns)
+answer-spec = tie.close (tie.spec (λ c κs. search needs) (λ c κs. search needs) (λ c. search needs) returns)

@@ -33,15 +33,6 @@ exact c =
 memory-long : (c : tie.Start) → length (take (c .args .places .header .borders) (c .args .memory .now)) ≡ c .args .places .header .borders
 memory-long c = length-take-le _ (c .args .memory .now) (omega (arith, header-in _ (c .pre .0 .header-fits), c .pre .1 .0))
 
-judge-room-requires : tie.Need-judge-room-requires
-judge-room-requires c κs = search needs
-
-enum-told : tie.Need-enum-told
-enum-told c = search needs
-
-enum-known-w : tie.Need-enum-known-w
-enum-known-w c = search needs
-
 returns : tie.Need-returns
 returns c = room-refused _ _ _ _ _ _ (c .before .before .before .before .before .before .pre .1 .1) _ (c .before .before .before .judge-room .ensures) _ (c .before .w .given .1)
 
@@ -81,18 +72,6 @@ fill-requires c κs =
     let e = exact (c .before .before .before .before .before) in
     (start .pre .0, (memory-long start ∙ sym (e .borders-long), e))
 
-same-length : tie.Need-same-length
-same-length c = search needs
-
-same-length-2 : tie.Need-same-length-2
-same-length-2 c = search needs
-
-same-length-3 : tie.Need-same-length-3
-same-length-3 c = search needs
-
-same-length-4 : tie.Need-same-length-4
-same-length-4 c = search needs
-
 returns-2 : tie.Need-returns-2
 returns-2 c =
     let told = c .before .before .before .before .before .before .before .before .before .before in
@@ -102,9 +81,9 @@ pub read-judged-spec : {M : Type 1} → statement M
 read-judged-spec =
     tie.close
     (tie.spec
-    judge-room-requires
-    enum-told
-    enum-known-w
+    (λ c κs. search needs)
+    (λ c. search needs)
+    (λ c. search needs)
     returns
     slice-aggregate-fill
     slice-relend-prefix-fill
@@ -117,8 +96,8 @@ read-judged-spec =
     slice-relend-prefix-fill-4
     slice-aggregate-fill-5
     fill-requires
-    same-length
-    same-length-2
-    same-length-3
-    same-length-4
+    (λ c. search needs)
+    (λ c. search needs)
+    (λ c. search needs)
+    (λ c. search needs)
     returns-2)

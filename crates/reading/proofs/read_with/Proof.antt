@@ -7,12 +7,6 @@ use borrow.Author.Needs.{needs}
 use Rattle.reading.proofs.read_with.Statement.{statement}
 use Rattle.reading.proofs.read_with.Tie as tie
 
-judge-text-requires : tie.Need-judge-text-requires
-judge-text-requires c κs = search needs
-
-enum-known-places : tie.Need-enum-known-places
-enum-known-places c = search needs
-
 read-judged-requires : tie.Need-read-judged-requires
 read-judged-requires c κs =
     let start = c .before .before .before .before .before .before .before .before .before .before .before .before in
@@ -26,30 +20,6 @@ read-judged-requires c κs =
       ),
     )
 
-enum-known-w : tie.Need-enum-known-w
-enum-known-w c = search needs
-
-same-length : tie.Need-same-length
-same-length c = search needs
-
-same-length-2 : tie.Need-same-length-2
-same-length-2 c = search needs
-
-same-length-3 : tie.Need-same-length-3
-same-length-3 c = search needs
-
-same-length-4 : tie.Need-same-length-4
-same-length-4 c = search needs
-
-same-length-5 : tie.Need-same-length-5
-same-length-5 c = search needs
-
-returns : tie.Need-returns
-returns c = search needs
-
-same-length-6 : tie.Need-same-length-6
-same-length-6 c = search needs
-
 returns-2 : tie.Need-returns-2
 returns-2 c =
     let called = c .before .before .before .before in
@@ -59,15 +29,15 @@ pub read-with-spec : {M : Type 1} → statement M
 read-with-spec =
     tie.close
     (tie.spec
-    judge-text-requires
-    enum-known-places
+    (λ c κs. search needs)
+    (λ c. search needs)
     read-judged-requires
-    enum-known-w
-    same-length
-    same-length-2
-    same-length-3
-    same-length-4
-    same-length-5
-    returns
-    same-length-6
+    (λ c. search needs)
+    (λ c. search needs)
+    (λ c. search needs)
+    (λ c. search needs)
+    (λ c. search needs)
+    (λ c. search needs)
+    (λ c. search needs)
+    (λ c. search needs)
     returns-2)

@@ -16,17 +16,8 @@ abbrev μ-loop : tie.MeasureT-loop
 loop-holds : tie.Need-loop-holds Inv-loop μ-loop
 loop-holds c = filled-none _ _ _
 
-mul-gained : tie.Need-mul-gained Inv-loop μ-loop
-mul-gained c = omega arith
-
 slice-write-gained : tie.Need-slice-write-gained Inv-loop μ-loop
 slice-write-gained c = omega (arith, c .before .loop .inv .as-long)
-
-add-b : tie.Need-add-b Inv-loop μ-loop
-add-b c = omega arith
-
-loop-less : tie.Need-loop-less Inv-loop μ-loop
-loop-less c = omega arith
 
 loop-again : tie.Need-loop-again Inv-loop μ-loop
 loop-again c = filled-more (c .before .loop .inv) _ (omega arith) (omega arith) refl
@@ -39,4 +30,4 @@ returns c = filled-all (c .before .loop .inv) (omega arith) refl
 
 pub clear-spec : {M : Type 1} → statement M
 clear-spec =
-    tie.close (tie.spec Inv-loop μ-loop loop-holds mul-gained slice-write-gained add-b loop-less loop-again same-length returns)
+    tie.close (tie.spec Inv-loop μ-loop loop-holds (λ c. omega arith) slice-write-gained (λ c. omega arith) (λ c. omega arith) loop-again same-length returns)

@@ -69,12 +69,6 @@ add-count c =
     let at-loop = c .before .before .before .before .before .before in
     omega (arith, at-loop .loop .inv .sorted .few)
 
-add-i : tie.Need-add-i Inv-loop μ-loop
-add-i c = omega arith
-
-loop-less : tie.Need-loop-less Inv-loop μ-loop
-loop-less c = omega arith
-
 loop-again : tie.Need-loop-again Inv-loop μ-loop
 loop-again c =
     let at-is-near = c .before in
@@ -113,8 +107,8 @@ find-near-spec =
     mul-near
     slice-write-near
     add-count
-    add-i
-    loop-less
+    (λ c. omega arith)
+    (λ c. omega arith)
     loop-again
     same-length
     returns)

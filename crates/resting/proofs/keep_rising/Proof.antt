@@ -17,17 +17,11 @@ abbrev μ-loop : tie.MeasureT-loop
 loop-holds : tie.Need-loop-holds Inv-loop μ-loop
 loop-holds c = keeping-none _ _ _ _
 
-mul-b : tie.Need-mul-b Inv-loop μ-loop
-mul-b c = omega arith
-
 slice-read-b : tie.Need-slice-read-b Inv-loop μ-loop
 slice-read-b c =
     let at-loop = c .before .before in
     let entry = at-loop .before in
     omega (arith, entry .pre .room, at-loop .loop .inv .long)
-
-mul-rising : tie.Need-mul-rising Inv-loop μ-loop
-mul-rising c = omega arith
 
 slice-write-rising : tie.Need-slice-write-rising Inv-loop μ-loop
 slice-write-rising c =
@@ -51,12 +45,6 @@ add-kept : tie.Need-add-kept Inv-loop μ-loop
 add-kept c =
     let at-loop = c .before .before .before .before in
     omega (arith, at-loop .loop .inv .few)
-
-add-j : tie.Need-add-j Inv-loop μ-loop
-add-j c = omega arith
-
-loop-less : tie.Need-loop-less Inv-loop μ-loop
-loop-less c = omega arith
 
 loop-again : tie.Need-loop-again Inv-loop μ-loop
 loop-again c =
@@ -83,15 +71,15 @@ keep-rising-spec =
     Inv-loop
     μ-loop
     loop-holds
-    mul-b
+    (λ c. omega arith)
     slice-read-b
-    mul-rising
+    (λ c. omega arith)
     slice-write-rising
     mul-if1
     shared-slice-read-if1
     add-kept
-    add-j
-    loop-less
+    (λ c. omega arith)
+    (λ c. omega arith)
     loop-again
     same-length
     returns)

@@ -6,21 +6,12 @@ use Rattle.resting.proofs.SortLaws.{near-listed, near-past}
 use Rattle.resting.proofs.near_row.Statement.{statement}
 use Rattle.resting.proofs.near_row.Tie as tie
 
-mul-result : tie.Need-mul-result
-mul-result c = omega arith
-
-shared-slice-read-result : tie.Need-shared-slice-read-result
-shared-slice-read-result c = omega arith
-
 returns : tie.Need-returns
 returns c = sym (near-listed _ _ _ (c .before .if1 .taken))
-
-add-result : tie.Need-add-result
-add-result c = omega arith
 
 returns-2 : tie.Need-returns-2
 returns-2 c = sym (near-past _ _ _ (c .if1 .left))
 
 pub near-row-spec : {M : Type 1} → statement M
 near-row-spec =
-    tie.close (tie.spec mul-result shared-slice-read-result returns add-result returns-2)
+    tie.close (tie.spec (λ c. omega arith) (λ c. omega arith) returns (λ c. omega arith) returns-2)

@@ -15,9 +15,6 @@ abbrev μ-loop : tie.MeasureT-loop
 loop-holds : tie.Need-loop-holds Inv-loop μ-loop
 loop-holds c = still-none _ _ _
 
-mul-b : tie.Need-mul-b Inv-loop μ-loop
-mul-b c = omega arith
-
 shared-slice-read-b : tie.Need-shared-slice-read-b Inv-loop μ-loop
 shared-slice-read-b c = omega (arith, c .before .before .before .pre .room)
 
@@ -38,12 +35,6 @@ returns c =
     let entry = c .before .before .before .before .before in
     still-some (entry .pre) (omega arith) (c .if1 .taken)
 
-add-j : tie.Need-add-j Inv-loop μ-loop
-add-j c = omega arith
-
-loop-less : tie.Need-loop-less Inv-loop μ-loop
-loop-less c = omega arith
-
 loop-again : tie.Need-loop-again Inv-loop μ-loop
 loop-again c =
     let at-loop = c .before .before .before .before in
@@ -62,12 +53,12 @@ rises-spec =
     Inv-loop
     μ-loop
     loop-holds
-    mul-b
+    (λ c. omega arith)
     shared-slice-read-b
     mul-raise
     shared-slice-read-raise
     returns
-    add-j
-    loop-less
+    (λ c. omega arith)
+    (λ c. omega arith)
     loop-again
     returns-2)

@@ -18,9 +18,6 @@ abbrev μ-loop : tie.MeasureT-loop
 loop-holds : tie.Need-loop-holds Inv-loop μ-loop
 loop-holds c = filled-none _ _ _
 
-mul-old : tie.Need-mul-old Inv-loop μ-loop
-mul-old c = omega arith
-
 slice-read-old : tie.Need-slice-read-old Inv-loop μ-loop
 slice-read-old c =
     let at-loop = c .before .before in
@@ -41,20 +38,11 @@ sub-margins c =
     let entry = at-loop .before .before .before .before .before in
     omega (arith, settle-loss (entry .pre .1) (at-loop .loop .inv) (omega arith) _ (at-row-parts .row-parts .ensures .0))
 
-mul-margins : tie.Need-mul-margins Inv-loop μ-loop
-mul-margins c = omega arith
-
 slice-write-margins : tie.Need-slice-write-margins Inv-loop μ-loop
 slice-write-margins c =
     let at-loop = c .before .before .before .before in
     let entry = at-loop .before .before .before .before .before in
     omega (arith, at-loop .loop .inv .as-long, entry .pre .1 .margins)
-
-add-i : tie.Need-add-i Inv-loop μ-loop
-add-i c = omega arith
-
-loop-less : tie.Need-loop-less Inv-loop μ-loop
-loop-less c = omega arith
 
 loop-again : tie.Need-loop-again Inv-loop μ-loop
 loop-again c =
@@ -79,14 +67,14 @@ settle-spec =
     Inv-loop
     μ-loop
     loop-holds
-    mul-old
+    (λ c. omega arith)
     slice-read-old
     row-parts-requires
     sub-margins
-    mul-margins
+    (λ c. omega arith)
     slice-write-margins
-    add-i
-    loop-less
+    (λ c. omega arith)
+    (λ c. omega arith)
     loop-again
     same-length
     returns)

@@ -99,9 +99,6 @@ add-j c =
     let entry = c .before .before .before .before .before .before .before .before .before .before .before .before .before .before .before .before .before .before .before in
     omega (arith, entry .pre .1 .waiting .room, entry .pre .1 .waiting .watched .few)
 
-loop-less : tie.Need-loop-less Inv-loop μ-loop
-loop-less c = omega arith
-
 loop-again : tie.Need-loop-again Inv-loop μ-loop
 loop-again c =
     let at-lower-if-tight = c .before .before in
@@ -141,7 +138,7 @@ walk-near-spec =
     shared-slice-read-lower-if-tight
     lower-if-tight-requires
     add-j
-    loop-less
+    (λ c. omega arith)
     loop-again
     same-length
     returns)

@@ -45,12 +45,6 @@ do-rounds-requires c κs =
     let q = entry .pre in
     (q .0, (q .1, ((sym (slice-aggregate-do-rounds (c .before .before .before)), sym (slice-aggregate-do-rounds-2 (c .before .before))), (sym (slice-aggregate-do-rounds-3 (c .before)), omega (arith, at-smaller .smaller .ensures, min-le-left (entry .args .rows) 200, slice-aggregate-do-rounds-4 c)))))
 
-same-length : tie.Need-same-length
-same-length c = search needs
-
-returns : tie.Need-returns
-returns c = search needs
-
 pub extract-rounds-spec : {M : Type 1} → statement M
 extract-rounds-spec =
     tie.close
@@ -65,5 +59,5 @@ extract-rounds-spec =
     array-borrow-prefix-near
     slice-aggregate-do-rounds-4
     do-rounds-requires
-    same-length
-    returns)
+    (λ c. search needs)
+    (λ c. search needs))

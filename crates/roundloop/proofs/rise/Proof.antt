@@ -21,18 +21,6 @@ abbrev μ-loop : tie.MeasureT-loop
 loop-holds : tie.Need-loop-holds Inv-loop μ-loop
 loop-holds c = filled-none _ _ _
 
-mul-x : tie.Need-mul-x Inv-loop μ-loop
-mul-x c = omega arith
-
-shared-slice-read-x : tie.Need-shared-slice-read-x Inv-loop μ-loop
-shared-slice-read-x c = omega arith
-
-mul-x-2 : tie.Need-mul-x-2 Inv-loop μ-loop
-mul-x-2 c = omega arith
-
-slice-read-x : tie.Need-slice-read-x Inv-loop μ-loop
-slice-read-x c = omega arith
-
 add-x : tie.Need-add-x Inv-loop μ-loop
 add-x c =
     let at-loop = c .before .before .before in
@@ -42,15 +30,6 @@ add-x c =
     (λ z. omega (arith, c .slice-known .given b))
     (λ z. omega (arith, filled-rest (at-loop .loop .inv) 0 (omega arith), entry .pre .fits b (omega arith) z))
     (le-or-lt (at (entry .args .raises .now) b) 0)
-
-slice-write-x : tie.Need-slice-write-x Inv-loop μ-loop
-slice-write-x c = omega arith
-
-add-b : tie.Need-add-b Inv-loop μ-loop
-add-b c = omega arith
-
-loop-less : tie.Need-loop-less Inv-loop μ-loop
-loop-less c = omega arith
 
 loop-again : tie.Need-loop-again Inv-loop μ-loop
 loop-again c =
@@ -71,14 +50,14 @@ rise-spec =
     Inv-loop
     μ-loop
     loop-holds
-    mul-x
-    shared-slice-read-x
-    mul-x-2
-    slice-read-x
+    (λ c. omega arith)
+    (λ c. omega arith)
+    (λ c. omega arith)
+    (λ c. omega arith)
     add-x
-    slice-write-x
-    add-b
-    loop-less
+    (λ c. omega arith)
+    (λ c. omega arith)
+    (λ c. omega arith)
     loop-again
     same-length
     returns)

@@ -36,12 +36,6 @@ factor-requires c κs =
 add-n : tie.Need-add-n Inv-loop2 μ-loop2 Inv-loop μ-loop
 add-n c = let at-loop2 = c .before .before .before in omega (arith, counted-le (at-loop2 .loop2 .inv))
 
-add-b : tie.Need-add-b Inv-loop2 μ-loop2 Inv-loop μ-loop
-add-b c = omega arith
-
-loop2-less : tie.Need-loop2-less Inv-loop2 μ-loop2 Inv-loop μ-loop
-loop2-less c = omega arith
-
 loop2-again : tie.Need-loop2-again Inv-loop2 μ-loop2 Inv-loop μ-loop
 loop2-again c =
     let u = c .before .before .before .loop2 .inv in
@@ -50,18 +44,6 @@ loop2-again c =
     (λ w. counted-up u _ _ (omega arith) e (w .0 .taken) (w .1))
     (λ w. counted-on u _ _ (omega arith) e (w .0 .left) (w .1))
     (c .if1 .came)
-
-mul-ns : tie.Need-mul-ns Inv-loop2 μ-loop2 Inv-loop μ-loop
-mul-ns c = omega arith
-
-slice-write-ns : tie.Need-slice-write-ns Inv-loop2 μ-loop2 Inv-loop μ-loop
-slice-write-ns c = omega arith
-
-add-i : tie.Need-add-i Inv-loop2 μ-loop2 Inv-loop μ-loop
-add-i c = omega arith
-
-loop-less : tie.Need-loop-less Inv-loop2 μ-loop2 Inv-loop μ-loop
-loop-less c = omega arith
 
 loop-again : tie.Need-loop-again Inv-loop2 μ-loop2 Inv-loop μ-loop
 unfolding sharers
@@ -87,13 +69,13 @@ count-sharers-spec =
     loop2-holds
     factor-requires
     add-n
-    add-b
-    loop2-less
+    (λ c. omega arith)
+    (λ c. omega arith)
     loop2-again
-    mul-ns
-    slice-write-ns
-    add-i
-    loop-less
+    (λ c. omega arith)
+    (λ c. omega arith)
+    (λ c. omega arith)
+    (λ c. omega arith)
     loop-again
     same-length
     returns)

@@ -23,8 +23,5 @@ mul-result-2 c = omega (arith, inside c)
 shared-slice-read-result : tie.Need-shared-slice-read-result
 shared-slice-read-result c = inside (c .before)
 
-returns : tie.Need-returns
-returns c = search needs
-
 pub factor-spec : {M : Type 1} → statement M
-factor-spec = tie.close (tie.spec mul-result add-result mul-result-2 shared-slice-read-result returns)
+factor-spec = tie.close (tie.spec mul-result add-result mul-result-2 shared-slice-read-result (λ c. search needs))

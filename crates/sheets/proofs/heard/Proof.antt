@@ -8,12 +8,6 @@ use Rattle.sheets.proofs.heard.Tie as tie
 returns : tie.Need-returns
 returns c = heard-none _ (c .if1 .taken)
 
-shared-slice-read-if2 : tie.Need-shared-slice-read-if2
-shared-slice-read-if2 c = search needs
-
-refusal-in-requires : tie.Need-refusal-in-requires
-refusal-in-requires c κs = search needs
-
 returns-2 : tie.Need-returns-2
 returns-2 c = c .refusal-in .ensures ∙ heard-refusal _ (c .before .if2 .taken)
 
@@ -22,4 +16,4 @@ returns-3 c = heard-other _ (c .if2 .left)
 
 pub heard-spec : {M : Type 1} → statement M
 heard-spec =
-    tie.close (tie.spec returns shared-slice-read-if2 refusal-in-requires returns-2 returns-3)
+    tie.close (tie.spec returns (λ c. search needs) (λ c κs. search needs) returns-2 returns-3)

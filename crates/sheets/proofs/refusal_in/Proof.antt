@@ -17,27 +17,9 @@ place-read : (c : tie.After-known-told2)
     numberAt (one .before .before .before .before .before .args .line .now) (one .before .number .given .0 .1 .0) feed ≡ Value (c .before .place .given .0 .0) (c .before .place .given .0 .1 .0)
 place-read c = sym (c .before .before .before .number-at2 .ensures) ∙ c .before .place .given .1
 
-number-at-requires : tie.Need-number-at-requires
-number-at-requires c κs = search needs
-
-enum-known-number : tie.Need-enum-known-number
-enum-known-number c = search needs
-
-enum-told : tie.Need-enum-told
-enum-told c = search needs
-
 returns : tie.Need-returns
 unfolding refusalIn
 returns c = rw (sym (c .before .before .number-at .ensures) ∙ c .enum-told .given .1)
-
-number-at-requires-2 : tie.Need-number-at-requires-2
-number-at-requires-2 c κs = search needs
-
-enum-known-place : tie.Need-enum-known-place
-enum-known-place c = search needs
-
-enum-told-2 : tie.Need-enum-told-2
-enum-told-2 c = search needs
 
 returns-2 : tie.Need-returns-2
 unfolding refusalIn
@@ -51,12 +33,12 @@ pub refusal-in-spec : {M : Type 1} → statement M
 refusal-in-spec =
     tie.close
     (tie.spec
-    number-at-requires
-    enum-known-number
-    enum-told
+    (λ c κs. search needs)
+    (λ c. search needs)
+    (λ c. search needs)
     returns
-    number-at-requires-2
-    enum-known-place
-    enum-told-2
+    (λ c κs. search needs)
+    (λ c. search needs)
+    (λ c. search needs)
     returns-2
     returns-3)

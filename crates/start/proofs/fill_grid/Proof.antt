@@ -31,9 +31,6 @@ loop-holds : tie.Need-loop-holds Inv-loop2 μ-loop2 Inv-loop μ-loop
 unfolding gridOf
 loop-holds c = filled-to-none _ _ (c .before .before .pre .1 .1 .1 .1)
 
-mul-state : tie.Need-mul-state Inv-loop2 μ-loop2 Inv-loop μ-loop
-mul-state c = omega arith
-
 shared-slice-read-state : tie.Need-shared-slice-read-state Inv-loop2 μ-loop2 Inv-loop μ-loop
 shared-slice-read-state c = omega (arith, c .before .before .before .before .before .pre .1 .1 .1 .0)
 
@@ -83,12 +80,6 @@ slice-write-p : tie.Need-slice-write-p Inv-loop2 μ-loop2 Inv-loop μ-loop
 unfolding gridOf
 slice-write-p c = filled-to-place (c .before .before .before .loop2 .inv) (omega arith) (omega arith)
 
-add-k : tie.Need-add-k Inv-loop2 μ-loop2 Inv-loop μ-loop
-add-k c = omega arith
-
-loop2-less : tie.Need-loop2-less Inv-loop2 μ-loop2 Inv-loop μ-loop
-loop2-less c = omega arith
-
 loop2-again : tie.Need-loop2-again Inv-loop2 μ-loop2 Inv-loop μ-loop
 unfolding gridOf kept
 loop2-again c =
@@ -97,12 +88,6 @@ loop2-again c =
     let a = entry at-row .args in
     filled-to-more (at-loop2 .loop2 .inv) (omega arith) (omega arith) _
     (c .cell .ensures ∙ ap (λ (fs : List ℤ). cond (kept (a .states .now) (row at-row)) (pOf fs (borderOf (getD (a .b .now) (at-loop2 .loop2 .k) []))) 0) (at-row .row-factors .ensures))
-
-add-i : tie.Need-add-i Inv-loop2 μ-loop2 Inv-loop μ-loop
-add-i c = omega arith
-
-loop-less : tie.Need-loop-less Inv-loop2 μ-loop2 Inv-loop μ-loop
-loop-less c = omega arith
 
 loop-again : tie.Need-loop-again Inv-loop2 μ-loop2 Inv-loop μ-loop
 unfolding gridOf
@@ -125,7 +110,7 @@ fill-grid-spec =
     Inv-loop
     μ-loop
     loop-holds
-    mul-state
+    (λ c. omega arith)
     shared-slice-read-state
     row-factors-requires
     loop2-holds
@@ -136,11 +121,11 @@ fill-grid-spec =
     add-p
     mul-p-2
     slice-write-p
-    add-k
-    loop2-less
+    (λ c. omega arith)
+    (λ c. omega arith)
     loop2-again
-    add-i
-    loop-less
+    (λ c. omega arith)
+    (λ c. omega arith)
     loop-again
     same-length
     returns)

@@ -18,12 +18,6 @@ abbrev μ-loop : tie.MeasureT-loop
 loop-holds : tie.Need-loop-holds Inv-loop μ-loop
 loop-holds c = filled-none _ _ _
 
-mul-lta-of : tie.Need-mul-lta-of Inv-loop μ-loop
-mul-lta-of c = omega arith
-
-shared-slice-copy-out-lta-of : tie.Need-shared-slice-copy-out-lta-of Inv-loop μ-loop
-shared-slice-copy-out-lta-of c = omega arith
-
 lta-of-requires : tie.Need-lta-of-requires Inv-loop μ-loop
 lta-of-requires c κs = c .before .before .before .before .pre .0 .each _ (omega arith)
 
@@ -32,12 +26,6 @@ mul-x c = omega (arith, c .before .before .before .loop .inv .as-long)
 
 slice-write-x : tie.Need-slice-write-x Inv-loop μ-loop
 slice-write-x c = omega (arith, c .before .before .before .loop .inv .as-long)
-
-add-k : tie.Need-add-k Inv-loop μ-loop
-add-k c = omega arith
-
-loop-less : tie.Need-loop-less Inv-loop μ-loop
-loop-less c = omega arith
 
 loop-again : tie.Need-loop-again Inv-loop μ-loop
 loop-again c = filled-more (c .before .before .before .loop .inv) _ (omega arith) (omega (arith, c .before .before .before .before .before .pre .1)) (c .lta-of .ensures)
@@ -55,13 +43,13 @@ fill-ltas-spec =
     Inv-loop
     μ-loop
     loop-holds
-    mul-lta-of
-    shared-slice-copy-out-lta-of
+    (λ c. omega arith)
+    (λ c. omega arith)
     lta-of-requires
     mul-x
     slice-write-x
-    add-k
-    loop-less
+    (λ c. omega arith)
+    (λ c. omega arith)
     loop-again
     same-length
     returns)

@@ -21,32 +21,17 @@ abbrev μ-loop : tie.MeasureT-loop
 loop-holds : tie.Need-loop-holds Inv-loop μ-loop
 loop-holds c = filled-none _ _ _
 
-mul-state : tie.Need-mul-state Inv-loop μ-loop
-mul-state c = omega arith
-
-shared-slice-read-state : tie.Need-shared-slice-read-state Inv-loop μ-loop
-shared-slice-read-state c = omega arith
-
 mul-start : tie.Need-mul-start Inv-loop μ-loop
 mul-start c = omega (arith, c .before .before .before .before .before .pre .0)
 
 shared-slice-copy-out-start : tie.Need-shared-slice-copy-out-start Inv-loop μ-loop
 shared-slice-copy-out-start c = omega (arith, c .before .before .before .before .before .pre .0)
 
-margin-of-requires : tie.Need-margin-of-requires Inv-loop μ-loop
-margin-of-requires c κs = search needs
-
 mul-margins : tie.Need-mul-margins Inv-loop μ-loop
 mul-margins c = omega (arith, c .before .before .before .before .loop .inv .as-long, c .before .before .before .before .before .before .before .pre .1)
 
 slice-write-margins : tie.Need-slice-write-margins Inv-loop μ-loop
 slice-write-margins c = omega (arith, c .before .before .before .before .loop .inv .as-long, c .before .before .before .before .before .before .before .pre .1)
-
-add-i : tie.Need-add-i Inv-loop μ-loop
-add-i c = omega arith
-
-loop-less : tie.Need-loop-less Inv-loop μ-loop
-loop-less c = omega arith
 
 loop-again : tie.Need-loop-again Inv-loop μ-loop
 unfolding kept
@@ -65,15 +50,15 @@ fill-margins-spec =
     Inv-loop
     μ-loop
     loop-holds
-    mul-state
-    shared-slice-read-state
+    (λ c. omega arith)
+    (λ c. omega arith)
     mul-start
     shared-slice-copy-out-start
-    margin-of-requires
+    (λ c κs. search needs)
     mul-margins
     slice-write-margins
-    add-i
-    loop-less
+    (λ c. omega arith)
+    (λ c. omega arith)
     loop-again
     same-length
     returns)

@@ -8,24 +8,12 @@ use Rattle.start.proofs.StartLaws.{rows-are}
 use Rattle.start.proofs.fill_rows.Statement.{statement}
 use Rattle.start.proofs.fill_rows.Tie as tie
 
-fill-rams-requires : tie.Need-fill-rams-requires
-fill-rams-requires c κs = search needs
-
 fill-states-requires : tie.Need-fill-states-requires
 fill-states-requires c κs = (good-factors (c .before .before .before .before .before .before .before .before .pre .0), (ap length (c .before .before .before .before .fill-rams .ensures .0) ∙ table-long _ _, c .before .before .before .before .before .before .before .before .pre .1 .1))
-
-same-length : tie.Need-same-length
-same-length c = search needs
-
-same-length-2 : tie.Need-same-length-2
-same-length-2 c = search needs
-
-same-length-3 : tie.Need-same-length-3
-same-length-3 c = search needs
 
 returns : tie.Need-returns
 returns c = (rows-are _ _ _ (c .before .before .before .before .before .before .before .fill-rams .ensures .0) (c .before .before .fill-states .ensures), c .before .before .before .before .before .before .before .fill-rams .ensures .1)
 
 pub fill-rows-spec : {M : Type 1} → statement M
 fill-rows-spec =
-    tie.close (tie.spec fill-rams-requires fill-states-requires same-length same-length-2 same-length-3 returns)
+    tie.close (tie.spec (λ c κs. search needs) fill-states-requires (λ c. search needs) (λ c. search needs) (λ c. search needs) returns)

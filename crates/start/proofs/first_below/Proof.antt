@@ -22,12 +22,6 @@ abbrev μ-loop : tie.MeasureT-loop
 loop-holds : tie.Need-loop-holds Inv-loop μ-loop
 loop-holds c = looked-none _ _
 
-mul-state : tie.Need-mul-state Inv-loop μ-loop
-mul-state c = omega arith
-
-shared-slice-read-state : tie.Need-shared-slice-read-state Inv-loop μ-loop
-shared-slice-read-state c = omega arith
-
 mul-start : tie.Need-mul-start Inv-loop μ-loop
 mul-start c = omega (arith, c .before .before .before .pre)
 
@@ -37,12 +31,6 @@ shared-slice-copy-out-start c = omega (arith, c .before .before .before .pre)
 returns : tie.Need-returns Inv-loop μ-loop
 unfolding kept
 returns c = looked-here _ _ _ (c .before .before .before .before .loop .inv) (omega arith) (rw (plain _ (c .before .start .given)) at (c .if1 .taken))
-
-add-i : tie.Need-add-i Inv-loop μ-loop
-add-i c = omega arith
-
-loop-less : tie.Need-loop-less Inv-loop μ-loop
-loop-less c = omega arith
 
 loop-again : tie.Need-loop-again Inv-loop μ-loop
 unfolding kept
@@ -58,12 +46,12 @@ first-below-spec =
     Inv-loop
     μ-loop
     loop-holds
-    mul-state
-    shared-slice-read-state
+    (λ c. omega arith)
+    (λ c. omega arith)
     mul-start
     shared-slice-copy-out-start
     returns
-    add-i
-    loop-less
+    (λ c. omega arith)
+    (λ c. omega arith)
     loop-again
     returns-2)

@@ -26,12 +26,6 @@ is-limited-requires c κs = (c .before .before .before .pre, omega arith)
 returns : tie.Need-returns Inv-loop μ-loop
 returns c = looked-here _ _ _ (c .before .before .before .loop .inv) (omega arith) (sym (ap not (c .before .is-limited .ensures)) ∙ c .if1 .taken)
 
-add-b : tie.Need-add-b Inv-loop μ-loop
-add-b c = omega arith
-
-loop-less : tie.Need-loop-less Inv-loop μ-loop
-loop-less c = omega arith
-
 loop-again : tie.Need-loop-again Inv-loop μ-loop
 loop-again c = looked-more _ _ _ (c .before .before .before .loop .inv) (omega arith) (sym (ap not (c .before .is-limited .ensures)) ∙ c .if1 .left)
 
@@ -47,7 +41,7 @@ first-unlimited-spec =
     loop-holds
     is-limited-requires
     returns
-    add-b
-    loop-less
+    (λ c. omega arith)
+    (λ c. omega arith)
     loop-again
     returns-2)

@@ -27,12 +27,6 @@ returns : tie.Need-returns Inv-loop μ-loop
 unfolding given
 returns c = ap given (looked-here _ _ _ (c .before .before .before .loop .inv) (omega arith) (lt-ltb _ _ (subst (λ (v : ℕ). 0 < v) (c .before .factor .ensures) (c .if1 .taken))))
 
-add-i : tie.Need-add-i Inv-loop μ-loop
-add-i c = omega arith
-
-loop-less : tie.Need-loop-less Inv-loop μ-loop
-loop-less c = omega arith
-
 loop-again : tie.Need-loop-again Inv-loop μ-loop
 loop-again c = looked-more _ _ _ (c .before .before .before .loop .inv) (omega arith) (le-ltb _ _ (subst (λ (v : ℕ). v ≤ 0) (c .before .factor .ensures) (c .if1 .left)))
 
@@ -49,7 +43,7 @@ is-limited-spec =
     loop-holds
     factor-requires
     returns
-    add-i
-    loop-less
+    (λ c. omega arith)
+    (λ c. omega arith)
     loop-again
     returns-2)

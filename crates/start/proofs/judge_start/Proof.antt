@@ -11,9 +11,6 @@ use Rattle.start.proofs.StartLaws.{none-kept, border-free, row-below, m
 use Rattle.start.proofs.judge_start.Statement.{statement}
 use Rattle.start.proofs.judge_start.Tie as tie
 
-some-kept-requires : tie.Need-some-kept-requires
-some-kept-requires c κs = search needs
-
 returns : tie.Need-returns
 returns c = none-kept _ _ _ (c .before .before .before .before .pre .1 .0) (sym (c .before .some-kept .ensures) ∙ not-true _ (c .if1 .taken))
 
@@ -26,22 +23,13 @@ some-row c = sym (c .before .some-kept .ensures) ∙ not-false _ (c .if1 .left)
 first-unlimited-requires : tie.Need-first-unlimited-requires
 first-unlimited-requires c κs = c .before .before .before .before .pre .0
 
-enum-known-k : tie.Need-enum-known-k
-enum-known-k c = search needs
-
 returns-2 : tie.Need-returns-2
 returns-2 c =
     let past-5 = c .before .before .before .before in
     border-free _ _ _ (past-5 .before .before .before .before .pre .1 .0) (some-row past-5) _ (sym (ap found (c .before .k .given .1)) ∙ c .before .before .before .first-unlimited .ensures)
 
-enum-told : tie.Need-enum-told
-enum-told c = search needs
-
 first-below-requires : tie.Need-first-below-requires
 first-below-requires c κs = c .before .before .before .before .before .before .before .pre .1 .1 ∙ sym (c .before .before .before .before .before .before .before .pre .1 .0)
-
-enum-known-i : tie.Need-enum-known-i
-enum-known-i c = search needs
 
 returns-3 : tie.Need-returns-3
 returns-3 c =
@@ -49,9 +37,6 @@ returns-3 c =
     let past-5 = past-6 .before .before .before in
     row-below _ _ _ (past-5 .before .before .before .before .pre .1 .0) (some-row past-5) (sym (ap found (past-6 .enum-told .given .1)) ∙ past-6 .before .before .first-unlimited .ensures) _
     (sym (ap found (c .before .i .given .1)) ∙ c .before .before .before .first-below .ensures)
-
-enum-told-2 : tie.Need-enum-told-2
-enum-told-2 c = search needs
 
 returns-4 : tie.Need-returns-4
 returns-4 c =
@@ -64,14 +49,14 @@ pub judge-start-spec : {M : Type 1} → statement M
 judge-start-spec =
     tie.close
     (tie.spec
-    some-kept-requires
+    (λ c κs. search needs)
     returns
     first-unlimited-requires
-    enum-known-k
+    (λ c. search needs)
     returns-2
-    enum-told
+    (λ c. search needs)
     first-below-requires
-    enum-known-i
+    (λ c. search needs)
     returns-3
-    enum-told-2
+    (λ c. search needs)
     returns-4)

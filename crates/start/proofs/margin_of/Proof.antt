@@ -5,9 +5,6 @@ use mir.Facts.{toZ-ofZ}
 use Rattle.start.proofs.margin_of.Statement.{statement}
 use Rattle.start.proofs.margin_of.Tie as tie
 
-positive-requires : tie.Need-positive-requires
-positive-requires c κs = search needs
-
 returns : tie.Need-returns
 returns c = rw (eq-eqb _ _ (c .before .if1 .taken)) (simp (toZ-ofZ, c .before .before .fits .start) at (c .positive .ensures))
 
@@ -15,4 +12,4 @@ returns-2 : tie.Need-returns-2
 returns-2 c = rw (ne-eqb _ _ (c .if1 .left))
 
 pub margin-of-spec : {M : Type 1} → statement M
-margin-of-spec = tie.close (tie.spec positive-requires returns returns-2)
+margin-of-spec = tie.close (tie.spec (λ c κs. search needs) returns returns-2)

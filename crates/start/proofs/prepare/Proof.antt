@@ -9,9 +9,6 @@ use Rattle.start.proofs.StartLaws.{grid-long, rows-in, prepared-by}
 use Rattle.start.proofs.prepare.Statement.{statement}
 use Rattle.start.proofs.prepare.Tie as tie
 
-fill-rows-requires : tie.Need-fill-rows-requires
-fill-rows-requires c κs = search needs
-
 -- from one call to the call before it, and to the function's entry
 abbrev grid-before : tie.After-fill-margins → tie.After-fill-grid
 grid-before c = c .before .before .before .before .before .before
@@ -40,21 +37,6 @@ judge-start-requires c κs =
     let said = rows-before at-grid .fill-rows .ensures in
     (omega (arith, grid-long _ _ _ _ (at-grid .fill-grid .ensures)), (rows-in _ _ (said .0) .states-long, ap length (said .1) ∙ table-long _ _))
 
-same-length : tie.Need-same-length
-same-length c = search needs
-
-same-length-2 : tie.Need-same-length-2
-same-length-2 c = search needs
-
-same-length-3 : tie.Need-same-length-3
-same-length-3 c = search needs
-
-same-length-4 : tie.Need-same-length-4
-same-length-4 c = search needs
-
-same-length-5 : tie.Need-same-length-5
-same-length-5 c = search needs
-
 returns : tie.Need-returns
 returns c =
     let at-margins = c .before .before .before .before .before .before in
@@ -66,13 +48,13 @@ pub prepare-spec : {M : Type 1} → statement M
 prepare-spec =
     tie.close
     (tie.spec
-    fill-rows-requires
+    (λ c κs. search needs)
     fill-grid-requires
     fill-margins-requires
     judge-start-requires
-    same-length
-    same-length-2
-    same-length-3
-    same-length-4
-    same-length-5
+    (λ c. search needs)
+    (λ c. search needs)
+    (λ c. search needs)
+    (λ c. search needs)
+    (λ c. search needs)
     returns)

@@ -30,21 +30,6 @@ module _ (c : tie.After-b) where
   b-fits : SFits w64 b
   b-fits = record { sfits = c .b .given }
 
-mul-a : tie.Need-mul-a
-mul-a c = search needs
-
-shared-slice-copy-out-a : tie.Need-shared-slice-copy-out-a
-shared-slice-copy-out-a c = search needs
-
-mul-b : tie.Need-mul-b
-mul-b c = search needs
-
-shared-slice-copy-out-b : tie.Need-shared-slice-copy-out-b
-shared-slice-copy-out-b c = search needs
-
-same-requires : tie.Need-same-requires
-same-requires c κs = search needs
-
 returns : tie.Need-returns
 returns c =
     let d = c .before in
@@ -70,11 +55,11 @@ pub below-spec : {M : Type 1} → statement M
 below-spec =
     tie.close
     (tie.spec
-    mul-a
-    shared-slice-copy-out-a
-    mul-b
-    shared-slice-copy-out-b
-    same-requires
+    (λ c. search needs)
+    (λ c. search needs)
+    (λ c. search needs)
+    (λ c. search needs)
+    (λ c κs. search needs)
     returns
     returns-2
     returns-3)

@@ -30,9 +30,6 @@ slice-write-states c = omega (arith, c .before .before .loop .inv .as-long, c .b
 add-i : tie.Need-add-i Inv-loop μ-loop
 add-i c = omega (arith, c .before .before .loop .inv .as-long, c .before .before .before .before .pre .1 .1)
 
-loop-less : tie.Need-loop-less Inv-loop μ-loop
-loop-less c = omega arith
-
 loop-again : tie.Need-loop-again Inv-loop μ-loop
 loop-again c = filled-more (c .before .before .loop .inv) _ (omega arith) (omega (arith, c .before .before .before .before .pre .1 .1)) (c .state-of .ensures)
 
@@ -53,7 +50,7 @@ fill-states-spec =
     mul-states
     slice-write-states
     add-i
-    loop-less
+    (λ c. omega arith)
     loop-again
     same-length
     returns)

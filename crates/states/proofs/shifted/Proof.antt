@@ -58,15 +58,6 @@ sub-d c =
 loop-holds : tie.Need-loop-holds Inv-loop μ-loop
 loop-holds c = looked-more _ _ 0 (looked-none _ _) (c .before .before .pre .0 .some) (ap not (same-self _))
 
-mul-f : tie.Need-mul-f Inv-loop μ-loop
-mul-f c = omega arith
-
-shared-slice-copy-out-f : tie.Need-shared-slice-copy-out-f Inv-loop μ-loop
-shared-slice-copy-out-f c = omega arith
-
-mul-g : tie.Need-mul-g Inv-loop μ-loop
-mul-g c = omega arith
-
 shared-slice-copy-out-g : tie.Need-shared-slice-copy-out-g Inv-loop μ-loop
 shared-slice-copy-out-g c = omega (arith, c .before .before .before .before .before .pre .1 .1)
 
@@ -100,12 +91,6 @@ returns c =
     let d = c .before .before in
     ap (λ (o : Option ℕ). not (given o)) (looked-here _ _ _ (d .before .before .before .loop .inv) (below d) (sym (fact (c .before)) ∙ c .if1 .taken))
 
-add-z : tie.Need-add-z Inv-loop μ-loop
-add-z c = omega arith
-
-loop-less : tie.Need-loop-less Inv-loop μ-loop
-loop-less c = omega arith
-
 loop-again : tie.Need-loop-again Inv-loop μ-loop
 loop-again c =
     let d = c .before .before in
@@ -125,14 +110,14 @@ shifted-spec =
     shared-slice-copy-out-g0
     sub-d
     loop-holds
-    mul-f
-    shared-slice-copy-out-f
-    mul-g
+    (λ c. omega arith)
+    (λ c. omega arith)
+    (λ c. omega arith)
     shared-slice-copy-out-g
     sub-same
     same-requires
     returns
-    add-z
-    loop-less
+    (λ c. omega arith)
+    (λ c. omega arith)
     loop-again
     returns-2)

@@ -51,23 +51,11 @@ loop-holds c =
     let small = f-in s 0 (s .pre .some) in
     simp (toZ-ofZ, f-fits s 0 (s .pre .some)) (record { below = s .pre .some; high-in = small; low-in = small; high-is = refl; low-is = refl })
 
-mul-factor : tie.Need-mul-factor Inv-loop μ-loop
-mul-factor c = omega arith
-
-shared-slice-copy-out-factor : tie.Need-shared-slice-copy-out-factor Inv-loop μ-loop
-shared-slice-copy-out-factor c = omega arith
-
 larger-requires : tie.Need-larger-requires Inv-loop μ-loop
 larger-requires c κs = tt
 
 smaller-requires : tie.Need-smaller-requires Inv-loop μ-loop
 smaller-requires c κs = tt
-
-add-z : tie.Need-add-z Inv-loop μ-loop
-add-z c = omega arith
-
-loop-less : tie.Need-loop-less Inv-loop μ-loop
-loop-less c = omega arith
 
 loop-again : tie.Need-loop-again Inv-loop μ-loop
 loop-again c =
@@ -109,12 +97,12 @@ spread-small-spec =
     μ-loop
     shared-slice-copy-out-high
     loop-holds
-    mul-factor
-    shared-slice-copy-out-factor
+    (λ c. omega arith)
+    (λ c. omega arith)
     larger-requires
     smaller-requires
-    add-z
-    loop-less
+    (λ c. omega arith)
+    (λ c. omega arith)
     loop-again
     sub-result
     returns)

@@ -9,12 +9,6 @@ use Rattle.states.proofs.StateLaws.{late-first, late-second}
 use Rattle.states.proofs.stands_for.Statement.{statement}
 use Rattle.states.proofs.stands_for.Tie as tie
 
-row-factors-requires : tie.Need-row-factors-requires
-row-factors-requires c κs = search needs
-
-row-factors-requires-2 : tie.Need-row-factors-requires-2
-row-factors-requires-2 c = search needs
-
 shifted-requires : tie.Need-shifted-requires
 shifted-requires c κs =
     let start = c .before .before in
@@ -27,9 +21,6 @@ shifted-requires c κs =
         part-long t (start .args .i) i (c .row-factors2 .ensures) ∙ sym (part-long t (start .args .j) j (c .before .row-factors .ensures)),
       ),
     )
-
-below-requires : tie.Need-below-requires
-below-requires c κs = search needs
 
 returns : tie.Need-returns
 returns c =
@@ -46,4 +37,4 @@ returns-2 c =
 
 pub stands-for-spec : {M : Type 1} → statement M
 stands-for-spec =
-    tie.close (tie.spec row-factors-requires row-factors-requires-2 shifted-requires below-requires returns returns-2)
+    tie.close (tie.spec (λ c κs. search needs) (λ c. search needs) shifted-requires (λ c κs. search needs) returns returns-2)

@@ -11,9 +11,6 @@ use Rattle.states.proofs.StateLaws.{state-spread, state-stood, state-ke
 use Rattle.states.proofs.state_of.Statement.{statement}
 use Rattle.states.proofs.state_of.Tie as tie
 
-row-factors-requires : tie.Need-row-factors-requires
-row-factors-requires c κs = search needs
-
 spread-small-requires : tie.Need-spread-small-requires
 spread-small-requires c κs =
     let start = c .before in
@@ -28,9 +25,6 @@ returns c =
     let a = c .before .before .before .args in
     state-spread (a .header) (a .f .now) (a .rams .now) (a .i) (sym (small (c .before)) ∙ c .if1 .taken)
 
-stood-for-requires : tie.Need-stood-for-requires
-stood-for-requires c κs = search needs
-
 returns-2 : tie.Need-returns-2
 returns-2 c =
     let a = c .before .before .before .before .before .args in
@@ -44,4 +38,4 @@ returns-3 c =
 pub state-of-spec : {M : Type 1} → statement M
 state-of-spec =
     tie.close
-    (tie.spec row-factors-requires spread-small-requires returns stood-for-requires returns-2 returns-3)
+    (tie.spec (λ c κs. search needs) spread-small-requires returns (λ c κs. search needs) returns-2 returns-3)

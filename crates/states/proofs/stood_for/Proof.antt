@@ -33,12 +33,6 @@ returns c =
     ap (λ (o : Option ℕ). given o)
     (looked-here _ _ _ (c .before .before .before .loop .inv) (omega arith) (sym (c .before .stands-for .ensures) ∙ c .if1 .taken))
 
-add-j : tie.Need-add-j Inv-loop μ-loop
-add-j c = omega arith
-
-loop-less : tie.Need-loop-less Inv-loop μ-loop
-loop-less c = omega arith
-
 loop-again : tie.Need-loop-again Inv-loop μ-loop
 loop-again c = looked-more _ _ _ (c .before .before .before .loop .inv) (omega arith) (sym (c .before .stands-for .ensures) ∙ c .if1 .left)
 
@@ -55,7 +49,7 @@ stood-for-spec =
     loop-holds
     stands-for-requires
     returns
-    add-j
-    loop-less
+    (λ c. omega arith)
+    (λ c. omega arith)
     loop-again
     returns-2)

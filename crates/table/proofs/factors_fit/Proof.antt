@@ -21,15 +21,6 @@ abbrev μ-loop : tie.MeasureT-loop
 loop-holds : tie.Need-loop-holds Inv-loop μ-loop
 loop-holds c = looked-none _ _
 
-mul-factor-fits : tie.Need-mul-factor-fits Inv-loop μ-loop
-mul-factor-fits c = search needs
-
-shared-slice-copy-out-factor-fits : tie.Need-shared-slice-copy-out-factor-fits Inv-loop μ-loop
-shared-slice-copy-out-factor-fits c = search needs
-
-factor-fits-requires : tie.Need-factor-fits-requires Inv-loop μ-loop
-factor-fits-requires c κs = search needs
-
 judged : (c : tie.After-factor-fits Inv-loop μ-loop)
     → not (c .factor-fits .result) ≡ not (factorFits (atℤ (c .before .before .before .before .args .f .now) (c .before .before .before .loop .z)))
 judged c = ap not (c .factor-fits .ensures ∙ ap factorFits (plain _ (c .before .factor-fits-arg .given)))
@@ -37,12 +28,6 @@ judged c = ap not (c .factor-fits .ensures ∙ ap factorFits (plain _ (c .before
 returns : tie.Need-returns Inv-loop μ-loop
 unfolding given
 returns c = ap (λ o. not (given o)) (looked-here _ _ _ (c .before .before .before .before .loop .inv) (omega arith) (sym (judged (c .before)) ∙ c .if1 .taken))
-
-add-z : tie.Need-add-z Inv-loop μ-loop
-add-z c = search needs
-
-loop-less : tie.Need-loop-less Inv-loop μ-loop
-loop-less c = search needs
 
 loop-again : tie.Need-loop-again Inv-loop μ-loop
 loop-again c = looked-more _ _ _ (c .before .before .before .before .loop .inv) (omega arith) (sym (judged (c .before)) ∙ c .if1 .left)
@@ -58,11 +43,11 @@ factors-fit-spec =
     Inv-loop
     μ-loop
     loop-holds
-    mul-factor-fits
-    shared-slice-copy-out-factor-fits
-    factor-fits-requires
+    (λ c. search needs)
+    (λ c. search needs)
+    (λ c κs. search needs)
     returns
-    add-z
-    loop-less
+    (λ c. search needs)
+    (λ c. search needs)
     loop-again
     returns-2)

@@ -24,29 +24,14 @@ loop-holds c = looked-none _ _
 mul-start : tie.Need-mul-start Inv-loop μ-loop
 mul-start c = omega (arith, stretch-end (c .before .before .args .zones) (length (c .before .before .args .c .now)) (c .before .loop .i) (omega arith))
 
-mul-row-good : tie.Need-mul-row-good Inv-loop μ-loop
-mul-row-good c = search needs
-
-shared-slice-copy-out-row-good : tie.Need-shared-slice-copy-out-row-good Inv-loop μ-loop
-shared-slice-copy-out-row-good c = search needs
-
 add-row-good : tie.Need-add-row-good Inv-loop μ-loop
 add-row-good c = omega (arith, stretch-end (c .before .before .before .args .zones) (length (c .before .before .before .args .c .now)) (c .before .before .loop .i) (omega arith))
 
 mul-row-good-2 : tie.Need-mul-row-good-2 Inv-loop μ-loop
 mul-row-good-2 c = omega (arith, stretch-end (c .before .before .before .args .zones) (length (c .before .before .before .args .c .now)) (c .before .before .loop .i) (omega arith))
 
-sub-row-good : tie.Need-sub-row-good Inv-loop μ-loop
-sub-row-good c = search needs
-
-part-row-good-start : tie.Need-part-row-good-start Inv-loop μ-loop
-part-row-good-start c = search needs
-
 part-row-good-end : tie.Need-part-row-good-end Inv-loop μ-loop
 part-row-good-end c = omega (arith, stretch-end (c .before .before .before .args .zones) (length (c .before .before .before .args .c .now)) (c .before .before .loop .i) (omega arith))
-
-row-good-requires : tie.Need-row-good-requires Inv-loop μ-loop
-row-good-requires c κs = search needs
 
 judged : (c : tie.After-row-good Inv-loop μ-loop)
     → let a = c .before .before .before .before .before .args in
@@ -62,12 +47,6 @@ judged c =
 returns : tie.Need-returns Inv-loop μ-loop
 returns c = looked-here _ _ _ (c .before .before .before .before .before .loop .inv) (omega arith) (sym (judged (c .before)) ∙ c .if1 .taken)
 
-add-i : tie.Need-add-i Inv-loop μ-loop
-add-i c = search needs
-
-loop-less : tie.Need-loop-less Inv-loop μ-loop
-loop-less c = search needs
-
 loop-again : tie.Need-loop-again Inv-loop μ-loop
 loop-again c = looked-more _ _ _ (c .before .before .before .before .before .loop .inv) (omega arith) (sym (judged (c .before)) ∙ c .if1 .left)
 
@@ -82,16 +61,16 @@ first-row-out-spec =
     μ-loop
     loop-holds
     mul-start
-    mul-row-good
-    shared-slice-copy-out-row-good
+    (λ c. search needs)
+    (λ c. search needs)
     add-row-good
     mul-row-good-2
-    sub-row-good
-    part-row-good-start
+    (λ c. search needs)
+    (λ c. search needs)
     part-row-good-end
-    row-good-requires
+    (λ c κs. search needs)
     returns
-    add-i
-    loop-less
+    (λ c. search needs)
+    (λ c. search needs)
     loop-again
     returns-2)

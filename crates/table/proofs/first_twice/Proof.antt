@@ -18,17 +18,8 @@ abbrev μ-loop : tie.MeasureT-loop
 loop-holds : tie.Need-loop-holds Inv-loop μ-loop
 loop-holds c = looked-none _ _
 
-is-twice-requires : tie.Need-is-twice-requires Inv-loop μ-loop
-is-twice-requires c κs = search needs
-
 returns : tie.Need-returns Inv-loop μ-loop
 returns c = looked-here _ _ _ (c .before .before .before .loop .inv) (omega arith) (sym (c .before .is-twice .ensures) ∙ c .if1 .taken)
-
-add-i : tie.Need-add-i Inv-loop μ-loop
-add-i c = search needs
-
-loop-less : tie.Need-loop-less Inv-loop μ-loop
-loop-less c = search needs
 
 loop-again : tie.Need-loop-again Inv-loop μ-loop
 loop-again c = looked-more _ _ _ (c .before .before .before .loop .inv) (omega arith) (sym (c .before .is-twice .ensures) ∙ c .if1 .left)
@@ -37,4 +28,4 @@ returns-2 : tie.Need-returns-2 Inv-loop μ-loop
 returns-2 c = looked-all _ _ _ (c .before .loop .inv) (omega arith)
 
 pub first-twice-spec : {M : Type 1} → statement M
-first-twice-spec = tie.close (tie.spec Inv-loop μ-loop loop-holds is-twice-requires returns add-i loop-less loop-again returns-2)
+first-twice-spec = tie.close (tie.spec Inv-loop μ-loop loop-holds (λ c κs. search needs) returns (λ c. search needs) (λ c. search needs) loop-again returns-2)

@@ -21,33 +21,12 @@ abbrev μ-loop : tie.MeasureT-loop
 loop-holds : tie.Need-loop-holds Inv-loop μ-loop
 loop-holds c = looked-none _ _
 
-mul-same-pair : tie.Need-mul-same-pair Inv-loop μ-loop
-mul-same-pair c = search needs
-
-shared-slice-copy-out-same-pair : tie.Need-shared-slice-copy-out-same-pair Inv-loop μ-loop
-shared-slice-copy-out-same-pair c = search needs
-
-mul-same-pair-2 : tie.Need-mul-same-pair-2 Inv-loop μ-loop
-mul-same-pair-2 c = search needs
-
-shared-slice-copy-out-same-pair-2 : tie.Need-shared-slice-copy-out-same-pair-2 Inv-loop μ-loop
-shared-slice-copy-out-same-pair-2 c = search needs
-
-same-pair-requires : tie.Need-same-pair-requires Inv-loop μ-loop
-same-pair-requires c κs = search needs
-
 returns : tie.Need-returns Inv-loop μ-loop
 unfolding twice given
 returns c =
     let at-call = c .before in
     let at-loop = at-call .before .before .before .before in
     ap given (looked-here _ _ _ (at-loop .loop .inv) (omega arith) (sym (at-call .same-pair .ensures) ∙ c .if1 .taken))
-
-add-e : tie.Need-add-e Inv-loop μ-loop
-add-e c = search needs
-
-loop-less : tie.Need-loop-less Inv-loop μ-loop
-loop-less c = search needs
 
 loop-again : tie.Need-loop-again Inv-loop μ-loop
 loop-again c =
@@ -66,13 +45,13 @@ is-twice-spec =
     Inv-loop
     μ-loop
     loop-holds
-    mul-same-pair
-    shared-slice-copy-out-same-pair
-    mul-same-pair-2
-    shared-slice-copy-out-same-pair-2
-    same-pair-requires
+    (λ c. search needs)
+    (λ c. search needs)
+    (λ c. search needs)
+    (λ c. search needs)
+    (λ c κs. search needs)
     returns
-    add-e
-    loop-less
+    (λ c. search needs)
+    (λ c. search needs)
     loop-again
     returns-2)

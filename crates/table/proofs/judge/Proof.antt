@@ -11,9 +11,6 @@ use borrow.Author.Needs.{needs}
 use Rattle.table.proofs.judge.Statement.{statement}
 use Rattle.table.proofs.judge.Tie as tie
 
-fits-requires : tie.Need-fits-requires
-fits-requires c κs = search needs
-
 -- past the header's test
 fits-in : {t u : Bool} → not t ≡ false → t ≡ u → u ≡ true
 fits-in l e = sym e ∙ not-false _ l
@@ -23,12 +20,6 @@ returns c = header-refused _ (sym (c .before .fits2 .ensures) ∙ not-true _ (c 
 
 judge-room-requires : tie.Need-judge-room-requires
 judge-room-requires c κs = fits-in (c .if1 .left) (c .before .fits2 .ensures)
-
-enum-told : tie.Need-enum-told
-enum-told c = search needs
-
-enum-told-2 : tie.Need-enum-told-2
-enum-told-2 c = search needs
 
 returns-2 : tie.Need-returns-2
 returns-2 c = room-refused _ (fits-in (c .before .before .before .if1 .left) (c .before .before .before .before .fits2 .ensures)) _ (c .before .before .judge-room .ensures) _ (c .enum-told2 .given .1)
@@ -66,11 +57,11 @@ pub judge-spec : {M : Type 1} → statement M
 judge-spec =
     tie.close
     (tie.spec
-    fits-requires
+    (λ c κs. search needs)
     returns
     judge-room-requires
-    enum-told
-    enum-told-2
+    (λ c. search needs)
+    (λ c. search needs)
     returns-2
     slice-aggregate-judge-records
     slice-aggregate-judge-records-2

@@ -9,32 +9,11 @@ use borrow.Author.Needs.{needs}
 use Rattle.table.proofs.judge_records.Statement.{statement}
 use Rattle.table.proofs.judge_records.Tie as tie
 
-add-first-border : tie.Need-add-first-border
-add-first-border c = search needs
-
-add-first-row : tie.Need-add-first-row
-add-first-row c = search needs
-
-first-zone-out-requires : tie.Need-first-zone-out-requires
-first-zone-out-requires c κs = search needs
-
-enum-known-i : tie.Need-enum-known-i
-enum-known-i c = search needs
-
 add-t14 : tie.Need-add-t14
 add-t14 c = omega (arith, first-within _ _ (sym (ap found (c .before .i .given .1)) ∙ c .before .before .before .first-zone-out .ensures))
 
 returns : tie.Need-returns
 returns c = zone-refused _ (c .before .before .before .before .before .pre) _ (sym (ap found (c .before .i .given .1)) ∙ c .before .before .before .first-zone-out .ensures)
-
-enum-told : tie.Need-enum-told
-enum-told c = search needs
-
-first-border-out-requires : tie.Need-first-border-out-requires
-first-border-out-requires c κs = search needs
-
-enum-known-i-2 : tie.Need-enum-known-i-2
-enum-known-i-2 c = search needs
 
 add-t17 : tie.Need-add-t17
 add-t17 c = omega (arith, first-within _ _ (sym (ap found (c .before .i2 .given .1)) ∙ c .before .before .before .first-border-out .ensures), header-in _ (c .before .before .before .before .before .before .before .before .pre .header))
@@ -42,14 +21,8 @@ add-t17 c = omega (arith, first-within _ _ (sym (ap found (c .before .i2 .given 
 returns-2 : tie.Need-returns-2
 returns-2 c = border-refused _ (c .before .before .before .before .before .before .before .before .pre) (sym (ap found (c .before .before .before .before .enum-told .given .1)) ∙ c .before .before .before .before .before .before .first-zone-out .ensures) _ (sym (ap found (c .before .i2 .given .1)) ∙ c .before .before .before .first-border-out .ensures)
 
-enum-told-2 : tie.Need-enum-told-2
-enum-told-2 c = search needs
-
 first-row-out-requires : tie.Need-first-row-out-requires
 first-row-out-requires c κs = exact-factors _ (c .before .before .before .before .before .before .before .pre)
-
-enum-known-i-3 : tie.Need-enum-known-i-3
-enum-known-i-3 c = search needs
 
 add-t20 : tie.Need-add-t20
 add-t20 c = omega (arith, first-within _ _ (sym (ap found (c .before .i3 .given .1)) ∙ c .before .before .before .first-row-out .ensures), header-in _ (c .before .before .before .before .before .before .before .before .before .before .before .pre .header))
@@ -57,20 +30,8 @@ add-t20 c = omega (arith, first-within _ _ (sym (ap found (c .before .i3 .given 
 returns-3 : tie.Need-returns-3
 returns-3 c = row-refused _ (c .before .before .before .before .before .before .before .before .before .before .before .pre) (sym (ap found (c .before .before .before .before .before .before .before .enum-told .given .1)) ∙ c .before .before .before .before .before .before .before .before .before .first-zone-out .ensures) (sym (ap found (c .before .before .before .before .enum-told2 .given .1)) ∙ c .before .before .before .before .before .before .first-border-out .ensures) _ (sym (ap found (c .before .i3 .given .1)) ∙ c .before .before .before .first-row-out .ensures)
 
-enum-told-3 : tie.Need-enum-told-3
-enum-told-3 c = search needs
-
-first-twice-requires : tie.Need-first-twice-requires
-first-twice-requires c κs = search needs
-
-enum-known-i-4 : tie.Need-enum-known-i-4
-enum-known-i-4 c = search needs
-
 returns-4 : tie.Need-returns-4
 returns-4 c = twice-refused _ (c .before .before .before .before .before .before .before .before .before .before .before .before .before .before .pre) (sym (ap found (c .before .before .before .before .before .before .before .before .before .before .enum-told .given .1)) ∙ c .before .before .before .before .before .before .before .before .before .before .before .before .first-zone-out .ensures) (sym (ap found (c .before .before .before .before .before .before .before .enum-told2 .given .1)) ∙ c .before .before .before .before .before .before .before .before .before .first-border-out .ensures) (sym (ap found (c .before .before .before .before .enum-told3 .given .1)) ∙ c .before .before .before .before .before .before .first-row-out .ensures) _ (sym (ap found (c .before .i4 .given .1)) ∙ c .before .before .before .first-twice .ensures)
-
-enum-told-4 : tie.Need-enum-told-4
-enum-told-4 c = search needs
 
 returns-5 : tie.Need-returns-5
 returns-5 c = records-pass _ (c .before .before .before .before .before .before .before .before .before .before .before .before .before .pre) (sym (ap found (c .before .before .before .before .before .before .before .before .before .enum-told .given .1)) ∙ c .before .before .before .before .before .before .before .before .before .before .before .first-zone-out .ensures) (sym (ap found (c .before .before .before .before .before .before .enum-told2 .given .1)) ∙ c .before .before .before .before .before .before .before .before .first-border-out .ensures) (sym (ap found (c .before .before .before .enum-told3 .given .1)) ∙ c .before .before .before .before .before .first-row-out .ensures) (sym (ap found (c .enum-told4 .given .1)) ∙ c .before .before .first-twice .ensures)
@@ -79,25 +40,25 @@ pub judge-records-spec : {M : Type 1} → statement M
 judge-records-spec =
     tie.close
     (tie.spec
-    add-first-border
-    add-first-row
-    first-zone-out-requires
-    enum-known-i
+    (λ c. search needs)
+    (λ c. search needs)
+    (λ c κs. search needs)
+    (λ c. search needs)
     add-t14
     returns
-    enum-told
-    first-border-out-requires
-    enum-known-i-2
+    (λ c. search needs)
+    (λ c κs. search needs)
+    (λ c. search needs)
     add-t17
     returns-2
-    enum-told-2
+    (λ c. search needs)
     first-row-out-requires
-    enum-known-i-3
+    (λ c. search needs)
     add-t20
     returns-3
-    enum-told-3
-    first-twice-requires
-    enum-known-i-4
+    (λ c. search needs)
+    (λ c κs. search needs)
+    (λ c. search needs)
     returns-4
-    enum-told-4
+    (λ c. search needs)
     returns-5)

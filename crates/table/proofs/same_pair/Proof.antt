@@ -5,24 +5,6 @@ use Rattle.kinds.specs.Ranges.{atℤ}
 use Rattle.table.proofs.same_pair.Statement.{statement}
 use Rattle.table.proofs.same_pair.Tie as tie
 
-array-copy-out-same : tie.Need-array-copy-out-same
-array-copy-out-same c = search needs
-
-array-copy-out-same-2 : tie.Need-array-copy-out-same-2
-array-copy-out-same-2 c = search needs
-
-same-requires : tie.Need-same-requires
-same-requires c κs = search needs
-
-array-copy-out-same-3 : tie.Need-array-copy-out-same-3
-array-copy-out-same-3 c = search needs
-
-array-copy-out-same-4 : tie.Need-array-copy-out-same-4
-array-copy-out-same-4 c = search needs
-
-same-requires-2 : tie.Need-same-requires-2
-same-requires-2 c κs = search needs
-
 returns : tie.Need-returns
 returns c =
     let at-y1 = c .before in
@@ -44,10 +26,10 @@ pub same-pair-spec : {M : Type 1} → statement M
 same-pair-spec =
     tie.close
     (tie.spec
-    array-copy-out-same
-    array-copy-out-same-2
-    same-requires
-    array-copy-out-same-3
-    array-copy-out-same-4
-    same-requires-2
+    (λ c. search needs)
+    (λ c. search needs)
+    (λ c κs. search needs)
+    (λ c. search needs)
+    (λ c. search needs)
+    (λ c κs. search needs)
     returns)

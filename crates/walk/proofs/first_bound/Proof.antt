@@ -19,9 +19,6 @@ loop-holds c = unloaded-none _ _
 factor-requires : tie.Need-factor-requires Inv-loop μ-loop
 factor-requires c κs = let q = c .before .before .before .before .pre in (q .0 .0, omega arith, q .0 .1)
 
-mul-result : tie.Need-mul-result Inv-loop μ-loop
-mul-result c = omega arith
-
 shared-slice-read-result : tie.Need-shared-slice-read-result Inv-loop μ-loop
 shared-slice-read-result c =
     let entry = c .before .before .before .before .before .before .before in
@@ -29,12 +26,6 @@ shared-slice-read-result c =
 
 returns : tie.Need-returns Inv-loop μ-loop
 returns c = margin-bound _ _ _ _ _ (omega arith) (c .before .before .factor .ensures) (c .before .if1 .taken)
-
-add-i : tie.Need-add-i Inv-loop μ-loop
-add-i c = omega arith
-
-loop-less : tie.Need-loop-less Inv-loop μ-loop
-loop-less c = omega arith
 
 loop-again : tie.Need-loop-again Inv-loop μ-loop
 loop-again c = unloaded-more (c .before .before .before .loop .inv) _ (omega arith) (c .before .factor .ensures) (c .if1 .left)
@@ -50,10 +41,10 @@ first-bound-spec =
     μ-loop
     loop-holds
     factor-requires
-    mul-result
+    (λ c. omega arith)
     shared-slice-read-result
     returns
-    add-i
-    loop-less
+    (λ c. omega arith)
+    (λ c. omega arith)
     loop-again
     returns-2)

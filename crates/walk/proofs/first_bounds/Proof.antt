@@ -22,17 +22,8 @@ first-bound-requires c κs =
     let q = c .before .before .before .before .before .pre in
     ((q .0, omega arith), q .1 .0)
 
-mul-bounds : tie.Need-mul-bounds Inv-loop μ-loop
-mul-bounds c = omega arith
-
 slice-write-bounds : tie.Need-slice-write-bounds Inv-loop μ-loop
 slice-write-bounds c = omega (arith, c .before .before .loop .inv .long)
-
-add-b : tie.Need-add-b Inv-loop μ-loop
-add-b c = omega arith
-
-loop-less : tie.Need-loop-less Inv-loop μ-loop
-loop-less c = omega arith
 
 loop-again : tie.Need-loop-again Inv-loop μ-loop
 loop-again c = first-bounds-more (c .before .before .loop .inv) (omega arith) _ (c .first-bound .ensures)
@@ -54,10 +45,10 @@ first-bounds-spec =
     μ-loop
     loop-holds
     first-bound-requires
-    mul-bounds
+    (λ c. omega arith)
     slice-write-bounds
-    add-b
-    loop-less
+    (λ c. omega arith)
+    (λ c. omega arith)
     loop-again
     same-length
     returns)

@@ -21,16 +21,10 @@ loop-holds c =
     let q = c .before .before .before .before .before .pre .1 .1 .1 in
     bounded-none _ _ _ _ _ (q .0) (q .1)
 
-mul-share-of : tie.Need-mul-share-of Inv-loop μ-loop
-mul-share-of c = omega arith
-
 shared-slice-read-share-of : tie.Need-shared-slice-read-share-of Inv-loop μ-loop
 shared-slice-read-share-of c =
     let entry = c .before .before .before .before .before .before .before .before in
     omega (arith, entry .pre .1 .0 .margins)
-
-mul-share-of-2 : tie.Need-mul-share-of-2 Inv-loop μ-loop
-mul-share-of-2 c = omega arith
 
 shared-slice-read-share-of-2 : tie.Need-shared-slice-read-share-of-2 Inv-loop μ-loop
 shared-slice-read-share-of-2 c =
@@ -45,12 +39,6 @@ lower-bounds-requires c κs =
     let at-loop = c .before .before .before .before .before in
     let q = at-loop .before .before .before .before .before .before .pre in
     ((q .0, omega arith), (listed-all _ _ _ (q .1 .1 .0), at-loop .loop .inv .long))
-
-add-i : tie.Need-add-i Inv-loop μ-loop
-add-i c = omega arith
-
-loop-less : tie.Need-loop-less Inv-loop μ-loop
-loop-less c = omega arith
 
 loop-again : tie.Need-loop-again Inv-loop μ-loop
 loop-again c =
@@ -76,14 +64,14 @@ first-raises-spec =
     Inv-loop
     μ-loop
     loop-holds
-    mul-share-of
+    (λ c. omega arith)
     shared-slice-read-share-of
-    mul-share-of-2
+    (λ c. omega arith)
     shared-slice-read-share-of-2
     share-of-requires
     lower-bounds-requires
-    add-i
-    loop-less
+    (λ c. omega arith)
+    (λ c. omega arith)
     loop-again
     same-length
     returns)

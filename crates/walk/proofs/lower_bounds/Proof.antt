@@ -16,9 +16,6 @@ abbrev μ-loop : tie.MeasureT-loop
 loop-holds : tie.Need-loop-holds Inv-loop μ-loop
 loop-holds c = lowering-none _ _ _ _ _ _
 
-mul-b : tie.Need-mul-b Inv-loop μ-loop
-mul-b c = omega arith
-
 shared-slice-read-b : tie.Need-shared-slice-read-b Inv-loop μ-loop
 shared-slice-read-b c =
     let entry = c .before .before .before .before .before .before in
@@ -56,12 +53,6 @@ slice-write-bounds c =
     let q = at-loop .before .before .before .before .pre in
     lowering-here (q .1 .0) (q .1 .1) (at-loop .loop .inv) (omega arith)
 
-add-j : tie.Need-add-j Inv-loop μ-loop
-add-j c = omega arith
-
-loop-less : tie.Need-loop-less Inv-loop μ-loop
-loop-less c = omega arith
-
 loop-again : tie.Need-loop-again Inv-loop μ-loop
 loop-again c =
     let at-factor = c .before .before in
@@ -85,7 +76,7 @@ lower-bounds-spec =
     Inv-loop
     μ-loop
     loop-holds
-    mul-b
+    (λ c. omega arith)
     shared-slice-read-b
     factor-requires
     mul-bound
@@ -93,8 +84,8 @@ lower-bounds-spec =
     tighten-requires
     mul-bounds
     slice-write-bounds
-    add-j
-    loop-less
+    (λ c. omega arith)
+    (λ c. omega arith)
     loop-again
     same-length
     returns)

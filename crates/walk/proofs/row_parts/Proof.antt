@@ -16,9 +16,6 @@ abbrev μ-loop : tie.MeasureT-loop
 loop-holds : tie.Need-loop-holds Inv-loop μ-loop
 loop-holds c = parting-none _ _ _ _ _ _
 
-mul-b : tie.Need-mul-b Inv-loop μ-loop
-mul-b c = omega arith
-
 shared-slice-read-b : tie.Need-shared-slice-read-b Inv-loop μ-loop
 shared-slice-read-b c =
     let entry = c .before .before .before .before .before .before .before in
@@ -77,12 +74,6 @@ mul-larger-2 c =
 larger-requires : tie.Need-larger-requires Inv-loop μ-loop
 larger-requires c κs = tt
 
-add-j : tie.Need-add-j Inv-loop μ-loop
-add-j c = omega arith
-
-loop-less : tie.Need-loop-less Inv-loop μ-loop
-loop-less c = omega arith
-
 loop-again : tie.Need-loop-again Inv-loop μ-loop
 loop-again c =
     let at-factor = c .before .before .before in
@@ -103,7 +94,7 @@ row-parts-spec =
     Inv-loop
     μ-loop
     loop-holds
-    mul-b
+    (λ c. omega arith)
     shared-slice-read-b
     factor-requires
     mul-loss
@@ -114,7 +105,7 @@ row-parts-spec =
     shared-slice-read-larger
     mul-larger-2
     larger-requires
-    add-j
-    loop-less
+    (λ c. omega arith)
+    (λ c. omega arith)
     loop-again
     returns)

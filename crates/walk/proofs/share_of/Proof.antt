@@ -7,15 +7,9 @@ use borrow.Author.Needs.{needs}
 use Rattle.walk.proofs.share_of.Statement.{statement}
 use Rattle.walk.proofs.share_of.Tie as tie
 
-div-result : tie.Need-div-result
-div-result c = search needs
-
 returns : tie.Need-returns
 returns c = let a = c .before .args in sym (ap (λ (k : ℕ). a .margin / k) (c .if1 .taken) ∙ div-zero (a .margin))
 
-returns-2 : tie.Need-returns-2
-returns-2 c = search needs
-
 pub share-of-spec : {M : Type 1} → statement M
 share-of-spec =
-    tie.close (tie.spec div-result returns returns-2)
+    tie.close (tie.spec (λ c. search needs) returns (λ c. search needs))

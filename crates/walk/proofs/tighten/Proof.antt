@@ -22,9 +22,6 @@ returns-2 c = let a = c .before .before .before .args in tight-less (a .f) (a .s
 returns-3 : tie.Need-returns-3
 returns-3 c = let a = c .before .before .args in tight-zero (a .f) (a .share) (a .bound) (c .if4 .taken)
 
-div-allowed : tie.Need-div-allowed
-div-allowed c = search needs
-
 returns-4 : tie.Need-returns-4
 returns-4 c = let a = c .before .before .before .args in tight-low (a .f) (a .share) (a .bound) (omega arith) (c .if5 .taken)
 
@@ -33,4 +30,4 @@ returns-5 c = let a = c .before .before .before .args in tight-high (a .f) (a .s
 
 pub tighten-spec : {M : Type 1} → statement M
 tighten-spec =
-    tie.close (tie.spec mul-if3 returns div-result returns-2 returns-3 div-allowed returns-4 returns-5)
+    tie.close (tie.spec mul-if3 returns div-result returns-2 returns-3 (λ c. search needs) returns-4 returns-5)

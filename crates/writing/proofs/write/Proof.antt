@@ -24,19 +24,10 @@ judged c = let s = c .before .before .before .before in sym (ap (λ (j : Judgeme
 good : (c : tie.After-enum-told) → Good (front (given (c .before .before .before .before)))
 good c = let s = c .before .before .before .before in judged-good (given s) (front (given s)) (sym (judged c))
 
-judge-requires : tie.Need-judge-requires
-judge-requires c κs = search needs
-
-enum-known-w : tie.Need-enum-known-w
-enum-known-w c = search needs
-
 returns : tie.Need-returns
 returns c =
     let s = c .before .before .before .before .before in
     write-refused (given s) (s .args .out .now) _ (sym (ap (λ (j : Judgement). ruled j (front (given s))) (c .before .w .given .1)) ∙ c .before .before .before .judge .ensures)
-
-enum-told : tie.Need-enum-told
-enum-told c = search needs
 
 slice-aggregate-write-good : tie.Need-slice-aggregate-write-good
 slice-aggregate-write-good c = sym (good (c .before) .exact .nets-long)
@@ -56,11 +47,8 @@ slice-aggregate-write-good-4 c = sym (good (c .before .before .before .before) .
 write-good-requires : tie.Need-write-good-requires
 write-good-requires c κs = good (c .before .before .before .before .before)
 
-same-length : tie.Need-same-length
-same-length c = search needs
-
 returns-2 : tie.Need-returns-2
 returns-2 c = let s = c .before .before .before .before .before .before .before .before .before .before .before .before in c .before .before .write-good .ensures ∙ write-on (given s) (s .args .out .now) (front (given s)) (judged (c .before .before .before .before .before .before .before .before))
 
 pub write-spec : {M : Type 1} → statement M
-write-spec = tie.close (tie.spec judge-requires enum-known-w returns enum-told slice-aggregate-write-good slice-aggregate-write-good-2 slice-aggregate-write-good-3 mul-write-good slice-aggregate-write-good-4 write-good-requires same-length returns-2)
+write-spec = tie.close (tie.spec (λ c κs. search needs) (λ c. search needs) returns (λ c. search needs) slice-aggregate-write-good slice-aggregate-write-good-2 slice-aggregate-write-good-3 mul-write-good slice-aggregate-write-good-4 write-good-requires (λ c. search needs) returns-2)

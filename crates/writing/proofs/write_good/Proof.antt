@@ -2,17 +2,14 @@
 -- Assumes nothing.
 use native.Mathlib.Omega.{arith}
 use borrow.Author.Needs.{needs}
+use Rattle.text.proofs.LeftLaws.{text-short, text-written}
 use Rattle.table.specs.Table.{Table, lent}
 use Rattle.writing.specs.Writing.{tableText}
-use Rattle.writing.proofs.LeftLaws.{text-short, text-written}
 use Rattle.writing.proofs.write_good.Statement.{statement}
 use Rattle.writing.proofs.write_good.Tie as tie
 
 abbrev table : tie.Start → Table
 table s = lent (s .args .h) (s .args .z .now) (s .args .b .now) (s .args .c .now) (s .args .f .now)
-
-text-length-requires : tie.Need-text-length-requires
-text-length-requires c κs = search needs
 
 returns : tie.Need-returns
 returns c = let s = c .before .before .before in text-short (tableText (table s)) (s .args .out .now) _ (c .before .text-length .ensures) (omega arith)
@@ -20,11 +17,8 @@ returns c = let s = c .before .before .before in text-short (tableText (table s)
 table-out-requires : tie.Need-table-out-requires
 table-out-requires c κs = (c .before .before .before .before .pre, omega (arith, c .before .before .text-length .ensures))
 
-same-length : tie.Need-same-length
-same-length c = search needs
-
 returns-2 : tie.Need-returns-2
 returns-2 c = let s = c .before .before .before .before .before .before .before in text-written (tableText (table s)) (s .args .out .now) (omega (arith, c .before .before .before .before .before .text-length .ensures)) (c .before .before .table-out .ensures)
 
 pub write-good-spec : {M : Type 1} → statement M
-write-good-spec = tie.close (tie.spec text-length-requires returns table-out-requires same-length returns-2)
+write-good-spec = tie.close (tie.spec (λ c κs. search needs) returns table-out-requires (λ c. search needs) returns-2)

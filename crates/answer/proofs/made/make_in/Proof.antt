@@ -6,8 +6,8 @@ use Prim.Native.Nat.{ℕ}
 use native.Mathlib.Omega.{arith}
 use borrow.Author.Needs.{needs}
 use Rattle.kinds.specs.Refusals.{passed}
+use Rattle.text.specs.Left.{textLeft}
 use Rattle.table.specs.Table.{Table, lent}
-use Rattle.writing.specs.Writing.{textLeft}
 use Rattle.answer.specs.Made.{outcomeLent}
 use Rattle.answer.proofs.OutcomeLaws.{outcome-header, outcome-refused, outcome-told, made-text, made-refused}
 use Rattle.answer.proofs.made.make_in.Statement.{statement}
@@ -15,12 +15,6 @@ use Rattle.answer.proofs.made.make_in.Tie as tie
 
 abbrev given : tie.Start → Table
 given s = lent (s .args .h) (s .args .z .now) (s .args .b .now) (s .args .c .now) (s .args .f .now)
-
-extract-requires : tie.Need-extract-requires
-extract-requires c κs = search needs
-
-enum-known-rounds : tie.Need-enum-known-rounds
-enum-known-rounds c = search needs
 
 result-out-requires : tie.Need-result-out-requires
 result-out-requires c κs =
@@ -30,51 +24,33 @@ result-out-requires c κs =
     let h = outcome-header (given s) (u .it) (u .is) in
     (h .borders, h .rows, omega (arith, s .pre .0, called .extract .kept .1 .1 .1 .1 .1 .0), omega (arith, s .pre .1, called .extract .kept .1 .1 .1 .1 .1 .1 .0))
 
-enum-known-w : tie.Need-enum-known-w
-enum-known-w c = search needs
-
-same-length : tie.Need-same-length
-same-length c = search needs
-
-same-length-2 : tie.Need-same-length-2
-same-length-2 c = search needs
-
-same-length-3 : tie.Need-same-length-3
-same-length-3 c = search needs
-
 returns : tie.Need-returns
 returns c =
     let called = c .before .before .before .before .before .before .before .before .before .before .before in
     let s = called .before .before .before .before in
     let u = outcome-told (given s) (s .args .atc .now) (s .args .left .now) (s .pre .0) (s .pre .1) _ (called .extract .ensures) _ (c .before .before .before .before .before .before .before .rounds .given .1) in
     let text = c .before .before .result-out in
-    made-text (outcomeLent (given s)) (s .args .out .now) (u .it) (text .result) _ (u .is) (text .ensures ∙ ap (λ (t : List ℕ). textLeft (passed t) (s .args .out .now)) (u .text))
-
-same-length-4 : tie.Need-same-length-4
-same-length-4 c = search needs
-
-same-length-5 : tie.Need-same-length-5
-same-length-5 c = search needs
+    (made-text (outcomeLent (given s)) (s .args .out .now) (u .it) (text .result) _ (u .is) (text .ensures .0 ∙ ap (λ (t : List ℕ). textLeft (passed t) (s .args .out .now)) (u .text)), text .ensures .1)
 
 returns-2 : tie.Need-returns-2
 returns-2 c =
     let called = c .before .before .before .before .before in
     let s = called .before .before .before .before in
     let w = c .before .w .given in
-    made-refused (outcomeLent (given s)) (s .args .out .now) (w .0 .0) (outcome-refused (given s) (s .args .atc .now) (s .args .left .now) (s .pre .0) (s .pre .1) _ (called .extract .ensures) _ (w .1))
+    (made-refused (outcomeLent (given s)) (s .args .out .now) (w .0 .0) (outcome-refused (given s) (s .args .atc .now) (s .args .left .now) (s .pre .0) (s .pre .1) _ (called .extract .ensures) _ (w .1)), omega arith)
 
 pub make-in-spec : {M : Type 1} → statement M
 make-in-spec =
     tie.close
     (tie.spec
-    extract-requires
-    enum-known-rounds
+    (λ c κs. search needs)
+    (λ c. search needs)
     result-out-requires
-    enum-known-w
-    same-length
-    same-length-2
-    same-length-3
+    (λ c. search needs)
+    (λ c. search needs)
+    (λ c. search needs)
+    (λ c. search needs)
     returns
-    same-length-4
-    same-length-5
+    (λ c. search needs)
+    (λ c. search needs)
     returns-2)

@@ -19,12 +19,6 @@ records-out-requires c κs =
       omega (arith, s .pre, length-take-le (s .args .h .rows) (s .args .left .now) (omega (arith, s .pre))),
     )
 
-same-length : tie.Need-same-length
-same-length c = search needs
-
-returns : tie.Need-returns
-returns c = search needs
-
 pub result-out-spec : {M : Type 1} → statement M
 result-out-spec =
     tie.close
@@ -32,5 +26,5 @@ result-out-spec =
     slice-aggregate-records-out
     slice-aggregate-records-out-2
     records-out-requires
-    same-length
-    returns)
+    (λ c. search needs)
+    (λ c. search needs))

@@ -20,12 +20,6 @@ loop-holds c = tt
 take-requires : tie.Need-take-requires Inv-loop μ-loop
 take-requires c κs = tt
 
-add-i : tie.Need-add-i Inv-loop μ-loop
-add-i c = omega arith
-
-loop-less : tie.Need-loop-less Inv-loop μ-loop
-loop-less c = omega arith
-
 loop-again : tie.Need-loop-again Inv-loop μ-loop
 loop-again c = tt
 
@@ -44,8 +38,8 @@ read-arguments-spec =
     arg-count-requires
     loop-holds
     take-requires
-    add-i
-    loop-less
+    (λ c. omega arith)
+    (λ c. omega arith)
     loop-again
     whole-requires
     returns)

@@ -5,18 +5,6 @@ use Rattle.kinds.specs.Ranges.{borderFits}
 use Rattle.kinds.proofs.Border.fits.Statement.{statement}
 use Rattle.kinds.proofs.Border.fits.Tie as tie
 
-exists-requires : tie.Need-exists-requires
-exists-requires c κs = search needs
-
-exists-requires-2 : tie.Need-exists-requires-2
-exists-requires-2 c κs = search needs
-
-same-requires : tie.Need-same-requires
-same-requires c κs = search needs
-
-inside-requires : tie.Need-inside-requires
-inside-requires c κs = search needs
-
 returns : tie.Need-returns
 unfolding borderFits
 returns c =
@@ -35,4 +23,4 @@ returns c =
     )
 
 pub fits-spec : {M : Type 1} → statement M
-fits-spec = tie.close (tie.spec exists-requires exists-requires-2 same-requires inside-requires returns)
+fits-spec = tie.close (tie.spec (λ c κs. search needs) (λ c κs. search needs) (λ c κs. search needs) (λ c κs. search needs) returns)

@@ -6,15 +6,6 @@ use Rattle.kinds.proofs.KindLaws.{BorderIn, border-in}
 use Rattle.kinds.proofs.Border.judged.Statement.{statement}
 use Rattle.kinds.proofs.Border.judged.Tie as tie
 
-array-copy-out-from : tie.Need-array-copy-out-from
-array-copy-out-from c = search needs
-
-array-copy-out-to : tie.Need-array-copy-out-to
-array-copy-out-to c = search needs
-
-array-copy-out-lta : tie.Need-array-copy-out-lta
-array-copy-out-lta c = search needs
-
 -- the record's numbers are natural
 natural : (c : tie.After-lta) → BorderIn (c .before .before .before .args .zones) (c .before .before .before .args .t2)
 natural c = border-in _ _ (c .before .before .before .pre)
@@ -36,9 +27,9 @@ pub judged-spec : {M : Type 1} → statement M
 judged-spec =
     tie.close
     (tie.spec
-    array-copy-out-from
-    array-copy-out-to
-    array-copy-out-lta
+    (λ c. search needs)
+    (λ c. search needs)
+    (λ c. search needs)
     cast-t14
     cast-t15
     cast-t16

@@ -13,18 +13,6 @@ use Rattle.kinds.proofs.Border.of.Lts as lts
 use Rattle.kinds.proofs.Border.fits.Reads as fits-reads
 use Rattle.kinds.proofs.Border.judged.Reads as judged-reads
 
-array-copy-out-from : tie.Need-array-copy-out-from
-array-copy-out-from c = search needs
-
-array-copy-out-to : tie.Need-array-copy-out-to
-array-copy-out-to c = search needs
-
-array-copy-out-lta : tie.Need-array-copy-out-lta
-array-copy-out-lta c = search needs
-
-fits-requires : tie.Need-fits-requires
-fits-requires c κs = search needs
-
 -- the test is the definition's, of the record as it was lent
 said : (c : lts.After-fits2 (fits-reads.Asked, fits-reads.Learnt, judged-reads.Asked, judged-reads.Learnt) reads.Pre reads.Post) → c .fits2 .result ≡ borderFits (c .before .before .before .before .args .zones) (c .before .before .before .before .args .t2)
 said c =
@@ -46,10 +34,10 @@ pub of-spec : {M : Type 1} → statement M
 of-spec =
     tie.close
     (tie.spec
-    array-copy-out-from
-    array-copy-out-to
-    array-copy-out-lta
-    fits-requires
+    (λ c. search needs)
+    (λ c. search needs)
+    (λ c. search needs)
+    (λ c κs. search needs)
     judged-requires
     returns
     returns-2)

@@ -5,9 +5,6 @@ use Rattle.kinds.specs.Kinds.{headerRead}
 use Rattle.kinds.proofs.Header.of.Statement.{statement}
 use Rattle.kinds.proofs.Header.of.Tie as tie
 
-fits-requires : tie.Need-fits-requires
-fits-requires c κs = search needs
-
 returns : tie.Need-returns
 unfolding headerRead
 returns c = rw (sym (c .before .fits2 .ensures) ∙ c .if1 .taken)
@@ -17,4 +14,4 @@ unfolding headerRead
 returns-2 c = rw (sym (c .before .fits2 .ensures) ∙ c .if1 .left)
 
 pub of-spec : {M : Type 1} → statement M
-of-spec = tie.close (tie.spec fits-requires returns returns-2)
+of-spec = tie.close (tie.spec (λ c κs. search needs) returns returns-2)

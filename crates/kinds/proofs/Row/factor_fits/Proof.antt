@@ -5,12 +5,9 @@ use Rattle.kinds.specs.Ranges.{factorFits}
 use Rattle.kinds.proofs.Row.factor_fits.Statement.{statement}
 use Rattle.kinds.proofs.Row.factor_fits.Tie as tie
 
-inside-requires : tie.Need-inside-requires
-inside-requires c κs = search needs
-
 returns : tie.Need-returns
 unfolding factorFits
 returns c = simp (toZ-ofZ (c .before .fits .factor)) at (c .inside .ensures)
 
 pub factor-fits-spec : {M : Type 1} → statement M
-factor-fits-spec = tie.close (tie.spec inside-requires returns)
+factor-fits-spec = tie.close (tie.spec (λ c κs. search needs) returns)

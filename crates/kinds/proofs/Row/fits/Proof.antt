@@ -5,27 +5,6 @@ use Rattle.kinds.specs.Ranges.{rowOf, rowFits}
 use Rattle.kinds.proofs.Row.fits.Statement.{statement}
 use Rattle.kinds.proofs.Row.fits.Tie as tie
 
-inside-requires : tie.Need-inside-requires
-inside-requires c κs = search needs
-
-inside-requires-2 : tie.Need-inside-requires-2
-inside-requires-2 c κs = search needs
-
-inside-requires-3 : tie.Need-inside-requires-3
-inside-requires-3 c κs = search needs
-
-inside-requires-4 : tie.Need-inside-requires-4
-inside-requires-4 c κs = search needs
-
-inside-requires-5 : tie.Need-inside-requires-5
-inside-requires-5 c κs = search needs
-
-inside-requires-6 : tie.Need-inside-requires-6
-inside-requires-6 c κs = search needs
-
-inside-requires-7 : tie.Need-inside-requires-7
-inside-requires-7 c κs = search needs
-
 returns : tie.Need-returns
 unfolding rowFits rowOf
 returns c =
@@ -57,11 +36,11 @@ pub fits-spec : {M : Type 1} → statement M
 fits-spec =
     tie.close
     (tie.spec
-    inside-requires
-    inside-requires-2
-    inside-requires-3
-    inside-requires-4
-    inside-requires-5
-    inside-requires-6
-    inside-requires-7
+    (λ c κs. search needs)
+    (λ c κs. search needs)
+    (λ c κs. search needs)
+    (λ c κs. search needs)
+    (λ c κs. search needs)
+    (λ c κs. search needs)
+    (λ c κs. search needs)
     returns)

@@ -5,30 +5,6 @@ use Rattle.kinds.specs.Ranges.{rowOf}
 use Rattle.kinds.proofs.Row.judged.Statement.{statement}
 use Rattle.kinds.proofs.Row.judged.Tie as tie
 
-array-copy-out-fmax : tie.Need-array-copy-out-fmax
-array-copy-out-fmax c = search needs
-
-array-copy-out-frm : tie.Need-array-copy-out-frm
-array-copy-out-frm c = search needs
-
-array-copy-out-fref : tie.Need-array-copy-out-fref
-array-copy-out-fref c = search needs
-
-array-copy-out-f0all : tie.Need-array-copy-out-f0all
-array-copy-out-f0all c = search needs
-
-array-copy-out-share : tie.Need-array-copy-out-share
-array-copy-out-share c = search needs
-
-array-copy-out-cva : tie.Need-array-copy-out-cva
-array-copy-out-cva c = search needs
-
-array-copy-out-iva : tie.Need-array-copy-out-iva
-array-copy-out-iva c = search needs
-
-of-requires : tie.Need-of-requires
-of-requires c κs = search needs
-
 returns : tie.Need-returns
 unfolding rowOf
 returns c =
@@ -41,12 +17,12 @@ pub judged-spec : {M : Type 1} → statement M
 judged-spec =
     tie.close
     (tie.spec
-    array-copy-out-fmax
-    array-copy-out-frm
-    array-copy-out-fref
-    array-copy-out-f0all
-    array-copy-out-share
-    array-copy-out-cva
-    array-copy-out-iva
-    of-requires
+    (λ c. search needs)
+    (λ c. search needs)
+    (λ c. search needs)
+    (λ c. search needs)
+    (λ c. search needs)
+    (λ c. search needs)
+    (λ c. search needs)
+    (λ c κs. search needs)
     returns)

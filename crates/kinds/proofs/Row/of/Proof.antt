@@ -13,30 +13,6 @@ use Rattle.kinds.proofs.Row.of.Lts as lts
 use Rattle.kinds.proofs.Row.fits.Reads as fits-reads
 use Rattle.kinds.proofs.Row.judged.Reads as judged-reads
 
-array-copy-out-fmax : tie.Need-array-copy-out-fmax
-array-copy-out-fmax c = search needs
-
-array-copy-out-frm : tie.Need-array-copy-out-frm
-array-copy-out-frm c = search needs
-
-array-copy-out-fref : tie.Need-array-copy-out-fref
-array-copy-out-fref c = search needs
-
-array-copy-out-f0all : tie.Need-array-copy-out-f0all
-array-copy-out-f0all c = search needs
-
-array-copy-out-share : tie.Need-array-copy-out-share
-array-copy-out-share c = search needs
-
-array-copy-out-cva : tie.Need-array-copy-out-cva
-array-copy-out-cva c = search needs
-
-array-copy-out-iva : tie.Need-array-copy-out-iva
-array-copy-out-iva c = search needs
-
-fits-requires : tie.Need-fits-requires
-fits-requires c κs = search needs
-
 -- the test is the definition's, of the record as it was lent
 said : (c : lts.After-fits2 (fits-reads.Asked, fits-reads.Learnt, judged-reads.Asked, judged-reads.Learnt) reads.Pre reads.Post) → c .fits2 .result ≡ rowFits (c .before .before .before .before .before .before .before .before .args .t1)
 said c =
@@ -60,14 +36,14 @@ pub of-spec : {M : Type 1} → statement M
 of-spec =
     tie.close
     (tie.spec
-    array-copy-out-fmax
-    array-copy-out-frm
-    array-copy-out-fref
-    array-copy-out-f0all
-    array-copy-out-share
-    array-copy-out-cva
-    array-copy-out-iva
-    fits-requires
+    (λ c. search needs)
+    (λ c. search needs)
+    (λ c. search needs)
+    (λ c. search needs)
+    (λ c. search needs)
+    (λ c. search needs)
+    (λ c. search needs)
+    (λ c κs. search needs)
     judged-requires
     returns
     returns-2)

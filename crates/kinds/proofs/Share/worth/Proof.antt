@@ -6,12 +6,6 @@ use Rattle.kinds.specs.Ranges.{worth}
 use Rattle.kinds.proofs.Share.worth.Statement.{statement}
 use Rattle.kinds.proofs.Share.worth.Tie as tie
 
-enum-told : tie.Need-enum-told
-enum-told c = search needs
-
-enum-known-self : tie.Need-enum-known-self
-enum-known-self c = search needs
-
 returns : tie.Need-returns
 unfolding worth
 returns c = sym (ap worth (c .enum-told .given .1))
@@ -21,4 +15,4 @@ unfolding worth
 returns-2 c = plain _ (c .known-told .given .0 .1) ∙ sym (ap worth (c .before .self .given .1))
 
 pub worth-spec : {M : Type 1} → statement M
-worth-spec = tie.close (tie.spec enum-told enum-known-self returns returns-2)
+worth-spec = tie.close (tie.spec (λ c. search needs) (λ c. search needs) returns returns-2)

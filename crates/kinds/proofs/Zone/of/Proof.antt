@@ -7,9 +7,6 @@ use Rattle.kinds.specs.Kinds.{zoneRead}
 use Rattle.kinds.proofs.Zone.of.Statement.{statement}
 use Rattle.kinds.proofs.Zone.of.Tie as tie
 
-inside-requires : tie.Need-inside-requires
-inside-requires c κs = search needs
-
 returns : tie.Need-returns
 unfolding zoneRead zoneFits
 returns c =
@@ -23,4 +20,4 @@ returns-2 c =
     simp (sym (simp raw at (c .before .inside .ensures)) ∙ c .if1 .left)
 
 pub of-spec : {M : Type 1} → statement M
-of-spec = tie.close (tie.spec inside-requires returns returns-2)
+of-spec = tie.close (tie.spec (λ c κs. search needs) returns returns-2)

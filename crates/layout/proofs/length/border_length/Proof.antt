@@ -10,12 +10,6 @@ use borrow.Author.Needs.{needs}
 use Rattle.layout.proofs.length.border_length.Statement.{statement}
 use Rattle.layout.proofs.length.border_length.Tie as tie
 
-slice-aggregate-line-length : tie.Need-slice-aggregate-line-length
-slice-aggregate-line-length c = search needs
-
-slice-aggregate-line-length-2 : tie.Need-slice-aggregate-line-length-2
-slice-aggregate-line-length-2 c = search needs
-
 line-length-requires : tie.Need-line-length-requires
 line-length-requires c κs = (search needs, omega (arith, line-long tab (code "B") borderColumns (c .before .before .args .i) (c .before .before .args .t2), c .before .before .pre))
 
@@ -26,7 +20,7 @@ pub border-length-spec : {M : Type 1} → statement M
 border-length-spec =
     tie.close
     (tie.spec
-    slice-aggregate-line-length
-    slice-aggregate-line-length-2
+    (λ c. search needs)
+    (λ c. search needs)
     line-length-requires
     returns)

@@ -28,12 +28,6 @@ cast-t5 c = fits-pos _ (omega (arith, header-in (c .before .before .args .h) (c 
 cast-t6 : tie.Need-cast-t6
 cast-t6 c = fits-pos _ (omega (arith, header-in (c .before .before .before .args .h) (c .before .before .before .pre .0) .rows-most))
 
-slice-aggregate-fields-length : tie.Need-slice-aggregate-fields-length
-slice-aggregate-fields-length c = search needs
-
-slice-aggregate-fields-length-2 : tie.Need-slice-aggregate-fields-length-2
-slice-aggregate-fields-length-2 c = search needs
-
 fields-length-requires : tie.Need-fields-length-requires
 fields-length-requires c κs =
     let h = c .before .before .before .before .before .args .h in
@@ -52,8 +46,8 @@ header-length-spec =
     cast-t4
     cast-t5
     cast-t6
-    slice-aggregate-fields-length
-    slice-aggregate-fields-length-2
+    (λ c. search needs)
+    (λ c. search needs)
     fields-length-requires
     add-result
     returns)

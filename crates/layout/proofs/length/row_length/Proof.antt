@@ -29,17 +29,8 @@ counted c =
     let f : c .fields-length .result ≡ fieldsLength (factorColumns (length (s .args .f .now))) (s .args .f .now) = c .fields-length .ensures ∙ ap (λ (l : List Column). fieldsLength l (s .args .f .now)) (factors-front _ 16 (s .pre .1)) in
     omega (arith, total s, c .before .before .line-length .ensures, f)
 
-slice-aggregate-line-length : tie.Need-slice-aggregate-line-length
-slice-aggregate-line-length c = search needs
-
-slice-aggregate-line-length-2 : tie.Need-slice-aggregate-line-length-2
-slice-aggregate-line-length-2 c = search needs
-
 line-length-requires : tie.Need-line-length-requires
 line-length-requires c κs = (search needs, omega (arith, total (c .before .before), c .before .before .pre .2))
-
-array-share-prefix-fields-length : tie.Need-array-share-prefix-fields-length
-array-share-prefix-fields-length c = search needs
 
 slice-aggregate-fields-length : tie.Need-slice-aggregate-fields-length
 slice-aggregate-fields-length c = sym (length-take-le _ _ (c .before .before .before .before .pre .1))
@@ -57,10 +48,10 @@ pub row-length-spec : {M : Type 1} → statement M
 row-length-spec =
     tie.close
     (tie.spec
-    slice-aggregate-line-length
-    slice-aggregate-line-length-2
+    (λ c. search needs)
+    (λ c. search needs)
     line-length-requires
-    array-share-prefix-fields-length
+    (λ c. search needs)
     slice-aggregate-fields-length
     fields-length-requires
     add-result

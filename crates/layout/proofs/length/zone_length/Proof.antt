@@ -12,12 +12,6 @@ use borrow.Author.Needs.{needs}
 use Rattle.layout.proofs.length.zone_length.Statement.{statement}
 use Rattle.layout.proofs.length.zone_length.Tie as tie
 
-slice-aggregate-line-length : tie.Need-slice-aggregate-line-length
-slice-aggregate-line-length c = search needs
-
-slice-aggregate-line-length-2 : tie.Need-slice-aggregate-line-length-2
-slice-aggregate-line-length-2 c = search needs
-
 line-length-requires : tie.Need-line-length-requires
 line-length-requires c κs =
     let s = c .before .before in
@@ -32,7 +26,7 @@ pub zone-length-spec : {M : Type 1} → statement M
 zone-length-spec =
     tie.close
     (tie.spec
-    slice-aggregate-line-length
-    slice-aggregate-line-length-2
+    (λ c. search needs)
+    (λ c. search needs)
     line-length-requires
     returns)

@@ -18,17 +18,8 @@ cast-t7 c = fits-pos _ (omega (arith, header-in (c .before .before .before .args
 cast-t8 : tie.Need-cast-t8
 cast-t8 c = fits-pos _ (omega (arith, header-in (c .before .before .before .before .args .h) (c .before .before .before .before .pre .0) .rows-most))
 
-slice-aggregate-put-plain : tie.Need-slice-aggregate-put-plain
-slice-aggregate-put-plain c = search needs
-
-slice-aggregate-put-plain-2 : tie.Need-slice-aggregate-put-plain-2
-slice-aggregate-put-plain-2 c = search needs
-
 put-plain-requires : tie.Need-put-plain-requires
 put-plain-requires c κs = (refl, rw (header-raw (c .before .before .before .before .before .before .before .args .h) (c .before .before .before .before .before .before .before .pre .0)) (c .before .before .before .before .before .before .before .pre .1))
-
-same-length : tie.Need-same-length
-same-length c = search needs
 
 returns : tie.Need-returns
 returns c = rw (header-raw (c .before .before .before .before .before .before .before .before .before .before .args .h) (c .before .before .before .before .before .before .before .before .before .before .pre .0)) at (c .before .before .put-plain .ensures)
@@ -40,8 +31,8 @@ header-out-spec =
     cast-t6
     cast-t7
     cast-t8
-    slice-aggregate-put-plain
-    slice-aggregate-put-plain-2
+    (λ c. search needs)
+    (λ c. search needs)
     put-plain-requires
-    same-length
+    (λ c. search needs)
     returns)

@@ -22,26 +22,14 @@ numbers s =
     let wide : 7 ≡ length (s .args .t2) = search needs in
     numbers-are rowColumns (s .args .t2) (sym wide)
 
-slice-aggregate-put-parts : tie.Need-slice-aggregate-put-parts
-slice-aggregate-put-parts c = search needs
-
-array-share-prefix-put-parts : tie.Need-array-share-prefix-put-parts
-array-share-prefix-put-parts c = search needs
-
 slice-aggregate-put-parts-2 : tie.Need-slice-aggregate-put-parts-2
 slice-aggregate-put-parts-2 c = sym (length-take-le _ _ (c .before .before .before .pre .1))
-
-slice-aggregate-put-parts-3 : tie.Need-slice-aggregate-put-parts-3
-slice-aggregate-put-parts-3 c = search needs
 
 put-parts-requires : tie.Need-put-parts-requires
 put-parts-requires c κs =
     let a = c .before .before .before .before .before .args in
     let p = c .before .before .before .before .before .pre in
     (search needs, rw (length-take-le _ _ (p .1)) (p .0), length-take-le _ _ (p .1), subst (λ (l : List Column). a .at + length (columnsText tab (code "C") (rowColumns ++ l) (a .i) (a .t2 ++ a .f .now)) ≤ length (a .out .now)) (sym (factors-front _ 16 (p .1))) (subst (λ (v : List ℤ). a .at + length (columnsText tab (code "C") (rowColumns ++ factorColumns (length (a .f .now))) (a .i) (v ++ a .f .now)) ≤ length (a .out .now)) (numbers (c .before .before .before .before .before)) (p .2)))
-
-same-length : tie.Need-same-length
-same-length c = search needs
 
 returns : tie.Need-returns
 returns c =
@@ -52,10 +40,10 @@ pub row-out-spec : {M : Type 1} → statement M
 row-out-spec =
     tie.close
     (tie.spec
-    slice-aggregate-put-parts
-    array-share-prefix-put-parts
+    (λ c. search needs)
+    (λ c. search needs)
     slice-aggregate-put-parts-2
-    slice-aggregate-put-parts-3
+    (λ c. search needs)
     put-parts-requires
-    same-length
+    (λ c. search needs)
     returns)

@@ -13,32 +13,8 @@ use borrow.Author.Needs.{needs}
 use Rattle.lines.proofs.border.border_line.Statement.{statement}
 use Rattle.lines.proofs.border.border_line.Tie as tie
 
-slice-aggregate-line-at : tie.Need-slice-aggregate-line-at
-slice-aggregate-line-at c = search needs
-
-slice-aggregate-line-at-2 : tie.Need-slice-aggregate-line-at-2
-slice-aggregate-line-at-2 c = search needs
-
-line-at-requires : tie.Need-line-at-requires
-line-at-requires c κs = search needs
-
-enum-told : tie.Need-enum-told
-enum-told c = search needs
-
-enum-told-2 : tie.Need-enum-told-2
-enum-told-2 c = search needs
-
 returns : tie.Need-returns
 returns c = border-form _ _ _ _ (ap (λ (f : Fields). stored f (c .before .before .before .line-at .last .1 .1 .1 .1 .1 .0)) (sym (c .enum-told2 .given .1)) ∙ c .before .before .before .line-at .ensures)
-
-of-requires : tie.Need-of-requires
-of-requires c κs = search needs
-
-enum-known-border : tie.Need-enum-known-border
-enum-known-border c = search needs
-
-enum-told-3 : tie.Need-enum-told-3
-enum-told-3 c = search needs
 
 returns-2 : tie.Need-returns-2
 returns-2 c = border-range _ _ _ _ _ (ap (λ (f : Fields). stored f (c .before .before .before .before .before .before .line-at .last .1 .1 .1 .1 .1 .0)) (sym (c .before .before .before .enum-told .given .1)) ∙ c .before .before .before .before .before .before .line-at .ensures) (border-out _ _ (sym (c .before .before .of .ensures) ∙ c .enum-told3 .given .1))
@@ -52,14 +28,14 @@ pub border-line-spec : {M : Type 1} → statement M
 border-line-spec =
     tie.close
     (tie.spec
-    slice-aggregate-line-at
-    slice-aggregate-line-at-2
-    line-at-requires
-    enum-told
-    enum-told-2
+    (λ c. search needs)
+    (λ c. search needs)
+    (λ c κs. search needs)
+    (λ c. search needs)
+    (λ c. search needs)
     returns
-    of-requires
-    enum-known-border
-    enum-told-3
+    (λ c κs. search needs)
+    (λ c. search needs)
+    (λ c. search needs)
     returns-2
     returns-3)

@@ -10,35 +10,11 @@ use borrow.Author.Needs.{needs}
 use Rattle.lines.proofs.row.judged_in.Statement.{statement}
 use Rattle.lines.proofs.row.judged_in.Tie as tie
 
-slice-aggregate-row-at : tie.Need-slice-aggregate-row-at
-slice-aggregate-row-at c = search needs
-
-row-at-requires : tie.Need-row-at-requires
-row-at-requires c κs = search needs
-
-enum-told : tie.Need-enum-told
-enum-told c = search needs
-
-enum-told-2 : tie.Need-enum-told-2
-enum-told-2 c = search needs
-
-same-length : tie.Need-same-length
-same-length c = search needs
-
 returns : tie.Need-returns
 returns c = sym (ap judgedOf (row-form _ _ _ _ (ap (λ (f : Fields). stored f (c .before .before .before .before .row-at .last .1 .1 .0 ++ c .before .before .before .before .row-at .last .1 .1 .1 .0)) (sym (c .enum-told2 .given .1)) ∙ c .before .before .before .before .row-at .ensures)))
 
-row-good-requires : tie.Need-row-good-requires
-row-good-requires c κs = search needs
-
-same-length-2 : tie.Need-same-length-2
-same-length-2 c = search needs
-
 returns-2 : tie.Need-returns-2
 returns-2 c = sym (ap judgedOf (row-holds _ _ _ (c .before .before .before .before .before .before .before .row-at .last .1 .1 .0) (c .before .before .before .before .before .before .before .row-at .last .1 .1 .1 .0) (c .before .before .before .before .before .before .before .row-at .kept .1 .1 .0) _ (ap (λ (f : Fields). stored f (c .before .before .before .before .before .before .before .row-at .last .1 .1 .0 ++ c .before .before .before .before .before .before .before .row-at .last .1 .1 .1 .0)) (sym (c .before .before .before .enum-told .given .1)) ∙ c .before .before .before .before .before .before .before .row-at .ensures) (sym (c .before .row-good .ensures) ∙ c .if1 .taken)))
-
-same-length-3 : tie.Need-same-length-3
-same-length-3 c = search needs
 
 returns-3 : tie.Need-returns-3
 returns-3 c = sym (ap judgedOf (row-range _ _ _ (c .before .before .before .before .before .before .before .row-at .last .1 .1 .0) (c .before .before .before .before .before .before .before .row-at .last .1 .1 .1 .0) (c .before .before .before .before .before .before .before .row-at .kept .1 .1 .0) _ (ap (λ (f : Fields). stored f (c .before .before .before .before .before .before .before .row-at .last .1 .1 .0 ++ c .before .before .before .before .before .before .before .row-at .last .1 .1 .1 .0)) (sym (c .before .before .before .enum-told .given .1)) ∙ c .before .before .before .before .before .before .before .row-at .ensures) (sym (c .before .row-good .ensures) ∙ c .if1 .left)))
@@ -47,14 +23,14 @@ pub judged-in-spec : {M : Type 1} → statement M
 judged-in-spec =
     tie.close
     (tie.spec
-    slice-aggregate-row-at
-    row-at-requires
-    enum-told
-    enum-told-2
-    same-length
+    (λ c. search needs)
+    (λ c κs. search needs)
+    (λ c. search needs)
+    (λ c. search needs)
+    (λ c. search needs)
     returns
-    row-good-requires
-    same-length-2
+    (λ c κs. search needs)
+    (λ c. search needs)
     returns-2
-    same-length-3
+    (λ c. search needs)
     returns-3)

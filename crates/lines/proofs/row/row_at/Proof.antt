@@ -12,12 +12,6 @@ use borrow.Author.Needs.{needs}
 use Rattle.lines.proofs.row.row_at.Statement.{statement}
 use Rattle.lines.proofs.row.row_at.Tie as tie
 
-slice-aggregate-parts-at : tie.Need-slice-aggregate-parts-at
-slice-aggregate-parts-at c = search needs
-
-array-share-prefix-parts-at : tie.Need-array-share-prefix-parts-at
-array-share-prefix-parts-at c = search needs
-
 slice-aggregate-parts-at-2 : tie.Need-slice-aggregate-parts-at-2
 slice-aggregate-parts-at-2 c = sym (length-take-le _ _ (c .before .before .before .pre .2))
 
@@ -26,12 +20,6 @@ parts-at-requires c κs =
     let p = c .before .before .before .before .before .pre in
     (sym (p .0), rw (length-take-le _ _ (p .2)) (p .1), length-take-le _ _ (p .2))
 
-same-length : tie.Need-same-length
-same-length c = search needs
-
-same-length-2 : tie.Need-same-length-2
-same-length-2 c = search needs
-
 returns : tie.Need-returns
 returns c = c .before .before .parts-at .ensures ∙ ap (λ (l : List Column). columnsLine tab (code "C") (rowColumns ++ l) (c .before .before .before .before .before .before .before .before .args .line .now) (c .before .before .before .before .before .before .before .before .args .i)) (factors-taken _ (c .before .before .before .before .before .before .before .before .pre .2))
 
@@ -39,10 +27,10 @@ pub row-at-spec : {M : Type 1} → statement M
 row-at-spec =
     tie.close
     (tie.spec
-    slice-aggregate-parts-at
-    array-share-prefix-parts-at
+    (λ c. search needs)
+    (λ c. search needs)
     slice-aggregate-parts-at-2
     parts-at-requires
-    same-length
-    same-length-2
+    (λ c. search needs)
+    (λ c. search needs)
     returns)

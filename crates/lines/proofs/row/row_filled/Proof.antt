@@ -9,26 +9,8 @@ use borrow.Author.Needs.{needs}
 use Rattle.lines.proofs.row.row_filled.Statement.{statement}
 use Rattle.lines.proofs.row.row_filled.Tie as tie
 
-slice-aggregate-row-at : tie.Need-slice-aggregate-row-at
-slice-aggregate-row-at c = search needs
-
-row-at-requires : tie.Need-row-at-requires
-row-at-requires c κs = search needs
-
-enum-told : tie.Need-enum-told
-enum-told c = search needs
-
-enum-told-2 : tie.Need-enum-told-2
-enum-told-2 c = search needs
-
-same-length : tie.Need-same-length
-same-length c = search needs
-
 returns : tie.Need-returns
 returns c = absurd (row-never _ _ _ _ (ap (λ (f : Fields). stored f (c .before .before .before .before .row-at .last .1 .1 .0 ++ c .before .before .before .before .row-at .last .1 .1 .1 .0)) (sym (c .enum-told2 .given .1)) ∙ c .before .before .before .before .row-at .ensures) (c .before .before .before .before .before .before .before .before .pre .2))
-
-same-length-2 : tie.Need-same-length-2
-same-length-2 c = search needs
 
 returns-2 : tie.Need-returns-2
 returns-2 c = row-filled _ _ _ (c .before .before .before .before .row-at .last .1 .1 .0) (c .before .before .before .before .row-at .last .1 .1 .1 .0) (c .before .before .before .before .row-at .kept .1 .1 .0) _ (ap (λ (f : Fields). stored f (c .before .before .before .before .row-at .last .1 .1 .0 ++ c .before .before .before .before .row-at .last .1 .1 .1 .0)) (sym (c .enum-told .given .1)) ∙ c .before .before .before .before .row-at .ensures) (c .before .before .before .before .before .before .before .before .pre .2)
@@ -37,11 +19,11 @@ pub row-filled-spec : {M : Type 1} → statement M
 row-filled-spec =
     tie.close
     (tie.spec
-    slice-aggregate-row-at
-    row-at-requires
-    enum-told
-    enum-told-2
-    same-length
+    (λ c. search needs)
+    (λ c κs. search needs)
+    (λ c. search needs)
+    (λ c. search needs)
+    (λ c. search needs)
     returns
-    same-length-2
+    (λ c. search needs)
     returns-2)

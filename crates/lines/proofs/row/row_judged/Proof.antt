@@ -9,9 +9,6 @@ use borrow.Author.Needs.{needs}
 use Rattle.lines.proofs.row.row_judged.Statement.{statement}
 use Rattle.lines.proofs.row.row_judged.Tie as tie
 
-array-borrow-prefix-factors : tie.Need-array-borrow-prefix-factors
-array-borrow-prefix-factors c = search needs
-
 slice-aggregate-judged-in : tie.Need-slice-aggregate-judged-in
 slice-aggregate-judged-in c = sym (length-take-le _ _ (c .before .before .pre .1))
 
@@ -26,4 +23,4 @@ returns c = c .before .judged-in .ensures ∙ ap (λ (n : ℕ). judgedOf (rowLin
 pub row-judged-spec : {M : Type 1} → statement M
 row-judged-spec =
     tie.close
-    (tie.spec array-borrow-prefix-factors slice-aggregate-judged-in judged-in-requires returns)
+    (tie.spec (λ c. search needs) slice-aggregate-judged-in judged-in-requires returns)

@@ -10,35 +10,8 @@ use borrow.Author.Needs.{needs}
 use Rattle.lines.proofs.zone.zone_line.Statement.{statement}
 use Rattle.lines.proofs.zone.zone_line.Tie as tie
 
-slice-aggregate-line-at : tie.Need-slice-aggregate-line-at
-slice-aggregate-line-at c = search needs
-
-slice-aggregate-line-at-2 : tie.Need-slice-aggregate-line-at-2
-slice-aggregate-line-at-2 c = search needs
-
-line-at-requires : tie.Need-line-at-requires
-line-at-requires c κs = search needs
-
-enum-told : tie.Need-enum-told
-enum-told c = search needs
-
-enum-told-2 : tie.Need-enum-told-2
-enum-told-2 c = search needs
-
 returns : tie.Need-returns
 returns c = zone-form _ _ _ (ap (λ (f : Fields). stored f (c .before .before .before .line-at .last .1 .1 .1 .1 .1 .0)) (sym (c .enum-told2 .given .1)) ∙ c .before .before .before .line-at .ensures)
-
-array-copy-out-net : tie.Need-array-copy-out-net
-array-copy-out-net c = search needs
-
-of-requires : tie.Need-of-requires
-of-requires c κs = search needs
-
-enum-told-3 : tie.Need-enum-told-3
-enum-told-3 c = search needs
-
-enum-told-4 : tie.Need-enum-told-4
-enum-told-4 c = search needs
 
 returns-2 : tie.Need-returns-2
 returns-2 c = zone-range _ _ (c .before .before .before .before .before .before .before .line-at .last .1 .1 .1 .1 .1 .0) _ (ap (λ (f : Fields). stored f (c .before .before .before .before .before .before .before .line-at .last .1 .1 .1 .1 .1 .0)) (sym (c .before .before .before .before .enum-told .given .1)) ∙ c .before .before .before .before .before .before .before .line-at .ensures) (zone-out _ (simp (plain, c .before .before .before .net .given) at (sym (c .before .before .of .ensures) ∙ c .enum-told4 .given .1)))
@@ -50,15 +23,15 @@ pub zone-line-spec : {M : Type 1} → statement M
 zone-line-spec =
     tie.close
     (tie.spec
-    slice-aggregate-line-at
-    slice-aggregate-line-at-2
-    line-at-requires
-    enum-told
-    enum-told-2
+    (λ c. search needs)
+    (λ c. search needs)
+    (λ c κs. search needs)
+    (λ c. search needs)
+    (λ c. search needs)
     returns
-    array-copy-out-net
-    of-requires
-    enum-told-3
-    enum-told-4
+    (λ c. search needs)
+    (λ c κs. search needs)
+    (λ c. search needs)
+    (λ c. search needs)
     returns-2
     returns-3)

@@ -22,20 +22,8 @@ loop-holds c = copied-none _ _ _
 mul-to : tie.Need-mul-to Inv-loop μ-loop
 mul-to c = omega (arith, c .before .loop .inv .high)
 
-shared-slice-copy-out-to : tie.Need-shared-slice-copy-out-to Inv-loop μ-loop
-shared-slice-copy-out-to c = omega arith
-
-mul-t9 : tie.Need-mul-t9 Inv-loop μ-loop
-mul-t9 c = omega arith
-
 slice-set-from-to : tie.Need-slice-set-from-to Inv-loop μ-loop
 slice-set-from-to c = omega (arith, c .before .before .loop .inv .long, c .before .before .before .pre)
-
-add-i : tie.Need-add-i Inv-loop μ-loop
-add-i c = omega arith
-
-loop-less : tie.Need-loop-less Inv-loop μ-loop
-loop-less c = omega arith
 
 loop-again : tie.Need-loop-again Inv-loop μ-loop
 loop-again c = copied-more [] _ (omega arith) (omega (arith, c .before .before .before .pre)) (c .before .before .loop .inv) (omega arith) refl
@@ -56,11 +44,11 @@ copy-spec =
     μ-loop
     loop-holds
     mul-to
-    shared-slice-copy-out-to
-    mul-t9
+    (λ c. omega arith)
+    (λ c. omega arith)
     slice-set-from-to
-    add-i
-    loop-less
+    (λ c. omega arith)
+    (λ c. omega arith)
     loop-again
     same-length
     returns)

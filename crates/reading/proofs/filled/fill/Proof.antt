@@ -11,25 +11,10 @@ zones-filled-requires c κs =
     let start = c .before .before .before in
     (start .pre .0 .zones-within, nets-again _ _ _ _ _ _ (start .pre .0) (start .pre .1 .1))
 
-copy-requires : tie.Need-copy-requires
-copy-requires c κs = search needs
-
 rows-filled-requires : tie.Need-rows-filled-requires
 rows-filled-requires c κs =
     let start = c .before .before .before .before .before .before .before .before .before .before in
     (start .pre .0 .rows-within, factors-asked _ _ _ _ _ _ (start .pre .0) (start .pre .1 .1), rows-again _ _ _ _ _ _ (start .pre .0) (start .pre .1 .1), omega (arith, header-in _ (start .pre .0 .header-fits) .zones-least), header-in _ (start .pre .0 .header-fits) .zones-most)
-
-same-length : tie.Need-same-length
-same-length c = search needs
-
-same-length-2 : tie.Need-same-length-2
-same-length-2 c = search needs
-
-same-length-3 : tie.Need-same-length-3
-same-length-3 c = search needs
-
-same-length-4 : tie.Need-same-length-4
-same-length-4 c = search needs
 
 returns : tie.Need-returns
 returns c =
@@ -41,10 +26,10 @@ fill-spec =
     tie.close
     (tie.spec
     zones-filled-requires
-    copy-requires
+    (λ c κs. search needs)
     rows-filled-requires
-    same-length
-    same-length-2
-    same-length-3
-    same-length-4
+    (λ c. search needs)
+    (λ c. search needs)
+    (λ c. search needs)
+    (λ c. search needs)
     returns)

@@ -43,12 +43,6 @@ add-first-row-2 c = omega (arith, bounds (c .before .pre .0))
 zones-judged-requires : tie.Need-zones-judged-requires
 zones-judged-requires c κs = (at-within (c .before .pre .0), bounds (c .before .pre .0) .zones-most)
 
-enum-known-p : tie.Need-enum-known-p
-enum-known-p c = search needs
-
-enum-known-w : tie.Need-enum-known-w
-enum-known-w c = search needs
-
 returns : tie.Need-returns
 returns c = (nets-refused (c .before .before .before .before .before .pre .0) (sym (ap saidEnd (c .before .w .given .1)) ∙ c .before .before .before .zones-judged .ensures), tt)
 
@@ -67,15 +61,6 @@ borders-read-requires c κs =
     let start = c .before .before .before .before .before .before in
     (p-within (start .pre .0) (nets-end (c .before)), (bounds (start .pre .0) .zones-most, omega (arith, borders-room (start .pre .0) (start .args .memory .now) (start .pre .1), bounds (start .pre .0))))
 
-enum-known-p-2 : tie.Need-enum-known-p-2
-enum-known-p-2 c = search needs
-
-enum-known-w-2 : tie.Need-enum-known-w-2
-enum-known-w-2 c = search needs
-
-same-length : tie.Need-same-length
-same-length c = search needs
-
 returns-2 : tie.Need-returns-2
 returns-2 c = (borders-refused (c .before .before .before .before .before .before .before .before .before .before .before .pre .0) (nets-end (c .before .before .before .before .before .before)) (sym (ap (λ (r : End). storedRun r (c .before .before .before .before .borders-read .last .1 .1 .1 .0)) (c .before .w2 .given .1)) ∙ run-stored (c .before .before .before .before)), tt)
 
@@ -84,29 +69,14 @@ rows-judged-requires c κs =
     let start = c .before .before .before .before .before .before .before .before .before .before .before in
     (q-within (start .pre .0) (nets-end (c .before .before .before .before .before .before)) (borders-are c), omega (arith, bounds (start .pre .0)), omega (arith, bounds (start .pre .0)), omega (arith, bounds (start .pre .0)))
 
-enum-known-p-3 : tie.Need-enum-known-p-3
-enum-known-p-3 c = search needs
-
-enum-known-w-3 : tie.Need-enum-known-w-3
-enum-known-w-3 c = search needs
-
-same-length-2 : tie.Need-same-length-2
-same-length-2 c = search needs
-
 returns-3 : tie.Need-returns-3
 returns-3 c = (rows-refused (c .before .before .before .before .before .before .before .before .before .before .before .before .before .before .before .pre .0) (nets-end (c .before .before .before .before .before .before .before .before .before .before)) (borders-are (c .before .before .before .before)) (sym (ap saidEnd (c .before .w3 .given .1)) ∙ c .before .before .before .rows-judged .ensures), tt)
 
 add-t28 : tie.Need-add-t28
 add-t28 c = omega (arith, bounds (c .before .before .before .before .before .before .before .before .before .before .before .before .before .before .before .before .pre .0))
 
-same-length-3 : tie.Need-same-length-3
-same-length-3 c = search needs
-
 returns-4 : tie.Need-returns-4
 returns-4 c = (more-follows (c .before .before .before .before .before .before .before .before .before .before .before .before .before .before .before .before .pre .0) (nets-end (c .before .before .before .before .before .before .before .before .before .before .before)) (borders-are (c .before .before .before .before .before)) (rows-end (c .before)) (c .if1 .taken), tt)
-
-same-length-4 : tie.Need-same-length-4
-same-length-4 c = search needs
 
 returns-5 : tie.Need-returns-5
 returns-5 c =
@@ -123,23 +93,23 @@ judge-runs-spec =
     add-first-row
     add-first-row-2
     zones-judged-requires
-    enum-known-p
-    enum-known-w
+    (λ c. search needs)
+    (λ c. search needs)
     returns
     slice-relend-prefix-borders-read
     slice-aggregate-borders-read
     borders-read-requires
-    enum-known-p-2
-    enum-known-w-2
-    same-length
+    (λ c. search needs)
+    (λ c. search needs)
+    (λ c. search needs)
     returns-2
     rows-judged-requires
-    enum-known-p-3
-    enum-known-w-3
-    same-length-2
+    (λ c. search needs)
+    (λ c. search needs)
+    (λ c. search needs)
     returns-3
     add-t28
-    same-length-3
+    (λ c. search needs)
     returns-4
-    same-length-4
+    (λ c. search needs)
     returns-5)

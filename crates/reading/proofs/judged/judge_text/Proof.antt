@@ -33,44 +33,17 @@ memory-long c = c .before .before .before .before .judge-lines .kept .1 .0 ∙ c
 returns : tie.Need-returns
 returns c = (too-long _ (c .if1 .taken), tt)
 
-judge-lines-requires : tie.Need-judge-lines-requires
-judge-lines-requires c κs = search needs
-
-enum-known-places : tie.Need-enum-known-places
-enum-known-places c = search needs
-
 slice-reshare-prefix-first-twice : tie.Need-slice-reshare-prefix-first-twice
 slice-reshare-prefix-first-twice c = omega (arith, header-in _ (placed (c .before) .header-fits), memory-long (c .before))
 
 slice-aggregate-first-twice : tie.Need-slice-aggregate-first-twice
 slice-aggregate-first-twice c = sym (length-take-le _ _ (omega (arith, header-in _ (placed (c .before .before) .header-fits), memory-long (c .before .before))))
 
-first-twice-requires : tie.Need-first-twice-requires
-first-twice-requires c κs = search needs
-
-enum-known-i : tie.Need-enum-known-i
-enum-known-i c = search needs
-
-enum-told : tie.Need-enum-told
-enum-told c = search needs
-
-enum-known-w : tie.Need-enum-known-w
-enum-known-w c = search needs
-
-same-length : tie.Need-same-length
-same-length c = search needs
-
 returns-2 : tie.Need-returns-2
 returns-2 c = (twice-refused _ (c .before .before .before .before .before .before .before .before .before .before .before .before .if1 .left) _ (lines-are (c .before .before .before .before .before .before)) _ (sym (ap found (c .before .i .given .1)) ∙ c .before .before .before .first-twice .ensures), tt)
 
-same-length-2 : tie.Need-same-length-2
-same-length-2 c = search needs
-
 returns-3 : tie.Need-returns-3
 returns-3 c = (text-passes _ (c .before .before .before .before .before .before .before .before .before .before .before .if1 .left) _ (lines-are (c .before .before .before .before .before)) (sym (ap found (c .enum-told .given .1)) ∙ c .before .before .first-twice .ensures), placed (c .before .before .before .before .before))
-
-same-length-3 : tie.Need-same-length-3
-same-length-3 c = search needs
 
 returns-4 : tie.Need-returns-4
 returns-4 c = (lines-refused _ (c .before .before .before .before .before .before .if1 .left) _ (sym (ap (λ (r : TextJudged). tableIn r (c .before .before .before .before .before .before .before .before .args .text .now) (c .before .before .before .before .judge-lines .last .1 .0)) (c .before .w .given .1)) ∙ c .before .before .before .before .judge-lines .ensures .0), tt)
@@ -80,17 +53,17 @@ judge-text-spec =
     tie.close
     (tie.spec
     returns
-    judge-lines-requires
-    enum-known-places
+    (λ c κs. search needs)
+    (λ c. search needs)
     slice-reshare-prefix-first-twice
     slice-aggregate-first-twice
-    first-twice-requires
-    enum-known-i
-    enum-told
-    enum-known-w
-    same-length
+    (λ c κs. search needs)
+    (λ c. search needs)
+    (λ c. search needs)
+    (λ c. search needs)
+    (λ c. search needs)
     returns-2
-    same-length-2
+    (λ c. search needs)
     returns-3
-    same-length-3
+    (λ c. search needs)
     returns-4)

@@ -1,20 +1,14 @@
 -- `result::records::atc_length` meets its contract (`atc-length`): a number has at most 20 bytes, so the sums fit. Assumes nothing.
 use native.Mathlib.Omega.{arith}
 use mir.Facts.{toZ-ofZ}
-use Rattle.text.proofs.DigitLaws.{decimal-u64}
-use Rattle.result.proofs.RecordsLaws.{atc-length, decimal-i64}
+use Rattle.text.proofs.DigitLaws.{decimal-u64, decimal-i64}
+use Rattle.result.proofs.RecordsLaws.{atc-length}
 use borrow.Author.Needs.{needs}
 use Rattle.result.proofs.records.atc_length.Statement.{statement}
 use Rattle.result.proofs.records.atc_length.Tie as tie
 
-digit-count-requires : tie.Need-digit-count-requires
-digit-count-requires c κs = search needs
-
 add-result : tie.Need-add-result
 add-result c = omega (arith, c .digit-count .ensures, decimal-u64 (c .before .args .b) (omega arith))
-
-signed-length-requires : tie.Need-signed-length-requires
-signed-length-requires c κs = search needs
 
 add-result-2 : tie.Need-add-result-2
 add-result-2 c =
@@ -31,4 +25,4 @@ returns c =
 pub atc-length-spec : {M : Type 1} → statement M
 atc-length-spec =
     tie.close
-    (tie.spec digit-count-requires add-result signed-length-requires add-result-2 returns)
+    (tie.spec (λ c κs. search needs) add-result (λ c κs. search needs) add-result-2 returns)

@@ -1,4 +1,4 @@
--- `result::records::atcs_length` meets its contract: the total is that of the first b lines (`Measured`), and no line is longer than `lineMost` (`atc-most`).
+-- `result::records::atcs_length` meets its contract: the total is that of the first b lines (`Measured`), and no line is longer than `resultLineMost` (`atc-most`).
 -- Assumes nothing.
 use Prim.Native.Nat.{_-_}
 use mathlib.Core.List.{[]}
@@ -7,31 +7,20 @@ use borrow.Author.Needs.{needs}
 use lib.ListN.{length, getD}
 use Rattle.numbers.proofs.IntLaws.{plain}
 use Rattle.kinds.specs.Ranges.{atℤ}
-use Rattle.result.specs.Records.{atcAt}
-use Rattle.result.proofs.RecordsLaws.{Measured, measured-none, measured-more, measured-all, atc-most}
+use Rattle.text.proofs.MeasureLaws.{Measured, measured-none, measured-more, measured-all}
+use Rattle.result.specs.Records.{atcAt, resultLineMost}
+use Rattle.result.proofs.RecordsLaws.{atc-most}
 use Rattle.result.proofs.records.atcs_length.Statement.{statement}
 use Rattle.result.proofs.records.atcs_length.Tie as tie
 
 abbrev Inv-loop : tie.InvT-loop
-Inv-loop atc total₀ b₀ total b = Measured (atcAt atc) (length atc) b total
+Inv-loop atc total₀ b₀ total b = Measured (atcAt atc) resultLineMost (length atc) b total
 
 abbrev μ-loop : tie.MeasureT-loop
 μ-loop atc total₀ b₀ total b = length atc - b
 
 loop-holds : tie.Need-loop-holds Inv-loop μ-loop
-loop-holds c = measured-none _ _
-
-mul-atc-length : tie.Need-mul-atc-length Inv-loop μ-loop
-mul-atc-length c = omega arith
-
-index-1-atc-length : tie.Need-index-1-atc-length Inv-loop μ-loop
-index-1-atc-length c = omega arith
-
-index-2-atc-length : tie.Need-index-2-atc-length Inv-loop μ-loop
-index-2-atc-length c = search needs
-
-atc-length-requires : tie.Need-atc-length-requires Inv-loop μ-loop
-atc-length-requires c κs = search needs
+loop-holds c = measured-none _ _ _
 
 add-total : tie.Need-add-total Inv-loop μ-loop
 add-total c =
@@ -41,12 +30,6 @@ add-total c =
     let atc = atℤ (getD (start .args .atc .now) (at-loop .b) []) 0 in
     let added = simp (plain, known) at (c .atc-length .ensures) in
     omega (arith, start .pre, at-loop .inv .few, at-loop .inv .summed .high, atc-most (at-loop .b) atc (omega arith) known)
-
-add-b : tie.Need-add-b Inv-loop μ-loop
-add-b c = omega arith
-
-loop-less : tie.Need-loop-less Inv-loop μ-loop
-loop-less c = omega arith
 
 loop-again : tie.Need-loop-again Inv-loop μ-loop
 loop-again c =
@@ -67,12 +50,12 @@ atcs-length-spec =
     Inv-loop
     μ-loop
     loop-holds
-    mul-atc-length
-    index-1-atc-length
-    index-2-atc-length
-    atc-length-requires
+    (λ c. omega arith)
+    (λ c. omega arith)
+    (λ c. search needs)
+    (λ c κs. search needs)
     add-total
-    add-b
-    loop-less
+    (λ c. omega arith)
+    (λ c. omega arith)
     loop-again
     returns)

@@ -8,12 +8,6 @@ use borrow.Author.Needs.{needs}
 use Rattle.result.proofs.records.left_length.Statement.{statement}
 use Rattle.result.proofs.records.left_length.Tie as tie
 
-same-requires : tie.Need-same-requires
-same-requires c κs = search needs
-
-signed-length-requires : tie.Need-signed-length-requires
-signed-length-requires c κs = search needs
-
 returns : tie.Need-returns
 returns c =
     let start = c .before .before .before in
@@ -26,4 +20,4 @@ returns-2 c =
     sym (ap length (left-dash (start .args .state) (start .args .left) (sym (simp (toZ-ofZ, start .fits .state) at (c .before .same .ensures)) ∙ c .if1 .left)))
 
 pub left-length-spec : {M : Type 1} → statement M
-left-length-spec = tie.close (tie.spec same-requires signed-length-requires returns returns-2)
+left-length-spec = tie.close (tie.spec (λ c κs. search needs) (λ c κs. search needs) returns returns-2)

@@ -1,29 +1,20 @@
 -- `result::records::margin_length` meets its contract (`margin-length`): a field has at most 20 bytes, so the sums fit. Assumes nothing.
 use native.Mathlib.Omega.{arith}
 use mir.Facts.{toZ-ofZ}
-use Rattle.text.proofs.DigitLaws.{decimal-u64}
-use Rattle.result.proofs.RecordsLaws.{margin-length, decimal-i64, left-most}
+use Rattle.text.proofs.DigitLaws.{decimal-u64, decimal-i64}
+use Rattle.result.proofs.RecordsLaws.{margin-length, left-most}
 use borrow.Author.Needs.{needs}
 use Rattle.result.proofs.records.margin_length.Statement.{statement}
 use Rattle.result.proofs.records.margin_length.Tie as tie
 
-digit-count-requires : tie.Need-digit-count-requires
-digit-count-requires c κs = search needs
-
 add-result : tie.Need-add-result
 add-result c = omega (arith, c .digit-count .ensures, decimal-u64 (c .before .args .i) (omega arith))
-
-signed-length-requires : tie.Need-signed-length-requires
-signed-length-requires c κs = search needs
 
 add-result-2 : tie.Need-add-result-2
 add-result-2 c =
     let start = c .before .before in
     let state = simp (toZ-ofZ, start .fits .state) at (c .signed-length .ensures) in
     omega (arith, c .before .digit-count .ensures, decimal-u64 (start .args .i) (omega arith), decimal-i64 (start .args .state) (start .fits .state .sfits))
-
-signed-length-requires-2 : tie.Need-signed-length-requires-2
-signed-length-requires-2 c κs = search needs
 
 add-result-3 : tie.Need-add-result-3
 add-result-3 c =
@@ -37,9 +28,6 @@ add-result-3 c =
       decimal-i64 (start .args .state) (start .fits .state .sfits),
       decimal-i64 (start .args .ram) (start .fits .ram .sfits),
     )
-
-left-length-requires : tie.Need-left-length-requires
-left-length-requires c κs = search needs
 
 add-result-4 : tie.Need-add-result-4
 add-result-4 c =
@@ -68,12 +56,12 @@ pub margin-length-spec : {M : Type 1} → statement M
 margin-length-spec =
     tie.close
     (tie.spec
-    digit-count-requires
+    (λ c κs. search needs)
     add-result
-    signed-length-requires
+    (λ c κs. search needs)
     add-result-2
-    signed-length-requires-2
+    (λ c κs. search needs)
     add-result-3
-    left-length-requires
+    (λ c κs. search needs)
     add-result-4
     returns)

@@ -1,4 +1,4 @@
--- `result::records::margins_length` meets its contract: the total is that of the first i lines (`Measured`), and no line is longer than `lineMost` (`margin-most`).
+-- `result::records::margins_length` meets its contract: the total is that of the first i lines (`Measured`), and no line is longer than `resultLineMost` (`margin-most`).
 -- Assumes nothing.
 use Prim.Native.Nat.{_-_}
 use mathlib.Core.List.{[]}
@@ -7,49 +7,20 @@ use borrow.Author.Needs.{needs}
 use lib.ListN.{length, getD}
 use Rattle.numbers.proofs.IntLaws.{plain}
 use Rattle.kinds.specs.Ranges.{atℤ}
-use Rattle.result.specs.Records.{marginAt}
-use Rattle.result.proofs.RecordsLaws.{Measured, measured-none, measured-more, measured-all, margin-most}
+use Rattle.text.proofs.MeasureLaws.{Measured, measured-none, measured-more, measured-all}
+use Rattle.result.specs.Records.{marginAt, resultLineMost}
+use Rattle.result.proofs.RecordsLaws.{margin-most}
 use Rattle.result.proofs.records.margins_length.Statement.{statement}
 use Rattle.result.proofs.records.margins_length.Tie as tie
 
 abbrev Inv-loop : tie.InvT-loop
-Inv-loop left total₀ i₀ total i = Measured (marginAt left) (length left) i total
+Inv-loop left total₀ i₀ total i = Measured (marginAt left) resultLineMost (length left) i total
 
 abbrev μ-loop : tie.MeasureT-loop
 μ-loop left total₀ i₀ total i = length left - i
 
 loop-holds : tie.Need-loop-holds Inv-loop μ-loop
-loop-holds c = measured-none _ _
-
-mul-margin-length : tie.Need-mul-margin-length Inv-loop μ-loop
-mul-margin-length c = omega arith
-
-index-1-margin-length : tie.Need-index-1-margin-length Inv-loop μ-loop
-index-1-margin-length c = omega arith
-
-index-2-margin-length : tie.Need-index-2-margin-length Inv-loop μ-loop
-index-2-margin-length c = search needs
-
-mul-margin-length-2 : tie.Need-mul-margin-length-2 Inv-loop μ-loop
-mul-margin-length-2 c = omega arith
-
-index-1-margin-length-2 : tie.Need-index-1-margin-length-2 Inv-loop μ-loop
-index-1-margin-length-2 c = omega arith
-
-index-2-margin-length-2 : tie.Need-index-2-margin-length-2 Inv-loop μ-loop
-index-2-margin-length-2 c = search needs
-
-mul-margin-length-3 : tie.Need-mul-margin-length-3 Inv-loop μ-loop
-mul-margin-length-3 c = omega arith
-
-index-1-margin-length-3 : tie.Need-index-1-margin-length-3 Inv-loop μ-loop
-index-1-margin-length-3 c = omega arith
-
-index-2-margin-length-3 : tie.Need-index-2-margin-length-3 Inv-loop μ-loop
-index-2-margin-length-3 c = search needs
-
-margin-length-requires : tie.Need-margin-length-requires Inv-loop μ-loop
-margin-length-requires c κs = search needs
+loop-holds c = measured-none _ _ _
 
 add-total : tie.Need-add-total Inv-loop μ-loop
 add-total c =
@@ -61,12 +32,6 @@ add-total c =
     let left = c .before .margin-length-arg3 .given in
     let added = simp (plain, state, ram, left) at (c .margin-length .ensures) in
     omega (arith, start .pre, at-loop .inv .few, at-loop .inv .summed .high, margin-most (at-loop .i) (atℤ row 0) (atℤ row 1) (atℤ row 2) (omega arith) state ram left)
-
-add-i : tie.Need-add-i Inv-loop μ-loop
-add-i c = omega arith
-
-loop-less : tie.Need-loop-less Inv-loop μ-loop
-loop-less c = omega arith
 
 loop-again : tie.Need-loop-again Inv-loop μ-loop
 loop-again c =
@@ -89,18 +54,18 @@ margins-length-spec =
     Inv-loop
     μ-loop
     loop-holds
-    mul-margin-length
-    index-1-margin-length
-    index-2-margin-length
-    mul-margin-length-2
-    index-1-margin-length-2
-    index-2-margin-length-2
-    mul-margin-length-3
-    index-1-margin-length-3
-    index-2-margin-length-3
-    margin-length-requires
+    (λ c. omega arith)
+    (λ c. omega arith)
+    (λ c. search needs)
+    (λ c. omega arith)
+    (λ c. omega arith)
+    (λ c. search needs)
+    (λ c. omega arith)
+    (λ c. omega arith)
+    (λ c. search needs)
+    (λ c κs. search needs)
     add-total
-    add-i
-    loop-less
+    (λ c. omega arith)
+    (λ c. omega arith)
     loop-again
     returns)

@@ -34,9 +34,6 @@ put-byte-requires-2 c κs =
     let atc = line-more (omega (arith, start .pre)) index (simp (toZ-ofZ, start .fits .atc) at (c .before .before .before .put-signed-field .ensures)) in
     room-last atc (start .pre)
 
-same-length : tie.Need-same-length
-same-length c = search needs
-
 returns : tie.Need-returns
 returns c =
     let start = c .before .before .before .before .before .before .before .before .before .before .before .before .before .before .before .before .before in
@@ -53,5 +50,5 @@ put-atc-spec =
     put-number-field-requires
     put-signed-field-requires
     put-byte-requires-2
-    same-length
+    (λ c. search needs)
     returns)

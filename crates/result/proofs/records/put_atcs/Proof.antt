@@ -21,27 +21,12 @@ abbrev μ-loop : tie.MeasureT-loop
 loop-holds : tie.Need-loop-holds Inv-loop μ-loop
 loop-holds c = (omega arith, lines-none _ _ _)
 
-mul-put-atc : tie.Need-mul-put-atc Inv-loop μ-loop
-mul-put-atc c = omega arith
-
-index-1-put-atc : tie.Need-index-1-put-atc Inv-loop μ-loop
-index-1-put-atc c = omega arith
-
-index-2-put-atc : tie.Need-index-2-put-atc Inv-loop μ-loop
-index-2-put-atc c = search needs
-
 put-atc-requires : tie.Need-put-atc-requires Inv-loop μ-loop
 put-atc-requires c κs =
     let start = c .before .before .before .before .before in
     let at-loop = c .before .before .before .loop in
     let atcs = start .args .atc .now in
     simp (plain, c .before .put-atc-arg .given) (lines-room (atcAt atcs) (at-loop .b) (length atcs) (omega arith) (start .pre) (at-loop .inv .1))
-
-add-b : tie.Need-add-b Inv-loop μ-loop
-add-b c = omega arith
-
-loop-less : tie.Need-loop-less Inv-loop μ-loop
-loop-less c = omega arith
 
 loop-again : tie.Need-loop-again Inv-loop μ-loop
 loop-again c =
@@ -67,12 +52,12 @@ put-atcs-spec =
     Inv-loop
     μ-loop
     loop-holds
-    mul-put-atc
-    index-1-put-atc
-    index-2-put-atc
+    (λ c. omega arith)
+    (λ c. omega arith)
+    (λ c. search needs)
     put-atc-requires
-    add-b
-    loop-less
+    (λ c. omega arith)
+    (λ c. omega arith)
     loop-again
     same-length
     returns)

@@ -9,17 +9,11 @@ use borrow.Author.Needs.{needs}
 use Rattle.result.proofs.records.put_left.Statement.{statement}
 use Rattle.result.proofs.records.put_left.Tie as tie
 
-same-requires : tie.Need-same-requires
-same-requires c κs = search needs
-
 put-signed-field-requires : tie.Need-put-signed-field-requires
 put-signed-field-requires c κs =
     let start = c .before .before .before .before in
     let e = left-is (start .args .state) (start .args .left) (sym (simp (toZ-ofZ, start .fits .state) at (c .before .before .same .ensures)) ∙ c .before .if1 .taken) in
     simp (toZ-ofZ, start .fits .left) (omega (arith, start .pre, ap length e))
-
-same-length : tie.Need-same-length
-same-length c = search needs
 
 returns : tie.Need-returns
 returns c =
@@ -33,9 +27,6 @@ put-dash-field-requires c κs =
     let e = left-dash (start .args .state) (start .args .left) (sym (simp (toZ-ofZ, start .fits .state) at (c .before .before .same .ensures)) ∙ c .before .if1 .left) in
     omega (arith, start .pre, ap length e)
 
-same-length-2 : tie.Need-same-length-2
-same-length-2 c = search needs
-
 returns-2 : tie.Need-returns-2
 returns-2 c =
     let start = c .before .before .before .before .before .before .before in
@@ -46,10 +37,10 @@ pub put-left-spec : {M : Type 1} → statement M
 put-left-spec =
     tie.close
     (tie.spec
-    same-requires
+    (λ c κs. search needs)
     put-signed-field-requires
-    same-length
+    (λ c. search needs)
     returns
     put-dash-field-requires
-    same-length-2
+    (λ c. search needs)
     returns-2)

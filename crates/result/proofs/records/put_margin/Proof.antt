@@ -70,9 +70,6 @@ put-left-requires c κs =
 put-byte-requires-2 : tie.Need-put-byte-requires-2
 put-byte-requires-2 c κs = room-last (left (c .before .before .before)) (c .before .before .before .before .before .before .before .before .before .before .before .before .before .before .before .before .before .before .before .before .before .before .pre)
 
-same-length : tie.Need-same-length
-same-length c = search needs
-
 returns : tie.Need-returns
 returns c = line-all (within (c .before .before .before .before .before .before .before .before .before .before .before .before .before .before .before .before .before .before .before .before .before .before .before .before .before)) (left (c .before .before .before .before .before .before)) (c .before .before .put-byte2 .ensures)
 
@@ -86,5 +83,5 @@ put-margin-spec =
     put-signed-field-requires-2
     put-left-requires
     put-byte-requires-2
-    same-length
+    (λ c. search needs)
     returns)

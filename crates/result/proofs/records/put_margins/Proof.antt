@@ -21,33 +21,6 @@ abbrev μ-loop : tie.MeasureT-loop
 loop-holds : tie.Need-loop-holds Inv-loop μ-loop
 loop-holds c = (omega arith, lines-none _ _ _)
 
-mul-put-margin : tie.Need-mul-put-margin Inv-loop μ-loop
-mul-put-margin c = omega arith
-
-index-1-put-margin : tie.Need-index-1-put-margin Inv-loop μ-loop
-index-1-put-margin c = omega arith
-
-index-2-put-margin : tie.Need-index-2-put-margin Inv-loop μ-loop
-index-2-put-margin c = search needs
-
-mul-put-margin-2 : tie.Need-mul-put-margin-2 Inv-loop μ-loop
-mul-put-margin-2 c = omega arith
-
-index-1-put-margin-2 : tie.Need-index-1-put-margin-2 Inv-loop μ-loop
-index-1-put-margin-2 c = omega arith
-
-index-2-put-margin-2 : tie.Need-index-2-put-margin-2 Inv-loop μ-loop
-index-2-put-margin-2 c = search needs
-
-mul-put-margin-3 : tie.Need-mul-put-margin-3 Inv-loop μ-loop
-mul-put-margin-3 c = omega arith
-
-index-1-put-margin-3 : tie.Need-index-1-put-margin-3 Inv-loop μ-loop
-index-1-put-margin-3 c = omega arith
-
-index-2-put-margin-3 : tie.Need-index-2-put-margin-3 Inv-loop μ-loop
-index-2-put-margin-3 c = search needs
-
 put-margin-requires : tie.Need-put-margin-requires Inv-loop μ-loop
 put-margin-requires c κs =
     let start = c .before .before .before .before .before .before .before in
@@ -55,12 +28,6 @@ put-margin-requires c κs =
     let lefts = start .args .left .now in
     simp (plain, c .before .before .before .put-margin-arg .given, c .before .before .put-margin-arg2 .given, c .before .put-margin-arg3 .given)
     (lines-room (marginAt lefts) (at-loop .i) (length lefts) (omega arith) (start .pre) (at-loop .inv .1))
-
-add-i : tie.Need-add-i Inv-loop μ-loop
-add-i c = omega arith
-
-loop-less : tie.Need-loop-less Inv-loop μ-loop
-loop-less c = omega arith
 
 loop-again : tie.Need-loop-again Inv-loop μ-loop
 loop-again c =
@@ -86,18 +53,18 @@ put-margins-spec =
     Inv-loop
     μ-loop
     loop-holds
-    mul-put-margin
-    index-1-put-margin
-    index-2-put-margin
-    mul-put-margin-2
-    index-1-put-margin-2
-    index-2-put-margin-2
-    mul-put-margin-3
-    index-1-put-margin-3
-    index-2-put-margin-3
+    (λ c. omega arith)
+    (λ c. omega arith)
+    (λ c. search needs)
+    (λ c. omega arith)
+    (λ c. omega arith)
+    (λ c. search needs)
+    (λ c. omega arith)
+    (λ c. omega arith)
+    (λ c. search needs)
     put-margin-requires
-    add-i
-    loop-less
+    (λ c. omega arith)
+    (λ c. omega arith)
     loop-again
     same-length
     returns)

@@ -28,13 +28,10 @@ put-rounds-requires c κs =
     let last = length (roundsLine (start .args .rounds)) in
     put-room (c .before .before .before .put-margins .ensures) last (put-room (c .before .before .before .before .before .before .before .put-atcs .ensures) (length (marginLines (start .args .left .now)) + last) (omega (arith, start .pre)))
 
-same-length : tie.Need-same-length
-same-length c = search needs
-
 returns : tie.Need-returns
 returns c = put-whole (text-put (c .before .before .before .before .before .before .before .before .before .before .before .before .before .args .atc .now) (c .before .before .before .before .before .before .before .before .before .before .before .before .before .args .left .now) (c .before .before .before .before .before .before .before .before .before .before .before .before .before .args .rounds) (c .before .before .before .before .before .before .before .before .before .before .put-atcs .ensures) (c .before .before .before .before .before .before .put-margins .ensures) (c .before .before .put-rounds .ensures))
 
 pub put-records-spec : {M : Type 1} → statement M
 put-records-spec =
     tie.close
-    (tie.spec put-atcs-requires put-margins-requires put-rounds-requires same-length returns)
+    (tie.spec put-atcs-requires put-margins-requires put-rounds-requires (λ c. search needs) returns)

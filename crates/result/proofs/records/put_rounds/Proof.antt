@@ -24,9 +24,6 @@ put-byte-requires-2 c κs =
     let letter = line-none (c .before .before .before .before .before .before .before .put-byte .ensures) in
     room-last (line-more (omega (arith, start .pre)) letter (c .before .before .before .put-number-field .ensures)) (start .pre)
 
-same-length : tie.Need-same-length
-same-length c = search needs
-
 returns : tie.Need-returns
 returns c =
     let start = c .before .before .before .before .before .before .before .before .before .before .before .before .before in
@@ -37,4 +34,4 @@ returns c =
 pub put-rounds-spec : {M : Type 1} → statement M
 put-rounds-spec =
     tie.close
-    (tie.spec put-byte-requires put-number-field-requires put-byte-requires-2 same-length returns)
+    (tie.spec put-byte-requires put-number-field-requires put-byte-requires-2 (λ c. search needs) returns)

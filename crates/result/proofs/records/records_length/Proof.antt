@@ -15,14 +15,18 @@ margins-length-requires c κs = c .before .pre .1
 add-result : tie.Need-add-result
 add-result c = omega (arith, c .before .atcs-length .ensures .1, c .margins-length .ensures .1)
 
-rounds-length-requires : tie.Need-rounds-length-requires
-rounds-length-requires c κs = search needs
-
 add-result-2 : tie.Need-add-result-2
 add-result-2 c = omega (arith, c .before .before .atcs-length .ensures .1, c .before .margins-length .ensures .1, c .rounds-length .ensures, rounds-length (c .before .before .before .args .rounds), decimal-u64 (c .before .before .before .args .rounds) (omega arith))
 
 returns : tie.Need-returns
-returns c = omega (arith, c .before .before .atcs-length .ensures .0, c .before .margins-length .ensures .0, c .rounds-length .ensures, text-length (c .before .before .before .args .atc .now) (c .before .before .before .args .left .now) (c .before .before .before .args .rounds))
+returns c =
+    let s = c .before .before .before .args in
+    let atcs = c .before .before .atcs-length .ensures in
+    let margins = c .before .margins-length .ensures in
+    let rounds = c .rounds-length .ensures in (
+      omega (arith, atcs .0, margins .0, rounds, text-length (s .atc .now) (s .left .now) (s .rounds)),
+      omega (arith, atcs .1, margins .1, rounds, rounds-length (s .rounds), decimal-u64 (s .rounds) (omega arith)),
+    )
 
 pub records-length-spec : {M : Type 1} → statement M
 records-length-spec =
@@ -31,6 +35,6 @@ records-length-spec =
     atcs-length-requires
     margins-length-requires
     add-result
-    rounds-length-requires
+    (λ c κs. search needs)
     add-result-2
     returns)

@@ -6,9 +6,6 @@ use borrow.Author.Needs.{needs}
 use Rattle.result.proofs.records.rounds_length.Statement.{statement}
 use Rattle.result.proofs.records.rounds_length.Tie as tie
 
-digit-count-requires : tie.Need-digit-count-requires
-digit-count-requires c κs = search needs
-
 add-result : tie.Need-add-result
 add-result c = omega (arith, c .digit-count .ensures, decimal-u64 (c .before .args .rounds) (omega arith))
 
@@ -16,4 +13,4 @@ returns : tie.Need-returns
 returns c = omega (arith, c .digit-count .ensures, rounds-length (c .before .args .rounds))
 
 pub rounds-length-spec : {M : Type 1} → statement M
-rounds-length-spec = tie.close (tie.spec digit-count-requires add-result returns)
+rounds-length-spec = tie.close (tie.spec (λ c κs. search needs) add-result returns)

@@ -4,7 +4,7 @@ use mathlib.Core.List.{[], _∷_}
 use native.Mathlib.Omega.{arith}
 use Rattle.text.specs.Written.{decimal}
 use Rattle.text.proofs.PutLaws.{line-none, line-more, line-all, room-first, room-more, room-last}
-use Rattle.result.specs.Result.{refusalText}
+use Rattle.result.specs.Refusal.{refusalText}
 use borrow.Author.Needs.{needs}
 use Rattle.result.proofs.refusal.put_why.Statement.{statement}
 use Rattle.result.proofs.refusal.put_why.Tie as tie
@@ -38,9 +38,6 @@ put-byte-requires-2 c κs =
     let place = line-more (omega arith) number (c .before .before .before .put-number-field2 .ensures) in
     room-last place (omega (arith, start .pre))
 
-same-length : tie.Need-same-length
-same-length c = search needs
-
 returns : tie.Need-returns
 unfolding refusalText
 returns c =
@@ -57,5 +54,5 @@ put-why-spec =
     put-number-field-requires
     put-number-field-requires-2
     put-byte-requires-2
-    same-length
+    (λ c. search needs)
     returns)

@@ -44,9 +44,6 @@ small : (c : tie.After-known-told Inv-loop μ-loop)
     Small (border .from) (border .to) (border .lta)
 small c = border-small _ _ _ _ _ _ (c .before .before .before .before .before .before .before .before .pre .1 .0) (held c)
 
-add-first : tie.Need-add-first Inv-loop μ-loop
-add-first c = omega arith
-
 loop-holds : tie.Need-loop-holds Inv-loop μ-loop
 loop-holds c =
     let zones = c .before .args .zones in
@@ -54,12 +51,6 @@ loop-holds c =
 
 line-at-requires : tie.Need-line-at-requires Inv-loop μ-loop
 line-at-requires c κs = c .before .loop .inv .within
-
-border-line-requires : tie.Need-border-line-requires Inv-loop μ-loop
-border-line-requires c κs = search needs
-
-enum-known-border : tie.Need-enum-known-border Inv-loop μ-loop
-enum-known-border c = search needs
 
 cast-t13 : tie.Need-cast-t13 Inv-loop μ-loop
 cast-t13 c = omega (arith, small (c .before))
@@ -76,9 +67,6 @@ mul-t17 c = omega (arith, c .before .before .before .before .before .before .bef
 slice-set-from-b : tie.Need-slice-set-from-b Inv-loop μ-loop
 slice-set-from-b c = omega (arith, c .before .before .before .before .before .before .before .before .before .loop .inv)
 
-enum-told : tie.Need-enum-told Inv-loop μ-loop
-enum-told c = search needs
-
 add-t19 : tie.Need-add-t19 Inv-loop μ-loop
 add-t19 c = omega (arith, c .before .before .before .before .before .loop .inv .high)
 
@@ -90,9 +78,6 @@ returns c =
     let zones = c .before .before .before .before .before .before .before .args .zones in
     let l = c .before .before .before .before .before .loop in
     stored-form (borderLine zones) (zoneLineNo + zones) _ _ _ _ _ _ _ (l .inv) (c .before .before .before .before .loop-test .taken) (line-said (c .before .before) ∙ ap saidBorder (c .enum-told .given .1))
-
-enum-told-2 : tie.Need-enum-told-2 Inv-loop μ-loop
-enum-told-2 c = search needs
 
 add-t21 : tie.Need-add-t21 Inv-loop μ-loop
 add-t21 c = omega (arith, c .before .before .before .before .before .loop .inv .high)
@@ -110,12 +95,6 @@ add-p : tie.Need-add-p Inv-loop μ-loop
 add-p c =
     let l = c .before .before .before .before .before .before .before .before .before .loop in
     rw (c .before .before .before .before .before .before .before .line-at .ensures) (omega (arith, after-within (c .before .before .before .before .before .before .before .before .before .before .before .args .text .now) (l .p) (l .inv .within)))
-
-add-i : tie.Need-add-i Inv-loop μ-loop
-add-i c = omega arith
-
-loop-less : tie.Need-loop-less Inv-loop μ-loop
-loop-less c = omega arith
 
 loop-again : tie.Need-loop-again Inv-loop μ-loop
 loop-again c =
@@ -138,27 +117,27 @@ borders-read-spec =
     (tie.spec
     Inv-loop
     μ-loop
-    add-first
+    (λ c. omega arith)
     loop-holds
     line-at-requires
-    border-line-requires
-    enum-known-border
+    (λ c κs. search needs)
+    (λ c. search needs)
     cast-t13
     cast-t14
     cast-t15
     mul-t17
     slice-set-from-b
-    enum-told
+    (λ c. search needs)
     add-t19
     same-length
     returns
-    enum-told-2
+    (λ c. search needs)
     add-t21
     same-length-2
     returns-2
     add-p
-    add-i
-    loop-less
+    (λ c. omega arith)
+    (λ c. omega arith)
     loop-again
     same-length-3
     returns-3)

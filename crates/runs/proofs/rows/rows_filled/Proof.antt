@@ -49,12 +49,6 @@ add-row-filled c = omega (arith, room (c .before))
 mul-row-filled : tie.Need-mul-row-filled Inv-loop μ-loop
 mul-row-filled c = omega (arith, room (c .before))
 
-sub-row-filled : tie.Need-sub-row-filled Inv-loop μ-loop
-sub-row-filled c = search needs
-
-part-row-filled-start : tie.Need-part-row-filled-start Inv-loop μ-loop
-part-row-filled-start c = search needs
-
 part-row-filled-end : tie.Need-part-row-filled-end Inv-loop μ-loop
 part-row-filled-end c = omega (arith, room (c .before))
 
@@ -66,20 +60,8 @@ row-filled-requires c κs =
     let n = lent (c .before .before) in
     (omega (arith, n, start .pre .3), omega (arith, n, start .pre .4), filled-good (a .zones) (a .text .now) (a .at) (length (a .c .now)) (l .c) (l .f) (l .p) (l .i) (l .inv) (c .before .before .loop-test .taken) _ (c .before .line-at .ensures) _ n)
 
-mul-t19 : tie.Need-mul-t19 Inv-loop μ-loop
-mul-t19 c = search needs
-
 slice-set-from-c : tie.Need-slice-set-from-c Inv-loop μ-loop
 slice-set-from-c c = omega (arith, c .before .before .before .before .before .loop .inv .rows-long)
-
-add-p : tie.Need-add-p Inv-loop μ-loop
-add-p c = search needs
-
-add-i : tie.Need-add-i Inv-loop μ-loop
-add-i c = search needs
-
-loop-less : tie.Need-loop-less Inv-loop μ-loop
-loop-less c = search needs
 
 loop-again : tie.Need-loop-again Inv-loop μ-loop
 loop-again c =
@@ -112,15 +94,15 @@ rows-filled-spec =
     mul-start
     add-row-filled
     mul-row-filled
-    sub-row-filled
-    part-row-filled-start
+    (λ c. search needs)
+    (λ c. search needs)
     part-row-filled-end
     row-filled-requires
-    mul-t19
+    (λ c. search needs)
     slice-set-from-c
-    add-p
-    add-i
-    loop-less
+    (λ c. search needs)
+    (λ c. search needs)
+    (λ c. search needs)
     loop-again
     same-length
     same-length-2

@@ -39,44 +39,17 @@ loop-holds c =
 line-at-requires : tie.Need-line-at-requires Inv-loop μ-loop
 line-at-requires c κs = c .before .loop .inv .within
 
-row-judged-requires : tie.Need-row-judged-requires Inv-loop μ-loop
-row-judged-requires c κs = search needs
-
-enum-told : tie.Need-enum-told Inv-loop μ-loop
-enum-told c = search needs
-
-enum-told-2 : tie.Need-enum-told-2 Inv-loop μ-loop
-enum-told-2 c = search needs
-
-add-t11 : tie.Need-add-t11 Inv-loop μ-loop
-add-t11 c = search needs
-
 returns : tie.Need-returns Inv-loop μ-loop
 returns c =
     let a = c .before .before .before .before .before .before .before .args in
     let l = c .before .before .before .before .before .loop in
     passed-line (rowLine (a .zones)) (a .first) endOf end-drops (a .text .now) (a .at) (a .count) (l .i) (l .p) (l .inv) (c .before .before .before .before .loop-test .taken) form (said-form _ (judged (c .before .before) ∙ c .enum-told2 .given .1))
 
-enum-told-3 : tie.Need-enum-told-3 Inv-loop μ-loop
-enum-told-3 c = search needs
-
-add-t13 : tie.Need-add-t13 Inv-loop μ-loop
-add-t13 c = search needs
-
 returns-2 : tie.Need-returns-2 Inv-loop μ-loop
 returns-2 c =
     let a = c .before .before .before .before .before .before .before .args in
     let l = c .before .before .before .before .before .loop in
     passed-line (rowLine (a .zones)) (a .first) endOf end-drops (a .text .now) (a .at) (a .count) (l .i) (l .p) (l .inv) (c .before .before .before .before .loop-test .taken) range (said-range _ (judged (c .before .before) ∙ c .enum-told3 .given .1))
-
-add-p : tie.Need-add-p Inv-loop μ-loop
-add-p c = search needs
-
-add-i : tie.Need-add-i Inv-loop μ-loop
-add-i c = search needs
-
-loop-less : tie.Need-loop-less Inv-loop μ-loop
-loop-less c = search needs
 
 loop-again : tie.Need-loop-again Inv-loop μ-loop
 loop-again c =
@@ -99,16 +72,16 @@ rows-judged-spec =
     μ-loop
     loop-holds
     line-at-requires
-    row-judged-requires
-    enum-told
-    enum-told-2
-    add-t11
+    (λ c κs. search needs)
+    (λ c. search needs)
+    (λ c. search needs)
+    (λ c. search needs)
     returns
-    enum-told-3
-    add-t13
+    (λ c. search needs)
+    (λ c. search needs)
     returns-2
-    add-p
-    add-i
-    loop-less
+    (λ c. search needs)
+    (λ c. search needs)
+    (λ c. search needs)
     loop-again
     returns-3)

@@ -35,20 +35,11 @@ loop-holds c = stored-none zoneLine zoneLineNo _ _ _ (c .before .pre .0)
 line-at-requires : tie.Need-line-at-requires Inv-loop μ-loop
 line-at-requires c κs = c .before .loop .inv .within
 
-zone-line-requires : tie.Need-zone-line-requires Inv-loop μ-loop
-zone-line-requires c κs = search needs
-
-enum-known-net : tie.Need-enum-known-net Inv-loop μ-loop
-enum-known-net c = search needs
-
 mul-net : tie.Need-mul-net Inv-loop μ-loop
 mul-net c = omega (arith, c .before .before .before .before .before .before .loop .inv, c .before .before .before .before .before .before .before .before .good)
 
 slice-set-from-net : tie.Need-slice-set-from-net Inv-loop μ-loop
 slice-set-from-net c = omega (arith, c .before .before .before .before .before .before .loop .inv)
-
-enum-told : tie.Need-enum-told Inv-loop μ-loop
-enum-told c = search needs
 
 same-length : tie.Need-same-length Inv-loop μ-loop
 same-length c = c .before .before .before .before .before .loop .inv .as-long
@@ -58,9 +49,6 @@ returns c =
     let l = c .before .before .before .before .before .loop in
     absurd (good-never _ _ (c .before .before .before .before .before .before .before .pre .1)
     (stored-form zoneLine zoneLineNo _ _ _ _ _ _ _ (l .inv) (c .before .before .before .before .loop-test .taken) (line-said (c .before .before) ∙ ap saidZone (c .enum-told .given .1))))
-
-enum-told-2 : tie.Need-enum-told-2 Inv-loop μ-loop
-enum-told-2 c = search needs
 
 same-length-2 : tie.Need-same-length-2 Inv-loop μ-loop
 same-length-2 c = c .before .before .before .before .before .loop .inv .as-long
@@ -75,12 +63,6 @@ add-p : tie.Need-add-p Inv-loop μ-loop
 add-p c =
     let l = c .before .before .before .before .before .before .loop in
     rw (c .before .before .before .before .line-at .ensures) (omega (arith, after-within (c .before .before .before .before .before .before .before .before .args .text .now) (l .p) (l .inv .within)))
-
-add-i : tie.Need-add-i Inv-loop μ-loop
-add-i c = omega arith
-
-loop-less : tie.Need-loop-less Inv-loop μ-loop
-loop-less c = omega arith
 
 loop-again : tie.Need-loop-again Inv-loop μ-loop
 loop-again c =
@@ -104,19 +86,19 @@ zones-filled-spec =
     μ-loop
     loop-holds
     line-at-requires
-    zone-line-requires
-    enum-known-net
+    (λ c κs. search needs)
+    (λ c. search needs)
     mul-net
     slice-set-from-net
-    enum-told
+    (λ c. search needs)
     same-length
     returns
-    enum-told-2
+    (λ c. search needs)
     same-length-2
     returns-2
     add-p
-    add-i
-    loop-less
+    (λ c. omega arith)
+    (λ c. omega arith)
     loop-again
     same-length-3
     returns-3)

@@ -34,28 +34,10 @@ loop-holds c = passed-start zoneLine zoneLineNo endOf end-drops _ _ _ (c .before
 line-at-requires : tie.Need-line-at-requires Inv-loop μ-loop
 line-at-requires c κs = c .before .loop .inv .within
 
-zone-line-requires : tie.Need-zone-line-requires Inv-loop μ-loop
-zone-line-requires c κs = search needs
-
-enum-told : tie.Need-enum-told Inv-loop μ-loop
-enum-told c = search needs
-
-enum-told-2 : tie.Need-enum-told-2 Inv-loop μ-loop
-enum-told-2 c = search needs
-
-add-t9 : tie.Need-add-t9 Inv-loop μ-loop
-add-t9 c = omega arith
-
 returns : tie.Need-returns Inv-loop μ-loop
 returns c =
     let l = c .before .before .before .before .before .loop in
     passed-line zoneLine zoneLineNo endOf end-drops _ _ _ _ _ (l .inv) (c .before .before .before .before .loop-test .taken) form (line-said (c .before .before) ∙ ap saidZone (c .enum-told2 .given .1))
-
-enum-told-3 : tie.Need-enum-told-3 Inv-loop μ-loop
-enum-told-3 c = search needs
-
-add-t11 : tie.Need-add-t11 Inv-loop μ-loop
-add-t11 c = omega arith
 
 returns-2 : tie.Need-returns-2 Inv-loop μ-loop
 returns-2 c =
@@ -66,12 +48,6 @@ add-p : tie.Need-add-p Inv-loop μ-loop
 add-p c =
     let l = c .before .before .before .before .before .loop in
     rw (c .before .before .before .line-at .ensures) (omega (arith, after-within (c .before .before .before .before .before .before .before .args .text .now) (l .p) (l .inv .within)))
-
-add-i : tie.Need-add-i Inv-loop μ-loop
-add-i c = omega arith
-
-loop-less : tie.Need-loop-less Inv-loop μ-loop
-loop-less c = omega arith
 
 loop-again : tie.Need-loop-again Inv-loop μ-loop
 loop-again c =
@@ -90,16 +66,16 @@ zones-judged-spec =
     μ-loop
     loop-holds
     line-at-requires
-    zone-line-requires
-    enum-told
-    enum-told-2
-    add-t9
+    (λ c κs. search needs)
+    (λ c. search needs)
+    (λ c. search needs)
+    (λ c. omega arith)
     returns
-    enum-told-3
-    add-t11
+    (λ c. search needs)
+    (λ c. omega arith)
     returns-2
     add-p
-    add-i
-    loop-less
+    (λ c. omega arith)
+    (λ c. omega arith)
     loop-again
     returns-3)

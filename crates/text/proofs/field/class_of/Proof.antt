@@ -6,9 +6,6 @@ use borrow.Author.Tests.{le-ltb, lt-ltb, le-leb, lt-leb, ne-eqb}
 use Rattle.text.proofs.field.class_of.Statement.{statement}
 use Rattle.text.proofs.field.class_of.Tie as tie
 
-cast-t5 : tie.Need-cast-t5
-cast-t5 c = search needs
-
 returns : tie.Need-returns
 returns c = rw (c .match .keys1)
 
@@ -37,4 +34,4 @@ returns-6 c =
 
 pub class-of-spec : {M : Type 1} → statement M
 class-of-spec =
-    tie.close (tie.spec cast-t5 returns returns-2 returns-3 returns-4 returns-5 returns-6)
+    tie.close (tie.spec (λ c. search needs) returns returns-2 returns-3 returns-4 returns-5 returns-6)

@@ -8,15 +8,6 @@ use Rattle.text.proofs.ClassLaws.{class-minus, class-not-minus}
 use Rattle.text.proofs.field.has_minus.Statement.{statement}
 use Rattle.text.proofs.field.has_minus.Tie as tie
 
-byte-at-requires : tie.Need-byte-at-requires
-byte-at-requires c κs = search needs
-
-class-of-requires : tie.Need-class-of-requires
-class-of-requires c κs = search needs
-
-enum-told : tie.Need-enum-told
-enum-told c = search needs
-
 returns : tie.Need-returns
 returns c =
     let a = c .before .before .before .before .args in
@@ -34,4 +25,4 @@ returns-2 c =
 
 pub has-minus-spec : {M : Type 1} → statement M
 has-minus-spec =
-    tie.close (tie.spec byte-at-requires class-of-requires enum-told returns returns-2)
+    tie.close (tie.spec (λ c κs. search needs) (λ c κs. search needs) (λ c. search needs) returns returns-2)

@@ -12,9 +12,6 @@ use Rattle.text.proofs.field.minus.Tie as tie
 small : (c : tie.Else1) → c .before .before .number .given .0 .0 < 10 ^ 10
 small c = rw (c .before .before .number .given .1) at (c .before .before .before .before .pre)
 
-enum-known-number : tie.Need-enum-known-number
-enum-known-number c = search needs
-
 returns : tie.Need-returns
 returns c = rw (c .before .before .number .given .1, c .if1 .taken)
 
@@ -25,9 +22,6 @@ sub-t10 : tie.Need-sub-t10
 sub-t10 c =
     let v = c .before .before .number .given .0 .0 in
     rw (read-back v (small c), +ℤ-idl (negℤ (pos v))) (fits-neg v (small c))
-
-enum-known-number-2 : tie.Need-enum-known-number-2
-enum-known-number-2 c = search needs
 
 returns-2 : tie.Need-returns-2
 returns-2 c = rw (c .before .before .number2 .given .1, c .if2 .taken)
@@ -44,11 +38,11 @@ pub minus-spec : {M : Type 1} → statement M
 minus-spec =
     tie.close
     (tie.spec
-    enum-known-number
+    (λ c. search needs)
     returns
     cast-t9
     sub-t10
-    enum-known-number-2
+    (λ c. search needs)
     returns-2
     returns-3
     returns-4)

@@ -51,21 +51,6 @@ small c =
 loop-holds : tie.Need-loop-holds Inv-loop μ-loop
 loop-holds c = upto-none (c .before .args .line .now) (c .before .args .at)
 
-shared-slice-read-class-of : tie.Need-shared-slice-read-class-of Inv-loop μ-loop
-shared-slice-read-class-of c = search needs
-
-class-of-requires : tie.Need-class-of-requires Inv-loop μ-loop
-class-of-requires c κs = search needs
-
-enum-known-d : tie.Need-enum-known-d Inv-loop μ-loop
-enum-known-d c = search needs
-
-shared-slice-read-if2 : tie.Need-shared-slice-read-if2 Inv-loop μ-loop
-shared-slice-read-if2 c = search needs
-
-add-t16 : tie.Need-add-t16 Inv-loop μ-loop
-add-t16 c = search needs
-
 returns : tie.Need-returns Inv-loop μ-loop
 returns c =
     let at-loop = c .before .before .before .before .before .before .before in
@@ -92,9 +77,6 @@ returns-3 c =
 sub-full : tie.Need-sub-full Inv-loop μ-loop
 sub-full c = omega (arith, c .before .before .before .before .before .before .loop .inv .low)
 
-full-requires : tie.Need-full-requires Inv-loop μ-loop
-full-requires c κs = search needs
-
 returns-4 : tie.Need-returns-4 Inv-loop μ-loop
 returns-4 c =
     let at-loop = c .before .before .before .before .before .before .before .before in
@@ -111,12 +93,6 @@ add-v c =
     let at-loop = c .before .before .before .before .before .before .before .before in
     let d = digit (c .before .before) in
     omega (arith, small c, digit-range (getD (at-loop .before .before .args .line .now) (at-loop .loop .i) 0) (d .0))
-
-add-i : tie.Need-add-i Inv-loop μ-loop
-add-i c = search needs
-
-loop-less : tie.Need-loop-less Inv-loop μ-loop
-loop-less c = search needs
 
 loop-again : tie.Need-loop-again Inv-loop μ-loop
 loop-again c =
@@ -140,20 +116,20 @@ number-at-spec =
     Inv-loop
     μ-loop
     loop-holds
-    shared-slice-read-class-of
-    class-of-requires
-    enum-known-d
-    shared-slice-read-if2
-    add-t16
+    (λ c. search needs)
+    (λ c κs. search needs)
+    (λ c. search needs)
+    (λ c. search needs)
+    (λ c. search needs)
     returns
     returns-2
     returns-3
     sub-full
-    full-requires
+    (λ c κs. search needs)
     returns-4
     mul-v
     add-v
-    add-i
-    loop-less
+    (λ c. search needs)
+    (λ c. search needs)
     loop-again
     returns-5)

@@ -14,16 +14,10 @@ use Rattle.text.proofs.field.share_at.Tie as tie
 dash : (c : tie.Then1) → let a = c .before .before .before .args in eqb (getD (a .line .now) (a .at) 0) 45 ≡ true
 dash c = sym (c .before .has-minus .ensures) ∙ c .if1 .taken
 
-has-minus-requires : tie.Need-has-minus-requires
-has-minus-requires c κs = search needs
-
 add-byte-at : tie.Need-add-byte-at
 add-byte-at c =
     let a = c .before .before .before .args in
     omega (arith, dash-within (a .line .now) (a .at) (dash c))
-
-byte-at-requires : tie.Need-byte-at-requires
-byte-at-requires c κs = search needs
 
 add-t8 : tie.Need-add-t8
 add-t8 c =
@@ -45,9 +39,6 @@ returns-2 c =
     let a = c .before .before .before .before .before .args in
     share-other (a .line .now) (a .at) (a .stop) (dash (c .before .before)) (λ e. c .if2 .left (c .before .byte-at .ensures ∙ e))
 
-number-at-requires : tie.Need-number-at-requires
-number-at-requires c κs = search needs
-
 plus-requires : tie.Need-plus-requires
 plus-requires c κs =
     let a = c .before .before .before .before .args in
@@ -63,13 +54,13 @@ pub share-at-spec : {M : Type 1} → statement M
 share-at-spec =
     tie.close
     (tie.spec
-    has-minus-requires
+    (λ c κs. search needs)
     add-byte-at
-    byte-at-requires
+    (λ c κs. search needs)
     add-t8
     returns
     add-t6
     returns-2
-    number-at-requires
+    (λ c κs. search needs)
     plus-requires
     returns-3)

@@ -18,16 +18,10 @@ use Rattle.text.proofs.field.signed_at.Tie as tie
 dash : (c : tie.Then1) → let a = c .before .before .before .args in eqb (getD (a .line .now) (a .at) 0) 45 ≡ true
 dash c = sym (c .before .has-minus .ensures) ∙ c .if1 .taken
 
-has-minus-requires : tie.Need-has-minus-requires
-has-minus-requires c κs = search needs
-
 add-byte-at : tie.Need-add-byte-at
 add-byte-at c =
     let a = c .before .before .before .args in
     omega (arith, dash-within (a .line .now) (a .at) (dash c))
-
-byte-at-requires : tie.Need-byte-at-requires
-byte-at-requires c κs = search needs
 
 add-minus : tie.Need-add-minus
 add-minus c =
@@ -38,9 +32,6 @@ add-number-at : tie.Need-add-number-at
 add-number-at c =
     let a = c .before .before .before .before .args in
     omega (arith, dash-within (a .line .now) (a .at) (dash (c .before)))
-
-number-at-requires : tie.Need-number-at-requires
-number-at-requires c κs = search needs
 
 minus-requires : tie.Need-minus-requires
 minus-requires c κs =
@@ -53,9 +44,6 @@ returns c =
     c .minus .ensures
     ∙ ap₂ (λ (first : ℕ) (n : Number). negative first (a .at + 1) n) (c .before .before .byte-at .ensures) (c .before .number-at .ensures)
     ∙ signed-minus (a .line .now) (a .at) (a .stop) (dash (c .before .before .before))
-
-number-at-requires-2 : tie.Need-number-at-requires-2
-number-at-requires-2 c κs = search needs
 
 plus-requires : tie.Need-plus-requires
 plus-requires c κs =
@@ -72,14 +60,14 @@ pub signed-at-spec : {M : Type 1} → statement M
 signed-at-spec =
     tie.close
     (tie.spec
-    has-minus-requires
+    (λ c κs. search needs)
     add-byte-at
-    byte-at-requires
+    (λ c κs. search needs)
     add-minus
     add-number-at
-    number-at-requires
+    (λ c κs. search needs)
     minus-requires
     returns
-    number-at-requires-2
+    (λ c κs. search needs)
     plus-requires
     returns-2)

@@ -9,12 +9,6 @@ use Rattle.text.proofs.line.headed.Tie as tie
 returns : tie.Need-returns
 returns c = rw (lt-leb 2 (length (c .before .args .line .now)) (c .if1 .taken))
 
-shared-slice-read-if2 : tie.Need-shared-slice-read-if2
-shared-slice-read-if2 c = search needs
-
-shared-slice-read-result : tie.Need-shared-slice-read-result
-shared-slice-read-result c = search needs
-
 returns-2 : tie.Need-returns-2
 returns-2 c =
     let a = c .before .before .before .before .args in
@@ -27,4 +21,4 @@ returns-3 c =
 
 pub headed-spec : {M : Type 1} → statement M
 headed-spec =
-    tie.close (tie.spec returns shared-slice-read-if2 shared-slice-read-result returns-2 returns-3)
+    tie.close (tie.spec returns (λ c. search needs) (λ c. search needs) returns-2 returns-3)

@@ -18,9 +18,6 @@ loop-holds c = counted-none _
 add-count : tie.Need-add-count Inv-loop μ-loop
 add-count c = omega (arith, counted-few (c .before .loop .inv) (omega (arith, c .before .before .fits .n)))
 
-loop-less : tie.Need-loop-less Inv-loop μ-loop
-loop-less c = omega arith
-
 loop-again : tie.Need-loop-again Inv-loop μ-loop
 loop-again c = counted-more (c .before .loop .inv) (omega arith)
 
@@ -28,4 +25,4 @@ returns : tie.Need-returns Inv-loop μ-loop
 returns c = counted-all (c .before .loop .inv) (omega arith)
 
 pub digit-count-spec : {M : Type 1} → statement M
-digit-count-spec = tie.close (tie.spec Inv-loop μ-loop loop-holds add-count loop-less loop-again returns)
+digit-count-spec = tie.close (tie.spec Inv-loop μ-loop loop-holds add-count (λ c. omega arith) loop-again returns)

@@ -6,15 +6,6 @@ use Rattle.text.proofs.PutLaws.{put-more}
 use Rattle.text.proofs.put.put_dash_field.Statement.{statement}
 use Rattle.text.proofs.put.put_dash_field.Tie as tie
 
-put-byte-requires : tie.Need-put-byte-requires
-put-byte-requires c κs = search needs
-
-put-byte-requires-2 : tie.Need-put-byte-requires-2
-put-byte-requires-2 c κs = search needs
-
-same-length : tie.Need-same-length
-same-length c = search needs
-
 returns : tie.Need-returns
 returns c =
     let dash = c .before .before in
@@ -23,4 +14,4 @@ returns c =
 
 pub put-dash-field-spec : {M : Type 1} → statement M
 put-dash-field-spec =
-    tie.close (tie.spec put-byte-requires put-byte-requires-2 same-length returns)
+    tie.close (tie.spec (λ c κs. search needs) (λ c κs. search needs) (λ c. search needs) returns)

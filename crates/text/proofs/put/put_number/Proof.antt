@@ -27,22 +27,13 @@ loop-holds c = digits-none _ _ _ _ (ap (λ (k : ℕ). c .before .before .args .a
 sub-i : tie.Need-sub-i Inv-loop μ-loop
 sub-i c = omega (arith, digits-some (c .before .loop .inv))
 
-digit-requires : tie.Need-digit-requires Inv-loop μ-loop
-digit-requires c κs = omega arith
-
 slice-write-out : tie.Need-slice-write-out Inv-loop μ-loop
 slice-write-out c =
     let u = c .before .before .loop .inv in
     omega (arith, digits-some u, u .place, u .room)
 
-loop-less : tie.Need-loop-less Inv-loop μ-loop
-loop-less c = omega arith
-
 loop-again : tie.Need-loop-again Inv-loop μ-loop
 loop-again c = digits-more (c .before .before .loop .inv) _ (c .digit .ensures) (omega arith)
-
-digit-requires-2 : tie.Need-digit-requires-2 Inv-loop μ-loop
-digit-requires-2 c κs = omega arith
 
 slice-write-out-2 : tie.Need-slice-write-out-2 Inv-loop μ-loop
 slice-write-out-2 c =
@@ -67,11 +58,11 @@ put-number-spec =
     add-next
     loop-holds
     sub-i
-    digit-requires
+    (λ c κs. omega arith)
     slice-write-out
-    loop-less
+    (λ c. omega arith)
     loop-again
-    digit-requires-2
+    (λ c κs. omega arith)
     slice-write-out-2
     same-length
     returns)

@@ -22,9 +22,6 @@ above t =
     let f = t .before .before .before .fits .z in
     (simp (toZ-ofZ, f) at (t .before .magnitude .ensures), simp (toZ-ofZ, f) at (t .if1 .left))
 
-magnitude-requires : tie.Need-magnitude-requires
-magnitude-requires c κs = search needs
-
 put-byte-requires : tie.Need-put-byte-requires
 put-byte-requires c κs =
     let test = c .before in
@@ -37,9 +34,6 @@ put-number-requires c κs =
     let test = minus .before .before in
     let start = test .before .before .before in
     omega (arith, start .pre, minus .put-byte .ensures .after, minus .put-byte .kept .1 .0, below-length (start .args .z) (below test .0) (below test .1))
-
-same-length : tie.Need-same-length
-same-length c = search needs
 
 returns : tie.Need-returns
 returns c =
@@ -55,9 +49,6 @@ put-number-requires-2 c κs =
     let start = test .before .before .before in
     omega (arith, start .pre, above-length (start .args .z) (above test .0) (above test .1))
 
-same-length-2 : tie.Need-same-length-2
-same-length-2 c = search needs
-
 returns-2 : tie.Need-returns-2
 returns-2 c =
     let digits = c .before .before in
@@ -66,4 +57,4 @@ returns-2 c =
     above-put (start .args .z) (above test .0) (above test .1) (digits .put-number2 .ensures)
 
 pub put-signed-spec : {M : Type 1} → statement M
-put-signed-spec = tie.close (tie.spec magnitude-requires put-byte-requires put-number-requires same-length returns put-number-requires-2 same-length-2 returns-2)
+put-signed-spec = tie.close (tie.spec (λ c κs. search needs) put-byte-requires put-number-requires (λ c. search needs) returns put-number-requires-2 (λ c. search needs) returns-2)

@@ -7,17 +7,11 @@ use Rattle.text.proofs.PutLaws.{put-more}
 use Rattle.text.proofs.put.put_signed_field.Statement.{statement}
 use Rattle.text.proofs.put.put_signed_field.Tie as tie
 
-put-byte-requires : tie.Need-put-byte-requires
-put-byte-requires c κs = search needs
-
 put-signed-requires : tie.Need-put-signed-requires
 put-signed-requires c κs =
     let tabbed = c .before .before .before in
     let start = tabbed .before .before .before in
     simp (toZ-ofZ, start .fits .z) (omega (arith, start .pre, tabbed .put-byte .ensures .after))
-
-same-length : tie.Need-same-length
-same-length c = search needs
 
 returns : tie.Need-returns
 returns c =
@@ -28,4 +22,4 @@ returns c =
 
 pub put-signed-field-spec : {M : Type 1} → statement M
 put-signed-field-spec =
-    tie.close (tie.spec put-byte-requires put-signed-requires same-length returns)
+    tie.close (tie.spec (λ c κs. search needs) put-signed-requires (λ c. search needs) returns)

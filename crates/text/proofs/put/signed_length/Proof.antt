@@ -8,12 +8,6 @@ use Rattle.text.proofs.DigitLaws.{decimal-u64, below-length, above-leng
 use Rattle.text.proofs.put.signed_length.Statement.{statement}
 use Rattle.text.proofs.put.signed_length.Tie as tie
 
-magnitude-requires : tie.Need-magnitude-requires
-magnitude-requires c κs = search needs
-
-digit-count-requires : tie.Need-digit-count-requires
-digit-count-requires c κs = search needs
-
 add-result : tie.Need-add-result
 add-result c =
     let digits = c .before .before .magnitude in
@@ -35,4 +29,4 @@ returns-2 c =
 
 pub signed-length-spec : {M : Type 1} → statement M
 signed-length-spec =
-    tie.close (tie.spec magnitude-requires digit-count-requires add-result returns returns-2)
+    tie.close (tie.spec (λ c κs. search needs) (λ c κs. search needs) add-result returns returns-2)

@@ -27,23 +27,11 @@ counted c = c .border-length .ensures
 loop-holds : tie.Need-loop-holds Inv-loop μ-loop
 loop-holds c = summed-none _ _
 
-mul-border-length : tie.Need-mul-border-length Inv-loop μ-loop
-mul-border-length c = omega arith
-
-shared-slice-copy-out-border-length : tie.Need-shared-slice-copy-out-border-length Inv-loop μ-loop
-shared-slice-copy-out-border-length c = omega arith
-
 border-length-requires : tie.Need-border-length-requires Inv-loop μ-loop
 border-length-requires c κs = omega (arith, within (c .before))
 
 add-sum : tie.Need-add-sum Inv-loop μ-loop
 add-sum c = omega (arith, within (c .before .before), counted c)
-
-add-i : tie.Need-add-i Inv-loop μ-loop
-add-i c = omega arith
-
-loop-less : tie.Need-loop-less Inv-loop μ-loop
-loop-less c = omega arith
 
 loop-again : tie.Need-loop-again Inv-loop μ-loop
 loop-again c = summed-more (c .before .before .before .loop .inv) _ (omega arith) (counted c)
@@ -52,4 +40,4 @@ returns : tie.Need-returns Inv-loop μ-loop
 returns c = let s = c .before .before in sum-lines (borderTextAt (s .args .b .now)) (length (s .args .b .now)) (s .pre) (c .before .loop .inv) (omega arith)
 
 pub borders-length-spec : {M : Type 1} → statement M
-borders-length-spec = tie.close (tie.spec Inv-loop μ-loop loop-holds mul-border-length shared-slice-copy-out-border-length border-length-requires add-sum add-i loop-less loop-again returns)
+borders-length-spec = tie.close (tie.spec Inv-loop μ-loop loop-holds (λ c. omega arith) (λ c. omega arith) border-length-requires add-sum (λ c. omega arith) (λ c. omega arith) loop-again returns)

@@ -34,20 +34,11 @@ loop-holds c = summed-none _ _
 mul-start : tie.Need-mul-start Inv-loop μ-loop
 mul-start c = omega (arith, stretch-end (c .before .before .args .zones) (length (c .before .before .args .c .now)) (c .before .loop .i) (omega arith), c .before .before .pre .0)
 
-mul-row-length : tie.Need-mul-row-length Inv-loop μ-loop
-mul-row-length c = omega arith
-
-shared-slice-copy-out-row-length : tie.Need-shared-slice-copy-out-row-length Inv-loop μ-loop
-shared-slice-copy-out-row-length c = omega arith
-
 add-row-length : tie.Need-add-row-length Inv-loop μ-loop
 add-row-length c = omega (arith, stretch-end (c .before .before .before .args .zones) (length (c .before .before .before .args .c .now)) (c .before .before .loop .i) (omega arith), c .before .before .before .pre .0)
 
 mul-row-length-2 : tie.Need-mul-row-length-2 Inv-loop μ-loop
 mul-row-length-2 c = omega (arith, stretch-end (c .before .before .before .args .zones) (length (c .before .before .before .args .c .now)) (c .before .before .loop .i) (omega arith), c .before .before .before .pre .0)
-
-sub-row-length : tie.Need-sub-row-length Inv-loop μ-loop
-sub-row-length c = omega arith
 
 part-row-length-start : tie.Need-part-row-length-start Inv-loop μ-loop
 part-row-length-start c = omega (arith, stretch-end (c .before .before .before .args .zones) (length (c .before .before .before .args .c .now)) (c .before .before .loop .i) (omega arith), c .before .before .before .pre .0)
@@ -66,12 +57,6 @@ row-length-requires c κs =
 add-sum : tie.Need-add-sum Inv-loop μ-loop
 add-sum c = omega (arith, within (c .before .before .before), counted c)
 
-add-i : tie.Need-add-i Inv-loop μ-loop
-add-i c = omega arith
-
-loop-less : tie.Need-loop-less Inv-loop μ-loop
-loop-less c = omega arith
-
 loop-again : tie.Need-loop-again Inv-loop μ-loop
 loop-again c = summed-more (c .before .before .before .before .loop .inv) _ (omega arith) (counted c)
 
@@ -79,4 +64,4 @@ returns : tie.Need-returns Inv-loop μ-loop
 returns c = let s = c .before .before in sum-lines (rowTextAt (s .args .zones) (s .args .c .now) (s .args .f .now)) (length (s .args .c .now)) (s .pre .3) (c .before .loop .inv) (omega arith)
 
 pub rows-length-spec : {M : Type 1} → statement M
-rows-length-spec = tie.close (tie.spec Inv-loop μ-loop loop-holds mul-start mul-row-length shared-slice-copy-out-row-length add-row-length mul-row-length-2 sub-row-length part-row-length-start part-row-length-end row-length-requires add-sum add-i loop-less loop-again returns)
+rows-length-spec = tie.close (tie.spec Inv-loop μ-loop loop-holds mul-start (λ c. omega arith) (λ c. omega arith) add-row-length mul-row-length-2 (λ c. omega arith) part-row-length-start part-row-length-end row-length-requires add-sum (λ c. omega arith) (λ c. omega arith) loop-again returns)

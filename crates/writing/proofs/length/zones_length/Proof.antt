@@ -28,23 +28,11 @@ counted c = simp (plain, c .before .zone-length-arg .given) at (c .zone-length .
 loop-holds : tie.Need-loop-holds Inv-loop μ-loop
 loop-holds c = summed-none _ _
 
-mul-zone-length : tie.Need-mul-zone-length Inv-loop μ-loop
-mul-zone-length c = omega arith
-
-shared-slice-copy-out-zone-length : tie.Need-shared-slice-copy-out-zone-length Inv-loop μ-loop
-shared-slice-copy-out-zone-length c = omega arith
-
 zone-length-requires : tie.Need-zone-length-requires Inv-loop μ-loop
 zone-length-requires c κs = simp (plain, c .zone-length-arg .given) (omega (arith, within (c .before)))
 
 add-sum : tie.Need-add-sum Inv-loop μ-loop
 add-sum c = omega (arith, within (c .before .before), counted c)
-
-add-i : tie.Need-add-i Inv-loop μ-loop
-add-i c = omega arith
-
-loop-less : tie.Need-loop-less Inv-loop μ-loop
-loop-less c = omega arith
 
 loop-again : tie.Need-loop-again Inv-loop μ-loop
 loop-again c = summed-more (c .before .before .before .loop .inv) _ (omega arith) (counted c)
@@ -53,4 +41,4 @@ returns : tie.Need-returns Inv-loop μ-loop
 returns c = let s = c .before .before in sum-lines (zoneTextAt (s .args .z .now)) (length (s .args .z .now)) (s .pre) (c .before .loop .inv) (omega arith)
 
 pub zones-length-spec : {M : Type 1} → statement M
-zones-length-spec = tie.close (tie.spec Inv-loop μ-loop loop-holds mul-zone-length shared-slice-copy-out-zone-length zone-length-requires add-sum add-i loop-less loop-again returns)
+zones-length-spec = tie.close (tie.spec Inv-loop μ-loop loop-holds (λ c. omega arith) (λ c. omega arith) zone-length-requires add-sum (λ c. omega arith) (λ c. omega arith) loop-again returns)

@@ -19,23 +19,11 @@ abbrev μ-loop : tie.MeasureT-loop
 loop-holds : tie.Need-loop-holds Inv-loop μ-loop
 loop-holds c = (omega arith, lines-none _ _ _)
 
-mul-border-out : tie.Need-mul-border-out Inv-loop μ-loop
-mul-border-out c = omega arith
-
-shared-slice-copy-out-border-out : tie.Need-shared-slice-copy-out-border-out Inv-loop μ-loop
-shared-slice-copy-out-border-out c = omega arith
-
 border-out-requires : tie.Need-border-out-requires Inv-loop μ-loop
 border-out-requires c κs =
     let s = c .before .before .before .before .before in
     let head = c .before .before .before .loop in
     lines-room (borderTextAt (s .args .b .now)) (head .i) (length (s .args .b .now)) (omega arith) (s .pre) (head .inv .1)
-
-add-i : tie.Need-add-i Inv-loop μ-loop
-add-i c = omega arith
-
-loop-less : tie.Need-loop-less Inv-loop μ-loop
-loop-less c = omega arith
 
 loop-again : tie.Need-loop-again Inv-loop μ-loop
 loop-again c =
@@ -54,4 +42,4 @@ returns : tie.Need-returns Inv-loop μ-loop
 returns c = all c
 
 pub borders-out-spec : {M : Type 1} → statement M
-borders-out-spec = tie.close (tie.spec Inv-loop μ-loop loop-holds mul-border-out shared-slice-copy-out-border-out border-out-requires add-i loop-less loop-again same-length returns)
+borders-out-spec = tie.close (tie.spec Inv-loop μ-loop loop-holds (λ c. omega arith) (λ c. omega arith) border-out-requires (λ c. omega arith) (λ c. omega arith) loop-again same-length returns)

@@ -26,20 +26,11 @@ loop-holds c = (omega arith, lines-none _ _ _)
 mul-start : tie.Need-mul-start Inv-loop μ-loop
 mul-start c = omega (arith, stretch-end (c .before .before .before .args .zones) (length (c .before .before .before .args .c .now)) (c .before .loop .i) (omega arith), c .before .before .before .pre .0)
 
-mul-row-out : tie.Need-mul-row-out Inv-loop μ-loop
-mul-row-out c = omega arith
-
-shared-slice-copy-out-row-out : tie.Need-shared-slice-copy-out-row-out Inv-loop μ-loop
-shared-slice-copy-out-row-out c = omega arith
-
 add-row-out : tie.Need-add-row-out Inv-loop μ-loop
 add-row-out c = omega (arith, stretch-end (c .before .before .before .before .args .zones) (length (c .before .before .before .before .args .c .now)) (c .before .before .loop .i) (omega arith), c .before .before .before .before .pre .0)
 
 mul-row-out-2 : tie.Need-mul-row-out-2 Inv-loop μ-loop
 mul-row-out-2 c = omega (arith, stretch-end (c .before .before .before .before .args .zones) (length (c .before .before .before .before .args .c .now)) (c .before .before .loop .i) (omega arith), c .before .before .before .before .pre .0)
-
-sub-row-out : tie.Need-sub-row-out Inv-loop μ-loop
-sub-row-out c = omega arith
 
 part-row-out-start : tie.Need-part-row-out-start Inv-loop μ-loop
 part-row-out-start c = omega (arith, stretch-end (c .before .before .before .before .args .zones) (length (c .before .before .before .before .args .c .now)) (c .before .before .loop .i) (omega arith), c .before .before .before .before .pre .0)
@@ -54,12 +45,6 @@ row-out-requires c κs =
     let head = c .before .before .before .before .loop in
     let n = lent-long (s .args .f .now) (head .i * s .args .zones) (s .args .zones) (omega (arith, stretch-end (s .args .zones) (length (s .args .c .now)) (head .i) (omega arith), s .pre .0)) in
     (omega (arith, n, s .pre .1), omega (arith, n, s .pre .2), rw (part-long (head .i) (s .args .zones)) (lines-room (rowTextAt (s .args .zones) (s .args .c .now) (s .args .f .now)) (head .i) (length (s .args .c .now)) (omega arith) (s .pre .3) (head .inv .1)))
-
-add-i : tie.Need-add-i Inv-loop μ-loop
-add-i c = omega arith
-
-loop-less : tie.Need-loop-less Inv-loop μ-loop
-loop-less c = omega arith
 
 loop-again : tie.Need-loop-again Inv-loop μ-loop
 unfolding stretch
@@ -79,4 +64,4 @@ returns : tie.Need-returns Inv-loop μ-loop
 returns c = all c
 
 pub rows-out-spec : {M : Type 1} → statement M
-rows-out-spec = tie.close (tie.spec Inv-loop μ-loop loop-holds mul-start mul-row-out shared-slice-copy-out-row-out add-row-out mul-row-out-2 sub-row-out part-row-out-start part-row-out-end row-out-requires add-i loop-less loop-again same-length returns)
+rows-out-spec = tie.close (tie.spec Inv-loop μ-loop loop-holds mul-start (λ c. omega arith) (λ c. omega arith) add-row-out mul-row-out-2 (λ c. omega arith) part-row-out-start part-row-out-end row-out-requires (λ c. omega arith) (λ c. omega arith) loop-again same-length returns)

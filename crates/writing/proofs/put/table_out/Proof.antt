@@ -25,13 +25,10 @@ rows-out-requires c κs =
     let s = c .before .before .before .before .before .before .before .before .before .before .before .before .before .before in
     (factors-all (table s) (s .pre .0), omega (arith, header-in (s .args .h) (s .pre .0 .exact .header) .zones-least), header-in (s .args .h) (s .pre .0 .exact .header) .zones-most, rows-room (table s) (s .pre .0) (c .before .before .before .before .before .before .before .before .before .before .before .header-out .ensures) (c .before .before .before .before .before .before .before .zones-out .ensures) (c .before .before .before .borders-out .ensures) (s .pre .1))
 
-same-length : tie.Need-same-length
-same-length c = search needs
-
 returns : tie.Need-returns
 returns c =
     let s = c .before .before .before .before .before .before .before .before .before .before .before .before .before .before .before .before .before in
     text-put (table s) (s .pre .0) (c .before .before .before .before .before .before .before .before .before .before .before .before .before .before .header-out .ensures) (c .before .before .before .before .before .before .before .before .before .before .zones-out .ensures) (c .before .before .before .before .before .before .borders-out .ensures) (c .before .before .rows-out .ensures)
 
 pub table-out-spec : {M : Type 1} → statement M
-table-out-spec = tie.close (tie.spec header-out-requires zones-out-requires borders-out-requires rows-out-requires same-length returns)
+table-out-spec = tie.close (tie.spec header-out-requires zones-out-requires borders-out-requires rows-out-requires (λ c. search needs) returns)

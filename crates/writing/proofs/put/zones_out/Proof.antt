@@ -20,23 +20,11 @@ abbrev μ-loop : tie.MeasureT-loop
 loop-holds : tie.Need-loop-holds Inv-loop μ-loop
 loop-holds c = (omega arith, lines-none _ _ _)
 
-mul-zone-out : tie.Need-mul-zone-out Inv-loop μ-loop
-mul-zone-out c = omega arith
-
-shared-slice-copy-out-zone-out : tie.Need-shared-slice-copy-out-zone-out Inv-loop μ-loop
-shared-slice-copy-out-zone-out c = omega arith
-
 zone-out-requires : tie.Need-zone-out-requires Inv-loop μ-loop
 zone-out-requires c κs =
     let s = c .before .before .before .before .before in
     let head = c .before .before .before .loop in
     simp (plain, c .before .zone-out-arg .given) (lines-room (zoneTextAt (s .args .z .now)) (head .i) (length (s .args .z .now)) (omega arith) (s .pre) (head .inv .1))
-
-add-i : tie.Need-add-i Inv-loop μ-loop
-add-i c = omega arith
-
-loop-less : tie.Need-loop-less Inv-loop μ-loop
-loop-less c = omega arith
 
 loop-again : tie.Need-loop-again Inv-loop μ-loop
 loop-again c =
@@ -55,4 +43,4 @@ returns : tie.Need-returns Inv-loop μ-loop
 returns c = all c
 
 pub zones-out-spec : {M : Type 1} → statement M
-zones-out-spec = tie.close (tie.spec Inv-loop μ-loop loop-holds mul-zone-out shared-slice-copy-out-zone-out zone-out-requires add-i loop-less loop-again same-length returns)
+zones-out-spec = tie.close (tie.spec Inv-loop μ-loop loop-holds (λ c. omega arith) (λ c. omega arith) zone-out-requires (λ c. omega arith) (λ c. omega arith) loop-again same-length returns)
