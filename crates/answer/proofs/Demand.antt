@@ -1,5 +1,4 @@
 -- Demand 3, and that refusal 7 isn't given where CVA and IVA are 0, of the text that `answer` leaves: said of its bytes, for every text that it answers.
--- Assumes nothing.
 use mathlib.Core.Path.{_≡_, refl, sym, ap, _∙_}
 use mathlib.Core.List.{List, [], _∷_, _++_}
 use mathlib.Core.Logic.{_⊎_, inl, inr}
@@ -9,7 +8,8 @@ use native.Mathlib.Omega.{arith}
 use lib.IntN.{ℤ, pos}
 use lib.ListN.{length}
 use Rattle.numbers.specs.Below.{at, table}
-use Rattle.kinds.specs.Refusals.{Why, Judged, passed, refused, then, either}
+use Rattle.kinds.specs.declared.Refusal.{Refusal}
+use Rattle.kinds.specs.Refusals.{Judged, passed, refused, then, either}
 use Rattle.kinds.proofs.RefusalLaws.{then-passed, then-next, either-passed}
 use Rattle.text.specs.Written.{textOf, decimal, fieldsText, lineText, linesText}
 use Rattle.table.specs.Table.{Table, rowAt}
@@ -19,7 +19,8 @@ use Rattle.start.specs.Start.{judgeStart, judgeTable}
 use Rattle.extraction.specs.Extraction.{Result, outcomeOf, atcRecord, rowRecord}
 use Rattle.extraction.specs.Demand.{Demand3}
 use Rattle.extraction.proofs.Demand3.{accepted-demand-3}
-use Rattle.extraction.proofs.Seven.{NotSeven, no-refusal-7}
+use Rattle.extraction.specs.Seven.{NotSeven}
+use Rattle.extraction.proofs.Seven.{no-refusal-7}
 use Rattle.extraction.proofs.ToldLaws.{Says, Told, told-passed, told-then, told-unless, told-first}
 use Rattle.result.specs.Records.{atcAt, marginAt, recordsText}
 use Rattle.result.specs.Refusal.{refusalText}
@@ -86,7 +87,7 @@ answer-not-7 text t read cva iva e k = go (outcomeOf t) (outcome-late t .says) (
     byte i = ap (λ (j : Judged Result). at (either j resultText refusalText) i) (sym (then-next outcomeOf read))
 
     -- an E line's third byte is its number, where that is one digit
-    digit : (w : Why) (n : ℕ) → w .number ≡ n → at (refusalText w) 2 ≡ at (decimal n ++ fieldsText (decimal (w .place) ∷ [])) 0
+    digit : (w : Refusal) (n : ℕ) → w .number ≡ n → at (refusalText w) 2 ≡ at (decimal n ++ fieldsText (decimal (w .place) ∷ [])) 0
     digit w n q = ap (λ (m : ℕ). at (decimal m ++ fieldsText (decimal (w .place) ∷ [])) 0) q
 
     go : (o : Judged Result) → Says Late o → NotSeven o → at (either o resultText refusalText) 0 ≡ code "E" → at (either o resultText refusalText) 2 ≡ code "7" → ⊥

@@ -1,6 +1,5 @@
 -- The outcome of lent tables as the code comes to it: what `extract` answers, with room for the most results, and the text that is made of it. No contract cites this file.
 -- In order: the outcome's header; what `extract` answered; making the text; what `result_text` and `answer` do with it.
--- Assumes nothing.
 use mathlib.Core.Path.{_≡_, refl, sym, ap, ap₂, _∙_}
 use mathlib.Core.List.{List}
 use Prim.Native.Nat.{ℕ, _≤_}
@@ -17,14 +16,14 @@ use Rattle.kinds.specs.declared.Refusal.{Refusal}
 use Rattle.kinds.specs.declared.Written.{Written}
 use Rattle.kinds.specs.Answers.{saidWritten, saidExtracted}
 use Rattle.kinds.specs.Limits.{bordersMost, rowsMost}
-use Rattle.kinds.specs.Refusals.{Why, Judged, passed, refused, then, either, told}
+use Rattle.kinds.specs.Refusals.{Judged, passed, refused, then, either}
 use Rattle.kinds.proofs.KindLaws.{header-in}
 use Rattle.kinds.proofs.RefusalLaws.{passed-is, refused-is, not-passed, then-passed, then-next, then-refused, either-passed, either-refused}
 use Rattle.text.specs.Left.{TextLeft, textLeft, textSaid}
 use Rattle.text.proofs.LeftLaws.{text-refused}
 use Rattle.table.specs.Table.{Table, judgeLent}
 use Rattle.table.proofs.GoodLaws.{judged-front, judged-good}
-use Rattle.extraction.specs.Extraction.{Result, resultOf, outcomeOf, atcRecord, rowRecord, ExtractLeft, leaves, stored, extractLeft}
+use Rattle.extraction.specs.Extraction.{Result, resultOf, outcomeOf, atcRecord, rowRecord, ExtractLeft, leaves, resultStored, extractLeft}
 use Rattle.extraction.proofs.DemandLaws.{accepted}
 use Rattle.extraction.proofs.ExtractLaws.{extract-roomy}
 use Rattle.result.specs.Records.{recordsText}
@@ -57,9 +56,9 @@ outcome-header given r e =
 -- ---- what `extract` answered
 module _ (atcs lefts : List (List ℤ)) where
   abbrev extracted : Judged Result → ExtractLeft
-  extracted o = either o (stored atcs lefts) (λ w. leaves (refused w) atcs lefts)
+  extracted o = either o (resultStored atcs lefts) (λ w. leaves (refused w) atcs lefts)
 
-  refused-from : (o : Judged Result) (w : Why) {atcs′ lefts′ : List (List ℤ)} → leaves (refused w) atcs′ lefts′ ≡ extracted o → o ≡ refused w
+  refused-from : (o : Judged Result) (w : Refusal) {atcs′ lefts′ : List (List ℤ)} → leaves (refused w) atcs′ lefts′ ≡ extracted o → o ≡ refused w
   unfolding either
   refused-from (passed r) w e = absurd (not-passed w (r .outcome .rounds) (ap (λ (l : ExtractLeft). l .answer) e))
   refused-from (refused v) w e = ap refused (sym (refused-is {A = ℕ} w v (ap (λ (l : ExtractLeft). l .answer) e)))
@@ -67,7 +66,7 @@ module _ (atcs lefts : List (List ℤ)) where
   record Stored (o : Judged Result) (rounds : ℕ) (atcs′ lefts′ : List (List ℤ)) : Type 0 where
     it : Result
     is : o ≡ passed it
-    left : leaves (passed rounds) atcs′ lefts′ ≡ stored atcs lefts it
+    left : leaves (passed rounds) atcs′ lefts′ ≡ resultStored atcs lefts it
 
   stored-from : (o : Judged Result) (rounds : ℕ) {atcs′ lefts′ : List (List ℤ)} → leaves (passed rounds) atcs′ lefts′ ≡ extracted o → Stored o rounds atcs′ lefts′
   unfolding either
@@ -85,16 +84,16 @@ module _ (given : Table) (atcs lefts : List (List ℤ)) (hb : bordersMost ≤ le
   unfolding outcomeLent
   told-by k = ap (λ (y : Extracted). leaves (saidExtracted y) atcs′ lefts′) (sym k) ∙ said ∙ extract-roomy given atcs lefts hb hr
 
-  pub outcome-refused : (w : Refusal) → e ≡ Refused w → outcomeLent given ≡ refused (told w)
-  outcome-refused w k = refused-from atcs lefts (outcomeLent given) (told w) (told-by k)
+  pub outcome-refused : (w : Refusal) → e ≡ Refused w → outcomeLent given ≡ refused w
+  outcome-refused w k = refused-from atcs lefts (outcomeLent given) w (told-by k)
 
   -- the records in front give the result's text
-  pub record Told (rounds : ℕ) : Type 0 where
+  pub record OutcomeTold (rounds : ℕ) : Type 0 where
     pub it : Result
     pub is : outcomeLent given ≡ passed it
     pub text : recordsText (take (given .header .borders) atcs′) (take (given .header .rows) lefts′) rounds ≡ resultText it
 
-  pub outcome-told : (rounds : ℕ) → e ≡ Rounds rounds → Told rounds
+  pub outcome-told : (rounds : ℕ) → e ≡ Rounds rounds → OutcomeTold rounds
   unfolding resultText
   outcome-told rounds k =
       let u = stored-from atcs lefts (outcomeLent given) rounds (told-by k) in
@@ -117,7 +116,7 @@ pub made-text : (o : Judged Result) (out : List ℕ) (r : Result) (w : Written) 
 unfolding madeLeft
 made-text o out r w out′ e l = ap madeText l ∙ sym (either-passed _ _ e)
 
-pub made-refused : (o : Judged Result) (out : List ℕ) (w : Refusal) → o ≡ refused (told w) → saidMade (made.Refused w) out ≡ madeLeft o out
+pub made-refused : (o : Judged Result) (out : List ℕ) (w : Refusal) → o ≡ refused w → saidMade (made.Refused w) out ≡ madeLeft o out
 unfolding madeLeft
 made-refused o out w e = sym (either-refused _ _ e)
 
@@ -138,10 +137,10 @@ texted (passed r) out w out′ e =
 texted (refused v) out w out′ e = absurd (not-passed v (saidWritten w) (sym (ap (λ (l : MadeLeft). l .answer) e)))
 
 -- there is no result, and nothing was written
-turned : (o : Judged Result) (out : List ℕ) (w : Refusal) (out′ : List ℕ) → saidMade (made.Refused w) out′ ≡ madeLeft o out → (o ≡ refused (told w)) × (out′ ≡ out)
+turned : (o : Judged Result) (out : List ℕ) (w : Refusal) (out′ : List ℕ) → saidMade (made.Refused w) out′ ≡ madeLeft o out → (o ≡ refused w) × (out′ ≡ out)
 unfolding madeLeft either
-turned (passed r) out w out′ e = absurd (not-passed (told w) _ (ap (λ (l : MadeLeft). l .answer) e))
-turned (refused v) out w out′ e = (ap refused (sym (refused-is {A = Judged ℕ} (told w) v (ap (λ (l : MadeLeft). l .answer) e))), ap (λ (l : MadeLeft). l .out) e)
+turned (passed r) out w out′ e = absurd (not-passed w _ (ap (λ (l : MadeLeft). l .answer) e))
+turned (refused v) out w out′ e = (ap refused (sym (refused-is {A = Judged ℕ} w v (ap (λ (l : MadeLeft). l .answer) e))), ap (λ (l : MadeLeft). l .out) e)
 
 result-outcome : (given : Table) → then (judgeLent given) (λ t. then (outcomeOf t) (λ r. passed (resultText r))) ≡ then (outcomeLent given) (λ r. passed (resultText r))
 unfolding outcomeLent then
@@ -159,7 +158,7 @@ module _ (given : Table) (out : List ℕ) (m : Made) (out′ : List ℕ) (said :
   text-made : (w : Written) → m ≡ made.Text w → Texted outcome out w out′
   text-made w k = texted outcome out w out′ (ap (λ (x : Made). saidMade x out′) (sym k) ∙ said)
 
-  none-made : (w : Refusal) → m ≡ made.Refused w → (outcome ≡ refused (told w)) × (out′ ≡ out)
+  none-made : (w : Refusal) → m ≡ made.Refused w → (outcome ≡ refused w) × (out′ ≡ out)
   none-made w k = turned outcome out w out′ (ap (λ (x : Made). saidMade x out′) (sym k) ∙ said)
 
   pub result-told : (w : Written) → m ≡ made.Text w → textSaid w out′ ≡ resultTextLeft given out
@@ -168,11 +167,11 @@ module _ (given : Table) (out : List ℕ) (m : Made) (out′ : List ℕ) (said :
       let u = text-made w k in
       u .text ∙ ap (λ (j : Judged (List ℕ)). textLeft j out) (sym (result-outcome given ∙ then-next _ (u .is)))
 
-  pub result-refused : (w : Refusal) → m ≡ made.Refused w → _≡_ {A = TextLeft} (record { answer = refused (told w); out = out′ }) (resultTextLeft given out)
+  pub result-refused : (w : Refusal) → m ≡ made.Refused w → _≡_ {A = TextLeft} (record { answer = refused w; out = out′ }) (resultTextLeft given out)
   unfolding resultTextLeft
   result-refused w k =
       let u = none-made w k in
-      ap {B = TextLeft} (λ (o : List ℕ). record { answer = refused (told w); out = o }) (u .1) ∙ text-refused out (result-outcome given ∙ then-refused _ (u .0))
+      ap {B = TextLeft} (λ (o : List ℕ). record { answer = refused w; out = o }) (u .1) ∙ text-refused out (result-outcome given ∙ then-refused _ (u .0))
 
   pub printed-result : (w : Written) → m ≡ made.Text w → textSaid w out′ ≡ textLeft (passed (printed outcome)) out
   unfolding printed
@@ -180,7 +179,7 @@ module _ (given : Table) (out : List ℕ) (m : Made) (out′ : List ℕ) (said :
       let u = text-made w k in
       u .text ∙ ap (λ (text : List ℕ). textLeft (passed text) out) (sym (either-passed _ _ (u .is)))
 
-  pub printed-refusal : (w : Refusal) → m ≡ made.Refused w → textLeft (passed (refusalText (told w))) out′ ≡ textLeft (passed (printed outcome)) out
+  pub printed-refusal : (w : Refusal) → m ≡ made.Refused w → textLeft (passed (refusalText w)) out′ ≡ textLeft (passed (printed outcome)) out
   unfolding printed
   printed-refusal w k =
       let u = none-made w k in

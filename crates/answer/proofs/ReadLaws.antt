@@ -1,5 +1,4 @@
 -- What `read` leaves of a text, with room for the largest table, and the text's answer (01, "Result text"). No contract cites this file.
--- Assumes nothing.
 use mathlib.Core.Path.{_≡_, refl, sym, ap, _∙_}
 use mathlib.Core.List.{List}
 use Prim.Native.Nat.{ℕ, _*_, _≤_}
@@ -10,11 +9,11 @@ use Rattle.kinds.specs.declared.Read.{Read}
 use Rattle.kinds.specs.declared.Read.the-variants as read
 use Rattle.kinds.specs.declared.Refusal.{Refusal}
 use Rattle.kinds.specs.Limits.{zonesMost, bordersMost, rowsMost}
-use Rattle.kinds.specs.Refusals.{then, told}
+use Rattle.kinds.specs.Refusals.{then}
 use Rattle.kinds.proofs.RefusalLaws.{then-next, then-refused, either-refused}
 use Rattle.table.specs.Table.{lent}
 use Rattle.extraction.specs.Extraction.{outcomeOf}
-use Rattle.reading.specs.Places.{left}
+use Rattle.reading.specs.Places.{readSaid}
 use Rattle.reading.specs.Reading.{readText, readLeft}
 use Rattle.reading.proofs.LeftLaws.{taken, as-read, refused-text}
 use Rattle.result.specs.Refusal.{refusalText}
@@ -26,10 +25,10 @@ unfolding answerText printed
 answer-printed text = refl
 
 module _ (text : List ℕ) (z : List ℤ) (b c : List (List ℤ)) (f : List ℤ)
-    (r : Read) {z′ : List ℤ} {b′ c′ : List (List ℤ)} {f′ : List ℤ} (said : left r z′ b′ c′ f′ ≡ readLeft text z b c f) where
+    (r : Read) {z′ : List ℤ} {b′ c′ : List (List ℤ)} {f′ : List ℤ} (said : readSaid r z′ b′ c′ f′ ≡ readLeft text z b c f) where
   -- a refusal is one of the text
   pub read-refused : zonesMost ≤ length z → bordersMost ≤ length b → rowsMost ≤ length c → rowsMost * zonesMost ≤ length f
-      → (w : Refusal) → r ≡ read.Refused w → refusalText (told w) ≡ answerText text
+      → (w : Refusal) → r ≡ read.Refused w → refusalText w ≡ answerText text
   unfolding answerText
   read-refused hz hb hc hf w k = sym (either-refused _ _ (then-refused outcomeOf (refused-text text z b c f r said hz hb hc hf w k)))
 

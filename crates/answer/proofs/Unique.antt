@@ -1,6 +1,5 @@
 -- No second answer, and no second content of the lent bytes, satisfies the contract of `result_text` or of `answer`.
 -- The theorems are about the contracts as the check reads them from the source (`reads.Post`), and not about copies.
--- Assumes nothing.
 use mathlib.Core.Path.{_≡_}
 use contract.Lifetimes.{Lfts}
 use denote.Ref.{now}

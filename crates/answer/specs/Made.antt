@@ -1,11 +1,10 @@
 -- The outcome of lent tables, what it is printed as (01, "Result text"), and what making its text leaves. Promises of the inner functions are stated through these.
--- Assumes nothing.
 use mathlib.Core.List.{List}
 use Prim.Native.Nat.{ℕ}
 use Rattle.kinds.specs.declared.Written.{Written}
 use Rattle.kinds.specs.declared.Written.the-variants as written
 use Rattle.kinds.specs.Answers.{saidWritten}
-use Rattle.kinds.specs.Refusals.{Judged, passed, refused, told, then, either}
+use Rattle.kinds.specs.Refusals.{Judged, passed, refused, then, either}
 use Rattle.text.specs.Left.{TextLeft, textLeft}
 use Rattle.table.specs.Table.{Table, judgeLent}
 use Rattle.extraction.specs.Extraction.{Result, outcomeOf}
@@ -29,7 +28,7 @@ answerMost = recordsMost
 -- the bytes that a call asks for: those that it wrote, or the place of 8
 abbrev pub bytesAsked : Written → ℕ
 bytesAsked (written.Bytes n) = n
-bytesAsked (written.Refused w) = told w .place
+bytesAsked (written.Refused w) = w .place
 
 -- what making the text of an outcome leaves: its refusal, or the answer that its text gives; and the lent bytes
 pub record MadeLeft : Type 0 where
@@ -45,7 +44,7 @@ madeLeft outcome out = either outcome (λ r. madeText (textLeft (passed (resultT
 -- .. as the code tells it
 abbrev pub saidMade : Made → (out : List ℕ) → MadeLeft
 saidMade (Text w) out = record { answer = passed (saidWritten w); out = out }
-saidMade (Refused w) out = record { answer = refused (told w); out = out }
+saidMade (Refused w) out = record { answer = refused w; out = out }
 
 abbrev pub madeAsked : Made → ℕ
 madeAsked (Text w) = bytesAsked w

@@ -1,6 +1,5 @@
 -- The result as text (01, "Result text"), from a table's bytes to the printed bytes, and what the open calls `result_text` and `answer` leave.
 -- The lines stand in result: A and M lines in specs/Records.antt, the E line in specs/Refusal.antt.
--- Assumes nothing.
 use mathlib.Core.List.{List}
 use Prim.Native.Nat.{ℕ}
 use Rattle.numbers.specs.Below.{table}

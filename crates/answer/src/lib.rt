@@ -6,7 +6,7 @@ ghost use mathlib.Core.Path.{_≡_};
 ghost use Prim.Native.Nat.{_*_, _≤_};
 ghost use lib.ListN.{length};
 ghost use Rattle.kinds.specs.Limits.{zonesMost, bordersMost, rowsMost};
-ghost use Rattle.kinds.specs.Refusals.{passed, told};
+ghost use Rattle.kinds.specs.Refusals.{passed};
 ghost use Rattle.text.specs.Left.{textLeft, textSaid};
 ghost use Rattle.table.specs.Table.{lent};
 ghost use Rattle.result.specs.Refusal.{refusalText, refusalMost};
@@ -72,7 +72,7 @@ fn answer_in(
 {
     match reading::read(text, z, b, c, f) {
         Read::Table(h) => answer_lent(h, z, b, c, f, out),
-        Read::Refused(w) => refusal_out(w, out),
+        Read::Refused(w) => write_refusal(w, out),
     }
 }
 
@@ -89,17 +89,17 @@ fn answer_lent(
 {
     match made::make(h, z, b, c, f, out) {
         Made::Text(written) => written,
-        Made::Refused(w) => refusal_out(w, out),
+        Made::Refused(w) => write_refusal(w, out),
     }
 }
 
 // The E line: 8, and only then is it written.
-pub fn refusal_out(w: Refusal, out: &mut [u8]) -> Written
-    ensures { λ r. ⌜ (textSaid r (now (out .exit)) ≡ textLeft (passed (refusalText (told w))) (now (out .entry))) × (bytesAsked r ≤ refusalMost) ⌝ }
+pub fn write_refusal(w: Refusal, out: &mut [u8]) -> Written
+    ensures { λ r. ⌜ (textSaid r (now (out .exit)) ≡ textLeft (passed (refusalText w)) (now (out .entry))) × (bytesAsked r ≤ refusalMost) ⌝ }
 {
     let needed = result::refusal::refusal_length(w);
     if out.len() < needed {
-        return Written::Refused(Refusal::Short(needed));
+        return Written::Refused(Refusal::too_short(needed));
     }
     Written::Bytes(result::refusal::put_refusal(w, out))
 }

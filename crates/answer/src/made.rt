@@ -57,13 +57,13 @@ fn make_in(
     ensures { λ r. ⌜ (saidMade r (now (out .exit)) ≡ madeLeft (outcomeLent (lent h (now (z .entry)) (now (b .entry)) (now (c .entry)) (now (f .entry)))) (now (out .entry))) × (madeAsked r ≤ answerMost) ⌝ }
 {
     match extraction::extract(h, z, b, c, f, atc, left) {
-        Extracted::Rounds(rounds) => Made::Text(result_out(h, atc, left, rounds, out)),
+        Extracted::Rounds(rounds) => Made::Text(write_result(h, atc, left, rounds, out)),
         Extracted::Refused(w) => Made::Refused(w),
     }
 }
 
 // The text of as many records as the header says.
-fn result_out(
+fn write_result(
     h: Header,
     atc: &[AtcRecord],
     left: &[LeftRecord],
@@ -75,17 +75,17 @@ fn result_out(
 {
     let borders = h.borders;
     let rows = h.rows;
-    records_out(&atc[..borders], &left[..rows], rounds, out)
+    write_records(&atc[..borders], &left[..rows], rounds, out)
 }
 
 // The text of records: 8, and only then is it written.
-fn records_out(atc: &[AtcRecord], left: &[LeftRecord], rounds: u64, out: &mut [u8]) -> Written
+fn write_records(atc: &[AtcRecord], left: &[LeftRecord], rounds: u64, out: &mut [u8]) -> Written
     requires { ⌜ (length (now atc) ≤ bordersMost) × (length (now left) ≤ rowsMost) ⌝ }
     ensures { λ r. ⌜ (textSaid r (now (out .exit)) ≡ textLeft (passed (recordsText (now (atc .entry)) (now (left .entry)) rounds)) (now (out .entry))) × (bytesAsked r ≤ answerMost) ⌝ }
 {
     let needed = result::records::records_length(atc, left, rounds);
     if out.len() < needed {
-        return Written::Refused(Refusal::Short(needed));
+        return Written::Refused(Refusal::too_short(needed));
     }
     Written::Bytes(result::records::put_records(atc, left, rounds, out))
 }

@@ -1,5 +1,4 @@
 -- The laws of `specs/Block.antt`: a loop over lines of any kind, and the round trip of a run of lines. No contract cites this file.
--- Assumes nothing.
 use Prim.Native.Nat.{ℕ, zero, suc, _+_, _-_, _≤_, _<_}
 use mathlib.Core.Path.{_≡_, refl, sym, ap, ap₂, subst, _∙_}
 use mathlib.Core.List.{List, [], _∷_, _++_, append-assoc}
@@ -7,9 +6,10 @@ use native.Mathlib.Nat.{add-zero, sub-zero}
 use native.Mathlib.Omega.{arith}
 use lib.ListN.{length, drop, length-drop, length-append}
 use lib.Seq.{drop-drop, drop-append-seam}
-use Rattle.kinds.specs.Refusals.{Why, wrongForm, outOfRange}
+use Rattle.kinds.specs.declared.Refusal.{Refusal}
+use Rattle.kinds.specs.Refusals.{wrongForm, outOfRange}
 use Rattle.text.specs.Line.{lineOf, Line, holds, form, range}
-use Rattle.text.proofs.LineLaws.{line-split, line-length}
+use Rattle.text.proofs.LineLaws.{line-split, line-le-length}
 use Rattle.block.specs.Block.{Block, read, fault, more, onLine, linesAt}
 
 -- ---- a loop over the lines: what is left comes to what the whole comes to, after `f`, which a judge or a filler makes of it
@@ -41,7 +41,7 @@ module _ {A R : Type 0} (judge : List ℕ → ℕ → Line A) (first : ℕ) (f :
         pub passed-more : (a : A) → judge (lineOf (drop p text)) i ≡ holds a → Passed text at count (i + 1) (p + length (lineOf (drop p text)))
         passed-more a q = record {
           high = omega arith;
-          within = omega (arith, u .within, line-length (drop p text), length-drop p text);
+          within = omega (arith, u .within, line-le-length (drop p text), length-drop p text);
           rest = sym (drops a (linesAt judge first (count - (i + 1)) text (p + length (lineOf (drop p text))) (i + 1))) ∙ passed-line (holds a) q;
         }
 
@@ -49,7 +49,7 @@ module _ {A R : Type 0} (judge : List ℕ → ℕ → Line A) (first : ℕ) (f :
 pub read-is : {A : Type 0} (ws ys : List A) (m n : ℕ) → read ws m ≡ read ys n → (ws ≡ ys) × (m ≡ n)
 read-is ws ys m n e = (cc, cc)
 
-pub no-read : {A : Type 0} (w : Why) (ys : List A) (m : ℕ) → _≡_ {A = Block A} (fault w) (read ys m) → ⊥
+pub no-read : {A : Type 0} (w : Refusal) (ys : List A) (m : ℕ) → _≡_ {A = Block A} (fault w) (read ys m) → ⊥
 no-read {A} w ys m e = subst (λ (b : Block A). is b) e tt
   where
     is : Block A → Type 0

@@ -1,5 +1,4 @@
 -- More laws of `specs/Block.antt`: what a run of lines that was read says of each record, and that lines written by index are the lines of a list. No contract cites this file.
--- Assumes nothing.
 use Prim.Native.Nat.{ℕ, zero, suc, _+_, _<_}
 use mathlib.Core.Path.{_≡_, refl, sym, ap, ap₂, subst, _∙_}
 use mathlib.Core.List.{List, [], _∷_, _++_}

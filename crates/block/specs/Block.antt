@@ -1,9 +1,9 @@
 -- A run of lines of one kind (01, "The table as text": each kind by index from 0): what they hold, or the first refusal.
 -- 01, "When the table is turned away": lines are judged one by one, form before range, and the first faulty line decides.
--- Assumes nothing.
 use mathlib.Core.List.{List, [], _∷_}
 use Prim.Native.Nat.{ℕ, zero, suc, _+_}
-use Rattle.kinds.specs.Refusals.{Why, Judged, passed, refused, told, wrongForm, outOfRange}
+use Rattle.kinds.specs.declared.Refusal.{Refusal}
+use Rattle.kinds.specs.Refusals.{Judged, passed, refused, wrongForm, outOfRange}
 use Rattle.block.specs.declared.End.{End}
 use Rattle.block.specs.declared.End.the-variants.{At, Refused}
 use Rattle.text.specs.Line.{lineAt, after, Line, holds, form, range}
@@ -11,7 +11,7 @@ use Rattle.text.specs.Line.{lineAt, after, Line, holds, form, range}
 -- what a run of lines comes to: what they hold and the place after them; or the refusal
 pub data Block (A : Type 0) : Type 0 where
   read : List A → ℕ → Block A
-  fault : Why → Block A
+  fault : Refusal → Block A
 
 abbrev pub more : {A : Type 0} → A → Block A → Block A
 more a (read rest next) = read (a ∷ rest) next
@@ -43,7 +43,7 @@ endOf (fault w) = refused w
 -- the same as the code answers it
 abbrev pub saidEnd : End → Judged ℕ
 saidEnd (At next) = passed next
-saidEnd (Refused w) = refused (told w)
+saidEnd (Refused w) = refused w
 
 -- what a run of good lines holds
 abbrev pub heldBy : {A : Type 0} → Block A → List A

@@ -1,6 +1,5 @@
 -- No second answer, and no second content of a lent buffer, satisfies the contract of a call for C.
 -- The theorems are about the contracts as the check reads them from the source (`reads.Post`), and not about copies.
--- Assumes nothing.
 use mathlib.Core.Path.{_≡_, sym, ap, _∙_}
 use mathlib.Core.List.{List}
 use Prim.Native.Nat.{ℕ}

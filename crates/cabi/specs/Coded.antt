@@ -1,6 +1,5 @@
 -- What the C interface answers: number and place of the refusal, 0 and 0 where there is none, and then the values (0 where refused).
 -- `readCoded`, `textCoded`, `extractCoded` and `flowsCoded` are what contracts cite: a call's answer coded so, and each lent buffer as the call leaves it.
--- Assumes nothing.
 use mathlib.Core.List.{List}
 use Prim.Native.Nat.{ℕ}
 use lib.IntN.{ℤ}

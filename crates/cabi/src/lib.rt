@@ -1,7 +1,6 @@
 // The open calls for C and everything that speaks C: include/keravnoth.h. Each calls its namesake and codes the answer.
 // C hands a slice over as a pointer and the count of its items. Any input has an answer: there is no `requires`.
 ghost use mathlib.Core.Path.{_≡_};
-ghost use Rattle.kinds.specs.Refusals.{told};
 ghost use Rattle.kinds.specs.Answers.{saidRead, saidWritten, saidExtracted, saidFlows};
 ghost use Rattle.table.specs.Table.{lent};
 ghost use Rattle.reading.specs.Reading.{readLeft};
@@ -18,7 +17,6 @@ use kinds::Extracted;
 use kinds::Flows;
 use kinds::Header;
 use kinds::Read;
-use kinds::Refusal;
 use kinds::RowRecord;
 use kinds::Written;
 
@@ -198,17 +196,13 @@ fn code_read(said: Read) -> KeravnothRead
             borders: h.borders,
             rows: h.rows,
         },
-        Read::Refused(w) => {
-            let number = refusal_number(w);
-            let place = result::refusal::refusal_place(w);
-            KeravnothRead {
-                number: number,
-                place: place,
-                zones: 0,
-                borders: 0,
-                rows: 0,
-            }
-        }
+        Read::Refused(w) => KeravnothRead {
+            number: w.number,
+            place: w.place,
+            zones: 0,
+            borders: 0,
+            rows: 0,
+        },
     }
 }
 
@@ -221,15 +215,11 @@ fn code_written(said: Written) -> KeravnothWritten
             place: 0,
             bytes: bytes,
         },
-        Written::Refused(w) => {
-            let number = refusal_number(w);
-            let place = result::refusal::refusal_place(w);
-            KeravnothWritten {
-                number: number,
-                place: place,
-                bytes: 0,
-            }
-        }
+        Written::Refused(w) => KeravnothWritten {
+            number: w.number,
+            place: w.place,
+            bytes: 0,
+        },
     }
 }
 
@@ -242,15 +232,11 @@ fn code_extracted(said: Extracted) -> KeravnothExtracted
             place: 0,
             rounds: rounds,
         },
-        Extracted::Refused(w) => {
-            let number = refusal_number(w);
-            let place = result::refusal::refusal_place(w);
-            KeravnothExtracted {
-                number: number,
-                place: place,
-                rounds: 0,
-            }
-        }
+        Extracted::Refused(w) => KeravnothExtracted {
+            number: w.number,
+            place: w.place,
+            rounds: 0,
+        },
     }
 }
 
@@ -263,21 +249,10 @@ fn code_flows(said: Flows) -> KeravnothFlows
             place: 0,
             corners: corners,
         },
-        Flows::Refused(w) => {
-            let number = refusal_number(w);
-            let place = result::refusal::refusal_place(w);
-            KeravnothFlows {
-                number: number,
-                place: place,
-                corners: 0,
-            }
-        }
+        Flows::Refused(w) => KeravnothFlows {
+            number: w.number,
+            place: w.place,
+            corners: 0,
+        },
     }
-}
-
-// 1 to 9, as wide as C takes it.
-fn refusal_number(w: Refusal) -> u32
-    ensures { λ r. ⌜ r ≡ told w .number ⌝ }
-{
-    result::refusal::refusal_number(w) as u32
 }

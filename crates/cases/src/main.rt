@@ -2,10 +2,14 @@
 // After the argument `corners` come the corner sheets of every row instead, after a number those of that row.
 ghost use Prim.Native.Nat.{_≤_};
 ghost use lib.ListN.{length};
-ghost use Rattle.prints.specs.Printed.{sheetRoom};
-use arguments::Held;
+ghost use Rattle.printing.specs.Printed.{sheetRoom};
 use libc::STDOUT_FILENO;
-use sheets::Rows;
+use printing::TEXT_ROOM;
+use printing::arguments;
+use printing::arguments::Held;
+use printing::sheets;
+use printing::sheets::Rows;
+use printing::texts;
 
 // What is printed of a file.
 enum Task {
@@ -47,8 +51,7 @@ fn one(i: usize, task: Task) {
         os::fail(&name[..length]);
         return;
     }
-    // One byte more than a table may have, so that a longer one is seen.
-    let mut text = [0u8; 65537];
+    let mut text = [0u8; TEXT_ROOM];
     let n = io::read_full(fd, &mut text);
     libc::close(fd);
     io::write_all(STDOUT_FILENO, &name[..length]);
@@ -62,7 +65,7 @@ fn print(task: Task, text: &[u8], out: &mut [u8])
 {
     match task {
         Task::Answer => {
-            let m = prints::answer(text, out);
+            let m = texts::answer(text, out);
             io::write_all(STDOUT_FILENO, &out[..m]);
         }
         Task::Corners(rows) => {

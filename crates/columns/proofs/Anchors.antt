@@ -1,5 +1,4 @@
 -- A line of each kind of column, written. Nobody cites it: it refuses a definition that slipped.
--- Assumes nothing.
 use mathlib.Core.Path.{_≡_, refl}
 use mathlib.Core.List.{[], _∷_}
 use Prim.Native.Char.{code}

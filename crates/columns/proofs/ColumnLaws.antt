@@ -1,6 +1,5 @@
 -- The laws of `specs/Columns.antt` and `specs/ColumnLine.antt` that the reader of columns cites. No contract cites this file.
--- In order: values put before others; the first column left; the loop, `Filled`; letter and index; a whole line.
--- Assumes nothing.
+-- In order: values put before others; the first column left; the loop, `FieldsFilled`; letter and index; a whole line.
 use mathlib.Core.Path.{_≡_, refl, sym, ap, _∙_}
 use mathlib.Core.Bool.{Bool, true, false, cond}
 use mathlib.Core.List.{List, [], _∷_, _++_, append-assoc, append-nil}
@@ -20,7 +19,7 @@ use Rattle.text.specs.declared.Signed.{Signed}
 use Rattle.text.specs.declared.Signed.the-variants.{Whole, Wrong}
 use Rattle.text.specs.Fields.{feed, numberAt}
 use Rattle.text.specs.Line.{headed}
-use Rattle.columns.specs.ColumnLine.{indexAt, toEnd, restAt, after, headAt, columnsLine, plainLine}
+use Rattle.columns.specs.ColumnLine.{indexAt, toEnd, restAt, afterNumber, headAt, columnsLine, plainLine}
 use Rattle.columns.specs.declared.Fields.{Fields}
 use Rattle.columns.specs.declared.Fields.the-variants as fields
 use Rattle.columns.specs.Columns.{stored, fieldAt, Values, values, wrong, push, onward, stopOf, fieldsAt}
@@ -39,17 +38,17 @@ push-last zs z (values ys next) = ap (λ (l : List ℤ). values l next) (append-
 push-last zs z (wrong place) = refl
 
 -- ---- the first column left, and the byte that ends its field
-abbrev pub endOf : (sep last left : ℕ) → ℕ
-endOf sep last left = cond (leb left 1) last sep
+abbrev pub stopByLeft : (sep last left : ℕ) → ℕ
+stopByLeft sep last left = cond (leb left 1) last sep
 
-pub stop-is : (sep last left : ℕ) (bs : List ℕ) → left ≡ suc (length bs) → stopOf sep last (columnsOf bs) ≡ endOf sep last left
+pub stop-is : (sep last left : ℕ) (bs : List ℕ) → left ≡ suc (length bs) → stopOf sep last (columnsOf bs) ≡ stopByLeft sep last left
 stop-is sep last left [] e = rw (le-leb left 1 (omega arith))
 stop-is sep last left (b ∷ bs) e = rw (lt-leb left 1 (omega arith))
 
 module _ (columns : List ℕ) (sep last : ℕ) (line : List ℕ) where
   module _ (k p : ℕ) (h : k < length columns) where
     first : fieldsAt sep last (columnsOf (drop k columns)) line p
-        ≡ onward (fieldAt (columnOf (getD columns k 0)) line p (endOf sep last (length columns - k))) (λ next. fieldsAt sep last (columnsOf (drop (k + 1) columns)) line next)
+        ≡ onward (fieldAt (columnOf (getD columns k 0)) line p (stopByLeft sep last (length columns - k))) (λ next. fieldsAt sep last (columnsOf (drop (k + 1) columns)) line next)
     unfolding fieldsAt
     first =
         let bs = drop (k + 1) columns in
@@ -59,33 +58,33 @@ module _ (columns : List ℕ) (sep last : ℕ) (line : List ℕ) where
         ∙ ap (λ (stop : ℕ). onward (fieldAt (columnOf (getD columns k 0)) line p stop) (λ next. fieldsAt sep last (columnsOf bs) line next)) (stop-is sep last _ bs long)
 
   -- ---- the loop: the first k fields are in their places, and those left begin at place p
-  pub record Filled (at : ℕ) (out : List ℤ) (p k : ℕ) : Type 0 where
+  pub record FieldsFilled (at : ℕ) (out : List ℤ) (p k : ℕ) : Type 0 where
     pub as-long : length columns ≡ length out
     pub high : k ≤ length columns
     pub so-far : pushAll (take k out) (fieldsAt sep last (columnsOf (drop k columns)) line p) ≡ fieldsAt sep last (columnsOf columns) line at
 
-  pub filled-none : (at : ℕ) (out : List ℤ) → length columns ≡ length out → Filled at out at 0
-  filled-none at out e = record { as-long = e; high = omega arith; so-far = push-none _ }
+  pub fields-filled-none : (at : ℕ) (out : List ℤ) → length columns ≡ length out → FieldsFilled at out at 0
+  fields-filled-none at out e = record { as-long = e; high = omega arith; so-far = push-none _ }
 
-  module _ (at : ℕ) (out : List ℤ) (p k : ℕ) (u : Filled at out p k) where
-    pub filled-all : length columns ≤ k → values out p ≡ fieldsAt sep last (columnsOf columns) line at
+  module _ (at : ℕ) (out : List ℤ) (p k : ℕ) (u : FieldsFilled at out p k) where
+    pub fields-filled-all : length columns ≤ k → values out p ≡ fieldsAt sep last (columnsOf columns) line at
     unfolding fieldsAt
-    filled-all h =
+    fields-filled-all h =
         let none : drop k columns ≡ [] = drop-of-length-le columns h in
         ap (λ (l : List ℤ). values l p) (sym (take-all k out (omega (arith, u .as-long))) ∙ sym (append-nil (take k out)))
         ∙ sym (ap (λ (l : List ℕ). pushAll (take k out) (fieldsAt sep last (columnsOf l) line p)) none)
         ∙ u .so-far
 
     module _ (h : k < length columns) where
-      step : (s : Signed) → fieldAt (columnOf (getD columns k 0)) line p (endOf sep last (length columns - k)) ≡ s
+      step : (s : Signed) → fieldAt (columnOf (getD columns k 0)) line p (stopByLeft sep last (length columns - k)) ≡ s
           → pushAll (take k out) (onward s (λ next. fieldsAt sep last (columnsOf (drop (k + 1) columns)) line next)) ≡ fieldsAt sep last (columnsOf columns) line at
       step s q = rw (← q, ← first k p h) (u .so-far)
 
-      pub filled-bad : (place : ℕ) → fieldAt (columnOf (getD columns k 0)) line p (endOf sep last (length columns - k)) ≡ Wrong place → wrong place ≡ fieldsAt sep last (columnsOf columns) line at
-      filled-bad place q = step (Wrong place) q
+      pub fields-filled-bad : (place : ℕ) → fieldAt (columnOf (getD columns k 0)) line p (stopByLeft sep last (length columns - k)) ≡ Wrong place → wrong place ≡ fieldsAt sep last (columnsOf columns) line at
+      fields-filled-bad place q = step (Wrong place) q
 
-      pub filled-more : (z : ℤ) (next : ℕ) → fieldAt (columnOf (getD columns k 0)) line p (endOf sep last (length columns - k)) ≡ Whole z next → Filled at (set out k z) next (k + 1)
-      filled-more z next q =
+      pub fields-filled-more : (z : ℤ) (next : ℕ) → fieldAt (columnOf (getD columns k 0)) line p (stopByLeft sep last (length columns - k)) ≡ Whole z next → FieldsFilled at (set out k z) next (k + 1)
+      fields-filled-more z next q =
           let rest = fieldsAt sep last (columnsOf (drop (k + 1) columns)) line next in
           let l : k < length out = omega (arith, u .as-long) in
           record {
@@ -185,7 +184,7 @@ module _ (sep letter : ℕ) (cs : List Column) (d : Column) (ds : List Column) (
       fielded at (values zs n) e = absurd (clash zs n e)
       fielded at (wrong p) e = e
 
-      go : (n : Number) → wrong place ≡ after n (λ at. fieldsAt sep sep cs line at) → wrong place ≡ after n (λ at. toEnd line (fieldsAt sep feed (cs ++ (d ∷ ds)) line at))
+      go : (n : Number) → wrong place ≡ afterNumber n (λ at. fieldsAt sep sep cs line at) → wrong place ≡ afterNumber n (λ at. toEnd line (fieldsAt sep feed (cs ++ (d ∷ ds)) line at))
       go (Bad p) e = e
       go (Value v at) e = fielded at (fieldsAt sep sep cs line at) e ∙ ap (toEnd line) (sym (fields-append sep feed line d ds cs at))
 
@@ -204,7 +203,7 @@ module _ (sep letter : ℕ) (cs : List Column) (d : Column) (ds : List Column) (
           sure true = refl
           sure false = refl
 
-      go : (n : Number) → values zs at ≡ after n (λ p. fieldsAt sep sep cs line p) → pushAll zs v ≡ after n (λ p. toEnd line (fieldsAt sep feed (cs ++ (d ∷ ds)) line p))
+      go : (n : Number) → values zs at ≡ afterNumber n (λ p. fieldsAt sep sep cs line p) → pushAll zs v ≡ afterNumber n (λ p. toEnd line (fieldsAt sep feed (cs ++ (d ∷ ds)) line p))
       go (Bad p) e = absurd (clash p e)
       go (Value x p) e =
           ap (pushAll zs) q ∙ ended-last (fieldsAt sep feed (d ∷ ds) line at)

@@ -1,6 +1,5 @@
 -- The laws of `specs/ColumnText.antt` that the writer of columns cites, here and in the crates above. No contract cites this file.
 -- In order: one field's text; the first column left; the loop that writes, `Writing`; the loop that counts, `Counting`; lengths; two parts.
--- Assumes nothing.
 use mathlib.Core.Path.{_≡_, refl, sym, ap, ap₂, subst, _∙_}
 use mathlib.Core.Bool.{Bool, true, false, cond}
 use mathlib.Core.List.{List, [], _∷_, _++_, append-assoc, append-nil}
@@ -22,7 +21,7 @@ use Rattle.text.proofs.NumberTrip.{zero-one}
 use Rattle.text.proofs.PutLaws.{put-none, put-more, put-room}
 use Rattle.columns.specs.Columns.{stopOf}
 use Rattle.columns.specs.ColumnText.{numbersFrom, numbersOf, fieldText, fieldsEnded, fieldsLength, lineLength, indexText, columnsText, plainText}
-use Rattle.columns.proofs.ColumnLaws.{endOf, stop-is}
+use Rattle.columns.proofs.ColumnLaws.{stopByLeft, stop-is}
 
 -- ---- one field's text
 pub share-dash : (z : ℤ) → ltZ z (pos 0) ≡ true → shareText z ≡ dash ∷ []
@@ -60,7 +59,7 @@ module _ (columns : List ℕ) (values : List ℤ) where
     cut-values = drop-cons values k (pos 0) (omega (arith, long)) ∙ ap (λ (j : ℕ). getD values k (pos 0) ∷ drop j values) (sym (add-one k))
 
     first-text : (sep last : ℕ) → fieldsEnded sep last (columnsOf (drop k columns)) (drop k values)
-        ≡ (textAt k ++ (endOf sep last (length columns - k) ∷ [])) ++ fieldsEnded sep last (columnsOf (drop (k + 1) columns)) (drop (k + 1) values)
+        ≡ (textAt k ++ (stopByLeft sep last (length columns - k) ∷ [])) ++ fieldsEnded sep last (columnsOf (drop (k + 1) columns)) (drop (k + 1) values)
     unfolding fieldsEnded
     first-text sep last =
         let bs = drop (k + 1) columns in
@@ -68,7 +67,7 @@ module _ (columns : List ℕ) (values : List ℤ) where
         let left : length columns - k ≡ suc (length bs) = omega (arith, length-drop (k + 1) columns) in
         ap₂ (λ (l : List ℕ) (v : List ℤ). fieldsEnded sep last (columnsOf l) v) cut cut-values
         ∙ ap (λ (stop : ℕ). textAt k ++ (stop ∷ rest)) (stop-is sep last _ bs left)
-        ∙ sym (append-assoc (textAt k) (endOf sep last (length columns - k) ∷ []) rest)
+        ∙ sym (append-assoc (textAt k) (stopByLeft sep last (length columns - k) ∷ []) rest)
 
     first-length : fieldsLength (columnsOf (drop k columns)) (drop k values) ≡ length (textAt k) + 1 + fieldsLength (columnsOf (drop (k + 1) columns)) (drop (k + 1) values)
     unfolding fieldsLength
@@ -96,7 +95,7 @@ module _ (columns : List ℕ) (values : List ℤ) where
           let is : u .done ≡ fieldsEnded sep last (columnsOf columns) values = sym (append-nil (u .done)) ∙ sym (ap (λ (l : List ℕ). u .done ++ fieldsEnded sep last (columnsOf l) (drop k values)) none) ∙ u .rest in
           subst (λ (t : List ℕ). Put t at out₀ next out) is (u .put)
 
-      module _ (long : length columns ≡ length values) (h : k < length columns) (room : at + length (fieldsEnded sep last (columnsOf columns) values) ≤ length out₀) (stop : ℕ) (is : stop ≡ endOf sep last (length columns - k)) where
+      module _ (long : length columns ≡ length values) (h : k < length columns) (room : at + length (fieldsEnded sep last (columnsOf columns) values) ≤ length out₀) (stop : ℕ) (is : stop ≡ stopByLeft sep last (length columns - k)) where
         abbrev field : List ℕ
         field = textAt k ++ (stop ∷ [])
 

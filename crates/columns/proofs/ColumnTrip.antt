@@ -1,7 +1,6 @@
 -- The round trip of columns, both ways and over any list of them: what was read is what stands there, and what is written reads as itself. No contract cites this file.
 -- `Ends` is all that is asked of the byte that parts the fields: it is not 0, and no digit. For a line to be one line it is no LF either.
 -- In order: what is kept of a column; one field; fields; letter and index; a whole line, and one that is judged; a line that has no index; two parts.
--- Assumes nothing.
 use mathlib.Core.Path.{_≡_, refl, sym, ap, ap₂, subst, _∙_}
 use mathlib.Core.Bool.{Bool, true, false, cond}
 use mathlib.Core.List.{List, [], _∷_, _++_, append-assoc, append-nil}
@@ -28,7 +27,7 @@ use Rattle.text.proofs.LineLaws.{noFeed, line-past}
 use Rattle.text.proofs.WrittenLaws.{ended-text, decimal-no-feed, decimalℤ-no-feed, share-no-feed}
 use Rattle.columns.specs.Columns.{fieldAt, Values, values, wrong, push, onward, stopOf, fieldsAt}
 use Rattle.columns.specs.ColumnText.{fieldText, fieldsEnded, indexText, columnsText, plainText}
-use Rattle.columns.specs.ColumnLine.{ownIndex, indexAt, toEnd, restAt, after, columnsLine, plainLine, judged}
+use Rattle.columns.specs.ColumnLine.{ownIndex, indexAt, toEnd, restAt, afterNumber, columnsLine, plainLine, judged}
 
 -- ---- what is kept of a column
 abbrev pub Kept : Column → ℤ → Type 0
@@ -269,7 +268,7 @@ module _ (sep letter : ℕ) (parts : Ends sep) (cs : List Column) (line : List �
       fielded at r (wrong place) q e = absurd (no-values place zs next e)
       fielded at r (values ys m) q e = end at r ys m q (ended line m) refl e
 
-      indexed : (n : Number) → indexAt sep letter line i ≡ n → after n (λ at. restAt sep cs line at) ≡ values zs next → LineRead sep letter cs line i zs
+      indexed : (n : Number) → indexAt sep letter line i ≡ n → afterNumber n (λ at. restAt sep cs line at) ≡ values zs next → LineRead sep letter cs line i zs
       indexed (Bad place) q e = absurd (no-values place zs next e)
       indexed (Value v at) q e = fielded at (index-read sep letter line i v at q) (fieldsAt sep feed cs line at) refl e
 
@@ -315,7 +314,7 @@ line-one sep letter (c ∷ cs) i zs r some other e =
     ∙ sym (append-assoc d (sep ∷ []) rest))
 
 -- ---- a line that is judged by its values, whatever it holds of them
-pub record Judged {A : Type 0} (fits : List ℤ → Bool) (make : List ℤ → A) (v : Values) (a : A) : Type 0 where
+pub record JudgedValues {A : Type 0} (fits : List ℤ → Bool) (make : List ℤ → A) (v : Values) (a : A) : Type 0 where
   pub zs : List ℤ
   pub next : ℕ
   pub is : v ≡ values zs next
@@ -323,11 +322,11 @@ pub record Judged {A : Type 0} (fits : List ℤ → Bool) (make : List ℤ → A
   pub made : make zs ≡ a
 
 module _ {A : Type 0} (fits : List ℤ → Bool) (make : List ℤ → A) where
-  pub judged-is : (a : A) (v : Values) → judged fits make v ≡ holds a → Judged fits make v a
+  pub judged-is : (a : A) (v : Values) → judged fits make v ≡ holds a → JudgedValues fits make v a
   judged-is a (wrong place) e = absurd (no-form a e)
   judged-is a (values zs next) e = go (fits zs) refl e
     where
-      go : (t : Bool) → fits zs ≡ t → cond t (holds (make zs)) range ≡ holds a → Judged fits make (values zs next) a
+      go : (t : Bool) → fits zs ≡ t → cond t (holds (make zs)) range ≡ holds a → JudgedValues fits make (values zs next) a
       go false q e = absurd (no-range a e)
       go true q e = record { zs = zs; next = next; is = refl; fit = q; made = holds-is (make zs) a e }
 

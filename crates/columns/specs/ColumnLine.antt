@@ -1,6 +1,5 @@
 -- A line with its letter, its index and its columns (01, "The table as text"): the letter first, then the fields from the left, then the line's end.
 -- `sep` is the byte that parts the fields, a tab in the table; the last field ends in the line's LF.
--- Assumes nothing.
 use mathlib.Core.Bool.{Bool, cond}
 use mathlib.Core.List.{List}
 use Prim.Native.Nat.{ℕ}
@@ -31,17 +30,17 @@ toEnd line (wrong place) = wrong place
 unfoldable pub restAt : (sep : ℕ) → List Column → (line : List ℕ) → (at : ℕ) → Values
 restAt sep columns line at = toEnd line (fieldsAt sep feed columns line at)
 
-abbrev pub after : Number → (ℕ → Values) → Values
-after (Value v next) rest = rest next
-after (Bad place) rest = wrong place
+abbrev pub afterNumber : Number → (ℕ → Values) → Values
+afterNumber (Value v next) rest = rest next
+afterNumber (Bad place) rest = wrong place
 
 -- a whole line
 unfoldable pub columnsLine : (sep letter : ℕ) → List Column → (line : List ℕ) → (i : ℕ) → Values
-columnsLine sep letter columns line i = after (indexAt sep letter line i) (λ (at : ℕ). restAt sep columns line at)
+columnsLine sep letter columns line i = afterNumber (indexAt sep letter line i) (λ (at : ℕ). restAt sep columns line at)
 
 -- letter, index and columns that others follow
 unfoldable pub headAt : (sep letter : ℕ) → List Column → (line : List ℕ) → (i : ℕ) → Values
-headAt sep letter columns line i = after (indexAt sep letter line i) (λ (at : ℕ). fieldsAt sep sep columns line at)
+headAt sep letter columns line i = afterNumber (indexAt sep letter line i) (λ (at : ℕ). fieldsAt sep sep columns line at)
 
 -- a line that has no index
 unfoldable pub plainLine : (sep letter : ℕ) → List Column → (line : List ℕ) → Values

@@ -1,6 +1,5 @@
 -- The fields of columns as they are written (01, "The table as text"): each with the byte that ends it, and lines of them.
 -- `sep` is the byte that parts the fields, a tab in the table; the last field ends in the line's LF.
--- Assumes nothing.
 use mathlib.Core.List.{List, [], _∷_, _++_}
 use Prim.Native.Nat.{ℕ, suc, _+_}
 use lib.IntN.{ℤ, pos}

@@ -1,6 +1,5 @@
 -- The fields of a list of columns (01, "The table as text"), read from left to right; which columns a line has is said in kinds, specs/LineColumns.antt.
 -- `fieldAt` and `fieldsAt` are what contracts cite. Left to others: the letter, the index and the end of the line (`ColumnLine.antt`), and ranges.
--- Assumes nothing.
 use mathlib.Core.List.{List, [], _∷_}
 use Prim.Native.Nat.{ℕ}
 use lib.IntN.{ℤ}

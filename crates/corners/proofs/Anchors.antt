@@ -1,5 +1,4 @@
 -- A small sheet, computed. Nobody cites it: it refuses a definition that slipped, by the number that comes out.
--- Assumes nothing.
 use mathlib.Core.Path.{_≡_, refl}
 use mathlib.Core.List.{List, [], _∷_}
 use Prim.Native.Nat.{ℕ, zero, suc, _<_}

@@ -1,6 +1,5 @@
 -- The laws of `specs/Corners.antt`: how long a sheet is, what stands at each number, that a number is its bits, and how large a flow can be.
 -- No contract cites this file.
--- Assumes nothing.
 use mathlib.Core.Path.{_≡_, refl, sym, ap, ap₂, subst, _∙_}
 use mathlib.Core.Bool.{Bool, true, false, cond}
 use mathlib.Core.List.{List, [], _∷_, _++_}
@@ -11,13 +10,14 @@ use native.Mathlib.Omega.{arith}
 use lib.Dec.{eqb}
 use lib.IntN.{ℤ, pos, _+ℤ_, +ℤ-idr}
 use lib.ListN.{length, length-append, List·getD-append}
+use lib.Pow.{pow-pos}
 use lib.Seq.{getD-append-add}
 use Rattle.numbers.specs.Ints.{Within, sumℤ}
 use Rattle.numbers.specs.Below.{ifZero}
 use Rattle.numbers.proofs.BelowLaws.{le-or-lt, lt-suc-cases, sumℤ-cong}
 use Rattle.kinds.specs.Ranges.{atℤ}
 use Rattle.margin.proofs.BoundLaws.{within-sum}
-use Rattle.margin.proofs.Corner.{two-pos, low-bit, top-bit, same-bit, used}
+use Rattle.margin.proofs.Corner.{low-bit, top-bit, same-bit, used}
 use Rattle.corners.specs.Corners.{raisedBy, cornerFlows, bit}
 
 -- ---- raisedBy
@@ -99,35 +99,35 @@ pub bit-same : (n b k : ℕ) → b < n → bit (2 ^ n + k) b ≡ bit k b
 bit-same n b k h = ap (λ (v : ℕ). eqb v 1) (same-bit n b k h)
 
 -- the number whose bits choose the borders
-pub numberOf : (chosen : ℕ → Bool) → (n : ℕ) → ℕ
-numberOf chosen zero = 0
-numberOf chosen (suc n) = let rest = numberOf chosen n in cond (chosen n) (2 ^ n + rest) rest
+pub cornerOf : (chosen : ℕ → Bool) → (n : ℕ) → ℕ
+cornerOf chosen zero = 0
+cornerOf chosen (suc n) = let rest = cornerOf chosen n in cond (chosen n) (2 ^ n + rest) rest
 
 module _ (chosen : ℕ → Bool) where
-  pub number-below : (n : ℕ) → numberOf chosen n < 2 ^ n
-  unfolding numberOf
-  number-below zero = two-pos 0
+  pub number-below : (n : ℕ) → cornerOf chosen n < 2 ^ n
+  unfolding cornerOf
+  number-below zero = pow-pos 0
   number-below (suc n) = go (chosen n) (number-below n)
     where
-      go : (t : Bool) → numberOf chosen n < 2 ^ n → cond t (2 ^ n + numberOf chosen n) (numberOf chosen n) < 2 ^ suc n
+      go : (t : Bool) → cornerOf chosen n < 2 ^ n → cond t (2 ^ n + cornerOf chosen n) (cornerOf chosen n) < 2 ^ suc n
       go true h = omega (arith, two-pow-succ n)
       go false h = omega (arith, two-pow-succ n)
 
-  pub number-bits : (n b : ℕ) → b < n → bit (numberOf chosen n) b ≡ chosen b
-  unfolding numberOf
+  pub number-bits : (n b : ℕ) → b < n → bit (cornerOf chosen n) b ≡ chosen b
+  unfolding cornerOf
   number-bits zero b h = absurd (not-suc-le-zero h)
   number-bits (suc n) b h = go (chosen n) refl (number-bits n b) (lt-suc-cases b n h)
     where
-      go : (t : Bool) → chosen n ≡ t → (b < n → bit (numberOf chosen n) b ≡ chosen b) → (b < n) ⊎ (b ≡ n)
-          → bit (cond t (2 ^ n + numberOf chosen n) (numberOf chosen n)) b ≡ chosen b
-      go true e ih (inl l) = bit-same n b (numberOf chosen n) l ∙ ih l
-      go true e ih (inr q) = rw q (top-set n (numberOf chosen n) (number-below n) ∙ sym e)
+      go : (t : Bool) → chosen n ≡ t → (b < n → bit (cornerOf chosen n) b ≡ chosen b) → (b < n) ⊎ (b ≡ n)
+          → bit (cond t (2 ^ n + cornerOf chosen n) (cornerOf chosen n)) b ≡ chosen b
+      go true e ih (inl l) = bit-same n b (cornerOf chosen n) l ∙ ih l
+      go true e ih (inr q) = rw q (top-set n (cornerOf chosen n) (number-below n) ∙ sym e)
       go false e ih (inl l) = ih l
-      go false e ih (inr q) = rw q (low-not n (numberOf chosen n) (number-below n) ∙ sym e)
+      go false e ih (inr q) = rw q (low-not n (cornerOf chosen n) (number-below n) ∙ sym e)
 
   -- .. and no other number has them
-  pub number-only : (n k : ℕ) → k < 2 ^ n → ((b : ℕ) → b < n → bit k b ≡ chosen b) → k ≡ numberOf chosen n
-  unfolding numberOf
+  pub number-only : (n k : ℕ) → k < 2 ^ n → ((b : ℕ) → b < n → bit k b ≡ chosen b) → k ≡ cornerOf chosen n
+  unfolding cornerOf
   number-only zero k h all = omega (arith, pow-zero 2)
   number-only (suc n) k h all =
       ⊎-elim
@@ -136,7 +136,7 @@ module _ (chosen : ℕ → Bool) where
       let e : 2 ^ n + j ≡ k = omega arith in
       let q : j < 2 ^ n = omega (arith, two-pow-succ n) in
       let t : chosen n ≡ true = sym (all n (le-refl (suc n))) ∙ ap (λ (x : ℕ). bit x n) (sym e) ∙ top-set n j q in
-      let i : j ≡ numberOf chosen n = number-only n j q (λ b m. sym (bit-same n b j m) ∙ ap (λ (x : ℕ). bit x b) e ∙ all b (omega arith)) in
+      let i : j ≡ cornerOf chosen n = number-only n j q (λ b m. sym (bit-same n b j m) ∙ ap (λ (x : ℕ). bit x b) e ∙ all b (omega arith)) in
       rw t (omega (arith, i, e)))
       (λ l.
       let t : chosen n ≡ false = sym (all n (le-refl (suc n))) ∙ low-not n k l in

@@ -1,6 +1,5 @@
 -- The laws behind the functions that list corners: the flows with one border more used, item by item, and the corners of a list from those of a shorter one.
 -- No contract cites this file.
--- Assumes nothing.
 use mathlib.Core.Path.{_≡_, refl, sym, ap, ap₂, subst, _∙_}
 use mathlib.Core.Bool.{true, cond}
 use mathlib.Core.List.{List, [], _∷_, _++_}
@@ -26,7 +25,7 @@ use Rattle.margin.specs.Bounds.{FactorsBound, BorderBound, BordersBound}
 use Rattle.margin.proofs.BoundLaws.{within-sub}
 use Rattle.margin.proofs.JudgedLaws.{border-bound}
 use Rattle.corners.specs.Corners.{sheetBordersMost, raisedBy, cornerFlows, partOf, flowsOf}
-use Rattle.corners.specs.Listed.{partMost, flowMost, Listed}
+use Rattle.corners.specs.Listed.{partMost, cornerFlowMost, FlowsListed}
 use Rattle.corners.proofs.CornerLaws.{raised-length, raised-at, flows-length, flows-cong, flow-within}
 
 -- ---- after the first `count` flows, the same with one border more used
@@ -104,7 +103,7 @@ module _ (part : ℤ) (old : List ℤ) (count : ℕ) where
           (λ l. List·getD-append first (raisedBy part first) (pos 0) i (omega (arith, first-long)) ∙ getD-take count old i (pos 0) l ∙ sym (flow-low i l))
           (le-or-lt count i)))
 
-      pub using-all : count + count ≤ k → (next : ℕ) → next ≡ count + count → Listed (first ++ raisedBy part first) old next out
+      pub using-all : count + count ≤ k → (next : ℕ) → next ≡ count + count → FlowsListed (first ++ raisedBy part first) old next out
       using-all h next e =
           record {
             counted = e ∙ sym (table-long (count + count) flowAt) ∙ ap length both;
@@ -134,7 +133,7 @@ first-set : (old : List ℤ) → 0 < length old → set old 0 (pos 0) ≡ pos 0 
 first-set [] h = absurd (not-suc-le-zero h)
 first-set (z ∷ old) h = refl
 
-pub list-none : (factors : List ℤ) (borders : List (List ℤ)) {old : List ℤ} → length borders ≡ 0 → 0 < length old → Listed (flowsOf factors borders) old 1 (set old 0 (pos 0))
+pub list-none : (factors : List ℤ) (borders : List (List ℤ)) {old : List ℤ} → length borders ≡ 0 → 0 < length old → FlowsListed (flowsOf factors borders) old 1 (set old 0 (pos 0))
 list-none factors borders {old} e h =
     let n = nothing factors borders e in
     record { counted = sym (ap length n); wrote = first-set old h ∙ ap (λ (flows : List ℤ). over flows old) (sym n) }
@@ -144,7 +143,7 @@ module _ (factors : List ℤ) (borders : List (List ℤ)) (few : length borders 
   pub part-of-within : (k : ℕ) → k < length borders → Within partMost (partOf factors borders k)
   part-of-within k h = part-within f (border-bound (length factors) (getD borders k []) (b .each k h))
 
-  flows-within : AllWithin flowMost (flowsOf factors borders)
+  flows-within : AllWithin cornerFlowMost (flowsOf factors borders)
   flows-within =
       let long = flows-length (partOf factors borders) (length borders) in
       record {
@@ -190,7 +189,7 @@ module _ (factors : List ℤ) (borders : List (List ℤ)) (some : length borders
       in
       ap (cornerFlows (partOf factors borders)) last-suc ∙ ap (λ (r : List ℤ). r ++ raisedBy (partOf factors borders last) r) same
 
-  module _ {old mid : List ℤ} {count : ℕ} (room : 2 ^ length borders ≤ length old) (l : Listed rest old count mid) where
+  module _ {old mid : List ℤ} {count : ℕ} (room : 2 ^ length borders ≤ length old) (l : FlowsListed rest old count mid) where
     rest-long : length rest ≡ 2 ^ length shorter
     rest-long = flows-length (partOf factors shorter) (length shorter)
 
@@ -206,7 +205,7 @@ module _ (factors : List ℤ) (borders : List (List ℤ)) (some : length borders
     pub room-used : count + count ≤ length mid
     room-used = omega (arith, mid-long, l .counted, rest-long, twice-two)
 
-    pub within-used : length borders ≤ sheetBordersMost → FactorsBound factors → BordersBound (length factors) borders → AllWithin flowMost (take count mid)
+    pub within-used : length borders ≤ sheetBordersMost → FactorsBound factors → BordersBound (length factors) borders → AllWithin cornerFlowMost (take count mid)
     within-used few f b = rw mid-first (flows-within factors shorter (omega (arith, shorter-long)) f (shorter-bound b))
 
     -- what is written over what was written in front
@@ -217,8 +216,8 @@ module _ (factors : List ℤ) (borders : List (List ℤ)) (some : length borders
         ap (λ (t : List ℤ). new ++ t)
         (ap (λ (k : ℕ). drop k mid) (sym e) ∙ sym (drop-drop d (length rest) mid) ∙ ap (drop d) mid-rest ∙ drop-drop d (length rest) old ∙ ap (λ (k : ℕ). drop k old) e)
 
-    pub list-more : {part : ℤ} {next : ℕ} {out : List ℤ} → part ≡ partOf factors borders last → Listed (take count mid ++ raisedBy part (take count mid)) mid next out
-        → Listed (flowsOf factors borders) old next out
+    pub list-more : {part : ℤ} {next : ℕ} {out : List ℤ} → part ≡ partOf factors borders last → FlowsListed (take count mid ++ raisedBy part (take count mid)) mid next out
+        → FlowsListed (flowsOf factors borders) old next out
     list-more {part} {next} {out} e q =
         let same : take count mid ++ raisedBy part (take count mid) ≡ flowsOf factors borders = ap₂ (λ (z : ℤ) (r : List ℤ). r ++ raisedBy z r) e mid-first ∙ sym flows-more in
         record {

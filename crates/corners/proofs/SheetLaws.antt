@@ -1,6 +1,5 @@
 -- The laws of `specs/Corners.antt`'s `judgeCorners` and `cornersLeft`: which test decides, and what a call leaves where none does.
 -- No contract cites this file.
--- Assumes nothing.
 use mathlib.Core.Path.{_≡_, sym, ap, ap₂, subst, _∙_}
 use mathlib.Core.List.{List}
 use Prim.Native.Nat.{ℕ, _^_, _≤_, _<_}
@@ -13,13 +12,13 @@ use Rattle.kinds.specs.declared.Judgement.{Judgement}
 use Rattle.kinds.specs.declared.Judgement.the-variants.{Passed, Refused}
 use Rattle.kinds.specs.declared.Refusal.{Refusal}
 use Rattle.kinds.specs.Answers.{ruled}
-use Rattle.kinds.specs.Refusals.{Why, passed, refused, told, tooShort, noCorners}
+use Rattle.kinds.specs.Refusals.{passed, refused, tooShort, noCorners}
 use Rattle.kinds.proofs.RefusalLaws.{passed-is, then-passed, then-next, then-refused, either-passed, either-refused, unless-passed, unless-ok, unless-refused, need-enough, need-short}
 use Rattle.table.specs.Table.{Table, front, factorsAt, judgeLent}
 use Rattle.table.specs.Good.{Good}
 use Rattle.table.proofs.GoodLaws.{judged-good}
 use Rattle.corners.specs.Corners.{sheetBordersMost, partOf, flowsOf, judgeCorners, flowsLeft, cornersLeft}
-use Rattle.corners.specs.Listed.{Listed}
+use Rattle.corners.specs.Listed.{FlowsListed}
 use Rattle.corners.proofs.CornerLaws.{flows-length}
 
 -- ---- judgeCorners, after the table's own judging
@@ -27,7 +26,7 @@ module _ (given : Table) (row : ℕ) (r : Judgement) (said : ruled r (front give
   pub table-refused : (w : Refusal) → r ≡ Refused w → ruled r (front given) ≡ judgeCorners given row
   unfolding judgeCorners
   table-refused w e =
-      let q : ruled r (front given) ≡ refused (told w) = ap (λ (j : Judgement). ruled j (front given)) e in
+      let q : ruled r (front given) ≡ refused w = ap (λ (j : Judgement). ruled j (front given)) e in
       q ∙ sym (then-refused _ (sym said ∙ q))
 
   module _ (ok : r ≡ Passed) where
@@ -71,7 +70,7 @@ flows-long {t} {row} s = flows-length (partOf (factorsAt t row) (t .borders)) (l
 
 -- ---- cornersLeft, by what the judging comes to
 module _ (given : Table) (row : ℕ) (out : List ℤ) where
-  pub corners-refused : (w : Why) → judgeCorners given row ≡ refused w → cornersLeft given row out ≡ flowsLeft (refused w) out
+  pub corners-refused : (w : Refusal) → judgeCorners given row ≡ refused w → cornersLeft given row out ≡ flowsLeft (refused w) out
   unfolding cornersLeft
   corners-refused w e = either-refused _ _ (then-refused _ e)
 
@@ -90,5 +89,5 @@ module _ (given : Table) (row : ℕ) (out : List ℤ) where
     unfolding cornersLeft
     corners-all h = either-passed _ _ (then-next _ e ∙ need-enough _ (length flows) (length out) (omega (arith, flows-long (judged-sheet given row t e))))
 
-    pub corners-listed : 2 ^ t .header .borders ≤ length out → {count : ℕ} {out′ : List ℤ} → Listed flows out count out′ → flowsLeft (passed count) out′ ≡ cornersLeft given row out
+    pub corners-listed : 2 ^ t .header .borders ≤ length out → {count : ℕ} {out′ : List ℤ} → FlowsListed flows out count out′ → flowsLeft (passed count) out′ ≡ cornersLeft given row out
     corners-listed h l = ap₂ (λ (k : ℕ) (o : List ℤ). flowsLeft (passed k) o) (l .counted) (l .wrote) ∙ sym (corners-all h)

@@ -1,5 +1,4 @@
 -- The corner sheet (02, E1): every corner stands there, each once, and the largest flow is S; for any number of borders. No contract cites this file.
--- Assumes nothing.
 use mathlib.Core.Path.{_≡_, refl, sym, ap, subst, _∙_}
 use mathlib.Core.Bool.{Bool, cond}
 use mathlib.Core.List.{List}
@@ -16,7 +15,7 @@ use Rattle.table.specs.Table.{Table, factorsAt}
 use Rattle.margin.specs.Margin.{cornerPart, cornerSum, sOf}
 use Rattle.margin.proofs.Corner.{used, s-largest-corner}
 use Rattle.corners.specs.Corners.{partOf, flowsOf, judgeCorners, flowsLeft, cornersLeft, Stands, Largest}
-use Rattle.corners.proofs.CornerLaws.{flows-length, flows-at, numberOf, number-below, number-bits, number-only, part-chosen}
+use Rattle.corners.proofs.CornerLaws.{flows-length, flows-at, cornerOf, number-below, number-bits, number-only, part-chosen}
 use Rattle.corners.proofs.SheetLaws.{judged-sheet, flows-long, corners-short, corners-all}
 
 module _ (factors : List ℤ) (borders : List (List ℤ)) where
@@ -35,7 +34,7 @@ module _ (factors : List ℤ) (borders : List (List ℤ)) where
   every-corner-stands chosen =
       let n = length borders in
       let part = partOf factors borders in
-      let k = numberOf chosen n in
+      let k = cornerOf chosen n in
       let below = number-below chosen n in
       record {
         corner = k;
@@ -68,5 +67,5 @@ module _ (given : Table) (row : ℕ) (t : Table) (judged : judgeCorners given ro
       corners-all given row old t judged h
       ∙ ap (λ (n : ℕ). flowsLeft (passed n) (over (flowsOf (factorsAt t row) (t .borders)) old)) (flows-long (judged-sheet given row t judged))
 
-  pub sheet-short : length old < 2 ^ t .header .borders → cornersLeft given row old ≡ flowsLeft (refused (tooShort (2 ^ t .header .borders))) old
-  sheet-short h = corners-short given row old t judged _ refl h
+  pub sheet-no-room : length old < 2 ^ t .header .borders → cornersLeft given row old ≡ flowsLeft (refused (tooShort (2 ^ t .header .borders))) old
+  sheet-no-room h = corners-short given row old t judged _ refl h

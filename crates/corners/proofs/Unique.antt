@@ -1,6 +1,5 @@
 -- No second answer, and no second content of the lent numbers, satisfies the contract of `corner_flows`.
 -- The theorem is about the contract itself as the checker reads it (`reads.Post`), and not about a copy.
--- Assumes nothing.
 use mathlib.Core.Path.{_≡_, sym, ap, _∙_}
 use mathlib.Core.List.{List}
 use lib.IntN.{ℤ}

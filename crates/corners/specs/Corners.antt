@@ -1,6 +1,5 @@
 -- The corner sheet (02, E1): every corner's flow on one row, in grains, as summed for S, and what the open call `corner_flows` leaves.
 -- `flowsOf`, `judgeCorners` and `cornersLeft` are what contracts cite; `Stands` and `Largest` are what the theorems say of a sheet.
--- Assumes nothing.
 use mathlib.Core.Path.{_≡_}
 use mathlib.Core.Bool.{Bool, cond}
 use mathlib.Core.List.{List, [], _∷_, _++_}

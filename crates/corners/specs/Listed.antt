@@ -1,5 +1,4 @@
 -- What the functions that list corners ask and leave: how large a part and a flow can be, in grains, and flows in front of what a buffer held.
--- Assumes nothing.
 use mathlib.Core.Path.{_≡_}
 use mathlib.Core.List.{List}
 use Prim.Native.Nat.{ℕ, _*_}
@@ -13,10 +12,10 @@ use Rattle.corners.specs.Corners.{sheetBordersMost}
 abbrev pub partMost : ℕ
 partMost = 2 * factorMost * (ltaMost * 1000)
 
-abbrev pub flowMost : ℕ
-flowMost = sheetBordersMost * partMost
+abbrev pub cornerFlowMost : ℕ
+cornerFlowMost = sheetBordersMost * partMost
 
 -- so many flows stand in front, and the rest is as it was
-pub record Listed (flows old : List ℤ) (count : ℕ) (out : List ℤ) : Type 0 where
+pub record FlowsListed (flows old : List ℤ) (count : ℕ) (out : List ℤ) : Type 0 where
   pub counted : count ≡ length flows
   pub wrote : out ≡ over flows old

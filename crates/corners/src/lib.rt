@@ -12,7 +12,7 @@ ghost use Rattle.table.specs.Table.{lent, front, stretch};
 ghost use Rattle.margin.specs.Bounds.{FactorsBound, TableFactorsBound, BordersBound};
 ghost use Rattle.margin.specs.Margin.{cornerPart};
 ghost use Rattle.corners.specs.Corners.{sheetBordersMost, raisedBy, flowsOf, judgeCorners, flowsLeft, cornersLeft};
-ghost use Rattle.corners.specs.Listed.{partMost, flowMost, Listed};
+ghost use Rattle.corners.specs.Listed.{partMost, cornerFlowMost, FlowsListed};
 use kinds::BorderRecord;
 use kinds::Flows;
 use kinds::Header;
@@ -41,7 +41,7 @@ pub fn corner_flows(
     let borders = h.borders;
     let needed = corner_count(borders);
     if out.len() < needed {
-        return Flows::Refused(Refusal::Short(needed));
+        return Flows::Refused(Refusal::too_short(needed));
     }
     let factors = h.rows * h.zones;
     Flows::Corners(list_row(h, &b[..borders], &f[..factors], row, out))
@@ -63,10 +63,10 @@ fn judge_corners(
         return judged;
     };
     if BORDERS_MOST < h.borders {
-        return Judgement::Refused(Refusal::Corners(h.borders));
+        return Judgement::Refused(Refusal::no_corners(h.borders));
     }
     if h.rows <= row {
-        return Judgement::Refused(Refusal::Corners(row));
+        return Judgement::Refused(Refusal::no_corners(row));
     }
     Judgement::Passed
 }
@@ -85,7 +85,7 @@ fn list_row(h: Header, b: &[BorderRecord], f: &[i64], row: usize, out: &mut [i64
     requires { ⌜ length (now b) ≤ sheetBordersMost ⌝ }
     requires { ⌜ row < h .rows ⌝ }
     requires { ⌜ 2 ^ length (now b) ≤ length (now out) ⌝ }
-    ensures { λ r. ⌜ Listed (flowsOf (stretch (h .zones) (now (f .entry)) row) (now (b .entry))) (now (out .entry)) r (now (out .exit)) ⌝ }
+    ensures { λ r. ⌜ FlowsListed (flowsOf (stretch (h .zones) (now (f .entry)) row) (now (b .entry))) (now (out .entry)) r (now (out .exit)) ⌝ }
 {
     list_corners(margin::row_factors(h, f, row), b, out)
 }
@@ -97,7 +97,7 @@ fn list_corners(factors: &[i64], borders: &[BorderRecord], out: &mut [i64]) -> u
     requires { ⌜ BordersBound (length (now factors)) (now borders) ⌝ }
     requires { ⌜ length (now borders) ≤ sheetBordersMost ⌝ }
     requires { ⌜ 2 ^ length (now borders) ≤ length (now out) ⌝ }
-    ensures { λ r. ⌜ Listed (flowsOf (now (factors .entry)) (now (borders .entry))) (now (out .entry)) r (now (out .exit)) ⌝ }
+    ensures { λ r. ⌜ FlowsListed (flowsOf (now (factors .entry)) (now (borders .entry))) (now (out .entry)) r (now (out .exit)) ⌝ }
 {
     let left = borders.len();
     if left == 0 {
@@ -113,9 +113,9 @@ fn list_corners(factors: &[i64], borders: &[BorderRecord], out: &mut [i64]) -> u
 // After the first `count` flows, the same with one border more used. Answers how many there are then.
 fn list_used(part: i64, out: &mut [i64], count: usize) -> usize
     requires { ⌜ Within partMost part ⌝ }
-    requires { ⌜ AllWithin flowMost (take count (now out)) ⌝ }
+    requires { ⌜ AllWithin cornerFlowMost (take count (now out)) ⌝ }
     requires { ⌜ count + count ≤ length (now out) ⌝ }
-    ensures { λ r. ⌜ Listed (take count (now (out .entry)) ++ raisedBy part (take count (now (out .entry)))) (now (out .entry)) r (now (out .exit)) ⌝ }
+    ensures { λ r. ⌜ FlowsListed (take count (now (out .entry)) ++ raisedBy part (take count (now (out .entry)))) (now (out .entry)) r (now (out .exit)) ⌝ }
 {
     let next = count + count;
     for k in count..next {

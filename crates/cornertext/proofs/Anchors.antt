@@ -1,5 +1,4 @@
 -- A small sheet's text, computed. Nobody cites it: it refuses a definition that slipped.
--- Assumes nothing.
 use mathlib.Core.Path.{_≡_, refl}
 use mathlib.Core.List.{[], _∷_}
 use lib.IntN.{pos}

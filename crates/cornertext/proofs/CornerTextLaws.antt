@@ -1,5 +1,4 @@
 -- The laws of `specs/CornerText.antt`: how long a line is, what `corner_flows` tells, and what is left. No contract cites this file.
--- Assumes nothing.
 use mathlib.Core.Path.{_≡_, refl, sym, ap, _∙_}
 use mathlib.Core.List.{List, [], _∷_}
 use Prim.Native.Char.{code}
@@ -14,7 +13,7 @@ use Rattle.kinds.specs.declared.Flows.{Flows}
 use Rattle.kinds.specs.declared.Flows.the-variants as flows
 use Rattle.kinds.specs.declared.Refusal.{Refusal}
 use Rattle.kinds.specs.Answers.{saidFlows}
-use Rattle.kinds.specs.Refusals.{Why, Judged, passed, refused, told}
+use Rattle.kinds.specs.Refusals.{Judged, passed, refused}
 use Rattle.kinds.proofs.RefusalLaws.{passed-is, refused-is, not-passed, then-next, then-refused}
 use Rattle.text.specs.Left.{TextLeft, textLeft}
 use Rattle.text.specs.Written.{decimal, decimalℤ}
@@ -26,8 +25,8 @@ use Rattle.corners.proofs.SheetLaws.{judged-sheet, flows-long, corners-refused,
 use Rattle.cornertext.specs.CornerText.{sheetMost, cornerLine, cornersText, cornerTextLeft}
 
 -- ---- a line's length
-pub line-long : (row corner : ℕ) (flow : ℤ) → length (cornerLine row corner flow) ≡ 5 + length (decimal row) + length (decimal corner) + length (decimalℤ flow)
-line-long row corner flow =
+pub corner-line-long : (row corner : ℕ) (flow : ℤ) → length (cornerLine row corner flow) ≡ 5 + length (decimal row) + length (decimal corner) + length (decimalℤ flow)
+corner-line-long row corner flow =
     line-length (code "K") (decimal row ∷ decimal corner ∷ decimalℤ flow ∷ [])
     ∙ omega (
       arith,
@@ -43,14 +42,14 @@ module _ (given : Table) (row : ℕ) where
   sheetOf t = flowsOf (factorsAt t row) (t .borders)
 
   -- the flows that were filled in
-  pub record Told (n : ℕ) (o : List ℤ) : Type 0 where
+  pub record FlowsTold (n : ℕ) (o : List ℤ) : Type 0 where
     pub table : Table
     pub judged : judgeCorners given row ≡ passed table
     pub first : take n o ≡ sheetOf table
     pub few : n ≤ sheetMost
     pub long : n ≤ length o
 
-  pub text-on : (out : List ℕ) {n : ℕ} {o : List ℤ} → Told n o → textLeft (passed (cornersText row (take n o))) out ≡ cornerTextLeft given row out
+  pub text-on : (out : List ℕ) {n : ℕ} {o : List ℤ} → FlowsTold n o → textLeft (passed (cornersText row (take n o))) out ≡ cornerTextLeft given row out
   unfolding cornerTextLeft
   text-on out t = ap (λ (flows : List ℤ). textLeft (passed (cornersText row flows)) out) (t .first) ∙ ap (λ (j : Judged (List ℕ)). textLeft j out) (sym (then-next _ (t .judged)))
 
@@ -58,27 +57,27 @@ module _ (given : Table) (row : ℕ) where
     on-passed : (t : Table) → judgeCorners given row ≡ passed t → flowsLeft (saidFlows r) o ≡ flowsLeft (passed (length (sheetOf t))) (over (sheetOf t) room)
     on-passed t q = e ∙ corners-all given row room t q (omega (arith, pow-mono (judged-sheet given row t q .few)))
 
-    on-refused : (v : Why) → judgeCorners given row ≡ refused v → saidFlows r ≡ refused v
+    on-refused : (v : Refusal) → judgeCorners given row ≡ refused v → saidFlows r ≡ refused v
     on-refused v q = ap (λ (l : FlowsLeft). l .answer) (e ∙ corners-refused given row room v q)
 
-    pub told-refused : (out : List ℕ) (w : Refusal) → r ≡ flows.Refused w → _≡_ {A = TextLeft} (record { answer = refused (told w); out = out }) (cornerTextLeft given row out)
+    pub told-refused : (out : List ℕ) (w : Refusal) → r ≡ flows.Refused w → _≡_ {A = TextLeft} (record { answer = refused w; out = out }) (cornerTextLeft given row out)
     unfolding cornerTextLeft
     told-refused out w k = go (judgeCorners given row) refl
       where
-        said : saidFlows r ≡ refused (told w)
+        said : saidFlows r ≡ refused w
         said = ap saidFlows k
 
-        go : (j : Judged Table) → judgeCorners given row ≡ j → _≡_ {A = TextLeft} (record { answer = refused (told w); out = out }) (cornerTextLeft given row out)
-        go (passed t) q = absurd (not-passed (told w) (length (sheetOf t)) (sym said ∙ ap (λ (l : FlowsLeft). l .answer) (on-passed t q)))
-        go (refused v) q = text-refused out (then-refused _ (q ∙ ap refused (refused-is v (told w) (sym (on-refused v q) ∙ said))))
+        go : (j : Judged Table) → judgeCorners given row ≡ j → _≡_ {A = TextLeft} (record { answer = refused w; out = out }) (cornerTextLeft given row out)
+        go (passed t) q = absurd (not-passed w (length (sheetOf t)) (sym said ∙ ap (λ (l : FlowsLeft). l .answer) (on-passed t q)))
+        go (refused v) q = text-refused out (then-refused _ (q ∙ ap refused (refused-is v w (sym (on-refused v q) ∙ said))))
 
-    pub told-passed : (n : ℕ) → r ≡ flows.Corners n → Told n o
+    pub told-passed : (n : ℕ) → r ≡ flows.Corners n → FlowsTold n o
     told-passed n k = go (judgeCorners given row) refl
       where
         said : saidFlows r ≡ passed n
         said = ap saidFlows k
 
-        go : (j : Judged Table) → judgeCorners given row ≡ j → Told n o
+        go : (j : Judged Table) → judgeCorners given row ≡ j → FlowsTold n o
         go (passed t) q =
             let l = on-passed t q in
             let i : n ≡ length (sheetOf t) = passed-is n (length (sheetOf t)) (sym said ∙ ap (λ (x : FlowsLeft). x .answer) l) in

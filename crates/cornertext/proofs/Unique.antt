@@ -1,6 +1,5 @@
 -- No second answer, and no second content of the lent bytes, satisfies the contract of `corner_text`.
 -- The theorem is about the contract itself as the checker reads it (`reads.Post`), and not about a copy.
--- Assumes nothing.
 use mathlib.Core.Path.{_≡_}
 use contract.Lifetimes.{Lfts}
 use denote.Ref.{now}

@@ -1,5 +1,4 @@
 -- One row's corner sheet as text (02, E1), and what the open call `corner_text` leaves.
--- Assumes nothing.
 use mathlib.Core.List.{List, [], _∷_}
 use Prim.Native.Char.{code}
 use Prim.Native.Nat.{ℕ, _+_, _*_, _^_}

@@ -45,7 +45,7 @@ fn write_corners(row: usize, flows: &[i64], out: &mut [u8]) -> Written
 {
     let needed = text_length(row, flows);
     if out.len() < needed {
-        return Written::Refused(Refusal::Short(needed));
+        return Written::Refused(Refusal::too_short(needed));
     }
     Written::Bytes(put_corners(row, flows, out))
 }

@@ -1,5 +1,4 @@
 -- A small table that both 6 and 7 are true of. Nobody cites it: it refuses a definition that slipped.
--- Assumes nothing.
 use mathlib.Core.Path.{_≡_, refl}
 use mathlib.Core.List.{[], _∷_}
 use lib.IntN.{pos}

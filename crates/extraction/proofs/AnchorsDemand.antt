@@ -1,6 +1,5 @@
 -- A small hour, its result, and results that demand 3 rejects, one at least for each of its sentences. Nobody cites them: they refuse a statement of demand 3 that
 -- slipped, by the number that comes out.
--- Assumes nothing.
 use mathlib.Core.Path.{_≡_, refl, ap}
 use mathlib.Core.List.{List, [], _∷_}
 use Prim.Native.Nat.{ℕ, zero, suc, _≤_, _<_}

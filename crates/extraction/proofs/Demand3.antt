@@ -1,5 +1,4 @@
 -- Demand 3 of every accepted table (`specs/Demand.antt`), and that N, L and the figure of 3,840 are 01's.
--- Assumes nothing.
 use mathlib.Core.Path.{_≡_, refl, subst}
 use Prim.Native.Nat.{ℕ, _^_, _≤_, _<_}
 use Rattle.numbers.proofs.BelowLaws.{largest-le, largest-under}
@@ -14,7 +13,7 @@ use Rattle.margin.proofs.Small.{named-values-small}
 use Rattle.start.specs.Start.{gridOf, tableGrid, tableStart}
 use Rattle.extraction.specs.Extraction.{Result, outcomeOf, nOf, lOf}
 use Rattle.extraction.specs.Demand.{roundsMost, Demand3}
-use Rattle.extraction.proofs.DemandLaws.{accepted, g, s, demand-3}
+use Rattle.extraction.proofs.DemandLaws.{accepted, demand-3}
 
 -- 2 x 40 x 48
 pub rounds-most : roundsMost ≡ 3840
@@ -23,20 +22,20 @@ rounds-most = refl
 -- N: no kept row shares among more borders (a row not kept has p = 0 and shares among none), and no smaller number will do
 pub n-over : (t : Table) (i : ℕ) → i < t .header .rows → sharers (tableGrid t) i ≤ nOf t
 unfolding nOf mostSharers gridOf
-n-over t i h = largest-le (t .header .rows) (sharers (g t)) i h
+n-over t i h = largest-le (t .header .rows) (sharers (tableGrid t)) i h
 
 pub n-least : (t : Table) (n : ℕ) → ((i : ℕ) → i < t .header .rows → sharers (tableGrid t) i ≤ n) → nOf t ≤ n
 unfolding nOf mostSharers gridOf
-n-least t n h = largest-under (t .header .rows) (sharers (g t)) n h
+n-least t n h = largest-under (t .header .rows) (sharers (tableGrid t)) n h
 
 -- L: each border's raise alone at the start, the smallest floor(margin / p), is under 2^L, and L is the least such number
 pub l-over : (t : Table) (b : ℕ) → b < t .header .borders → alone (tableGrid t) (tableStart t .margins) b < 2 ^ lOf t
 unfolding lOf gridOf
-l-over t b h = alone-under (g t) (s t .margins) b h
+l-over t b h = alone-under (tableGrid t) (tableStart t .margins) b h
 
 pub l-least : (t : Table) (l : ℕ) → ((b : ℕ) → b < t .header .borders → alone (tableGrid t) (tableStart t .margins) b < 2 ^ l) → lOf t ≤ l
 unfolding lOf gridOf
-l-least t l h = alone-least (g t) (s t .margins) l h
+l-least t l h = alone-least (tableGrid t) (tableStart t .margins) l h
 
 -- demand 3 of every good table that extraction accepts
 pub accepted-demand-3 : (t : Table) (r : Result) → Good t → outcomeOf t ≡ passed r → Demand3 t r

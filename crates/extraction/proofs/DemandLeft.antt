@@ -1,5 +1,4 @@
 -- Demand 3 of what `extract` leaves (`specs/DemandLeft.antt`), for every lent input that it answers with rounds; and that it never answers refusal 7 where CVA and IVA are 0.
--- Assumes nothing.
 use mathlib.Core.Path.{_≡_, refl, sym, ap, subst, _∙_}
 use mathlib.Core.Bool.{Bool, true, false, cond}
 use mathlib.Core.List.{List, []}
@@ -20,12 +19,13 @@ use Rattle.rounds.specs.Rounds.{Grid, sharers, raise}
 use Rattle.rounds.proofs.LeastLaws.{least-mono, div-mono}
 use Rattle.margin.specs.Margin.{pOf, ltaKw}
 use Rattle.start.specs.Start.{rowsOf, kept, gridOf, tableGrid}
-use Rattle.extraction.specs.Extraction.{Result, resultOf, atcOf, leftOf, outcomeOf, atcRecord, rowRecord, leaves, room, stored, extractLeft}
+use Rattle.extraction.specs.Extraction.{Result, resultOf, atcOf, leftOf, outcomeOf, atcRecord, rowRecord, leaves, resultRoom, resultStored, extractLeft}
 use Rattle.extraction.specs.Demand.{Demand3}
 use Rattle.extraction.specs.DemandLeft.{atcIn, leftIn, LeftDemand3}
+use Rattle.extraction.specs.Seven.{NotSeven}
 use Rattle.extraction.proofs.DemandLaws.{accepted}
 use Rattle.extraction.proofs.Demand3.{accepted-demand-3}
-use Rattle.extraction.proofs.Seven.{NotSeven, no-refusal-7}
+use Rattle.extraction.proofs.Seven.{no-refusal-7}
 use Rattle.extraction.proofs.ToldLaws.{Told, told-passed, told-then, told-unless, told-first, told-need}
 
 -- ---- what stands in front of a lent buffer
@@ -49,11 +49,11 @@ module _ (t : Table) (atcs lefts : List (List ℤ)) where
   leftsLeft = over (table (t .header .rows) (rowRecord its)) lefts
 
   atc-in : (b : ℕ) → b < t .header .borders → atcIn atcsLeft b ≡ pos (atcOf its b)
-  unfolding atcRecord
+  unfolding atcRecord atcOf
   atc-in b h = ap (λ (x : List ℤ). atℤ x 0) (over-get (t .header .borders) (atcRecord its) atcs b [] h)
 
   left-in : (i : ℕ) → i < t .header .rows → leftIn leftsLeft i ≡ cond (kept (rowsOf t .states) i) (pos (leftOf its i)) (minus 1)
-  unfolding rowRecord resultOf
+  unfolding rowRecord resultOf kept
   left-in i h = ap (λ (x : List ℤ). atℤ x 2) (over-get (t .header .rows) (rowRecord its) lefts i [] h)
 
   left-kept : (i : ℕ) → i < t .header .rows → kept (rowsOf t .states) i ≡ true → leftIn leftsLeft i ≡ pos (leftOf its i)
@@ -92,15 +92,15 @@ module _ (t : Table) (atcs lefts : List (List ℤ)) where
 -- ---- of the call
 pub extract-demand-3 : (given : Table) (atcs lefts : List (List ℤ)) (k : ℕ) → let e = extractLeft given atcs lefts in e .answer ≡ passed k → LeftDemand3 (front given) k (e .atcs) (e .lefts)
 unfolding extractLeft either resultOf
-extract-demand-3 given atcs lefts k = go (then (judgeLent given) (λ t. then (outcomeOf t) (room atcs lefts))) refl
+extract-demand-3 given atcs lefts k = go (then (judgeLent given) (λ t. then (outcomeOf t) (resultRoom atcs lefts))) refl
   where
-    go : (j : Judged Result) → then (judgeLent given) (λ t. then (outcomeOf t) (room atcs lefts)) ≡ j
-        → let e = either j (stored atcs lefts) (λ w. leaves (refused w) atcs lefts) in e .answer ≡ passed k → LeftDemand3 (front given) k (e .atcs) (e .lefts)
+    go : (j : Judged Result) → then (judgeLent given) (λ t. then (outcomeOf t) (resultRoom atcs lefts)) ≡ j
+        → let e = either j (resultStored atcs lefts) (λ w. leaves (refused w) atcs lefts) in e .answer ≡ passed k → LeftDemand3 (front given) k (e .atcs) (e .lefts)
     go (refused w) q e = absurd (not-passed w k e)
     go (passed r) q e =
         let t = front given in
         let a = then-passed (judgeLent given) _ r q in
-        let o = then-passed (outcomeOf (a .it)) (room atcs lefts) r (a .second) in
+        let o = then-passed (outcomeOf (a .it)) (resultRoom atcs lefts) r (a .second) in
         let b = need-passed r _ _ _ (o .second) in
         let c = need-passed r _ _ _ (b .1) in
         let whole : a .it ≡ t = judged-front given (a .it) (a .first) in
@@ -109,8 +109,8 @@ extract-demand-3 given atcs lefts k = go (then (judgeLent given) (λ t. then (ou
         let is : resultOf t ≡ r = accepted t r found .is in
         let rounds : r .outcome .rounds ≡ k = passed-is _ _ e in
         let d : Demand3 t (resultOf t) = accepted-demand-3 t _ (judged-good given t judged) (found ∙ ap passed (sym is)) in
-        subst (λ (n : ℕ). LeftDemand3 t n (stored atcs lefts r .atcs) (stored atcs lefts r .lefts)) rounds
-        (subst (λ (s : Result). LeftDemand3 t (s .outcome .rounds) (stored atcs lefts s .atcs) (stored atcs lefts s .lefts)) is (left-demand-3 t atcs lefts d))
+        subst (λ (n : ℕ). LeftDemand3 t n (resultStored atcs lefts r .atcs) (resultStored atcs lefts r .lefts)) rounds
+        (subst (λ (s : Result). LeftDemand3 t (s .outcome .rounds) (resultStored atcs lefts s .atcs) (resultStored atcs lefts s .lefts)) is (left-demand-3 t atcs lefts d))
 
 -- ---- no refusal 7
 abbrev Other : ℕ → Type 0
@@ -134,11 +134,11 @@ pub extract-not-7 : (given : Table) (atcs lefts : List (List ℤ)) → ((i : ℕ
     → NotSeven (extractLeft given atcs lefts .answer)
 unfolding extractLeft either
 extract-not-7 given atcs lefts cva iva =
-    go (then (judgeLent given) (λ t. then (outcomeOf t) (room atcs lefts)))
+    go (then (judgeLent given) (λ t. then (outcomeOf t) (resultRoom atcs lefts)))
     (told-then (judgeLent given) _ (judged-not-7 given)
     (λ t e.
-    subst (λ (u : Table). Told Other (then (outcomeOf u) (room atcs lefts))) (sym (judged-front given t e))
-    (told-then (outcomeOf (front given)) (room atcs lefts)
+    subst (λ (u : Table). Told Other (then (outcomeOf u) (resultRoom atcs lefts))) (sym (judged-front given t e))
+    (told-then (outcomeOf (front given)) (resultRoom atcs lefts)
     (from-not-7 _
     (no-refusal-7 (front given) (λ i h. same-row i h (λ (x : List ℤ). rowOf x .cva) (cva i h)) (λ i h. same-row i h (λ (x : List ℤ). rowOf x .iva) (iva i h))))
     (λ r q. told-need _ _ _ (λ e. omega arith) (told-need _ _ _ (λ e. omega arith) (told-passed r))))))
@@ -146,6 +146,6 @@ extract-not-7 given atcs lefts cva iva =
     same-row : (i : ℕ) → i < given .header .rows → (f : List ℤ → ℤ) → f (getD (given .rows) i []) ≡ pos 0 → f (getD (take (given .header .rows) (given .rows)) i []) ≡ pos 0
     same-row i h f e = ap f (getD-take (given .header .rows) (given .rows) i [] h) ∙ e
 
-    go : (j : Judged Result) → Told Other j → NotSeven (either j (stored atcs lefts) (λ w. leaves (refused w) atcs lefts) .answer)
+    go : (j : Judged Result) → Told Other j → NotSeven (either j (resultStored atcs lefts) (λ w. leaves (refused w) atcs lefts) .answer)
     go (passed r) n = tt
     go (refused w) n = n .says

@@ -1,6 +1,5 @@
 -- The laws behind `extract`: what the rounds of the code come to, what is stored, and which judgement decides. No contract cites this file.
 -- `extract-roomy` is for a caller that lends room for the most borders and rows.
--- Assumes nothing.
 use mathlib.Core.Path.{_≡_, refl, sym, ap, ap₂, _∙_}
 use mathlib.Core.List.{List, []}
 use Prim.Native.Nat.{ℕ, _+_, _*_, _^_, _≤_, _<_}
@@ -17,7 +16,7 @@ use Rattle.kinds.specs.declared.Refusal.{Refusal}
 use Rattle.kinds.specs.Answers.{ruled}
 use Rattle.kinds.specs.Limits.{bordersMost, rowsMost}
 use Rattle.kinds.specs.Ranges.{atℤ, borderOf}
-use Rattle.kinds.specs.Refusals.{Why, Judged, passed, refused, then, either, told, tooShort}
+use Rattle.kinds.specs.Refusals.{Judged, passed, refused, then, either, tooShort}
 use Rattle.kinds.proofs.KindLaws.{header-in}
 use Rattle.kinds.proofs.RefusalLaws.{then-next, then-refused, either-passed, either-refused, need-enough, need-short}
 use Rattle.table.specs.Table.{Table, front, judgeLent}
@@ -25,7 +24,7 @@ use Rattle.table.specs.Good.{Good}
 use Rattle.table.proofs.GoodLaws.{judged-good}
 use Rattle.rounds.specs.declared.Final.{Final}
 use Rattle.rounds.specs.Rounds.{Grid, State, sharers, load, Outcome, extract}
-use Rattle.rounds.specs.Work.{flat, Startable, Left, left, workOf}
+use Rattle.rounds.specs.Work.{flat, Startable, WorkLeft, workLeft, workOf}
 use Rattle.rounds.proofs.Rounds.{extracts}
 use Rattle.rounds.proofs.Theorems.{extract-demand3, same-factors}
 use Rattle.rounds.proofs.WorkLaws.{rounds-long, work-ended}
@@ -33,11 +32,11 @@ use Rattle.margin.specs.Margin.{ltaKw}
 use Rattle.margin.specs.Bounds.{namedBits}
 use Rattle.margin.proofs.JudgedLaws.{good-borders}
 use Rattle.margin.proofs.Small.{named-values-small}
-use Rattle.start.specs.Start.{Rows, rowsOf, kept, gridOf, startOf, tableGrid, tableStart, judgeTable}
+use Rattle.start.specs.Start.{Rows, rowsOf, gridOf, startOf, tableGrid, tableStart, judgeTable}
 use Rattle.start.specs.Filled.{rowsWith, ltas, exchangesOf}
 use Rattle.start.proofs.StartLaws.{cells-at, grid-long, rows-in, PreparedAs}
-use Rattle.extraction.specs.Extraction.{Result, resultOf, atcOf, leftOf, outcomeOf, atcRecord, rowRecord, leaves, room, stored, extractLeft}
-use Rattle.extraction.specs.Work.{atcOfKw, leftOfRow, endedAt, endOf, Runnable, Finishable, resultWith, outcomeLeft}
+use Rattle.extraction.specs.Extraction.{Result, resultOf, leftOf, outcomeOf, atcOfKw, leftOfRow, atcRecord, rowRecord, leaves, resultRoom, resultStored, extractLeft}
+use Rattle.extraction.specs.Work.{endedAt, outcomeWith, Runnable, Finishable, resultWith, outcomeLeft}
 use Rattle.extraction.proofs.DemandLaws.{accepted, load-le, small-start}
 
 -- ---- the rounds
@@ -66,14 +65,14 @@ module _ {h : Header} {b : List (List ℤ)} {p margins x : List ℕ} (u : Runnab
         fits = λ i l. omega (arith, u .fits i l, x-load i);
       }
 
-  pub run-ended : {r : Final} {ends : List ℕ} → left r ends ≡ workOf g margins x → endedAt (h .borders) r ends ≡ endOf h b p margins
+  pub run-ended : {r : Final} {ends : List ℕ} → workLeft r ends ≡ workOf g margins x → endedAt (h .borders) r ends ≡ outcomeWith h b p margins
   run-ended w =
-      ap {B = Outcome} (λ (l : Left). endedAt (h .borders) (l .answer) (l .margins)) w
+      ap {B = Outcome} (λ (l : WorkLeft). endedAt (h .borders) (l .answer) (l .margins)) w
       ∙ work-ended g margins x x-long
       ∙ ap (λ (xs : List ℕ). extract g (record { margins = margins; x = xs })) x-front
 
 -- ---- what is stored, where the rounds of the code ended
-module _ {h : Header} {b : List (List ℤ)} {m : Rows} {p margins : List ℕ} (u : Finishable h b m p margins) (end : Final) {ends : List ℕ} (e : endedAt (h .borders) end ends ≡ endOf h b p margins) where
+module _ {h : Header} {b : List (List ℤ)} {m : Rows} {p margins : List ℕ} (u : Finishable h b m p margins) (end : Final) {ends : List ℕ} (e : endedAt (h .borders) end ends ≡ outcomeWith h b p margins) where
   -- there is an exchange for each border
   pub front-long : length (take (h .borders) (end .x)) ≡ h .borders
   front-long = ap (λ (o : Outcome). length (o .state .x)) e ∙ rounds-long (extracts _ _) (table-long (length b) _ ∙ u .run .borders-long)
@@ -102,8 +101,8 @@ module _ {h : Header} {b : List (List ℤ)} {m : Rows} {p margins : List ℕ} (u
     leftsOf n ms = over (table n (λ i. leftOfRow (at (m .states) i) (atℤ (m .rams) i) (at ms i))) lefts
 
     pub stored-is : {atcs′ lefts′ : List (List ℤ)} → atcs′ ≡ atcsOf (length (take (h .borders) (end .x))) (take (h .borders) (end .x)) → lefts′ ≡ leftsOf (length (m .states)) ends
-        → leaves (passed (end .rounds)) atcs′ lefts′ ≡ stored atcs lefts (resultWith h b m p margins)
-    unfolding atcRecord atcOf rowRecord leftOf kept
+        → leaves (passed (end .rounds)) atcs′ lefts′ ≡ resultStored atcs lefts (resultWith h b m p margins)
+    unfolding atcRecord rowRecord leftOf
     stored-is a l =
         ap₂ (leaves (passed (end .rounds)))
         (a ∙ ap (λ (n : ℕ). atcsOf n (take (h .borders) (end .x))) front-long)
@@ -118,7 +117,7 @@ module _ {t : Table} (good : Good t) {r : Judgement} {rams : List ℤ} {states p
   abbrev m : Rows
   m = rowsWith rams states
 
-  pub start-turned : {w : Refusal} → r ≡ Refused w → judgeTable t ≡ refused (told w)
+  pub start-turned : {w : Refusal} → r ≡ Refused w → judgeTable t ≡ refused w
   start-turned e = sym (q .judged) ∙ ap (λ (j : Judgement). ruled j states) e
 
   pub start-passed : r ≡ Passed → judgeTable t ≡ passed (rowsOf t .states)
@@ -173,7 +172,7 @@ module _ {t : Table} (good : Good t) {r : Judgement} {rams : List ℤ} {states p
 
 -- ---- which judgement decides, of a judged table
 module _ (t : Table) (atcs lefts : List (List ℤ)) where
-  pub start-refused : {w : Why} → judgeTable t ≡ refused w → leaves (refused w) atcs lefts ≡ outcomeLeft (outcomeOf t) atcs lefts
+  pub start-refused : {w : Refusal} → judgeTable t ≡ refused w → leaves (refused w) atcs lefts ≡ outcomeLeft (outcomeOf t) atcs lefts
   unfolding outcomeLeft outcomeOf
   start-refused e = sym (either-refused _ _ (then-refused _ (then-refused _ e)))
 
@@ -181,7 +180,7 @@ module _ (t : Table) (atcs lefts : List (List ℤ)) where
     abbrev result : Result
     result = resultOf t
 
-    past-start : then (outcomeOf t) (room atcs lefts) ≡ room atcs lefts result
+    past-start : then (outcomeOf t) (resultRoom atcs lefts) ≡ resultRoom atcs lefts result
     unfolding outcomeOf
     past-start = then-next _ (then-next _ e)
 
@@ -194,13 +193,13 @@ module _ (t : Table) (atcs lefts : List (List ℤ)) where
       unfolding outcomeLeft resultOf
       short-rows l = sym (either-refused _ _ (past-start ∙ need-enough _ _ _ hb ∙ need-short _ _ _ l))
 
-      pub all-stored : t .header .rows ≤ length lefts → stored atcs lefts result ≡ outcomeLeft (outcomeOf t) atcs lefts
+      pub all-stored : t .header .rows ≤ length lefts → resultStored atcs lefts result ≡ outcomeLeft (outcomeOf t) atcs lefts
       unfolding outcomeLeft resultOf
       all-stored l = sym (either-passed _ _ (past-start ∙ need-enough _ _ _ hb ∙ need-enough _ _ _ l))
 
 -- .. of lent tables
 module _ (given : Table) (r : Judgement) (said : ruled r (front given) ≡ judgeLent given) where
-  pub lent-refused : (atcs lefts : List (List ℤ)) (w : Refusal) → r ≡ Refused w → leaves (refused (told w)) atcs lefts ≡ extractLeft given atcs lefts
+  pub lent-refused : (atcs lefts : List (List ℤ)) (w : Refusal) → r ≡ Refused w → leaves (refused w) atcs lefts ≡ extractLeft given atcs lefts
   unfolding extractLeft
   lent-refused atcs lefts w e = sym (either-refused _ _ (then-refused _ (sym said ∙ ap (λ (j : Judgement). ruled j (front given)) e)))
 
@@ -213,11 +212,11 @@ module _ (given : Table) (r : Judgement) (said : ruled r (front given) ≡ judge
 
     pub lent-judged : (atcs lefts : List (List ℤ)) → outcomeLeft (outcomeOf (front given)) atcs lefts ≡ extractLeft given atcs lefts
     unfolding extractLeft outcomeLeft
-    lent-judged atcs lefts = ap (λ (j : Judged Result). either j (stored atcs lefts) (λ w. leaves (refused w) atcs lefts)) (sym (then-next _ front-judged))
+    lent-judged atcs lefts = ap (λ (j : Judged Result). either j (resultStored atcs lefts) (λ w. leaves (refused w) atcs lefts)) (sym (then-next _ front-judged))
 
 -- ---- with room for the most borders and rows, the answer and the records are those of the outcome
 module _ (given : Table) (atcs lefts : List (List ℤ)) (hb : bordersMost ≤ length atcs) (hr : rowsMost ≤ length lefts) where
-  enough : (t : Table) → Good t → (o : Judged Result) → outcomeOf t ≡ o → then o (room atcs lefts) ≡ o
+  enough : (t : Table) → Good t → (o : Judged Result) → outcomeOf t ≡ o → then o (resultRoom atcs lefts) ≡ o
   unfolding then resultOf
   enough t good (passed r) e =
       let h = header-in (t .header) (good .exact .header) in
@@ -225,10 +224,10 @@ module _ (given : Table) (atcs lefts : List (List ℤ)) (hb : bordersMost ≤ le
       need-enough _ _ _ (omega (arith, h .borders-most, ap (λ (v : Header). v .borders) k)) ∙ need-enough _ _ _ (omega (arith, h .rows-most, ap (λ (v : Header). v .rows) k))
   enough t good (refused w) e = refl
 
-  pub extract-roomy : extractLeft given atcs lefts ≡ either (then (judgeLent given) outcomeOf) (stored atcs lefts) (λ w. leaves (refused w) atcs lefts)
+  pub extract-roomy : extractLeft given atcs lefts ≡ either (then (judgeLent given) outcomeOf) (resultStored atcs lefts) (λ w. leaves (refused w) atcs lefts)
   unfolding extractLeft then
-  extract-roomy = ap (λ (j : Judged Result). either j (stored atcs lefts) (λ w. leaves (refused w) atcs lefts)) (go (judgeLent given) refl)
+  extract-roomy = ap (λ (j : Judged Result). either j (resultStored atcs lefts) (λ w. leaves (refused w) atcs lefts)) (go (judgeLent given) refl)
     where
-      go : (j : Judged Table) → judgeLent given ≡ j → then j (λ t. then (outcomeOf t) (room atcs lefts)) ≡ then j outcomeOf
+      go : (j : Judged Table) → judgeLent given ≡ j → then j (λ t. then (outcomeOf t) (resultRoom atcs lefts)) ≡ then j outcomeOf
       go (passed t) e = enough t (judged-good given t e) (outcomeOf t) refl
       go (refused w) e = refl

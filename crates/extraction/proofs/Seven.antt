@@ -1,5 +1,4 @@
 -- 01: if CVA and IVA are 0 in every row, refusal 7 isn't given.
--- Assumes nothing.
 use mathlib.Core.Path.{_≡_, refl, sym, ap, subst, _∙_}
 use mathlib.Core.Bool.{Bool, true, false, _&&_, not}
 use mathlib.Core.List.{List}
@@ -12,17 +11,13 @@ use lib.Signed.{ltZ}
 use Rattle.numbers.specs.Below.{firstFrom, someBelow}
 use Rattle.numbers.proofs.BelowLaws.{first-nothing, table-get}
 use Rattle.kinds.specs.Ranges.{atℤ}
-use Rattle.kinds.specs.Refusals.{Judged, passed, refused, then, unless, refuseAt, refuseFirst, noRow, unlimited, belowZero}
+use Rattle.kinds.specs.Refusals.{passed, then, unless, refuseAt, refuseFirst, noRow, unlimited, belowZero}
 use Rattle.table.specs.Table.{Table, rowAt}
 use Rattle.margin.specs.Margin.{ramAt, marginOf, startsOf}
 use Rattle.margin.proofs.MarginLaws.{start-not-negative}
 use Rattle.start.specs.Start.{rowsOf, kept, gridOf, judgeStart, tableGrid}
 use Rattle.extraction.specs.Extraction.{resultOf, outcomeOf}
-
--- a judgement that is not refusal 7
-abbrev pub NotSeven : {A : Type 0} → Judged A → Type 0
-NotSeven (passed a) = Unit {0}
-NotSeven (refused w) = w .number ≡ 7 → ⊥
+use Rattle.extraction.specs.Seven.{NotSeven}
 
 and-right : (a b : Bool) → b ≡ false → (a && b) ≡ false
 and-right true b e = e

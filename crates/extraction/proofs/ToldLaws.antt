@@ -1,12 +1,12 @@
 -- What is true of the number of every refusal that a chain of judgements can tell, put together step by step. No contract cites this file.
--- Assumes nothing.
 use mathlib.Core.Path.{_≡_, refl}
 use mathlib.Core.Bool.{Bool, true, false, cond}
 use mathlib.Core.Option.{Option, none, some}
 use Prim.Native.Nat.{ℕ}
 use lib.Dec.{ltb}
 use Rattle.numbers.specs.Below.{firstFrom}
-use Rattle.kinds.specs.Refusals.{Why, Judged, passed, refused, then, unless, refuseAt, refuseFirst, need, tooShort}
+use Rattle.kinds.specs.declared.Refusal.{Refusal}
+use Rattle.kinds.specs.Refusals.{Judged, passed, refused, then, unless, refuseAt, refuseFirst, need, tooShort}
 
 abbrev pub Says : {A : Type 0} → (P : ℕ → Type 0) → Judged A → Type 0
 Says P (passed a) = Unit {0}
@@ -24,12 +24,12 @@ module _ {P : ℕ → Type 0} where
   told-then (passed a) next n h = h a refl
   told-then (refused w) next n h = record { says = n .says }
 
-  pub told-unless : {A : Type 0} (ok : Bool) (w : Why) (next : Judged A) → P (w .number) → Told P next → Told P (unless ok w next)
+  pub told-unless : {A : Type 0} (ok : Bool) (w : Refusal) (next : Judged A) → P (w .number) → Told P next → Told P (unless ok w next)
   unfolding unless
   told-unless true w next h n = n
   told-unless false w next h n = record { says = h }
 
-  pub told-first : {A : Type 0} (k : ℕ) (faulty : ℕ → Bool) (w : ℕ → Why) (next : Judged A) → ((i : ℕ) → P (w i .number)) → Told P next → Told P (refuseFirst k faulty w next)
+  pub told-first : {A : Type 0} (k : ℕ) (faulty : ℕ → Bool) (w : ℕ → Refusal) (next : Judged A) → ((i : ℕ) → P (w i .number)) → Told P next → Told P (refuseFirst k faulty w next)
   unfolding refuseFirst refuseAt
   told-first k faulty w next h n = go (firstFrom k 0 faulty)
     where

@@ -1,6 +1,5 @@
 -- No second answer, and no second content of a lent buffer, satisfies the contract of `extract`.
 -- The theorem is about the contract itself, as the check reads it from the source (`reads.Post`), and not about a copy.
--- Assumes nothing.
 use mathlib.Core.Path.{_≡_, sym, ap, _∙_}
 use mathlib.Core.List.{List}
 use lib.IntN.{ℤ}

@@ -1,6 +1,5 @@
 -- Demand 3 of what the call `extract` leaves: of the records in lent memory and of the rounds that it answers, as a caller finds them (`proofs/DemandLeft.antt`).
 -- Rows, RAM and S are the table's own, so that no wrong state or RAM among the results makes the statement weaker.
--- Assumes nothing.
 use mathlib.Core.Path.{_≡_}
 use mathlib.Core.Bool.{true}
 use mathlib.Core.List.{List, []}

@@ -1,8 +1,8 @@
 -- From a table to its result (01, "Extraction"), and what the open call `extract` leaves. What the rounds start from is crate start's.
--- Assumes nothing.
 use mathlib.Core.Bool.{cond}
 use mathlib.Core.List.{List, [], _∷_}
 use Prim.Native.Nat.{ℕ, _/_}
+use lib.Dec.{eqb}
 use lib.IntN.{ℤ, pos}
 use lib.ListN.{length}
 use Rattle.numbers.specs.Ints.{minus}
@@ -12,7 +12,7 @@ use Rattle.kinds.specs.Ranges.{atℤ}
 use Rattle.kinds.specs.Refusals.{Judged, passed, refused, then, either, need}
 use Rattle.table.specs.Table.{Table, judgeLent}
 use Rattle.rounds.specs.Rounds.{Outcome, extract, mostSharers, aloneBits}
-use Rattle.start.specs.Start.{Rows, rowsOf, kept, tableGrid, tableStart, judgeTable}
+use Rattle.start.specs.Start.{Rows, rowsOf, tableGrid, tableStart, judgeTable}
 
 -- the whole result: what the rows were, and where the rounds ended
 pub record Result : Type 0 where
@@ -24,8 +24,11 @@ unfoldable pub resultOf : Table → Result
 resultOf t = record { header = t .header; rows = rowsOf t; outcome = extract (tableGrid t) (tableStart t) }
 
 -- ATC = kW value floored to whole MW
+abbrev pub inMw : (kw : ℕ) → ℕ
+inMw kw = kw / 1000
+
 unfoldable pub atcOf : Result → (b : ℕ) → ℕ
-atcOf r b = at (r .outcome .state .x) b / 1000
+atcOf r b = inMw (at (r .outcome .state .x) b)
 
 -- margin left in grains, of a kept row
 unfoldable pub leftOf : Result → (i : ℕ) → ℕ
@@ -42,13 +45,23 @@ nOf t = mostSharers (tableGrid t)
 unfoldable pub lOf : Table → ℕ
 lOf t = aloneBits (tableGrid t) (tableStart t .margins)
 
--- result records: ATC in MW; state, RAM in grains, margin left in grains or -1 where the state is not 0
+-- a border's record, by its exchange in kW: ATC in MW
+abbrev pub atcOfKw : (kw : ℕ) → List ℤ
+atcOfKw kw = pos (inMw kw) ∷ []
+
+-- a row's record: state, RAM in grains, margin left in grains or -1 where the state is not 0
+abbrev pub leftOfMargin : (state margin : ℕ) → ℤ
+leftOfMargin state margin = cond (eqb state 0) (pos margin) (minus 1)
+
+abbrev pub leftOfRow : (state : ℕ) → (ram : ℤ) → (margin : ℕ) → List ℤ
+leftOfRow state ram margin = pos state ∷ ram ∷ leftOfMargin state margin ∷ []
+
+-- the records of a result
 unfoldable pub atcRecord : Result → (b : ℕ) → List ℤ
-atcRecord r b = pos (atcOf r b) ∷ []
+atcRecord r b = atcOfKw (at (r .outcome .state .x) b)
 
 unfoldable pub rowRecord : Result → (i : ℕ) → List ℤ
-rowRecord r i =
-    pos (at (r .rows .states) i) ∷ atℤ (r .rows .rams) i ∷ cond (kept (r .rows .states) i) (pos (leftOf r i)) (minus 1) ∷ []
+rowRecord r i = leftOfRow (at (r .rows .states) i) (atℤ (r .rows .rams) i) (leftOf r i)
 
 -- what `extract` leaves: its answer, and the lent results; last comes room for results, border results before row results
 pub record ExtractLeft : Type 0 where
@@ -59,13 +72,13 @@ pub record ExtractLeft : Type 0 where
 abbrev pub leaves : Judged ℕ → (atcs lefts : List (List ℤ)) → ExtractLeft
 leaves answer atcs lefts = record { answer = answer; atcs = atcs; lefts = lefts }
 
-abbrev pub room : (atcs lefts : List (List ℤ)) → Result → Judged Result
-room atcs lefts r = need (r .header .borders) (length atcs) (need (r .header .rows) (length lefts) (passed r))
+abbrev pub resultRoom : (atcs lefts : List (List ℤ)) → Result → Judged Result
+resultRoom atcs lefts r = need (r .header .borders) (length atcs) (need (r .header .rows) (length lefts) (passed r))
 
-abbrev pub stored : (atcs lefts : List (List ℤ)) → Result → ExtractLeft
-stored atcs lefts r =
+abbrev pub resultStored : (atcs lefts : List (List ℤ)) → Result → ExtractLeft
+resultStored atcs lefts r =
     leaves (passed (r .outcome .rounds)) (over (table (r .header .borders) (atcRecord r)) atcs) (over (table (r .header .rows) (rowRecord r)) lefts)
 
 unfoldable pub extractLeft : (lent : Table) → (atcs lefts : List (List ℤ)) → ExtractLeft
 extractLeft lent atcs lefts =
-    either (then (judgeLent lent) (λ t. then (outcomeOf t) (room atcs lefts))) (stored atcs lefts) (λ w. leaves (refused w) atcs lefts)
+    either (then (judgeLent lent) (λ t. then (outcomeOf t) (resultRoom atcs lefts))) (resultStored atcs lefts) (λ w. leaves (refused w) atcs lefts)

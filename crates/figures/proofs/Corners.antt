@@ -1,5 +1,4 @@
 -- The corner sheet (02, E1) of the worked hour, and who has none, by computation.
--- Assumes nothing.
 use mathlib.Core.Path.{_≡_, refl}
 use mathlib.Core.List.{List, [], _∷_, _++_}
 use Prim.Native.Nat.{ℕ}
@@ -11,7 +10,7 @@ use Rattle.table.specs.Table.{Table, lent}
 use Rattle.margin.specs.Margin.{sOf}
 use Rattle.corners.specs.Corners.{judgeCorners, cornersLeft}
 use Rattle.cornertext.specs.CornerText.{cornerTextLeft}
-use Rattle.prints.specs.Printed.{oneSheet, everySheet}
+use Rattle.printing.specs.Printed.{oneSheet, everySheet}
 use Rattle.figures.specs.Computing.{computing}
 use Rattle.figures.specs.Sheets.{sheet}
 use Rattle.figures.specs.Hour.{hourText, hourTable, bTwice, bBack, nines}

@@ -1,5 +1,4 @@
 -- Demand 3 on the worked hour (01): it is true of its result, says what it should at the capacities, and rejects a result left at LTA and one after the first round only.
--- Assumes nothing.
 use mathlib.Core.Path.{_≡_, refl}
 use mathlib.Core.List.{List, [], _∷_}
 use Prim.Native.Nat.{ℕ, zero, suc, _≤_, _<_}

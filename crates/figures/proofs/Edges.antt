@@ -1,5 +1,4 @@
 -- The edge figures of 01 that are not marked [p], "-" for R, and the two hours that show what the worked hour does not, by computation.
--- Assumes nothing.
 use mathlib.Core.Path.{_≡_, refl}
 use mathlib.Core.List.{[], _∷_}
 use Prim.Native.Nat.{_+_, _*_, _/_, _%_}

@@ -1,20 +1,19 @@
 -- The laws behind those figures of 01 that stand for every table (`Figures.antt` lists them). No contract cites this file.
--- Assumes nothing.
 use mathlib.Core.Path.{_≡_, refl, sym, ap, ap₂, subst, _∙_}
-use mathlib.Core.Bool.{Bool, true, false, cond, _&&_, true≢false}
+use mathlib.Core.Bool.{Bool, true, false, cond, _&&_, true≢false, and-false}
 use mathlib.Core.List.{List, []}
 use Prim.Native.Nat.{ℕ, zero, suc, _*_, _/_, _≤_, _<_}
 use native.Mathlib.Nat.{mul-div-cancel, not-suc-le-zero, lt-trans}
 use native.Mathlib.Omega.{arith}
-use borrow.Author.Tests.{eq-eqb, lt-ltb}
-use lib.IntN.{ℤ, pos, negsuc, _-ℤ_}
-use lib.ListN.{length, getD}
+use borrow.Author.Tests.{lt-ltb}
+use lib.IntN.{ℤ, pos}
+use lib.ListN.{getD}
 use lib.Signed.{≤ℤ-refl}
 use Rattle.numbers.specs.Below.{at, ifZero, lesser, least, orZero, firstFrom, given, someBelow}
 use Rattle.numbers.specs.Ints.{sameℤ}
-use Rattle.numbers.proofs.IntLaws.{diff, diffs, zarith, le-ltZ}
+use Rattle.numbers.proofs.IntLaws.{le-ltZ, same-self}
 use Rattle.numbers.proofs.BelowLaws.{table-get}
-use Rattle.numbers.proofs.TestLaws.{some-false, true-all}
+use Rattle.numbers.proofs.TestLaws.{some-false}
 use Rattle.kinds.specs.Ranges.{atℤ, rowOf}
 use Rattle.kinds.specs.Refusals.{passed}
 use Rattle.rounds.specs.Rounds.{Grid, sharers, raise}
@@ -24,19 +23,16 @@ use Rattle.rounds.proofs.Theorems as rounds
 use Rattle.table.specs.Table.{Table, factorsAt}
 use Rattle.margin.specs.Margin.{f0coreOf, sOf, ramOf, ramAt, ramsOf}
 use Rattle.states.specs.States.{spreadOf, shifted, below, stateOf}
+use Rattle.states.proofs.ShiftLaws.{shifted-self}
 use Rattle.start.specs.Start.{gridOf, tableGrid, tableStart}
 use Rattle.extraction.specs.Extraction.{Result, resultOf, outcomeOf}
 use Rattle.extraction.proofs.DemandLaws.{accepted}
 
 -- ---- spread
-and-last : (a : Bool) → (a && false) ≡ false
-and-last true = refl
-and-last false = refl
-
 -- no row is below itself
 below-self : (rams : List ℤ) → below rams 0 0 ≡ false
 unfolding below
-below-self rams = rw (le-ltZ (≤ℤ-refl (atℤ rams 0))) (and-last (sameℤ (atℤ rams 0) (atℤ rams 0)))
+below-self rams = rw (le-ltZ (≤ℤ-refl (atℤ rams 0))) (and-false (sameℤ (atℤ rams 0) (atℤ rams 0)))
 
 pub kept-alone : (t : Table) → t .header .rows ≡ 1 → spreadOf (factorsAt t 0) ≡ pos 5000 → stateOf (t .header) (t .factors) (ramsOf t) 0 ≡ 0
 unfolding stateOf firstFrom given
@@ -55,18 +51,6 @@ unfolding stateOf
 under-5000 t i e = rw e
 
 -- ---- two equal rows
-same-self : (z : ℤ) → sameℤ z z ≡ true
-unfolding sameℤ
-same-self (pos n) = eq-eqb n n refl
-same-self (negsuc n) = eq-eqb n n refl
-
-less-self : (z : ℤ) → z -ℤ z ≡ pos 0
-less-self z = rw (diff z) (simp diffs (omega zarith))
-
-shifted-self : (fs : List ℤ) → shifted fs fs ≡ true
-unfolding shifted sameℤ
-shifted-self fs = true-all (length fs) (λ z. sameℤ (atℤ fs z -ℤ atℤ fs z) (atℤ fs 0 -ℤ atℤ fs 0)) (λ z h. rw (less-self (atℤ fs z), less-self (atℤ fs 0)))
-
 below-tie : (rams : List ℤ) (i j : ℕ) → atℤ rams i ≡ atℤ rams j → i < j → below rams i j ≡ true
 unfolding below
 below-tie rams i j e h = rw (e, le-ltZ (≤ℤ-refl (atℤ rams j)), same-self (atℤ rams j), lt-ltb i j h)

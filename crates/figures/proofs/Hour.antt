@@ -1,5 +1,4 @@
 -- The hour that is checked whole (01), as one theorem, by computation.
--- Assumes nothing.
 use mathlib.Core.Path.{_≡_, refl}
 use mathlib.Core.List.{[], _∷_}
 use Prim.Native.Nat.{_*_}

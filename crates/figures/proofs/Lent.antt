@@ -1,5 +1,4 @@
 -- What the open calls leave on the worked hour: an accepted call of each, and the refusals and turns that only a lent call has, by computation.
--- Assumes nothing.
 use mathlib.Core.Path.{_≡_, refl}
 use mathlib.Core.List.{List, [], _∷_, _++_}
 use Prim.Native.Nat.{ℕ}
@@ -53,7 +52,7 @@ cvaHigh = take 1 c ++ ((pos 100000 ∷ pos 10000 ∷ pos 15000 ∷ pos 0 ∷ min
 abbrev frmHigh : List (List ℤ)
 frmHigh = take 1 c ++ ((pos 100000 ∷ pos 100001 ∷ pos 15000 ∷ pos 0 ∷ minus 1 ∷ pos 0 ∷ pos 0 ∷ []) ∷ drop 2 c)
 
-pub record Left : Type 0 where
+pub record LentCalls : Type 0 where
   -- read: the table in front, the rest as it was
   pub read-into : readLeft hourText (nines 4) (old 3) (old 4) (nines 13)
       ≡ record { answer = passed h; z = z ++ nines 1; b = b ++ old 1; c = c; f = f ++ nines 1 }
@@ -92,9 +91,9 @@ pub record Left : Type 0 where
   pub answer-refused : answerLeft [] (replicate 8 7) ≡ record { answer = passed 6; out = sheet "E 2 1/" ++ (7 ∷ 7 ∷ []) }
   pub answer-short : answerLeft [] (replicate 5 7) ≡ record { answer = refused (tooShort 6); out = replicate 5 7 }
 
-pub left : Left
+pub lent-calls : LentCalls
 unfolding computing
-left =
+lent-calls =
     record {
       read-into = refl;
       read-short-z = refl;

@@ -1,12 +1,11 @@
 -- Two faults in one table, for each order that 01 names ("When the table is turned away"), and refusal 8's own number, by computation.
 -- A text's two faults, and 5, 6 and 7, are in `Refusals.antt`; room for results last is in `Lent.antt`.
--- Assumes nothing.
 use mathlib.Core.Path.{_≡_, refl}
 use mathlib.Core.List.{List, [], _∷_, _++_}
 use Prim.Native.Nat.{ℕ}
 use lib.IntN.{ℤ, pos}
 use lib.ListN.{take}
-use Rattle.kinds.specs.Refusals.{Judged, refused, why}
+use Rattle.kinds.specs.Refusals.{Judged, refused, refusal}
 use Rattle.table.specs.Table.{Table, lent, judgeLent}
 use Rattle.reading.specs.Reading.{readLeft}
 use Rattle.writing.specs.Writing.{writeLeft}
@@ -49,23 +48,23 @@ twiceText =
 
 pub record Ordered : Type 0 where
   -- refusal 8 has the number 8, in reading, on lent tables, and for each result
-  pub eight-read : readLeft hourText [] [] [] [] .answer ≡ refused (why 8 3)
-  pub eight-lent : writeLeft (lent (hourTable .header) [] [] [] []) [] .answer ≡ refused (why 8 3)
-  pub eight-text : writeLeft hourTable [] .answer ≡ refused (why 8 252)
-  pub eight-atcs : extractLeft hourTable [] [] .answer ≡ refused (why 8 2)
+  pub eight-read : readLeft hourText [] [] [] [] .answer ≡ refused (refusal 8 3)
+  pub eight-lent : writeLeft (lent (hourTable .header) [] [] [] []) [] .answer ≡ refused (refusal 8 3)
+  pub eight-text : writeLeft hourTable [] .answer ≡ refused (refusal 8 252)
+  pub eight-atcs : extractLeft hourTable [] [] .answer ≡ refused (refusal 8 2)
   -- short tables in the order Z, B, C, factors
-  pub short-z-b : judged shortZ shortB (hourTable .rows) (hourTable .factors) ≡ refused (why 8 3)
-  pub short-b-c : judged (hourTable .nets) shortB shortC (hourTable .factors) ≡ refused (why 8 2)
-  pub short-c-f : judged (hourTable .nets) (hourTable .borders) shortC shortF ≡ refused (why 8 4)
+  pub short-z-b : judged shortZ shortB (hourTable .rows) (hourTable .factors) ≡ refused (refusal 8 3)
+  pub short-b-c : judged (hourTable .nets) shortB shortC (hourTable .factors) ≡ refused (refusal 8 2)
+  pub short-c-f : judged (hourTable .nets) (hourTable .borders) shortC shortF ≡ refused (refusal 8 4)
   -- lengths before ranges, whichever table it is
-  pub short-before-far : judged farZ farB farC shortF ≡ refused (why 8 12)
+  pub short-before-far : judged farZ farB farC shortF ≡ refused (refusal 8 12)
   -- records by the line they would have: Z lines 2 to 4, B lines 5 and 6, C lines 7 to 10
-  pub far-z-b : judged farZ farB (hourTable .rows) (hourTable .factors) ≡ refused (why 3 4)
-  pub far-b-c : judged (hourTable .nets) farB farC (hourTable .factors) ≡ refused (why 3 6)
+  pub far-z-b : judged farZ farB (hourTable .rows) (hourTable .factors) ≡ refused (refusal 3 4)
+  pub far-b-c : judged (hourTable .nets) farB farC (hourTable .factors) ≡ refused (refusal 3 6)
   -- 3 before 4, also where the border comes first
-  pub far-c-twice : judged (hourTable .nets) bTwice farC (hourTable .factors) ≡ refused (why 3 10)
+  pub far-c-twice : judged (hourTable .nets) bTwice farC (hourTable .factors) ≡ refused (refusal 3 10)
   -- reading: 4 before 8
-  pub twice-before-short : readLeft twiceText [] [] [] [] .answer ≡ refused (why 4 1)
+  pub twice-before-short : readLeft twiceText [] [] [] [] .answer ≡ refused (refusal 4 1)
 
 pub ordered : Ordered
 unfolding computing

@@ -1,6 +1,5 @@
 -- Both ends of every range of 01 ("The table as text"): the last value inside is taken, the first outside is refused (3, with its line), by computation.
 -- Zones 16 and 17 and borders 40 and 41 are in `Edges.antt`. Below 0 no text can give a field that has no sign, and a lent record is refused.
--- Assumes nothing.
 use mathlib.Core.Path.{_≡_, refl}
 use mathlib.Core.List.{List, [], _∷_, _++_}
 use Prim.Native.Nat.{ℕ}

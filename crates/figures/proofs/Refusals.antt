@@ -1,6 +1,5 @@
 -- Each refusal that a text can meet, with its place and its turn (01, "When the table is turned away"), by computation.
 -- 8 is in `Lent.antt`, both ends of every range (3) in `Ranges.antt`, 4 and 7 in `Figures.antt` too.
--- Assumes nothing.
 use mathlib.Core.Path.{_≡_, refl}
 use mathlib.Core.List.{[], _∷_, _++_}
 use lib.ListN.{replicate}

@@ -1,5 +1,4 @@
 -- `unfolding computing` opens every definition of the crates below: for theorems by computation.
--- Assumes nothing.
 use Rattle.block.specs.Block.{linesAt}
 use Rattle.extraction.specs.Demand.{loadOf}
 use Rattle.start.specs.Start.{rowsOf, kept, gridOf, startOf, judgeStart}
@@ -13,7 +12,7 @@ use Rattle.states.specs.States.{highest, lowest, spreadOf, shifted, below, stat
 use Rattle.numbers.specs.Below.{ifZero, sum, count, largest, lesser, least, orZero, table, firstFrom, given}
 use Rattle.numbers.specs.Ints.{maxℤ, minℤ, positivePart, sameℤ, inside, sumℤ}
 use Rattle.lines.specs.Lines.{headerLine, zoneLine, borderLine, rowLine}
-use Rattle.prints.specs.Printed.{oneSheet, everySheet}
+use Rattle.printing.specs.Printed.{oneSheet, everySheet}
 use Rattle.reading.specs.Reading.{linesOf, readText, readLeft}
 use Rattle.answer.specs.Result.{resultText, answerText, resultTextLeft, answerLeft}
 use Rattle.result.specs.Records.{leftField, recordsText}

@@ -1,5 +1,4 @@
 -- The hour that is checked whole (01): its text, its result, and the table as a value; other borders for it, and lent memory.
--- Assumes nothing.
 use mathlib.Core.List.{List, [], _∷_, _++_}
 use Prim.Native.Nat.{ℕ}
 use lib.IntN.{ℤ, pos}

@@ -1,5 +1,4 @@
 -- A small good table, two zones, one border and one row, with a line or a record of one's own in it: for examples that differ from it in one place.
--- Assumes nothing.
 use mathlib.Core.List.{List, [], _∷_, _++_}
 use Prim.Native.Nat.{ℕ}
 use Prim.Native.String.{String}

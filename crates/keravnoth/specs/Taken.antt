@@ -1,5 +1,4 @@
 -- What the program's reading promises. No contract can say which bytes are read, so this says where they are.
--- Assumes nothing.
 use mathlib.Core.List.{List}
 use Prim.Native.Nat.{ℕ}
 use Rattle.io.specs.Counts.{Counts}

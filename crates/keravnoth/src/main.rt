@@ -9,17 +9,19 @@ ghost use Prim.Native.Nat.{_≤_};
 ghost use lib.ListN.{length};
 ghost use Rattle.kinds.specs.Limits.{bytesMost};
 ghost use Rattle.answer.specs.Result.{answerText};
-ghost use Rattle.prints.specs.Printed.{rewritten, sheetRoom, Printed};
+ghost use Rattle.printing.specs.Printed.{rewritten, sheetRoom, Printed};
 ghost use Rattle.keravnoth.specs.Taken.{within};
 use libc::STDIN_FILENO;
 use libc::STDOUT_FILENO;
 use options::Asked;
 use options::Command;
 use options::Task;
-use sheets::Ended;
-
-// One byte more than a table may have, so that a longer one is seen.
-const TEXT_ROOM: usize = 65537;
+use printing::TEXT_ROOM;
+use printing::output;
+use printing::output::Ended;
+use printing::sheets;
+use printing::texts;
+use printing::words;
 
 // What came of reading: so many bytes in front of the lent text, or an error.
 enum Input {
@@ -112,7 +114,7 @@ fn print_text(rewrite: bool, text: &[u8], out: &mut [u8]) -> Ended
     requires { ⌜ bytesMost ≤ length (now out) ⌝ }
 {
     let m = put(rewrite, text, out);
-    sheets::put(&out[..m])
+    output::put(&out[..m])
 }
 
 // The table that was read, or its answer; where it is refused, the E line.
@@ -121,9 +123,9 @@ fn put(rewrite: bool, text: &[u8], out: &mut [u8]) -> usize
     ensures { λ r. ⌜ Printed r (cond rewrite (rewritten (now (text .entry))) (answerText (now (text .entry)))) (now (out .exit)) ⌝ }
 {
     if rewrite {
-        return prints::rewrite(text, out);
+        return texts::rewrite(text, out);
     }
-    prints::answer(text, out)
+    texts::answer(text, out)
 }
 
 // Reads until the input ends or the text is full.

@@ -1,6 +1,7 @@
 // What the arguments ask for: a word, its row, and options, which stand before or after the word.
-use arguments::Held;
-use sheets::Rows;
+use printing::arguments;
+use printing::arguments::Held;
+use printing::sheets::Rows;
 
 pub enum Task {
     Answer,

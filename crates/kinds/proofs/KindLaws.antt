@@ -1,5 +1,4 @@
 -- The laws of `specs/Ranges.antt` that the judging constructors and the crates above cite. No contract cites this file.
--- Assumes nothing.
 use mathlib.Core.Path.{_≡_, refl, sym, ap, subst, _∙_}
 use mathlib.Core.Bool.{true, not, and-eq-true-iff}
 use mathlib.Core.List.{List, [], _∷_}

@@ -1,11 +1,10 @@
 -- The laws of `specs/Kinds.antt`: what an answer of a judging constructor says of the raw record. No contract cites this file.
--- Assumes nothing.
 use mathlib.Core.Path.{_≡_, refl}
 use mathlib.Core.Bool.{Bool, true, false, cond}
 use mathlib.Core.List.{List}
 use Prim.Native.Nat.{ℕ}
-use native.Mathlib.Omega.{arith}
 use lib.IntN.{ℤ}
+use Rattle.numbers.proofs.TestLaws.{zero-one}
 use Rattle.kinds.specs.declared.Header.{Header}
 use Rattle.kinds.specs.declared.HeaderRead.the-variants as header
 use Rattle.kinds.specs.declared.Zone.{Zone}
@@ -17,9 +16,6 @@ use Rattle.kinds.specs.declared.RowRead.the-variants as row
 use Rattle.kinds.specs.Ranges.{headerFits, zoneFits, borderFits, borderOf, rowFits, rowOf}
 use Rattle.kinds.specs.Kinds.{headerRead, zoneRead, borderRead, rowRead}
 
-clash : _≡_ {A = ℕ} 0 1 → ⊥
-clash e = omega arith
-
 module _ (net : ℤ) where
   pub zone-good : (z : Zone) → zoneRead net ≡ zone.Good z → zoneFits net ≡ true
   unfolding zoneRead
@@ -27,14 +23,14 @@ module _ (net : ℤ) where
     where
       go : (t : Bool) → cond t (zone.Good (record { net = net })) zone.Out ≡ zone.Good z → t ≡ true
       go true e = refl
-      go false e = absurd (clash cc)
+      go false e = absurd (zero-one cc)
 
   pub zone-out : zoneRead net ≡ zone.Out → zoneFits net ≡ false
   unfolding zoneRead
   zone-out e = go (zoneFits net) e
     where
       go : (t : Bool) → cond t (zone.Good (record { net = net })) zone.Out ≡ zone.Out → t ≡ false
-      go true e = absurd (clash cc)
+      go true e = absurd (zero-one cc)
       go false e = refl
 
 module _ (zones : ℕ) (raw : List ℤ) where
@@ -44,14 +40,14 @@ module _ (zones : ℕ) (raw : List ℤ) where
     where
       go : (t : Bool) → cond t (border.Good (borderOf raw)) border.Out ≡ border.Good b → (t ≡ true) × (borderOf raw ≡ b)
       go true e = (refl, cc)
-      go false e = absurd (clash cc)
+      go false e = absurd (zero-one cc)
 
   pub border-out : borderRead zones raw ≡ border.Out → borderFits zones raw ≡ false
   unfolding borderRead
   border-out e = go (borderFits zones raw) e
     where
       go : (t : Bool) → cond t (border.Good (borderOf raw)) border.Out ≡ border.Out → t ≡ false
-      go true e = absurd (clash cc)
+      go true e = absurd (zero-one cc)
       go false e = refl
 
 module _ (raw : List ℤ) where
@@ -61,14 +57,14 @@ module _ (raw : List ℤ) where
     where
       go : (t : Bool) → cond t (row.Good (rowOf raw)) row.Out ≡ row.Good r → (t ≡ true) × (rowOf raw ≡ r)
       go true e = (refl, cc)
-      go false e = absurd (clash cc)
+      go false e = absurd (zero-one cc)
 
   pub row-out : rowRead raw ≡ row.Out → rowFits raw ≡ false
   unfolding rowRead
   row-out e = go (rowFits raw) e
     where
       go : (t : Bool) → cond t (row.Good (rowOf raw)) row.Out ≡ row.Out → t ≡ false
-      go true e = absurd (clash cc)
+      go true e = absurd (zero-one cc)
       go false e = refl
 
 module _ (zones borders rows : ℕ) where
@@ -81,12 +77,12 @@ module _ (zones borders rows : ℕ) where
     where
       go : (t : Bool) → cond t (header.Good counts) header.Out ≡ header.Good h → (t ≡ true) × (counts ≡ h)
       go true e = (refl, cc)
-      go false e = absurd (clash cc)
+      go false e = absurd (zero-one cc)
 
   pub header-out : headerRead zones borders rows ≡ header.Out → headerFits counts ≡ false
   unfolding headerRead
   header-out e = go (headerFits counts) e
     where
       go : (t : Bool) → cond t (header.Good counts) header.Out ≡ header.Out → t ≡ false
-      go true e = absurd (clash cc)
+      go true e = absurd (zero-one cc)
       go false e = refl

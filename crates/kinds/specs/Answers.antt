@@ -1,5 +1,4 @@
 -- What each case of an answer says, in 01's words: the refusal's number and place, or the values. Promises are stated through these.
--- Assumes nothing.
 use Prim.Native.Nat.{ℕ}
 use Rattle.kinds.specs.declared.Header.{Header}
 use Rattle.kinds.specs.declared.Judgement.{Judgement}
@@ -12,29 +11,29 @@ use Rattle.kinds.specs.declared.Extracted.{Extracted}
 use Rattle.kinds.specs.declared.Extracted.the-variants as extracted
 use Rattle.kinds.specs.declared.Flows.{Flows}
 use Rattle.kinds.specs.declared.Flows.the-variants as flows
-use Rattle.kinds.specs.Refusals.{Judged, passed, refused, told}
+use Rattle.kinds.specs.Refusals.{Judged, passed, refused}
 
 -- a judgement of something that stands at hand: it passed, or was refused
 abbrev pub ruled : {A : Type 0} → Judgement → A → Judged A
 ruled judgement.Passed a = passed a
-ruled (judgement.Refused w) a = refused (told w)
+ruled (judgement.Refused w) a = refused w
 
 -- the table's header
 abbrev pub saidRead : Read → Judged Header
 saidRead (read.Table h) = passed h
-saidRead (read.Refused w) = refused (told w)
+saidRead (read.Refused w) = refused w
 
 -- bytes written
 abbrev pub saidWritten : Written → Judged ℕ
 saidWritten (written.Bytes n) = passed n
-saidWritten (written.Refused w) = refused (told w)
+saidWritten (written.Refused w) = refused w
 
 -- rounds
 abbrev pub saidExtracted : Extracted → Judged ℕ
 saidExtracted (extracted.Rounds n) = passed n
-saidExtracted (extracted.Refused w) = refused (told w)
+saidExtracted (extracted.Refused w) = refused w
 
 -- corners whose flows were filled in
 abbrev pub saidFlows : Flows → Judged ℕ
 saidFlows (flows.Corners n) = passed n
-saidFlows (flows.Refused w) = refused (told w)
+saidFlows (flows.Refused w) = refused w

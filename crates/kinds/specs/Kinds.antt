@@ -1,5 +1,4 @@
 -- What each judging constructor answers: the value where the raw record is in range (`Ranges.antt`), else `Out`.
--- Assumes nothing.
 use mathlib.Core.Bool.{cond}
 use mathlib.Core.List.{List}
 use Prim.Native.Nat.{ℕ}

@@ -1,5 +1,4 @@
 -- The numbers of 01's column of ranges ("The table as text"), each under a name. Definitions cite the names, and laws take them as variables where they can.
--- Assumes nothing.
 use Prim.Native.Nat.{ℕ}
 
 -- H: zones 2..16, borders 1..40, rows 1..200

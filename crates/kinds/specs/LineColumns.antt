@@ -2,7 +2,6 @@
 -- The code has the same lists as associated constants, one byte for each column (`Header::COLUMNS` ..): `columnOf` says what a byte means, and every
 -- reader and writer of a line (crates lines, layout) takes the constant and is proved by the list, so the two cannot part.
 -- Left to others: the ranges (`Ranges.antt`), and how a field is read and written (crate columns).
--- Assumes nothing.
 use mathlib.Core.Bool.{cond}
 use mathlib.Core.List.{List, [], _∷_}
 use Prim.Native.Char.{code}

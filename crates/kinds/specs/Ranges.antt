@@ -1,6 +1,5 @@
 -- What each line of the table may hold (01, "The table as text", the column of ranges): each range stands here once.
 -- A raw record is the list of numbers of a line, without letter and index. Judging text and judging lent tables both cite these.
--- Assumes nothing.
 use mathlib.Core.Bool.{Bool, cond, not, _&&_}
 use mathlib.Core.List.{List}
 use Prim.Native.Nat.{ℕ}

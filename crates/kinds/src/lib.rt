@@ -7,6 +7,7 @@ ghost use mathlib.Core.Bool.{true};
 ghost use mathlib.Core.List.{[], _∷_};
 ghost use Rattle.kinds.specs.Ranges.{headerFits, exists, borderFits, borderOf, shareOf, rowFits, rowOf, factorFits, worth};
 ghost use Rattle.kinds.specs.Kinds.{headerRead, zoneRead, borderRead, rowRead};
+ghost use Rattle.kinds.specs.Refusals.{refusal, tooLong, wrongForm, outOfRange, givenTwice, noRow, unlimited, belowZero, tooShort, noCorners};
 
 // The counts of the H line.
 pub struct Header {
@@ -303,17 +304,75 @@ impl Row {
     }
 }
 
-// Why a table is turned away, with the place. The numbers of 01 are `told`'s.
-pub enum Refusal {
-    TooLong,
-    Form(usize),
-    Range(usize),
-    Twice(usize),
-    NoRow,
-    Unlimited(usize),
-    Below(usize),
-    Short(usize),
-    Corners(usize),
+// Why a table is turned away, as 01 tells it: number and place, and 0 where there is no place. Made by the names below alone, a line of 01's table each.
+pub struct Refusal {
+    pub number: u32,
+    pub place: usize,
+}
+
+impl Refusal {
+    pub fn too_long() -> Refusal
+        ensures { λ r. ⌜ r ≡ tooLong ⌝ }
+    {
+        Refusal::numbered(1, 0)
+    }
+
+    pub fn wrong_form(line: usize) -> Refusal
+        ensures { λ r. ⌜ r ≡ wrongForm line ⌝ }
+    {
+        Refusal::numbered(2, line)
+    }
+
+    pub fn out_of_range(line: usize) -> Refusal
+        ensures { λ r. ⌜ r ≡ outOfRange line ⌝ }
+    {
+        Refusal::numbered(3, line)
+    }
+
+    pub fn given_twice(border: usize) -> Refusal
+        ensures { λ r. ⌜ r ≡ givenTwice border ⌝ }
+    {
+        Refusal::numbered(4, border)
+    }
+
+    pub fn no_row() -> Refusal
+        ensures { λ r. ⌜ r ≡ noRow ⌝ }
+    {
+        Refusal::numbered(5, 0)
+    }
+
+    pub fn unlimited(border: usize) -> Refusal
+        ensures { λ r. ⌜ r ≡ unlimited border ⌝ }
+    {
+        Refusal::numbered(6, border)
+    }
+
+    pub fn below_zero(row: usize) -> Refusal
+        ensures { λ r. ⌜ r ≡ belowZero row ⌝ }
+    {
+        Refusal::numbered(7, row)
+    }
+
+    pub fn too_short(needed: usize) -> Refusal
+        ensures { λ r. ⌜ r ≡ tooShort needed ⌝ }
+    {
+        Refusal::numbered(8, needed)
+    }
+
+    pub fn no_corners(place: usize) -> Refusal
+        ensures { λ r. ⌜ r ≡ noCorners place ⌝ }
+    {
+        Refusal::numbered(9, place)
+    }
+
+    fn numbered(number: u32, place: usize) -> Refusal
+        ensures { λ r. ⌜ r ≡ refusal number place ⌝ }
+    {
+        Refusal {
+            number: number,
+            place: place,
+        }
+    }
 }
 
 pub enum Judgement {

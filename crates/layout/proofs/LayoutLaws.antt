@@ -1,5 +1,4 @@
 -- The laws of `specs/Layout.antt`'s lengths. No contract cites this file.
--- Assumes nothing.
 use mathlib.Core.Path.{_≡_, refl, _∙_}
 use mathlib.Core.Bool.{true}
 use mathlib.Core.List.{List, [], _∷_, _++_}

@@ -1,5 +1,4 @@
 -- The lines of the table as they are written (01, "The table as text"): H, Z, B and C, each by its columns.
--- Assumes nothing.
 use mathlib.Core.List.{List, [], _∷_, _++_}
 use Prim.Native.Char.{code}
 use Prim.Native.Nat.{ℕ}

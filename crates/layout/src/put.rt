@@ -14,7 +14,7 @@ use kinds::Row;
 use kinds::RowRecord;
 use kinds::Zone;
 
-pub fn header_out(h: Header, out: &mut [u8], at: usize) -> usize
+pub fn put_header(h: Header, out: &mut [u8], at: usize) -> usize
     requires { ⌜ (headerFits h ≡ true) × (at + length (headerText h) ≤ length (now out)) ⌝ }
     ensures { λ r. ⌜ Put (headerText h) at (now (out .entry)) r (now (out .exit)) ⌝ }
 {
@@ -22,7 +22,7 @@ pub fn header_out(h: Header, out: &mut [u8], at: usize) -> usize
     columns::write::put_plain(b'\t', b'H', &Header::COLUMNS, &raw, out, at)
 }
 
-pub fn zone_out(i: usize, net: i64, out: &mut [u8], at: usize) -> usize
+pub fn put_zone(i: usize, net: i64, out: &mut [u8], at: usize) -> usize
     requires { ⌜ at + length (zoneText i net) ≤ length (now out) ⌝ }
     ensures { λ r. ⌜ Put (zoneText i net) at (now (out .entry)) r (now (out .exit)) ⌝ }
 {
@@ -30,14 +30,14 @@ pub fn zone_out(i: usize, net: i64, out: &mut [u8], at: usize) -> usize
     columns::write::put_line(b'\t', b'Z', &Zone::COLUMNS, i, &raw, out, at)
 }
 
-pub fn border_out(i: usize, raw: BorderRecord, out: &mut [u8], at: usize) -> usize
+pub fn put_border(i: usize, raw: BorderRecord, out: &mut [u8], at: usize) -> usize
     requires { ⌜ at + length (borderText i raw) ≤ length (now out) ⌝ }
     ensures { λ r. ⌜ Put (borderText i raw) at (now (out .entry)) r (now (out .exit)) ⌝ }
 {
     columns::write::put_line(b'\t', b'B', &Border::COLUMNS, i, &raw, out, at)
 }
 
-pub fn row_out(i: usize, raw: RowRecord, f: &[i64], out: &mut [u8], at: usize) -> usize
+pub fn put_row(i: usize, raw: RowRecord, f: &[i64], out: &mut [u8], at: usize) -> usize
     requires { ⌜ (0 < length (now f)) × (length (now f) ≤ zonesMost) × (at + length (rowText i raw (now f)) ≤ length (now out)) ⌝ }
     ensures { λ r. ⌜ Put (rowText i raw (now (f .entry))) at (now (out .entry)) r (now (out .exit)) ⌝ }
 {

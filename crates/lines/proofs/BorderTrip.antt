@@ -1,5 +1,4 @@
 -- The B line: a line that holds a raw border record is its text, and that text holds the record. No contract cites this file.
--- Assumes nothing.
 use mathlib.Core.Path.{_≡_, refl, sym, ap, subst}
 use mathlib.Core.Bool.{true, false}
 use mathlib.Core.List.{List, [], _∷_, _++_}
@@ -29,9 +28,9 @@ pub record BorderHeld (zones : ℕ) (raw : List ℤ) : Type 0 where
 
 module _ (zones : ℕ) (raw : List ℤ) (held : BorderHeld zones raw) where
   -- its numbers are those of the border
-  pub border-listed : pos (borderOf raw .from) ∷ pos (borderOf raw .to) ∷ pos (borderOf raw .lta) ∷ [] ≡ raw
+  pub border-record : pos (borderOf raw .from) ∷ pos (borderOf raw .to) ∷ pos (borderOf raw .lta) ∷ [] ≡ raw
   unfolding table
-  border-listed =
+  border-record =
       let b = border-in zones raw (held .fits) in
       rw (← b .from, ← b .to, ← b .lta) (sym (table-of 3 (atℤ raw) raw (pos 0) (held .wide) (λ i h. refl)))
 
@@ -39,7 +38,7 @@ module _ (zones : ℕ) (raw : List ℤ) (held : BorderHeld zones raw) where
   unfolding borderOf
   border-kept few =
       let b = border-in zones raw (held .fits) in
-      subst (AllKept borderColumns) border-listed ((refl, omega (arith, b .from-below)), ((refl, omega (arith, b .to-below)), ((refl, omega (arith, b .lta-most)), tt)))
+      subst (AllKept borderColumns) border-record ((refl, omega (arith, b .from-below)), ((refl, omega (arith, b .to-below)), ((refl, omega (arith, b .lta-most)), tt)))
 
 module _ (zones : ℕ) (line : List ℕ) (i : ℕ) (raw : List ℤ) where
   pub border-read : borderLine zones line i ≡ holds raw → (line ≡ columnsText tab (code "B") borderColumns i raw) × BorderHeld zones raw
@@ -55,7 +54,7 @@ module _ (zones : ℕ) (line : List ℕ) (i : ℕ) (raw : List ℤ) where
     unfolding borderLine
     border-holds f =
         let w = kept-long borderColumns raw (line-read tab (code "B") tab-ends borderColumns line i raw next (sym e) .kept) in
-        rw (← e, f) (ap holds (border-listed zones raw (record { wide = w; fits = f })))
+        rw (← e, f) (ap holds (border-record zones raw (record { wide = w; fits = f })))
 
     pub border-range : borderFits zones raw ≡ false → range ≡ borderLine zones line i
     unfolding borderLine

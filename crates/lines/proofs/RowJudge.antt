@@ -1,14 +1,13 @@
 -- A C line by what was read of it, as it is judged and as it is filled in. No contract cites this file.
--- Assumes nothing.
 use mathlib.Core.Path.{_≡_, refl, sym, ap, _∙_}
 use mathlib.Core.Bool.{Bool, true, false, cond}
 use mathlib.Core.List.{List, _++_}
 use Prim.Native.Char.{code}
 use Prim.Native.Nat.{ℕ, _≤_}
-use native.Mathlib.Omega.{arith}
 use lib.IntN.{ℤ}
 use lib.ListN.{length, take}
 use lib.Seq.{take-at, drop-at}
+use Rattle.numbers.proofs.TestLaws.{zero-one}
 use Rattle.kinds.specs.Limits.{zonesMost}
 use Rattle.kinds.specs.LineColumns.{rowColumns, rowItems, factorColumns, columnsOf}
 use Rattle.text.specs.Fields.{tab}
@@ -19,7 +18,7 @@ use Rattle.columns.proofs.ColumnLaws.{repeated, factors-front}
 use Rattle.table.specs.Table.{rowGood}
 use Rattle.lines.specs.Lines.{RowLine, row, rowLine}
 use Rattle.lines.specs.SaidRow.{judgedOf}
-use Rattle.lines.specs.declared.row.RowJudged.the-variants.{Good, Form, Range}
+use Rattle.lines.specs.declared.row.RowJudged.the-variants.{Holds, Form, Range}
 
 -- the columns that the code takes for the factors
 pub factors-taken : (n : ℕ) → n ≤ zonesMost → columnsOf (take n (repeated 16 115)) ≡ factorColumns n
@@ -43,41 +42,38 @@ module _ (zones : ℕ) (line : List ℕ) (i : ℕ) where
     row-range g = row-by ∙ rw g
 
     -- .. of a line that was judged good
-    pub row-filled : judgedOf (rowLine zones line i) ≡ Good → rowLine zones line i ≡ holds (row raw f)
+    pub row-filled : judgedOf (rowLine zones line i) ≡ Holds → rowLine zones line i ≡ holds (row raw f)
     row-filled good = go (rowGood raw f) refl
       where
         go : (t : Bool) → rowGood raw f ≡ t → rowLine zones line i ≡ holds (row raw f)
         go true g = row-holds g
         go false g = absurd (clash (sym (ap judgedOf (row-range g)) ∙ good))
           where
-            clash : Range ≡ Good → ⊥
-            clash e = let x : _≡_ {A = ℕ} 0 1 = cc in omega arith
+            clash : Range ≡ Holds → ⊥
+            clash e = zero-one cc
 
 -- ---- what an answer says of the line
-clash : _≡_ {A = ℕ} 0 1 → ⊥
-clash e = omega arith
-
-pub row-never : (zones : ℕ) (line : List ℕ) (i place : ℕ) → wrong place ≡ columnsLine tab (code "C") (rowColumns ++ factorColumns zones) line i → judgedOf (rowLine zones line i) ≡ Good → ⊥
+pub row-never : (zones : ℕ) (line : List ℕ) (i place : ℕ) → wrong place ≡ columnsLine tab (code "C") (rowColumns ++ factorColumns zones) line i → judgedOf (rowLine zones line i) ≡ Holds → ⊥
 row-never zones line i place e good = go (sym (ap judgedOf (row-form zones line i place e)) ∙ good)
   where
-    go : Form ≡ Good → ⊥
-    go e = clash cc
+    go : Form ≡ Holds → ⊥
+    go e = zero-one cc
 
-pub record Holds (l : Line RowLine) : Type 0 where
+pub record RowHolds (l : Line RowLine) : Type 0 where
   pub it : RowLine
   pub is : l ≡ holds it
 
-pub said-good : (l : Line RowLine) → judgedOf l ≡ Good → Holds l
-said-good (holds c) e = record { it = c; is = refl }
-said-good form e = absurd (clash cc)
-said-good range e = absurd (clash cc)
+pub said-holds : (l : Line RowLine) → judgedOf l ≡ Holds → RowHolds l
+said-holds (holds c) e = record { it = c; is = refl }
+said-holds form e = absurd (zero-one cc)
+said-holds range e = absurd (zero-one cc)
 
 pub said-form : (l : Line RowLine) → judgedOf l ≡ Form → l ≡ form
-said-form (holds c) e = absurd (clash cc)
+said-form (holds c) e = absurd (zero-one cc)
 said-form form e = refl
-said-form range e = absurd (clash cc)
+said-form range e = absurd (zero-one cc)
 
 pub said-range : (l : Line RowLine) → judgedOf l ≡ Range → l ≡ range
-said-range (holds c) e = absurd (clash cc)
-said-range form e = absurd (clash cc)
+said-range (holds c) e = absurd (zero-one cc)
+said-range form e = absurd (zero-one cc)
 said-range range e = refl

@@ -1,5 +1,4 @@
 -- The C line: a line that holds a raw row record and its factors is its text, and that text holds them. No contract cites this file.
--- Assumes nothing.
 use mathlib.Core.Path.{_≡_, refl, sym, ap, ap₂, subst, _∙_}
 use mathlib.Core.Bool.{true}
 use mathlib.Core.List.{List, [], _∷_, _++_}
@@ -40,8 +39,8 @@ pub record RowHeld (zones : ℕ) (c : RowLine) : Type 0 where
   pub good : rowGood (c .values) (c .factors) ≡ true
 
 -- .. whatever its index
-abbrev pub Held : (zones i : ℕ) → RowLine → Type 0
-Held zones i c = RowHeld zones c
+abbrev pub RowHeldAt : (zones i : ℕ) → RowLine → Type 0
+RowHeldAt zones i c = RowHeld zones c
 
 abbrev pub RowIs : (zones : ℕ) → (line : List ℕ) → (i : ℕ) → RowLine → Type 0
 RowIs zones line i c = (line ≡ rowTextOf i c) × RowHeld zones c

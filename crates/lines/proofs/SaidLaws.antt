@@ -1,5 +1,4 @@
 -- The numbers of a B line as 64-bit values: what the code stores is what the line holds. No contract cites this file.
--- Assumes nothing.
 use mathlib.Core.Path.{_≡_}
 use mathlib.Core.List.{List, [], _∷_}
 use Prim.Native.Nat.{ℕ, _^_, _≤_, _<_}

@@ -1,5 +1,4 @@
 -- The Z line: a line that holds a net position is its text, and that text holds the net position. No contract cites this file.
--- Assumes nothing.
 use mathlib.Core.Path.{_≡_, refl, subst}
 use mathlib.Core.Bool.{true, false}
 use mathlib.Core.List.{List, [], _∷_, _++_}

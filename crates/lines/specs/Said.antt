@@ -1,5 +1,4 @@
 -- What the code answers of a line, as `Line` of crate text says it. Promises are stated through these.
--- Assumes nothing.
 use mathlib.Core.List.{List, [], _∷_}
 use lib.IntN.{ℤ, pos}
 use Rattle.kinds.specs.declared.Header.{Header}

@@ -11,11 +11,11 @@ ghost use Rattle.text.specs.Line.{holds};
 ghost use Rattle.columns.specs.Columns.{stored};
 ghost use Rattle.lines.specs.Lines.{rowValues, rowLine, row};
 ghost use Rattle.lines.specs.SaidRow.{judgedOf};
-ghost use Rattle.lines.specs.declared.row.RowJudged.the-variants.{Good};
+ghost use Rattle.lines.specs.declared.row.RowJudged.the-variants.{Holds};
 
 // What a C line comes to.
 pub enum RowJudged {
-    Good,
+    Holds,
     Form,
     Range,
 }
@@ -39,14 +39,14 @@ fn judged_in(line: &[u8], i: usize, f: &mut [i64]) -> RowJudged
         return RowJudged::Form;
     };
     if table::row_good(raw, f) {
-        return RowJudged::Good;
+        return RowJudged::Holds;
     }
     RowJudged::Range
 }
 
 // Fills a row's stretch of the factors from its C line, which was judged before, and answers its raw record.
 pub fn row_filled(line: &[u8], i: usize, f: &mut [i64]) -> RowRecord
-    requires { ⌜ (0 < length (now f)) × (length (now f) ≤ zonesMost) × (judgedOf (rowLine (length (now f)) (now line) i) ≡ Good) ⌝ }
+    requires { ⌜ (0 < length (now f)) × (length (now f) ≤ zonesMost) × (judgedOf (rowLine (length (now f)) (now line) i) ≡ Holds) ⌝ }
     ensures { λ r. ⌜ rowLine (length (now (f .entry))) (now (line .entry)) i ≡ holds (row r (now (f .exit))) ⌝ }
 {
     let mut raw: RowRecord = [0; Row::ITEMS];

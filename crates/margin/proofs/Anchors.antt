@@ -1,5 +1,4 @@
 -- Small computed margins. Nobody cites them: they refuse a definition that slipped (01, "Slips seen in hand sheets").
--- Assumes nothing.
 use mathlib.Core.Path.{_≡_, refl}
 use mathlib.Core.List.{[], _∷_}
 use lib.IntN.{pos}

@@ -1,6 +1,5 @@
 -- How large each value of 01's list ("Margin of a row") can be, in grains, with the limits of the ranges as variables; and steps of its sums.
 -- No contract cites this file; `Small.antt` puts 01's numbers for the variables.
--- Assumes nothing.
 use mathlib.Core.Path.{_≡_, refl, sym, ap, ap₂, _∙_}
 use mathlib.Core.List.{List, []}
 use mathlib.Core.Logic.{_⊎_, inl, inr}

@@ -1,31 +1,28 @@
 -- 01, "Margin of a row": S, the sum of p times LTA, is the largest sum over all corners, for any number of borders. No contract cites this file.
 -- The corner that reaches it uses the borders whose (from factor less to factor) is positive.
--- Assumes nothing.
 use mathlib.Core.Path.{_≡_, refl, sym, ap, ap₂, subst, _∙_}
 use mathlib.Core.List.{List, []}
 use Prim.Native.Nat.{ℕ, zero, suc, _+_, _*_, _/_, _%_, _^_, _<_}
-use native.Mathlib.Nat.{pow-zero, pow-succ', two-pow-succ, div-eq-of-lt, add-div-left, mul-add-div, mul-add-mod-self-left, mul-assoc, not-suc-le-zero, one-mul, zero-mul}
+use native.Mathlib.Nat.{pow-succ', two-pow-succ, div-eq-of-lt, add-div-left, mul-add-div, mul-add-mod-self-left, mul-assoc, not-suc-le-zero, one-mul, zero-mul}
 use native.Mathlib.Omega.{arith}
 use lib.IntN.{ℤ, pos, negsuc, negℤ, _+ℤ_, _*ℤ_}
 use lib.ListN.{length, getD}
+use lib.Pow.{pow-pos}
 use lib.Signed.{_≤ℤ_, ≤ℤ-refl}
 use Rattle.numbers.specs.Ints.{positivePart, sumℤ}
 use Rattle.numbers.specs.Below.{sum, ifZero}
-use Rattle.numbers.proofs.IntLaws.{diff, diffs, zarith}
+use Rattle.numbers.proofs.IntLaws.{diffs, zarith, add-le-pos}
 use Rattle.numbers.proofs.BelowLaws.{sum-cong, sumℤ-cong}
 use Rattle.kinds.specs.Ranges.{borderOf}
 use Rattle.margin.specs.Margin.{signedFactor, pOf, ltaKw, cornerPart, cornerSum, sOf}
+use Rattle.margin.specs.LargestCorner.{LargestCorner}
 
 -- ---- bits
-pub two-pos : (n : ℕ) → 0 < 2 ^ n
-two-pos zero = omega (arith, pow-zero 2)
-two-pos (suc n) = omega (arith, two-pos n, two-pow-succ n)
-
 pub low-bit : (n k : ℕ) → k < 2 ^ n → k / 2 ^ n % 2 ≡ 0
 low-bit n k h = rw (div-eq-of-lt h) refl
 
 pub top-bit : (n k : ℕ) → k < 2 ^ n → (2 ^ n + k) / 2 ^ n % 2 ≡ 1
-top-bit n k h = rw (add-div-left k (two-pos n), div-eq-of-lt h) refl
+top-bit n k h = rw (add-div-left k (pow-pos n), div-eq-of-lt h) refl
 
 -- 2 ^ n is an even number of 2 ^ b
 record Even (n b : ℕ) : Type 0 where
@@ -48,7 +45,7 @@ pub same-bit : (n b k : ℕ) → b < n → (2 ^ n + k) / 2 ^ b % 2 ≡ k / 2 ^ b
 same-bit n b k h =
     let e = even n b h in
     ap (λ (x : ℕ). (x + k) / 2 ^ b % 2) (e .is)
-    ∙ ap (λ (x : ℕ). x % 2) (mul-add-div (two-pos b) (2 * e .half) k)
+    ∙ ap (λ (x : ℕ). x % 2) (mul-add-div (pow-pos b) (2 * e .half) k)
     ∙ mul-add-mod-self-left 2 (e .half) (k / 2 ^ b)
 
 -- ---- corners of any parts
@@ -64,16 +61,10 @@ module _ (part : ℕ → ℤ) where
   term-le (suc v) (pos n) = ≤ℤ-refl (pos n)
   term-le (suc v) (negsuc n) = record { le = tt }
 
-  add-le : (x y : ℤ) (a b : ℕ) → x ≤ℤ pos a → y ≤ℤ pos b → (x +ℤ y) ≤ℤ pos (a + b)
-  add-le x y a b h l =
-      let h′ = simp diffs at (rw (diff x) at h) in
-      let l′ = simp diffs at (rw (diff y) at l) in
-      rw (diff x, diff y) (simp diffs (omega (zarith, h′, l′)))
-
   pub corner-le : (n k : ℕ) → sumℤ n (used part k) ≤ℤ pos (sum n (λ b. positivePart (part b)))
   unfolding sumℤ sum
   corner-le zero k = ≤ℤ-refl (pos 0)
-  corner-le (suc n) k = add-le _ _ _ _ (corner-le n k) (term-le (k / 2 ^ n % 2) (part n))
+  corner-le (suc n) k = add-le-pos _ _ _ _ (corner-le n k) (term-le (k / 2 ^ n % 2) (part n))
 
   record Reached (n : ℕ) : Type 0 where
     corner : ℕ
@@ -82,7 +73,7 @@ module _ (part : ℕ → ℤ) where
 
   reached : (n : ℕ) → Reached n
   unfolding sumℤ sum positivePart ifZero
-  reached zero = record { corner = 0; below = two-pos 0; is = refl }
+  reached zero = record { corner = 0; below = pow-pos 0; is = refl }
   reached (suc n) = go (part n) refl (reached n)
     where
       go : (z : ℤ) → part n ≡ z → Reached n → Reached (suc n)
@@ -115,14 +106,6 @@ part-mul : (s : ℤ) (v : ℕ) → positivePart (s *ℤ pos v) ≡ positivePart 
 unfolding positivePart
 part-mul (pos n) v = refl
 part-mul (negsuc n) v = neg-part (suc n * v) ∙ sym (zero-mul v)
-
-pub record LargestCorner (factors : List ℤ) (borders : List (List ℤ)) : Type 0 where
-  -- no corner is over S ..
-  pub all : (k : ℕ) → cornerSum factors borders k ≤ℤ pos (sOf factors borders)
-  -- .. and one of the 2 ^ borders corners reaches it
-  pub corner : ℕ
-  pub below : corner < 2 ^ length borders
-  pub is : cornerSum factors borders corner ≡ pos (sOf factors borders)
 
 pub s-largest-corner : (factors : List ℤ) (borders : List (List ℤ)) → LargestCorner factors borders
 unfolding cornerSum sOf cornerPart pOf

@@ -1,5 +1,4 @@
 -- What a judged record gives to the functions of this crate, its ranges, and the same of a judged table's parts. No contract cites this file.
--- Assumes nothing.
 use mathlib.Core.Path.{_≡_, ap, _∙_}
 use mathlib.Core.Bool.{true}
 use mathlib.Core.List.{List, []}
@@ -7,8 +6,7 @@ use Prim.Native.Nat.{ℕ, _+_, _*_, _≤_, _<_}
 use native.Mathlib.Nat.{mul-le-mul, suc-mul, le-refl}
 use native.Mathlib.Omega.{arith}
 use lib.IntN.{ℤ}
-use lib.ListN.{length, getD, drop, length-drop}
-use lib.Seq.{length-take-le}
+use lib.ListN.{length, getD}
 use Rattle.numbers.proofs.IntLaws.{within-le, all-part, between-within}
 use Rattle.kinds.specs.declared.Header.{Header}
 use Rattle.kinds.specs.declared.Border.{Border}
@@ -18,6 +16,7 @@ use Rattle.kinds.specs.Ranges.{atℤ, borderFits, borderOf, rowFits, rowOf}
 use Rattle.kinds.proofs.KindLaws.{header-in, zone-in, border-in, row-in, share-in, factor-in}
 use Rattle.table.specs.Table.{Table, stretch}
 use Rattle.table.specs.Good.{Good}
+use Rattle.table.proofs.GoodLaws as good
 use Rattle.margin.specs.Margin.{sOf}
 use Rattle.margin.specs.Bounds.{RowBound, FactorsBound, TableFactorsBound, NetsBound, BorderBound, BordersBound, sMost}
 use Rattle.margin.proofs.BoundLaws.{s-most}
@@ -57,8 +56,7 @@ module _ {h : Header} {f : List ℤ} (bound : TableFactorsBound h f) (i : ℕ) (
   stretch-ends = omega (arith, bound .long, mul-le-mul below (le-refl (h .zones)), suc-mul i (h .zones))
 
   pub stretch-long : length (stretch (h .zones) f i) ≡ h .zones
-  unfolding stretch
-  stretch-long = length-take-le (h .zones) (drop (i * h .zones) f) (omega (arith, length-drop (i * h .zones) f, stretch-ends))
+  stretch-long = good.stretch-long (h .zones) (h .rows) f (bound .long) i below
 
   pub stretch-bound : FactorsBound (stretch (h .zones) f i)
   unfolding stretch

@@ -1,9 +1,8 @@
--- 01, "Margin of a row": each value named in the list stays under 2^48 in magnitude, for every judged table (p is a factor, the others are grains). No contract cites this file.
+-- 01, "Margin of a row": each value named in the list stays under 2^48 in magnitude, for every judged table (`specs/Small.antt`). No contract cites this file.
 -- The bounds are laws with the limits as variables (`BoundLaws.antt`); here stand 01's limits.
--- Assumes nothing.
-use Prim.Native.Nat.{ℕ, _+_, _*_, _^_, _≤_, _<_}
+use Prim.Native.Nat.{ℕ, _+_, _*_, _≤_, _<_}
 use native.Mathlib.Omega.{arith}
-use lib.IntN.{ℤ, pos, natAbs}
+use lib.IntN.{ℤ, pos}
 use lib.ListN.{length, getD}
 use lib.Signed.{_≤ℤ_}
 use mathlib.Core.List.{[]}
@@ -11,33 +10,19 @@ use mathlib.Core.Path.{_≡_, refl, sym, subst}
 use mathlib.Core.Bool.{true}
 use Rattle.numbers.specs.Ints.{Within}
 use Rattle.numbers.proofs.IntLaws.{Between, diffs, zarith}
-use Rattle.kinds.specs.Limits.{zonesMost, fmaxMost, flowMost, shareMost, vaMost, factorMost}
+use Rattle.kinds.specs.Limits.{zonesMost, fmaxMost, flowMost, shareMost, factorMost}
 use Rattle.kinds.specs.Ranges.{borderFits}
 use Rattle.kinds.proofs.KindLaws.{row-in}
 use Rattle.table.specs.Table.{Table, rowAt, borderAt, factorsAt}
 use Rattle.table.specs.Good.{Good}
-use Rattle.margin.specs.Margin.{f0coreOf, fuafOf, baseOf, amrOf, pOf, ltaMarginOf, sAt, ramAt, marginOf}
-use Rattle.margin.specs.Bounds.{RowBound, BordersBound, namedBits, f0coreMost, sMost, ramMost}
+use Rattle.margin.specs.Margin.{pOf, sAt, ramAt, marginOf}
+use Rattle.margin.specs.Bounds.{RowBound, BordersBound, f0coreMost, sMost, ramMost}
+use Rattle.margin.specs.Small.{f0coreAt, NamedSmall}
 use Rattle.margin.proofs.BoundLaws.{within-f0core, within-fuaf, within-base, within-amr, p-most, lta-margin-most, within-ram, within-start}
 use Rattle.margin.proofs.JudgedLaws.{border-bound, row-bound, stretch-long, stretch-bound, s-bound, good-factors, good-borders, good-nets}
 
--- F0core of row i of a table
-abbrev pub f0coreAt : Table → (i : ℕ) → ℤ
-f0coreAt t i = f0coreOf (rowAt t i) (factorsAt t i) (t .nets)
-
 between-low : {m n : ℕ} {z : ℤ} → Between m n z → pos 0 ≤ℤ z
 between-low {z} h = rw (h .is) (simp diffs (omega zarith))
-
-pub record NamedSmall (t : Table) (i : ℕ) : Type 0 where
-  pub f0core : natAbs (f0coreAt t i) < 2 ^ namedBits
-  pub fuaf : natAbs (fuafOf (rowAt t i) (f0coreAt t i)) < 2 ^ namedBits
-  pub base : natAbs (baseOf (rowAt t i) (f0coreAt t i)) < 2 ^ namedBits
-  pub amr : natAbs (amrOf (rowAt t i) (f0coreAt t i)) < 2 ^ namedBits
-  pub p : (b : ℕ) → b < t .header .borders → pOf (factorsAt t i) (borderAt t b) < 2 ^ namedBits
-  pub s : sAt (t .header) (t .borders) (t .factors) i < 2 ^ namedBits
-  pub lta-margin : natAbs (ltaMarginOf (rowAt t i) (f0coreAt t i) (amrOf (rowAt t i) (f0coreAt t i)) (sAt (t .header) (t .borders) (t .factors) i)) < 2 ^ namedBits
-  pub ram : natAbs (ramAt t i) < 2 ^ namedBits
-  pub start : natAbs (marginOf t i) < 2 ^ namedBits
 
 module _ {t : Table} (good : Good t) (i : ℕ) (below : i < t .header .rows) where
   -- the row's values, its F0core and its S

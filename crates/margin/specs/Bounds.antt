@@ -1,6 +1,5 @@
 -- What a function on one row asks of the row's values, by 01's ranges, and how large F0core, AMR, S and RAM can then be, in grains.
 -- That a judged table gives all of it is proved (`BoundLaws.antt`).
--- Assumes nothing.
 use mathlib.Core.Path.{_≡_}
 use mathlib.Core.Bool.{true}
 use mathlib.Core.List.{List, []}

@@ -1,5 +1,4 @@
 -- Small computed values of `specs/Below.antt`. Nobody cites them: they refuse a definition that slipped.
--- Assumes nothing.
 use mathlib.Core.Path.{_≡_, refl}
 use mathlib.Core.Option.{some}
 use Prim.Native.Nat.{_-_}

@@ -1,5 +1,4 @@
 -- The laws of a search that found something (`specs/Below.antt`'s `firstFrom`). No contract cites this file.
--- Assumes nothing.
 use mathlib.Core.Path.{_≡_}
 use mathlib.Core.Bool.{Bool, true, false, cond}
 use mathlib.Core.Option.{some}

@@ -1,13 +1,12 @@
 -- Copies and fills of lent lists, of any length and element: a copy is `paste` of lib.Seq, a fill is `table` in front of what stays (`over`).
--- `Copied` and `Filled` are the loops' invariants, each with its `-none`, `-more`, `-all`; `stretch` is a part lent mid-slice. No contract cites this file.
--- Assumes nothing.
-use mathlib.Core.Path.{_≡_, refl, _∙_, sym, ap}
+-- `Copied` and `Filled` are the loops' invariants, each with its `-none`, `-more`, `-all`; `stretch-left` is a part lent mid-slice. No contract cites this file.
+use mathlib.Core.Path.{_≡_, refl, _∙_, sym, ap, ap₂}
 use mathlib.Core.List.{List, [], _∷_, _++_, append-assoc, append-nil}
 use Prim.Native.Nat.{ℕ, suc, _+_, _<_, _≤_}
 use native.Mathlib.Nat.{zero-add}
 use native.Mathlib.Numerals.{add-one}
 use native.Mathlib.Omega.{arith}
-use lib.ListN.{length, getD, set, take, drop, length-take, length-set, drop-of-length-le}
+use lib.ListN.{length, getD, set, take, drop, length-set, drop-of-length-le}
 use lib.Seq.{paste, paste-zero, paste-suc, take-all, drop-drop, drop-cons, getD-at, set-at}
 use Rattle.numbers.specs.Below.{table, over}
 use Rattle.numbers.proofs.BelowLaws.{table-long}
@@ -28,23 +27,12 @@ module _ {A : Type 0} where
       ∙ ap (λ (r : List A). take n s ++ r) (drop-of-length-le p h)
       ∙ append-nil (take n s)
 
-  -- what a callee left in the part `&mut xs[a..a + n]`, said of the whole slice; k is the part's length as the code computes it
-  stretched : (xs s ys : List A) (a n k : ℕ) → k ≡ n → ys ≡ take n s → take a xs ++ (ys ++ drop k (drop a xs)) ≡ paste xs a s n
-  stretched xs s ys a n k hk e =
-      ap (λ (m : ℕ). take a xs ++ (ys ++ drop m (drop a xs))) hk
-      ∙ ap (λ (l : List A). take a xs ++ (l ++ drop n (drop a xs))) e
-      ∙ ap (λ (l : List A). take a xs ++ (take n s ++ l)) (drop-drop n a xs)
-      ∙ sym (append-assoc (take a xs) (take n s) (drop (a + n) xs))
-
-  -- .. any n items
+  -- what a callee left in the part `&mut xs[a..a + n]`, any n items, said of the whole slice; k is the part's length as the code computes it
   pub stretch-left : (xs ys : List A) (a n k : ℕ) → k ≡ n → length ys ≡ n → take a xs ++ (ys ++ drop k (drop a xs)) ≡ paste xs a ys n
-  stretch-left xs ys a n k hk hn = stretched xs ys ys a n k hk (sym (take-all n ys (omega arith)))
-
-  -- .. a copy of n items of s
-  pub stretch : (xs s ys : List A) (a n k : ℕ) → k ≡ n → ys ≡ paste (take k (drop a xs)) 0 s n → take a xs ++ (ys ++ drop k (drop a xs)) ≡ paste xs a s n
-  stretch xs s ys a n k hk e =
-      let short : length (take n (drop a xs)) ≤ n = simp length-take (omega arith) in
-      stretched xs s ys a n k hk ((rw hk at e) ∙ whole (take n (drop a xs)) s n short)
+  stretch-left xs ys a n k hk hn =
+      ap (λ (m : ℕ). take a xs ++ (ys ++ drop m (drop a xs))) hk
+      ∙ ap₂ (λ (l m : List A). take a xs ++ (l ++ m)) (sym (take-all n ys (omega arith))) (drop-drop n a xs)
+      ∙ sym (append-assoc (take a xs) (take n ys) (drop (a + n) xs))
 
   -- the first i of n items are copied from s into what was d₀
   pub record Copied (s : List A) (n : ℕ) (d₀ d : List A) (i : ℕ) : Type 0 where

@@ -1,5 +1,4 @@
 -- The laws of `specs/Below.antt`'s `sum`: of terms that are at most so large. No contract cites this file.
--- Assumes nothing.
 use Prim.Native.Nat.{ℕ, zero, suc, _*_, _≤_, _<_}
 use native.Mathlib.Nat.{le-refl, suc-mul}
 use native.Mathlib.Omega.{arith}

@@ -1,12 +1,16 @@
 -- What tests tell: of two that hold together, and of a test that holds of every index below a bound. No contract cites this file.
--- Assumes nothing.
+-- `zero-one` ends a case that cannot be: `cc` has two constructors that are equal give any equation, this one too.
 use mathlib.Core.Path.{_≡_, refl, sym, ap}
 use mathlib.Core.Bool.{Bool, true, false, not, _&&_, false≢true}
 use mathlib.Core.Option.{Option, none, some}
 use Prim.Native.Nat.{ℕ, _<_}
+use native.Mathlib.Omega.{arith}
 use borrow.Author.Tests.{not-true, not-false}
 use Rattle.numbers.specs.Below.{firstFrom, given, someBelow, allBelow}
 use Rattle.numbers.proofs.BelowLaws.{first-none, first-nothing}
+
+pub zero-one : _≡_ {A = ℕ} 0 1 → ⊥
+zero-one e = omega arith
 
 pub and-both : (t u : Bool) → (t && u) ≡ true → (t ≡ true) × (u ≡ true)
 and-both true u e = (refl, e)

@@ -1,5 +1,4 @@
 -- What a search of the code found: the first index of a kind, or nothing.
--- Assumes nothing.
 use mathlib.Core.Option.{Option, none, some}
 use Prim.Native.Nat.{ℕ}
 use Rattle.numbers.specs.declared.First.{First}

@@ -1,6 +1,5 @@
 -- What filling leaves in tables of exactly the items asked for, and what `readLeft` of `specs/Reading.antt` comes to, judgement by judgement. No contract cites this file.
 -- In order: the filling pass over lines that were judged; a refused text; the lengths of the lent tables; the lent tables filled.
--- Assumes nothing.
 use mathlib.Core.Path.{_≡_, sym, ap, _∙_}
 use mathlib.Core.Bool.{true}
 use mathlib.Core.List.{List, _++_}
@@ -14,10 +13,10 @@ use Rattle.kinds.specs.declared.Read.{Read}
 use Rattle.kinds.specs.declared.Read.the-variants as answer
 use Rattle.kinds.specs.declared.Refusal.{Refusal}
 use Rattle.kinds.specs.Answers.{ruled}
-use Rattle.kinds.specs.Refusals.{Why, passed, refused, then, told}
+use Rattle.kinds.specs.Refusals.{passed, refused, then}
 use Rattle.kinds.proofs.RefusalLaws.{then-next, then-refused, either-passed, either-refused}
 use Rattle.block.specs.Block.{linesAt, heldBy}
-use Rattle.table.specs.Table.{Table, lent, room, zoneLineNo}
+use Rattle.table.specs.Table.{Table, lent, tableRoom, zoneLineNo}
 use Rattle.table.specs.Good.{Exact}
 use Rattle.table.proofs.JudgeLaws.{exact-factors}
 use Rattle.table.proofs.RoomLaws.{room-of}
@@ -26,7 +25,7 @@ use Rattle.runs.specs.Runs.{allGood}
 use Rattle.runs.specs.Rows.{valuesOf, factorsOf, rowsIn}
 use Rattle.reading.specs.declared.judged.Places.{Places}
 use Rattle.reading.specs.Reading.{ReadLeft, readText, readLeft}
-use Rattle.reading.specs.Places.{tableAt, Placed, left}
+use Rattle.reading.specs.Places.{tableAt, Placed, readSaid}
 use Rattle.reading.proofs.ReadLaws.{read-good}
 
 -- ---- the filling pass
@@ -50,31 +49,31 @@ module _ (p : Places) (text : List ℕ) (z : List ℤ) (b c : List (List ℤ)) (
 over-front : {A : Type 0} (xs new old : List A) (n : ℕ) → xs ≡ new → length new ≡ n → xs ++ drop n old ≡ over new old
 over-front xs new old n e l = rw (e, ← l)
 
-left-is : (a : Read) {z z′ : List ℤ} {b b′ c c′ : List (List ℤ)} {f f′ : List ℤ} → z ≡ z′ → b ≡ b′ → c ≡ c′ → f ≡ f′ → left a z b c f ≡ left a z′ b′ c′ f′
+left-is : (a : Read) {z z′ : List ℤ} {b b′ c c′ : List (List ℤ)} {f f′ : List ℤ} → z ≡ z′ → b ≡ b′ → c ≡ c′ → f ≡ f′ → readSaid a z b c f ≡ readSaid a z′ b′ c′ f′
 left-is a ez eb ec ef = cc
 
 module _ (text : List ℕ) (z : List ℤ) (b c : List (List ℤ)) (f : List ℤ) where
   abbrev filledBy : Table → ReadLeft
   filledBy t = record { answer = passed (t .header); z = over (t .nets) z; b = over (t .borders) b; c = over (t .rows) c; f = over (t .factors) f }
 
-  abbrev asItWas : Why → ReadLeft
+  abbrev asItWas : Refusal → ReadLeft
   asItWas w = record { answer = refused w; z = z; b = b; c = c; f = f }
 
-  pub text-refused : (w : Refusal) → refused (told w) ≡ readText text → left (answer.Refused w) z b c f ≡ readLeft text z b c f
+  pub text-refused : (w : Refusal) → refused w ≡ readText text → readSaid (answer.Refused w) z b c f ≡ readLeft text z b c f
   unfolding readLeft
   text-refused w e = sym (either-refused filledBy asItWas (then-refused _ (sym e)))
 
-  module _ (t : Table) (text-is : passed t ≡ readText text) (r : Judgement) (said : ruled r (t .header) ≡ room (t .header) (lent (t .header) z b c f) (passed (t .header))) where
-    past-text : then (readText text) (λ (u : Table). room (u .header) (lent (u .header) z b c f) (passed u)) ≡ then (ruled r (t .header)) (λ _. passed t)
+  module _ (t : Table) (text-is : passed t ≡ readText text) (r : Judgement) (said : ruled r (t .header) ≡ tableRoom (t .header) (lent (t .header) z b c f) (passed (t .header))) where
+    past-text : then (readText text) (λ (u : Table). tableRoom (u .header) (lent (u .header) z b c f) (passed u)) ≡ then (ruled r (t .header)) (λ _. passed t)
     past-text = then-next _ (sym text-is) ∙ sym (room-of (t .header) _ _ _ _ (t .header) r said (passed t))
 
-    pub room-refused : (w : Refusal) → r ≡ judgement.Refused w → left (answer.Refused w) z b c f ≡ readLeft text z b c f
+    pub room-refused : (w : Refusal) → r ≡ judgement.Refused w → readSaid (answer.Refused w) z b c f ≡ readLeft text z b c f
     unfolding readLeft
     room-refused w e = sym (either-refused filledBy asItWas (past-text ∙ then-refused _ (ap (λ (j : Judgement). ruled j (t .header)) e)))
 
     -- each table as a callee left its front part
     pub front-filled : r ≡ judgement.Passed → (z′ : List ℤ) (b′ c′ : List (List ℤ)) (f′ : List ℤ) → lent (t .header) z′ b′ c′ f′ ≡ t
-        → left (answer.Table (t .header)) (z′ ++ drop (t .header .zones) z) (b′ ++ drop (t .header .borders) b) (c′ ++ drop (t .header .rows) c) (f′ ++ drop (t .header .rows * t .header .zones) f) ≡ readLeft text z b c f
+        → readSaid (answer.Table (t .header)) (z′ ++ drop (t .header .zones) z) (b′ ++ drop (t .header .borders) b) (c′ ++ drop (t .header .rows) c) (f′ ++ drop (t .header .rows * t .header .zones) f) ≡ readLeft text z b c f
     unfolding readLeft
     front-filled ok z′ b′ c′ f′ e =
         let g = read-good text t (sym text-is) .exact in

@@ -1,6 +1,5 @@
 -- The laws of `linesOf` and `readText` of `specs/Reading.antt`: which judgement decides, one law for each, and what is known where none does. No contract cites this file.
 -- In order: a run of lines, opened; the H line; the Z, B and C lines, and the end; the length of the text, and borders given twice.
--- Assumes nothing.
 use mathlib.Core.Path.{_≡_, sym, ap, _∙_}
 use mathlib.Core.Bool.{true, cond}
 use mathlib.Core.List.{List, _++_}
@@ -16,7 +15,8 @@ use Rattle.numbers.specs.Below.{firstFrom}
 use Rattle.kinds.specs.declared.Header.{Header}
 use Rattle.kinds.specs.Limits.{bordersMost, bytesMost}
 use Rattle.kinds.specs.Ranges.{headerFits}
-use Rattle.kinds.specs.Refusals.{Why, Judged, passed, refused, then, tooLong, wrongForm, outOfRange, givenTwice}
+use Rattle.kinds.specs.declared.Refusal.{Refusal}
+use Rattle.kinds.specs.Refusals.{Judged, passed, refused, then, tooLong, wrongForm, outOfRange, givenTwice}
 use Rattle.kinds.proofs.KindLaws.{HeaderIn, header-in}
 use Rattle.kinds.proofs.RefusalLaws.{then-next, then-refused, first-found, first-none-next}
 use Rattle.text.specs.Line.{lineAt, form, range}
@@ -38,7 +38,7 @@ module _ {A B : Type 0} (x : Block A) (f : List A → ℕ → Judged B) where
   with-read : (xs : List A) (next : ℕ) → x ≡ read xs next → withLines x f ≡ f xs next
   with-read xs next e = ap (λ (y : Block A). withLines y f) e
 
-  with-fault : (w : Why) → x ≡ fault w → withLines x f ≡ refused w
+  with-fault : (w : Refusal) → x ≡ fault w → withLines x f ≡ refused w
   with-fault w e = ap (λ (y : Block A). withLines y f) e
 
 -- ---- the H line
@@ -85,7 +85,7 @@ module _ {text : List ℕ} {h : Header} {at : ℕ} (u : Headed text h at) where
   unfolding linesOf
   past-header = rw (u .header-is, u .at-is)
 
-  pub nets-refused : {w : Why} → refused w ≡ endOf (netsRun text h at) → refused w ≡ linesOf text
+  pub nets-refused : {w : Refusal} → refused w ≡ endOf (netsRun text h at) → refused w ≡ linesOf text
   nets-refused {w} e = sym (past-header ∙ with-fault _ (afterNets text h) w (run-refused (netsRun text h at) w e))
 
   -- the borders' part of the memory
@@ -106,7 +106,7 @@ module _ {text : List ℕ} {h : Header} {at : ℕ} (u : Headed text h at) where
     pub p-within : p ≤ length text
     p-within = run-within zoneLine zoneLineNo (h .zones) text at 0 p at-within nets-end
 
-    pub borders-refused : {w : Why} → fault w ≡ bordersRun text h p → refused w ≡ linesOf text
+    pub borders-refused : {w : Refusal} → fault w ≡ bordersRun text h p → refused w ≡ linesOf text
     borders-refused {w} e = sym (past-nets ∙ with-fault _ (afterBorders text h nets) w (sym e))
 
     module _ {borders : List (List ℤ)} {q : ℕ} (borders-are : read borders q ≡ bordersRun text h p) where
@@ -119,7 +119,7 @@ module _ {text : List ℕ} {h : Header} {at : ℕ} (u : Headed text h at) where
       borders-long : length borders ≡ h .borders
       borders-long = run-fits (borderLine (h .zones)) (borderLineNo h) (λ i raw. Unit {0}) (λ line i raw e. tt) (h .borders) text p 0 borders q (sym borders-are) .0
 
-      pub rows-refused : {w : Why} → refused w ≡ endOf (rowsRun text h q) → refused w ≡ linesOf text
+      pub rows-refused : {w : Refusal} → refused w ≡ endOf (rowsRun text h q) → refused w ≡ linesOf text
       rows-refused {w} e = sym (past-borders ∙ with-fault _ (afterRows text h nets borders) w (run-refused (rowsRun text h q) w e))
 
       module _ {e : ℕ} (rows-end : passed e ≡ endOf (rowsRun text h q)) where
@@ -162,7 +162,7 @@ module _ (text : List ℕ) where
     unfolding readText
     past-length = rw (le-ltb bytesMost (length text) short)
 
-    pub lines-refused : (w : Why) → refused w ≡ linesOf text → refused w ≡ readText text
+    pub lines-refused : (w : Refusal) → refused w ≡ linesOf text → refused w ≡ readText text
     lines-refused w e = sym (past-length ∙ then-refused notTwice (sym e))
 
     module _ (t : Table) (lines-are : passed t ≡ linesOf text) where

@@ -1,5 +1,4 @@
 -- The laws of what `read` leaves (`readLeft`): a text's table with room for it; a table that was read; a refusal, with room for the largest table. No contract cites this file.
--- Assumes nothing.
 use mathlib.Core.Path.{_≡_, refl, sym, ap, subst, _∙_}
 use mathlib.Core.List.{List}
 use Prim.Native.Nat.{ℕ, _*_, _≤_}
@@ -13,13 +12,13 @@ use Rattle.kinds.specs.declared.Read.the-variants as read
 use Rattle.kinds.specs.declared.Refusal.{Refusal}
 use Rattle.kinds.specs.Answers.{saidRead}
 use Rattle.kinds.specs.Limits.{zonesMost, bordersMost, rowsMost}
-use Rattle.kinds.specs.Refusals.{Judged, passed, refused, told}
+use Rattle.kinds.specs.Refusals.{Judged, passed, refused}
 use Rattle.kinds.proofs.KindLaws.{header-in}
 use Rattle.kinds.proofs.RefusalLaws.{passed-is, refused-is, not-passed, then-passed, then-next, then-refused, either-passed, either-refused, answer-passed}
 use Rattle.table.specs.Table.{Table, lent, judgeLent}
 use Rattle.table.proofs.RoomLaws.{Enough, room-enough, room-passed, factors-most}
 use Rattle.table.proofs.GoodLaws.{over-judged}
-use Rattle.reading.specs.Places.{left}
+use Rattle.reading.specs.Places.{readSaid}
 use Rattle.reading.specs.Reading.{readText, ReadLeft, readLeft}
 use Rattle.reading.proofs.ReadLaws.{read-good}
 
@@ -52,7 +51,7 @@ module _ (text : List ℕ) (z : List ℤ) (b c : List (List ℤ)) (f : List ℤ)
       }
 
   -- ---- as the call says it
-  module _ (r : Read) {z′ : List ℤ} {b′ c′ : List (List ℤ)} {f′ : List ℤ} (said : left r z′ b′ c′ f′ ≡ readLeft text z b c f) where
+  module _ (r : Read) {z′ : List ℤ} {b′ c′ : List (List ℤ)} {f′ : List ℤ} (said : readSaid r z′ b′ c′ f′ ≡ readLeft text z b c f) where
     -- a table was read, and the lent tables are judged to be it
     module _ (h : Header) (is : r ≡ read.Table h) where
       pub answered : readLeft text z b c f .answer ≡ passed h
@@ -81,13 +80,13 @@ module _ (text : List ℕ) (z : List ℤ) (b c : List (List ℤ)) (f : List ℤ)
             factors = omega (arith, factors-most (t .header) fits);
           }
 
-      pub refused-text : readText text ≡ refused (told w)
+      pub refused-text : readText text ≡ refused w
       unfolding readLeft
       refused-text = go (readText text) refl
         where
-          turned : (x : ReadLeft) → readLeft text z b c f ≡ x → refused (told w) ≡ x .answer
+          turned : (x : ReadLeft) → readLeft text z b c f ≡ x → refused w ≡ x .answer
           turned x q = ap (λ (y : Read). saidRead y) (sym is) ∙ ap (λ (l : ReadLeft). l .answer) (said ∙ q)
 
-          go : (j : Judged Table) → readText text ≡ j → readText text ≡ refused (told w)
-          go (passed t) q = absurd (not-passed (told w) (t .header) (turned _ (read-left t q (enough t q))))
-          go (refused v) q = q ∙ ap refused (sym (refused-is {A = Header} (told w) v (turned _ (either-refused _ _ (then-refused _ q)))))
+          go : (j : Judged Table) → readText text ≡ j → readText text ≡ refused w
+          go (passed t) q = absurd (not-passed w (t .header) (turned _ (read-left t q (enough t q))))
+          go (refused v) q = q ∙ ap refused (sym (refused-is {A = Header} w v (turned _ (either-refused _ _ (then-refused _ q)))))

@@ -1,5 +1,4 @@
 -- What is known of a table that was read: its header and runs of lines (`opened`), and that it is good (`read-good`, `read-shaped`). No contract cites this file.
--- Assumes nothing.
 use mathlib.Core.Path.{_≡_, refl, sym, ap, subst, _∙_}
 use mathlib.Core.Bool.{Bool, true, false, cond}
 use mathlib.Core.List.{List, []}
@@ -12,7 +11,8 @@ use borrow.Author.Tests.{ltb-false}
 use Rattle.kinds.specs.declared.Header.{Header}
 use Rattle.kinds.specs.Limits.{bytesMost}
 use Rattle.kinds.specs.Ranges.{headerFits, zoneFits, rowFits, factorFits, atℤ}
-use Rattle.kinds.specs.Refusals.{Why, Judged, passed, refused, tooLong, wrongForm, outOfRange}
+use Rattle.kinds.specs.declared.Refusal.{Refusal}
+use Rattle.kinds.specs.Refusals.{Judged, passed, refused, tooLong, wrongForm, outOfRange}
 use Rattle.kinds.proofs.RefusalLaws.{passed-is, not-passed, none-passed, then-passed}
 use Rattle.kinds.proofs.KindLaws.{header-in}
 use Rattle.text.specs.Line.{lineAt, after, Line, holds, form, range}
@@ -24,12 +24,12 @@ use Rattle.table.specs.Good.{Good, Shaped}
 use Rattle.table.proofs.GoodLaws.{row-good, flat-fit}
 use Rattle.lines.specs.Lines.{RowLine, headerLine, zoneLine, borderLine, rowLine}
 use Rattle.runs.specs.Rows.{valuesOf, factorsOf}
-use Rattle.runs.proofs.RowLaws.{none, values-long, values-at, factors-long, stretch-of}
+use Rattle.runs.proofs.RowLaws.{emptyRow, values-long, values-at, factors-long, stretch-of}
 use Rattle.reading.specs.Reading.{withHeader, linesOf, readText}
 use Rattle.lines.proofs.HeaderTrip.{header-read}
 use Rattle.lines.proofs.ZoneTrip.{zone-read}
 use Rattle.lines.proofs.BorderTrip.{BorderHeld, border-read}
-use Rattle.lines.proofs.RowTrip.{RowHeld, Held, row-read}
+use Rattle.lines.proofs.RowTrip.{RowHeld, RowHeldAt, row-read}
 
 -- ---- the chain of H, Z, B, C lines and the end of the text, opened
 pub record Opened (text : List ℕ) (t : Table) : Type 0 where
@@ -51,7 +51,7 @@ header-then t form next e k = absurd (not-passed (wrongForm headerLineNo) t e)
 header-then t range next e k = absurd (not-passed (outOfRange headerLineNo) t e)
 
 -- a refusal where a test holds, and none was given
-cond-passed : (a b : ℕ) (w : Why) (x : Judged Table) (t : Table) → cond (ltb a b) (refused w) x ≡ passed t → (b ≤ a) × (x ≡ passed t)
+cond-passed : (a b : ℕ) (w : Refusal) (x : Judged Table) (t : Table) → cond (ltb a b) (refused w) x ≡ passed t → (b ≤ a) × (x ≡ passed t)
 cond-passed a b w x t e = go (ltb a b) refl e
   where
     go : (s : Bool) → ltb a b ≡ s → cond s (refused w) x ≡ passed t → (b ≤ a) × (x ≡ passed t)
@@ -111,28 +111,28 @@ module _ (text : List ℕ) (t : Table) (o : Opened text t) where
       run-fits (borderLine (t .header .zones)) (borderLineNo (t .header)) (λ i raw. BorderHeld (t .header .zones) raw) (λ line i raw e. border-read (t .header .zones) line i raw e .1)
       (t .header .borders) text (o .p) 0 (t .borders) (o .q) (o .borders-are)
 
-  pub rows-held : (length (o .lines) ≡ t .header .rows) × allFit (Held (t .header .zones)) 0 (o .lines)
+  pub rows-held : (length (o .lines) ≡ t .header .rows) × allFit (RowHeldAt (t .header .zones)) 0 (o .lines)
   rows-held =
-      run-fits (rowLine (t .header .zones)) (rowLineNo (t .header)) (Held (t .header .zones)) (λ line i c e. row-read (t .header .zones) line i c e .1)
+      run-fits (rowLine (t .header .zones)) (rowLineNo (t .header)) (RowHeldAt (t .header .zones)) (λ line i c e. row-read (t .header .zones) line i c e .1)
       (t .header .rows) text (o .q) 0 (o .lines) (o .e) (o .rows-are)
 
   border-at : (b : ℕ) → b < t .header .borders → BorderHeld (t .header .zones) (getD (t .borders) b [])
   border-at b h = fits-at (λ i raw. BorderHeld (t .header .zones) raw) [] (t .borders) 0 (borders-held .1) b (omega (arith, borders-held .0))
 
-  row-at : (i : ℕ) → i < t .header .rows → RowHeld (t .header .zones) (getD (o .lines) i none)
-  row-at i h = fits-at (Held (t .header .zones)) none (o .lines) 0 (rows-held .1) i (omega (arith, rows-held .0))
+  row-at : (i : ℕ) → i < t .header .rows → RowHeld (t .header .zones) (getD (o .lines) i emptyRow)
+  row-at i h = fits-at (RowHeldAt (t .header .zones)) emptyRow (o .lines) 0 (rows-held .1) i (omega (arith, rows-held .0))
 
-  values-is : (i : ℕ) → getD (t .rows) i [] ≡ getD (o .lines) i none .values
+  values-is : (i : ℕ) → getD (t .rows) i [] ≡ getD (o .lines) i emptyRow .values
   values-is i = rw (← o .values-are) (values-at (o .lines) i)
 
-  stretch-is : (i : ℕ) → i < t .header .rows → stretch (t .header .zones) (t .factors) i ≡ getD (o .lines) i none .factors
+  stretch-is : (i : ℕ) → i < t .header .rows → stretch (t .header .zones) (t .factors) i ≡ getD (o .lines) i emptyRow .factors
   stretch-is i h = rw (← o .factors-are) (stretch-of (t .header .zones) (o .lines) 0 (rows-held .1) i (omega (arith, rows-held .0)))
 
   factors-all : length (t .factors) ≡ t .header .rows * t .header .zones
   factors-all = rw (← o .factors-are, ← rows-held .0) (factors-long (t .header .zones) (o .lines) 0 (rows-held .1))
 
   row-fits : (i : ℕ) → i < t .header .rows → rowFits (getD (t .rows) i []) ≡ true
-  row-fits i h = let c = getD (o .lines) i none in rw (values-is i) (row-good (c .values) (c .factors) (row-at i h .good) .0)
+  row-fits i h = let c = getD (o .lines) i emptyRow in rw (values-is i) (row-good (c .values) (c .factors) (row-at i h .good) .0)
 
   opened-good : ((b : ℕ) → b < t .header .borders → twice (t .borders) b ≡ false) → Good t
   opened-good once = record {
@@ -148,7 +148,7 @@ module _ (text : List ℕ) (t : Table) (o : Opened text t) where
     rows-fit = row-fits;
     factors-fit = flat-fit (t .header .zones) (t .header .rows) (t .factors) factors-all some (λ i h.
         subst (λ (f : List ℤ). (z : ℕ) → z < length f → factorFits (atℤ f z) ≡ true) (sym (stretch-is i h))
-        (row-good (getD (o .lines) i none .values) (getD (o .lines) i none .factors) (row-at i h .good) .1));
+        (row-good (getD (o .lines) i emptyRow .values) (getD (o .lines) i emptyRow .factors) (row-at i h .good) .1));
     once = once;
   }
 

@@ -1,6 +1,5 @@
 -- `read` has one answer: no second one, and no second content of a lent table, satisfies its contract.
 -- The theorem is about the contract as the check reads it from the source (`reads.Post`), and not about a copy.
--- Assumes nothing.
 use mathlib.Core.Path.{_≡_, sym, ap, _∙_}
 use mathlib.Core.List.{List}
 use lib.IntN.{ℤ}
@@ -12,13 +11,13 @@ use borrow.Fn.Kinds.{endedOf}
 use Rattle.kinds.specs.declared.Read.{Read}
 use Rattle.kinds.proofs.AnswerLaws.{saidRead-injective}
 use Rattle.reading.specs.Reading.{ReadLeft}
-use Rattle.reading.specs.Places.{left}
+use Rattle.reading.specs.Places.{readSaid}
 use Rattle.reading.proofs.read.{signature}
 use Rattle.reading.proofs.read.Kinds as kinds
 use Rattle.reading.proofs.read.Reads as reads
 
 -- what is left tells the answer and each table
-left-once : (r r′ : Read) (z z′ : List ℤ) (b b′ c c′ : List (List ℤ)) (f f′ : List ℤ) (x : ReadLeft) → left r z b c f ≡ x → left r′ z′ b′ c′ f′ ≡ x → (r ≡ r′) × ((z ≡ z′) × ((b ≡ b′) × ((c ≡ c′) × (f ≡ f′))))
+left-once : (r r′ : Read) (z z′ : List ℤ) (b b′ c c′ : List (List ℤ)) (f f′ : List ℤ) (x : ReadLeft) → readSaid r z b c f ≡ x → readSaid r′ z′ b′ c′ f′ ≡ x → (r ≡ r′) × ((z ≡ z′) × ((b ≡ b′) × ((c ≡ c′) × (f ≡ f′))))
 left-once r r′ z z′ b b′ c c′ f f′ x p q =
     let e = p ∙ sym q in
     (saidRead-injective r r′ (ap (λ (y : ReadLeft). y .answer) e), (ap (λ (y : ReadLeft). y .z) e, (ap (λ (y : ReadLeft). y .b) e, (ap (λ (y : ReadLeft). y .c) e, ap (λ (y : ReadLeft). y .f) e))))

@@ -1,6 +1,5 @@
 -- A text that was judged, as the pass that fills the lent tables takes it (01, "When the table is turned away"). Promises are stated through these.
--- `tableIn` is what judging comes to, `Placed` what the filling pass asks for, `left` what the open call leaves.
--- Assumes nothing.
+-- `tableIn` is what judging comes to, `Placed` what the filling pass asks for, `readSaid` what the open call leaves.
 use mathlib.Core.Path.{_≡_}
 use mathlib.Core.Bool.{true}
 use mathlib.Core.List.{List}
@@ -11,7 +10,7 @@ use Rattle.kinds.specs.declared.Header.{Header}
 use Rattle.kinds.specs.declared.Read.{Read}
 use Rattle.kinds.specs.Answers.{saidRead}
 use Rattle.kinds.specs.Ranges.{headerFits}
-use Rattle.kinds.specs.Refusals.{Judged, passed, refused, told}
+use Rattle.kinds.specs.Refusals.{Judged, passed, refused}
 use Rattle.text.specs.Line.{lineAt, after, holds}
 use Rattle.block.specs.Block.{Block, linesAt, heldBy}
 use Rattle.table.specs.Table.{Table, lent, zoneLineNo}
@@ -20,7 +19,7 @@ use Rattle.runs.specs.Runs.{allGood}
 use Rattle.runs.specs.Rows.{valuesOf, factorsOf, rowsIn}
 use Rattle.reading.specs.declared.judged.Places.{Places}
 use Rattle.reading.specs.declared.judged.TextJudged.{TextJudged}
-use Rattle.reading.specs.declared.judged.TextJudged.the-variants.{Good, Refused}
+use Rattle.reading.specs.declared.judged.TextJudged.the-variants.{Passed, Refused}
 use Rattle.reading.specs.Reading.{ReadLeft}
 
 -- the H line of a text holds h, and the next line begins at place `at`
@@ -41,8 +40,8 @@ tableAt p text borders = lent (p .header) (heldBy (netsAt p text)) borders (valu
 
 -- what judging comes to; the borders are in front of the memory
 abbrev pub tableIn : TextJudged → (text : List ℕ) → (memory : List (List ℤ)) → Judged Table
-tableIn (Good p) text memory = passed (tableAt p text (take (p .header .borders) memory))
-tableIn (Refused w) text memory = refused (told w)
+tableIn (Passed p) text memory = passed (tableAt p text (take (p .header .borders) memory))
+tableIn (Refused w) text memory = refused w
 
 -- lines that may be filled from their places on, without being judged again
 pub record Placed (p : Places) (text : List ℕ) : Type 0 where
@@ -54,9 +53,9 @@ pub record Placed (p : Places) (text : List ℕ) : Type 0 where
 
 -- .. where judging found them
 abbrev pub placedIn : TextJudged → (text : List ℕ) → Type 0
-placedIn (Good p) text = Placed p text
+placedIn (Passed p) text = Placed p text
 placedIn (Refused w) text = Unit {0}
 
 -- an answer, with each lent table as it stands
-abbrev pub left : Read → (z : List ℤ) → (b c : List (List ℤ)) → (f : List ℤ) → ReadLeft
-left r z b c f = record { answer = saidRead r; z = z; b = b; c = c; f = f }
+abbrev pub readSaid : Read → (z : List ℤ) → (b c : List (List ℤ)) → (f : List ℤ) → ReadLeft
+readSaid r z b c f = record { answer = saidRead r; z = z; b = b; c = c; f = f }

@@ -1,5 +1,4 @@
 -- Reading the table (01, "The table as text", "When the table is turned away"), and what the open call `read` leaves.
--- Assumes nothing.
 use mathlib.Core.Bool.{cond}
 use mathlib.Core.List.{List}
 use Prim.Native.Nat.{ℕ}
@@ -12,7 +11,7 @@ use Rattle.kinds.specs.Limits.{bytesMost}
 use Rattle.kinds.specs.Refusals.{Judged, passed, refused, then, either, tooLong, wrongForm, outOfRange}
 use Rattle.text.specs.Line.{lineAt, after, Line, holds, form, range}
 use Rattle.block.specs.Block.{linesAt, withLines}
-use Rattle.table.specs.Table.{Table, lent, notTwice, room, headerLineNo, zoneLineNo, borderLineNo, rowLineNo, pastLineNo}
+use Rattle.table.specs.Table.{Table, lent, notTwice, tableRoom, headerLineNo, zoneLineNo, borderLineNo, rowLineNo, pastLineNo}
 use Rattle.lines.specs.Lines.{headerLine, zoneLine, borderLine, rowLine}
 use Rattle.runs.specs.Rows.{valuesOf, factorsOf}
 
@@ -46,6 +45,6 @@ pub record ReadLeft : Type 0 where
 -- .. and then 8. A refusal writes nothing; else the table stands in front, and the rest stays as it was
 unfoldable pub readLeft : (text : List ℕ) → (z : List ℤ) → (b c : List (List ℤ)) → (f : List ℤ) → ReadLeft
 readLeft text z b c f =
-    either (then (readText text) (λ t. room (t .header) (lent (t .header) z b c f) (passed t)))
+    either (then (readText text) (λ t. tableRoom (t .header) (lent (t .header) z b c f) (passed t)))
     (λ t. record { answer = passed (t .header); z = over (t .nets) z; b = over (t .borders) b; c = over (t .rows) c; f = over (t .factors) f })
     (λ w. record { answer = refused w; z = z; b = b; c = c; f = f })

@@ -5,14 +5,12 @@ ghost use lib.ListN.{length};
 ghost use Rattle.kinds.specs.Limits.{bordersMost};
 ghost use Rattle.reading.specs.Places.{Headed, tableIn, placedIn};
 ghost use Rattle.reading.specs.Reading.{linesOf, readText};
+use crate::BYTES_MOST;
 use kinds::BorderRecord;
 use kinds::Header;
 use kinds::Refusal;
 use lines::HeaderLine;
 use numbers::First;
-
-// Bytes of a text.
-pub const BYTES_MOST: usize = 65536;
 
 // Where the Z and the C lines of a good text begin.
 pub struct Places {
@@ -22,7 +20,7 @@ pub struct Places {
 }
 
 pub enum TextJudged {
-    Good(Places),
+    Passed(Places),
     Refused(Refusal),
 }
 
@@ -33,15 +31,15 @@ pub fn judge_text(text: &[u8], memory: &mut [BorderRecord]) -> TextJudged
     ensures { λ r. ⌜ placedIn r (now (text .entry)) ⌝ }
 {
     if BYTES_MOST < text.len() {
-        return TextJudged::Refused(Refusal::TooLong);
+        return TextJudged::Refused(Refusal::too_long());
     }
     match judge_lines(text, memory) {
-        TextJudged::Good(places) => {
+        TextJudged::Passed(places) => {
             let h = places.header;
             let borders = h.borders;
             match table::first_twice(&memory[..borders]) {
-                First::At(i) => TextJudged::Refused(Refusal::Twice(i)),
-                First::Nothing => TextJudged::Good(places),
+                First::At(i) => TextJudged::Refused(Refusal::given_twice(i)),
+                First::Nothing => TextJudged::Passed(places),
             }
         }
         TextJudged::Refused(w) => TextJudged::Refused(w),
@@ -57,8 +55,8 @@ fn judge_lines(text: &[u8], memory: &mut [BorderRecord]) -> TextJudged
     let line = text::line::line_at(text, 0);
     match lines::header::header_line(line) {
         HeaderLine::Holds(h) => judge_runs(text, h, line.len(), memory),
-        HeaderLine::Form => TextJudged::Refused(Refusal::Form(1)),
-        HeaderLine::Range => TextJudged::Refused(Refusal::Range(1)),
+        HeaderLine::Form => TextJudged::Refused(Refusal::wrong_form(table::HEADER_LINE_NO)),
+        HeaderLine::Range => TextJudged::Refused(Refusal::out_of_range(table::HEADER_LINE_NO)),
     }
 }
 
@@ -72,7 +70,7 @@ fn judge_runs(text: &[u8], h: Header, at: usize, memory: &mut [BorderRecord]) ->
     let zones = h.zones;
     let borders = h.borders;
     let rows = h.rows;
-    let first_row = 2 + zones + borders;
+    let first_row = table::ZONE_LINE_NO + zones + borders;
     let borders_at = match runs::zones::zones_judged(text, at, zones) {
         End::At(p) => p,
         End::Refused(w) => return TextJudged::Refused(w),
@@ -91,9 +89,9 @@ fn judge_runs(text: &[u8], h: Header, at: usize, memory: &mut [BorderRecord]) ->
         End::Refused(w) => return TextJudged::Refused(w),
     };
     if end < text.len() {
-        return TextJudged::Refused(Refusal::Form(first_row + rows));
+        return TextJudged::Refused(Refusal::wrong_form(first_row + rows));
     }
-    TextJudged::Good(Places {
+    TextJudged::Passed(Places {
         header: h,
         zones: at,
         rows: rows_at,

@@ -1,5 +1,4 @@
 -- The list of the borders that still rise: keeping those above 0, in the list itself (`Keeping` is that loop's invariant), and whether there is one (`Still`). No contract cites this file.
--- Assumes nothing.
 use mathlib.Core.Path.{_≡_, refl, sym, ap, ap₂, _∙_}
 use mathlib.Core.Bool.{true, false}
 use mathlib.Core.List.{List}

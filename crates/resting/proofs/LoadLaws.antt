@@ -1,5 +1,4 @@
 -- What rows lose, by sums of raises and by lower ones, and what is left to them (`leftTo`). The raises of a round bound those of the next (`raises-bound`). No contract cites this file.
--- Assumes nothing.
 use mathlib.Core.Path.{_≡_, sym, ap, _∙_, subst}
 use mathlib.Core.List.{List}
 use mathlib.Core.Logic.{⊎-elim}

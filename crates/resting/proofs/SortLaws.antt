@@ -1,5 +1,4 @@
 -- Sorting the rows into those to look at and those that may rest: `Sorting` is that loop's invariant; what its test says (`far-rests`); which rows a round looks at (`nearRow`). No contract cites this file.
--- Assumes nothing.
 use mathlib.Core.Path.{_≡_, refl, sym, ap₂, _∙_}
 use mathlib.Core.List.{List}
 use mathlib.Core.Logic.{inl, inr, ⊎-elim}

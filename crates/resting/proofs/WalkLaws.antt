@@ -1,6 +1,5 @@
 -- The walk over the near rows (`Walking` is its invariant), each of which tightens the bounds for what is left to it, and why the rows that rest would tighten none. What holds between two rounds (`Waiting`): a round keeps it (`waiting-next`), and so does taking the losses and sorting anew (`waiting-block`).
 -- No contract cites this file.
--- Assumes nothing.
 use mathlib.Core.Path.{_≡_, refl, sym, ap, ap₂, _∙_, subst}
 use mathlib.Core.List.{List}
 use mathlib.Core.Logic.{inl, inr, ⊎-elim}

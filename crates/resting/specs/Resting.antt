@@ -1,7 +1,6 @@
 -- Which rows are looked at in a round, and which rest (02, E4), over a grid g. Margins are lent as they stood where the rows last lost (s), with what each border gained since (d).
 -- The margins of the rules are then `leftTo g d s`; bounds (w) are the raises of those. `near` lists rows, in its first `count` places; a row that it has no place for is never listed.
 -- `leftTo`, `restRounds`, `Settleable`, `Sortable`, `Sorted`, `nearRow`, `Waiting`, `Renewed` and `Walkable` are what contracts cite, here and in roundloop.
--- Assumes nothing.
 use mathlib.Core.Path.{_≡_}
 use mathlib.Core.List.{List}
 use mathlib.Core.Logic.{_⊎_}

@@ -1,7 +1,6 @@
 -- The laws of `specs/Records.antt` and `specs/Refusal.antt` that proofs cite. No contract cites this file.
 -- In order: the lengths of lines; the E line; `leftField`; lines of 64-bit numbers; the whole text.
--- Assumes nothing.
-use mathlib.Core.Path.{_≡_, refl, ap, ap₂, _∙_}
+use mathlib.Core.Path.{_≡_, refl, ap, _∙_}
 use mathlib.Core.Bool.{Bool, true, false}
 use mathlib.Core.List.{List, [], _∷_, _++_}
 use Prim.Native.Nat.{ℕ, _+_, _^_, _≤_, _<_}
@@ -12,11 +11,12 @@ use lib.Signed.{mag}
 use mir.Syntax.{w64}
 use mir.Val.{hbits}
 use Rattle.numbers.specs.Ints.{sameℤ}
-use Rattle.kinds.specs.Refusals.{Why, why}
+use Rattle.kinds.specs.declared.Refusal.{Refusal}
 use Rattle.text.specs.Fields.{dash}
 use Rattle.text.specs.Put.{Put}
 use Rattle.text.specs.Written.{decimal, decimalℤ, lineText}
-use Rattle.text.proofs.DigitLaws.{decimal-most, decimal-u64, decimal-i64}
+use Rattle.text.proofs.DigitLaws.{decimal-u64, decimal-i64}
+use Rattle.text.proofs.WrittenLaws.{decimal-long}
 use Rattle.text.proofs.PutLaws.{tabbed-length, tabbed-empty, line-length, put-more}
 use Rattle.result.specs.Refusal.{refusalText, refusalMost}
 use Rattle.result.specs.Records.{atcLine, leftField, marginLine, roundsLine, atcLines, marginLines, recordsText, resultLineMost}
@@ -52,23 +52,12 @@ pub rounds-length : (rounds : ℕ) → 3 + length (decimal rounds) ≡ length (r
 rounds-length rounds = one-length 82 (decimal rounds)
 
 -- ---- the E line
-pub refusal-length : (w : Why) → 4 + length (decimal (w .number)) + length (decimal (w .place)) ≡ length (refusalText w)
+pub refusal-length : (w : Refusal) → 4 + length (decimal (w .number)) + length (decimal (w .place)) ≡ length (refusalText w)
 unfolding refusalText
 refusal-length w = two-length 69 (decimal (w .number)) (decimal (w .place))
 
-pub refusal-most : (w : Why) → w .number < 10 → w .place < 2 ^ 64 → length (refusalText w) ≤ refusalMost
-refusal-most w h k = omega (arith, refusal-length w, decimal-most 1 (w .number) (omega arith) h, decimal-u64 (w .place) k)
-
--- a refusal by its number and place: the room for its line, and its line
-module _ (w : Why) {number place : ℕ} (e : number ≡ w .number) (f : place ≡ w .place) where
-  why-is : why number place ≡ w
-  why-is = ap₂ why e f
-
-  pub why-room : {room : ℕ} → length (refusalText w) ≤ room → length (refusalText (why number place)) ≤ room
-  why-room h = rw why-is h
-
-  pub why-put : {at next : ℕ} {out out′ : List ℕ} → Put (refusalText (why number place)) at out next out′ → Put (refusalText w) at out next out′
-  why-put p = rw why-is at p
+pub refusal-most : (w : Refusal) → w .number < 2 ^ 32 → w .place < 2 ^ 64 → length (refusalText w) ≤ refusalMost
+refusal-most w h k = omega (arith, refusal-length w, decimal-long 9 (w .number) (omega (arith, h)), decimal-u64 (w .place) k)
 
 -- ---- leftField
 module _ (state left : ℤ) where

@@ -1,6 +1,5 @@
 -- The result text made from result records, as the open call `extract` fills them (01, "Result text"): a border's ATC; a row's state, RAM and margin left.
 -- `recordsText` and the lines of it are what contracts cite; the text of a result is that of its records (answer's specs/Result.antt).
--- Assumes nothing.
 use mathlib.Core.Bool.{cond}
 use mathlib.Core.List.{List, [], _∷_, _++_}
 use Prim.Native.Char.{code}

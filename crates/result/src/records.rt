@@ -10,26 +10,28 @@ ghost use Rattle.kinds.specs.Limits.{bordersMost, rowsMost};
 ghost use Rattle.text.specs.Fields.{tab};
 ghost use Rattle.text.specs.Put.{Put};
 ghost use Rattle.result.specs.Records.{atcLine, leftField, marginLine, roundsLine, atcLines, marginLines, recordsText, resultLineMost, recordsMost};
+use extraction::AtcRecord;
+use extraction::LeftRecord;
 
 // How many bytes the result text has.
-pub fn records_length(atc: &[[i64; 1]], left: &[[i64; 3]], rounds: u64) -> usize
+pub fn records_length(atc: &[AtcRecord], left: &[LeftRecord], rounds: u64) -> usize
     requires { ⌜ (length (now atc) ≤ bordersMost) × (length (now left) ≤ rowsMost) ⌝ }
     ensures { λ r. ⌜ (r ≡ length (recordsText (now (atc .entry)) (now (left .entry)) rounds)) × (r ≤ recordsMost) ⌝ }
 {
     atcs_length(atc) + margins_length(left) + rounds_length(rounds)
 }
 
-fn atcs_length(atc: &[[i64; 1]]) -> usize
+fn atcs_length(atc: &[AtcRecord]) -> usize
     requires { ⌜ length (now atc) ≤ bordersMost ⌝ }
     ensures { λ r. ⌜ (r ≡ length (atcLines (now (atc .entry)))) × (r ≤ bordersMost * resultLineMost) ⌝ }
 {
-    let mut total: usize = 0;
+    let mut sum: usize = 0;
     let mut b: usize = 0;
     while b < atc.len() {
-        total += atc_length(b as u64, atc[b][0]);
+        sum += atc_length(b as u64, atc[b][0]);
         b += 1;
     }
-    total
+    sum
 }
 
 // The letter, two tabs and the LF, and the numbers.
@@ -39,17 +41,17 @@ fn atc_length(b: u64, atc: i64) -> usize
     4 + text::put::digit_count(b) + text::put::signed_length(atc)
 }
 
-fn margins_length(left: &[[i64; 3]]) -> usize
+fn margins_length(left: &[LeftRecord]) -> usize
     requires { ⌜ length (now left) ≤ rowsMost ⌝ }
     ensures { λ r. ⌜ (r ≡ length (marginLines (now (left .entry)))) × (r ≤ rowsMost * resultLineMost) ⌝ }
 {
-    let mut total: usize = 0;
+    let mut sum: usize = 0;
     let mut i: usize = 0;
     while i < left.len() {
-        total += margin_length(i as u64, left[i][0], left[i][1], left[i][2]);
+        sum += margin_length(i as u64, left[i][0], left[i][1], left[i][2]);
         i += 1;
     }
-    total
+    sum
 }
 
 // The letter, four tabs and the LF, and the fields.
@@ -79,7 +81,7 @@ fn rounds_length(rounds: u64) -> usize
 }
 
 // Writes the result text from the start of `out`.
-pub fn put_records(atc: &[[i64; 1]], left: &[[i64; 3]], rounds: u64, out: &mut [u8]) -> usize
+pub fn put_records(atc: &[AtcRecord], left: &[LeftRecord], rounds: u64, out: &mut [u8]) -> usize
     requires { ⌜ length (recordsText (now atc) (now left) rounds) ≤ length (now out) ⌝ }
     ensures { λ r. ⌜ (r ≡ length (recordsText (now (atc .entry)) (now (left .entry)) rounds)) × (now (out .exit) ≡ over (recordsText (now (atc .entry)) (now (left .entry)) rounds) (now (out .entry))) ⌝ }
 {
@@ -88,7 +90,7 @@ pub fn put_records(atc: &[[i64; 1]], left: &[[i64; 3]], rounds: u64, out: &mut [
     put_rounds(rounds, out, rounds_at)
 }
 
-fn put_atcs(atc: &[[i64; 1]], out: &mut [u8], at: usize) -> usize
+fn put_atcs(atc: &[AtcRecord], out: &mut [u8], at: usize) -> usize
     requires { ⌜ at + length (atcLines (now atc)) ≤ length (now out) ⌝ }
     ensures { λ r. ⌜ Put (atcLines (now (atc .entry))) at (now (out .entry)) r (now (out .exit)) ⌝ }
 {
@@ -111,7 +113,7 @@ fn put_atc(b: u64, atc: i64, out: &mut [u8], at: usize) -> usize
     text::put::put_byte(b'\n', out, feed_at)
 }
 
-fn put_margins(left: &[[i64; 3]], out: &mut [u8], at: usize) -> usize
+fn put_margins(left: &[LeftRecord], out: &mut [u8], at: usize) -> usize
     requires { ⌜ at + length (marginLines (now left)) ≤ length (now out) ⌝ }
     ensures { λ r. ⌜ Put (marginLines (now (left .entry))) at (now (out .entry)) r (now (out .exit)) ⌝ }
 {

@@ -1,7 +1,6 @@
 -- The round loop: what holds at its head, and what a turn needs once the raises are found.
 -- A turn is a round of the definition (`turn-next`); the loop is left where a round raises nothing (`turn-end`). The measure is the margins' sum. Last: a turn of `rise`.
 -- No contract cites this file.
--- Assumes nothing.
 use mathlib.Core.Path.{_≡_, refl, sym, ap, ap₂, _∙_, subst}
 use mathlib.Core.List.{List, _++_}
 use Prim.Native.Nat.{ℕ, suc, _+_, _*_, _^_, _≤_, _<_}
@@ -13,7 +12,7 @@ use Rattle.numbers.specs.Below.{sum, count, table, at, over}
 use Rattle.numbers.proofs.BelowLaws.{sum-cong, sum-term, count-pos, table-long}
 use Rattle.numbers.proofs.ListLaws.{Filled, filled-rest, filled-more}
 use Rattle.rounds.specs.Rounds.{Grid, State, raise, raises, load, lowered, risen, apply, next, raised, Rounds, done, more}
-use Rattle.rounds.specs.Work.{Startable, left, stateFrom, leftBy, workOf}
+use Rattle.rounds.specs.Work.{Startable, workLeft, stateFrom, leftBy, workOf}
 use Rattle.rounds.proofs.Round.{raises-at, raises-long, raiser, alone-lt, next-sum, next-x}
 use Rattle.rounds.proofs.Rounds.{keeps, extracts, unique, rounds-below}
 use Rattle.roundloop.specs.Loop.{Risable}
@@ -110,7 +109,7 @@ module _ {g : Grid} {ns m₀ x₀ m x : List ℕ} {d : ℕ} {v : List ℕ} {live
       }
 
   -- a round that raises nothing ends the work
-  pub turn-end : live ≡ 0 → left (record { x = x; rounds = d }) m ≡ workOf g m₀ x₀
+  pub turn-end : live ≡ 0 → workLeft (record { x = x; rounds = d }) m ≡ workOf g m₀ x₀
   unfolding raised workOf
   turn-end h =
       let z = unique (reached-end (u .head .reached) (sym (u .found .number) ∙ h)) (extracts g (stateFrom g m₀ x₀)) in
@@ -118,7 +117,7 @@ module _ {g : Grid} {ns m₀ x₀ m x : List ℕ} {d : ℕ} {v : List ℕ} {live
       ap (λ (k : ℕ). take (g .borders) x ++ drop k x₀) front-long
       ∙ ap (λ (t : List ℕ). take (g .borders) x ++ t) (sym (u .head .beyond))
       ∙ take-append-drop (g .borders) x in
-      ap (λ (y : List ℕ). left (record { x = y; rounds = d }) m) (sym e)
+      ap (λ (y : List ℕ). workLeft (record { x = y; rounds = d }) m) (sym e)
       ∙ ap₂ (λ (k : ℕ) (t : State). leftBy (record { rounds = k; state = t }) x₀) (sym (z .0)) (sym (z .1))
 
   module _ (some : live ≡ 0 → ⊥) where

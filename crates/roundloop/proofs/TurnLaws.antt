@@ -1,6 +1,5 @@
 -- The round loop's head, where the bounds are the raises and the rows wait for the end of their block (`Found`), and what a turn leaves there. `Head` and `Turn` of RoundLoop.antt have the rounds themselves, of the margins that the rows come to.
 -- No contract cites this file.
--- Assumes nothing.
 use mathlib.Core.Path.{_≡_, refl, sym, ap, _∙_, subst}
 use mathlib.Core.Bool.{Bool, true, false, not}
 use mathlib.Core.List.{List, _++_}
@@ -12,7 +11,7 @@ use lib.ListN.{length, take, drop}
 use Rattle.numbers.specs.Below.{at, sum, count, table}
 use Rattle.numbers.proofs.BelowLaws.{count-cong, table-long, table-get}
 use Rattle.rounds.specs.Rounds.{Grid, raise, raises, risen}
-use Rattle.rounds.specs.Work.{Startable, left, workOf}
+use Rattle.rounds.specs.Work.{Startable, workLeft, workOf}
 use Rattle.rounds.proofs.Round.{raises-long, raises-are, raiser}
 use Rattle.walk.specs.Walk.{Listed}
 use Rattle.resting.specs.Resting.{leftTo, Waiting, Renewed, Walkable}
@@ -78,7 +77,7 @@ module _ {g : Grid} {ns m₀ x₀ near₀ s x d w list : List ℕ} {live : ℕ} 
               };
         }
 
-    pub found-end : count (length w) (at w) ≤ 0 → (s′ : List ℕ) → s′ ≡ leftTo g d s → left (record { x = x; rounds = k }) s′ ≡ workOf g m₀ x₀
+    pub found-end : count (length w) (at w) ≤ 0 → (s′ : List ℕ) → s′ ≡ leftTo g d s → workLeft (record { x = x; rounds = k }) s′ ≡ workOf g m₀ x₀
     found-end z s′ e = rw e (turn-end found-turn (omega arith))
 
   -- what is gained fits, as a loaded row's margin holds it

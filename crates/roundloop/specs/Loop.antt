@@ -1,5 +1,4 @@
 -- What rising asks. The whole loop leaves `workOf` of rounds.
--- Assumes nothing.
 use mathlib.Core.Path.{_≡_}
 use mathlib.Core.List.{List}
 use Prim.Native.Nat.{ℕ, _+_, _^_, _<_}

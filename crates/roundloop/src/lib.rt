@@ -7,7 +7,7 @@ ghost use Prim.Native.Nat.{_*_, _≤_, min};
 ghost use lib.ListN.{length};
 ghost use Rattle.numbers.specs.Below.{table};
 ghost use Rattle.rounds.specs.Rounds.{risen};
-ghost use Rattle.rounds.specs.Work.{flat, Startable, left, workOf};
+ghost use Rattle.rounds.specs.Work.{flat, Startable, workLeft, workOf};
 ghost use Rattle.roundloop.specs.Loop.{Risable};
 
 // The whole work, from any margins and any exchanges. The room is made here, and not in `do_rounds`, whose goals would spell it out.
@@ -21,7 +21,7 @@ pub fn extract_rounds(
 ) -> Final
     requires { ⌜ rows * borders ≤ length (now p) ⌝ }
     requires { ⌜ Startable (flat rows borders (now p)) (now ns) (now margins) start ⌝ }
-    ensures { λ r. ⌜ left r (now (margins .exit)) ≡ workOf (flat rows borders (now (p .entry))) (now (margins .entry)) start ⌝ }
+    ensures { λ r. ⌜ workLeft r (now (margins .exit)) ≡ workOf (flat rows borders (now (p .entry))) (now (margins .entry)) start ⌝ }
 {
     let mut gained: [u64; Header::BORDERS_MOST] = [0; Header::BORDERS_MOST];
     let mut bounds: [u64; Header::BORDERS_MOST] = [0; Header::BORDERS_MOST];
@@ -67,7 +67,7 @@ fn do_rounds(
     requires { ⌜ Startable (flat rows borders (now p)) (now ns) (now margins) start ⌝ }
     requires { ⌜ (length (now gained) ≡ borders) × (length (now bounds) ≡ borders) ⌝ }
     requires { ⌜ (length (now rising) ≡ borders) × (length (now near) ≤ rows) ⌝ }
-    ensures { λ r. ⌜ left r (now (margins .exit)) ≡ workOf (flat rows borders (now (p .entry))) (now (margins .entry)) start ⌝ }
+    ensures { λ r. ⌜ workLeft r (now (margins .exit)) ≡ workOf (flat rows borders (now (p .entry))) (now (margins .entry)) start ⌝ }
 {
     let mut x = start;
     let mut done: u64 = 0;

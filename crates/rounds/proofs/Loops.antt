@@ -1,6 +1,5 @@
 -- What the loops over a flat table need, here and in the crates above: the factors' place, counting, n of a row. No contract cites this file.
 -- The record `Counted` is a loop's invariant, as is `Filled` of numbers.
--- Assumes nothing.
 use mathlib.Core.Path.{_≡_, refl, ap, _∙_}
 use mathlib.Core.List.{List}
 use Prim.Native.Nat.{ℕ, _+_, _*_, _≤_, _<_}

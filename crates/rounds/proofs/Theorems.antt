@@ -1,17 +1,17 @@
 -- What is proved of the rounds (01, "Extraction" and demand 3), for any rows, borders and factors p, any starting margins and any starting exchanges.
 -- Limits are variables. `Rounds g s k t` says that k rounds that raise something lead from s to t, where the work ends. The rest of proofs/ serves these.
--- Assumes nothing.
-use mathlib.Core.Path.{_≡_, ap, subst, _∙_}
-use mathlib.Core.List.{List, [], _∷_}
-use Prim.Native.Nat.{ℕ, zero, suc, _+_, _*_, _-_, _/_, _^_, _≤_, _<_}
-use native.Mathlib.Nat.{le-trans, not-suc-le-zero, zero-lt-suc, mul-le-mul-right, mul-le-mul-left, mul-div-cancel}
+use mathlib.Core.Path.{_≡_, subst}
+use mathlib.Core.List.{List}
+use Prim.Native.Nat.{ℕ, _+_, _*_, _-_, _/_, _^_, _≤_, _<_}
+use native.Mathlib.Nat.{le-trans, mul-le-mul-right, mul-le-mul-left}
 use native.Mathlib.Omega.{arith}
-use Rattle.numbers.specs.Below.{at, ifZero, count, largest, lesser, least, orZero}
+use lib.Pow.{pow-pos}
+use Rattle.numbers.specs.Below.{at, largest}
 use Rattle.numbers.proofs.BelowLaws.{largest-le, largest-under, count-le}
 use Rattle.rounds.specs.Rounds.{Grid, State, sharers, raise, alone, raises, load, next, mostSharers, Rounds, extract, aloneBits}
-use Rattle.rounds.specs.Demand.{Demand3}
-use Rattle.rounds.proofs.LeastLaws.{Smallest, least-some, div-swap}
-use Rattle.rounds.proofs.Halving.{two-pow-pos, bits-over, bits-least}
+use Rattle.rounds.specs.Demand.{GridDemand3}
+use Rattle.rounds.proofs.LeastLaws.{Smallest, least-some}
+use Rattle.rounds.proofs.Halving.{bits-over, bits-least}
 use Rattle.rounds.proofs.Round as one
 use Rattle.rounds.proofs.Rounds as all
 use Rattle.rounds.proofs.Laid.{grid, laid-extract}
@@ -57,10 +57,10 @@ pub alone-least : (g : Grid) (m : List ℕ) (L : ℕ) → ((b : ℕ) → b < g .
 unfolding aloneBits
 alone-least g m L h =
     let u : largest (g .borders) (alone g m) ≤ 2 ^ L - 1 = largest-under (g .borders) (alone g m) (2 ^ L - 1) (λ b l. omega (arith, h b l)) in
-    bits-least (largest (g .borders) (alone g m)) L (omega (arith, two-pow-pos L))
+    bits-least (largest (g .borders) (alone g m)) L (omega (arith, pow-pos L))
 
 -- demand 3: within the margins, the loss of each row, at most 2 N L rounds, and one further round raises nothing
-pub demand3 : {g : Grid} {s t : State} {k : ℕ} → Rounds g s k t → Demand3 g s k t
+pub demand3 : {g : Grid} {s t : State} {k : ℕ} → Rounds g s k t → GridDemand3 g s k t
 demand3 {g} {s} w =
     record {
       within = all.within w;
@@ -70,7 +70,7 @@ demand3 {g} {s} w =
       still = all.ended-at w;
     }
 
-pub extract-demand3 : (g : Grid) (s : State) → Demand3 g s (extract g s .rounds) (extract g s .state)
+pub extract-demand3 : (g : Grid) (s : State) → GridDemand3 g s (extract g s .rounds) (extract g s .state)
 extract-demand3 g s = demand3 (all.extracts g s)
 
 -- with at most B borders and margins under 2^E there are at most 2 B E rounds (40 and 48: 3,840)
@@ -78,7 +78,7 @@ pub most-rounds : {g : Grid} {s t : State} {k : ℕ} → Rounds g s k t → (B E
 unfolding mostSharers sharers
 most-rounds {g} {s} w B E hb hm =
     le-trans
-    (all.rounds-bound w E (λ b h. one.alone-lt g (s .margins) b (2 ^ E) (two-pow-pos E) hm))
+    (all.rounds-bound w E (λ b h. one.alone-lt g (s .margins) b (2 ^ E) (pow-pos E) hm))
     (mul-le-mul-right E (mul-le-mul-left 2 (largest-under (g .rows) (sharers g) B (λ i h. le-trans (count-le (g .borders) (g .p i)) hb))))
 
 -- one border alone: 0 rounds or 1, whatever the rows
@@ -88,9 +88,3 @@ one-border = all.one-border
 -- two grids that agree on p give equal runs: it does not matter where p stands
 pub same-factors : (rows borders : ℕ) (p p′ : ℕ → ℕ → ℕ) → ((i b : ℕ) → i < rows → b < borders → p i b ≡ p′ i b) → (s : State) → extract (grid rows borders p) s ≡ extract (grid rows borders p′) s
 same-factors = laid-extract
-
--- the edge figure, for every p: margin 3 p, n 2 gives a raise of 1 kW
-pub half-again : (p : ℕ) → 0 < p → raise (grid 1 2 (λ i b. p)) (3 * p ∷ []) 0 ≡ 1
-unfolding raise sharers least lesser orZero count ifZero
-half-again zero h = absurd (not-suc-le-zero h)
-half-again (suc p) h = div-swap (3 * suc p) 2 (suc p) ∙ ap (λ (v : ℕ). v / 2) (mul-div-cancel 3 (zero-lt-suc p))

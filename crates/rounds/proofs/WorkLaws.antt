@@ -1,5 +1,4 @@
 -- What a caller of `extract_rounds` reads off its promise, `workOf`: the rounds, the margins and the borders' exchanges are those of `extract`.
--- Assumes nothing.
 use mathlib.Core.Path.{_≡_, ap}
 use mathlib.Core.List.{List}
 use Prim.Native.Nat.{ℕ, _≤_}

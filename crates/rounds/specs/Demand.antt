@@ -1,12 +1,11 @@
 -- What 01 promises of the rounds ("Extraction", demand 3), over natural numbers: of k rounds that lead from s to t.
--- Assumes nothing.
 use mathlib.Core.Path.{_≡_}
 use mathlib.Core.List.{List}
 use Prim.Native.Nat.{ℕ, _+_, _*_, _-_, _≤_, _<_}
 use Rattle.numbers.specs.Below.{at, sum}
 use Rattle.rounds.specs.Rounds.{Grid, State, raise, load, mostSharers, aloneBits}
 
-pub record Demand3 (g : Grid) (s : State) (k : ℕ) (t : State) : Type 0 where
+pub record GridDemand3 (g : Grid) (s : State) (k : ℕ) (t : State) : Type 0 where
   -- any exchanges from zero up to the final ones load no row beyond its margin and its load at the start (RAM, where the start is LTA)
   pub within : (e : List ℕ) → ((b : ℕ) → b < g .borders → at e b ≤ at (t .x) b) → (i : ℕ) → i < g .rows → load g i e ≤ at (s .margins) i + load g i (s .x)
   -- no border fell

@@ -1,5 +1,4 @@
 -- What the functions of src/ ask, and what the whole work (`roundloop::extract_rounds`) asks and leaves, over a grid g. What it leaves is `workOf`, by `extract` of Rounds.antt.
--- Assumes nothing.
 use mathlib.Core.Path.{_≡_}
 use mathlib.Core.List.{List}
 use Prim.Native.Nat.{ℕ, _+_, _*_, _^_, _≤_, _<_}
@@ -28,17 +27,17 @@ abbrev pub stateFrom : Grid → (m x : List ℕ) → State
 stateFrom g m x = record { margins = m; x = take (g .borders) x }
 
 -- what the work leaves: its answer, and the lent margins
-pub record Left : Type 0 where
+pub record WorkLeft : Type 0 where
   pub answer : Final
   pub margins : List ℕ
 
-abbrev pub left : Final → List ℕ → Left
-left r m = record { answer = r; margins = m }
+abbrev pub workLeft : Final → List ℕ → WorkLeft
+workLeft r m = record { answer = r; margins = m }
 
 -- .. of an outcome, in the array x
-abbrev pub leftBy : Outcome → List ℕ → Left
-leftBy o x = left (record { x = over (o .state .x) x; rounds = o .rounds }) (o .state .margins)
+abbrev pub leftBy : Outcome → List ℕ → WorkLeft
+leftBy o x = workLeft (record { x = over (o .state .x) x; rounds = o .rounds }) (o .state .margins)
 
 -- the definition's rounds, margins and exchanges; what x holds beyond the borders is as it came
-unfoldable pub workOf : Grid → (m x : List ℕ) → Left
+unfoldable pub workOf : Grid → (m x : List ℕ) → WorkLeft
 workOf g m x = leftBy (extract g (stateFrom g m x)) x

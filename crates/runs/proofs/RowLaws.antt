@@ -1,5 +1,4 @@
 -- The laws of `specs/Rows.antt`'s `valuesOf` and `factorsOf`: what C lines hold, put together (row after row) and cut up again. No contract cites this file.
--- Assumes nothing.
 use mathlib.Core.Path.{_≡_, refl, sym, ap, _∙_}
 use mathlib.Core.List.{List, [], _∷_, _++_}
 use Prim.Native.Nat.{ℕ, zero, suc, _+_, _*_, _<_}
@@ -12,29 +11,29 @@ use Rattle.block.proofs.BlockLaws.{allFit}
 use Rattle.table.specs.Table.{stretch}
 use Rattle.lines.specs.Lines.{RowLine}
 use Rattle.runs.specs.Rows.{valuesOf, factorsOf}
-use Rattle.lines.proofs.RowTrip.{Held}
+use Rattle.lines.proofs.RowTrip.{RowHeldAt}
 
 -- no row
-abbrev pub none : RowLine
-none = record { values = []; factors = [] }
+abbrev pub emptyRow : RowLine
+emptyRow = record { values = []; factors = [] }
 
 -- ---- put together
 pub values-long : (cs : List RowLine) → length (valuesOf cs) ≡ length cs
 values-long [] = refl
 values-long (c ∷ cs) = ap suc (values-long cs)
 
-pub values-at : (cs : List RowLine) (i : ℕ) → getD (valuesOf cs) i [] ≡ getD cs i none .values
+pub values-at : (cs : List RowLine) (i : ℕ) → getD (valuesOf cs) i [] ≡ getD cs i emptyRow .values
 values-at [] i = refl
 values-at (c ∷ cs) zero = refl
 values-at (c ∷ cs) (suc i) = values-at cs i
 
 module _ (zones : ℕ) where
-  pub factors-long : (cs : List RowLine) (i : ℕ) → allFit (Held zones) i cs → length (factorsOf cs) ≡ length cs * zones
+  pub factors-long : (cs : List RowLine) (i : ℕ) → allFit (RowHeldAt zones) i cs → length (factorsOf cs) ≡ length cs * zones
   factors-long [] i f = sym (zero-mul zones)
   factors-long (c ∷ cs) i f = length-append (c .factors) (factorsOf cs) ∙ omega (arith, f .0 .long, factors-long cs (i + 1) (f .1), suc-mul (length cs) zones)
 
   -- a row's stretch of the factors put together is that row's own
-  pub stretch-of : (cs : List RowLine) (i : ℕ) → allFit (Held zones) i cs → (k : ℕ) → k < length cs → stretch zones (factorsOf cs) k ≡ getD cs k none .factors
+  pub stretch-of : (cs : List RowLine) (i : ℕ) → allFit (RowHeldAt zones) i cs → (k : ℕ) → k < length cs → stretch zones (factorsOf cs) k ≡ getD cs k emptyRow .factors
   unfolding stretch
   stretch-of [] i f k h = absurd (not-suc-le-zero h)
   stretch-of (c ∷ cs) i f zero h = rw (zero-mul zones) (take-at (c .factors) (factorsOf cs) zones (f .0 .long))
@@ -63,7 +62,7 @@ module _ (zones : ℕ) where
       ap (λ (l : List ℤ). take zones factors ++ l) (cut-factors rows (drop zones factors) (length-drop zones factors ∙ omega (arith, suc-mul (length rows) zones)))
       ∙ take-append-drop zones factors
 
-  pub cut-at : (rows : List (List ℤ)) (factors : List ℤ) (k : ℕ) → k < length rows → getD (cut rows factors) k none .factors ≡ stretch zones factors k
+  pub cut-at : (rows : List (List ℤ)) (factors : List ℤ) (k : ℕ) → k < length rows → getD (cut rows factors) k emptyRow .factors ≡ stretch zones factors k
   unfolding stretch
   cut-at [] factors k h = absurd (not-suc-le-zero h)
   cut-at (v ∷ rows) factors zero h = rw (zero-mul zones)

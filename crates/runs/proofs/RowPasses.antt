@@ -1,5 +1,4 @@
--- The two passes over C lines, as loops: `Passed` of crate block judges, and `Filled` is what a pass that fills has when i rows are in their places. No contract cites this file.
--- Assumes nothing.
+-- The two passes over C lines, as loops: `Passed` of crate block judges, and `RowsFilled` is what a pass that fills has when i rows are in their places. No contract cites this file.
 use Prim.Native.Nat.{ℕ, zero, suc, _+_, _*_, _-_, _≤_, _<_}
 use mathlib.Core.Path.{_≡_, refl, sym, ap, subst, _∙_}
 use mathlib.Core.Bool.{true, false≢true}
@@ -19,8 +18,8 @@ use Rattle.block.proofs.BlockLaws.{no-read, Passed, passed-start, passed-line, 
 use Rattle.table.proofs.StretchLaws.{stretch-end}
 use Rattle.lines.specs.Lines.{RowLine, row, rowLine}
 use Rattle.lines.specs.SaidRow.{judgedOf}
-use Rattle.lines.specs.declared.row.RowJudged.the-variants.{Good}
-use Rattle.lines.proofs.RowJudge.{Holds}
+use Rattle.lines.specs.declared.row.RowJudged.the-variants.{Holds}
+use Rattle.lines.proofs.RowJudge.{RowHolds}
 use Rattle.runs.specs.Rows.{valuesOf, factorsOf}
 use Rattle.runs.specs.Runs.{allGood}
 use Rattle.runs.specs.Rows.{rowsIn}
@@ -91,7 +90,7 @@ module _ {A : Type 0} (f ys : List A) (s n : ℕ) (room : s + n ≤ length f) (l
 -- ---- the filling pass
 module _ (zones : ℕ) (text : List ℕ) (at count : ℕ) where
   -- i rows are in their places, and the lines left, from place p on, hold the others
-  pub record Filled (c : List (List ℤ)) (f : List ℤ) (p i : ℕ) : Type 0 where
+  pub record RowsFilled (c : List (List ℤ)) (f : List ℤ) (p i : ℕ) : Type 0 where
     pub passed : Passed (rowLine zones) 0 allGood good-more text at count i p
     pub sound : allGood (rowsIn zones count text at) ≡ true
     pub rows-long : length c ≡ count
@@ -99,8 +98,8 @@ module _ (zones : ℕ) (text : List ℕ) (at count : ℕ) where
     pub rows : take i c ++ valuesOf (heldBy (linesAt (rowLine zones) 0 (count - i) text p i)) ≡ valuesOf (heldBy (rowsIn zones count text at))
     pub factors : take (i * zones) f ++ factorsOf (heldBy (linesAt (rowLine zones) 0 (count - i) text p i)) ≡ factorsOf (heldBy (rowsIn zones count text at))
 
-  pub filled-none : (c : List (List ℤ)) (f : List ℤ) → at ≤ length text → length c ≡ count → length f ≡ count * zones → allGood (rowsIn zones count text at) ≡ true → Filled c f at 0
-  filled-none c f h k l g = record {
+  pub rows-filled-none : (c : List (List ℤ)) (f : List ℤ) → at ≤ length text → length c ≡ count → length f ≡ count * zones → allGood (rowsIn zones count text at) ≡ true → RowsFilled c f at 0
+  rows-filled-none c f h k l g = record {
     passed = passed-start (rowLine zones) 0 allGood good-more text at count h;
     sound = g;
     rows-long = k;
@@ -109,10 +108,10 @@ module _ (zones : ℕ) (text : List ℕ) (at count : ℕ) where
     factors = rw (sub-zero count, zero-mul zones);
   }
 
-  module _ (c : List (List ℤ)) (f : List ℤ) (p i : ℕ) (u : Filled c f p i) where
-    pub filled-all : count ≤ i → (c ≡ valuesOf (heldBy (rowsIn zones count text at))) × (f ≡ factorsOf (heldBy (rowsIn zones count text at)))
+  module _ (c : List (List ℤ)) (f : List ℤ) (p i : ℕ) (u : RowsFilled c f p i) where
+    pub rows-filled-all : count ≤ i → (c ≡ valuesOf (heldBy (rowsIn zones count text at))) × (f ≡ factorsOf (heldBy (rowsIn zones count text at)))
     unfolding linesAt
-    filled-all h =
+    rows-filled-all h =
         let none : count - i ≡ 0 = omega arith in
         let all : i ≡ count = omega (arith, u .passed .high) in
         let rows = subst (λ (k : ℕ). take i c ++ valuesOf (heldBy (linesAt (rowLine zones) 0 k text p i)) ≡ valuesOf (heldBy (rowsIn zones count text at))) none (u .rows) in
@@ -122,32 +121,32 @@ module _ (zones : ℕ) (text : List ℕ) (at count : ℕ) where
         )
 
     module _ (h : i < count) where
-      pub filled-room : i * zones + zones ≤ length f
-      filled-room = omega (arith, stretch-end zones count i h, u .factors-long)
+      pub rows-filled-room : i * zones + zones ≤ length f
+      rows-filled-room = omega (arith, stretch-end zones count i h, u .factors-long)
 
       -- the line at p holds a row
-      filled-row : Holds (rowLine zones (lineAt text p) i)
-      filled-row = go (rowLine zones (lineAt text p) i) refl
+      rows-filled-row : RowHolds (rowLine zones (lineAt text p) i)
+      rows-filled-row = go (rowLine zones (lineAt text p) i) refl
         where
           past : (l : Line RowLine) → rowLine zones (lineAt text p) i ≡ l → allGood (onLine l (0 + i) (linesAt (rowLine zones) 0 (count - (i + 1)) text (after text p) (i + 1))) ≡ true
           past l q = passed-line (rowLine zones) 0 allGood good-more text at count i p (u .passed) h l q ∙ u .sound
 
-          go : (l : Line RowLine) → rowLine zones (lineAt text p) i ≡ l → Holds l
+          go : (l : Line RowLine) → rowLine zones (lineAt text p) i ≡ l → RowHolds l
           go (holds a) q = record { it = a; is = refl }
           go form q = absurd (false≢true (past form q))
           go range q = absurd (false≢true (past range q))
 
       module _ (line : List ℕ) (is : line ≡ lineAt text p) (n : ℕ) (long : n ≡ zones) where
-        line-row : rowLine zones line i ≡ holds (filled-row .it)
-        line-row = ap (λ (l : List ℕ). rowLine zones l i) is ∙ filled-row .is
+        line-row : rowLine zones line i ≡ holds (rows-filled-row .it)
+        line-row = ap (λ (l : List ℕ). rowLine zones l i) is ∙ rows-filled-row .is
 
-        pub filled-good : judgedOf (rowLine n line i) ≡ Good
-        filled-good = ap judgedOf (ap (λ (m : ℕ). rowLine m line i) long ∙ line-row)
+        pub rows-filled-holds : judgedOf (rowLine n line i) ≡ Holds
+        rows-filled-holds = ap judgedOf (ap (λ (m : ℕ). rowLine m line i) long ∙ line-row)
 
         -- .. which comes back as its record and its stretch
-        pub filled-more : (r part : List ℤ) → length part ≡ n → rowLine n line i ≡ holds (row r part) → Filled (set c i r) (back f part (i * zones) zones) (p + length line) (i + 1)
+        pub rows-filled-more : (r part : List ℤ) → length part ≡ n → rowLine n line i ≡ holds (row r part) → RowsFilled (set c i r) (back f part (i * zones) zones) (p + length line) (i + 1)
         unfolding linesAt
-        filled-more r part kept held =
+        rows-filled-more r part kept held =
             let b = row r part in
             let rest = linesAt (rowLine zones) 0 (count - (i + 1)) text (after text p) (i + 1) in
             let here : rowLine zones (lineAt text p) i ≡ holds b = ap (λ (l : List ℕ). rowLine zones l i) (sym is) ∙ ap (λ (m : ℕ). rowLine m line i) (sym long) ∙ held in
@@ -157,13 +156,13 @@ module _ (zones : ℕ) (text : List ℕ) (at count : ℕ) where
             let both : heldBy (linesAt (rowLine zones) 0 (count - i) text p i) ≡ b ∷ heldBy rest = ap heldBy step ∙ more-held b rest (next .rest ∙ u .sound) in
             let wide : length part ≡ zones = kept ∙ long in
             let ends : (i + 1) * zones ≡ i * zones + zones = ap (λ (m : ℕ). m * zones) (add-one i) ∙ suc-mul i zones in
-            subst (λ (l : List ℕ). Filled (set c i r) (back f part (i * zones) zones) (p + length l) (i + 1)) (sym is)
+            subst (λ (l : List ℕ). RowsFilled (set c i r) (back f part (i * zones) zones) (p + length l) (i + 1)) (sym is)
             (record {
               passed = next;
               sound = u .sound;
               rows-long = length-set c i r ∙ u .rows-long;
-              factors-long = back-long f part (i * zones) zones filled-room wide ∙ u .factors-long;
+              factors-long = back-long f part (i * zones) zones rows-filled-room wide ∙ u .factors-long;
               rows = taken-set c i r (valuesOf (heldBy rest)) _ (omega (arith, u .rows-long)) (sym (ap (λ (l : List RowLine). take i c ++ valuesOf l) both) ∙ u .rows);
               factors = ap (λ (m : ℕ). take m (back f part (i * zones) zones) ++ factorsOf (heldBy rest)) ends
-                  ∙ taken-back f part (i * zones) zones filled-room wide (factorsOf (heldBy rest)) _ (sym (ap (λ (l : List RowLine). take (i * zones) f ++ factorsOf l) both) ∙ u .factors);
+                  ∙ taken-back f part (i * zones) zones rows-filled-room wide (factorsOf (heldBy rest)) _ (sym (ap (λ (l : List RowLine). take (i * zones) f ++ factorsOf l) both) ∙ u .factors);
             })

@@ -1,6 +1,5 @@
 -- The laws of `specs/Runs.antt`: a loop that stores what each line of a run holds, and what a judged run allows. No contract cites this file.
 -- In order: lines put before a run; a run's first line; the loop; a run that was judged.
--- Assumes nothing.
 use mathlib.Core.Path.{_≡_, refl, sym, ap, _∙_}
 use mathlib.Core.Bool.{true, false≢true}
 use mathlib.Core.List.{List, [], _∷_, _++_}
@@ -10,10 +9,11 @@ use native.Mathlib.Numerals.{add-one}
 use native.Mathlib.Omega.{arith}
 use lib.ListN.{length, drop, take, set, length-set, length-drop}
 use lib.Seq.{take-suc-set, take-all}
-use Rattle.kinds.specs.Refusals.{Why, wrongForm, outOfRange, passed, refused}
+use Rattle.kinds.specs.declared.Refusal.{Refusal}
+use Rattle.kinds.specs.Refusals.{wrongForm, outOfRange, passed, refused}
 use Rattle.kinds.proofs.RefusalLaws.{passed-is, refused-is, not-passed}
 use Rattle.text.specs.Line.{lineAt, after, Line, holds, form, range}
-use Rattle.text.proofs.LineLaws.{line-length}
+use Rattle.text.proofs.LineLaws.{line-le-length}
 use Rattle.block.specs.Block.{Block, read, fault, more, onLine, linesAt, endOf, heldBy}
 use Rattle.runs.specs.Runs.{allGood}
 
@@ -23,7 +23,7 @@ moreAll [] b = b
 moreAll (a ∷ xs) b = more a (moreAll xs b)
 
 module _ {A : Type 0} where
-  more-fault : (xs : List A) (w : Why) → moreAll xs (fault w) ≡ fault w
+  more-fault : (xs : List A) (w : Refusal) → moreAll xs (fault w) ≡ fault w
   more-fault [] w = refl
   more-fault (a ∷ xs) w = ap (more a) (more-fault xs w)
 
@@ -42,7 +42,7 @@ module _ {A : Type 0} where
 
 -- the place after a line is in the text
 pub after-within : (text : List ℕ) (p : ℕ) → p ≤ length text → after text p ≤ length text
-after-within text p h = omega (arith, line-length (drop p text), length-drop p text)
+after-within text p h = omega (arith, line-le-length (drop p text), length-drop p text)
 
 module _ {A : Type 0} (judge : List ℕ → ℕ → Line A) (first : ℕ) (text : List ℕ) where
   -- ---- a run's first line
@@ -109,7 +109,7 @@ module _ {A : Type 0} where
   run-passed (read xs next) e q = ap (read xs) (sym (passed-is e next q))
   run-passed (fault w) e q = absurd (not-passed w e (sym q))
 
-  pub run-refused : (b : Block A) (w : Why) → refused w ≡ endOf b → b ≡ fault w
+  pub run-refused : (b : Block A) (w : Refusal) → refused w ≡ endOf b → b ≡ fault w
   run-refused (read xs next) w q = absurd (not-passed w next q)
   run-refused (fault v) w q = ap fault (sym (refused-is w v q))
 
@@ -117,7 +117,7 @@ module _ {A : Type 0} where
   run-good (read xs next) e q = refl
   run-good (fault w) e q = absurd (not-passed w e (sym q))
 
-  pub good-never : (b : Block A) (w : Why) → allGood b ≡ true → fault w ≡ b → ⊥
+  pub good-never : (b : Block A) (w : Refusal) → allGood b ≡ true → fault w ≡ b → ⊥
   good-never b w g e = false≢true (ap allGood e ∙ g)
 
   -- it ends in the text

@@ -1,5 +1,4 @@
 -- The rows that a run of C lines holds: their raw records and factors, and the run as the filling pass asks for it (01, "The table as text").
--- Assumes nothing.
 use mathlib.Core.List.{List, [], _∷_, _++_}
 use Prim.Native.Nat.{ℕ}
 use lib.IntN.{ℤ}

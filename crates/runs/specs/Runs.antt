@@ -1,8 +1,6 @@
 -- What a run of lines comes to (`Block`) and what code that reads it leaves. Promises are stated through these.
--- Assumes nothing.
 use mathlib.Core.Bool.{Bool, true, false}
 use mathlib.Core.List.{List}
-use Rattle.kinds.specs.Refusals.{told}
 use Rattle.block.specs.declared.End.{End}
 use Rattle.block.specs.declared.End.the-variants.{At, Refused}
 use Rattle.block.specs.Block.{Block, read, fault}
@@ -15,4 +13,4 @@ allGood (fault w) = false
 -- an answer with what was stored: where the run ended, that is what its lines hold; where it was refused, what was stored says nothing
 abbrev pub storedRun : {A : Type 0} → End → List A → Block A
 storedRun (At next) xs = read xs next
-storedRun (Refused w) xs = fault (told w)
+storedRun (Refused w) xs = fault w

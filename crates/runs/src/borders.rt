@@ -19,7 +19,7 @@ pub fn borders_read(text: &[u8], at: usize, zones: usize, b: &mut [BorderRecord]
     ensures { λ r. ⌜ storedRun r (now (b .exit)) ≡ linesAt (borderLine zones) (zoneLineNo + zones) (length (now (b .entry))) (now (text .entry)) at 0 ⌝ }
 {
     let n = b.len();
-    let first = 2 + zones;
+    let first = table::ZONE_LINE_NO + zones;
     let mut i = 0;
     let mut p = at;
     while i < n {
@@ -28,8 +28,8 @@ pub fn borders_read(text: &[u8], at: usize, zones: usize, b: &mut [BorderRecord]
             BorderLine::Holds(border) => {
                 b[i] = [border.from as i64, border.to as i64, border.lta as i64];
             }
-            BorderLine::Form => return End::Refused(Refusal::Form(first + i)),
-            BorderLine::Range => return End::Refused(Refusal::Range(first + i)),
+            BorderLine::Form => return End::Refused(Refusal::wrong_form(first + i)),
+            BorderLine::Range => return End::Refused(Refusal::out_of_range(first + i)),
         }
         p += line.len();
         i += 1;

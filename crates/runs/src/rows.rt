@@ -23,9 +23,9 @@ pub fn rows_judged(text: &[u8], at: usize, zones: usize, first: usize, count: us
     for i in 0..count {
         let line = text::line::line_at(text, p);
         match lines::row::row_judged(zones, line, i) {
-            RowJudged::Good => {}
-            RowJudged::Form => return End::Refused(Refusal::Form(first + i)),
-            RowJudged::Range => return End::Refused(Refusal::Range(first + i)),
+            RowJudged::Holds => {}
+            RowJudged::Form => return End::Refused(Refusal::wrong_form(first + i)),
+            RowJudged::Range => return End::Refused(Refusal::out_of_range(first + i)),
         }
         p += line.len();
     }

@@ -23,8 +23,8 @@ pub fn zones_judged(text: &[u8], at: usize, count: usize) -> End
         let line = text::line::line_at(text, p);
         match lines::zone::zone_line(line, i) {
             ZoneLine::Holds(_) => {}
-            ZoneLine::Form => return End::Refused(Refusal::Form(2 + i)),
-            ZoneLine::Range => return End::Refused(Refusal::Range(2 + i)),
+            ZoneLine::Form => return End::Refused(Refusal::wrong_form(table::ZONE_LINE_NO + i)),
+            ZoneLine::Range => return End::Refused(Refusal::out_of_range(table::ZONE_LINE_NO + i)),
         }
         p += line.len();
         i += 1;

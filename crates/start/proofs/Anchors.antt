@@ -1,5 +1,4 @@
 -- A small table, and what the rounds start from with states and starting margins of one's own. Nobody cites it: it refuses a definition that slipped, by the number that comes out.
--- Assumes nothing.
 use mathlib.Core.Path.{_≡_, refl}
 use mathlib.Core.List.{List, [], _∷_}
 use Prim.Native.Nat.{ℕ}
@@ -8,7 +7,7 @@ use Rattle.numbers.specs.Below.{table, firstFrom, given}
 use Rattle.numbers.specs.Ints.{minus, positivePart}
 use Rattle.kinds.specs.declared.Header.{Header}
 use Rattle.kinds.specs.Ranges.{borderOf}
-use Rattle.kinds.specs.Refusals.{Judged, passed, refused, why, unless, refuseAt, refuseFirst}
+use Rattle.kinds.specs.Refusals.{Judged, passed, refused, refusal, unless, refuseAt, refuseFirst}
 use Rattle.table.specs.Table.{stretch}
 use Rattle.margin.specs.Margin.{signedFactor, pOf, ltaKw}
 use Rattle.start.specs.Start.{kept, gridOf, startOf, judgeStart}
@@ -30,12 +29,12 @@ three states starts = judgeStart (gridOf (header 3) borders (pos 20000 ∷ pos 0
 
 pub record Anchors : Type 0 where
   -- 5 before 6, and 6 before 7: no row loads border 1, and row 0 starts below 0
-  pub five-first : one (1 ∷ []) (minus 1 ∷ []) ≡ refused (why 5 0)
-  pub six-first : one (0 ∷ []) (minus 1 ∷ []) ≡ refused (why 6 1)
+  pub five-first : one (1 ∷ []) (minus 1 ∷ []) ≡ refused (refusal 5 0)
+  pub six-first : one (0 ∷ []) (minus 1 ∷ []) ≡ refused (refusal 6 1)
   -- 7: the first kept row that starts below 0
-  pub seven : three (0 ∷ 0 ∷ 0 ∷ []) (pos 0 ∷ minus 1 ∷ minus 1 ∷ []) ≡ refused (why 7 1)
+  pub seven : three (0 ∷ 0 ∷ 0 ∷ []) (pos 0 ∷ minus 1 ∷ minus 1 ∷ []) ≡ refused (refusal 7 1)
   -- 6 and 7 look at kept rows alone
-  pub six-kept : three (0 ∷ 2 ∷ 0 ∷ []) (pos 0 ∷ pos 0 ∷ pos 0 ∷ []) ≡ refused (why 6 1)
+  pub six-kept : three (0 ∷ 2 ∷ 0 ∷ []) (pos 0 ∷ pos 0 ∷ pos 0 ∷ []) ≡ refused (refusal 6 1)
   pub seven-kept : three (0 ∷ 0 ∷ 2 ∷ []) (pos 0 ∷ pos 0 ∷ minus 1 ∷ []) ≡ passed (0 ∷ 0 ∷ 2 ∷ [])
   -- each border starts at its LTA, a kept row where it is given, and a row of state 2 takes no part
   pub starts : startOf (header 3) borders (0 ∷ 0 ∷ 2 ∷ []) (pos 7 ∷ pos 9 ∷ pos 8 ∷ []) ≡ record { margins = 7 ∷ 9 ∷ 0 ∷ []; x = 1000 ∷ 0 ∷ [] }

@@ -1,13 +1,12 @@
 -- The laws of `specs/Start.antt` and `specs/Filled.antt`: a grid in one list, which of 5, 6 and 7 decides, and that what the code fills in is what the definitions say.
 -- No contract cites this file.
--- Assumes nothing.
 use mathlib.Core.Path.{_≡_, sym, ap, ap₂, subst, _∙_}
 use mathlib.Core.Bool.{Bool, true, false, cond, not, _&&_}
 use mathlib.Core.List.{List, [], _++_}
 use mathlib.Core.Option.{Option, none, some}
 use mathlib.Core.Logic.{⊎-elim}
-use Prim.Native.Nat.{ℕ, suc, _+_, _*_, _/_, _%_, _≤_, _<_}
-use native.Mathlib.Nat.{zero-mul, add-zero, mul-le-mul-right, suc-mul, div-eq-of-lt, mod-eq-of-lt, mul-add-div-right, mul-add-mod-self-right}
+use Prim.Native.Nat.{ℕ, _+_, _*_, _/_, _%_, _≤_, _<_}
+use native.Mathlib.Nat.{le-refl, zero-mul, add-zero, suc-mul, div-eq-of-lt, mod-eq-of-lt, mul-add-div-right, mul-add-mod-self-right}
 use native.Mathlib.Numerals.{add-one}
 use native.Mathlib.Omega.{arith}
 use lib.Dec.{ltb}
@@ -28,16 +27,13 @@ use Rattle.kinds.proofs.RefusalLaws.{unless-ok, unless-refused, first-found, fi
 use Rattle.table.specs.Table.{Table, stretch}
 use Rattle.rounds.specs.Rounds.{Grid}
 use Rattle.rounds.specs.Work.{flat}
+use Rattle.rounds.proofs.Loops.{place-inside}
 use Rattle.margin.specs.Margin.{ltaKw, ramAt, ramsOf, startsOf}
-use Rattle.states.specs.States.{spreadOf, shifted, below, stateOf, statesOf}
+use Rattle.states.specs.States.{spreadOf, spreadLeast, shifted, below, stateOf, statesOf}
 use Rattle.start.specs.Start.{Rows, rowsOf, kept, gridOf, startOf, judgeStart, tableGrid, tableStart, judgeTable}
 use Rattle.start.specs.Filled.{rowsWith, ltas, exchangesOf, cells, Prepared, prepared, preparedOf}
 
 -- ---- a grid in one list
-module _ {rows borders : ℕ} where
-  pub cell-within : (i b : ℕ) → i < rows → b < borders → i * borders + b < rows * borders
-  cell-within i b hi hb = omega (arith, suc-mul i borders, mul-le-mul-right {m = suc i} {n = rows} borders hi)
-
 -- what stands at row i and border b in a list of cells
 pub cell-is : (g : Grid) (i b : ℕ) → b < g .borders → g .p ((i * g .borders + b) / g .borders) ((i * g .borders + b) % g .borders) ≡ g .p i b
 cell-is g i b hb =
@@ -47,7 +43,7 @@ cell-is g i b hb =
     (mul-add-mod-self-right i (g .borders) b ∙ mod-eq-of-lt hb)
 
 pub cells-at : (g : Grid) (i b : ℕ) → i < g .rows → b < g .borders → at (cells g) (i * g .borders + b) ≡ g .p i b
-cells-at g i b hi hb = table-get (g .rows * g .borders) _ _ 0 (cell-within i b hi hb) ∙ cell-is g i b hb
+cells-at g i b hi hb = table-get (g .rows * g .borders) _ _ 0 (place-inside _ _ i b _ (le-refl _) hi hb) ∙ cell-is g i b hb
 
 -- ---- filling the cells, row after row: those before row i and border b are the grid's
 pub record FilledTo (g : Grid) (p : List ℕ) (i b : ℕ) : Type 0 where
@@ -62,7 +58,7 @@ filled-to-none g p l =
 
 module _ {g : Grid} {p : List ℕ} {i b : ℕ} (u : FilledTo g p i b) (hi : i < g .rows) where
   pub filled-to-place : b < g .borders → i * g .borders + b < length p
-  filled-to-place hb = omega (arith, u .long, cell-within {rows = g .rows} {borders = g .borders} i b hi hb)
+  filled-to-place hb = place-inside _ _ i b _ (omega (arith, u .long)) hi hb
 
   pub filled-to-more : b < g .borders → (v : ℕ) → v ≡ g .p i b → FilledTo g (set p (i * g .borders + b) v) i (b + 1)
   filled-to-more hb v e =
@@ -195,7 +191,7 @@ pub record RowsIn (t : Table) (m : Rows) : Type 0 where
 
 state-most : (h : Header) (f rams : List ℤ) (i : ℕ) → stateOf h f rams i ≤ 2
 unfolding stateOf
-state-most h f rams i = go (ltZ (spreadOf (stretch (h .zones) f i)) (pos 5000)) (someBelow (h .rows) (λ j. below rams j i && shifted (stretch (h .zones) f j) (stretch (h .zones) f i)))
+state-most h f rams i = go (ltZ (spreadOf (stretch (h .zones) f i)) (pos spreadLeast)) (someBelow (h .rows) (λ j. below rams j i && shifted (stretch (h .zones) f j) (stretch (h .zones) f i)))
   where
     go : (a b : Bool) → cond a 1 (cond b 2 0) ≤ 2
     go true b = omega arith

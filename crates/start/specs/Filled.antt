@@ -1,5 +1,4 @@
 -- What the functions of src/ ask and leave, on the lists that they fill in.
--- Assumes nothing.
 use mathlib.Core.List.{List, []}
 use Prim.Native.Nat.{ℕ, _*_, _/_, _%_}
 use lib.IntN.{ℤ}

@@ -1,6 +1,5 @@
 -- What the rounds start from (01, "Extraction"), and when they do not start (refusals 5, 6, 7).
 -- Definitions ask for the parts that they use, by row or by border, so that a function of src/ that is lent these parts cites them as they are.
--- Assumes nothing.
 use mathlib.Core.Bool.{Bool, cond, not, _&&_}
 use mathlib.Core.List.{List, []}
 use Prim.Native.Nat.{ℕ}

@@ -138,13 +138,13 @@ fn judge_start(rows: usize, borders: usize, p: &[u64], states: &[u64], starts: &
     ensures { λ r. ⌜ ruled r (now (states .entry)) ≡ judgeStart (flat rows borders (now (p .entry))) (now (states .entry)) (now (starts .entry)) ⌝ }
 {
     if !some_kept(states) {
-        return Judgement::Refused(Refusal::NoRow);
+        return Judgement::Refused(Refusal::no_row());
     }
-    if let First::At(k) = first_unlimited(rows, borders, p) {
-        return Judgement::Refused(Refusal::Unlimited(k));
+    if let First::At(b) = first_unlimited(rows, borders, p) {
+        return Judgement::Refused(Refusal::unlimited(b));
     }
     if let First::At(i) = first_below(states, starts) {
-        return Judgement::Refused(Refusal::Below(i));
+        return Judgement::Refused(Refusal::below_zero(i));
     }
     Judgement::Passed
 }
@@ -212,8 +212,8 @@ fn fill_ltas(zones: usize, b: &[BorderRecord], x: &mut [u64])
     requires { ⌜ length (now x) ≡ length (now b) ⌝ }
     ensures { λ _. ⌜ now (x .exit) ≡ ltas (now (b .entry)) ⌝ }
 {
-    for k in 0..b.len() {
-        x[k] = lta_of(zones, b[k]);
+    for i in 0..b.len() {
+        x[i] = lta_of(zones, b[i]);
     }
 }
 

@@ -1,6 +1,5 @@
 -- 01, "Row states": of rows whose factors differ by one and the same number exactly one is kept, unless their spread is under 5000, and its RAM is the lowest of theirs. No contract cites this file.
 -- The order of state 2, by RAM and then by index, is strict and total; the lowest of such rows is the one kept.
--- Assumes nothing.
 use mathlib.Core.Path.{_≡_, refl, sym, ap, subst, _∙_}
 use mathlib.Core.Bool.{Bool, true, false, cond, _&&_, _||_}
 use mathlib.Core.List.{List}
@@ -17,13 +16,14 @@ use lib.Signed.{ltZ, _≤ℤ_, _<ℤ_}
 use Rattle.numbers.specs.Ints.{sameℤ}
 use Rattle.numbers.specs.Below.{someBelow}
 use Rattle.numbers.proofs.IntLaws.{diff, diffs, zarith, ltZ-true, ltZ-false, lt-ltZ, same-true, same-self}
+use Rattle.numbers.proofs.TestLaws.{some-false, false-some}
 use Rattle.kinds.specs.declared.Header.{Header}
 use Rattle.kinds.specs.Ranges.{atℤ}
 use Rattle.table.specs.Table.{stretch}
 use Rattle.margin.specs.Bounds.{TableFactorsBound}
 use Rattle.margin.proofs.JudgedLaws.{stretch-long}
-use Rattle.states.specs.States.{spreadOf, shifted, below, stateOf}
-use Rattle.states.proofs.ShiftLaws.{some-not, not-some, shifted-self, shifted-back, shifted-on, shifted-spread}
+use Rattle.states.specs.States.{spreadOf, spreadLeast, shifted, below, stateOf}
+use Rattle.states.proofs.ShiftLaws.{shifted-self, shifted-back, shifted-on, shifted-spread}
 
 true-false : {A : Type 0} {t : Bool} → t ≡ true → t ≡ false → A
 true-false e q = let z : _≡_ {A = ℕ} 0 1 = cc in absurd (omega arith)
@@ -159,7 +159,7 @@ module _ (rams : List ℤ) where
 -- ---- states
 module _ (h : Header) (f rams : List ℤ) (i : ℕ) where
   abbrev small : Bool
-  small = ltZ (spreadOf (stretch (h .zones) f i)) (pos 5000)
+  small = ltZ (spreadOf (stretch (h .zones) f i)) (pos spreadLeast)
 
   abbrev stood : (j : ℕ) → Bool
   stood j = below rams j i && shifted (stretch (h .zones) f j) (stretch (h .zones) f i)
@@ -216,17 +216,17 @@ module _ {h : Header} {f : List ℤ} (bound : TableFactorsBound h f) (rams : Lis
   one-row : (j k : ℕ) → j < h .rows → k < h .rows → shifted (row j) (row k) ≡ true → stateOf h f rams j ≡ 0 → stateOf h f rams k ≡ 0 → j ≡ k
   one-row j k hj hk e pj pk =
       lower-total rams j k
-      (first-false _ _ (some-not _ (stood h f rams k) (from-0 h f rams k pk) j hj) e)
-      (first-false _ _ (some-not _ (stood h f rams j) (from-0 h f rams j pj) k hk) (shifted-back (row j) (row k) (same-long j k hj hk) e))
+      (first-false _ _ (some-false _ (stood h f rams k) (from-0 h f rams k pk) j hj) e)
+      (first-false _ _ (some-false _ (stood h f rams j) (from-0 h f rams j pj) k hk) (shifted-back (row j) (row k) (same-long j k hj hk) e))
 
   pub one-kept : (i : ℕ) → i < h .rows → (stateOf h f rams i ≡ 1 → ⊥) → OneKept h f rams i
   one-kept i in-i not-small =
       let r = first rams (λ j. shifted (row j) (row i)) (h .rows) i in-i (shifted-self (row i)) in
       let m = r .row in
       let same : spreadOf (row m) ≡ spreadOf (row i) = shifted-spread (row m) (row i) (same-long m i (r .in-range) in-i) (r .is-member) in
-      let wide : small h f rams m ≡ false = ap (λ (z : ℤ). ltZ z (pos 5000)) same ∙ not-1 h f rams i not-small in
+      let wide : small h f rams m ≡ false = ap (λ (z : ℤ). ltZ z (pos spreadLeast)) same ∙ not-1 h f rams i not-small in
       let lowest : someBelow (h .rows) (stood h f rams m) ≡ false =
-      not-some (h .rows) (stood h f rams m)
+      false-some (h .rows) (stood h f rams m)
       (λ k l. both-false (below rams k m) (shifted (row k) (row m))
       (λ u v. true-false u (r .lowest k l (shifted-on (row k) (row m) (row i) (same-long k m l (r .in-range)) v (r .is-member))))) in
       let zero-state : stateOf h f rams m ≡ 0 = is-0 h f rams m wide lowest in

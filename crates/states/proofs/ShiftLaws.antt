@@ -1,41 +1,18 @@
 -- Rows whose factors differ by one and the same number: it is an equivalence, and such rows have one spread. No contract cites this file.
--- Assumes nothing.
 use mathlib.Core.Path.{_≡_, refl, ap, ap₂, _∙_}
-use mathlib.Core.Bool.{Bool, true, false, cond, not}
+use mathlib.Core.Bool.{Bool, true, false, cond}
 use mathlib.Core.List.{List, [], _∷_}
-use mathlib.Core.Option.{Option, none, some}
 use Prim.Native.Nat.{ℕ, suc, _<_}
 use native.Mathlib.Omega.{arith}
-use borrow.Author.Tests.{not-true, not-false}
 use lib.IntN.{ℤ, _-ℤ_}
 use lib.ListN.{length}
 use lib.Signed.{ltZ}
 use Rattle.numbers.specs.Ints.{maxℤ, minℤ, sameℤ}
-use Rattle.numbers.specs.Below.{firstFrom, given, someBelow, allBelow}
 use Rattle.numbers.proofs.IntLaws.{diff, diffs, zarith, same-true, same-self, ltZ-true, ltZ-false, lt-ltZ, le-ltZ}
-use Rattle.numbers.proofs.BelowLaws.{first-none, first-nothing}
+use Rattle.numbers.proofs.TestLaws.{all-true, true-all}
 use Rattle.kinds.specs.Ranges.{atℤ}
 use Rattle.margin.proofs.MarginLaws.{max-less, lt-less, le-less}
 use Rattle.states.specs.States.{highest, lowest, spreadOf, shifted}
-
--- ---- a test of every index below n, and of some
-given-none : (o : Option ℕ) → given o ≡ false → o ≡ none
-unfolding given
-given-none none e = refl
-given-none (some k) e = absurd (let z : _≡_ {A = ℕ} 0 1 = cc in omega arith)
-
-pub some-not : (n : ℕ) (test : ℕ → Bool) → someBelow n test ≡ false → (k : ℕ) → k < n → test k ≡ false
-some-not n test e = first-none n test (given-none (firstFrom n 0 test) e)
-
-pub not-some : (n : ℕ) (test : ℕ → Bool) → ((k : ℕ) → k < n → test k ≡ false) → someBelow n test ≡ false
-unfolding given
-not-some n test h = ap given (first-nothing n test h)
-
-all-each : (n : ℕ) (test : ℕ → Bool) → allBelow n test ≡ true → (k : ℕ) → k < n → test k ≡ true
-all-each n test e k h = not-false (test k) (some-not n (λ i. not (test i)) (not-true (someBelow n (λ i. not (test i))) e) k h)
-
-each-all : (n : ℕ) (test : ℕ → Bool) → ((k : ℕ) → k < n → test k ≡ true) → allBelow n test ≡ true
-each-all n test h = ap not (not-some n (λ i. not (test i)) (λ k l. ap not (h k l)))
 
 -- ---- shifted: each zone differs as zone 0 does
 abbrev pub Alike : (fs gs : List ℤ) → Type 0
@@ -46,12 +23,12 @@ same-there fs gs z = sameℤ (atℤ fs z -ℤ atℤ gs z) (atℤ fs 0 -ℤ atℤ
 
 pub shifted-alike : (fs gs : List ℤ) → shifted fs gs ≡ true → Alike fs gs
 unfolding shifted
-shifted-alike fs gs e z h = same-true (atℤ fs z -ℤ atℤ gs z) (atℤ fs 0 -ℤ atℤ gs 0) (all-each (length fs) (same-there fs gs) e z h)
+shifted-alike fs gs e z h = same-true (atℤ fs z -ℤ atℤ gs z) (atℤ fs 0 -ℤ atℤ gs 0) (all-true (length fs) (same-there fs gs) e z h)
 
 pub alike-shifted : (fs gs : List ℤ) → Alike fs gs → shifted fs gs ≡ true
 unfolding shifted
 alike-shifted fs gs h =
-    each-all (length fs) (same-there fs gs)
+    true-all (length fs) (same-there fs gs)
     (λ z l. ap (λ (x : ℤ). sameℤ x (atℤ fs 0 -ℤ atℤ gs 0)) (h z l) ∙ same-self (atℤ fs 0 -ℤ atℤ gs 0))
 
 pub shifted-self : (fs : List ℤ) → shifted fs fs ≡ true

@@ -1,8 +1,7 @@
 -- The laws of `specs/States.antt` that loops and branches cite. No contract cites this file.
 -- In order: the largest and the smallest of a list; the spread; which of two rows is below; a row's state.
--- Assumes nothing.
 use mathlib.Core.Path.{_≡_, refl, sym, ap, _∙_}
-use mathlib.Core.Bool.{Bool, true, false, _&&_}
+use mathlib.Core.Bool.{Bool, true, false, _&&_, and-true, and-false}
 use mathlib.Core.List.{List, [], _∷_}
 use Prim.Native.Nat.{ℕ, _+_, _≤_, _<_}
 use native.Mathlib.Numerals.{add-one}
@@ -17,7 +16,7 @@ use Rattle.numbers.specs.Below.{someBelow}
 use Rattle.kinds.specs.declared.Header.{Header}
 use Rattle.kinds.specs.Ranges.{atℤ}
 use Rattle.table.specs.Table.{stretch}
-use Rattle.states.specs.States.{highest, lowest, spreadOf, shifted, below, stateOf}
+use Rattle.states.specs.States.{highest, lowest, spreadOf, spreadLeast, shifted, below, stateOf}
 
 -- ---- highest, lowest
 pub highest-more : (m : ℤ) (zs : List ℤ) (i : ℕ) → i < length zs → highest m (drop i zs) ≡ highest (maxℤ m (atℤ zs i)) (drop (i + 1) zs)
@@ -57,14 +56,6 @@ module _ (rams : List ℤ) (j i : ℕ) where
   below-other e u q = rw (e, sym u ∙ q) q
 
 -- ---- both of two tests, the second asked only where the first holds
-and-true : (x : Bool) → (x && true) ≡ x
-and-true true = refl
-and-true false = refl
-
-and-false : (x : Bool) → (x && false) ≡ false
-and-false true = refl
-and-false false = refl
-
 -- the second of two is tested first
 pub late-first : {a b x y : Bool} → b ≡ y → b ≡ true → a ≡ x → a ≡ (x && y)
 late-first {a} {b} {x} {y} e q u = u ∙ sym (ap (λ (t : Bool). x && t) (sym e ∙ q) ∙ and-true x)
@@ -78,14 +69,14 @@ module _ (h : Header) (f rams : List ℤ) (i : ℕ) where
   abbrev pub stood : (j : ℕ) → Bool
   stood j = below rams j i && shifted (stretch (h .zones) f j) (stretch (h .zones) f i)
 
-  pub state-spread : ltZ (spreadOf (stretch (h .zones) f i)) (pos 5000) ≡ true → 1 ≡ stateOf h f rams i
+  pub state-spread : ltZ (spreadOf (stretch (h .zones) f i)) (pos spreadLeast) ≡ true → 1 ≡ stateOf h f rams i
   unfolding stateOf
   state-spread e = rw e
 
-  pub state-stood : ltZ (spreadOf (stretch (h .zones) f i)) (pos 5000) ≡ false → someBelow (h .rows) stood ≡ true → 2 ≡ stateOf h f rams i
+  pub state-stood : ltZ (spreadOf (stretch (h .zones) f i)) (pos spreadLeast) ≡ false → someBelow (h .rows) stood ≡ true → 2 ≡ stateOf h f rams i
   unfolding stateOf
   state-stood e q = rw (e, q)
 
-  pub state-kept : ltZ (spreadOf (stretch (h .zones) f i)) (pos 5000) ≡ false → someBelow (h .rows) stood ≡ false → 0 ≡ stateOf h f rams i
+  pub state-kept : ltZ (spreadOf (stretch (h .zones) f i)) (pos spreadLeast) ≡ false → someBelow (h .rows) stood ≡ false → 0 ≡ stateOf h f rams i
   unfolding stateOf
   state-kept e q = rw (e, q)

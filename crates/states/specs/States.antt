@@ -1,5 +1,4 @@
 -- Row states (01, "Row states").
--- Assumes nothing.
 use mathlib.Core.Bool.{Bool, cond, _&&_, _||_}
 use mathlib.Core.List.{List, [], _∷_}
 use Prim.Native.Nat.{ℕ}
@@ -35,11 +34,15 @@ shifted fs gs = allBelow (length fs) (λ z. sameℤ (atℤ fs z -ℤ atℤ gs z)
 unfoldable pub below : (rams : List ℤ) → (j i : ℕ) → Bool
 below rams j i = ltZ (atℤ rams j) (atℤ rams i) || (sameℤ (atℤ rams j) (atℤ rams i) && ltb j i)
 
--- 1: the spread is under 5000; 2: not state 1, and another row has the same factors but for one number, and is below it; 0: kept, all others
+-- the 5% test: rows of a smaller spread, in hundred-thousandths, take no part
+abbrev pub spreadLeast : ℕ
+spreadLeast = 5000
+
+-- 1: the spread is under `spreadLeast`; 2: not state 1, and another row has the same factors but for one number, and is below it; 0: kept, all others
 unfoldable pub stateOf : Header → (factors rams : List ℤ) → (i : ℕ) → ℕ
 stateOf h factors rams i =
     let row : ℕ → List ℤ = stretch (h .zones) factors in
-    cond (ltZ (spreadOf (row i)) (pos 5000)) 1
+    cond (ltZ (spreadOf (row i)) (pos spreadLeast)) 1
     (cond (someBelow (h .rows) (λ j. below rams j i && shifted (row j) (row i))) 2 0)
 
 abbrev pub statesOf : Header → (factors rams : List ℤ) → List ℕ

@@ -8,12 +8,15 @@ ghost use lib.Signed.{ltZ};
 ghost use Rattle.numbers.specs.Below.{someBelow};
 ghost use Rattle.table.specs.Table.{stretch};
 ghost use Rattle.margin.specs.Bounds.{FactorsBound, TableFactorsBound};
-ghost use Rattle.states.specs.States.{spreadOf, shifted, below, stateOf, statesOf};
+ghost use Rattle.states.specs.States.{spreadOf, spreadLeast, shifted, below, stateOf, statesOf};
 
-// State 1: the largest zone factor less the smallest is under 5000.
+// The 5% test: rows of a smaller spread, in hundred-thousandths, take no part.
+const SPREAD_LEAST: i64 = 5000;
+
+// State 1: the largest zone factor less the smallest is under `SPREAD_LEAST`.
 pub fn spread_small(factors: &[i64]) -> bool
     requires { ⌜ FactorsBound (now factors) ⌝ }
-    ensures { λ r. ⌜ r ≡ ltZ (spreadOf (now (factors .entry))) (pos 5000) ⌝ }
+    ensures { λ r. ⌜ r ≡ ltZ (spreadOf (now (factors .entry))) (pos spreadLeast) ⌝ }
 {
     let mut high = factors[0];
     let mut low = high;
@@ -24,7 +27,7 @@ pub fn spread_small(factors: &[i64]) -> bool
         low = numbers::smaller(low, factor);
         z += 1;
     }
-    high - low < 5000
+    high - low < SPREAD_LEAST
 }
 
 // Two rows' factors differ by one and the same number in every zone: each differs as zone 0 does.
@@ -60,30 +63,26 @@ fn below(rams: &[i64], j: usize, i: usize) -> bool
 }
 
 // Row j stands for row i: it is below it, and their factors differ by one number. Factors first: rows that pass are few, so this test nearly always goes one way.
-fn stands_for(header: kinds::Header, f: &[i64], rams: &[i64], j: usize, i: usize) -> bool
-    requires { ⌜ TableFactorsBound header (now f) ⌝ }
-    requires { ⌜ length (now rams) ≡ header .rows ⌝ }
-    requires { ⌜ (j < header .rows) × (i < header .rows) ⌝ }
-    ensures { λ r. ⌜ r ≡ (below (now (rams .entry)) j i && shifted (stretch (header .zones) (now (f .entry)) j) (stretch (header .zones) (now (f .entry)) i)) ⌝ }
+fn stands_for(h: kinds::Header, f: &[i64], rams: &[i64], j: usize, i: usize) -> bool
+    requires { ⌜ TableFactorsBound h (now f) ⌝ }
+    requires { ⌜ length (now rams) ≡ h .rows ⌝ }
+    requires { ⌜ (j < h .rows) × (i < h .rows) ⌝ }
+    ensures { λ r. ⌜ r ≡ (below (now (rams .entry)) j i && shifted (stretch (h .zones) (now (f .entry)) j) (stretch (h .zones) (now (f .entry)) i)) ⌝ }
 {
-    shifted(
-        margin::row_factors(header, f, j),
-        margin::row_factors(header, f, i),
-    )
-        && below(rams, j, i)
+    shifted(margin::row_factors(h, f, j), margin::row_factors(h, f, i)) && below(rams, j, i)
 }
 
 // State 2, but for state 1: another row stands for row i.
-fn stood_for(header: kinds::Header, f: &[i64], rams: &[i64], i: usize) -> bool
-    requires { ⌜ TableFactorsBound header (now f) ⌝ }
-    requires { ⌜ length (now rams) ≡ header .rows ⌝ }
-    requires { ⌜ i < header .rows ⌝ }
-    ensures { λ r. ⌜ r ≡ someBelow (header .rows) (λ j. below (now (rams .entry)) j i && shifted (stretch (header .zones) (now (f .entry)) j) (stretch (header .zones) (now (f .entry)) i)) ⌝ }
+fn stood_for(h: kinds::Header, f: &[i64], rams: &[i64], i: usize) -> bool
+    requires { ⌜ TableFactorsBound h (now f) ⌝ }
+    requires { ⌜ length (now rams) ≡ h .rows ⌝ }
+    requires { ⌜ i < h .rows ⌝ }
+    ensures { λ r. ⌜ r ≡ someBelow (h .rows) (λ j. below (now (rams .entry)) j i && shifted (stretch (h .zones) (now (f .entry)) j) (stretch (h .zones) (now (f .entry)) i)) ⌝ }
 {
-    let rows = header.rows;
+    let rows = h.rows;
     let mut j = 0;
     while j < rows {
-        if stands_for(header, f, rams, j, i) {
+        if stands_for(h, f, rams, j, i) {
             return true;
         }
         j += 1;
@@ -92,29 +91,29 @@ fn stood_for(header: kinds::Header, f: &[i64], rams: &[i64], i: usize) -> bool
 }
 
 // A row's state, by the factors and RAMs of all rows.
-pub fn state_of(header: kinds::Header, f: &[i64], rams: &[i64], i: usize) -> u64
-    requires { ⌜ TableFactorsBound header (now f) ⌝ }
-    requires { ⌜ length (now rams) ≡ header .rows ⌝ }
-    requires { ⌜ i < header .rows ⌝ }
-    ensures { λ r. ⌜ r ≡ stateOf header (now (f .entry)) (now (rams .entry)) i ⌝ }
+pub fn state_of(h: kinds::Header, f: &[i64], rams: &[i64], i: usize) -> u64
+    requires { ⌜ TableFactorsBound h (now f) ⌝ }
+    requires { ⌜ length (now rams) ≡ h .rows ⌝ }
+    requires { ⌜ i < h .rows ⌝ }
+    ensures { λ r. ⌜ r ≡ stateOf h (now (f .entry)) (now (rams .entry)) i ⌝ }
 {
-    if spread_small(margin::row_factors(header, f, i)) {
+    if spread_small(margin::row_factors(h, f, i)) {
         return 1;
     }
-    if stood_for(header, f, rams, i) {
+    if stood_for(h, f, rams, i) {
         return 2;
     }
     0
 }
 
 // The state of each row.
-pub fn fill_states(header: kinds::Header, f: &[i64], rams: &[i64], states: &mut [u64])
-    requires { ⌜ TableFactorsBound header (now f) ⌝ }
-    requires { ⌜ length (now rams) ≡ header .rows ⌝ }
-    requires { ⌜ length (now states) ≡ header .rows ⌝ }
-    ensures { λ _. ⌜ now (states .exit) ≡ statesOf header (now (f .entry)) (now (rams .entry)) ⌝ }
+pub fn fill_states(h: kinds::Header, f: &[i64], rams: &[i64], states: &mut [u64])
+    requires { ⌜ TableFactorsBound h (now f) ⌝ }
+    requires { ⌜ length (now rams) ≡ h .rows ⌝ }
+    requires { ⌜ length (now states) ≡ h .rows ⌝ }
+    ensures { λ _. ⌜ now (states .exit) ≡ statesOf h (now (f .entry)) (now (rams .entry)) ⌝ }
 {
-    for i in 0..header.rows {
-        states[i] = state_of(header, f, rams, i);
+    for i in 0..h.rows {
+        states[i] = state_of(h, f, rams, i);
     }
 }

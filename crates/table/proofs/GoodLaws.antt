@@ -1,7 +1,6 @@
 -- The laws of `specs/Good.antt`: what judging lent tables gives (`judged-front`, `judged-good`), and that a good table in front of lent tables is what they are judged to be
 -- (`front-judged`, `good-judged`, `over-judged`).
 -- Row i's factors are its stretch, so factor k of the whole table is factor k % zones of row k / zones. No contract cites this file.
--- Assumes nothing.
 use mathlib.Core.Path.{_≡_, sym, ap, subst, _∙_}
 use mathlib.Core.Bool.{true, false, not}
 use mathlib.Core.List.{List, []}

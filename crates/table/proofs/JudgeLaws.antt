@@ -1,5 +1,4 @@
 -- The laws of `specs/Table.antt`'s `judgeLent`: which record decides, and what is said where none does. No contract cites this file.
--- Assumes nothing.
 use mathlib.Core.Path.{_≡_, sym, ap, subst, _∙_}
 use mathlib.Core.Bool.{Bool, true, false, not}
 use mathlib.Core.List.{[]}
@@ -16,7 +15,7 @@ use Rattle.kinds.specs.Answers.{ruled}
 use Rattle.kinds.specs.Ranges.{atℤ, headerFits, zoneFits, borderFits}
 use Rattle.kinds.specs.Refusals.{Judged, passed, refused, then, outOfRange, givenTwice}
 use Rattle.kinds.proofs.RefusalLaws.{then-next, then-refused, unless-ok, unless-refused, first-found, first-none-next}
-use Rattle.table.specs.Table.{Table, factorsAt, zoneLineNo, borderLineNo, rowLineNo, rowGood, headerLineNo, twice, inRange, notTwice, room, front, judgeLent}
+use Rattle.table.specs.Table.{Table, factorsAt, zoneLineNo, borderLineNo, rowLineNo, rowGood, headerLineNo, twice, inRange, notTwice, tableRoom, front, judgeLent}
 use Rattle.table.specs.Good.{Exact}
 use Rattle.table.proofs.RoomLaws.{Enough, room-passed, room-of}
 
@@ -88,7 +87,7 @@ module _ (given : Table) where
   unfolding judgeLent
   header-refused e = sym (unless-refused _ _ e)
 
-  module _ (fits : headerFits h ≡ true) (r : Judgement) (said : ruled r h ≡ room h given (passed h)) where
+  module _ (fits : headerFits h ≡ true) (r : Judgement) (said : ruled r h ≡ tableRoom h given (passed h)) where
     past-header : judgeLent given ≡ then (ruled r h) (λ _. onward)
     unfolding judgeLent
     past-header = unless-ok _ _ fits ∙ sym (room-of h _ _ _ _ h r said onward)

@@ -1,5 +1,4 @@
 -- The laws of `specs/Table.antt`'s `roomFor`: which buffer is named, and what is known where none is. No contract cites this file.
--- Assumes nothing.
 use mathlib.Core.Path.{_≡_, refl, sym, ap, _∙_}
 use mathlib.Core.Bool.{Bool, true, false, cond}
 use Prim.Native.Nat.{ℕ, _*_, _≤_, _<_}

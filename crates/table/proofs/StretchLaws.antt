@@ -1,5 +1,4 @@
 -- The laws of `specs/Table.antt`'s `stretch`: where row i's stretch of the factors ends, and what stands in it. No contract cites this file.
--- Assumes nothing.
 use Prim.Native.Nat.{ℕ, _+_, _*_, _≤_, _<_}
 use native.Mathlib.Nat.{mul-le-mul-right, suc-mul}
 use native.Mathlib.Omega.{arith}

@@ -1,6 +1,5 @@
 -- What a table that was judged has: lengths as its header says, every record in range, no border given twice.
 -- Functions on judged tables ask for `Good`; that judging and reading give it is proved (`GoodLaws.antt`).
--- Assumes nothing.
 use mathlib.Core.Path.{_≡_}
 use mathlib.Core.Bool.{true, false}
 use mathlib.Core.List.{[]}

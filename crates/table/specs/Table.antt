@@ -1,6 +1,5 @@
 -- The table as a value, and how lent tables are judged (01, "The table as text", "When the table is turned away").
 -- Every definition above this file speaks of a `Table`. Raw records hold no index.
--- Assumes nothing.
 use mathlib.Core.Bool.{Bool, not, _&&_}
 use mathlib.Core.List.{List, []}
 use Prim.Native.Nat.{ℕ, _+_, _*_}
@@ -74,8 +73,8 @@ rowGood values factors = rowFits values && allBelow (length factors) (λ z. fact
 unfoldable pub roomFor : {A : Type 0} → Header → (z b c f : ℕ) → Judged A → Judged A
 roomFor h z b c f next = need (h .zones) z (need (h .borders) b (need (h .rows) c (need (h .rows * h .zones) f next)))
 
-abbrev pub room : {A : Type 0} → Header → (given : Table) → Judged A → Judged A
-room h given next = roomFor h (length (given .nets)) (length (given .borders)) (length (given .rows)) (length (given .factors)) next
+abbrev pub tableRoom : {A : Type 0} → Header → (given : Table) → Judged A → Judged A
+tableRoom h given next = roomFor h (length (given .nets)) (length (given .borders)) (length (given .rows)) (length (given .factors)) next
 
 -- the items that a header asks for, of lent tables that may hold more
 abbrev pub front : (given : Table) → Table
@@ -102,5 +101,5 @@ inRange t =
 unfoldable pub judgeLent : (given : Table) → Judged Table
 judgeLent given =
     unless (headerFits (given .header)) (outOfRange headerLineNo)
-    (room (given .header) given
+    (tableRoom (given .header) given
     (then (inRange (front given)) notTwice))

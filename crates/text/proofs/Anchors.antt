@@ -1,5 +1,4 @@
 -- A minus, read. Nobody cites it: it refuses a definition that slipped.
--- Assumes nothing.
 use mathlib.Core.Path.{_≡_, refl}
 use mathlib.Core.List.{[], _∷_}
 use Rattle.numbers.specs.Ints.{minus}

@@ -1,5 +1,4 @@
 -- What is known where a line of fields, read one after another, holds something. One law for each link of such a chain. No contract cites this file.
--- Assumes nothing.
 use mathlib.Core.Path.{_≡_, sym, ap, ap₂, subst, _∙_}
 use mathlib.Core.Bool.{true}
 use mathlib.Core.List.{List, _∷_}

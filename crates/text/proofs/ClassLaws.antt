@@ -1,6 +1,5 @@
 -- The laws of `specs/Class.antt`'s `classOf`: what a reader learns of a byte from its class. A class that is not the one asked for is known by its tag,
 -- its place among the variants. No contract cites this file.
--- Assumes nothing.
 use mathlib.Core.Path.{_≡_, refl, subst, _∙_, ap}
 use mathlib.Core.Bool.{Bool, true, false, cond}
 use mathlib.Core.List.{[], _∷_}

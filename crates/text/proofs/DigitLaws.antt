@@ -1,6 +1,5 @@
 -- The laws of `specs/Written.antt`'s `decimal` and `decimalℤ` that their writers cite: digit by digit from the last, and the bound of a length.
 -- No contract cites this file.
--- Assumes nothing.
 use mathlib.Core.Path.{_≡_, refl, sym, ap, ap₂, subst, _∙_}
 use mathlib.Core.Bool.{true, false, false≢true}
 use mathlib.Core.List.{List, [], _∷_, _++_}
@@ -17,8 +16,9 @@ use mir.Val.{hbits}
 use Rattle.text.specs.Fields.{dash}
 use Rattle.text.specs.Written.{decimal, decimalℤ}
 use Rattle.text.specs.Put.{put, Put}
-use Rattle.text.proofs.NumberTrip.{text-one, text-more, text-length, under-pow, decimal-of, decimal-some}
+use Rattle.text.proofs.NumberTrip.{text-one, text-more, under-pow, decimal-of, decimal-some}
 use Rattle.text.proofs.PutLaws.{put-byte, put-last, put-more}
+use Rattle.text.proofs.WrittenLaws.{decimal-long, decimalℤ-long}
 
 -- ---- decimal: the last digit, and the digits before it
 pub decimal-one : (n : ℕ) → n < 10 → decimal n ≡ (48 + n) ∷ []
@@ -35,48 +35,43 @@ decimal-more (suc f) h =
 pub decimal-longer : (n : ℕ) → 10 ≤ n → length (decimal n) ≡ length (decimal (n / 10)) + 1
 decimal-longer n h = ap length (decimal-more n h) ∙ length-append (decimal (n / 10)) ((48 + n % 10) ∷ [])
 
--- a number below 10 ^ k, k at least 1, has at most k digits
-pub decimal-most : (k n : ℕ) → 1 ≤ k → n < 10 ^ k → length (decimal n) ≤ k
-decimal-most zero n l h = absurd (not-suc-le-zero l)
-decimal-most (suc k) n l h = rw (decimal-of k n h) (text-length (suc k) n)
-
 -- a u64 has at most twenty digits
 pub decimal-u64 : (n : ℕ) → n < 2 ^ 64 → length (decimal n) ≤ 20
-decimal-u64 n h = decimal-most 20 n (lit≤ tt) (lt-of-lt-of-le h (lit≤ tt))
+decimal-u64 n h = decimal-long 19 n (lt-of-lt-of-le h (lit≤ tt))
 
 -- counting the digits, the last first: what is left has the digits not counted yet, the first of which is counted at the start
-pub record Counted (n left count : ℕ) : Type 0 where
+pub record DigitsCounted (n left count : ℕ) : Type 0 where
   pub so-far : length (decimal left) + count ≡ length (decimal n) + 1
 
-pub counted-none : (n : ℕ) → Counted n n 1
-counted-none n = record { so-far = refl }
+pub digits-counted-none : (n : ℕ) → DigitsCounted n n 1
+digits-counted-none n = record { so-far = refl }
 
-module _ {n left count : ℕ} (u : Counted n left count) where
-  pub counted-few : n < 2 ^ 64 → count ≤ 20
-  counted-few h = omega (arith, u .so-far, decimal-some left, decimal-u64 n h)
+module _ {n left count : ℕ} (u : DigitsCounted n left count) where
+  pub digits-counted-few : n < 2 ^ 64 → count ≤ 20
+  digits-counted-few h = omega (arith, u .so-far, decimal-some left, decimal-u64 n h)
 
-  pub counted-more : 10 ≤ left → Counted n (left / 10) (count + 1)
-  counted-more h = record { so-far = omega (arith, u .so-far, decimal-longer left h) }
+  pub digits-counted-more : 10 ≤ left → DigitsCounted n (left / 10) (count + 1)
+  digits-counted-more h = record { so-far = omega (arith, u .so-far, decimal-longer left h) }
 
-  pub counted-all : left < 10 → count ≡ length (decimal n)
-  counted-all h = omega (arith, u .so-far, ap length (decimal-one left h))
+  pub digits-counted-all : left < 10 → count ≡ length (decimal n)
+  digits-counted-all h = omega (arith, u .so-far, ap length (decimal-one left h))
 
 -- writing the digits, the last first: what is left, written before place i, gives the whole
-pub record Digits (n at : ℕ) (out₀ out : List ℕ) (left i : ℕ) : Type 0 where
+pub record DigitsPut (n at : ℕ) (out₀ out : List ℕ) (left i : ℕ) : Type 0 where
   pub place : i ≡ at + length (decimal left)
   pub rest : put (decimal left) at out ≡ put (decimal n) at out₀
   pub room : at + length (decimal left) ≤ length out
   pub kept : length out ≡ length out₀
 
-pub digits-none : (n at : ℕ) (out : List ℕ) (i : ℕ) → i ≡ at + length (decimal n) → at + length (decimal n) ≤ length out → Digits n at out out n i
-digits-none n at out i e h = record { place = e; rest = refl; room = h; kept = refl }
+pub digits-put-none : (n at : ℕ) (out : List ℕ) (i : ℕ) → i ≡ at + length (decimal n) → at + length (decimal n) ≤ length out → DigitsPut n at out out n i
+digits-put-none n at out i e h = record { place = e; rest = refl; room = h; kept = refl }
 
-module _ {n at : ℕ} {out₀ out : List ℕ} {left i : ℕ} (u : Digits n at out₀ out left i) where
-  pub digits-some : at < i
-  digits-some = omega (arith, u .place, decimal-some left)
+module _ {n at : ℕ} {out₀ out : List ℕ} {left i : ℕ} (u : DigitsPut n at out₀ out left i) where
+  pub digits-put-some : at < i
+  digits-put-some = omega (arith, u .place, decimal-some left)
 
-  pub digits-more : (d : ℕ) → d ≡ 48 + left % 10 → 10 ≤ left → Digits n at out₀ (set out (i - 1) d) (left / 10) (i - 1)
-  digits-more d e h =
+  pub digits-put-more : (d : ℕ) → d ≡ 48 + left % 10 → 10 ≤ left → DigitsPut n at out₀ (set out (i - 1) d) (left / 10) (i - 1)
+  digits-put-more d e h =
       let last = decimal-longer left h in
       let j : i - 1 ≡ at + length (decimal (left / 10)) = omega (arith, u .place) in
       record {
@@ -89,8 +84,8 @@ module _ {n at : ℕ} {out₀ out : List ℕ} {left i : ℕ} (u : Digits n at ou
         kept = length-set out (i - 1) d ∙ u .kept;
       }
 
-  pub digits-all : (d next : ℕ) → d ≡ 48 + left → left < 10 → next ≡ at + length (decimal n) → Put (decimal n) at out₀ next (set out at d)
-  digits-all d next e h q =
+  pub digits-put-all : (d next : ℕ) → d ≡ 48 + left → left < 10 → next ≡ at + length (decimal n) → Put (decimal n) at out₀ next (set out at d)
+  digits-put-all d next e h q =
       let text = decimal-one left h in
       record {
         after = q;
@@ -115,15 +110,6 @@ module _ (z : ℤ) where
       go (pos n) e = refl
       go (negsuc n) e = absurd (false≢true (sym e))
 
-  -- a minus and at most k digits
-  pub signed-most : (k : ℕ) → 1 ≤ k → natAbs z < 10 ^ k → length (decimalℤ z) ≤ k + 1
-  unfolding decimalℤ
-  signed-most k l h = go z h
-    where
-      go : (z : ℤ) → natAbs z < 10 ^ k → length (decimalℤ z) ≤ k + 1
-      go (pos n) h = omega (arith, decimal-most k n l h)
-      go (negsuc n) h = omega (arith, decimal-most k (suc n) l h)
-
   module _ {d : ℕ} (q : d ≡ natAbs z) where
     below : ltZ z (pos 0) ≡ true → (dash ∷ []) ++ decimal d ≡ decimalℤ z
     below e = ap (λ (k : ℕ). dash ∷ decimal k) q ∙ sym (below-text e)
@@ -146,5 +132,5 @@ module _ (z : ℤ) where
 
 -- an i64 has at most twenty bytes, its minus among them
 pub decimal-i64 : (z : ℤ) → mag z < 2 ^ hbits w64 → length (decimalℤ z) ≤ 20
-decimal-i64 (pos n) h = signed-most (pos n) 19 (omega arith) (omega arith)
-decimal-i64 (negsuc n) h = signed-most (negsuc n) 19 (omega arith) (omega arith)
+decimal-i64 (pos n) h = decimalℤ-long 18 (pos n) (omega arith)
+decimal-i64 (negsuc n) h = decimalℤ-long 18 (negsuc n) (omega arith)

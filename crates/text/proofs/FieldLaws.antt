@@ -1,6 +1,5 @@
 -- The laws of `specs/Fields.antt`'s `numberAt` and `shareAt` that readers of fields cite, here and in the crates above. No contract cites this file.
--- In order: how large a number that was read is; a field by its first byte; signed numbers in 64 bits.
--- Assumes nothing.
+-- In order: bytes within a line; how large a number that was read is; a field by its first byte; signed numbers in 64 bits.
 use Prim.Native.Nat.{ℕ, zero, suc, _+_, _^_, _≤_, _<_}
 use mathlib.Core.Path.{_≡_, refl, sym}
 use mathlib.Core.Bool.{true, false}
@@ -15,20 +14,24 @@ use mir.Val.{SFits, toZ}
 use mir.Facts.{toZ-pos}
 use borrow.Author.Tests.{eqb-true, eq-eqb, ne-eqb}
 use Rattle.numbers.specs.Ints.{minus}
+use Rattle.numbers.proofs.BelowLaws.{le-or-lt}
 use Rattle.text.specs.declared.Number.{Number}
 use Rattle.text.specs.declared.Number.the-variants.{Value, Bad}
 use Rattle.text.specs.declared.Signed.the-variants.{Whole, Wrong}
 use Rattle.text.specs.Fields.{positive, withNumber, numberAt, shareAt}
 use Rattle.text.proofs.NumberTrip.{number-read}
-use Rattle.text.proofs.NumberLaws.{below-or}
 
--- a minus stands in the line, not past its end
-pub dash-within : (line : List ℕ) (at : ℕ) → eqb (getD line at 0) 45 ≡ true → at < length line
-dash-within line at e =
+-- a byte that is not 0 stands in the line, not past its end ..
+pub some-within : (line : List ℕ) (at : ℕ) → 0 < getD line at 0 → at < length line
+some-within line at e =
     ⊎-elim
+    (λ (h : length line ≤ at). absurd (omega (arith, List·getD-eq-default line 0 h)))
     (λ (h : at < length line). h)
-    (λ (h : length line ≤ at). absurd (omega (arith, eqb-true (getD line at 0) 45 e, List·getD-eq-default line 0 h)))
-    (below-or at (length line))
+    (le-or-lt (length line) at)
+
+-- .. such as a minus
+pub dash-within : (line : List ℕ) (at : ℕ) → eqb (getD line at 0) 45 ≡ true → at < length line
+dash-within line at e = some-within line at (omega (arith, eqb-true (getD line at 0) 45 e))
 
 -- ---- how large a number that was read is
 module _ (line : List ℕ) (at stop : ℕ) where

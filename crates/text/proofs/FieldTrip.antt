@@ -1,24 +1,22 @@
 -- R, read and written: "-" alone, which is kept as -1, or a number. No contract cites this file.
--- Assumes nothing.
 use mathlib.Core.Path.{_≡_, refl, sym, ap, ap₂, subst, _∙_}
 use mathlib.Core.Bool.{Bool, true, false, cond}
 use mathlib.Core.List.{List, _∷_, _++_}
 use Prim.Native.Nat.{ℕ, suc, _+_, _^_, _<_}
-use native.Mathlib.Nat.{add-zero}
 use native.Mathlib.Omega.{arith}
-use lib.Dec.{leb, eqb}
+use lib.Dec.{eqb}
 use lib.IntN.{ℤ, pos, negsuc}
-use lib.ListN.{length, getD, drop, List·getD-eq-default}
-use lib.Seq.{drop-cons, drop-drop, getD-drop}
-use borrow.Author.Tests.{leb-true, leb-false, eqb-true, eq-eqb}
+use lib.ListN.{length, getD, drop}
+use lib.Seq.{drop-cons, drop-drop}
+use borrow.Author.Tests.{eqb-true, eq-eqb}
 use Rattle.numbers.specs.Ints.{minus}
 use Rattle.text.specs.declared.Number.{Number}
 use Rattle.text.specs.declared.Number.the-variants.{Value, Bad}
 use Rattle.text.specs.declared.Signed.the-variants.{Whole, Wrong}
 use Rattle.text.specs.Fields.{isDigit, numberAt, positive, shareAt}
 use Rattle.text.specs.Written.{decimal, shareText}
-use Rattle.text.proofs.FieldLaws.{share-plus}
-use Rattle.text.proofs.NumberTrip.{number-read, number-written, number-rest, zero-one, whole-is, no-whole, first-digit, decimal-digits, decimal-some}
+use Rattle.text.proofs.FieldLaws.{some-within, share-plus}
+use Rattle.text.proofs.NumberTrip.{number-read, number-written, number-rest, whole-is, no-whole, first-digit, first-at, decimal-digits, decimal-some}
 
 -- what R may be as it is kept
 abbrev pub ShareKept : ℤ → Type 0
@@ -27,14 +25,6 @@ ShareKept (negsuc n) = n ≡ 0
 
 pub record ReadR (line : List ℕ) (at stop : ℕ) (r : ℤ) (next : ℕ) : Type 0 where
   pub here : drop at line ≡ shareText r ++ (stop ∷ drop next line)
-
--- a byte that is not 0 stands within the line
-some-within : (s : List ℕ) (i : ℕ) → 0 < getD s i 0 → i < length s
-some-within s i h = go (leb (length s) i) refl
-  where
-    go : (t : Bool) → leb (length s) i ≡ t → i < length s
-    go true e = absurd (zero-one (omega (arith, List·getD-eq-default s 0 (leb-true (length s) i e))))
-    go false e = leb-false (length s) i e
 
 module _ (line : List ℕ) (at stop : ℕ) where
   share-dash : getD line at 0 ≡ 45 → cond (eqb (getD line (at + 1) 0) stop) (Whole (minus 1) (at + 2)) (Wrong (at + 1)) ≡ shareAt line at stop
@@ -76,10 +66,6 @@ pub record WrittenR (line : List ℕ) (at stop : ℕ) (r : ℤ) (rest : List ℕ
   pub next : ℕ
   pub is : shareAt line at stop ≡ Whole r next
   pub then : drop next line ≡ rest
-
--- the first byte at a place
-first-at : (line : List ℕ) (at : ℕ) (s : List ℕ) → drop at line ≡ s → getD line at 0 ≡ getD s 0 0
-first-at line at s e = ap (λ (k : ℕ). getD line k 0) (sym (add-zero at)) ∙ sym (getD-drop at line 0 0) ∙ ap (λ (s : List ℕ). getD s 0 0) e
 
 pub share-written : (line : List ℕ) (at stop : ℕ) (r : ℤ) (rest : List ℕ) → drop at line ≡ shareText r ++ (stop ∷ rest) → ShareKept r → isDigit stop ≡ false → WrittenR line at stop r rest
 share-written line at stop (pos n) rest here h e =

@@ -1,5 +1,4 @@
 -- The laws of `specs/Left.antt`: a text that was refused, had no room, or was written; and that what is said has one answer. No contract cites this file.
--- Assumes nothing.
 use mathlib.Core.Path.{_≡_, refl, sym, ap, ap₂, _∙_}
 use mathlib.Core.List.{List}
 use Prim.Native.Nat.{ℕ, _≤_, _<_}
@@ -7,14 +6,15 @@ use native.Mathlib.Omega.{arith}
 use lib.ListN.{length}
 use Rattle.numbers.specs.Below.{over}
 use Rattle.kinds.specs.declared.Written.{Written}
-use Rattle.kinds.specs.Refusals.{Why, Judged, passed, refused, tooShort}
+use Rattle.kinds.specs.declared.Refusal.{Refusal}
+use Rattle.kinds.specs.Refusals.{Judged, passed, refused, tooShort}
 use Rattle.kinds.proofs.AnswerLaws.{saidWritten-injective}
 use Rattle.kinds.proofs.RefusalLaws.{then-next, then-refused, either-passed, either-refused, need-enough, need-short}
 use Rattle.text.specs.Left.{TextLeft, textLeft, textSaid}
 use Rattle.text.specs.Put.{Put}
 use Rattle.text.proofs.PutLaws.{put-whole}
 
-pub text-refused : {j : Judged (List ℕ)} (out : List ℕ) {w : Why} → j ≡ refused w → _≡_ {A = TextLeft} (record { answer = refused w; out = out }) (textLeft j out)
+pub text-refused : {j : Judged (List ℕ)} (out : List ℕ) {w : Refusal} → j ≡ refused w → _≡_ {A = TextLeft} (record { answer = refused w; out = out }) (textLeft j out)
 unfolding textLeft
 text-refused out e = sym (either-refused _ _ (then-refused _ e))
 

@@ -1,5 +1,4 @@
 -- Lines whose lengths a loop adds up, where none has more than q bytes, so that no sum overflows. No contract cites this file.
--- Assumes nothing.
 use mathlib.Core.Path.{_≡_, sym, _∙_}
 use mathlib.Core.List.{List}
 use Prim.Native.Nat.{ℕ, _+_, _*_, _≤_, _<_}

@@ -1,6 +1,5 @@
 -- The laws of `specs/Fields.antt`'s `numberAt` that its reader cites. No contract cites this file.
 -- In order: `digits` from a place on; `plain` and `firstBad`; when no digit may follow; `Upto`, what a reader has after some digits, and what it answers.
--- Assumes nothing.
 use Prim.Native.Nat.{ℕ, suc, _+_, _*_, _-_, _^_, _≤_, _<_, min}
 use mathlib.Core.Path.{_≡_, refl, sym, ap, ap₂, _∙_}
 use mathlib.Core.Bool.{Bool, true, false, _&&_, _||_, and-false, false≢true}
@@ -12,7 +11,8 @@ use native.Mathlib.Omega.{arith}
 use lib.Dec.{leb, ltb, eqb, lit<}
 use lib.ListN.{length, getD, drop, drop-of-length-le, length-drop}
 use lib.Seq.{drop-cons, getD-drop}
-use borrow.Author.Tests.{leb-true, leb-false, ltb-true, ltb-false, eqb-true, eqb-false, lt-leb, lt-ltb, le-ltb, eq-eqb, ne-eqb}
+use borrow.Author.Tests.{leb-true, leb-false, ltb-true, eqb-true, eqb-false, lt-leb, lt-ltb, le-ltb, eq-eqb, ne-eqb}
+use Rattle.numbers.proofs.BelowLaws.{le-or-lt}
 use Rattle.text.specs.declared.Number.the-variants.{Value, Bad}
 use Rattle.text.specs.Fields.{isDigit, digits, value, plain, firstBad, numberAt}
 use Rattle.text.proofs.NumberTrip.{and-both, digit-range, more-digits, plain-true}
@@ -78,13 +78,6 @@ module _ (line : List ℕ) (at stop : ℕ) where
     number-good e = rw (p, lt-ltb _ _ within, getD-drop at line (length (digits (drop at line))) 0, eq-eqb _ _ e)
 
 -- ---- no digit may follow
-pub below-or : (a b : ℕ) → (a < b) ⊎ (b ≤ a)
-below-or a b = go (ltb a b) refl
-  where
-    go : (t : Bool) → ltb a b ≡ t → (a < b) ⊎ (b ≤ a)
-    go true e = inl (ltb-true a b e)
-    go false e = inr (ltb-false a b e)
-
 full-is : (n v : ℕ) → (leb 10 n || (ltb 0 n && eqb v 0)) ≡ true → (10 ≤ n) ⊎ ((0 < n) × (v ≡ 0))
 full-is n v e = go (leb 10 n) refl e
   where
@@ -99,10 +92,10 @@ or-neither false u e = (refl, e)
 full-not : (n v : ℕ) → (leb 10 n || (ltb 0 n && eqb v 0)) ≡ false → (n < 10) × ((n ≤ 0) ⊎ (0 < v))
 full-not n v e =
     let o = or-neither (leb 10 n) (ltb 0 n && eqb v 0) e in
-    (leb-false 10 n (o .0), ⊎-elim (λ (h : 0 < n). inr (some h (o .1))) (λ (h : n ≤ 0). inl h) (below-or 0 n))
+    (leb-false 10 n (o .0), ⊎-elim (λ (h : n ≤ 0). inl h) (λ (h : 0 < n). inr (some h (o .1))) (le-or-lt n 0))
   where
     some : 0 < n → (ltb 0 n && eqb v 0) ≡ false → 0 < v
-    some h e = let q : v ≡ 0 → ⊥ = eqb-false v 0 (rw (lt-ltb 0 n h) at e) in ⊎-elim (λ (k : 0 < v). k) (λ (k : v ≤ 0). absurd (q (omega arith))) (below-or 0 v)
+    some h e = let q : v ≡ 0 → ⊥ = eqb-false v 0 (rw (lt-ltb 0 n h) at e) in ⊎-elim (λ (k : v ≤ 0). absurd (q (omega arith))) (λ (k : 0 < v). k) (le-or-lt v 0)
 
 -- ---- what a reader of a number has after it has passed the digits from `at` up to `i`, worth v
 pub record Upto (line : List ℕ) (at i v : ℕ) : Type 0 where
@@ -153,12 +146,12 @@ module _ (line : List ℕ) (at : ℕ) where
                 (first b ∙ omega arith, omega arith);
             other-first = λ a p x.
                 ⊎-elim
-                (λ (b : at < i). ⊎-elim (λ (y : i - at ≤ 0). omega arith) (λ (y : 0 < v). u .other-first b y x) (n .1))
                 (λ (b : i ≤ at).
                 let y = none-yet b in
                 let f : getD line i 0 ≡ 48 = sym (first (omega arith)) ∙ x in
                 omega arith)
-                (below-or at i);
+                (λ (b : at < i). ⊎-elim (λ (y : i - at ≤ 0). omega arith) (λ (y : 0 < v). u .other-first b y x) (n .1))
+                (le-or-lt i at);
           }
         where
           first : i ≡ at → getD (digits (drop at line)) 0 0 ≡ getD line i 0
@@ -175,7 +168,7 @@ module _ (line : List ℕ) (at : ℕ) where
           let k = u .count in
           ⊎-elim
           (λ (t : 10 ≤ i - at).
-          let p : 0 < v = ⊎-elim (λ (x : 0 < v). x) (λ (x : v ≤ 0). absurd (omega (arith, u .zero-first (omega arith) (omega arith)))) (below-or 0 v) in
+          let p : 0 < v = ⊎-elim (λ (x : v ≤ 0). absurd (omega (arith, u .zero-first (omega arith) (omega arith)))) (λ (x : 0 < v). x) (le-or-lt v 0) in
           let a : at < i = omega arith in
           number-not line at stop i (plain-long ds (omega arith)) (bad-other ds at (inr (u .other-first a p)) ∙ omega (arith, u .high)))
           (λ (z : (0 < i - at) × (v ≡ 0)).
@@ -197,7 +190,7 @@ module _ (line : List ℕ) (at : ℕ) where
 
       module _ (h : at < i) where
         no-lead : (length (digits (drop at line)) ≤ 1) ⊎ (getD (digits (drop at line)) 0 0 ≡ 48 → ⊥)
-        no-lead = ⊎-elim (λ (p : 0 < v). inr (u .other-first h p)) (λ (p : v ≤ 0). inl (omega (arith, long, u .zero-first h (omega arith)))) (below-or 0 v)
+        no-lead = ⊎-elim (λ (p : v ≤ 0). inl (omega (arith, long, u .zero-first h (omega arith)))) (λ (p : 0 < v). inr (u .other-first h p)) (le-or-lt v 0)
 
         good : plain (digits (drop at line)) ≡ true
         good = let n = long in plain-true (digits (drop at line)) (omega arith) (omega (arith, u .high)) no-lead
@@ -218,4 +211,4 @@ module _ (line : List ℕ) (at : ℕ) where
 
       pub upto-cut : (stop : ℕ) → length line ≤ i → Bad i ≡ numberAt line at stop
       upto-cut stop k =
-          ⊎-elim (λ (h : at < i). ap Bad (sym (bad h)) ∙ number-cut line at stop (omega (arith, ended h))) (λ (h : i ≤ at). upto-empty stop h) (below-or at i)
+          ⊎-elim (λ (h : i ≤ at). upto-empty stop h) (λ (h : at < i). ap Bad (sym (bad h)) ∙ number-cut line at stop (omega (arith, ended h))) (le-or-lt i at)

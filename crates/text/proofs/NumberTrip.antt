@@ -1,5 +1,4 @@
 -- The decimal text of a number, and the two round trips: what is written reads as itself, and what is read is written as itself. No contract cites this file.
--- Assumes nothing.
 use Prim.Native.Nat.{ℕ, zero, suc, _+_, _*_, _-_, _/_, _%_, _^_, _≤_, _<_}
 use mathlib.Core.Path.{_≡_, refl, sym, ap, ap₂, subst, _∙_}
 use mathlib.Core.Bool.{Bool, true, false, cond, not, _||_, false≢true, or-true}
@@ -14,15 +13,12 @@ use lib.IntN.{ℤ, pos, negsuc, natAbs}
 use lib.ListN.{length, getD, drop, length-append, length-drop, List·getD-append}
 use lib.Seq.{drop-append-add, drop-cons, getD-drop, drop-drop, getD-append-seam}
 use borrow.Author.Tests.{leb-true, ltb-true, ltb-false, eqb-true, eqb-false, le-leb, lt-ltb, le-ltb, eq-eqb, ne-eqb}
-pub use Rattle.numbers.proofs.TestLaws.{and-both}
+pub use Rattle.numbers.proofs.TestLaws.{zero-one, and-both}
 use Rattle.text.specs.declared.Number.{Number}
 use Rattle.text.specs.declared.Number.the-variants.{Value, Bad}
 use Rattle.text.specs.declared.Signed.the-variants.{Whole, Wrong}
 use Rattle.text.specs.Fields.{isDigit, digits, value, plain, numberAt, positive, negative, signedAt}
 use Rattle.text.specs.Written.{textOf, decimal, decimalℤ}
-
-pub zero-one : _≡_ {A = ℕ} 0 1 → ⊥
-zero-one e = omega arith
 
 pub digit-range : (b : ℕ) → isDigit b ≡ true → (48 ≤ b) × (b < 58)
 digit-range b e = (leb-true 48 b (and-both (leb 48 b) (ltb b 58) e .0), ltb-true b 58 (and-both (leb 48 b) (ltb b 58) e .1))
@@ -139,13 +135,13 @@ text-value (suc f) n h =
     rw (text-more f n k, value-snoc 0 (textOf f (n / 10)) (48 + n % 10), text-value f (n / 10) q) (omega arith))
     (split n)
 
-pub text-length : (f n : ℕ) → length (textOf f n) ≤ f
+pub text-le : (f n : ℕ) → length (textOf f n) ≤ f
 unfolding textOf
-text-length zero n = omega arith
-text-length (suc f) n =
+text-le zero n = omega arith
+text-le (suc f) n =
     ⊎-elim
     (λ (k : n < 10). rw (text-one f n k) (omega arith))
-    (λ (k : 10 ≤ n). rw (text-more f n k, length-append (textOf f (n / 10)) ((48 + n % 10) ∷ [])) (omega (arith, text-length f (n / 10))))
+    (λ (k : 10 ≤ n). rw (text-more f n k, length-append (textOf f (n / 10)) ((48 + n % 10) ∷ [])) (omega (arith, text-le f (n / 10))))
     (split n)
 
 pub text-some : (f n : ℕ) → 0 < length (textOf (suc f) n)
@@ -174,7 +170,7 @@ unfolding textOf
 ten-plain zero h = refl
 ten-plain (suc n) h =
     let p : 0 < suc n = omega arith in
-    plain-true (textOf 10 (suc n)) (text-some 9 (suc n)) (text-length 10 (suc n)) (inr (text-first 10 (suc n) p h))
+    plain-true (textOf 10 (suc n)) (text-some 9 (suc n)) (text-le 10 (suc n)) (inr (text-first 10 (suc n) p h))
 
 pub decimal-plain : (n : ℕ) → n < 10 ^ 10 → plain (decimal n) ≡ true
 decimal-plain n h = ap plain (decimal-ten n h) ∙ ten-plain n h
@@ -357,15 +353,19 @@ pub first-digit : (s r : List ℕ) → digits s ≡ s → 0 < length s → eqb (
 first-digit [] r e h = absurd (zero-one (omega arith))
 first-digit (b ∷ s) r e h = ne-eqb b 45 (λ q. omega (arith, digit-range b (digits-cons b s e .0)))
 
+-- the first byte at a place
+pub first-at : (line : List ℕ) (at : ℕ) (s : List ℕ) → drop at line ≡ s → getD line at 0 ≡ getD s 0 0
+first-at line at s e = ap (λ (k : ℕ). getD line k 0) (sym (add-zero at)) ∙ sym (getD-drop at line 0 0) ∙ ap (λ (s : List ℕ). getD s 0 0) e
+
 pub signed-written : (line : List ℕ) (at stop : ℕ) (z : ℤ) (r : List ℕ) → drop at line ≡ decimalℤ z ++ (stop ∷ r) → natAbs z < 10 ^ 10 → isDigit stop ≡ false
     → signedAt line at stop ≡ Whole z (at + length (decimalℤ z) + 1)
 unfolding decimalℤ
 signed-written line at stop (pos n) r here h e =
-    let f : getD line at 0 ≡ getD (decimal n ++ (stop ∷ r)) 0 0 = ap (λ (k : ℕ). getD line k 0) (sym (add-zero at)) ∙ sym (getD-drop at line 0 0) ∙ ap (λ (s : List ℕ). getD s 0 0) here in
+    let f : getD line at 0 ≡ getD (decimal n ++ (stop ∷ r)) 0 0 = first-at line at _ here in
     let g : eqb (getD line at 0) 45 ≡ false = rw f (first-digit (decimal n) (stop ∷ r) (decimal-digits n) (decimal-some n)) in
     sym (signed-plus line at stop g) ∙ ap positive (number-written line at stop n r here h e)
 signed-written line at stop (negsuc n) r here h e =
-    let f : getD line at 0 ≡ 45 = ap (λ (k : ℕ). getD line k 0) (sym (add-zero at)) ∙ sym (getD-drop at line 0 0) ∙ ap (λ (s : List ℕ). getD s 0 0) here in
+    let f : getD line at 0 ≡ 45 = first-at line at _ here in
     let t : drop (at + 1) line ≡ decimal (suc n) ++ (stop ∷ r) = sym (drop-drop 1 at line) ∙ ap (drop 1) here in
     let m : at + 1 + length (decimal (suc n)) + 1 ≡ at + suc (length (decimal (suc n))) + 1 = omega arith in
     let u : eqb (suc n) 0 ≡ false = ne-eqb (suc n) 0 (λ x. omega arith) in

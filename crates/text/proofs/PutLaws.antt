@@ -1,6 +1,5 @@
 -- The laws of `specs/Put.antt`, and the lines of `specs/Written.antt` as a chain of writes. No contract cites this file.
 -- In order: `put`; `Put` (none, more, the room left); fields and a line, `Begun`; `linesText`.
--- Assumes nothing.
 use mathlib.Core.Path.{_≡_, refl, sym, ap, ap₂, subst, _∙_}
 use mathlib.Core.List.{List, [], _∷_, _++_, append-assoc, append-nil}
 use Prim.Native.Nat.{ℕ, zero, suc, _+_, _*_, _-_, _≤_, _<_}

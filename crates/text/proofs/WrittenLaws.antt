@@ -1,5 +1,4 @@
 -- The laws of `specs/Written.antt`: what is written of a number holds no LF; and lengths. No contract cites this file.
--- Assumes nothing.
 use mathlib.Core.Path.{_≡_, refl, ap}
 use mathlib.Core.Bool.{true}
 use mathlib.Core.List.{List, [], _∷_}
@@ -12,7 +11,7 @@ use Rattle.text.specs.Fields.{digits}
 use Rattle.text.specs.Line.{ended}
 use Rattle.text.specs.Written.{decimal, decimalℤ, shareText}
 use Rattle.text.proofs.LineLaws.{noFeed}
-use Rattle.text.proofs.NumberTrip.{digit-range, digits-cons, decimal-digits, decimal-of, text-length}
+use Rattle.text.proofs.NumberTrip.{digit-range, digits-cons, decimal-digits, decimal-of, text-le}
 
 -- ---- no LF
 digits-no-feed : (s : List ℕ) → digits s ≡ s → noFeed s
@@ -39,7 +38,7 @@ ended-text line next e = le-leb (length line) next (omega (arith, length-drop ne
 
 -- ---- lengths
 pub decimal-long : (f n : ℕ) → n < 10 ^ suc f → length (decimal n) ≤ suc f
-decimal-long f n h = rw (decimal-of f n h) (text-length (suc f) n)
+decimal-long f n h = rw (decimal-of f n h) (text-le (suc f) n)
 
 -- .. and a minus before it
 pub decimalℤ-long : (f : ℕ) (z : ℤ) → natAbs z < 10 ^ suc f → length (decimalℤ z) ≤ suc (suc f)

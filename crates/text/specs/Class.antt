@@ -1,5 +1,4 @@
 -- The bytes of a field (01, "The table as text"): a digit with its value, a minus, a tab, an LF, anything else.
--- Assumes nothing.
 use mathlib.Core.Bool.{cond}
 use Prim.Native.Nat.{ℕ, _-_}
 use lib.Dec.{eqb}

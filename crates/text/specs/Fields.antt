@@ -2,7 +2,6 @@
 -- a minus only before a nonzero signed field, and then the byte that ends the field.
 -- `numberAt`, `signedAt` and `shareAt` are what contracts cite. A place counts bytes from the line's start, from 0.
 -- A field of wrong form tells the first place that no good field could have; what is above asks only whether there is one.
--- Assumes nothing.
 use mathlib.Core.Bool.{Bool, cond, not, _&&_, _||_}
 use mathlib.Core.List.{List, [], _∷_}
 use Prim.Native.Nat.{ℕ, _+_, _*_, _-_, min}

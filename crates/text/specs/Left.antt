@@ -1,5 +1,4 @@
 -- What an open call that writes text leaves (01, "When the table is turned away"): its answer, and the lent bytes. Their contracts cite `textSaid`.
--- Assumes nothing.
 use mathlib.Core.List.{List}
 use Prim.Native.Nat.{ℕ}
 use lib.ListN.{length}

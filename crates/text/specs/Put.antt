@@ -1,6 +1,5 @@
 -- Text written into lent bytes at a place (01, "The table as text", "Result text"): all other bytes stay as they were.
 -- `Put` is what contracts cite. Left to the caller: that there is room.
--- Assumes nothing.
 use mathlib.Core.Path.{_≡_}
 use mathlib.Core.List.{List, _++_}
 use Prim.Native.Nat.{ℕ, _+_}

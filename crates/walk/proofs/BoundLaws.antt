@@ -1,6 +1,5 @@
 -- How bounds come to the raises: a row tightens them and they still bound (`Bounded`); after the last row they are the raises. First bounds: the margin of the first row that loads the border.
 -- No contract cites this file.
--- Assumes nothing.
 use mathlib.Core.Path.{_≡_, refl, sym, ap, _∙_, subst}
 use mathlib.Core.List.{List}
 use mathlib.Core.Logic.{⊎-elim}

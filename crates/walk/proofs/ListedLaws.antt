@@ -1,6 +1,5 @@
 -- The laws of `Listed` (specs/Walk.antt), the list of the borders that still rise: the list of all, what it holds, and that it serves bounds that fell.
 -- Proofs cite it here and in roundloop. No contract cites this file.
--- Assumes nothing.
 use mathlib.Core.Path.{_≡_, refl, ap, _∙_}
 use mathlib.Core.List.{List}
 use Prim.Native.Nat.{ℕ, zero, suc, _+_, _-_, _≤_, _<_}

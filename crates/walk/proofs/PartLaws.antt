@@ -1,6 +1,5 @@
 -- One row's work: what it loses and the most that one border would take (`Parting` is that loop's invariant), and why a row whose most part is within its share tightens nothing.
 -- No contract cites this file.
--- Assumes nothing.
 use mathlib.Core.Path.{_≡_, refl, sym, ap, _∙_}
 use mathlib.Core.List.{List}
 use mathlib.Core.Logic.{⊎-elim}

@@ -1,5 +1,4 @@
 -- A bound and a row's share (`tight`), and the loop over the listed borders that tightens their bounds (`Lowering` is its invariant). No contract cites this file.
--- Assumes nothing.
 use mathlib.Core.Path.{_≡_, refl, sym, ap, _∙_}
 use mathlib.Core.List.{List}
 use mathlib.Core.Logic.{⊎-elim}

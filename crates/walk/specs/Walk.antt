@@ -1,7 +1,6 @@
 -- One row's work in a round (02, E4), over a grid g: what its functions ask and leave. A border's bound is what it may rise by at most: its last raise, or at first a row's margin.
 -- `Listed`, `Bound`, `tightened`, `mostPart` and `Partable` are what contracts cite, here, in resting and in roundloop.
 -- Left to others: the raises themselves and what a round does (`Rounds.antt` of rounds), which rows are looked at in a round (resting), the loop of rounds (roundloop).
--- Assumes nothing.
 use mathlib.Core.Path.{_≡_}
 use mathlib.Core.List.{List}
 use Prim.Native.Nat.{ℕ, _*_, _/_, _^_, _≤_, _<_, min}

@@ -1,5 +1,4 @@
 -- The text of a table as runs of lines (specs/Writing.antt): each line written is the one that reading knows, and lines by index are the lines of a list. No contract cites this file.
--- Assumes nothing.
 use mathlib.Core.Path.{_≡_, sym, ap, ap₂, subst, _∙_}
 use mathlib.Core.List.{List, [], _++_, append-assoc}
 use Prim.Native.Nat.{ℕ, _<_}
@@ -13,8 +12,8 @@ use Rattle.block.proofs.RunLaws.{lines-block}
 use Rattle.table.specs.Table.{Table, factorsAt, stretch}
 use Rattle.lines.specs.Lines.{RowLine}
 use Rattle.runs.specs.Rows.{valuesOf, factorsOf}
-use Rattle.lines.proofs.RowTrip.{Held}
-use Rattle.runs.proofs.RowLaws.{none, values-at, stretch-of}
+use Rattle.lines.proofs.RowTrip.{RowHeldAt}
+use Rattle.runs.proofs.RowLaws.{emptyRow, values-at, stretch-of}
 use Rattle.layout.specs.Layout.{headerText, zoneText, borderText, rowText}
 use Rattle.writing.specs.Writing.{tableText}
 
@@ -31,7 +30,7 @@ module _ (t : Table) (lines : List RowLine) where
     pub lines-long : length lines ≡ t .header .rows
     pub values-are : valuesOf lines ≡ t .rows
     pub factors-are : factorsOf lines ≡ t .factors
-    pub held : allFit (Held (t .header .zones)) 0 lines
+    pub held : allFit (RowHeldAt (t .header .zones)) 0 lines
 
   abbrev pub blocks : List ℕ
   blocks = headerText (t .header) ++ (blockText zoneText 0 (t .nets) ++ (blockText borderText 0 (t .borders) ++ blockText rowLineOf 0 lines))
@@ -46,9 +45,9 @@ module _ (t : Table) (lines : List RowLine) where
     rows-lines : linesText (t .header .rows) 0 (λ i. rowText i (getD (t .rows) i []) (factorsAt t i)) ≡ blockText rowLineOf 0 lines
     rows-lines =
         subst (λ (n : ℕ). linesText n 0 (λ i. rowText i (getD (t .rows) i []) (factorsAt t i)) ≡ blockText rowLineOf 0 lines) (l .lines-long)
-        (lines-block rowLineOf none lines 0 _ (λ k h. rw (zero-add k) (line k h)))
+        (lines-block rowLineOf emptyRow lines 0 _ (λ k h. rw (zero-add k) (line k h)))
       where
-        line : (k : ℕ) → k < length lines → rowText k (getD (t .rows) k []) (factorsAt t k) ≡ rowLineOf k (getD lines k none)
+        line : (k : ℕ) → k < length lines → rowText k (getD (t .rows) k []) (factorsAt t k) ≡ rowLineOf k (getD lines k emptyRow)
         line k h =
             ap₂ (λ (v f : List ℤ). rowText k v f)
             (ap (λ (rows : List (List ℤ)). getD rows k []) (sym (l .values-are)) ∙ values-at lines k)

@@ -1,12 +1,12 @@
 -- The laws of what `write` leaves (`writeLeft`): which step refuses, and what is known where none does. No contract cites this file.
--- Assumes nothing.
 use mathlib.Core.Path.{_≡_, refl, sym, ap, _∙_}
 use mathlib.Core.List.{List}
 use Prim.Native.Nat.{ℕ, _≤_}
 use native.Mathlib.Omega.{arith}
 use lib.ListN.{length}
 use Rattle.numbers.specs.Below.{over}
-use Rattle.kinds.specs.Refusals.{Why, Judged, passed, refused}
+use Rattle.kinds.specs.declared.Refusal.{Refusal}
+use Rattle.kinds.specs.Refusals.{Judged, passed, refused}
 use Rattle.kinds.proofs.RefusalLaws.{passed-is, then-passed, then-next, then-refused, answer-passed, need-passed}
 use Rattle.text.specs.Left.{TextLeft, textLeft}
 use Rattle.text.proofs.LeftLaws.{text-refused, text-left}
@@ -15,7 +15,7 @@ use Rattle.table.proofs.GoodLaws.{judged-front}
 use Rattle.writing.specs.Writing.{tableText, writeLeft}
 
 module _ (given : Table) (out : List ℕ) where
-  pub write-refused : (w : Why) → refused w ≡ judgeLent given → _≡_ {A = TextLeft} (record { answer = refused w; out = out }) (writeLeft given out)
+  pub write-refused : (w : Refusal) → refused w ≡ judgeLent given → _≡_ {A = TextLeft} (record { answer = refused w; out = out }) (writeLeft given out)
   unfolding writeLeft
   write-refused w e = text-refused out (then-refused _ (sym e))
 
@@ -24,12 +24,12 @@ module _ (given : Table) (out : List ℕ) where
   write-on t e = ap (λ (j : Judged (List ℕ)). textLeft j out) (sym (then-next _ (sym e)))
 
   -- what was written is the text of the front of what was lent
-  pub record Accepted (n : ℕ) : Type 0 where
+  pub record WriteAccepted (n : ℕ) : Type 0 where
     pub judged : judgeLent given ≡ passed (front given)
     pub bytes : length (tableText (front given)) ≡ n
     pub left : writeLeft given out .out ≡ over (tableText (front given)) out
 
-  pub write-accepted : (n : ℕ) → writeLeft given out .answer ≡ passed n → Accepted n
+  pub write-accepted : (n : ℕ) → writeLeft given out .answer ≡ passed n → WriteAccepted n
   unfolding writeLeft textLeft
   write-accepted n e =
       let a = answer-passed _ _ _ (λ (l : TextLeft). l .answer) n (λ w. refl) e in

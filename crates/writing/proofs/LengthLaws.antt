@@ -1,6 +1,5 @@
 -- How long the text of a good table gets (specs/Writing.antt): each line, and by the longest line all lines. No contract cites this file.
 -- The bound is rough: only that it is no more than 65,536 bytes is asked (`never-too-long` in RoundTrip.antt).
--- Assumes nothing.
 use mathlib.Core.Path.{_≡_, refl, _∙_}
 use mathlib.Core.Bool.{true}
 use mathlib.Core.List.{List, [], _∷_, _++_}

@@ -1,5 +1,4 @@
 -- The chain of H, Z, B and C lines, both ways: a text that was read is the text of its runs of lines, and that text reads as the table. No contract cites this file.
--- Assumes nothing.
 use mathlib.Core.Path.{_≡_, sym, ap, ap₂, _∙_}
 use mathlib.Core.Bool.{true, cond}
 use mathlib.Core.List.{List, [], _++_, append-nil}
@@ -31,8 +30,8 @@ use Rattle.reading.specs.Reading.{linesOf, readText}
 use Rattle.lines.proofs.HeaderTrip.{header-read, header-written, header-one}
 use Rattle.lines.proofs.ZoneTrip.{zone-read, zone-written, zone-one}
 use Rattle.lines.proofs.BorderTrip.{BorderHeld, border-read, border-written, border-one}
-use Rattle.lines.proofs.RowTrip.{RowHeld, Held, row-read, row-written, row-one}
-use Rattle.runs.proofs.RowLaws.{none, values-at, cut, cut-long, cut-values, cut-factors, cut-at}
+use Rattle.lines.proofs.RowTrip.{RowHeld, RowHeldAt, row-read, row-written, row-one}
+use Rattle.runs.proofs.RowLaws.{emptyRow, values-at, cut, cut-long, cut-values, cut-factors, cut-at}
 use Rattle.reading.proofs.ReadLaws.{Opened, fits, nets-held, borders-held, rows-held}
 use Rattle.layout.specs.Layout.{headerText, zoneText, borderText}
 use Rattle.writing.specs.Writing.{tableText}
@@ -94,11 +93,11 @@ module _ (t : Table) (g : Good t) (s : Shaped t) where
   factors-are : factorsOf lines ≡ t .factors
   factors-are = cut-factors (t .header .zones) (t .rows) (t .factors) (exact-factors t (g .exact))
 
-  row-held : (i : ℕ) → i < t .header .rows → RowHeld (t .header .zones) (getD lines i none)
+  row-held : (i : ℕ) → i < t .header .rows → RowHeld (t .header .zones) (getD lines i emptyRow)
   row-held i h =
       let zones = t .header .zones in
-      let v : getD (t .rows) i [] ≡ getD lines i none .values = ap (λ (rows : List (List ℤ)). getD rows i []) (sym values-are) ∙ values-at lines i in
-      let f : stretch zones (t .factors) i ≡ getD lines i none .factors = sym (cut-at zones (t .rows) (t .factors) i (omega (arith, g .exact .rows-long))) in
+      let v : getD (t .rows) i [] ≡ getD lines i emptyRow .values = ap (λ (rows : List (List ℤ)). getD rows i []) (sym values-are) ∙ values-at lines i in
+      let f : stretch zones (t .factors) i ≡ getD lines i emptyRow .factors = sym (cut-at zones (t .rows) (t .factors) i (omega (arith, g .exact .rows-long))) in
       let l = stretch-long zones (t .header .rows) (t .factors) (g .exact .factors-long) i h in
       record {
         wide = ap length (sym v) ∙ s .rows-wide i h;
@@ -114,7 +113,7 @@ module _ (t : Table) (g : Good t) (s : Shaped t) where
     lines-long = lines-long;
     values-are = values-are;
     factors-are = factors-are;
-    held = fits-all (Held (t .header .zones)) none lines 0 (λ k h. row-held k (rw lines-long at h));
+    held = fits-all (RowHeldAt (t .header .zones)) emptyRow lines 0 (λ k h. row-held k (rw lines-long at h));
   }
 
   zones-fit : allFit ZoneFits 0 (t .nets)
@@ -126,7 +125,7 @@ module _ (t : Table) (g : Good t) (s : Shaped t) where
       (omega (arith, g .exact .borders-long, header-in (t .header) (g .exact .header) .borders-most), record { wide = s .borders-wide k b; fits = g .borders-fit k b }))
 
   rows-fit : allFit (RowFits (t .header .zones)) 0 lines
-  rows-fit = fits-all (RowFits (t .header .zones)) none lines 0 (λ k h. (omega (arith, lines-long, header-in (t .header) (g .exact .header) .rows-most), row-held k (rw lines-long at h)))
+  rows-fit = fits-all (RowFits (t .header .zones)) emptyRow lines 0 (λ k h. (omega (arith, lines-long, header-in (t .header) (g .exact .header) .rows-most), row-held k (rw lines-long at h)))
 
   -- the first line of the text, and what follows it
   module _ (text : List ℕ) (whole : text ≡ blocks t lines) where

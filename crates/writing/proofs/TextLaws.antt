@@ -1,5 +1,4 @@
 -- The text of a good table as its writers make it: header, Z, B and C lines, one after another, and their lengths. No contract cites this file.
--- Assumes nothing.
 use mathlib.Core.Path.{_≡_, sym, ap, _∙_}
 use mathlib.Core.List.{List, _++_, append-assoc}
 use Prim.Native.Nat.{ℕ, _+_, _*_, _-_, _≤_, _<_}

@@ -1,6 +1,5 @@
 -- No second answer, and no second content of the lent bytes, satisfies the contract of `write`.
 -- The theorem is about the contract as the checker reads it from the source (`reads.Post`), and not about a copy.
--- Assumes nothing.
 use mathlib.Core.Path.{_≡_}
 use contract.Lifetimes.{Lfts}
 use denote.Ref.{now}

@@ -1,5 +1,4 @@
 -- Writing the table (01, "The table as text"), and what the open call `write` leaves.
--- Assumes nothing.
 use mathlib.Core.List.{List, [], _++_}
 use Prim.Native.Nat.{ℕ}
 use lib.IntN.{ℤ}

@@ -11,41 +11,41 @@ use kinds::BorderRecord;
 use kinds::Header;
 use kinds::RowRecord;
 
-fn zones_out(z: &[i64], out: &mut [u8], at: usize) -> usize
+fn put_zones(z: &[i64], out: &mut [u8], at: usize) -> usize
     requires { ⌜ at + length (zonesText (now z)) ≤ length (now out) ⌝ }
     ensures { λ r. ⌜ Put (zonesText (now (z .entry))) at (now (out .entry)) r (now (out .exit)) ⌝ }
 {
     let mut next = at;
     for i in 0..z.len() {
-        next = layout::put::zone_out(i, z[i], out, next);
+        next = layout::put::put_zone(i, z[i], out, next);
     }
     next
 }
 
-fn borders_out(b: &[BorderRecord], out: &mut [u8], at: usize) -> usize
+fn put_borders(b: &[BorderRecord], out: &mut [u8], at: usize) -> usize
     requires { ⌜ at + length (bordersText (now b)) ≤ length (now out) ⌝ }
     ensures { λ r. ⌜ Put (bordersText (now (b .entry))) at (now (out .entry)) r (now (out .exit)) ⌝ }
 {
     let mut next = at;
     for i in 0..b.len() {
-        next = layout::put::border_out(i, b[i], out, next);
+        next = layout::put::put_border(i, b[i], out, next);
     }
     next
 }
 
-fn rows_out(zones: usize, c: &[RowRecord], f: &[i64], out: &mut [u8], at: usize) -> usize
+fn put_rows(zones: usize, c: &[RowRecord], f: &[i64], out: &mut [u8], at: usize) -> usize
     requires { ⌜ (length (now f) ≡ length (now c) * zones) × (0 < zones) × (zones ≤ zonesMost) × (at + length (rowsText zones (now c) (now f)) ≤ length (now out)) ⌝ }
     ensures { λ r. ⌜ Put (rowsText zones (now (c .entry)) (now (f .entry))) at (now (out .entry)) r (now (out .exit)) ⌝ }
 {
     let mut next = at;
     for i in 0..c.len() {
         let start = i * zones;
-        next = layout::put::row_out(i, c[i], &f[start..start + zones], out, next);
+        next = layout::put::put_row(i, c[i], &f[start..start + zones], out, next);
     }
     next
 }
 
-pub fn table_out(
+pub fn put_table(
     h: Header,
     z: &[i64],
     b: &[BorderRecord],
@@ -56,8 +56,8 @@ pub fn table_out(
     requires { ⌜ Good (lent h (now z) (now b) (now c) (now f)) × (length (tableText (lent h (now z) (now b) (now c) (now f))) ≤ length (now out)) ⌝ }
     ensures { λ r. ⌜ Put (tableText (lent h (now (z .entry)) (now (b .entry)) (now (c .entry)) (now (f .entry)))) 0 (now (out .entry)) r (now (out .exit)) ⌝ }
 {
-    let next = layout::put::header_out(h, out, 0);
-    let next = zones_out(z, out, next);
-    let next = borders_out(b, out, next);
-    rows_out(h.zones, c, f, out, next)
+    let next = layout::put::put_header(h, out, 0);
+    let next = put_zones(z, out, next);
+    let next = put_borders(b, out, next);
+    put_rows(h.zones, c, f, out, next)
 }

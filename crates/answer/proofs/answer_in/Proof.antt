@@ -1,5 +1,4 @@
 -- `answer::answer_in` meets its contract: a refusal of the text is written as it is told (`read-refused`), and a table that was read is the text's own (`read-printed`).
--- Assumes nothing.
 use mathlib.Core.Path.{ap, _∙_}
 use mathlib.Core.List.{List}
 use Prim.Native.Nat.{ℕ}
@@ -33,7 +32,7 @@ returns-2 c =
     let s = called .before .before .before .before .before .before .before in
     let a = s .args in
     let p = s .pre in
-    let answered = c .before .before .refusal-out .ensures in (
+    let answered = c .before .before .write-refusal .ensures in (
       answered .0
           ∙ ap (λ (text : List ℕ). textLeft (passed text) (a .out .now)) (read-refused (a .text .now) (a .z .now) (a .b .now) (a .c .now) (a .f .now) _ (called .read .ensures) (p .0) (p .1) (p .2) (p .3) _ (told .w .given .1)),
       omega (arith, answered .1),

@@ -1,4 +1,4 @@
--- `answer::answer_lent` meets its contract: the result text (`printed-result`), or the E line (`printed-refusal`). Assumes nothing.
+-- `answer::answer_lent` meets its contract: the result text (`printed-result`), or the E line (`printed-refusal`).
 use mathlib.Core.Path.{subst, _∙_}
 use Prim.Native.Nat.{_≤_}
 use native.Mathlib.Omega.{arith}
@@ -24,7 +24,7 @@ returns-2 : tie.Need-returns-2
 returns-2 c =
     let called = c .before .before .before .before .before .before .before .before .before in
     let s = called .before .before .before in
-    let answered = c .before .before .refusal-out .ensures in
+    let answered = c .before .before .write-refusal .ensures in
     (answered .0 ∙ printed-refusal (given s) (s .args .out .now) _ _ (called .make .ensures .0) _ (c .before .before .before .before .before .w .given .1), omega (arith, answered .1))
 
 pub answer-lent-spec : {M : Type 1} → statement M

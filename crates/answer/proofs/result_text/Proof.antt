@@ -1,4 +1,4 @@
--- `answer::result_text` meets its contract: what was made is told (`result-told`, `result-refused`). Assumes nothing.
+-- `answer::result_text` meets its contract: what was made is told (`result-told`, `result-refused`).
 use borrow.Author.Needs.{needs}
 use Rattle.table.specs.Table.{Table, lent}
 use Rattle.answer.proofs.OutcomeLaws.{result-told, result-refused}

@@ -1,4 +1,4 @@
--- `cabi::code_extracted` meets its contract. Assumes nothing.
+-- `cabi::code_extracted` meets its contract.
 use mathlib.Core.Path.{sym, ap}
 use borrow.Author.Needs.{needs}
 use Rattle.kinds.specs.declared.Extracted.{Extracted}
@@ -11,9 +11,7 @@ returns : tie.Need-returns
 returns c = sym (ap (λ (r : Extracted). codedExtracted (saidExtracted r)) (c .before .said .given .1))
 
 returns-2 : tie.Need-returns-2
-returns-2 c =
-    rw (c .before .refusal-number .ensures, c .refusal-place .ensures)
-    (sym (ap (λ (r : Extracted). codedExtracted (saidExtracted r)) (c .before .before .before .said2 .given .1)))
+returns-2 c = sym (ap (λ (r : Extracted). codedExtracted (saidExtracted r)) (c .before .said2 .given .1))
 
 pub code-extracted-spec : {M : Type 1} → statement M
-code-extracted-spec = tie.close (tie.spec (λ c. search needs) (λ c. search needs) (λ c κs. search needs) (λ c κs. search needs) returns returns-2)
+code-extracted-spec = tie.close (tie.spec (λ c. search needs) (λ c. search needs) returns returns-2)

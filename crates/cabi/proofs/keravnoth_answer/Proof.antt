@@ -1,4 +1,4 @@
--- `cabi::keravnoth_answer` meets its contract: what `answer` leaves, coded. Assumes nothing.
+-- `cabi::keravnoth_answer` meets its contract: what `answer` leaves, coded.
 use mathlib.Core.Path.{ap}
 use borrow.Author.Needs.{needs}
 use Rattle.cabi.specs.Coded.{textCoded}

@@ -1,4 +1,4 @@
--- `cabi::keravnoth_corner_flows` meets its contract: what `corner_flows` leaves, coded. Assumes nothing.
+-- `cabi::keravnoth_corner_flows` meets its contract: what `corner_flows` leaves, coded.
 use mathlib.Core.Path.{ap}
 use borrow.Author.Needs.{needs}
 use Rattle.cabi.specs.Coded.{flowsCoded}

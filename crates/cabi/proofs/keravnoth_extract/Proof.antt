@@ -1,4 +1,4 @@
--- `cabi::keravnoth_extract` meets its contract: what `extract` leaves, coded. Assumes nothing.
+-- `cabi::keravnoth_extract` meets its contract: what `extract` leaves, coded.
 use mathlib.Core.Path.{ap}
 use borrow.Author.Needs.{needs}
 use Rattle.cabi.specs.Coded.{extractCoded}

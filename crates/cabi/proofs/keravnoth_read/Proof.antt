@@ -1,4 +1,4 @@
--- `cabi::keravnoth_read` meets its contract: what `read` leaves, coded. Assumes nothing.
+-- `cabi::keravnoth_read` meets its contract: what `read` leaves, coded.
 use mathlib.Core.Path.{ap}
 use borrow.Author.Needs.{needs}
 use Rattle.cabi.specs.Coded.{readCoded}

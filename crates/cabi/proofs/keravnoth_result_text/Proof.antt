@@ -1,4 +1,4 @@
--- `cabi::keravnoth_result_text` meets its contract: what `result_text` leaves, coded. Assumes nothing.
+-- `cabi::keravnoth_result_text` meets its contract: what `result_text` leaves, coded.
 use mathlib.Core.Path.{ap}
 use borrow.Author.Needs.{needs}
 use Rattle.cabi.specs.Coded.{textCoded}

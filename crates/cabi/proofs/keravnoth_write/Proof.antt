@@ -1,4 +1,4 @@
--- `cabi::keravnoth_write` meets its contract: what `write` leaves, coded. Assumes nothing.
+-- `cabi::keravnoth_write` meets its contract: what `write` leaves, coded.
 use mathlib.Core.Path.{ap}
 use borrow.Author.Needs.{needs}
 use Rattle.cabi.specs.Coded.{textCoded}

@@ -1,5 +1,4 @@
 -- `cases::main` is safe and ends. Nothing need be known of the task; the measure is the number of arguments left.
--- Assumes nothing.
 use Prim.Native.Nat.{_-_}
 use native.Mathlib.Omega.{arith}
 use Rattle.cases.proofs.main.Statement.{statement}

@@ -1,11 +1,11 @@
 -- `corners::list_corners` calls itself with the borders but the last: the measure is the number of borders that remain.
 -- No border: one corner of flow 0. Else the shorter list's corners, and after them the same with the last border used (`list-more`).
--- Assumes nothing.
 use mathlib.Core.Path.{_≡_, sym, _∙_}
 use Prim.Native.Nat.{ℕ, _<_}
 use native.Mathlib.Omega.{arith}
 use lib.IntN.{pos}
 use lib.ListN.{length, length-set}
+use lib.Pow.{pow-pos}
 use mir.Facts.{toZ-ofZ}
 use mir.Syntax.{w64}
 use mir.Val.{SFits}
@@ -13,7 +13,6 @@ use borrow.Fn.Kinds.{In}
 use borrow.Fn.PlainCycle.{Measures, is, falls, and}
 use Rattle.numbers.specs.Ints.{Within}
 use Rattle.numbers.proofs.IntLaws.{within-fits}
-use Rattle.margin.proofs.Corner.{two-pos}
 use Rattle.corners.specs.Listed.{partMost}
 use Rattle.corners.proofs.ListedLaws.{list-none, part-of-within, shorter-long, shorter-bound, shorter-room, room-used, within-used, list-more}
 use Rattle.corners.proofs.list_corners.Reads as reads
@@ -41,7 +40,7 @@ module _ (t : ℕ) where
 
   -- ---- no border
   some-room : (c : lts.Then1 callees (given t) reads.Post) → 0 < length (c .before .args .out .now)
-  some-room c = omega (arith, two-pos (length (c .before .args .borders .now)), c .before .pre .1 .1 .1 .1)
+  some-room c = omega (arith, pow-pos (length (c .before .args .borders .now)), c .before .pre .1 .1 .1 .1)
 
   slice-set-of-out : lts.Need-slice-set-of-out callees (given t) reads.Post
   slice-set-of-out c = some-room c

@@ -1,4 +1,4 @@
--- `corners::corner_count` meets its contract: 2 ^ 12 is far below where a shift loses bits. Assumes nothing.
+-- `corners::corner_count` meets its contract: 2 ^ 12 is far below where a shift loses bits.
 use mathlib.Core.Path.{_∙_}
 use native.Mathlib.Nat.{one-mul}
 use native.Mathlib.Omega.{arith}

@@ -1,4 +1,4 @@
--- `corners::corner_flows` meets its contract: a judgement, the room, and then the sheet of the front parts. Assumes nothing.
+-- `corners::corner_flows` meets its contract: a judgement, the room, and then the sheet of the front parts.
 use mathlib.Core.Path.{_≡_, sym, ap, _∙_}
 use native.Mathlib.Omega.{arith}
 use borrow.Author.Needs.{needs}
@@ -38,8 +38,8 @@ corner-count-requires c κs = has-sheet c .few
 
 returns-2 : tie.Need-returns-2
 returns-2 c =
-    let d = c .before .before in
-    sym (corners-short (given (start d)) _ _ _ (judged d) _ (c .before .corner-count .ensures) (c .if1 .taken))
+    let d = c .before .before .before in
+    rw (c .too-short .ensures) (sym (corners-short (given (start d)) _ _ _ (judged d) _ (c .before .before .corner-count .ensures) (c .before .if1 .taken)))
 
 mul-factors : tie.Need-mul-factors
 mul-factors c = let d = c .before .before .before in omega (arith, factors-most _ (has-sheet d .good .exact .header))
@@ -71,6 +71,7 @@ corner-flows-spec =
     returns
     (λ c. search needs)
     corner-count-requires
+    (λ c κs. search needs)
     returns-2
     mul-factors
     slice-aggregate-list-row

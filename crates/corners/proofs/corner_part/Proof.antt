@@ -1,4 +1,4 @@
--- `corners::corner_part` meets its contract. Assumes nothing.
+-- `corners::corner_part` meets its contract.
 use mathlib.Core.Path.{_≡_, ap, ap₂, _∙_}
 use Prim.Native.Nat.{ℕ, _*_, _≤_}
 use native.Mathlib.Omega.{arith}

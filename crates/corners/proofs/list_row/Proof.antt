@@ -1,4 +1,4 @@
--- `corners::list_row` meets its contract. Assumes nothing.
+-- `corners::list_row` meets its contract.
 use mathlib.Core.Path.{sym, subst}
 use Prim.Native.Nat.{ℕ}
 use borrow.Author.Needs.{needs}

@@ -1,6 +1,5 @@
 -- `corners::list_used` meets its contract. The loop's invariant: the flows up to k are listed, those from k on are as they were.
 -- The measure is what is left to list.
--- Assumes nothing.
 use mathlib.Core.Path.{refl}
 use Prim.Native.Nat.{_-_}
 use native.Mathlib.Omega.{arith}
@@ -12,7 +11,7 @@ use Rattle.numbers.specs.Ints.{Within}
 use Rattle.numbers.proofs.IntLaws.{within-fits}
 use Rattle.kinds.specs.Ranges.{atℤ}
 use Rattle.margin.proofs.BoundLaws.{within-add}
-use Rattle.corners.specs.Listed.{flowMost}
+use Rattle.corners.specs.Listed.{cornerFlowMost}
 use Rattle.corners.proofs.ListedLaws.{Using, using-none, using-within, using-more, using-all}
 use Rattle.corners.proofs.list_used.Statement.{statement}
 use Rattle.corners.proofs.list_used.Tie as tie
@@ -31,7 +30,7 @@ module _ (c : tie.After-out Inv-loop μ-loop) where
   abbrev read : ℤ
   read = atℤ (c .before .before .loop .out) (c .before .before .loop .k - start .args .count)
 
-  read-in : Within flowMost read
+  read-in : Within cornerFlowMost read
   read-in = using-within _ _ _ (start .pre .1 .1) (c .before .before .loop .inv) (start .pre .1 .0) (omega arith)
 
   read-fits : SFits w64 read

@@ -1,5 +1,4 @@
 -- `cornertext::corner_text` meets its contract: the flows in working memory, which has room for every sheet, and then their text.
--- Assumes nothing.
 use mathlib.Core.Path.{sym, _∙_}
 use Prim.Native.Nat.{ℕ}
 use native.Mathlib.Nat.{le-refl}
@@ -7,7 +6,7 @@ use borrow.Author.Needs.{needs}
 use lib.Seq.{length-take-le}
 use Rattle.table.specs.Table.{Table, lent}
 use Rattle.cornertext.specs.CornerText.{sheetMost}
-use Rattle.cornertext.proofs.CornerTextLaws.{Told, told-refused, told-passed, text-on}
+use Rattle.cornertext.proofs.CornerTextLaws.{FlowsTold, told-refused, told-passed, text-on}
 use Rattle.cornertext.proofs.corner_text.Statement.{statement}
 use Rattle.cornertext.proofs.corner_text.Tie as tie
 
@@ -26,7 +25,7 @@ module _ (c : tie.After-filled2) where
   abbrev count : ℕ
   count = c .filled2 .given .0 .0
 
-  told : Told (given start) (start .args .row) count (filled .corner-flows .last .1 .1 .1 .1 .1 .1 .0)
+  told : FlowsTold (given start) (start .args .row) count (filled .corner-flows .last .1 .1 .1 .1 .1 .1 .0)
   told = told-passed (given start) (start .args .row) _ _ (filled .corner-flows .ensures) (le-refl sheetMost) count (c .filled2 .given .1)
 
 array-share-prefix-flows : tie.Need-array-share-prefix-flows

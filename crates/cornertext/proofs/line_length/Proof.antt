@@ -1,4 +1,4 @@
--- `cornertext::line_length` meets its contract: a machine number has at most 20 bytes. Assumes nothing.
+-- `cornertext::line_length` meets its contract: a machine number has at most 20 bytes.
 use mathlib.Core.Path.{_≡_}
 use Prim.Native.Nat.{_≤_}
 use native.Mathlib.Omega.{arith}
@@ -7,7 +7,7 @@ use lib.ListN.{length}
 use mir.Facts.{toZ-ofZ}
 use Rattle.text.specs.Written.{decimalℤ}
 use Rattle.text.proofs.DigitLaws.{decimal-u64, decimal-i64}
-use Rattle.cornertext.proofs.CornerTextLaws.{line-long}
+use Rattle.cornertext.proofs.CornerTextLaws.{corner-line-long}
 use Rattle.cornertext.proofs.line_length.Statement.{statement}
 use Rattle.cornertext.proofs.line_length.Tie as tie
 
@@ -36,7 +36,7 @@ add-result-3 c = omega (arith, row-short (c .before .before), corner-short (c .b
 returns : tie.Need-returns
 returns c =
     let s = c .before .before .before in (
-      omega (arith, line-long (s .args .row) (s .args .corner) (s .args .flow), c .before .before .digit-count .ensures, c .before .digit-count2 .ensures, flow-is c),
+      omega (arith, corner-line-long (s .args .row) (s .args .corner) (s .args .flow), c .before .before .digit-count .ensures, c .before .digit-count2 .ensures, flow-is c),
       omega (arith, row-short (c .before .before), corner-short (c .before), flow-short c),
     )
 

@@ -1,4 +1,4 @@
--- `cornertext::put_corner` meets its contract: letter, fields and LF are a chain of writes (`Begun`). Assumes nothing.
+-- `cornertext::put_corner` meets its contract: letter, fields and LF are a chain of writes (`Begun`).
 use mathlib.Core.List.{List, [], _∷_}
 use Prim.Native.Char.{code}
 use Prim.Native.Nat.{ℕ}

@@ -1,5 +1,4 @@
 -- `cornertext::put_corners` meets its contract. The loop's invariant: the first k lines are written. The measure is the corners that are left.
--- Assumes nothing.
 use Prim.Native.Nat.{_≤_, _-_}
 use native.Mathlib.Nat.{zero-add}
 use native.Mathlib.Omega.{arith}

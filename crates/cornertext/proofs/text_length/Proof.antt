@@ -1,6 +1,5 @@
 -- `cornertext::text_length` meets its contract. The loop's invariant: the lengths of the first k lines are added up (`Measured`).
 -- The measure is the corners that are left.
--- Assumes nothing.
 use mathlib.Core.Path.{_≡_}
 use Prim.Native.Nat.{_-_}
 use native.Mathlib.Omega.{arith}

@@ -1,4 +1,4 @@
--- `extraction::extract` meets its contract: the judging that every call begins with, and then the front parts, a judged table. Assumes nothing.
+-- `extraction::extract` meets its contract: the judging that every call begins with, and then the front parts, a judged table.
 use mathlib.Core.Path.{sym, _∙_}
 use native.Mathlib.Omega.{arith}
 use borrow.Author.Needs.{needs}

@@ -1,11 +1,11 @@
--- `extraction::extract_in` meets its contract: a return for each judgement that may decide, and the last for what is stored. Assumes nothing.
+-- `extraction::extract_in` meets its contract: a return for each judgement that may decide, and the last for what is stored.
 use mathlib.Core.Path.{_≡_, ap, _∙_}
 use borrow.Author.Needs.{needs}
 use Rattle.kinds.specs.Refusals.{passed}
 use Rattle.table.specs.Table.{lent}
 use Rattle.start.specs.Start.{rowsOf, judgeTable}
 use Rattle.start.proofs.StartLaws.{PreparedAs, prepared-as}
-use Rattle.extraction.specs.Extraction.{stored}
+use Rattle.extraction.specs.Extraction.{resultStored}
 use Rattle.extraction.proofs.ExtractLaws.{start-turned, start-passed, finishable, result-is, start-refused, short-borders, short-rows, all-stored}
 use Rattle.extraction.proofs.extract_in.Statement.{statement}
 use Rattle.extraction.proofs.extract_in.Tie as tie
@@ -39,10 +39,10 @@ returns c =
     start-refused _ _ _ (start-turned (entry at-prepare .pre .0) (as-said at-prepare) (c .before .w .given .1))
 
 returns-2 : tie.Need-returns-2
-returns-2 c = short-borders _ _ _ (passes (c .before)) (c .if1 .taken)
+returns-2 c = rw (c .too-short .ensures) (short-borders _ _ _ (passes (c .before .before)) (c .before .if1 .taken))
 
 returns-3 : tie.Need-returns-3
-returns-3 c = short-rows _ _ _ (passes (c .before .before)) (c .before .if1 .left) (c .if2 .taken)
+returns-3 c = rw (c .too-short2 .ensures) (short-rows _ _ _ (passes (c .before .before .before)) (c .before .before .if1 .left) (c .before .if2 .taken))
 
 finish-requires : tie.Need-finish-requires
 finish-requires c κs =
@@ -54,7 +54,7 @@ returns-4 c =
     let at-told = c .before .before .before .before .before .before .before .before .before .before .before .before .before in
     let at-prepare = prepared-at at-told in
     c .before .before .before .before .finish .ensures
-    ∙ ap (stored _ _) (result-is (entry at-prepare .pre .0) (as-said at-prepare))
+    ∙ ap (resultStored _ _) (result-is (entry at-prepare .pre .0) (as-said at-prepare))
     ∙ all-stored _ _ _ (passes at-told) (c .before .before .before .before .before .before .before .before .before .before .before .before .if1 .left) (c .before .before .before .before .before .before .before .before .before .before .before .if2 .left)
 
 pub extract-in-spec : {M : Type 1} → statement M
@@ -70,12 +70,14 @@ extract-in-spec =
     (λ c. search needs)
     returns
     (λ c. search needs)
+    (λ c κs. search needs)
     (λ c. search needs)
     (λ c. search needs)
     (λ c. search needs)
     (λ c. search needs)
     (λ c. search needs)
     returns-2
+    (λ c κs. search needs)
     (λ c. search needs)
     (λ c. search needs)
     (λ c. search needs)

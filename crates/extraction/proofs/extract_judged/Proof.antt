@@ -1,4 +1,4 @@
--- `extraction::extract_judged` meets its contract, which is that of `extract_in`: each part of the room is as long as the header says. Assumes nothing.
+-- `extraction::extract_judged` meets its contract, which is that of `extract_in`: each part of the room is as long as the header says.
 use mathlib.Core.Path.{sym}
 use native.Mathlib.Nat.{mul-le-mul}
 use native.Mathlib.Omega.{arith}

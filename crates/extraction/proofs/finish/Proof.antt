@@ -1,4 +1,4 @@
--- `extraction::finish` meets its contract: the margins are filled in, the rounds run, and what they leave is stored (`stored-is`). Assumes nothing.
+-- `extraction::finish` meets its contract: the margins are filled in, the rounds run, and what they leave is stored (`stored-is`).
 use mathlib.Core.Path.{_≡_, sym, _∙_}
 use native.Mathlib.Omega.{arith}
 use borrow.Author.Needs.{needs}

@@ -1,4 +1,4 @@
--- `extraction::run` meets its contract, which is that of `run_in`: there is room for n of each row. Assumes nothing.
+-- `extraction::run` meets its contract, which is that of `run_in`: there is room for n of each row.
 use mathlib.Core.Path.{sym}
 use borrow.Author.Needs.{needs}
 use lib.Seq.{length-take-le}

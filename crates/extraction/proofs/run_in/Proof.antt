@@ -1,4 +1,4 @@
--- `extraction::run_in` meets its contract: the rounds start at LTA, with n of each row. Assumes nothing.
+-- `extraction::run_in` meets its contract: the rounds start at LTA, with n of each row.
 use native.Mathlib.Omega.{arith}
 use borrow.Author.Needs.{needs}
 use Rattle.extraction.proofs.ExtractLaws.{run-startable, run-ended}

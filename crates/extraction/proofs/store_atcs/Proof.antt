@@ -1,10 +1,10 @@
--- `extraction::store_atcs` meets its contract. The invariant: the first b records are stored, and the rest is as it was. Assumes nothing.
+-- `extraction::store_atcs` meets its contract. The invariant: the first b records are stored, and the rest is as it was.
 use Prim.Native.Nat.{_-_}
 use native.Mathlib.Omega.{arith}
 use lib.ListN.{length}
 use Rattle.numbers.specs.Below.{at}
 use Rattle.numbers.proofs.ListLaws.{Filled, filled-none, filled-more, filled-over}
-use Rattle.extraction.specs.Work.{atcOfKw}
+use Rattle.extraction.specs.Extraction.{atcOfKw}
 use Rattle.extraction.proofs.store_atcs.Statement.{statement}
 use Rattle.extraction.proofs.store_atcs.Tie as tie
 

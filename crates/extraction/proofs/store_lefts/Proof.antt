@@ -1,4 +1,4 @@
--- `extraction::store_lefts` meets its contract. The invariant: the first i records are stored, and the rest is as it was. Assumes nothing.
+-- `extraction::store_lefts` meets its contract. The invariant: the first i records are stored, and the rest is as it was.
 use Prim.Native.Nat.{_-_}
 use native.Mathlib.Omega.{arith}
 use lib.ListN.{length}
@@ -6,7 +6,7 @@ use Rattle.numbers.specs.Below.{at}
 use Rattle.numbers.proofs.ListLaws.{Filled, filled-none, filled-more, filled-over}
 use Rattle.numbers.proofs.IntLaws.{plain}
 use Rattle.kinds.specs.Ranges.{atℤ}
-use Rattle.extraction.specs.Work.{leftOfRow}
+use Rattle.extraction.specs.Extraction.{leftOfRow}
 use Rattle.extraction.proofs.store_lefts.Statement.{statement}
 use Rattle.extraction.proofs.store_lefts.Tie as tie
 

@@ -1,4 +1,4 @@
--- `keravnoth::put` meets its contract. Assumes nothing.
+-- `keravnoth::put` meets its contract.
 use borrow.Author.Needs.{needs}
 use Rattle.keravnoth.proofs.put.Statement.{statement}
 use Rattle.keravnoth.proofs.put.Tie as tie

@@ -1,5 +1,5 @@
 -- `keravnoth::read_text` meets its contract. The invariant: what was read is within the text, whose length has not changed. The measure is the room left:
--- a read that takes nothing ends the loop. Assumes nothing.
+-- a read that takes nothing ends the loop.
 use Prim.Native.Nat.{_≤_, _-_}
 use mathlib.Core.Path.{_≡_, subst}
 use native.Mathlib.Omega.{arith}

@@ -1,4 +1,4 @@
--- `keravnoth::run_in` is safe: what was read lies within its buffer. Assumes nothing.
+-- `keravnoth::run_in` is safe: what was read lies within its buffer.
 use mathlib.Core.Path.{subst}
 use Rattle.keravnoth.specs.declared.Input.{Input}
 use Rattle.keravnoth.specs.Taken.{within}

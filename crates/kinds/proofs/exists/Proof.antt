@@ -1,4 +1,4 @@
--- `kinds::exists` meets its contract: the cast is made only where the number is not below 0. Assumes nothing.
+-- `kinds::exists` meets its contract: the cast is made only where the number is not below 0.
 use mir.Facts.{toZ-ofZ, fits-natAbs}
 use Rattle.kinds.specs.Ranges.{exists}
 use Rattle.kinds.proofs.KindLaws.{not-below, exists-test}

@@ -1,4 +1,4 @@
--- `margin::amr` meets its contract. Assumes nothing.
+-- `margin::amr` meets its contract.
 use mathlib.Core.Path.{_≡_, _∙_}
 use Prim.Native.Nat.{_+_, _*_}
 use native.Mathlib.Nat.{le-refl}

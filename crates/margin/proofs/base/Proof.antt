@@ -1,4 +1,4 @@
--- `margin::base` meets its contract. Assumes nothing.
+-- `margin::base` meets its contract.
 use mathlib.Core.Path.{_≡_}
 use borrow.Author.Needs.{sfits-of}
 use native.Mathlib.Omega.{arith}

@@ -1,5 +1,5 @@
 -- `margin::f0core` meets its contract. The loop's invariant: what is there is Fref less the products of the first z zones.
--- The measure is the zones that are left. Assumes nothing.
+-- The measure is the zones that are left.
 use mathlib.Core.Path.{_≡_, _∙_}
 use Prim.Native.Nat.{ℕ, _+_, _-_, _≤_, _<_}
 use native.Mathlib.Omega.{arith}

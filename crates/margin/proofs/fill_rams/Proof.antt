@@ -1,5 +1,4 @@
 -- `margin::fill_rams` meets its contract. The loop's invariant: the first i rows have their RAM, and RAM - S. The measure is the rows that are left.
--- Assumes nothing.
 use mathlib.Core.Path.{_≡_, sym, ap, ap₂, subst, _∙_}
 use mathlib.Core.List.{List, []}
 use Prim.Native.Nat.{ℕ, _-_, _<_}
@@ -27,10 +26,10 @@ record Head (t : Table) (rams₀ starts₀ rams starts : List ℤ) (i : ℕ) : T
   starts-filled : Filled (marginOf t) (t .header .rows) starts₀ starts i
 
 abbrev Inv-loop : tie.InvT-loop
-Inv-loop header z b c f rams₀ starts₀ i₀ i-end rams starts i = Head (lent header z b c f) rams₀ starts₀ rams starts i
+Inv-loop h z b c f rams₀ starts₀ i₀ i-end rams starts i = Head (lent h z b c f) rams₀ starts₀ rams starts i
 
 abbrev μ-loop : tie.MeasureT-loop
-μ-loop header z b c f rams₀ starts₀ i₀ i-end rams starts i = header .rows - i
+μ-loop h z b c f rams₀ starts₀ i₀ i-end rams starts i = h .rows - i
 
 -- RAM of the row, and RAM - S, from what the calls gave
 module _ (t : Table) (i : ℕ) {factors : List ℤ} {s : ℕ} {ram : ℤ} (e : factors ≡ stretch (t .header .zones) (t .factors) i) (u : s ≡ sOf factors (t .borders))
@@ -53,10 +52,10 @@ module _ (c : tie.After-row-factors Inv-loop μ-loop) where
   abbrev start : tie.Start Inv-loop μ-loop
   start = c .before .before .before
 
-  below : c .before .before .loop .i < start .args .header .rows
+  below : c .before .before .loop .i < start .args .h .rows
   below = omega arith
 
-  abbrev long : length (c .row-factors .result .now) ≡ start .args .header .zones
+  abbrev long : length (c .row-factors .result .now) ≡ start .args .h .zones
   long = part-long (good-factors (start .pre .0)) (c .before .before .loop .i) below (c .row-factors .ensures)
 
 s-requires : tie.Need-s-requires Inv-loop μ-loop
@@ -94,7 +93,7 @@ module _ (c : tie.After-row-ram Inv-loop μ-loop) where
   abbrev t : Table
   t =
       let a = start at-factors .args in
-      lent (a .header) (a .z .now) (a .b .now) (a .c .now) (a .f .now)
+      lent (a .h) (a .z .now) (a .b .now) (a .c .now) (a .f .now)
 
   abbrev i : ℕ
   i = at-factors .before .before .loop .i

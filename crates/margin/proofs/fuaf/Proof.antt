@@ -1,4 +1,4 @@
--- `margin::fuaf` meets its contract. Assumes nothing.
+-- `margin::fuaf` meets its contract.
 use mathlib.Core.Path.{_≡_}
 use borrow.Author.Needs.{needs, sfits-of}
 use lib.IntN.{_-ℤ_}

@@ -1,4 +1,4 @@
--- `margin::grains` meets its contract. Assumes nothing.
+-- `margin::grains` meets its contract.
 use mir.Facts.{toZ-ofZ}
 use Rattle.numbers.proofs.IntLaws.{within-fits}
 use Rattle.margin.specs.Margin.{grains}

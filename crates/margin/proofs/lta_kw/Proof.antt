@@ -1,4 +1,4 @@
--- `margin::lta_kw` meets its contract. Assumes nothing.
+-- `margin::lta_kw` meets its contract.
 use mathlib.Core.Path.{refl}
 use native.Mathlib.Omega.{arith}
 use Rattle.margin.specs.Margin.{ltaKw}

@@ -1,4 +1,4 @@
--- `margin::lta_load` meets its contract. Assumes nothing.
+-- `margin::lta_load` meets its contract.
 use mathlib.Core.Path.{_≡_}
 use Prim.Native.Nat.{_*_}
 use native.Mathlib.Omega.{arith}

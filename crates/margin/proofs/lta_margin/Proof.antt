@@ -1,4 +1,4 @@
--- `margin::lta_margin` meets its contract. Assumes nothing.
+-- `margin::lta_margin` meets its contract.
 use mathlib.Core.Path.{_≡_, _∙_}
 use native.Mathlib.Omega.{arith}
 use borrow.Author.Needs.{needs, sfits-of}

@@ -1,4 +1,4 @@
--- `margin::p` meets its contract: the positive part of the signed factor. Assumes nothing.
+-- `margin::p` meets its contract: the positive part of the signed factor.
 use mir.Facts.{toZ-ofZ}
 use borrow.Author.Needs.{needs, sfits-of}
 use Rattle.margin.specs.Margin.{pOf}

@@ -1,4 +1,4 @@
--- `margin::row_factors` meets its contract. Assumes nothing.
+-- `margin::row_factors` meets its contract.
 use mathlib.Core.Path.{_≡_, ap}
 use Prim.Native.Nat.{ℕ, _+_, _*_, _-_}
 use native.Mathlib.Omega.{arith}
@@ -25,8 +25,8 @@ returns : tie.Need-returns
 unfolding stretch
 returns c =
     let a = c .before .args in
-    let e : a .i * a .header .zones + a .header .zones - a .i * a .header .zones ≡ a .header .zones = omega arith in
-    ap (λ (n : ℕ). take n (drop (a .i * a .header .zones) (a .f .now))) e
+    let e : a .i * a .h .zones + a .h .zones - a .i * a .h .zones ≡ a .h .zones = omega arith in
+    ap (λ (n : ℕ). take n (drop (a .i * a .h .zones) (a .f .now))) e
 
 pub row-factors-spec : {M : Type 1} → statement M
 row-factors-spec =

@@ -1,4 +1,4 @@
--- `margin::row_ram` meets its contract. Assumes nothing.
+-- `margin::row_ram` meets its contract.
 use mathlib.Core.Path.{_≡_, _∙_}
 use native.Mathlib.Omega.{arith}
 use borrow.Author.Needs.{sfits-of}

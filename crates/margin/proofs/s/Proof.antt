@@ -1,5 +1,4 @@
 -- `margin::s` meets its contract. The loop's invariant: what is there is the sum over the first b borders. The measure is the borders that are left.
--- Assumes nothing.
 use mathlib.Core.Path.{_≡_, _∙_}
 use Prim.Native.Nat.{ℕ, _+_, _-_, _≤_, _<_}
 use native.Mathlib.Omega.{arith}

@@ -1,4 +1,4 @@
--- `margin::signed_factor` meets its contract. Assumes nothing.
+-- `margin::signed_factor` meets its contract.
 use borrow.Author.Needs.{needs}
 use lib.IntN.{ℤ, _-ℤ_}
 use mir.Facts.{toZ-ofZ}

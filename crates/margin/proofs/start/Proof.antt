@@ -1,4 +1,4 @@
--- `margin::start` meets its contract. Assumes nothing.
+-- `margin::start` meets its contract.
 use mathlib.Core.Path.{_≡_}
 use lib.IntN.{pos, _-ℤ_}
 use mir.Facts.{toZ-ofZ}

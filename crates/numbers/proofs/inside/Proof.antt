@@ -1,4 +1,4 @@
--- `numbers::inside` meets its contract. Assumes nothing.
+-- `numbers::inside` meets its contract.
 use mir.Facts.{toZ-ofZ}
 use Rattle.numbers.specs.Ints.{inside}
 use Rattle.numbers.proofs.inside.Statement.{statement}

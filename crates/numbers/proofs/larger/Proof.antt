@@ -1,4 +1,4 @@
--- `numbers::larger` meets its contract. Assumes nothing.
+-- `numbers::larger` meets its contract.
 use mathlib.Core.Path.{_∙_}
 use mir.Facts.{toZ-ofZ}
 use Rattle.numbers.proofs.IntLaws.{max-left, max-right}

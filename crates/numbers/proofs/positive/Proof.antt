@@ -1,4 +1,4 @@
--- `numbers::positive` meets its contract. Assumes nothing.
+-- `numbers::positive` meets its contract.
 use mir.Facts.{toZ-ofZ, fits-natAbs}
 use Rattle.numbers.proofs.IntLaws.{above-nonNeg, above-part, below-part}
 use Rattle.numbers.proofs.positive.Statement.{statement}

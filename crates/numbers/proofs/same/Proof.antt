@@ -1,4 +1,4 @@
--- `numbers::same` meets its contract: two numbers are the same where their bits are. Assumes nothing.
+-- `numbers::same` meets its contract: two numbers are the same where their bits are.
 use Rattle.numbers.proofs.IntLaws.{same-test}
 use Rattle.numbers.proofs.same.Statement.{statement}
 use Rattle.numbers.proofs.same.Tie as tie

@@ -1,4 +1,4 @@
--- `numbers::smaller` meets its contract. Assumes nothing.
+-- `numbers::smaller` meets its contract.
 use mathlib.Core.Path.{_∙_}
 use mir.Facts.{toZ-ofZ}
 use Rattle.numbers.proofs.IntLaws.{min-left, min-right}

@@ -1,4 +1,4 @@
--- `reading::read_judged` meets its contract: the first short table is named, or else each has the text's items in front (`front-filled`). Assumes nothing.
+-- `reading::read_judged` meets its contract: the first short table is named, or else each has the text's items in front (`front-filled`).
 use mathlib.Core.Path.{_≡_, sym, _∙_}
 use native.Mathlib.Omega.{arith}
 use lib.ListN.{length, take}

@@ -1,4 +1,4 @@
--- `reading::read_with` meets its contract: a refused text leaves all as it was (`text-refused`), and a good one goes on. Assumes nothing.
+-- `reading::read_with` meets its contract: a refused text leaves all as it was (`text-refused`), and a good one goes on.
 use mathlib.Core.Path.{sym, ap, subst, _∙_}
 use Rattle.reading.specs.declared.judged.TextJudged.{TextJudged}
 use Rattle.reading.specs.Places.{tableIn, placedIn}

@@ -1,5 +1,4 @@
 -- `resting::clear` meets its contract: the first b items are 0 (`Filled`).
--- Assumes nothing.
 use mathlib.Core.Path.{refl}
 use Prim.Native.Nat.{ℕ, _-_}
 use native.Mathlib.Omega.{arith}

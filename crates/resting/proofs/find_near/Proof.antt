@@ -1,5 +1,4 @@
 -- `resting::find_near` meets its contract: each of the first i rows is listed or may rest (`Sorting`). The raises are those of the margins, so n times the most part is within the margin.
--- Assumes nothing.
 use mathlib.Core.Path.{sym, _∙_}
 use mathlib.Core.Logic.{⊎-elim}
 use Prim.Native.Nat.{_-_}

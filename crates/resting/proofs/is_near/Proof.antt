@@ -1,5 +1,4 @@
 -- `resting::is_near` meets its contract, which says its test. The product is within the margin, and so fits.
--- Assumes nothing.
 use mathlib.Core.Path.{refl}
 use native.Mathlib.Omega.{arith}
 use Rattle.resting.proofs.is_near.Statement.{statement}

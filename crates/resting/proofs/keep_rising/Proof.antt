@@ -1,5 +1,4 @@
 -- `resting::keep_rising` meets its contract: of the first j listed borders those above 0 stand in front (`Keeping`).
--- Assumes nothing.
 use mathlib.Core.Logic.{⊎-elim}
 use Prim.Native.Nat.{_-_}
 use native.Mathlib.Omega.{arith}

@@ -1,5 +1,4 @@
 -- `resting::near_row` meets its contract: the two cases of `nearRow`.
--- Assumes nothing.
 use mathlib.Core.Path.{sym}
 use native.Mathlib.Omega.{arith}
 use Rattle.resting.proofs.SortLaws.{near-listed, near-past}

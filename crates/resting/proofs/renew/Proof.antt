@@ -1,5 +1,4 @@
 -- `resting::renew` meets its contract: either the block goes on as it is, or the losses are taken and the rows sorted, which changes no margin of the rules (`waiting-block`, `block-same`).
--- Assumes nothing.
 use mathlib.Core.Path.{refl}
 use native.Mathlib.Omega.{arith}
 use Rattle.resting.proofs.WalkLaws.{waiting-settleable, waiting-bounds, block-sortable, block-same, waiting-block}

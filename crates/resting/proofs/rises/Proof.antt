@@ -1,5 +1,4 @@
 -- `resting::rises` meets its contract: none of the first j listed borders rises (`Still`), and where one does, it counts.
--- Assumes nothing.
 use Prim.Native.Nat.{_-_}
 use native.Mathlib.Omega.{arith}
 use Rattle.resting.proofs.KeepLaws.{Still, still-none, still-more, still-some, still-all}

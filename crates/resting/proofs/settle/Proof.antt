@@ -1,5 +1,4 @@
 -- `resting::settle` meets its contract: the rows before i have lost what was gained (`Filled`). A row's loss is within its margin, and so fits.
--- Assumes nothing.
 use Prim.Native.Nat.{_-_}
 use native.Mathlib.Omega.{arith}
 use Rattle.numbers.proofs.ListLaws.{Filled, filled-none, filled-all}

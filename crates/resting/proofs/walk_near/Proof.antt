@@ -1,5 +1,4 @@
 -- `resting::walk_near` meets its contract: the first j near rows have tightened the bounds (`Walking`); the others rest, and would tighten none. n times the most part is within the margin before the round, and so fits.
--- Assumes nothing.
 use mathlib.Core.Path.{refl, sym, _∙_}
 use Prim.Native.Nat.{_-_}
 use native.Mathlib.Omega.{arith}

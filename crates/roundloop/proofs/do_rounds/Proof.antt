@@ -1,5 +1,4 @@
 -- `roundloop::do_rounds` meets its contract: a turn is one round of the definition, and the loop is left where a round raises nothing (`Found`, `Turn`). The measure is the sum of the margins that the rows come to, of which a round that raises something takes at least 1.
--- Assumes nothing.
 use mathlib.Core.Path.{sym, _∙_}
 use native.Mathlib.Omega.{arith}
 use Rattle.numbers.specs.Below.{at, sum}

@@ -1,5 +1,4 @@
 -- `roundloop::extract_rounds` meets its contract: its promise is that of `do_rounds`: the room holds as many as there are borders, and no more places for rows than there are rows.
--- Assumes nothing.
 use mathlib.Core.Path.{sym}
 use borrow.Author.Needs.{needs}
 use native.Mathlib.Nat.{min-le-left, min-le-right}

@@ -1,6 +1,5 @@
 -- `roundloop::rise` meets its contract: the loop fills the exchanges with the risen ones (`Filled`).
 -- A sum fits: either the raise is 0 and the exchange fits, or the contract says so.
--- Assumes nothing.
 use mathlib.Core.Logic.{⊎-elim}
 use Prim.Native.Nat.{_-_}
 use native.Mathlib.Omega.{arith}

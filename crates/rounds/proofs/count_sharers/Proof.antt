@@ -1,5 +1,4 @@
 -- `rounds::count_sharers` meets its contract. The outer loop fills n row by row (`Filled`), the inner one counts the borders with p > 0 (`Counted`).
--- Assumes nothing.
 use mathlib.Core.Logic.{⊎-elim}
 use Prim.Native.Nat.{_-_}
 use native.Mathlib.Omega.{arith}

@@ -1,5 +1,4 @@
 -- `rounds::factor` meets its contract: the place of row i's factor at border b is inside the table.
--- Assumes nothing.
 use Prim.Native.Nat.{_<_, _+_, _*_}
 use native.Mathlib.Omega.{arith}
 use borrow.Author.Needs.{needs}

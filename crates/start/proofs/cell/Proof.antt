@@ -1,4 +1,4 @@
--- `start::cell` meets its contract. Assumes nothing.
+-- `start::cell` meets its contract.
 use mathlib.Core.Path.{ap, _∙_}
 use borrow.Author.Tests.{eq-eqb, ne-eqb}
 use Rattle.margin.specs.Margin.{pOf}

@@ -1,4 +1,4 @@
--- `start::exchanges` meets its contract. Assumes nothing.
+-- `start::exchanges` meets its contract.
 use mathlib.Core.Path.{refl, sym}
 use borrow.Author.Needs.{needs}
 use lib.Seq.{length-take-le}

@@ -1,5 +1,4 @@
 -- `start::fill_grid` meets its contract: before row i and border k the cells are the grid's (`FilledTo`).
--- Assumes nothing.
 use mathlib.Core.Path.{_≡_, sym, ap, subst, _∙_}
 use mathlib.Core.Bool.{true, cond}
 use mathlib.Core.List.{List, []}

@@ -1,4 +1,4 @@
--- `start::fill_ltas` meets its contract. The invariant: the first k exchanges are at LTA. Assumes nothing.
+-- `start::fill_ltas` meets its contract. The invariant: the first i exchanges are at LTA.
 use mathlib.Core.List.{[]}
 use Prim.Native.Nat.{_-_}
 use native.Mathlib.Omega.{arith}
@@ -10,10 +10,10 @@ use Rattle.start.proofs.fill_ltas.Statement.{statement}
 use Rattle.start.proofs.fill_ltas.Tie as tie
 
 abbrev Inv-loop : tie.InvT-loop
-Inv-loop zones b x₀ k₀ k-end x k = Filled (λ k. ltaKw (borderOf (getD b k []))) (length b) x₀ x k
+Inv-loop zones b x₀ i₀ i-end x i = Filled (λ i. ltaKw (borderOf (getD b i []))) (length b) x₀ x i
 
 abbrev μ-loop : tie.MeasureT-loop
-μ-loop zones b x₀ k₀ k-end x k = length b - k
+μ-loop zones b x₀ i₀ i-end x i = length b - i
 
 loop-holds : tie.Need-loop-holds Inv-loop μ-loop
 loop-holds c = filled-none _ _ _

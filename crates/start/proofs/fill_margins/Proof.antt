@@ -1,4 +1,4 @@
--- `start::fill_margins` meets its contract. The invariant: the first i margins are there. Assumes nothing.
+-- `start::fill_margins` meets its contract. The invariant: the first i margins are there.
 use mathlib.Core.Bool.{cond}
 use Prim.Native.Nat.{_-_}
 use native.Mathlib.Omega.{arith}

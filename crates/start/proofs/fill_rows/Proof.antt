@@ -1,4 +1,4 @@
--- `start::fill_rows` meets its contract. Assumes nothing.
+-- `start::fill_rows` meets its contract.
 use mathlib.Core.Path.{ap, _∙_}
 use borrow.Author.Needs.{needs}
 use lib.ListN.{length}

@@ -1,5 +1,4 @@
 -- `start::first_below` meets its contract. The invariant: no row before i takes part and starts below 0. A turn is `looked-more`.
--- Assumes nothing.
 use mathlib.Core.Bool.{_&&_}
 use Prim.Native.Nat.{_-_}
 use native.Mathlib.Omega.{arith}

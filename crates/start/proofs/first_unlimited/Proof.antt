@@ -1,5 +1,4 @@
 -- `start::first_unlimited` meets its contract. The invariant: some row limits each border before b. A turn is `looked-more`.
--- Assumes nothing.
 use mathlib.Core.Path.{ap, sym, _∙_}
 use mathlib.Core.Bool.{not}
 use Prim.Native.Nat.{_-_}

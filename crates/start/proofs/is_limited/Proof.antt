@@ -1,5 +1,4 @@
 -- `start::is_limited` meets its contract. The invariant: no row before i has p > 0 at the border. A turn is `looked-more`.
--- Assumes nothing.
 use mathlib.Core.Path.{ap, subst}
 use Prim.Native.Nat.{ℕ, _-_, _<_, _≤_}
 use native.Mathlib.Omega.{arith}

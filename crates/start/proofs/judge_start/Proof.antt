@@ -1,4 +1,4 @@
--- `start::judge_start` meets its contract: each search is a link of the definition's chain, and the first that found something decides. Assumes nothing.
+-- `start::judge_start` meets its contract: each search is a link of the definition's chain, and the first that found something decides.
 use mathlib.Core.Path.{_≡_, sym, ap, _∙_}
 use mathlib.Core.Bool.{true}
 use borrow.Author.Tests.{not-true, not-false}
@@ -6,13 +6,14 @@ use borrow.Author.Needs.{needs}
 use lib.ListN.{length}
 use Rattle.numbers.specs.Below.{someBelow}
 use Rattle.numbers.specs.First.{found}
+use Rattle.kinds.specs.Refusals.{refused}
 use Rattle.start.specs.Start.{kept}
 use Rattle.start.proofs.StartLaws.{none-kept, border-free, row-below, may-start}
 use Rattle.start.proofs.judge_start.Statement.{statement}
 use Rattle.start.proofs.judge_start.Tie as tie
 
 returns : tie.Need-returns
-returns c = none-kept _ _ _ (c .before .before .before .before .pre .1 .0) (sym (c .before .some-kept .ensures) ∙ not-true _ (c .if1 .taken))
+returns c = ap refused (c .no-row .ensures) ∙ none-kept _ _ _ (c .before .before .before .before .before .pre .1 .0) (sym (c .before .before .some-kept .ensures) ∙ not-true _ (c .before .if1 .taken))
 
 -- past refusal 5
 some-row : (c : tie.Else1)
@@ -25,18 +26,18 @@ first-unlimited-requires c κs = c .before .before .before .before .pre .0
 
 returns-2 : tie.Need-returns-2
 returns-2 c =
-    let past-5 = c .before .before .before .before in
-    border-free _ _ _ (past-5 .before .before .before .before .pre .1 .0) (some-row past-5) _ (sym (ap found (c .before .k .given .1)) ∙ c .before .before .before .first-unlimited .ensures)
+    let past-5 = c .before .before .before .before .before in
+    ap refused (c .unlimited .ensures) ∙ border-free _ _ _ (past-5 .before .before .before .before .pre .1 .0) (some-row past-5) _ (sym (ap found (c .before .before .b .given .1)) ∙ c .before .before .before .before .first-unlimited .ensures)
 
 first-below-requires : tie.Need-first-below-requires
 first-below-requires c κs = c .before .before .before .before .before .before .before .pre .1 .1 ∙ sym (c .before .before .before .before .before .before .before .pre .1 .0)
 
 returns-3 : tie.Need-returns-3
 returns-3 c =
-    let past-6 = c .before .before .before .before in
+    let past-6 = c .before .before .before .before .before in
     let past-5 = past-6 .before .before .before in
-    row-below _ _ _ (past-5 .before .before .before .before .pre .1 .0) (some-row past-5) (sym (ap found (past-6 .enum-told .given .1)) ∙ past-6 .before .before .first-unlimited .ensures) _
-    (sym (ap found (c .before .i .given .1)) ∙ c .before .before .before .first-below .ensures)
+    ap refused (c .below-zero .ensures) ∙ row-below _ _ _ (past-5 .before .before .before .before .pre .1 .0) (some-row past-5) (sym (ap found (past-6 .enum-told .given .1)) ∙ past-6 .before .before .first-unlimited .ensures) _
+    (sym (ap found (c .before .before .i .given .1)) ∙ c .before .before .before .before .first-below .ensures)
 
 returns-4 : tie.Need-returns-4
 returns-4 c =
@@ -50,13 +51,16 @@ judge-start-spec =
     tie.close
     (tie.spec
     (λ c κs. search needs)
+    (λ c κs. search needs)
     returns
     first-unlimited-requires
     (λ c. search needs)
+    (λ c κs. search needs)
     returns-2
     (λ c. search needs)
     first-below-requires
     (λ c. search needs)
+    (λ c κs. search needs)
     returns-3
     (λ c. search needs)
     returns-4)

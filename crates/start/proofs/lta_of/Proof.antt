@@ -1,4 +1,4 @@
--- `start::lta_of` meets its contract. Assumes nothing.
+-- `start::lta_of` meets its contract.
 use mathlib.Core.Path.{ap, _∙_}
 use Rattle.margin.specs.Margin.{ltaKw}
 use Rattle.margin.proofs.JudgedLaws.{border-judged}

@@ -1,4 +1,4 @@
--- `start::margin_of` meets its contract. Assumes nothing.
+-- `start::margin_of` meets its contract.
 use borrow.Author.Tests.{eq-eqb, ne-eqb}
 use borrow.Author.Needs.{needs}
 use mir.Facts.{toZ-ofZ}

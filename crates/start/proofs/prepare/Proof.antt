@@ -1,4 +1,4 @@
--- `start::prepare` meets its contract: what each call fills in is a part of `preparedOf`. Assumes nothing.
+-- `start::prepare` meets its contract: what each call fills in is a part of `preparedOf`.
 use mathlib.Core.Path.{sym, ap, _∙_}
 use native.Mathlib.Omega.{arith}
 use borrow.Author.Needs.{needs}

@@ -1,4 +1,4 @@
--- `start::some_kept` meets its contract. The invariant: no row before i is of state 0. Assumes nothing.
+-- `start::some_kept` meets its contract. The invariant: no row before i is of state 0.
 use mathlib.Core.Path.{ap}
 use Prim.Native.Nat.{_-_}
 use native.Mathlib.Omega.{arith}

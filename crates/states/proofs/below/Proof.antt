@@ -1,4 +1,4 @@
--- `states::below` meets its contract. Assumes nothing.
+-- `states::below` meets its contract.
 use mathlib.Core.Path.{_≡_, sym, _∙_}
 use mathlib.Core.Bool.{false}
 use borrow.Author.Needs.{needs}

@@ -1,5 +1,4 @@
 -- `states::fill_states` meets its contract. The loop's invariant: the first i rows have their state. The measure is the rows that are left.
--- Assumes nothing.
 use Prim.Native.Nat.{_-_}
 use native.Mathlib.Omega.{arith}
 use Rattle.numbers.proofs.ListLaws.{Filled, filled-none, filled-more, filled-all}
@@ -8,10 +7,10 @@ use Rattle.states.proofs.fill_states.Statement.{statement}
 use Rattle.states.proofs.fill_states.Tie as tie
 
 abbrev Inv-loop : tie.InvT-loop
-Inv-loop header f rams states₀ i₀ i-end states i = Filled (stateOf header f rams) (header .rows) states₀ states i
+Inv-loop h f rams states₀ i₀ i-end states i = Filled (stateOf h f rams) (h .rows) states₀ states i
 
 abbrev μ-loop : tie.MeasureT-loop
-μ-loop header f rams states₀ i₀ i-end states i = header .rows - i
+μ-loop h f rams states₀ i₀ i-end states i = h .rows - i
 
 loop-holds : tie.Need-loop-holds Inv-loop μ-loop
 loop-holds c = filled-none _ _ _

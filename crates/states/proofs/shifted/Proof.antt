@@ -1,6 +1,5 @@
 -- `states::shifted` meets its contract. The loop's invariant: what is left to look at from zone z on comes to what the whole comes to. Zone 0 differs as itself.
 -- The measure is the zones that are left.
--- Assumes nothing.
 use mathlib.Core.Path.{_≡_, sym, ap, _∙_}
 use mathlib.Core.Bool.{Bool, not}
 use mathlib.Core.List.{List}

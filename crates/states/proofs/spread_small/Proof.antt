@@ -1,6 +1,5 @@
 -- `states::spread_small` meets its contract. The loop's invariant: the largest of `high` and the factors from z on is the largest of all;
 -- so for `low` and the smallest. The measure is the factors that are left.
--- Assumes nothing.
 use mathlib.Core.Path.{_≡_, refl}
 use Prim.Native.Nat.{ℕ, _≤_, _<_, _-_}
 use native.Mathlib.Omega.{arith}

@@ -1,4 +1,4 @@
--- `states::stands_for` meets its contract. Assumes nothing.
+-- `states::stands_for` meets its contract.
 use mathlib.Core.Path.{sym, ap₂, _∙_}
 use borrow.Author.Needs.{needs}
 use lib.IntN.{ℤ}

@@ -1,6 +1,5 @@
 -- `states::stood_for` meets its contract. The loop's invariant: what is left to look at from row j on comes to what the whole comes to.
 -- The measure is the rows that are left.
--- Assumes nothing.
 use mathlib.Core.Path.{sym, ap, _∙_}
 use mathlib.Core.Bool.{_&&_}
 use mathlib.Core.Option.{Option}
@@ -14,10 +13,10 @@ use Rattle.states.proofs.stood_for.Statement.{statement}
 use Rattle.states.proofs.stood_for.Tie as tie
 
 abbrev Inv-loop : tie.InvT-loop
-Inv-loop header f rams i rows j₀ j = Looked (header .rows) (λ j. below rams j i && shifted (stretch (header .zones) f j) (stretch (header .zones) f i)) j
+Inv-loop h f rams i rows j₀ j = Looked (h .rows) (λ j. below rams j i && shifted (stretch (h .zones) f j) (stretch (h .zones) f i)) j
 
 abbrev μ-loop : tie.MeasureT-loop
-μ-loop header f rams i rows j₀ j = header .rows - j
+μ-loop h f rams i rows j₀ j = h .rows - j
 
 loop-holds : tie.Need-loop-holds Inv-loop μ-loop
 loop-holds c = looked-none _ _

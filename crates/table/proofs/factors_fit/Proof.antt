@@ -1,4 +1,4 @@
--- `table::factors_fit` meets its contract: no factor before z is out of range. Assumes nothing.
+-- `table::factors_fit` meets its contract: no factor before z is out of range.
 use Prim.Native.Nat.{_-_}
 use mathlib.Core.Path.{_≡_, sym, ap, _∙_}
 use mathlib.Core.Bool.{not}

@@ -1,4 +1,4 @@
--- `table::first_border_out` meets its contract: no border before i is out of range. Assumes nothing.
+-- `table::first_border_out` meets its contract: no border before i is out of range.
 use Prim.Native.Nat.{_-_}
 use mathlib.Core.Path.{sym, ap, _∙_}
 use mathlib.Core.Bool.{not}

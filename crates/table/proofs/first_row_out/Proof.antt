@@ -1,4 +1,4 @@
--- `table::first_row_out` meets its contract: no row before i is out of range. Assumes nothing.
+-- `table::first_row_out` meets its contract: no row before i is out of range.
 use Prim.Native.Nat.{ℕ, _-_, _+_, _*_}
 use mathlib.Core.Path.{_≡_, sym, ap, _∙_}
 use mathlib.Core.Bool.{not}

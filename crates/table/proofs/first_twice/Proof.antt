@@ -1,4 +1,4 @@
--- `table::first_twice` meets its contract: no border before i was given twice. Assumes nothing.
+-- `table::first_twice` meets its contract: no border before i was given twice.
 use Prim.Native.Nat.{_-_}
 use mathlib.Core.Path.{sym, _∙_}
 use native.Mathlib.Omega.{arith}

@@ -1,4 +1,4 @@
--- `table::first_zone_out` meets its contract: no zone before i is out of range. Assumes nothing.
+-- `table::first_zone_out` meets its contract: no zone before i is out of range.
 use Prim.Native.Nat.{_-_}
 use mathlib.Core.Path.{_≡_, sym, ap, _∙_}
 use mathlib.Core.Bool.{not}

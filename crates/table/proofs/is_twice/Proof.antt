@@ -1,5 +1,4 @@
 -- `table::is_twice` meets its contract. The invariant: no border before e has the same ends. A turn is `looked-more`.
--- Assumes nothing.
 use Prim.Native.Nat.{_-_}
 use mathlib.Core.List.{[]}
 use mathlib.Core.Path.{sym, ap, _∙_}

@@ -1,5 +1,5 @@
--- `table::judge` meets its contract: header, lengths, and then the records of the front parts. Assumes nothing.
-use mathlib.Core.Path.{_≡_, sym, _∙_}
+-- `table::judge` meets its contract: header, lengths, and then the records of the front parts.
+use mathlib.Core.Path.{_≡_, sym, ap, _∙_}
 use mathlib.Core.Bool.{Bool, true, false, not}
 use native.Mathlib.Omega.{arith}
 use borrow.Author.Tests.{not-true, not-false}
@@ -7,6 +7,7 @@ use Rattle.table.proofs.RoomLaws.{factors-most}
 use Rattle.table.specs.Table.{lent, front}
 use Rattle.table.specs.Good.{Exact}
 use Rattle.table.proofs.JudgeLaws.{header-refused, room-refused, room-left, front-exact}
+use Rattle.kinds.specs.Refusals.{refused}
 use borrow.Author.Needs.{needs}
 use Rattle.table.proofs.judge.Statement.{statement}
 use Rattle.table.proofs.judge.Tie as tie
@@ -16,7 +17,7 @@ fits-in : {t u : Bool} → not t ≡ false → t ≡ u → u ≡ true
 fits-in l e = sym e ∙ not-false _ l
 
 returns : tie.Need-returns
-returns c = header-refused _ (sym (c .before .fits2 .ensures) ∙ not-true _ (c .if1 .taken))
+returns c = ap refused (c .out-of-range .ensures) ∙ header-refused _ (sym (c .before .before .fits2 .ensures) ∙ not-true _ (c .before .if1 .taken))
 
 judge-room-requires : tie.Need-judge-room-requires
 judge-room-requires c κs = fits-in (c .if1 .left) (c .before .fits2 .ensures)
@@ -57,6 +58,7 @@ pub judge-spec : {M : Type 1} → statement M
 judge-spec =
     tie.close
     (tie.spec
+    (λ c κs. search needs)
     (λ c κs. search needs)
     returns
     judge-room-requires

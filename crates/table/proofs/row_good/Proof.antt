@@ -1,4 +1,4 @@
--- `table::row_good` meets its contract: the record is judged, and then its factors. Assumes nothing.
+-- `table::row_good` meets its contract: the record is judged, and then its factors.
 use mathlib.Core.Path.{sym, _∙_}
 use borrow.Author.Needs.{needs}
 use Rattle.kinds.proofs.ReadLaws.{row-good, row-out}

@@ -1,4 +1,4 @@
--- `table::same_pair` meets its contract. Assumes nothing.
+-- `table::same_pair` meets its contract.
 use borrow.Author.Needs.{needs}
 use Rattle.numbers.proofs.IntLaws.{plain}
 use Rattle.kinds.specs.Ranges.{atℤ}

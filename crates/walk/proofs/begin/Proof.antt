@@ -1,5 +1,4 @@
 -- `walk::begin` meets its contract: the first bounds, then the first raises from them.
--- Assumes nothing.
 use mathlib.Core.Path.{ap, _∙_}
 use Prim.Native.Nat.{ℕ}
 use Rattle.numbers.specs.Below.{table}

@@ -1,5 +1,4 @@
 -- `walk::first_bound` meets its contract: no row before i loads the border (`Unloaded`); the first that does bounds the raise by its margin.
--- Assumes nothing.
 use Prim.Native.Nat.{_-_}
 use native.Mathlib.Omega.{arith}
 use Rattle.rounds.specs.Work.{flat}

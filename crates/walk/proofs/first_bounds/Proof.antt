@@ -1,5 +1,4 @@
 -- `walk::first_bounds` meets its contract: the borders before b have their bound (`FirstBounds`).
--- Assumes nothing.
 use mathlib.Core.Path.{sym, _∙_}
 use Prim.Native.Nat.{_-_}
 use native.Mathlib.Omega.{arith}

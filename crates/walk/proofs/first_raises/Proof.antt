@@ -1,5 +1,4 @@
 -- `walk::first_raises` meets its contract: the bounds are not above what the rows before i allow (`Bounded`); after the last row they are the raises.
--- Assumes nothing.
 use mathlib.Core.Path.{sym, _∙_}
 use Prim.Native.Nat.{_-_}
 use native.Mathlib.Omega.{arith}

@@ -1,5 +1,4 @@
 -- `walk::list_all` meets its contract: the first b items are their own place (`Filled`).
--- Assumes nothing.
 use mathlib.Core.Path.{refl}
 use Prim.Native.Nat.{ℕ, _-_}
 use native.Mathlib.Omega.{arith}

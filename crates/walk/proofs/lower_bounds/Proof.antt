@@ -1,5 +1,4 @@
 -- `walk::lower_bounds` meets its contract: each bound is between what it was and what it comes to, and the first j listed have come to that (`Lowering`).
--- Assumes nothing.
 use Prim.Native.Nat.{_-_}
 use native.Mathlib.Omega.{arith}
 use Rattle.rounds.specs.Work.{flat}

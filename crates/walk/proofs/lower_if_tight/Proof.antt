@@ -1,5 +1,4 @@
 -- `walk::lower_if_tight` meets its contract: a row whose most part is within its share tightens nothing (`slack-same`).
--- Assumes nothing.
 use native.Mathlib.Omega.{arith}
 use Rattle.walk.proofs.PartLaws.{slack-same, tight-n}
 use Rattle.walk.proofs.lower_if_tight.Statement.{statement}

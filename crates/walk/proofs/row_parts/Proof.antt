@@ -1,5 +1,4 @@
 -- `walk::row_parts` meets its contract: the loss and the most part of the first j listed borders (`Parting`). Each partial sum is within the row's margin, and so fits.
--- Assumes nothing.
 use Prim.Native.Nat.{_-_}
 use native.Mathlib.Omega.{arith}
 use Rattle.rounds.specs.Work.{flat}

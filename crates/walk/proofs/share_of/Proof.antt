@@ -1,5 +1,4 @@
 -- `walk::share_of` meets its contract: the share of 0 borders is 0, as the definition's division has it.
--- Assumes nothing.
 use mathlib.Core.Path.{sym, ap, _∙_}
 use Prim.Native.Nat.{ℕ, _/_}
 use native.Mathlib.Nat.{div-zero}

@@ -1,5 +1,4 @@
 -- `walk::tighten` meets its contract: a product tells whether the bound stays (`tight-same`) or falls (`tight-less`), and a quotient where the product may not fit.
--- Assumes nothing.
 use native.Mathlib.Omega.{arith}
 use borrow.Author.Needs.{needs}
 use borrow.Author.Tests.{ltb-true}

@@ -1,5 +1,4 @@
 -- `writing::write` meets its contract: what judging refuses is refused (`write-refused`), and else the front of the lent tables is written (`write-on`).
--- Assumes nothing.
 use mathlib.Core.Path.{_≡_, sym, ap, _∙_}
 use native.Mathlib.Omega.{arith}
 use borrow.Author.Needs.{needs}

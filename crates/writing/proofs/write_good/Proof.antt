@@ -1,5 +1,4 @@
 -- `writing::write_good` meets its contract: too short (`text-short`), or the text and then what stood there (`text-written`).
--- Assumes nothing.
 use native.Mathlib.Omega.{arith}
 use borrow.Author.Needs.{needs}
 use Rattle.text.proofs.LeftLaws.{text-short, text-written}
@@ -12,13 +11,13 @@ abbrev table : tie.Start → Table
 table s = lent (s .args .h) (s .args .z .now) (s .args .b .now) (s .args .c .now) (s .args .f .now)
 
 returns : tie.Need-returns
-returns c = let s = c .before .before .before in text-short (tableText (table s)) (s .args .out .now) _ (c .before .text-length .ensures) (omega arith)
+returns c = let s = c .before .before .before .before in rw (c .too-short .ensures) (text-short (tableText (table s)) (s .args .out .now) _ (c .before .before .text-length .ensures) (omega arith))
 
-table-out-requires : tie.Need-table-out-requires
-table-out-requires c κs = (c .before .before .before .before .pre, omega (arith, c .before .before .text-length .ensures))
+put-table-requires : tie.Need-put-table-requires
+put-table-requires c κs = (c .before .before .before .before .pre, omega (arith, c .before .before .text-length .ensures))
 
 returns-2 : tie.Need-returns-2
-returns-2 c = let s = c .before .before .before .before .before .before .before in text-written (tableText (table s)) (s .args .out .now) (omega (arith, c .before .before .before .before .before .text-length .ensures)) (c .before .before .table-out .ensures)
+returns-2 c = let s = c .before .before .before .before .before .before .before in text-written (tableText (table s)) (s .args .out .now) (omega (arith, c .before .before .before .before .before .text-length .ensures)) (c .before .before .put-table .ensures)
 
 pub write-good-spec : {M : Type 1} → statement M
-write-good-spec = tie.close (tie.spec (λ c κs. search needs) returns table-out-requires (λ c. search needs) returns-2)
+write-good-spec = tie.close (tie.spec (λ c κs. search needs) (λ c κs. search needs) returns put-table-requires (λ c. search needs) returns-2)

@@ -1,5 +1,4 @@
 -- `answer::made::make_in` meets its contract: `extract` answers with the outcome (`outcome-told`, `outcome-refused`), since there is room for every result.
--- Assumes nothing.
 use mathlib.Core.Path.{ap, _∙_}
 use mathlib.Core.List.{List}
 use Prim.Native.Nat.{ℕ}
@@ -16,8 +15,8 @@ use Rattle.answer.proofs.made.make_in.Tie as tie
 abbrev given : tie.Start → Table
 given s = lent (s .args .h) (s .args .z .now) (s .args .b .now) (s .args .c .now) (s .args .f .now)
 
-result-out-requires : tie.Need-result-out-requires
-result-out-requires c κs =
+write-result-requires : tie.Need-write-result-requires
+write-result-requires c κs =
     let called = c .before .before .before .before .before .before .before .before in
     let s = called .before .before .before .before in
     let u = outcome-told (given s) (s .args .atc .now) (s .args .left .now) (s .pre .0) (s .pre .1) _ (called .extract .ensures) _ (c .before .before .before .before .rounds .given .1) in
@@ -29,7 +28,7 @@ returns c =
     let called = c .before .before .before .before .before .before .before .before .before .before .before in
     let s = called .before .before .before .before in
     let u = outcome-told (given s) (s .args .atc .now) (s .args .left .now) (s .pre .0) (s .pre .1) _ (called .extract .ensures) _ (c .before .before .before .before .before .before .before .rounds .given .1) in
-    let text = c .before .before .result-out in
+    let text = c .before .before .write-result in
     (made-text (outcomeLent (given s)) (s .args .out .now) (u .it) (text .result) _ (u .is) (text .ensures .0 ∙ ap (λ (t : List ℕ). textLeft (passed t) (s .args .out .now)) (u .text)), text .ensures .1)
 
 returns-2 : tie.Need-returns-2
@@ -45,7 +44,7 @@ make-in-spec =
     (tie.spec
     (λ c κs. search needs)
     (λ c. search needs)
-    result-out-requires
+    write-result-requires
     (λ c. search needs)
     (λ c. search needs)
     (λ c. search needs)

@@ -1,5 +1,4 @@
 -- `columns::read::bad` meets its contract.
--- Assumes nothing.
 use mathlib.Core.Path.{sym, ap}
 use borrow.Author.Needs.{needs}
 use Rattle.columns.specs.Columns.{badOf}

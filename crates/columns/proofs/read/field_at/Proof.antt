@@ -1,5 +1,4 @@
 -- `columns::read::field_at` meets its contract: each arm is a column.
--- Assumes nothing.
 use mathlib.Core.Path.{ap, _∙_}
 use borrow.Author.Needs.{needs}
 use borrow.Author.Tests.{ne-eqb}

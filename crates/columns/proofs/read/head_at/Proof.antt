@@ -1,5 +1,4 @@
 -- `columns::read::head_at` meets its contract.
--- Assumes nothing.
 use mathlib.Core.Path.{sym, _∙_}
 use Rattle.columns.proofs.ColumnLaws.{head-bad, head-goes}
 use borrow.Author.Needs.{needs}

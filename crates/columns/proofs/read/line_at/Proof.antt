@@ -1,5 +1,4 @@
 -- `columns::read::line_at` meets its contract.
--- Assumes nothing.
 use mathlib.Core.Path.{sym, _∙_}
 use Rattle.columns.proofs.ColumnLaws.{line-bad, line-goes}
 use borrow.Author.Needs.{needs}

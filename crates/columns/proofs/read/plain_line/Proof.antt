@@ -1,5 +1,4 @@
 -- `columns::read::plain_line` meets its contract.
--- Assumes nothing.
 use mathlib.Core.Path.{sym, _∙_}
 use borrow.Author.Tests.{not-true, not-false}
 use Rattle.columns.proofs.ColumnLaws.{plain-bad, plain-goes}

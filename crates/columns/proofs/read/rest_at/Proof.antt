@@ -1,5 +1,4 @@
 -- `columns::read::rest_at` meets its contract.
--- Assumes nothing.
 use mathlib.Core.Path.{sym, ap, _∙_}
 use Rattle.columns.specs.declared.Fields.{Fields}
 use Rattle.columns.specs.Columns.{stored}

@@ -1,5 +1,4 @@
 -- `columns::read::stop_of` meets its contract.
--- Assumes nothing.
 use native.Mathlib.Omega.{arith}
 use borrow.Author.Tests.{le-leb, lt-leb}
 use Rattle.columns.proofs.read.stop_of.Statement.{statement}

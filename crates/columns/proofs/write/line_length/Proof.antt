@@ -1,5 +1,4 @@
 -- `columns::write::line_length` meets its contract.
--- Assumes nothing.
 use native.Mathlib.Omega.{arith}
 use borrow.Author.Needs.{needs}
 use Rattle.columns.proofs.write.line_length.Statement.{statement}

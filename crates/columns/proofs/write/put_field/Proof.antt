@@ -1,5 +1,4 @@
 -- `columns::write::put_field` meets its contract.
--- Assumes nothing.
 use mathlib.Core.List.{[], _∷_}
 use native.Mathlib.Omega.{arith}
 use borrow.Author.Needs.{needs}

@@ -1,5 +1,4 @@
 -- `columns::write::put_parts` meets its contract.
--- Assumes nothing.
 use mathlib.Core.Path.{sym, _∙_}
 use native.Mathlib.Omega.{arith}
 use borrow.Author.Needs.{needs}

@@ -1,5 +1,4 @@
 -- `columns::write::put_plain` meets its contract.
--- Assumes nothing.
 use native.Mathlib.Omega.{arith}
 use borrow.Author.Needs.{needs}
 use lib.ListN.{length}

@@ -1,4 +1,4 @@
--- `extraction::BorderResult::as_record` meets its contract. Assumes nothing.
+-- `extraction::BorderResult::as_record` meets its contract.
 use mathlib.Core.Path.{ap}
 use mathlib.Core.List.{[], _∷_}
 use borrow.Author.Needs.{needs}

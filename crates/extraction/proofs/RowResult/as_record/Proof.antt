@@ -1,4 +1,4 @@
--- `extraction::RowResult::as_record` meets its contract. Assumes nothing.
+-- `extraction::RowResult::as_record` meets its contract.
 use native.Mathlib.Omega.{arith}
 use borrow.Author.Needs.{sfits-of}
 use mir.Facts.{toZ-pos, toZ-ofZ}

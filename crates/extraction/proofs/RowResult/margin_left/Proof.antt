@@ -1,4 +1,4 @@
--- `extraction::RowResult::margin_left` meets its contract. Assumes nothing.
+-- `extraction::RowResult::margin_left` meets its contract.
 use borrow.Author.Tests.{eq-eqb, ne-eqb}
 use mir.Facts.{toZ-pos}
 use mir.Syntax.{w64}

@@ -1,5 +1,4 @@
 -- `keravnoth::options::read_arguments` is safe and ends. Nothing need be known of the command; the measure is the number of arguments left.
--- Assumes nothing.
 use Prim.Native.Nat.{_-_}
 use native.Mathlib.Omega.{arith}
 use Rattle.keravnoth.proofs.options.read_arguments.Statement.{statement}

@@ -1,4 +1,4 @@
--- `kinds::Border::fits` meets its contract: each test is the definition's, in its order. Assumes nothing.
+-- `kinds::Border::fits` meets its contract: each test is the definition's, in its order.
 use borrow.Author.Needs.{needs}
 use mir.Facts.{toZ-ofZ}
 use Rattle.kinds.specs.Ranges.{borderFits}

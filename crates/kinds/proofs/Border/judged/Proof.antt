@@ -1,4 +1,4 @@
--- `kinds::Border::judged` meets its contract: a record that fits has no number below 0, so the casts lose nothing. Assumes nothing.
+-- `kinds::Border::judged` meets its contract: a record that fits has no number below 0, so the casts lose nothing.
 use borrow.Author.Needs.{needs}
 use Rattle.numbers.proofs.IntLaws.{plain, natural-cast}
 use Rattle.kinds.specs.Ranges.{borderOf}

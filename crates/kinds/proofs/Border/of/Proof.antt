@@ -1,4 +1,4 @@
--- `kinds::Border::of` meets its contract: the test is made of the three numbers as they were lent. Assumes nothing.
+-- `kinds::Border::of` meets its contract: the test is made of the three numbers as they were lent.
 use mathlib.Core.Path.{_≡_, sym, ap, _∙_}
 use borrow.Author.Needs.{needs}
 use Rattle.numbers.proofs.IntLaws.{plain}

@@ -1,4 +1,4 @@
--- `kinds::Header::fits` meets its contract. Assumes nothing.
+-- `kinds::Header::fits` meets its contract.
 use mathlib.Core.Path.{refl}
 use Rattle.kinds.specs.Ranges.{headerFits}
 use Rattle.kinds.proofs.Header.fits.Statement.{statement}

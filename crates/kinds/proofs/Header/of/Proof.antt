@@ -1,4 +1,4 @@
--- `kinds::Header::of` meets its contract. Assumes nothing.
+-- `kinds::Header::of` meets its contract.
 use mathlib.Core.Path.{sym, _∙_}
 use borrow.Author.Needs.{needs}
 use Rattle.kinds.specs.Kinds.{headerRead}

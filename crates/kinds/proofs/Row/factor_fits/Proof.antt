@@ -1,4 +1,4 @@
--- `kinds::Row::factor_fits` meets its contract. Assumes nothing.
+-- `kinds::Row::factor_fits` meets its contract.
 use borrow.Author.Needs.{needs}
 use mir.Facts.{toZ-ofZ}
 use Rattle.kinds.specs.Ranges.{factorFits}

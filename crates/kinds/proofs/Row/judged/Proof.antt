@@ -1,4 +1,4 @@
--- `kinds::Row::judged` meets its contract: the row is made of the seven numbers as they were lent. Assumes nothing.
+-- `kinds::Row::judged` meets its contract: the row is made of the seven numbers as they were lent.
 use borrow.Author.Needs.{needs}
 use Rattle.numbers.proofs.IntLaws.{plain}
 use Rattle.kinds.specs.Ranges.{rowOf}

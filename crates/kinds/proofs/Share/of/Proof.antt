@@ -1,4 +1,4 @@
--- `kinds::Share::of` meets its contract. Assumes nothing.
+-- `kinds::Share::of` meets its contract.
 use mir.Facts.{toZ-ofZ}
 use Rattle.kinds.specs.Ranges.{shareOf}
 use Rattle.kinds.proofs.Share.of.Statement.{statement}

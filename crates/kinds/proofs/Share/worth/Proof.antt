@@ -1,4 +1,4 @@
--- `kinds::Share::worth` meets its contract. Assumes nothing.
+-- `kinds::Share::worth` meets its contract.
 use mathlib.Core.Path.{sym, ap, _∙_}
 use borrow.Author.Needs.{needs}
 use Rattle.numbers.proofs.IntLaws.{plain}

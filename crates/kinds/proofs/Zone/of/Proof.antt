@@ -1,4 +1,4 @@
--- `kinds::Zone::of` meets its contract. Assumes nothing.
+-- `kinds::Zone::of` meets its contract.
 use mathlib.Core.Path.{sym, _∙_}
 use borrow.Author.Needs.{needs}
 use mir.Facts.{toZ-ofZ}

@@ -1,5 +1,4 @@
 -- `layout::length::border_length` meets its contract.
--- Assumes nothing.
 use mathlib.Core.Path.{sym, _∙_}
 use Prim.Native.Char.{code}
 use native.Mathlib.Omega.{arith}

@@ -1,5 +1,4 @@
 -- `layout::length::header_length` meets its contract.
--- Assumes nothing.
 use mathlib.Core.Path.{_≡_, refl}
 use mathlib.Core.List.{[], _∷_}
 use Prim.Native.Char.{code}

@@ -1,5 +1,4 @@
 -- `layout::length::row_length` meets its contract: index and values, and the factors (`row-total`).
--- Assumes nothing.
 use mathlib.Core.Path.{_≡_, sym, ap, subst, _∙_}
 use mathlib.Core.List.{List}
 use Prim.Native.Nat.{_+_, _≤_}

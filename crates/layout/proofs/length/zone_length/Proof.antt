@@ -1,5 +1,4 @@
 -- `layout::length::zone_length` meets its contract.
--- Assumes nothing.
 use mathlib.Core.Path.{refl, sym, _∙_}
 use mathlib.Core.List.{[], _∷_}
 use Prim.Native.Char.{code}

@@ -1,5 +1,4 @@
 -- `lines::border::border_line` meets its contract: what the columns hold is judged.
--- Assumes nothing.
 use mathlib.Core.Path.{sym, ap, _∙_}
 use mathlib.Core.List.{[], _∷_}
 use lib.IntN.{pos}

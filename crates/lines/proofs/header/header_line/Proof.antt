@@ -1,5 +1,4 @@
 -- `lines::header::header_line` meets its contract: what the columns hold is judged.
--- Assumes nothing.
 use mathlib.Core.Path.{sym, ap, _∙_}
 use Rattle.numbers.proofs.IntLaws.{plain, natural-cast}
 use Rattle.kinds.proofs.ReadLaws.{header-good, header-out}

@@ -1,5 +1,4 @@
 -- `lines::row::judged_in` meets its contract: what the columns hold is judged.
--- Assumes nothing.
 use mathlib.Core.Path.{sym, ap, _∙_}
 use mathlib.Core.List.{_++_}
 use Rattle.columns.specs.declared.Fields.{Fields}

@@ -1,5 +1,4 @@
 -- `lines::row::row_at` meets its contract: the factors' columns are as many as f has items.
--- Assumes nothing.
 use mathlib.Core.Path.{sym, ap, _∙_}
 use mathlib.Core.List.{List, _++_}
 use Prim.Native.Char.{code}

@@ -1,5 +1,4 @@
 -- `lines::row::row_filled` meets its contract: the line was judged good, so that the refusal's arm is never taken, and what its columns hold is what it holds.
--- Assumes nothing.
 use mathlib.Core.Path.{sym, ap, _∙_}
 use mathlib.Core.List.{_++_}
 use Rattle.columns.specs.declared.Fields.{Fields}

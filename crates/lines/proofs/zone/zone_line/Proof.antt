@@ -1,5 +1,4 @@
 -- `lines::zone::zone_line` meets its contract: what the column holds is judged.
--- Assumes nothing.
 use mathlib.Core.Path.{sym, ap, _∙_}
 use Rattle.numbers.proofs.IntLaws.{plain}
 use Rattle.kinds.proofs.ReadLaws.{zone-good, zone-out}

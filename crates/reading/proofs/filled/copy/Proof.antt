@@ -1,5 +1,4 @@
 -- `reading::filled::copy` meets its contract. The invariant: the first i items are copied (`Copied`). The measure is the number of items less i.
--- Assumes nothing.
 use Prim.Native.Nat.{_-_}
 use native.Mathlib.Omega.{arith}
 use mathlib.Core.Path.{refl, _∙_}

@@ -1,4 +1,4 @@
--- `reading::filled::fill` meets its contract: each table holds what its lines hold, as the runs were judged good (`filled`). Assumes nothing.
+-- `reading::filled::fill` meets its contract: each table holds what its lines hold, as the runs were judged good (`filled`).
 use Rattle.reading.proofs.FilledLaws.{nets-again, rows-again, factors-asked, filled}
 use native.Mathlib.Omega.{arith}
 use Rattle.kinds.proofs.KindLaws.{header-in}

@@ -1,7 +1,8 @@
--- `reading::judged::judge_lines` meets its contract: the H line decides, or else the runs after it. Assumes nothing.
+-- `reading::judged::judge_lines` meets its contract: the H line decides, or else the runs after it.
 use mathlib.Core.Path.{sym, ap, _∙_}
 use native.Mathlib.Omega.{arith}
 use lib.ListN.{length}
+use Rattle.kinds.specs.Refusals.{refused}
 use Rattle.lines.specs.Lines.{headerLine}
 use Rattle.lines.specs.Said.{saidHeader}
 use Rattle.reading.proofs.JudgedTextLaws.{header-form, header-range}
@@ -13,10 +14,10 @@ judge-runs-requires : tie.Need-judge-runs-requires
 judge-runs-requires c κs = (record { header-is = ap headerLine (sym (c .before .before .before .before .before .line-at .ensures)) ∙ sym (c .before .before .before .before .header-line .ensures) ∙ ap saidHeader (c .before .before .h .given .1); at-is = omega (arith, ap length (c .before .before .before .before .before .line-at .ensures)) }, c .before .before .before .before .before .before .before .pre)
 
 returns-2 : tie.Need-returns-2
-returns-2 c = (header-form _ (ap headerLine (sym (c .before .before .before .line-at .ensures)) ∙ sym (c .before .before .header-line .ensures) ∙ ap saidHeader (c .enum-told .given .1)), tt)
+returns-2 c = (ap refused (c .wrong-form .ensures) ∙ header-form _ (ap headerLine (sym (c .before .before .before .before .line-at .ensures)) ∙ sym (c .before .before .before .header-line .ensures) ∙ ap saidHeader (c .before .enum-told .given .1)), tt)
 
 returns-3 : tie.Need-returns-3
-returns-3 c = (header-range _ (ap headerLine (sym (c .before .before .before .line-at .ensures)) ∙ sym (c .before .before .header-line .ensures) ∙ ap saidHeader (c .enum-told2 .given .1)), tt)
+returns-3 c = (ap refused (c .out-of-range .ensures) ∙ header-range _ (ap headerLine (sym (c .before .before .before .before .line-at .ensures)) ∙ sym (c .before .before .before .header-line .ensures) ∙ ap saidHeader (c .before .enum-told2 .given .1)), tt)
 
 pub judge-lines-spec : {M : Type 1} → statement M
 judge-lines-spec =
@@ -27,7 +28,9 @@ judge-lines-spec =
     (λ c. search needs)
     judge-runs-requires
     (λ c. search needs)
+    (λ c κs. search needs)
     (λ c. search needs)
+    (λ c κs. search needs)
     (λ c. search needs)
     (λ c. search needs)
     returns-2

@@ -1,8 +1,7 @@
 -- `reading::judged::judge_runs` meets its contract: the run that is refused decides, or what follows the last line; one law of `JudgedTextLaws` for each answer.
--- Assumes nothing.
 use mathlib.Core.Path.{_≡_, sym, ap, _∙_}
 use native.Mathlib.Omega.{arith}
-use Rattle.kinds.specs.Refusals.{passed}
+use Rattle.kinds.specs.Refusals.{refused, passed}
 use Rattle.block.specs.declared.End.{End}
 use Rattle.block.specs.Block.{read, endOf, saidEnd}
 use Rattle.runs.specs.Runs.{storedRun}
@@ -72,11 +71,11 @@ rows-judged-requires c κs =
 returns-3 : tie.Need-returns-3
 returns-3 c = (rows-refused (c .before .before .before .before .before .before .before .before .before .before .before .before .before .before .before .pre .0) (nets-end (c .before .before .before .before .before .before .before .before .before .before)) (borders-are (c .before .before .before .before)) (sym (ap saidEnd (c .before .w3 .given .1)) ∙ c .before .before .before .rows-judged .ensures), tt)
 
-add-t28 : tie.Need-add-t28
-add-t28 c = omega (arith, bounds (c .before .before .before .before .before .before .before .before .before .before .before .before .before .before .before .before .pre .0))
+add-wrong-form : tie.Need-add-wrong-form
+add-wrong-form c = omega (arith, bounds (c .before .before .before .before .before .before .before .before .before .before .before .before .before .before .before .before .pre .0))
 
 returns-4 : tie.Need-returns-4
-returns-4 c = (more-follows (c .before .before .before .before .before .before .before .before .before .before .before .before .before .before .before .before .pre .0) (nets-end (c .before .before .before .before .before .before .before .before .before .before .before)) (borders-are (c .before .before .before .before .before)) (rows-end (c .before)) (c .if1 .taken), tt)
+returns-4 c = (ap refused (c .wrong-form .ensures) ∙ more-follows (c .before .before .before .before .before .before .before .before .before .before .before .before .before .before .before .before .before .pre .0) (nets-end (c .before .before .before .before .before .before .before .before .before .before .before .before)) (borders-are (c .before .before .before .before .before .before)) (rows-end (c .before .before)) (c .before .if1 .taken), tt)
 
 returns-5 : tie.Need-returns-5
 returns-5 c =
@@ -108,7 +107,8 @@ judge-runs-spec =
     (λ c. search needs)
     (λ c. search needs)
     returns-3
-    add-t28
+    add-wrong-form
+    (λ c κs. search needs)
     (λ c. search needs)
     returns-4
     (λ c. search needs)

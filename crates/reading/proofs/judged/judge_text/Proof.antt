@@ -1,13 +1,14 @@
--- `reading::judged::judge_text` meets its contract: the length decides, then the lines, then borders given twice. Assumes nothing.
+-- `reading::judged::judge_text` meets its contract: the length decides, then the lines, then borders given twice.
 use mathlib.Core.Path.{_≡_, sym, ap, subst, _∙_}
 use native.Mathlib.Omega.{arith}
 use lib.ListN.{length}
 use lib.Seq.{length-take-le}
 use Rattle.kinds.specs.Limits.{bordersMost}
+use Rattle.kinds.specs.Refusals.{refused}
 use Rattle.kinds.proofs.KindLaws.{header-in}
 use Rattle.numbers.specs.First.{found}
 use Rattle.reading.specs.declared.judged.TextJudged.{TextJudged}
-use Rattle.reading.specs.declared.judged.TextJudged.the-variants.{Good}
+use Rattle.reading.specs.declared.judged.TextJudged.the-variants.{Passed}
 use Rattle.reading.specs.Reading.{linesOf}
 use Rattle.reading.specs.Places.{tableIn, placedIn, Placed}
 use Rattle.reading.proofs.JudgedTextLaws.{too-long, lines-refused, twice-refused, text-passes}
@@ -21,7 +22,7 @@ placed c = subst (λ (r : TextJudged). placedIn r (c .before .before .before .be
 
 lines-are : (c : tie.After-known-told)
     → let text = c .before .before .before .before .before .before .before .before .args .text .now in
-    tableIn (Good (c .before .places .given .0 .0)) text (c .before .before .before .before .judge-lines .last .1 .0) ≡ linesOf text
+    tableIn (Passed (c .before .places .given .0 .0)) text (c .before .before .before .before .judge-lines .last .1 .0) ≡ linesOf text
 lines-are c =
     let text = c .before .before .before .before .before .before .before .before .args .text .now in
     sym (ap (λ (r : TextJudged). tableIn r text (c .before .before .before .before .judge-lines .last .1 .0)) (c .before .places .given .1)) ∙ c .before .before .before .before .judge-lines .ensures .0
@@ -31,7 +32,7 @@ memory-long : (c : tie.After-known-told) → length (c .before .before .before .
 memory-long c = c .before .before .before .before .judge-lines .kept .1 .0 ∙ c .before .before .before .before .before .before .before .before .pre
 
 returns : tie.Need-returns
-returns c = (too-long _ (c .if1 .taken), tt)
+returns c = (ap refused (c .too-long .ensures) ∙ too-long _ (c .before .if1 .taken), tt)
 
 slice-reshare-prefix-first-twice : tie.Need-slice-reshare-prefix-first-twice
 slice-reshare-prefix-first-twice c = omega (arith, header-in _ (placed (c .before) .header-fits), memory-long (c .before))
@@ -40,7 +41,7 @@ slice-aggregate-first-twice : tie.Need-slice-aggregate-first-twice
 slice-aggregate-first-twice c = sym (length-take-le _ _ (omega (arith, header-in _ (placed (c .before .before) .header-fits), memory-long (c .before .before))))
 
 returns-2 : tie.Need-returns-2
-returns-2 c = (twice-refused _ (c .before .before .before .before .before .before .before .before .before .before .before .before .if1 .left) _ (lines-are (c .before .before .before .before .before .before)) _ (sym (ap found (c .before .i .given .1)) ∙ c .before .before .before .first-twice .ensures), tt)
+returns-2 c = (ap refused (c .given-twice .ensures) ∙ twice-refused _ (c .before .before .before .before .before .before .before .before .before .before .before .before .before .if1 .left) _ (lines-are (c .before .before .before .before .before .before .before)) _ (sym (ap found (c .before .before .i .given .1)) ∙ c .before .before .before .before .first-twice .ensures), tt)
 
 returns-3 : tie.Need-returns-3
 returns-3 c = (text-passes _ (c .before .before .before .before .before .before .before .before .before .before .before .if1 .left) _ (lines-are (c .before .before .before .before .before)) (sym (ap found (c .enum-told .given .1)) ∙ c .before .before .first-twice .ensures), placed (c .before .before .before .before .before))
@@ -52,6 +53,7 @@ pub judge-text-spec : {M : Type 1} → statement M
 judge-text-spec =
     tie.close
     (tie.spec
+    (λ c κs. search needs)
     returns
     (λ c κs. search needs)
     (λ c. search needs)
@@ -59,6 +61,7 @@ judge-text-spec =
     slice-aggregate-first-twice
     (λ c κs. search needs)
     (λ c. search needs)
+    (λ c κs. search needs)
     (λ c. search needs)
     (λ c. search needs)
     (λ c. search needs)

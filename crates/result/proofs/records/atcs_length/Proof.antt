@@ -1,5 +1,4 @@
--- `result::records::atcs_length` meets its contract: the total is that of the first b lines (`Measured`), and no line is longer than `resultLineMost` (`atc-most`).
--- Assumes nothing.
+-- `result::records::atcs_length` meets its contract: the sum is that of the first b lines (`Measured`), and no line is longer than `resultLineMost` (`atc-most`).
 use Prim.Native.Nat.{_-_}
 use mathlib.Core.List.{[]}
 use native.Mathlib.Omega.{arith}
@@ -14,16 +13,16 @@ use Rattle.result.proofs.records.atcs_length.Statement.{statement}
 use Rattle.result.proofs.records.atcs_length.Tie as tie
 
 abbrev Inv-loop : tie.InvT-loop
-Inv-loop atc total₀ b₀ total b = Measured (atcAt atc) resultLineMost (length atc) b total
+Inv-loop atc sum₀ b₀ sum b = Measured (atcAt atc) resultLineMost (length atc) b sum
 
 abbrev μ-loop : tie.MeasureT-loop
-μ-loop atc total₀ b₀ total b = length atc - b
+μ-loop atc sum₀ b₀ sum b = length atc - b
 
 loop-holds : tie.Need-loop-holds Inv-loop μ-loop
 loop-holds c = measured-none _ _ _
 
-add-total : tie.Need-add-total Inv-loop μ-loop
-add-total c =
+add-sum : tie.Need-add-sum Inv-loop μ-loop
+add-sum c =
     let start = c .before .before .before .before in
     let at-loop = c .before .before .before .loop in
     let known = c .before .atc-length-arg .given in
@@ -54,7 +53,7 @@ atcs-length-spec =
     (λ c. omega arith)
     (λ c. search needs)
     (λ c κs. search needs)
-    add-total
+    add-sum
     (λ c. omega arith)
     (λ c. omega arith)
     loop-again

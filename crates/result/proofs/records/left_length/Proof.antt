@@ -1,5 +1,4 @@
 -- `result::records::left_length` meets its contract: the number's length where the state is 0 (`left-is`), else that of "-" (`left-dash`).
--- Assumes nothing.
 use mathlib.Core.Path.{sym, ap, _∙_}
 use lib.ListN.{length}
 use mir.Facts.{toZ-ofZ}

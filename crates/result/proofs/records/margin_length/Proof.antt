@@ -1,4 +1,4 @@
--- `result::records::margin_length` meets its contract (`margin-length`): a field has at most 20 bytes, so the sums fit. Assumes nothing.
+-- `result::records::margin_length` meets its contract (`margin-length`): a field has at most 20 bytes, so the sums fit.
 use native.Mathlib.Omega.{arith}
 use mir.Facts.{toZ-ofZ}
 use Rattle.text.proofs.DigitLaws.{decimal-u64, decimal-i64}

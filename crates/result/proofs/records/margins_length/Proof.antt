@@ -1,5 +1,4 @@
--- `result::records::margins_length` meets its contract: the total is that of the first i lines (`Measured`), and no line is longer than `resultLineMost` (`margin-most`).
--- Assumes nothing.
+-- `result::records::margins_length` meets its contract: the sum is that of the first i lines (`Measured`), and no line is longer than `resultLineMost` (`margin-most`).
 use Prim.Native.Nat.{_-_}
 use mathlib.Core.List.{[]}
 use native.Mathlib.Omega.{arith}
@@ -14,16 +13,16 @@ use Rattle.result.proofs.records.margins_length.Statement.{statement}
 use Rattle.result.proofs.records.margins_length.Tie as tie
 
 abbrev Inv-loop : tie.InvT-loop
-Inv-loop left total₀ i₀ total i = Measured (marginAt left) resultLineMost (length left) i total
+Inv-loop left sum₀ i₀ sum i = Measured (marginAt left) resultLineMost (length left) i sum
 
 abbrev μ-loop : tie.MeasureT-loop
-μ-loop left total₀ i₀ total i = length left - i
+μ-loop left sum₀ i₀ sum i = length left - i
 
 loop-holds : tie.Need-loop-holds Inv-loop μ-loop
 loop-holds c = measured-none _ _ _
 
-add-total : tie.Need-add-total Inv-loop μ-loop
-add-total c =
+add-sum : tie.Need-add-sum Inv-loop μ-loop
+add-sum c =
     let start = c .before .before .before .before .before .before in
     let at-loop = c .before .before .before .before .before .loop in
     let row = getD (start .args .left .now) (at-loop .i) [] in
@@ -64,7 +63,7 @@ margins-length-spec =
     (λ c. omega arith)
     (λ c. search needs)
     (λ c κs. search needs)
-    add-total
+    add-sum
     (λ c. omega arith)
     (λ c. omega arith)
     loop-again

@@ -1,5 +1,4 @@
 -- `result::records::put_atc` meets its contract: the letter, the two fields and the LF, one after another (`line-none`, `line-more`, `line-all`).
--- Assumes nothing.
 use mathlib.Core.List.{[], _∷_}
 use native.Mathlib.Omega.{arith}
 use mir.Facts.{toZ-ofZ}

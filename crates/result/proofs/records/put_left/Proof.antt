@@ -1,5 +1,4 @@
 -- `result::records::put_left` meets its contract: the number where the state is 0 (`left-is`), else "-" (`left-dash`).
--- Assumes nothing.
 use mathlib.Core.Path.{sym, ap, _∙_}
 use native.Mathlib.Omega.{arith}
 use lib.ListN.{length}

@@ -1,6 +1,5 @@
 -- `result::records::put_margin` meets its contract: the letter, the four fields and the LF, one after another.
 -- `letter`, `index`, .. `left` say what is written where a call is back; each is the one before it and one field more (`line-more`).
--- Assumes nothing.
 use mathlib.Core.List.{List, [], _∷_}
 use Prim.Native.Nat.{ℕ, _≤_}
 use native.Mathlib.Omega.{arith}

@@ -1,5 +1,4 @@
 -- `result::records::put_margins` meets its contract: the first i lines are written. A turn is `lines-more`.
--- Assumes nothing.
 use Prim.Native.Nat.{_-_, _≤_}
 use native.Mathlib.Omega.{arith}
 use borrow.Author.Needs.{needs}

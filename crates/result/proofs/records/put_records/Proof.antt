@@ -1,5 +1,4 @@
 -- `result::records::put_records` meets its contract: A lines, M lines and the R line, one after another (`text-put`).
--- Assumes nothing.
 use Prim.Native.Nat.{_+_}
 use native.Mathlib.Omega.{arith}
 use borrow.Author.Needs.{needs}

@@ -1,5 +1,4 @@
 -- `result::records::put_rounds` meets its contract: the letter, the number and the LF, one after another (`line-none`, `line-more`, `line-all`).
--- Assumes nothing.
 use mathlib.Core.List.{[], _∷_}
 use native.Mathlib.Omega.{arith}
 use Rattle.text.specs.Written.{decimal}

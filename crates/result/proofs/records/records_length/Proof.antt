@@ -1,4 +1,4 @@
--- `result::records::records_length` meets its contract (`text-length`). Assumes nothing.
+-- `result::records::records_length` meets its contract (`text-length`).
 use native.Mathlib.Omega.{arith}
 use Rattle.text.proofs.DigitLaws.{decimal-u64}
 use Rattle.result.proofs.RecordsLaws.{rounds-length, text-length}

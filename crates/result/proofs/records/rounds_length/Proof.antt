@@ -1,4 +1,4 @@
--- `result::records::rounds_length` meets its contract (`rounds-length`). Assumes nothing.
+-- `result::records::rounds_length` meets its contract (`rounds-length`).
 use native.Mathlib.Omega.{arith}
 use Rattle.text.proofs.DigitLaws.{decimal-u64}
 use Rattle.result.proofs.RecordsLaws.{rounds-length}

@@ -1,23 +1,58 @@
--- `result::refusal::put_refusal` meets its contract: number and place are those that `told` gives (`why-put`).
--- Assumes nothing.
+-- `result::refusal::put_refusal` meets its contract: the letter, the two fields and the LF, one after another (`line-none`, `line-more`, `line-all`).
+use mathlib.Core.List.{[], _∷_}
+use native.Mathlib.Omega.{arith}
 use borrow.Author.Needs.{needs}
-use Rattle.kinds.specs.Refusals.{told}
-use Rattle.text.proofs.PutLaws.{put-whole}
-use Rattle.result.proofs.RecordsLaws.{why-room, why-put}
+use Rattle.text.specs.Written.{decimal}
+use Rattle.text.proofs.PutLaws.{put-whole, line-none, line-more, line-all, room-first, room-more, room-last}
+use Rattle.result.specs.Refusal.{refusalText}
 use Rattle.result.proofs.refusal.put_refusal.Statement.{statement}
 use Rattle.result.proofs.refusal.put_refusal.Tie as tie
 
-put-why-requires : tie.Need-put-why-requires
-put-why-requires c κs =
-    let start = c .before .before .before .before in
-    why-room (told (start .args .w)) (c .before .before .refusal-number .ensures) (c .before .refusal-place .ensures) (start .pre)
+put-byte-requires : tie.Need-put-byte-requires
+unfolding refusalText
+put-byte-requires c κs =
+    let start = c .before .before in
+    room-first 69 (decimal (start .args .w .number) ∷ decimal (start .args .w .place) ∷ []) (omega (arith, start .pre))
+
+put-number-field-requires : tie.Need-put-number-field-requires
+unfolding refusalText
+put-number-field-requires c κs =
+    let start = c .before .before .before .before .before .before .before in
+    room-more (line-none (c .before .before .before .before .put-byte .ensures)) (decimal (start .args .w .number)) (decimal (start .args .w .place) ∷ []) (omega (arith, start .pre))
+
+put-number-field-requires-2 : tie.Need-put-number-field-requires-2
+unfolding refusalText
+put-number-field-requires-2 c κs =
+    let start = c .before .before .before .before .before .before .before .before .before .before .before in
+    let letter = line-none (c .before .before .before .before .before .before .before .before .put-byte .ensures) in
+    let number = line-more (omega arith) letter (c .before .before .before .put-number-field .ensures) in
+    room-more number (decimal (start .args .w .place)) [] (omega (arith, start .pre))
+
+put-byte-requires-2 : tie.Need-put-byte-requires-2
+unfolding refusalText
+put-byte-requires-2 c κs =
+    let start = c .before .before .before .before .before .before .before .before .before .before .before .before .before .before .before in
+    let letter = line-none (c .before .before .before .before .before .before .before .before .before .before .before .before .put-byte .ensures) in
+    let number = line-more (omega arith) letter (c .before .before .before .before .before .before .before .put-number-field .ensures) in
+    let place = line-more (omega arith) number (c .before .before .before .put-number-field2 .ensures) in
+    room-last place (omega (arith, start .pre))
 
 returns : tie.Need-returns
+unfolding refusalText
 returns c =
-    let start = c .before .before .before .before .before .before .before in
-    put-whole (why-put (told (start .args .w)) (c .before .before .before .before .before .refusal-number .ensures) (c .before .before .before .before .refusal-place .ensures) (c .before .before .put-why .ensures))
+    let letter = line-none (c .before .before .before .before .before .before .before .before .before .before .before .before .before .before .before .put-byte .ensures) in
+    let number = line-more (omega arith) letter (c .before .before .before .before .before .before .before .before .before .before .put-number-field .ensures) in
+    let place = line-more (omega arith) number (c .before .before .before .before .before .before .put-number-field2 .ensures) in
+    put-whole (line-all (omega arith) place (c .before .before .put-byte2 .ensures))
 
 pub put-refusal-spec : {M : Type 1} → statement M
 put-refusal-spec =
     tie.close
-    (tie.spec (λ c κs. search needs) (λ c κs. search needs) put-why-requires (λ c. search needs) returns)
+    (tie.spec
+    put-byte-requires
+    (λ c. search needs)
+    put-number-field-requires
+    put-number-field-requires-2
+    put-byte-requires-2
+    (λ c. search needs)
+    returns)

@@ -1,6 +1,5 @@
 -- `runs::borders::borders_read` meets its contract. The invariant: the first i items are what the lines passed hold (`Stored`).
 -- The measure is the number of lines less i. A turn is the law `stored-more`.
--- Assumes nothing.
 use Prim.Native.Nat.{ℕ, _+_, _-_}
 use mathlib.Core.Path.{_≡_, sym, ap, _∙_}
 use mathlib.Core.List.{List, [], _∷_}
@@ -8,6 +7,7 @@ use native.Mathlib.Omega.{arith}
 use borrow.Author.Needs.{needs}
 use lib.IntN.{pos}
 use Rattle.text.specs.Line.{lineAt, holds}
+use Rattle.block.specs.Block.{fault}
 use Rattle.table.specs.Table.{zoneLineNo}
 use Rattle.lines.specs.Lines.{borderLine}
 use Rattle.lines.specs.Said.{saidBorder}
@@ -67,29 +67,29 @@ mul-t17 c = omega (arith, c .before .before .before .before .before .before .bef
 slice-set-from-b : tie.Need-slice-set-from-b Inv-loop μ-loop
 slice-set-from-b c = omega (arith, c .before .before .before .before .before .before .before .before .before .loop .inv)
 
-add-t19 : tie.Need-add-t19 Inv-loop μ-loop
-add-t19 c = omega (arith, c .before .before .before .before .before .loop .inv .high)
+add-wrong-form : tie.Need-add-wrong-form Inv-loop μ-loop
+add-wrong-form c = omega (arith, c .before .before .before .before .before .loop .inv .high)
 
 same-length : tie.Need-same-length Inv-loop μ-loop
-same-length c = c .before .before .before .before .before .loop .inv .as-long
+same-length c = c .before .before .before .before .before .before .loop .inv .as-long
 
 returns : tie.Need-returns Inv-loop μ-loop
 returns c =
-    let zones = c .before .before .before .before .before .before .before .args .zones in
-    let l = c .before .before .before .before .before .loop in
-    stored-form (borderLine zones) (zoneLineNo + zones) _ _ _ _ _ _ _ (l .inv) (c .before .before .before .before .loop-test .taken) (line-said (c .before .before) ∙ ap saidBorder (c .enum-told .given .1))
+    let zones = c .before .before .before .before .before .before .before .before .args .zones in
+    let l = c .before .before .before .before .before .before .loop in
+    ap fault (c .wrong-form .ensures) ∙ stored-form (borderLine zones) (zoneLineNo + zones) _ _ _ _ _ _ _ (l .inv) (c .before .before .before .before .before .loop-test .taken) (line-said (c .before .before .before) ∙ ap saidBorder (c .before .enum-told .given .1))
 
-add-t21 : tie.Need-add-t21 Inv-loop μ-loop
-add-t21 c = omega (arith, c .before .before .before .before .before .loop .inv .high)
+add-out-of-range : tie.Need-add-out-of-range Inv-loop μ-loop
+add-out-of-range c = omega (arith, c .before .before .before .before .before .loop .inv .high)
 
 same-length-2 : tie.Need-same-length-2 Inv-loop μ-loop
-same-length-2 c = c .before .before .before .before .before .loop .inv .as-long
+same-length-2 c = c .before .before .before .before .before .before .loop .inv .as-long
 
 returns-2 : tie.Need-returns-2 Inv-loop μ-loop
 returns-2 c =
-    let zones = c .before .before .before .before .before .before .before .args .zones in
-    let l = c .before .before .before .before .before .loop in
-    stored-range (borderLine zones) (zoneLineNo + zones) _ _ _ _ _ _ _ (l .inv) (c .before .before .before .before .loop-test .taken) (line-said (c .before .before) ∙ ap saidBorder (c .enum-told2 .given .1))
+    let zones = c .before .before .before .before .before .before .before .before .args .zones in
+    let l = c .before .before .before .before .before .before .loop in
+    ap fault (c .out-of-range .ensures) ∙ stored-range (borderLine zones) (zoneLineNo + zones) _ _ _ _ _ _ _ (l .inv) (c .before .before .before .before .before .loop-test .taken) (line-said (c .before .before .before) ∙ ap saidBorder (c .before .enum-told2 .given .1))
 
 add-p : tie.Need-add-p Inv-loop μ-loop
 add-p c =
@@ -128,11 +128,13 @@ borders-read-spec =
     mul-t17
     slice-set-from-b
     (λ c. search needs)
-    add-t19
+    add-wrong-form
+    (λ c κs. search needs)
     same-length
     returns
     (λ c. search needs)
-    add-t21
+    add-out-of-range
+    (λ c κs. search needs)
     same-length-2
     returns-2
     add-p

@@ -1,17 +1,16 @@
--- `runs::rows::rows_filled` meets its contract. The invariant: the first i rows are in their places, each with its stretch of the factors, and the lines left hold the others (`Filled`).
--- The measure is the number of rows left. A turn is the law `filled-more`.
--- Assumes nothing.
+-- `runs::rows::rows_filled` meets its contract. The invariant: the first i rows are in their places, each with its stretch of the factors, and the lines left hold the others (`RowsFilled`).
+-- The measure is the number of rows left. A turn is the law `rows-filled-more`.
 use mathlib.Core.Path.{_≡_, refl, sym, _∙_}
 use Prim.Native.Nat.{_+_, _*_, _-_, _≤_}
 use native.Mathlib.Omega.{arith}
 use borrow.Author.Needs.{needs}
 use lib.ListN.{length, take, drop}
-use Rattle.runs.proofs.RowPasses.{lent-long, Filled, filled-none, filled-room, filled-good, filled-more, filled-all}
+use Rattle.runs.proofs.RowPasses.{lent-long, RowsFilled, rows-filled-none, rows-filled-room, rows-filled-holds, rows-filled-more, rows-filled-all}
 use Rattle.runs.proofs.rows.rows_filled.Statement.{statement}
 use Rattle.runs.proofs.rows.rows_filled.Tie as tie
 
 abbrev Inv-loop : tie.InvT-loop
-Inv-loop text at zones c₀ f₀ p₀ i₀ i-end c f p i = Filled zones text at i-end c f p i
+Inv-loop text at zones c₀ f₀ p₀ i₀ i-end c f p i = RowsFilled zones text at i-end c f p i
 
 abbrev μ-loop : tie.MeasureT-loop
 μ-loop text at zones c₀ f₀ p₀ i₀ i-end c f p i = i-end - i
@@ -24,7 +23,7 @@ room : (c : tie.In-loop Inv-loop μ-loop)
 room c =
     let l = c .before .loop in
     let a = c .before .before .before .args in
-    filled-room (a .zones) (a .text .now) (a .at) (length (a .c .now)) (l .c) (l .f) (l .p) (l .i) (l .inv) (c .loop-test .taken)
+    rows-filled-room (a .zones) (a .text .now) (a .at) (length (a .c .now)) (l .c) (l .f) (l .p) (l .i) (l .inv) (c .loop-test .taken)
 
 lent : (c : tie.In-loop Inv-loop μ-loop)
     → let start = c .before .loop .i * c .before .before .before .args .zones in
@@ -35,7 +34,7 @@ lent c = lent-long (c .before .loop .f) _ _ (room c)
 loop-holds : tie.Need-loop-holds Inv-loop μ-loop
 loop-holds c =
     let a = c .before .args in
-    filled-none (a .zones) (a .text .now) (a .at) (length (a .c .now)) (a .c .now) (a .f .now) (c .before .pre .0) refl (c .before .pre .1) (c .before .pre .2)
+    rows-filled-none (a .zones) (a .text .now) (a .at) (length (a .c .now)) (a .c .now) (a .f .now) (c .before .pre .0) refl (c .before .pre .1) (c .before .pre .2)
 
 line-at-requires : tie.Need-line-at-requires Inv-loop μ-loop
 line-at-requires c κs = c .before .loop .inv .passed .within
@@ -58,7 +57,7 @@ row-filled-requires c κs =
     let start = c .before .before .before .before .before in
     let a = start .args in
     let n = lent (c .before .before) in
-    (omega (arith, n, start .pre .3), omega (arith, n, start .pre .4), filled-good (a .zones) (a .text .now) (a .at) (length (a .c .now)) (l .c) (l .f) (l .p) (l .i) (l .inv) (c .before .before .loop-test .taken) _ (c .before .line-at .ensures) _ n)
+    (omega (arith, n, start .pre .3), omega (arith, n, start .pre .4), rows-filled-holds (a .zones) (a .text .now) (a .at) (length (a .c .now)) (l .c) (l .f) (l .p) (l .i) (l .inv) (c .before .before .loop-test .taken) _ (c .before .line-at .ensures) _ n)
 
 slice-set-from-c : tie.Need-slice-set-from-c Inv-loop μ-loop
 slice-set-from-c c = omega (arith, c .before .before .before .before .before .loop .inv .rows-long)
@@ -67,7 +66,7 @@ loop-again : tie.Need-loop-again Inv-loop μ-loop
 loop-again c =
     let l = c .before .before .before .before .before .loop in
     let a = c .before .before .before .before .before .before .before .args in
-    filled-more (a .zones) (a .text .now) (a .at) (length (a .c .now)) (l .c) (l .f) (l .p) (l .i) (l .inv) (c .before .before .before .before .loop-test .taken) _ (c .before .before .before .line-at .ensures) _ (lent (c .before .before .before .before))
+    rows-filled-more (a .zones) (a .text .now) (a .at) (length (a .c .now)) (l .c) (l .f) (l .p) (l .i) (l .inv) (c .before .before .before .before .loop-test .taken) _ (c .before .before .before .line-at .ensures) _ (lent (c .before .before .before .before))
     (c .before .row-filled .result) (c .before .row-filled .last .1 .1 .0) (c .before .row-filled .kept .1 .1 .0) (c .before .row-filled .ensures)
 
 same-length : tie.Need-same-length Inv-loop μ-loop
@@ -81,7 +80,7 @@ returns : tie.Need-returns Inv-loop μ-loop
 returns c =
     let a = c .before .before .before .args in
     let l = c .before .loop in
-    filled-all (a .zones) (a .text .now) (a .at) (length (a .c .now)) (l .c) (l .f) (l .p) (l .i) (l .inv) (c .loop-test .left)
+    rows-filled-all (a .zones) (a .text .now) (a .at) (length (a .c .now)) (l .c) (l .f) (l .p) (l .i) (l .inv) (c .loop-test .left)
 
 pub rows-filled-spec : {M : Type 1} → statement M
 rows-filled-spec =

@@ -1,16 +1,16 @@
 -- `runs::rows::rows_judged` meets its contract. The invariant: the lines left come to what all of them come to (`Passed`).
 -- The measure is the number of lines left. A turn is the law `passed-more`.
--- Assumes nothing.
 use mathlib.Core.Path.{_≡_, sym, ap, _∙_}
 use mathlib.Core.List.{List}
 use Prim.Native.Nat.{ℕ, _-_}
 use borrow.Author.Needs.{needs}
+use Rattle.kinds.specs.Refusals.{refused}
 use Rattle.text.specs.Line.{lineAt, form, range}
 use Rattle.block.specs.Block.{endOf}
 use Rattle.block.proofs.BlockLaws.{Passed, passed-start, passed-line, passed-more, passed-all}
 use Rattle.lines.specs.Lines.{rowLine}
 use Rattle.lines.specs.SaidRow.{judgedOf}
-use Rattle.lines.proofs.RowJudge.{said-good, said-form, said-range}
+use Rattle.lines.proofs.RowJudge.{said-holds, said-form, said-range}
 use Rattle.runs.proofs.StoredLaws.{end-drops}
 use Rattle.runs.proofs.rows.rows_judged.Statement.{statement}
 use Rattle.runs.proofs.rows.rows_judged.Tie as tie
@@ -41,21 +41,21 @@ line-at-requires c κs = c .before .loop .inv .within
 
 returns : tie.Need-returns Inv-loop μ-loop
 returns c =
-    let a = c .before .before .before .before .before .before .before .args in
-    let l = c .before .before .before .before .before .loop in
-    passed-line (rowLine (a .zones)) (a .first) endOf end-drops (a .text .now) (a .at) (a .count) (l .i) (l .p) (l .inv) (c .before .before .before .before .loop-test .taken) form (said-form _ (judged (c .before .before) ∙ c .enum-told2 .given .1))
+    let a = c .before .before .before .before .before .before .before .before .args in
+    let l = c .before .before .before .before .before .before .loop in
+    ap refused (c .wrong-form .ensures) ∙ passed-line (rowLine (a .zones)) (a .first) endOf end-drops (a .text .now) (a .at) (a .count) (l .i) (l .p) (l .inv) (c .before .before .before .before .before .loop-test .taken) form (said-form _ (judged (c .before .before .before) ∙ c .before .enum-told2 .given .1))
 
 returns-2 : tie.Need-returns-2 Inv-loop μ-loop
 returns-2 c =
-    let a = c .before .before .before .before .before .before .before .args in
-    let l = c .before .before .before .before .before .loop in
-    passed-line (rowLine (a .zones)) (a .first) endOf end-drops (a .text .now) (a .at) (a .count) (l .i) (l .p) (l .inv) (c .before .before .before .before .loop-test .taken) range (said-range _ (judged (c .before .before) ∙ c .enum-told3 .given .1))
+    let a = c .before .before .before .before .before .before .before .before .args in
+    let l = c .before .before .before .before .before .before .loop in
+    ap refused (c .out-of-range .ensures) ∙ passed-line (rowLine (a .zones)) (a .first) endOf end-drops (a .text .now) (a .at) (a .count) (l .i) (l .p) (l .inv) (c .before .before .before .before .before .loop-test .taken) range (said-range _ (judged (c .before .before .before) ∙ c .before .enum-told3 .given .1))
 
 loop-again : tie.Need-loop-again Inv-loop μ-loop
 loop-again c =
     let a = c .before .before .before .before .before .before .before .args in
     let l = c .before .before .before .before .before .loop in
-    let held = said-good _ (judged (c .before .before) ∙ c .enum-told .given .1) in
+    let held = said-holds _ (judged (c .before .before) ∙ c .enum-told .given .1) in
     rw (c .before .before .before .line-at .ensures) (passed-more (rowLine (a .zones)) (a .first) endOf end-drops (a .text .now) (a .at) (a .count) (l .i) (l .p) (l .inv) (c .before .before .before .before .loop-test .taken) (held .it) (held .is))
 
 returns-3 : tie.Need-returns-3 Inv-loop μ-loop
@@ -76,9 +76,11 @@ rows-judged-spec =
     (λ c. search needs)
     (λ c. search needs)
     (λ c. search needs)
+    (λ c κs. search needs)
     returns
     (λ c. search needs)
     (λ c. search needs)
+    (λ c κs. search needs)
     returns-2
     (λ c. search needs)
     (λ c. search needs)

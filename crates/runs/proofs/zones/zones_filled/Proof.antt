@@ -1,6 +1,5 @@
 -- `runs::zones::zones_filled` meets its contract. The invariant: the first i items are what the lines passed hold (`Stored`).
 -- The measure is the number of lines less i. A turn is the law `stored-more`; a refused line would be a refused run, which the judging excludes.
--- Assumes nothing.
 use Prim.Native.Nat.{ℕ, _-_}
 use mathlib.Core.Path.{_≡_, sym, ap, _∙_}
 use mathlib.Core.List.{List}

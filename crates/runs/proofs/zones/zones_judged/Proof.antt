@@ -1,11 +1,11 @@
 -- `runs::zones::zones_judged` meets its contract. The invariant: what is left of the run, from line i on, ends as the whole does (`Passed`).
 -- The measure is the number of lines less i. A turn is the law `passed-more`.
--- Assumes nothing.
 use Prim.Native.Nat.{ℕ, _-_}
 use mathlib.Core.Path.{_≡_, sym, ap, _∙_}
 use mathlib.Core.List.{List}
 use native.Mathlib.Omega.{arith}
 use borrow.Author.Needs.{needs}
+use Rattle.kinds.specs.Refusals.{refused}
 use Rattle.text.specs.Line.{lineAt, form, range}
 use Rattle.block.specs.Block.{endOf}
 use Rattle.block.proofs.BlockLaws.{Passed, passed-start, passed-all, passed-line, passed-more}
@@ -36,13 +36,13 @@ line-at-requires c κs = c .before .loop .inv .within
 
 returns : tie.Need-returns Inv-loop μ-loop
 returns c =
-    let l = c .before .before .before .before .before .loop in
-    passed-line zoneLine zoneLineNo endOf end-drops _ _ _ _ _ (l .inv) (c .before .before .before .before .loop-test .taken) form (line-said (c .before .before) ∙ ap saidZone (c .enum-told2 .given .1))
+    let l = c .before .before .before .before .before .before .loop in
+    ap refused (c .wrong-form .ensures) ∙ passed-line zoneLine zoneLineNo endOf end-drops _ _ _ _ _ (l .inv) (c .before .before .before .before .before .loop-test .taken) form (line-said (c .before .before .before) ∙ ap saidZone (c .before .enum-told2 .given .1))
 
 returns-2 : tie.Need-returns-2 Inv-loop μ-loop
 returns-2 c =
-    let l = c .before .before .before .before .before .loop in
-    passed-line zoneLine zoneLineNo endOf end-drops _ _ _ _ _ (l .inv) (c .before .before .before .before .loop-test .taken) range (line-said (c .before .before) ∙ ap saidZone (c .enum-told3 .given .1))
+    let l = c .before .before .before .before .before .before .loop in
+    ap refused (c .out-of-range .ensures) ∙ passed-line zoneLine zoneLineNo endOf end-drops _ _ _ _ _ (l .inv) (c .before .before .before .before .before .loop-test .taken) range (line-said (c .before .before .before) ∙ ap saidZone (c .before .enum-told3 .given .1))
 
 add-p : tie.Need-add-p Inv-loop μ-loop
 add-p c =
@@ -70,9 +70,11 @@ zones-judged-spec =
     (λ c. search needs)
     (λ c. search needs)
     (λ c. omega arith)
+    (λ c κs. search needs)
     returns
     (λ c. search needs)
     (λ c. omega arith)
+    (λ c κs. search needs)
     returns-2
     add-p
     (λ c. omega arith)

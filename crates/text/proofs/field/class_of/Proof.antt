@@ -1,6 +1,5 @@
 -- `text::field::class_of` meets its contract: each arm of the match is one case of `classOf`. What no single byte's arm takes is a digit or something else
 -- by two tests.
--- Assumes nothing.
 use borrow.Author.Needs.{needs}
 use borrow.Author.Tests.{le-ltb, lt-ltb, le-leb, lt-leb, ne-eqb}
 use Rattle.text.proofs.field.class_of.Statement.{statement}

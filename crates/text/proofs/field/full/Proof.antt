@@ -1,5 +1,4 @@
 -- `text::field::full` meets its contract: its tests are those of the contract.
--- Assumes nothing.
 use native.Mathlib.Omega.{arith}
 use borrow.Author.Tests.{le-leb, lt-leb, lt-ltb, le-ltb}
 use Rattle.text.proofs.field.full.Statement.{statement}

@@ -1,5 +1,4 @@
 -- `text::field::has_minus` meets its contract: only a minus has the class `Minus`.
--- Assumes nothing.
 use mathlib.Core.Path.{sym, ap, _∙_}
 use borrow.Author.Needs.{needs}
 use lib.ListN.{getD}

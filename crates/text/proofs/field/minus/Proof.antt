@@ -1,5 +1,4 @@
 -- `text::field::minus` meets its contract: by the number after the minus, each return is one case of `negative`.
--- Assumes nothing.
 use Prim.Native.Nat.{_<_, _^_}
 use borrow.Author.Needs.{needs}
 use borrow.Author.Tests.{ne-eqb}

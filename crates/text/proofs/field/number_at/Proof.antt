@@ -1,6 +1,5 @@
 -- `text::field::number_at` meets its contract. The invariant is `Upto`: what was passed from `at` to i are digits worth v, with a zero first only where it is alone.
 -- The measure is what is left of the line. A turn is the law `upto-more`, and each return has a law of its own.
--- Assumes nothing.
 use Prim.Native.Nat.{_-_, _<_, _^_}
 use mathlib.Core.Path.{_≡_, sym, _∙_}
 use mathlib.Core.Bool.{true}

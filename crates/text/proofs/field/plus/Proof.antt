@@ -1,5 +1,4 @@
 -- `text::field::plus` meets its contract. A number below 10^10 is the same in an i64.
--- Assumes nothing.
 use mathlib.Core.Path.{sym, ap}
 use Prim.Native.Nat.{_<_, _^_}
 use borrow.Author.Needs.{needs}

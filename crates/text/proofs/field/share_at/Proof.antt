@@ -1,5 +1,4 @@
 -- `text::field::share_at` meets its contract: by its first byte, and by the one after a minus, the field is one of the three cases of `shareAt`.
--- Assumes nothing.
 use mathlib.Core.Path.{_≡_, sym, ap, _∙_}
 use mathlib.Core.Bool.{true}
 use native.Mathlib.Omega.{arith}

@@ -1,6 +1,5 @@
 -- `text::field::signed_at` meets its contract: by its first byte the field is one of the two cases of `signedAt`. What follows a minus stands in the line,
 -- so that its place fits.
--- Assumes nothing.
 use mathlib.Core.Path.{_≡_, sym, ap, ap₂, _∙_}
 use mathlib.Core.Bool.{true}
 use Prim.Native.Nat.{ℕ, _+_}

@@ -1,5 +1,4 @@
 -- `text::line::headed` meets its contract.
--- Assumes nothing.
 use borrow.Author.Tests.{le-leb, lt-leb, eq-eqb, ne-eqb}
 use lib.ListN.{length, getD}
 use borrow.Author.Needs.{needs}

@@ -1,11 +1,10 @@
 -- `text::line::line_at` meets its contract: the part of the text from p up to the line's end is the line (`line-take`).
--- Assumes nothing.
 use Prim.Native.Nat.{ℕ, _-_}
 use mathlib.Core.Path.{_≡_, ap, _∙_}
 use native.Mathlib.Omega.{arith}
 use lib.ListN.{length, take, drop, length-drop}
 use Rattle.text.specs.Line.{lineOf}
-use Rattle.text.proofs.LineLaws.{line-take, line-length}
+use Rattle.text.proofs.LineLaws.{line-take, line-le-length}
 use borrow.Author.Needs.{needs}
 use Rattle.text.proofs.line.line_at.Statement.{statement}
 use Rattle.text.proofs.line.line_at.Tie as tie
@@ -13,7 +12,7 @@ use Rattle.text.proofs.line.line_at.Tie as tie
 part-result-end : tie.Need-part-result-end
 part-result-end c =
     let a = c .before .before .args in
-    omega (arith, line-length (drop (a .p) (a .text .now)), length-drop (a .p) (a .text .now))
+    omega (arith, line-le-length (drop (a .p) (a .text .now)), length-drop (a .p) (a .text .now))
 
 returns : tie.Need-returns
 returns c =

@@ -1,6 +1,5 @@
 -- `text::line::line_end` meets its contract. The invariant: what is left of the line from i on, with what is passed, is the line at p.
 -- The measure is what is left of the text.
--- Assumes nothing.
 use Prim.Native.Nat.{_+_, _-_, _≤_}
 use mathlib.Core.Path.{_≡_, ap}
 use native.Mathlib.Omega.{arith}

@@ -1,28 +1,27 @@
--- `text::put::digit_count` meets its contract. The invariant: what is left has the digits not counted yet (`Counted`); a turn is `counted-more`.
+-- `text::put::digit_count` meets its contract. The invariant: what is left has the digits not counted yet (`DigitsCounted`); a turn is `digits-counted-more`.
 -- The measure is what is left.
--- Assumes nothing.
 use native.Mathlib.Omega.{arith}
-use Rattle.text.proofs.DigitLaws.{Counted, counted-none, counted-few, counted-more, counted-all}
+use Rattle.text.proofs.DigitLaws.{DigitsCounted, digits-counted-none, digits-counted-few, digits-counted-more, digits-counted-all}
 use Rattle.text.proofs.put.digit_count.Statement.{statement}
 use Rattle.text.proofs.put.digit_count.Tie as tie
 
 abbrev Inv-loop : tie.InvT-loop
-Inv-loop n rest₀ count₀ rest count = Counted n rest count
+Inv-loop n rest₀ count₀ rest count = DigitsCounted n rest count
 
 abbrev μ-loop : tie.MeasureT-loop
 μ-loop n rest₀ count₀ rest count = rest
 
 loop-holds : tie.Need-loop-holds Inv-loop μ-loop
-loop-holds c = counted-none _
+loop-holds c = digits-counted-none _
 
 add-count : tie.Need-add-count Inv-loop μ-loop
-add-count c = omega (arith, counted-few (c .before .loop .inv) (omega (arith, c .before .before .fits .n)))
+add-count c = omega (arith, digits-counted-few (c .before .loop .inv) (omega (arith, c .before .before .fits .n)))
 
 loop-again : tie.Need-loop-again Inv-loop μ-loop
-loop-again c = counted-more (c .before .loop .inv) (omega arith)
+loop-again c = digits-counted-more (c .before .loop .inv) (omega arith)
 
 returns : tie.Need-returns Inv-loop μ-loop
-returns c = counted-all (c .before .loop .inv) (omega arith)
+returns c = digits-counted-all (c .before .loop .inv) (omega arith)
 
 pub digit-count-spec : {M : Type 1} → statement M
 digit-count-spec = tie.close (tie.spec Inv-loop μ-loop loop-holds add-count (λ c. omega arith) loop-again returns)

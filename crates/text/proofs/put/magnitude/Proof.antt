@@ -1,5 +1,4 @@
 -- `text::put::magnitude` meets its contract. Each step of the turned sign fits, also at the smallest i64 (`Turned`).
--- Assumes nothing.
 use mathlib.Core.Path.{_≡_, subst}
 use mathlib.Core.Bool.{true, false}
 use Prim.Native.Nat.{_+_, _^_, _<_}

@@ -1,5 +1,4 @@
 -- `text::put::put_byte` meets its contract: a store is one byte put (`put-byte`).
--- Assumes nothing.
 use mathlib.Core.Path.{refl}
 use borrow.Author.Needs.{needs}
 use Rattle.text.proofs.PutLaws.{put-byte}

@@ -1,16 +1,15 @@
--- `text::put::put_number` meets its contract. The invariant: what is left, written before place i, gives the whole (`Digits`); a turn is `digits-more`.
+-- `text::put::put_number` meets its contract. The invariant: what is left, written before place i, gives the whole (`DigitsPut`); a turn is `digits-put-more`.
 -- The measure is what is left.
--- Assumes nothing.
 use mathlib.Core.Path.{ap}
 use Prim.Native.Nat.{ℕ, _+_}
 use native.Mathlib.Omega.{arith}
 use lib.ListN.{length-set}
-use Rattle.text.proofs.DigitLaws.{Digits, digits-none, digits-some, digits-more, digits-all}
+use Rattle.text.proofs.DigitLaws.{DigitsPut, digits-put-none, digits-put-some, digits-put-more, digits-put-all}
 use Rattle.text.proofs.put.put_number.Statement.{statement}
 use Rattle.text.proofs.put.put_number.Tie as tie
 
 abbrev Inv-loop : tie.InvT-loop
-Inv-loop n out₀ at next left₀ i₀ out left i = Digits n at out₀ out left i
+Inv-loop n out₀ at next left₀ i₀ out left i = DigitsPut n at out₀ out left i
 
 abbrev μ-loop : tie.MeasureT-loop
 μ-loop n out₀ at next left₀ i₀ out left i = left
@@ -22,23 +21,23 @@ add-next : tie.Need-add-next Inv-loop μ-loop
 add-next c = omega (arith, c .digit-count .ensures)
 
 loop-holds : tie.Need-loop-holds Inv-loop μ-loop
-loop-holds c = digits-none _ _ _ _ (ap (λ (k : ℕ). c .before .before .args .at + k) (c .digit-count .ensures)) (c .before .before .pre)
+loop-holds c = digits-put-none _ _ _ _ (ap (λ (k : ℕ). c .before .before .args .at + k) (c .digit-count .ensures)) (c .before .before .pre)
 
 sub-i : tie.Need-sub-i Inv-loop μ-loop
-sub-i c = omega (arith, digits-some (c .before .loop .inv))
+sub-i c = omega (arith, digits-put-some (c .before .loop .inv))
 
 slice-write-out : tie.Need-slice-write-out Inv-loop μ-loop
 slice-write-out c =
     let u = c .before .before .loop .inv in
-    omega (arith, digits-some u, u .place, u .room)
+    omega (arith, digits-put-some u, u .place, u .room)
 
 loop-again : tie.Need-loop-again Inv-loop μ-loop
-loop-again c = digits-more (c .before .before .loop .inv) _ (c .digit .ensures) (omega arith)
+loop-again c = digits-put-more (c .before .before .loop .inv) _ (c .digit .ensures) (omega arith)
 
 slice-write-out-2 : tie.Need-slice-write-out-2 Inv-loop μ-loop
 slice-write-out-2 c =
     let u = c .before .before .loop .inv in
-    omega (arith, digits-some u, u .place, u .room)
+    omega (arith, digits-put-some u, u .place, u .room)
 
 same-length : tie.Need-same-length Inv-loop μ-loop
 same-length c = simp length-set (c .before .before .loop .inv .kept)
@@ -46,7 +45,7 @@ same-length c = simp length-set (c .before .before .loop .inv .kept)
 returns : tie.Need-returns Inv-loop μ-loop
 returns c =
     let counted = c .before .before .before in
-    digits-all (c .before .before .loop .inv) _ _ (c .digit2 .ensures) (omega arith) (ap (λ (k : ℕ). counted .before .before .args .at + k) (counted .digit-count .ensures))
+    digits-put-all (c .before .before .loop .inv) _ _ (c .digit2 .ensures) (omega arith) (ap (λ (k : ℕ). counted .before .before .args .at + k) (counted .digit-count .ensures))
 
 pub put-number-spec : {M : Type 1} → statement M
 put-number-spec =

@@ -1,5 +1,4 @@
 -- `text::put::put_number_field` meets its contract: a tab, and then the number (`put-more`).
--- Assumes nothing.
 use native.Mathlib.Omega.{arith}
 use borrow.Author.Needs.{needs}
 use Rattle.text.proofs.PutLaws.{put-more}

@@ -1,5 +1,4 @@
 -- `text::put::put_signed` meets its contract: a minus and the digits (`below-put`), or the digits (`above-put`).
--- Assumes nothing.
 use mathlib.Core.Path.{_≡_}
 use mathlib.Core.Bool.{true, false}
 use native.Mathlib.Omega.{arith}

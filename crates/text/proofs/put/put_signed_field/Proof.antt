@@ -1,5 +1,4 @@
 -- `text::put::put_signed_field` meets its contract: a tab, and then the number (`put-more`).
--- Assumes nothing.
 use native.Mathlib.Omega.{arith}
 use mir.Facts.{toZ-ofZ}
 use borrow.Author.Needs.{needs}

@@ -1,5 +1,4 @@
 -- `text::put::signed_length` meets its contract: the digits, and one more for a minus (`below-length`, `above-length`).
--- Assumes nothing.
 use mathlib.Core.Path.{_∙_}
 use native.Mathlib.Omega.{arith}
 use mir.Facts.{toZ-ofZ}

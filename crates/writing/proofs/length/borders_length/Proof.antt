@@ -1,5 +1,4 @@
 -- `writing::length::borders_length` meets its contract: the sum over the lines (`Summed`), within that of all.
--- Assumes nothing.
 use mathlib.Core.Path.{_≡_}
 use Prim.Native.Nat.{_≤_, _+_, _-_}
 use native.Mathlib.Omega.{arith}

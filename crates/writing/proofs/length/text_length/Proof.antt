@@ -1,5 +1,4 @@
 -- `writing::length::text_length` meets its contract: the lengths of its parts (`text-length`), which no good table takes past 65,536.
--- Assumes nothing.
 use mathlib.Core.Path.{_≡_}
 use Prim.Native.Nat.{_+_}
 use native.Mathlib.Omega.{arith}

@@ -1,0 +1,48 @@
+-- `layout::put::put_row` meets its contract: the factors' columns are as many as f has items.
+use mathlib.Core.Path.{_≡_, sym, subst}
+use Rattle.kinds.specs.LineColumns.{Column, rowColumns, factorColumns}
+use Rattle.text.specs.Fields.{tab}
+use Rattle.columns.proofs.ColumnPut.{numbers-are}
+use mathlib.Core.List.{List, _++_}
+use Prim.Native.Char.{code}
+use Prim.Native.Nat.{_+_, _≤_}
+use lib.IntN.{ℤ}
+use lib.ListN.{length}
+use lib.Seq.{length-take-le}
+use Rattle.text.specs.Put.{Put}
+use Rattle.columns.specs.ColumnText.{columnsText, numbersOf}
+use Rattle.columns.proofs.ColumnLaws.{factors-front}
+use borrow.Author.Needs.{needs}
+use Rattle.layout.proofs.put.put_row.Statement.{statement}
+use Rattle.layout.proofs.put.put_row.Tie as tie
+
+numbers : (s : tie.Start) → numbersOf rowColumns (s .args .t2) ≡ s .args .t2
+numbers s =
+    let wide : 7 ≡ length (s .args .t2) = search needs in
+    numbers-are rowColumns (s .args .t2) (sym wide)
+
+slice-aggregate-put-parts-2 : tie.Need-slice-aggregate-put-parts-2
+slice-aggregate-put-parts-2 c = sym (length-take-le _ _ (c .before .before .before .pre .1))
+
+put-parts-requires : tie.Need-put-parts-requires
+put-parts-requires c κs =
+    let a = c .before .before .before .before .before .args in
+    let p = c .before .before .before .before .before .pre in
+    (search needs, rw (length-take-le _ _ (p .1)) (p .0), length-take-le _ _ (p .1), subst (λ (l : List Column). a .at + length (columnsText tab (code "C") (rowColumns ++ l) (a .i) (a .t2 ++ a .f .now)) ≤ length (a .out .now)) (sym (factors-front _ 16 (p .1))) (subst (λ (v : List ℤ). a .at + length (columnsText tab (code "C") (rowColumns ++ factorColumns (length (a .f .now))) (a .i) (v ++ a .f .now)) ≤ length (a .out .now)) (numbers (c .before .before .before .before .before)) (p .2)))
+
+returns : tie.Need-returns
+returns c =
+    let a = c .before .before .before .before .before .before .before .before .args in
+    subst (λ (v : List ℤ). Put (columnsText tab (code "C") (rowColumns ++ factorColumns (length (a .f .now))) (a .i) (v ++ a .f .now)) (a .at) (a .out .now) (c .before .before .put-parts .result) (c .before .before .put-parts .last .1 .1 .1 .1 .1 .1 .1 .0)) (sym (numbers (c .before .before .before .before .before .before .before .before))) (subst (λ (l : List Column). Put (columnsText tab (code "C") (rowColumns ++ l) (a .i) (a .t2 ++ a .f .now)) (a .at) (a .out .now) (c .before .before .put-parts .result) (c .before .before .put-parts .last .1 .1 .1 .1 .1 .1 .1 .0)) (factors-front _ 16 (c .before .before .before .before .before .before .before .before .pre .1)) (c .before .before .put-parts .ensures))
+
+pub put-row-spec : {M : Type 1} → statement M
+put-row-spec =
+    tie.close
+    (tie.spec
+    (λ c. search needs)
+    (λ c. search needs)
+    slice-aggregate-put-parts-2
+    (λ c. search needs)
+    put-parts-requires
+    (λ c. search needs)
+    returns)

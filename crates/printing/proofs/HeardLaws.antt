@@ -1,0 +1,87 @@
+-- The laws of `specs/Heard.antt`. No contract cites this file.
+-- In order: what the code's three tests come to; that a refusal is heard with its number and place, and a result, a table or a sheet as an answer.
+use mathlib.Core.Path.{_≡_, refl, sym, subst, _∙_}
+use mathlib.Core.List.{List, [], _∷_, _++_, append-assoc, append-nil}
+use Prim.Native.Nat.{ℕ, zero, suc, _+_, _^_, _<_}
+use native.Mathlib.Omega.{arith}
+use lib.IntN.{ℤ}
+use lib.ListN.{length, getD, drop}
+use borrow.Author.Tests.{eq-eqb, ne-eqb}
+use Rattle.numbers.specs.Below.{table}
+use Rattle.kinds.specs.declared.Refusal.{Refusal}
+use Rattle.text.specs.Fields.{tab, feed}
+use Rattle.text.specs.Written.{decimal, fieldsText, lineText, linesText}
+use Rattle.text.proofs.NumberTrip.{number-written, number-rest}
+use Rattle.columns.specs.ColumnText.{plainText}
+use Rattle.table.specs.Table.{Table, factorsAt}
+use Rattle.writing.specs.Writing.{tableText}
+use Rattle.corners.specs.Corners.{flowsOf}
+use Rattle.cornertext.specs.CornerText.{cornerLineAt, cornersText, sheetText}
+use Rattle.extraction.specs.Extraction.{Result, atcRecord, rowRecord}
+use Rattle.result.specs.Records.{atcAt, marginAt, roundsLine, recordsText}
+use Rattle.result.specs.Refusal.{refusalText}
+use Rattle.answer.specs.Result.{resultText}
+use Rattle.printing.specs.declared.output.Ended.the-variants.{Answered, Refused}
+use Rattle.printing.specs.Heard.{letterE, refusalIn, heardOf}
+
+-- ---- the code's three tests
+pub heard-none : (printed : List ℕ) → length printed ≡ 0 → Answered ≡ heardOf printed
+unfolding heardOf
+heard-none [] h = refl
+heard-none (b ∷ bs) h = absurd (omega arith)
+
+pub heard-refusal : (printed : List ℕ) → getD printed 0 0 ≡ letterE → refusalIn printed ≡ heardOf printed
+unfolding heardOf
+heard-refusal printed h = rw (eq-eqb (getD printed 0 0) letterE h)
+
+pub heard-other : (printed : List ℕ) → (getD printed 0 0 ≡ letterE → ⊥) → Answered ≡ heardOf printed
+unfolding heardOf
+heard-other printed h = rw (ne-eqb (getD printed 0 0) letterE h)
+
+-- ---- what is heard of each text that is printed
+-- a line of two numbers after its letter
+refusal-in-written : (line : List ℕ) (number place : ℕ) → drop 2 line ≡ decimal number ++ (tab ∷ (decimal place ++ (feed ∷ []))) → number < 10 ^ 10 → place < 10 ^ 10 → refusalIn line ≡ Refused number place
+unfolding refusalIn
+refusal-in-written line number place here n p =
+    rw (number-written line 2 tab number (decimal place ++ (feed ∷ [])) here n refl, number-written line (2 + length (decimal number) + 1) feed place [] (number-rest line 2 tab number (decimal place ++ (feed ∷ [])) here) p refl)
+
+-- a refusal is heard with its number and place
+pub refusal-heard : (w : Refusal) → w .number < 10 ^ 10 → w .place < 10 ^ 10 → heardOf (refusalText w) ≡ Refused (w .number) (w .place)
+unfolding refusalText lineText fieldsText
+refusal-heard w n p = sym (heard-refusal (refusalText w) refl) ∙ refusal-in-written (refusalText w) (w .number) (w .place) refl n p
+
+-- a text that does not begin with E
+abbrev Other : List ℕ → Type 0
+Other text = getD text 0 0 ≡ letterE → ⊥
+
+lines-other : (left i : ℕ) (line : ℕ → List ℕ) (rest : List ℕ) → ((k : ℕ) (more : List ℕ) → Other (line k ++ more)) → Other rest → Other (linesText left i line ++ rest)
+unfolding linesText
+lines-other zero i line rest each last = last
+lines-other (suc left) i line rest each last = subst Other (sym (append-assoc (line i) (linesText left (i + 1) line) rest)) (each i (linesText left (i + 1) line ++ rest))
+
+-- a result's records are heard as an answer: their text begins with A, M or R
+records-heard : (atcs lefts : List (List ℤ)) (k : ℕ) → heardOf (recordsText atcs lefts k) ≡ Answered
+unfolding recordsText lineText
+records-heard atcs lefts k =
+    let borders = linesText (length atcs) 0 (atcAt atcs) in
+    let rows = linesText (length lefts) 0 (marginAt lefts) in
+    let other = lines-other (length atcs) 0 (atcAt atcs) (rows ++ roundsLine k) (λ b more e. omega arith) (lines-other (length lefts) 0 (marginAt lefts) (roundsLine k) (λ i more e. omega arith) (λ e. omega arith)) in
+    sym (heard-other (recordsText atcs lefts k) (subst Other (sym (append-assoc borders rows (roundsLine k))) other))
+
+-- .. and so a result
+pub result-heard : (r : Result) → heardOf (resultText r) ≡ Answered
+unfolding resultText
+result-heard r = records-heard (table (r .header .borders) (atcRecord r)) (table (r .header .rows) (rowRecord r)) (r .outcome .rounds)
+
+-- .. and so is a table: it begins with H
+pub table-heard : (t : Table) → heardOf (tableText t) ≡ Answered
+unfolding tableText plainText
+table-heard t = sym (heard-other (tableText t) (λ e. omega arith))
+
+-- .. and a row's corner sheet: it begins with K
+pub sheet-heard : (t : Table) (row : ℕ) → heardOf (sheetText t row) ≡ Answered
+unfolding cornersText lineText
+sheet-heard t row =
+    let flows = flowsOf (factorsAt t row) (t .borders) in
+    let lines = linesText (length flows) 0 (cornerLineAt row flows) in
+    sym (heard-other (sheetText t row) (subst Other (append-nil lines) (lines-other (length flows) 0 (cornerLineAt row flows) [] (λ k more e. omega arith) (λ e. omega arith))))

@@ -1,0 +1,3 @@
+pub mod PrintedLaws
+pub mod SheetLaws
+pub mod HeardLaws

@@ -1,0 +1,57 @@
+-- What a program prints for a table's text (01, "Result text"; 02, E1). No contract can speak of standard output, so these speak of the buffer that goes there.
+use mathlib.Core.Path.{_≡_}
+use mathlib.Core.Bool.{cond}
+use mathlib.Core.List.{List}
+use Prim.Native.Nat.{ℕ, _+_, _*_, _≤_}
+use lib.Dec.{leb}
+use lib.ListN.{length, take}
+use Rattle.kinds.specs.declared.Header.{Header}
+use Rattle.kinds.specs.declared.Written.{Written}
+use Rattle.kinds.specs.declared.Written.the-variants as written
+use Rattle.kinds.specs.Refusals.{then, either}
+use Rattle.text.specs.Written.{linesText}
+use Rattle.table.specs.Table.{Table}
+use Rattle.reading.specs.Reading.{readText}
+use Rattle.writing.specs.Writing.{tableText}
+use Rattle.corners.specs.Corners.{sheetBordersMost, judgeCorners}
+use Rattle.cornertext.specs.CornerText.{sheetMost, sheetText}
+use Rattle.result.specs.Refusal.{refusalText}
+
+-- how much of the buffer to print
+abbrev pub bytesOf : Written → ℕ
+bytesOf (written.Bytes n) = n
+bytesOf (written.Refused w) = 0
+
+-- what `rewrite` prints: the table's text, or one line E, number, place
+unfoldable pub rewritten : (text : List ℕ) → List ℕ
+rewritten text = either (readText text) tableText refusalText
+
+-- what `corners` prints for a row: its sheet, or one line E
+unfoldable pub oneSheet : (text : List ℕ) → (row : ℕ) → List ℕ
+oneSheet text row = either (then (readText text) (λ t. judgeCorners t row)) (λ t. sheetText t row) refusalText
+
+-- .. and for all rows, one after another: each table has a row 0, so that only its borders can be refused
+unfoldable pub everySheet : (text : List ℕ) → List ℕ
+everySheet text = either (then (readText text) (λ t. judgeCorners t 0)) (λ t. linesText (t .header .rows) 0 (sheetText t)) refusalText
+
+-- what is printed at once: a row of lent tables
+unfoldable pub sheetAt : (given : Table) → (row : ℕ) → List ℕ
+sheetAt given row = either (judgeCorners given row) (λ t. sheetText t row) refusalText
+
+-- .. for so many rows: where the table has no sheet, the line E stands for all
+abbrev pub sheetRows : Header → ℕ
+sheetRows h = cond (leb (h .borders) sheetBordersMost) (h .rows) 1
+
+-- no line of a sheet is longer: a letter, three tabs, an LF, a row of 3 digits, a corner of 4, a flow of 14 and its minus
+abbrev pub sheetLineMost : ℕ
+sheetLineMost = 5 + 3 + 4 + 15
+
+-- .. and no row's sheet
+abbrev pub sheetRoom : ℕ
+sheetRoom = sheetMost * sheetLineMost
+
+-- the first n bytes of the buffer are the text to print; that there are so many follows, and is said for the caller's `&out[..n]`
+pub record Printed (n : ℕ) (text out : List ℕ) : Type 0 where
+  pub within : n ≤ length out
+  pub long : n ≡ length (take n out)
+  pub whole : take n out ≡ text

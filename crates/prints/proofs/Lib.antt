@@ -1,2 +1,0 @@
-pub mod PrintedLaws
-pub mod SheetLaws

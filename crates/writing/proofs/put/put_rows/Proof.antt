@@ -1,0 +1,66 @@
+-- `writing::put::put_rows` meets its contract: the first i lines are written.
+use Prim.Native.Nat.{_*_, _≤_, _-_}
+use native.Mathlib.Omega.{arith}
+use lib.ListN.{length}
+use Rattle.table.specs.Table.{stretch}
+use Rattle.table.proofs.StretchLaws.{stretch-end}
+use Rattle.writing.specs.Writing.{rowTextAt, rowsText}
+use Rattle.runs.proofs.RowPasses.{lent-long}
+use Rattle.writing.proofs.TextLaws.{part-long}
+use Rattle.text.specs.Written.{linesText}
+use Rattle.text.specs.Put.{Put}
+use Rattle.text.proofs.PutLaws.{lines-none, lines-more, lines-all, lines-room, put-kept}
+use Rattle.writing.proofs.put.put_rows.Statement.{statement}
+use Rattle.writing.proofs.put.put_rows.Tie as tie
+
+abbrev Inv-loop : tie.InvT-loop
+Inv-loop zones c f out₀ at next₀ i₀ i-end out next i = (i ≤ length c) × Put (linesText i 0 (rowTextAt zones c f)) at out₀ next out
+
+abbrev μ-loop : tie.MeasureT-loop
+μ-loop zones c f out₀ at next₀ i₀ i-end out next i = length c - i
+
+loop-holds : tie.Need-loop-holds Inv-loop μ-loop
+loop-holds c = (omega arith, lines-none _ _ _)
+
+mul-start : tie.Need-mul-start Inv-loop μ-loop
+mul-start c = omega (arith, stretch-end (c .before .before .before .args .zones) (length (c .before .before .before .args .c .now)) (c .before .loop .i) (omega arith), c .before .before .before .pre .0)
+
+add-put-row : tie.Need-add-put-row Inv-loop μ-loop
+add-put-row c = omega (arith, stretch-end (c .before .before .before .before .args .zones) (length (c .before .before .before .before .args .c .now)) (c .before .before .loop .i) (omega arith), c .before .before .before .before .pre .0)
+
+mul-put-row-2 : tie.Need-mul-put-row-2 Inv-loop μ-loop
+mul-put-row-2 c = omega (arith, stretch-end (c .before .before .before .before .args .zones) (length (c .before .before .before .before .args .c .now)) (c .before .before .loop .i) (omega arith), c .before .before .before .before .pre .0)
+
+part-put-row-start : tie.Need-part-put-row-start Inv-loop μ-loop
+part-put-row-start c = omega (arith, stretch-end (c .before .before .before .before .args .zones) (length (c .before .before .before .before .args .c .now)) (c .before .before .loop .i) (omega arith), c .before .before .before .before .pre .0)
+
+part-put-row-end : tie.Need-part-put-row-end Inv-loop μ-loop
+part-put-row-end c = omega (arith, stretch-end (c .before .before .before .before .args .zones) (length (c .before .before .before .before .args .c .now)) (c .before .before .loop .i) (omega arith), c .before .before .before .before .pre .0)
+
+put-row-requires : tie.Need-put-row-requires Inv-loop μ-loop
+unfolding stretch
+put-row-requires c κs =
+    let s = c .before .before .before .before .before .before in
+    let head = c .before .before .before .before .loop in
+    let n = lent-long (s .args .f .now) (head .i * s .args .zones) (s .args .zones) (omega (arith, stretch-end (s .args .zones) (length (s .args .c .now)) (head .i) (omega arith), s .pre .0)) in
+    (omega (arith, n, s .pre .1), omega (arith, n, s .pre .2), rw (part-long (head .i) (s .args .zones)) (lines-room (rowTextAt (s .args .zones) (s .args .c .now) (s .args .f .now)) (head .i) (length (s .args .c .now)) (omega arith) (s .pre .3) (head .inv .1)))
+
+loop-again : tie.Need-loop-again Inv-loop μ-loop
+unfolding stretch
+loop-again c =
+    let s = c .before .before .before .before .before .before .before .before .before in
+    let head = c .before .before .before .before .before .before .before .loop in
+    (omega arith, lines-more (rowTextAt (s .args .zones) (s .args .c .now) (s .args .f .now)) (omega (arith, s .pre .3)) (head .inv .1) (rw (part-long (head .i) (s .args .zones)) at (c .before .before .put-row .ensures)))
+
+-- all lines are written
+all : (c : tie.After-loop Inv-loop μ-loop) → let s = c .before .before .before in Put (rowsText (s .args .zones) (s .args .c .now) (s .args .f .now)) (s .args .at) (s .args .out .now) (c .before .loop .next) (c .before .loop .out)
+all c = lines-all (rowTextAt (c .before .before .before .args .zones) (c .before .before .before .args .c .now) (c .before .before .before .args .f .now)) (c .before .loop .inv .0) (omega arith) (c .before .loop .inv .1)
+
+same-length : tie.Need-same-length Inv-loop μ-loop
+same-length c = put-kept (all c) (c .before .before .before .pre .3)
+
+returns : tie.Need-returns Inv-loop μ-loop
+returns c = all c
+
+pub put-rows-spec : {M : Type 1} → statement M
+put-rows-spec = tie.close (tie.spec Inv-loop μ-loop loop-holds mul-start (λ c. omega arith) (λ c. omega arith) add-put-row mul-put-row-2 (λ c. omega arith) part-put-row-start part-put-row-end put-row-requires (λ c. omega arith) (λ c. omega arith) loop-again same-length returns)
