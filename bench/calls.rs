@@ -61,7 +61,7 @@ linked! {
     fn keravnoth_extract(
         zones: usize, borders: usize, rows: usize,
         z: *const i64, nz: usize, b: *const [i64; 3], nb: usize, c: *const [i64; 7], nc: usize, f: *const i64, nf: usize,
-        atc: *mut [i64; 1], natc: usize, left: *mut [i64; 3], nleft: usize
+        p: *mut u64, np: usize, atc: *mut [i64; 1], natc: usize, left: *mut [i64; 3], nleft: usize
     ) -> Extracted;
     fn keravnoth_result_text(
         zones: usize, borders: usize, rows: usize,
@@ -96,8 +96,8 @@ pub fn write(t: &Lent, out: &mut [u8]) -> Written {
     unsafe { on_lent!(keravnoth_write(t, out)) }
 }
 
-pub fn extract(t: &Lent, atc: &mut [[i64; 1]], left: &mut [[i64; 3]]) -> Extracted {
-    unsafe { on_lent!(keravnoth_extract(t, atc, left)) }
+pub fn extract(t: &Lent, p: &mut [u64], atc: &mut [[i64; 1]], left: &mut [[i64; 3]]) -> Extracted {
+    unsafe { on_lent!(keravnoth_extract(t, p, atc, left)) }
 }
 
 pub fn result_text(t: &Lent, out: &mut [u8]) -> Written {

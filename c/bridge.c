@@ -6,10 +6,10 @@
  *
  * A word has 64 bits, the least byte first, as numbers lie in memory on x86-64.
  *
- * A request: fourteen words, then the lent buffers.  The words are the call, its
+ * A request: fifteen words, then the lent buffers.  The words are the call, its
  * header (zones, borders, rows) and its row (each 0 where the call takes none),
- * and the counts of items of z, b, c, f, atc, left, flows, text and out (0 where
- * the call does not take that buffer).  The buffers that the call takes follow in
+ * and the counts of items of z, b, c, f, p, atc, left, flows, text and out (0
+ * where the call does not take that buffer).  The buffers that the call takes follow in
  * this order, each with BEFORE items before the lent part and AFTER items after
  * it.
  *
@@ -35,7 +35,7 @@ enum {
 };
 
 /* Buffers of numbers stand before buffers of bytes, so each is aligned. */
-enum { Z, B, C, F, ATC, LEFT, FLOWS, TEXT, OUT, BUFFERS };
+enum { Z, B, C, F, P, ATC, LEFT, FLOWS, TEXT, OUT, BUFFERS };
 
 typedef int64_t border_record[KERAVNOTH_B_ITEMS];
 typedef int64_t row_record[KERAVNOTH_C_ITEMS];
@@ -45,6 +45,7 @@ static const size_t item_bytes[BUFFERS] = {
     [B] = sizeof(border_record),
     [C] = sizeof(row_record),
     [F] = sizeof(int64_t),
+    [P] = sizeof(uint64_t),
     [ATC] = sizeof(int64_t[KERAVNOTH_ATC_ITEMS]),
     [LEFT] = sizeof(int64_t[KERAVNOTH_LEFT_ITEMS]),
     [FLOWS] = sizeof(int64_t),
@@ -56,7 +57,7 @@ static const size_t item_bytes[BUFFERS] = {
 static const unsigned char takes[CALLS][BUFFERS] = {
     [READ] = {[Z] = 1, [B] = 1, [C] = 1, [F] = 1, [TEXT] = 1},
     [WRITE] = {[Z] = 1, [B] = 1, [C] = 1, [F] = 1, [OUT] = 1},
-    [EXTRACT] = {[Z] = 1, [B] = 1, [C] = 1, [F] = 1, [ATC] = 1, [LEFT] = 1},
+    [EXTRACT] = {[Z] = 1, [B] = 1, [C] = 1, [F] = 1, [P] = 1, [ATC] = 1, [LEFT] = 1},
     [RESULT_TEXT] = {[Z] = 1, [B] = 1, [C] = 1, [F] = 1, [OUT] = 1},
     [ANSWER] = {[TEXT] = 1, [OUT] = 1},
     [CORNER_FLOWS] = {[Z] = 1, [B] = 1, [C] = 1, [F] = 1, [FLOWS] = 1},
@@ -73,7 +74,7 @@ struct request {
     uint64_t count[BUFFERS];
 };
 
-_Static_assert(sizeof(struct request) == 14 * sizeof(uint64_t), "fourteen words");
+_Static_assert(sizeof(struct request) == 15 * sizeof(uint64_t), "fifteen words");
 
 static int malformed(const char *what)
 {
@@ -104,6 +105,7 @@ static size_t make(const struct request *r, unsigned char *const *at, uint64_t *
         struct KeravnothExtracted said = keravnoth_extract(
             r->zones, r->borders, r->rows,
             z, nz, (const border_record *)b, nb, (const row_record *)c, nc, f, nf,
+            (uint64_t *)at[P], r->count[P],
             (int64_t (*)[KERAVNOTH_ATC_ITEMS])at[ATC], r->count[ATC],
             (int64_t (*)[KERAVNOTH_LEFT_ITEMS])at[LEFT], r->count[LEFT]);
         answer[0] = said.number;

@@ -6,6 +6,8 @@
  *   check null TABLE        every call with NULL and count 0 answers as with a
  *                           pointer and count 0
  *   check threads TABLE     the same answers from four threads at once as from one
+ *   check factors TABLE     the factors by border are those by zone, and a refusal
+ *                           leaves their table whole
  *
  * c/build makes it and c/run runs it, on the code for x86-64.
  *
@@ -28,6 +30,7 @@ struct room {
     int64_t b[KERAVNOTH_BORDERS_MOST][KERAVNOTH_B_ITEMS];
     int64_t c[KERAVNOTH_ROWS_MOST][KERAVNOTH_C_ITEMS];
     int64_t f[KERAVNOTH_FACTORS_MOST];
+    uint64_t p[KERAVNOTH_P_MOST];
     int64_t atc[KERAVNOTH_BORDERS_MOST][KERAVNOTH_ATC_ITEMS];
     int64_t left[KERAVNOTH_ROWS_MOST][KERAVNOTH_LEFT_ITEMS];
     int64_t flows[KERAVNOTH_CORNERS_MOST];
@@ -59,7 +62,8 @@ static void write_(struct room *r)
 static void extract(struct room *r)
 {
     keravnoth_extract(
-        TABLE(r), r->atc, KERAVNOTH_BORDERS_MOST, r->left, KERAVNOTH_ROWS_MOST);
+        TABLE(r), r->p, KERAVNOTH_P_MOST,
+        r->atc, KERAVNOTH_BORDERS_MOST, r->left, KERAVNOTH_ROWS_MOST);
 }
 
 static void result_text(struct room *r)
@@ -182,11 +186,14 @@ static int check_null(const char *name)
         keravnoth_write(zones, borders, rows, NONE, NULL, 0),
         keravnoth_write(zones, borders, rows, SOME, r->out, 0));
     same &= SAME(
-        keravnoth_extract(zones, borders, rows, NONE, NULL, 0, NULL, 0),
-        keravnoth_extract(zones, borders, rows, SOME, r->atc, 0, r->left, 0));
+        keravnoth_extract(zones, borders, rows, NONE, NULL, 0, NULL, 0, NULL, 0),
+        keravnoth_extract(zones, borders, rows, SOME, r->p, 0, r->atc, 0, r->left, 0));
     same &= SAME(
-        keravnoth_extract(TABLE(r), NULL, 0, NULL, 0),
-        keravnoth_extract(TABLE(r), r->atc, 0, r->left, 0));
+        keravnoth_extract(TABLE(r), NULL, 0, NULL, 0, NULL, 0),
+        keravnoth_extract(TABLE(r), r->p, 0, r->atc, 0, r->left, 0));
+    same &= SAME(
+        keravnoth_extract(TABLE(r), r->p, KERAVNOTH_P_MOST, NULL, 0, NULL, 0),
+        keravnoth_extract(TABLE(r), r->p, KERAVNOTH_P_MOST, r->atc, 0, r->left, 0));
     same &= SAME(
         keravnoth_result_text(TABLE(r), NULL, 0),
         keravnoth_result_text(TABLE(r), r->out, 0));
@@ -197,6 +204,47 @@ static int check_null(const char *name)
         keravnoth_corner_text(TABLE(r), 0, NULL, 0),
         keravnoth_corner_text(TABLE(r), 0, r->out, 0));
     puts(same ? "NULL with count 0 answers as count 0" : "NULL with count 0 answers otherwise");
+    return same ? 0 : 1;
+}
+
+/* The factor that a border has on a row, by the row's zone factors. */
+static uint64_t by_zone(const struct room *r, size_t row, size_t border)
+{
+    const int64_t *f = r->f + row * r->table.zones;
+    int64_t p = f[r->b[border][KERAVNOTH_B_FROM]] - f[r->b[border][KERAVNOTH_B_TO]];
+    return r->left[row][KERAVNOTH_LEFT_STATE] == KERAVNOTH_STATE_KEPT && p > 0 ? (uint64_t)p : 0;
+}
+
+static int whole(const struct room *r, size_t from, uint64_t paint)
+{
+    for (size_t item = from; item < KERAVNOTH_P_MOST; item++)
+        if (r->p[item] != paint)
+            return 0;
+    return 1;
+}
+
+/* The table of factors by border: too short, refused for want of room for results,
+   and filled. */
+static int check_factors(const char *name)
+{
+    enum { PAINT = 7 };
+    struct room *r = &rooms[0];
+    if (load(r, name) != 0)
+        return 2;
+    read_(r);
+    size_t borders = r->table.borders, rows = r->table.rows, needed = rows * borders;
+    for (size_t item = 0; item < KERAVNOTH_P_MOST; item++)
+        r->p[item] = PAINT;
+    struct KeravnothExtracted said = keravnoth_extract(TABLE(r), r->p, needed - 1, r->atc, 0, r->left, 0);
+    int same = said.number == KERAVNOTH_BUFFER_TOO_SHORT && said.place == needed && whole(r, 0, PAINT);
+    said = keravnoth_extract(TABLE(r), r->p, needed, r->atc, 0, r->left, 0);
+    same &= said.number == KERAVNOTH_BUFFER_TOO_SHORT && said.place == borders && whole(r, 0, PAINT);
+    extract(r);
+    for (size_t row = 0; row < rows; row++)
+        for (size_t border = 0; border < borders; border++)
+            same &= r->p[row * borders + border] == by_zone(r, row, border);
+    same &= whole(r, needed, PAINT);
+    puts(same ? "factors by border are those by zone" : "factors by border are not those by zone");
     return same ? 0 : 1;
 }
 
@@ -241,6 +289,8 @@ int main(int argc, char **argv)
         return check_null(argv[2]);
     if (argc == 3 && strcmp(argv[1], "threads") == 0)
         return check_threads(argv[2]);
-    fprintf(stderr, "usage: %s stack TABLE.. | null TABLE | threads TABLE\n", argv[0]);
+    if (argc == 3 && strcmp(argv[1], "factors") == 0)
+        return check_factors(argv[2]);
+    fprintf(stderr, "usage: %s stack TABLE.. | null TABLE | threads TABLE | factors TABLE\n", argv[0]);
     return 2;
 }

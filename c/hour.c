@@ -29,6 +29,7 @@ static int64_t z[KERAVNOTH_ZONES_MOST];
 static int64_t b[KERAVNOTH_BORDERS_MOST][KERAVNOTH_B_ITEMS];
 static int64_t c[KERAVNOTH_ROWS_MOST][KERAVNOTH_C_ITEMS];
 static int64_t f[KERAVNOTH_FACTORS_MOST];
+static uint64_t p[KERAVNOTH_P_MOST];
 static int64_t atc[KERAVNOTH_BORDERS_MOST][KERAVNOTH_ATC_ITEMS];
 static int64_t left[KERAVNOTH_ROWS_MOST][KERAVNOTH_LEFT_ITEMS];
 static int64_t flows[KERAVNOTH_CORNERS_MOST];
@@ -65,6 +66,7 @@ static int print_capacities(const struct KeravnothRead *table)
         (const int64_t (*)[KERAVNOTH_B_ITEMS])b, KERAVNOTH_BORDERS_MOST,
         (const int64_t (*)[KERAVNOTH_C_ITEMS])c, KERAVNOTH_ROWS_MOST,
         f, KERAVNOTH_FACTORS_MOST,
+        p, KERAVNOTH_P_MOST,
         atc, KERAVNOTH_BORDERS_MOST, left, KERAVNOTH_ROWS_MOST);
     if (work.number != KERAVNOTH_ACCEPTED)
         return refused(work.number, work.place);

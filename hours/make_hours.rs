@@ -54,7 +54,7 @@ C 2 950000 95000 310000 120000 7000 20000 0 0 -4000 -15000 -22000
 ";
 
 fn extract(t: &Tables) -> Option<Outcome> {
-    second::extract(t.header, &t.z, &t.b, &t.c, &t.f, usize::MAX, usize::MAX).ok()
+    second::extract(t.header, &t.z, &t.b, &t.c, &t.f, usize::MAX, usize::MAX, usize::MAX).ok()
 }
 
 fn rounds(t: &Tables) -> u64 {

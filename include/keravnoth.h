@@ -19,6 +19,10 @@
  *            CVA 0..10000000, IVA 0..10000000
  *   f        one int64_t a row and zone, -100000..100000; row i's factors start
  *            at item i * zones
+ *   p        one uint64_t a row and border, filled in by keravnoth_extract: the
+ *            factor that the border has on the row, from factor - to factor and 0
+ *            where that is negative; row i's start at item i * borders, border
+ *            after border; 0 where the row's state is not 0
  *   atc      one record a border: ATC
  *   left     one record a row: state (0 kept, 1 under 5%, 2 parallel to a row
  *            that is kept), RAM in grains, margin left in grains or -1 where the
@@ -48,14 +52,14 @@
  *   the header is line 1.
  *
  *   Order.  keravnoth_read: 1, then 2 and 3 line by line, 4, 8.  The calls on
- *   lent tables: the header (3), lengths (8) in the order z, b, c, f, records
+ *   lent tables: the header (3), lengths (8) in the order z, b, c, f, p, records
  *   (3), 4; the extraction and the result text go on to 5, 6, 7, the corner sheet
  *   to 9; last comes room for results (8), atc before left.  The corner sheet
  *   does not judge 5, 6, 7: a table that the extraction refuses has its sheets.
  *
  * LENT MEMORY
  *   Each pointer goes with the count of its items (records for b, c, atc, left;
- *   numbers for z, f and flows; bytes for text and for out that takes text) and
+ *   numbers for z, f, p and flows; bytes for text and for out that takes text) and
  *   points to that many; it is aligned for its type.  What is written to overlaps
  *   nothing else that is lent.  Nothing is kept after the call, nothing is
  *   allocated.
@@ -95,7 +99,7 @@
 extern "C" {
 #endif
 
-#define KERAVNOTH_VERSION 1
+#define KERAVNOTH_VERSION 2
 
 /* The largest table, in items. */
 enum {
@@ -103,6 +107,7 @@ enum {
     KERAVNOTH_BORDERS_MOST = 40,
     KERAVNOTH_ROWS_MOST = 200,
     KERAVNOTH_FACTORS_MOST = 3200,
+    KERAVNOTH_P_MOST = 8000,
     KERAVNOTH_CORNER_BORDERS_MOST = 12,
     KERAVNOTH_CORNERS_MOST = 4096
 };
@@ -236,13 +241,15 @@ struct KeravnothWritten keravnoth_write(
     const int64_t *f, size_t nf,
     uint8_t *out, size_t nout);
 
-/* Capacities and margins from the tables.  Refusals 3 to 8. */
+/* Capacities and margins from the tables, and the factors by border that they
+   follow from.  Refusals 3 to 8. */
 struct KeravnothExtracted keravnoth_extract(
     size_t zones, size_t borders, size_t rows,
     const int64_t *z, size_t nz,
     const int64_t (*b)[KERAVNOTH_B_ITEMS], size_t nb,
     const int64_t (*c)[KERAVNOTH_C_ITEMS], size_t nc,
     const int64_t *f, size_t nf,
+    uint64_t *p, size_t np,
     int64_t (*atc)[KERAVNOTH_ATC_ITEMS], size_t natc,
     int64_t (*left)[KERAVNOTH_LEFT_ITEMS], size_t nleft);
 

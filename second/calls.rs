@@ -208,15 +208,18 @@ impl Bridge {
     pub fn extract(
         &mut self,
         mut l: Lent,
+        p: &mut [u64],
         atc: &mut [[i64; 1]],
         left: &mut [[i64; 3]],
     ) -> Result<Extracted, Ended> {
         self.begin(wire::EXTRACT, l.header);
         self.lend_tables(&l);
+        self.lend(wire::P, p);
         self.lend(wire::ATC, atc);
         self.lend(wire::LEFT, left);
         let [number, place, rounds] = self.ask()?;
         self.tables_back(&mut l);
+        self.back(p);
         self.back(atc);
         self.back(left);
         Ok(Extracted { number, place: place as usize, rounds })

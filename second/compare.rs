@@ -60,6 +60,12 @@ impl Mark for i64 {
     }
 }
 
+impl Mark for u64 {
+    fn mark(d: &mut Dice) -> u64 {
+        d.next()
+    }
+}
+
 impl<const K: usize> Mark for [i64; K] {
     fn mark(d: &mut Dice) -> [i64; K] {
         std::array::from_fn(|_| d.next() as i64)
@@ -358,17 +364,20 @@ impl Comparison {
         self.text_call("keravnoth_answer", found, &out, &reference, fault, &|| text.to_vec());
     }
 
-    fn extract(&mut self, d: &mut Dice, l: &mut LentTables, room: [usize; 2]) -> Result<Outcome, Refusal> {
-        let reference =
-            second::extract(l.header, l.z.part(), l.b.part(), l.c.part(), l.f.part(), room[0], room[1]);
-        let mut atc = Lent::room(d, room[0]);
-        let mut left = Lent::room(d, room[1]);
-        let found = self.bridge.extract(l.lend(), &mut atc.whole, &mut left.whole);
+    /// `room`: the items of p, atc and left.
+    fn extract(&mut self, d: &mut Dice, l: &mut LentTables, room: [usize; 3]) -> Result<Outcome, Refusal> {
+        let reference = extracted(l, room);
+        let mut p = Lent::room(d, room[0]);
+        let mut atc = Lent::room(d, room[1]);
+        let mut left = Lent::room(d, room[2]);
+        let found = self.bridge.extract(l.lend(), &mut p.whole, &mut atc.whole, &mut left.whole);
         let found = self.said("keravnoth_extract", found, &|| l.shown());
+        let mut wanted_p: &[u64] = &[];
         let mut wanted_atc: Vec<[i64; 1]> = Vec::new();
         let mut wanted_left: Vec<[i64; 3]> = Vec::new();
         let wanted = match &reference {
             Ok(o) => {
+                wanted_p = &o.p;
                 wanted_atc.extend(o.atc.iter().map(|mw| [*mw as i64]));
                 wanted_left.extend(o.rows.iter().map(|row| {
                     [i64::from(row.state), row.ram as i64, row.left.map_or(-1, |margin| margin as i64)]
@@ -382,18 +391,100 @@ impl Comparison {
             let details = format!("library {found:?}\nreference {wanted:?}\nroom {room:?}");
             self.fail("keravnoth_extract", &details, &l.shown());
         }
-        let fault = atc
-            .fault("atc", &wanted_atc)
+        let fault = p
+            .fault("p", wanted_p)
+            .or_else(|| atc.fault("atc", &wanted_atc))
             .or_else(|| left.fault("left", &wanted_left))
             .or_else(|| l.fault());
         if let Some(fault) = fault {
             let details = format!("{fault}\nboth answer {wanted:?}\nroom {room:?}");
             self.fail("keravnoth_extract", &details, &l.shown());
         }
-        if let Ok(outcome) = &reference {
-            self.demand_3(d, l, found, atc.part(), left.part(), outcome);
+        match &reference {
+            Ok(outcome) => {
+                self.p_is_p(l, p.part(), left.part(), outcome);
+                self.demand_3(d, l, found, atc.part(), left.part(), outcome);
+            }
+            Err(refusal) => self.see_p(l, room, *refusal),
         }
         reference
+    }
+
+    // ---------------------------------------------------- factors by border
+
+    /// The library's own p at every row and border is what the zone factors
+    /// give, 0 on rows not kept; and it accounts for each kept row's margin.
+    fn p_is_p(&mut self, l: &LentTables, p: &[u64], left: &[[i64; 3]], outcome: &Outcome) {
+        let borders = l.header.borders;
+        for row in 0..l.header.rows {
+            let [state, ram, margin] = left[row];
+            let mut load: i128 = 0;
+            for border in 0..borders {
+                let found = p[row * borders + border];
+                let own = if state == 0 { difference(l, row, border).max(0) as u64 } else { 0 };
+                if found != own {
+                    let details = format!("row {row}, border {border}: p is {found}, by the zone factors {own}");
+                    self.fail("keravnoth_extract", &details, &l.shown());
+                }
+                load += i128::from(found) * i128::from(outcome.kw[border]);
+            }
+            if state == 0 && i128::from(ram) - load != i128::from(margin) {
+                let details = format!("row {row}: RAM {ram} less p times exchange is not the margin left, {margin}");
+                self.fail("keravnoth_extract", &details, &l.shown());
+            }
+        }
+        if p.len() > l.header.rows * borders {
+            self.see("p longer than needed");
+        }
+        if outcome.rows.iter().any(|row| row.state != 0) {
+            self.see("p of a row not kept");
+        }
+    }
+
+    /// A refusal has left p as it was (the call has compared it).  Which one it
+    /// was; where p is short, what it came before or after.
+    fn see_p(&mut self, l: &LentTables, room: [usize; 3], refusal: Refusal) {
+        let h = l.header;
+        let whole = extracted(l, [usize::MAX, usize::MAX, usize::MAX]);
+        if room[0] >= h.rows.saturating_mul(h.borders) {
+            // with enough room all over, the same refusal, or none
+            match whole.err().map(|refusal| refusal.number) {
+                Some(number) => self.see(&format!("p stays on {number}")),
+                None => self.see("p stays on 8 of results"),
+            }
+            return;
+        }
+        let lengths = [l.z.count, l.b.count, l.c.count, l.f.count];
+        let needed = [h.zones, h.borders, h.rows, h.rows.saturating_mul(h.zones)];
+        let first = (0..4).find(|kind| lengths[*kind] < needed[*kind]);
+        match (refusal.number, first, whole.err()) {
+            (3, ..) => self.see("p short after the header"),
+            (_, Some(kind), _) => self.see(&format!("p short after {}", ["z", "b", "c", "f"][kind])),
+            (_, None, Some(later)) => self.see(&format!("p short before {}", later.number)),
+            (_, None, None) if room[1] < h.borders || room[2] < h.rows => self.see("p short before results"),
+            _ => self.see("p short alone"),
+        }
+    }
+
+    /// A short table of p, alone and with one of each kind of fault beside it.
+    fn short_p(&mut self, d: &mut Dice, t: &Tables, needed: [usize; 4]) {
+        let mut bad = t.clone();
+        let mut counts = with_extra(d, needed);
+        let mut room = [0, t.header.borders, t.header.rows];
+        match d.below(8) {
+            0 => damage::damage_header(d, &mut bad.header),
+            1..=3 => {
+                let kind = d.below(4);
+                counts[kind] = short(d, needed[kind]);
+            }
+            4 | 5 => damage::damage_record(d, &mut bad),
+            6 => room[1 + d.below(2)] -= 1,
+            _ => {}
+        }
+        let h = t.header;
+        room[0] = short(d, h.rows * h.borders);
+        let mut l = LentTables::new(d, &bad, counts);
+        let _ = self.extract(d, &mut l, room);
     }
 
     // -------------------------------------------------------- corner sheet
@@ -661,7 +752,7 @@ impl Comparison {
         let mut l = LentTables::new(d, &t, counts);
         let room = text.len() + d.below(4);
         let written = self.write(d, &mut l, room);
-        let room = [h.borders + d.below(3), h.rows + d.below(3)];
+        let room = [h.rows * h.borders + d.below(3), h.borders + d.below(3), h.rows + d.below(3)];
         let outcome = self.extract(d, &mut l, room);
         let result_room = answer.len() + d.below(4);
         let result = self.result_text(d, &mut l, result_room);
@@ -720,13 +811,15 @@ impl Comparison {
         };
         let _ = self.write(d, &mut l, room);
         if !heavy || d.one_in(4) {
+            let p = h.rows * h.borders + d.below(2);
             let room = match d.below(4) {
-                0 => [h.borders - 1, h.rows],
-                1 => [h.borders, h.rows - 1],
-                2 => [h.borders - 1, h.rows - 1],
-                _ => [d.below(h.borders + 1), d.below(h.rows + 1)],
+                0 => [p, h.borders - 1, h.rows],
+                1 => [p, h.borders, h.rows - 1],
+                2 => [p, h.borders - 1, h.rows - 1],
+                _ => [p, d.below(h.borders + 1), d.below(h.rows + 1)],
             };
             let _ = self.extract(d, &mut l, room);
+            self.short_p(d, &t, needed);
             let room = match d.below(3) {
                 0 => 0,
                 1 => d.below(answer.len()),
@@ -831,11 +924,9 @@ impl Comparison {
                 self.see_bad(&bad, written.err());
             }
             1 => {
-                let room = if short_room {
-                    [d.below(3), d.below(3)]
-                } else {
-                    [h.borders.min(40), h.rows.min(200)]
-                };
+                let [borders, rows] = [h.borders.min(40), h.rows.min(200)];
+                let p = if d.one_in(4) { short(d, borders * rows) } else { borders * rows };
+                let room = if short_room { [p, d.below(3), d.below(3)] } else { [p, borders, rows] };
                 let outcome = self.extract(d, &mut l, room);
                 self.see_bad(&bad, outcome.err());
             }
@@ -1035,6 +1126,12 @@ impl Comparison {
     }
 }
 
+/// The reference's extraction; `room`: the items of p, atc and left.
+fn extracted(l: &LentTables, room: [usize; 3]) -> Result<Outcome, Refusal> {
+    let [p, borders, rows] = room;
+    second::extract(l.header, l.z.part(), l.b.part(), l.c.part(), l.f.part(), p, borders, rows)
+}
+
 /// From factor less to factor.
 fn difference(l: &LentTables, row: usize, border: usize) -> i64 {
     let own = &l.f.part()[row * l.header.zones..];
@@ -1042,8 +1139,11 @@ fn difference(l: &LentTables, row: usize, border: usize) -> i64 {
     own[from as usize] - own[to as usize]
 }
 
-/// Less room than is needed.
+/// Less room than is needed; none where none is.
 fn short(d: &mut Dice, needed: usize) -> usize {
+    if needed == 0 {
+        return 0;
+    }
     match d.below(3) {
         0 => 0,
         1 => d.below(needed),
@@ -1106,6 +1206,20 @@ fn wanted() -> Vec<(String, u64)> {
         add(&format!("read short {name}"), 200);
         add(&format!("lent short {name}"), 200);
     }
+    for number in [3, 4, 5, 6, 7] {
+        add(&format!("p stays on {number}"), 100);
+        add(&format!("p short before {number}"), 100);
+    }
+    add("p stays on 8", 100);
+    add("p stays on 8 of results", 1_000);
+    add("p short after the header", 100);
+    for name in ["z", "b", "c", "f"] {
+        add(&format!("p short after {name}"), 200);
+    }
+    add("p short before results", 200);
+    add("p short alone", 500);
+    add("p longer than needed", 1_000);
+    add("p of a row not kept", 1_000);
     add("round trip", 10_000);
     add("16 zones", 50);
     add("40 borders", 50);

@@ -79,11 +79,17 @@ fn write(l: &mut LentTables, out: &mut Lent<u8>) -> [u64; 3] {
     text_to(text, out)
 }
 
-fn extract(l: &mut LentTables, atc: &mut Lent<[i64; 1]>, left: &mut Lent<[i64; 3]>) -> [u64; 3] {
+fn extract(
+    l: &mut LentTables,
+    p: &mut Lent<u64>,
+    atc: &mut Lent<[i64; 1]>,
+    left: &mut Lent<[i64; 3]>,
+) -> [u64; 3] {
     let LentTables { header, z, b, c, f } = l;
-    match second::extract(*header, z, b, c, f, atc.len(), left.len()) {
+    match second::extract(*header, z, b, c, f, p.len(), atc.len(), left.len()) {
         Err(refusal) => refused(refusal),
         Ok(outcome) => {
+            p[..outcome.p.len()].copy_from_slice(&outcome.p);
             for (item, mw) in atc.iter_mut().zip(&outcome.atc) {
                 *item = [*mw as i64];
             }
@@ -212,10 +218,12 @@ fn serve<R: Read>(request: &mut Request<R>, to: &mut Vec<u8>) -> std::io::Result
         }
         wire::EXTRACT => {
             let mut l = request.tables()?;
+            let mut p = request.lent(wire::P)?;
             let mut atc = request.lent(wire::ATC)?;
             let mut left = request.lent(wire::LEFT)?;
-            put_fields(&extract(&mut l, &mut atc, &mut left), to);
+            put_fields(&extract(&mut l, &mut p, &mut atc, &mut left), to);
             put_tables(&l, to);
+            wire::put_all(&p.whole, to);
             wire::put_all(&atc.whole, to);
             wire::put_all(&left.whole, to);
         }

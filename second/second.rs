@@ -388,10 +388,9 @@ pub fn read(text: &[u8], room: [usize; 4]) -> Result<Tables, Refusal> {
 // Calls on lent tables
 // ---------------------------------------------------------------------------
 
-/// "A call on lent tables judges the header (3, line 1), then lengths (8), then
-/// 3 and 4 with the line the record would have".  The result is the front part
-/// of each lent table.
-pub fn judge(
+/// "A call on lent tables judges the header (3, line 1), then lengths (8)".  The
+/// result is the front part of each lent table, its values not yet judged.
+fn front_of(
     header: Header,
     z: &[i64],
     b: &[[i64; 3]],
@@ -402,15 +401,31 @@ pub fn judge(
         return refuse(3, LINE_H);
     }
     judge_lengths(header, [z.len(), b.len(), c.len(), f.len()])?;
-    let tables = Tables {
+    Ok(Tables {
         header,
         z: z[..header.zones].to_vec(),
         b: b[..header.borders].to_vec(),
         c: c[..header.rows].to_vec(),
         f: f[..header.rows * header.zones].to_vec(),
-    };
-    judge_records(&tables)?;
-    judge_twice(&tables.b)?;
+    })
+}
+
+/// "then 3 and 4 with the line the record would have"
+fn judge_values(tables: &Tables) -> Result<(), Refusal> {
+    judge_records(tables)?;
+    judge_twice(&tables.b)
+}
+
+/// What every call on lent tables judges.
+pub fn judge(
+    header: Header,
+    z: &[i64],
+    b: &[[i64; 3]],
+    c: &[[i64; 7]],
+    f: &[i64],
+) -> Result<Tables, Refusal> {
+    let tables = front_of(header, z, b, c, f)?;
+    judge_values(&tables)?;
     Ok(tables)
 }
 
@@ -732,6 +747,9 @@ pub struct Outcome {
     pub rows: Vec<RowOut>,
     /// rounds counted
     pub rounds: u64,
+    /// p of each row and border, row i's from item i x borders on, border after
+    /// border; 0 where the row is not kept
+    pub p: Vec<u64>,
     /// final exchange of each border in kW
     pub kw: Vec<u64>,
     /// N: the largest n of a kept row
@@ -742,6 +760,19 @@ pub struct Outcome {
     /// is not counted, included: for each border and each kept row with p > 0
     /// one by n and one by p, so two for each such pair in each round.
     pub divisions: u64,
+}
+
+/// "Keep, per kept row, the factors p of all borders side by side, laid out
+/// border after border"; "rows x borders items, zero for rows not kept".
+fn p_table(tables: &Tables, states: &[u8]) -> Vec<u64> {
+    let mut table = Vec::new();
+    for row in 0..tables.header.rows {
+        for border in &tables.b {
+            let p = if states[row] == 0 { border_factor(factors_of(tables, row), border) } else { 0 };
+            table.push(p as u64);
+        }
+    }
+    table
 }
 
 /// A kept row as the rounds see it.
@@ -755,16 +786,18 @@ struct Kept {
     margin: i128,
 }
 
-/// The rows of state 0, each with margin RAM - S.
-fn kept_rows(tables: &Tables, margins: &[Margin], states: &[u8]) -> Vec<Kept> {
+/// The rows of state 0, each with margin RAM - S.  p is read from the table of p
+/// only.
+fn kept_rows(tables: &Tables, margins: &[Margin], states: &[u8], p_table: &[u64]) -> Vec<Kept> {
+    let borders = tables.header.borders;
     let mut kept = Vec::new();
     for row in 0..tables.header.rows {
         // "Only state 0 rows take part."
         if states[row] != 0 {
             continue;
         }
-        let factors = factors_of(tables, row);
-        let p: Vec<i128> = tables.b.iter().map(|border| border_factor(factors, border)).collect();
+        let own = &p_table[row * borders..(row + 1) * borders];
+        let p: Vec<i128> = own.iter().map(|p| i128::from(*p)).collect();
         let n = p.iter().filter(|p| **p > 0).count() as i128;
         // "A row's margin starts at RAM - S."
         let margin = margins[row].ram - margins[row].s;
@@ -861,7 +894,8 @@ fn work(tables: &Tables) -> Result<Outcome, Refusal> {
     let borders = tables.header.borders;
     let margins: Vec<Margin> = (0..tables.header.rows).map(|row| margin_of(tables, row)).collect();
     let states = states_of(tables, &margins);
-    let mut kept = kept_rows(tables, &margins, &states);
+    let p = p_table(tables, &states);
+    let mut kept = kept_rows(tables, &margins, &states, &p);
     judge_any_kept(&kept)?;
     judge_borders_limited(&kept, borders)?;
     judge_starting_margins(&kept)?;
@@ -901,6 +935,7 @@ fn work(tables: &Tables) -> Result<Outcome, Refusal> {
         atc: kw.iter().map(|kw| floor_div(*kw, KW_PER_MW) as u64).collect(),
         rows,
         rounds,
+        p,
         kw: kw.iter().map(|kw| *kw as u64).collect(),
         n_most: n_most as usize,
         l_bits,
@@ -942,17 +977,21 @@ fn check_outcome(tables: &Tables, kept: &[Kept], outcome: &Outcome) {
 }
 
 /// The tables judged, then 5, 6 and 7; "last comes room for results (8)",
-/// "border results before row results".
+/// "border results before row results".  The table of p is "lent, rows x borders
+/// items"; "8 looks at it after factors", so before the records.
 pub fn extract(
     header: Header,
     z: &[i64],
     b: &[[i64; 3]],
     c: &[[i64; 7]],
     f: &[i64],
+    room_p: usize,
     room_borders: usize,
     room_rows: usize,
 ) -> Result<Outcome, Refusal> {
-    let tables = judge(header, z, b, c, f)?;
+    let tables = front_of(header, z, b, c, f)?;
+    judge_room(room_p, header.rows * header.borders)?;
+    judge_values(&tables)?;
     let outcome = work(&tables)?;
     judge_room(room_borders, header.borders)?;
     judge_room(room_rows, header.rows)?;

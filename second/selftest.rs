@@ -23,7 +23,7 @@ fn table(shown: &str) -> Tables {
 }
 
 fn out(t: &Tables) -> Result<Outcome, Refusal> {
-    extract(t.header, &t.z, &t.b, &t.c, &t.f, usize::MAX, usize::MAX)
+    extract(t.header, &t.z, &t.b, &t.c, &t.f, usize::MAX, usize::MAX, usize::MAX)
 }
 
 fn e<T>(number: u32, place: usize) -> Result<T, Refusal> {
@@ -523,7 +523,7 @@ fn lent_tables() {
 #[test]
 fn room_for_results() {
     let t = table(HOUR);
-    let x = |t: &Tables, b, r| extract(t.header, &t.z, &t.b, &t.c, &t.f, b, r).map(|_| ());
+    let x = |t: &Tables, b, r| extract(t.header, &t.z, &t.b, &t.c, &t.f, 8, b, r).map(|_| ());
     assert_eq!(x(&t, 2, 4), Ok(()));
     assert_eq!(x(&t, 1, 0), e(8, 2));
     assert_eq!(x(&t, 2, 3), e(8, 4));
@@ -547,6 +547,69 @@ fn room_for_results() {
     seven.c[1][6] = 10_000_000;
     assert_eq!((x(&seven, 0, 0), rt(&seven, 0).map(|_| ())), (e(7, 1), e(7, 1)));
     assert!(w(&seven, usize::MAX).is_ok());
+}
+
+// ---------------------------------------------------------- factors by border
+
+/// The extraction with so many items of p, and of the results of borders and
+/// rows.
+fn with_p(t: &Tables, p: usize, b: usize, r: usize) -> Result<Vec<u64>, Refusal> {
+    extract(t.header, &t.z, &t.b, &t.c, &t.f, p, b, r).map(|o| o.p)
+}
+
+#[test]
+fn p_of_the_worked_hour() {
+    // row 0: 30000 - 10000 and 10000 - 0; row 1: 5000 - 5000 and 5000 - 0; rows 2 and
+    // 3 are not kept
+    let p = vec![20_000, 10_000, 0, 5_000, 0, 0, 0, 0];
+    assert_eq!(with_p(&table(HOUR), 8, 2, 4), Ok(p.clone()));
+    assert_eq!(with_p(&table(HOUR), 9, 2, 4), Ok(p));
+}
+
+#[test]
+fn p_by_hand() {
+    // borders 0 to 1, 1 to 0, 0 to 2; row 0 under 5%, row 1 lowered by 100 from row 2
+    // and of equal RAM, so row 2 is not kept; row 3 relieves what row 1 is loaded by
+    let t = table(
+        "H 3 3 4 / Z 0 0 / Z 1 0 / Z 2 0 / B 0 0 1 0 / B 1 1 0 0 / B 2 0 2 0 / C 0 100 0 0 0 0 0 0 4999 0 0 / C 1 100 0 0 0 0 0 0 200 6900 -4100 / C 2 100 0 0 0 0 0 0 300 7000 -4000 / C 3 100 0 0 0 0 0 0 100000 -100000 100000",
+    );
+    assert_eq!(with_p(&t, 12, 3, 4), Ok(vec![0, 0, 0, 0, 6_700, 4_300, 0, 0, 0, 200_000, 0, 0]));
+}
+
+#[test]
+fn p_among_the_refusals() {
+    let t = table(HOUR);
+    // rows x borders, after the header and the four tables, whatever follows
+    assert_eq!((with_p(&t, 7, 2, 4), with_p(&t, 0, 0, 0)), (e(8, 8), e(8, 8)));
+    let mut one = t.clone();
+    one.header.borders = 65;
+    assert_eq!(with_p(&one, 0, 0, 0), e(3, 1));
+    for (kind, needed) in [3, 2, 4, 12].into_iter().enumerate() {
+        let mut one = t.clone();
+        match kind {
+            0 => one.z.truncate(2),
+            1 => one.b.truncate(1),
+            2 => one.c.truncate(3),
+            _ => one.f.truncate(11),
+        }
+        assert_eq!(with_p(&one, 7, 2, 4), e(8, needed));
+    }
+    let mut three = t.clone();
+    three.z[0] = 100_000_001;
+    assert_eq!((with_p(&three, 7, 2, 4), with_p(&three, 8, 2, 4)), (e(8, 8), e(3, 2)));
+    let mut four = t.clone();
+    four.b[1] = four.b[0];
+    assert_eq!((with_p(&four, 7, 2, 4), with_p(&four, 8, 2, 4)), (e(8, 8), e(4, 1)));
+    let mut five = t.clone();
+    five.f = vec![0; 12];
+    assert_eq!((with_p(&five, 7, 2, 4), with_p(&five, 8, 2, 4)), (e(8, 8), e(5, 0)));
+    let mut six = t.clone();
+    six.b[1] = [2, 1, 0];
+    assert_eq!((with_p(&six, 7, 2, 4), with_p(&six, 8, 2, 4)), (e(8, 8), e(6, 1)));
+    let mut seven = t.clone();
+    seven.c[1][6] = 10_000_000;
+    assert_eq!((with_p(&seven, 7, 2, 4), with_p(&seven, 8, 2, 4)), (e(8, 8), e(7, 1)));
+    assert_eq!((with_p(&t, 8, 1, 4), with_p(&t, 8, 2, 3)), (e(8, 2), e(8, 4)));
 }
 
 // --------------------------------------------------------------- corner sheet
@@ -830,10 +893,16 @@ fn check_random(t: &Tables, seen: &mut [usize; 8]) {
             // margins left, and no border can rise any further
             let mut stuck = vec![false; h.borders];
             let mut n_most = 0;
+            assert_eq!(o.p.len(), h.rows * h.borders);
             for row in 0..h.rows {
-                let Some(left) = o.rows[row].left else { continue };
+                let kept_p = &o.p[row * h.borders..(row + 1) * h.borders];
+                let Some(left) = o.rows[row].left else {
+                    assert!(kept_p.iter().all(|p| *p == 0));
+                    continue;
+                };
                 let own = &t.f[row * h.zones..(row + 1) * h.zones];
                 let p: Vec<i128> = t.b.iter().map(|b| (own[b[0] as usize] - own[b[1] as usize]).max(0) as i128).collect();
+                assert!(p.iter().zip(kept_p).all(|(own, kept)| *own == i128::from(*kept)));
                 let n = p.iter().filter(|p| **p > 0).count() as i128;
                 n_most = n_most.max(n as usize);
                 let load: i128 = p.iter().zip(&o.kw).map(|(p, k)| p * *k as i128).sum();

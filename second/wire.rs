@@ -2,10 +2,10 @@
 //! makes the calls: c/bridge.c over a library, mock.rs over the reference
 //! calculator.  A word has 64 bits, the least byte first.
 //!
-//! A request: fourteen words, then the lent buffers.  The words are the call,
+//! A request: fifteen words, then the lent buffers.  The words are the call,
 //! its header (zones, borders, rows) and its row (each 0 where the call takes
-//! none), and the counts of items of z, b, c, f, atc, left, flows, text and out
-//! (0 where the call does not take that buffer).  The buffers that the call
+//! none), and the counts of items of z, b, c, f, p, atc, left, flows, text and
+//! out (0 where the call does not take that buffer).  The buffers that the call
 //! takes follow in this order, each with BEFORE items before the lent part and
 //! AFTER items after it; an item is as many words as it has numbers, and a byte
 //! for text and out.
@@ -30,7 +30,7 @@ pub const BEFORE: usize = 2;
 pub const AFTER: usize = 3;
 
 /// The words of a request.
-pub const WORDS: usize = 14;
+pub const WORDS: usize = 15;
 
 /// Where the row stands among them.
 pub const ROW: usize = 4;
@@ -40,11 +40,12 @@ pub const Z: usize = 5;
 pub const B: usize = 6;
 pub const C: usize = 7;
 pub const F: usize = 8;
-pub const ATC: usize = 9;
-pub const LEFT: usize = 10;
-pub const FLOWS: usize = 11;
-pub const TEXT: usize = 12;
-pub const OUT: usize = 13;
+pub const P: usize = 9;
+pub const ATC: usize = 10;
+pub const LEFT: usize = 11;
+pub const FLOWS: usize = 12;
+pub const TEXT: usize = 13;
+pub const OUT: usize = 14;
 
 /// An item of a lent buffer as bytes.
 pub trait Item: Copy {
@@ -74,6 +75,18 @@ impl Item for i64 {
 
     fn got(from: &[u8]) -> i64 {
         i64::from_le_bytes(from.try_into().expect("eight bytes"))
+    }
+}
+
+impl Item for u64 {
+    const BYTES: usize = 8;
+
+    fn put(self, to: &mut [u8]) {
+        to.copy_from_slice(&self.to_le_bytes());
+    }
+
+    fn got(from: &[u8]) -> u64 {
+        u64::from_le_bytes(from.try_into().expect("eight bytes"))
     }
 }
 

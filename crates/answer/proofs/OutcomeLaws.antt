@@ -2,7 +2,7 @@
 -- In order: the outcome's header; what `extract` answered; making the text; what `result_text` and `answer` do with it.
 use mathlib.Core.Path.{_≡_, refl, sym, ap, ap₂, _∙_}
 use mathlib.Core.List.{List}
-use Prim.Native.Nat.{ℕ, _≤_}
+use Prim.Native.Nat.{ℕ, _*_, _≤_}
 use native.Mathlib.Omega.{arith}
 use lib.IntN.{ℤ}
 use lib.ListN.{length, take}
@@ -25,7 +25,7 @@ use Rattle.table.specs.Table.{Table, judgeLent}
 use Rattle.table.proofs.GoodLaws.{judged-front, judged-good}
 use Rattle.extraction.specs.Extraction.{Result, resultOf, outcomeOf, atcRecord, rowRecord, ExtractLeft, leaves, resultStored, extractLeft}
 use Rattle.extraction.proofs.DemandLaws.{accepted}
-use Rattle.extraction.proofs.ExtractLaws.{extract-roomy}
+use Rattle.extraction.proofs.LentLaws.{extract-roomy}
 use Rattle.result.specs.Records.{recordsText}
 use Rattle.result.specs.Refusal.{refusalText}
 use Rattle.answer.specs.declared.made.Made.{Made}
@@ -54,21 +54,21 @@ outcome-header given r e =
     }
 
 -- ---- what `extract` answered
-module _ (atcs lefts : List (List ℤ)) where
+module _ (ps : List ℕ) (atcs lefts : List (List ℤ)) where
   abbrev extracted : Judged Result → ExtractLeft
-  extracted o = either o (resultStored atcs lefts) (λ w. leaves (refused w) atcs lefts)
+  extracted o = either o (resultStored ps atcs lefts) (λ w. leaves (refused w) ps atcs lefts)
 
-  refused-from : (o : Judged Result) (w : Refusal) {atcs′ lefts′ : List (List ℤ)} → leaves (refused w) atcs′ lefts′ ≡ extracted o → o ≡ refused w
+  refused-from : (o : Judged Result) (w : Refusal) {ps′ : List ℕ} {atcs′ lefts′ : List (List ℤ)} → leaves (refused w) ps′ atcs′ lefts′ ≡ extracted o → o ≡ refused w
   unfolding either
   refused-from (passed r) w e = absurd (not-passed w (r .outcome .rounds) (ap (λ (l : ExtractLeft). l .answer) e))
   refused-from (refused v) w e = ap refused (sym (refused-is {A = ℕ} w v (ap (λ (l : ExtractLeft). l .answer) e)))
 
-  record Stored (o : Judged Result) (rounds : ℕ) (atcs′ lefts′ : List (List ℤ)) : Type 0 where
+  record Stored (o : Judged Result) (rounds : ℕ) (ps′ : List ℕ) (atcs′ lefts′ : List (List ℤ)) : Type 0 where
     it : Result
     is : o ≡ passed it
-    left : leaves (passed rounds) atcs′ lefts′ ≡ resultStored atcs lefts it
+    left : leaves (passed rounds) ps′ atcs′ lefts′ ≡ resultStored ps atcs lefts it
 
-  stored-from : (o : Judged Result) (rounds : ℕ) {atcs′ lefts′ : List (List ℤ)} → leaves (passed rounds) atcs′ lefts′ ≡ extracted o → Stored o rounds atcs′ lefts′
+  stored-from : (o : Judged Result) (rounds : ℕ) {ps′ : List ℕ} {atcs′ lefts′ : List (List ℤ)} → leaves (passed rounds) ps′ atcs′ lefts′ ≡ extracted o → Stored o rounds ps′ atcs′ lefts′
   unfolding either
   stored-from (passed r) rounds e = record { it = r; is = refl; left = e }
   stored-from (refused v) rounds e = absurd (not-passed v rounds (sym (ap (λ (l : ExtractLeft). l .answer) e)))
@@ -77,15 +77,15 @@ module _ (atcs lefts : List (List ℤ)) where
 stored-front : (n m : ℕ) (f : ℕ → List ℤ) (new old : List (List ℤ)) → new ≡ over (table n f) old → n ≡ m → take m new ≡ table n f
 stored-front n m f new old a b = ap (take m) a ∙ take-at (table n f) _ m (table-long n f ∙ b)
 
-module _ (given : Table) (atcs lefts : List (List ℤ)) (hb : bordersMost ≤ length atcs) (hr : rowsMost ≤ length lefts)
-    (e : Extracted) {atcs′ lefts′ : List (List ℤ)} (said : leaves (saidExtracted e) atcs′ lefts′ ≡ extractLeft given atcs lefts) where
+module _ (given : Table) (ps : List ℕ) (atcs lefts : List (List ℤ)) (hp : rowsMost * bordersMost ≤ length ps) (hb : bordersMost ≤ length atcs) (hr : rowsMost ≤ length lefts)
+    (e : Extracted) {ps′ : List ℕ} {atcs′ lefts′ : List (List ℤ)} (said : leaves (saidExtracted e) ps′ atcs′ lefts′ ≡ extractLeft given ps atcs lefts) where
   -- there is room for every result, so the answer is the outcome's
-  told-by : {x : Extracted} → e ≡ x → leaves (saidExtracted x) atcs′ lefts′ ≡ extracted atcs lefts (outcomeLent given)
+  told-by : {x : Extracted} → e ≡ x → leaves (saidExtracted x) ps′ atcs′ lefts′ ≡ extracted ps atcs lefts (outcomeLent given)
   unfolding outcomeLent
-  told-by k = ap (λ (y : Extracted). leaves (saidExtracted y) atcs′ lefts′) (sym k) ∙ said ∙ extract-roomy given atcs lefts hb hr
+  told-by k = ap (λ (y : Extracted). leaves (saidExtracted y) ps′ atcs′ lefts′) (sym k) ∙ said ∙ extract-roomy given ps atcs lefts hp hb hr
 
   pub outcome-refused : (w : Refusal) → e ≡ Refused w → outcomeLent given ≡ refused w
-  outcome-refused w k = refused-from atcs lefts (outcomeLent given) w (told-by k)
+  outcome-refused w k = refused-from ps atcs lefts (outcomeLent given) w (told-by k)
 
   -- the records in front give the result's text
   pub record OutcomeTold (rounds : ℕ) : Type 0 where
@@ -96,7 +96,7 @@ module _ (given : Table) (atcs lefts : List (List ℤ)) (hb : bordersMost ≤ le
   pub outcome-told : (rounds : ℕ) → e ≡ Rounds rounds → OutcomeTold rounds
   unfolding resultText
   outcome-told rounds k =
-      let u = stored-from atcs lefts (outcomeLent given) rounds (told-by k) in
+      let u = stored-from ps atcs lefts (outcomeLent given) rounds (told-by k) in
       let r = u .it in
       let h = outcome-header given r (u .is) .header in
       record {

@@ -1,6 +1,6 @@
 // The result text of lent tables, as both open calls make it.
 ghost use mathlib.Core.Path.{_≡_};
-ghost use Prim.Native.Nat.{_≤_};
+ghost use Prim.Native.Nat.{_*_, _≤_};
 ghost use lib.ListN.{length, take};
 ghost use Rattle.kinds.specs.Limits.{bordersMost, rowsMost};
 ghost use Rattle.kinds.specs.Refusals.{passed};
@@ -36,27 +36,30 @@ pub fn make(
 ) -> Made
     ensures { λ r. ⌜ (saidMade r (now (out .exit)) ≡ madeLeft (outcomeLent (lent h (now (z .entry)) (now (b .entry)) (now (c .entry)) (now (f .entry)))) (now (out .entry))) × (madeAsked r ≤ answerMost) ⌝ }
 {
+    let mut p: [u64; Header::ROWS_MOST * Header::BORDERS_MOST] = [0; Header::ROWS_MOST
+        * Header::BORDERS_MOST];
     let mut atc: [AtcRecord; Header::BORDERS_MOST] =
         [[0; BorderResult::ITEMS]; Header::BORDERS_MOST];
     let mut left: [LeftRecord; Header::ROWS_MOST] = [[0; RowResult::ITEMS]; Header::ROWS_MOST];
-    make_in(h, z, b, c, f, &mut atc, &mut left, out)
+    make_in(h, z, b, c, f, &mut p, &mut atc, &mut left, out)
 }
 
-// The records are made in `make`, and not here, where goals would spell them out.
+// The table of p and the records are made in `make`, and not here, where goals would spell them out.
 fn make_in(
     h: Header,
     z: &[i64],
     b: &[BorderRecord],
     c: &[RowRecord],
     f: &[i64],
+    p: &mut [u64],
     atc: &mut [AtcRecord],
     left: &mut [LeftRecord],
     out: &mut [u8],
 ) -> Made
-    requires { ⌜ (bordersMost ≤ length (now atc)) × (rowsMost ≤ length (now left)) ⌝ }
+    requires { ⌜ (rowsMost * bordersMost ≤ length (now p)) × (bordersMost ≤ length (now atc)) × (rowsMost ≤ length (now left)) ⌝ }
     ensures { λ r. ⌜ (saidMade r (now (out .exit)) ≡ madeLeft (outcomeLent (lent h (now (z .entry)) (now (b .entry)) (now (c .entry)) (now (f .entry)))) (now (out .entry))) × (madeAsked r ≤ answerMost) ⌝ }
 {
-    match extraction::extract(h, z, b, c, f, atc, left) {
+    match extraction::extract(h, z, b, c, f, p, atc, left) {
         Extracted::Rounds(rounds) => Made::Text(write_result(h, atc, left, rounds, out)),
         Extracted::Refused(w) => Made::Refused(w),
     }

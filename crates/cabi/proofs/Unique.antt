@@ -46,11 +46,11 @@ read-one may r r′ z z′ b b′ c c′ f f′ p q =
 text-one : (may : TextCoded) (r r′ : KeravnothWritten) (out out′ : List ℕ) → textFound r out ≡ may → textFound r′ out′ ≡ may → (r ≡ r′) × (out ≡ out′)
 text-one may r r′ out out′ p q = let e = p ∙ sym q in (ap (λ (l : TextCoded). l .answer) e, ap (λ (l : TextCoded). l .out) e)
 
-extract-one : (may : ExtractCoded) (r r′ : KeravnothExtracted) (atcs atcs′ lefts lefts′ : List (List ℤ)) → extractFound r atcs lefts ≡ may → extractFound r′ atcs′ lefts′ ≡ may
-    → (r ≡ r′) × ((atcs ≡ atcs′) × (lefts ≡ lefts′))
-extract-one may r r′ atcs atcs′ lefts lefts′ p q =
+extract-one : (may : ExtractCoded) (r r′ : KeravnothExtracted) (ps ps′ : List ℕ) (atcs atcs′ lefts lefts′ : List (List ℤ)) → extractFound r ps atcs lefts ≡ may → extractFound r′ ps′ atcs′ lefts′ ≡ may
+    → (r ≡ r′) × ((ps ≡ ps′) × ((atcs ≡ atcs′) × (lefts ≡ lefts′)))
+extract-one may r r′ ps ps′ atcs atcs′ lefts lefts′ p q =
     let e = p ∙ sym q in
-    (ap (λ (l : ExtractCoded). l .answer) e, (ap (λ (l : ExtractCoded). l .atcs) e, ap (λ (l : ExtractCoded). l .lefts) e))
+    (ap (λ (l : ExtractCoded). l .answer) e, (ap (λ (l : ExtractCoded). l .p) e, (ap (λ (l : ExtractCoded). l .atcs) e, ap (λ (l : ExtractCoded). l .lefts) e)))
 
 flows-one : (may : FlowsCoded) (r r′ : KeravnothFlows) (out out′ : List ℤ) → flowsFound r out ≡ may → flowsFound r′ out′ ≡ may → (r ≡ r′) × (out ≡ out′)
 flows-one may r r′ out out′ p q = let e = p ∙ sym q in (ap (λ (l : FlowsCoded). l .answer) e, ap (λ (l : FlowsCoded). l .out) e)
@@ -70,11 +70,14 @@ pub keravnoth-write-once : (κs : Lfts 5) (x : ArgsD write.signature κs) (r r�
     → write-reads.Post κs x r s → write-reads.Post κs x r′ s′ → (r ≡ r′) × (now (s .1 .1 .1 .1 .1 .1 .1 .0) ≡ now (s′ .1 .1 .1 .1 .1 .1 .1 .0))
 keravnoth-write-once κs x r r′ s s′ p q = text-one _ _ _ _ _ p q
 
--- the results are the eighth and the ninth
-pub keravnoth-extract-once : (κs : Lfts 6) (x : ArgsD extract.signature κs) (r r′ : ResD extract.signature κs) (s s′ : AtExit (endedOf 6 extract-kinds.ps extract-kinds.r) κs)
+-- p is the eighth, and the results are the ninth and the tenth
+pub keravnoth-extract-once : (κs : Lfts 7) (x : ArgsD extract.signature κs) (r r′ : ResD extract.signature κs) (s s′ : AtExit (endedOf 7 extract-kinds.ps extract-kinds.r) κs)
     → extract-reads.Post κs x r s → extract-reads.Post κs x r′ s′
-    → (r ≡ r′) × ((now (s .1 .1 .1 .1 .1 .1 .1 .0) ≡ now (s′ .1 .1 .1 .1 .1 .1 .1 .0)) × (now (s .1 .1 .1 .1 .1 .1 .1 .1 .0) ≡ now (s′ .1 .1 .1 .1 .1 .1 .1 .1 .0)))
-keravnoth-extract-once κs x r r′ s s′ p q = extract-one _ _ _ _ _ _ _ p q
+    → (r ≡ r′)
+    × ((now (s .1 .1 .1 .1 .1 .1 .1 .0) ≡ now (s′ .1 .1 .1 .1 .1 .1 .1 .0))
+    × ((now (s .1 .1 .1 .1 .1 .1 .1 .1 .0) ≡ now (s′ .1 .1 .1 .1 .1 .1 .1 .1 .0))
+    × (now (s .1 .1 .1 .1 .1 .1 .1 .1 .1 .0) ≡ now (s′ .1 .1 .1 .1 .1 .1 .1 .1 .1 .0))))
+keravnoth-extract-once κs x r r′ s s′ p q = extract-one _ _ _ _ _ _ _ _ _ p q
 
 -- `out` is the eighth argument
 pub keravnoth-result-text-once : (κs : Lfts 5) (x : ArgsD result-text.signature κs) (r r′ : ResD result-text.signature κs) (s s′ : AtExit (endedOf 5 result-text-kinds.ps result-text-kinds.r) κs)

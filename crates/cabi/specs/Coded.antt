@@ -59,17 +59,18 @@ textFound answer out = record { answer = answer; out = out }
 abbrev pub textCoded : TextLeft → TextCoded
 textCoded l = textFound (codedWritten (l .answer)) (l .out)
 
--- what `keravnoth_extract` leaves: its answer, and the lent results
+-- what `keravnoth_extract` leaves: its answer, the lent table of p, and the lent results
 pub record ExtractCoded : Type 0 where
   pub answer : KeravnothExtracted
+  pub p : List ℕ
   pub atcs : List (List ℤ)
   pub lefts : List (List ℤ)
 
-abbrev pub extractFound : (answer : KeravnothExtracted) → (atcs lefts : List (List ℤ)) → ExtractCoded
-extractFound answer atcs lefts = record { answer = answer; atcs = atcs; lefts = lefts }
+abbrev pub extractFound : (answer : KeravnothExtracted) → (ps : List ℕ) → (atcs lefts : List (List ℤ)) → ExtractCoded
+extractFound answer ps atcs lefts = record { answer = answer; p = ps; atcs = atcs; lefts = lefts }
 
 abbrev pub extractCoded : ExtractLeft → ExtractCoded
-extractCoded l = extractFound (codedExtracted (l .answer)) (l .atcs) (l .lefts)
+extractCoded l = extractFound (codedExtracted (l .answer)) (l .p) (l .atcs) (l .lefts)
 
 -- what `keravnoth_corner_flows` leaves: its answer, and the lent numbers
 pub record FlowsCoded : Type 0 where

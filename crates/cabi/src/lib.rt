@@ -86,7 +86,7 @@ pub extern "C" fn keravnoth_write(
     code_written(writing::write(h, z, b, c, f, out))
 }
 
-// Capacities and margins from the tables.
+// Capacities and margins from the tables, and p of each row at each border.
 #[no_mangle]
 pub extern "C" fn keravnoth_extract(
     zones: usize,
@@ -96,17 +96,18 @@ pub extern "C" fn keravnoth_extract(
     b: &[BorderRecord],
     c: &[RowRecord],
     f: &[i64],
+    p: &mut [u64],
     atc: &mut [AtcRecord],
     left: &mut [LeftRecord],
 ) -> KeravnothExtracted
-    ensures { λ r. ⌜ extractFound r (now (atc .exit)) (now (left .exit)) ≡ extractCoded (extractLeft (lent (record { zones = zones; borders = borders; rows = rows }) (now (z .entry)) (now (b .entry)) (now (c .entry)) (now (f .entry))) (now (atc .entry)) (now (left .entry))) ⌝ }
+    ensures { λ r. ⌜ extractFound r (now (p .exit)) (now (atc .exit)) (now (left .exit)) ≡ extractCoded (extractLeft (lent (record { zones = zones; borders = borders; rows = rows }) (now (z .entry)) (now (b .entry)) (now (c .entry)) (now (f .entry))) (now (p .entry)) (now (atc .entry)) (now (left .entry))) ⌝ }
 {
     let h = Header {
         zones: zones,
         borders: borders,
         rows: rows,
     };
-    code_extracted(extraction::extract(h, z, b, c, f, atc, left))
+    code_extracted(extraction::extract(h, z, b, c, f, p, atc, left))
 }
 
 // The same as text.

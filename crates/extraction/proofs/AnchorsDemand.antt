@@ -39,6 +39,7 @@ ended rounds margins x =
     record {
       header = small .header;
       rows = record { rams = pos 24000000 ∷ pos 100000 ∷ []; states = 0 ∷ 0 ∷ [] };
+      p = 10000 ∷ 10000 ∷ 0 ∷ 5000 ∷ [];
       outcome = record { rounds = rounds; state = record { margins = margins; x = x } };
     }
 

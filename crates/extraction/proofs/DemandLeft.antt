@@ -1,30 +1,30 @@
 -- Demand 3 of what `extract` leaves (`specs/DemandLeft.antt`), for every lent input that it answers with rounds; and that it never answers refusal 7 where CVA and IVA are 0.
-use mathlib.Core.Path.{_≡_, refl, sym, ap, subst, _∙_}
+use mathlib.Core.Path.{_≡_, sym, ap, subst, _∙_}
 use mathlib.Core.Bool.{Bool, true, false, cond}
 use mathlib.Core.List.{List, []}
 use Prim.Native.Nat.{ℕ, _*_, _-_, _≤_, _<_}
 use native.Mathlib.Omega.{arith}
 use lib.IntN.{ℤ, pos, _+ℤ_}
-use lib.ListN.{getD, take, List·getD-append}
+use lib.ListN.{length, getD, take, List·getD-append}
 use lib.Seq.{getD-take}
 use Rattle.numbers.specs.Ints.{minus, positivePart}
 use Rattle.numbers.specs.Below.{at, sum, table, over}
 use Rattle.numbers.proofs.BelowLaws.{table-long, table-get}
 use Rattle.kinds.specs.Ranges.{atℤ, rowOf}
 use Rattle.kinds.specs.Refusals.{Judged, passed, refused, then, either}
-use Rattle.kinds.proofs.RefusalLaws.{passed-is, not-passed, then-passed, need-passed}
-use Rattle.table.specs.Table.{Table, borderAt, rowAt, factorsAt, front, roomFor, inRange, notTwice, judgeLent}
+use Rattle.table.specs.Table.{Table, borderAt, rowAt, factorsAt, front, roomFor, inRange, notTwice, judgeShape}
 use Rattle.table.proofs.GoodLaws.{judged-front, judged-good}
 use Rattle.rounds.specs.Rounds.{Grid, sharers, raise}
 use Rattle.rounds.proofs.LeastLaws.{least-mono, div-mono}
 use Rattle.margin.specs.Margin.{pOf, ltaKw}
 use Rattle.start.specs.Start.{rowsOf, kept, gridOf, tableGrid}
-use Rattle.extraction.specs.Extraction.{Result, resultOf, atcOf, leftOf, outcomeOf, atcRecord, rowRecord, leaves, resultRoom, resultStored, extractLeft}
+use Rattle.extraction.specs.Extraction.{Result, resultOf, atcOf, leftOf, outcomeOf, atcRecord, rowRecord, judgeExtract, ExtractLeft, leaves, resultRoom, resultStored, extractLeft}
 use Rattle.extraction.specs.Demand.{Demand3}
 use Rattle.extraction.specs.DemandLeft.{atcIn, leftIn, LeftDemand3}
 use Rattle.extraction.specs.Seven.{NotSeven}
 use Rattle.extraction.proofs.DemandLaws.{accepted}
 use Rattle.extraction.proofs.Demand3.{accepted-demand-3}
+use Rattle.extraction.proofs.LentLaws.{judged-lent, accepted-left}
 use Rattle.extraction.proofs.Seven.{no-refusal-7}
 use Rattle.extraction.proofs.ToldLaws.{Told, told-passed, told-then, told-unless, told-first, told-need}
 
@@ -90,27 +90,14 @@ module _ (t : Table) (atcs lefts : List (List ℤ)) where
       }
 
 -- ---- of the call
-pub extract-demand-3 : (given : Table) (atcs lefts : List (List ℤ)) (k : ℕ) → let e = extractLeft given atcs lefts in e .answer ≡ passed k → LeftDemand3 (front given) k (e .atcs) (e .lefts)
-unfolding extractLeft either resultOf
-extract-demand-3 given atcs lefts k = go (then (judgeLent given) (λ t. then (outcomeOf t) (resultRoom atcs lefts))) refl
-  where
-    go : (j : Judged Result) → then (judgeLent given) (λ t. then (outcomeOf t) (resultRoom atcs lefts)) ≡ j
-        → let e = either j (resultStored atcs lefts) (λ w. leaves (refused w) atcs lefts) in e .answer ≡ passed k → LeftDemand3 (front given) k (e .atcs) (e .lefts)
-    go (refused w) q e = absurd (not-passed w k e)
-    go (passed r) q e =
-        let t = front given in
-        let a = then-passed (judgeLent given) _ r q in
-        let o = then-passed (outcomeOf (a .it)) (resultRoom atcs lefts) r (a .second) in
-        let b = need-passed r _ _ _ (o .second) in
-        let c = need-passed r _ _ _ (b .1) in
-        let whole : a .it ≡ t = judged-front given (a .it) (a .first) in
-        let judged : judgeLent given ≡ passed t = a .first ∙ ap passed whole in
-        let found : outcomeOf t ≡ passed r = ap outcomeOf (sym whole) ∙ o .first ∙ c .1 in
-        let is : resultOf t ≡ r = accepted t r found .is in
-        let rounds : r .outcome .rounds ≡ k = passed-is _ _ e in
-        let d : Demand3 t (resultOf t) = accepted-demand-3 t _ (judged-good given t judged) (found ∙ ap passed (sym is)) in
-        subst (λ (n : ℕ). LeftDemand3 t n (resultStored atcs lefts r .atcs) (resultStored atcs lefts r .lefts)) rounds
-        (subst (λ (s : Result). LeftDemand3 t (s .outcome .rounds) (resultStored atcs lefts s .atcs) (resultStored atcs lefts s .lefts)) is (left-demand-3 t atcs lefts d))
+pub extract-demand-3 : (given : Table) (ps : List ℕ) (atcs lefts : List (List ℤ)) (k : ℕ) → let e = extractLeft given ps atcs lefts in e .answer ≡ passed k → LeftDemand3 (front given) k (e .atcs) (e .lefts)
+unfolding resultOf
+extract-demand-3 given ps atcs lefts k e =
+    let a = accepted-left given ps atcs lefts k e in
+    let t = front given in
+    let d : Demand3 t (resultOf t) = accepted-demand-3 t _ (judged-good given t (a .judged)) (a .outcome) in
+    subst (λ (n : ℕ). LeftDemand3 t n (extractLeft given ps atcs lefts .atcs) (extractLeft given ps atcs lefts .lefts)) (a .rounds)
+    (subst (λ (l : ExtractLeft). LeftDemand3 t (resultOf t .outcome .rounds) (l .atcs) (l .lefts)) (sym (a .left)) (left-demand-3 t atcs lefts d))
 
 -- ---- no refusal 7
 abbrev Other : ℕ → Type 0
@@ -121,23 +108,26 @@ from-not-7 (passed a) n = record { says = tt }
 from-not-7 (refused w) n = record { says = n }
 
 -- judging lent tables gives 3, 8 and 4 alone
-judged-not-7 : (given : Table) → Told Other (judgeLent given)
-unfolding judgeLent roomFor
-judged-not-7 given =
-    told-unless _ _ _ (λ e. omega arith)
-    (told-need _ _ _ (λ e. omega arith) (told-need _ _ _ (λ e. omega arith) (told-need _ _ _ (λ e. omega arith) (told-need _ _ _ (λ e. omega arith)
-    (told-then (inRange (front given)) notTwice
+judged-not-7 : (given : Table) (n : ℕ) → Told Other (judgeExtract given n)
+unfolding judgeExtract judgeShape roomFor
+judged-not-7 given n =
+    told-then (judgeShape given) _
+    (told-unless _ _ _ (λ e. omega arith)
+    (told-need _ _ _ (λ e. omega arith) (told-need _ _ _ (λ e. omega arith) (told-need _ _ _ (λ e. omega arith) (told-need _ _ _ (λ e. omega arith) (told-passed _))))))
+    (λ t q.
+    told-need _ _ _ (λ e. omega arith)
+    (told-then (inRange t) notTwice
     (told-first _ _ _ _ (λ i e. omega arith) (told-first _ _ _ _ (λ i e. omega arith) (told-first _ _ _ _ (λ i e. omega arith) (told-passed _))))
-    (λ t q. told-first _ _ _ _ (λ i e. omega arith) (told-passed _)))))))
+    (λ u v. told-first _ _ _ _ (λ i e. omega arith) (told-passed _))))
 
-pub extract-not-7 : (given : Table) (atcs lefts : List (List ℤ)) → ((i : ℕ) → i < given .header .rows → rowAt given i .cva ≡ pos 0) → ((i : ℕ) → i < given .header .rows → rowAt given i .iva ≡ pos 0)
-    → NotSeven (extractLeft given atcs lefts .answer)
+pub extract-not-7 : (given : Table) (ps : List ℕ) (atcs lefts : List (List ℤ)) → ((i : ℕ) → i < given .header .rows → rowAt given i .cva ≡ pos 0) → ((i : ℕ) → i < given .header .rows → rowAt given i .iva ≡ pos 0)
+    → NotSeven (extractLeft given ps atcs lefts .answer)
 unfolding extractLeft either
-extract-not-7 given atcs lefts cva iva =
-    go (then (judgeLent given) (λ t. then (outcomeOf t) (resultRoom atcs lefts)))
-    (told-then (judgeLent given) _ (judged-not-7 given)
+extract-not-7 given ps atcs lefts cva iva =
+    go (then (judgeExtract given (length ps)) (λ t. then (outcomeOf t) (resultRoom atcs lefts)))
+    (told-then (judgeExtract given (length ps)) _ (judged-not-7 given (length ps))
     (λ t e.
-    subst (λ (u : Table). Told Other (then (outcomeOf u) (resultRoom atcs lefts))) (sym (judged-front given t e))
+    subst (λ (u : Table). Told Other (then (outcomeOf u) (resultRoom atcs lefts))) (sym (judged-front given t (judged-lent given t (length ps) e)))
     (told-then (outcomeOf (front given)) (resultRoom atcs lefts)
     (from-not-7 _
     (no-refusal-7 (front given) (λ i h. same-row i h (λ (x : List ℤ). rowOf x .cva) (cva i h)) (λ i h. same-row i h (λ (x : List ℤ). rowOf x .iva) (iva i h))))
@@ -146,6 +136,6 @@ extract-not-7 given atcs lefts cva iva =
     same-row : (i : ℕ) → i < given .header .rows → (f : List ℤ → ℤ) → f (getD (given .rows) i []) ≡ pos 0 → f (getD (take (given .header .rows) (given .rows)) i []) ≡ pos 0
     same-row i h f e = ap f (getD-take (given .header .rows) (given .rows) i [] h) ∙ e
 
-    go : (j : Judged Result) → Told Other j → NotSeven (either j (resultStored atcs lefts) (λ w. leaves (refused w) atcs lefts) .answer)
+    go : (j : Judged Result) → Told Other j → NotSeven (either j (resultStored ps atcs lefts) (λ w. leaves (refused w) ps atcs lefts) .answer)
     go (passed r) n = tt
     go (refused w) n = n .says

@@ -1,12 +1,11 @@
--- The laws behind `extract`: what the rounds of the code come to, what is stored, and which judgement decides. No contract cites this file.
--- `extract-roomy` is for a caller that lends room for the most borders and rows.
+-- The laws behind `extract`: what the rounds of the code come to, what is stored, and which judgement decides of a judged table. No contract cites this file.
 use mathlib.Core.Path.{_≡_, refl, sym, ap, ap₂, _∙_}
-use mathlib.Core.List.{List, []}
+use mathlib.Core.List.{List, [], _++_, append-nil}
 use Prim.Native.Nat.{ℕ, _+_, _*_, _^_, _≤_, _<_}
 use native.Mathlib.Omega.{arith}
 use lib.IntN.{ℤ}
-use lib.ListN.{length, getD, take, drop, length-take, length-append, List·getD-append}
-use lib.Seq.{take-at}
+use lib.ListN.{length, getD, take, drop, length-take, length-append, take-append-drop, drop-of-length-le, List·getD-append}
+use lib.Seq.{length-take-le, take-at}
 use Rattle.numbers.specs.Below.{at, table, over}
 use Rattle.numbers.proofs.BelowLaws.{sum-cong, table-long}
 use Rattle.kinds.specs.declared.Header.{Header}
@@ -14,14 +13,13 @@ use Rattle.kinds.specs.declared.Judgement.{Judgement}
 use Rattle.kinds.specs.declared.Judgement.the-variants.{Passed, Refused}
 use Rattle.kinds.specs.declared.Refusal.{Refusal}
 use Rattle.kinds.specs.Answers.{ruled}
-use Rattle.kinds.specs.Limits.{bordersMost, rowsMost}
+use Rattle.kinds.specs.Limits.{bordersMost}
 use Rattle.kinds.specs.Ranges.{atℤ, borderOf}
 use Rattle.kinds.specs.Refusals.{Judged, passed, refused, then, either, tooShort}
 use Rattle.kinds.proofs.KindLaws.{header-in}
-use Rattle.kinds.proofs.RefusalLaws.{then-next, then-refused, either-passed, either-refused, need-enough, need-short}
-use Rattle.table.specs.Table.{Table, front, judgeLent}
+use Rattle.kinds.proofs.RefusalLaws.{passed-is, then-passed, then-next, then-refused, either-passed, either-refused, need-passed, need-enough, need-short}
+use Rattle.table.specs.Table.{Table}
 use Rattle.table.specs.Good.{Good}
-use Rattle.table.proofs.GoodLaws.{judged-good}
 use Rattle.rounds.specs.declared.Final.{Final}
 use Rattle.rounds.specs.Rounds.{Grid, State, sharers, load, Outcome, extract}
 use Rattle.rounds.specs.Work.{flat, Startable, WorkLeft, workLeft, workOf}
@@ -33,10 +31,10 @@ use Rattle.margin.specs.Bounds.{namedBits}
 use Rattle.margin.proofs.JudgedLaws.{good-borders}
 use Rattle.margin.proofs.Small.{named-values-small}
 use Rattle.start.specs.Start.{Rows, rowsOf, gridOf, startOf, tableGrid, tableStart, judgeTable}
-use Rattle.start.specs.Filled.{rowsWith, ltas, exchangesOf}
+use Rattle.start.specs.Filled.{ltas, exchangesOf, cells}
 use Rattle.start.proofs.StartLaws.{cells-at, grid-long, rows-in, PreparedAs}
-use Rattle.extraction.specs.Extraction.{Result, resultOf, leftOf, outcomeOf, atcOfKw, leftOfRow, atcRecord, rowRecord, leaves, resultRoom, resultStored, extractLeft}
-use Rattle.extraction.specs.Work.{endedAt, outcomeWith, Runnable, Finishable, resultWith, outcomeLeft}
+use Rattle.extraction.specs.Extraction.{Result, resultOf, leftOf, outcomeOf, atcOfKw, leftOfRow, atcRecord, rowRecord, ExtractLeft, leaves, resultRoom, resultStored}
+use Rattle.extraction.specs.Work.{endedAt, outcomeWith, Runnable, Finishable, resultWith, finished, outcomeLeft}
 use Rattle.extraction.proofs.DemandLaws.{accepted, load-le, small-start}
 
 -- ---- the rounds
@@ -100,28 +98,27 @@ module _ {h : Header} {b : List (List ℤ)} {m : Rows} {p margins : List ℕ} (u
     abbrev leftsOf : ℕ → List ℕ → List (List ℤ)
     leftsOf n ms = over (table n (λ i. leftOfRow (at (m .states) i) (atℤ (m .rams) i) (at ms i))) lefts
 
-    pub stored-is : {atcs′ lefts′ : List (List ℤ)} → atcs′ ≡ atcsOf (length (take (h .borders) (end .x))) (take (h .borders) (end .x)) → lefts′ ≡ leftsOf (length (m .states)) ends
-        → leaves (passed (end .rounds)) atcs′ lefts′ ≡ resultStored atcs lefts (resultWith h b m p margins)
+    pub finished-is : {atcs′ lefts′ : List (List ℤ)} → atcs′ ≡ atcsOf (length (take (h .borders) (end .x))) (take (h .borders) (end .x)) → lefts′ ≡ leftsOf (length (m .states)) ends
+        → leaves (passed (end .rounds)) p atcs′ lefts′ ≡ finished atcs lefts (resultWith h b m p margins)
     unfolding atcRecord rowRecord leftOf
-    stored-is a l =
-        ap₂ (leaves (passed (end .rounds)))
+    finished-is a l =
+        ap₂ (leaves (passed (end .rounds)) p)
         (a ∙ ap (λ (n : ℕ). atcsOf n (take (h .borders) (end .x))) front-long)
         (l ∙ ap (λ (n : ℕ). leftsOf n ends) (u .states-long))
-        ∙ ap (λ (o : Outcome). leaves (passed (o .rounds)) (atcsOf (h .borders) (o .state .x)) (leftsOf (h .rows) (o .state .margins))) e
+        ∙ ap (λ (o : Outcome). leaves (passed (o .rounds)) p (atcsOf (h .borders) (o .state .x)) (leftsOf (h .rows) (o .state .margins))) e
 
 -- ---- a prepared table
-module _ {t : Table} (good : Good t) {r : Judgement} {rams : List ℤ} {states p margins : List ℕ} (q : PreparedAs t r rams states p margins) where
-  abbrev h : Header
-  h = t .header
-
-  abbrev m : Rows
-  m = rowsWith rams states
-
+module _ {t : Table} {r : Judgement} {rams starts : List ℤ} {states : List ℕ} (q : PreparedAs t r rams starts states) where
   pub start-turned : {w : Refusal} → r ≡ Refused w → judgeTable t ≡ refused w
   start-turned e = sym (q .judged) ∙ ap (λ (j : Judgement). ruled j states) e
 
   pub start-passed : r ≡ Passed → judgeTable t ≡ passed (rowsOf t .states)
   start-passed e = sym (q .judged) ∙ ap (λ (j : Judgement). ruled j states) e ∙ ap (λ (n : Rows). passed (n .states)) (q .rows)
+
+-- ---- .. whose p and margins are laid out
+module _ {t : Table} (good : Good t) {m : Rows} (rows-are : m ≡ rowsOf t) {p margins : List ℕ} (p-is : p ≡ cells (tableGrid t)) (margins-are : margins ≡ tableStart t .margins) where
+  abbrev h : Header
+  h = t .header
 
   ltas-are : ltas (t .borders) ≡ tableStart t .x
   unfolding startOf
@@ -130,7 +127,7 @@ module _ {t : Table} (good : Good t) {r : Judgement} {rams : List ℤ} {states p
   -- the flat table of p agrees with the grid at every row and border
   p-at : (i b : ℕ) → i < h .rows → b < h .borders → flat (h .rows) (h .borders) p .p i b ≡ tableGrid t .p i b
   unfolding gridOf
-  p-at i b l k = ap (λ (ps : List ℕ). at ps (i * h .borders + b)) (q .p-is) ∙ cells-at (tableGrid t) i b l k
+  p-at i b l k = ap (λ (ps : List ℕ). at ps (i * h .borders + b)) p-is ∙ cells-at (tableGrid t) i b l k
 
   load-is : (i : ℕ) → i < h .rows → load (flat (h .rows) (h .borders) p) i (ltas (t .borders)) ≡ load (tableGrid t) i (tableStart t .x)
   unfolding load gridOf
@@ -139,19 +136,19 @@ module _ {t : Table} (good : Good t) {r : Judgement} {rams : List ℤ} {states p
   pub finishable : Finishable h (t .borders) m p margins
   unfolding startOf
   finishable =
-      let rows = rows-in t m (q .rows) in
+      let rows = rows-in t m rows-are in
       let few = header-in h (good .exact .header) .borders-most in
       record {
         run = record {
           header = good .exact .header;
           borders = good-borders good;
           borders-long = good .exact .borders-long;
-          p-long = grid-long h (t .borders) (t .factors) _ (q .p-is);
-          margins-long = ap length (q .margins-are) ∙ table-long (h .rows) _;
+          p-long = grid-long h (t .borders) (t .factors) _ p-is;
+          margins-long = ap length margins-are ∙ table-long (h .rows) _;
           fits = λ i l.
               omega (
                 arith,
-                ap (λ (v : List ℕ). at v i) (q .margins-are),
+                ap (λ (v : List ℕ). at v i) margins-are,
                 small-start t bordersMost namedBits few (λ j k. named-values-small good j k .start) i l,
                 load-is i l,
                 load-le t (good .exact .borders-long) i,
@@ -163,16 +160,29 @@ module _ {t : Table} (good : Good t) {r : Judgement} {rams : List ℤ} {states p
         states-in = rows .states-in;
       }
 
-  pub result-is : resultWith h (t .borders) m p margins ≡ resultOf t
+  result-is : resultWith h (t .borders) m p margins ≡ resultOf t
   unfolding resultOf gridOf
   result-is =
-      ap₂ {C = Result} (λ (n : Rows) (o : Outcome). record { header = h; rows = n; outcome = o }) (q .rows)
-      (ap (extract (flat (h .rows) (h .borders) p)) (ap₂ {C = State} (λ (ms xs : List ℕ). record { margins = ms; x = xs }) (q .margins-are) ltas-are)
+      ap₂ {C = Result} (λ (n : Rows) (ps : List ℕ). record { header = h; rows = n; p = ps; outcome = outcomeWith h (t .borders) p margins }) rows-are p-is
+      ∙ ap {B = Result} (λ (o : Outcome). record { header = h; rows = rowsOf t; p = cells (tableGrid t); outcome = o })
+      (ap (extract (flat (h .rows) (h .borders) p)) (ap₂ {C = State} (λ (ms xs : List ℕ). record { margins = ms; x = xs }) margins-are ltas-are)
       ∙ same-factors (h .rows) (h .borders) _ _ p-at (tableStart t))
 
+  -- a lent table of p of just that length is filled
+  pub stored-is : (ps : List ℕ) → length ps ≡ h .rows * h .borders → (atcs lefts : List (List ℤ))
+      → finished atcs lefts (resultWith h (t .borders) m p margins) ≡ resultStored ps atcs lefts (resultOf t)
+  unfolding resultOf
+  stored-is ps long atcs lefts =
+      ap (finished atcs lefts) result-is
+      ∙ ap (λ (v : List ℕ). leaves (passed (resultOf t .outcome .rounds)) v (over (table (h .borders) (atcRecord (resultOf t))) atcs) (over (table (h .rows) (rowRecord (resultOf t))) lefts))
+      (sym (ap (λ (old : List ℕ). cells (tableGrid t) ++ old) (drop-of-length-le ps {i = length (cells (tableGrid t))} (omega (arith, long, p-long-is))) ∙ append-nil _))
+    where
+      p-long-is : length (cells (tableGrid t)) ≡ h .rows * h .borders
+      p-long-is = grid-long h (t .borders) (t .factors) _ refl
+
 -- ---- which judgement decides, of a judged table
-module _ (t : Table) (atcs lefts : List (List ℤ)) where
-  pub start-refused : {w : Refusal} → judgeTable t ≡ refused w → leaves (refused w) atcs lefts ≡ outcomeLeft (outcomeOf t) atcs lefts
+module _ (t : Table) (ps : List ℕ) (atcs lefts : List (List ℤ)) where
+  pub start-refused : {w : Refusal} → judgeTable t ≡ refused w → leaves (refused w) ps atcs lefts ≡ outcomeLeft (outcomeOf t) ps atcs lefts
   unfolding outcomeLeft outcomeOf
   start-refused e = sym (either-refused _ _ (then-refused _ (then-refused _ e)))
 
@@ -184,50 +194,42 @@ module _ (t : Table) (atcs lefts : List (List ℤ)) where
     unfolding outcomeOf
     past-start = then-next _ (then-next _ e)
 
-    pub short-borders : length atcs < t .header .borders → leaves (refused (tooShort (t .header .borders))) atcs lefts ≡ outcomeLeft (outcomeOf t) atcs lefts
+    pub short-borders : length atcs < t .header .borders → leaves (refused (tooShort (t .header .borders))) ps atcs lefts ≡ outcomeLeft (outcomeOf t) ps atcs lefts
     unfolding outcomeLeft resultOf
     short-borders l = sym (either-refused _ _ (past-start ∙ need-short _ _ _ l))
 
     module _ (hb : t .header .borders ≤ length atcs) where
-      pub short-rows : length lefts < t .header .rows → leaves (refused (tooShort (t .header .rows))) atcs lefts ≡ outcomeLeft (outcomeOf t) atcs lefts
+      pub short-rows : length lefts < t .header .rows → leaves (refused (tooShort (t .header .rows))) ps atcs lefts ≡ outcomeLeft (outcomeOf t) ps atcs lefts
       unfolding outcomeLeft resultOf
       short-rows l = sym (either-refused _ _ (past-start ∙ need-enough _ _ _ hb ∙ need-short _ _ _ l))
 
-      pub all-stored : t .header .rows ≤ length lefts → resultStored atcs lefts result ≡ outcomeLeft (outcomeOf t) atcs lefts
+      pub all-stored : t .header .rows ≤ length lefts → resultStored ps atcs lefts result ≡ outcomeLeft (outcomeOf t) ps atcs lefts
       unfolding outcomeLeft resultOf
       all-stored l = sym (either-passed _ _ (past-start ∙ need-enough _ _ _ hb ∙ need-enough _ _ _ l))
 
--- .. of lent tables
-module _ (given : Table) (r : Judgement) (said : ruled r (front given) ≡ judgeLent given) where
-  pub lent-refused : (atcs lefts : List (List ℤ)) (w : Refusal) → r ≡ Refused w → leaves (refused w) atcs lefts ≡ extractLeft given atcs lefts
-  unfolding extractLeft
-  lent-refused atcs lefts w e = sym (either-refused _ _ (then-refused _ (sym said ∙ ap (λ (j : Judgement). ruled j (front given)) e)))
+-- .. of a lent table of p that is longer than the front that was worked on
+module _ (t : Table) (n : ℕ) (is : n ≡ t .header .rows * t .header .borders) (ps : List ℕ) (enough : n ≤ length ps) (atcs lefts : List (List ℤ)) where
+  abbrev longer : ExtractLeft → ExtractLeft
+  longer l = leaves (l .answer) (l .p ++ drop n ps) (l .atcs) (l .lefts)
 
-  module _ (e : r ≡ Passed) where
-    front-judged : judgeLent given ≡ passed (front given)
-    front-judged = sym said ∙ ap (λ (j : Judgement). ruled j (front given)) e
+  over-front : (new : List ℕ) → length new ≡ n → over new (take n ps) ++ drop n ps ≡ over new ps
+  over-front new e =
+      ap (λ (old : List ℕ). (new ++ old) ++ drop n ps) (drop-of-length-le (take n ps) {i = length new} (omega (arith, e, length-take-le n ps enough)))
+      ∙ ap (λ (v : List ℕ). v ++ drop n ps) (append-nil new)
+      ∙ ap (λ (k : ℕ). new ++ drop k ps) (sym e)
 
-    pub front-good : Good (front given)
-    front-good = judged-good given (front given) front-judged
+  longer-is : (j : Judged Result) → then (outcomeOf t) (resultRoom atcs lefts) ≡ j
+      → longer (either j (resultStored (take n ps) atcs lefts) (λ w. leaves (refused w) (take n ps) atcs lefts)) ≡ either j (resultStored ps atcs lefts) (λ w. leaves (refused w) ps atcs lefts)
+  unfolding either resultOf
+  longer-is (refused w) e = ap (λ (v : List ℕ). leaves (refused w) v atcs lefts) (take-append-drop n ps)
+  longer-is (passed r) e =
+      let o = then-passed (outcomeOf t) (resultRoom atcs lefts) r e in
+      let b = need-passed r _ _ _ (o .second) in
+      let c = need-passed r _ _ _ (b .1) in
+      let k : resultOf t ≡ r = accepted t (o .it) (o .first) .is ∙ passed-is _ _ (c .1) in
+      ap (λ (v : List ℕ). leaves (passed (r .outcome .rounds)) v (resultStored ps atcs lefts r .atcs) (resultStored ps atcs lefts r .lefts))
+      (over-front (r .p) (sym (ap (λ (v : Result). length (v .p)) k) ∙ grid-long (t .header) (t .borders) (t .factors) _ refl ∙ sym is))
 
-    pub lent-judged : (atcs lefts : List (List ℤ)) → outcomeLeft (outcomeOf (front given)) atcs lefts ≡ extractLeft given atcs lefts
-    unfolding extractLeft outcomeLeft
-    lent-judged atcs lefts = ap (λ (j : Judged Result). either j (resultStored atcs lefts) (λ w. leaves (refused w) atcs lefts)) (sym (then-next _ front-judged))
-
--- ---- with room for the most borders and rows, the answer and the records are those of the outcome
-module _ (given : Table) (atcs lefts : List (List ℤ)) (hb : bordersMost ≤ length atcs) (hr : rowsMost ≤ length lefts) where
-  enough : (t : Table) → Good t → (o : Judged Result) → outcomeOf t ≡ o → then o (resultRoom atcs lefts) ≡ o
-  unfolding then resultOf
-  enough t good (passed r) e =
-      let h = header-in (t .header) (good .exact .header) in
-      let k : t .header ≡ r .header = ap (λ (v : Result). v .header) (accepted t r e .is) in
-      need-enough _ _ _ (omega (arith, h .borders-most, ap (λ (v : Header). v .borders) k)) ∙ need-enough _ _ _ (omega (arith, h .rows-most, ap (λ (v : Header). v .rows) k))
-  enough t good (refused w) e = refl
-
-  pub extract-roomy : extractLeft given atcs lefts ≡ either (then (judgeLent given) outcomeOf) (resultStored atcs lefts) (λ w. leaves (refused w) atcs lefts)
-  unfolding extractLeft then
-  extract-roomy = ap (λ (j : Judged Result). either j (resultStored atcs lefts) (λ w. leaves (refused w) atcs lefts)) (go (judgeLent given) refl)
-    where
-      go : (j : Judged Table) → judgeLent given ≡ j → then j (λ t. then (outcomeOf t) (resultRoom atcs lefts)) ≡ then j outcomeOf
-      go (passed t) e = enough t (judged-good given t e) (outcomeOf t) refl
-      go (refused w) e = refl
+  pub front-left : {l : ExtractLeft} → l ≡ outcomeLeft (outcomeOf t) (take n ps) atcs lefts → longer l ≡ outcomeLeft (outcomeOf t) ps atcs lefts
+  unfolding outcomeLeft
+  front-left e = ap longer e ∙ longer-is (then (outcomeOf t) (resultRoom atcs lefts)) refl

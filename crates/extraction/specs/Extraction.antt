@@ -1,7 +1,7 @@
 -- From a table to its result (01, "Extraction"), and what the open call `extract` leaves. What the rounds start from is crate start's.
 use mathlib.Core.Bool.{cond}
 use mathlib.Core.List.{List, [], _∷_}
-use Prim.Native.Nat.{ℕ, _/_}
+use Prim.Native.Nat.{ℕ, _*_, _/_}
 use lib.Dec.{eqb}
 use lib.IntN.{ℤ, pos}
 use lib.ListN.{length}
@@ -10,18 +10,20 @@ use Rattle.numbers.specs.Below.{at, table, over}
 use Rattle.kinds.specs.declared.Header.{Header}
 use Rattle.kinds.specs.Ranges.{atℤ}
 use Rattle.kinds.specs.Refusals.{Judged, passed, refused, then, either, need}
-use Rattle.table.specs.Table.{Table, judgeLent}
+use Rattle.table.specs.Table.{Table, judgeShape, judgeRecords}
 use Rattle.rounds.specs.Rounds.{Outcome, extract, mostSharers, aloneBits}
 use Rattle.start.specs.Start.{Rows, rowsOf, tableGrid, tableStart, judgeTable}
+use Rattle.start.specs.Filled.{cells}
 
--- the whole result: what the rows were, and where the rounds ended
+-- the whole result: what the rows were, p of each row at each border (row after row, border after border), and where the rounds ended
 pub record Result : Type 0 where
   pub header : Header
   pub rows : Rows
+  pub p : List ℕ
   pub outcome : Outcome
 
 unfoldable pub resultOf : Table → Result
-resultOf t = record { header = t .header; rows = rowsOf t; outcome = extract (tableGrid t) (tableStart t) }
+resultOf t = record { header = t .header; rows = rowsOf t; p = cells (tableGrid t); outcome = extract (tableGrid t) (tableStart t) }
 
 -- ATC = kW value floored to whole MW
 abbrev pub inMw : (kw : ℕ) → ℕ
@@ -63,22 +65,27 @@ atcRecord r b = atcOfKw (at (r .outcome .state .x) b)
 unfoldable pub rowRecord : Result → (i : ℕ) → List ℤ
 rowRecord r i = leftOfRow (at (r .rows .states) i) (atℤ (r .rows .rams) i) (leftOf r i)
 
--- what `extract` leaves: its answer, and the lent results; last comes room for results, border results before row results
+-- lent tables, and room for so many p: lengths (8) of the tables, of the room for p, and only then records
+unfoldable pub judgeExtract : (given : Table) → (resultRoom : ℕ) → Judged Table
+judgeExtract given resultRoom = then (judgeShape given) (λ t. need (t .header .rows * t .header .borders) resultRoom (judgeRecords t))
+
+-- what `extract` leaves: its answer, the lent table of p, and the lent results; last comes room for results, border results before row results
 pub record ExtractLeft : Type 0 where
   pub answer : Judged ℕ
+  pub p : List ℕ
   pub atcs : List (List ℤ)
   pub lefts : List (List ℤ)
 
-abbrev pub leaves : Judged ℕ → (atcs lefts : List (List ℤ)) → ExtractLeft
-leaves answer atcs lefts = record { answer = answer; atcs = atcs; lefts = lefts }
+abbrev pub leaves : Judged ℕ → (ps : List ℕ) → (atcs lefts : List (List ℤ)) → ExtractLeft
+leaves answer ps atcs lefts = record { answer = answer; p = ps; atcs = atcs; lefts = lefts }
 
 abbrev pub resultRoom : (atcs lefts : List (List ℤ)) → Result → Judged Result
 resultRoom atcs lefts r = need (r .header .borders) (length atcs) (need (r .header .rows) (length lefts) (passed r))
 
-abbrev pub resultStored : (atcs lefts : List (List ℤ)) → Result → ExtractLeft
-resultStored atcs lefts r =
-    leaves (passed (r .outcome .rounds)) (over (table (r .header .borders) (atcRecord r)) atcs) (over (table (r .header .rows) (rowRecord r)) lefts)
+abbrev pub resultStored : (ps : List ℕ) → (atcs lefts : List (List ℤ)) → Result → ExtractLeft
+resultStored ps atcs lefts r =
+    leaves (passed (r .outcome .rounds)) (over (r .p) ps) (over (table (r .header .borders) (atcRecord r)) atcs) (over (table (r .header .rows) (rowRecord r)) lefts)
 
-unfoldable pub extractLeft : (lent : Table) → (atcs lefts : List (List ℤ)) → ExtractLeft
-extractLeft lent atcs lefts =
-    either (then (judgeLent lent) (λ t. then (outcomeOf t) (resultRoom atcs lefts))) (resultStored atcs lefts) (λ w. leaves (refused w) atcs lefts)
+unfoldable pub extractLeft : (lent : Table) → (ps : List ℕ) → (atcs lefts : List (List ℤ)) → ExtractLeft
+extractLeft lent ps atcs lefts =
+    either (then (judgeExtract lent (length ps)) (λ t. then (outcomeOf t) (resultRoom atcs lefts))) (resultStored ps atcs lefts) (λ w. leaves (refused w) ps atcs lefts)

@@ -5,17 +5,18 @@ use mathlib.Core.List.{List}
 use Prim.Native.Nat.{ℕ, _+_, _*_, _^_, _<_, _≤_}
 use lib.IntN.{ℤ}
 use lib.ListN.{length, take}
-use Rattle.numbers.specs.Below.{at}
+use Rattle.numbers.specs.Ints.{minus}
+use Rattle.numbers.specs.Below.{at, table, over}
 use Rattle.kinds.specs.declared.Header.{Header}
 use Rattle.kinds.specs.Ranges.{headerFits}
-use Rattle.kinds.specs.Refusals.{Judged, refused, then, either}
+use Rattle.kinds.specs.Refusals.{Judged, passed, refused, then, either}
 use Rattle.rounds.specs.declared.Final.{Final}
 use Rattle.rounds.specs.Rounds.{load, Outcome, extract}
 use Rattle.rounds.specs.Work.{flat}
 use Rattle.margin.specs.Bounds.{BordersBound}
 use Rattle.start.specs.Start.{Rows}
 use Rattle.start.specs.Filled.{ltas}
-use Rattle.extraction.specs.Extraction.{Result, ExtractLeft, leaves, resultRoom, resultStored}
+use Rattle.extraction.specs.Extraction.{Result, atcRecord, rowRecord, ExtractLeft, leaves, resultRoom, resultStored}
 
 -- where the code ended
 abbrev pub endedAt : (borders : ℕ) → Final → (margins : List ℕ) → Outcome
@@ -43,8 +44,13 @@ outcomeWith h b p margins = extract (flat (h .rows) (h .borders) p) (record { ma
 
 -- the result, from the lists
 abbrev pub resultWith : Header → (b : List (List ℤ)) → Rows → (p margins : List ℕ) → Result
-resultWith h b m p margins = record { header = h; rows = m; outcome = outcomeWith h b p margins }
+resultWith h b m p margins = record { header = h; rows = m; p = p; outcome = outcomeWith h b p margins }
+
+-- what is left of a result whose p stands in the lent table already, and fills it
+abbrev pub finished : (atcs lefts : List (List ℤ)) → Result → ExtractLeft
+finished atcs lefts r =
+    leaves (passed (r .outcome .rounds)) (r .p) (over (table (r .header .borders) (atcRecord r)) atcs) (over (table (r .header .rows) (rowRecord r)) lefts)
 
 -- what is left of an outcome: last comes room for results
-unfoldable pub outcomeLeft : Judged Result → (atcs lefts : List (List ℤ)) → ExtractLeft
-outcomeLeft o atcs lefts = either (then o (resultRoom atcs lefts)) (resultStored atcs lefts) (λ w. leaves (refused w) atcs lefts)
+unfoldable pub outcomeLeft : Judged Result → (ps : List ℕ) → (atcs lefts : List (List ℤ)) → ExtractLeft
+outcomeLeft o ps atcs lefts = either (then o (resultRoom atcs lefts)) (resultStored ps atcs lefts) (λ w. leaves (refused w) ps atcs lefts)

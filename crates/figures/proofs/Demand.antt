@@ -23,6 +23,7 @@ ended rounds s =
     record {
       header = hourTable .header;
       rows = record { rams = pos 70000000000 ∷ pos 9000000000 ∷ pos 12499500000 ∷ pos 100000000000 ∷ []; states = 0 ∷ 0 ∷ 1 ∷ 2 ∷ [] };
+      p = 20000 ∷ 10000 ∷ 0 ∷ 5000 ∷ 0 ∷ 0 ∷ 0 ∷ 0 ∷ [];
       outcome = record { rounds = rounds; state = s };
     }
 

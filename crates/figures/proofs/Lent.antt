@@ -36,6 +36,13 @@ f = hourTable .factors
 abbrev old : (n : ℕ) → List (List ℤ)
 old n = replicate n (pos 5 ∷ [])
 
+abbrev sevens : (n : ℕ) → List ℕ
+sevens n = replicate n 7
+
+-- the hour's factors by border: rows 2 and 3 are not kept
+abbrev ps : List ℕ
+ps = 20000 ∷ 10000 ∷ 0 ∷ 5000 ∷ 0 ∷ 0 ∷ 0 ∷ 0 ∷ []
+
 -- the hour's results: ATC; state, RAM, margin left (-1 where the state is not 0)
 abbrev ATCs : List (List ℤ)
 ATCs = (pos 2599 ∷ []) ∷ (pos 1800 ∷ []) ∷ []
@@ -77,12 +84,14 @@ pub record LentCalls : Type 0 where
   pub twice-lent : writeLeft (lent h z bTwice c f) [] ≡ record { answer = refused (givenTwice 1); out = [] }
   -- only the extraction goes on to 5, 6 and 7, so that a table it refuses can be written
   pub write-unlimited : writeLeft (lent h z bBack c f) (replicate 252 7) ≡ record { answer = passed 252; out = tableText (lent h z bBack c f) }
-  pub extract-unlimited : extractLeft (lent h z bBack c f) [] [] ≡ record { answer = refused (unlimited 1); atcs = []; lefts = [] }
-  pub extract-below : extractLeft (lent h z b cvaHigh f) [] [] ≡ record { answer = refused (belowZero 1); atcs = []; lefts = [] }
-  -- extract: results in front, the rest as it was; last comes room for results, border results before row results
-  pub extract-out : extractLeft hourTable (old 3) (old 5) ≡ record { answer = passed 21; atcs = ATCs ++ old 1; lefts = lefts ++ old 1 }
-  pub extract-short : extractLeft hourTable (old 2) (old 3) ≡ record { answer = refused (tooShort 4); atcs = old 2; lefts = old 3 }
-  pub extract-short-both : extractLeft hourTable (old 1) (old 3) ≡ record { answer = refused (tooShort 2); atcs = old 1; lefts = old 3 }
+  pub extract-unlimited : extractLeft (lent h z bBack c f) (sevens 8) [] [] ≡ record { answer = refused (unlimited 1); p = sevens 8; atcs = []; lefts = [] }
+  pub extract-below : extractLeft (lent h z b cvaHigh f) (sevens 8) [] [] ≡ record { answer = refused (belowZero 1); p = sevens 8; atcs = []; lefts = [] }
+  -- extract: p and results in front, the rest as it was; last comes room for results, border results before row results
+  pub extract-out : extractLeft hourTable (sevens 9) (old 3) (old 5) ≡ record { answer = passed 21; p = ps ++ sevens 1; atcs = ATCs ++ old 1; lefts = lefts ++ old 1 }
+  pub extract-short : extractLeft hourTable (sevens 8) (old 2) (old 3) ≡ record { answer = refused (tooShort 4); p = sevens 8; atcs = old 2; lefts = old 3 }
+  pub extract-short-both : extractLeft hourTable (sevens 8) (old 1) (old 3) ≡ record { answer = refused (tooShort 2); p = sevens 8; atcs = old 1; lefts = old 3 }
+  -- .. room for p is looked at after the factors, and before any record
+  pub extract-short-p : extractLeft (lent h z b frmHigh f) (sevens 7) [] [] ≡ record { answer = refused (tooShort 8); p = sevens 7; atcs = []; lefts = [] }
   -- result_text and answer
   pub result-out : resultTextLeft hourTable (replicate 109 7) ≡ record { answer = passed 107; out = hourResult ++ (7 ∷ 7 ∷ []) }
   pub result-short : resultTextLeft hourTable (replicate 106 7) ≡ record { answer = refused (tooShort 107); out = replicate 106 7 }
@@ -117,6 +126,7 @@ lent-calls =
       extract-out = refl;
       extract-short = refl;
       extract-short-both = refl;
+      extract-short-p = refl;
       result-out = refl;
       result-short = refl;
       result-below = refl;

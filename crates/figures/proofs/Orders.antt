@@ -4,7 +4,7 @@ use mathlib.Core.Path.{_≡_, refl}
 use mathlib.Core.List.{List, [], _∷_, _++_}
 use Prim.Native.Nat.{ℕ}
 use lib.IntN.{ℤ, pos}
-use lib.ListN.{take}
+use lib.ListN.{replicate, take}
 use Rattle.kinds.specs.Refusals.{Judged, refused, refusal}
 use Rattle.table.specs.Table.{Table, lent, judgeLent}
 use Rattle.reading.specs.Reading.{readLeft}
@@ -51,13 +51,16 @@ pub record Ordered : Type 0 where
   pub eight-read : readLeft hourText [] [] [] [] .answer ≡ refused (refusal 8 3)
   pub eight-lent : writeLeft (lent (hourTable .header) [] [] [] []) [] .answer ≡ refused (refusal 8 3)
   pub eight-text : writeLeft hourTable [] .answer ≡ refused (refusal 8 252)
-  pub eight-atcs : extractLeft hourTable [] [] .answer ≡ refused (refusal 8 2)
-  -- short tables in the order Z, B, C, factors
+  pub eight-p : extractLeft hourTable [] [] [] .answer ≡ refused (refusal 8 8)
+  pub eight-atcs : extractLeft hourTable (replicate 8 7) [] [] .answer ≡ refused (refusal 8 2)
+  -- short tables in the order Z, B, C, factors, p
   pub short-z-b : judged shortZ shortB (hourTable .rows) (hourTable .factors) ≡ refused (refusal 8 3)
   pub short-b-c : judged (hourTable .nets) shortB shortC (hourTable .factors) ≡ refused (refusal 8 2)
   pub short-c-f : judged (hourTable .nets) (hourTable .borders) shortC shortF ≡ refused (refusal 8 4)
+  pub short-f-p : extractLeft (lent (hourTable .header) (hourTable .nets) (hourTable .borders) (hourTable .rows) shortF) (replicate 7 7) [] [] .answer ≡ refused (refusal 8 12)
   -- lengths before ranges, whichever table it is
   pub short-before-far : judged farZ farB farC shortF ≡ refused (refusal 8 12)
+  pub short-p-before-far : extractLeft (lent (hourTable .header) farZ farB farC (hourTable .factors)) (replicate 7 7) [] [] .answer ≡ refused (refusal 8 8)
   -- records by the line they would have: Z lines 2 to 4, B lines 5 and 6, C lines 7 to 10
   pub far-z-b : judged farZ farB (hourTable .rows) (hourTable .factors) ≡ refused (refusal 3 4)
   pub far-b-c : judged (hourTable .nets) farB farC (hourTable .factors) ≡ refused (refusal 3 6)
@@ -73,11 +76,14 @@ ordered =
       eight-read = refl;
       eight-lent = refl;
       eight-text = refl;
+      eight-p = refl;
       eight-atcs = refl;
       short-z-b = refl;
       short-b-c = refl;
       short-c-f = refl;
+      short-f-p = refl;
       short-before-far = refl;
+      short-p-before-far = refl;
       far-z-b = refl;
       far-b-c = refl;
       far-c-twice = refl;

@@ -11,6 +11,7 @@ use Rattle.kinds.specs.Refusals.{Judged, passed, refused, refusal, unless, refu
 use Rattle.table.specs.Table.{stretch}
 use Rattle.margin.specs.Margin.{signedFactor, pOf, ltaKw}
 use Rattle.start.specs.Start.{kept, gridOf, startOf, judgeStart}
+use Rattle.start.specs.Filled.{cells}
 
 abbrev header : (rows : ℕ) → Header
 header rows = record { zones = 2; borders = 2; rows = rows }
@@ -38,7 +39,9 @@ pub record Anchors : Type 0 where
   pub seven-kept : three (0 ∷ 0 ∷ 2 ∷ []) (pos 0 ∷ pos 0 ∷ minus 1 ∷ []) ≡ passed (0 ∷ 0 ∷ 2 ∷ [])
   -- each border starts at its LTA, a kept row where it is given, and a row of state 2 takes no part
   pub starts : startOf (header 3) borders (0 ∷ 0 ∷ 2 ∷ []) (pos 7 ∷ pos 9 ∷ pos 8 ∷ []) ≡ record { margins = 7 ∷ 9 ∷ 0 ∷ []; x = 1000 ∷ 0 ∷ [] }
+  -- the table of p, row after row and border after border; a row that takes no part has zeros
+  pub laid-out : cells (gridOf (header 3) borders (pos 20000 ∷ pos 0 ∷ pos 0 ∷ pos 30000 ∷ pos 50000 ∷ pos 10000 ∷ []) (0 ∷ 0 ∷ 2 ∷ [])) ≡ 20000 ∷ 0 ∷ 0 ∷ 30000 ∷ 0 ∷ 0 ∷ []
 
 pub anchors : Anchors
 unfolding table firstFrom given positivePart borderOf unless refuseAt refuseFirst stretch signedFactor pOf ltaKw kept gridOf startOf judgeStart
-anchors = record { five-first = refl; six-first = refl; seven = refl; six-kept = refl; seven-kept = refl; starts = refl }
+anchors = record { five-first = refl; six-first = refl; seven = refl; six-kept = refl; seven-kept = refl; starts = refl; laid-out = refl }

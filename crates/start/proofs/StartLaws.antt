@@ -26,7 +26,6 @@ use Rattle.kinds.specs.Refusals.{Judged, passed, refused, unless, refuseAt, ref
 use Rattle.kinds.proofs.RefusalLaws.{unless-ok, unless-refused, first-found, first-none-next}
 use Rattle.table.specs.Table.{Table, stretch}
 use Rattle.rounds.specs.Rounds.{Grid}
-use Rattle.rounds.specs.Work.{flat}
 use Rattle.rounds.proofs.Loops.{place-inside}
 use Rattle.margin.specs.Margin.{ltaKw, ramAt, ramsOf, startsOf}
 use Rattle.states.specs.States.{spreadOf, spreadLeast, shifted, below, stateOf, statesOf}
@@ -124,54 +123,47 @@ module _ (g : Grid) (states : List ℕ) (starts : List ℤ) where
         pub may-start : none ≡ firstFrom (length states) 0 low → passed states ≡ judgeStart g states starts
         may-start e = sym (past-free ∙ first-none-next _ _ _ _ (sym (e ∙ of-rows)))
 
-  -- the grid's factors in one list are judged as the grid is
-  module _ {p : List ℕ} (e : p ≡ cells g) where
-    free-is : firstFrom (g .borders) 0 (λ b. not (someBelow (g .rows) (λ i. ltb 0 (flat (g .rows) (g .borders) p .p i b)))) ≡ firstFrom (g .borders) 0 free
-    free-is =
-        first-cong (g .borders) _ _ (λ b hb. ap (λ (o : Option ℕ). not (given o))
-        (first-cong (g .rows) _ _ (λ i hi. ap (ltb 0) (ap (λ (ps : List ℕ). at ps (i * g .borders + b)) e ∙ cells-at g i b hi hb))))
-
-    judged-cells : judgeStart (flat (g .rows) (g .borders) p) states starts ≡ judgeStart g states starts
-    unfolding judgeStart refuseFirst
-    judged-cells = ap (λ (o : Option ℕ). unless (someBelow (g .rows) (kept states)) noRow (refuseAt o unlimited (refuseFirst (g .rows) low belowZero (passed states)))) free-is
-
 -- ---- what is filled in is what the definitions say
 pub rows-are : (t : Table) (rams : List ℤ) (states : List ℕ) → rams ≡ ramsOf t → states ≡ statesOf (t .header) (t .factors) rams → rowsWith rams states ≡ rowsOf t
 unfolding rowsOf
 rows-are t rams states e u = ap₂ rowsWith e (u ∙ ap (statesOf (t .header) (t .factors)) e)
 
-abbrev startingWith : (n : ℕ) → (states : List ℕ) → (starts : List ℤ) → List ℕ
-startingWith n states starts = table n (λ i. cond (kept states i) (positivePart (atℤ starts i)) 0)
-
-pub prepared-by : (t : Table) (r : Judgement) {rams starts : List ℤ} {states p margins : List ℕ} → rowsWith rams states ≡ rowsOf t → starts ≡ startsOf t → length states ≡ t .header .rows
-    → p ≡ cells (gridOf (t .header) (t .borders) (t .factors) states) → margins ≡ startingWith (length states) states starts
-    → ruled r states ≡ judgeStart (flat (t .header .rows) (t .header .borders) p) states starts → prepared r rams states p margins ≡ preparedOf t
-unfolding preparedOf gridOf startOf
-prepared-by t r {rams} {starts} {states} {p} {margins} m s long u v w =
-    let grid : List ℕ → Grid = gridOf (t .header) (t .borders) (t .factors) in
+pub prepared-by : (t : Table) (r : Judgement) {rams starts : List ℤ} {states : List ℕ} → rowsWith rams states ≡ rowsOf t → starts ≡ startsOf t
+    → ruled r states ≡ judgeStart (gridOf (t .header) (t .borders) (t .factors) states) states starts → prepared r rams starts states ≡ preparedOf t
+unfolding preparedOf
+prepared-by t r {rams} {starts} {states} m s w =
     let e : states ≡ rowsOf t .states = ap (λ (n : Rows). n .states) m in
-    let p-is : p ≡ cells (tableGrid t) = u ∙ ap (λ (ss : List ℕ). cells (grid ss)) e in
-    let margins-are : margins ≡ tableStart t .margins = v ∙ ap (λ (n : ℕ). startingWith n states starts) long ∙ ap₂ (startingWith (t .header .rows)) e s in
-    let judged : ruled r states ≡ judgeTable t = w ∙ judged-cells (grid states) states starts u ∙ ap₂ (λ (ss : List ℕ) (ms : List ℤ). judgeStart (grid ss) ss ms) e s in
-    ap₂ {C = Prepared} (λ (ps ms : List ℕ). record { judged = ruled r states; rows = rowsWith rams states; p = ps; margins = ms }) p-is margins-are
-    ∙ ap₂ {C = Prepared} (λ (j : Judged (List ℕ)) (n : Rows). record { judged = j; rows = n; p = cells (tableGrid t); margins = tableStart t .margins }) judged m
+    let judged : ruled r states ≡ judgeTable t = w ∙ ap₂ (λ (ss : List ℕ) (ms : List ℤ). judgeStart (gridOf (t .header) (t .borders) (t .factors) ss) ss ms) e s in
+    ap₂ {C = Prepared} (λ (j : Judged (List ℕ)) (n : Rows). record { judged = j; rows = n; starts = starts }) judged m
+    ∙ ap {B = Prepared} (λ (ms : List ℤ). record { judged = judgeTable t; rows = rowsOf t; starts = ms }) s
 
 -- .. and back: what the code left is what the definitions say
-pub record PreparedAs (t : Table) (r : Judgement) (rams : List ℤ) (states p margins : List ℕ) : Type 0 where
+pub record PreparedAs (t : Table) (r : Judgement) (rams starts : List ℤ) (states : List ℕ) : Type 0 where
   pub judged : ruled r states ≡ judgeTable t
   pub rows : rowsWith rams states ≡ rowsOf t
-  pub p-is : p ≡ cells (tableGrid t)
-  pub margins-are : margins ≡ tableStart t .margins
+  pub starts-are : starts ≡ startsOf t
 
-pub prepared-as : {t : Table} (r : Judgement) {rams : List ℤ} {states p margins : List ℕ} → prepared r rams states p margins ≡ preparedOf t → PreparedAs t r rams states p margins
+pub prepared-as : {t : Table} (r : Judgement) {rams starts : List ℤ} {states : List ℕ} → prepared r rams starts states ≡ preparedOf t → PreparedAs t r rams starts states
 unfolding preparedOf
 prepared-as r e =
     record {
       judged = ap (λ (q : Prepared). q .judged) e;
       rows = ap (λ (q : Prepared). q .rows) e;
-      p-is = ap (λ (q : Prepared). q .p) e;
-      margins-are = ap (λ (q : Prepared). q .margins) e;
+      starts-are = ap (λ (q : Prepared). q .starts) e;
     }
+
+-- the table of p and the margins, laid out from what was prepared
+pub margins-are : (h : Header) (b : List (List ℤ)) (states : List ℕ) (starts : List ℤ) {margins : List ℕ} → length states ≡ h .rows
+    → margins ≡ table (length states) (λ i. cond (kept states i) (positivePart (atℤ starts i)) 0) → margins ≡ startOf h b states starts .margins
+unfolding startOf
+margins-are h b states starts long e = e ∙ ap (λ (n : ℕ). table n (λ i. cond (kept states i) (positivePart (atℤ starts i)) 0)) long
+
+pub laid-grid : (t : Table) {rams : List ℤ} {states p : List ℕ} → rowsWith rams states ≡ rowsOf t → p ≡ cells (gridOf (t .header) (t .borders) (t .factors) states) → p ≡ cells (tableGrid t)
+laid-grid t m e = e ∙ ap (λ (n : Rows). cells (gridOf (t .header) (t .borders) (t .factors) (n .states))) m
+
+pub laid-margins : (t : Table) {rams starts : List ℤ} {states margins : List ℕ} → rowsWith rams states ≡ rowsOf t → starts ≡ startsOf t
+    → margins ≡ startOf (t .header) (t .borders) states starts .margins → margins ≡ tableStart t .margins
+laid-margins t m s e = e ∙ ap₂ (λ (n : Rows) (ms : List ℤ). startOf (t .header) (t .borders) (n .states) ms .margins) m s
 
 pub grid-long : (h : Header) (b : List (List ℤ)) (f : List ℤ) (states : List ℕ) {p : List ℕ} → p ≡ cells (gridOf h b f states) → length p ≡ h .rows * h .borders
 unfolding gridOf

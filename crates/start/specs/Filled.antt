@@ -11,8 +11,8 @@ use Rattle.kinds.specs.Ranges.{borderOf}
 use Rattle.kinds.specs.Refusals.{Judged}
 use Rattle.table.specs.Table.{Table}
 use Rattle.rounds.specs.Rounds.{Grid}
-use Rattle.margin.specs.Margin.{ltaKw}
-use Rattle.start.specs.Start.{Rows, rowsOf, tableGrid, tableStart, judgeTable}
+use Rattle.margin.specs.Margin.{ltaKw, startsOf}
+use Rattle.start.specs.Start.{Rows, rowsOf, judgeTable}
 
 abbrev pub rowsWith : (rams : List ℤ) → (states : List ℕ) → Rows
 rowsWith rams states = record { rams = rams; states = states }
@@ -25,19 +25,18 @@ ltas b = table (length b) (λ k. ltaKw (borderOf (getD b k [])))
 abbrev pub exchangesOf : (b : List (List ℤ)) → List ℕ
 exchangesOf b = over (ltas b) (table bordersMost (λ k. 0))
 
--- a grid's factors in one list, row after row
+-- a grid's factors in one list, row after row and, for each row, border after border
 abbrev pub cells : Grid → List ℕ
 cells g = table (g .rows * g .borders) (λ k. g .p (k / g .borders) (k % g .borders))
 
--- what preparing leaves: the judgement, the rows, and the lists that the rounds work on
+-- what preparing leaves: the judgement, the rows, and RAM - S of each
 pub record Prepared : Type 0 where
   pub judged : Judged (List ℕ)
   pub rows : Rows
-  pub p : List ℕ
-  pub margins : List ℕ
+  pub starts : List ℤ
 
-abbrev pub prepared : Judgement → (rams : List ℤ) → (states p margins : List ℕ) → Prepared
-prepared r rams states p margins = record { judged = ruled r states; rows = rowsWith rams states; p = p; margins = margins }
+abbrev pub prepared : Judgement → (rams starts : List ℤ) → (states : List ℕ) → Prepared
+prepared r rams starts states = record { judged = ruled r states; rows = rowsWith rams states; starts = starts }
 
 unfoldable pub preparedOf : Table → Prepared
-preparedOf t = record { judged = judgeTable t; rows = rowsOf t; p = cells (tableGrid t); margins = tableStart t .margins }
+preparedOf t = record { judged = judgeTable t; rows = rowsOf t; starts = startsOf t }

@@ -1,7 +1,7 @@
 // What the rounds start from, and refusals 5, 6, 7. Margins are in grains, exchanges in kW.
 ghost use mathlib.Core.Path.{_≡_};
 ghost use mathlib.Core.Bool.{true, cond, not, _&&_};
-ghost use Prim.Native.Nat.{_*_, _<_, _≤_};
+ghost use Prim.Native.Nat.{_*_, _<_};
 ghost use lib.Dec.{ltb, eqb};
 ghost use lib.IntN.{pos};
 ghost use lib.ListN.{length};
@@ -13,10 +13,9 @@ ghost use Rattle.kinds.specs.Answers.{ruled};
 ghost use Rattle.kinds.specs.Ranges.{atℤ, borderFits, borderOf};
 ghost use Rattle.table.specs.Table.{lent};
 ghost use Rattle.table.specs.Good.{Good};
-ghost use Rattle.rounds.specs.Work.{flat};
 ghost use Rattle.margin.specs.Bounds.{FactorsBound, TableFactorsBound, BordersBound};
 ghost use Rattle.margin.specs.Margin.{pOf, ltaKw, startsOf};
-ghost use Rattle.start.specs.Start.{rowsOf, kept, gridOf, judgeStart};
+ghost use Rattle.start.specs.Start.{rowsOf, kept, gridOf, startOf, judgeStart};
 ghost use Rattle.start.specs.Filled.{rowsWith, ltas, exchangesOf, cells, prepared, preparedOf};
 use kinds::BorderRecord;
 use kinds::Header;
@@ -90,13 +89,17 @@ fn some_kept(states: &[u64]) -> bool
     false
 }
 
-// Whether some row has p > 0 at border b.
-fn is_limited(rows: usize, borders: usize, p: &[u64], b: usize) -> bool
-    requires { ⌜ (rows * borders ≤ length (now p)) × (b < borders) ⌝ }
-    ensures { λ r. ⌜ r ≡ someBelow rows (λ i. ltb 0 (flat rows borders (now (p .entry)) .p i b)) ⌝ }
+// Whether some row has p > 0 at border k. No table of p is asked: it is lent, and 6 leaves it as it was.
+fn is_limited(h: Header, b: &[BorderRecord], f: &[i64], states: &[u64], k: usize) -> bool
+    requires { ⌜ TableFactorsBound h (now f) ⌝ }
+    requires { ⌜ BordersBound (h .zones) (now b) ⌝ }
+    requires { ⌜ length (now states) ≡ h .rows ⌝ }
+    requires { ⌜ k < length (now b) ⌝ }
+    ensures { λ r. ⌜ r ≡ someBelow (h .rows) (λ i. ltb 0 (gridOf h (now (b .entry)) (now (f .entry)) (now (states .entry)) .p i k)) ⌝ }
 {
-    for i in 0..rows {
-        if rounds::factor(rows, borders, p, i, b) > 0 {
+    for i in 0..h.rows {
+        let factors = margin::row_factors(h, f, i);
+        if cell(states[i], factors, b[k]) > 0 {
             return true;
         }
     }
@@ -104,13 +107,16 @@ fn is_limited(rows: usize, borders: usize, p: &[u64], b: usize) -> bool
 }
 
 // 6: the first border that no row limits.
-fn first_unlimited(rows: usize, borders: usize, p: &[u64]) -> First
-    requires { ⌜ rows * borders ≤ length (now p) ⌝ }
-    ensures { λ r. ⌜ found r ≡ firstFrom borders 0 (λ b. not (someBelow rows (λ i. ltb 0 (flat rows borders (now (p .entry)) .p i b)))) ⌝ }
+fn first_unlimited(h: Header, b: &[BorderRecord], f: &[i64], states: &[u64]) -> First
+    requires { ⌜ TableFactorsBound h (now f) ⌝ }
+    requires { ⌜ BordersBound (h .zones) (now b) ⌝ }
+    requires { ⌜ length (now b) ≡ h .borders ⌝ }
+    requires { ⌜ length (now states) ≡ h .rows ⌝ }
+    ensures { λ r. ⌜ found r ≡ firstFrom (h .borders) 0 (λ k. not (someBelow (h .rows) (λ i. ltb 0 (gridOf h (now (b .entry)) (now (f .entry)) (now (states .entry)) .p i k)))) ⌝ }
 {
-    for b in 0..borders {
-        if !is_limited(rows, borders, p, b) {
-            return First::At(b);
+    for k in 0..h.borders {
+        if !is_limited(h, b, f, states, k) {
+            return First::At(k);
         }
     }
     First::Nothing
@@ -132,15 +138,23 @@ fn first_below(states: &[u64], starts: &[i64]) -> First
 }
 
 // 5, 6, 7, in that order.
-fn judge_start(rows: usize, borders: usize, p: &[u64], states: &[u64], starts: &[i64]) -> Judgement
-    requires { ⌜ rows * borders ≤ length (now p) ⌝ }
-    requires { ⌜ (length (now states) ≡ rows) × (length (now starts) ≡ rows) ⌝ }
-    ensures { λ r. ⌜ ruled r (now (states .entry)) ≡ judgeStart (flat rows borders (now (p .entry))) (now (states .entry)) (now (starts .entry)) ⌝ }
+fn judge_start(
+    h: Header,
+    b: &[BorderRecord],
+    f: &[i64],
+    states: &[u64],
+    starts: &[i64],
+) -> Judgement
+    requires { ⌜ TableFactorsBound h (now f) ⌝ }
+    requires { ⌜ BordersBound (h .zones) (now b) ⌝ }
+    requires { ⌜ length (now b) ≡ h .borders ⌝ }
+    requires { ⌜ (length (now states) ≡ h .rows) × (length (now starts) ≡ h .rows) ⌝ }
+    ensures { λ r. ⌜ ruled r (now (states .entry)) ≡ judgeStart (gridOf h (now (b .entry)) (now (f .entry)) (now (states .entry))) (now (states .entry)) (now (starts .entry)) ⌝ }
 {
     if !some_kept(states) {
         return Judgement::Refused(Refusal::no_row());
     }
-    if let First::At(b) = first_unlimited(rows, borders, p) {
+    if let First::At(b) = first_unlimited(h, b, f, states) {
         return Judgement::Refused(Refusal::unlimited(b));
     }
     if let First::At(i) = first_below(states, starts) {
@@ -172,7 +186,7 @@ fn fill_margins(states: &[u64], starts: &[i64], margins: &mut [u64])
     }
 }
 
-// All that the rounds start from but the exchanges, and whether they may start. `starts` is room to work in.
+// RAM, RAM - S and state of each row, and whether the rounds may start.
 pub fn prepare(
     h: Header,
     z: &[i64],
@@ -182,20 +196,35 @@ pub fn prepare(
     rams: &mut [i64],
     starts: &mut [i64],
     states: &mut [u64],
-    p: &mut [u64],
-    margins: &mut [u64],
 ) -> Judgement
     requires { ⌜ Good (lent h (now z) (now b) (now c) (now f)) ⌝ }
     requires { ⌜ (length (now rams) ≡ h .rows) × (length (now starts) ≡ h .rows) ⌝ }
     requires { ⌜ length (now states) ≡ h .rows ⌝ }
-    requires { ⌜ length (now p) ≡ h .rows * h .borders ⌝ }
-    requires { ⌜ length (now margins) ≡ h .rows ⌝ }
-    ensures { λ r. ⌜ prepared r (now (rams .exit)) (now (states .exit)) (now (p .exit)) (now (margins .exit)) ≡ preparedOf (lent h (now (z .entry)) (now (b .entry)) (now (c .entry)) (now (f .entry))) ⌝ }
+    ensures { λ r. ⌜ prepared r (now (rams .exit)) (now (starts .exit)) (now (states .exit)) ≡ preparedOf (lent h (now (z .entry)) (now (b .entry)) (now (c .entry)) (now (f .entry))) ⌝ }
 {
     fill_rows(h, z, b, c, f, rams, starts, states);
+    judge_start(h, b, f, states, starts)
+}
+
+// p of each row at each border, and the margins that the rounds start from.
+pub fn lay_out(
+    h: Header,
+    b: &[BorderRecord],
+    f: &[i64],
+    starts: &[i64],
+    states: &[u64],
+    p: &mut [u64],
+    margins: &mut [u64],
+)
+    requires { ⌜ TableFactorsBound h (now f) ⌝ }
+    requires { ⌜ BordersBound (h .zones) (now b) ⌝ }
+    requires { ⌜ length (now b) ≡ h .borders ⌝ }
+    requires { ⌜ (length (now starts) ≡ h .rows) × (length (now states) ≡ h .rows) ⌝ }
+    requires { ⌜ (length (now p) ≡ h .rows * h .borders) × (length (now margins) ≡ h .rows) ⌝ }
+    ensures { λ _. ⌜ (now (p .exit) ≡ cells (gridOf h (now (b .entry)) (now (f .entry)) (now (states .entry)))) × (now (margins .exit) ≡ startOf h (now (b .entry)) (now (states .entry)) (now (starts .entry)) .margins) ⌝ }
+{
     fill_grid(h, b, f, states, p);
     fill_margins(states, starts, margins);
-    judge_start(h.rows, h.borders, p, states, starts)
 }
 
 // The LTA of a judged border, in kW.

@@ -6,7 +6,7 @@ use Rattle.numbers.specs.Below.{firstFrom, given}
 use Rattle.numbers.specs.Ints.{sameℤ, inside}
 use Rattle.kinds.specs.Ranges.{headerFits, zoneFits, exists, borderFits, shareOf, rowOf, rowFits, factorFits}
 use Rattle.kinds.specs.Refusals.{refused, then, unless, refuseAt, refuseFirst, need, outOfRange}
-use Rattle.table.specs.Table.{Table, stretch, roomFor, judgeLent}
+use Rattle.table.specs.Table.{Table, stretch, roomFor, judgeShape, judgeLent}
 
 -- row 1 has FRM above Fmax: H is line 1, Z lines 2 and 3, B line 4, C lines 5 and 6
 abbrev frmAbove : Table
@@ -20,5 +20,5 @@ frmAbove =
     }
 
 pub row-line : judgeLent frmAbove ≡ refused (outOfRange 6)
-unfolding firstFrom given sameℤ inside headerFits zoneFits exists borderFits shareOf rowOf rowFits factorFits then unless refuseAt refuseFirst need stretch roomFor judgeLent
+unfolding firstFrom given sameℤ inside headerFits zoneFits exists borderFits shareOf rowOf rowFits factorFits then unless refuseAt refuseFirst need stretch roomFor judgeShape judgeLent
 row-line = refl

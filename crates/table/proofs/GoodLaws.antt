@@ -1,4 +1,4 @@
--- The laws of `specs/Good.antt`: what judging lent tables gives (`judged-front`, `judged-good`), and that a good table in front of lent tables is what they are judged to be
+-- The laws of `specs/Good.antt`: what judging lent tables gives (`records-good`, `judged-front`, `judged-good`), and that a good table in front of lent tables is what they are judged to be
 -- (`front-judged`, `good-judged`, `over-judged`).
 -- Row i's factors are its stretch, so factor k of the whole table is factor k % zones of row k / zones. No contract cites this file.
 use mathlib.Core.Path.{_≡_, sym, ap, subst, _∙_}
@@ -14,13 +14,14 @@ use borrow.Author.Tests.{not-false}
 use Rattle.numbers.specs.Below.{over}
 use Rattle.numbers.proofs.TestLaws.{and-both, both-and, all-true, true-all}
 use Rattle.kinds.specs.Ranges.{atℤ, headerFits, rowFits, factorFits}
-use Rattle.kinds.specs.Refusals.{passed, then}
+use Rattle.kinds.specs.Refusals.{passed}
 use Rattle.kinds.specs.declared.Header.{Header}
 use Rattle.kinds.proofs.KindLaws.{header-in}
-use Rattle.kinds.proofs.RefusalLaws.{passed-is, unless-passed, need-passed, none-passed, then-passed, unless-ok, none-next, then-next}
-use Rattle.table.specs.Table.{Table, lent, stretch, factorsAt, twice, notTwice, rowGood, front, inRange, roomFor, judgeLent}
-use Rattle.table.specs.Good.{Good}
+use Rattle.kinds.proofs.RefusalLaws.{passed-is, none-passed, then-passed, unless-ok, none-next, then-next}
+use Rattle.table.specs.Table.{Table, lent, stretch, factorsAt, twice, notTwice, rowGood, front, inRange, judgeShape, judgeRecords, judgeLent}
+use Rattle.table.specs.Good.{Exact, Good}
 use Rattle.table.proofs.RoomLaws.{Enough, room-enough}
+use Rattle.table.proofs.JudgeLaws.{shape-front}
 
 -- ---- stretches
 module _ (zones rows : ℕ) (factors : List ℤ) (long : length factors ≡ rows * zones) where
@@ -58,51 +59,39 @@ module _ (zones rows : ℕ) (factors : List ℤ) (long : length factors ≡ rows
       rw (stretch-at zones factors i z m) (h (i * zones + z) (omega (arith, suc-mul i zones, mul-le-mul-right {m = suc i} {n = rows} zones l)))
 
 -- ---- judging gives a good table, the front of what was lent
-record Judging (given t : Table) : Type 0 where
-  is : front given ≡ t
-  good : Good (front given)
-
-judged : (given t : Table) → judgeLent given ≡ passed t → Judging given t
-unfolding judgeLent roomFor
-judged given t e =
-    let u = front given in
-    let a = unless-passed t _ _ _ e in
-    let n = need-passed t _ _ _ (a .1) in
-    let m = need-passed t _ _ _ (n .1) in
-    let o = need-passed t _ _ _ (m .1) in
-    let p = need-passed t _ _ _ (o .1) in
-    let w = then-passed (inRange u) notTwice t (p .1) in
+pub records-good : (u t : Table) → Exact u → judgeRecords u ≡ passed t → (t ≡ u) × Good u
+records-good u t exact e =
+    let w = then-passed (inRange u) notTwice t e in
     let z = none-passed _ _ _ _ (w .it) (w .first) in
     let b = none-passed _ _ _ _ (w .it) (z .1) in
     let c = none-passed _ _ _ _ (w .it) (b .1) in
     let i : u ≡ w .it = passed-is _ _ (c .1) in
     let f = none-passed _ _ _ _ t (w .second) in
-    let h = header-in (given .header) (a .0) in
-    let long = length-take-le _ (given .factors) (p .0) in
-    let rows : (i : ℕ) → i < u .header .rows → rowGood (getD (u .rows) i []) (factorsAt u i) ≡ true = λ i l. not-false _ (c .0 i l) in
-    record {
-      is = i ∙ passed-is _ _ (f .1);
-      good = record {
-        exact = record {
-          header = a .0;
-          nets-long = length-take-le _ (given .nets) (n .0);
-          borders-long = length-take-le _ (given .borders) (m .0);
-          rows-long = length-take-le _ (given .rows) (o .0);
-          factors-long = long;
-        };
+    let h = header-in (u .header) (exact .header) in
+    let rows : (i : ℕ) → i < u .header .rows → rowGood (getD (u .rows) i []) (factorsAt u i) ≡ true = λ i l. not-false _ (c .0 i l) in (
+      sym (i ∙ passed-is _ _ (f .1)),
+      record {
+        exact = exact;
         nets-fit = λ i l. not-false _ (z .0 i l);
         borders-fit = λ i l. not-false _ (b .0 i l);
         rows-fit = λ i l. row-good (getD (u .rows) i []) (factorsAt u i) (rows i l) .0;
-        factors-fit = flat-fit (u .header .zones) (u .header .rows) (u .factors) long (omega (arith, h .zones-least)) (λ i l. row-good (getD (u .rows) i []) (factorsAt u i) (rows i l) .1);
+        factors-fit = flat-fit (u .header .zones) (u .header .rows) (u .factors) (exact .factors-long) (omega (arith, h .zones-least)) (λ i l. row-good (getD (u .rows) i []) (factorsAt u i) (rows i l) .1);
         once = subst (λ (v : Table). (b : ℕ) → b < v .header .borders → twice (v .borders) b ≡ false) (sym i) (f .0);
-      };
-    }
+      },
+    )
+
+judged : (given t : Table) → judgeLent given ≡ passed t → (t ≡ front given) × Good (front given)
+unfolding judgeLent
+judged given t e =
+    let w = then-passed (judgeShape given) judgeRecords t e in
+    let s = shape-front given (w .it) (w .first) in
+    records-good (front given) t (s .1) (ap judgeRecords (sym (s .0)) ∙ w .second)
 
 pub judged-front : (given t : Table) → judgeLent given ≡ passed t → t ≡ front given
-judged-front given t e = sym (judged given t e .is)
+judged-front given t e = judged given t e .0
 
 pub judged-good : (given t : Table) → judgeLent given ≡ passed t → Good t
-judged-good given t e = let j = judged given t e in subst Good (j .is) (j .good)
+judged-good given t e = let j = judged given t e in subst Good (sym (j .0)) (j .1)
 
 -- ---- a good table is judged to be itself
 lent-is : (h : Header) (z z′ : List ℤ) (b b′ c c′ : List (List ℤ)) (f f′ : List ℤ) → z ≡ z′ → b ≡ b′ → c ≡ c′ → f ≡ f′ → lent h z b c f ≡ lent h z′ b′ c′ f′
@@ -131,11 +120,12 @@ module _ (t : Table) (g : Good t) where
 
   -- .. and so are lent tables whose front it is
   pub front-judged : (given : Table) → front given ≡ t → Enough (given .header) (length (given .nets)) (length (given .borders)) (length (given .rows)) (length (given .factors)) → judgeLent given ≡ passed t
-  unfolding judgeLent
+  unfolding judgeLent judgeShape
   front-judged given is n =
-      unless-ok _ _ (subst (λ (u : Table). headerFits (u .header) ≡ true) (sym is) (g .exact .header))
+      then-next judgeRecords
+      (unless-ok _ _ (subst (λ (u : Table). headerFits (u .header) ≡ true) (sym is) (g .exact .header))
       ∙ sym (room-enough _ _ _ _ _ _ (n .zones) (n .borders) (n .rows) (n .factors))
-      ∙ ap (λ (u : Table). then (inRange u) notTwice) is
+      ∙ ap passed is)
       ∙ then-next notTwice in-range
       ∙ none-next _ _ _ _ (g .once)
 

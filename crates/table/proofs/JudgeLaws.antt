@@ -1,5 +1,5 @@
--- The laws of `specs/Table.antt`'s `judgeLent`: which record decides, and what is said where none does. No contract cites this file.
-use mathlib.Core.Path.{_≡_, sym, ap, subst, _∙_}
+-- The laws of `specs/Table.antt`'s `judgeShape`, `judgeRecords` and `judgeLent`: which record decides, and what is said where none does. No contract cites this file.
+use mathlib.Core.Path.{_≡_, refl, sym, ap, subst, _∙_}
 use mathlib.Core.Bool.{Bool, true, false, not}
 use mathlib.Core.List.{[]}
 use mathlib.Core.Option.{none, some}
@@ -14,10 +14,10 @@ use Rattle.kinds.specs.declared.Refusal.{Refusal}
 use Rattle.kinds.specs.Answers.{ruled}
 use Rattle.kinds.specs.Ranges.{atℤ, headerFits, zoneFits, borderFits}
 use Rattle.kinds.specs.Refusals.{Judged, passed, refused, then, outOfRange, givenTwice}
-use Rattle.kinds.proofs.RefusalLaws.{then-next, then-refused, unless-ok, unless-refused, first-found, first-none-next}
-use Rattle.table.specs.Table.{Table, factorsAt, zoneLineNo, borderLineNo, rowLineNo, rowGood, headerLineNo, twice, inRange, notTwice, tableRoom, front, judgeLent}
+use Rattle.kinds.proofs.RefusalLaws.{passed-is, then-next, then-refused, unless-passed, unless-ok, unless-refused, first-found, first-none-next}
+use Rattle.table.specs.Table.{Table, factorsAt, zoneLineNo, borderLineNo, rowLineNo, rowGood, headerLineNo, twice, inRange, notTwice, tableRoom, front, judgeShape, judgeRecords, judgeLent}
 use Rattle.table.specs.Good.{Exact}
-use Rattle.table.proofs.RoomLaws.{Enough, room-passed, room-of}
+use Rattle.table.proofs.RoomLaws.{room-passed, room-of}
 
 module _ (t : Table) (exact : Exact t) where
   abbrev zoneOut : ℕ → Bool
@@ -30,7 +30,7 @@ module _ (t : Table) (exact : Exact t) where
   rowOut i = not (rowGood (getD (t .rows) i []) (factorsAt t i))
 
   abbrev judged : Judged Table
-  judged = then (inRange t) notTwice
+  judged = judgeRecords t
 
   pub zone-refused : (i : ℕ) → some i ≡ firstFrom (length (t .nets)) 0 zoneOut → refused (outOfRange (zoneLineNo + i)) ≡ judged
   zone-refused i e =
@@ -75,39 +75,57 @@ module _ (t : Table) (exact : Exact t) where
 pub exact-factors : (t : Table) → Exact t → length (t .factors) ≡ length (t .rows) * t .header .zones
 exact-factors t exact = exact .factors-long ∙ ap (λ (n : ℕ). n * t .header .zones) (sym (exact .rows-long))
 
--- ---- header, lengths, and then the records of the front
+-- ---- header and lengths
+ruled-then : {A B : Type 0} (r : Judgement) (a : A) (b : B) → then (ruled r a) (λ _. passed b) ≡ ruled r b
+unfolding then
+ruled-then Passed a b = refl
+ruled-then (Refused w) a b = refl
+
 module _ (given : Table) where
   abbrev h : Header
   h = given .header
 
-  abbrev onward : Judged Table
-  onward = then (inRange (front given)) notTwice
-
-  pub header-refused : headerFits h ≡ false → refused (outOfRange headerLineNo) ≡ judgeLent given
-  unfolding judgeLent
+  pub header-refused : headerFits h ≡ false → refused (outOfRange headerLineNo) ≡ judgeShape given
+  unfolding judgeShape
   header-refused e = sym (unless-refused _ _ e)
 
-  module _ (fits : headerFits h ≡ true) (r : Judgement) (said : ruled r h ≡ tableRoom h given (passed h)) where
-    past-header : judgeLent given ≡ then (ruled r h) (λ _. onward)
-    unfolding judgeLent
-    past-header = unless-ok _ _ fits ∙ sym (room-of h _ _ _ _ h r said onward)
+  pub shape-ruled : headerFits h ≡ true → (r : Judgement) → ruled r h ≡ tableRoom h given (passed h) → ruled r (front given) ≡ judgeShape given
+  unfolding judgeShape
+  shape-ruled fits r said = sym (unless-ok _ _ fits ∙ sym (room-of h _ _ _ _ h r said (passed (front given))) ∙ ruled-then r h (front given))
 
-    pub room-refused : (w : Refusal) → r ≡ Refused w → ruled r (front given) ≡ judgeLent given
-    room-refused w e = ap (λ (j : Judgement). ruled j (front given)) e ∙ sym (past-header ∙ then-refused _ (ap (λ (j : Judgement). ruled j h) e))
+  -- what passes is the front, as long as its header says
+  pub shape-front : (t : Table) → judgeShape given ≡ passed t → (t ≡ front given) × Exact (front given)
+  unfolding judgeShape
+  shape-front t e =
+      let a = unless-passed t _ _ _ e in
+      let n = room-passed h _ _ _ _ _ t (a .1) in
+      let enough = n .0 in (
+        sym (passed-is _ _ (n .1)),
+        record {
+          header = a .0;
+          nets-long = length-take-le _ _ (enough .zones);
+          borders-long = length-take-le _ _ (enough .borders);
+          rows-long = length-take-le _ _ (enough .rows);
+          factors-long = length-take-le _ _ (enough .factors);
+        },
+      )
+
+  -- ---- .. and then the records of the front
+  module _ (r : Judgement) (said : ruled r (front given) ≡ judgeShape given) where
+    pub shape-refused : (w : Refusal) → r ≡ Refused w → judgeShape given ≡ refused w
+    shape-refused w e = sym said ∙ ap (λ (j : Judgement). ruled j (front given)) e
+
+    pub lent-refused : (w : Refusal) → r ≡ Refused w → ruled r (front given) ≡ judgeLent given
+    unfolding judgeLent
+    lent-refused w e = said ∙ shape-refused w e ∙ sym (then-refused _ (shape-refused w e))
 
     module _ (ok : r ≡ Passed) where
-      pub enough : Enough h (length (given .nets)) (length (given .borders)) (length (given .rows)) (length (given .factors))
-      enough = room-passed h _ _ _ _ (passed h) h (sym said ∙ ap (λ (j : Judgement). ruled j h) ok) .0
-
-      pub room-left : judgeLent given ≡ onward
-      room-left = past-header ∙ then-next _ (ap (λ (j : Judgement). ruled j h) ok)
+      pub shape-passed : judgeShape given ≡ passed (front given)
+      shape-passed = sym said ∙ ap (λ (j : Judgement). ruled j (front given)) ok
 
       pub front-exact : Exact (front given)
-      front-exact =
-          record {
-            header = fits;
-            nets-long = length-take-le _ _ (enough .zones);
-            borders-long = length-take-le _ _ (enough .borders);
-            rows-long = length-take-le _ _ (enough .rows);
-            factors-long = length-take-le _ _ (enough .factors);
-          }
+      front-exact = shape-front (front given) shape-passed .1
+
+      pub records-left : judgeLent given ≡ judgeRecords (front given)
+      unfolding judgeLent
+      records-left = then-next _ shape-passed

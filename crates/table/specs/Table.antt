@@ -97,9 +97,16 @@ inRange t =
     (refuseFirst (h .rows) (λ i. not (rowGood (getD (t .rows) i []) (factorsAt t i))) (λ i. outOfRange (rowLineNo h + i))
     (passed t)))
 
--- a call on lent tables judges the header (3, line 1), then lengths (8), then 3 and 4
-unfoldable pub judgeLent : (given : Table) → Judged Table
-judgeLent given =
+-- a call on lent tables judges the header (3, line 1) and then lengths (8); what passes is the front of them
+unfoldable pub judgeShape : (given : Table) → Judged Table
+judgeShape given =
     unless (headerFits (given .header)) (outOfRange headerLineNo)
     (tableRoom (given .header) given
-    (then (inRange (front given)) notTwice))
+    (passed (front given)))
+
+-- .. then the records, 3 and 4
+abbrev pub judgeRecords : Table → Judged Table
+judgeRecords t = then (inRange t) notTwice
+
+unfoldable pub judgeLent : (given : Table) → Judged Table
+judgeLent given = then (judgeShape given) judgeRecords

@@ -6,8 +6,8 @@ use Rattle.cabi.proofs.keravnoth_extract.Statement.{statement}
 use Rattle.cabi.proofs.keravnoth_extract.Tie as tie
 
 returns : tie.Need-returns
-returns c = rw (c .code-extracted .ensures) (ap extractCoded (c .before .before .before .extract .ensures))
+returns c = rw (c .code-extracted .ensures) (ap extractCoded (c .before .before .before .before .before .extract .ensures))
 
 pub keravnoth-extract-spec : {M : Type 1} → statement M
 keravnoth-extract-spec =
-    tie.close (tie.spec (λ c κs. search needs) (λ c κs. search needs) (λ c. search needs) (λ c. search needs) returns)
+    tie.close (tie.spec (λ c κs. search needs) (λ c κs. search needs) (λ c. search needs) (λ c. search needs) (λ c. search needs) returns)

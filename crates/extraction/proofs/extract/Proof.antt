@@ -1,24 +1,26 @@
--- `extraction::extract` meets its contract: the judging that every call begins with, and then the front parts, a judged table.
+-- `extraction::extract` meets its contract: the judging, and then the front parts, a judged table.
 use mathlib.Core.Path.{sym, _∙_}
 use native.Mathlib.Omega.{arith}
 use borrow.Author.Needs.{needs}
-use Rattle.table.specs.Table.{lent, front}
+use Rattle.table.specs.Table.{Table, lent, front}
 use Rattle.table.specs.Good.{Good}
 use Rattle.table.proofs.RoomLaws.{factors-most}
-use Rattle.extraction.proofs.ExtractLaws.{lent-refused, front-good, lent-judged}
+use Rattle.extraction.proofs.LentLaws.{lent-refused, front-good, front-room, lent-judged}
 use Rattle.extraction.proofs.extract.Statement.{statement}
 use Rattle.extraction.proofs.extract.Tie as tie
 
 returns : tie.Need-returns
-returns c = lent-refused _ _ (c .before .before .before .judge .ensures) _ _ _ (c .before .w .given .1)
+returns c = lent-refused _ _ _ (c .before .before .before .judge-lent .ensures) _ _ _ (c .before .w .given .1)
 
--- past the judging: the front parts are a judged table
-good : (c : tie.After-enum-told)
-    → let a = c .before .before .before .args in
-    Good (front (lent (a .h) (a .z .now) (a .b .now) (a .c .now) (a .f .now)))
-good c =
-    let a = c .before .before .before .args in
-    front-good (lent (a .h) (a .z .now) (a .b .now) (a .c .now) (a .f .now)) _ (c .before .before .judge .ensures) (c .enum-told .given .1)
+-- past the judging: the front parts are a judged table, and there is room for p
+abbrev entry : tie.After-enum-told → tie.Start
+entry c = c .before .before .before .before
+
+abbrev given : tie.Start → Table
+given s = lent (s .args .h) (s .args .z .now) (s .args .b .now) (s .args .c .now) (s .args .f .now)
+
+good : (c : tie.After-enum-told) → Good (front (given (entry c)))
+good c = front-good (given (entry c)) (entry c .args .p .now) _ (c .before .before .judge-lent .ensures) (c .enum-told .given .1)
 
 slice-aggregate-extract-judged : tie.Need-slice-aggregate-extract-judged
 slice-aggregate-extract-judged c = sym (good (c .before) .exact .nets-long)
@@ -36,10 +38,15 @@ slice-aggregate-extract-judged-4 : tie.Need-slice-aggregate-extract-judged-4
 slice-aggregate-extract-judged-4 c = sym (good (c .before .before .before .before) .exact .factors-long)
 
 extract-judged-requires : tie.Need-extract-judged-requires
-extract-judged-requires c κs = good (c .before .before .before .before .before .before)
+extract-judged-requires c κs =
+    let told = c .before .before .before .before .before .before .before in
+    (good told, front-room (given (entry told)) (entry told .args .p .now) _ (told .before .before .judge-lent .ensures) (told .enum-told .given .1))
 
 returns-2 : tie.Need-returns-2
-returns-2 c = c .before .before .extract-judged .ensures ∙ lent-judged _ _ (c .before .before .before .before .before .before .before .before .before .before .before .judge .ensures) (c .before .before .before .before .before .before .before .before .before .enum-told .given .1) _ _
+returns-2 c =
+    let told = c .before .before .before .before .before .before .before .before .before .before .before .before in
+    c .before .before .before .before .extract-judged .ensures
+    ∙ lent-judged (given (entry told)) (entry told .args .p .now) _ (told .before .before .judge-lent .ensures) (told .enum-told .given .1) _ _
 
 pub extract-spec : {M : Type 1} → statement M
 extract-spec =
@@ -55,6 +62,7 @@ extract-spec =
     mul-extract-judged
     slice-aggregate-extract-judged-4
     extract-judged-requires
+    (λ c. search needs)
     (λ c. search needs)
     (λ c. search needs)
     returns-2)

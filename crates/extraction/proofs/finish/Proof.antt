@@ -1,9 +1,9 @@
--- `extraction::finish` meets its contract: the margins are filled in, the rounds run, and what they leave is stored (`stored-is`).
+-- `extraction::finish` meets its contract: the rounds run, and what they leave is stored (`finished-is`).
 use mathlib.Core.Path.{_≡_, sym, _∙_}
 use native.Mathlib.Omega.{arith}
 use borrow.Author.Needs.{needs}
 use lib.ListN.{length, take}
-use Rattle.extraction.proofs.ExtractLaws.{front-long, front-within, lefts-fit, stored-is}
+use Rattle.extraction.proofs.ExtractLaws.{front-long, front-within, lefts-fit, finished-is}
 use Rattle.extraction.proofs.finish.Statement.{statement}
 use Rattle.extraction.proofs.finish.Tie as tie
 
@@ -42,7 +42,7 @@ store-lefts-requires c κs =
 returns : tie.Need-returns
 returns c =
     let at-run = c .before .before .before .before .before .before .before .before .before .before .before in
-    stored-is (entry at-run .pre .0) (at-run .run .result) (at-run .run .ensures) _ _ (c .before .before .before .before .before .store-atcs .ensures) (c .before .store-lefts .ensures)
+    finished-is (entry at-run .pre .0) (at-run .run .result) (at-run .run .ensures) _ _ (c .before .before .before .before .before .store-atcs .ensures) (c .before .store-lefts .ensures)
 
 pub finish-spec : {M : Type 1} → statement M
 finish-spec =

@@ -1,13 +1,16 @@
 -- `reading::read_judged` meets its contract: the first short table is named, or else each has the text's items in front (`front-filled`).
-use mathlib.Core.Path.{_≡_, sym, _∙_}
+use mathlib.Core.Path.{_≡_, sym, ap, _∙_}
 use native.Mathlib.Omega.{arith}
 use lib.ListN.{length, take}
 use lib.Seq.{length-take-le}
+use Rattle.kinds.specs.declared.Judgement.{Judgement}
+use Rattle.kinds.specs.Answers.{ruled}
+use Rattle.kinds.specs.Refusals.{passed}
 use Rattle.kinds.proofs.KindLaws.{header-in}
 use Rattle.table.specs.Table.{lent, front}
 use Rattle.table.specs.Good.{Exact}
-use Rattle.table.proofs.RoomLaws.{Enough, factors-most}
-use Rattle.table.proofs.JudgeLaws.{enough, front-exact}
+use Rattle.table.proofs.RoomLaws.{Enough, factors-most, room-passed}
+use Rattle.table.proofs.JudgeLaws.{shape-ruled, front-exact}
 use Rattle.reading.proofs.FilledLaws.{room-refused, front-filled}
 use borrow.Author.Needs.{needs}
 use Rattle.reading.proofs.read_judged.Statement.{statement}
@@ -20,7 +23,8 @@ room : (c : tie.After-enum-told)
 room c =
     let start = c .before .before .before .before .before in
     let a = start .args in
-    enough (lent (a .places .header) (a .z .now) (a .b .now) (a .c .now) (a .f .now)) (start .pre .0 .header-fits) _ (c .before .before .judge-room .ensures) (c .enum-told .given .1)
+    let h = a .places .header in
+    room-passed h _ _ _ _ (passed h) h (sym (c .before .before .judge-room .ensures) ∙ ap (λ (j : Judgement). ruled j h) (c .enum-told .given .1)) .0
 
 exact : (c : tie.After-enum-told)
     → let a = c .before .before .before .before .before .args in
@@ -28,7 +32,9 @@ exact : (c : tie.After-enum-told)
 exact c =
     let start = c .before .before .before .before .before in
     let a = start .args in
-    front-exact (lent (a .places .header) (a .z .now) (a .b .now) (a .c .now) (a .f .now)) (start .pre .0 .header-fits) _ (c .before .before .judge-room .ensures) (c .enum-told .given .1)
+    let r = c .before .before .judge-room in
+    let given = lent (a .places .header) (a .z .now) (a .b .now) (a .c .now) (a .f .now) in
+    front-exact given (r .result) (shape-ruled given (start .pre .0 .header-fits) (r .result) (r .ensures)) (c .enum-told .given .1)
 
 memory-long : (c : tie.Start) → length (take (c .args .places .header .borders) (c .args .memory .now)) ≡ c .args .places .header .borders
 memory-long c = length-take-le _ (c .args .memory .now) (omega (arith, header-in _ (c .pre .0 .header-fits), c .pre .1 .0))

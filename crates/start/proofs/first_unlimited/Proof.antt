@@ -1,4 +1,4 @@
--- `start::first_unlimited` meets its contract. The invariant: some row limits each border before b. A turn is `looked-more`.
+-- `start::first_unlimited` meets its contract. The invariant: some row limits each border before k. A turn is `looked-more`.
 use mathlib.Core.Path.{ap, sym, _∙_}
 use mathlib.Core.Bool.{not}
 use Prim.Native.Nat.{_-_}
@@ -6,21 +6,21 @@ use native.Mathlib.Omega.{arith}
 use lib.Dec.{ltb}
 use Rattle.numbers.specs.Below.{someBelow}
 use Rattle.numbers.proofs.BelowLaws.{Looked, looked-none, looked-all, looked-here, looked-more}
-use Rattle.rounds.specs.Work.{flat}
+use Rattle.start.specs.Start.{gridOf}
 use Rattle.start.proofs.first_unlimited.Statement.{statement}
 use Rattle.start.proofs.first_unlimited.Tie as tie
 
 abbrev Inv-loop : tie.InvT-loop
-Inv-loop rows borders p b₀ b = Looked borders (λ b. not (someBelow rows (λ i. ltb 0 (flat rows borders p .p i b)))) b
+Inv-loop h b f states k₀ k-end k = Looked (h .borders) (λ k. not (someBelow (h .rows) (λ i. ltb 0 (gridOf h b f states .p i k)))) k
 
 abbrev μ-loop : tie.MeasureT-loop
-μ-loop rows borders p b₀ b = borders - b
+μ-loop h b f states k₀ k-end k = h .borders - k
 
 loop-holds : tie.Need-loop-holds Inv-loop μ-loop
 loop-holds c = looked-none _ _
 
 is-limited-requires : tie.Need-is-limited-requires Inv-loop μ-loop
-is-limited-requires c κs = (c .before .before .before .pre, omega arith)
+is-limited-requires c κs = let q = c .before .before .before .pre in (q .0, (q .1 .0, (q .1 .1 .1, omega (arith, q .1 .1 .0))))
 
 returns : tie.Need-returns Inv-loop μ-loop
 returns c = looked-here _ _ _ (c .before .before .before .loop .inv) (omega arith) (sym (ap not (c .before .is-limited .ensures)) ∙ c .if1 .taken)

@@ -17,26 +17,26 @@ given s = lent (s .args .h) (s .args .z .now) (s .args .b .now) (s .args .c .now
 
 write-result-requires : tie.Need-write-result-requires
 write-result-requires c κs =
-    let called = c .before .before .before .before .before .before .before .before in
-    let s = called .before .before .before .before in
-    let u = outcome-told (given s) (s .args .atc .now) (s .args .left .now) (s .pre .0) (s .pre .1) _ (called .extract .ensures) _ (c .before .before .before .before .rounds .given .1) in
+    let called = c .before .before .before .before .before .before .before .before .before .before in
+    let s = called .before .before .before .before .before .before in
+    let u = outcome-told (given s) (s .args .p .now) (s .args .atc .now) (s .args .left .now) (s .pre .0) (s .pre .1) (s .pre .2) _ (called .extract .ensures) _ (c .before .before .before .before .rounds .given .1) in
     let h = outcome-header (given s) (u .it) (u .is) in
-    (h .borders, h .rows, omega (arith, s .pre .0, called .extract .kept .1 .1 .1 .1 .1 .0), omega (arith, s .pre .1, called .extract .kept .1 .1 .1 .1 .1 .1 .0))
+    (h .borders, h .rows, omega (arith, s .pre .1, called .extract .kept .1 .1 .1 .1 .1 .1 .0), omega (arith, s .pre .2, called .extract .kept .1 .1 .1 .1 .1 .1 .1 .0))
 
 returns : tie.Need-returns
 returns c =
-    let called = c .before .before .before .before .before .before .before .before .before .before .before in
-    let s = called .before .before .before .before in
-    let u = outcome-told (given s) (s .args .atc .now) (s .args .left .now) (s .pre .0) (s .pre .1) _ (called .extract .ensures) _ (c .before .before .before .before .before .before .before .rounds .given .1) in
+    let called = c .before .before .before .before .before .before .before .before .before .before .before .before .before in
+    let s = called .before .before .before .before .before .before in
+    let u = outcome-told (given s) (s .args .p .now) (s .args .atc .now) (s .args .left .now) (s .pre .0) (s .pre .1) (s .pre .2) _ (called .extract .ensures) _ (c .before .before .before .before .before .before .before .rounds .given .1) in
     let text = c .before .before .write-result in
     (made-text (outcomeLent (given s)) (s .args .out .now) (u .it) (text .result) _ (u .is) (text .ensures .0 ∙ ap (λ (t : List ℕ). textLeft (passed t) (s .args .out .now)) (u .text)), text .ensures .1)
 
 returns-2 : tie.Need-returns-2
 returns-2 c =
-    let called = c .before .before .before .before .before in
-    let s = called .before .before .before .before in
+    let called = c .before .before .before .before .before .before .before in
+    let s = called .before .before .before .before .before .before in
     let w = c .before .w .given in
-    (made-refused (outcomeLent (given s)) (s .args .out .now) (w .0 .0) (outcome-refused (given s) (s .args .atc .now) (s .args .left .now) (s .pre .0) (s .pre .1) _ (called .extract .ensures) _ (w .1)), omega arith)
+    (made-refused (outcomeLent (given s)) (s .args .out .now) (w .0 .0) (outcome-refused (given s) (s .args .p .now) (s .args .atc .now) (s .args .left .now) (s .pre .0) (s .pre .1) (s .pre .2) _ (called .extract .ensures) _ (w .1)), omega arith)
 
 pub make-in-spec : {M : Type 1} → statement M
 make-in-spec =
@@ -49,7 +49,9 @@ make-in-spec =
     (λ c. search needs)
     (λ c. search needs)
     (λ c. search needs)
+    (λ c. search needs)
     returns
+    (λ c. search needs)
     (λ c. search needs)
     (λ c. search needs)
     returns-2)

@@ -1,0 +1,54 @@
+-- What `extract` leaves of a small hour in lent memory that holds something else. Nobody cites it: it refuses a definition that slipped, by the number that comes out.
+use mathlib.Core.Path.{_≡_, refl}
+use mathlib.Core.List.{List, [], _∷_}
+use Prim.Native.Nat.{ℕ}
+use lib.IntN.{ℤ, pos}
+use lib.ListN.{replicate}
+use Rattle.numbers.specs.Below.{ifZero, sum, count, lesser, least, orZero, table, firstFrom, given}
+use Rattle.numbers.specs.Ints.{minus, maxℤ, minℤ, positivePart, sameℤ, inside, sumℤ}
+use Rattle.kinds.specs.Ranges.{headerFits, zoneFits, exists, borderFits, borderOf, shareOf, rowOf, rowFits, factorFits, worth}
+use Rattle.kinds.specs.Refusals.{passed, refused, refusal, then, either, unless, refuseAt, refuseFirst, need}
+use Rattle.table.specs.Table.{Table, stretch, twice, roomFor, judgeShape}
+use Rattle.rounds.specs.Rounds.{sharers, raise, raises, load, lowered, risen, apply, next, raised, counted, run, extract}
+use Rattle.margin.specs.Margin.{grains, f0coreOf, fuafOf, baseOf, amrOf, signedFactor, pOf, ltaKw, sOf, ltaMarginOf, ramOf, ramAt}
+use Rattle.states.specs.States.{highest, lowest, spreadOf, shifted, below, stateOf}
+use Rattle.start.specs.Start.{rowsOf, kept, gridOf, startOf, judgeStart}
+use Rattle.extraction.specs.Extraction.{resultOf, atcOf, leftOf, outcomeOf, atcRecord, rowRecord, judgeExtract, ExtractLeft, extractLeft}
+
+-- rows 0 and 1 limit a border each, 15 kW and 10 kW, row 2 is under 5%; FRM and IVA of row 0 are one's own
+abbrev small : (frm iva : ℕ) → Table
+small frm iva =
+    record {
+      header = record { zones = 2; borders = 2; rows = 3 };
+      nets = pos 0 ∷ pos 0 ∷ [];
+      borders = (pos 0 ∷ pos 1 ∷ pos 0 ∷ []) ∷ (pos 1 ∷ pos 0 ∷ pos 0 ∷ []) ∷ [];
+      rows =
+          (pos 3 ∷ pos frm ∷ pos 0 ∷ pos 0 ∷ pos 0 ∷ pos 0 ∷ pos iva ∷ [])
+          ∷ (pos 3 ∷ pos 0 ∷ pos 0 ∷ pos 0 ∷ pos 0 ∷ pos 0 ∷ pos 0 ∷ [])
+          ∷ (pos 5 ∷ pos 0 ∷ pos 0 ∷ pos 0 ∷ pos 0 ∷ pos 0 ∷ pos 0 ∷ [])
+          ∷ [];
+      factors = pos 20000 ∷ pos 0 ∷ pos 0 ∷ pos 30000 ∷ pos 4999 ∷ pos 0 ∷ [];
+    }
+
+-- .. with a lent table of so many p
+abbrev leaving : (frm iva items : ℕ) → ExtractLeft
+leaving frm iva items = extractLeft (small frm iva) (replicate items 9) (replicate 2 []) (replicate 3 [])
+
+pub record Anchors : Type 0 where
+  -- p of each row at each border, row after row; zeros for the row that is not kept; beyond them the table stays
+  pub accepted : leaving 0 0 7
+      ≡ record {
+        answer = passed 1;
+        p = 20000 ∷ 0 ∷ 0 ∷ 30000 ∷ 0 ∷ 0 ∷ 9 ∷ [];
+        atcs = (pos 0 ∷ []) ∷ (pos 0 ∷ []) ∷ [];
+        lefts = (pos 0 ∷ pos 300000 ∷ pos 0 ∷ []) ∷ (pos 0 ∷ pos 300000 ∷ pos 0 ∷ []) ∷ (pos 1 ∷ pos 500000 ∷ minus 1 ∷ []) ∷ [];
+      }
+  -- refusal 7 leaves it whole
+  pub below : leaving 0 4 7 ≡ record { answer = refused (refusal 7 0); p = replicate 7 9; atcs = replicate 2 []; lefts = replicate 3 [] }
+  -- 8 looks at it before records, of which row 0 is out of range (3, line 6)
+  pub short : leaving 4 0 5 .answer ≡ refused (refusal 8 6)
+  pub long : leaving 4 0 6 .answer ≡ refused (refusal 3 6)
+
+pub anchors : Anchors
+unfolding ifZero sum count lesser least orZero table firstFrom given maxℤ minℤ positivePart sameℤ inside sumℤ headerFits zoneFits exists borderFits borderOf shareOf rowOf rowFits factorFits worth then either unless refuseAt refuseFirst need stretch twice roomFor judgeShape sharers raise raises load lowered risen apply next raised counted run extract grains f0coreOf fuafOf baseOf amrOf signedFactor pOf ltaKw sOf ltaMarginOf ramOf ramAt highest lowest spreadOf shifted below stateOf rowsOf kept gridOf startOf judgeStart resultOf atcOf leftOf outcomeOf atcRecord rowRecord judgeExtract extractLeft
+anchors = record { accepted = refl; below = refl; short = refl; long = refl }
