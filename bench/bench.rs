@@ -48,7 +48,7 @@ impl Room {
     fn for_hour(hour: &Hour) -> Room {
         let mut tables = hour.tables.clone();
         tables.z.fill(-7);
-        tables.b.fill([-7; 3]);
+        tables.b.fill([-7; 5]);
         tables.c.fill([-7; 7]);
         tables.f.fill(-7);
         let header = tables.header;

@@ -51,21 +51,21 @@ macro_rules! linked {
 linked! {
     fn keravnoth_read(
         text: *const u8, n: usize,
-        z: *mut i64, nz: usize, b: *mut [i64; 3], nb: usize, c: *mut [i64; 7], nc: usize, f: *mut i64, nf: usize
+        z: *mut i64, nz: usize, b: *mut [i64; 5], nb: usize, c: *mut [i64; 7], nc: usize, f: *mut i64, nf: usize
     ) -> Read;
     fn keravnoth_write(
         zones: usize, borders: usize, rows: usize,
-        z: *const i64, nz: usize, b: *const [i64; 3], nb: usize, c: *const [i64; 7], nc: usize, f: *const i64, nf: usize,
+        z: *const i64, nz: usize, b: *const [i64; 5], nb: usize, c: *const [i64; 7], nc: usize, f: *const i64, nf: usize,
         out: *mut u8, nout: usize
     ) -> Written;
     fn keravnoth_extract(
         zones: usize, borders: usize, rows: usize,
-        z: *const i64, nz: usize, b: *const [i64; 3], nb: usize, c: *const [i64; 7], nc: usize, f: *const i64, nf: usize,
+        z: *const i64, nz: usize, b: *const [i64; 5], nb: usize, c: *const [i64; 7], nc: usize, f: *const i64, nf: usize,
         p: *mut u64, np: usize, atc: *mut [i64; 1], natc: usize, left: *mut [i64; 3], nleft: usize
     ) -> Extracted;
     fn keravnoth_result_text(
         zones: usize, borders: usize, rows: usize,
-        z: *const i64, nz: usize, b: *const [i64; 3], nb: usize, c: *const [i64; 7], nc: usize, f: *const i64, nf: usize,
+        z: *const i64, nz: usize, b: *const [i64; 5], nb: usize, c: *const [i64; 7], nc: usize, f: *const i64, nf: usize,
         out: *mut u8, nout: usize
     ) -> Written;
     fn keravnoth_answer(text: *const u8, n: usize, out: *mut u8, nout: usize) -> Written;
@@ -83,7 +83,7 @@ macro_rules! on_lent {
     }};
 }
 
-pub fn read(text: &[u8], z: &mut [i64], b: &mut [[i64; 3]], c: &mut [[i64; 7]], f: &mut [i64]) -> Read {
+pub fn read(text: &[u8], z: &mut [i64], b: &mut [[i64; 5]], c: &mut [[i64; 7]], f: &mut [i64]) -> Read {
     unsafe {
         keravnoth_read(
             text.as_ptr(), text.len(),

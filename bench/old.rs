@@ -1,6 +1,7 @@
 //! What is not rounds, as the extraction had it before document 02's E4, in plain Rust: S summed three times a row, a
 //! border record judged again wherever it is read, the row and the border of a cell found by division, rooms for the
-//! largest table. Kept to be measured beside the library, and so not made better.
+//! largest table. Kept to be measured beside the library, and so not made better; what later requests ask of a table, such as
+//! hubs, it can answer, so that all designs answer the same hours.
 
 pub const BORDERS_MOST: usize = 40;
 pub const ROWS_MOST: usize = 200;
@@ -15,7 +16,7 @@ pub struct Lent<'a> {
     pub borders: usize,
     pub rows: usize,
     pub z: &'a [i64],
-    pub b: &'a [[i64; 3]],
+    pub b: &'a [[i64; 5]],
     pub c: &'a [[i64; 7]],
     pub f: &'a [i64],
 }
@@ -47,12 +48,17 @@ struct Border {
     from: usize,
     to: usize,
     lta: u64,
+    /// sending and receiving
+    hubs: Option<(usize, usize)>,
 }
 
-fn border_of(zones: usize, [from, to, lta]: [i64; 3]) -> Option<Border> {
+fn border_of(zones: usize, [from, to, lta, sending, receiving]: [i64; 5]) -> Option<Border> {
     let exists = |zone: i64| zone >= 0 && (zone as u64) < zones as u64;
-    let fits = exists(from) & exists(to) & (from != to) & (0..=10_000).contains(&lta);
-    fits.then_some(Border { from: from as usize, to: to as usize, lta: lta as u64 })
+    let without = (sending == -1) & (receiving == -1);
+    let hubs_fit = without | (exists(sending) & exists(receiving) & (sending != receiving));
+    let fits = exists(from) & exists(to) & (from != to) & (0..=10_000).contains(&lta) & hubs_fit;
+    let hubs = (!without).then_some((sending as usize, receiving as usize));
+    fits.then_some(Border { from: from as usize, to: to as usize, lta: lta as u64, hubs })
 }
 
 fn row_fits([fmax, frm, fref, f0all, r, cva, iva]: [i64; 7]) -> bool {
@@ -85,7 +91,8 @@ fn judge(t: &Lent) -> Result<(), Refusal> {
     if let Some(i) = (0..rows).find(|i| !row_good(*i)) {
         return Err((3, 2 + zones + borders + i));
     }
-    let twice = |k: usize| b[..k].iter().any(|earlier| (earlier[0] == b[k][0]) & (earlier[1] == b[k][1]));
+    let same = |one: &[i64; 5], other: &[i64; 5]| (one[0] == other[0]) & (one[1] == other[1]) & (one[3] == other[3]) & (one[4] == other[4]);
+    let twice = |k: usize| b[..k].iter().any(|earlier| same(earlier, &b[k]));
     match (0..borders).find(|k| twice(*k)) {
         Some(k) => Err((4, k)),
         None => Ok(()),
@@ -95,11 +102,12 @@ fn judge(t: &Lent) -> Result<(), Refusal> {
 // ---- margins, in grains
 
 fn p_of(factors: &[i64], border: &Border) -> u64 {
-    (factors[border.from] - factors[border.to]).max(0) as u64
+    let at_hubs = border.hubs.map_or(0, |(sending, receiving)| factors[receiving] - factors[sending]);
+    (factors[border.from] - factors[border.to] + at_hubs).max(0) as u64
 }
 
-fn s_of(factors: &[i64], b: &[[i64; 3]]) -> u64 {
-    let load = |record: &[i64; 3]| border_of(factors.len(), *record).map_or(0, |border| p_of(factors, &border) * border.lta * 1_000);
+fn s_of(factors: &[i64], b: &[[i64; 5]]) -> u64 {
+    let load = |record: &[i64; 5]| border_of(factors.len(), *record).map_or(0, |border| p_of(factors, &border) * border.lta * 1_000);
     b.iter().map(load).sum()
 }
 

@@ -40,7 +40,7 @@ static const char *meaning(uint32_t number)
     case KERAVNOTH_TOO_LONG: return "more than 65,536 bytes";
     case KERAVNOTH_WRONG_FORM: return "form, kind, index or field count of a line";
     case KERAVNOTH_OUT_OF_RANGE: return "a value outside its range, line";
-    case KERAVNOTH_GIVEN_TWICE: return "same from and to as an earlier border, border";
+    case KERAVNOTH_GIVEN_TWICE: return "same from, to and hubs as an earlier border, border";
     case KERAVNOTH_NO_ROW_KEPT: return "no row is kept";
     case KERAVNOTH_BORDER_UNLIMITED: return "no kept row limits border";
     case KERAVNOTH_MARGIN_BELOW_0: return "starting margin below 0, row";

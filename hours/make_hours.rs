@@ -10,7 +10,7 @@ mod dice;
 mod second;
 
 use dice::Dice;
-use second::{Header, Outcome, Tables};
+use second::{without_hubs, Border, Header, Outcome, Tables};
 
 const FULL: Header = Header { zones: 16, borders: 40, rows: 200 };
 
@@ -53,6 +53,21 @@ C 1 800000 80000 -140000 -60000 - 0 0 -6000 12000 0 9000
 C 2 950000 95000 310000 120000 7000 20000 0 0 -4000 -15000 -22000
 ";
 
+/// A small hour with a cable, made by hand: zones 0 and 1, joined by a cable, whose
+/// hubs are zones 2 and 3, and by lines; a row that the cable loads less than the
+/// lines do, and one at each converter.
+const CABLE: &str = "H 4 2 3
+Z 0 200000
+Z 1 -200000
+Z 2 -50000
+Z 3 50000
+B 0 0 1 100 2 3
+B 1 0 1 50
+C 0 1000000 50000 100000 20000 7000 0 1000 30000 10000 24000 12000
+C 1 200000 10000 30000 0 - 0 0 0 6000 4000 20000
+C 2 50000 0 0 0 7000 0 0 1000 0 6000 0
+";
+
 fn extract(t: &Tables) -> Option<Outcome> {
     second::extract(t.header, &t.z, &t.b, &t.c, &t.f, usize::MAX, usize::MAX, usize::MAX).ok()
 }
@@ -74,20 +89,20 @@ struct Kind {
 }
 
 /// Borders from a zone to one further down, no border back.
-fn one_way_borders(d: &mut Dice) -> Vec<[i64; 3]> {
-    let mut b: Vec<[i64; 3]> = Vec::new();
+fn one_way_borders(d: &mut Dice) -> Vec<Border> {
+    let mut b: Vec<Border> = Vec::new();
     while b.len() < FULL.borders {
         let from = d.below(FULL.zones - 1);
         let to = (from + 1 + d.below(5)).min(FULL.zones - 1);
         if !b.iter().any(|r| r[0] == from as i64 && r[1] == to as i64) {
-            b.push([from as i64, to as i64, 50 * d.within(0, 6)]);
+            b.push(without_hubs(from as i64, to as i64, 50 * d.within(0, 6)));
         }
     }
     b
 }
 
 /// Zones on a map: a ring with a few links across it; each border both ways.
-fn plausible_borders(d: &mut Dice) -> Vec<[i64; 3]> {
+fn plausible_borders(d: &mut Dice) -> Vec<Border> {
     let mut links: Vec<(usize, usize)> = (0..FULL.zones).map(|z| (z, (z + 1) % FULL.zones)).collect();
     while links.len() < FULL.borders / 2 {
         let one = d.below(FULL.zones);
@@ -98,8 +113,8 @@ fn plausible_borders(d: &mut Dice) -> Vec<[i64; 3]> {
     }
     let mut b = Vec::new();
     for (one, other) in links {
-        b.push([one as i64, other as i64, 50 * d.within(0, 12)]);
-        b.push([other as i64, one as i64, 50 * d.within(0, 12)]);
+        b.push(without_hubs(one as i64, other as i64, 50 * d.within(0, 12)));
+        b.push(without_hubs(other as i64, one as i64, 50 * d.within(0, 12)));
     }
     b
 }
@@ -237,10 +252,10 @@ fn worst_of(s: &Shape, rows: usize) -> Tables {
     let header = Header { rows, ..FULL };
     let half = FULL.zones / 2;
     let z = (0..FULL.zones).map(|zone| if zone < half { s.position } else { -s.position }).collect();
-    let mut b = vec![[0, 1, s.lta]];
+    let mut b = vec![without_hubs(0, 1, s.lta)];
     for k in 0..FULL.borders - 1 {
         let (from, to) = (k % half, half + (k / half + k % half) % half);
-        b.push([from as i64, to as i64, s.lta]);
+        b.push(without_hubs(from as i64, to as i64, s.lta));
     }
     let mut c = Vec::new();
     let mut f: Vec<i64> = Vec::new();
@@ -344,7 +359,7 @@ fn ceiling() -> u64 {
 /// so that the extraction accepts the table.
 fn longest_sheet() -> Tables {
     let header = Header { zones: 16, borders: 12, rows: 200 };
-    let b = (0..12).map(|i| [i % 8, 8 + i / 8, 10_000]).collect();
+    let b = (0..12).map(|i| without_hubs(i % 8, 8 + i / 8, 10_000)).collect();
     let c = vec![[10_000_000, 0, 0, 0, -1, 0, 0]; header.rows];
     let end = |row: usize, zone: usize| if (zone < 8) == (row % 2 == 0) { -100_000 } else { 100_000 };
     let f = (0..header.rows).flat_map(|row| (0..header.zones).map(move |zone| end(row, zone))).collect();
@@ -380,6 +395,8 @@ fn main() {
     put(&directory, "worked", "the hour of the rules", &worked);
     let planner = second::read(PLANNER.replace(' ', "\t").as_bytes(), [usize::MAX; 4]).expect("the small hour");
     put(&directory, "planner", "a small hour for the corner sheet", &planner);
+    let cable = second::read(CABLE.replace(' ', "\t").as_bytes(), [usize::MAX; 4]).expect("the hour with a cable");
+    put(&directory, "cable", "a small hour with a cable", &cable);
     put(&directory, "sheet", "the longest corner sheet", &longest_sheet());
     put(&directory, "plain", &format!("seed {SEED_PLAIN}"), &plausible(SEED_PLAIN, PLAIN));
     let (t, seed) = busy();

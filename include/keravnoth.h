@@ -13,7 +13,10 @@
  * names below, KERAVNOTH_B_FROM and so on)
  *   header   zones 2..16, borders 1..40, rows 1..200
  *   z        one int64_t a zone: reference net position, -100000000..100000000
- *   b        from zone, to zone (both exist, not equal), LTA 0..10000
+ *   b        from zone, to zone (both exist, not equal), LTA 0..10000, and the
+ *            hubs of a cable that is modelled by two: sending hub, receiving hub
+ *            (both are zones that exist, not equal; each may be from or to), or
+ *            -1 and -1 where the border has none
  *   c        Fmax 1..10000000, FRM 0..Fmax, Fref -20000000..20000000, F0all the
  *            same, R 0..10000 or -1 where "-" is written (it means 7000),
  *            CVA 0..10000000, IVA 0..10000000
@@ -30,16 +33,19 @@
  *   flows    (out of keravnoth_corner_flows) one int64_t a corner, corner 0
  *            first; corner k uses border b at its whole LTA where bit b of k is
  *            set, else at 0; its flow in grains is the sum over the used borders
- *            of (from factor - to factor) * LTA in kW, without F0core, and may be
- *            negative
+ *            of (from factor - to factor) * LTA in kW, of a border with hubs (from
+ *            factor - sending + receiving - to factor) * LTA, without F0core, and
+ *            may be negative
  *
  * REFUSALS (field number of every answer; 0: no refusal; names below)
  *   1  more than 65,536 bytes                                       place 0
  *   2  the first faulty line has the wrong form, kind, index or
  *      field count, is missing, has no LF, or is extra              place: line, from 1
  *   3  the first faulty line has right form, a value outside its
- *      range; or a lent record or header that no text could give    place: line, from 1
- *   4  same from and to as an earlier border                        place: first such border
+ *      range, a hub that does not exist, two equal hubs; or a lent
+ *      record or header that no text could give (one hub alone)     place: line, from 1
+ *   4  same from and to, and same hubs in their order, as an
+ *      earlier border; one with hubs is never one without           place: first such border
  *   5  no row of state 0                                            place 0
  *   6  a border that loads no kept row                              place: first such border
  *   7  a kept row's starting margin is below 0                      place: first such row
@@ -99,7 +105,7 @@
 extern "C" {
 #endif
 
-#define KERAVNOTH_VERSION 2
+#define KERAVNOTH_VERSION 3
 
 /* The largest table, in items. */
 enum {
@@ -137,12 +143,16 @@ enum {
     KERAVNOTH_NO_CORNER_SHEET = 9
 };
 
-/* The fields of a record of b, and how many there are. */
+/* The fields of a record of b, and how many there are; both hubs where the border has
+   none. */
 enum {
     KERAVNOTH_B_FROM,
     KERAVNOTH_B_TO,
     KERAVNOTH_B_LTA,
-    KERAVNOTH_B_ITEMS
+    KERAVNOTH_B_SENDING,
+    KERAVNOTH_B_RECEIVING,
+    KERAVNOTH_B_ITEMS,
+    KERAVNOTH_NO_HUB = -1
 };
 
 /* .. of c; R where "-" is written. */
@@ -188,7 +198,7 @@ enum {
     KERAVNOTH_WRITE_STACK = 1024,
     KERAVNOTH_EXTRACT_STACK = 79872,
     KERAVNOTH_RESULT_TEXT_STACK = 81920,
-    KERAVNOTH_ANSWER_STACK = 119808,
+    KERAVNOTH_ANSWER_STACK = 120832,
     KERAVNOTH_CORNER_FLOWS_STACK = 2048,
     KERAVNOTH_CORNER_TEXT_STACK = 34816
 };

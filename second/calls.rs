@@ -66,7 +66,7 @@ pub struct Bridge {
 pub struct Lent<'a> {
     pub header: [usize; 3],
     pub z: &'a mut [i64],
-    pub b: &'a mut [[i64; 3]],
+    pub b: &'a mut [[i64; 5]],
     pub c: &'a mut [[i64; 7]],
     pub f: &'a mut [i64],
 }

@@ -27,7 +27,7 @@ mod second;
 use calls::wire::{Item, AFTER, BEFORE};
 use calls::{Bridge, Ended, Extracted, Flows, Read, Written};
 use dice::Dice;
-use second::{Header, Outcome, Refusal, Tables};
+use second::{Border, Header, Outcome, Refusal, Tables, LTA, NO_HUB, RECEIVING, SENDING};
 use std::collections::BTreeMap;
 use std::ffi::OsString;
 use std::fmt::Debug;
@@ -40,6 +40,8 @@ const SEED: u64 = 20_260_101;
 const SHEET_EVERY: u64 = 30;
 /// Its borders run from 1 to this: some above the 12 that a sheet may have.
 const SHEET_BORDERS: u64 = 16;
+/// One table in so many has, beside it, tables made for the hubs.
+const HUBS_EVERY: u64 = 8;
 
 // --------------------------------------------------------------- lent memory
 
@@ -124,7 +126,7 @@ impl<T: Mark> Lent<T> {
 struct LentTables {
     header: Header,
     z: Lent<i64>,
-    b: Lent<[i64; 3]>,
+    b: Lent<Border>,
     c: Lent<[i64; 7]>,
     f: Lent<i64>,
 }
@@ -421,7 +423,7 @@ impl Comparison {
             let mut load: i128 = 0;
             for border in 0..borders {
                 let found = p[row * borders + border];
-                let own = if state == 0 { difference(l, row, border).max(0) as u64 } else { 0 };
+                let own = if state == 0 { signed_factor(l, row, border).max(0) as u64 } else { 0 };
                 if found != own {
                     let details = format!("row {row}, border {border}: p is {found}, by the zone factors {own}");
                     self.fail("keravnoth_extract", &details, &l.shown());
@@ -561,8 +563,8 @@ impl Comparison {
         self.corners += flows.len() as u64;
         let mut s: i128 = 0;
         for border in 0..l.header.borders {
-            let p = difference(l, row, border).max(0);
-            s += i128::from(p) * i128::from(l.b.part()[border][2]) * 1_000;
+            let p = signed_factor(l, row, border).max(0);
+            s += i128::from(p) * i128::from(l.b.part()[border][LTA]) * 1_000;
         }
         let largest = flows.iter().max().map(|flow| i128::from(*flow));
         if largest != Some(s) {
@@ -654,11 +656,106 @@ impl Comparison {
         let borders = 1 + number % SHEET_BORDERS;
         let t = make::of_borders(d, borders as usize);
         let h = t.header;
-        let needed = [h.zones, h.borders, h.rows, h.rows * h.zones];
+        let needed = needed(h);
         let counts = with_extra(d, needed);
         let mut l = LentTables::new(d, &t, counts);
         self.sheet(d, &mut l);
         self.bad_tables(d, &t, needed);
+    }
+
+    // --------------------------------------------------------------- hubs
+
+    /// Hubs of one border as text and as a record, each way in turn, and two
+    /// borders apart by their hubs or by nothing.
+    fn hub_tables(&mut self, number: u64) {
+        self.kind = "hub table";
+        self.number = number;
+        let mut dice = Dice::for_case(self.seed, 4, number);
+        let d = &mut dice;
+        let borders = 1 + d.below(4);
+        let t = make::of_borders(d, borders);
+        let zones = t.header.zones as i64;
+        let border = d.below(t.header.borders);
+        let way = damage::hub_text(d, zones, &t.b[border], number % damage::HUB_TEXTS);
+        let text = damage::with_hub_text(&t, border, &way.fields);
+        let reading = self.reading_and_answer(d, &text);
+        // a good line may still give a border twice
+        let line = 2 + t.header.zones + border;
+        let number_found = reading.err().map_or((0, line), |refusal| (refusal.number, refusal.place));
+        if number_found != (way.number, line) && (way.number != 0 || number_found.0 != 4) {
+            let details = format!("hubs {}: refusal {number_found:?}, by the rules {}", way.name, way.number);
+            self.fail("keravnoth_read", &details, &text);
+        }
+        self.see(&format!("hubs as text, {}", way.name));
+
+        let way = damage::hub_record(d, zones, &t.b[border], number % damage::HUB_RECORDS);
+        let mut lent = t.clone();
+        lent.b[border][SENDING] = way.hubs[0];
+        lent.b[border][RECEIVING] = way.hubs[1];
+        let found = self.any_call(d, &lent);
+        if way.refused != (found == Some(Refusal { number: 3, place: line })) {
+            let details = format!("hubs {}: {found:?}, by the rules refused: {}", way.name, way.refused);
+            self.fail("a call on lent tables", &details, &damage::plain_text(&lent));
+        }
+        self.see(&format!("lent hubs, {}", way.name));
+
+        let mut twins = make::of_borders(d, 2);
+        if twins.header.zones > 2 {
+            let way = (number % damage::TWINS.len() as u64) as usize;
+            let (name, twice) = damage::TWINS[way];
+            damage::twins(d, &mut twins, way);
+            let text = damage::plain_text(&twins);
+            let reading = self.reading_and_answer(d, &text).err();
+            let found = self.any_call(d, &twins);
+            let given_twice = Some(Refusal { number: 4, place: 1 });
+            if twice != (reading == given_twice) || twice != (found == given_twice) {
+                let details = format!("twins, {name}: {reading:?}, {found:?}, by the rules 4: {twice}");
+                self.fail("a call", &details, &text);
+            }
+            self.see(&format!("twins, {name}"));
+        }
+    }
+
+    /// Reading and the answer, each with room enough.
+    fn reading_and_answer(&mut self, d: &mut Dice, text: &[u8]) -> Result<Tables, Refusal> {
+        let room = match second::read(text, [usize::MAX; 4]) {
+            Ok(t) => with_extra(d, needed(t.header)),
+            Err(_) => [8; 4],
+        };
+        let answer = second::answer(text);
+        self.answer(d, text, &answer, answer.len());
+        let reading = self.read(d, text, room);
+        if let Ok(t) = &reading {
+            let mut l = LentTables::new(d, t, needed(t.header));
+            let written = self.write(d, &mut l, text.len());
+            if written.as_deref() != Ok(text) {
+                self.fail("keravnoth_write", "a text read and written again is another", text);
+            }
+        }
+        reading
+    }
+
+    /// One of the calls on lent tables, with room enough: its refusal.
+    fn any_call(&mut self, d: &mut Dice, t: &Tables) -> Option<Refusal> {
+        let h = t.header;
+        let mut l = LentTables::new(d, t, needed(h));
+        let row = d.below(h.rows);
+        match d.below(5) {
+            0 => {
+                let room = second::write(h, &t.z, &t.b, &t.c, &t.f, usize::MAX).map_or(9, |text| text.len());
+                self.write(d, &mut l, room).err()
+            }
+            1 => self.extract(d, &mut l, [h.rows * h.borders, h.borders, h.rows]).err(),
+            2 => {
+                let room = second::result_text(h, &t.z, &t.b, &t.c, &t.f, usize::MAX).map_or(9, |text| text.len());
+                self.result_text(d, &mut l, room).err()
+            }
+            3 => self.corner_flows(d, &mut l, row, 1 << h.borders).err(),
+            _ => {
+                let room = second::corner_text(h, &t.z, &t.b, &t.c, &t.f, row, usize::MAX).map_or(9, |text| text.len());
+                self.corner_text(d, &mut l, row, room).err()
+            }
+        }
     }
 
     // ----------------------------------------------------------- demand 3
@@ -701,7 +798,7 @@ impl Comparison {
         for _ in 0..4 {
             let row = d.below(l.header.rows);
             let exchanges: Vec<i64> = (0..borders)
-                .map(|border| if difference(l, row, border) > 0 { tops[border] } else { 0 })
+                .map(|border| if signed_factor(l, row, border) > 0 { tops[border] } else { 0 })
                 .collect();
             self.within_margins(l, left, &exchanges);
         }
@@ -716,7 +813,7 @@ impl Comparison {
             }
             let mut load: i128 = 0;
             for (border, exchange) in exchanges.iter().enumerate() {
-                load += i128::from(difference(l, row, border)) * i128::from(*exchange);
+                load += i128::from(signed_factor(l, row, border)) * i128::from(*exchange);
             }
             if load > i128::from(ram) {
                 let details = format!("exchanges {exchanges:?} kW load row {row} with {load} grains, RAM {ram}");
@@ -735,7 +832,7 @@ impl Comparison {
         let (t, aim) = make::table(d);
         let h = t.header;
         let text = damage::plain_text(&t);
-        let needed = [h.zones, h.borders, h.rows, h.rows * h.zones];
+        let needed = needed(h);
         let heavy = h.borders * h.rows > 1_500;
         self.see(&format!("aim {aim:?}"));
         self.sizes(h);
@@ -1014,8 +1111,24 @@ impl Comparison {
         if o.rows.iter().any(|row| row.ram < 0) {
             self.see("accepted, a RAM below 0");
         }
-        if t.b.iter().any(|b| b[2] > 0) {
+        if t.b.iter().any(|b| b[LTA] > 0) {
             self.see("accepted, an LTA");
+        }
+        let hubs = t.b.iter().filter(|b| b[SENDING] != NO_HUB).count();
+        if hubs > 0 {
+            self.see("accepted, hubs");
+        }
+        if hubs > 0 && hubs < h.borders {
+            self.see("accepted, some borders with hubs");
+        }
+        if t.b.iter().any(|b| b[..LTA].contains(&b[SENDING]) || b[..LTA].contains(&b[RECEIVING])) {
+            self.see("accepted, a hub that is from or to");
+        }
+        if o.p.iter().any(|p| *p > 200_000) {
+            self.see("accepted, p over 200000");
+        }
+        if t.b.iter().enumerate().any(|(i, b)| t.b[..i].iter().any(|other| other[..LTA] == b[..LTA])) {
+            self.see("accepted, borders apart by hubs alone");
         }
         if o.atc.iter().any(|atc| *atc > u64::from(u32::MAX)) {
             self.see("accepted, an ATC over 32 bits");
@@ -1051,7 +1164,7 @@ impl Comparison {
             }
         }
         let kept: Vec<usize> = (0..h.rows).filter(|row| o.rows[*row].state == 0).collect();
-        let loads = |row: usize, b: &[i64; 3]| t.f[row * zones + b[0] as usize] > t.f[row * zones + b[1] as usize];
+        let loads = |row: usize, b: &Border| make::signed_factor(&t.f[row * zones..], b) > 0;
         if kept.iter().any(|row| !t.b.iter().any(|b| loads(*row, b))) {
             self.see("accepted, a kept row that no border loads");
         }
@@ -1083,7 +1196,7 @@ impl Comparison {
             Ok(tables) => tables.header,
             Err(_) => t.header,
         };
-        let needed = [h.zones, h.borders, h.rows, h.rows * h.zones];
+        let needed = needed(h);
         let room = match d.below(4) {
             0 => [0; 4],
             1 => needed.map(|items| d.below(items + 2)),
@@ -1132,11 +1245,9 @@ fn extracted(l: &LentTables, room: [usize; 3]) -> Result<Outcome, Refusal> {
     second::extract(l.header, l.z.part(), l.b.part(), l.c.part(), l.f.part(), p, borders, rows)
 }
 
-/// From factor less to factor.
-fn difference(l: &LentTables, row: usize, border: usize) -> i64 {
-    let own = &l.f.part()[row * l.header.zones..];
-    let [from, to, _] = l.b.part()[border];
-    own[from as usize] - own[to as usize]
+/// From factor less to factor, with hubs.
+fn signed_factor(l: &LentTables, row: usize, border: usize) -> i64 {
+    make::signed_factor(&l.f.part()[row * l.header.zones..], &l.b.part()[border])
 }
 
 /// Less room than is needed; none where none is.
@@ -1164,6 +1275,11 @@ fn no_row(d: &mut Dice, rows: usize) -> usize {
         _ => usize::MAX,
     };
     row.max(rows)
+}
+
+/// The items of z, b, c and f that a header needs.
+fn needed(h: Header) -> [usize; 4] {
+    [h.zones, h.borders, h.rows, h.rows * h.zones]
 }
 
 /// As many items as needed, and often a few more.
@@ -1246,6 +1362,23 @@ fn wanted() -> Vec<(String, u64)> {
     add("accepted, spread 5000", 200);
     add("accepted, spread 4999", 200);
     add("accepted, a kept row that no border loads", 50);
+    add("accepted, hubs", 2_000);
+    add("accepted, some borders with hubs", 1_000);
+    add("accepted, a hub that is from or to", 1_000);
+    add("accepted, p over 200000", 200);
+    add("accepted, borders apart by hubs alone", 500);
+    let mut d = Dice::new(0);
+    for way in 0..damage::HUB_TEXTS {
+        let name = damage::hub_text(&mut d, 3, &second::without_hubs(0, 1, 0), way).name;
+        add(&format!("hubs as text, {name}"), 100);
+    }
+    for way in 0..damage::HUB_RECORDS {
+        let name = damage::hub_record(&mut d, 3, &second::without_hubs(0, 1, 0), way).name;
+        add(&format!("lent hubs, {name}"), 100);
+    }
+    for (name, _) in damage::TWINS {
+        add(&format!("twins, {name}"), 100);
+    }
     add("text of 65,536 bytes", 20);
     add("text of 65,537 bytes", 20);
     add("empty text", 10);
@@ -1333,6 +1466,9 @@ fn main() {
             c.table(number);
             if number % SHEET_EVERY == 0 {
                 c.sheet_table(number / SHEET_EVERY);
+            }
+            if number % HUBS_EVERY == 0 {
+                c.hub_tables(number / HUBS_EVERY);
             }
         }
         if number < texts {

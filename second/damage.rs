@@ -2,7 +2,7 @@
 #![allow(dead_code)]
 
 use crate::dice::Dice;
-use crate::second::{Header, Tables};
+use crate::second::{Border, Header, Tables, LTA, NO_HUB, RECEIVING, SENDING};
 
 /// The table as text, without judging it: any number as it is.
 pub fn plain_text(t: &Tables) -> Vec<u8> {
@@ -11,8 +11,12 @@ pub fn plain_text(t: &Tables) -> Vec<u8> {
     for (i, position) in t.z.iter().enumerate() {
         s += &format!("Z\t{i}\t{position}\n");
     }
-    for (i, [from, to, lta]) in t.b.iter().enumerate() {
-        s += &format!("B\t{i}\t{from}\t{to}\t{lta}\n");
+    for (i, [from, to, lta, sending, receiving]) in t.b.iter().enumerate() {
+        s += &format!("B\t{i}\t{from}\t{to}\t{lta}");
+        if [*sending, *receiving] != [NO_HUB, NO_HUB] {
+            s += &format!("\t{sending}\t{receiving}");
+        }
+        s += "\n";
     }
     for (i, [fmax, frm, fref, f0all, r, cva, iva]) in t.c.iter().enumerate() {
         let r = if *r == -1 { "-".to_string() } else { r.to_string() };
@@ -52,7 +56,7 @@ fn ends(d: &mut Dice, letter: &[u8], place: usize, fields: &[Vec<u8>], zones: i6
         (b"H", 2) => (1, 40),
         (b"H", 3) => (1, 200),
         (b"Z", 2) => (-100_000_000, 100_000_000),
-        (b"B", 2 | 3) => (0, zones - 1),
+        (b"B", 2 | 3 | 5 | 6) => (0, zones - 1),
         (b"B", 4) => (0, 10_000),
         (b"C", 2) => (1, 10_000_000),
         (b"C", 3) => (0, fmax),
@@ -174,6 +178,168 @@ fn in_a_field(d: &mut Dice, text: &mut Vec<u8>, zones: i64) {
     *text = lines.concat();
 }
 
+/// Another ending of a B line: hubs more or fewer, other ones, in other order.
+fn in_the_hubs(d: &mut Dice, text: &mut Vec<u8>, zones: i64) {
+    let mut lines = lines_of(text);
+    let borders: Vec<usize> = (0..lines.len()).filter(|line| lines[*line].starts_with(b"B\t")).collect();
+    if borders.is_empty() {
+        return;
+    }
+    let line = d.of(&borders);
+    let mut fields = fields_of(&lines[line]);
+    let some = |d: &mut Dice| d.within(0, zones - 1).to_string().into_bytes();
+    match d.below(8) {
+        0 => fields.truncate(5),
+        1 => fields.truncate(6),
+        2 => fields.push(some(d)),
+        3 => fields.extend([some(d), some(d)]),
+        4 if fields.len() == 7 => fields.swap(5, 6),
+        5 if fields.len() == 7 => fields[6] = fields[5].clone(),
+        6 if fields.len() == 7 => {
+            let own = 2 + d.below(2);
+            fields[5 + d.below(2)] = fields[own].clone();
+        }
+        _ => {
+            // another line's from, to and hubs, with this line's index
+            let like = fields_of(&lines[d.of(&borders)]);
+            let index = fields[1].clone();
+            fields = like;
+            if fields.len() > 1 {
+                fields[1] = index;
+            }
+        }
+    }
+    lines[line] = line_from(&fields);
+    *text = lines.concat();
+}
+
+/// A way to write a B line's hubs: its name, the fields after LTA, and the
+/// refusal of the line, 0 where it is good.
+pub struct HubText {
+    pub name: &'static str,
+    pub fields: String,
+    pub number: u32,
+}
+
+/// How many such ways there are.
+pub const HUB_TEXTS: u64 = 18;
+
+pub fn hub_text(d: &mut Dice, zones: i64, border: &Border, way: u64) -> HubText {
+    let [from, to, ..] = *border;
+    let one = d.within(0, zones - 1);
+    let other = (one + d.within(1, zones - 1)) % zones;
+    let beside = |zone: i64| (zone + 1) % zones;
+    let (name, hubs, number) = match way {
+        0 => ("none", String::new(), 0),
+        1 => ("two", format!("\t{one}\t{other}"), 0),
+        2 => ("one only", format!("\t{one}"), 2),
+        3 => ("three", format!("\t{one}\t{other}\t{one}"), 2),
+        4 => ("second empty", format!("\t{one}\t"), 2),
+        5 => ("first empty", format!("\t\t{other}"), 2),
+        6 => ("both -1", "\t-1\t-1".to_string(), 2),
+        7 => ("both \"-\"", "\t-\t-".to_string(), 2),
+        8 => ("a leading zero", format!("\t{one}\t0{other}"), 2),
+        9 => ("sending no zone", format!("\t{zones}\t{other}"), 3),
+        10 => ("receiving no zone", format!("\t{one}\t{zones}"), 3),
+        11 => ("sending over 32 bits", format!("\t{}\t{other}", one + (1 << 32)), 3),
+        12 => ("equal", format!("\t{one}\t{one}"), 3),
+        13 => ("equal, no zone", "\t9999999999\t9999999999".to_string(), 3),
+        14 => ("sending is from", format!("\t{from}\t{}", beside(from)), 0),
+        15 => ("receiving is to", format!("\t{}\t{to}", beside(to)), 0),
+        16 => ("from and to", format!("\t{from}\t{to}"), 0),
+        _ => ("to and from", format!("\t{to}\t{from}"), 0),
+    };
+    HubText { name, fields: hubs, number }
+}
+
+/// The table's text with another ending of one B line.
+pub fn with_hub_text(t: &Tables, border: usize, fields: &str) -> Vec<u8> {
+    let mut lines = lines_of(&plain_text(t));
+    let line = 1 + t.header.zones + border;
+    let mut own = fields_of(&lines[line]);
+    own.truncate(5);
+    let last = own.len() - 1;
+    own[last].extend(fields.bytes());
+    lines[line] = line_from(&own);
+    lines.concat()
+}
+
+/// Hubs of a lent record: their name, both numbers, and whether it is refused.
+pub struct HubRecord {
+    pub name: &'static str,
+    pub hubs: [i64; 2],
+    pub refused: bool,
+}
+
+/// How many such there are.
+pub const HUB_RECORDS: u64 = 19;
+
+pub fn hub_record(d: &mut Dice, zones: i64, border: &Border, way: u64) -> HubRecord {
+    let [from, to, ..] = *border;
+    let one = d.within(0, zones - 1);
+    let other = (one + d.within(1, zones - 1)) % zones;
+    let (name, hubs, refused) = match way {
+        0 => ("none", [-1, -1], false),
+        1 => ("two", [one, other], false),
+        2 => ("sending -1", [-1, other], true),
+        3 => ("receiving -1", [one, -1], true),
+        4 => ("sending -2", [-2, other], true),
+        5 => ("receiving -2", [one, -2], true),
+        6 => ("both -2", [-2, -2], true),
+        7 => ("-2 and -1", [-2, -1], true),
+        8 => ("-1 and -2", [-1, -2], true),
+        9 => ("-2 and -3", [-2, -3], true),
+        10 => ("equal", [one, one], true),
+        11 => ("sending no zone", [zones, other], true),
+        12 => ("receiving no zone", [one, zones], true),
+        13 => ("sending over 32 bits", [one + (1 << 32), other], true),
+        14 => ("receiving over 32 bits", [one, other | 1 << 40], true),
+        15 => ("both over 32 bits and -1", [(1 << 32) - 1, (1 << 32) - 1], true),
+        16 => ("at the ends", d.of(&[[i64::MIN, i64::MAX], [i64::MIN, other], [one, i64::MAX], [i64::MAX, i64::MIN]]), true),
+        17 => ("from and to", [from, to], false),
+        _ => ("to and from", [to, from], false),
+    };
+    HubRecord { name, hubs, refused }
+}
+
+/// Two borders with the same from and to: how their hubs differ, and whether the
+/// later is given twice.
+pub const TWINS: [(&str, bool); 8] = [
+    ("no hubs", true),
+    ("the same hubs", true),
+    ("hubs swapped", false),
+    ("hubs, then none", false),
+    ("none, then hubs", false),
+    ("another sending", false),
+    ("another receiving", false),
+    ("back, hubs swapped", false),
+];
+
+/// Makes border 1 a twin of border 0 in a way of TWINS; there are three zones or
+/// more.
+pub fn twins(d: &mut Dice, t: &mut Tables, way: usize) {
+    let zones = t.header.zones as i64;
+    let one = d.within(0, zones - 1);
+    let other = (one + d.within(1, zones - 1)) % zones;
+    let third = (0..zones).find(|zone| *zone != one && *zone != other).expect("a third zone");
+    let [from, to, first, ..] = t.b[0];
+    let lta = if d.one_in(2) { first } else { t.b[1][LTA] };
+    let (earlier, later) = match way {
+        0 => ([-1, -1], [-1, -1]),
+        1 => ([one, other], [one, other]),
+        2 | 7 => ([one, other], [other, one]),
+        3 => ([one, other], [-1, -1]),
+        4 => ([-1, -1], [one, other]),
+        5 => ([one, other], [third, other]),
+        _ => ([one, other], [one, third]),
+    };
+    t.b[0] = [from, to, first, earlier[0], earlier[1]];
+    t.b[1] = [from, to, lta, later[0], later[1]];
+    if way == 7 {
+        t.b[1].swap(0, 1);
+    }
+}
+
 fn in_the_lines(d: &mut Dice, text: &mut Vec<u8>) {
     let mut lines = lines_of(text);
     if lines.is_empty() {
@@ -284,10 +450,11 @@ pub fn damage(d: &mut Dice, text: &mut Vec<u8>, zones: usize) {
     }
     let places = d.of(&[1, 1, 1, 2, 2, 3]);
     for _ in 0..places {
-        match d.below(12) {
+        match d.below(13) {
             0..=2 => in_a_byte(d, text),
             3..=4 => in_the_lines(d, text),
             5 => at_the_end(d, text),
+            6 => in_the_hubs(d, text, zones as i64),
             _ => in_a_field(d, text, zones as i64),
         }
     }
@@ -321,11 +488,13 @@ pub fn damage_record(d: &mut Dice, t: &mut Tables) {
         }
         2..=4 => {
             let i = d.below(t.b.len());
-            let place = d.below(3);
+            let place = d.below(5);
             let last = h.zones as i64 - 1;
-            let high = if place == 2 { 10_000 } else { last };
+            let high = if place == LTA { 10_000 } else { last };
             t.b[i][place] = match d.below(6) {
-                0 if place < 2 => t.b[i][1 - place],
+                0 if place < LTA => t.b[i][1 - place],
+                0 if place > LTA => t.b[i][SENDING + RECEIVING - place],
+                1 if place > LTA => NO_HUB,
                 _ => odd(d, t.b[i][place], 0, high),
             };
         }
@@ -349,8 +518,9 @@ pub fn damage_record(d: &mut Dice, t: &mut Tables) {
             if t.b.len() > 1 {
                 let later = 1 + d.below(t.b.len() - 1);
                 let earlier = d.below(later);
-                t.b[later][0] = t.b[earlier][0];
-                t.b[later][1] = t.b[earlier][1];
+                let lta = t.b[later][LTA];
+                t.b[later] = t.b[earlier];
+                t.b[later][LTA] = lta;
             }
         }
     }

@@ -4,7 +4,7 @@
 #![allow(dead_code)]
 
 use crate::dice::Dice;
-use crate::second::{margin_of, Header, Tables};
+use crate::second::{margin_of, without_hubs, Border, Header, Tables, LTA, NO_HUB};
 
 /// What a table is made to show.  What it gives in the end is judged by the
 /// reference, not by this name.
@@ -75,7 +75,6 @@ fn sizes(d: &mut Dice) -> Header {
         992..=996 => (d.within(2, 16), d.within(1, 40), d.within(1, 200)),
         _ => (16, 40, 200),
     };
-    let borders = borders.min(zones * (zones - 1));
     Header { zones: zones as usize, borders: borders as usize, rows: rows as usize }
 }
 
@@ -94,17 +93,58 @@ fn net_positions(d: &mut Dice, style: Style, zones: usize) -> Vec<i64> {
     z
 }
 
-fn borders(d: &mut Dice, style: Style, zones: usize, count: usize) -> Vec<[i64; 3]> {
+/// Which borders of a table have hubs.
+#[derive(Clone, Copy, PartialEq, Eq)]
+enum Hubs {
+    None,
+    Some,
+    All,
+}
+
+/// How many borders there can be, no two the same.
+fn most_borders(hubs: Hubs, zones: usize) -> usize {
+    let pairs = zones * (zones - 1);
+    match hubs {
+        Hubs::None => pairs,
+        Hubs::Some => pairs * (1 + pairs),
+        Hubs::All => pairs * pairs,
+    }
+}
+
+/// Two zones that are not equal.
+fn pair(d: &mut Dice, zones: usize) -> [i64; 2] {
+    let one = d.below(zones);
+    let other = (one + 1 + d.below(zones - 1)) % zones;
+    [one as i64, other as i64]
+}
+
+/// From, to and hubs are those of both.
+pub fn same(one: &Border, other: &Border) -> bool {
+    one[..LTA] == other[..LTA] && one[LTA + 1..] == other[LTA + 1..]
+}
+
+fn borders(d: &mut Dice, style: Style, hubs: Hubs, zones: usize, count: usize) -> Vec<Border> {
     let small = d.one_in(2);
-    let mut b: Vec<[i64; 3]> = Vec::new();
+    let mut b: Vec<Border> = Vec::new();
     while b.len() < count {
-        let from = d.below(zones) as i64;
-        let to = d.below(zones) as i64;
-        if from == to || b.iter().any(|r| r[0] == from && r[1] == to) {
-            continue;
-        }
         let lta = if small { d.within(0, 20) } else { value(d, style, 0, 10_000, 100) };
-        b.push([from, to, lta]);
+        let [from, to] = pair(d, zones);
+        let mut border = without_hubs(from, to, lta);
+        if hubs == Hubs::All || hubs == Hubs::Some && d.one_in(2) {
+            let [sending, receiving] = pair(d, zones);
+            border = [from, to, lta, sending, receiving];
+        }
+        // often one that is apart from another only by its hubs, or only by their order
+        if hubs != Hubs::None && !b.is_empty() && d.one_in(3) {
+            let [from, to, _, sending, receiving] = b[d.below(b.len())];
+            let apart = if d.one_in(2) { [receiving, sending] } else { [border[3], border[4]] };
+            border = [from, to, lta, apart[0], apart[1]];
+        }
+        // its hubs undo such a border: no row limits it
+        let undone = border[..LTA] == border[LTA + 1..];
+        if !b.iter().any(|other| same(other, &border)) && (!undone || d.one_in(8)) {
+            b.push(border);
+        }
     }
     b
 }
@@ -199,12 +239,20 @@ fn limit_borders(d: &mut Dice, t: &mut Tables) {
         return;
     }
     for index in 0..t.b.len() {
-        let [from, to, lta] = t.b[index];
-        let given = t.b.iter().any(|r| r[0] == to && r[1] == from);
-        if t.f[from as usize] < t.f[to as usize] && !given {
-            t.b[index] = [to, from, lta];
+        let [from, to, lta, sending, receiving] = t.b[index];
+        let back = [to, from, lta, receiving, sending];
+        let given = t.b.iter().any(|other| same(other, &back));
+        if signed_factor(&t.f, &t.b[index]) < 0 && !given {
+            t.b[index] = back;
         }
     }
+}
+
+/// The signed factor of a border on the row whose factors stand in front.
+pub fn signed_factor(f: &[i64], border: &Border) -> i64 {
+    let [from, to, _, sending, receiving] = *border;
+    let hubs = if sending == NO_HUB { 0 } else { f[receiving as usize] - f[sending as usize] };
+    f[from as usize] - f[to as usize] + hubs
 }
 
 /// Row `row`'s CVA and IVA so that its starting margin is under one kW, or (by
@@ -242,8 +290,10 @@ fn ordinary(d: &mut Dice, aim: Aim, sizes: Header) -> Tables {
         header.borders = 2;
     }
     let style = d.of(&[Style::Near, Style::Near, Style::Any, Style::Ends, Style::Few, Style::Mixed]);
+    let hubs = d.of(&[Hubs::None, Hubs::None, Hubs::None, Hubs::Some, Hubs::Some, Hubs::All]);
+    header.borders = header.borders.min(most_borders(hubs, header.zones));
     let z = net_positions(d, style, header.zones);
-    let b = borders(d, style, header.zones, header.borders);
+    let b = borders(d, style, hubs, header.zones, header.borders);
     let parallel = d.of(&[0, 2, 4, 8]);
     let mut c: Vec<[i64; 7]> = Vec::new();
     let mut f: Vec<i64> = Vec::new();
@@ -278,8 +328,9 @@ fn ordinary(d: &mut Dice, aim: Aim, sizes: Header) -> Tables {
         Aim::Twice => {
             let later = 1 + d.below(header.borders - 1);
             let earlier = d.below(later);
-            t.b[later][0] = t.b[earlier][0];
-            t.b[later][1] = t.b[earlier][1];
+            let lta = t.b[later][LTA];
+            t.b[later] = t.b[earlier];
+            t.b[later][LTA] = lta;
         }
         Aim::Lifted => {
             limit_borders(d, &mut t);
@@ -305,6 +356,7 @@ fn slow(d: &mut Dice) -> Tables {
     let most = d.one_in(3);
     let zones = if most { 16 } else { 4 + 2 * d.below(7) };
     let half = zones / 2;
+    let hubs = d.one_in(3);
     let borders = if most { 36 + d.below(5) } else { 2 + d.below((half * half).min(39)) };
     let more_rows = d.below(3);
     let header = Header { zones, borders, rows: 2 + more_rows };
@@ -312,10 +364,21 @@ fn slow(d: &mut Dice) -> Tables {
     let z = (0..zones).map(|zone| if zone < half { position } else { -position }).collect();
     let mut pairs: Vec<(usize, usize)> =
         (0..half * half).map(|k| (k / half, half + k % half)).collect();
-    let mut b = vec![[0, 1, 0]];
+    // with hubs the factors add up to the same or to twice as much, and border 0 is as it was
+    let near = |d: &mut Dice| pair(d, half);
+    let across = |d: &mut Dice| [(half + d.below(half)) as i64, d.below(half) as i64];
+    let mut b = vec![without_hubs(0, 1, 0)];
+    if hubs && half > 3 {
+        b[0] = [0, 1, 0, 2, 3];
+    }
     while b.len() < borders {
         let (from, to) = pairs.swap_remove(d.below(pairs.len()));
-        b.push([from as i64, to as i64, 0]);
+        let [sending, receiving] = match d.below(3) {
+            0 if hubs => near(d),
+            1 if hubs => across(d),
+            _ => [NO_HUB, NO_HUB],
+        };
+        b.push([from as i64, to as i64, 0, sending, receiving]);
     }
     let small = d.of(&[1, 1, 2, 7, 1_000]);
     let mut f: Vec<i64> = Vec::new();
@@ -367,8 +430,8 @@ pub fn table(d: &mut Dice) -> (Tables, Aim) {
     (t, aim)
 }
 
-/// A small table of so many borders, for the corner sheet: often one that the
-/// extraction turns away.
+/// A small table of so many borders, for the corner sheet and for hubs: often one
+/// that the extraction turns away.
 pub fn of_borders(d: &mut Dice, borders: usize) -> Tables {
     let mut least = 2;
     while least * (least - 1) < borders {

@@ -37,7 +37,7 @@ impl<T> DerefMut for Lent<T> {
 struct LentTables {
     header: Header,
     z: Lent<i64>,
-    b: Lent<[i64; 3]>,
+    b: Lent<[i64; 5]>,
     c: Lent<[i64; 7]>,
     f: Lent<i64>,
 }

@@ -19,6 +19,20 @@ pub const R_DASH_MEANS: i128 = 7_000;
 /// "largest zone factor less smallest is under 5000"
 pub const SPREAD_KEPT: i64 = 5_000;
 
+/// Places of the values in a B record; the hubs are NO_HUB both where none are
+/// written.
+pub type Border = [i64; 5];
+pub const FROM: usize = 0;
+pub const TO: usize = 1;
+pub const LTA: usize = 2;
+pub const SENDING: usize = 3;
+pub const RECEIVING: usize = 4;
+pub const NO_HUB: i64 = -1;
+
+pub const fn without_hubs(from: i64, to: i64, lta: i64) -> Border {
+    [from, to, lta, NO_HUB, NO_HUB]
+}
+
 // Places of the values in a C record.
 const FMAX: usize = 0;
 const FRM: usize = 1;
@@ -40,8 +54,8 @@ pub struct Tables {
     pub header: Header,
     /// reference net positions, kW
     pub z: Vec<i64>,
-    /// from, to, LTA in MW
-    pub b: Vec<[i64; 3]>,
+    /// from, to, LTA in MW, sending hub, receiving hub
+    pub b: Vec<Border>,
     /// Fmax, FRM, Fref, F0all, R (-1 where "-" was written), CVA, IVA
     pub c: Vec<[i64; 7]>,
     /// "Row i's stretch starts at item i x zones."
@@ -130,10 +144,10 @@ fn dash_or_unsigned(field: &[u8]) -> Option<i64> {
 
 /// The letter, the field count and the index of a Z, B or C line; gives the
 /// fields after the index.
-fn form_of<'a>(line: &'a [u8], letter: &[u8], index: usize, count: usize) -> Option<Vec<&'a [u8]>> {
+fn form_of<'a>(line: &'a [u8], letter: &[u8], index: usize, counts: &[usize]) -> Option<Vec<&'a [u8]>> {
     let fields = fields_of(line)?;
-    // the letter, the index, and `count` values
-    if fields.len() != 2 + count {
+    // the letter, the index, and one of the counts of values
+    if !counts.iter().any(|count| fields.len() == 2 + count) {
         return None;
     }
     if fields[0] != letter {
@@ -156,19 +170,24 @@ fn form_h(line: &[u8]) -> Option<[i64; 3]> {
 
 /// "Z | index, reference net position"
 fn form_z(line: &[u8], index: usize) -> Option<i64> {
-    let v = form_of(line, b"Z", index, 1)?;
+    let v = form_of(line, b"Z", index, &[1])?;
     signed(v[0])
 }
 
-/// "B | index, from zone, to zone, LTA"
-fn form_b(line: &[u8], index: usize) -> Option<[i64; 3]> {
-    let v = form_of(line, b"B", index, 3)?;
-    Some([unsigned(v[0])?, unsigned(v[1])?, unsigned(v[2])?])
+/// "B | index, from zone, to zone, LTA"; "may carry two more fields, sending hub
+/// and receiving hub"
+fn form_b(line: &[u8], index: usize) -> Option<Border> {
+    let v = form_of(line, b"B", index, &[3, 5])?;
+    let mut record = without_hubs(0, 0, 0);
+    for (place, field) in v.iter().enumerate() {
+        record[place] = unsigned(field)?;
+    }
+    Some(record)
 }
 
 /// "C | index, Fmax, FRM, Fref, F0all, R or "-", CVA, IVA, then one factor per zone"
 fn form_c(line: &[u8], index: usize, zones: usize) -> Option<([i64; 7], Vec<i64>)> {
-    let v = form_of(line, b"C", index, 7 + zones)?;
+    let v = form_of(line, b"C", index, &[7 + zones])?;
     let record = [
         unsigned(v[FMAX])?,
         unsigned(v[FRM])?,
@@ -204,10 +223,23 @@ fn range_z(position: i64) -> bool {
 }
 
 /// "from zone, to zone (both exist, not equal), LTA in MW 0..10000"
-fn range_b(record: &[i64; 3], zones: usize) -> bool {
-    let [from, to, lta] = *record;
+fn range_b(record: &Border, zones: usize) -> bool {
+    let [from, to, lta, sending, receiving] = *record;
     let last = zones as i64 - 1;
-    within(from, 0, last) && within(to, 0, last) && from != to && within(lta, 0, 10_000)
+    within(from, 0, last)
+        && within(to, 0, last)
+        && from != to
+        && within(lta, 0, 10_000)
+        && range_hubs(sending, receiving, last)
+}
+
+/// "3 also for a hub that doesn't exist or for two equal hubs".  A hub may be the
+/// border's own from or to.
+fn range_hubs(sending: i64, receiving: i64, last: i64) -> bool {
+    if sending == NO_HUB && receiving == NO_HUB {
+        return true;
+    }
+    within(sending, 0, last) && within(receiving, 0, last) && sending != receiving
 }
 
 /// "Fmax kW 1..10000000, FRM kW 0..Fmax, Fref kW -20000000..20000000, F0all kW
@@ -246,11 +278,16 @@ fn line_c(header: Header, index: usize) -> usize {
 // Judging steps shared by reading and by calls on lent tables
 // ---------------------------------------------------------------------------
 
+/// "4 compares from, to and hubs"
+fn same_border(one: &Border, other: &Border) -> bool {
+    [FROM, TO, SENDING, RECEIVING].iter().all(|place| one[*place] == other[*place])
+}
+
 /// "4 | same from and to as an earlier border | first such border's index"
-fn judge_twice(b: &[[i64; 3]]) -> Result<(), Refusal> {
+fn judge_twice(b: &[Border]) -> Result<(), Refusal> {
     for later in 0..b.len() {
         for earlier in 0..later {
-            if b[earlier][0] == b[later][0] && b[earlier][1] == b[later][1] {
+            if same_border(&b[earlier], &b[later]) {
                 return refuse(4, later);
             }
         }
@@ -393,7 +430,7 @@ pub fn read(text: &[u8], room: [usize; 4]) -> Result<Tables, Refusal> {
 fn front_of(
     header: Header,
     z: &[i64],
-    b: &[[i64; 3]],
+    b: &[Border],
     c: &[[i64; 7]],
     f: &[i64],
 ) -> Result<Tables, Refusal> {
@@ -420,7 +457,7 @@ fn judge_values(tables: &Tables) -> Result<(), Refusal> {
 pub fn judge(
     header: Header,
     z: &[i64],
-    b: &[[i64; 3]],
+    b: &[Border],
     c: &[[i64; 7]],
     f: &[i64],
 ) -> Result<Tables, Refusal> {
@@ -496,7 +533,8 @@ fn table_text(tables: &Tables) -> Vec<u8> {
     }
     for (index, record) in tables.b.iter().enumerate() {
         let mut fields = vec![index.to_string()];
-        fields.extend(record.iter().map(|value| value.to_string()));
+        let written = if record[SENDING] == NO_HUB { &record[..SENDING] } else { &record[..] };
+        fields.extend(written.iter().map(|value| value.to_string()));
         push_line(&mut out, "B", &fields);
     }
     for (index, record) in tables.c.iter().enumerate() {
@@ -520,7 +558,7 @@ fn table_text(tables: &Tables) -> Vec<u8> {
 pub fn write(
     header: Header,
     z: &[i64],
-    b: &[[i64; 3]],
+    b: &[Border],
     c: &[[i64; 7]],
     f: &[i64],
     room: usize,
@@ -551,15 +589,21 @@ fn grains(kw: i64) -> i128 {
     i128::from(kw) * GRAINS_PER_KW
 }
 
-/// "from factor less to factor"
-fn difference(factors: &[i64], border: &[i64; 3]) -> i128 {
-    i128::from(factors[border[0] as usize]) - i128::from(factors[border[1] as usize])
+/// "from factor less to factor"; with hubs "from - sending hub + receiving hub -
+/// to"
+fn signed_factor(factors: &[i64], border: &Border) -> i128 {
+    let of = |place: usize| i128::from(factors[border[place] as usize]);
+    if border[SENDING] == NO_HUB {
+        of(FROM) - of(TO)
+    } else {
+        of(FROM) - of(SENDING) + of(RECEIVING) - of(TO)
+    }
 }
 
 /// "Border factor p = factor of the from zone less that of the to zone where
-/// this is positive, else 0."
-pub fn border_factor(factors: &[i64], border: &[i64; 3]) -> i128 {
-    let d = difference(factors, border);
+/// this is positive, else 0."  With hubs "p is its positive part" too.
+pub fn border_factor(factors: &[i64], border: &Border) -> i128 {
+    let d = signed_factor(factors, border);
     if d > 0 {
         d
     } else {
@@ -568,12 +612,12 @@ pub fn border_factor(factors: &[i64], border: &[i64; 3]) -> i128 {
 }
 
 /// The whole LTA of a border in kW.
-fn lta_kw(border: &[i64; 3]) -> i128 {
-    i128::from(border[2]) * KW_PER_MW
+fn lta_kw(border: &Border) -> i128 {
+    i128::from(border[LTA]) * KW_PER_MW
 }
 
 /// "It equals the sum of p times LTA."
-pub fn s_by_sum(factors: &[i64], borders: &[[i64; 3]]) -> i128 {
+pub fn s_by_sum(factors: &[i64], borders: &[Border]) -> i128 {
     let mut sum = 0;
     for border in borders {
         sum += border_factor(factors, border) * lta_kw(border);
@@ -583,13 +627,13 @@ pub fn s_by_sum(factors: &[i64], borders: &[[i64; 3]]) -> i128 {
 
 /// "A corner uses each border at 0 or at its whole LTA. S is the largest sum of
 /// (from factor less to factor) times exchange over all corners."
-pub fn s_by_corners(factors: &[i64], borders: &[[i64; 3]]) -> i128 {
+pub fn s_by_corners(factors: &[i64], borders: &[Border]) -> i128 {
     let mut largest: Option<i128> = None;
     for corner in 0u32..(1u32 << borders.len()) {
         let mut sum = 0;
         for (index, border) in borders.iter().enumerate() {
             let exchange = if corner & (1 << index) != 0 { lta_kw(border) } else { 0 };
-            sum += difference(factors, border) * exchange;
+            sum += signed_factor(factors, border) * exchange;
         }
         largest = match largest {
             Some(so_far) if so_far >= sum => Some(so_far),
@@ -599,7 +643,7 @@ pub fn s_by_corners(factors: &[i64], borders: &[[i64; 3]]) -> i128 {
     largest.expect("there is at least the corner with every border at 0")
 }
 
-fn s_of(factors: &[i64], borders: &[[i64; 3]]) -> i128 {
+fn s_of(factors: &[i64], borders: &[Border]) -> i128 {
     let s = s_by_sum(factors, borders);
     if cfg!(debug_assertions) && borders.len() <= 12 {
         assert_eq!(s, s_by_corners(factors, borders), "S both ways");
@@ -982,7 +1026,7 @@ fn check_outcome(tables: &Tables, kept: &[Kept], outcome: &Outcome) {
 pub fn extract(
     header: Header,
     z: &[i64],
-    b: &[[i64; 3]],
+    b: &[Border],
     c: &[[i64; 7]],
     f: &[i64],
     room_p: usize,
@@ -1029,7 +1073,7 @@ fn outcome_text(outcome: &Outcome) -> Vec<u8> {
 pub fn result_text(
     header: Header,
     z: &[i64],
-    b: &[[i64; 3]],
+    b: &[Border],
     c: &[[i64; 7]],
     f: &[i64],
     room: usize,
@@ -1097,11 +1141,11 @@ fn uses(corner: usize, border: usize) -> bool {
 
 /// "signed flow as summed for S, in grains": each used border at its whole LTA,
 /// the others at 0.
-fn corner_flow(factors: &[i64], borders: &[[i64; 3]], corner: usize) -> i128 {
+fn corner_flow(factors: &[i64], borders: &[Border], corner: usize) -> i128 {
     let mut sum = 0;
     for (index, border) in borders.iter().enumerate() {
         if uses(corner, index) {
-            sum += difference(factors, border) * lta_kw(border);
+            sum += signed_factor(factors, border) * lta_kw(border);
         }
     }
     sum
@@ -1127,7 +1171,7 @@ fn sheet_text(tables: &Tables, row: usize) -> Vec<u8> {
 pub fn corner_flows(
     header: Header,
     z: &[i64],
-    b: &[[i64; 3]],
+    b: &[Border],
     c: &[[i64; 7]],
     f: &[i64],
     row: usize,
@@ -1144,7 +1188,7 @@ pub fn corner_flows(
 pub fn corner_text(
     header: Header,
     z: &[i64],
-    b: &[[i64; 3]],
+    b: &[Border],
     c: &[[i64; 7]],
     f: &[i64],
     row: usize,

@@ -309,7 +309,8 @@ fn refusal_2_form() {
     }
     for line in [
         "B 0 -1 1 100", "B 0 0 -1 100", "B 0 0 1 -100", "B 0 0 1", "B 0 0 1 100 0", "B 1 0 1 100", "B 0 - 1 100",
-        "B 0 0 1 -",
+        "B 0 0 1 -", "B 0 0 1 100 2 0 1", "B 0 0 1 100 -1 -1", "B 0 0 1 100 - -", "B 0 0 1 100 2 -", "B 0 0 1 100 02 0",
+        "B 0 0 1 100 2 ", "B 0 0 1 100  2", "B 0 0 1 100 ", "B 0 9 9 99999 2",
     ] {
         assert_eq!(read_refusal(&hour_with(5, line)), Some((2, 5)), "{line}");
     }
@@ -461,7 +462,7 @@ fn lent_tables() {
     // longer lent tables: the front part
     let mut long = t.clone();
     long.z.push(i64::MIN);
-    long.b.push([9, 9, 9]);
+    long.b.push([9, 9, 9, 9, 9]);
     long.c.push([-5; 7]);
     long.f.push(i64::MAX);
     assert_eq!(j(&long), Ok(t.clone()));
@@ -487,8 +488,9 @@ fn lent_tables() {
     let mut one = t.clone();
     one.z[2] = -100_000_001;
     assert_eq!(j(&one), e(3, 4));
-    for record in [[-1, 0, 0], [0, -1, 0], [0, 3, 0], [1, 1, 0], [0, 1, -1], [0, 1, 10_001], [i64::MIN, i64::MAX, 0]] {
+    for [from, to, lta] in [[-1, 0, 0], [0, -1, 0], [0, 3, 0], [1, 1, 0], [0, 1, -1], [0, 1, 10_001], [i64::MIN, i64::MAX, 0]] {
         let mut one = t.clone();
+        let record = without_hubs(from, to, lta);
         one.b[1] = record;
         assert_eq!(j(&one), e(3, 6), "{record:?}");
     }
@@ -514,7 +516,7 @@ fn lent_tables() {
     }
     // 4 last
     let mut one = t.clone();
-    one.b[1] = [0, 1, 3];
+    one.b[1] = without_hubs(0, 1, 3);
     assert_eq!(j(&one), e(4, 1));
     one.f[11] = 100_001;
     assert_eq!(j(&one), e(3, 10));
@@ -541,12 +543,144 @@ fn room_for_results() {
     five.f = vec![0; 12];
     assert_eq!((x(&five, 0, 0), rt(&five, 0).map(|_| ())), (e(5, 0), e(5, 0)));
     let mut six = t.clone();
-    six.b[1] = [2, 1, 0];
+    six.b[1] = without_hubs(2, 1, 0);
     assert_eq!((x(&six, 0, 0), rt(&six, 0).map(|_| ())), (e(6, 1), e(6, 1)));
     let mut seven = t.clone();
     seven.c[1][6] = 10_000_000;
     assert_eq!((x(&seven, 0, 0), rt(&seven, 0).map(|_| ())), (e(7, 1), e(7, 1)));
     assert!(w(&seven, usize::MAX).is_ok());
+}
+
+// ----------------------------------------------------------------------- hubs
+
+/// From - sending hub + receiving hub - to.
+fn factor_by_hand(own: &[i64], border: &Border) -> i64 {
+    let zone = |place: usize| own[border[place] as usize];
+    if border[3] < 0 {
+        return zone(0) - zone(1);
+    }
+    zone(0) - zone(3) + zone(4) - zone(1)
+}
+
+/// Four zones, one row of 1,000 MW with factors 30000, 10000, 2000 and 500, and one
+/// border from 0 to 1 with an LTA of 100 MW.
+fn cable(hubs: &str) -> Vec<u8> {
+    text(&format!(
+        "H 4 1 1 / Z 0 0 / Z 1 0 / Z 2 0 / Z 3 0 / B 0 0 1 100{hubs} / C 0 1000000 0 0 0 0 0 0 30000 10000 2000 500"
+    ))
+}
+
+#[test]
+fn hubs_by_hand() {
+    // RAM is Fmax, 10^11 grains.  30000 - 2000 + 500 - 10000 = 18500, S 1.85 x 10^9,
+    // margin 98150000000: 5305405 kW more, 7500 grains left
+    assert_eq!(shown(&answer(&cable(" 2 3"))), "A 0 5405 / M 0 0 100000000000 7500 / R 1");
+    // the hubs the other way: 30000 - 500 + 2000 - 10000 = 21500, S 2.15 x 10^9,
+    // margin 97850000000: 4551162 kW more, 17000 grains left
+    assert_eq!(shown(&answer(&cable(" 3 2"))), "A 0 4651 / M 0 0 100000000000 17000 / R 1");
+    // no hubs: 20000, S 2 x 10^9, margin 98 x 10^9: 4900000 kW more
+    assert_eq!(shown(&answer(&cable(""))), "A 0 5000 / M 0 0 100000000000 0 / R 1");
+    let p = |hubs: &str| {
+        let t = read(&cable(hubs), ALL).unwrap();
+        out(&t).map(|o| o.p[0])
+    };
+    // a hub may be from or to: 30000 - 500 + 30000 - 10000; 30000 - 10000 + 2000 - 10000
+    assert_eq!((p(" 3 0"), p(" 1 2")), (Ok(49_500), Ok(12_000)));
+    // 30000 - 10000 + 30000 - 10000: the exchange goes both ways
+    assert_eq!(p(" 1 0"), Ok(40_000));
+    // 30000 - 30000 + 500 - 10000 and 30000 - 30000 + 10000 - 10000: not above 0
+    assert_eq!((p(" 0 3"), p(" 0 1")), (e(6, 0), e(6, 0)));
+    // written again as written
+    for hubs in ["", " 2 3", " 3 2", " 0 1", " 1 0"] {
+        assert_eq!(rewrite(&cable(hubs)), cable(hubs));
+    }
+    assert_eq!(read(&cable(" 2 3"), ALL).unwrap().b, vec![[0, 1, 100, 2, 3]]);
+    assert_eq!(read(&cable(""), ALL).unwrap().b, vec![[0, 1, 100, -1, -1]]);
+    // corners: the signed factor
+    let t = read(&cable(" 2 3"), ALL).unwrap();
+    assert_eq!(flows(&t, 0, 2), Ok(vec![0, 1_850_000_000]));
+    let t = read(&cable(" 0 3"), ALL).unwrap();
+    assert_eq!(flows(&t, 0, 2), Ok(vec![0, -950_000_000]));
+}
+
+#[test]
+fn hubs_are_zones_of_the_5_percent() {
+    let hour = |factor: &str| {
+        text(&format!(
+            "H 4 1 1 / Z 0 0 / Z 1 0 / Z 2 0 / Z 3 0 / B 0 0 1 0 2 3 / C 0 100000 0 0 0 0 0 0 0 0 0 {factor}"
+        ))
+    };
+    assert_eq!(shown(&answer(&hour("5000"))), "A 0 2000 / M 0 0 10000000000 0 / R 1");
+    assert_eq!(shown(&answer(&hour("4999"))), "E 5 0");
+}
+
+#[test]
+fn hub_refusals_of_text() {
+    for (hubs, number) in [
+        (" 4 0", 3), (" 0 4", 3), (" 2 2", 3), (" 0 0", 3), (" 9999999999 0", 3), (" 4 4", 3),
+        (" 2", 2), (" 2 3 0", 2), (" 2 3 0 1", 2), (" -1 -1", 2), (" -1 2", 2), (" - -", 2), (" 2 ", 2), ("  3", 2),
+        (" 4 x", 2), (" 02 3", 2), (" 4 4 4", 2),
+    ] {
+        assert_eq!(read_refusal(&cable(hubs)), Some((number, 6)), "{hubs}");
+    }
+    // a bad border before a bad row, a bad LTA as ever
+    assert_eq!(read_refusal(&text("H 2 1 1 / Z 0 0 / Z 1 0 / B 0 0 1 10001 0 1 / C")), Some((3, 4)));
+    assert_eq!(read_refusal(&text("H 2 1 1 / Z 0 0 / Z 1 0 / B 0 1 1 0 0 1 / C")), Some((3, 4)));
+}
+
+#[test]
+fn hub_refusals_of_records() {
+    let t = read(&cable(" 2 3"), ALL).unwrap();
+    let j = |hubs: [i64; 2]| {
+        let mut one = t.clone();
+        one.b[0] = [0, 1, 100, hubs[0], hubs[1]];
+        judge(one.header, &one.z, &one.b, &one.c, &one.f).map(|t| t.b[0])
+    };
+    for hubs in [[-1, -1], [2, 3], [3, 2], [0, 1], [1, 0], [0, 2], [3, 1]] {
+        assert_eq!(j(hubs), Ok([0, 1, 100, hubs[0], hubs[1]]));
+    }
+    for hubs in [
+        [-1, 0], [0, -1], [-2, -2], [-2, -1], [-1, -2], [-2, 0], [0, -2], [2, 2], [4, 0], [0, 4], [4, 4],
+        [i64::MIN, i64::MAX], [1 << 32, 1], [(1 << 32) - 1, (1 << 32) - 1],
+    ] {
+        assert_eq!(j(hubs), e(3, 6), "{hubs:?}");
+    }
+}
+
+#[test]
+fn borders_given_twice_with_hubs() {
+    let hour = |one: &str, other: &str| {
+        read_refusal(&text(&format!(
+            "H 4 2 1 / Z 0 0 / Z 1 0 / Z 2 0 / Z 3 0 / B 0 {one} / B 1 {other} / C 0 1 0 0 0 0 0 0 0 0 0 0"
+        )))
+    };
+    let twice = Some((4, 1));
+    assert_eq!(hour("0 1 5", "0 1 6"), twice);
+    assert_eq!(hour("0 1 5 2 3", "0 1 6 2 3"), twice);
+    assert_eq!(hour("0 1 5 2 3", "0 1 5 3 2"), None);
+    assert_eq!((hour("0 1 5 2 3", "0 1 5"), hour("0 1 5", "0 1 5 2 3")), (None, None));
+    assert_eq!((hour("0 1 5 2 3", "0 1 5 2 0"), hour("0 1 5 2 3", "0 1 5 0 3")), (None, None));
+    assert_eq!((hour("0 1 5 2 3", "1 0 5 3 2"), hour("0 1 5 2 3", "1 0 5 2 3")), (None, None));
+    // undone by its hubs, and still another border
+    assert_eq!(hour("0 1 5", "0 1 5 0 1"), None);
+}
+
+#[test]
+fn hubs_at_the_ends_of_the_ranges() {
+    // from and receiving at one end, to and sending at the other: p 400000
+    let mut t = read(&sized(16, 40, 1), ALL).unwrap();
+    t.f = (0..16).map(|zone| if zone < 8 { 100_000 } else { -100_000 }).collect();
+    for (index, border) in t.b.iter_mut().enumerate() {
+        let (a, b) = (index as i64 / 8, index as i64 % 8);
+        *border = [a, 8 + b, 10_000, 15 - a, b];
+    }
+    t.c[0] = [10_000_000, 10_000_000, 20_000_000, -20_000_000, 0, 0, 0];
+    let m = margin_of(&t, 0);
+    // 40 x 400000 x 10^7 kW
+    assert_eq!((m.s, m.ram), (160_000_000_000_000, 160_000_000_000_000));
+    let o = out(&t).unwrap();
+    assert_eq!((o.rounds, o.n_most), (0, 40));
+    assert!(o.p.iter().all(|p| *p == 400_000) && o.atc.iter().all(|atc| *atc == 10_000));
 }
 
 // ---------------------------------------------------------- factors by border
@@ -604,7 +738,7 @@ fn p_among_the_refusals() {
     five.f = vec![0; 12];
     assert_eq!((with_p(&five, 7, 2, 4), with_p(&five, 8, 2, 4)), (e(8, 8), e(5, 0)));
     let mut six = t.clone();
-    six.b[1] = [2, 1, 0];
+    six.b[1] = without_hubs(2, 1, 0);
     assert_eq!((with_p(&six, 7, 2, 4), with_p(&six, 8, 2, 4)), (e(8, 8), e(6, 1)));
     let mut seven = t.clone();
     seven.c[1][6] = 10_000_000;
@@ -682,7 +816,7 @@ fn corners_at_most_12_borders() {
     // a sheet may pass the length that a table may have
     let mut wide = t(12);
     for (border, lta) in wide.b.iter_mut().zip(9_989..) {
-        border[2] = lta;
+        border[LTA] = lta;
     }
     let long = sheet(&wide, 0, usize::MAX).unwrap();
     assert!(long.len() > 65_536);
@@ -720,7 +854,7 @@ fn corner_refusals_and_their_order() {
     one.c[1][0] = 1;
     assert_eq!((flows(&one, 2, 0), sheet(&one, 2, 0)), (e(4, 12), e(4, 12)));
     let mut twice = t.clone();
-    twice.b[1] = [0, 1, 0];
+    twice.b[1] = without_hubs(0, 1, 0);
     assert_eq!((flows(&twice, 4, 0), sheet(&twice, 0, 0)), (e(4, 1), e(4, 1)));
     // reading refuses as ever
     assert_eq!(shown(&corners(b"", None)), "E 2 1");
@@ -730,7 +864,7 @@ fn corner_refusals_and_their_order() {
     let mut five = t.clone();
     five.f = vec![0; 12];
     let mut six = t.clone();
-    six.b[1] = [2, 1, 0];
+    six.b[1] = without_hubs(2, 1, 0);
     let mut seven = t.clone();
     seven.c[1][6] = 10_000_000;
     for (number, t) in [(5, five), (6, six), (7, seven)] {
@@ -751,8 +885,8 @@ fn largest_corner_is_s_on_random_tables() {
             let own = &t.f[row * t.header.zones..];
             let mut s: i128 = 0;
             let mut least: i128 = 0;
-            for [from, to, lta] in &t.b {
-                let flow = i128::from(own[*from as usize] - own[*to as usize]) * i128::from(*lta) * 1_000;
+            for border in &t.b {
+                let flow = i128::from(factor_by_hand(own, border)) * i128::from(border[LTA]) * 1_000;
                 s += flow.max(0);
                 least += flow.min(0);
             }
@@ -801,14 +935,18 @@ fn random_tables(d: &mut Dice, most_borders: i64, most_rows: i64) -> Tables {
     let z = (0..zones)
         .map(|_| if small { d.in_range(-3_000, 3_000) } else { d.in_range(-100_000_000, 100_000_000) })
         .collect();
-    let mut b: Vec<[i64; 3]> = Vec::new();
+    let with_hubs = d.one_in(2);
+    let mut b: Vec<Border> = Vec::new();
     while b.len() < borders {
-        let from = d.in_range(0, zones as i64 - 1);
-        let to = d.in_range(0, zones as i64 - 1);
-        if from == to || b.iter().any(|r| r[0] == from && r[1] == to) {
+        let mut zone = || d.in_range(0, zones as i64 - 1);
+        let [from, to, mut sending, mut receiving] = [zone(), zone(), zone(), zone()];
+        if !with_hubs || sending == receiving {
+            [sending, receiving] = [-1, -1];
+        }
+        if from == to || b.iter().any(|r| [r[0], r[1], r[3], r[4]] == [from, to, sending, receiving]) {
             continue;
         }
-        b.push([from, to, if small { d.in_range(0, 3) } else { d.in_range(0, 10_000) }]);
+        b.push([from, to, if small { d.in_range(0, 3) } else { d.in_range(0, 10_000) }, sending, receiving]);
     }
     let with_lifts = d.one_in(4);
     let mut c = Vec::new();
@@ -901,7 +1039,7 @@ fn check_random(t: &Tables, seen: &mut [usize; 8]) {
                     continue;
                 };
                 let own = &t.f[row * h.zones..(row + 1) * h.zones];
-                let p: Vec<i128> = t.b.iter().map(|b| (own[b[0] as usize] - own[b[1] as usize]).max(0) as i128).collect();
+                let p: Vec<i128> = t.b.iter().map(|b| factor_by_hand(own, b).max(0) as i128).collect();
                 assert!(p.iter().zip(kept_p).all(|(own, kept)| *own == i128::from(*kept)));
                 let n = p.iter().filter(|p| **p > 0).count() as i128;
                 n_most = n_most.max(n as usize);

@@ -222,7 +222,7 @@ module _ (sep letter : ℕ) (line : List ℕ) (i v at : ℕ) where
       lettered false h e = absurd (no-value 0 v at e)
       lettered true h e = numbered h (numberAt line 2 sep) refl e
 
-headed-is : (sep letter : ℕ) (s : List ℕ) → headed letter sep (letter ∷ sep ∷ s) ≡ true
+pub headed-is : (sep letter : ℕ) (s : List ℕ) → headed letter sep (letter ∷ sep ∷ s) ≡ true
 headed-is sep letter s = rw (le-leb 2 (suc (suc (length s))) (omega arith), eq-eqb letter letter refl, eq-eqb sep sep refl)
 
 pub record IndexWritten (sep letter : ℕ) (line : List ℕ) (i : ℕ) (rest : List ℕ) : Type 0 where

@@ -1,3 +1,4 @@
 pub mod Columns
 pub mod ColumnText
 pub mod ColumnLine
+pub mod Optional

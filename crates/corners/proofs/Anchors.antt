@@ -7,7 +7,7 @@ use lib.Dec.{lit<}
 use lib.IntN.{ℤ, pos}
 use lib.Signed.{_≤ℤ_, leZ-yes, ltZ-yes, clashℤ}
 use Rattle.numbers.specs.Ints.{minus}
-use Rattle.kinds.specs.Ranges.{atℤ, borderOf}
+use Rattle.kinds.specs.Ranges.{atℤ, hubsOf, borderOf}
 use Rattle.margin.specs.Margin.{signedFactor, ltaKw, cornerPart}
 use Rattle.corners.specs.Corners.{raisedBy, cornerFlows, flowsOf, Largest}
 
@@ -15,8 +15,8 @@ abbrev flows : List ℤ
 flows = pos 0 ∷ minus 2000000000 ∷ pos 6000000000 ∷ pos 4000000000 ∷ []
 
 -- factors 0.3, 0.1 and 0; border 0 from 1 to 0 relieves the row by 0.2 of 100 MW, border 1 from 0 to 2 loads it by 0.3 of 200 MW
-pub two-borders : flowsOf (pos 30000 ∷ pos 10000 ∷ pos 0 ∷ []) ((pos 1 ∷ pos 0 ∷ pos 100 ∷ []) ∷ (pos 0 ∷ pos 2 ∷ pos 200 ∷ []) ∷ []) ≡ flows
-unfolding borderOf signedFactor ltaKw cornerPart raisedBy cornerFlows
+pub two-borders : flowsOf (pos 30000 ∷ pos 10000 ∷ pos 0 ∷ []) ((pos 1 ∷ pos 0 ∷ pos 100 ∷ minus 1 ∷ minus 1 ∷ []) ∷ (pos 0 ∷ pos 2 ∷ pos 200 ∷ minus 1 ∷ minus 1 ∷ []) ∷ []) ≡ flows
+unfolding hubsOf borderOf signedFactor ltaKw cornerPart raisedBy cornerFlows
 two-borders = refl
 
 -- the largest flow is corner 2's, and not the last corner's

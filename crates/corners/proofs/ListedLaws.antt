@@ -18,11 +18,11 @@ use Rattle.numbers.proofs.IntLaws.{within-le, within-pos, within-mul}
 use Rattle.numbers.proofs.BelowLaws.{le-or-lt, table-of, table-long, table-get}
 use Rattle.numbers.proofs.ListLaws.{Filled, filled-more, filled-over}
 use Rattle.kinds.specs.declared.Border.{Border}
-use Rattle.kinds.specs.Limits.{ltaMost, factorMost}
+use Rattle.kinds.specs.Limits.{ltaMost}
 use Rattle.kinds.specs.Ranges.{atℤ, borderOf, borderFits}
 use Rattle.margin.specs.Margin.{signedFactor, ltaKw, cornerPart}
-use Rattle.margin.specs.Bounds.{FactorsBound, BorderBound, BordersBound}
-use Rattle.margin.proofs.BoundLaws.{within-sub}
+use Rattle.margin.specs.Bounds.{FactorsBound, BorderBound, BordersBound, pMost}
+use Rattle.margin.proofs.BoundLaws.{signed-within}
 use Rattle.margin.proofs.JudgedLaws.{border-bound}
 use Rattle.corners.specs.Corners.{sheetBordersMost, raisedBy, cornerFlows, partOf, flowsOf}
 use Rattle.corners.specs.Listed.{partMost, cornerFlowMost, FlowsListed}
@@ -112,9 +112,8 @@ module _ (part : ℤ) (old : List ℤ) (count : ℕ) where
 
 -- ---- a border's part, in grains
 module _ {factors : List ℤ} (all : FactorsBound factors) {border : Border} (bound : BorderBound (length factors) border) where
-  pub factor-within : Within (2 * factorMost) (signedFactor factors border)
-  unfolding signedFactor
-  factor-within = within-le (within-sub (all .each .at (border .from) (bound .from-in)) (all .each .at (border .to) (bound .to-in))) (omega arith)
+  pub factor-within : Within pMost (signedFactor factors border)
+  factor-within = signed-within (all .each) bound
 
   pub kw-most : ltaKw border ≤ ltaMost * 1000
   unfolding ltaKw

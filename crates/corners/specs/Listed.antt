@@ -5,12 +5,13 @@ use Prim.Native.Nat.{ℕ, _*_}
 use lib.IntN.{ℤ}
 use lib.ListN.{length}
 use Rattle.numbers.specs.Below.{over}
-use Rattle.kinds.specs.Limits.{ltaMost, factorMost}
+use Rattle.kinds.specs.Limits.{ltaMost}
+use Rattle.margin.specs.Bounds.{pMost}
 use Rattle.corners.specs.Corners.{sheetBordersMost}
 
 -- a border's part, and a sum of parts, in magnitude
 abbrev pub partMost : ℕ
-partMost = 2 * factorMost * (ltaMost * 1000)
+partMost = pMost * (ltaMost * 1000)
 
 abbrev pub cornerFlowMost : ℕ
 cornerFlowMost = sheetBordersMost * partMost

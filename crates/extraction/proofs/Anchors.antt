@@ -3,8 +3,8 @@ use mathlib.Core.Path.{_≡_, refl}
 use mathlib.Core.List.{[], _∷_}
 use lib.IntN.{pos}
 use Rattle.numbers.specs.Below.{ifZero, sum, table, firstFrom, given}
-use Rattle.numbers.specs.Ints.{maxℤ, minℤ, positivePart, sameℤ, sumℤ}
-use Rattle.kinds.specs.Ranges.{borderOf, shareOf, rowOf, worth}
+use Rattle.numbers.specs.Ints.{minus, maxℤ, minℤ, positivePart, sameℤ, sumℤ}
+use Rattle.kinds.specs.Ranges.{hubsOf, borderOf, shareOf, rowOf, worth}
 use Rattle.kinds.specs.Refusals.{refused, then, unless, refuseAt, refuseFirst, unlimited}
 use Rattle.table.specs.Table.{Table, stretch}
 use Rattle.margin.specs.Margin.{grains, f0coreOf, fuafOf, baseOf, amrOf, signedFactor, pOf, ltaKw, sOf, ltaMarginOf, ramOf, ramAt}
@@ -18,11 +18,11 @@ sixAndSeven =
     record {
       header = record { zones = 2; borders = 2; rows = 1 };
       nets = pos 0 ∷ pos 0 ∷ [];
-      borders = (pos 0 ∷ pos 1 ∷ pos 100 ∷ []) ∷ (pos 1 ∷ pos 0 ∷ pos 0 ∷ []) ∷ [];
+      borders = (pos 0 ∷ pos 1 ∷ pos 100 ∷ minus 1 ∷ minus 1 ∷ []) ∷ (pos 1 ∷ pos 0 ∷ pos 0 ∷ minus 1 ∷ minus 1 ∷ []) ∷ [];
       rows = (pos 10000 ∷ pos 0 ∷ pos 0 ∷ pos 0 ∷ pos 0 ∷ pos 0 ∷ pos 1 ∷ []) ∷ [];
       factors = pos 20000 ∷ pos 0 ∷ [];
     }
 
 pub six-before-seven : outcomeOf sixAndSeven ≡ refused (unlimited 1)
-unfolding ifZero sum table firstFrom given maxℤ minℤ positivePart sameℤ sumℤ borderOf shareOf rowOf worth then unless refuseAt refuseFirst stretch grains f0coreOf fuafOf baseOf amrOf signedFactor pOf ltaKw sOf ltaMarginOf ramOf ramAt highest lowest spreadOf shifted below stateOf rowsOf kept gridOf judgeStart outcomeOf
+unfolding ifZero sum table firstFrom given maxℤ minℤ positivePart sameℤ sumℤ hubsOf borderOf shareOf rowOf worth then unless refuseAt refuseFirst stretch grains f0coreOf fuafOf baseOf amrOf signedFactor pOf ltaKw sOf ltaMarginOf ramOf ramAt highest lowest spreadOf shifted below stateOf rowsOf kept gridOf judgeStart outcomeOf
 six-before-seven = refl

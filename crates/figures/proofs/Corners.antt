@@ -13,6 +13,7 @@ use Rattle.cornertext.specs.CornerText.{cornerTextLeft}
 use Rattle.printing.specs.Printed.{oneSheet, everySheet}
 use Rattle.figures.specs.Computing.{computing}
 use Rattle.figures.specs.Sheets.{sheet}
+use Rattle.figures.specs.Borders.{plainBorder}
 use Rattle.figures.specs.Hour.{hourText, hourTable, bTwice, bBack, nines}
 
 -- the hour with other borders
@@ -22,10 +23,10 @@ withBorders borders = lent (hourTable .header) (hourTable .nets) borders (hourTa
 -- five zones, so many of thirteen borders, and one row
 abbrev borders13 : List (List ℤ)
 borders13 =
-    (pos 0 ∷ pos 1 ∷ pos 1 ∷ []) ∷ (pos 0 ∷ pos 2 ∷ pos 1 ∷ []) ∷ (pos 0 ∷ pos 3 ∷ pos 1 ∷ []) ∷ (pos 0 ∷ pos 4 ∷ pos 1 ∷ [])
-    ∷ (pos 1 ∷ pos 0 ∷ pos 1 ∷ []) ∷ (pos 1 ∷ pos 2 ∷ pos 1 ∷ []) ∷ (pos 1 ∷ pos 3 ∷ pos 1 ∷ []) ∷ (pos 1 ∷ pos 4 ∷ pos 1 ∷ [])
-    ∷ (pos 2 ∷ pos 0 ∷ pos 1 ∷ []) ∷ (pos 2 ∷ pos 1 ∷ pos 1 ∷ []) ∷ (pos 2 ∷ pos 3 ∷ pos 1 ∷ []) ∷ (pos 2 ∷ pos 4 ∷ pos 1 ∷ [])
-    ∷ (pos 3 ∷ pos 0 ∷ pos 1 ∷ []) ∷ []
+    plainBorder 0 1 1 ∷ plainBorder 0 2 1 ∷ plainBorder 0 3 1 ∷ plainBorder 0 4 1
+    ∷ plainBorder 1 0 1 ∷ plainBorder 1 2 1 ∷ plainBorder 1 3 1 ∷ plainBorder 1 4 1
+    ∷ plainBorder 2 0 1 ∷ plainBorder 2 1 1 ∷ plainBorder 2 3 1 ∷ plainBorder 2 4 1
+    ∷ plainBorder 3 0 1 ∷ []
 
 abbrev many : (n : ℕ) → (borders : List (List ℤ)) → Table
 many n borders =
@@ -44,7 +45,7 @@ pub record Corners : Type 0 where
   pub borders-first : cornersLeft (many 13 borders13) 7 [] ≡ record { answer = refused (noCorners 13); out = [] }
   pub no-row : cornersLeft hourTable 4 [] ≡ record { answer = refused (noCorners 4); out = [] }
   -- .. after 3 and 4, before room for the flows
-  pub range-first : cornersLeft (many 13 ((pos 0 ∷ pos 0 ∷ pos 1 ∷ []) ∷ borders13)) 7 [] ≡ record { answer = refused (outOfRange 7); out = [] }
+  pub range-first : cornersLeft (many 13 (plainBorder 0 0 1 ∷ borders13)) 7 [] ≡ record { answer = refused (outOfRange 7); out = [] }
   pub twice-first : cornersLeft (withBorders bTwice) 4 [] ≡ record { answer = refused (givenTwice 1); out = [] }
   pub room-last : cornersLeft hourTable 0 (nines 3) ≡ record { answer = refused (tooShort 4); out = nines 3 }
   -- the text

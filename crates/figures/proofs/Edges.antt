@@ -11,6 +11,7 @@ use Rattle.writing.specs.Writing.{tableText}
 use Rattle.answer.specs.Result.{answerText}
 use Rattle.figures.specs.Computing.{computing}
 use Rattle.figures.specs.Sheets.{sheet}
+use Rattle.figures.specs.Borders.{plainBorder}
 use Rattle.figures.specs.Small.{withZone, withRow}
 
 -- 16 zones, 40 borders, 3 rows
@@ -19,7 +20,7 @@ full =
     record {
       header = record { zones = 16; borders = 40; rows = 3 };
       nets = table 16 (λ z. pos z);
-      borders = table 40 (λ b. pos (b / 8) ∷ pos (8 + b % 8) ∷ pos b ∷ []);
+      borders = table 40 (λ b. plainBorder (b / 8) (8 + b % 8) b);
       rows = table 3 (λ i. pos 100000 ∷ pos i ∷ pos 0 ∷ pos 0 ∷ pos 0 ∷ pos 0 ∷ pos 0 ∷ []);
       factors = table 48 (λ k. pos (k * 1000));
     }

@@ -12,6 +12,7 @@ use Rattle.writing.specs.Writing.{writeLeft}
 use Rattle.extraction.specs.Extraction.{extractLeft}
 use Rattle.figures.specs.Computing.{computing}
 use Rattle.figures.specs.Sheets.{sheet}
+use Rattle.figures.specs.Borders.{plainBorder}
 use Rattle.figures.specs.Hour.{hourText, hourTable, bTwice}
 
 -- the hour's header with other tables
@@ -36,7 +37,7 @@ abbrev farZ : List ℤ
 farZ = shortZ ++ (pos 100000001 ∷ [])
 
 abbrev farB : List (List ℤ)
-farB = shortB ++ ((pos 1 ∷ pos 3 ∷ pos 200 ∷ []) ∷ [])
+farB = shortB ++ (plainBorder 1 3 200 ∷ [])
 
 abbrev farC : List (List ℤ)
 farC = shortC ++ ((pos 0 ∷ pos 0 ∷ pos 130000 ∷ pos 0 ∷ pos 7000 ∷ pos 0 ∷ pos 0 ∷ []) ∷ [])

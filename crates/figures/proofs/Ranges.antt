@@ -12,6 +12,7 @@ use Rattle.writing.specs.Writing.{tableText}
 use Rattle.answer.specs.Result.{answerText}
 use Rattle.figures.specs.Computing.{computing}
 use Rattle.figures.specs.Sheets.{sheet}
+use Rattle.figures.specs.Borders.{plainBorder}
 use Rattle.figures.specs.Small.{withZone, withBorder, withRow, lentBorder, lentRow}
 
 -- every value at an end of its range: the highest in row 0, the lowest in row 1 (a flow's other way round), R as "-" in row 2
@@ -27,7 +28,7 @@ endsTable =
     record {
       header = record { zones = 2; borders = 2; rows = 3 };
       nets = minus 100000000 ∷ pos 100000000 ∷ [];
-      borders = (pos 0 ∷ pos 1 ∷ pos 10000 ∷ []) ∷ (pos 1 ∷ pos 0 ∷ pos 0 ∷ []) ∷ [];
+      borders = plainBorder 0 1 10000 ∷ plainBorder 1 0 0 ∷ [];
       rows =
           (pos 10000000 ∷ pos 10000000 ∷ pos 20000000 ∷ minus 20000000 ∷ pos 10000 ∷ pos 10000000 ∷ pos 10000000 ∷ [])
           ∷ (pos 1 ∷ pos 0 ∷ minus 20000000 ∷ pos 20000000 ∷ pos 0 ∷ pos 0 ∷ pos 0 ∷ [])

@@ -17,6 +17,7 @@ use Rattle.start.specs.Start.{rowsOf}
 use Rattle.extraction.specs.Extraction.{Result, outcomeOf}
 use Rattle.answer.specs.Result.{answerText}
 use Rattle.figures.specs.Sheets.{sheet}
+use Rattle.figures.specs.Borders.{plainBorder}
 use Rattle.figures.specs.Small.{smallTable}
 
 -- F0all 0; what AMR and Base do not look at (Fref other than by F0core, CVA, IVA) is whatever it is
@@ -29,7 +30,7 @@ twoEqual =
     record {
       header = record { zones = 2; borders = 1; rows = 2 };
       nets = pos 0 ∷ pos 0 ∷ [];
-      borders = (pos 0 ∷ pos 1 ∷ pos 0 ∷ []) ∷ [];
+      borders = plainBorder 0 1 0 ∷ [];
       rows = table 2 (λ i. pos 100000 ∷ pos 0 ∷ pos 0 ∷ pos 0 ∷ pos 0 ∷ pos 0 ∷ pos 0 ∷ []);
       factors = pos 5000 ∷ pos 0 ∷ pos 5000 ∷ pos 0 ∷ [];
     }
@@ -46,7 +47,7 @@ pub record Figures : Type 0 where
   pub base-10000 : (fref cva iva : ℤ) → baseOf (rowOf 100000 90000 0 fref cva iva) (pos 0) ≡ grains (pos 10000)
   pub amr-10000 : (fref cva iva : ℤ) → amrOf (rowOf 100000 90000 0 fref cva iva) (pos 0) ≡ grains (pos 10000)
   -- Fmax 10000, other row values and net positions 0, one border with p 20000 and LTA 100: RAM 20000 kW, rounds 0, ATC 100. IVA 1 on it: refusal 7, row 0
-  pub ram-20000 : ramAt (smallTable (pos 0 ∷ pos 1 ∷ pos 100 ∷ []) (pos 10000 ∷ pos 0 ∷ pos 0 ∷ pos 0 ∷ pos 0 ∷ pos 0 ∷ pos 0 ∷ [])) 0 ≡ grains (pos 20000)
+  pub ram-20000 : ramAt (smallTable (plainBorder 0 1 100) (pos 10000 ∷ pos 0 ∷ pos 0 ∷ pos 0 ∷ pos 0 ∷ pos 0 ∷ pos 0 ∷ [])) 0 ≡ grains (pos 20000)
   pub at-lta : answerText (sheet "H 2 1 1/Z 0 0/Z 1 0/B 0 0 1 100/C 0 10000 0 0 0 0 0 0 20000 0/") ≡ sheet "A 0 100/M 0 0 2000000000 0/R 0/"
   pub iva-1 : answerText (sheet "H 2 1 1/Z 0 0/Z 1 0/B 0 0 1 100/C 0 10000 0 0 0 0 0 1 20000 0/") ≡ sheet "E 7 0/"
   -- One border, one kept row (any number of rows, indeed): rounds 0 (as just above) or 1

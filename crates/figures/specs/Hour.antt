@@ -6,6 +6,7 @@ use lib.ListN.{replicate, take, drop}
 use Rattle.numbers.specs.Ints.{minus}
 use Rattle.table.specs.Table.{Table}
 use Rattle.figures.specs.Sheets.{sheet}
+use Rattle.figures.specs.Borders.{plainBorder}
 
 abbrev pub hourText : List ℕ
 hourText =
@@ -25,7 +26,7 @@ hourTable =
     record {
       header = record { zones = 3; borders = 2; rows = 4 };
       nets = pos 500000 ∷ minus 200000 ∷ minus 300000 ∷ [];
-      borders = (pos 0 ∷ pos 1 ∷ pos 100 ∷ []) ∷ (pos 1 ∷ pos 2 ∷ pos 200 ∷ []) ∷ [];
+      borders = plainBorder 0 1 100 ∷ plainBorder 1 2 200 ∷ [];
       rows =
           (pos 1000000 ∷ pos 200000 ∷ pos 200000 ∷ pos 150000 ∷ pos 7000 ∷ pos 0 ∷ pos 80000 ∷ [])
           ∷ (pos 100000 ∷ pos 10000 ∷ pos 15000 ∷ pos 0 ∷ pos 7000 ∷ pos 0 ∷ pos 0 ∷ [])
@@ -38,10 +39,10 @@ hourTable =
 
 -- borders of which the second is as the first, and one that no kept row limits
 abbrev pub bTwice : List (List ℤ)
-bTwice = (pos 1 ∷ pos 2 ∷ pos 0 ∷ []) ∷ drop 1 (hourTable .borders)
+bTwice = plainBorder 1 2 0 ∷ drop 1 (hourTable .borders)
 
 abbrev pub bBack : List (List ℤ)
-bBack = take 1 (hourTable .borders) ++ ((pos 2 ∷ pos 1 ∷ pos 200 ∷ []) ∷ [])
+bBack = take 1 (hourTable .borders) ++ (plainBorder 2 1 200 ∷ [])
 
 -- lent memory that holds something else
 abbrev pub nines : (n : ℕ) → List ℤ

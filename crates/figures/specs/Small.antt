@@ -3,10 +3,12 @@ use mathlib.Core.List.{List, [], _∷_, _++_}
 use Prim.Native.Nat.{ℕ}
 use Prim.Native.String.{String}
 use lib.IntN.{ℤ, pos}
+use Rattle.numbers.specs.Ints.{minus}
 use Rattle.kinds.specs.Refusals.{Judged}
 use Rattle.table.specs.Table.{Table, judgeLent}
 use Rattle.answer.specs.Result.{answerText}
 use Rattle.figures.specs.Sheets.{sheet}
+use Rattle.figures.specs.Borders.{plainBorder}
 
 abbrev pub smallText : (zone border row : List ℕ) → List ℕ
 smallText zone border row = sheet "H 2 1 1/Z 0 0/" ++ zone ++ border ++ row
@@ -42,7 +44,10 @@ smallTable border row =
     }
 
 abbrev pub lentBorder : (from to lta : ℤ) → Judged Table
-lentBorder from to lta = judgeLent (smallTable (from ∷ to ∷ lta ∷ []) (pos 10000 ∷ pos 0 ∷ pos 0 ∷ pos 0 ∷ pos 0 ∷ pos 0 ∷ pos 0 ∷ []))
+lentBorder from to lta = judgeLent (smallTable (from ∷ to ∷ lta ∷ minus 1 ∷ minus 1 ∷ []) (pos 10000 ∷ pos 0 ∷ pos 0 ∷ pos 0 ∷ pos 0 ∷ pos 0 ∷ pos 0 ∷ []))
+
+abbrev pub lentHubs : (sending receiving : ℤ) → Judged Table
+lentHubs sending receiving = judgeLent (smallTable (pos 0 ∷ pos 1 ∷ pos 100 ∷ sending ∷ receiving ∷ []) (pos 10000 ∷ pos 0 ∷ pos 0 ∷ pos 0 ∷ pos 0 ∷ pos 0 ∷ pos 0 ∷ []))
 
 abbrev pub lentRow : (fmax frm r cva iva : ℤ) → Judged Table
-lentRow fmax frm r cva iva = judgeLent (smallTable (pos 0 ∷ pos 1 ∷ pos 100 ∷ []) (fmax ∷ frm ∷ pos 0 ∷ pos 0 ∷ r ∷ cva ∷ iva ∷ []))
+lentRow fmax frm r cva iva = judgeLent (smallTable (plainBorder 0 1 100) (fmax ∷ frm ∷ pos 0 ∷ pos 0 ∷ r ∷ cva ∷ iva ∷ []))

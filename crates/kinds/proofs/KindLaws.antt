@@ -1,6 +1,6 @@
 -- The laws of `specs/Ranges.antt` that the judging constructors and the crates above cite. No contract cites this file.
 use mathlib.Core.Path.{_≡_, refl, sym, ap, subst, _∙_}
-use mathlib.Core.Bool.{true, not, and-eq-true-iff}
+use mathlib.Core.Bool.{Bool, true, false, not, _&&_, _||_, and-eq-true-iff, true≢false}
 use mathlib.Core.List.{List, [], _∷_}
 use Prim.Native.Nat.{ℕ, _≤_, _<_}
 use native.Mathlib.Omega.{arith}
@@ -9,10 +9,10 @@ use lib.Dec.{T, ltb, leb→le}
 use lib.IntN.{ℤ, pos, negsuc, natAbs}
 use lib.Signed.{ltZ, nonNeg}
 use Rattle.numbers.specs.Ints.{Within, minus, sameℤ, inside}
-use Rattle.numbers.proofs.IntLaws.{Between, same-false, inside-true, inside-within, inside-pos}
+use Rattle.numbers.proofs.IntLaws.{Between, same-true, same-false, inside-true, inside-within, inside-pos}
 use Rattle.kinds.specs.declared.Header.{Header}
 use Rattle.kinds.specs.Limits.{zonesLeast, zonesMost, bordersLeast, bordersMost, rowsLeast, rowsMost, netMost, ltaMost, fmaxLeast, fmaxMost, flowMost, shareMost, vaMost, factorMost}
-use Rattle.kinds.specs.Ranges.{atℤ, headerFits, zoneFits, exists, borderFits, borderOf, shareOf, rowOf, rowFits, factorFits, worth}
+use Rattle.kinds.specs.Ranges.{atℤ, headerFits, zoneFits, exists, hubsFit, borderFits, borderOf, shareOf, rowOf, rowFits, factorFits, worth}
 
 -- ---- numbers from 0 on
 
@@ -28,7 +28,7 @@ exists-test zones (negsuc n) e = absurd (subst T (sym e) tt)
 
 -- ---- a record as its numbers
 
-pub border-listed : (zones : ℕ) (raw : List ℤ) → borderFits zones (atℤ raw 0 ∷ atℤ raw 1 ∷ atℤ raw 2 ∷ []) ≡ borderFits zones raw
+pub border-listed : (zones : ℕ) (raw : List ℤ) → borderFits zones (atℤ raw 0 ∷ atℤ raw 1 ∷ atℤ raw 2 ∷ atℤ raw 3 ∷ atℤ raw 4 ∷ []) ≡ borderFits zones raw
 unfolding borderFits
 border-listed zones raw = refl
 
@@ -73,6 +73,32 @@ unfolding exists
 exists-in zones (pos n) e = (refl, ltb-true n zones (and-eq-true-iff (not (ltZ (pos n) (pos 0))) (ltZ (pos n) (pos zones)) .0 e .1))
 exists-in zones (negsuc n) e = absurd (subst T (sym e) tt)
 
+-- hubs that fit: none, or two that exist and are not equal
+pub data HubsIn (zones : ℕ) (sending receiving : ℤ) : Type 0 where
+  none : sending ≡ minus 1 → receiving ≡ minus 1 → HubsIn zones sending receiving
+  both : (sending ≡ pos (natAbs sending)) × (natAbs sending < zones) → (receiving ≡ pos (natAbs receiving)) × (natAbs receiving < zones) → (sending ≡ receiving → ⊥) → HubsIn zones sending receiving
+
+module _ (zones : ℕ) (sending receiving : ℤ) where
+  pub hubs-in : hubsFit zones sending receiving ≡ true → HubsIn zones sending receiving
+  unfolding hubsFit
+  hubs-in e = go (sameℤ sending (minus 1) && sameℤ receiving (minus 1)) refl e
+    where
+      go : (t : Bool) → (sameℤ sending (minus 1) && sameℤ receiving (minus 1)) ≡ t
+          → (t || (exists zones sending && exists zones receiving && not (sameℤ sending receiving))) ≡ true → HubsIn zones sending receiving
+      go true q e = let a = and-eq-true-iff _ _ .0 q in none (same-true sending (minus 1) (a .0)) (same-true receiving (minus 1) (a .1))
+      go false q e =
+          let b = and-eq-true-iff _ _ .0 e in
+          let a = and-eq-true-iff _ _ .0 (b .0) in
+          both (exists-in zones sending (a .0)) (exists-in zones receiving (a .1)) (same-false sending receiving (not-true (sameℤ sending receiving) (b .1)))
+
+  -- a sending hub that is not below 0 comes with a receiving hub
+  pub hubs-natural : hubsFit zones sending receiving ≡ true → ltZ sending (pos 0) ≡ false → (sending ≡ pos (natAbs sending)) × (receiving ≡ pos (natAbs receiving))
+  hubs-natural e q = go (hubs-in e)
+    where
+      go : HubsIn zones sending receiving → (sending ≡ pos (natAbs sending)) × (receiving ≡ pos (natAbs receiving))
+      go (none s r) = absurd (true≢false (sym (ap (λ (z : ℤ). ltZ z (pos 0)) s) ∙ q))
+      go (both s r apart) = (s .0, r .0)
+
 -- the raw numbers are those of the border
 pub record BorderIn (zones : ℕ) (raw : List ℤ) : Type 0 where
   pub from : atℤ raw 0 ≡ pos (borderOf raw .from)
@@ -82,11 +108,14 @@ pub record BorderIn (zones : ℕ) (raw : List ℤ) : Type 0 where
   pub to-below : borderOf raw .to < zones
   pub apart : borderOf raw .from ≡ borderOf raw .to → ⊥
   pub lta-most : borderOf raw .lta ≤ ltaMost
+  pub hubs-fit : hubsFit zones (atℤ raw 3) (atℤ raw 4) ≡ true
+  pub hubs : HubsIn zones (atℤ raw 3) (atℤ raw 4)
 
 pub border-in : (zones : ℕ) (raw : List ℤ) → borderFits zones raw ≡ true → BorderIn zones raw
 unfolding borderFits borderOf
 border-in zones raw e =
-    let d = and-eq-true-iff _ _ .0 e in
+    let h = and-eq-true-iff _ _ .0 e in
+    let d = and-eq-true-iff _ _ .0 (h .0) in
     let c = and-eq-true-iff _ _ .0 (d .0) in
     let b = and-eq-true-iff _ _ .0 (c .0) in
     let from = exists-in zones (atℤ raw 0) (b .0) in
@@ -100,6 +129,8 @@ border-in zones raw e =
       to-below = to .1;
       apart = λ q. same-false (atℤ raw 0) (atℤ raw 1) (not-true (sameℤ (atℤ raw 0) (atℤ raw 1)) (c .1)) (from .0 ∙ ap pos q ∙ sym (to .0));
       lta-most = lta .most;
+      hubs-fit = h .1;
+      hubs = hubs-in zones (atℤ raw 3) (atℤ raw 4) (h .1);
     }
 
 pub record RowIn (raw : List ℤ) : Type 0 where

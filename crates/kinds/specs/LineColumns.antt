@@ -3,7 +3,7 @@
 -- reader and writer of a line (crates lines, layout) takes the constant and is proved by the list, so the two cannot part.
 -- Left to others: the ranges (`Ranges.antt`), and how a field is read and written (crate columns).
 use mathlib.Core.Bool.{cond}
-use mathlib.Core.List.{List, [], _∷_}
+use mathlib.Core.List.{List, [], _∷_, _++_}
 use Prim.Native.Char.{code}
 use Prim.Native.Nat.{ℕ, zero, suc}
 use lib.Dec.{eqb}
@@ -36,6 +36,17 @@ borderColumns =
     ∷ number  -- to zone
     ∷ number  -- LTA, MW
     ∷ []
+
+-- .. and, where the line carries them (02, E3), sending hub, receiving hub
+abbrev pub hubColumns : List Column
+hubColumns =
+    number  -- sending hub
+    ∷ number  -- receiving hub
+    ∷ []
+
+-- .. the numbers of a raw border record
+abbrev pub borderItems : ℕ
+borderItems = length (borderColumns ++ hubColumns)
 
 -- C: index, Fmax, FRM, Fref, F0all, R, CVA, IVA; then one factor per zone
 abbrev pub rowColumns : List Column

@@ -1,6 +1,6 @@
 -- What each line of the table may hold (01, "The table as text", the column of ranges): each range stands here once.
 -- A raw record is the list of numbers of a line, without letter and index. Judging text and judging lent tables both cite these.
-use mathlib.Core.Bool.{Bool, cond, not, _&&_}
+use mathlib.Core.Bool.{Bool, cond, not, _&&_, _||_}
 use mathlib.Core.List.{List}
 use Prim.Native.Nat.{ℕ}
 use lib.Dec.{leb}
@@ -9,6 +9,8 @@ use lib.ListN.{getD}
 use lib.Signed.{ltZ}
 use Rattle.numbers.specs.Ints.{minus, inside, sameℤ}
 use Rattle.kinds.specs.declared.Header.{Header}
+use Rattle.kinds.specs.declared.Hubs.{Hubs}
+use Rattle.kinds.specs.declared.Hubs.the-variants.{Without, Between}
 use Rattle.kinds.specs.declared.Border.{Border}
 use Rattle.kinds.specs.declared.Share.{Share}
 use Rattle.kinds.specs.declared.Share.the-variants.{Standard, Written}
@@ -34,13 +36,23 @@ zoneFits net = inside (minus netMost) (pos netMost) net
 unfoldable pub exists : (zones : ℕ) → ℤ → Bool
 exists zones z = not (ltZ z (pos 0)) && ltZ z (pos zones)
 
+-- .. and the hubs of a cable (02, E3): none, which the raw numbers tell by -1; or sending hub and receiving hub (both exist, not equal)
+unfoldable pub hubsFit : (zones : ℕ) → (sending receiving : ℤ) → Bool
+hubsFit zones sending receiving =
+    (sameℤ sending (minus 1) && sameℤ receiving (minus 1))
+    || (exists zones sending && exists zones receiving && not (sameℤ sending receiving))
+
+unfoldable pub hubsOf : (sending receiving : ℤ) → Hubs
+hubsOf sending receiving = cond (ltZ sending (pos 0)) Without (Between (natAbs sending) (natAbs receiving))
+
 unfoldable pub borderFits : (zones : ℕ) → List ℤ → Bool
 borderFits zones raw =
     exists zones (atℤ raw 0) && exists zones (atℤ raw 1) && not (sameℤ (atℤ raw 0) (atℤ raw 1))
     && inside (pos 0) (pos ltaMost) (atℤ raw 2)
+    && hubsFit zones (atℤ raw 3) (atℤ raw 4)
 
 unfoldable pub borderOf : List ℤ → Border
-borderOf raw = record { from = natAbs (atℤ raw 0); to = natAbs (atℤ raw 1); lta = natAbs (atℤ raw 2) }
+borderOf raw = record { from = natAbs (atℤ raw 0); to = natAbs (atℤ raw 1); lta = natAbs (atℤ raw 2); hubs = hubsOf (atℤ raw 3) (atℤ raw 4) }
 
 -- R as it was written: the raw number is -1 where that was "-"
 unfoldable pub shareOf : ℤ → Share

@@ -22,7 +22,7 @@ wrongForm line = refusal 2 line
 abbrev pub outOfRange : (line : ℕ) → Refusal
 outOfRange line = refusal 3 line
 
--- 4 same from and to as an earlier border
+-- 4 same from and to, and the same hubs (02, E3), as an earlier border
 abbrev pub givenTwice : (border : ℕ) → Refusal
 givenTwice border = refusal 4 border
 

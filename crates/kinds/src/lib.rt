@@ -5,7 +5,7 @@
 ghost use mathlib.Core.Path.{_≡_};
 ghost use mathlib.Core.Bool.{true};
 ghost use mathlib.Core.List.{[], _∷_};
-ghost use Rattle.kinds.specs.Ranges.{headerFits, exists, borderFits, borderOf, shareOf, rowFits, rowOf, factorFits, worth};
+ghost use Rattle.kinds.specs.Ranges.{headerFits, exists, hubsFit, hubsOf, borderFits, borderOf, shareOf, rowFits, rowOf, factorFits, worth};
 ghost use Rattle.kinds.specs.Kinds.{headerRead, zoneRead, borderRead, rowRead};
 ghost use Rattle.kinds.specs.Refusals.{refusal, tooLong, wrongForm, outOfRange, givenTwice, noRow, unlimited, belowZero, tooShort, noCorners};
 
@@ -93,14 +93,46 @@ impl Zone {
     }
 }
 
-// From zone, to zone, LTA in MW.
+// The hubs of a cable that is modelled by two (02, E3): sending and receiving, both zones. The exchange goes from the from zone to the sending hub,
+// and from the receiving hub to the to zone.
+pub enum Hubs {
+    Without,
+    Between(usize, usize),
+}
+
+impl Hubs {
+    // The raw number of a hub where a border has none.
+    pub const NONE: i64 = -1;
+
+    // The hubs of a judged record.
+    fn judged(zones: usize, sending: i64, receiving: i64) -> Hubs
+        requires { ⌜ hubsFit zones sending receiving ≡ true ⌝ }
+        ensures { λ r. ⌜ r ≡ hubsOf sending receiving ⌝ }
+    {
+        if sending < 0 {
+            return Hubs::Without;
+        }
+        Hubs::Between(sending as usize, receiving as usize)
+    }
+
+    // None, or two that exist and are not equal.
+    fn fit(zones: usize, sending: i64, receiving: i64) -> bool
+        ensures { λ r. ⌜ r ≡ hubsFit zones sending receiving ⌝ }
+    {
+        numbers::same(sending, Hubs::NONE) & numbers::same(receiving, Hubs::NONE)
+            | exists(zones, sending) & exists(zones, receiving) & !numbers::same(sending, receiving)
+    }
+}
+
+// From zone, to zone, LTA in MW, hubs.
 pub struct Border {
     pub from: usize,
     pub to: usize,
     pub lta: u64,
+    pub hubs: Hubs,
 }
 
-// A lent border: from, to, LTA.
+// A lent border: from, to, LTA, sending hub, receiving hub.
 pub type BorderRecord = [i64; Border::ITEMS];
 
 pub enum BorderRead {
@@ -109,10 +141,13 @@ pub enum BorderRead {
 }
 
 impl Border {
-    pub const ITEMS: usize = 3;
+    pub const ITEMS: usize = 5;
 
-    // From zone, to zone, LTA.
-    pub const COLUMNS: [u8; Border::ITEMS] = *b"nnn";
+    // From zone, to zone, LTA, sending hub, receiving hub.
+    pub const COLUMNS: [u8; Border::ITEMS] = *b"nnnnn";
+
+    // .. of which every line has so many, and the hubs may be left out.
+    pub const ALWAYS: usize = 3;
 
     // MW.
     pub const LTA_MOST: i64 = 10000;
@@ -123,7 +158,9 @@ impl Border {
         let from = raw[0];
         let to = raw[1];
         let lta = raw[2];
-        if Border::fits(zones, from, to, lta) {
+        let sending = raw[3];
+        let receiving = raw[4];
+        if Border::fits(zones, from, to, lta, sending, receiving) {
             BorderRead::Good(Border::judged(zones, raw))
         } else {
             BorderRead::Out
@@ -138,20 +175,25 @@ impl Border {
         let from = raw[0];
         let to = raw[1];
         let lta = raw[2];
+        let sending = raw[3];
+        let receiving = raw[4];
+        let hubs = Hubs::judged(zones, sending, receiving);
         Border {
             from: from as usize,
             to: to as usize,
             lta: lta as u64,
+            hubs: hubs,
         }
     }
 
-    fn fits(zones: usize, from: i64, to: i64, lta: i64) -> bool
-        ensures { λ r. ⌜ r ≡ borderFits zones (from ∷ to ∷ lta ∷ []) ⌝ }
+    pub fn fits(zones: usize, from: i64, to: i64, lta: i64, sending: i64, receiving: i64) -> bool
+        ensures { λ r. ⌜ r ≡ borderFits zones (from ∷ to ∷ lta ∷ sending ∷ receiving ∷ []) ⌝ }
     {
         exists(zones, from)
             & exists(zones, to)
             & !numbers::same(from, to)
             & numbers::inside(lta, 0, Border::LTA_MOST)
+            & Hubs::fit(zones, sending, receiving)
     }
 }
 

@@ -5,9 +5,10 @@ use Prim.Native.Nat.{ℕ}
 use lib.IntN.{ℤ, pos}
 use lib.ListN.{length}
 use Rattle.kinds.specs.declared.Header.{Header}
-use Rattle.kinds.specs.LineColumns.{headerColumns, zoneColumns, borderColumns, rowColumns, factorColumns}
+use Rattle.kinds.specs.LineColumns.{headerColumns, zoneColumns, borderColumns, hubColumns, rowColumns, factorColumns}
 use Rattle.text.specs.Fields.{tab}
 use Rattle.columns.specs.ColumnText.{columnsText, plainText, numbersOf}
+use Rattle.columns.specs.Optional.{optionalText}
 
 abbrev pub headerText : Header → List ℕ
 headerText h = plainText tab (code "H") headerColumns (pos (h .zones) ∷ pos (h .borders) ∷ pos (h .rows) ∷ [])
@@ -16,7 +17,7 @@ abbrev pub zoneText : (i : ℕ) → (net : ℤ) → List ℕ
 zoneText i net = columnsText tab (code "Z") zoneColumns i (net ∷ [])
 
 abbrev pub borderText : (i : ℕ) → (raw : List ℤ) → List ℕ
-borderText i raw = columnsText tab (code "B") borderColumns i raw
+borderText i raw = optionalText tab (code "B") borderColumns hubColumns i raw
 
 abbrev pub rowText : (i : ℕ) → (raw factors : List ℤ) → List ℕ
 rowText i raw factors = columnsText tab (code "C") (rowColumns ++ factorColumns (length factors)) i (numbersOf rowColumns raw ++ factors)

@@ -33,7 +33,7 @@ pub fn border_length(i: usize, raw: BorderRecord) -> usize
     requires { ⌜ length (borderText i raw) ≤ bytesMost ⌝ }
     ensures { λ r. ⌜ r ≡ length (borderText i raw) ⌝ }
 {
-    columns::write::line_length(&Border::COLUMNS, i, &raw)
+    columns::optional::optional_length(&Border::COLUMNS, Border::ALWAYS, i, &raw)
 }
 
 pub fn row_length(i: usize, raw: RowRecord, f: &[i64]) -> usize

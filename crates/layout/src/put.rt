@@ -34,7 +34,16 @@ pub fn put_border(i: usize, raw: BorderRecord, out: &mut [u8], at: usize) -> usi
     requires { ⌜ at + length (borderText i raw) ≤ length (now out) ⌝ }
     ensures { λ r. ⌜ Put (borderText i raw) at (now (out .entry)) r (now (out .exit)) ⌝ }
 {
-    columns::write::put_line(b'\t', b'B', &Border::COLUMNS, i, &raw, out, at)
+    columns::optional::put_optional(
+        b'\t',
+        b'B',
+        &Border::COLUMNS,
+        Border::ALWAYS,
+        i,
+        &raw,
+        out,
+        at,
+    )
 }
 
 pub fn put_row(i: usize, raw: RowRecord, f: &[i64], out: &mut [u8], at: usize) -> usize

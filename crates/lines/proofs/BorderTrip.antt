@@ -1,73 +1,92 @@
 -- The B line: a line that holds a raw border record is its text, and that text holds the record. No contract cites this file.
-use mathlib.Core.Path.{_≡_, refl, sym, ap, subst}
-use mathlib.Core.Bool.{true, false}
+use mathlib.Core.Path.{_≡_, refl, sym, ap₂, subst}
+use mathlib.Core.Bool.{Bool, true, false, cond}
 use mathlib.Core.List.{List, [], _∷_, _++_}
 use Prim.Native.Char.{code}
 use Prim.Native.Nat.{ℕ, _^_, _≤_, _<_}
 use native.Mathlib.Omega.{arith}
 use lib.IntN.{ℤ, pos}
-use lib.ListN.{length}
-use Rattle.numbers.specs.Below.{table}
-use Rattle.numbers.proofs.BelowLaws.{table-of}
+use lib.ListN.{length, getD}
+use lib.Signed.{ltZ}
 use Rattle.kinds.specs.Limits.{zonesMost}
-use Rattle.kinds.specs.LineColumns.{borderColumns}
+use Rattle.kinds.specs.LineColumns.{Column, number, borderColumns, hubColumns, borderItems}
 use Rattle.kinds.specs.Ranges.{atℤ, borderFits, borderOf}
-use Rattle.kinds.proofs.KindLaws.{border-in}
+use Rattle.kinds.proofs.KindLaws.{HubsIn, none, both, BorderIn, border-in}
 use Rattle.text.specs.Fields.{tab}
 use Rattle.text.specs.Line.{lineOf, holds, form, range}
 use Rattle.columns.specs.Columns.{values, wrong}
-use Rattle.columns.specs.ColumnText.{columnsText}
-use Rattle.columns.specs.ColumnLine.{columnsLine}
-use Rattle.columns.proofs.ColumnTrip.{tab-ends, AllKept, kept-long, line-read, line-one, judged-read, judged-written}
+use Rattle.columns.specs.Optional.{optionalLine, writtenBy, optionalText}
+use Rattle.columns.proofs.ColumnTrip.{tab-ends, line-one}
+use Rattle.columns.proofs.OptionalTrip.{OptionalKept, left, given, kept-many, optional-judged, optional-written}
 use Rattle.lines.specs.Lines.{borderLine}
 
 -- what is known of a record that a B line holds
 pub record BorderHeld (zones : ℕ) (raw : List ℤ) : Type 0 where
-  pub wide : length raw ≡ 3
+  pub wide : length raw ≡ borderItems
   pub fits : borderFits zones raw ≡ true
 
-module _ (zones : ℕ) (raw : List ℤ) (held : BorderHeld zones raw) where
-  -- its numbers are those of the border
-  pub border-record : pos (borderOf raw .from) ∷ pos (borderOf raw .to) ∷ pos (borderOf raw .lta) ∷ [] ≡ raw
-  unfolding table
-  border-record =
-      let b = border-in zones raw (held .fits) in
-      rw (← b .from, ← b .to, ← b .lta) (sym (table-of 3 (atℤ raw) raw (pos 0) (held .wide) (λ i h. refl)))
-
-  border-kept : zones ≤ zonesMost → AllKept borderColumns raw
-  unfolding borderOf
-  border-kept few =
-      let b = border-in zones raw (held .fits) in
-      subst (AllKept borderColumns) border-record ((refl, omega (arith, b .from-below)), ((refl, omega (arith, b .to-below)), ((refl, omega (arith, b .lta-most)), tt)))
+-- its numbers are those of the columns: all five, or three and two that say that there are no hubs
+border-kept : (zones : ℕ) (raw : List ℤ) → BorderHeld zones raw → zones ≤ zonesMost → OptionalKept borderColumns hubColumns raw
+unfolding borderOf
+border-kept zones [] held few = absurd (omega (arith, held .wide))
+border-kept zones (a ∷ []) held few = absurd (omega (arith, held .wide))
+border-kept zones (a ∷ b ∷ []) held few = absurd (omega (arith, held .wide))
+border-kept zones (a ∷ b ∷ c ∷ []) held few = absurd (omega (arith, held .wide))
+border-kept zones (a ∷ b ∷ c ∷ d ∷ []) held few = absurd (omega (arith, held .wide))
+border-kept zones (a ∷ b ∷ c ∷ d ∷ e ∷ f ∷ raw) held few = absurd (omega (arith, held .wide))
+border-kept zones (a ∷ b ∷ c ∷ d ∷ e ∷ []) held few =
+    let k = border-in zones (a ∷ b ∷ c ∷ d ∷ e ∷ []) (held .fits) in
+    go k (k .hubs)
+  where
+    go : BorderIn zones (a ∷ b ∷ c ∷ d ∷ e ∷ []) → HubsIn zones d e → OptionalKept borderColumns hubColumns (a ∷ b ∷ c ∷ d ∷ e ∷ [])
+    go k (none s r) =
+        left (a ∷ b ∷ c ∷ []) (ap₂ (λ (x y : ℤ). a ∷ b ∷ c ∷ x ∷ y ∷ []) s r)
+        ((k .from, omega (arith, k .from-below)), ((k .to, omega (arith, k .to-below)), ((k .lta, omega (arith, k .lta-most)), tt)))
+    go k (both s r apart) =
+        given (
+          (k .from, omega (arith, k .from-below)),
+          (
+            (k .to, omega (arith, k .to-below)),
+            (
+              (k .lta, omega (arith, k .lta-most)),
+              (
+                (s .0, omega (arith, s .1)),
+                ((r .0, omega (arith, r .1)), tt),
+              ),
+            ),
+          ),
+        )
 
 module _ (zones : ℕ) (line : List ℕ) (i : ℕ) (raw : List ℤ) where
-  pub border-read : borderLine zones line i ≡ holds raw → (line ≡ columnsText tab (code "B") borderColumns i raw) × BorderHeld zones raw
+  pub border-read : borderLine zones line i ≡ holds raw → (line ≡ optionalText tab (code "B") borderColumns hubColumns i raw) × BorderHeld zones raw
   unfolding borderLine
   border-read e =
-      let h = judged-read (borderFits zones) (λ raw. raw) tab (code "B") tab-ends borderColumns i line raw e in
-      subst (λ (y : List ℤ). (line ≡ columnsText tab (code "B") borderColumns i y) × BorderHeld zones y) (h .made)
-      (h .read .here, record { wide = kept-long borderColumns (h .zs) (h .read .kept); fits = h .fit })
+      let h = optional-judged tab (code "B") tab-ends refl i borderColumns (number ∷ []) (borderFits zones) (λ raw. raw) line raw e in
+      subst (λ (y : List ℤ). (line ≡ optionalText tab (code "B") borderColumns hubColumns i y) × BorderHeld zones y) (h .made)
+      (h .here, record { wide = kept-many borderColumns hubColumns (h .zs) (h .kept); fits = h .fit })
 
   -- by what was read of it
-  module _ (next : ℕ) (e : values raw next ≡ columnsLine tab (code "B") borderColumns line i) where
-    pub border-holds : borderFits zones raw ≡ true → holds (pos (borderOf raw .from) ∷ pos (borderOf raw .to) ∷ pos (borderOf raw .lta) ∷ []) ≡ borderLine zones line i
+  module _ (next : ℕ) (e : values raw next ≡ optionalLine tab (code "B") borderColumns hubColumns line i) where
+    pub border-holds : borderFits zones raw ≡ true → holds raw ≡ borderLine zones line i
     unfolding borderLine
-    border-holds f =
-        let w = kept-long borderColumns raw (line-read tab (code "B") tab-ends borderColumns line i raw next (sym e) .kept) in
-        rw (← e, f) (ap holds (border-record zones raw (record { wide = w; fits = f })))
+    border-holds f = rw (← e, f)
 
     pub border-range : borderFits zones raw ≡ false → range ≡ borderLine zones line i
     unfolding borderLine
     border-range f = rw (← e, f)
 
-pub border-form : (zones : ℕ) (line : List ℕ) (i place : ℕ) → wrong place ≡ columnsLine tab (code "B") borderColumns line i → form ≡ borderLine zones line i
+pub border-form : (zones : ℕ) (line : List ℕ) (i place : ℕ) → wrong place ≡ optionalLine tab (code "B") borderColumns hubColumns line i → form ≡ borderLine zones line i
 unfolding borderLine
 border-form zones line i place e = rw (← e)
 
 module _ (zones i : ℕ) (raw : List ℤ) where
-  pub border-written : i < 10 ^ 10 → zones ≤ zonesMost → BorderHeld zones raw → borderLine zones (columnsText tab (code "B") borderColumns i raw) i ≡ holds raw
+  pub border-written : i < 10 ^ 10 → zones ≤ zonesMost → BorderHeld zones raw → borderLine zones (optionalText tab (code "B") borderColumns hubColumns i raw) i ≡ holds raw
   unfolding borderLine
-  border-written small few held = judged-written (borderFits zones) (λ raw. raw) tab (code "B") tab-ends borderColumns i raw small (border-kept zones raw held few) (held .fits)
+  border-written small few held = optional-written tab (code "B") tab-ends refl i borderColumns (number ∷ []) (borderFits zones) (λ raw. raw) raw small (border-kept zones raw held few) (held .fits)
 
-  pub border-one : (r : List ℕ) → lineOf (columnsText tab (code "B") borderColumns i raw ++ r) ≡ columnsText tab (code "B") borderColumns i raw
-  border-one r = line-one tab (code "B") borderColumns i raw r (omega arith) refl refl
+  pub border-one : (r : List ℕ) → lineOf (optionalText tab (code "B") borderColumns hubColumns i raw ++ r) ≡ optionalText tab (code "B") borderColumns hubColumns i raw
+  border-one r = line-one tab (code "B") (writtenBy borderColumns hubColumns raw) i raw r (some (ltZ (getD raw 3 (pos 0)) (pos 0))) refl refl
+    where
+      some : (t : Bool) → 0 < length (cond t borderColumns (borderColumns ++ hubColumns))
+      some true = omega arith
+      some false = omega arith

@@ -2,5 +2,4 @@ pub mod HeaderTrip
 pub mod ZoneTrip
 pub mod BorderTrip
 pub mod RowTrip
-pub mod SaidLaws
 pub mod RowJudge

@@ -1,6 +1,6 @@
 -- What the code answers of a line, as `Line` of crate text says it. Promises are stated through these.
-use mathlib.Core.List.{List, [], _∷_}
-use lib.IntN.{ℤ, pos}
+use mathlib.Core.List.{List}
+use lib.IntN.{ℤ}
 use Rattle.kinds.specs.declared.Header.{Header}
 use Rattle.text.specs.Line.{Line, holds, form, range}
 use Rattle.lines.specs.declared.HeaderLine.{HeaderLine}
@@ -20,8 +20,8 @@ saidZone (zone.Holds net) = holds net
 saidZone zone.Form = form
 saidZone zone.Range = range
 
--- a border as its raw record
-abbrev pub saidBorder : BorderLine → Line (List ℤ)
-saidBorder (border.Holds b) = holds (pos (b .from) ∷ pos (b .to) ∷ pos (b .lta) ∷ [])
-saidBorder border.Form = form
-saidBorder border.Range = range
+-- a border is the raw record that was stored; where a line holds none, what was stored says nothing
+abbrev pub saidBorder : BorderLine → (raw : List ℤ) → Line (List ℤ)
+saidBorder border.Holds raw = holds raw
+saidBorder border.Form raw = form
+saidBorder border.Range raw = range

@@ -2,23 +2,35 @@
 use crate::BorderLine;
 use columns::Fields;
 use kinds::Border;
-use kinds::BorderRead;
-use kinds::BorderRecord;
 ghost use mathlib.Core.Path.{_≡_};
+ghost use lib.ListN.{length};
+ghost use Rattle.kinds.specs.LineColumns.{borderItems};
 ghost use Rattle.lines.specs.Lines.{borderLine};
 ghost use Rattle.lines.specs.Said.{saidBorder};
 
-// Index, from zone, to zone, LTA.
-pub fn border_line(zones: usize, line: &[u8], i: usize) -> BorderLine
-    ensures { λ r. ⌜ saidBorder r ≡ borderLine zones (now (line .entry)) i ⌝ }
+// Index, from zone, to zone, LTA, and the hubs where the line has them: their raw numbers into `raw`.
+pub fn border_line(zones: usize, line: &[u8], i: usize, raw: &mut [i64]) -> BorderLine
+    requires { ⌜ length (now raw) ≡ borderItems ⌝ }
+    ensures { λ r. ⌜ saidBorder r (now (raw .exit)) ≡ borderLine zones (now (line .entry)) i ⌝ }
 {
-    let mut raw: BorderRecord = [0; Border::ITEMS];
-    let Fields::End(_) = columns::read::line_at(b'\t', b'B', &Border::COLUMNS, line, i, &mut raw)
-    else {
+    let Fields::End(_) = columns::optional::optional_at(
+        b'\t',
+        b'B',
+        &Border::COLUMNS,
+        Border::ALWAYS,
+        line,
+        i,
+        raw,
+    ) else {
         return BorderLine::Form;
     };
-    let BorderRead::Good(border) = Border::of(zones, raw) else {
-        return BorderLine::Range;
-    };
-    BorderLine::Holds(border)
+    let from = raw[0];
+    let to = raw[1];
+    let lta = raw[2];
+    let sending = raw[3];
+    let receiving = raw[4];
+    if Border::fits(zones, from, to, lta, sending, receiving) {
+        return BorderLine::Holds;
+    }
+    BorderLine::Range
 }

@@ -3,8 +3,8 @@ use mathlib.Core.Path.{_≡_, refl}
 use mathlib.Core.List.{[], _∷_}
 use lib.IntN.{pos}
 use Rattle.numbers.specs.Below.{sum, largest}
-use Rattle.numbers.specs.Ints.{maxℤ, positivePart, sumℤ}
-use Rattle.kinds.specs.Ranges.{borderOf, shareOf, rowOf, worth}
+use Rattle.numbers.specs.Ints.{minus, maxℤ, positivePart, sumℤ}
+use Rattle.kinds.specs.Ranges.{hubsOf, borderOf, shareOf, rowOf, worth}
 use Rattle.table.specs.Table.{Table, stretch}
 use Rattle.margin.specs.Margin.{grains, f0coreOf, fuafOf, baseOf, amrOf, signedFactor, pOf, ltaKw, cornerPart, sOf, ltaMarginOf, ramOf, ramAt, marginOf}
 
@@ -14,7 +14,7 @@ small =
     record {
       header = record { zones = 2; borders = 1; rows = 1 };
       nets = pos 0 ∷ pos 0 ∷ [];
-      borders = (pos 0 ∷ pos 1 ∷ pos 1 ∷ []) ∷ [];
+      borders = (pos 0 ∷ pos 1 ∷ pos 1 ∷ minus 1 ∷ minus 1 ∷ []) ∷ [];
       rows = (pos 100000 ∷ pos 0 ∷ pos 0 ∷ pos 0 ∷ pos 0 ∷ pos 0 ∷ pos 0 ∷ []) ∷ [];
       factors = pos 20000 ∷ pos 0 ∷ [];
     }
@@ -23,13 +23,16 @@ pub record Anchors : Type 0 where
   -- Fmax 100000, FRM 50000, R 7000, F0core 10000, F0all 0: Fuaf 10000, Base 40000, AMR 70000 - 10000 - 40000
   pub fuaf : amrOf (rowOf (pos 100000 ∷ pos 50000 ∷ pos 0 ∷ pos 0 ∷ pos 7000 ∷ pos 0 ∷ pos 0 ∷ [])) (grains (pos 10000)) ≡ grains (pos 20000)
   -- p 10000 on two borders, of LTA 100 and 200 MW: S is their sum
-  pub s-sum : sOf (pos 20000 ∷ pos 10000 ∷ pos 0 ∷ []) ((pos 0 ∷ pos 1 ∷ pos 100 ∷ []) ∷ (pos 1 ∷ pos 2 ∷ pos 200 ∷ []) ∷ []) ≡ 3000000000
+  pub s-sum : sOf (pos 20000 ∷ pos 10000 ∷ pos 0 ∷ []) ((pos 0 ∷ pos 1 ∷ pos 100 ∷ minus 1 ∷ minus 1 ∷ []) ∷ (pos 1 ∷ pos 2 ∷ pos 200 ∷ minus 1 ∷ minus 1 ∷ []) ∷ []) ≡ 3000000000
   -- borders 0 to 1 of LTA 100 MW and back of 50: the way back relieves the row, its p is 0, and S is the first border's part alone
-  pub relieving-p : pOf (pos 20000 ∷ pos 0 ∷ []) (borderOf (pos 1 ∷ pos 0 ∷ pos 50 ∷ [])) ≡ 0
-  pub relieving-s : sOf (pos 20000 ∷ pos 0 ∷ []) ((pos 0 ∷ pos 1 ∷ pos 100 ∷ []) ∷ (pos 1 ∷ pos 0 ∷ pos 50 ∷ []) ∷ []) ≡ 2000000000
+  pub relieving-p : pOf (pos 20000 ∷ pos 0 ∷ []) (borderOf (pos 1 ∷ pos 0 ∷ pos 50 ∷ minus 1 ∷ minus 1 ∷ [])) ≡ 0
+  pub relieving-s : sOf (pos 20000 ∷ pos 0 ∷ []) ((pos 0 ∷ pos 1 ∷ pos 100 ∷ minus 1 ∷ minus 1 ∷ []) ∷ (pos 1 ∷ pos 0 ∷ pos 50 ∷ minus 1 ∷ minus 1 ∷ []) ∷ []) ≡ 2000000000
+  -- a cable from zone 0 to zone 1 by hubs 2 and 3 (02, E3): 30000 - 8000 + 1000 - 20000, and by hubs 3 and 2: 30000 - 1000 + 8000 - 20000
+  pub cable : pOf (pos 30000 ∷ pos 20000 ∷ pos 8000 ∷ pos 1000 ∷ []) (borderOf (pos 0 ∷ pos 1 ∷ pos 50 ∷ pos 2 ∷ pos 3 ∷ [])) ≡ 3000
+  pub cable-turned : pOf (pos 30000 ∷ pos 20000 ∷ pos 8000 ∷ pos 1000 ∷ []) (borderOf (pos 0 ∷ pos 1 ∷ pos 50 ∷ pos 3 ∷ pos 2 ∷ [])) ≡ 17000
   -- a row's margin starts at RAM - S
   pub starts : marginOf small 0 ≡ pos 9980000000
 
 pub anchors : Anchors
-unfolding sum largest sumℤ maxℤ positivePart borderOf shareOf rowOf worth stretch grains f0coreOf fuafOf baseOf amrOf signedFactor pOf ltaKw cornerPart sOf ltaMarginOf ramOf ramAt
-anchors = record { fuaf = refl; s-sum = refl; relieving-p = refl; relieving-s = refl; starts = refl }
+unfolding sum largest sumℤ maxℤ positivePart hubsOf borderOf shareOf rowOf worth stretch grains f0coreOf fuafOf baseOf amrOf signedFactor pOf ltaKw cornerPart sOf ltaMarginOf ramOf ramAt
+anchors = record { fuaf = refl; s-sum = refl; relieving-p = refl; relieving-s = refl; cable = refl; cable-turned = refl; starts = refl }

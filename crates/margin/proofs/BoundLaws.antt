@@ -14,11 +14,13 @@ use Rattle.numbers.specs.Ints.{Within, AllWithin, maxℤ, positivePart, sumℤ}
 use Rattle.numbers.specs.Below.{sum}
 use Rattle.numbers.proofs.SumLaws.{sum-most}
 use Rattle.numbers.proofs.IntLaws.{diff, diffs, zarith, within-le, within-pos, within-mul, within-max, max-above-left, max-above-right, max-or}
+use Rattle.kinds.specs.declared.Hubs.{Hubs}
+use Rattle.kinds.specs.declared.Hubs.the-variants.{Without, Between}
 use Rattle.kinds.specs.declared.Border.{Border}
 use Rattle.kinds.specs.declared.Row.{Row}
 use Rattle.kinds.specs.Ranges.{atℤ, borderOf, worth}
-use Rattle.margin.specs.Margin.{grains, f0coreOf, fuafOf, baseOf, amrOf, signedFactor, pOf, ltaKw, sOf, ltaMarginOf, ramOf}
-use Rattle.margin.specs.Bounds.{RowWithin, BorderWithin}
+use Rattle.margin.specs.Margin.{grains, f0coreOf, fuafOf, baseOf, amrOf, byHubs, signedFactor, pOf, ltaKw, sOf, ltaMarginOf, ramOf}
+use Rattle.margin.specs.Bounds.{RowWithin, HubsWithin, BorderWithin}
 use Rattle.margin.proofs.MarginLaws.{shareLess, fifth, base-amr, lta-is, ram-largest}
 
 -- ---- a value that is another, sums and differences
@@ -108,6 +110,17 @@ module _ {fmax flow share va m : ℕ} {row : Row} (within : RowWithin fmax flow 
       (within-max (within-le amr-first (omega arith)) (within-le (within-sub (within-fifth within) within-base) (omega arith)))
       (within-pos (omega arith))
 
+-- ---- a signed factor, without hubs and by hubs
+module _ (factors : List ℤ) (border : Border) where
+  pub signed-without : border .hubs ≡ Without → atℤ factors (border .from) -ℤ atℤ factors (border .to) ≡ signedFactor factors border
+  unfolding signedFactor
+  signed-without e = rw e
+
+  pub signed-between : (sending receiving : ℕ) → border .hubs ≡ Between sending receiving
+      → atℤ factors (border .from) -ℤ atℤ factors sending +ℤ atℤ factors receiving -ℤ atℤ factors (border .to) ≡ signedFactor factors border
+  unfolding signedFactor
+  signed-between sending receiving e = rw e
+
 -- ---- S: a border factor, a border's part, the sum
 part-le : {m : ℕ} (z : ℤ) → Within m z → positivePart z ≤ m
 unfolding positivePart
@@ -115,13 +128,23 @@ part-le (pos n) h = h .abs
 part-le (negsuc n) h = omega arith
 
 module _ {factor lta : ℕ} {factors : List ℤ} (each : AllWithin factor factors) where
-  pub p-most : {border : Border} → BorderWithin lta (length factors) border → pOf factors border ≤ 2 * factor
-  unfolding pOf signedFactor
-  p-most {border} h =
-      let w = within-sub (each .at (border .from) (h .from-in)) (each .at (border .to) (h .to-in)) in
-      part-le (atℤ factors (border .from) -ℤ atℤ factors (border .to)) (within-le w (omega arith))
+  -- a signed factor is of two factors, of a cable by hubs of four
+  pub signed-within : {border : Border} → BorderWithin lta (length factors) border → Within (4 * factor) (signedFactor factors border)
+  unfolding signedFactor
+  signed-within {border} h = go (border .hubs) (h .hubs-in)
+    where
+      go : (hubs : Hubs) → HubsWithin (length factors) hubs → Within (4 * factor) (byHubs factors hubs (atℤ factors (border .from)) (atℤ factors (border .to)))
+      go Without k = within-le (within-sub (each .at (border .from) (h .from-in)) (each .at (border .to) (h .to-in))) (omega arith)
+      go (Between sending receiving) k =
+          within-le
+          (within-sub (within-add (within-sub (each .at (border .from) (h .from-in)) (each .at sending (k .0))) (each .at receiving (k .1))) (each .at (border .to) (h .to-in)))
+          (omega arith)
 
-  pub load-most : {border : Border} → BorderWithin lta (length factors) border → pOf factors border * ltaKw border ≤ 2 * factor * (lta * 1000)
+  pub p-most : {border : Border} → BorderWithin lta (length factors) border → pOf factors border ≤ 4 * factor
+  unfolding pOf
+  p-most {border} h = part-le (signedFactor factors border) (signed-within h)
+
+  pub load-most : {border : Border} → BorderWithin lta (length factors) border → pOf factors border * ltaKw border ≤ 4 * factor * (lta * 1000)
   unfolding ltaKw
   load-most h = mul-le-mul (p-most h) (omega (arith, h .lta-in))
 
@@ -145,12 +168,12 @@ module _ (factors : List ℤ) (borders : List (List ℤ)) where
 -- its most, up to any border, and whole
 module _ {factor lta : ℕ} {factors : List ℤ} (each : AllWithin factor factors) (borders : List (List ℤ))
     (within : (b : ℕ) → b < length borders → BorderWithin lta (length factors) (borderOf (getD borders b []))) where
-  pub s-upto : (k : ℕ) → k ≤ length borders → sum k (loads factors borders) ≤ k * (2 * factor * (lta * 1000))
+  pub s-upto : (k : ℕ) → k ≤ length borders → sum k (loads factors borders) ≤ k * (4 * factor * (lta * 1000))
   s-upto k h = sum-most k (loads factors borders) (λ b l. load-most each (within b (omega arith)))
 
-  pub s-most : (n : ℕ) → length borders ≤ n → sOf factors borders ≤ n * (2 * factor * (lta * 1000))
+  pub s-most : (n : ℕ) → length borders ≤ n → sOf factors borders ≤ n * (4 * factor * (lta * 1000))
   unfolding sOf
-  s-most n h = omega (arith, s-upto (length borders) (le-refl (length borders)), mul-le-mul h (le-refl (2 * factor * (lta * 1000))))
+  s-most n h = omega (arith, s-upto (length borders) (le-refl (length borders)), mul-le-mul h (le-refl (4 * factor * (lta * 1000))))
 
 -- ---- LTA margin, by the sum in which 01 gives it
 pub within-lta-margin : {fmax flow share va m a n s : ℕ} {row : Row} {f0core amr : ℤ} → RowWithin fmax flow share va row → Within m f0core → Within a amr → s ≤ n

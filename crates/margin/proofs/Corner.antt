@@ -1,5 +1,5 @@
 -- 01, "Margin of a row": S, the sum of p times LTA, is the largest sum over all corners, for any number of borders. No contract cites this file.
--- The corner that reaches it uses the borders whose (from factor less to factor) is positive.
+-- The corner that reaches it uses the borders whose signed factor is positive.
 use mathlib.Core.Path.{_≡_, refl, sym, ap, ap₂, subst, _∙_}
 use mathlib.Core.List.{List, []}
 use Prim.Native.Nat.{ℕ, zero, suc, _+_, _*_, _/_, _%_, _^_, _<_}

@@ -1,32 +1,44 @@
 -- What a judged record gives to the functions of this crate, its ranges, and the same of a judged table's parts. No contract cites this file.
-use mathlib.Core.Path.{_≡_, ap, _∙_}
-use mathlib.Core.Bool.{true}
+use mathlib.Core.Path.{_≡_, sym, ap, subst, _∙_}
+use mathlib.Core.Bool.{Bool, true, false, cond}
 use mathlib.Core.List.{List, []}
 use Prim.Native.Nat.{ℕ, _+_, _*_, _≤_, _<_}
 use native.Mathlib.Nat.{mul-le-mul, suc-mul, le-refl}
 use native.Mathlib.Omega.{arith}
-use lib.IntN.{ℤ}
+use lib.IntN.{ℤ, pos, natAbs}
 use lib.ListN.{length, getD}
+use lib.Signed.{ltZ}
+use borrow.Author.Tests.{le-ltb}
 use Rattle.numbers.proofs.IntLaws.{within-le, all-part, between-within}
 use Rattle.kinds.specs.declared.Header.{Header}
+use Rattle.kinds.specs.declared.Hubs.the-variants.{Without, Between}
 use Rattle.kinds.specs.declared.Border.{Border}
 use Rattle.kinds.specs.declared.Row.{Row}
 use Rattle.kinds.specs.Limits.{bordersMost}
-use Rattle.kinds.specs.Ranges.{atℤ, borderFits, borderOf, rowFits, rowOf}
-use Rattle.kinds.proofs.KindLaws.{header-in, zone-in, border-in, row-in, share-in, factor-in}
+use Rattle.kinds.specs.Ranges.{atℤ, hubsOf, borderFits, borderOf, rowFits, rowOf}
+use Rattle.kinds.proofs.KindLaws.{header-in, zone-in, HubsIn, none, both, border-in, row-in, share-in, factor-in}
 use Rattle.table.specs.Table.{Table, stretch}
 use Rattle.table.specs.Good.{Good}
 use Rattle.table.proofs.GoodLaws as good
 use Rattle.margin.specs.Margin.{sOf}
-use Rattle.margin.specs.Bounds.{RowBound, FactorsBound, TableFactorsBound, NetsBound, BorderBound, BordersBound, sMost}
+use Rattle.margin.specs.Bounds.{RowBound, FactorsBound, TableFactorsBound, NetsBound, HubsWithin, BorderBound, BordersBound, sMost}
 use Rattle.margin.proofs.BoundLaws.{s-most}
+
+-- ---- hubs that fit are zones, where there are any
+hubs-within : (zones : ℕ) (sending receiving : ℤ) → HubsIn zones sending receiving → HubsWithin zones (hubsOf sending receiving)
+unfolding hubsOf
+hubs-within zones sending receiving (none s r) = subst (λ (z : ℤ). HubsWithin zones (cond (ltZ z (pos 0)) Without (Between (natAbs z) (natAbs receiving)))) (sym s) tt
+hubs-within zones sending receiving (both s r apart) =
+    let low : ltZ sending (pos 0) ≡ false = ap (λ (z : ℤ). ltZ z (pos 0)) (s .0) ∙ le-ltb (natAbs sending) 0 (omega arith) in
+    subst (λ (t : Bool). HubsWithin zones (cond t Without (Between (natAbs sending) (natAbs receiving)))) (sym low) (s .1, r .1)
 
 -- ---- a border that fits, and a value that is this border
 module _ (zones : ℕ) (raw : List ℤ) (fits : borderFits zones raw ≡ true) where
   pub border-bound : BorderBound zones (borderOf raw)
+  unfolding borderOf
   border-bound =
       let b = border-in zones raw fits in
-      record { from-in = b .from-below; to-in = b .to-below; lta-in = b .lta-most }
+      record { from-in = b .from-below; to-in = b .to-below; lta-in = b .lta-most; hubs-in = hubs-within zones (atℤ raw 3) (atℤ raw 4) (b .hubs) }
 
   pub border-judged : {border : Border} → border ≡ borderOf raw → BorderBound zones border
   border-judged e = rw e border-bound

@@ -10,13 +10,13 @@ use mathlib.Core.Path.{_≡_, refl, sym, subst}
 use mathlib.Core.Bool.{true}
 use Rattle.numbers.specs.Ints.{Within}
 use Rattle.numbers.proofs.IntLaws.{Between, diffs, zarith}
-use Rattle.kinds.specs.Limits.{zonesMost, fmaxMost, flowMost, shareMost, factorMost}
+use Rattle.kinds.specs.Limits.{zonesMost, fmaxMost, flowMost, shareMost}
 use Rattle.kinds.specs.Ranges.{borderFits}
 use Rattle.kinds.proofs.KindLaws.{row-in}
 use Rattle.table.specs.Table.{Table, rowAt, borderAt, factorsAt}
 use Rattle.table.specs.Good.{Good}
 use Rattle.margin.specs.Margin.{pOf, sAt, ramAt, marginOf}
-use Rattle.margin.specs.Bounds.{RowBound, BordersBound, f0coreMost, sMost, ramMost}
+use Rattle.margin.specs.Bounds.{RowBound, BordersBound, pMost, f0coreMost, sMost, ramMost}
 use Rattle.margin.specs.Small.{f0coreAt, NamedSmall}
 use Rattle.margin.proofs.BoundLaws.{within-f0core, within-fuaf, within-base, within-amr, p-most, lta-margin-most, within-ram, within-start}
 use Rattle.margin.proofs.JudgedLaws.{border-bound, row-bound, stretch-long, stretch-bound, s-bound, good-factors, good-borders, good-nets}
@@ -48,7 +48,7 @@ module _ {t : Table} (good : Good t) (i : ℕ) (below : i < t .header .rows) whe
       s-bound (stretch-bound (good-factors good) i below)
       (subst (λ (n : ℕ). BordersBound n (t .borders)) (sym (stretch-long (good-factors good) i below)) (good-borders good)) refl
 
-  pub p-in : (b : ℕ) → b < t .header .borders → pOf (factorsAt t i) (borderAt t b) ≤ 2 * factorMost
+  pub p-in : (b : ℕ) → b < t .header .borders → pOf (factorsAt t i) (borderAt t b) ≤ pMost
   p-in b h =
       let f = good-factors good in
       let raw = getD (t .borders) b [] in

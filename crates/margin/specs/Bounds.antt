@@ -8,6 +8,8 @@ use lib.IntN.{ℤ}
 use lib.ListN.{length, getD}
 use Rattle.numbers.specs.Ints.{Within, AllWithin}
 use Rattle.kinds.specs.declared.Header.{Header}
+use Rattle.kinds.specs.declared.Hubs.{Hubs}
+use Rattle.kinds.specs.declared.Hubs.the-variants.{Without, Between}
 use Rattle.kinds.specs.declared.Border.{Border}
 use Rattle.kinds.specs.declared.Row.{Row}
 use Rattle.kinds.specs.Limits.{zonesMost, bordersMost, netMost, ltaMost, fmaxMost, flowMost, shareMost, vaMost, factorMost}
@@ -44,11 +46,17 @@ pub record NetsBound (zones : ℕ) (nets : List ℤ) : Type 0 where
   pub long : length nets ≡ zones
   pub each : AllWithin netMost nets
 
+-- hubs that are zones
+abbrev pub HubsWithin : (zones : ℕ) → Hubs → Type 0
+HubsWithin zones Without = Unit {0}
+HubsWithin zones (Between sending receiving) = (sending < zones) × (receiving < zones)
+
 -- a border between two of the zones, of at most so much LTA in MW
 pub record BorderWithin (lta zones : ℕ) (border : Border) : Type 0 where
   pub from-in : border .from < zones
   pub to-in : border .to < zones
   pub lta-in : border .lta ≤ lta
+  pub hubs-in : HubsWithin zones (border .hubs)
 
 abbrev pub BorderBound : (zones : ℕ) → Border → Type 0
 BorderBound zones border = BorderWithin ltaMost zones border
@@ -62,6 +70,10 @@ pub record BordersBound (zones : ℕ) (borders : List (List ℤ)) : Type 0 where
 abbrev pub namedBits : ℕ
 namedBits = 48
 
+-- the most that a signed factor can be, in magnitude, hundred-thousandths: of hubs it has four factors
+abbrev pub pMost : ℕ
+pMost = 4 * factorMost
+
 -- the most that F0core, AMR, S and RAM can be, in magnitude
 abbrev pub f0coreMost : ℕ
 f0coreMost = flowMost * 100000 + zonesMost * (factorMost * netMost)
@@ -70,7 +82,7 @@ abbrev pub amrMost : ℕ
 amrMost = shareMost * fmaxMost * 10 + flowMost * 100000 + fmaxMost * 420000 + f0coreMost
 
 abbrev pub sMost : ℕ
-sMost = bordersMost * (2 * factorMost * (ltaMost * 1000))
+sMost = bordersMost * (pMost * (ltaMost * 1000))
 
 abbrev pub ramMost : ℕ
 ramMost = shareMost * fmaxMost * 10 + (f0coreMost + flowMost * 100000) + vaMost * 100000 + vaMost * 100000

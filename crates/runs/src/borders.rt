@@ -8,6 +8,7 @@ ghost use Rattle.block.specs.Block.{linesAt};
 ghost use Rattle.table.specs.Table.{zoneLineNo};
 ghost use Rattle.lines.specs.Lines.{borderLine};
 ghost use Rattle.runs.specs.Runs.{storedRun};
+use kinds::Border;
 use kinds::BorderRecord;
 use kinds::Refusal;
 use lines::BorderLine;
@@ -24,9 +25,10 @@ pub fn borders_read(text: &[u8], at: usize, zones: usize, b: &mut [BorderRecord]
     let mut p = at;
     while i < n {
         let line = text::line::line_at(text, p);
-        match lines::border::border_line(zones, line, i) {
-            BorderLine::Holds(border) => {
-                b[i] = [border.from as i64, border.to as i64, border.lta as i64];
+        let mut raw: BorderRecord = [0; Border::ITEMS];
+        match lines::border::border_line(zones, line, i, &mut raw) {
+            BorderLine::Holds => {
+                b[i] = raw;
             }
             BorderLine::Form => return End::Refused(Refusal::wrong_form(first + i)),
             BorderLine::Range => return End::Refused(Refusal::out_of_range(first + i)),

@@ -6,7 +6,7 @@ use lib.IntN.{ℤ, pos}
 use Rattle.numbers.specs.Below.{table, firstFrom, given}
 use Rattle.numbers.specs.Ints.{minus, positivePart}
 use Rattle.kinds.specs.declared.Header.{Header}
-use Rattle.kinds.specs.Ranges.{borderOf}
+use Rattle.kinds.specs.Ranges.{hubsOf, borderOf}
 use Rattle.kinds.specs.Refusals.{Judged, passed, refused, refusal, unless, refuseAt, refuseFirst}
 use Rattle.table.specs.Table.{stretch}
 use Rattle.margin.specs.Margin.{signedFactor, pOf, ltaKw}
@@ -18,7 +18,7 @@ header rows = record { zones = 2; borders = 2; rows = rows }
 
 -- border 0 to 1 has 1 MW; the way back has none
 abbrev borders : List (List ℤ)
-borders = (pos 0 ∷ pos 1 ∷ pos 1 ∷ []) ∷ (pos 1 ∷ pos 0 ∷ pos 0 ∷ []) ∷ []
+borders = (pos 0 ∷ pos 1 ∷ pos 1 ∷ minus 1 ∷ minus 1 ∷ []) ∷ (pos 1 ∷ pos 0 ∷ pos 0 ∷ minus 1 ∷ minus 1 ∷ []) ∷ []
 
 -- one row, which loads border 0 alone
 abbrev one : (states : List ℕ) → (starts : List ℤ) → Judged (List ℕ)
@@ -43,5 +43,5 @@ pub record Anchors : Type 0 where
   pub laid-out : cells (gridOf (header 3) borders (pos 20000 ∷ pos 0 ∷ pos 0 ∷ pos 30000 ∷ pos 50000 ∷ pos 10000 ∷ []) (0 ∷ 0 ∷ 2 ∷ [])) ≡ 20000 ∷ 0 ∷ 0 ∷ 30000 ∷ 0 ∷ 0 ∷ []
 
 pub anchors : Anchors
-unfolding table firstFrom given positivePart borderOf unless refuseAt refuseFirst stretch signedFactor pOf ltaKw kept gridOf startOf judgeStart
+unfolding table firstFrom given positivePart hubsOf borderOf unless refuseAt refuseFirst stretch signedFactor pOf ltaKw kept gridOf startOf judgeStart
 anchors = record { five-first = refl; six-first = refl; seven = refl; six-kept = refl; seven-kept = refl; starts = refl; laid-out = refl }

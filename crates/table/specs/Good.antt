@@ -5,6 +5,7 @@ use mathlib.Core.Bool.{true, false}
 use mathlib.Core.List.{[]}
 use Prim.Native.Nat.{ℕ, _*_, _<_}
 use lib.ListN.{length, getD}
+use Rattle.kinds.specs.LineColumns.{borderItems, rowItems}
 use Rattle.kinds.specs.Ranges.{atℤ, headerFits, zoneFits, borderFits, rowFits, factorFits}
 use Rattle.table.specs.Table.{Table, twice}
 
@@ -24,7 +25,7 @@ pub record Good (t : Table) : Type 0 where
   pub factors-fit : (k : ℕ) → k < t .header .rows * t .header .zones → factorFits (atℤ (t .factors) k) ≡ true
   pub once : (b : ℕ) → b < t .header .borders → twice (t .borders) b ≡ false
 
--- a raw border record has three numbers, a raw row record seven: what a lent record's type says of it
+-- a raw border record has five numbers, a raw row record seven: what a lent record's type says of it
 pub record Shaped (t : Table) : Type 0 where
-  pub borders-wide : (b : ℕ) → b < t .header .borders → length (getD (t .borders) b []) ≡ 3
-  pub rows-wide : (i : ℕ) → i < t .header .rows → length (getD (t .rows) i []) ≡ 7
+  pub borders-wide : (b : ℕ) → b < t .header .borders → length (getD (t .borders) b []) ≡ borderItems
+  pub rows-wide : (i : ℕ) → i < t .header .rows → length (getD (t .rows) i []) ≡ rowItems

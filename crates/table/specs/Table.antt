@@ -55,12 +55,14 @@ rowLineNo h = borderLineNo h + h .borders
 abbrev pub pastLineNo : Header → ℕ
 pastLineNo h = rowLineNo h + h .rows
 
--- 4: border b has the same from and to as an earlier border
-abbrev pub samePair : (x y : List ℤ) → Bool
-samePair x y = sameℤ (atℤ x 0) (atℤ y 0) && sameℤ (atℤ x 1) (atℤ y 1)
+-- 4: border b has the same from and to, and the same hubs in their order (02, E3), as an earlier border
+abbrev pub sameEnds : (x y : List ℤ) → Bool
+sameEnds x y =
+    sameℤ (atℤ x 0) (atℤ y 0) && sameℤ (atℤ x 1) (atℤ y 1)
+    && sameℤ (atℤ x 3) (atℤ y 3) && sameℤ (atℤ x 4) (atℤ y 4)
 
 unfoldable pub twice : (borders : List (List ℤ)) → (b : ℕ) → Bool
-twice borders b = someBelow b (λ e. samePair (getD borders e []) (getD borders b []))
+twice borders b = someBelow b (λ e. sameEnds (getD borders e []) (getD borders b []))
 
 abbrev pub notTwice : Table → Judged Table
 notTwice t = refuseFirst (t .header .borders) (twice (t .borders)) givenTwice (passed t)

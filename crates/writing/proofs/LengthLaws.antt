@@ -1,30 +1,32 @@
 -- How long the text of a good table gets (specs/Writing.antt): each line, and by the longest line all lines. No contract cites this file.
 -- The bound is rough: only that it is no more than 65,536 bytes is asked (`never-too-long` in RoundTrip.antt).
-use mathlib.Core.Path.{_≡_, refl, _∙_}
-use mathlib.Core.Bool.{true}
+use mathlib.Core.Path.{_≡_, refl, ap, _∙_}
+use mathlib.Core.Bool.{Bool, true, false, cond}
 use mathlib.Core.List.{List, [], _∷_, _++_}
 use Prim.Native.Char.{code}
 use Prim.Native.Nat.{ℕ, suc, _+_, _*_, _≤_, _<_}
 use native.Mathlib.Omega.{arith}
 use lib.Dec.{leb→le}
-use lib.IntN.{ℤ, pos, negsuc}
+use lib.IntN.{ℤ, pos, negsuc, natAbs}
 use lib.ListN.{length, getD, drop, length-append}
 use lib.Seq.{getD-drop}
+use lib.Signed.{ltZ}
 use Rattle.numbers.specs.Ints.{minus, inside}
 use Rattle.numbers.proofs.IntLaws.{inside-true}
 use Rattle.kinds.specs.declared.Header.{Header}
 use Rattle.kinds.specs.Limits.{zonesMost, bordersMost, rowsMost, shareMost}
 use Rattle.kinds.specs.Ranges.{atℤ, headerFits, zoneFits, borderFits, borderOf, rowOf, rowFits, factorFits}
-use Rattle.kinds.proofs.KindLaws.{HeaderIn, header-in, zone-in, border-in, row-in, factor-in}
+use Rattle.kinds.proofs.KindLaws.{HeaderIn, header-in, zone-in, HubsIn, none, both, border-in, row-in, factor-in}
 use Rattle.text.specs.Written.{decimal, decimalℤ, shareText, linesText}
 use Rattle.text.proofs.PutLaws.{lines-most}
 use Rattle.text.proofs.WrittenLaws.{decimal-long, decimalℤ-long, pos-long}
 use Rattle.table.specs.Table.{Table, factorsAt}
 use Rattle.table.specs.Good.{Good}
 use Rattle.table.proofs.GoodLaws.{stretch-long, row-fit}
-use Rattle.kinds.specs.LineColumns.{headerColumns, zoneColumns, borderColumns, rowColumns, factorColumns}
+use Rattle.kinds.specs.LineColumns.{headerColumns, zoneColumns, borderColumns, hubColumns, rowColumns, factorColumns}
 use Rattle.text.specs.Fields.{tab}
 use Rattle.columns.specs.ColumnText.{fieldText, fieldsLength, numbersOf}
+use Rattle.columns.specs.Optional.{writtenBy}
 use Rattle.columns.proofs.ColumnPut.{line-long, plain-long, length-parts}
 use Rattle.layout.specs.Layout.{headerText, zoneText, borderText, rowText}
 use Rattle.writing.specs.Writing.{tableText}
@@ -85,17 +87,39 @@ border-fields zones raw e =
     rw (two, three, b .from)
 
 -- zones of 2 digits, and an LTA of 5
-border-most : (zones i : ℕ) (raw : List ℤ) → zones ≤ zonesMost → borderFits zones raw ≡ true → length (borderText i raw) ≤ 15 + digitsOf i
-border-most zones i raw few e =
+ends-most : (zones : ℕ) (raw : List ℤ) → zones ≤ zonesMost → borderFits zones raw ≡ true → fieldsLength borderColumns raw ≤ 12
+ends-most zones raw few e =
     let b = border-in zones raw e in
-    rw (line-long tab (code "B") borderColumns i raw)
-    (omega (
+    omega (
       arith,
       border-fields zones raw e,
       decimal-long 1 (borderOf raw .from) (omega (arith, b .from-below)),
       decimal-long 1 (borderOf raw .to) (omega (arith, b .to-below)),
       decimal-long 4 (borderOf raw .lta) (omega (arith, b .lta-most)),
-    ))
+    )
+
+-- a hub is a zone; -1 is as long
+hubs-small : (zones : ℕ) (sending receiving : ℤ) → zones ≤ zonesMost → HubsIn zones sending receiving → (natAbs sending < 100) × (natAbs receiving < 100)
+hubs-small zones sending receiving few (none s r) = (rw s (omega arith), rw r (omega arith))
+hubs-small zones sending receiving few (both s r apart) = (omega (arith, s .1), omega (arith, r .1))
+
+hub-fields : (raw : List ℤ) → fieldsLength (borderColumns ++ hubColumns) raw ≡ fieldsLength borderColumns raw + (length (decimalℤ (atℤ raw 3)) + 1 + (length (decimalℤ (atℤ raw 4)) + 1 + 0))
+unfolding fieldsLength fieldText
+hub-fields raw =
+    let four : getD (drop 1 (drop 1 (drop 1 raw))) 0 (pos 0) ≡ atℤ raw 3 = getD-drop 1 (drop 1 (drop 1 raw)) 0 (pos 0) ∙ getD-drop 1 (drop 1 raw) 1 (pos 0) ∙ getD-drop 1 raw 2 (pos 0) in
+    let five : getD (drop 1 (drop 1 (drop 1 (drop 1 raw)))) 0 (pos 0) ≡ atℤ raw 4 =
+    getD-drop 1 (drop 1 (drop 1 (drop 1 raw))) 0 (pos 0) ∙ getD-drop 1 (drop 1 (drop 1 raw)) 1 (pos 0) ∙ getD-drop 1 (drop 1 raw) 2 (pos 0) ∙ getD-drop 1 raw 3 (pos 0) in
+    omega (arith, ap (λ (z : ℤ). length (decimalℤ z)) four, ap (λ (z : ℤ). length (decimalℤ z)) five)
+
+border-most : (zones i : ℕ) (raw : List ℤ) → zones ≤ zonesMost → borderFits zones raw ≡ true → length (borderText i raw) ≤ 23 + digitsOf i
+border-most zones i raw few e =
+    rw (line-long tab (code "B") (writtenBy borderColumns hubColumns raw) i raw) (omega (arith, go (ltZ (atℤ raw 3) (pos 0))))
+  where
+    go : (t : Bool) → fieldsLength (cond t borderColumns (borderColumns ++ hubColumns)) raw ≤ 20
+    go true = omega (arith, ends-most zones raw few e)
+    go false =
+        let h = hubs-small zones (atℤ raw 3) (atℤ raw 4) few (border-in zones raw e .hubs) in
+        omega (arith, ends-most zones raw few e, hub-fields raw, decimalℤ-long 1 (atℤ raw 3) (h .0), decimalℤ-long 1 (atℤ raw 4) (h .1))
 
 -- ---- all lines: none is longer than a C line of the most zones, which has its letter, an index of 3 digits, values of 62 bytes and factors of 8,
 -- the tabs before them among these, and its LF

@@ -1,6 +1,10 @@
--- `margin::signed_factor` meets its contract.
+-- `margin::signed_factor` meets its contract. Each factor is of the row, and so is each sum of them small.
+use mathlib.Core.Path.{_≡_, subst}
+use Prim.Native.Nat.{ℕ, _<_}
+use native.Mathlib.Omega.{arith}
 use borrow.Author.Needs.{needs}
-use lib.IntN.{ℤ, _-ℤ_}
+use lib.IntN.{ℤ, _+ℤ_, _-ℤ_}
+use lib.ListN.{length}
 use mir.Facts.{toZ-ofZ}
 use mir.Syntax.{w64}
 use mir.Val.{SFits}
@@ -8,12 +12,12 @@ use Rattle.numbers.specs.Ints.{Within}
 use Rattle.numbers.proofs.IntLaws.{within-fits}
 use Rattle.kinds.specs.Limits.{factorMost}
 use Rattle.kinds.specs.Ranges.{atℤ}
-use Rattle.margin.specs.Margin.{signedFactor}
-use Rattle.margin.proofs.BoundLaws.{within-sub}
+use Rattle.margin.specs.Bounds.{HubsWithin}
+use Rattle.margin.proofs.BoundLaws.{within-add, within-sub, signed-without, signed-between}
 use Rattle.margin.proofs.signed_factor.Statement.{statement}
 use Rattle.margin.proofs.signed_factor.Tie as tie
 
--- the two factors
+-- the two ends' factors
 module _ (s : tie.Start) where
   abbrev from : ℤ
   from = atℤ (s .args .factors .now) (s .args .border .from)
@@ -31,11 +35,80 @@ module _ (s : tie.Start) where
   apart = within-fits (within-sub from-in to-in) tt
 
 sub-result : tie.Need-sub-result
-sub-result c = let s = c .before .before in simp (toZ-ofZ, within-fits (from-in s) tt, within-fits (to-in s) tt) (apart s)
+sub-result c = let s = c .before .before .before .before in simp (toZ-ofZ, within-fits (from-in s) tt, within-fits (to-in s) tt) (apart s)
 
 returns : tie.Need-returns
-unfolding signedFactor
-returns c = let s = c .before .before in simp (toZ-ofZ, within-fits (from-in s) tt, within-fits (to-in s) tt, apart s)
+returns c =
+    let s = c .before .before .before .before in
+    simp (toZ-ofZ, within-fits (from-in s) tt, within-fits (to-in s) tt, apart s) (signed-without _ _ (c .enum-told .given .1))
+
+-- the two hubs' factors, and the sum up to each
+module _ (h : tie.After-hubs) where
+  abbrev start : tie.Start
+  start = h .before .before .before .before
+
+  abbrev sending : ℕ
+  sending = h .hubs .given .0 .0
+
+  abbrev receiving : ℕ
+  receiving = h .hubs .given .0 .1 .0
+
+  zones : (sending < length (start .args .factors .now)) × (receiving < length (start .args .factors .now))
+  zones = subst (HubsWithin (length (start .args .factors .now))) (h .hubs .given .1) (start .pre .1 .hubs-in)
+
+  abbrev sent : ℤ
+  sent = atℤ (start .args .factors .now) sending
+
+  abbrev received : ℤ
+  received = atℤ (start .args .factors .now) receiving
+
+  sent-in : Within factorMost sent
+  sent-in = start .pre .0 .each .at sending (zones .0)
+
+  received-in : Within factorMost received
+  received-in = start .pre .0 .each .at receiving (zones .1)
+
+  first : SFits w64 (from start -ℤ sent)
+  first = within-fits (within-sub (from-in start) sent-in) tt
+
+  second : SFits w64 (from start -ℤ sent +ℤ received)
+  second = within-fits (within-add (within-sub (from-in start) sent-in) received-in) tt
+
+  third : SFits w64 (from start -ℤ sent +ℤ received -ℤ to start)
+  third = within-fits (within-sub (within-add (within-sub (from-in start) sent-in) received-in) (to-in start)) tt
+
+mul-sending-factor : tie.Need-mul-sending-factor
+mul-sending-factor c = omega (arith, zones (c .before) .0, start (c .before) .pre .0 .few)
+
+shared-slice-copy-out-sending-factor : tie.Need-shared-slice-copy-out-sending-factor
+shared-slice-copy-out-sending-factor c = zones (c .before) .0
+
+mul-receiving-factor : tie.Need-mul-receiving-factor
+mul-receiving-factor c = omega (arith, zones (c .before .before) .1, start (c .before .before) .pre .0 .few)
+
+shared-slice-copy-out-receiving-factor : tie.Need-shared-slice-copy-out-receiving-factor
+shared-slice-copy-out-receiving-factor c = zones (c .before .before) .1
+
+sub-result-2 : tie.Need-sub-result-2
+sub-result-2 c =
+    let h = c .before .before .before in
+    simp (toZ-ofZ, within-fits (from-in (start h)) tt, within-fits (sent-in h) tt) (first h)
+
+add-result : tie.Need-add-result
+add-result c =
+    let h = c .before .before .before in
+    simp (toZ-ofZ, within-fits (from-in (start h)) tt, within-fits (sent-in h) tt, within-fits (received-in h) tt, first h) (second h)
+
+sub-result-3 : tie.Need-sub-result-3
+sub-result-3 c =
+    let h = c .before .before .before in
+    simp (toZ-ofZ, within-fits (from-in (start h)) tt, within-fits (sent-in h) tt, within-fits (received-in h) tt, within-fits (to-in (start h)) tt, first h, second h) (third h)
+
+returns-2 : tie.Need-returns-2
+returns-2 c =
+    let h = c .before .before .before in
+    simp (toZ-ofZ, within-fits (from-in (start h)) tt, within-fits (sent-in h) tt, within-fits (received-in h) tt, within-fits (to-in (start h)) tt, first h, second h, third h)
+    (signed-between _ _ _ _ (h .hubs .given .1))
 
 pub signed-factor-spec : {M : Type 1} → statement M
 signed-factor-spec =
@@ -45,5 +118,15 @@ signed-factor-spec =
     (λ c. search needs)
     (λ c. search needs)
     (λ c. search needs)
+    (λ c. search needs)
     sub-result
-    returns)
+    (λ c. search needs)
+    mul-sending-factor
+    shared-slice-copy-out-sending-factor
+    mul-receiving-factor
+    shared-slice-copy-out-receiving-factor
+    sub-result-2
+    add-result
+    sub-result-3
+    returns
+    returns-2)

@@ -7,12 +7,12 @@ use borrow.Author.Needs.{needs}
 use lib.ListN.{getD}
 use Rattle.numbers.specs.Below.{given}
 use Rattle.numbers.proofs.BelowLaws.{Looked, looked-none, looked-all, looked-here, looked-more}
-use Rattle.table.specs.Table.{samePair, twice}
+use Rattle.table.specs.Table.{sameEnds, twice}
 use Rattle.table.proofs.is_twice.Statement.{statement}
 use Rattle.table.proofs.is_twice.Tie as tie
 
 abbrev Inv-loop : tie.InvT-loop
-Inv-loop b i e₀ e = Looked i (λ e. samePair (getD b e []) (getD b i [])) e
+Inv-loop b i e₀ e = Looked i (λ e. sameEnds (getD b e []) (getD b i [])) e
 
 abbrev μ-loop : tie.MeasureT-loop
 μ-loop b i e₀ e = i - e
@@ -25,13 +25,13 @@ unfolding twice given
 returns c =
     let at-call = c .before in
     let at-loop = at-call .before .before .before .before in
-    ap given (looked-here _ _ _ (at-loop .loop .inv) (omega arith) (sym (at-call .same-pair .ensures) ∙ c .if1 .taken))
+    ap given (looked-here _ _ _ (at-loop .loop .inv) (omega arith) (sym (at-call .same-ends .ensures) ∙ c .if1 .taken))
 
 loop-again : tie.Need-loop-again Inv-loop μ-loop
 loop-again c =
     let at-call = c .before in
     let at-loop = at-call .before .before .before .before in
-    looked-more _ _ _ (at-loop .loop .inv) (omega arith) (sym (at-call .same-pair .ensures) ∙ c .if1 .left)
+    looked-more _ _ _ (at-loop .loop .inv) (omega arith) (sym (at-call .same-ends .ensures) ∙ c .if1 .left)
 
 returns-2 : tie.Need-returns-2 Inv-loop μ-loop
 unfolding twice given

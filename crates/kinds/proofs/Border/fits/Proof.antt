@@ -8,7 +8,8 @@ use Rattle.kinds.proofs.Border.fits.Tie as tie
 returns : tie.Need-returns
 unfolding borderFits
 returns c =
-    let at-same = c .before in
+    let at-inside = c .before in
+    let at-same = at-inside .before in
     let at-to = at-same .before in
     let at-from = at-to .before in
     let f = at-from .before .fits in
@@ -16,11 +17,14 @@ returns c =
       at-from .exists .ensures,
       at-to .exists2 .ensures,
       at-same .same .ensures,
-      c .inside .ensures,
+      at-inside .inside .ensures,
+      c .fit .ensures,
       toZ-ofZ (f .from),
       toZ-ofZ (f .to),
       toZ-ofZ (f .lta),
+      toZ-ofZ (f .sending),
+      toZ-ofZ (f .receiving),
     )
 
 pub fits-spec : {M : Type 1} → statement M
-fits-spec = tie.close (tie.spec (λ c κs. search needs) (λ c κs. search needs) (λ c κs. search needs) (λ c κs. search needs) returns)
+fits-spec = tie.close (tie.spec (λ c κs. search needs) (λ c κs. search needs) (λ c κs. search needs) (λ c κs. search needs) (λ c κs. search needs) returns)

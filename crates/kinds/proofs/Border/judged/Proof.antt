@@ -1,4 +1,4 @@
--- `kinds::Border::judged` meets its contract: a record that fits has no number below 0, so the casts lose nothing.
+-- `kinds::Border::judged` meets its contract: a record that fits has no zone and no LTA below 0, so the casts lose nothing.
 use borrow.Author.Needs.{needs}
 use Rattle.numbers.proofs.IntLaws.{plain, natural-cast}
 use Rattle.kinds.specs.Ranges.{borderOf}
@@ -6,22 +6,27 @@ use Rattle.kinds.proofs.KindLaws.{BorderIn, border-in}
 use Rattle.kinds.proofs.Border.judged.Statement.{statement}
 use Rattle.kinds.proofs.Border.judged.Tie as tie
 
+judged-requires : tie.Need-judged-requires
+judged-requires c κs =
+    let s = c .before .before .before .before .before in
+    simp (plain, c .before .sending .given, c .receiving .given) (border-in (s .args .zones) (s .args .t2) (s .pre) .hubs-fit)
+
 -- the record's numbers are natural
-natural : (c : tie.After-lta) → BorderIn (c .before .before .before .args .zones) (c .before .before .before .args .t2)
-natural c = border-in _ _ (c .before .before .before .pre)
+natural : (c : tie.After-judged) → let s = c .before .before .before .before .before .before in BorderIn (s .args .zones) (s .args .t2)
+natural c = border-in _ _ (c .before .before .before .before .before .before .pre)
 
-cast-t14 : tie.Need-cast-t14
-cast-t14 c = natural-cast _ _ (c .before .before .from .given) (natural c .from)
+cast-t21 : tie.Need-cast-t21
+cast-t21 c = natural-cast _ _ (c .before .before .before .before .before .from .given) (natural c .from)
 
-cast-t15 : tie.Need-cast-t15
-cast-t15 c = natural-cast _ _ (c .before .to .given) (natural c .to)
+cast-t22 : tie.Need-cast-t22
+cast-t22 c = natural-cast _ _ (c .before .before .before .before .to .given) (natural c .to)
 
-cast-t16 : tie.Need-cast-t16
-cast-t16 c = natural-cast _ _ (c .lta .given) (natural c .lta)
+cast-t23 : tie.Need-cast-t23
+cast-t23 c = natural-cast _ _ (c .before .before .before .lta .given) (natural c .lta)
 
 returns : tie.Need-returns
 unfolding borderOf
-returns c = simp (plain, c .before .before .from .given, c .before .to .given, c .lta .given)
+returns c = simp (plain, c .before .before .before .before .before .from .given, c .before .before .before .before .to .given, c .before .before .before .lta .given, c .before .before .sending .given, c .before .receiving .given, c .judged .ensures)
 
 pub judged-spec : {M : Type 1} → statement M
 judged-spec =
@@ -30,7 +35,10 @@ judged-spec =
     (λ c. search needs)
     (λ c. search needs)
     (λ c. search needs)
-    cast-t14
-    cast-t15
-    cast-t16
+    (λ c. search needs)
+    (λ c. search needs)
+    judged-requires
+    cast-t21
+    cast-t22
+    cast-t23
     returns)

@@ -1,4 +1,4 @@
--- `kinds::Border::of` meets its contract: the test is made of the three numbers as they were lent.
+-- `kinds::Border::of` meets its contract: the test is made of the five numbers as they were lent.
 use mathlib.Core.Path.{_≡_, sym, ap, _∙_}
 use borrow.Author.Needs.{needs}
 use Rattle.numbers.proofs.IntLaws.{plain}
@@ -14,10 +14,11 @@ use Rattle.kinds.proofs.Border.fits.Reads as fits-reads
 use Rattle.kinds.proofs.Border.judged.Reads as judged-reads
 
 -- the test is the definition's, of the record as it was lent
-said : (c : lts.After-fits2 (fits-reads.Asked, fits-reads.Learnt, judged-reads.Asked, judged-reads.Learnt) reads.Pre reads.Post) → c .fits2 .result ≡ borderFits (c .before .before .before .before .args .zones) (c .before .before .before .before .args .t2)
+said : (c : lts.After-fits2 (fits-reads.Asked, fits-reads.Learnt, judged-reads.Asked, judged-reads.Learnt) reads.Pre reads.Post) → c .fits2 .result ≡ borderFits (c .before .before .before .before .before .before .args .zones) (c .before .before .before .before .before .before .args .t2)
 said c =
-    let at-to = c .before .before in
-    simp (plain, at-to .before .from .given, at-to .to .given, c .before .lta .given) at (c .fits2 .ensures) ∙ border-listed _ (at-to .before .before .args .t2)
+    let at-lta = c .before .before .before in
+    let at-to = at-lta .before in
+    simp (plain, at-to .before .from .given, at-to .to .given, at-lta .lta .given, c .before .before .sending .given, c .before .receiving .given) at (c .fits2 .ensures) ∙ border-listed _ (at-to .before .before .args .t2)
 
 judged-requires : tie.Need-judged-requires
 judged-requires c κs = sym (said (c .before)) ∙ c .if1 .taken
@@ -34,6 +35,8 @@ pub of-spec : {M : Type 1} → statement M
 of-spec =
     tie.close
     (tie.spec
+    (λ c. search needs)
+    (λ c. search needs)
     (λ c. search needs)
     (λ c. search needs)
     (λ c. search needs)

@@ -1,40 +1,56 @@
 -- `lines::border::border_line` meets its contract: what the columns hold is judged.
-use mathlib.Core.Path.{sym, ap, _∙_}
-use mathlib.Core.List.{[], _∷_}
-use lib.IntN.{pos}
-use Rattle.kinds.specs.declared.Border.{Border}
-use Rattle.kinds.proofs.ReadLaws.{border-good, border-out}
-use Rattle.text.specs.Line.{holds}
+use mathlib.Core.Path.{_≡_, sym, ap, _∙_}
+use borrow.Author.Needs.{needs}
+use Rattle.numbers.proofs.IntLaws.{plain}
+use Rattle.kinds.specs.Ranges.{borderFits}
+use Rattle.kinds.proofs.KindLaws.{border-listed}
 use Rattle.columns.specs.declared.Fields.{Fields}
 use Rattle.columns.specs.Columns.{stored}
 use Rattle.lines.proofs.BorderTrip.{border-form, border-range, border-holds}
-use borrow.Author.Needs.{needs}
 use Rattle.lines.proofs.border.border_line.Statement.{statement}
 use Rattle.lines.proofs.border.border_line.Tie as tie
 
 returns : tie.Need-returns
-returns c = border-form _ _ _ _ (ap (λ (f : Fields). stored f (c .before .before .before .line-at .last .1 .1 .1 .1 .1 .0)) (sym (c .enum-told2 .given .1)) ∙ c .before .before .before .line-at .ensures)
+returns c =
+    let o = c .before .before .before in
+    border-form _ _ _ _ (ap (λ (f : Fields). stored f (o .optional-at .last .1 .1 .1 .1 .1 .1 .0)) (sym (c .enum-told2 .given .1)) ∙ o .optional-at .ensures)
+
+-- the test is the definition's, of the record as it was stored
+said : (c : tie.After-fits2)
+    → let o = c .before .before .before .before .before .before .before .before .before in
+    c .fits2 .result ≡ borderFits (o .before .before .before .before .args .zones) (o .optional-at .last .1 .1 .1 .1 .1 .1 .0)
+said c =
+    let o = c .before .before .before .before .before .before .before .before .before in
+    simp (plain, c .before .before .before .before .before .from .given, c .before .before .before .before .to .given, c .before .before .before .lta .given, c .before .before .sending .given, c .before .receiving .given) at (c .fits2 .ensures)
+    ∙ border-listed _ (o .optional-at .last .1 .1 .1 .1 .1 .1 .0)
 
 returns-2 : tie.Need-returns-2
-returns-2 c = border-range _ _ _ _ _ (ap (λ (f : Fields). stored f (c .before .before .before .before .before .before .line-at .last .1 .1 .1 .1 .1 .0)) (sym (c .before .before .before .enum-told .given .1)) ∙ c .before .before .before .before .before .before .line-at .ensures) (border-out _ _ (sym (c .before .before .of .ensures) ∙ c .enum-told3 .given .1))
+returns-2 c =
+    let o = c .before .before .before .before .before .before .before .before .before .before in
+    border-holds _ _ _ (o .optional-at .last .1 .1 .1 .1 .1 .1 .0) _ (ap (λ (f : Fields). stored f (o .optional-at .last .1 .1 .1 .1 .1 .1 .0)) (sym (c .before .before .before .before .before .before .before .enum-told .given .1)) ∙ o .optional-at .ensures) (sym (said (c .before)) ∙ c .if1 .taken)
 
 returns-3 : tie.Need-returns-3
 returns-3 c =
-    let g = border-good _ _ _ (sym (c .before .before .before .of .ensures) ∙ c .before .border .given .1) in
-    ap (λ (b : Border). holds (pos (b .from) ∷ pos (b .to) ∷ pos (b .lta) ∷ [])) (sym (g .1)) ∙ border-holds _ _ _ _ _ (ap (λ (f : Fields). stored f (c .before .before .before .before .before .before .before .line-at .last .1 .1 .1 .1 .1 .0)) (sym (c .before .before .before .before .enum-told .given .1)) ∙ c .before .before .before .before .before .before .before .line-at .ensures) (g .0)
+    let o = c .before .before .before .before .before .before .before .before .before .before in
+    border-range _ _ _ (o .optional-at .last .1 .1 .1 .1 .1 .1 .0) _ (ap (λ (f : Fields). stored f (o .optional-at .last .1 .1 .1 .1 .1 .1 .0)) (sym (c .before .before .before .before .before .before .before .enum-told .given .1)) ∙ o .optional-at .ensures) (sym (said (c .before)) ∙ c .if1 .left)
 
 pub border-line-spec : {M : Type 1} → statement M
 border-line-spec =
     tie.close
     (tie.spec
     (λ c. search needs)
-    (λ c. search needs)
     (λ c κs. search needs)
+    (λ c. search needs)
     (λ c. search needs)
     (λ c. search needs)
     returns
+    (λ c. search needs)
+    (λ c. search needs)
+    (λ c. search needs)
+    (λ c. search needs)
+    (λ c. search needs)
     (λ c κs. search needs)
     (λ c. search needs)
-    (λ c. search needs)
     returns-2
+    (λ c. search needs)
     returns-3)

@@ -2,16 +2,15 @@
 -- The measure is the number of lines less i. A turn is the law `stored-more`.
 use Prim.Native.Nat.{ℕ, _+_, _-_}
 use mathlib.Core.Path.{_≡_, sym, ap, _∙_}
-use mathlib.Core.List.{List, [], _∷_}
+use mathlib.Core.List.{List}
 use native.Mathlib.Omega.{arith}
 use borrow.Author.Needs.{needs}
-use lib.IntN.{pos}
-use Rattle.text.specs.Line.{lineAt, holds}
+use Rattle.text.specs.Line.{lineAt}
 use Rattle.block.specs.Block.{fault}
 use Rattle.table.specs.Table.{zoneLineNo}
+use Rattle.lines.specs.declared.BorderLine.{BorderLine}
 use Rattle.lines.specs.Lines.{borderLine}
 use Rattle.lines.specs.Said.{saidBorder}
-use Rattle.lines.proofs.SaidLaws.{Small, record-cast, border-small}
 use Rattle.runs.proofs.StoredLaws.{after-within, Stored, stored-none, stored-all, stored-form, stored-range, stored-more}
 use Rattle.runs.proofs.borders.borders_read.Statement.{statement}
 use Rattle.runs.proofs.borders.borders_read.Tie as tie
@@ -24,25 +23,12 @@ abbrev μ-loop : tie.MeasureT-loop
 
 -- what was said of the line at p
 line-said : (c : tie.After-border-line Inv-loop μ-loop)
-    → let l = c .before .before .before .loop in
-    let a = c .before .before .before .before .before .args in
-    borderLine (a .zones) (lineAt (a .text .now) (l .p)) (l .i) ≡ saidBorder (c .border-line .result)
+    → let l = c .before .before .before .before .loop in
+    let a = c .before .before .before .before .before .before .args in
+    borderLine (a .zones) (lineAt (a .text .now) (l .p)) (l .i) ≡ saidBorder (c .border-line .result) (c .border-line .last .1 .1 .1 .0)
 line-said c =
-    let a = c .before .before .before .before .before .args in
-    ap (λ (line : List ℕ). borderLine (a .zones) line (c .before .before .before .loop .i)) (sym (c .before .line-at .ensures)) ∙ sym (c .border-line .ensures)
-
--- .. where it holds a border
-held : (c : tie.After-known-told Inv-loop μ-loop)
-    → let l = c .before .before .before .before .before .before .loop in
-    let a = c .before .before .before .before .before .before .before .before .args in
-    let border = c .before .border .given .0 .0 in
-    borderLine (a .zones) (lineAt (a .text .now) (l .p)) (l .i) ≡ holds (pos (border .from) ∷ pos (border .to) ∷ pos (border .lta) ∷ [])
-held c = line-said (c .before .before .before) ∙ ap saidBorder (c .before .border .given .1)
-
-small : (c : tie.After-known-told Inv-loop μ-loop)
-    → let border = c .before .border .given .0 .0 in
-    Small (border .from) (border .to) (border .lta)
-small c = border-small _ _ _ _ _ _ (c .before .before .before .before .before .before .before .before .pre .1 .0) (held c)
+    let a = c .before .before .before .before .before .before .args in
+    ap (λ (line : List ℕ). borderLine (a .zones) line (c .before .before .before .before .loop .i)) (sym (c .before .before .line-at .ensures)) ∙ sym (c .border-line .ensures)
 
 loop-holds : tie.Need-loop-holds Inv-loop μ-loop
 loop-holds c =
@@ -52,56 +38,47 @@ loop-holds c =
 line-at-requires : tie.Need-line-at-requires Inv-loop μ-loop
 line-at-requires c κs = c .before .loop .inv .within
 
-cast-t13 : tie.Need-cast-t13 Inv-loop μ-loop
-cast-t13 c = omega (arith, small (c .before))
-
-cast-t14 : tie.Need-cast-t14 Inv-loop μ-loop
-cast-t14 c = omega (arith, small (c .before .before))
-
-cast-t15 : tie.Need-cast-t15 Inv-loop μ-loop
-cast-t15 c = omega (arith, small (c .before .before .before))
-
-mul-t17 : tie.Need-mul-t17 Inv-loop μ-loop
-mul-t17 c = omega (arith, c .before .before .before .before .before .before .before .before .before .loop .inv, c .before .before .before .before .before .before .before .before .before .before .before .pre)
+mul-t16 : tie.Need-mul-t16 Inv-loop μ-loop
+mul-t16 c = omega (arith, c .before .before .before .before .before .before .before .loop .inv, c .before .before .before .before .before .before .before .before .before .pre)
 
 slice-set-from-b : tie.Need-slice-set-from-b Inv-loop μ-loop
-slice-set-from-b c = omega (arith, c .before .before .before .before .before .before .before .before .before .loop .inv)
+slice-set-from-b c = omega (arith, c .before .before .before .before .before .before .before .loop .inv)
 
 add-wrong-form : tie.Need-add-wrong-form Inv-loop μ-loop
-add-wrong-form c = omega (arith, c .before .before .before .before .before .loop .inv .high)
+add-wrong-form c = omega (arith, c .before .before .before .before .before .before .before .loop .inv .high)
 
 same-length : tie.Need-same-length Inv-loop μ-loop
-same-length c = c .before .before .before .before .before .before .loop .inv .as-long
+same-length c = c .before .before .before .before .before .before .before .before .loop .inv .as-long
 
 returns : tie.Need-returns Inv-loop μ-loop
 returns c =
-    let zones = c .before .before .before .before .before .before .before .before .args .zones in
-    let l = c .before .before .before .before .before .before .loop in
-    ap fault (c .wrong-form .ensures) ∙ stored-form (borderLine zones) (zoneLineNo + zones) _ _ _ _ _ _ _ (l .inv) (c .before .before .before .before .before .loop-test .taken) (line-said (c .before .before .before) ∙ ap saidBorder (c .before .enum-told .given .1))
+    let zones = c .before .before .before .before .before .before .before .before .before .before .args .zones in
+    let l = c .before .before .before .before .before .before .before .before .loop in
+    ap fault (c .wrong-form .ensures) ∙ stored-form (borderLine zones) (zoneLineNo + zones) _ _ _ _ _ _ _ (l .inv) (c .before .before .before .before .before .before .before .loop-test .taken) (line-said (c .before .before .before .before) ∙ ap (λ (r : BorderLine). saidBorder r (c .before .before .before .before .border-line .last .1 .1 .1 .0)) (c .before .enum-told2 .given .1))
 
 add-out-of-range : tie.Need-add-out-of-range Inv-loop μ-loop
-add-out-of-range c = omega (arith, c .before .before .before .before .before .loop .inv .high)
+add-out-of-range c = omega (arith, c .before .before .before .before .before .before .before .loop .inv .high)
 
 same-length-2 : tie.Need-same-length-2 Inv-loop μ-loop
-same-length-2 c = c .before .before .before .before .before .before .loop .inv .as-long
+same-length-2 c = c .before .before .before .before .before .before .before .before .loop .inv .as-long
 
 returns-2 : tie.Need-returns-2 Inv-loop μ-loop
 returns-2 c =
-    let zones = c .before .before .before .before .before .before .before .before .args .zones in
-    let l = c .before .before .before .before .before .before .loop in
-    ap fault (c .out-of-range .ensures) ∙ stored-range (borderLine zones) (zoneLineNo + zones) _ _ _ _ _ _ _ (l .inv) (c .before .before .before .before .before .loop-test .taken) (line-said (c .before .before .before) ∙ ap saidBorder (c .before .enum-told2 .given .1))
+    let zones = c .before .before .before .before .before .before .before .before .before .before .args .zones in
+    let l = c .before .before .before .before .before .before .before .before .loop in
+    ap fault (c .out-of-range .ensures) ∙ stored-range (borderLine zones) (zoneLineNo + zones) _ _ _ _ _ _ _ (l .inv) (c .before .before .before .before .before .before .before .loop-test .taken) (line-said (c .before .before .before .before) ∙ ap (λ (r : BorderLine). saidBorder r (c .before .before .before .before .border-line .last .1 .1 .1 .0)) (c .before .enum-told3 .given .1))
 
 add-p : tie.Need-add-p Inv-loop μ-loop
 add-p c =
-    let l = c .before .before .before .before .before .before .before .before .before .loop in
-    rw (c .before .before .before .before .before .before .before .line-at .ensures) (omega (arith, after-within (c .before .before .before .before .before .before .before .before .before .before .before .args .text .now) (l .p) (l .inv .within)))
+    let l = c .before .before .before .before .before .before .before .loop in
+    rw (c .before .before .before .before .before .line-at .ensures) (omega (arith, after-within (c .before .before .before .before .before .before .before .before .before .args .text .now) (l .p) (l .inv .within)))
 
 loop-again : tie.Need-loop-again Inv-loop μ-loop
 loop-again c =
-    let zones = c .before .before .before .before .before .before .before .before .before .before .before .args .zones in
-    let l = c .before .before .before .before .before .before .before .before .before .loop in
-    rw (record-cast _ _ _ (small (c .before .before .before)), c .before .before .before .before .before .before .before .line-at .ensures)
-    (stored-more (borderLine zones) (zoneLineNo + zones) _ _ _ _ _ _ _ (l .inv) (c .before .before .before .before .before .before .before .before .loop-test .taken) _ (held (c .before .before .before)))
+    let zones = c .before .before .before .before .before .before .before .before .before .args .zones in
+    let l = c .before .before .before .before .before .before .before .loop in
+    rw (c .before .before .before .before .before .line-at .ensures)
+    (stored-more (borderLine zones) (zoneLineNo + zones) _ _ _ _ _ _ _ (l .inv) (c .before .before .before .before .before .before .loop-test .taken) _ (line-said (c .before .before .before) ∙ ap (λ (r : BorderLine). saidBorder r (c .before .before .before .border-line .last .1 .1 .1 .0)) (c .enum-told .given .1)))
 
 same-length-3 : tie.Need-same-length-3 Inv-loop μ-loop
 same-length-3 c = c .before .loop .inv .as-long
@@ -120,12 +97,10 @@ borders-read-spec =
     (λ c. omega arith)
     loop-holds
     line-at-requires
+    (λ c. search needs)
     (λ c κs. search needs)
     (λ c. search needs)
-    cast-t13
-    cast-t14
-    cast-t15
-    mul-t17
+    mul-t16
     slice-set-from-b
     (λ c. search needs)
     add-wrong-form

@@ -1,0 +1,152 @@
+-- A good field ends in one byte: what reads as a field before one byte does not read as one before another. So a line that is good by a list of columns
+-- is wrong by any shorter list. No contract cites this file.
+-- In order: the byte that ends a field; fields and a shorter list; lines.
+use mathlib.Core.Path.{_≡_, refl, sym, ap, _∙_}
+use mathlib.Core.Bool.{Bool, true, false, cond}
+use mathlib.Core.List.{List, [], _∷_, _++_}
+use Prim.Native.Nat.{ℕ, _+_, _≤_, _<_}
+use native.Mathlib.Omega.{arith}
+use lib.Dec.{eqb, ltb}
+use lib.IntN.{ℤ, pos, negℤ}
+use lib.ListN.{length, getD, drop, length-append, drop-of-length-le}
+use borrow.Author.Tests.{leb-true, eqb-true, eqb-false}
+use Rattle.numbers.specs.Ints.{minus}
+use Rattle.numbers.proofs.TestLaws.{and-both}
+use Rattle.kinds.specs.LineColumns.{Column, number, signed, share}
+use Rattle.text.specs.declared.Number.{Number}
+use Rattle.text.specs.declared.Number.the-variants.{Value, Bad}
+use Rattle.text.specs.declared.Signed.{Signed}
+use Rattle.text.specs.declared.Signed.the-variants.{Whole, Wrong}
+use Rattle.text.specs.Fields.{feed, dash, digits, value, plain, numberAt, positive, negative, signedAt, shareAt}
+use Rattle.text.specs.Line.{headed, ended}
+use Rattle.text.proofs.NumberTrip.{zero-one, no-whole}
+use Rattle.columns.specs.Columns.{fieldAt, Values, values, wrong, push, onward, stopOf, fieldsAt}
+use Rattle.columns.specs.ColumnText.{fieldText, fieldsEnded}
+use Rattle.columns.specs.ColumnLine.{indexAt, toEnd, restAt, afterNumber, columnsLine, plainLine}
+use Rattle.columns.proofs.ColumnTrip.{Ends, feed-ends, no-values, fields-read}
+
+-- ---- the byte that ends a field
+-- past the digits at a place
+abbrev pastDigits : (line : List ℕ) → (at : ℕ) → ℕ
+pastDigits line at = getD (drop at line) (length (digits (drop at line))) 0
+
+-- .. by the column
+abbrev endByte : Column → (line : List ℕ) → (at : ℕ) → ℕ
+endByte number line at = pastDigits line at
+endByte signed line at = cond (eqb (getD line at 0) dash) (pastDigits line (at + 1)) (pastDigits line at)
+endByte share line at = cond (eqb (getD line at 0) dash) (getD line (at + 1) 0) (pastDigits line at)
+
+module _ (line : List ℕ) (stop : ℕ) where
+  number-end : (at v next : ℕ) → numberAt line at stop ≡ Value v next → pastDigits line at ≡ stop
+  unfolding numberAt
+  number-end at v next e =
+      let d = digits (drop at line) in
+      let both = and-both (plain d) _ (sure (value 0 d) (at + length d + 1) _ _ e) in
+      eqb-true (pastDigits line at) stop (and-both (ltb (length d) (length (drop at line))) _ (both .1) .1)
+    where
+      sure : (w m p : ℕ) (t : Bool) → cond t (Value w m) (Bad p) ≡ Value v next → t ≡ true
+      sure w m p true e = refl
+      sure w m p false e = let x : _≡_ {A = ℕ} 0 1 = cc in absurd (zero-one x)
+
+  module _ (at : ℕ) (z : ℤ) (next : ℕ) where
+    positive-end : (n : Number) → numberAt line at stop ≡ n → positive n ≡ Whole z next → pastDigits line at ≡ stop
+    positive-end (Value v m) q e = number-end at v m q
+    positive-end (Bad place) q e = absurd (no-whole place z next e)
+
+    negative-end : (n : Number) → numberAt line (at + 1) stop ≡ n → negative (getD line (at + 1) 0) (at + 1) n ≡ Whole z next → pastDigits line (at + 1) ≡ stop
+    negative-end (Value v m) q e = number-end (at + 1) v m q
+    negative-end (Bad place) q e = absurd (no-whole _ z next e)
+
+    field-end : (c : Column) → fieldAt c line at stop ≡ Whole z next → endByte c line at ≡ stop
+    unfolding fieldAt signedAt shareAt
+    field-end number e = positive-end (numberAt line at stop) refl e
+    field-end signed e = go (eqb (getD line at 0) dash) e
+      where
+        go : (t : Bool) → cond t (negative (getD line (at + 1) 0) (at + 1) (numberAt line (at + 1) stop)) (positive (numberAt line at stop)) ≡ Whole z next
+            → cond t (pastDigits line (at + 1)) (pastDigits line at) ≡ stop
+        go true e = negative-end (numberAt line (at + 1) stop) refl e
+        go false e = positive-end (numberAt line at stop) refl e
+    field-end share e = go (eqb (getD line at 0) dash) e
+      where
+        alone : (t : Bool) → eqb (getD line (at + 1) 0) stop ≡ t → cond t (Whole (minus 1) (at + 2)) (Wrong (at + 1)) ≡ Whole z next → getD line (at + 1) 0 ≡ stop
+        alone true q e = eqb-true (getD line (at + 1) 0) stop q
+        alone false q e = absurd (no-whole (at + 1) z next e)
+
+        go : (t : Bool) → cond t (cond (eqb (getD line (at + 1) 0) stop) (Whole (minus 1) (at + 2)) (Wrong (at + 1))) (positive (numberAt line at stop)) ≡ Whole z next
+            → cond t (getD line (at + 1) 0) (pastDigits line at) ≡ stop
+        go true e = alone (eqb (getD line (at + 1) 0) stop) refl e
+        go false e = positive-end (numberAt line at stop) refl e
+
+-- ---- fields and a shorter list
+record First (s : Signed) (rest : ℕ → Values) (next : ℕ) : Type 0 where
+  z : ℤ
+  at : ℕ
+  is : s ≡ Whole z at
+  zs : List ℤ
+  then : rest at ≡ values zs next
+
+first-whole : (s : Signed) (rest : ℕ → Values) (zs : List ℤ) (next : ℕ) → onward s rest ≡ values zs next → First s rest next
+first-whole (Wrong place) rest zs next e = absurd (no-values place zs next e)
+first-whole (Whole z at) rest zs next e = go (rest at) refl e
+  where
+    go : (v : Values) → rest at ≡ v → push z v ≡ values zs next → First (Whole z at) rest next
+    go (wrong place) q e = absurd (no-values place zs next e)
+    go (values ys m) q e = let same : m ≡ next = cc in record { z = z; at = at; is = refl; zs = ys; then = q ∙ ap (values ys) same }
+
+whole-at : (z y : ℤ) (m n : ℕ) → _≡_ {A = Signed} (Whole z m) (Whole y n) → m ≡ n
+whole-at z y m n e = cc
+
+module _ (sep : ℕ) (ends : Ends sep) (other : eqb sep feed ≡ false) (line : List ℕ) (d : Column) (ds : List Column) where
+  shorter : (cs : List Column) (at : ℕ) (zs : List ℤ) (n : ℕ) → fieldsAt sep feed (cs ++ (d ∷ ds)) line at ≡ values zs n
+      → (ys : List ℤ) (m : ℕ) → fieldsAt sep feed cs line at ≡ values ys m → ended line m ≡ true → ⊥
+  unfolding fieldsAt fieldsEnded
+  shorter [] at zs n long ys m short last =
+      let same : at ≡ m = cc in
+      let past : length line ≤ at = omega (arith, leb-true (length line) m last) in
+      let none : drop at line ≡ [] = drop-of-length-le line past in
+      let here = fields-read sep feed ends feed-ends (d ∷ ds) line at zs n long .here in
+      let text = fieldsEnded sep feed (d ∷ ds) zs in
+      let some : 0 < length text = omega (arith, length-append (fieldText d (getD zs 0 (pos 0))) (stopOf sep feed ds ∷ fieldsEnded sep feed ds (drop 1 zs))) in
+      omega (arith, some, ap length (sym none ∙ here), length-append text (drop n line))
+  shorter (c ∷ []) at zs n long ys m short last =
+      let f = first-whole (fieldAt c line at sep) _ zs n long in
+      let g = first-whole (fieldAt c line at feed) _ ys m short in
+      eqb-false sep feed other (sym (field-end line sep at (f .z) (f .at) c (f .is)) ∙ field-end line feed at (g .z) (g .at) c (g .is))
+  shorter (c ∷ e ∷ cs) at zs n long ys m short last =
+      let f = first-whole (fieldAt c line at sep) _ zs n long in
+      let g = first-whole (fieldAt c line at sep) _ ys m short in
+      let same : f .at ≡ g .at = whole-at (f .z) (g .z) (f .at) (g .at) (sym (f .is) ∙ g .is) in
+      shorter (e ∷ cs) (f .at) (f .zs) n (f .then) (g .zs) m (ap (λ (p : ℕ). fieldsAt sep feed (e ∷ cs) line p) same ∙ g .then) last
+
+  -- ---- lines
+  to-end : (v : Values) (zs : List ℤ) (n : ℕ) → toEnd line v ≡ values zs n → (v ≡ values zs n) × (ended line n ≡ true)
+  to-end (wrong place) zs n e = absurd (no-values place zs n e)
+  to-end (values ys m) zs n e = go (ended line m) refl e
+    where
+      go : (t : Bool) → ended line m ≡ t → cond t (values ys m) (wrong m) ≡ values zs n → (values ys m ≡ values zs n) × (ended line n ≡ true)
+      go false q e = absurd (no-values m zs n e)
+      go true q e = let same : m ≡ n = cc in (e, ap (ended line) (sym same) ∙ q)
+
+  module _ (cs : List Column) (zs ys : List ℤ) (n m : ℕ) where
+    rest-shorter : (at : ℕ) → restAt sep (cs ++ (d ∷ ds)) line at ≡ values zs n → restAt sep cs line at ≡ values ys m → ⊥
+    unfolding restAt
+    rest-shorter at long short =
+        let l = to-end (fieldsAt sep feed (cs ++ (d ∷ ds)) line at) zs n long in
+        let s = to-end (fieldsAt sep feed cs line at) ys m short in
+        shorter cs at zs n (l .0) ys m (s .0) (s .1)
+
+    pub line-shorter : (letter i : ℕ) → columnsLine sep letter (cs ++ (d ∷ ds)) line i ≡ values zs n → columnsLine sep letter cs line i ≡ values ys m → ⊥
+    unfolding columnsLine
+    line-shorter letter i long short = go (indexAt sep letter line i) long short
+      where
+        go : (v : Number) → afterNumber v (λ at. restAt sep (cs ++ (d ∷ ds)) line at) ≡ values zs n → afterNumber v (λ at. restAt sep cs line at) ≡ values ys m → ⊥
+        go (Bad place) long short = no-values place zs n long
+        go (Value v at) long short = rest-shorter at long short
+
+    pub plain-shorter : (letter : ℕ) → plainLine sep letter (cs ++ (d ∷ ds)) line ≡ values zs n → plainLine sep letter cs line ≡ values ys m → ⊥
+    unfolding plainLine
+    plain-shorter letter long short = go (headed letter sep line) long short
+      where
+        go : (t : Bool) → cond t (restAt sep (cs ++ (d ∷ ds)) line 2) (wrong 0) ≡ values zs n → cond t (restAt sep cs line 2) (wrong 0) ≡ values ys m → ⊥
+        go false long short = no-values 0 zs n long
+        go true long short = rest-shorter 2 long short

@@ -1,0 +1,67 @@
+-- `columns::optional::optional_at` meets its contract: the shorter list where it reads the line to its end, or else the longer.
+use mathlib.Core.Path.{_≡_, sym, ap, _∙_}
+use mathlib.Core.List.{List}
+use native.Mathlib.Omega.{arith}
+use lib.ListN.{length, take, drop, length-drop}
+use lib.Seq.{length-take-le}
+use Rattle.kinds.specs.LineColumns.{Column, columnsOf}
+use Rattle.columns.specs.declared.Fields.{Fields}
+use Rattle.columns.specs.Columns.{stored}
+use Rattle.columns.specs.ColumnLine.{columnsLine}
+use Rattle.columns.proofs.ColumnPut.{columns-long}
+use Rattle.columns.proofs.OptionalLaws.{columns-split, optional-first, optional-long}
+use borrow.Author.Needs.{needs}
+use Rattle.columns.proofs.optional.optional_at.Statement.{statement}
+use Rattle.columns.proofs.optional.optional_at.Tie as tie
+
+slice-aggregate-line-at : tie.Need-slice-aggregate-line-at
+slice-aggregate-line-at c = let s = c .before .before .before in sym (length-take-le _ _ (omega (arith, s .pre .0)))
+
+slice-aggregate-line-at-2 : tie.Need-slice-aggregate-line-at-2
+slice-aggregate-line-at-2 c = let s = c .before .before .before .before in sym (length-take-le _ _ (omega (arith, s .pre .0, s .pre .1)))
+
+line-at-requires : tie.Need-line-at-requires
+line-at-requires c κs =
+    let s = c .before .before .before .before in
+    let a = s .args in
+    length-take-le (a .n) (a .columns .now) (omega (arith, s .pre .0)) ∙ sym (length-take-le (a .n) (a .out .now) (omega (arith, s .pre .0, s .pre .1)))
+
+returns : tie.Need-returns
+returns c =
+    let m = c .before .before .before .before .before .before .before in
+    let s = m .before .before .before .before .before in
+    let a = s .args in
+    let zs = m .line-at .last .1 .1 .1 .1 .1 .0 in
+    let long : length zs ≡ length (take (a .n) (a .out .now)) = search needs in
+    optional-first (a .sep) (a .letter) (columnsOf (take (a .n) (a .columns .now))) (columnsOf (drop (a .n) (a .columns .now))) (a .line .now) (a .i) (a .n) zs (drop (a .n) (a .out .now)) (c .before .leave-out .last .1 .0) _
+    (long ∙ length-take-le (a .n) (a .out .now) (omega (arith, s .pre .0, s .pre .1)))
+    (length-drop (a .n) (a .out .now) ∙ sym (columns-long (drop (a .n) (a .columns .now)) ∙ length-drop (a .n) (a .columns .now) ∙ omega (arith, s .pre .1)))
+    (c .before .leave-out .ensures)
+    (ap (λ (f : Fields). stored f zs) (sym (c .before .before .before .before .next .given .1)) ∙ m .line-at .ensures)
+
+returns-2 : tie.Need-returns-2
+returns-2 c =
+    let m = c .before .before .before .before .before .before in
+    let s = m .before .before .before .before .before in
+    let a = s .args in
+    let zs = m .line-at .last .1 .1 .1 .1 .1 .0 in
+    optional-long (a .sep) (a .letter) (columnsOf (take (a .n) (a .columns .now))) (columnsOf (drop (a .n) (a .columns .now))) (a .line .now) (a .i) _ _
+    (ap (λ (f : Fields). stored f zs) (sym (c .before .before .before .enum-told .given .1)) ∙ m .line-at .ensures)
+    (c .before .line-at2 .ensures ∙ ap (λ (l : List Column). columnsLine (a .sep) (a .letter) l (a .line .now) (a .i)) (sym (columns-split (a .n) (a .columns .now))))
+
+pub optional-at-spec : {M : Type 1} → statement M
+optional-at-spec =
+    tie.close
+    (tie.spec
+    slice-aggregate-line-at
+    (λ c. search needs)
+    slice-aggregate-line-at-2
+    line-at-requires
+    (λ c. search needs)
+    (λ c κs. search needs)
+    (λ c. search needs)
+    (λ c κs. search needs)
+    (λ c. search needs)
+    returns
+    (λ c. search needs)
+    returns-2)

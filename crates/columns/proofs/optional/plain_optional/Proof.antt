@@ -1,0 +1,67 @@
+-- `columns::optional::plain_optional` meets its contract: the shorter list where it reads the line to its end, or else the longer.
+use mathlib.Core.Path.{_≡_, sym, ap, _∙_}
+use mathlib.Core.List.{List}
+use native.Mathlib.Omega.{arith}
+use lib.ListN.{length, take, drop, length-drop}
+use lib.Seq.{length-take-le}
+use Rattle.kinds.specs.LineColumns.{Column, columnsOf}
+use Rattle.columns.specs.declared.Fields.{Fields}
+use Rattle.columns.specs.Columns.{stored}
+use Rattle.columns.specs.ColumnLine.{plainLine}
+use Rattle.columns.proofs.ColumnPut.{columns-long}
+use Rattle.columns.proofs.OptionalLaws.{columns-split, plain-first, plain-longer}
+use borrow.Author.Needs.{needs}
+use Rattle.columns.proofs.optional.plain_optional.Statement.{statement}
+use Rattle.columns.proofs.optional.plain_optional.Tie as tie
+
+slice-aggregate-plain-line : tie.Need-slice-aggregate-plain-line
+slice-aggregate-plain-line c = let s = c .before .before .before in sym (length-take-le _ _ (omega (arith, s .pre .0)))
+
+slice-aggregate-plain-line-2 : tie.Need-slice-aggregate-plain-line-2
+slice-aggregate-plain-line-2 c = let s = c .before .before .before .before in sym (length-take-le _ _ (omega (arith, s .pre .0, s .pre .1)))
+
+plain-line-requires : tie.Need-plain-line-requires
+plain-line-requires c κs =
+    let s = c .before .before .before .before in
+    let a = s .args in
+    length-take-le (a .n) (a .columns .now) (omega (arith, s .pre .0)) ∙ sym (length-take-le (a .n) (a .out .now) (omega (arith, s .pre .0, s .pre .1)))
+
+returns : tie.Need-returns
+returns c =
+    let m = c .before .before .before .before .before .before .before in
+    let s = m .before .before .before .before .before in
+    let a = s .args in
+    let zs = m .plain-line .last .1 .1 .1 .1 .0 in
+    let long : length zs ≡ length (take (a .n) (a .out .now)) = search needs in
+    plain-first (a .sep) (a .letter) (columnsOf (take (a .n) (a .columns .now))) (columnsOf (drop (a .n) (a .columns .now))) (a .line .now) (a .n) zs (drop (a .n) (a .out .now)) (c .before .leave-out .last .1 .0) _
+    (long ∙ length-take-le (a .n) (a .out .now) (omega (arith, s .pre .0, s .pre .1)))
+    (length-drop (a .n) (a .out .now) ∙ sym (columns-long (drop (a .n) (a .columns .now)) ∙ length-drop (a .n) (a .columns .now) ∙ omega (arith, s .pre .1)))
+    (c .before .leave-out .ensures)
+    (ap (λ (f : Fields). stored f zs) (sym (c .before .before .before .before .next .given .1)) ∙ m .plain-line .ensures)
+
+returns-2 : tie.Need-returns-2
+returns-2 c =
+    let m = c .before .before .before .before .before .before in
+    let s = m .before .before .before .before .before in
+    let a = s .args in
+    let zs = m .plain-line .last .1 .1 .1 .1 .0 in
+    plain-longer (a .sep) (a .letter) (columnsOf (take (a .n) (a .columns .now))) (columnsOf (drop (a .n) (a .columns .now))) (a .line .now) _ _
+    (ap (λ (f : Fields). stored f zs) (sym (c .before .before .before .enum-told .given .1)) ∙ m .plain-line .ensures)
+    (c .before .plain-line2 .ensures ∙ ap (λ (l : List Column). plainLine (a .sep) (a .letter) l (a .line .now)) (sym (columns-split (a .n) (a .columns .now))))
+
+pub plain-optional-spec : {M : Type 1} → statement M
+plain-optional-spec =
+    tie.close
+    (tie.spec
+    slice-aggregate-plain-line
+    (λ c. search needs)
+    slice-aggregate-plain-line-2
+    plain-line-requires
+    (λ c. search needs)
+    (λ c κs. search needs)
+    (λ c. search needs)
+    (λ c κs. search needs)
+    (λ c. search needs)
+    returns
+    (λ c. search needs)
+    returns-2)
