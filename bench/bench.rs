@@ -15,7 +15,8 @@ use second::Tables;
 use std::hint::black_box;
 use std::time::{Duration, Instant};
 
-const HOURS: [&str; 4] = ["hours/worked.tsv", "hours/plain.tsv", "hours/busy.tsv", "hours/worst.tsv"];
+const HOURS: [&str; 6] =
+    ["hours/worked.tsv", "hours/plain.tsv", "hours/busy.tsv", "hours/worst.tsv", "hours/busy64.tsv", "hours/worst64.tsv"];
 
 // ---- the designs
 

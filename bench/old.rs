@@ -1,9 +1,9 @@
 //! What is not rounds, as the extraction had it before document 02's E4, in plain Rust: S summed three times a row, a
 //! border record judged again wherever it is read, the row and the border of a cell found by division, rooms for the
-//! largest table. Kept to be measured beside the library, and so not made better; what later requests ask of a table, such as
-//! hubs, it can answer, so that all designs answer the same hours.
+//! largest table. Kept to be measured beside the library, and so not made better; what later requests ask of a table, hubs and
+//! 64 borders, it can answer, so that all designs answer the same hours.
 
-pub const BORDERS_MOST: usize = 40;
+pub const BORDERS_MOST: usize = 64;
 pub const ROWS_MOST: usize = 200;
 
 /// Number and place.

@@ -2,7 +2,8 @@
 //! the same files.
 //!
 //! `hours/make` builds and runs it.
-//! An argument: the directory to write to (hours).
+//! Arguments: the directory to write to (hours); `search` instead looks for the
+//! busy hour of 64 borders again, for a minute or so, and writes nothing.
 
 #[path = "../second/dice.rs"]
 mod dice;
@@ -15,9 +16,14 @@ use second::{without_hubs, Border, Header, Outcome, Tables};
 const FULL: Header = Header { zones: 16, borders: 40, rows: 200 };
 
 const SEED_PLAIN: u64 = 1;
-const PLAIN: Kind = Kind { one_way: false, steepest: 25_000, tight: 0 };
+const PLAIN: Kind = Kind { header: FULL, one_way: false, reach: 0, lta_step: 0, cable: false, steepest: 25_000, tight: 0 };
 /// Seeds looked at for the busy hour.
 const SEEDS_BUSY: std::ops::Range<u64> = 1_000..1_060;
+/// The largest table since borders grew from 40 to 64; the seed of its busy hour,
+/// the one of the most rounds among the seeds that `search` looks at.
+const FULL_64: Header = Header { borders: 64, ..FULL };
+const SEED_BUSY_64: u64 = 103_053;
+const SEEDS_BUSY_64: std::ops::Range<u64> = 100_000..110_000;
 /// Steps of the search for the worst hour.
 const SEED_WORST: u64 = 5;
 const STEPS_WORST: u64 = 1_000;
@@ -72,8 +78,53 @@ fn extract(t: &Tables) -> Option<Outcome> {
     second::extract(t.header, &t.z, &t.b, &t.c, &t.f, usize::MAX, usize::MAX, usize::MAX).ok()
 }
 
-fn rounds(t: &Tables) -> u64 {
-    extract(t).map_or(0, |outcome| outcome.rounds)
+/// A row as the quick rounds see it: the borders that load it, each with its p.
+struct Loaded {
+    p: Vec<(usize, u64)>,
+    margin: u64,
+}
+
+/// The rounds of a table, quickly, for the searches; 0 where it is refused.  Row by
+/// row, factors of zero left out; a raise never grows, so the last one stands
+/// where the row's share is not smaller.  A row of state 2 is looked at too: it
+/// has the factors of a kept row and no less margin, so it changes nothing.
+fn quick_rounds(t: &Tables) -> u64 {
+    let zones = t.header.zones;
+    let mut rows = Vec::new();
+    for (row, factors) in t.f.chunks_exact(zones).enumerate() {
+        let spread = factors.iter().max().expect("a zone") - factors.iter().min().expect("a zone");
+        if spread < second::SPREAD_KEPT {
+            continue;
+        }
+        let p_of = |(k, border)| (k, second::border_factor(factors, border) as u64);
+        let p: Vec<(usize, u64)> = t.b.iter().enumerate().map(p_of).filter(|(_, p)| *p > 0).collect();
+        let m = second::margin_of(t, row);
+        match u64::try_from(m.ram - m.s) {
+            Ok(margin) if !p.is_empty() => rows.push(Loaded { p, margin }),
+            Ok(_) => {}
+            Err(_) => return 0,
+        }
+    }
+    let mut raises = vec![u64::MAX; t.header.borders];
+    let mut rounds = 0;
+    loop {
+        for Loaded { p, margin } in &rows {
+            let share = margin / p.len() as u64;
+            for (k, p) in p {
+                let raise = &mut raises[*k];
+                if raise.checked_mul(*p).map_or(true, |load| load > share) {
+                    *raise = share / p;
+                }
+            }
+        }
+        if raises.contains(&u64::MAX) || raises.iter().all(|raise| *raise == 0) {
+            return rounds;
+        }
+        for Loaded { p, margin } in &mut rows {
+            *margin -= p.iter().map(|(k, p)| p * raises[*k]).sum::<u64>();
+        }
+        rounds += 1;
+    }
 }
 
 // ------------------------------------------------------------ a plausible hour
@@ -81,22 +132,48 @@ fn rounds(t: &Tables) -> u64 {
 /// Which hour of the plausible kind is made.
 #[derive(Clone, Copy)]
 struct Kind {
+    header: Header,
     /// power runs one way through the zones: borders, positions and factors
     one_way: bool,
+    /// how far down a border of such an hour reaches at most, and the step of its
+    /// LTA in MW
+    reach: usize,
+    lta_step: i64,
+    /// the last two zones are the hubs of a cable, used both ways (one-way hours)
+    cable: bool,
     steepest: i64,
     /// how many of the rows have little room
     tight: usize,
 }
 
-/// Borders from a zone to one further down, no border back.
-fn one_way_borders(d: &mut Dice) -> Vec<Border> {
+/// The zones that the cable joins, and what it can carry, in kW.
+const CABLE_ENDS: [usize; 2] = [2, 10];
+const CABLE_RATING: i64 = 1_000_000;
+
+impl Kind {
+    /// The zones that are no hubs.
+    fn places(&self) -> usize {
+        self.header.zones - if self.cable { 2 } else { 0 }
+    }
+}
+
+/// Borders from a zone to one further down, no border back; then the cable, there
+/// and back.
+fn one_way_borders(d: &mut Dice, kind: &Kind) -> Vec<Border> {
     let mut b: Vec<Border> = Vec::new();
-    while b.len() < FULL.borders {
-        let from = d.below(FULL.zones - 1);
-        let to = (from + 1 + d.below(5)).min(FULL.zones - 1);
+    let places = kind.places();
+    while b.len() < kind.header.borders - if kind.cable { 2 } else { 0 } {
+        let from = d.below(places - 1);
+        let to = (from + 1 + d.below(kind.reach)).min(places - 1);
         if !b.iter().any(|r| r[0] == from as i64 && r[1] == to as i64) {
-            b.push(without_hubs(from as i64, to as i64, 50 * d.within(0, 6)));
+            b.push(without_hubs(from as i64, to as i64, kind.lta_step * d.within(0, 6)));
         }
+    }
+    if kind.cable {
+        let [one, other] = CABLE_ENDS.map(|zone| zone as i64);
+        let [at_one, at_other] = [places as i64, places as i64 + 1];
+        b.push([one, other, 300, at_one, at_other]);
+        b.push([other, one, 200, at_other, at_one]);
     }
     b
 }
@@ -119,25 +196,38 @@ fn plausible_borders(d: &mut Dice) -> Vec<Border> {
     b
 }
 
-fn plausible_positions(d: &mut Dice) -> Vec<i64> {
-    let mut z: Vec<i64> = (0..FULL.zones).map(|_| d.within(-5_000_000, 5_000_000)).collect();
+fn plausible_positions(d: &mut Dice, places: usize) -> Vec<i64> {
+    let mut z: Vec<i64> = (0..places).map(|_| d.within(-5_000_000, 5_000_000)).collect();
     let sum: i64 = z[1..].iter().sum();
     z[0] = -sum;
     z
 }
 
 /// Factors of a line across the way: falling from zone to zone, most of all at
-/// zone `at`.
-fn one_way_factors(d: &mut Dice, steepest: i64) -> Vec<i64> {
-    let at = 1 + d.below(FULL.zones - 1);
-    let steep = d.within(5_500, steepest);
+/// zone `at`.  A hub has nearly the factor of the zone where it stands.
+fn one_way_factors(d: &mut Dice, kind: &Kind) -> Vec<i64> {
+    let at = 1 + d.below(kind.places() - 1);
+    let steep = d.within(5_500, kind.steepest);
     let mut now = steep / 2;
-    (0..FULL.zones)
+    let mut own: Vec<i64> = (0..kind.places())
         .map(|zone| {
             now -= if zone == at { steep } else { d.within(0, 60) };
             now
         })
-        .collect()
+        .collect();
+    if kind.cable {
+        for zone in CABLE_ENDS {
+            own.push(own[zone] + d.within(-400, 400));
+        }
+    }
+    own
+}
+
+/// The cable's own row, one way or the other: nothing else loads it.
+fn rating_factors(kind: &Kind, back: bool) -> Vec<i64> {
+    let mut own = vec![0; kind.places()];
+    own.extend(if back { [50_000, -50_000] } else { [-50_000, 50_000] });
+    own
 }
 
 /// Factors of a line near zone `at`: large there, smaller further round the
@@ -157,22 +247,32 @@ fn plausible_factors(d: &mut Dice, steepest: i64) -> Vec<i64> {
 fn plausible(seed: u64, kind: Kind) -> Tables {
     let mut dice = Dice::new(seed);
     let d = &mut dice;
-    let mut z = plausible_positions(d);
+    let Header { zones, rows, .. } = kind.header;
+    let mut z = plausible_positions(d, kind.places());
     if kind.one_way {
         z.sort();
         z.reverse();
     }
-    let b = if kind.one_way { one_way_borders(d) } else { plausible_borders(d) };
+    if kind.cable {
+        z.extend([-400_000, 400_000]);
+    }
+    let b = if kind.one_way { one_way_borders(d, &kind) } else { plausible_borders(d) };
     let mut c = Vec::new();
     let mut f: Vec<i64> = Vec::new();
-    for row in 0..FULL.rows {
+    for row in 0..rows {
+        if kind.cable && row >= rows - 2 {
+            let back = row == rows - 1;
+            f.extend(rating_factors(&kind, back));
+            c.push([CABLE_RATING, 0, if back { -400_000 } else { 400_000 }, 0, 0, 0, 0]);
+            continue;
+        }
         let own = if row % 25 == 24 {
             // the same line after another outage: factors moved by one number
-            let like = f[(row - 3) * FULL.zones..(row - 2) * FULL.zones].to_vec();
+            let like = f[(row - 3) * zones..(row - 2) * zones].to_vec();
             let by = d.within(-300, 300);
             like.iter().map(|factor| factor + by).collect()
         } else if kind.one_way {
-            one_way_factors(d, kind.steepest)
+            one_way_factors(d, &kind)
         } else {
             plausible_factors(d, kind.steepest)
         };
@@ -184,9 +284,9 @@ fn plausible(seed: u64, kind: Kind) -> Tables {
         f.extend(own);
         c.push([fmax, fmax * d.within(5, 15) / 100, fref, f0all, r, 0, 0]);
     }
-    let mut t = Tables { header: FULL, z, b, c, f };
+    let mut t = Tables { header: kind.header, z, b, c, f };
     // a few rows with a validation cut, never more than the row has to spare
-    for row in 0..FULL.rows {
+    for row in 0..rows {
         let m = second::margin_of(&t, row);
         let spare = ((m.ram - m.s) / 100_000) as i64;
         if row < kind.tight {
@@ -201,24 +301,24 @@ fn plausible(seed: u64, kind: Kind) -> Tables {
     t
 }
 
-/// The hour of the most rounds among a number of seeds.
-fn busy() -> (Tables, u64) {
-    let mut best: Option<(u64, Tables, u64)> = None;
-    for seed in SEEDS_BUSY {
-        let mut d = Dice::new(!seed);
-        let kind = Kind {
-            one_way: true,
-            steepest: d.of(&[8_000, 15_000, 25_000]),
-            tight: d.of(&[0, 5, 10, 20]),
-        };
-        let t = plausible(seed, kind);
-        let now = rounds(&t);
-        if best.as_ref().map_or(true, |(most, _, _)| now > *most) {
-            best = Some((now, t, seed));
-        }
-    }
-    let (_, t, seed) = best.expect("a seed");
-    (t, seed)
+/// A one-way hour of a seed.
+fn busy_of(seed: u64) -> Tables {
+    let mut d = Dice::new(!seed);
+    let (steepest, tight) = (d.of(&[8_000, 15_000, 25_000]), d.of(&[0, 5, 10, 20]));
+    plausible(seed, Kind { header: FULL, one_way: true, reach: 5, lta_step: 50, cable: false, steepest, tight })
+}
+
+/// .. of 64 borders, a cable among them.
+fn busy_64_of(seed: u64) -> Tables {
+    let mut d = Dice::new(!seed);
+    let (steepest, tight) = (d.of(&[8_000, 15_000, 25_000]), d.of(&[0, 5, 10, 20]));
+    plausible(seed, Kind { header: FULL_64, one_way: true, reach: 8, lta_step: 20, cable: true, steepest, tight })
+}
+
+/// The seed of the most rounds among a number of seeds, the first of equals.
+fn busiest(seeds: std::ops::Range<u64>, of: fn(u64) -> Tables) -> (u64, u64) {
+    let judged = seeds.map(|seed| (quick_rounds(&of(seed)), seed));
+    judged.reduce(|best, next| if next.0 > best.0 { next } else { best }).expect("a seed")
 }
 
 // --------------------------------------------------------------- the worst hour
@@ -244,16 +344,16 @@ struct Shape {
 
 /// Border 0 runs between two zones of nearly equal factors, all other borders
 /// from the first half of the zones to the second half.  The wide rows are
-/// loaded by every border (n is 40) and have a large margin; the last row is
-/// loaded by every border but border 0 and has none, so the others never rise and
-/// border 0 takes a fortieth of what is left in each round.
-fn worst_of(s: &Shape, rows: usize) -> Tables {
+/// loaded by every border (n is all of them) and have a large margin; the last row
+/// is loaded by every border but border 0 and has none, so the others never rise
+/// and border 0 takes an n-th of what is left in each round.
+fn worst_of(s: &Shape, header: Header) -> Tables {
     let mut d = Dice::new(SEED_WORST);
-    let header = Header { rows, ..FULL };
+    let rows = header.rows;
     let half = FULL.zones / 2;
     let z = (0..FULL.zones).map(|zone| if zone < half { s.position } else { -s.position }).collect();
     let mut b = vec![without_hubs(0, 1, s.lta)];
-    for k in 0..FULL.borders - 1 {
+    for k in 0..header.borders - 1 {
         let (from, to) = (k % half, half + (k / half + k % half) % half);
         b.push(without_hubs(from as i64, to as i64, s.lta));
     }
@@ -288,7 +388,7 @@ fn worst_of(s: &Shape, rows: usize) -> Tables {
 
 /// A bounded search: one value of the shape changed at a time, kept where the
 /// rounds do not fall.  It starts far from the ends of the ranges.
-fn worst() -> Tables {
+fn worst(header: Header) -> Tables {
     let mut d = Dice::new(SEED_WORST);
     let mut shape = Shape {
         small: 500,
@@ -303,8 +403,9 @@ fn worst() -> Tables {
     };
     // more wide rows cost time, not rounds, so the search has three rows; judged
     // on the rounds and, where these are equal, on the raise of border 0 alone
-    let judged = |t: &Tables| (rounds(t), alone(t));
-    let mut most = judged(&worst_of(&shape, 3));
+    let few = Header { rows: 3, ..header };
+    let judged = |t: &Tables| (quick_rounds(t), alone(t));
+    let mut most = judged(&worst_of(&shape, few));
     for _ in 0..STEPS_WORST {
         let mut next = shape.clone();
         let near = |d: &mut Dice, was: i64, low: i64, high: i64| match d.below(4) {
@@ -324,14 +425,14 @@ fn worst() -> Tables {
             _ => next.lta = near(&mut d, next.lta, 0, 200),
         }
         next.frm = next.frm.min(next.fmax);
-        let now = judged(&worst_of(&next, 3));
+        let now = judged(&worst_of(&next, few));
         if now >= most {
             most = now;
             shape = next;
         }
     }
-    println!("worst: the search ended at {} rounds with {shape:?}", most.0);
-    worst_of(&shape, FULL.rows)
+    println!("worst of {} borders: the search ended at {} rounds with {shape:?}", header.borders, most.0);
+    worst_of(&shape, header)
 }
 
 /// The margin of row 0, as far as border 0 could take it alone.
@@ -340,18 +441,29 @@ fn alone(t: &Tables) -> i128 {
     (m.ram - m.s) / second::border_factor(&t.f[..FULL.zones], &t.b[0]).max(1)
 }
 
-/// No table has over 39 rounds more than this: while a border rises, A, its
-/// smallest floor(margin / p), loses at least the larger of floor(A / 40) and 1
-/// in a round.  A starts at 1.65 x 10^14 less 10^8 at most (p 1, each zone at its
-/// ends but the one that makes p 1, Fref, F0all, Fmax and R at their ends).
-fn ceiling() -> u64 {
-    let mut a: i128 = 165_000_000_000_000 - 100_000_000;
-    let mut rounds = 0;
-    while a / 40 > 0 {
-        a -= a / 40;
-        rounds += 1;
-    }
-    rounds
+/// No table of so many borders has more rounds than this.  Raises never grow, so
+/// the border that rises last rises in every round: by R in a round, and by U from
+/// that round to the end.  The row that sets R has A = floor(margin / p) and shares
+/// among k borders, so R is floor(A / k).  It loses R or more of A in each round and
+/// has k or more of it in the last, so A is at least U + k - 1, and R at least U / k
+/// rounded up; so at least U / m rounded up, m being the most borders that a row of
+/// this border shares among.  U thus loses an m-th of itself, rounded up, in each
+/// round, and starts at A - (m - 1) of that row at most.  Where a border rises alone
+/// against a row of m, A - (m - 1) does just that.
+/// A starts at 1.65 x 10^14 less 10^8 at most: p 1, each zone at its ends but the
+/// one that makes p 1 (hubs change nothing: four ends sum to an even number of
+/// 100,000), Fref, F0all, Fmax and R at their ends.
+fn ceiling(borders: i128) -> u64 {
+    let alone = |m: i128| {
+        let mut a: i128 = 165_000_000_000_000 - 100_000_000;
+        let mut rounds = 0;
+        while a / m > 0 {
+            a -= a / m;
+            rounds += 1;
+        }
+        rounds
+    };
+    (1..=borders).map(alone).max().expect("a border")
 }
 
 /// The longest corner sheet: 12 borders at the highest LTA, from zones at one end
@@ -390,6 +502,11 @@ fn put(directory: &str, name: &str, from: &str, t: &Tables) {
 
 fn main() {
     let directory = std::env::args().nth(1).unwrap_or_else(|| "hours".to_string());
+    if directory == "search" {
+        let (most, seed) = busiest(SEEDS_BUSY_64, busy_64_of);
+        println!("busy, 64 borders: seed {seed}, {most} rounds, the most of seeds {SEEDS_BUSY_64:?}");
+        return;
+    }
     std::fs::create_dir_all(&directory).expect("a directory");
     let worked = second::read(WORKED.replace(' ', "\t").as_bytes(), [usize::MAX; 4]).expect("the worked hour");
     put(&directory, "worked", "the hour of the rules", &worked);
@@ -399,9 +516,11 @@ fn main() {
     put(&directory, "cable", "a small hour with a cable", &cable);
     put(&directory, "sheet", "the longest corner sheet", &longest_sheet());
     put(&directory, "plain", &format!("seed {SEED_PLAIN}"), &plausible(SEED_PLAIN, PLAIN));
-    let (t, seed) = busy();
-    put(&directory, "busy", &format!("seed {seed}, the most of seeds {SEEDS_BUSY:?}"), &t);
-    let t = worst();
-    put(&directory, "worst", &format!("seed {SEED_WORST}, {STEPS_WORST} steps"), &t);
-    println!("with n 40 and p 1 throughout, the largest margin gives {} rounds", ceiling());
+    let (_, seed) = busiest(SEEDS_BUSY, busy_of);
+    put(&directory, "busy", &format!("seed {seed}, the most of seeds {SEEDS_BUSY:?}"), &busy_of(seed));
+    put(&directory, "busy64", &format!("seed {SEED_BUSY_64}, the most of seeds {SEEDS_BUSY_64:?}"), &busy_64_of(SEED_BUSY_64));
+    for (name, header) in [("worst", FULL), ("worst64", FULL_64)] {
+        put(&directory, name, &format!("seed {SEED_WORST}, {STEPS_WORST} steps"), &worst(header));
+        println!("no table of {} borders has more than {} rounds", header.borders, ceiling(header.borders as i128));
+    }
 }

@@ -11,7 +11,7 @@
  *
  * RECORDS (no record holds its index; ranges include both ends; the fields have
  * names below, KERAVNOTH_B_FROM and so on)
- *   header   zones 2..16, borders 1..40, rows 1..200
+ *   header   zones 2..16, borders 1..64, rows 1..200
  *   z        one int64_t a zone: reference net position, -100000000..100000000
  *   b        from zone, to zone (both exist, not equal), LTA 0..10000, and the
  *            hubs of a cable that is modelled by two: sending hub, receiving hub
@@ -105,15 +105,15 @@
 extern "C" {
 #endif
 
-#define KERAVNOTH_VERSION 3
+#define KERAVNOTH_VERSION 4
 
 /* The largest table, in items. */
 enum {
     KERAVNOTH_ZONES_MOST = 16,
-    KERAVNOTH_BORDERS_MOST = 40,
+    KERAVNOTH_BORDERS_MOST = 64,
     KERAVNOTH_ROWS_MOST = 200,
     KERAVNOTH_FACTORS_MOST = 3200,
-    KERAVNOTH_P_MOST = 8000,
+    KERAVNOTH_P_MOST = 12800,
     KERAVNOTH_CORNER_BORDERS_MOST = 12,
     KERAVNOTH_CORNERS_MOST = 4096
 };
@@ -123,9 +123,9 @@ enum {
    proved. */
 enum {
     KERAVNOTH_TEXT_MOST = 65536,
-    KERAVNOTH_WRITE_MOST = 50372,
-    KERAVNOTH_RESULT_TEXT_MOST = 20726,
-    KERAVNOTH_ANSWER_MOST = 20726,
+    KERAVNOTH_WRITE_MOST = 55076,
+    KERAVNOTH_RESULT_TEXT_MOST = 22790,
+    KERAVNOTH_ANSWER_MOST = 22790,
     KERAVNOTH_CORNER_TEXT_MOST = 110592
 };
 

@@ -27,7 +27,8 @@ mod second;
 use calls::wire::{Item, AFTER, BEFORE};
 use calls::{Bridge, Ended, Extracted, Flows, Read, Written};
 use dice::Dice;
-use second::{Border, Header, Outcome, Refusal, Tables, LTA, NO_HUB, RECEIVING, SENDING};
+use second::{Border, Header, Outcome, Refusal, Tables};
+use second::{LTA, MOST_BORDERS, MOST_ROUNDS, MOST_ROWS, MOST_ZONES, NO_HUB, RECEIVING, SENDING};
 use std::collections::BTreeMap;
 use std::ffi::OsString;
 use std::fmt::Debug;
@@ -603,6 +604,9 @@ impl Comparison {
             if h.borders == second::MOST_CORNER_BORDERS + 1 {
                 self.see(&format!("corner {call}, 9 for 13 borders"));
             }
+            if h.borders == MOST_BORDERS {
+                self.see(&format!("corner {call}, 9 for most borders"));
+            }
         } else {
             self.see(&format!("corner {call}, 9 for the row"));
             if room < 1 << h.borders {
@@ -772,7 +776,7 @@ impl Comparison {
         outcome: &Outcome,
     ) {
         let bound = 2 * outcome.n_most as u64 * u64::from(outcome.l_bits);
-        if found.rounds > bound || found.rounds > 3_840 {
+        if found.rounds > bound || found.rounds > MOST_ROUNDS {
             self.fail("keravnoth_extract", &format!("{} rounds, over 2 N L = {bound}", found.rounds), &l.shown());
         }
         let borders = l.header.borders;
@@ -840,6 +844,7 @@ impl Comparison {
         // reading, and the answer from text to text
         let room = with_extra(d, needed);
         let reading = self.read(d, &text, room);
+        self.see_40("read", h, room);
         let answer = second::answer(&text);
         let room = answer.len() + d.below(4);
         self.answer(d, &text, &answer, room);
@@ -849,6 +854,7 @@ impl Comparison {
         let mut l = LentTables::new(d, &t, counts);
         let room = text.len() + d.below(4);
         let written = self.write(d, &mut l, room);
+        self.see_40("lent", h, counts);
         let room = [h.rows * h.borders + d.below(3), h.borders + d.below(3), h.rows + d.below(3)];
         let outcome = self.extract(d, &mut l, room);
         let result_room = answer.len() + d.below(4);
@@ -929,6 +935,17 @@ impl Comparison {
         let times = if heavy { 1 } else { 3 };
         for _ in 0..times {
             self.bad_tables(d, &t, needed);
+        }
+    }
+
+    /// Lent tables of exactly 40 records of b for 40 borders, which was the most
+    /// once.
+    fn see_40(&mut self, call: &str, h: Header, counts: [usize; 4]) {
+        if h.borders == 40 {
+            self.see(&format!("{call}, 40 borders"));
+            if counts[1] == 40 {
+                self.see(&format!("{call}, 40 borders in 40 records"));
+            }
         }
     }
 
@@ -1021,7 +1038,7 @@ impl Comparison {
                 self.see_bad(&bad, written.err());
             }
             1 => {
-                let [borders, rows] = [h.borders.min(40), h.rows.min(200)];
+                let [borders, rows] = [h.borders.min(MOST_BORDERS), h.rows.min(MOST_ROWS)];
                 let p = if d.one_in(4) { short(d, borders * rows) } else { borders * rows };
                 let room = if short_room { [p, d.below(3), d.below(3)] } else { [p, borders, rows] };
                 let outcome = self.extract(d, &mut l, room);
@@ -1040,7 +1057,7 @@ impl Comparison {
                 self.see_bad(&bad, text.err());
             }
             _ => {
-                let length = if short_room { length } else { 90 + 30 * (h.borders.min(40) + h.rows.min(200)) };
+                let length = if short_room { length } else { 90 + 30 * (h.borders.min(MOST_BORDERS) + h.rows.min(MOST_ROWS)) };
                 let result = self.result_text(d, &mut l, length);
                 self.see_bad(&bad, result.err());
             }
@@ -1064,16 +1081,16 @@ impl Comparison {
     }
 
     fn sizes(&mut self, h: Header) {
-        if h.zones == 16 {
-            self.see("16 zones");
+        if h.zones == MOST_ZONES {
+            self.see("most zones");
         }
-        if h.borders == 40 {
-            self.see("40 borders");
+        if h.borders == MOST_BORDERS {
+            self.see("most borders");
         }
-        if h.rows == 200 {
-            self.see("200 rows");
+        if h.rows == MOST_ROWS {
+            self.see("most rows");
         }
-        if (h.zones, h.borders, h.rows) == (16, 40, 200) {
+        if full(h) {
             self.see("full size");
         }
         if (h.zones, h.borders, h.rows) == (2, 1, 1) {
@@ -1085,8 +1102,11 @@ impl Comparison {
     fn features(&mut self, t: &Tables, o: &Outcome) {
         self.most_rounds = self.most_rounds.max(o.rounds);
         let h = t.header;
-        if (h.zones, h.borders, h.rows) == (16, 40, 200) {
+        if full(h) {
             self.see("accepted, full size");
+        }
+        if h.borders == MOST_BORDERS {
+            self.see("accepted, most borders");
         }
         match o.rounds {
             0 => self.see("accepted, no round"),
@@ -1094,7 +1114,8 @@ impl Comparison {
             10..=99 => self.see("accepted, rounds 10 to 99"),
             100..=499 => self.see("accepted, rounds 100 to 499"),
             500..=999 => self.see("accepted, rounds 500 to 999"),
-            _ => self.see("accepted, rounds from 1000"),
+            1000..=1499 => self.see("accepted, rounds 1000 to 1499"),
+            _ => self.see("accepted, rounds from 1500"),
         }
         if o.rows.iter().any(|row| row.state == 1) {
             self.see("accepted, a row of state 1");
@@ -1277,6 +1298,11 @@ fn no_row(d: &mut Dice, rows: usize) -> usize {
     row.max(rows)
 }
 
+/// The largest table.
+fn full(h: Header) -> bool {
+    (h.zones, h.borders, h.rows) == (MOST_ZONES, MOST_BORDERS, MOST_ROWS)
+}
+
 /// The items of z, b, c and f that a header needs.
 fn needed(h: Header) -> [usize; 4] {
     [h.zones, h.borders, h.rows, h.rows * h.zones]
@@ -1337,18 +1363,24 @@ fn wanted() -> Vec<(String, u64)> {
     add("p longer than needed", 1_000);
     add("p of a row not kept", 1_000);
     add("round trip", 10_000);
-    add("16 zones", 50);
-    add("40 borders", 50);
-    add("200 rows", 40);
+    add("most zones", 50);
+    add("most borders", 50);
+    add("most rows", 40);
     add("full size", 10);
+    for call in ["read", "lent"] {
+        add(&format!("{call}, 40 borders"), 30);
+        add(&format!("{call}, 40 borders in 40 records"), 15);
+    }
     add("least size", 20);
     add("accepted, full size", 5);
+    add("accepted, most borders", 20);
     add("accepted, no round", 200);
     add("accepted, rounds 1 to 9", 500);
     add("accepted, rounds 10 to 99", 500);
     add("accepted, rounds 100 to 499", 50);
     add("accepted, rounds 500 to 999", 10);
-    add("accepted, rounds from 1000", 10);
+    add("accepted, rounds 1000 to 1499", 10);
+    add("accepted, rounds from 1500", 10);
     add("accepted, a row of state 1", 500);
     add("accepted, a row of state 2", 500);
     add("accepted, state 2 by a tie", 200);
@@ -1394,6 +1426,7 @@ fn wanted() -> Vec<(String, u64)> {
     for call in ["flows", "text"] {
         add(&format!("corner {call}, 9 for borders"), 200);
         add(&format!("corner {call}, 9 for 13 borders"), 40);
+        add(&format!("corner {call}, 9 for most borders"), 20);
         add(&format!("corner {call}, 9 for borders before the row"), 100);
         add(&format!("corner {call}, 9 for the row"), 1_000);
         add(&format!("corner {call}, 9 before the room"), 500);

@@ -2,7 +2,7 @@
 #![allow(dead_code)]
 
 use crate::dice::Dice;
-use crate::second::{Border, Header, Tables, LTA, NO_HUB, RECEIVING, SENDING};
+use crate::second::{Border, Header, Tables, LTA, MOST_BORDERS, NO_HUB, RECEIVING, SENDING};
 
 /// The table as text, without judging it: any number as it is.
 pub fn plain_text(t: &Tables) -> Vec<u8> {
@@ -53,7 +53,7 @@ fn ends(d: &mut Dice, letter: &[u8], place: usize, fields: &[Vec<u8>], zones: i6
     let fmax: i64 = fmax.unwrap_or(1);
     let (low, high) = match (letter, place) {
         (b"H", 1) => (2, 16),
-        (b"H", 2) => (1, 40),
+        (b"H", 2) => (1, MOST_BORDERS as i64),
         (b"H", 3) => (1, 200),
         (b"Z", 2) => (-100_000_000, 100_000_000),
         (b"B", 2 | 3 | 5 | 6) => (0, zones - 1),
@@ -531,7 +531,7 @@ pub fn damage_header(d: &mut Dice, header: &mut Header) {
     let place = d.below(3);
     let (was, low, high) = match place {
         0 => (header.zones, 2, 16),
-        1 => (header.borders, 1, 40),
+        1 => (header.borders, 1, MOST_BORDERS),
         _ => (header.rows, 1, 200),
     };
     let now = match d.below(12) {
@@ -540,7 +540,7 @@ pub fn damage_header(d: &mut Dice, header: &mut Header) {
         2 => low,
         3 => high,
         4 => high + 1,
-        5 => usize::MAX,
+        5 => d.of(&[usize::MAX, 40, 41]),
         6 => usize::MAX - was,
         7 => was.wrapping_add(1 << 32),
         8 => was.wrapping_add(1 << 63),

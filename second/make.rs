@@ -4,7 +4,7 @@
 #![allow(dead_code)]
 
 use crate::dice::Dice;
-use crate::second::{margin_of, without_hubs, Border, Header, Tables, LTA, NO_HUB};
+use crate::second::{margin_of, without_hubs, Border, Header, Tables, LTA, MOST_BORDERS, NO_HUB};
 
 /// What a table is made to show.  What it gives in the end is judged by the
 /// reference, not by this name.
@@ -64,16 +64,20 @@ fn value(d: &mut Dice, style: Style, low: i64, high: i64, near: i64) -> i64 {
 }
 
 fn sizes(d: &mut Dice) -> Header {
+    let most = MOST_BORDERS as i64;
     let (zones, borders, rows) = match d.below(1000) {
         0..=549 => (d.within(2, 4), d.within(1, 4), d.within(1, 5)),
         550..=899 => (d.within(2, 8), d.within(1, 10), d.within(1, 16)),
-        900..=979 => (d.within(2, 16), d.within(1, 40), d.within(1, 40)),
+        900..=979 => (d.within(2, 16), d.within(1, most), d.within(1, 40)),
         // one size at its end, the others small
         980..=982 => (16, d.within(1, 4), d.within(1, 5)),
-        983..=987 => (d.within(7, 16), 40, d.within(1, 6)),
+        983..=985 => (d.within(9, 16), most, d.within(1, 6)),
+        // what was the most once
+        986..=987 => (d.within(7, 16), 40, d.within(1, 6)),
         988..=991 => (d.within(2, 4), d.within(1, 4), 200),
-        992..=996 => (d.within(2, 16), d.within(1, 40), d.within(1, 200)),
-        _ => (16, 40, 200),
+        992..=996 => (d.within(2, 16), d.within(1, most), d.within(1, 200)),
+        997 => (16, 40, 200),
+        _ => (16, most, 200),
     };
     Header { zones: zones as usize, borders: borders as usize, rows: rows as usize }
 }
@@ -357,7 +361,7 @@ fn slow(d: &mut Dice) -> Tables {
     let zones = if most { 16 } else { 4 + 2 * d.below(7) };
     let half = zones / 2;
     let hubs = d.one_in(3);
-    let borders = if most { 36 + d.below(5) } else { 2 + d.below((half * half).min(39)) };
+    let borders = if most { MOST_BORDERS - d.below(5) } else { 2 + d.below((half * half).min(MOST_BORDERS - 1)) };
     let more_rows = d.below(3);
     let header = Header { zones, borders, rows: 2 + more_rows };
     let position = if most { 100_000_000 } else { d.of(&[1, 1_000, 1_000_000, 100_000_000]) };

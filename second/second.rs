@@ -18,6 +18,12 @@ pub const R_DASH: i64 = -1;
 pub const R_DASH_MEANS: i128 = 7_000;
 /// "largest zone factor less smallest is under 5000"
 pub const SPREAD_KEPT: i64 = 5_000;
+/// "zones 2..16, borders 1..40, rows 1..200", and "Raise borders from 40 to 64."
+pub const MOST_ZONES: usize = 16;
+pub const MOST_BORDERS: usize = 64;
+pub const MOST_ROWS: usize = 200;
+/// "Document 01's largest round number, 3,840, becomes 6,144"
+pub const MOST_ROUNDS: u64 = 6_144;
 
 /// Places of the values in a B record; the hubs are NO_HUB both where none are
 /// written.
@@ -212,9 +218,10 @@ fn within(value: i64, low: i64, high: i64) -> bool {
     low <= value && value <= high
 }
 
-/// "zones 2..16, borders 1..40, rows 1..200"
 fn range_h(zones: i128, borders: i128, rows: i128) -> bool {
-    (2..=16).contains(&zones) && (1..=40).contains(&borders) && (1..=200).contains(&rows)
+    (2..=MOST_ZONES as i128).contains(&zones)
+        && (1..=MOST_BORDERS as i128).contains(&borders)
+        && (1..=MOST_ROWS as i128).contains(&rows)
 }
 
 /// "kW, -100000000..100000000"
@@ -1002,9 +1009,9 @@ fn row_outcomes(margins: &[Margin], states: &[u8], kept: &[Kept]) -> Vec<RowOut>
 
 /// What the rules promise of a result.
 fn check_outcome(tables: &Tables, kept: &[Kept], outcome: &Outcome) {
-    // "rounds are at most 2 x N x L, so at most 3,840"
+    // "rounds are at most 2 x N x L, so at most" the largest round number
     assert!(outcome.rounds <= 2 * outcome.n_most as u64 * u64::from(outcome.l_bits));
-    assert!(outcome.rounds <= 3_840);
+    assert!(outcome.rounds <= MOST_ROUNDS);
     for row in kept {
         // the largest load of the row: each relieving border at 0
         let mut load = 0;

@@ -206,6 +206,26 @@ fn margin_three_p_shared_by_two() {
 }
 
 #[test]
+fn most_borders_in_one_round() {
+    // one row that 64 borders load by 200000 each, margin 64 MW: a share of 1 MW, so
+    // 500 kW each
+    let mut t = read(&sized(16, 64, 1), ALL).unwrap();
+    t.f = (0..16).map(|zone| if zone < 8 { 100_000 } else { -100_000 }).collect();
+    for (index, border) in t.b.iter_mut().enumerate() {
+        *border = without_hubs(index as i64 / 8, 8 + index as i64 % 8, 0);
+    }
+    t.c[0] = [64_000, 0, 0, 0, 0, 0, 0];
+    let o = out(&t).unwrap();
+    assert_eq!((o.n_most, o.rounds, o.rows[0].left), (64, 1, Some(0)));
+    assert!(o.kw.iter().all(|kw| *kw == 500));
+    // one kW less: 999 kW and a bit are shared, 499 kW each, then what is left
+    t.c[0][0] = 63_999;
+    let o = out(&t).unwrap();
+    // 63999 kW less 64 x 499 x 2 kW leave 127 kW, under 64 x 2
+    assert_eq!((o.rounds, o.kw[63], o.rows[0].left), (1, 499, Some(127 * 100_000)));
+}
+
+#[test]
 fn border_given_twice() {
     let hour = |second: &str| {
         text(&format!(
@@ -274,15 +294,72 @@ fn sized(zones: usize, borders: usize, rows: usize) -> Vec<u8> {
 
 #[test]
 fn sizes() {
-    assert_eq!(read_refusal(&sized(16, 40, 200)), None);
+    assert_eq!(read_refusal(&sized(16, 64, 200)), None);
+    assert_eq!(read_refusal(&sized(16, 41, 200)), None);
     assert_eq!(read_refusal(&sized(2, 1, 1)), None);
-    assert_eq!(read_refusal(&sized(17, 40, 200)), Some((3, 1)));
-    assert_eq!(read_refusal(&sized(16, 41, 200)), Some((3, 1)));
-    assert_eq!(read_refusal(&sized(16, 40, 201)), Some((3, 1)));
+    assert_eq!(read_refusal(&sized(17, 64, 200)), Some((3, 1)));
+    assert_eq!(read_refusal(&sized(16, 65, 200)), Some((3, 1)));
+    assert_eq!(read_refusal(&sized(16, 64, 201)), Some((3, 1)));
     assert_eq!(read_refusal(&text("H 1 1 1")), Some((3, 1)));
     assert_eq!(read_refusal(&text("H 2 0 1")), Some((3, 1)));
     assert_eq!(read_refusal(&text("H 2 1 0")), Some((3, 1)));
-    assert_eq!(rewrite(&sized(16, 40, 200)), sized(16, 40, 200));
+    assert_eq!(rewrite(&sized(16, 64, 200)), sized(16, 64, 200));
+}
+
+#[test]
+fn lent_tables_of_40_are_enough_for_40() {
+    let all = |borders| sized(16, borders, 1);
+    assert!(read(&all(40), [16, 40, 1, 16]).is_ok());
+    assert_eq!(read(&all(40), [16, 39, 1, 16]), e(8, 40));
+    assert_eq!(read(&all(64), [16, 63, 1, 16]), e(8, 64));
+    let t = read(&all(40), ALL).unwrap();
+    assert_eq!(t.b.len(), 40);
+    assert!(write(t.header, &t.z, &t.b, &t.c, &t.f, usize::MAX).is_ok());
+    // factors 100000 and -100000 in turn: border 1, from 0 to 2, loads no row, and 6
+    // comes before the room for results
+    let with = |p, atc| extract(t.header, &t.z, &t.b, &t.c, &t.f, p, atc, 1);
+    assert_eq!((with(39, 40).err(), with(40, 39).err()), (e::<()>(8, 40).err(), e::<()>(6, 1).err()));
+}
+
+#[test]
+fn stored_texts_of_40_borders_mean_the_same() {
+    for (bytes, rounds, sum) in [
+        (&include_bytes!("../hours/plain.tsv")[..], 231, 17_194),
+        (include_bytes!("../hours/busy.tsv"), 429, 23_473),
+        (include_bytes!("../hours/worst.tsv"), 1_171, 164_075_599_999),
+    ] {
+        let t = read(bytes, [16, 40, 200, 3_200]).unwrap();
+        assert_eq!((t.header.zones, t.header.borders, t.header.rows), (16, 40, 200));
+        assert_eq!(rewrite(bytes), bytes);
+        let o = out(&t).unwrap();
+        assert_eq!((o.rounds, o.atc.iter().sum::<u64>()), (rounds, sum));
+    }
+}
+
+/// Every field of every line as long as it can be.
+fn longest() -> Tables {
+    let mut t = read(&sized(16, 64, 200), ALL).unwrap();
+    t.z = vec![-100_000_000; 16];
+    for (index, border) in t.b.iter_mut().enumerate() {
+        let index = index as i64;
+        // two of the six zones of two digits, and other two
+        *border = [10 + index % 6, 10 + (index + 1) % 6, 10_000, 10 + index / 6 % 6, 10 + (index / 6 + 1 + index / 36) % 6];
+    }
+    t.c = vec![[10_000_000, 10_000_000, -20_000_000, -20_000_000, 10_000, 10_000_000, 10_000_000]; 200];
+    t.f = vec![-100_000; 3_200];
+    t
+}
+
+#[test]
+fn longest_text() {
+    let t = longest();
+    let bytes = write(t.header, &t.z, &t.b, &t.c, &t.f, usize::MAX).unwrap();
+    // H 12; Z 10 of 15 and 6 of 16; B 10 of 22 and 54 of 23; C 10 of 194, 90 of 195
+    // and 100 of 196
+    let by_hand = 12 + (150 + 96) + (220 + 1_242) + (1_940 + 17_550 + 19_600);
+    assert_eq!((bytes.len(), by_hand), (40_810, 40_810));
+    assert!(bytes.len() <= MOST_BYTES);
+    assert_eq!(read(&bytes, ALL), Ok(t));
 }
 
 // ------------------------------------------------------------------- refusals
@@ -471,7 +548,7 @@ fn lent_tables() {
         Header { zones: 17, ..t.header },
         Header { zones: 1, ..t.header },
         Header { borders: 0, ..t.header },
-        Header { borders: 41, ..t.header },
+        Header { borders: 65, ..t.header },
         Header { rows: 0, ..t.header },
         Header { rows: usize::MAX, ..t.header },
     ] {
@@ -668,7 +745,7 @@ fn borders_given_twice_with_hubs() {
 #[test]
 fn hubs_at_the_ends_of_the_ranges() {
     // from and receiving at one end, to and sending at the other: p 400000
-    let mut t = read(&sized(16, 40, 1), ALL).unwrap();
+    let mut t = read(&sized(16, 64, 1), ALL).unwrap();
     t.f = (0..16).map(|zone| if zone < 8 { 100_000 } else { -100_000 }).collect();
     for (index, border) in t.b.iter_mut().enumerate() {
         let (a, b) = (index as i64 / 8, index as i64 % 8);
@@ -676,10 +753,11 @@ fn hubs_at_the_ends_of_the_ranges() {
     }
     t.c[0] = [10_000_000, 10_000_000, 20_000_000, -20_000_000, 0, 0, 0];
     let m = margin_of(&t, 0);
-    // 40 x 400000 x 10^7 kW
-    assert_eq!((m.s, m.ram), (160_000_000_000_000, 160_000_000_000_000));
+    // 64 x 400000 x 10^7 kW, still under 2^48
+    assert_eq!((m.s, m.ram), (256_000_000_000_000, 256_000_000_000_000));
+    assert!(m.ram < 1 << 48);
     let o = out(&t).unwrap();
-    assert_eq!((o.rounds, o.n_most), (0, 40));
+    assert_eq!((o.rounds, o.n_most), (0, 64));
     assert!(o.p.iter().all(|p| *p == 400_000) && o.atc.iter().all(|atc| *atc == 10_000));
 }
 
@@ -811,6 +889,7 @@ fn corners_at_most_12_borders() {
     assert_eq!(flows(&t(13), 1, usize::MAX), e(9, 13));
     assert_eq!(sheet(&t(13), 1, usize::MAX), e(9, 13));
     assert_eq!(flows(&t(40), 1, usize::MAX), e(9, 40));
+    assert_eq!((flows(&t(64), 1, 0), sheet(&t(64), 1, 0)), (e(9, 64), e(9, 64)));
     assert_eq!(shown(&corners(&sized(16, 13, 2), None)), "E 9 13");
     assert_eq!(shown(&corners(&sized(16, 13, 2), Some(1))), "E 9 13");
     // a sheet may pass the length that a table may have
@@ -1074,7 +1153,7 @@ fn random_small_and_large() {
         check_random(&random_tables(&mut d, 1, 3), &mut seen);
     }
     for _ in 0..60 {
-        check_random(&random_tables(&mut d, 40, 200), &mut seen);
+        check_random(&random_tables(&mut d, 64, 200), &mut seen);
     }
     println!("accepted, one border and one kept row, ., ., ., 5, 6, 7: {seen:?}");
     assert!(seen[0] > 300 && seen[1] > 20 && seen[5] > 5 && seen[6] > 20 && seen[7] > 5);

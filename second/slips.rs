@@ -194,7 +194,52 @@ const SLIPS: &[Slip] = &[
     slip("ATC cut to 32 bits", "second.rs", "floor_div(*kw, KW_PER_MW) as u64).collect()", "floor_div(*kw, KW_PER_MW) as u32 as u64).collect()"),
     slip("one round only", "second.rs", "        rounds += 1;\n    }\n\n    let rows", "        rounds += 1;\n        if rounds == 1 {\n            break;\n        }\n    }\n\n    let rows"),
     slip("stops after 1000 rounds", "second.rs", "        rounds += 1;\n    }\n\n    let rows", "        rounds += 1;\n        if rounds == 1_000 {\n            break;\n        }\n    }\n\n    let rows"),
-    slip("border 39 does not load row 199", "second.rs", "        let n = p.iter().filter(|p| **p > 0).count() as i128;", "        let mut p = p;\n        if row == 199 && p.len() == 40 {\n            p[39] = 0;\n        }\n        let n = p.iter().filter(|p| **p > 0).count() as i128;"),
+    // ---- sixty-four borders
+    slip("64 borders: 65 are taken", "second.rs", "MOST_BORDERS: usize = 64", "MOST_BORDERS: usize = 65"),
+    slip("64 borders: 64 are refused", "second.rs", "MOST_BORDERS: usize = 64", "MOST_BORDERS: usize = 63"),
+    slip("64 borders: 40 are the most", "second.rs", "MOST_BORDERS: usize = 64", "MOST_BORDERS: usize = 40"),
+    slip(
+        "64 borders: lent tables of 40 are too short for 40",
+        "second.rs",
+        "        header.zones,\n        header.borders,\n        header.rows,\n",
+        "        header.zones,\n        if header.borders == 40 { MOST_BORDERS } else { header.borders },\n        header.rows,\n",
+    ),
+    slip(
+        "64 borders: n ends at 40",
+        "second.rs",
+        "        let n = p.iter().filter(|p| **p > 0).count() as i128;",
+        "        let n = p.iter().filter(|p| **p > 0).count().min(40) as i128;",
+    ),
+    slip(
+        "64 borders: n in six bits",
+        "second.rs",
+        "        let n = p.iter().filter(|p| **p > 0).count() as i128;",
+        "        let n = (p.iter().filter(|p| **p > 0).count() % 64) as i128;",
+    ),
+    slip(
+        "64 borders: the table of p ends at 200 x 40",
+        "mock.rs",
+        "            p[..outcome.p.len()].copy_from_slice(&outcome.p);",
+        "            let most = outcome.p.len().min(200 * 40);\n            p[..most].copy_from_slice(&outcome.p[..most]);",
+    ),
+    slip(
+        "64 borders: border 63 does not load row 199",
+        "second.rs",
+        "        let n = p.iter().filter(|p| **p > 0).count() as i128;",
+        "        let mut p = p;\n        if row == 199 && p.len() == 64 {\n            p[63] = 0;\n        }\n        let n = p.iter().filter(|p| **p > 0).count() as i128;",
+    ),
+    slip(
+        "64 borders: stops after 1500 rounds",
+        "second.rs",
+        "        rounds += 1;\n    }\n\n    let rows",
+        "        rounds += 1;\n        if rounds == 1_500 {\n            break;\n        }\n    }\n\n    let rows",
+    ),
+    slip(
+        "64 borders: the corner sheet has up to 64",
+        "second.rs",
+        "    if header.borders > MOST_CORNER_BORDERS {",
+        "    if header.borders > MOST_CORNER_BORDERS && header.borders < MOST_BORDERS {",
+    ),
     // ---- hubs
     slip(
         "hubs: swapped in the factor",

@@ -66,9 +66,9 @@ pub record Anchors : Type 0 where
   pub fell : Demand3 small (ended 9 (10000 ∷ 0 ∷ []) (1999 ∷ 20 ∷ [])) → ⊥
   -- row 0 lost a grain more than the raises took
   pub lost : Demand3 small (ended 9 (9999 ∷ 0 ∷ []) (2379 ∷ 20 ∷ [])) → ⊥
-  -- more rounds than 2 x 2 x 9; more than 3,840
+  -- more rounds than 2 x 2 x 9; more than 6,144
   pub many : Demand3 small (ended 37 (10000 ∷ 0 ∷ []) (2379 ∷ 20 ∷ [])) → ⊥
-  pub most : Demand3 small (ended 3841 (10000 ∷ 0 ∷ []) (2379 ∷ 20 ∷ [])) → ⊥
+  pub most : Demand3 small (ended 6145 (10000 ∷ 0 ∷ []) (2379 ∷ 20 ∷ [])) → ⊥
   -- left at LTA; a full first round and none after
   pub at-lta : Demand3 small (ended 0 (4000000 ∷ 100000 ∷ []) (2000 ∷ 0 ∷ [])) → ⊥
   pub one-round : Demand3 small (ended 1 (1800000 ∷ 0 ∷ []) (2200 ∷ 20 ∷ [])) → ⊥
@@ -88,7 +88,7 @@ anchors =
       fell = λ d. let h : 2000 ≤ 1999 = d .rose 0 (lit< tt) in omega arith;
       lost = λ d. let e : _≡_ {A = ℕ} 4000000 3999999 = ap natAbs (d .lost 0 (lit< tt) refl) in omega arith;
       many = λ d. let h : 37 ≤ 36 = d .few in omega arith;
-      most = λ d. let h : 3841 ≤ 3840 = d .most in omega arith;
+      most = λ d. let h : 6145 ≤ 6144 = d .most in omega arith;
       at-lta = λ d. let e : _≡_ {A = ℕ} 200 0 = d .still 0 (lit< tt) in omega arith;
       one-round = λ d. let e : _≡_ {A = ℕ} 90 0 = d .still 0 (lit< tt) in omega arith;
     }

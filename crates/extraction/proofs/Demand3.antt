@@ -1,4 +1,4 @@
--- Demand 3 of every accepted table (`specs/Demand.antt`), and that N, L and the figure of 3,840 are 01's.
+-- Demand 3 of every accepted table (`specs/Demand.antt`), and that N, L and the figure of 6,144 are 01's.
 use mathlib.Core.Path.{_≡_, refl, subst}
 use Prim.Native.Nat.{ℕ, _^_, _≤_, _<_}
 use Rattle.numbers.proofs.BelowLaws.{largest-le, largest-under}
@@ -15,8 +15,8 @@ use Rattle.extraction.specs.Extraction.{Result, outcomeOf, nOf, lOf}
 use Rattle.extraction.specs.Demand.{roundsMost, Demand3}
 use Rattle.extraction.proofs.DemandLaws.{accepted, demand-3}
 
--- 2 x 40 x 48
-pub rounds-most : roundsMost ≡ 3840
+-- 2 x 64 x 48
+pub rounds-most : roundsMost ≡ 6144
 rounds-most = refl
 
 -- N: no kept row shares among more borders (a row not kept has p = 0 and shares among none), and no smaller number will do

@@ -35,7 +35,7 @@ pub record LeftDemand3 (t : Table) (rounds : ℕ) (atcs lefts : List (List ℤ))
   -- what a kept row lost of RAM - S, down to the margin left, is the sum of p times what each border rose by
   pub lost : (i : ℕ) → i < t .header .rows → kept (rowsOf t .states) i ≡ true
       → ramAt t i -ℤ pos (sAt (t .header) (t .borders) (t .factors) i) ≡ leftIn lefts i +ℤ pos (sum (t .header .borders) (λ b. pOf (factorsAt t i) (borderAt t b) * (at kw b - ltaKw (borderAt t b))))
-  -- rounds are at most 2 x N x L, so at most 3,840
+  -- rounds are at most 2 x N x L, so at most 6,144
   pub few : rounds ≤ 2 * nOf t * lOf t
   pub most : rounds ≤ roundsMost
   -- from the margins left one further round would raise nothing

@@ -14,13 +14,13 @@ use Rattle.figures.specs.Sheets.{sheet}
 use Rattle.figures.specs.Borders.{plainBorder}
 use Rattle.figures.specs.Small.{withZone, withRow}
 
--- 16 zones, 40 borders, 3 rows
+-- 16 zones, 64 borders, 3 rows
 abbrev full : Table
 full =
     record {
-      header = record { zones = 16; borders = 40; rows = 3 };
+      header = record { zones = 16; borders = 64; rows = 3 };
       nets = table 16 (λ z. pos z);
-      borders = table 40 (λ b. plainBorder (b / 8) (8 + b % 8) b);
+      borders = table 64 (λ b. plainBorder (b / 8) (8 + b % 8) b);
       rows = table 3 (λ i. pos 100000 ∷ pos i ∷ pos 0 ∷ pos 0 ∷ pos 0 ∷ pos 0 ∷ pos 0 ∷ []);
       factors = table 48 (λ k. pos (k * 1000));
     }
@@ -31,10 +31,10 @@ pub record Edges : Type 0 where
   -- Empty text: 2, line 1. "-0": 2
   pub empty : answerText [] ≡ sheet "E 2 1/"
   pub minus-zero : withZone "Z 1 -0/" ≡ sheet "E 2 3/"
-  -- Zones 16 pass, 17: 3, line 1. Borders 40 pass, 41: 3
+  -- Zones 16 pass, 17: 3, line 1. Borders 64 pass, 65: 3 (02, E8)
   pub full-passes : readText (tableText full) ≡ passed full
-  pub zones-17 : answerText (sheet "H 17 40 3/") ≡ sheet "E 3 1/"
-  pub borders-41 : answerText (sheet "H 16 41 3/") ≡ sheet "E 3 1/"
+  pub zones-17 : answerText (sheet "H 17 64 3/") ≡ sheet "E 3 1/"
+  pub borders-65 : answerText (sheet "H 16 65 3/") ≡ sheet "E 3 1/"
   -- "-" in R means 7000: AMR is 1 kW, as in the figures, and RAM 70000 kW
   pub dash-7000 : withRow "C 0 100000 30001 0 0 - 0 0 20000 0/" ≡ sheet "A 0 350/M 0 0 7000000000 0/R 1/"
   -- a relieving (negative) factor is no gain of margin
@@ -52,7 +52,7 @@ edges =
       minus-zero = refl;
       full-passes = refl;
       zones-17 = refl;
-      borders-41 = refl;
+      borders-65 = refl;
       dash-7000 = refl;
       relieving = refl;
       at-once = refl;

@@ -1,5 +1,5 @@
 -- Both ends of every range of 01 ("The table as text"): the last value inside is taken, the first outside is refused (3, with its line), by computation.
--- Zones 16 and 17 and borders 40 and 41 are in `Edges.antt`. Below 0 no text can give a field that has no sign, and a lent record is refused.
+-- Zones 16 and 17 and borders 64 and 65 are in `Edges.antt`. Below 0 no text can give a field that has no sign, and a lent record is refused.
 use mathlib.Core.Path.{_≡_, refl}
 use mathlib.Core.List.{List, [], _∷_, _++_}
 use Prim.Native.Nat.{ℕ}
@@ -41,7 +41,7 @@ pub record Ranges : Type 0 where
   -- the ends are inside, and "-" is written again
   pub ends : readText endsText ≡ passed endsTable
   pub ends-again : tableText endsTable ≡ endsText
-  -- H: zones 2..16, borders 1..40, rows 1..200 (a header with 200 rows passes: line 2 is missing)
+  -- H: zones 2..16, borders 1..64, rows 1..200 (a header with 200 rows passes: line 2 is missing)
   pub zones-1 : answerText (sheet "H 1 1 1/") ≡ sheet "E 3 1/"
   pub borders-0 : answerText (sheet "H 2 0 1/") ≡ sheet "E 3 1/"
   pub rows-0 : answerText (sheet "H 2 1 0/") ≡ sheet "E 3 1/"

@@ -1,7 +1,7 @@
 -- The numbers of 01's column of ranges ("The table as text"), each under a name. Definitions cite the names, and laws take them as variables where they can.
 use Prim.Native.Nat.{ℕ}
 
--- H: zones 2..16, borders 1..40, rows 1..200
+-- H: zones 2..16, borders 1..64 (02, E8), rows 1..200
 abbrev pub zonesLeast : ℕ
 zonesLeast = 2
 
@@ -12,7 +12,7 @@ abbrev pub bordersLeast : ℕ
 bordersLeast = 1
 
 abbrev pub bordersMost : ℕ
-bordersMost = 40
+bordersMost = 64
 
 abbrev pub rowsLeast : ℕ
 rowsLeast = 1

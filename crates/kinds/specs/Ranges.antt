@@ -21,7 +21,7 @@ use Rattle.kinds.specs.Limits.{zonesLeast, zonesMost, bordersLeast, bord
 abbrev pub atℤ : List ℤ → ℕ → ℤ
 atℤ raw k = getD raw k (pos 0)
 
--- H: zones 2..16, borders 1..40, rows 1..200
+-- H: zones 2..16, borders 1..64, rows 1..200
 unfoldable pub headerFits : Header → Bool
 headerFits h =
     leb zonesLeast (h .zones) && leb (h .zones) zonesMost

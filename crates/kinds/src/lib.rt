@@ -31,7 +31,7 @@ impl Header {
 
     pub const BORDERS_LEAST: usize = 1;
 
-    pub const BORDERS_MOST: usize = 40;
+    pub const BORDERS_MOST: usize = 64;
 
     pub const ROWS_LEAST: usize = 1;
 

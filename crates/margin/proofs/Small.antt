@@ -10,7 +10,7 @@ use mathlib.Core.Path.{_≡_, refl, sym, subst}
 use mathlib.Core.Bool.{true}
 use Rattle.numbers.specs.Ints.{Within}
 use Rattle.numbers.proofs.IntLaws.{Between, diffs, zarith}
-use Rattle.kinds.specs.Limits.{zonesMost, fmaxMost, flowMost, shareMost}
+use Rattle.kinds.specs.Limits.{zonesMost}
 use Rattle.kinds.specs.Ranges.{borderFits}
 use Rattle.kinds.proofs.KindLaws.{row-in}
 use Rattle.table.specs.Table.{Table, rowAt, borderAt, factorsAt}
@@ -57,7 +57,7 @@ module _ {t : Table} (good : Good t) (i : ℕ) (below : i < t .header .rows) whe
 
   -- over S, R x Fmax / 10000 - Fuaf, Fmax / 5 and Base
   abbrev top : ℕ
-  top = shareMost * fmaxMost * 10 + (f0coreMost + flowMost * 100000)
+  top = sMost
 
   pub ram-in : Within ramMost (ramAt t i)
   unfolding ramAt

@@ -84,5 +84,6 @@ amrMost = shareMost * fmaxMost * 10 + flowMost * 100000 + fmaxMost * 420000 + f0
 abbrev pub sMost : ℕ
 sMost = bordersMost * (pMost * (ltaMost * 1000))
 
+-- .. RAM without CVA and IVA is the largest of S, R x Fmax / 10000 - Fuaf, Fmax / 5 and Base, and of these S can be largest
 abbrev pub ramMost : ℕ
-ramMost = shareMost * fmaxMost * 10 + (f0coreMost + flowMost * 100000) + vaMost * 100000 + vaMost * 100000
+ramMost = sMost + vaMost * 100000 + vaMost * 100000

@@ -73,7 +73,7 @@ demand3 {g} {s} w =
 pub extract-demand3 : (g : Grid) (s : State) → GridDemand3 g s (extract g s .rounds) (extract g s .state)
 extract-demand3 g s = demand3 (all.extracts g s)
 
--- with at most B borders and margins under 2^E there are at most 2 B E rounds (40 and 48: 3,840)
+-- with at most B borders and margins under 2^E there are at most 2 B E rounds (64 and 48: 6,144)
 pub most-rounds : {g : Grid} {s t : State} {k : ℕ} → Rounds g s k t → (B E : ℕ) → g .borders ≤ B → ((i : ℕ) → i < g .rows → at (s .margins) i < 2 ^ E) → k ≤ 2 * B * E
 unfolding mostSharers sharers
 most-rounds {g} {s} w B E hb hm =
