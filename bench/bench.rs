@@ -31,7 +31,7 @@ struct Hour {
 impl Hour {
     fn lent(&self) -> Lent<'_> {
         let Tables { header, z, b, c, f } = &self.tables;
-        Lent { zones: header.zones, borders: header.borders, rows: header.rows, z, b, c, f }
+        Lent { zones: header.zones, borders: header.borders, rows: header.rows, share: header.share, z, b, c, f }
     }
 }
 

@@ -3,12 +3,21 @@
 use crate::old::Lent;
 
 #[repr(C)]
+pub struct Header {
+    pub zones: usize,
+    pub borders: usize,
+    pub rows: usize,
+    pub share: i64,
+}
+
+#[repr(C)]
 pub struct Read {
     pub number: u32,
     pub place: usize,
     pub zones: usize,
     pub borders: usize,
     pub rows: usize,
+    pub share: i64,
 }
 
 #[repr(C)]
@@ -54,17 +63,17 @@ linked! {
         z: *mut i64, nz: usize, b: *mut [i64; 5], nb: usize, c: *mut [i64; 7], nc: usize, f: *mut i64, nf: usize
     ) -> Read;
     fn keravnoth_write(
-        zones: usize, borders: usize, rows: usize,
+        header: Header,
         z: *const i64, nz: usize, b: *const [i64; 5], nb: usize, c: *const [i64; 7], nc: usize, f: *const i64, nf: usize,
         out: *mut u8, nout: usize
     ) -> Written;
     fn keravnoth_extract(
-        zones: usize, borders: usize, rows: usize,
+        header: Header,
         z: *const i64, nz: usize, b: *const [i64; 5], nb: usize, c: *const [i64; 7], nc: usize, f: *const i64, nf: usize,
         p: *mut u64, np: usize, atc: *mut [i64; 1], natc: usize, left: *mut [i64; 3], nleft: usize
     ) -> Extracted;
     fn keravnoth_result_text(
-        zones: usize, borders: usize, rows: usize,
+        header: Header,
         z: *const i64, nz: usize, b: *const [i64; 5], nb: usize, c: *const [i64; 7], nc: usize, f: *const i64, nf: usize,
         out: *mut u8, nout: usize
     ) -> Written;
@@ -74,9 +83,9 @@ linked! {
 /// A call on a lent table, which comes first, and on the buffers that follow it.
 macro_rules! on_lent {
     ($call:ident($lent:expr $(, $buffer:expr)*)) => {{
-        let Lent { zones, borders, rows, z, b, c, f } = *$lent;
+        let Lent { zones, borders, rows, share, z, b, c, f } = *$lent;
         $call(
-            zones, borders, rows,
+            Header { zones, borders, rows, share },
             z.as_ptr(), z.len(), b.as_ptr(), b.len(), c.as_ptr(), c.len(), f.as_ptr(), f.len(),
             $($buffer.as_mut_ptr(), $buffer.len()),*
         )

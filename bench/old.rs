@@ -1,7 +1,7 @@
 //! What is not rounds, as the extraction had it before document 02's E4, in plain Rust: S summed three times a row, a
 //! border record judged again wherever it is read, the row and the border of a cell found by division, rooms for the
-//! largest table. Kept to be measured beside the library, and so not made better; what later requests ask of a table, hubs and
-//! 64 borders, it can answer, so that all designs answer the same hours.
+//! largest table. Kept to be measured beside the library, and so not made better; what later requests ask of a table, hubs,
+//! 64 borders and a default of R, it can answer, so that all designs answer the same hours.
 
 pub const BORDERS_MOST: usize = 64;
 pub const ROWS_MOST: usize = 200;
@@ -15,6 +15,8 @@ pub struct Lent<'a> {
     pub zones: usize,
     pub borders: usize,
     pub rows: usize,
+    /// the default of R, -1 where it is not written
+    pub share: i64,
     pub z: &'a [i64],
     pub b: &'a [[i64; 5]],
     pub c: &'a [[i64; 7]],
@@ -72,8 +74,9 @@ fn row_fits([fmax, frm, fref, f0all, r, cva, iva]: [i64; 7]) -> bool {
 }
 
 fn judge(t: &Lent) -> Result<(), Refusal> {
-    let Lent { zones, borders, rows, z, b, c, f } = *t;
-    if !((2..=16).contains(&zones) & (1..=BORDERS_MOST).contains(&borders) & (1..=ROWS_MOST).contains(&rows)) {
+    let Lent { zones, borders, rows, share, z, b, c, f } = *t;
+    let counts_fit = (2..=16).contains(&zones) & (1..=BORDERS_MOST).contains(&borders) & (1..=ROWS_MOST).contains(&rows);
+    if !(counts_fit & (-1..=10_000).contains(&share)) {
         return Err((3, 1));
     }
     for (lent, needed) in [(z.len(), zones), (b.len(), borders), (c.len(), rows), (f.len(), rows * zones)] {
@@ -111,21 +114,22 @@ fn s_of(factors: &[i64], b: &[[i64; 5]]) -> u64 {
     b.iter().map(load).sum()
 }
 
-fn ram_of([fmax, frm, fref, f0all, r, cva, iva]: [i64; 7], factors: &[i64], z: &[i64], s: u64) -> i64 {
+fn ram_of([fmax, frm, fref, f0all, r, cva, iva]: [i64; 7], default: i64, factors: &[i64], z: &[i64], s: u64) -> i64 {
     let flow: i64 = factors.iter().zip(z).map(|(factor, net)| factor * net).sum();
     let f0core = fref * 100_000 - flow;
     let fuaf = f0core - f0all * 100_000;
     let base = (fmax - frm) * 100_000 - f0core;
-    let r = if r < 0 { 7_000 } else { r };
+    let r = if r < 0 { default } else { r };
     let amr = (r * fmax * 10 - fuaf - base).max(fmax * 20_000 - base).max(0);
     let lta_margin = (s as i64 - base - amr).max(0);
     base + amr + lta_margin - (cva + iva) * 100_000
 }
 
 fn fill_rams(t: &Lent, rams: &mut [i64]) {
+    let default = if t.share < 0 { 7_000 } else { t.share };
     for i in 0..t.rows {
         let factors = t.row_factors(i);
-        rams[i] = ram_of(t.c[i], factors, t.z, s_of(factors, t.b));
+        rams[i] = ram_of(t.c[i], default, factors, t.z, s_of(factors, t.b));
     }
 }
 
@@ -203,8 +207,8 @@ fn judge_start(t: &Lent, rams: &[i64], states: &[u64], p: &[u64]) -> Result<(), 
 /// All that is judged and filled before the first round, room for results last.
 pub fn prepare(lent: &Lent, room: &mut Room, atcs: usize, lefts: usize) -> Result<(), Refusal> {
     judge(lent)?;
-    let Lent { zones, borders, rows, z, b, c, f } = *lent;
-    let t = &Lent { zones, borders, rows, z: &z[..zones], b: &b[..borders], c: &c[..rows], f: &f[..rows * zones] };
+    let Lent { zones, borders, rows, share, z, b, c, f } = *lent;
+    let t = &Lent { zones, borders, rows, share, z: &z[..zones], b: &b[..borders], c: &c[..rows], f: &f[..rows * zones] };
     let (rams, states) = (&mut room.rams[..rows], &mut room.states[..rows]);
     fill_rams(t, rams);
     fill_states(t, rams, states);

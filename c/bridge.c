@@ -6,10 +6,10 @@
  *
  * A word has 64 bits, the least byte first, as numbers lie in memory on x86-64.
  *
- * A request: fifteen words, then the lent buffers.  The words are the call, its
- * header (zones, borders, rows) and its row (each 0 where the call takes none),
- * and the counts of items of z, b, c, f, p, atc, left, flows, text and out (0
- * where the call does not take that buffer).  The buffers that the call takes follow in
+ * A request: sixteen words, then the lent buffers.  The words are the call, its
+ * header (zones, borders, rows, share) and its row (each 0 where the call takes
+ * none), and the counts of items of z, b, c, f, p, atc, left, flows, text and out
+ * (0 where the call does not take that buffer).  The buffers that the call takes follow in
  * this order, each with BEFORE items before the lent part and AFTER items after
  * it.
  *
@@ -70,17 +70,21 @@ static const unsigned char takes[CALLS][BUFFERS] = {
 struct request {
     uint64_t call;
     uint64_t zones, borders, rows;
+    int64_t share;
     uint64_t row;
     uint64_t count[BUFFERS];
 };
 
-_Static_assert(sizeof(struct request) == 15 * sizeof(uint64_t), "fifteen words");
+_Static_assert(sizeof(struct request) == 16 * sizeof(uint64_t), "sixteen words");
 
 static int malformed(const char *what)
 {
     fprintf(stderr, "bridge: malformed request: %s\n", what);
     return 2;
 }
+
+/* The header of a request as every call on lent tables takes it. */
+#define HEADER(r) ((struct KeravnothHeader){(r)->zones, (r)->borders, (r)->rows, (r)->share})
 
 /* Makes the call; how many words its answer has.  at: the lent parts. */
 static size_t make(const struct request *r, unsigned char *const *at, uint64_t *answer)
@@ -99,11 +103,12 @@ static size_t make(const struct request *r, unsigned char *const *at, uint64_t *
         answer[2] = said.zones;
         answer[3] = said.borders;
         answer[4] = said.rows;
-        return 5;
+        answer[5] = said.share;
+        return 6;
     }
     if (r->call == EXTRACT) {
         struct KeravnothExtracted said = keravnoth_extract(
-            r->zones, r->borders, r->rows,
+            HEADER(r),
             z, nz, (const border_record *)b, nb, (const row_record *)c, nc, f, nf,
             (uint64_t *)at[P], r->count[P],
             (int64_t (*)[KERAVNOTH_ATC_ITEMS])at[ATC], r->count[ATC],
@@ -115,7 +120,7 @@ static size_t make(const struct request *r, unsigned char *const *at, uint64_t *
     }
     if (r->call == CORNER_FLOWS) {
         struct KeravnothFlows said = keravnoth_corner_flows(
-            r->zones, r->borders, r->rows,
+            HEADER(r),
             z, nz, (const border_record *)b, nb, (const row_record *)c, nc, f, nf,
             r->row, (int64_t *)at[FLOWS], r->count[FLOWS]);
         answer[0] = said.number;
@@ -126,17 +131,17 @@ static size_t make(const struct request *r, unsigned char *const *at, uint64_t *
     struct KeravnothWritten said;
     if (r->call == WRITE)
         said = keravnoth_write(
-            r->zones, r->borders, r->rows,
+            HEADER(r),
             z, nz, (const border_record *)b, nb, (const row_record *)c, nc, f, nf,
             at[OUT], r->count[OUT]);
     else if (r->call == RESULT_TEXT)
         said = keravnoth_result_text(
-            r->zones, r->borders, r->rows,
+            HEADER(r),
             z, nz, (const border_record *)b, nb, (const row_record *)c, nc, f, nf,
             at[OUT], r->count[OUT]);
     else if (r->call == CORNER_TEXT)
         said = keravnoth_corner_text(
-            r->zones, r->borders, r->rows,
+            HEADER(r),
             z, nz, (const border_record *)b, nb, (const row_record *)c, nc, f, nf,
             r->row, at[OUT], r->count[OUT]);
     else
@@ -189,7 +194,7 @@ int main(void)
         if (fread(memory, 1, bytes, stdin) != bytes)
             return malformed("its buffers are cut short");
 
-        uint64_t answer[5];
+        uint64_t answer[6];
         size_t words = make(&r, at, answer);
         if (fwrite(answer, sizeof answer[0], words, stdout) != words
             || fwrite(memory, 1, bytes, stdout) != bytes || fflush(stdout) != 0) {

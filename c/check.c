@@ -43,9 +43,15 @@ static struct room rooms[THREADS];
 #define B(r) ((const int64_t (*)[KERAVNOTH_B_ITEMS])(r)->b)
 #define C(r) ((const int64_t (*)[KERAVNOTH_C_ITEMS])(r)->c)
 #define TABLE(r) \
-    (r)->table.zones, (r)->table.borders, (r)->table.rows, \
+    header(r), \
     (r)->z, KERAVNOTH_ZONES_MOST, B(r), KERAVNOTH_BORDERS_MOST, \
     C(r), KERAVNOTH_ROWS_MOST, (r)->f, KERAVNOTH_FACTORS_MOST
+
+static struct KeravnothHeader header(const struct room *r)
+{
+    return (struct KeravnothHeader){
+        r->table.zones, r->table.borders, r->table.rows, r->table.share};
+}
 
 static void read_(struct room *r)
 {
@@ -166,7 +172,6 @@ static int check_null(const char *name)
     if (load(r, name) != 0)
         return 2;
     read_(r);
-    size_t zones = r->table.zones, borders = r->table.borders, rows = r->table.rows;
     int same = r->table.number == KERAVNOTH_ACCEPTED;
     same &= SAME(
         keravnoth_read(NULL, 0, NULL, 0, NULL, 0, NULL, 0, NULL, 0),
@@ -183,11 +188,11 @@ static int check_null(const char *name)
 #define NONE NULL, 0, NULL, 0, NULL, 0, NULL, 0
 #define SOME r->z, 0, B(r), 0, C(r), 0, r->f, 0
     same &= SAME(
-        keravnoth_write(zones, borders, rows, NONE, NULL, 0),
-        keravnoth_write(zones, borders, rows, SOME, r->out, 0));
+        keravnoth_write(header(r), NONE, NULL, 0),
+        keravnoth_write(header(r), SOME, r->out, 0));
     same &= SAME(
-        keravnoth_extract(zones, borders, rows, NONE, NULL, 0, NULL, 0, NULL, 0),
-        keravnoth_extract(zones, borders, rows, SOME, r->p, 0, r->atc, 0, r->left, 0));
+        keravnoth_extract(header(r), NONE, NULL, 0, NULL, 0, NULL, 0),
+        keravnoth_extract(header(r), SOME, r->p, 0, r->atc, 0, r->left, 0));
     same &= SAME(
         keravnoth_extract(TABLE(r), NULL, 0, NULL, 0, NULL, 0),
         keravnoth_extract(TABLE(r), r->p, 0, r->atc, 0, r->left, 0));
@@ -198,8 +203,8 @@ static int check_null(const char *name)
         keravnoth_result_text(TABLE(r), NULL, 0),
         keravnoth_result_text(TABLE(r), r->out, 0));
     same &= SAME(
-        keravnoth_corner_flows(zones, borders, rows, NONE, 0, NULL, 0),
-        keravnoth_corner_flows(zones, borders, rows, SOME, 0, r->flows, 0));
+        keravnoth_corner_flows(header(r), NONE, 0, NULL, 0),
+        keravnoth_corner_flows(header(r), SOME, 0, r->flows, 0));
     same &= SAME(
         keravnoth_corner_text(TABLE(r), 0, NULL, 0),
         keravnoth_corner_text(TABLE(r), 0, r->out, 0));
@@ -210,8 +215,10 @@ static int check_null(const char *name)
 /* The factor that a border has on a row, by the row's zone factors. */
 static uint64_t by_zone(const struct room *r, size_t row, size_t border)
 {
-    const int64_t *f = r->f + row * r->table.zones;
-    int64_t p = f[r->b[border][KERAVNOTH_B_FROM]] - f[r->b[border][KERAVNOTH_B_TO]];
+    const int64_t *f = r->f + row * r->table.zones, *b = r->b[border];
+    int64_t p = f[b[KERAVNOTH_B_FROM]] - f[b[KERAVNOTH_B_TO]];
+    if (b[KERAVNOTH_B_SENDING] != KERAVNOTH_NO_HUB)
+        p += f[b[KERAVNOTH_B_RECEIVING]] - f[b[KERAVNOTH_B_SENDING]];
     return r->left[row][KERAVNOTH_LEFT_STATE] == KERAVNOTH_STATE_KEPT && p > 0 ? (uint64_t)p : 0;
 }
 

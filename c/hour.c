@@ -56,12 +56,17 @@ static int refused(uint32_t number, size_t place)
     return 1;
 }
 
+static struct KeravnothHeader header_of(const struct KeravnothRead *table)
+{
+    return (struct KeravnothHeader){table->zones, table->borders, table->rows, table->share};
+}
+
 /* C before C23 does not turn a pointer to a record into one to a const record by
    itself, so the casts say it. */
 static int print_capacities(const struct KeravnothRead *table)
 {
     struct KeravnothExtracted work = keravnoth_extract(
-        table->zones, table->borders, table->rows,
+        header_of(table),
         z, KERAVNOTH_ZONES_MOST,
         (const int64_t (*)[KERAVNOTH_B_ITEMS])b, KERAVNOTH_BORDERS_MOST,
         (const int64_t (*)[KERAVNOTH_C_ITEMS])c, KERAVNOTH_ROWS_MOST,
@@ -79,7 +84,7 @@ static int print_heaviest_corners(const struct KeravnothRead *table)
 {
     for (size_t row = 0; row < table->rows; row++) {
         struct KeravnothFlows sheet = keravnoth_corner_flows(
-            table->zones, table->borders, table->rows,
+            header_of(table),
             z, KERAVNOTH_ZONES_MOST,
             (const int64_t (*)[KERAVNOTH_B_ITEMS])b, KERAVNOTH_BORDERS_MOST,
             (const int64_t (*)[KERAVNOTH_C_ITEMS])c, KERAVNOTH_ROWS_MOST,

@@ -11,9 +11,9 @@ mod dice;
 mod second;
 
 use dice::Dice;
-use second::{without_hubs, Border, Header, Outcome, Tables};
+use second::{without_hubs, Border, Header, Outcome, Tables, NO_SHARE};
 
-const FULL: Header = Header { zones: 16, borders: 40, rows: 200 };
+const FULL: Header = Header { zones: 16, borders: 40, rows: 200, share: NO_SHARE };
 
 const SEED_PLAIN: u64 = 1;
 const PLAIN: Kind = Kind { header: FULL, one_way: false, reach: 0, lta_step: 0, cable: false, steepest: 25_000, tight: 0 };
@@ -72,6 +72,20 @@ B 1 0 1 50
 C 0 1000000 50000 100000 20000 7000 0 1000 30000 10000 24000 12000
 C 1 200000 10000 30000 0 - 0 0 0 6000 4000 20000
 C 2 50000 0 0 0 7000 0 0 1000 0 6000 0
+";
+
+/// A small hour with a default of R of its own, made by hand: rows that take it,
+/// and one that has its own R.
+const TRAJECTORY: &str = "H 3 2 4 4500
+Z 0 300000
+Z 1 -100000
+Z 2 -200000
+B 0 0 1 50
+B 1 1 2 80
+C 0 1000000 600000 100000 50000 - 0 0 30000 10000 0
+C 1 800000 500000 0 0 7000 0 0 5000 20000 -5000
+C 2 500000 300000 20000 10000 - 10000 0 12000 0 -8000
+C 3 100000 20000 5000 0 - 0 0 3000 0 0
 ";
 
 fn extract(t: &Tables) -> Option<Outcome> {
@@ -470,7 +484,7 @@ fn ceiling(borders: i128) -> u64 {
 /// of the factors to zones at the other, the ends changing places from row to row
 /// so that the extraction accepts the table.
 fn longest_sheet() -> Tables {
-    let header = Header { zones: 16, borders: 12, rows: 200 };
+    let header = Header { borders: 12, ..FULL };
     let b = (0..12).map(|i| without_hubs(i % 8, 8 + i / 8, 10_000)).collect();
     let c = vec![[10_000_000, 0, 0, 0, -1, 0, 0]; header.rows];
     let end = |row: usize, zone: usize| if (zone < 8) == (row % 2 == 0) { -100_000 } else { 100_000 };
@@ -514,6 +528,13 @@ fn main() {
     put(&directory, "planner", "a small hour for the corner sheet", &planner);
     let cable = second::read(CABLE.replace(' ', "\t").as_bytes(), [usize::MAX; 4]).expect("the hour with a cable");
     put(&directory, "cable", "a small hour with a cable", &cable);
+    let trajectory = second::read(TRAJECTORY.replace(' ', "\t").as_bytes(), [usize::MAX; 4]).expect("the hour with a default");
+    put(&directory, "trajectory", "a small hour with a default of R", &trajectory);
+    let mut replaced = trajectory.clone();
+    for row in replaced.c.iter_mut().filter(|row| row[4] == second::R_DASH) {
+        row[4] = trajectory.header.share;
+    }
+    put(&directory, "trajectory-replaced", "the same with the default in each of these rows", &replaced);
     put(&directory, "sheet", "the longest corner sheet", &longest_sheet());
     put(&directory, "plain", &format!("seed {SEED_PLAIN}"), &plausible(SEED_PLAIN, PLAIN));
     let (_, seed) = busiest(SEEDS_BUSY, busy_of);

@@ -11,19 +11,22 @@
  *
  * RECORDS (no record holds its index; ranges include both ends; the fields have
  * names below, KERAVNOTH_B_FROM and so on)
- *   header   zones 2..16, borders 1..64, rows 1..200
+ *   header   zones 2..16, borders 1..64, rows 1..200, share: what "-" in R is
+ *            worth, 0..10000, or -1 where the H line does not write it (then
+ *            "-" is worth 7000)
  *   z        one int64_t a zone: reference net position, -100000000..100000000
  *   b        from zone, to zone (both exist, not equal), LTA 0..10000, and the
  *            hubs of a cable that is modelled by two: sending hub, receiving hub
  *            (both are zones that exist, not equal; each may be from or to), or
  *            -1 and -1 where the border has none
  *   c        Fmax 1..10000000, FRM 0..Fmax, Fref -20000000..20000000, F0all the
- *            same, R 0..10000 or -1 where "-" is written (it means 7000),
- *            CVA 0..10000000, IVA 0..10000000
+ *            same, R 0..10000 or -1 where "-" is written (it is worth what the
+ *            header says), CVA 0..10000000, IVA 0..10000000
  *   f        one int64_t a row and zone, -100000..100000; row i's factors start
  *            at item i * zones
  *   p        one uint64_t a row and border, filled in by keravnoth_extract: the
- *            factor that the border has on the row, from factor - to factor and 0
+ *            factor that the border has on the row, from factor - to factor (of a
+ *            border with hubs from factor - sending + receiving - to factor), and 0
  *            where that is negative; row i's start at item i * borders, border
  *            after border; 0 where the row's state is not 0
  *   atc      one record a border: ATC
@@ -105,7 +108,7 @@
 extern "C" {
 #endif
 
-#define KERAVNOTH_VERSION 4
+#define KERAVNOTH_VERSION 5
 
 /* The largest table, in items. */
 enum {
@@ -194,13 +197,26 @@ enum {
 
 /* The stack that each call needs, in bytes: see STACK above. */
 enum {
-    KERAVNOTH_READ_STACK = 3072,
-    KERAVNOTH_WRITE_STACK = 1024,
-    KERAVNOTH_EXTRACT_STACK = 79872,
-    KERAVNOTH_RESULT_TEXT_STACK = 81920,
-    KERAVNOTH_ANSWER_STACK = 120832,
+    KERAVNOTH_READ_STACK = 4096,
+    KERAVNOTH_WRITE_STACK = 2048,
+    KERAVNOTH_EXTRACT_STACK = 16384,
+    KERAVNOTH_RESULT_TEXT_STACK = 121856,
+    KERAVNOTH_ANSWER_STACK = 160768,
     KERAVNOTH_CORNER_FLOWS_STACK = 2048,
     KERAVNOTH_CORNER_TEXT_STACK = 34816
+};
+
+/* The header of a table, by value; share where the H line does not write it, and
+   what "-" is worth then. */
+struct KeravnothHeader {
+    size_t zones;
+    size_t borders;
+    size_t rows;
+    int64_t share;
+};
+enum {
+    KERAVNOTH_SHARE_UNWRITTEN = -1,
+    KERAVNOTH_SHARE_STANDARD = 7000
 };
 
 /* Reading: the header of the table that was read. */
@@ -210,6 +226,7 @@ struct KeravnothRead {
     size_t zones;
     size_t borders;
     size_t rows;
+    int64_t share;
 };
 
 /* Text that was written: its bytes. */
@@ -244,7 +261,7 @@ struct KeravnothRead keravnoth_read(
 /* Writes the tables as text; text that is read and written again is the same.
    Refusals 3, 4, 8. */
 struct KeravnothWritten keravnoth_write(
-    size_t zones, size_t borders, size_t rows,
+    struct KeravnothHeader header,
     const int64_t *z, size_t nz,
     const int64_t (*b)[KERAVNOTH_B_ITEMS], size_t nb,
     const int64_t (*c)[KERAVNOTH_C_ITEMS], size_t nc,
@@ -254,7 +271,7 @@ struct KeravnothWritten keravnoth_write(
 /* Capacities and margins from the tables, and the factors by border that they
    follow from.  Refusals 3 to 8. */
 struct KeravnothExtracted keravnoth_extract(
-    size_t zones, size_t borders, size_t rows,
+    struct KeravnothHeader header,
     const int64_t *z, size_t nz,
     const int64_t (*b)[KERAVNOTH_B_ITEMS], size_t nb,
     const int64_t (*c)[KERAVNOTH_C_ITEMS], size_t nc,
@@ -266,7 +283,7 @@ struct KeravnothExtracted keravnoth_extract(
 /* The same as text: A lines (index, ATC), M lines (index, state, RAM, margin left
    or "-"), one R line (rounds).  Refusals 3 to 8. */
 struct KeravnothWritten keravnoth_result_text(
-    size_t zones, size_t borders, size_t rows,
+    struct KeravnothHeader header,
     const int64_t *z, size_t nz,
     const int64_t (*b)[KERAVNOTH_B_ITEMS], size_t nb,
     const int64_t (*c)[KERAVNOTH_C_ITEMS], size_t nc,
@@ -282,7 +299,7 @@ struct KeravnothWritten keravnoth_answer(
 /* The flows of all corners of one row: 2^borders numbers.  row may be any number.
    Refusals 3, 4, 8, 9. */
 struct KeravnothFlows keravnoth_corner_flows(
-    size_t zones, size_t borders, size_t rows,
+    struct KeravnothHeader header,
     const int64_t *z, size_t nz,
     const int64_t (*b)[KERAVNOTH_B_ITEMS], size_t nb,
     const int64_t (*c)[KERAVNOTH_C_ITEMS], size_t nc,
@@ -293,7 +310,7 @@ struct KeravnothFlows keravnoth_corner_flows(
 /* The same as text: a K line (row, corner, flow) for each corner.  It may pass
    65,536 bytes: that limit is for text that is read.  Refusals 3, 4, 8, 9. */
 struct KeravnothWritten keravnoth_corner_text(
-    size_t zones, size_t borders, size_t rows,
+    struct KeravnothHeader header,
     const int64_t *z, size_t nz,
     const int64_t (*b)[KERAVNOTH_B_ITEMS], size_t nb,
     const int64_t (*c)[KERAVNOTH_C_ITEMS], size_t nc,

@@ -21,6 +21,7 @@ pub struct Read {
     pub zones: usize,
     pub borders: usize,
     pub rows: usize,
+    pub share: i64,
 }
 
 /// What a call that writes text says.
@@ -64,7 +65,8 @@ pub struct Bridge {
 
 /// The lent tables of a call, each with its guards.
 pub struct Lent<'a> {
-    pub header: [usize; 3],
+    /// zones, borders, rows, share
+    pub header: [u64; 4],
     pub z: &'a mut [i64],
     pub b: &'a mut [[i64; 5]],
     pub c: &'a mut [[i64; 7]],
@@ -109,12 +111,12 @@ impl Bridge {
         }
     }
 
-    fn begin(&mut self, call: u64, header: [usize; 3]) {
+    fn begin(&mut self, call: u64, header: [u64; 4]) {
         self.bytes.clear();
         self.bytes.resize(8 * wire::WORDS, 0);
         wire::set_word(&mut self.bytes, 0, call);
-        for (index, count) in header.into_iter().enumerate() {
-            wire::set_word(&mut self.bytes, 1 + index, count as u64);
+        for (index, word) in header.into_iter().enumerate() {
+            wire::set_word(&mut self.bytes, 1 + index, word);
         }
     }
 
@@ -165,15 +167,15 @@ impl Bridge {
 
     /// The header of the tables is not looked at.
     pub fn read(&mut self, text: &mut [u8], mut l: Lent) -> Result<Read, Ended> {
-        self.begin(wire::READ, [0; 3]);
+        self.begin(wire::READ, [0; 4]);
         self.lend_tables(&l);
         self.lend(wire::TEXT, text);
-        let [number, place, zones, borders, rows] = self.ask()?;
+        let [number, place, zones, borders, rows, share] = self.ask()?;
         self.tables_back(&mut l);
         self.back(text);
         let [place, zones, borders, rows] =
             [place, zones, borders, rows].map(|field| field as usize);
-        Ok(Read { number, place, zones, borders, rows })
+        Ok(Read { number, place, zones, borders, rows, share: share as i64 })
     }
 
     pub fn write(&mut self, l: Lent, out: &mut [u8]) -> Result<Written, Ended> {
@@ -237,7 +239,7 @@ impl Bridge {
     }
 
     pub fn answer(&mut self, text: &mut [u8], out: &mut [u8]) -> Result<Written, Ended> {
-        self.begin(wire::ANSWER, [0; 3]);
+        self.begin(wire::ANSWER, [0; 4]);
         self.lend(wire::TEXT, text);
         self.lend(wire::OUT, out);
         let [number, place, bytes] = self.ask()?;

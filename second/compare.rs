@@ -28,7 +28,7 @@ use calls::wire::{Item, AFTER, BEFORE};
 use calls::{Bridge, Ended, Extracted, Flows, Read, Written};
 use dice::Dice;
 use second::{Border, Header, Outcome, Refusal, Tables};
-use second::{LTA, MOST_BORDERS, MOST_ROUNDS, MOST_ROWS, MOST_ZONES, NO_HUB, RECEIVING, SENDING};
+use second::{LTA, MOST_BORDERS, MOST_ROUNDS, MOST_ROWS, MOST_ZONES, NO_HUB, NO_SHARE, R_DASH, RECEIVING, SENDING};
 use std::collections::BTreeMap;
 use std::ffi::OsString;
 use std::fmt::Debug;
@@ -41,8 +41,25 @@ const SEED: u64 = 20_260_101;
 const SHEET_EVERY: u64 = 30;
 /// Its borders run from 1 to this: some above the 12 that a sheet may have.
 const SHEET_BORDERS: u64 = 16;
-/// One table in so many has, beside it, tables made for the hubs.
+/// One table in so many has, beside it, tables made for the hubs, and tables made
+/// for the default of R.
 const HUBS_EVERY: u64 = 8;
+const SHARES_EVERY: u64 = 8;
+/// The stored hours, all of them: those that the bench runs on are held against the
+/// second program too.
+const HOURS: [&[u8]; 11] = [
+    include_bytes!("../hours/worked.tsv"),
+    include_bytes!("../hours/planner.tsv"),
+    include_bytes!("../hours/sheet.tsv"),
+    include_bytes!("../hours/cable.tsv"),
+    include_bytes!("../hours/trajectory.tsv"),
+    include_bytes!("../hours/trajectory-replaced.tsv"),
+    include_bytes!("../hours/plain.tsv"),
+    include_bytes!("../hours/busy.tsv"),
+    include_bytes!("../hours/worst.tsv"),
+    include_bytes!("../hours/busy64.tsv"),
+    include_bytes!("../hours/worst64.tsv"),
+];
 
 // --------------------------------------------------------------- lent memory
 
@@ -144,8 +161,9 @@ impl LentTables {
     }
 
     fn lend(&mut self) -> calls::Lent<'_> {
+        let Header { zones, borders, rows, share } = self.header;
         calls::Lent {
-            header: [self.header.zones, self.header.borders, self.header.rows],
+            header: [zones as u64, borders as u64, rows as u64, share as u64],
             z: &mut self.z.whole,
             b: &mut self.b.whole,
             c: &mut self.c.whole,
@@ -253,7 +271,7 @@ impl Comparison {
         let mut c = Lent::room(d, room[2]);
         let mut f = Lent::room(d, room[3]);
         let lent = calls::Lent {
-            header: [0; 3],
+            header: [0; 4],
             z: &mut z.whole,
             b: &mut b.whole,
             c: &mut c.whole,
@@ -263,7 +281,7 @@ impl Comparison {
         let found = self.said("keravnoth_read", found, &|| text.to_vec());
         let reference = second::read(text, room);
         let none = Tables {
-            header: Header { zones: 0, borders: 0, rows: 0 },
+            header: Header { zones: 0, borders: 0, rows: 0, share: 0 },
             z: vec![],
             b: vec![],
             c: vec![],
@@ -273,9 +291,8 @@ impl Comparison {
             Ok(t) => (0, 0, t),
             Err(refusal) => (refusal.number, refusal.place, &none),
         };
-        let h = t.header;
-        let wanted =
-            Read { number: number.into(), place, zones: h.zones, borders: h.borders, rows: h.rows };
+        let Header { zones, borders, rows, share } = t.header;
+        let wanted = Read { number: number.into(), place, zones, borders, rows, share };
         self.count("read", number);
         if found != wanted {
             let details = format!("library {found:?}\nreference {wanted:?}\nroom {room:?}");
@@ -696,7 +713,7 @@ impl Comparison {
         let mut lent = t.clone();
         lent.b[border][SENDING] = way.hubs[0];
         lent.b[border][RECEIVING] = way.hubs[1];
-        let found = self.any_call(d, &lent);
+        let found = self.any_call(d, &lent, needed(lent.header));
         if way.refused != (found == Some(Refusal { number: 3, place: line })) {
             let details = format!("hubs {}: {found:?}, by the rules refused: {}", way.name, way.refused);
             self.fail("a call on lent tables", &details, &damage::plain_text(&lent));
@@ -710,7 +727,7 @@ impl Comparison {
             damage::twins(d, &mut twins, way);
             let text = damage::plain_text(&twins);
             let reading = self.reading_and_answer(d, &text).err();
-            let found = self.any_call(d, &twins);
+            let found = self.any_call(d, &twins, needed(twins.header));
             let given_twice = Some(Refusal { number: 4, place: 1 });
             if twice != (reading == given_twice) || twice != (found == given_twice) {
                 let details = format!("twins, {name}: {reading:?}, {found:?}, by the rules 4: {twice}");
@@ -718,6 +735,80 @@ impl Comparison {
             }
             self.see(&format!("twins, {name}"));
         }
+    }
+
+    // ---------------------------------------------------- the default of R
+
+    /// The default of R as text and in a lent header, each way in turn.
+    fn share_tables(&mut self, number: u64) {
+        self.kind = "share table";
+        self.number = number;
+        let mut dice = Dice::for_case(self.seed, 5, number);
+        let d = &mut dice;
+        let borders = 1 + d.below(4);
+        let mut t = make::of_borders(d, borders);
+        if d.one_in(2) {
+            let row = d.below(t.header.rows);
+            t.c[row][4] = R_DASH;
+        }
+        let way = (number % damage::SHARE_TEXTS.len() as u64) as usize;
+        let (name, fields, wanted) = damage::SHARE_TEXTS[way];
+        let text = damage::with_share_text(&t, fields);
+        let found = self.reading_and_answer(d, &text).err().map_or((0, 1), |refusal| (refusal.number, refusal.place));
+        if found != (wanted, 1) {
+            let details = format!("default of R {name}: refusal {found:?}, by the rules {wanted}");
+            self.fail("keravnoth_read", &details, &text);
+        }
+        self.see(&format!("share as text, {name}"));
+
+        let way = (number % damage::SHARES.len() as u64) as usize;
+        let (share, refused) = damage::SHARES[way];
+        let needed = needed(t.header);
+        t.header.share = share;
+        // the header comes before lengths
+        let counts = if refused && d.one_in(2) { needed.map(|items| short(d, items)) } else { needed };
+        let found = self.any_call(d, &t, counts);
+        if refused != (found == Some(Refusal { number: 3, place: 1 })) {
+            let details = format!("default of R {share}: {found:?}, by the rules refused: {refused}");
+            self.fail("a call on lent tables", &details, &damage::plain_text(&t));
+        }
+        self.see(&format!("lent share {share}"));
+    }
+
+    /// Every "-" replaced by the default in force changes no result, nor does
+    /// writing the default where none was written; where no row has "-", any
+    /// default gives the same.
+    fn defaults(&mut self, d: &mut Dice, t: &Tables, outcome: &Result<Outcome, Refusal>, answer: &[u8]) {
+        let mut other = t.clone();
+        let dashes = t.c.iter().filter(|record| record[4] == R_DASH).count();
+        let name = if dashes == 0 {
+            other.header.share = d.of(&[NO_SHARE, 0, 7_000, 10_000]);
+            "any default without \"-\""
+        } else if t.header.share == NO_SHARE && d.one_in(3) {
+            other.header.share = 7_000;
+            "7000 written"
+        } else {
+            let default = second::default_of(&t.header);
+            for record in other.c.iter_mut().filter(|record| record[4] == R_DASH) {
+                record[4] = default;
+            }
+            if t.header.share == NO_SHARE {
+                "\"-\" replaced by 7000"
+            } else {
+                "\"-\" replaced by the default"
+            }
+        };
+        let h = other.header;
+        let mut l = LentTables::new(d, &other, needed(h));
+        let found = self.extract(d, &mut l, [h.rows * h.borders, h.borders, h.rows]);
+        let text = damage::plain_text(&other);
+        let found_answer = second::answer(&text);
+        self.answer(d, &text, &found_answer, found_answer.len());
+        if found != *outcome || found_answer != answer {
+            let details = format!("{name}: another result\nbefore {outcome:?}\nafter {found:?}");
+            self.fail("keravnoth_extract", &details, &damage::plain_text(t));
+        }
+        self.see(name);
     }
 
     /// Reading and the answer, each with room enough.
@@ -739,10 +830,30 @@ impl Comparison {
         reading
     }
 
-    /// One of the calls on lent tables, with room enough: its refusal.
-    fn any_call(&mut self, d: &mut Dice, t: &Tables) -> Option<Refusal> {
+    /// A stored hour: its text, and its tables lent, each call with room enough.
+    fn hour(&mut self, number: usize) {
+        self.kind = "stored hour";
+        self.number = number as u64;
+        let mut dice = Dice::for_case(self.seed, 6, number as u64);
+        let d = &mut dice;
+        let text = HOURS[number];
+        let Ok(t) = self.reading_and_answer(d, text) else {
+            self.fail("keravnoth_read", "a stored hour is refused", text);
+        };
         let h = t.header;
-        let mut l = LentTables::new(d, t, needed(h));
+        let mut l = LentTables::new(d, &t, needed(h));
+        let outcome = self.extract(d, &mut l, [h.rows * h.borders, h.borders, h.rows]);
+        let answer = second::answer(text);
+        let result = self.result_text(d, &mut l, answer.len());
+        if outcome.is_err() || result.as_ref() != Ok(&answer) {
+            self.fail("keravnoth_extract", "a stored hour has no result, or another text", text);
+        }
+    }
+
+    /// One of the calls on lent tables, with room enough for results: its refusal.
+    fn any_call(&mut self, d: &mut Dice, t: &Tables, counts: [usize; 4]) -> Option<Refusal> {
+        let h = t.header;
+        let mut l = LentTables::new(d, t, counts);
         let row = d.below(h.rows);
         match d.below(5) {
             0 => {
@@ -892,6 +1003,10 @@ impl Comparison {
                     self.fail("keravnoth_extract", "refusal 7 without CVA and IVA", &text);
                 }
             }
+        }
+
+        if !heavy || d.one_in(4) {
+            self.defaults(d, &t, &outcome, &answer);
         }
 
         // a sheet doubles with each border: large ones mostly by `sheet_table`
@@ -1125,6 +1240,18 @@ impl Comparison {
         }
         if t.c.iter().any(|r| r[4] == -1) {
             self.see("accepted, R \"-\"");
+            if h.share != NO_SHARE {
+                self.see("accepted, R \"-\" with a default");
+            }
+            if h.rows <= 40 && default_tells(t) {
+                self.see("accepted, a default that tells");
+            }
+        }
+        if h.share != NO_SHARE {
+            self.see("accepted, a default");
+        }
+        if h.share == 7_000 {
+            self.see("accepted, a default of 7000");
         }
         if t.c.iter().zip(&o.rows).any(|(r, row)| row.state == 0 && r[5] + r[6] > 0) {
             self.see("accepted, CVA or IVA on a kept row");
@@ -1298,6 +1425,13 @@ fn no_row(d: &mut Dice, rows: usize) -> usize {
     row.max(rows)
 }
 
+/// Another default of R gives another RAM.
+fn default_tells(t: &Tables) -> bool {
+    let mut other = t.clone();
+    other.header.share = if second::default_of(&t.header) < 5_000 { 10_000 } else { 0 };
+    (0..t.header.rows).any(|row| second::margin_of(t, row) != second::margin_of(&other, row))
+}
+
 /// The largest table.
 fn full(h: Header) -> bool {
     (h.zones, h.borders, h.rows) == (MOST_ZONES, MOST_BORDERS, MOST_ROWS)
@@ -1411,6 +1545,20 @@ fn wanted() -> Vec<(String, u64)> {
     for (name, _) in damage::TWINS {
         add(&format!("twins, {name}"), 100);
     }
+    add("accepted, a default", 2_000);
+    add("accepted, a default of 7000", 500);
+    add("accepted, R \"-\" with a default", 1_000);
+    add("accepted, a default that tells", 500);
+    add("any default without \"-\"", 1_000);
+    add("7000 written", 500);
+    add("\"-\" replaced by 7000", 1_000);
+    add("\"-\" replaced by the default", 1_000);
+    for (name, ..) in damage::SHARE_TEXTS {
+        add(&format!("share as text, {name}"), 100);
+    }
+    for (share, _) in damage::SHARES {
+        add(&format!("lent share {share}"), 100);
+    }
     add("text of 65,536 bytes", 20);
     add("text of 65,537 bytes", 20);
     add("empty text", 10);
@@ -1503,10 +1651,17 @@ fn main() {
             if number % HUBS_EVERY == 0 {
                 c.hub_tables(number / HUBS_EVERY);
             }
+            if number % SHARES_EVERY == 0 {
+                c.share_tables(number / SHARES_EVERY);
+            }
         }
         if number < texts {
             c.text(number);
         }
+    }
+    // the largest of them take the second program a while: a difference is mostly seen before
+    for number in 0..HOURS.len() {
+        c.hour(number);
     }
     if let Err(Ended(how)) = c.bridge.end() {
         println!("DIFFERENCE after the last call: the process that makes the calls ended: {how}");

@@ -2,12 +2,16 @@
 #![allow(dead_code)]
 
 use crate::dice::Dice;
-use crate::second::{Border, Header, Tables, LTA, MOST_BORDERS, NO_HUB, RECEIVING, SENDING};
+use crate::second::{Border, Header, Tables, LTA, MOST_BORDERS, NO_HUB, NO_SHARE, RECEIVING, SENDING};
 
 /// The table as text, without judging it: any number as it is.
 pub fn plain_text(t: &Tables) -> Vec<u8> {
     let h = t.header;
-    let mut s = format!("H\t{}\t{}\t{}\n", h.zones, h.borders, h.rows);
+    let mut s = format!("H\t{}\t{}\t{}", h.zones, h.borders, h.rows);
+    if h.share != NO_SHARE {
+        s += &format!("\t{}", h.share);
+    }
+    s += "\n";
     for (i, position) in t.z.iter().enumerate() {
         s += &format!("Z\t{i}\t{position}\n");
     }
@@ -55,6 +59,7 @@ fn ends(d: &mut Dice, letter: &[u8], place: usize, fields: &[Vec<u8>], zones: i6
         (b"H", 1) => (2, 16),
         (b"H", 2) => (1, MOST_BORDERS as i64),
         (b"H", 3) => (1, 200),
+        (b"H", 4) => (0, 10_000),
         (b"Z", 2) => (-100_000_000, 100_000_000),
         (b"B", 2 | 3 | 5 | 6) => (0, zones - 1),
         (b"B", 4) => (0, 10_000),
@@ -212,6 +217,57 @@ fn in_the_hubs(d: &mut Dice, text: &mut Vec<u8>, zones: i64) {
     lines[line] = line_from(&fields);
     *text = lines.concat();
 }
+
+/// A way to write the default of R: its name, the fields after the rows, and the
+/// refusal of the line, 0 where it is good.
+pub const SHARE_TEXTS: [(&str, &str, u32); 18] = [
+    ("none", "", 0),
+    ("0", "\t0", 0),
+    ("7000", "\t7000", 0),
+    ("6999", "\t6999", 0),
+    ("10000", "\t10000", 0),
+    ("10001", "\t10001", 3),
+    ("over 16 bits", "\t72536", 3),
+    ("over 32 bits", "\t4294974296", 3),
+    ("ten digits", "\t9999999999", 3),
+    ("eleven digits", "\t10000000000", 2),
+    ("\"-\"", "\t-", 2),
+    ("-1", "\t-1", 2),
+    ("-0", "\t-0", 2),
+    ("empty", "\t", 2),
+    ("a leading zero", "\t07000", 2),
+    ("two", "\t7000\t7000", 2),
+    ("two, out of range", "\t10001\t7000", 2),
+    ("a blank after it", "\t7000 ", 2),
+];
+
+/// The table's text with another ending of the H line.
+pub fn with_share_text(t: &Tables, fields: &str) -> Vec<u8> {
+    let h = t.header;
+    let mut lines = lines_of(&plain_text(t));
+    lines[0] = format!("H\t{}\t{}\t{}{fields}\n", h.zones, h.borders, h.rows).into_bytes();
+    lines.concat()
+}
+
+/// The default of R in a lent header, and whether it is refused.
+pub const SHARES: [(i64, bool); 16] = [
+    (-1, false),
+    (0, false),
+    (1, false),
+    (7_000, false),
+    (9_999, false),
+    (10_000, false),
+    (10_001, true),
+    (-2, true),
+    (-7_000, true),
+    (i64::MIN, true),
+    (i64::MAX, true),
+    ((1 << 32) - 1, true),
+    ((1 << 32) + 7_000, true),
+    ((1 << 16) - 1, true),
+    (-(1 << 32) - 1, true),
+    (i64::MIN + 7_000, true),
+];
 
 /// A way to write a B line's hubs: its name, the fields after LTA, and the
 /// refusal of the line, 0 where it is good.
@@ -528,7 +584,11 @@ pub fn damage_record(d: &mut Dice, t: &mut Tables) {
 
 /// A header that is out of range, or in range but not that of the tables.
 pub fn damage_header(d: &mut Dice, header: &mut Header) {
-    let place = d.below(3);
+    let place = d.below(4);
+    if place == 3 {
+        header.share = odd(d, header.share, NO_SHARE, 10_000);
+        return;
+    }
     let (was, low, high) = match place {
         0 => (header.zones, 2, 16),
         1 => (header.borders, 1, MOST_BORDERS),

@@ -4,7 +4,7 @@
 #![allow(dead_code)]
 
 use crate::dice::Dice;
-use crate::second::{margin_of, without_hubs, Border, Header, Tables, LTA, MOST_BORDERS, NO_HUB};
+use crate::second::{margin_of, without_hubs, Border, Header, Tables, LTA, MOST_BORDERS, NO_HUB, NO_SHARE};
 
 /// What a table is made to show.  What it gives in the end is judged by the
 /// reference, not by this name.
@@ -79,7 +79,22 @@ fn sizes(d: &mut Dice) -> Header {
         997 => (16, 40, 200),
         _ => (16, most, 200),
     };
-    Header { zones: zones as usize, borders: borders as usize, rows: rows as usize }
+    of_size(zones as usize, borders as usize, rows as usize)
+}
+
+/// The header of a table of this size; `ordinary` and `slow` draw its share.
+fn of_size(zones: usize, borders: usize, rows: usize) -> Header {
+    Header { zones, borders, rows, share: NO_SHARE }
+}
+
+/// The default of R: often not written, often one that tells.
+fn share(d: &mut Dice) -> i64 {
+    match d.below(8) {
+        0..=3 => NO_SHARE,
+        4 => 7_000,
+        5 => d.of(&[0, 1, 6_999, 7_001, 9_999, 10_000]),
+        _ => d.within(0, 10_000),
+    }
 }
 
 fn net_positions(d: &mut Dice, style: Style, zones: usize) -> Vec<i64> {
@@ -296,6 +311,7 @@ fn ordinary(d: &mut Dice, aim: Aim, sizes: Header) -> Tables {
     let style = d.of(&[Style::Near, Style::Near, Style::Any, Style::Ends, Style::Few, Style::Mixed]);
     let hubs = d.of(&[Hubs::None, Hubs::None, Hubs::None, Hubs::Some, Hubs::Some, Hubs::All]);
     header.borders = header.borders.min(most_borders(hubs, header.zones));
+    header.share = share(d);
     let z = net_positions(d, style, header.zones);
     let b = borders(d, style, hubs, header.zones, header.borders);
     let parallel = d.of(&[0, 2, 4, 8]);
@@ -363,7 +379,7 @@ fn slow(d: &mut Dice) -> Tables {
     let hubs = d.one_in(3);
     let borders = if most { MOST_BORDERS - d.below(5) } else { 2 + d.below((half * half).min(MOST_BORDERS - 1)) };
     let more_rows = d.below(3);
-    let header = Header { zones, borders, rows: 2 + more_rows };
+    let header = Header { share: share(d), ..of_size(zones, borders, 2 + more_rows) };
     let position = if most { 100_000_000 } else { d.of(&[1, 1_000, 1_000_000, 100_000_000]) };
     let z = (0..zones).map(|zone| if zone < half { position } else { -position }).collect();
     let mut pairs: Vec<(usize, usize)> =
@@ -444,5 +460,5 @@ pub fn of_borders(d: &mut Dice, borders: usize) -> Tables {
     let zones = d.of(&[least, least, least + 1, least + 4, 16]);
     let rows = 1 + d.below(5);
     let aim = d.of(&[Aim::Taken, Aim::Taken, Aim::Free, Aim::Free, Aim::Narrow, Aim::Lifted, Aim::Overeaten]);
-    ordinary(d, aim, Header { zones, borders, rows })
+    ordinary(d, aim, of_size(zones, borders, rows))
 }

@@ -56,20 +56,22 @@ fn text_to(text: Result<Vec<u8>, Refusal>, out: &mut Lent<u8>) -> [u64; 3] {
     }
 }
 
-fn read(text: &Lent<u8>, l: &mut LentTables) -> [u64; 5] {
+fn read(text: &Lent<u8>, l: &mut LentTables) -> [u64; 6] {
     let LentTables { z, b, c, f, .. } = l;
     let room = [z.len(), b.len(), c.len(), f.len()];
     match second::read(text, room) {
         Err(refusal) => {
             let zones = 0;
-            [u64::from(refusal.number), refusal.place as u64, zones, 0, 0]
+            let share = 0;
+            [u64::from(refusal.number), refusal.place as u64, zones, 0, 0, share]
         }
         Ok(t) => {
             z[..t.z.len()].copy_from_slice(&t.z);
             b[..t.b.len()].copy_from_slice(&t.b);
             c[..t.c.len()].copy_from_slice(&t.c);
             f[..t.f.len()].copy_from_slice(&t.f);
-            [0, 0, t.header.zones as u64, t.header.borders as u64, t.header.rows as u64]
+            let Header { zones, borders, rows, share } = t.header;
+            [0, 0, zones as u64, borders as u64, rows as u64, share as u64]
         }
     }
 }
@@ -175,8 +177,9 @@ impl<R: Read> Request<R> {
 
     fn tables(&mut self) -> std::io::Result<LentTables> {
         let [_, zones, borders, rows, ..] = self.words.map(|word| word as usize);
+        let share = self.words[4] as i64;
         Ok(LentTables {
-            header: Header { zones, borders, rows },
+            header: Header { zones, borders, rows, share },
             z: self.lent(wire::Z)?,
             b: self.lent(wire::B)?,
             c: self.lent(wire::C)?,

@@ -14,8 +14,10 @@ pub const GRAINS_PER_KW: i128 = 100_000;
 pub const KW_PER_MW: i128 = 1_000;
 /// How a record holds R where "-" was written.
 pub const R_DASH: i64 = -1;
-/// "\"-\" is allowed in R only and means 7000."
-pub const R_DASH_MEANS: i128 = 7_000;
+/// "\"-\" is allowed in R only and means 7000.", "H lines without it keep 7000"
+pub const R_DASH_MEANS: i64 = 7_000;
+/// How a header holds that no default of R was written.
+pub const NO_SHARE: i64 = -1;
 /// "largest zone factor less smallest is under 5000"
 pub const SPREAD_KEPT: i64 = 5_000;
 /// "zones 2..16, borders 1..40, rows 1..200", and "Raise borders from 40 to 64."
@@ -53,6 +55,8 @@ pub struct Header {
     pub zones: usize,
     pub borders: usize,
     pub rows: usize,
+    /// "the default and whether it was written": what "-" takes, or NO_SHARE
+    pub share: i64,
 }
 
 #[derive(Clone, Debug, PartialEq, Eq)]
@@ -165,13 +169,23 @@ fn form_of<'a>(line: &'a [u8], letter: &[u8], index: usize, counts: &[usize]) ->
     Some(fields[2..].to_vec())
 }
 
-/// "H | zones, borders, rows"
-fn form_h(line: &[u8]) -> Option<[i64; 3]> {
+/// "H | zones, borders, rows"; "may carry a fourth field"
+fn form_h(line: &[u8]) -> Option<Header> {
     let fields = fields_of(line)?;
-    if fields.len() != 4 || fields[0] != b"H" {
+    if fields.len() < 4 || fields.len() > 5 || fields[0] != b"H" {
         return None;
     }
-    Some([unsigned(fields[1])?, unsigned(fields[2])?, unsigned(fields[3])?])
+    let share = match fields.get(4) {
+        Some(field) => unsigned(field)?,
+        None => NO_SHARE,
+    };
+    // ten digits fit in a usize
+    Some(Header {
+        zones: unsigned(fields[1])? as usize,
+        borders: unsigned(fields[2])? as usize,
+        rows: unsigned(fields[3])? as usize,
+        share,
+    })
 }
 
 /// "Z | index, reference net position"
@@ -218,10 +232,16 @@ fn within(value: i64, low: i64, high: i64) -> bool {
     low <= value && value <= high
 }
 
-fn range_h(zones: i128, borders: i128, rows: i128) -> bool {
-    (2..=MOST_ZONES as i128).contains(&zones)
-        && (1..=MOST_BORDERS as i128).contains(&borders)
-        && (1..=MOST_ROWS as i128).contains(&rows)
+fn range_h(header: &Header) -> bool {
+    (2..=MOST_ZONES).contains(&header.zones)
+        && (1..=MOST_BORDERS).contains(&header.borders)
+        && (1..=MOST_ROWS).contains(&header.rows)
+        && range_share(header.share)
+}
+
+/// "a fourth field, 0..10000"
+fn range_share(share: i64) -> bool {
+    share == NO_SHARE || within(share, 0, 10_000)
 }
 
 /// "kW, -100000000..100000000"
@@ -382,14 +402,7 @@ fn read_lines(text: &[u8]) -> Result<Tables, Refusal> {
     let mut lines = Lines { text, start: 0, number: 1 };
 
     let (number, line) = lines.next()?;
-    let h = judged(number, form_h(line), |h| {
-        range_h(h[0] as i128, h[1] as i128, h[2] as i128)
-    })?;
-    let header = Header {
-        zones: h[0] as usize,
-        borders: h[1] as usize,
-        rows: h[2] as usize,
-    };
+    let header = judged(number, form_h(line), range_h)?;
     let mut tables = Tables {
         header,
         z: Vec::new(),
@@ -441,7 +454,7 @@ fn front_of(
     c: &[[i64; 7]],
     f: &[i64],
 ) -> Result<Tables, Refusal> {
-    if !range_h(header.zones as i128, header.borders as i128, header.rows as i128) {
+    if !range_h(&header) {
         return refuse(3, LINE_H);
     }
     judge_lengths(header, [z.len(), b.len(), c.len(), f.len()])?;
@@ -526,15 +539,12 @@ fn r_field(r: i64) -> String {
 fn table_text(tables: &Tables) -> Vec<u8> {
     let header = tables.header;
     let mut out = Vec::new();
-    push_line(
-        &mut out,
-        "H",
-        &[
-            header.zones.to_string(),
-            header.borders.to_string(),
-            header.rows.to_string(),
-        ],
-    );
+    let mut fields = vec![header.zones.to_string(), header.borders.to_string(), header.rows.to_string()];
+    // "a fourth field of 7000 is written again as such"
+    if header.share != NO_SHARE {
+        fields.push(header.share.to_string());
+    }
+    push_line(&mut out, "H", &fields);
     for (index, position) in tables.z.iter().enumerate() {
         push_line(&mut out, "Z", &[index.to_string(), position.to_string()]);
     }
@@ -658,10 +668,19 @@ fn s_of(factors: &[i64], borders: &[Border]) -> i128 {
     s
 }
 
-/// R in ten-thousandths; "-" means 7000.
-fn r_of(record: &[i64; 7]) -> i128 {
-    if record[R] == R_DASH {
+/// The default in force: what "-" means.
+pub fn default_of(header: &Header) -> i64 {
+    if header.share == NO_SHARE {
         R_DASH_MEANS
+    } else {
+        header.share
+    }
+}
+
+/// R in ten-thousandths.
+fn r_of(header: &Header, record: &[i64; 7]) -> i128 {
+    if record[R] == R_DASH {
+        i128::from(default_of(header))
     } else {
         i128::from(record[R])
     }
@@ -690,9 +709,10 @@ pub fn margin_of(tables: &Tables, row: usize) -> Margin {
     let base = fmax - frm - f0core;
     // "AMR = the largest of R x Fmax / 10000 - Fuaf - Base, Fmax / 5 - Base, and
     // 0. In grains both products are whole."
-    assert_eq!(r_of(record) * fmax % 10_000, 0);
+    let r = r_of(&tables.header, record);
+    assert_eq!(r * fmax % 10_000, 0);
     assert_eq!(fmax % 5, 0);
-    let by_r = r_of(record) * fmax / 10_000 - fuaf - base;
+    let by_r = r * fmax / 10_000 - fuaf - base;
     let by_fifth = fmax / 5 - base;
     let amr = by_r.max(by_fifth).max(0);
     let s = s_of(factors, &tables.b);

@@ -339,6 +339,7 @@ fn stored_texts_of_40_borders_mean_the_same() {
 /// Every field of every line as long as it can be.
 fn longest() -> Tables {
     let mut t = read(&sized(16, 64, 200), ALL).unwrap();
+    t.header.share = 10_000;
     t.z = vec![-100_000_000; 16];
     for (index, border) in t.b.iter_mut().enumerate() {
         let index = index as i64;
@@ -354,10 +355,10 @@ fn longest() -> Tables {
 fn longest_text() {
     let t = longest();
     let bytes = write(t.header, &t.z, &t.b, &t.c, &t.f, usize::MAX).unwrap();
-    // H 12; Z 10 of 15 and 6 of 16; B 10 of 22 and 54 of 23; C 10 of 194, 90 of 195
+    // H 18; Z 10 of 15 and 6 of 16; B 10 of 22 and 54 of 23; C 10 of 194, 90 of 195
     // and 100 of 196
-    let by_hand = 12 + (150 + 96) + (220 + 1_242) + (1_940 + 17_550 + 19_600);
-    assert_eq!((bytes.len(), by_hand), (40_810, 40_810));
+    let by_hand = 18 + (150 + 96) + (220 + 1_242) + (1_940 + 17_550 + 19_600);
+    assert_eq!((bytes.len(), by_hand), (40_816, 40_816));
     assert!(bytes.len() <= MOST_BYTES);
     assert_eq!(read(&bytes, ALL), Ok(t));
 }
@@ -408,7 +409,10 @@ fn refusal_2_form() {
     ] {
         assert_eq!(read_refusal(&hour_with(7, line)), Some((2, 7)), "{line}");
     }
-    for line in ["H 3 2", "H 3 2 4 0", "H 3 2 -4", "H 03 2 4", "H 3 2 -", "h 3 2 4", "Z 3 2 4"] {
+    for line in [
+        "H 3 2", "H 3 2 4 0 0", "H 3 2 -4", "H 03 2 4", "H 3 2 -", "h 3 2 4", "Z 3 2 4", "H 3 2 4 -", "H 3 2 4 -1",
+        "H 3 2 4 ", "H 3 2 4 07000", "H 3 2 4 7000 ", "H 3 2 4 x", "H 3 2 4 10000000000", "H 17 2 4 -", "H 3 2 4 10001 0",
+    ] {
         assert_eq!(read_refusal(&hour_with(1, line)), Some((2, 1)), "{line}");
     }
     // a blank is no tab
@@ -551,6 +555,11 @@ fn lent_tables() {
         Header { borders: 65, ..t.header },
         Header { rows: 0, ..t.header },
         Header { rows: usize::MAX, ..t.header },
+        Header { share: -2, ..t.header },
+        Header { share: 10_001, ..t.header },
+        Header { share: i64::MIN, ..t.header },
+        Header { share: i64::MAX, ..t.header },
+        Header { share: (1 << 32) + 7_000, ..t.header },
     ] {
         assert_eq!(judge(header, &[], &[], &[], &[]), e(3, 1));
     }
@@ -626,6 +635,63 @@ fn room_for_results() {
     seven.c[1][6] = 10_000_000;
     assert_eq!((x(&seven, 0, 0), rt(&seven, 0).map(|_| ())), (e(7, 1), e(7, 1)));
     assert!(w(&seven, usize::MAX).is_ok());
+}
+
+// ------------------------------------------------------------ the default of R
+
+#[test]
+fn default_by_hand() {
+    // Fmax 100000, FRM 90000, no flow: base 10000 kW.  R x Fmax less base and a fifth
+    // less base are what AMR adds, so RAM is the larger of R x Fmax and 20000 kW
+    let hour = |h: &str, r: &str| {
+        text(&format!("H 2 1 1{h} / Z 0 0 / Z 1 0 / B 0 0 1 0 / C 0 100000 90000 0 0 {r} 0 0 20000 0"))
+    };
+    let ram = |h: &str, r: &str| margin_of(&read(&hour(h, r), ALL).unwrap(), 0).ram / 100_000;
+    assert_eq!(ram("", "-"), 70_000);
+    assert_eq!(ram(" 7000", "-"), 70_000);
+    assert_eq!(ram(" 5000", "-"), 50_000);
+    assert_eq!(ram(" 2001", "-"), 20_010);
+    assert_eq!(ram(" 1999", "-"), 20_000);
+    assert_eq!(ram(" 0", "-"), 20_000);
+    assert_eq!(ram(" 10000", "-"), 100_000);
+    // a written R is its own
+    assert_eq!((ram(" 10000", "3000"), ram(" 0", "7000"), ram("", "0")), (30_000, 70_000, 20_000));
+    // 50000 kW at p 20000: 250 MW
+    assert_eq!(shown(&answer(&hour(" 5000", "-"))), "A 0 250 / M 0 0 5000000000 0 / R 1");
+    assert_eq!(answer(&hour(" 5000", "-")), answer(&hour(" 5000", "5000")));
+    assert_eq!(answer(&hour("", "-")), answer(&hour(" 7000", "-")));
+    // written again as written
+    for h in ["", " 0", " 7000", " 5000", " 10000"] {
+        assert_eq!(rewrite(&hour(h, "-")), hour(h, "-"));
+        assert_eq!(rewrite(&hour(h, "7000")), hour(h, "7000"));
+    }
+    let share = |h: &str| read(&hour(h, "-"), ALL).unwrap().header.share;
+    assert_eq!((share(""), share(" 7000"), share(" 0")), (-1, 7_000, 0));
+    for h in [" 10001", " 9999999999", " 4294967296"] {
+        assert_eq!(read_refusal(&hour(h, "-")), Some((3, 1)), "{h}");
+    }
+    assert_eq!(shown(&answer(&hour(" 10001", "-"))), "E 3 1");
+}
+
+#[test]
+fn default_of_a_lent_header() {
+    let t = table(HOUR);
+    for share in [-1, 0, 7_000, 10_000] {
+        let one = Header { share, ..t.header };
+        assert_eq!(judge(one, &t.z, &t.b, &t.c, &t.f).map(|t| t.header), Ok(one));
+    }
+    // the header before lengths, in every call
+    let bad = Header { share: 10_001, ..t.header };
+    assert_eq!(write(bad, &[], &[], &[], &[], 0), e(3, 1));
+    assert_eq!(extract(bad, &[], &[], &[], &[], 0, 0, 0).map(|_| ()), e(3, 1));
+    assert_eq!(result_text(bad, &[], &[], &[], &[], 0), e(3, 1));
+    assert_eq!(corner_flows(bad, &[], &[], &[], &[], 0, 0), e(3, 1));
+    assert_eq!(corner_text(bad, &[], &[], &[], &[], 0, 0), e(3, 1));
+    let mut hour = t.clone();
+    hour.header.share = 7_000;
+    let mut wanted = text(HOUR);
+    wanted.splice(7..7, *b"\t7000");
+    assert_eq!(write(hour.header, &t.z, &t.b, &t.c, &t.f, usize::MAX), Ok(wanted));
 }
 
 // ----------------------------------------------------------------------- hubs
@@ -1056,7 +1122,8 @@ fn random_tables(d: &mut Dice, most_borders: i64, most_rows: i64) -> Tables {
             }
         }
     }
-    Tables { header: Header { zones, borders, rows }, z, b, c, f }
+    let share = if d.one_in(2) { -1 } else { d.in_range(0, 10_000) };
+    Tables { header: Header { zones, borders, rows, share }, z, b, c, f }
 }
 
 fn check_random(t: &Tables, seen: &mut [usize; 8]) {
@@ -1069,7 +1136,8 @@ fn check_random(t: &Tables, seen: &mut [usize; 8]) {
     let margins: Vec<Margin> = (0..h.rows).map(|row| margin_of(t, row)).collect();
     for (row, m) in margins.iter().enumerate() {
         // RAM is the largest of four, less CVA and IVA
-        let r = if t.c[row][4] == -1 { 7000 } else { t.c[row][4] } as i128;
+        let default = if h.share == -1 { 7000 } else { h.share };
+        let r = if t.c[row][4] == -1 { default } else { t.c[row][4] } as i128;
         let fmax = t.c[row][0] as i128;
         let largest = m.base.max(r * fmax * 10 - m.fuaf).max(fmax * 20_000).max(m.s);
         assert_eq!(m.ram, largest - (t.c[row][5] + t.c[row][6]) as i128 * 100_000);
@@ -1080,6 +1148,15 @@ fn check_random(t: &Tables, seen: &mut [usize; 8]) {
         }
     }
     let no_lifts = t.c.iter().all(|r| r[5] == 0 && r[6] == 0);
+    // replacing every "-" by the default in force changes nothing
+    let mut plain = t.clone();
+    for record in plain.c.iter_mut().filter(|record| record[4] == -1) {
+        record[4] = if h.share == -1 { 7000 } else { h.share };
+    }
+    for (row, m) in margins.iter().enumerate() {
+        assert_eq!(margin_of(&plain, row), *m);
+    }
+    assert_eq!(out(&plain), out(t));
     match out(t) {
         Err(r) => {
             seen[r.number as usize] += 1;

@@ -65,23 +65,22 @@ pub keravnoth-read-once : (κs : Lfts 5) (x : ArgsD read.signature κs) (r r′ 
     × (now (s .1 .1 .1 .1 .0) ≡ now (s′ .1 .1 .1 .1 .0)))))
 keravnoth-read-once κs x r r′ s s′ p q = read-one _ _ _ _ _ _ _ _ _ _ _ p q
 
--- `out` is the eighth argument
+-- `out` is the sixth argument
 pub keravnoth-write-once : (κs : Lfts 5) (x : ArgsD write.signature κs) (r r′ : ResD write.signature κs) (s s′ : AtExit (endedOf 5 write-kinds.ps write-kinds.r) κs)
-    → write-reads.Post κs x r s → write-reads.Post κs x r′ s′ → (r ≡ r′) × (now (s .1 .1 .1 .1 .1 .1 .1 .0) ≡ now (s′ .1 .1 .1 .1 .1 .1 .1 .0))
+    → write-reads.Post κs x r s → write-reads.Post κs x r′ s′ → (r ≡ r′) × (now (s .1 .1 .1 .1 .1 .0) ≡ now (s′ .1 .1 .1 .1 .1 .0))
 keravnoth-write-once κs x r r′ s s′ p q = text-one _ _ _ _ _ p q
 
--- p is the eighth, and the results are the ninth and the tenth
+-- p is the sixth, and the results are the seventh and the eighth
 pub keravnoth-extract-once : (κs : Lfts 7) (x : ArgsD extract.signature κs) (r r′ : ResD extract.signature κs) (s s′ : AtExit (endedOf 7 extract-kinds.ps extract-kinds.r) κs)
     → extract-reads.Post κs x r s → extract-reads.Post κs x r′ s′
     → (r ≡ r′)
-    × ((now (s .1 .1 .1 .1 .1 .1 .1 .0) ≡ now (s′ .1 .1 .1 .1 .1 .1 .1 .0))
-    × ((now (s .1 .1 .1 .1 .1 .1 .1 .1 .0) ≡ now (s′ .1 .1 .1 .1 .1 .1 .1 .1 .0))
-    × (now (s .1 .1 .1 .1 .1 .1 .1 .1 .1 .0) ≡ now (s′ .1 .1 .1 .1 .1 .1 .1 .1 .1 .0))))
+    × ((now (s .1 .1 .1 .1 .1 .0) ≡ now (s′ .1 .1 .1 .1 .1 .0))
+    × ((now (s .1 .1 .1 .1 .1 .1 .0) ≡ now (s′ .1 .1 .1 .1 .1 .1 .0)) × (now (s .1 .1 .1 .1 .1 .1 .1 .0) ≡ now (s′ .1 .1 .1 .1 .1 .1 .1 .0))))
 keravnoth-extract-once κs x r r′ s s′ p q = extract-one _ _ _ _ _ _ _ _ _ p q
 
--- `out` is the eighth argument
+-- `out` is the sixth argument
 pub keravnoth-result-text-once : (κs : Lfts 5) (x : ArgsD result-text.signature κs) (r r′ : ResD result-text.signature κs) (s s′ : AtExit (endedOf 5 result-text-kinds.ps result-text-kinds.r) κs)
-    → result-text-reads.Post κs x r s → result-text-reads.Post κs x r′ s′ → (r ≡ r′) × (now (s .1 .1 .1 .1 .1 .1 .1 .0) ≡ now (s′ .1 .1 .1 .1 .1 .1 .1 .0))
+    → result-text-reads.Post κs x r s → result-text-reads.Post κs x r′ s′ → (r ≡ r′) × (now (s .1 .1 .1 .1 .1 .0) ≡ now (s′ .1 .1 .1 .1 .1 .0))
 keravnoth-result-text-once κs x r r′ s s′ p q = text-one _ _ _ _ _ p q
 
 -- `out` is the second argument
@@ -89,11 +88,11 @@ pub keravnoth-answer-once : (κs : Lfts 2) (x : ArgsD answer.signature κs) (r r
     → answer-reads.Post κs x r s → answer-reads.Post κs x r′ s′ → (r ≡ r′) × (now (s .1 .0) ≡ now (s′ .1 .0))
 keravnoth-answer-once κs x r r′ s s′ p q = text-one _ _ _ _ _ p q
 
--- `out` is the ninth argument, also of the text
+-- `out` is the seventh argument, also of the text
 pub keravnoth-corner-flows-once : (κs : Lfts 5) (x : ArgsD corner-flows.signature κs) (r r′ : ResD corner-flows.signature κs) (s s′ : AtExit (endedOf 5 corner-flows-kinds.ps corner-flows-kinds.r) κs)
-    → corner-flows-reads.Post κs x r s → corner-flows-reads.Post κs x r′ s′ → (r ≡ r′) × (now (s .1 .1 .1 .1 .1 .1 .1 .1 .0) ≡ now (s′ .1 .1 .1 .1 .1 .1 .1 .1 .0))
+    → corner-flows-reads.Post κs x r s → corner-flows-reads.Post κs x r′ s′ → (r ≡ r′) × (now (s .1 .1 .1 .1 .1 .1 .0) ≡ now (s′ .1 .1 .1 .1 .1 .1 .0))
 keravnoth-corner-flows-once κs x r r′ s s′ p q = flows-one _ _ _ _ _ p q
 
 pub keravnoth-corner-text-once : (κs : Lfts 5) (x : ArgsD corner-text.signature κs) (r r′ : ResD corner-text.signature κs) (s s′ : AtExit (endedOf 5 corner-text-kinds.ps corner-text-kinds.r) κs)
-    → corner-text-reads.Post κs x r s → corner-text-reads.Post κs x r′ s′ → (r ≡ r′) × (now (s .1 .1 .1 .1 .1 .1 .1 .1 .0) ≡ now (s′ .1 .1 .1 .1 .1 .1 .1 .1 .0))
+    → corner-text-reads.Post κs x r s → corner-text-reads.Post κs x r′ s′ → (r ≡ r′) × (now (s .1 .1 .1 .1 .1 .1 .0) ≡ now (s′ .1 .1 .1 .1 .1 .1 .0))
 keravnoth-corner-text-once κs x r r′ s s′ p q = text-one _ _ _ _ _ p q

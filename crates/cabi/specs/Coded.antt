@@ -2,7 +2,7 @@
 -- `readCoded`, `textCoded`, `extractCoded` and `flowsCoded` are what contracts cite: a call's answer coded so, and each lent buffer as the call leaves it.
 use mathlib.Core.List.{List}
 use Prim.Native.Nat.{ℕ}
-use lib.IntN.{ℤ}
+use lib.IntN.{ℤ, pos}
 use Rattle.kinds.specs.declared.Header.{Header}
 use Rattle.kinds.specs.Refusals.{Judged, passed, refused}
 use Rattle.reading.specs.Reading.{ReadLeft}
@@ -16,8 +16,8 @@ use Rattle.cabi.specs.declared.KeravnothFlows.{KeravnothFlows}
 
 -- the header of the table that was read
 abbrev pub codedRead : Judged Header → KeravnothRead
-codedRead (passed h) = record { number = 0; place = 0; zones = h .zones; borders = h .borders; rows = h .rows }
-codedRead (refused w) = record { number = w .number; place = w .place; zones = 0; borders = 0; rows = 0 }
+codedRead (passed h) = record { number = 0; place = 0; zones = h .zones; borders = h .borders; rows = h .rows; share = h .share }
+codedRead (refused w) = record { number = w .number; place = w .place; zones = 0; borders = 0; rows = 0; share = pos 0 }
 
 -- the bytes of the text that was written
 abbrev pub codedWritten : Judged ℕ → KeravnothWritten

@@ -1,5 +1,5 @@
 // The open calls for C and everything that speaks C: include/keravnoth.h. Each calls its namesake and codes the answer.
-// C hands a slice over as a pointer and the count of its items. Any input has an answer: there is no `requires`.
+// C hands a slice over as a pointer and the count of its items, and a header by value. Any input has an answer: there is no `requires`.
 ghost use mathlib.Core.Path.{_≡_};
 ghost use Rattle.kinds.specs.Answers.{saidRead, saidWritten, saidExtracted, saidFlows};
 ghost use Rattle.table.specs.Table.{lent};
@@ -27,6 +27,7 @@ pub struct KeravnothRead {
     pub zones: usize,
     pub borders: usize,
     pub rows: usize,
+    pub share: i64,
 }
 
 #[repr(C)]
@@ -67,31 +68,22 @@ pub extern "C" fn keravnoth_read(
 // Writes the tables as text.
 #[no_mangle]
 pub extern "C" fn keravnoth_write(
-    zones: usize,
-    borders: usize,
-    rows: usize,
+    h: Header,
     z: &[i64],
     b: &[BorderRecord],
     c: &[RowRecord],
     f: &[i64],
     out: &mut [u8],
 ) -> KeravnothWritten
-    ensures { λ r. ⌜ textFound r (now (out .exit)) ≡ textCoded (writeLeft (lent (record { zones = zones; borders = borders; rows = rows }) (now (z .entry)) (now (b .entry)) (now (c .entry)) (now (f .entry))) (now (out .entry))) ⌝ }
+    ensures { λ r. ⌜ textFound r (now (out .exit)) ≡ textCoded (writeLeft (lent h (now (z .entry)) (now (b .entry)) (now (c .entry)) (now (f .entry))) (now (out .entry))) ⌝ }
 {
-    let h = Header {
-        zones: zones,
-        borders: borders,
-        rows: rows,
-    };
     code_written(writing::write(h, z, b, c, f, out))
 }
 
 // Capacities and margins from the tables, and p of each row at each border.
 #[no_mangle]
 pub extern "C" fn keravnoth_extract(
-    zones: usize,
-    borders: usize,
-    rows: usize,
+    h: Header,
     z: &[i64],
     b: &[BorderRecord],
     c: &[RowRecord],
@@ -100,35 +92,23 @@ pub extern "C" fn keravnoth_extract(
     atc: &mut [AtcRecord],
     left: &mut [LeftRecord],
 ) -> KeravnothExtracted
-    ensures { λ r. ⌜ extractFound r (now (p .exit)) (now (atc .exit)) (now (left .exit)) ≡ extractCoded (extractLeft (lent (record { zones = zones; borders = borders; rows = rows }) (now (z .entry)) (now (b .entry)) (now (c .entry)) (now (f .entry))) (now (p .entry)) (now (atc .entry)) (now (left .entry))) ⌝ }
+    ensures { λ r. ⌜ extractFound r (now (p .exit)) (now (atc .exit)) (now (left .exit)) ≡ extractCoded (extractLeft (lent h (now (z .entry)) (now (b .entry)) (now (c .entry)) (now (f .entry))) (now (p .entry)) (now (atc .entry)) (now (left .entry))) ⌝ }
 {
-    let h = Header {
-        zones: zones,
-        borders: borders,
-        rows: rows,
-    };
     code_extracted(extraction::extract(h, z, b, c, f, p, atc, left))
 }
 
 // The same as text.
 #[no_mangle]
 pub extern "C" fn keravnoth_result_text(
-    zones: usize,
-    borders: usize,
-    rows: usize,
+    h: Header,
     z: &[i64],
     b: &[BorderRecord],
     c: &[RowRecord],
     f: &[i64],
     out: &mut [u8],
 ) -> KeravnothWritten
-    ensures { λ r. ⌜ textFound r (now (out .exit)) ≡ textCoded (resultTextLeft (lent (record { zones = zones; borders = borders; rows = rows }) (now (z .entry)) (now (b .entry)) (now (c .entry)) (now (f .entry))) (now (out .entry))) ⌝ }
+    ensures { λ r. ⌜ textFound r (now (out .exit)) ≡ textCoded (resultTextLeft (lent h (now (z .entry)) (now (b .entry)) (now (c .entry)) (now (f .entry))) (now (out .entry))) ⌝ }
 {
-    let h = Header {
-        zones: zones,
-        borders: borders,
-        rows: rows,
-    };
     code_written(answer::result_text(h, z, b, c, f, out))
 }
 
@@ -143,9 +123,7 @@ pub extern "C" fn keravnoth_answer(text: &[u8], out: &mut [u8]) -> KeravnothWrit
 // The flows of all corners on one row.
 #[no_mangle]
 pub extern "C" fn keravnoth_corner_flows(
-    zones: usize,
-    borders: usize,
-    rows: usize,
+    h: Header,
     z: &[i64],
     b: &[BorderRecord],
     c: &[RowRecord],
@@ -153,22 +131,15 @@ pub extern "C" fn keravnoth_corner_flows(
     row: usize,
     out: &mut [i64],
 ) -> KeravnothFlows
-    ensures { λ r. ⌜ flowsFound r (now (out .exit)) ≡ flowsCoded (cornersLeft (lent (record { zones = zones; borders = borders; rows = rows }) (now (z .entry)) (now (b .entry)) (now (c .entry)) (now (f .entry))) row (now (out .entry))) ⌝ }
+    ensures { λ r. ⌜ flowsFound r (now (out .exit)) ≡ flowsCoded (cornersLeft (lent h (now (z .entry)) (now (b .entry)) (now (c .entry)) (now (f .entry))) row (now (out .entry))) ⌝ }
 {
-    let h = Header {
-        zones: zones,
-        borders: borders,
-        rows: rows,
-    };
     code_flows(corners::corner_flows(h, z, b, c, f, row, out))
 }
 
 // The same as text.
 #[no_mangle]
 pub extern "C" fn keravnoth_corner_text(
-    zones: usize,
-    borders: usize,
-    rows: usize,
+    h: Header,
     z: &[i64],
     b: &[BorderRecord],
     c: &[RowRecord],
@@ -176,13 +147,8 @@ pub extern "C" fn keravnoth_corner_text(
     row: usize,
     out: &mut [u8],
 ) -> KeravnothWritten
-    ensures { λ r. ⌜ textFound r (now (out .exit)) ≡ textCoded (cornerTextLeft (lent (record { zones = zones; borders = borders; rows = rows }) (now (z .entry)) (now (b .entry)) (now (c .entry)) (now (f .entry))) row (now (out .entry))) ⌝ }
+    ensures { λ r. ⌜ textFound r (now (out .exit)) ≡ textCoded (cornerTextLeft (lent h (now (z .entry)) (now (b .entry)) (now (c .entry)) (now (f .entry))) row (now (out .entry))) ⌝ }
 {
-    let h = Header {
-        zones: zones,
-        borders: borders,
-        rows: rows,
-    };
     code_written(cornertext::corner_text(h, z, b, c, f, row, out))
 }
 
@@ -190,19 +156,24 @@ fn code_read(said: Read) -> KeravnothRead
     ensures { λ r. ⌜ r ≡ codedRead (saidRead said) ⌝ }
 {
     match said {
-        Read::Table(h) => KeravnothRead {
-            number: 0,
-            place: 0,
-            zones: h.zones,
-            borders: h.borders,
-            rows: h.rows,
-        },
+        Read::Table(h) => {
+            let share = h.share;
+            KeravnothRead {
+                number: 0,
+                place: 0,
+                zones: h.zones,
+                borders: h.borders,
+                rows: h.rows,
+                share: share,
+            }
+        }
         Read::Refused(w) => KeravnothRead {
             number: w.number,
             place: w.place,
             zones: 0,
             borders: 0,
             rows: 0,
+            share: 0,
         },
     }
 }

@@ -9,7 +9,7 @@ use lib.IntN.{pos, natAbs}
 use lib.Signed.{ltZ-yes, clashℤ}
 use Rattle.numbers.specs.Below.{ifZero, sum, count, largest, lesser, least, orZero, table, firstFrom, given}
 use Rattle.numbers.specs.Ints.{minus, maxℤ, minℤ, positivePart, sameℤ, sumℤ}
-use Rattle.kinds.specs.Ranges.{hubsOf, borderOf, shareOf, rowOf, worth}
+use Rattle.kinds.specs.Ranges.{hubsOf, borderOf, shareOf, rowOf, worth, defaultOf}
 use Rattle.kinds.specs.Refusals.{passed, then, unless, refuseAt, refuseFirst}
 use Rattle.table.specs.Table.{Table, stretch}
 use Rattle.rounds.specs.Rounds.{sharers, raise, alone, raises, load, lowered, risen, apply, next, raised, counted, run, extract, mostSharers, bitsTo, bits, aloneBits}
@@ -23,7 +23,7 @@ use Rattle.extraction.specs.Demand.{loadOf, Demand3}
 abbrev small : Table
 small =
     record {
-      header = record { zones = 3; borders = 2; rows = 2 };
+      header = record { zones = 3; borders = 2; rows = 2; share = minus 1 };
       nets = pos 0 ∷ pos 0 ∷ pos 0 ∷ [];
       borders = (pos 0 ∷ pos 1 ∷ pos 2 ∷ minus 1 ∷ minus 1 ∷ []) ∷ (pos 0 ∷ pos 2 ∷ pos 0 ∷ minus 1 ∷ minus 1 ∷ []) ∷ [];
       rows =
@@ -74,7 +74,7 @@ pub record Anchors : Type 0 where
   pub one-round : Demand3 small (ended 1 (1800000 ∷ 0 ∷ []) (2200 ∷ 20 ∷ [])) → ⊥
 
 pub anchors : Anchors
-unfolding ifZero sum count largest lesser least orZero table firstFrom given maxℤ minℤ positivePart sameℤ sumℤ hubsOf borderOf shareOf rowOf worth then unless refuseAt refuseFirst stretch sharers raise alone raises load lowered risen apply next raised counted run extract mostSharers bitsTo bits aloneBits grains f0coreOf fuafOf baseOf amrOf signedFactor pOf ltaKw sOf ltaMarginOf ramOf ramAt highest lowest spreadOf shifted below stateOf rowsOf kept gridOf startOf judgeStart resultOf atcOf leftOf outcomeOf nOf lOf loadOf
+unfolding ifZero sum count largest lesser least orZero table firstFrom given maxℤ minℤ positivePart sameℤ sumℤ hubsOf borderOf shareOf rowOf worth defaultOf then unless refuseAt refuseFirst stretch sharers raise alone raises load lowered risen apply next raised counted run extract mostSharers bitsTo bits aloneBits grains f0coreOf fuafOf baseOf amrOf signedFactor pOf ltaKw sOf ltaMarginOf ramOf ramAt highest lowest spreadOf shifted below stateOf rowsOf kept gridOf startOf judgeStart resultOf atcOf leftOf outcomeOf nOf lOf loadOf
 anchors =
     record {
       outcome = refl;

@@ -6,7 +6,7 @@ use lib.IntN.{ℤ, pos}
 use lib.ListN.{replicate}
 use Rattle.numbers.specs.Below.{ifZero, sum, count, lesser, least, orZero, table, firstFrom, given}
 use Rattle.numbers.specs.Ints.{minus, maxℤ, minℤ, positivePart, sameℤ, inside, sumℤ}
-use Rattle.kinds.specs.Ranges.{headerFits, zoneFits, exists, hubsFit, borderFits, hubsOf, borderOf, shareOf, rowOf, rowFits, factorFits, worth}
+use Rattle.kinds.specs.Ranges.{headerFits, zoneFits, exists, hubsFit, borderFits, hubsOf, borderOf, shareOf, rowOf, rowFits, factorFits, worth, defaultOf}
 use Rattle.kinds.specs.Refusals.{passed, refused, refusal, then, either, unless, refuseAt, refuseFirst, need}
 use Rattle.table.specs.Table.{Table, stretch, twice, roomFor, judgeShape}
 use Rattle.rounds.specs.Rounds.{sharers, raise, raises, load, lowered, risen, apply, next, raised, counted, run, extract}
@@ -19,7 +19,7 @@ use Rattle.extraction.specs.Extraction.{resultOf, atcOf, leftOf, outcome
 abbrev small : (frm iva : ℕ) → Table
 small frm iva =
     record {
-      header = record { zones = 2; borders = 2; rows = 3 };
+      header = record { zones = 2; borders = 2; rows = 3; share = minus 1 };
       nets = pos 0 ∷ pos 0 ∷ [];
       borders = (pos 0 ∷ pos 1 ∷ pos 0 ∷ minus 1 ∷ minus 1 ∷ []) ∷ (pos 1 ∷ pos 0 ∷ pos 0 ∷ minus 1 ∷ minus 1 ∷ []) ∷ [];
       rows =
@@ -50,5 +50,5 @@ pub record Anchors : Type 0 where
   pub long : leaving 4 0 6 .answer ≡ refused (refusal 3 6)
 
 pub anchors : Anchors
-unfolding ifZero sum count lesser least orZero table firstFrom given maxℤ minℤ positivePart sameℤ inside sumℤ headerFits zoneFits exists hubsFit borderFits hubsOf borderOf shareOf rowOf rowFits factorFits worth then either unless refuseAt refuseFirst need stretch twice roomFor judgeShape sharers raise raises load lowered risen apply next raised counted run extract grains f0coreOf fuafOf baseOf amrOf signedFactor pOf ltaKw sOf ltaMarginOf ramOf ramAt highest lowest spreadOf shifted below stateOf rowsOf kept gridOf startOf judgeStart resultOf atcOf leftOf outcomeOf atcRecord rowRecord judgeExtract extractLeft
+unfolding ifZero sum count lesser least orZero table firstFrom given maxℤ minℤ positivePart sameℤ inside sumℤ headerFits zoneFits exists hubsFit borderFits hubsOf borderOf shareOf rowOf rowFits factorFits worth defaultOf then either unless refuseAt refuseFirst need stretch twice roomFor judgeShape sharers raise raises load lowered risen apply next raised counted run extract grains f0coreOf fuafOf baseOf amrOf signedFactor pOf ltaKw sOf ltaMarginOf ramOf ramAt highest lowest spreadOf shifted below stateOf rowsOf kept gridOf startOf judgeStart resultOf atcOf leftOf outcomeOf atcRecord rowRecord judgeExtract extractLeft
 anchors = record { accepted = refl; below = refl; short = refl; long = refl }

@@ -10,7 +10,7 @@ use lib.IntN.{ℤ, pos}
 use lib.Signed.{ltZ}
 use Rattle.numbers.specs.Below.{firstFrom, someBelow}
 use Rattle.numbers.proofs.BelowLaws.{first-nothing, table-get}
-use Rattle.kinds.specs.Ranges.{atℤ}
+use Rattle.kinds.specs.Ranges.{atℤ, defaultOf}
 use Rattle.kinds.specs.Refusals.{passed, then, unless, refuseAt, refuseFirst, noRow, unlimited, belowZero}
 use Rattle.table.specs.Table.{Table, rowAt}
 use Rattle.margin.specs.Margin.{ramAt, marginOf, startsOf}
@@ -26,7 +26,7 @@ and-right false b e = refl
 module _ (t : Table) (cva : (i : ℕ) → i < t .header .rows → rowAt t i .cva ≡ pos 0) (iva : (i : ℕ) → i < t .header .rows → rowAt t i .iva ≡ pos 0) where
   margin-above : (i : ℕ) → i < t .header .rows → ltZ (marginOf t i) (pos 0) ≡ false
   unfolding ramAt
-  margin-above i h = start-not-negative (rowAt t i) _ _ (cva i h) (iva i h)
+  margin-above i h = start-not-negative (defaultOf (t .header)) (rowAt t i) _ _ (cva i h) (iva i h)
 
   abbrev states : List ℕ
   states = rowsOf t .states

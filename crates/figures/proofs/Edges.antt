@@ -3,6 +3,7 @@ use mathlib.Core.Path.{_≡_, refl}
 use mathlib.Core.List.{[], _∷_}
 use Prim.Native.Nat.{_+_, _*_, _/_, _%_}
 use lib.IntN.{pos}
+use Rattle.numbers.specs.Ints.{minus}
 use Rattle.numbers.specs.Below.{table}
 use Rattle.kinds.specs.Refusals.{passed}
 use Rattle.table.specs.Table.{Table}
@@ -18,7 +19,7 @@ use Rattle.figures.specs.Small.{withZone, withRow}
 abbrev full : Table
 full =
     record {
-      header = record { zones = 16; borders = 64; rows = 3 };
+      header = record { zones = 16; borders = 64; rows = 3; share = minus 1 };
       nets = table 16 (λ z. pos z);
       borders = table 64 (λ b. plainBorder (b / 8) (8 + b % 8) b);
       rows = table 3 (λ i. pos 100000 ∷ pos i ∷ pos 0 ∷ pos 0 ∷ pos 0 ∷ pos 0 ∷ pos 0 ∷ []);

@@ -14,7 +14,7 @@ use Rattle.numbers.specs.Ints.{sameℤ}
 use Rattle.numbers.proofs.IntLaws.{le-ltZ, same-self}
 use Rattle.numbers.proofs.BelowLaws.{table-get}
 use Rattle.numbers.proofs.TestLaws.{some-false}
-use Rattle.kinds.specs.Ranges.{atℤ, rowOf}
+use Rattle.kinds.specs.Ranges.{atℤ, rowOf, defaultOf}
 use Rattle.kinds.specs.Refusals.{passed}
 use Rattle.rounds.specs.Rounds.{Grid, sharers, raise}
 use Rattle.rounds.proofs.LeastLaws.{div-swap}
@@ -65,7 +65,7 @@ some-true n test i h e = go (someBelow n test) refl
 module _ (t : Table) (i j : ℕ) (before : i < j) (h : j < t .header .rows) (values : getD (t .rows) i [] ≡ getD (t .rows) j []) (factors : factorsAt t i ≡ factorsAt t j) where
   ram-same : ramAt t i ≡ ramAt t j
   unfolding ramAt
-  ram-same = ap₂ (λ (c fs : List ℤ). ramOf (rowOf c) (f0coreOf (rowOf c) fs (t .nets)) (sOf fs (t .borders))) values factors
+  ram-same = ap₂ (λ (c fs : List ℤ). ramOf (defaultOf (t .header)) (rowOf c) (f0coreOf (rowOf c) fs (t .nets)) (sOf fs (t .borders))) values factors
 
   ram-tie : atℤ (ramsOf t) i ≡ atℤ (ramsOf t) j
   ram-tie = table-get (t .header .rows) (ramAt t) i (pos 0) (lt-trans before h) ∙ ram-same ∙ sym (table-get (t .header .rows) (ramAt t) j (pos 0) h)

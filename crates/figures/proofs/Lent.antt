@@ -74,7 +74,7 @@ pub record LentCalls : Type 0 where
   pub write-out : writeLeft (lent h (z ++ z) (b ++ b) (c ++ c) (f ++ f)) (replicate 253 7) ≡ record { answer = passed 252; out = hourText ++ (7 ∷ []) }
   pub write-short : writeLeft hourTable (replicate 251 7) ≡ record { answer = refused (tooShort 252); out = replicate 251 7 }
   -- a call on lent tables judges the header (3, line 1), then lengths (8), then 3 and 4 with the line the record would have
-  pub header-first : writeLeft (lent (record { zones = 3; borders = 65; rows = 4 }) [] [] [] []) [] ≡ record { answer = refused (outOfRange 1); out = [] }
+  pub header-first : writeLeft (lent (record { zones = 3; borders = 65; rows = 4; share = minus 1 }) [] [] [] []) [] ≡ record { answer = refused (outOfRange 1); out = [] }
   pub length-first : writeLeft (lent h (pos 100000001 ∷ []) b c f) [] ≡ record { answer = refused (tooShort 3); out = [] }
   pub factors-short : writeLeft (lent h z bTwice frmHigh (take 11 f)) [] ≡ record { answer = refused (tooShort 12); out = [] }
   pub zone-line : writeLeft (lent h (pos 0 ∷ pos 100000001 ∷ pos 0 ∷ []) b c f) [] ≡ record { answer = refused (outOfRange 3); out = [] }

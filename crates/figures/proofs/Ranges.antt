@@ -26,7 +26,7 @@ endsText =
 abbrev endsTable : Table
 endsTable =
     record {
-      header = record { zones = 2; borders = 2; rows = 3 };
+      header = record { zones = 2; borders = 2; rows = 3; share = minus 1 };
       nets = minus 100000000 ∷ pos 100000000 ∷ [];
       borders = plainBorder 0 1 10000 ∷ plainBorder 1 0 0 ∷ [];
       rows =

@@ -28,7 +28,7 @@ cableResult =
 abbrev pub cableTable : Table
 cableTable =
     record {
-      header = record { zones = 4; borders = 2; rows = 3 };
+      header = record { zones = 4; borders = 2; rows = 3; share = minus 1 };
       nets = pos 200000 ∷ minus 200000 ∷ minus 50000 ∷ pos 50000 ∷ [];
       borders = (pos 0 ∷ pos 1 ∷ pos 100 ∷ pos 2 ∷ pos 3 ∷ []) ∷ plainBorder 0 1 50 ∷ [];
       rows =

@@ -6,6 +6,7 @@ use Prim.Native.Nat.{ℕ, _*_, _≤_, _<_}
 use lib.IntN.{ℤ, pos}
 use lib.ListN.{getD}
 use Rattle.numbers.specs.Below.{at, table}
+use Rattle.numbers.specs.Ints.{minus}
 use Rattle.kinds.specs.declared.Row.{Row}
 use Rattle.kinds.specs.declared.Share.the-variants.{Written}
 use Rattle.kinds.specs.Refusals.{passed}
@@ -28,7 +29,7 @@ rowOf fmax frm r fref cva iva = record { fmax = pos fmax; frm = pos frm; fref = 
 abbrev pub twoEqual : Table
 twoEqual =
     record {
-      header = record { zones = 2; borders = 1; rows = 2 };
+      header = record { zones = 2; borders = 1; rows = 2; share = minus 1 };
       nets = pos 0 ∷ pos 0 ∷ [];
       borders = plainBorder 0 1 0 ∷ [];
       rows = table 2 (λ i. pos 100000 ∷ pos 0 ∷ pos 0 ∷ pos 0 ∷ pos 0 ∷ pos 0 ∷ pos 0 ∷ []);
@@ -41,11 +42,11 @@ pub record Figures : Type 0 where
   pub spread-5000-any : (t : Table) (i : ℕ) → spreadOf (factorsAt t i) ≡ pos 5000 → stateOf (t .header) (t .factors) (ramsOf t) i ≡ 1 → ⊥
   pub spread-4999 : (t : Table) (i : ℕ) → spreadOf (factorsAt t i) ≡ pos 4999 → stateOf (t .header) (t .factors) (ramsOf t) i ≡ 1
   -- Fmax 100000, R 7000, F0core and F0all 0, S 0 (which AMR does not look at): FRM 30000 gives AMR 0; FRM 30001 gives 1 kW
-  pub frm-30000 : (fref cva iva : ℤ) → amrOf (rowOf 100000 30000 7000 fref cva iva) (pos 0) ≡ pos 0
-  pub frm-30001 : (fref cva iva : ℤ) → amrOf (rowOf 100000 30001 7000 fref cva iva) (pos 0) ≡ grains (pos 1)
+  pub frm-30000 : (default fref cva iva : ℤ) → amrOf default (rowOf 100000 30000 7000 fref cva iva) (pos 0) ≡ pos 0
+  pub frm-30001 : (default fref cva iva : ℤ) → amrOf default (rowOf 100000 30001 7000 fref cva iva) (pos 0) ≡ grains (pos 1)
   -- Fmax 100000, FRM 90000, R 0, F0core and F0all 0: Base 10000, AMR 10000 kW
   pub base-10000 : (fref cva iva : ℤ) → baseOf (rowOf 100000 90000 0 fref cva iva) (pos 0) ≡ grains (pos 10000)
-  pub amr-10000 : (fref cva iva : ℤ) → amrOf (rowOf 100000 90000 0 fref cva iva) (pos 0) ≡ grains (pos 10000)
+  pub amr-10000 : (default fref cva iva : ℤ) → amrOf default (rowOf 100000 90000 0 fref cva iva) (pos 0) ≡ grains (pos 10000)
   -- Fmax 10000, other row values and net positions 0, one border with p 20000 and LTA 100: RAM 20000 kW, rounds 0, ATC 100. IVA 1 on it: refusal 7, row 0
   pub ram-20000 : ramAt (smallTable (plainBorder 0 1 100) (pos 10000 ∷ pos 0 ∷ pos 0 ∷ pos 0 ∷ pos 0 ∷ pos 0 ∷ pos 0 ∷ [])) 0 ≡ grains (pos 20000)
   pub at-lta : answerText (sheet "H 2 1 1/Z 0 0/Z 1 0/B 0 0 1 100/C 0 10000 0 0 0 0 0 0 20000 0/") ≡ sheet "A 0 100/M 0 0 2000000000 0/R 0/"

@@ -24,7 +24,7 @@ hourResult =
 abbrev pub hourTable : Table
 hourTable =
     record {
-      header = record { zones = 3; borders = 2; rows = 4 };
+      header = record { zones = 3; borders = 2; rows = 4; share = minus 1 };
       nets = pos 500000 ∷ minus 200000 ∷ minus 300000 ∷ [];
       borders = plainBorder 0 1 100 ∷ plainBorder 1 2 200 ∷ [];
       rows =

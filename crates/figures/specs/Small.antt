@@ -36,7 +36,7 @@ withRow s = answerText (smallText zone border (sheet s))
 abbrev pub smallTable : (border row : List ℤ) → Table
 smallTable border row =
     record {
-      header = record { zones = 2; borders = 1; rows = 1 };
+      header = record { zones = 2; borders = 1; rows = 1; share = minus 1 };
       nets = pos 0 ∷ pos 0 ∷ [];
       borders = border ∷ [];
       rows = row ∷ [];

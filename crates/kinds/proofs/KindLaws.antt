@@ -1,6 +1,6 @@
 -- The laws of `specs/Ranges.antt` that the judging constructors and the crates above cite. No contract cites this file.
 use mathlib.Core.Path.{_≡_, refl, sym, ap, subst, _∙_}
-use mathlib.Core.Bool.{Bool, true, false, not, _&&_, _||_, and-eq-true-iff, true≢false}
+use mathlib.Core.Bool.{Bool, true, false, cond, not, _&&_, _||_, and-eq-true-iff, true≢false}
 use mathlib.Core.List.{List, [], _∷_}
 use Prim.Native.Nat.{ℕ, _≤_, _<_}
 use native.Mathlib.Omega.{arith}
@@ -9,10 +9,11 @@ use lib.Dec.{T, ltb, leb→le}
 use lib.IntN.{ℤ, pos, negsuc, natAbs}
 use lib.Signed.{ltZ, nonNeg}
 use Rattle.numbers.specs.Ints.{Within, minus, sameℤ, inside}
-use Rattle.numbers.proofs.IntLaws.{Between, same-true, same-false, inside-true, inside-within, inside-pos}
+use Rattle.numbers.proofs.IntLaws.{Between, same-true, same-false, inside-true, inside-within, inside-pos, within-pos}
 use Rattle.kinds.specs.declared.Header.{Header}
-use Rattle.kinds.specs.Limits.{zonesLeast, zonesMost, bordersLeast, bordersMost, rowsLeast, rowsMost, netMost, ltaMost, fmaxLeast, fmaxMost, flowMost, shareMost, vaMost, factorMost}
-use Rattle.kinds.specs.Ranges.{atℤ, headerFits, zoneFits, exists, hubsFit, borderFits, borderOf, shareOf, rowOf, rowFits, factorFits, worth}
+use Rattle.kinds.specs.declared.Share.the-variants.{Standard, Written}
+use Rattle.kinds.specs.Limits.{zonesLeast, zonesMost, bordersLeast, bordersMost, rowsLeast, rowsMost, netMost, ltaMost, fmaxLeast, fmaxMost, flowMost, shareMost, shareStandard, vaMost, factorMost}
+use Rattle.kinds.specs.Ranges.{atℤ, headerFits, zoneFits, exists, hubsFit, borderFits, borderOf, shareOf, rowOf, rowFits, factorFits, worth, defaultOf}
 
 -- ---- numbers from 0 on
 
@@ -46,11 +47,13 @@ pub record HeaderIn (h : Header) : Type 0 where
   pub borders-most : h .borders ≤ bordersMost
   pub rows-least : rowsLeast ≤ h .rows
   pub rows-most : h .rows ≤ rowsMost
+  pub share : inside (minus 1) (pos shareMost) (h .share) ≡ true
 
 pub header-in : (h : Header) → headerFits h ≡ true → HeaderIn h
 unfolding headerFits
 header-in h e =
-    let f = and-eq-true-iff _ _ .0 e in
+    let g = and-eq-true-iff _ _ .0 e in
+    let f = and-eq-true-iff _ _ .0 (g .0) in
     let d = and-eq-true-iff _ _ .0 (f .0) in
     let c = and-eq-true-iff _ _ .0 (d .0) in
     let b = and-eq-true-iff _ _ .0 (c .0) in
@@ -62,6 +65,7 @@ header-in h e =
       borders-most = leb-true _ _ (c .1);
       rows-least = leb-true _ _ (d .1);
       rows-most = leb-true _ _ (f .1);
+      share = g .1;
     }
 
 pub zone-in : (net : ℤ) → zoneFits net ≡ true → Within netMost net
@@ -162,13 +166,46 @@ row-in raw e =
       iva = inside-pos 0 vaMost (rowOf raw .iva) (iva .1);
     }
 
--- what R is worth is a share of Fmax, "-" too
-pub share-in : (r : ℤ) → inside (minus 1) (pos shareMost) r ≡ true → Between 0 shareMost (worth (shareOf r))
+-- a raw share: -1 or a share of Fmax
+pub raw-share-in : (r : ℤ) → inside (minus 1) (pos shareMost) r ≡ true → Within shareMost r
+raw-share-in (pos n) e = within-pos (leb→le n shareMost (inside-true (minus 1) (pos shareMost) (pos n) e .1 .le))
+raw-share-in (negsuc n) e = record { abs = omega (arith, leb→le n 0 (inside-true (minus 1) (pos shareMost) (negsuc n) e .0 .le)) }
+
+-- what R is worth is a share of Fmax where the default is, "-" too
+pub share-in : (default : ℤ) → Within shareMost default → (r : ℤ) → inside (minus 1) (pos shareMost) r ≡ true → Within shareMost (worth default (shareOf r))
 unfolding worth shareOf
-share-in (pos n) e =
-    rw (le-ltb n 0 (omega arith))
-    (record { is = refl; least = omega arith; most = leb→le n shareMost (inside-true (minus 1) (pos shareMost) (pos n) e .1 .le) })
-share-in (negsuc n) e = record { is = refl; least = omega arith; most = omega arith }
+share-in default d (pos n) e = rw (le-ltb n 0 (omega arith)) (raw-share-in (pos n) e)
+share-in default d (negsuc n) e = d
+
+pub default-in : (h : Header) → headerFits h ≡ true → Within shareMost (defaultOf h)
+unfolding defaultOf
+default-in h e = share-in (pos shareStandard) (within-pos (omega arith)) (h .share) (header-in h e .share)
+
+-- what R is worth is in R's range where the default is, and not below 0
+module _ (default : ℤ) (r : ℤ) where
+  pub worth-fits : inside (minus 1) (pos shareMost) default ≡ true → inside (minus 1) (pos shareMost) r ≡ true → inside (minus 1) (pos shareMost) (worth default (shareOf r)) ≡ true
+  unfolding worth shareOf
+  worth-fits d e = go (ltZ r (pos 0))
+    where
+      go : (t : Bool) → inside (minus 1) (pos shareMost) (worth default (cond t Standard (Written r))) ≡ true
+      go true = d
+      go false = e
+
+  pub worth-low : ltZ default (pos 0) ≡ false → ltZ (worth default (shareOf r)) (pos 0) ≡ false
+  unfolding worth shareOf
+  worth-low d = go (ltZ r (pos 0)) refl
+    where
+      go : (t : Bool) → ltZ r (pos 0) ≡ t → ltZ (worth default (cond t Standard (Written r))) (pos 0) ≡ false
+      go true e = d
+      go false e = e
+
+pub default-fits : (h : Header) → headerFits h ≡ true → inside (minus 1) (pos shareMost) (defaultOf h) ≡ true
+unfolding defaultOf inside
+default-fits h e = worth-fits (pos shareStandard) (h .share) refl (header-in h e .share)
+
+pub default-low : (h : Header) → ltZ (defaultOf h) (pos 0) ≡ false
+unfolding defaultOf
+default-low h = worth-low (pos shareStandard) (h .share) refl
 
 pub factor-in : (factor : ℤ) → factorFits factor ≡ true → Within factorMost factor
 unfolding factorFits

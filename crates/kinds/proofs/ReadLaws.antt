@@ -67,11 +67,11 @@ module _ (raw : List ℤ) where
       go true e = absurd (zero-one cc)
       go false e = refl
 
-module _ (zones borders rows : ℕ) where
+module _ (zones borders rows : ℕ) (share : ℤ) where
   abbrev counts : Header
-  counts = record { zones = zones; borders = borders; rows = rows }
+  counts = record { zones = zones; borders = borders; rows = rows; share = share }
 
-  pub header-good : (h : Header) → headerRead zones borders rows ≡ header.Good h → (headerFits counts ≡ true) × (counts ≡ h)
+  pub header-good : (h : Header) → headerRead zones borders rows share ≡ header.Good h → (headerFits counts ≡ true) × (counts ≡ h)
   unfolding headerRead
   header-good h e = go (headerFits counts) e
     where
@@ -79,7 +79,7 @@ module _ (zones borders rows : ℕ) where
       go true e = (refl, cc)
       go false e = absurd (zero-one cc)
 
-  pub header-out : headerRead zones borders rows ≡ header.Out → headerFits counts ≡ false
+  pub header-out : headerRead zones borders rows share ≡ header.Out → headerFits counts ≡ false
   unfolding headerRead
   header-out e = go (headerFits counts) e
     where

@@ -14,9 +14,9 @@ use Rattle.kinds.specs.declared.RowRead.{RowRead}
 use Rattle.kinds.specs.declared.RowRead.the-variants as row
 use Rattle.kinds.specs.Ranges.{headerFits, zoneFits, borderFits, borderOf, rowFits, rowOf}
 
-unfoldable pub headerRead : (zones borders rows : ℕ) → HeaderRead
-headerRead zones borders rows =
-    let h : Header = record { zones = zones; borders = borders; rows = rows } in
+unfoldable pub headerRead : (zones borders rows : ℕ) → (share : ℤ) → HeaderRead
+headerRead zones borders rows share =
+    let h : Header = record { zones = zones; borders = borders; rows = rows; share = share } in
     cond (headerFits h) (header.Good h) header.Out
 
 unfoldable pub zoneRead : ℤ → ZoneRead

@@ -39,7 +39,7 @@ fmaxMost = 10000000
 abbrev pub flowMost : ℕ
 flowMost = 20000000
 
--- .. R, ten-thousandths, and what "-" means
+-- .. R, ten-thousandths, and what "-" means where the H line has no default; the H line's default has R's range
 abbrev pub shareMost : ℕ
 shareMost = 10000
 

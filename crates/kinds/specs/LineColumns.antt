@@ -23,6 +23,12 @@ headerColumns =
     ∷ number  -- rows
     ∷ []
 
+-- .. and what "-" in R is worth, which may be left out (02, E6)
+abbrev pub defaultColumns : List Column
+defaultColumns =
+    number  -- the default of R, ten-thousandths
+    ∷ []
+
 -- Z: index, reference net position
 abbrev pub zoneColumns : List Column
 zoneColumns =

@@ -21,12 +21,13 @@ use Rattle.kinds.specs.Limits.{zonesLeast, zonesMost, bordersLeast, bord
 abbrev pub atℤ : List ℤ → ℕ → ℤ
 atℤ raw k = getD raw k (pos 0)
 
--- H: zones 2..16, borders 1..64, rows 1..200
+-- H: zones 2..16, borders 1..64, rows 1..200, the default of R 0..10000, or -1 where it was not written (02, E6)
 unfoldable pub headerFits : Header → Bool
 headerFits h =
     leb zonesLeast (h .zones) && leb (h .zones) zonesMost
     && leb bordersLeast (h .borders) && leb (h .borders) bordersMost
     && leb rowsLeast (h .rows) && leb (h .rows) rowsMost
+    && inside (minus 1) (pos shareMost) (h .share)
 
 -- Z: reference net position, kW, -100000000..100000000
 unfoldable pub zoneFits : ℤ → Bool
@@ -85,7 +86,11 @@ rowFits raw =
 unfoldable pub factorFits : ℤ → Bool
 factorFits factor = inside (minus factorMost) (pos factorMost) factor
 
--- what R is worth, in ten-thousandths: "-" means 7000
-unfoldable pub worth : Share → ℤ
-worth Standard = pos shareStandard
-worth (Written r) = r
+-- what R is worth, in ten-thousandths: "-" takes the default in force
+unfoldable pub worth : (default : ℤ) → Share → ℤ
+worth default Standard = default
+worth default (Written r) = r
+
+-- the default in force: what the H line says, and 7000 where it says nothing (02, E6)
+unfoldable pub defaultOf : Header → ℤ
+defaultOf h = worth (pos shareStandard) (shareOf (h .share))

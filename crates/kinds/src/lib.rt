@@ -5,15 +5,17 @@
 ghost use mathlib.Core.Path.{_≡_};
 ghost use mathlib.Core.Bool.{true};
 ghost use mathlib.Core.List.{[], _∷_};
-ghost use Rattle.kinds.specs.Ranges.{headerFits, exists, hubsFit, hubsOf, borderFits, borderOf, shareOf, rowFits, rowOf, factorFits, worth};
+ghost use Rattle.kinds.specs.Ranges.{headerFits, defaultOf, exists, hubsFit, hubsOf, borderFits, borderOf, shareOf, rowFits, rowOf, factorFits, worth};
 ghost use Rattle.kinds.specs.Kinds.{headerRead, zoneRead, borderRead, rowRead};
 ghost use Rattle.kinds.specs.Refusals.{refusal, tooLong, wrongForm, outOfRange, givenTwice, noRow, unlimited, belowZero, tooShort, noCorners};
 
-// The counts of the H line.
+// The counts of the H line, and the default of R as it was written: ten-thousandths, or UNWRITTEN. C hands it over as it lies.
+#[repr(C)]
 pub struct Header {
     pub zones: usize,
     pub borders: usize,
     pub rows: usize,
+    pub share: i64,
 }
 
 pub enum HeaderRead {
@@ -22,8 +24,13 @@ pub enum HeaderRead {
 }
 
 impl Header {
-    // Zones, borders, rows.
-    pub const COLUMNS: [u8; 3] = *b"nnn";
+    pub const ITEMS: usize = 4;
+
+    // Zones, borders, rows, the default of R.
+    pub const COLUMNS: [u8; Header::ITEMS] = *b"nnnn";
+
+    // The columns that are always there; the default may be left out.
+    pub const COUNTS: usize = 3;
 
     pub const ZONES_LEAST: usize = 2;
 
@@ -37,13 +44,17 @@ impl Header {
 
     pub const ROWS_MOST: usize = 200;
 
-    pub fn of(zones: u64, borders: u64, rows: u64) -> HeaderRead
-        ensures { λ r. ⌜ r ≡ headerRead zones borders rows ⌝ }
+    // The raw number that stands for a default that was not written.
+    pub const UNWRITTEN: i64 = -1;
+
+    pub fn of(zones: u64, borders: u64, rows: u64, share: i64) -> HeaderRead
+        ensures { λ r. ⌜ r ≡ headerRead zones borders rows share ⌝ }
     {
         let h = Header {
             zones: zones as usize,
             borders: borders as usize,
             rows: rows as usize,
+            share: share,
         };
         if h.fits() {
             HeaderRead::Good(h)
@@ -55,12 +66,23 @@ impl Header {
     pub fn fits(self) -> bool
         ensures { λ r. ⌜ r ≡ headerFits self ⌝ }
     {
+        let share = self.share;
         (Header::ZONES_LEAST <= self.zones)
             & (self.zones <= Header::ZONES_MOST)
             & (Header::BORDERS_LEAST <= self.borders)
             & (self.borders <= Header::BORDERS_MOST)
             & (Header::ROWS_LEAST <= self.rows)
             & (self.rows <= Header::ROWS_MOST)
+            & numbers::inside(share, Header::UNWRITTEN, Row::SHARE_MOST)
+    }
+
+    // The default in force, ten-thousandths: what "-" in R is worth. A default that was not written is a "-" itself.
+    pub fn default_share(self) -> i64
+        ensures { λ r. ⌜ r ≡ defaultOf self ⌝ }
+    {
+        let share = self.share;
+        let written = Share::of(share);
+        written.worth(Share::STANDARD)
     }
 }
 
@@ -211,7 +233,7 @@ pub enum Share {
 }
 
 impl Share {
-    // What "-" means, in ten-thousandths.
+    // What "-" means where the H line has no default, in ten-thousandths.
     pub const STANDARD: i64 = 7000;
 
     // "-" is the one raw number below 0 that a record may hold.
@@ -225,12 +247,12 @@ impl Share {
         }
     }
 
-    // Ten-thousandths of Fmax.
-    pub fn worth(self) -> i64
-        ensures { λ r. ⌜ r ≡ worth self ⌝ }
+    // Ten-thousandths of Fmax, by the default in force.
+    pub fn worth(self, default: i64) -> i64
+        ensures { λ r. ⌜ r ≡ worth default self ⌝ }
     {
         match self {
-            Share::Standard => Share::STANDARD,
+            Share::Standard => default,
             Share::Written(r) => r,
         }
     }

@@ -7,11 +7,13 @@ use Prim.Native.Nat.{ℕ, _+_}
 use native.Mathlib.Omega.{arith}
 use lib.IntN.{ℤ, pos}
 use lib.ListN.{length}
+use mir.Facts.{toZ-ofZ}
 use mir.Syntax.{w64}
-use mir.Val.{toZ}
+use mir.Val.{toZ, ofZ}
+use Rattle.numbers.proofs.IntLaws.{within-fits}
 use Rattle.kinds.specs.declared.Header.{Header}
 use Rattle.kinds.specs.Ranges.{headerFits}
-use Rattle.kinds.proofs.KindLaws.{header-in}
+use Rattle.kinds.proofs.KindLaws.{header-in, raw-share-in}
 use Rattle.text.proofs.FieldLaws.{read-back}
 use Rattle.kinds.specs.LineColumns.{rowColumns, factorColumns}
 use Rattle.text.specs.Fields.{tab}
@@ -23,7 +25,7 @@ pub row-total : (i : ℕ) (raw f : List ℤ) → length (rowText i raw f) ≡ li
 row-total i raw f = line-long tab (code "C") (rowColumns ++ factorColumns (length f)) i (numbersOf rowColumns raw ++ f) ∙ omega (arith, length-parts rowColumns (factorColumns (length f)) (numbersOf rowColumns raw) f refl)
 
 -- a header's numbers as 64-bit values
-pub header-raw : (h : Header) → headerFits h ≡ true → toZ w64 (h .zones) ∷ toZ w64 (h .borders) ∷ toZ w64 (h .rows) ∷ [] ≡ pos (h .zones) ∷ pos (h .borders) ∷ pos (h .rows) ∷ []
+pub header-raw : (h : Header) → headerFits h ≡ true → toZ w64 (h .zones) ∷ toZ w64 (h .borders) ∷ toZ w64 (h .rows) ∷ toZ w64 (ofZ w64 (h .share)) ∷ [] ≡ pos (h .zones) ∷ pos (h .borders) ∷ pos (h .rows) ∷ h .share ∷ []
 header-raw h e =
     let i = header-in h e in
-    rw (read-back (h .zones) (omega (arith, i .zones-most)), read-back (h .borders) (omega (arith, i .borders-most)), read-back (h .rows) (omega (arith, i .rows-most)))
+    rw (read-back (h .zones) (omega (arith, i .zones-most)), read-back (h .borders) (omega (arith, i .borders-most)), read-back (h .rows) (omega (arith, i .rows-most)), toZ-ofZ (within-fits (raw-share-in (h .share) (i .share)) tt))

@@ -5,13 +5,13 @@ use Prim.Native.Nat.{ℕ}
 use lib.IntN.{ℤ, pos}
 use lib.ListN.{length}
 use Rattle.kinds.specs.declared.Header.{Header}
-use Rattle.kinds.specs.LineColumns.{headerColumns, zoneColumns, borderColumns, hubColumns, rowColumns, factorColumns}
+use Rattle.kinds.specs.LineColumns.{headerColumns, defaultColumns, zoneColumns, borderColumns, hubColumns, rowColumns, factorColumns}
 use Rattle.text.specs.Fields.{tab}
-use Rattle.columns.specs.ColumnText.{columnsText, plainText, numbersOf}
-use Rattle.columns.specs.Optional.{optionalText}
+use Rattle.columns.specs.ColumnText.{columnsText, numbersOf}
+use Rattle.columns.specs.Optional.{plainOptionalText, optionalText}
 
 abbrev pub headerText : Header → List ℕ
-headerText h = plainText tab (code "H") headerColumns (pos (h .zones) ∷ pos (h .borders) ∷ pos (h .rows) ∷ [])
+headerText h = plainOptionalText tab (code "H") headerColumns defaultColumns (pos (h .zones) ∷ pos (h .borders) ∷ pos (h .rows) ∷ h .share ∷ [])
 
 abbrev pub zoneText : (i : ℕ) → (net : ℤ) → List ℕ
 zoneText i net = columnsText tab (code "Z") zoneColumns i (net ∷ [])

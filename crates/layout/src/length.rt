@@ -17,8 +17,9 @@ pub fn header_length(h: Header) -> usize
     requires { ⌜ (headerFits h ≡ true) × (length (headerText h) ≤ bytesMost) ⌝ }
     ensures { λ r. ⌜ r ≡ length (headerText h) ⌝ }
 {
-    let raw = [h.zones as i64, h.borders as i64, h.rows as i64];
-    2 + columns::write::fields_length(&Header::COLUMNS, &raw)
+    let share = h.share;
+    let raw = [h.zones as i64, h.borders as i64, h.rows as i64, share];
+    2 + columns::optional::optional_fields_length(&Header::COLUMNS, Header::COUNTS, &raw)
 }
 
 pub fn zone_length(i: usize, net: i64) -> usize

@@ -18,8 +18,17 @@ pub fn put_header(h: Header, out: &mut [u8], at: usize) -> usize
     requires { ⌜ (headerFits h ≡ true) × (at + length (headerText h) ≤ length (now out)) ⌝ }
     ensures { λ r. ⌜ Put (headerText h) at (now (out .entry)) r (now (out .exit)) ⌝ }
 {
-    let raw = [h.zones as i64, h.borders as i64, h.rows as i64];
-    columns::write::put_plain(b'\t', b'H', &Header::COLUMNS, &raw, out, at)
+    let share = h.share;
+    let raw = [h.zones as i64, h.borders as i64, h.rows as i64, share];
+    columns::optional::put_plain_optional(
+        b'\t',
+        b'H',
+        &Header::COLUMNS,
+        Header::COUNTS,
+        &raw,
+        out,
+        at,
+    )
 }
 
 pub fn put_zone(i: usize, net: i64, out: &mut [u8], at: usize) -> usize

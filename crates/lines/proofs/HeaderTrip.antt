@@ -1,36 +1,55 @@
 -- The H line: a line that holds a header is its text, and that text holds the header. No contract cites this file.
 use mathlib.Core.Path.{_≡_, refl, sym, ap, subst, _∙_}
-use mathlib.Core.Bool.{true, false}
+use mathlib.Core.Bool.{Bool, true, false, cond}
 use mathlib.Core.List.{List, [], _∷_, _++_}
 use Prim.Native.Char.{code}
-use Prim.Native.Nat.{ℕ}
+use Prim.Native.Nat.{ℕ, _<_}
 use native.Mathlib.Omega.{arith}
-use lib.IntN.{ℤ, pos}
+use lib.Dec.{leb→le}
+use lib.IntN.{ℤ, pos, negsuc}
+use lib.ListN.{length}
+use lib.Signed.{ltZ}
+use Rattle.numbers.specs.Ints.{minus, inside}
+use Rattle.numbers.proofs.IntLaws.{inside-true}
 use Rattle.kinds.specs.declared.Header.{Header}
-use Rattle.kinds.specs.LineColumns.{headerColumns}
+use Rattle.kinds.specs.Limits.{shareMost}
+use Rattle.kinds.specs.LineColumns.{headerColumns, defaultColumns}
 use Rattle.kinds.specs.Ranges.{atℤ, headerFits}
-use Rattle.kinds.proofs.KindLaws.{header-in}
+use Rattle.kinds.proofs.KindLaws.{HeaderIn, header-in, raw-share-in}
 use Rattle.text.specs.Fields.{tab}
 use Rattle.text.specs.Line.{lineOf, holds, form, range}
 use Rattle.columns.specs.Columns.{values, wrong}
-use Rattle.columns.specs.ColumnText.{plainText}
-use Rattle.columns.specs.ColumnLine.{plainLine}
-use Rattle.columns.proofs.ColumnTrip.{tab-ends, AllKept, plain-read, plain-judged, plain-written, plain-one}
+use Rattle.columns.specs.Optional.{leftOut, plainOptional, writtenBy, plainOptionalText}
+use Rattle.columns.proofs.ColumnTrip.{tab-ends, AllKept, plain-one}
+use Rattle.columns.proofs.OptionalTrip.{OptionalKept, left, given, plain-optional-read, plain-optional-judged, plain-optional-written}
 use Rattle.lines.specs.Lines.{headerOf, headerLine}
 
 -- the raw numbers of a header
 abbrev pub headerRaw : Header → List ℤ
-headerRaw h = pos (h .zones) ∷ pos (h .borders) ∷ pos (h .rows) ∷ []
+headerRaw h = pos (h .zones) ∷ pos (h .borders) ∷ pos (h .rows) ∷ h .share ∷ []
 
 abbrev pub headerTextOf : Header → List ℕ
-headerTextOf h = plainText tab (code "H") headerColumns (headerRaw h)
+headerTextOf h = plainOptionalText tab (code "H") headerColumns defaultColumns (headerRaw h)
 
-raw-is : (zs : List ℤ) → AllKept headerColumns zs → headerRaw (headerOf zs) ≡ zs
-raw-is [] k = absurd k
-raw-is (a ∷ []) k = absurd (k .1)
-raw-is (a ∷ b ∷ []) k = absurd (k .1 .1)
-raw-is (a ∷ b ∷ c ∷ []) k = rw (← k .0 .0, ← k .1 .0 .0, ← k .1 .1 .0 .0)
-raw-is (a ∷ b ∷ c ∷ d ∷ zs) k = absurd (k .1 .1 .1)
+-- the default was left out, or given
+raw-left : (ys : List ℤ) → AllKept headerColumns ys → headerRaw (headerOf (ys ++ leftOut 1)) ≡ ys ++ leftOut 1
+raw-left [] k = absurd k
+raw-left (a ∷ []) k = absurd (k .1)
+raw-left (a ∷ b ∷ []) k = absurd (k .1 .1)
+raw-left (a ∷ b ∷ c ∷ []) k = rw (← k .0 .0, ← k .1 .0 .0, ← k .1 .1 .0 .0)
+raw-left (a ∷ b ∷ c ∷ d ∷ ys) k = absurd (k .1 .1 .1)
+
+raw-given : (zs : List ℤ) → AllKept (headerColumns ++ defaultColumns) zs → headerRaw (headerOf zs) ≡ zs
+raw-given [] k = absurd k
+raw-given (a ∷ []) k = absurd (k .1)
+raw-given (a ∷ b ∷ []) k = absurd (k .1 .1)
+raw-given (a ∷ b ∷ c ∷ []) k = absurd (k .1 .1 .1)
+raw-given (a ∷ b ∷ c ∷ d ∷ []) k = rw (← k .0 .0, ← k .1 .0 .0, ← k .1 .1 .0 .0)
+raw-given (a ∷ b ∷ c ∷ d ∷ e ∷ zs) k = absurd (k .1 .1 .1 .1)
+
+raw-is : (zs : List ℤ) → OptionalKept headerColumns defaultColumns zs → headerRaw (headerOf zs) ≡ zs
+raw-is zs (left ys e k) = subst (λ (l : List ℤ). headerRaw (headerOf l) ≡ l) (sym e) (raw-left ys k)
+raw-is zs (given k) = raw-given zs k
 
 -- its numbers are those of the header
 pub record Numbers (zs : List ℤ) : Type 0 where
@@ -38,7 +57,7 @@ pub record Numbers (zs : List ℤ) : Type 0 where
   pub borders : atℤ zs 1 ≡ pos (headerOf zs .borders)
   pub rows : atℤ zs 2 ≡ pos (headerOf zs .rows)
 
-numbers-are : (zs : List ℤ) → AllKept headerColumns zs → Numbers zs
+numbers-are : (zs : List ℤ) → OptionalKept headerColumns defaultColumns zs → Numbers zs
 numbers-are zs k =
     let e = sym (raw-is zs k) in
     record { zones = ap (λ (l : List ℤ). atℤ l 0) e; borders = ap (λ (l : List ℤ). atℤ l 1) e; rows = ap (λ (l : List ℤ). atℤ l 2) e }
@@ -46,14 +65,14 @@ numbers-are zs k =
 pub header-read : (line : List ℕ) (h : Header) → headerLine line ≡ holds h → (line ≡ headerTextOf h) × (headerFits h ≡ true)
 unfolding headerLine
 header-read line h e =
-    let j = plain-judged (λ zs. headerFits (headerOf zs)) headerOf tab (code "H") tab-ends headerColumns line h e in
+    let j = plain-optional-judged tab (code "H") tab-ends refl headerColumns [] (λ zs. headerFits (headerOf zs)) headerOf line h e in
     subst (λ (g : Header). (line ≡ headerTextOf g) × (headerFits g ≡ true)) (j .made)
-    (j .read .here ∙ ap (plainText tab (code "H") headerColumns) (sym (raw-is (j .zs) (j .read .kept))), j .fit)
+    (j .here ∙ ap (plainOptionalText tab (code "H") headerColumns defaultColumns) (sym (raw-is (j .zs) (j .kept))), j .fit)
 
 module _ (line : List ℕ) where
-  module _ (zs : List ℤ) (next : ℕ) (e : values zs next ≡ plainLine tab (code "H") headerColumns line) where
+  module _ (zs : List ℤ) (next : ℕ) (e : values zs next ≡ plainOptional tab (code "H") headerColumns defaultColumns line) where
     pub header-numbers : Numbers zs
-    header-numbers = numbers-are zs (plain-read tab (code "H") tab-ends headerColumns line zs next (sym e) .kept)
+    header-numbers = numbers-are zs (plain-optional-read tab (code "H") tab-ends refl headerColumns [] line zs next (sym e) .1)
 
     pub header-holds : headerFits (headerOf zs) ≡ true → holds (headerOf zs) ≡ headerLine line
     unfolding headerLine
@@ -63,17 +82,27 @@ module _ (line : List ℕ) where
     unfolding headerLine
     header-range f = rw (← e, f)
 
-  pub header-form : (place : ℕ) → wrong place ≡ plainLine tab (code "H") headerColumns line → form ≡ headerLine line
+  pub header-form : (place : ℕ) → wrong place ≡ plainOptional tab (code "H") headerColumns defaultColumns line → form ≡ headerLine line
   unfolding headerLine
   header-form place e = rw (← e)
 
 module _ (h : Header) where
+  kept : HeaderIn h → (r : ℤ) → inside (minus 1) (pos shareMost) r ≡ true → OptionalKept headerColumns defaultColumns (pos (h .zones) ∷ pos (h .borders) ∷ pos (h .rows) ∷ r ∷ [])
+  kept i (pos n) e = given ((refl, omega (arith, i .zones-most)), ((refl, omega (arith, i .borders-most)), ((refl, omega (arith, i .rows-most)), ((refl, omega (arith, raw-share-in (pos n) e .abs)), tt))))
+  kept i (negsuc n) e =
+      let one : n ≡ 0 = omega (arith, leb→le n 0 (inside-true (minus 1) (pos shareMost) (negsuc n) e .0 .le)) in
+      left (pos (h .zones) ∷ pos (h .borders) ∷ pos (h .rows) ∷ []) (ap (λ (m : ℕ). pos (h .zones) ∷ pos (h .borders) ∷ pos (h .rows) ∷ negsuc m ∷ []) one)
+      ((refl, omega (arith, i .zones-most)), ((refl, omega (arith, i .borders-most)), ((refl, omega (arith, i .rows-most)), tt)))
+
   pub header-written : headerFits h ≡ true → headerLine (headerTextOf h) ≡ holds h
   unfolding headerLine
   header-written f =
       let i = header-in h f in
-      plain-written (λ zs. headerFits (headerOf zs)) headerOf tab (code "H") tab-ends headerColumns (headerRaw h)
-      ((refl, omega (arith, i .zones-most)), ((refl, omega (arith, i .borders-most)), ((refl, omega (arith, i .rows-most)), tt))) f
+      plain-optional-written tab (code "H") tab-ends refl headerColumns [] (λ zs. headerFits (headerOf zs)) headerOf (headerRaw h) (kept i (h .share) (i .share)) f
+
+  some : (t : Bool) → 0 < length (cond t headerColumns (headerColumns ++ defaultColumns))
+  some true = omega arith
+  some false = omega arith
 
   pub header-one : (r : List ℕ) → lineOf (headerTextOf h ++ r) ≡ headerTextOf h
-  header-one r = plain-one tab (code "H") headerColumns (headerRaw h) r (omega arith) refl refl
+  header-one r = plain-one tab (code "H") (writtenBy headerColumns defaultColumns (headerRaw h)) (headerRaw h) r (some (ltZ (h .share) (pos 0))) refl refl

@@ -1,27 +1,27 @@
 -- Small computed margins. Nobody cites them: they refuse a definition that slipped (01, "Slips seen in hand sheets").
 use mathlib.Core.Path.{_≡_, refl}
 use mathlib.Core.List.{[], _∷_}
-use lib.IntN.{pos}
+use lib.IntN.{ℤ, pos}
 use Rattle.numbers.specs.Below.{sum, largest}
 use Rattle.numbers.specs.Ints.{minus, maxℤ, positivePart, sumℤ}
-use Rattle.kinds.specs.Ranges.{hubsOf, borderOf, shareOf, rowOf, worth}
+use Rattle.kinds.specs.Ranges.{hubsOf, borderOf, shareOf, rowOf, worth, defaultOf}
 use Rattle.table.specs.Table.{Table, stretch}
 use Rattle.margin.specs.Margin.{grains, f0coreOf, fuafOf, baseOf, amrOf, signedFactor, pOf, ltaKw, cornerPart, sOf, ltaMarginOf, ramOf, ramAt, marginOf}
 
--- Fmax 100000 kW and nothing else, p 20000 on one border of LTA 1 MW
-abbrev small : Table
-small =
+-- Fmax 100000 kW and else FRM and R alone, p 20000 on one border of LTA 1 MW
+abbrev small : (share frm r : ℤ) → Table
+small share frm r =
     record {
-      header = record { zones = 2; borders = 1; rows = 1 };
+      header = record { zones = 2; borders = 1; rows = 1; share = share };
       nets = pos 0 ∷ pos 0 ∷ [];
       borders = (pos 0 ∷ pos 1 ∷ pos 1 ∷ minus 1 ∷ minus 1 ∷ []) ∷ [];
-      rows = (pos 100000 ∷ pos 0 ∷ pos 0 ∷ pos 0 ∷ pos 0 ∷ pos 0 ∷ pos 0 ∷ []) ∷ [];
+      rows = (pos 100000 ∷ frm ∷ pos 0 ∷ pos 0 ∷ r ∷ pos 0 ∷ pos 0 ∷ []) ∷ [];
       factors = pos 20000 ∷ pos 0 ∷ [];
     }
 
 pub record Anchors : Type 0 where
   -- Fmax 100000, FRM 50000, R 7000, F0core 10000, F0all 0: Fuaf 10000, Base 40000, AMR 70000 - 10000 - 40000
-  pub fuaf : amrOf (rowOf (pos 100000 ∷ pos 50000 ∷ pos 0 ∷ pos 0 ∷ pos 7000 ∷ pos 0 ∷ pos 0 ∷ [])) (grains (pos 10000)) ≡ grains (pos 20000)
+  pub fuaf : amrOf (pos 7000) (rowOf (pos 100000 ∷ pos 50000 ∷ pos 0 ∷ pos 0 ∷ pos 7000 ∷ pos 0 ∷ pos 0 ∷ [])) (grains (pos 10000)) ≡ grains (pos 20000)
   -- p 10000 on two borders, of LTA 100 and 200 MW: S is their sum
   pub s-sum : sOf (pos 20000 ∷ pos 10000 ∷ pos 0 ∷ []) ((pos 0 ∷ pos 1 ∷ pos 100 ∷ minus 1 ∷ minus 1 ∷ []) ∷ (pos 1 ∷ pos 2 ∷ pos 200 ∷ minus 1 ∷ minus 1 ∷ []) ∷ []) ≡ 3000000000
   -- borders 0 to 1 of LTA 100 MW and back of 50: the way back relieves the row, its p is 0, and S is the first border's part alone
@@ -31,8 +31,11 @@ pub record Anchors : Type 0 where
   pub cable : pOf (pos 30000 ∷ pos 20000 ∷ pos 8000 ∷ pos 1000 ∷ []) (borderOf (pos 0 ∷ pos 1 ∷ pos 50 ∷ pos 2 ∷ pos 3 ∷ [])) ≡ 3000
   pub cable-turned : pOf (pos 30000 ∷ pos 20000 ∷ pos 8000 ∷ pos 1000 ∷ []) (borderOf (pos 0 ∷ pos 1 ∷ pos 50 ∷ pos 3 ∷ pos 2 ∷ [])) ≡ 17000
   -- a row's margin starts at RAM - S
-  pub starts : marginOf small 0 ≡ pos 9980000000
+  pub starts : marginOf (small (minus 1) (pos 0) (pos 0)) 0 ≡ pos 9980000000
+  -- FRM 50000, "-": a default of 9000 that was written, and 7000 where none was
+  pub default-9000 : ramAt (small (pos 9000) (pos 50000) (minus 1)) 0 ≡ pos 9000000000
+  pub default-none : ramAt (small (minus 1) (pos 50000) (minus 1)) 0 ≡ pos 7000000000
 
 pub anchors : Anchors
-unfolding sum largest sumℤ maxℤ positivePart hubsOf borderOf shareOf rowOf worth stretch grains f0coreOf fuafOf baseOf amrOf signedFactor pOf ltaKw cornerPart sOf ltaMarginOf ramOf ramAt
-anchors = record { fuaf = refl; s-sum = refl; relieving-p = refl; relieving-s = refl; cable = refl; cable-turned = refl; starts = refl }
+unfolding sum largest sumℤ maxℤ positivePart hubsOf borderOf shareOf rowOf worth defaultOf stretch grains f0coreOf fuafOf baseOf amrOf signedFactor pOf ltaKw cornerPart sOf ltaMarginOf ramOf ramAt
+anchors = record { fuaf = refl; s-sum = refl; relieving-p = refl; relieving-s = refl; cable = refl; cable-turned = refl; starts = refl; default-9000 = refl; default-none = refl }

@@ -77,8 +77,8 @@ f0core-all row factors nets z e l = ap₂ (λ (g : ℤ) (k : ℕ). g -ℤ sumℤ
 
 -- ---- R x Fmax / 10000, and Fmax / 5
 module _ {fmax flow share va : ℕ} {row : Row} (within : RowWithin fmax flow share va row) where
-  pub within-share : Within (share * fmax * 10) (worth (row .share) *ℤ row .fmax *ℤ pos 10)
-  within-share = within-mul (within-mul (within .share-in) (within .fmax-in)) (within-pos (le-refl 10))
+  pub within-share : {default : ℤ} → Within share default → Within (share * fmax * 10) (worth default (row .share) *ℤ row .fmax *ℤ pos 10)
+  within-share d = within-mul (within-mul (within .share-in _ d) (within .fmax-in)) (within-pos (le-refl 10))
 
   pub within-fifth : Within (fmax * 20000) (row .fmax *ℤ pos 20000)
   within-fifth = within-mul (within .fmax-in) (within-pos (le-refl 20000))
@@ -97,17 +97,18 @@ module _ {fmax flow share va m : ℕ} {row : Row} (within : RowWithin fmax flow 
   out : (p f0all fmax frm f : ℤ) → p -ℤ (f -ℤ f0all) -ℤ (fmax -ℤ frm -ℤ f) ≡ p +ℤ f0all -ℤ (fmax -ℤ frm)
   out p f0all fmax frm f = rw (diff p, diff f0all, diff fmax, diff frm, diff f) (simp diffs (omega zarith))
 
-  amr-first : Within (share * fmax * 10 + flow * 100000 + (fmax * 100000 + fmax * 100000)) (worth (row .share) *ℤ row .fmax *ℤ pos 10 -ℤ fuafOf row f0core -ℤ baseOf row f0core)
+  amr-first : {default : ℤ} → Within share default
+      → Within (share * fmax * 10 + flow * 100000 + (fmax * 100000 + fmax * 100000)) (worth default (row .share) *ℤ row .fmax *ℤ pos 10 -ℤ fuafOf row f0core -ℤ baseOf row f0core)
   unfolding fuafOf baseOf
-  amr-first =
-      rw (out (worth (row .share) *ℤ row .fmax *ℤ pos 10) (grains (row .f0all)) (grains (row .fmax)) (grains (row .frm)) f0core)
-      (within-sub (within-add (within-share within) (within-grains (within .f0all-in))) (within-sub (within-grains (within .fmax-in)) (within-grains (within .frm-in))))
+  amr-first {default} d =
+      rw (out (worth default (row .share) *ℤ row .fmax *ℤ pos 10) (grains (row .f0all)) (grains (row .fmax)) (grains (row .frm)) f0core)
+      (within-sub (within-add (within-share within d) (within-grains (within .f0all-in))) (within-sub (within-grains (within .fmax-in)) (within-grains (within .frm-in))))
 
-  pub within-amr : Within (share * fmax * 10 + flow * 100000 + fmax * 420000 + m) (amrOf row f0core)
+  pub within-amr : {default : ℤ} → Within share default → Within (share * fmax * 10 + flow * 100000 + fmax * 420000 + m) (amrOf default row f0core)
   unfolding amrOf
-  within-amr =
+  within-amr d =
       within-max
-      (within-max (within-le amr-first (omega arith)) (within-le (within-sub (within-fifth within) within-base) (omega arith)))
+      (within-max (within-le (amr-first d) (omega arith)) (within-le (within-sub (within-fifth within) within-base) (omega arith)))
       (within-pos (omega arith))
 
 -- ---- a signed factor, without hubs and by hubs
@@ -218,29 +219,29 @@ over {m} h k =
 later : (m c i s : ℤ) → m -ℤ c -ℤ i -ℤ s ≡ m -ℤ s -ℤ c -ℤ i
 later m c i s = rw (diff m, diff c, diff i, diff s) (simp diffs (omega zarith))
 
-module _ {fmax flow share va m : ℕ} {row : Row} (within : RowWithin fmax flow share va row) {f0core : ℤ} (h : Within m f0core) where
-  pub lta-margin-most : pos 0 ≤ℤ row .fmax → (s : ℕ) → Within s (ltaMarginOf row f0core (amrOf row f0core) s)
+module _ {fmax flow share va m : ℕ} {default : ℤ} (d : Within share default) {row : Row} (within : RowWithin fmax flow share va row) {f0core : ℤ} (h : Within m f0core) where
+  pub lta-margin-most : pos 0 ≤ℤ row .fmax → (s : ℕ) → Within s (ltaMarginOf row f0core (amrOf default row f0core) s)
   lta-margin-most low s =
-      let g = baseOf row f0core +ℤ amrOf row f0core in
+      let g = baseOf row f0core +ℤ amrOf default row f0core in
       let g-low : pos 0 ≤ℤ g =
-      rw (base-amr row f0core)
-      (le-trans (over-fifth low) (le-trans (max-above-right (shareLess row f0core) (fifth row f0core)) (max-above-left (maxℤ (shareLess row f0core) (fifth row f0core)) (baseOf row f0core)))) in
-      lift (lta-is row f0core s) g-low (max-above-right (pos s) g) (max-or (pos s) g)
+      rw (base-amr default row f0core)
+      (le-trans (over-fifth low) (le-trans (max-above-right (shareLess default row f0core) (fifth default row f0core)) (max-above-left (maxℤ (shareLess default row f0core) (fifth default row f0core)) (baseOf row f0core)))) in
+      lift (lta-is default row f0core s) g-low (max-above-right (pos s) g) (max-or (pos s) g)
 
   -- `top` is over each of the four values
   module _ (top s : ℕ) (over-s : s ≤ top) (over-share : share * fmax * 10 + (m + flow * 100000) ≤ top) (over-fmax : fmax * 20000 ≤ top) (over-base : fmax * 100000 + fmax * 100000 + m ≤ top) where
     abbrev largest : ℤ
-    largest = maxℤ (pos s) (maxℤ (maxℤ (shareLess row f0core) (fifth row f0core)) (baseOf row f0core))
+    largest = maxℤ (pos s) (maxℤ (maxℤ (shareLess default row f0core) (fifth default row f0core)) (baseOf row f0core))
 
     largest-in : Within top largest
     largest-in =
         within-max (within-pos over-s)
-        (within-max (within-max (within-le (within-sub (within-share within) (within-fuaf within h)) over-share) (within-le (within-fifth within) over-fmax)) (within-le (within-base within h) over-base))
+        (within-max (within-max (within-le (within-sub (within-share within d) (within-fuaf within h)) over-share) (within-le (within-fifth within) over-fmax)) (within-le (within-base within h) over-base))
 
-    pub within-ram : Within (top + va * 100000 + va * 100000) (ramOf row f0core s)
-    within-ram = within-is (ram-largest row f0core s) (within-sub (within-sub largest-in (within-grains (within .cva-in))) (within-grains (within .iva-in)))
+    pub within-ram : Within (top + va * 100000 + va * 100000) (ramOf default row f0core s)
+    within-ram = within-is (ram-largest default row f0core s) (within-sub (within-sub largest-in (within-grains (within .cva-in))) (within-grains (within .iva-in)))
 
-    pub within-start : Within (top + va * 100000 + va * 100000) (ramOf row f0core s -ℤ pos s)
+    pub within-start : Within (top + va * 100000 + va * 100000) (ramOf default row f0core s -ℤ pos s)
     within-start =
-        within-is (ap (λ (z : ℤ). z -ℤ pos s) (ram-largest row f0core s) ∙ later largest (grains (row .cva)) (grains (row .iva)) (pos s))
+        within-is (ap (λ (z : ℤ). z -ℤ pos s) (ram-largest default row f0core s) ∙ later largest (grains (row .cva)) (grains (row .iva)) (pos s))
         (within-sub (within-sub (over largest-in (max-above-left (pos s) _)) (within-grains (within .cva-in))) (within-grains (within .iva-in)))

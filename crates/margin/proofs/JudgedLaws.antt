@@ -54,7 +54,7 @@ module _ (raw : List ℤ) (fits : rowFits raw ≡ true) where
         frm-in = within-le (between-within (r .frm)) (r .fmax .most);
         fref-in = r .fref;
         f0all-in = r .f0all;
-        share-in = between-within (share-in (atℤ raw 4) (r .share));
+        share-in = λ default d. share-in default d (atℤ raw 4) (r .share);
         cva-in = between-within (r .cva);
         iva-in = between-within (r .iva);
       }

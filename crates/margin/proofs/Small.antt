@@ -10,9 +10,9 @@ use mathlib.Core.Path.{_≡_, refl, sym, subst}
 use mathlib.Core.Bool.{true}
 use Rattle.numbers.specs.Ints.{Within}
 use Rattle.numbers.proofs.IntLaws.{Between, diffs, zarith}
-use Rattle.kinds.specs.Limits.{zonesMost}
-use Rattle.kinds.specs.Ranges.{borderFits}
-use Rattle.kinds.proofs.KindLaws.{row-in}
+use Rattle.kinds.specs.Limits.{zonesMost, shareMost}
+use Rattle.kinds.specs.Ranges.{borderFits, defaultOf}
+use Rattle.kinds.proofs.KindLaws.{row-in, default-in}
 use Rattle.table.specs.Table.{Table, rowAt, borderAt, factorsAt}
 use Rattle.table.specs.Good.{Good}
 use Rattle.margin.specs.Margin.{pOf, sAt, ramAt, marginOf}
@@ -25,9 +25,12 @@ between-low : {m n : ℕ} {z : ℤ} → Between m n z → pos 0 ≤ℤ z
 between-low {z} h = rw (h .is) (simp diffs (omega zarith))
 
 module _ {t : Table} (good : Good t) (i : ℕ) (below : i < t .header .rows) where
-  -- the row's values, its F0core and its S
+  -- the row's values, the default in force, the row's F0core and its S
   row-in-range : RowBound (rowAt t i)
   row-in-range = row-bound (getD (t .rows) i []) (good .rows-fit i below)
+
+  default-in-range : Within shareMost (defaultOf (t .header))
+  default-in-range = default-in (t .header) (good .exact .header)
 
   fmax-low : pos 0 ≤ℤ rowAt t i .fmax
   fmax-low = between-low (row-in (getD (t .rows) i []) (good .rows-fit i below) .fmax)
@@ -61,11 +64,11 @@ module _ {t : Table} (good : Good t) (i : ℕ) (below : i < t .header .rows) whe
 
   pub ram-in : Within ramMost (ramAt t i)
   unfolding ramAt
-  ram-in = within-ram row-in-range f0core-in top s (omega (arith, s-in)) (omega arith) (omega arith) (omega arith)
+  ram-in = within-ram default-in-range row-in-range f0core-in top s (omega (arith, s-in)) (omega arith) (omega arith) (omega arith)
 
   pub start-in : Within ramMost (marginOf t i)
   unfolding ramAt
-  start-in = within-start row-in-range f0core-in top s (omega (arith, s-in)) (omega arith) (omega arith) (omega arith)
+  start-in = within-start default-in-range row-in-range f0core-in top s (omega (arith, s-in)) (omega arith) (omega arith) (omega arith)
 
   pub named-values-small : NamedSmall t i
   named-values-small =
@@ -73,10 +76,10 @@ module _ {t : Table} (good : Good t) (i : ℕ) (below : i < t .header .rows) whe
         f0core = omega (arith, f0core-in .abs);
         fuaf = omega (arith, within-fuaf row-in-range f0core-in .abs);
         base = omega (arith, within-base row-in-range f0core-in .abs);
-        amr = omega (arith, within-amr row-in-range f0core-in .abs);
+        amr = omega (arith, within-amr row-in-range f0core-in default-in-range .abs);
         p = λ b h. omega (arith, p-in b h);
         s = omega (arith, s-in);
-        lta-margin = omega (arith, lta-margin-most row-in-range f0core-in fmax-low s .abs, s-in);
+        lta-margin = omega (arith, lta-margin-most default-in-range row-in-range f0core-in fmax-low s .abs, s-in);
         ram = omega (arith, ram-in .abs);
         start = omega (arith, start-in .abs);
       }

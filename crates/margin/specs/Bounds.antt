@@ -15,13 +15,13 @@ use Rattle.kinds.specs.declared.Row.{Row}
 use Rattle.kinds.specs.Limits.{zonesMost, bordersMost, netMost, ltaMost, fmaxMost, flowMost, shareMost, vaMost, factorMost}
 use Rattle.kinds.specs.Ranges.{borderFits, worth}
 
--- a row's values, kW and ten-thousandths, are at most these in magnitude
+-- a row's values, kW and ten-thousandths, are at most these in magnitude; R is where the default is
 pub record RowWithin (fmax flow share va : ℕ) (row : Row) : Type 0 where
   pub fmax-in : Within fmax (row .fmax)
   pub frm-in : Within fmax (row .frm)
   pub fref-in : Within flow (row .fref)
   pub f0all-in : Within flow (row .f0all)
-  pub share-in : Within share (worth (row .share))
+  pub share-in : (default : ℤ) → Within share default → Within share (worth default (row .share))
   pub cva-in : Within va (row .cva)
   pub iva-in : Within va (row .iva)
 

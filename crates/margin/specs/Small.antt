@@ -2,6 +2,7 @@
 -- That it does, of every judged table, is `named-values-small` of `proofs/Small.antt`.
 use Prim.Native.Nat.{ℕ, _^_, _<_}
 use lib.IntN.{ℤ, natAbs}
+use Rattle.kinds.specs.Ranges.{defaultOf}
 use Rattle.table.specs.Table.{Table, rowAt, borderAt, factorsAt}
 use Rattle.margin.specs.Margin.{f0coreOf, fuafOf, baseOf, amrOf, pOf, ltaMarginOf, sAt, ramAt, marginOf}
 use Rattle.margin.specs.Bounds.{namedBits}
@@ -14,9 +15,9 @@ pub record NamedSmall (t : Table) (i : ℕ) : Type 0 where
   pub f0core : natAbs (f0coreAt t i) < 2 ^ namedBits
   pub fuaf : natAbs (fuafOf (rowAt t i) (f0coreAt t i)) < 2 ^ namedBits
   pub base : natAbs (baseOf (rowAt t i) (f0coreAt t i)) < 2 ^ namedBits
-  pub amr : natAbs (amrOf (rowAt t i) (f0coreAt t i)) < 2 ^ namedBits
+  pub amr : natAbs (amrOf (defaultOf (t .header)) (rowAt t i) (f0coreAt t i)) < 2 ^ namedBits
   pub p : (b : ℕ) → b < t .header .borders → pOf (factorsAt t i) (borderAt t b) < 2 ^ namedBits
   pub s : sAt (t .header) (t .borders) (t .factors) i < 2 ^ namedBits
-  pub lta-margin : natAbs (ltaMarginOf (rowAt t i) (f0coreAt t i) (amrOf (rowAt t i) (f0coreAt t i)) (sAt (t .header) (t .borders) (t .factors) i)) < 2 ^ namedBits
+  pub lta-margin : natAbs (ltaMarginOf (rowAt t i) (f0coreAt t i) (amrOf (defaultOf (t .header)) (rowAt t i) (f0coreAt t i)) (sAt (t .header) (t .borders) (t .factors) i)) < 2 ^ namedBits
   pub ram : natAbs (ramAt t i) < 2 ^ namedBits
   pub start : natAbs (marginOf t i) < 2 ^ namedBits

@@ -36,7 +36,7 @@ pub fn usage(fd: i32) -> bool {
 pub fn version(fd: i32) -> bool {
     io::write_all(
         fd,
-        b"keravnoth: rules: document 01; requests of document 02: E1, E3, E4, E8, E9; C interface: 4\n",
+        b"keravnoth: rules: document 01; requests of document 02: E1, E3, E4, E6, E8, E9; C interface: 5\n",
     )
         && io::write_all(fd, b"proved in the Rattle kit's logic 064da1ca440f63e7\n")
 }
@@ -59,7 +59,7 @@ fn name(i: usize) {
     io::write_all(STDERR_FILENO, b"' is not known, or not wanted there\n");
 }
 
-// One line for a refusal, by its number and place (01, "When the table is turned away"; 02, E1 and E3).
+// One line for a refusal, by its number and place (01, "When the table is turned away"; 02, E1, E3 and E6).
 pub fn refusal(number: u64, place: u64) {
     match number {
         1 => say(b"keravnoth: the table has more than 65,536 bytes: send one hour alone\n"),
@@ -71,7 +71,7 @@ pub fn refusal(number: u64, place: u64) {
         3 => say_place(
             b"keravnoth: line ",
             place,
-            b" has a value outside its range (also a zone or hub that does not exist, or two equal ones): compare its fields with the ranges in docs/GUIDE.md\n",
+            b" has a value outside its range (also a zone or hub that does not exist, or two equal ones; in line 1 a count or the default of R): compare its fields with the ranges in docs/GUIDE.md\n",
         ),
         4 => say_place(
             b"keravnoth: border ",

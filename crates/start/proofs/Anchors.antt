@@ -14,7 +14,7 @@ use Rattle.start.specs.Start.{kept, gridOf, startOf, judgeStart}
 use Rattle.start.specs.Filled.{cells}
 
 abbrev header : (rows : ℕ) → Header
-header rows = record { zones = 2; borders = 2; rows = rows }
+header rows = record { zones = 2; borders = 2; rows = rows; share = minus 1 }
 
 -- border 0 to 1 has 1 MW; the way back has none
 abbrev borders : List (List ℤ)

@@ -5,7 +5,7 @@ use Prim.Native.Nat.{ℕ}
 use lib.IntN.{ℤ, pos}
 use Rattle.numbers.specs.Below.{sum, table, firstFrom, given}
 use Rattle.numbers.specs.Ints.{minus, maxℤ, minℤ, positivePart, sameℤ, sumℤ}
-use Rattle.kinds.specs.Ranges.{hubsOf, borderOf, shareOf, rowOf, worth}
+use Rattle.kinds.specs.Ranges.{hubsOf, borderOf, shareOf, rowOf, worth, defaultOf}
 use Rattle.table.specs.Table.{Table, stretch}
 use Rattle.margin.specs.Margin.{grains, f0coreOf, fuafOf, baseOf, amrOf, signedFactor, pOf, ltaKw, sOf, ltaMarginOf, ramOf, ramAt, ramsOf}
 use Rattle.states.specs.States.{highest, lowest, spreadOf, shifted, below, stateOf, statesOf}
@@ -14,7 +14,7 @@ use Rattle.states.specs.States.{highest, lowest, spreadOf, shifted, belo
 abbrev rowsWith : (rows : ℕ) → (factors : List ℤ) → Table
 rowsWith rows factors =
     record {
-      header = record { zones = 2; borders = 1; rows = rows };
+      header = record { zones = 2; borders = 1; rows = rows; share = minus 1 };
       nets = pos 0 ∷ pos 0 ∷ [];
       borders = (pos 0 ∷ pos 1 ∷ pos 0 ∷ minus 1 ∷ minus 1 ∷ []) ∷ [];
       rows = table rows (λ i. pos 100000 ∷ pos 0 ∷ pos 0 ∷ pos 0 ∷ pos 0 ∷ pos 0 ∷ pos 0 ∷ []);
@@ -32,5 +32,5 @@ pub record Anchors : Type 0 where
   pub tie : statesWith 2 (pos 5000 ∷ pos 0 ∷ pos 5000 ∷ pos 0 ∷ []) ≡ 0 ∷ 2 ∷ []
 
 pub anchors : Anchors
-unfolding sum table firstFrom given maxℤ minℤ positivePart sameℤ sumℤ hubsOf borderOf shareOf rowOf worth stretch grains f0coreOf fuafOf baseOf amrOf signedFactor pOf ltaKw sOf ltaMarginOf ramOf ramAt highest lowest spreadOf shifted below stateOf
+unfolding sum table firstFrom given maxℤ minℤ positivePart sameℤ sumℤ hubsOf borderOf shareOf rowOf worth defaultOf stretch grains f0coreOf fuafOf baseOf amrOf signedFactor pOf ltaKw sOf ltaMarginOf ramOf ramAt highest lowest spreadOf shifted below stateOf
 anchors = record { spread-5000 = refl; spread-4999 = refl; tie = refl }

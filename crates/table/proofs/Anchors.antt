@@ -13,7 +13,7 @@ use Rattle.table.specs.Table.{Table, stretch, sameEnds, roomFor, judgeSh
 abbrev frmAbove : Table
 frmAbove =
     record {
-      header = record { zones = 2; borders = 1; rows = 2 };
+      header = record { zones = 2; borders = 1; rows = 2; share = minus 1 };
       nets = pos 0 ∷ pos 0 ∷ [];
       borders = (pos 0 ∷ pos 1 ∷ pos 0 ∷ minus 1 ∷ minus 1 ∷ []) ∷ [];
       rows = (pos 5 ∷ pos 5 ∷ pos 0 ∷ pos 0 ∷ pos 0 ∷ pos 0 ∷ pos 0 ∷ []) ∷ (pos 5 ∷ pos 6 ∷ pos 0 ∷ pos 0 ∷ pos 0 ∷ pos 0 ∷ pos 0 ∷ []) ∷ [];

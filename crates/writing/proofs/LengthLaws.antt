@@ -6,6 +6,7 @@ use mathlib.Core.List.{List, [], _∷_, _++_}
 use Prim.Native.Char.{code}
 use Prim.Native.Nat.{ℕ, suc, _+_, _*_, _≤_, _<_}
 use native.Mathlib.Omega.{arith}
+use borrow.Author.Tests.{le-ltb}
 use lib.Dec.{leb→le}
 use lib.IntN.{ℤ, pos, negsuc, natAbs}
 use lib.ListN.{length, getD, drop, length-append}
@@ -16,14 +17,14 @@ use Rattle.numbers.proofs.IntLaws.{inside-true}
 use Rattle.kinds.specs.declared.Header.{Header}
 use Rattle.kinds.specs.Limits.{zonesMost, bordersMost, rowsMost, shareMost}
 use Rattle.kinds.specs.Ranges.{atℤ, headerFits, zoneFits, borderFits, borderOf, rowOf, rowFits, factorFits}
-use Rattle.kinds.proofs.KindLaws.{HeaderIn, header-in, zone-in, HubsIn, none, both, border-in, row-in, factor-in}
+use Rattle.kinds.proofs.KindLaws.{HeaderIn, header-in, raw-share-in, zone-in, HubsIn, none, both, border-in, row-in, factor-in}
 use Rattle.text.specs.Written.{decimal, decimalℤ, shareText, linesText}
 use Rattle.text.proofs.PutLaws.{lines-most}
 use Rattle.text.proofs.WrittenLaws.{decimal-long, decimalℤ-long, pos-long}
 use Rattle.table.specs.Table.{Table, factorsAt}
 use Rattle.table.specs.Good.{Good}
 use Rattle.table.proofs.GoodLaws.{stretch-long, row-fit}
-use Rattle.kinds.specs.LineColumns.{headerColumns, zoneColumns, borderColumns, hubColumns, rowColumns, factorColumns}
+use Rattle.kinds.specs.LineColumns.{headerColumns, defaultColumns, zoneColumns, borderColumns, hubColumns, rowColumns, factorColumns}
 use Rattle.text.specs.Fields.{tab}
 use Rattle.columns.specs.ColumnText.{fieldText, fieldsLength, numbersOf}
 use Rattle.columns.specs.Optional.{writtenBy}
@@ -36,12 +37,21 @@ abbrev pub digitsOf : ℕ → ℕ
 digitsOf i = length (decimal i)
 
 -- ---- the lines
-pub header-most : (h : Header) → headerFits h ≡ true → length (headerText h) ≤ 12
+-- zones and borders of 2 digits, rows of 3, and a default of 5
+counts-most : (h : Header) → HeaderIn h → (r : ℤ) → inside (minus 1) (pos shareMost) r ≡ true
+    → fieldsLength (writtenBy headerColumns defaultColumns (pos (h .zones) ∷ pos (h .borders) ∷ pos (h .rows) ∷ r ∷ [])) (pos (h .zones) ∷ pos (h .borders) ∷ pos (h .rows) ∷ r ∷ []) ≤ 16
 unfolding fieldsLength fieldText decimalℤ
+counts-most h i (pos n) e =
+    rw (le-ltb n 0 (omega arith))
+    (omega (arith, decimal-long 1 (h .zones) (omega (arith, i .zones-most)), decimal-long 1 (h .borders) (omega (arith, i .borders-most)), decimal-long 2 (h .rows) (omega (arith, i .rows-most)), decimal-long 4 n (omega (arith, raw-share-in (pos n) e .abs))))
+counts-most h i (negsuc n) e =
+    omega (arith, decimal-long 1 (h .zones) (omega (arith, i .zones-most)), decimal-long 1 (h .borders) (omega (arith, i .borders-most)), decimal-long 2 (h .rows) (omega (arith, i .rows-most)))
+
+pub header-most : (h : Header) → headerFits h ≡ true → length (headerText h) ≤ 18
 header-most h e =
     let i = header-in h e in
-    rw (plain-long tab (code "H") headerColumns (pos (h .zones) ∷ pos (h .borders) ∷ pos (h .rows) ∷ []))
-    (omega (arith, decimal-long 1 (h .zones) (omega (arith, i .zones-most)), decimal-long 1 (h .borders) (omega (arith, i .borders-most)), decimal-long 2 (h .rows) (omega (arith, i .rows-most))))
+    let raw = pos (h .zones) ∷ pos (h .borders) ∷ pos (h .rows) ∷ h .share ∷ [] in
+    omega (arith, plain-long tab (code "H") (writtenBy headerColumns defaultColumns raw) raw, counts-most h i (h .share) (i .share))
 
 pub zone-most : (i : ℕ) (net : ℤ) → zoneFits net ≡ true → length (zoneText i net) ≤ 14 + digitsOf i
 unfolding fieldsLength fieldText

@@ -1,14 +1,24 @@
 -- `cabi::code_read` meets its contract.
-use mathlib.Core.Path.{sym, ap}
+use mathlib.Core.Path.{sym, ap, _∙_}
 use borrow.Author.Needs.{needs}
+use lib.IntN.{ℤ}
+use Rattle.numbers.proofs.IntLaws.{plain}
+use Rattle.kinds.specs.declared.Header.{Header}
 use Rattle.kinds.specs.declared.Read.{Read}
 use Rattle.kinds.specs.Answers.{saidRead}
+use Rattle.cabi.specs.declared.KeravnothRead.{KeravnothRead}
 use Rattle.cabi.specs.Coded.{codedRead}
 use Rattle.cabi.proofs.code_read.Statement.{statement}
 use Rattle.cabi.proofs.code_read.Tie as tie
 
+-- the answer where a table was read, by the share of its header
+abbrev coded : Header → (share : ℤ) → KeravnothRead
+coded h share = record { number = 0; place = 0; zones = h .zones; borders = h .borders; rows = h .rows; share = share }
+
 returns : tie.Need-returns
-returns c = sym (ap (λ (r : Read). codedRead (saidRead r)) (c .before .said .given .1))
+returns c =
+    let h = c .before .before .said .given .0 .0 in
+    ap (coded h) (plain (h .share) (c .struct-told .given .1 .1 .1 .0 .1)) ∙ sym (ap (λ (r : Read). codedRead (saidRead r)) (c .before .before .said .given .1))
 
 returns-2 : tie.Need-returns-2
 returns-2 c = sym (ap (λ (r : Read). codedRead (saidRead r)) (c .before .said2 .given .1))

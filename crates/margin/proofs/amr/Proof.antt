@@ -34,8 +34,8 @@ module _ (c : tie.After-base) where
   abbrev b : ℤ
   b = c .base .result
 
-  r-is : r ≡ worth (start .args .row .share)
-  r-is = c .before .before .worth .ensures
+  r-is : r ≡ worth (start .args .default) (start .args .row .share)
+  r-is = simp (toZ-ofZ, start .fits .default) at (c .before .before .worth .ensures)
 
   u-is : u ≡ fuafOf (start .args .row) (start .args .f0core)
   u-is = simp (toZ-ofZ, start .fits .f0core) at (c .before .fuaf .ensures)
@@ -44,7 +44,7 @@ module _ (c : tie.After-base) where
   b-is = simp (toZ-ofZ, start .fits .f0core) at (c .base .ensures)
 
   fmax-fits : SFits w64 fmax
-  fmax-fits = within-fits (start .pre .0 .fmax-in) tt
+  fmax-fits = within-fits (start .pre .1 .0 .fmax-in) tt
 
   r-fits : SFits w64 r
   r-fits = sfits-of (c .before .before .worth .ok)
@@ -56,20 +56,20 @@ module _ (c : tie.After-base) where
   b-fits = sfits-of (c .base .ok)
 
   r-in : Within shareMost r
-  r-in = within-is r-is (start .pre .0 .share-in)
+  r-in = within-is r-is (start .pre .1 .0 .share-in _ (start .pre .0))
 
   share-in : Within (shareMost * fmaxMost * 10) (r *ℤ fmax *ℤ pos 10)
-  share-in = within-mul (within-mul r-in (start .pre .0 .fmax-in)) (within-pos (le-refl 10))
+  share-in = within-mul (within-mul r-in (start .pre .1 .0 .fmax-in)) (within-pos (le-refl 10))
 
   u-in : Within (f0coreMost + flowMost * 100000) u
-  u-in = within-is u-is (within-fuaf (start .pre .0) (start .pre .1))
+  u-in = within-is u-is (within-fuaf (start .pre .1 .0) (start .pre .1 .1))
 
   b-in : Within (fmaxMost * 100000 + fmaxMost * 100000 + f0coreMost) b
-  b-in = within-is b-is (within-base (start .pre .0) (start .pre .1))
+  b-in = within-is b-is (within-base (start .pre .1 .0) (start .pre .1 .1))
 
   -- each value on the way fits
   product-fits : SFits w64 (r *ℤ fmax)
-  product-fits = within-fits (within-mul r-in (start .pre .0 .fmax-in)) tt
+  product-fits = within-fits (within-mul r-in (start .pre .1 .0 .fmax-in)) tt
 
   share-fits : SFits w64 (r *ℤ fmax *ℤ pos 10)
   share-fits = within-fits share-in tt
@@ -81,10 +81,10 @@ module _ (c : tie.After-base) where
   first-fits = within-fits (within-sub (within-sub share-in u-in) b-in) tt
 
   fifth-fits : SFits w64 (fmax *ℤ pos 20000)
-  fifth-fits = within-fits (within-fifth (start .pre .0)) tt
+  fifth-fits = within-fits (within-fifth (start .pre .1 .0)) tt
 
   second-fits : SFits w64 (fmax *ℤ pos 20000 -ℤ b)
-  second-fits = within-fits (within-sub (within-fifth (start .pre .0)) b-in) tt
+  second-fits = within-fits (within-sub (within-fifth (start .pre .1 .0)) b-in) tt
 
 mul-larger : tie.Need-mul-larger
 mul-larger c = let d = c .before .before in simp (toZ-ofZ, r-fits d, fmax-fits d) (product-fits d)

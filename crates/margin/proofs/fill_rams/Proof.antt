@@ -3,14 +3,15 @@ use mathlib.Core.Path.{_≡_, sym, ap, ap₂, subst, _∙_}
 use mathlib.Core.List.{List, []}
 use Prim.Native.Nat.{ℕ, _-_, _<_}
 use native.Mathlib.Omega.{arith}
-use borrow.Author.Needs.{sfits-of}
+use borrow.Author.Needs.{needs, sfits-of}
 use lib.IntN.{ℤ, pos, _-ℤ_}
 use lib.ListN.{length, getD}
 use mir.Facts.{toZ-ofZ}
 use mir.Syntax.{w64}
 use mir.Val.{SFits}
 use Rattle.numbers.proofs.ListLaws.{Filled, filled-none, filled-more, filled-all}
-use Rattle.kinds.specs.Ranges.{rowOf}
+use Rattle.kinds.specs.Ranges.{rowOf, defaultOf}
+use Rattle.kinds.proofs.KindLaws.{default-in}
 use Rattle.table.specs.Table.{Table, lent, stretch}
 use Rattle.margin.specs.Margin.{f0coreOf, sOf, ramOf, ramAt, marginOf}
 use Rattle.margin.specs.Bounds.{NetsBound, BordersBound}
@@ -26,14 +27,14 @@ record Head (t : Table) (rams₀ starts₀ rams starts : List ℤ) (i : ℕ) : T
   starts-filled : Filled (marginOf t) (t .header .rows) starts₀ starts i
 
 abbrev Inv-loop : tie.InvT-loop
-Inv-loop h z b c f rams₀ starts₀ i₀ i-end rams starts i = Head (lent h z b c f) rams₀ starts₀ rams starts i
+Inv-loop h z b c f rams₀ starts₀ default i₀ i-end rams starts i = Head (lent h z b c f) rams₀ starts₀ rams starts i
 
 abbrev μ-loop : tie.MeasureT-loop
-μ-loop h z b c f rams₀ starts₀ i₀ i-end rams starts i = h .rows - i
+μ-loop h z b c f rams₀ starts₀ default i₀ i-end rams starts i = h .rows - i
 
 -- RAM of the row, and RAM - S, from what the calls gave
 module _ (t : Table) (i : ℕ) {factors : List ℤ} {s : ℕ} {ram : ℤ} (e : factors ≡ stretch (t .header .zones) (t .factors) i) (u : s ≡ sOf factors (t .borders))
-    (v : ram ≡ ramOf (rowOf (getD (t .rows) i [])) (f0coreOf (rowOf (getD (t .rows) i [])) factors (t .nets)) s) where
+    (v : ram ≡ ramOf (defaultOf (t .header)) (rowOf (getD (t .rows) i [])) (f0coreOf (rowOf (getD (t .rows) i [])) factors (t .nets)) s) where
   ram-is : ram ≡ ramAt t i
   unfolding ramAt
   ram-is = cc
@@ -45,12 +46,16 @@ loop-holds : tie.Need-loop-holds Inv-loop μ-loop
 loop-holds c = record { rams-filled = filled-none _ _ _; starts-filled = filled-none _ _ _ }
 
 row-factors-requires : tie.Need-row-factors-requires Inv-loop μ-loop
-row-factors-requires c κs = (good-factors (c .before .before .pre .0), omega arith)
+row-factors-requires c κs = (good-factors (c .before .before .before .pre .0), omega arith)
 
 -- the row's factors
 module _ (c : tie.After-row-factors Inv-loop μ-loop) where
   abbrev start : tie.Start Inv-loop μ-loop
-  start = c .before .before .before
+  start = c .before .before .before .before
+
+  -- the default in force
+  default-fits : SFits w64 (c .before .before .before .default-share .result)
+  default-fits = sfits-of (c .before .before .before .default-share .ok)
 
   below : c .before .before .loop .i < start .args .h .rows
   below = omega arith
@@ -75,12 +80,15 @@ row-ram-requires c κs =
     let d = c .before .before in
     let good = start d .pre .0 in
     let factors = part-bound (good-factors good) (d .before .before .loop .i) (below d) (d .row-factors .ensures) in (
-      good .rows-fit (d .before .before .loop .i) (below d),
+      simp (toZ-ofZ, default-fits d) (within-is (d .before .before .before .default-share .ensures) (default-in _ (good .exact .header))),
       (
-        factors,
+        good .rows-fit (d .before .before .loop .i) (below d),
         (
-          subst (λ (n : ℕ). NetsBound n (start d .args .z .now)) (sym (long d)) (good-nets good),
-          s-bound factors (subst (λ (n : ℕ). BordersBound n (start d .args .b .now)) (sym (long d)) (good-borders good)) (c .before .s .ensures),
+          factors,
+          (
+            subst (λ (n : ℕ). NetsBound n (start d .args .z .now)) (sym (long d)) (good-nets good),
+            s-bound factors (subst (λ (n : ℕ). BordersBound n (start d .args .b .now)) (sym (long d)) (good-borders good)) (c .before .s .ensures),
+          ),
         ),
       ),
     )
@@ -104,8 +112,13 @@ module _ (c : tie.After-row-ram Inv-loop μ-loop) where
   ram-fits : SFits w64 (c .row-ram .result)
   ram-fits = sfits-of (c .row-ram .ok)
 
+  ram-given : c .row-ram .result ≡ ramOf (defaultOf (t .header)) (rowOf (getD (t .rows) i [])) (f0coreOf (rowOf (getD (t .rows) i [])) (at-factors .row-factors .result .now) (t .nets)) (c .before .before .s .result)
+  ram-given =
+      let d = at-factors .before .before .before .default-share in
+      c .row-ram .ensures ∙ ap (λ (x : ℤ). ramOf x (rowOf (getD (t .rows) i [])) (f0coreOf (rowOf (getD (t .rows) i [])) (at-factors .row-factors .result .now) (t .nets)) (c .before .before .s .result)) (toZ-ofZ (default-fits at-factors) ∙ d .ensures)
+
   ram-at : c .row-ram .result ≡ ramAt t i
-  ram-at = ram-is t i (at-factors .row-factors .ensures) (c .before .before .s .ensures) (c .row-ram .ensures)
+  ram-at = ram-is t i (at-factors .row-factors .ensures) (c .before .before .s .ensures) ram-given
 
 mul-ram : tie.Need-mul-ram Inv-loop μ-loop
 mul-ram c = omega (arith, head c .rams-filled .as-long, start (at-factors c) .pre .1 .0)
@@ -121,8 +134,8 @@ start-requires c κs =
       s-bound (part-bound (good-factors good) (i c) (below d) (d .row-factors .ensures)) (subst (λ (n : ℕ). BordersBound n (start d .args .b .now)) (sym (long d)) (good-borders good)) (c .before .before .s .ensures),
     )
 
-mul-t14 : tie.Need-mul-t14 Inv-loop μ-loop
-mul-t14 c = omega (arith, head (c .before) .starts-filled .as-long, start (at-factors (c .before)) .pre .1 .1)
+mul-t15 : tie.Need-mul-t15 Inv-loop μ-loop
+mul-t15 c = omega (arith, head (c .before) .starts-filled .as-long, start (at-factors (c .before)) .pre .1 .1)
 
 slice-set-from-starts : tie.Need-slice-set-from-starts Inv-loop μ-loop
 slice-set-from-starts c = omega (arith, head (c .before) .starts-filled .as-long, start (at-factors (c .before)) .pre .1 .1)
@@ -138,7 +151,7 @@ loop-again c =
     record {
       rams-filled = filled-more (head d .rams-filled) _ (below f) (omega (arith, start f .pre .1 .0)) (toZ-ofZ (ram-fits d) ∙ ram-at d);
       starts-filled = filled-more (head d .starts-filled) _ (below f) (omega (arith, start f .pre .1 .1))
-          (toZ-ofZ k ∙ (simp (toZ-ofZ, ram-fits d) at (c .start .ensures)) ∙ start-is (t d) (i d) (f .row-factors .ensures) (d .before .before .s .ensures) (d .row-ram .ensures));
+          (toZ-ofZ k ∙ (simp (toZ-ofZ, ram-fits d) at (c .start .ensures)) ∙ start-is (t d) (i d) (f .row-factors .ensures) (d .before .before .s .ensures) (ram-given d));
     }
 
 same-length : tie.Need-same-length Inv-loop μ-loop
@@ -149,7 +162,7 @@ same-length-2 c = c .before .loop .inv .starts-filled .as-long
 
 returns : tie.Need-returns Inv-loop μ-loop
 returns c =
-    let q = c .before .before .pre .1 in
+    let q = c .before .before .before .pre .1 in
     (filled-all (c .before .loop .inv .rams-filled) (omega arith) (q .0), filled-all (c .before .loop .inv .starts-filled) (omega arith) (q .1))
 
 pub fill-rams-spec : {M : Type 1} → statement M
@@ -158,6 +171,7 @@ fill-rams-spec =
     (tie.spec
     Inv-loop
     μ-loop
+    (λ c κs. search needs)
     loop-holds
     row-factors-requires
     s-requires
@@ -167,7 +181,7 @@ fill-rams-spec =
     mul-ram
     slice-set-from-ram
     start-requires
-    mul-t14
+    mul-t15
     slice-set-from-starts
     add-i
     (λ c. omega arith)

@@ -24,14 +24,14 @@ module _ (c : tie.After-amr) where
   b-is : c .before .base .result ≡ baseOf (start₁ .args .row) (start₁ .args .f0core)
   b-is = simp (toZ-ofZ, start₁ .fits .f0core) at (c .before .base .ensures)
 
-  a-is : c .amr .result ≡ amrOf (start₁ .args .row) (start₁ .args .f0core)
-  a-is = simp (toZ-ofZ, start₁ .fits .f0core) at (c .amr .ensures)
+  a-is : c .amr .result ≡ amrOf (start₁ .args .default) (start₁ .args .row) (start₁ .args .f0core)
+  a-is = simp (toZ-ofZ, start₁ .fits .default, start₁ .fits .f0core) at (c .amr .ensures)
 
   b-in : Within (fmaxMost * 100000 + fmaxMost * 100000 + f0coreMost) (c .before .base .result)
-  b-in = within-is b-is (within-base (start₁ .pre .0) (start₁ .pre .1 .0))
+  b-in = within-is b-is (within-base (start₁ .pre .1 .0) (start₁ .pre .1 .1 .0))
 
   a-in : Within amrMost (c .amr .result)
-  a-in = within-is a-is (within-amr (start₁ .pre .0) (start₁ .pre .1 .0))
+  a-in = within-is a-is (within-amr (start₁ .pre .1 .0) (start₁ .pre .1 .1 .0) (start₁ .pre .0))
 
   b-fits : SFits w64 (c .before .base .result)
   b-fits = sfits-of (c .before .base .ok)
@@ -48,7 +48,7 @@ module _ (c : tie.After-lta-margin) where
   l-is = simp (toZ-ofZ, start₂ .fits .f0core, a-fits (c .before)) at (c .lta-margin .ensures)
 
   l-in : Within (f0coreMost + sMost + fmaxMost * 100000 + amrMost + fmaxMost * 100000) (c .lta-margin .result)
-  l-in = within-is l-is (within-lta-margin (start₂ .pre .0) (start₂ .pre .1 .0) (a-in (c .before)) (start₂ .pre .1 .1))
+  l-in = within-is l-is (within-lta-margin (start₂ .pre .1 .0) (start₂ .pre .1 .1 .0) (a-in (c .before)) (start₂ .pre .1 .1 .1))
 
   l-fits : SFits w64 (c .lta-margin .result)
   l-fits = sfits-of (c .lta-margin .ok)
@@ -56,16 +56,16 @@ module _ (c : tie.After-lta-margin) where
 lta-margin-requires : tie.Need-lta-margin-requires
 lta-margin-requires c κs =
     let s = start₁ c in
-    simp (toZ-ofZ, s .fits .f0core, a-fits c) (s .pre .0, (s .pre .1 .0, (a-in c, s .pre .1 .1)))
+    simp (toZ-ofZ, s .fits .f0core, a-fits c) (s .pre .1 .0, (s .pre .1 .1 .0, (a-in c, s .pre .1 .1 .1)))
 
 grains-requires : tie.Need-grains-requires
 grains-requires c κs =
-    let row = start₂ (c .before) .pre .0 in
+    let row = start₂ (c .before) .pre .1 .0 in
     simp (toZ-ofZ, within-fits (row .cva-in) tt) (within-le (row .cva-in) (omega arith))
 
 grains-requires-2 : tie.Need-grains-requires-2
 grains-requires-2 c κs =
-    let row = start₂ (c .before .before .before) .pre .0 in
+    let row = start₂ (c .before .before .before) .pre .1 .0 in
     simp (toZ-ofZ, within-fits (row .iva-in) tt) (within-le (row .iva-in) (omega arith))
 
 -- CVA and IVA in grains, and each value on the way
@@ -89,10 +89,10 @@ module _ (c : tie.After-grains2) where
   iva = c .grains2 .result
 
   cva-is : cva ≡ grains (start₂ d .args .row .cva)
-  cva-is = simp (toZ-ofZ, within-fits (start₂ d .pre .0 .cva-in) tt) at (c .before .before .grains .ensures)
+  cva-is = simp (toZ-ofZ, within-fits (start₂ d .pre .1 .0 .cva-in) tt) at (c .before .before .grains .ensures)
 
   iva-is : iva ≡ grains (start₂ d .args .row .iva)
-  iva-is = simp (toZ-ofZ, within-fits (start₂ d .pre .0 .iva-in) tt) at (c .grains2 .ensures)
+  iva-is = simp (toZ-ofZ, within-fits (start₂ d .pre .1 .0 .iva-in) tt) at (c .grains2 .ensures)
 
   cva-fits : SFits w64 cva
   cva-fits = sfits-of (c .before .before .grains .ok)
@@ -109,15 +109,15 @@ module _ (c : tie.After-grains2) where
   less-cva : SFits w64 (b +ℤ a +ℤ l -ℤ cva)
   less-cva =
       within-fits
-      (within-sub (within-add (within-add (b-in (d .before)) (a-in (d .before))) (l-in d)) (within-is cva-is (within-grains (start₂ d .pre .0 .cva-in))))
+      (within-sub (within-add (within-add (b-in (d .before)) (a-in (d .before))) (l-in d)) (within-is cva-is (within-grains (start₂ d .pre .1 .0 .cva-in))))
       tt
 
   less-iva : SFits w64 (b +ℤ a +ℤ l -ℤ cva -ℤ iva)
   less-iva =
       within-fits
       (within-sub
-      (within-sub (within-add (within-add (b-in (d .before)) (a-in (d .before))) (l-in d)) (within-is cva-is (within-grains (start₂ d .pre .0 .cva-in))))
-      (within-is iva-is (within-grains (start₂ d .pre .0 .iva-in))))
+      (within-sub (within-add (within-add (b-in (d .before)) (a-in (d .before))) (l-in d)) (within-is cva-is (within-grains (start₂ d .pre .1 .0 .cva-in))))
+      (within-is iva-is (within-grains (start₂ d .pre .1 .0 .iva-in))))
       tt
 
 add-result : tie.Need-add-result

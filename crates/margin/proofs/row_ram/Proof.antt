@@ -15,10 +15,10 @@ use Rattle.margin.proofs.row_ram.Statement.{statement}
 use Rattle.margin.proofs.row_ram.Tie as tie
 
 judged-requires : tie.Need-judged-requires
-judged-requires c κs = c .pre .0
+judged-requires c κs = c .pre .1 .0
 
 bound : (c : tie.After-judged) → RowBound (c .judged .result)
-bound c = row-judged _ (c .before .pre .0) (c .judged .ensures)
+bound c = row-judged _ (c .before .pre .1 .0) (c .judged .ensures)
 
 -- the row's F0core
 module _ (c : tie.After-f0core) where
@@ -28,20 +28,20 @@ module _ (c : tie.After-f0core) where
   f0core-in : Within f0coreMost (c .f0core .result)
   f0core-in =
       let s = c .before .before in
-      let f = s .pre .1 .0 in
-      let n = s .pre .1 .1 .0 in
+      let f = s .pre .1 .1 .0 in
+      let n = s .pre .1 .1 .1 .0 in
       within-is (c .f0core .ensures) (within-f0core _ (bound (c .before) .fref-in) _ _ (omega (arith, n .long)) (f .each) (n .each) zonesMost (omega (arith, n .long, f .few)))
 
 f0core-requires : tie.Need-f0core-requires
-f0core-requires c κs = (bound c, (c .before .pre .1 .0, c .before .pre .1 .1 .0))
+f0core-requires c κs = (bound c, (c .before .pre .1 .1 .0, c .before .pre .1 .1 .1 .0))
 
 ram-requires : tie.Need-ram-requires
-ram-requires c κs = simp (toZ-ofZ, f0core-fits c) (bound (c .before), (f0core-in c, c .before .before .pre .1 .1 .1))
+ram-requires c κs = simp (toZ-ofZ, f0core-fits c, c .before .before .fits .default) (c .before .before .pre .0, (bound (c .before), (f0core-in c, c .before .before .pre .1 .1 .1 .1)))
 
 returns : tie.Need-returns
 returns c =
     let d = c .before in
-    let e : c .ram .result ≡ ramOf (d .before .judged .result) (d .f0core .result) (d .before .before .args .s) = simp (toZ-ofZ, f0core-fits d) at (c .ram .ensures) in
+    let e : c .ram .result ≡ ramOf (d .before .before .args .default) (d .before .judged .result) (d .f0core .result) (d .before .before .args .s) = simp (toZ-ofZ, f0core-fits d, d .before .before .fits .default) at (c .ram .ensures) in
     let k : SFits w64 (c .ram .result) = sfits-of (c .ram .ok) in
     toZ-ofZ k ∙ cc (d .f0core .ensures, d .before .judged .ensures)
 

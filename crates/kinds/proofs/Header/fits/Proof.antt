@@ -1,12 +1,15 @@
 -- `kinds::Header::fits` meets its contract.
-use mathlib.Core.Path.{refl}
+use borrow.Author.Needs.{needs}
+use Rattle.numbers.proofs.IntLaws.{plain}
 use Rattle.kinds.specs.Ranges.{headerFits}
 use Rattle.kinds.proofs.Header.fits.Statement.{statement}
 use Rattle.kinds.proofs.Header.fits.Tie as tie
 
 returns : tie.Need-returns
 unfolding headerFits
-returns c = refl
+returns c =
+    let at-share = c .before .before .before .before .before .before .before in
+    simp (c .inside .ensures, plain (at-share .before .args .self .share) (at-share .struct-told .given .1 .1 .1 .0 .1))
 
 pub fits-spec : {M : Type 1} → statement M
-fits-spec = tie.close (tie.spec returns)
+fits-spec = tie.close (tie.spec (λ c κs. search needs) returns)

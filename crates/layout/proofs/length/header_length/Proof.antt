@@ -1,52 +1,70 @@
 -- `layout::length::header_length` meets its contract.
-use mathlib.Core.Path.{_≡_, refl}
-use mathlib.Core.List.{[], _∷_}
+use mathlib.Core.Path.{_≡_, refl, sym, ap, subst, _∙_}
+use mathlib.Core.List.{List, [], _∷_}
 use Prim.Native.Char.{code}
+use Prim.Native.Nat.{ℕ, _+_, _≤_}
 use native.Mathlib.Omega.{arith}
-use lib.IntN.{pos}
-use Rattle.kinds.proofs.KindLaws.{header-in}
-use Rattle.text.proofs.FieldLaws.{fits-pos}
-use Rattle.kinds.specs.LineColumns.{headerColumns}
-use Rattle.text.specs.Fields.{tab}
-use Rattle.columns.specs.ColumnText.{fieldsLength}
-use Rattle.columns.proofs.ColumnPut.{plain-long}
-use Rattle.layout.proofs.LayoutLaws.{header-raw}
 use borrow.Author.Needs.{needs}
+use lib.IntN.{ℤ, pos}
+use lib.ListN.{length}
+use Rattle.kinds.specs.declared.Header.{Header}
+use Rattle.kinds.specs.Limits.{bytesMost}
+use Rattle.kinds.specs.LineColumns.{headerColumns, defaultColumns}
+use Rattle.kinds.proofs.KindLaws.{header-in}
+use Rattle.text.specs.Fields.{tab}
+use Rattle.text.proofs.FieldLaws.{fits-pos}
+use Rattle.columns.specs.ColumnText.{fieldsLength}
+use Rattle.columns.specs.Optional.{writtenBy}
+use Rattle.columns.proofs.ColumnPut.{plain-long}
+use Rattle.layout.specs.Layout.{headerText}
+use Rattle.layout.proofs.LayoutLaws.{header-raw}
 use Rattle.layout.proofs.length.header_length.Statement.{statement}
 use Rattle.layout.proofs.length.header_length.Tie as tie
 
-counted : (c : tie.After-fields-length) → let h = c .before .before .before .before .before .before .args .h in c .fields-length .result ≡ fieldsLength headerColumns (pos (h .zones) ∷ pos (h .borders) ∷ pos (h .rows) ∷ [])
-counted c = rw (header-raw (c .before .before .before .before .before .before .args .h) (c .before .before .before .before .before .before .pre .0)) at (c .fields-length .ensures)
+-- a header's numbers, and the bytes of their fields
+abbrev raw : Header → List ℤ
+raw h = pos (h .zones) ∷ pos (h .borders) ∷ pos (h .rows) ∷ h .share ∷ []
 
-cast-t4 : tie.Need-cast-t4
-cast-t4 c = fits-pos _ (omega (arith, header-in (c .before .args .h) (c .before .pre .0) .zones-most))
+abbrev fields : List ℤ → ℕ
+fields zs = fieldsLength (writtenBy headerColumns defaultColumns zs) zs
+
+long : (h : Header) → length (headerText h) ≡ 2 + fields (raw h)
+long h = plain-long tab (code "H") (writtenBy headerColumns defaultColumns (raw h)) (raw h)
+
+counted : (c : tie.After-optional-fields-length) → let h = c .before .before .before .before .before .before .before .args .h in c .optional-fields-length .result ≡ fields (raw h)
+counted c = c .optional-fields-length .ensures ∙ ap fields (header-raw (c .before .before .before .before .before .before .before .args .h) (c .before .before .before .before .before .before .before .pre .0))
 
 cast-t5 : tie.Need-cast-t5
-cast-t5 c = fits-pos _ (omega (arith, header-in (c .before .before .args .h) (c .before .before .pre .0) .borders-most))
+cast-t5 c = fits-pos _ (omega (arith, header-in (c .before .before .args .h) (c .before .before .pre .0) .zones-most))
 
 cast-t6 : tie.Need-cast-t6
-cast-t6 c = fits-pos _ (omega (arith, header-in (c .before .before .before .args .h) (c .before .before .before .pre .0) .rows-most))
+cast-t6 c = fits-pos _ (omega (arith, header-in (c .before .before .before .args .h) (c .before .before .before .pre .0) .borders-most))
 
-fields-length-requires : tie.Need-fields-length-requires
-fields-length-requires c κs =
-    let h = c .before .before .before .before .before .args .h in
-    (refl, rw (header-raw h (c .before .before .before .before .before .pre .0)) (omega (arith, plain-long tab (code "H") headerColumns (pos (h .zones) ∷ pos (h .borders) ∷ pos (h .rows) ∷ []), c .before .before .before .before .before .pre .1)))
+cast-t7 : tie.Need-cast-t7
+cast-t7 c = fits-pos _ (omega (arith, header-in (c .before .before .before .before .args .h) (c .before .before .before .before .pre .0) .rows-most))
+
+optional-fields-length-requires : tie.Need-optional-fields-length-requires
+optional-fields-length-requires c κs =
+    let s = c .before .before .before .before .before .before in
+    (omega arith, refl, subst (λ (zs : List ℤ). fields zs ≤ bytesMost) (sym (header-raw (s .args .h) (s .pre .0))) (omega (arith, long (s .args .h), s .pre .1)))
 
 add-result : tie.Need-add-result
-add-result c = omega (arith, counted c, plain-long tab (code "H") headerColumns (pos (c .before .before .before .before .before .before .args .h .zones) ∷ pos (c .before .before .before .before .before .before .args .h .borders) ∷ pos (c .before .before .before .before .before .before .args .h .rows) ∷ []), c .before .before .before .before .before .before .pre .1)
+add-result c =
+    let s = c .before .before .before .before .before .before .before in
+    omega (arith, counted c, long (s .args .h), s .pre .1)
 
 returns : tie.Need-returns
-returns c = omega (arith, counted c, plain-long tab (code "H") headerColumns (pos (c .before .before .before .before .before .before .args .h .zones) ∷ pos (c .before .before .before .before .before .before .args .h .borders) ∷ pos (c .before .before .before .before .before .before .args .h .rows) ∷ []))
+returns c = omega (arith, counted c, long (c .before .before .before .before .before .before .before .args .h))
 
 pub header-length-spec : {M : Type 1} → statement M
 header-length-spec =
     tie.close
     (tie.spec
-    cast-t4
     cast-t5
     cast-t6
+    cast-t7
     (λ c. search needs)
     (λ c. search needs)
-    fields-length-requires
+    optional-fields-length-requires
     add-result
     returns)

@@ -1,37 +1,54 @@
 -- `layout::put::put_header` meets its contract.
-use mathlib.Core.Path.{refl}
+use mathlib.Core.Path.{refl, sym, subst}
+use mathlib.Core.List.{List}
+use Prim.Native.Char.{code}
+use Prim.Native.Nat.{ℕ, _+_, _≤_}
 use native.Mathlib.Omega.{arith}
-use Rattle.kinds.proofs.KindLaws.{header-in}
-use Rattle.text.proofs.FieldLaws.{fits-pos}
-use Rattle.layout.proofs.LayoutLaws.{header-raw}
 use borrow.Author.Needs.{needs}
+use lib.IntN.{ℤ}
+use lib.ListN.{length}
+use Rattle.kinds.specs.LineColumns.{headerColumns, defaultColumns}
+use Rattle.kinds.proofs.KindLaws.{header-in}
+use Rattle.text.specs.Fields.{tab}
+use Rattle.text.specs.Put.{Put}
+use Rattle.text.proofs.FieldLaws.{fits-pos}
+use Rattle.columns.specs.Optional.{plainOptionalText}
+use Rattle.layout.proofs.LayoutLaws.{header-raw}
 use Rattle.layout.proofs.put.put_header.Statement.{statement}
 use Rattle.layout.proofs.put.put_header.Tie as tie
 
-cast-t6 : tie.Need-cast-t6
-cast-t6 c = fits-pos _ (omega (arith, header-in (c .before .before .args .h) (c .before .before .pre .0) .zones-most))
+abbrev text : List ℤ → List ℕ
+text raw = plainOptionalText tab (code "H") headerColumns defaultColumns raw
 
 cast-t7 : tie.Need-cast-t7
-cast-t7 c = fits-pos _ (omega (arith, header-in (c .before .before .before .args .h) (c .before .before .before .pre .0) .borders-most))
+cast-t7 c = fits-pos _ (omega (arith, header-in (c .before .before .before .args .h) (c .before .before .before .pre .0) .zones-most))
 
 cast-t8 : tie.Need-cast-t8
-cast-t8 c = fits-pos _ (omega (arith, header-in (c .before .before .before .before .args .h) (c .before .before .before .before .pre .0) .rows-most))
+cast-t8 c = fits-pos _ (omega (arith, header-in (c .before .before .before .before .args .h) (c .before .before .before .before .pre .0) .borders-most))
 
-put-plain-requires : tie.Need-put-plain-requires
-put-plain-requires c κs = (refl, rw (header-raw (c .before .before .before .before .before .before .before .args .h) (c .before .before .before .before .before .before .before .pre .0)) (c .before .before .before .before .before .before .before .pre .1))
+cast-t9 : tie.Need-cast-t9
+cast-t9 c = fits-pos _ (omega (arith, header-in (c .before .before .before .before .before .args .h) (c .before .before .before .before .before .pre .0) .rows-most))
+
+put-plain-optional-requires : tie.Need-put-plain-optional-requires
+put-plain-optional-requires c κs =
+    let s = c .before .before .before .before .before .before .before .before in
+    (omega arith, refl, subst (λ (raw : List ℤ). s .args .at + length (text raw) ≤ length (s .args .out .now)) (sym (header-raw (s .args .h) (s .pre .0))) (s .pre .1))
 
 returns : tie.Need-returns
-returns c = rw (header-raw (c .before .before .before .before .before .before .before .before .before .before .args .h) (c .before .before .before .before .before .before .before .before .before .before .pre .0)) at (c .before .before .put-plain .ensures)
+returns c =
+    let s = c .before .before .before .before .before .before .before .before .before .before .before in
+    let put = c .before .before .put-plain-optional in
+    subst (λ (raw : List ℤ). Put (text raw) (s .args .at) (s .args .out .now) (put .result) (put .last .1 .1 .1 .1 .1 .0)) (header-raw (s .args .h) (s .pre .0)) (put .ensures)
 
 pub put-header-spec : {M : Type 1} → statement M
 put-header-spec =
     tie.close
     (tie.spec
-    cast-t6
     cast-t7
     cast-t8
+    cast-t9
     (λ c. search needs)
     (λ c. search needs)
-    put-plain-requires
+    put-plain-optional-requires
     (λ c. search needs)
     returns)
