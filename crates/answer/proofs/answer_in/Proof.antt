@@ -11,12 +11,15 @@ use Rattle.answer.proofs.ReadLaws.{read-refused, read-printed}
 use Rattle.answer.proofs.answer_in.Statement.{statement}
 use Rattle.answer.proofs.answer_in.Tie as tie
 
+abbrev entry : tie.After-read → tie.Start
+entry c = c .before .before .before .before .before .before .before
+
 returns : tie.Need-returns
 unfolding answerLeft
 returns c =
     let told = c .before .before .before .before .before .before .before .before .before in
     let called = told .before .before .before .before .before .before in
-    let s = called .before .before .before .before .before .before .before in
+    let s = entry called in
     let a = s .args in
     let answered = c .before .before .answer-lent .ensures in (
       answered .0
@@ -29,7 +32,7 @@ unfolding answerLeft
 returns-2 c =
     let told = c .before .before .before .before .before in
     let called = told .before .before .before .before .before .before in
-    let s = called .before .before .before .before .before .before .before in
+    let s = entry called in
     let a = s .args in
     let p = s .pre in
     let answered = c .before .before .write-refusal .ensures in (

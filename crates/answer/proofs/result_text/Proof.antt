@@ -8,11 +8,14 @@ use Rattle.answer.proofs.result_text.Tie as tie
 abbrev given : tie.Start → Table
 given s = lent (s .args .h) (s .args .z .now) (s .args .b .now) (s .args .c .now) (s .args .f .now)
 
+abbrev entry : tie.After-slice-known2 → tie.Start
+entry c = c .before .before .before .before .before
+
 returns : tie.Need-returns
-returns c = let s = c .before .before .before .before .before .before .before .before in result-told (given s) (s .args .out .now) _ _ (c .before .before .before .before .before .make .ensures .0) _ (c .before .written .given .1)
+returns c = let s = entry (c .before .before .before) in result-told (given s) (s .args .out .now) _ _ (c .before .before .before .before .before .make .ensures .0) _ (c .before .written .given .1)
 
 returns-2 : tie.Need-returns-2
-returns-2 c = let s = c .before .before .before .before .before .before .before .before in result-refused (given s) (s .args .out .now) _ _ (c .before .before .before .before .before .make .ensures .0) _ (c .before .w .given .1)
+returns-2 c = let s = entry (c .before .before .before) in result-refused (given s) (s .args .out .now) _ _ (c .before .before .before .before .before .make .ensures .0) _ (c .before .w .given .1)
 
 pub result-text-spec : {M : Type 1} → statement M
 result-text-spec =

@@ -21,26 +21,29 @@ array-borrow-prefix-rams c = header-in _ (c .before .before .pre .0 .exact .head
 slice-aggregate-extract-in : tie.Need-slice-aggregate-extract-in
 slice-aggregate-extract-in c = sym (length-take-le _ _ (array-borrow-prefix-rams (c .before)))
 
+abbrev entry : tie.After-rams → tie.Start
+entry c = c .before .before .before
+
 array-borrow-prefix-starts : tie.Need-array-borrow-prefix-starts
-array-borrow-prefix-starts c = header-in _ (c .before .before .before .pre .0 .exact .header) .rows-most
+array-borrow-prefix-starts c = header-in _ (entry c .pre .0 .exact .header) .rows-most
 
 slice-aggregate-extract-in-2 : tie.Need-slice-aggregate-extract-in-2
 slice-aggregate-extract-in-2 c = sym (length-take-le _ _ (array-borrow-prefix-starts (c .before)))
 
 array-borrow-prefix-states : tie.Need-array-borrow-prefix-states
-array-borrow-prefix-states c = header-in _ (c .before .before .before .before .pre .0 .exact .header) .rows-most
+array-borrow-prefix-states c = header-in _ (entry (c .before) .pre .0 .exact .header) .rows-most
 
 slice-aggregate-extract-in-3 : tie.Need-slice-aggregate-extract-in-3
 slice-aggregate-extract-in-3 c = sym (length-take-le _ _ (array-borrow-prefix-states (c .before)))
 
 array-borrow-prefix-margins : tie.Need-array-borrow-prefix-margins
-array-borrow-prefix-margins c = header-in _ (c .before .before .before .before .before .pre .0 .exact .header) .rows-most
+array-borrow-prefix-margins c = header-in _ (entry (c .before .before) .pre .0 .exact .header) .rows-most
 
 slice-aggregate-extract-in-4 : tie.Need-slice-aggregate-extract-in-4
 slice-aggregate-extract-in-4 c = sym (length-take-le _ _ (array-borrow-prefix-margins (c .before)))
 
 slice-relend-prefix-extract-in : tie.Need-slice-relend-prefix-extract-in
-slice-relend-prefix-extract-in c = c .before .before .before .before .before .before .pre .1
+slice-relend-prefix-extract-in c = entry (c .before .before .before) .pre .1
 
 slice-aggregate-extract-in-5 : tie.Need-slice-aggregate-extract-in-5
 slice-aggregate-extract-in-5 c = sym (length-take-le _ _ (slice-relend-prefix-extract-in (c .before)))
@@ -52,7 +55,7 @@ extract-in-requires c κs =
     let at-states = at-margins .before in
     let at-starts = at-states .before in
     let at-rams = at-starts .before in (
-      at-rams .before .before .before .pre .0,
+      entry at-rams .pre .0,
       (
         (sym (slice-aggregate-extract-in at-rams), sym (slice-aggregate-extract-in-2 at-starts)),
         ((sym (slice-aggregate-extract-in-3 at-states), sym (slice-aggregate-extract-in-4 at-margins)), sym (slice-aggregate-extract-in-5 at-p)),

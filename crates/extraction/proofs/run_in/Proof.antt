@@ -11,11 +11,14 @@ count-sharers-requires c κs = (omega (arith, c .before .before .before .before 
 exchanges-requires : tie.Need-exchanges-requires
 exchanges-requires c κs = c .before .before .before .before .before .before .before .pre .0 .borders
 
+abbrev entry : tie.After-extract-rounds-arg2 → tie.Start
+entry c = c .before .before .before .before .before .before .before .before .before .before
+
 extract-rounds-requires : tie.Need-extract-rounds-requires
-extract-rounds-requires c κs = (omega (arith, c .before .before .before .before .before .before .before .before .before .before .pre .0 .p-long), run-startable (c .before .before .before .before .before .before .before .before .before .before .pre .0) (c .before .before .exchanges .ensures) (c .before .before .before .before .before .count-sharers .ensures))
+extract-rounds-requires c κs = (omega (arith, entry c .pre .0 .p-long), run-startable (entry c .pre .0) (c .before .before .exchanges .ensures) (c .before .before .before .before .before .count-sharers .ensures))
 
 returns : tie.Need-returns
-returns c = run-ended (c .before .before .before .before .before .before .before .before .before .before .before .before .before .pre .0) (c .before .before .before .before .before .exchanges .ensures) (c .before .before .extract-rounds .ensures)
+returns c = run-ended (entry (c .before .before .before) .pre .0) (c .before .before .before .before .before .exchanges .ensures) (c .before .before .extract-rounds .ensures)
 
 pub run-in-spec : {M : Type 1} → statement M
 run-in-spec =

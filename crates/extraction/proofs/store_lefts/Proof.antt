@@ -22,23 +22,26 @@ loop-holds c = filled-none _ _ _
 shared-slice-copy-out-t14 : tie.Need-shared-slice-copy-out-t14 Inv-loop μ-loop
 shared-slice-copy-out-t14 c = omega (arith, c .before .before .before .before .before .pre .0)
 
+abbrev entry : tie.After-t14 Inv-loop μ-loop → tie.Start Inv-loop μ-loop
+entry c = c .before .before .before .before .before .before
+
 mul-t15 : tie.Need-mul-t15 Inv-loop μ-loop
-mul-t15 c = omega (arith, c .before .before .before .before .before .before .pre .0)
+mul-t15 c = omega (arith, entry c .pre .0)
 
 shared-slice-read-t17 : tie.Need-shared-slice-read-t17 Inv-loop μ-loop
-shared-slice-read-t17 c = omega (arith, c .before .before .before .before .before .before .before .pre .0)
+shared-slice-read-t17 c = omega (arith, entry (c .before) .pre .0)
 
 as-record-requires : tie.Need-as-record-requires Inv-loop μ-loop
-as-record-requires c κs = c .before .before .before .before .before .before .before .pre .1 _ (omega arith)
+as-record-requires c κs = entry (c .before) .pre .1 _ (omega arith)
 
 mul-t9-2 : tie.Need-mul-t9-2 Inv-loop μ-loop
-mul-t9-2 c = omega (arith, c .before .before .before .before .before .loop .inv .as-long, c .before .before .before .before .before .before .before .before .pre .0)
+mul-t9-2 c = omega (arith, c .before .before .before .before .before .loop .inv .as-long, entry (c .before .before) .pre .0)
 
 slice-set-from-left : tie.Need-slice-set-from-left Inv-loop μ-loop
-slice-set-from-left c = omega (arith, c .before .before .before .before .before .loop .inv .as-long, c .before .before .before .before .before .before .before .before .pre .0)
+slice-set-from-left c = omega (arith, c .before .before .before .before .before .loop .inv .as-long, entry (c .before .before) .pre .0)
 
 loop-again : tie.Need-loop-again Inv-loop μ-loop
-loop-again c = filled-more (c .before .before .before .before .before .loop .inv) _ (omega arith) (omega (arith, c .before .before .before .before .before .before .before .before .pre .0)) (rw (plain _ (c .before .before .t14 .given)) at (c .as-record .ensures))
+loop-again c = filled-more (c .before .before .before .before .before .loop .inv) _ (omega arith) (omega (arith, entry (c .before .before) .pre .0)) (rw (plain _ (c .before .before .t14 .given)) at (c .as-record .ensures))
 
 same-length : tie.Need-same-length Inv-loop μ-loop
 same-length c = c .before .loop .inv .as-long

@@ -98,16 +98,19 @@ sub-larger c = let d = c .before .before in simp (toZ-ofZ, r-fits d, fmax-fits d
 sub-larger-2 : tie.Need-sub-larger-2
 sub-larger-2 c = let d = c .before .before in simp (toZ-ofZ, r-fits d, fmax-fits d, u-fits d, b-fits d, product-fits d, share-fits d, less-fits d) (first-fits d)
 
+abbrev at-base : tie.After-struct-told2 → tie.After-base
+at-base c = c .before .before .before .before
+
 mul-larger-3 : tie.Need-mul-larger-3
-mul-larger-3 c = let d = c .before .before .before .before in simp (toZ-ofZ, fmax-fits d) (fifth-fits d)
+mul-larger-3 c = let d = at-base c in simp (toZ-ofZ, fmax-fits d) (fifth-fits d)
 
 sub-larger-3 : tie.Need-sub-larger-3
-sub-larger-3 c = let d = c .before .before .before .before in simp (toZ-ofZ, fmax-fits d, b-fits d, fifth-fits d) (second-fits d)
+sub-larger-3 c = let d = at-base c in simp (toZ-ofZ, fmax-fits d, b-fits d, fifth-fits d) (second-fits d)
 
 returns : tie.Need-returns
 unfolding amrOf
 returns c =
-    let d = c .before .before .before .before .before .before in
+    let d = at-base (c .before .before) in
     let k1 : SFits w64 (c .before .larger .result) = sfits-of (c .before .larger .ok) in
     let k2 : SFits w64 (c .larger2 .result) = sfits-of (c .larger2 .ok) in
     let e1 : c .before .larger .result ≡ maxℤ (r d *ℤ fmax d *ℤ pos 10 -ℤ u d -ℤ b d) (fmax d *ℤ pos 20000 -ℤ b d) =

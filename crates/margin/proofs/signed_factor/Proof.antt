@@ -34,12 +34,15 @@ module _ (s : tie.Start) where
   apart : SFits w64 (from -ℤ to)
   apart = within-fits (within-sub from-in to-in) tt
 
+abbrev entry : tie.After-enum-told → tie.Start
+entry c = c .before .before .before .before
+
 sub-result : tie.Need-sub-result
-sub-result c = let s = c .before .before .before .before in simp (toZ-ofZ, within-fits (from-in s) tt, within-fits (to-in s) tt) (apart s)
+sub-result c = let s = entry c in simp (toZ-ofZ, within-fits (from-in s) tt, within-fits (to-in s) tt) (apart s)
 
 returns : tie.Need-returns
 returns c =
-    let s = c .before .before .before .before in
+    let s = entry c in
     simp (toZ-ofZ, within-fits (from-in s) tt, within-fits (to-in s) tt, apart s) (signed-without _ _ (c .enum-told .given .1))
 
 -- the two hubs' factors, and the sum up to each

@@ -16,21 +16,27 @@ use borrow.Author.Needs.{needs}
 use Rattle.reading.proofs.read_judged.Statement.{statement}
 use Rattle.reading.proofs.read_judged.Tie as tie
 
+abbrev entry : tie.After-enum-told → tie.Start
+entry c = c .before .before .before .before .before
+
+abbrev past-judge-room : tie.After-fill-arg4 → tie.After-enum-told
+past-judge-room c = c .before .before .before .before
+
 -- past the lengths: the front parts are as long as the header says, and so is the borders' part of the memory
 room : (c : tie.After-enum-told)
-    → let a = c .before .before .before .before .before .args in
+    → let a = entry c .args in
     Enough (a .places .header) (length (a .z .now)) (length (a .b .now)) (length (a .c .now)) (length (a .f .now))
 room c =
-    let start = c .before .before .before .before .before in
+    let start = entry c in
     let a = start .args in
     let h = a .places .header in
     room-passed h _ _ _ _ (passed h) h (sym (c .before .before .judge-room .ensures) ∙ ap (λ (j : Judgement). ruled j h) (c .enum-told .given .1)) .0
 
 exact : (c : tie.After-enum-told)
-    → let a = c .before .before .before .before .before .args in
+    → let a = entry c .args in
     Exact (front (lent (a .places .header) (a .z .now) (a .b .now) (a .c .now) (a .f .now)))
 exact c =
-    let start = c .before .before .before .before .before in
+    let start = entry c in
     let a = start .args in
     let r = c .before .before .judge-room in
     let given = lent (a .places .header) (a .z .now) (a .b .now) (a .c .now) (a .f .now) in
@@ -43,7 +49,7 @@ returns : tie.Need-returns
 returns c = room-refused _ _ _ _ _ _ (c .before .before .before .before .before .before .pre .1 .1) _ (c .before .before .before .judge-room .ensures) _ (c .before .w .given .1)
 
 slice-aggregate-fill : tie.Need-slice-aggregate-fill
-slice-aggregate-fill c = sym (memory-long (c .before .before .before .before .before .before))
+slice-aggregate-fill c = sym (memory-long (entry (c .before)))
 
 slice-relend-prefix-fill : tie.Need-slice-relend-prefix-fill
 slice-relend-prefix-fill c = room (c .before) .zones
@@ -61,27 +67,27 @@ slice-relend-prefix-fill-3 : tie.Need-slice-relend-prefix-fill-3
 slice-relend-prefix-fill-3 c = room (c .before .before .before) .rows
 
 slice-aggregate-fill-4 : tie.Need-slice-aggregate-fill-4
-slice-aggregate-fill-4 c = sym (exact (c .before .before .before .before) .rows-long)
+slice-aggregate-fill-4 c = sym (exact (past-judge-room c) .rows-long)
 
 mul-fill : tie.Need-mul-fill
-mul-fill c = omega (arith, factors-most _ (c .before .before .before .before .before .before .before .before .before .pre .0 .header-fits))
+mul-fill c = omega (arith, factors-most _ (entry (past-judge-room c) .pre .0 .header-fits))
 
 slice-relend-prefix-fill-4 : tie.Need-slice-relend-prefix-fill-4
-slice-relend-prefix-fill-4 c = room (c .before .before .before .before) .factors
+slice-relend-prefix-fill-4 c = room (past-judge-room c) .factors
 
 slice-aggregate-fill-5 : tie.Need-slice-aggregate-fill-5
-slice-aggregate-fill-5 c = sym (exact (c .before .before .before .before .before) .factors-long)
+slice-aggregate-fill-5 c = sym (exact (past-judge-room (c .before)) .factors-long)
 
 fill-requires : tie.Need-fill-requires
 fill-requires c κs =
-    let start = c .before .before .before .before .before .before .before .before .before .before in
-    let e = exact (c .before .before .before .before .before) in
+    let start = entry (past-judge-room (c .before)) in
+    let e = exact (past-judge-room (c .before)) in
     (start .pre .0, (memory-long start ∙ sym (e .borders-long), e))
 
 returns-2 : tie.Need-returns-2
 returns-2 c =
     let told = c .before .before .before .before .before .before .before .before .before .before in
-    front-filled _ _ _ _ _ _ (told .before .before .before .before .before .pre .1 .1) _ (told .before .before .judge-room .ensures) (told .enum-told .given .1) _ _ _ _ (c .before .before .before .before .fill .ensures)
+    front-filled _ _ _ _ _ _ (entry told .pre .1 .1) _ (told .before .before .judge-room .ensures) (told .enum-told .given .1) _ _ _ _ (c .before .before .before .before .fill .ensures)
 
 pub read-judged-spec : {M : Type 1} → statement M
 read-judged-spec =

@@ -19,36 +19,39 @@ abbrev μ-loop : tie.MeasureT-loop
 loop-holds : tie.Need-loop-holds Inv-loop μ-loop
 loop-holds c = sorting-none _ _ _ _
 
+abbrev entry-from-loop : tie.In-loop Inv-loop μ-loop → tie.Start Inv-loop μ-loop
+entry-from-loop c = c .before .before .before .before .before .before .before .before
+
 row-parts-requires : tie.Need-row-parts-requires Inv-loop μ-loop
 row-parts-requires c κs =
-    let entry = c .before .before .before .before .before .before .before .before in
+    let entry = entry-from-loop c in
     let q = entry .pre in
     ((q .0, omega (arith, q .1 .1)), sort-partable (q .1 .0) _ (omega (arith, q .1 .1)))
 
 mul-is-near : tie.Need-mul-is-near Inv-loop μ-loop
 mul-is-near c =
-    let entry = c .before .before .before .before .before .before .before .before .before in
+    let entry = entry-from-loop (c .before) in
     omega (arith, entry .pre .1 .0 .ready .margins, entry .pre .1 .1)
 
 shared-slice-read-is-near : tie.Need-shared-slice-read-is-near Inv-loop μ-loop
 shared-slice-read-is-near c =
-    let entry = c .before .before .before .before .before .before .before .before .before .before in
+    let entry = entry-from-loop (c .before .before) in
     omega (arith, entry .pre .1 .0 .ready .margins, entry .pre .1 .1)
 
 mul-is-near-2 : tie.Need-mul-is-near-2 Inv-loop μ-loop
 mul-is-near-2 c =
-    let entry = c .before .before .before .before .before .before .before .before .before .before in
+    let entry = entry-from-loop (c .before .before) in
     omega (arith, entry .pre .1 .0 .ready .margins, entry .pre .1 .1)
 
 shared-slice-read-is-near-2 : tie.Need-shared-slice-read-is-near-2 Inv-loop μ-loop
 shared-slice-read-is-near-2 c =
-    let entry = c .before .before .before .before .before .before .before .before .before .before .before in
+    let entry = entry-from-loop (c .before .before .before) in
     omega (arith, ready-long (entry .pre .1 .0 .ready), entry .pre .1 .1)
 
 is-near-requires : tie.Need-is-near-requires Inv-loop μ-loop
 is-near-requires c κs =
     let at-row-parts = c .before .before in
-    let entry = at-row-parts .before .before .before .before .before .before .before .before .before in
+    let entry = entry-from-loop (at-row-parts .before) in
     let q = entry .pre .1 in
     let e = at-row-parts .row-parts .ensures in
     sort-most (q .0) _ (omega (arith, q .1)) _ _ (e .1) (e .0)

@@ -10,9 +10,12 @@ returns c =
     let entry = c .before .before .before .before .before .before .before .before in
     record { waiting = entry .pre .1; some = c .if1 .taken; same = refl }
 
+abbrev entry-from-settle-arg3 : tie.After-settle-arg3 → tie.Start
+entry-from-settle-arg3 c = c .before .before .before .before .before .before .before .before .before .before .before
+
 settle-requires : tie.Need-settle-requires
 settle-requires c κs =
-    let entry = c .before .before .before .before .before .before .before .before .before .before .before in
+    let entry = entry-from-settle-arg3 c in
     (entry .pre .0, waiting-settleable (entry .pre .1))
 
 clear-requires : tie.Need-clear-requires
@@ -27,7 +30,7 @@ find-near-requires : tie.Need-find-near-requires
 find-near-requires c κs =
     let at-keep-rising = c .before .before .before .before .before in
     let at-settle = at-keep-rising .before .before .before .before .before .before .before .before in
-    let entry = at-settle .before .before .before .before .before .before .before .before .before .before .before .before in
+    let entry = entry-from-settle-arg3 (at-settle .before) in
     let q = entry .pre in
     (q .0, (block-sortable (q .1) (at-settle .settle .ensures) (at-keep-rising .keep-rising .ensures), q .1 .room))
 
@@ -55,7 +58,7 @@ returns-2 c =
     let at-keep-rising = at-find-near .before .before .before .before .before .before in
     let at-clear = at-keep-rising .before .before .before .before in
     let at-settle = at-clear .before .before .before .before in
-    let entry = at-settle .before .before .before .before .before .before .before .before .before .before .before .before in
+    let entry = entry-from-settle-arg3 (at-settle .before) in
     let q = entry .pre .1 in
     let es = at-settle .settle .ensures in
     let k = at-keep-rising .keep-rising .ensures in

@@ -17,16 +17,19 @@ abbrev μ-loop : tie.MeasureT-loop
 loop-holds : tie.Need-loop-holds Inv-loop μ-loop
 loop-holds c = filled-none _ _ _
 
+abbrev entry-from-loop : tie.At-loop Inv-loop μ-loop → tie.Start Inv-loop μ-loop
+entry-from-loop c = c .before .before .before .before .before
+
 slice-read-old : tie.Need-slice-read-old Inv-loop μ-loop
 slice-read-old c =
     let at-loop = c .before .before in
-    let entry = at-loop .before .before .before .before .before in
+    let entry = entry-from-loop at-loop in
     omega (arith, at-loop .loop .inv .as-long, entry .pre .1 .margins)
 
 row-parts-requires : tie.Need-row-parts-requires Inv-loop μ-loop
 row-parts-requires c κs =
     let at-loop = c .before .before in
-    let entry = at-loop .before .before .before .before .before in
+    let entry = entry-from-loop at-loop in
     let q = entry .pre in
     ((q .0, omega arith), settle-partable (q .1) (at-loop .loop .inv) (omega arith) (omega (arith, c .slice-known2 .given (at-loop .loop .i))))
 
@@ -34,20 +37,20 @@ sub-margins : tie.Need-sub-margins Inv-loop μ-loop
 sub-margins c =
     let at-row-parts = c .before in
     let at-loop = at-row-parts .before .before .before in
-    let entry = at-loop .before .before .before .before .before in
+    let entry = entry-from-loop at-loop in
     omega (arith, settle-loss (entry .pre .1) (at-loop .loop .inv) (omega arith) _ (at-row-parts .row-parts .ensures .0))
 
 slice-write-margins : tie.Need-slice-write-margins Inv-loop μ-loop
 slice-write-margins c =
     let at-loop = c .before .before .before .before in
-    let entry = at-loop .before .before .before .before .before in
+    let entry = entry-from-loop at-loop in
     omega (arith, at-loop .loop .inv .as-long, entry .pre .1 .margins)
 
 loop-again : tie.Need-loop-again Inv-loop μ-loop
 loop-again c =
     let at-row-parts = c .before in
     let at-loop = at-row-parts .before .before .before in
-    let entry = at-loop .before .before .before .before .before in
+    let entry = entry-from-loop at-loop in
     settle-more (entry .pre .1) (at-loop .loop .inv) (omega arith) _ (at-row-parts .row-parts .ensures .0)
 
 same-length : tie.Need-same-length Inv-loop μ-loop
@@ -56,7 +59,7 @@ same-length c = c .before .loop .inv .as-long
 returns : tie.Need-returns Inv-loop μ-loop
 returns c =
     let at-loop = c .before in
-    let entry = at-loop .before .before .before .before .before in
+    let entry = entry-from-loop at-loop in
     filled-all (at-loop .loop .inv) (omega arith) (entry .pre .1 .margins)
 
 pub settle-spec : {M : Type 1} → statement M

@@ -14,24 +14,30 @@ Inv-loop rows borders p ns margins gained rising live near count bounds₀ j₀ 
 abbrev μ-loop : tie.MeasureT-loop
 μ-loop rows borders p ns margins gained rising live near count bounds₀ j₀ j-end bounds j = j-end - j
 
+abbrev entry-from-slice-known : tie.After-slice-known Inv-loop μ-loop → tie.Start Inv-loop μ-loop
+entry-from-slice-known c = c .before .before .before .before .before .before .before
+
+abbrev entry-from-loop : tie.At-loop Inv-loop μ-loop → tie.Start Inv-loop μ-loop
+entry-from-loop c = entry-from-slice-known (c .before)
+
 sub-j-end : tie.Need-sub-j-end Inv-loop μ-loop
 sub-j-end c =
-    let entry = c .before .before .before .before .before .before .before in
+    let entry = entry-from-slice-known c in
     omega (arith, entry .pre .1 .waiting .room)
 
 add-j-end : tie.Need-add-j-end Inv-loop μ-loop
 add-j-end c =
-    let entry = c .before .before .before .before .before .before .before in
+    let entry = entry-from-slice-known c in
     omega (arith, entry .pre .1 .waiting .room, entry .pre .1 .waiting .watched .few)
 
 loop-holds : tie.Need-loop-holds Inv-loop μ-loop
 loop-holds c =
-    let entry = c .before .before .before .before .before .before .before in
+    let entry = entry-from-slice-known c in
     walking-none (entry .pre .1)
 
 near-row-requires : tie.Need-near-row-requires Inv-loop μ-loop
 near-row-requires c κs =
-    let entry = c .before .before .before .before .before .before .before .before .before in
+    let entry = entry-from-loop (c .before) in
     let q = entry .pre .1 .waiting in
     (q .watched .few, omega (arith, q .room, q .watched .few))
 
@@ -39,7 +45,7 @@ row-parts-requires : tie.Need-row-parts-requires Inv-loop μ-loop
 row-parts-requires c κs =
     let at-near-row = c .before in
     let at-loop = at-near-row .before .before in
-    let entry = at-loop .before .before .before .before .before .before .before .before in
+    let entry = entry-from-loop at-loop in
     let q = entry .pre in
     let u = at-loop .loop .inv in
     let e = at-near-row .near-row .ensures in
@@ -49,14 +55,14 @@ mul-margin : tie.Need-mul-margin Inv-loop μ-loop
 mul-margin c =
     let at-near-row = c .before .before in
     let at-loop = at-near-row .before .before in
-    let entry = at-loop .before .before .before .before .before .before .before .before in
+    let entry = entry-from-loop at-loop in
     omega (arith, walk-row (entry .pre .1) (at-loop .loop .inv) (omega arith) _ (at-near-row .near-row .ensures), entry .pre .1 .waiting .ready .margins)
 
 shared-slice-read-margin : tie.Need-shared-slice-read-margin Inv-loop μ-loop
 shared-slice-read-margin c =
     let at-near-row = c .before .before .before in
     let at-loop = at-near-row .before .before in
-    let entry = at-loop .before .before .before .before .before .before .before .before in
+    let entry = entry-from-loop at-loop in
     omega (arith, walk-row (entry .pre .1) (at-loop .loop .inv) (omega arith) _ (at-near-row .near-row .ensures), entry .pre .1 .waiting .ready .margins)
 
 sub-margin : tie.Need-sub-margin Inv-loop μ-loop
@@ -64,21 +70,21 @@ sub-margin c =
     let at-row-parts = c .before .before in
     let at-near-row = at-row-parts .before .before in
     let at-loop = at-near-row .before .before in
-    let entry = at-loop .before .before .before .before .before .before .before .before in
+    let entry = entry-from-loop at-loop in
     omega (arith, walk-loss (entry .pre .1) (at-loop .loop .inv) (omega arith) _ (at-near-row .near-row .ensures) _ (at-row-parts .row-parts .ensures .0))
 
 mul-lower-if-tight : tie.Need-mul-lower-if-tight Inv-loop μ-loop
 mul-lower-if-tight c =
     let at-near-row = c .before .before .before .before in
     let at-loop = at-near-row .before .before in
-    let entry = at-loop .before .before .before .before .before .before .before .before in
+    let entry = entry-from-loop at-loop in
     omega (arith, walk-row (entry .pre .1) (at-loop .loop .inv) (omega arith) _ (at-near-row .near-row .ensures), entry .pre .1 .waiting .ready .margins)
 
 shared-slice-read-lower-if-tight : tie.Need-shared-slice-read-lower-if-tight Inv-loop μ-loop
 shared-slice-read-lower-if-tight c =
     let at-near-row = c .before .before .before .before .before in
     let at-loop = at-near-row .before .before in
-    let entry = at-loop .before .before .before .before .before .before .before .before in
+    let entry = entry-from-loop at-loop in
     omega (arith, walk-row (entry .pre .1) (at-loop .loop .inv) (omega arith) _ (at-near-row .near-row .ensures), ready-long (entry .pre .1 .waiting .ready))
 
 lower-if-tight-requires : tie.Need-lower-if-tight-requires Inv-loop μ-loop
@@ -86,7 +92,7 @@ lower-if-tight-requires c κs =
     let at-row-parts = c .before .before .before .before in
     let at-near-row = at-row-parts .before .before in
     let at-loop = at-near-row .before .before in
-    let entry = at-loop .before .before .before .before .before .before .before .before in
+    let entry = entry-from-loop at-loop in
     let q = entry .pre in
     let u = at-loop .loop .inv in
     let e = at-near-row .near-row .ensures in
@@ -104,19 +110,19 @@ loop-again c =
     let at-row-parts = at-lower-if-tight .before .before .before .before .before in
     let at-near-row = at-row-parts .before .before in
     let at-loop = at-near-row .before .before in
-    let entry = at-loop .before .before .before .before .before .before .before .before in
+    let entry = entry-from-loop at-loop in
     walking-more (entry .pre .1) (at-loop .loop .inv) (omega arith) _ (at-near-row .near-row .ensures) _ _ refl (at-row-parts .row-parts .ensures .0) _ (at-lower-if-tight .lower-if-tight .ensures)
 
 same-length : tie.Need-same-length Inv-loop μ-loop
 same-length c =
     let at-loop = c .before in
-    let entry = at-loop .before .before .before .before .before .before .before .before in
+    let entry = entry-from-loop at-loop in
     at-loop .loop .inv .bounded .long ∙ sym (walk-long (entry .pre .1))
 
 returns : tie.Need-returns Inv-loop μ-loop
 returns c =
     let at-loop = c .before in
-    let entry = at-loop .before .before .before .before .before .before .before .before in
+    let entry = entry-from-loop at-loop in
     walking-all (entry .pre .1) (at-loop .loop .inv) (omega arith)
 
 pub walk-near-spec : {M : Type 1} → statement M

@@ -34,60 +34,78 @@ loop-holds c =
     let e = at-begin .begin .ensures in
     found-start (q .0) (q .1 .1 .1) _ (q .1 .0 .0) (at-clear .clear .ensures) (e .0) (e .1)
 
+abbrev entry-from-loop : tie.At-loop Inv-loop μ-loop → tie.Start Inv-loop μ-loop
+entry-from-loop c = c .before .before .before .before .before .before .before .before .before .before .before .before .before .before .before .before .before .before .before .before
+
+abbrev at-loop-from-renew : tie.After-renew Inv-loop μ-loop → tie.At-loop Inv-loop μ-loop
+at-loop-from-renew c = c .before .before .before .before .before .before
+
+abbrev at-renew-from-rises : tie.After-rises Inv-loop μ-loop → tie.After-renew Inv-loop μ-loop
+at-renew-from-rises c = c .before .before .before .before .before .before .before .before .before .before .before
+
+abbrev at-renew-from-settle-arg3 : tie.After-settle-arg3 Inv-loop μ-loop → tie.After-renew Inv-loop μ-loop
+at-renew-from-settle-arg3 c = at-renew-from-rises (c .before .before .before .before)
+
+abbrev at-rises-from-rise : tie.After-rise Inv-loop μ-loop → tie.After-rises Inv-loop μ-loop
+at-rises-from-rise c = c .before .before .before .before
+
+abbrev at-renew-from-rise : tie.After-rise-arg3 Inv-loop μ-loop → tie.After-renew Inv-loop μ-loop
+at-renew-from-rise c = at-renew-from-rises (at-rises-from-rise (c .before .before .before))
+
 renew-requires : tie.Need-renew-requires Inv-loop μ-loop
 renew-requires c κs =
     let at-loop = c .before .before .before .before .before in
-    let entry = at-loop .before .before .before .before .before .before .before .before .before .before .before .before .before .before .before .before .before .before .before .before in
+    let entry = entry-from-loop at-loop in
     (entry .pre .0, at-loop .loop .inv .waiting)
 
 rises-requires : tie.Need-rises-requires Inv-loop μ-loop
 rises-requires c κs =
     let at-renew = c .before .before .before .before .before .before .before .before .before .before in
-    let at-loop = at-renew .before .before .before .before .before .before in
+    let at-loop = at-loop-from-renew at-renew in
     let u = found-renewed (at-loop .loop .inv) (at-renew .renew .ensures) (at-renew .renew .kept .1 .1 .1 .1 .1 .1 .1 .1 .1 .1 .0) (at-renew .renew .kept .1 .1 .1 .1 .1 .1 .1 .1 .1 .1 .1 .0) in
     found-listed u
 
 settle-requires : tie.Need-settle-requires Inv-loop μ-loop
 settle-requires c κs =
-    let at-renew = c .before .before .before .before .before .before .before .before .before .before .before .before .before .before .before in
-    let entry = at-renew .before .before .before .before .before .before .before .before .before .before .before .before .before .before .before .before .before .before .before .before .before .before .before .before .before .before in
+    let at-renew = at-renew-from-settle-arg3 c in
+    let entry = entry-from-loop (at-loop-from-renew at-renew) in
     (entry .pre .0, waiting-settleable (at-renew .renew .ensures .waiting))
 
 rise-requires : tie.Need-rise-requires Inv-loop μ-loop
 rise-requires c κs =
-    let at-renew = c .before .before .before .before .before .before .before .before .before .before .before .before .before .before in
-    let at-loop = at-renew .before .before .before .before .before .before in
+    let at-renew = at-renew-from-rises (c .before .before .before) in
+    let at-loop = at-loop-from-renew at-renew in
     let u = found-renewed (at-loop .loop .inv) (at-renew .renew .ensures) (at-renew .renew .kept .1 .1 .1 .1 .1 .1 .1 .1 .1 .1 .0) (at-renew .renew .kept .1 .1 .1 .1 .1 .1 .1 .1 .1 .1 .1 .0) in
     found-gains u
 
 array-borrow-prefix-x : tie.Need-array-borrow-prefix-x Inv-loop μ-loop
 array-borrow-prefix-x c =
-    let at-loop = c .before .before .before .before .before .before .before .before .before .before .before .before .before .before .before .before .before .before .before .before .before .before .before .before in
-    let entry = at-loop .before .before .before .before .before .before .before .before .before .before .before .before .before .before .before .before .before .before .before .before in
+    let at-loop = at-loop-from-renew (at-renew-from-rise c) in
+    let entry = entry-from-loop at-loop in
     omega (arith, entry .pre .1 .0 .borders, at-loop .loop .inv .head .exchanges)
 
 slice-aggregate-rise : tie.Need-slice-aggregate-rise Inv-loop μ-loop
 slice-aggregate-rise c =
-    let at-renew = c .before .before .before .before .before .before .before .before .before .before .before .before .before .before .before .before .before .before .before in
-    let at-loop = at-renew .before .before .before .before .before .before in
-    let entry = at-loop .before .before .before .before .before .before .before .before .before .before .before .before .before .before .before .before .before .before .before .before in
+    let at-renew = at-renew-from-rise (c .before) in
+    let at-loop = at-loop-from-renew at-renew in
+    let entry = entry-from-loop at-loop in
     let u = found-renewed (at-loop .loop .inv) (at-renew .renew .ensures) (at-renew .renew .kept .1 .1 .1 .1 .1 .1 .1 .1 .1 .1 .0) (at-renew .renew .kept .1 .1 .1 .1 .1 .1 .1 .1 .1 .1 .1 .0) in
     sym (front-long (found-turn u (entry .pre .1 .0)))
 
 rise-requires-2 : tie.Need-rise-requires-2 Inv-loop μ-loop
 rise-requires-2 c κs =
-    let at-renew = c .before .before .before .before .before .before .before .before .before .before .before .before .before .before .before .before .before .before .before in
-    let at-loop = at-renew .before .before .before .before .before .before in
-    let entry = at-loop .before .before .before .before .before .before .before .before .before .before .before .before .before .before .before .before .before .before .before .before in
+    let at-renew = at-renew-from-rise (c .before) in
+    let at-loop = at-loop-from-renew at-renew in
+    let entry = entry-from-loop at-loop in
     let u = found-renewed (at-loop .loop .inv) (at-renew .renew .ensures) (at-renew .renew .kept .1 .1 .1 .1 .1 .1 .1 .1 .1 .1 .0) (at-renew .renew .kept .1 .1 .1 .1 .1 .1 .1 .1 .1 .1 .1 .0) in
     turn-risable (found-turn u (entry .pre .1 .0))
 
 walk-near-requires : tie.Need-walk-near-requires Inv-loop μ-loop
 walk-near-requires c κs =
     let at-rise = c .before .before .before .before .before .before .before .before .before .before .before in
-    let at-renew = at-rise .before .before .before .before .before .before .before .before .before .before .before .before .before .before .before in
-    let at-loop = at-renew .before .before .before .before .before .before in
-    let entry = at-loop .before .before .before .before .before .before .before .before .before .before .before .before .before .before .before .before .before .before .before .before in
+    let at-renew = at-renew-from-rises (at-rises-from-rise at-rise) in
+    let at-loop = at-loop-from-renew at-renew in
+    let entry = entry-from-loop at-loop in
     let u = found-renewed (at-loop .loop .inv) (at-renew .renew .ensures) (at-renew .renew .kept .1 .1 .1 .1 .1 .1 .1 .1 .1 .1 .0) (at-renew .renew .kept .1 .1 .1 .1 .1 .1 .1 .1 .1 .1 .1 .0) in
     (entry .pre .0, found-walkable u (at-renew .renew .ensures .some) (at-rise .rise .ensures))
 
@@ -95,9 +113,9 @@ add-done : tie.Need-add-done Inv-loop μ-loop
 add-done c =
     let at-if1 = c .before .before .before .before .before .before .before .before .before .before .before .before .before .before .before .before .before in
     let at-rises = at-if1 .before in
-    let at-renew = at-rises .before .before .before .before .before .before .before .before .before .before .before in
-    let at-loop = at-renew .before .before .before .before .before .before in
-    let entry = at-loop .before .before .before .before .before .before .before .before .before .before .before .before .before .before .before .before .before .before .before .before in
+    let at-renew = at-renew-from-rises at-rises in
+    let at-loop = at-loop-from-renew at-renew in
+    let entry = entry-from-loop at-loop in
     let u = found-renewed (at-loop .loop .inv) (at-renew .renew .ensures) (at-renew .renew .kept .1 .1 .1 .1 .1 .1 .1 .1 .1 .1 .0) (at-renew .renew .kept .1 .1 .1 .1 .1 .1 .1 .1 .1 .1 .1 .0) in
     let h = found-some u (at-rises .rises .ensures) (at-if1 .if1 .left) in
     omega (arith, turn-few (found-turn u (entry .pre .1 .0)) (λ z. omega arith))
@@ -113,9 +131,9 @@ loop-less c =
     let at-rise = at-rise2 .before .before .before .before .before in
     let at-if1 = at-rise .before .before .before in
     let at-rises = at-if1 .before in
-    let at-renew = at-rises .before .before .before .before .before .before .before .before .before .before .before in
-    let at-loop = at-renew .before .before .before .before .before .before in
-    let entry = at-loop .before .before .before .before .before .before .before .before .before .before .before .before .before .before .before .before .before .before .before .before in
+    let at-renew = at-renew-from-rises at-rises in
+    let at-loop = at-loop-from-renew at-renew in
+    let entry = entry-from-loop at-loop in
     let u = found-renewed (at-loop .loop .inv) (at-renew .renew .ensures) (at-renew .renew .kept .1 .1 .1 .1 .1 .1 .1 .1 .1 .1 .0) (at-renew .renew .kept .1 .1 .1 .1 .1 .1 .1 .1 .1 .1 .1 .0) in
     let h = found-some u (at-rises .rises .ensures) (at-if1 .if1 .left) in
     found-less u (at-renew .renew .ensures .some) (at-rise .rise .ensures) (entry .pre .1 .0) h (at-rise2 .rise2 .ensures) (at-renew .renew .ensures .same)
@@ -127,9 +145,9 @@ loop-again c =
     let at-rise = at-rise2 .before .before .before .before .before in
     let at-if1 = at-rise .before .before .before in
     let at-rises = at-if1 .before in
-    let at-renew = at-rises .before .before .before .before .before .before .before .before .before .before .before in
-    let at-loop = at-renew .before .before .before .before .before .before in
-    let entry = at-loop .before .before .before .before .before .before .before .before .before .before .before .before .before .before .before .before .before .before .before .before in
+    let at-renew = at-renew-from-rises at-rises in
+    let at-loop = at-loop-from-renew at-renew in
+    let entry = entry-from-loop at-loop in
     let u = found-renewed (at-loop .loop .inv) (at-renew .renew .ensures) (at-renew .renew .kept .1 .1 .1 .1 .1 .1 .1 .1 .1 .1 .0) (at-renew .renew .kept .1 .1 .1 .1 .1 .1 .1 .1 .1 .1 .1 .0) in
     let h = found-some u (at-rises .rises .ensures) (at-if1 .if1 .left) in
     found-next u (at-renew .renew .ensures .some) (at-rise .rise .ensures) (entry .pre .1 .0) h (at-rise2 .rise2 .ensures) (at-walk-near .walk-near .ensures) _ (omega (arith, at-renew .renew .ensures .some))
@@ -137,34 +155,34 @@ loop-again c =
 same-length : tie.Need-same-length Inv-loop μ-loop
 same-length c =
     let at-settle = c .before .before in
-    let at-renew = at-settle .before .before .before .before .before .before .before .before .before .before .before .before .before .before .before .before in
-    let entry = at-renew .before .before .before .before .before .before .before .before .before .before .before .before .before .before .before .before .before .before .before .before .before .before .before .before .before .before in
+    let at-renew = at-renew-from-settle-arg3 (at-settle .before) in
+    let entry = entry-from-loop (at-loop-from-renew at-renew) in
     at-settle .settle .kept .1 .1 .1 .1 .1 .1 .0 ∙ at-renew .renew .ensures .waiting .ready .margins ∙ sym (entry .pre .1 .0 .ready .margins)
 
 same-length-2 : tie.Need-same-length-2 Inv-loop μ-loop
 same-length-2 c =
-    let at-renew = c .before .before .before .before .before .before .before .before .before .before .before .before .before .before .before .before .before .before in
-    let entry = at-renew .before .before .before .before .before .before .before .before .before .before .before .before .before .before .before .before .before .before .before .before .before .before .before .before .before .before in
+    let at-renew = at-renew-from-settle-arg3 (c .before .before .before) in
+    let entry = entry-from-loop (at-loop-from-renew at-renew) in
     at-renew .renew .ensures .waiting .gained ∙ sym (entry .pre .1 .1 .0 .0)
 
 same-length-3 : tie.Need-same-length-3 Inv-loop μ-loop
 same-length-3 c =
-    let at-loop = c .before .before .before .before .before .before .before .before .before .before .before .before .before .before .before .before .before .before .before .before .before .before .before .before in
-    let entry = at-loop .before .before .before .before .before .before .before .before .before .before .before .before .before .before .before .before .before .before .before .before in
+    let at-loop = at-loop-from-renew (at-renew-from-settle-arg3 (c .before .before .before)) in
+    let entry = entry-from-loop at-loop in
     found-long (at-loop .loop .inv) ∙ sym (entry .pre .1 .1 .0 .1)
 
 same-length-4 : tie.Need-same-length-4 Inv-loop μ-loop
 same-length-4 c =
-    let at-renew = c .before .before .before .before .before .before .before .before .before .before .before .before .before .before .before .before .before .before in
-    let at-loop = at-renew .before .before .before .before .before .before in
-    let entry = at-loop .before .before .before .before .before .before .before .before .before .before .before .before .before .before .before .before .before .before .before .before in
+    let at-renew = at-renew-from-settle-arg3 (c .before .before .before) in
+    let at-loop = at-loop-from-renew at-renew in
+    let entry = entry-from-loop at-loop in
     let u = found-renewed (at-loop .loop .inv) (at-renew .renew .ensures) (at-renew .renew .kept .1 .1 .1 .1 .1 .1 .1 .1 .1 .1 .0) (at-renew .renew .kept .1 .1 .1 .1 .1 .1 .1 .1 .1 .1 .1 .0) in
     u .room ∙ sym (entry .pre .1 .1 .1 .0)
 
 same-length-5 : tie.Need-same-length-5 Inv-loop μ-loop
 same-length-5 c =
-    let at-renew = c .before .before .before .before .before .before .before .before .before .before .before .before .before .before .before .before .before .before in
-    let at-loop = at-renew .before .before .before .before .before .before in
+    let at-renew = at-renew-from-settle-arg3 (c .before .before .before) in
+    let at-loop = at-loop-from-renew at-renew in
     let u = found-renewed (at-loop .loop .inv) (at-renew .renew .ensures) (at-renew .renew .kept .1 .1 .1 .1 .1 .1 .1 .1 .1 .1 .0) (at-renew .renew .kept .1 .1 .1 .1 .1 .1 .1 .1 .1 .1 .1 .0) in
     u .places
 
@@ -173,9 +191,9 @@ returns c =
     let at-settle = c .before .before in
     let at-if1 = at-settle .before .before .before .before in
     let at-rises = at-if1 .before in
-    let at-renew = at-rises .before .before .before .before .before .before .before .before .before .before .before in
-    let at-loop = at-renew .before .before .before .before .before .before in
-    let entry = at-loop .before .before .before .before .before .before .before .before .before .before .before .before .before .before .before .before .before .before .before .before in
+    let at-renew = at-renew-from-rises at-rises in
+    let at-loop = at-loop-from-renew at-renew in
+    let entry = entry-from-loop at-loop in
     let u = found-renewed (at-loop .loop .inv) (at-renew .renew .ensures) (at-renew .renew .kept .1 .1 .1 .1 .1 .1 .1 .1 .1 .1 .0) (at-renew .renew .kept .1 .1 .1 .1 .1 .1 .1 .1 .1 .1 .1 .0) in
     found-end u (entry .pre .1 .0) (found-none u (at-rises .rises .ensures) (at-if1 .if1 .taken)) _ (at-settle .settle .ensures)
 

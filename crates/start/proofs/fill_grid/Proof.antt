@@ -48,10 +48,10 @@ module _ (c : tie.After-row-factors Inv-loop2 μ-loop2 Inv-loop μ-loop) where
   entry = c .before .before .before .before .before .before
 
 mul-cell : tie.Need-mul-cell Inv-loop2 μ-loop2 Inv-loop μ-loop
-mul-cell c = omega (arith, c .before .before .before .before .before .before .before .before .pre .1 .1 .0)
+mul-cell c = omega (arith, entry (c .before .before) .pre .1 .1 .0)
 
 shared-slice-copy-out-cell : tie.Need-shared-slice-copy-out-cell Inv-loop2 μ-loop2 Inv-loop μ-loop
-shared-slice-copy-out-cell c = omega (arith, c .before .before .before .before .before .before .before .before .pre .1 .1 .0)
+shared-slice-copy-out-cell c = omega (arith, entry (c .before .before) .pre .1 .1 .0)
 
 cell-requires : tie.Need-cell-requires Inv-loop2 μ-loop2 Inv-loop μ-loop
 cell-requires c κs =

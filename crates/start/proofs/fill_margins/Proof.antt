@@ -21,21 +21,24 @@ abbrev μ-loop : tie.MeasureT-loop
 loop-holds : tie.Need-loop-holds Inv-loop μ-loop
 loop-holds c = filled-none _ _ _
 
+abbrev entry : tie.After-shared-slice-known2 Inv-loop μ-loop → tie.Start Inv-loop μ-loop
+entry c = c .before .before .before .before .before
+
 mul-start : tie.Need-mul-start Inv-loop μ-loop
-mul-start c = omega (arith, c .before .before .before .before .before .pre .0)
+mul-start c = omega (arith, entry c .pre .0)
 
 shared-slice-copy-out-start : tie.Need-shared-slice-copy-out-start Inv-loop μ-loop
-shared-slice-copy-out-start c = omega (arith, c .before .before .before .before .before .pre .0)
+shared-slice-copy-out-start c = omega (arith, entry c .pre .0)
 
 mul-margins : tie.Need-mul-margins Inv-loop μ-loop
-mul-margins c = omega (arith, c .before .before .before .before .loop .inv .as-long, c .before .before .before .before .before .before .before .pre .1)
+mul-margins c = omega (arith, c .before .before .before .before .loop .inv .as-long, entry (c .before .before) .pre .1)
 
 slice-write-margins : tie.Need-slice-write-margins Inv-loop μ-loop
-slice-write-margins c = omega (arith, c .before .before .before .before .loop .inv .as-long, c .before .before .before .before .before .before .before .pre .1)
+slice-write-margins c = omega (arith, c .before .before .before .before .loop .inv .as-long, entry (c .before .before) .pre .1)
 
 loop-again : tie.Need-loop-again Inv-loop μ-loop
 unfolding kept
-loop-again c = filled-more (c .before .before .before .before .loop .inv) _ (omega arith) (omega (arith, c .before .before .before .before .before .before .before .pre .1)) (rw (plain _ (c .before .start .given)) at (c .margin-of .ensures))
+loop-again c = filled-more (c .before .before .before .before .loop .inv) _ (omega arith) (omega (arith, entry (c .before .before) .pre .1)) (rw (plain _ (c .before .start .given)) at (c .margin-of .ensures))
 
 same-length : tie.Need-same-length Inv-loop μ-loop
 same-length c = c .before .loop .inv .as-long

@@ -16,30 +16,33 @@ returns : tie.Need-returns
 unfolding gridOf
 returns c = ap refused (c .no-row .ensures) ∙ none-kept _ _ _ (c .before .before .before .before .pre .1 .1 .1 .0) (sym (c .before .before .some-kept .ensures) ∙ not-true _ (c .before .if1 .taken))
 
+abbrev entry : tie.Else1 → tie.Start
+entry c = c .before .before .before
+
 -- past refusal 5
 some-row : (c : tie.Else1)
-    → let states = c .before .before .before .args .states .now in
+    → let states = entry c .args .states .now in
     someBelow (length states) (kept states) ≡ true
 some-row c = sym (c .before .some-kept .ensures) ∙ not-false _ (c .if1 .left)
 
 first-unlimited-requires : tie.Need-first-unlimited-requires
-first-unlimited-requires c κs = let q = c .before .before .before .pre in (q .0, (q .1 .0, (q .1 .1 .0, q .1 .1 .1 .0)))
+first-unlimited-requires c κs = let q = entry c .pre in (q .0, (q .1 .0, (q .1 .1 .0, q .1 .1 .1 .0)))
 
 returns-2 : tie.Need-returns-2
 unfolding gridOf
 returns-2 c =
     let past-5 = c .before .before .before .before .before in
-    ap refused (c .unlimited .ensures) ∙ border-free _ _ _ (past-5 .before .before .before .pre .1 .1 .1 .0) (some-row past-5) _ (sym (ap found (c .before .before .b .given .1)) ∙ c .before .before .before .before .first-unlimited .ensures)
+    ap refused (c .unlimited .ensures) ∙ border-free _ _ _ (entry past-5 .pre .1 .1 .1 .0) (some-row past-5) _ (sym (ap found (c .before .before .b .given .1)) ∙ c .before .before .before .before .first-unlimited .ensures)
 
 first-below-requires : tie.Need-first-below-requires
-first-below-requires c κs = let q = c .before .before .before .before .before .before .pre in q .1 .1 .1 .1 ∙ sym (q .1 .1 .1 .0)
+first-below-requires c κs = let q = entry (c .before .before .before) .pre in q .1 .1 .1 .1 ∙ sym (q .1 .1 .1 .0)
 
 returns-3 : tie.Need-returns-3
 unfolding gridOf
 returns-3 c =
     let past-6 = c .before .before .before .before .before in
     let past-5 = past-6 .before .before .before in
-    ap refused (c .below-zero .ensures) ∙ row-below _ _ _ (past-5 .before .before .before .pre .1 .1 .1 .0) (some-row past-5) (sym (ap found (past-6 .enum-told .given .1)) ∙ past-6 .before .before .first-unlimited .ensures) _
+    ap refused (c .below-zero .ensures) ∙ row-below _ _ _ (entry past-5 .pre .1 .1 .1 .0) (some-row past-5) (sym (ap found (past-6 .enum-told .given .1)) ∙ past-6 .before .before .first-unlimited .ensures) _
     (sym (ap found (c .before .before .i .given .1)) ∙ c .before .before .before .before .first-below .ensures)
 
 returns-4 : tie.Need-returns-4
@@ -47,7 +50,7 @@ unfolding gridOf
 returns-4 c =
     let past-6 = c .before .before .before in
     let past-5 = past-6 .before .before .before in
-    may-start _ _ _ (past-5 .before .before .before .pre .1 .1 .1 .0) (some-row past-5) (sym (ap found (past-6 .enum-told .given .1)) ∙ past-6 .before .before .first-unlimited .ensures)
+    may-start _ _ _ (entry past-5 .pre .1 .1 .1 .0) (some-row past-5) (sym (ap found (past-6 .enum-told .given .1)) ∙ past-6 .before .before .first-unlimited .ensures)
     (sym (ap found (c .enum-told2 .given .1)) ∙ c .before .before .first-below .ensures)
 
 pub judge-start-spec : {M : Type 1} → statement M

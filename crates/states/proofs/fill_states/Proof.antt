@@ -20,17 +20,20 @@ state-of-requires c κs =
     let start = c .before .before .before in
     (start .pre .0, (start .pre .1 .0, omega arith))
 
+abbrev entry : tie.After-state-of Inv-loop μ-loop → tie.Start Inv-loop μ-loop
+entry c = c .before .before .before .before
+
 mul-states : tie.Need-mul-states Inv-loop μ-loop
-mul-states c = omega (arith, c .before .before .loop .inv .as-long, c .before .before .before .before .pre .1 .1)
+mul-states c = omega (arith, c .before .before .loop .inv .as-long, entry c .pre .1 .1)
 
 slice-write-states : tie.Need-slice-write-states Inv-loop μ-loop
-slice-write-states c = omega (arith, c .before .before .loop .inv .as-long, c .before .before .before .before .pre .1 .1)
+slice-write-states c = omega (arith, c .before .before .loop .inv .as-long, entry c .pre .1 .1)
 
 add-i : tie.Need-add-i Inv-loop μ-loop
-add-i c = omega (arith, c .before .before .loop .inv .as-long, c .before .before .before .before .pre .1 .1)
+add-i c = omega (arith, c .before .before .loop .inv .as-long, entry c .pre .1 .1)
 
 loop-again : tie.Need-loop-again Inv-loop μ-loop
-loop-again c = filled-more (c .before .before .loop .inv) _ (omega arith) (omega (arith, c .before .before .before .before .pre .1 .1)) (c .state-of .ensures)
+loop-again c = filled-more (c .before .before .loop .inv) _ (omega arith) (omega (arith, entry c .pre .1 .1)) (c .state-of .ensures)
 
 same-length : tie.Need-same-length Inv-loop μ-loop
 same-length c = c .before .loop .inv .as-long

@@ -25,11 +25,14 @@ returns-2 c = ap refused (c .out-of-range2 .ensures) ∙ border-refused _ (c .be
 first-row-out-requires : tie.Need-first-row-out-requires
 first-row-out-requires c κs = exact-factors _ (c .before .before .before .before .before .before .before .pre)
 
+abbrev entry : tie.After-known-told3 → tie.Start
+entry c = c .before .before .before .before .before .before .before .before .before .before .before
+
 add-out-of-range-3 : tie.Need-add-out-of-range-3
-add-out-of-range-3 c = omega (arith, first-within _ _ (sym (ap found (c .before .i3 .given .1)) ∙ c .before .before .before .first-row-out .ensures), header-in _ (c .before .before .before .before .before .before .before .before .before .before .before .pre .header))
+add-out-of-range-3 c = omega (arith, first-within _ _ (sym (ap found (c .before .i3 .given .1)) ∙ c .before .before .before .first-row-out .ensures), header-in _ (entry c .pre .header))
 
 returns-3 : tie.Need-returns-3
-returns-3 c = ap refused (c .out-of-range3 .ensures) ∙ row-refused _ (c .before .before .before .before .before .before .before .before .before .before .before .before .pre) (sym (ap found (c .before .before .before .before .before .before .before .before .enum-told .given .1)) ∙ c .before .before .before .before .before .before .before .before .before .before .first-zone-out .ensures) (sym (ap found (c .before .before .before .before .before .enum-told2 .given .1)) ∙ c .before .before .before .before .before .before .before .first-border-out .ensures) _ (sym (ap found (c .before .before .i3 .given .1)) ∙ c .before .before .before .before .first-row-out .ensures)
+returns-3 c = ap refused (c .out-of-range3 .ensures) ∙ row-refused _ (entry (c .before) .pre) (sym (ap found (c .before .before .before .before .before .before .before .before .enum-told .given .1)) ∙ c .before .before .before .before .before .before .before .before .before .before .first-zone-out .ensures) (sym (ap found (c .before .before .before .before .before .enum-told2 .given .1)) ∙ c .before .before .before .before .before .before .before .first-border-out .ensures) _ (sym (ap found (c .before .before .i3 .given .1)) ∙ c .before .before .before .before .first-row-out .ensures)
 
 returns-4 : tie.Need-returns-4
 returns-4 c = ap refused (c .given-twice .ensures) ∙ twice-refused _ (c .before .before .before .before .before .before .before .before .before .before .before .before .before .before .before .pre) (sym (ap found (c .before .before .before .before .before .before .before .before .before .before .before .enum-told .given .1)) ∙ c .before .before .before .before .before .before .before .before .before .before .before .before .before .first-zone-out .ensures) (sym (ap found (c .before .before .before .before .before .before .before .before .enum-told2 .given .1)) ∙ c .before .before .before .before .before .before .before .before .before .before .first-border-out .ensures) (sym (ap found (c .before .before .before .before .before .enum-told3 .given .1)) ∙ c .before .before .before .before .before .before .before .first-row-out .ensures) _ (sym (ap found (c .before .before .i4 .given .1)) ∙ c .before .before .before .before .first-twice .ensures)

@@ -8,16 +8,19 @@ use Rattle.walk.proofs.begin.Tie as tie
 list-all-requires : tie.Need-list-all-requires
 list-all-requires c κs = tt
 
+abbrev entry : tie.After-list-all → tie.Start
+entry c = c .before .before .before .before .before .before .before
+
 first-bounds-requires : tie.Need-first-bounds-requires
 first-bounds-requires c κs =
-    let q = c .before .before .before .before .before .before .before .before .before .before .pre in
+    let q = entry (c .before .before .before) .pre in
     (q .0, (q .1 .0 .margins, q .1 .1 .1))
 
 first-raises-requires : tie.Need-first-raises-requires
 first-raises-requires c κs =
     let at-first-bounds = c .before .before .before .before in
     let at-list-all = at-first-bounds .before .before .before .before in
-    let q = at-list-all .before .before .before .before .before .before .before .pre in
+    let q = entry at-list-all .pre in
     (q .0, (q .1 .0, (at-list-all .list-all .ensures ∙ ap (λ (k : ℕ). table k (λ (b : ℕ). b)) (q .1 .1 .0), (at-first-bounds .first-bounds .kept .1 .1 .1 .1 .0 ∙ q .1 .1 .1, at-first-bounds .first-bounds .ensures))))
 
 same-length : tie.Need-same-length
@@ -35,7 +38,7 @@ returns : tie.Need-returns
 returns c =
     let at-first-raises = c .before .before in
     let at-list-all = at-first-raises .before .before .before .before .before .before .before .before .before in
-    let q = at-list-all .before .before .before .before .before .before .before .pre in
+    let q = entry at-list-all .pre in
     (at-list-all .list-all .ensures ∙ ap (λ (k : ℕ). table k (λ (b : ℕ). b)) (q .1 .1 .0), at-first-raises .first-raises .ensures)
 
 pub begin-spec : {M : Type 1} → statement M

@@ -20,14 +20,17 @@ loop-holds c =
     let q = c .before .before .before .before .before .pre .1 .1 .1 in
     bounded-none _ _ _ _ _ (q .0) (q .1)
 
+abbrev entry-from-loop : tie.At-loop Inv-loop μ-loop → tie.Start Inv-loop μ-loop
+entry-from-loop c = c .before .before .before .before .before .before
+
 shared-slice-read-share-of : tie.Need-shared-slice-read-share-of Inv-loop μ-loop
 shared-slice-read-share-of c =
-    let entry = c .before .before .before .before .before .before .before .before in
+    let entry = entry-from-loop (c .before .before) in
     omega (arith, entry .pre .1 .0 .margins)
 
 shared-slice-read-share-of-2 : tie.Need-shared-slice-read-share-of-2 Inv-loop μ-loop
 shared-slice-read-share-of-2 c =
-    let entry = c .before .before .before .before .before .before .before .before .before in
+    let entry = entry-from-loop (c .before .before .before) in
     omega (arith, ready-long (entry .pre .1 .0))
 
 share-of-requires : tie.Need-share-of-requires Inv-loop μ-loop
@@ -36,7 +39,7 @@ share-of-requires c κs = tt
 lower-bounds-requires : tie.Need-lower-bounds-requires Inv-loop μ-loop
 lower-bounds-requires c κs =
     let at-loop = c .before .before .before .before .before in
-    let q = at-loop .before .before .before .before .before .before .pre in
+    let q = entry-from-loop at-loop .pre in
     ((q .0, omega arith), (listed-all _ _ _ (q .1 .1 .0), at-loop .loop .inv .long))
 
 loop-again : tie.Need-loop-again Inv-loop μ-loop
@@ -44,13 +47,13 @@ loop-again c =
     let at-lower-bounds = c .before .before in
     let at-share-of = at-lower-bounds .before .before in
     let at-loop = at-share-of .before .before .before .before in
-    let entry = at-loop .before .before .before .before .before .before in
+    let entry = entry-from-loop at-loop in
     bounded-by (at-loop .loop .inv) (entry .pre .1 .0) (omega arith) _ (at-share-of .share-of .ensures) _ (at-lower-bounds .lower-bounds .ensures)
 
 same-length : tie.Need-same-length Inv-loop μ-loop
 same-length c =
     let at-loop = c .before in
-    let entry = at-loop .before .before .before .before .before .before in
+    let entry = entry-from-loop at-loop in
     at-loop .loop .inv .long ∙ sym (entry .pre .1 .1 .1 .0)
 
 returns : tie.Need-returns Inv-loop μ-loop

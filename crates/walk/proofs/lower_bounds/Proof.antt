@@ -15,26 +15,29 @@ abbrev μ-loop : tie.MeasureT-loop
 loop-holds : tie.Need-loop-holds Inv-loop μ-loop
 loop-holds c = lowering-none _ _ _ _ _ _
 
+abbrev entry-from-loop : tie.At-loop Inv-loop μ-loop → tie.Start Inv-loop μ-loop
+entry-from-loop c = c .before .before .before .before
+
 shared-slice-read-b : tie.Need-shared-slice-read-b Inv-loop μ-loop
 shared-slice-read-b c =
-    let entry = c .before .before .before .before .before .before in
+    let entry = entry-from-loop (c .before .before) in
     omega (arith, entry .pre .1 .0 .room)
 
 factor-requires : tie.Need-factor-requires Inv-loop μ-loop
 factor-requires c κs =
-    let q = c .before .before .before .before .before .before .pre in
+    let q = entry-from-loop (c .before .before) .pre in
     (q .0 .0, q .0 .1, q .1 .0 .inside _ (omega arith))
 
 mul-bound : tie.Need-mul-bound Inv-loop μ-loop
 mul-bound c =
     let at-loop = c .before .before .before in
-    let q = at-loop .before .before .before .before .pre in
+    let q = entry-from-loop at-loop .pre in
     omega (arith, lowering-here (q .1 .0) (q .1 .1) (at-loop .loop .inv) (omega arith))
 
 slice-read-bound : tie.Need-slice-read-bound Inv-loop μ-loop
 slice-read-bound c =
     let at-loop = c .before .before .before .before in
-    let q = at-loop .before .before .before .before .pre in
+    let q = entry-from-loop at-loop .pre in
     lowering-here (q .1 .0) (q .1 .1) (at-loop .loop .inv) (omega arith)
 
 tighten-requires : tie.Need-tighten-requires Inv-loop μ-loop
@@ -43,20 +46,20 @@ tighten-requires c κs = tt
 mul-bounds : tie.Need-mul-bounds Inv-loop μ-loop
 mul-bounds c =
     let at-loop = c .before .before .before .before .before in
-    let q = at-loop .before .before .before .before .pre in
+    let q = entry-from-loop at-loop .pre in
     omega (arith, lowering-here (q .1 .0) (q .1 .1) (at-loop .loop .inv) (omega arith))
 
 slice-write-bounds : tie.Need-slice-write-bounds Inv-loop μ-loop
 slice-write-bounds c =
     let at-loop = c .before .before .before .before .before in
-    let q = at-loop .before .before .before .before .pre in
+    let q = entry-from-loop at-loop .pre in
     lowering-here (q .1 .0) (q .1 .1) (at-loop .loop .inv) (omega arith)
 
 loop-again : tie.Need-loop-again Inv-loop μ-loop
 loop-again c =
     let at-factor = c .before .before in
     let at-loop = at-factor .before .before .before in
-    let q = at-loop .before .before .before .before .pre in
+    let q = entry-from-loop at-loop .pre in
     lowering-more (q .1 .0) (q .1 .1) (at-loop .loop .inv) (omega arith) _ _ (at-factor .factor .ensures) (c .tighten .ensures)
 
 same-length : tie.Need-same-length Inv-loop μ-loop
@@ -65,7 +68,7 @@ same-length c = c .before .loop .inv .long
 returns : tie.Need-returns Inv-loop μ-loop
 returns c =
     let at-loop = c .before in
-    let q = at-loop .before .before .before .before .pre in
+    let q = entry-from-loop at-loop .pre in
     lowering-all (q .1 .0) (q .1 .1) (at-loop .loop .inv) (omega arith)
 
 pub lower-bounds-spec : {M : Type 1} → statement M

@@ -16,12 +16,18 @@ use Rattle.writing.proofs.write.Tie as tie
 abbrev given : tie.Start → Table
 given s = lent (s .args .h) (s .args .z .now) (s .args .b .now) (s .args .c .now) (s .args .f .now)
 
--- past the judging, the front of what was lent is a good table
-judged : (c : tie.After-enum-told) → let s = c .before .before .before .before in passed (front (given s)) ≡ judgeLent (given s)
-judged c = let s = c .before .before .before .before in sym (ap (λ (j : Judgement). ruled j (front (given s))) (c .enum-told .given .1)) ∙ c .before .before .judge .ensures
+abbrev entry : tie.After-enum-told → tie.Start
+entry c = c .before .before .before .before
 
-good : (c : tie.After-enum-told) → Good (front (given (c .before .before .before .before)))
-good c = let s = c .before .before .before .before in judged-good (given s) (front (given s)) (sym (judged c))
+abbrev past-judge : tie.After-slice-known2 → tie.After-enum-told
+past-judge c = c .before .before .before .before .before .before .before .before
+
+-- past the judging, the front of what was lent is a good table
+judged : (c : tie.After-enum-told) → let s = entry c in passed (front (given s)) ≡ judgeLent (given s)
+judged c = let s = entry c in sym (ap (λ (j : Judgement). ruled j (front (given s))) (c .enum-told .given .1)) ∙ c .before .before .judge .ensures
+
+good : (c : tie.After-enum-told) → Good (front (given (entry c)))
+good c = let s = entry c in judged-good (given s) (front (given s)) (sym (judged c))
 
 returns : tie.Need-returns
 returns c =
@@ -47,7 +53,7 @@ write-good-requires : tie.Need-write-good-requires
 write-good-requires c κs = good (c .before .before .before .before .before)
 
 returns-2 : tie.Need-returns-2
-returns-2 c = let s = c .before .before .before .before .before .before .before .before .before .before .before .before in c .before .before .write-good .ensures ∙ write-on (given s) (s .args .out .now) (front (given s)) (judged (c .before .before .before .before .before .before .before .before))
+returns-2 c = let s = entry (past-judge c) in c .before .before .write-good .ensures ∙ write-on (given s) (s .args .out .now) (front (given s)) (judged (past-judge c))
 
 pub write-spec : {M : Type 1} → statement M
 write-spec = tie.close (tie.spec (λ c κs. search needs) (λ c. search needs) returns (λ c. search needs) slice-aggregate-write-good slice-aggregate-write-good-2 slice-aggregate-write-good-3 mul-write-good slice-aggregate-write-good-4 write-good-requires (λ c. search needs) returns-2)

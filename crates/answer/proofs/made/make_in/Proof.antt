@@ -15,18 +15,24 @@ use Rattle.answer.proofs.made.make_in.Tie as tie
 abbrev given : tie.Start → Table
 given s = lent (s .args .h) (s .args .z .now) (s .args .b .now) (s .args .c .now) (s .args .f .now)
 
+abbrev entry : tie.After-extract → tie.Start
+entry c = c .before .before .before .before .before .before
+
+abbrev at-extract : tie.After-write-result-arg3 → tie.After-extract
+at-extract c = c .before .before .before .before .before .before .before .before .before .before
+
 write-result-requires : tie.Need-write-result-requires
 write-result-requires c κs =
-    let called = c .before .before .before .before .before .before .before .before .before .before in
-    let s = called .before .before .before .before .before .before in
+    let called = at-extract c in
+    let s = entry called in
     let u = outcome-told (given s) (s .args .p .now) (s .args .atc .now) (s .args .left .now) (s .pre .0) (s .pre .1) (s .pre .2) _ (called .extract .ensures) _ (c .before .before .before .before .rounds .given .1) in
     let h = outcome-header (given s) (u .it) (u .is) in
     (h .borders, h .rows, omega (arith, s .pre .1, called .extract .kept .1 .1 .1 .1 .1 .1 .0), omega (arith, s .pre .2, called .extract .kept .1 .1 .1 .1 .1 .1 .1 .0))
 
 returns : tie.Need-returns
 returns c =
-    let called = c .before .before .before .before .before .before .before .before .before .before .before .before .before in
-    let s = called .before .before .before .before .before .before in
+    let called = at-extract (c .before .before .before) in
+    let s = entry called in
     let u = outcome-told (given s) (s .args .p .now) (s .args .atc .now) (s .args .left .now) (s .pre .0) (s .pre .1) (s .pre .2) _ (called .extract .ensures) _ (c .before .before .before .before .before .before .before .rounds .given .1) in
     let text = c .before .before .write-result in
     (made-text (outcomeLent (given s)) (s .args .out .now) (u .it) (text .result) _ (u .is) (text .ensures .0 ∙ ap (λ (t : List ℕ). textLeft (passed t) (s .args .out .now)) (u .text)), text .ensures .1)
@@ -34,7 +40,7 @@ returns c =
 returns-2 : tie.Need-returns-2
 returns-2 c =
     let called = c .before .before .before .before .before .before .before in
-    let s = called .before .before .before .before .before .before in
+    let s = entry called in
     let w = c .before .w .given in
     (made-refused (outcomeLent (given s)) (s .args .out .now) (w .0 .0) (outcome-refused (given s) (s .args .p .now) (s .args .atc .now) (s .args .left .now) (s .pre .0) (s .pre .1) (s .pre .2) _ (called .extract .ensures) _ (w .1)), omega arith)
 

@@ -17,19 +17,22 @@ use Rattle.columns.proofs.optional.optional_at.Tie as tie
 slice-aggregate-line-at : tie.Need-slice-aggregate-line-at
 slice-aggregate-line-at c = let s = c .before .before .before in sym (length-take-le _ _ (omega (arith, s .pre .0)))
 
+abbrev entry : tie.After-line-at-arg2 → tie.Start
+entry c = c .before .before .before .before
+
 slice-aggregate-line-at-2 : tie.Need-slice-aggregate-line-at-2
-slice-aggregate-line-at-2 c = let s = c .before .before .before .before in sym (length-take-le _ _ (omega (arith, s .pre .0, s .pre .1)))
+slice-aggregate-line-at-2 c = let s = entry c in sym (length-take-le _ _ (omega (arith, s .pre .0, s .pre .1)))
 
 line-at-requires : tie.Need-line-at-requires
 line-at-requires c κs =
-    let s = c .before .before .before .before in
+    let s = entry c in
     let a = s .args in
     length-take-le (a .n) (a .columns .now) (omega (arith, s .pre .0)) ∙ sym (length-take-le (a .n) (a .out .now) (omega (arith, s .pre .0, s .pre .1)))
 
 returns : tie.Need-returns
 returns c =
     let m = c .before .before .before .before .before .before .before in
-    let s = m .before .before .before .before .before in
+    let s = entry (m .before) in
     let a = s .args in
     let zs = m .line-at .last .1 .1 .1 .1 .1 .0 in
     let long : length zs ≡ length (take (a .n) (a .out .now)) = search needs in
@@ -42,7 +45,7 @@ returns c =
 returns-2 : tie.Need-returns-2
 returns-2 c =
     let m = c .before .before .before .before .before .before in
-    let s = m .before .before .before .before .before in
+    let s = entry (m .before) in
     let a = s .args in
     let zs = m .line-at .last .1 .1 .1 .1 .1 .0 in
     optional-long (a .sep) (a .letter) (columnsOf (take (a .n) (a .columns .now))) (columnsOf (drop (a .n) (a .columns .now))) (a .line .now) (a .i) _ _

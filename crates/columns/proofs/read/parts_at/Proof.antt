@@ -8,10 +8,13 @@ use borrow.Author.Needs.{needs}
 use Rattle.columns.proofs.read.parts_at.Statement.{statement}
 use Rattle.columns.proofs.read.parts_at.Tie as tie
 
+abbrev at-head-at : tie.After-more → tie.After-head-at
+at-head-at c = c .before .before .before .before .before .before .before
+
 returns : tie.Need-returns
 returns c =
     let s = c .before .before .before .before .before .before .before .before .before .before .before .before in
-    part-more (s .args .sep) (s .args .letter) (columnsOf (s .args .first .now)) (s .args .line .now) (s .args .i) (s .args .second .now) (s .pre .1) (c .before .before .before .before .before .before .before .head-at .last .1 .1 .1 .1 .1 .0) (c .before .rest-at .last .1 .1 .1 .1 .0) _ (c .before .rest-at .result) (ap (λ (f : Fields). stored f (c .before .before .before .before .before .before .before .head-at .last .1 .1 .1 .1 .1 .0)) (sym (c .before .before .before .before .at .given .1)) ∙ c .before .before .before .before .before .before .before .head-at .ensures) (c .before .rest-at .ensures)
+    part-more (s .args .sep) (s .args .letter) (columnsOf (s .args .first .now)) (s .args .line .now) (s .args .i) (s .args .second .now) (s .pre .1) (at-head-at c .head-at .last .1 .1 .1 .1 .1 .0) (c .before .rest-at .last .1 .1 .1 .1 .0) _ (c .before .rest-at .result) (ap (λ (f : Fields). stored f (at-head-at c .head-at .last .1 .1 .1 .1 .1 .0)) (sym (c .before .before .before .before .at .given .1)) ∙ at-head-at c .head-at .ensures) (c .before .rest-at .ensures)
 
 returns-2 : tie.Need-returns-2
 returns-2 c =

@@ -7,11 +7,14 @@ use borrow.Author.Needs.{needs}
 use Rattle.columns.proofs.read.rest_at.Statement.{statement}
 use Rattle.columns.proofs.read.rest_at.Tie as tie
 
+abbrev at-fields-at : tie.After-known-told → tie.After-fields-at
+at-fields-at c = c .before .before .before .before
+
 returns : tie.Need-returns
-returns c = rest-more _ _ _ _ (c .before .before .before .before .before .fields-at .last .1 .1 .1 .1 .1 .0) _ (ap (λ (f : Fields). stored f (c .before .before .before .before .before .fields-at .last .1 .1 .1 .1 .1 .0)) (sym (c .before .before .next .given .1)) ∙ c .before .before .before .before .before .fields-at .ensures) (c .if1 .taken)
+returns c = rest-more _ _ _ _ (at-fields-at (c .before) .fields-at .last .1 .1 .1 .1 .1 .0) _ (ap (λ (f : Fields). stored f (at-fields-at (c .before) .fields-at .last .1 .1 .1 .1 .1 .0)) (sym (c .before .before .next .given .1)) ∙ at-fields-at (c .before) .fields-at .ensures) (c .if1 .taken)
 
 returns-2 : tie.Need-returns-2
-returns-2 c = rest-end _ _ _ _ (c .before .before .before .before .before .fields-at .last .1 .1 .1 .1 .1 .0) _ (ap (λ (f : Fields). stored f (c .before .before .before .before .before .fields-at .last .1 .1 .1 .1 .1 .0)) (sym (c .before .before .next .given .1)) ∙ c .before .before .before .before .before .fields-at .ensures) (c .if1 .left)
+returns-2 c = rest-end _ _ _ _ (at-fields-at (c .before) .fields-at .last .1 .1 .1 .1 .1 .0) _ (ap (λ (f : Fields). stored f (at-fields-at (c .before) .fields-at .last .1 .1 .1 .1 .1 .0)) (sym (c .before .before .next .given .1)) ∙ at-fields-at (c .before) .fields-at .ensures) (c .if1 .left)
 
 returns-3 : tie.Need-returns-3
 returns-3 c = rest-bad _ _ _ _ _ (ap (λ (f : Fields). stored f (c .before .before .before .before .fields-at .last .1 .1 .1 .1 .1 .0)) (sym (c .before .place .given .1)) ∙ c .before .before .before .before .fields-at .ensures)

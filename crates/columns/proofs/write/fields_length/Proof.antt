@@ -16,13 +16,19 @@ Inv-loop columns values sum₀ k₀ k-end sum k = Counting columns values sum k
 abbrev μ-loop : tie.MeasureT-loop
 μ-loop columns values sum₀ k₀ k-end sum k = length columns - k
 
-counted : (c : tie.After-field-length Inv-loop μ-loop) → let s = c .before .before .before .before .before .before in c .field-length .result ≡ length (textAt (s .args .columns .now) (s .args .values .now) (c .before .before .before .before .loop .k))
+abbrev entry : tie.After-shared-slice-known2 Inv-loop μ-loop → tie.Start Inv-loop μ-loop
+entry c = c .before .before .before .before
+
+abbrev at-loop : tie.After-field-length Inv-loop μ-loop → tie.At-loop Inv-loop μ-loop
+at-loop c = c .before .before .before .before
+
+counted : (c : tie.After-field-length Inv-loop μ-loop) → let s = entry (c .before .before) in c .field-length .result ≡ length (textAt (s .args .columns .now) (s .args .values .now) (at-loop c .loop .k))
 counted c = simp (plain, c .before .field-length-arg .given) at (c .field-length .ensures)
 
-within : (c : tie.After-field-length Inv-loop μ-loop) → c .before .before .before .before .loop .sum + (c .field-length .result + 1) ≤ bytesMost
+within : (c : tie.After-field-length Inv-loop μ-loop) → at-loop c .loop .sum + (c .field-length .result + 1) ≤ bytesMost
 within c =
-    let s = c .before .before .before .before .before .before in
-    let l = c .before .before .before .before .loop in
+    let s = entry (c .before .before) in
+    let l = at-loop c .loop in
     omega (arith, counting-within (s .args .columns .now) (s .args .values .now) (l .inv) (s .pre .0) (c .before .before .before .loop-test .taken) _ (counted c), s .pre .1)
 
 loop-holds : tie.Need-loop-holds Inv-loop μ-loop
@@ -32,10 +38,10 @@ shared-slice-read-field-length : tie.Need-shared-slice-read-field-length Inv-loo
 shared-slice-read-field-length c = omega (arith, c .before .before .loop .inv)
 
 mul-field-length : tie.Need-mul-field-length Inv-loop μ-loop
-mul-field-length c = let s = c .before .before .before .before in omega (arith, s .pre .0)
+mul-field-length c = let s = entry c in omega (arith, s .pre .0)
 
 shared-slice-copy-out-field-length : tie.Need-shared-slice-copy-out-field-length Inv-loop μ-loop
-shared-slice-copy-out-field-length c = let s = c .before .before .before .before in omega (arith, s .pre .0)
+shared-slice-copy-out-field-length c = let s = entry c in omega (arith, s .pre .0)
 
 add-sum : tie.Need-add-sum Inv-loop μ-loop
 add-sum c = omega (arith, within c)
@@ -45,8 +51,8 @@ add-sum-2 c = omega (arith, within c)
 
 loop-again : tie.Need-loop-again Inv-loop μ-loop
 loop-again c =
-    let s = c .before .before .before .before .before .before in
-    let l = c .before .before .before .before .loop in
+    let s = entry (c .before .before) in
+    let l = at-loop c .loop in
     counting-more (s .args .columns .now) (s .args .values .now) (l .inv) (s .pre .0) (c .before .before .before .loop-test .taken) _ (counted c)
 
 returns : tie.Need-returns Inv-loop μ-loop

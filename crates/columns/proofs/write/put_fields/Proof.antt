@@ -17,39 +17,45 @@ Inv-loop columns sep last values out₀ at n next₀ k₀ out next k = Writing c
 abbrev μ-loop : tie.MeasureT-loop
 μ-loop columns sep last values out₀ at n next₀ k₀ out next k = n - k
 
+abbrev entry : tie.At-loop Inv-loop μ-loop → tie.Start Inv-loop μ-loop
+entry c = c .before .before .before
+
+abbrev at-loop : tie.After-put-field-arg2 Inv-loop μ-loop → tie.At-loop Inv-loop μ-loop
+at-loop c = c .before .before .before .before .before
+
 -- all fields are written
-all : (c : tie.After-loop Inv-loop μ-loop) → let a = c .before .before .before .before .args in Put (fieldsEnded (a .sep) (a .last) (columnsOf (a .columns .now)) (a .values .now)) (a .at) (a .out .now) (c .before .loop .next) (c .before .loop .out)
+all : (c : tie.After-loop Inv-loop μ-loop) → let a = entry (c .before) .args in Put (fieldsEnded (a .sep) (a .last) (columnsOf (a .columns .now)) (a .values .now)) (a .at) (a .out .now) (c .before .loop .next) (c .before .loop .out)
 all c =
-    let a = c .before .before .before .before .args in
+    let a = entry (c .before) .args in
     writing-all (a .columns .now) (a .values .now) (a .sep) (a .last) (a .at) (a .out .now) _ _ _ (c .before .loop .inv) (omega arith)
 
 loop-holds : tie.Need-loop-holds Inv-loop μ-loop
 loop-holds c = writing-none _ _ _ _ _ _
 
 mul-put-field : tie.Need-mul-put-field Inv-loop μ-loop
-mul-put-field c = let s = c .before .before .before .before .before in omega (arith, s .pre .0)
+mul-put-field c = let s = entry (c .before .before) in omega (arith, s .pre .0)
 
 shared-slice-copy-out-put-field : tie.Need-shared-slice-copy-out-put-field Inv-loop μ-loop
 shared-slice-copy-out-put-field c =
-    let s = c .before .before .before .before .before in
+    let s = entry (c .before .before) in
     omega (arith, s .pre .0)
 
 put-field-requires : tie.Need-put-field-requires Inv-loop μ-loop
 put-field-requires c κs =
-    let s = c .before .before .before .before .before .before .before .before in
-    let l = c .before .before .before .before .before .loop in
+    let s = entry (at-loop c) in
+    let l = at-loop c .loop in
     let a = s .args in
     simp (plain, c .before .before .put-field-arg .given) (writing-room (a .columns .now) (a .values .now) (a .sep) (a .last) (a .at) (a .out .now) (l .out) (l .next) (l .k) (l .inv) (s .pre .0) (c .before .before .before .before .loop-test .taken) (s .pre .1) _ (c .before .stop-of .ensures))
 
 loop-again : tie.Need-loop-again Inv-loop μ-loop
 loop-again c =
-    let s = c .before .before .before .before .before .before .before .before .before .before .before in
-    let l = c .before .before .before .before .before .before .before .before .loop in
+    let s = entry (at-loop (c .before .before .before)) in
+    let l = at-loop (c .before .before .before) .loop in
     let a = s .args in
     writing-more (a .columns .now) (a .values .now) (a .sep) (a .last) (a .at) (a .out .now) (l .out) (l .next) (l .k) (l .inv) (s .pre .0) (c .before .before .before .before .before .before .before .loop-test .taken) (s .pre .1) _ (c .before .before .before .before .stop-of .ensures) (simp (plain, c .before .before .before .before .before .put-field-arg .given) at (c .before .before .put-field .ensures))
 
 same-length : tie.Need-same-length Inv-loop μ-loop
-same-length c = put-kept (all c) (c .before .before .before .before .pre .1)
+same-length c = put-kept (all c) (entry (c .before) .pre .1)
 
 returns : tie.Need-returns Inv-loop μ-loop
 returns c = all c

@@ -10,16 +10,19 @@ use Rattle.columns.proofs.ColumnPut.{line-sum}
 use Rattle.columns.proofs.write.put_line.Statement.{statement}
 use Rattle.columns.proofs.write.put_line.Tie as tie
 
+abbrev entry : tie.After-put-index-arg → tie.Start
+entry c = c .before .before .before
+
 put-index-requires : tie.Need-put-index-requires
 put-index-requires c κs =
-    let s = c .before .before .before in
+    let s = entry c in
     let a = s .args in
     omega (arith, s .pre .1, line-sum (a .sep) (a .letter) (columnsOf (a .columns .now)) (a .i) (a .values .now))
 
 put-fields-requires : tie.Need-put-fields-requires
 put-fields-requires c κs =
     let m = c .before .before .before in
-    let s = m .before .before .before .before in
+    let s = entry (m .before) in
     let a = s .args in
     (s .pre .0, put-room (m .put-index .ensures) (length (fieldsEnded (a .sep) feed (columnsOf (a .columns .now)) (a .values .now))) (omega (arith, s .pre .1, line-sum (a .sep) (a .letter) (columnsOf (a .columns .now)) (a .i) (a .values .now))))
 
@@ -27,7 +30,7 @@ returns : tie.Need-returns
 unfolding columnsText
 returns c =
     let m = c .before .before .before .before .before .before in
-    let s = m .before .before .before .before in
+    let s = entry (m .before) in
     put-more (m .put-index .ensures) (omega (arith, s .pre .1)) (c .before .before .put-fields .ensures)
 
 pub put-line-spec : {M : Type 1} → statement M

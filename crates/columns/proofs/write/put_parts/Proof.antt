@@ -19,10 +19,13 @@ put-index-requires c κs =
     let total = parts-sum (a .sep) (a .letter) (columnsOf (a .first .now)) (a .second .now) (a .i) (a .values .now) (a .more .now) (s .pre .1) wide in
     omega (arith, s .pre .3, total)
 
+abbrev entry : tie.After-put-index → tie.Start
+entry c = c .before .before .before .before .before
+
 put-fields-requires : tie.Need-put-fields-requires
 put-fields-requires c κs =
     let m = c .before .before .before in
-    let s = m .before .before .before .before .before in
+    let s = entry m in
     let a = s .args in
     let wide = sym (columns-long (a .first .now) ∙ s .pre .0) in
     let total = parts-sum (a .sep) (a .letter) (columnsOf (a .first .now)) (a .second .now) (a .i) (a .values .now) (a .more .now) (s .pre .1) wide in
@@ -32,7 +35,7 @@ put-fields-requires-2 : tie.Need-put-fields-requires-2
 put-fields-requires-2 c κs =
     let n = c .before .before .before in
     let m = n .before .before .before .before in
-    let s = m .before .before .before .before .before in
+    let s = entry m in
     let a = s .args in
     let wide = sym (columns-long (a .first .now) ∙ s .pre .0) in
     let total = parts-sum (a .sep) (a .letter) (columnsOf (a .first .now)) (a .second .now) (a .i) (a .values .now) (a .more .now) (s .pre .1) wide in
@@ -42,7 +45,7 @@ returns : tie.Need-returns
 returns c =
     let n = c .before .before .before .before .before .before in
     let m = n .before .before .before .before in
-    let s = m .before .before .before .before .before in
+    let s = entry m in
     let a = s .args in
     rw (parts-text (a .sep) (a .letter) (columnsOf (a .first .now)) (a .second .now) (a .i) (a .values .now) (a .more .now) (s .pre .1) (sym (columns-long (a .first .now) ∙ s .pre .0))) (put-more (put-more (m .put-index .ensures) (omega (arith, s .pre .3)) (n .put-fields .ensures)) (omega (arith, s .pre .3)) (c .before .before .put-fields2 .ensures))
 

@@ -13,11 +13,14 @@ put-byte-requires : tie.Need-put-byte-requires
 unfolding plainText
 put-byte-requires c κs = let s = c .before .before .before in omega (arith, s .pre .1)
 
+abbrev entry : tie.After-put-byte → tie.Start
+entry c = c .before .before .before .before
+
 put-byte-requires-2 : tie.Need-put-byte-requires-2
 unfolding plainText
 put-byte-requires-2 c κs =
     let m = c .before .before .before in
-    let s = m .before .before .before .before in
+    let s = entry m in
     omega (arith, put-room (m .put-byte .ensures) 1 (omega (arith, s .pre .1)))
 
 put-fields-requires : tie.Need-put-fields-requires
@@ -25,7 +28,7 @@ unfolding plainText
 put-fields-requires c κs =
     let n = c .before .before .before in
     let m = n .before .before .before .before in
-    let s = m .before .before .before .before in
+    let s = entry m in
     let a = s .args in
     (s .pre .0, put-room (put-more (m .put-byte .ensures) (omega (arith, s .pre .1)) (n .put-byte2 .ensures)) (length (fieldsEnded (a .sep) feed (columnsOf (a .columns .now)) (a .values .now))) (omega (arith, s .pre .1)))
 
@@ -34,7 +37,7 @@ unfolding plainText
 returns c =
     let n = c .before .before .before .before .before .before in
     let m = n .before .before .before .before in
-    let s = m .before .before .before .before in
+    let s = entry m in
     put-more (put-more (m .put-byte .ensures) (omega (arith, s .pre .1)) (n .put-byte2 .ensures)) (omega (arith, s .pre .1)) (c .before .before .put-fields .ensures)
 
 pub put-plain-spec : {M : Type 1} → statement M

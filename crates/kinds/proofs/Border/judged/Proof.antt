@@ -6,14 +6,17 @@ use Rattle.kinds.proofs.KindLaws.{BorderIn, border-in}
 use Rattle.kinds.proofs.Border.judged.Statement.{statement}
 use Rattle.kinds.proofs.Border.judged.Tie as tie
 
+abbrev entry : tie.After-receiving → tie.Start
+entry c = c .before .before .before .before .before
+
 judged-requires : tie.Need-judged-requires
 judged-requires c κs =
-    let s = c .before .before .before .before .before in
+    let s = entry c in
     simp (plain, c .before .sending .given, c .receiving .given) (border-in (s .args .zones) (s .args .t2) (s .pre) .hubs-fit)
 
 -- the record's numbers are natural
-natural : (c : tie.After-judged) → let s = c .before .before .before .before .before .before in BorderIn (s .args .zones) (s .args .t2)
-natural c = border-in _ _ (c .before .before .before .before .before .before .pre)
+natural : (c : tie.After-judged) → let s = entry (c .before) in BorderIn (s .args .zones) (s .args .t2)
+natural c = border-in _ _ (entry (c .before) .pre)
 
 cast-t21 : tie.Need-cast-t21
 cast-t21 c = natural-cast _ _ (c .before .before .before .before .before .from .given) (natural c .from)

@@ -31,8 +31,14 @@ fields zs = fieldsLength (writtenBy headerColumns defaultColumns zs) zs
 long : (h : Header) → length (headerText h) ≡ 2 + fields (raw h)
 long h = plain-long tab (code "H") (writtenBy headerColumns defaultColumns (raw h)) (raw h)
 
-counted : (c : tie.After-optional-fields-length) → let h = c .before .before .before .before .before .before .before .args .h in c .optional-fields-length .result ≡ fields (raw h)
-counted c = c .optional-fields-length .ensures ∙ ap fields (header-raw (c .before .before .before .before .before .before .before .args .h) (c .before .before .before .before .before .before .before .pre .0))
+abbrev entry-from-struct-known2 : tie.After-struct-known2 → tie.Start
+entry-from-struct-known2 c = c .before .before .before
+
+abbrev entry : tie.After-raw → tie.Start
+entry c = entry-from-struct-known2 (c .before .before .before)
+
+counted : (c : tie.After-optional-fields-length) → let h = entry (c .before) .args .h in c .optional-fields-length .result ≡ fields (raw h)
+counted c = c .optional-fields-length .ensures ∙ ap fields (header-raw (entry (c .before) .args .h) (entry (c .before) .pre .0))
 
 cast-t5 : tie.Need-cast-t5
 cast-t5 c = fits-pos _ (omega (arith, header-in (c .before .before .args .h) (c .before .before .pre .0) .zones-most))
@@ -41,20 +47,20 @@ cast-t6 : tie.Need-cast-t6
 cast-t6 c = fits-pos _ (omega (arith, header-in (c .before .before .before .args .h) (c .before .before .before .pre .0) .borders-most))
 
 cast-t7 : tie.Need-cast-t7
-cast-t7 c = fits-pos _ (omega (arith, header-in (c .before .before .before .before .args .h) (c .before .before .before .before .pre .0) .rows-most))
+cast-t7 c = fits-pos _ (omega (arith, header-in (entry-from-struct-known2 (c .before) .args .h) (entry-from-struct-known2 (c .before) .pre .0) .rows-most))
 
 optional-fields-length-requires : tie.Need-optional-fields-length-requires
 optional-fields-length-requires c κs =
-    let s = c .before .before .before .before .before .before in
+    let s = entry c in
     (omega arith, refl, subst (λ (zs : List ℤ). fields zs ≤ bytesMost) (sym (header-raw (s .args .h) (s .pre .0))) (omega (arith, long (s .args .h), s .pre .1)))
 
 add-result : tie.Need-add-result
 add-result c =
-    let s = c .before .before .before .before .before .before .before in
+    let s = entry (c .before) in
     omega (arith, counted c, long (s .args .h), s .pre .1)
 
 returns : tie.Need-returns
-returns c = omega (arith, counted c, long (c .before .before .before .before .before .before .before .args .h))
+returns c = omega (arith, counted c, long (entry (c .before) .args .h))
 
 pub header-length-spec : {M : Type 1} → statement M
 header-length-spec =

@@ -22,9 +22,12 @@ total s =
     let wide : 7 ≡ length (s .args .t2) = search needs in
     row-total (s .args .i) (s .args .t2) (s .args .f .now) ∙ ap (λ (v : List ℤ). lineLength rowColumns (s .args .i) v + fieldsLength (factorColumns (length (s .args .f .now))) (s .args .f .now)) (numbers-are rowColumns (s .args .t2) (sym wide))
 
-counted : (c : tie.After-fields-length) → let s = c .before .before .before .before .before in length (rowText (s .args .i) (s .args .t2) (s .args .f .now)) ≡ c .before .before .line-length .result + c .fields-length .result
+abbrev entry : tie.After-fields-length-arg → tie.Start
+entry c = c .before .before .before .before
+
+counted : (c : tie.After-fields-length) → let s = entry (c .before) in length (rowText (s .args .i) (s .args .t2) (s .args .f .now)) ≡ c .before .before .line-length .result + c .fields-length .result
 counted c =
-    let s = c .before .before .before .before .before in
+    let s = entry (c .before) in
     let f : c .fields-length .result ≡ fieldsLength (factorColumns (length (s .args .f .now))) (s .args .f .now) = c .fields-length .ensures ∙ ap (λ (l : List Column). fieldsLength l (s .args .f .now)) (factors-front _ 16 (s .pre .1)) in
     omega (arith, total s, c .before .before .line-length .ensures, f)
 
@@ -32,13 +35,13 @@ line-length-requires : tie.Need-line-length-requires
 line-length-requires c κs = (search needs, omega (arith, total (c .before .before), c .before .before .pre .2))
 
 slice-aggregate-fields-length : tie.Need-slice-aggregate-fields-length
-slice-aggregate-fields-length c = sym (length-take-le _ _ (c .before .before .before .before .pre .1))
+slice-aggregate-fields-length c = sym (length-take-le _ _ (entry c .pre .1))
 
 fields-length-requires : tie.Need-fields-length-requires
-fields-length-requires c κs = (length-take-le _ _ (c .before .before .before .before .pre .1), subst (λ (l : List Column). fieldsLength l (c .before .before .before .before .args .f .now) ≤ bytesMost) (sym (factors-front _ 16 (c .before .before .before .before .pre .1))) (omega (arith, total (c .before .before .before .before), c .before .before .before .before .pre .2)))
+fields-length-requires c κs = (length-take-le _ _ (entry c .pre .1), subst (λ (l : List Column). fieldsLength l (entry c .args .f .now) ≤ bytesMost) (sym (factors-front _ 16 (entry c .pre .1))) (omega (arith, total (entry c), entry c .pre .2)))
 
 add-result : tie.Need-add-result
-add-result c = omega (arith, counted c, c .before .before .before .before .before .pre .2)
+add-result c = omega (arith, counted c, entry (c .before) .pre .2)
 
 returns : tie.Need-returns
 returns c = omega (arith, counted c)

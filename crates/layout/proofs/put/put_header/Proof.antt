@@ -20,14 +20,17 @@ use Rattle.layout.proofs.put.put_header.Tie as tie
 abbrev text : List ℤ → List ℕ
 text raw = plainOptionalText tab (code "H") headerColumns defaultColumns raw
 
+abbrev entry : tie.After-struct-known → tie.Start
+entry c = c .before .before .before
+
 cast-t7 : tie.Need-cast-t7
-cast-t7 c = fits-pos _ (omega (arith, header-in (c .before .before .before .args .h) (c .before .before .before .pre .0) .zones-most))
+cast-t7 c = fits-pos _ (omega (arith, header-in (entry c .args .h) (entry c .pre .0) .zones-most))
 
 cast-t8 : tie.Need-cast-t8
-cast-t8 c = fits-pos _ (omega (arith, header-in (c .before .before .before .before .args .h) (c .before .before .before .before .pre .0) .borders-most))
+cast-t8 c = fits-pos _ (omega (arith, header-in (entry (c .before) .args .h) (entry (c .before) .pre .0) .borders-most))
 
 cast-t9 : tie.Need-cast-t9
-cast-t9 c = fits-pos _ (omega (arith, header-in (c .before .before .before .before .before .args .h) (c .before .before .before .before .before .pre .0) .rows-most))
+cast-t9 c = fits-pos _ (omega (arith, header-in (entry (c .before .before) .args .h) (entry (c .before .before) .pre .0) .rows-most))
 
 put-plain-optional-requires : tie.Need-put-plain-optional-requires
 put-plain-optional-requires c κs =

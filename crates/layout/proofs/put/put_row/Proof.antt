@@ -24,16 +24,19 @@ numbers s =
 slice-aggregate-put-parts-2 : tie.Need-slice-aggregate-put-parts-2
 slice-aggregate-put-parts-2 c = sym (length-take-le _ _ (c .before .before .before .pre .1))
 
+abbrev entry : tie.After-put-parts-arg3 → tie.Start
+entry c = c .before .before .before .before .before
+
 put-parts-requires : tie.Need-put-parts-requires
 put-parts-requires c κs =
-    let a = c .before .before .before .before .before .args in
-    let p = c .before .before .before .before .before .pre in
-    (search needs, rw (length-take-le _ _ (p .1)) (p .0), length-take-le _ _ (p .1), subst (λ (l : List Column). a .at + length (columnsText tab (code "C") (rowColumns ++ l) (a .i) (a .t2 ++ a .f .now)) ≤ length (a .out .now)) (sym (factors-front _ 16 (p .1))) (subst (λ (v : List ℤ). a .at + length (columnsText tab (code "C") (rowColumns ++ factorColumns (length (a .f .now))) (a .i) (v ++ a .f .now)) ≤ length (a .out .now)) (numbers (c .before .before .before .before .before)) (p .2)))
+    let a = entry c .args in
+    let p = entry c .pre in
+    (search needs, rw (length-take-le _ _ (p .1)) (p .0), length-take-le _ _ (p .1), subst (λ (l : List Column). a .at + length (columnsText tab (code "C") (rowColumns ++ l) (a .i) (a .t2 ++ a .f .now)) ≤ length (a .out .now)) (sym (factors-front _ 16 (p .1))) (subst (λ (v : List ℤ). a .at + length (columnsText tab (code "C") (rowColumns ++ factorColumns (length (a .f .now))) (a .i) (v ++ a .f .now)) ≤ length (a .out .now)) (numbers (entry c)) (p .2)))
 
 returns : tie.Need-returns
 returns c =
-    let a = c .before .before .before .before .before .before .before .before .args in
-    subst (λ (v : List ℤ). Put (columnsText tab (code "C") (rowColumns ++ factorColumns (length (a .f .now))) (a .i) (v ++ a .f .now)) (a .at) (a .out .now) (c .before .before .put-parts .result) (c .before .before .put-parts .last .1 .1 .1 .1 .1 .1 .1 .0)) (sym (numbers (c .before .before .before .before .before .before .before .before))) (subst (λ (l : List Column). Put (columnsText tab (code "C") (rowColumns ++ l) (a .i) (a .t2 ++ a .f .now)) (a .at) (a .out .now) (c .before .before .put-parts .result) (c .before .before .put-parts .last .1 .1 .1 .1 .1 .1 .1 .0)) (factors-front _ 16 (c .before .before .before .before .before .before .before .before .pre .1)) (c .before .before .put-parts .ensures))
+    let a = entry (c .before .before .before) .args in
+    subst (λ (v : List ℤ). Put (columnsText tab (code "C") (rowColumns ++ factorColumns (length (a .f .now))) (a .i) (v ++ a .f .now)) (a .at) (a .out .now) (c .before .before .put-parts .result) (c .before .before .put-parts .last .1 .1 .1 .1 .1 .1 .1 .0)) (sym (numbers (entry (c .before .before .before)))) (subst (λ (l : List Column). Put (columnsText tab (code "C") (rowColumns ++ l) (a .i) (a .t2 ++ a .f .now)) (a .at) (a .out .now) (c .before .before .put-parts .result) (c .before .before .put-parts .last .1 .1 .1 .1 .1 .1 .1 .0)) (factors-front _ 16 (entry (c .before .before .before) .pre .1)) (c .before .before .put-parts .ensures))
 
 pub put-row-spec : {M : Type 1} → statement M
 put-row-spec =

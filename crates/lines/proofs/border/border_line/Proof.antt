@@ -15,23 +15,26 @@ returns c =
     let o = c .before .before .before in
     border-form _ _ _ _ (ap (λ (f : Fields). stored f (o .optional-at .last .1 .1 .1 .1 .1 .1 .0)) (sym (c .enum-told2 .given .1)) ∙ o .optional-at .ensures)
 
+abbrev at-optional-at : tie.After-fits2 → tie.After-optional-at
+at-optional-at c = c .before .before .before .before .before .before .before .before .before
+
 -- the test is the definition's, of the record as it was stored
 said : (c : tie.After-fits2)
-    → let o = c .before .before .before .before .before .before .before .before .before in
+    → let o = at-optional-at c in
     c .fits2 .result ≡ borderFits (o .before .before .before .before .args .zones) (o .optional-at .last .1 .1 .1 .1 .1 .1 .0)
 said c =
-    let o = c .before .before .before .before .before .before .before .before .before in
+    let o = at-optional-at c in
     simp (plain, c .before .before .before .before .before .from .given, c .before .before .before .before .to .given, c .before .before .before .lta .given, c .before .before .sending .given, c .before .receiving .given) at (c .fits2 .ensures)
     ∙ border-listed _ (o .optional-at .last .1 .1 .1 .1 .1 .1 .0)
 
 returns-2 : tie.Need-returns-2
 returns-2 c =
-    let o = c .before .before .before .before .before .before .before .before .before .before in
+    let o = at-optional-at (c .before) in
     border-holds _ _ _ (o .optional-at .last .1 .1 .1 .1 .1 .1 .0) _ (ap (λ (f : Fields). stored f (o .optional-at .last .1 .1 .1 .1 .1 .1 .0)) (sym (c .before .before .before .before .before .before .before .enum-told .given .1)) ∙ o .optional-at .ensures) (sym (said (c .before)) ∙ c .if1 .taken)
 
 returns-3 : tie.Need-returns-3
 returns-3 c =
-    let o = c .before .before .before .before .before .before .before .before .before .before in
+    let o = at-optional-at (c .before) in
     border-range _ _ _ (o .optional-at .last .1 .1 .1 .1 .1 .1 .0) _ (ap (λ (f : Fields). stored f (o .optional-at .last .1 .1 .1 .1 .1 .1 .0)) (sym (c .before .before .before .before .before .before .before .enum-told .given .1)) ∙ o .optional-at .ensures) (sym (said (c .before)) ∙ c .if1 .left)
 
 pub border-line-spec : {M : Type 1} → statement M

@@ -22,13 +22,16 @@ cast-of-2 c = natural-cast _ _ (c .of-arg2 .given) (header-numbers _ _ _ (ap (λ
 cast-of-3 : tie.Need-cast-of-3
 cast-of-3 c = natural-cast _ _ (c .of-arg3 .given) (header-numbers _ _ _ (ap (λ (f : Fields). stored f (c .before .before .before .before .before .before .plain-optional .last .1 .1 .1 .1 .1 .0)) (sym (c .before .before .before .enum-told .given .1)) ∙ c .before .before .before .before .before .before .plain-optional .ensures) .rows)
 
+abbrev at-plain-optional : tie.After-of → tie.After-plain-optional
+at-plain-optional c = c .before .before .before .before .before .before .before .before
+
 returns-2 : tie.Need-returns-2
-returns-2 c = header-range _ _ _ (ap (λ (f : Fields). stored f (c .before .before .before .before .before .before .before .before .before .before .plain-optional .last .1 .1 .1 .1 .1 .0)) (sym (c .before .before .before .before .before .before .before .enum-told .given .1)) ∙ c .before .before .before .before .before .before .before .before .before .before .plain-optional .ensures) (header-out _ _ _ _ (sym (simp (plain, c .before .before .before .before .before .before .of-arg .given, c .before .before .before .before .before .of-arg2 .given, c .before .before .before .before .of-arg3 .given, c .before .before .before .of-arg4 .given) at (c .before .before .of .ensures)) ∙ c .enum-told3 .given .1))
+returns-2 c = header-range _ _ _ (ap (λ (f : Fields). stored f (at-plain-optional (c .before .before) .plain-optional .last .1 .1 .1 .1 .1 .0)) (sym (c .before .before .before .before .before .before .before .enum-told .given .1)) ∙ at-plain-optional (c .before .before) .plain-optional .ensures) (header-out _ _ _ _ (sym (simp (plain, c .before .before .before .before .before .before .of-arg .given, c .before .before .before .before .before .of-arg2 .given, c .before .before .before .before .of-arg3 .given, c .before .before .before .of-arg4 .given) at (c .before .before .of .ensures)) ∙ c .enum-told3 .given .1))
 
 returns-3 : tie.Need-returns-3
 returns-3 c =
     let g = header-good _ _ _ _ _ (sym (simp (plain, c .before .before .before .before .before .before .before .of-arg .given, c .before .before .before .before .before .before .of-arg2 .given, c .before .before .before .before .before .of-arg3 .given, c .before .before .before .before .of-arg4 .given) at (c .before .before .before .of .ensures)) ∙ c .before .h .given .1) in
-    ap holds (sym (g .1)) ∙ header-holds _ _ _ (ap (λ (f : Fields). stored f (c .before .before .before .before .before .before .before .before .before .before .before .plain-optional .last .1 .1 .1 .1 .1 .0)) (sym (c .before .before .before .before .before .before .before .before .enum-told .given .1)) ∙ c .before .before .before .before .before .before .before .before .before .before .before .plain-optional .ensures) (g .0)
+    ap holds (sym (g .1)) ∙ header-holds _ _ _ (ap (λ (f : Fields). stored f (at-plain-optional (c .before .before .before) .plain-optional .last .1 .1 .1 .1 .1 .0)) (sym (c .before .before .before .before .before .before .before .before .enum-told .given .1)) ∙ at-plain-optional (c .before .before .before) .plain-optional .ensures) (g .0)
 
 pub header-line-spec : {M : Type 1} → statement M
 header-line-spec =

@@ -12,11 +12,14 @@ use Rattle.lines.proofs.row.judged_in.Tie as tie
 returns : tie.Need-returns
 returns c = sym (ap judgedOf (row-form _ _ _ _ (ap (λ (f : Fields). stored f (c .before .before .before .before .row-at .last .1 .1 .0 ++ c .before .before .before .before .row-at .last .1 .1 .1 .0)) (sym (c .enum-told2 .given .1)) ∙ c .before .before .before .before .row-at .ensures)))
 
+abbrev at-row-at : tie.After-row-good → tie.After-row-at
+at-row-at c = c .before .before .before .before .before .before
+
 returns-2 : tie.Need-returns-2
-returns-2 c = sym (ap judgedOf (row-holds _ _ _ (c .before .before .before .before .before .before .before .row-at .last .1 .1 .0) (c .before .before .before .before .before .before .before .row-at .last .1 .1 .1 .0) (c .before .before .before .before .before .before .before .row-at .kept .1 .1 .0) _ (ap (λ (f : Fields). stored f (c .before .before .before .before .before .before .before .row-at .last .1 .1 .0 ++ c .before .before .before .before .before .before .before .row-at .last .1 .1 .1 .0)) (sym (c .before .before .before .enum-told .given .1)) ∙ c .before .before .before .before .before .before .before .row-at .ensures) (sym (c .before .row-good .ensures) ∙ c .if1 .taken)))
+returns-2 c = sym (ap judgedOf (row-holds _ _ _ (at-row-at (c .before) .row-at .last .1 .1 .0) (at-row-at (c .before) .row-at .last .1 .1 .1 .0) (at-row-at (c .before) .row-at .kept .1 .1 .0) _ (ap (λ (f : Fields). stored f (at-row-at (c .before) .row-at .last .1 .1 .0 ++ at-row-at (c .before) .row-at .last .1 .1 .1 .0)) (sym (c .before .before .before .enum-told .given .1)) ∙ at-row-at (c .before) .row-at .ensures) (sym (c .before .row-good .ensures) ∙ c .if1 .taken)))
 
 returns-3 : tie.Need-returns-3
-returns-3 c = sym (ap judgedOf (row-range _ _ _ (c .before .before .before .before .before .before .before .row-at .last .1 .1 .0) (c .before .before .before .before .before .before .before .row-at .last .1 .1 .1 .0) (c .before .before .before .before .before .before .before .row-at .kept .1 .1 .0) _ (ap (λ (f : Fields). stored f (c .before .before .before .before .before .before .before .row-at .last .1 .1 .0 ++ c .before .before .before .before .before .before .before .row-at .last .1 .1 .1 .0)) (sym (c .before .before .before .enum-told .given .1)) ∙ c .before .before .before .before .before .before .before .row-at .ensures) (sym (c .before .row-good .ensures) ∙ c .if1 .left)))
+returns-3 c = sym (ap judgedOf (row-range _ _ _ (at-row-at (c .before) .row-at .last .1 .1 .0) (at-row-at (c .before) .row-at .last .1 .1 .1 .0) (at-row-at (c .before) .row-at .kept .1 .1 .0) _ (ap (λ (f : Fields). stored f (at-row-at (c .before) .row-at .last .1 .1 .0 ++ at-row-at (c .before) .row-at .last .1 .1 .1 .0)) (sym (c .before .before .before .enum-told .given .1)) ∙ at-row-at (c .before) .row-at .ensures) (sym (c .before .row-good .ensures) ∙ c .if1 .left)))
 
 pub judged-in-spec : {M : Type 1} → statement M
 judged-in-spec =

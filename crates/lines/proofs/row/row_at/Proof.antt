@@ -14,13 +14,19 @@ use Rattle.lines.proofs.row.row_at.Tie as tie
 slice-aggregate-parts-at-2 : tie.Need-slice-aggregate-parts-at-2
 slice-aggregate-parts-at-2 c = sym (length-take-le _ _ (c .before .before .before .pre .2))
 
+abbrev entry-from-parts-at-arg4 : tie.After-parts-at-arg4 → tie.Start
+entry-from-parts-at-arg4 c = c .before .before .before .before .before
+
 parts-at-requires : tie.Need-parts-at-requires
 parts-at-requires c κs =
-    let p = c .before .before .before .before .before .pre in
+    let p = entry-from-parts-at-arg4 c .pre in
     (sym (p .0), rw (length-take-le _ _ (p .2)) (p .1), length-take-le _ _ (p .2))
 
+abbrev entry : tie.After-f → tie.Start
+entry c = entry-from-parts-at-arg4 (c .before .before .before)
+
 returns : tie.Need-returns
-returns c = c .before .before .parts-at .ensures ∙ ap (λ (l : List Column). columnsLine tab (code "C") (rowColumns ++ l) (c .before .before .before .before .before .before .before .before .args .line .now) (c .before .before .before .before .before .before .before .before .args .i)) (factors-taken _ (c .before .before .before .before .before .before .before .before .pre .2))
+returns c = c .before .before .parts-at .ensures ∙ ap (λ (l : List Column). columnsLine tab (code "C") (rowColumns ++ l) (entry c .args .line .now) (entry c .args .i)) (factors-taken _ (entry c .pre .2))
 
 pub row-at-spec : {M : Type 1} → statement M
 row-at-spec =

@@ -16,8 +16,11 @@ judged-in-requires c κs =
     let p = c .before .before .pre in
     (rw (length-take-le _ _ (p .1)) (p .0), rw (length-take-le _ _ (p .1)) (p .1))
 
+abbrev entry : tie.After-factors2 → tie.Start
+entry c = c .before .before .before .before
+
 returns : tie.Need-returns
-returns c = c .before .judged-in .ensures ∙ ap (λ (n : ℕ). judgedOf (rowLine n (c .before .before .before .before .args .line .now) (c .before .before .before .before .args .i))) (length-take-le _ _ (c .before .before .before .before .pre .1))
+returns c = c .before .judged-in .ensures ∙ ap (λ (n : ℕ). judgedOf (rowLine n (entry c .args .line .now) (entry c .args .i))) (length-take-le _ _ (entry c .pre .1))
 
 pub row-judged-spec : {M : Type 1} → statement M
 row-judged-spec =

@@ -12,11 +12,14 @@ use Rattle.lines.proofs.zone.zone_line.Tie as tie
 returns : tie.Need-returns
 returns c = zone-form _ _ _ (ap (λ (f : Fields). stored f (c .before .before .before .line-at .last .1 .1 .1 .1 .1 .0)) (sym (c .enum-told2 .given .1)) ∙ c .before .before .before .line-at .ensures)
 
+abbrev at-line-at : tie.After-of → tie.After-line-at
+at-line-at c = c .before .before .before .before .before
+
 returns-2 : tie.Need-returns-2
-returns-2 c = zone-range _ _ (c .before .before .before .before .before .before .before .line-at .last .1 .1 .1 .1 .1 .0) _ (ap (λ (f : Fields). stored f (c .before .before .before .before .before .before .before .line-at .last .1 .1 .1 .1 .1 .0)) (sym (c .before .before .before .before .enum-told .given .1)) ∙ c .before .before .before .before .before .before .before .line-at .ensures) (zone-out _ (simp (plain, c .before .before .before .net .given) at (sym (c .before .before .of .ensures) ∙ c .enum-told4 .given .1)))
+returns-2 c = zone-range _ _ (at-line-at (c .before .before) .line-at .last .1 .1 .1 .1 .1 .0) _ (ap (λ (f : Fields). stored f (at-line-at (c .before .before) .line-at .last .1 .1 .1 .1 .1 .0)) (sym (c .before .before .before .before .enum-told .given .1)) ∙ at-line-at (c .before .before) .line-at .ensures) (zone-out _ (simp (plain, c .before .before .before .net .given) at (sym (c .before .before .of .ensures) ∙ c .enum-told4 .given .1)))
 
 returns-3 : tie.Need-returns-3
-returns-3 c = simp (plain, c .before .before .before .net .given) (zone-holds _ _ (c .before .before .before .before .before .before .before .line-at .last .1 .1 .1 .1 .1 .0) _ (ap (λ (f : Fields). stored f (c .before .before .before .before .before .before .before .line-at .last .1 .1 .1 .1 .1 .0)) (sym (c .before .before .before .before .enum-told .given .1)) ∙ c .before .before .before .before .before .before .before .line-at .ensures) (zone-good _ _ (simp (plain, c .before .before .before .net .given) at (sym (c .before .before .of .ensures) ∙ c .enum-told3 .given .1))))
+returns-3 c = simp (plain, c .before .before .before .net .given) (zone-holds _ _ (at-line-at (c .before .before) .line-at .last .1 .1 .1 .1 .1 .0) _ (ap (λ (f : Fields). stored f (at-line-at (c .before .before) .line-at .last .1 .1 .1 .1 .1 .0)) (sym (c .before .before .before .before .enum-told .given .1)) ∙ at-line-at (c .before .before) .line-at .ensures) (zone-good _ _ (simp (plain, c .before .before .before .net .given) at (sym (c .before .before .of .ensures) ∙ c .enum-told3 .given .1))))
 
 pub zone-line-spec : {M : Type 1} → statement M
 zone-line-spec =

@@ -7,13 +7,16 @@ use Rattle.printing.specs.Heard.{refusalIn}
 use Rattle.printing.proofs.output.refusal_in.Statement.{statement}
 use Rattle.printing.proofs.output.refusal_in.Tie as tie
 
+abbrev entry : tie.After-known-told → tie.Start
+entry c = c .before .before .before .before .before
+
 number-read : (c : tie.After-known-told)
-    → numberAt (c .before .before .before .before .before .args .line .now) 2 tab ≡ Value (c .before .number .given .0 .0) (c .before .number .given .0 .1 .0)
+    → numberAt (entry c .args .line .now) 2 tab ≡ Value (c .before .number .given .0 .0) (c .before .number .given .0 .1 .0)
 number-read c = sym (c .before .before .before .number-at .ensures) ∙ c .before .number .given .1
 
 place-read : (c : tie.After-known-told2)
     → let one = c .before .before .before .before in
-    numberAt (one .before .before .before .before .before .args .line .now) (one .before .number .given .0 .1 .0) feed ≡ Value (c .before .place .given .0 .0) (c .before .place .given .0 .1 .0)
+    numberAt (entry one .args .line .now) (one .before .number .given .0 .1 .0) feed ≡ Value (c .before .place .given .0 .0) (c .before .place .given .0 .1 .0)
 place-read c = sym (c .before .before .before .number-at2 .ensures) ∙ c .before .place .given .1
 
 returns : tie.Need-returns

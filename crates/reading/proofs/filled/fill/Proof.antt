@@ -11,14 +11,17 @@ zones-filled-requires c κs =
     let start = c .before .before .before in
     (start .pre .0 .zones-within, nets-again _ _ _ _ _ _ (start .pre .0) (start .pre .1 .1))
 
+abbrev entry : tie.After-rows-filled-arg2 → tie.Start
+entry c = c .before .before .before .before .before .before .before .before .before .before
+
 rows-filled-requires : tie.Need-rows-filled-requires
 rows-filled-requires c κs =
-    let start = c .before .before .before .before .before .before .before .before .before .before in
+    let start = entry c in
     (start .pre .0 .rows-within, factors-asked _ _ _ _ _ _ (start .pre .0) (start .pre .1 .1), rows-again _ _ _ _ _ _ (start .pre .0) (start .pre .1 .1), omega (arith, header-in _ (start .pre .0 .header-fits) .zones-least), header-in _ (start .pre .0 .header-fits) .zones-most)
 
 returns : tie.Need-returns
 returns c =
-    let start = c .before .before .before .before .before .before .before .before .before .before .before .before .before in
+    let start = entry (c .before .before .before) in
     filled _ _ _ _ _ _ (start .pre .0) (start .pre .1 .1) _ _ _ _ _ (c .before .before .before .before .before .before .before .before .before .zones-filled .ensures) (c .before .before .before .before .before .before .copy .ensures) (c .before .before .rows-filled .ensures .0) (c .before .before .rows-filled .ensures .1)
 
 pub fill-spec : {M : Type 1} → statement M

@@ -16,20 +16,29 @@ use borrow.Author.Needs.{needs}
 use Rattle.reading.proofs.judged.judge_text.Statement.{statement}
 use Rattle.reading.proofs.judged.judge_text.Tie as tie
 
+abbrev entry-from-judge-lines : tie.After-memory → tie.Start
+entry-from-judge-lines c = c .before .before .before .before .before
+
+abbrev entry : tie.After-known-told → tie.Start
+entry c = entry-from-judge-lines (c .before .before .before)
+
+abbrev at-judge-lines : tie.After-known-told → tie.After-judge-lines
+at-judge-lines c = c .before .before .before .before
+
 -- the lines were judged good: where they stand, and the table that they make
-placed : (c : tie.After-known-told) → Placed (c .before .places .given .0 .0) (c .before .before .before .before .before .before .before .before .args .text .now)
-placed c = subst (λ (r : TextJudged). placedIn r (c .before .before .before .before .before .before .before .before .args .text .now)) (c .before .places .given .1) (c .before .before .before .before .judge-lines .ensures .1)
+placed : (c : tie.After-known-told) → Placed (c .before .places .given .0 .0) (entry c .args .text .now)
+placed c = subst (λ (r : TextJudged). placedIn r (entry c .args .text .now)) (c .before .places .given .1) (at-judge-lines c .judge-lines .ensures .1)
 
 lines-are : (c : tie.After-known-told)
-    → let text = c .before .before .before .before .before .before .before .before .args .text .now in
-    tableIn (Passed (c .before .places .given .0 .0)) text (c .before .before .before .before .judge-lines .last .1 .0) ≡ linesOf text
+    → let text = entry c .args .text .now in
+    tableIn (Passed (c .before .places .given .0 .0)) text (at-judge-lines c .judge-lines .last .1 .0) ≡ linesOf text
 lines-are c =
-    let text = c .before .before .before .before .before .before .before .before .args .text .now in
-    sym (ap (λ (r : TextJudged). tableIn r text (c .before .before .before .before .judge-lines .last .1 .0)) (c .before .places .given .1)) ∙ c .before .before .before .before .judge-lines .ensures .0
+    let text = entry c .args .text .now in
+    sym (ap (λ (r : TextJudged). tableIn r text (at-judge-lines c .judge-lines .last .1 .0)) (c .before .places .given .1)) ∙ at-judge-lines c .judge-lines .ensures .0
 
 -- the memory is as long as it was
-memory-long : (c : tie.After-known-told) → length (c .before .before .before .before .judge-lines .last .1 .0) ≡ bordersMost
-memory-long c = c .before .before .before .before .judge-lines .kept .1 .0 ∙ c .before .before .before .before .before .before .before .before .pre
+memory-long : (c : tie.After-known-told) → length (at-judge-lines c .judge-lines .last .1 .0) ≡ bordersMost
+memory-long c = at-judge-lines c .judge-lines .kept .1 .0 ∙ entry c .pre
 
 returns : tie.Need-returns
 returns c = (ap refused (c .too-long .ensures) ∙ too-long _ (c .before .if1 .taken), tt)
@@ -47,7 +56,7 @@ returns-3 : tie.Need-returns-3
 returns-3 c = (text-passes _ (c .before .before .before .before .before .before .before .before .before .before .before .if1 .left) _ (lines-are (c .before .before .before .before .before)) (sym (ap found (c .enum-told .given .1)) ∙ c .before .before .first-twice .ensures), placed (c .before .before .before .before .before))
 
 returns-4 : tie.Need-returns-4
-returns-4 c = (lines-refused _ (c .before .before .before .before .before .before .if1 .left) _ (sym (ap (λ (r : TextJudged). tableIn r (c .before .before .before .before .before .before .before .before .args .text .now) (c .before .before .before .before .judge-lines .last .1 .0)) (c .before .w .given .1)) ∙ c .before .before .before .before .judge-lines .ensures .0), tt)
+returns-4 c = (lines-refused _ (c .before .before .before .before .before .before .if1 .left) _ (sym (ap (λ (r : TextJudged). tableIn r (entry-from-judge-lines (c .before .before .before) .args .text .now) (c .before .before .before .before .judge-lines .last .1 .0)) (c .before .w .given .1)) ∙ c .before .before .before .before .judge-lines .ensures .0), tt)
 
 pub judge-text-spec : {M : Type 1} → statement M
 judge-text-spec =

@@ -16,9 +16,12 @@ add-result-2 c =
     let state = simp (toZ-ofZ, start .fits .state) at (c .signed-length .ensures) in
     omega (arith, c .before .digit-count .ensures, decimal-u64 (start .args .i) (omega arith), decimal-i64 (start .args .state) (start .fits .state .sfits))
 
+abbrev entry : tie.After-signed-length2 → tie.Start
+entry c = c .before .before .before
+
 add-result-3 : tie.Need-add-result-3
 add-result-3 c =
-    let start = c .before .before .before in
+    let start = entry c in
     let state = simp (toZ-ofZ, start .fits .state) at (c .before .signed-length .ensures) in
     let ram = simp (toZ-ofZ, start .fits .ram) at (c .signed-length2 .ensures) in
     omega (
@@ -31,7 +34,7 @@ add-result-3 c =
 
 add-result-4 : tie.Need-add-result-4
 add-result-4 c =
-    let start = c .before .before .before .before in
+    let start = entry (c .before) in
     let state = simp (toZ-ofZ, start .fits .state) at (c .before .before .signed-length .ensures) in
     let ram = simp (toZ-ofZ, start .fits .ram) at (c .before .signed-length2 .ensures) in
     let left = simp (toZ-ofZ, start .fits .state, start .fits .left) at (c .left-length .ensures) in
@@ -46,7 +49,7 @@ add-result-4 c =
 
 returns : tie.Need-returns
 returns c =
-    let start = c .before .before .before .before in
+    let start = entry (c .before) in
     let state = simp (toZ-ofZ, start .fits .state) at (c .before .before .signed-length .ensures) in
     let ram = simp (toZ-ofZ, start .fits .ram) at (c .before .signed-length2 .ensures) in
     let left = simp (toZ-ofZ, start .fits .state, start .fits .left) at (c .left-length .ensures) in

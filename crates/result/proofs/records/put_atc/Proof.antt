@@ -25,18 +25,24 @@ put-signed-field-requires c κs =
     let index = line-more (omega (arith, start .pre)) letter (c .before .before .before .put-number-field .ensures) in
     simp (toZ-ofZ, start .fits .atc) (room-more index _ [] (start .pre))
 
+abbrev entry : tie.After-put-byte-arg2 → tie.Start
+entry c = c .before .before .before .before .before .before .before .before .before .before .before .before .before .before
+
+abbrev at-put-byte : tie.After-put-byte-arg2 → tie.After-put-byte
+at-put-byte c = c .before .before .before .before .before .before .before .before .before .before .before
+
 put-byte-requires-2 : tie.Need-put-byte-requires-2
 put-byte-requires-2 c κs =
-    let start = c .before .before .before .before .before .before .before .before .before .before .before .before .before .before in
-    let letter = line-none (c .before .before .before .before .before .before .before .before .before .before .before .put-byte .ensures) in
+    let start = entry c in
+    let letter = line-none (at-put-byte c .put-byte .ensures) in
     let index = line-more (omega (arith, start .pre)) letter (c .before .before .before .before .before .before .before .put-number-field .ensures) in
     let atc = line-more (omega (arith, start .pre)) index (simp (toZ-ofZ, start .fits .atc) at (c .before .before .before .put-signed-field .ensures)) in
     room-last atc (start .pre)
 
 returns : tie.Need-returns
 returns c =
-    let start = c .before .before .before .before .before .before .before .before .before .before .before .before .before .before .before .before .before in
-    let letter = line-none (c .before .before .before .before .before .before .before .before .before .before .before .before .before .before .put-byte .ensures) in
+    let start = entry (c .before .before .before) in
+    let letter = line-none (at-put-byte (c .before .before .before) .put-byte .ensures) in
     let index = line-more (omega (arith, start .pre)) letter (c .before .before .before .before .before .before .before .before .before .before .put-number-field .ensures) in
     let atc = line-more (omega (arith, start .pre)) index (simp (toZ-ofZ, start .fits .atc) at (c .before .before .before .before .before .before .put-signed-field .ensures)) in
     line-all (omega (arith, start .pre)) atc (c .before .before .put-byte2 .ensures)

@@ -20,15 +20,18 @@ put-margins-requires c κs =
     let all = text-length (start .args .atc .now) (start .args .left .now) (start .args .rounds) in
     put-room (c .before .before .before .put-atcs .ensures) (length (marginLines (start .args .left .now))) (omega (arith, start .pre))
 
+abbrev entry : tie.After-put-rounds-arg → tie.Start
+entry c = c .before .before .before .before .before .before .before .before .before .before
+
 put-rounds-requires : tie.Need-put-rounds-requires
 put-rounds-requires c κs =
-    let start = c .before .before .before .before .before .before .before .before .before .before in
+    let start = entry c in
     let all = text-length (start .args .atc .now) (start .args .left .now) (start .args .rounds) in
     let last = length (roundsLine (start .args .rounds)) in
     put-room (c .before .before .before .put-margins .ensures) last (put-room (c .before .before .before .before .before .before .before .put-atcs .ensures) (length (marginLines (start .args .left .now)) + last) (omega (arith, start .pre)))
 
 returns : tie.Need-returns
-returns c = put-whole (text-put (c .before .before .before .before .before .before .before .before .before .before .before .before .before .args .atc .now) (c .before .before .before .before .before .before .before .before .before .before .before .before .before .args .left .now) (c .before .before .before .before .before .before .before .before .before .before .before .before .before .args .rounds) (c .before .before .before .before .before .before .before .before .before .before .put-atcs .ensures) (c .before .before .before .before .before .before .put-margins .ensures) (c .before .before .put-rounds .ensures))
+returns c = put-whole (text-put (entry (c .before .before .before) .args .atc .now) (entry (c .before .before .before) .args .left .now) (entry (c .before .before .before) .args .rounds) (c .before .before .before .before .before .before .before .before .before .before .put-atcs .ensures) (c .before .before .before .before .before .before .put-margins .ensures) (c .before .before .put-rounds .ensures))
 
 pub put-records-spec : {M : Type 1} → statement M
 put-records-spec =

@@ -17,15 +17,18 @@ put-number-field-requires c κs =
     let start = c .before .before .before .before .before .before in
     room-more (line-none (c .before .before .before .put-byte .ensures)) _ [] (start .pre)
 
+abbrev entry : tie.After-put-byte-arg2 → tie.Start
+entry c = c .before .before .before .before .before .before .before .before .before .before
+
 put-byte-requires-2 : tie.Need-put-byte-requires-2
 put-byte-requires-2 c κs =
-    let start = c .before .before .before .before .before .before .before .before .before .before in
+    let start = entry c in
     let letter = line-none (c .before .before .before .before .before .before .before .put-byte .ensures) in
     room-last (line-more (omega (arith, start .pre)) letter (c .before .before .before .put-number-field .ensures)) (start .pre)
 
 returns : tie.Need-returns
 returns c =
-    let start = c .before .before .before .before .before .before .before .before .before .before .before .before .before in
+    let start = entry (c .before .before .before) in
     let letter = line-none (c .before .before .before .before .before .before .before .before .before .before .put-byte .ensures) in
     let number = line-more (omega (arith, start .pre)) letter (c .before .before .before .before .before .before .put-number-field .ensures) in
     line-all (omega (arith, start .pre)) number (c .before .before .put-byte2 .ensures)

@@ -21,14 +21,26 @@ Inv-loop text at zones b₀ n first i₀ p₀ b i p = Stored (borderLine zones) 
 abbrev μ-loop : tie.MeasureT-loop
 μ-loop text at zones b₀ n first i₀ p₀ b i p = n - i
 
+abbrev entry : tie.At-loop Inv-loop μ-loop → tie.Start Inv-loop μ-loop
+entry c = c .before .before
+
+abbrev at-loop : tie.After-border-line Inv-loop μ-loop → tie.At-loop Inv-loop μ-loop
+at-loop c = c .before .before .before .before
+
+abbrev at-loop-from-border-line : tie.After-raw2 Inv-loop μ-loop → tie.At-loop Inv-loop μ-loop
+at-loop-from-border-line c = at-loop (c .before)
+
+abbrev at-loop-from-enum-told : tie.After-enum-told Inv-loop μ-loop → tie.At-loop Inv-loop μ-loop
+at-loop-from-enum-told c = at-loop (c .before .before .before)
+
 -- what was said of the line at p
 line-said : (c : tie.After-border-line Inv-loop μ-loop)
-    → let l = c .before .before .before .before .loop in
-    let a = c .before .before .before .before .before .before .args in
+    → let l = at-loop c .loop in
+    let a = entry (at-loop c) .args in
     borderLine (a .zones) (lineAt (a .text .now) (l .p)) (l .i) ≡ saidBorder (c .border-line .result) (c .border-line .last .1 .1 .1 .0)
 line-said c =
-    let a = c .before .before .before .before .before .before .args in
-    ap (λ (line : List ℕ). borderLine (a .zones) line (c .before .before .before .before .loop .i)) (sym (c .before .before .line-at .ensures)) ∙ sym (c .border-line .ensures)
+    let a = entry (at-loop c) .args in
+    ap (λ (line : List ℕ). borderLine (a .zones) line (at-loop c .loop .i)) (sym (c .before .before .line-at .ensures)) ∙ sym (c .border-line .ensures)
 
 loop-holds : tie.Need-loop-holds Inv-loop μ-loop
 loop-holds c =
@@ -39,44 +51,44 @@ line-at-requires : tie.Need-line-at-requires Inv-loop μ-loop
 line-at-requires c κs = c .before .loop .inv .within
 
 mul-t16 : tie.Need-mul-t16 Inv-loop μ-loop
-mul-t16 c = omega (arith, c .before .before .before .before .before .before .before .loop .inv, c .before .before .before .before .before .before .before .before .before .pre)
+mul-t16 c = omega (arith, at-loop-from-enum-told c .loop .inv, entry (at-loop-from-enum-told c) .pre)
 
 slice-set-from-b : tie.Need-slice-set-from-b Inv-loop μ-loop
-slice-set-from-b c = omega (arith, c .before .before .before .before .before .before .before .loop .inv)
+slice-set-from-b c = omega (arith, at-loop-from-enum-told c .loop .inv)
 
 add-wrong-form : tie.Need-add-wrong-form Inv-loop μ-loop
-add-wrong-form c = omega (arith, c .before .before .before .before .before .before .before .loop .inv .high)
+add-wrong-form c = omega (arith, at-loop (c .before .before .before) .loop .inv .high)
 
 same-length : tie.Need-same-length Inv-loop μ-loop
-same-length c = c .before .before .before .before .before .before .before .before .loop .inv .as-long
+same-length c = at-loop-from-border-line (c .before .before .before) .loop .inv .as-long
 
 returns : tie.Need-returns Inv-loop μ-loop
 returns c =
-    let zones = c .before .before .before .before .before .before .before .before .before .before .args .zones in
-    let l = c .before .before .before .before .before .before .before .before .loop in
+    let zones = entry (at-loop-from-border-line (c .before .before .before)) .args .zones in
+    let l = at-loop-from-border-line (c .before .before .before) .loop in
     ap fault (c .wrong-form .ensures) ∙ stored-form (borderLine zones) (zoneLineNo + zones) _ _ _ _ _ _ _ (l .inv) (c .before .before .before .before .before .before .before .loop-test .taken) (line-said (c .before .before .before .before) ∙ ap (λ (r : BorderLine). saidBorder r (c .before .before .before .before .border-line .last .1 .1 .1 .0)) (c .before .enum-told2 .given .1))
 
 add-out-of-range : tie.Need-add-out-of-range Inv-loop μ-loop
-add-out-of-range c = omega (arith, c .before .before .before .before .before .before .before .loop .inv .high)
+add-out-of-range c = omega (arith, at-loop (c .before .before .before) .loop .inv .high)
 
 same-length-2 : tie.Need-same-length-2 Inv-loop μ-loop
-same-length-2 c = c .before .before .before .before .before .before .before .before .loop .inv .as-long
+same-length-2 c = at-loop-from-border-line (c .before .before .before) .loop .inv .as-long
 
 returns-2 : tie.Need-returns-2 Inv-loop μ-loop
 returns-2 c =
-    let zones = c .before .before .before .before .before .before .before .before .before .before .args .zones in
-    let l = c .before .before .before .before .before .before .before .before .loop in
+    let zones = entry (at-loop-from-border-line (c .before .before .before)) .args .zones in
+    let l = at-loop-from-border-line (c .before .before .before) .loop in
     ap fault (c .out-of-range .ensures) ∙ stored-range (borderLine zones) (zoneLineNo + zones) _ _ _ _ _ _ _ (l .inv) (c .before .before .before .before .before .before .before .loop-test .taken) (line-said (c .before .before .before .before) ∙ ap (λ (r : BorderLine). saidBorder r (c .before .before .before .before .border-line .last .1 .1 .1 .0)) (c .before .enum-told3 .given .1))
 
 add-p : tie.Need-add-p Inv-loop μ-loop
 add-p c =
-    let l = c .before .before .before .before .before .before .before .loop in
-    rw (c .before .before .before .before .before .line-at .ensures) (omega (arith, after-within (c .before .before .before .before .before .before .before .before .before .args .text .now) (l .p) (l .inv .within)))
+    let l = at-loop-from-enum-told c .loop in
+    rw (c .before .before .before .before .before .line-at .ensures) (omega (arith, after-within (entry (at-loop-from-enum-told c) .args .text .now) (l .p) (l .inv .within)))
 
 loop-again : tie.Need-loop-again Inv-loop μ-loop
 loop-again c =
-    let zones = c .before .before .before .before .before .before .before .before .before .args .zones in
-    let l = c .before .before .before .before .before .before .before .loop in
+    let zones = entry (at-loop-from-enum-told c) .args .zones in
+    let l = at-loop-from-enum-told c .loop in
     rw (c .before .before .before .before .before .line-at .ensures)
     (stored-more (borderLine zones) (zoneLineNo + zones) _ _ _ _ _ _ _ (l .inv) (c .before .before .before .before .before .before .loop-test .taken) _ (line-said (c .before .before .before) ∙ ap (λ (r : BorderLine). saidBorder r (c .before .before .before .border-line .last .1 .1 .1 .0)) (c .enum-told .given .1)))
 
@@ -85,7 +97,7 @@ same-length-3 c = c .before .loop .inv .as-long
 
 returns-3 : tie.Need-returns-3 Inv-loop μ-loop
 returns-3 c =
-    let zones = c .before .before .before .args .zones in
+    let zones = entry (c .before) .args .zones in
     stored-all (borderLine zones) (zoneLineNo + zones) _ _ _ _ _ _ _ (c .before .loop .inv) (c .loop-test .left)
 
 pub borders-read-spec : {M : Type 1} → statement M

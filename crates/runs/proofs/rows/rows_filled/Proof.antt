@@ -15,19 +15,25 @@ Inv-loop text at zones c₀ f₀ p₀ i₀ i-end c f p i = RowsFilled zones text
 abbrev μ-loop : tie.MeasureT-loop
 μ-loop text at zones c₀ f₀ p₀ i₀ i-end c f p i = i-end - i
 
+abbrev entry : tie.In-loop Inv-loop μ-loop → tie.Start Inv-loop μ-loop
+entry c = c .before .before .before
+
+abbrev in-loop : tie.After-f Inv-loop μ-loop → tie.In-loop Inv-loop μ-loop
+in-loop c = c .before .before .before .before
+
 -- row i's stretch is in the lent table
 room : (c : tie.In-loop Inv-loop μ-loop)
     → let l = c .before .loop in
-    let a = c .before .before .before .args in
+    let a = entry c .args in
     l .i * a .zones + a .zones ≤ length (l .f)
 room c =
     let l = c .before .loop in
-    let a = c .before .before .before .args in
+    let a = entry c .args in
     rows-filled-room (a .zones) (a .text .now) (a .at) (length (a .c .now)) (l .c) (l .f) (l .p) (l .i) (l .inv) (c .loop-test .taken)
 
 lent : (c : tie.In-loop Inv-loop μ-loop)
-    → let start = c .before .loop .i * c .before .before .before .args .zones in
-    let zones = c .before .before .before .args .zones in
+    → let start = c .before .loop .i * entry c .args .zones in
+    let zones = entry c .args .zones in
     length (take (start + zones - start) (drop start (c .before .loop .f))) ≡ zones
 lent c = lent-long (c .before .loop .f) _ _ (room c)
 
@@ -54,7 +60,7 @@ part-row-filled-end c = omega (arith, room (c .before))
 row-filled-requires : tie.Need-row-filled-requires Inv-loop μ-loop
 row-filled-requires c κs =
     let l = c .before .before .before .loop in
-    let start = c .before .before .before .before .before in
+    let start = entry (c .before .before) in
     let a = start .args in
     let n = lent (c .before .before) in
     (omega (arith, n, start .pre .3), omega (arith, n, start .pre .4), rows-filled-holds (a .zones) (a .text .now) (a .at) (length (a .c .now)) (l .c) (l .f) (l .p) (l .i) (l .inv) (c .before .before .loop-test .taken) _ (c .before .line-at .ensures) _ n)
@@ -65,8 +71,8 @@ slice-set-from-c c = omega (arith, c .before .before .before .before .before .lo
 loop-again : tie.Need-loop-again Inv-loop μ-loop
 loop-again c =
     let l = c .before .before .before .before .before .loop in
-    let a = c .before .before .before .before .before .before .before .args in
-    rows-filled-more (a .zones) (a .text .now) (a .at) (length (a .c .now)) (l .c) (l .f) (l .p) (l .i) (l .inv) (c .before .before .before .before .loop-test .taken) _ (c .before .before .before .line-at .ensures) _ (lent (c .before .before .before .before))
+    let a = entry (in-loop c) .args in
+    rows-filled-more (a .zones) (a .text .now) (a .at) (length (a .c .now)) (l .c) (l .f) (l .p) (l .i) (l .inv) (in-loop c .loop-test .taken) _ (c .before .before .before .line-at .ensures) _ (lent (in-loop c))
     (c .before .row-filled .result) (c .before .row-filled .last .1 .1 .0) (c .before .row-filled .kept .1 .1 .0) (c .before .row-filled .ensures)
 
 same-length : tie.Need-same-length Inv-loop μ-loop

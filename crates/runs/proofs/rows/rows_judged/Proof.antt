@@ -21,14 +21,17 @@ Inv-loop text at zones first count p₀ i₀ p i = Passed (rowLine zones) first 
 abbrev μ-loop : tie.MeasureT-loop
 μ-loop text at zones first count p₀ i₀ p i = count - i
 
+abbrev entry : tie.After-row-judged Inv-loop μ-loop → tie.Start Inv-loop μ-loop
+entry c = c .before .before .before .before .before
+
 -- the line's judgement, said of the line as the text has it
 judged : (c : tie.After-row-judged Inv-loop μ-loop)
     → let l = c .before .before .before .loop in
-    let a = c .before .before .before .before .before .args in
+    let a = entry c .args in
     judgedOf (rowLine (a .zones) (lineAt (a .text .now) (l .p)) (l .i)) ≡ c .row-judged .result
 judged c =
     let l = c .before .before .before .loop in
-    let a = c .before .before .before .before .before .args in
+    let a = entry c .args in
     ap (λ (line : List ℕ). judgedOf (rowLine (a .zones) line (l .i))) (sym (c .before .line-at .ensures)) ∙ sym (c .row-judged .ensures)
 
 loop-holds : tie.Need-loop-holds Inv-loop μ-loop
@@ -41,19 +44,19 @@ line-at-requires c κs = c .before .loop .inv .within
 
 returns : tie.Need-returns Inv-loop μ-loop
 returns c =
-    let a = c .before .before .before .before .before .before .before .before .args in
+    let a = entry (c .before .before .before) .args in
     let l = c .before .before .before .before .before .before .loop in
     ap refused (c .wrong-form .ensures) ∙ passed-line (rowLine (a .zones)) (a .first) endOf end-drops (a .text .now) (a .at) (a .count) (l .i) (l .p) (l .inv) (c .before .before .before .before .before .loop-test .taken) form (said-form _ (judged (c .before .before .before) ∙ c .before .enum-told2 .given .1))
 
 returns-2 : tie.Need-returns-2 Inv-loop μ-loop
 returns-2 c =
-    let a = c .before .before .before .before .before .before .before .before .args in
+    let a = entry (c .before .before .before) .args in
     let l = c .before .before .before .before .before .before .loop in
     ap refused (c .out-of-range .ensures) ∙ passed-line (rowLine (a .zones)) (a .first) endOf end-drops (a .text .now) (a .at) (a .count) (l .i) (l .p) (l .inv) (c .before .before .before .before .before .loop-test .taken) range (said-range _ (judged (c .before .before .before) ∙ c .before .enum-told3 .given .1))
 
 loop-again : tie.Need-loop-again Inv-loop μ-loop
 loop-again c =
-    let a = c .before .before .before .before .before .before .before .args in
+    let a = entry (c .before .before) .args in
     let l = c .before .before .before .before .before .loop in
     let held = said-holds _ (judged (c .before .before) ∙ c .enum-told .given .1) in
     rw (c .before .before .before .line-at .ensures) (passed-more (rowLine (a .zones)) (a .first) endOf end-drops (a .text .now) (a .at) (a .count) (l .i) (l .p) (l .inv) (c .before .before .before .before .loop-test .taken) (held .it) (held .is))

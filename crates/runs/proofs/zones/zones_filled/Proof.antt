@@ -22,11 +22,17 @@ Inv-loop text at z₀ n i₀ p₀ z i p = Stored zoneLine zoneLineNo text at z�
 abbrev μ-loop : tie.MeasureT-loop
 μ-loop text at z₀ n i₀ p₀ z i p = n - i
 
+abbrev entry : tie.After-zone-line Inv-loop μ-loop → tie.Start Inv-loop μ-loop
+entry c = c .before .before .before .before .before
+
+abbrev at-loop : tie.After-zone-line Inv-loop μ-loop → tie.At-loop Inv-loop μ-loop
+at-loop c = c .before .before .before
+
 -- what was said of the line at p
 line-said : (c : tie.After-zone-line Inv-loop μ-loop)
-    → let l = c .before .before .before .loop in
-    zoneLine (lineAt (c .before .before .before .before .before .args .text .now) (l .p)) (l .i) ≡ saidZone (c .zone-line .result)
-line-said c = ap (λ (line : List ℕ). zoneLine line (c .before .before .before .loop .i)) (sym (c .before .line-at .ensures)) ∙ sym (c .zone-line .ensures)
+    → let l = at-loop c .loop in
+    zoneLine (lineAt (entry c .args .text .now) (l .p)) (l .i) ≡ saidZone (c .zone-line .result)
+line-said c = ap (λ (line : List ℕ). zoneLine line (at-loop c .loop .i)) (sym (c .before .line-at .ensures)) ∙ sym (c .zone-line .ensures)
 
 loop-holds : tie.Need-loop-holds Inv-loop μ-loop
 loop-holds c = stored-none zoneLine zoneLineNo _ _ _ (c .before .pre .0)
@@ -35,37 +41,37 @@ line-at-requires : tie.Need-line-at-requires Inv-loop μ-loop
 line-at-requires c κs = c .before .loop .inv .within
 
 mul-net : tie.Need-mul-net Inv-loop μ-loop
-mul-net c = omega (arith, c .before .before .before .before .before .before .loop .inv, c .before .before .before .before .before .before .before .before .good)
+mul-net c = omega (arith, at-loop (c .before .before .before) .loop .inv, entry (c .before .before .before) .good)
 
 slice-set-from-net : tie.Need-slice-set-from-net Inv-loop μ-loop
-slice-set-from-net c = omega (arith, c .before .before .before .before .before .before .loop .inv)
+slice-set-from-net c = omega (arith, at-loop (c .before .before .before) .loop .inv)
 
 same-length : tie.Need-same-length Inv-loop μ-loop
-same-length c = c .before .before .before .before .before .loop .inv .as-long
+same-length c = at-loop (c .before .before) .loop .inv .as-long
 
 returns : tie.Need-returns Inv-loop μ-loop
 returns c =
-    let l = c .before .before .before .before .before .loop in
-    absurd (good-never _ _ (c .before .before .before .before .before .before .before .pre .1)
+    let l = at-loop (c .before .before) .loop in
+    absurd (good-never _ _ (entry (c .before .before) .pre .1)
     (stored-form zoneLine zoneLineNo _ _ _ _ _ _ _ (l .inv) (c .before .before .before .before .loop-test .taken) (line-said (c .before .before) ∙ ap saidZone (c .enum-told .given .1))))
 
 same-length-2 : tie.Need-same-length-2 Inv-loop μ-loop
-same-length-2 c = c .before .before .before .before .before .loop .inv .as-long
+same-length-2 c = at-loop (c .before .before) .loop .inv .as-long
 
 returns-2 : tie.Need-returns-2 Inv-loop μ-loop
 returns-2 c =
-    let l = c .before .before .before .before .before .loop in
-    absurd (good-never _ _ (c .before .before .before .before .before .before .before .pre .1)
+    let l = at-loop (c .before .before) .loop in
+    absurd (good-never _ _ (entry (c .before .before) .pre .1)
     (stored-range zoneLine zoneLineNo _ _ _ _ _ _ _ (l .inv) (c .before .before .before .before .loop-test .taken) (line-said (c .before .before) ∙ ap saidZone (c .enum-told2 .given .1))))
 
 add-p : tie.Need-add-p Inv-loop μ-loop
 add-p c =
-    let l = c .before .before .before .before .before .before .loop in
-    rw (c .before .before .before .before .line-at .ensures) (omega (arith, after-within (c .before .before .before .before .before .before .before .before .args .text .now) (l .p) (l .inv .within)))
+    let l = at-loop (c .before .before .before) .loop in
+    rw (c .before .before .before .before .line-at .ensures) (omega (arith, after-within (entry (c .before .before .before) .args .text .now) (l .p) (l .inv .within)))
 
 loop-again : tie.Need-loop-again Inv-loop μ-loop
 loop-again c =
-    let l = c .before .before .before .before .before .before .loop in
+    let l = at-loop (c .before .before .before) .loop in
     let net = c .before .net .given .0 .0 in
     let plain-net : toZ w64 (ofZ w64 net) ≡ net = search needs in
     rw (plain-net, c .before .before .before .before .line-at .ensures)

@@ -22,11 +22,14 @@ Inv-loop text at count i₀ p₀ i p = Passed zoneLine zoneLineNo endOf end-drop
 abbrev μ-loop : tie.MeasureT-loop
 μ-loop text at count i₀ p₀ i p = count - i
 
+abbrev at-loop : tie.After-zone-line Inv-loop μ-loop → tie.At-loop Inv-loop μ-loop
+at-loop c = c .before .before .before
+
 -- what was said of the line at p
 line-said : (c : tie.After-zone-line Inv-loop μ-loop)
-    → let l = c .before .before .before .loop in
+    → let l = at-loop c .loop in
     zoneLine (lineAt (c .before .before .before .before .before .args .text .now) (l .p)) (l .i) ≡ saidZone (c .zone-line .result)
-line-said c = ap (λ (line : List ℕ). zoneLine line (c .before .before .before .loop .i)) (sym (c .before .line-at .ensures)) ∙ sym (c .zone-line .ensures)
+line-said c = ap (λ (line : List ℕ). zoneLine line (at-loop c .loop .i)) (sym (c .before .line-at .ensures)) ∙ sym (c .zone-line .ensures)
 
 loop-holds : tie.Need-loop-holds Inv-loop μ-loop
 loop-holds c = passed-start zoneLine zoneLineNo endOf end-drops _ _ _ (c .before .pre .0)
@@ -36,22 +39,22 @@ line-at-requires c κs = c .before .loop .inv .within
 
 returns : tie.Need-returns Inv-loop μ-loop
 returns c =
-    let l = c .before .before .before .before .before .before .loop in
+    let l = at-loop (c .before .before .before) .loop in
     ap refused (c .wrong-form .ensures) ∙ passed-line zoneLine zoneLineNo endOf end-drops _ _ _ _ _ (l .inv) (c .before .before .before .before .before .loop-test .taken) form (line-said (c .before .before .before) ∙ ap saidZone (c .before .enum-told2 .given .1))
 
 returns-2 : tie.Need-returns-2 Inv-loop μ-loop
 returns-2 c =
-    let l = c .before .before .before .before .before .before .loop in
+    let l = at-loop (c .before .before .before) .loop in
     ap refused (c .out-of-range .ensures) ∙ passed-line zoneLine zoneLineNo endOf end-drops _ _ _ _ _ (l .inv) (c .before .before .before .before .before .loop-test .taken) range (line-said (c .before .before .before) ∙ ap saidZone (c .before .enum-told3 .given .1))
 
 add-p : tie.Need-add-p Inv-loop μ-loop
 add-p c =
-    let l = c .before .before .before .before .before .loop in
+    let l = at-loop (c .before .before) .loop in
     rw (c .before .before .before .line-at .ensures) (omega (arith, after-within (c .before .before .before .before .before .before .before .args .text .now) (l .p) (l .inv .within)))
 
 loop-again : tie.Need-loop-again Inv-loop μ-loop
 loop-again c =
-    let l = c .before .before .before .before .before .loop in
+    let l = at-loop (c .before .before) .loop in
     rw (c .before .before .before .line-at .ensures)
     (passed-more zoneLine zoneLineNo endOf end-drops _ _ _ _ _ (l .inv) (c .before .before .before .before .loop-test .taken) _ (line-said (c .before .before) ∙ ap saidZone (c .enum-told .given .1)))
 

@@ -30,19 +30,22 @@ no-digit c =
     let i = at-loop .loop .i in
     digits-none line i (c .before .before .before .loop-test .taken) (class-not-digit (getD line i 0) (c .before .class-of .result) (c .before .class-of .ensures) (c .match .keys2))
 
+abbrev at-loop-from-loop : tie.After-known-told Inv-loop μ-loop → tie.At-loop Inv-loop μ-loop
+at-loop-from-loop c = c .before .before .before .before .before .before
+
 digit : (c : tie.After-known-told Inv-loop μ-loop) →
-    let at-loop = c .before .before .before .before .before .before in
+    let at-loop = at-loop-from-loop c in
     let b = getD (at-loop .before .before .args .line .now) (at-loop .loop .i) 0 in
     (isDigit b ≡ true) × (c .before .d .given .0 .0 ≡ b - 48)
 digit c =
-    let at-loop = c .before .before .before .before .before .before in
+    let at-loop = at-loop-from-loop c in
     let at-class = c .before .before .before in
     class-digit (getD (at-loop .before .before .args .line .now) (at-loop .loop .i) 0) (at-class .class-of .result) (at-class .class-of .ensures) (c .before .d .given .0 .0) (c .before .d .given .1)
 
 -- where one digit more may follow, those before it are at most nine
-small : (c : tie.Else3 Inv-loop μ-loop) → c .before .before .before .before .before .before .before .before .loop .v < 10 ^ 9
+small : (c : tie.Else3 Inv-loop μ-loop) → at-loop-from-loop (c .before .before) .loop .v < 10 ^ 9
 small c =
-    let at-loop = c .before .before .before .before .before .before .before .before in
+    let at-loop = at-loop-from-loop (c .before .before) in
     let a = at-loop .before .before .args in
     let l = at-loop .loop in
     upto-small (a .line .now) (a .at) (l .i) (l .v) (l .inv) (sym (c .before .full .ensures) ∙ c .if3 .left)
@@ -74,11 +77,11 @@ returns-3 c =
     upto-empty (a .line .now) (a .at) (l .i) (l .v) (l .inv) (no-digit (c .before)) (a .stop) (c .if1 .left)
 
 sub-full : tie.Need-sub-full Inv-loop μ-loop
-sub-full c = omega (arith, c .before .before .before .before .before .before .loop .inv .low)
+sub-full c = omega (arith, at-loop-from-loop c .loop .inv .low)
 
 returns-4 : tie.Need-returns-4 Inv-loop μ-loop
 returns-4 c =
-    let at-loop = c .before .before .before .before .before .before .before .before in
+    let at-loop = at-loop-from-loop (c .before .before) in
     let a = at-loop .before .before .args in
     let l = at-loop .loop in
     upto-full (a .line .now) (a .at) (l .i) (l .v) (l .inv) (c .before .before .before .before .before .before .before .loop-test .taken) (digit (c .before .before) .0) (a .stop)
@@ -89,13 +92,13 @@ mul-v c = omega (arith, small c)
 
 add-v : tie.Need-add-v Inv-loop μ-loop
 add-v c =
-    let at-loop = c .before .before .before .before .before .before .before .before in
+    let at-loop = at-loop-from-loop (c .before .before) in
     let d = digit (c .before .before) in
     omega (arith, small c, digit-range (getD (at-loop .before .before .args .line .now) (at-loop .loop .i) 0) (d .0))
 
 loop-again : tie.Need-loop-again Inv-loop μ-loop
 loop-again c =
-    let at-loop = c .before .before .before .before .before .before .before .before in
+    let at-loop = at-loop-from-loop (c .before .before) in
     let a = at-loop .before .before .args in
     let l = at-loop .loop in
     let d = digit (c .before .before) in

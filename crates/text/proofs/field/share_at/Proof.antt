@@ -10,32 +10,35 @@ use Rattle.text.proofs.FieldLaws.{value-lt, dash-within, share-plus, sh
 use Rattle.text.proofs.field.share_at.Statement.{statement}
 use Rattle.text.proofs.field.share_at.Tie as tie
 
-dash : (c : tie.Then1) → let a = c .before .before .before .args in eqb (getD (a .line .now) (a .at) 0) 45 ≡ true
+abbrev entry : tie.Then1 → tie.Start
+entry c = c .before .before .before
+
+dash : (c : tie.Then1) → let a = entry c .args in eqb (getD (a .line .now) (a .at) 0) 45 ≡ true
 dash c = sym (c .before .has-minus .ensures) ∙ c .if1 .taken
 
 add-byte-at : tie.Need-add-byte-at
 add-byte-at c =
-    let a = c .before .before .before .args in
+    let a = entry c .args in
     omega (arith, dash-within (a .line .now) (a .at) (dash c))
 
 add-t8 : tie.Need-add-t8
 add-t8 c =
-    let a = c .before .before .before .before .before .args in
+    let a = entry (c .before .before) .args in
     omega (arith, dash-within (a .line .now) (a .at) (dash (c .before .before)))
 
 returns : tie.Need-returns
 returns c =
-    let a = c .before .before .before .before .before .args in
+    let a = entry (c .before .before) .args in
     share-alone (a .line .now) (a .at) (a .stop) (dash (c .before .before)) (sym (c .before .byte-at .ensures) ∙ c .if2 .taken)
 
 add-t6 : tie.Need-add-t6
 add-t6 c =
-    let a = c .before .before .before .before .before .args in
+    let a = entry (c .before .before) .args in
     omega (arith, dash-within (a .line .now) (a .at) (dash (c .before .before)))
 
 returns-2 : tie.Need-returns-2
 returns-2 c =
-    let a = c .before .before .before .before .before .args in
+    let a = entry (c .before .before) .args in
     share-other (a .line .now) (a .at) (a .stop) (dash (c .before .before)) (λ e. c .if2 .left (c .before .byte-at .ensures ∙ e))
 
 plus-requires : tie.Need-plus-requires

@@ -14,32 +14,35 @@ use Rattle.text.proofs.FieldLaws.{value-lt, dash-within}
 use Rattle.text.proofs.field.signed_at.Statement.{statement}
 use Rattle.text.proofs.field.signed_at.Tie as tie
 
-dash : (c : tie.Then1) → let a = c .before .before .before .args in eqb (getD (a .line .now) (a .at) 0) 45 ≡ true
+abbrev entry : tie.Then1 → tie.Start
+entry c = c .before .before .before
+
+dash : (c : tie.Then1) → let a = entry c .args in eqb (getD (a .line .now) (a .at) 0) 45 ≡ true
 dash c = sym (c .before .has-minus .ensures) ∙ c .if1 .taken
 
 add-byte-at : tie.Need-add-byte-at
 add-byte-at c =
-    let a = c .before .before .before .args in
+    let a = entry c .args in
     omega (arith, dash-within (a .line .now) (a .at) (dash c))
 
 add-minus : tie.Need-add-minus
 add-minus c =
-    let a = c .before .before .before .before .args in
+    let a = entry (c .before) .args in
     omega (arith, dash-within (a .line .now) (a .at) (dash (c .before)))
 
 add-number-at : tie.Need-add-number-at
 add-number-at c =
-    let a = c .before .before .before .before .args in
+    let a = entry (c .before) .args in
     omega (arith, dash-within (a .line .now) (a .at) (dash (c .before)))
 
 minus-requires : tie.Need-minus-requires
 minus-requires c κs =
-    let a = c .before .before .before .before .before .args in
+    let a = entry (c .before .before) .args in
     rw (c .number-at .ensures) (value-lt (a .line .now) (a .at + 1) (a .stop))
 
 returns : tie.Need-returns
 returns c =
-    let a = c .before .before .before .before .before .before .args in
+    let a = entry (c .before .before .before) .args in
     c .minus .ensures
     ∙ ap₂ (λ (first : ℕ) (n : Number). negative first (a .at + 1) n) (c .before .before .byte-at .ensures) (c .before .number-at .ensures)
     ∙ signed-minus (a .line .now) (a .at) (a .stop) (dash (c .before .before .before))

@@ -23,9 +23,12 @@ abbrev μ-loop : tie.MeasureT-loop
 within : (c : tie.In-loop Inv-loop μ-loop) → let s = c .before .before in c .before .loop .sum + length (rowTextAt (s .args .zones) (s .args .c .now) (s .args .f .now) (c .before .loop .i)) ≤ bytesMost
 within c = let s = c .before .before in sum-within (rowTextAt (s .args .zones) (s .args .c .now) (s .args .f .now)) (length (s .args .c .now)) (s .pre .3) (c .before .loop .inv) (omega arith)
 
-counted : (c : tie.After-row-length Inv-loop μ-loop) → let s = c .before .before .before .before .before in c .row-length .result ≡ length (rowTextAt (s .args .zones) (s .args .c .now) (s .args .f .now) (c .before .before .before .before .loop .i))
+abbrev entry : tie.After-row-length-arg Inv-loop μ-loop → tie.Start Inv-loop μ-loop
+entry c = c .before .before .before
+
+counted : (c : tie.After-row-length Inv-loop μ-loop) → let s = entry (c .before .before) in c .row-length .result ≡ length (rowTextAt (s .args .zones) (s .args .c .now) (s .args .f .now) (c .before .before .before .before .loop .i))
 unfolding stretch
-counted c = rw (part-long (c .before .before .before .before .loop .i) (c .before .before .before .before .before .args .zones)) at (c .row-length .ensures)
+counted c = rw (part-long (c .before .before .before .before .loop .i) (entry (c .before .before) .args .zones)) at (c .row-length .ensures)
 
 loop-holds : tie.Need-loop-holds Inv-loop μ-loop
 loop-holds c = summed-none _ _
@@ -34,21 +37,21 @@ mul-start : tie.Need-mul-start Inv-loop μ-loop
 mul-start c = omega (arith, stretch-end (c .before .before .args .zones) (length (c .before .before .args .c .now)) (c .before .loop .i) (omega arith), c .before .before .pre .0)
 
 add-row-length : tie.Need-add-row-length Inv-loop μ-loop
-add-row-length c = omega (arith, stretch-end (c .before .before .before .args .zones) (length (c .before .before .before .args .c .now)) (c .before .before .loop .i) (omega arith), c .before .before .before .pre .0)
+add-row-length c = omega (arith, stretch-end (entry c .args .zones) (length (entry c .args .c .now)) (c .before .before .loop .i) (omega arith), entry c .pre .0)
 
 mul-row-length-2 : tie.Need-mul-row-length-2 Inv-loop μ-loop
-mul-row-length-2 c = omega (arith, stretch-end (c .before .before .before .args .zones) (length (c .before .before .before .args .c .now)) (c .before .before .loop .i) (omega arith), c .before .before .before .pre .0)
+mul-row-length-2 c = omega (arith, stretch-end (entry c .args .zones) (length (entry c .args .c .now)) (c .before .before .loop .i) (omega arith), entry c .pre .0)
 
 part-row-length-start : tie.Need-part-row-length-start Inv-loop μ-loop
-part-row-length-start c = omega (arith, stretch-end (c .before .before .before .args .zones) (length (c .before .before .before .args .c .now)) (c .before .before .loop .i) (omega arith), c .before .before .before .pre .0)
+part-row-length-start c = omega (arith, stretch-end (entry c .args .zones) (length (entry c .args .c .now)) (c .before .before .loop .i) (omega arith), entry c .pre .0)
 
 part-row-length-end : tie.Need-part-row-length-end Inv-loop μ-loop
-part-row-length-end c = omega (arith, stretch-end (c .before .before .before .args .zones) (length (c .before .before .before .args .c .now)) (c .before .before .loop .i) (omega arith), c .before .before .before .pre .0)
+part-row-length-end c = omega (arith, stretch-end (entry c .args .zones) (length (entry c .args .c .now)) (c .before .before .loop .i) (omega arith), entry c .pre .0)
 
 row-length-requires : tie.Need-row-length-requires Inv-loop μ-loop
 unfolding stretch
 row-length-requires c κs =
-    let s = c .before .before .before .before in
+    let s = entry (c .before) in
     let i = c .before .before .before .loop .i in
     let n = lent-long (s .args .f .now) (i * s .args .zones) (s .args .zones) (omega (arith, stretch-end (s .args .zones) (length (s .args .c .now)) i (omega arith), s .pre .0)) in
     (omega (arith, n, s .pre .1), omega (arith, n, s .pre .2), rw (part-long (c .before .before .before .loop .i) (s .args .zones)) (omega (arith, within (c .before .before))))

@@ -14,10 +14,13 @@ use Rattle.writing.proofs.length.text_length.Tie as tie
 abbrev table : tie.Start → Table
 table s = lent (s .args .h) (s .args .z .now) (s .args .b .now) (s .args .c .now) (s .args .f .now)
 
+abbrev entry : tie.After-rows-length → tie.Start
+entry c = c .before .before .before .before
+
 counted : (c : tie.After-rows-length)
-    → length (tableText (table (c .before .before .before .before))) ≡ c .before .before .before .header-length .result + c .before .before .zones-length .result + c .before .borders-length .result + c .rows-length .result
+    → length (tableText (table (entry c))) ≡ c .before .before .before .header-length .result + c .before .before .zones-length .result + c .before .borders-length .result + c .rows-length .result
 counted c =
-    let s = c .before .before .before .before in
+    let s = entry c in
     omega (arith, text-length (table s) (s .pre), c .before .before .before .header-length .ensures, c .before .before .zones-length .ensures, c .before .borders-length .ensures, c .rows-length .ensures)
 
 header-length-requires : tie.Need-header-length-requires
@@ -33,13 +36,13 @@ rows-length-requires : tie.Need-rows-length-requires
 rows-length-requires c κs = let s = c .before .before .before in (factors-all (table s) (s .pre), omega (arith, header-in (s .args .h) (s .pre .exact .header) .zones-least), header-in (s .args .h) (s .pre .exact .header) .zones-most, omega (arith, text-within (table s) (s .pre)))
 
 add-result : tie.Need-add-result
-add-result c = let s = c .before .before .before .before in omega (arith, counted c, never-too-long (table s) (s .pre))
+add-result c = let s = entry c in omega (arith, counted c, never-too-long (table s) (s .pre))
 
 add-result-2 : tie.Need-add-result-2
-add-result-2 c = let s = c .before .before .before .before in omega (arith, counted c, never-too-long (table s) (s .pre))
+add-result-2 c = let s = entry c in omega (arith, counted c, never-too-long (table s) (s .pre))
 
 add-result-3 : tie.Need-add-result-3
-add-result-3 c = let s = c .before .before .before .before in omega (arith, counted c, never-too-long (table s) (s .pre))
+add-result-3 c = let s = entry c in omega (arith, counted c, never-too-long (table s) (s .pre))
 
 returns : tie.Need-returns
 returns c = omega (arith, counted c)

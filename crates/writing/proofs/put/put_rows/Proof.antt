@@ -22,25 +22,31 @@ abbrev μ-loop : tie.MeasureT-loop
 loop-holds : tie.Need-loop-holds Inv-loop μ-loop
 loop-holds c = (omega arith, lines-none _ _ _)
 
+abbrev entry : tie.At-loop Inv-loop μ-loop → tie.Start Inv-loop μ-loop
+entry c = c .before .before
+
+abbrev entry-from-loop : tie.After-put-row-arg Inv-loop μ-loop → tie.Start Inv-loop μ-loop
+entry-from-loop c = entry (c .before .before)
+
 mul-start : tie.Need-mul-start Inv-loop μ-loop
-mul-start c = omega (arith, stretch-end (c .before .before .before .args .zones) (length (c .before .before .before .args .c .now)) (c .before .loop .i) (omega arith), c .before .before .before .pre .0)
+mul-start c = omega (arith, stretch-end (entry (c .before) .args .zones) (length (entry (c .before) .args .c .now)) (c .before .loop .i) (omega arith), entry (c .before) .pre .0)
 
 add-put-row : tie.Need-add-put-row Inv-loop μ-loop
-add-put-row c = omega (arith, stretch-end (c .before .before .before .before .args .zones) (length (c .before .before .before .before .args .c .now)) (c .before .before .loop .i) (omega arith), c .before .before .before .before .pre .0)
+add-put-row c = omega (arith, stretch-end (entry-from-loop c .args .zones) (length (entry-from-loop c .args .c .now)) (c .before .before .loop .i) (omega arith), entry-from-loop c .pre .0)
 
 mul-put-row-2 : tie.Need-mul-put-row-2 Inv-loop μ-loop
-mul-put-row-2 c = omega (arith, stretch-end (c .before .before .before .before .args .zones) (length (c .before .before .before .before .args .c .now)) (c .before .before .loop .i) (omega arith), c .before .before .before .before .pre .0)
+mul-put-row-2 c = omega (arith, stretch-end (entry-from-loop c .args .zones) (length (entry-from-loop c .args .c .now)) (c .before .before .loop .i) (omega arith), entry-from-loop c .pre .0)
 
 part-put-row-start : tie.Need-part-put-row-start Inv-loop μ-loop
-part-put-row-start c = omega (arith, stretch-end (c .before .before .before .before .args .zones) (length (c .before .before .before .before .args .c .now)) (c .before .before .loop .i) (omega arith), c .before .before .before .before .pre .0)
+part-put-row-start c = omega (arith, stretch-end (entry-from-loop c .args .zones) (length (entry-from-loop c .args .c .now)) (c .before .before .loop .i) (omega arith), entry-from-loop c .pre .0)
 
 part-put-row-end : tie.Need-part-put-row-end Inv-loop μ-loop
-part-put-row-end c = omega (arith, stretch-end (c .before .before .before .before .args .zones) (length (c .before .before .before .before .args .c .now)) (c .before .before .loop .i) (omega arith), c .before .before .before .before .pre .0)
+part-put-row-end c = omega (arith, stretch-end (entry-from-loop c .args .zones) (length (entry-from-loop c .args .c .now)) (c .before .before .loop .i) (omega arith), entry-from-loop c .pre .0)
 
 put-row-requires : tie.Need-put-row-requires Inv-loop μ-loop
 unfolding stretch
 put-row-requires c κs =
-    let s = c .before .before .before .before .before .before in
+    let s = entry-from-loop (c .before .before) in
     let head = c .before .before .before .before .loop in
     let n = lent-long (s .args .f .now) (head .i * s .args .zones) (s .args .zones) (omega (arith, stretch-end (s .args .zones) (length (s .args .c .now)) (head .i) (omega arith), s .pre .0)) in
     (omega (arith, n, s .pre .1), omega (arith, n, s .pre .2), rw (part-long (head .i) (s .args .zones)) (lines-room (rowTextAt (s .args .zones) (s .args .c .now) (s .args .f .now)) (head .i) (length (s .args .c .now)) (omega arith) (s .pre .3) (head .inv .1)))
@@ -53,11 +59,11 @@ loop-again c =
     (omega arith, lines-more (rowTextAt (s .args .zones) (s .args .c .now) (s .args .f .now)) (omega (arith, s .pre .3)) (head .inv .1) (rw (part-long (head .i) (s .args .zones)) at (c .before .before .put-row .ensures)))
 
 -- all lines are written
-all : (c : tie.After-loop Inv-loop μ-loop) → let s = c .before .before .before in Put (rowsText (s .args .zones) (s .args .c .now) (s .args .f .now)) (s .args .at) (s .args .out .now) (c .before .loop .next) (c .before .loop .out)
-all c = lines-all (rowTextAt (c .before .before .before .args .zones) (c .before .before .before .args .c .now) (c .before .before .before .args .f .now)) (c .before .loop .inv .0) (omega arith) (c .before .loop .inv .1)
+all : (c : tie.After-loop Inv-loop μ-loop) → let s = entry (c .before) in Put (rowsText (s .args .zones) (s .args .c .now) (s .args .f .now)) (s .args .at) (s .args .out .now) (c .before .loop .next) (c .before .loop .out)
+all c = lines-all (rowTextAt (entry (c .before) .args .zones) (entry (c .before) .args .c .now) (entry (c .before) .args .f .now)) (c .before .loop .inv .0) (omega arith) (c .before .loop .inv .1)
 
 same-length : tie.Need-same-length Inv-loop μ-loop
-same-length c = put-kept (all c) (c .before .before .before .pre .3)
+same-length c = put-kept (all c) (entry (c .before) .pre .3)
 
 returns : tie.Need-returns Inv-loop μ-loop
 returns c = all c

@@ -19,14 +19,17 @@ put-zones-requires c κs = let s = c .before .before .before .before .before .be
 put-borders-requires : tie.Need-put-borders-requires
 put-borders-requires c κs = let s = c .before .before .before .before .before .before .before .before .before .before in borders-room (table s) (s .pre .0) (c .before .before .before .before .before .before .before .put-header .ensures) (c .before .before .before .put-zones .ensures) (s .pre .1)
 
+abbrev entry : tie.After-put-rows-arg → tie.Start
+entry c = c .before .before .before .before .before .before .before .before .before .before .before .before .before .before
+
 put-rows-requires : tie.Need-put-rows-requires
 put-rows-requires c κs =
-    let s = c .before .before .before .before .before .before .before .before .before .before .before .before .before .before in
+    let s = entry c in
     (factors-all (table s) (s .pre .0), omega (arith, header-in (s .args .h) (s .pre .0 .exact .header) .zones-least), header-in (s .args .h) (s .pre .0 .exact .header) .zones-most, rows-room (table s) (s .pre .0) (c .before .before .before .before .before .before .before .before .before .before .before .put-header .ensures) (c .before .before .before .before .before .before .before .put-zones .ensures) (c .before .before .before .put-borders .ensures) (s .pre .1))
 
 returns : tie.Need-returns
 returns c =
-    let s = c .before .before .before .before .before .before .before .before .before .before .before .before .before .before .before .before .before in
+    let s = entry (c .before .before .before) in
     text-put (table s) (s .pre .0) (c .before .before .before .before .before .before .before .before .before .before .before .before .before .before .put-header .ensures) (c .before .before .before .before .before .before .before .before .before .before .put-zones .ensures) (c .before .before .before .before .before .before .put-borders .ensures) (c .before .before .put-rows .ensures)
 
 pub put-table-spec : {M : Type 1} → statement M
