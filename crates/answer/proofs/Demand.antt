@@ -15,13 +15,14 @@ use Rattle.text.specs.Written.{textOf, decimal, fieldsText, lineText, linesText
 use Rattle.table.specs.Table.{Table, rowAt}
 use Rattle.reading.specs.Reading.{readText}
 use Rattle.reading.proofs.ReadLaws.{read-good}
-use Rattle.start.specs.Start.{judgeStart, judgeTable}
+use Rattle.start.specs.Setup.{gridBy, judgeBy}
+use Rattle.start.specs.Start.{judgeTable, setupWith}
 use Rattle.extraction.specs.Extraction.{Result, outcomeOf, atcRecord, rowRecord}
-use Rattle.extraction.specs.Demand.{Demand3}
-use Rattle.extraction.proofs.Demand3.{accepted-demand-3}
-use Rattle.extraction.specs.Seven.{NotSeven}
-use Rattle.extraction.proofs.Seven.{no-refusal-7}
-use Rattle.extraction.proofs.ToldLaws.{Says, Told, told-passed, told-then, told-unless, told-first}
+use Rattle.promises.specs.Demand.{Demand3}
+use Rattle.promises.proofs.Demand3.{accepted-demand-3}
+use Rattle.promises.specs.Seven.{NotSeven}
+use Rattle.promises.proofs.Seven.{no-refusal-7}
+use Rattle.promises.proofs.ToldLaws.{Says, Told, told-passed, told-then, told-unless, told-first}
 use Rattle.result.specs.Records.{atcAt, marginAt, recordsText}
 use Rattle.result.specs.Refusal.{refusalText}
 use Rattle.answer.specs.Result.{resultText, answerText}
@@ -58,7 +59,7 @@ abbrev Late : ℕ → Type 0
 Late n = (n ≡ 5) ⊎ ((n ≡ 6) ⊎ (n ≡ 7))
 
 outcome-late : (t : Table) → Told Late (outcomeOf t)
-unfolding outcomeOf judgeStart
+unfolding outcomeOf judgeBy gridBy setupWith
 outcome-late t =
     told-then (judgeTable t) _
     (told-unless _ _ _ (inl refl) (told-first _ _ _ _ (λ b. inr (inl refl)) (told-first _ _ _ _ (λ i. inr (inr refl)) (told-passed _))))

@@ -24,7 +24,7 @@ use Rattle.text.proofs.LeftLaws.{text-refused}
 use Rattle.table.specs.Table.{Table, judgeLent}
 use Rattle.table.proofs.GoodLaws.{judged-front, judged-good}
 use Rattle.extraction.specs.Extraction.{Result, resultOf, outcomeOf, atcRecord, rowRecord, ExtractLeft, leaves, resultStored, extractLeft}
-use Rattle.extraction.proofs.DemandLaws.{accepted}
+use Rattle.extraction.proofs.AcceptedLaws.{accepted}
 use Rattle.extraction.proofs.LentLaws.{extract-roomy}
 use Rattle.result.specs.Records.{recordsText}
 use Rattle.result.specs.Refusal.{refusalText}

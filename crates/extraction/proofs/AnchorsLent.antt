@@ -1,8 +1,8 @@
 -- What `extract` leaves of a small hour in lent memory that holds something else. Nobody cites it: it refuses a definition that slipped, by the number that comes out.
 use mathlib.Core.Path.{_≡_, refl}
-use mathlib.Core.List.{List, [], _∷_}
+use mathlib.Core.List.{[], _∷_}
 use Prim.Native.Nat.{ℕ}
-use lib.IntN.{ℤ, pos}
+use lib.IntN.{pos}
 use lib.ListN.{replicate}
 use Rattle.numbers.specs.Below.{ifZero, sum, count, lesser, least, orZero, table, firstFrom, given}
 use Rattle.numbers.specs.Ints.{minus, maxℤ, minℤ, positivePart, sameℤ, inside, sumℤ}
@@ -12,7 +12,8 @@ use Rattle.table.specs.Table.{Table, stretch, twice, roomFor, judgeShape}
 use Rattle.rounds.specs.Rounds.{sharers, raise, raises, load, lowered, risen, apply, next, raised, counted, run, extract}
 use Rattle.margin.specs.Margin.{grains, f0coreOf, fuafOf, baseOf, amrOf, signedFactor, pOf, ltaKw, sOf, ltaMarginOf, ramOf, ramAt}
 use Rattle.states.specs.States.{highest, lowest, spreadOf, shifted, below, stateOf}
-use Rattle.start.specs.Start.{rowsOf, kept, gridOf, startOf, judgeStart}
+use Rattle.start.specs.Setup.{gridBy, beginBy, judgeBy}
+use Rattle.start.specs.Start.{rowsOf, kept, setupWith}
 use Rattle.extraction.specs.Extraction.{resultOf, atcOf, leftOf, outcomeOf, atcRecord, rowRecord, judgeExtract, ExtractLeft, extractLeft}
 
 -- rows 0 and 1 limit a border each, 15 kW and 10 kW, row 2 is under 5%; FRM and IVA of row 0 are one's own
@@ -50,5 +51,5 @@ pub record Anchors : Type 0 where
   pub long : leaving 4 0 6 .answer ≡ refused (refusal 3 6)
 
 pub anchors : Anchors
-unfolding ifZero sum count lesser least orZero table firstFrom given maxℤ minℤ positivePart sameℤ inside sumℤ headerFits zoneFits exists hubsFit borderFits hubsOf borderOf shareOf rowOf rowFits factorFits worth defaultOf then either unless refuseAt refuseFirst need stretch twice roomFor judgeShape sharers raise raises load lowered risen apply next raised counted run extract grains f0coreOf fuafOf baseOf amrOf signedFactor pOf ltaKw sOf ltaMarginOf ramOf ramAt highest lowest spreadOf shifted below stateOf rowsOf kept gridOf startOf judgeStart resultOf atcOf leftOf outcomeOf atcRecord rowRecord judgeExtract extractLeft
+unfolding ifZero sum count lesser least orZero table firstFrom given maxℤ minℤ positivePart sameℤ inside sumℤ headerFits zoneFits exists hubsFit borderFits hubsOf borderOf shareOf rowOf rowFits factorFits worth defaultOf then either unless refuseAt refuseFirst need stretch twice roomFor judgeShape sharers raise raises load lowered risen apply next raised counted run extract grains f0coreOf fuafOf baseOf amrOf signedFactor pOf ltaKw sOf ltaMarginOf ramOf ramAt highest lowest spreadOf shifted below stateOf rowsOf kept resultOf atcOf leftOf outcomeOf atcRecord rowRecord judgeExtract extractLeft gridBy setupWith beginBy judgeBy
 anchors = record { accepted = refl; below = refl; short = refl; long = refl }

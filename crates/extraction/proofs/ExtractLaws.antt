@@ -16,7 +16,6 @@ use Rattle.kinds.specs.Answers.{ruled}
 use Rattle.kinds.specs.Limits.{bordersMost}
 use Rattle.kinds.specs.Ranges.{atℤ, borderOf}
 use Rattle.kinds.specs.Refusals.{Judged, passed, refused, then, either, tooShort}
-use Rattle.kinds.proofs.KindLaws.{header-in}
 use Rattle.kinds.proofs.RefusalLaws.{passed-is, then-passed, then-next, then-refused, either-passed, either-refused, need-passed, need-enough, need-short}
 use Rattle.table.specs.Table.{Table}
 use Rattle.table.specs.Good.{Good}
@@ -30,12 +29,13 @@ use Rattle.margin.specs.Margin.{ltaKw}
 use Rattle.margin.specs.Bounds.{namedBits}
 use Rattle.margin.proofs.JudgedLaws.{good-borders}
 use Rattle.margin.proofs.Small.{named-values-small}
-use Rattle.start.specs.Start.{Rows, rowsOf, gridOf, startOf, tableGrid, tableStart, judgeTable}
+use Rattle.start.specs.Setup.{gridBy, beginBy}
+use Rattle.start.specs.Start.{Rows, rowsOf, tableGrid, tableStart, judgeTable, setupWith}
 use Rattle.start.specs.Filled.{ltas, exchangesOf, cells}
 use Rattle.start.proofs.StartLaws.{cells-at, grid-long, rows-in, PreparedAs}
 use Rattle.extraction.specs.Extraction.{Result, resultOf, leftOf, outcomeOf, atcOfKw, leftOfRow, atcRecord, rowRecord, ExtractLeft, leaves, resultRoom, resultStored}
 use Rattle.extraction.specs.Work.{endedAt, outcomeWith, Runnable, Finishable, resultWith, finished, outcomeLeft}
-use Rattle.extraction.proofs.DemandLaws.{accepted, load-le, small-start}
+use Rattle.extraction.proofs.AcceptedLaws.{accepted, load-le, small-start}
 
 -- ---- the rounds
 module _ {h : Header} {b : List (List ℤ)} {p margins x : List ℕ} (u : Runnable h b p margins) (e : x ≡ exchangesOf b) where
@@ -121,35 +121,34 @@ module _ {t : Table} (good : Good t) {m : Rows} (rows-are : m ≡ rowsOf t) {p m
   h = t .header
 
   ltas-are : ltas (t .borders) ≡ tableStart t .x
-  unfolding startOf
+  unfolding beginBy setupWith
   ltas-are = ap (λ (n : ℕ). table n (λ k. ltaKw (borderOf (getD (t .borders) k [])))) (good .exact .borders-long)
 
   -- the flat table of p agrees with the grid at every row and border
   p-at : (i b : ℕ) → i < h .rows → b < h .borders → flat (h .rows) (h .borders) p .p i b ≡ tableGrid t .p i b
-  unfolding gridOf
+  unfolding gridBy setupWith
   p-at i b l k = ap (λ (ps : List ℕ). at ps (i * h .borders + b)) p-is ∙ cells-at (tableGrid t) i b l k
 
   load-is : (i : ℕ) → i < h .rows → load (flat (h .rows) (h .borders) p) i (ltas (t .borders)) ≡ load (tableGrid t) i (tableStart t .x)
-  unfolding load gridOf
+  unfolding load gridBy setupWith
   load-is i l = sum-cong (h .borders) _ _ (λ b k. ap₂ _*_ (p-at i b l k) (ap (λ (v : List ℕ). at v b) ltas-are))
 
   pub finishable : Finishable h (t .borders) m p margins
-  unfolding startOf
+  unfolding beginBy setupWith
   finishable =
       let rows = rows-in t m rows-are in
-      let few = header-in h (good .exact .header) .borders-most in
       record {
         run = record {
           header = good .exact .header;
           borders = good-borders good;
           borders-long = good .exact .borders-long;
-          p-long = grid-long h (t .borders) (t .factors) _ p-is;
+          p-long = grid-long t p-is;
           margins-long = ap length margins-are ∙ table-long (h .rows) _;
           fits = λ i l.
               omega (
                 arith,
                 ap (λ (v : List ℕ). at v i) margins-are,
-                small-start t bordersMost namedBits few (λ j k. named-values-small good j k .start) i l,
+                small-start t namedBits (λ j k. named-values-small good j k .start) i l,
                 load-is i l,
                 load-le t (good .exact .borders-long) i,
                 named-values-small good i l .s,
@@ -161,7 +160,7 @@ module _ {t : Table} (good : Good t) {m : Rows} (rows-are : m ≡ rowsOf t) {p m
       }
 
   result-is : resultWith h (t .borders) m p margins ≡ resultOf t
-  unfolding resultOf gridOf
+  unfolding resultOf gridBy setupWith
   result-is =
       ap₂ {C = Result} (λ (n : Rows) (ps : List ℕ). record { header = h; rows = n; p = ps; outcome = outcomeWith h (t .borders) p margins }) rows-are p-is
       ∙ ap {B = Result} (λ (o : Outcome). record { header = h; rows = rowsOf t; p = cells (tableGrid t); outcome = o })
@@ -178,7 +177,7 @@ module _ {t : Table} (good : Good t) {m : Rows} (rows-are : m ≡ rowsOf t) {p m
       (sym (ap (λ (old : List ℕ). cells (tableGrid t) ++ old) (drop-of-length-le ps {i = length (cells (tableGrid t))} (omega (arith, long, p-long-is))) ∙ append-nil _))
     where
       p-long-is : length (cells (tableGrid t)) ≡ h .rows * h .borders
-      p-long-is = grid-long h (t .borders) (t .factors) _ refl
+      p-long-is = grid-long t refl
 
 -- ---- which judgement decides, of a judged table
 module _ (t : Table) (ps : List ℕ) (atcs lefts : List (List ℤ)) where
@@ -228,7 +227,7 @@ module _ (t : Table) (n : ℕ) (is : n ≡ t .header .rows * t .header .borders)
       let c = need-passed r _ _ _ (b .1) in
       let k : resultOf t ≡ r = accepted t (o .it) (o .first) .is ∙ passed-is _ _ (c .1) in
       ap (λ (v : List ℕ). leaves (passed (r .outcome .rounds)) v (resultStored ps atcs lefts r .atcs) (resultStored ps atcs lefts r .lefts))
-      (over-front (r .p) (sym (ap (λ (v : Result). length (v .p)) k) ∙ grid-long (t .header) (t .borders) (t .factors) _ refl ∙ sym is))
+      (over-front (r .p) (sym (ap (λ (v : Result). length (v .p)) k) ∙ grid-long t refl ∙ sym is))
 
   pub front-left : {l : ExtractLeft} → l ≡ outcomeLeft (outcomeOf t) (take n ps) atcs lefts → longer l ≡ outcomeLeft (outcomeOf t) ps atcs lefts
   unfolding outcomeLeft

@@ -22,7 +22,7 @@ use Rattle.table.proofs.JudgeLaws.{shape-front, shape-refused, shape-passed}
 use Rattle.table.proofs.GoodLaws.{records-good, judged-front, judged-good}
 use Rattle.extraction.specs.Extraction.{Result, resultOf, outcomeOf, judgeExtract, ExtractLeft, leaves, resultRoom, resultStored, extractLeft}
 use Rattle.extraction.specs.Work.{outcomeLeft}
-use Rattle.extraction.proofs.DemandLaws.{accepted}
+use Rattle.extraction.proofs.AcceptedLaws.{accepted}
 
 -- ---- judging lent tables with room for p is judging them, where there is room
 extract-judged : (given t : Table) (n : ℕ) → judgeExtract given n ≡ passed t → (judgeLent given ≡ passed t) × (t .header .rows * t .header .borders ≤ n)

@@ -5,7 +5,6 @@ use mathlib.Core.List.{List}
 use Prim.Native.Nat.{ℕ, _+_, _*_, _^_, _<_, _≤_}
 use lib.IntN.{ℤ}
 use lib.ListN.{length, take}
-use Rattle.numbers.specs.Ints.{minus}
 use Rattle.numbers.specs.Below.{at, table, over}
 use Rattle.kinds.specs.declared.Header.{Header}
 use Rattle.kinds.specs.Ranges.{headerFits}

@@ -12,8 +12,8 @@ use Rattle.rounds.specs.Rounds.{State, next}
 use Rattle.margin.specs.Margin.{ramAt}
 use Rattle.start.specs.Start.{tableGrid, tableStart}
 use Rattle.extraction.specs.Extraction.{Result, leftOf, outcomeOf}
-use Rattle.extraction.specs.Demand.{loadOf, Demand3}
-use Rattle.extraction.proofs.Demand3.{lent-demand-3}
+use Rattle.promises.specs.Demand.{loadOf, Demand3}
+use Rattle.promises.proofs.Demand3.{lent-demand-3}
 use Rattle.figures.specs.Computing.{computing}
 use Rattle.figures.specs.Hour.{hourTable}
 

@@ -24,9 +24,10 @@ use Rattle.table.specs.Table.{Table, factorsAt}
 use Rattle.margin.specs.Margin.{f0coreOf, sOf, ramOf, ramAt, ramsOf}
 use Rattle.states.specs.States.{spreadOf, shifted, below, stateOf}
 use Rattle.states.proofs.ShiftLaws.{shifted-self}
-use Rattle.start.specs.Start.{gridOf, tableGrid, tableStart}
+use Rattle.start.specs.Setup.{gridBy}
+use Rattle.start.specs.Start.{tableGrid, tableStart, setupWith}
 use Rattle.extraction.specs.Extraction.{Result, resultOf, outcomeOf}
-use Rattle.extraction.proofs.DemandLaws.{accepted}
+use Rattle.extraction.proofs.AcceptedLaws.{accepted}
 
 -- ---- spread
 -- no row is below itself
@@ -77,7 +78,7 @@ module _ (t : Table) (i j : ℕ) (before : i < j) (h : j < t .header .rows) (val
 
 -- ---- one border
 pub one-border-alone : (t : Table) (r : Result) → outcomeOf t ≡ passed r → t .header .borders ≡ 1 → r .outcome .rounds ≤ 1
-unfolding resultOf gridOf
+unfolding resultOf gridBy setupWith
 one-border-alone t r e one =
     subst (λ (r : Result). r .outcome .rounds ≤ 1) (accepted t r e .is)
     (rounds.one-border (extracts (tableGrid t) (tableStart t)) one)

@@ -1,7 +1,8 @@
 -- `unfolding computing` opens every definition of the crates below: for theorems by computation.
 use Rattle.block.specs.Block.{linesAt}
-use Rattle.extraction.specs.Demand.{loadOf}
-use Rattle.start.specs.Start.{rowsOf, kept, gridOf, startOf, judgeStart}
+use Rattle.promises.specs.Demand.{loadOf}
+use Rattle.start.specs.Setup.{gridBy, beginBy, judgeBy}
+use Rattle.start.specs.Start.{rowsOf, kept, gridOf, startOf, judgeStart, setupWith}
 use Rattle.extraction.specs.Extraction.{resultOf, atcOf, leftOf, outcomeOf, nOf, lOf, atcRecord, rowRecord, judgeExtract, extractLeft}
 use Rattle.corners.specs.Corners.{raisedBy, cornerFlows, judgeCorners, cornersLeft}
 use Rattle.cornertext.specs.CornerText.{cornersText, cornerTextLeft}
@@ -30,5 +31,5 @@ use Rattle.text.specs.Written.{textOf, decimal, decimalℤ, fieldsText, lineTex
 use Rattle.writing.specs.Writing.{tableText, writeLeft}
 
 unfoldable pub computing : Unit {0}
-unfolding linesAt loadOf rowsOf kept gridOf startOf resultOf atcOf leftOf judgeStart outcomeOf nOf lOf atcRecord rowRecord judgeExtract extractLeft raisedBy cornerFlows judgeCorners cornersLeft cornersText cornerTextLeft headerFits zoneFits exists hubsFit hubsOf borderFits borderOf shareOf rowOf rowFits factorFits worth defaultOf then either unless refuseAt refuseFirst need grains f0coreOf fuafOf baseOf amrOf signedFactor pOf ltaKw cornerPart cornerSum sOf ltaMarginOf ramOf ramAt highest lowest spreadOf shifted below stateOf ifZero sum count largest lesser least orZero table firstFrom given maxℤ minℤ positivePart sameℤ inside sumℤ headerLine zoneLine borderLine rowLine oneSheet everySheet linesOf readText readLeft leftField recordsText resultText refusalText answerText resultTextLeft answerLeft sharers raise alone raises load lowered risen apply next raised counted run extract mostSharers bitsTo bits aloneBits stretch twice roomFor judgeShape judgeLent numberAt signedAt shareAt textOf decimal decimalℤ fieldsText lineText linesText tableText textLeft writeLeft fieldAt fieldsAt indexAt restAt columnsLine plainLine plainOptional optionalLine fieldText fieldsEnded indexText columnsText plainText
+unfolding linesAt loadOf rowsOf kept gridOf startOf resultOf atcOf leftOf judgeStart outcomeOf nOf lOf atcRecord rowRecord judgeExtract extractLeft raisedBy cornerFlows judgeCorners cornersLeft cornersText cornerTextLeft headerFits zoneFits exists hubsFit hubsOf borderFits borderOf shareOf rowOf rowFits factorFits worth defaultOf then either unless refuseAt refuseFirst need grains f0coreOf fuafOf baseOf amrOf signedFactor pOf ltaKw cornerPart cornerSum sOf ltaMarginOf ramOf ramAt highest lowest spreadOf shifted below stateOf ifZero sum count largest lesser least orZero table firstFrom given maxℤ minℤ positivePart sameℤ inside sumℤ headerLine zoneLine borderLine rowLine oneSheet everySheet linesOf readText readLeft leftField recordsText resultText refusalText answerText resultTextLeft answerLeft sharers raise alone raises load lowered risen apply next raised counted run extract mostSharers bitsTo bits aloneBits stretch twice roomFor judgeShape judgeLent numberAt signedAt shareAt textOf decimal decimalℤ fieldsText lineText linesText tableText textLeft writeLeft fieldAt fieldsAt indexAt restAt columnsLine plainLine plainOptional optionalLine fieldText fieldsEnded indexText columnsText plainText gridBy setupWith beginBy judgeBy
 computing = tt

@@ -10,7 +10,8 @@ use Rattle.kinds.specs.Ranges.{hubsOf, borderOf}
 use Rattle.kinds.specs.Refusals.{Judged, passed, refused, refusal, unless, refuseAt, refuseFirst}
 use Rattle.table.specs.Table.{stretch}
 use Rattle.margin.specs.Margin.{signedFactor, pOf, ltaKw}
-use Rattle.start.specs.Start.{kept, gridOf, startOf, judgeStart}
+use Rattle.start.specs.Setup.{gridBy, beginBy, judgeBy}
+use Rattle.start.specs.Start.{kept, gridOf, startOf, judgeStart, setupWith}
 use Rattle.start.specs.Filled.{cells}
 
 abbrev header : (rows : ℕ) → Header
@@ -22,11 +23,11 @@ borders = (pos 0 ∷ pos 1 ∷ pos 1 ∷ minus 1 ∷ minus 1 ∷ []) ∷ (pos 1 
 
 -- one row, which loads border 0 alone
 abbrev one : (states : List ℕ) → (starts : List ℤ) → Judged (List ℕ)
-one states starts = judgeStart (gridOf (header 1) borders (pos 20000 ∷ pos 0 ∷ []) states) states starts
+one states starts = judgeStart (header 1) borders (pos 20000 ∷ pos 0 ∷ []) states starts
 
 -- three: row 1 loads border 1, and row 2 is as row 0
 abbrev three : (states : List ℕ) → (starts : List ℤ) → Judged (List ℕ)
-three states starts = judgeStart (gridOf (header 3) borders (pos 20000 ∷ pos 0 ∷ pos 0 ∷ pos 20000 ∷ pos 20000 ∷ pos 0 ∷ []) states) states starts
+three states starts = judgeStart (header 3) borders (pos 20000 ∷ pos 0 ∷ pos 0 ∷ pos 20000 ∷ pos 20000 ∷ pos 0 ∷ []) states starts
 
 pub record Anchors : Type 0 where
   -- 5 before 6, and 6 before 7: no row loads border 1, and row 0 starts below 0
@@ -43,5 +44,5 @@ pub record Anchors : Type 0 where
   pub laid-out : cells (gridOf (header 3) borders (pos 20000 ∷ pos 0 ∷ pos 0 ∷ pos 30000 ∷ pos 50000 ∷ pos 10000 ∷ []) (0 ∷ 0 ∷ 2 ∷ [])) ≡ 20000 ∷ 0 ∷ 0 ∷ 30000 ∷ 0 ∷ 0 ∷ []
 
 pub anchors : Anchors
-unfolding table firstFrom given positivePart hubsOf borderOf unless refuseAt refuseFirst stretch signedFactor pOf ltaKw kept gridOf startOf judgeStart
+unfolding table firstFrom given positivePart hubsOf borderOf unless refuseAt refuseFirst stretch signedFactor pOf ltaKw kept gridOf startOf judgeStart gridBy setupWith beginBy judgeBy
 anchors = record { five-first = refl; six-first = refl; seven = refl; six-kept = refl; seven-kept = refl; starts = refl; laid-out = refl }

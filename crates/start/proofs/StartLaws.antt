@@ -3,7 +3,7 @@
 use mathlib.Core.Path.{_≡_, sym, ap, ap₂, subst, _∙_}
 use mathlib.Core.Bool.{Bool, true, false, cond, not, _&&_}
 use mathlib.Core.List.{List, [], _++_}
-use mathlib.Core.Option.{Option, none, some}
+use mathlib.Core.Option.{none, some}
 use mathlib.Core.Logic.{⊎-elim}
 use Prim.Native.Nat.{ℕ, _+_, _*_, _/_, _%_, _≤_, _<_}
 use native.Mathlib.Nat.{le-refl, zero-mul, add-zero, suc-mul, div-eq-of-lt, mod-eq-of-lt, mul-add-div-right, mul-add-mod-self-right}
@@ -15,21 +15,22 @@ use lib.ListN.{length, getD, set, drop, length-set}
 use lib.Seq.{getD-set-same, getD-set-other}
 use lib.Signed.{ltZ}
 use Rattle.numbers.specs.Ints.{positivePart}
-use Rattle.numbers.specs.Below.{at, table, firstFrom, given, someBelow}
-use Rattle.numbers.proofs.BelowLaws.{lt-suc-cases, first-cong, table-long, table-get, table-of}
+use Rattle.numbers.specs.Below.{at, table, firstFrom, someBelow}
+use Rattle.numbers.proofs.BelowLaws.{lt-suc-cases, table-long, table-get, table-of}
 use Rattle.kinds.specs.declared.Header.{Header}
 use Rattle.kinds.specs.declared.Judgement.{Judgement}
 use Rattle.kinds.specs.Answers.{ruled}
 use Rattle.kinds.specs.Limits.{bordersMost}
 use Rattle.kinds.specs.Ranges.{atℤ, borderOf}
-use Rattle.kinds.specs.Refusals.{Judged, passed, refused, unless, refuseAt, refuseFirst, noRow, unlimited, belowZero}
+use Rattle.kinds.specs.Refusals.{Judged, passed, refused, refuseFirst, noRow, unlimited, belowZero}
 use Rattle.kinds.proofs.RefusalLaws.{unless-ok, unless-refused, first-found, first-none-next}
 use Rattle.table.specs.Table.{Table, stretch}
 use Rattle.rounds.specs.Rounds.{Grid}
 use Rattle.rounds.proofs.Loops.{place-inside}
 use Rattle.margin.specs.Margin.{ltaKw, ramAt, ramsOf, startsOf}
 use Rattle.states.specs.States.{spreadOf, spreadLeast, shifted, below, stateOf, statesOf}
-use Rattle.start.specs.Start.{Rows, rowsOf, kept, gridOf, startOf, judgeStart, tableGrid, tableStart, judgeTable}
+use Rattle.start.specs.Setup.{gridBy, beginBy, judgeBy}
+use Rattle.start.specs.Start.{Rows, rowsOf, kept, gridOf, startOf, judgeStart, tableGrid, tableStart, judgeTable, setupWith}
 use Rattle.start.specs.Filled.{rowsWith, ltas, exchangesOf, cells, Prepared, prepared, preparedOf}
 
 -- ---- a grid in one list
@@ -90,37 +91,37 @@ filled-to-all {g} {p} {i} u h =
     table-of (g .rows * g .borders) _ p 0 (u .long) (λ j l. u .filled j (omega (arith, ap (λ (x : ℕ). x * g .borders) e)))
 
 -- ---- which of 5, 6 and 7 decides
-module _ (g : Grid) (states : List ℕ) (starts : List ℤ) where
+module _ (h : Header) (borders : List (List ℤ)) (factors : List ℤ) (states : List ℕ) (starts : List ℤ) where
   abbrev free : ℕ → Bool
-  free b = not (someBelow (g .rows) (λ i. ltb 0 (g .p i b)))
+  free b = not (someBelow (h .rows) (λ i. ltb 0 (gridOf h borders factors states .p i b)))
 
   abbrev low : ℕ → Bool
   low i = kept states i && ltZ (atℤ starts i) (pos 0)
 
-  module _ (long : length states ≡ g .rows) where
-    pub none-kept : someBelow (length states) (kept states) ≡ false → refused noRow ≡ judgeStart g states starts
-    unfolding judgeStart
+  module _ (long : length states ≡ h .rows) where
+    pub none-kept : someBelow (length states) (kept states) ≡ false → refused noRow ≡ judgeStart h borders factors states starts
+    unfolding judgeStart judgeBy gridOf gridBy setupWith
     none-kept e = sym (unless-refused _ _ (subst (λ (n : ℕ). someBelow n (kept states) ≡ false) long e))
 
     module _ (k : someBelow (length states) (kept states) ≡ true) where
-      past-kept : judgeStart g states starts ≡ refuseFirst (g .borders) free unlimited (refuseFirst (g .rows) low belowZero (passed states))
-      unfolding judgeStart
+      past-kept : judgeStart h borders factors states starts ≡ refuseFirst (h .borders) free unlimited (refuseFirst (h .rows) low belowZero (passed states))
+      unfolding judgeStart judgeBy gridOf gridBy setupWith
       past-kept = unless-ok _ _ (subst (λ (n : ℕ). someBelow n (kept states) ≡ true) long k)
 
-      pub border-free : (b : ℕ) → some b ≡ firstFrom (g .borders) 0 free → refused (unlimited b) ≡ judgeStart g states starts
+      pub border-free : (b : ℕ) → some b ≡ firstFrom (h .borders) 0 free → refused (unlimited b) ≡ judgeStart h borders factors states starts
       border-free b e = sym (past-kept ∙ first-found _ _ _ _ (sym e))
 
-      module _ (u : none ≡ firstFrom (g .borders) 0 free) where
-        past-free : judgeStart g states starts ≡ refuseFirst (g .rows) low belowZero (passed states)
+      module _ (u : none ≡ firstFrom (h .borders) 0 free) where
+        past-free : judgeStart h borders factors states starts ≡ refuseFirst (h .rows) low belowZero (passed states)
         past-free = past-kept ∙ first-none-next _ _ _ _ (sym u)
 
-        of-rows : firstFrom (length states) 0 low ≡ firstFrom (g .rows) 0 low
+        of-rows : firstFrom (length states) 0 low ≡ firstFrom (h .rows) 0 low
         of-rows = ap (λ (n : ℕ). firstFrom n 0 low) long
 
-        pub row-below : (i : ℕ) → some i ≡ firstFrom (length states) 0 low → refused (belowZero i) ≡ judgeStart g states starts
+        pub row-below : (i : ℕ) → some i ≡ firstFrom (length states) 0 low → refused (belowZero i) ≡ judgeStart h borders factors states starts
         row-below i e = sym (past-free ∙ first-found _ _ _ _ (sym (e ∙ of-rows)))
 
-        pub may-start : none ≡ firstFrom (length states) 0 low → passed states ≡ judgeStart g states starts
+        pub may-start : none ≡ firstFrom (length states) 0 low → passed states ≡ judgeStart h borders factors states starts
         may-start e = sym (past-free ∙ first-none-next _ _ _ _ (sym (e ∙ of-rows)))
 
 -- ---- what is filled in is what the definitions say
@@ -129,11 +130,11 @@ unfolding rowsOf
 rows-are t rams states e u = ap₂ rowsWith e (u ∙ ap (statesOf (t .header) (t .factors)) e)
 
 pub prepared-by : (t : Table) (r : Judgement) {rams starts : List ℤ} {states : List ℕ} → rowsWith rams states ≡ rowsOf t → starts ≡ startsOf t
-    → ruled r states ≡ judgeStart (gridOf (t .header) (t .borders) (t .factors) states) states starts → prepared r rams starts states ≡ preparedOf t
-unfolding preparedOf
+    → ruled r states ≡ judgeStart (t .header) (t .borders) (t .factors) states starts → prepared r rams starts states ≡ preparedOf t
+unfolding preparedOf judgeStart
 prepared-by t r {rams} {starts} {states} m s w =
     let e : states ≡ rowsOf t .states = ap (λ (n : Rows). n .states) m in
-    let judged : ruled r states ≡ judgeTable t = w ∙ ap₂ (λ (ss : List ℕ) (ms : List ℤ). judgeStart (gridOf (t .header) (t .borders) (t .factors) ss) ss ms) e s in
+    let judged : ruled r states ≡ judgeTable t = w ∙ ap₂ (λ (ss : List ℕ) (ms : List ℤ). judgeStart (t .header) (t .borders) (t .factors) ss ms) e s in
     ap₂ {C = Prepared} (λ (j : Judged (List ℕ)) (n : Rows). record { judged = j; rows = n; starts = starts }) judged m
     ∙ ap {B = Prepared} (λ (ms : List ℤ). record { judged = judgeTable t; rows = rowsOf t; starts = ms }) s
 
@@ -155,19 +156,21 @@ prepared-as r e =
 -- the table of p and the margins, laid out from what was prepared
 pub margins-are : (h : Header) (b : List (List ℤ)) (states : List ℕ) (starts : List ℤ) {margins : List ℕ} → length states ≡ h .rows
     → margins ≡ table (length states) (λ i. cond (kept states i) (positivePart (atℤ starts i)) 0) → margins ≡ startOf h b states starts .margins
-unfolding startOf
+unfolding startOf beginBy setupWith
 margins-are h b states starts long e = e ∙ ap (λ (n : ℕ). table n (λ i. cond (kept states i) (positivePart (atℤ starts i)) 0)) long
 
 pub laid-grid : (t : Table) {rams : List ℤ} {states p : List ℕ} → rowsWith rams states ≡ rowsOf t → p ≡ cells (gridOf (t .header) (t .borders) (t .factors) states) → p ≡ cells (tableGrid t)
+unfolding gridOf gridBy setupWith
 laid-grid t m e = e ∙ ap (λ (n : Rows). cells (gridOf (t .header) (t .borders) (t .factors) (n .states))) m
 
 pub laid-margins : (t : Table) {rams starts : List ℤ} {states margins : List ℕ} → rowsWith rams states ≡ rowsOf t → starts ≡ startsOf t
     → margins ≡ startOf (t .header) (t .borders) states starts .margins → margins ≡ tableStart t .margins
+unfolding startOf beginBy setupWith
 laid-margins t m s e = e ∙ ap₂ (λ (n : Rows) (ms : List ℤ). startOf (t .header) (t .borders) (n .states) ms .margins) m s
 
-pub grid-long : (h : Header) (b : List (List ℤ)) (f : List ℤ) (states : List ℕ) {p : List ℕ} → p ≡ cells (gridOf h b f states) → length p ≡ h .rows * h .borders
-unfolding gridOf
-grid-long h b f states e = ap length e ∙ table-long (h .rows * h .borders) _
+pub grid-long : (t : Table) {p : List ℕ} → p ≡ cells (tableGrid t) → length p ≡ t .header .rows * t .header .borders
+unfolding gridBy setupWith
+grid-long t e = ap length e ∙ table-long (t .header .rows * t .header .borders) _
 
 -- ---- exchanges
 pub exchanges-are : (b : List (List ℤ)) (ys zs : List ℕ) → ys ≡ ltas b → zs ≡ table bordersMost (λ k. 0) → ys ++ drop (length b) zs ≡ exchangesOf b

@@ -149,7 +149,7 @@ fn judge_start(
     requires { ⌜ BordersBound (h .zones) (now b) ⌝ }
     requires { ⌜ length (now b) ≡ h .borders ⌝ }
     requires { ⌜ (length (now states) ≡ h .rows) × (length (now starts) ≡ h .rows) ⌝ }
-    ensures { λ r. ⌜ ruled r (now (states .entry)) ≡ judgeStart (gridOf h (now (b .entry)) (now (f .entry)) (now (states .entry))) (now (states .entry)) (now (starts .entry)) ⌝ }
+    ensures { λ r. ⌜ ruled r (now (states .entry)) ≡ judgeStart h (now (b .entry)) (now (f .entry)) (now (states .entry)) (now (starts .entry)) ⌝ }
 {
     if !some_kept(states) {
         return Judgement::Refused(Refusal::no_row());

@@ -9,7 +9,8 @@ use lib.ListN.{getD}
 use Rattle.kinds.specs.Ranges.{borderFits, borderOf}
 use Rattle.margin.specs.Margin.{pOf}
 use Rattle.margin.proofs.JudgedLaws.{part-long, part-bound}
-use Rattle.start.specs.Start.{kept, gridOf}
+use Rattle.start.specs.Setup.{gridBy}
+use Rattle.start.specs.Start.{kept, gridOf, setupWith}
 use Rattle.start.proofs.StartLaws.{FilledTo, filled-to-none, filled-to-place, filled-to-more, filled-to-row, filled-to-all}
 use Rattle.start.proofs.fill_grid.Statement.{statement}
 use Rattle.start.proofs.fill_grid.Tie as tie
@@ -27,7 +28,7 @@ abbrev μ-loop : tie.MeasureT-loop
 μ-loop h b f states p₀ rows borders i₀ p i = h .rows - i
 
 loop-holds : tie.Need-loop-holds Inv-loop2 μ-loop2 Inv-loop μ-loop
-unfolding gridOf
+unfolding gridOf gridBy setupWith
 loop-holds c = filled-to-none _ _ (c .before .before .pre .1 .1 .1 .1)
 
 shared-slice-read-state : tie.Need-shared-slice-read-state Inv-loop2 μ-loop2 Inv-loop μ-loop
@@ -64,23 +65,23 @@ cell-requires c κs =
     )
 
 mul-p : tie.Need-mul-p Inv-loop2 μ-loop2 Inv-loop μ-loop
-unfolding gridOf
+unfolding gridOf gridBy setupWith
 mul-p c = omega (arith, filled-to-place (c .before .before .before .loop2 .inv) (omega arith) (omega arith))
 
 add-p : tie.Need-add-p Inv-loop2 μ-loop2 Inv-loop μ-loop
-unfolding gridOf
+unfolding gridOf gridBy setupWith
 add-p c = omega (arith, filled-to-place (c .before .before .before .loop2 .inv) (omega arith) (omega arith))
 
 mul-p-2 : tie.Need-mul-p-2 Inv-loop2 μ-loop2 Inv-loop μ-loop
-unfolding gridOf
+unfolding gridOf gridBy setupWith
 mul-p-2 c = omega (arith, filled-to-place (c .before .before .before .loop2 .inv) (omega arith) (omega arith))
 
 slice-write-p : tie.Need-slice-write-p Inv-loop2 μ-loop2 Inv-loop μ-loop
-unfolding gridOf
+unfolding gridOf gridBy setupWith
 slice-write-p c = filled-to-place (c .before .before .before .loop2 .inv) (omega arith) (omega arith)
 
 loop2-again : tie.Need-loop2-again Inv-loop2 μ-loop2 Inv-loop μ-loop
-unfolding gridOf kept
+unfolding gridOf kept gridBy setupWith
 loop2-again c =
     let at-loop2 = c .before .before .before in
     let at-row = at-loop2 .before in
@@ -89,15 +90,15 @@ loop2-again c =
     (c .cell .ensures ∙ ap (λ (fs : List ℤ). cond (kept (a .states .now) (row at-row)) (pOf fs (borderOf (getD (a .b .now) (at-loop2 .loop2 .k) []))) 0) (at-row .row-factors .ensures))
 
 loop-again : tie.Need-loop-again Inv-loop2 μ-loop2 Inv-loop μ-loop
-unfolding gridOf
+unfolding gridOf gridBy setupWith
 loop-again c = filled-to-row (c .before .loop2 .inv) (omega arith) (omega arith)
 
 same-length : tie.Need-same-length Inv-loop2 μ-loop2 Inv-loop μ-loop
-unfolding gridOf
+unfolding gridOf gridBy setupWith
 same-length c = c .before .loop .inv .long ∙ sym (c .before .before .before .before .pre .1 .1 .1 .1)
 
 returns : tie.Need-returns Inv-loop2 μ-loop2 Inv-loop μ-loop
-unfolding gridOf
+unfolding gridOf gridBy setupWith
 returns c = filled-to-all (c .before .loop .inv) (omega arith)
 
 pub fill-grid-spec : {M : Type 1} → statement M

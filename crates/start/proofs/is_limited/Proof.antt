@@ -13,7 +13,8 @@ use Rattle.numbers.proofs.BelowLaws.{Looked, looked-none, looked-all, looked-he
 use Rattle.kinds.specs.Ranges.{borderFits, borderOf}
 use Rattle.margin.specs.Margin.{pOf}
 use Rattle.margin.proofs.JudgedLaws.{part-long, part-bound}
-use Rattle.start.specs.Start.{kept, gridOf}
+use Rattle.start.specs.Setup.{gridBy}
+use Rattle.start.specs.Start.{kept, gridOf, setupWith}
 use Rattle.start.proofs.is_limited.Statement.{statement}
 use Rattle.start.proofs.is_limited.Tie as tie
 
@@ -64,7 +65,7 @@ cell-is : (c : tie.After-cell Inv-loop μ-loop)
     → let at-row = c .before .before .before in
     let a = entry at-row .args in
     c .cell .result ≡ gridOf (a .h) (a .b .now) (a .f .now) (a .states .now) .p (row at-row) (a .k)
-unfolding gridOf kept
+unfolding gridOf kept gridBy setupWith
 cell-is c =
     let at-row = c .before .before .before in
     let a = entry at-row .args in

@@ -7,14 +7,15 @@ use lib.ListN.{length}
 use Rattle.numbers.specs.Below.{someBelow}
 use Rattle.numbers.specs.First.{found}
 use Rattle.kinds.specs.Refusals.{refused}
-use Rattle.start.specs.Start.{kept, gridOf}
+use Rattle.start.specs.Setup.{gridBy}
+use Rattle.start.specs.Start.{kept, gridOf, setupWith}
 use Rattle.start.proofs.StartLaws.{none-kept, border-free, row-below, may-start}
 use Rattle.start.proofs.judge_start.Statement.{statement}
 use Rattle.start.proofs.judge_start.Tie as tie
 
 returns : tie.Need-returns
-unfolding gridOf
-returns c = ap refused (c .no-row .ensures) ∙ none-kept _ _ _ (c .before .before .before .before .pre .1 .1 .1 .0) (sym (c .before .before .some-kept .ensures) ∙ not-true _ (c .before .if1 .taken))
+unfolding gridOf gridBy setupWith
+returns c = ap refused (c .no-row .ensures) ∙ none-kept _ _ _ _ _ (c .before .before .before .before .pre .1 .1 .1 .0) (sym (c .before .before .some-kept .ensures) ∙ not-true _ (c .before .if1 .taken))
 
 abbrev entry : tie.Else1 → tie.Start
 entry c = c .before .before .before
@@ -29,28 +30,28 @@ first-unlimited-requires : tie.Need-first-unlimited-requires
 first-unlimited-requires c κs = let q = entry c .pre in (q .0, (q .1 .0, (q .1 .1 .0, q .1 .1 .1 .0)))
 
 returns-2 : tie.Need-returns-2
-unfolding gridOf
+unfolding gridOf gridBy setupWith
 returns-2 c =
     let past-5 = c .before .before .before .before .before in
-    ap refused (c .unlimited .ensures) ∙ border-free _ _ _ (entry past-5 .pre .1 .1 .1 .0) (some-row past-5) _ (sym (ap found (c .before .before .b .given .1)) ∙ c .before .before .before .before .first-unlimited .ensures)
+    ap refused (c .unlimited .ensures) ∙ border-free _ _ _ _ _ (entry past-5 .pre .1 .1 .1 .0) (some-row past-5) _ (sym (ap found (c .before .before .b .given .1)) ∙ c .before .before .before .before .first-unlimited .ensures)
 
 first-below-requires : tie.Need-first-below-requires
 first-below-requires c κs = let q = entry (c .before .before .before) .pre in q .1 .1 .1 .1 ∙ sym (q .1 .1 .1 .0)
 
 returns-3 : tie.Need-returns-3
-unfolding gridOf
+unfolding gridOf gridBy setupWith
 returns-3 c =
     let past-6 = c .before .before .before .before .before in
     let past-5 = past-6 .before .before .before in
-    ap refused (c .below-zero .ensures) ∙ row-below _ _ _ (entry past-5 .pre .1 .1 .1 .0) (some-row past-5) (sym (ap found (past-6 .enum-told .given .1)) ∙ past-6 .before .before .first-unlimited .ensures) _
+    ap refused (c .below-zero .ensures) ∙ row-below _ _ _ _ _ (entry past-5 .pre .1 .1 .1 .0) (some-row past-5) (sym (ap found (past-6 .enum-told .given .1)) ∙ past-6 .before .before .first-unlimited .ensures) _
     (sym (ap found (c .before .before .i .given .1)) ∙ c .before .before .before .before .first-below .ensures)
 
 returns-4 : tie.Need-returns-4
-unfolding gridOf
+unfolding gridOf gridBy setupWith
 returns-4 c =
     let past-6 = c .before .before .before in
     let past-5 = past-6 .before .before .before in
-    may-start _ _ _ (entry past-5 .pre .1 .1 .1 .0) (some-row past-5) (sym (ap found (past-6 .enum-told .given .1)) ∙ past-6 .before .before .first-unlimited .ensures)
+    may-start _ _ _ _ _ (entry past-5 .pre .1 .1 .1 .0) (some-row past-5) (sym (ap found (past-6 .enum-told .given .1)) ∙ past-6 .before .before .first-unlimited .ensures)
     (sym (ap found (c .enum-told2 .given .1)) ∙ c .before .before .first-below .ensures)
 
 pub judge-start-spec : {M : Type 1} → statement M

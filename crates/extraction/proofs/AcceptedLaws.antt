@@ -1,0 +1,92 @@
+-- What an accepted table has, and what its rounds start from: margins and exchanges, and how large they are. No contract cites this file.
+use mathlib.Core.Path.{_≡_, sym, ap, _∙_}
+use mathlib.Core.Bool.{Bool, true, false, cond, _&&_}
+use mathlib.Core.List.{List}
+use Prim.Native.Nat.{ℕ, _*_, _^_, _≤_, _<_}
+use native.Mathlib.Nat.{le-of-eq, le-trans, mul-le-mul-right}
+use native.Mathlib.Omega.{arith}
+use lib.IntN.{ℤ, pos, negsuc, natAbs}
+use lib.ListN.{length}
+use lib.Signed.{ltZ}
+use Rattle.numbers.specs.Ints.{positivePart}
+use Rattle.numbers.specs.Below.{at, sum}
+use Rattle.numbers.proofs.BelowLaws.{sum-cong, sum-mono, table-get}
+use Rattle.kinds.specs.Ranges.{atℤ}
+use Rattle.kinds.specs.Refusals.{passed}
+use Rattle.kinds.proofs.RefusalLaws.{passed-is, unless-passed, none-passed, then-passed}
+use Rattle.table.specs.Table.{Table, borderAt, factorsAt}
+use Rattle.rounds.specs.Rounds.{load}
+use Rattle.margin.specs.Margin.{pOf, ltaKw, sOf, sAt, marginOf, startsOf}
+use Rattle.start.specs.Setup.{gridBy, beginBy, judgeBy}
+use Rattle.start.specs.Start.{rowsOf, kept, tableGrid, tableStart, judgeTable, setupWith}
+use Rattle.extraction.specs.Extraction.{Result, resultOf, outcomeOf}
+
+-- ---- what an accepted table has
+starts-at : (t : Table) (i : ℕ) → i < t .header .rows → atℤ (startsOf t) i ≡ marginOf t i
+starts-at t i h = table-get (t .header .rows) (marginOf t) i (pos 0) h
+
+pub record Accepted (t : Table) (r : Result) : Type 0 where
+  pub is : resultOf t ≡ r
+  pub above : (i : ℕ) → i < t .header .rows → (kept (rowsOf t .states) i && ltZ (marginOf t i) (pos 0)) ≡ false
+
+pub accepted : (t : Table) (r : Result) → outcomeOf t ≡ passed r → Accepted t r
+unfolding outcomeOf judgeBy gridBy setupWith
+accepted t r e =
+    let w = then-passed (judgeTable t) (λ states. passed (resultOf t)) r e in
+    let a = unless-passed (w .it) _ _ _ (w .first) in
+    let b = none-passed _ _ _ _ (w .it) (a .1) in
+    let c = none-passed _ _ _ _ (w .it) (b .1) in
+    record {
+      is = passed-is _ _ (w .second);
+      above = λ i h. ap (λ (z : ℤ). kept (rowsOf t .states) i && ltZ z (pos 0)) (sym (starts-at t i h)) ∙ c .0 i h;
+    }
+
+-- ---- what the rounds of a table start from
+part-le-abs : (z : ℤ) → positivePart z ≤ natAbs z
+unfolding positivePart
+part-le-abs (pos n) = omega arith
+part-le-abs (negsuc n) = omega arith
+
+part-le-whole : (k : Bool) (p : ℕ) → cond k p 0 ≤ p
+part-le-whole true p = omega arith
+part-le-whole false p = omega arith
+
+module _ (t : Table) where
+  abbrev states : List ℕ
+  states = rowsOf t .states
+
+  -- S of a row
+  abbrev s-of : (i : ℕ) → ℕ
+  s-of i = sAt (t .header) (t .borders) (t .factors) i
+
+  pub start-x : (b : ℕ) → b < t .header .borders → at (tableStart t .x) b ≡ ltaKw (borderAt t b)
+  unfolding beginBy setupWith
+  start-x b h = table-get (t .header .borders) (λ b. ltaKw (borderAt t b)) b 0 h
+
+  pub start-margin : (i : ℕ) → i < t .header .rows → at (tableStart t .margins) i ≡ cond (kept states i) (positivePart (marginOf t i)) 0
+  unfolding beginBy setupWith
+  start-margin i h =
+      table-get (t .header .rows) (λ i. cond (kept states i) (positivePart (atℤ (startsOf t) i)) 0) i 0 h
+      ∙ ap (λ (z : ℤ). cond (kept states i) (positivePart z) 0) (starts-at t i h)
+
+  -- at the start a row's load is S ..
+  pub s-sum : length (t .borders) ≡ t .header .borders → (i : ℕ) → sum (t .header .borders) (λ b. pOf (factorsAt t i) (borderAt t b) * at (tableStart t .x) b) ≡ s-of i
+  unfolding sOf
+  s-sum long i =
+      sum-cong (t .header .borders) _ _ (λ b h. ap (λ (x : ℕ). pOf (factorsAt t i) (borderAt t b) * x) (start-x b h))
+      ∙ ap (λ (n : ℕ). sum n (λ b. pOf (factorsAt t i) (borderAt t b) * ltaKw (borderAt t b))) (sym long)
+
+  -- .. or less, where the row takes no part
+  pub load-le : length (t .borders) ≡ t .header .borders → (i : ℕ) → load (tableGrid t) i (tableStart t .x) ≤ s-of i
+  unfolding load gridBy setupWith
+  load-le long i =
+      le-trans (sum-mono (t .header .borders) _ _ (λ b h. mul-le-mul-right (at (tableStart t .x) b) (part-le-whole (kept states i) (pOf (factorsAt t i) (borderAt t b)))))
+      (le-of-eq (s-sum long i))
+
+  -- margins of less than 2^E in magnitude start the rounds so
+  pub small-start : (E : ℕ) → ((i : ℕ) → i < t .header .rows → natAbs (marginOf t i) < 2 ^ E) → (i : ℕ) → i < t .header .rows → at (tableStart t .margins) i < 2 ^ E
+  small-start E small i h = rw (start-margin i h) (go (kept states i))
+    where
+      go : (k : Bool) → cond k (positivePart (marginOf t i)) 0 < 2 ^ E
+      go true = omega (arith, part-le-abs (marginOf t i), small i h)
+      go false = omega (arith, small i h)

@@ -1,0 +1,5 @@
+pub mod Demand
+pub mod DemandLeft
+pub mod Seven
+pub mod ByBorder
+pub mod Replaced

@@ -1,0 +1,53 @@
+-- 02, E6: replacing every "-" by the default in force changes no margin.
+-- `replaced` is the table with its "-" replaced; `ReplacedSame` says that no row of it has "-", that it is as good as the table, and that RAM, states,
+-- capacities, rounds and refusals are the same. It is proved in `proofs/ReplacedSame.antt`.
+use mathlib.Core.Path.{_≡_}
+use mathlib.Core.Bool.{false, cond}
+use mathlib.Core.List.{List, [], _∷_}
+use Prim.Native.Nat.{ℕ}
+use lib.IntN.{ℤ, pos}
+use lib.ListN.{getD}
+use lib.Signed.{ltZ}
+use Rattle.kinds.specs.Ranges.{atℤ, defaultOf}
+use Rattle.table.specs.Table.{Table}
+use Rattle.table.specs.Good.{Good}
+use Rattle.margin.specs.Margin.{ramAt, ramsOf}
+use Rattle.start.specs.Start.{rowsOf}
+use Rattle.extraction.specs.Extraction.{outcomeOf}
+
+-- R as a raw number, the default where it was "-"
+abbrev pub replacedShare : (default r : ℤ) → ℤ
+replacedShare default r = cond (ltZ r (pos 0)) default r
+
+-- a raw row with its R so replaced
+abbrev pub replacedRow : (default : ℤ) → List ℤ → List ℤ
+replacedRow default raw =
+    atℤ raw 0 ∷ atℤ raw 1 ∷ atℤ raw 2 ∷ atℤ raw 3 ∷ replacedShare default (atℤ raw 4) ∷ atℤ raw 5 ∷ atℤ raw 6 ∷ []
+
+abbrev pub replacedRows : (default : ℤ) → List (List ℤ) → List (List ℤ)
+replacedRows default [] = []
+replacedRows default (raw ∷ rows) = replacedRow default raw ∷ replacedRows default rows
+
+-- the table with every "-" replaced by the default in force; all else is as it was
+abbrev pub replaced : Table → Table
+replaced t =
+    record {
+      header = t .header;
+      nets = t .nets;
+      borders = t .borders;
+      rows = replacedRows (defaultOf (t .header)) (t .rows);
+      factors = t .factors;
+    }
+
+pub record ReplacedSame (t : Table) : Type 0 where
+  -- no row has "-"
+  pub written : (i : ℕ) → ltZ (atℤ (getD (replaced t .rows) i []) 4) (pos 0) ≡ false
+  -- a good table stays one
+  pub good : Good t → Good (replaced t)
+  -- the margin of each row
+  pub ram : (i : ℕ) → ramAt (replaced t) i ≡ ramAt t i
+  pub rams : ramsOf (replaced t) ≡ ramsOf t
+  -- and so the states
+  pub rows : rowsOf (replaced t) ≡ rowsOf t
+  -- and so the capacities and the rounds, or the refusal
+  pub outcome : outcomeOf (replaced t) ≡ outcomeOf t
