@@ -14,6 +14,7 @@ pub struct Header {
 pub struct Read {
     pub number: u32,
     pub place: usize,
+    pub byte: usize,
     pub zones: usize,
     pub borders: usize,
     pub rows: usize,
@@ -24,6 +25,7 @@ pub struct Read {
 pub struct Written {
     pub number: u32,
     pub place: usize,
+    pub byte: usize,
     pub bytes: usize,
 }
 
@@ -31,6 +33,7 @@ pub struct Written {
 pub struct Extracted {
     pub number: u32,
     pub place: usize,
+    pub byte: usize,
     pub rounds: u64,
 }
 

@@ -100,11 +100,12 @@ static size_t make(const struct request *r, unsigned char *const *at, uint64_t *
             at[TEXT], r->count[TEXT], z, nz, b, nb, c, nc, f, nf);
         answer[0] = said.number;
         answer[1] = said.place;
-        answer[2] = said.zones;
-        answer[3] = said.borders;
-        answer[4] = said.rows;
-        answer[5] = said.share;
-        return 6;
+        answer[2] = said.byte;
+        answer[3] = said.zones;
+        answer[4] = said.borders;
+        answer[5] = said.rows;
+        answer[6] = said.share;
+        return 7;
     }
     if (r->call == EXTRACT) {
         struct KeravnothExtracted said = keravnoth_extract(
@@ -115,8 +116,9 @@ static size_t make(const struct request *r, unsigned char *const *at, uint64_t *
             (int64_t (*)[KERAVNOTH_LEFT_ITEMS])at[LEFT], r->count[LEFT]);
         answer[0] = said.number;
         answer[1] = said.place;
-        answer[2] = said.rounds;
-        return 3;
+        answer[2] = said.byte;
+        answer[3] = said.rounds;
+        return 4;
     }
     if (r->call == CORNER_FLOWS) {
         struct KeravnothFlows said = keravnoth_corner_flows(
@@ -125,8 +127,9 @@ static size_t make(const struct request *r, unsigned char *const *at, uint64_t *
             r->row, (int64_t *)at[FLOWS], r->count[FLOWS]);
         answer[0] = said.number;
         answer[1] = said.place;
-        answer[2] = said.corners;
-        return 3;
+        answer[2] = said.byte;
+        answer[3] = said.corners;
+        return 4;
     }
     struct KeravnothWritten said;
     if (r->call == WRITE)
@@ -148,8 +151,9 @@ static size_t make(const struct request *r, unsigned char *const *at, uint64_t *
         said = keravnoth_answer(at[TEXT], r->count[TEXT], at[OUT], r->count[OUT]);
     answer[0] = said.number;
     answer[1] = said.place;
-    answer[2] = said.bytes;
-    return 3;
+    answer[2] = said.byte;
+    answer[3] = said.bytes;
+    return 4;
 }
 
 int main(void)
@@ -194,7 +198,7 @@ int main(void)
         if (fread(memory, 1, bytes, stdin) != bytes)
             return malformed("its buffers are cut short");
 
-        uint64_t answer[6];
+        uint64_t answer[7];
         size_t words = make(&r, at, answer);
         if (fwrite(answer, sizeof answer[0], words, stdout) != words
             || fwrite(memory, 1, bytes, stdout) != bytes || fflush(stdout) != 0) {

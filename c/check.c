@@ -163,7 +163,8 @@ static int check_stack(int count, char **names)
 }
 
 #define SAME(one, other) \
-    ((one).number == (other).number && (one).place == (other).place)
+    ((one).number == (other).number && (one).place == (other).place \
+        && (one).byte == (other).byte)
 
 /* Every pointer NULL with count 0, beside one that is not NULL with count 0. */
 static int check_null(const char *name)

@@ -50,9 +50,9 @@ static const char *meaning(uint32_t number)
     }
 }
 
-static int refused(uint32_t number, size_t place)
+static int refused(uint32_t number, size_t place, size_t byte)
 {
-    fprintf(stderr, "E\t%" PRIu32 "\t%zu\t(%s)\n", number, place, meaning(number));
+    fprintf(stderr, "E\t%" PRIu32 "\t%zu\t%zu\t(%s)\n", number, place, byte, meaning(number));
     return 1;
 }
 
@@ -74,7 +74,7 @@ static int print_capacities(const struct KeravnothRead *table)
         p, KERAVNOTH_P_MOST,
         atc, KERAVNOTH_BORDERS_MOST, left, KERAVNOTH_ROWS_MOST);
     if (work.number != KERAVNOTH_ACCEPTED)
-        return refused(work.number, work.place);
+        return refused(work.number, work.place, work.byte);
     for (size_t border = 0; border < table->borders; border++)
         printf("A\t%zu\t%" PRId64 "\n", border, atc[border][KERAVNOTH_ATC_MW]);
     return 0;
@@ -91,7 +91,7 @@ static int print_heaviest_corners(const struct KeravnothRead *table)
             f, KERAVNOTH_FACTORS_MOST,
             row, flows, KERAVNOTH_CORNERS_MOST);
         if (sheet.number != KERAVNOTH_ACCEPTED)
-            return refused(sheet.number, sheet.place);
+            return refused(sheet.number, sheet.place, sheet.byte);
         size_t most = 0;
         for (size_t corner = 1; corner < sheet.corners; corner++)
             if (flows[corner] > flows[most])
@@ -127,7 +127,7 @@ int main(int argc, char **argv)
         z, KERAVNOTH_ZONES_MOST, b, KERAVNOTH_BORDERS_MOST,
         c, KERAVNOTH_ROWS_MOST, f, KERAVNOTH_FACTORS_MOST);
     if (table.number != KERAVNOTH_ACCEPTED)
-        return refused(table.number, table.place);
+        return refused(table.number, table.place, table.byte);
 
     int status = corners ? print_heaviest_corners(&table) : print_capacities(&table);
     if (fflush(stdout) != 0) {

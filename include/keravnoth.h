@@ -60,6 +60,15 @@
  *   2 + i, b i is 2 + zones + i, c i (its factors too) 2 + zones + borders + i;
  *   the header is line 1.
  *
+ *   Byte (field byte of every answer): the byte to blame in the line that place
+ *   names, from 1, or 0 where no byte is to blame.  Only keravnoth_read names one,
+ *   and only with 2 and 3: the first byte from the left that no good field could
+ *   have there, where an index is not the line's own or a value is outside its range
+ *   the field's first byte (of two in conflict the later field's), where a field ends
+ *   too soon the byte after it.  A wrong letter or field count, a line that is
+ *   missing or extra, and every other refusal have 0, as has every call on lent
+ *   tables.
+ *
  *   Order.  keravnoth_read: 1, then 2 and 3 line by line, 4, 8.  The calls on
  *   lent tables: the header (3), lengths (8) in the order z, b, c, f, p, records
  *   (3), 4; the extraction and the result text go on to 5, 6, 7, the corner sheet
@@ -79,7 +88,7 @@
  *   A refused call leaves every lent buffer as it was.  After success what lies
  *   beyond the items needed is as it was.  A lent table may be longer than its
  *   header says; what lies beyond is not looked at.
- *   On refusal the fields after place are 0; without a refusal place is 0.
+ *   On refusal the fields after byte are 0; without a refusal place and byte are 0.
  *
  * THREADS
  *   Calls may run in several threads at once, as long as nothing that one call
@@ -108,7 +117,7 @@
 extern "C" {
 #endif
 
-#define KERAVNOTH_VERSION 5
+#define KERAVNOTH_VERSION 6
 
 /* The largest table, in items. */
 enum {
@@ -197,7 +206,7 @@ enum {
 
 /* The stack that each call needs, in bytes: see STACK above. */
 enum {
-    KERAVNOTH_READ_STACK = 4096,
+    KERAVNOTH_READ_STACK = 5120,
     KERAVNOTH_WRITE_STACK = 2048,
     KERAVNOTH_EXTRACT_STACK = 16384,
     KERAVNOTH_RESULT_TEXT_STACK = 121856,
@@ -223,6 +232,7 @@ enum {
 struct KeravnothRead {
     uint32_t number;
     size_t place;
+    size_t byte;
     size_t zones;
     size_t borders;
     size_t rows;
@@ -233,6 +243,7 @@ struct KeravnothRead {
 struct KeravnothWritten {
     uint32_t number;
     size_t place;
+    size_t byte;
     size_t bytes;
 };
 
@@ -240,6 +251,7 @@ struct KeravnothWritten {
 struct KeravnothExtracted {
     uint32_t number;
     size_t place;
+    size_t byte;
     uint64_t rounds;
 };
 
@@ -247,6 +259,7 @@ struct KeravnothExtracted {
 struct KeravnothFlows {
     uint32_t number;
     size_t place;
+    size_t byte;
     size_t corners;
 };
 
@@ -290,8 +303,8 @@ struct KeravnothWritten keravnoth_result_text(
     const int64_t *f, size_t nf,
     uint8_t *out, size_t nout);
 
-/* From text to text: the result text, or one line E, number, place.  Refused
-   only where out is too short (8, bytes needed). */
+/* From text to text: the result text, or one line E, number, place,
+   byte.  Refused only where out is too short (8, bytes needed). */
 struct KeravnothWritten keravnoth_answer(
     const uint8_t *text, size_t n,
     uint8_t *out, size_t nout);

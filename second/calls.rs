@@ -18,6 +18,7 @@ use wire::Item;
 pub struct Read {
     pub number: u64,
     pub place: usize,
+    pub byte: usize,
     pub zones: usize,
     pub borders: usize,
     pub rows: usize,
@@ -29,6 +30,7 @@ pub struct Read {
 pub struct Written {
     pub number: u64,
     pub place: usize,
+    pub byte: usize,
     pub bytes: usize,
 }
 
@@ -37,6 +39,7 @@ pub struct Written {
 pub struct Extracted {
     pub number: u64,
     pub place: usize,
+    pub byte: usize,
     pub rounds: u64,
 }
 
@@ -45,6 +48,7 @@ pub struct Extracted {
 pub struct Flows {
     pub number: u64,
     pub place: usize,
+    pub byte: usize,
     pub corners: usize,
 }
 
@@ -170,12 +174,12 @@ impl Bridge {
         self.begin(wire::READ, [0; 4]);
         self.lend_tables(&l);
         self.lend(wire::TEXT, text);
-        let [number, place, zones, borders, rows, share] = self.ask()?;
+        let [number, place, byte, zones, borders, rows, share] = self.ask()?;
         self.tables_back(&mut l);
         self.back(text);
-        let [place, zones, borders, rows] =
-            [place, zones, borders, rows].map(|field| field as usize);
-        Ok(Read { number, place, zones, borders, rows, share: share as i64 })
+        let [place, byte, zones, borders, rows] =
+            [place, byte, zones, borders, rows].map(|field| field as usize);
+        Ok(Read { number, place, byte, zones, borders, rows, share: share as i64 })
     }
 
     pub fn write(&mut self, l: Lent, out: &mut [u8]) -> Result<Written, Ended> {
@@ -201,10 +205,10 @@ impl Bridge {
         self.ask_for(row);
         self.lend_tables(&l);
         self.lend(wire::OUT, out);
-        let [number, place, bytes] = self.ask()?;
+        let [number, place, byte, bytes] = self.ask()?;
         self.tables_back(&mut l);
         self.back(out);
-        Ok(Written { number, place: place as usize, bytes: bytes as usize })
+        Ok(Written { number, place: place as usize, byte: byte as usize, bytes: bytes as usize })
     }
 
     pub fn extract(
@@ -219,12 +223,12 @@ impl Bridge {
         self.lend(wire::P, p);
         self.lend(wire::ATC, atc);
         self.lend(wire::LEFT, left);
-        let [number, place, rounds] = self.ask()?;
+        let [number, place, byte, rounds] = self.ask()?;
         self.tables_back(&mut l);
         self.back(p);
         self.back(atc);
         self.back(left);
-        Ok(Extracted { number, place: place as usize, rounds })
+        Ok(Extracted { number, place: place as usize, byte: byte as usize, rounds })
     }
 
     pub fn corner_flows(&mut self, mut l: Lent, row: usize, flows: &mut [i64]) -> Result<Flows, Ended> {
@@ -232,19 +236,19 @@ impl Bridge {
         self.ask_for(row);
         self.lend_tables(&l);
         self.lend(wire::FLOWS, flows);
-        let [number, place, corners] = self.ask()?;
+        let [number, place, byte, corners] = self.ask()?;
         self.tables_back(&mut l);
         self.back(flows);
-        Ok(Flows { number, place: place as usize, corners: corners as usize })
+        Ok(Flows { number, place: place as usize, byte: byte as usize, corners: corners as usize })
     }
 
     pub fn answer(&mut self, text: &mut [u8], out: &mut [u8]) -> Result<Written, Ended> {
         self.begin(wire::ANSWER, [0; 4]);
         self.lend(wire::TEXT, text);
         self.lend(wire::OUT, out);
-        let [number, place, bytes] = self.ask()?;
+        let [number, place, byte, bytes] = self.ask()?;
         self.back(text);
         self.back(out);
-        Ok(Written { number, place: place as usize, bytes: bytes as usize })
+        Ok(Written { number, place: place as usize, byte: byte as usize, bytes: bytes as usize })
     }
 }

@@ -28,7 +28,7 @@ use calls::wire::{Item, AFTER, BEFORE};
 use calls::{Bridge, Ended, Extracted, Flows, Read, Written};
 use dice::Dice;
 use second::{Border, Header, Outcome, Refusal, Tables};
-use second::{LTA, MOST_BORDERS, MOST_ROUNDS, MOST_ROWS, MOST_ZONES, NO_HUB, NO_SHARE, R_DASH, RECEIVING, SENDING};
+use second::{LTA, MOST_BORDERS, MOST_ROUNDS, MOST_ROWS, MOST_ZONES, NO_BYTE, NO_HUB, NO_SHARE, R_DASH, RECEIVING, SENDING};
 use std::collections::BTreeMap;
 use std::ffi::OsString;
 use std::fmt::Debug;
@@ -208,6 +208,8 @@ impl LentTables {
 
 struct Comparison {
     bridge: Bridge,
+    /// where the small texts are damaged
+    places: Vec<damage::Place>,
     seed: u64,
     kind: &'static str,
     number: u64,
@@ -287,12 +289,12 @@ impl Comparison {
             c: vec![],
             f: vec![],
         };
-        let (number, place, t) = match &reference {
-            Ok(t) => (0, 0, t),
-            Err(refusal) => (refusal.number, refusal.place, &none),
+        let (Refusal { number, place, byte }, t) = match &reference {
+            Ok(t) => (NO_REFUSAL, t),
+            Err(refusal) => (*refusal, &none),
         };
         let Header { zones, borders, rows, share } = t.header;
-        let wanted = Read { number: number.into(), place, zones, borders, rows, share };
+        let wanted = Read { number: number.into(), place, byte, zones, borders, rows, share };
         self.count("read", number);
         if found != wanted {
             let details = format!("library {found:?}\nreference {wanted:?}\nroom {room:?}");
@@ -320,11 +322,11 @@ impl Comparison {
         fault: Option<String>,
         shown: &dyn Fn() -> Vec<u8>,
     ) {
-        let (number, place, text): (u32, usize, &[u8]) = match reference {
-            Ok(text) => (0, 0, text),
-            Err(refusal) => (refusal.number, refusal.place, &[]),
+        let (Refusal { number, place, byte }, text): (Refusal, &[u8]) = match reference {
+            Ok(text) => (NO_REFUSAL, text),
+            Err(refusal) => (*refusal, &[]),
         };
-        let wanted = Written { number: number.into(), place, bytes: text.len() };
+        let wanted = Written { number: number.into(), place, byte, bytes: text.len() };
         self.count(call, number);
         if found != wanted {
             let details = format!(
@@ -370,7 +372,7 @@ impl Comparison {
         let found = self.bridge.answer(&mut lent_text.whole, &mut out.whole);
         let found = self.said("keravnoth_answer", found, &|| text.to_vec());
         let reference = if room < answer.len() {
-            Err(Refusal { number: 8, place: answer.len() })
+            Err(Refusal { number: 8, place: answer.len(), byte: NO_BYTE })
         } else {
             Ok(answer.to_vec())
         };
@@ -395,17 +397,18 @@ impl Comparison {
         let mut wanted_p: &[u64] = &[];
         let mut wanted_atc: Vec<[i64; 1]> = Vec::new();
         let mut wanted_left: Vec<[i64; 3]> = Vec::new();
-        let wanted = match &reference {
+        let (Refusal { number, place, byte }, rounds) = match &reference {
             Ok(o) => {
                 wanted_p = &o.p;
                 wanted_atc.extend(o.atc.iter().map(|mw| [*mw as i64]));
                 wanted_left.extend(o.rows.iter().map(|row| {
                     [i64::from(row.state), row.ram as i64, row.left.map_or(-1, |margin| margin as i64)]
                 }));
-                Extracted { number: 0, place: 0, rounds: o.rounds }
+                (NO_REFUSAL, o.rounds)
             }
-            Err(refusal) => Extracted { number: refusal.number.into(), place: refusal.place, rounds: 0 },
+            Err(refusal) => (*refusal, 0),
         };
+        let wanted = Extracted { number: number.into(), place, byte, rounds };
         self.count("extract", wanted.number as u32);
         if found != wanted {
             let details = format!("library {found:?}\nreference {wanted:?}\nroom {room:?}");
@@ -521,15 +524,11 @@ impl Comparison {
         let mut flows = Lent::room(d, room);
         let found = self.bridge.corner_flows(l.lend(), row, &mut flows.whole);
         let found = self.said("keravnoth_corner_flows", found, &|| l.shown());
-        let (wanted, wanted_flows) = match &reference {
-            Ok(list) => {
-                let numbers: Vec<i64> = list.iter().map(|flow| *flow as i64).collect();
-                (Flows { number: 0, place: 0, corners: list.len() }, numbers)
-            }
-            Err(refusal) => {
-                (Flows { number: refusal.number.into(), place: refusal.place, corners: 0 }, vec![])
-            }
+        let (Refusal { number, place, byte }, wanted_flows): (Refusal, Vec<i64>) = match &reference {
+            Ok(list) => (NO_REFUSAL, list.iter().map(|flow| *flow as i64).collect()),
+            Err(refusal) => (*refusal, vec![]),
         };
+        let wanted = Flows { number: number.into(), place, byte, corners: wanted_flows.len() };
         self.count("keravnoth_corner_flows", wanted.number as u32);
         if found != wanted {
             let details = format!("library {found:?}\nreference {wanted:?}\nrow {row}, room {room}");
@@ -714,7 +713,7 @@ impl Comparison {
         lent.b[border][SENDING] = way.hubs[0];
         lent.b[border][RECEIVING] = way.hubs[1];
         let found = self.any_call(d, &lent, needed(lent.header));
-        if way.refused != (found == Some(Refusal { number: 3, place: line })) {
+        if way.refused != (found == refused_at(3, line)) {
             let details = format!("hubs {}: {found:?}, by the rules refused: {}", way.name, way.refused);
             self.fail("a call on lent tables", &details, &damage::plain_text(&lent));
         }
@@ -728,7 +727,7 @@ impl Comparison {
             let text = damage::plain_text(&twins);
             let reading = self.reading_and_answer(d, &text).err();
             let found = self.any_call(d, &twins, needed(twins.header));
-            let given_twice = Some(Refusal { number: 4, place: 1 });
+            let given_twice = refused_at(4, 1);
             if twice != (reading == given_twice) || twice != (found == given_twice) {
                 let details = format!("twins, {name}: {reading:?}, {found:?}, by the rules 4: {twice}");
                 self.fail("a call", &details, &text);
@@ -768,7 +767,7 @@ impl Comparison {
         // the header comes before lengths
         let counts = if refused && d.one_in(2) { needed.map(|items| short(d, items)) } else { needed };
         let found = self.any_call(d, &t, counts);
-        if refused != (found == Some(Refusal { number: 3, place: 1 })) {
+        if refused != (found == refused_at(3, 1)) {
             let details = format!("default of R {share}: {found:?}, by the rules refused: {refused}");
             self.fail("a call on lent tables", &details, &damage::plain_text(&t));
         }
@@ -809,6 +808,46 @@ impl Comparison {
             self.fail("keravnoth_extract", &details, &damage::plain_text(t));
         }
         self.see(name);
+    }
+
+    // -------------------------------------------------- which byte is bad
+
+    /// A small text damaged at one place, in every way: reading of each, and for
+    /// most the answer too.
+    fn each_damage(&mut self, number: usize) {
+        self.kind = "place of a small text";
+        self.number = number as u64;
+        let mut dice = Dice::for_case(self.seed, 7, number as u64);
+        let d = &mut dice;
+        let damaged = damage::each_damage(&self.places[number]);
+        for (text, whole) in damaged {
+            let reading = self.read(d, &text, [8; 4]);
+            if whole {
+                let answer = second::answer(&text);
+                self.answer(d, &text, &answer, answer.len());
+            }
+            self.see_byte(&text, reading.err());
+        }
+    }
+
+    /// Whether a byte was named, in which kind of line; it lies in that line.
+    fn see_byte(&mut self, text: &[u8], refusal: Option<Refusal>) {
+        let Some(Refusal { number: number @ (2 | 3), place, byte }) = refusal else { return };
+        let line = text.split_inclusive(|byte| *byte == b'\n').nth(place - 1).unwrap_or(b"");
+        if byte > line.len() {
+            self.fail("keravnoth_read", &format!("byte {byte} of a line of {}", line.len()), text);
+        }
+        if byte == NO_BYTE {
+            self.see(&format!("{number} without a byte"));
+            return;
+        }
+        let at = match (number, line[byte - 1]) {
+            (3, _) => "out of range",
+            (_, b'\t') => "a tab",
+            (_, b'\n') => "an LF",
+            _ => "a byte",
+        };
+        self.see(&format!("{at} in {}", line[..1].escape_ascii()));
     }
 
     /// Reading and the answer, each with room enough.
@@ -1181,7 +1220,7 @@ impl Comparison {
 
     /// Which kind of record was refused.
     fn see_bad(&mut self, bad: &Tables, refusal: Option<Refusal>) {
-        let Some(Refusal { number: 3, place }) = refusal else { return };
+        let Some(Refusal { number: 3, place, .. }) = refusal else { return };
         let h = bad.header;
         let kind = if place == 1 {
             "H"
@@ -1351,9 +1390,10 @@ impl Comparison {
             _ => with_extra(d, needed),
         };
         let reading = self.read(d, &text, room);
-        if let Err(Refusal { number: number @ (2 | 3), place }) = reading {
+        if let Err(Refusal { number: number @ (2 | 3), place, .. }) = reading {
             self.see_line(&t, number, place);
         }
+        self.see_byte(&text, reading.err());
         let answer = second::answer(&text);
         let short = d.one_in(8);
         let room = if short { d.below(answer.len()) } else { answer.len() + d.below(4) };
@@ -1385,6 +1425,14 @@ impl Comparison {
         };
         self.see(&format!("text {number} at line {kind}"));
     }
+}
+
+/// What an answer without a refusal says first.
+const NO_REFUSAL: Refusal = Refusal { number: 0, place: 0, byte: NO_BYTE };
+
+/// A refusal that no byte is to blame for.
+fn refused_at(number: u32, place: usize) -> Option<Refusal> {
+    Some(Refusal { number, place, byte: NO_BYTE })
 }
 
 /// The reference's extraction; `room`: the items of p, atc and left.
@@ -1559,6 +1607,12 @@ fn wanted() -> Vec<(String, u64)> {
     for (share, _) in damage::SHARES {
         add(&format!("lent share {share}"), 100);
     }
+    add("2 without a byte", 1_000);
+    for letter in ["H", "Z", "B", "C"] {
+        for at in ["a byte", "a tab", "an LF", "out of range"] {
+            add(&format!("{at} in {letter}"), 50);
+        }
+    }
     add("text of 65,536 bytes", 20);
     add("text of 65,537 bytes", 20);
     add("empty text", 10);
@@ -1626,6 +1680,7 @@ fn main() {
     println!("seed {seed}, {tables} tables, {texts} damaged texts");
     let mut c = Comparison {
         bridge,
+        places: damage::places(),
         seed,
         kind: "",
         number: 0,
@@ -1658,6 +1713,13 @@ fn main() {
         if number < texts {
             c.text(number);
         }
+        if (number as usize) < c.places.len() {
+            c.each_damage(number as usize);
+        }
+    }
+    // a small run has not had them all
+    for number in tables.max(texts) as usize..c.places.len() {
+        c.each_damage(number);
     }
     // the largest of them take the second program a while: a difference is mostly seen before
     for number in 0..HOURS.len() {

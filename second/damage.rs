@@ -218,6 +218,127 @@ fn in_the_hubs(d: &mut Dice, text: &mut Vec<u8>, zones: i64) {
     *text = lines.concat();
 }
 
+// --------------------------------------------- every damage of a small text
+
+/// Small texts, with and without hubs, with and without a default of R; tabs are
+/// shown as blanks, each LF as a slash.
+const SMALL: [&str; 4] = [
+    "H 3 2 1/Z 0 0/Z 1 -70/Z 2 5/B 0 0 1 100/B 1 1 2 0/C 0 90 5 -1 20 - 0 3 20000 0 -7/",
+    "H 3 1 2/Z 0 10/Z 1 0/Z 2 -3/B 0 0 1 10 2 0/C 0 100 0 0 -9 7000 10 0 0 -9 20000/C 1 7 7 0 0 - 0 0 -5000 0 1/",
+    "H 2 1 1 70/Z 0 -1/Z 1 10/B 0 1 0 9/C 0 1000 10 8 0 10 0 0 0 5000/",
+    "H 4 2 1 10000/Z 0 1/Z 1 0/Z 2 0/Z 3 -10/B 0 0 3 0 1 2/B 1 0 3 10 2 1/C 0 10 1 0 0 0 0 0 900 0 20 -9000/",
+];
+
+/// Bytes that tell: digits, what parts fields, letters, and some that are none of
+/// these.
+const TELLING: &[u8] = b"0159-\t\n \r+.HZBCTx\x00\xff/:";
+
+/// Fields that tell where a number goes wrong, good ones among them.
+const TELLING_FIELDS: [&str; 20] = [
+    "", "-", "0", "-0", "00", "01", "-01", "-5", "--5", "5-", "+5", " 5", "5 ", "5\r", "x", "1234567890", "12345678901",
+    "-1234567890", "-12345678901", "1234567890x",
+];
+
+/// .. and a few, for two fields of a line at once.
+const FEW_FIELDS: [&str; 6] = ["", "-", "7", "01", "9999999999", "5x"];
+
+fn small_text(number: usize) -> Vec<u8> {
+    SMALL[number].replace(' ', "\t").replace('/', "\n").into_bytes()
+}
+
+/// Where a small text is damaged.
+pub enum Place {
+    /// its text, and a byte of it (the one past the last too)
+    Byte(usize, usize),
+    /// its text, a line, and a field of it (the one past the last too)
+    Field(usize, usize, usize),
+}
+
+/// Every byte and every field of every small text.
+pub fn places() -> Vec<Place> {
+    let mut all = Vec::new();
+    for number in 0..SMALL.len() {
+        let text = small_text(number);
+        all.extend((0..=text.len()).map(|at| Place::Byte(number, at)));
+        for (line, bytes) in lines_of(&text).iter().enumerate() {
+            all.extend((0..=fields_of(bytes).len()).map(|field| Place::Field(number, line, field)));
+        }
+    }
+    all
+}
+
+/// The text damaged there in every way, each with whether its answer is asked
+/// for too.
+pub fn each_damage(place: &Place) -> Vec<(Vec<u8>, bool)> {
+    match *place {
+        Place::Byte(number, at) => each_byte(&small_text(number), at),
+        Place::Field(number, line, field) => each_field(&small_text(number), line, field),
+    }
+}
+
+/// The byte there replaced by each of the 256, taken out, doubled, each telling
+/// one put before it, and the text cut off before it, or with a telling one for
+/// all that follows.
+fn each_byte(text: &[u8], at: usize) -> Vec<(Vec<u8>, bool)> {
+    let with = |middle: &[u8], from: usize| [&text[..at], middle, &text[from..]].concat();
+    let mut all = vec![(text[..at].to_vec(), true)];
+    for byte in TELLING {
+        all.push((with(&[*byte], at), true));
+        all.push((with(&[*byte], text.len()), false));
+    }
+    if at < text.len() {
+        all.push((with(&[], at + 1), true));
+        all.push((with(&[text[at], text[at]], at + 1), true));
+        for byte in 0..=255 {
+            all.push((with(&[byte], at + 1), TELLING.contains(&byte)));
+        }
+    }
+    all
+}
+
+/// The field there replaced by each telling one, alone and with another field of
+/// the line replaced by one of a few; with the LF and, for the last line, without;
+/// and the text cut off after a telling one.
+fn each_field(text: &[u8], line: usize, field: usize) -> Vec<(Vec<u8>, bool)> {
+    let lines = lines_of(text);
+    let own = fields_of(&lines[line]);
+    let mut all = Vec::new();
+    let mut cuts = Vec::new();
+    let mut put = |fields: &[Vec<u8>], whole: bool| {
+        let mut damaged = lines.clone();
+        damaged[line] = line_from(fields);
+        all.push((damaged.concat(), whole));
+        if line + 1 == lines.len() {
+            damaged[line].pop();
+            all.push((damaged.concat(), whole));
+        }
+    };
+    let replaced = |fields: &[Vec<u8>], field: usize, by: &str| {
+        let mut fields = fields.to_vec();
+        if field == fields.len() {
+            fields.push(vec![]);
+        }
+        fields[field] = by.as_bytes().to_vec();
+        fields
+    };
+    for by in TELLING_FIELDS {
+        put(&replaced(&own, field, by), true);
+        let mut cut = lines[..line].concat();
+        cut.extend(replaced(&own, field, by)[..=field].join(&b'\t'));
+        cuts.push((cut, false));
+    }
+    for by in FEW_FIELDS {
+        let one = replaced(&own, field, by);
+        for other in (field + 1)..=one.len() {
+            for by in FEW_FIELDS {
+                put(&replaced(&one, other, by), false);
+            }
+        }
+    }
+    all.extend(cuts);
+    all
+}
+
 /// A way to write the default of R: its name, the fields after the rows, and the
 /// refusal of the line, 0 where it is good.
 pub const SHARE_TEXTS: [(&str, &str, u32); 18] = [

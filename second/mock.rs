@@ -42,28 +42,35 @@ struct LentTables {
     f: Lent<i64>,
 }
 
-fn refused(refusal: Refusal) -> [u64; 3] {
-    [u64::from(refusal.number), refusal.place as u64, 0]
+/// Number, place and byte of the refusal.
+fn why(refusal: Refusal) -> [u64; 3] {
+    [u64::from(refusal.number), refusal.place as u64, refusal.byte as u64]
 }
 
-fn text_to(text: Result<Vec<u8>, Refusal>, out: &mut Lent<u8>) -> [u64; 3] {
+fn refused(refusal: Refusal) -> [u64; 4] {
+    let [number, place, byte] = why(refusal);
+    [number, place, byte, 0]
+}
+
+fn text_to(text: Result<Vec<u8>, Refusal>, out: &mut Lent<u8>) -> [u64; 4] {
     match text {
         Err(refusal) => refused(refusal),
         Ok(text) => {
             out[..text.len()].copy_from_slice(&text);
-            [0, 0, text.len() as u64]
+            [0, 0, 0, text.len() as u64]
         }
     }
 }
 
-fn read(text: &Lent<u8>, l: &mut LentTables) -> [u64; 6] {
+fn read(text: &Lent<u8>, l: &mut LentTables) -> [u64; 7] {
     let LentTables { z, b, c, f, .. } = l;
     let room = [z.len(), b.len(), c.len(), f.len()];
     match second::read(text, room) {
         Err(refusal) => {
             let zones = 0;
             let share = 0;
-            [u64::from(refusal.number), refusal.place as u64, zones, 0, 0, share]
+            let [number, place, byte] = why(refusal);
+            [number, place, byte, zones, 0, 0, share]
         }
         Ok(t) => {
             z[..t.z.len()].copy_from_slice(&t.z);
@@ -71,12 +78,12 @@ fn read(text: &Lent<u8>, l: &mut LentTables) -> [u64; 6] {
             c[..t.c.len()].copy_from_slice(&t.c);
             f[..t.f.len()].copy_from_slice(&t.f);
             let Header { zones, borders, rows, share } = t.header;
-            [0, 0, zones as u64, borders as u64, rows as u64, share as u64]
+            [0, 0, 0, zones as u64, borders as u64, rows as u64, share as u64]
         }
     }
 }
 
-fn write(l: &mut LentTables, out: &mut Lent<u8>) -> [u64; 3] {
+fn write(l: &mut LentTables, out: &mut Lent<u8>) -> [u64; 4] {
     let text = second::write(l.header, &l.z, &l.b, &l.c, &l.f, out.len());
     text_to(text, out)
 }
@@ -86,7 +93,7 @@ fn extract(
     p: &mut Lent<u64>,
     atc: &mut Lent<[i64; 1]>,
     left: &mut Lent<[i64; 3]>,
-) -> [u64; 3] {
+) -> [u64; 4] {
     let LentTables { header, z, b, c, f } = l;
     match second::extract(*header, z, b, c, f, p.len(), atc.len(), left.len()) {
         Err(refusal) => refused(refusal),
@@ -98,37 +105,37 @@ fn extract(
             for (item, row) in left.iter_mut().zip(&outcome.rows) {
                 *item = [i64::from(row.state), row.ram as i64, row.left.map_or(-1, |m| m as i64)];
             }
-            [0, 0, outcome.rounds]
+            [0, 0, 0, outcome.rounds]
         }
     }
 }
 
-fn result_text(l: &mut LentTables, out: &mut Lent<u8>) -> [u64; 3] {
+fn result_text(l: &mut LentTables, out: &mut Lent<u8>) -> [u64; 4] {
     let text = second::result_text(l.header, &l.z, &l.b, &l.c, &l.f, out.len());
     text_to(text, out)
 }
 
-fn corner_flows(l: &mut LentTables, row: usize, flows: &mut Lent<i64>) -> [u64; 3] {
+fn corner_flows(l: &mut LentTables, row: usize, flows: &mut Lent<i64>) -> [u64; 4] {
     match second::corner_flows(l.header, &l.z, &l.b, &l.c, &l.f, row, flows.len()) {
         Err(refusal) => refused(refusal),
         Ok(found) => {
             for (item, flow) in flows.iter_mut().zip(&found) {
                 *item = *flow as i64;
             }
-            [0, 0, found.len() as u64]
+            [0, 0, 0, found.len() as u64]
         }
     }
 }
 
-fn corner_text(l: &mut LentTables, row: usize, out: &mut Lent<u8>) -> [u64; 3] {
+fn corner_text(l: &mut LentTables, row: usize, out: &mut Lent<u8>) -> [u64; 4] {
     let text = second::corner_text(l.header, &l.z, &l.b, &l.c, &l.f, row, out.len());
     text_to(text, out)
 }
 
-fn answer(text: &Lent<u8>, out: &mut Lent<u8>) -> [u64; 3] {
+fn answer(text: &Lent<u8>, out: &mut Lent<u8>) -> [u64; 4] {
     let answer = second::answer(text);
     if out.len() < answer.len() {
-        return refused(Refusal { number: 8, place: answer.len() });
+        return refused(Refusal { number: 8, place: answer.len(), byte: second::NO_BYTE });
     }
     text_to(Ok(answer), out)
 }

@@ -76,10 +76,16 @@ pub struct Tables {
 pub struct Refusal {
     pub number: u32,
     pub place: usize,
+    /// the first byte in the line, from 1, "that no good number could have
+    /// there", or NO_BYTE
+    pub byte: usize,
 }
 
+/// "0 where no byte is to blame"
+pub const NO_BYTE: usize = 0;
+
 fn refuse<T>(number: u32, place: usize) -> Result<T, Refusal> {
-    Err(Refusal { number, place })
+    Err(Refusal { number, place, byte: NO_BYTE })
 }
 
 // ---------------------------------------------------------------------------
@@ -102,185 +108,260 @@ fn line_at(text: &[u8], start: usize) -> Option<&[u8]> {
     Some(&text[start..end])
 }
 
-/// "Lines end in one LF, fields are parted by one tab."  None where the LF is
-/// missing.  Two tabs together give an empty field, which no form takes.
-fn fields_of(line: &[u8]) -> Option<Vec<&[u8]>> {
-    let (last, body) = line.split_last()?;
-    if *last != b'\n' {
-        return None;
-    }
-    Some(body.split(|byte| *byte == b'\t').collect())
+/// A field, and the byte of the line, from 1, at which it starts.
+struct Field<'a> {
+    bytes: &'a [u8],
+    start: usize,
 }
 
+/// "Lines end in one LF, fields are parted by one tab."  The letter is the first
+/// field; two tabs together give an empty one, which no form takes.  And whether
+/// the LF is there.
+fn fields_of(line: &[u8]) -> (Vec<Field<'_>>, bool) {
+    let (body, ended) = match line.split_last() {
+        Some((b'\n', body)) => (body, true),
+        _ => (line, false),
+    };
+    let mut fields = Vec::new();
+    let mut start = 1;
+    for bytes in body.split(|byte| *byte == b'\t') {
+        fields.push(Field { bytes, start });
+        start += bytes.len() + 1;
+    }
+    (fields, ended)
+}
+
+// Each reader of a number gives the number, or how many bytes of the field could
+// begin a good one: the next byte is to blame, and it is the byte after the
+// field where the field ends too soon.
+
 /// "Numbers are decimal, 1 to 10 digits, no leading zero except "0" itself"
-fn unsigned(field: &[u8]) -> Option<i64> {
-    if field.is_empty() || field.len() > 10 {
-        return None;
-    }
-    if field[0] == b'0' && field.len() > 1 {
-        return None;
-    }
+fn unsigned(field: &[u8]) -> Result<i64, usize> {
     let mut value: i64 = 0;
-    for byte in field {
+    for (at, byte) in field.iter().enumerate() {
         if !byte.is_ascii_digit() {
-            return None;
+            return Err(at);
+        }
+        if at == 1 && field[0] == b'0' {
+            return Err(at);
+        }
+        if at == 10 {
+            return Err(at);
         }
         value = value * 10 + i64::from(*byte - b'0');
     }
-    Some(value)
+    if field.is_empty() {
+        return Err(0);
+    }
+    Ok(value)
 }
 
 /// "a minus only before a nonzero signed field"
-fn signed(field: &[u8]) -> Option<i64> {
+fn signed(field: &[u8]) -> Result<i64, usize> {
     match field.split_first() {
         Some((b'-', digits)) => {
-            let value = unsigned(digits)?;
-            if value == 0 {
-                return None;
+            if digits.first() == Some(&b'0') {
+                return Err(1);
             }
-            Some(-value)
+            match unsigned(digits) {
+                Ok(value) => Ok(-value),
+                Err(at) => Err(1 + at),
+            }
         }
         _ => unsigned(field),
     }
 }
 
 /// ""-" is allowed in R only"
-fn dash_or_unsigned(field: &[u8]) -> Option<i64> {
+fn dash_or_unsigned(field: &[u8]) -> Result<i64, usize> {
     if field == b"-" {
-        return Some(R_DASH);
+        return Ok(R_DASH);
+    }
+    if field.first() == Some(&b'-') {
+        return Err(1);
     }
     unsigned(field)
 }
 
-/// The letter, the field count and the index of a Z, B or C line; gives the
-/// fields after the index.
-fn form_of<'a>(line: &'a [u8], letter: &[u8], index: usize, counts: &[usize]) -> Option<Vec<&'a [u8]>> {
-    let fields = fields_of(line)?;
-    // the letter, the index, and one of the counts of values
-    if !counts.iter().any(|count| fields.len() == 2 + count) {
-        return None;
+/// How a field is written.
+#[derive(Clone, Copy)]
+enum Column {
+    /// an unsigned number, this one
+    Index(usize),
+    Unsigned,
+    Signed,
+    DashOrUnsigned,
+}
+
+/// The number of a field, or the byte of the line that is to blame.  `cut`: the
+/// text ends after this field, without LF.
+fn number_of(field: &Field, column: Column, cut: bool) -> Result<i64, usize> {
+    let read = match column {
+        Column::Index(_) | Column::Unsigned => unsigned(field.bytes),
+        Column::Signed => signed(field.bytes),
+        Column::DashOrUnsigned => dash_or_unsigned(field.bytes),
+    };
+    let number = match read {
+        Ok(number) => number,
+        // no byte stands where the text ends
+        Err(at) if cut && at == field.bytes.len() => return Err(NO_BYTE),
+        Err(at) => return Err(field.start + at),
+    };
+    match column {
+        // "a wrong index" names "the field's first byte"; a line cut off there
+        // names none
+        Column::Index(due) if number != due as i64 => Err(if cut { NO_BYTE } else { field.start }),
+        _ => Ok(number),
     }
-    if fields[0] != letter {
-        return None;
+}
+
+/// A line of right form: its numbers after the index, and the byte at which each
+/// starts.
+struct Form {
+    values: Vec<i64>,
+    starts: Vec<usize>,
+}
+
+/// "Letter first, then fields from the left; a wrong letter or field count ...
+/// 0".  The line has as many values after its index as one of the counts says.
+/// The byte to blame where its form is wrong.
+fn form_of(line: &[u8], letter: &[u8], columns: &[Column], counts: &[usize]) -> Result<Form, usize> {
+    let (fields, ended) = fields_of(line);
+    if fields[0].bytes != letter {
+        return Err(NO_BYTE);
     }
-    if unsigned(fields[1])? != index as i64 {
-        return None;
+    let mut form = Form { values: Vec::new(), starts: Vec::new() };
+    for (place, field) in fields[1..].iter().enumerate() {
+        // a tab where the LF belongs
+        let Some(column) = columns.get(place) else {
+            return Err(NO_BYTE);
+        };
+        let last = place + 2 == fields.len();
+        let number = number_of(field, *column, last && !ended)?;
+        if !matches!(column, Column::Index(_)) {
+            form.values.push(number);
+            form.starts.push(field.start);
+        }
     }
-    Some(fields[2..].to_vec())
+    // the LF where a tab belongs, or no LF at all
+    if !ended || !counts.contains(&form.values.len()) {
+        return Err(NO_BYTE);
+    }
+    Ok(form)
 }
 
 /// "H | zones, borders, rows"; "may carry a fourth field"
-fn form_h(line: &[u8]) -> Option<Header> {
-    let fields = fields_of(line)?;
-    if fields.len() < 4 || fields.len() > 5 || fields[0] != b"H" {
-        return None;
-    }
-    let share = match fields.get(4) {
-        Some(field) => unsigned(field)?,
-        None => NO_SHARE,
-    };
+fn form_h(line: &[u8]) -> Result<Form, usize> {
+    form_of(line, b"H", &[Column::Unsigned; 4], &[3, 4])
+}
+
+fn header_of(values: &[i64]) -> Header {
     // ten digits fit in a usize
-    Some(Header {
-        zones: unsigned(fields[1])? as usize,
-        borders: unsigned(fields[2])? as usize,
-        rows: unsigned(fields[3])? as usize,
-        share,
-    })
+    Header {
+        zones: values[0] as usize,
+        borders: values[1] as usize,
+        rows: values[2] as usize,
+        share: values.get(3).copied().unwrap_or(NO_SHARE),
+    }
 }
 
 /// "Z | index, reference net position"
-fn form_z(line: &[u8], index: usize) -> Option<i64> {
-    let v = form_of(line, b"Z", index, &[1])?;
-    signed(v[0])
+fn form_z(line: &[u8], index: usize) -> Result<Form, usize> {
+    form_of(line, b"Z", &[Column::Index(index), Column::Signed], &[1])
 }
 
 /// "B | index, from zone, to zone, LTA"; "may carry two more fields, sending hub
 /// and receiving hub"
-fn form_b(line: &[u8], index: usize) -> Option<Border> {
-    let v = form_of(line, b"B", index, &[3, 5])?;
+fn form_b(line: &[u8], index: usize) -> Result<Form, usize> {
+    let mut columns = vec![Column::Index(index)];
+    columns.extend([Column::Unsigned; 5]);
+    form_of(line, b"B", &columns, &[3, 5])
+}
+
+fn border_of(values: &[i64]) -> Border {
     let mut record = without_hubs(0, 0, 0);
-    for (place, field) in v.iter().enumerate() {
-        record[place] = unsigned(field)?;
-    }
-    Some(record)
+    record[..values.len()].copy_from_slice(values);
+    record
 }
 
 /// "C | index, Fmax, FRM, Fref, F0all, R or "-", CVA, IVA, then one factor per zone"
-fn form_c(line: &[u8], index: usize, zones: usize) -> Option<([i64; 7], Vec<i64>)> {
-    let v = form_of(line, b"C", index, &[7 + zones])?;
-    let record = [
-        unsigned(v[FMAX])?,
-        unsigned(v[FRM])?,
-        signed(v[FREF])?,
-        signed(v[F0ALL])?,
-        dash_or_unsigned(v[R])?,
-        unsigned(v[CVA])?,
-        unsigned(v[IVA])?,
-    ];
-    let mut factors = Vec::new();
-    for field in &v[7..] {
-        factors.push(signed(field)?);
-    }
-    Some((record, factors))
+fn form_c(line: &[u8], index: usize, zones: usize) -> Result<Form, usize> {
+    let mut columns = vec![Column::Index(index)];
+    columns.extend([Column::Unsigned, Column::Unsigned, Column::Signed, Column::Signed]);
+    columns.extend([Column::DashOrUnsigned, Column::Unsigned, Column::Unsigned]);
+    columns.extend(vec![Column::Signed; zones]);
+    form_of(line, b"C", &columns, &[7 + zones])
+}
+
+fn row_of(values: &[i64]) -> [i64; 7] {
+    std::array::from_fn(|place| values[place])
 }
 
 // ---------------------------------------------------------------------------
 // Ranges
 // ---------------------------------------------------------------------------
 
+// Each gives the place of the first value, from the left, that is out of range,
+// "the later of two in conflict".  The index of a line is no value.
+
 fn within(value: i64, low: i64, high: i64) -> bool {
     low <= value && value <= high
 }
 
-fn range_h(header: &Header) -> bool {
-    (2..=MOST_ZONES).contains(&header.zones)
-        && (1..=MOST_BORDERS).contains(&header.borders)
-        && (1..=MOST_ROWS).contains(&header.rows)
-        && range_share(header.share)
+fn first_bad(good: &[bool]) -> Option<usize> {
+    good.iter().position(|good| !good)
+}
+
+fn fault_h(header: &Header) -> Option<usize> {
+    first_bad(&[
+        (2..=MOST_ZONES).contains(&header.zones),
+        (1..=MOST_BORDERS).contains(&header.borders),
+        (1..=MOST_ROWS).contains(&header.rows),
+        good_share(header.share),
+    ])
 }
 
 /// "a fourth field, 0..10000"
-fn range_share(share: i64) -> bool {
+fn good_share(share: i64) -> bool {
     share == NO_SHARE || within(share, 0, 10_000)
 }
 
 /// "kW, -100000000..100000000"
-fn range_z(position: i64) -> bool {
-    within(position, -100_000_000, 100_000_000)
+fn fault_z(position: i64) -> Option<usize> {
+    first_bad(&[within(position, -100_000_000, 100_000_000)])
 }
 
-/// "from zone, to zone (both exist, not equal), LTA in MW 0..10000"
-fn range_b(record: &Border, zones: usize) -> bool {
+/// "from zone, to zone (both exist, not equal), LTA in MW 0..10000"; "3 also for a
+/// hub that doesn't exist or for two equal hubs".  A hub may be the border's own
+/// from or to.
+fn fault_b(record: &Border, zones: usize) -> Option<usize> {
     let [from, to, lta, sending, receiving] = *record;
     let last = zones as i64 - 1;
-    within(from, 0, last)
-        && within(to, 0, last)
-        && from != to
-        && within(lta, 0, 10_000)
-        && range_hubs(sending, receiving, last)
-}
-
-/// "3 also for a hub that doesn't exist or for two equal hubs".  A hub may be the
-/// border's own from or to.
-fn range_hubs(sending: i64, receiving: i64, last: i64) -> bool {
-    if sending == NO_HUB && receiving == NO_HUB {
-        return true;
-    }
-    within(sending, 0, last) && within(receiving, 0, last) && sending != receiving
+    let no_hubs = sending == NO_HUB && receiving == NO_HUB;
+    first_bad(&[
+        within(from, 0, last),
+        within(to, 0, last) && from != to,
+        within(lta, 0, 10_000),
+        no_hubs || within(sending, 0, last),
+        no_hubs || within(receiving, 0, last) && sending != receiving,
+    ])
 }
 
 /// "Fmax kW 1..10000000, FRM kW 0..Fmax, Fref kW -20000000..20000000, F0all kW
 /// same range, R 0..10000 (ten-thousandths) or "-", CVA kW 0..10000000, IVA kW
 /// same, then one factor per zone, -100000..100000"
-fn range_c(record: &[i64; 7], factors: &[i64]) -> bool {
-    within(record[FMAX], 1, 10_000_000)
-        && within(record[FRM], 0, record[FMAX])
-        && within(record[FREF], -20_000_000, 20_000_000)
-        && within(record[F0ALL], -20_000_000, 20_000_000)
-        && (record[R] == R_DASH || within(record[R], 0, 10_000))
-        && within(record[CVA], 0, 10_000_000)
-        && within(record[IVA], 0, 10_000_000)
-        && factors.iter().all(|factor| within(*factor, -100_000, 100_000))
+fn fault_c(record: &[i64; 7], factors: &[i64]) -> Option<usize> {
+    let mut good = vec![
+        within(record[FMAX], 1, 10_000_000),
+        within(record[FRM], 0, record[FMAX]),
+        within(record[FREF], -20_000_000, 20_000_000),
+        within(record[F0ALL], -20_000_000, 20_000_000),
+        record[R] == R_DASH || within(record[R], 0, 10_000),
+        within(record[CVA], 0, 10_000_000),
+        within(record[IVA], 0, 10_000_000),
+    ];
+    good.extend(factors.iter().map(|factor| within(*factor, -100_000, 100_000)));
+    first_bad(&good)
 }
 
 // ---------------------------------------------------------------------------
@@ -382,17 +463,19 @@ impl<'a> Lines<'a> {
     }
 }
 
-/// "lines are judged one by one, form before range"
-fn judged<T>(number: usize, form: Option<T>, range: impl Fn(&T) -> bool) -> Result<T, Refusal> {
+/// "lines are judged one by one, form before range": the values of the line.
+/// "Range faults ... name the field's first byte".
+fn judged(
+    number: usize,
+    form: Result<Form, usize>,
+    fault: impl Fn(&[i64]) -> Option<usize>,
+) -> Result<Vec<i64>, Refusal> {
     match form {
-        None => refuse(2, number),
-        Some(value) => {
-            if range(&value) {
-                Ok(value)
-            } else {
-                refuse(3, number)
-            }
-        }
+        Err(byte) => Err(Refusal { number: 2, place: number, byte }),
+        Ok(form) => match fault(&form.values) {
+            Some(place) => Err(Refusal { number: 3, place: number, byte: form.starts[place] }),
+            None => Ok(form.values),
+        },
     }
 }
 
@@ -402,7 +485,7 @@ fn read_lines(text: &[u8]) -> Result<Tables, Refusal> {
     let mut lines = Lines { text, start: 0, number: 1 };
 
     let (number, line) = lines.next()?;
-    let header = judged(number, form_h(line), range_h)?;
+    let header = header_of(&judged(number, form_h(line), |v| fault_h(&header_of(v)))?);
     let mut tables = Tables {
         header,
         z: Vec::new(),
@@ -412,18 +495,19 @@ fn read_lines(text: &[u8]) -> Result<Tables, Refusal> {
     };
     for index in 0..header.zones {
         let (number, line) = lines.next()?;
-        tables.z.push(judged(number, form_z(line, index), |p| range_z(*p))?);
+        tables.z.extend(judged(number, form_z(line, index), |v| fault_z(v[0]))?);
     }
     for index in 0..header.borders {
         let (number, line) = lines.next()?;
-        tables.b.push(judged(number, form_b(line, index), |r| range_b(r, header.zones))?);
+        let values = judged(number, form_b(line, index), |v| fault_b(&border_of(v), header.zones))?;
+        tables.b.push(border_of(&values));
     }
     for index in 0..header.rows {
         let (number, line) = lines.next()?;
-        let (record, factors) =
-            judged(number, form_c(line, index, header.zones), |(r, f)| range_c(r, f))?;
-        tables.c.push(record);
-        tables.f.extend(factors);
+        let form = form_c(line, index, header.zones);
+        let values = judged(number, form, |v| fault_c(&row_of(v), &v[7..]))?;
+        tables.c.push(row_of(&values));
+        tables.f.extend(&values[7..]);
     }
     lines.end()?;
     Ok(tables)
@@ -454,7 +538,7 @@ fn front_of(
     c: &[[i64; 7]],
     f: &[i64],
 ) -> Result<Tables, Refusal> {
-    if !range_h(&header) {
+    if fault_h(&header).is_some() {
         return refuse(3, LINE_H);
     }
     judge_lengths(header, [z.len(), b.len(), c.len(), f.len()])?;
@@ -486,21 +570,22 @@ pub fn judge(
     Ok(tables)
 }
 
-/// The records by their line: 3 where one is out of range.
+/// The records by their line: 3 where one is out of range; no byte, "lent tables,
+/// 0".
 fn judge_records(tables: &Tables) -> Result<(), Refusal> {
     let header = tables.header;
     for index in 0..header.zones {
-        if !range_z(tables.z[index]) {
+        if fault_z(tables.z[index]).is_some() {
             return refuse(3, line_z(index));
         }
     }
     for index in 0..header.borders {
-        if !range_b(&tables.b[index], header.zones) {
+        if fault_b(&tables.b[index], header.zones).is_some() {
             return refuse(3, line_b(header, index));
         }
     }
     for index in 0..header.rows {
-        if !range_c(&tables.c[index], factors_of(tables, index)) {
+        if fault_c(&tables.c[index], factors_of(tables, index)).is_some() {
             return refuse(3, line_c(header, index));
         }
     }
@@ -1112,17 +1197,18 @@ pub fn result_text(
     Ok(text)
 }
 
-/// "one line `E`, number, place"
+/// "one line `E`, number, place"; "the `E` line gains a third field: that byte"
 pub fn refusal_text(refusal: Refusal) -> Vec<u8> {
     let mut out = Vec::new();
-    push_line(&mut out, "E", &[refusal.number.to_string(), refusal.place.to_string()]);
+    let Refusal { number, place, byte } = refusal;
+    push_line(&mut out, "E", &[number.to_string(), place.to_string(), byte.to_string()]);
     out
 }
 
 const ALL_ROOM: [usize; 4] = [usize::MAX; 4];
 
 /// "The program reads the table on standard input and writes this, or one line
-/// `E`, number, place."
+/// `E`".
 pub fn answer(text: &[u8]) -> Vec<u8> {
     let result = read(text, ALL_ROOM)
         .and_then(|t| result_text(t.header, &t.z, &t.b, &t.c, &t.f, usize::MAX));

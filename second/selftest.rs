@@ -26,16 +26,14 @@ fn out(t: &Tables) -> Result<Outcome, Refusal> {
     extract(t.header, &t.z, &t.b, &t.c, &t.f, usize::MAX, usize::MAX, usize::MAX)
 }
 
+/// A refusal that no byte is to blame for.
 fn e<T>(number: u32, place: usize) -> Result<T, Refusal> {
-    Err(Refusal { number, place })
+    Err(Refusal { number, place, byte: NO_BYTE })
 }
 
-/// The refusal of reading a shown text.
+/// The number and place of reading's refusal.
 fn read_refusal(bytes: &[u8]) -> Option<(u32, usize)> {
-    match read(bytes, ALL) {
-        Ok(_) => None,
-        Err(r) => Some((r.number, r.place)),
-    }
+    read(bytes, ALL).err().map(|refusal| (refusal.number, refusal.place))
 }
 
 const HOUR: &str = "H 3 2 4
@@ -132,7 +130,7 @@ fn one_row(row: &str) -> Vec<u8> {
 fn spread_5000_is_kept_4999_is_not() {
     let kept = answer(&one_row("100000 0 0 0 0 0 0 5000 0"));
     assert_eq!(shown(&kept), "A 0 2000 / M 0 0 10000000000 0 / R 1");
-    assert_eq!(shown(&answer(&one_row("100000 0 0 0 0 0 0 4999 0"))), "E 5 0");
+    assert_eq!(shown(&answer(&one_row("100000 0 0 0 0 0 0 4999 0"))), "E 5 0 0");
     // the spread counts every zone, also one in no border
     let t = text("H 3 1 2 / Z 0 0 / Z 1 0 / Z 2 0 / B 0 0 1 0 / C 0 1 0 0 0 0 0 0 5000 4999 0 / C 1 1 0 0 0 0 0 0 4999 4998 0");
     let o = out(&read(&t, ALL).unwrap()).unwrap();
@@ -171,7 +169,7 @@ fn lta_margin_lifts_ram_to_s() {
     let o = out(&read(&hour("0"), ALL).unwrap()).unwrap();
     assert_eq!((o.rounds, o.atc[0], o.rows[0].ram), (0, 100, 20_000 * 100_000));
     assert_eq!(o.l_bits, 0);
-    assert_eq!(shown(&answer(&hour("1"))), "E 7 0");
+    assert_eq!(shown(&answer(&hour("1"))), "E 7 0 0");
     // a table that extraction refuses can still be written
     assert_eq!(rewrite(&hour("1")), hour("1"));
 }
@@ -232,7 +230,7 @@ fn border_given_twice() {
             "H 2 2 2 / Z 0 0 / Z 1 0 / B 0 0 1 0 / B 1 {second} / C 0 100 0 0 0 0 0 0 20000 0 / C 1 100 0 0 0 0 0 0 0 20000"
         ))
     };
-    assert_eq!(shown(&answer(&hour("0 1 5"))), "E 4 1");
+    assert_eq!(shown(&answer(&hour("0 1 5"))), "E 4 1 0");
     assert_eq!(read_refusal(&hour("1 0 5")), None);
     // the first such border is the later one, by index
     let t = text("H 3 4 1 / Z 0 0 / Z 1 0 / Z 2 0 / B 0 0 1 0 / B 1 1 2 0 / B 2 1 2 3 / B 3 0 1 0 / C 0 1 0 0 0 0 0 0 0 0 0");
@@ -246,20 +244,20 @@ fn border_given_twice() {
 fn border_that_no_kept_row_limits() {
     assert_eq!(
         shown(&answer(&text("H 2 1 1 / Z 0 0 / Z 1 0 / B 0 1 0 0 / C 0 100 0 0 0 0 0 0 20000 0"))),
-        "E 6 0"
+        "E 6 0 0"
     );
     // limited only by a row that is not kept
     assert_eq!(
         shown(&answer(&text(
             "H 2 2 2 / Z 0 0 / Z 1 0 / B 0 0 1 0 / B 1 1 0 0 / C 0 100 0 0 0 0 0 0 20000 0 / C 1 100 0 0 0 0 0 0 0 4999"
         ))),
-        "E 6 1"
+        "E 6 1 0"
     );
 }
 
 #[test]
 fn empty_text_and_minus_zero() {
-    assert_eq!(shown(&answer(b"")), "E 2 1");
+    assert_eq!(shown(&answer(b"")), "E 2 1 0");
     assert_eq!(read_refusal(&hour_with(2, "Z 0 -0")), Some((2, 2)));
     assert_eq!(read_refusal(&hour_with(7, "C 0 1000000 200000 -0 150000 7000 0 80000 30000 10000 0")), Some((2, 7)));
     assert_eq!(read_refusal(&hour_with(7, "C 0 1000000 200000 0 150000 7000 0 80000 30000 10000 -0")), Some((2, 7)));
@@ -506,9 +504,9 @@ fn refusal_7_looks_at_kept_rows_only() {
     };
     // state 1 with a negative margin: no matter
     assert_eq!(answer(&hour("1 0 0 0 0 9 0 4999 0"))[0], b'A');
-    assert_eq!(shown(&answer(&hour("1 0 0 0 0 9 0 9000 0"))), "E 7 1");
+    assert_eq!(shown(&answer(&hour("1 0 0 0 0 9 0 9000 0"))), "E 7 1 0");
     // a kept row with no border of p > 0 counts too, and keeps its margin
-    assert_eq!(shown(&answer(&hour("1 0 0 0 0 9 0 0 9000"))), "E 7 1");
+    assert_eq!(shown(&answer(&hour("1 0 0 0 0 9 0 0 9000"))), "E 7 1 0");
     let o = out(&read(&hour("9 0 0 0 0 9 0 0 9000"), ALL).unwrap()).unwrap();
     assert_eq!(o.rows[1], RowOut { state: 0, ram: 0, left: Some(0) });
     let o = out(&read(&hour("10 0 0 0 0 9 0 0 9000"), ALL).unwrap()).unwrap();
@@ -516,7 +514,7 @@ fn refusal_7_looks_at_kept_rows_only() {
     // 6 before 7
     assert_eq!(
         shown(&answer(&text("H 2 1 1 / Z 0 0 / Z 1 0 / B 0 1 0 0 / C 0 100 0 0 0 0 200 0 20000 0"))),
-        "E 6 0"
+        "E 6 0 0"
     );
 }
 
@@ -531,7 +529,7 @@ fn refusal_8_reading() {
     assert_eq!(read(&t, [3, 2, 4, 11]), e(8, 12));
     // 2, 3 and 4 before 8
     assert_eq!(read(&hour_with(10, "C 3"), [0; 4]), e(2, 10));
-    assert_eq!(read(&hour_with(2, "Z 0 100000001"), [0; 4]), e(3, 2));
+    assert_eq!(read(&hour_with(2, "Z 0 100000001"), [0; 4]), Err(Refusal { number: 3, place: 2, byte: 5 }));
     assert_eq!(read(&hour_with(6, "B 1 0 1 0"), [0; 4]), e(4, 1));
 }
 
@@ -637,6 +635,285 @@ fn room_for_results() {
     assert!(w(&seven, usize::MAX).is_ok());
 }
 
+// ---------------------------------------------------------- which byte is bad
+
+/// A table of three zones, two borders and two rows, with line `number` (from 1)
+/// put as it is, its LF too.
+fn small_with(number: usize, line: &[u8]) -> Vec<u8> {
+    let good = "H 3 2 2 / Z 0 0 / Z 1 0 / Z 2 0 / B 0 0 1 5 / B 1 1 2 5 / C 0 9 5 0 0 - 0 0 20000 0 0 / C 1 9 5 0 0 - 0 0 0 20000 0";
+    let good = text(good);
+    let mut lines: Vec<&[u8]> = good.split_inclusive(|byte| *byte == b'\n').collect();
+    lines[number - 1] = line;
+    lines.concat()
+}
+
+/// The byte of reading's refusal, which has this number and is at this line.
+fn byte_at(number: u32, place: usize, bytes: &[u8]) -> usize {
+    let refusal = read(bytes, ALL).expect_err("a refusal");
+    assert_eq!((refusal.number, refusal.place), (number, place), "{}", bytes.escape_ascii());
+    refusal.byte
+}
+
+#[test]
+fn bytes_by_hand() {
+    // (line, as it stands with blanks for tabs and _ for a blank, number, byte);
+    // the LF is put after it
+    let lines: &[(usize, &str, u32, usize)] = &[
+        // Z 1: byte 1 is the letter, 3 the index, 5 the position's first
+        (3, "Z 1 +5", 2, 5),
+        (3, "Z 1 5_", 2, 6),
+        (3, "Z 1 1-", 2, 6),
+        (3, "Z 1 5\r", 2, 6),
+        (3, "Z 1 01", 2, 6),
+        (3, "Z 1 00", 2, 6),
+        (3, "Z 1 -0", 2, 6),
+        (3, "Z 1 -01", 2, 6),
+        (3, "Z 1 --5", 2, 6),
+        (3, "Z 1 -x", 2, 6),
+        (3, "Z 1 10000000000", 2, 15),
+        (3, "Z 1 -10000000000", 2, 16),
+        (3, "Z 1 12345678901x", 2, 15),
+        (3, "Z 1 1234567890x", 2, 15),
+        // a field that ends too soon: the LF, or the tab
+        (3, "Z 1 ", 2, 5),
+        (3, "Z 1 -", 2, 6),
+        (3, "Z  5", 2, 3),
+        (3, "Z  ", 2, 3),
+        (3, "Z ", 2, 3),
+        // the index: its form before its value, its value before what follows
+        (3, "Z 0 5", 2, 3),
+        (3, "Z 10 5", 2, 3),
+        (3, "Z 10", 2, 3),
+        (3, "Z 9999999999 x", 2, 3),
+        (3, "Z 0x 5", 2, 4),
+        (3, "Z 1x 5", 2, 4),
+        (3, "Z 01 5", 2, 4),
+        (3, "Z -1 5", 2, 3),
+        (3, "Z - 5", 2, 3),
+        (3, "Z 10000000000 5", 2, 13),
+        (3, "Z 2 x", 2, 3),
+        (3, "Z 0 5 5", 2, 3),
+        // letter, count
+        (3, "z 1 x", 2, 0),
+        (3, "B 0 x", 2, 0),
+        (3, "ZZ 1 x", 2, 0),
+        (3, "Z1 x", 2, 0),
+        (3, "_Z 1 x", 2, 0),
+        (3, "Z", 2, 0),
+        (3, "", 2, 0),
+        (3, "Z 1", 2, 0),
+        (3, "Z 1 5 5", 2, 0),
+        (3, "Z 1 5 ", 2, 0),
+        (3, "Z 1 5 x", 2, 0),
+        (3, "Z 1 999999999 5", 2, 0),
+        (3, "Z 1 x 5", 2, 5),
+        // range
+        (3, "Z 1 100000001", 3, 5),
+        (3, "Z 1 -9999999999", 3, 5),
+        // H has no index
+        (1, "H 17 2 2", 3, 3),
+        (1, "H 1 0 0", 3, 3),
+        (1, "H 3 65 2", 3, 5),
+        (1, "H 16 65 201", 3, 6),
+        (1, "H 3 2 201", 3, 7),
+        (1, "H 3 2 2 10001", 3, 9),
+        (1, "H 3 2 0 10001", 3, 7),
+        (1, "H x 2 2", 2, 3),
+        (1, "H -3 2 2", 2, 3),
+        (1, "H 3 2 2 -", 2, 9),
+        (1, "H 3 2 2 -1", 2, 9),
+        (1, "H 3 2 2 ", 2, 9),
+        (1, "H 3 2 2  ", 2, 9),
+        (1, "H 3 2 2 7000 ", 2, 0),
+        (1, "H 3 2 2 7000 x", 2, 0),
+        (1, "H 3 2 2 07000", 2, 10),
+        (1, "H 3 2", 2, 0),
+        (1, "H 3 2 ", 2, 7),
+        (1, "H 17 2 2x", 2, 9),
+        (1, "H", 2, 0),
+        (1, "h 3 2 2", 2, 0),
+        // B 1: from at 5, to at 7, LTA at 9, hubs from 11 on
+        (6, "B 1 3 2 5", 3, 5),
+        (6, "B 1 1 3 5", 3, 7),
+        (6, "B 1 1 1 5", 3, 7),
+        (6, "B 1 1 1 10001", 3, 7),
+        (6, "B 1 9 9 5", 3, 5),
+        (6, "B 1 1 9 10001", 3, 7),
+        (6, "B 1 1 2 10001", 3, 9),
+        (6, "B 1 1 2 5 3 0", 3, 11),
+        (6, "B 1 1 2 5 0 3", 3, 13),
+        (6, "B 1 1 2 5 0 0", 3, 13),
+        (6, "B 1 1 2 5 3 3", 3, 11),
+        (6, "B 1 -1 2 5", 2, 5),
+        (6, "B 1 1 - 5", 2, 7),
+        (6, "B 1 1 2 -5", 2, 9),
+        (6, "B 1 1 2 5 ", 2, 11),
+        (6, "B 1 1 2 5 0", 2, 0),
+        (6, "B 1 1 2 5 0 ", 2, 13),
+        (6, "B 1 1 2 5  0", 2, 11),
+        (6, "B 1 1 2 5 0 1 ", 2, 0),
+        (6, "B 1 1 2 5 0 1 2", 2, 0),
+        (6, "B 1 1 2 5 -1 -1", 2, 11),
+        (6, "B 1 1 2", 2, 0),
+        (6, "B 1 9 9 99999 0", 2, 0),
+        (6, "B 0 1 2 5", 2, 3),
+        // C 1: Fmax at 5, FRM 7, Fref 9, F0all 11, R 13, CVA 15, IVA 17, factors 19..
+        (8, "C 1 0 5 0 0 - 0 0 0 20000 0", 3, 5),
+        (8, "C 1 0 0 0 0 - 0 0 0 20000 0", 3, 5),
+        (8, "C 1 9 10 0 0 - 0 0 0 20000 0", 3, 7),
+        (8, "C 1 9 10 0 0 10001 0 0 0 20000 0", 3, 7),
+        (8, "C 1 9 5 20000001 0 - 0 0 0 20000 0", 3, 9),
+        (8, "C 1 9 5 0 -20000001 - 0 0 0 20000 0", 3, 11),
+        (8, "C 1 9 5 0 0 10001 0 0 0 20000 0", 3, 13),
+        (8, "C 1 9 5 0 0 - 10000001 0 0 20000 0", 3, 15),
+        (8, "C 1 9 5 0 0 - 0 10000001 0 20000 0", 3, 17),
+        (8, "C 1 9 5 0 0 - 0 0 100001 20000 0", 3, 19),
+        (8, "C 1 9 5 0 0 - 0 0 0 20000 -100001", 3, 27),
+        (8, "C 1 9 5 0 0 -5 0 0 0 20000 0", 2, 14),
+        (8, "C 1 9 5 0 0 -- 0 0 0 20000 0", 2, 14),
+        (8, "C 1 9 5 0 0 -_ 0 0 0 20000 0", 2, 14),
+        (8, "C 1 9 5 0 0  0 0 0 20000 0", 2, 13),
+        (8, "C 1 9 5 0 0 07 0 0 0 20000 0", 2, 14),
+        (8, "C 1 9 5 - 0 - 0 0 0 20000 0", 2, 10),
+        (8, "C 1 9 5 0 0 - - 0 0 20000 0", 2, 15),
+        (8, "C 1 -9 5 0 0 - 0 0 0 20000 0", 2, 5),
+        (8, "C 1 9 5 0 0 - 0 0 0 20000", 2, 0),
+        (8, "C 1 9 5 0 0 -", 2, 0),
+        (8, "C 1 9 5 0 0 - 0 0 0 20000 0 ", 2, 0),
+        (8, "C 1 9 5 0 0 - 0 0 0 20000 0 0", 2, 0),
+        (8, "C 1 9 5 0 0 - 0 0 0 20000 -", 2, 28),
+        (8, "C 1 9 5 0 0 - 0 0 0 20000 ", 2, 27),
+        (8, "C 1 9 5 0 0 - 0 0 0 x0000 0", 2, 21),
+        (8, "C 0 0 x", 2, 3),
+        (8, "C 1 0 5 0 0 - 0 0 0 20000 0_", 2, 28),
+    ];
+    for (place, line, number, byte) in lines {
+        let bytes = format!("{}\n", line.replace(' ', "\t").replace('_', " ")).into_bytes();
+        assert_eq!(byte_at(*number, *place, &small_with(*place, &bytes)), *byte, "{line:?}");
+    }
+}
+
+#[test]
+fn bytes_where_the_text_ends() {
+    // the last line without LF: no byte is there to blame
+    for (line, byte) in [
+        ("C", 0), ("C ", 0), ("C 1", 0), ("C 10", 0), ("C 10 ", 3), ("C 1 ", 0), ("C 1 9 5 -", 0), ("C 1 9 5 0 0 -", 0),
+        ("C 1 9 5 0 0 - 0 0 0 20000 0", 0), ("C 1 9 5 0 0 - 0 0 0 20000 0 ", 0), ("C x", 3), ("C 01", 4), ("C 1 9 5 -0", 10),
+        ("C 1 9 5 -0 ", 10), ("C 1 9 x", 7), ("C 1 9 10 0 0 - 0 0 0 20000 0", 0), ("c 1 9 x", 0), ("C 0 9 5", 3),
+    ] {
+        let bytes = line.replace(' ', "\t").into_bytes();
+        assert_eq!(byte_at(2, 8, &small_with(8, &bytes)), byte, "{line:?}");
+    }
+    // a missing line, one too many, and nothing at all
+    assert_eq!(byte_at(2, 8, &small_with(8, b"")), 0);
+    assert_eq!(byte_at(2, 9, &[small_with(1, b"H\t3\t2\t2\n"), b"C\tx\n".to_vec()].concat()), 0);
+    assert_eq!(byte_at(2, 1, b""), 0);
+    assert_eq!(byte_at(2, 1, b"\n"), 0);
+    assert_eq!(byte_at(2, 1, b"\xff"), 0);
+    assert_eq!(byte_at(1, 0, &vec![b'x'; 65_537]), 0);
+    assert_eq!(shown(&answer(&hour_with(2, "Z 0 -0"))), "E 2 2 6");
+    assert_eq!(shown(&rewrite(&hour_with(2, "Z 0 -0"))), "E 2 2 6");
+    assert_eq!(shown(&corners(&hour_with(2, "Z 0 -0"), None)), "E 2 2 6");
+}
+
+/// Every good field of at most so many bytes over a few telling ones.
+fn good_fields(letters: &[u8], most: usize, kind: char) -> Vec<Vec<u8>> {
+    let good = |field: &[u8]| {
+        let (minus, digits) = match field.strip_prefix(b"-") {
+            Some(digits) => (true, digits),
+            None => (false, field),
+        };
+        let number = !digits.is_empty() && digits.iter().all(|byte| byte.is_ascii_digit());
+        let number = number && (digits[0] != b'0' || digits.len() == 1);
+        match kind {
+            's' => number && (!minus || digits != b"0"),
+            'r' => field == b"-" || number && !minus,
+            _ => number && !minus,
+        }
+    };
+    strings(letters, most).into_iter().filter(|field| good(field)).collect()
+}
+
+fn strings(letters: &[u8], most: usize) -> Vec<Vec<u8>> {
+    let mut all = vec![vec![]];
+    let mut longest: Vec<Vec<u8>> = vec![vec![]];
+    for _ in 0..most {
+        longest = longest
+            .iter()
+            .flat_map(|string| letters.iter().map(move |letter| [&string[..], &[*letter]].concat()))
+            .collect();
+        all.extend(longest.clone());
+    }
+    all
+}
+
+#[test]
+fn the_first_byte_that_no_good_number_could_have() {
+    // the sentence itself, tried on every field of up to four bytes: a good field and
+    // its end, tab or LF, agree with this one up to the byte before, and none with it
+    let letters = b"0159-x ";
+    for (kind, line, place, head, tail) in [
+        ('s', 2, 5, &b"Z\t0\t"[..], &b"\n"[..]),
+        ('u', 5, 9, b"B\t0\t0\t1\t", b"\n"),
+        ('u', 5, 5, b"B\t0\t", b"\t1\t5\n"),
+        ('r', 7, 13, b"C\t0\t9\t5\t0\t0\t", b"\t0\t0\t20000\t0\t0\n"),
+        ('s', 7, 9, b"C\t0\t9\t5\t", b"\t0\t0\t0\t0\t20000\t0\t0\n"),
+        ('s', 7, 27, b"C\t0\t9\t5\t0\t0\t-\t0\t0\t20000\t0\t", b"\n"),
+    ] {
+        let good = good_fields(letters, 4, kind);
+        let end = tail[0];
+        let begins = |front: &[u8]| {
+            good.iter().any(|field| [&field[..], &[end]].concat().starts_with(front))
+        };
+        for field in strings(letters, 3) {
+            let with_end = [&field[..], &[end]].concat();
+            let bad = (1..=with_end.len()).find(|count| !begins(&with_end[..*count]));
+            let bytes = small_with(line, &[head, &field[..], tail].concat());
+            let refusal = read(&bytes, ALL).err().filter(|refusal| refusal.number == 2);
+            assert_eq!(refusal.map(|refusal| refusal.byte), bad.map(|count| place + count - 1), "{}", bytes.escape_ascii());
+        }
+    }
+}
+
+#[test]
+fn the_byte_lies_in_the_line() {
+    // every byte of a small table replaced by any, taken out, doubled
+    let whole = small_with(6, b"B\t1\t1\t2\t5\t0\t1\n");
+    let mut named = 0;
+    for at in 0..whole.len() {
+        let mut damaged: Vec<Vec<u8>> = (0..=255)
+            .map(|byte| {
+                let mut bytes = whole.clone();
+                bytes[at] = byte;
+                bytes
+            })
+            .collect();
+        let mut less = whole.clone();
+        less.remove(at);
+        let mut more = whole.clone();
+        more.insert(at, whole[at]);
+        damaged.extend([less, more, whole[..at].to_vec()]);
+        for bytes in damaged {
+            let Err(refusal) = read(&bytes, ALL) else { continue };
+            let line = bytes.split_inclusive(|byte| *byte == b'\n').nth(refusal.place.max(1) - 1).unwrap_or(b"");
+            assert!(refusal.byte <= line.len(), "{}", bytes.escape_ascii());
+            assert!(refusal.byte == 0 || (2..=3).contains(&refusal.number) && refusal.byte >= 3);
+            named += usize::from(refusal.byte > 0);
+        }
+    }
+    assert!(named > 10_000);
+}
+
+#[test]
+fn lent_tables_name_no_byte() {
+    let t = table(HOUR);
+    let mut bad = t.clone();
+    bad.c[1][0] = 0;
+    assert_eq!(judge(bad.header, &bad.z, &bad.b, &bad.c, &bad.f), e(3, 8));
+    assert_eq!(out(&bad).map(|_| ()), e(3, 8));
+    assert_eq!(judge(Header { zones: 17, ..t.header }, &t.z, &t.b, &t.c, &t.f), e(3, 1));
+}
+
 // ------------------------------------------------------------ the default of R
 
 #[test]
@@ -670,7 +947,7 @@ fn default_by_hand() {
     for h in [" 10001", " 9999999999", " 4294967296"] {
         assert_eq!(read_refusal(&hour(h, "-")), Some((3, 1)), "{h}");
     }
-    assert_eq!(shown(&answer(&hour(" 10001", "-"))), "E 3 1");
+    assert_eq!(shown(&answer(&hour(" 10001", "-"))), "E 3 1 9");
 }
 
 #[test]
@@ -754,7 +1031,7 @@ fn hubs_are_zones_of_the_5_percent() {
         ))
     };
     assert_eq!(shown(&answer(&hour("5000"))), "A 0 2000 / M 0 0 10000000000 0 / R 1");
-    assert_eq!(shown(&answer(&hour("4999"))), "E 5 0");
+    assert_eq!(shown(&answer(&hour("4999"))), "E 5 0 0");
 }
 
 #[test]
@@ -956,8 +1233,8 @@ fn corners_at_most_12_borders() {
     assert_eq!(sheet(&t(13), 1, usize::MAX), e(9, 13));
     assert_eq!(flows(&t(40), 1, usize::MAX), e(9, 40));
     assert_eq!((flows(&t(64), 1, 0), sheet(&t(64), 1, 0)), (e(9, 64), e(9, 64)));
-    assert_eq!(shown(&corners(&sized(16, 13, 2), None)), "E 9 13");
-    assert_eq!(shown(&corners(&sized(16, 13, 2), Some(1))), "E 9 13");
+    assert_eq!(shown(&corners(&sized(16, 13, 2), None)), "E 9 13 0");
+    assert_eq!(shown(&corners(&sized(16, 13, 2), Some(1))), "E 9 13 0");
     // a sheet may pass the length that a table may have
     let mut wide = t(12);
     for (border, lta) in wide.b.iter_mut().zip(9_989..) {
@@ -977,7 +1254,7 @@ fn corner_refusals_and_their_order() {
         // 9 before the room
         assert_eq!((flows(&t, row, 0), sheet(&t, row, 0)), (e(9, row), e(9, row)));
     }
-    assert_eq!(shown(&corners(&text(HOUR), Some(4))), "E 9 4");
+    assert_eq!(shown(&corners(&text(HOUR), Some(4))), "E 9 4 0");
     let size = sheet(&t, 1, usize::MAX).unwrap().len();
     assert_eq!((flows(&t, 1, 3), flows(&t, 1, 0)), (e(8, 4), e(8, 4)));
     assert_eq!((sheet(&t, 1, size - 1), sheet(&t, 1, 0)), (e(8, size), e(8, size)));
@@ -1002,9 +1279,9 @@ fn corner_refusals_and_their_order() {
     twice.b[1] = without_hubs(0, 1, 0);
     assert_eq!((flows(&twice, 4, 0), sheet(&twice, 0, 0)), (e(4, 1), e(4, 1)));
     // reading refuses as ever
-    assert_eq!(shown(&corners(b"", None)), "E 2 1");
-    assert_eq!(shown(&corners(&hour_with(2, "Z 0 100000001"), Some(9))), "E 3 2");
-    assert_eq!(shown(&corners(&hour_with(6, "B 1 0 1 0"), Some(9))), "E 4 1");
+    assert_eq!(shown(&corners(b"", None)), "E 2 1 0");
+    assert_eq!(shown(&corners(&hour_with(2, "Z 0 100000001"), Some(9))), "E 3 2 5");
+    assert_eq!(shown(&corners(&hour_with(6, "B 1 0 1 0"), Some(9))), "E 4 1 0");
     // 5, 6 and 7 are not judged
     let mut five = t.clone();
     five.f = vec![0; 12];

@@ -88,8 +88,8 @@ answer-not-7 text t read cva iva e k = go (outcomeOf t) (outcome-late t .says) (
     byte i = ap (λ (j : Judged Result). at (either j resultText refusalText) i) (sym (then-next outcomeOf read))
 
     -- an E line's third byte is its number, where that is one digit
-    digit : (w : Refusal) (n : ℕ) → w .number ≡ n → at (refusalText w) 2 ≡ at (decimal n ++ fieldsText (decimal (w .place) ∷ [])) 0
-    digit w n q = ap (λ (m : ℕ). at (decimal m ++ fieldsText (decimal (w .place) ∷ [])) 0) q
+    digit : (w : Refusal) (n : ℕ) → w .number ≡ n → at (refusalText w) 2 ≡ at (decimal n ++ fieldsText (decimal (w .place) ∷ decimal (w .byte) ∷ [])) 0
+    digit w n q = ap (λ (m : ℕ). at (decimal m ++ fieldsText (decimal (w .place) ∷ decimal (w .byte) ∷ [])) 0) q
 
     go : (o : Judged Result) → Says Late o → NotSeven o → at (either o resultText refusalText) 0 ≡ code "E" → at (either o resultText refusalText) 2 ≡ code "7" → ⊥
     go (passed r) late n e k = result-letter r e

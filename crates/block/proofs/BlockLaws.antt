@@ -7,7 +7,7 @@ use native.Mathlib.Omega.{arith}
 use lib.ListN.{length, drop, length-drop, length-append}
 use lib.Seq.{drop-drop, drop-append-seam}
 use Rattle.kinds.specs.declared.Refusal.{Refusal}
-use Rattle.kinds.specs.Refusals.{wrongForm, outOfRange}
+use Rattle.kinds.specs.Refusals.{wrongFormAt, outOfRangeAt}
 use Rattle.text.specs.Line.{lineOf, Line, holds, form, range}
 use Rattle.text.proofs.LineLaws.{line-split, line-le-length}
 use Rattle.block.specs.Block.{Block, read, fault, more, onLine, linesAt}
@@ -83,8 +83,8 @@ module _ {A : Type 0} (judge : List ℕ → ℕ → Line A) (first : ℕ) (text-
             ap suc (f .1),
           )
       go ih (holds a) h (fault w) k q = absurd (no-read w xs e q)
-      go ih form h x k q = absurd (no-read (wrongForm (first + i)) xs e q)
-      go ih range h x k q = absurd (no-read (outOfRange (first + i)) xs e q)
+      go ih (form byte) h x k q = absurd (no-read (wrongFormAt (first + i) byte) xs e q)
+      go ih (range byte) h x k q = absurd (no-read (outOfRangeAt (first + i) byte) xs e q)
 
 module _ {A : Type 0} (Fits : ℕ → A → Type 0) where
   abbrev pub allFit : ℕ → List A → Type 0

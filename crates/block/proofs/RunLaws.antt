@@ -6,7 +6,7 @@ use native.Mathlib.Nat.{add-zero, not-suc-le-zero}
 use native.Mathlib.Omega.{arith}
 use lib.ListN.{length, getD, drop}
 use lib.Seq.{drop-drop, drop-append-seam}
-use Rattle.kinds.specs.Refusals.{Judged, passed, wrongForm, outOfRange}
+use Rattle.kinds.specs.Refusals.{Judged, passed, wrongFormAt, outOfRangeAt}
 use Rattle.kinds.proofs.RefusalLaws.{not-passed}
 use Rattle.text.specs.Line.{lineOf, lineAt, after, Line, holds, form, range}
 use Rattle.text.specs.Written.{linesText}
@@ -27,8 +27,8 @@ module _ {A : Type 0} (judge : List ℕ → ℕ → Line A) (first : ℕ) (Fits 
           let f = ih ys m k in
           subst (λ (l : List A). (length l ≡ suc n) × allFit Fits i l) (w .0) (ap suc (f .0), (line-fits (lineAt text p) i a h, f .1))
       go ih (holds a) h (fault w) k q = absurd (no-read w xs e q)
-      go ih form h x k q = absurd (no-read (wrongForm (first + i)) xs e q)
-      go ih range h x k q = absurd (no-read (outOfRange (first + i)) xs e q)
+      go ih (form byte) h x k q = absurd (no-read (wrongFormAt (first + i) byte) xs e q)
+      go ih (range byte) h x k q = absurd (no-read (outOfRangeAt (first + i) byte) xs e q)
 
 -- ---- of each, and of all
 module _ {A : Type 0} (Fits : ℕ → A → Type 0) (d : A) where

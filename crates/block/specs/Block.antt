@@ -3,7 +3,7 @@
 use mathlib.Core.List.{List, [], _∷_}
 use Prim.Native.Nat.{ℕ, zero, suc, _+_}
 use Rattle.kinds.specs.declared.Refusal.{Refusal}
-use Rattle.kinds.specs.Refusals.{Judged, passed, refused, wrongForm, outOfRange}
+use Rattle.kinds.specs.Refusals.{Judged, passed, refused, wrongFormAt, outOfRangeAt}
 use Rattle.block.specs.declared.End.{End}
 use Rattle.block.specs.declared.End.the-variants.{At, Refused}
 use Rattle.text.specs.Line.{lineAt, after, Line, holds, form, range}
@@ -20,8 +20,8 @@ more a (fault w) = fault w
 -- a line by its number in the text: a good one goes on
 abbrev pub onLine : {A : Type 0} → Line A → (number : ℕ) → Block A → Block A
 onLine (holds a) number rest = more a rest
-onLine form number rest = fault (wrongForm number)
-onLine range number rest = fault (outOfRange number)
+onLine (form byte) number rest = fault (wrongFormAt number byte)
+onLine (range byte) number rest = fault (outOfRangeAt number byte)
 
 -- `left` lines from place p on, the first with index i; the line of index 0 is line `first` of the text
 unfoldable pub linesAt : {A : Type 0} → (judge : List ℕ → ℕ → Line A) → (first : ℕ) → (left : ℕ) → (text : List ℕ) → (p i : ℕ) → Block A

@@ -1,4 +1,4 @@
--- What the C interface answers: number and place of the refusal, 0 and 0 where there is none, and then the values (0 where refused).
+-- What the C interface answers: number, place and byte of the refusal, all 0 where there is none, and then the values (0 where refused).
 -- `readCoded`, `textCoded`, `extractCoded` and `flowsCoded` are what contracts cite: a call's answer coded so, and each lent buffer as the call leaves it.
 use mathlib.Core.List.{List}
 use Prim.Native.Nat.{ℕ}
@@ -16,23 +16,23 @@ use Rattle.cabi.specs.declared.KeravnothFlows.{KeravnothFlows}
 
 -- the header of the table that was read
 abbrev pub codedRead : Judged Header → KeravnothRead
-codedRead (passed h) = record { number = 0; place = 0; zones = h .zones; borders = h .borders; rows = h .rows; share = h .share }
-codedRead (refused w) = record { number = w .number; place = w .place; zones = 0; borders = 0; rows = 0; share = pos 0 }
+codedRead (passed h) = record { number = 0; place = 0; byte = 0; zones = h .zones; borders = h .borders; rows = h .rows; share = h .share }
+codedRead (refused w) = record { number = w .number; place = w .place; byte = w .byte; zones = 0; borders = 0; rows = 0; share = pos 0 }
 
 -- the bytes of the text that was written
 abbrev pub codedWritten : Judged ℕ → KeravnothWritten
-codedWritten (passed n) = record { number = 0; place = 0; bytes = n }
-codedWritten (refused w) = record { number = w .number; place = w .place; bytes = 0 }
+codedWritten (passed n) = record { number = 0; place = 0; byte = 0; bytes = n }
+codedWritten (refused w) = record { number = w .number; place = w .place; byte = w .byte; bytes = 0 }
 
 -- the rounds
 abbrev pub codedExtracted : Judged ℕ → KeravnothExtracted
-codedExtracted (passed n) = record { number = 0; place = 0; rounds = n }
-codedExtracted (refused w) = record { number = w .number; place = w .place; rounds = 0 }
+codedExtracted (passed n) = record { number = 0; place = 0; byte = 0; rounds = n }
+codedExtracted (refused w) = record { number = w .number; place = w .place; byte = w .byte; rounds = 0 }
 
 -- the corners
 abbrev pub codedFlows : Judged ℕ → KeravnothFlows
-codedFlows (passed n) = record { number = 0; place = 0; corners = n }
-codedFlows (refused w) = record { number = w .number; place = w .place; corners = 0 }
+codedFlows (passed n) = record { number = 0; place = 0; byte = 0; corners = n }
+codedFlows (refused w) = record { number = w .number; place = w .place; byte = w .byte; corners = 0 }
 
 -- what `keravnoth_read` leaves: its answer, and each lent table
 pub record ReadCoded : Type 0 where

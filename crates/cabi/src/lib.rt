@@ -24,6 +24,7 @@ use kinds::Written;
 pub struct KeravnothRead {
     pub number: u32,
     pub place: usize,
+    pub byte: usize,
     pub zones: usize,
     pub borders: usize,
     pub rows: usize,
@@ -34,6 +35,7 @@ pub struct KeravnothRead {
 pub struct KeravnothWritten {
     pub number: u32,
     pub place: usize,
+    pub byte: usize,
     pub bytes: usize,
 }
 
@@ -41,6 +43,7 @@ pub struct KeravnothWritten {
 pub struct KeravnothExtracted {
     pub number: u32,
     pub place: usize,
+    pub byte: usize,
     pub rounds: u64,
 }
 
@@ -48,6 +51,7 @@ pub struct KeravnothExtracted {
 pub struct KeravnothFlows {
     pub number: u32,
     pub place: usize,
+    pub byte: usize,
     pub corners: usize,
 }
 
@@ -161,6 +165,7 @@ fn code_read(said: Read) -> KeravnothRead
             KeravnothRead {
                 number: 0,
                 place: 0,
+                byte: 0,
                 zones: h.zones,
                 borders: h.borders,
                 rows: h.rows,
@@ -170,6 +175,7 @@ fn code_read(said: Read) -> KeravnothRead
         Read::Refused(w) => KeravnothRead {
             number: w.number,
             place: w.place,
+            byte: w.byte,
             zones: 0,
             borders: 0,
             rows: 0,
@@ -185,11 +191,13 @@ fn code_written(said: Written) -> KeravnothWritten
         Written::Bytes(bytes) => KeravnothWritten {
             number: 0,
             place: 0,
+            byte: 0,
             bytes: bytes,
         },
         Written::Refused(w) => KeravnothWritten {
             number: w.number,
             place: w.place,
+            byte: w.byte,
             bytes: 0,
         },
     }
@@ -202,11 +210,13 @@ fn code_extracted(said: Extracted) -> KeravnothExtracted
         Extracted::Rounds(rounds) => KeravnothExtracted {
             number: 0,
             place: 0,
+            byte: 0,
             rounds: rounds,
         },
         Extracted::Refused(w) => KeravnothExtracted {
             number: w.number,
             place: w.place,
+            byte: w.byte,
             rounds: 0,
         },
     }
@@ -219,11 +229,13 @@ fn code_flows(said: Flows) -> KeravnothFlows
         Flows::Corners(corners) => KeravnothFlows {
             number: 0,
             place: 0,
+            byte: 0,
             corners: corners,
         },
         Flows::Refused(w) => KeravnothFlows {
             number: w.number,
             place: w.place,
+            byte: w.byte,
             corners: 0,
         },
     }

@@ -12,7 +12,9 @@ use lib.IntN.{ℤ}
 use lib.ListN.{length, getD, take, drop, set, length-set, length-drop, drop-of-length-le}
 use lib.Seq.{drop-cons, take-suc-set, take-all}
 use borrow.Author.Tests.{le-leb, lt-leb, eq-eqb, ne-eqb}
-use Rattle.kinds.specs.LineColumns.{Column, signed, factorColumns, columnOf, columnsOf}
+use Rattle.numbers.proofs.ListLaws.{part-long}
+use Rattle.kinds.specs.Limits.{zonesMost}
+use Rattle.kinds.specs.LineColumns.{Column, signed, rowColumns, rowItems, factorColumns, columnOf, columnsOf}
 use Rattle.text.specs.declared.Number.{Number}
 use Rattle.text.specs.declared.Number.the-variants.{Value, Bad}
 use Rattle.text.specs.declared.Signed.{Signed}
@@ -234,10 +236,28 @@ abbrev pub repeated : (n b : ℕ) → List ℕ
 repeated zero b = []
 repeated (suc n) b = b ∷ repeated n b
 
-pub factors-front : (n m : ℕ) → n ≤ m → columnsOf (take n (repeated m 115)) ≡ factorColumns n
+factors-front : (n m : ℕ) → n ≤ m → columnsOf (take n (repeated m 115)) ≡ factorColumns n
 factors-front zero m h = refl
 factors-front (suc n) zero h = absurd (not-suc-le-zero h)
 factors-front (suc n) (suc m) h = ap (λ (l : List Column). signed ∷ l) (factors-front n m (omega arith))
+
+-- the columns of a row as the code has them: its values, and a factor for each zone that a table may have
+abbrev rowLetters : List ℕ
+rowLetters = 110 ∷ 110 ∷ 115 ∷ 115 ∷ 114 ∷ 110 ∷ 110 ∷ repeated zonesMost 115
+
+pub row-letters : (n : ℕ) → n ≤ zonesMost → columnsOf (take (rowItems + n) rowLetters) ≡ rowColumns ++ factorColumns n
+row-letters n h =
+    let e : rowItems + n ≡ suc (suc (suc (suc (suc (suc (suc n)))))) = omega arith in
+    ap (λ (k : ℕ). columnsOf (take k rowLetters)) e ∙ ap (λ (l : List Column). rowColumns ++ l) (factors-front n zonesMost h)
+
+-- .. the part of it that n factors have
+pub factor-letters : (n : ℕ) → n ≤ zonesMost → columnsOf (take (rowItems + n - rowItems) (drop rowItems rowLetters)) ≡ factorColumns n
+factor-letters n h =
+    let e : rowItems + n - rowItems ≡ n = omega arith in
+    ap (λ (k : ℕ). columnsOf (take k (drop rowItems rowLetters))) e ∙ factors-front n zonesMost h
+
+pub factor-letters-long : (n : ℕ) → n ≤ zonesMost → length (take (rowItems + n - rowItems) (drop rowItems rowLetters)) ≡ n
+factor-letters-long n h = part-long rowLetters rowItems n (omega arith)
 
 -- .. as two parts of a line: what was stored of each
 stored-parts : (f : Fields) (zs ys : List ℤ) → pushAll zs (stored f ys) ≡ stored f (zs ++ ys)

@@ -18,7 +18,7 @@ use Rattle.text.specs.declared.Number.the-variants.{Value, Bad}
 use Rattle.text.specs.declared.Signed.{Signed}
 use Rattle.text.specs.declared.Signed.the-variants.{Whole, Wrong}
 use Rattle.text.specs.Fields.{tab, feed, isDigit, numberAt, positive, shareAt}
-use Rattle.text.specs.Line.{lineOf, holds, range, headed, ended}
+use Rattle.text.specs.Line.{lineOf, holds, range, plainly, headed, ended}
 use Rattle.text.specs.Written.{decimal, decimalℤ}
 use Rattle.text.proofs.NumberTrip.{zero-one, whole-is, no-whole, number-read, number-written, number-rest, signed-read, signed-written, signed-rest}
 use Rattle.text.proofs.FieldTrip.{ShareKept, share-read, share-written}
@@ -321,14 +321,23 @@ pub record JudgedValues {A : Type 0} (fits : List ℤ → Bool) (make : List ℤ
   pub fit : fits zs ≡ true
   pub made : make zs ≡ a
 
-module _ {A : Type 0} (fits : List ℤ → Bool) (make : List ℤ → A) where
-  pub judged-is : (a : A) (v : Values) → judged fits make v ≡ holds a → JudgedValues fits make v a
-  judged-is a (wrong place) e = absurd (no-form a e)
+module _ {A : Type 0} (fits : List ℤ → Bool) (make : List ℤ → A) (bad : ℕ) (out : List ℤ → ℕ) where
+  pub judged-is : (a : A) (v : Values) → judged fits make bad out v ≡ holds a → JudgedValues fits make v a
+  judged-is a (wrong place) e = absurd (no-form bad a e)
   judged-is a (values zs next) e = go (fits zs) refl e
     where
-      go : (t : Bool) → fits zs ≡ t → cond t (holds (make zs)) range ≡ holds a → JudgedValues fits make (values zs next) a
-      go false q e = absurd (no-range a e)
+      go : (t : Bool) → fits zs ≡ t → cond t (holds (make zs)) (range (out zs)) ≡ holds a → JudgedValues fits make (values zs next) a
+      go false q e = absurd (no-range (out zs) a e)
       go true q e = record { zs = zs; next = next; is = refl; fit = q; made = holds-is (make zs) a e }
+
+  -- the bytes to blame change nothing else (02, E5: numbers and order are unchanged): a line comes to what it came to without them
+  pub judged-plainly : (v : Values) → plainly (judged fits make bad out v) ≡ judged fits make 0 (λ zs. 0) v
+  judged-plainly (wrong place) = refl
+  judged-plainly (values zs next) = go (fits zs)
+    where
+      go : (t : Bool) → plainly (cond t (holds (make zs)) (range (out zs))) ≡ cond t (holds (make zs)) (range 0)
+      go true = refl
+      go false = refl
 
   module _ (sep letter : ℕ) (parts : Ends sep) (cs : List Column) (i : ℕ) where
     -- a line that holds a is the text of values that make a
@@ -338,13 +347,13 @@ module _ {A : Type 0} (fits : List ℤ → Bool) (make : List ℤ → A) where
       pub fit : fits zs ≡ true
       pub made : make zs ≡ a
 
-    pub judged-read : (line : List ℕ) (a : A) → judged fits make (columnsLine sep letter cs line i) ≡ holds a → Holding line a
+    pub judged-read : (line : List ℕ) (a : A) → judged fits make bad out (columnsLine sep letter cs line i) ≡ holds a → Holding line a
     judged-read line a e =
         let j = judged-is a (columnsLine sep letter cs line i) e in
         record { zs = j .zs; read = line-read sep letter parts cs line i (j .zs) (j .next) (j .is); fit = j .fit; made = j .made }
 
     -- .. and that text holds what they make
-    pub judged-written : (zs : List ℤ) → i < 10 ^ 10 → AllKept cs zs → fits zs ≡ true → judged fits make (columnsLine sep letter cs (columnsText sep letter cs i zs) i) ≡ holds (make zs)
+    pub judged-written : (zs : List ℤ) → i < 10 ^ 10 → AllKept cs zs → fits zs ≡ true → judged fits make bad out (columnsLine sep letter cs (columnsText sep letter cs i zs) i) ≡ holds (make zs)
     judged-written zs small k f = rw (line-written sep letter parts cs i zs small k .is, f)
 
 -- ---- a line that has no index
@@ -382,19 +391,19 @@ unfolding plainText
 plain-one sep letter [] zs r some other e = absurd (not-suc-le-zero some)
 plain-one sep letter (c ∷ cs) zs r some other e = rw (e, other) (ap (λ (l : List ℕ). letter ∷ sep ∷ l) (fields-one sep other c cs zs r))
 
-module _ {A : Type 0} (fits : List ℤ → Bool) (make : List ℤ → A) (sep letter : ℕ) (parts : Ends sep) (cs : List Column) where
+module _ {A : Type 0} (fits : List ℤ → Bool) (make : List ℤ → A) (bad : ℕ) (out : List ℤ → ℕ) (sep letter : ℕ) (parts : Ends sep) (cs : List Column) where
   pub record PlainHolding (line : List ℕ) (a : A) : Type 0 where
     pub zs : List ℤ
     pub read : PlainRead sep letter cs line zs
     pub fit : fits zs ≡ true
     pub made : make zs ≡ a
 
-  pub plain-judged : (line : List ℕ) (a : A) → judged fits make (plainLine sep letter cs line) ≡ holds a → PlainHolding line a
+  pub plain-judged : (line : List ℕ) (a : A) → judged fits make bad out (plainLine sep letter cs line) ≡ holds a → PlainHolding line a
   plain-judged line a e =
-      let j = judged-is fits make a (plainLine sep letter cs line) e in
+      let j = judged-is fits make bad out a (plainLine sep letter cs line) e in
       record { zs = j .zs; read = plain-read sep letter parts cs line (j .zs) (j .next) (j .is); fit = j .fit; made = j .made }
 
-  pub plain-written : (zs : List ℤ) → AllKept cs zs → fits zs ≡ true → judged fits make (plainLine sep letter cs (plainText sep letter cs zs)) ≡ holds (make zs)
+  pub plain-written : (zs : List ℤ) → AllKept cs zs → fits zs ≡ true → judged fits make bad out (plainLine sep letter cs (plainText sep letter cs zs)) ≡ holds (make zs)
   unfolding plainLine restAt plainText
   plain-written zs k f =
       let rest = fieldsEnded sep feed cs zs in

@@ -125,7 +125,7 @@ module _ (sep letter : ℕ) (ends : Ends sep) (other : eqb sep feed ≡ false) (
     unfolding optionalLine
     optional-read line zs next e = let r = either-read line-trips cs es line zs next e in (r .here, r .kept)
 
-    module _ {A : Type 0} (fits : List ℤ → Bool) (make : List ℤ → A) where
+    module _ {A : Type 0} (fits : List ℤ → Bool) (make : List ℤ → A) (bad : ℕ) (out : List ℤ → ℕ) where
       -- a line that holds a is the text of values that make a
       pub record OptionalHolding (line : List ℕ) (a : A) : Type 0 where
         pub zs : List ℤ
@@ -134,14 +134,14 @@ module _ (sep letter : ℕ) (ends : Ends sep) (other : eqb sep feed ≡ false) (
         pub fit : fits zs ≡ true
         pub made : make zs ≡ a
 
-      pub optional-judged : (line : List ℕ) (a : A) → judged fits make (optionalLine sep letter cs (number ∷ es) line i) ≡ holds a → OptionalHolding line a
+      pub optional-judged : (line : List ℕ) (a : A) → judged fits make bad out (optionalLine sep letter cs (number ∷ es) line i) ≡ holds a → OptionalHolding line a
       optional-judged line a e =
-          let j = judged-is fits make a (optionalLine sep letter cs (number ∷ es) line i) e in
+          let j = judged-is fits make bad out a (optionalLine sep letter cs (number ∷ es) line i) e in
           let r = optional-read line (j .zs) (j .next) (j .is) in
           record { zs = j .zs; here = r .0; kept = r .1; fit = j .fit; made = j .made }
 
       -- .. and that text holds what they make
-      pub optional-written : (zs : List ℤ) → i < 10 ^ 10 → OptionalKept cs (number ∷ es) zs → fits zs ≡ true → judged fits make (optionalLine sep letter cs (number ∷ es) (optionalText sep letter cs (number ∷ es) i zs) i) ≡ holds (make zs)
+      pub optional-written : (zs : List ℤ) → i < 10 ^ 10 → OptionalKept cs (number ∷ es) zs → fits zs ≡ true → judged fits make bad out (optionalLine sep letter cs (number ∷ es) (optionalText sep letter cs (number ∷ es) i zs) i) ≡ holds (make zs)
       unfolding optionalLine
       optional-written zs small k f = rw (either-written line-trips cs es small zs k .is, f)
 
@@ -177,7 +177,7 @@ module _ (sep letter : ℕ) (ends : Ends sep) (other : eqb sep feed ≡ false) w
     unfolding plainOptional
     plain-optional-read line zs next e = let r = either-read plain-trips cs es line zs next e in (r .here, r .kept)
 
-    module _ {A : Type 0} (fits : List ℤ → Bool) (make : List ℤ → A) where
+    module _ {A : Type 0} (fits : List ℤ → Bool) (make : List ℤ → A) (bad : ℕ) (out : List ℤ → ℕ) where
       -- a line that holds a is the text of values that make a
       pub record PlainOptionalHolding (line : List ℕ) (a : A) : Type 0 where
         pub zs : List ℤ
@@ -186,13 +186,13 @@ module _ (sep letter : ℕ) (ends : Ends sep) (other : eqb sep feed ≡ false) w
         pub fit : fits zs ≡ true
         pub made : make zs ≡ a
 
-      pub plain-optional-judged : (line : List ℕ) (a : A) → judged fits make (plainOptional sep letter cs (number ∷ es) line) ≡ holds a → PlainOptionalHolding line a
+      pub plain-optional-judged : (line : List ℕ) (a : A) → judged fits make bad out (plainOptional sep letter cs (number ∷ es) line) ≡ holds a → PlainOptionalHolding line a
       plain-optional-judged line a e =
-          let j = judged-is fits make a (plainOptional sep letter cs (number ∷ es) line) e in
+          let j = judged-is fits make bad out a (plainOptional sep letter cs (number ∷ es) line) e in
           let r = plain-optional-read line (j .zs) (j .next) (j .is) in
           record { zs = j .zs; here = r .0; kept = r .1; fit = j .fit; made = j .made }
 
       -- .. and that text holds what they make
-      pub plain-optional-written : (zs : List ℤ) → OptionalKept cs (number ∷ es) zs → fits zs ≡ true → judged fits make (plainOptional sep letter cs (number ∷ es) (plainOptionalText sep letter cs (number ∷ es) zs)) ≡ holds (make zs)
+      pub plain-optional-written : (zs : List ℤ) → OptionalKept cs (number ∷ es) zs → fits zs ≡ true → judged fits make bad out (plainOptional sep letter cs (number ∷ es) (plainOptionalText sep letter cs (number ∷ es) zs)) ≡ holds (make zs)
       unfolding plainOptional
       plain-optional-written zs k f = rw (either-written plain-trips cs es tt zs k .is, f)

@@ -46,7 +46,7 @@ headAt sep letter columns line i = afterNumber (indexAt sep letter line i) (λ (
 unfoldable pub plainLine : (sep letter : ℕ) → List Column → (line : List ℕ) → Values
 plainLine sep letter columns line = cond (headed letter sep line) (restAt sep columns line 2) (wrong 0)
 
--- form before range: what a line of these values comes to
-abbrev pub judged : {A : Type 0} → (fits : List ℤ → Bool) → (make : List ℤ → A) → Values → Line A
-judged fits make (values zs next) = cond (fits zs) (holds (make zs)) range
-judged fits make (wrong place) = form
+-- form before range: what a line of these values comes to; `bad` is the byte to blame where the form is wrong, `out` where values are outside their range
+abbrev pub judged : {A : Type 0} → (fits : List ℤ → Bool) → (make : List ℤ → A) → (bad : ℕ) → (out : List ℤ → ℕ) → Values → Line A
+judged fits make bad out (values zs next) = cond (fits zs) (holds (make zs)) (range (out zs))
+judged fits make bad out (wrong place) = form bad

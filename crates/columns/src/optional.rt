@@ -1,12 +1,12 @@
-// Lines whose columns after the first n may be left out, all of them or none. Where they are left out each of their values is -1.
+// Lines whose columns after the first n may be left out, all of them or none. Where they are left out each of their values is NOT_WRITTEN.
 // `columns` are all of them, so that no list stands twice; the first of those that may be left out is a number, never below 0.
 use crate::Fields;
 use crate::read::line_at;
 use crate::read::plain_line;
 use crate::write::fields_length;
-use crate::write::line_length;
 use crate::write::put_line;
 use crate::write::put_plain;
+use kinds::NOT_WRITTEN;
 ghost use mathlib.Core.Path.{_≡_};
 ghost use mathlib.Core.Bool.{cond};
 ghost use mathlib.Core.List.{_++_};
@@ -20,9 +20,6 @@ ghost use Rattle.text.specs.Put.{Put};
 ghost use Rattle.columns.specs.Columns.{stored};
 ghost use Rattle.columns.specs.ColumnText.{fieldsLength, lineLength};
 ghost use Rattle.columns.specs.Optional.{leftOut, optionalLine, plainOptional, writtenBy, optionalText, plainOptionalText};
-
-// The raw number of a field that was left out.
-pub const LEFT_OUT: i64 = -1;
 
 // Letter, index and columns of a line, to its end: the columns' values into `out`.
 pub fn optional_at(
@@ -73,7 +70,7 @@ fn leave_out(n: usize, out: &mut [i64])
     ensures { λ r. ⌜ now (out .exit) ≡ take n (now (out .entry)) ++ leftOut (length (now (out .entry)) - n) ⌝ }
 {
     for k in n..out.len() {
-        out[k] = LEFT_OUT;
+        out[k] = NOT_WRITTEN;
     }
 }
 
@@ -117,8 +114,9 @@ pub fn optional_length(columns: &[u8], n: usize, i: usize, values: &[i64]) -> us
     requires { ⌜ (n < length (now columns)) × (length (now columns) ≡ length (now values)) × (lineLength (writtenBy (columnsOf (take n (now columns))) (columnsOf (drop n (now columns))) (now values)) i (now values) ≤ bytesMost) ⌝ }
     ensures { λ r. ⌜ r ≡ lineLength (writtenBy (columnsOf (take n (now (columns .entry)))) (columnsOf (drop n (now (columns .entry)))) (now (values .entry))) i (now (values .entry)) ⌝ }
 {
-    let k = written(n, values);
-    line_length(&columns[..k], i, &values[..k])
+    let index = text::put::digit_count(i as u64);
+    let fields = optional_fields_length(columns, n, values);
+    3 + index + fields
 }
 
 // How many bytes the fields have, the byte that ends each among them.

@@ -37,7 +37,7 @@ fn fields_at(columns: &[u8], sep: u8, last: u8, line: &[u8], at: usize, out: &mu
 }
 
 // The field of a column at a place, ended by `stop`.
-fn field_at(column: u8, line: &[u8], at: usize, stop: u8) -> Signed
+pub fn field_at(column: u8, line: &[u8], at: usize, stop: u8) -> Signed
     ensures { λ r. ⌜ r ≡ fieldAt (columnOf column) (now (line .entry)) at stop ⌝ }
 {
     match column {

@@ -45,10 +45,10 @@ pub record Anchors : Type 0 where
         lefts = (pos 0 ∷ pos 300000 ∷ pos 0 ∷ []) ∷ (pos 0 ∷ pos 300000 ∷ pos 0 ∷ []) ∷ (pos 1 ∷ pos 500000 ∷ minus 1 ∷ []) ∷ [];
       }
   -- refusal 7 leaves it whole
-  pub below : leaving 0 4 7 ≡ record { answer = refused (refusal 7 0); p = replicate 7 9; atcs = replicate 2 []; lefts = replicate 3 [] }
+  pub below : leaving 0 4 7 ≡ record { answer = refused (refusal 7 0 0); p = replicate 7 9; atcs = replicate 2 []; lefts = replicate 3 [] }
   -- 8 looks at it before records, of which row 0 is out of range (3, line 6)
-  pub short : leaving 4 0 5 .answer ≡ refused (refusal 8 6)
-  pub long : leaving 4 0 6 .answer ≡ refused (refusal 3 6)
+  pub short : leaving 4 0 5 .answer ≡ refused (refusal 8 6 0)
+  pub long : leaving 4 0 6 .answer ≡ refused (refusal 3 6 0)
 
 pub anchors : Anchors
 unfolding ifZero sum count lesser least orZero table firstFrom given maxℤ minℤ positivePart sameℤ inside sumℤ headerFits zoneFits exists hubsFit borderFits hubsOf borderOf shareOf rowOf rowFits factorFits worth defaultOf then either unless refuseAt refuseFirst need stretch twice roomFor judgeShape sharers raise raises load lowered risen apply next raised counted run extract grains f0coreOf fuafOf baseOf amrOf signedFactor pOf ltaKw sOf ltaMarginOf ramOf ramAt highest lowest spreadOf shifted below stateOf rowsOf kept resultOf atcOf leftOf outcomeOf atcRecord rowRecord judgeExtract extractLeft gridBy setupWith beginBy judgeBy

@@ -12,7 +12,7 @@ use Rattle.writing.specs.Writing.{tableText}
 use Rattle.extraction.specs.Extraction.{outcomeOf, nOf, lOf}
 use Rattle.answer.specs.Result.{answerText}
 use Rattle.figures.specs.Computing.{computing}
-use Rattle.figures.specs.Sheets.{sheet}
+use Rattle.text.specs.Sheets.{sheet}
 use Rattle.figures.specs.Small.{withBorder, lentHubs}
 use Rattle.figures.specs.Cable.{cableText, cableResult, cableTable}
 
@@ -33,21 +33,21 @@ pub record Cable : Type 0 where
   -- border 1 ends at 3,790,999 kW
   pub kw : either (outcomeOf cableTable) (λ r. r .outcome .state .x) (λ w. []) ≡ 1560000 ∷ 3790999 ∷ []
   -- 2: a B line has four fields after the letter, or six
-  pub one-hub : withBorder "B 0 0 1 100 0/" ≡ sheet "E 2 4/"
-  pub three-hubs : withBorder "B 0 0 1 100 0 1 0/" ≡ sheet "E 2 4/"
-  pub signed-hub : withBorder "B 0 0 1 100 -1 -1/" ≡ sheet "E 2 4/"
+  pub one-hub : withBorder "B 0 0 1 100 0/" ≡ sheet "E 2 4 0/"
+  pub three-hubs : withBorder "B 0 0 1 100 0 1 0/" ≡ sheet "E 2 4 0/"
+  pub signed-hub : withBorder "B 0 0 1 100 -1 -1/" ≡ sheet "E 2 4 13/"
   -- 3: a hub that does not exist, two equal hubs; a hub may be an end of the border
-  pub sending-high : withBorder "B 0 0 1 100 2 1/" ≡ sheet "E 3 4/"
-  pub receiving-high : withBorder "B 0 0 1 100 0 2/" ≡ sheet "E 3 4/"
-  pub equal-hubs : withBorder "B 0 0 1 100 1 1/" ≡ sheet "E 3 4/"
-  pub hubs-at-ends : borders "B 0 0 1 100 1 0/B 1 1 0 100/" ≡ sheet "E 2 8/"
+  pub sending-high : withBorder "B 0 0 1 100 2 1/" ≡ sheet "E 3 4 13/"
+  pub receiving-high : withBorder "B 0 0 1 100 0 2/" ≡ sheet "E 3 4 15/"
+  pub equal-hubs : withBorder "B 0 0 1 100 1 1/" ≡ sheet "E 3 4 15/"
+  pub hubs-at-ends : borders "B 0 0 1 100 1 0/B 1 1 0 100/" ≡ sheet "E 2 8 0/"
   -- .. lent: one hub alone, and a number below -1
   pub sending-alone : lentHubs (pos 0) (minus 1) ≡ refused (outOfRange 4)
   pub receiving-alone : lentHubs (minus 1) (pos 0) ≡ refused (outOfRange 4)
   pub below-none : lentHubs (minus 2) (minus 2) ≡ refused (outOfRange 4)
   -- 4 compares from, to and hubs, and the order of the hubs counts
-  pub twice : borders "B 0 0 1 100 2 3/B 1 0 1 50 2 3/C 0 1 0 0 0 0 0 0 0 0 0 0/C 1 1 0 0 0 0 0 0 0 0 0 0/C 2 1 0 0 0 0 0 0 0 0 0 0/" ≡ sheet "E 4 1/"
-  pub turned : borders "B 0 0 1 100 2 3/B 1 0 1 50 3 2/C 0 1 0 0 0 0 0 0 0 0 0 0/C 1 1 0 0 0 0 0 0 0 0 0 0/C 2 1 0 0 0 0 0 0 0 0 0 0/" ≡ sheet "E 5 0/"
+  pub twice : borders "B 0 0 1 100 2 3/B 1 0 1 50 2 3/C 0 1 0 0 0 0 0 0 0 0 0 0/C 1 1 0 0 0 0 0 0 0 0 0 0/C 2 1 0 0 0 0 0 0 0 0 0 0/" ≡ sheet "E 4 1 0/"
+  pub turned : borders "B 0 0 1 100 2 3/B 1 0 1 50 3 2/C 0 1 0 0 0 0 0 0 0 0 0 0/C 1 1 0 0 0 0 0 0 0 0 0 0/C 2 1 0 0 0 0 0 0 0 0 0 0/" ≡ sheet "E 5 0 0/"
 
 pub cable : Cable
 unfolding computing

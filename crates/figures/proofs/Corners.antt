@@ -12,7 +12,7 @@ use Rattle.corners.specs.Corners.{judgeCorners, cornersLeft}
 use Rattle.cornertext.specs.CornerText.{cornerTextLeft}
 use Rattle.printing.specs.Printed.{oneSheet, everySheet}
 use Rattle.figures.specs.Computing.{computing}
-use Rattle.figures.specs.Sheets.{sheet}
+use Rattle.text.specs.Sheets.{sheet}
 use Rattle.figures.specs.Borders.{plainBorder}
 use Rattle.figures.specs.Hour.{hourText, hourTable, bTwice, bBack, nines}
 
@@ -55,8 +55,8 @@ pub record Corners : Type 0 where
       ≡ record { answer = passed 51; out = sheet "K 0 0 0/K 0 1 2000000000/K 0 2 -2000000000/K 0 3 0/" }
   -- what the program prints
   pub one : oneSheet hourText 1 ≡ sheet "K 1 0 0/K 1 1 0/K 1 2 1000000000/K 1 3 1000000000/"
-  pub one-refused : oneSheet hourText 4 ≡ sheet "E 9 4/"
-  pub one-unread : oneSheet [] 4 ≡ sheet "E 2 1/"
+  pub one-refused : oneSheet hourText 4 ≡ sheet "E 9 4 0/"
+  pub one-unread : oneSheet [] 4 ≡ sheet "E 2 1 0/"
   pub every : everySheet hourText
       ≡ sheet "K 0 0 0/K 0 1 2000000000/K 0 2 2000000000/K 0 3 4000000000/"
       ++ sheet "K 1 0 0/K 1 1 0/K 1 2 1000000000/K 1 3 1000000000/"

@@ -10,7 +10,7 @@ use Rattle.writing.specs.Writing.{tableText}
 use Rattle.answer.specs.Result.{answerText}
 use Rattle.figures.specs.Computing.{computing}
 use Rattle.figures.specs.Borders.{plainBorder}
-use Rattle.figures.specs.Sheets.{sheet}
+use Rattle.text.specs.Sheets.{sheet}
 
 -- Fmax 100000, FRM 50000, R as given, one border with p 20000 and LTA 100
 abbrev tableWith : (share r : ℤ) → Table
@@ -37,11 +37,11 @@ pub record Default : Type 0 where
   pub read-none : readText (sheet "H 2 1 1/Z 0 0/Z 1 0/B 0 0 1 100/C 0 100000 50000 0 0 - 0 0 20000 0/") ≡ passed (tableWith (minus 1) (minus 1))
   pub again-none : tableText (tableWith (minus 1) (minus 1)) ≡ sheet "H 2 1 1/Z 0 0/Z 1 0/B 0 0 1 100/C 0 100000 50000 0 0 - 0 0 20000 0/"
   -- 10000 is the last value inside (line 2 is missing); 3 for one more, and 2 for "-", an empty field, a fifth field
-  pub share-10000 : answerText (sheet "H 2 1 1 10000/") ≡ sheet "E 2 2/"
-  pub share-10001 : answerText (sheet "H 2 1 1 10001/") ≡ sheet "E 3 1/"
-  pub share-dash : answerText (sheet "H 2 1 1 -/") ≡ sheet "E 2 1/"
-  pub share-empty : answerText (sheet "H 2 1 1 /") ≡ sheet "E 2 1/"
-  pub fifth-field : answerText (sheet "H 2 1 1 7000 7000/") ≡ sheet "E 2 1/"
+  pub share-10000 : answerText (sheet "H 2 1 1 10000/") ≡ sheet "E 2 2 0/"
+  pub share-10001 : answerText (sheet "H 2 1 1 10001/") ≡ sheet "E 3 1 9/"
+  pub share-dash : answerText (sheet "H 2 1 1 -/") ≡ sheet "E 2 1 9/"
+  pub share-empty : answerText (sheet "H 2 1 1 /") ≡ sheet "E 2 1 9/"
+  pub fifth-field : answerText (sheet "H 2 1 1 7000 7000/") ≡ sheet "E 2 1 0/"
 
 pub defaults : Default
 unfolding computing

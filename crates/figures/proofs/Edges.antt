@@ -11,7 +11,7 @@ use Rattle.reading.specs.Reading.{readText}
 use Rattle.writing.specs.Writing.{tableText}
 use Rattle.answer.specs.Result.{answerText}
 use Rattle.figures.specs.Computing.{computing}
-use Rattle.figures.specs.Sheets.{sheet}
+use Rattle.text.specs.Sheets.{sheet}
 use Rattle.figures.specs.Borders.{plainBorder}
 use Rattle.figures.specs.Small.{withZone, withRow}
 
@@ -28,14 +28,14 @@ full =
 
 pub record Edges : Type 0 where
   -- Border 1 to 0 alone and factors 20000, 0: refusal 6
-  pub unlimited : answerText (sheet "H 2 1 1/Z 0 0/Z 1 0/B 0 1 0 0/C 0 100000 0 0 0 0 0 0 20000 0/") ≡ sheet "E 6 0/"
+  pub unlimited : answerText (sheet "H 2 1 1/Z 0 0/Z 1 0/B 0 1 0 0/C 0 100000 0 0 0 0 0 0 20000 0/") ≡ sheet "E 6 0 0/"
   -- Empty text: 2, line 1. "-0": 2
-  pub empty : answerText [] ≡ sheet "E 2 1/"
-  pub minus-zero : withZone "Z 1 -0/" ≡ sheet "E 2 3/"
+  pub empty : answerText [] ≡ sheet "E 2 1 0/"
+  pub minus-zero : withZone "Z 1 -0/" ≡ sheet "E 2 3 6/"
   -- Zones 16 pass, 17: 3, line 1. Borders 64 pass, 65: 3 (02, E8)
   pub full-passes : readText (tableText full) ≡ passed full
-  pub zones-17 : answerText (sheet "H 17 64 3/") ≡ sheet "E 3 1/"
-  pub borders-65 : answerText (sheet "H 16 65 3/") ≡ sheet "E 3 1/"
+  pub zones-17 : answerText (sheet "H 17 64 3/") ≡ sheet "E 3 1 3/"
+  pub borders-65 : answerText (sheet "H 16 65 3/") ≡ sheet "E 3 1 6/"
   -- "-" in R means 7000: AMR is 1 kW, as in the figures, and RAM 70000 kW
   pub dash-7000 : withRow "C 0 100000 30001 0 0 - 0 0 20000 0/" ≡ sheet "A 0 350/M 0 0 7000000000 0/R 1/"
   -- a relieving (negative) factor is no gain of margin

@@ -6,14 +6,14 @@ use lib.IntN.{ℤ, pos}
 use lib.ListN.{replicate, take, drop}
 use Rattle.numbers.specs.Ints.{minus}
 use Rattle.kinds.specs.declared.Header.{Header}
-use Rattle.kinds.specs.Refusals.{passed, refused, wrongForm, outOfRange, givenTwice, unlimited, belowZero, tooShort}
+use Rattle.kinds.specs.Refusals.{passed, refused, wrongFormAt, wrongForm, outOfRangeAt, outOfRange, givenTwice, unlimited, belowZero, tooShort}
 use Rattle.table.specs.Table.{lent}
 use Rattle.reading.specs.Reading.{readLeft}
 use Rattle.writing.specs.Writing.{tableText, writeLeft}
 use Rattle.extraction.specs.Extraction.{extractLeft}
 use Rattle.answer.specs.Result.{resultTextLeft, answerLeft}
 use Rattle.figures.specs.Computing.{computing}
-use Rattle.figures.specs.Sheets.{sheet}
+use Rattle.text.specs.Sheets.{sheet}
 use Rattle.figures.specs.Hour.{hourText, hourResult, hourTable, bTwice, bBack, nines}
 
 -- the hour's tables, as they are lent
@@ -70,6 +70,9 @@ pub record LentCalls : Type 0 where
   pub read-short-f : readLeft hourText z b c (take 11 f) ≡ record { answer = refused (tooShort 12); z = z; b = b; c = c; f = take 11 f }
   -- .. after 1 to 4
   pub read-form-first : readLeft (take 100 hourText) [] [] [] [] ≡ record { answer = refused (wrongForm 7); z = []; b = []; c = []; f = [] }
+  -- .. with the byte to blame (02, E5)
+  pub read-form-byte : readLeft (sheet "H 3 2 4/Z 0 +5/") [] [] [] [] ≡ record { answer = refused (wrongFormAt 2 5); z = []; b = []; c = []; f = [] }
+  pub read-range-byte : readLeft (sheet "H 3 2 4/Z 0 100000001/") [] [] [] [] ≡ record { answer = refused (outOfRangeAt 2 5); z = []; b = []; c = []; f = [] }
   -- write: from tables that may be longer than needed; the rest of the text as it was
   pub write-out : writeLeft (lent h (z ++ z) (b ++ b) (c ++ c) (f ++ f)) (replicate 253 7) ≡ record { answer = passed 252; out = hourText ++ (7 ∷ []) }
   pub write-short : writeLeft hourTable (replicate 251 7) ≡ record { answer = refused (tooShort 252); out = replicate 251 7 }
@@ -97,8 +100,8 @@ pub record LentCalls : Type 0 where
   pub result-short : resultTextLeft hourTable (replicate 106 7) ≡ record { answer = refused (tooShort 107); out = replicate 106 7 }
   pub result-below : resultTextLeft (lent h z b cvaHigh f) [] ≡ record { answer = refused (belowZero 1); out = [] }
   pub answer-out : answerLeft hourText (replicate 108 7) ≡ record { answer = passed 107; out = hourResult ++ (7 ∷ []) }
-  pub answer-refused : answerLeft [] (replicate 8 7) ≡ record { answer = passed 6; out = sheet "E 2 1/" ++ (7 ∷ 7 ∷ []) }
-  pub answer-short : answerLeft [] (replicate 5 7) ≡ record { answer = refused (tooShort 6); out = replicate 5 7 }
+  pub answer-refused : answerLeft [] (replicate 10 7) ≡ record { answer = passed 8; out = sheet "E 2 1 0/" ++ (7 ∷ 7 ∷ []) }
+  pub answer-short : answerLeft [] (replicate 7 7) ≡ record { answer = refused (tooShort 8); out = replicate 7 7 }
 
 pub lent-calls : LentCalls
 unfolding computing
@@ -110,6 +113,8 @@ lent-calls =
       read-short-c = refl;
       read-short-f = refl;
       read-form-first = refl;
+      read-form-byte = refl;
+      read-range-byte = refl;
       write-out = refl;
       write-short = refl;
       header-first = refl;

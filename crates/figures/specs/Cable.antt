@@ -5,7 +5,7 @@ use Prim.Native.Nat.{ℕ}
 use lib.IntN.{pos}
 use Rattle.numbers.specs.Ints.{minus}
 use Rattle.table.specs.Table.{Table}
-use Rattle.figures.specs.Sheets.{sheet}
+use Rattle.text.specs.Sheets.{sheet}
 use Rattle.figures.specs.Borders.{plainBorder}
 
 abbrev pub cableText : List ℕ

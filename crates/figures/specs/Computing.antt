@@ -25,11 +25,13 @@ use Rattle.columns.specs.ColumnLine.{indexAt, restAt, columnsLine, plainLine}
 use Rattle.columns.specs.Optional.{optionalLine}
 use Rattle.columns.specs.ColumnText.{fieldText, fieldsEnded, indexText, columnsText, plainText}
 use Rattle.columns.specs.Optional.{plainOptional}
+use Rattle.blame.specs.Blame.{goodAt, byteAt, fieldsByte, lineByte, plainByte}
+use Rattle.blame.specs.RangeBlame.{pastSeps, rangeByte}
 use Rattle.text.specs.Fields.{numberAt, signedAt, shareAt}
 use Rattle.text.specs.Left.{textLeft}
 use Rattle.text.specs.Written.{textOf, decimal, decimalℤ, fieldsText, lineText, linesText}
 use Rattle.writing.specs.Writing.{tableText, writeLeft}
 
 unfoldable pub computing : Unit {0}
-unfolding linesAt loadOf rowsOf kept gridOf startOf resultOf atcOf leftOf judgeStart outcomeOf nOf lOf atcRecord rowRecord judgeExtract extractLeft raisedBy cornerFlows judgeCorners cornersLeft cornersText cornerTextLeft headerFits zoneFits exists hubsFit hubsOf borderFits borderOf shareOf rowOf rowFits factorFits worth defaultOf then either unless refuseAt refuseFirst need grains f0coreOf fuafOf baseOf amrOf signedFactor pOf ltaKw cornerPart cornerSum sOf ltaMarginOf ramOf ramAt highest lowest spreadOf shifted below stateOf ifZero sum count largest lesser least orZero table firstFrom given maxℤ minℤ positivePart sameℤ inside sumℤ headerLine zoneLine borderLine rowLine oneSheet everySheet linesOf readText readLeft leftField recordsText resultText refusalText answerText resultTextLeft answerLeft sharers raise alone raises load lowered risen apply next raised counted run extract mostSharers bitsTo bits aloneBits stretch twice roomFor judgeShape judgeLent numberAt signedAt shareAt textOf decimal decimalℤ fieldsText lineText linesText tableText textLeft writeLeft fieldAt fieldsAt indexAt restAt columnsLine plainLine plainOptional optionalLine fieldText fieldsEnded indexText columnsText plainText gridBy setupWith beginBy judgeBy
+unfolding linesAt loadOf rowsOf kept gridOf startOf resultOf atcOf leftOf judgeStart outcomeOf nOf lOf atcRecord rowRecord judgeExtract extractLeft raisedBy cornerFlows judgeCorners cornersLeft cornersText cornerTextLeft headerFits zoneFits exists hubsFit hubsOf borderFits borderOf shareOf rowOf rowFits factorFits worth defaultOf then either unless refuseAt refuseFirst need grains f0coreOf fuafOf baseOf amrOf signedFactor pOf ltaKw cornerPart cornerSum sOf ltaMarginOf ramOf ramAt highest lowest spreadOf shifted below stateOf ifZero sum count largest lesser least orZero table firstFrom given maxℤ minℤ positivePart sameℤ inside sumℤ headerLine zoneLine borderLine rowLine oneSheet everySheet linesOf readText readLeft leftField recordsText resultText refusalText answerText resultTextLeft answerLeft sharers raise alone raises load lowered risen apply next raised counted run extract mostSharers bitsTo bits aloneBits stretch twice roomFor judgeShape judgeLent numberAt signedAt shareAt textOf decimal decimalℤ fieldsText lineText linesText tableText textLeft writeLeft fieldAt fieldsAt indexAt restAt columnsLine plainLine plainOptional optionalLine fieldText fieldsEnded indexText columnsText plainText gridBy setupWith beginBy judgeBy goodAt byteAt fieldsByte lineByte plainByte pastSeps rangeByte
 computing = tt

@@ -5,7 +5,7 @@ use lib.IntN.{ℤ, pos}
 use lib.ListN.{replicate, take, drop}
 use Rattle.numbers.specs.Ints.{minus}
 use Rattle.table.specs.Table.{Table}
-use Rattle.figures.specs.Sheets.{sheet}
+use Rattle.text.specs.Sheets.{sheet}
 use Rattle.figures.specs.Borders.{plainBorder}
 
 abbrev pub hourText : List ℕ

@@ -7,7 +7,7 @@ use Rattle.numbers.specs.Ints.{minus}
 use Rattle.kinds.specs.Refusals.{Judged}
 use Rattle.table.specs.Table.{Table, judgeLent}
 use Rattle.answer.specs.Result.{answerText}
-use Rattle.figures.specs.Sheets.{sheet}
+use Rattle.text.specs.Sheets.{sheet}
 use Rattle.figures.specs.Borders.{plainBorder}
 
 abbrev pub smallText : (zone border row : List ℕ) → List ℕ

@@ -76,7 +76,7 @@ fn run_in(task: Task, text: &mut [u8], out: &mut [u8]) -> Ended
 fn explain(ended: Ended) -> Ended {
     match ended {
         Ended::Answered => {}
-        Ended::Refused(number, place) => words::refusal(number, place),
+        Ended::Refused(number, place, byte) => words::refusal(number, place, byte),
         Ended::Failed => os::fail(b"keravnoth: writing"),
     }
     ended
@@ -89,7 +89,7 @@ fn tell(fd: i32, ended: Ended) {
     }
     match ended {
         Ended::Answered => tell_digit(fd, b"0\n"),
-        Ended::Refused(_, _) => tell_digit(fd, b"1\n"),
+        Ended::Refused(_, _, _) => tell_digit(fd, b"1\n"),
         Ended::Failed => tell_digit(fd, b"2\n"),
     }
 }

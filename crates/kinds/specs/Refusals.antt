@@ -1,4 +1,5 @@
--- A refusal carries number and place (01, "When the table is turned away"); what a judgement comes to, and how judgements follow one another.
+-- A refusal carries number and place (01, "When the table is turned away") and the byte of the line that is to blame (02, E5); what a judgement comes to,
+-- and how judgements follow one another.
 use mathlib.Core.Bool.{Bool, cond}
 use mathlib.Core.Option.{Option, none, some}
 use Prim.Native.Nat.{ℕ}
@@ -6,45 +7,53 @@ use lib.Dec.{ltb}
 use Rattle.numbers.specs.Below.{firstFrom}
 use Rattle.kinds.specs.declared.Refusal.{Refusal}
 
--- why a table is turned away, as 01 tells it
-abbrev pub refusal : (number place : ℕ) → Refusal
-refusal number place = record { number = number; place = place }
+-- why a table is turned away, as 01 tells it; the byte is counted from 1 in the line that the place names, and 0 where no byte is to blame
+abbrev pub refusal : (number place byte : ℕ) → Refusal
+refusal number place byte = record { number = number; place = place; byte = byte }
 
 -- 01's table, a line each: 1 more than 65,536 bytes
 abbrev pub tooLong : Refusal
-tooLong = refusal 1 0
+tooLong = refusal 1 0 0
 
 -- 2 the first faulty line has the wrong form, kind, index or field count, is missing, has no LF, or is extra
+abbrev pub wrongFormAt : (line byte : ℕ) → Refusal
+wrongFormAt line byte = refusal 2 line byte
+
+-- .. where no byte is to blame
 abbrev pub wrongForm : (line : ℕ) → Refusal
-wrongForm line = refusal 2 line
+wrongForm line = wrongFormAt line 0
 
 -- 3 the first faulty line has right form, a value outside its range
+abbrev pub outOfRangeAt : (line byte : ℕ) → Refusal
+outOfRangeAt line byte = refusal 3 line byte
+
+-- .. where no byte is to blame: a lent record has no bytes
 abbrev pub outOfRange : (line : ℕ) → Refusal
-outOfRange line = refusal 3 line
+outOfRange line = outOfRangeAt line 0
 
 -- 4 same from and to, and the same hubs (02, E3), as an earlier border
 abbrev pub givenTwice : (border : ℕ) → Refusal
-givenTwice border = refusal 4 border
+givenTwice border = refusal 4 border 0
 
 -- 5 no row of state 0
 abbrev pub noRow : Refusal
-noRow = refusal 5 0
+noRow = refusal 5 0 0
 
 -- 6 a border with p > 0 on no kept row
 abbrev pub unlimited : (border : ℕ) → Refusal
-unlimited border = refusal 6 border
+unlimited border = refusal 6 border 0
 
 -- 7 a kept row's starting margin is below 0
 abbrev pub belowZero : (row : ℕ) → Refusal
-belowZero row = refusal 7 row
+belowZero row = refusal 7 row 0
 
 -- 8 a lent buffer is too short
 abbrev pub tooShort : (needed : ℕ) → Refusal
-tooShort needed = refusal 8 needed
+tooShort needed = refusal 8 needed 0
 
 -- 9 (02, E1) no corner sheet: more than 12 borders, or else no such row
 abbrev pub noCorners : (place : ℕ) → Refusal
-noCorners place = refusal 9 place
+noCorners place = refusal 9 place 0
 
 -- a table, a result .. that passed, or the refusal
 pub data Judged (A : Type 0) : Type 0 where

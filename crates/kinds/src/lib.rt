@@ -7,9 +7,12 @@ ghost use mathlib.Core.Bool.{true};
 ghost use mathlib.Core.List.{[], _∷_};
 ghost use Rattle.kinds.specs.Ranges.{headerFits, defaultOf, exists, hubsFit, hubsOf, borderFits, borderOf, shareOf, rowFits, rowOf, factorFits, worth};
 ghost use Rattle.kinds.specs.Kinds.{headerRead, zoneRead, borderRead, rowRead};
-ghost use Rattle.kinds.specs.Refusals.{refusal, tooLong, wrongForm, outOfRange, givenTwice, noRow, unlimited, belowZero, tooShort, noCorners};
+ghost use Rattle.kinds.specs.Refusals.{refusal, tooLong, wrongFormAt, wrongForm, outOfRangeAt, outOfRange, givenTwice, noRow, unlimited, belowZero, tooShort, noCorners};
 
-// The counts of the H line, and the default of R as it was written: ten-thousandths, or UNWRITTEN. C hands it over as it lies.
+// The raw number of a field that may be left out and was not written: the hubs of a border, and the default of R. No such field can be below 0.
+pub const NOT_WRITTEN: i64 = -1;
+
+// The counts of the H line, and the default of R as it was written: ten-thousandths, or NOT_WRITTEN. C hands it over as it lies.
 #[repr(C)]
 pub struct Header {
     pub zones: usize,
@@ -29,8 +32,8 @@ impl Header {
     // Zones, borders, rows, the default of R.
     pub const COLUMNS: [u8; Header::ITEMS] = *b"nnnn";
 
-    // The columns that are always there; the default may be left out.
-    pub const COUNTS: usize = 3;
+    // .. of which every line has so many, and the default may be left out.
+    pub const ALWAYS: usize = 3;
 
     pub const ZONES_LEAST: usize = 2;
 
@@ -43,9 +46,6 @@ impl Header {
     pub const ROWS_LEAST: usize = 1;
 
     pub const ROWS_MOST: usize = 200;
-
-    // The raw number that stands for a default that was not written.
-    pub const UNWRITTEN: i64 = -1;
 
     pub fn of(zones: u64, borders: u64, rows: u64, share: i64) -> HeaderRead
         ensures { λ r. ⌜ r ≡ headerRead zones borders rows share ⌝ }
@@ -73,7 +73,7 @@ impl Header {
             & (self.borders <= Header::BORDERS_MOST)
             & (Header::ROWS_LEAST <= self.rows)
             & (self.rows <= Header::ROWS_MOST)
-            & numbers::inside(share, Header::UNWRITTEN, Row::SHARE_MOST)
+            & numbers::inside(share, NOT_WRITTEN, Row::SHARE_MOST)
     }
 
     // The default in force, ten-thousandths: what "-" in R is worth. A default that was not written is a "-" itself.
@@ -123,9 +123,6 @@ pub enum Hubs {
 }
 
 impl Hubs {
-    // The raw number of a hub where a border has none.
-    pub const NONE: i64 = -1;
-
     // The hubs of a judged record.
     fn judged(zones: usize, sending: i64, receiving: i64) -> Hubs
         requires { ⌜ hubsFit zones sending receiving ≡ true ⌝ }
@@ -141,7 +138,7 @@ impl Hubs {
     fn fit(zones: usize, sending: i64, receiving: i64) -> bool
         ensures { λ r. ⌜ r ≡ hubsFit zones sending receiving ⌝ }
     {
-        numbers::same(sending, Hubs::NONE) & numbers::same(receiving, Hubs::NONE)
+        numbers::same(sending, NOT_WRITTEN) & numbers::same(receiving, NOT_WRITTEN)
             | exists(zones, sending) & exists(zones, receiving) & !numbers::same(sending, receiving)
     }
 }
@@ -220,7 +217,7 @@ impl Border {
 }
 
 // The zones are numbered from 0.
-fn exists(zones: usize, z: i64) -> bool
+pub fn exists(zones: usize, z: i64) -> bool
     ensures { λ r. ⌜ r ≡ exists zones z ⌝ }
 {
     !(z < 0) && (z as u64) < (zones as u64)
@@ -280,11 +277,8 @@ pub enum RowRead {
 impl Row {
     pub const ITEMS: usize = 7;
 
-    // Fmax, FRM, Fref, F0all, R, CVA, IVA.
-    pub const COLUMNS: [u8; Row::ITEMS] = *b"nnssrnn";
-
-    // Then one factor per zone: as many of these as the table has zones.
-    pub const FACTOR_COLUMNS: [u8; Header::ZONES_MOST] = *b"ssssssssssssssss";
+    // Fmax, FRM, Fref, F0all, R, CVA, IVA, and then one factor per zone: of these, as many as the table has zones.
+    pub const COLUMNS: [u8; Row::ITEMS + Header::ZONES_MOST] = *b"nnssrnnssssssssssssssss";
 
     // kW.
     pub const FMAX_LEAST: i64 = 1;
@@ -368,73 +362,88 @@ impl Row {
     }
 }
 
-// Why a table is turned away, as 01 tells it: number and place, and 0 where there is no place. Made by the names below alone, a line of 01's table each.
+// Why a table is turned away, as 01 tells it: number and place, and 0 where there is no place; and the byte to blame in the line that the place names (02, E5),
+// counted from 1, and 0 where no byte is to blame. Made by the names below alone, a line of 01's table each.
 pub struct Refusal {
     pub number: u32,
     pub place: usize,
+    pub byte: usize,
 }
 
 impl Refusal {
     pub fn too_long() -> Refusal
         ensures { λ r. ⌜ r ≡ tooLong ⌝ }
     {
-        Refusal::numbered(1, 0)
+        Refusal::numbered(1, 0, 0)
+    }
+
+    pub fn wrong_form_at(line: usize, byte: usize) -> Refusal
+        ensures { λ r. ⌜ r ≡ wrongFormAt line byte ⌝ }
+    {
+        Refusal::numbered(2, line, byte)
     }
 
     pub fn wrong_form(line: usize) -> Refusal
         ensures { λ r. ⌜ r ≡ wrongForm line ⌝ }
     {
-        Refusal::numbered(2, line)
+        Refusal::wrong_form_at(line, 0)
+    }
+
+    pub fn out_of_range_at(line: usize, byte: usize) -> Refusal
+        ensures { λ r. ⌜ r ≡ outOfRangeAt line byte ⌝ }
+    {
+        Refusal::numbered(3, line, byte)
     }
 
     pub fn out_of_range(line: usize) -> Refusal
         ensures { λ r. ⌜ r ≡ outOfRange line ⌝ }
     {
-        Refusal::numbered(3, line)
+        Refusal::out_of_range_at(line, 0)
     }
 
     pub fn given_twice(border: usize) -> Refusal
         ensures { λ r. ⌜ r ≡ givenTwice border ⌝ }
     {
-        Refusal::numbered(4, border)
+        Refusal::numbered(4, border, 0)
     }
 
     pub fn no_row() -> Refusal
         ensures { λ r. ⌜ r ≡ noRow ⌝ }
     {
-        Refusal::numbered(5, 0)
+        Refusal::numbered(5, 0, 0)
     }
 
     pub fn unlimited(border: usize) -> Refusal
         ensures { λ r. ⌜ r ≡ unlimited border ⌝ }
     {
-        Refusal::numbered(6, border)
+        Refusal::numbered(6, border, 0)
     }
 
     pub fn below_zero(row: usize) -> Refusal
         ensures { λ r. ⌜ r ≡ belowZero row ⌝ }
     {
-        Refusal::numbered(7, row)
+        Refusal::numbered(7, row, 0)
     }
 
     pub fn too_short(needed: usize) -> Refusal
         ensures { λ r. ⌜ r ≡ tooShort needed ⌝ }
     {
-        Refusal::numbered(8, needed)
+        Refusal::numbered(8, needed, 0)
     }
 
     pub fn no_corners(place: usize) -> Refusal
         ensures { λ r. ⌜ r ≡ noCorners place ⌝ }
     {
-        Refusal::numbered(9, place)
+        Refusal::numbered(9, place, 0)
     }
 
-    fn numbered(number: u32, place: usize) -> Refusal
-        ensures { λ r. ⌜ r ≡ refusal number place ⌝ }
+    fn numbered(number: u32, place: usize, byte: usize) -> Refusal
+        ensures { λ r. ⌜ r ≡ refusal number place byte ⌝ }
     {
         Refusal {
             number: number,
             place: place,
+            byte: byte,
         }
     }
 }

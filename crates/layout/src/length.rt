@@ -19,7 +19,7 @@ pub fn header_length(h: Header) -> usize
 {
     let share = h.share;
     let raw = [h.zones as i64, h.borders as i64, h.rows as i64, share];
-    2 + columns::optional::optional_fields_length(&Header::COLUMNS, Header::COUNTS, &raw)
+    2 + columns::optional::optional_fields_length(&Header::COLUMNS, Header::ALWAYS, &raw)
 }
 
 pub fn zone_length(i: usize, net: i64) -> usize
@@ -42,6 +42,6 @@ pub fn row_length(i: usize, raw: RowRecord, f: &[i64]) -> usize
     ensures { λ r. ⌜ r ≡ length (rowText i raw (now (f .entry))) ⌝ }
 {
     let n = f.len();
-    let first = columns::write::line_length(&Row::COLUMNS, i, &raw);
-    first + columns::write::fields_length(&Row::FACTOR_COLUMNS[..n], f)
+    let first = columns::write::line_length(&Row::COLUMNS[..Row::ITEMS], i, &raw);
+    first + columns::write::fields_length(&Row::COLUMNS[Row::ITEMS..Row::ITEMS + n], f)
 }

@@ -1,5 +1,5 @@
 -- The B line: a line that holds a raw border record is its text, and that text holds the record. No contract cites this file.
-use mathlib.Core.Path.{_≡_, refl, sym, ap₂, subst}
+use mathlib.Core.Path.{_≡_, refl, ap₂, subst}
 use mathlib.Core.Bool.{Bool, true, false, cond}
 use mathlib.Core.List.{List, [], _∷_, _++_}
 use Prim.Native.Char.{code}
@@ -9,8 +9,8 @@ use lib.IntN.{ℤ, pos}
 use lib.ListN.{length, getD}
 use lib.Signed.{ltZ}
 use Rattle.kinds.specs.Limits.{zonesMost}
-use Rattle.kinds.specs.LineColumns.{Column, number, borderColumns, hubColumns, borderItems}
-use Rattle.kinds.specs.Ranges.{atℤ, borderFits, borderOf}
+use Rattle.kinds.specs.LineColumns.{number, borderColumns, hubColumns, borderItems}
+use Rattle.kinds.specs.Ranges.{borderFits, borderOf}
 use Rattle.kinds.proofs.KindLaws.{HubsIn, none, both, BorderIn, border-in}
 use Rattle.text.specs.Fields.{tab}
 use Rattle.text.specs.Line.{lineOf, holds, form, range}
@@ -18,7 +18,7 @@ use Rattle.columns.specs.Columns.{values, wrong}
 use Rattle.columns.specs.Optional.{optionalLine, writtenBy, optionalText}
 use Rattle.columns.proofs.ColumnTrip.{tab-ends, line-one}
 use Rattle.columns.proofs.OptionalTrip.{OptionalKept, left, given, kept-many, optional-judged, optional-written}
-use Rattle.lines.specs.Lines.{borderLine}
+use Rattle.lines.specs.Lines.{borderBad, borderOut, borderLine}
 
 -- what is known of a record that a B line holds
 pub record BorderHeld (zones : ℕ) (raw : List ℤ) : Type 0 where
@@ -61,7 +61,7 @@ module _ (zones : ℕ) (line : List ℕ) (i : ℕ) (raw : List ℤ) where
   pub border-read : borderLine zones line i ≡ holds raw → (line ≡ optionalText tab (code "B") borderColumns hubColumns i raw) × BorderHeld zones raw
   unfolding borderLine
   border-read e =
-      let h = optional-judged tab (code "B") tab-ends refl i borderColumns (number ∷ []) (borderFits zones) (λ raw. raw) line raw e in
+      let h = optional-judged tab (code "B") tab-ends refl i borderColumns (number ∷ []) (borderFits zones) (λ raw. raw) (borderBad line i) (borderOut zones line) line raw e in
       subst (λ (y : List ℤ). (line ≡ optionalText tab (code "B") borderColumns hubColumns i y) × BorderHeld zones y) (h .made)
       (h .here, record { wide = kept-many borderColumns hubColumns (h .zs) (h .kept); fits = h .fit })
 
@@ -71,18 +71,20 @@ module _ (zones : ℕ) (line : List ℕ) (i : ℕ) (raw : List ℤ) where
     unfolding borderLine
     border-holds f = rw (← e, f)
 
-    pub border-range : borderFits zones raw ≡ false → range ≡ borderLine zones line i
+    pub border-range : borderFits zones raw ≡ false → range (borderOut zones line raw) ≡ borderLine zones line i
     unfolding borderLine
     border-range f = rw (← e, f)
 
-pub border-form : (zones : ℕ) (line : List ℕ) (i place : ℕ) → wrong place ≡ optionalLine tab (code "B") borderColumns hubColumns line i → form ≡ borderLine zones line i
+pub border-form : (zones : ℕ) (line : List ℕ) (i place : ℕ) → wrong place ≡ optionalLine tab (code "B") borderColumns hubColumns line i → form (borderBad line i) ≡ borderLine zones line i
 unfolding borderLine
 border-form zones line i place e = rw (← e)
 
 module _ (zones i : ℕ) (raw : List ℤ) where
   pub border-written : i < 10 ^ 10 → zones ≤ zonesMost → BorderHeld zones raw → borderLine zones (optionalText tab (code "B") borderColumns hubColumns i raw) i ≡ holds raw
   unfolding borderLine
-  border-written small few held = optional-written tab (code "B") tab-ends refl i borderColumns (number ∷ []) (borderFits zones) (λ raw. raw) raw small (border-kept zones raw held few) (held .fits)
+  border-written small few held =
+      let line = optionalText tab (code "B") borderColumns hubColumns i raw in
+      optional-written tab (code "B") tab-ends refl i borderColumns (number ∷ []) (borderFits zones) (λ raw. raw) (borderBad line i) (borderOut zones line) raw small (border-kept zones raw held few) (held .fits)
 
   pub border-one : (r : List ℕ) → lineOf (optionalText tab (code "B") borderColumns hubColumns i raw ++ r) ≡ optionalText tab (code "B") borderColumns hubColumns i raw
   border-one r = line-one tab (code "B") (writtenBy borderColumns hubColumns raw) i raw r (some (ltZ (getD raw 3 (pos 0)) (pos 0))) refl refl

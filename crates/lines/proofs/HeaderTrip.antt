@@ -22,7 +22,7 @@ use Rattle.columns.specs.Columns.{values, wrong}
 use Rattle.columns.specs.Optional.{leftOut, plainOptional, writtenBy, plainOptionalText}
 use Rattle.columns.proofs.ColumnTrip.{tab-ends, AllKept, plain-one}
 use Rattle.columns.proofs.OptionalTrip.{OptionalKept, left, given, plain-optional-read, plain-optional-judged, plain-optional-written}
-use Rattle.lines.specs.Lines.{headerOf, headerLine}
+use Rattle.lines.specs.Lines.{headerOf, headerBad, headerOut, headerLine}
 
 -- the raw numbers of a header
 abbrev pub headerRaw : Header → List ℤ
@@ -65,7 +65,7 @@ numbers-are zs k =
 pub header-read : (line : List ℕ) (h : Header) → headerLine line ≡ holds h → (line ≡ headerTextOf h) × (headerFits h ≡ true)
 unfolding headerLine
 header-read line h e =
-    let j = plain-optional-judged tab (code "H") tab-ends refl headerColumns [] (λ zs. headerFits (headerOf zs)) headerOf line h e in
+    let j = plain-optional-judged tab (code "H") tab-ends refl headerColumns [] (λ zs. headerFits (headerOf zs)) headerOf (headerBad line) (headerOut line) line h e in
     subst (λ (g : Header). (line ≡ headerTextOf g) × (headerFits g ≡ true)) (j .made)
     (j .here ∙ ap (plainOptionalText tab (code "H") headerColumns defaultColumns) (sym (raw-is (j .zs) (j .kept))), j .fit)
 
@@ -78,11 +78,11 @@ module _ (line : List ℕ) where
     unfolding headerLine
     header-holds f = rw (← e, f)
 
-    pub header-range : headerFits (headerOf zs) ≡ false → range ≡ headerLine line
+    pub header-range : headerFits (headerOf zs) ≡ false → range (headerOut line zs) ≡ headerLine line
     unfolding headerLine
     header-range f = rw (← e, f)
 
-  pub header-form : (place : ℕ) → wrong place ≡ plainOptional tab (code "H") headerColumns defaultColumns line → form ≡ headerLine line
+  pub header-form : (place : ℕ) → wrong place ≡ plainOptional tab (code "H") headerColumns defaultColumns line → form (headerBad line) ≡ headerLine line
   unfolding headerLine
   header-form place e = rw (← e)
 
@@ -98,7 +98,7 @@ module _ (h : Header) where
   unfolding headerLine
   header-written f =
       let i = header-in h f in
-      plain-optional-written tab (code "H") tab-ends refl headerColumns [] (λ zs. headerFits (headerOf zs)) headerOf (headerRaw h) (kept i (h .share) (i .share)) f
+      plain-optional-written tab (code "H") tab-ends refl headerColumns [] (λ zs. headerFits (headerOf zs)) headerOf (headerBad (headerTextOf h)) (headerOut (headerTextOf h)) (headerRaw h) (kept i (h .share) (i .share)) f
 
   some : (t : Bool) → 0 < length (cond t headerColumns (headerColumns ++ defaultColumns))
   some true = omega arith

@@ -1,3 +1,4 @@
+pub mod Anchors
 pub mod HeaderTrip
 pub mod ZoneTrip
 pub mod BorderTrip

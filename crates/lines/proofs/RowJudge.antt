@@ -3,42 +3,36 @@ use mathlib.Core.Path.{_≡_, refl, sym, ap, _∙_}
 use mathlib.Core.Bool.{Bool, true, false, cond}
 use mathlib.Core.List.{List, _++_}
 use Prim.Native.Char.{code}
-use Prim.Native.Nat.{ℕ, _≤_}
+use Prim.Native.Nat.{ℕ}
 use lib.IntN.{ℤ}
-use lib.ListN.{length, take}
+use lib.ListN.{length}
 use lib.Seq.{take-at, drop-at}
 use Rattle.numbers.proofs.TestLaws.{zero-one}
-use Rattle.kinds.specs.Limits.{zonesMost}
-use Rattle.kinds.specs.LineColumns.{rowColumns, rowItems, factorColumns, columnsOf}
+use Rattle.kinds.specs.LineColumns.{rowColumns, rowItems, factorColumns}
 use Rattle.text.specs.Fields.{tab}
 use Rattle.text.specs.Line.{Line, holds, form, range}
 use Rattle.columns.specs.Columns.{values, wrong}
 use Rattle.columns.specs.ColumnLine.{columnsLine}
-use Rattle.columns.proofs.ColumnLaws.{repeated, factors-front}
 use Rattle.table.specs.Table.{rowGood}
-use Rattle.lines.specs.Lines.{RowLine, row, rowLine}
+use Rattle.lines.specs.Lines.{RowLine, row, rowBad, rowOut, rowLine}
 use Rattle.lines.specs.SaidRow.{judgedOf}
 use Rattle.lines.specs.declared.row.RowJudged.the-variants.{Holds, Form, Range}
 
--- the columns that the code takes for the factors
-pub factors-taken : (n : ℕ) → n ≤ zonesMost → columnsOf (take n (repeated 16 115)) ≡ factorColumns n
-factors-taken n h = factors-front n 16 h
-
 -- ---- by what was read
 module _ (zones : ℕ) (line : List ℕ) (i : ℕ) where
-  pub row-form : (place : ℕ) → wrong place ≡ columnsLine tab (code "C") (rowColumns ++ factorColumns zones) line i → rowLine zones line i ≡ form
+  pub row-form : (place : ℕ) → wrong place ≡ columnsLine tab (code "C") (rowColumns ++ factorColumns zones) line i → rowLine zones line i ≡ form (rowBad zones line i)
   unfolding rowLine
   row-form place e = rw (← e)
 
   module _ (raw f : List ℤ) (wide : length raw ≡ rowItems) (next : ℕ) (e : values (raw ++ f) next ≡ columnsLine tab (code "C") (rowColumns ++ factorColumns zones) line i) where
-    row-by : rowLine zones line i ≡ cond (rowGood raw f) (holds (row raw f)) range
+    row-by : rowLine zones line i ≡ cond (rowGood raw f) (holds (row raw f)) (range (rowOut line raw f))
     unfolding rowLine
     row-by = rw (← e, take-at raw f rowItems wide, drop-at raw f rowItems wide)
 
     pub row-holds : rowGood raw f ≡ true → rowLine zones line i ≡ holds (row raw f)
     row-holds g = row-by ∙ rw g
 
-    pub row-range : rowGood raw f ≡ false → rowLine zones line i ≡ range
+    pub row-range : rowGood raw f ≡ false → rowLine zones line i ≡ range (rowOut line raw f)
     row-range g = row-by ∙ rw g
 
     -- .. of a line that was judged good
@@ -49,14 +43,14 @@ module _ (zones : ℕ) (line : List ℕ) (i : ℕ) where
         go true g = row-holds g
         go false g = absurd (clash (sym (ap judgedOf (row-range g)) ∙ good))
           where
-            clash : Range ≡ Holds → ⊥
+            clash : {byte : ℕ} → Range byte ≡ Holds → ⊥
             clash e = zero-one cc
 
 -- ---- what an answer says of the line
 pub row-never : (zones : ℕ) (line : List ℕ) (i place : ℕ) → wrong place ≡ columnsLine tab (code "C") (rowColumns ++ factorColumns zones) line i → judgedOf (rowLine zones line i) ≡ Holds → ⊥
 row-never zones line i place e good = go (sym (ap judgedOf (row-form zones line i place e)) ∙ good)
   where
-    go : Form ≡ Holds → ⊥
+    go : {byte : ℕ} → Form byte ≡ Holds → ⊥
     go e = zero-one cc
 
 pub record RowHolds (l : Line RowLine) : Type 0 where
@@ -65,15 +59,15 @@ pub record RowHolds (l : Line RowLine) : Type 0 where
 
 pub said-holds : (l : Line RowLine) → judgedOf l ≡ Holds → RowHolds l
 said-holds (holds c) e = record { it = c; is = refl }
-said-holds form e = absurd (zero-one cc)
-said-holds range e = absurd (zero-one cc)
+said-holds (form byte) e = absurd (zero-one cc)
+said-holds (range byte) e = absurd (zero-one cc)
 
-pub said-form : (l : Line RowLine) → judgedOf l ≡ Form → l ≡ form
-said-form (holds c) e = absurd (zero-one cc)
-said-form form e = refl
-said-form range e = absurd (zero-one cc)
+pub said-form : (l : Line RowLine) (byte : ℕ) → judgedOf l ≡ Form byte → l ≡ form byte
+said-form (holds c) byte e = absurd (zero-one cc)
+said-form (form b) byte e = cc
+said-form (range b) byte e = absurd (zero-one cc)
 
-pub said-range : (l : Line RowLine) → judgedOf l ≡ Range → l ≡ range
-said-range (holds c) e = absurd (zero-one cc)
-said-range form e = absurd (zero-one cc)
-said-range range e = refl
+pub said-range : (l : Line RowLine) (byte : ℕ) → judgedOf l ≡ Range byte → l ≡ range byte
+said-range (holds c) byte e = absurd (zero-one cc)
+said-range (form b) byte e = absurd (zero-one cc)
+said-range (range b) byte e = cc

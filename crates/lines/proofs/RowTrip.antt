@@ -27,7 +27,7 @@ use Rattle.columns.proofs.ColumnPut.{numbers-are}
 use Rattle.columns.proofs.ColumnTrip.{tab-ends, AllKept, kept-long, kept-append, line-one, judged-read, judged-written}
 use Rattle.table.specs.Table.{rowGood}
 use Rattle.table.proofs.GoodLaws.{row-good}
-use Rattle.lines.specs.Lines.{RowLine, row, rowLine}
+use Rattle.lines.specs.Lines.{RowLine, row, rowBad, rowOut, rowLine}
 
 abbrev pub rowTextOf : (i : ℕ) → RowLine → List ℕ
 rowTextOf i c = columnsText tab (code "C") (rowColumns ++ factorColumns (length (c .factors))) i (numbersOf rowColumns (c .values) ++ c .factors)
@@ -52,7 +52,7 @@ factors-many (suc zones) = ap suc (factors-many zones)
 pub row-read : (zones : ℕ) (line : List ℕ) (i : ℕ) (c : RowLine) → rowLine zones line i ≡ holds c → RowIs zones line i c
 unfolding rowLine
 row-read zones line i c e =
-    let h = judged-read (λ zs. rowGood (take rowItems zs) (drop rowItems zs)) (λ zs. row (take rowItems zs) (drop rowItems zs)) tab (code "C") tab-ends (rowColumns ++ factorColumns zones) i line c e in
+    let h = judged-read (λ zs. rowGood (take rowItems zs) (drop rowItems zs)) (λ zs. row (take rowItems zs) (drop rowItems zs)) (rowBad zones line i) (λ zs. rowOut line (take rowItems zs) (drop rowItems zs)) tab (code "C") tab-ends (rowColumns ++ factorColumns zones) i line c e in
     let zs = h .zs in
     let all : length zs ≡ rowItems + zones = kept-long (rowColumns ++ factorColumns zones) zs (h .read .kept) ∙ omega (arith, factors-many zones) in
     let long : length (drop rowItems zs) ≡ zones = length-drop rowItems zs ∙ omega arith in
@@ -96,11 +96,12 @@ module _ (zones : ℕ) (c : RowLine) (held : RowHeld zones c) where
   by-values i small =
       let cs = rowColumns ++ factorColumns (length (c .factors)) in
       let zs = c .values ++ c .factors in
+      let line = columnsText tab (code "C") cs i zs in
       let kept = kept-append rowColumns (factorColumns (length (c .factors))) (c .values) (c .factors) values-kept (factors-kept (c .factors) (row-good (c .values) (c .factors) (held .good) .1)) in
       let v : take rowItems zs ≡ c .values = take-at (c .values) (c .factors) rowItems (held .wide) in
       let f : drop rowItems zs ≡ c .factors = drop-at (c .values) (c .factors) rowItems (held .wide) in
-      subst (λ (n : ℕ). judged (λ zs. rowGood (take rowItems zs) (drop rowItems zs)) (λ zs. row (take rowItems zs) (drop rowItems zs)) (columnsLine tab (code "C") (rowColumns ++ factorColumns n) (columnsText tab (code "C") cs i zs) i) ≡ holds c) (held .long)
-      (judged-written (λ zs. rowGood (take rowItems zs) (drop rowItems zs)) (λ zs. row (take rowItems zs) (drop rowItems zs)) tab (code "C") tab-ends cs i zs small kept (rw (v, f) (held .good))
+      subst (λ (n : ℕ). judged (λ zs. rowGood (take rowItems zs) (drop rowItems zs)) (λ zs. row (take rowItems zs) (drop rowItems zs)) (rowBad n line i) (λ zs. rowOut line (take rowItems zs) (drop rowItems zs)) (columnsLine tab (code "C") (rowColumns ++ factorColumns n) line i) ≡ holds c) (held .long)
+      (judged-written (λ zs. rowGood (take rowItems zs) (drop rowItems zs)) (λ zs. row (take rowItems zs) (drop rowItems zs)) (rowBad (length (c .factors)) line i) (λ zs. rowOut line (take rowItems zs) (drop rowItems zs)) tab (code "C") tab-ends cs i zs small kept (rw (v, f) (held .good))
       ∙ ap₂ (λ (x y : List ℤ). holds (row x y)) v f)
 
   pub row-written : (i : ℕ) → i < 10 ^ 10 → rowLine zones (rowTextOf i c) i ≡ holds c

@@ -12,16 +12,16 @@ use Rattle.lines.specs.declared.BorderLine.the-variants as border
 
 abbrev pub saidHeader : HeaderLine → Line Header
 saidHeader (header.Holds h) = holds h
-saidHeader header.Form = form
-saidHeader header.Range = range
+saidHeader (header.Form byte) = form byte
+saidHeader (header.Range byte) = range byte
 
 abbrev pub saidZone : ZoneLine → Line ℤ
 saidZone (zone.Holds net) = holds net
-saidZone zone.Form = form
-saidZone zone.Range = range
+saidZone (zone.Form byte) = form byte
+saidZone (zone.Range byte) = range byte
 
 -- a border is the raw record that was stored; where a line holds none, what was stored says nothing
 abbrev pub saidBorder : BorderLine → (raw : List ℤ) → Line (List ℤ)
 saidBorder border.Holds raw = holds raw
-saidBorder border.Form raw = form
-saidBorder border.Range raw = range
+saidBorder (border.Form byte) raw = form byte
+saidBorder (border.Range byte) raw = range byte

@@ -7,5 +7,5 @@ use Rattle.lines.specs.declared.row.RowJudged.the-variants.{Holds, Form,
 -- what judging a line answers
 abbrev pub judgedOf : Line RowLine → RowJudged
 judgedOf (holds c) = Holds
-judgedOf form = Form
-judgedOf range = Range
+judgedOf (form byte) = Form byte
+judgedOf (range byte) = Range byte

@@ -22,7 +22,7 @@ pub fn border_line(zones: usize, line: &[u8], i: usize, raw: &mut [i64]) -> Bord
         i,
         raw,
     ) else {
-        return BorderLine::Form;
+        return BorderLine::Form(blame::line_byte(b'\t', b'B', &Border::COLUMNS, line, i));
     };
     let from = raw[0];
     let to = raw[1];
@@ -32,5 +32,14 @@ pub fn border_line(zones: usize, line: &[u8], i: usize, raw: &mut [i64]) -> Bord
     if Border::fits(zones, from, to, lta, sending, receiving) {
         return BorderLine::Holds;
     }
-    BorderLine::Range
+    BorderLine::Range(blame::range::border_range(
+        b'\t',
+        zones,
+        from,
+        to,
+        lta,
+        sending,
+        receiving,
+        line,
+    ))
 }

@@ -16,14 +16,25 @@ pub fn header_line(line: &[u8]) -> HeaderLine
         b'\t',
         b'H',
         &Header::COLUMNS,
-        Header::COUNTS,
+        Header::ALWAYS,
         line,
         &mut raw,
     ) else {
-        return HeaderLine::Form;
+        return HeaderLine::Form(blame::plain_byte(b'\t', b'H', &Header::COLUMNS, line));
     };
-    let HeaderRead::Good(h) = Header::of(raw[0] as u64, raw[1] as u64, raw[2] as u64, raw[3]) else {
-        return HeaderLine::Range;
+    let zones = raw[0] as u64;
+    let borders = raw[1] as u64;
+    let rows = raw[2] as u64;
+    let share = raw[3];
+    let HeaderRead::Good(h) = Header::of(zones, borders, rows, share) else {
+        return HeaderLine::Range(blame::range::header_range(
+            b'\t',
+            zones,
+            borders,
+            rows,
+            share,
+            line,
+        ));
     };
     HeaderLine::Holds(h)
 }

@@ -9,15 +9,15 @@ ghost use lib.ListN.{length};
 ghost use Rattle.kinds.specs.Limits.{zonesMost};
 ghost use Rattle.text.specs.Line.{holds};
 ghost use Rattle.columns.specs.Columns.{stored};
-ghost use Rattle.lines.specs.Lines.{rowValues, rowLine, row};
+ghost use Rattle.lines.specs.Lines.{rowValues, rowBad, rowLine, row};
 ghost use Rattle.lines.specs.SaidRow.{judgedOf};
 ghost use Rattle.lines.specs.declared.row.RowJudged.the-variants.{Holds};
 
 // What a C line comes to.
 pub enum RowJudged {
     Holds,
-    Form,
-    Range,
+    Form(usize),
+    Range(usize),
 }
 
 // Judges a C line: the form of all fields, then the ranges.
@@ -34,14 +34,23 @@ fn judged_in(line: &[u8], i: usize, f: &mut [i64]) -> RowJudged
     requires { ⌜ (0 < length (now f)) × (length (now f) ≤ zonesMost) ⌝ }
     ensures { λ r. ⌜ r ≡ judgedOf (rowLine (length (now (f .entry))) (now (line .entry)) i) ⌝ }
 {
+    let zones = f.len();
     let mut raw: RowRecord = [0; Row::ITEMS];
     let Fields::End(_) = row_at(line, i, &mut raw, f) else {
-        return RowJudged::Form;
+        return RowJudged::Form(row_bad(zones, line, i));
     };
     if table::row_good(raw, f) {
         return RowJudged::Holds;
     }
-    RowJudged::Range
+    RowJudged::Range(blame::range::row_range(b'\t', raw, f, line))
+}
+
+// The byte to blame in a C line of wrong form.
+fn row_bad(zones: usize, line: &[u8], i: usize) -> usize
+    requires { ⌜ zones ≤ zonesMost ⌝ }
+    ensures { λ r. ⌜ r ≡ rowBad zones (now (line .entry)) i ⌝ }
+{
+    blame::line_byte(b'\t', b'C', &Row::COLUMNS[..Row::ITEMS + zones], line, i)
 }
 
 // Fills a row's stretch of the factors from its C line, which was judged before, and answers its raw record.
@@ -65,8 +74,8 @@ fn row_at(line: &[u8], i: usize, raw: &mut [i64], f: &mut [i64]) -> Fields
     columns::read::parts_at(
         b'\t',
         b'C',
-        &Row::COLUMNS,
-        &Row::FACTOR_COLUMNS[..n],
+        &Row::COLUMNS[..Row::ITEMS],
+        &Row::COLUMNS[Row::ITEMS..Row::ITEMS + n],
         line,
         i,
         raw,

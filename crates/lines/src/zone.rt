@@ -14,11 +14,11 @@ pub fn zone_line(line: &[u8], i: usize) -> ZoneLine
     let mut raw: [i64; 1] = [0; 1];
     let Fields::End(_) = columns::read::line_at(b'\t', b'Z', &Zone::COLUMNS, line, i, &mut raw)
     else {
-        return ZoneLine::Form;
+        return ZoneLine::Form(blame::line_byte(b'\t', b'Z', &Zone::COLUMNS, line, i));
     };
     let net = raw[0];
     let ZoneRead::Good(_) = Zone::of(net) else {
-        return ZoneLine::Range;
+        return ZoneLine::Range(blame::range::zone_range(b'\t', net, line));
     };
     ZoneLine::Holds(net)
 }

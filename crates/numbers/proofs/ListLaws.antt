@@ -2,12 +2,12 @@
 -- `Copied` and `Filled` are the loops' invariants, each with its `-none`, `-more`, `-all`; `stretch-left` is a part lent mid-slice. No contract cites this file.
 use mathlib.Core.Path.{_≡_, refl, _∙_, sym, ap, ap₂}
 use mathlib.Core.List.{List, [], _∷_, _++_, append-assoc, append-nil}
-use Prim.Native.Nat.{ℕ, suc, _+_, _<_, _≤_}
+use Prim.Native.Nat.{ℕ, suc, _+_, _-_, _<_, _≤_}
 use native.Mathlib.Nat.{zero-add}
 use native.Mathlib.Numerals.{add-one}
 use native.Mathlib.Omega.{arith}
-use lib.ListN.{length, getD, set, take, drop, length-set, drop-of-length-le}
-use lib.Seq.{paste, paste-zero, paste-suc, take-all, drop-drop, drop-cons, getD-at, set-at}
+use lib.ListN.{length, getD, set, take, drop, length-set, length-drop, drop-of-length-le}
+use lib.Seq.{paste, paste-zero, paste-suc, length-take-le, take-all, drop-drop, drop-cons, getD-at, set-at}
 use Rattle.numbers.specs.Below.{table, over}
 use Rattle.numbers.proofs.BelowLaws.{table-long}
 
@@ -33,6 +33,10 @@ module _ {A : Type 0} where
       ap (λ (m : ℕ). take a xs ++ (ys ++ drop m (drop a xs))) hk
       ∙ ap₂ (λ (l m : List A). take a xs ++ (l ++ m)) (sym (take-all n ys (omega arith))) (drop-drop n a xs)
       ∙ sym (append-assoc (take a xs) (take n ys) (drop (a + n) xs))
+
+  -- .. and how many items such a part has
+  pub part-long : (xs : List A) (a n : ℕ) → a + n ≤ length xs → length (take (a + n - a) (drop a xs)) ≡ n
+  part-long xs a n room = length-take-le (a + n - a) (drop a xs) (simp length-drop (omega arith)) ∙ omega arith
 
   -- the first i of n items are copied from s into what was d₀
   pub record Copied (s : List A) (n : ℕ) (d₀ d : List A) (i : ℕ) : Type 0 where

@@ -1,5 +1,5 @@
 -- The laws of `specs/Heard.antt`. No contract cites this file.
--- In order: what the code's three tests come to; that a refusal is heard with its number and place, and a result, a table or a sheet as an answer.
+-- In order: what the code's three tests come to; that a refusal is heard with its number, place and byte, and a result, a table or a sheet as an answer.
 use mathlib.Core.Path.{_≡_, refl, sym, subst, _∙_}
 use mathlib.Core.List.{List, [], _∷_, _++_, append-assoc, append-nil}
 use Prim.Native.Nat.{ℕ, zero, suc, _+_, _^_, _<_}
@@ -39,16 +39,24 @@ unfolding heardOf
 heard-other printed h = rw (ne-eqb (getD printed 0 0) letterE h)
 
 -- ---- what is heard of each text that is printed
--- a line of two numbers after its letter
-refusal-in-written : (line : List ℕ) (number place : ℕ) → drop 2 line ≡ decimal number ++ (tab ∷ (decimal place ++ (feed ∷ []))) → number < 10 ^ 10 → place < 10 ^ 10 → refusalIn line ≡ Refused number place
+-- a line of three numbers after its letter
+refusal-in-written : (line : List ℕ) (number place byte : ℕ) → drop 2 line ≡ decimal number ++ (tab ∷ (decimal place ++ (tab ∷ (decimal byte ++ (feed ∷ [])))))
+    → number < 10 ^ 10 → place < 10 ^ 10 → byte < 10 ^ 10 → refusalIn line ≡ Refused number place byte
 unfolding refusalIn
-refusal-in-written line number place here n p =
-    rw (number-written line 2 tab number (decimal place ++ (feed ∷ [])) here n refl, number-written line (2 + length (decimal number) + 1) feed place [] (number-rest line 2 tab number (decimal place ++ (feed ∷ [])) here) p refl)
+refusal-in-written line number place byte here n p b =
+    let last = decimal byte ++ (feed ∷ []) in
+    let at = 2 + length (decimal number) + 1 in
+    let placed = number-rest line 2 tab number (decimal place ++ (tab ∷ last)) here in
+    rw (
+      number-written line 2 tab number (decimal place ++ (tab ∷ last)) here n refl,
+      number-written line at tab place last placed p refl,
+      number-written line (at + length (decimal place) + 1) feed byte [] (number-rest line at tab place last placed) b refl,
+    )
 
--- a refusal is heard with its number and place
-pub refusal-heard : (w : Refusal) → w .number < 10 ^ 10 → w .place < 10 ^ 10 → heardOf (refusalText w) ≡ Refused (w .number) (w .place)
+-- a refusal is heard with its number, place and byte
+pub refusal-heard : (w : Refusal) → w .number < 10 ^ 10 → w .place < 10 ^ 10 → w .byte < 10 ^ 10 → heardOf (refusalText w) ≡ Refused (w .number) (w .place) (w .byte)
 unfolding refusalText lineText fieldsText
-refusal-heard w n p = sym (heard-refusal (refusalText w) refl) ∙ refusal-in-written (refusalText w) (w .number) (w .place) refl n p
+refusal-heard w n p b = sym (heard-refusal (refusalText w) refl) ∙ refusal-in-written (refusalText w) (w .number) (w .place) (w .byte) refl n p b
 
 -- a text that does not begin with E
 abbrev Other : List ℕ → Type 0

@@ -1,4 +1,4 @@
--- What a printed text says of itself: only a refusal's line begins with E (01, "Result text"), and it has the number and the place.
+-- What a printed text says of itself: only a refusal's line begins with E (01, "Result text"), and it has the number, the place and the byte (02, E5).
 -- `heardOf` is what contracts cite. That it hears every refusal, and no answer as one, is proved in `proofs/HeardLaws.antt`.
 use mathlib.Core.Bool.{cond}
 use mathlib.Core.List.{List}
@@ -15,11 +15,14 @@ letterE = 69
 
 -- an E line that could not be read would still be a refusal: number 0, which no table of refusals has
 abbrev pub unread : Ended
-unread = Refused 0 0
+unread = Refused 0 0 0
 
--- number, tab, place, LF, after the letter and its tab
+-- number, tab, place, tab, byte, LF, after the letter and its tab
 unfoldable pub refusalIn : (line : List ℕ) → Ended
-refusalIn line = withNumber (numberAt line 2 9) unread (λ number next. withNumber (numberAt line next 10) unread (λ place end. Refused number place))
+refusalIn line =
+    withNumber (numberAt line 2 9) unread (λ number at.
+    withNumber (numberAt line at 9) unread (λ place next.
+    withNumber (numberAt line next 10) unread (λ byte end. Refused number place byte)))
 
 unfoldable pub heardOf : (printed : List ℕ) → Ended
 heardOf printed = cond (eqb (getD printed 0 0) letterE) (refusalIn printed) Answered

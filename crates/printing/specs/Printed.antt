@@ -22,7 +22,7 @@ abbrev pub bytesOf : Written → ℕ
 bytesOf (written.Bytes n) = n
 bytesOf (written.Refused w) = 0
 
--- what `rewrite` prints: the table's text, or one line E, number, place
+-- what `rewrite` prints: the table's text, or one line E, number, place, byte
 unfoldable pub rewritten : (text : List ℕ) → List ℕ
 rewritten text = either (readText text) tableText refusalText
 

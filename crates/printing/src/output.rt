@@ -7,8 +7,8 @@ use text::Number;
 // What came of printing.
 pub enum Ended {
     Answered,
-    // A line E stands there: its number and place.
-    Refused(u64, u64),
+    // A line E stands there: its number, place and byte.
+    Refused(u64, u64, u64),
     // Not all could be written.
     Failed,
 }
@@ -37,11 +37,14 @@ fn heard(printed: &[u8]) -> Ended
 fn refusal_in(line: &[u8]) -> Ended
     ensures { λ r. ⌜ r ≡ refusalIn (now (line .entry)) ⌝ }
 {
-    let Number::Value(number, next) = text::field::number_at(line, 2, b'\t') else {
-        return Ended::Refused(0, 0);
+    let Number::Value(number, at) = text::field::number_at(line, 2, b'\t') else {
+        return Ended::Refused(0, 0, 0);
     };
-    let Number::Value(place, _) = text::field::number_at(line, next, b'\n') else {
-        return Ended::Refused(0, 0);
+    let Number::Value(place, next) = text::field::number_at(line, at, b'\t') else {
+        return Ended::Refused(0, 0, 0);
     };
-    Ended::Refused(number, place)
+    let Number::Value(byte, _) = text::field::number_at(line, next, b'\n') else {
+        return Ended::Refused(0, 0, 0);
+    };
+    Ended::Refused(number, place, byte)
 }

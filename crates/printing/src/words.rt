@@ -6,7 +6,7 @@ use libc::STDERR_FILENO;
 pub fn usage(fd: i32) -> bool {
     io::write_all(
         fd,
-        b"usage: keravnoth < TABLE              the result, or a line E, number, place\n",
+        b"usage: keravnoth < TABLE              the result, or a line E, number, place, byte\n",
     )
         && io::write_all(
             fd,
@@ -36,7 +36,7 @@ pub fn usage(fd: i32) -> bool {
 pub fn version(fd: i32) -> bool {
     io::write_all(
         fd,
-        b"keravnoth: rules: document 01; requests of document 02: E1, E3, E4, E6, E8, E9; C interface: 5\n",
+        b"keravnoth: rules: document 01; requests of document 02: E1, E3, E4, E5, E6, E8, E9; C interface: 6\n",
     )
         && io::write_all(fd, b"proved in the Rattle kit's logic 064da1ca440f63e7\n")
 }
@@ -59,18 +59,18 @@ fn name(i: usize) {
     io::write_all(STDERR_FILENO, b"' is not known, or not wanted there\n");
 }
 
-// One line for a refusal, by its number and place (01, "When the table is turned away"; 02, E1, E3 and E6).
-pub fn refusal(number: u64, place: u64) {
+// One line for a refusal, by its number, place and byte (01, "When the table is turned away"; 02, E1, E3, E5 and E6).
+pub fn refusal(number: u64, place: u64, byte: u64) {
     match number {
         1 => say(b"keravnoth: the table has more than 65,536 bytes: send one hour alone\n"),
-        2 => say_place(
-            b"keravnoth: line ",
+        2 => say_line(
             place,
+            byte,
             b" has the wrong form, kind, index or field count, is missing, has no LF, or is extra: look at its letter, index, tabs, LF and stray bytes (a CR, a BOM, a blank)\n",
         ),
-        3 => say_place(
-            b"keravnoth: line ",
+        3 => say_line(
             place,
+            byte,
             b" has a value outside its range (also a zone or hub that does not exist, or two equal ones; in line 1 a count or the default of R): compare its fields with the ranges in docs/GUIDE.md\n",
         ),
         4 => say_place(
@@ -106,6 +106,18 @@ pub fn refusal(number: u64, place: u64) {
 
 fn say(words: &[u8]) {
     io::write_all(STDERR_FILENO, words);
+}
+
+// A line, and its byte where one is to blame.
+fn say_line(line: u64, byte: u64, after: &[u8]) {
+    io::write_all(STDERR_FILENO, b"keravnoth: line ");
+    io::print_decimal(STDERR_FILENO, line);
+    if byte > 0 {
+        io::write_all(STDERR_FILENO, b", byte ");
+        io::print_decimal(STDERR_FILENO, byte);
+        io::write_all(STDERR_FILENO, b",");
+    }
+    io::write_all(STDERR_FILENO, after);
 }
 
 fn say_place(before: &[u8], place: u64, after: &[u8]) {

@@ -16,7 +16,7 @@ use Rattle.kinds.specs.declared.Header.{Header}
 use Rattle.kinds.specs.Limits.{bordersMost, bytesMost}
 use Rattle.kinds.specs.Ranges.{headerFits}
 use Rattle.kinds.specs.declared.Refusal.{Refusal}
-use Rattle.kinds.specs.Refusals.{Judged, passed, refused, then, tooLong, wrongForm, outOfRange, givenTwice}
+use Rattle.kinds.specs.Refusals.{Judged, passed, refused, then, tooLong, wrongFormAt, wrongForm, outOfRangeAt, givenTwice}
 use Rattle.kinds.proofs.KindLaws.{HeaderIn, header-in}
 use Rattle.kinds.proofs.RefusalLaws.{then-next, then-refused, first-found, first-none-next}
 use Rattle.text.specs.Line.{lineAt, form, range}
@@ -43,13 +43,13 @@ module _ {A B : Type 0} (x : Block A) (f : List A → ℕ → Judged B) where
 
 -- ---- the H line
 module _ (text : List ℕ) where
-  pub header-form : headerLine (lineAt text 0) ≡ form → refused (wrongForm headerLineNo) ≡ linesOf text
+  pub header-form : (byte : ℕ) → headerLine (lineAt text 0) ≡ form byte → refused (wrongFormAt headerLineNo byte) ≡ linesOf text
   unfolding linesOf
-  header-form e = rw e
+  header-form byte e = rw e
 
-  pub header-range : headerLine (lineAt text 0) ≡ range → refused (outOfRange headerLineNo) ≡ linesOf text
+  pub header-range : (byte : ℕ) → headerLine (lineAt text 0) ≡ range byte → refused (outOfRangeAt headerLineNo byte) ≡ linesOf text
   unfolding linesOf
-  header-range e = rw e
+  header-range byte e = rw e
 
 -- ---- the Z, B and C lines, and the end
 module _ (text : List ℕ) (h : Header) where

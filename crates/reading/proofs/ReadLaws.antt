@@ -12,7 +12,7 @@ use Rattle.kinds.specs.declared.Header.{Header}
 use Rattle.kinds.specs.Limits.{bytesMost}
 use Rattle.kinds.specs.Ranges.{headerFits, zoneFits, rowFits, factorFits, atℤ}
 use Rattle.kinds.specs.declared.Refusal.{Refusal}
-use Rattle.kinds.specs.Refusals.{Judged, passed, refused, tooLong, wrongForm, outOfRange}
+use Rattle.kinds.specs.Refusals.{Judged, passed, refused, tooLong, wrongFormAt, wrongForm, outOfRangeAt}
 use Rattle.kinds.proofs.RefusalLaws.{passed-is, not-passed, none-passed, then-passed}
 use Rattle.kinds.proofs.KindLaws.{header-in}
 use Rattle.text.specs.Line.{lineAt, after, Line, holds, form, range}
@@ -47,8 +47,8 @@ pub record Opened (text : List ℕ) (t : Table) : Type 0 where
 
 header-then : {P : Type 0} (t : Table) (l : Line Header) (next : Header → Judged Table) → withHeader l next ≡ passed t → ((h : Header) → l ≡ holds h → next h ≡ passed t → P) → P
 header-then t (holds h) next e k = k h refl e
-header-then t form next e k = absurd (not-passed (wrongForm headerLineNo) t e)
-header-then t range next e k = absurd (not-passed (outOfRange headerLineNo) t e)
+header-then t (form byte) next e k = absurd (not-passed (wrongFormAt headerLineNo byte) t e)
+header-then t (range byte) next e k = absurd (not-passed (outOfRangeAt headerLineNo byte) t e)
 
 -- a refusal where a test holds, and none was given
 cond-passed : (a b : ℕ) (w : Refusal) (x : Judged Table) (t : Table) → cond (ltb a b) (refused w) x ≡ passed t → (b ≤ a) × (x ≡ passed t)

@@ -8,7 +8,7 @@ use lib.ListN.{length}
 use Rattle.numbers.specs.Below.{over}
 use Rattle.kinds.specs.declared.Header.{Header}
 use Rattle.kinds.specs.Limits.{bytesMost}
-use Rattle.kinds.specs.Refusals.{Judged, passed, refused, then, either, tooLong, wrongForm, outOfRange}
+use Rattle.kinds.specs.Refusals.{Judged, passed, refused, then, either, tooLong, wrongFormAt, wrongForm, outOfRangeAt}
 use Rattle.text.specs.Line.{lineAt, after, Line, holds, form, range}
 use Rattle.block.specs.Block.{linesAt, withLines}
 use Rattle.table.specs.Table.{Table, lent, notTwice, tableRoom, headerLineNo, zoneLineNo, borderLineNo, rowLineNo, pastLineNo}
@@ -17,8 +17,8 @@ use Rattle.runs.specs.Rows.{valuesOf, factorsOf}
 
 abbrev pub withHeader : {A : Type 0} → Line Header → (Header → Judged A) → Judged A
 withHeader (holds h) next = next h
-withHeader form next = refused (wrongForm headerLineNo)
-withHeader range next = refused (outOfRange headerLineNo)
+withHeader (form byte) next = refused (wrongFormAt headerLineNo byte)
+withHeader (range byte) next = refused (outOfRangeAt headerLineNo byte)
 
 -- one H line, then all Z, B, C lines, each kind by index from 0; nothing follows
 unfoldable pub linesOf : (text : List ℕ) → Judged Table

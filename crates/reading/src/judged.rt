@@ -55,8 +55,14 @@ fn judge_lines(text: &[u8], memory: &mut [BorderRecord]) -> TextJudged
     let line = text::line::line_at(text, 0);
     match lines::header::header_line(line) {
         HeaderLine::Holds(h) => judge_runs(text, h, line.len(), memory),
-        HeaderLine::Form => TextJudged::Refused(Refusal::wrong_form(table::HEADER_LINE_NO)),
-        HeaderLine::Range => TextJudged::Refused(Refusal::out_of_range(table::HEADER_LINE_NO)),
+        HeaderLine::Form(byte) => TextJudged::Refused(Refusal::wrong_form_at(
+            table::HEADER_LINE_NO,
+            byte,
+        )),
+        HeaderLine::Range(byte) => TextJudged::Refused(Refusal::out_of_range_at(
+            table::HEADER_LINE_NO,
+            byte,
+        )),
     }
 }
 

@@ -29,6 +29,9 @@ module _ (letter : ℕ) (f : List ℕ) where
   two-length : (g : List ℕ) → 4 + length f + length g ≡ length (lineText letter (f ∷ g ∷ []))
   two-length g = omega (arith, line-length letter (f ∷ g ∷ []), tabbed-length f (g ∷ []), tabbed-length g [], tabbed-empty)
 
+  three-length : (g h : List ℕ) → 5 + length f + length g + length h ≡ length (lineText letter (f ∷ g ∷ h ∷ []))
+  three-length g h = omega (arith, line-length letter (f ∷ g ∷ h ∷ []), tabbed-length f (g ∷ h ∷ []), tabbed-length g (h ∷ []), tabbed-length h [], tabbed-empty)
+
   four-length : (g h k : List ℕ) → 6 + length f + length g + length h + length k ≡ length (lineText letter (f ∷ g ∷ h ∷ k ∷ []))
   four-length g h k =
       omega (
@@ -52,12 +55,12 @@ pub rounds-length : (rounds : ℕ) → 3 + length (decimal rounds) ≡ length (r
 rounds-length rounds = one-length 82 (decimal rounds)
 
 -- ---- the E line
-pub refusal-length : (w : Refusal) → 4 + length (decimal (w .number)) + length (decimal (w .place)) ≡ length (refusalText w)
+pub refusal-length : (w : Refusal) → 5 + length (decimal (w .number)) + length (decimal (w .place)) + length (decimal (w .byte)) ≡ length (refusalText w)
 unfolding refusalText
-refusal-length w = two-length 69 (decimal (w .number)) (decimal (w .place))
+refusal-length w = three-length 69 (decimal (w .number)) (decimal (w .place)) (decimal (w .byte))
 
-pub refusal-most : (w : Refusal) → w .number < 2 ^ 32 → w .place < 2 ^ 64 → length (refusalText w) ≤ refusalMost
-refusal-most w h k = omega (arith, refusal-length w, decimal-long 9 (w .number) (omega (arith, h)), decimal-u64 (w .place) k)
+pub refusal-most : (w : Refusal) → w .number < 2 ^ 32 → w .place < 2 ^ 64 → w .byte < 2 ^ 64 → length (refusalText w) ≤ refusalMost
+refusal-most w h k l = omega (arith, refusal-length w, decimal-long 9 (w .number) (omega (arith, h)), decimal-u64 (w .place) k, decimal-u64 (w .byte) l)
 
 -- ---- leftField
 module _ (state left : ℤ) where

@@ -5,10 +5,10 @@ use Prim.Native.Nat.{ℕ, _+_}
 use Rattle.kinds.specs.declared.Refusal.{Refusal}
 use Rattle.text.specs.Written.{decimal, lineText}
 
--- one line E, number, place
+-- one line E, number, place, and the byte to blame (02, E5)
 unfoldable pub refusalText : Refusal → List ℕ
-refusalText w = lineText (code "E") (decimal (w .number) ∷ decimal (w .place) ∷ [])
+refusalText w = lineText (code "E") (decimal (w .number) ∷ decimal (w .place) ∷ decimal (w .byte) ∷ [])
 
--- no E line that the code makes is longer: a letter, two tabs, an LF, a number of 32 bits (10 digits) and a place of 64 (20 digits)
+-- no E line that the code makes is longer: a letter, three tabs, an LF, a number of 32 bits (10 digits), a place and a byte of 64 (20 digits each)
 abbrev pub refusalMost : ℕ
-refusalMost = 4 + 10 + 20
+refusalMost = 5 + 10 + 20 + 20

@@ -7,10 +7,10 @@ use native.Mathlib.Nat.{sub-zero, zero-mul, suc-mul}
 use native.Mathlib.Numerals.{add-one}
 use native.Mathlib.Omega.{arith}
 use lib.IntN.{ℤ}
-use lib.ListN.{length, set, take, drop, length-set, length-drop}
-use lib.Seq.{paste, length-take-le, take-suc-set, take-all, length-paste, take-paste}
+use lib.ListN.{length, set, take, drop, length-set}
+use lib.Seq.{paste, take-suc-set, take-all, length-paste, take-paste}
 use Rattle.numbers.proofs.ListLaws.{stretch-left}
-use Rattle.kinds.specs.Refusals.{passed, wrongForm, outOfRange}
+use Rattle.kinds.specs.Refusals.{passed, wrongFormAt, outOfRangeAt}
 use Rattle.kinds.proofs.RefusalLaws.{passed-is, not-passed}
 use Rattle.text.specs.Line.{lineAt, after, Line, holds, form, range}
 use Rattle.block.specs.Block.{Block, read, fault, more, onLine, linesAt, endOf, heldBy}
@@ -48,8 +48,8 @@ module _ {A : Type 0} (judge : List ℕ → ℕ → Line A) (first second : ℕ)
       go : (l : Line A) (x y : Block A) → ((ys : List A) (m : ℕ) → x ≡ read ys m → y ≡ read ys m) → onLine l (first + i) x ≡ read xs e → onLine l (second + i) y ≡ read xs e
       go (holds a) (read ys m) y ih q = ap (more a) (ih ys m refl) ∙ q
       go (holds a) (fault w) y ih q = absurd (no-read w xs e q)
-      go form x y ih q = absurd (no-read (wrongForm (first + i)) xs e q)
-      go range x y ih q = absurd (no-read (outOfRange (first + i)) xs e q)
+      go (form byte) x y ih q = absurd (no-read (wrongFormAt (first + i) byte) xs e q)
+      go (range byte) x y ih q = absurd (no-read (outOfRangeAt (first + i) byte) xs e q)
 
   -- what the judging pass told, for the filling pass, and for what was read
   pub run-again : (n : ℕ) (text : List ℕ) (at e : ℕ) → passed e ≡ endOf (linesAt judge first n text at 0) → Run (linesAt judge first n text at 0) (linesAt judge second n text at 0) e
@@ -67,9 +67,6 @@ taken-set {A} c i x xs w h e =
     ap (λ (m : ℕ). take m (set c i x) ++ xs) (add-one i) ∙ ap (λ (m : List A). m ++ xs) (take-suc-set c i x h) ∙ append-assoc (take i c) (x ∷ []) xs ∙ e
 
 -- ---- one stretch more: n items of f from s on are lent, and come back as ys
-pub lent-long : {A : Type 0} (f : List A) (s n : ℕ) → s + n ≤ length f → length (take (s + n - s) (drop s f)) ≡ n
-lent-long f s n room = length-take-le (s + n - s) (drop s f) (simp length-drop (omega arith)) ∙ omega arith
-
 abbrev back : {A : Type 0} (f ys : List A) (s n : ℕ) → List A
 back f ys s n = take s f ++ (ys ++ drop (s + n - s) (drop s f))
 
@@ -133,8 +130,8 @@ module _ (zones : ℕ) (text : List ℕ) (at count : ℕ) where
 
           go : (l : Line RowLine) → rowLine zones (lineAt text p) i ≡ l → RowHolds l
           go (holds a) q = record { it = a; is = refl }
-          go form q = absurd (false≢true (past form q))
-          go range q = absurd (false≢true (past range q))
+          go (form byte) q = absurd (false≢true (past (form byte) q))
+          go (range byte) q = absurd (false≢true (past (range byte) q))
 
       module _ (line : List ℕ) (is : line ≡ lineAt text p) (n : ℕ) (long : n ≡ zones) where
         line-row : rowLine zones line i ≡ holds (rows-filled-row .it)

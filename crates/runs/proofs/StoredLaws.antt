@@ -10,7 +10,7 @@ use native.Mathlib.Omega.{arith}
 use lib.ListN.{length, drop, take, set, length-set, length-drop}
 use lib.Seq.{take-suc-set, take-all}
 use Rattle.kinds.specs.declared.Refusal.{Refusal}
-use Rattle.kinds.specs.Refusals.{wrongForm, outOfRange, passed, refused}
+use Rattle.kinds.specs.Refusals.{wrongFormAt, outOfRangeAt, passed, refused}
 use Rattle.kinds.proofs.RefusalLaws.{passed-is, refused-is, not-passed}
 use Rattle.text.specs.Line.{lineAt, after, Line, holds, form, range}
 use Rattle.text.proofs.LineLaws.{line-le-length}
@@ -81,11 +81,11 @@ module _ {A : Type 0} (judge : List ℕ → ℕ → Line A) (first : ℕ) (text 
         stored-line r q =
             rw (← q, ← lines-first (n - i) (n - (i + 1)) p i (omega arith)) (u .so-far)
 
-        pub stored-form : judge (lineAt text p) i ≡ form → fault (wrongForm (first + i)) ≡ linesAt judge first (length out₀) text at 0
-        stored-form q = rw (← u .all) (sym (more-fault (take i out) (wrongForm (first + i))) ∙ stored-line form q)
+        pub stored-form : (byte : ℕ) → judge (lineAt text p) i ≡ form byte → fault (wrongFormAt (first + i) byte) ≡ linesAt judge first (length out₀) text at 0
+        stored-form byte q = rw (← u .all) (sym (more-fault (take i out) (wrongFormAt (first + i) byte)) ∙ stored-line (form byte) q)
 
-        pub stored-range : judge (lineAt text p) i ≡ range → fault (outOfRange (first + i)) ≡ linesAt judge first (length out₀) text at 0
-        stored-range q = rw (← u .all) (sym (more-fault (take i out) (outOfRange (first + i))) ∙ stored-line range q)
+        pub stored-range : (byte : ℕ) → judge (lineAt text p) i ≡ range byte → fault (outOfRangeAt (first + i) byte) ≡ linesAt judge first (length out₀) text at 0
+        stored-range byte q = rw (← u .all) (sym (more-fault (take i out) (outOfRangeAt (first + i) byte)) ∙ stored-line (range byte) q)
 
         pub stored-more : (a : A) → judge (lineAt text p) i ≡ holds a → Stored at out₀ n (set out i a) (i + 1) (after text p)
         stored-more a q =
@@ -131,5 +131,5 @@ module _ {A : Type 0} where
 
       go : (r : Line A) → (passed e ≡ endOf rest → e ≤ length text) → passed e ≡ endOf (onLine r (first + i) rest) → e ≤ length text
       go (holds a) ih q = ih (q ∙ end-drops a rest)
-      go form ih q = absurd (not-passed (wrongForm (first + i)) e (sym q))
-      go range ih q = absurd (not-passed (outOfRange (first + i)) e (sym q))
+      go (form byte) ih q = absurd (not-passed (wrongFormAt (first + i) byte) e (sym q))
+      go (range byte) ih q = absurd (not-passed (outOfRangeAt (first + i) byte) e (sym q))

@@ -30,8 +30,11 @@ pub fn borders_read(text: &[u8], at: usize, zones: usize, b: &mut [BorderRecord]
             BorderLine::Holds => {
                 b[i] = raw;
             }
-            BorderLine::Form => return End::Refused(Refusal::wrong_form(first + i)),
-            BorderLine::Range => return End::Refused(Refusal::out_of_range(first + i)),
+            BorderLine::Form(byte) => return End::Refused(Refusal::wrong_form_at(first + i, byte)),
+            BorderLine::Range(byte) => return End::Refused(Refusal::out_of_range_at(
+                first + i,
+                byte,
+            )),
         }
         p += line.len();
         i += 1;

@@ -24,8 +24,11 @@ pub fn rows_judged(text: &[u8], at: usize, zones: usize, first: usize, count: us
         let line = text::line::line_at(text, p);
         match lines::row::row_judged(zones, line, i) {
             RowJudged::Holds => {}
-            RowJudged::Form => return End::Refused(Refusal::wrong_form(first + i)),
-            RowJudged::Range => return End::Refused(Refusal::out_of_range(first + i)),
+            RowJudged::Form(byte) => return End::Refused(Refusal::wrong_form_at(first + i, byte)),
+            RowJudged::Range(byte) => return End::Refused(Refusal::out_of_range_at(
+                first + i,
+                byte,
+            )),
         }
         p += line.len();
     }

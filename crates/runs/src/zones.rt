@@ -17,14 +17,15 @@ pub fn zones_judged(text: &[u8], at: usize, count: usize) -> End
     requires { ⌜ (at ≤ length (now text)) × (count ≤ zonesMost) ⌝ }
     ensures { λ r. ⌜ saidEnd r ≡ endOf (linesAt zoneLine zoneLineNo count (now (text .entry)) at 0) ⌝ }
 {
+    let first = table::ZONE_LINE_NO;
     let mut i = 0;
     let mut p = at;
     while i < count {
         let line = text::line::line_at(text, p);
         match lines::zone::zone_line(line, i) {
             ZoneLine::Holds(_) => {}
-            ZoneLine::Form => return End::Refused(Refusal::wrong_form(table::ZONE_LINE_NO + i)),
-            ZoneLine::Range => return End::Refused(Refusal::out_of_range(table::ZONE_LINE_NO + i)),
+            ZoneLine::Form(byte) => return End::Refused(Refusal::wrong_form_at(first + i, byte)),
+            ZoneLine::Range(byte) => return End::Refused(Refusal::out_of_range_at(first + i, byte)),
         }
         p += line.len();
         i += 1;
@@ -45,8 +46,8 @@ pub fn zones_filled(text: &[u8], at: usize, z: &mut [i64])
         let line = text::line::line_at(text, p);
         match lines::zone::zone_line(line, i) {
             ZoneLine::Holds(net) => z[i] = net,
-            ZoneLine::Form => return,
-            ZoneLine::Range => return,
+            ZoneLine::Form(_) => return,
+            ZoneLine::Range(_) => return,
         }
         p += line.len();
         i += 1;

@@ -31,12 +31,12 @@ three states starts = judgeStart (header 3) borders (pos 20000 ∷ pos 0 ∷ pos
 
 pub record Anchors : Type 0 where
   -- 5 before 6, and 6 before 7: no row loads border 1, and row 0 starts below 0
-  pub five-first : one (1 ∷ []) (minus 1 ∷ []) ≡ refused (refusal 5 0)
-  pub six-first : one (0 ∷ []) (minus 1 ∷ []) ≡ refused (refusal 6 1)
+  pub five-first : one (1 ∷ []) (minus 1 ∷ []) ≡ refused (refusal 5 0 0)
+  pub six-first : one (0 ∷ []) (minus 1 ∷ []) ≡ refused (refusal 6 1 0)
   -- 7: the first kept row that starts below 0
-  pub seven : three (0 ∷ 0 ∷ 0 ∷ []) (pos 0 ∷ minus 1 ∷ minus 1 ∷ []) ≡ refused (refusal 7 1)
+  pub seven : three (0 ∷ 0 ∷ 0 ∷ []) (pos 0 ∷ minus 1 ∷ minus 1 ∷ []) ≡ refused (refusal 7 1 0)
   -- 6 and 7 look at kept rows alone
-  pub six-kept : three (0 ∷ 2 ∷ 0 ∷ []) (pos 0 ∷ pos 0 ∷ pos 0 ∷ []) ≡ refused (refusal 6 1)
+  pub six-kept : three (0 ∷ 2 ∷ 0 ∷ []) (pos 0 ∷ pos 0 ∷ pos 0 ∷ []) ≡ refused (refusal 6 1 0)
   pub seven-kept : three (0 ∷ 0 ∷ 2 ∷ []) (pos 0 ∷ pos 0 ∷ minus 1 ∷ []) ≡ passed (0 ∷ 0 ∷ 2 ∷ [])
   -- each border starts at its LTA, a kept row where it is given, and a row of state 2 takes no part
   pub starts : startOf (header 3) borders (0 ∷ 0 ∷ 2 ∷ []) (pos 7 ∷ pos 9 ∷ pos 8 ∷ []) ≡ record { margins = 7 ∷ 9 ∷ 0 ∷ []; x = 1000 ∷ 0 ∷ [] }

@@ -16,14 +16,14 @@ holds-is a b e = cc
 
 abbrev isHolds : {A : Type 0} → Line A → Type 0
 isHolds (holds a) = Unit {0}
-isHolds form = ⊥
-isHolds range = ⊥
+isHolds (form byte) = ⊥
+isHolds (range byte) = ⊥
 
-pub no-form : {A : Type 0} (a : A) → form ≡ holds a → ⊥
-no-form {A} a e = subst (λ (l : Line A). isHolds l) (sym e) tt
+pub no-form : {A : Type 0} (byte : ℕ) (a : A) → form byte ≡ holds a → ⊥
+no-form {A} byte a e = subst (λ (l : Line A). isHolds l) (sym e) tt
 
-pub no-range : {A : Type 0} (a : A) → range ≡ holds a → ⊥
-no-range {A} a e = subst (λ (l : Line A). isHolds l) (sym e) tt
+pub no-range : {A : Type 0} (byte : ℕ) (a : A) → range byte ≡ holds a → ⊥
+no-range {A} byte a e = subst (λ (l : Line A). isHolds l) (sym e) tt
 
 -- a line with its letter is the letter, the byte that parts its fields, and what stands after
 pub headed-line : (letter sep : ℕ) (line : List ℕ) → headed letter sep line ≡ true → line ≡ letter ∷ sep ∷ drop 2 line

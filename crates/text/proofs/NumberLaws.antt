@@ -85,7 +85,7 @@ full-is n v e = go (leb 10 n) refl e
     go true q e = inl (leb-true 10 n q)
     go false q e = let b = and-both (ltb 0 n) (eqb v 0) e in inr (ltb-true 0 n (b .0), eqb-true v 0 (b .1))
 
-or-neither : (t u : Bool) → (t || u) ≡ false → (t ≡ false) × (u ≡ false)
+pub or-neither : (t u : Bool) → (t || u) ≡ false → (t ≡ false) × (u ≡ false)
 or-neither true u e = absurd (false≢true (sym e))
 or-neither false u e = (refl, e)
 

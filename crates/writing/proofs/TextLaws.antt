@@ -64,8 +64,8 @@ module _ (t : Table) (g : Good t) where
   text-within = omega (arith, text-length, never-too-long t g)
 
 -- ---- a row's part of the factors is as long as there are zones
-pub part-long : (i zones : ℕ) → i * zones + zones - i * zones ≡ zones
-part-long i zones = omega arith
+pub part-count : (i zones : ℕ) → i * zones + zones - i * zones ≡ zones
+part-count i zones = omega arith
 
 -- ---- lengths of lines, added up
 module _ (line : ℕ → List ℕ) (n : ℕ) (few : length (linesText n 0 line) ≤ bytesMost) {i s : ℕ} (u : Summed (λ i. length (line i)) n i s) where

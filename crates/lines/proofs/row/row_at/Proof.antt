@@ -2,31 +2,35 @@
 use mathlib.Core.Path.{sym, ap, _∙_}
 use mathlib.Core.List.{List, _++_}
 use Prim.Native.Char.{code}
-use lib.Seq.{length-take-le}
+use native.Mathlib.Omega.{arith}
+use lib.ListN.{length}
 use Rattle.kinds.specs.LineColumns.{Column, rowColumns}
 use Rattle.text.specs.Fields.{tab}
 use Rattle.columns.specs.ColumnLine.{columnsLine}
-use Rattle.lines.proofs.RowJudge.{factors-taken}
+use Rattle.columns.proofs.ColumnLaws.{factor-letters, factor-letters-long}
 use borrow.Author.Needs.{needs}
 use Rattle.lines.proofs.row.row_at.Statement.{statement}
 use Rattle.lines.proofs.row.row_at.Tie as tie
 
-slice-aggregate-parts-at-2 : tie.Need-slice-aggregate-parts-at-2
-slice-aggregate-parts-at-2 c = sym (length-take-le _ _ (c .before .before .before .pre .2))
+add-parts-at : tie.Need-add-parts-at
+add-parts-at c = omega (arith, c .before .before .pre .2)
 
-abbrev entry-from-parts-at-arg4 : tie.After-parts-at-arg4 → tie.Start
-entry-from-parts-at-arg4 c = c .before .before .before .before .before
+part-parts-at-end : tie.Need-part-parts-at-end
+part-parts-at-end c = omega (arith, c .before .before .before .pre .2)
+
+abbrev entry : tie.After-parts-at-arg5 → tie.Start
+entry c = c .before .before .before .before .before .before
 
 parts-at-requires : tie.Need-parts-at-requires
 parts-at-requires c κs =
-    let p = entry-from-parts-at-arg4 c .pre in
-    (sym (p .0), rw (length-take-le _ _ (p .2)) (p .1), length-take-le _ _ (p .2))
-
-abbrev entry : tie.After-f → tie.Start
-entry c = entry-from-parts-at-arg4 (c .before .before .before)
+    let p = entry c .pre in
+    let long = factor-letters-long (length (entry c .args .f .now)) (p .2) in
+    (sym (p .0), rw long (p .1), long)
 
 returns : tie.Need-returns
-returns c = c .before .before .parts-at .ensures ∙ ap (λ (l : List Column). columnsLine tab (code "C") (rowColumns ++ l) (entry c .args .line .now) (entry c .args .i)) (factors-taken _ (entry c .pre .2))
+returns c =
+    let s = entry (c .before .before .before) in
+    c .before .before .parts-at .ensures ∙ ap (λ (l : List Column). columnsLine tab (code "C") (rowColumns ++ l) (s .args .line .now) (s .args .i)) (factor-letters _ (s .pre .2))
 
 pub row-at-spec : {M : Type 1} → statement M
 row-at-spec =
@@ -34,7 +38,10 @@ row-at-spec =
     (tie.spec
     (λ c. search needs)
     (λ c. search needs)
-    slice-aggregate-parts-at-2
+    add-parts-at
+    (λ c. omega arith)
+    (λ c. omega arith)
+    part-parts-at-end
     parts-at-requires
     (λ c. search needs)
     (λ c. search needs)

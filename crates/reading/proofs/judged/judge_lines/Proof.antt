@@ -14,10 +14,10 @@ judge-runs-requires : tie.Need-judge-runs-requires
 judge-runs-requires c κs = (record { header-is = ap headerLine (sym (c .before .before .before .before .before .line-at .ensures)) ∙ sym (c .before .before .before .before .header-line .ensures) ∙ ap saidHeader (c .before .before .h .given .1); at-is = omega (arith, ap length (c .before .before .before .before .before .line-at .ensures)) }, c .before .before .before .before .before .before .before .pre)
 
 returns-2 : tie.Need-returns-2
-returns-2 c = (ap refused (c .wrong-form .ensures) ∙ header-form _ (ap headerLine (sym (c .before .before .before .before .line-at .ensures)) ∙ sym (c .before .before .before .header-line .ensures) ∙ ap saidHeader (c .before .enum-told .given .1)), tt)
+returns-2 c = (ap refused (c .wrong-form-at .ensures) ∙ header-form _ _ (ap headerLine (sym (c .before .before .before .before .before .line-at .ensures)) ∙ sym (c .before .before .before .before .header-line .ensures) ∙ ap saidHeader (c .before .before .byte .given .1)), tt)
 
 returns-3 : tie.Need-returns-3
-returns-3 c = (ap refused (c .out-of-range .ensures) ∙ header-range _ (ap headerLine (sym (c .before .before .before .before .line-at .ensures)) ∙ sym (c .before .before .before .header-line .ensures) ∙ ap saidHeader (c .before .enum-told2 .given .1)), tt)
+returns-3 c = (ap refused (c .out-of-range-at .ensures) ∙ header-range _ _ (ap headerLine (sym (c .before .before .before .before .before .line-at .ensures)) ∙ sym (c .before .before .before .before .header-line .ensures) ∙ ap saidHeader (c .before .before .byte2 .given .1)), tt)
 
 pub judge-lines-spec : {M : Type 1} → statement M
 judge-lines-spec =

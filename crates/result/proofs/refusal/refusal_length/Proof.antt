@@ -24,13 +24,26 @@ add-result-2 c =
       decimal-u64 (known .before .args .w .place) (omega (arith, known .struct-known .given)),
     )
 
+add-result-3 : tie.Need-add-result-3
+add-result-3 c =
+    let known = c .before .before .before in
+    omega (
+      arith,
+      c .before .before .digit-count .ensures,
+      c .before .digit-count2 .ensures,
+      c .digit-count3 .ensures,
+      decimal-u64 (known .before .args .w .number) (omega (arith, known .struct-known .given)),
+      decimal-u64 (known .before .args .w .place) (omega (arith, known .struct-known .given)),
+      decimal-u64 (known .before .args .w .byte) (omega (arith, known .struct-known .given)),
+    )
+
 returns : tie.Need-returns
 returns c =
-    let known = c .before .before in
+    let known = c .before .before .before in
     let w = known .before .args .w in
-    let sum : 4 + c .before .digit-count .result + c .digit-count2 .result ≡ length (refusalText w) =
-    omega (arith, c .before .digit-count .ensures, c .digit-count2 .ensures, refusal-length w) in
-    (sum, omega (arith, sum, refusal-most w (omega (arith, known .struct-known .given)) (omega (arith, known .struct-known .given))))
+    let sum : 5 + c .before .before .digit-count .result + c .before .digit-count2 .result + c .digit-count3 .result ≡ length (refusalText w) =
+    omega (arith, c .before .before .digit-count .ensures, c .before .digit-count2 .ensures, c .digit-count3 .ensures, refusal-length w) in
+    (sum, omega (arith, sum, refusal-most w (omega (arith, known .struct-known .given)) (omega (arith, known .struct-known .given)) (omega (arith, known .struct-known .given))))
 
 pub refusal-length-spec : {M : Type 1} → statement M
 refusal-length-spec =
@@ -41,4 +54,6 @@ refusal-length-spec =
     add-result
     (λ c κs. search needs)
     add-result-2
+    (λ c κs. search needs)
+    add-result-3
     returns)

@@ -50,35 +50,35 @@ loop-holds c =
 line-at-requires : tie.Need-line-at-requires Inv-loop μ-loop
 line-at-requires c κs = c .before .loop .inv .within
 
-mul-t16 : tie.Need-mul-t16 Inv-loop μ-loop
-mul-t16 c = omega (arith, at-loop-from-enum-told c .loop .inv, entry (at-loop-from-enum-told c) .pre)
+mul-t18 : tie.Need-mul-t18 Inv-loop μ-loop
+mul-t18 c = omega (arith, at-loop-from-enum-told c .loop .inv, entry (at-loop-from-enum-told c) .pre)
 
 slice-set-from-b : tie.Need-slice-set-from-b Inv-loop μ-loop
 slice-set-from-b c = omega (arith, at-loop-from-enum-told c .loop .inv)
 
-add-wrong-form : tie.Need-add-wrong-form Inv-loop μ-loop
-add-wrong-form c = omega (arith, at-loop (c .before .before .before) .loop .inv .high)
+add-wrong-form-at : tie.Need-add-wrong-form-at Inv-loop μ-loop
+add-wrong-form-at c = omega (arith, at-loop (c .before .before .before .before) .loop .inv .high)
 
 same-length : tie.Need-same-length Inv-loop μ-loop
-same-length c = at-loop-from-border-line (c .before .before .before) .loop .inv .as-long
+same-length c = at-loop-from-border-line (c .before .before .before .before) .loop .inv .as-long
 
 returns : tie.Need-returns Inv-loop μ-loop
 returns c =
-    let zones = entry (at-loop-from-border-line (c .before .before .before)) .args .zones in
-    let l = at-loop-from-border-line (c .before .before .before) .loop in
-    ap fault (c .wrong-form .ensures) ∙ stored-form (borderLine zones) (zoneLineNo + zones) _ _ _ _ _ _ _ (l .inv) (c .before .before .before .before .before .before .before .loop-test .taken) (line-said (c .before .before .before .before) ∙ ap (λ (r : BorderLine). saidBorder r (c .before .before .before .before .border-line .last .1 .1 .1 .0)) (c .before .enum-told2 .given .1))
+    let zones = entry (at-loop-from-border-line (c .before .before .before .before)) .args .zones in
+    let l = at-loop-from-border-line (c .before .before .before .before) .loop in
+    ap fault (c .wrong-form-at .ensures) ∙ stored-form (borderLine zones) (zoneLineNo + zones) _ _ _ _ _ _ _ (l .inv) (c .before .before .before .before .before .before .before .before .loop-test .taken) _ (line-said (c .before .before .before .before .before) ∙ ap (λ (r : BorderLine). saidBorder r (c .before .before .before .before .before .border-line .last .1 .1 .1 .0)) (c .before .before .byte .given .1))
 
-add-out-of-range : tie.Need-add-out-of-range Inv-loop μ-loop
-add-out-of-range c = omega (arith, at-loop (c .before .before .before) .loop .inv .high)
+add-out-of-range-at : tie.Need-add-out-of-range-at Inv-loop μ-loop
+add-out-of-range-at c = omega (arith, at-loop (c .before .before .before .before) .loop .inv .high)
 
 same-length-2 : tie.Need-same-length-2 Inv-loop μ-loop
-same-length-2 c = at-loop-from-border-line (c .before .before .before) .loop .inv .as-long
+same-length-2 c = at-loop-from-border-line (c .before .before .before .before) .loop .inv .as-long
 
 returns-2 : tie.Need-returns-2 Inv-loop μ-loop
 returns-2 c =
-    let zones = entry (at-loop-from-border-line (c .before .before .before)) .args .zones in
-    let l = at-loop-from-border-line (c .before .before .before) .loop in
-    ap fault (c .out-of-range .ensures) ∙ stored-range (borderLine zones) (zoneLineNo + zones) _ _ _ _ _ _ _ (l .inv) (c .before .before .before .before .before .before .before .loop-test .taken) (line-said (c .before .before .before .before) ∙ ap (λ (r : BorderLine). saidBorder r (c .before .before .before .before .border-line .last .1 .1 .1 .0)) (c .before .enum-told3 .given .1))
+    let zones = entry (at-loop-from-border-line (c .before .before .before .before)) .args .zones in
+    let l = at-loop-from-border-line (c .before .before .before .before) .loop in
+    ap fault (c .out-of-range-at .ensures) ∙ stored-range (borderLine zones) (zoneLineNo + zones) _ _ _ _ _ _ _ (l .inv) (c .before .before .before .before .before .before .before .before .loop-test .taken) _ (line-said (c .before .before .before .before .before) ∙ ap (λ (r : BorderLine). saidBorder r (c .before .before .before .before .before .border-line .last .1 .1 .1 .0)) (c .before .before .byte2 .given .1))
 
 add-p : tie.Need-add-p Inv-loop μ-loop
 add-p c =
@@ -112,15 +112,15 @@ borders-read-spec =
     (λ c. search needs)
     (λ c κs. search needs)
     (λ c. search needs)
-    mul-t16
+    mul-t18
     slice-set-from-b
     (λ c. search needs)
-    add-wrong-form
+    add-wrong-form-at
     (λ c κs. search needs)
     same-length
     returns
     (λ c. search needs)
-    add-out-of-range
+    add-out-of-range-at
     (λ c κs. search needs)
     same-length-2
     returns-2

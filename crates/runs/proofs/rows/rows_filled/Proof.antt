@@ -5,7 +5,8 @@ use Prim.Native.Nat.{_+_, _*_, _-_, _≤_}
 use native.Mathlib.Omega.{arith}
 use borrow.Author.Needs.{needs}
 use lib.ListN.{length, take, drop}
-use Rattle.runs.proofs.RowPasses.{lent-long, RowsFilled, rows-filled-none, rows-filled-room, rows-filled-holds, rows-filled-more, rows-filled-all}
+use Rattle.numbers.proofs.ListLaws.{part-long}
+use Rattle.runs.proofs.RowPasses.{RowsFilled, rows-filled-none, rows-filled-room, rows-filled-holds, rows-filled-more, rows-filled-all}
 use Rattle.runs.proofs.rows.rows_filled.Statement.{statement}
 use Rattle.runs.proofs.rows.rows_filled.Tie as tie
 
@@ -35,7 +36,7 @@ lent : (c : tie.In-loop Inv-loop μ-loop)
     → let start = c .before .loop .i * entry c .args .zones in
     let zones = entry c .args .zones in
     length (take (start + zones - start) (drop start (c .before .loop .f))) ≡ zones
-lent c = lent-long (c .before .loop .f) _ _ (room c)
+lent c = part-long (c .before .loop .f) _ _ (room c)
 
 loop-holds : tie.Need-loop-holds Inv-loop μ-loop
 loop-holds c =

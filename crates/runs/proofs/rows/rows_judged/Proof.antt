@@ -44,15 +44,15 @@ line-at-requires c κs = c .before .loop .inv .within
 
 returns : tie.Need-returns Inv-loop μ-loop
 returns c =
-    let a = entry (c .before .before .before) .args in
-    let l = c .before .before .before .before .before .before .loop in
-    ap refused (c .wrong-form .ensures) ∙ passed-line (rowLine (a .zones)) (a .first) endOf end-drops (a .text .now) (a .at) (a .count) (l .i) (l .p) (l .inv) (c .before .before .before .before .before .loop-test .taken) form (said-form _ (judged (c .before .before .before) ∙ c .before .enum-told2 .given .1))
+    let a = entry (c .before .before .before .before) .args in
+    let l = c .before .before .before .before .before .before .before .loop in
+    ap refused (c .wrong-form-at .ensures) ∙ passed-line (rowLine (a .zones)) (a .first) endOf end-drops (a .text .now) (a .at) (a .count) (l .i) (l .p) (l .inv) (c .before .before .before .before .before .before .loop-test .taken) (form _) (said-form _ _ (judged (c .before .before .before .before) ∙ c .before .before .byte .given .1))
 
 returns-2 : tie.Need-returns-2 Inv-loop μ-loop
 returns-2 c =
-    let a = entry (c .before .before .before) .args in
-    let l = c .before .before .before .before .before .before .loop in
-    ap refused (c .out-of-range .ensures) ∙ passed-line (rowLine (a .zones)) (a .first) endOf end-drops (a .text .now) (a .at) (a .count) (l .i) (l .p) (l .inv) (c .before .before .before .before .before .loop-test .taken) range (said-range _ (judged (c .before .before .before) ∙ c .before .enum-told3 .given .1))
+    let a = entry (c .before .before .before .before) .args in
+    let l = c .before .before .before .before .before .before .before .loop in
+    ap refused (c .out-of-range-at .ensures) ∙ passed-line (rowLine (a .zones)) (a .first) endOf end-drops (a .text .now) (a .at) (a .count) (l .i) (l .p) (l .inv) (c .before .before .before .before .before .before .loop-test .taken) (range _) (said-range _ _ (judged (c .before .before .before .before) ∙ c .before .before .byte2 .given .1))
 
 loop-again : tie.Need-loop-again Inv-loop μ-loop
 loop-again c =

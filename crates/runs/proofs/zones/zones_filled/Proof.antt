@@ -53,7 +53,7 @@ returns : tie.Need-returns Inv-loop μ-loop
 returns c =
     let l = at-loop (c .before .before) .loop in
     absurd (good-never _ _ (entry (c .before .before) .pre .1)
-    (stored-form zoneLine zoneLineNo _ _ _ _ _ _ _ (l .inv) (c .before .before .before .before .loop-test .taken) (line-said (c .before .before) ∙ ap saidZone (c .enum-told .given .1))))
+    (stored-form zoneLine zoneLineNo _ _ _ _ _ _ _ (l .inv) (c .before .before .before .before .loop-test .taken) _ (line-said (c .before .before) ∙ ap saidZone (c .enum-told .given .1))))
 
 same-length-2 : tie.Need-same-length-2 Inv-loop μ-loop
 same-length-2 c = at-loop (c .before .before) .loop .inv .as-long
@@ -62,7 +62,7 @@ returns-2 : tie.Need-returns-2 Inv-loop μ-loop
 returns-2 c =
     let l = at-loop (c .before .before) .loop in
     absurd (good-never _ _ (entry (c .before .before) .pre .1)
-    (stored-range zoneLine zoneLineNo _ _ _ _ _ _ _ (l .inv) (c .before .before .before .before .loop-test .taken) (line-said (c .before .before) ∙ ap saidZone (c .enum-told2 .given .1))))
+    (stored-range zoneLine zoneLineNo _ _ _ _ _ _ _ (l .inv) (c .before .before .before .before .loop-test .taken) _ (line-said (c .before .before) ∙ ap saidZone (c .enum-told2 .given .1))))
 
 add-p : tie.Need-add-p Inv-loop μ-loop
 add-p c =

@@ -17,10 +17,10 @@ use Rattle.runs.proofs.zones.zones_judged.Statement.{statement}
 use Rattle.runs.proofs.zones.zones_judged.Tie as tie
 
 abbrev Inv-loop : tie.InvT-loop
-Inv-loop text at count i₀ p₀ i p = Passed zoneLine zoneLineNo endOf end-drops text at count i p
+Inv-loop text at count first i₀ p₀ i p = Passed zoneLine zoneLineNo endOf end-drops text at count i p
 
 abbrev μ-loop : tie.MeasureT-loop
-μ-loop text at count i₀ p₀ i p = count - i
+μ-loop text at count first i₀ p₀ i p = count - i
 
 abbrev at-loop : tie.After-zone-line Inv-loop μ-loop → tie.At-loop Inv-loop μ-loop
 at-loop c = c .before .before .before
@@ -39,13 +39,13 @@ line-at-requires c κs = c .before .loop .inv .within
 
 returns : tie.Need-returns Inv-loop μ-loop
 returns c =
-    let l = at-loop (c .before .before .before) .loop in
-    ap refused (c .wrong-form .ensures) ∙ passed-line zoneLine zoneLineNo endOf end-drops _ _ _ _ _ (l .inv) (c .before .before .before .before .before .loop-test .taken) form (line-said (c .before .before .before) ∙ ap saidZone (c .before .enum-told2 .given .1))
+    let l = at-loop (c .before .before .before .before) .loop in
+    ap refused (c .wrong-form-at .ensures) ∙ passed-line zoneLine zoneLineNo endOf end-drops _ _ _ _ _ (l .inv) (c .before .before .before .before .before .before .loop-test .taken) (form _) (line-said (c .before .before .before .before) ∙ ap saidZone (c .before .before .byte .given .1))
 
 returns-2 : tie.Need-returns-2 Inv-loop μ-loop
 returns-2 c =
-    let l = at-loop (c .before .before .before) .loop in
-    ap refused (c .out-of-range .ensures) ∙ passed-line zoneLine zoneLineNo endOf end-drops _ _ _ _ _ (l .inv) (c .before .before .before .before .before .loop-test .taken) range (line-said (c .before .before .before) ∙ ap saidZone (c .before .enum-told3 .given .1))
+    let l = at-loop (c .before .before .before .before) .loop in
+    ap refused (c .out-of-range-at .ensures) ∙ passed-line zoneLine zoneLineNo endOf end-drops _ _ _ _ _ (l .inv) (c .before .before .before .before .before .before .loop-test .taken) (range _) (line-said (c .before .before .before .before) ∙ ap saidZone (c .before .before .byte2 .given .1))
 
 add-p : tie.Need-add-p Inv-loop μ-loop
 add-p c =

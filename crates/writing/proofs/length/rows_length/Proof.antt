@@ -3,12 +3,12 @@ use mathlib.Core.Path.{_≡_}
 use Prim.Native.Nat.{_*_, _≤_, _+_, _-_}
 use native.Mathlib.Omega.{arith}
 use lib.ListN.{length}
+use Rattle.numbers.proofs.ListLaws.{part-long}
 use Rattle.numbers.proofs.BelowLaws.{Summed, summed-none, summed-more}
 use Rattle.table.specs.Table.{stretch}
 use Rattle.table.proofs.StretchLaws.{stretch-end}
 use Rattle.writing.specs.Writing.{rowTextAt}
-use Rattle.runs.proofs.RowPasses.{lent-long}
-use Rattle.writing.proofs.TextLaws.{part-long, sum-within, sum-lines}
+use Rattle.writing.proofs.TextLaws.{part-count, sum-within, sum-lines}
 use Rattle.kinds.specs.Limits.{bytesMost}
 use Rattle.writing.proofs.length.rows_length.Statement.{statement}
 use Rattle.writing.proofs.length.rows_length.Tie as tie
@@ -28,7 +28,7 @@ entry c = c .before .before .before
 
 counted : (c : tie.After-row-length Inv-loop μ-loop) → let s = entry (c .before .before) in c .row-length .result ≡ length (rowTextAt (s .args .zones) (s .args .c .now) (s .args .f .now) (c .before .before .before .before .loop .i))
 unfolding stretch
-counted c = rw (part-long (c .before .before .before .before .loop .i) (entry (c .before .before) .args .zones)) at (c .row-length .ensures)
+counted c = rw (part-count (c .before .before .before .before .loop .i) (entry (c .before .before) .args .zones)) at (c .row-length .ensures)
 
 loop-holds : tie.Need-loop-holds Inv-loop μ-loop
 loop-holds c = summed-none _ _
@@ -53,8 +53,8 @@ unfolding stretch
 row-length-requires c κs =
     let s = entry (c .before) in
     let i = c .before .before .before .loop .i in
-    let n = lent-long (s .args .f .now) (i * s .args .zones) (s .args .zones) (omega (arith, stretch-end (s .args .zones) (length (s .args .c .now)) i (omega arith), s .pre .0)) in
-    (omega (arith, n, s .pre .1), omega (arith, n, s .pre .2), rw (part-long (c .before .before .before .loop .i) (s .args .zones)) (omega (arith, within (c .before .before))))
+    let n = part-long (s .args .f .now) (i * s .args .zones) (s .args .zones) (omega (arith, stretch-end (s .args .zones) (length (s .args .c .now)) i (omega arith), s .pre .0)) in
+    (omega (arith, n, s .pre .1), omega (arith, n, s .pre .2), rw (part-count (c .before .before .before .loop .i) (s .args .zones)) (omega (arith, within (c .before .before))))
 
 add-sum : tie.Need-add-sum Inv-loop μ-loop
 add-sum c = omega (arith, within (c .before .before .before), counted c)

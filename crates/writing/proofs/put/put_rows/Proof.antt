@@ -2,11 +2,11 @@
 use Prim.Native.Nat.{_*_, _≤_, _-_}
 use native.Mathlib.Omega.{arith}
 use lib.ListN.{length}
+use Rattle.numbers.proofs.ListLaws.{part-long}
 use Rattle.table.specs.Table.{stretch}
 use Rattle.table.proofs.StretchLaws.{stretch-end}
 use Rattle.writing.specs.Writing.{rowTextAt, rowsText}
-use Rattle.runs.proofs.RowPasses.{lent-long}
-use Rattle.writing.proofs.TextLaws.{part-long}
+use Rattle.writing.proofs.TextLaws.{part-count}
 use Rattle.text.specs.Written.{linesText}
 use Rattle.text.specs.Put.{Put}
 use Rattle.text.proofs.PutLaws.{lines-none, lines-more, lines-all, lines-room, put-kept}
@@ -48,15 +48,15 @@ unfolding stretch
 put-row-requires c κs =
     let s = entry-from-loop (c .before .before) in
     let head = c .before .before .before .before .loop in
-    let n = lent-long (s .args .f .now) (head .i * s .args .zones) (s .args .zones) (omega (arith, stretch-end (s .args .zones) (length (s .args .c .now)) (head .i) (omega arith), s .pre .0)) in
-    (omega (arith, n, s .pre .1), omega (arith, n, s .pre .2), rw (part-long (head .i) (s .args .zones)) (lines-room (rowTextAt (s .args .zones) (s .args .c .now) (s .args .f .now)) (head .i) (length (s .args .c .now)) (omega arith) (s .pre .3) (head .inv .1)))
+    let n = part-long (s .args .f .now) (head .i * s .args .zones) (s .args .zones) (omega (arith, stretch-end (s .args .zones) (length (s .args .c .now)) (head .i) (omega arith), s .pre .0)) in
+    (omega (arith, n, s .pre .1), omega (arith, n, s .pre .2), rw (part-count (head .i) (s .args .zones)) (lines-room (rowTextAt (s .args .zones) (s .args .c .now) (s .args .f .now)) (head .i) (length (s .args .c .now)) (omega arith) (s .pre .3) (head .inv .1)))
 
 loop-again : tie.Need-loop-again Inv-loop μ-loop
 unfolding stretch
 loop-again c =
     let s = c .before .before .before .before .before .before .before .before .before in
     let head = c .before .before .before .before .before .before .before .loop in
-    (omega arith, lines-more (rowTextAt (s .args .zones) (s .args .c .now) (s .args .f .now)) (omega (arith, s .pre .3)) (head .inv .1) (rw (part-long (head .i) (s .args .zones)) at (c .before .before .put-row .ensures)))
+    (omega arith, lines-more (rowTextAt (s .args .zones) (s .args .c .now) (s .args .f .now)) (omega (arith, s .pre .3)) (head .inv .1) (rw (part-count (head .i) (s .args .zones)) at (c .before .before .put-row .ensures)))
 
 -- all lines are written
 all : (c : tie.After-loop Inv-loop μ-loop) → let s = entry (c .before) in Put (rowsText (s .args .zones) (s .args .c .now) (s .args .f .now)) (s .args .at) (s .args .out .now) (c .before .loop .next) (c .before .loop .out)

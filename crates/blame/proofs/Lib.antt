@@ -1,0 +1,9 @@
+pub mod Anchors
+pub mod BlameLaws
+pub mod RangeLaws
+pub mod NumberBad
+pub mod AgreeLaws
+pub mod FieldBad
+pub mod Blames
+pub mod Faults
+pub mod Within

@@ -1,0 +1,14 @@
+-- `blame::range::less` meets its contract.
+use borrow.Author.Needs.{needs}
+use borrow.Author.Tests.{eq-eqb, ne-eqb}
+use Rattle.blame.proofs.range.less.Statement.{statement}
+use Rattle.blame.proofs.range.less.Tie as tie
+
+returns : tie.Need-returns
+returns c = rw (eq-eqb _ _ (c .if1 .taken))
+
+returns-2 : tie.Need-returns-2
+returns-2 c = rw (ne-eqb _ _ (c .if1 .left))
+
+pub less-spec : {M : Type 1} → statement M
+less-spec = tie.close (tie.spec (λ c. search needs) returns returns-2)

@@ -1,0 +1,119 @@
+// The byte to blame in a faulty line (02, E5), from 1; 0 where none is. A line is asked for it only where it was refused, so a good line costs nothing.
+// The byte that parts the fields is an argument, `sep`; a line ends in an LF.
+pub mod range;
+
+use columns::read::field_at;
+use columns::read::stop_of;
+use text::Number;
+use text::Signed;
+use text::field::number_at;
+ghost use mathlib.Core.Path.{_≡_};
+ghost use Rattle.kinds.specs.LineColumns.{columnOf, columnsOf};
+ghost use Rattle.blame.specs.Blame.{isWhole, goodAt, byteAt, blamed, fieldsByte, otherIndex, endedByte, lineByte, plainByte};
+
+// A line with its letter, its index and its columns, those that may be left out among them.
+pub fn line_byte(sep: u8, letter: u8, columns: &[u8], line: &[u8], i: usize) -> usize
+    ensures { λ r. ⌜ r ≡ lineByte sep letter (columnsOf (now (columns .entry))) (now (line .entry)) i ⌝ }
+{
+    if !text::line::headed(line, letter, sep) {
+        return 0;
+    }
+    match number_at(line, 2, sep) {
+        Number::Value(index, next) => {
+            if index == i as u64 {
+                return fields_byte(sep, columns, line, next);
+            }
+            INDEX_FIRST
+        }
+        Number::Bad(place) => ended_byte(sep, line, i, place),
+    }
+}
+
+// The first byte of the index, after the letter and the byte that parts them.
+const INDEX_FIRST: usize = 3;
+
+// The index that `sep` does not end: where an LF ends it, another line's index is still named.
+fn ended_byte(sep: u8, line: &[u8], i: usize, place: usize) -> usize
+    ensures { λ r. ⌜ r ≡ endedByte sep (now (line .entry)) i place ⌝ }
+{
+    if other_index(i, number_at(line, 2, b'\n')) {
+        return INDEX_FIRST;
+    }
+    byte_at(sep, b'n', line, 2, place)
+}
+
+fn other_index(i: usize, found: Number) -> bool
+    ensures { λ r. ⌜ r ≡ otherIndex i found ⌝ }
+{
+    match found {
+        Number::Value(index, _) => index != i as u64,
+        Number::Bad(_) => false,
+    }
+}
+
+// A line that has no index.
+pub fn plain_byte(sep: u8, letter: u8, columns: &[u8], line: &[u8]) -> usize
+    ensures { λ r. ⌜ r ≡ plainByte sep letter (columnsOf (now (columns .entry))) (now (line .entry)) ⌝ }
+{
+    if !text::line::headed(line, letter, sep) {
+        return 0;
+    }
+    fields_byte(sep, columns, line, 2)
+}
+
+// The fields of the columns from place `at` on: the first that is bad.
+fn fields_byte(sep: u8, columns: &[u8], line: &[u8], at: usize) -> usize
+    ensures { λ r. ⌜ r ≡ fieldsByte sep (columnsOf (now (columns .entry))) (now (line .entry)) at ⌝ }
+{
+    let n = columns.len();
+    let mut p = at;
+    let mut k = 0;
+    while k < n {
+        let found = field_at(columns[k], line, p, stop_of(n - k, sep, b'\n'));
+        let Signed::Whole(_, next) = found else {
+            return blamed(sep, columns[k], line, p, found);
+        };
+        p = next;
+        k += 1;
+    }
+    0
+}
+
+// The byte of what a field came to.
+fn blamed(sep: u8, column: u8, line: &[u8], at: usize, found: Signed) -> usize
+    ensures { λ r. ⌜ r ≡ blamed sep (columnOf column) (now (line .entry)) at found ⌝ }
+{
+    match found {
+        Signed::Whole(_, _) => 0,
+        Signed::Wrong(place) => byte_at(sep, column, line, at, place),
+    }
+}
+
+// None where the field itself is good, so that the fields are too few or too many, or where the line ends.
+fn byte_at(sep: u8, column: u8, line: &[u8], at: usize, place: usize) -> usize
+    ensures { λ r. ⌜ r ≡ byteAt sep (columnOf column) (now (line .entry)) at place ⌝ }
+{
+    if good_at(sep, column, line, at) {
+        return 0;
+    }
+    if place < line.len() { place + 1 } else { 0 }
+}
+
+// Whether a field is good before `sep` or before an LF.
+fn good_at(sep: u8, column: u8, line: &[u8], at: usize) -> bool
+    ensures { λ r. ⌜ r ≡ goodAt sep (columnOf column) (now (line .entry)) at ⌝ }
+{
+    if whole(field_at(column, line, at, sep)) {
+        return true;
+    }
+    whole(field_at(column, line, at, b'\n'))
+}
+
+fn whole(found: Signed) -> bool
+    ensures { λ r. ⌜ r ≡ isWhole found ⌝ }
+{
+    match found {
+        Signed::Whole(_, _) => true,
+        Signed::Wrong(_) => false,
+    }
+}
