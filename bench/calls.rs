@@ -8,6 +8,7 @@ pub struct Header {
     pub borders: usize,
     pub rows: usize,
     pub share: i64,
+    pub intraday: usize,
 }
 
 #[repr(C)]
@@ -19,6 +20,7 @@ pub struct Read {
     pub borders: usize,
     pub rows: usize,
     pub share: i64,
+    pub intraday: usize,
 }
 
 #[repr(C)]
@@ -63,33 +65,36 @@ macro_rules! linked {
 linked! {
     fn keravnoth_read(
         text: *const u8, n: usize,
-        z: *mut i64, nz: usize, b: *mut [i64; 5], nb: usize, c: *mut [i64; 7], nc: usize, f: *mut i64, nf: usize
+        z: *mut i64, nz: usize, t: *mut i64, nt: usize, b: *mut [i64; 5], nb: usize, c: *mut [i64; 7], nc: usize, f: *mut i64, nf: usize
     ) -> Read;
     fn keravnoth_write(
         header: Header,
-        z: *const i64, nz: usize, b: *const [i64; 5], nb: usize, c: *const [i64; 7], nc: usize, f: *const i64, nf: usize,
+        z: *const i64, nz: usize, t: *const i64, nt: usize, b: *const [i64; 5], nb: usize, c: *const [i64; 7], nc: usize, f: *const i64, nf: usize,
         out: *mut u8, nout: usize
     ) -> Written;
     fn keravnoth_extract(
         header: Header,
-        z: *const i64, nz: usize, b: *const [i64; 5], nb: usize, c: *const [i64; 7], nc: usize, f: *const i64, nf: usize,
+        z: *const i64, nz: usize, t: *const i64, nt: usize, b: *const [i64; 5], nb: usize, c: *const [i64; 7], nc: usize, f: *const i64, nf: usize,
         p: *mut u64, np: usize, atc: *mut [i64; 1], natc: usize, left: *mut [i64; 3], nleft: usize
     ) -> Extracted;
     fn keravnoth_result_text(
         header: Header,
-        z: *const i64, nz: usize, b: *const [i64; 5], nb: usize, c: *const [i64; 7], nc: usize, f: *const i64, nf: usize,
+        z: *const i64, nz: usize, t: *const i64, nt: usize, b: *const [i64; 5], nb: usize, c: *const [i64; 7], nc: usize, f: *const i64, nf: usize,
         out: *mut u8, nout: usize
     ) -> Written;
     fn keravnoth_answer(text: *const u8, n: usize, out: *mut u8, nout: usize) -> Written;
 }
+
+/// The hours of the bench are of the day-ahead profile: they have no T.
+const NO_T: [i64; 0] = [];
 
 /// A call on a lent table, which comes first, and on the buffers that follow it.
 macro_rules! on_lent {
     ($call:ident($lent:expr $(, $buffer:expr)*)) => {{
         let Lent { zones, borders, rows, share, z, b, c, f } = *$lent;
         $call(
-            Header { zones, borders, rows, share },
-            z.as_ptr(), z.len(), b.as_ptr(), b.len(), c.as_ptr(), c.len(), f.as_ptr(), f.len(),
+            Header { zones, borders, rows, share, intraday: 0 },
+            z.as_ptr(), z.len(), NO_T.as_ptr(), NO_T.len(), b.as_ptr(), b.len(), c.as_ptr(), c.len(), f.as_ptr(), f.len(),
             $($buffer.as_mut_ptr(), $buffer.len()),*
         )
     }};
@@ -99,7 +104,7 @@ pub fn read(text: &[u8], z: &mut [i64], b: &mut [[i64; 5]], c: &mut [[i64; 7]], 
     unsafe {
         keravnoth_read(
             text.as_ptr(), text.len(),
-            z.as_mut_ptr(), z.len(), b.as_mut_ptr(), b.len(), c.as_mut_ptr(), c.len(), f.as_mut_ptr(), f.len(),
+            z.as_mut_ptr(), z.len(), [0; 0].as_mut_ptr(), 0, b.as_mut_ptr(), b.len(), c.as_mut_ptr(), c.len(), f.as_mut_ptr(), f.len(),
         )
     }
 }

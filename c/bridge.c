@@ -6,12 +6,12 @@
  *
  * A word has 64 bits, the least byte first, as numbers lie in memory on x86-64.
  *
- * A request: sixteen words, then the lent buffers.  The words are the call, its
- * header (zones, borders, rows, share) and its row (each 0 where the call takes
- * none), and the counts of items of z, b, c, f, p, atc, left, flows, text and out
- * (0 where the call does not take that buffer).  The buffers that the call takes follow in
- * this order, each with BEFORE items before the lent part and AFTER items after
- * it.
+ * A request: eighteen words, then the lent buffers.  The words are the call, its
+ * header (zones, borders, rows, share, intraday) and its row (each 0 where the call
+ * takes none), and the counts of items of z, t, b, c, f, p, atc, left, flows, text
+ * and out (0 where the call does not take that buffer).  The buffers that the call
+ * takes follow in this order, each with BEFORE items before the lent part and AFTER
+ * items after it.
  *
  * An answer: the fields of the call's struct, a word each, then the same buffers
  * as the call left them, with what lies around them: whoever asks compares it.
@@ -35,13 +35,14 @@ enum {
 };
 
 /* Buffers of numbers stand before buffers of bytes, so each is aligned. */
-enum { Z, B, C, F, P, ATC, LEFT, FLOWS, TEXT, OUT, BUFFERS };
+enum { Z, T, B, C, F, P, ATC, LEFT, FLOWS, TEXT, OUT, BUFFERS };
 
 typedef int64_t border_record[KERAVNOTH_B_ITEMS];
 typedef int64_t row_record[KERAVNOTH_C_ITEMS];
 
 static const size_t item_bytes[BUFFERS] = {
     [Z] = sizeof(int64_t),
+    [T] = sizeof(int64_t),
     [B] = sizeof(border_record),
     [C] = sizeof(row_record),
     [F] = sizeof(int64_t),
@@ -55,13 +56,13 @@ static const size_t item_bytes[BUFFERS] = {
 
 /* 1: the call takes the buffer. */
 static const unsigned char takes[CALLS][BUFFERS] = {
-    [READ] = {[Z] = 1, [B] = 1, [C] = 1, [F] = 1, [TEXT] = 1},
-    [WRITE] = {[Z] = 1, [B] = 1, [C] = 1, [F] = 1, [OUT] = 1},
-    [EXTRACT] = {[Z] = 1, [B] = 1, [C] = 1, [F] = 1, [P] = 1, [ATC] = 1, [LEFT] = 1},
-    [RESULT_TEXT] = {[Z] = 1, [B] = 1, [C] = 1, [F] = 1, [OUT] = 1},
+    [READ] = {[Z] = 1, [T] = 1, [B] = 1, [C] = 1, [F] = 1, [TEXT] = 1},
+    [WRITE] = {[Z] = 1, [T] = 1, [B] = 1, [C] = 1, [F] = 1, [OUT] = 1},
+    [EXTRACT] = {[Z] = 1, [T] = 1, [B] = 1, [C] = 1, [F] = 1, [P] = 1, [ATC] = 1, [LEFT] = 1},
+    [RESULT_TEXT] = {[Z] = 1, [T] = 1, [B] = 1, [C] = 1, [F] = 1, [OUT] = 1},
     [ANSWER] = {[TEXT] = 1, [OUT] = 1},
-    [CORNER_FLOWS] = {[Z] = 1, [B] = 1, [C] = 1, [F] = 1, [FLOWS] = 1},
-    [CORNER_TEXT] = {[Z] = 1, [B] = 1, [C] = 1, [F] = 1, [OUT] = 1},
+    [CORNER_FLOWS] = {[Z] = 1, [T] = 1, [B] = 1, [C] = 1, [F] = 1, [FLOWS] = 1},
+    [CORNER_TEXT] = {[Z] = 1, [T] = 1, [B] = 1, [C] = 1, [F] = 1, [OUT] = 1},
 };
 
 /* The most bytes that the buffers of a request may have, guards included. */
@@ -71,11 +72,12 @@ struct request {
     uint64_t call;
     uint64_t zones, borders, rows;
     int64_t share;
+    uint64_t intraday;
     uint64_t row;
     uint64_t count[BUFFERS];
 };
 
-_Static_assert(sizeof(struct request) == 16 * sizeof(uint64_t), "sixteen words");
+_Static_assert(sizeof(struct request) == 18 * sizeof(uint64_t), "eighteen words");
 
 static int malformed(const char *what)
 {
@@ -84,20 +86,21 @@ static int malformed(const char *what)
 }
 
 /* The header of a request as every call on lent tables takes it. */
-#define HEADER(r) ((struct KeravnothHeader){(r)->zones, (r)->borders, (r)->rows, (r)->share})
+#define HEADER(r) ((struct KeravnothHeader){(r)->zones, (r)->borders, (r)->rows, (r)->share, (r)->intraday})
 
 /* Makes the call; how many words its answer has.  at: the lent parts. */
 static size_t make(const struct request *r, unsigned char *const *at, uint64_t *answer)
 {
     int64_t *z = (int64_t *)at[Z];
+    int64_t *t = (int64_t *)at[T];
     border_record *b = (border_record *)at[B];
     row_record *c = (row_record *)at[C];
     int64_t *f = (int64_t *)at[F];
-    size_t nz = r->count[Z], nb = r->count[B], nc = r->count[C], nf = r->count[F];
+    size_t nz = r->count[Z], nt = r->count[T], nb = r->count[B], nc = r->count[C], nf = r->count[F];
 
     if (r->call == READ) {
         struct KeravnothRead said = keravnoth_read(
-            at[TEXT], r->count[TEXT], z, nz, b, nb, c, nc, f, nf);
+            at[TEXT], r->count[TEXT], z, nz, t, nt, b, nb, c, nc, f, nf);
         answer[0] = said.number;
         answer[1] = said.place;
         answer[2] = said.byte;
@@ -105,12 +108,13 @@ static size_t make(const struct request *r, unsigned char *const *at, uint64_t *
         answer[4] = said.borders;
         answer[5] = said.rows;
         answer[6] = said.share;
-        return 7;
+        answer[7] = said.intraday;
+        return 8;
     }
     if (r->call == EXTRACT) {
         struct KeravnothExtracted said = keravnoth_extract(
             HEADER(r),
-            z, nz, (const border_record *)b, nb, (const row_record *)c, nc, f, nf,
+            z, nz, t, nt, (const border_record *)b, nb, (const row_record *)c, nc, f, nf,
             (uint64_t *)at[P], r->count[P],
             (int64_t (*)[KERAVNOTH_ATC_ITEMS])at[ATC], r->count[ATC],
             (int64_t (*)[KERAVNOTH_LEFT_ITEMS])at[LEFT], r->count[LEFT]);
@@ -123,7 +127,7 @@ static size_t make(const struct request *r, unsigned char *const *at, uint64_t *
     if (r->call == CORNER_FLOWS) {
         struct KeravnothFlows said = keravnoth_corner_flows(
             HEADER(r),
-            z, nz, (const border_record *)b, nb, (const row_record *)c, nc, f, nf,
+            z, nz, t, nt, (const border_record *)b, nb, (const row_record *)c, nc, f, nf,
             r->row, (int64_t *)at[FLOWS], r->count[FLOWS]);
         answer[0] = said.number;
         answer[1] = said.place;
@@ -135,17 +139,17 @@ static size_t make(const struct request *r, unsigned char *const *at, uint64_t *
     if (r->call == WRITE)
         said = keravnoth_write(
             HEADER(r),
-            z, nz, (const border_record *)b, nb, (const row_record *)c, nc, f, nf,
+            z, nz, t, nt, (const border_record *)b, nb, (const row_record *)c, nc, f, nf,
             at[OUT], r->count[OUT]);
     else if (r->call == RESULT_TEXT)
         said = keravnoth_result_text(
             HEADER(r),
-            z, nz, (const border_record *)b, nb, (const row_record *)c, nc, f, nf,
+            z, nz, t, nt, (const border_record *)b, nb, (const row_record *)c, nc, f, nf,
             at[OUT], r->count[OUT]);
     else if (r->call == CORNER_TEXT)
         said = keravnoth_corner_text(
             HEADER(r),
-            z, nz, (const border_record *)b, nb, (const row_record *)c, nc, f, nf,
+            z, nz, t, nt, (const border_record *)b, nb, (const row_record *)c, nc, f, nf,
             r->row, at[OUT], r->count[OUT]);
     else
         said = keravnoth_answer(at[TEXT], r->count[TEXT], at[OUT], r->count[OUT]);
@@ -198,7 +202,7 @@ int main(void)
         if (fread(memory, 1, bytes, stdin) != bytes)
             return malformed("its buffers are cut short");
 
-        uint64_t answer[7];
+        uint64_t answer[8];
         size_t words = make(&r, at, answer);
         if (fwrite(answer, sizeof answer[0], words, stdout) != words
             || fwrite(memory, 1, bytes, stdout) != bytes || fflush(stdout) != 0) {

@@ -27,6 +27,7 @@ struct room {
     struct KeravnothRead table;
     size_t n, row;
     int64_t z[KERAVNOTH_ZONES_MOST];
+    int64_t t[KERAVNOTH_ZONES_MOST];
     int64_t b[KERAVNOTH_BORDERS_MOST][KERAVNOTH_B_ITEMS];
     int64_t c[KERAVNOTH_ROWS_MOST][KERAVNOTH_C_ITEMS];
     int64_t f[KERAVNOTH_FACTORS_MOST];
@@ -44,19 +45,22 @@ static struct room rooms[THREADS];
 #define C(r) ((const int64_t (*)[KERAVNOTH_C_ITEMS])(r)->c)
 #define TABLE(r) \
     header(r), \
-    (r)->z, KERAVNOTH_ZONES_MOST, B(r), KERAVNOTH_BORDERS_MOST, \
+    (r)->z, KERAVNOTH_ZONES_MOST, (r)->t, KERAVNOTH_ZONES_MOST, \
+    B(r), KERAVNOTH_BORDERS_MOST, \
     C(r), KERAVNOTH_ROWS_MOST, (r)->f, KERAVNOTH_FACTORS_MOST
 
 static struct KeravnothHeader header(const struct room *r)
 {
     return (struct KeravnothHeader){
-        r->table.zones, r->table.borders, r->table.rows, r->table.share};
+        r->table.zones, r->table.borders, r->table.rows, r->table.share,
+        r->table.intraday};
 }
 
 static void read_(struct room *r)
 {
     r->table = keravnoth_read(
-        r->text, r->n, r->z, KERAVNOTH_ZONES_MOST, r->b, KERAVNOTH_BORDERS_MOST,
+        r->text, r->n, r->z, KERAVNOTH_ZONES_MOST, r->t, KERAVNOTH_ZONES_MOST,
+        r->b, KERAVNOTH_BORDERS_MOST,
         r->c, KERAVNOTH_ROWS_MOST, r->f, KERAVNOTH_FACTORS_MOST);
 }
 
@@ -175,19 +179,19 @@ static int check_null(const char *name)
     read_(r);
     int same = r->table.number == KERAVNOTH_ACCEPTED;
     same &= SAME(
-        keravnoth_read(NULL, 0, NULL, 0, NULL, 0, NULL, 0, NULL, 0),
-        keravnoth_read(r->text, 0, r->z, 0, r->b, 0, r->c, 0, r->f, 0));
+        keravnoth_read(NULL, 0, NULL, 0, NULL, 0, NULL, 0, NULL, 0, NULL, 0),
+        keravnoth_read(r->text, 0, r->z, 0, r->t, 0, r->b, 0, r->c, 0, r->f, 0));
     same &= SAME(
-        keravnoth_read(r->text, r->n, NULL, 0, NULL, 0, NULL, 0, NULL, 0),
-        keravnoth_read(r->text, r->n, r->z, 0, r->b, 0, r->c, 0, r->f, 0));
+        keravnoth_read(r->text, r->n, NULL, 0, NULL, 0, NULL, 0, NULL, 0, NULL, 0),
+        keravnoth_read(r->text, r->n, r->z, 0, r->t, 0, r->b, 0, r->c, 0, r->f, 0));
     same &= SAME(
         keravnoth_answer(NULL, 0, NULL, 0),
         keravnoth_answer(r->text, 0, r->out, 0));
     same &= SAME(
         keravnoth_answer(r->text, r->n, NULL, 0),
         keravnoth_answer(r->text, r->n, r->out, 0));
-#define NONE NULL, 0, NULL, 0, NULL, 0, NULL, 0
-#define SOME r->z, 0, B(r), 0, C(r), 0, r->f, 0
+#define NONE NULL, 0, NULL, 0, NULL, 0, NULL, 0, NULL, 0
+#define SOME r->z, 0, r->t, 0, B(r), 0, C(r), 0, r->f, 0
     same &= SAME(
         keravnoth_write(header(r), NONE, NULL, 0),
         keravnoth_write(header(r), SOME, r->out, 0));

@@ -26,6 +26,7 @@
 /* One byte more than is ever taken, so that a longer file is seen as such. */
 static uint8_t text[KERAVNOTH_TEXT_MOST + 1];
 static int64_t z[KERAVNOTH_ZONES_MOST];
+static int64_t t[KERAVNOTH_ZONES_MOST];
 static int64_t b[KERAVNOTH_BORDERS_MOST][KERAVNOTH_B_ITEMS];
 static int64_t c[KERAVNOTH_ROWS_MOST][KERAVNOTH_C_ITEMS];
 static int64_t f[KERAVNOTH_FACTORS_MOST];
@@ -58,7 +59,7 @@ static int refused(uint32_t number, size_t place, size_t byte)
 
 static struct KeravnothHeader header_of(const struct KeravnothRead *table)
 {
-    return (struct KeravnothHeader){table->zones, table->borders, table->rows, table->share};
+    return (struct KeravnothHeader){table->zones, table->borders, table->rows, table->share, table->intraday};
 }
 
 /* C before C23 does not turn a pointer to a record into one to a const record by
@@ -68,6 +69,7 @@ static int print_capacities(const struct KeravnothRead *table)
     struct KeravnothExtracted work = keravnoth_extract(
         header_of(table),
         z, KERAVNOTH_ZONES_MOST,
+        t, KERAVNOTH_ZONES_MOST,
         (const int64_t (*)[KERAVNOTH_B_ITEMS])b, KERAVNOTH_BORDERS_MOST,
         (const int64_t (*)[KERAVNOTH_C_ITEMS])c, KERAVNOTH_ROWS_MOST,
         f, KERAVNOTH_FACTORS_MOST,
@@ -86,6 +88,7 @@ static int print_heaviest_corners(const struct KeravnothRead *table)
         struct KeravnothFlows sheet = keravnoth_corner_flows(
             header_of(table),
             z, KERAVNOTH_ZONES_MOST,
+            t, KERAVNOTH_ZONES_MOST,
             (const int64_t (*)[KERAVNOTH_B_ITEMS])b, KERAVNOTH_BORDERS_MOST,
             (const int64_t (*)[KERAVNOTH_C_ITEMS])c, KERAVNOTH_ROWS_MOST,
             f, KERAVNOTH_FACTORS_MOST,
@@ -124,7 +127,7 @@ int main(int argc, char **argv)
 
     struct KeravnothRead table = keravnoth_read(
         text, n,
-        z, KERAVNOTH_ZONES_MOST, b, KERAVNOTH_BORDERS_MOST,
+        z, KERAVNOTH_ZONES_MOST, t, KERAVNOTH_ZONES_MOST, b, KERAVNOTH_BORDERS_MOST,
         c, KERAVNOTH_ROWS_MOST, f, KERAVNOTH_FACTORS_MOST);
     if (table.number != KERAVNOTH_ACCEPTED)
         return refused(table.number, table.place, table.byte);

@@ -11,9 +11,9 @@ mod dice;
 mod second;
 
 use dice::Dice;
-use second::{without_hubs, Border, Header, Outcome, Tables, NO_SHARE};
+use second::{without_hubs, Border, Header, Outcome, Tables, NO_SHARE, NO_T};
 
-const FULL: Header = Header { zones: 16, borders: 40, rows: 200, share: NO_SHARE };
+const FULL: Header = Header { zones: 16, borders: 40, rows: 200, share: NO_SHARE, intraday: NO_T };
 
 const SEED_PLAIN: u64 = 1;
 const PLAIN: Kind = Kind { header: FULL, one_way: false, reach: 0, lta_step: 0, cable: false, steepest: 25_000, tight: 0 };
@@ -88,8 +88,26 @@ C 2 500000 300000 20000 10000 - 10000 0 12000 0 -8000
 C 3 100000 20000 5000 0 - 0 0 3000 0 0
 ";
 
+/// A small hour after the coupling, made by hand: a row that the allocated positions
+/// load beyond its RAM, one that they relieve, and one that two borders share.
+const INTRADAY: &str = "H 3 3 4
+Z 0 400000
+Z 1 100000
+Z 2 -500000
+T 0 600000
+T 1 200000
+T 2 -800000
+B 0 0 1 100
+B 1 1 2 200
+B 2 2 1 50
+C 0 500000 50000 100000 10000 7000 0 0 20000 0 0
+C 1 100000 10000 45000 0 7000 0 30000 5000 15000 0
+C 2 200000 20000 -20000 0 - 0 0 0 0 10000
+C 3 600000 60000 60000 10000 7000 0 0 10000 0 -10000
+";
+
 fn extract(t: &Tables) -> Option<Outcome> {
-    second::extract(t.header, &t.z, &t.b, &t.c, &t.f, usize::MAX, usize::MAX, usize::MAX).ok()
+    second::extract(t.lend(), usize::MAX, usize::MAX, usize::MAX).ok()
 }
 
 /// A row as the quick rounds see it: the borders that load it, each with its p.
@@ -298,7 +316,7 @@ fn plausible(seed: u64, kind: Kind) -> Tables {
         f.extend(own);
         c.push([fmax, fmax * d.within(5, 15) / 100, fref, f0all, r, 0, 0]);
     }
-    let mut t = Tables { header: kind.header, z, b, c, f };
+    let mut t = Tables { header: kind.header, z, t: vec![], b, c, f };
     // a few rows with a validation cut, never more than the row has to spare
     for row in 0..rows {
         let m = second::margin_of(&t, row);
@@ -388,7 +406,7 @@ fn worst_of(s: &Shape, header: Header) -> Tables {
     }
     f.extend((0..FULL.zones).map(|zone| if zone < half { 5_000 } else { 0 }));
     c.push([1, 1, 0, -20_000_000, 0, 0, 0]);
-    let mut t = Tables { header, z, b, c, f };
+    let mut t = Tables { header, z, t: vec![], b, c, f };
     // the last row: the flow that leaves next to nothing, and the rest by CVA and IVA
     let last = rows - 1;
     let m = second::margin_of(&t, last);
@@ -455,6 +473,9 @@ fn alone(t: &Tables) -> i128 {
     (m.ram - m.s) / second::border_factor(&t.f[..FULL.zones], &t.b[0]).max(1)
 }
 
+const START_MOST: i128 = 165_000_000_000_000 - 100_000_000;
+const START_MOST_INTRADAY: i128 = START_MOST + 160_000_000_000_000 - 100_000_000;
+
 /// No table of so many borders has more rounds than this.  Raises never grow, so
 /// the border that rises last rises in every round: by R in a round, and by U from
 /// that round to the end.  The row that sets R has A = floor(margin / p) and shares
@@ -466,10 +487,11 @@ fn alone(t: &Tables) -> i128 {
 /// against a row of m, A - (m - 1) does just that.
 /// A starts at 1.65 x 10^14 less 10^8 at most: p 1, each zone at its ends but the
 /// one that makes p 1 (hubs change nothing: four ends sum to an even number of
-/// 100,000), Fref, F0all, Fmax and R at their ends.
-fn ceiling(borders: i128) -> u64 {
+/// 100,000), Fref, F0all, Fmax and R at their ends.  With T lines at their ends, too,
+/// it starts at 1.6 x 10^14 less 10^8 more.
+fn ceiling(borders: i128, start: i128) -> u64 {
     let alone = |m: i128| {
-        let mut a: i128 = 165_000_000_000_000 - 100_000_000;
+        let mut a = start;
         let mut rounds = 0;
         while a / m > 0 {
             a -= a / m;
@@ -489,13 +511,13 @@ fn longest_sheet() -> Tables {
     let c = vec![[10_000_000, 0, 0, 0, -1, 0, 0]; header.rows];
     let end = |row: usize, zone: usize| if (zone < 8) == (row % 2 == 0) { -100_000 } else { 100_000 };
     let f = (0..header.rows).flat_map(|row| (0..header.zones).map(move |zone| end(row, zone))).collect();
-    Tables { header, z: vec![0; header.zones], b, c, f }
+    Tables { header, z: vec![0; header.zones], t: vec![], b, c, f }
 }
 
 // ------------------------------------------------------------------------ main
 
 fn put(directory: &str, name: &str, from: &str, t: &Tables) {
-    let text = second::write(t.header, &t.z, &t.b, &t.c, &t.f, usize::MAX).expect("a good table");
+    let text = second::write(t.lend(), usize::MAX).expect("a good table");
     let o = extract(t).expect("an accepted table");
     let path = format!("{directory}/{name}.tsv");
     std::fs::write(&path, &text).expect("written");
@@ -522,19 +544,21 @@ fn main() {
         return;
     }
     std::fs::create_dir_all(&directory).expect("a directory");
-    let worked = second::read(WORKED.replace(' ', "\t").as_bytes(), [usize::MAX; 4]).expect("the worked hour");
+    let worked = second::read(WORKED.replace(' ', "\t").as_bytes(), [usize::MAX; 5]).expect("the worked hour");
     put(&directory, "worked", "the hour of the rules", &worked);
-    let planner = second::read(PLANNER.replace(' ', "\t").as_bytes(), [usize::MAX; 4]).expect("the small hour");
+    let planner = second::read(PLANNER.replace(' ', "\t").as_bytes(), [usize::MAX; 5]).expect("the small hour");
     put(&directory, "planner", "a small hour for the corner sheet", &planner);
-    let cable = second::read(CABLE.replace(' ', "\t").as_bytes(), [usize::MAX; 4]).expect("the hour with a cable");
+    let cable = second::read(CABLE.replace(' ', "\t").as_bytes(), [usize::MAX; 5]).expect("the hour with a cable");
     put(&directory, "cable", "a small hour with a cable", &cable);
-    let trajectory = second::read(TRAJECTORY.replace(' ', "\t").as_bytes(), [usize::MAX; 4]).expect("the hour with a default");
+    let trajectory = second::read(TRAJECTORY.replace(' ', "\t").as_bytes(), [usize::MAX; 5]).expect("the hour with a default");
     put(&directory, "trajectory", "a small hour with a default of R", &trajectory);
     let mut replaced = trajectory.clone();
     for row in replaced.c.iter_mut().filter(|row| row[4] == second::R_DASH) {
         row[4] = trajectory.header.share;
     }
     put(&directory, "trajectory-replaced", "the same with the default in each of these rows", &replaced);
+    let intraday = second::read(INTRADAY.replace(' ', "\t").as_bytes(), [usize::MAX; 5]).expect("the intraday hour");
+    put(&directory, "intraday", "a small hour after the coupling", &intraday);
     put(&directory, "sheet", "the longest corner sheet", &longest_sheet());
     put(&directory, "plain", &format!("seed {SEED_PLAIN}"), &plausible(SEED_PLAIN, PLAIN));
     let (_, seed) = busiest(SEEDS_BUSY, busy_of);
@@ -542,6 +566,7 @@ fn main() {
     put(&directory, "busy64", &format!("seed {SEED_BUSY_64}, the most of seeds {SEEDS_BUSY_64:?}"), &busy_64_of(SEED_BUSY_64));
     for (name, header) in [("worst", FULL), ("worst64", FULL_64)] {
         put(&directory, name, &format!("seed {SEED_WORST}, {STEPS_WORST} steps"), &worst(header));
-        println!("no table of {} borders has more than {} rounds", header.borders, ceiling(header.borders as i128));
+        let [plain, intraday] = [START_MOST, START_MOST_INTRADAY].map(|start| ceiling(header.borders as i128, start));
+        println!("no table of {} borders has more than {plain} rounds, or {intraday} with T lines", header.borders);
     }
 }

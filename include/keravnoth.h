@@ -13,8 +13,13 @@
  * names below, KERAVNOTH_B_FROM and so on)
  *   header   zones 2..16, borders 1..64, rows 1..200, share: what "-" in R is
  *            worth, 0..10000, or -1 where the H line does not write it (then
- *            "-" is worth 7000)
+ *            "-" is worth 7000), intraday: 1 where the table has t, 0 where it has
+ *            none
  *   z        one int64_t a zone: reference net position, -100000000..100000000
+ *   t        one int64_t a zone where the header says that t is there, else none is
+ *            looked at: allocated net position, as z; they sum to 0.  The table is
+ *            then of the intraday profile: margins start at RAM less the sum of
+ *            factor * t, taken as 0 where negative, and every border at 0 kW
  *   b        from zone, to zone (both exist, not equal), LTA 0..10000, and the
  *            hubs of a cable that is modelled by two: sending hub, receiving hub
  *            (both are zones that exist, not equal; each may be from or to), or
@@ -45,20 +50,23 @@
  *   2  the first faulty line has the wrong form, kind, index or
  *      field count, is missing, has no LF, or is extra              place: line, from 1
  *   3  the first faulty line has right form, a value outside its
- *      range, a hub that does not exist, two equal hubs; or a lent
- *      record or header that no text could give (one hub alone)     place: line, from 1
+ *      range, a hub that does not exist, two equal hubs, t that do
+ *      not sum to 0 (at the last T line); or a lent record or
+ *      header that no text could give (one hub alone)               place: line, from 1
  *   4  same from and to, and same hubs in their order, as an
  *      earlier border; one with hubs is never one without           place: first such border
  *   5  no row of state 0                                            place 0
  *   6  a border that loads no kept row                              place: first such border
- *   7  a kept row's starting margin is below 0                      place: first such row
+ *   7  a kept row's starting margin is below 0; not given in the
+ *      intraday profile                                             place: first such row
  *   8  a lent buffer is too short                                   place: items needed in
  *                                                                   the first short one
  *   9  more than 12 borders; or else no such row (corner sheet      place: border count;
  *      only)                                                        the row's index
  *   A lent record has the line that it would have in the text: z i is line
- *   2 + i, b i is 2 + zones + i, c i (its factors too) 2 + zones + borders + i;
- *   the header is line 1.
+ *   2 + i, t i is 2 + zones + i, b i is 2 + zones + i, or where t is there
+ *   2 + 2 * zones + i, c i (its factors too) comes borders lines after b i; the
+ *   header is line 1.
  *
  *   Byte (field byte of every answer): the byte to blame in the line that place
  *   names, from 1, or 0 where no byte is to blame.  Only keravnoth_read names one,
@@ -70,14 +78,14 @@
  *   tables.
  *
  *   Order.  keravnoth_read: 1, then 2 and 3 line by line, 4, 8.  The calls on
- *   lent tables: the header (3), lengths (8) in the order z, b, c, f, p, records
- *   (3), 4; the extraction and the result text go on to 5, 6, 7, the corner sheet
+ *   lent tables: the header (3), lengths (8) in the order z, t, b, c, f, p,
+ *   records (3), 4; the extraction and the result text go on to 5, 6, 7, the corner sheet
  *   to 9; last comes room for results (8), atc before left.  The corner sheet
  *   does not judge 5, 6, 7: a table that the extraction refuses has its sheets.
  *
  * LENT MEMORY
  *   Each pointer goes with the count of its items (records for b, c, atc, left;
- *   numbers for z, f, p and flows; bytes for text and for out that takes text) and
+ *   numbers for z, t, f, p and flows; bytes for text and for out that takes text) and
  *   points to that many; it is aligned for its type.  What is written to overlaps
  *   nothing else that is lent.  Nothing is kept after the call, nothing is
  *   allocated.
@@ -117,7 +125,7 @@
 extern "C" {
 #endif
 
-#define KERAVNOTH_VERSION 6
+#define KERAVNOTH_VERSION 7
 
 /* The largest table, in items. */
 enum {
@@ -135,7 +143,7 @@ enum {
    proved. */
 enum {
     KERAVNOTH_TEXT_MOST = 65536,
-    KERAVNOTH_WRITE_MOST = 55076,
+    KERAVNOTH_WRITE_MOST = 58212,
     KERAVNOTH_RESULT_TEXT_MOST = 22790,
     KERAVNOTH_ANSWER_MOST = 22790,
     KERAVNOTH_CORNER_TEXT_MOST = 110592
@@ -216,16 +224,19 @@ enum {
 };
 
 /* The header of a table, by value; share where the H line does not write it, and
-   what "-" is worth then. */
+   what "-" is worth then; intraday where t is there, and where it is not. */
 struct KeravnothHeader {
     size_t zones;
     size_t borders;
     size_t rows;
     int64_t share;
+    size_t intraday;
 };
 enum {
     KERAVNOTH_SHARE_UNWRITTEN = -1,
-    KERAVNOTH_SHARE_STANDARD = 7000
+    KERAVNOTH_SHARE_STANDARD = 7000,
+    KERAVNOTH_DAY_AHEAD = 0,
+    KERAVNOTH_INTRADAY = 1
 };
 
 /* Reading: the header of the table that was read. */
@@ -237,6 +248,7 @@ struct KeravnothRead {
     size_t borders;
     size_t rows;
     int64_t share;
+    size_t intraday;
 };
 
 /* Text that was written: its bytes. */
@@ -263,10 +275,11 @@ struct KeravnothFlows {
     size_t corners;
 };
 
-/* Reads a table's text into z, b, c and f.  Refusals 1, 2, 3, 4, 8. */
+/* Reads a table's text into z, t, b, c and f.  Refusals 1, 2, 3, 4, 8. */
 struct KeravnothRead keravnoth_read(
     const uint8_t *text, size_t n,
     int64_t *z, size_t nz,
+    int64_t *t, size_t nt,
     int64_t (*b)[KERAVNOTH_B_ITEMS], size_t nb,
     int64_t (*c)[KERAVNOTH_C_ITEMS], size_t nc,
     int64_t *f, size_t nf);
@@ -276,6 +289,7 @@ struct KeravnothRead keravnoth_read(
 struct KeravnothWritten keravnoth_write(
     struct KeravnothHeader header,
     const int64_t *z, size_t nz,
+    const int64_t *t, size_t nt,
     const int64_t (*b)[KERAVNOTH_B_ITEMS], size_t nb,
     const int64_t (*c)[KERAVNOTH_C_ITEMS], size_t nc,
     const int64_t *f, size_t nf,
@@ -286,6 +300,7 @@ struct KeravnothWritten keravnoth_write(
 struct KeravnothExtracted keravnoth_extract(
     struct KeravnothHeader header,
     const int64_t *z, size_t nz,
+    const int64_t *t, size_t nt,
     const int64_t (*b)[KERAVNOTH_B_ITEMS], size_t nb,
     const int64_t (*c)[KERAVNOTH_C_ITEMS], size_t nc,
     const int64_t *f, size_t nf,
@@ -298,6 +313,7 @@ struct KeravnothExtracted keravnoth_extract(
 struct KeravnothWritten keravnoth_result_text(
     struct KeravnothHeader header,
     const int64_t *z, size_t nz,
+    const int64_t *t, size_t nt,
     const int64_t (*b)[KERAVNOTH_B_ITEMS], size_t nb,
     const int64_t (*c)[KERAVNOTH_C_ITEMS], size_t nc,
     const int64_t *f, size_t nf,
@@ -314,6 +330,7 @@ struct KeravnothWritten keravnoth_answer(
 struct KeravnothFlows keravnoth_corner_flows(
     struct KeravnothHeader header,
     const int64_t *z, size_t nz,
+    const int64_t *t, size_t nt,
     const int64_t (*b)[KERAVNOTH_B_ITEMS], size_t nb,
     const int64_t (*c)[KERAVNOTH_C_ITEMS], size_t nc,
     const int64_t *f, size_t nf,
@@ -325,6 +342,7 @@ struct KeravnothFlows keravnoth_corner_flows(
 struct KeravnothWritten keravnoth_corner_text(
     struct KeravnothHeader header,
     const int64_t *z, size_t nz,
+    const int64_t *t, size_t nt,
     const int64_t (*b)[KERAVNOTH_B_ITEMS], size_t nb,
     const int64_t (*c)[KERAVNOTH_C_ITEMS], size_t nc,
     const int64_t *f, size_t nf,

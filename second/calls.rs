@@ -23,6 +23,7 @@ pub struct Read {
     pub borders: usize,
     pub rows: usize,
     pub share: i64,
+    pub intraday: u64,
 }
 
 /// What a call that writes text says.
@@ -69,9 +70,10 @@ pub struct Bridge {
 
 /// The lent tables of a call, each with its guards.
 pub struct Lent<'a> {
-    /// zones, borders, rows, share
-    pub header: [u64; 4],
+    /// zones, borders, rows, share, intraday
+    pub header: [u64; wire::HEADER_WORDS],
     pub z: &'a mut [i64],
+    pub t: &'a mut [i64],
     pub b: &'a mut [[i64; 5]],
     pub c: &'a mut [[i64; 7]],
     pub f: &'a mut [i64],
@@ -115,12 +117,12 @@ impl Bridge {
         }
     }
 
-    fn begin(&mut self, call: u64, header: [u64; 4]) {
+    fn begin(&mut self, call: u64, header: [u64; wire::HEADER_WORDS]) {
         self.bytes.clear();
         self.bytes.resize(8 * wire::WORDS, 0);
         wire::set_word(&mut self.bytes, 0, call);
         for (index, word) in header.into_iter().enumerate() {
-            wire::set_word(&mut self.bytes, 1 + index, word);
+            wire::set_word(&mut self.bytes, wire::HEADER + index, word);
         }
     }
 
@@ -157,6 +159,7 @@ impl Bridge {
 
     fn lend_tables(&mut self, l: &Lent) {
         self.lend(wire::Z, l.z);
+        self.lend(wire::T, l.t);
         self.lend(wire::B, l.b);
         self.lend(wire::C, l.c);
         self.lend(wire::F, l.f);
@@ -164,6 +167,7 @@ impl Bridge {
 
     fn tables_back(&mut self, l: &mut Lent) {
         self.back(l.z);
+        self.back(l.t);
         self.back(l.b);
         self.back(l.c);
         self.back(l.f);
@@ -171,15 +175,15 @@ impl Bridge {
 
     /// The header of the tables is not looked at.
     pub fn read(&mut self, text: &mut [u8], mut l: Lent) -> Result<Read, Ended> {
-        self.begin(wire::READ, [0; 4]);
+        self.begin(wire::READ, [0; wire::HEADER_WORDS]);
         self.lend_tables(&l);
         self.lend(wire::TEXT, text);
-        let [number, place, byte, zones, borders, rows, share] = self.ask()?;
+        let [number, place, byte, zones, borders, rows, share, intraday] = self.ask()?;
         self.tables_back(&mut l);
         self.back(text);
         let [place, byte, zones, borders, rows] =
             [place, byte, zones, borders, rows].map(|field| field as usize);
-        Ok(Read { number, place, byte, zones, borders, rows, share: share as i64 })
+        Ok(Read { number, place, byte, zones, borders, rows, share: share as i64, intraday })
     }
 
     pub fn write(&mut self, l: Lent, out: &mut [u8]) -> Result<Written, Ended> {
@@ -243,7 +247,7 @@ impl Bridge {
     }
 
     pub fn answer(&mut self, text: &mut [u8], out: &mut [u8]) -> Result<Written, Ended> {
-        self.begin(wire::ANSWER, [0; 4]);
+        self.begin(wire::ANSWER, [0; wire::HEADER_WORDS]);
         self.lend(wire::TEXT, text);
         self.lend(wire::OUT, out);
         let [number, place, byte, bytes] = self.ask()?;

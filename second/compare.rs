@@ -24,11 +24,12 @@ mod make;
 #[path = "second.rs"]
 mod second;
 
-use calls::wire::{Item, AFTER, BEFORE};
+use calls::wire::{Item, AFTER, BEFORE, HEADER_WORDS};
 use calls::{Bridge, Ended, Extracted, Flows, Read, Written};
 use dice::Dice;
 use second::{Border, Header, Outcome, Refusal, Tables};
-use second::{LTA, MOST_BORDERS, MOST_ROUNDS, MOST_ROWS, MOST_ZONES, NO_BYTE, NO_HUB, NO_SHARE, R_DASH, RECEIVING, SENDING};
+use second::{INTRADAY, LTA, MOST_BORDERS, MOST_ROUNDS, MOST_ROUNDS_INTRADAY, MOST_ROWS, MOST_ZONES};
+use second::{NO_BYTE, NO_HUB, NO_SHARE, R_DASH, RECEIVING, SENDING};
 use std::collections::BTreeMap;
 use std::ffi::OsString;
 use std::fmt::Debug;
@@ -41,10 +42,11 @@ const SEED: u64 = 20_260_101;
 const SHEET_EVERY: u64 = 30;
 /// Its borders run from 1 to this: some above the 12 that a sheet may have.
 const SHEET_BORDERS: u64 = 16;
-/// One table in so many has, beside it, tables made for the hubs, and tables made
-/// for the default of R.
+/// One table in so many has, beside it, tables made for the hubs, tables made for
+/// the default of R, and tables made for T.
 const HUBS_EVERY: u64 = 8;
 const SHARES_EVERY: u64 = 8;
+const T_EVERY: u64 = 8;
 /// The stored hours, all of them: those that the bench runs on are held against the
 /// second program too.
 const HOURS: [&[u8]; 11] = [
@@ -140,31 +142,55 @@ impl<T: Mark> Lent<T> {
     }
 }
 
+/// The items of z, t, b, c and f.
+type Counts = [usize; 5];
+
+const KINDS: [&str; 5] = ["z", "t", "b", "c", "f"];
+
 /// Lent tables for a call, with marks beyond what the header needs.
 struct LentTables {
     header: Header,
     z: Lent<i64>,
+    t: Lent<i64>,
     b: Lent<Border>,
     c: Lent<[i64; 7]>,
     f: Lent<i64>,
 }
 
 impl LentTables {
-    fn new(d: &mut Dice, t: &Tables, counts: [usize; 4]) -> LentTables {
+    fn new(d: &mut Dice, t: &Tables, counts: Counts) -> LentTables {
         LentTables {
             header: t.header,
             z: Lent::holding(d, &t.z, counts[0]),
-            b: Lent::holding(d, &t.b, counts[1]),
-            c: Lent::holding(d, &t.c, counts[2]),
-            f: Lent::holding(d, &t.f, counts[3]),
+            t: Lent::holding(d, &t.t, counts[1]),
+            b: Lent::holding(d, &t.b, counts[2]),
+            c: Lent::holding(d, &t.c, counts[3]),
+            f: Lent::holding(d, &t.f, counts[4]),
+        }
+    }
+
+    fn counts(&self) -> Counts {
+        [self.z.count, self.t.count, self.b.count, self.c.count, self.f.count]
+    }
+
+    /// What is lent, for the reference.
+    fn part(&self) -> second::Lent<'_> {
+        second::Lent {
+            header: self.header,
+            z: self.z.part(),
+            t: self.t.part(),
+            b: self.b.part(),
+            c: self.c.part(),
+            f: self.f.part(),
         }
     }
 
     fn lend(&mut self) -> calls::Lent<'_> {
-        let Header { zones, borders, rows, share } = self.header;
+        let Header { zones, borders, rows, share, intraday } = self.header;
         calls::Lent {
-            header: [zones as u64, borders as u64, rows as u64, share as u64],
+            header: [zones as u64, borders as u64, rows as u64, share as u64, intraday],
             z: &mut self.z.whole,
+            t: &mut self.t.whole,
             b: &mut self.b.whole,
             c: &mut self.c.whole,
             f: &mut self.f.whole,
@@ -175,6 +201,7 @@ impl LentTables {
     fn fault(&self) -> Option<String> {
         self.z
             .fault("z", &[])
+            .or_else(|| self.t.fault("t", &[]))
             .or_else(|| self.b.fault("b", &[]))
             .or_else(|| self.c.fault("c", &[]))
             .or_else(|| self.f.fault("f", &[]))
@@ -190,15 +217,13 @@ impl LentTables {
         let tables = Tables {
             header: h,
             z: front(&self.z, h.zones),
+            t: front(&self.t, second::allocated(h)),
             b: front(&self.b, h.borders),
             c: front(&self.c, h.rows),
             f: front(&self.f, h.rows.saturating_mul(h.zones)),
         };
         let mut text = damage::plain_text(&tables);
-        let lent = format!(
-            "(items lent: {} z, {} b, {} c, {} f)\n",
-            self.z.count, self.b.count, self.c.count, self.f.count
-        );
+        let lent = format!("(intraday {}, items lent of z, t, b, c, f: {:?})\n", h.intraday, self.counts());
         text.extend(lent.into_bytes());
         text
     }
@@ -266,15 +291,17 @@ impl Comparison {
         self.see(&format!("{call} {number}"));
     }
 
-    fn read(&mut self, d: &mut Dice, text: &[u8], room: [usize; 4]) -> Result<Tables, Refusal> {
+    fn read(&mut self, d: &mut Dice, text: &[u8], room: Counts) -> Result<Tables, Refusal> {
         let mut lent_text = Lent::holding(d, text, text.len());
         let mut z = Lent::room(d, room[0]);
-        let mut b = Lent::room(d, room[1]);
-        let mut c = Lent::room(d, room[2]);
-        let mut f = Lent::room(d, room[3]);
+        let mut t = Lent::room(d, room[1]);
+        let mut b = Lent::room(d, room[2]);
+        let mut c = Lent::room(d, room[3]);
+        let mut f = Lent::room(d, room[4]);
         let lent = calls::Lent {
-            header: [0; 4],
+            header: [0; HEADER_WORDS],
             z: &mut z.whole,
+            t: &mut t.whole,
             b: &mut b.whole,
             c: &mut c.whole,
             f: &mut f.whole,
@@ -283,28 +310,30 @@ impl Comparison {
         let found = self.said("keravnoth_read", found, &|| text.to_vec());
         let reference = second::read(text, room);
         let none = Tables {
-            header: Header { zones: 0, borders: 0, rows: 0, share: 0 },
+            header: Header { zones: 0, borders: 0, rows: 0, share: 0, intraday: 0 },
             z: vec![],
+            t: vec![],
             b: vec![],
             c: vec![],
             f: vec![],
         };
-        let (Refusal { number, place, byte }, t) = match &reference {
-            Ok(t) => (NO_REFUSAL, t),
+        let (Refusal { number, place, byte }, tables) = match &reference {
+            Ok(tables) => (NO_REFUSAL, tables),
             Err(refusal) => (*refusal, &none),
         };
-        let Header { zones, borders, rows, share } = t.header;
-        let wanted = Read { number: number.into(), place, byte, zones, borders, rows, share };
+        let Header { zones, borders, rows, share, intraday } = tables.header;
+        let wanted = Read { number: number.into(), place, byte, zones, borders, rows, share, intraday };
         self.count("read", number);
         if found != wanted {
             let details = format!("library {found:?}\nreference {wanted:?}\nroom {room:?}");
             self.fail("keravnoth_read", &details, text);
         }
         let fault = z
-            .fault("z", &t.z)
-            .or_else(|| b.fault("b", &t.b))
-            .or_else(|| c.fault("c", &t.c))
-            .or_else(|| f.fault("f", &t.f))
+            .fault("z", &tables.z)
+            .or_else(|| t.fault("t", &tables.t))
+            .or_else(|| b.fault("b", &tables.b))
+            .or_else(|| c.fault("c", &tables.c))
+            .or_else(|| f.fault("f", &tables.f))
             .or_else(|| lent_text.fault("text", &[]));
         if let Some(fault) = fault {
             let details = format!("{fault}\nboth answer {wanted:?}\nroom {room:?}");
@@ -348,7 +377,7 @@ impl Comparison {
     }
 
     fn write(&mut self, d: &mut Dice, l: &mut LentTables, room: usize) -> Result<Vec<u8>, Refusal> {
-        let reference = second::write(l.header, l.z.part(), l.b.part(), l.c.part(), l.f.part(), room);
+        let reference = second::write(l.part(), room);
         let mut out = Lent::room(d, room);
         let found = self.bridge.write(l.lend(), &mut out.whole);
         let found = self.said("keravnoth_write", found, &|| l.shown());
@@ -357,7 +386,7 @@ impl Comparison {
     }
 
     fn result_text(&mut self, d: &mut Dice, l: &mut LentTables, room: usize) -> Result<Vec<u8>, Refusal> {
-        let reference = second::result_text(l.header, l.z.part(), l.b.part(), l.c.part(), l.f.part(), room);
+        let reference = second::result_text(l.part(), room);
         let mut out = Lent::room(d, room);
         let found = self.bridge.result_text(l.lend(), &mut out.whole);
         let found = self.said("keravnoth_result_text", found, &|| l.shown());
@@ -451,8 +480,9 @@ impl Comparison {
                 }
                 load += i128::from(found) * i128::from(outcome.kw[border]);
             }
-            if state == 0 && i128::from(ram) - load != i128::from(margin) {
-                let details = format!("row {row}: RAM {ram} less p times exchange is not the margin left, {margin}");
+            let whole = remainder(l, row, ram).map_or(i128::from(ram), |remainder| remainder.max(0));
+            if state == 0 && whole - load != i128::from(margin) {
+                let details = format!("row {row}: {whole} less p times exchange is not the margin left, {margin}");
                 self.fail("keravnoth_extract", &details, &l.shown());
             }
         }
@@ -477,12 +507,11 @@ impl Comparison {
             }
             return;
         }
-        let lengths = [l.z.count, l.b.count, l.c.count, l.f.count];
-        let needed = [h.zones, h.borders, h.rows, h.rows.saturating_mul(h.zones)];
-        let first = (0..4).find(|kind| lengths[*kind] < needed[*kind]);
+        let (lengths, needed) = (l.counts(), needed(h));
+        let first = (0..KINDS.len()).find(|kind| lengths[*kind] < needed[*kind]);
         match (refusal.number, first, whole.err()) {
             (3, ..) => self.see("p short after the header"),
-            (_, Some(kind), _) => self.see(&format!("p short after {}", ["z", "b", "c", "f"][kind])),
+            (_, Some(kind), _) => self.see(&format!("p short after {}", KINDS[kind])),
             (_, None, Some(later)) => self.see(&format!("p short before {}", later.number)),
             (_, None, None) if room[1] < h.borders || room[2] < h.rows => self.see("p short before results"),
             _ => self.see("p short alone"),
@@ -490,14 +519,14 @@ impl Comparison {
     }
 
     /// A short table of p, alone and with one of each kind of fault beside it.
-    fn short_p(&mut self, d: &mut Dice, t: &Tables, needed: [usize; 4]) {
+    fn short_p(&mut self, d: &mut Dice, t: &Tables, needed: Counts) {
         let mut bad = t.clone();
         let mut counts = with_extra(d, needed);
         let mut room = [0, t.header.borders, t.header.rows];
         match d.below(8) {
             0 => damage::damage_header(d, &mut bad.header),
             1..=3 => {
-                let kind = d.below(4);
+                let kind = d.below(KINDS.len());
                 counts[kind] = short(d, needed[kind]);
             }
             4 | 5 => damage::damage_record(d, &mut bad),
@@ -520,7 +549,7 @@ impl Comparison {
         room: usize,
     ) -> Result<Vec<i128>, Refusal> {
         let reference =
-            second::corner_flows(l.header, l.z.part(), l.b.part(), l.c.part(), l.f.part(), row, room);
+            second::corner_flows(l.part(), row, room);
         let mut flows = Lent::room(d, room);
         let found = self.bridge.corner_flows(l.lend(), row, &mut flows.whole);
         let found = self.said("keravnoth_corner_flows", found, &|| l.shown());
@@ -554,7 +583,7 @@ impl Comparison {
         room: usize,
     ) -> Result<Vec<u8>, Refusal> {
         let reference =
-            second::corner_text(l.header, l.z.part(), l.b.part(), l.c.part(), l.f.part(), row, room);
+            second::corner_text(l.part(), row, room);
         let mut out = Lent::room(d, room);
         let found = self.bridge.corner_text(l.lend(), row, &mut out.whole);
         let found = self.said("keravnoth_corner_text", found, &|| l.shown());
@@ -602,7 +631,7 @@ impl Comparison {
     fn see_corner_refusal(&mut self, call: &str, l: &LentTables, row: usize, refusal: Refusal, room: usize) {
         let h = l.header;
         let nine = h.borders > second::MOST_CORNER_BORDERS || row >= h.rows;
-        if second::judge(h, l.z.part(), l.b.part(), l.c.part(), l.f.part()).is_err() {
+        if second::judge(l.part()).is_err() {
             if nine {
                 self.see(&format!("corner {call}, {} before 9", refusal.number));
             }
@@ -636,7 +665,7 @@ impl Comparison {
     fn sheet(&mut self, d: &mut Dice, l: &mut LentTables) {
         let h = l.header;
         let row = d.below(h.rows);
-        let whole = second::corner_text(h, l.z.part(), l.b.part(), l.c.part(), l.f.part(), row, usize::MAX);
+        let whole = second::corner_text(l.part(), row, usize::MAX);
         // where it is refused, room that would do for a few corners
         let bytes = whole.as_ref().map_or(60, |text| text.len());
         let corners = if whole.is_ok() { 1 << h.borders } else { 4 };
@@ -700,7 +729,7 @@ impl Comparison {
         let text = damage::with_hub_text(&t, border, &way.fields);
         let reading = self.reading_and_answer(d, &text);
         // a good line may still give a border twice
-        let line = 2 + t.header.zones + border;
+        let line = 2 + t.header.zones + second::allocated(t.header) + border;
         let number_found = reading.err().map_or((0, line), |refusal| (refusal.number, refusal.place));
         if number_found != (way.number, line) && (way.number != 0 || number_found.0 != 4) {
             let details = format!("hubs {}: refusal {number_found:?}, by the rules {}", way.name, way.number);
@@ -774,6 +803,61 @@ impl Comparison {
         self.see(&format!("lent share {share}"));
     }
 
+    // -------------------------------------------------- intraday remainder
+
+    /// T as text and as lent, and what a lent header says of it, each way in turn.
+    fn t_tables(&mut self, number: u64) {
+        self.kind = "T table";
+        self.number = number;
+        let mut dice = Dice::for_case(self.seed, 8, number);
+        let d = &mut dice;
+        let borders = 1 + d.below(4);
+        let t = make::intraday(d, borders);
+        let h = t.header;
+        let (text, (name, wanted, line, byte)) = damage::t_text(&t, number % damage::T_TEXTS);
+        let found = self.reading_and_answer(d, &text).err();
+        let wanted = (wanted > 0).then_some(Refusal { number: wanted, place: 2 + h.zones + line, byte });
+        if found != wanted {
+            let details = format!("T {name}: {found:?}, by the rules {wanted:?}");
+            self.fail("keravnoth_read", &details, &text);
+        }
+        self.see(&format!("T as text, {name}"));
+
+        let (said, refused) = damage::PROFILES[(number % damage::PROFILES.len() as u64) as usize];
+        let mut lent = t.clone();
+        lent.header.intraday = said;
+        // the header comes before lengths
+        let counts = if refused && d.one_in(2) { needed(h).map(|items| short(d, items)) } else { needed(h) };
+        let found = self.any_call(d, &lent, counts);
+        if refused != (found == refused_at(3, 1)) {
+            let details = format!("lent header says {said} of T: {found:?}, by the rules refused: {refused}");
+            self.fail("a call on lent tables", &details, &damage::plain_text(&lent));
+        }
+        self.see(&format!("lent header says {said} of T"));
+
+        // without it T is not needed and not looked at
+        let mut lent = t.clone();
+        lent.header.intraday = second::NO_T;
+        lent.t = (0..d.below(4)).map(|_| d.next() as i64).collect();
+        let mut counts = needed(h);
+        counts[1] = lent.t.len();
+        let found = self.any_call(d, &lent, counts);
+        if found.is_some_and(|refusal| matches!(refusal.number, 3 | 8)) {
+            self.fail("a call on lent tables", &format!("T that is not there: {found:?}"), &damage::plain_text(&lent));
+        }
+        self.see(if found.is_some() { "T not there, refused later" } else { "T not there, taken" });
+
+        // the sum, at the last record's line
+        let mut lent = t.clone();
+        let zone = d.below(h.zones);
+        lent.t[zone] += if lent.t[zone] > 0 { -1 } else { 1 };
+        let found = self.any_call(d, &lent, needed(h));
+        if found != refused_at(3, 1 + 2 * h.zones) {
+            self.fail("a call on lent tables", &format!("T that sums to 1 or -1: {found:?}"), &damage::plain_text(&lent));
+        }
+        self.see("lent T off by one");
+    }
+
     /// Every "-" replaced by the default in force changes no result, nor does
     /// writing the default where none was written; where no row has "-", any
     /// default gives the same.
@@ -821,7 +905,7 @@ impl Comparison {
         let d = &mut dice;
         let damaged = damage::each_damage(&self.places[number]);
         for (text, whole) in damaged {
-            let reading = self.read(d, &text, [8; 4]);
+            let reading = self.read(d, &text, [8; 5]);
             if whole {
                 let answer = second::answer(&text);
                 self.answer(d, &text, &answer, answer.len());
@@ -852,9 +936,9 @@ impl Comparison {
 
     /// Reading and the answer, each with room enough.
     fn reading_and_answer(&mut self, d: &mut Dice, text: &[u8]) -> Result<Tables, Refusal> {
-        let room = match second::read(text, [usize::MAX; 4]) {
+        let room = match second::read(text, [usize::MAX; 5]) {
             Ok(t) => with_extra(d, needed(t.header)),
-            Err(_) => [8; 4],
+            Err(_) => [8; 5],
         };
         let answer = second::answer(text);
         self.answer(d, text, &answer, answer.len());
@@ -890,23 +974,23 @@ impl Comparison {
     }
 
     /// One of the calls on lent tables, with room enough for results: its refusal.
-    fn any_call(&mut self, d: &mut Dice, t: &Tables, counts: [usize; 4]) -> Option<Refusal> {
+    fn any_call(&mut self, d: &mut Dice, t: &Tables, counts: Counts) -> Option<Refusal> {
         let h = t.header;
         let mut l = LentTables::new(d, t, counts);
         let row = d.below(h.rows);
         match d.below(5) {
             0 => {
-                let room = second::write(h, &t.z, &t.b, &t.c, &t.f, usize::MAX).map_or(9, |text| text.len());
+                let room = second::write(t.lend(), usize::MAX).map_or(9, |text| text.len());
                 self.write(d, &mut l, room).err()
             }
             1 => self.extract(d, &mut l, [h.rows * h.borders, h.borders, h.rows]).err(),
             2 => {
-                let room = second::result_text(h, &t.z, &t.b, &t.c, &t.f, usize::MAX).map_or(9, |text| text.len());
+                let room = second::result_text(t.lend(), usize::MAX).map_or(9, |text| text.len());
                 self.result_text(d, &mut l, room).err()
             }
             3 => self.corner_flows(d, &mut l, row, 1 << h.borders).err(),
             _ => {
-                let room = second::corner_text(h, &t.z, &t.b, &t.c, &t.f, row, usize::MAX).map_or(9, |text| text.len());
+                let room = second::corner_text(t.lend(), row, usize::MAX).map_or(9, |text| text.len());
                 self.corner_text(d, &mut l, row, room).err()
             }
         }
@@ -914,8 +998,9 @@ impl Comparison {
 
     // ----------------------------------------------------------- demand 3
 
-    /// Exchanges up to the library's own ATCs load no kept row beyond its RAM;
-    /// the library's own rounds are at most 2 N L.
+    /// Exchanges up to the library's own ATCs load no kept row beyond its RAM, or,
+    /// intraday, beyond its remainder, and one without remainder not at all; the
+    /// library's own rounds are at most 2 N L.
     fn demand_3(
         &mut self,
         d: &mut Dice,
@@ -926,7 +1011,8 @@ impl Comparison {
         outcome: &Outcome,
     ) {
         let bound = 2 * outcome.n_most as u64 * u64::from(outcome.l_bits);
-        if found.rounds > bound || found.rounds > MOST_ROUNDS {
+        let most = if l.header.intraday == INTRADAY { MOST_ROUNDS_INTRADAY } else { MOST_ROUNDS };
+        if found.rounds > bound || found.rounds > most {
             self.fail("keravnoth_extract", &format!("{} rounds, over 2 N L = {bound}", found.rounds), &l.shown());
         }
         let borders = l.header.borders;
@@ -969,8 +1055,11 @@ impl Comparison {
             for (border, exchange) in exchanges.iter().enumerate() {
                 load += i128::from(signed_factor(l, row, border)) * i128::from(*exchange);
             }
-            if load > i128::from(ram) {
-                let details = format!("exchanges {exchanges:?} kW load row {row} with {load} grains, RAM {ram}");
+            // "bring no kept row with a remainder above or at 0 over RAM, and add no load
+            // to any kept row whose remainder was negative"
+            let most = remainder(l, row, ram).map_or(i128::from(ram), |remainder| remainder.max(0));
+            if load > most {
+                let details = format!("exchanges {exchanges:?} kW load row {row} with {load} grains, at most {most}");
                 self.fail("keravnoth_extract", &details, &l.shown());
             }
         }
@@ -1094,26 +1183,25 @@ impl Comparison {
 
     /// Lent tables of exactly 40 records of b for 40 borders, which was the most
     /// once.
-    fn see_40(&mut self, call: &str, h: Header, counts: [usize; 4]) {
+    fn see_40(&mut self, call: &str, h: Header, counts: Counts) {
         if h.borders == 40 {
             self.see(&format!("{call}, 40 borders"));
-            if counts[1] == 40 {
+            if counts[2] == 40 {
                 self.see(&format!("{call}, 40 borders in 40 records"));
             }
         }
     }
 
-    fn short_reading(&mut self, d: &mut Dice, text: &[u8], needed: [usize; 4]) {
+    fn short_reading(&mut self, d: &mut Dice, text: &[u8], needed: Counts) {
         let mut room = needed;
         match d.below(4) {
-            0 => room = [0; 4],
+            0 => room = [0; 5],
             1 => room = room.map(|items| d.below(items + 2)),
             _ => {
                 // one, and sometimes a second
-                room[d.below(4)] -= 1;
-                if d.one_in(3) {
-                    let other = d.below(4);
-                    room[other] = room[other].saturating_sub(1);
+                for _ in 0..d.of(&[1, 1, 2]) {
+                    let kind = d.below(KINDS.len());
+                    room[kind] = room[kind].saturating_sub(1);
                 }
             }
         }
@@ -1132,8 +1220,8 @@ impl Comparison {
     }
 
     /// Which lent buffer is the first short one.
-    fn see_short(&mut self, call: &str, needed: [usize; 4], counts: [usize; 4]) {
-        for (kind, name) in ["z", "b", "c", "f"].into_iter().enumerate() {
+    fn see_short(&mut self, call: &str, needed: Counts, counts: Counts) {
+        for (kind, name) in KINDS.into_iter().enumerate() {
             if counts[kind] < needed[kind] {
                 self.see(&format!("{call} short {name}"));
                 return;
@@ -1142,7 +1230,7 @@ impl Comparison {
     }
 
     /// Bad records, a bad header, short tables, short room: some of them.
-    fn bad_tables(&mut self, d: &mut Dice, t: &Tables, needed: [usize; 4]) {
+    fn bad_tables(&mut self, d: &mut Dice, t: &Tables, needed: Counts) {
         let mut bad = t.clone();
         let mut counts = with_extra(d, needed);
         let with = 1 + d.below(15);
@@ -1156,18 +1244,18 @@ impl Comparison {
         }
         if with & 4 != 0 && d.one_in(2) {
             match d.below(6) {
-                0 => counts = [0; 4],
+                0 => counts = [0; 5],
                 1 => counts = counts.map(|items| d.below(items + 1)),
                 2 | 3 => {
-                    for kind in 0..4 {
+                    for kind in 0..KINDS.len() {
                         if d.one_in(2) {
-                            counts[kind] = needed[kind] - 1;
+                            counts[kind] = needed[kind].saturating_sub(1);
                         }
                     }
                 }
                 _ => {
-                    let kind = d.below(4);
-                    counts[kind] = needed[kind] - 1;
+                    let kind = d.below(KINDS.len());
+                    counts[kind] = needed[kind].saturating_sub(1);
                 }
             }
         }
@@ -1183,7 +1271,7 @@ impl Comparison {
                 let length = if short_room {
                     length
                 } else {
-                    match second::write(h, l.z.part(), l.b.part(), l.c.part(), l.f.part(), usize::MAX) {
+                    match second::write(l.part(), usize::MAX) {
                         Ok(text) => text.len() + d.below(3),
                         Err(_) => d.below(60),
                     }
@@ -1221,17 +1309,7 @@ impl Comparison {
     /// Which kind of record was refused.
     fn see_bad(&mut self, bad: &Tables, refusal: Option<Refusal>) {
         let Some(Refusal { number: 3, place, .. }) = refusal else { return };
-        let h = bad.header;
-        let kind = if place == 1 {
-            "H"
-        } else if place < 2 + h.zones {
-            "Z"
-        } else if place < 2 + h.zones + h.borders {
-            "B"
-        } else {
-            "C"
-        };
-        self.see(&format!("lent 3 {kind}"));
+        self.see(&format!("lent 3 {}", kind_of_line(bad.header, place)));
     }
 
     fn sizes(&mut self, h: Header) {
@@ -1320,6 +1398,9 @@ impl Comparison {
         if o.atc.iter().any(|atc| *atc > u64::from(u32::MAX)) {
             self.see("accepted, an ATC over 32 bits");
         }
+        if h.intraday == INTRADAY {
+            self.remainders(t, o);
+        }
         let zones = h.zones;
         for row in 0..h.rows {
             let own = &t.f[row * zones..(row + 1) * zones];
@@ -1357,6 +1438,44 @@ impl Comparison {
         }
     }
 
+    /// What an accepted table of the intraday profile shows.
+    fn remainders(&mut self, t: &Tables, o: &Outcome) {
+        self.see("intraday");
+        if t.t.iter().all(|position| *position == 0) {
+            self.see("intraday, nothing allocated");
+        }
+        if t.b.iter().any(|b| b[LTA] > 0) {
+            self.see("intraday, an LTA");
+        }
+        if t.b.iter().any(|b| b[SENDING] != NO_HUB) {
+            self.see("intraday, hubs");
+        }
+        if o.rounds > 0 {
+            self.see("intraday, a round");
+        }
+        if o.rounds >= 1_000 {
+            self.see("intraday, 1000 rounds");
+        }
+        for (row, out) in o.rows.iter().enumerate().filter(|(_, out)| out.state == 0) {
+            let remainder = second::remainder_of(t, row, out.ram);
+            let name = match remainder {
+                ..=-1 => "below 0",
+                0 => "0",
+                1..=99_999 => "under one kW",
+                _ if remainder < 1 << 48 => "above 0",
+                _ => "over 2^48",
+            };
+            self.see(&format!("intraday, a remainder {name}"));
+            if out.ram < second::margin_of(t, row).s {
+                self.see("intraday, where 7 would be given");
+            }
+            let loads = |border: usize| o.p[row * t.header.borders + border] > 0;
+            if remainder < 0 && o.rounds > 0 && (0..t.header.borders).any(loads) {
+                self.see("intraday, a remainder below 0 stops one border and not all");
+            }
+        }
+    }
+
     // ------------------------------------------------------- one damaged text
 
     fn text(&mut self, number: u64) {
@@ -1378,14 +1497,14 @@ impl Comparison {
             0 => self.see("empty text"),
             _ => {}
         }
-        let reference = second::read(&text, [usize::MAX; 4]);
+        let reference = second::read(&text, [usize::MAX; 5]);
         let h = match &reference {
             Ok(tables) => tables.header,
             Err(_) => t.header,
         };
         let needed = needed(h);
         let room = match d.below(4) {
-            0 => [0; 4],
+            0 => [0; 5],
             1 => needed.map(|items| d.below(items + 2)),
             _ => with_extra(d, needed),
         };
@@ -1411,19 +1530,7 @@ impl Comparison {
 
     /// Which kind of line was refused, as the undamaged text has it.
     fn see_line(&mut self, t: &Tables, number: u32, place: usize) {
-        let h = t.header;
-        let kind = if place == 1 {
-            "H"
-        } else if place < 2 + h.zones {
-            "Z"
-        } else if place < 2 + h.zones + h.borders {
-            "B"
-        } else if place < 2 + h.zones + h.borders + h.rows {
-            "C"
-        } else {
-            "after the last"
-        };
-        self.see(&format!("text {number} at line {kind}"));
+        self.see(&format!("text {number} at line {}", kind_of_line(t.header, place)));
     }
 }
 
@@ -1438,7 +1545,7 @@ fn refused_at(number: u32, place: usize) -> Option<Refusal> {
 /// The reference's extraction; `room`: the items of p, atc and left.
 fn extracted(l: &LentTables, room: [usize; 3]) -> Result<Outcome, Refusal> {
     let [p, borders, rows] = room;
-    second::extract(l.header, l.z.part(), l.b.part(), l.c.part(), l.f.part(), p, borders, rows)
+    second::extract(l.part(), p, borders, rows)
 }
 
 /// From factor less to factor, with hubs.
@@ -1485,13 +1592,34 @@ fn full(h: Header) -> bool {
     (h.zones, h.borders, h.rows) == (MOST_ZONES, MOST_BORDERS, MOST_ROWS)
 }
 
-/// The items of z, b, c and f that a header needs.
-fn needed(h: Header) -> [usize; 4] {
-    [h.zones, h.borders, h.rows, h.rows * h.zones]
+/// The items of z, t, b, c and f that a header needs.
+fn needed(h: Header) -> Counts {
+    [h.zones, second::allocated(h), h.borders, h.rows, h.rows.saturating_mul(h.zones)]
+}
+
+/// The kind of the line at a place of a text with this header.
+fn kind_of_line(h: Header, place: usize) -> &'static str {
+    let mut last = 0;
+    for (kind, lines) in [("H", 1), ("Z", h.zones), ("T", second::allocated(h)), ("B", h.borders), ("C", h.rows)] {
+        last += lines;
+        if place <= last {
+            return kind;
+        }
+    }
+    "after the last"
+}
+
+/// RAM less the sum of factor times T, in the intraday profile.
+fn remainder(l: &LentTables, row: usize, ram: i64) -> Option<i128> {
+    let zones = l.header.zones;
+    let own = &l.f.part()[row * zones..(row + 1) * zones];
+    let taken = |(factor, position): (&i64, &i64)| i128::from(*factor) * i128::from(*position);
+    let sum: i128 = own.iter().zip(l.t.part()).map(taken).sum();
+    (l.header.intraday == INTRADAY).then_some(i128::from(ram) - sum)
 }
 
 /// As many items as needed, and often a few more.
-fn with_extra(d: &mut Dice, needed: [usize; 4]) -> [usize; 4] {
+fn with_extra(d: &mut Dice, needed: Counts) -> Counts {
     if d.one_in(2) {
         return needed;
     }
@@ -1520,13 +1648,13 @@ fn wanted() -> Vec<(String, u64)> {
     for number in 1..=7 {
         add(&format!("answer E {number}"), 100);
     }
-    for kind in ["H", "Z", "B", "C"] {
+    for kind in ["H", "Z", "T", "B", "C"] {
         add(&format!("lent 3 {kind}"), 200);
         add(&format!("text 2 at line {kind}"), 100);
         add(&format!("text 3 at line {kind}"), 100);
     }
     add("text 2 at line after the last", 100);
-    for name in ["z", "b", "c", "f"] {
+    for name in KINDS {
         add(&format!("read short {name}"), 200);
         add(&format!("lent short {name}"), 200);
     }
@@ -1537,8 +1665,8 @@ fn wanted() -> Vec<(String, u64)> {
     add("p stays on 8", 100);
     add("p stays on 8 of results", 1_000);
     add("p short after the header", 100);
-    for name in ["z", "b", "c", "f"] {
-        add(&format!("p short after {name}"), 200);
+    for name in KINDS {
+        add(&format!("p short after {name}"), 100);
     }
     add("p short before results", 200);
     add("p short alone", 500);
@@ -1593,6 +1721,34 @@ fn wanted() -> Vec<(String, u64)> {
     for (name, _) in damage::TWINS {
         add(&format!("twins, {name}"), 100);
     }
+    for (name, count) in [
+        ("", 2_000),
+        (", nothing allocated", 100),
+        (", an LTA", 1_000),
+        (", hubs", 500),
+        (", a round", 1_000),
+        (", 1000 rounds", 10),
+        (", a remainder below 0", 500),
+        (", a remainder 0", 20),
+        (", a remainder under one kW", 200),
+        (", a remainder above 0", 1_000),
+        (", a remainder over 2^48", 3),
+        (", where 7 would be given", 200),
+        (", a remainder below 0 stops one border and not all", 100),
+    ] {
+        add(&format!("intraday{name}"), count);
+    }
+    for (said, _) in damage::PROFILES {
+        add(&format!("lent header says {said} of T"), 100);
+    }
+    add("T not there, taken", 500);
+    add("T not there, refused later", 200);
+    add("lent T off by one", 1_000);
+    let small = make::intraday(&mut d, 1);
+    for way in 0..damage::T_TEXTS {
+        let (name, ..) = damage::t_text(&small, way).1;
+        add(&format!("T as text, {name}"), 100);
+    }
     add("accepted, a default", 2_000);
     add("accepted, a default of 7000", 500);
     add("accepted, R \"-\" with a default", 1_000);
@@ -1608,7 +1764,7 @@ fn wanted() -> Vec<(String, u64)> {
         add(&format!("lent share {share}"), 100);
     }
     add("2 without a byte", 1_000);
-    for letter in ["H", "Z", "B", "C"] {
+    for letter in ["H", "Z", "T", "B", "C"] {
         for at in ["a byte", "a tab", "an LF", "out of range"] {
             add(&format!("{at} in {letter}"), 50);
         }
@@ -1708,6 +1864,9 @@ fn main() {
             }
             if number % SHARES_EVERY == 0 {
                 c.share_tables(number / SHARES_EVERY);
+            }
+            if number % T_EVERY == 0 {
+                c.t_tables(number / T_EVERY);
             }
         }
         if number < texts {

@@ -2,7 +2,8 @@
 #![allow(dead_code)]
 
 use crate::dice::Dice;
-use crate::second::{Border, Header, Tables, LTA, MOST_BORDERS, NO_HUB, NO_SHARE, RECEIVING, SENDING};
+use crate::second::{allocated, Border, Header, Tables};
+use crate::second::{INTRADAY, LTA, MOST_BORDERS, NO_HUB, NO_SHARE, NO_T, RECEIVING, SENDING};
 
 /// The table as text, without judging it: any number as it is.
 pub fn plain_text(t: &Tables) -> Vec<u8> {
@@ -14,6 +15,9 @@ pub fn plain_text(t: &Tables) -> Vec<u8> {
     s += "\n";
     for (i, position) in t.z.iter().enumerate() {
         s += &format!("Z\t{i}\t{position}\n");
+    }
+    for (i, position) in t.t.iter().enumerate() {
+        s += &format!("T\t{i}\t{position}\n");
     }
     for (i, [from, to, lta, sending, receiving]) in t.b.iter().enumerate() {
         s += &format!("B\t{i}\t{from}\t{to}\t{lta}");
@@ -60,7 +64,7 @@ fn ends(d: &mut Dice, letter: &[u8], place: usize, fields: &[Vec<u8>], zones: i6
         (b"H", 2) => (1, MOST_BORDERS as i64),
         (b"H", 3) => (1, 200),
         (b"H", 4) => (0, 10_000),
-        (b"Z", 2) => (-100_000_000, 100_000_000),
+        (b"Z" | b"T", 2) => (-100_000_000, 100_000_000),
         (b"B", 2 | 3 | 5 | 6) => (0, zones - 1),
         (b"B", 4) => (0, 10_000),
         (b"C", 2) => (1, 10_000_000),
@@ -175,7 +179,7 @@ fn in_a_field(d: &mut Dice, text: &mut Vec<u8>, zones: i64) {
             }
         }
         _ => {
-            const LETTERS: [&str; 9] = ["H", "Z", "B", "C", "", "c", "CC", "A", "-"];
+            const LETTERS: [&str; 10] = ["H", "Z", "T", "B", "C", "", "c", "CC", "A", "-"];
             fields[0] = d.of(&LETTERS).as_bytes().to_vec();
         }
     }
@@ -220,13 +224,15 @@ fn in_the_hubs(d: &mut Dice, text: &mut Vec<u8>, zones: i64) {
 
 // --------------------------------------------- every damage of a small text
 
-/// Small texts, with and without hubs, with and without a default of R; tabs are
-/// shown as blanks, each LF as a slash.
-const SMALL: [&str; 4] = [
+/// Small texts, with and without hubs, a default of R and T lines; tabs are shown as
+/// blanks, each LF as a slash.
+const SMALL: [&str; 6] = [
     "H 3 2 1/Z 0 0/Z 1 -70/Z 2 5/B 0 0 1 100/B 1 1 2 0/C 0 90 5 -1 20 - 0 3 20000 0 -7/",
     "H 3 1 2/Z 0 10/Z 1 0/Z 2 -3/B 0 0 1 10 2 0/C 0 100 0 0 -9 7000 10 0 0 -9 20000/C 1 7 7 0 0 - 0 0 -5000 0 1/",
     "H 2 1 1 70/Z 0 -1/Z 1 10/B 0 1 0 9/C 0 1000 10 8 0 10 0 0 0 5000/",
     "H 4 2 1 10000/Z 0 1/Z 1 0/Z 2 0/Z 3 -10/B 0 0 3 0 1 2/B 1 0 3 10 2 1/C 0 10 1 0 0 0 0 0 900 0 20 -9000/",
+    "H 2 1 1/Z 0 5/Z 1 0/T 0 -10/T 1 10/B 0 0 1 9/C 0 1000 10 8 0 - 0 0 0 -5000/",
+    "H 3 1 1 7000/Z 0 0/Z 1 0/Z 2 0/T 0 0/T 1 100/T 2 -100/B 0 0 1 9 2 1/C 0 1000 0 0 0 - 0 0 0 9000 0/",
 ];
 
 /// Bytes that tell: digits, what parts fields, letters, and some that are none of
@@ -432,7 +438,7 @@ pub fn hub_text(d: &mut Dice, zones: i64, border: &Border, way: u64) -> HubText 
 /// The table's text with another ending of one B line.
 pub fn with_hub_text(t: &Tables, border: usize, fields: &str) -> Vec<u8> {
     let mut lines = lines_of(&plain_text(t));
-    let line = 1 + t.header.zones + border;
+    let line = 1 + t.header.zones + allocated(t.header) + border;
     let mut own = fields_of(&lines[line]);
     own.truncate(5);
     let last = own.len() - 1;
@@ -658,11 +664,12 @@ fn odd(d: &mut Dice, was: i64, low: i64, high: i64) -> i64 {
 /// One value of one record changed.
 pub fn damage_record(d: &mut Dice, t: &mut Tables) {
     let h = t.header;
-    match d.below(10) {
+    match d.below(13) {
         0 | 1 => {
             let i = d.below(t.z.len());
             t.z[i] = odd(d, t.z[i], -100_000_000, 100_000_000);
         }
+        10..=12 if !t.t.is_empty() => in_the_t(d, &mut t.t),
         2..=4 => {
             let i = d.below(t.b.len());
             let place = d.below(5);
@@ -703,9 +710,132 @@ pub fn damage_record(d: &mut Dice, t: &mut Tables) {
     }
 }
 
+/// One position changed, or two so that they still sum to zero.
+fn in_the_t(d: &mut Dice, t: &mut [i64]) {
+    let i = d.below(t.len());
+    let was = t[i];
+    t[i] = match d.below(4) {
+        0 => was + 1,
+        1 => was - 1,
+        _ => odd(d, was, -100_000_000, 100_000_000),
+    };
+    if d.one_in(3) {
+        let other = (i + 1 + d.below(t.len() - 1)) % t.len();
+        t[other] = t[other].wrapping_sub(t[i].wrapping_sub(was));
+    }
+}
+
+/// What a lent header says of T, and whether it is refused.
+pub const PROFILES: [(u64, bool); 10] = [
+    (0, false),
+    (1, false),
+    (2, true),
+    (3, true),
+    (255, true),
+    (256, true),
+    (1 << 32, true),
+    ((1 << 32) + 1, true),
+    (1 << 63, true),
+    (u64::MAX, true),
+];
+
+/// A way to have T lines wrong: its name, and the refusal's number, line counted
+/// from the first T line's, and byte.
+pub type Wrong = (&'static str, u32, usize, usize);
+
+/// How many such ways there are, for a table of `zones` zones.
+pub const T_TEXTS: u64 = 16;
+
+/// The table's text with the T lines changed in a way; the table is of the
+/// intraday profile and has three zones or more.
+pub fn t_text(t: &Tables, way: u64) -> (Vec<u8>, Wrong) {
+    let zones = t.header.zones;
+    let mut lines = lines_of(&plain_text(t));
+    // where the T lines begin, and the line after them
+    let (first, after) = (1 + zones, 1 + 2 * zones);
+    // the first byte of the last position
+    let last = format!("T\t{}\t", zones - 1).len() + 1;
+    let with = |index: usize, value: &str| format!("T\t{index}\t{value}\n").into_bytes();
+    let less: i64 = -t.t[..zones - 1].iter().sum::<i64>();
+    let wrong = match way {
+        0 => ("as they are", 0, 0, 0),
+        1 => {
+            lines.drain(first..after);
+            ("none", 0, 0, 0)
+        }
+        2 => {
+            lines.remove(first);
+            ("without the first", 2, 0, 3)
+        }
+        3 => {
+            lines.remove(after - 1);
+            ("without the last", 2, zones - 1, 0)
+        }
+        4 => {
+            lines.insert(after, with(zones, "0"));
+            ("one too many", 2, zones, 0)
+        }
+        5 => {
+            lines.insert(after + t.header.borders, with(0, "0"));
+            ("one after B", 2, zones + t.header.borders, 0)
+        }
+        6 => {
+            lines.push(with(0, "0"));
+            ("one after C", 2, zones + t.header.borders + t.header.rows, 0)
+        }
+        7 => {
+            lines[after - 1] = with(zones - 1, &(less + 1).to_string());
+            ("sum 1", 3, zones - 1, last)
+        }
+        8 => {
+            lines[after - 1] = with(zones - 1, &(less - 1).to_string());
+            ("sum -1", 3, zones - 1, last)
+        }
+        9 => {
+            lines[first] = with(0, &(t.t[0] + if t.t[0] > 0 { -1 } else { 1 }).to_string());
+            ("sum by the first", 3, zones - 1, last)
+        }
+        10 => {
+            lines[first] = with(0, "100000001");
+            ("first out of range", 3, 0, 5)
+        }
+        11 => {
+            lines[after - 1] = with(zones - 1, "-100000001");
+            ("last out of range", 3, zones - 1, last)
+        }
+        12 => {
+            lines[after - 1] = with(zones - 1, "-0");
+            ("last malformed", 2, zones - 1, last + 1)
+        }
+        13 => {
+            lines[first] = with(0, "-0");
+            lines[after - 1] = with(zones - 1, "9");
+            ("first malformed", 2, 0, 6)
+        }
+        14 => {
+            lines.swap(first, first + 1);
+            ("in another order", 2, 0, 3)
+        }
+        _ => {
+            lines[after - 1] = with(zones - 1, &(less + 1).to_string());
+            lines[after] = b"B\n".to_vec();
+            ("sum before a bad B line", 3, zones - 1, last)
+        }
+    };
+    (lines.concat(), wrong)
+}
+
 /// A header that is out of range, or in range but not that of the tables.
 pub fn damage_header(d: &mut Dice, header: &mut Header) {
-    let place = d.below(4);
+    let place = d.below(5);
+    if place == 4 {
+        header.intraday = match d.below(4) {
+            0 if header.intraday == NO_T => INTRADAY,
+            0 => NO_T,
+            _ => d.of(&PROFILES).0,
+        };
+        return;
+    }
     if place == 3 {
         header.share = odd(d, header.share, NO_SHARE, 10_000);
         return;

@@ -4,7 +4,8 @@
 #![allow(dead_code)]
 
 use crate::dice::Dice;
-use crate::second::{margin_of, without_hubs, Border, Header, Tables, LTA, MOST_BORDERS, NO_HUB, NO_SHARE};
+use crate::second::{margin_of, remainder_of, without_hubs, Border, Header, Tables};
+use crate::second::{INTRADAY, LTA, MOST_BORDERS, NO_HUB, NO_SHARE, NO_T};
 
 /// What a table is made to show.  What it gives in the end is judged by the
 /// reference, not by this name.
@@ -82,9 +83,17 @@ fn sizes(d: &mut Dice) -> Header {
     of_size(zones as usize, borders as usize, rows as usize)
 }
 
-/// The header of a table of this size; `ordinary` and `slow` draw its share.
+/// The header of a table of this size; `ordinary` and `slow` draw the rest of it.
 fn of_size(zones: usize, borders: usize, rows: usize) -> Header {
-    Header { zones, borders, rows, share: NO_SHARE }
+    Header { zones, borders, rows, share: NO_SHARE, intraday: NO_T }
+}
+
+fn profile(d: &mut Dice) -> u64 {
+    if d.one_in(3) {
+        INTRADAY
+    } else {
+        NO_T
+    }
 }
 
 /// The default of R: often not written, often one that tells.
@@ -110,6 +119,24 @@ fn net_positions(d: &mut Dice, style: Style, zones: usize) -> Vec<i64> {
         }
     }
     z
+}
+
+/// Allocated positions: they sum to zero, being moved from one zone to another.
+fn allocated(d: &mut Dice, style: Style, zones: usize) -> Vec<i64> {
+    let mut t = vec![0; zones];
+    let style = match d.below(8) {
+        0 => return t,
+        1..=4 => Style::Near,
+        _ => style,
+    };
+    for _ in 0..d.of(&[1, 1, zones, 2 * zones]) {
+        let [one, other] = pair(d, zones).map(|zone| zone as usize);
+        let most = (100_000_000 - t[one]).min(100_000_000 + t[other]);
+        let some = value(d, style, 0, most, 3_000);
+        t[one] += some;
+        t[other] -= some;
+    }
+    t
 }
 
 /// Which borders of a table have hubs.
@@ -275,13 +302,15 @@ pub fn signed_factor(f: &[i64], border: &Border) -> i64 {
 }
 
 /// Row `row`'s CVA and IVA so that its starting margin is under one kW, or (by
-/// `more`) just below zero.  Left as it is where they cannot be that large.
+/// `more`) just below zero.  Left as it is where they cannot be that large, or
+/// where it is below zero without them.
 fn eat(d: &mut Dice, t: &mut Tables, row: usize, more: i64) {
     t.c[row][5] = 0;
     t.c[row][6] = 0;
     let m = margin_of(t, row);
-    let whole = ((m.ram - m.s) / 100_000) as i64 + more;
-    if whole > 20_000_000 {
+    let start = if t.header.intraday == INTRADAY { remainder_of(t, row, m.ram) } else { m.ram - m.s };
+    let whole = (start / 100_000) as i64 + more;
+    if start < 0 || whole > 20_000_000 {
         return;
     }
     let low = (whole - 10_000_000).max(0);
@@ -312,7 +341,9 @@ fn ordinary(d: &mut Dice, aim: Aim, sizes: Header) -> Tables {
     let hubs = d.of(&[Hubs::None, Hubs::None, Hubs::None, Hubs::Some, Hubs::Some, Hubs::All]);
     header.borders = header.borders.min(most_borders(hubs, header.zones));
     header.share = share(d);
+    header.intraday = profile(d);
     let z = net_positions(d, style, header.zones);
+    let t = if header.intraday == INTRADAY { allocated(d, style, header.zones) } else { vec![] };
     let b = borders(d, style, hubs, header.zones, header.borders);
     let parallel = d.of(&[0, 2, 4, 8]);
     let mut c: Vec<[i64; 7]> = Vec::new();
@@ -337,7 +368,7 @@ fn ordinary(d: &mut Dice, aim: Aim, sizes: Header) -> Tables {
             c.push(record(d, style));
         }
     }
-    let mut t = Tables { header, z, b, c, f };
+    let mut t = Tables { header, z, t, b, c, f };
     match aim {
         Aim::Free | Aim::Narrow | Aim::Slow => {
             if d.one_in(2) {
@@ -379,14 +410,21 @@ fn slow(d: &mut Dice) -> Tables {
     let hubs = d.one_in(3);
     let borders = if most { MOST_BORDERS - d.below(5) } else { 2 + d.below((half * half).min(MOST_BORDERS - 1)) };
     let more_rows = d.below(3);
-    let header = Header { share: share(d), ..of_size(zones, borders, 2 + more_rows) };
+    let header = Header { share: share(d), intraday: profile(d), ..of_size(zones, borders, 2 + more_rows) };
     let position = if most { 100_000_000 } else { d.of(&[1, 1_000, 1_000_000, 100_000_000]) };
-    let z = (0..zones).map(|zone| if zone < half { position } else { -position }).collect();
+    let across = |position: i64| -> Vec<i64> {
+        (0..zones).map(|zone| if zone < half { position } else { -position }).collect()
+    };
+    let z = across(position);
+    // with the net positions the second row stops the others all the more; against
+    // them the first has the most there can be
+    let part = d.of(&[0, 0, 1, position / 2, -position]);
+    let t = if header.intraday == INTRADAY { across(part) } else { vec![] };
     let mut pairs: Vec<(usize, usize)> =
         (0..half * half).map(|k| (k / half, half + k % half)).collect();
     // with hubs the factors add up to the same or to twice as much, and border 0 is as it was
     let near = |d: &mut Dice| pair(d, half);
-    let across = |d: &mut Dice| [(half + d.below(half)) as i64, d.below(half) as i64];
+    let back = |d: &mut Dice| [(half + d.below(half)) as i64, d.below(half) as i64];
     let mut b = vec![without_hubs(0, 1, 0)];
     if hubs && half > 3 {
         b[0] = [0, 1, 0, 2, 3];
@@ -395,7 +433,7 @@ fn slow(d: &mut Dice) -> Tables {
         let (from, to) = pairs.swap_remove(d.below(pairs.len()));
         let [sending, receiving] = match d.below(3) {
             0 if hubs => near(d),
-            1 if hubs => across(d),
+            1 if hubs => back(d),
             _ => [NO_HUB, NO_HUB],
         };
         b.push([from as i64, to as i64, 0, sending, receiving]);
@@ -420,7 +458,7 @@ fn slow(d: &mut Dice) -> Tables {
         }));
         c.push([10_000_000, 0, -20_000_000, 20_000_000, -1, 0, 0]);
     }
-    let mut t = Tables { header, z, b, c, f };
+    let mut t = Tables { header, z, t, b, c, f };
     // the second row's flow so that next to nothing is left of it
     let m = margin_of(&t, 1);
     let flow = (-m.f0core / 100_000) as i64;
@@ -461,4 +499,14 @@ pub fn of_borders(d: &mut Dice, borders: usize) -> Tables {
     let rows = 1 + d.below(5);
     let aim = d.of(&[Aim::Taken, Aim::Taken, Aim::Free, Aim::Free, Aim::Narrow, Aim::Lifted, Aim::Overeaten]);
     ordinary(d, aim, of_size(zones, borders, rows))
+}
+
+/// .. of the intraday profile.
+pub fn intraday(d: &mut Dice, borders: usize) -> Tables {
+    let mut t = of_borders(d, borders);
+    if t.header.intraday == NO_T {
+        t.header.intraday = INTRADAY;
+        t.t = allocated(d, Style::Near, t.header.zones);
+    }
+    t
 }

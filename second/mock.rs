@@ -37,9 +37,16 @@ impl<T> DerefMut for Lent<T> {
 struct LentTables {
     header: Header,
     z: Lent<i64>,
+    t: Lent<i64>,
     b: Lent<[i64; 5]>,
     c: Lent<[i64; 7]>,
     f: Lent<i64>,
+}
+
+impl LentTables {
+    fn lend(&self) -> second::Lent<'_> {
+        second::Lent { header: self.header, z: &self.z, t: &self.t, b: &self.b, c: &self.c, f: &self.f }
+    }
 }
 
 /// Number, place and byte of the refusal.
@@ -62,29 +69,31 @@ fn text_to(text: Result<Vec<u8>, Refusal>, out: &mut Lent<u8>) -> [u64; 4] {
     }
 }
 
-fn read(text: &Lent<u8>, l: &mut LentTables) -> [u64; 7] {
-    let LentTables { z, b, c, f, .. } = l;
-    let room = [z.len(), b.len(), c.len(), f.len()];
+fn read(text: &Lent<u8>, l: &mut LentTables) -> [u64; 8] {
+    let LentTables { z, t, b, c, f, .. } = l;
+    let room = [z.len(), t.len(), b.len(), c.len(), f.len()];
     match second::read(text, room) {
         Err(refusal) => {
             let zones = 0;
             let share = 0;
+            let intraday = 0;
             let [number, place, byte] = why(refusal);
-            [number, place, byte, zones, 0, 0, share]
+            [number, place, byte, zones, 0, 0, share, intraday]
         }
-        Ok(t) => {
-            z[..t.z.len()].copy_from_slice(&t.z);
-            b[..t.b.len()].copy_from_slice(&t.b);
-            c[..t.c.len()].copy_from_slice(&t.c);
-            f[..t.f.len()].copy_from_slice(&t.f);
-            let Header { zones, borders, rows, share } = t.header;
-            [0, 0, 0, zones as u64, borders as u64, rows as u64, share as u64]
+        Ok(tables) => {
+            z[..tables.z.len()].copy_from_slice(&tables.z);
+            t[..tables.t.len()].copy_from_slice(&tables.t);
+            b[..tables.b.len()].copy_from_slice(&tables.b);
+            c[..tables.c.len()].copy_from_slice(&tables.c);
+            f[..tables.f.len()].copy_from_slice(&tables.f);
+            let Header { zones, borders, rows, share, intraday } = tables.header;
+            [0, 0, 0, zones as u64, borders as u64, rows as u64, share as u64, intraday]
         }
     }
 }
 
 fn write(l: &mut LentTables, out: &mut Lent<u8>) -> [u64; 4] {
-    let text = second::write(l.header, &l.z, &l.b, &l.c, &l.f, out.len());
+    let text = second::write(l.lend(), out.len());
     text_to(text, out)
 }
 
@@ -94,8 +103,7 @@ fn extract(
     atc: &mut Lent<[i64; 1]>,
     left: &mut Lent<[i64; 3]>,
 ) -> [u64; 4] {
-    let LentTables { header, z, b, c, f } = l;
-    match second::extract(*header, z, b, c, f, p.len(), atc.len(), left.len()) {
+    match second::extract(l.lend(), p.len(), atc.len(), left.len()) {
         Err(refusal) => refused(refusal),
         Ok(outcome) => {
             p[..outcome.p.len()].copy_from_slice(&outcome.p);
@@ -111,12 +119,12 @@ fn extract(
 }
 
 fn result_text(l: &mut LentTables, out: &mut Lent<u8>) -> [u64; 4] {
-    let text = second::result_text(l.header, &l.z, &l.b, &l.c, &l.f, out.len());
+    let text = second::result_text(l.lend(), out.len());
     text_to(text, out)
 }
 
 fn corner_flows(l: &mut LentTables, row: usize, flows: &mut Lent<i64>) -> [u64; 4] {
-    match second::corner_flows(l.header, &l.z, &l.b, &l.c, &l.f, row, flows.len()) {
+    match second::corner_flows(l.lend(), row, flows.len()) {
         Err(refusal) => refused(refusal),
         Ok(found) => {
             for (item, flow) in flows.iter_mut().zip(&found) {
@@ -128,7 +136,7 @@ fn corner_flows(l: &mut LentTables, row: usize, flows: &mut Lent<i64>) -> [u64; 
 }
 
 fn corner_text(l: &mut LentTables, row: usize, out: &mut Lent<u8>) -> [u64; 4] {
-    let text = second::corner_text(l.header, &l.z, &l.b, &l.c, &l.f, row, out.len());
+    let text = second::corner_text(l.lend(), row, out.len());
     text_to(text, out)
 }
 
@@ -184,10 +192,11 @@ impl<R: Read> Request<R> {
 
     fn tables(&mut self) -> std::io::Result<LentTables> {
         let [_, zones, borders, rows, ..] = self.words.map(|word| word as usize);
-        let share = self.words[4] as i64;
+        let [_, _, _, _, share, intraday, ..] = self.words;
         Ok(LentTables {
-            header: Header { zones, borders, rows, share },
+            header: Header { zones, borders, rows, share: share as i64, intraday },
             z: self.lent(wire::Z)?,
+            t: self.lent(wire::T)?,
             b: self.lent(wire::B)?,
             c: self.lent(wire::C)?,
             f: self.lent(wire::F)?,
@@ -197,6 +206,7 @@ impl<R: Read> Request<R> {
 
 fn put_tables(l: &LentTables, to: &mut Vec<u8>) {
     wire::put_all(&l.z.whole, to);
+    wire::put_all(&l.t.whole, to);
     wire::put_all(&l.b.whole, to);
     wire::put_all(&l.c.whole, to);
     wire::put_all(&l.f.whole, to);

@@ -26,6 +26,11 @@ pub const MOST_BORDERS: usize = 64;
 pub const MOST_ROWS: usize = 200;
 /// "Document 01's largest round number, 3,840, becomes 6,144"
 pub const MOST_ROUNDS: u64 = 6_144;
+/// "In this profile ... the largest round number is 6,272 at 64 borders."
+pub const MOST_ROUNDS_INTRADAY: u64 = 6_272;
+/// How "the header record says whether T is there".
+pub const NO_T: u64 = 0;
+pub const INTRADAY: u64 = 1;
 
 /// Places of the values in a B record; the hubs are NO_HUB both where none are
 /// written.
@@ -57,6 +62,8 @@ pub struct Header {
     pub rows: usize,
     /// "the default and whether it was written": what "-" takes, or NO_SHARE
     pub share: i64,
+    /// INTRADAY where the T lines are there, else NO_T
+    pub intraday: u64,
 }
 
 #[derive(Clone, Debug, PartialEq, Eq)]
@@ -64,12 +71,32 @@ pub struct Tables {
     pub header: Header,
     /// reference net positions, kW
     pub z: Vec<i64>,
+    /// allocated net positions, kW: none, or one for each zone
+    pub t: Vec<i64>,
     /// from, to, LTA in MW, sending hub, receiving hub
     pub b: Vec<Border>,
     /// Fmax, FRM, Fref, F0all, R (-1 where "-" was written), CVA, IVA
     pub c: Vec<[i64; 7]>,
     /// "Row i's stretch starts at item i x zones."
     pub f: Vec<i64>,
+}
+
+/// Tables as they are lent to a call: each may be longer than its header says, or
+/// too short.
+#[derive(Clone, Copy)]
+pub struct Lent<'a> {
+    pub header: Header,
+    pub z: &'a [i64],
+    pub t: &'a [i64],
+    pub b: &'a [Border],
+    pub c: &'a [[i64; 7]],
+    pub f: &'a [i64],
+}
+
+impl Tables {
+    pub fn lend(&self) -> Lent<'_> {
+        Lent { header: self.header, z: &self.z, t: &self.t, b: &self.b, c: &self.c, f: &self.f }
+    }
 }
 
 #[derive(Clone, Copy, Debug, PartialEq, Eq)]
@@ -262,12 +289,18 @@ fn header_of(values: &[i64]) -> Header {
         borders: values[1] as usize,
         rows: values[2] as usize,
         share: values.get(3).copied().unwrap_or(NO_SHARE),
+        intraday: NO_T,
     }
 }
 
 /// "Z | index, reference net position"
 fn form_z(line: &[u8], index: usize) -> Result<Form, usize> {
     form_of(line, b"Z", &[Column::Index(index), Column::Signed], &[1])
+}
+
+/// "`T`, index, allocated net position"
+fn form_t(line: &[u8], index: usize) -> Result<Form, usize> {
+    form_of(line, b"T", &[Column::Index(index), Column::Signed], &[1])
 }
 
 /// "B | index, from zone, to zone, LTA"; "may carry two more fields, sending hub
@@ -318,6 +351,7 @@ fn fault_h(header: &Header) -> Option<usize> {
         (1..=MOST_BORDERS).contains(&header.borders),
         (1..=MOST_ROWS).contains(&header.rows),
         good_share(header.share),
+        header.intraday == NO_T || header.intraday == INTRADAY,
     ])
 }
 
@@ -329,6 +363,17 @@ fn good_share(share: i64) -> bool {
 /// "kW, -100000000..100000000"
 fn fault_z(position: i64) -> Option<usize> {
     first_bad(&[within(position, -100_000_000, 100_000_000)])
+}
+
+/// "allocated net position in kW, same range as Z"; "3 at the last T line where
+/// the sum isn't zero and that line is otherwise good".  `t`: the positions up to
+/// the one that is judged.
+fn fault_t(t: &[i64], zones: usize) -> Option<usize> {
+    let fault = fault_z(t[t.len() - 1]);
+    if fault.is_some() || t.len() < zones {
+        return fault;
+    }
+    first_bad(&[t.iter().sum::<i64>() == 0])
 }
 
 /// "from zone, to zone (both exist, not equal), LTA in MW 0..10000"; "3 also for a
@@ -374,12 +419,25 @@ fn line_z(index: usize) -> usize {
     2 + index
 }
 
-fn line_b(header: Header, index: usize) -> usize {
+fn line_t(header: Header, index: usize) -> usize {
     2 + header.zones + index
 }
 
+fn line_b(header: Header, index: usize) -> usize {
+    2 + header.zones + allocated(header) + index
+}
+
 fn line_c(header: Header, index: usize) -> usize {
-    2 + header.zones + header.borders + index
+    2 + header.zones + allocated(header) + header.borders + index
+}
+
+/// How many T lines or records there are: "no T line, or one for each zone".
+pub fn allocated(header: Header) -> usize {
+    if header.intraday == INTRADAY {
+        header.zones
+    } else {
+        0
+    }
 }
 
 // ---------------------------------------------------------------------------
@@ -404,15 +462,16 @@ fn judge_twice(b: &[Border]) -> Result<(), Refusal> {
 }
 
 /// "8 | a lent buffer is too short | items needed in the first short one", "in
-/// the order Z, B, C, factors"
-fn judge_lengths(header: Header, lent: [usize; 4]) -> Result<(), Refusal> {
+/// the order Z, B, C, factors", and "8 looks at T after Z"
+fn judge_lengths(header: Header, lent: [usize; 5]) -> Result<(), Refusal> {
     let needed = [
         header.zones,
+        allocated(header),
         header.borders,
         header.rows,
         header.rows * header.zones,
     ];
-    for kind in 0..4 {
+    for kind in 0..5 {
         if lent[kind] < needed[kind] {
             return refuse(8, needed[kind]);
         }
@@ -454,6 +513,11 @@ impl<'a> Lines<'a> {
         }
     }
 
+    /// Whether the next line has this letter.
+    fn begins(&self, letter: u8) -> bool {
+        self.text.get(self.start) == Some(&letter)
+    }
+
     /// "Nothing follows."  Anything there is an extra line: 2.
     fn end(&self) -> Result<(), Refusal> {
         if self.start < self.text.len() {
@@ -480,7 +544,7 @@ fn judged(
 }
 
 /// "Order: one H line, then all Z, B, C lines, each kind by index from 0.
-/// Nothing follows."
+/// Nothing follows."  T lines "follow the Z lines".
 fn read_lines(text: &[u8]) -> Result<Tables, Refusal> {
     let mut lines = Lines { text, start: 0, number: 1 };
 
@@ -489,6 +553,7 @@ fn read_lines(text: &[u8]) -> Result<Tables, Refusal> {
     let mut tables = Tables {
         header,
         z: Vec::new(),
+        t: Vec::new(),
         b: Vec::new(),
         c: Vec::new(),
         f: Vec::new(),
@@ -496,6 +561,16 @@ fn read_lines(text: &[u8]) -> Result<Tables, Refusal> {
     for index in 0..header.zones {
         let (number, line) = lines.next()?;
         tables.z.extend(judged(number, form_z(line, index), |v| fault_z(v[0]))?);
+    }
+    // "A text has no T line, or one for each zone, and then it is of this profile."
+    if lines.begins(b'T') {
+        tables.header.intraday = INTRADAY;
+    }
+    for index in 0..allocated(tables.header) {
+        let (number, line) = lines.next()?;
+        let before = tables.t.clone();
+        let fault = |v: &[i64]| fault_t(&[&before[..], v].concat(), header.zones);
+        tables.t.extend(judged(number, form_t(line, index), fault)?);
     }
     for index in 0..header.borders {
         let (number, line) = lines.next()?;
@@ -514,8 +589,8 @@ fn read_lines(text: &[u8]) -> Result<Tables, Refusal> {
 }
 
 /// "Reading judges 1 to 4 and then 8."  `room` is the number of items in the
-/// lent Z, B, C and factor buffers.
-pub fn read(text: &[u8], room: [usize; 4]) -> Result<Tables, Refusal> {
+/// lent Z, T, B, C and factor buffers.
+pub fn read(text: &[u8], room: [usize; 5]) -> Result<Tables, Refusal> {
     if text.len() > MOST_BYTES {
         return refuse(1, 0);
     }
@@ -531,20 +606,16 @@ pub fn read(text: &[u8], room: [usize; 4]) -> Result<Tables, Refusal> {
 
 /// "A call on lent tables judges the header (3, line 1), then lengths (8)".  The
 /// result is the front part of each lent table, its values not yet judged.
-fn front_of(
-    header: Header,
-    z: &[i64],
-    b: &[Border],
-    c: &[[i64; 7]],
-    f: &[i64],
-) -> Result<Tables, Refusal> {
+fn front_of(lent: Lent) -> Result<Tables, Refusal> {
+    let Lent { header, z, t, b, c, f } = lent;
     if fault_h(&header).is_some() {
         return refuse(3, LINE_H);
     }
-    judge_lengths(header, [z.len(), b.len(), c.len(), f.len()])?;
+    judge_lengths(header, [z.len(), t.len(), b.len(), c.len(), f.len()])?;
     Ok(Tables {
         header,
         z: z[..header.zones].to_vec(),
+        t: t[..allocated(header)].to_vec(),
         b: b[..header.borders].to_vec(),
         c: c[..header.rows].to_vec(),
         f: f[..header.rows * header.zones].to_vec(),
@@ -558,14 +629,8 @@ fn judge_values(tables: &Tables) -> Result<(), Refusal> {
 }
 
 /// What every call on lent tables judges.
-pub fn judge(
-    header: Header,
-    z: &[i64],
-    b: &[Border],
-    c: &[[i64; 7]],
-    f: &[i64],
-) -> Result<Tables, Refusal> {
-    let tables = front_of(header, z, b, c, f)?;
+pub fn judge(lent: Lent) -> Result<Tables, Refusal> {
+    let tables = front_of(lent)?;
     judge_values(&tables)?;
     Ok(tables)
 }
@@ -577,6 +642,11 @@ fn judge_records(tables: &Tables) -> Result<(), Refusal> {
     for index in 0..header.zones {
         if fault_z(tables.z[index]).is_some() {
             return refuse(3, line_z(index));
+        }
+    }
+    for index in 0..allocated(header) {
+        if fault_t(&tables.t[..=index], header.zones).is_some() {
+            return refuse(3, line_t(header, index));
         }
     }
     for index in 0..header.borders {
@@ -633,6 +703,9 @@ fn table_text(tables: &Tables) -> Vec<u8> {
     for (index, position) in tables.z.iter().enumerate() {
         push_line(&mut out, "Z", &[index.to_string(), position.to_string()]);
     }
+    for (index, position) in tables.t.iter().enumerate() {
+        push_line(&mut out, "T", &[index.to_string(), position.to_string()]);
+    }
     for (index, record) in tables.b.iter().enumerate() {
         let mut fields = vec![index.to_string()];
         let written = if record[SENDING] == NO_HUB { &record[..SENDING] } else { &record[..] };
@@ -657,15 +730,8 @@ fn table_text(tables: &Tables) -> Vec<u8> {
 }
 
 /// The table as text from lent tables; "for text the items are bytes".
-pub fn write(
-    header: Header,
-    z: &[i64],
-    b: &[Border],
-    c: &[[i64; 7]],
-    f: &[i64],
-    room: usize,
-) -> Result<Vec<u8>, Refusal> {
-    let tables = judge(header, z, b, c, f)?;
+pub fn write(lent: Lent, room: usize) -> Result<Vec<u8>, Refusal> {
+    let tables = judge(lent)?;
     let text = table_text(&tables);
     judge_room(room, text.len())?;
     Ok(text)
@@ -918,6 +984,34 @@ pub struct Outcome {
     pub divisions: u64,
 }
 
+/// "RAM less the sum of factor times T"
+pub fn remainder_of(tables: &Tables, row: usize, ram: i128) -> i128 {
+    let mut sum = 0;
+    for (factor, position) in factors_of(tables, row).iter().zip(&tables.t) {
+        sum += i128::from(*factor) * i128::from(*position);
+    }
+    ram - sum
+}
+
+/// "A row's margin starts at RAM - S."  Intraday it is the remainder, "taken as 0
+/// where negative".
+fn starting_margin(tables: &Tables, row: usize, margin: &Margin) -> i128 {
+    if tables.header.intraday == INTRADAY {
+        remainder_of(tables, row, margin.ram).max(0)
+    } else {
+        margin.ram - margin.s
+    }
+}
+
+/// "Each border starts at its LTA."  Intraday "every border starts at 0 kW".
+fn starting_kw(header: &Header, border: &Border) -> i128 {
+    if header.intraday == INTRADAY {
+        0
+    } else {
+        lta_kw(border)
+    }
+}
+
 /// "Keep, per kept row, the factors p of all borders side by side, laid out
 /// border after border"; "rows x borders items, zero for rows not kept".
 fn p_table(tables: &Tables, states: &[u8]) -> Vec<u64> {
@@ -942,8 +1036,8 @@ struct Kept {
     margin: i128,
 }
 
-/// The rows of state 0, each with margin RAM - S.  p is read from the table of p
-/// only.
+/// The rows of state 0, each with its starting margin.  p is read from the table of
+/// p only.
 fn kept_rows(tables: &Tables, margins: &[Margin], states: &[u8], p_table: &[u64]) -> Vec<Kept> {
     let borders = tables.header.borders;
     let mut kept = Vec::new();
@@ -955,8 +1049,7 @@ fn kept_rows(tables: &Tables, margins: &[Margin], states: &[u8], p_table: &[u64]
         let own = &p_table[row * borders..(row + 1) * borders];
         let p: Vec<i128> = own.iter().map(|p| i128::from(*p)).collect();
         let n = p.iter().filter(|p| **p > 0).count() as i128;
-        // "A row's margin starts at RAM - S."
-        let margin = margins[row].ram - margins[row].s;
+        let margin = starting_margin(tables, row, &margins[row]);
         kept.push(Kept { row, p, n, margin });
     }
     kept
@@ -980,7 +1073,8 @@ fn judge_borders_limited(kept: &[Kept], borders: usize) -> Result<(), Refusal> {
     Ok(())
 }
 
-/// "7 | a kept row's starting margin is below 0 | first such row's index"
+/// "7 | a kept row's starting margin is below 0 | first such row's index";
+/// intraday none is
 fn judge_starting_margins(kept: &[Kept]) -> Result<(), Refusal> {
     for row in kept {
         if row.margin < 0 {
@@ -1059,8 +1153,7 @@ fn work(tables: &Tables) -> Result<Outcome, Refusal> {
     let n_most = n_of(&kept);
     let l_bits = l_of(&kept, borders);
 
-    // "Each border starts at its LTA."
-    let mut kw: Vec<i128> = tables.b.iter().map(lta_kw).collect();
+    let mut kw: Vec<i128> = tables.b.iter().map(|border| starting_kw(&tables.header, border)).collect();
     let mut rounds: u64 = 0;
     let mut divisions: u64 = 0;
     loop {
@@ -1114,20 +1207,24 @@ fn row_outcomes(margins: &[Margin], states: &[u8], kept: &[Kept]) -> Vec<RowOut>
 
 /// What the rules promise of a result.
 fn check_outcome(tables: &Tables, kept: &[Kept], outcome: &Outcome) {
+    let intraday = tables.header.intraday == INTRADAY;
     // "rounds are at most 2 x N x L, so at most" the largest round number
     assert!(outcome.rounds <= 2 * outcome.n_most as u64 * u64::from(outcome.l_bits));
-    assert!(outcome.rounds <= MOST_ROUNDS);
+    assert!(outcome.rounds <= if intraday { MOST_ROUNDS_INTRADAY } else { MOST_ROUNDS });
     for row in kept {
         // the largest load of the row: each relieving border at 0
         let mut load = 0;
         for border in 0..tables.header.borders {
             load += row.p[border] * i128::from(outcome.kw[border]);
         }
-        assert!(row.margin >= 0);
-        assert_eq!(outcome.rows[row.row].ram - load, row.margin);
+        let ram = outcome.rows[row.row].ram;
+        let whole = if intraday { remainder_of(tables, row.row, ram).max(0) } else { ram };
+        // "starting margins stay under 2^49 grains"
+        assert!(row.margin >= 0 && whole < 1 << 49);
+        assert_eq!(whole - load, row.margin);
     }
     for border in 0..tables.header.borders {
-        assert!(i128::from(outcome.kw[border]) >= lta_kw(&tables.b[border]));
+        assert!(i128::from(outcome.kw[border]) >= starting_kw(&tables.header, &tables.b[border]));
         assert_eq!(outcome.atc[border], outcome.kw[border] / 1_000);
     }
 }
@@ -1135,17 +1232,9 @@ fn check_outcome(tables: &Tables, kept: &[Kept], outcome: &Outcome) {
 /// The tables judged, then 5, 6 and 7; "last comes room for results (8)",
 /// "border results before row results".  The table of p is "lent, rows x borders
 /// items"; "8 looks at it after factors", so before the records.
-pub fn extract(
-    header: Header,
-    z: &[i64],
-    b: &[Border],
-    c: &[[i64; 7]],
-    f: &[i64],
-    room_p: usize,
-    room_borders: usize,
-    room_rows: usize,
-) -> Result<Outcome, Refusal> {
-    let tables = front_of(header, z, b, c, f)?;
+pub fn extract(lent: Lent, room_p: usize, room_borders: usize, room_rows: usize) -> Result<Outcome, Refusal> {
+    let header = lent.header;
+    let tables = front_of(lent)?;
     judge_room(room_p, header.rows * header.borders)?;
     judge_values(&tables)?;
     let outcome = work(&tables)?;
@@ -1182,15 +1271,8 @@ fn outcome_text(outcome: &Outcome) -> Vec<u8> {
 }
 
 /// "result text is made from the tables"; its room is in bytes.
-pub fn result_text(
-    header: Header,
-    z: &[i64],
-    b: &[Border],
-    c: &[[i64; 7]],
-    f: &[i64],
-    room: usize,
-) -> Result<Vec<u8>, Refusal> {
-    let tables = judge(header, z, b, c, f)?;
+pub fn result_text(lent: Lent, room: usize) -> Result<Vec<u8>, Refusal> {
+    let tables = judge(lent)?;
     let outcome = work(&tables)?;
     let text = outcome_text(&outcome);
     judge_room(room, text.len())?;
@@ -1205,13 +1287,12 @@ pub fn refusal_text(refusal: Refusal) -> Vec<u8> {
     out
 }
 
-const ALL_ROOM: [usize; 4] = [usize::MAX; 4];
+const ALL_ROOM: [usize; 5] = [usize::MAX; 5];
 
 /// "The program reads the table on standard input and writes this, or one line
 /// `E`".
 pub fn answer(text: &[u8]) -> Vec<u8> {
-    let result = read(text, ALL_ROOM)
-        .and_then(|t| result_text(t.header, &t.z, &t.b, &t.c, &t.f, usize::MAX));
+    let result = read(text, ALL_ROOM).and_then(|tables| result_text(tables.lend(), usize::MAX));
     match result {
         Ok(text) => text,
         Err(refusal) => refusal_text(refusal),
@@ -1220,8 +1301,7 @@ pub fn answer(text: &[u8]) -> Vec<u8> {
 
 /// The table read and written again, or the E line.
 pub fn rewrite(text: &[u8]) -> Vec<u8> {
-    let result =
-        read(text, ALL_ROOM).and_then(|t| write(t.header, &t.z, &t.b, &t.c, &t.f, usize::MAX));
+    let result = read(text, ALL_ROOM).and_then(|tables| write(tables.lend(), usize::MAX));
     match result {
         Ok(text) => text,
         Err(refusal) => refusal_text(refusal),
@@ -1281,34 +1361,18 @@ fn sheet_text(tables: &Tables, row: usize) -> Vec<u8> {
 
 /// One row's flows.  The tables judged, then 9, "after 4 and before the room for
 /// results"; the room is in numbers.  5, 6 and 7 are the extraction's.
-pub fn corner_flows(
-    header: Header,
-    z: &[i64],
-    b: &[Border],
-    c: &[[i64; 7]],
-    f: &[i64],
-    row: usize,
-    room: usize,
-) -> Result<Vec<i128>, Refusal> {
-    let tables = judge(header, z, b, c, f)?;
-    judge_sheet(header, row)?;
+pub fn corner_flows(lent: Lent, row: usize, room: usize) -> Result<Vec<i128>, Refusal> {
+    let tables = judge(lent)?;
+    judge_sheet(tables.header, row)?;
     let flows = flows_of(&tables, row);
     judge_room(room, flows.len())?;
     Ok(flows)
 }
 
 /// One row's sheet as text; the room is in bytes.
-pub fn corner_text(
-    header: Header,
-    z: &[i64],
-    b: &[Border],
-    c: &[[i64; 7]],
-    f: &[i64],
-    row: usize,
-    room: usize,
-) -> Result<Vec<u8>, Refusal> {
-    let tables = judge(header, z, b, c, f)?;
-    judge_sheet(header, row)?;
+pub fn corner_text(lent: Lent, row: usize, room: usize) -> Result<Vec<u8>, Refusal> {
+    let tables = judge(lent)?;
+    judge_sheet(tables.header, row)?;
     let text = sheet_text(&tables, row);
     judge_room(room, text.len())?;
     Ok(text)

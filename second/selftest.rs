@@ -5,7 +5,7 @@ mod second;
 
 use second::*;
 
-const ALL: [usize; 4] = [usize::MAX; 4];
+const ALL: [usize; 5] = [usize::MAX; 5];
 
 /// Tabs are shown as blanks, LF as " / " or as itself.
 fn text(shown: &str) -> Vec<u8> {
@@ -23,7 +23,12 @@ fn table(shown: &str) -> Tables {
 }
 
 fn out(t: &Tables) -> Result<Outcome, Refusal> {
-    extract(t.header, &t.z, &t.b, &t.c, &t.f, usize::MAX, usize::MAX, usize::MAX)
+    extract(t.lend(), usize::MAX, usize::MAX, usize::MAX)
+}
+
+/// Lent tables without an item.
+fn nothing(header: Header) -> Lent<'static> {
+    Lent { header, z: &[], t: &[], b: &[], c: &[], f: &[] }
 }
 
 /// A refusal that no byte is to blame for.
@@ -307,15 +312,15 @@ fn sizes() {
 #[test]
 fn lent_tables_of_40_are_enough_for_40() {
     let all = |borders| sized(16, borders, 1);
-    assert!(read(&all(40), [16, 40, 1, 16]).is_ok());
-    assert_eq!(read(&all(40), [16, 39, 1, 16]), e(8, 40));
-    assert_eq!(read(&all(64), [16, 63, 1, 16]), e(8, 64));
+    assert!(read(&all(40), [16, 0, 40, 1, 16]).is_ok());
+    assert_eq!(read(&all(40), [16, 0, 39, 1, 16]), e(8, 40));
+    assert_eq!(read(&all(64), [16, 0, 63, 1, 16]), e(8, 64));
     let t = read(&all(40), ALL).unwrap();
     assert_eq!(t.b.len(), 40);
-    assert!(write(t.header, &t.z, &t.b, &t.c, &t.f, usize::MAX).is_ok());
+    assert!(write(t.lend(), usize::MAX).is_ok());
     // factors 100000 and -100000 in turn: border 1, from 0 to 2, loads no row, and 6
     // comes before the room for results
-    let with = |p, atc| extract(t.header, &t.z, &t.b, &t.c, &t.f, p, atc, 1);
+    let with = |p, atc| extract(t.lend(), p, atc, 1);
     assert_eq!((with(39, 40).err(), with(40, 39).err()), (e::<()>(8, 40).err(), e::<()>(6, 1).err()));
 }
 
@@ -326,7 +331,7 @@ fn stored_texts_of_40_borders_mean_the_same() {
         (include_bytes!("../hours/busy.tsv"), 429, 23_473),
         (include_bytes!("../hours/worst.tsv"), 1_171, 164_075_599_999),
     ] {
-        let t = read(bytes, [16, 40, 200, 3_200]).unwrap();
+        let t = read(bytes, [16, 0, 40, 200, 3_200]).unwrap();
         assert_eq!((t.header.zones, t.header.borders, t.header.rows), (16, 40, 200));
         assert_eq!(rewrite(bytes), bytes);
         let o = out(&t).unwrap();
@@ -352,12 +357,19 @@ fn longest() -> Tables {
 #[test]
 fn longest_text() {
     let t = longest();
-    let bytes = write(t.header, &t.z, &t.b, &t.c, &t.f, usize::MAX).unwrap();
+    let bytes = write(t.lend(), usize::MAX).unwrap();
     // H 18; Z 10 of 15 and 6 of 16; B 10 of 22 and 54 of 23; C 10 of 194, 90 of 195
     // and 100 of 196
     let by_hand = 18 + (150 + 96) + (220 + 1_242) + (1_940 + 17_550 + 19_600);
     assert_eq!((bytes.len(), by_hand), (40_816, 40_816));
     assert!(bytes.len() <= MOST_BYTES);
+    assert_eq!(read(&bytes, ALL), Ok(t.clone()));
+    // T: 16 of 14, and one more for each of 8 minus signs and 6 indices of two digits
+    let mut t = t;
+    t.header.intraday = INTRADAY;
+    t.t = (0..16).map(|zone| if zone % 2 == 0 { -100_000_000 } else { 100_000_000 }).collect();
+    let bytes = write(t.lend(), usize::MAX).unwrap();
+    assert_eq!(bytes.len(), by_hand + 16 * 14 + 8 + 6);
     assert_eq!(read(&bytes, ALL), Ok(t));
 }
 
@@ -370,7 +382,7 @@ fn refusal_1() {
     assert_eq!(read_refusal(&t), Some((2, 11)));
     t.push(b'x');
     assert_eq!(read_refusal(&t), Some((1, 0)));
-    assert_eq!(read(&vec![0u8; 70_000], [0; 4]), e(1, 0));
+    assert_eq!(read(&vec![0u8; 70_000], [0; 5]), e(1, 0));
 }
 
 #[test]
@@ -521,22 +533,22 @@ fn refusal_7_looks_at_kept_rows_only() {
 #[test]
 fn refusal_8_reading() {
     let t = text(HOUR);
-    assert!(read(&t, [3, 2, 4, 12]).is_ok());
-    assert_eq!(read(&t, [2, 2, 4, 12]), e(8, 3));
-    assert_eq!(read(&t, [2, 0, 0, 0]), e(8, 3));
-    assert_eq!(read(&t, [3, 1, 0, 0]), e(8, 2));
-    assert_eq!(read(&t, [3, 2, 3, 0]), e(8, 4));
-    assert_eq!(read(&t, [3, 2, 4, 11]), e(8, 12));
+    assert!(read(&t, [3, 0, 2, 4, 12]).is_ok());
+    assert_eq!(read(&t, [2, 0, 2, 4, 12]), e(8, 3));
+    assert_eq!(read(&t, [2, 0, 0, 0, 0]), e(8, 3));
+    assert_eq!(read(&t, [3, 0, 1, 0, 0]), e(8, 2));
+    assert_eq!(read(&t, [3, 0, 2, 3, 0]), e(8, 4));
+    assert_eq!(read(&t, [3, 0, 2, 4, 11]), e(8, 12));
     // 2, 3 and 4 before 8
-    assert_eq!(read(&hour_with(10, "C 3"), [0; 4]), e(2, 10));
-    assert_eq!(read(&hour_with(2, "Z 0 100000001"), [0; 4]), Err(Refusal { number: 3, place: 2, byte: 5 }));
-    assert_eq!(read(&hour_with(6, "B 1 0 1 0"), [0; 4]), e(4, 1));
+    assert_eq!(read(&hour_with(10, "C 3"), [0; 5]), e(2, 10));
+    assert_eq!(read(&hour_with(2, "Z 0 100000001"), [0; 5]), Err(Refusal { number: 3, place: 2, byte: 5 }));
+    assert_eq!(read(&hour_with(6, "B 1 0 1 0"), [0; 5]), e(4, 1));
 }
 
 #[test]
 fn lent_tables() {
     let t = table(HOUR);
-    let j = |t: &Tables| judge(t.header, &t.z, &t.b, &t.c, &t.f);
+    let j = |t: &Tables| judge(t.lend());
     assert_eq!(j(&t), Ok(t.clone()));
     // longer lent tables: the front part
     let mut long = t.clone();
@@ -558,16 +570,20 @@ fn lent_tables() {
         Header { share: i64::MIN, ..t.header },
         Header { share: i64::MAX, ..t.header },
         Header { share: (1 << 32) + 7_000, ..t.header },
+        Header { intraday: 2, ..t.header },
+        Header { intraday: u64::MAX, ..t.header },
+        Header { intraday: 1 << 32, ..t.header },
+        Header { intraday: (1 << 32) + 1, ..t.header },
     ] {
-        assert_eq!(judge(header, &[], &[], &[], &[]), e(3, 1));
+        assert_eq!(judge(nothing(header)), e(3, 1));
     }
     // lengths before values
     let bad_z = [i64::MAX; 3];
-    assert_eq!(judge(t.header, &bad_z[..2], &[], &[], &[]), e(8, 3));
-    assert_eq!(judge(t.header, &bad_z, &t.b[..1], &[], &[]), e(8, 2));
-    assert_eq!(judge(t.header, &bad_z, &t.b, &t.c[..3], &[]), e(8, 4));
-    assert_eq!(judge(t.header, &bad_z, &t.b, &t.c, &t.f[..11]), e(8, 12));
-    assert_eq!(judge(t.header, &bad_z, &t.b, &t.c, &t.f), e(3, 2));
+    assert_eq!(judge(Lent { z: &bad_z[..2], ..nothing(t.header) }), e(8, 3));
+    assert_eq!(judge(Lent { z: &bad_z, b: &t.b[..1], ..nothing(t.header) }), e(8, 2));
+    assert_eq!(judge(Lent { z: &bad_z, b: &t.b, c: &t.c[..3], ..nothing(t.header) }), e(8, 4));
+    assert_eq!(judge(Lent { z: &bad_z, f: &t.f[..11], ..t.lend() }), e(8, 12));
+    assert_eq!(judge(Lent { z: &bad_z, ..t.lend() }), e(3, 2));
     // records by their line
     let mut one = t.clone();
     one.z[2] = -100_000_001;
@@ -609,16 +625,16 @@ fn lent_tables() {
 #[test]
 fn room_for_results() {
     let t = table(HOUR);
-    let x = |t: &Tables, b, r| extract(t.header, &t.z, &t.b, &t.c, &t.f, 8, b, r).map(|_| ());
+    let x = |t: &Tables, b, r| extract(t.lend(), 8, b, r).map(|_| ());
     assert_eq!(x(&t, 2, 4), Ok(()));
     assert_eq!(x(&t, 1, 0), e(8, 2));
     assert_eq!(x(&t, 2, 3), e(8, 4));
     let size = text(HOUR_GIVES).len();
-    let rt = |t: &Tables, room| result_text(t.header, &t.z, &t.b, &t.c, &t.f, room);
+    let rt = |t: &Tables, room| result_text(t.lend(), room);
     assert_eq!(rt(&t, size), Ok(text(HOUR_GIVES)));
     assert_eq!(rt(&t, size - 1), e(8, size));
     let size = text(HOUR).len();
-    let w = |t: &Tables, room| write(t.header, &t.z, &t.b, &t.c, &t.f, room);
+    let w = |t: &Tables, room| write(t.lend(), room);
     assert_eq!(w(&t, size), Ok(text(HOUR)));
     assert_eq!(w(&t, size - 1), e(8, size));
     assert_eq!(w(&t, 0), e(8, size));
@@ -909,9 +925,9 @@ fn lent_tables_name_no_byte() {
     let t = table(HOUR);
     let mut bad = t.clone();
     bad.c[1][0] = 0;
-    assert_eq!(judge(bad.header, &bad.z, &bad.b, &bad.c, &bad.f), e(3, 8));
+    assert_eq!(judge(bad.lend()), e(3, 8));
     assert_eq!(out(&bad).map(|_| ()), e(3, 8));
-    assert_eq!(judge(Header { zones: 17, ..t.header }, &t.z, &t.b, &t.c, &t.f), e(3, 1));
+    assert_eq!(judge(Lent { header: Header { zones: 17, ..t.header }, ..t.lend() }), e(3, 1));
 }
 
 // ------------------------------------------------------------ the default of R
@@ -955,20 +971,219 @@ fn default_of_a_lent_header() {
     let t = table(HOUR);
     for share in [-1, 0, 7_000, 10_000] {
         let one = Header { share, ..t.header };
-        assert_eq!(judge(one, &t.z, &t.b, &t.c, &t.f).map(|t| t.header), Ok(one));
+        assert_eq!(judge(Lent { header: one, ..t.lend() }).map(|t| t.header), Ok(one));
     }
     // the header before lengths, in every call
     let bad = Header { share: 10_001, ..t.header };
-    assert_eq!(write(bad, &[], &[], &[], &[], 0), e(3, 1));
-    assert_eq!(extract(bad, &[], &[], &[], &[], 0, 0, 0).map(|_| ()), e(3, 1));
-    assert_eq!(result_text(bad, &[], &[], &[], &[], 0), e(3, 1));
-    assert_eq!(corner_flows(bad, &[], &[], &[], &[], 0, 0), e(3, 1));
-    assert_eq!(corner_text(bad, &[], &[], &[], &[], 0, 0), e(3, 1));
+    assert_eq!(write(nothing(bad), 0), e(3, 1));
+    assert_eq!(extract(nothing(bad), 0, 0, 0).map(|_| ()), e(3, 1));
+    assert_eq!(result_text(nothing(bad), 0), e(3, 1));
+    assert_eq!(corner_flows(nothing(bad), 0, 0), e(3, 1));
+    assert_eq!(corner_text(nothing(bad), 0, 0), e(3, 1));
     let mut hour = t.clone();
     hour.header.share = 7_000;
     let mut wanted = text(HOUR);
     wanted.splice(7..7, *b"\t7000");
-    assert_eq!(write(hour.header, &t.z, &t.b, &t.c, &t.f, usize::MAX), Ok(wanted));
+    assert_eq!(write(hour.lend(), usize::MAX), Ok(wanted));
+}
+
+// --------------------------------------------------------- intraday remainder
+
+/// Two zones, one row of 100,000 kW with p 20000, LTA 100 MW, and these T lines.
+fn allocated_hour(t: &str) -> Vec<u8> {
+    text(&format!("H 2 1 1 / Z 0 0 / Z 1 0{t} / B 0 0 1 100 / C 0 100000 0 0 0 0 0 0 20000 0"))
+}
+
+#[test]
+fn remainder_by_hand() {
+    // RAM 10^10 whatever T; without T from 100 MW on, with S 2 x 10^9
+    assert_eq!(shown(&answer(&allocated_hour(""))), "A 0 500 / M 0 0 10000000000 0 / R 1");
+    // 20000 x 1000 kW taken: 9.98 x 10^9 left, from 0 kW on 499,000 kW
+    assert_eq!(shown(&answer(&allocated_hour(" / T 0 1000 / T 1 -1000"))), "A 0 499 / M 0 0 10000000000 0 / R 1");
+    // relieved: 501,000 kW
+    assert_eq!(shown(&answer(&allocated_hour(" / T 0 -1000 / T 1 1000"))), "A 0 501 / M 0 0 10000000000 0 / R 1");
+    // nothing allocated is still this profile: from 0 kW, and not from LTA
+    assert_eq!(shown(&answer(&allocated_hour(" / T 0 0 / T 1 0"))), "A 0 500 / M 0 0 10000000000 0 / R 1");
+    let o = out(&read(&allocated_hour(" / T 0 0 / T 1 0"), ALL).unwrap()).unwrap();
+    assert_eq!((o.kw[0], o.rounds), (500_000, 1));
+    // one kW left, none left, and less than none
+    for (t, kw, rounds) in [(499_999, 1, 1), (500_000, 0, 0), (500_001, 0, 0), (100_000_000, 0, 0)] {
+        let bytes = allocated_hour(&format!(" / T 0 {t} / T 1 -{t}"));
+        assert_eq!(shown(&answer(&bytes)), format!("A 0 0 / M 0 0 10000000000 0 / R {rounds}"));
+        assert_eq!(out(&read(&bytes, ALL).unwrap()).unwrap().kw, vec![kw]);
+    }
+    // a rest under one kW stays: p 30000 of 10^10
+    let rest = text("H 2 1 1 / Z 0 0 / Z 1 0 / T 0 0 / T 1 0 / B 0 0 1 100 / C 0 100000 0 0 0 0 0 0 30000 0");
+    assert_eq!(shown(&answer(&rest)), "A 0 333 / M 0 0 10000000000 10000 / R 1");
+}
+
+#[test]
+fn no_refusal_7_intraday() {
+    let hour = |t: &str| text(&format!("H 2 1 1 / Z 0 0 / Z 1 0{t} / B 0 0 1 100 / C 0 10000 0 0 0 0 0 1 20000 0"));
+    assert_eq!(shown(&answer(&hour(""))), "E 7 0 0");
+    // RAM 19,999 kW (S less IVA): 99,995 kW
+    assert_eq!(shown(&answer(&hour(" / T 0 0 / T 1 0"))), "A 0 99 / M 0 0 1999900000 0 / R 1");
+    // a RAM below 0
+    let below = |t: &str| text(&format!("H 2 1 1 / Z 0 0 / Z 1 0{t} / B 0 0 1 0 / C 0 100 0 0 0 0 900 0 20000 0"));
+    assert_eq!(shown(&answer(&below(""))), "E 7 0 0");
+    assert_eq!(shown(&answer(&below(" / T 0 0 / T 1 0"))), "A 0 0 / M 0 0 -80000000 0 / R 0");
+    // 5 and 6 are given
+    assert_eq!(shown(&answer(&text("H 2 1 1 / Z 0 0 / Z 1 0 / T 0 0 / T 1 0 / B 0 0 1 0 / C 0 100 0 0 0 0 0 0 4999 0"))), "E 5 0 0");
+    assert_eq!(shown(&answer(&text("H 2 1 1 / Z 0 0 / Z 1 0 / T 0 0 / T 1 0 / B 0 1 0 0 / C 0 100 0 0 0 0 0 0 5000 0"))), "E 6 0 0");
+}
+
+#[test]
+fn states_are_by_ram() {
+    // row 1 is row 0 moved by 1000, T sums to zero: the same remainder taken off, RAM decides
+    let t = table("H 2 1 2 / Z 0 0 / Z 1 0 / T 0 5 / T 1 -5 / B 0 0 1 0 / C 0 101 0 0 0 0 0 0 6000 1000 / C 1 100 0 0 0 0 0 0 5000 0");
+    let o = out(&t).unwrap();
+    assert_eq!((o.rows[0].state, o.rows[1].state), (2, 0));
+    // 100 kW less 5000 x 5 kW: 9,975,000 grains, 1995 kW of p 5000
+    assert_eq!((o.kw[0], o.rows[1].left), (1_995, Some(0)));
+}
+
+#[test]
+fn worked_hour_after_the_coupling() {
+    // row 0: 30000 x 100000 - 10000 x 40000 = 2.6 x 10^9 of 7 x 10^10; row 1:
+    // 5000 x 60000 = 3 x 10^8 of 9 x 10^9
+    let mut lines: Vec<&str> = HOUR.lines().collect();
+    lines.splice(4..4, ["T 0 100000", "T 1 -40000", "T 2 -60000"]);
+    let bytes = text(&lines.join("\n"));
+    let t = read(&bytes, ALL).unwrap();
+    assert_eq!(t.t, vec![100_000, -40_000, -60_000]);
+    assert_eq!(t.header.intraday, INTRADAY);
+    assert_eq!(rewrite(&bytes), bytes);
+    let o = out(&t).unwrap();
+    let start = [70_000_000_000i128 - 2_600_000_000, 9_000_000_000 - 300_000_000];
+    for (row, start) in start.into_iter().enumerate() {
+        let load: i128 = (0..2).map(|b| i128::from(o.p[2 * row + b]) * i128::from(o.kw[b])).sum();
+        assert_eq!(o.rows[row].left, Some(start - load));
+    }
+    // row 1 alone stops border 1: 8.7 x 10^9 / 5000 = 1,740,000 kW; border 0 has what row 0 then has left
+    assert_eq!((o.kw[1], o.kw[0]), (1_740_000, (67_400_000_000u64 - 17_400_000_000) / 20_000 - 1));
+    // the corner sheet does not look at T
+    assert_eq!(flows(&t, 0, 4), flows(&table(HOUR), 0, 4));
+}
+
+#[test]
+fn t_lines() {
+    let good = "H 3 1 1 / Z 0 0 / Z 1 0 / Z 2 0 / T 0 10 / T 1 -30 / T 2 20 / B 0 0 1 0 / C 0 9 5 0 0 - 0 0 20000 0 0";
+    assert!(read(&text(good), ALL).is_ok());
+    let lines: Vec<&str> = good.split(" / ").collect();
+    let refusal = |lines: &[&str]| {
+        let Refusal { number, place, byte } = read(&text(&lines.join("\n")), ALL).expect_err("a refusal");
+        (number, place, byte)
+    };
+    let with = |place: usize, line: &'static str| {
+        let mut all = lines.clone();
+        all[place - 1] = line;
+        refusal(&all)
+    };
+    // form
+    assert_eq!(with(5, "T x 10"), (2, 5, 3));
+    assert_eq!(with(5, "T 1 10"), (2, 5, 3));
+    assert_eq!(with(5, "T 0 1x"), (2, 5, 6));
+    assert_eq!(with(5, "T 0"), (2, 5, 0));
+    assert_eq!(with(5, "T 0 10 0"), (2, 5, 0));
+    assert_eq!(with(5, "T"), (2, 5, 0));
+    assert_eq!(with(5, "TT 0 10"), (2, 5, 0));
+    assert_eq!(with(6, "T 2 -30"), (2, 6, 3));
+    // range, each at its own line; the sum at the last, by its position
+    assert_eq!(with(5, "T 0 100000001"), (3, 5, 5));
+    assert_eq!(with(6, "T 1 -100000001"), (3, 6, 5));
+    assert_eq!(with(7, "T 2 100000001"), (3, 7, 5));
+    assert_eq!(with(7, "T 2 19"), (3, 7, 5));
+    assert_eq!(with(7, "T 2 21"), (3, 7, 5));
+    assert_eq!(with(5, "T 0 11"), (3, 7, 5));
+    // .. where that line is otherwise good
+    let mut off = lines.clone();
+    off[4] = "T 0 11";
+    off[6] = "T 2 -0";
+    assert_eq!(refusal(&off), (2, 7, 6));
+    off[6] = "T 1 20";
+    assert_eq!(refusal(&off), (2, 7, 3));
+    // a bad B line comes after the sum
+    off[6] = "T 2 20";
+    off[7] = "B x";
+    assert_eq!(refusal(&off), (3, 7, 5));
+    // T lines too few, too many, or elsewhere
+    let without = |place: usize| {
+        let mut all = lines.clone();
+        all.remove(place - 1);
+        refusal(&all)
+    };
+    assert_eq!((without(5), without(6), without(7)), ((2, 5, 3), (2, 6, 3), (2, 7, 0)));
+    let also = |place: usize, line: &'static str| {
+        let mut all = lines.clone();
+        all.insert(place - 1, line);
+        refusal(&all)
+    };
+    assert_eq!(also(8, "T 3 0"), (2, 8, 0));
+    assert_eq!(also(8, "T 2 20"), (2, 8, 0));
+    assert_eq!(also(9, "T 0 0"), (2, 9, 0));
+    assert_eq!(also(10, "T 0 0"), (2, 10, 0));
+    assert_eq!(also(4, "T 0 10"), (2, 4, 0));
+    assert_eq!(also(1, "T 0 10"), (2, 1, 0));
+    // the text ends within them
+    assert_eq!(refusal(&lines[..5]), (2, 6, 0));
+    assert_eq!(refusal(&lines[..7]), (2, 8, 0));
+    // a lower-case t is a B line's wrong letter
+    assert_eq!(with(5, "t 0 10"), (2, 5, 0));
+}
+
+#[test]
+fn lent_t() {
+    let t = table("H 3 1 1 / Z 0 0 / Z 1 0 / Z 2 0 / T 0 10 / T 1 -30 / T 2 20 / B 0 0 1 0 / C 0 9 5 0 0 - 0 0 20000 0 0");
+    assert_eq!(judge(t.lend()), Ok(t.clone()));
+    // what lies beyond is not looked at
+    let long = [10, -30, 20, i64::MAX];
+    assert_eq!(judge(Lent { t: &long, ..t.lend() }), Ok(t.clone()));
+    // too short: after Z, before B
+    assert_eq!(judge(Lent { t: &t.t[..2], b: &[], ..t.lend() }), e(8, 3));
+    assert_eq!(judge(Lent { z: &[0, 0], t: &[], ..t.lend() }), e(8, 3));
+    assert_eq!(judge(Lent { b: &[], ..t.lend() }), e(8, 1));
+    // by their lines, the sum at the last; B and C come later by as many
+    for (t_lent, line) in [
+        ([100_000_001, -30, 20], 5), ([10, i64::MIN, 20], 6), ([10, -30, i64::MAX], 7), ([10, -30, 21], 7), ([11, -30, 20], 7),
+        ([i64::MAX, i64::MIN, 1], 5),
+    ] {
+        assert_eq!(judge(Lent { t: &t_lent, ..t.lend() }), e(3, line), "{t_lent:?}");
+    }
+    assert_eq!(judge(Lent { z: &[0, 0, 100_000_001], t: &[1, 1, 1], ..t.lend() }), e(3, 4));
+    assert_eq!(judge(Lent { b: &[without_hubs(1, 1, 0)], ..t.lend() }), e(3, 8));
+    assert_eq!(judge(Lent { b: &[without_hubs(1, 1, 0)], t: &[0, 0, 1], ..t.lend() }), e(3, 7));
+    assert_eq!(judge(Lent { c: &[[0; 7]], ..t.lend() }), e(3, 9));
+    // where the header says that T is not there, none is needed, and none is looked at
+    let header = Header { intraday: NO_T, ..t.header };
+    let plain = judge(Lent { header, ..t.lend() }).unwrap();
+    assert_eq!((plain.t.len(), plain.header.intraday), (0, NO_T));
+    assert_eq!(judge(Lent { header, t: &[i64::MAX], ..t.lend() }), Ok(plain));
+    assert_eq!(judge(Lent { header, t: &[], c: &[[0; 7]], ..t.lend() }), e(3, 6));
+    // reading: room for T after Z, where there are T lines
+    let bytes = write(t.lend(), usize::MAX).unwrap();
+    assert_eq!(read(&bytes, [3, 2, 0, 0, 0]), e(8, 3));
+    assert_eq!(read(&bytes, [3, 3, 0, 0, 0]), e(8, 1));
+    assert!(read(&bytes, [3, 3, 1, 1, 3]).is_ok());
+}
+
+#[test]
+fn intraday_at_the_ends_of_the_ranges() {
+    // net positions and allocated ones against each other, each with all of the row: the
+    // starting margin is over 2^48, and under 2^49
+    let mut t = read(&sized(16, 64, 1), ALL).unwrap();
+    t.header.intraday = INTRADAY;
+    t.f = (0..16).map(|zone| if zone < 8 { 100_000 } else { -100_000 }).collect();
+    t.z = t.f.iter().map(|factor| factor * 1_000).collect();
+    t.t = t.z.iter().map(|position| -position).collect();
+    for (index, border) in t.b.iter_mut().enumerate() {
+        *border = without_hubs(index as i64 / 8, 8 + index as i64 % 8, 0);
+    }
+    t.c[0] = [10_000_000, 0, -20_000_000, 20_000_000, 10_000, 0, 0];
+    let m = margin_of(&t, 0);
+    assert_eq!(remainder_of(&t, 0, m.ram), m.ram + 160_000_000_000_000);
+    assert!(remainder_of(&t, 0, m.ram) > 1 << 48);
+    let o = out(&t).unwrap();
+    assert!(o.l_bits <= 49 && o.rounds == 1);
 }
 
 // ----------------------------------------------------------------------- hubs
@@ -1054,7 +1269,7 @@ fn hub_refusals_of_records() {
     let j = |hubs: [i64; 2]| {
         let mut one = t.clone();
         one.b[0] = [0, 1, 100, hubs[0], hubs[1]];
-        judge(one.header, &one.z, &one.b, &one.c, &one.f).map(|t| t.b[0])
+        judge(one.lend()).map(|t| t.b[0])
     };
     for hubs in [[-1, -1], [2, 3], [3, 2], [0, 1], [1, 0], [0, 2], [3, 1]] {
         assert_eq!(j(hubs), Ok([0, 1, 100, hubs[0], hubs[1]]));
@@ -1109,7 +1324,7 @@ fn hubs_at_the_ends_of_the_ranges() {
 /// The extraction with so many items of p, and of the results of borders and
 /// rows.
 fn with_p(t: &Tables, p: usize, b: usize, r: usize) -> Result<Vec<u64>, Refusal> {
-    extract(t.header, &t.z, &t.b, &t.c, &t.f, p, b, r).map(|o| o.p)
+    extract(t.lend(), p, b, r).map(|o| o.p)
 }
 
 #[test]
@@ -1170,11 +1385,11 @@ fn p_among_the_refusals() {
 // --------------------------------------------------------------- corner sheet
 
 fn flows(t: &Tables, row: usize, room: usize) -> Result<Vec<i128>, Refusal> {
-    corner_flows(t.header, &t.z, &t.b, &t.c, &t.f, row, room)
+    corner_flows(t.lend(), row, room)
 }
 
 fn sheet(t: &Tables, row: usize, room: usize) -> Result<Vec<u8>, Refusal> {
-    corner_text(t.header, &t.z, &t.b, &t.c, &t.f, row, room)
+    corner_text(t.lend(), row, room)
 }
 
 #[test]
@@ -1400,13 +1615,23 @@ fn random_tables(d: &mut Dice, most_borders: i64, most_rows: i64) -> Tables {
         }
     }
     let share = if d.one_in(2) { -1 } else { d.in_range(0, 10_000) };
-    Tables { header: Header { zones, borders, rows, share }, z, b, c, f }
+    let intraday = if d.one_in(3) { INTRADAY } else { NO_T };
+    let mut t = vec![0; if intraday == INTRADAY { zones } else { 0 }];
+    if intraday == INTRADAY && !d.one_in(8) {
+        // from one zone to the next, so that they sum to zero
+        for zone in 1..zones {
+            let some = if small { d.in_range(-900, 900) } else { d.in_range(-50_000_000, 50_000_000) };
+            t[zone - 1] += some;
+            t[zone] -= some;
+        }
+    }
+    Tables { header: Header { zones, borders, rows, share, intraday }, z, t, b, c, f }
 }
 
 fn check_random(t: &Tables, seen: &mut [usize; 8]) {
     let h = t.header;
     // write and read again
-    let bytes = write(h, &t.z, &t.b, &t.c, &t.f, usize::MAX).expect("good tables");
+    let bytes = write(t.lend(), usize::MAX).expect("good tables");
     assert!(bytes.len() <= 65_536);
     assert_eq!(read(&bytes, ALL).as_ref(), Ok(t));
 
@@ -1439,7 +1664,7 @@ fn check_random(t: &Tables, seen: &mut [usize; 8]) {
             seen[r.number as usize] += 1;
             assert!((5..=7).contains(&r.number));
             // "If CVA and IVA are 0 in every row, refusal 7 isn't given."
-            assert!(!(no_lifts && r.number == 7));
+            assert!(!((no_lifts || h.intraday == INTRADAY) && r.number == 7));
             assert_eq!(answer(&bytes), refusal_text(r));
         }
         Ok(o) => {
@@ -1477,7 +1702,12 @@ fn check_random(t: &Tables, seen: &mut [usize; 8]) {
                 let n = p.iter().filter(|p| **p > 0).count() as i128;
                 n_most = n_most.max(n as usize);
                 let load: i128 = p.iter().zip(&o.kw).map(|(p, k)| p * *k as i128).sum();
-                assert_eq!(left, o.rows[row].ram - load);
+                let allocated: i128 = own.iter().zip(&t.t).map(|(f, t)| i128::from(*f) * i128::from(*t)).sum();
+                let whole = match h.intraday {
+                    INTRADAY => (o.rows[row].ram - allocated).max(0),
+                    _ => o.rows[row].ram,
+                };
+                assert_eq!(left, whole - load);
                 assert!(left >= 0);
                 for b in 0..h.borders {
                     if p[b] > 0 && left / n / p[b] == 0 {
@@ -1491,7 +1721,7 @@ fn check_random(t: &Tables, seen: &mut [usize; 8]) {
                 seen[1] += 1;
                 assert!(o.rounds <= 1);
             }
-            assert_eq!(answer(&bytes), result_text(h, &t.z, &t.b, &t.c, &t.f, usize::MAX).unwrap());
+            assert_eq!(answer(&bytes), result_text(t.lend(), usize::MAX).unwrap());
         }
     }
 }
@@ -1533,7 +1763,7 @@ fn one_byte_changed() {
         }
         if let Ok(tables) = read(&t, ALL) {
             taken += 1;
-            assert_eq!(write(tables.header, &tables.z, &tables.b, &tables.c, &tables.f, usize::MAX), Ok(t.clone()));
+            assert_eq!(write(tables.lend(), usize::MAX), Ok(t.clone()));
         }
         answer(&t);
     }

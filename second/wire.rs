@@ -2,11 +2,11 @@
 //! makes the calls: c/bridge.c over a library, mock.rs over the reference
 //! calculator.  A word has 64 bits, the least byte first.
 //!
-//! A request: sixteen words, then the lent buffers.  The words are the call,
-//! its header (zones, borders, rows, share) and its row (each 0 where the call
-//! takes none), and the counts of items of z, b, c, f, p, atc, left, flows, text and
-//! out (0 where the call does not take that buffer).  The buffers that the call
-//! takes follow in this order, each with BEFORE items before the lent part and
+//! A request: eighteen words, then the lent buffers.  The words are the call, its
+//! header (zones, borders, rows, share, intraday) and its row (each 0 where the
+//! call takes none), and the counts of items of z, t, b, c, f, p, atc, left, flows,
+//! text and out (0 where the call does not take that buffer).  The buffers that the
+//! call takes follow in this order, each with BEFORE items before the lent part and
 //! AFTER items after it; an item is as many words as it has numbers, and a byte
 //! for text and out.
 //!
@@ -30,22 +30,27 @@ pub const BEFORE: usize = 2;
 pub const AFTER: usize = 3;
 
 /// The words of a request.
-pub const WORDS: usize = 16;
+pub const WORDS: usize = 18;
+
+/// Where the header's words begin among them, and how many there are.
+pub const HEADER: usize = 1;
+pub const HEADER_WORDS: usize = 5;
 
 /// Where the row stands among them.
-pub const ROW: usize = 5;
+pub const ROW: usize = 6;
 
 /// Where the count of each buffer stands among them.
-pub const Z: usize = 6;
-pub const B: usize = 7;
-pub const C: usize = 8;
-pub const F: usize = 9;
-pub const P: usize = 10;
-pub const ATC: usize = 11;
-pub const LEFT: usize = 12;
-pub const FLOWS: usize = 13;
-pub const TEXT: usize = 14;
-pub const OUT: usize = 15;
+pub const Z: usize = 7;
+pub const T: usize = 8;
+pub const B: usize = 9;
+pub const C: usize = 10;
+pub const F: usize = 11;
+pub const P: usize = 12;
+pub const ATC: usize = 13;
+pub const LEFT: usize = 14;
+pub const FLOWS: usize = 15;
+pub const TEXT: usize = 16;
+pub const OUT: usize = 17;
 
 /// An item of a lent buffer as bytes.
 pub trait Item: Copy {

@@ -1,14 +1,16 @@
 -- Demand 3, and that refusal 7 isn't given where CVA and IVA are 0, of the text that `answer` leaves: said of its bytes, for every text that it answers.
 use mathlib.Core.Path.{_≡_, refl, sym, ap, _∙_}
+use mathlib.Core.Bool.{true, false}
 use mathlib.Core.List.{List, [], _∷_, _++_}
 use mathlib.Core.Logic.{_⊎_, inl, inr}
 use Prim.Native.Char.{code}
-use Prim.Native.Nat.{ℕ, zero, suc, _<_}
+use Prim.Native.Nat.{ℕ, zero, suc, _≤_, _<_}
 use native.Mathlib.Omega.{arith}
 use lib.IntN.{ℤ, pos}
 use lib.ListN.{length}
 use Rattle.numbers.specs.Below.{at, table}
 use Rattle.kinds.specs.declared.Refusal.{Refusal}
+use Rattle.kinds.specs.Ranges.{isIntraday}
 use Rattle.kinds.specs.Refusals.{Judged, passed, refused, then, either}
 use Rattle.kinds.proofs.RefusalLaws.{then-passed, then-next, either-passed}
 use Rattle.text.specs.Written.{textOf, decimal, fieldsText, lineText, linesText}
@@ -16,10 +18,11 @@ use Rattle.table.specs.Table.{Table, rowAt}
 use Rattle.reading.specs.Reading.{readText}
 use Rattle.reading.proofs.ReadLaws.{read-good}
 use Rattle.start.specs.Setup.{gridBy, judgeBy}
-use Rattle.start.specs.Start.{judgeTable, setupWith}
+use Rattle.start.specs.Start.{every, judgeTable, setupWith}
 use Rattle.extraction.specs.Extraction.{Result, outcomeOf, atcRecord, rowRecord}
 use Rattle.promises.specs.Demand.{Demand3}
-use Rattle.promises.proofs.Demand3.{accepted-demand-3}
+use Rattle.promises.specs.DemandIn.{intradayRoundsMost, IntradayDemand3}
+use Rattle.promises.proofs.Demand3.{accepted-demand-3, accepted-intraday, accepted-rounds}
 use Rattle.promises.specs.Seven.{NotSeven}
 use Rattle.promises.proofs.Seven.{no-refusal-7}
 use Rattle.promises.proofs.ToldLaws.{Says, Told, told-passed, told-then, told-unless, told-first}
@@ -34,7 +37,9 @@ pub record TextDemand3 (text : List ℕ) : Type 0 where
   pub result : Result
   pub read : readText text ≡ passed table
   pub printed : answerText text ≡ resultText result
-  pub demand : Demand3 table result
+  -- in the words of its profile: 01's, or E12's and at most 6,272 rounds
+  pub demand : isIntraday (table .header) ≡ false → Demand3 table result
+  pub intraday : isIntraday (table .header) ≡ true → IntradayDemand3 table every (table .allocated) result × (result .outcome .rounds ≤ intradayRoundsMost)
 
 -- every text that is answered with results: an E line is the only other answer
 pub answer-demand-3 : (text : List ℕ) → (at (answerText text) 0 ≡ code "E" → ⊥) → TextDemand3 text
@@ -50,7 +55,8 @@ answer-demand-3 text = go (then (readText text) outcomeOf) refl
           result = r;
           read = a .first;
           printed = either-passed resultText refusalText q;
-          demand = accepted-demand-3 (a .it) r (read-good text (a .it) (a .first)) (a .second);
+          demand = λ day. accepted-demand-3 (a .it) r (read-good text (a .it) (a .first)) day (a .second);
+          intraday = λ late. (accepted-intraday (a .it) late r (a .second), accepted-rounds (a .it) late r (read-good text (a .it) (a .first)) (a .second));
         }
 
 -- ---- no refusal 7

@@ -24,15 +24,15 @@ answer-printed : (text : List ℕ) → answerText text ≡ printed (then (readTe
 unfolding answerText printed
 answer-printed text = refl
 
-module _ (text : List ℕ) (z : List ℤ) (b c : List (List ℤ)) (f : List ℤ)
-    (r : Read) {z′ : List ℤ} {b′ c′ : List (List ℤ)} {f′ : List ℤ} (said : readSaid r z′ b′ c′ f′ ≡ readLeft text z b c f) where
+module _ (text : List ℕ) (z a : List ℤ) (b c : List (List ℤ)) (f : List ℤ)
+    (r : Read) {z′ a′ : List ℤ} {b′ c′ : List (List ℤ)} {f′ : List ℤ} (said : readSaid r z′ a′ b′ c′ f′ ≡ readLeft text z a b c f) where
   -- a refusal is one of the text
-  pub read-refused : zonesMost ≤ length z → bordersMost ≤ length b → rowsMost ≤ length c → rowsMost * zonesMost ≤ length f
+  pub read-refused : zonesMost ≤ length z → zonesMost ≤ length a → bordersMost ≤ length b → rowsMost ≤ length c → rowsMost * zonesMost ≤ length f
       → (w : Refusal) → r ≡ read.Refused w → refusalText w ≡ answerText text
   unfolding answerText
-  read-refused hz hb hc hf w k = sym (either-refused _ _ (then-refused outcomeOf (refused-text text z b c f r said hz hb hc hf w k)))
+  read-refused hz ha hb hc hf w k = sym (either-refused _ _ (then-refused outcomeOf (refused-text text z a b c f r said hz ha hb hc hf w k)))
 
   -- what was read is judged to be the table that the text holds
-  pub read-printed : (h : Header) → r ≡ read.Table h → printed (outcomeLent (lent h z′ b′ c′ f′)) ≡ answerText text
+  pub read-printed : (h : Header) → r ≡ read.Table h → printed (outcomeLent (lent h z′ a′ b′ c′ f′)) ≡ answerText text
   unfolding outcomeLent
-  read-printed h k = ap printed (then-next outcomeOf (as-read text z b c f r said h k) ∙ sym (then-next outcomeOf (taken text z b c f r said h k .read))) ∙ sym (answer-printed text)
+  read-printed h k = ap printed (then-next outcomeOf (as-read text z a b c f r said h k) ∙ sym (then-next outcomeOf (taken text z a b c f r said h k .read))) ∙ sym (answer-printed text)

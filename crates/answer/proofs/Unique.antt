@@ -15,8 +15,8 @@ use Rattle.answer.proofs.answer.Kinds as answer-kinds
 use Rattle.answer.proofs.answer.Reads as answer-reads
 
 -- `out` is the call's sixth argument
-pub result-text-once : (κs : Lfts 5) (x : ArgsD result-text.signature κs) (r r′ : ResD result-text.signature κs) (s s′ : AtExit (endedOf 5 result-text-kinds.ps result-text-kinds.r) κs)
-    → result-text-reads.Post κs x r s → result-text-reads.Post κs x r′ s′ → (r ≡ r′) × (now (s .1 .1 .1 .1 .1 .0) ≡ now (s′ .1 .1 .1 .1 .1 .0))
+pub result-text-once : (κs : Lfts 6) (x : ArgsD result-text.signature κs) (r r′ : ResD result-text.signature κs) (s s′ : AtExit (endedOf 6 result-text-kinds.ps result-text-kinds.r) κs)
+    → result-text-reads.Post κs x r s → result-text-reads.Post κs x r′ s′ → (r ≡ r′) × (now (s .1 .1 .1 .1 .1 .1 .0) ≡ now (s′ .1 .1 .1 .1 .1 .1 .0))
 result-text-once κs x r r′ s s′ p q = said-once _ _ _ _ _ p q
 
 -- `out` is the call's second argument

@@ -26,14 +26,15 @@ use kinds::Written;
 pub fn result_text(
     h: Header,
     z: &[i64],
+    t: &[i64],
     b: &[BorderRecord],
     c: &[RowRecord],
     f: &[i64],
     out: &mut [u8],
 ) -> Written
-    ensures { λ r. ⌜ textSaid r (now (out .exit)) ≡ resultTextLeft (lent h (now (z .entry)) (now (b .entry)) (now (c .entry)) (now (f .entry))) (now (out .entry)) ⌝ }
+    ensures { λ r. ⌜ textSaid r (now (out .exit)) ≡ resultTextLeft (lent h (now (z .entry)) (now (t .entry)) (now (b .entry)) (now (c .entry)) (now (f .entry))) (now (out .entry)) ⌝ }
 {
-    match made::make(h, z, b, c, f, out) {
+    match made::make(h, z, t, b, c, f, out) {
         Made::Text(written) => written,
         Made::Refused(w) => Written::Refused(w),
     }
@@ -51,27 +52,29 @@ pub fn answer_within(text: &[u8], out: &mut [u8]) -> Written
     ensures { λ r. ⌜ (textSaid r (now (out .exit)) ≡ answerLeft (now (text .entry)) (now (out .entry))) × (bytesAsked r ≤ answerMost) ⌝ }
 {
     let mut z: [i64; Header::ZONES_MOST] = [0; Header::ZONES_MOST];
+    let mut t: [i64; Header::ZONES_MOST] = [0; Header::ZONES_MOST];
     let mut b: [BorderRecord; Header::BORDERS_MOST] = [[0; Border::ITEMS]; Header::BORDERS_MOST];
     let mut c: [RowRecord; Header::ROWS_MOST] = [[0; Row::ITEMS]; Header::ROWS_MOST];
     let mut f: [i64; Header::ROWS_MOST * Header::ZONES_MOST] = [0; Header::ROWS_MOST
         * Header::ZONES_MOST];
-    answer_in(text, &mut z, &mut b, &mut c, &mut f, out)
+    answer_in(text, &mut z, &mut t, &mut b, &mut c, &mut f, out)
 }
 
 // The tables are made in `answer_within`, and not here, where goals would spell them out.
 fn answer_in(
     text: &[u8],
     z: &mut [i64],
+    t: &mut [i64],
     b: &mut [BorderRecord],
     c: &mut [RowRecord],
     f: &mut [i64],
     out: &mut [u8],
 ) -> Written
-    requires { ⌜ (zonesMost ≤ length (now z)) × (bordersMost ≤ length (now b)) × (rowsMost ≤ length (now c)) × (rowsMost * zonesMost ≤ length (now f)) ⌝ }
+    requires { ⌜ (zonesMost ≤ length (now z)) × (zonesMost ≤ length (now t)) × (bordersMost ≤ length (now b)) × (rowsMost ≤ length (now c)) × (rowsMost * zonesMost ≤ length (now f)) ⌝ }
     ensures { λ r. ⌜ (textSaid r (now (out .exit)) ≡ answerLeft (now (text .entry)) (now (out .entry))) × (bytesAsked r ≤ answerMost) ⌝ }
 {
-    match reading::read(text, z, b, c, f) {
-        Read::Table(h) => answer_lent(h, z, b, c, f, out),
+    match reading::read(text, z, t, b, c, f) {
+        Read::Table(h) => answer_lent(h, z, t, b, c, f, out),
         Read::Refused(w) => write_refusal(w, out),
     }
 }
@@ -80,14 +83,15 @@ fn answer_in(
 fn answer_lent(
     h: Header,
     z: &[i64],
+    t: &[i64],
     b: &[BorderRecord],
     c: &[RowRecord],
     f: &[i64],
     out: &mut [u8],
 ) -> Written
-    ensures { λ r. ⌜ (textSaid r (now (out .exit)) ≡ textLeft (passed (printed (outcomeLent (lent h (now (z .entry)) (now (b .entry)) (now (c .entry)) (now (f .entry)))))) (now (out .entry))) × (bytesAsked r ≤ answerMost) ⌝ }
+    ensures { λ r. ⌜ (textSaid r (now (out .exit)) ≡ textLeft (passed (printed (outcomeLent (lent h (now (z .entry)) (now (t .entry)) (now (b .entry)) (now (c .entry)) (now (f .entry)))))) (now (out .entry))) × (bytesAsked r ≤ answerMost) ⌝ }
 {
-    match made::make(h, z, b, c, f, out) {
+    match made::make(h, z, t, b, c, f, out) {
         Made::Text(written) => written,
         Made::Refused(w) => write_refusal(w, out),
     }

@@ -29,25 +29,27 @@ pub enum Made {
 pub fn make(
     h: Header,
     z: &[i64],
+    t: &[i64],
     b: &[BorderRecord],
     c: &[RowRecord],
     f: &[i64],
     out: &mut [u8],
 ) -> Made
-    ensures { λ r. ⌜ (saidMade r (now (out .exit)) ≡ madeLeft (outcomeLent (lent h (now (z .entry)) (now (b .entry)) (now (c .entry)) (now (f .entry)))) (now (out .entry))) × (madeAsked r ≤ answerMost) ⌝ }
+    ensures { λ r. ⌜ (saidMade r (now (out .exit)) ≡ madeLeft (outcomeLent (lent h (now (z .entry)) (now (t .entry)) (now (b .entry)) (now (c .entry)) (now (f .entry)))) (now (out .entry))) × (madeAsked r ≤ answerMost) ⌝ }
 {
     let mut p: [u64; Header::ROWS_MOST * Header::BORDERS_MOST] = [0; Header::ROWS_MOST
         * Header::BORDERS_MOST];
     let mut atc: [AtcRecord; Header::BORDERS_MOST] =
         [[0; BorderResult::ITEMS]; Header::BORDERS_MOST];
     let mut left: [LeftRecord; Header::ROWS_MOST] = [[0; RowResult::ITEMS]; Header::ROWS_MOST];
-    make_in(h, z, b, c, f, &mut p, &mut atc, &mut left, out)
+    make_in(h, z, t, b, c, f, &mut p, &mut atc, &mut left, out)
 }
 
 // The table of p and the records are made in `make`, and not here, where goals would spell them out.
 fn make_in(
     h: Header,
     z: &[i64],
+    t: &[i64],
     b: &[BorderRecord],
     c: &[RowRecord],
     f: &[i64],
@@ -57,9 +59,9 @@ fn make_in(
     out: &mut [u8],
 ) -> Made
     requires { ⌜ (rowsMost * bordersMost ≤ length (now p)) × (bordersMost ≤ length (now atc)) × (rowsMost ≤ length (now left)) ⌝ }
-    ensures { λ r. ⌜ (saidMade r (now (out .exit)) ≡ madeLeft (outcomeLent (lent h (now (z .entry)) (now (b .entry)) (now (c .entry)) (now (f .entry)))) (now (out .entry))) × (madeAsked r ≤ answerMost) ⌝ }
+    ensures { λ r. ⌜ (saidMade r (now (out .exit)) ≡ madeLeft (outcomeLent (lent h (now (z .entry)) (now (t .entry)) (now (b .entry)) (now (c .entry)) (now (f .entry)))) (now (out .entry))) × (madeAsked r ≤ answerMost) ⌝ }
 {
-    match extraction::extract(h, z, b, c, f, p, atc, left) {
+    match extraction::extract(h, z, t, b, c, f, p, atc, left) {
         Extracted::Rounds(rounds) => Made::Text(write_result(h, atc, left, rounds, out)),
         Extracted::Refused(w) => Made::Refused(w),
     }

@@ -15,7 +15,7 @@ use lib.Seq.{drop-cons}
 use Rattle.numbers.specs.Ints.{minus, inside, sameℤ}
 use Rattle.kinds.specs.declared.Header.{Header}
 use Rattle.kinds.specs.Limits.{zonesLeast, zonesMost, bordersLeast, bordersMost, rowsLeast, rowsMost, ltaMost, fmaxLeast, fmaxMost, flowMost, shareMost, vaMost}
-use Rattle.kinds.specs.Ranges.{atℤ, headerFits, exists, hubsFit, borderFits, rowOf, rowFits, factorFits}
+use Rattle.kinds.specs.Ranges.{atℤ, writtenFits, exists, hubsFit, borderFits, rowOf, rowFits, factorFits}
 use Rattle.blame.specs.RangeBlame.{pastSeps, fieldFirst, rangeByte, allTrue, headerTests, noHubs, borderTests, rowTests, factorTests}
 
 -- ---- the loop over bytes: `left` of the bytes that part fields are still to be passed from place i on
@@ -137,8 +137,7 @@ three-pairs true true true true false f g = refl
 three-pairs true true true true true false g = refl
 three-pairs true true true true true true g = and-true g
 
-pub header-range : (h : Header) → allTrue (headerTests (h .zones) (h .borders) (h .rows) (h .share)) ≡ headerFits h
-unfolding headerFits
+pub header-range : (h : Header) → allTrue (headerTests (h .zones) (h .borders) (h .rows) (h .share)) ≡ writtenFits h
 header-range h =
     three-pairs
     (leb zonesLeast (h .zones))

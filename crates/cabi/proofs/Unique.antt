@@ -37,11 +37,11 @@ use Rattle.cabi.proofs.keravnoth_corner_text.Kinds as corner-text-kinds
 use Rattle.cabi.proofs.keravnoth_corner_text.Reads as corner-text-reads
 
 -- ---- whatever a call may leave, it leaves one thing
-read-one : (may : ReadCoded) (r r′ : KeravnothRead) (z z′ : List ℤ) (b b′ c c′ : List (List ℤ)) (f f′ : List ℤ) → readFound r z b c f ≡ may → readFound r′ z′ b′ c′ f′ ≡ may
-    → (r ≡ r′) × ((z ≡ z′) × ((b ≡ b′) × ((c ≡ c′) × (f ≡ f′))))
-read-one may r r′ z z′ b b′ c c′ f f′ p q =
+read-one : (may : ReadCoded) (r r′ : KeravnothRead) (z z′ t t′ : List ℤ) (b b′ c c′ : List (List ℤ)) (f f′ : List ℤ) → readFound r z t b c f ≡ may → readFound r′ z′ t′ b′ c′ f′ ≡ may
+    → (r ≡ r′) × ((z ≡ z′) × ((t ≡ t′) × ((b ≡ b′) × ((c ≡ c′) × (f ≡ f′)))))
+read-one may r r′ z z′ t t′ b b′ c c′ f f′ p q =
     let e = p ∙ sym q in
-    (ap (λ (l : ReadCoded). l .answer) e, (ap (λ (l : ReadCoded). l .z) e, (ap (λ (l : ReadCoded). l .b) e, (ap (λ (l : ReadCoded). l .c) e, ap (λ (l : ReadCoded). l .f) e))))
+    (ap (λ (l : ReadCoded). l .answer) e, (ap (λ (l : ReadCoded). l .z) e, (ap (λ (l : ReadCoded). l .t) e, (ap (λ (l : ReadCoded). l .b) e, (ap (λ (l : ReadCoded). l .c) e, ap (λ (l : ReadCoded). l .f) e)))))
 
 text-one : (may : TextCoded) (r r′ : KeravnothWritten) (out out′ : List ℕ) → textFound r out ≡ may → textFound r′ out′ ≡ may → (r ≡ r′) × (out ≡ out′)
 text-one may r r′ out out′ p q = let e = p ∙ sym q in (ap (λ (l : TextCoded). l .answer) e, ap (λ (l : TextCoded). l .out) e)
@@ -56,31 +56,32 @@ flows-one : (may : FlowsCoded) (r r′ : KeravnothFlows) (out out′ : List ℤ)
 flows-one may r r′ out out′ p q = let e = p ∙ sym q in (ap (λ (l : FlowsCoded). l .answer) e, ap (λ (l : FlowsCoded). l .out) e)
 
 -- ---- the calls; the tables that `keravnoth_read` fills are its second to fifth arguments
-pub keravnoth-read-once : (κs : Lfts 5) (x : ArgsD read.signature κs) (r r′ : ResD read.signature κs) (s s′ : AtExit (endedOf 5 read-kinds.ps read-kinds.r) κs)
+pub keravnoth-read-once : (κs : Lfts 6) (x : ArgsD read.signature κs) (r r′ : ResD read.signature κs) (s s′ : AtExit (endedOf 6 read-kinds.ps read-kinds.r) κs)
     → read-reads.Post κs x r s → read-reads.Post κs x r′ s′
     → (r ≡ r′)
     × ((now (s .1 .0) ≡ now (s′ .1 .0))
     × ((now (s .1 .1 .0) ≡ now (s′ .1 .1 .0))
     × ((now (s .1 .1 .1 .0) ≡ now (s′ .1 .1 .1 .0))
-    × (now (s .1 .1 .1 .1 .0) ≡ now (s′ .1 .1 .1 .1 .0)))))
-keravnoth-read-once κs x r r′ s s′ p q = read-one _ _ _ _ _ _ _ _ _ _ _ p q
+    × ((now (s .1 .1 .1 .1 .0) ≡ now (s′ .1 .1 .1 .1 .0))
+    × (now (s .1 .1 .1 .1 .1 .0) ≡ now (s′ .1 .1 .1 .1 .1 .0))))))
+keravnoth-read-once κs x r r′ s s′ p q = read-one _ _ _ _ _ _ _ _ _ _ _ _ _ p q
 
--- `out` is the sixth argument
-pub keravnoth-write-once : (κs : Lfts 5) (x : ArgsD write.signature κs) (r r′ : ResD write.signature κs) (s s′ : AtExit (endedOf 5 write-kinds.ps write-kinds.r) κs)
-    → write-reads.Post κs x r s → write-reads.Post κs x r′ s′ → (r ≡ r′) × (now (s .1 .1 .1 .1 .1 .0) ≡ now (s′ .1 .1 .1 .1 .1 .0))
+-- `out` is the seventh argument
+pub keravnoth-write-once : (κs : Lfts 6) (x : ArgsD write.signature κs) (r r′ : ResD write.signature κs) (s s′ : AtExit (endedOf 6 write-kinds.ps write-kinds.r) κs)
+    → write-reads.Post κs x r s → write-reads.Post κs x r′ s′ → (r ≡ r′) × (now (s .1 .1 .1 .1 .1 .1 .0) ≡ now (s′ .1 .1 .1 .1 .1 .1 .0))
 keravnoth-write-once κs x r r′ s s′ p q = text-one _ _ _ _ _ p q
 
--- p is the sixth, and the results are the seventh and the eighth
-pub keravnoth-extract-once : (κs : Lfts 7) (x : ArgsD extract.signature κs) (r r′ : ResD extract.signature κs) (s s′ : AtExit (endedOf 7 extract-kinds.ps extract-kinds.r) κs)
+-- p is the seventh, and the results are the eighth and the ninth
+pub keravnoth-extract-once : (κs : Lfts 8) (x : ArgsD extract.signature κs) (r r′ : ResD extract.signature κs) (s s′ : AtExit (endedOf 8 extract-kinds.ps extract-kinds.r) κs)
     → extract-reads.Post κs x r s → extract-reads.Post κs x r′ s′
     → (r ≡ r′)
-    × ((now (s .1 .1 .1 .1 .1 .0) ≡ now (s′ .1 .1 .1 .1 .1 .0))
-    × ((now (s .1 .1 .1 .1 .1 .1 .0) ≡ now (s′ .1 .1 .1 .1 .1 .1 .0)) × (now (s .1 .1 .1 .1 .1 .1 .1 .0) ≡ now (s′ .1 .1 .1 .1 .1 .1 .1 .0))))
+    × ((now (s .1 .1 .1 .1 .1 .1 .0) ≡ now (s′ .1 .1 .1 .1 .1 .1 .0))
+    × ((now (s .1 .1 .1 .1 .1 .1 .1 .0) ≡ now (s′ .1 .1 .1 .1 .1 .1 .1 .0)) × (now (s .1 .1 .1 .1 .1 .1 .1 .1 .0) ≡ now (s′ .1 .1 .1 .1 .1 .1 .1 .1 .0))))
 keravnoth-extract-once κs x r r′ s s′ p q = extract-one _ _ _ _ _ _ _ _ _ p q
 
--- `out` is the sixth argument
-pub keravnoth-result-text-once : (κs : Lfts 5) (x : ArgsD result-text.signature κs) (r r′ : ResD result-text.signature κs) (s s′ : AtExit (endedOf 5 result-text-kinds.ps result-text-kinds.r) κs)
-    → result-text-reads.Post κs x r s → result-text-reads.Post κs x r′ s′ → (r ≡ r′) × (now (s .1 .1 .1 .1 .1 .0) ≡ now (s′ .1 .1 .1 .1 .1 .0))
+-- `out` is the seventh argument
+pub keravnoth-result-text-once : (κs : Lfts 6) (x : ArgsD result-text.signature κs) (r r′ : ResD result-text.signature κs) (s s′ : AtExit (endedOf 6 result-text-kinds.ps result-text-kinds.r) κs)
+    → result-text-reads.Post κs x r s → result-text-reads.Post κs x r′ s′ → (r ≡ r′) × (now (s .1 .1 .1 .1 .1 .1 .0) ≡ now (s′ .1 .1 .1 .1 .1 .1 .0))
 keravnoth-result-text-once κs x r r′ s s′ p q = text-one _ _ _ _ _ p q
 
 -- `out` is the second argument
@@ -88,11 +89,11 @@ pub keravnoth-answer-once : (κs : Lfts 2) (x : ArgsD answer.signature κs) (r r
     → answer-reads.Post κs x r s → answer-reads.Post κs x r′ s′ → (r ≡ r′) × (now (s .1 .0) ≡ now (s′ .1 .0))
 keravnoth-answer-once κs x r r′ s s′ p q = text-one _ _ _ _ _ p q
 
--- `out` is the seventh argument, also of the text
-pub keravnoth-corner-flows-once : (κs : Lfts 5) (x : ArgsD corner-flows.signature κs) (r r′ : ResD corner-flows.signature κs) (s s′ : AtExit (endedOf 5 corner-flows-kinds.ps corner-flows-kinds.r) κs)
-    → corner-flows-reads.Post κs x r s → corner-flows-reads.Post κs x r′ s′ → (r ≡ r′) × (now (s .1 .1 .1 .1 .1 .1 .0) ≡ now (s′ .1 .1 .1 .1 .1 .1 .0))
+-- `out` is the eighth argument, also of the text
+pub keravnoth-corner-flows-once : (κs : Lfts 6) (x : ArgsD corner-flows.signature κs) (r r′ : ResD corner-flows.signature κs) (s s′ : AtExit (endedOf 6 corner-flows-kinds.ps corner-flows-kinds.r) κs)
+    → corner-flows-reads.Post κs x r s → corner-flows-reads.Post κs x r′ s′ → (r ≡ r′) × (now (s .1 .1 .1 .1 .1 .1 .1 .0) ≡ now (s′ .1 .1 .1 .1 .1 .1 .1 .0))
 keravnoth-corner-flows-once κs x r r′ s s′ p q = flows-one _ _ _ _ _ p q
 
-pub keravnoth-corner-text-once : (κs : Lfts 5) (x : ArgsD corner-text.signature κs) (r r′ : ResD corner-text.signature κs) (s s′ : AtExit (endedOf 5 corner-text-kinds.ps corner-text-kinds.r) κs)
-    → corner-text-reads.Post κs x r s → corner-text-reads.Post κs x r′ s′ → (r ≡ r′) × (now (s .1 .1 .1 .1 .1 .1 .0) ≡ now (s′ .1 .1 .1 .1 .1 .1 .0))
+pub keravnoth-corner-text-once : (κs : Lfts 6) (x : ArgsD corner-text.signature κs) (r r′ : ResD corner-text.signature κs) (s s′ : AtExit (endedOf 6 corner-text-kinds.ps corner-text-kinds.r) κs)
+    → corner-text-reads.Post κs x r s → corner-text-reads.Post κs x r′ s′ → (r ≡ r′) × (now (s .1 .1 .1 .1 .1 .1 .1 .0) ≡ now (s′ .1 .1 .1 .1 .1 .1 .1 .0))
 keravnoth-corner-text-once κs x r r′ s s′ p q = text-one _ _ _ _ _ p q

@@ -16,8 +16,8 @@ use Rattle.cabi.specs.declared.KeravnothFlows.{KeravnothFlows}
 
 -- the header of the table that was read
 abbrev pub codedRead : Judged Header → KeravnothRead
-codedRead (passed h) = record { number = 0; place = 0; byte = 0; zones = h .zones; borders = h .borders; rows = h .rows; share = h .share }
-codedRead (refused w) = record { number = w .number; place = w .place; byte = w .byte; zones = 0; borders = 0; rows = 0; share = pos 0 }
+codedRead (passed h) = record { number = 0; place = 0; byte = 0; zones = h .zones; borders = h .borders; rows = h .rows; share = h .share; intraday = h .intraday }
+codedRead (refused w) = record { number = w .number; place = w .place; byte = w .byte; zones = 0; borders = 0; rows = 0; share = pos 0; intraday = 0 }
 
 -- the bytes of the text that was written
 abbrev pub codedWritten : Judged ℕ → KeravnothWritten
@@ -38,15 +38,16 @@ codedFlows (refused w) = record { number = w .number; place = w .place; byte = w
 pub record ReadCoded : Type 0 where
   pub answer : KeravnothRead
   pub z : List ℤ
+  pub t : List ℤ
   pub b : List (List ℤ)
   pub c : List (List ℤ)
   pub f : List ℤ
 
-abbrev pub readFound : (answer : KeravnothRead) → (z : List ℤ) → (b c : List (List ℤ)) → (f : List ℤ) → ReadCoded
-readFound answer z b c f = record { answer = answer; z = z; b = b; c = c; f = f }
+abbrev pub readFound : (answer : KeravnothRead) → (z t : List ℤ) → (b c : List (List ℤ)) → (f : List ℤ) → ReadCoded
+readFound answer z t b c f = record { answer = answer; z = z; t = t; b = b; c = c; f = f }
 
 abbrev pub readCoded : ReadLeft → ReadCoded
-readCoded l = readFound (codedRead (l .answer)) (l .z) (l .b) (l .c) (l .f)
+readCoded l = readFound (codedRead (l .answer)) (l .z) (l .t) (l .b) (l .c) (l .f)
 
 -- what the calls that write text leave: the answer, and the lent bytes
 pub record TextCoded : Type 0 where

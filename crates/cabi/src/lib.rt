@@ -29,6 +29,7 @@ pub struct KeravnothRead {
     pub borders: usize,
     pub rows: usize,
     pub share: i64,
+    pub intraday: usize,
 }
 
 #[repr(C)]
@@ -55,18 +56,19 @@ pub struct KeravnothFlows {
     pub corners: usize,
 }
 
-// Reads a table's text into z, b, c and f.
+// Reads a table's text into z, t, b, c and f.
 #[no_mangle]
 pub extern "C" fn keravnoth_read(
     text: &[u8],
     z: &mut [i64],
+    t: &mut [i64],
     b: &mut [BorderRecord],
     c: &mut [RowRecord],
     f: &mut [i64],
 ) -> KeravnothRead
-    ensures { λ r. ⌜ readFound r (now (z .exit)) (now (b .exit)) (now (c .exit)) (now (f .exit)) ≡ readCoded (readLeft (now (text .entry)) (now (z .entry)) (now (b .entry)) (now (c .entry)) (now (f .entry))) ⌝ }
+    ensures { λ r. ⌜ readFound r (now (z .exit)) (now (t .exit)) (now (b .exit)) (now (c .exit)) (now (f .exit)) ≡ readCoded (readLeft (now (text .entry)) (now (z .entry)) (now (t .entry)) (now (b .entry)) (now (c .entry)) (now (f .entry))) ⌝ }
 {
-    code_read(reading::read(text, z, b, c, f))
+    code_read(reading::read(text, z, t, b, c, f))
 }
 
 // Writes the tables as text.
@@ -74,14 +76,15 @@ pub extern "C" fn keravnoth_read(
 pub extern "C" fn keravnoth_write(
     h: Header,
     z: &[i64],
+    t: &[i64],
     b: &[BorderRecord],
     c: &[RowRecord],
     f: &[i64],
     out: &mut [u8],
 ) -> KeravnothWritten
-    ensures { λ r. ⌜ textFound r (now (out .exit)) ≡ textCoded (writeLeft (lent h (now (z .entry)) (now (b .entry)) (now (c .entry)) (now (f .entry))) (now (out .entry))) ⌝ }
+    ensures { λ r. ⌜ textFound r (now (out .exit)) ≡ textCoded (writeLeft (lent h (now (z .entry)) (now (t .entry)) (now (b .entry)) (now (c .entry)) (now (f .entry))) (now (out .entry))) ⌝ }
 {
-    code_written(writing::write(h, z, b, c, f, out))
+    code_written(writing::write(h, z, t, b, c, f, out))
 }
 
 // Capacities and margins from the tables, and p of each row at each border.
@@ -89,6 +92,7 @@ pub extern "C" fn keravnoth_write(
 pub extern "C" fn keravnoth_extract(
     h: Header,
     z: &[i64],
+    t: &[i64],
     b: &[BorderRecord],
     c: &[RowRecord],
     f: &[i64],
@@ -96,9 +100,9 @@ pub extern "C" fn keravnoth_extract(
     atc: &mut [AtcRecord],
     left: &mut [LeftRecord],
 ) -> KeravnothExtracted
-    ensures { λ r. ⌜ extractFound r (now (p .exit)) (now (atc .exit)) (now (left .exit)) ≡ extractCoded (extractLeft (lent h (now (z .entry)) (now (b .entry)) (now (c .entry)) (now (f .entry))) (now (p .entry)) (now (atc .entry)) (now (left .entry))) ⌝ }
+    ensures { λ r. ⌜ extractFound r (now (p .exit)) (now (atc .exit)) (now (left .exit)) ≡ extractCoded (extractLeft (lent h (now (z .entry)) (now (t .entry)) (now (b .entry)) (now (c .entry)) (now (f .entry))) (now (p .entry)) (now (atc .entry)) (now (left .entry))) ⌝ }
 {
-    code_extracted(extraction::extract(h, z, b, c, f, p, atc, left))
+    code_extracted(extraction::extract(h, z, t, b, c, f, p, atc, left))
 }
 
 // The same as text.
@@ -106,14 +110,15 @@ pub extern "C" fn keravnoth_extract(
 pub extern "C" fn keravnoth_result_text(
     h: Header,
     z: &[i64],
+    t: &[i64],
     b: &[BorderRecord],
     c: &[RowRecord],
     f: &[i64],
     out: &mut [u8],
 ) -> KeravnothWritten
-    ensures { λ r. ⌜ textFound r (now (out .exit)) ≡ textCoded (resultTextLeft (lent h (now (z .entry)) (now (b .entry)) (now (c .entry)) (now (f .entry))) (now (out .entry))) ⌝ }
+    ensures { λ r. ⌜ textFound r (now (out .exit)) ≡ textCoded (resultTextLeft (lent h (now (z .entry)) (now (t .entry)) (now (b .entry)) (now (c .entry)) (now (f .entry))) (now (out .entry))) ⌝ }
 {
-    code_written(answer::result_text(h, z, b, c, f, out))
+    code_written(answer::result_text(h, z, t, b, c, f, out))
 }
 
 // From text to text: the result text, or the E line.
@@ -129,15 +134,16 @@ pub extern "C" fn keravnoth_answer(text: &[u8], out: &mut [u8]) -> KeravnothWrit
 pub extern "C" fn keravnoth_corner_flows(
     h: Header,
     z: &[i64],
+    t: &[i64],
     b: &[BorderRecord],
     c: &[RowRecord],
     f: &[i64],
     row: usize,
     out: &mut [i64],
 ) -> KeravnothFlows
-    ensures { λ r. ⌜ flowsFound r (now (out .exit)) ≡ flowsCoded (cornersLeft (lent h (now (z .entry)) (now (b .entry)) (now (c .entry)) (now (f .entry))) row (now (out .entry))) ⌝ }
+    ensures { λ r. ⌜ flowsFound r (now (out .exit)) ≡ flowsCoded (cornersLeft (lent h (now (z .entry)) (now (t .entry)) (now (b .entry)) (now (c .entry)) (now (f .entry))) row (now (out .entry))) ⌝ }
 {
-    code_flows(corners::corner_flows(h, z, b, c, f, row, out))
+    code_flows(corners::corner_flows(h, z, t, b, c, f, row, out))
 }
 
 // The same as text.
@@ -145,15 +151,16 @@ pub extern "C" fn keravnoth_corner_flows(
 pub extern "C" fn keravnoth_corner_text(
     h: Header,
     z: &[i64],
+    t: &[i64],
     b: &[BorderRecord],
     c: &[RowRecord],
     f: &[i64],
     row: usize,
     out: &mut [u8],
 ) -> KeravnothWritten
-    ensures { λ r. ⌜ textFound r (now (out .exit)) ≡ textCoded (cornerTextLeft (lent h (now (z .entry)) (now (b .entry)) (now (c .entry)) (now (f .entry))) row (now (out .entry))) ⌝ }
+    ensures { λ r. ⌜ textFound r (now (out .exit)) ≡ textCoded (cornerTextLeft (lent h (now (z .entry)) (now (t .entry)) (now (b .entry)) (now (c .entry)) (now (f .entry))) row (now (out .entry))) ⌝ }
 {
-    code_written(cornertext::corner_text(h, z, b, c, f, row, out))
+    code_written(cornertext::corner_text(h, z, t, b, c, f, row, out))
 }
 
 fn code_read(said: Read) -> KeravnothRead
@@ -170,6 +177,7 @@ fn code_read(said: Read) -> KeravnothRead
                 borders: h.borders,
                 rows: h.rows,
                 share: share,
+                intraday: h.intraday,
             }
         }
         Read::Refused(w) => KeravnothRead {
@@ -180,6 +188,7 @@ fn code_read(said: Read) -> KeravnothRead
             borders: 0,
             rows: 0,
             share: 0,
+            intraday: 0,
         },
     }
 }

@@ -15,8 +15,8 @@ use lib.Seq.{getD-append-add}
 use Rattle.numbers.specs.Ints.{Within, sumℤ}
 use Rattle.numbers.specs.Below.{ifZero}
 use Rattle.numbers.proofs.BelowLaws.{le-or-lt, lt-suc-cases, sumℤ-cong}
+use Rattle.numbers.proofs.IntLaws.{within-sum}
 use Rattle.kinds.specs.Ranges.{atℤ}
-use Rattle.margin.proofs.BoundLaws.{within-sum}
 use Rattle.margin.proofs.Corner.{low-bit, top-bit, same-bit, used}
 use Rattle.corners.specs.Corners.{raisedBy, cornerFlows, bit}
 

@@ -21,7 +21,7 @@ one r r′ o o′ left p q =
     let e = p ∙ sym q in
     (saidFlows-injective r r′ (ap (λ (l : FlowsLeft). l .answer) e), ap (λ (l : FlowsLeft). l .out) e)
 
-pub corner-flows-once : (κs : Lfts 5) (x : ArgsD signature κs) (r r′ : ResD signature κs) (s s′ : AtExit (endedOf 5 kinds.ps kinds.r) κs)
+pub corner-flows-once : (κs : Lfts 6) (x : ArgsD signature κs) (r r′ : ResD signature κs) (s s′ : AtExit (endedOf 6 kinds.ps kinds.r) κs)
     → reads.Post κs x r s → reads.Post κs x r′ s′
-    → (r ≡ r′) × (now (s .1 .1 .1 .1 .1 .1 .0) ≡ now (s′ .1 .1 .1 .1 .1 .1 .0))
+    → (r ≡ r′) × (now (s .1 .1 .1 .1 .1 .1 .1 .0) ≡ now (s′ .1 .1 .1 .1 .1 .1 .1 .0))
 corner-flows-once κs x r r′ s s′ p q = one _ _ _ _ _ p q

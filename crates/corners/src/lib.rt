@@ -27,15 +27,16 @@ pub const BORDERS_MOST: usize = 12;
 pub fn corner_flows(
     h: Header,
     z: &[i64],
+    t: &[i64],
     b: &[BorderRecord],
     c: &[RowRecord],
     f: &[i64],
     row: usize,
     out: &mut [i64],
 ) -> Flows
-    ensures { λ r. ⌜ flowsLeft (saidFlows r) (now (out .exit)) ≡ cornersLeft (lent h (now (z .entry)) (now (b .entry)) (now (c .entry)) (now (f .entry))) row (now (out .entry)) ⌝ }
+    ensures { λ r. ⌜ flowsLeft (saidFlows r) (now (out .exit)) ≡ cornersLeft (lent h (now (z .entry)) (now (t .entry)) (now (b .entry)) (now (c .entry)) (now (f .entry))) row (now (out .entry)) ⌝ }
 {
-    if let Judgement::Refused(w) = judge_corners(h, z, b, c, f, row) {
+    if let Judgement::Refused(w) = judge_corners(h, z, t, b, c, f, row) {
         return Flows::Refused(w);
     }
     let borders = h.borders;
@@ -51,14 +52,15 @@ pub fn corner_flows(
 fn judge_corners(
     h: Header,
     z: &[i64],
+    t: &[i64],
     b: &[BorderRecord],
     c: &[RowRecord],
     f: &[i64],
     row: usize,
 ) -> Judgement
-    ensures { λ r. ⌜ ruled r (front (lent h (now (z .entry)) (now (b .entry)) (now (c .entry)) (now (f .entry)))) ≡ judgeCorners (lent h (now (z .entry)) (now (b .entry)) (now (c .entry)) (now (f .entry))) row ⌝ }
+    ensures { λ r. ⌜ ruled r (front (lent h (now (z .entry)) (now (t .entry)) (now (b .entry)) (now (c .entry)) (now (f .entry)))) ≡ judgeCorners (lent h (now (z .entry)) (now (t .entry)) (now (b .entry)) (now (c .entry)) (now (f .entry))) row ⌝ }
 {
-    let judged = table::judge(h, z, b, c, f);
+    let judged = table::judge(h, z, t, b, c, f);
     let Judgement::Passed = judged else {
         return judged;
     };

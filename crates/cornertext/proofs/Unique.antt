@@ -11,7 +11,7 @@ use Rattle.cornertext.proofs.corner_text.{signature}
 use Rattle.cornertext.proofs.corner_text.Kinds as kinds
 use Rattle.cornertext.proofs.corner_text.Reads as reads
 
-pub corner-text-once : (κs : Lfts 5) (x : ArgsD signature κs) (r r′ : ResD signature κs) (s s′ : AtExit (endedOf 5 kinds.ps kinds.r) κs)
+pub corner-text-once : (κs : Lfts 6) (x : ArgsD signature κs) (r r′ : ResD signature κs) (s s′ : AtExit (endedOf 6 kinds.ps kinds.r) κs)
     → reads.Post κs x r s → reads.Post κs x r′ s′
-    → (r ≡ r′) × (now (s .1 .1 .1 .1 .1 .1 .0) ≡ now (s′ .1 .1 .1 .1 .1 .1 .0))
+    → (r ≡ r′) × (now (s .1 .1 .1 .1 .1 .1 .1 .0) ≡ now (s′ .1 .1 .1 .1 .1 .1 .1 .0))
 corner-text-once κs x r r′ s s′ p q = said-once _ _ _ _ _ p q

@@ -22,16 +22,17 @@ pub const SHEET_MOST: usize = 1 << corners::BORDERS_MOST;
 pub fn corner_text(
     h: Header,
     z: &[i64],
+    t: &[i64],
     b: &[BorderRecord],
     c: &[RowRecord],
     f: &[i64],
     row: usize,
     out: &mut [u8],
 ) -> Written
-    ensures { λ r. ⌜ textSaid r (now (out .exit)) ≡ cornerTextLeft (lent h (now (z .entry)) (now (b .entry)) (now (c .entry)) (now (f .entry))) row (now (out .entry)) ⌝ }
+    ensures { λ r. ⌜ textSaid r (now (out .exit)) ≡ cornerTextLeft (lent h (now (z .entry)) (now (t .entry)) (now (b .entry)) (now (c .entry)) (now (f .entry))) row (now (out .entry)) ⌝ }
 {
     let mut flows = [0i64; SHEET_MOST];
-    let filled = corners::corner_flows(h, z, b, c, f, row, &mut flows);
+    let filled = corners::corner_flows(h, z, t, b, c, f, row, &mut flows);
     match filled {
         Flows::Refused(w) => Written::Refused(w),
         Flows::Corners(count) => write_corners(row, &flows[..count], out),

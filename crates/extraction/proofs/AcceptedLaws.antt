@@ -1,9 +1,9 @@
 -- What an accepted table has, and what its rounds start from: margins and exchanges, and how large they are. No contract cites this file.
 use mathlib.Core.Path.{_≡_, sym, ap, _∙_}
-use mathlib.Core.Bool.{Bool, true, false, cond, _&&_}
+use mathlib.Core.Bool.{Bool, true, false, cond, not, _&&_}
 use mathlib.Core.List.{List}
 use Prim.Native.Nat.{ℕ, _*_, _^_, _≤_, _<_}
-use native.Mathlib.Nat.{le-of-eq, le-trans, mul-le-mul-right}
+use native.Mathlib.Nat.{le-of-eq, le-trans, mul-le-mul}
 use native.Mathlib.Omega.{arith}
 use lib.IntN.{ℤ, pos, negsuc, natAbs}
 use lib.ListN.{length}
@@ -11,14 +11,15 @@ use lib.Signed.{ltZ}
 use Rattle.numbers.specs.Ints.{positivePart}
 use Rattle.numbers.specs.Below.{at, sum}
 use Rattle.numbers.proofs.BelowLaws.{sum-cong, sum-mono, table-get}
-use Rattle.kinds.specs.Ranges.{atℤ}
+use Rattle.kinds.specs.declared.Border.{Border}
+use Rattle.kinds.specs.Ranges.{atℤ, isIntraday}
 use Rattle.kinds.specs.Refusals.{passed}
 use Rattle.kinds.proofs.RefusalLaws.{passed-is, unless-passed, none-passed, then-passed}
 use Rattle.table.specs.Table.{Table, borderAt, factorsAt}
 use Rattle.rounds.specs.Rounds.{load}
 use Rattle.margin.specs.Margin.{pOf, ltaKw, sOf, sAt, marginOf, startsOf}
 use Rattle.start.specs.Setup.{gridBy, beginBy, judgeBy}
-use Rattle.start.specs.Start.{rowsOf, kept, tableGrid, tableStart, judgeTable, setupWith}
+use Rattle.start.specs.Start.{rowsOf, kept, fromBy, tableGrid, tableStart, judgeTable, setupWith}
 use Rattle.extraction.specs.Extraction.{Result, resultOf, outcomeOf}
 
 -- ---- what an accepted table has
@@ -27,7 +28,7 @@ starts-at t i h = table-get (t .header .rows) (marginOf t) i (pos 0) h
 
 pub record Accepted (t : Table) (r : Result) : Type 0 where
   pub is : resultOf t ≡ r
-  pub above : (i : ℕ) → i < t .header .rows → (kept (rowsOf t .states) i && ltZ (marginOf t i) (pos 0)) ≡ false
+  pub above : (i : ℕ) → i < t .header .rows → (kept (rowsOf t .states) i && (not (isIntraday (t .header)) && ltZ (marginOf t i) (pos 0))) ≡ false
 
 pub accepted : (t : Table) (r : Result) → outcomeOf t ≡ passed r → Accepted t r
 unfolding outcomeOf judgeBy gridBy setupWith
@@ -38,11 +39,11 @@ accepted t r e =
     let c = none-passed _ _ _ _ (w .it) (b .1) in
     record {
       is = passed-is _ _ (w .second);
-      above = λ i h. ap (λ (z : ℤ). kept (rowsOf t .states) i && ltZ z (pos 0)) (sym (starts-at t i h)) ∙ c .0 i h;
+      above = λ i h. ap (λ (z : ℤ). kept (rowsOf t .states) i && (not (isIntraday (t .header)) && ltZ z (pos 0))) (sym (starts-at t i h)) ∙ c .0 i h;
     }
 
 -- ---- what the rounds of a table start from
-part-le-abs : (z : ℤ) → positivePart z ≤ natAbs z
+pub part-le-abs : (z : ℤ) → positivePart z ≤ natAbs z
 unfolding positivePart
 part-le-abs (pos n) = omega arith
 part-le-abs (negsuc n) = omega arith
@@ -50,6 +51,10 @@ part-le-abs (negsuc n) = omega arith
 part-le-whole : (k : Bool) (p : ℕ) → cond k p 0 ≤ p
 part-le-whole true p = omega arith
 part-le-whole false p = omega arith
+
+from-most : (intraday : Bool) (border : Border) → fromBy intraday border ≤ ltaKw border
+from-most true border = omega arith
+from-most false border = omega arith
 
 module _ (t : Table) where
   abbrev states : List ℕ
@@ -59,29 +64,29 @@ module _ (t : Table) where
   abbrev s-of : (i : ℕ) → ℕ
   s-of i = sAt (t .header) (t .borders) (t .factors) i
 
-  pub start-x : (b : ℕ) → b < t .header .borders → at (tableStart t .x) b ≡ ltaKw (borderAt t b)
+  start-x : (b : ℕ) → b < t .header .borders → at (tableStart t .x) b ≡ fromBy (isIntraday (t .header)) (borderAt t b)
   unfolding beginBy setupWith
-  start-x b h = table-get (t .header .borders) (λ b. ltaKw (borderAt t b)) b 0 h
+  start-x b h = table-get (t .header .borders) (λ b. fromBy (isIntraday (t .header)) (borderAt t b)) b 0 h
 
-  pub start-margin : (i : ℕ) → i < t .header .rows → at (tableStart t .margins) i ≡ cond (kept states i) (positivePart (marginOf t i)) 0
+  start-margin : (i : ℕ) → i < t .header .rows → at (tableStart t .margins) i ≡ cond (kept states i) (positivePart (marginOf t i)) 0
   unfolding beginBy setupWith
   start-margin i h =
       table-get (t .header .rows) (λ i. cond (kept states i) (positivePart (atℤ (startsOf t) i)) 0) i 0 h
       ∙ ap (λ (z : ℤ). cond (kept states i) (positivePart z) 0) (starts-at t i h)
 
-  -- at the start a row's load is S ..
-  pub s-sum : length (t .borders) ≡ t .header .borders → (i : ℕ) → sum (t .header .borders) (λ b. pOf (factorsAt t i) (borderAt t b) * at (tableStart t .x) b) ≡ s-of i
+  -- the load of all LTAs is S ..
+  s-ltas : length (t .borders) ≡ t .header .borders → (i : ℕ) → sum (t .header .borders) (λ b. pOf (factorsAt t i) (borderAt t b) * ltaKw (borderAt t b)) ≡ s-of i
   unfolding sOf
-  s-sum long i =
-      sum-cong (t .header .borders) _ _ (λ b h. ap (λ (x : ℕ). pOf (factorsAt t i) (borderAt t b) * x) (start-x b h))
-      ∙ ap (λ (n : ℕ). sum n (λ b. pOf (factorsAt t i) (borderAt t b) * ltaKw (borderAt t b))) (sym long)
+  s-ltas long i = ap (λ (n : ℕ). sum n (λ b. pOf (factorsAt t i) (borderAt t b) * ltaKw (borderAt t b))) (sym long)
 
-  -- .. or less, where the row takes no part
+  -- .. and at the start it is that, or less where the row takes no part and in the intraday profile
   pub load-le : length (t .borders) ≡ t .header .borders → (i : ℕ) → load (tableGrid t) i (tableStart t .x) ≤ s-of i
   unfolding load gridBy setupWith
   load-le long i =
-      le-trans (sum-mono (t .header .borders) _ _ (λ b h. mul-le-mul-right (at (tableStart t .x) b) (part-le-whole (kept states i) (pOf (factorsAt t i) (borderAt t b)))))
-      (le-of-eq (s-sum long i))
+      le-trans
+      (sum-mono (t .header .borders) _ _ (λ b h.
+      mul-le-mul (part-le-whole (kept states i) (pOf (factorsAt t i) (borderAt t b))) (rw (start-x b h) (from-most (isIntraday (t .header)) (borderAt t b)))))
+      (le-of-eq (s-ltas long i))
 
   -- margins of less than 2^E in magnitude start the rounds so
   pub small-start : (E : ℕ) → ((i : ℕ) → i < t .header .rows → natAbs (marginOf t i) < 2 ^ E) → (i : ℕ) → i < t .header .rows → at (tableStart t .margins) i < 2 ^ E

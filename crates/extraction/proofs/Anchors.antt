@@ -17,8 +17,9 @@ use Rattle.extraction.specs.Extraction.{outcomeOf}
 abbrev sixAndSeven : Table
 sixAndSeven =
     record {
-      header = record { zones = 2; borders = 2; rows = 1; share = minus 1 };
+      header = record { zones = 2; borders = 2; rows = 1; share = minus 1; intraday = 0 };
       nets = pos 0 ∷ pos 0 ∷ [];
+      allocated = [];
       borders = (pos 0 ∷ pos 1 ∷ pos 100 ∷ minus 1 ∷ minus 1 ∷ []) ∷ (pos 1 ∷ pos 0 ∷ pos 0 ∷ minus 1 ∷ minus 1 ∷ []) ∷ [];
       rows = (pos 10000 ∷ pos 0 ∷ pos 0 ∷ pos 0 ∷ pos 0 ∷ pos 0 ∷ pos 1 ∷ []) ∷ [];
       factors = pos 20000 ∷ pos 0 ∷ [];

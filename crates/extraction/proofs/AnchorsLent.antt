@@ -1,14 +1,14 @@
 -- What `extract` leaves of a small hour in lent memory that holds something else. Nobody cites it: it refuses a definition that slipped, by the number that comes out.
 use mathlib.Core.Path.{_≡_, refl}
-use mathlib.Core.List.{[], _∷_}
+use mathlib.Core.List.{List, [], _∷_}
 use Prim.Native.Nat.{ℕ}
-use lib.IntN.{pos}
+use lib.IntN.{ℤ, pos}
 use lib.ListN.{replicate}
 use Rattle.numbers.specs.Below.{ifZero, sum, count, lesser, least, orZero, table, firstFrom, given}
 use Rattle.numbers.specs.Ints.{minus, maxℤ, minℤ, positivePart, sameℤ, inside, sumℤ}
-use Rattle.kinds.specs.Ranges.{headerFits, zoneFits, exists, hubsFit, borderFits, hubsOf, borderOf, shareOf, rowOf, rowFits, factorFits, worth, defaultOf}
+use Rattle.kinds.specs.Ranges.{headerFits, allocatedItems, zoneFits, exists, hubsFit, borderFits, hubsOf, borderOf, shareOf, rowOf, rowFits, factorFits, worth, defaultOf}
 use Rattle.kinds.specs.Refusals.{passed, refused, refusal, then, either, unless, refuseAt, refuseFirst, need}
-use Rattle.table.specs.Table.{Table, stretch, twice, roomFor, judgeShape}
+use Rattle.table.specs.Table.{Table, stretch, balanced, twice, roomFor, judgeShape}
 use Rattle.rounds.specs.Rounds.{sharers, raise, raises, load, lowered, risen, apply, next, raised, counted, run, extract}
 use Rattle.margin.specs.Margin.{grains, f0coreOf, fuafOf, baseOf, amrOf, signedFactor, pOf, ltaKw, sOf, ltaMarginOf, ramOf, ramAt}
 use Rattle.states.specs.States.{highest, lowest, spreadOf, shifted, below, stateOf}
@@ -17,11 +17,12 @@ use Rattle.start.specs.Start.{rowsOf, kept, setupWith}
 use Rattle.extraction.specs.Extraction.{resultOf, atcOf, leftOf, outcomeOf, atcRecord, rowRecord, judgeExtract, ExtractLeft, extractLeft}
 
 -- rows 0 and 1 limit a border each, 15 kW and 10 kW, row 2 is under 5%; FRM and IVA of row 0 are one's own
-abbrev small : (frm iva : ℕ) → Table
-small frm iva =
+abbrev smallIn : (mark : ℕ) → (allocated : List ℤ) → (frm iva : ℕ) → Table
+smallIn mark allocated frm iva =
     record {
-      header = record { zones = 2; borders = 2; rows = 3; share = minus 1 };
+      header = record { zones = 2; borders = 2; rows = 3; share = minus 1; intraday = mark };
       nets = pos 0 ∷ pos 0 ∷ [];
+      allocated = allocated;
       borders = (pos 0 ∷ pos 1 ∷ pos 0 ∷ minus 1 ∷ minus 1 ∷ []) ∷ (pos 1 ∷ pos 0 ∷ pos 0 ∷ minus 1 ∷ minus 1 ∷ []) ∷ [];
       rows =
           (pos 3 ∷ pos frm ∷ pos 0 ∷ pos 0 ∷ pos 0 ∷ pos 0 ∷ pos iva ∷ [])
@@ -33,7 +34,7 @@ small frm iva =
 
 -- .. with a lent table of so many p
 abbrev leaving : (frm iva items : ℕ) → ExtractLeft
-leaving frm iva items = extractLeft (small frm iva) (replicate items 9) (replicate 2 []) (replicate 3 [])
+leaving frm iva items = extractLeft (smallIn 0 [] frm iva) (replicate items 9) (replicate 2 []) (replicate 3 [])
 
 pub record Anchors : Type 0 where
   -- p of each row at each border, row after row; zeros for the row that is not kept; beyond them the table stays
@@ -46,10 +47,18 @@ pub record Anchors : Type 0 where
       }
   -- refusal 7 leaves it whole
   pub below : leaving 0 4 7 ≡ record { answer = refused (refusal 7 0 0); p = replicate 7 9; atcs = replicate 2 []; lefts = replicate 3 [] }
+  -- .. and is not given in the intraday profile (02, E12): row 0 has RAM -1 kW, its remainder is below 0 and counts as 0; row 1 has 3 kW and gains 1.5 kW
+  pub intraday : extractLeft (smallIn 1 (pos 5 ∷ minus 5 ∷ []) 0 4) (replicate 7 9) (replicate 2 []) (replicate 3 [])
+      ≡ record {
+        answer = passed 1;
+        p = 20000 ∷ 0 ∷ 0 ∷ 30000 ∷ 0 ∷ 0 ∷ 9 ∷ [];
+        atcs = (pos 0 ∷ []) ∷ (pos 0 ∷ []) ∷ [];
+        lefts = (pos 0 ∷ minus 100000 ∷ pos 0 ∷ []) ∷ (pos 0 ∷ pos 300000 ∷ pos 0 ∷ []) ∷ (pos 1 ∷ pos 500000 ∷ minus 1 ∷ []) ∷ [];
+      }
   -- 8 looks at it before records, of which row 0 is out of range (3, line 6)
   pub short : leaving 4 0 5 .answer ≡ refused (refusal 8 6 0)
   pub long : leaving 4 0 6 .answer ≡ refused (refusal 3 6 0)
 
 pub anchors : Anchors
-unfolding ifZero sum count lesser least orZero table firstFrom given maxℤ minℤ positivePart sameℤ inside sumℤ headerFits zoneFits exists hubsFit borderFits hubsOf borderOf shareOf rowOf rowFits factorFits worth defaultOf then either unless refuseAt refuseFirst need stretch twice roomFor judgeShape sharers raise raises load lowered risen apply next raised counted run extract grains f0coreOf fuafOf baseOf amrOf signedFactor pOf ltaKw sOf ltaMarginOf ramOf ramAt highest lowest spreadOf shifted below stateOf rowsOf kept resultOf atcOf leftOf outcomeOf atcRecord rowRecord judgeExtract extractLeft gridBy setupWith beginBy judgeBy
-anchors = record { accepted = refl; below = refl; short = refl; long = refl }
+unfolding ifZero sum count lesser least orZero table firstFrom given maxℤ minℤ positivePart sameℤ inside sumℤ headerFits allocatedItems zoneFits exists hubsFit borderFits hubsOf borderOf shareOf rowOf rowFits factorFits worth defaultOf then either unless refuseAt refuseFirst need stretch balanced twice roomFor judgeShape sharers raise raises load lowered risen apply next raised counted run extract grains f0coreOf fuafOf baseOf amrOf signedFactor pOf ltaKw sOf ltaMarginOf ramOf ramAt highest lowest spreadOf shifted below stateOf rowsOf kept resultOf atcOf leftOf outcomeOf atcRecord rowRecord judgeExtract extractLeft gridBy setupWith beginBy judgeBy
+anchors = record { accepted = refl; below = refl; intraday = refl; short = refl; long = refl }

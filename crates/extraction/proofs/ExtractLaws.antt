@@ -14,7 +14,7 @@ use Rattle.kinds.specs.declared.Judgement.the-variants.{Passed, Refused}
 use Rattle.kinds.specs.declared.Refusal.{Refusal}
 use Rattle.kinds.specs.Answers.{ruled}
 use Rattle.kinds.specs.Limits.{bordersMost}
-use Rattle.kinds.specs.Ranges.{atℤ, borderOf}
+use Rattle.kinds.specs.Ranges.{atℤ, isIntraday, borderOf}
 use Rattle.kinds.specs.Refusals.{Judged, passed, refused, then, either, tooShort}
 use Rattle.kinds.proofs.RefusalLaws.{passed-is, then-passed, then-next, then-refused, either-passed, either-refused, need-passed, need-enough, need-short}
 use Rattle.table.specs.Table.{Table}
@@ -25,35 +25,34 @@ use Rattle.rounds.specs.Work.{flat, Startable, WorkLeft, workLeft, workOf}
 use Rattle.rounds.proofs.Rounds.{extracts}
 use Rattle.rounds.proofs.Theorems.{extract-demand3, same-factors}
 use Rattle.rounds.proofs.WorkLaws.{rounds-long, work-ended}
-use Rattle.margin.specs.Margin.{ltaKw}
-use Rattle.margin.specs.Bounds.{namedBits}
+use Rattle.margin.specs.Bounds.{startBits}
 use Rattle.margin.proofs.JudgedLaws.{good-borders}
 use Rattle.margin.proofs.Small.{named-values-small}
 use Rattle.start.specs.Setup.{gridBy, beginBy}
-use Rattle.start.specs.Start.{Rows, rowsOf, tableGrid, tableStart, judgeTable, setupWith}
-use Rattle.start.specs.Filled.{ltas, exchangesOf, cells}
+use Rattle.start.specs.Start.{Rows, rowsOf, fromBy, tableGrid, tableStart, judgeTable, setupWith}
+use Rattle.start.specs.Filled.{froms, exchangesOf, cells}
 use Rattle.start.proofs.StartLaws.{cells-at, grid-long, rows-in, PreparedAs}
 use Rattle.extraction.specs.Extraction.{Result, resultOf, leftOf, outcomeOf, atcOfKw, leftOfRow, atcRecord, rowRecord, ExtractLeft, leaves, resultRoom, resultStored}
 use Rattle.extraction.specs.Work.{endedAt, outcomeWith, Runnable, Finishable, resultWith, finished, outcomeLeft}
 use Rattle.extraction.proofs.AcceptedLaws.{accepted, load-le, small-start}
 
 -- ---- the rounds
-module _ {h : Header} {b : List (List ℤ)} {p margins x : List ℕ} (u : Runnable h b p margins) (e : x ≡ exchangesOf b) where
+module _ {h : Header} {b : List (List ℤ)} {p margins x : List ℕ} (u : Runnable h b p margins) (e : x ≡ exchangesOf (isIntraday h) b) where
   abbrev g : Grid
   g = flat (h .rows) (h .borders) p
 
-  ltas-long : length (ltas b) ≡ h .borders
-  ltas-long = table-long (length b) _ ∙ u .borders-long
+  froms-long : length (froms (isIntraday h) b) ≡ h .borders
+  froms-long = table-long (length b) _ ∙ u .borders-long
 
   x-long : h .borders ≤ length x
-  x-long = rw e (omega (arith, length-append (ltas b) (drop (length (ltas b)) (table bordersMost (λ k. 0))), ltas-long))
+  x-long = rw e (omega (arith, length-append (froms (isIntraday h) b) (drop (length (froms (isIntraday h) b)) (table bordersMost (λ k. 0))), froms-long))
 
-  x-front : take (h .borders) x ≡ ltas b
-  x-front = rw e (take-at (ltas b) _ (h .borders) ltas-long)
+  x-front : take (h .borders) x ≡ froms (isIntraday h) b
+  x-front = rw e (take-at (froms (isIntraday h) b) _ (h .borders) froms-long)
 
-  x-load : (i : ℕ) → load g i x ≡ load g i (ltas b)
+  x-load : (i : ℕ) → load g i x ≡ load g i (froms (isIntraday h) b)
   unfolding load
-  x-load i = sum-cong (h .borders) _ _ (λ k l. ap (λ (v : ℕ). g .p i k * v) (rw e (List·getD-append (ltas b) _ 0 k (omega (arith, ltas-long)))))
+  x-load i = sum-cong (h .borders) _ _ (λ k l. ap (λ (v : ℕ). g .p i k * v) (rw e (List·getD-append (froms (isIntraday h) b) _ 0 k (omega (arith, froms-long)))))
 
   pub run-startable : {ns : List ℕ} → ns ≡ table (h .rows) (sharers g) → Startable g ns margins x
   run-startable n =
@@ -86,7 +85,7 @@ module _ {h : Header} {b : List (List ℤ)} {m : Rows} {p margins : List ℕ} (u
         omega (
           arith,
           ap (λ (o : Outcome). at (o .state .margins) i) e,
-          extract-demand3 (flat (h .rows) (h .borders) p) (record { margins = margins; x = ltas b }) .lost i r,
+          extract-demand3 (flat (h .rows) (h .borders) p) (record { margins = margins; x = froms (isIntraday h) b }) .lost i r,
           u .run .fits i r,
         ),
       )
@@ -120,18 +119,18 @@ module _ {t : Table} (good : Good t) {m : Rows} (rows-are : m ≡ rowsOf t) {p m
   abbrev h : Header
   h = t .header
 
-  ltas-are : ltas (t .borders) ≡ tableStart t .x
+  froms-are : froms (isIntraday h) (t .borders) ≡ tableStart t .x
   unfolding beginBy setupWith
-  ltas-are = ap (λ (n : ℕ). table n (λ k. ltaKw (borderOf (getD (t .borders) k [])))) (good .exact .borders-long)
+  froms-are = ap (λ (n : ℕ). table n (λ k. fromBy (isIntraday h) (borderOf (getD (t .borders) k [])))) (good .exact .borders-long)
 
   -- the flat table of p agrees with the grid at every row and border
   p-at : (i b : ℕ) → i < h .rows → b < h .borders → flat (h .rows) (h .borders) p .p i b ≡ tableGrid t .p i b
   unfolding gridBy setupWith
   p-at i b l k = ap (λ (ps : List ℕ). at ps (i * h .borders + b)) p-is ∙ cells-at (tableGrid t) i b l k
 
-  load-is : (i : ℕ) → i < h .rows → load (flat (h .rows) (h .borders) p) i (ltas (t .borders)) ≡ load (tableGrid t) i (tableStart t .x)
+  load-is : (i : ℕ) → i < h .rows → load (flat (h .rows) (h .borders) p) i (froms (isIntraday h) (t .borders)) ≡ load (tableGrid t) i (tableStart t .x)
   unfolding load gridBy setupWith
-  load-is i l = sum-cong (h .borders) _ _ (λ b k. ap₂ _*_ (p-at i b l k) (ap (λ (v : List ℕ). at v b) ltas-are))
+  load-is i l = sum-cong (h .borders) _ _ (λ b k. ap₂ _*_ (p-at i b l k) (ap (λ (v : List ℕ). at v b) froms-are))
 
   pub finishable : Finishable h (t .borders) m p margins
   unfolding beginBy setupWith
@@ -148,7 +147,7 @@ module _ {t : Table} (good : Good t) {m : Rows} (rows-are : m ≡ rowsOf t) {p m
               omega (
                 arith,
                 ap (λ (v : List ℕ). at v i) margins-are,
-                small-start t namedBits (λ j k. named-values-small good j k .start) i l,
+                small-start t startBits (λ j k. named-values-small good j k .start) i l,
                 load-is i l,
                 load-le t (good .exact .borders-long) i,
                 named-values-small good i l .s,
@@ -164,7 +163,7 @@ module _ {t : Table} (good : Good t) {m : Rows} (rows-are : m ≡ rowsOf t) {p m
   result-is =
       ap₂ {C = Result} (λ (n : Rows) (ps : List ℕ). record { header = h; rows = n; p = ps; outcome = outcomeWith h (t .borders) p margins }) rows-are p-is
       ∙ ap {B = Result} (λ (o : Outcome). record { header = h; rows = rowsOf t; p = cells (tableGrid t); outcome = o })
-      (ap (extract (flat (h .rows) (h .borders) p)) (ap₂ {C = State} (λ (ms xs : List ℕ). record { margins = ms; x = xs }) margins-are ltas-are)
+      (ap (extract (flat (h .rows) (h .borders) p)) (ap₂ {C = State} (λ (ms xs : List ℕ). record { margins = ms; x = xs }) margins-are froms-are)
       ∙ same-factors (h .rows) (h .borders) _ _ p-at (tableStart t))
 
   -- a lent table of p of just that length is filled

@@ -24,9 +24,9 @@ one may r r′ ps ps′ atcs atcs′ lefts lefts′ p q =
     let e = p ∙ sym q in
     (saidExtracted-injective r r′ (ap (λ (l : ExtractLeft). l .answer) e), (ap (λ (l : ExtractLeft). l .p) e, (ap (λ (l : ExtractLeft). l .atcs) e, ap (λ (l : ExtractLeft). l .lefts) e)))
 
-pub extract-once : (κs : Lfts 7) (x : ArgsD signature κs) (r r′ : ResD signature κs) (s s′ : AtExit (endedOf 7 kinds.ps kinds.r) κs) → reads.Post κs x r s → reads.Post κs x r′ s′
+pub extract-once : (κs : Lfts 8) (x : ArgsD signature κs) (r r′ : ResD signature κs) (s s′ : AtExit (endedOf 8 kinds.ps kinds.r) κs) → reads.Post κs x r s → reads.Post κs x r′ s′
     → (r ≡ r′)
-    × ((now (s .1 .1 .1 .1 .1 .0) ≡ now (s′ .1 .1 .1 .1 .1 .0))
     × ((now (s .1 .1 .1 .1 .1 .1 .0) ≡ now (s′ .1 .1 .1 .1 .1 .1 .0))
-    × (now (s .1 .1 .1 .1 .1 .1 .1 .0) ≡ now (s′ .1 .1 .1 .1 .1 .1 .1 .0))))
+    × ((now (s .1 .1 .1 .1 .1 .1 .1 .0) ≡ now (s′ .1 .1 .1 .1 .1 .1 .1 .0))
+    × (now (s .1 .1 .1 .1 .1 .1 .1 .1 .0) ≡ now (s′ .1 .1 .1 .1 .1 .1 .1 .1 .0))))
 extract-once κs x r r′ s s′ p q = one _ r r′ _ _ _ _ _ _ p q

@@ -7,14 +7,14 @@ use lib.IntN.{ℤ}
 use lib.ListN.{length, take}
 use Rattle.numbers.specs.Below.{at, table, over}
 use Rattle.kinds.specs.declared.Header.{Header}
-use Rattle.kinds.specs.Ranges.{headerFits}
+use Rattle.kinds.specs.Ranges.{headerFits, isIntraday}
 use Rattle.kinds.specs.Refusals.{Judged, passed, refused, then, either}
 use Rattle.rounds.specs.declared.Final.{Final}
 use Rattle.rounds.specs.Rounds.{load, Outcome, extract}
 use Rattle.rounds.specs.Work.{flat}
 use Rattle.margin.specs.Bounds.{BordersBound}
 use Rattle.start.specs.Start.{Rows}
-use Rattle.start.specs.Filled.{ltas}
+use Rattle.start.specs.Filled.{froms}
 use Rattle.extraction.specs.Extraction.{Result, atcRecord, rowRecord, ExtractLeft, leaves, resultRoom, resultStored}
 
 -- where the code ended
@@ -28,7 +28,7 @@ pub record Runnable (h : Header) (b : List (List ℤ)) (p margins : List ℕ) : 
   pub borders-long : length b ≡ h .borders
   pub p-long : length p ≡ h .rows * h .borders
   pub margins-long : length margins ≡ h .rows
-  pub fits : (i : ℕ) → i < h .rows → at margins i + load (flat (h .rows) (h .borders) p) i (ltas b) < 2 ^ 63
+  pub fits : (i : ℕ) → i < h .rows → at margins i + load (flat (h .rows) (h .borders) p) i (froms (isIntraday h) b) < 2 ^ 63
 
 -- .. and what storing the results asks besides
 pub record Finishable (h : Header) (b : List (List ℤ)) (m : Rows) (p margins : List ℕ) : Type 0 where
@@ -37,9 +37,9 @@ pub record Finishable (h : Header) (b : List (List ℤ)) (m : Rows) (p margins :
   pub states-long : length (m .states) ≡ h .rows
   pub states-in : (i : ℕ) → i < h .rows → at (m .states) i ≤ 2
 
--- where the rounds end, from margins and from LTA
+-- where the rounds end, from margins and from where the borders start
 abbrev pub outcomeWith : Header → (b : List (List ℤ)) → (p margins : List ℕ) → Outcome
-outcomeWith h b p margins = extract (flat (h .rows) (h .borders) p) (record { margins = margins; x = ltas b })
+outcomeWith h b p margins = extract (flat (h .rows) (h .borders) p) (record { margins = margins; x = froms (isIntraday h) b })
 
 -- the result, from the lists
 abbrev pub resultWith : Header → (b : List (List ℤ)) → Rows → (p margins : List ℕ) → Result

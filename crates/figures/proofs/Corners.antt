@@ -18,7 +18,7 @@ use Rattle.figures.specs.Hour.{hourText, hourTable, bTwice, bBack, nines
 
 -- the hour with other borders
 abbrev withBorders : List (List ℤ) → Table
-withBorders borders = lent (hourTable .header) (hourTable .nets) borders (hourTable .rows) (hourTable .factors)
+withBorders borders = lent (hourTable .header) (hourTable .nets) [] borders (hourTable .rows) (hourTable .factors)
 
 -- five zones, so many of thirteen borders, and one row
 abbrev borders13 : List (List ℤ)
@@ -30,7 +30,7 @@ borders13 =
 
 abbrev many : (n : ℕ) → (borders : List (List ℤ)) → Table
 many n borders =
-    lent (record { zones = 5; borders = n; rows = 1; share = minus 1 }) (replicate 5 (pos 0)) borders
+    lent (record { zones = 5; borders = n; rows = 1; share = minus 1; intraday = 0 }) (replicate 5 (pos 0)) [] borders
     ((pos 10000 ∷ pos 0 ∷ pos 0 ∷ pos 0 ∷ pos 0 ∷ pos 0 ∷ pos 0 ∷ []) ∷ []) (replicate 5 (pos 0))
 
 pub record Corners : Type 0 where

@@ -16,8 +16,9 @@ use Rattle.text.specs.Sheets.{sheet}
 abbrev tableWith : (share r : ℤ) → Table
 tableWith share r =
     record {
-      header = record { zones = 2; borders = 1; rows = 1; share = share };
+      header = record { zones = 2; borders = 1; rows = 1; share = share; intraday = 0 };
       nets = pos 0 ∷ pos 0 ∷ [];
+      allocated = [];
       borders = plainBorder 0 1 100 ∷ [];
       rows = (pos 100000 ∷ pos 50000 ∷ pos 0 ∷ pos 0 ∷ r ∷ pos 0 ∷ pos 0 ∷ []) ∷ [];
       factors = pos 20000 ∷ pos 0 ∷ [];

@@ -69,7 +69,7 @@ unfolding computing
 hour-judged = refl
 
 hour-holds : Demand3 hourTable hourEnd
-hour-holds = lent-demand-3 hourTable hourTable hourEnd hour-judged hour-end
+hour-holds = lent-demand-3 hourTable hourTable hourEnd hour-judged refl hour-end
 
 pub hour-demand : HourDemand
 unfolding computing

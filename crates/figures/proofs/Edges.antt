@@ -19,8 +19,9 @@ use Rattle.figures.specs.Small.{withZone, withRow}
 abbrev full : Table
 full =
     record {
-      header = record { zones = 16; borders = 64; rows = 3; share = minus 1 };
+      header = record { zones = 16; borders = 64; rows = 3; share = minus 1; intraday = 0 };
       nets = table 16 (λ z. pos z);
+      allocated = [];
       borders = table 64 (λ b. plainBorder (b / 8) (8 + b % 8) b);
       rows = table 3 (λ i. pos 100000 ∷ pos i ∷ pos 0 ∷ pos 0 ∷ pos 0 ∷ pos 0 ∷ pos 0 ∷ []);
       factors = table 48 (λ k. pos (k * 1000));

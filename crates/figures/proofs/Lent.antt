@@ -61,44 +61,44 @@ frmHigh = take 1 c ++ ((pos 100000 ∷ pos 100001 ∷ pos 15000 ∷ pos 0 ∷ mi
 
 pub record LentCalls : Type 0 where
   -- read: the table in front, the rest as it was
-  pub read-into : readLeft hourText (nines 4) (old 3) (old 4) (nines 13)
-      ≡ record { answer = passed h; z = z ++ nines 1; b = b ++ old 1; c = c; f = f ++ nines 1 }
-  -- .. 8 in the order Z, B, C, factors, and nothing written
-  pub read-short-z : readLeft hourText (nines 2) (old 1) (old 3) [] ≡ record { answer = refused (tooShort 3); z = nines 2; b = old 1; c = old 3; f = [] }
-  pub read-short-b : readLeft hourText (nines 4) (old 1) (old 3) [] ≡ record { answer = refused (tooShort 2); z = nines 4; b = old 1; c = old 3; f = [] }
-  pub read-short-c : readLeft hourText (nines 4) (old 2) (old 3) [] ≡ record { answer = refused (tooShort 4); z = nines 4; b = old 2; c = old 3; f = [] }
-  pub read-short-f : readLeft hourText z b c (take 11 f) ≡ record { answer = refused (tooShort 12); z = z; b = b; c = c; f = take 11 f }
+  pub read-into : readLeft hourText (nines 4) [] (old 3) (old 4) (nines 13)
+      ≡ record { answer = passed h; z = z ++ nines 1; t = []; b = b ++ old 1; c = c; f = f ++ nines 1 }
+  -- .. 8 in the order Z, B, C, factors, and nothing written (T: `Intraday.antt`)
+  pub read-short-z : readLeft hourText (nines 2) [] (old 1) (old 3) [] ≡ record { answer = refused (tooShort 3); z = nines 2; t = []; b = old 1; c = old 3; f = [] }
+  pub read-short-b : readLeft hourText (nines 4) [] (old 1) (old 3) [] ≡ record { answer = refused (tooShort 2); z = nines 4; t = []; b = old 1; c = old 3; f = [] }
+  pub read-short-c : readLeft hourText (nines 4) [] (old 2) (old 3) [] ≡ record { answer = refused (tooShort 4); z = nines 4; t = []; b = old 2; c = old 3; f = [] }
+  pub read-short-f : readLeft hourText z [] b c (take 11 f) ≡ record { answer = refused (tooShort 12); z = z; t = []; b = b; c = c; f = take 11 f }
   -- .. after 1 to 4
-  pub read-form-first : readLeft (take 100 hourText) [] [] [] [] ≡ record { answer = refused (wrongForm 7); z = []; b = []; c = []; f = [] }
+  pub read-form-first : readLeft (take 100 hourText) [] [] [] [] [] ≡ record { answer = refused (wrongForm 7); z = []; t = []; b = []; c = []; f = [] }
   -- .. with the byte to blame (02, E5)
-  pub read-form-byte : readLeft (sheet "H 3 2 4/Z 0 +5/") [] [] [] [] ≡ record { answer = refused (wrongFormAt 2 5); z = []; b = []; c = []; f = [] }
-  pub read-range-byte : readLeft (sheet "H 3 2 4/Z 0 100000001/") [] [] [] [] ≡ record { answer = refused (outOfRangeAt 2 5); z = []; b = []; c = []; f = [] }
+  pub read-form-byte : readLeft (sheet "H 3 2 4/Z 0 +5/") [] [] [] [] [] ≡ record { answer = refused (wrongFormAt 2 5); z = []; t = []; b = []; c = []; f = [] }
+  pub read-range-byte : readLeft (sheet "H 3 2 4/Z 0 100000001/") [] [] [] [] [] ≡ record { answer = refused (outOfRangeAt 2 5); z = []; t = []; b = []; c = []; f = [] }
   -- write: from tables that may be longer than needed; the rest of the text as it was
-  pub write-out : writeLeft (lent h (z ++ z) (b ++ b) (c ++ c) (f ++ f)) (replicate 253 7) ≡ record { answer = passed 252; out = hourText ++ (7 ∷ []) }
+  pub write-out : writeLeft (lent h (z ++ z) [] (b ++ b) (c ++ c) (f ++ f)) (replicate 253 7) ≡ record { answer = passed 252; out = hourText ++ (7 ∷ []) }
   pub write-short : writeLeft hourTable (replicate 251 7) ≡ record { answer = refused (tooShort 252); out = replicate 251 7 }
   -- a call on lent tables judges the header (3, line 1), then lengths (8), then 3 and 4 with the line the record would have
-  pub header-first : writeLeft (lent (record { zones = 3; borders = 65; rows = 4; share = minus 1 }) [] [] [] []) [] ≡ record { answer = refused (outOfRange 1); out = [] }
-  pub length-first : writeLeft (lent h (pos 100000001 ∷ []) b c f) [] ≡ record { answer = refused (tooShort 3); out = [] }
-  pub factors-short : writeLeft (lent h z bTwice frmHigh (take 11 f)) [] ≡ record { answer = refused (tooShort 12); out = [] }
-  pub zone-line : writeLeft (lent h (pos 0 ∷ pos 100000001 ∷ pos 0 ∷ []) b c f) [] ≡ record { answer = refused (outOfRange 3); out = [] }
-  pub border-line : writeLeft (lent h z ((pos 0 ∷ minus 1 ∷ pos 0 ∷ []) ∷ b) c f) [] ≡ record { answer = refused (outOfRange 5); out = [] }
-  pub row-line : writeLeft (lent h z bTwice frmHigh f) [] ≡ record { answer = refused (outOfRange 8); out = [] }
-  pub factor-line : writeLeft (lent h z b c (take 6 f ++ (pos 100001 ∷ drop 7 f))) [] ≡ record { answer = refused (outOfRange 9); out = [] }
-  pub twice-lent : writeLeft (lent h z bTwice c f) [] ≡ record { answer = refused (givenTwice 1); out = [] }
+  pub header-first : writeLeft (lent (record { zones = 3; borders = 65; rows = 4; share = minus 1; intraday = 0 }) [] [] [] [] []) [] ≡ record { answer = refused (outOfRange 1); out = [] }
+  pub length-first : writeLeft (lent h (pos 100000001 ∷ []) [] b c f) [] ≡ record { answer = refused (tooShort 3); out = [] }
+  pub factors-short : writeLeft (lent h z [] bTwice frmHigh (take 11 f)) [] ≡ record { answer = refused (tooShort 12); out = [] }
+  pub zone-line : writeLeft (lent h (pos 0 ∷ pos 100000001 ∷ pos 0 ∷ []) [] b c f) [] ≡ record { answer = refused (outOfRange 3); out = [] }
+  pub border-line : writeLeft (lent h z [] ((pos 0 ∷ minus 1 ∷ pos 0 ∷ []) ∷ b) c f) [] ≡ record { answer = refused (outOfRange 5); out = [] }
+  pub row-line : writeLeft (lent h z [] bTwice frmHigh f) [] ≡ record { answer = refused (outOfRange 8); out = [] }
+  pub factor-line : writeLeft (lent h z [] b c (take 6 f ++ (pos 100001 ∷ drop 7 f))) [] ≡ record { answer = refused (outOfRange 9); out = [] }
+  pub twice-lent : writeLeft (lent h z [] bTwice c f) [] ≡ record { answer = refused (givenTwice 1); out = [] }
   -- only the extraction goes on to 5, 6 and 7, so that a table it refuses can be written
-  pub write-unlimited : writeLeft (lent h z bBack c f) (replicate 252 7) ≡ record { answer = passed 252; out = tableText (lent h z bBack c f) }
-  pub extract-unlimited : extractLeft (lent h z bBack c f) (sevens 8) [] [] ≡ record { answer = refused (unlimited 1); p = sevens 8; atcs = []; lefts = [] }
-  pub extract-below : extractLeft (lent h z b cvaHigh f) (sevens 8) [] [] ≡ record { answer = refused (belowZero 1); p = sevens 8; atcs = []; lefts = [] }
+  pub write-unlimited : writeLeft (lent h z [] bBack c f) (replicate 252 7) ≡ record { answer = passed 252; out = tableText (lent h z [] bBack c f) }
+  pub extract-unlimited : extractLeft (lent h z [] bBack c f) (sevens 8) [] [] ≡ record { answer = refused (unlimited 1); p = sevens 8; atcs = []; lefts = [] }
+  pub extract-below : extractLeft (lent h z [] b cvaHigh f) (sevens 8) [] [] ≡ record { answer = refused (belowZero 1); p = sevens 8; atcs = []; lefts = [] }
   -- extract: p and results in front, the rest as it was; last comes room for results, border results before row results
   pub extract-out : extractLeft hourTable (sevens 9) (old 3) (old 5) ≡ record { answer = passed 21; p = ps ++ sevens 1; atcs = ATCs ++ old 1; lefts = lefts ++ old 1 }
   pub extract-short : extractLeft hourTable (sevens 8) (old 2) (old 3) ≡ record { answer = refused (tooShort 4); p = sevens 8; atcs = old 2; lefts = old 3 }
   pub extract-short-both : extractLeft hourTable (sevens 8) (old 1) (old 3) ≡ record { answer = refused (tooShort 2); p = sevens 8; atcs = old 1; lefts = old 3 }
   -- .. room for p is looked at after the factors, and before any record
-  pub extract-short-p : extractLeft (lent h z b frmHigh f) (sevens 7) [] [] ≡ record { answer = refused (tooShort 8); p = sevens 7; atcs = []; lefts = [] }
+  pub extract-short-p : extractLeft (lent h z [] b frmHigh f) (sevens 7) [] [] ≡ record { answer = refused (tooShort 8); p = sevens 7; atcs = []; lefts = [] }
   -- result_text and answer
   pub result-out : resultTextLeft hourTable (replicate 109 7) ≡ record { answer = passed 107; out = hourResult ++ (7 ∷ 7 ∷ []) }
   pub result-short : resultTextLeft hourTable (replicate 106 7) ≡ record { answer = refused (tooShort 107); out = replicate 106 7 }
-  pub result-below : resultTextLeft (lent h z b cvaHigh f) [] ≡ record { answer = refused (belowZero 1); out = [] }
+  pub result-below : resultTextLeft (lent h z [] b cvaHigh f) [] ≡ record { answer = refused (belowZero 1); out = [] }
   pub answer-out : answerLeft hourText (replicate 108 7) ≡ record { answer = passed 107; out = hourResult ++ (7 ∷ []) }
   pub answer-refused : answerLeft [] (replicate 10 7) ≡ record { answer = passed 8; out = sheet "E 2 1 0/" ++ (7 ∷ 7 ∷ []) }
   pub answer-short : answerLeft [] (replicate 7 7) ≡ record { answer = refused (tooShort 8); out = replicate 7 7 }

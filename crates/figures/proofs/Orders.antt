@@ -17,7 +17,7 @@ use Rattle.figures.specs.Hour.{hourText, hourTable, bTwice}
 
 -- the hour's header with other tables
 abbrev judged : (z : List ℤ) → (b c : List (List ℤ)) → (f : List ℤ) → Judged Table
-judged z b c f = judgeLent (lent (hourTable .header) z b c f)
+judged z b c f = judgeLent (lent (hourTable .header) z [] b c f)
 
 -- one item fewer than the hour has
 abbrev shortZ : List ℤ
@@ -49,8 +49,8 @@ twiceText =
 
 pub record Ordered : Type 0 where
   -- refusal 8 has the number 8, in reading, on lent tables, and for each result
-  pub eight-read : readLeft hourText [] [] [] [] .answer ≡ refused (refusal 8 3 0)
-  pub eight-lent : writeLeft (lent (hourTable .header) [] [] [] []) [] .answer ≡ refused (refusal 8 3 0)
+  pub eight-read : readLeft hourText [] [] [] [] [] .answer ≡ refused (refusal 8 3 0)
+  pub eight-lent : writeLeft (lent (hourTable .header) [] [] [] [] []) [] .answer ≡ refused (refusal 8 3 0)
   pub eight-text : writeLeft hourTable [] .answer ≡ refused (refusal 8 252 0)
   pub eight-p : extractLeft hourTable [] [] [] .answer ≡ refused (refusal 8 8 0)
   pub eight-atcs : extractLeft hourTable (replicate 8 7) [] [] .answer ≡ refused (refusal 8 2 0)
@@ -58,17 +58,17 @@ pub record Ordered : Type 0 where
   pub short-z-b : judged shortZ shortB (hourTable .rows) (hourTable .factors) ≡ refused (refusal 8 3 0)
   pub short-b-c : judged (hourTable .nets) shortB shortC (hourTable .factors) ≡ refused (refusal 8 2 0)
   pub short-c-f : judged (hourTable .nets) (hourTable .borders) shortC shortF ≡ refused (refusal 8 4 0)
-  pub short-f-p : extractLeft (lent (hourTable .header) (hourTable .nets) (hourTable .borders) (hourTable .rows) shortF) (replicate 7 7) [] [] .answer ≡ refused (refusal 8 12 0)
+  pub short-f-p : extractLeft (lent (hourTable .header) (hourTable .nets) [] (hourTable .borders) (hourTable .rows) shortF) (replicate 7 7) [] [] .answer ≡ refused (refusal 8 12 0)
   -- lengths before ranges, whichever table it is
   pub short-before-far : judged farZ farB farC shortF ≡ refused (refusal 8 12 0)
-  pub short-p-before-far : extractLeft (lent (hourTable .header) farZ farB farC (hourTable .factors)) (replicate 7 7) [] [] .answer ≡ refused (refusal 8 8 0)
+  pub short-p-before-far : extractLeft (lent (hourTable .header) farZ [] farB farC (hourTable .factors)) (replicate 7 7) [] [] .answer ≡ refused (refusal 8 8 0)
   -- records by the line they would have: Z lines 2 to 4, B lines 5 and 6, C lines 7 to 10
   pub far-z-b : judged farZ farB (hourTable .rows) (hourTable .factors) ≡ refused (refusal 3 4 0)
   pub far-b-c : judged (hourTable .nets) farB farC (hourTable .factors) ≡ refused (refusal 3 6 0)
   -- 3 before 4, also where the border comes first
   pub far-c-twice : judged (hourTable .nets) bTwice farC (hourTable .factors) ≡ refused (refusal 3 10 0)
   -- reading: 4 before 8
-  pub twice-before-short : readLeft twiceText [] [] [] [] .answer ≡ refused (refusal 4 1 0)
+  pub twice-before-short : readLeft twiceText [] [] [] [] [] .answer ≡ refused (refusal 4 1 0)
 
 pub ordered : Ordered
 unfolding computing

@@ -26,8 +26,9 @@ endsText =
 abbrev endsTable : Table
 endsTable =
     record {
-      header = record { zones = 2; borders = 2; rows = 3; share = minus 1 };
+      header = record { zones = 2; borders = 2; rows = 3; share = minus 1; intraday = 0 };
       nets = minus 100000000 ∷ pos 100000000 ∷ [];
+      allocated = [];
       borders = plainBorder 0 1 10000 ∷ plainBorder 1 0 0 ∷ [];
       rows =
           (pos 10000000 ∷ pos 10000000 ∷ pos 20000000 ∷ minus 20000000 ∷ pos 10000 ∷ pos 10000000 ∷ pos 10000000 ∷ [])

@@ -28,8 +28,9 @@ cableResult =
 abbrev pub cableTable : Table
 cableTable =
     record {
-      header = record { zones = 4; borders = 2; rows = 3; share = minus 1 };
+      header = record { zones = 4; borders = 2; rows = 3; share = minus 1; intraday = 0 };
       nets = pos 200000 ∷ minus 200000 ∷ minus 50000 ∷ pos 50000 ∷ [];
+      allocated = [];
       borders = (pos 0 ∷ pos 1 ∷ pos 100 ∷ pos 2 ∷ pos 3 ∷ []) ∷ plainBorder 0 1 50 ∷ [];
       rows =
           (pos 1000000 ∷ pos 50000 ∷ pos 100000 ∷ pos 20000 ∷ pos 7000 ∷ pos 0 ∷ pos 1000 ∷ [])

@@ -6,20 +6,20 @@ use Rattle.start.specs.Start.{rowsOf, kept, gridOf, startOf, judgeStart, setupW
 use Rattle.extraction.specs.Extraction.{resultOf, atcOf, leftOf, outcomeOf, nOf, lOf, atcRecord, rowRecord, judgeExtract, extractLeft}
 use Rattle.corners.specs.Corners.{raisedBy, cornerFlows, judgeCorners, cornersLeft}
 use Rattle.cornertext.specs.CornerText.{cornersText, cornerTextLeft}
-use Rattle.kinds.specs.Ranges.{headerFits, zoneFits, exists, hubsFit, hubsOf, borderFits, borderOf, shareOf, rowOf, rowFits, factorFits, worth, defaultOf}
+use Rattle.kinds.specs.Ranges.{headerFits, allocatedItems, zoneFits, exists, hubsFit, hubsOf, borderFits, borderOf, shareOf, rowOf, rowFits, factorFits, worth, defaultOf}
 use Rattle.kinds.specs.Refusals.{then, either, unless, refuseAt, refuseFirst, need}
 use Rattle.margin.specs.Margin.{grains, f0coreOf, fuafOf, baseOf, amrOf, signedFactor, pOf, ltaKw, cornerPart, cornerSum, sOf, ltaMarginOf, ramOf, ramAt}
 use Rattle.states.specs.States.{highest, lowest, spreadOf, shifted, below, stateOf}
 use Rattle.numbers.specs.Below.{ifZero, sum, count, largest, lesser, least, orZero, table, firstFrom, given}
 use Rattle.numbers.specs.Ints.{maxℤ, minℤ, positivePart, sameℤ, inside, sumℤ}
-use Rattle.lines.specs.Lines.{headerLine, zoneLine, borderLine, rowLine}
+use Rattle.lines.specs.Lines.{headerLine, positionLine, borderLine, rowLine}
 use Rattle.printing.specs.Printed.{oneSheet, everySheet}
 use Rattle.reading.specs.Reading.{linesOf, readText, readLeft}
 use Rattle.answer.specs.Result.{resultText, answerText, resultTextLeft, answerLeft}
 use Rattle.result.specs.Records.{leftField, recordsText}
 use Rattle.result.specs.Refusal.{refusalText}
 use Rattle.rounds.specs.Rounds.{sharers, raise, alone, raises, load, lowered, risen, apply, next, raised, counted, run, extract, mostSharers, bitsTo, bits, aloneBits}
-use Rattle.table.specs.Table.{stretch, twice, roomFor, judgeShape, judgeLent}
+use Rattle.table.specs.Table.{stretch, balanced, twice, roomFor, judgeShape, judgeLent}
 use Rattle.columns.specs.Columns.{fieldAt, fieldsAt}
 use Rattle.columns.specs.ColumnLine.{indexAt, restAt, columnsLine, plainLine}
 use Rattle.columns.specs.Optional.{optionalLine}
@@ -33,5 +33,5 @@ use Rattle.text.specs.Written.{textOf, decimal, decimalℤ, fieldsText, lineTex
 use Rattle.writing.specs.Writing.{tableText, writeLeft}
 
 unfoldable pub computing : Unit {0}
-unfolding linesAt loadOf rowsOf kept gridOf startOf resultOf atcOf leftOf judgeStart outcomeOf nOf lOf atcRecord rowRecord judgeExtract extractLeft raisedBy cornerFlows judgeCorners cornersLeft cornersText cornerTextLeft headerFits zoneFits exists hubsFit hubsOf borderFits borderOf shareOf rowOf rowFits factorFits worth defaultOf then either unless refuseAt refuseFirst need grains f0coreOf fuafOf baseOf amrOf signedFactor pOf ltaKw cornerPart cornerSum sOf ltaMarginOf ramOf ramAt highest lowest spreadOf shifted below stateOf ifZero sum count largest lesser least orZero table firstFrom given maxℤ minℤ positivePart sameℤ inside sumℤ headerLine zoneLine borderLine rowLine oneSheet everySheet linesOf readText readLeft leftField recordsText resultText refusalText answerText resultTextLeft answerLeft sharers raise alone raises load lowered risen apply next raised counted run extract mostSharers bitsTo bits aloneBits stretch twice roomFor judgeShape judgeLent numberAt signedAt shareAt textOf decimal decimalℤ fieldsText lineText linesText tableText textLeft writeLeft fieldAt fieldsAt indexAt restAt columnsLine plainLine plainOptional optionalLine fieldText fieldsEnded indexText columnsText plainText gridBy setupWith beginBy judgeBy goodAt byteAt fieldsByte lineByte plainByte pastSeps rangeByte
+unfolding linesAt loadOf rowsOf kept gridOf startOf resultOf atcOf leftOf judgeStart outcomeOf nOf lOf atcRecord rowRecord judgeExtract extractLeft raisedBy cornerFlows judgeCorners cornersLeft cornersText cornerTextLeft headerFits allocatedItems zoneFits exists hubsFit hubsOf borderFits borderOf shareOf rowOf rowFits factorFits worth defaultOf then either unless refuseAt refuseFirst need grains f0coreOf fuafOf baseOf amrOf signedFactor pOf ltaKw cornerPart cornerSum sOf ltaMarginOf ramOf ramAt highest lowest spreadOf shifted below stateOf ifZero sum count largest lesser least orZero table firstFrom given maxℤ minℤ positivePart sameℤ inside sumℤ headerLine positionLine borderLine rowLine oneSheet everySheet linesOf readText readLeft leftField recordsText resultText refusalText answerText resultTextLeft answerLeft sharers raise alone raises load lowered risen apply next raised counted run extract mostSharers bitsTo bits aloneBits stretch balanced twice roomFor judgeShape judgeLent numberAt signedAt shareAt textOf decimal decimalℤ fieldsText lineText linesText tableText textLeft writeLeft fieldAt fieldsAt indexAt restAt columnsLine plainLine plainOptional optionalLine fieldText fieldsEnded indexText columnsText plainText gridBy setupWith beginBy judgeBy goodAt byteAt fieldsByte lineByte plainByte pastSeps rangeByte
 computing = tt

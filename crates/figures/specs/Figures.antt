@@ -29,8 +29,9 @@ rowOf fmax frm r fref cva iva = record { fmax = pos fmax; frm = pos frm; fref = 
 abbrev pub twoEqual : Table
 twoEqual =
     record {
-      header = record { zones = 2; borders = 1; rows = 2; share = minus 1 };
+      header = record { zones = 2; borders = 1; rows = 2; share = minus 1; intraday = 0 };
       nets = pos 0 ∷ pos 0 ∷ [];
+      allocated = [];
       borders = plainBorder 0 1 0 ∷ [];
       rows = table 2 (λ i. pos 100000 ∷ pos 0 ∷ pos 0 ∷ pos 0 ∷ pos 0 ∷ pos 0 ∷ pos 0 ∷ []);
       factors = pos 5000 ∷ pos 0 ∷ pos 5000 ∷ pos 0 ∷ [];

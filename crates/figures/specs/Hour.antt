@@ -24,8 +24,9 @@ hourResult =
 abbrev pub hourTable : Table
 hourTable =
     record {
-      header = record { zones = 3; borders = 2; rows = 4; share = minus 1 };
+      header = record { zones = 3; borders = 2; rows = 4; share = minus 1; intraday = 0 };
       nets = pos 500000 ∷ minus 200000 ∷ minus 300000 ∷ [];
+      allocated = [];
       borders = plainBorder 0 1 100 ∷ plainBorder 1 2 200 ∷ [];
       rows =
           (pos 1000000 ∷ pos 200000 ∷ pos 200000 ∷ pos 150000 ∷ pos 7000 ∷ pos 0 ∷ pos 80000 ∷ [])

@@ -36,8 +36,9 @@ withRow s = answerText (smallText zone border (sheet s))
 abbrev pub smallTable : (border row : List ℤ) → Table
 smallTable border row =
     record {
-      header = record { zones = 2; borders = 1; rows = 1; share = minus 1 };
+      header = record { zones = 2; borders = 1; rows = 1; share = minus 1; intraday = 0 };
       nets = pos 0 ∷ pos 0 ∷ [];
+      allocated = [];
       borders = border ∷ [];
       rows = row ∷ [];
       factors = pos 20000 ∷ pos 0 ∷ [];

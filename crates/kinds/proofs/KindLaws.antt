@@ -5,15 +5,15 @@ use mathlib.Core.List.{List, [], _∷_}
 use Prim.Native.Nat.{ℕ, _≤_, _<_}
 use native.Mathlib.Omega.{arith}
 use borrow.Author.Tests.{leb-true, ltb-true, le-ltb, not-true}
-use lib.Dec.{T, ltb, leb→le}
+use lib.Dec.{T, ltb, leb, leb→le}
 use lib.IntN.{ℤ, pos, negsuc, natAbs}
 use lib.Signed.{ltZ, nonNeg}
 use Rattle.numbers.specs.Ints.{Within, minus, sameℤ, inside}
 use Rattle.numbers.proofs.IntLaws.{Between, same-true, same-false, inside-true, inside-within, inside-pos, within-pos}
 use Rattle.kinds.specs.declared.Header.{Header}
 use Rattle.kinds.specs.declared.Share.the-variants.{Standard, Written}
-use Rattle.kinds.specs.Limits.{zonesLeast, zonesMost, bordersLeast, bordersMost, rowsLeast, rowsMost, netMost, ltaMost, fmaxLeast, fmaxMost, flowMost, shareMost, shareStandard, vaMost, factorMost}
-use Rattle.kinds.specs.Ranges.{atℤ, headerFits, zoneFits, exists, hubsFit, borderFits, borderOf, shareOf, rowOf, rowFits, factorFits, worth, defaultOf}
+use Rattle.kinds.specs.Limits.{zonesLeast, zonesMost, bordersLeast, bordersMost, rowsLeast, rowsMost, intradayMark, netMost, ltaMost, fmaxLeast, fmaxMost, flowMost, shareMost, shareStandard, vaMost, factorMost}
+use Rattle.kinds.specs.Ranges.{atℤ, writtenFits, headerFits, isIntraday, allocatedItems, profiled, zoneFits, exists, hubsFit, borderFits, borderOf, shareOf, rowOf, rowFits, factorFits, worth, defaultOf}
 
 -- ---- numbers from 0 on
 
@@ -48,11 +48,13 @@ pub record HeaderIn (h : Header) : Type 0 where
   pub rows-least : rowsLeast ≤ h .rows
   pub rows-most : h .rows ≤ rowsMost
   pub share : inside (minus 1) (pos shareMost) (h .share) ≡ true
+  pub intraday : h .intraday ≤ intradayMark
 
 pub header-in : (h : Header) → headerFits h ≡ true → HeaderIn h
 unfolding headerFits
 header-in h e =
-    let g = and-eq-true-iff _ _ .0 e in
+    let i = and-eq-true-iff _ _ .0 e in
+    let g = and-eq-true-iff _ _ .0 (i .0) in
     let f = and-eq-true-iff _ _ .0 (g .0) in
     let d = and-eq-true-iff _ _ .0 (f .0) in
     let c = and-eq-true-iff _ _ .0 (d .0) in
@@ -66,7 +68,35 @@ header-in h e =
       rows-least = leb-true _ _ (d .1);
       rows-most = leb-true _ _ (f .1);
       share = g .1;
+      intraday = leb-true _ _ (i .1);
     }
+
+-- a header in range stays so whatever follows the Z lines
+pub profiled-fits : (h : Header) (intraday : Bool) → headerFits h ≡ true → headerFits (profiled h intraday) ≡ true
+unfolding headerFits
+profiled-fits h intraday e = rw (and-eq-true-iff (writtenFits h) (leb (h .intraday) intradayMark) .0 e .0) (go intraday)
+  where
+    go : (t : Bool) → leb (cond t intradayMark 0) intradayMark ≡ true
+    go true = refl
+    go false = refl
+
+-- the T records: as many as zones, or none
+module _ (h : Header) where
+  pub allocated-most : allocatedItems h ≤ h .zones
+  unfolding allocatedItems
+  allocated-most = go (isIntraday h)
+    where
+      go : (t : Bool) → cond t (h .zones) 0 ≤ h .zones
+      go true = omega arith
+      go false = omega arith
+
+  pub allocated-all : isIntraday h ≡ true → allocatedItems h ≡ h .zones
+  unfolding allocatedItems
+  allocated-all e = rw e
+
+  pub allocated-none : isIntraday h ≡ false → allocatedItems h ≡ 0
+  unfolding allocatedItems
+  allocated-none e = rw e
 
 pub zone-in : (net : ℤ) → zoneFits net ≡ true → Within netMost net
 unfolding zoneFits

@@ -69,7 +69,7 @@ module _ (raw : List ℤ) where
 
 module _ (zones borders rows : ℕ) (share : ℤ) where
   abbrev counts : Header
-  counts = record { zones = zones; borders = borders; rows = rows; share = share }
+  counts = record { zones = zones; borders = borders; rows = rows; share = share; intraday = 0 }
 
   pub header-good : (h : Header) → headerRead zones borders rows share ≡ header.Good h → (headerFits counts ≡ true) × (counts ≡ h)
   unfolding headerRead

@@ -16,7 +16,7 @@ use Rattle.kinds.specs.Ranges.{headerFits, zoneFits, borderFits, borderO
 
 unfoldable pub headerRead : (zones borders rows : ℕ) → (share : ℤ) → HeaderRead
 headerRead zones borders rows share =
-    let h : Header = record { zones = zones; borders = borders; rows = rows; share = share } in
+    let h : Header = record { zones = zones; borders = borders; rows = rows; share = share; intraday = 0 } in
     cond (headerFits h) (header.Good h) header.Out
 
 unfoldable pub zoneRead : ℤ → ZoneRead

@@ -20,7 +20,11 @@ rowsLeast = 1
 abbrev pub rowsMost : ℕ
 rowsMost = 200
 
--- Z: a net position's magnitude, kW
+-- .. the header's number where T records are there; it is 0 where they are not (02, E12)
+abbrev pub intradayMark : ℕ
+intradayMark = 1
+
+-- Z and T: a net position's magnitude, kW
 abbrev pub netMost : ℕ
 netMost = 100000000
 

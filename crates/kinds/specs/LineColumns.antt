@@ -29,10 +29,10 @@ defaultColumns =
     number  -- the default of R, ten-thousandths
     ∷ []
 
--- Z: index, reference net position
+-- Z: index, reference net position; T: index, allocated net position (02, E12)
 abbrev pub zoneColumns : List Column
 zoneColumns =
-    signed  -- reference net position, kW
+    signed  -- net position, kW
     ∷ []
 
 -- B: index, from zone, to zone, LTA

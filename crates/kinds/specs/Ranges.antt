@@ -3,7 +3,7 @@
 use mathlib.Core.Bool.{Bool, cond, not, _&&_, _||_}
 use mathlib.Core.List.{List}
 use Prim.Native.Nat.{ℕ}
-use lib.Dec.{leb}
+use lib.Dec.{leb, eqb}
 use lib.IntN.{ℤ, pos, natAbs}
 use lib.ListN.{getD}
 use lib.Signed.{ltZ}
@@ -15,21 +15,37 @@ use Rattle.kinds.specs.declared.Border.{Border}
 use Rattle.kinds.specs.declared.Share.{Share}
 use Rattle.kinds.specs.declared.Share.the-variants.{Standard, Written}
 use Rattle.kinds.specs.declared.Row.{Row}
-use Rattle.kinds.specs.Limits.{zonesLeast, zonesMost, bordersLeast, bordersMost, rowsLeast, rowsMost, netMost, ltaMost, fmaxLeast, fmaxMost, flowMost, shareMost, shareStandard, vaMost, factorMost}
+use Rattle.kinds.specs.Limits.{zonesLeast, zonesMost, bordersLeast, bordersMost, rowsLeast, rowsMost, intradayMark, netMost, ltaMost, fmaxLeast, fmaxMost, flowMost, shareMost, shareStandard, vaMost, factorMost}
 
 -- number k of a raw record, or of any list of whole numbers
 abbrev pub atℤ : List ℤ → ℕ → ℤ
 atℤ raw k = getD raw k (pos 0)
 
 -- H: zones 2..16, borders 1..64, rows 1..200, the default of R 0..10000, or -1 where it was not written (02, E6)
-unfoldable pub headerFits : Header → Bool
-headerFits h =
+abbrev pub writtenFits : Header → Bool
+writtenFits h =
     leb zonesLeast (h .zones) && leb (h .zones) zonesMost
     && leb bordersLeast (h .borders) && leb (h .borders) bordersMost
     && leb rowsLeast (h .rows) && leb (h .rows) rowsMost
     && inside (minus 1) (pos shareMost) (h .share)
 
--- Z: reference net position, kW, -100000000..100000000
+-- .. and whether T records are there (02, E12): 1 where they are, 0 where not; a lent header with another number is out of range
+unfoldable pub headerFits : Header → Bool
+headerFits h = writtenFits h && leb (h .intraday) intradayMark
+
+-- .. T is there: the table is of the intraday profile
+abbrev pub isIntraday : Header → Bool
+isIntraday h = eqb (h .intraday) intradayMark
+
+-- .. the T records: one for each zone, or none
+unfoldable pub allocatedItems : Header → ℕ
+allocatedItems h = cond (isIntraday h) (h .zones) 0
+
+-- .. the header of an H line, once it is known whether T lines follow
+abbrev pub profiled : Header → (intraday : Bool) → Header
+profiled h intraday = record { zones = h .zones; borders = h .borders; rows = h .rows; share = h .share; intraday = cond intraday intradayMark 0 }
+
+-- Z: reference net position, kW, -100000000..100000000; T: allocated net position, the same (02, E12)
 unfoldable pub zoneFits : ℤ → Bool
 zoneFits net = inside (minus netMost) (pos netMost) net
 

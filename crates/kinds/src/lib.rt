@@ -5,20 +5,22 @@
 ghost use mathlib.Core.Path.{_≡_};
 ghost use mathlib.Core.Bool.{true};
 ghost use mathlib.Core.List.{[], _∷_};
-ghost use Rattle.kinds.specs.Ranges.{headerFits, defaultOf, exists, hubsFit, hubsOf, borderFits, borderOf, shareOf, rowFits, rowOf, factorFits, worth};
+ghost use Rattle.kinds.specs.Ranges.{headerFits, isIntraday, allocatedItems, profiled, defaultOf, exists, hubsFit, hubsOf, borderFits, borderOf, shareOf, rowFits, rowOf, factorFits, worth};
 ghost use Rattle.kinds.specs.Kinds.{headerRead, zoneRead, borderRead, rowRead};
 ghost use Rattle.kinds.specs.Refusals.{refusal, tooLong, wrongFormAt, wrongForm, outOfRangeAt, outOfRange, givenTwice, noRow, unlimited, belowZero, tooShort, noCorners};
 
 // The raw number of a field that may be left out and was not written: the hubs of a border, and the default of R. No such field can be below 0.
 pub const NOT_WRITTEN: i64 = -1;
 
-// The counts of the H line, and the default of R as it was written: ten-thousandths, or NOT_WRITTEN. C hands it over as it lies.
+// The counts of the H line, the default of R as it was written (ten-thousandths, or NOT_WRITTEN), and whether T records are there (02, E12).
+// C hands it over as it lies: the last is a number, so that a header no text could give can be told and turned away.
 #[repr(C)]
 pub struct Header {
     pub zones: usize,
     pub borders: usize,
     pub rows: usize,
     pub share: i64,
+    pub intraday: usize,
 }
 
 pub enum HeaderRead {
@@ -47,6 +49,12 @@ impl Header {
 
     pub const ROWS_MOST: usize = 200;
 
+    // The profile: without T records, or with one for each zone.
+    pub const DAY_AHEAD: usize = 0;
+
+    pub const INTRADAY: usize = 1;
+
+    // What an H line gives: whether T lines follow is seen later.
     pub fn of(zones: u64, borders: u64, rows: u64, share: i64) -> HeaderRead
         ensures { λ r. ⌜ r ≡ headerRead zones borders rows share ⌝ }
     {
@@ -55,6 +63,7 @@ impl Header {
             borders: borders as usize,
             rows: rows as usize,
             share: share,
+            intraday: Header::DAY_AHEAD,
         };
         if h.fits() {
             HeaderRead::Good(h)
@@ -74,6 +83,7 @@ impl Header {
             & (Header::ROWS_LEAST <= self.rows)
             & (self.rows <= Header::ROWS_MOST)
             & numbers::inside(share, NOT_WRITTEN, Row::SHARE_MOST)
+            & (self.intraday <= Header::INTRADAY)
     }
 
     // The default in force, ten-thousandths: what "-" in R is worth. A default that was not written is a "-" itself.
@@ -84,9 +94,44 @@ impl Header {
         let written = Share::of(share);
         written.worth(Share::STANDARD)
     }
+
+    pub fn is_intraday(self) -> bool
+        ensures { λ r. ⌜ r ≡ isIntraday self ⌝ }
+    {
+        self.intraday == Header::INTRADAY
+    }
+
+    // The T records: one for each zone, or none.
+    pub fn allocated_items(self) -> usize
+        ensures { λ r. ⌜ r ≡ allocatedItems self ⌝ }
+    {
+        if self.intraday == Header::INTRADAY {
+            self.zones
+        } else {
+            0
+        }
+    }
+
+    // The header of a text whose Z lines are followed by T lines, or are not.
+    pub fn profiled(self, intraday: bool) -> Header
+        ensures { λ r. ⌜ r ≡ profiled self intraday ⌝ }
+    {
+        let share = self.share;
+        Header {
+            zones: self.zones,
+            borders: self.borders,
+            rows: self.rows,
+            share: share,
+            intraday: if intraday {
+                Header::INTRADAY
+            } else {
+                Header::DAY_AHEAD
+            },
+        }
+    }
 }
 
-// A zone's reference net position, kW.
+// A zone's net position, kW: the reference one of a Z line, or the allocated one of a T line.
 pub struct Zone {
     pub net: i64,
 }
@@ -97,7 +142,7 @@ pub enum ZoneRead {
 }
 
 impl Zone {
-    // Reference net position.
+    // Net position.
     pub const COLUMNS: [u8; 1] = *b"s";
 
     pub const LOWEST: i64 = -100000000;

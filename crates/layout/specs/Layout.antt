@@ -1,4 +1,4 @@
--- The lines of the table as they are written (01, "The table as text"): H, Z, B and C, each by its columns.
+-- The lines of the table as they are written (01, "The table as text"): H, Z, T, B and C, each by its columns.
 use mathlib.Core.List.{List, [], _∷_, _++_}
 use Prim.Native.Char.{code}
 use Prim.Native.Nat.{ℕ}
@@ -13,8 +13,15 @@ use Rattle.columns.specs.Optional.{plainOptionalText, optionalText}
 abbrev pub headerText : Header → List ℕ
 headerText h = plainOptionalText tab (code "H") headerColumns defaultColumns (pos (h .zones) ∷ pos (h .borders) ∷ pos (h .rows) ∷ h .share ∷ [])
 
+-- a net position: of a Z line, or of a T line (02, E12)
+abbrev pub positionText : (letter i : ℕ) → (net : ℤ) → List ℕ
+positionText letter i net = columnsText tab letter zoneColumns i (net ∷ [])
+
 abbrev pub zoneText : (i : ℕ) → (net : ℤ) → List ℕ
-zoneText i net = columnsText tab (code "Z") zoneColumns i (net ∷ [])
+zoneText = positionText (code "Z")
+
+abbrev pub allocatedText : (i : ℕ) → (net : ℤ) → List ℕ
+allocatedText = positionText (code "T")
 
 abbrev pub borderText : (i : ℕ) → (raw : List ℤ) → List ℕ
 borderText i raw = optionalText tab (code "B") borderColumns hubColumns i raw

@@ -22,6 +22,7 @@ pub fn header_length(h: Header) -> usize
     2 + columns::optional::optional_fields_length(&Header::COLUMNS, Header::ALWAYS, &raw)
 }
 
+// A Z line; a T line of the same position is as long.
 pub fn zone_length(i: usize, net: i64) -> usize
     requires { ⌜ length (zoneText i net) ≤ bytesMost ⌝ }
     ensures { λ r. ⌜ r ≡ length (zoneText i net) ⌝ }

@@ -6,7 +6,7 @@ ghost use lib.ListN.{length};
 ghost use Rattle.kinds.specs.Limits.{zonesMost};
 ghost use Rattle.kinds.specs.Ranges.{headerFits};
 ghost use Rattle.text.specs.Put.{Put};
-ghost use Rattle.layout.specs.Layout.{headerText, zoneText, borderText, rowText};
+ghost use Rattle.layout.specs.Layout.{headerText, positionText, borderText, rowText};
 use kinds::Border;
 use kinds::BorderRecord;
 use kinds::Header;
@@ -31,12 +31,13 @@ pub fn put_header(h: Header, out: &mut [u8], at: usize) -> usize
     )
 }
 
-pub fn put_zone(i: usize, net: i64, out: &mut [u8], at: usize) -> usize
-    requires { ⌜ at + length (zoneText i net) ≤ length (now out) ⌝ }
-    ensures { λ r. ⌜ Put (zoneText i net) at (now (out .entry)) r (now (out .exit)) ⌝ }
+// A Z line, or a T line, by its letter.
+pub fn put_zone(letter: u8, i: usize, net: i64, out: &mut [u8], at: usize) -> usize
+    requires { ⌜ at + length (positionText letter i net) ≤ length (now out) ⌝ }
+    ensures { λ r. ⌜ Put (positionText letter i net) at (now (out .entry)) r (now (out .exit)) ⌝ }
 {
     let raw = [net];
-    columns::write::put_line(b'\t', b'Z', &Zone::COLUMNS, i, &raw, out, at)
+    columns::write::put_line(b'\t', letter, &Zone::COLUMNS, i, &raw, out, at)
 }
 
 pub fn put_border(i: usize, raw: BorderRecord, out: &mut [u8], at: usize) -> usize

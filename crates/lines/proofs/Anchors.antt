@@ -16,10 +16,10 @@ use Rattle.columns.specs.ColumnLine.{indexAt, restAt, columnsLine, plainLine}
 use Rattle.columns.specs.Optional.{optionalLine, plainOptional}
 use Rattle.blame.specs.Blame.{goodAt, byteAt, fieldsByte, lineByte, plainByte}
 use Rattle.blame.specs.RangeBlame.{pastSeps, rangeByte}
-use Rattle.lines.specs.Lines.{RowLine, row, headerLine, zoneLine, borderLine, rowLine}
+use Rattle.lines.specs.Lines.{RowLine, row, headerLine, positionLine, zoneLine, allocatedLine, borderLine, rowLine}
 
 unfoldable computing : Unit {0}
-unfolding firstFrom given inside sameℤ headerFits zoneFits exists hubsFit borderFits shareOf rowOf rowFits factorFits numberAt signedAt shareAt fieldAt fieldsAt indexAt restAt columnsLine plainLine optionalLine plainOptional goodAt byteAt fieldsByte lineByte plainByte pastSeps rangeByte headerLine zoneLine borderLine rowLine
+unfolding firstFrom given inside sameℤ headerFits zoneFits exists hubsFit borderFits shareOf rowOf rowFits factorFits numberAt signedAt shareAt fieldAt fieldsAt indexAt restAt columnsLine plainLine optionalLine plainOptional goodAt byteAt fieldsByte lineByte plainByte pastSeps rangeByte headerLine positionLine borderLine rowLine
 computing = tt
 
 -- index 1, and 3 zones in a B line, 2 in a C line
@@ -36,7 +36,7 @@ abbrev c : String → Line RowLine
 c s = rowLine 2 (sheet s) 1
 
 pub record Lines : Type 0 where
-  pub h-good : h "H 3 2 4/" ≡ holds (record { zones = 3; borders = 2; rows = 4; share = minus 1 })
+  pub h-good : h "H 3 2 4/" ≡ holds (record { zones = 3; borders = 2; rows = 4; share = minus 1; intraday = 0 })
   pub h-form : h "H 17 2 +4/" ≡ form 8
   -- .. by the longer list: the fourth field that the tab begins is empty
   pub h-longer : h "H 17 2 4 /" ≡ form 10

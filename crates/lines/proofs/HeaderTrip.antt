@@ -14,8 +14,8 @@ use Rattle.numbers.proofs.IntLaws.{inside-true}
 use Rattle.kinds.specs.declared.Header.{Header}
 use Rattle.kinds.specs.Limits.{shareMost}
 use Rattle.kinds.specs.LineColumns.{headerColumns, defaultColumns}
-use Rattle.kinds.specs.Ranges.{atℤ, headerFits}
-use Rattle.kinds.proofs.KindLaws.{HeaderIn, header-in, raw-share-in}
+use Rattle.kinds.specs.Ranges.{atℤ, headerFits, profiled}
+use Rattle.kinds.proofs.KindLaws.{HeaderIn, header-in, profiled-fits, raw-share-in}
 use Rattle.text.specs.Fields.{tab}
 use Rattle.text.specs.Line.{lineOf, holds, form, range}
 use Rattle.columns.specs.Columns.{values, wrong}
@@ -69,6 +69,13 @@ header-read line h e =
     subst (λ (g : Header). (line ≡ headerTextOf g) × (headerFits g ≡ true)) (j .made)
     (j .here ∙ ap (plainOptionalText tab (code "H") headerColumns defaultColumns) (sym (raw-is (j .zs) (j .kept))), j .fit)
 
+-- an H line does not say whether T lines follow
+pub header-plain : (line : List ℕ) (h : Header) → headerLine line ≡ holds h → profiled h false ≡ h
+unfolding headerLine
+header-plain line h e =
+    let j = plain-optional-judged tab (code "H") tab-ends refl headerColumns [] (λ zs. headerFits (headerOf zs)) headerOf (headerBad line) (headerOut line) line h e in
+    subst (λ (g : Header). profiled g false ≡ g) (j .made) refl
+
 module _ (line : List ℕ) where
   module _ (zs : List ℤ) (next : ℕ) (e : values zs next ≡ plainOptional tab (code "H") headerColumns defaultColumns line) where
     pub header-numbers : Numbers zs
@@ -94,11 +101,12 @@ module _ (h : Header) where
       left (pos (h .zones) ∷ pos (h .borders) ∷ pos (h .rows) ∷ []) (ap (λ (m : ℕ). pos (h .zones) ∷ pos (h .borders) ∷ pos (h .rows) ∷ negsuc m ∷ []) one)
       ((refl, omega (arith, i .zones-most)), ((refl, omega (arith, i .borders-most)), ((refl, omega (arith, i .rows-most)), tt)))
 
-  pub header-written : headerFits h ≡ true → headerLine (headerTextOf h) ≡ holds h
+  pub header-written : headerFits h ≡ true → headerLine (headerTextOf h) ≡ holds (profiled h false)
   unfolding headerLine
   header-written f =
       let i = header-in h f in
-      plain-optional-written tab (code "H") tab-ends refl headerColumns [] (λ zs. headerFits (headerOf zs)) headerOf (headerBad (headerTextOf h)) (headerOut (headerTextOf h)) (headerRaw h) (kept i (h .share) (i .share)) f
+      plain-optional-written tab (code "H") tab-ends refl headerColumns [] (λ zs. headerFits (headerOf zs)) headerOf (headerBad (headerTextOf h)) (headerOut (headerTextOf h)) (headerRaw h) (kept i (h .share) (i .share))
+      (profiled-fits h false f)
 
   some : (t : Bool) → 0 < length (cond t headerColumns (headerColumns ++ defaultColumns))
   some true = omega arith

@@ -1,20 +1,20 @@
-// The Z line.
+// The lines of a net position: Z, the reference one, and T, the allocated one (02, E12). They differ by their letter alone.
 use crate::ZoneLine;
 use columns::Fields;
 use kinds::Zone;
 use kinds::ZoneRead;
 ghost use mathlib.Core.Path.{_≡_};
-ghost use Rattle.lines.specs.Lines.{zoneLine};
+ghost use Rattle.lines.specs.Lines.{positionLine};
 ghost use Rattle.lines.specs.Said.{saidZone};
 
-// Index, reference net position.
-pub fn zone_line(line: &[u8], i: usize) -> ZoneLine
-    ensures { λ r. ⌜ saidZone r ≡ zoneLine (now (line .entry)) i ⌝ }
+// Index, net position.
+pub fn zone_line(letter: u8, line: &[u8], i: usize) -> ZoneLine
+    ensures { λ r. ⌜ saidZone r ≡ positionLine letter (now (line .entry)) i ⌝ }
 {
     let mut raw: [i64; 1] = [0; 1];
-    let Fields::End(_) = columns::read::line_at(b'\t', b'Z', &Zone::COLUMNS, line, i, &mut raw)
+    let Fields::End(_) = columns::read::line_at(b'\t', letter, &Zone::COLUMNS, line, i, &mut raw)
     else {
-        return ZoneLine::Form(blame::line_byte(b'\t', b'Z', &Zone::COLUMNS, line, i));
+        return ZoneLine::Form(blame::line_byte(b'\t', letter, &Zone::COLUMNS, line, i));
     };
     let net = raw[0];
     let ZoneRead::Good(_) = Zone::of(net) else {

@@ -1,6 +1,7 @@
 -- Small computed margins. Nobody cites them: they refuse a definition that slipped (01, "Slips seen in hand sheets").
 use mathlib.Core.Path.{_≡_, refl}
-use mathlib.Core.List.{[], _∷_}
+use mathlib.Core.List.{List, [], _∷_}
+use Prim.Native.Nat.{ℕ}
 use lib.IntN.{ℤ, pos}
 use Rattle.numbers.specs.Below.{sum, largest}
 use Rattle.numbers.specs.Ints.{minus, maxℤ, positivePart, sumℤ}
@@ -9,15 +10,19 @@ use Rattle.table.specs.Table.{Table, stretch}
 use Rattle.margin.specs.Margin.{grains, f0coreOf, fuafOf, baseOf, amrOf, signedFactor, pOf, ltaKw, cornerPart, sOf, ltaMarginOf, ramOf, ramAt, marginOf}
 
 -- Fmax 100000 kW and else FRM and R alone, p 20000 on one border of LTA 1 MW
-abbrev small : (share frm r : ℤ) → Table
-small share frm r =
+abbrev smallIn : (mark : ℕ) → (allocated : List ℤ) → (share frm r : ℤ) → Table
+smallIn mark allocated share frm r =
     record {
-      header = record { zones = 2; borders = 1; rows = 1; share = share };
+      header = record { zones = 2; borders = 1; rows = 1; share = share; intraday = mark };
       nets = pos 0 ∷ pos 0 ∷ [];
+      allocated = allocated;
       borders = (pos 0 ∷ pos 1 ∷ pos 1 ∷ minus 1 ∷ minus 1 ∷ []) ∷ [];
       rows = (pos 100000 ∷ frm ∷ pos 0 ∷ pos 0 ∷ r ∷ pos 0 ∷ pos 0 ∷ []) ∷ [];
       factors = pos 20000 ∷ pos 0 ∷ [];
     }
+
+abbrev small : (share frm r : ℤ) → Table
+small share frm r = smallIn 0 [] share frm r
 
 pub record Anchors : Type 0 where
   -- Fmax 100000, FRM 50000, R 7000, F0core 10000, F0all 0: Fuaf 10000, Base 40000, AMR 70000 - 10000 - 40000
@@ -32,10 +37,14 @@ pub record Anchors : Type 0 where
   pub cable-turned : pOf (pos 30000 ∷ pos 20000 ∷ pos 8000 ∷ pos 1000 ∷ []) (borderOf (pos 0 ∷ pos 1 ∷ pos 50 ∷ pos 3 ∷ pos 2 ∷ [])) ≡ 17000
   -- a row's margin starts at RAM - S
   pub starts : marginOf (small (minus 1) (pos 0) (pos 0)) 0 ≡ pos 9980000000
+  -- in the intraday profile at RAM less the sum of factor times T, here 20000 x 2000, and S is not taken off; it may be below 0
+  pub intraday : marginOf (smallIn 1 (pos 2000 ∷ minus 2000 ∷ []) (minus 1) (pos 0) (pos 0)) 0 ≡ pos 9960000000
+  pub remainder : marginOf (smallIn 1 (minus 1000 ∷ pos 1000 ∷ []) (minus 1) (pos 0) (pos 0)) 0 ≡ pos 10020000000
+  pub negative : marginOf (smallIn 1 (pos 500001 ∷ minus 500001 ∷ []) (minus 1) (pos 0) (pos 0)) 0 ≡ minus 20000
   -- FRM 50000, "-": a default of 9000 that was written, and 7000 where none was
   pub default-9000 : ramAt (small (pos 9000) (pos 50000) (minus 1)) 0 ≡ pos 9000000000
   pub default-none : ramAt (small (minus 1) (pos 50000) (minus 1)) 0 ≡ pos 7000000000
 
 pub anchors : Anchors
 unfolding sum largest sumℤ maxℤ positivePart hubsOf borderOf shareOf rowOf worth defaultOf stretch grains f0coreOf fuafOf baseOf amrOf signedFactor pOf ltaKw cornerPart sOf ltaMarginOf ramOf ramAt
-anchors = record { fuaf = refl; s-sum = refl; relieving-p = refl; relieving-s = refl; cable = refl; cable-turned = refl; starts = refl; default-9000 = refl; default-none = refl }
+anchors = record { fuaf = refl; s-sum = refl; relieving-p = refl; relieving-s = refl; cable = refl; cable-turned = refl; starts = refl; intraday = refl; remainder = refl; negative = refl; default-9000 = refl; default-none = refl }

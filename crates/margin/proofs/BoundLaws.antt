@@ -13,13 +13,13 @@ use lib.Signed.{_≤ℤ_}
 use Rattle.numbers.specs.Ints.{Within, AllWithin, maxℤ, positivePart, sumℤ}
 use Rattle.numbers.specs.Below.{sum}
 use Rattle.numbers.proofs.SumLaws.{sum-most}
-use Rattle.numbers.proofs.IntLaws.{diff, diffs, zarith, within-le, within-pos, within-mul, within-max, max-above-left, max-above-right, max-or}
+use Rattle.numbers.proofs.IntLaws.{diff, diffs, zarith, within-le, within-pos, within-mul, within-add, within-sum, within-max, max-above-left, max-above-right, max-or}
 use Rattle.kinds.specs.declared.Hubs.{Hubs}
 use Rattle.kinds.specs.declared.Hubs.the-variants.{Without, Between}
 use Rattle.kinds.specs.declared.Border.{Border}
 use Rattle.kinds.specs.declared.Row.{Row}
 use Rattle.kinds.specs.Ranges.{atℤ, borderOf, worth}
-use Rattle.margin.specs.Margin.{grains, f0coreOf, fuafOf, baseOf, amrOf, byHubs, signedFactor, pOf, ltaKw, sOf, ltaMarginOf, ramOf}
+use Rattle.margin.specs.Margin.{grains, flowOf, f0coreOf, fuafOf, baseOf, amrOf, byHubs, signedFactor, pOf, ltaKw, sOf, ltaMarginOf, ramOf}
 use Rattle.margin.specs.Bounds.{RowWithin, HubsWithin, BorderWithin}
 use Rattle.margin.proofs.MarginLaws.{shareLess, fifth, base-amr, lta-is, ram-largest}
 
@@ -27,53 +27,48 @@ use Rattle.margin.proofs.MarginLaws.{shareLess, fifth, base-amr, lta-is
 pub within-is : {m : ℕ} {x y : ℤ} → x ≡ y → Within m y → Within m x
 within-is e h = rw e h
 
-pub within-add : {m n : ℕ} {x y : ℤ} → Within m x → Within n y → Within (m + n) (x +ℤ y)
-within-add {x} {y} h k = rw (diff x, diff y) (simp diffs (omega zarith))
-
 pub within-sub : {m n : ℕ} {x y : ℤ} → Within m x → Within n y → Within (m + n) (x -ℤ y)
 within-sub {x} {y} h k = rw (diff x, diff y) (simp diffs (omega zarith))
-
-pub within-sum : {m : ℕ} (k : ℕ) (f : ℕ → ℤ) → ((i : ℕ) → i < k → Within m (f i)) → Within (k * m) (sumℤ k f)
-unfolding sumℤ
-within-sum {m} zero f h = within-pos (omega arith)
-within-sum {m} (suc k) f h = within-le (within-add (within-sum k f (λ i l. h i (omega arith))) (h k (le-refl (suc k)))) (omega (arith, suc-mul k m))
 
 -- ---- kW in grains
 pub within-grains : {m : ℕ} {kw : ℤ} → Within m kw → Within (m * 100000) (grains kw)
 unfolding grains
 within-grains h = within-mul h (within-pos (le-refl 100000))
 
--- ---- F0core: up to any zone, and whole
+-- ---- a value less a flow of net positions, as F0core is: up to any zone, and whole
 abbrev pub products : (factors nets : List ℤ) → (z : ℕ) → ℤ
 products factors nets z = atℤ factors z *ℤ atℤ nets z
 
-pub f0core-upto : {m factor net : ℕ} {g : ℤ} → Within m g → (factors nets : List ℤ) → length nets ≤ length factors → AllWithin factor factors → AllWithin net nets
+pub flow-upto : {m factor net : ℕ} {g : ℤ} → Within m g → (factors nets : List ℤ) → length nets ≤ length factors → AllWithin factor factors → AllWithin net nets
     → (k : ℕ) → k ≤ length nets → Within (m + k * (factor * net)) (g -ℤ sumℤ k (products factors nets))
-f0core-upto h factors nets long f n k few =
+flow-upto h factors nets long f n k few =
     within-sub h (within-sum k (products factors nets) (λ z l. within-mul (f .at z (omega arith)) (n .at z (omega arith))))
+
+pub within-flow : {m factor net : ℕ} {g : ℤ} → Within m g → (factors nets : List ℤ) → length nets ≤ length factors → AllWithin factor factors → AllWithin net nets
+    → (zones : ℕ) → length nets ≤ zones → Within (m + zones * (factor * net)) (g -ℤ flowOf factors nets)
+within-flow {factor} {net} h factors nets long f n zones few =
+    within-le (flow-upto h factors nets long f n (length nets) (le-refl (length nets))) (omega (arith, mul-le-mul few (le-refl (factor * net))))
 
 pub within-f0core : {flow factor net : ℕ} (row : Row) → Within flow (row .fref) → (factors nets : List ℤ) → length nets ≤ length factors → AllWithin factor factors → AllWithin net nets
     → (zones : ℕ) → length nets ≤ zones → Within (flow * 100000 + zones * (factor * net)) (f0coreOf row factors nets)
 unfolding f0coreOf
-within-f0core {flow} {factor} {net} row h factors nets long f n zones few =
-    within-le (f0core-upto (within-grains h) factors nets long f n (length nets) (le-refl (length nets))) (omega (arith, mul-le-mul few (le-refl (factor * net))))
+within-f0core row h factors nets long f n zones few = within-flow (within-grains h) factors nets long f n zones few
 
--- the sum over zones, zone by zone; g is Fref in grains
+-- .. zone by zone, from the value g on
 module _ (g : ℤ) (factors nets : List ℤ) where
-  pub f0core-none : g ≡ g -ℤ sumℤ 0 (products factors nets)
+  pub flow-none : g ≡ g -ℤ sumℤ 0 (products factors nets)
   unfolding sumℤ
-  f0core-none = sym (+ℤ-idr g)
+  flow-none = sym (+ℤ-idr g)
 
   less-more : (x p : ℤ) → g -ℤ x -ℤ p ≡ g -ℤ (x +ℤ p)
   less-more x p = rw (diff g, diff x, diff p) (simp diffs (omega zarith))
 
-  pub f0core-more : {f0core : ℤ} (z : ℕ) → f0core ≡ g -ℤ sumℤ z (products factors nets) → f0core -ℤ products factors nets z ≡ g -ℤ sumℤ (z + 1) (products factors nets)
+  pub flow-more : {left : ℤ} (z : ℕ) → left ≡ g -ℤ sumℤ z (products factors nets) → left -ℤ products factors nets z ≡ g -ℤ sumℤ (z + 1) (products factors nets)
   unfolding sumℤ
-  f0core-more z e = rw (add-one z) (ap (λ (x : ℤ). x -ℤ products factors nets z) e ∙ less-more (sumℤ z (products factors nets)) (products factors nets z))
+  flow-more z e = rw (add-one z) (ap (λ (x : ℤ). x -ℤ products factors nets z) e ∙ less-more (sumℤ z (products factors nets)) (products factors nets z))
 
-pub f0core-all : (row : Row) (factors nets : List ℤ) {g : ℤ} (z : ℕ) → g ≡ grains (row .fref) → z ≡ length nets → g -ℤ sumℤ z (products factors nets) ≡ f0coreOf row factors nets
-unfolding f0coreOf
-f0core-all row factors nets z e l = ap₂ (λ (g : ℤ) (k : ℕ). g -ℤ sumℤ k (products factors nets)) e l
+pub flow-all : (g : ℤ) (factors nets : List ℤ) (z : ℕ) → z ≡ length nets → g -ℤ sumℤ z (products factors nets) ≡ g -ℤ flowOf factors nets
+flow-all g factors nets z l = ap (λ (k : ℕ). g -ℤ sumℤ k (products factors nets)) l
 
 -- ---- R x Fmax / 10000, and Fmax / 5
 module _ {fmax flow share va : ℕ} {row : Row} (within : RowWithin fmax flow share va row) where

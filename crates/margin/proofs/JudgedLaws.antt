@@ -16,7 +16,7 @@ use Rattle.kinds.specs.declared.Border.{Border}
 use Rattle.kinds.specs.declared.Row.{Row}
 use Rattle.kinds.specs.Limits.{bordersMost}
 use Rattle.kinds.specs.Ranges.{atℤ, hubsOf, borderFits, borderOf, rowFits, rowOf}
-use Rattle.kinds.proofs.KindLaws.{header-in, zone-in, HubsIn, none, both, border-in, row-in, share-in, factor-in}
+use Rattle.kinds.proofs.KindLaws.{header-in, allocated-most, zone-in, HubsIn, none, both, border-in, row-in, share-in, factor-in}
 use Rattle.table.specs.Table.{Table, stretch}
 use Rattle.table.specs.Good.{Good}
 use Rattle.table.proofs.GoodLaws as good
@@ -112,4 +112,11 @@ module _ {t : Table} (good : Good t) where
       }
 
   pub good-nets : NetsBound (t .header .zones) (t .nets)
-  good-nets = record { long = good .exact .nets-long; each = record { at = λ z l. zone-in _ (good .nets-fit z (omega (arith, good .exact .nets-long))) } }
+  good-nets = record { few = omega (arith, good .exact .nets-long); each = record { at = λ z l. zone-in _ (good .nets-fit z (omega (arith, good .exact .nets-long))) } }
+
+  pub good-allocated : NetsBound (t .header .zones) (t .allocated)
+  good-allocated =
+      record {
+        few = omega (arith, good .exact .allocated-long, allocated-most (t .header));
+        each = record { at = λ z l. zone-in _ (good .allocated-fit z (omega (arith, good .exact .allocated-long))) };
+      }

@@ -1,25 +1,25 @@
--- 01, "Margin of a row": each value named in the list stays under 2^48 in magnitude, for every judged table (`specs/Small.antt`). No contract cites this file.
+-- 01, "Margin of a row": each value named in the list stays under 2^48 in magnitude, for every judged table, and RAM less a flow under 2^49 (`specs/Small.antt`). No contract cites this file.
 -- The bounds are laws with the limits as variables (`BoundLaws.antt`); here stand 01's limits.
 use Prim.Native.Nat.{ℕ, _+_, _*_, _≤_, _<_}
 use native.Mathlib.Omega.{arith}
-use lib.IntN.{ℤ, pos}
+use lib.IntN.{ℤ, pos, _-ℤ_}
 use lib.ListN.{length, getD}
 use lib.Signed.{_≤ℤ_}
 use mathlib.Core.List.{[]}
 use mathlib.Core.Path.{_≡_, refl, sym, subst}
-use mathlib.Core.Bool.{true}
+use mathlib.Core.Bool.{Bool, true, false, cond}
 use Rattle.numbers.specs.Ints.{Within}
-use Rattle.numbers.proofs.IntLaws.{Between, diffs, zarith}
+use Rattle.numbers.proofs.IntLaws.{Between, diffs, zarith, within-le}
 use Rattle.kinds.specs.Limits.{zonesMost, shareMost}
-use Rattle.kinds.specs.Ranges.{borderFits, defaultOf}
+use Rattle.kinds.specs.Ranges.{isIntraday, borderFits, defaultOf}
 use Rattle.kinds.proofs.KindLaws.{row-in, default-in}
 use Rattle.table.specs.Table.{Table, rowAt, borderAt, factorsAt}
 use Rattle.table.specs.Good.{Good}
-use Rattle.margin.specs.Margin.{pOf, sAt, ramAt, marginOf}
-use Rattle.margin.specs.Bounds.{RowBound, BordersBound, pMost, f0coreMost, sMost, ramMost}
+use Rattle.margin.specs.Margin.{flowOf, pOf, sAt, ramAt, marginOf}
+use Rattle.margin.specs.Bounds.{RowBound, BordersBound, pMost, f0coreMost, sMost, ramMost, startMost}
 use Rattle.margin.specs.Small.{f0coreAt, NamedSmall}
-use Rattle.margin.proofs.BoundLaws.{within-f0core, within-fuaf, within-base, within-amr, p-most, lta-margin-most, within-ram, within-start}
-use Rattle.margin.proofs.JudgedLaws.{border-bound, row-bound, stretch-long, stretch-bound, s-bound, good-factors, good-borders, good-nets}
+use Rattle.margin.proofs.BoundLaws.{within-flow, within-f0core, within-fuaf, within-base, within-amr, p-most, lta-margin-most, within-ram, within-start}
+use Rattle.margin.proofs.JudgedLaws.{border-bound, row-bound, stretch-long, stretch-bound, s-bound, good-factors, good-borders, good-nets, good-allocated}
 
 between-low : {m n : ℕ} {z : ℤ} → Between m n z → pos 0 ≤ℤ z
 between-low {z} h = rw (h .is) (simp diffs (omega zarith))
@@ -40,8 +40,8 @@ module _ {t : Table} (good : Good t) (i : ℕ) (below : i < t .header .rows) whe
       let f = good-factors good in
       let n = good-nets good in
       let long = stretch-long f i below in
-      within-f0core (rowAt t i) (row-in-range .fref-in) (factorsAt t i) (t .nets) (omega (arith, long, n .long)) (stretch-bound f i below .each) (n .each) zonesMost
-      (omega (arith, n .long, f .few))
+      within-f0core (rowAt t i) (row-in-range .fref-in) (factorsAt t i) (t .nets) (omega (arith, long, n .few)) (stretch-bound f i below .each) (n .each) zonesMost
+      (omega (arith, n .few, f .few))
 
   abbrev s : ℕ
   s = sAt (t .header) (t .borders) (t .factors) i
@@ -66,9 +66,23 @@ module _ {t : Table} (good : Good t) (i : ℕ) (below : i < t .header .rows) whe
   unfolding ramAt
   ram-in = within-ram default-in-range row-in-range f0core-in top s (omega (arith, s-in)) (omega arith) (omega arith) (omega arith)
 
-  pub start-in : Within ramMost (marginOf t i)
+  pub less-s-in : Within ramMost (ramAt t i -ℤ pos s)
   unfolding ramAt
-  start-in = within-start default-in-range row-in-range f0core-in top s (omega (arith, s-in)) (omega arith) (omega arith) (omega arith)
+  less-s-in = within-start default-in-range row-in-range f0core-in top s (omega (arith, s-in)) (omega arith) (omega arith) (omega arith)
+
+  pub remainder-in : Within startMost (ramAt t i -ℤ flowOf (factorsAt t i) (t .allocated))
+  remainder-in =
+      let f = good-factors good in
+      let n = good-allocated good in
+      let long = stretch-long f i below in
+      within-flow ram-in (factorsAt t i) (t .allocated) (omega (arith, long, n .few)) (stretch-bound f i below .each) (n .each) zonesMost (omega (arith, n .few, f .few))
+
+  pub start-in : Within startMost (marginOf t i)
+  start-in = go (isIntraday (t .header))
+    where
+      go : (intraday : Bool) → Within startMost (cond intraday (ramAt t i -ℤ flowOf (factorsAt t i) (t .allocated)) (ramAt t i -ℤ pos s))
+      go true = remainder-in
+      go false = within-le less-s-in (omega arith)
 
   pub named-values-small : NamedSmall t i
   named-values-small =
@@ -81,5 +95,7 @@ module _ {t : Table} (good : Good t) (i : ℕ) (below : i < t .header .rows) whe
         s = omega (arith, s-in);
         lta-margin = omega (arith, lta-margin-most default-in-range row-in-range f0core-in fmax-low s .abs, s-in);
         ram = omega (arith, ram-in .abs);
+        less-s = omega (arith, less-s-in .abs);
+        remainder = omega (arith, remainder-in .abs);
         start = omega (arith, start-in .abs);
       }

@@ -41,9 +41,9 @@ pub record TableFactorsBound (h : Header) (factors : List ℤ) : Type 0 where
   pub long : length factors ≡ h .rows * h .zones
   pub each : AllWithin factorMost factors
 
--- net positions, as many as there are zones
+-- net positions, reference or allocated: at most one for each zone
 pub record NetsBound (zones : ℕ) (nets : List ℤ) : Type 0 where
-  pub long : length nets ≡ zones
+  pub few : length nets ≤ zones
   pub each : AllWithin netMost nets
 
 -- hubs that are zones
@@ -74,9 +74,12 @@ namedBits = 48
 abbrev pub pMost : ℕ
 pMost = 4 * factorMost
 
--- the most that F0core, AMR, S and RAM can be, in magnitude
+-- the most that a flow of net positions, F0core, AMR, S and RAM can be, in magnitude
+abbrev pub netFlowMost : ℕ
+netFlowMost = zonesMost * (factorMost * netMost)
+
 abbrev pub f0coreMost : ℕ
-f0coreMost = flowMost * 100000 + zonesMost * (factorMost * netMost)
+f0coreMost = flowMost * 100000 + netFlowMost
 
 abbrev pub amrMost : ℕ
 amrMost = shareMost * fmaxMost * 10 + flowMost * 100000 + fmaxMost * 420000 + f0coreMost
@@ -87,3 +90,10 @@ sMost = bordersMost * (pMost * (ltaMost * 1000))
 -- .. RAM without CVA and IVA is the largest of S, R x Fmax / 10000 - Fuaf, Fmax / 5 and Base, and of these S can be largest
 abbrev pub ramMost : ℕ
 ramMost = sMost + vaMost * 100000 + vaMost * 100000
+
+-- where a row's margin starts: RAM - S stays within RAM's bound, and RAM less a flow may pass it. Under 2^49 (02, E12)
+abbrev pub startMost : ℕ
+startMost = ramMost + netFlowMost
+
+abbrev pub startBits : ℕ
+startBits = 49

@@ -1,11 +1,11 @@
--- 01, "Margin of a row": each value named in the list stays under 2^48 in magnitude (p is a factor, the others are grains).
+-- 01, "Margin of a row": each value named in the list stays under 2^48 in magnitude (p is a factor, the others are grains). RAM less a flow stays under 2^49 (02, E12).
 -- That it does, of every judged table, is `named-values-small` of `proofs/Small.antt`.
 use Prim.Native.Nat.{ℕ, _^_, _<_}
-use lib.IntN.{ℤ, natAbs}
+use lib.IntN.{ℤ, pos, natAbs, _-ℤ_}
 use Rattle.kinds.specs.Ranges.{defaultOf}
 use Rattle.table.specs.Table.{Table, rowAt, borderAt, factorsAt}
-use Rattle.margin.specs.Margin.{f0coreOf, fuafOf, baseOf, amrOf, pOf, ltaMarginOf, sAt, ramAt, marginOf}
-use Rattle.margin.specs.Bounds.{namedBits}
+use Rattle.margin.specs.Margin.{flowOf, f0coreOf, fuafOf, baseOf, amrOf, pOf, ltaMarginOf, sAt, ramAt, marginOf}
+use Rattle.margin.specs.Bounds.{namedBits, startBits}
 
 -- F0core of row i of a table
 abbrev pub f0coreAt : Table → (i : ℕ) → ℤ
@@ -20,4 +20,7 @@ pub record NamedSmall (t : Table) (i : ℕ) : Type 0 where
   pub s : sAt (t .header) (t .borders) (t .factors) i < 2 ^ namedBits
   pub lta-margin : natAbs (ltaMarginOf (rowAt t i) (f0coreAt t i) (amrOf (defaultOf (t .header)) (rowAt t i) (f0coreAt t i)) (sAt (t .header) (t .borders) (t .factors) i)) < 2 ^ namedBits
   pub ram : natAbs (ramAt t i) < 2 ^ namedBits
-  pub start : natAbs (marginOf t i) < 2 ^ namedBits
+  pub less-s : natAbs (ramAt t i -ℤ pos (sAt (t .header) (t .borders) (t .factors) i)) < 2 ^ namedBits
+  pub remainder : natAbs (ramAt t i -ℤ flowOf (factorsAt t i) (t .allocated)) < 2 ^ startBits
+  -- whichever of the two the profile takes
+  pub start : natAbs (marginOf t i) < 2 ^ startBits

@@ -56,23 +56,23 @@ text-printed text out out′ r n e said few = ⊎-elim whole (λ short. absurd (
         let asks : r ≡ written.Refused (tooShort (length text)) = saidWritten-injective r (written.Refused (tooShort (length text))) (ap (λ (x : TextLeft). x .answer) l) in
         omega (arith, few, ap (λ (x : Written). bytesAsked x) asks)
 
-module _ (text : List ℕ) (z : List ℤ) (b c : List (List ℤ)) (f : List ℤ)
-    (r : Read) {z′ : List ℤ} {b′ c′ : List (List ℤ)} {f′ : List ℤ} (said : readSaid r z′ b′ c′ f′ ≡ readLeft text z b c f) where
+module _ (text : List ℕ) (z a : List ℤ) (b c : List (List ℤ)) (f : List ℤ)
+    (r : Read) {z′ a′ : List ℤ} {b′ c′ : List (List ℤ)} {f′ : List ℤ} (said : readSaid r z′ a′ b′ c′ f′ ≡ readLeft text z a b c f) where
   -- ---- a table that was read
   module _ (h : Header) (is : r ≡ read.Table h) (w : Written) (out out′ : List ℕ) (room : bytesMost ≤ length out) where
-    pub table-printed : (n : ℕ) → n ≡ bytesOf w → textSaid w out′ ≡ writeLeft (lent h z′ b′ c′ f′) out → Printed n (rewritten text) out′
+    pub table-printed : (n : ℕ) → n ≡ bytesOf w → textSaid w out′ ≡ writeLeft (lent h z′ a′ b′ c′ f′) out → Printed n (rewritten text) out′
     unfolding rewritten
     table-printed n k wrote =
-        let t = taken text z b c f r said h is in
+        let t = taken text z a b c f r said h is in
         let enough : length text ≤ length out = omega (arith, reading text (t .it) (t .read) .short) in
-        let l = wrote ∙ ap (λ (l : ReadLeft). writeLeft (lent h (l .z) (l .b) (l .c) (l .f)) out) said ∙ read-then-write text z b c f h out (answered text z b c f r said h is) enough in
+        let l = wrote ∙ ap (λ (l : ReadLeft). writeLeft (lent h (l .z) (l .t) (l .b) (l .c) (l .f)) out) said ∙ read-then-write text z a b c f h out (answered text z a b c f r said h is) enough in
         let bytes : w ≡ written.Bytes (length text) = saidWritten-injective w (written.Bytes (length text)) (ap (λ (x : TextLeft). x .answer) l) in
         let same : rewritten text ≡ text = either-passed _ _ (t .read) ∙ read-write text (t .it) (t .read) in
         subst (λ (s : List ℕ). Printed n s out′) (sym same) (over-printed text out out′ n (k ∙ ap (λ (x : Written). bytesOf x) bytes) (ap (λ (x : TextLeft). x .out) l))
 
   -- ---- a refusal: with room for the largest table it is the text's own
-  module _ (hz : zonesMost ≤ length z) (hb : bordersMost ≤ length b) (hc : rowsMost ≤ length c) (hf : rowsMost * zonesMost ≤ length f)
+  module _ (hz : zonesMost ≤ length z) (ha : zonesMost ≤ length a) (hb : bordersMost ≤ length b) (hc : rowsMost ≤ length c) (hf : rowsMost * zonesMost ≤ length f)
       (w : Refusal) (is : r ≡ read.Refused w) where
     pub refusal-printed : {n : ℕ} {out : List ℕ} → Printed n (refusalText w) out → Printed n (rewritten text) out
     unfolding rewritten
-    refusal-printed p = rw (either-refused tableText refusalText (refused-text text z b c f r said hz hb hc hf w is)) p
+    refusal-printed p = rw (either-refused tableText refusalText (refused-text text z a b c f r said hz ha hb hc hf w is)) p

@@ -150,24 +150,24 @@ module _ (given t : Table) (judged : judgeLent given ≡ passed t) where
       (le-or-lt (t .header .borders) sheetBordersMost)
 
 -- ---- a text
-module _ (text : List ℕ) (z : List ℤ) (b c : List (List ℤ)) (f : List ℤ) where
-  module _ (r : Read) {z′ : List ℤ} {b′ c′ : List (List ℤ)} {f′ : List ℤ} (said : readSaid r z′ b′ c′ f′ ≡ readLeft text z b c f) where
+module _ (text : List ℕ) (z a : List ℤ) (b c : List (List ℤ)) (f : List ℤ) where
+  module _ (r : Read) {z′ a′ : List ℤ} {b′ c′ : List (List ℤ)} {f′ : List ℤ} (said : readSaid r z′ a′ b′ c′ f′ ≡ readLeft text z a b c f) where
     -- its table was read
     module _ (h : Header) (is : r ≡ read.Table h) where
       abbrev given : Table
-      given = lent h z′ b′ c′ f′
+      given = lent h z′ a′ b′ c′ f′
 
       abbrev t : Table
-      t = taken text z b c f r said h is .it
+      t = taken text z a b c f r said h is .it
 
       is-read : readText text ≡ passed t
-      is-read = taken text z b c f r said h is .read
+      is-read = taken text z a b c f r said h is .read
 
       good : Good t
       good = read-good text t is-read
 
       judged : judgeLent given ≡ passed t
-      judged = as-read text z b c f r said h is
+      judged = as-read text z a b c f r said h is
 
       corners-read : (row : ℕ) → judgeCorners given row ≡ then (readText text) (λ t. judgeCorners t row)
       unfolding judgeCorners
@@ -180,15 +180,15 @@ module _ (text : List ℕ) (z : List ℤ) (b c : List (List ℤ)) (f : List ℤ)
       pub every-sheet : linesText (sheetRows h) 0 (sheetAt given) ≡ everySheet text
       unfolding everySheet
       every-sheet =
-          ap (λ (g : Header). linesText (sheetRows g) 0 (sheetAt given)) (sym (taken text z b c f r said h is .header))
+          ap (λ (g : Header). linesText (sheetRows g) 0 (sheetAt given)) (sym (taken text z a b c f r said h is .header))
           ∙ rows-printed given t judged (omega (arith, header-in (t .header) (good .exact .header) .rows-least))
           ∙ ap (λ (j : Judged Table). either j (λ t. linesText (t .header .rows) 0 (sheetText t)) refusalText) (corners-read 0)
 
     -- it was refused, with room for the largest table
-    module _ (hz : zonesMost ≤ length z) (hb : bordersMost ≤ length b) (hc : rowsMost ≤ length c) (hf : rowsMost * zonesMost ≤ length f)
+    module _ (hz : zonesMost ≤ length z) (ha : zonesMost ≤ length a) (hb : bordersMost ≤ length b) (hc : rowsMost ≤ length c) (hf : rowsMost * zonesMost ≤ length f)
         (w : Refusal) (is : r ≡ read.Refused w) where
       none-read : (next : Table → Judged Table) → then (readText text) next ≡ refused w
-      none-read next = then-refused next (refused-text text z b c f r said hz hb hc hf w is)
+      none-read next = then-refused next (refused-text text z a b c f r said hz ha hb hc hf w is)
 
       pub one-refused : (row : ℕ) → refusalText w ≡ oneSheet text row
       unfolding oneSheet

@@ -53,6 +53,7 @@ pub fn sheet_rows(h: Header) -> usize
 pub fn sheet_row(
     h: Header,
     z: &[i64],
+    t: &[i64],
     b: &[BorderRecord],
     c: &[RowRecord],
     f: &[i64],
@@ -60,9 +61,9 @@ pub fn sheet_row(
     out: &mut [u8],
 ) -> usize
     requires { ⌜ sheetRoom ≤ length (now out) ⌝ }
-    ensures { λ r. ⌜ Printed r (sheetAt (lent h (now (z .entry)) (now (b .entry)) (now (c .entry)) (now (f .entry))) row) (now (out .exit)) ⌝ }
+    ensures { λ r. ⌜ Printed r (sheetAt (lent h (now (z .entry)) (now (t .entry)) (now (b .entry)) (now (c .entry)) (now (f .entry))) row) (now (out .exit)) ⌝ }
 {
-    match cornertext::corner_text(h, z, b, c, f, row, out) {
+    match cornertext::corner_text(h, z, t, b, c, f, row, out) {
         Written::Bytes(n) => n,
         Written::Refused(w) => refusal_line(w, out),
     }
@@ -73,11 +74,12 @@ pub fn print(text: &[u8], rows: Rows, out: &mut [u8]) -> Ended
     requires { ⌜ sheetRoom ≤ length (now out) ⌝ }
 {
     let mut z: [i64; Header::ZONES_MOST] = [0; Header::ZONES_MOST];
+    let mut t: [i64; Header::ZONES_MOST] = [0; Header::ZONES_MOST];
     let mut b: [BorderRecord; Header::BORDERS_MOST] = [[0; Border::ITEMS]; Header::BORDERS_MOST];
     let mut c: [RowRecord; Header::ROWS_MOST] = [[0; Row::ITEMS]; Header::ROWS_MOST];
     let mut f: [i64; Header::ROWS_MOST * Header::ZONES_MOST] = [0; Header::ROWS_MOST
         * Header::ZONES_MOST];
-    print_in(text, rows, &mut z, &mut b, &mut c, &mut f, out)
+    print_in(text, rows, &mut z, &mut t, &mut b, &mut c, &mut f, out)
 }
 
 // The tables are made in `print`, and not here, where goals would spell them out.
@@ -85,6 +87,7 @@ fn print_in(
     text: &[u8],
     rows: Rows,
     z: &mut [i64],
+    t: &mut [i64],
     b: &mut [BorderRecord],
     c: &mut [RowRecord],
     f: &mut [i64],
@@ -92,8 +95,8 @@ fn print_in(
 ) -> Ended
     requires { ⌜ sheetRoom ≤ length (now out) ⌝ }
 {
-    match reading::read(text, z, b, c, f) {
-        Read::Table(h) => print_rows(h, z, b, c, f, rows, out),
+    match reading::read(text, z, t, b, c, f) {
+        Read::Table(h) => print_rows(h, z, t, b, c, f, rows, out),
         Read::Refused(w) => {
             let n = refusal_line(w, out);
             put(&out[..n])
@@ -104,6 +107,7 @@ fn print_in(
 fn print_rows(
     h: Header,
     z: &[i64],
+    t: &[i64],
     b: &[BorderRecord],
     c: &[RowRecord],
     f: &[i64],
@@ -113,14 +117,15 @@ fn print_rows(
     requires { ⌜ sheetRoom ≤ length (now out) ⌝ }
 {
     match rows {
-        Rows::One(row) => print_row(h, z, b, c, f, row, out),
-        Rows::Every => print_every(h, z, b, c, f, out),
+        Rows::One(row) => print_row(h, z, t, b, c, f, row, out),
+        Rows::Every => print_every(h, z, t, b, c, f, out),
     }
 }
 
 fn print_every(
     h: Header,
     z: &[i64],
+    t: &[i64],
     b: &[BorderRecord],
     c: &[RowRecord],
     f: &[i64],
@@ -129,7 +134,7 @@ fn print_every(
     requires { ⌜ sheetRoom ≤ length (now out) ⌝ }
 {
     for row in 0..sheet_rows(h) {
-        let ended = print_row(h, z, b, c, f, row, out);
+        let ended = print_row(h, z, t, b, c, f, row, out);
         let Ended::Answered = ended else {
             return ended;
         };
@@ -140,6 +145,7 @@ fn print_every(
 fn print_row(
     h: Header,
     z: &[i64],
+    t: &[i64],
     b: &[BorderRecord],
     c: &[RowRecord],
     f: &[i64],
@@ -148,6 +154,6 @@ fn print_row(
 ) -> Ended
     requires { ⌜ sheetRoom ≤ length (now out) ⌝ }
 {
-    let n = sheet_row(h, z, b, c, f, row, out);
+    let n = sheet_row(h, z, t, b, c, f, row, out);
     put(&out[..n])
 }

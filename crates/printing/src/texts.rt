@@ -40,27 +40,29 @@ pub fn rewrite(text: &[u8], out: &mut [u8]) -> usize
     ensures { λ r. ⌜ Printed r (rewritten (now (text .entry))) (now (out .exit)) ⌝ }
 {
     let mut z: [i64; Header::ZONES_MOST] = [0; Header::ZONES_MOST];
+    let mut t: [i64; Header::ZONES_MOST] = [0; Header::ZONES_MOST];
     let mut b: [BorderRecord; Header::BORDERS_MOST] = [[0; Border::ITEMS]; Header::BORDERS_MOST];
     let mut c: [RowRecord; Header::ROWS_MOST] = [[0; Row::ITEMS]; Header::ROWS_MOST];
     let mut f: [i64; Header::ROWS_MOST * Header::ZONES_MOST] = [0; Header::ROWS_MOST
         * Header::ZONES_MOST];
-    rewrite_in(text, &mut z, &mut b, &mut c, &mut f, out)
+    rewrite_in(text, &mut z, &mut t, &mut b, &mut c, &mut f, out)
 }
 
 // The tables are made in `rewrite`, and not here, where goals would spell them out.
 fn rewrite_in(
     text: &[u8],
     z: &mut [i64],
+    t: &mut [i64],
     b: &mut [BorderRecord],
     c: &mut [RowRecord],
     f: &mut [i64],
     out: &mut [u8],
 ) -> usize
-    requires { ⌜ (zonesMost ≤ length (now z)) × (bordersMost ≤ length (now b)) × (rowsMost ≤ length (now c)) × (rowsMost * zonesMost ≤ length (now f)) × (bytesMost ≤ length (now out)) ⌝ }
+    requires { ⌜ (zonesMost ≤ length (now z)) × (zonesMost ≤ length (now t)) × (bordersMost ≤ length (now b)) × (rowsMost ≤ length (now c)) × (rowsMost * zonesMost ≤ length (now f)) × (bytesMost ≤ length (now out)) ⌝ }
     ensures { λ r. ⌜ Printed r (rewritten (now (text .entry))) (now (out .exit)) ⌝ }
 {
-    match reading::read(text, z, b, c, f) {
-        Read::Table(h) => bytes_of(writing::write(h, z, b, c, f, out)),
+    match reading::read(text, z, t, b, c, f) {
+        Read::Table(h) => bytes_of(writing::write(h, z, t, b, c, f, out)),
         Read::Refused(w) => refusal_line(w, out),
     }
 }

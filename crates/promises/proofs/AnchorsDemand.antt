@@ -24,8 +24,9 @@ use Rattle.promises.specs.Demand.{loadOf, Demand3}
 abbrev small : Table
 small =
     record {
-      header = record { zones = 3; borders = 2; rows = 2; share = minus 1 };
+      header = record { zones = 3; borders = 2; rows = 2; share = minus 1; intraday = 0 };
       nets = pos 0 ∷ pos 0 ∷ pos 0 ∷ [];
+      allocated = [];
       borders = (pos 0 ∷ pos 1 ∷ pos 2 ∷ minus 1 ∷ minus 1 ∷ []) ∷ (pos 0 ∷ pos 2 ∷ pos 0 ∷ minus 1 ∷ minus 1 ∷ []) ∷ [];
       rows =
           (pos 240 ∷ pos 0 ∷ pos 0 ∷ pos 0 ∷ pos 0 ∷ pos 0 ∷ pos 0 ∷ [])

@@ -10,7 +10,7 @@ use lib.Seq.{getD-take}
 use Rattle.numbers.specs.Ints.{minus, positivePart}
 use Rattle.numbers.specs.Below.{at, sum, table, over}
 use Rattle.numbers.proofs.BelowLaws.{table-long, table-get}
-use Rattle.kinds.specs.Ranges.{atℤ, rowOf}
+use Rattle.kinds.specs.Ranges.{isIntraday, atℤ, rowOf}
 use Rattle.kinds.specs.Refusals.{Judged, passed, refused, then, either}
 use Rattle.table.specs.Table.{Table, borderAt, rowAt, factorsAt, front, roomFor, inRange, notTwice, judgeShape}
 use Rattle.table.proofs.GoodLaws.{judged-front, judged-good}
@@ -90,12 +90,12 @@ module _ (t : Table) (atcs lefts : List (List ℤ)) where
       }
 
 -- ---- of the call
-pub extract-demand-3 : (given : Table) (ps : List ℕ) (atcs lefts : List (List ℤ)) (k : ℕ) → let e = extractLeft given ps atcs lefts in e .answer ≡ passed k → LeftDemand3 (front given) k (e .atcs) (e .lefts)
+pub extract-demand-3 : (given : Table) (ps : List ℕ) (atcs lefts : List (List ℤ)) (k : ℕ) → isIntraday (given .header) ≡ false → let e = extractLeft given ps atcs lefts in e .answer ≡ passed k → LeftDemand3 (front given) k (e .atcs) (e .lefts)
 unfolding resultOf
-extract-demand-3 given ps atcs lefts k e =
+extract-demand-3 given ps atcs lefts k day e =
     let a = accepted-left given ps atcs lefts k e in
     let t = front given in
-    let d : Demand3 t (resultOf t) = accepted-demand-3 t _ (judged-good given t (a .judged)) (a .outcome) in
+    let d : Demand3 t (resultOf t) = accepted-demand-3 t _ (judged-good given t (a .judged)) day (a .outcome) in
     subst (λ (n : ℕ). LeftDemand3 t n (extractLeft given ps atcs lefts .atcs) (extractLeft given ps atcs lefts .lefts)) (a .rounds)
     (subst (λ (l : ExtractLeft). LeftDemand3 t (resultOf t .outcome .rounds) (l .atcs) (l .lefts)) (sym (a .left)) (left-demand-3 t atcs lefts d))
 
@@ -113,11 +113,11 @@ unfolding judgeExtract judgeShape roomFor
 judged-not-7 given n =
     told-then (judgeShape given) _
     (told-unless _ _ _ (λ e. omega arith)
-    (told-need _ _ _ (λ e. omega arith) (told-need _ _ _ (λ e. omega arith) (told-need _ _ _ (λ e. omega arith) (told-need _ _ _ (λ e. omega arith) (told-passed _))))))
+    (told-need _ _ _ (λ e. omega arith) (told-need _ _ _ (λ e. omega arith) (told-need _ _ _ (λ e. omega arith) (told-need _ _ _ (λ e. omega arith) (told-need _ _ _ (λ e. omega arith) (told-passed _)))))))
     (λ t q.
     told-need _ _ _ (λ e. omega arith)
     (told-then (inRange t) notTwice
-    (told-first _ _ _ _ (λ i e. omega arith) (told-first _ _ _ _ (λ i e. omega arith) (told-first _ _ _ _ (λ i e. omega arith) (told-passed _))))
+    (told-first _ _ _ _ (λ i e. omega arith) (told-first _ _ _ _ (λ i e. omega arith) (told-unless _ _ _ (λ e. omega arith) (told-first _ _ _ _ (λ i e. omega arith) (told-first _ _ _ _ (λ i e. omega arith) (told-passed _))))))
     (λ u v. told-first _ _ _ _ (λ i e. omega arith) (told-passed _))))
 
 pub extract-not-7 : (given : Table) (ps : List ℕ) (atcs lefts : List (List ℤ)) → ((i : ℕ) → i < given .header .rows → rowAt given i .cva ≡ pos 0) → ((i : ℕ) → i < given .header .rows → rowAt given i .iva ≡ pos 0)

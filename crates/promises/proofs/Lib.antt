@@ -1,8 +1,13 @@
 pub mod AnchorsDemand
-pub mod DemandLaws
+pub mod SetupLaws
+pub mod LoadLaws
+pub mod DemandBy
+pub mod DemandIn
+pub mod OrdinaryLaws
 pub mod Demand3
+pub mod DemandLeft
+pub mod Intraday
 pub mod Seven
 pub mod ToldLaws
-pub mod DemandLeft
 pub mod ByBorder
 pub mod ReplacedSame

@@ -12,13 +12,13 @@ use Rattle.numbers.specs.Ints.{minus, inside}
 use Rattle.numbers.proofs.BelowLaws.{table-cong}
 use Rattle.kinds.specs.declared.Share.the-variants.{Standard, Written}
 use Rattle.kinds.specs.Limits.{shareMost}
-use Rattle.kinds.specs.Ranges.{atℤ, shareOf, rowOf, rowFits, worth, defaultOf}
+use Rattle.kinds.specs.Ranges.{isIntraday, atℤ, shareOf, rowOf, rowFits, worth, defaultOf}
 use Rattle.kinds.specs.Refusals.{passed, then}
 use Rattle.kinds.proofs.KindLaws.{row-in, default-low, default-fits}
 use Rattle.table.specs.Table.{Table, factorsAt}
 use Rattle.table.specs.Good.{Good}
 use Rattle.rounds.specs.Rounds.{extract}
-use Rattle.margin.specs.Margin.{f0coreOf, fuafOf, baseOf, amrOf, ltaMarginOf, ramOf, sAt, ramAt, marginOf, ramsOf, startsOf}
+use Rattle.margin.specs.Margin.{f0coreOf, fuafOf, baseOf, amrOf, ltaMarginOf, ramOf, sAt, ramAt, startBy, marginOf, ramsOf, startsOf}
 use Rattle.states.specs.States.{statesOf}
 use Rattle.start.specs.Setup.{gridBy, beginBy, judgeBy}
 use Rattle.start.specs.Start.{Rows, rowsOf, kept, every, setupWith}
@@ -92,7 +92,8 @@ module _ (t : Table) where
   same-rams = table-cong (t .header .rows) (ramAt (replaced t)) (ramAt t) (λ i h. same-ram i)
 
   same-starts : startsOf (replaced t) ≡ startsOf t
-  same-starts = table-cong (t .header .rows) (marginOf (replaced t)) (marginOf t) (λ i h. ap (λ (ram : ℤ). ram -ℤ pos (sAt (t .header) (t .borders) (t .factors) i)) (same-ram i))
+  same-starts = table-cong (t .header .rows) (marginOf (replaced t)) (marginOf t) (λ i h.
+      ap (λ (ram : ℤ). startBy (isIntraday (t .header)) ram (sAt (t .header) (t .borders) (t .factors) i) (factorsAt t i) (t .allocated)) (same-ram i))
 
   same-rows : rowsOf (replaced t) ≡ rowsOf t
   unfolding rowsOf
@@ -112,11 +113,14 @@ module _ (t : Table) where
         exact = record {
           header = g .exact .header;
           nets-long = g .exact .nets-long;
+          allocated-long = g .exact .allocated-long;
           borders-long = g .exact .borders-long;
           rows-long = rows-long (defaultOf (t .header)) low (t .rows) ∙ g .exact .rows-long;
           factors-long = g .exact .factors-long;
         };
         nets-fit = g .nets-fit;
+        allocated-fit = g .allocated-fit;
+        in-balance = g .in-balance;
         borders-fit = g .borders-fit;
         rows-fit = λ i h. rows-fit (defaultOf (t .header)) low (default-fits (t .header) (g .exact .header)) (t .rows) i (omega (arith, g .exact .rows-long)) (g .rows-fit i h);
         factors-fit = g .factors-fit;

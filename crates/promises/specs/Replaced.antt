@@ -34,6 +34,7 @@ replaced t =
     record {
       header = t .header;
       nets = t .nets;
+      allocated = t .allocated;
       borders = t .borders;
       rows = replacedRows (defaultOf (t .header)) (t .rows);
       factors = t .factors;

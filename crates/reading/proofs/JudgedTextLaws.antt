@@ -1,36 +1,40 @@
 -- The laws of `linesOf` and `readText` of `specs/Reading.antt`: which judgement decides, one law for each, and what is known where none does. No contract cites this file.
--- In order: a run of lines, opened; the H line; the Z, B and C lines, and the end; the length of the text, and borders given twice.
-use mathlib.Core.Path.{_≡_, sym, ap, _∙_}
-use mathlib.Core.Bool.{true, cond}
-use mathlib.Core.List.{List, _++_}
+-- In order: a run of lines, opened; the H line; the Z lines; the T lines, and their sum; the B and C lines, and the end; the length of the text, and borders given twice.
+use mathlib.Core.Path.{_≡_, refl, sym, ap, _∙_}
+use mathlib.Core.Bool.{true, false, cond, false≢true}
+use mathlib.Core.List.{List, [], _∷_, _++_}
+use Prim.Native.Char.{code}
 use mathlib.Core.Option.{none, some}
-use Prim.Native.Nat.{ℕ, _≤_, _<_}
+use Prim.Native.Nat.{ℕ, zero, suc, _≤_, _<_}
 use native.Mathlib.Omega.{arith}
-use lib.Dec.{ltb}
-use lib.IntN.{ℤ}
+use lib.Dec.{ltb, eqb}
+use lib.IntN.{ℤ, pos}
 use lib.ListN.{length, take}
 use lib.Seq.{length-take-le, take-at}
 use borrow.Author.Tests.{lt-ltb, le-ltb}
-use Rattle.numbers.specs.Below.{firstFrom}
+use Rattle.numbers.specs.Below.{at, firstFrom}
+use Rattle.numbers.specs.Ints.{AllWithin}
 use Rattle.kinds.specs.declared.Header.{Header}
-use Rattle.kinds.specs.Limits.{bordersMost, bytesMost}
-use Rattle.kinds.specs.Ranges.{headerFits}
+use Rattle.kinds.specs.Limits.{netMost, bordersMost, bytesMost}
+use Rattle.kinds.specs.Ranges.{headerFits, allocatedItems, profiled, zoneFits}
 use Rattle.kinds.specs.declared.Refusal.{Refusal}
-use Rattle.kinds.specs.Refusals.{Judged, passed, refused, then, tooLong, wrongFormAt, wrongForm, outOfRangeAt, givenTwice}
-use Rattle.kinds.proofs.KindLaws.{HeaderIn, header-in}
-use Rattle.kinds.proofs.RefusalLaws.{then-next, then-refused, first-found, first-none-next}
+use Rattle.kinds.specs.Refusals.{Judged, passed, refused, then, unless, tooLong, wrongFormAt, wrongForm, outOfRangeAt, givenTwice}
+use Rattle.kinds.proofs.KindLaws.{HeaderIn, header-in, profiled-fits, zone-in}
+use Rattle.kinds.proofs.RefusalLaws.{then-next, then-refused, unless-ok, unless-refused, first-found, first-none-next}
 use Rattle.text.specs.Line.{lineAt, form, range}
 use Rattle.block.specs.Block.{Block, read, fault, linesAt, withLines, endOf, heldBy}
-use Rattle.block.proofs.RunLaws.{run-fits}
-use Rattle.table.specs.Table.{Table, lent, twice, notTwice, headerLineNo, zoneLineNo, borderLineNo, rowLineNo, pastLineNo}
-use Rattle.lines.specs.Lines.{RowLine, headerLine, zoneLine, borderLine, rowLine}
+use Rattle.block.proofs.RunLaws.{run-fits, fits-at}
+use Rattle.table.specs.Table.{Table, lent, balanced, twice, notTwice, headerLineNo, zoneLineNo, allocatedLineNo, lastAllocatedLineNo, borderLineNo, rowLineNo, pastLineNo}
+use Rattle.lines.specs.Lines.{RowLine, headerLine, positionLine, zoneLine, allocatedLine, borderLine, rowLine}
 use Rattle.lines.proofs.HeaderTrip.{header-read}
+use Rattle.lines.proofs.ZoneTrip.{zone-read}
+use Rattle.runs.specs.Runs.{allGood, positionsIn}
 use Rattle.runs.specs.Rows.{valuesOf, factorsOf, rowsIn}
 use Rattle.runs.proofs.RowPasses.{Run, run-again}
-use Rattle.runs.proofs.StoredLaws.{after-within, run-passed, run-refused, run-good, run-within}
+use Rattle.runs.proofs.StoredLaws.{after-within, run-refused, run-within}
 use Rattle.reading.specs.declared.judged.Places.{Places}
-use Rattle.reading.specs.Reading.{linesOf, readText}
-use Rattle.reading.specs.Places.{Headed, tableAt, Placed}
+use Rattle.reading.specs.Reading.{intradayAt, balanceByte, bordersFrom, allocatedFrom, linesOf, readText}
+use Rattle.reading.specs.Places.{Headed, netsIn, allocatedIn, Netted, Allocated, tableAt, Placed}
 use Rattle.reading.proofs.ReadLaws.{opened, borders-held}
 
 -- ---- a run of lines, opened
@@ -51,10 +55,22 @@ module _ (text : List ℕ) where
   unfolding linesOf
   header-range byte e = rw e
 
--- ---- the Z, B and C lines, and the end
+-- ---- beyond the text no letter stands
+at-beyond : (text : List ℕ) (p : ℕ) → length text ≤ p → at text p ≡ 0
+at-beyond [] p h = refl
+at-beyond (x ∷ text) zero h = absurd (omega arith)
+at-beyond (x ∷ text) (suc p) h = at-beyond text p (omega arith)
+
+pub letter-beyond : (text : List ℕ) (p : ℕ) → length text ≤ p → intradayAt text p ≡ false
+letter-beyond text p h = ap (λ (x : ℕ). eqb x (code "T")) (at-beyond text p h)
+
+-- ---- the Z lines
 module _ (text : List ℕ) (h : Header) where
   abbrev pub netsRun : (at : ℕ) → Block ℤ
   netsRun at = linesAt zoneLine zoneLineNo (h .zones) text at 0
+
+  abbrev pub allocatedRun : (at : ℕ) → Block ℤ
+  allocatedRun at = linesAt allocatedLine (allocatedLineNo h) (allocatedItems h) text at 0
 
   abbrev pub bordersRun : (p : ℕ) → Block (List ℤ)
   bordersRun p = linesAt (borderLine (h .zones)) (borderLineNo h) (h .borders) text p 0
@@ -62,94 +78,158 @@ module _ (text : List ℕ) (h : Header) where
   abbrev pub rowsRun : (q : ℕ) → Block RowLine
   rowsRun q = linesAt (rowLine (h .zones)) (rowLineNo h) (h .rows) text q 0
 
-  abbrev afterRows : List ℤ → List (List ℤ) → List RowLine → ℕ → Judged Table
-  afterRows nets borders rows e = cond (ltb e (length text)) (refused (wrongForm (pastLineNo h))) (passed (lent h nets borders (valuesOf rows) (factorsOf rows)))
+module _ {text : List ℕ} {counts : Header} {at : ℕ} (u : Headed text counts at) where
+  counts-fit : headerFits counts ≡ true
+  counts-fit = header-read (lineAt text 0) counts (u .header-is) .1
 
-  abbrev afterBorders : List ℤ → List (List ℤ) → ℕ → Judged Table
-  afterBorders nets borders q = withLines (rowsRun q) (afterRows nets borders)
-
-  abbrev afterNets : List ℤ → ℕ → Judged Table
-  afterNets nets p = withLines (bordersRun p) (afterBorders nets)
-
-module _ {text : List ℕ} {h : Header} {at : ℕ} (u : Headed text h at) where
-  fits : headerFits h ≡ true
-  fits = header-read (lineAt text 0) h (u .header-is) .1
-
-  pub bounds : HeaderIn h
-  bounds = header-in h fits
+  pub counted : HeaderIn counts
+  counted = header-in counts counts-fit
 
   pub at-within : at ≤ length text
   at-within = omega (arith, u .at-is, after-within text 0 (omega arith))
 
-  past-header : linesOf text ≡ withLines (netsRun text h at) (afterNets text h)
+  abbrev afterNets : List ℤ → ℕ → Judged Table
+  afterNets nets p = allocatedFrom text (profiled counts (intradayAt text p)) nets p
+
+  past-header : linesOf text ≡ withLines (netsRun text counts at) afterNets
   unfolding linesOf
   past-header = rw (u .header-is, u .at-is)
 
-  pub nets-refused : {w : Refusal} → refused w ≡ endOf (netsRun text h at) → refused w ≡ linesOf text
-  nets-refused {w} e = sym (past-header ∙ with-fault _ (afterNets text h) w (run-refused (netsRun text h at) w e))
+  pub nets-refused : {w : Refusal} → refused w ≡ endOf (netsRun text counts at) → refused w ≡ linesOf text
+  nets-refused {w} e = sym (past-header ∙ with-fault _ afterNets w (run-refused (netsRun text counts at) w e))
+
+  pub nets-passed : {p : ℕ} → passed p ≡ endOf (netsRun text counts at) → Netted text (profiled counts (intradayAt text p)) at p
+  nets-passed {p} end =
+      let again = run-again zoneLine zoneLineNo 0 (counts .zones) text at p end in
+      record {
+        fits = profiled-fits counts (intradayAt text p) counts-fit;
+        zones-within = at-within;
+        within = run-within zoneLine zoneLineNo (counts .zones) text at 0 p at-within end;
+        nets-good = again .sound;
+        left = past-header ∙ with-read _ afterNets _ p (again .is);
+      }
+
+-- ---- the T lines, and their sum
+module _ {text : List ℕ} {h : Header} {zones at : ℕ} (u : Netted text h zones at) where
+  pub netted : HeaderIn h
+  netted = header-in h (u .fits)
+
+  abbrev nets : List ℤ
+  nets = heldBy (netsIn h text zones)
+
+  abbrev afterSum : List ℤ → ℕ → Judged Table
+  afterSum allocated o = unless (balanced allocated) (outOfRangeAt (lastAllocatedLineNo h) (balanceByte (h .zones))) (bordersFrom text h nets allocated o)
+
+  pub allocated-refused : {w : Refusal} → refused w ≡ endOf (allocatedRun text h at) → refused w ≡ linesOf text
+  allocated-refused {w} e = sym (u .left ∙ with-fault _ afterSum w (run-refused (allocatedRun text h at) w e))
+
+  module _ {o : ℕ} (end : passed o ≡ endOf (allocatedRun text h at)) where
+    again-allocated : Run (allocatedRun text h at) (allocatedIn h text at) o
+    again-allocated = run-again allocatedLine (allocatedLineNo h) 0 (allocatedItems h) text at o end
+
+    pub allocated-sound : allGood (allocatedIn h text at) ≡ true
+    allocated-sound = again-allocated .sound
+
+    past-allocated : linesOf text ≡ afterSum (heldBy (allocatedIn h text at)) o
+    past-allocated = u .left ∙ with-read _ afterSum _ o (again-allocated .is)
+
+    pub unbalanced : balanced (heldBy (allocatedIn h text at)) ≡ false → refused (outOfRangeAt (lastAllocatedLineNo h) (balanceByte (h .zones))) ≡ linesOf text
+    unbalanced e = sym (past-allocated ∙ unless-refused _ _ e)
+
+    pub allocated-passed : balanced (heldBy (allocatedIn h text at)) ≡ true → Allocated text h zones at o
+    allocated-passed e =
+        record {
+          fits = u .fits;
+          zones-within = u .zones-within;
+          allocated-within = u .within;
+          within = run-within allocatedLine (allocatedLineNo h) (allocatedItems h) text at 0 o (u .within) end;
+          nets-good = u .nets-good;
+          allocated-good = allocated-sound;
+          left = past-allocated ∙ unless-ok _ _ e;
+        }
+
+-- the positions of good lines, as their sum is asked for
+pub held-within : (letter items : ℕ) (text : List ℕ) (at : ℕ) → allGood (positionsIn letter items text at) ≡ true
+    → (length (heldBy (positionsIn letter items text at)) ≡ items) × AllWithin netMost (heldBy (positionsIn letter items text at))
+held-within letter items text at e = go (positionsIn letter items text at) refl e
+  where
+    go : (b : Block ℤ) → positionsIn letter items text at ≡ b → allGood b ≡ true → (length (heldBy b) ≡ items) × AllWithin netMost (heldBy b)
+    go (read xs next) q g =
+        let f = run-fits (positionLine letter) 0 (λ i net. zoneFits net ≡ true) (λ line i net e. zone-read letter line i net e .1) items text at 0 xs next q in
+        (f .0, record { at = λ i l. zone-in _ (fits-at (λ i net. zoneFits net ≡ true) (pos 0) xs 0 (f .1) i l) })
+    go (fault w) q g = absurd (false≢true g)
+
+-- ---- the B and C lines, and the end
+module _ {text : List ℕ} {h : Header} {zones allocated at : ℕ} (u : Allocated text h zones allocated at) where
+  pub bounds : HeaderIn h
+  bounds = header-in h (u .fits)
+
+  abbrev its-nets : List ℤ
+  its-nets = heldBy (netsIn h text zones)
+
+  abbrev its-allocated : List ℤ
+  its-allocated = heldBy (allocatedIn h text allocated)
+
+  abbrev afterRows : List (List ℤ) → List RowLine → ℕ → Judged Table
+  afterRows borders rows e = cond (ltb e (length text)) (refused (wrongForm (pastLineNo h))) (passed (lent h its-nets its-allocated borders (valuesOf rows) (factorsOf rows)))
+
+  abbrev afterBorders : List (List ℤ) → ℕ → Judged Table
+  afterBorders borders q = withLines (rowsRun text h q) (afterRows borders)
 
   -- the borders' part of the memory
   pub borders-room : (memory : List (List ℤ)) → length memory ≡ bordersMost → length (take (h .borders) memory) ≡ h .borders
   borders-room memory long = length-take-le (h .borders) memory (omega (arith, long, bounds .borders-most))
 
   -- the B lines, as many as the part of the memory that is lent for them
-  pub run-lent : (p : ℕ) (memory : List (List ℤ)) → length memory ≡ bordersMost → linesAt (borderLine (h .zones)) (borderLineNo h) (length (take (h .borders) memory)) text p 0 ≡ bordersRun text h p
-  run-lent p memory long = ap (λ (n : ℕ). linesAt (borderLine (h .zones)) (borderLineNo h) n text p 0) (borders-room memory long)
+  pub run-lent : (memory : List (List ℤ)) → length memory ≡ bordersMost → linesAt (borderLine (h .zones)) (borderLineNo h) (length (take (h .borders) memory)) text at 0 ≡ bordersRun text h at
+  run-lent memory long = ap (λ (n : ℕ). linesAt (borderLine (h .zones)) (borderLineNo h) n text at 0) (borders-room memory long)
 
-  module _ {p : ℕ} (nets-end : passed p ≡ endOf (netsRun text h at)) where
-    abbrev nets : List ℤ
-    nets = heldBy (netsRun text h at)
+  pub borders-refused : {w : Refusal} → fault w ≡ bordersRun text h at → refused w ≡ linesOf text
+  borders-refused {w} e = sym (u .left ∙ with-fault _ afterBorders w (sym e))
 
-    past-nets : linesOf text ≡ afterNets text h nets p
-    past-nets = past-header ∙ with-read _ (afterNets text h) nets p (run-passed (netsRun text h at) p nets-end)
+  module _ {borders : List (List ℤ)} {q : ℕ} (borders-are : read borders q ≡ bordersRun text h at) where
+    past-borders : linesOf text ≡ afterBorders borders q
+    past-borders = u .left ∙ with-read _ afterBorders borders q (sym borders-are)
 
-    pub p-within : p ≤ length text
-    p-within = run-within zoneLine zoneLineNo (h .zones) text at 0 p at-within nets-end
+    pub q-within : q ≤ length text
+    q-within = run-within (borderLine (h .zones)) (borderLineNo h) (h .borders) text at 0 q (u .within) (ap endOf borders-are)
 
-    pub borders-refused : {w : Refusal} → fault w ≡ bordersRun text h p → refused w ≡ linesOf text
-    borders-refused {w} e = sym (past-nets ∙ with-fault _ (afterBorders text h nets) w (sym e))
+    borders-long : length borders ≡ h .borders
+    borders-long = run-fits (borderLine (h .zones)) (borderLineNo h) (λ i raw. Unit {0}) (λ line i raw e. tt) (h .borders) text at 0 borders q (sym borders-are) .0
 
-    module _ {borders : List (List ℤ)} {q : ℕ} (borders-are : read borders q ≡ bordersRun text h p) where
-      past-borders : linesOf text ≡ afterBorders text h nets borders q
-      past-borders = past-nets ∙ with-read _ (afterBorders text h nets) borders q (sym borders-are)
+    pub rows-refused : {w : Refusal} → refused w ≡ endOf (rowsRun text h q) → refused w ≡ linesOf text
+    rows-refused {w} e = sym (past-borders ∙ with-fault _ (afterRows borders) w (run-refused (rowsRun text h q) w e))
 
-      pub q-within : q ≤ length text
-      q-within = run-within (borderLine (h .zones)) (borderLineNo h) (h .borders) text p 0 q p-within (ap endOf borders-are)
+    module _ {e : ℕ} (rows-end : passed e ≡ endOf (rowsRun text h q)) where
+      abbrev rowsAgain : Block RowLine
+      rowsAgain = rowsIn (h .zones) (h .rows) text q
 
-      borders-long : length borders ≡ h .borders
-      borders-long = run-fits (borderLine (h .zones)) (borderLineNo h) (λ i raw. Unit {0}) (λ line i raw e. tt) (h .borders) text p 0 borders q (sym borders-are) .0
+      again : Run (rowsRun text h q) rowsAgain e
+      again = run-again (rowLine (h .zones)) (rowLineNo h) 0 (h .rows) text q e rows-end
 
-      pub rows-refused : {w : Refusal} → refused w ≡ endOf (rowsRun text h q) → refused w ≡ linesOf text
-      rows-refused {w} e = sym (past-borders ∙ with-fault _ (afterRows text h nets borders) w (run-refused (rowsRun text h q) w e))
+      past-rows : linesOf text ≡ afterRows borders (heldBy rowsAgain) e
+      past-rows = past-borders ∙ with-read _ (afterRows borders) (heldBy rowsAgain) e (again .is)
 
-      module _ {e : ℕ} (rows-end : passed e ≡ endOf (rowsRun text h q)) where
-        abbrev rowsAgain : Block RowLine
-        rowsAgain = rowsIn (h .zones) (h .rows) text q
+      pub more-follows : e < length text → refused (wrongForm (pastLineNo h)) ≡ linesOf text
+      more-follows l = sym (past-rows ∙ rw (lt-ltb e (length text) l))
 
-        again : Run (rowsRun text h q) rowsAgain e
-        again = run-again (rowLine (h .zones)) (rowLineNo h) 0 (h .rows) text q e rows-end
+      abbrev places : Places
+      places = record { header = h; zones = zones; allocated = allocated; rows = q }
 
-        past-rows : linesOf text ≡ afterRows text h nets borders (heldBy rowsAgain) e
-        past-rows = past-borders ∙ with-read _ (afterRows text h nets borders) (heldBy rowsAgain) e (again .is)
+      -- what the memory holds beyond the borders does not matter
+      pub lines-pass : (rest : List (List ℤ)) → length text ≤ e → passed (tableAt places text (take (h .borders) (borders ++ rest))) ≡ linesOf text
+      lines-pass rest l = sym (past-rows ∙ rw (le-ltb e (length text) l, take-at borders rest (h .borders) borders-long))
 
-        pub more-follows : e < length text → refused (wrongForm (pastLineNo h)) ≡ linesOf text
-        more-follows l = sym (past-rows ∙ rw (lt-ltb e (length text) l))
-
-        abbrev places : Places
-        places = record { header = h; zones = at; rows = q }
-
-        -- what the memory holds beyond the borders does not matter
-        pub lines-pass : (rest : List (List ℤ)) → length text ≤ e → passed (tableAt places text (take (h .borders) (borders ++ rest))) ≡ linesOf text
-        lines-pass rest l = sym (past-rows ∙ rw (le-ltb e (length text) l, take-at borders rest (h .borders) borders-long))
-
-        pub lines-placed : Placed places text
-        lines-placed = record {
-          header-fits = fits;
-          zones-within = at-within;
-          rows-within = q-within;
-          nets-good = run-good (netsRun text h at) p nets-end;
-          rows-good = again .sound;
-        }
+      pub lines-placed : Placed places text
+      lines-placed = record {
+        header-fits = u .fits;
+        zones-within = u .zones-within;
+        allocated-within = u .allocated-within;
+        rows-within = q-within;
+        nets-good = u .nets-good;
+        allocated-good = u .allocated-good;
+        rows-good = again .sound;
+      }
 
 -- ---- the length of the text, and borders given twice
 module _ (text : List ℕ) where

@@ -13,7 +13,7 @@ use Rattle.kinds.specs.declared.Refusal.{Refusal}
 use Rattle.kinds.specs.Answers.{saidRead}
 use Rattle.kinds.specs.Limits.{zonesMost, bordersMost, rowsMost}
 use Rattle.kinds.specs.Refusals.{Judged, passed, refused}
-use Rattle.kinds.proofs.KindLaws.{header-in}
+use Rattle.kinds.proofs.KindLaws.{header-in, allocated-most}
 use Rattle.kinds.proofs.RefusalLaws.{passed-is, refused-is, not-passed, then-passed, then-next, then-refused, either-passed, either-refused, answer-passed}
 use Rattle.table.specs.Table.{Table, lent, judgeLent}
 use Rattle.table.proofs.RoomLaws.{Enough, room-enough, room-passed, factors-most}
@@ -22,59 +22,60 @@ use Rattle.reading.specs.Places.{readSaid}
 use Rattle.reading.specs.Reading.{readText, ReadLeft, readLeft}
 use Rattle.reading.proofs.ReadLaws.{read-good}
 
-module _ (text : List ℕ) (z : List ℤ) (b c : List (List ℤ)) (f : List ℤ) where
+module _ (text : List ℕ) (z a : List ℤ) (b c : List (List ℤ)) (f : List ℤ) where
   abbrev leaves : Table → ReadLeft
-  leaves t = record { answer = passed (t .header); z = over (t .nets) z; b = over (t .borders) b; c = over (t .rows) c; f = over (t .factors) f }
+  leaves t = record { answer = passed (t .header); z = over (t .nets) z; t = over (t .allocated) a; b = over (t .borders) b; c = over (t .rows) c; f = over (t .factors) f }
 
-  pub read-left : (t : Table) → readText text ≡ passed t → Enough (t .header) (length z) (length b) (length c) (length f) → readLeft text z b c f ≡ leaves t
+  pub read-left : (t : Table) → readText text ≡ passed t → Enough (t .header) (length z) (length a) (length b) (length c) (length f) → readLeft text z a b c f ≡ leaves t
   unfolding readLeft
-  read-left t e n = either-passed _ _ (then-next _ e ∙ sym (room-enough _ _ _ _ _ _ (n .zones) (n .borders) (n .rows) (n .factors)))
+  read-left t e n = either-passed _ _ (then-next _ e ∙ sym (room-enough _ _ _ _ _ _ _ (n .zones) (n .allocated) (n .borders) (n .rows) (n .factors)))
 
   pub record Taken (h : Header) : Type 0 where
     pub it : Table
     pub read : readText text ≡ passed it
     pub header : it .header ≡ h
-    pub left : readLeft text z b c f ≡ leaves it
+    pub left : readLeft text z a b c f ≡ leaves it
 
-  pub read-taken : (h : Header) → readLeft text z b c f .answer ≡ passed h → Taken h
+  pub read-taken : (h : Header) → readLeft text z a b c f .answer ≡ passed h → Taken h
   unfolding readLeft
   read-taken h e =
-      let a = answer-passed _ _ _ (λ (l : ReadLeft). l .answer) h (λ w. refl) e in
-      let r = then-passed (readText text) _ (a .0) (a .1) in
-      let n = room-passed _ _ _ _ _ _ (a .0) (r .second) in
-      let t : r .it ≡ a .0 = passed-is _ _ (n .1) in
+      let d = answer-passed _ _ _ (λ (l : ReadLeft). l .answer) h (λ w. refl) e in
+      let r = then-passed (readText text) _ (d .0) (d .1) in
+      let n = room-passed _ _ _ _ _ _ _ (d .0) (r .second) in
+      let t : r .it ≡ d .0 = passed-is _ _ (n .1) in
       record {
         it = r .it;
         read = r .first;
-        header = ap (λ (t : Table). t .header) t ∙ passed-is _ _ (a .2);
+        header = ap (λ (t : Table). t .header) t ∙ passed-is _ _ (d .2);
         left = read-left (r .it) (r .first) (n .0);
       }
 
   -- ---- as the call says it
-  module _ (r : Read) {z′ : List ℤ} {b′ c′ : List (List ℤ)} {f′ : List ℤ} (said : readSaid r z′ b′ c′ f′ ≡ readLeft text z b c f) where
+  module _ (r : Read) {z′ a′ : List ℤ} {b′ c′ : List (List ℤ)} {f′ : List ℤ} (said : readSaid r z′ a′ b′ c′ f′ ≡ readLeft text z a b c f) where
     -- a table was read, and the lent tables are judged to be it
     module _ (h : Header) (is : r ≡ read.Table h) where
-      pub answered : readLeft text z b c f .answer ≡ passed h
+      pub answered : readLeft text z a b c f .answer ≡ passed h
       answered = sym (ap (λ (l : ReadLeft). l .answer) said) ∙ ap (λ (x : Read). saidRead x) is
 
       pub taken : Taken h
       taken = read-taken h answered
 
-      pub as-read : judgeLent (lent h z′ b′ c′ f′) ≡ passed (taken .it)
+      pub as-read : judgeLent (lent h z′ a′ b′ c′ f′) ≡ passed (taken .it)
       as-read =
-          subst (λ (g : Header). judgeLent (lent g z′ b′ c′ f′) ≡ passed (taken .it)) (taken .header)
-          (ap (λ (l : ReadLeft). judgeLent (lent (taken .it .header) (l .z) (l .b) (l .c) (l .f))) (said ∙ taken .left)
-          ∙ over-judged (taken .it) (read-good text (taken .it) (taken .read)) z b c f)
+          subst (λ (g : Header). judgeLent (lent g z′ a′ b′ c′ f′) ≡ passed (taken .it)) (taken .header)
+          (ap (λ (l : ReadLeft). judgeLent (lent (taken .it .header) (l .z) (l .t) (l .b) (l .c) (l .f))) (said ∙ taken .left)
+          ∙ over-judged (taken .it) (read-good text (taken .it) (taken .read)) z a b c f)
 
     -- with room for the largest table a refusal is the text's own
-    module _ (hz : zonesMost ≤ length z) (hb : bordersMost ≤ length b) (hc : rowsMost ≤ length c) (hf : rowsMost * zonesMost ≤ length f)
+    module _ (hz : zonesMost ≤ length z) (ha : zonesMost ≤ length a) (hb : bordersMost ≤ length b) (hc : rowsMost ≤ length c) (hf : rowsMost * zonesMost ≤ length f)
         (w : Refusal) (is : r ≡ read.Refused w) where
-      enough : (t : Table) → readText text ≡ passed t → Enough (t .header) (length z) (length b) (length c) (length f)
+      enough : (t : Table) → readText text ≡ passed t → Enough (t .header) (length z) (length a) (length b) (length c) (length f)
       enough t e =
           let fits = read-good text t e .exact .header in
           let h = header-in (t .header) fits in
           record {
             zones = omega (arith, h .zones-most);
+            allocated = omega (arith, h .zones-most, allocated-most (t .header));
             borders = omega (arith, h .borders-most);
             rows = omega (arith, h .rows-most);
             factors = omega (arith, factors-most (t .header) fits);
@@ -84,7 +85,7 @@ module _ (text : List ℕ) (z : List ℤ) (b c : List (List ℤ)) (f : List ℤ)
       unfolding readLeft
       refused-text = go (readText text) refl
         where
-          turned : (x : ReadLeft) → readLeft text z b c f ≡ x → refused w ≡ x .answer
+          turned : (x : ReadLeft) → readLeft text z a b c f ≡ x → refused w ≡ x .answer
           turned x q = ap (λ (y : Read). saidRead y) (sym is) ∙ ap (λ (l : ReadLeft). l .answer) (said ∙ q)
 
           go : (j : Judged Table) → readText text ≡ j → readText text ≡ refused w

@@ -10,36 +10,46 @@ use lib.ListN.{length, getD}
 use borrow.Author.Tests.{ltb-false}
 use Rattle.kinds.specs.declared.Header.{Header}
 use Rattle.kinds.specs.Limits.{bytesMost}
-use Rattle.kinds.specs.Ranges.{headerFits, zoneFits, rowFits, factorFits, atℤ}
+use Rattle.kinds.specs.Ranges.{headerFits, isIntraday, allocatedItems, profiled, zoneFits, rowFits, factorFits, atℤ}
 use Rattle.kinds.specs.declared.Refusal.{Refusal}
 use Rattle.kinds.specs.Refusals.{Judged, passed, refused, tooLong, wrongFormAt, wrongForm, outOfRangeAt}
-use Rattle.kinds.proofs.RefusalLaws.{passed-is, not-passed, none-passed, then-passed}
-use Rattle.kinds.proofs.KindLaws.{header-in}
+use Rattle.kinds.proofs.RefusalLaws.{passed-is, not-passed, unless-passed, none-passed, then-passed}
+use Rattle.kinds.proofs.KindLaws.{header-in, profiled-fits}
 use Rattle.text.specs.Line.{lineAt, after, Line, holds, form, range}
 use Rattle.block.specs.Block.{read, linesAt}
 use Rattle.block.proofs.BlockLaws.{allFit}
 use Rattle.block.proofs.RunLaws.{run-fits, fits-at, lines-then}
-use Rattle.table.specs.Table.{Table, stretch, twice, notTwice, headerLineNo, zoneLineNo, borderLineNo, rowLineNo, pastLineNo}
+use Rattle.table.specs.Table.{Table, stretch, balanced, twice, notTwice, headerLineNo, zoneLineNo, allocatedLineNo, borderLineNo, rowLineNo, pastLineNo}
 use Rattle.table.specs.Good.{Good, Shaped}
 use Rattle.table.proofs.GoodLaws.{row-good, flat-fit}
-use Rattle.lines.specs.Lines.{RowLine, headerLine, zoneLine, borderLine, rowLine}
+use Rattle.lines.specs.Lines.{RowLine, headerLine, zoneLine, allocatedLine, borderLine, rowLine}
 use Rattle.runs.specs.Rows.{valuesOf, factorsOf}
 use Rattle.runs.proofs.RowLaws.{emptyRow, values-long, values-at, factors-long, stretch-of}
-use Rattle.reading.specs.Reading.{withHeader, linesOf, readText}
-use Rattle.lines.proofs.HeaderTrip.{header-read}
+use Rattle.reading.specs.Reading.{withHeader, intradayAt, linesOf, readText}
+use Rattle.lines.proofs.HeaderTrip.{header-read, header-plain}
 use Rattle.lines.proofs.ZoneTrip.{zone-read}
 use Rattle.lines.proofs.BorderTrip.{BorderHeld, border-read}
 use Rattle.lines.proofs.RowTrip.{RowHeld, RowHeldAt, row-read}
 
--- ---- the chain of H, Z, B, C lines and the end of the text, opened
+-- ---- the profile that a header is given
+profile-given : (h : Header) (intraday : Bool) → isIntraday (profiled h intraday) ≡ intraday
+profile-given h true = refl
+profile-given h false = refl
+
+-- ---- the chain of H, Z, T, B, C lines and the end of the text, opened
 pub record Opened (text : List ℕ) (t : Table) : Type 0 where
   pub lines : List RowLine
   pub p : ℕ
+  pub o : ℕ
   pub q : ℕ
   pub e : ℕ
-  pub header-is : headerLine (lineAt text 0) ≡ holds (t .header)
+  pub header-is : headerLine (lineAt text 0) ≡ holds (profiled (t .header) false)
+  pub header-fits : headerFits (t .header) ≡ true
+  pub profile-is : isIntraday (t .header) ≡ intradayAt text p
   pub nets-are : linesAt zoneLine zoneLineNo (t .header .zones) text (after text 0) 0 ≡ read (t .nets) p
-  pub borders-are : linesAt (borderLine (t .header .zones)) (borderLineNo (t .header)) (t .header .borders) text p 0 ≡ read (t .borders) q
+  pub allocated-are : linesAt allocatedLine (allocatedLineNo (t .header)) (allocatedItems (t .header)) text p 0 ≡ read (t .allocated) o
+  pub in-balance : balanced (t .allocated) ≡ true
+  pub borders-are : linesAt (borderLine (t .header .zones)) (borderLineNo (t .header)) (t .header .borders) text o 0 ≡ read (t .borders) q
   pub rows-are : linesAt (rowLine (t .header .zones)) (rowLineNo (t .header)) (t .header .rows) text q 0 ≡ read lines e
   pub whole : length text ≤ e
   pub values-are : valuesOf lines ≡ t .rows
@@ -61,25 +71,33 @@ cond-passed a b w x t e = go (ltb a b) refl e
 pub opened : (text : List ℕ) (t : Table) → linesOf text ≡ passed t → Opened text t
 unfolding linesOf
 opened text t e =
-    header-then t (headerLine (lineAt text 0)) _ e (λ h header-is e1.
-    lines-then t (linesAt zoneLine zoneLineNo (h .zones) text (after text 0) 0) _ e1 (λ nets p nets-are e2.
-    lines-then t (linesAt (borderLine (h .zones)) (borderLineNo h) (h .borders) text p 0) _ e2 (λ borders q borders-are e3.
-    lines-then t (linesAt (rowLine (h .zones)) (rowLineNo h) (h .rows) text q 0) _ e3 (λ lines e rows-are e4.
-    let l = cond-passed e (length text) (wrongForm (pastLineNo h)) _ t e4 in
+    header-then t (headerLine (lineAt text 0)) _ e (λ counts header-is e1.
+    lines-then t (linesAt zoneLine zoneLineNo (counts .zones) text (after text 0) 0) _ e1 (λ nets p nets-are e2.
+    let h = profiled counts (intradayAt text p) in
+    lines-then t (linesAt allocatedLine (allocatedLineNo h) (allocatedItems h) text p 0) _ e2 (λ allocated o allocated-are e3.
+    let s = unless-passed t _ _ _ e3 in
+    lines-then t (linesAt (borderLine (h .zones)) (borderLineNo h) (h .borders) text o 0) _ (s .1) (λ borders q borders-are e4.
+    lines-then t (linesAt (rowLine (h .zones)) (rowLineNo h) (h .rows) text q 0) _ e4 (λ lines e rows-are e5.
+    let l = cond-passed e (length text) (wrongForm (pastLineNo h)) _ t e5 in
     subst (Opened text) (passed-is _ t (l .1))
     (record {
       lines = lines;
       p = p;
+      o = o;
       q = q;
       e = e;
-      header-is = header-is;
+      header-is = header-is ∙ ap holds (sym (header-plain (lineAt text 0) counts header-is));
+      header-fits = profiled-fits counts (intradayAt text p) (header-read (lineAt text 0) counts header-is .1);
+      profile-is = profile-given counts (intradayAt text p);
       nets-are = nets-are;
+      allocated-are = allocated-are;
+      in-balance = s .0;
       borders-are = borders-are;
       rows-are = rows-are;
       whole = l .0;
       values-are = refl;
       factors-are = refl;
-    })))))
+    }))))))
 
 pub record Reading (text : List ℕ) (t : Table) : Type 0 where
   pub short : length text ≤ bytesMost
@@ -98,18 +116,23 @@ reading text t e =
 -- ---- a table that was read is good
 module _ (text : List ℕ) (t : Table) (o : Opened text t) where
   pub fits : headerFits (t .header) ≡ true
-  fits = header-read (lineAt text 0) (t .header) (o .header-is) .1
+  fits = o .header-fits
 
   pub some : 0 < t .header .zones
   some = omega (arith, header-in (t .header) fits .zones-least)
 
   pub nets-held : (length (t .nets) ≡ t .header .zones) × allFit (λ i net. zoneFits net ≡ true) 0 (t .nets)
-  nets-held = run-fits zoneLine zoneLineNo (λ i net. zoneFits net ≡ true) (λ line i net e. zone-read line i net e .1) (t .header .zones) text (after text 0) 0 (t .nets) (o .p) (o .nets-are)
+  nets-held = run-fits zoneLine zoneLineNo (λ i net. zoneFits net ≡ true) (λ line i net e. zone-read _ line i net e .1) (t .header .zones) text (after text 0) 0 (t .nets) (o .p) (o .nets-are)
+
+  pub allocated-held : (length (t .allocated) ≡ allocatedItems (t .header)) × allFit (λ i net. zoneFits net ≡ true) 0 (t .allocated)
+  allocated-held =
+      run-fits allocatedLine (allocatedLineNo (t .header)) (λ i net. zoneFits net ≡ true) (λ line i net e. zone-read _ line i net e .1)
+      (allocatedItems (t .header)) text (o .p) 0 (t .allocated) (o .o) (o .allocated-are)
 
   pub borders-held : (length (t .borders) ≡ t .header .borders) × allFit (λ i raw. BorderHeld (t .header .zones) raw) 0 (t .borders)
   borders-held =
       run-fits (borderLine (t .header .zones)) (borderLineNo (t .header)) (λ i raw. BorderHeld (t .header .zones) raw) (λ line i raw e. border-read (t .header .zones) line i raw e .1)
-      (t .header .borders) text (o .p) 0 (t .borders) (o .q) (o .borders-are)
+      (t .header .borders) text (o .o) 0 (t .borders) (o .q) (o .borders-are)
 
   pub rows-held : (length (o .lines) ≡ t .header .rows) × allFit (RowHeldAt (t .header .zones)) 0 (o .lines)
   rows-held =
@@ -139,11 +162,14 @@ module _ (text : List ℕ) (t : Table) (o : Opened text t) where
     exact = record {
       header = fits;
       nets-long = nets-held .0;
+      allocated-long = allocated-held .0;
       borders-long = borders-held .0;
       rows-long = rw (← o .values-are) (values-long (o .lines)) ∙ rows-held .0;
       factors-long = factors-all;
     };
     nets-fit = λ i h. fits-at (λ i net. zoneFits net ≡ true) (pos 0) (t .nets) 0 (nets-held .1) i (omega (arith, nets-held .0));
+    allocated-fit = λ i h. fits-at (λ i net. zoneFits net ≡ true) (pos 0) (t .allocated) 0 (allocated-held .1) i (omega (arith, allocated-held .0));
+    in-balance = o .in-balance;
     borders-fit = λ b h. border-at b h .fits;
     rows-fit = row-fits;
     factors-fit = flat-fit (t .header .zones) (t .header .rows) (t .factors) factors-all some (λ i h.

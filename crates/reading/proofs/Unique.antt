@@ -17,15 +17,19 @@ use Rattle.reading.proofs.read.Kinds as kinds
 use Rattle.reading.proofs.read.Reads as reads
 
 -- what is left tells the answer and each table
-left-once : (r r′ : Read) (z z′ : List ℤ) (b b′ c c′ : List (List ℤ)) (f f′ : List ℤ) (x : ReadLeft) → readSaid r z b c f ≡ x → readSaid r′ z′ b′ c′ f′ ≡ x → (r ≡ r′) × ((z ≡ z′) × ((b ≡ b′) × ((c ≡ c′) × (f ≡ f′))))
-left-once r r′ z z′ b b′ c c′ f f′ x p q =
-    let e = p ∙ sym q in
-    (saidRead-injective r r′ (ap (λ (y : ReadLeft). y .answer) e), (ap (λ (y : ReadLeft). y .z) e, (ap (λ (y : ReadLeft). y .b) e, (ap (λ (y : ReadLeft). y .c) e, ap (λ (y : ReadLeft). y .f) e))))
+left-once : (r r′ : Read) (z z′ t t′ : List ℤ) (b b′ c c′ : List (List ℤ)) (f f′ : List ℤ) (x : ReadLeft) → readSaid r z t b c f ≡ x → readSaid r′ z′ t′ b′ c′ f′ ≡ x
+    → (r ≡ r′) × ((z ≡ z′) × ((t ≡ t′) × ((b ≡ b′) × ((c ≡ c′) × (f ≡ f′)))))
+left-once r r′ z z′ t t′ b b′ c c′ f f′ x p q =
+    let e = p ∙ sym q in (
+      saidRead-injective r r′ (ap (λ (y : ReadLeft). y .answer) e),
+      (ap (λ (y : ReadLeft). y .z) e, (ap (λ (y : ReadLeft). y .t) e, (ap (λ (y : ReadLeft). y .b) e, (ap (λ (y : ReadLeft). y .c) e, ap (λ (y : ReadLeft). y .f) e)))),
+    )
 
-pub read-once : (κs : Lfts 5) (x : ArgsD signature κs) (r r′ : ResD signature κs) (s s′ : AtExit (endedOf 5 kinds.ps kinds.r) κs) → reads.Post κs x r s → reads.Post κs x r′ s′
+pub read-once : (κs : Lfts 6) (x : ArgsD signature κs) (r r′ : ResD signature κs) (s s′ : AtExit (endedOf 6 kinds.ps kinds.r) κs) → reads.Post κs x r s → reads.Post κs x r′ s′
     → (r ≡ r′)
     × ((now (s .1 .0) ≡ now (s′ .1 .0))
     × ((now (s .1 .1 .0) ≡ now (s′ .1 .1 .0))
     × ((now (s .1 .1 .1 .0) ≡ now (s′ .1 .1 .1 .0))
-    × (now (s .1 .1 .1 .1 .0) ≡ now (s′ .1 .1 .1 .1 .0)))))
-read-once κs x r r′ s s′ p q = left-once _ _ _ _ _ _ _ _ _ _ _ p q
+    × ((now (s .1 .1 .1 .1 .0) ≡ now (s′ .1 .1 .1 .1 .0))
+    × (now (s .1 .1 .1 .1 .1 .0) ≡ now (s′ .1 .1 .1 .1 .1 .0))))))
+read-once κs x r r′ s s′ p q = left-once _ _ _ _ _ _ _ _ _ _ _ _ _ p q

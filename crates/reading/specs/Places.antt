@@ -3,40 +3,65 @@
 use mathlib.Core.Path.{_≡_}
 use mathlib.Core.Bool.{true}
 use mathlib.Core.List.{List}
+use Prim.Native.Char.{code}
 use Prim.Native.Nat.{ℕ, _≤_}
 use lib.IntN.{ℤ}
 use lib.ListN.{length, take}
 use Rattle.kinds.specs.declared.Header.{Header}
 use Rattle.kinds.specs.declared.Read.{Read}
 use Rattle.kinds.specs.Answers.{saidRead}
-use Rattle.kinds.specs.Ranges.{headerFits}
+use Rattle.kinds.specs.Ranges.{headerFits, allocatedItems}
 use Rattle.kinds.specs.Refusals.{Judged, passed, refused}
 use Rattle.text.specs.Line.{lineAt, after, holds}
-use Rattle.block.specs.Block.{Block, linesAt, heldBy}
-use Rattle.table.specs.Table.{Table, lent, zoneLineNo}
-use Rattle.lines.specs.Lines.{RowLine, headerLine, zoneLine}
-use Rattle.runs.specs.Runs.{allGood}
+use Rattle.block.specs.Block.{Block, heldBy}
+use Rattle.table.specs.Table.{Table, lent}
+use Rattle.lines.specs.Lines.{RowLine, headerLine}
+use Rattle.runs.specs.Runs.{allGood, positionsIn}
 use Rattle.runs.specs.Rows.{valuesOf, factorsOf, rowsIn}
 use Rattle.reading.specs.declared.judged.Places.{Places}
 use Rattle.reading.specs.declared.judged.TextJudged.{TextJudged}
 use Rattle.reading.specs.declared.judged.TextJudged.the-variants.{Passed, Refused}
-use Rattle.reading.specs.Reading.{ReadLeft}
+use Rattle.reading.specs.Reading.{allocatedFrom, bordersFrom, linesOf, ReadLeft}
 
 -- the H line of a text holds h, and the next line begins at place `at`
 pub record Headed (text : List ℕ) (h : Header) (at : ℕ) : Type 0 where
   pub header-is : headerLine (lineAt text 0) ≡ holds h
   pub at-is : at ≡ after text 0
 
--- the Z and the C lines of a text, from their places on
-abbrev pub netsAt : Places → (text : List ℕ) → Block ℤ
-netsAt p text = linesAt zoneLine zoneLineNo (p .header .zones) text (p .zones) 0
+-- the Z, T and C lines of a text, from their places on
+abbrev pub netsIn : Header → (text : List ℕ) → (at : ℕ) → Block ℤ
+netsIn h text at = positionsIn (code "Z") (h .zones) text at
+
+abbrev pub allocatedLines : (items : ℕ) → (text : List ℕ) → (at : ℕ) → Block ℤ
+allocatedLines items text at = positionsIn (code "T") items text at
+
+abbrev pub allocatedIn : Header → (text : List ℕ) → (at : ℕ) → Block ℤ
+allocatedIn h text at = allocatedLines (allocatedItems h) text at
 
 abbrev pub rowsAt : Places → (text : List ℕ) → Block RowLine
 rowsAt p text = rowsIn (p .header .zones) (p .header .rows) text (p .rows)
 
--- the table: what the Z and C lines hold where they stand, and the borders, which were read before
+-- the Z lines of a text whose header is h are good, from place zones on, and what is left to judge begins at place `at`
+pub record Netted (text : List ℕ) (h : Header) (zones at : ℕ) : Type 0 where
+  pub fits : headerFits h ≡ true
+  pub zones-within : zones ≤ length text
+  pub within : at ≤ length text
+  pub nets-good : allGood (netsIn h text zones) ≡ true
+  pub left : linesOf text ≡ allocatedFrom text h (heldBy (netsIn h text zones)) at
+
+-- .. and so are the T lines, from place allocated on
+pub record Allocated (text : List ℕ) (h : Header) (zones allocated at : ℕ) : Type 0 where
+  pub fits : headerFits h ≡ true
+  pub zones-within : zones ≤ length text
+  pub allocated-within : allocated ≤ length text
+  pub within : at ≤ length text
+  pub nets-good : allGood (netsIn h text zones) ≡ true
+  pub allocated-good : allGood (allocatedIn h text allocated) ≡ true
+  pub left : linesOf text ≡ bordersFrom text h (heldBy (netsIn h text zones)) (heldBy (allocatedIn h text allocated)) at
+
+-- the table: what the Z, T and C lines hold where they stand, and the borders, which were read before
 abbrev pub tableAt : Places → (text : List ℕ) → (borders : List (List ℤ)) → Table
-tableAt p text borders = lent (p .header) (heldBy (netsAt p text)) borders (valuesOf (heldBy (rowsAt p text))) (factorsOf (heldBy (rowsAt p text)))
+tableAt p text borders = lent (p .header) (heldBy (netsIn (p .header) text (p .zones))) (heldBy (allocatedIn (p .header) text (p .allocated))) borders (valuesOf (heldBy (rowsAt p text))) (factorsOf (heldBy (rowsAt p text)))
 
 -- what judging comes to; the borders are in front of the memory
 abbrev pub tableIn : TextJudged → (text : List ℕ) → (memory : List (List ℤ)) → Judged Table
@@ -47,8 +72,10 @@ tableIn (Refused w) text memory = refused w
 pub record Placed (p : Places) (text : List ℕ) : Type 0 where
   pub header-fits : headerFits (p .header) ≡ true
   pub zones-within : p .zones ≤ length text
+  pub allocated-within : p .allocated ≤ length text
   pub rows-within : p .rows ≤ length text
-  pub nets-good : allGood (netsAt p text) ≡ true
+  pub nets-good : allGood (netsIn (p .header) text (p .zones)) ≡ true
+  pub allocated-good : allGood (allocatedIn (p .header) text (p .allocated)) ≡ true
   pub rows-good : allGood (rowsAt p text) ≡ true
 
 -- .. where judging found them
@@ -57,5 +84,5 @@ placedIn (Passed p) text = Placed p text
 placedIn (Refused w) text = Unit {0}
 
 -- an answer, with each lent table as it stands
-abbrev pub readSaid : Read → (z : List ℤ) → (b c : List (List ℤ)) → (f : List ℤ) → ReadLeft
-readSaid r z b c f = record { answer = saidRead r; z = z; b = b; c = c; f = f }
+abbrev pub readSaid : Read → (z t : List ℤ) → (b c : List (List ℤ)) → (f : List ℤ) → ReadLeft
+readSaid r z t b c f = record { answer = saidRead r; z = z; t = t; b = b; c = c; f = f }

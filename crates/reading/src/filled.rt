@@ -14,18 +14,20 @@ pub fn fill(
     places: Places,
     borders: &[BorderRecord],
     z: &mut [i64],
+    t: &mut [i64],
     b: &mut [BorderRecord],
     c: &mut [RowRecord],
     f: &mut [i64],
 )
     requires { ⌜ Placed places (now text) ⌝ }
     requires { ⌜ length (now borders) ≡ length (now b) ⌝ }
-    requires { ⌜ Exact (lent (places .header) (now z) (now b) (now c) (now f)) ⌝ }
-    ensures { λ _. ⌜ lent (places .header) (now (z .exit)) (now (b .exit)) (now (c .exit)) (now (f .exit)) ≡ tableAt places (now (text .entry)) (now (borders .entry)) ⌝ }
+    requires { ⌜ Exact (lent (places .header) (now z) (now t) (now b) (now c) (now f)) ⌝ }
+    ensures { λ _. ⌜ lent (places .header) (now (z .exit)) (now (t .exit)) (now (b .exit)) (now (c .exit)) (now (f .exit)) ≡ tableAt places (now (text .entry)) (now (borders .entry)) ⌝ }
 {
     let h = places.header;
     let zones = h.zones;
-    runs::zones::zones_filled(text, places.zones, z);
+    runs::zones::zones_filled(b'Z', text, places.zones, z);
+    runs::zones::zones_filled(b'T', text, places.allocated, t);
     copy(borders, b);
     runs::rows::rows_filled(text, places.rows, zones, c, f);
 }

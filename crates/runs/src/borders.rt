@@ -1,11 +1,9 @@
 // The B lines: each is read once, into memory that the caller lends, so that borders given twice can be judged before a table is written.
 use block::End;
 ghost use mathlib.Core.Path.{_≡_};
-ghost use Prim.Native.Nat.{_+_, _≤_};
+ghost use Prim.Native.Nat.{_+_, _^_, _≤_, _<_};
 ghost use lib.ListN.{length};
-ghost use Rattle.kinds.specs.Limits.{zonesMost, bordersMost};
 ghost use Rattle.block.specs.Block.{linesAt};
-ghost use Rattle.table.specs.Table.{zoneLineNo};
 ghost use Rattle.lines.specs.Lines.{borderLine};
 ghost use Rattle.runs.specs.Runs.{storedRun};
 use kinds::Border;
@@ -14,13 +12,18 @@ use kinds::Refusal;
 use lines::BorderLine;
 
 // Reads the B lines that begin at place `at`, one for each item of b: their raw records and where they end, or the first refusal.
-// The line of index 0 follows the Z lines.
-pub fn borders_read(text: &[u8], at: usize, zones: usize, b: &mut [BorderRecord]) -> End
-    requires { ⌜ (at ≤ length (now text)) × ((zones ≤ zonesMost) × (length (now b) ≤ bordersMost)) ⌝ }
-    ensures { λ r. ⌜ storedRun r (now (b .exit)) ≡ linesAt (borderLine zones) (zoneLineNo + zones) (length (now (b .entry))) (now (text .entry)) at 0 ⌝ }
+// The line of index 0 is line `first` of the text.
+pub fn borders_read(
+    text: &[u8],
+    at: usize,
+    zones: usize,
+    first: usize,
+    b: &mut [BorderRecord],
+) -> End
+    requires { ⌜ (at ≤ length (now text)) × (first + length (now b) < 2 ^ 64) ⌝ }
+    ensures { λ r. ⌜ storedRun r (now (b .exit)) ≡ linesAt (borderLine zones) first (length (now (b .entry))) (now (text .entry)) at 0 ⌝ }
 {
     let n = b.len();
-    let first = table::ZONE_LINE_NO + zones;
     let mut i = 0;
     let mut p = at;
     while i < n {

@@ -14,8 +14,11 @@ use Rattle.start.specs.Setup.{gridBy, beginBy, judgeBy}
 use Rattle.start.specs.Start.{kept, gridOf, startOf, judgeStart, setupWith}
 use Rattle.start.specs.Filled.{cells}
 
+abbrev headerIn : (mark rows : ℕ) → Header
+headerIn mark rows = record { zones = 2; borders = 2; rows = rows; share = minus 1; intraday = mark }
+
 abbrev header : (rows : ℕ) → Header
-header rows = record { zones = 2; borders = 2; rows = rows; share = minus 1 }
+header rows = headerIn 0 rows
 
 -- border 0 to 1 has 1 MW; the way back has none
 abbrev borders : List (List ℤ)
@@ -26,8 +29,11 @@ abbrev one : (states : List ℕ) → (starts : List ℤ) → Judged (List ℕ)
 one states starts = judgeStart (header 1) borders (pos 20000 ∷ pos 0 ∷ []) states starts
 
 -- three: row 1 loads border 1, and row 2 is as row 0
+abbrev factors : List ℤ
+factors = pos 20000 ∷ pos 0 ∷ pos 0 ∷ pos 20000 ∷ pos 20000 ∷ pos 0 ∷ []
+
 abbrev three : (states : List ℕ) → (starts : List ℤ) → Judged (List ℕ)
-three states starts = judgeStart (header 3) borders (pos 20000 ∷ pos 0 ∷ pos 0 ∷ pos 20000 ∷ pos 20000 ∷ pos 0 ∷ []) states starts
+three states starts = judgeStart (header 3) borders factors states starts
 
 pub record Anchors : Type 0 where
   -- 5 before 6, and 6 before 7: no row loads border 1, and row 0 starts below 0
@@ -40,9 +46,13 @@ pub record Anchors : Type 0 where
   pub seven-kept : three (0 ∷ 0 ∷ 2 ∷ []) (pos 0 ∷ pos 0 ∷ minus 1 ∷ []) ≡ passed (0 ∷ 0 ∷ 2 ∷ [])
   -- each border starts at its LTA, a kept row where it is given, and a row of state 2 takes no part
   pub starts : startOf (header 3) borders (0 ∷ 0 ∷ 2 ∷ []) (pos 7 ∷ pos 9 ∷ pos 8 ∷ []) ≡ record { margins = 7 ∷ 9 ∷ 0 ∷ []; x = 1000 ∷ 0 ∷ [] }
+  -- in the intraday profile (02, E12) each border starts at 0 kW, a margin below 0 counts as 0, and 7 is not given; 6 is
+  pub intraday : startOf (headerIn 1 3) borders (0 ∷ 0 ∷ 2 ∷ []) (pos 7 ∷ minus 9 ∷ pos 8 ∷ []) ≡ record { margins = 7 ∷ 0 ∷ 0 ∷ []; x = 0 ∷ 0 ∷ [] }
+  pub no-seven : judgeStart (headerIn 1 3) borders factors (0 ∷ 0 ∷ 0 ∷ []) (pos 0 ∷ minus 1 ∷ minus 1 ∷ []) ≡ passed (0 ∷ 0 ∷ 0 ∷ [])
+  pub six-too : judgeStart (headerIn 1 3) borders factors (0 ∷ 2 ∷ 0 ∷ []) (pos 0 ∷ minus 1 ∷ minus 1 ∷ []) ≡ refused (refusal 6 1 0)
   -- the table of p, row after row and border after border; a row that takes no part has zeros
   pub laid-out : cells (gridOf (header 3) borders (pos 20000 ∷ pos 0 ∷ pos 0 ∷ pos 30000 ∷ pos 50000 ∷ pos 10000 ∷ []) (0 ∷ 0 ∷ 2 ∷ [])) ≡ 20000 ∷ 0 ∷ 0 ∷ 30000 ∷ 0 ∷ 0 ∷ []
 
 pub anchors : Anchors
 unfolding table firstFrom given positivePart hubsOf borderOf unless refuseAt refuseFirst stretch signedFactor pOf ltaKw kept gridOf startOf judgeStart gridBy setupWith beginBy judgeBy
-anchors = record { five-first = refl; six-first = refl; seven = refl; six-kept = refl; seven-kept = refl; starts = refl; laid-out = refl }
+anchors = record { five-first = refl; six-first = refl; seven = refl; six-kept = refl; seven-kept = refl; starts = refl; intraday = refl; no-seven = refl; six-too = refl; laid-out = refl }

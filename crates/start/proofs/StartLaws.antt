@@ -21,17 +21,17 @@ use Rattle.kinds.specs.declared.Header.{Header}
 use Rattle.kinds.specs.declared.Judgement.{Judgement}
 use Rattle.kinds.specs.Answers.{ruled}
 use Rattle.kinds.specs.Limits.{bordersMost}
-use Rattle.kinds.specs.Ranges.{atℤ, borderOf}
+use Rattle.kinds.specs.Ranges.{atℤ, isIntraday, borderOf}
 use Rattle.kinds.specs.Refusals.{Judged, passed, refused, refuseFirst, noRow, unlimited, belowZero}
 use Rattle.kinds.proofs.RefusalLaws.{unless-ok, unless-refused, first-found, first-none-next}
 use Rattle.table.specs.Table.{Table, stretch}
 use Rattle.rounds.specs.Rounds.{Grid}
 use Rattle.rounds.proofs.Loops.{place-inside}
-use Rattle.margin.specs.Margin.{ltaKw, ramAt, ramsOf, startsOf}
+use Rattle.margin.specs.Margin.{ramAt, ramsOf, startsOf}
 use Rattle.states.specs.States.{spreadOf, spreadLeast, shifted, below, stateOf, statesOf}
 use Rattle.start.specs.Setup.{gridBy, beginBy, judgeBy}
-use Rattle.start.specs.Start.{Rows, rowsOf, kept, gridOf, startOf, judgeStart, tableGrid, tableStart, judgeTable, setupWith}
-use Rattle.start.specs.Filled.{rowsWith, ltas, exchangesOf, cells, Prepared, prepared, preparedOf}
+use Rattle.start.specs.Start.{Rows, rowsOf, kept, fromBy, gridOf, startOf, judgeStart, tableGrid, tableStart, judgeTable, setupWith}
+use Rattle.start.specs.Filled.{rowsWith, froms, exchangesOf, cells, Prepared, prepared, preparedOf}
 
 -- ---- a grid in one list
 -- what stands at row i and border b in a list of cells
@@ -96,7 +96,7 @@ module _ (h : Header) (borders : List (List ℤ)) (factors : List ℤ) (states :
   free b = not (someBelow (h .rows) (λ i. ltb 0 (gridOf h borders factors states .p i b)))
 
   abbrev low : ℕ → Bool
-  low i = kept states i && ltZ (atℤ starts i) (pos 0)
+  low i = kept states i && (not (isIntraday h) && ltZ (atℤ starts i) (pos 0))
 
   module _ (long : length states ≡ h .rows) where
     pub none-kept : someBelow (length states) (kept states) ≡ false → refused noRow ≡ judgeStart h borders factors states starts
@@ -173,10 +173,10 @@ unfolding gridBy setupWith
 grid-long t e = ap length e ∙ table-long (t .header .rows * t .header .borders) _
 
 -- ---- exchanges
-pub exchanges-are : (b : List (List ℤ)) (ys zs : List ℕ) → ys ≡ ltas b → zs ≡ table bordersMost (λ k. 0) → ys ++ drop (length b) zs ≡ exchangesOf b
-exchanges-are b ys zs e u =
+pub exchanges-are : (intraday : Bool) (b : List (List ℤ)) (ys zs : List ℕ) → ys ≡ froms intraday b → zs ≡ table bordersMost (λ k. 0) → ys ++ drop (length b) zs ≡ exchangesOf intraday b
+exchanges-are intraday b ys zs e u =
     ap₂ (λ (y z : List ℕ). y ++ drop (length b) z) e u
-    ∙ ap (λ (n : ℕ). ltas b ++ drop n (table bordersMost (λ k. 0))) (sym (table-long (length b) (λ k. ltaKw (borderOf (getD b k [])))))
+    ∙ ap (λ (n : ℕ). froms intraday b ++ drop n (table bordersMost (λ k. 0))) (sym (table-long (length b) (λ k. fromBy intraday (borderOf (getD b k [])))))
 
 -- ---- what is known of the rows of a table
 pub record RowsIn (t : Table) (m : Rows) : Type 0 where

@@ -1,4 +1,5 @@
 -- What the functions of src/ ask and leave, on the lists that they fill in.
+use mathlib.Core.Bool.{Bool}
 use mathlib.Core.List.{List, []}
 use Prim.Native.Nat.{ℕ, _*_, _/_, _%_}
 use lib.IntN.{ℤ}
@@ -11,25 +12,25 @@ use Rattle.kinds.specs.Ranges.{borderOf}
 use Rattle.kinds.specs.Refusals.{Judged}
 use Rattle.table.specs.Table.{Table}
 use Rattle.rounds.specs.Rounds.{Grid}
-use Rattle.margin.specs.Margin.{ltaKw, startsOf}
-use Rattle.start.specs.Start.{Rows, rowsOf, judgeTable}
+use Rattle.margin.specs.Margin.{startsOf}
+use Rattle.start.specs.Start.{Rows, rowsOf, fromBy, judgeTable}
 
 abbrev pub rowsWith : (rams : List ℤ) → (states : List ℕ) → Rows
 rowsWith rams states = record { rams = rams; states = states }
 
--- each border's LTA, kW
-abbrev pub ltas : (b : List (List ℤ)) → List ℕ
-ltas b = table (length b) (λ k. ltaKw (borderOf (getD b k [])))
+-- where each border starts, kW
+abbrev pub froms : (intraday : Bool) → (b : List (List ℤ)) → List ℕ
+froms intraday b = table (length b) (λ k. fromBy intraday (borderOf (getD b k [])))
 
 -- .. at the front of an array for the most borders, and 0 beyond them
-abbrev pub exchangesOf : (b : List (List ℤ)) → List ℕ
-exchangesOf b = over (ltas b) (table bordersMost (λ k. 0))
+abbrev pub exchangesOf : (intraday : Bool) → (b : List (List ℤ)) → List ℕ
+exchangesOf intraday b = over (froms intraday b) (table bordersMost (λ k. 0))
 
 -- a grid's factors in one list, row after row and, for each row, border after border
 abbrev pub cells : Grid → List ℕ
 cells g = table (g .rows * g .borders) (λ k. g .p (k / g .borders) (k % g .borders))
 
--- what preparing leaves: the judgement, the rows, and RAM - S of each
+-- what preparing leaves: the judgement, the rows, and where the margin of each starts
 pub record Prepared : Type 0 where
   pub judged : Judged (List ℕ)
   pub rows : Rows

@@ -1,6 +1,6 @@
 -- What the rounds start from (01, "Extraction"), and when they do not start (refusals 5, 6, 7): the setup of a table.
 -- Definitions ask for the parts that they use, by row or by border, so that a function of src/ that is lent these parts cites them as they are.
-use mathlib.Core.Bool.{Bool, true}
+use mathlib.Core.Bool.{Bool, true, cond, not}
 use mathlib.Core.List.{List, []}
 use Prim.Native.Nat.{ℕ}
 use lib.Dec.{eqb}
@@ -8,7 +8,8 @@ use lib.IntN.{ℤ}
 use lib.ListN.{getD}
 use Rattle.numbers.specs.Below.{at}
 use Rattle.kinds.specs.declared.Header.{Header}
-use Rattle.kinds.specs.Ranges.{atℤ, borderOf}
+use Rattle.kinds.specs.declared.Border.{Border}
+use Rattle.kinds.specs.Ranges.{atℤ, isIntraday, borderOf}
 use Rattle.kinds.specs.Refusals.{Judged}
 use Rattle.table.specs.Table.{Table, stretch}
 use Rattle.rounds.specs.Rounds.{Grid, State}
@@ -32,7 +33,11 @@ kept states i = eqb (at states i) 0
 abbrev pub every : (b : ℕ) → Bool
 every b = true
 
--- a row's margin starts at RAM - S, one below 0 is refused, and each border starts at its LTA
+-- where a border starts, kW: at its LTA, or in the intraday profile at 0 (02, E12)
+abbrev pub fromBy : (intraday : Bool) → Border → ℕ
+fromBy intraday border = cond intraday 0 (ltaKw border)
+
+-- each row starts with its margin, and each border as the profile says; a margin below 0 is refused, but in the intraday profile it counts as 0
 unfoldable pub setupWith : (takes marked : ℕ → Bool) → Header → (borders : List (List ℤ)) → (factors starts : List ℤ) → Setup
 setupWith takes marked h borders factors starts =
     record {
@@ -42,8 +47,8 @@ setupWith takes marked h borders factors starts =
       marked = marked;
       p = λ i b. pOf (stretch (h .zones) factors i) (borderOf (getD borders b []));
       margin = atℤ starts;
-      strict = true;
-      from = λ b. ltaKw (borderOf (getD borders b []));
+      strict = not (isIntraday h);
+      from = λ b. fromBy (isIntraday h) (borderOf (getD borders b []));
     }
 
 -- the grid of factors p, which asks for no margins; a row that takes no part has p = 0 at every border

@@ -10,13 +10,13 @@ ghost use Rattle.numbers.specs.Ints.{positivePart};
 ghost use Rattle.numbers.specs.Below.{table, firstFrom, someBelow};
 ghost use Rattle.numbers.specs.First.{found};
 ghost use Rattle.kinds.specs.Answers.{ruled};
-ghost use Rattle.kinds.specs.Ranges.{atℤ, borderFits, borderOf};
+ghost use Rattle.kinds.specs.Ranges.{atℤ, isIntraday, borderFits, borderOf};
 ghost use Rattle.table.specs.Table.{lent};
 ghost use Rattle.table.specs.Good.{Good};
 ghost use Rattle.margin.specs.Bounds.{FactorsBound, TableFactorsBound, BordersBound};
-ghost use Rattle.margin.specs.Margin.{pOf, ltaKw, startsOf};
-ghost use Rattle.start.specs.Start.{rowsOf, kept, gridOf, startOf, judgeStart};
-ghost use Rattle.start.specs.Filled.{rowsWith, ltas, exchangesOf, cells, prepared, preparedOf};
+ghost use Rattle.margin.specs.Margin.{pOf, startsOf};
+ghost use Rattle.start.specs.Start.{rowsOf, kept, fromBy, gridOf, startOf, judgeStart};
+ghost use Rattle.start.specs.Filled.{rowsWith, froms, exchangesOf, cells, prepared, preparedOf};
 use kinds::BorderRecord;
 use kinds::Header;
 use kinds::Judgement;
@@ -24,10 +24,11 @@ use kinds::Refusal;
 use kinds::RowRecord;
 use numbers::First;
 
-// RAM, RAM - S and state of each row.
+// RAM of each row, where its margin starts, and its state.
 fn fill_rows(
     h: Header,
     z: &[i64],
+    t: &[i64],
     b: &[BorderRecord],
     c: &[RowRecord],
     f: &[i64],
@@ -35,12 +36,12 @@ fn fill_rows(
     starts: &mut [i64],
     states: &mut [u64],
 )
-    requires { ⌜ Good (lent h (now z) (now b) (now c) (now f)) ⌝ }
+    requires { ⌜ Good (lent h (now z) (now t) (now b) (now c) (now f)) ⌝ }
     requires { ⌜ (length (now rams) ≡ h .rows) × (length (now starts) ≡ h .rows) ⌝ }
     requires { ⌜ length (now states) ≡ h .rows ⌝ }
-    ensures { λ _. ⌜ (rowsWith (now (rams .exit)) (now (states .exit)) ≡ rowsOf (lent h (now (z .entry)) (now (b .entry)) (now (c .entry)) (now (f .entry)))) × (now (starts .exit) ≡ startsOf (lent h (now (z .entry)) (now (b .entry)) (now (c .entry)) (now (f .entry)))) ⌝ }
+    ensures { λ _. ⌜ (rowsWith (now (rams .exit)) (now (states .exit)) ≡ rowsOf (lent h (now (z .entry)) (now (t .entry)) (now (b .entry)) (now (c .entry)) (now (f .entry)))) × (now (starts .exit) ≡ startsOf (lent h (now (z .entry)) (now (t .entry)) (now (b .entry)) (now (c .entry)) (now (f .entry)))) ⌝ }
 {
-    margin::fill_rams(h, z, b, c, f, rams, starts);
+    margin::fill_rams(h, z, t, b, c, f, rams, starts);
     states::fill_states(h, f, rams, states);
 }
 
@@ -122,22 +123,22 @@ fn first_unlimited(h: Header, b: &[BorderRecord], f: &[i64], states: &[u64]) -> 
     First::Nothing
 }
 
-// 7: the first row that takes part and starts below 0.
-fn first_below(states: &[u64], starts: &[i64]) -> First
+// 7: the first row that takes part and starts below 0, where that is refused.
+fn first_below(strict: bool, states: &[u64], starts: &[i64]) -> First
     requires { ⌜ length (now starts) ≡ length (now states) ⌝ }
-    ensures { λ r. ⌜ found r ≡ firstFrom (length (now (states .entry))) 0 (λ i. kept (now (states .entry)) i && ltZ (atℤ (now (starts .entry)) i) (pos 0)) ⌝ }
+    ensures { λ r. ⌜ found r ≡ firstFrom (length (now (states .entry))) 0 (λ i. kept (now (states .entry)) i && (strict && ltZ (atℤ (now (starts .entry)) i) (pos 0))) ⌝ }
 {
     for i in 0..states.len() {
         let state = states[i];
         let start = starts[i];
-        if (state == 0) & (start < 0) {
+        if (state == 0) & (strict & (start < 0)) {
             return First::At(i);
         }
     }
     First::Nothing
 }
 
-// 5, 6, 7, in that order.
+// 5, 6, 7, in that order; 7 is not given in the intraday profile.
 fn judge_start(
     h: Header,
     b: &[BorderRecord],
@@ -157,7 +158,7 @@ fn judge_start(
     if let First::At(b) = first_unlimited(h, b, f, states) {
         return Judgement::Refused(Refusal::unlimited(b));
     }
-    if let First::At(i) = first_below(states, starts) {
+    if let First::At(i) = first_below(!h.is_intraday(), states, starts) {
         return Judgement::Refused(Refusal::below_zero(i));
     }
     Judgement::Passed
@@ -186,10 +187,11 @@ fn fill_margins(states: &[u64], starts: &[i64], margins: &mut [u64])
     }
 }
 
-// RAM, RAM - S and state of each row, and whether the rounds may start.
+// RAM of each row, where its margin starts, and its state, and whether the rounds may start.
 pub fn prepare(
     h: Header,
     z: &[i64],
+    t: &[i64],
     b: &[BorderRecord],
     c: &[RowRecord],
     f: &[i64],
@@ -197,12 +199,12 @@ pub fn prepare(
     starts: &mut [i64],
     states: &mut [u64],
 ) -> Judgement
-    requires { ⌜ Good (lent h (now z) (now b) (now c) (now f)) ⌝ }
+    requires { ⌜ Good (lent h (now z) (now t) (now b) (now c) (now f)) ⌝ }
     requires { ⌜ (length (now rams) ≡ h .rows) × (length (now starts) ≡ h .rows) ⌝ }
     requires { ⌜ length (now states) ≡ h .rows ⌝ }
-    ensures { λ r. ⌜ prepared r (now (rams .exit)) (now (starts .exit)) (now (states .exit)) ≡ preparedOf (lent h (now (z .entry)) (now (b .entry)) (now (c .entry)) (now (f .entry))) ⌝ }
+    ensures { λ r. ⌜ prepared r (now (rams .exit)) (now (starts .exit)) (now (states .exit)) ≡ preparedOf (lent h (now (z .entry)) (now (t .entry)) (now (b .entry)) (now (c .entry)) (now (f .entry))) ⌝ }
 {
-    fill_rows(h, z, b, c, f, rams, starts, states);
+    fill_rows(h, z, t, b, c, f, rams, starts, states);
     judge_start(h, b, f, states, starts)
 }
 
@@ -227,32 +229,36 @@ pub fn lay_out(
     fill_margins(states, starts, margins);
 }
 
-// The LTA of a judged border, in kW.
-fn lta_of(zones: usize, raw: BorderRecord) -> u64
+// Where a judged border starts, in kW: at its LTA, or at 0 in the intraday profile.
+fn from_of(intraday: bool, zones: usize, raw: BorderRecord) -> u64
     requires { ⌜ borderFits zones raw ≡ true ⌝ }
-    ensures { λ r. ⌜ r ≡ ltaKw (borderOf raw) ⌝ }
+    ensures { λ r. ⌜ r ≡ fromBy intraday (borderOf raw) ⌝ }
 {
+    if intraday {
+        return 0;
+    }
     margin::lta_kw(kinds::Border::judged(zones, raw))
 }
 
-// The LTA of each border, in kW.
-fn fill_ltas(zones: usize, b: &[BorderRecord], x: &mut [u64])
+// Where each border starts, in kW.
+fn fill_froms(intraday: bool, zones: usize, b: &[BorderRecord], x: &mut [u64])
     requires { ⌜ BordersBound zones (now b) ⌝ }
     requires { ⌜ length (now x) ≡ length (now b) ⌝ }
-    ensures { λ _. ⌜ now (x .exit) ≡ ltas (now (b .entry)) ⌝ }
+    ensures { λ _. ⌜ now (x .exit) ≡ froms intraday (now (b .entry)) ⌝ }
 {
     for i in 0..b.len() {
-        x[i] = lta_of(zones, b[i]);
+        x[i] = from_of(intraday, zones, b[i]);
     }
 }
 
 // The exchanges that the rounds start from, and 0 beyond the borders.
-pub fn exchanges(zones: usize, b: &[BorderRecord]) -> [u64; Header::BORDERS_MOST]
-    requires { ⌜ BordersBound zones (now b) ⌝ }
-    ensures { λ r. ⌜ r ≡ exchangesOf (now (b .entry)) ⌝ }
+pub fn exchanges(h: Header, b: &[BorderRecord]) -> [u64; Header::BORDERS_MOST]
+    requires { ⌜ BordersBound (h .zones) (now b) ⌝ }
+    ensures { λ r. ⌜ r ≡ exchangesOf (isIntraday h) (now (b .entry)) ⌝ }
 {
+    let intraday = h.is_intraday();
     let mut x: [u64; Header::BORDERS_MOST] = [0; Header::BORDERS_MOST];
     let borders = b.len();
-    fill_ltas(zones, b, &mut x[..borders]);
+    fill_froms(intraday, h.zones, b, &mut x[..borders]);
     x
 }

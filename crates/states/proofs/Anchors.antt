@@ -14,8 +14,9 @@ use Rattle.states.specs.States.{highest, lowest, spreadOf, shifted, belo
 abbrev rowsWith : (rows : ℕ) → (factors : List ℤ) → Table
 rowsWith rows factors =
     record {
-      header = record { zones = 2; borders = 1; rows = rows; share = minus 1 };
+      header = record { zones = 2; borders = 1; rows = rows; share = minus 1; intraday = 0 };
       nets = pos 0 ∷ pos 0 ∷ [];
+      allocated = [];
       borders = (pos 0 ∷ pos 1 ∷ pos 0 ∷ minus 1 ∷ minus 1 ∷ []) ∷ [];
       rows = table rows (λ i. pos 100000 ∷ pos 0 ∷ pos 0 ∷ pos 0 ∷ pos 0 ∷ pos 0 ∷ pos 0 ∷ []);
       factors = factors;

@@ -13,11 +13,11 @@ use lib.Seq.{length-take-le, take-all, take-at, getD-take, getD-drop}
 use borrow.Author.Tests.{not-false}
 use Rattle.numbers.specs.Below.{over}
 use Rattle.numbers.proofs.TestLaws.{and-both, both-and, all-true, true-all}
-use Rattle.kinds.specs.Ranges.{atℤ, headerFits, rowFits, factorFits}
+use Rattle.kinds.specs.Ranges.{atℤ, headerFits, allocatedItems, rowFits, factorFits}
 use Rattle.kinds.specs.Refusals.{passed}
 use Rattle.kinds.specs.declared.Header.{Header}
 use Rattle.kinds.proofs.KindLaws.{header-in}
-use Rattle.kinds.proofs.RefusalLaws.{passed-is, none-passed, then-passed, unless-ok, none-next, then-next}
+use Rattle.kinds.proofs.RefusalLaws.{passed-is, none-passed, then-passed, unless-passed, unless-ok, none-next, then-next}
 use Rattle.table.specs.Table.{Table, lent, stretch, factorsAt, twice, notTwice, rowGood, front, inRange, judgeShape, judgeRecords, judgeLent}
 use Rattle.table.specs.Good.{Exact, Good}
 use Rattle.table.proofs.RoomLaws.{Enough, room-enough}
@@ -63,7 +63,9 @@ pub records-good : (u t : Table) → Exact u → judgeRecords u ≡ passed t →
 records-good u t exact e =
     let w = then-passed (inRange u) notTwice t e in
     let z = none-passed _ _ _ _ (w .it) (w .first) in
-    let b = none-passed _ _ _ _ (w .it) (z .1) in
+    let a = none-passed _ _ _ _ (w .it) (z .1) in
+    let s = unless-passed (w .it) _ _ _ (a .1) in
+    let b = none-passed _ _ _ _ (w .it) (s .1) in
     let c = none-passed _ _ _ _ (w .it) (b .1) in
     let i : u ≡ w .it = passed-is _ _ (c .1) in
     let f = none-passed _ _ _ _ t (w .second) in
@@ -73,6 +75,8 @@ records-good u t exact e =
       record {
         exact = exact;
         nets-fit = λ i l. not-false _ (z .0 i l);
+        allocated-fit = λ i l. not-false _ (a .0 i l);
+        in-balance = s .0;
         borders-fit = λ i l. not-false _ (b .0 i l);
         rows-fit = λ i l. row-good (getD (u .rows) i []) (factorsAt u i) (rows i l) .0;
         factors-fit = flat-fit (u .header .zones) (u .header .rows) (u .factors) (exact .factors-long) (omega (arith, h .zones-least)) (λ i l. row-good (getD (u .rows) i []) (factorsAt u i) (rows i l) .1);
@@ -94,8 +98,8 @@ pub judged-good : (given t : Table) → judgeLent given ≡ passed t → Good t
 judged-good given t e = let j = judged given t e in subst Good (sym (j .0)) (j .1)
 
 -- ---- a good table is judged to be itself
-lent-is : (h : Header) (z z′ : List ℤ) (b b′ c c′ : List (List ℤ)) (f f′ : List ℤ) → z ≡ z′ → b ≡ b′ → c ≡ c′ → f ≡ f′ → lent h z b c f ≡ lent h z′ b′ c′ f′
-lent-is h z z′ b b′ c c′ f f′ p q r s = cc
+lent-is : (h : Header) (z z′ t t′ : List ℤ) (b b′ c c′ : List (List ℤ)) (f f′ : List ℤ) → z ≡ z′ → t ≡ t′ → b ≡ b′ → c ≡ c′ → f ≡ f′ → lent h z t b c f ≡ lent h z′ t′ b′ c′ f′
+lent-is h z z′ t t′ b b′ c c′ f f′ p o q r s = cc
 
 over-long : {A : Type 0} (new old : List A) (n : ℕ) → length new ≡ n → n ≤ length (over new old)
 over-long new old n e = omega (arith, length-append new (drop (length new) old))
@@ -103,8 +107,9 @@ over-long new old n e = omega (arith, length-append new (drop (length new) old))
 module _ (t : Table) (g : Good t) where
   front-same : front t ≡ t
   front-same =
-      lent-is (t .header) _ _ _ _ _ _ _ _
+      lent-is (t .header) _ _ _ _ _ _ _ _ _ _
       (take-all (t .header .zones) (t .nets) (omega (arith, g .exact .nets-long)))
+      (take-all (allocatedItems (t .header)) (t .allocated) (omega (arith, g .exact .allocated-long)))
       (take-all (t .header .borders) (t .borders) (omega (arith, g .exact .borders-long)))
       (take-all (t .header .rows) (t .rows) (omega (arith, g .exact .rows-long)))
       (take-all (t .header .rows * t .header .zones) (t .factors) (omega (arith, g .exact .factors-long)))
@@ -113,18 +118,20 @@ module _ (t : Table) (g : Good t) where
   in-range =
       let h = header-in (t .header) (g .exact .header) in
       none-next _ _ _ _ (λ i l. ap not (g .nets-fit i l))
+      ∙ none-next _ _ _ _ (λ i l. ap not (g .allocated-fit i l))
+      ∙ unless-ok _ _ (g .in-balance)
       ∙ none-next _ _ _ _ (λ i l. ap not (g .borders-fit i l))
       ∙ none-next _ _ _ _ (λ i l. ap not (good-row (getD (t .rows) i []) (factorsAt t i) (g .rows-fit i l)
       (λ z m. row-fit (t .header .zones) (t .header .rows) (t .factors) (g .exact .factors-long) (omega (arith, h .zones-least)) (g .factors-fit) i l z
       (rw (stretch-long (t .header .zones) (t .header .rows) (t .factors) (g .exact .factors-long) i l) at m))))
 
   -- .. and so are lent tables whose front it is
-  pub front-judged : (given : Table) → front given ≡ t → Enough (given .header) (length (given .nets)) (length (given .borders)) (length (given .rows)) (length (given .factors)) → judgeLent given ≡ passed t
+  pub front-judged : (given : Table) → front given ≡ t → Enough (given .header) (length (given .nets)) (length (given .allocated)) (length (given .borders)) (length (given .rows)) (length (given .factors)) → judgeLent given ≡ passed t
   unfolding judgeLent judgeShape
   front-judged given is n =
       then-next judgeRecords
       (unless-ok _ _ (subst (λ (u : Table). headerFits (u .header) ≡ true) (sym is) (g .exact .header))
-      ∙ sym (room-enough _ _ _ _ _ _ (n .zones) (n .borders) (n .rows) (n .factors))
+      ∙ sym (room-enough _ _ _ _ _ _ _ (n .zones) (n .allocated) (n .borders) (n .rows) (n .factors))
       ∙ ap passed is)
       ∙ then-next notTwice in-range
       ∙ none-next _ _ _ _ (g .once)
@@ -134,22 +141,25 @@ module _ (t : Table) (g : Good t) where
       front-judged t front-same
       (record {
         zones = omega (arith, g .exact .nets-long);
+        allocated = omega (arith, g .exact .allocated-long);
         borders = omega (arith, g .exact .borders-long);
         rows = omega (arith, g .exact .rows-long);
         factors = omega (arith, g .exact .factors-long);
       })
 
   -- .. among them what is written over lent buffers
-  pub over-judged : (z : List ℤ) (b c : List (List ℤ)) (f : List ℤ) → judgeLent (lent (t .header) (over (t .nets) z) (over (t .borders) b) (over (t .rows) c) (over (t .factors) f)) ≡ passed t
-  over-judged z b c f =
-      front-judged (lent (t .header) (over (t .nets) z) (over (t .borders) b) (over (t .rows) c) (over (t .factors) f))
-      (lent-is (t .header) _ _ _ _ _ _ _ _
+  pub over-judged : (z a : List ℤ) (b c : List (List ℤ)) (f : List ℤ) → judgeLent (lent (t .header) (over (t .nets) z) (over (t .allocated) a) (over (t .borders) b) (over (t .rows) c) (over (t .factors) f)) ≡ passed t
+  over-judged z a b c f =
+      front-judged (lent (t .header) (over (t .nets) z) (over (t .allocated) a) (over (t .borders) b) (over (t .rows) c) (over (t .factors) f))
+      (lent-is (t .header) _ _ _ _ _ _ _ _ _ _
       (take-at (t .nets) _ _ (g .exact .nets-long))
+      (take-at (t .allocated) _ _ (g .exact .allocated-long))
       (take-at (t .borders) _ _ (g .exact .borders-long))
       (take-at (t .rows) _ _ (g .exact .rows-long))
       (take-at (t .factors) _ _ (g .exact .factors-long)))
       (record {
         zones = over-long (t .nets) z _ (g .exact .nets-long);
+        allocated = over-long (t .allocated) a _ (g .exact .allocated-long);
         borders = over-long (t .borders) b _ (g .exact .borders-long);
         rows = over-long (t .rows) c _ (g .exact .rows-long);
         factors = over-long (t .factors) f _ (g .exact .factors-long);

@@ -3,25 +3,34 @@ use mathlib.Core.Path.{_≡_, refl, sym, ap, subst, _∙_}
 use mathlib.Core.Bool.{Bool, true, false, not}
 use mathlib.Core.List.{[]}
 use mathlib.Core.Option.{none, some}
-use Prim.Native.Nat.{ℕ, _+_, _*_}
+use Prim.Native.Nat.{ℕ, _+_, _*_, _≤_}
+use native.Mathlib.Omega.{arith}
+use borrow.Author.Tests.{not-false}
 use lib.ListN.{length, getD}
 use lib.Seq.{length-take-le}
 use Rattle.numbers.specs.Below.{firstFrom}
+use Rattle.numbers.specs.Ints.{AllWithin}
+use Rattle.numbers.proofs.BelowLaws.{first-none}
+use Rattle.kinds.specs.Limits.{zonesMost, netMost}
 use Rattle.kinds.specs.declared.Header.{Header}
 use Rattle.kinds.specs.declared.Judgement.{Judgement}
 use Rattle.kinds.specs.declared.Judgement.the-variants.{Passed, Refused}
 use Rattle.kinds.specs.declared.Refusal.{Refusal}
 use Rattle.kinds.specs.Answers.{ruled}
-use Rattle.kinds.specs.Ranges.{atℤ, headerFits, zoneFits, borderFits}
-use Rattle.kinds.specs.Refusals.{Judged, passed, refused, then, outOfRange, givenTwice}
+use Rattle.kinds.specs.Ranges.{atℤ, headerFits, allocatedItems, zoneFits, borderFits}
+use Rattle.kinds.specs.Refusals.{Judged, passed, refused, then, refuseFirst, outOfRange, givenTwice}
+use Rattle.kinds.proofs.KindLaws.{header-in, zone-in, allocated-most}
 use Rattle.kinds.proofs.RefusalLaws.{passed-is, then-next, then-refused, unless-passed, unless-ok, unless-refused, first-found, first-none-next}
-use Rattle.table.specs.Table.{Table, factorsAt, zoneLineNo, borderLineNo, rowLineNo, rowGood, headerLineNo, twice, inRange, notTwice, tableRoom, front, judgeShape, judgeRecords, judgeLent}
+use Rattle.table.specs.Table.{Table, factorsAt, zoneLineNo, allocatedLineNo, lastAllocatedLineNo, borderLineNo, rowLineNo, balanced, rowGood, headerLineNo, twice, inRange, notTwice, tableRoom, front, judgeShape, judgeRecords, judgeLent}
 use Rattle.table.specs.Good.{Exact}
 use Rattle.table.proofs.RoomLaws.{room-passed, room-of}
 
 module _ (t : Table) (exact : Exact t) where
   abbrev zoneOut : ℕ → Bool
   zoneOut i = not (zoneFits (atℤ (t .nets) i))
+
+  abbrev allocatedOut : ℕ → Bool
+  allocatedOut i = not (zoneFits (atℤ (t .allocated) i))
 
   abbrev borderOut : ℕ → Bool
   borderOut i = not (borderFits (t .header .zones) (getD (t .borders) i []))
@@ -41,35 +50,65 @@ module _ (t : Table) (exact : Exact t) where
     past-zones : firstFrom (t .header .zones) 0 zoneOut ≡ none
     past-zones = sym (subst (λ (n : ℕ). none ≡ firstFrom n 0 zoneOut) (exact .nets-long) z)
 
-    pub border-refused : (i : ℕ) → some i ≡ firstFrom (length (t .borders)) 0 borderOut → refused (outOfRange (borderLineNo (t .header) + i)) ≡ judged
-    border-refused i e =
-        let e′ = subst (λ (n : ℕ). some i ≡ firstFrom n 0 borderOut) (exact .borders-long) e in
+    pub allocated-refused : (i : ℕ) → some i ≡ firstFrom (length (t .allocated)) 0 allocatedOut → refused (outOfRange (allocatedLineNo (t .header) + i)) ≡ judged
+    allocated-refused i e =
+        let e′ = subst (λ (n : ℕ). some i ≡ firstFrom n 0 allocatedOut) (exact .allocated-long) e in
         sym (then-refused notTwice (first-none-next _ _ _ _ past-zones ∙ first-found _ _ _ _ (sym e′)))
 
-    module _ (b : none ≡ firstFrom (length (t .borders)) 0 borderOut) where
-      past-borders : firstFrom (t .header .borders) 0 borderOut ≡ none
-      past-borders = sym (subst (λ (n : ℕ). none ≡ firstFrom n 0 borderOut) (exact .borders-long) b)
+    module _ (a : none ≡ firstFrom (length (t .allocated)) 0 allocatedOut) where
+      past-allocated : firstFrom (allocatedItems (t .header)) 0 allocatedOut ≡ none
+      past-allocated = sym (subst (λ (n : ℕ). none ≡ firstFrom n 0 allocatedOut) (exact .allocated-long) a)
 
-      pub row-refused : (i : ℕ) → some i ≡ firstFrom (length (t .rows)) 0 rowOut → refused (outOfRange (rowLineNo (t .header) + i)) ≡ judged
-      row-refused i e =
-          let e′ = subst (λ (n : ℕ). some i ≡ firstFrom n 0 rowOut) (exact .rows-long) e in
-          sym (then-refused notTwice (first-none-next _ _ _ _ past-zones ∙ first-none-next _ _ _ _ past-borders ∙ first-found _ _ _ _ (sym e′)))
+      pub balance-refused : balanced (t .allocated) ≡ false → refused (outOfRange (lastAllocatedLineNo (t .header))) ≡ judged
+      balance-refused e = sym (then-refused notTwice (first-none-next _ _ _ _ past-zones ∙ first-none-next _ _ _ _ past-allocated ∙ unless-refused _ _ e))
 
-      module _ (c : none ≡ firstFrom (length (t .rows)) 0 rowOut) where
-        past-rows : inRange t ≡ passed t
-        past-rows =
-            first-none-next _ _ _ _ past-zones ∙ first-none-next _ _ _ _ past-borders
-            ∙ first-none-next _ _ _ _ (sym (subst (λ (n : ℕ). none ≡ firstFrom n 0 rowOut) (exact .rows-long) c))
+      module _ (even : balanced (t .allocated) ≡ true) where
+        -- what is left where the positions are good
+        abbrev left : Judged Table
+        left =
+            refuseFirst (t .header .borders) borderOut (λ i. outOfRange (borderLineNo (t .header) + i))
+            (refuseFirst (t .header .rows) rowOut (λ i. outOfRange (rowLineNo (t .header) + i))
+            (passed t))
 
-        pub twice-refused : (i : ℕ) → some i ≡ firstFrom (length (t .borders)) 0 (twice (t .borders)) → refused (givenTwice i) ≡ judged
-        twice-refused i e =
-            let e′ = subst (λ (n : ℕ). some i ≡ firstFrom n 0 (twice (t .borders))) (exact .borders-long) e in
-            sym (then-next notTwice past-rows ∙ first-found _ _ _ _ (sym e′))
+        past-positions : inRange t ≡ left
+        past-positions = first-none-next _ _ _ _ past-zones ∙ first-none-next _ _ _ _ past-allocated ∙ unless-ok _ _ even
 
-        pub records-pass : none ≡ firstFrom (length (t .borders)) 0 (twice (t .borders)) → passed t ≡ judged
-        records-pass e =
-            let e′ = subst (λ (n : ℕ). none ≡ firstFrom n 0 (twice (t .borders))) (exact .borders-long) e in
-            sym (then-next notTwice past-rows ∙ first-none-next _ _ _ _ (sym e′))
+        pub border-refused : (i : ℕ) → some i ≡ firstFrom (length (t .borders)) 0 borderOut → refused (outOfRange (borderLineNo (t .header) + i)) ≡ judged
+        border-refused i e =
+            let e′ = subst (λ (n : ℕ). some i ≡ firstFrom n 0 borderOut) (exact .borders-long) e in
+            sym (then-refused notTwice (past-positions ∙ first-found _ _ _ _ (sym e′)))
+
+        module _ (b : none ≡ firstFrom (length (t .borders)) 0 borderOut) where
+          past-borders : firstFrom (t .header .borders) 0 borderOut ≡ none
+          past-borders = sym (subst (λ (n : ℕ). none ≡ firstFrom n 0 borderOut) (exact .borders-long) b)
+
+          pub row-refused : (i : ℕ) → some i ≡ firstFrom (length (t .rows)) 0 rowOut → refused (outOfRange (rowLineNo (t .header) + i)) ≡ judged
+          row-refused i e =
+              let e′ = subst (λ (n : ℕ). some i ≡ firstFrom n 0 rowOut) (exact .rows-long) e in
+              sym (then-refused notTwice (past-positions ∙ first-none-next _ _ _ _ past-borders ∙ first-found _ _ _ _ (sym e′)))
+
+          module _ (c : none ≡ firstFrom (length (t .rows)) 0 rowOut) where
+            past-rows : inRange t ≡ passed t
+            past-rows =
+                past-positions ∙ first-none-next _ _ _ _ past-borders
+                ∙ first-none-next _ _ _ _ (sym (subst (λ (n : ℕ). none ≡ firstFrom n 0 rowOut) (exact .rows-long) c))
+
+            pub twice-refused : (i : ℕ) → some i ≡ firstFrom (length (t .borders)) 0 (twice (t .borders)) → refused (givenTwice i) ≡ judged
+            twice-refused i e =
+                let e′ = subst (λ (n : ℕ). some i ≡ firstFrom n 0 (twice (t .borders))) (exact .borders-long) e in
+                sym (then-next notTwice past-rows ∙ first-found _ _ _ _ (sym e′))
+
+            pub records-pass : none ≡ firstFrom (length (t .borders)) 0 (twice (t .borders)) → passed t ≡ judged
+            records-pass e =
+                let e′ = subst (λ (n : ℕ). none ≡ firstFrom n 0 (twice (t .borders))) (exact .borders-long) e in
+                sym (then-next notTwice past-rows ∙ first-none-next _ _ _ _ (sym e′))
+
+-- T positions of which none is out of range, as their sum is asked for
+pub allocated-within : (t : Table) → Exact t → none ≡ firstFrom (length (t .allocated)) 0 (λ i. not (zoneFits (atℤ (t .allocated) i))) → (length (t .allocated) ≤ zonesMost) × AllWithin netMost (t .allocated)
+allocated-within t exact e = (
+  omega (arith, exact .allocated-long, allocated-most (t .header), header-in (t .header) (exact .header) .zones-most),
+  record { at = λ i l. zone-in _ (not-false _ (first-none _ _ (sym e) i l)) },
+)
 
 -- the factors of all rows, as many as the row records ask for
 pub exact-factors : (t : Table) → Exact t → length (t .factors) ≡ length (t .rows) * t .header .zones
@@ -91,19 +130,20 @@ module _ (given : Table) where
 
   pub shape-ruled : headerFits h ≡ true → (r : Judgement) → ruled r h ≡ tableRoom h given (passed h) → ruled r (front given) ≡ judgeShape given
   unfolding judgeShape
-  shape-ruled fits r said = sym (unless-ok _ _ fits ∙ sym (room-of h _ _ _ _ h r said (passed (front given))) ∙ ruled-then r h (front given))
+  shape-ruled fits r said = sym (unless-ok _ _ fits ∙ sym (room-of h _ _ _ _ _ h r said (passed (front given))) ∙ ruled-then r h (front given))
 
   -- what passes is the front, as long as its header says
   pub shape-front : (t : Table) → judgeShape given ≡ passed t → (t ≡ front given) × Exact (front given)
   unfolding judgeShape
   shape-front t e =
       let a = unless-passed t _ _ _ e in
-      let n = room-passed h _ _ _ _ _ t (a .1) in
+      let n = room-passed h _ _ _ _ _ _ t (a .1) in
       let enough = n .0 in (
         sym (passed-is _ _ (n .1)),
         record {
           header = a .0;
           nets-long = length-take-le _ _ (enough .zones);
+          allocated-long = length-take-le _ _ (enough .allocated);
           borders-long = length-take-le _ _ (enough .borders);
           rows-long = length-take-le _ _ (enough .rows);
           factors-long = length-take-le _ _ (enough .factors);

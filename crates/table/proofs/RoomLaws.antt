@@ -7,7 +7,7 @@ use native.Mathlib.Nat.{mul-le-mul}
 use Rattle.kinds.specs.declared.Header.{Header}
 use Rattle.kinds.specs.declared.Judgement.{Judgement}
 use Rattle.kinds.specs.Limits.{zonesMost, rowsMost}
-use Rattle.kinds.specs.Ranges.{headerFits}
+use Rattle.kinds.specs.Ranges.{headerFits, allocatedItems}
 use Rattle.kinds.specs.Refusals.{Judged, passed, refused, then, need, tooShort}
 use Rattle.kinds.specs.Answers.{ruled}
 use Rattle.kinds.proofs.KindLaws.{header-in}
@@ -18,44 +18,51 @@ use Rattle.table.specs.Table.{roomFor}
 pub factors-most : (h : Header) → headerFits h ≡ true → h .rows * h .zones ≤ rowsMost * zonesMost
 factors-most h e = let k = header-in h e in mul-le-mul (k .rows-most) (k .zones-most)
 
-module _ {A : Type 0} (h : Header) (z b c f : ℕ) (next : Judged A) where
-  pub room-short-z : z < h .zones → refused (tooShort (h .zones)) ≡ roomFor h z b c f next
+module _ {A : Type 0} (h : Header) (z t b c f : ℕ) (next : Judged A) where
+  pub room-short-z : z < h .zones → refused (tooShort (h .zones)) ≡ roomFor h z t b c f next
   unfolding roomFor
   room-short-z l = sym (need-short _ _ _ l)
 
   module _ (hz : h .zones ≤ z) where
-    pub room-short-b : b < h .borders → refused (tooShort (h .borders)) ≡ roomFor h z b c f next
+    pub room-short-t : t < allocatedItems h → refused (tooShort (allocatedItems h)) ≡ roomFor h z t b c f next
     unfolding roomFor
-    room-short-b l = sym (need-enough _ _ _ hz ∙ need-short _ _ _ l)
+    room-short-t l = sym (need-enough _ _ _ hz ∙ need-short _ _ _ l)
 
-    module _ (hb : h .borders ≤ b) where
-      pub room-short-c : c < h .rows → refused (tooShort (h .rows)) ≡ roomFor h z b c f next
+    module _ (ht : allocatedItems h ≤ t) where
+      pub room-short-b : b < h .borders → refused (tooShort (h .borders)) ≡ roomFor h z t b c f next
       unfolding roomFor
-      room-short-c l = sym (need-enough _ _ _ hz ∙ need-enough _ _ _ hb ∙ need-short _ _ _ l)
+      room-short-b l = sym (need-enough _ _ _ hz ∙ need-enough _ _ _ ht ∙ need-short _ _ _ l)
 
-      module _ (hc : h .rows ≤ c) where
-        pub room-short-f : f < h .rows * h .zones → refused (tooShort (h .rows * h .zones)) ≡ roomFor h z b c f next
+      module _ (hb : h .borders ≤ b) where
+        pub room-short-c : c < h .rows → refused (tooShort (h .rows)) ≡ roomFor h z t b c f next
         unfolding roomFor
-        room-short-f l = sym (need-enough _ _ _ hz ∙ need-enough _ _ _ hb ∙ need-enough _ _ _ hc ∙ need-short _ _ _ l)
+        room-short-c l = sym (need-enough _ _ _ hz ∙ need-enough _ _ _ ht ∙ need-enough _ _ _ hb ∙ need-short _ _ _ l)
 
-        pub room-enough : h .rows * h .zones ≤ f → next ≡ roomFor h z b c f next
-        unfolding roomFor
-        room-enough l = sym (need-enough _ _ _ hz ∙ need-enough _ _ _ hb ∙ need-enough _ _ _ hc ∙ need-enough _ _ _ l)
+        module _ (hc : h .rows ≤ c) where
+          pub room-short-f : f < h .rows * h .zones → refused (tooShort (h .rows * h .zones)) ≡ roomFor h z t b c f next
+          unfolding roomFor
+          room-short-f l = sym (need-enough _ _ _ hz ∙ need-enough _ _ _ ht ∙ need-enough _ _ _ hb ∙ need-enough _ _ _ hc ∙ need-short _ _ _ l)
 
-pub record Enough (h : Header) (z b c f : ℕ) : Type 0 where
+          pub room-enough : h .rows * h .zones ≤ f → next ≡ roomFor h z t b c f next
+          unfolding roomFor
+          room-enough l = sym (need-enough _ _ _ hz ∙ need-enough _ _ _ ht ∙ need-enough _ _ _ hb ∙ need-enough _ _ _ hc ∙ need-enough _ _ _ l)
+
+pub record Enough (h : Header) (z t b c f : ℕ) : Type 0 where
   pub zones : h .zones ≤ z
+  pub allocated : allocatedItems h ≤ t
   pub borders : h .borders ≤ b
   pub rows : h .rows ≤ c
   pub factors : h .rows * h .zones ≤ f
 
-pub room-passed : {A : Type 0} (h : Header) (z b c f : ℕ) (next : Judged A) (a : A) → roomFor h z b c f next ≡ passed a → Enough h z b c f × (next ≡ passed a)
+pub room-passed : {A : Type 0} (h : Header) (z t b c f : ℕ) (next : Judged A) (a : A) → roomFor h z t b c f next ≡ passed a → Enough h z t b c f × (next ≡ passed a)
 unfolding roomFor
-room-passed h z b c f next a e =
+room-passed h z t b c f next a e =
     let p = need-passed a _ _ _ e in
-    let q = need-passed a _ _ _ (p .1) in
+    let u = need-passed a _ _ _ (p .1) in
+    let q = need-passed a _ _ _ (u .1) in
     let r = need-passed a _ _ _ (q .1) in
     let s = need-passed a _ _ _ (r .1) in
-    (record { zones = p .0; borders = q .0; rows = r .0; factors = s .0 }, s .1)
+    (record { zones = p .0; allocated = u .0; borders = q .0; rows = r .0; factors = s .0 }, s .1)
 
 -- lengths are judged alike whatever comes next
 need-then : {A B : Type 0} (n has : ℕ) (j : Judged A) (f : A → Judged B) → then (need n has j) f ≡ need n has (then j f)
@@ -66,13 +73,14 @@ need-then n has j f = go (ltb has n)
     go true = refl
     go false = refl
 
-room-then : {A B : Type 0} (h : Header) (z b c f : ℕ) (j : Judged A) (g : A → Judged B) → then (roomFor h z b c f j) g ≡ roomFor h z b c f (then j g)
+room-then : {A B : Type 0} (h : Header) (z t b c f : ℕ) (j : Judged A) (g : A → Judged B) → then (roomFor h z t b c f j) g ≡ roomFor h z t b c f (then j g)
 unfolding roomFor
-room-then h z b c f j g =
+room-then h z t b c f j g =
     need-then _ _ _ g
-    ∙ ap (need (h .zones) z) (need-then _ _ _ g ∙ ap (need (h .borders) b) (need-then _ _ _ g ∙ ap (need (h .rows) c) (need-then _ _ _ g)))
+    ∙ ap (need (h .zones) z) (need-then _ _ _ g ∙ ap (need (allocatedItems h) t)
+    (need-then _ _ _ g ∙ ap (need (h .borders) b) (need-then _ _ _ g ∙ ap (need (h .rows) c) (need-then _ _ _ g))))
 
-pub room-of : {A B : Type 0} (h : Header) (z b c f : ℕ) (x : A) (r : Judgement) → ruled r x ≡ roomFor h z b c f (passed x) → (next : Judged B)
-    → then (ruled r x) (λ y. next) ≡ roomFor h z b c f next
+pub room-of : {A B : Type 0} (h : Header) (z t b c f : ℕ) (x : A) (r : Judgement) → ruled r x ≡ roomFor h z t b c f (passed x) → (next : Judged B)
+    → then (ruled r x) (λ y. next) ≡ roomFor h z t b c f next
 unfolding then
-room-of h z b c f x r e next = ap (λ j. then j (λ y. next)) e ∙ room-then h z b c f (passed x) (λ y. next)
+room-of h z t b c f x r e next = ap (λ j. then j (λ y. next)) e ∙ room-then h z t b c f (passed x) (λ y. next)

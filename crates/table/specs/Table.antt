@@ -3,27 +3,29 @@
 use mathlib.Core.Bool.{Bool, not, _&&_}
 use mathlib.Core.List.{List, []}
 use Prim.Native.Nat.{ℕ, _+_, _*_}
-use lib.IntN.{ℤ}
+use lib.IntN.{ℤ, pos}
 use lib.ListN.{length, getD, take, drop}
 use Rattle.numbers.specs.Below.{someBelow, allBelow}
-use Rattle.numbers.specs.Ints.{sameℤ}
+use Rattle.numbers.specs.Ints.{sameℤ, sumℤ}
 use Rattle.kinds.specs.declared.Header.{Header}
 use Rattle.kinds.specs.declared.Border.{Border}
 use Rattle.kinds.specs.declared.Row.{Row}
-use Rattle.kinds.specs.Ranges.{atℤ, headerFits, zoneFits, borderFits, borderOf, rowOf, rowFits, factorFits}
+use Rattle.kinds.specs.Ranges.{atℤ, headerFits, allocatedItems, zoneFits, borderFits, borderOf, rowOf, rowFits, factorFits}
 use Rattle.kinds.specs.Refusals.{Judged, passed, then, unless, refuseFirst, need, outOfRange, givenTwice}
 
--- the header, and as many items as it says: net positions, raw border and row records, and the factors of all rows (lent tables may hold more)
+-- the header, and as many items as it says: net positions, allocated net positions (02, E12: one a zone, or none), raw border and row records, and the factors
+-- of all rows (lent tables may hold more)
 pub record Table : Type 0 where
   pub header : Header
   pub nets : List ℤ
+  pub allocated : List ℤ
   pub borders : List (List ℤ)
   pub rows : List (List ℤ)
   pub factors : List ℤ
 
 -- lent tables, as a call takes them
-abbrev pub lent : Header → (z : List ℤ) → (b c : List (List ℤ)) → (f : List ℤ) → Table
-lent h z b c f = record { header = h; nets = z; borders = b; rows = c; factors = f }
+abbrev pub lent : Header → (z t : List ℤ) → (b c : List (List ℤ)) → (f : List ℤ) → Table
+lent h z t b c f = record { header = h; nets = z; allocated = t; borders = b; rows = c; factors = f }
 
 -- row i's stretch of a table of factors starts at item i x zones
 unfoldable pub stretch : (zones : ℕ) → (factors : List ℤ) → (i : ℕ) → List ℤ
@@ -38,22 +40,33 @@ rowAt t i = rowOf (getD (t .rows) i [])
 abbrev pub factorsAt : Table → (i : ℕ) → List ℤ
 factorsAt t i = stretch (t .header .zones) (t .factors) i
 
--- the line that a record has in the text: the H line is line 1, and then come all Z, B, C lines
+-- the line that a record has in the text: the H line is line 1, and then come all Z, T (where they are there), B, C lines
 abbrev pub headerLineNo : ℕ
 headerLineNo = 1
 
 abbrev pub zoneLineNo : ℕ
 zoneLineNo = headerLineNo + 1
 
+abbrev pub allocatedLineNo : Header → ℕ
+allocatedLineNo h = zoneLineNo + h .zones
+
 abbrev pub borderLineNo : Header → ℕ
-borderLineNo h = zoneLineNo + h .zones
+borderLineNo h = allocatedLineNo h + allocatedItems h
 
 abbrev pub rowLineNo : Header → ℕ
 rowLineNo h = borderLineNo h + h .borders
 
+-- .. the last T line, where T lines are there: as many lines as H, Z and T have together
+abbrev pub lastAllocatedLineNo : Header → ℕ
+lastAllocatedLineNo h = headerLineNo + h .zones + allocatedItems h
+
 -- .. and the line after the last
 abbrev pub pastLineNo : Header → ℕ
 pastLineNo h = rowLineNo h + h .rows
+
+-- the T positions sum to zero; where there are none they do
+unfoldable pub balanced : (allocated : List ℤ) → Bool
+balanced allocated = sameℤ (sumℤ (length allocated) (atℤ allocated)) (pos 0)
 
 -- 4: border b has the same from and to, and the same hubs in their order (02, E3), as an earlier border
 abbrev pub sameEnds : (x y : List ℤ) → Bool
@@ -71,12 +84,12 @@ notTwice t = refuseFirst (t .header .borders) (twice (t .borders)) givenTwice (p
 abbrev pub rowGood : (values factors : List ℤ) → Bool
 rowGood values factors = rowFits values && allBelow (length factors) (λ z. factorFits (atℤ factors z))
 
--- 8, in the order Z, B, C, factors: a table of this header, in buffers of so many items
-unfoldable pub roomFor : {A : Type 0} → Header → (z b c f : ℕ) → Judged A → Judged A
-roomFor h z b c f next = need (h .zones) z (need (h .borders) b (need (h .rows) c (need (h .rows * h .zones) f next)))
+-- 8, in the order Z, T, B, C, factors: a table of this header, in buffers of so many items
+unfoldable pub roomFor : {A : Type 0} → Header → (z t b c f : ℕ) → Judged A → Judged A
+roomFor h z t b c f next = need (h .zones) z (need (allocatedItems h) t (need (h .borders) b (need (h .rows) c (need (h .rows * h .zones) f next))))
 
 abbrev pub tableRoom : {A : Type 0} → Header → (given : Table) → Judged A → Judged A
-tableRoom h given next = roomFor h (length (given .nets)) (length (given .borders)) (length (given .rows)) (length (given .factors)) next
+tableRoom h given next = roomFor h (length (given .nets)) (length (given .allocated)) (length (given .borders)) (length (given .rows)) (length (given .factors)) next
 
 -- the items that a header asks for, of lent tables that may hold more
 abbrev pub front : (given : Table) → Table
@@ -85,19 +98,22 @@ front given =
     record {
       header = h;
       nets = take (h .zones) (given .nets);
+      allocated = take (allocatedItems h) (given .allocated);
       borders = take (h .borders) (given .borders);
       rows = take (h .rows) (given .rows);
       factors = take (h .rows * h .zones) (given .factors);
     }
 
--- each record in range, with the line it would have
+-- each record in range, with the line it would have; the sum of T is judged at the last T line, after that line's own range
 abbrev pub inRange : Table → Judged Table
 inRange t =
     let h = t .header in
     refuseFirst (h .zones) (λ i. not (zoneFits (atℤ (t .nets) i))) (λ i. outOfRange (zoneLineNo + i))
+    (refuseFirst (allocatedItems h) (λ i. not (zoneFits (atℤ (t .allocated) i))) (λ i. outOfRange (allocatedLineNo h + i))
+    (unless (balanced (t .allocated)) (outOfRange (lastAllocatedLineNo h))
     (refuseFirst (h .borders) (λ i. not (borderFits (h .zones) (getD (t .borders) i []))) (λ i. outOfRange (borderLineNo h + i))
     (refuseFirst (h .rows) (λ i. not (rowGood (getD (t .rows) i []) (factorsAt t i))) (λ i. outOfRange (rowLineNo h + i))
-    (passed t)))
+    (passed t)))))
 
 -- a call on lent tables judges the header (3, line 1) and then lengths (8); what passes is the front of them
 unfoldable pub judgeShape : (given : Table) → Judged Table

@@ -5,7 +5,7 @@ use Prim.Native.Nat.{ℕ, _<_}
 use native.Mathlib.Nat.{zero-add}
 use lib.IntN.{ℤ, pos}
 use lib.ListN.{length, getD}
-use Rattle.kinds.specs.Ranges.{atℤ}
+use Rattle.kinds.specs.Ranges.{atℤ, allocatedItems}
 use Rattle.text.specs.Written.{linesText}
 use Rattle.block.proofs.BlockLaws.{blockText, allFit}
 use Rattle.block.proofs.RunLaws.{lines-block}
@@ -14,7 +14,7 @@ use Rattle.lines.specs.Lines.{RowLine}
 use Rattle.runs.specs.Rows.{valuesOf, factorsOf}
 use Rattle.lines.proofs.RowTrip.{RowHeldAt}
 use Rattle.runs.proofs.RowLaws.{emptyRow, values-at, stretch-of}
-use Rattle.layout.specs.Layout.{headerText, zoneText, borderText, rowText}
+use Rattle.layout.specs.Layout.{headerText, zoneText, allocatedText, borderText, rowText}
 use Rattle.writing.specs.Writing.{tableText}
 
 -- a C line by what reading holds of it
@@ -26,6 +26,7 @@ module _ (t : Table) (lines : List RowLine) where
   -- the C lines hold the rows of the table
   pub record Lined : Type 0 where
     pub nets-long : length (t .nets) ≡ t .header .zones
+    pub allocated-long : length (t .allocated) ≡ allocatedItems (t .header)
     pub borders-long : length (t .borders) ≡ t .header .borders
     pub lines-long : length lines ≡ t .header .rows
     pub values-are : valuesOf lines ≡ t .rows
@@ -33,11 +34,14 @@ module _ (t : Table) (lines : List RowLine) where
     pub held : allFit (RowHeldAt (t .header .zones)) 0 lines
 
   abbrev pub blocks : List ℕ
-  blocks = headerText (t .header) ++ (blockText zoneText 0 (t .nets) ++ (blockText borderText 0 (t .borders) ++ blockText rowLineOf 0 lines))
+  blocks = headerText (t .header) ++ (blockText zoneText 0 (t .nets) ++ (blockText allocatedText 0 (t .allocated) ++ (blockText borderText 0 (t .borders) ++ blockText rowLineOf 0 lines)))
 
   module _ (l : Lined) where
     zones-lines : linesText (t .header .zones) 0 (λ i. zoneText i (atℤ (t .nets) i)) ≡ blockText zoneText 0 (t .nets)
     zones-lines = rw (← l .nets-long) (lines-block zoneText (pos 0) (t .nets) 0 _ (λ k h. rw (zero-add k)))
+
+    allocated-lines : linesText (allocatedItems (t .header)) 0 (λ i. allocatedText i (atℤ (t .allocated) i)) ≡ blockText allocatedText 0 (t .allocated)
+    allocated-lines = rw (← l .allocated-long) (lines-block allocatedText (pos 0) (t .allocated) 0 _ (λ k h. rw (zero-add k)))
 
     borders-lines : linesText (t .header .borders) 0 (λ i. borderText i (getD (t .borders) i [])) ≡ blockText borderText 0 (t .borders)
     borders-lines = rw (← l .borders-long) (lines-block borderText [] (t .borders) 0 _ (λ k h. rw (zero-add k)))
@@ -55,4 +59,4 @@ module _ (t : Table) (lines : List RowLine) where
 
     pub text-blocks : tableText t ≡ blocks
     unfolding tableText
-    text-blocks = rw (zones-lines, borders-lines, rows-lines) (simp append-assoc)
+    text-blocks = rw (zones-lines, allocated-lines, borders-lines, rows-lines) (simp append-assoc)

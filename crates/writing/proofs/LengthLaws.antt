@@ -16,8 +16,8 @@ use Rattle.numbers.specs.Ints.{minus, inside}
 use Rattle.numbers.proofs.IntLaws.{inside-true}
 use Rattle.kinds.specs.declared.Header.{Header}
 use Rattle.kinds.specs.Limits.{zonesMost, bordersMost, rowsMost, shareMost}
-use Rattle.kinds.specs.Ranges.{atℤ, headerFits, zoneFits, borderFits, borderOf, rowOf, rowFits, factorFits}
-use Rattle.kinds.proofs.KindLaws.{HeaderIn, header-in, raw-share-in, zone-in, HubsIn, none, both, border-in, row-in, factor-in}
+use Rattle.kinds.specs.Ranges.{atℤ, headerFits, allocatedItems, zoneFits, borderFits, borderOf, rowOf, rowFits, factorFits}
+use Rattle.kinds.proofs.KindLaws.{HeaderIn, header-in, allocated-most, raw-share-in, zone-in, HubsIn, none, both, border-in, row-in, factor-in}
 use Rattle.text.specs.Written.{decimal, decimalℤ, shareText, linesText}
 use Rattle.text.proofs.PutLaws.{lines-most}
 use Rattle.text.proofs.WrittenLaws.{decimal-long, decimalℤ-long, pos-long}
@@ -29,7 +29,7 @@ use Rattle.text.specs.Fields.{tab}
 use Rattle.columns.specs.ColumnText.{fieldText, fieldsLength, numbersOf}
 use Rattle.columns.specs.Optional.{writtenBy}
 use Rattle.columns.proofs.ColumnPut.{line-long, plain-long, length-parts}
-use Rattle.layout.specs.Layout.{headerText, zoneText, borderText, rowText}
+use Rattle.layout.specs.Layout.{headerText, positionText, zoneText, allocatedText, borderText, rowText}
 use Rattle.writing.specs.Writing.{tableText}
 
 -- the digits of an index
@@ -53,9 +53,9 @@ header-most h e =
     let raw = pos (h .zones) ∷ pos (h .borders) ∷ pos (h .rows) ∷ h .share ∷ [] in
     omega (arith, plain-long tab (code "H") (writtenBy headerColumns defaultColumns raw) raw, counts-most h i (h .share) (i .share))
 
-pub zone-most : (i : ℕ) (net : ℤ) → zoneFits net ≡ true → length (zoneText i net) ≤ 14 + digitsOf i
+pub zone-most : (letter i : ℕ) (net : ℤ) → zoneFits net ≡ true → length (positionText letter i net) ≤ 14 + digitsOf i
 unfolding fieldsLength fieldText
-zone-most i net e = rw (line-long tab (code "Z") zoneColumns i (net ∷ [])) (omega (arith, decimalℤ-long 8 net (omega (arith, zone-in net e .abs))))
+zone-most letter i net e = rw (line-long tab letter zoneColumns i (net ∷ [])) (omega (arith, decimalℤ-long 8 net (omega (arith, zone-in net e .abs))))
 
 -- R is "-", or a number
 share-most : (r : ℤ) → inside (minus 1) (pos shareMost) r ≡ true → length (shareText r) ≤ 5
@@ -137,7 +137,7 @@ abbrev tableLineMost : ℕ
 tableLineMost = 1 + 4 + 62 + zonesMost * 8 + 1
 
 abbrev pub tableMost : ℕ
-tableMost = (1 + zonesMost + bordersMost + rowsMost) * tableLineMost
+tableMost = (1 + zonesMost + zonesMost + bordersMost + rowsMost) * tableLineMost
 
 module _ (t : Table) (g : Good t) where
   within : HeaderIn (t .header)
@@ -149,7 +149,12 @@ module _ (t : Table) (g : Good t) where
   zones-length : length (linesText (t .header .zones) 0 (λ i. zoneText i (atℤ (t .nets) i))) ≤ t .header .zones * tableLineMost
   zones-length =
       lines-most (λ i. zoneText i (atℤ (t .nets) i)) (t .header .zones) (λ i h.
-      omega (arith, zone-most i (atℤ (t .nets) i) (g .nets-fit i h), index-most i (omega (arith, within .zones-most))))
+      omega (arith, zone-most (code "Z") i (atℤ (t .nets) i) (g .nets-fit i h), index-most i (omega (arith, within .zones-most))))
+
+  allocated-length : length (linesText (allocatedItems (t .header)) 0 (λ i. allocatedText i (atℤ (t .allocated) i))) ≤ allocatedItems (t .header) * tableLineMost
+  allocated-length =
+      lines-most (λ i. allocatedText i (atℤ (t .allocated) i)) (allocatedItems (t .header)) (λ i h.
+      omega (arith, zone-most (code "T") i (atℤ (t .allocated) i) (g .allocated-fit i h), index-most i (omega (arith, allocated-most (t .header), within .zones-most))))
 
   borders-length : length (linesText (t .header .borders) 0 (λ i. borderText i (getD (t .borders) i []))) ≤ t .header .borders * tableLineMost
   borders-length =
@@ -174,6 +179,8 @@ module _ (t : Table) (g : Good t) where
         arith,
         header-most (t .header) (g .exact .header),
         zones-length,
+        allocated-length,
+        allocated-most (t .header),
         borders-length,
         rows-length,
         within .zones-most,

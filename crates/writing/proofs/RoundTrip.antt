@@ -12,6 +12,7 @@ use lib.Seq.{take-at}
 use Rattle.numbers.specs.Below.{over}
 use Rattle.kinds.specs.declared.Header.{Header}
 use Rattle.kinds.specs.Limits.{bytesMost}
+use Rattle.kinds.specs.Ranges.{allocatedItems}
 use Rattle.kinds.specs.Refusals.{passed}
 use Rattle.text.specs.Left.{textLeft}
 use Rattle.text.proofs.LeftLaws.{text-left}
@@ -41,25 +42,25 @@ write-read t g s = text-read t g s (never-too-long t g)
 -- ---- the same of the calls
 
 -- what `read` left, `write` writes again as the very text it was read from
-pub read-then-write : (text : List ℕ) (z : List ℤ) (b c : List (List ℤ)) (f : List ℤ) (h : Header) (out : List ℕ) → let r = readLeft text z b c f in r .answer ≡ passed h → length text ≤ length out
-    → writeLeft (lent h (r .z) (r .b) (r .c) (r .f)) out ≡ record { answer = passed (length text); out = over text out }
-read-then-write text z b c f h out e room =
-    let u = read-taken text z b c f h e in
+pub read-then-write : (text : List ℕ) (z a : List ℤ) (b c : List (List ℤ)) (f : List ℤ) (h : Header) (out : List ℕ) → let r = readLeft text z a b c f in r .answer ≡ passed h → length text ≤ length out
+    → writeLeft (lent h (r .z) (r .t) (r .b) (r .c) (r .f)) out ≡ record { answer = passed (length text); out = over text out }
+read-then-write text z a b c f h out e room =
+    let u = read-taken text z a b c f h e in
     let t = u .it in
     let same : tableText t ≡ text = read-write text t (u .read) in
-    ap (λ (l : ReadLeft). writeLeft (lent h (l .z) (l .b) (l .c) (l .f)) out) (u .left)
-    ∙ ap (λ (k : Header). writeLeft (lent k (over (t .nets) z) (over (t .borders) b) (over (t .rows) c) (over (t .factors) f)) out) (sym (u .header))
-    ∙ sym (write-on _ out t (sym (over-judged t (read-good text t (u .read)) z b c f)))
+    ap (λ (l : ReadLeft). writeLeft (lent h (l .z) (l .t) (l .b) (l .c) (l .f)) out) (u .left)
+    ∙ ap (λ (k : Header). writeLeft (lent k (over (t .nets) z) (over (t .allocated) a) (over (t .borders) b) (over (t .rows) c) (over (t .factors) f)) out) (sym (u .header))
+    ∙ sym (write-on _ out t (sym (over-judged t (read-good text t (u .read)) z a b c f)))
     ∙ ap (λ (l : List ℕ). textLeft (passed l) out) same
     ∙ text-left text out room
 
 -- what `write` wrote, `read` reads back into buffers with room for it: the header, and the records that were lent, as many as it says
-pub write-then-read : (given : Table) (out : List ℕ) (n : ℕ) (z : List ℤ) (b c : List (List ℤ)) (f : List ℤ) → let h = given .header in let w = writeLeft given out in
-    Shaped (front given) → w .answer ≡ passed n → h .zones ≤ length z → h .borders ≤ length b → h .rows ≤ length c → h .rows * h .zones ≤ length f
-    → readLeft (take n (w .out)) z b c f ≡ record { answer = passed h; z = over (front given .nets) z; b = over (front given .borders) b; c = over (front given .rows) c; f = over (front given .factors) f }
-write-then-read given out n z b c f shaped e hz hb hc hf =
-    let a = write-accepted given out n e in
+pub write-then-read : (given : Table) (out : List ℕ) (n : ℕ) (z a : List ℤ) (b c : List (List ℤ)) (f : List ℤ) → let h = given .header in let w = writeLeft given out in
+    Shaped (front given) → w .answer ≡ passed n → h .zones ≤ length z → allocatedItems h ≤ length a → h .borders ≤ length b → h .rows ≤ length c → h .rows * h .zones ≤ length f
+    → readLeft (take n (w .out)) z a b c f ≡ record { answer = passed h; z = over (front given .nets) z; t = over (front given .allocated) a; b = over (front given .borders) b; c = over (front given .rows) c; f = over (front given .factors) f }
+write-then-read given out n z a b c f shaped e hz ha hb hc hf =
+    let w = write-accepted given out n e in
     let t = front given in
-    let text : take n (writeLeft given out .out) ≡ tableText t = ap (take n) (a .left) ∙ take-at (tableText t) _ n (a .bytes) in
-    ap (λ (l : List ℕ). readLeft l z b c f) text
-    ∙ read-left (tableText t) z b c f t (write-read t (judged-good given t (a .judged)) shaped) (record { zones = hz; borders = hb; rows = hc; factors = hf })
+    let text : take n (writeLeft given out .out) ≡ tableText t = ap (take n) (w .left) ∙ take-at (tableText t) _ n (w .bytes) in
+    ap (λ (l : List ℕ). readLeft l z a b c f) text
+    ∙ read-left (tableText t) z a b c f t (write-read t (judged-good given t (w .judged)) shaped) (record { zones = hz; allocated = ha; borders = hb; rows = hc; factors = hf })

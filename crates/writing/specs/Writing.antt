@@ -1,19 +1,21 @@
 -- Writing the table (01, "The table as text"), and what the open call `write` leaves.
 use mathlib.Core.List.{List, [], _++_}
+use Prim.Native.Char.{code}
 use Prim.Native.Nat.{ℕ}
 use lib.IntN.{ℤ}
 use lib.ListN.{length, getD}
-use Rattle.kinds.specs.Ranges.{atℤ}
+use Rattle.kinds.specs.Ranges.{atℤ, allocatedItems}
 use Rattle.kinds.specs.Refusals.{passed, then}
 use Rattle.text.specs.Left.{TextLeft, textLeft}
 use Rattle.text.specs.Written.{linesText}
 use Rattle.table.specs.Table.{Table, factorsAt, stretch, judgeLent}
-use Rattle.layout.specs.Layout.{headerText, zoneText, borderText, rowText}
+use Rattle.layout.specs.Layout.{headerText, positionText, zoneText, allocatedText, borderText, rowText}
 
 unfoldable pub tableText : Table → List ℕ
 tableText t =
     headerText (t .header)
     ++ linesText (t .header .zones) 0 (λ i. zoneText i (atℤ (t .nets) i))
+    ++ linesText (allocatedItems (t .header)) 0 (λ i. allocatedText i (atℤ (t .allocated) i))
     ++ linesText (t .header .borders) 0 (λ i. borderText i (getD (t .borders) i []))
     ++ linesText (t .header .rows) 0 (λ i. rowText i (getD (t .rows) i []) (factorsAt t i))
 
@@ -22,8 +24,8 @@ unfoldable pub writeLeft : (lent : Table) → (out : List ℕ) → TextLeft
 writeLeft lent out = textLeft (then (judgeLent lent) (λ t. passed (tableText t))) out
 
 -- the lines of each kind, by the lent records
-abbrev pub zoneTextAt : (nets : List ℤ) → (i : ℕ) → List ℕ
-zoneTextAt nets i = zoneText i (atℤ nets i)
+abbrev pub positionTextAt : (letter : ℕ) → (nets : List ℤ) → (i : ℕ) → List ℕ
+positionTextAt letter nets i = positionText letter i (atℤ nets i)
 
 abbrev pub borderTextAt : (borders : List (List ℤ)) → (i : ℕ) → List ℕ
 borderTextAt borders i = borderText i (getD borders i [])
@@ -32,8 +34,14 @@ abbrev pub rowTextAt : (zones : ℕ) → (rows : List (List ℤ)) → (factors :
 rowTextAt zones rows factors i = rowText i (getD rows i []) (stretch zones factors i)
 
 -- .. and all of them
+abbrev pub positionsText : (letter : ℕ) → List ℤ → List ℕ
+positionsText letter nets = linesText (length nets) 0 (positionTextAt letter nets)
+
 abbrev pub zonesText : List ℤ → List ℕ
-zonesText nets = linesText (length nets) 0 (zoneTextAt nets)
+zonesText = positionsText (code "Z")
+
+abbrev pub allocatedsText : List ℤ → List ℕ
+allocatedsText = positionsText (code "T")
 
 abbrev pub bordersText : List (List ℤ) → List ℕ
 bordersText borders = linesText (length borders) 0 (borderTextAt borders)

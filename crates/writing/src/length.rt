@@ -10,6 +10,7 @@ use kinds::BorderRecord;
 use kinds::Header;
 use kinds::RowRecord;
 
+// The Z lines; T lines of the same positions are as long.
 fn zones_length(z: &[i64]) -> usize
     requires { ⌜ length (zonesText (now z)) ≤ bytesMost ⌝ }
     ensures { λ r. ⌜ r ≡ length (zonesText (now (z .entry))) ⌝ }
@@ -44,13 +45,21 @@ fn rows_length(zones: usize, c: &[RowRecord], f: &[i64]) -> usize
     sum
 }
 
-pub fn text_length(h: Header, z: &[i64], b: &[BorderRecord], c: &[RowRecord], f: &[i64]) -> usize
-    requires { ⌜ Good (lent h (now z) (now b) (now c) (now f)) ⌝ }
-    ensures { λ r. ⌜ r ≡ length (tableText (lent h (now (z .entry)) (now (b .entry)) (now (c .entry)) (now (f .entry)))) ⌝ }
+pub fn text_length(
+    h: Header,
+    z: &[i64],
+    t: &[i64],
+    b: &[BorderRecord],
+    c: &[RowRecord],
+    f: &[i64],
+) -> usize
+    requires { ⌜ Good (lent h (now z) (now t) (now b) (now c) (now f)) ⌝ }
+    ensures { λ r. ⌜ r ≡ length (tableText (lent h (now (z .entry)) (now (t .entry)) (now (b .entry)) (now (c .entry)) (now (f .entry)))) ⌝ }
 {
     let header = layout::length::header_length(h);
     let zones = zones_length(z);
+    let allocated = zones_length(t);
     let borders = borders_length(b);
     let rows = rows_length(h.zones, c, f);
-    header + zones + borders + rows
+    header + zones + allocated + borders + rows
 }

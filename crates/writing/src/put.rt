@@ -6,18 +6,19 @@ ghost use Rattle.kinds.specs.Limits.{zonesMost};
 ghost use Rattle.text.specs.Put.{Put};
 ghost use Rattle.table.specs.Table.{lent};
 ghost use Rattle.table.specs.Good.{Good};
-ghost use Rattle.writing.specs.Writing.{tableText, zonesText, bordersText, rowsText};
+ghost use Rattle.writing.specs.Writing.{tableText, positionsText, bordersText, rowsText};
 use kinds::BorderRecord;
 use kinds::Header;
 use kinds::RowRecord;
 
-fn put_zones(z: &[i64], out: &mut [u8], at: usize) -> usize
-    requires { ⌜ at + length (zonesText (now z)) ≤ length (now out) ⌝ }
-    ensures { λ r. ⌜ Put (zonesText (now (z .entry))) at (now (out .entry)) r (now (out .exit)) ⌝ }
+// The Z lines, or the T lines, by their letter.
+fn put_zones(letter: u8, z: &[i64], out: &mut [u8], at: usize) -> usize
+    requires { ⌜ at + length (positionsText letter (now z)) ≤ length (now out) ⌝ }
+    ensures { λ r. ⌜ Put (positionsText letter (now (z .entry))) at (now (out .entry)) r (now (out .exit)) ⌝ }
 {
     let mut next = at;
     for i in 0..z.len() {
-        next = layout::put::put_zone(i, z[i], out, next);
+        next = layout::put::put_zone(letter, i, z[i], out, next);
     }
     next
 }
@@ -48,16 +49,18 @@ fn put_rows(zones: usize, c: &[RowRecord], f: &[i64], out: &mut [u8], at: usize)
 pub fn put_table(
     h: Header,
     z: &[i64],
+    t: &[i64],
     b: &[BorderRecord],
     c: &[RowRecord],
     f: &[i64],
     out: &mut [u8],
 ) -> usize
-    requires { ⌜ Good (lent h (now z) (now b) (now c) (now f)) × (length (tableText (lent h (now z) (now b) (now c) (now f))) ≤ length (now out)) ⌝ }
-    ensures { λ r. ⌜ Put (tableText (lent h (now (z .entry)) (now (b .entry)) (now (c .entry)) (now (f .entry)))) 0 (now (out .entry)) r (now (out .exit)) ⌝ }
+    requires { ⌜ Good (lent h (now z) (now t) (now b) (now c) (now f)) × (length (tableText (lent h (now z) (now t) (now b) (now c) (now f))) ≤ length (now out)) ⌝ }
+    ensures { λ r. ⌜ Put (tableText (lent h (now (z .entry)) (now (t .entry)) (now (b .entry)) (now (c .entry)) (now (f .entry)))) 0 (now (out .entry)) r (now (out .exit)) ⌝ }
 {
     let next = layout::put::put_header(h, out, 0);
-    let next = put_zones(z, out, next);
+    let next = put_zones(b'Z', z, out, next);
+    let next = put_zones(b'T', t, out, next);
     let next = put_borders(b, out, next);
     put_rows(h.zones, c, f, out, next)
 }

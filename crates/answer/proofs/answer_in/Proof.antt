@@ -12,18 +12,18 @@ use Rattle.answer.proofs.answer_in.Statement.{statement}
 use Rattle.answer.proofs.answer_in.Tie as tie
 
 abbrev entry : tie.After-read → tie.Start
-entry c = c .before .before .before .before .before .before .before
+entry c = c .before .before .before .before .before .before .before .before
 
 returns : tie.Need-returns
 unfolding answerLeft
 returns c =
-    let told = c .before .before .before .before .before .before .before .before .before in
-    let called = told .before .before .before .before .before .before in
+    let told = c .before .before .before .before .before .before .before .before .before .before in
+    let called = told .before .before .before .before .before .before .before in
     let s = entry called in
     let a = s .args in
     let answered = c .before .before .answer-lent .ensures in (
       answered .0
-          ∙ ap (λ (text : List ℕ). textLeft (passed text) (a .out .now)) (read-printed (a .text .now) (a .z .now) (a .b .now) (a .c .now) (a .f .now) _ (called .read .ensures) _ (told .h .given .1)),
+          ∙ ap (λ (text : List ℕ). textLeft (passed text) (a .out .now)) (read-printed (a .text .now) (a .z .now) (a .t .now) (a .b .now) (a .c .now) (a .f .now) _ (called .read .ensures) _ (told .h .given .1)),
       answered .1,
     )
 
@@ -31,13 +31,13 @@ returns-2 : tie.Need-returns-2
 unfolding answerLeft
 returns-2 c =
     let told = c .before .before .before .before .before in
-    let called = told .before .before .before .before .before .before in
+    let called = told .before .before .before .before .before .before .before in
     let s = entry called in
     let a = s .args in
     let p = s .pre in
     let answered = c .before .before .write-refusal .ensures in (
       answered .0
-          ∙ ap (λ (text : List ℕ). textLeft (passed text) (a .out .now)) (read-refused (a .text .now) (a .z .now) (a .b .now) (a .c .now) (a .f .now) _ (called .read .ensures) (p .0) (p .1) (p .2) (p .3) _ (told .w .given .1)),
+          ∙ ap (λ (text : List ℕ). textLeft (passed text) (a .out .now)) (read-refused (a .text .now) (a .z .now) (a .t .now) (a .b .now) (a .c .now) (a .f .now) _ (called .read .ensures) (p .0) (p .1) (p .2) (p .3) (p .4) _ (told .w .given .1)),
       omega (arith, answered .1),
     )
 
@@ -55,7 +55,9 @@ answer-in-spec =
     (λ c. search needs)
     (λ c. search needs)
     (λ c. search needs)
+    (λ c. search needs)
     returns
+    (λ c. search needs)
     (λ c. search needs)
     (λ c. search needs)
     (λ c. search needs)

@@ -11,7 +11,7 @@ use Rattle.answer.proofs.answer_lent.Statement.{statement}
 use Rattle.answer.proofs.answer_lent.Tie as tie
 
 abbrev given : tie.Start → Table
-given s = lent (s .args .h) (s .args .z .now) (s .args .b .now) (s .args .c .now) (s .args .f .now)
+given s = lent (s .args .h) (s .args .z .now) (s .args .t .now) (s .args .b .now) (s .args .c .now) (s .args .f .now)
 
 returns : tie.Need-returns
 returns c =

@@ -6,7 +6,7 @@ use Rattle.answer.proofs.result_text.Statement.{statement}
 use Rattle.answer.proofs.result_text.Tie as tie
 
 abbrev given : tie.Start → Table
-given s = lent (s .args .h) (s .args .z .now) (s .args .b .now) (s .args .c .now) (s .args .f .now)
+given s = lent (s .args .h) (s .args .z .now) (s .args .t .now) (s .args .b .now) (s .args .c .now) (s .args .f .now)
 
 abbrev entry : tie.After-slice-known2 → tie.Start
 entry c = c .before .before .before .before .before

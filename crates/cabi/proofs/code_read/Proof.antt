@@ -13,7 +13,7 @@ use Rattle.cabi.proofs.code_read.Tie as tie
 
 -- the answer where a table was read, by the share of its header
 abbrev coded : Header → (share : ℤ) → KeravnothRead
-coded h share = record { number = 0; place = 0; byte = 0; zones = h .zones; borders = h .borders; rows = h .rows; share = share }
+coded h share = record { number = 0; place = 0; byte = 0; zones = h .zones; borders = h .borders; rows = h .rows; share = share; intraday = h .intraday }
 
 returns : tie.Need-returns
 returns c =

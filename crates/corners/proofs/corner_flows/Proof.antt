@@ -15,7 +15,7 @@ use Rattle.corners.proofs.corner_flows.Tie as tie
 
 -- what was lent
 abbrev given : tie.Start → Table
-given s = lent (s .args .h) (s .args .z .now) (s .args .b .now) (s .args .c .now) (s .args .f .now)
+given s = lent (s .args .h) (s .args .z .now) (s .args .t .now) (s .args .b .now) (s .args .c .now) (s .args .f .now)
 
 returns : tie.Need-returns
 returns c =

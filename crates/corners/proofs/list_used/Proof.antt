@@ -8,9 +8,8 @@ use mir.Facts.{toZ-ofZ}
 use mir.Syntax.{w64}
 use mir.Val.{SFits, toZ}
 use Rattle.numbers.specs.Ints.{Within}
-use Rattle.numbers.proofs.IntLaws.{within-fits}
+use Rattle.numbers.proofs.IntLaws.{within-fits, within-add}
 use Rattle.kinds.specs.Ranges.{atℤ}
-use Rattle.margin.proofs.BoundLaws.{within-add}
 use Rattle.corners.specs.Listed.{cornerFlowMost}
 use Rattle.corners.proofs.ListedLaws.{Using, using-none, using-within, using-more, using-all}
 use Rattle.corners.proofs.list_used.Statement.{statement}

@@ -12,7 +12,7 @@ use Rattle.cornertext.proofs.corner_text.Tie as tie
 
 -- what was lent
 abbrev given : tie.Start → Table
-given s = lent (s .args .h) (s .args .z .now) (s .args .b .now) (s .args .c .now) (s .args .f .now)
+given s = lent (s .args .h) (s .args .z .now) (s .args .t .now) (s .args .b .now) (s .args .c .now) (s .args .f .now)
 
 -- the flows stand in front of the working memory
 module _ (c : tie.After-filled2) where
@@ -25,7 +25,7 @@ module _ (c : tie.After-filled2) where
   abbrev count : ℕ
   count = c .filled2 .given .0 .0
 
-  told : FlowsTold (given start) (start .args .row) count (filled .corner-flows .last .1 .1 .1 .1 .1 .1 .0)
+  told : FlowsTold (given start) (start .args .row) count (filled .corner-flows .last .1 .1 .1 .1 .1 .1 .1 .0)
   told = told-passed (given start) (start .args .row) _ _ (filled .corner-flows .ensures) (le-refl sheetMost) count (c .filled2 .given .1)
 
 array-share-prefix-flows : tie.Need-array-share-prefix-flows

@@ -20,9 +20,9 @@ abbrev entry : tie.After-prepare → tie.Start
 entry c = c .before .before .before .before .before .before .before
 
 abbrev given : tie.Start → Table
-given s = lent (s .args .h) (s .args .z .now) (s .args .b .now) (s .args .c .now) (s .args .f .now)
+given s = lent (s .args .h) (s .args .z .now) (s .args .t .now) (s .args .b .now) (s .args .c .now) (s .args .f .now)
 
-as-said : (c : tie.After-prepare) → let l = c .prepare .last .1 .1 .1 .1 .1 in PreparedAs (given (entry c)) (c .prepare .result) (l .0) (l .1 .0) (l .1 .1 .0)
+as-said : (c : tie.After-prepare) → let l = c .prepare .last .1 .1 .1 .1 .1 .1 in PreparedAs (given (entry c)) (c .prepare .result) (l .0) (l .1 .0) (l .1 .1 .0)
 as-said c = prepared-as (c .prepare .result) (c .prepare .ensures)
 
 -- .. and where it passed

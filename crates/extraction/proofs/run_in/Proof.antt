@@ -1,4 +1,4 @@
--- `extraction::run_in` meets its contract: the rounds start at LTA, with n of each row.
+-- `extraction::run_in` meets its contract: the rounds start where the profile says, with n of each row.
 use native.Mathlib.Omega.{arith}
 use borrow.Author.Needs.{needs}
 use Rattle.extraction.proofs.ExtractLaws.{run-startable, run-ended}

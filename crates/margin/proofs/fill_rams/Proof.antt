@@ -1,5 +1,6 @@
--- `margin::fill_rams` meets its contract. The loop's invariant: the first i rows have their RAM, and RAM - S. The measure is the rows that are left.
+-- `margin::fill_rams` meets its contract. The loop's invariant: the first i rows have their RAM, and where their margin starts. The measure is the rows that are left.
 use mathlib.Core.Path.{_≡_, sym, ap, ap₂, subst, _∙_}
+use mathlib.Core.Bool.{Bool}
 use mathlib.Core.List.{List, []}
 use Prim.Native.Nat.{ℕ, _-_, _<_}
 use native.Mathlib.Omega.{arith}
@@ -10,13 +11,13 @@ use mir.Facts.{toZ-ofZ}
 use mir.Syntax.{w64}
 use mir.Val.{SFits}
 use Rattle.numbers.proofs.ListLaws.{Filled, filled-none, filled-more, filled-all}
-use Rattle.kinds.specs.Ranges.{rowOf, defaultOf}
+use Rattle.kinds.specs.Ranges.{isIntraday, rowOf, defaultOf}
 use Rattle.kinds.proofs.KindLaws.{default-in}
 use Rattle.table.specs.Table.{Table, lent, stretch}
-use Rattle.margin.specs.Margin.{f0coreOf, sOf, ramOf, ramAt, marginOf}
+use Rattle.margin.specs.Margin.{f0coreOf, sOf, ramOf, ramAt, startBy, marginOf}
 use Rattle.margin.specs.Bounds.{NetsBound, BordersBound}
 use Rattle.margin.proofs.BoundLaws.{within-is}
-use Rattle.margin.proofs.JudgedLaws.{part-long, part-bound, s-bound, good-factors, good-borders, good-nets}
+use Rattle.margin.proofs.JudgedLaws.{part-long, part-bound, s-bound, good-factors, good-borders, good-nets, good-allocated}
 use Rattle.margin.proofs.Small.{ram-in}
 use Rattle.margin.proofs.fill_rams.Statement.{statement}
 use Rattle.margin.proofs.fill_rams.Tie as tie
@@ -27,35 +28,35 @@ record Head (t : Table) (rams₀ starts₀ rams starts : List ℤ) (i : ℕ) : T
   starts-filled : Filled (marginOf t) (t .header .rows) starts₀ starts i
 
 abbrev Inv-loop : tie.InvT-loop
-Inv-loop h z b c f rams₀ starts₀ default i₀ i-end rams starts i = Head (lent h z b c f) rams₀ starts₀ rams starts i
+Inv-loop h z t b c f rams₀ starts₀ default intraday i₀ i-end rams starts i = Head (lent h z t b c f) rams₀ starts₀ rams starts i
 
 abbrev μ-loop : tie.MeasureT-loop
-μ-loop h z b c f rams₀ starts₀ default i₀ i-end rams starts i = h .rows - i
+μ-loop h z t b c f rams₀ starts₀ default intraday i₀ i-end rams starts i = h .rows - i
 
--- RAM of the row, and RAM - S, from what the calls gave
+-- RAM of the row, and where its margin starts, from what the calls gave
 module _ (t : Table) (i : ℕ) {factors : List ℤ} {s : ℕ} {ram : ℤ} (e : factors ≡ stretch (t .header .zones) (t .factors) i) (u : s ≡ sOf factors (t .borders))
     (v : ram ≡ ramOf (defaultOf (t .header)) (rowOf (getD (t .rows) i [])) (f0coreOf (rowOf (getD (t .rows) i [])) factors (t .nets)) s) where
   ram-is : ram ≡ ramAt t i
   unfolding ramAt
   ram-is = cc
 
-  start-is : ram -ℤ pos s ≡ marginOf t i
-  start-is = ap₂ (λ (r : ℤ) (n : ℕ). r -ℤ pos n) ram-is (u ∙ ap (λ (fs : List ℤ). sOf fs (t .borders)) e)
+  start-is : (intraday : Bool) → intraday ≡ isIntraday (t .header) → startBy intraday ram s factors (t .allocated) ≡ marginOf t i
+  start-is intraday w = cc (ram-is)
 
 loop-holds : tie.Need-loop-holds Inv-loop μ-loop
 loop-holds c = record { rams-filled = filled-none _ _ _; starts-filled = filled-none _ _ _ }
 
 row-factors-requires : tie.Need-row-factors-requires Inv-loop μ-loop
-row-factors-requires c κs = (good-factors (c .before .before .before .pre .0), omega arith)
+row-factors-requires c κs = (good-factors (c .before .before .before .before .pre .0), omega arith)
 
 -- the row's factors
 module _ (c : tie.After-row-factors Inv-loop μ-loop) where
   abbrev start : tie.Start Inv-loop μ-loop
-  start = c .before .before .before .before
+  start = c .before .before .before .before .before
 
   -- the default in force
-  default-fits : SFits w64 (c .before .before .before .default-share .result)
-  default-fits = sfits-of (c .before .before .before .default-share .ok)
+  default-fits : SFits w64 (c .before .before .before .before .default-share .result)
+  default-fits = sfits-of (c .before .before .before .before .default-share .ok)
 
   below : c .before .before .loop .i < start .args .h .rows
   below = omega arith
@@ -80,7 +81,7 @@ row-ram-requires c κs =
     let d = c .before .before in
     let good = start d .pre .0 in
     let factors = part-bound (good-factors good) (d .before .before .loop .i) (below d) (d .row-factors .ensures) in (
-      simp (toZ-ofZ, default-fits d) (within-is (d .before .before .before .default-share .ensures) (default-in _ (good .exact .header))),
+      simp (toZ-ofZ, default-fits d) (within-is (d .before .before .before .before .default-share .ensures) (default-in _ (good .exact .header))),
       (
         good .rows-fit (d .before .before .loop .i) (below d),
         (
@@ -101,7 +102,7 @@ module _ (c : tie.After-row-ram Inv-loop μ-loop) where
   abbrev t : Table
   t =
       let a = start at-factors .args in
-      lent (a .h) (a .z .now) (a .b .now) (a .c .now) (a .f .now)
+      lent (a .h) (a .z .now) (a .t .now) (a .b .now) (a .c .now) (a .f .now)
 
   abbrev i : ℕ
   i = at-factors .before .before .loop .i
@@ -114,7 +115,7 @@ module _ (c : tie.After-row-ram Inv-loop μ-loop) where
 
   ram-given : c .row-ram .result ≡ ramOf (defaultOf (t .header)) (rowOf (getD (t .rows) i [])) (f0coreOf (rowOf (getD (t .rows) i [])) (at-factors .row-factors .result .now) (t .nets)) (c .before .before .s .result)
   ram-given =
-      let d = at-factors .before .before .before .default-share in
+      let d = at-factors .before .before .before .before .default-share in
       c .row-ram .ensures ∙ ap (λ (x : ℤ). ramOf x (rowOf (getD (t .rows) i [])) (f0coreOf (rowOf (getD (t .rows) i [])) (at-factors .row-factors .result .now) (t .nets)) (c .before .before .s .result)) (toZ-ofZ (default-fits at-factors) ∙ d .ensures)
 
   ram-at : c .row-ram .result ≡ ramAt t i
@@ -131,11 +132,17 @@ start-requires c κs =
     let d = at-factors c in
     let good = start d .pre .0 in (
       simp (toZ-ofZ, ram-fits c) (within-is (ram-at c) (ram-in good (i c) (below d))),
-      s-bound (part-bound (good-factors good) (i c) (below d) (d .row-factors .ensures)) (subst (λ (n : ℕ). BordersBound n (start d .args .b .now)) (sym (long d)) (good-borders good)) (c .before .before .s .ensures),
+      (
+        s-bound (part-bound (good-factors good) (i c) (below d) (d .row-factors .ensures)) (subst (λ (n : ℕ). BordersBound n (start d .args .b .now)) (sym (long d)) (good-borders good)) (c .before .before .s .ensures),
+        (
+          part-bound (good-factors good) (i c) (below d) (d .row-factors .ensures),
+          subst (λ (n : ℕ). NetsBound n (start d .args .t .now)) (sym (long d)) (good-allocated good),
+        ),
+      ),
     )
 
-mul-t15 : tie.Need-mul-t15 Inv-loop μ-loop
-mul-t15 c = omega (arith, head (c .before) .starts-filled .as-long, start (at-factors (c .before)) .pre .1 .1)
+mul-t17 : tie.Need-mul-t17 Inv-loop μ-loop
+mul-t17 c = omega (arith, head (c .before) .starts-filled .as-long, start (at-factors (c .before)) .pre .1 .1)
 
 slice-set-from-starts : tie.Need-slice-set-from-starts Inv-loop μ-loop
 slice-set-from-starts c = omega (arith, head (c .before) .starts-filled .as-long, start (at-factors (c .before)) .pre .1 .1)
@@ -151,7 +158,7 @@ loop-again c =
     record {
       rams-filled = filled-more (head d .rams-filled) _ (below f) (omega (arith, start f .pre .1 .0)) (toZ-ofZ (ram-fits d) ∙ ram-at d);
       starts-filled = filled-more (head d .starts-filled) _ (below f) (omega (arith, start f .pre .1 .1))
-          (toZ-ofZ k ∙ (simp (toZ-ofZ, ram-fits d) at (c .start .ensures)) ∙ start-is (t d) (i d) (f .row-factors .ensures) (d .before .before .s .ensures) (ram-given d));
+          (toZ-ofZ k ∙ (simp (toZ-ofZ, ram-fits d) at (c .start .ensures)) ∙ start-is (t d) (i d) (f .row-factors .ensures) (d .before .before .s .ensures) (ram-given d) _ (f .before .before .before .is-intraday .ensures));
     }
 
 same-length : tie.Need-same-length Inv-loop μ-loop
@@ -162,7 +169,7 @@ same-length-2 c = c .before .loop .inv .starts-filled .as-long
 
 returns : tie.Need-returns Inv-loop μ-loop
 returns c =
-    let q = c .before .before .before .pre .1 in
+    let q = c .before .before .before .before .pre .1 in
     (filled-all (c .before .loop .inv .rams-filled) (omega arith) (q .0), filled-all (c .before .loop .inv .starts-filled) (omega arith) (q .1))
 
 pub fill-rams-spec : {M : Type 1} → statement M
@@ -171,6 +178,7 @@ fill-rams-spec =
     (tie.spec
     Inv-loop
     μ-loop
+    (λ c κs. search needs)
     (λ c κs. search needs)
     loop-holds
     row-factors-requires
@@ -181,7 +189,7 @@ fill-rams-spec =
     mul-ram
     slice-set-from-ram
     start-requires
-    mul-t15
+    mul-t17
     slice-set-from-starts
     add-i
     (λ c. omega arith)

@@ -7,10 +7,10 @@ use mir.Facts.{toZ-ofZ}
 use mir.Syntax.{w64}
 use mir.Val.{SFits, toZ}
 use Rattle.numbers.specs.Ints.{Within, maxℤ}
-use Rattle.numbers.proofs.IntLaws.{within-fits, within-le, within-pos, read-pos}
+use Rattle.numbers.proofs.IntLaws.{within-fits, within-le, within-pos, read-pos, within-add}
 use Rattle.margin.specs.Margin.{grains, ltaMarginOf}
 use Rattle.margin.specs.Bounds.{sMost}
-use Rattle.margin.proofs.BoundLaws.{within-is, within-add, within-sub, within-grains}
+use Rattle.margin.proofs.BoundLaws.{within-is, within-sub, within-grains}
 use Rattle.margin.proofs.lta_margin.Statement.{statement}
 use Rattle.margin.proofs.lta_margin.Tie as tie
 

@@ -8,11 +8,11 @@ use mir.Facts.{toZ-ofZ}
 use mir.Syntax.{w64}
 use mir.Val.{SFits}
 use Rattle.numbers.specs.Ints.{Within}
-use Rattle.numbers.proofs.IntLaws.{within-fits, within-le}
+use Rattle.numbers.proofs.IntLaws.{within-fits, within-le, within-add}
 use Rattle.kinds.specs.Limits.{fmaxMost}
 use Rattle.margin.specs.Margin.{grains, baseOf, amrOf, ltaMarginOf, ramOf}
 use Rattle.margin.specs.Bounds.{f0coreMost, amrMost, sMost}
-use Rattle.margin.proofs.BoundLaws.{within-is, within-add, within-sub, within-grains, within-base, within-amr, within-lta-margin}
+use Rattle.margin.proofs.BoundLaws.{within-is, within-sub, within-grains, within-base, within-amr, within-lta-margin}
 use Rattle.margin.proofs.ram.Statement.{statement}
 use Rattle.margin.proofs.ram.Tie as tie
 

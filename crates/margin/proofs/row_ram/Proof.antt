@@ -30,7 +30,7 @@ module _ (c : tie.After-f0core) where
       let s = c .before .before in
       let f = s .pre .1 .1 .0 in
       let n = s .pre .1 .1 .1 .0 in
-      within-is (c .f0core .ensures) (within-f0core _ (bound (c .before) .fref-in) _ _ (omega (arith, n .long)) (f .each) (n .each) zonesMost (omega (arith, n .long, f .few)))
+      within-is (c .f0core .ensures) (within-f0core _ (bound (c .before) .fref-in) _ _ (n .few) (f .each) (n .each) zonesMost (omega (arith, n .few, f .few)))
 
 f0core-requires : tie.Need-f0core-requires
 f0core-requires c κs = (bound c, (c .before .pre .1 .1 .0, c .before .pre .1 .1 .1 .0))

@@ -9,11 +9,11 @@ use mir.Facts.{toZ-ofZ}
 use mir.Syntax.{w64}
 use mir.Val.{SFits}
 use Rattle.numbers.specs.Ints.{Within}
-use Rattle.numbers.proofs.IntLaws.{within-fits}
+use Rattle.numbers.proofs.IntLaws.{within-fits, within-add}
 use Rattle.kinds.specs.Limits.{factorMost}
 use Rattle.kinds.specs.Ranges.{atℤ}
 use Rattle.margin.specs.Bounds.{HubsWithin}
-use Rattle.margin.proofs.BoundLaws.{within-add, within-sub, signed-without, signed-between}
+use Rattle.margin.proofs.BoundLaws.{within-sub, signed-without, signed-between}
 use Rattle.margin.proofs.signed_factor.Statement.{statement}
 use Rattle.margin.proofs.signed_factor.Tie as tie
 

@@ -1,29 +1,21 @@
--- `margin::start` meets its contract.
-use mathlib.Core.Path.{_≡_}
-use lib.IntN.{pos, _-ℤ_}
+-- `margin::start` meets its contract: each profile has its own.
+use mathlib.Core.Path.{_∙_}
+use borrow.Author.Needs.{needs, sfits-of}
 use mir.Facts.{toZ-ofZ}
-use mir.Syntax.{w64}
-use mir.Val.{SFits, toZ}
-use Rattle.numbers.proofs.IntLaws.{within-fits, within-pos, read-pos}
-use Rattle.margin.proofs.BoundLaws.{within-sub}
 use Rattle.margin.proofs.start.Statement.{statement}
 use Rattle.margin.proofs.start.Tie as tie
 
-module _ (c : tie.Start) where
-  s-is : toZ w64 (c .args .s) ≡ pos (c .args .s)
-  s-is = read-pos (c .pre .1) tt
-
-  less-fits : SFits w64 (c .args .ram -ℤ pos (c .args .s))
-  less-fits = within-fits (within-sub (c .pre .0) (within-pos (c .pre .1))) tt
-
-cast-result : tie.Need-cast-result
-cast-result c = within-fits (within-pos (c .pre .1)) tt
-
-sub-result : tie.Need-sub-result
-sub-result c = simp (toZ-ofZ, c .fits .ram, s-is c) (less-fits c)
+less-flow-requires : tie.Need-less-flow-requires
+less-flow-requires c κs = simp (toZ-ofZ, c .before .fits .ram) (c .before .pre .0, c .before .pre .1 .1)
 
 returns : tie.Need-returns
-returns c = simp (toZ-ofZ, c .fits .ram, s-is c, less-fits c)
+returns c = rw (c .before .if1 .taken) (toZ-ofZ (sfits-of (c .less-flow .ok)) ∙ (simp (toZ-ofZ, c .before .before .fits .ram) at (c .less-flow .ensures)))
+
+less-s-requires : tie.Need-less-s-requires
+less-s-requires c κs = simp (toZ-ofZ, c .before .fits .ram) (c .before .pre .0, c .before .pre .1 .0)
+
+returns-2 : tie.Need-returns-2
+returns-2 c = rw (c .before .if1 .left) (toZ-ofZ (sfits-of (c .less-s .ok)) ∙ (simp (toZ-ofZ, c .before .before .fits .ram) at (c .less-s .ensures)))
 
 pub start-spec : {M : Type 1} → statement M
-start-spec = tie.close (tie.spec cast-result sub-result returns)
+start-spec = tie.close (tie.spec less-flow-requires less-s-requires returns returns-2)

@@ -9,10 +9,10 @@ use Rattle.reading.proofs.read_with.Tie as tie
 
 read-judged-requires : tie.Need-read-judged-requires
 read-judged-requires c κs =
-    let start = c .before .before .before .before .before .before .before .before .before .before .before .before in
-    let called = c .before .before .before .before .before .before .before .before .before in
+    let start = c .before .before .before .before .before .before .before .before .before .before .before .before .before in
+    let called = c .before .before .before .before .before .before .before .before .before .before in
     let text = start .args .text .now in
-    let good = c .before .before .before .before .before .before .places .given .1 in (
+    let good = c .before .before .before .before .before .before .before .places .given .1 in (
       subst (λ (r : TextJudged). placedIn r text) good (called .judge-text .ensures .1),
       (
         called .judge-text .kept .1 .0 ∙ start .pre,
@@ -23,7 +23,7 @@ read-judged-requires c κs =
 returns-2 : tie.Need-returns-2
 returns-2 c =
     let called = c .before .before .before .before in
-    text-refused _ _ _ _ _ (c .before .w .given .0 .0) (sym (ap (λ (r : TextJudged). tableIn r (called .before .before .before .args .text .now) (called .judge-text .last .1 .0)) (c .before .w .given .1)) ∙ called .judge-text .ensures .0)
+    text-refused _ _ _ _ _ _ (c .before .w .given .0 .0) (sym (ap (λ (r : TextJudged). tableIn r (c .before .before .before .before .before .before .before .args .text .now) (called .judge-text .last .1 .0)) (c .before .w .given .1)) ∙ called .judge-text .ensures .0)
 
 pub read-with-spec : {M : Type 1} → statement M
 read-with-spec =
@@ -32,6 +32,7 @@ read-with-spec =
     (λ c κs. search needs)
     (λ c. search needs)
     read-judged-requires
+    (λ c. search needs)
     (λ c. search needs)
     (λ c. search needs)
     (λ c. search needs)

@@ -13,10 +13,10 @@ use Rattle.start.proofs.first_below.Statement.{statement}
 use Rattle.start.proofs.first_below.Tie as tie
 
 abbrev Inv-loop : tie.InvT-loop
-Inv-loop states starts i₀ i-end i = Looked (length states) (λ i. kept states i && ltZ (atℤ starts i) (pos 0)) i
+Inv-loop strict states starts i₀ i-end i = Looked (length states) (λ i. kept states i && (strict && ltZ (atℤ starts i) (pos 0))) i
 
 abbrev μ-loop : tie.MeasureT-loop
-μ-loop states starts i₀ i-end i = length states - i
+μ-loop strict states starts i₀ i-end i = length states - i
 
 loop-holds : tie.Need-loop-holds Inv-loop μ-loop
 loop-holds c = looked-none _ _

@@ -36,23 +36,25 @@ returns-2 c =
     ap refused (c .unlimited .ensures) ∙ border-free _ _ _ _ _ (entry past-5 .pre .1 .1 .1 .0) (some-row past-5) _ (sym (ap found (c .before .before .b .given .1)) ∙ c .before .before .before .before .first-unlimited .ensures)
 
 first-below-requires : tie.Need-first-below-requires
-first-below-requires c κs = let q = entry (c .before .before .before) .pre in q .1 .1 .1 .1 ∙ sym (q .1 .1 .1 .0)
+first-below-requires c κs = let q = entry (c .before .before .before .before) .pre in q .1 .1 .1 .1 ∙ sym (q .1 .1 .1 .0)
 
 returns-3 : tie.Need-returns-3
 unfolding gridOf gridBy setupWith
 returns-3 c =
-    let past-6 = c .before .before .before .before .before in
+    let profile = c .before .before .before .before .before in
+    let past-6 = profile .before in
     let past-5 = past-6 .before .before .before in
     ap refused (c .below-zero .ensures) ∙ row-below _ _ _ _ _ (entry past-5 .pre .1 .1 .1 .0) (some-row past-5) (sym (ap found (past-6 .enum-told .given .1)) ∙ past-6 .before .before .first-unlimited .ensures) _
-    (sym (ap found (c .before .before .i .given .1)) ∙ c .before .before .before .before .first-below .ensures)
+    (sym (ap found (c .before .before .i .given .1)) ∙ (rw (profile .is-intraday .ensures) at (c .before .before .before .before .first-below .ensures)))
 
 returns-4 : tie.Need-returns-4
 unfolding gridOf gridBy setupWith
 returns-4 c =
-    let past-6 = c .before .before .before in
+    let profile = c .before .before .before in
+    let past-6 = profile .before in
     let past-5 = past-6 .before .before .before in
     may-start _ _ _ _ _ (entry past-5 .pre .1 .1 .1 .0) (some-row past-5) (sym (ap found (past-6 .enum-told .given .1)) ∙ past-6 .before .before .first-unlimited .ensures)
-    (sym (ap found (c .enum-told2 .given .1)) ∙ c .before .before .first-below .ensures)
+    (sym (ap found (c .enum-told2 .given .1)) ∙ (rw (profile .is-intraday .ensures) at (c .before .before .first-below .ensures)))
 
 pub judge-start-spec : {M : Type 1} → statement M
 judge-start-spec =
@@ -66,6 +68,7 @@ judge-start-spec =
     (λ c κs. search needs)
     returns-2
     (λ c. search needs)
+    (λ c κs. search needs)
     first-below-requires
     (λ c. search needs)
     (λ c κs. search needs)

@@ -1,29 +1,57 @@
 -- `table::judge_room` meets its contract: the first short buffer is named.
-use mathlib.Core.Path.{ap, _∙_}
+use mathlib.Core.Path.{sym, ap, _∙_}
 use native.Mathlib.Omega.{arith}
-use Rattle.kinds.specs.Refusals.{refused}
+use Rattle.kinds.specs.Refusals.{refused, tooShort}
 use borrow.Author.Needs.{needs}
-use Rattle.table.proofs.RoomLaws.{factors-most, room-short-z, room-short-b, room-short-c, room-short-f, room-enough}
+use Rattle.table.proofs.RoomLaws.{factors-most, room-short-z, room-short-t, room-short-b, room-short-c, room-short-f, room-enough}
 use Rattle.table.proofs.judge_room.Statement.{statement}
 use Rattle.table.proofs.judge_room.Tie as tie
 
 returns : tie.Need-returns
-returns c = ap refused (c .too-short .ensures) ∙ room-short-z _ _ _ _ _ _ (omega arith)
+returns c = ap refused (c .too-short .ensures) ∙ room-short-z _ _ _ _ _ _ _ (omega arith)
 
 returns-2 : tie.Need-returns-2
-returns-2 c = ap refused (c .too-short2 .ensures) ∙ room-short-b _ _ _ _ _ _ (omega arith) (omega arith)
+returns-2 c =
+    let n = c .before .before .allocated-items .ensures in
+    ap refused (c .too-short2 .ensures ∙ ap tooShort n) ∙ room-short-t _ _ _ _ _ _ _ (omega arith) (omega (arith, n))
 
 returns-3 : tie.Need-returns-3
-returns-3 c = ap refused (c .too-short3 .ensures) ∙ room-short-c _ _ _ _ _ _ (omega arith) (omega arith) (omega arith)
-
-mul-factors : tie.Need-mul-factors
-mul-factors c = omega (arith, factors-most _ (c .before .before .before .before .before .before .before .pre))
+returns-3 c =
+    let n = c .before .before .before .before .allocated-items .ensures in
+    ap refused (c .too-short3 .ensures) ∙ room-short-b _ _ _ _ _ _ _ (omega arith) (omega (arith, n)) (omega arith)
 
 returns-4 : tie.Need-returns-4
-returns-4 c = ap refused (c .too-short4 .ensures) ∙ room-short-f _ _ _ _ _ _ (omega arith) (omega arith) (omega arith) (omega arith)
+returns-4 c =
+    let n = c .before .before .before .before .before .before .allocated-items .ensures in
+    ap refused (c .too-short4 .ensures) ∙ room-short-c _ _ _ _ _ _ _ (omega arith) (omega (arith, n)) (omega arith) (omega arith)
+
+mul-factors : tie.Need-mul-factors
+mul-factors c = omega (arith, factors-most _ (c .before .before .before .before .before .before .before .before .before .pre))
 
 returns-5 : tie.Need-returns-5
-returns-5 c = room-enough _ _ _ _ _ _ (omega arith) (omega arith) (omega arith) (omega arith)
+returns-5 c =
+    let n = c .before .before .before .before .before .before .before .before .allocated-items .ensures in
+    ap refused (c .too-short5 .ensures) ∙ room-short-f _ _ _ _ _ _ _ (omega arith) (omega (arith, n)) (omega arith) (omega arith) (omega arith)
+
+returns-6 : tie.Need-returns-6
+returns-6 c =
+    let n = c .before .before .before .before .before .before .before .allocated-items .ensures in
+    room-enough _ _ _ _ _ _ _ (omega arith) (omega (arith, n)) (omega arith) (omega arith) (omega arith)
 
 pub judge-room-spec : {M : Type 1} → statement M
-judge-room-spec = tie.close (tie.spec (λ c κs. search needs) returns (λ c κs. search needs) returns-2 (λ c κs. search needs) returns-3 mul-factors (λ c κs. search needs) returns-4 returns-5)
+judge-room-spec =
+    tie.close
+    (tie.spec
+    (λ c κs. search needs)
+    returns
+    (λ c κs. search needs)
+    (λ c κs. search needs)
+    returns-2
+    (λ c κs. search needs)
+    returns-3
+    (λ c κs. search needs)
+    returns-4
+    mul-factors
+    (λ c κs. search needs)
+    returns-5
+    returns-6)

@@ -8,7 +8,7 @@ use Rattle.writing.proofs.write_good.Statement.{statement}
 use Rattle.writing.proofs.write_good.Tie as tie
 
 abbrev table : tie.Start → Table
-table s = lent (s .args .h) (s .args .z .now) (s .args .b .now) (s .args .c .now) (s .args .f .now)
+table s = lent (s .args .h) (s .args .z .now) (s .args .t .now) (s .args .b .now) (s .args .c .now) (s .args .f .now)
 
 returns : tie.Need-returns
 returns c = let s = c .before .before .before .before in rw (c .too-short .ensures) (text-short (tableText (table s)) (s .args .out .now) _ (c .before .before .text-length .ensures) (omega arith))

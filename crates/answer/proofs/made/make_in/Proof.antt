@@ -13,7 +13,7 @@ use Rattle.answer.proofs.made.make_in.Statement.{statement}
 use Rattle.answer.proofs.made.make_in.Tie as tie
 
 abbrev given : tie.Start → Table
-given s = lent (s .args .h) (s .args .z .now) (s .args .b .now) (s .args .c .now) (s .args .f .now)
+given s = lent (s .args .h) (s .args .z .now) (s .args .t .now) (s .args .b .now) (s .args .c .now) (s .args .f .now)
 
 abbrev entry : tie.After-extract → tie.Start
 entry c = c .before .before .before .before .before .before
@@ -27,7 +27,7 @@ write-result-requires c κs =
     let s = entry called in
     let u = outcome-told (given s) (s .args .p .now) (s .args .atc .now) (s .args .left .now) (s .pre .0) (s .pre .1) (s .pre .2) _ (called .extract .ensures) _ (c .before .before .before .before .rounds .given .1) in
     let h = outcome-header (given s) (u .it) (u .is) in
-    (h .borders, h .rows, omega (arith, s .pre .1, called .extract .kept .1 .1 .1 .1 .1 .1 .0), omega (arith, s .pre .2, called .extract .kept .1 .1 .1 .1 .1 .1 .1 .0))
+    (h .borders, h .rows, omega (arith, s .pre .1, called .extract .kept .1 .1 .1 .1 .1 .1 .1 .0), omega (arith, s .pre .2, called .extract .kept .1 .1 .1 .1 .1 .1 .1 .1 .0))
 
 returns : tie.Need-returns
 returns c =

@@ -8,10 +8,10 @@ use Rattle.printing.proofs.sheets.print_every.Statement.{statement}
 use Rattle.printing.proofs.sheets.print_every.Tie as tie
 
 abbrev Inv-loop : tie.InvT-loop
-Inv-loop h z b c f out₀ row₀ row-end out row = length out ≡ length out₀
+Inv-loop h z t b c f out₀ row₀ row-end out row = length out ≡ length out₀
 
 abbrev μ-loop : tie.MeasureT-loop
-μ-loop h z b c f out₀ row₀ row-end out row = row-end - row
+μ-loop h z t b c f out₀ row₀ row-end out row = row-end - row
 
 pub print-every-spec : {M : Type 1} → statement M
 print-every-spec =

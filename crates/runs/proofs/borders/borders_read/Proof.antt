@@ -1,13 +1,12 @@
 -- `runs::borders::borders_read` meets its contract. The invariant: the first i items are what the lines passed hold (`Stored`).
 -- The measure is the number of lines less i. A turn is the law `stored-more`.
-use Prim.Native.Nat.{ℕ, _+_, _-_}
+use Prim.Native.Nat.{ℕ, _-_}
 use mathlib.Core.Path.{_≡_, sym, ap, _∙_}
 use mathlib.Core.List.{List}
 use native.Mathlib.Omega.{arith}
 use borrow.Author.Needs.{needs}
 use Rattle.text.specs.Line.{lineAt}
 use Rattle.block.specs.Block.{fault}
-use Rattle.table.specs.Table.{zoneLineNo}
 use Rattle.lines.specs.declared.BorderLine.{BorderLine}
 use Rattle.lines.specs.Lines.{borderLine}
 use Rattle.lines.specs.Said.{saidBorder}
@@ -16,10 +15,10 @@ use Rattle.runs.proofs.borders.borders_read.Statement.{statement}
 use Rattle.runs.proofs.borders.borders_read.Tie as tie
 
 abbrev Inv-loop : tie.InvT-loop
-Inv-loop text at zones b₀ n first i₀ p₀ b i p = Stored (borderLine zones) (zoneLineNo + zones) text at b₀ n b i p
+Inv-loop text at zones first b₀ n i₀ p₀ b i p = Stored (borderLine zones) first text at b₀ n b i p
 
 abbrev μ-loop : tie.MeasureT-loop
-μ-loop text at zones b₀ n first i₀ p₀ b i p = n - i
+μ-loop text at zones first b₀ n i₀ p₀ b i p = n - i
 
 abbrev entry : tie.At-loop Inv-loop μ-loop → tie.Start Inv-loop μ-loop
 entry c = c .before .before
@@ -45,7 +44,7 @@ line-said c =
 loop-holds : tie.Need-loop-holds Inv-loop μ-loop
 loop-holds c =
     let zones = c .before .args .zones in
-    stored-none (borderLine zones) (zoneLineNo + zones) _ _ _ (c .before .pre .0)
+    stored-none (borderLine zones) _ _ _ _ (c .before .pre .0)
 
 line-at-requires : tie.Need-line-at-requires Inv-loop μ-loop
 line-at-requires c κs = c .before .loop .inv .within
@@ -57,7 +56,7 @@ slice-set-from-b : tie.Need-slice-set-from-b Inv-loop μ-loop
 slice-set-from-b c = omega (arith, at-loop-from-enum-told c .loop .inv)
 
 add-wrong-form-at : tie.Need-add-wrong-form-at Inv-loop μ-loop
-add-wrong-form-at c = omega (arith, at-loop (c .before .before .before .before) .loop .inv .high)
+add-wrong-form-at c = let at-line = at-loop (c .before .before .before .before) in omega (arith, at-line .loop .inv .high, at-line .loop .inv .all, entry at-line .pre .1)
 
 same-length : tie.Need-same-length Inv-loop μ-loop
 same-length c = at-loop-from-border-line (c .before .before .before .before) .loop .inv .as-long
@@ -66,10 +65,10 @@ returns : tie.Need-returns Inv-loop μ-loop
 returns c =
     let zones = entry (at-loop-from-border-line (c .before .before .before .before)) .args .zones in
     let l = at-loop-from-border-line (c .before .before .before .before) .loop in
-    ap fault (c .wrong-form-at .ensures) ∙ stored-form (borderLine zones) (zoneLineNo + zones) _ _ _ _ _ _ _ (l .inv) (c .before .before .before .before .before .before .before .before .loop-test .taken) _ (line-said (c .before .before .before .before .before) ∙ ap (λ (r : BorderLine). saidBorder r (c .before .before .before .before .before .border-line .last .1 .1 .1 .0)) (c .before .before .byte .given .1))
+    ap fault (c .wrong-form-at .ensures) ∙ stored-form (borderLine zones) _ _ _ _ _ _ _ _ (l .inv) (c .before .before .before .before .before .before .before .before .loop-test .taken) _ (line-said (c .before .before .before .before .before) ∙ ap (λ (r : BorderLine). saidBorder r (c .before .before .before .before .before .border-line .last .1 .1 .1 .0)) (c .before .before .byte .given .1))
 
 add-out-of-range-at : tie.Need-add-out-of-range-at Inv-loop μ-loop
-add-out-of-range-at c = omega (arith, at-loop (c .before .before .before .before) .loop .inv .high)
+add-out-of-range-at c = let at-line = at-loop (c .before .before .before .before) in omega (arith, at-line .loop .inv .high, at-line .loop .inv .all, entry at-line .pre .1)
 
 same-length-2 : tie.Need-same-length-2 Inv-loop μ-loop
 same-length-2 c = at-loop-from-border-line (c .before .before .before .before) .loop .inv .as-long
@@ -78,7 +77,7 @@ returns-2 : tie.Need-returns-2 Inv-loop μ-loop
 returns-2 c =
     let zones = entry (at-loop-from-border-line (c .before .before .before .before)) .args .zones in
     let l = at-loop-from-border-line (c .before .before .before .before) .loop in
-    ap fault (c .out-of-range-at .ensures) ∙ stored-range (borderLine zones) (zoneLineNo + zones) _ _ _ _ _ _ _ (l .inv) (c .before .before .before .before .before .before .before .before .loop-test .taken) _ (line-said (c .before .before .before .before .before) ∙ ap (λ (r : BorderLine). saidBorder r (c .before .before .before .before .before .border-line .last .1 .1 .1 .0)) (c .before .before .byte2 .given .1))
+    ap fault (c .out-of-range-at .ensures) ∙ stored-range (borderLine zones) _ _ _ _ _ _ _ _ (l .inv) (c .before .before .before .before .before .before .before .before .loop-test .taken) _ (line-said (c .before .before .before .before .before) ∙ ap (λ (r : BorderLine). saidBorder r (c .before .before .before .before .before .border-line .last .1 .1 .1 .0)) (c .before .before .byte2 .given .1))
 
 add-p : tie.Need-add-p Inv-loop μ-loop
 add-p c =
@@ -90,7 +89,7 @@ loop-again c =
     let zones = entry (at-loop-from-enum-told c) .args .zones in
     let l = at-loop-from-enum-told c .loop in
     rw (c .before .before .before .before .before .line-at .ensures)
-    (stored-more (borderLine zones) (zoneLineNo + zones) _ _ _ _ _ _ _ (l .inv) (c .before .before .before .before .before .before .loop-test .taken) _ (line-said (c .before .before .before) ∙ ap (λ (r : BorderLine). saidBorder r (c .before .before .before .border-line .last .1 .1 .1 .0)) (c .enum-told .given .1)))
+    (stored-more (borderLine zones) _ _ _ _ _ _ _ _ (l .inv) (c .before .before .before .before .before .before .loop-test .taken) _ (line-said (c .before .before .before) ∙ ap (λ (r : BorderLine). saidBorder r (c .before .before .before .border-line .last .1 .1 .1 .0)) (c .enum-told .given .1)))
 
 same-length-3 : tie.Need-same-length-3 Inv-loop μ-loop
 same-length-3 c = c .before .loop .inv .as-long
@@ -98,7 +97,7 @@ same-length-3 c = c .before .loop .inv .as-long
 returns-3 : tie.Need-returns-3 Inv-loop μ-loop
 returns-3 c =
     let zones = entry (c .before) .args .zones in
-    stored-all (borderLine zones) (zoneLineNo + zones) _ _ _ _ _ _ _ (c .before .loop .inv) (c .loop-test .left)
+    stored-all (borderLine zones) _ _ _ _ _ _ _ _ (c .before .loop .inv) (c .loop-test .left)
 
 pub borders-read-spec : {M : Type 1} → statement M
 borders-read-spec =
@@ -106,7 +105,6 @@ borders-read-spec =
     (tie.spec
     Inv-loop
     μ-loop
-    (λ c. omega arith)
     loop-holds
     line-at-requires
     (λ c. search needs)

@@ -9,18 +9,17 @@ use mir.Syntax.{w64}
 use mir.Val.{toZ, ofZ}
 use Rattle.text.specs.Line.{lineAt}
 use Rattle.block.specs.Block.{heldBy}
-use Rattle.table.specs.Table.{zoneLineNo}
-use Rattle.lines.specs.Lines.{zoneLine}
+use Rattle.lines.specs.Lines.{positionLine}
 use Rattle.lines.specs.Said.{saidZone}
 use Rattle.runs.proofs.StoredLaws.{after-within, Stored, stored-none, stored-all, stored-form, stored-range, stored-more, good-never}
 use Rattle.runs.proofs.zones.zones_filled.Statement.{statement}
 use Rattle.runs.proofs.zones.zones_filled.Tie as tie
 
 abbrev Inv-loop : tie.InvT-loop
-Inv-loop text at z₀ n i₀ p₀ z i p = Stored zoneLine zoneLineNo text at z₀ n z i p
+Inv-loop letter text at z₀ n i₀ p₀ z i p = Stored (positionLine letter) 0 text at z₀ n z i p
 
 abbrev μ-loop : tie.MeasureT-loop
-μ-loop text at z₀ n i₀ p₀ z i p = n - i
+μ-loop letter text at z₀ n i₀ p₀ z i p = n - i
 
 abbrev entry : tie.After-zone-line Inv-loop μ-loop → tie.Start Inv-loop μ-loop
 entry c = c .before .before .before .before .before
@@ -31,11 +30,11 @@ at-loop c = c .before .before .before
 -- what was said of the line at p
 line-said : (c : tie.After-zone-line Inv-loop μ-loop)
     → let l = at-loop c .loop in
-    zoneLine (lineAt (entry c .args .text .now) (l .p)) (l .i) ≡ saidZone (c .zone-line .result)
-line-said c = ap (λ (line : List ℕ). zoneLine line (at-loop c .loop .i)) (sym (c .before .line-at .ensures)) ∙ sym (c .zone-line .ensures)
+    positionLine (entry c .args .letter) (lineAt (entry c .args .text .now) (l .p)) (l .i) ≡ saidZone (c .zone-line .result)
+line-said c = ap (λ (line : List ℕ). positionLine (entry c .args .letter) line (at-loop c .loop .i)) (sym (c .before .line-at .ensures)) ∙ sym (c .zone-line .ensures)
 
 loop-holds : tie.Need-loop-holds Inv-loop μ-loop
-loop-holds c = stored-none zoneLine zoneLineNo _ _ _ (c .before .pre .0)
+loop-holds c = stored-none (positionLine _) 0 _ _ _ (c .before .pre .0)
 
 line-at-requires : tie.Need-line-at-requires Inv-loop μ-loop
 line-at-requires c κs = c .before .loop .inv .within
@@ -53,7 +52,7 @@ returns : tie.Need-returns Inv-loop μ-loop
 returns c =
     let l = at-loop (c .before .before) .loop in
     absurd (good-never _ _ (entry (c .before .before) .pre .1)
-    (stored-form zoneLine zoneLineNo _ _ _ _ _ _ _ (l .inv) (c .before .before .before .before .loop-test .taken) _ (line-said (c .before .before) ∙ ap saidZone (c .enum-told .given .1))))
+    (stored-form (positionLine _) 0 _ _ _ _ _ _ _ (l .inv) (c .before .before .before .before .loop-test .taken) _ (line-said (c .before .before) ∙ ap saidZone (c .enum-told .given .1))))
 
 same-length-2 : tie.Need-same-length-2 Inv-loop μ-loop
 same-length-2 c = at-loop (c .before .before) .loop .inv .as-long
@@ -62,7 +61,7 @@ returns-2 : tie.Need-returns-2 Inv-loop μ-loop
 returns-2 c =
     let l = at-loop (c .before .before) .loop in
     absurd (good-never _ _ (entry (c .before .before) .pre .1)
-    (stored-range zoneLine zoneLineNo _ _ _ _ _ _ _ (l .inv) (c .before .before .before .before .loop-test .taken) _ (line-said (c .before .before) ∙ ap saidZone (c .enum-told2 .given .1))))
+    (stored-range (positionLine _) 0 _ _ _ _ _ _ _ (l .inv) (c .before .before .before .before .loop-test .taken) _ (line-said (c .before .before) ∙ ap saidZone (c .enum-told2 .given .1))))
 
 add-p : tie.Need-add-p Inv-loop μ-loop
 add-p c =
@@ -75,13 +74,13 @@ loop-again c =
     let net = c .before .net .given .0 .0 in
     let plain-net : toZ w64 (ofZ w64 net) ≡ net = search needs in
     rw (plain-net, c .before .before .before .before .line-at .ensures)
-    (stored-more zoneLine zoneLineNo _ _ _ _ _ _ _ (l .inv) (c .before .before .before .before .before .loop-test .taken) net (line-said (c .before .before .before) ∙ ap saidZone (c .before .net .given .1)))
+    (stored-more (positionLine _) 0 _ _ _ _ _ _ _ (l .inv) (c .before .before .before .before .before .loop-test .taken) net (line-said (c .before .before .before) ∙ ap saidZone (c .before .net .given .1)))
 
 same-length-3 : tie.Need-same-length-3 Inv-loop μ-loop
 same-length-3 c = c .before .loop .inv .as-long
 
 returns-3 : tie.Need-returns-3 Inv-loop μ-loop
-returns-3 c = ap heldBy (stored-all zoneLine zoneLineNo _ _ _ _ _ _ _ (c .before .loop .inv) (c .loop-test .left))
+returns-3 c = ap heldBy (stored-all (positionLine _) 0 _ _ _ _ _ _ _ (c .before .loop .inv) (c .loop-test .left))
 
 pub zones-filled-spec : {M : Type 1} → statement M
 zones-filled-spec =

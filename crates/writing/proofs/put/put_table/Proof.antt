@@ -3,12 +3,12 @@ use native.Mathlib.Omega.{arith}
 use borrow.Author.Needs.{needs}
 use Rattle.kinds.proofs.KindLaws.{header-in}
 use Rattle.table.specs.Table.{Table, lent}
-use Rattle.writing.proofs.TextLaws.{text-length, zones-room, borders-room, rows-room, text-put, factors-all}
+use Rattle.writing.proofs.TextLaws.{text-length, zones-room, allocated-room, borders-room, rows-room, text-put, factors-all}
 use Rattle.writing.proofs.put.put_table.Statement.{statement}
 use Rattle.writing.proofs.put.put_table.Tie as tie
 
 abbrev table : tie.Start → Table
-table s = lent (s .args .h) (s .args .z .now) (s .args .b .now) (s .args .c .now) (s .args .f .now)
+table s = lent (s .args .h) (s .args .z .now) (s .args .t .now) (s .args .b .now) (s .args .c .now) (s .args .f .now)
 
 put-header-requires : tie.Need-put-header-requires
 put-header-requires c κs = let s = c .before .before in (s .pre .0 .exact .header, omega (arith, s .pre .1, text-length (table s) (s .pre .0)))
@@ -16,21 +16,24 @@ put-header-requires c κs = let s = c .before .before in (s .pre .0 .exact .head
 put-zones-requires : tie.Need-put-zones-requires
 put-zones-requires c κs = let s = c .before .before .before .before .before .before in zones-room (table s) (s .pre .0) (c .before .before .before .put-header .ensures) (s .pre .1)
 
+put-zones-requires-2 : tie.Need-put-zones-requires-2
+put-zones-requires-2 c κs = let s = c .before .before .before .before .before .before .before .before .before .before in allocated-room (table s) (s .pre .0) (c .before .before .before .before .before .before .before .put-header .ensures) (c .before .before .before .put-zones .ensures) (s .pre .1)
+
 put-borders-requires : tie.Need-put-borders-requires
-put-borders-requires c κs = let s = c .before .before .before .before .before .before .before .before .before .before in borders-room (table s) (s .pre .0) (c .before .before .before .before .before .before .before .put-header .ensures) (c .before .before .before .put-zones .ensures) (s .pre .1)
+put-borders-requires c κs = let s = c .before .before .before .before .before .before .before .before .before .before .before .before .before .before in borders-room (table s) (s .pre .0) (c .before .before .before .before .before .before .before .before .before .before .before .put-header .ensures) (c .before .before .before .before .before .before .before .put-zones .ensures) (c .before .before .before .put-zones2 .ensures) (s .pre .1)
 
 abbrev entry : tie.After-put-rows-arg → tie.Start
-entry c = c .before .before .before .before .before .before .before .before .before .before .before .before .before .before
+entry c = c .before .before .before .before .before .before .before .before .before .before .before .before .before .before .before .before .before .before
 
 put-rows-requires : tie.Need-put-rows-requires
 put-rows-requires c κs =
     let s = entry c in
-    (factors-all (table s) (s .pre .0), omega (arith, header-in (s .args .h) (s .pre .0 .exact .header) .zones-least), header-in (s .args .h) (s .pre .0 .exact .header) .zones-most, rows-room (table s) (s .pre .0) (c .before .before .before .before .before .before .before .before .before .before .before .put-header .ensures) (c .before .before .before .before .before .before .before .put-zones .ensures) (c .before .before .before .put-borders .ensures) (s .pre .1))
+    (factors-all (table s) (s .pre .0), omega (arith, header-in (s .args .h) (s .pre .0 .exact .header) .zones-least), header-in (s .args .h) (s .pre .0 .exact .header) .zones-most, rows-room (table s) (s .pre .0) (c .before .before .before .before .before .before .before .before .before .before .before .before .before .before .before .put-header .ensures) (c .before .before .before .before .before .before .before .before .before .before .before .put-zones .ensures) (c .before .before .before .before .before .before .before .put-zones2 .ensures) (c .before .before .before .put-borders .ensures) (s .pre .1))
 
 returns : tie.Need-returns
 returns c =
     let s = entry (c .before .before .before) in
-    text-put (table s) (s .pre .0) (c .before .before .before .before .before .before .before .before .before .before .before .before .before .before .put-header .ensures) (c .before .before .before .before .before .before .before .before .before .before .put-zones .ensures) (c .before .before .before .before .before .before .put-borders .ensures) (c .before .before .put-rows .ensures)
+    text-put (table s) (s .pre .0) (c .before .before .before .before .before .before .before .before .before .before .before .before .before .before .before .before .before .before .put-header .ensures) (c .before .before .before .before .before .before .before .before .before .before .before .before .before .before .put-zones .ensures) (c .before .before .before .before .before .before .before .before .before .before .put-zones2 .ensures) (c .before .before .before .before .before .before .put-borders .ensures) (c .before .before .put-rows .ensures)
 
 pub put-table-spec : {M : Type 1} → statement M
-put-table-spec = tie.close (tie.spec put-header-requires put-zones-requires put-borders-requires put-rows-requires (λ c. search needs) returns)
+put-table-spec = tie.close (tie.spec put-header-requires put-zones-requires put-zones-requires-2 put-borders-requires put-rows-requires (λ c. search needs) returns)

@@ -3,7 +3,7 @@ use Prim.Native.Nat.{_≤_, _-_}
 use native.Mathlib.Omega.{arith}
 use lib.ListN.{length}
 use Rattle.numbers.proofs.IntLaws.{plain}
-use Rattle.writing.specs.Writing.{zoneTextAt, zonesText}
+use Rattle.writing.specs.Writing.{positionTextAt, positionsText}
 use Rattle.text.specs.Written.{linesText}
 use Rattle.text.specs.Put.{Put}
 use Rattle.text.proofs.PutLaws.{lines-none, lines-more, lines-all, lines-room, put-kept}
@@ -11,10 +11,10 @@ use Rattle.writing.proofs.put.put_zones.Statement.{statement}
 use Rattle.writing.proofs.put.put_zones.Tie as tie
 
 abbrev Inv-loop : tie.InvT-loop
-Inv-loop z out₀ at next₀ i₀ i-end out next i = (i ≤ length z) × Put (linesText i 0 (zoneTextAt z)) at out₀ next out
+Inv-loop letter z out₀ at next₀ i₀ i-end out next i = (i ≤ length z) × Put (linesText i 0 (positionTextAt letter z)) at out₀ next out
 
 abbrev μ-loop : tie.MeasureT-loop
-μ-loop z out₀ at next₀ i₀ i-end out next i = length z - i
+μ-loop letter z out₀ at next₀ i₀ i-end out next i = length z - i
 
 loop-holds : tie.Need-loop-holds Inv-loop μ-loop
 loop-holds c = (omega arith, lines-none _ _ _)
@@ -23,17 +23,17 @@ put-zone-requires : tie.Need-put-zone-requires Inv-loop μ-loop
 put-zone-requires c κs =
     let s = c .before .before .before .before .before in
     let head = c .before .before .before .loop in
-    simp (plain, c .before .put-zone-arg .given) (lines-room (zoneTextAt (s .args .z .now)) (head .i) (length (s .args .z .now)) (omega arith) (s .pre) (head .inv .1))
+    simp (plain, c .before .put-zone-arg .given) (lines-room (positionTextAt (s .args .letter) (s .args .z .now)) (head .i) (length (s .args .z .now)) (omega arith) (s .pre) (head .inv .1))
 
 loop-again : tie.Need-loop-again Inv-loop μ-loop
 loop-again c =
     let s = c .before .before .before .before .before .before .before .before in
     let head = c .before .before .before .before .before .before .loop in
-    (omega arith, lines-more (zoneTextAt (s .args .z .now)) (omega (arith, s .pre)) (head .inv .1) (simp (plain, c .before .before .before .before .put-zone-arg .given) at (c .before .before .put-zone .ensures)))
+    (omega arith, lines-more (positionTextAt (s .args .letter) (s .args .z .now)) (omega (arith, s .pre)) (head .inv .1) (simp (plain, c .before .before .before .before .put-zone-arg .given) at (c .before .before .put-zone .ensures)))
 
 -- all lines are written
-all : (c : tie.After-loop Inv-loop μ-loop) → let s = c .before .before .before in Put (zonesText (s .args .z .now)) (s .args .at) (s .args .out .now) (c .before .loop .next) (c .before .loop .out)
-all c = lines-all (zoneTextAt (c .before .before .before .args .z .now)) (c .before .loop .inv .0) (omega arith) (c .before .loop .inv .1)
+all : (c : tie.After-loop Inv-loop μ-loop) → let s = c .before .before .before in Put (positionsText (s .args .letter) (s .args .z .now)) (s .args .at) (s .args .out .now) (c .before .loop .next) (c .before .loop .out)
+all c = lines-all (positionTextAt (c .before .before .before .args .letter) (c .before .before .before .args .z .now)) (c .before .loop .inv .0) (omega arith) (c .before .loop .inv .1)
 
 same-length : tie.Need-same-length Inv-loop μ-loop
 same-length c = put-kept (all c) (c .before .before .before .pre)

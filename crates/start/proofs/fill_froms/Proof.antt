@@ -1,25 +1,25 @@
--- `start::fill_ltas` meets its contract. The invariant: the first i exchanges are at LTA.
+-- `start::fill_froms` meets its contract. The invariant: the first i exchanges are where the profile says.
 use mathlib.Core.List.{[]}
 use Prim.Native.Nat.{_-_}
 use native.Mathlib.Omega.{arith}
 use lib.ListN.{length, getD}
 use Rattle.numbers.proofs.ListLaws.{Filled, filled-none, filled-more, filled-all}
 use Rattle.kinds.specs.Ranges.{borderOf}
-use Rattle.margin.specs.Margin.{ltaKw}
-use Rattle.start.proofs.fill_ltas.Statement.{statement}
-use Rattle.start.proofs.fill_ltas.Tie as tie
+use Rattle.start.specs.Start.{fromBy}
+use Rattle.start.proofs.fill_froms.Statement.{statement}
+use Rattle.start.proofs.fill_froms.Tie as tie
 
 abbrev Inv-loop : tie.InvT-loop
-Inv-loop zones b x₀ i₀ i-end x i = Filled (λ i. ltaKw (borderOf (getD b i []))) (length b) x₀ x i
+Inv-loop intraday zones b x₀ i₀ i-end x i = Filled (λ i. fromBy intraday (borderOf (getD b i []))) (length b) x₀ x i
 
 abbrev μ-loop : tie.MeasureT-loop
-μ-loop zones b x₀ i₀ i-end x i = length b - i
+μ-loop intraday zones b x₀ i₀ i-end x i = length b - i
 
 loop-holds : tie.Need-loop-holds Inv-loop μ-loop
 loop-holds c = filled-none _ _ _
 
-lta-of-requires : tie.Need-lta-of-requires Inv-loop μ-loop
-lta-of-requires c κs = c .before .before .before .before .pre .0 .each _ (omega arith)
+from-of-requires : tie.Need-from-of-requires Inv-loop μ-loop
+from-of-requires c κs = c .before .before .before .before .pre .0 .each _ (omega arith)
 
 mul-x : tie.Need-mul-x Inv-loop μ-loop
 mul-x c = omega (arith, c .before .before .before .loop .inv .as-long)
@@ -28,7 +28,7 @@ slice-write-x : tie.Need-slice-write-x Inv-loop μ-loop
 slice-write-x c = omega (arith, c .before .before .before .loop .inv .as-long)
 
 loop-again : tie.Need-loop-again Inv-loop μ-loop
-loop-again c = filled-more (c .before .before .before .loop .inv) _ (omega arith) (omega (arith, c .before .before .before .before .before .pre .1)) (c .lta-of .ensures)
+loop-again c = filled-more (c .before .before .before .loop .inv) _ (omega arith) (omega (arith, c .before .before .before .before .before .pre .1)) (c .from-of .ensures)
 
 same-length : tie.Need-same-length Inv-loop μ-loop
 same-length c = c .before .loop .inv .as-long
@@ -36,8 +36,8 @@ same-length c = c .before .loop .inv .as-long
 returns : tie.Need-returns Inv-loop μ-loop
 returns c = filled-all (c .before .loop .inv) (omega arith) (c .before .before .before .pre .1)
 
-pub fill-ltas-spec : {M : Type 1} → statement M
-fill-ltas-spec =
+pub fill-froms-spec : {M : Type 1} → statement M
+fill-froms-spec =
     tie.close
     (tie.spec
     Inv-loop
@@ -45,7 +45,7 @@ fill-ltas-spec =
     loop-holds
     (λ c. omega arith)
     (λ c. omega arith)
-    lta-of-requires
+    from-of-requires
     mul-x
     slice-write-x
     (λ c. omega arith)

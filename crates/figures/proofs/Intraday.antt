@@ -1,0 +1,101 @@
+-- 02, E12: the worked intraday hour (hours/intraday.tsv), one row of which has a negative remainder, from text to text; and what T lines are refused for. By computation.
+use mathlib.Core.Path.{_≡_, refl}
+use mathlib.Core.List.{List, [], _∷_, _++_}
+use Prim.Native.Nat.{ℕ, _+_}
+use Prim.Native.String.{String}
+use lib.IntN.{pos}
+use lib.ListN.{length}
+use Rattle.numbers.specs.Below.{table}
+use Rattle.numbers.specs.Ints.{minus}
+use Rattle.kinds.specs.Refusals.{passed, refused, refusal, either}
+use Rattle.text.specs.Sheets.{sheet}
+use Rattle.text.specs.Written.{decimal}
+use Rattle.table.specs.Table.{Table}
+use Rattle.reading.specs.Reading.{balanceByte, readText}
+use Rattle.writing.specs.Writing.{tableText}
+use Rattle.start.specs.Start.{every}
+use Rattle.extraction.specs.Extraction.{outcomeOf, resultOf}
+use Rattle.promises.specs.DemandIn.{IntradayDemand3}
+use Rattle.promises.proofs.Demand3.{accepted-intraday}
+use Rattle.answer.specs.Result.{answerText}
+use Rattle.figures.specs.Computing.{computing}
+use Rattle.figures.specs.Borders.{plainBorder}
+
+-- the hour with T lines of one's own
+abbrev withT : String → List ℕ
+withT t =
+    sheet "H 3 3 4/Z 0 400000/Z 1 100000/Z 2 -500000/" ++ sheet t ++ sheet "B 0 0 1 100/B 1 1 2 200/B 2 2 1 50/"
+    ++ sheet "C 0 500000 50000 100000 10000 7000 0 0 20000 0 0/"
+    ++ sheet "C 1 100000 10000 45000 0 7000 0 30000 5000 15000 0/"
+    ++ sheet "C 2 200000 20000 -20000 0 - 0 0 0 0 10000/"
+    ++ sheet "C 3 600000 60000 60000 10000 7000 0 0 10000 0 -10000/"
+
+abbrev text : List ℕ
+text = withT "T 0 600000/T 1 200000/T 2 -800000/"
+
+-- remainders of 310, -10, 230 and 430 MW
+abbrev result : List ℕ
+result = sheet "A 0 1550/A 1 0/A 2 2300/M 0 0 43000000000 0/M 1 0 5000000000 0/M 2 0 15000000000 0/M 3 0 57000000000 27500000000/R 1/"
+
+abbrev hour : Table
+hour =
+    record {
+      header = record { zones = 3; borders = 3; rows = 4; share = minus 1; intraday = 1 };
+      nets = pos 400000 ∷ pos 100000 ∷ minus 500000 ∷ [];
+      allocated = pos 600000 ∷ pos 200000 ∷ minus 800000 ∷ [];
+      borders = plainBorder 0 1 100 ∷ plainBorder 1 2 200 ∷ plainBorder 2 1 50 ∷ [];
+      rows =
+          (pos 500000 ∷ pos 50000 ∷ pos 100000 ∷ pos 10000 ∷ pos 7000 ∷ pos 0 ∷ pos 0 ∷ [])
+          ∷ (pos 100000 ∷ pos 10000 ∷ pos 45000 ∷ pos 0 ∷ pos 7000 ∷ pos 0 ∷ pos 30000 ∷ [])
+          ∷ (pos 200000 ∷ pos 20000 ∷ minus 20000 ∷ pos 0 ∷ minus 1 ∷ pos 0 ∷ pos 0 ∷ [])
+          ∷ (pos 600000 ∷ pos 60000 ∷ pos 60000 ∷ pos 10000 ∷ pos 7000 ∷ pos 0 ∷ pos 0 ∷ [])
+          ∷ [];
+      factors =
+          pos 20000 ∷ pos 0 ∷ pos 0 ∷ pos 5000 ∷ pos 15000 ∷ pos 0 ∷ pos 0 ∷ pos 0 ∷ pos 10000 ∷ pos 10000 ∷ pos 0 ∷ minus 10000 ∷ [];
+    }
+
+-- whether a text that is read has the intraday mark
+abbrev mark : List ℕ → ℕ
+mark t = either (readText t) (λ u. u .header .intraday) (λ w. 9)
+
+pub record Intraday : Type 0 where
+  pub answered : answerText text ≡ result
+  pub read : readText text ≡ passed hour
+  pub written : tableText hour ≡ text
+  -- no T line, and T all zero: another profile
+  pub without : mark (withT "") ≡ 0
+  pub zeros : mark (withT "T 0 0/T 1 0/T 2 0/") ≡ 1
+  -- a T line too few, and one too many, which is a B line of another letter
+  pub few : readText (withT "T 0 0/T 1 0/") ≡ refused (refusal 2 7 0)
+  pub many : readText (withT "T 0 0/T 1 0/T 2 0/T 3 0/") ≡ refused (refusal 2 8 0)
+  -- the sum, at the last T line; its own form and range come first
+  pub sum : readText (withT "T 0 600000/T 1 200000/T 2 -799999/") ≡ refused (refusal 3 7 5)
+  pub form : readText (withT "T 0 600000/T 1 200000/T 2 -799999x/") ≡ refused (refusal 2 7 12)
+  pub range : readText (withT "T 0 600000/T 1 100000001/T 2 0/") ≡ refused (refusal 3 6 5)
+  -- the byte of the last position, at 2 to 16 zones: after the letter, a tab, the index and a tab
+  pub bytes : table 15 (λ k. balanceByte (k + 2)) ≡ table 15 (λ k. 4 + length (decimal (k + 1)))
+
+pub intraday : Intraday
+unfolding computing
+intraday =
+    record {
+      answered = refl;
+      read = refl;
+      written = refl;
+      without = refl;
+      zeros = refl;
+      few = refl;
+      many = refl;
+      sum = refl;
+      form = refl;
+      range = refl;
+      bytes = refl;
+    }
+
+hour-end : outcomeOf hour ≡ passed (resultOf hour)
+unfolding computing
+hour-end = refl
+
+-- E12's demand 3 of it
+pub hour-demand : IntradayDemand3 hour every (hour .allocated) (resultOf hour)
+hour-demand = accepted-intraday hour refl (resultOf hour) hour-end

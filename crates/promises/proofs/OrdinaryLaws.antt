@@ -1,0 +1,36 @@
+-- Only state 0, every border and the table's own profile: the outcome of 01 and of 02, E12. No contract cites this file.
+use mathlib.Core.Path.{_≡_, sym, ap, _∙_}
+use mathlib.Core.Bool.{Bool, true, false}
+use native.Mathlib.Omega.{arith}
+use lib.IntN.{pos}
+use Rattle.numbers.proofs.IntLaws.{same-true}
+use Rattle.kinds.specs.Ranges.{isIntraday}
+use Rattle.kinds.proofs.KindLaws.{allocated-most}
+use Rattle.table.specs.Table.{Table, balanced}
+use Rattle.table.specs.Good.{Good}
+use Rattle.start.specs.Setup.{endBy}
+use Rattle.start.specs.Start.{rowsOf, kept, every, setupOf, setupWith}
+use Rattle.extraction.specs.Extraction.{resultOf, outcomeOf}
+use Rattle.promises.specs.Ways.{dayAhead, onTopOf, profileOf, setupIn, resultIn, outcomeIn, Balanced}
+use Rattle.promises.proofs.SetupLaws.{then-judged}
+
+pub outcome-ordinary : (t : Table) → outcomeIn (profileOf t) kept every t ≡ outcomeOf t
+unfolding outcomeIn outcomeOf resultIn endBy resultOf setupIn setupWith
+outcome-ordinary t = sym (then-judged (setupOf kept every t) (rowsOf t .states) (λ states. resultOf t))
+
+-- by the header's mark: 01's profile, and the intraday one on top of the table's T
+pub setup-day : (t : Table) → isIntraday (t .header) ≡ false → setupOf kept every t ≡ setupIn dayAhead kept every t
+unfolding setupIn setupWith
+setup-day t day = ap (λ (k : Bool). setupIn (record { intraday = k; allocated = t .allocated }) kept every t) day
+
+pub outcome-day : (t : Table) → isIntraday (t .header) ≡ false → outcomeIn dayAhead kept every t ≡ outcomeOf t
+unfolding outcomeIn resultIn setupIn
+outcome-day t day = ap (λ (k : Bool). outcomeIn (record { intraday = k; allocated = t .allocated }) kept every t) (sym day) ∙ outcome-ordinary t
+
+pub outcome-intraday : (t : Table) → isIntraday (t .header) ≡ true → outcomeIn (onTopOf (t .allocated)) kept every t ≡ outcomeOf t
+outcome-intraday t late = ap (λ (k : Bool). outcomeIn (record { intraday = k; allocated = t .allocated }) kept every t) (sym late) ∙ outcome-ordinary t
+
+-- the T positions of a judged table are in balance
+pub table-balanced : (t : Table) → Good t → Balanced (t .header .zones) (t .allocated)
+unfolding balanced
+table-balanced t good = record { few = omega (arith, good .exact .allocated-long, allocated-most (t .header)); none = same-true _ (pos 0) (good .in-balance) }
