@@ -22,6 +22,8 @@ const HOURS: [&str; 6] =
 
 /// No factor is so large.
 const UNFILLED: u64 = 7_000_000;
+/// No result is this.
+const UNSAID: i64 = -7;
 
 struct Hour {
     text: Vec<u8>,
@@ -30,7 +32,7 @@ struct Hour {
 
 impl Hour {
     fn lent(&self) -> Lent<'_> {
-        let Tables { header, z, b, c, f } = &self.tables;
+        let Tables { header, z, b, c, f, .. } = &self.tables;
         Lent { zones: header.zones, borders: header.borders, rows: header.rows, share: header.share, z, b, c, f }
     }
 }
@@ -39,7 +41,8 @@ impl Hour {
 struct Room {
     /// the factors by border: the library and the second program fill it, the other designs have their own
     p: Vec<u64>,
-    atc: Vec<[i64; 1]>,
+    /// ATC, last round and stopping row: the library and the second program say all three, the other designs the ATC alone
+    atc: Vec<[i64; 3]>,
     left: Vec<[i64; 3]>,
     tables: Tables,
     out: Vec<u8>,
@@ -48,19 +51,22 @@ struct Room {
 impl Room {
     fn for_hour(hour: &Hour) -> Room {
         let mut tables = hour.tables.clone();
-        tables.z.fill(-7);
-        tables.b.fill([-7; 5]);
-        tables.c.fill([-7; 7]);
-        tables.f.fill(-7);
+        tables.z.fill(UNSAID);
+        tables.b.fill([UNSAID; 5]);
+        tables.c.fill([UNSAID; 7]);
+        tables.f.fill(UNSAID);
         let header = tables.header;
         let p = vec![UNFILLED; header.rows * header.borders];
-        Room { p, atc: vec![[-7]; header.borders], left: vec![[-7; 3]; header.rows], tables, out: vec![0; 65_536] }
+        Room { p, atc: vec![[UNSAID; 3]; header.borders], left: vec![[UNSAID; 3]; header.rows], tables, out: vec![0; 65_536] }
     }
 
     fn same(&self, other: &Room) -> bool {
         let unfilled = |room: &Room| room.p.iter().all(|p| *p == UNFILLED);
         let same_p = self.p == other.p || unfilled(self) || unfilled(other);
-        same_p && self.atc == other.atc && self.left == other.left && self.tables == other.tables && self.out == other.out
+        let same_item = |(one, two): (&i64, &i64)| one == two || *one == UNSAID || *two == UNSAID;
+        let same_record = |(one, two): (&[i64; 3], &[i64; 3])| one[0] == two[0] && one.iter().zip(two).all(same_item);
+        let same_atc = self.atc.iter().zip(&other.atc).all(same_record);
+        same_p && same_atc && self.left == other.left && self.tables == other.tables && self.out == other.out
     }
 }
 
@@ -86,11 +92,10 @@ fn new_rounds(hour: &Hour, room: &mut Room) -> u64 {
 
 /// The second program, in 128-bit numbers.
 fn second_program(hour: &Hour, room: &mut Room) -> u64 {
-    let Tables { header, z, b, c, f } = &hour.tables;
-    let outcome = second::extract(*header, z, b, c, f, room.p.len(), room.atc.len(), room.left.len()).expect("accepted");
+    let outcome = second::extract(hour.tables.lend(), room.p.len(), room.atc.len(), room.left.len()).expect("accepted");
     room.p.copy_from_slice(&outcome.p);
-    for (atc, mw) in room.atc.iter_mut().zip(&outcome.atc) {
-        *atc = [*mw as i64];
+    for (border, mw) in outcome.atc.iter().enumerate() {
+        room.atc[border] = [*mw as i64, outcome.last[border] as i64, outcome.stop[border] as i64];
     }
     for (left, row) in room.left.iter_mut().zip(&outcome.rows) {
         *left = [i64::from(row.state), row.ram as i64, row.left.map_or(-1, |margin| margin as i64)];
@@ -145,14 +150,13 @@ fn keep(text: Vec<u8>, room: &mut Room) -> u64 {
 
 /// The second program's reading.
 fn second_read(hour: &Hour, room: &mut Room) -> u64 {
-    room.tables = second::read(&hour.text, [usize::MAX; 4]).expect("a good table");
+    room.tables = second::read(&hour.text, [usize::MAX; 5]).expect("a good table");
     room.tables.c.len() as u64
 }
 
 /// The second program's result text.
 fn second_result_text(hour: &Hour, room: &mut Room) -> u64 {
-    let Tables { header, z, b, c, f } = &hour.tables;
-    keep(second::result_text(*header, z, b, c, f, room.out.len()).expect("accepted"), room)
+    keep(second::result_text(hour.tables.lend(), room.out.len()).expect("accepted"), room)
 }
 
 /// The second program from text to text.
@@ -162,8 +166,7 @@ fn second_answer(hour: &Hour, room: &mut Room) -> u64 {
 
 /// The second program's writing.
 fn second_write(hour: &Hour, room: &mut Room) -> u64 {
-    let Tables { header, z, b, c, f } = &hour.tables;
-    keep(second::write(*header, z, b, c, f, room.out.len()).expect("a good table"), room)
+    keep(second::write(hour.tables.lend(), room.out.len()).expect("a good table"), room)
 }
 
 /// What a call answers: the rounds, the items that it wants, or the rows or bytes of its text.
@@ -315,7 +318,7 @@ fn once(design: &str, path: &str) {
 
 fn hour_of(path: &str) -> Hour {
     let text = std::fs::read(path).unwrap_or_else(|error| panic!("{path}: {error}"));
-    let tables = second::read(&text, [usize::MAX; 4]).expect("a good table");
+    let tables = second::read(&text, [usize::MAX; 5]).expect("a good table");
     Hour { text, tables }
 }
 

@@ -75,7 +75,7 @@ linked! {
     fn keravnoth_extract(
         header: Header,
         z: *const i64, nz: usize, t: *const i64, nt: usize, b: *const [i64; 5], nb: usize, c: *const [i64; 7], nc: usize, f: *const i64, nf: usize,
-        p: *mut u64, np: usize, atc: *mut [i64; 1], natc: usize, left: *mut [i64; 3], nleft: usize
+        p: *mut u64, np: usize, atc: *mut [i64; 3], natc: usize, left: *mut [i64; 3], nleft: usize
     ) -> Extracted;
     fn keravnoth_result_text(
         header: Header,
@@ -113,7 +113,7 @@ pub fn write(t: &Lent, out: &mut [u8]) -> Written {
     unsafe { on_lent!(keravnoth_write(t, out)) }
 }
 
-pub fn extract(t: &Lent, p: &mut [u64], atc: &mut [[i64; 1]], left: &mut [[i64; 3]]) -> Extracted {
+pub fn extract(t: &Lent, p: &mut [u64], atc: &mut [[i64; 3]], left: &mut [[i64; 3]]) -> Extracted {
     unsafe { on_lent!(keravnoth_extract(t, p, atc, left)) }
 }
 

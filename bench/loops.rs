@@ -27,8 +27,8 @@ impl Work<'_> {
     }
 }
 
-/// The whole call with the rounds of a design. Nothing but the rounds differs from design to design.
-pub fn extract(t: &Lent, atc: &mut [[i64; 1]], left: &mut [[i64; 3]], rounds: impl Fn(&mut Work) -> u64) -> Result<u64, Refusal> {
+/// The whole call with the rounds of a design, which keeps no last rounds and no stopping rows. Nothing but the rounds differs from design to design.
+pub fn extract(t: &Lent, atc: &mut [[i64; 3]], left: &mut [[i64; 3]], rounds: impl Fn(&mut Work) -> u64) -> Result<u64, Refusal> {
     let mut room = Room::new();
     prepare(t, &mut room, atc.len(), left.len())?;
     let (rows, borders) = (t.rows, t.borders);
@@ -43,7 +43,7 @@ pub fn extract(t: &Lent, atc: &mut [[i64; 1]], left: &mut [[i64; 3]], rounds: im
     }
     let done = rounds(&mut Work { borders, p, ns: &ns[..rows], margins, x: &mut x[..borders] });
     for (atc, x) in atc.iter_mut().zip(&x[..borders]) {
-        *atc = [(x / 1_000) as i64];
+        atc[0] = (x / 1_000) as i64;
     }
     for i in 0..rows {
         let margin_left = if room.states[i] == 0 { room.margins[i] as i64 } else { -1 };

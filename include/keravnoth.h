@@ -34,7 +34,9 @@
  *            border with hubs from factor - sending + receiving - to factor), and 0
  *            where that is negative; row i's start at item i * borders, border
  *            after border; 0 where the row's state is not 0
- *   atc      one record a border: ATC
+ *   atc      one record a border: ATC, the last round that raised the border (0
+ *            if none did), and the row that stopped it: the first of state 0 with
+ *            p > 0 whose equal share of its margin left is under one kW for it
  *   left     one record a row: state (0 kept, 1 under 5%, 2 parallel to a row
  *            that is kept), RAM in grains, margin left in grains or -1 where the
  *            state is not 0
@@ -125,7 +127,7 @@
 extern "C" {
 #endif
 
-#define KERAVNOTH_VERSION 7
+#define KERAVNOTH_VERSION 8
 
 /* The largest table, in items. */
 enum {
@@ -188,10 +190,13 @@ enum {
     KERAVNOTH_R_DASH = -1
 };
 
-/* .. of atc. */
+/* .. of atc; the stopping row where no row loads the border. */
 enum {
     KERAVNOTH_ATC_MW,
-    KERAVNOTH_ATC_ITEMS
+    KERAVNOTH_ATC_LAST_ROUND,
+    KERAVNOTH_ATC_STOP_ROW,
+    KERAVNOTH_ATC_ITEMS,
+    KERAVNOTH_NO_ROW = -1
 };
 
 /* .. of left; the states; the margin left where the state is not 0. */
@@ -216,11 +221,11 @@ enum {
 enum {
     KERAVNOTH_READ_STACK = 5120,
     KERAVNOTH_WRITE_STACK = 2048,
-    KERAVNOTH_EXTRACT_STACK = 16384,
-    KERAVNOTH_RESULT_TEXT_STACK = 121856,
-    KERAVNOTH_ANSWER_STACK = 160768,
-    KERAVNOTH_CORNER_FLOWS_STACK = 2048,
-    KERAVNOTH_CORNER_TEXT_STACK = 34816
+    KERAVNOTH_EXTRACT_STACK = 17408,
+    KERAVNOTH_RESULT_TEXT_STACK = 122880,
+    KERAVNOTH_ANSWER_STACK = 162816,
+    KERAVNOTH_CORNER_FLOWS_STACK = 3072,
+    KERAVNOTH_CORNER_TEXT_STACK = 35840
 };
 
 /* The header of a table, by value; share where the H line does not write it, and
@@ -308,8 +313,8 @@ struct KeravnothExtracted keravnoth_extract(
     int64_t (*atc)[KERAVNOTH_ATC_ITEMS], size_t natc,
     int64_t (*left)[KERAVNOTH_LEFT_ITEMS], size_t nleft);
 
-/* The same as text: A lines (index, ATC), M lines (index, state, RAM, margin left
-   or "-"), one R line (rounds).  Refusals 3 to 8. */
+/* The same as text: A lines (index, ATC, last round, stopping row), M lines (index,
+   state, RAM, margin left or "-"), one R line (rounds).  Refusals 3 to 8. */
 struct KeravnothWritten keravnoth_result_text(
     struct KeravnothHeader header,
     const int64_t *z, size_t nz,

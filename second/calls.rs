@@ -219,7 +219,7 @@ impl Bridge {
         &mut self,
         mut l: Lent,
         p: &mut [u64],
-        atc: &mut [[i64; 1]],
+        atc: &mut [[i64; 3]],
         left: &mut [[i64; 3]],
     ) -> Result<Extracted, Ended> {
         self.begin(wire::EXTRACT, l.header);

@@ -424,12 +424,14 @@ impl Comparison {
         let found = self.bridge.extract(l.lend(), &mut p.whole, &mut atc.whole, &mut left.whole);
         let found = self.said("keravnoth_extract", found, &|| l.shown());
         let mut wanted_p: &[u64] = &[];
-        let mut wanted_atc: Vec<[i64; 1]> = Vec::new();
+        let mut wanted_atc: Vec<[i64; 3]> = Vec::new();
         let mut wanted_left: Vec<[i64; 3]> = Vec::new();
         let (Refusal { number, place, byte }, rounds) = match &reference {
             Ok(o) => {
                 wanted_p = &o.p;
-                wanted_atc.extend(o.atc.iter().map(|mw| [*mw as i64]));
+                wanted_atc.extend((0..o.atc.len()).map(|border| {
+                    [o.atc[border] as i64, o.last[border] as i64, o.stop[border] as i64]
+                }));
                 wanted_left.extend(o.rows.iter().map(|row| {
                     [i64::from(row.state), row.ram as i64, row.left.map_or(-1, |margin| margin as i64)]
                 }));
@@ -456,6 +458,7 @@ impl Comparison {
             Ok(outcome) => {
                 self.p_is_p(l, p.part(), left.part(), outcome);
                 self.demand_3(d, l, found, atc.part(), left.part(), outcome);
+                self.stopped(l, found, p.part(), atc.part(), left.part());
             }
             Err(refusal) => self.see_p(l, room, *refusal),
         }
@@ -996,6 +999,38 @@ impl Comparison {
         }
     }
 
+    // --------------------------------------------- which row stopped a border
+
+    /// By the library's own numbers: the row named for a border is kept, has p > 0
+    /// and a share under one kW, and none before it is so; some border rose in the
+    /// last round, none after it.
+    fn stopped(&mut self, l: &LentTables, found: Extracted, p: &[u64], atc: &[[i64; 3]], left: &[[i64; 3]]) {
+        let h = l.header;
+        let stops = |row: usize, border: usize| {
+            let own = &p[row * h.borders..(row + 1) * h.borders];
+            let n = own.iter().filter(|p| **p > 0).count() as i64;
+            left[row][0] == 0 && own[border] > 0 && left[row][2] / n / own[border] as i64 == 0
+        };
+        for border in 0..h.borders {
+            let [mw, last, row] = atc[border];
+            let first = (0..h.rows).find(|row| stops(*row, border));
+            if first.is_none_or(|first| row != first as i64) {
+                let details = format!("border {border}: row {row}, by the margins left {first:?}");
+                self.fail("keravnoth_extract", &details, &l.shown());
+            }
+            let start = if h.intraday == INTRADAY { 0 } else { l.b.part()[border][LTA] };
+            if last == 0 && mw != start {
+                let details = format!("border {border} is at {mw}, not at {start}, and never rose");
+                self.fail("keravnoth_extract", &details, &l.shown());
+            }
+        }
+        let last = (0..h.borders).map(|border| atc[border][1] as u64).max();
+        if last != Some(found.rounds) {
+            let details = format!("the last round that raised a border is {last:?} of {}", found.rounds);
+            self.fail("keravnoth_extract", &details, &l.shown());
+        }
+    }
+
     // ----------------------------------------------------------- demand 3
 
     /// Exchanges up to the library's own ATCs load no kept row beyond its RAM, or,
@@ -1006,7 +1041,7 @@ impl Comparison {
         d: &mut Dice,
         l: &LentTables,
         found: Extracted,
-        atc: &[[i64; 1]],
+        atc: &[[i64; 3]],
         left: &[[i64; 3]],
         outcome: &Outcome,
     ) {
@@ -1401,6 +1436,7 @@ impl Comparison {
         if h.intraday == INTRADAY {
             self.remainders(t, o);
         }
+        self.stops(t, o);
         let zones = h.zones;
         for row in 0..h.rows {
             let own = &t.f[row * zones..(row + 1) * zones];
@@ -1435,6 +1471,37 @@ impl Comparison {
         let loads = |row: usize, b: &Border| make::signed_factor(&t.f[row * zones..], b) > 0;
         if kept.iter().any(|row| !t.b.iter().any(|b| loads(*row, b))) {
             self.see("accepted, a kept row that no border loads");
+        }
+    }
+
+    /// What stopped the borders of an accepted table.
+    fn stops(&mut self, t: &Tables, o: &Outcome) {
+        let borders = t.header.borders;
+        for border in 0..borders {
+            let loads = |row: usize| o.p[row * borders + border] > 0;
+            let stop = o.stop[border];
+            if (0..stop).any(|row| o.rows[row].state != 0) {
+                self.see("stopped by a row after one not kept");
+            }
+            if (0..stop).any(|row| o.rows[row].state == 0 && !loads(row)) {
+                self.see("stopped by a row after one that it does not load");
+            }
+            if (0..stop).any(loads) {
+                self.see("stopped by a row after one with a share");
+            }
+            let left = o.rows[stop].left.unwrap_or(0);
+            let p = i128::from(o.p[stop * borders + border]);
+            self.see(match left {
+                0 => "stopped by a row with nothing left",
+                _ if left < p => "stopped by a row with less than one kW left",
+                _ => "stopped by a row with less than one kW for each",
+            });
+            self.see(match o.last[border] {
+                0 if o.rounds == 0 => "never raised, nor any",
+                0 => "never raised, others are",
+                last if last < o.rounds => "raised, others longer",
+                _ => "raised to the end",
+            });
         }
     }
 
@@ -1737,6 +1804,20 @@ fn wanted() -> Vec<(String, u64)> {
         (", a remainder below 0 stops one border and not all", 100),
     ] {
         add(&format!("intraday{name}"), count);
+    }
+    for name in [
+        "stopped by a row after one not kept",
+        "stopped by a row after one that it does not load",
+        "stopped by a row after one with a share",
+        "stopped by a row with nothing left",
+        "stopped by a row with less than one kW left",
+        "stopped by a row with less than one kW for each",
+        "never raised, nor any",
+        "never raised, others are",
+        "raised, others longer",
+        "raised to the end",
+    ] {
+        add(name, 1_000);
     }
     for (said, _) in damage::PROFILES {
         add(&format!("lent header says {said} of T"), 100);

@@ -100,15 +100,15 @@ fn write(l: &mut LentTables, out: &mut Lent<u8>) -> [u64; 4] {
 fn extract(
     l: &mut LentTables,
     p: &mut Lent<u64>,
-    atc: &mut Lent<[i64; 1]>,
+    atc: &mut Lent<[i64; 3]>,
     left: &mut Lent<[i64; 3]>,
 ) -> [u64; 4] {
     match second::extract(l.lend(), p.len(), atc.len(), left.len()) {
         Err(refusal) => refused(refusal),
         Ok(outcome) => {
             p[..outcome.p.len()].copy_from_slice(&outcome.p);
-            for (item, mw) in atc.iter_mut().zip(&outcome.atc) {
-                *item = [*mw as i64];
+            for (border, mw) in outcome.atc.iter().enumerate() {
+                atc[border] = [*mw as i64, outcome.last[border] as i64, outcome.stop[border] as i64];
             }
             for (item, row) in left.iter_mut().zip(&outcome.rows) {
                 *item = [i64::from(row.state), row.ram as i64, row.left.map_or(-1, |m| m as i64)];

@@ -966,6 +966,10 @@ pub struct RowOut {
 pub struct Outcome {
     /// ATC of each border in whole MW
     pub atc: Vec<u64>,
+    /// "the last round that raised it (0 if none)"
+    pub last: Vec<u64>,
+    /// the row that stopped it
+    pub stop: Vec<usize>,
     pub rows: Vec<RowOut>,
     /// rounds counted
     pub rounds: u64,
@@ -1112,6 +1116,16 @@ fn raise_of(kept: &[Kept], border: usize, divisions: &mut u64) -> i128 {
     least.expect("each border has p > 0 on a kept row")
 }
 
+/// "the first kept row with p > 0 whose equal share at the end is under one kW for
+/// it"
+fn stopping_row(kept: &[Kept], border: usize) -> usize {
+    let under_one_kw = |row: &&Kept| {
+        let p = row.p[border];
+        p > 0 && floor_div(floor_div(row.margin, row.n), p) == 0
+    };
+    kept.iter().find(under_one_kw).expect("such a row always exists").row
+}
+
 /// "a border's raise alone is the smallest floor(margin / p) at the start"
 fn raise_alone(kept: &[Kept], border: usize) -> i128 {
     let mut least = None;
@@ -1155,6 +1169,7 @@ fn work(tables: &Tables) -> Result<Outcome, Refusal> {
 
     let mut kw: Vec<i128> = tables.b.iter().map(|border| starting_kw(&tables.header, border)).collect();
     let mut rounds: u64 = 0;
+    let mut last: Vec<u64> = vec![0; borders];
     let mut divisions: u64 = 0;
     loop {
         // "All raises are found from the margins at the start of the round."
@@ -1167,6 +1182,9 @@ fn work(tables: &Tables) -> Result<Outcome, Refusal> {
         // "Then every border rises, and every row loses the sum of p times raise."
         for border in 0..borders {
             kw[border] += raises[border];
+            if raises[border] > 0 {
+                last[border] = rounds + 1;
+            }
         }
         for row in kept.iter_mut() {
             let mut loss = 0;
@@ -1178,10 +1196,13 @@ fn work(tables: &Tables) -> Result<Outcome, Refusal> {
         rounds += 1;
     }
 
+    let stop = (0..borders).map(|border| stopping_row(&kept, border)).collect();
     let rows = row_outcomes(&margins, &states, &kept);
     let outcome = Outcome {
         // "ATC = kW value floored to whole MW, once, at the end."
         atc: kw.iter().map(|kw| floor_div(*kw, KW_PER_MW) as u64).collect(),
+        last,
+        stop,
         rows,
         rounds,
         p,
@@ -1224,9 +1245,13 @@ fn check_outcome(tables: &Tables, kept: &[Kept], outcome: &Outcome) {
         assert_eq!(whole - load, row.margin);
     }
     for border in 0..tables.header.borders {
-        assert!(i128::from(outcome.kw[border]) >= starting_kw(&tables.header, &tables.b[border]));
+        let risen = i128::from(outcome.kw[border]) - starting_kw(&tables.header, &tables.b[border]);
+        assert!(risen >= 0);
+        assert_eq!(outcome.last[border] > 0, risen > 0);
         assert_eq!(outcome.atc[border], outcome.kw[border] / 1_000);
     }
+    // a counted round raises something
+    assert_eq!(outcome.last.iter().max(), Some(&outcome.rounds));
 }
 
 /// The tables judged, then 5, 6 and 7; "last comes room for results (8)",
@@ -1249,11 +1274,12 @@ pub fn extract(lent: Lent, room_p: usize, room_borders: usize, room_rows: usize)
 
 /// "`A`, border index, ATC in MW, for each border. `M`, row index, state, RAM in
 /// grains, margin left in grains or "-" where the state isn't 0, for each row.
-/// `R`, rounds."
+/// `R`, rounds."  Last round and stopping row stand "after the ATC".
 fn outcome_text(outcome: &Outcome) -> Vec<u8> {
     let mut out = Vec::new();
     for (index, atc) in outcome.atc.iter().enumerate() {
-        push_line(&mut out, "A", &[index.to_string(), atc.to_string()]);
+        let last = outcome.last[index].to_string();
+        push_line(&mut out, "A", &[index.to_string(), atc.to_string(), last, outcome.stop[index].to_string()]);
     }
     for (index, row) in outcome.rows.iter().enumerate() {
         let left = match row.left {

@@ -52,8 +52,8 @@ C 1 100000 10000 15000 0 7000 0 0 5000 5000 0
 C 2 100000 0 0 0 0 0 0 4999 0 0
 C 3 1000000 0 130000 0 7000 0 0 20000 0 -10000";
 
-const HOUR_GIVES: &str = "A 0 2599
-A 1 1800
+const HOUR_GIVES: &str = "A 0 2599 21 0
+A 1 1800 1 1
 M 0 0 70000000000 20000
 M 1 0 9000000000 0
 M 2 1 12499500000 -
@@ -115,13 +115,13 @@ fn hours_that_show_two_slips() {
         shown(&answer(&text(
             "H 2 2 2 / Z 0 0 / Z 1 0 / B 0 0 1 0 / B 1 1 0 0 / C 0 100000 0 0 0 0 0 0 20000 0 / C 1 100000 0 0 0 0 0 0 0 20000"
         ))),
-        "A 0 500 / A 1 500 / M 0 0 10000000000 0 / M 1 0 10000000000 0 / R 1"
+        "A 0 500 1 0 / A 1 500 1 1 / M 0 0 10000000000 0 / M 1 0 10000000000 0 / R 1"
     );
     assert_eq!(
         shown(&answer(&text(
             "H 3 2 1 / Z 0 0 / Z 1 0 / Z 2 0 / B 0 0 1 0 / B 1 0 2 0 / C 0 100000 0 0 0 0 0 0 20000 0 0"
         ))),
-        "A 0 250 / A 1 250 / M 0 0 10000000000 0 / R 1"
+        "A 0 250 1 0 / A 1 250 1 0 / M 0 0 10000000000 0 / R 1"
     );
 }
 
@@ -134,7 +134,7 @@ fn one_row(row: &str) -> Vec<u8> {
 #[test]
 fn spread_5000_is_kept_4999_is_not() {
     let kept = answer(&one_row("100000 0 0 0 0 0 0 5000 0"));
-    assert_eq!(shown(&kept), "A 0 2000 / M 0 0 10000000000 0 / R 1");
+    assert_eq!(shown(&kept), "A 0 2000 1 0 / M 0 0 10000000000 0 / R 1");
     assert_eq!(shown(&answer(&one_row("100000 0 0 0 0 0 0 4999 0"))), "E 5 0 0");
     // the spread counts every zone, also one in no border
     let t = text("H 3 1 2 / Z 0 0 / Z 1 0 / Z 2 0 / B 0 0 1 0 / C 0 1 0 0 0 0 0 0 5000 4999 0 / C 1 1 0 0 0 0 0 0 4999 4998 0");
@@ -170,7 +170,7 @@ fn lta_margin_lifts_ram_to_s() {
             "H 2 1 1 / Z 0 0 / Z 1 0 / B 0 0 1 100 / C 0 10000 0 0 0 0 0 {iva} 20000 0"
         ))
     };
-    assert_eq!(shown(&answer(&hour("0"))), "A 0 100 / M 0 0 2000000000 0 / R 0");
+    assert_eq!(shown(&answer(&hour("0"))), "A 0 100 0 0 / M 0 0 2000000000 0 / R 0");
     let o = out(&read(&hour("0"), ALL).unwrap()).unwrap();
     assert_eq!((o.rounds, o.atc[0], o.rows[0].ram), (0, 100, 20_000 * 100_000));
     assert_eq!(o.l_bits, 0);
@@ -950,7 +950,7 @@ fn default_by_hand() {
     // a written R is its own
     assert_eq!((ram(" 10000", "3000"), ram(" 0", "7000"), ram("", "0")), (30_000, 70_000, 20_000));
     // 50000 kW at p 20000: 250 MW
-    assert_eq!(shown(&answer(&hour(" 5000", "-"))), "A 0 250 / M 0 0 5000000000 0 / R 1");
+    assert_eq!(shown(&answer(&hour(" 5000", "-"))), "A 0 250 1 0 / M 0 0 5000000000 0 / R 1");
     assert_eq!(answer(&hour(" 5000", "-")), answer(&hour(" 5000", "5000")));
     assert_eq!(answer(&hour("", "-")), answer(&hour(" 7000", "-")));
     // written again as written
@@ -987,6 +987,76 @@ fn default_of_a_lent_header() {
     assert_eq!(write(hour.lend(), usize::MAX), Ok(wanted));
 }
 
+// ------------------------------------------------- which row stopped a border
+
+#[test]
+fn stopping_rows_by_hand() {
+    // row 0 is under 5%, row 1 is parallel to row 3 and has more, row 2 does not load the
+    // border and has nothing left, row 4 has the same left as row 3
+    let t = table(
+        "H 3 1 5 / Z 0 0 / Z 1 0 / Z 2 0 / B 0 0 1 0 / C 0 1 0 0 0 0 0 0 4999 0 0 / C 1 101 0 0 0 0 0 0 20000 0 0 / C 2 100 0 0 0 0 100 0 0 20000 0 / C 3 100 0 0 0 0 0 0 20000 0 0 / C 4 100 0 0 0 0 0 0 20000 0 7",
+    );
+    let o = out(&t).unwrap();
+    assert_eq!(o.rows.iter().map(|row| row.state).collect::<Vec<u8>>(), vec![1, 2, 0, 0, 0]);
+    assert_eq!((o.rows[2].left, o.rows[3].left, o.rows[4].left), (Some(0), Some(0), Some(0)));
+    assert_eq!((&o.last[..], &o.stop[..]), (&[1][..], &[3][..]));
+    // the first with less than one kW, though a later one has less: p 30000 of 100 kW
+    // leaves 10000 grains, p 20000 of 66.66 kW nothing
+    let t = table("H 2 1 2 / Z 0 0 / Z 1 0 / B 0 0 1 0 / C 0 100 0 0 0 0 0 0 30000 0 / C 1 100 0 0 0 0 34 0 20000 0");
+    let o = out(&t).unwrap();
+    // 66 kW by 20000 is 330 kW, 100 kW by 30000 is 333 kW
+    assert_eq!((o.kw[0], o.rows[0].left, o.rows[1].left), (330, Some(100_000), Some(0)));
+    assert_eq!(o.stop, vec![1]);
+    // an equal share: 3 p among two leaves p, which is more than none and no kW for each
+    let t = table("H 3 2 1 / Z 0 0 / Z 1 0 / Z 2 0 / B 0 0 1 0 / B 1 0 2 0 / C 0 3 0 0 0 0 0 0 100000 0 0");
+    let o = out(&t).unwrap();
+    assert_eq!((o.rows[0].left, o.stop, o.last), (Some(100_000), vec![0, 0], vec![1, 1]));
+    // never raised: nothing to begin with
+    let t = table("H 2 1 1 / Z 0 0 / Z 1 0 / B 0 0 1 100 / C 0 10000 0 0 0 0 0 0 20000 0");
+    let o = out(&t).unwrap();
+    assert_eq!((o.last, o.stop, o.rounds), (vec![0], vec![0], 0));
+    // intraday, a remainder below 0 stops it at once
+    let t = read(&allocated_hour(" / T 0 500001 / T 1 -500001"), ALL).unwrap();
+    let o = out(&t).unwrap();
+    assert_eq!((o.last, o.stop), (vec![0], vec![0]));
+}
+
+/// The rounds again, from the table of p and the starting margins: the last round
+/// in which each border rises.
+fn last_rounds(t: &Tables, o: &Outcome) -> Vec<u64> {
+    let h = t.header;
+    let kept: Vec<usize> = (0..h.rows).filter(|row| o.rows[*row].state == 0).collect();
+    let p = |row: usize, border: usize| i128::from(o.p[row * h.borders + border]);
+    let mut margins: Vec<i128> = kept
+        .iter()
+        .map(|row| match h.intraday {
+            INTRADAY => remainder_of(t, *row, o.rows[*row].ram).max(0),
+            _ => o.rows[*row].ram - margin_of(t, *row).s,
+        })
+        .collect();
+    let mut last = vec![0; h.borders];
+    for round in 1.. {
+        let raise = |border: usize| {
+            let shares = kept.iter().zip(&margins).filter(|(row, _)| p(**row, border) > 0).map(|(row, margin)| {
+                let n = (0..h.borders).filter(|other| p(*row, *other) > 0).count() as i128;
+                margin / n / p(*row, border)
+            });
+            shares.min().unwrap()
+        };
+        let raises: Vec<i128> = (0..h.borders).map(raise).collect();
+        if raises.iter().all(|raise| *raise == 0) {
+            break;
+        }
+        for border in (0..h.borders).filter(|border| raises[*border] > 0) {
+            last[border] = round;
+        }
+        for (row, margin) in kept.iter().zip(margins.iter_mut()) {
+            *margin -= (0..h.borders).map(|border| p(*row, border) * raises[border]).sum::<i128>();
+        }
+    }
+    last
+}
+
 // --------------------------------------------------------- intraday remainder
 
 /// Two zones, one row of 100,000 kW with p 20000, LTA 100 MW, and these T lines.
@@ -997,24 +1067,24 @@ fn allocated_hour(t: &str) -> Vec<u8> {
 #[test]
 fn remainder_by_hand() {
     // RAM 10^10 whatever T; without T from 100 MW on, with S 2 x 10^9
-    assert_eq!(shown(&answer(&allocated_hour(""))), "A 0 500 / M 0 0 10000000000 0 / R 1");
+    assert_eq!(shown(&answer(&allocated_hour(""))), "A 0 500 1 0 / M 0 0 10000000000 0 / R 1");
     // 20000 x 1000 kW taken: 9.98 x 10^9 left, from 0 kW on 499,000 kW
-    assert_eq!(shown(&answer(&allocated_hour(" / T 0 1000 / T 1 -1000"))), "A 0 499 / M 0 0 10000000000 0 / R 1");
+    assert_eq!(shown(&answer(&allocated_hour(" / T 0 1000 / T 1 -1000"))), "A 0 499 1 0 / M 0 0 10000000000 0 / R 1");
     // relieved: 501,000 kW
-    assert_eq!(shown(&answer(&allocated_hour(" / T 0 -1000 / T 1 1000"))), "A 0 501 / M 0 0 10000000000 0 / R 1");
+    assert_eq!(shown(&answer(&allocated_hour(" / T 0 -1000 / T 1 1000"))), "A 0 501 1 0 / M 0 0 10000000000 0 / R 1");
     // nothing allocated is still this profile: from 0 kW, and not from LTA
-    assert_eq!(shown(&answer(&allocated_hour(" / T 0 0 / T 1 0"))), "A 0 500 / M 0 0 10000000000 0 / R 1");
+    assert_eq!(shown(&answer(&allocated_hour(" / T 0 0 / T 1 0"))), "A 0 500 1 0 / M 0 0 10000000000 0 / R 1");
     let o = out(&read(&allocated_hour(" / T 0 0 / T 1 0"), ALL).unwrap()).unwrap();
     assert_eq!((o.kw[0], o.rounds), (500_000, 1));
     // one kW left, none left, and less than none
     for (t, kw, rounds) in [(499_999, 1, 1), (500_000, 0, 0), (500_001, 0, 0), (100_000_000, 0, 0)] {
         let bytes = allocated_hour(&format!(" / T 0 {t} / T 1 -{t}"));
-        assert_eq!(shown(&answer(&bytes)), format!("A 0 0 / M 0 0 10000000000 0 / R {rounds}"));
+        assert_eq!(shown(&answer(&bytes)), format!("A 0 0 {rounds} 0 / M 0 0 10000000000 0 / R {rounds}"));
         assert_eq!(out(&read(&bytes, ALL).unwrap()).unwrap().kw, vec![kw]);
     }
     // a rest under one kW stays: p 30000 of 10^10
     let rest = text("H 2 1 1 / Z 0 0 / Z 1 0 / T 0 0 / T 1 0 / B 0 0 1 100 / C 0 100000 0 0 0 0 0 0 30000 0");
-    assert_eq!(shown(&answer(&rest)), "A 0 333 / M 0 0 10000000000 10000 / R 1");
+    assert_eq!(shown(&answer(&rest)), "A 0 333 1 0 / M 0 0 10000000000 10000 / R 1");
 }
 
 #[test]
@@ -1022,11 +1092,11 @@ fn no_refusal_7_intraday() {
     let hour = |t: &str| text(&format!("H 2 1 1 / Z 0 0 / Z 1 0{t} / B 0 0 1 100 / C 0 10000 0 0 0 0 0 1 20000 0"));
     assert_eq!(shown(&answer(&hour(""))), "E 7 0 0");
     // RAM 19,999 kW (S less IVA): 99,995 kW
-    assert_eq!(shown(&answer(&hour(" / T 0 0 / T 1 0"))), "A 0 99 / M 0 0 1999900000 0 / R 1");
+    assert_eq!(shown(&answer(&hour(" / T 0 0 / T 1 0"))), "A 0 99 1 0 / M 0 0 1999900000 0 / R 1");
     // a RAM below 0
     let below = |t: &str| text(&format!("H 2 1 1 / Z 0 0 / Z 1 0{t} / B 0 0 1 0 / C 0 100 0 0 0 0 900 0 20000 0"));
     assert_eq!(shown(&answer(&below(""))), "E 7 0 0");
-    assert_eq!(shown(&answer(&below(" / T 0 0 / T 1 0"))), "A 0 0 / M 0 0 -80000000 0 / R 0");
+    assert_eq!(shown(&answer(&below(" / T 0 0 / T 1 0"))), "A 0 0 0 0 / M 0 0 -80000000 0 / R 0");
     // 5 and 6 are given
     assert_eq!(shown(&answer(&text("H 2 1 1 / Z 0 0 / Z 1 0 / T 0 0 / T 1 0 / B 0 0 1 0 / C 0 100 0 0 0 0 0 0 4999 0"))), "E 5 0 0");
     assert_eq!(shown(&answer(&text("H 2 1 1 / Z 0 0 / Z 1 0 / T 0 0 / T 1 0 / B 0 1 0 0 / C 0 100 0 0 0 0 0 0 5000 0"))), "E 6 0 0");
@@ -1209,12 +1279,12 @@ fn cable(hubs: &str) -> Vec<u8> {
 fn hubs_by_hand() {
     // RAM is Fmax, 10^11 grains.  30000 - 2000 + 500 - 10000 = 18500, S 1.85 x 10^9,
     // margin 98150000000: 5305405 kW more, 7500 grains left
-    assert_eq!(shown(&answer(&cable(" 2 3"))), "A 0 5405 / M 0 0 100000000000 7500 / R 1");
+    assert_eq!(shown(&answer(&cable(" 2 3"))), "A 0 5405 1 0 / M 0 0 100000000000 7500 / R 1");
     // the hubs the other way: 30000 - 500 + 2000 - 10000 = 21500, S 2.15 x 10^9,
     // margin 97850000000: 4551162 kW more, 17000 grains left
-    assert_eq!(shown(&answer(&cable(" 3 2"))), "A 0 4651 / M 0 0 100000000000 17000 / R 1");
+    assert_eq!(shown(&answer(&cable(" 3 2"))), "A 0 4651 1 0 / M 0 0 100000000000 17000 / R 1");
     // no hubs: 20000, S 2 x 10^9, margin 98 x 10^9: 4900000 kW more
-    assert_eq!(shown(&answer(&cable(""))), "A 0 5000 / M 0 0 100000000000 0 / R 1");
+    assert_eq!(shown(&answer(&cable(""))), "A 0 5000 1 0 / M 0 0 100000000000 0 / R 1");
     let p = |hubs: &str| {
         let t = read(&cable(hubs), ALL).unwrap();
         out(&t).map(|o| o.p[0])
@@ -1245,7 +1315,7 @@ fn hubs_are_zones_of_the_5_percent() {
             "H 4 1 1 / Z 0 0 / Z 1 0 / Z 2 0 / Z 3 0 / B 0 0 1 0 2 3 / C 0 100000 0 0 0 0 0 0 0 0 0 {factor}"
         ))
     };
-    assert_eq!(shown(&answer(&hour("5000"))), "A 0 2000 / M 0 0 10000000000 0 / R 1");
+    assert_eq!(shown(&answer(&hour("5000"))), "A 0 2000 1 0 / M 0 0 10000000000 0 / R 1");
     assert_eq!(shown(&answer(&hour("4999"))), "E 5 0 0");
 }
 
@@ -1687,7 +1757,7 @@ fn check_random(t: &Tables, seen: &mut [usize; 8]) {
                 assert_eq!(o.rows[row].ram, margins[row].ram);
             }
             // margins left, and no border can rise any further
-            let mut stuck = vec![false; h.borders];
+            let mut stops: Vec<Option<usize>> = vec![None; h.borders];
             let mut n_most = 0;
             assert_eq!(o.p.len(), h.rows * h.borders);
             for row in 0..h.rows {
@@ -1711,11 +1781,12 @@ fn check_random(t: &Tables, seen: &mut [usize; 8]) {
                 assert!(left >= 0);
                 for b in 0..h.borders {
                     if p[b] > 0 && left / n / p[b] == 0 {
-                        stuck[b] = true;
+                        stops[b] = stops[b].or(Some(row));
                     }
                 }
             }
-            assert!(stuck.iter().all(|s| *s));
+            assert_eq!(stops, o.stop.iter().map(|row| Some(*row)).collect::<Vec<Option<usize>>>());
+            assert_eq!(o.last, last_rounds(t, &o));
             assert_eq!(n_most, o.n_most);
             if h.borders == 1 && o.rows.iter().filter(|r| r.state == 0).count() == 1 {
                 seen[1] += 1;

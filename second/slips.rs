@@ -31,7 +31,7 @@ const SLIPS: &[Slip] = &[
         "extraction writes atc before it refuses for row results",
         "mock.rs",
         "    match second::extract(l.lend(), p.len(), atc.len(), left.len()) {",
-        "    if let Ok(o) = second::extract(l.lend(), p.len(), atc.len(), usize::MAX) {\n        atc[0] = [o.atc[0] as i64];\n    }\n    match second::extract(l.lend(), p.len(), atc.len(), left.len()) {",
+        "    if let Ok(o) = second::extract(l.lend(), p.len(), atc.len(), usize::MAX) {\n        atc[0] = [o.atc[0] as i64; 3];\n    }\n    match second::extract(l.lend(), p.len(), atc.len(), left.len()) {",
     ),
     slip(
         "answer writes the first byte before it refuses for room",
@@ -127,7 +127,7 @@ const SLIPS: &[Slip] = &[
         "        if raises.iter().all(|raise| *raise == 0) {",
         "        if raises.iter().all(|raise| *raise == 0) {\n            rounds += 1;",
     ),
-    slip("margin left 0 where not kept", "mock.rs", "map_or(-1,", "map_or(0,"),
+    slip("margin left 0 where not kept", "mock.rs", "row.left.map_or(-1,", "row.left.map_or(0,"),
     slip(
         "zones said also where reading refuses",
         "mock.rs",
@@ -192,8 +192,8 @@ const SLIPS: &[Slip] = &[
     slip("cut to MW in each round", "second.rs", "            kw[border] += raises[border];", "            kw[border] += raises[border];\n            kw[border] -= kw[border] % KW_PER_MW;"),
     slip("borders start at 0", "second.rs", "        0\n    } else {\n        lta_kw(border)", "        0\n    } else {\n        0"),
     slip("ATC cut to 32 bits", "second.rs", "floor_div(*kw, KW_PER_MW) as u64).collect()", "floor_div(*kw, KW_PER_MW) as u32 as u64).collect()"),
-    slip("one round only", "second.rs", "        rounds += 1;\n    }\n\n    let rows", "        rounds += 1;\n        if rounds == 1 {\n            break;\n        }\n    }\n\n    let rows"),
-    slip("stops after 1000 rounds", "second.rs", "        rounds += 1;\n    }\n\n    let rows", "        rounds += 1;\n        if rounds == 1_000 {\n            break;\n        }\n    }\n\n    let rows"),
+    slip("one round only", "second.rs", "        rounds += 1;\n    }\n\n    let stop =", "        rounds += 1;\n        if rounds == 1 {\n            break;\n        }\n    }\n\n    let stop ="),
+    slip("stops after 1000 rounds", "second.rs", "        rounds += 1;\n    }\n\n    let stop =", "        rounds += 1;\n        if rounds == 1_000 {\n            break;\n        }\n    }\n\n    let stop ="),
     // ---- which byte is bad
     slip(
         "byte: counted from 0",
@@ -470,6 +470,109 @@ const SLIPS: &[Slip] = &[
         "mock.rs",
         "            let [number, place, byte] = why(refusal);\n            [number, place, byte, zones",
         "            let [number, place, _] = why(refusal);\n            [number, place, 0, zones",
+    ),
+    // ---- which row stopped a border
+    slip(
+        "stop: rounds counted from 0",
+        "second.rs",
+        "            if raises[border] > 0 {\n                last[border] = rounds + 1;\n            }\n",
+        "            if raises[border] > 0 {\n                last[border] = rounds;\n            }\n",
+    ),
+    slip(
+        "stop: the first round that raised it",
+        "second.rs",
+        "            if raises[border] > 0 {\n                last[border] = rounds + 1;\n            }\n",
+        "            if raises[border] > 0 && last[border] == 0 {\n                last[border] = rounds + 1;\n            }\n",
+    ),
+    slip(
+        "stop: the last round of all",
+        "second.rs",
+        "            if raises[border] > 0 {\n                last[border] = rounds + 1;\n            }\n",
+        "            last[border] = rounds + 1;\n",
+    ),
+    slip(
+        "stop: a round that raises by a whole MW",
+        "second.rs",
+        "            if raises[border] > 0 {\n                last[border] = rounds + 1;\n            }\n",
+        "            if raises[border] >= KW_PER_MW {\n                last[border] = rounds + 1;\n            }\n",
+    ),
+    slip(
+        "stop: rounds in 8 bits",
+        "second.rs",
+        "            if raises[border] > 0 {\n                last[border] = rounds + 1;\n            }\n",
+        "            if raises[border] > 0 {\n                last[border] = (rounds + 1) % 256;\n            }\n",
+    ),
+    slip(
+        "stop: the last such row",
+        "second.rs",
+        "    kept.iter().find(under_one_kw)",
+        "    kept.iter().rev().find(under_one_kw)",
+    ),
+    slip(
+        "stop: the row with the least left",
+        "second.rs",
+        "    kept.iter().find(under_one_kw)",
+        "    kept.iter().filter(under_one_kw).min_by_key(|row| row.margin)",
+    ),
+    slip(
+        "stop: numbered among the kept rows",
+        "second.rs",
+        "    kept.iter().find(under_one_kw).expect(\"such a row always exists\").row",
+        "    kept.iter().position(|row| under_one_kw(&row)).expect(\"such a row always exists\")",
+    ),
+    slip(
+        "stop: a row that the border does not load",
+        "second.rs",
+        "        p > 0 && floor_div(floor_div(row.margin, row.n), p) == 0",
+        "        p > 0 && floor_div(floor_div(row.margin, row.n), p) == 0 || p == 0 && row.margin == 0",
+    ),
+    slip(
+        "stop: nothing left",
+        "second.rs",
+        "        p > 0 && floor_div(floor_div(row.margin, row.n), p) == 0\n    };\n",
+        "        p > 0 && floor_div(floor_div(row.margin, row.n), p) == 0\n    };\n    if let Some(row) = kept.iter().filter(under_one_kw).find(|row| row.margin == 0) {\n        return row.row;\n    }\n",
+    ),
+    slip(
+        "stop: less than one kW in all",
+        "second.rs",
+        "        p > 0 && floor_div(floor_div(row.margin, row.n), p) == 0\n    };\n",
+        "        p > 0 && floor_div(floor_div(row.margin, row.n), p) == 0\n    };\n    if let Some(row) = kept.iter().filter(under_one_kw).find(|row| row.margin < row.p[border]) {\n        return row.row;\n    }\n",
+    ),
+    slip(
+        "stop: one kW is under one kW",
+        "second.rs",
+        "floor_div(floor_div(row.margin, row.n), p) == 0\n    };",
+        "floor_div(floor_div(row.margin, row.n), p) <= 1\n    };",
+    ),
+    slip(
+        "stop: the record has the row before the round",
+        "mock.rs",
+        "[*mw as i64, outcome.last[border] as i64, outcome.stop[border] as i64]",
+        "[*mw as i64, outcome.stop[border] as i64, outcome.last[border] as i64]",
+    ),
+    slip(
+        "stop: the record has the number of rounds",
+        "mock.rs",
+        "[*mw as i64, outcome.last[border] as i64, outcome.stop[border] as i64]",
+        "[*mw as i64, outcome.rounds as i64, outcome.stop[border] as i64]",
+    ),
+    slip(
+        "stop: the A line has the row before the round",
+        "second.rs",
+        "atc.to_string(), last, outcome.stop[index].to_string()]",
+        "atc.to_string(), outcome.stop[index].to_string(), last]",
+    ),
+    slip(
+        "stop: the A line as it was",
+        "second.rs",
+        "        push_line(&mut out, \"A\", &[index.to_string(), atc.to_string(), last, outcome.stop[index].to_string()]);",
+        "        let _ = last;\n        push_line(&mut out, \"A\", &[index.to_string(), atc.to_string()]);",
+    ),
+    slip(
+        "stop: the A line has rows from 1",
+        "second.rs",
+        "last, outcome.stop[index].to_string()]",
+        "last, (outcome.stop[index] + 1).to_string()]",
     ),
     // ---- intraday remainder
     slip(
@@ -960,8 +1063,8 @@ const SLIPS: &[Slip] = &[
     slip(
         "64 borders: stops after 1500 rounds",
         "second.rs",
-        "        rounds += 1;\n    }\n\n    let rows",
-        "        rounds += 1;\n        if rounds == 1_500 {\n            break;\n        }\n    }\n\n    let rows",
+        "        rounds += 1;\n    }\n\n    let stop =",
+        "        rounds += 1;\n        if rounds == 1_500 {\n            break;\n        }\n    }\n\n    let stop =",
     ),
     slip(
         "64 borders: the corner sheet has up to 64",

@@ -5,11 +5,13 @@ use mathlib.Core.List.{List}
 use Prim.Native.Nat.{ℕ, _*_, _^_, _≤_, _<_}
 use native.Mathlib.Nat.{le-of-eq, le-trans, mul-le-mul}
 use native.Mathlib.Omega.{arith}
+use borrow.Author.Tests.{not-false}
+use lib.Dec.{ltb}
 use lib.IntN.{ℤ, pos, negsuc, natAbs}
 use lib.ListN.{length}
 use lib.Signed.{ltZ}
 use Rattle.numbers.specs.Ints.{positivePart}
-use Rattle.numbers.specs.Below.{at, sum}
+use Rattle.numbers.specs.Below.{at, sum, someBelow}
 use Rattle.numbers.proofs.BelowLaws.{sum-cong, sum-mono, table-get}
 use Rattle.kinds.specs.declared.Border.{Border}
 use Rattle.kinds.specs.Ranges.{atℤ, isIntraday}
@@ -28,6 +30,7 @@ starts-at t i h = table-get (t .header .rows) (marginOf t) i (pos 0) h
 
 pub record Accepted (t : Table) (r : Result) : Type 0 where
   pub is : resultOf t ≡ r
+  pub loaded : (b : ℕ) → b < t .header .borders → someBelow (t .header .rows) (λ i. ltb 0 (tableGrid t .p i b)) ≡ true
   pub above : (i : ℕ) → i < t .header .rows → (kept (rowsOf t .states) i && (not (isIntraday (t .header)) && ltZ (marginOf t i) (pos 0))) ≡ false
 
 pub accepted : (t : Table) (r : Result) → outcomeOf t ≡ passed r → Accepted t r
@@ -39,6 +42,7 @@ accepted t r e =
     let c = none-passed _ _ _ _ (w .it) (b .1) in
     record {
       is = passed-is _ _ (w .second);
+      loaded = λ k h. not-false _ (b .0 k h);
       above = λ i h. ap (λ (z : ℤ). kept (rowsOf t .states) i && (not (isIntraday (t .header)) && ltZ z (pos 0))) (sym (starts-at t i h)) ∙ c .0 i h;
     }
 

@@ -10,11 +10,13 @@ use Rattle.kinds.specs.Ranges.{headerFits, allocatedItems, zoneFits, exists, hu
 use Rattle.kinds.specs.Refusals.{passed, refused, refusal, then, either, unless, refuseAt, refuseFirst, need}
 use Rattle.table.specs.Table.{Table, stretch, balanced, twice, roomFor, judgeShape}
 use Rattle.rounds.specs.Rounds.{sharers, raise, raises, load, lowered, risen, apply, next, raised, counted, run, extract}
+use Rattle.rounds.specs.Last.{after, raiseIn, lastTo, lastRound}
+use Rattle.rounds.specs.Stopping.{stopRow}
 use Rattle.margin.specs.Margin.{grains, f0coreOf, fuafOf, baseOf, amrOf, signedFactor, pOf, ltaKw, sOf, ltaMarginOf, ramOf, ramAt}
 use Rattle.states.specs.States.{highest, lowest, spreadOf, shifted, below, stateOf}
 use Rattle.start.specs.Setup.{gridBy, beginBy, judgeBy}
 use Rattle.start.specs.Start.{rowsOf, kept, setupWith}
-use Rattle.extraction.specs.Extraction.{resultOf, atcOf, leftOf, outcomeOf, atcRecord, rowRecord, judgeExtract, ExtractLeft, extractLeft}
+use Rattle.extraction.specs.Extraction.{resultOf, atcOf, leftOf, lastOf, stopOf, outcomeOf, atcRecord, rowRecord, judgeExtract, ExtractLeft, extractLeft}
 
 -- rows 0 and 1 limit a border each, 15 kW and 10 kW, row 2 is under 5%; FRM and IVA of row 0 are one's own
 abbrev smallIn : (mark : ℕ) → (allocated : List ℤ) → (frm iva : ℕ) → Table
@@ -37,12 +39,12 @@ abbrev leaving : (frm iva items : ℕ) → ExtractLeft
 leaving frm iva items = extractLeft (smallIn 0 [] frm iva) (replicate items 9) (replicate 2 []) (replicate 3 [])
 
 pub record Anchors : Type 0 where
-  -- p of each row at each border, row after row; zeros for the row that is not kept; beyond them the table stays
+  -- p of each row at each border, row after row; zeros for the row that is not kept; beyond them the table stays. The one round raises both borders, and each is stopped by its row
   pub accepted : leaving 0 0 7
       ≡ record {
         answer = passed 1;
         p = 20000 ∷ 0 ∷ 0 ∷ 30000 ∷ 0 ∷ 0 ∷ 9 ∷ [];
-        atcs = (pos 0 ∷ []) ∷ (pos 0 ∷ []) ∷ [];
+        atcs = (pos 0 ∷ pos 1 ∷ pos 0 ∷ []) ∷ (pos 0 ∷ pos 1 ∷ pos 1 ∷ []) ∷ [];
         lefts = (pos 0 ∷ pos 300000 ∷ pos 0 ∷ []) ∷ (pos 0 ∷ pos 300000 ∷ pos 0 ∷ []) ∷ (pos 1 ∷ pos 500000 ∷ minus 1 ∷ []) ∷ [];
       }
   -- refusal 7 leaves it whole
@@ -52,7 +54,7 @@ pub record Anchors : Type 0 where
       ≡ record {
         answer = passed 1;
         p = 20000 ∷ 0 ∷ 0 ∷ 30000 ∷ 0 ∷ 0 ∷ 9 ∷ [];
-        atcs = (pos 0 ∷ []) ∷ (pos 0 ∷ []) ∷ [];
+        atcs = (pos 0 ∷ pos 0 ∷ pos 0 ∷ []) ∷ (pos 0 ∷ pos 1 ∷ pos 1 ∷ []) ∷ [];
         lefts = (pos 0 ∷ minus 100000 ∷ pos 0 ∷ []) ∷ (pos 0 ∷ pos 300000 ∷ pos 0 ∷ []) ∷ (pos 1 ∷ pos 500000 ∷ minus 1 ∷ []) ∷ [];
       }
   -- 8 looks at it before records, of which row 0 is out of range (3, line 6)
@@ -60,5 +62,5 @@ pub record Anchors : Type 0 where
   pub long : leaving 4 0 6 .answer ≡ refused (refusal 3 6 0)
 
 pub anchors : Anchors
-unfolding ifZero sum count lesser least orZero table firstFrom given maxℤ minℤ positivePart sameℤ inside sumℤ headerFits allocatedItems zoneFits exists hubsFit borderFits hubsOf borderOf shareOf rowOf rowFits factorFits worth defaultOf then either unless refuseAt refuseFirst need stretch balanced twice roomFor judgeShape sharers raise raises load lowered risen apply next raised counted run extract grains f0coreOf fuafOf baseOf amrOf signedFactor pOf ltaKw sOf ltaMarginOf ramOf ramAt highest lowest spreadOf shifted below stateOf rowsOf kept resultOf atcOf leftOf outcomeOf atcRecord rowRecord judgeExtract extractLeft gridBy setupWith beginBy judgeBy
+unfolding ifZero sum count lesser least orZero table firstFrom given maxℤ minℤ positivePart sameℤ inside sumℤ headerFits allocatedItems zoneFits exists hubsFit borderFits hubsOf borderOf shareOf rowOf rowFits factorFits worth defaultOf then either unless refuseAt refuseFirst need stretch balanced twice roomFor judgeShape sharers raise raises load lowered risen apply next raised counted run extract after raiseIn lastTo lastRound stopRow grains f0coreOf fuafOf baseOf amrOf signedFactor pOf ltaKw sOf ltaMarginOf ramOf ramAt highest lowest spreadOf shifted below stateOf rowsOf kept resultOf atcOf leftOf lastOf stopOf outcomeOf atcRecord rowRecord judgeExtract extractLeft gridBy setupWith beginBy judgeBy
 anchors = record { accepted = refl; below = refl; intraday = refl; short = refl; long = refl }

@@ -1,13 +1,14 @@
 -- The laws behind `extract`: what the rounds of the code come to, what is stored, and which judgement decides of a judged table. No contract cites this file.
 use mathlib.Core.Path.{_≡_, refl, sym, ap, ap₂, _∙_}
 use mathlib.Core.List.{List, [], _++_, append-nil}
-use Prim.Native.Nat.{ℕ, _+_, _*_, _^_, _≤_, _<_}
+use mathlib.Core.Option.{Option, none}
+use Prim.Native.Nat.{ℕ, _+_, _*_, _/_, _^_, _≤_, _<_}
 use native.Mathlib.Omega.{arith}
 use lib.IntN.{ℤ}
 use lib.ListN.{length, getD, take, drop, length-take, length-append, take-append-drop, drop-of-length-le, List·getD-append}
 use lib.Seq.{length-take-le, take-at}
 use Rattle.numbers.specs.Below.{at, table, over}
-use Rattle.numbers.proofs.BelowLaws.{sum-cong, table-long}
+use Rattle.numbers.proofs.BelowLaws.{sum-cong, table-long, table-get, table-cong}
 use Rattle.kinds.specs.declared.Header.{Header}
 use Rattle.kinds.specs.declared.Judgement.{Judgement}
 use Rattle.kinds.specs.declared.Judgement.the-variants.{Passed, Refused}
@@ -21,10 +22,13 @@ use Rattle.table.specs.Table.{Table}
 use Rattle.table.specs.Good.{Good}
 use Rattle.rounds.specs.declared.Final.{Final}
 use Rattle.rounds.specs.Rounds.{Grid, State, sharers, load, Outcome, extract}
-use Rattle.rounds.specs.Work.{flat, Startable, WorkLeft, workLeft, workOf}
+use Rattle.rounds.specs.Last.{lastRounds}
+use Rattle.rounds.specs.Stopping.{stopRow, stopRows}
+use Rattle.rounds.specs.Work.{flat, stopBy, Startable, WorkLeft, workLeft, workOf}
 use Rattle.rounds.proofs.Rounds.{extracts}
-use Rattle.rounds.proofs.Theorems.{extract-demand3, same-factors}
-use Rattle.rounds.proofs.WorkLaws.{rounds-long, work-ended}
+use Rattle.rounds.proofs.StopLaws.{stop-by, shares-are}
+use Rattle.rounds.proofs.Theorems.{extract-demand3, same-factors, same-lasts, same-stops}
+use Rattle.rounds.proofs.WorkLaws.{rounds-long, work-ended, lasts-below}
 use Rattle.margin.specs.Bounds.{startBits}
 use Rattle.margin.proofs.JudgedLaws.{good-borders}
 use Rattle.margin.proofs.Small.{named-values-small}
@@ -32,8 +36,8 @@ use Rattle.start.specs.Setup.{gridBy, beginBy}
 use Rattle.start.specs.Start.{Rows, rowsOf, fromBy, tableGrid, tableStart, judgeTable, setupWith}
 use Rattle.start.specs.Filled.{froms, exchangesOf, cells}
 use Rattle.start.proofs.StartLaws.{cells-at, grid-long, rows-in, PreparedAs}
-use Rattle.extraction.specs.Extraction.{Result, resultOf, leftOf, outcomeOf, atcOfKw, leftOfRow, atcRecord, rowRecord, ExtractLeft, leaves, resultRoom, resultStored}
-use Rattle.extraction.specs.Work.{endedAt, outcomeWith, Runnable, Finishable, resultWith, finished, outcomeLeft}
+use Rattle.extraction.specs.Extraction.{Result, resultBy, resultOf, leftOf, lastOf, stopOf, outcomeOf, borderLeft, leftOfRow, atcRecord, rowRecord, ExtractLeft, leaves, resultRoom, resultStored}
+use Rattle.extraction.specs.Work.{endedAt, gridWith, startWith, outcomeWith, Runnable, Ran, Finishable, resultWith, finished, outcomeLeft}
 use Rattle.extraction.proofs.AcceptedLaws.{accepted, load-le, small-start}
 
 -- ---- the rounds
@@ -62,20 +66,42 @@ module _ {h : Header} {b : List (List ℤ)} {p margins x : List ℕ} (u : Runnab
         fits = λ i l. omega (arith, u .fits i l, x-load i);
       }
 
-  pub run-ended : {r : Final} {ends : List ℕ} → workLeft r ends ≡ workOf g margins x → endedAt (h .borders) r ends ≡ outcomeWith h b p margins
-  run-ended w =
-      ap {B = Outcome} (λ (l : WorkLeft). endedAt (h .borders) (l .answer) (l .margins)) w
-      ∙ work-ended g margins x x-long
-      ∙ ap (λ (xs : List ℕ). extract g (record { margins = margins; x = xs })) x-front
+  module _ {r : Final} {ends lasts : List ℕ} (w : workLeft r ends lasts ≡ workOf g margins x) where
+    run-ended : endedAt (h .borders) r ends ≡ outcomeWith h b p margins
+    run-ended =
+        ap {B = Outcome} (λ (l : WorkLeft). endedAt (h .borders) (l .answer) (l .margins)) w
+        ∙ work-ended g margins x x-long
+        ∙ ap (λ (xs : List ℕ). extract g (record { margins = margins; x = xs })) x-front
+
+    run-lasts : lasts ≡ lastRounds g (startWith h b margins)
+    unfolding workOf
+    run-lasts = ap (λ (l : WorkLeft). l .lasts) w ∙ ap (λ (xs : List ℕ). lastRounds g (record { margins = margins; x = xs })) x-front
+
+    -- with the equal shares of what is left
+    pub run-left : {ns shares : List ℕ} → ns ≡ table (h .rows) (sharers g) → length ends ≡ h .rows → shares ≡ table (length ends) (λ i. at ends i / at ns i)
+        → Ran h b p margins r ends lasts shares
+    run-left n long s = record { ended = run-ended; last-rounds = run-lasts; shared = s ∙ shares-are {left = ends} (record { counts = n; margins = long }) }
 
 -- ---- what is stored, where the rounds of the code ended
-module _ {h : Header} {b : List (List ℤ)} {m : Rows} {p margins : List ℕ} (u : Finishable h b m p margins) (end : Final) {ends : List ℕ} (e : endedAt (h .borders) end ends ≡ outcomeWith h b p margins) where
+module _ {h : Header} {b : List (List ℤ)} {m : Rows} {p margins : List ℕ} (u : Finishable h b m p margins) (end : Final) {ends lasts shares : List ℕ} (ran : Ran h b p margins end ends lasts shares) where
   -- there is an exchange for each border
   pub front-long : length (take (h .borders) (end .x)) ≡ h .borders
-  front-long = ap (λ (o : Outcome). length (o .state .x)) e ∙ rounds-long (extracts _ _) (table-long (length b) _ ∙ u .run .borders-long)
+  front-long = ap (λ (o : Outcome). length (o .state .x)) (ran .ended) ∙ rounds-long (extracts _ _) (table-long (length b) _ ∙ u .run .borders-long)
 
   pub front-within : h .borders ≤ length (end .x)
   front-within = omega (arith, front-long, length-take (h .borders) (end .x))
+
+  pub lasts-long : length lasts ≡ h .borders
+  lasts-long = ap length (ran .last-rounds) ∙ table-long (h .borders) _
+
+  pub shares-long : length shares ≡ h .rows
+  shares-long = ap length (ran .shared) ∙ table-long (h .rows) _
+
+  -- the rounds are fewer than the margins' grains, so that each last round fits an i64
+  pub lasts-fit : (b : ℕ) → b < h .borders → at lasts b < 2 ^ 63
+  lasts-fit k l =
+      rw (ran .last-rounds)
+      (lasts-below (gridWith h p) (startWith h b margins) (2 ^ 63) (omega arith) (λ i r. omega (arith, u .run .fits i r)) k l)
 
   -- no margin has risen, so that each fits an i64
   pub lefts-fit : (i : ℕ) → i < length (m .states) → (at (m .states) i ≤ 2) × (at ends i < 2 ^ 63)
@@ -84,27 +110,37 @@ module _ {h : Header} {b : List (List ℤ)} {m : Rows} {p margins : List ℕ} (u
         u .states-in i r,
         omega (
           arith,
-          ap (λ (o : Outcome). at (o .state .margins) i) e,
-          extract-demand3 (flat (h .rows) (h .borders) p) (record { margins = margins; x = froms (isIntraday h) b }) .lost i r,
+          ap (λ (o : Outcome). at (o .state .margins) i) (ran .ended),
+          extract-demand3 (gridWith h p) (startWith h b margins) .lost i r,
           u .run .fits i r,
         ),
       )
 
   module _ (atcs lefts : List (List ℤ)) where
-    abbrev atcsOf : ℕ → List ℕ → List (List ℤ)
-    atcsOf n xs = over (table n (λ b. atcOfKw (at xs b))) atcs
+    abbrev atcsOf : (xs ms : List ℕ) → List (List ℤ)
+    atcsOf xs ms = over (table (h .borders) (λ k. borderLeft (at xs k) (at (lastRounds (gridWith h p) (startWith h b margins)) k) (getD (stopRows (gridWith h p) ms) k none))) atcs
 
     abbrev leftsOf : ℕ → List ℕ → List (List ℤ)
     leftsOf n ms = over (table n (λ i. leftOfRow (at (m .states) i) (atℤ (m .rams) i) (at ms i))) lefts
 
-    pub finished-is : {atcs′ lefts′ : List (List ℤ)} → atcs′ ≡ atcsOf (length (take (h .borders) (end .x))) (take (h .borders) (end .x)) → lefts′ ≡ leftsOf (length (m .states)) ends
+    pub finished-is : {atcs′ lefts′ : List (List ℤ)}
+        → atcs′ ≡ over (table (h .borders) (λ k. borderLeft (at (take (h .borders) (end .x)) k) (at lasts k) (stopBy (gridWith h p) shares k))) atcs
+        → lefts′ ≡ leftsOf (length (m .states)) ends
         → leaves (passed (end .rounds)) p atcs′ lefts′ ≡ finished atcs lefts (resultWith h b m p margins)
-    unfolding atcRecord rowRecord leftOf
+    unfolding atcRecord rowRecord leftOf lastOf stopOf
     finished-is a l =
         ap₂ (leaves (passed (end .rounds)) p)
-        (a ∙ ap (λ (n : ℕ). atcsOf n (take (h .borders) (end .x))) front-long)
+        (a ∙ ap (λ (t : List (List ℤ)). over t atcs) (table-cong (h .borders) _ _ border-is))
         (l ∙ ap (λ (n : ℕ). leftsOf n ends) (u .states-long))
-        ∙ ap (λ (o : Outcome). leaves (passed (o .rounds)) p (atcsOf (h .borders) (o .state .x)) (leftsOf (h .rows) (o .state .margins))) e
+        ∙ ap (λ (o : Outcome). leaves (passed (o .rounds)) p (atcsOf (o .state .x) (o .state .margins)) (leftsOf (h .rows) (o .state .margins))) (ran .ended)
+      where
+        border-is : (k : ℕ) → k < h .borders
+            → borderLeft (at (take (h .borders) (end .x)) k) (at lasts k) (stopBy (gridWith h p) shares k)
+            ≡ borderLeft (at (take (h .borders) (end .x)) k) (at (lastRounds (gridWith h p) (startWith h b margins)) k) (getD (stopRows (gridWith h p) ends) k none)
+        border-is k hk =
+            ap₂ (borderLeft (at (take (h .borders) (end .x)) k))
+            (ap (λ (v : List ℕ). at v k) (ran .last-rounds))
+            (stop-by (gridWith h p) ends k (ran .shared) ∙ sym (table-get (h .borders) (stopRow (gridWith h p) ends) k none hk))
 
 -- ---- a prepared table
 module _ {t : Table} {r : Judgement} {rams starts : List ℤ} {states : List ℕ} (q : PreparedAs t r rams starts states) where
@@ -161,10 +197,16 @@ module _ {t : Table} (good : Good t) {m : Rows} (rows-are : m ≡ rowsOf t) {p m
   result-is : resultWith h (t .borders) m p margins ≡ resultOf t
   unfolding resultOf gridBy setupWith
   result-is =
-      ap₂ {C = Result} (λ (n : Rows) (ps : List ℕ). record { header = h; rows = n; p = ps; outcome = outcomeWith h (t .borders) p margins }) rows-are p-is
-      ∙ ap {B = Result} (λ (o : Outcome). record { header = h; rows = rowsOf t; p = cells (tableGrid t); outcome = o })
-      (ap (extract (flat (h .rows) (h .borders) p)) (ap₂ {C = State} (λ (ms xs : List ℕ). record { margins = ms; x = xs }) margins-are froms-are)
-      ∙ same-factors (h .rows) (h .borders) _ _ p-at (tableStart t))
+      let g = gridWith h p in
+      let s = tableStart t in
+      let made : Outcome → List ℕ → List (Option ℕ) → Result =
+      λ o lasts stops. record { header = h; rows = rowsOf t; p = cells (tableGrid t); outcome = o; lasts = lasts; stops = stops } in
+      let ended : extract g s ≡ extract (tableGrid t) s = same-factors (h .rows) (h .borders) _ _ p-at s in
+      ap₂ {C = Result} (λ (n : Rows) (ps : List ℕ). resultBy h n ps g (startWith h (t .borders) margins)) rows-are p-is
+      ∙ ap (resultBy h (rowsOf t) (cells (tableGrid t)) g) (ap₂ {C = State} (λ (ms xs : List ℕ). record { margins = ms; x = xs }) margins-are froms-are)
+      ∙ ap₂ (λ (o : Outcome) (l : List ℕ). made o l (stopRows g (extract g s .state .margins))) ended (same-lasts (h .rows) (h .borders) _ _ p-at s)
+      ∙ ap (made (extract (tableGrid t) s) (lastRounds (tableGrid t) s))
+      (ap (λ (o : Outcome). stopRows g (o .state .margins)) ended ∙ same-stops (h .rows) (h .borders) _ _ p-at (extract (tableGrid t) s .state .margins))
 
   -- a lent table of p of just that length is filled
   pub stored-is : (ps : List ℕ) → length ps ≡ h .rows * h .borders → (atcs lefts : List (List ℤ))

@@ -1,29 +1,47 @@
 -- From a table to its result (01, "Extraction"), and what the open call `extract` leaves. What the rounds start from is crate start's.
 use mathlib.Core.Bool.{cond}
 use mathlib.Core.List.{List, [], _∷_}
+use mathlib.Core.Option.{Option, none, some}
 use Prim.Native.Nat.{ℕ, _*_, _/_}
 use lib.Dec.{eqb}
 use lib.IntN.{ℤ, pos}
-use lib.ListN.{length}
+use lib.ListN.{length, getD}
 use Rattle.numbers.specs.Ints.{minus}
 use Rattle.numbers.specs.Below.{at, table, over}
 use Rattle.kinds.specs.declared.Header.{Header}
 use Rattle.kinds.specs.Ranges.{atℤ}
 use Rattle.kinds.specs.Refusals.{Judged, passed, refused, then, either, need}
 use Rattle.table.specs.Table.{Table, judgeShape, judgeRecords}
-use Rattle.rounds.specs.Rounds.{Outcome, extract, mostSharers, aloneBits}
+use Rattle.rounds.specs.Rounds.{Grid, State, Outcome, extract, mostSharers, aloneBits}
+use Rattle.rounds.specs.Last.{lastRounds}
+use Rattle.rounds.specs.Stopping.{stopRows}
 use Rattle.start.specs.Start.{Rows, rowsOf, tableGrid, tableStart, judgeTable}
 use Rattle.start.specs.Filled.{cells}
 
--- the whole result: what the rows were, p of each row at each border (row after row, border after border), and where the rounds ended
+-- the whole result: what the rows were, p of each row at each border (row after row, border after border), where the rounds ended, and of each
+-- border the last round that raised it and the row that stopped it (02, E7)
 pub record Result : Type 0 where
   pub header : Header
   pub rows : Rows
   pub p : List ℕ
   pub outcome : Outcome
+  pub lasts : List ℕ
+  pub stops : List (Option ℕ)
+
+-- .. of rounds on a grid
+abbrev pub resultBy : Header → Rows → (p : List ℕ) → Grid → State → Result
+resultBy h m p g s =
+    record {
+      header = h;
+      rows = m;
+      p = p;
+      outcome = extract g s;
+      lasts = lastRounds g s;
+      stops = stopRows g (extract g s .state .margins);
+    }
 
 unfoldable pub resultOf : Table → Result
-resultOf t = record { header = t .header; rows = rowsOf t; p = cells (tableGrid t); outcome = extract (tableGrid t) (tableStart t) }
+resultOf t = resultBy (t .header) (rowsOf t) (cells (tableGrid t)) (tableGrid t) (tableStart t)
 
 -- ATC = kW value floored to whole MW
 abbrev pub inMw : (kw : ℕ) → ℕ
@@ -36,6 +54,13 @@ atcOf r b = inMw (at (r .outcome .state .x) b)
 unfoldable pub leftOf : Result → (i : ℕ) → ℕ
 leftOf r i = at (r .outcome .state .margins) i
 
+-- a border's last round, and the row that stopped it
+unfoldable pub lastOf : Result → (b : ℕ) → ℕ
+lastOf r b = at (r .lasts) b
+
+unfoldable pub stopOf : Result → (b : ℕ) → Option ℕ
+stopOf r b = getD (r .stops) b none
+
 -- the outcome of a judged table: 5, 6, 7, and then the rounds
 unfoldable pub outcomeOf : Table → Judged Result
 outcomeOf t = then (judgeTable t) (λ states. passed (resultOf t))
@@ -47,9 +72,13 @@ nOf t = mostSharers (tableGrid t)
 unfoldable pub lOf : Table → ℕ
 lOf t = aloneBits (tableGrid t) (tableStart t .margins)
 
--- a border's record, by its exchange in kW: ATC in MW
-abbrev pub atcOfKw : (kw : ℕ) → List ℤ
-atcOfKw kw = pos (inMw kw) ∷ []
+-- a border's record: ATC in MW, by its exchange in kW; last round; stopping row, or -1 where there is none
+abbrev pub rowOrDash : Option ℕ → ℤ
+rowOrDash none = minus 1
+rowOrDash (some i) = pos i
+
+abbrev pub borderLeft : (kw last : ℕ) → (stop : Option ℕ) → List ℤ
+borderLeft kw last stop = pos (inMw kw) ∷ pos last ∷ rowOrDash stop ∷ []
 
 -- a row's record: state, RAM in grains, margin left in grains or -1 where the state is not 0
 abbrev pub leftOfMargin : (state margin : ℕ) → ℤ
@@ -60,7 +89,7 @@ leftOfRow state ram margin = pos state ∷ ram ∷ leftOfMargin state margin ∷
 
 -- the records of a result
 unfoldable pub atcRecord : Result → (b : ℕ) → List ℤ
-atcRecord r b = atcOfKw (at (r .outcome .state .x) b)
+atcRecord r b = borderLeft (at (r .outcome .state .x) b) (lastOf r b) (stopOf r b)
 
 unfoldable pub rowRecord : Result → (i : ℕ) → List ℤ
 rowRecord r i = leftOfRow (at (r .rows .states) i) (atℤ (r .rows .rams) i) (leftOf r i)

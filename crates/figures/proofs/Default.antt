@@ -26,12 +26,12 @@ tableWith share r =
 
 pub record Default : Type 0 where
   -- "-" is worth the default, as if it were written; 7000 where there is none
-  pub dash-9000 : answerText (sheet "H 2 1 1 9000/Z 0 0/Z 1 0/B 0 0 1 100/C 0 100000 50000 0 0 - 0 0 20000 0/") ≡ sheet "A 0 450/M 0 0 9000000000 0/R 1/"
-  pub written-9000 : answerText (sheet "H 2 1 1/Z 0 0/Z 1 0/B 0 0 1 100/C 0 100000 50000 0 0 9000 0 0 20000 0/") ≡ sheet "A 0 450/M 0 0 9000000000 0/R 1/"
-  pub dash-alone : answerText (sheet "H 2 1 1/Z 0 0/Z 1 0/B 0 0 1 100/C 0 100000 50000 0 0 - 0 0 20000 0/") ≡ sheet "A 0 350/M 0 0 7000000000 0/R 1/"
+  pub dash-9000 : answerText (sheet "H 2 1 1 9000/Z 0 0/Z 1 0/B 0 0 1 100/C 0 100000 50000 0 0 - 0 0 20000 0/") ≡ sheet "A 0 450 1 0/M 0 0 9000000000 0/R 1/"
+  pub written-9000 : answerText (sheet "H 2 1 1/Z 0 0/Z 1 0/B 0 0 1 100/C 0 100000 50000 0 0 9000 0 0 20000 0/") ≡ sheet "A 0 450 1 0/M 0 0 9000000000 0/R 1/"
+  pub dash-alone : answerText (sheet "H 2 1 1/Z 0 0/Z 1 0/B 0 0 1 100/C 0 100000 50000 0 0 - 0 0 20000 0/") ≡ sheet "A 0 350 1 0/M 0 0 7000000000 0/R 1/"
   -- R that is written does not look at it; a default of 0 is one
-  pub other-default : answerText (sheet "H 2 1 1 0/Z 0 0/Z 1 0/B 0 0 1 100/C 0 100000 50000 0 0 7000 0 0 20000 0/") ≡ sheet "A 0 350/M 0 0 7000000000 0/R 1/"
-  pub dash-0 : answerText (sheet "H 2 1 1 0/Z 0 0/Z 1 0/B 0 0 1 100/C 0 100000 50000 0 0 - 0 0 20000 0/") ≡ sheet "A 0 250/M 0 0 5000000000 0/R 1/"
+  pub other-default : answerText (sheet "H 2 1 1 0/Z 0 0/Z 1 0/B 0 0 1 100/C 0 100000 50000 0 0 7000 0 0 20000 0/") ≡ sheet "A 0 350 1 0/M 0 0 7000000000 0/R 1/"
+  pub dash-0 : answerText (sheet "H 2 1 1 0/Z 0 0/Z 1 0/B 0 0 1 100/C 0 100000 50000 0 0 - 0 0 20000 0/") ≡ sheet "A 0 250 1 0/M 0 0 5000000000 0/R 1/"
   -- a written 7000 is known from none, and each is written again as it was
   pub read-7000 : readText (sheet "H 2 1 1 7000/Z 0 0/Z 1 0/B 0 0 1 100/C 0 100000 50000 0 0 - 0 0 20000 0/") ≡ passed (tableWith (pos 7000) (minus 1))
   pub again-7000 : tableText (tableWith (pos 7000) (minus 1)) ≡ sheet "H 2 1 1 7000/Z 0 0/Z 1 0/B 0 0 1 100/C 0 100000 50000 0 0 - 0 0 20000 0/"

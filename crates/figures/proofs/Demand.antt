@@ -1,6 +1,7 @@
 -- Demand 3 on the worked hour (01): it is true of its result, says what it should at the capacities, and rejects a result left at LTA and one after the first round only.
 use mathlib.Core.Path.{_≡_, refl}
 use mathlib.Core.List.{List, [], _∷_}
+use mathlib.Core.Option.{some}
 use Prim.Native.Nat.{ℕ, zero, suc, _≤_, _<_}
 use native.Mathlib.Omega.{arith}
 use lib.Dec.{lit≤, lit<}
@@ -17,7 +18,7 @@ use Rattle.promises.proofs.Demand3.{lent-demand-3}
 use Rattle.figures.specs.Computing.{computing}
 use Rattle.figures.specs.Hour.{hourTable}
 
--- the hour's rows, with rounds and a state of one's own
+-- the hour's rows, last rounds and stopping rows, with rounds and a state of one's own
 abbrev ended : (rounds : ℕ) → State → Result
 ended rounds s =
     record {
@@ -25,6 +26,8 @@ ended rounds s =
       rows = record { rams = pos 70000000000 ∷ pos 9000000000 ∷ pos 12499500000 ∷ pos 100000000000 ∷ []; states = 0 ∷ 0 ∷ 1 ∷ 2 ∷ [] };
       p = 20000 ∷ 10000 ∷ 0 ∷ 5000 ∷ 0 ∷ 0 ∷ 0 ∷ 0 ∷ [];
       outcome = record { rounds = rounds; state = s };
+      lasts = 21 ∷ 1 ∷ [];
+      stops = some 0 ∷ some 1 ∷ [];
     }
 
 abbrev state : (margins x : List ℕ) → State

@@ -38,12 +38,12 @@ pub record Edges : Type 0 where
   pub zones-17 : answerText (sheet "H 17 64 3/") ≡ sheet "E 3 1 3/"
   pub borders-65 : answerText (sheet "H 16 65 3/") ≡ sheet "E 3 1 6/"
   -- "-" in R means 7000: AMR is 1 kW, as in the figures, and RAM 70000 kW
-  pub dash-7000 : withRow "C 0 100000 30001 0 0 - 0 0 20000 0/" ≡ sheet "A 0 350/M 0 0 7000000000 0/R 1/"
+  pub dash-7000 : withRow "C 0 100000 30001 0 0 - 0 0 20000 0/" ≡ sheet "A 0 350 1 0/M 0 0 7000000000 0/R 1/"
   -- a relieving (negative) factor is no gain of margin
   pub relieving : answerText (sheet "H 2 2 2/Z 0 0/Z 1 0/B 0 0 1 0/B 1 1 0 0/C 0 100000 0 0 0 0 0 0 20000 0/C 1 100000 0 0 0 0 0 0 0 20000/")
-      ≡ sheet "A 0 500/A 1 500/M 0 0 10000000000 0/M 1 0 10000000000 0/R 1/"
+      ≡ sheet "A 0 500 1 0/A 1 500 1 1/M 0 0 10000000000 0/M 1 0 10000000000 0/R 1/"
   -- border 1 does not rise from margins that border 0 has just lowered
-  pub at-once : answerText (sheet "H 3 2 1/Z 0 0/Z 1 0/Z 2 0/B 0 0 1 0/B 1 0 2 0/C 0 100000 0 0 0 0 0 0 20000 0 0/") ≡ sheet "A 0 250/A 1 250/M 0 0 10000000000 0/R 1/"
+  pub at-once : answerText (sheet "H 3 2 1/Z 0 0/Z 1 0/Z 2 0/B 0 0 1 0/B 1 0 2 0/C 0 100000 0 0 0 0 0 0 20000 0 0/") ≡ sheet "A 0 250 1 0/A 1 250 1 0/M 0 0 10000000000 0/R 1/"
 
 pub edges : Edges
 unfolding computing

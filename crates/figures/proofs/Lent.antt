@@ -45,7 +45,7 @@ ps = 20000 ∷ 10000 ∷ 0 ∷ 5000 ∷ 0 ∷ 0 ∷ 0 ∷ 0 ∷ []
 
 -- the hour's results: ATC; state, RAM, margin left (-1 where the state is not 0)
 abbrev ATCs : List (List ℤ)
-ATCs = (pos 2599 ∷ []) ∷ (pos 1800 ∷ []) ∷ []
+ATCs = (pos 2599 ∷ pos 21 ∷ pos 0 ∷ []) ∷ (pos 1800 ∷ pos 1 ∷ pos 1 ∷ []) ∷ []
 
 abbrev lefts : List (List ℤ)
 lefts =
@@ -96,10 +96,10 @@ pub record LentCalls : Type 0 where
   -- .. room for p is looked at after the factors, and before any record
   pub extract-short-p : extractLeft (lent h z [] b frmHigh f) (sevens 7) [] [] ≡ record { answer = refused (tooShort 8); p = sevens 7; atcs = []; lefts = [] }
   -- result_text and answer
-  pub result-out : resultTextLeft hourTable (replicate 109 7) ≡ record { answer = passed 107; out = hourResult ++ (7 ∷ 7 ∷ []) }
-  pub result-short : resultTextLeft hourTable (replicate 106 7) ≡ record { answer = refused (tooShort 107); out = replicate 106 7 }
+  pub result-out : resultTextLeft hourTable (replicate 118 7) ≡ record { answer = passed 116; out = hourResult ++ (7 ∷ 7 ∷ []) }
+  pub result-short : resultTextLeft hourTable (replicate 115 7) ≡ record { answer = refused (tooShort 116); out = replicate 115 7 }
   pub result-below : resultTextLeft (lent h z [] b cvaHigh f) [] ≡ record { answer = refused (belowZero 1); out = [] }
-  pub answer-out : answerLeft hourText (replicate 108 7) ≡ record { answer = passed 107; out = hourResult ++ (7 ∷ []) }
+  pub answer-out : answerLeft hourText (replicate 117 7) ≡ record { answer = passed 116; out = hourResult ++ (7 ∷ []) }
   pub answer-refused : answerLeft [] (replicate 10 7) ≡ record { answer = passed 8; out = sheet "E 2 1 0/" ++ (7 ∷ 7 ∷ []) }
   pub answer-short : answerLeft [] (replicate 7 7) ≡ record { answer = refused (tooShort 8); out = replicate 7 7 }
 

@@ -55,7 +55,7 @@ pub record Refused : Type 0 where
   pub below-0 : answerText (sheet "H 2 1 3/Z 0 0/Z 1 0/B 0 0 1 100/C 0 10000 0 0 0 0 0 0 20000 0/C 1 10000 0 0 0 0 1 0 19000 0/C 2 10000 0 0 0 0 0 1 18000 0/") ≡ sheet "E 7 1 0/"
   -- .. kept rows only; RAM may be negative
   pub seven-kept : answerText (sheet "H 2 1 2/Z 0 0/Z 1 0/B 0 0 1 100/C 0 10000 0 0 0 0 0 0 20000 0/C 1 10000 0 0 0 0 0 10000000 1000 0/")
-      ≡ sheet "A 0 100/M 0 0 2000000000 0/M 1 1 -999000000000 -/R 0/"
+      ≡ sheet "A 0 100 0 0/M 0 0 2000000000 0/M 1 1 -999000000000 -/R 0/"
 
 pub refusals : Refused
 unfolding computing

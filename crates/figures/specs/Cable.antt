@@ -22,7 +22,7 @@ cableText =
 -- From then on border 1 rises by half of what row 0 has left for it, 21 times.
 abbrev pub cableResult : List ℕ
 cableResult =
-    sheet "A 0 1560/A 1 3790/"
+    sheet "A 0 1560 1 1/A 1 3790 22 0/"
     ++ sheet "M 0 0 88300000000 20000/M 1 0 15600000000 0/M 2 0 4900000000 1109001000/R 22/"
 
 abbrev pub cableTable : Table

@@ -18,7 +18,7 @@ hourText =
 
 abbrev pub hourResult : List ℕ
 hourResult =
-    sheet "A 0 2599/A 1 1800/"
+    sheet "A 0 2599 21 0/A 1 1800 1 1/"
     ++ sheet "M 0 0 70000000000 20000/M 1 0 9000000000 0/M 2 1 12499500000 -/M 3 2 100000000000 -/R 21/"
 
 abbrev pub hourTable : Table

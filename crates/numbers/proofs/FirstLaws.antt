@@ -1,11 +1,12 @@
 -- The laws of a search that found something (`specs/Below.antt`'s `firstFrom`). No contract cites this file.
-use mathlib.Core.Path.{_≡_}
+use mathlib.Core.Path.{_≡_, refl, ap, subst, _∙_}
 use mathlib.Core.Bool.{Bool, true, false, cond}
+use mathlib.Core.Logic.{⊎-elim}
 use mathlib.Core.Option.{some}
-use Prim.Native.Nat.{ℕ, zero, suc, _+_, _<_}
+use Prim.Native.Nat.{ℕ, zero, suc, _+_, _≤_, _<_}
 use native.Mathlib.Omega.{arith}
 use Rattle.numbers.specs.Below.{firstFrom}
-use Rattle.numbers.proofs.BelowLaws.{some-none}
+use Rattle.numbers.proofs.BelowLaws.{some-none, le-or-lt}
 
 some-is : {A : Type 0} (a b : A) → some a ≡ some b → a ≡ b
 some-is a b e = cc
@@ -22,3 +23,30 @@ find-within (suc left) i test k e = go (test i) (find-within left (i + 1) test k
 -- what was found lies below the bound
 pub first-within : (n : ℕ) (test : ℕ → Bool) {k : ℕ} → some k ≡ firstFrom n 0 test → k < n
 first-within n test {k} e = omega (arith, find-within n 0 test k e)
+
+find-holds : (left i : ℕ) (test : ℕ → Bool) (k : ℕ) → some k ≡ firstFrom left i test → test k ≡ true
+unfolding firstFrom
+find-holds zero i test k e = absurd (some-none e)
+find-holds (suc left) i test k e = go (test i) refl (find-holds left (i + 1) test k) e
+  where
+    go : (t : Bool) → test i ≡ t → (some k ≡ firstFrom left (i + 1) test → test k ≡ true) → some k ≡ cond t (some i) (firstFrom left (i + 1) test) → test k ≡ true
+    go true q ih e = ap test (some-is k i e) ∙ q
+    go false q ih e = ih e
+
+-- .. the test holds of it ..
+pub first-holds : (n : ℕ) (test : ℕ → Bool) {k : ℕ} → some k ≡ firstFrom n 0 test → test k ≡ true
+first-holds n test {k} e = find-holds n 0 test k e
+
+find-before : (left i : ℕ) (test : ℕ → Bool) (k : ℕ) → some k ≡ firstFrom left i test → (j : ℕ) → i ≤ j → j < k → test j ≡ false
+unfolding firstFrom
+find-before zero i test k e j l h = absurd (some-none e)
+find-before (suc left) i test k e j l h = go (test i) refl (find-before left (i + 1) test k) e
+  where
+    go : (t : Bool) → test i ≡ t → (some k ≡ firstFrom left (i + 1) test → (j : ℕ) → i + 1 ≤ j → j < k → test j ≡ false)
+        → some k ≡ cond t (some i) (firstFrom left (i + 1) test) → test j ≡ false
+    go true q ih e = let z : ⊥ = omega (arith, some-is k i e) in absurd z
+    go false q ih e = ⊎-elim (λ m. subst (λ (v : ℕ). test v ≡ false) (omega arith) q) (λ m. ih e j (omega arith) h) (le-or-lt j i)
+
+-- .. and of none before it
+pub first-before : (n : ℕ) (test : ℕ → Bool) {k : ℕ} → some k ≡ firstFrom n 0 test → (j : ℕ) → j < k → test j ≡ false
+first-before n test {k} e j h = find-before n 0 test k e j (omega arith) h

@@ -2,6 +2,7 @@
 -- slipped, by the number that comes out.
 use mathlib.Core.Path.{_≡_, refl, ap}
 use mathlib.Core.List.{List, [], _∷_}
+use mathlib.Core.Option.{some}
 use Prim.Native.Nat.{ℕ, zero, suc, _≤_, _<_}
 use native.Mathlib.Omega.{arith}
 use lib.Dec.{lit≤, lit<}
@@ -13,6 +14,8 @@ use Rattle.kinds.specs.Ranges.{hubsOf, borderOf, shareOf, rowOf, worth, default
 use Rattle.kinds.specs.Refusals.{passed, then, unless, refuseAt, refuseFirst}
 use Rattle.table.specs.Table.{Table, stretch}
 use Rattle.rounds.specs.Rounds.{sharers, raise, alone, raises, load, lowered, risen, apply, next, raised, counted, run, extract, mostSharers, bitsTo, bits, aloneBits}
+use Rattle.rounds.specs.Last.{after, raiseIn, lastTo, lastRound}
+use Rattle.rounds.specs.Stopping.{stopRow}
 use Rattle.margin.specs.Margin.{grains, f0coreOf, fuafOf, baseOf, amrOf, signedFactor, pOf, ltaKw, sOf, ltaMarginOf, ramOf, ramAt}
 use Rattle.states.specs.States.{highest, lowest, spreadOf, shifted, below, stateOf}
 use Rattle.start.specs.Setup.{gridBy, beginBy, judgeBy}
@@ -35,7 +38,7 @@ small =
       factors = pos 10000 ∷ pos 0 ∷ pos 0 ∷ pos 0 ∷ pos 5000 ∷ minus 5000 ∷ [];
     }
 
--- its rows, with rounds, margins left and exchanges in kW of one's own
+-- its rows, and which rounds raised its borders last and which rows stopped them, with rounds, margins left and exchanges in kW of one's own
 abbrev ended : (rounds : ℕ) → (margins x : List ℕ) → Result
 ended rounds margins x =
     record {
@@ -43,6 +46,8 @@ ended rounds margins x =
       rows = record { rams = pos 24000000 ∷ pos 100000 ∷ []; states = 0 ∷ 0 ∷ [] };
       p = 10000 ∷ 10000 ∷ 0 ∷ 5000 ∷ [];
       outcome = record { rounds = rounds; state = record { margins = margins; x = x } };
+      lasts = 9 ∷ 1 ∷ [];
+      stops = some 0 ∷ some 0 ∷ [];
     }
 
 -- what holds of both borders
@@ -52,7 +57,7 @@ both f g x y (suc zero) h = y
 both f g x y (suc (suc b)) h = absurd (omega arith)
 
 pub record Anchors : Type 0 where
-  -- 200, 90, 45, 22, 11, 6, 3, 1 and 1 kW
+  -- 200, 90, 45, 22, 11, 6, 3, 1 and 1 kW; border 1 rises in the first round alone. Row 0 stops both borders in the end, and so does row 1 border 1
   pub outcome : outcomeOf small ≡ passed (ended 9 (10000 ∷ 0 ∷ []) (2379 ∷ 20 ∷ []))
   pub n : nOf small ≡ 2
   pub l : lOf small ≡ 9
@@ -76,7 +81,7 @@ pub record Anchors : Type 0 where
   pub one-round : Demand3 small (ended 1 (1800000 ∷ 0 ∷ []) (2200 ∷ 20 ∷ [])) → ⊥
 
 pub anchors : Anchors
-unfolding ifZero sum count largest lesser least orZero table firstFrom given maxℤ minℤ positivePart sameℤ sumℤ hubsOf borderOf shareOf rowOf worth defaultOf then unless refuseAt refuseFirst stretch sharers raise alone raises load lowered risen apply next raised counted run extract mostSharers bitsTo bits aloneBits grains f0coreOf fuafOf baseOf amrOf signedFactor pOf ltaKw sOf ltaMarginOf ramOf ramAt highest lowest spreadOf shifted below stateOf rowsOf kept resultOf atcOf leftOf outcomeOf nOf lOf loadOf gridBy setupWith beginBy judgeBy
+unfolding ifZero sum count largest lesser least orZero table firstFrom given maxℤ minℤ positivePart sameℤ sumℤ hubsOf borderOf shareOf rowOf worth defaultOf then unless refuseAt refuseFirst stretch sharers raise alone raises load lowered risen apply next raised counted run extract after raiseIn lastTo lastRound stopRow mostSharers bitsTo bits aloneBits grains f0coreOf fuafOf baseOf amrOf signedFactor pOf ltaKw sOf ltaMarginOf ramOf ramAt highest lowest spreadOf shifted below stateOf rowsOf kept resultOf atcOf leftOf outcomeOf nOf lOf loadOf gridBy setupWith beginBy judgeBy
 anchors =
     record {
       outcome = refl;

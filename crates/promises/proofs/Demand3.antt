@@ -18,7 +18,7 @@ use Rattle.rounds.proofs.Theorems.{alone-under, alone-least}
 use Rattle.margin.specs.Bounds.{namedBits}
 use Rattle.margin.proofs.JudgedLaws.{good-allocated}
 use Rattle.margin.proofs.Small.{named-values-small}
-use Rattle.start.specs.Setup.{Setup, gridBy}
+use Rattle.start.specs.Setup.{Setup, gridBy, endBy}
 use Rattle.start.specs.Start.{kept, every, tableGrid, tableStart, setupWith}
 use Rattle.extraction.specs.Extraction.{Result, outcomeOf, nOf, lOf}
 use Rattle.extraction.proofs.AcceptedLaws.{part-le-abs}
@@ -61,7 +61,7 @@ module _ (t : Table) (good : Good t) where
   start-small i h = omega (arith, ap positivePart (table-get (t .header .rows) (lessSOf t) i (pos 0) h), part-le-abs (lessSOf t i), named-values-small good i h .less-s)
 
   most : resultIn dayAhead kept every t .outcome .rounds ≤ roundsMost
-  unfolding resultIn setupIn
+  unfolding resultIn endBy setupIn
   most = setup-rounds (setupIn dayAhead kept every t) bordersMost namedBits (header-in (t .header) (good .exact .header) .borders-most) start-small
 
 pub accepted-demand-3 : (t : Table) (r : Result) → Good t → isIntraday (t .header) ≡ false → outcomeOf t ≡ passed r → Demand3 t r

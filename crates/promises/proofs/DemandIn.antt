@@ -64,7 +64,7 @@ module _ (profile : Profile) (marked : ℕ → Bool) (t : Table) where
   -- exchanges within the ATCs load a kept row, by p, within its margin and its load at the start
   loads : (e : List ℕ) → WithinAtcs t its e → (i : ℕ) → i < t .header .rows → kept (rowsOf t .states) i ≡ true
       → loadOf t i e ≤ℤ pos (positivePart (marginIn profile t i) + loadBy s i (s .from))
-  unfolding atcOf resultIn setupIn
+  unfolding atcOf resultIn endBy setupIn
   loads e h i hi k =
       subst (λ (z : ℤ). loadOf t i e ≤ℤ pos (positivePart z + loadBy s i (s .from))) (margin-at i hi)
       (le-pos (loadOf t i e) _ _ (signed-load i e)
@@ -92,7 +92,7 @@ module _ (marked : ℕ → Bool) (t : Table) (long : length (t .borders) ≡ t .
   day-ram i h k = less-is (ramAt t i) (sAt (t .header) (t .borders) (t .factors) i) _ (day-starts i h k) ∙ ap (λ (x : ℕ). pos (positivePart (lessSOf t i) + x)) (sym (day-load i))
 
   day-demand : DayDemand3 t marked (its dayAhead marked t)
-  unfolding resultIn leftOf setupIn
+  unfolding resultIn endBy leftOf setupIn
   day-demand =
       let d = demand-by day in
       record {
@@ -126,7 +126,7 @@ module _ (marked : ℕ → Bool) (allocated : List ℤ) (t : Table) where
       subst (λ (n : ℕ). loadOf t i e ≤ℤ pos n) (ap (λ (x : ℕ). positivePart (remainderOf t allocated i) + x) (no-load i) ∙ omega arith) (loads (onTopOf allocated) marked t e h i hi k)
 
   left-demand : IntradayDemand3 t marked allocated (its (onTopOf allocated) marked t)
-  unfolding resultIn leftOf setupIn
+  unfolding resultIn endBy leftOf setupIn
   left-demand =
       let d = demand-by left in
       record {

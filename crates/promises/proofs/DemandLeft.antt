@@ -29,7 +29,7 @@ use Rattle.promises.proofs.Seven.{no-refusal-7}
 use Rattle.promises.proofs.ToldLaws.{Told, told-passed, told-then, told-unless, told-first, told-need}
 
 -- ---- what stands in front of a lent buffer
-over-get : {A : Type 0} (n : ℕ) (f : ℕ → A) (old : List A) (i : ℕ) (d : A) → i < n → getD (over (table n f) old) i d ≡ f i
+pub over-get : {A : Type 0} (n : ℕ) (f : ℕ → A) (old : List A) (i : ℕ) (d : A) → i < n → getD (over (table n f) old) i d ≡ f i
 over-get n f old i d h = List·getD-append (table n f) _ d i (omega (arith, table-long n f)) ∙ table-get n f i d h
 
 -- ---- lower margins raise no more

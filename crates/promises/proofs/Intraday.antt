@@ -18,7 +18,7 @@ use Rattle.margin.specs.Bounds.{NetsBound, startMost, startBits}
 use Rattle.margin.proofs.BoundLaws.{within-flow}
 use Rattle.margin.proofs.JudgedLaws.{good-factors, stretch-long, stretch-bound}
 use Rattle.margin.proofs.Small.{ram-in}
-use Rattle.start.specs.Setup.{Setup, freeBy, lowBy, judgeBy}
+use Rattle.start.specs.Setup.{Setup, freeBy, lowBy, judgeBy, endBy}
 use Rattle.extraction.specs.Extraction.{Result}
 use Rattle.extraction.proofs.AcceptedLaws.{part-le-abs}
 use Rattle.promises.specs.DemandIn.{intradayRoundsMost}
@@ -49,7 +49,7 @@ module _ (takes : List ℕ → ℕ → Bool) (marked : ℕ → Bool) {t : Table}
       omega (arith, ap positivePart (table-get (t .header .rows) (marginIn (onTopOf allocated) t) i (pos 0) h), part-le-abs (remainderOf t allocated i), remainder-small good nets i h)
 
   pub intraday-rounds : resultIn (onTopOf allocated) takes marked t .outcome .rounds ≤ intradayRoundsMost
-  unfolding resultIn setupIn
+  unfolding resultIn endBy setupIn
   intraday-rounds = setup-rounds (setupIn (onTopOf allocated) takes marked t) bordersMost startBits (header-in (t .header) (good .exact .header) .borders-most) margin-small
 
 -- 7 isn't given here

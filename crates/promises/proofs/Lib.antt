@@ -1,4 +1,5 @@
 pub mod AnchorsDemand
+pub mod AnchorsWays
 pub mod SetupLaws
 pub mod LoadLaws
 pub mod DemandBy
@@ -11,3 +12,4 @@ pub mod Seven
 pub mod ToldLaws
 pub mod ByBorder
 pub mod ReplacedSame
+pub mod Stopped

@@ -17,13 +17,12 @@ use Rattle.kinds.specs.Refusals.{passed, then}
 use Rattle.kinds.proofs.KindLaws.{row-in, default-low, default-fits}
 use Rattle.table.specs.Table.{Table, factorsAt}
 use Rattle.table.specs.Good.{Good}
-use Rattle.rounds.specs.Rounds.{extract}
 use Rattle.margin.specs.Margin.{f0coreOf, fuafOf, baseOf, amrOf, ltaMarginOf, ramOf, sAt, ramAt, startBy, marginOf, ramsOf, startsOf}
 use Rattle.states.specs.States.{statesOf}
 use Rattle.start.specs.Setup.{gridBy, beginBy, judgeBy}
 use Rattle.start.specs.Start.{Rows, rowsOf, kept, every, setupWith}
 use Rattle.start.specs.Filled.{cells}
-use Rattle.extraction.specs.Extraction.{resultOf, outcomeOf}
+use Rattle.extraction.specs.Extraction.{resultBy, resultOf, outcomeOf}
 use Rattle.promises.specs.Replaced.{replacedShare, replacedRow, replacedRows, replaced, ReplacedSame}
 
 -- ---- one row
@@ -104,7 +103,7 @@ module _ (t : Table) where
   same-outcome =
       ap₂ (λ (rows : Rows) (starts : List ℤ).
       let setup = setupWith (kept (rows .states)) every (t .header) (t .borders) (t .factors) starts in
-      then (judgeBy setup (rows .states)) (λ states. passed (record { header = t .header; rows = rows; p = cells (gridBy setup); outcome = extract (gridBy setup) (beginBy setup) })))
+      then (judgeBy setup (rows .states)) (λ states. passed (resultBy (t .header) rows (cells (gridBy setup)) (gridBy setup) (beginBy setup))))
       same-rows same-starts
 
   stays-good : Good t → Good (replaced t)

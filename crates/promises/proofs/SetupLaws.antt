@@ -1,15 +1,20 @@
 -- The laws of a setup (start: specs/Setup.antt): its grid and its start, its judgement, a border that no row loads, and that N and L are over the marked borders.
 -- No contract cites this file.
-use mathlib.Core.Path.{_≡_, refl, _∙_}
-use mathlib.Core.Bool.{Bool, true, false, cond, _&&_}
+use mathlib.Core.Path.{_≡_, refl, sym, ap, _∙_}
+use mathlib.Core.Bool.{Bool, true, false, cond, not, _&&_, true≢false, false≢true}
+use mathlib.Core.Logic.{_⊎_, inl, inr, ⊎-elim}
 use mathlib.Core.List.{List}
 use mathlib.Core.Option.{Option, none, some}
 use Prim.Native.Nat.{ℕ, zero, suc, _/_, _<_}
 use native.Mathlib.Omega.{arith}
+use borrow.Author.Tests.{ltb-true, not-false}
+use lib.Dec.{ltb}
 use Rattle.numbers.specs.Ints.{positivePart}
 use Rattle.numbers.specs.Below.{at, ifZero, count, least, orZero, firstFrom, someBelow}
-use Rattle.numbers.proofs.BelowLaws.{count-cong, table-get}
+use Rattle.numbers.proofs.BelowLaws.{lt-suc-cases, count-cong, table-get}
+use Rattle.numbers.proofs.TestLaws.{false-some}
 use Rattle.kinds.specs.Refusals.{passed, then, unless, refuseAt, refuseFirst, noRow, unlimited, belowZero}
+use Rattle.kinds.proofs.RefusalLaws.{unless-passed, none-passed}
 use Rattle.rounds.specs.Rounds.{Grid, State, sharers, raise, alone, Rounds, done, more}
 use Rattle.rounds.proofs.LeastLaws.{Least, least-is}
 use Rattle.rounds.proofs.Round.{next-x, raises-at}
@@ -53,6 +58,30 @@ then-judged {A} {B} s a f = go (someBelow (s .rows) (s .takes)) (firstFrom (s .b
     go true (some b) q = refl
     go true none (some i) = refl
     go true none none = refl
+
+-- ---- of an accepted setup each marked border is loaded by some row that takes part
+module _ (test : ℕ → Bool) where
+  search-below : (n : ℕ) → ((i : ℕ) × (i < n) × (test i ≡ true)) ⊎ ((i : ℕ) → i < n → test i ≡ false)
+  search-below zero = inr (λ i h. absurd (omega arith))
+  search-below (suc n) = ⊎-elim (λ w. inl (w .0, omega (arith, w .1), w .2)) (λ u. go u (test n) refl) (search-below n)
+    where
+      go : ((i : ℕ) → i < n → test i ≡ false) → (t : Bool) → test n ≡ t → ((i : ℕ) × (i < suc n) × (test i ≡ true)) ⊎ ((i : ℕ) → i < suc n → test i ≡ false)
+      go u true e = inl (n, omega arith, e)
+      go u false e = inr (λ i h. ⊎-elim (u i) (λ q. ap test q ∙ e) (lt-suc-cases i n h))
+
+  some-index : (n : ℕ) → someBelow n test ≡ true → (i : ℕ) × (i < n) × (test i ≡ true)
+  some-index n e = ⊎-elim (λ w. w) (λ u. absurd (true≢false (sym e ∙ false-some n test u))) (search-below n)
+
+and-not : (m f : Bool) → (m && not f) ≡ false → m ≡ true → f ≡ true
+and-not true f e k = not-false f e
+and-not false f e k = absurd (false≢true k)
+
+pub marked-loaded : {A : Type 0} (s : Setup) (a r : A) → judgeBy s a ≡ passed r → (b : ℕ) → b < s .borders → s .marked b ≡ true → (i : ℕ) × (i < s .rows) × (0 < gridBy s .p i b)
+unfolding judgeBy
+marked-loaded s a r e b h m =
+    let free = none-passed _ _ _ _ r (unless-passed r _ _ _ e .1) .0 b h in
+    let w = some-index (λ i. ltb 0 (gridBy s .p i b)) (s .rows) (and-not (s .marked b) _ free m) in
+    (w .0, w .1, ltb-true 0 (gridBy s .p (w .0) b) (w .2))
 
 -- ---- a border that no row loads stays where it is
 unloaded-raise : (g : Grid) (m : List ℕ) (b : ℕ) → ((r : ℕ) → r < g .rows → g .p r b ≡ 0) → raise g m b ≡ 0

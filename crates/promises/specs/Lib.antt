@@ -4,5 +4,6 @@ pub mod DemandBy
 pub mod Ways
 pub mod DemandIn
 pub mod Seven
+pub mod Stopped
 pub mod ByBorder
 pub mod Replaced

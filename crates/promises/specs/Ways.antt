@@ -12,10 +12,10 @@ use Rattle.kinds.specs.Ranges.{atℤ, isIntraday}
 use Rattle.kinds.specs.Refusals.{Judged}
 use Rattle.table.specs.Table.{Table, borderAt, factorsAt}
 use Rattle.margin.specs.Margin.{flowOf, pOf, sAt, ramAt, startBy}
-use Rattle.start.specs.Setup.{Setup, judgeBy, endBy}
+use Rattle.start.specs.Setup.{Setup, gridBy, beginBy, judgeBy}
 use Rattle.start.specs.Start.{rowsOf, fromBy, tableGrid}
 use Rattle.start.specs.Filled.{cells}
-use Rattle.extraction.specs.Extraction.{Result}
+use Rattle.extraction.specs.Extraction.{Result, resultBy}
 
 -- the day-ahead profile of 01, or the intraday remainder on top of allocated net positions (02, E12)
 pub record Profile : Type 0 where
@@ -60,7 +60,9 @@ setupIn profile takes marked t =
 
 -- .. and its outcome: 5, 6, 7, and then the rounds
 unfoldable pub resultIn : Profile → (takes : (states : List ℕ) → (i : ℕ) → Bool) → (marked : ℕ → Bool) → Table → Result
-resultIn profile takes marked t = record { header = t .header; rows = rowsOf t; p = cells (tableGrid t); outcome = endBy (setupIn profile takes marked t) }
+resultIn profile takes marked t =
+    let s = setupIn profile takes marked t in
+    resultBy (t .header) (rowsOf t) (cells (tableGrid t)) (gridBy s) (beginBy s)
 
 unfoldable pub outcomeIn : Profile → (takes : (states : List ℕ) → (i : ℕ) → Bool) → (marked : ℕ → Bool) → Table → Judged Result
 outcomeIn profile takes marked t = judgeBy (setupIn profile takes marked t) (resultIn profile takes marked t)

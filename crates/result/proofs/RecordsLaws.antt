@@ -1,16 +1,15 @@
 -- The laws of `specs/Records.antt` and `specs/Refusal.antt` that proofs cite. No contract cites this file.
--- In order: the lengths of lines; the E line; `leftField`; lines of 64-bit numbers; the whole text.
+-- In order: the lengths of lines; the E line; `orDash`; lines of 64-bit numbers; the whole text.
 use mathlib.Core.Path.{_≡_, refl, ap, _∙_}
 use mathlib.Core.Bool.{Bool, true, false}
 use mathlib.Core.List.{List, [], _∷_, _++_}
 use Prim.Native.Nat.{ℕ, _+_, _^_, _≤_, _<_}
 use native.Mathlib.Omega.{arith}
-use lib.IntN.{ℤ, pos}
+use lib.IntN.{ℤ}
 use lib.ListN.{length, length-append}
 use lib.Signed.{mag}
 use mir.Syntax.{w64}
 use mir.Val.{hbits}
-use Rattle.numbers.specs.Ints.{sameℤ}
 use Rattle.kinds.specs.declared.Refusal.{Refusal}
 use Rattle.text.specs.Fields.{dash}
 use Rattle.text.specs.Put.{Put}
@@ -19,7 +18,7 @@ use Rattle.text.proofs.DigitLaws.{decimal-u64, decimal-i64}
 use Rattle.text.proofs.WrittenLaws.{decimal-long}
 use Rattle.text.proofs.PutLaws.{tabbed-length, tabbed-empty, line-length, put-more}
 use Rattle.result.specs.Refusal.{refusalText, refusalMost}
-use Rattle.result.specs.Records.{atcLine, leftField, marginLine, roundsLine, atcLines, marginLines, recordsText, resultLineMost}
+use Rattle.result.specs.Records.{orDash, recordLine, roundsLine, atcLines, marginLines, recordsText, resultLineMost}
 
 -- ---- the lengths of lines
 module _ (letter : ℕ) (f : List ℕ) where
@@ -44,12 +43,9 @@ module _ (letter : ℕ) (f : List ℕ) where
         tabbed-empty,
       )
 
-pub atc-length : (b : ℕ) (atc : ℤ) → 4 + length (decimal b) + length (decimalℤ atc) ≡ length (atcLine b atc)
-atc-length b atc = two-length 65 (decimal b) (decimalℤ atc)
-
-pub margin-length : (i : ℕ) (state ram left : ℤ)
-    → 6 + length (decimal i) + length (decimalℤ state) + length (decimalℤ ram) + length (leftField state left) ≡ length (marginLine i state ram left)
-margin-length i state ram left = four-length 77 (decimal i) (decimalℤ state) (decimalℤ ram) (leftField state left)
+pub record-length : (letter i : ℕ) (first second : ℤ) (given : Bool) (third : ℤ)
+    → 6 + length (decimal i) + length (decimalℤ first) + length (decimalℤ second) + length (orDash given third) ≡ length (recordLine letter i first second given third)
+record-length letter i first second given third = four-length letter (decimal i) (decimalℤ first) (decimalℤ second) (orDash given third)
 
 pub rounds-length : (rounds : ℕ) → 3 + length (decimal rounds) ≡ length (roundsLine rounds)
 rounds-length rounds = one-length 82 (decimal rounds)
@@ -62,30 +58,33 @@ refusal-length w = three-length 69 (decimal (w .number)) (decimal (w .place)) (d
 pub refusal-most : (w : Refusal) → w .number < 2 ^ 32 → w .place < 2 ^ 64 → w .byte < 2 ^ 64 → length (refusalText w) ≤ refusalMost
 refusal-most w h k l = omega (arith, refusal-length w, decimal-long 9 (w .number) (omega (arith, h)), decimal-u64 (w .place) k, decimal-u64 (w .byte) l)
 
--- ---- leftField
-module _ (state left : ℤ) where
-  pub left-is : sameℤ state (pos 0) ≡ true → leftField state left ≡ decimalℤ left
-  unfolding leftField
-  left-is e = rw e
+-- ---- orDash
+module _ (v : ℤ) where
+  pub dash-is : {given : Bool} → given ≡ true → orDash given v ≡ decimalℤ v
+  unfolding orDash
+  dash-is e = rw e
 
-  pub left-dash : sameℤ state (pos 0) ≡ false → leftField state left ≡ dash ∷ []
-  unfolding leftField
-  left-dash e = rw e
+  pub dash-dash : {given : Bool} → given ≡ false → orDash given v ≡ dash ∷ []
+  unfolding orDash
+  dash-dash e = rw e
 
-  pub left-most : (k : ℕ) → 1 ≤ k → length (decimalℤ left) ≤ k → length (leftField state left) ≤ k
-  left-most k l h = go (sameℤ state (pos 0)) refl
-    where
-      go : (t : Bool) → sameℤ state (pos 0) ≡ t → length (leftField state left) ≤ k
-      go true e = rw (left-is e) h
-      go false e = rw (left-dash e) l
+  pub dash-most : (given : Bool) (k : ℕ) → 1 ≤ k → length (decimalℤ v) ≤ k → length (orDash given v) ≤ k
+  unfolding orDash
+  dash-most true k l h = h
+  dash-most false k l h = l
 
 -- ---- lines of 64-bit numbers
-pub atc-most : (b : ℕ) (atc : ℤ) → b < 2 ^ 64 → mag atc < 2 ^ hbits w64 → length (atcLine b atc) ≤ resultLineMost
-atc-most b atc h k = omega (arith, atc-length b atc, decimal-u64 b h, decimal-i64 atc k)
-
-pub margin-most : (i : ℕ) (state ram left : ℤ) → i < 2 ^ 64 → mag state < 2 ^ hbits w64 → mag ram < 2 ^ hbits w64 → mag left < 2 ^ hbits w64 → length (marginLine i state ram left) ≤ resultLineMost
-margin-most i state ram left h k l m =
-    omega (arith, margin-length i state ram left, decimal-u64 i h, decimal-i64 state k, decimal-i64 ram l, left-most state left 20 (omega arith) (decimal-i64 left m))
+pub record-most : (letter i : ℕ) (first second : ℤ) (given : Bool) (third : ℤ) → i < 2 ^ 64 → mag first < 2 ^ hbits w64 → mag second < 2 ^ hbits w64 → mag third < 2 ^ hbits w64
+    → length (recordLine letter i first second given third) ≤ resultLineMost
+record-most letter i first second given third h k l m =
+    omega (
+      arith,
+      record-length letter i first second given third,
+      decimal-u64 i h,
+      decimal-i64 first k,
+      decimal-i64 second l,
+      dash-most third given 20 (omega arith) (decimal-i64 third m),
+    )
 
 -- ---- the whole text
 module _ (atcs lefts : List (List ℤ)) (rounds : ℕ) where

@@ -1,28 +1,33 @@
--- The result text made from result records, as the open call `extract` fills them (01, "Result text"): a border's ATC; a row's state, RAM and margin left.
+-- The result text made from result records, as the open call `extract` fills them (01, "Result text"; 02, E7): a border's ATC, last round and stopping row; a row's state, RAM and margin left.
 -- `recordsText` and the lines of it are what contracts cite; the text of a result is that of its records (answer's specs/Result.antt).
-use mathlib.Core.Bool.{cond}
+use mathlib.Core.Bool.{Bool, cond}
 use mathlib.Core.List.{List, [], _∷_, _++_}
 use Prim.Native.Char.{code}
 use Prim.Native.Nat.{ℕ, _+_, _*_}
 use lib.IntN.{ℤ, pos}
 use lib.ListN.{length, getD}
+use lib.Signed.{leZ}
 use Rattle.numbers.specs.Ints.{sameℤ}
 use Rattle.kinds.specs.Limits.{bordersMost, rowsMost}
 use Rattle.kinds.specs.Ranges.{atℤ}
 use Rattle.text.specs.Fields.{dash}
 use Rattle.text.specs.Written.{decimal, decimalℤ, lineText, linesText}
 
--- A, border index, ATC in MW
-abbrev pub atcLine : (b : ℕ) → (atc : ℤ) → List ℕ
-atcLine b atc = lineText (code "A") (decimal b ∷ decimalℤ atc ∷ [])
+-- a number, or "-" where it is not given
+unfoldable pub orDash : (given : Bool) → ℤ → List ℕ
+orDash given v = cond given (decimalℤ v) (dash ∷ [])
 
--- the margin left in grains, or "-" where the state isn't 0
-unfoldable pub leftField : (state left : ℤ) → List ℕ
-leftField state left = cond (sameℤ state (pos 0)) (decimalℤ left) (dash ∷ [])
+-- the line of a record: the letter, the index, two numbers, and a third or "-"
+abbrev pub recordLine : (letter i : ℕ) → (first second : ℤ) → (given : Bool) → (third : ℤ) → List ℕ
+recordLine letter i first second given third = lineText letter (decimal i ∷ decimalℤ first ∷ decimalℤ second ∷ orDash given third ∷ [])
 
--- M, row index, state, RAM in grains, margin left
+-- A, border index, ATC in MW, last round, and the row that stopped it or "-"
+abbrev pub atcLine : (b : ℕ) → (atc last row : ℤ) → List ℕ
+atcLine b atc last row = recordLine (code "A") b atc last (leZ (pos 0) row) row
+
+-- M, row index, state, RAM in grains, and margin left in grains or "-" where the state isn't 0
 abbrev pub marginLine : (i : ℕ) → (state ram left : ℤ) → List ℕ
-marginLine i state ram left = lineText (code "M") (decimal i ∷ decimalℤ state ∷ decimalℤ ram ∷ leftField state left ∷ [])
+marginLine i state ram left = recordLine (code "M") i state ram (sameℤ state (pos 0)) left
 
 -- R, rounds
 abbrev pub roundsLine : (rounds : ℕ) → List ℕ
@@ -30,7 +35,7 @@ roundsLine rounds = lineText (code "R") (decimal rounds ∷ [])
 
 -- the lines of border records and of row records
 abbrev pub atcAt : (atcs : List (List ℤ)) → (b : ℕ) → List ℕ
-atcAt atcs b = atcLine b (atℤ (getD atcs b []) 0)
+atcAt atcs b = atcLine b (atℤ (getD atcs b []) 0) (atℤ (getD atcs b []) 1) (atℤ (getD atcs b []) 2)
 
 abbrev pub marginAt : (lefts : List (List ℤ)) → (i : ℕ) → List ℕ
 marginAt lefts i = marginLine i (atℤ (getD lefts i []) 0) (atℤ (getD lefts i []) 1) (atℤ (getD lefts i []) 2)

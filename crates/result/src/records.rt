@@ -1,15 +1,17 @@
 // The result text from result records: A lines, M lines, and the R line (01, "Result text").
-// A border record is its ATC in MW; a row record is state, RAM and margin left, the last two in grains.
+// A border record is its ATC in MW, last round and stopping row (02, E7); a row record is state, RAM and margin left, the last two in grains.
 // A writer answers the place after what it wrote, and leaves all other bytes as they were.
 ghost use mathlib.Core.Path.{_≡_};
 ghost use mathlib.Core.List.{_∷_};
-ghost use Prim.Native.Nat.{_+_, _*_, _≤_};
+ghost use Prim.Native.Nat.{ℕ, _+_, _*_, _≤_};
+ghost use lib.IntN.{pos};
 ghost use lib.ListN.{length};
+ghost use lib.Signed.{leZ};
 ghost use Rattle.numbers.specs.Below.{over};
 ghost use Rattle.kinds.specs.Limits.{bordersMost, rowsMost};
 ghost use Rattle.text.specs.Fields.{tab};
 ghost use Rattle.text.specs.Put.{Put};
-ghost use Rattle.result.specs.Records.{atcLine, leftField, marginLine, roundsLine, atcLines, marginLines, recordsText, resultLineMost, recordsMost};
+ghost use Rattle.result.specs.Records.{orDash, recordLine, roundsLine, atcLines, marginLines, recordsText, resultLineMost, recordsMost};
 use extraction::AtcRecord;
 use extraction::LeftRecord;
 
@@ -28,17 +30,19 @@ fn atcs_length(atc: &[AtcRecord]) -> usize
     let mut sum: usize = 0;
     let mut b: usize = 0;
     while b < atc.len() {
-        sum += atc_length(b as u64, atc[b][0]);
+        let row = atc[b][2];
+        let stopped = is_row(row);
+        sum += line_length(b as u64, atc[b][0], atc[b][1], stopped, row);
         b += 1;
     }
     sum
 }
 
-// The letter, two tabs and the LF, and the numbers.
-fn atc_length(b: u64, atc: i64) -> usize
-    ensures { λ r. ⌜ r ≡ length (atcLine b atc) ⌝ }
+// Whether a row stopped the border.
+fn is_row(row: i64) -> bool
+    ensures { λ r. ⌜ r ≡ leZ (pos 0) row ⌝ }
 {
-    4 + text::put::digit_count(b) + text::put::signed_length(atc)
+    0 <= row
 }
 
 fn margins_length(left: &[LeftRecord]) -> usize
@@ -48,30 +52,34 @@ fn margins_length(left: &[LeftRecord]) -> usize
     let mut sum: usize = 0;
     let mut i: usize = 0;
     while i < left.len() {
-        sum += margin_length(i as u64, left[i][0], left[i][1], left[i][2]);
+        let state = left[i][0];
+        let kept = numbers::same(state, 0);
+        sum += line_length(i as u64, state, left[i][1], kept, left[i][2]);
         i += 1;
     }
     sum
 }
 
-// The letter, four tabs and the LF, and the fields.
-fn margin_length(i: u64, state: i64, ram: i64, left: i64) -> usize
-    ensures { λ r. ⌜ r ≡ length (marginLine i state ram left) ⌝ }
+// Of a line of A or M: the letter, four tabs and the LF, and the fields.
+fn line_length(i: u64, first: i64, second: i64, given: bool, third: i64) -> usize
+    ensures { λ r. ⌜ ((letter : ℕ) → r ≡ length (recordLine letter i first second given third)) ⌝ }
 {
     6
         + text::put::digit_count(i)
-        + text::put::signed_length(state)
-        + text::put::signed_length(ram)
-        + left_length(state, left)
+        + text::put::signed_length(first)
+        + text::put::signed_length(second)
+        + field_length(given, third)
 }
 
-fn left_length(state: i64, left: i64) -> usize
-    ensures { λ r. ⌜ r ≡ length (leftField state left) ⌝ }
+// The last field of such a line: "-" where the number is not given.
+fn field_length(given: bool, v: i64) -> usize
+    ensures { λ r. ⌜ r ≡ length (orDash given v) ⌝ }
 {
-    if numbers::same(state, 0) {
-        return text::put::signed_length(left);
+    if given {
+        text::put::signed_length(v)
+    } else {
+        1
     }
-    1
 }
 
 fn rounds_length(rounds: u64) -> usize
@@ -97,20 +105,21 @@ fn put_atcs(atc: &[AtcRecord], out: &mut [u8], at: usize) -> usize
     let mut next = at;
     let mut b: usize = 0;
     while b < atc.len() {
-        next = put_atc(b as u64, atc[b][0], out, next);
+        let row = atc[b][2];
+        let stopped = is_row(row);
+        next = put_line(
+            b'A',
+            b as u64,
+            atc[b][0],
+            atc[b][1],
+            stopped,
+            row,
+            out,
+            next,
+        );
         b += 1;
     }
     next
-}
-
-fn put_atc(b: u64, atc: i64, out: &mut [u8], at: usize) -> usize
-    requires { ⌜ at + length (atcLine b atc) ≤ length (now out) ⌝ }
-    ensures { λ r. ⌜ Put (atcLine b atc) at (now (out .entry)) r (now (out .exit)) ⌝ }
-{
-    let index_at = text::put::put_byte(b'A', out, at);
-    let atc_at = text::put::put_number_field(b, out, index_at);
-    let feed_at = text::put::put_signed_field(atc, out, atc_at);
-    text::put::put_byte(b'\n', out, feed_at)
 }
 
 fn put_margins(left: &[LeftRecord], out: &mut [u8], at: usize) -> usize
@@ -120,31 +129,50 @@ fn put_margins(left: &[LeftRecord], out: &mut [u8], at: usize) -> usize
     let mut next = at;
     let mut i: usize = 0;
     while i < left.len() {
-        next = put_margin(i as u64, left[i][0], left[i][1], left[i][2], out, next);
+        let state = left[i][0];
+        let kept = numbers::same(state, 0);
+        next = put_line(
+            b'M',
+            i as u64,
+            state,
+            left[i][1],
+            kept,
+            left[i][2],
+            out,
+            next,
+        );
         i += 1;
     }
     next
 }
 
-fn put_margin(i: u64, state: i64, ram: i64, left: i64, out: &mut [u8], at: usize) -> usize
-    requires { ⌜ at + length (marginLine i state ram left) ≤ length (now out) ⌝ }
-    ensures { λ r. ⌜ Put (marginLine i state ram left) at (now (out .entry)) r (now (out .exit)) ⌝ }
+fn put_line(
+    letter: u8,
+    i: u64,
+    first: i64,
+    second: i64,
+    given: bool,
+    third: i64,
+    out: &mut [u8],
+    at: usize,
+) -> usize
+    requires { ⌜ at + length (recordLine letter i first second given third) ≤ length (now out) ⌝ }
+    ensures { λ r. ⌜ Put (recordLine letter i first second given third) at (now (out .entry)) r (now (out .exit)) ⌝ }
 {
-    let index_at = text::put::put_byte(b'M', out, at);
-    let state_at = text::put::put_number_field(i, out, index_at);
-    let ram_at = text::put::put_signed_field(state, out, state_at);
-    let left_at = text::put::put_signed_field(ram, out, ram_at);
-    let feed_at = put_left(state, left, out, left_at);
+    let index_at = text::put::put_byte(letter, out, at);
+    let first_at = text::put::put_number_field(i, out, index_at);
+    let second_at = text::put::put_signed_field(first, out, first_at);
+    let third_at = text::put::put_signed_field(second, out, second_at);
+    let feed_at = put_field(given, third, out, third_at);
     text::put::put_byte(b'\n', out, feed_at)
 }
 
-// The last field of an M line: "-" where the state isn't 0.
-fn put_left(state: i64, left: i64, out: &mut [u8], at: usize) -> usize
-    requires { ⌜ at + length (tab ∷ leftField state left) ≤ length (now out) ⌝ }
-    ensures { λ r. ⌜ Put (tab ∷ leftField state left) at (now (out .entry)) r (now (out .exit)) ⌝ }
+fn put_field(given: bool, v: i64, out: &mut [u8], at: usize) -> usize
+    requires { ⌜ at + length (tab ∷ orDash given v) ≤ length (now out) ⌝ }
+    ensures { λ r. ⌜ Put (tab ∷ orDash given v) at (now (out .entry)) r (now (out .exit)) ⌝ }
 {
-    if numbers::same(state, 0) {
-        return text::put::put_signed_field(left, out, at);
+    if given {
+        return text::put::put_signed_field(v, out, at);
     }
     text::put::put_dash_field(out, at)
 }

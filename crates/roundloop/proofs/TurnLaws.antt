@@ -11,7 +11,7 @@ use lib.ListN.{length, take, drop}
 use Rattle.numbers.specs.Below.{at, sum, count, table}
 use Rattle.numbers.proofs.BelowLaws.{count-cong, table-long, table-get}
 use Rattle.rounds.specs.Rounds.{Grid, raise, raises, risen}
-use Rattle.rounds.specs.Work.{Startable, workLeft, workOf}
+use Rattle.rounds.specs.Work.{Startable, noted, workLeft, workOf}
 use Rattle.rounds.proofs.Round.{raises-long, raises-are, raiser}
 use Rattle.walk.specs.Walk.{Listed}
 use Rattle.resting.specs.Resting.{leftTo, Waiting, Renewed, Walkable}
@@ -20,28 +20,28 @@ use Rattle.resting.proofs.WalkLaws.{waiting-start, waiting-bounds, waiting-next
 use Rattle.roundloop.specs.Loop.{Risable}
 use Rattle.roundloop.proofs.RoundLoop.{x-le-load, Head, head-start, Turn, turn-next, turn-sum, turn-end}
 
--- m₀, x₀ and near₀ where the loop begins; s, x, d, w, list and near at its head after k rounds
-pub record Found (g : Grid) (ns m₀ x₀ near₀ s x d w list : List ℕ) (live : ℕ) (near : List ℕ) (count wait k : ℕ) : Type 0 where
-  pub head : Head g m₀ x₀ (leftTo g d s) x k
+-- m₀, x₀ and near₀ where the loop begins; s, x, lasts, d, w, list and near at its head after k rounds
+pub record Found (g : Grid) (ns m₀ x₀ near₀ s x lasts d w list : List ℕ) (live : ℕ) (near : List ℕ) (count wait k : ℕ) : Type 0 where
+  pub head : Head g m₀ x₀ (leftTo g d s) x lasts k
   pub waiting : Waiting g ns s d w list live near count wait
   pub room : length list ≡ g .borders
   pub places : length near ≡ length near₀
 
-pub found-start : {g : Grid} {ns m x d w list near : List ℕ} → Startable g ns m x → length near ≤ g .rows → (n : ℕ) → n ≡ g .borders → d ≡ table n (λ b. 0) → list ≡ table (g .borders) (λ b. b) → w ≡ raises g m → Found g ns m x near m x d w list (g .borders) near 0 0 0
-found-start {g} {ns} {m} {x} {d} {w} {list} {near} q l n ld ed el ew =
+pub found-start : {g : Grid} {ns m x lasts d w list near : List ℕ} → Startable g ns m x → length near ≤ g .rows → (k : ℕ) → k ≡ g .borders → lasts ≡ table k (λ b. 0) → (n : ℕ) → n ≡ g .borders → d ≡ table n (λ b. 0) → list ≡ table (g .borders) (λ b. b) → w ≡ raises g m → Found g ns m x near m x lasts d w list (g .borders) near 0 0 0
+found-start {g} {ns} {m} {x} {lasts} {d} {w} {list} {near} q l k lk ek n ld ed el ew =
     let z : (b : ℕ) → b < g .borders → at d b ≡ 0 = λ b hb. ap (λ (t : List ℕ). at t b) ed ∙ table-get n (λ b. 0) b 0 (omega arith) in
     let same : leftTo g d m ≡ m = left-none g d m z (q .ready .margins) in
     record {
-      head = rw same (head-start g ns m x q);
+      head = rw same (head-start g ns m x lasts q (ek ∙ ap (λ (j : ℕ). table j (λ b. 0)) lk));
       waiting =
           waiting-start (q .ready) (λ i hi. omega (arith, q .fits i hi)) (ap length ed ∙ table-long n (λ b. 0) ∙ ld) z (ew ∙ ap (raises g) (sym same)) el l;
       room = ap length el ∙ table-long (g .borders) (λ b. b);
       places = refl;
     }
 
-module _ {g : Grid} {ns m₀ x₀ near₀ s x d w list : List ℕ} {live : ℕ} {near : List ℕ} {count′ wait k : ℕ} (u : Found g ns m₀ x₀ near₀ s x d w list live near count′ wait k) where
+module _ {g : Grid} {ns m₀ x₀ near₀ s x lasts d w list : List ℕ} {live : ℕ} {near : List ℕ} {count′ wait k : ℕ} (u : Found g ns m₀ x₀ near₀ s x lasts d w list live near count′ wait k) where
   -- a block anew, or on
-  pub found-renewed : {s′ d′ list′ : List ℕ} {live′ : ℕ} {near′ : List ℕ} {count″ wait′ : ℕ} → Renewed g ns s d s′ d′ w list′ live′ near′ count″ wait′ → length list′ ≡ length list → length near′ ≡ length near → Found g ns m₀ x₀ near₀ s′ x d′ w list′ live′ near′ count″ wait′ k
+  pub found-renewed : {s′ d′ list′ : List ℕ} {live′ : ℕ} {near′ : List ℕ} {count″ wait′ : ℕ} → Renewed g ns s d s′ d′ w list′ live′ near′ count″ wait′ → length list′ ≡ length list → length near′ ≡ length near → Found g ns m₀ x₀ near₀ s′ x lasts d′ w list′ live′ near′ count″ wait′ k
   found-renewed r el en =
       record {
         head = rw (r .same) (u .head);
@@ -52,6 +52,9 @@ module _ {g : Grid} {ns m₀ x₀ near₀ s x d w list : List ℕ} {live : ℕ} 
 
   pub found-long : length w ≡ g .borders
   found-long = raises-long g (leftTo g d s) (u .waiting .found)
+
+  pub found-noted : length lasts ≡ g .borders
+  found-noted = ap length (u .head .last-rounds) ∙ table-long (g .borders) _
 
   -- as keeping those above 0 asks it, and finding one
   pub found-listed : Listed (length w) w list live
@@ -65,7 +68,7 @@ module _ {g : Grid} {ns m₀ x₀ near₀ s x d w list : List ℕ} {live : ℕ} 
     found-none t = ltb-false 0 (count (length w) (at w)) (sym e ∙ not-true r t)
 
   module _ (q : Startable g ns m₀ x₀) where
-    pub found-turn : Turn g ns m₀ x₀ (leftTo g d s) x k w (count (length w) (at w))
+    pub found-turn : Turn g ns m₀ x₀ (leftTo g d s) x lasts k w (count (length w) (at w))
     found-turn =
         record {
           start = q;
@@ -77,7 +80,7 @@ module _ {g : Grid} {ns m₀ x₀ near₀ s x d w list : List ℕ} {live : ℕ} 
               };
         }
 
-    pub found-end : count (length w) (at w) ≤ 0 → (s′ : List ℕ) → s′ ≡ leftTo g d s → workLeft (record { x = x; rounds = k }) s′ ≡ workOf g m₀ x₀
+    pub found-end : count (length w) (at w) ≤ 0 → (s′ : List ℕ) → s′ ≡ leftTo g d s → workLeft (record { x = x; rounds = k }) s′ lasts ≡ workOf g m₀ x₀
     found-end z s′ e = rw e (turn-end found-turn (omega arith))
 
   -- what is gained fits, as a loaded row's margin holds it
@@ -110,11 +113,11 @@ module _ {g : Grid} {ns m₀ x₀ near₀ s x d w list : List ℕ} {live : ℕ} 
     found-left = ap (λ (l : List ℕ). leftTo g l s) ed ∙ left-step g d s w
 
     module _ (q : Startable g ns m₀ x₀) (rises : 0 < count (length w) (at w)) {y : List ℕ} (ey : y ≡ table (g .borders) (risen w (take (g .borders) x))) where
-      pub found-next : {w′ : List ℕ} → w′ ≡ raises g (leftTo g d′ s) → (wait′ : ℕ) → wait ≡ wait′ + 1 → Found g ns m₀ x₀ near₀ s (y ++ drop (g .borders) x) d′ w′ list live near count′ wait′ (k + 1)
+      pub found-next : {lasts′ : List ℕ} → lasts′ ≡ table (g .borders) (noted (k + 1) w lasts) → {w′ : List ℕ} → w′ ≡ raises g (leftTo g d′ s) → (wait′ : ℕ) → wait ≡ wait′ + 1 → Found g ns m₀ x₀ near₀ s (y ++ drop (g .borders) x) lasts′ d′ w′ list live near count′ wait′ (k + 1)
       unfolding found-walkable
-      found-next ew wait′ e =
+      found-next el ew wait′ e =
           record {
-            head = turn-next (found-turn q) (λ z. omega arith) (leftTo g d′ s) y found-left ey;
+            head = turn-next (found-turn q) (λ z. omega arith) (leftTo g d′ s) y found-left ey el;
             waiting = waiting-next found-walkable ew wait′ e;
             room = u .room;
             places = u .places;

@@ -10,7 +10,7 @@ ghost use Rattle.rounds.specs.Rounds.{risen};
 ghost use Rattle.rounds.specs.Work.{flat, Startable, workLeft, workOf};
 ghost use Rattle.roundloop.specs.Loop.{Risable};
 
-// The whole work, from any margins and any exchanges. The room is made here, and not in `do_rounds`, whose goals would spell it out.
+// The whole work, from any margins and any exchanges. `lasts` is left with the last round that raised each border (02, E7). The room is made here, and not in `do_rounds`, whose goals would spell it out.
 pub fn extract_rounds(
     rows: usize,
     borders: usize,
@@ -18,10 +18,12 @@ pub fn extract_rounds(
     ns: &[u64],
     margins: &mut [u64],
     start: [u64; Header::BORDERS_MOST],
+    lasts: &mut [u64],
 ) -> Final
     requires { ⌜ rows * borders ≤ length (now p) ⌝ }
     requires { ⌜ Startable (flat rows borders (now p)) (now ns) (now margins) start ⌝ }
-    ensures { λ r. ⌜ workLeft r (now (margins .exit)) ≡ workOf (flat rows borders (now (p .entry))) (now (margins .entry)) start ⌝ }
+    requires { ⌜ length (now lasts) ≡ borders ⌝ }
+    ensures { λ r. ⌜ workLeft r (now (margins .exit)) (now (lasts .exit)) ≡ workOf (flat rows borders (now (p .entry))) (now (margins .entry)) start ⌝ }
 {
     let mut gained: [u64; Header::BORDERS_MOST] = [0; Header::BORDERS_MOST];
     let mut bounds: [u64; Header::BORDERS_MOST] = [0; Header::BORDERS_MOST];
@@ -35,6 +37,7 @@ pub fn extract_rounds(
         ns,
         margins,
         start,
+        lasts,
         &mut gained[..borders],
         &mut bounds[..borders],
         &mut rising[..borders],
@@ -49,7 +52,7 @@ fn smaller(a: usize, b: usize) -> usize
     if a < b { a } else { b }
 }
 
-// Rounds until one raises nothing, which is not counted. The slices after `start` are room to work in: `gained` has what each border rose by since the rows
+// Rounds until one raises nothing, which is not counted. The slices after `lasts` are room to work in: `gained` has what each border rose by since the rows
 // last lost; `rising` lists, in its first `live` places, the borders that gained or still rise; `near`, in its first `count`, rows that do not rest.
 fn do_rounds(
     rows: usize,
@@ -58,6 +61,7 @@ fn do_rounds(
     ns: &[u64],
     margins: &mut [u64],
     start: [u64; Header::BORDERS_MOST],
+    lasts: &mut [u64],
     gained: &mut [u64],
     bounds: &mut [u64],
     rising: &mut [usize],
@@ -65,15 +69,17 @@ fn do_rounds(
 ) -> Final
     requires { ⌜ rows * borders ≤ length (now p) ⌝ }
     requires { ⌜ Startable (flat rows borders (now p)) (now ns) (now margins) start ⌝ }
+    requires { ⌜ length (now lasts) ≡ borders ⌝ }
     requires { ⌜ (length (now gained) ≡ borders) × (length (now bounds) ≡ borders) ⌝ }
     requires { ⌜ (length (now rising) ≡ borders) × (length (now near) ≤ rows) ⌝ }
-    ensures { λ r. ⌜ workLeft r (now (margins .exit)) ≡ workOf (flat rows borders (now (p .entry))) (now (margins .entry)) start ⌝ }
+    ensures { λ r. ⌜ workLeft r (now (margins .exit)) (now (lasts .exit)) ≡ workOf (flat rows borders (now (p .entry))) (now (margins .entry)) start ⌝ }
 {
     let mut x = start;
     let mut done: u64 = 0;
     let mut live = borders;
     let mut count: usize = 0;
     let mut wait: u64 = 0;
+    resting::clear(lasts);
     resting::clear(gained);
     walk::begin(rows, borders, p, ns, margins, rising, bounds);
     loop {
@@ -99,6 +105,8 @@ fn do_rounds(
         }
         rise(borders, bounds, gained);
         rise(borders, bounds, &mut x[..borders]);
+        done += 1;
+        rounds::stopping::note(borders, bounds, done, lasts);
         resting::walk_near(
             rows,
             borders,
@@ -112,7 +120,6 @@ fn do_rounds(
             count,
             bounds,
         );
-        done += 1;
         wait = block.wait - 1;
     }
 }

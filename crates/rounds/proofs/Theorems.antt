@@ -10,11 +10,13 @@ use Rattle.numbers.specs.Below.{at, largest}
 use Rattle.numbers.proofs.BelowLaws.{largest-le, largest-under, count-le}
 use Rattle.rounds.specs.Rounds.{Grid, State, sharers, raise, alone, raises, load, next, mostSharers, Rounds, extract, aloneBits}
 use Rattle.rounds.specs.Demand.{GridDemand3}
+use Rattle.rounds.specs.Last.{lastRounds}
+use Rattle.rounds.specs.Stopping.{stopRows}
 use Rattle.rounds.proofs.LeastLaws.{Smallest, least-some}
 use Rattle.rounds.proofs.Halving.{bits-over, bits-least}
 use Rattle.rounds.proofs.Round as one
 use Rattle.rounds.proofs.Rounds as all
-use Rattle.rounds.proofs.Laid.{grid, laid-extract}
+use Rattle.rounds.proofs.Laid.{grid, laid-extract, laid-lasts, laid-stops}
 
 -- ---- a round
 
@@ -88,3 +90,10 @@ one-border = all.one-border
 -- two grids that agree on p give equal runs: it does not matter where p stands
 pub same-factors : (rows borders : ℕ) (p p′ : ℕ → ℕ → ℕ) → ((i b : ℕ) → i < rows → b < borders → p i b ≡ p′ i b) → (s : State) → extract (grid rows borders p) s ≡ extract (grid rows borders p′) s
 same-factors = laid-extract
+
+-- .. with the same last round and stopping row of each border
+pub same-lasts : (rows borders : ℕ) (p p′ : ℕ → ℕ → ℕ) → ((i b : ℕ) → i < rows → b < borders → p i b ≡ p′ i b) → (s : State) → lastRounds (grid rows borders p) s ≡ lastRounds (grid rows borders p′) s
+same-lasts = laid-lasts
+
+pub same-stops : (rows borders : ℕ) (p p′ : ℕ → ℕ → ℕ) → ((i b : ℕ) → i < rows → b < borders → p i b ≡ p′ i b) → (left : List ℕ) → stopRows (grid rows borders p) left ≡ stopRows (grid rows borders p′) left
+same-stops = laid-stops

@@ -89,16 +89,9 @@ fn first_raises(
     ensures { λ _. ⌜ now (bounds .exit) ≡ raises (flat rows borders (now (p .entry))) (now (margins .entry)) ⌝ }
 {
     for i in 0..rows {
-        let share = share_of(margins[i], ns[i]);
+        let share = rounds::share_of(margins[i], ns[i]);
         lower_bounds(rows, borders, p, i, share, rising, borders, bounds);
     }
-}
-
-// The equal share of a margin among n. Where n is 0 nobody asks for it.
-fn share_of(margin: u64, n: u64) -> u64
-    ensures { λ r. ⌜ r ≡ margin / n ⌝ }
-{
-    if n == 0 { 0 } else { margin / n }
 }
 
 // Row `i`, whose equal share is `share`, tightens the bound of each border that still rises.

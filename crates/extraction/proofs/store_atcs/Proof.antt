@@ -1,33 +1,62 @@
 -- `extraction::store_atcs` meets its contract. The invariant: the first b records are stored, and the rest is as it was.
-use Prim.Native.Nat.{_-_}
+use mathlib.Core.Path.{ap, _∙_}
+use mathlib.Core.Option.{Option}
+use Prim.Native.Nat.{ℕ, _-_}
 use native.Mathlib.Omega.{arith}
-use lib.ListN.{length}
 use Rattle.numbers.specs.Below.{at}
+use Rattle.numbers.proofs.FirstLaws.{first-within}
 use Rattle.numbers.proofs.ListLaws.{Filled, filled-none, filled-more, filled-over}
-use Rattle.extraction.specs.Extraction.{atcOfKw}
+use Rattle.rounds.specs.Work.{flat, stopBy}
+use Rattle.extraction.specs.Extraction.{borderLeft}
 use Rattle.extraction.proofs.store_atcs.Statement.{statement}
 use Rattle.extraction.proofs.store_atcs.Tie as tie
 
 abbrev Inv-loop : tie.InvT-loop
-Inv-loop x atc₀ b₀ b-end atc b = Filled (λ b. atcOfKw (at x b)) (length x) atc₀ atc b
+Inv-loop rows borders p x lasts shares atc₀ b₀ atc b = Filled (λ b. borderLeft (at x b) (at lasts b) (stopBy (flat rows borders p) shares b)) borders atc₀ atc b
 
 abbrev μ-loop : tie.MeasureT-loop
-μ-loop x atc₀ b₀ b-end atc b = length x - b
+μ-loop rows borders p x lasts shares atc₀ b₀ atc b = borders - b
 
 loop-holds : tie.Need-loop-holds Inv-loop μ-loop
 loop-holds c = filled-none _ _ _
 
-as-record-requires : tie.Need-as-record-requires Inv-loop μ-loop
-as-record-requires c κs = tt
+abbrev entry-from-loop : tie.At-loop Inv-loop μ-loop → tie.Start Inv-loop μ-loop
+entry-from-loop c = c .before .before .before .before .before
 
-mul-t7-2 : tie.Need-mul-t7-2 Inv-loop μ-loop
-mul-t7-2 c = omega (arith, c .before .before .before .loop .inv .as-long)
+-- from where the stopping row is found
+abbrev at-loop-from-stop-row : tie.After-stop-row Inv-loop μ-loop → tie.At-loop Inv-loop μ-loop
+at-loop-from-stop-row c = c .before .before
+
+stop-row-requires : tie.Need-stop-row-requires Inv-loop μ-loop
+stop-row-requires c κs = let q = entry-from-loop (c .before) .pre in ((q .0 .0, omega arith), q .0 .1)
+
+shared-slice-read-t14 : tie.Need-shared-slice-read-t14 Inv-loop μ-loop
+shared-slice-read-t14 c = omega (arith, entry-from-loop (at-loop-from-stop-row (c .before)) .pre .1 .0 .0)
+
+shared-slice-read-t17 : tie.Need-shared-slice-read-t17 Inv-loop μ-loop
+shared-slice-read-t17 c = omega (arith, entry-from-loop (at-loop-from-stop-row (c .before .before)) .pre .1 .0 .1)
+
+as-record-requires : tie.Need-as-record-requires Inv-loop μ-loop
+unfolding stopBy
+as-record-requires c κs =
+    let at-stop-row = c .before .before in
+    let at-loop = at-loop-from-stop-row at-stop-row in
+    let q = entry-from-loop at-loop .pre in
+    (q .1 .1 (at-loop .loop .b) (omega arith), λ i e. omega (arith, q .0 .2, first-within _ _ (e ∙ at-stop-row .stop-row .ensures)))
 
 slice-set-from-atc : tie.Need-slice-set-from-atc Inv-loop μ-loop
-slice-set-from-atc c = omega (arith, c .before .before .before .loop .inv .as-long)
+slice-set-from-atc c =
+    let at-loop = at-loop-from-stop-row (c .before .before .before) in
+    omega (arith, at-loop .loop .inv .as-long, entry-from-loop at-loop .pre .1 .0 .2)
 
 loop-again : tie.Need-loop-again Inv-loop μ-loop
-loop-again c = filled-more (c .before .before .before .loop .inv) _ (omega arith) (omega (arith, c .before .before .before .before .before .pre)) (c .as-record .ensures)
+loop-again c =
+    let at-stop-row = c .before .before .before in
+    let at-loop = at-loop-from-stop-row at-stop-row in
+    let s = entry-from-loop at-loop in
+    let b = at-loop .loop .b in
+    filled-more (at-loop .loop .inv) _ (omega arith) (omega (arith, s .pre .1 .0 .2))
+    (c .as-record .ensures ∙ ap (borderLeft (at (s .args .x .now) b) (at (s .args .lasts .now) b)) (at-stop-row .stop-row .ensures))
 
 same-length : tie.Need-same-length Inv-loop μ-loop
 same-length c = c .before .loop .inv .as-long
@@ -42,10 +71,13 @@ store-atcs-spec =
     Inv-loop
     μ-loop
     loop-holds
+    stop-row-requires
     (λ c. omega arith)
+    shared-slice-read-t14
     (λ c. omega arith)
+    shared-slice-read-t17
     as-record-requires
-    mul-t7-2
+    (λ c. omega arith)
     slice-set-from-atc
     (λ c. omega arith)
     (λ c. omega arith)

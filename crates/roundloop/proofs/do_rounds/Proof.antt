@@ -6,36 +6,36 @@ use Rattle.rounds.specs.Work.{flat}
 use Rattle.resting.specs.Resting.{leftTo}
 use Rattle.resting.proofs.WalkLaws.{waiting-settleable}
 use Rattle.roundloop.proofs.RoundLoop.{front-long, turn-risable, turn-few}
-use Rattle.roundloop.proofs.TurnLaws.{Found, found-start, found-renewed, found-long, found-listed, found-some, found-none, found-turn, found-end, found-gains, found-walkable, found-next, found-less}
+use Rattle.roundloop.proofs.TurnLaws.{Found, found-start, found-renewed, found-long, found-noted, found-listed, found-some, found-none, found-turn, found-end, found-gains, found-walkable, found-next, found-less}
 use Rattle.roundloop.proofs.do_rounds.Statement.{statement}
 use Rattle.roundloop.proofs.do_rounds.Tie as tie
 
 abbrev Inv-loop : tie.InvT-loop
-Inv-loop rows borders p ns margins₀ gained₀ bounds₀ rising₀ near₀ x₀ done₀ live₀ count₀ wait₀ margins gained bounds rising near x done live count wait = Found (flat rows borders p) ns margins₀ x₀ near₀ margins x gained bounds rising live near count wait done
+Inv-loop rows borders p ns margins₀ lasts₀ gained₀ bounds₀ rising₀ near₀ x₀ done₀ live₀ count₀ wait₀ margins lasts gained bounds rising near x done live count wait = Found (flat rows borders p) ns margins₀ x₀ near₀ margins x lasts gained bounds rising live near count wait done
 
 abbrev μ-loop : tie.MeasureT-loop
-μ-loop rows borders p ns margins₀ gained₀ bounds₀ rising₀ near₀ x₀ done₀ live₀ count₀ wait₀ margins gained bounds rising near x done live count wait = sum rows (at (leftTo (flat rows borders p) gained margins))
-
-clear-requires : tie.Need-clear-requires Inv-loop μ-loop
-clear-requires c κs = tt
+μ-loop rows borders p ns margins₀ lasts₀ gained₀ bounds₀ rising₀ near₀ x₀ done₀ live₀ count₀ wait₀ margins lasts gained bounds rising near x done live count wait = sum rows (at (leftTo (flat rows borders p) gained margins))
 
 begin-requires : tie.Need-begin-requires Inv-loop μ-loop
 begin-requires c κs =
-    let entry = c .before .before .before .before .before .before .before .before .before .before .before .before .before .before in
+    let entry = c .before .before .before .before .before .before .before .before .before .before .before .before .before .before .before .before .before .before .before in
     let q = entry .pre in
-    (q .0, (q .1 .0 .ready, (q .1 .1 .1 .0, q .1 .1 .0 .1)))
+    let room = q .1 .1 .1 in
+    (q .0, (q .1 .0 .ready, (room .1 .0, room .0 .1)))
 
 loop-holds : tie.Need-loop-holds Inv-loop μ-loop
 loop-holds c =
     let at-begin = c .before .before .before .before in
-    let at-clear = at-begin .before .before .before .before .before .before in
-    let entry = at-clear .before .before .before .before .before .before .before .before .before in
+    let at-clear2 = at-begin .before .before .before .before .before .before in
+    let at-clear = at-clear2 .before .before .before .before in
+    let entry = at-clear .before .before .before .before .before .before .before .before .before .before in
     let q = entry .pre .1 in
+    let room = q .1 .1 in
     let e = at-begin .begin .ensures in
-    found-start (q .0) (q .1 .1 .1) _ (q .1 .0 .0) (at-clear .clear .ensures) (e .0) (e .1)
+    found-start (q .0) (room .1 .1) _ (q .1 .0) (at-clear .clear .ensures) _ (room .0 .0) (at-clear2 .clear2 .ensures) (e .0) (e .1)
 
 abbrev entry-from-loop : tie.At-loop Inv-loop μ-loop → tie.Start Inv-loop μ-loop
-entry-from-loop c = c .before .before .before .before .before .before .before .before .before .before .before .before .before .before .before .before .before .before .before .before
+entry-from-loop c = c .before .before .before .before .before .before .before .before .before .before .before .before .before .before .before .before .before .before .before .before .before .before .before .before .before
 
 abbrev at-loop-from-renew : tie.After-renew Inv-loop μ-loop → tie.At-loop Inv-loop μ-loop
 at-loop-from-renew c = c .before .before .before .before .before .before
@@ -100,18 +100,15 @@ rise-requires-2 c κs =
     let u = found-renewed (at-loop .loop .inv) (at-renew .renew .ensures) (at-renew .renew .kept .1 .1 .1 .1 .1 .1 .1 .1 .1 .1 .0) (at-renew .renew .kept .1 .1 .1 .1 .1 .1 .1 .1 .1 .1 .1 .0) in
     turn-risable (found-turn u (entry .pre .1 .0))
 
-walk-near-requires : tie.Need-walk-near-requires Inv-loop μ-loop
-walk-near-requires c κs =
-    let at-rise = c .before .before .before .before .before .before .before .before .before .before .before in
-    let at-renew = at-renew-from-rises (at-rises-from-rise at-rise) in
-    let at-loop = at-loop-from-renew at-renew in
-    let entry = entry-from-loop at-loop in
-    let u = found-renewed (at-loop .loop .inv) (at-renew .renew .ensures) (at-renew .renew .kept .1 .1 .1 .1 .1 .1 .1 .1 .1 .1 .0) (at-renew .renew .kept .1 .1 .1 .1 .1 .1 .1 .1 .1 .1 .1 .0) in
-    (entry .pre .0, found-walkable u (at-renew .renew .ensures .some) (at-rise .rise .ensures))
+abbrev at-rise-from-rise2 : tie.After-rise2 Inv-loop μ-loop → tie.After-rise Inv-loop μ-loop
+at-rise-from-rise2 c = c .before .before .before .before .before
+
+abbrev at-rise2-from-note : tie.After-note Inv-loop μ-loop → tie.After-rise2 Inv-loop μ-loop
+at-rise2-from-note c = c .before .before .before .before
 
 add-done : tie.Need-add-done Inv-loop μ-loop
 add-done c =
-    let at-if1 = c .before .before .before .before .before .before .before .before .before .before .before .before .before .before .before .before .before in
+    let at-if1 = at-rise-from-rise2 (c .before) .before .before .before in
     let at-rises = at-if1 .before in
     let at-renew = at-renew-from-rises at-rises in
     let at-loop = at-loop-from-renew at-renew in
@@ -120,15 +117,30 @@ add-done c =
     let h = found-some u (at-rises .rises .ensures) (at-if1 .if1 .left) in
     omega (arith, turn-few (found-turn u (entry .pre .1 .0)) (λ z. omega arith))
 
+note-requires : tie.Need-note-requires Inv-loop μ-loop
+note-requires c κs =
+    let at-loop = at-loop-from-renew (at-renew-from-rises (at-rises-from-rise (at-rise-from-rise2 (c .before .before .before)))) in
+    (found-long (at-loop .loop .inv), found-noted (at-loop .loop .inv))
+
+walk-near-requires : tie.Need-walk-near-requires Inv-loop μ-loop
+walk-near-requires c κs =
+    let at-rise = at-rise-from-rise2 (at-rise2-from-note (c .before .before .before .before .before .before .before)) in
+    let at-renew = at-renew-from-rises (at-rises-from-rise at-rise) in
+    let at-loop = at-loop-from-renew at-renew in
+    let entry = entry-from-loop at-loop in
+    let u = found-renewed (at-loop .loop .inv) (at-renew .renew .ensures) (at-renew .renew .kept .1 .1 .1 .1 .1 .1 .1 .1 .1 .1 .0) (at-renew .renew .kept .1 .1 .1 .1 .1 .1 .1 .1 .1 .1 .1 .0) in
+    (entry .pre .0, found-walkable u (at-renew .renew .ensures .some) (at-rise .rise .ensures))
+
 sub-wait : tie.Need-sub-wait Inv-loop μ-loop
 sub-wait c =
-    let at-renew = c .before .before .before .before .before .before .before .before .before .before .before .before .before .before .before .before .before .before .before .before .before .before .before .before .before .before .before .before .before .before in
+    let at-note = c .before .before .before .before .before .before .before .before .before .before .before in
+    let at-renew = at-renew-from-rises (at-rises-from-rise (at-rise-from-rise2 (at-rise2-from-note at-note))) in
     omega (arith, at-renew .renew .ensures .some)
 
 loop-less : tie.Need-loop-less Inv-loop μ-loop
 loop-less c =
-    let at-rise2 = c .before .before .before .before .before .before .before .before .before .before in
-    let at-rise = at-rise2 .before .before .before .before .before in
+    let at-rise2 = at-rise2-from-note (c .before .before .before .before .before .before .before .before .before .before .before) in
+    let at-rise = at-rise-from-rise2 at-rise2 in
     let at-if1 = at-rise .before .before .before in
     let at-rises = at-if1 .before in
     let at-renew = at-renew-from-rises at-rises in
@@ -141,8 +153,9 @@ loop-less c =
 loop-again : tie.Need-loop-again Inv-loop μ-loop
 loop-again c =
     let at-walk-near = c .before .before .before in
-    let at-rise2 = at-walk-near .before .before .before .before .before .before .before in
-    let at-rise = at-rise2 .before .before .before .before .before in
+    let at-note = at-walk-near .before .before .before .before .before .before .before .before in
+    let at-rise2 = at-rise2-from-note at-note in
+    let at-rise = at-rise-from-rise2 at-rise2 in
     let at-if1 = at-rise .before .before .before in
     let at-rises = at-if1 .before in
     let at-renew = at-renew-from-rises at-rises in
@@ -150,7 +163,7 @@ loop-again c =
     let entry = entry-from-loop at-loop in
     let u = found-renewed (at-loop .loop .inv) (at-renew .renew .ensures) (at-renew .renew .kept .1 .1 .1 .1 .1 .1 .1 .1 .1 .1 .0) (at-renew .renew .kept .1 .1 .1 .1 .1 .1 .1 .1 .1 .1 .1 .0) in
     let h = found-some u (at-rises .rises .ensures) (at-if1 .if1 .left) in
-    found-next u (at-renew .renew .ensures .some) (at-rise .rise .ensures) (entry .pre .1 .0) h (at-rise2 .rise2 .ensures) (at-walk-near .walk-near .ensures) _ (omega (arith, at-renew .renew .ensures .some))
+    found-next u (at-renew .renew .ensures .some) (at-rise .rise .ensures) (entry .pre .1 .0) h (at-rise2 .rise2 .ensures) (at-note .note .ensures) (at-walk-near .walk-near .ensures) _ (omega (arith, at-renew .renew .ensures .some))
 
 same-length : tie.Need-same-length Inv-loop μ-loop
 same-length c =
@@ -161,26 +174,31 @@ same-length c =
 
 same-length-2 : tie.Need-same-length-2 Inv-loop μ-loop
 same-length-2 c =
-    let at-renew = at-renew-from-settle-arg3 (c .before .before .before) in
-    let entry = entry-from-loop (at-loop-from-renew at-renew) in
-    at-renew .renew .ensures .waiting .gained ∙ sym (entry .pre .1 .1 .0 .0)
+    let at-loop = at-loop-from-renew (at-renew-from-settle-arg3 (c .before .before .before)) in
+    found-noted (at-loop .loop .inv) ∙ sym (entry-from-loop at-loop .pre .1 .1 .0)
 
 same-length-3 : tie.Need-same-length-3 Inv-loop μ-loop
 same-length-3 c =
-    let at-loop = at-loop-from-renew (at-renew-from-settle-arg3 (c .before .before .before)) in
-    let entry = entry-from-loop at-loop in
-    found-long (at-loop .loop .inv) ∙ sym (entry .pre .1 .1 .0 .1)
+    let at-renew = at-renew-from-settle-arg3 (c .before .before .before) in
+    let entry = entry-from-loop (at-loop-from-renew at-renew) in
+    at-renew .renew .ensures .waiting .gained ∙ sym (entry .pre .1 .1 .1 .0 .0)
 
 same-length-4 : tie.Need-same-length-4 Inv-loop μ-loop
 same-length-4 c =
+    let at-loop = at-loop-from-renew (at-renew-from-settle-arg3 (c .before .before .before)) in
+    let entry = entry-from-loop at-loop in
+    found-long (at-loop .loop .inv) ∙ sym (entry .pre .1 .1 .1 .0 .1)
+
+same-length-5 : tie.Need-same-length-5 Inv-loop μ-loop
+same-length-5 c =
     let at-renew = at-renew-from-settle-arg3 (c .before .before .before) in
     let at-loop = at-loop-from-renew at-renew in
     let entry = entry-from-loop at-loop in
     let u = found-renewed (at-loop .loop .inv) (at-renew .renew .ensures) (at-renew .renew .kept .1 .1 .1 .1 .1 .1 .1 .1 .1 .1 .0) (at-renew .renew .kept .1 .1 .1 .1 .1 .1 .1 .1 .1 .1 .1 .0) in
-    u .room ∙ sym (entry .pre .1 .1 .1 .0)
+    u .room ∙ sym (entry .pre .1 .1 .1 .1 .0)
 
-same-length-5 : tie.Need-same-length-5 Inv-loop μ-loop
-same-length-5 c =
+same-length-6 : tie.Need-same-length-6 Inv-loop μ-loop
+same-length-6 c =
     let at-renew = at-renew-from-settle-arg3 (c .before .before .before) in
     let at-loop = at-loop-from-renew at-renew in
     let u = found-renewed (at-loop .loop .inv) (at-renew .renew .ensures) (at-renew .renew .kept .1 .1 .1 .1 .1 .1 .1 .1 .1 .1 .0) (at-renew .renew .kept .1 .1 .1 .1 .1 .1 .1 .1 .1 .1 .1 .0) in
@@ -203,7 +221,8 @@ do-rounds-spec =
     (tie.spec
     Inv-loop
     μ-loop
-    clear-requires
+    (λ c κs. tt)
+    (λ c κs. tt)
     begin-requires
     loop-holds
     renew-requires
@@ -213,8 +232,9 @@ do-rounds-spec =
     array-borrow-prefix-x
     slice-aggregate-rise
     rise-requires-2
-    walk-near-requires
     add-done
+    note-requires
+    walk-near-requires
     sub-wait
     loop-less
     loop-again
@@ -223,4 +243,5 @@ do-rounds-spec =
     same-length-3
     same-length-4
     same-length-5
+    same-length-6
     returns)

@@ -30,8 +30,8 @@ slice-aggregate-do-rounds-3 c = sym (length-take-le _ _ (array-borrow-prefix-ris
 
 array-borrow-prefix-near : tie.Need-array-borrow-prefix-near
 array-borrow-prefix-near c =
-    let at-smaller = c .before .before .before .before in
-    let entry = at-smaller .before .before .before .before in
+    let at-smaller = c .before .before .before .before .before in
+    let entry = at-smaller .before .before .before .before .before in
     omega (arith, at-smaller .smaller .ensures, min-le-right (entry .args .rows) 200)
 
 slice-aggregate-do-rounds-4 : tie.Need-slice-aggregate-do-rounds-4
@@ -39,10 +39,10 @@ slice-aggregate-do-rounds-4 c = sym (length-take-le _ _ (array-borrow-prefix-nea
 
 do-rounds-requires : tie.Need-do-rounds-requires
 do-rounds-requires c κs =
-    let at-smaller = c .before .before .before .before .before in
-    let entry = at-smaller .before .before .before .before in
+    let at-smaller = c .before .before .before .before .before .before in
+    let entry = at-smaller .before .before .before .before .before in
     let q = entry .pre in
-    (q .0, (q .1, ((sym (slice-aggregate-do-rounds (c .before .before .before)), sym (slice-aggregate-do-rounds-2 (c .before .before))), (sym (slice-aggregate-do-rounds-3 (c .before)), omega (arith, at-smaller .smaller .ensures, min-le-left (entry .args .rows) 200, slice-aggregate-do-rounds-4 c)))))
+    (q .0, (q .1 .0, (q .1 .1, ((sym (slice-aggregate-do-rounds (c .before .before .before)), sym (slice-aggregate-do-rounds-2 (c .before .before))), (sym (slice-aggregate-do-rounds-3 (c .before)), omega (arith, at-smaller .smaller .ensures, min-le-left (entry .args .rows) 200, slice-aggregate-do-rounds-4 c))))))
 
 pub extract-rounds-spec : {M : Type 1} → statement M
 extract-rounds-spec =
@@ -58,5 +58,6 @@ extract-rounds-spec =
     array-borrow-prefix-near
     slice-aggregate-do-rounds-4
     do-rounds-requires
+    (λ c. search needs)
     (λ c. search needs)
     (λ c. search needs))

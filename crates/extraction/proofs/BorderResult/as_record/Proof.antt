@@ -1,18 +1,23 @@
--- `extraction::BorderResult::as_record` meets its contract.
-use mathlib.Core.Path.{ap}
-use mathlib.Core.List.{[], _∷_}
-use borrow.Author.Needs.{needs}
-use lib.IntN.{ℤ}
-use mir.Facts.{toZ-pos}
+-- `extraction::BorderResult::as_record` meets its contract: each number fits.
+use borrow.Author.Needs.{needs, sfits-of}
+use mir.Facts.{toZ-pos, toZ-ofZ}
 use mir.Syntax.{w64}
 use Rattle.extraction.proofs.BorderResult.as_record.Statement.{statement}
 use Rattle.extraction.proofs.BorderResult.as_record.Tie as tie
 
-cast-t3 : tie.Need-cast-t3
-cast-t3 c = search needs
+stop-row-requires : tie.Need-stop-row-requires
+stop-row-requires c κs = c .pre .1
+
+cast-t4 : tie.Need-cast-t4
+cast-t4 c = search needs
+
+cast-t5 : tie.Need-cast-t5
+cast-t5 c = search needs
 
 returns : tie.Need-returns
-returns c = ap (λ (z : ℤ). z ∷ []) (toZ-pos w64 (cast-t3 c .sfits))
+returns c =
+    let at-row = c .before .before in
+    rw (toZ-pos w64 (cast-t4 (c .before) .sfits), toZ-pos w64 (cast-t5 c .sfits), toZ-ofZ (sfits-of (at-row .stop-row .ok)), at-row .stop-row .ensures)
 
 pub as-record-spec : {M : Type 1} → statement M
-as-record-spec = tie.close (tie.spec cast-t3 returns)
+as-record-spec = tie.close (tie.spec stop-row-requires cast-t4 cast-t5 returns)

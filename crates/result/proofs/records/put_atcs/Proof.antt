@@ -20,19 +20,24 @@ abbrev μ-loop : tie.MeasureT-loop
 loop-holds : tie.Need-loop-holds Inv-loop μ-loop
 loop-holds c = (omega arith, lines-none _ _ _)
 
-put-atc-requires : tie.Need-put-atc-requires Inv-loop μ-loop
-put-atc-requires c κs =
-    let start = c .before .before .before .before .before in
-    let at-loop = c .before .before .before .loop in
-    let atcs = start .args .atc .now in
-    simp (plain, c .before .put-atc-arg .given) (lines-room (atcAt atcs) (at-loop .b) (length atcs) (omega arith) (start .pre) (at-loop .inv .1))
-
-loop-again : tie.Need-loop-again Inv-loop μ-loop
-loop-again c =
+put-line-requires : tie.Need-put-line-requires Inv-loop μ-loop
+put-line-requires c κs =
     let start = c .before .before .before .before .before .before .before .before in
     let at-loop = c .before .before .before .before .before .before .loop in
     let atcs = start .args .atc .now in
-    let line = simp (plain, c .before .before .before .before .put-atc-arg .given) at (c .before .before .put-atc .ensures) in
+    let row = c .before .before .before .before .row .given in
+    let told = simp (plain, row) at (c .before .before .before .is-row .ensures) in
+    simp (plain, told, row, c .before .before .put-line-arg .given, c .before .put-line-arg2 .given)
+    (lines-room (atcAt atcs) (at-loop .b) (length atcs) (omega arith) (start .pre) (at-loop .inv .1))
+
+loop-again : tie.Need-loop-again Inv-loop μ-loop
+loop-again c =
+    let start = c .before .before .before .before .before .before .before .before .before .before .before in
+    let at-loop = c .before .before .before .before .before .before .before .before .before .loop in
+    let atcs = start .args .atc .now in
+    let row = c .before .before .before .before .before .before .before .row .given in
+    let told = simp (plain, row) at (c .before .before .before .before .before .before .is-row .ensures) in
+    let line = simp (plain, told, row, c .before .before .before .before .before .put-line-arg .given, c .before .before .before .before .put-line-arg2 .given) at (c .before .before .put-line .ensures) in
     (omega arith, lines-more (atcAt atcs) (omega (arith, start .pre)) (at-loop .inv .1) line)
 
 same-length : tie.Need-same-length Inv-loop μ-loop
@@ -54,7 +59,14 @@ put-atcs-spec =
     (λ c. omega arith)
     (λ c. omega arith)
     (λ c. search needs)
-    put-atc-requires
+    (λ c κs. search needs)
+    (λ c. omega arith)
+    (λ c. omega arith)
+    (λ c. search needs)
+    (λ c. omega arith)
+    (λ c. omega arith)
+    (λ c. search needs)
+    put-line-requires
     (λ c. omega arith)
     (λ c. omega arith)
     loop-again

@@ -20,20 +20,24 @@ abbrev μ-loop : tie.MeasureT-loop
 loop-holds : tie.Need-loop-holds Inv-loop μ-loop
 loop-holds c = (omega arith, lines-none _ _ _)
 
-put-margin-requires : tie.Need-put-margin-requires Inv-loop μ-loop
-put-margin-requires c κs =
-    let start = c .before .before .before .before .before .before .before in
-    let at-loop = c .before .before .before .before .before .loop in
+put-line-requires : tie.Need-put-line-requires Inv-loop μ-loop
+put-line-requires c κs =
+    let start = c .before .before .before .before .before .before .before .before in
+    let at-loop = c .before .before .before .before .before .before .loop in
     let lefts = start .args .left .now in
-    simp (plain, c .before .before .before .put-margin-arg .given, c .before .before .put-margin-arg2 .given, c .before .put-margin-arg3 .given)
+    let state = c .before .before .before .before .state .given in
+    let told = simp (plain, state) at (c .before .before .before .same .ensures) in
+    simp (plain, told, state, c .before .before .put-line-arg .given, c .before .put-line-arg2 .given)
     (lines-room (marginAt lefts) (at-loop .i) (length lefts) (omega arith) (start .pre) (at-loop .inv .1))
 
 loop-again : tie.Need-loop-again Inv-loop μ-loop
 loop-again c =
-    let start = c .before .before .before .before .before .before .before .before .before .before in
-    let at-loop = c .before .before .before .before .before .before .before .before .loop in
+    let start = c .before .before .before .before .before .before .before .before .before .before .before in
+    let at-loop = c .before .before .before .before .before .before .before .before .before .loop in
     let lefts = start .args .left .now in
-    let line = simp (plain, c .before .before .before .before .before .before .put-margin-arg .given, c .before .before .before .before .before .put-margin-arg2 .given, c .before .before .before .before .put-margin-arg3 .given) at (c .before .before .put-margin .ensures) in
+    let state = c .before .before .before .before .before .before .before .state .given in
+    let told = simp (plain, state) at (c .before .before .before .before .before .before .same .ensures) in
+    let line = simp (plain, told, state, c .before .before .before .before .before .put-line-arg .given, c .before .before .before .before .put-line-arg2 .given) at (c .before .before .put-line .ensures) in
     (omega arith, lines-more (marginAt lefts) (omega (arith, start .pre)) (at-loop .inv .1) line)
 
 same-length : tie.Need-same-length Inv-loop μ-loop
@@ -55,13 +59,14 @@ put-margins-spec =
     (λ c. omega arith)
     (λ c. omega arith)
     (λ c. search needs)
+    (λ c κs. search needs)
     (λ c. omega arith)
     (λ c. omega arith)
     (λ c. search needs)
     (λ c. omega arith)
     (λ c. omega arith)
     (λ c. search needs)
-    put-margin-requires
+    put-line-requires
     (λ c. omega arith)
     (λ c. omega arith)
     loop-again

@@ -1,10 +1,10 @@
--- `walk::share_of` meets its contract: the share of 0 borders is 0, as the definition's division has it.
+-- `rounds::share_of` meets its contract: the share of 0 borders is 0, as the definition's division has it.
 use mathlib.Core.Path.{sym, ap, _∙_}
 use Prim.Native.Nat.{ℕ, _/_}
 use native.Mathlib.Nat.{div-zero}
 use borrow.Author.Needs.{needs}
-use Rattle.walk.proofs.share_of.Statement.{statement}
-use Rattle.walk.proofs.share_of.Tie as tie
+use Rattle.rounds.proofs.share_of.Statement.{statement}
+use Rattle.rounds.proofs.share_of.Tie as tie
 
 returns : tie.Need-returns
 returns c = let a = c .before .args in sym (ap (λ (k : ℕ). a .margin / k) (c .if1 .taken) ∙ div-zero (a .margin))

@@ -1,0 +1,118 @@
+-- A small hour in both profiles, with marks, and with its list not shortened; and results that intraday demand 3 rejects. Nobody cites it: it refuses a definition or a
+-- statement that slipped, by the number that comes out.
+use mathlib.Core.Path.{_≡_, refl}
+use mathlib.Core.Bool.{Bool}
+use mathlib.Core.List.{List, [], _∷_}
+use Prim.Native.Nat.{ℕ, zero, suc, _≤_, _<_}
+use native.Mathlib.Omega.{arith}
+use lib.Dec.{eqb, lit≤, lit<}
+use lib.IntN.{ℤ, pos}
+use lib.Signed.{ltZ-yes, ltZ-no, clashℤ}
+use Rattle.numbers.specs.Below.{ifZero, sum, count, largest, lesser, least, orZero, table, firstFrom, given}
+use Rattle.numbers.specs.Ints.{minus, maxℤ, minℤ, positivePart, sameℤ, sumℤ}
+use Rattle.kinds.specs.Ranges.{hubsOf, borderOf, shareOf, rowOf, worth, defaultOf}
+use Rattle.kinds.specs.Refusals.{Judged, passed, refused, refusal, then, unless, refuseAt, refuseFirst}
+use Rattle.table.specs.Table.{Table, factorsAt, stretch}
+use Rattle.rounds.specs.Rounds.{Outcome, sharers, raise, alone, raises, load, lowered, risen, apply, next, raised, counted, run, extract, mostSharers, bitsTo, bits, aloneBits}
+use Rattle.margin.specs.Margin.{flowOf, grains, f0coreOf, fuafOf, baseOf, amrOf, signedFactor, pOf, ltaKw, sOf, ltaMarginOf, ramOf, ramAt}
+use Rattle.states.specs.States.{highest, lowest, spreadOf, shifted, below, stateOf}
+use Rattle.start.specs.Setup.{gridBy, beginBy, judgeBy, endBy}
+use Rattle.start.specs.Start.{rowsOf, kept, every, setupWith}
+use Rattle.extraction.specs.Extraction.{Result, atcOf, leftOf}
+use Rattle.promises.specs.Demand.{loadOf}
+use Rattle.promises.specs.DemandIn.{IntradayDemand3}
+use Rattle.promises.specs.Ways.{dayAhead, onTopOf, setupIn, resultIn, outcomeIn, unshortened}
+
+-- border 0 to 1 has 1 MW, the way back none. Row 0 loads the first and row 1 the second; row 2 is of row 0's class, with a higher RAM, and row 3 is under 5%. IVA of row 0 is one's own
+abbrev small : (iva : ℕ) → Table
+small iva =
+    record {
+      header = record { zones = 2; borders = 2; rows = 4; share = minus 1; intraday = 0 };
+      nets = pos 0 ∷ pos 0 ∷ [];
+      allocated = [];
+      borders = (pos 0 ∷ pos 1 ∷ pos 1 ∷ minus 1 ∷ minus 1 ∷ []) ∷ (pos 1 ∷ pos 0 ∷ pos 0 ∷ minus 1 ∷ minus 1 ∷ []) ∷ [];
+      rows =
+          (pos 2400 ∷ pos 0 ∷ pos 0 ∷ pos 0 ∷ pos 0 ∷ pos 0 ∷ pos iva ∷ [])
+          ∷ (pos 300 ∷ pos 0 ∷ pos 0 ∷ pos 0 ∷ pos 0 ∷ pos 0 ∷ pos 0 ∷ [])
+          ∷ (pos 5000 ∷ pos 0 ∷ pos 0 ∷ pos 0 ∷ pos 0 ∷ pos 0 ∷ pos 0 ∷ [])
+          ∷ (pos 1 ∷ pos 0 ∷ pos 0 ∷ pos 0 ∷ pos 0 ∷ pos 0 ∷ pos 0 ∷ [])
+          ∷ [];
+      factors = pos 20000 ∷ pos 0 ∷ pos 0 ∷ pos 30000 ∷ pos 25000 ∷ pos 5000 ∷ pos 4999 ∷ pos 0 ∷ [];
+    }
+
+-- 3 MW flow from zone 1 to zone 0: they relieve row 0, and take row 1 60,000,000 grains over its RAM
+abbrev taken : List ℤ
+taken = minus 3000 ∷ pos 3000 ∷ []
+
+-- the second border alone
+abbrev second : (b : ℕ) → Bool
+second b = eqb b 1
+
+abbrev end : (rounds : ℕ) → (margins x : List ℕ) → Outcome
+end rounds margins x = record { rounds = rounds; state = record { margins = margins; x = x } }
+
+-- where an outcome ends
+abbrev ends : Judged Result → Judged Outcome
+ends j = then j (λ r. passed (r .outcome))
+
+-- the rows of the hour, with rounds and a state of one's own
+abbrev ended : (rounds : ℕ) → (margins x : List ℕ) → Result
+ended rounds margins x =
+    record {
+      header = small 0 .header;
+      rows = record { rams = pos 240000000 ∷ pos 30000000 ∷ pos 500000000 ∷ pos 4999000 ∷ []; states = 0 ∷ 0 ∷ 2 ∷ 1 ∷ [] };
+      p = 20000 ∷ 0 ∷ 0 ∷ 30000 ∷ 0 ∷ 0 ∷ 0 ∷ 0 ∷ [];
+      outcome = end rounds margins x;
+      lasts = [];
+      stops = [];
+    }
+
+both : (f g : ℕ → ℕ) → f 0 ≤ g 0 → f 1 ≤ g 1 → (b : ℕ) → b < 2 → f b ≤ g b
+both f g x y zero h = x
+both f g x y (suc zero) h = y
+both f g x y (suc (suc b)) h = absurd (omega arith)
+
+pub record Anchors : Type 0 where
+  -- day-ahead: from 1,000 kW, what S leaves of row 0's RAM
+  pub day : ends (outcomeIn dayAhead kept every (small 0)) ≡ passed (end 1 (0 ∷ 0 ∷ 0 ∷ 0 ∷ []) (12000 ∷ 1000 ∷ []))
+  -- .. not shortened: row 2 takes part and changes nothing, row 3 does not
+  pub day-long : ends (outcomeIn dayAhead unshortened every (small 0)) ≡ passed (end 1 (0 ∷ 0 ∷ 260000000 ∷ 0 ∷ []) (12000 ∷ 1000 ∷ []))
+  -- .. with the second border marked: the first stays at its LTA
+  pub day-marked : ends (outcomeIn dayAhead kept second (small 0)) ≡ passed (end 1 (220000000 ∷ 0 ∷ 0 ∷ 0 ∷ []) (1000 ∷ 1000 ∷ []))
+  -- .. with IVA on row 0: below 0 by S
+  pub day-seven : ends (outcomeIn dayAhead kept every (small 2300)) ≡ refused (refusal 7 0 0)
+  -- intraday: from 0 kW, RAM and 60,000,000 grains more on row 0; row 1's remainder is negative and counts as 0
+  pub flow : flowOf (factorsAt (small 0) 0) taken ≡ minus 60000000
+  pub left : ends (outcomeIn (onTopOf taken) kept every (small 0)) ≡ passed (end 1 (0 ∷ 0 ∷ 0 ∷ 0 ∷ []) (15000 ∷ 0 ∷ []))
+  pub left-long : ends (outcomeIn (onTopOf taken) unshortened every (small 0)) ≡ passed (end 1 (0 ∷ 0 ∷ 260000000 ∷ 0 ∷ []) (15000 ∷ 0 ∷ []))
+  pub left-marked : ends (outcomeIn (onTopOf taken) kept second (small 0)) ≡ passed (end 0 (300000000 ∷ 0 ∷ 0 ∷ 0 ∷ []) (0 ∷ 0 ∷ []))
+  -- .. S is not taken off, and 7 isn't given
+  pub left-iva : ends (outcomeIn (onTopOf taken) kept every (small 2300)) ≡ passed (end 1 (0 ∷ 0 ∷ 0 ∷ 0 ∷ []) (3500 ∷ 0 ∷ []))
+  -- ATC 16 MW on border 0 brings row 0 over its RAM; 1 MW on border 1 loads row 1, which has nothing left
+  pub beyond : IntradayDemand3 (small 0) every taken (ended 1 (0 ∷ 0 ∷ 0 ∷ 0 ∷ []) (16000 ∷ 0 ∷ [])) → ⊥
+  pub idle : IntradayDemand3 (small 0) every taken (ended 1 (0 ∷ 0 ∷ 0 ∷ 0 ∷ []) (15000 ∷ 1000 ∷ [])) → ⊥
+  -- border 0 is not marked and rose
+  pub stayed : IntradayDemand3 (small 0) second taken (ended 1 (0 ∷ 0 ∷ 0 ∷ 0 ∷ []) (15000 ∷ 0 ∷ [])) → ⊥
+  -- more rounds than 2 x 1 x 14; ended before the last raise
+  pub many : IntradayDemand3 (small 0) every taken (ended 29 (0 ∷ 0 ∷ 0 ∷ 0 ∷ []) (15000 ∷ 0 ∷ [])) → ⊥
+  pub early : IntradayDemand3 (small 0) every taken (ended 0 (300000000 ∷ 0 ∷ 0 ∷ 0 ∷ []) (0 ∷ 0 ∷ [])) → ⊥
+
+pub anchors : Anchors
+unfolding ifZero sum count largest lesser least orZero table firstFrom given maxℤ minℤ positivePart sameℤ sumℤ hubsOf borderOf shareOf rowOf worth defaultOf then unless refuseAt refuseFirst stretch sharers raise alone raises load lowered risen apply next raised counted run extract mostSharers bitsTo bits aloneBits grains f0coreOf fuafOf baseOf amrOf signedFactor pOf ltaKw sOf ltaMarginOf ramOf ramAt highest lowest spreadOf shifted below stateOf rowsOf kept gridBy beginBy judgeBy endBy setupWith atcOf leftOf loadOf setupIn resultIn outcomeIn unshortened
+anchors =
+    record {
+      day = refl;
+      day-long = refl;
+      day-marked = refl;
+      day-seven = refl;
+      flow = refl;
+      left = refl;
+      left-long = refl;
+      left-marked = refl;
+      left-iva = refl;
+      beyond = λ d. clashℤ (ltZ-yes {a = pos 240000000} {b = pos 260000000} tt) (d .within (16000 ∷ 0 ∷ []) (both _ _ (lit≤ tt) (lit≤ tt)) 0 (lit< tt) refl (ltZ-no {a = pos 300000000} {b = pos 0} tt));
+      idle = λ d. clashℤ (ltZ-yes {a = pos 0} {b = pos 30000000} tt) (d .idle (0 ∷ 1000 ∷ []) (both _ _ (lit≤ tt) (lit≤ tt)) 1 (lit< tt) refl (ltZ-yes {a = minus 60000000} {b = pos 0} tt));
+      stayed = λ d. let e : _≡_ {A = ℕ} 15000 0 = d .stayed 0 (lit< tt) refl in omega arith;
+      many = λ d. let h : 29 ≤ 28 = d .few in omega arith;
+      early = λ d. let e : _≡_ {A = ℕ} 15000 0 = d .still 0 (lit< tt) in omega arith;
+    }

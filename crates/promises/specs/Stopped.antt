@@ -1,0 +1,48 @@
+-- 02, E7: which row stopped a border, and which round raised it last, in the words of the table and of its result. The statements, proved of every accepted
+-- table (`proofs/Stopped.antt`). Rows, states and factors are the table's own.
+use mathlib.Core.Path.{_≡_}
+use mathlib.Core.Bool.{true}
+use mathlib.Core.List.{List, []}
+use mathlib.Core.Option.{some}
+use Prim.Native.Nat.{ℕ, _/_, _≤_, _<_}
+use lib.IntN.{ℤ, pos}
+use lib.ListN.{getD}
+use Rattle.kinds.specs.Ranges.{atℤ}
+use Rattle.table.specs.Table.{Table, borderAt, factorsAt}
+use Rattle.rounds.specs.Rounds.{sharers}
+use Rattle.rounds.specs.Last.{LastRaise}
+use Rattle.margin.specs.Margin.{pOf}
+use Rattle.start.specs.Start.{rowsOf, kept, tableGrid, tableStart}
+use Rattle.extraction.specs.Extraction.{Result, resultOf, leftOf, lastOf, stopOf}
+
+-- what border b could rise by from row i's equal share of its margin left, whole kW
+abbrev pub shareKw : Table → Result → (b i : ℕ) → ℕ
+shareKw t r b i = leftOf r i / sharers (tableGrid t) i / pOf (factorsAt t i) (borderAt t b)
+
+-- row i is the first kept row with p > 0 whose equal share at the end is under one kW for border b
+pub record StoppedBy (t : Table) (r : Result) (b i : ℕ) : Type 0 where
+  pub row : i < t .header .rows
+  pub takes : kept (rowsOf t .states) i ≡ true
+  pub loads : 0 < pOf (factorsAt t i) (borderAt t b)
+  pub under : shareKw t r b i < 1
+  pub first : (j : ℕ) → j < i → kept (rowsOf t .states) j ≡ true → 0 < pOf (factorsAt t j) (borderAt t b) → 1 ≤ shareKw t r b j
+
+pub record BorderStopped (t : Table) (r : Result) (b : ℕ) : Type 0 where
+  -- there is such a row, and the result has it
+  pub row : ℕ
+  pub found : stopOf r b ≡ some row
+  pub stopped : StoppedBy t r b row
+  -- the result's last round is the last one in which the rules raise the border, or 0
+  pub last : LastRaise (tableGrid t) (tableStart t) b (r .outcome .rounds) (lastOf r b)
+
+-- the last round and the row, as the lent results hold them
+abbrev pub lastIn : (atcs : List (List ℤ)) → (b : ℕ) → ℤ
+lastIn atcs b = atℤ (getD atcs b []) 1
+
+abbrev pub rowIn : (atcs : List (List ℤ)) → (b : ℕ) → ℤ
+rowIn atcs b = atℤ (getD atcs b []) 2
+
+pub record LeftStopped (t : Table) (atcs : List (List ℤ)) (b : ℕ) : Type 0 where
+  pub of-result : BorderStopped t (resultOf t) b
+  pub row-left : rowIn atcs b ≡ pos (of-result .row)
+  pub last-left : lastIn atcs b ≡ pos (lastOf (resultOf t) b)

@@ -1,0 +1,18 @@
+-- `rounds::stopping::later` meets its contract, by its one test.
+use mathlib.Core.Path.{sym, ap, _∙_}
+use Prim.Native.Nat.{ℕ}
+use native.Mathlib.Omega.{arith}
+use Rattle.numbers.specs.Below.{ifZero}
+use Rattle.numbers.proofs.BelowLaws.{ifZero-pos}
+use Rattle.rounds.proofs.stopping.later.Statement.{statement}
+use Rattle.rounds.proofs.stopping.later.Tie as tie
+
+returns : tie.Need-returns
+unfolding ifZero
+returns c = let a = c .before .args in sym (ap (λ (v : ℕ). ifZero v (a .last) (a .round)) (c .if1 .taken))
+
+returns-2 : tie.Need-returns-2
+returns-2 c = let a = c .before .args in sym (ifZero-pos (a .raise) (a .last) (a .round) (omega (arith, c .if1 .left)))
+
+pub later-spec : {M : Type 1} → statement M
+later-spec = tie.close (tie.spec returns returns-2)
