@@ -36,7 +36,7 @@ pub fn usage(fd: i32) -> bool {
 pub fn version(fd: i32) -> bool {
     io::write_all(
         fd,
-        b"keravnoth: rules: document 01; requests of document 02: E1, E3, E4, E5, E6, E7, E8, E9, E12; C interface: 8\n",
+        b"keravnoth: rules: document 01; requests of document 02: E1, E3, E4, E5, E6, E7, E8, E9, E12, E14; C interface: 8\n",
     )
         && io::write_all(fd, b"proved in the Rattle kit's logic 064da1ca440f63e7\n")
 }

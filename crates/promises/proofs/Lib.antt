@@ -1,5 +1,7 @@
 pub mod AnchorsDemand
 pub mod AnchorsWays
+pub mod SignedSums
+pub mod PlaceLaws
 pub mod SetupLaws
 pub mod LoadLaws
 pub mod DemandBy
@@ -8,6 +10,11 @@ pub mod OrdinaryLaws
 pub mod Demand3
 pub mod DemandLeft
 pub mod Intraday
+pub mod Alike
+pub mod Classes
+pub mod Moved
+pub mod ShorteningLaws
+pub mod Shortening
 pub mod Seven
 pub mod ToldLaws
 pub mod ByBorder

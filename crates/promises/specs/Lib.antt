@@ -3,6 +3,8 @@ pub mod DemandLeft
 pub mod DemandBy
 pub mod Ways
 pub mod DemandIn
+pub mod Same
+pub mod Order
 pub mod Seven
 pub mod Stopped
 pub mod ByBorder

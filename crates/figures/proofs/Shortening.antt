@@ -1,0 +1,34 @@
+-- 02, E14 on the worked hour, by computation: row 3, which another stands for, takes part and costs nothing; and its rows in the other order come to the same.
+use mathlib.Core.Path.{_≡_, refl}
+use mathlib.Core.List.{List, [], _∷_}
+use Prim.Native.Nat.{ℕ, _-_}
+use Rattle.kinds.specs.Refusals.{Judged, passed, then}
+use Rattle.table.specs.Table.{Table}
+use Rattle.rounds.specs.Rounds.{Outcome}
+use Rattle.start.specs.Start.{every}
+use Rattle.extraction.specs.Extraction.{Result, outcomeOf}
+use Rattle.promises.specs.Ways.{dayAhead, outcomeIn, unshortened}
+use Rattle.promises.specs.Order.{reorder}
+use Rattle.figures.specs.Computing.{computing}
+use Rattle.figures.specs.Hour.{hourTable}
+
+-- where an outcome ends: rounds, margins left, and exchanges in kW
+abbrev ends : Judged Result → Judged Outcome
+ends j = then j (λ r. passed (r .outcome))
+
+abbrev end : (margins : List ℕ) → Judged Outcome
+end margins = passed (record { rounds = 21; state = record { margins = margins; x = 2599999 ∷ 1800000 ∷ [] } })
+
+-- the last row first
+abbrev turned : Table
+turned = reorder (λ i. 3 - i) hourTable
+
+pub record HourShortened : Type 0 where
+  -- rows 0, 1 and 3 take part, where 01 has rows 0 and 1 (`hour-demand`'s `result`): the same rounds and exchanges, and row 3 keeps 30,000,020,000 grains
+  pub long : ends (outcomeIn dayAhead unshortened every hourTable) ≡ end (20000 ∷ 0 ∷ 0 ∷ 30000020000 ∷ [])
+  -- the same rows, the last first
+  pub other-order : ends (outcomeOf turned) ≡ end (0 ∷ 0 ∷ 0 ∷ 20000 ∷ [])
+
+pub hour-shortened : HourShortened
+unfolding computing
+hour-shortened = record { long = refl; other-order = refl }
