@@ -6,12 +6,12 @@
  *
  * A word has 64 bits, the least byte first, as numbers lie in memory on x86-64.
  *
- * A request: eighteen words, then the lent buffers.  The words are the call, its
- * header (zones, borders, rows, share, intraday) and its row (each 0 where the call
- * takes none), and the counts of items of z, t, b, c, f, p, atc, left, flows, text
- * and out (0 where the call does not take that buffer).  The buffers that the call
- * takes follow in this order, each with BEFORE items before the lent part and AFTER
- * items after it.
+ * A request: its words (struct request), then the lent buffers.  The words are the
+ * call, its header (zones, borders, rows, share, intraday) and its row (each 0 where
+ * the call takes none), and the counts of items of z, t, b, c, f, p, marks, atc,
+ * left, flows, text and out (0 where the call does not take
+ * that buffer).  The buffers that the call takes follow in this order, each with
+ * BEFORE items before the lent part and AFTER items after it.
  *
  * An answer: the fields of the call's struct, a word each, then the same buffers
  * as the call left them, with what lies around them: whoever asks compares it.
@@ -31,14 +31,17 @@ _Static_assert(sizeof(size_t) == sizeof(uint64_t), "a size_t is a word");
 enum { BEFORE = 2, AFTER = 3 };
 
 enum {
-    READ = 1, WRITE, EXTRACT, RESULT_TEXT, ANSWER, CORNER_FLOWS, CORNER_TEXT, CALLS
+    READ = 1, WRITE, EXTRACT, RESULT_TEXT, ANSWER, CORNER_FLOWS, CORNER_TEXT,
+    EXTRACT_MARKED, RESULT_TEXT_MARKED, ANSWER_MARKED, CALLS
 };
 
 /* Buffers of numbers stand before buffers of bytes, so each is aligned. */
-enum { Z, T, B, C, F, P, ATC, LEFT, FLOWS, TEXT, OUT, BUFFERS };
+enum { Z, T, B, C, F, P, MARKS, ATC, LEFT, FLOWS, TEXT, OUT, BUFFERS };
 
 typedef int64_t border_record[KERAVNOTH_B_ITEMS];
 typedef int64_t row_record[KERAVNOTH_C_ITEMS];
+typedef int64_t atc_record[KERAVNOTH_ATC_ITEMS];
+typedef int64_t left_record[KERAVNOTH_LEFT_ITEMS];
 
 static const size_t item_bytes[BUFFERS] = {
     [Z] = sizeof(int64_t),
@@ -47,8 +50,9 @@ static const size_t item_bytes[BUFFERS] = {
     [C] = sizeof(row_record),
     [F] = sizeof(int64_t),
     [P] = sizeof(uint64_t),
-    [ATC] = sizeof(int64_t[KERAVNOTH_ATC_ITEMS]),
-    [LEFT] = sizeof(int64_t[KERAVNOTH_LEFT_ITEMS]),
+    [MARKS] = sizeof(uint64_t),
+    [ATC] = sizeof(atc_record),
+    [LEFT] = sizeof(left_record),
     [FLOWS] = sizeof(int64_t),
     [TEXT] = 1,
     [OUT] = 1,
@@ -63,6 +67,9 @@ static const unsigned char takes[CALLS][BUFFERS] = {
     [ANSWER] = {[TEXT] = 1, [OUT] = 1},
     [CORNER_FLOWS] = {[Z] = 1, [T] = 1, [B] = 1, [C] = 1, [F] = 1, [FLOWS] = 1},
     [CORNER_TEXT] = {[Z] = 1, [T] = 1, [B] = 1, [C] = 1, [F] = 1, [OUT] = 1},
+    [EXTRACT_MARKED] = {[Z] = 1, [T] = 1, [B] = 1, [C] = 1, [F] = 1, [P] = 1, [MARKS] = 1, [ATC] = 1, [LEFT] = 1},
+    [RESULT_TEXT_MARKED] = {[Z] = 1, [T] = 1, [B] = 1, [C] = 1, [F] = 1, [MARKS] = 1, [OUT] = 1},
+    [ANSWER_MARKED] = {[MARKS] = 1, [TEXT] = 1, [OUT] = 1},
 };
 
 /* The most bytes that the buffers of a request may have, guards included. */
@@ -77,7 +84,7 @@ struct request {
     uint64_t count[BUFFERS];
 };
 
-_Static_assert(sizeof(struct request) == 18 * sizeof(uint64_t), "eighteen words");
+_Static_assert(sizeof(struct request) == (7 + BUFFERS) * sizeof(uint64_t), "words and nothing between");
 
 static int malformed(const char *what)
 {
@@ -96,6 +103,7 @@ static size_t make(const struct request *r, unsigned char *const *at, uint64_t *
     border_record *b = (border_record *)at[B];
     row_record *c = (row_record *)at[C];
     int64_t *f = (int64_t *)at[F];
+    const uint64_t *marks = (const uint64_t *)at[MARKS];
     size_t nz = r->count[Z], nt = r->count[T], nb = r->count[B], nc = r->count[C], nf = r->count[F];
 
     if (r->call == READ) {
@@ -111,13 +119,22 @@ static size_t make(const struct request *r, unsigned char *const *at, uint64_t *
         answer[7] = said.intraday;
         return 8;
     }
-    if (r->call == EXTRACT) {
-        struct KeravnothExtracted said = keravnoth_extract(
-            HEADER(r),
-            z, nz, t, nt, (const border_record *)b, nb, (const row_record *)c, nc, f, nf,
-            (uint64_t *)at[P], r->count[P],
-            (int64_t (*)[KERAVNOTH_ATC_ITEMS])at[ATC], r->count[ATC],
-            (int64_t (*)[KERAVNOTH_LEFT_ITEMS])at[LEFT], r->count[LEFT]);
+    if (r->call == EXTRACT || r->call == EXTRACT_MARKED) {
+        uint64_t *p = (uint64_t *)at[P];
+        atc_record *atc = (atc_record *)at[ATC];
+        left_record *left = (left_record *)at[LEFT];
+        size_t np = r->count[P], natc = r->count[ATC], nleft = r->count[LEFT];
+        struct KeravnothExtracted said;
+        if (r->call == EXTRACT)
+            said = keravnoth_extract(
+                HEADER(r),
+                z, nz, t, nt, (const border_record *)b, nb, (const row_record *)c, nc, f, nf,
+                p, np, atc, natc, left, nleft);
+        else
+            said = keravnoth_extract_marked(
+                HEADER(r),
+                z, nz, t, nt, (const border_record *)b, nb, (const row_record *)c, nc, f, nf,
+                p, np, marks, r->count[MARKS], atc, natc, left, nleft);
         answer[0] = said.number;
         answer[1] = said.place;
         answer[2] = said.byte;
@@ -151,6 +168,14 @@ static size_t make(const struct request *r, unsigned char *const *at, uint64_t *
             HEADER(r),
             z, nz, t, nt, (const border_record *)b, nb, (const row_record *)c, nc, f, nf,
             r->row, at[OUT], r->count[OUT]);
+    else if (r->call == RESULT_TEXT_MARKED)
+        said = keravnoth_result_text_marked(
+            HEADER(r),
+            z, nz, t, nt, (const border_record *)b, nb, (const row_record *)c, nc, f, nf,
+            marks, r->count[MARKS], at[OUT], r->count[OUT]);
+    else if (r->call == ANSWER_MARKED)
+        said = keravnoth_answer_marked(
+            at[TEXT], r->count[TEXT], marks, r->count[MARKS], at[OUT], r->count[OUT]);
     else
         said = keravnoth_answer(at[TEXT], r->count[TEXT], at[OUT], r->count[OUT]);
     answer[0] = said.number;

@@ -20,7 +20,7 @@
 #include <stdio.h>
 #include <string.h>
 
-enum { CALLS = 7, THREADS = 4, TURNS = 8, KIB = 1024, SPARE = 256 };
+enum { CALLS = 10, THREADS = 4, TURNS = 8, KIB = 1024, SPARE = 256 };
 
 /* Everything that the calls are lent, once a thread. */
 struct room {
@@ -32,6 +32,7 @@ struct room {
     int64_t c[KERAVNOTH_ROWS_MOST][KERAVNOTH_C_ITEMS];
     int64_t f[KERAVNOTH_FACTORS_MOST];
     uint64_t p[KERAVNOTH_P_MOST];
+    uint64_t marks[KERAVNOTH_BORDERS_MOST];
     int64_t atc[KERAVNOTH_BORDERS_MOST][KERAVNOTH_ATC_ITEMS];
     int64_t left[KERAVNOTH_ROWS_MOST][KERAVNOTH_LEFT_ITEMS];
     int64_t flows[KERAVNOTH_CORNERS_MOST];
@@ -76,14 +77,43 @@ static void extract(struct room *r)
         r->atc, KERAVNOTH_BORDERS_MOST, r->left, KERAVNOTH_ROWS_MOST);
 }
 
+/* Every second border is marked. */
+static size_t mark(struct room *r)
+{
+    size_t count = (r->table.borders + 1) / 2;
+    for (size_t k = 0; k < count; k++)
+        r->marks[k] = 2 * k;
+    return count;
+}
+
+static void extract_marked(struct room *r)
+{
+    size_t count = mark(r);
+    keravnoth_extract_marked(
+        TABLE(r), r->p, KERAVNOTH_P_MOST, r->marks, count,
+        r->atc, KERAVNOTH_BORDERS_MOST, r->left, KERAVNOTH_ROWS_MOST);
+}
+
 static void result_text(struct room *r)
 {
     keravnoth_result_text(TABLE(r), r->out, KERAVNOTH_RESULT_TEXT_MOST);
 }
 
+static void result_text_marked(struct room *r)
+{
+    size_t count = mark(r);
+    keravnoth_result_text_marked(TABLE(r), r->marks, count, r->out, KERAVNOTH_RESULT_TEXT_MOST);
+}
+
 static void answer(struct room *r)
 {
     keravnoth_answer(r->text, r->n, r->out, KERAVNOTH_ANSWER_MOST);
+}
+
+static void answer_marked(struct room *r)
+{
+    size_t count = mark(r);
+    keravnoth_answer_marked(r->text, r->n, r->marks, count, r->out, KERAVNOTH_ANSWER_MOST);
 }
 
 static void corner_flows(struct room *r)
@@ -104,8 +134,11 @@ static const struct {
     {"read", read_, KERAVNOTH_READ_STACK},
     {"write", write_, KERAVNOTH_WRITE_STACK},
     {"extract", extract, KERAVNOTH_EXTRACT_STACK},
+    {"extract_marked", extract_marked, KERAVNOTH_EXTRACT_MARKED_STACK},
     {"result_text", result_text, KERAVNOTH_RESULT_TEXT_STACK},
+    {"result_text_marked", result_text_marked, KERAVNOTH_RESULT_TEXT_MARKED_STACK},
     {"answer", answer, KERAVNOTH_ANSWER_STACK},
+    {"answer_marked", answer_marked, KERAVNOTH_ANSWER_MARKED_STACK},
     {"corner_flows", corner_flows, KERAVNOTH_CORNER_FLOWS_STACK},
     {"corner_text", corner_text, KERAVNOTH_CORNER_TEXT_STACK},
 };
@@ -125,9 +158,10 @@ static int load(struct room *r, const char *name)
 }
 
 /* Paints the stack below this frame, makes the call, and looks how far down the
-   paint is gone.  What it takes itself counts too, and the call's arguments: some
-   hundred bytes, which another compiler makes more or less. */
-static size_t touched(void (*make)(struct room *), struct room *r)
+   paint is gone.  It is not inlined, so that no other frame counts.  What it takes
+   itself counts, and the call's arguments: some hundred bytes, which another compiler
+   makes more or less. */
+__attribute__((noinline)) static size_t touched(void (*make)(struct room *), struct room *r)
 {
     enum { DEPTH = 1 << 20, OWN = 256, PAINT = 0xa5 };
     volatile unsigned char *top = __builtin_frame_address(0);
@@ -190,6 +224,9 @@ static int check_null(const char *name)
     same &= SAME(
         keravnoth_answer(r->text, r->n, NULL, 0),
         keravnoth_answer(r->text, r->n, r->out, 0));
+    same &= SAME(
+        keravnoth_answer_marked(r->text, r->n, NULL, 0, r->out, KERAVNOTH_ANSWER_MOST),
+        keravnoth_answer_marked(r->text, r->n, r->marks, 0, r->out, KERAVNOTH_ANSWER_MOST));
 #define NONE NULL, 0, NULL, 0, NULL, 0, NULL, 0, NULL, 0
 #define SOME r->z, 0, r->t, 0, B(r), 0, C(r), 0, r->f, 0
     same &= SAME(
@@ -207,6 +244,12 @@ static int check_null(const char *name)
     same &= SAME(
         keravnoth_result_text(TABLE(r), NULL, 0),
         keravnoth_result_text(TABLE(r), r->out, 0));
+    same &= SAME(
+        keravnoth_extract_marked(TABLE(r), r->p, KERAVNOTH_P_MOST, NULL, 0, NULL, 0, NULL, 0),
+        keravnoth_extract_marked(TABLE(r), r->p, KERAVNOTH_P_MOST, r->marks, 0, r->atc, 0, r->left, 0));
+    same &= SAME(
+        keravnoth_result_text_marked(TABLE(r), NULL, 0, NULL, 0),
+        keravnoth_result_text_marked(TABLE(r), r->marks, 0, r->out, 0));
     same &= SAME(
         keravnoth_corner_flows(header(r), NONE, 0, NULL, 0),
         keravnoth_corner_flows(header(r), SOME, 0, r->flows, 0));
@@ -266,7 +309,7 @@ static void *turns(void *lent)
     for (int turn = 0; turn < TURNS; turn++)
         for (int call = 0; call < CALLS; call++)
             calls[call].make(r);
-    /* The corner texts come last: the answer once more, for the comparison. */
+    /* Other texts come last: the answer once more, for the comparison. */
     answer(r);
     return NULL;
 }

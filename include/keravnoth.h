@@ -29,14 +29,19 @@
  *            header says), CVA 0..10000000, IVA 0..10000000
  *   f        one int64_t a row and zone, -100000..100000; row i's factors start
  *            at item i * zones
- *   p        one uint64_t a row and border, filled in by keravnoth_extract: the
+ *   p        one uint64_t a row and border, filled in by the extraction: the
  *            factor that the border has on the row, from factor - to factor (of a
  *            border with hubs from factor - sending + receiving - to factor), and 0
  *            where that is negative; row i's start at item i * borders, border
  *            after border; 0 where the row's state is not 0
+ *   marks    (of the calls named .._marked) one uint64_t a border that may rise: its
+ *            index, in any order, each once.  Only these borders rise and only they
+ *            are counted in n; the others keep what they start with.  S, starting
+ *            margins and p are those of all borders
  *   atc      one record a border: ATC, the last round that raised the border (0
  *            if none did), and the row that stopped it: the first of state 0 with
- *            p > 0 whose equal share of its margin left is under one kW for it
+ *            p > 0 whose equal share of its margin left is under one kW for it; a
+ *            border that is not marked has 0 and -1
  *   left     one record a row: state (0 kept, 1 under 5%, 2 parallel to a row
  *            that is kept), RAM in grains, margin left in grains or -1 where the
  *            state is not 0
@@ -58,13 +63,17 @@
  *   4  same from and to, and same hubs in their order, as an
  *      earlier border; one with hubs is never one without           place: first such border
  *   5  no row of state 0                                            place 0
- *   6  a border that loads no kept row                              place: first such border
+ *   6  a border that loads no kept row (only marked ones are
+ *      looked at)                                                   place: first such border
  *   7  a kept row's starting margin is below 0; not given in the
  *      intraday profile                                             place: first such row
  *   8  a lent buffer is too short                                   place: items needed in
  *                                                                   the first short one
  *   9  more than 12 borders; or else no such row (corner sheet      place: border count;
  *      only)                                                        the row's index
+ *   13 no border is marked; or a mark is no border, or was given
+ *      before                                                       place: 0; its position
+ *                                                                   in marks, from 1
  *   A lent record has the line that it would have in the text: z i is line
  *   2 + i, t i is 2 + zones + i, b i is 2 + zones + i, or where t is there
  *   2 + 2 * zones + i, c i (its factors too) comes borders lines after b i; the
@@ -81,16 +90,16 @@
  *
  *   Order.  keravnoth_read: 1, then 2 and 3 line by line, 4, 8.  The calls on
  *   lent tables: the header (3), lengths (8) in the order z, t, b, c, f, p,
- *   records (3), 4; the extraction and the result text go on to 5, 6, 7, the corner sheet
- *   to 9; last comes room for results (8), atc before left.  The corner sheet
- *   does not judge 5, 6, 7: a table that the extraction refuses has its sheets.
+ *   records (3), 4; the extraction and the result text go on to 13, 5, 6, 7, the
+ *   corner sheet to 9; last comes room for results (8), atc before left.  The corner
+ *   sheet does not judge 5, 6, 7: a table that the extraction refuses has its sheets.
  *
  * LENT MEMORY
- *   Each pointer goes with the count of its items (records for b, c, atc, left;
- *   numbers for z, t, f, p and flows; bytes for text and for out that takes text) and
- *   points to that many; it is aligned for its type.  What is written to overlaps
- *   nothing else that is lent.  Nothing is kept after the call, nothing is
- *   allocated.
+ *   Each pointer goes with the count of its items (records for b, c, atc and left;
+ *   numbers for z, t, f, p, marks and flows; bytes for text and for out that takes
+ *   text) and points to that many; it is aligned for its
+ *   type.  What is written to overlaps nothing else that is lent.  Nothing is kept
+ *   after the call, nothing is allocated.
  *   A pointer is not NULL, also where its count is 0: a count of 0 is allowed
  *   everywhere, with any pointer to an object of the type.  (NULL with count 0
  *   was tried in every call and answers as a count of 0 does; the proof does not
@@ -110,8 +119,8 @@
  *   Working memory is on the stack.  KERAVNOTH_READ_STACK and so on are the bytes
  *   that a call takes at most below its caller's frame, in whole KiB.  They are
  *   measured, not proved: c/check.c paints the stack, makes the call on every
- *   example hour and stored case, and looks how much of the paint is gone, on the
- *   x86-64 code of the library.  A thread that calls needs so much beyond its own
+ *   example hour and the largest stored cases, and looks how much of the paint is
+ *   gone, on the x86-64 code of the library.  A thread that calls needs so much beyond its own
  *   frames.
  *
  * VERSION
@@ -127,7 +136,7 @@
 extern "C" {
 #endif
 
-#define KERAVNOTH_VERSION 8
+#define KERAVNOTH_VERSION 9
 
 /* The largest table, in items. */
 enum {
@@ -162,7 +171,8 @@ enum {
     KERAVNOTH_BORDER_UNLIMITED = 6,
     KERAVNOTH_MARGIN_BELOW_0 = 7,
     KERAVNOTH_BUFFER_TOO_SHORT = 8,
-    KERAVNOTH_NO_CORNER_SHEET = 9
+    KERAVNOTH_NO_CORNER_SHEET = 9,
+    KERAVNOTH_BAD_MARK = 13
 };
 
 /* The fields of a record of b, and how many there are; both hubs where the border has
@@ -190,7 +200,7 @@ enum {
     KERAVNOTH_R_DASH = -1
 };
 
-/* .. of atc; the stopping row where no row loads the border. */
+/* .. of atc; the stopping row where no row loads the border, or it is not marked. */
 enum {
     KERAVNOTH_ATC_MW,
     KERAVNOTH_ATC_LAST_ROUND,
@@ -221,9 +231,12 @@ enum {
 enum {
     KERAVNOTH_READ_STACK = 5120,
     KERAVNOTH_WRITE_STACK = 2048,
-    KERAVNOTH_EXTRACT_STACK = 17408,
-    KERAVNOTH_RESULT_TEXT_STACK = 122880,
-    KERAVNOTH_ANSWER_STACK = 162816,
+    KERAVNOTH_EXTRACT_STACK = 18432,
+    KERAVNOTH_EXTRACT_MARKED_STACK = 14336,
+    KERAVNOTH_RESULT_TEXT_STACK = 123904,
+    KERAVNOTH_RESULT_TEXT_MARKED_STACK = 123904,
+    KERAVNOTH_ANSWER_STACK = 163840,
+    KERAVNOTH_ANSWER_MARKED_STACK = 163840,
     KERAVNOTH_CORNER_FLOWS_STACK = 3072,
     KERAVNOTH_CORNER_TEXT_STACK = 35840
 };
@@ -313,7 +326,20 @@ struct KeravnothExtracted keravnoth_extract(
     int64_t (*atc)[KERAVNOTH_ATC_ITEMS], size_t natc,
     int64_t (*left)[KERAVNOTH_LEFT_ITEMS], size_t nleft);
 
-/* The same as text: A lines (index, ATC, last round, stopping row), M lines (index,
+/* The same where only the marked borders may rise.  Refusals 3 to 8, 13. */
+struct KeravnothExtracted keravnoth_extract_marked(
+    struct KeravnothHeader header,
+    const int64_t *z, size_t nz,
+    const int64_t *t, size_t nt,
+    const int64_t (*b)[KERAVNOTH_B_ITEMS], size_t nb,
+    const int64_t (*c)[KERAVNOTH_C_ITEMS], size_t nc,
+    const int64_t *f, size_t nf,
+    uint64_t *p, size_t np,
+    const uint64_t *marks, size_t nmarks,
+    int64_t (*atc)[KERAVNOTH_ATC_ITEMS], size_t natc,
+    int64_t (*left)[KERAVNOTH_LEFT_ITEMS], size_t nleft);
+
+/* The extraction as text: A lines (index, ATC, last round, stopping row), M lines (index,
    state, RAM, margin left or "-"), one R line (rounds).  Refusals 3 to 8. */
 struct KeravnothWritten keravnoth_result_text(
     struct KeravnothHeader header,
@@ -324,10 +350,27 @@ struct KeravnothWritten keravnoth_result_text(
     const int64_t *f, size_t nf,
     uint8_t *out, size_t nout);
 
+/* .. where only the marked borders may rise.  Refusals 3 to 8, 13. */
+struct KeravnothWritten keravnoth_result_text_marked(
+    struct KeravnothHeader header,
+    const int64_t *z, size_t nz,
+    const int64_t *t, size_t nt,
+    const int64_t (*b)[KERAVNOTH_B_ITEMS], size_t nb,
+    const int64_t (*c)[KERAVNOTH_C_ITEMS], size_t nc,
+    const int64_t *f, size_t nf,
+    const uint64_t *marks, size_t nmarks,
+    uint8_t *out, size_t nout);
+
 /* From text to text: the result text, or one line E, number, place,
    byte.  Refused only where out is too short (8, bytes needed). */
 struct KeravnothWritten keravnoth_answer(
     const uint8_t *text, size_t n,
+    uint8_t *out, size_t nout);
+
+/* .. where only the marked borders may rise.  Refused as keravnoth_answer is. */
+struct KeravnothWritten keravnoth_answer_marked(
+    const uint8_t *text, size_t n,
+    const uint64_t *marks, size_t nmarks,
     uint8_t *out, size_t nout);
 
 /* The flows of all corners of one row: 2^borders numbers.  row may be any number.

@@ -215,24 +215,57 @@ impl Bridge {
         Ok(Written { number, place: place as usize, byte: byte as usize, bytes: bytes as usize })
     }
 
+    /// With a list of marks: the call that takes one.
     pub fn extract(
         &mut self,
         mut l: Lent,
         p: &mut [u64],
+        marks: Option<&mut [u64]>,
         atc: &mut [[i64; 3]],
         left: &mut [[i64; 3]],
     ) -> Result<Extracted, Ended> {
-        self.begin(wire::EXTRACT, l.header);
+        let call = if marks.is_some() { wire::EXTRACT_MARKED } else { wire::EXTRACT };
+        self.begin(call, l.header);
         self.lend_tables(&l);
         self.lend(wire::P, p);
+        if let Some(marks) = &marks {
+            self.lend(wire::MARKS, marks);
+        }
         self.lend(wire::ATC, atc);
         self.lend(wire::LEFT, left);
         let [number, place, byte, rounds] = self.ask()?;
         self.tables_back(&mut l);
         self.back(p);
+        if let Some(marks) = marks {
+            self.back(marks);
+        }
         self.back(atc);
         self.back(left);
         Ok(Extracted { number, place: place as usize, byte: byte as usize, rounds })
+    }
+
+    pub fn result_text_marked(&mut self, mut l: Lent, marks: &mut [u64], out: &mut [u8]) -> Result<Written, Ended> {
+        self.begin(wire::RESULT_TEXT_MARKED, l.header);
+        self.lend_tables(&l);
+        self.lend(wire::MARKS, marks);
+        self.lend(wire::OUT, out);
+        let [number, place, byte, bytes] = self.ask()?;
+        self.tables_back(&mut l);
+        self.back(marks);
+        self.back(out);
+        Ok(Written { number, place: place as usize, byte: byte as usize, bytes: bytes as usize })
+    }
+
+    pub fn answer_marked(&mut self, text: &mut [u8], marks: &mut [u64], out: &mut [u8]) -> Result<Written, Ended> {
+        self.begin(wire::ANSWER_MARKED, [0; wire::HEADER_WORDS]);
+        self.lend(wire::MARKS, marks);
+        self.lend(wire::TEXT, text);
+        self.lend(wire::OUT, out);
+        let [number, place, byte, bytes] = self.ask()?;
+        self.back(marks);
+        self.back(text);
+        self.back(out);
+        Ok(Written { number, place: place as usize, byte: byte as usize, bytes: bytes as usize })
     }
 
     pub fn corner_flows(&mut self, mut l: Lent, row: usize, flows: &mut [i64]) -> Result<Flows, Ended> {

@@ -23,6 +23,8 @@ mod dice;
 mod lent;
 #[path = "make.rs"]
 mod make;
+#[path = "marks.rs"]
+mod marks;
 #[path = "promises.rs"]
 mod promises;
 #[path = "second.rs"]
@@ -55,6 +57,11 @@ const SHEET_EVERY: u64 = 30;
 const HUBS_EVERY: u64 = 8;
 const SHARES_EVERY: u64 = 8;
 const T_EVERY: u64 = 8;
+/// .. a bad list of marks.
+const MARKS_EVERY: u64 = 8;
+
+/// The refusals that a run meets.
+const REFUSALS: [usize; 10] = [1, 2, 3, 4, 5, 6, 7, 8, 9, 13];
 
 struct Comparison {
     bridge: Bridge,
@@ -70,7 +77,7 @@ struct Comparison {
     corners: u64,
     most_rounds: u64,
     /// how often each number was the answer, 0: no refusal
-    numbers: [u64; 10],
+    numbers: [u64; 14],
     /// how often each other case was reached
     seen: BTreeMap<String, u64>,
 }
@@ -148,7 +155,7 @@ impl Comparison {
         };
         let Header { zones, borders, rows, share, intraday } = tables.header;
         let wanted = Read { number: number.into(), place, byte, zones, borders, rows, share, intraday };
-        self.count("read", number);
+        self.count("keravnoth_read", number);
         if found != wanted {
             let details = format!("library {found:?}\nreference {wanted:?}\nroom {room:?}");
             self.fail("keravnoth_read", &details, text);
@@ -225,29 +232,55 @@ impl Comparison {
         let mut out = Lent::room(d, room);
         let found = self.bridge.answer(&mut lent_text.whole, &mut out.whole);
         let found = self.said("keravnoth_answer", found, &|| text.to_vec());
-        let reference = if room < answer.len() {
+        let fault = lent_text.fault("text", &[]);
+        self.answer_call("keravnoth_answer", found, &out, answer, fault, &|| text.to_vec());
+    }
+
+    /// `answer` is what the reference says, where there is room for it.
+    fn answer_call(
+        &mut self,
+        call: &str,
+        found: Written,
+        out: &Lent<u8>,
+        answer: &[u8],
+        fault: Option<String>,
+        shown: &dyn Fn() -> Vec<u8>,
+    ) {
+        let reference = if out.count < answer.len() {
             Err(Refusal { number: 8, place: answer.len(), byte: NO_BYTE })
         } else {
             Ok(answer.to_vec())
         };
-        let fault = lent_text.fault("text", &[]);
-        if reference.is_ok() && answer[0] == b'E' {
-            // "E", tab, number
-            let number = usize::from(answer[2] - b'0');
+        if let (Ok(_), Some(number)) = (&reference, e_number(answer)) {
             self.numbers[number] += 1;
-            self.see(&format!("answer E {number}"));
+            self.see(&format!("{call} E {number}"));
         }
-        self.text_call("keravnoth_answer", found, &out, &reference, fault, &|| text.to_vec());
+        self.text_call(call, found, out, &reference, fault, shown);
     }
 
     /// `room`: the items of p, atc and left.
     fn extract(&mut self, d: &mut Dice, l: &mut LentTables, room: [usize; 3]) -> Result<Outcome, Refusal> {
-        let reference = extracted(l, room);
+        self.extract_by(d, l, None, room)
+    }
+
+    /// .. with a list of marks, or without one.
+    fn extract_by(
+        &mut self,
+        d: &mut Dice,
+        l: &mut LentTables,
+        marks: Option<&[u64]>,
+        room: [usize; 3],
+    ) -> Result<Outcome, Refusal> {
+        let reference = extracted(l, marks, room);
         let mut p = Lent::room(d, room[0]);
         let mut atc = Lent::room(d, room[1]);
         let mut left = Lent::room(d, room[2]);
-        let found = self.bridge.extract(l.lend(), &mut p.whole, &mut atc.whole, &mut left.whole);
-        let found = self.said("keravnoth_extract", found, &|| l.shown());
+        let mut lent_marks = marks.map(|marks| Lent::holding(d, marks, marks.len()));
+        let given = lent_marks.as_mut().map(|lent| &mut lent.whole[..]);
+        let found = self.bridge.extract(l.lend(), &mut p.whole, given, &mut atc.whole, &mut left.whole);
+        let call = if marks.is_some() { "keravnoth_extract_marked" } else { "keravnoth_extract" };
+        let shown = || with_marks(l.shown(), marks);
+        let found = self.said(call, found, &shown);
         let mut wanted_p: &[u64] = &[];
         let mut wanted_atc: Vec<[i64; 3]> = Vec::new();
         let mut wanted_left: Vec<[i64; 3]> = Vec::new();
@@ -255,7 +288,8 @@ impl Comparison {
             Ok(o) => {
                 wanted_p = &o.p;
                 wanted_atc.extend((0..o.atc.len()).map(|border| {
-                    [o.atc[border] as i64, o.last[border] as i64, o.stop[border] as i64]
+                    let stop = o.stop[border].map_or(-1, |row| row as i64);
+                    [o.atc[border] as i64, o.last[border] as i64, stop]
                 }));
                 wanted_left.extend(o.rows.iter().map(|row| {
                     [i64::from(row.state), row.ram as i64, row.left.map_or(-1, |margin| margin as i64)]
@@ -265,27 +299,30 @@ impl Comparison {
             Err(refusal) => (*refusal, 0),
         };
         let wanted = Extracted { number: number.into(), place, byte, rounds };
-        self.count("extract", wanted.number as u32);
+        self.count(call, wanted.number as u32);
         if found != wanted {
             let details = format!("library {found:?}\nreference {wanted:?}\nroom {room:?}");
-            self.fail("keravnoth_extract", &details, &l.shown());
+            self.fail(call, &details, &shown());
         }
         let fault = p
             .fault("p", wanted_p)
             .or_else(|| atc.fault("atc", &wanted_atc))
             .or_else(|| left.fault("left", &wanted_left))
+            .or_else(|| lent_marks.and_then(|lent| lent.fault("marks", &[])))
             .or_else(|| l.fault());
         if let Some(fault) = fault {
             let details = format!("{fault}\nboth answer {wanted:?}\nroom {room:?}");
-            self.fail("keravnoth_extract", &details, &l.shown());
+            self.fail(call, &details, &shown());
         }
         match &reference {
             Ok(outcome) => {
+                let rising = marks::rising(marks, l.header.borders);
                 self.p_is_p(l, p.part(), left.part(), outcome);
-                self.demand_3(d, l, found, atc.part(), left.part(), outcome);
-                self.stopped(l, found, p.part(), atc.part(), left.part());
+                self.demand_3(d, l, atc.part(), left.part());
+                self.bound_holds(l, &rising, found, p.part(), left.part(), outcome);
+                self.stopped(l, &rising, found, p.part(), atc.part(), left.part());
             }
-            Err(refusal) => self.see_p(l, room, *refusal),
+            Err(refusal) => self.see_p(l, marks, room, *refusal),
         }
         reference
     }
@@ -363,9 +400,27 @@ fn refused_at(number: u32, place: usize) -> Option<Refusal> {
 }
 
 /// The reference's extraction; `room`: the items of p, atc and left.
-fn extracted(l: &LentTables, room: [usize; 3]) -> Result<Outcome, Refusal> {
+fn extracted(l: &LentTables, marks: Option<&[u64]>, room: [usize; 3]) -> Result<Outcome, Refusal> {
     let [p, borders, rows] = room;
-    second::extract(l.part(), p, borders, rows)
+    match marks {
+        Some(marks) => second::extract_marked(l.part(), marks, p, borders, rows),
+        None => second::extract(l.part(), p, borders, rows),
+    }
+}
+
+/// What is shown of a table, and the list of marks.
+fn with_marks(mut shown: Vec<u8>, marks: Option<&[u64]>) -> Vec<u8> {
+    if let Some(marks) = marks {
+        shown.extend(format!("(marks {marks:?})\n").into_bytes());
+    }
+    shown
+}
+
+/// The number of an E line; None where the answer is none.
+fn e_number(answer: &[u8]) -> Option<usize> {
+    let fields = answer.strip_prefix(b"E\t")?;
+    let number = fields.split(|byte| *byte == b'\t').next()?;
+    std::str::from_utf8(number).ok()?.parse().ok()
 }
 
 fn number(text: &str) -> Option<u64> {
@@ -412,7 +467,7 @@ fn main() {
         exchanges: 0,
         corners: 0,
         most_rounds: 0,
-        numbers: [0; 10],
+        numbers: [0; 14],
         seen: BTreeMap::new(),
     };
     let each = std::env::var_os("SHOW_EACH").is_some();
@@ -433,6 +488,9 @@ fn main() {
             }
             if number % T_EVERY == 0 {
                 c.t_tables(number / T_EVERY);
+            }
+            if number % MARKS_EVERY == 0 {
+                c.mark_tables(number / MARKS_EVERY);
             }
         }
         if number < texts {
@@ -468,7 +526,7 @@ fn main() {
             missed.push(format!("{name}: {reached}, wanted {}", share_of(count, size)));
         }
     }
-    for number in 1..=9 {
+    for number in REFUSALS {
         if c.numbers[number] < share_of(300, size) {
             missed.push(format!("refusal {number}: {}, wanted {}", c.numbers[number], share_of(300, size)));
         }
@@ -477,7 +535,7 @@ fn main() {
         missed.push(format!("accepted: {} of {tables} tables, wanted two fifths", c.accepted));
     }
     let refusals: Vec<String> =
-        (1..=9).map(|number| format!("{number}: {}", c.numbers[number])).collect();
+        REFUSALS.map(|number| format!("{number}: {}", c.numbers[number])).to_vec();
     println!(
         "no difference: {} of {tables} tables accepted; calls by refusal {}; {} texts, {} calls compared, {} sets of exchanges within RAM, {} corners, most rounds {}",
         c.accepted,

@@ -2,6 +2,8 @@
 //! E line.  With the argument `rewrite`: the table written again, or the E line.
 //! With `corners`: the corner sheets of all rows, row 0 first, or the E line;
 //! with `corners` and a row's index, the sheet of that row.
+//! With `--marks` and a list, numbers with commas between: the result where only the
+//! marked borders rise.
 
 #[path = "second.rs"]
 mod second;
@@ -10,13 +12,14 @@ use std::io::{Read, Write};
 use std::process::ExitCode;
 
 enum Work {
-    Answer,
+    /// with a list of marks, or without one
+    Answer(Option<Vec<u64>>),
     Rewrite,
     /// of one row, or of all
     Corners(Option<usize>),
 }
 
-/// A row's index: a number as the table writes it.
+/// An index: a number as the table writes it.
 fn index(argument: &str) -> Option<usize> {
     let digits = argument.bytes().all(|byte| byte.is_ascii_digit());
     if !digits || argument.len() > 10 || argument.starts_with('0') && argument.len() > 1 {
@@ -25,14 +28,37 @@ fn index(argument: &str) -> Option<usize> {
     argument.parse().ok()
 }
 
-fn work(arguments: &[String]) -> Option<Work> {
-    match arguments {
-        [] => Some(Work::Answer),
-        [word] if word == "rewrite" => Some(Work::Rewrite),
-        [word] if word == "corners" => Some(Work::Corners(None)),
-        [word, row] if word == "corners" => Some(Work::Corners(Some(index(row)?))),
-        _ => None,
+/// Numbers with commas between; an empty word is the empty list.
+fn list(argument: &str) -> Option<Vec<u64>> {
+    if argument.is_empty() {
+        return Some(Vec::new());
     }
+    argument.split(',').map(|number| index(number).map(|number| number as u64)).collect()
+}
+
+/// The words, and the list of marks taken out of them, given once at most.
+fn parted(arguments: &[String]) -> Option<(Vec<&str>, Option<Vec<u64>>)> {
+    let mut words = Vec::new();
+    let mut marks = None;
+    let mut rest = arguments.iter();
+    while let Some(argument) = rest.next() {
+        match argument.as_str() {
+            "--marks" if marks.is_none() => marks = Some(list(rest.next()?)?),
+            word => words.push(word),
+        }
+    }
+    Some((words, marks))
+}
+
+fn asked(arguments: &[String]) -> Option<Work> {
+    let (words, marks) = parted(arguments)?;
+    Some(match (&words[..], marks) {
+        ([], marks) => Work::Answer(marks),
+        (["rewrite"], None) => Work::Rewrite,
+        (["corners"], None) => Work::Corners(None),
+        (["corners", row], None) => Work::Corners(Some(index(row)?)),
+        _ => return None,
+    })
 }
 
 /// More than 65,536 bytes are refused whatever follows, so one byte more than
@@ -46,8 +72,8 @@ fn input() -> std::io::Result<Vec<u8>> {
 
 fn main() -> ExitCode {
     let arguments: Vec<String> = std::env::args().skip(1).collect();
-    let Some(work) = work(&arguments) else {
-        eprintln!("arguments: none, \"rewrite\", \"corners\", or \"corners\" and a row's index");
+    let Some(work) = asked(&arguments) else {
+        eprintln!("arguments: none, \"rewrite\", \"corners\", or \"corners\" and a row's index; with none also \"--marks\" and a list");
         return ExitCode::from(2);
     };
     let text = match input() {
@@ -58,7 +84,7 @@ fn main() -> ExitCode {
         }
     };
     let answer = match work {
-        Work::Answer => second::answer(&text),
+        Work::Answer(marks) => second::answer_by(&text, marks.as_deref()),
         Work::Rewrite => second::rewrite(&text),
         Work::Corners(only) => second::corners(&text, only),
     };

@@ -100,15 +100,21 @@ fn write(l: &mut LentTables, out: &mut Lent<u8>) -> [u64; 4] {
 fn extract(
     l: &mut LentTables,
     p: &mut Lent<u64>,
+    marks: Option<&Lent<u64>>,
     atc: &mut Lent<[i64; 3]>,
     left: &mut Lent<[i64; 3]>,
 ) -> [u64; 4] {
-    match second::extract(l.lend(), p.len(), atc.len(), left.len()) {
+    let found = match marks {
+        Some(marks) => second::extract_marked(l.lend(), marks, p.len(), atc.len(), left.len()),
+        None => second::extract(l.lend(), p.len(), atc.len(), left.len()),
+    };
+    match found {
         Err(refusal) => refused(refusal),
         Ok(outcome) => {
             p[..outcome.p.len()].copy_from_slice(&outcome.p);
             for (border, mw) in outcome.atc.iter().enumerate() {
-                atc[border] = [*mw as i64, outcome.last[border] as i64, outcome.stop[border] as i64];
+                let stop = outcome.stop[border].map_or(-1, |row| row as i64);
+                atc[border] = [*mw as i64, outcome.last[border] as i64, stop];
             }
             for (item, row) in left.iter_mut().zip(&outcome.rows) {
                 *item = [i64::from(row.state), row.ram as i64, row.left.map_or(-1, |m| m as i64)];
@@ -120,6 +126,11 @@ fn extract(
 
 fn result_text(l: &mut LentTables, out: &mut Lent<u8>) -> [u64; 4] {
     let text = second::result_text(l.lend(), out.len());
+    text_to(text, out)
+}
+
+fn result_text_marked(l: &mut LentTables, marks: &Lent<u64>, out: &mut Lent<u8>) -> [u64; 4] {
+    let text = second::result_text_marked(l.lend(), marks, out.len());
     text_to(text, out)
 }
 
@@ -142,6 +153,15 @@ fn corner_text(l: &mut LentTables, row: usize, out: &mut Lent<u8>) -> [u64; 4] {
 
 fn answer(text: &Lent<u8>, out: &mut Lent<u8>) -> [u64; 4] {
     let answer = second::answer(text);
+    whole_or_8(answer, out)
+}
+
+fn answer_marked(text: &Lent<u8>, marks: &Lent<u64>, out: &mut Lent<u8>) -> [u64; 4] {
+    let answer = second::answer_marked(text, marks);
+    whole_or_8(answer, out)
+}
+
+fn whole_or_8(answer: Vec<u8>, out: &mut Lent<u8>) -> [u64; 4] {
     if out.len() < answer.len() {
         return refused(Refusal { number: 8, place: answer.len(), byte: second::NO_BYTE });
     }
@@ -190,11 +210,15 @@ impl<R: Read> Request<R> {
         self.words[wire::ROW] as usize
     }
 
-    fn tables(&mut self) -> std::io::Result<LentTables> {
+    fn header(&self) -> Header {
         let [_, zones, borders, rows, ..] = self.words.map(|word| word as usize);
         let [_, _, _, _, share, intraday, ..] = self.words;
+        Header { zones, borders, rows, share: share as i64, intraday }
+    }
+
+    fn tables(&mut self) -> std::io::Result<LentTables> {
         Ok(LentTables {
-            header: Header { zones, borders, rows, share: share as i64, intraday },
+            header: self.header(),
             z: self.lent(wire::Z)?,
             t: self.lent(wire::T)?,
             b: self.lent(wire::B)?,
@@ -236,16 +260,38 @@ fn serve<R: Read>(request: &mut Request<R>, to: &mut Vec<u8>) -> std::io::Result
             put_tables(&l, to);
             wire::put_all(&out.whole, to);
         }
-        wire::EXTRACT => {
+        call @ (wire::EXTRACT | wire::EXTRACT_MARKED) => {
             let mut l = request.tables()?;
             let mut p = request.lent(wire::P)?;
+            let marks = if call == wire::EXTRACT_MARKED { Some(request.lent(wire::MARKS)?) } else { None };
             let mut atc = request.lent(wire::ATC)?;
             let mut left = request.lent(wire::LEFT)?;
-            put_fields(&extract(&mut l, &mut p, &mut atc, &mut left), to);
+            put_fields(&extract(&mut l, &mut p, marks.as_ref(), &mut atc, &mut left), to);
             put_tables(&l, to);
             wire::put_all(&p.whole, to);
+            if let Some(marks) = marks {
+                wire::put_all(&marks.whole, to);
+            }
             wire::put_all(&atc.whole, to);
             wire::put_all(&left.whole, to);
+        }
+        wire::RESULT_TEXT_MARKED => {
+            let mut l = request.tables()?;
+            let marks = request.lent(wire::MARKS)?;
+            let mut out = request.lent(wire::OUT)?;
+            put_fields(&result_text_marked(&mut l, &marks, &mut out), to);
+            put_tables(&l, to);
+            wire::put_all(&marks.whole, to);
+            wire::put_all(&out.whole, to);
+        }
+        wire::ANSWER_MARKED => {
+            let marks = request.lent(wire::MARKS)?;
+            let text = request.lent(wire::TEXT)?;
+            let mut out = request.lent(wire::OUT)?;
+            put_fields(&answer_marked(&text, &marks, &mut out), to);
+            wire::put_all(&marks.whole, to);
+            wire::put_all(&text.whole, to);
+            wire::put_all(&out.whole, to);
         }
         wire::CORNER_FLOWS => {
             let row = request.row();

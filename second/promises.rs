@@ -5,6 +5,7 @@
 use crate::calls::Extracted;
 use crate::dice::Dice;
 use crate::lent::{needed, remainder, signed_factor, LentTables};
+use crate::marks::rising;
 use crate::second::{self, Outcome, Refusal, Tables};
 use crate::second::{INTRADAY, LTA, MOST_ROUNDS, MOST_ROUNDS_INTRADAY, NO_SHARE, R_DASH};
 use crate::{damage, make, Comparison};
@@ -70,22 +71,14 @@ impl Comparison {
     // ------------------------------------------------------------ demand 3
 
     /// Exchanges up to the library's own ATCs load no kept row beyond its RAM, or,
-    /// intraday, beyond its remainder, and one without remainder not at all; the
-    /// library's own rounds are at most 2 N L.
+    /// intraday, beyond its remainder, and one without remainder not at all.
     pub fn demand_3(
         &mut self,
         d: &mut Dice,
         l: &LentTables,
-        found: Extracted,
         atc: &[[i64; 3]],
         left: &[[i64; 3]],
-        outcome: &Outcome,
     ) {
-        let bound = 2 * outcome.n_most as u64 * u64::from(outcome.l_bits);
-        let most = if l.header.intraday == INTRADAY { MOST_ROUNDS_INTRADAY } else { MOST_ROUNDS };
-        if found.rounds > bound || found.rounds > most {
-            self.fail("keravnoth_extract", &format!("{} rounds, over 2 N L = {bound}", found.rounds), &l.shown());
-        }
         let borders = l.header.borders;
         let tops: Vec<i64> = (0..borders).map(|border| atc[border][0] * 1_000).collect();
         self.within_margins(l, left, &tops);
@@ -115,6 +108,45 @@ impl Comparison {
         }
     }
 
+    /// The library's own rounds are at most 2 N L, with N and L over the borders that
+    /// rise, by its own p and RAM.
+    pub fn bound_holds(
+        &mut self,
+        l: &LentTables,
+        rising: &[bool],
+        found: Extracted,
+        p: &[u64],
+        left: &[[i64; 3]],
+        outcome: &Outcome,
+    ) {
+        let h = l.header;
+        let (mut n_most, mut l_bits) = (0, 0);
+        let mut alone: Vec<Option<i128>> = vec![None; h.borders];
+        for row in (0..h.rows).filter(|row| left[*row][0] == 0) {
+            let own = &p[row * h.borders..(row + 1) * h.borders];
+            let used: i128 = own.iter().zip(l.b.part()).map(|(p, b)| i128::from(*p) * i128::from(b[LTA]) * 1_000).sum();
+            let ram = i128::from(left[row][1]);
+            let margin = remainder(l, row, left[row][1]).map_or(ram - used, |remainder| remainder.max(0));
+            n_most = n_most.max((0..h.borders).filter(|border| rising[*border] && own[*border] > 0).count());
+            for border in (0..h.borders).filter(|border| rising[*border] && own[*border] > 0) {
+                let raise = margin / i128::from(own[border]);
+                alone[border] = Some(alone[border].map_or(raise, |least| least.min(raise)));
+            }
+        }
+        while alone.iter().flatten().any(|raise| *raise >= 1 << l_bits) {
+            l_bits += 1;
+        }
+        if (n_most, l_bits) != (outcome.n_most, outcome.l_bits) {
+            let details = format!("N {n_most}, L {l_bits}; reference N {}, L {}", outcome.n_most, outcome.l_bits);
+            self.fail("keravnoth_extract", &details, &l.shown());
+        }
+        let bound = 2 * n_most as u64 * u64::from(l_bits);
+        let most = if h.intraday == INTRADAY { MOST_ROUNDS_INTRADAY } else { MOST_ROUNDS };
+        if found.rounds > bound || found.rounds > most {
+            self.fail("keravnoth_extract", &format!("{} rounds, over 2 N L = {bound}", found.rounds), &l.shown());
+        }
+    }
+
     fn within_margins(&mut self, l: &LentTables, left: &[[i64; 3]], exchanges: &[i64]) {
         self.exchanges += 1;
         for row in 0..l.header.rows {
@@ -138,20 +170,32 @@ impl Comparison {
 
     // ------------------------------------------ which row stopped a border
 
-    /// By the library's own numbers: the row named for a border is kept, has p > 0
-    /// and a share under one kW, and none before it is so; some border rose in the
-    /// last round, none after it.
-    pub fn stopped(&mut self, l: &LentTables, found: Extracted, p: &[u64], atc: &[[i64; 3]], left: &[[i64; 3]]) {
+    /// By the library's own numbers: the row named for a border that rises is kept,
+    /// has p > 0 and a share under one kW, and none before it is so; the other borders
+    /// have none and never rose; some border rose in the last round, none after it.
+    pub fn stopped(
+        &mut self,
+        l: &LentTables,
+        rising: &[bool],
+        found: Extracted,
+        p: &[u64],
+        atc: &[[i64; 3]],
+        left: &[[i64; 3]],
+    ) {
         let h = l.header;
         let stops = |row: usize, border: usize| {
             let own = &p[row * h.borders..(row + 1) * h.borders];
-            let n = own.iter().filter(|p| **p > 0).count() as i64;
+            let n = own.iter().zip(rising).filter(|(p, rising)| **p > 0 && **rising).count() as i64;
             left[row][0] == 0 && own[border] > 0 && left[row][2] / n / own[border] as i64 == 0
         };
         for border in 0..h.borders {
             let [mw, last, row] = atc[border];
-            let first = (0..h.rows).find(|row| stops(*row, border));
-            if first.is_none_or(|first| row != first as i64) {
+            if !rising[border] && [last, row] != [0, -1] {
+                let details = format!("border {border} does not rise, and has last round {last}, row {row}");
+                self.fail("keravnoth_extract", &details, &l.shown());
+            }
+            let first = (0..h.rows).find(|row| rising[border] && stops(*row, border));
+            if rising[border] && first.is_none_or(|first| row != first as i64) {
                 let details = format!("border {border}: row {row}, by the margins left {first:?}");
                 self.fail("keravnoth_extract", &details, &l.shown());
             }
@@ -210,20 +254,21 @@ impl Comparison {
 
     /// The table without its rows of state 2, and with its rows in another order,
     /// gives the same ATCs and rounds, or the same refusal number; so does the
-    /// extraction over all rows of states 0 and 2.
-    pub fn shortening(&mut self, d: &mut Dice, t: &Tables) {
+    /// extraction over all rows of states 0 and 2.  With a list of marks, or without.
+    pub fn shortening(&mut self, d: &mut Dice, t: &Tables, marks: Option<&[u64]>) {
         let h = t.header;
-        let whole = self.of_rows(d, t, &(0..h.rows).collect::<Vec<usize>>());
-        self.over_states_0_and_2(t, &whole);
+        let with = if marks.is_some() { ", marked" } else { "" };
+        let whole = self.of_rows(d, t, &(0..h.rows).collect::<Vec<usize>>(), marks);
+        self.over_states_0_and_2(&format!("over states 0 and 2{with}"), t, &rising(marks, h.borders), &whole);
 
         let rows: Vec<usize> = (0..h.rows).filter(|row| !state_2(t, *row)).collect();
         if rows.len() < h.rows {
-            let short = self.of_rows(d, t, &rows);
-            self.same_result("without the rows of state 2", t, &whole, &short);
+            let short = self.of_rows(d, t, &rows, marks);
+            self.same_result(&format!("without the rows of state 2{with}"), t, &whole, &short);
             if let (Ok(whole), Ok(short)) = (&whole, &short) {
                 // the rows that are left are those that took part, numbered anew
                 let left = short.rows.iter().zip(&rows).all(|(out, row)| *out == whole.rows[*row]);
-                let stop = (0..h.borders).all(|border| rows[short.stop[border]] == whole.stop[border]);
+                let stop = (0..h.borders).all(|border| short.stop[border].map(|row| rows[row]) == whole.stop[border]);
                 if !left || !stop {
                     self.fail("keravnoth_extract", "without the rows of state 2: other margins or rows", &damage::plain_text(t));
                 }
@@ -234,8 +279,8 @@ impl Comparison {
         for at in (1..rows.len()).rev() {
             rows.swap(at, d.below(at + 1));
         }
-        let other = self.of_rows(d, t, &rows);
-        self.same_result("in another order", t, &whole, &other);
+        let other = self.of_rows(d, t, &rows, marks);
+        self.same_result(&format!("in another order{with}"), t, &whole, &other);
         if let (Ok(whole), Ok(other)) = (&whole, &other) {
             if (0..h.rows).any(|row| other.rows[row].state != whole.rows[rows[row]].state) {
                 self.see("in another order, another row of a class is kept");
@@ -244,7 +289,13 @@ impl Comparison {
     }
 
     /// The extraction of the table that has these rows of this one, in this order.
-    fn of_rows(&mut self, d: &mut Dice, t: &Tables, rows: &[usize]) -> Result<Outcome, Refusal> {
+    fn of_rows(
+        &mut self,
+        d: &mut Dice,
+        t: &Tables,
+        rows: &[usize],
+        marks: Option<&[u64]>,
+    ) -> Result<Outcome, Refusal> {
         let zones = t.header.zones;
         let mut part = t.clone();
         part.header.rows = rows.len();
@@ -252,7 +303,7 @@ impl Comparison {
         part.f = rows.iter().flat_map(|row| &t.f[row * zones..(row + 1) * zones]).copied().collect();
         let h = part.header;
         let mut l = LentTables::new(d, &part, needed(h));
-        self.extract(d, &mut l, [h.rows * h.borders, h.borders, h.rows])
+        self.extract_by(d, &mut l, marks, [h.rows * h.borders, h.borders, h.rows])
     }
 
     /// The same ATCs, rounds and last rounds, or the same refusal number.
@@ -279,7 +330,13 @@ impl Comparison {
 
     /// By the rules alone, over every row that is not of state 1, whatever is
     /// parallel to it.
-    fn over_states_0_and_2(&mut self, t: &Tables, outcome: &Result<Outcome, Refusal>) {
+    fn over_states_0_and_2(
+        &mut self,
+        name: &str,
+        t: &Tables,
+        rising: &[bool],
+        outcome: &Result<Outcome, Refusal>,
+    ) {
         let wanted = match outcome {
             Ok(outcome) => Ok((outcome.atc.clone(), outcome.rounds)),
             Err(refusal) => Err(refusal.number),
@@ -287,12 +344,12 @@ impl Comparison {
         if matches!(wanted, Err(4)) {
             return;
         }
-        let found = over_wide_rows(t);
+        let found = over_wide_rows(t, rising);
         if found != wanted {
             let details = format!("over states 0 and 2: {found:?}, over state 0 {wanted:?}");
             self.fail("keravnoth_extract", &details, &damage::plain_text(t));
         }
-        self.see_shortened("over states 0 and 2", t.header, outcome);
+        self.see_shortened(name, t.header, outcome);
     }
 }
 
@@ -320,8 +377,8 @@ fn wide(factors: &[i64]) -> bool {
 }
 
 /// ATCs and rounds, or the refusal number, where every row of states 0 and 2 takes
-/// part.
-fn over_wide_rows(t: &Tables) -> Result<(Vec<u64>, u64), u32> {
+/// part and these borders rise.
+fn over_wide_rows(t: &Tables, rising: &[bool]) -> Result<(Vec<u64>, u64), u32> {
     let h = t.header;
     let rows: Vec<usize> = (0..h.rows).filter(|row| wide(factors(t, *row))).collect();
     let p = |row: usize, border: usize| i128::from(make::signed_factor(factors(t, row), &t.b[border]).max(0));
@@ -338,14 +395,16 @@ fn over_wide_rows(t: &Tables) -> Result<(Vec<u64>, u64), u32> {
     if rows.is_empty() {
         return Err(5);
     }
-    if (0..h.borders).any(|border| rows.iter().all(|row| p(*row, border) == 0)) {
+    if (0..h.borders).any(|border| rising[border] && rows.iter().all(|row| p(*row, border) == 0)) {
         return Err(6);
     }
     if margins.iter().any(|margin| *margin < 0) {
         return Err(7);
     }
-    // p of every border, and n, row by row
-    let shares: Vec<Vec<i128>> = rows.iter().map(|row| (0..h.borders).map(|border| p(*row, border)).collect()).collect();
+    // p of every border that rises, and n, row by row
+    let share = |row: usize, border: usize| if rising[border] { p(row, border) } else { 0 };
+    let shares: Vec<Vec<i128>> =
+        rows.iter().map(|row| (0..h.borders).map(|border| share(*row, border)).collect()).collect();
     let n: Vec<i128> = shares.iter().map(|p| p.iter().filter(|p| **p > 0).count() as i128).collect();
     let start = |border: usize| if h.intraday == INTRADAY { 0 } else { i128::from(t.b[border][LTA]) * 1_000 };
     let mut kw: Vec<i128> = (0..h.borders).map(start).collect();

@@ -968,8 +968,9 @@ pub struct Outcome {
     pub atc: Vec<u64>,
     /// "the last round that raised it (0 if none)"
     pub last: Vec<u64>,
-    /// the row that stopped it
-    pub stop: Vec<usize>,
+    /// the row that stopped it; "An unmarked border has last round 0 and "-" for E7's
+    /// stopping row."
+    pub stop: Vec<Option<usize>>,
     pub rows: Vec<RowOut>,
     /// rounds counted
     pub rounds: u64,
@@ -980,7 +981,7 @@ pub struct Outcome {
     pub kw: Vec<u64>,
     /// N: the largest n of a kept row
     pub n_most: usize,
-    /// L: the least number with each border's raise alone under 2^L
+    /// L: the least number with each marked border's raise alone under 2^L
     pub l_bits: u32,
     /// Divisions done in the rounds, the last round, which raises nothing and
     /// is not counted, included: for each border and each kept row with p > 0
@@ -1033,16 +1034,48 @@ fn p_table(tables: &Tables, states: &[u8]) -> Vec<u64> {
 struct Kept {
     /// index of the row in the table
     row: usize,
-    /// p of each border on this row
+    /// p of each marked border on this row, 0 of the others
     p: Vec<i128>,
-    /// "n is the count of borders with p > 0 on that row, and never changes."
+    /// "n is the count of borders with p > 0 on that row, and never changes."; "n
+    /// counts marked borders alone"
     n: i128,
     margin: i128,
 }
 
+/// Whether each border is marked: "A list of marked borders".  "13, no mark, a mark
+/// beyond the borders or a mark twice, place the first such position in the list,
+/// from 1 (0 for an empty list)".
+fn marked_by(marks: &[u64], borders: usize) -> Result<Vec<bool>, Refusal> {
+    if marks.is_empty() {
+        return refuse(13, 0);
+    }
+    let mut marked = vec![false; borders];
+    for (place, mark) in marks.iter().enumerate() {
+        if *mark >= borders as u64 || marks[..place].contains(mark) {
+            return refuse(13, place + 1);
+        }
+        marked[*mark as usize] = true;
+    }
+    Ok(marked)
+}
+
+/// Which borders rise: those of the list, or without a list all of them.
+fn rising(marks: Option<&[u64]>, borders: usize) -> Result<Vec<bool>, Refusal> {
+    match marks {
+        Some(marks) => marked_by(marks, borders),
+        None => Ok(vec![true; borders]),
+    }
+}
+
 /// The rows of state 0, each with its starting margin.  p is read from the table of
 /// p only.
-fn kept_rows(tables: &Tables, margins: &[Margin], states: &[u8], p_table: &[u64]) -> Vec<Kept> {
+fn kept_rows(
+    tables: &Tables,
+    margins: &[Margin],
+    states: &[u8],
+    p_table: &[u64],
+    marked: &[bool],
+) -> Vec<Kept> {
     let borders = tables.header.borders;
     let mut kept = Vec::new();
     for row in 0..tables.header.rows {
@@ -1051,7 +1084,8 @@ fn kept_rows(tables: &Tables, margins: &[Margin], states: &[u8], p_table: &[u64]
             continue;
         }
         let own = &p_table[row * borders..(row + 1) * borders];
-        let p: Vec<i128> = own.iter().map(|p| i128::from(*p)).collect();
+        let of_marked = |(p, marked): (&u64, &bool)| if *marked { i128::from(*p) } else { 0 };
+        let p: Vec<i128> = own.iter().zip(marked).map(of_marked).collect();
         let n = p.iter().filter(|p| **p > 0).count() as i128;
         let margin = starting_margin(tables, row, &margins[row]);
         kept.push(Kept { row, p, n, margin });
@@ -1067,10 +1101,11 @@ fn judge_any_kept(kept: &[Kept]) -> Result<(), Refusal> {
     Ok(())
 }
 
-/// "6 | a border with p > 0 on no kept row | first such border's index"
-fn judge_borders_limited(kept: &[Kept], borders: usize) -> Result<(), Refusal> {
-    for border in 0..borders {
-        if !kept.iter().any(|row| row.p[border] > 0) {
+/// "6 | a border with p > 0 on no kept row | first such border's index"; "6 looks at
+/// marked borders only"
+fn judge_borders_limited(kept: &[Kept], marked: &[bool]) -> Result<(), Refusal> {
+    for border in 0..marked.len() {
+        if marked[border] && !kept.iter().any(|row| row.p[border] > 0) {
             return refuse(6, border);
         }
     }
@@ -1113,7 +1148,7 @@ fn raise_of(kept: &[Kept], border: usize, divisions: &mut u64) -> i128 {
             least = smaller(least, raise);
         }
     }
-    least.expect("each border has p > 0 on a kept row")
+    least.expect("each marked border has p > 0 on a kept row")
 }
 
 /// "the first kept row with p > 0 whose equal share at the end is under one kW for
@@ -1134,14 +1169,15 @@ fn raise_alone(kept: &[Kept], border: usize) -> i128 {
             least = smaller(least, floor_div(row.margin, row.p[border]));
         }
     }
-    least.expect("each border has p > 0 on a kept row")
+    least.expect("each marked border has p > 0 on a kept row")
 }
 
-/// "L is the least number with each such raise under 2^L"
-fn l_of(kept: &[Kept], borders: usize) -> u32 {
+/// "L is the least number with each such raise under 2^L"; "N and L counted over the
+/// marked borders"
+fn l_of(kept: &[Kept], marked: &[bool]) -> u32 {
     let mut l = 0;
-    for border in 0..borders {
-        while raise_alone(kept, border) >= 1i128 << l {
+    for border in 0..marked.len() {
+        while marked[border] && raise_alone(kept, border) >= 1i128 << l {
             l += 1;
         }
     }
@@ -1153,28 +1189,47 @@ fn n_of(kept: &[Kept]) -> i128 {
     kept.iter().map(|row| row.n).max().expect("there is a kept row")
 }
 
-/// The extraction after the tables are judged: 5, 6, 7, then the rounds.
-fn work(tables: &Tables) -> Result<Outcome, Refusal> {
+/// What the rounds start from.
+struct Start {
+    /// which borders rise
+    marked: Vec<bool>,
+    margins: Vec<Margin>,
+    states: Vec<u8>,
+    p: Vec<u64>,
+    kept: Vec<Kept>,
+}
+
+/// Where the rounds start, after the tables are judged: 13, "after 4 .. and before
+/// 5", then 5, 6, 7.
+fn start_of(tables: &Tables, marks: Option<&[u64]>) -> Result<Start, Refusal> {
     let borders = tables.header.borders;
+    let marked = rising(marks, borders)?;
     let margins: Vec<Margin> = (0..tables.header.rows).map(|row| margin_of(tables, row)).collect();
     let states = states_of(tables, &margins);
     let p = p_table(tables, &states);
-    let mut kept = kept_rows(tables, &margins, &states, &p);
+    let kept = kept_rows(tables, &margins, &states, &p, &marked);
     judge_any_kept(&kept)?;
-    judge_borders_limited(&kept, borders)?;
+    judge_borders_limited(&kept, &marked)?;
     judge_starting_margins(&kept)?;
+    Ok(Start { marked, margins, states, p, kept })
+}
 
+/// The extraction after the tables are judged.
+fn work(tables: &Tables, marks: Option<&[u64]>) -> Result<Outcome, Refusal> {
+    let borders = tables.header.borders;
+    let Start { marked, margins, states, p, mut kept } = start_of(tables, marks)?;
     let n_most = n_of(&kept);
-    let l_bits = l_of(&kept, borders);
+    let l_bits = l_of(&kept, &marked);
 
     let mut kw: Vec<i128> = tables.b.iter().map(|border| starting_kw(&tables.header, border)).collect();
     let mut rounds: u64 = 0;
     let mut last: Vec<u64> = vec![0; borders];
     let mut divisions: u64 = 0;
     loop {
-        // "All raises are found from the margins at the start of the round."
-        let raises: Vec<i128> =
-            (0..borders).map(|border| raise_of(&kept, border, &mut divisions)).collect();
+        // "All raises are found from the margins at the start of the round."  "only
+        // they rise", the marked ones
+        let mut raise = |border| if marked[border] { raise_of(&kept, border, &mut divisions) } else { 0 };
+        let raises: Vec<i128> = (0..borders).map(&mut raise).collect();
         // "A round that raises nothing ends the work and is not counted."
         if raises.iter().all(|raise| *raise == 0) {
             break;
@@ -1196,7 +1251,7 @@ fn work(tables: &Tables) -> Result<Outcome, Refusal> {
         rounds += 1;
     }
 
-    let stop = (0..borders).map(|border| stopping_row(&kept, border)).collect();
+    let stop = (0..borders).map(|border| marked[border].then(|| stopping_row(&kept, border))).collect();
     let rows = row_outcomes(&margins, &states, &kept);
     let outcome = Outcome {
         // "ATC = kW value floored to whole MW, once, at the end."
@@ -1212,7 +1267,7 @@ fn work(tables: &Tables) -> Result<Outcome, Refusal> {
         divisions,
     };
     if cfg!(debug_assertions) {
-        check_outcome(tables, &kept, &outcome);
+        check_outcome(tables, &marked, &kept, &outcome);
     }
     Ok(outcome)
 }
@@ -1227,7 +1282,7 @@ fn row_outcomes(margins: &[Margin], states: &[u8], kept: &[Kept]) -> Vec<RowOut>
 }
 
 /// What the rules promise of a result.
-fn check_outcome(tables: &Tables, kept: &[Kept], outcome: &Outcome) {
+fn check_outcome(tables: &Tables, marked: &[bool], kept: &[Kept], outcome: &Outcome) {
     let intraday = tables.header.intraday == INTRADAY;
     // "rounds are at most 2 x N x L, so at most" the largest round number
     assert!(outcome.rounds <= 2 * outcome.n_most as u64 * u64::from(outcome.l_bits));
@@ -1235,8 +1290,8 @@ fn check_outcome(tables: &Tables, kept: &[Kept], outcome: &Outcome) {
     for row in kept {
         // the largest load of the row: each relieving border at 0
         let mut load = 0;
-        for border in 0..tables.header.borders {
-            load += row.p[border] * i128::from(outcome.kw[border]);
+        for (border, kw) in tables.b.iter().zip(&outcome.kw) {
+            load += border_factor(factors_of(tables, row.row), border) * i128::from(*kw);
         }
         let ram = outcome.rows[row.row].ram;
         let whole = if intraday { remainder_of(tables, row.row, ram).max(0) } else { ram };
@@ -1247,6 +1302,8 @@ fn check_outcome(tables: &Tables, kept: &[Kept], outcome: &Outcome) {
     for border in 0..tables.header.borders {
         let risen = i128::from(outcome.kw[border]) - starting_kw(&tables.header, &tables.b[border]);
         assert!(risen >= 0);
+        // "the others stay where they start"
+        assert!(marked[border] || risen == 0);
         assert_eq!(outcome.last[border] > 0, risen > 0);
         assert_eq!(outcome.atc[border], outcome.kw[border] / 1_000);
     }
@@ -1258,11 +1315,32 @@ fn check_outcome(tables: &Tables, kept: &[Kept], outcome: &Outcome) {
 /// "border results before row results".  The table of p is "lent, rows x borders
 /// items"; "8 looks at it after factors", so before the records.
 pub fn extract(lent: Lent, room_p: usize, room_borders: usize, room_rows: usize) -> Result<Outcome, Refusal> {
+    extract_by(lent, None, room_p, room_borders, room_rows)
+}
+
+/// The same where only the marked borders rise.
+pub fn extract_marked(
+    lent: Lent,
+    marks: &[u64],
+    room_p: usize,
+    room_borders: usize,
+    room_rows: usize,
+) -> Result<Outcome, Refusal> {
+    extract_by(lent, Some(marks), room_p, room_borders, room_rows)
+}
+
+fn extract_by(
+    lent: Lent,
+    marks: Option<&[u64]>,
+    room_p: usize,
+    room_borders: usize,
+    room_rows: usize,
+) -> Result<Outcome, Refusal> {
     let header = lent.header;
     let tables = front_of(lent)?;
     judge_room(room_p, header.rows * header.borders)?;
     judge_values(&tables)?;
-    let outcome = work(&tables)?;
+    let outcome = work(&tables, marks)?;
     judge_room(room_borders, header.borders)?;
     judge_room(room_rows, header.rows)?;
     Ok(outcome)
@@ -1274,12 +1352,17 @@ pub fn extract(lent: Lent, room_p: usize, room_borders: usize, room_rows: usize)
 
 /// "`A`, border index, ATC in MW, for each border. `M`, row index, state, RAM in
 /// grains, margin left in grains or "-" where the state isn't 0, for each row.
-/// `R`, rounds."  Last round and stopping row stand "after the ATC".
+/// `R`, rounds."  Last round and stopping row stand "after the ATC"; "-" where the
+/// border is not marked.
 fn outcome_text(outcome: &Outcome) -> Vec<u8> {
     let mut out = Vec::new();
     for (index, atc) in outcome.atc.iter().enumerate() {
         let last = outcome.last[index].to_string();
-        push_line(&mut out, "A", &[index.to_string(), atc.to_string(), last, outcome.stop[index].to_string()]);
+        let stop = match outcome.stop[index] {
+            Some(row) => row.to_string(),
+            None => "-".to_string(),
+        };
+        push_line(&mut out, "A", &[index.to_string(), atc.to_string(), last, stop]);
     }
     for (index, row) in outcome.rows.iter().enumerate() {
         let left = match row.left {
@@ -1298,8 +1381,17 @@ fn outcome_text(outcome: &Outcome) -> Vec<u8> {
 
 /// "result text is made from the tables"; its room is in bytes.
 pub fn result_text(lent: Lent, room: usize) -> Result<Vec<u8>, Refusal> {
+    result_text_by(lent, None, room)
+}
+
+/// The same where only the marked borders rise.
+pub fn result_text_marked(lent: Lent, marks: &[u64], room: usize) -> Result<Vec<u8>, Refusal> {
+    result_text_by(lent, Some(marks), room)
+}
+
+fn result_text_by(lent: Lent, marks: Option<&[u64]>, room: usize) -> Result<Vec<u8>, Refusal> {
     let tables = judge(lent)?;
-    let outcome = work(&tables)?;
+    let outcome = work(&tables, marks)?;
     let text = outcome_text(&outcome);
     judge_room(room, text.len())?;
     Ok(text)
@@ -1318,16 +1410,25 @@ const ALL_ROOM: [usize; 5] = [usize::MAX; 5];
 /// "The program reads the table on standard input and writes this, or one line
 /// `E`".
 pub fn answer(text: &[u8]) -> Vec<u8> {
-    let result = read(text, ALL_ROOM).and_then(|tables| result_text(tables.lend(), usize::MAX));
-    match result {
-        Ok(text) => text,
-        Err(refusal) => refusal_text(refusal),
-    }
+    answer_by(text, None)
+}
+
+/// The same where only the marked borders rise.
+pub fn answer_marked(text: &[u8], marks: &[u64]) -> Vec<u8> {
+    answer_by(text, Some(marks))
+}
+
+pub fn answer_by(text: &[u8], marks: Option<&[u64]>) -> Vec<u8> {
+    let tables = read(text, ALL_ROOM);
+    or_e_line(tables.and_then(|tables| result_text_by(tables.lend(), marks, usize::MAX)))
 }
 
 /// The table read and written again, or the E line.
 pub fn rewrite(text: &[u8]) -> Vec<u8> {
-    let result = read(text, ALL_ROOM).and_then(|tables| write(tables.lend(), usize::MAX));
+    or_e_line(read(text, ALL_ROOM).and_then(|tables| write(tables.lend(), usize::MAX)))
+}
+
+fn or_e_line(result: Result<Vec<u8>, Refusal>) -> Vec<u8> {
     match result {
         Ok(text) => text,
         Err(refusal) => refusal_text(refusal),

@@ -4,14 +4,14 @@ use crate::dice::Dice;
 use crate::lent::{needed, Counts, LentTables, KINDS};
 use crate::second::{self, Border, Header, Outcome, Refusal, Tables};
 use crate::second::{INTRADAY, LTA, MOST_BORDERS, MOST_ROWS, MOST_ZONES, NO_BYTE, NO_HUB, NO_SHARE, RECEIVING, SENDING};
-use crate::{damage, extracted, make, Comparison, TABLES, TEXTS};
+use crate::{damage, extracted, make, marks, Comparison, TABLES, TEXTS};
 
 impl Comparison {
     /// A refusal has left p as it was (the call has compared it).  Which one it
     /// was; where p is short, what it came before or after.
-    pub fn see_p(&mut self, l: &LentTables, room: [usize; 3], refusal: Refusal) {
+    pub fn see_p(&mut self, l: &LentTables, marks: Option<&[u64]>, room: [usize; 3], refusal: Refusal) {
         let h = l.header;
-        let whole = extracted(l, [usize::MAX, usize::MAX, usize::MAX]);
+        let whole = extracted(l, marks, [usize::MAX, usize::MAX, usize::MAX]);
         if room[0] >= h.rows.saturating_mul(h.borders) {
             // with enough room all over, the same refusal, or none
             match whole.err().map(|refusal| refusal.number) {
@@ -256,7 +256,7 @@ impl Comparison {
         let borders = t.header.borders;
         for border in 0..borders {
             let loads = |row: usize| o.p[row * borders + border] > 0;
-            let stop = o.stop[border];
+            let Some(stop) = o.stop[border] else { continue };
             if (0..stop).any(|row| o.rows[row].state != 0) {
                 self.see("stopped by a row after one not kept");
             }
@@ -350,20 +350,56 @@ pub fn wanted() -> Vec<(String, u64)> {
     let mut list: Vec<(String, u64)> = Vec::new();
     let mut add = |name: &str, count: u64| list.push((name.to_string(), count));
     for (call, numbers) in [
-        ("read", &[0u32, 1, 2, 3, 4, 8][..]),
+        ("keravnoth_read", &[0u32, 1, 2, 3, 4, 8][..]),
         ("keravnoth_write", &[0, 3, 4, 8]),
-        ("extract", &[0, 3, 4, 5, 6, 7, 8]),
+        ("keravnoth_extract", &[0, 3, 4, 5, 6, 7, 8]),
         ("keravnoth_result_text", &[0, 3, 4, 5, 6, 7, 8]),
         ("keravnoth_answer", &[0, 8]),
         ("keravnoth_corner_flows", &[0, 3, 4, 8, 9]),
         ("keravnoth_corner_text", &[0, 3, 4, 8, 9]),
+        ("keravnoth_extract_marked", &[0, 3, 4, 5, 6, 7, 8, 13]),
+        ("keravnoth_result_text_marked", &[0, 3, 4, 5, 6, 7, 8, 13]),
+        ("keravnoth_answer_marked", &[0, 8]),
     ] {
         for number in numbers {
             add(&format!("{call} {number}"), 100);
         }
     }
     for number in 1..=7 {
-        add(&format!("answer E {number}"), 100);
+        add(&format!("keravnoth_answer E {number}"), 100);
+        add(&format!("keravnoth_answer_marked E {number}"), 20);
+    }
+    add("keravnoth_answer_marked E 13", 100);
+    for number in [0, 4, 5, 6, 7] {
+        add(&format!("all marked, {number}"), 100);
+    }
+    for name in [
+        "one",
+        "some",
+        "all but one",
+        "where all would be refused with 6",
+        "a kept row that no marked border loads",
+        "an unmarked border above 0",
+        "intraday",
+        "an ATC above the ordinary one",
+        "fewer rounds than with all",
+        "another row stops a border",
+    ] {
+        add(&format!("marked, {name}"), 100);
+    }
+    for number in [5, 6, 7] {
+        add(&format!("13 before {number}"), 100);
+    }
+    add("13 before room for results", 200);
+    for number in [3, 4, 8] {
+        add(&format!("{number} before 13"), 50);
+    }
+    for number in [1, 2, 3, 4] {
+        add(&format!("text {number} before 13"), 20);
+    }
+    for way in 0..marks::BAD_LISTS {
+        let name = marks::bad_list(&mut Dice::new(0), 5, way).name;
+        add(&format!("bad marks, {name}"), 100);
     }
     for kind in ["H", "Z", "T", "B", "C"] {
         add(&format!("lent 3 {kind}"), 200);
@@ -375,7 +411,7 @@ pub fn wanted() -> Vec<(String, u64)> {
         add(&format!("read short {name}"), 200);
         add(&format!("lent short {name}"), 200);
     }
-    for number in [3, 4, 5, 6, 7] {
+    for number in [3, 4, 5, 6, 7, 13] {
         add(&format!("p stays on {number}"), 100);
         add(&format!("p short before {number}"), 100);
     }
@@ -456,13 +492,15 @@ pub fn wanted() -> Vec<(String, u64)> {
         add(&format!("intraday{name}"), count);
     }
     for (name, count) in [("without the rows of state 2", 100), ("in another order", 200), ("over states 0 and 2", 200)] {
-        for number in [0, 5, 6, 7] {
-            // a table whose rows are all under 5% has none of state 2
-            if number != 5 || name != "without the rows of state 2" {
-                add(&format!("{name}, {number}"), count);
+        for with in ["", ", marked"] {
+            for number in [0, 5, 6, 7] {
+                // a table whose rows are all under 5% has none of state 2
+                if number != 5 || name != "without the rows of state 2" {
+                    add(&format!("{name}{with}, {number}"), if with.is_empty() { count } else { count / 5 });
+                }
             }
+            add(&format!("{name}{with}, intraday"), if with.is_empty() { count } else { count / 5 });
         }
-        add(&format!("{name}, intraday"), count);
     }
     add("in another order, another row of a class is kept", 200);
     for name in [

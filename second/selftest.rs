@@ -26,6 +26,11 @@ fn out(t: &Tables) -> Result<Outcome, Refusal> {
     extract(t.lend(), usize::MAX, usize::MAX, usize::MAX)
 }
 
+/// The extraction where only the marked borders rise.
+fn marked(t: &Tables, marks: &[u64]) -> Result<Outcome, Refusal> {
+    extract_marked(t.lend(), marks, usize::MAX, usize::MAX, usize::MAX)
+}
+
 /// Lent tables without an item.
 fn nothing(header: Header) -> Lent<'static> {
     Lent { header, z: &[], t: &[], b: &[], c: &[], f: &[] }
@@ -999,26 +1004,26 @@ fn stopping_rows_by_hand() {
     let o = out(&t).unwrap();
     assert_eq!(o.rows.iter().map(|row| row.state).collect::<Vec<u8>>(), vec![1, 2, 0, 0, 0]);
     assert_eq!((o.rows[2].left, o.rows[3].left, o.rows[4].left), (Some(0), Some(0), Some(0)));
-    assert_eq!((&o.last[..], &o.stop[..]), (&[1][..], &[3][..]));
+    assert_eq!((o.last, o.stop), (vec![1], vec![Some(3)]));
     // the first with less than one kW, though a later one has less: p 30000 of 100 kW
     // leaves 10000 grains, p 20000 of 66.66 kW nothing
     let t = table("H 2 1 2 / Z 0 0 / Z 1 0 / B 0 0 1 0 / C 0 100 0 0 0 0 0 0 30000 0 / C 1 100 0 0 0 0 34 0 20000 0");
     let o = out(&t).unwrap();
     // 66 kW by 20000 is 330 kW, 100 kW by 30000 is 333 kW
     assert_eq!((o.kw[0], o.rows[0].left, o.rows[1].left), (330, Some(100_000), Some(0)));
-    assert_eq!(o.stop, vec![1]);
+    assert_eq!(o.stop, vec![Some(1)]);
     // an equal share: 3 p among two leaves p, which is more than none and no kW for each
     let t = table("H 3 2 1 / Z 0 0 / Z 1 0 / Z 2 0 / B 0 0 1 0 / B 1 0 2 0 / C 0 3 0 0 0 0 0 0 100000 0 0");
     let o = out(&t).unwrap();
-    assert_eq!((o.rows[0].left, o.stop, o.last), (Some(100_000), vec![0, 0], vec![1, 1]));
+    assert_eq!((o.rows[0].left, o.stop, o.last), (Some(100_000), vec![Some(0), Some(0)], vec![1, 1]));
     // never raised: nothing to begin with
     let t = table("H 2 1 1 / Z 0 0 / Z 1 0 / B 0 0 1 100 / C 0 10000 0 0 0 0 0 0 20000 0");
     let o = out(&t).unwrap();
-    assert_eq!((o.last, o.stop, o.rounds), (vec![0], vec![0], 0));
+    assert_eq!((o.last, o.stop, o.rounds), (vec![0], vec![Some(0)], 0));
     // intraday, a remainder below 0 stops it at once
     let t = read(&allocated_hour(" / T 0 500001 / T 1 -500001"), ALL).unwrap();
     let o = out(&t).unwrap();
-    assert_eq!((o.last, o.stop), (vec![0], vec![0]));
+    assert_eq!((o.last, o.stop), (vec![0], vec![Some(0)]));
 }
 
 /// The rounds again, from the table of p and the starting margins: the last round
@@ -1055,6 +1060,95 @@ fn last_rounds(t: &Tables, o: &Outcome) -> Vec<u64> {
         }
     }
     last
+}
+
+// ------------------------------------------------------------- marked borders
+
+#[test]
+fn worked_hour_marked_by_hand() {
+    let t = table(HOUR);
+    let rows_2_and_3 = "M 2 1 12499500000 - / M 3 2 100000000000 -";
+    // border 0 alone: row 0 has 6.6 x 10^10 for it and shares among one, 3,300,000 kW; row 1,
+    // which only border 1 loads, keeps 9 x 10^9 less its S of 10^9
+    let gives = format!("A 0 3400 1 0 / A 1 200 0 - / M 0 0 70000000000 0 / M 1 0 9000000000 8000000000 / {rows_2_and_3} / R 1");
+    assert_eq!(shown(&answer_marked(&text(HOUR), &[0])), gives);
+    assert_eq!(shown(&result_text_marked(t.lend(), &[0], usize::MAX).unwrap()), gives);
+    let o = marked(&t, &[0]).unwrap();
+    assert_eq!((o.n_most, o.l_bits), (1, 22));
+    assert_eq!(o.p, out(&t).unwrap().p);
+    // border 1 alone: row 1 has 8 x 10^9 by 5000, 1,600,000 kW, which takes 1.6 x 10^10 of row 0
+    let gives = format!("A 0 100 0 - / A 1 1800 1 1 / M 0 0 70000000000 50000000000 / M 1 0 9000000000 0 / {rows_2_and_3} / R 1");
+    assert_eq!(shown(&answer_marked(&text(HOUR), &[1])), gives);
+    let o = marked(&t, &[1]).unwrap();
+    assert_eq!((o.n_most, o.l_bits), (1, 21));
+    // both, in either order
+    for marks in [[0, 1], [1, 0]] {
+        assert_eq!(answer_marked(&text(HOUR), &marks), text(HOUR_GIVES));
+        assert_eq!(marked(&t, &marks), out(&t));
+    }
+    // intraday the other one stays at 0: 7 x 10^10 by 20000
+    let mut lines: Vec<&str> = HOUR.lines().collect();
+    lines.splice(4..4, ["T 0 0", "T 1 0", "T 2 0"]);
+    let gives = format!("A 0 3500 1 0 / A 1 0 0 - / M 0 0 70000000000 0 / M 1 0 9000000000 9000000000 / {rows_2_and_3} / R 1");
+    assert_eq!(shown(&answer_marked(&text(&lines.join("\n")), &[0])), gives);
+}
+
+#[test]
+fn bad_marks() {
+    let t = table(HOUR);
+    for (marks, place) in [
+        (&[][..], 0),
+        (&[2], 1),
+        (&[0, 0], 2),
+        (&[0, 2], 2),
+        (&[1, 0, 1], 3),
+        (&[1, 0, 0, 9], 3),
+        (&[9, 0, 0], 1),
+        (&[0, 1, 1 << 32], 3),
+        (&[u64::MAX], 1),
+        (&[1, 1 << 63], 2),
+        (&[0; 100], 2),
+    ] {
+        assert_eq!(marked(&t, marks), e(13, place), "{marks:?}");
+        assert_eq!(shown(&answer_marked(&text(HOUR), marks)), format!("E 13 {place} 0"));
+        assert_eq!(result_text_marked(t.lend(), marks, 0), e(13, place));
+        // before room for results, after everything else that is lent
+        assert_eq!(extract_marked(t.lend(), marks, 8, 0, 0), e(13, place));
+        assert_eq!(extract_marked(t.lend(), marks, 7, 2, 4), e(8, 8));
+    }
+    assert_eq!(extract_marked(t.lend(), &[0], 8, 1, 4), e(8, 2));
+    assert_eq!(extract_marked(t.lend(), &[0], 8, 2, 3), e(8, 4));
+    assert_eq!(shown(&answer_marked(b"", &[])), "E 2 1 0");
+    assert_eq!(shown(&answer_marked(&vec![b'0'; 65_537], &[])), "E 1 0 0");
+    // after 4, before 5
+    let twice = text("H 2 2 1 / Z 0 0 / Z 1 0 / B 0 0 1 0 / B 1 0 1 5 / C 0 1 0 0 0 0 0 0 5000 0");
+    assert_eq!(shown(&answer_marked(&twice, &[7])), "E 4 1 0");
+    let narrow = one_row("100000 0 0 0 0 0 0 4999 0");
+    assert_eq!(shown(&answer_marked(&narrow, &[1])), "E 13 1 0");
+    assert_eq!(shown(&answer_marked(&narrow, &[0])), "E 5 0 0");
+}
+
+#[test]
+fn marks_and_6_and_7() {
+    // border 1, from 1 to 0, loads no row
+    let back = text("H 2 2 1 / Z 0 0 / Z 1 0 / B 0 0 1 0 / B 1 1 0 3 / C 0 100000 0 0 0 0 0 0 20000 0");
+    assert_eq!(shown(&answer(&back)), "E 6 1 0");
+    assert_eq!(shown(&answer_marked(&back, &[1])), "E 6 1 0");
+    assert_eq!(shown(&answer_marked(&back, &[1, 0])), "E 6 1 0");
+    assert_eq!(shown(&answer_marked(&back, &[0])), "A 0 500 1 0 / A 1 3 0 - / M 0 0 10000000000 0 / R 1");
+    // S is over all borders: 100 MW of the unmarked border 1 use up the row, and IVA takes one
+    // kW more
+    let full = "H 3 2 1 / Z 0 0 / Z 1 0 / Z 2 0 / B 0 0 1 0 / B 1 0 2 100 / C 0 10000 0 0 0 0 0 0 20000 0 0";
+    let gives = "A 0 0 0 0 / A 1 100 0 - / M 0 0 2000000000 0 / R 0";
+    assert_eq!(shown(&answer_marked(&text(full), &[0])), gives);
+    let over = full.replace("0 0 0 0 20000", "0 0 0 1 20000");
+    assert_eq!(shown(&answer_marked(&text(&over), &[0])), "E 7 0 0");
+    // a row that no marked border loads is looked at too
+    let other = "H 3 2 2 / Z 0 0 / Z 1 0 / Z 2 0 / B 0 0 1 0 / B 1 0 2 100 / C 0 10000 0 0 0 0 0 0 20000 0 20000 / C 1 10000 0 0 0 0 0 1 20000 20000 0";
+    assert_eq!(shown(&answer_marked(&text(other), &[0])), "E 7 1 0");
+    // 6 before 7
+    assert_eq!(shown(&answer_marked(&text(&other.replace("0 1 0 /", "1 0 0 /")), &[0])), "E 6 0 0");
+    assert_eq!(shown(&answer_marked(&text(&other.replace("0 1 0 /", "1 0 0 /")), &[1])), "E 7 1 0");
 }
 
 // --------------------------------------------------------- intraday remainder
@@ -1785,7 +1879,7 @@ fn check_random(t: &Tables, seen: &mut [usize; 8]) {
                     }
                 }
             }
-            assert_eq!(stops, o.stop.iter().map(|row| Some(*row)).collect::<Vec<Option<usize>>>());
+            assert_eq!(stops, o.stop);
             assert_eq!(o.last, last_rounds(t, &o));
             assert_eq!(n_most, o.n_most);
             if h.borders == 1 && o.rows.iter().filter(|r| r.state == 0).count() == 1 {
@@ -1794,6 +1888,47 @@ fn check_random(t: &Tables, seen: &mut [usize; 8]) {
             }
             assert_eq!(answer(&bytes), result_text(t.lend(), usize::MAX).unwrap());
         }
+    }
+    // all borders marked, in any order
+    let all: Vec<u64> = (0..h.borders as u64).rev().collect();
+    assert_eq!(marked(t, &all), out(t));
+    assert_eq!(answer_marked(&bytes, &all), answer(&bytes));
+}
+
+/// Without LTA an unmarked border takes nothing, so the answer is that of the table
+/// of the marked borders alone.
+fn check_marked(t: &Tables, marks: &[u64], seen: &mut [usize; 8]) {
+    let mut t = t.clone();
+    for border in t.b.iter_mut() {
+        border[2] = 0;
+    }
+    let mut sorted = marks.to_vec();
+    sorted.sort();
+    let mut alone = t.clone();
+    alone.header.borders = marks.len();
+    alone.b = sorted.iter().map(|mark| t.b[*mark as usize]).collect();
+    match (marked(&t, marks), out(&alone)) {
+        (Err(one), Err(other)) => {
+            seen[one.number as usize] += 1;
+            let place = if other.number == 6 { sorted[other.place] as usize } else { other.place };
+            assert_eq!((one.number, one.place), (other.number, place));
+        }
+        (Ok(one), Ok(other)) => {
+            seen[0] += 1;
+            assert_eq!((&one.rows, one.rounds, one.n_most, one.l_bits), (&other.rows, other.rounds, other.n_most, other.l_bits));
+            for border in 0..t.header.borders {
+                match sorted.iter().position(|mark| *mark == border as u64) {
+                    Some(at) => assert_eq!(
+                        (one.kw[border], one.last[border], one.stop[border]),
+                        (other.kw[at], other.last[at], other.stop[at])
+                    ),
+                    None => assert_eq!((one.kw[border], one.last[border], one.stop[border]), (0, 0, None)),
+                }
+            }
+            // p of all borders
+            assert_eq!(one.p.len(), t.header.rows * t.header.borders);
+        }
+        other => panic!("one is refused and not the other: {other:?}"),
     }
 }
 
@@ -1812,6 +1947,24 @@ fn random_small_and_large() {
     }
     println!("accepted, one border and one kept row, ., ., ., 5, 6, 7: {seen:?}");
     assert!(seen[0] > 300 && seen[1] > 20 && seen[5] > 5 && seen[6] > 20 && seen[7] > 5);
+}
+
+#[test]
+fn random_marks() {
+    let mut d = Dice(13);
+    let mut seen = [0; 8];
+    for _ in 0..4_000 {
+        let t = random_tables(&mut d, 8, 12);
+        let mut marks: Vec<u64> = (0..t.header.borders as u64).filter(|_| d.one_in(2)).collect();
+        if d.one_in(2) {
+            marks.reverse();
+        }
+        if !marks.is_empty() {
+            check_marked(&t, &marks, &mut seen);
+        }
+    }
+    println!("accepted, ., ., ., ., 5, 6, 7: {seen:?}");
+    assert!(seen[0] > 300 && seen[5] > 5 && seen[6] > 20 && seen[7] > 5);
 }
 
 #[test]

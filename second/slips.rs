@@ -1,6 +1,6 @@
-//! Tests the comparer: one slip at a time is put into the stand-in (mock.rs
-//! and second.rs), and the comparer must see each, as a difference.  Without a
-//! slip it must pass.
+//! Tests the comparer: one slip at a time is put into the stand-in (mock.rs,
+//! second.rs and its parts), and the comparer must see each, as a difference.
+//! Without a slip it must pass.
 //!
 //! `second/slips` builds and runs it.
 //! An argument: only the slips whose name contains it.
@@ -30,8 +30,8 @@ const SLIPS: &[Slip] = &[
     slip(
         "extraction writes atc before it refuses for row results",
         "mock.rs",
-        "    match second::extract(l.lend(), p.len(), atc.len(), left.len()) {",
-        "    if let Ok(o) = second::extract(l.lend(), p.len(), atc.len(), usize::MAX) {\n        atc[0] = [o.atc[0] as i64; 3];\n    }\n    match second::extract(l.lend(), p.len(), atc.len(), left.len()) {",
+        "    let found = match marks {\n        Some(marks) => second::extract_marked(",
+        "    if let Ok(o) = second::extract(l.lend(), p.len(), atc.len(), usize::MAX) {\n        atc[0] = [o.atc[0] as i64; 3];\n    }\n    let found = match marks {\n        Some(marks) => second::extract_marked(",
     ),
     slip(
         "answer writes the first byte before it refuses for room",
@@ -97,8 +97,8 @@ const SLIPS: &[Slip] = &[
     slip(
         "room for results judged before 5, 6, 7",
         "second.rs",
-        "    let outcome = work(&tables)?;\n    judge_room(room_borders, header.borders)?;",
-        "    judge_room(room_borders, header.borders)?;\n    let outcome = work(&tables)?;",
+        "    let outcome = work(&tables, marks)?;\n    judge_room(room_borders, header.borders)?;",
+        "    judge_room(room_borders, header.borders)?;\n    let outcome = work(&tables, marks)?;",
     ),
     slip(
         "reading judges room before borders given twice",
@@ -184,11 +184,11 @@ const SLIPS: &[Slip] = &[
     // ---- extraction
     slip("6 looks at rows under 5% too", "second.rs", "        if states[row] != 0 {\n            continue;", "        if states[row] == 2 {\n            continue;"),
     slip("7 does not look at rows that no border loads", "second.rs", "        if row.margin < 0 {", "        if row.margin < 0 && row.n > 0 {"),
-    slip("7 judged before 6", "second.rs", "    judge_borders_limited(&kept, borders)?;\n    judge_starting_margins(&kept)?;", "    judge_starting_margins(&kept)?;\n    judge_borders_limited(&kept, borders)?;"),
+    slip("7 judged before 6", "second.rs", "    judge_borders_limited(&kept, &marked)?;\n    judge_starting_margins(&kept)?;", "    judge_starting_margins(&kept)?;\n    judge_borders_limited(&kept, &marked)?;"),
     slip("a relieving factor gains margin", "second.rs", "                loss += row.p[border] * raises[border];", "                loss += signed_factor(factors_of(tables, row.row), &tables.b[border]) * raises[border];\n                // it would go on for ever\n                if rounds > 10_000 {\n                    return refuse(7, row.row);\n                }"),
     slip("n counts relieving borders", "second.rs", "        let n = p.iter().filter(|p| **p > 0).count() as i128;", "        let factors = factors_of(tables, row);\n        let n = tables.b.iter().filter(|b| signed_factor(factors, b) != 0).count() as i128;"),
     slip("division by n rounds up", "second.rs", "            let share = floor_div(row.margin, row.n);", "            let share = floor_div(row.margin + row.n - 1, row.n);"),
-    slip("raises from margins just lowered", "second.rs", "        let raises: Vec<i128> =\n            (0..borders).map(|border| raise_of(&kept, border, &mut divisions)).collect();", "        let before: Vec<i128> = kept.iter().map(|row| row.margin).collect();\n        let mut raises: Vec<i128> = Vec::new();\n        for border in 0..borders {\n            let raise = raise_of(&kept, border, &mut divisions);\n            for row in kept.iter_mut() {\n                row.margin -= row.p[border] * raise;\n            }\n            raises.push(raise);\n        }\n        for (row, before) in kept.iter_mut().zip(before) {\n            row.margin = before;\n        }"),
+    slip("raises from margins just lowered", "second.rs", "        let raises: Vec<i128> = (0..borders).map(&mut raise).collect();", "        let before: Vec<i128> = kept.iter().map(|row| row.margin).collect();\n        let mut raises: Vec<i128> = Vec::new();\n        for border in 0..borders {\n            let raise = if marked[border] { raise_of(&kept, border, &mut divisions) } else { 0 };\n            for row in kept.iter_mut() {\n                row.margin -= row.p[border] * raise;\n            }\n            raises.push(raise);\n        }\n        for (row, before) in kept.iter_mut().zip(before) {\n            row.margin = before;\n        }"),
     slip("cut to MW in each round", "second.rs", "            kw[border] += raises[border];", "            kw[border] += raises[border];\n            kw[border] -= kw[border] % KW_PER_MW;"),
     slip("borders start at 0", "second.rs", "        0\n    } else {\n        lta_kw(border)", "        0\n    } else {\n        0"),
     slip("ATC cut to 32 bits", "second.rs", "floor_div(*kw, KW_PER_MW) as u64).collect()", "floor_div(*kw, KW_PER_MW) as u32 as u64).collect()"),
@@ -547,32 +547,32 @@ const SLIPS: &[Slip] = &[
     slip(
         "stop: the record has the row before the round",
         "mock.rs",
-        "[*mw as i64, outcome.last[border] as i64, outcome.stop[border] as i64]",
-        "[*mw as i64, outcome.stop[border] as i64, outcome.last[border] as i64]",
+        "[*mw as i64, outcome.last[border] as i64, stop]",
+        "[*mw as i64, stop, outcome.last[border] as i64]",
     ),
     slip(
         "stop: the record has the number of rounds",
         "mock.rs",
-        "[*mw as i64, outcome.last[border] as i64, outcome.stop[border] as i64]",
-        "[*mw as i64, outcome.rounds as i64, outcome.stop[border] as i64]",
+        "[*mw as i64, outcome.last[border] as i64, stop]",
+        "[*mw as i64, outcome.rounds as i64, stop]",
     ),
     slip(
         "stop: the A line has the row before the round",
         "second.rs",
-        "atc.to_string(), last, outcome.stop[index].to_string()]",
-        "atc.to_string(), outcome.stop[index].to_string(), last]",
+        "atc.to_string(), last, stop]",
+        "atc.to_string(), stop, last]",
     ),
     slip(
         "stop: the A line as it was",
         "second.rs",
-        "        push_line(&mut out, \"A\", &[index.to_string(), atc.to_string(), last, outcome.stop[index].to_string()]);",
-        "        let _ = last;\n        push_line(&mut out, \"A\", &[index.to_string(), atc.to_string()]);",
+        "        push_line(&mut out, \"A\", &[index.to_string(), atc.to_string(), last, stop]);",
+        "        let _ = (last, stop);\n        push_line(&mut out, \"A\", &[index.to_string(), atc.to_string()]);",
     ),
     slip(
         "stop: the A line has rows from 1",
         "second.rs",
-        "last, outcome.stop[index].to_string()]",
-        "last, (outcome.stop[index] + 1).to_string()]",
+        "            Some(row) => row.to_string(),",
+        "            Some(row) => (row + 1).to_string(),",
     ),
     // ---- intraday remainder
     slip(
@@ -866,8 +866,8 @@ const SLIPS: &[Slip] = &[
     slip(
         "intraday: the extraction changes T",
         "mock.rs",
-        "    match second::extract(l.lend(), p.len(), atc.len(), left.len()) {",
-        "    let found = second::extract(l.lend(), p.len(), atc.len(), left.len());\n    if found.is_ok() && l.header.intraday == 1 {\n        l.t[0] += 1;\n    }\n    match found {",
+        "    match found {\n        Err(refusal) => refused(refusal),\n        Ok(outcome) => {\n            p[",
+        "    if found.is_ok() && l.header.intraday == 1 {\n        l.t[0] += 1;\n    }\n    match found {\n        Err(refusal) => refused(refusal),\n        Ok(outcome) => {\n            p[",
     ),
     // ---- the default of R
     slip(
@@ -1311,8 +1311,8 @@ const SLIPS: &[Slip] = &[
     slip(
         "p: written before it refuses for results",
         "mock.rs",
-        "    match second::extract(l.lend(), p.len(), atc.len(), left.len()) {",
-        "    if let Ok(o) = second::extract(l.lend(), p.len(), usize::MAX, usize::MAX) {\n        p[..o.p.len()].copy_from_slice(&o.p);\n    }\n    match second::extract(l.lend(), p.len(), atc.len(), left.len()) {",
+        "    let found = match marks {\n        Some(marks) => second::extract_marked(",
+        "    if let Ok(o) = second::extract(l.lend(), p.len(), usize::MAX, usize::MAX) {\n        p[..o.p.len()].copy_from_slice(&o.p);\n    }\n    let found = match marks {\n        Some(marks) => second::extract_marked(",
     ),
     slip(
         "p: cleared before it refuses with 7",
@@ -1383,8 +1383,147 @@ const SLIPS: &[Slip] = &[
     slip(
         "p: judged with the room for results",
         "second.rs",
-        "    judge_room(room_p, header.rows * header.borders)?;\n    judge_values(&tables)?;\n    let outcome = work(&tables)?;",
-        "    judge_values(&tables)?;\n    let outcome = work(&tables)?;\n    judge_room(room_p, header.rows * header.borders)?;",
+        "    judge_room(room_p, header.rows * header.borders)?;\n    judge_values(&tables)?;\n    let outcome = work(&tables, marks)?;",
+        "    judge_values(&tables)?;\n    let outcome = work(&tables, marks)?;\n    judge_room(room_p, header.rows * header.borders)?;",
+    ),
+    // ---- marked borders
+    slip(
+        "marks: n counts all borders",
+        "second.rs",
+        "        let n = p.iter().filter(|p| **p > 0).count() as i128;",
+        "        let n = own.iter().filter(|p| **p > 0).count() as i128;",
+    ),
+    slip(
+        "marks: S over the marked borders alone",
+        "second.rs",
+        "        let margin = starting_margin(tables, row, &margins[row]);",
+        "        let mut margin = starting_margin(tables, row, &margins[row]);\n        for border in 0..borders {\n            if !marked[border] && tables.header.intraday != INTRADAY {\n                margin += i128::from(own[border]) * lta_kw(&tables.b[border]);\n            }\n        }",
+    ),
+    slip(
+        "marks: 6 looks at all borders",
+        "second.rs",
+        "    judge_borders_limited(&kept, &marked)?;",
+        "    judge_borders_limited(&kept_rows(tables, &margins, &states, &p, &vec![true; borders]), &vec![true; borders])?;",
+    ),
+    slip(
+        "marks: 6 names the position in the list",
+        "second.rs",
+        "    judge_borders_limited(&kept, &marked)?;",
+        "    judge_borders_limited(&kept, &marked).map_err(|refusal| {\n        let place = marks.and_then(|marks| marks.iter().position(|mark| *mark == refusal.place as u64));\n        Refusal { place: place.unwrap_or(refusal.place), ..refusal }\n    })?;",
+    ),
+    slip(
+        "marks: 7 looks at rows that a marked border loads",
+        "second.rs",
+        "    judge_starting_margins(&kept)?;\n    Ok(Start",
+        "    if !marked.contains(&false) || kept.iter().any(|row| row.margin < 0 && row.n > 0) {\n        judge_starting_margins(&kept)?;\n    }\n    Ok(Start",
+    ),
+    slip(
+        "marks: an unmarked border starts at 0",
+        "second.rs",
+        "    let mut rounds: u64 = 0;\n    let mut last",
+        "    for border in (0..borders).filter(|border| !marked[*border]) {\n        kw[border] = 0;\n    }\n    let mut rounds: u64 = 0;\n    let mut last",
+    ),
+    slip(
+        "marks: the table of p has 0 at unmarked borders",
+        "second.rs",
+        "    let stop = (0..borders)",
+        "    let p: Vec<u64> = p.iter().enumerate().map(|(at, p)| if marked[at % borders] { *p } else { 0 }).collect();\n    let stop = (0..borders)",
+    ),
+    slip(
+        "marks: an unmarked border has a row that stops it",
+        "second.rs",
+        "marked[border].then(|| stopping_row(&kept, border))",
+        "marked[border].then(|| stopping_row(&kept, border)).or_else(|| kept.iter().find(|row| row.margin == 0).map(|row| row.row))",
+    ),
+    slip(
+        "marks: an unmarked border has the last round of all",
+        "second.rs",
+        "        rounds += 1;\n    }\n\n    let stop =",
+        "        rounds += 1;\n    }\n    for border in (0..borders).filter(|border| !marked[*border]) {\n        last[border] = rounds;\n    }\n\n    let stop =",
+    ),
+    slip(
+        "marks: row 0 for \"-\"",
+        "second.rs",
+        "            None => \"-\".to_string(),\n        };\n        push_line(&mut out, \"A\"",
+        "            None => \"0\".to_string(),\n        };\n        push_line(&mut out, \"A\"",
+    ),
+    slip(
+        "marks: an empty list marks all",
+        "second.rs",
+        "    if marks.is_empty() {\n        return refuse(13, 0);\n    }",
+        "    if marks.is_empty() {\n        return Ok(vec![true; borders]);\n    }",
+    ),
+    slip(
+        "marks: a mark twice is let through",
+        "second.rs",
+        "        if *mark >= borders as u64 || marks[..place].contains(mark) {",
+        "        if *mark >= borders as u64 {",
+    ),
+    slip(
+        "marks: a mark twice only next to each other",
+        "second.rs",
+        "        if *mark >= borders as u64 || marks[..place].contains(mark) {",
+        "        if *mark >= borders as u64 || place > 0 && marks[place - 1] == *mark {",
+    ),
+    slip(
+        "marks: positions from 0",
+        "second.rs",
+        "            return refuse(13, place + 1);",
+        "            return refuse(13, place);",
+    ),
+    slip(
+        "marks: the earlier position of two",
+        "second.rs",
+        "            return refuse(13, place + 1);",
+        "            return refuse(13, 1 + marks.iter().position(|other| other == mark).unwrap());",
+    ),
+    slip(
+        "marks: the mark and not its position",
+        "second.rs",
+        "            return refuse(13, place + 1);",
+        "            return refuse(13, *mark as usize);",
+    ),
+    slip(
+        "marks: those beyond the borders before those given twice",
+        "second.rs",
+        "    let mut marked = vec![false; borders];",
+        "    if let Some(place) = marks.iter().position(|mark| *mark >= borders as u64) {\n        return refuse(13, place + 1);\n    }\n    let mut marked = vec![false; borders];",
+    ),
+    slip(
+        "marks: a mark cut to 32 bits",
+        "second.rs",
+        "    for (place, mark) in marks.iter().enumerate() {",
+        "    for (place, mark) in marks.iter().enumerate() {\n        let mark = &(*mark & 0xFFFF_FFFF);",
+    ),
+    slip(
+        "marks: 5 before 13",
+        "second.rs",
+        "    let marked = rising(marks, borders)?;\n",
+        "    if (0..tables.header.rows).all(|row| spread(factors_of(tables, row)) < SPREAD_KEPT) {\n        return refuse(5, 0);\n    }\n    let marked = rising(marks, borders)?;\n",
+    ),
+    slip(
+        "marks: 13 before 4",
+        "second.rs",
+        "    judge_values(&tables)?;\n    let outcome",
+        "    judge_records(&tables)?;\n    rising(marks, header.borders)?;\n    judge_values(&tables)?;\n    let outcome",
+    ),
+    slip(
+        "marks: 13 before lengths",
+        "second.rs",
+        "    let tables = front_of(lent)?;\n    judge_room(room_p",
+        "    if fault_h(&header).is_none() {\n        rising(marks, header.borders)?;\n    }\n    let tables = front_of(lent)?;\n    judge_room(room_p",
+    ),
+    slip(
+        "marks: the list is sorted where it lies",
+        "mock.rs",
+        "            let marks = request.lent(wire::MARKS)?;\n            let text",
+        "            let mut marks: Lent<u64> = request.lent(wire::MARKS)?;\n            marks.sort();\n            let text",
+    ),
+    slip(
+        "marks: of the answer the rest of the room is cleared",
+        "mock.rs",
+        "    let answer = second::answer_marked(text, marks);",
+        "    let answer = second::answer_marked(text, marks);\n    if out.len() > answer.len() {\n        out[answer.len()..].fill(0);\n    }",
     ),
     // ---- corner sheet
     slip(
@@ -1511,7 +1650,7 @@ const SLIPS: &[Slip] = &[
         "corner flows: 5, 6 and 7 judged",
         "second.rs",
         "    let tables = judge(lent)?;\n    judge_sheet(tables.header, row)?;\n    let flows = flows_of(",
-        "    let tables = judge(lent)?;\n    judge_sheet(lent.header, row)?;\n    work(&tables)?;\n    let flows = flows_of(",
+        "    let tables = judge(lent)?;\n    judge_sheet(lent.header, row)?;\n    work(&tables, None)?;\n    let flows = flows_of(",
     ),
     slip(
         "corner text: 9 judged before 4",
@@ -1529,7 +1668,7 @@ const SLIPS: &[Slip] = &[
         "corner text: 5, 6 and 7 judged",
         "second.rs",
         "    let tables = judge(lent)?;\n    judge_sheet(tables.header, row)?;\n    let text = sheet_text(",
-        "    let tables = judge(lent)?;\n    judge_sheet(lent.header, row)?;\n    work(&tables)?;\n    let text = sheet_text(",
+        "    let tables = judge(lent)?;\n    judge_sheet(lent.header, row)?;\n    work(&tables, None)?;\n    let text = sheet_text(",
     ),
     slip(
         "corner flows: the room judged before 9",
@@ -1593,6 +1732,9 @@ const SLIPS: &[Slip] = &[
     ),
 ];
 
+/// What the stand-in is made of.
+const FILES: [&str; 3] = ["mock.rs", "second.rs", "wire.rs"];
+
 fn build(source: &Path, program: &Path) -> bool {
     Command::new("rustc")
         .args(["-O", "--edition", "2021", "-A", "warnings"])
@@ -1630,17 +1772,15 @@ fn main() {
     std::fs::create_dir_all(work).expect("target/second/slips");
     let text_of = |file: &str| std::fs::read_to_string(file).expect(file);
     let put = |file: &str, text: &str| std::fs::write(work.join(file), text).expect(file);
-    let second = text_of("second.rs");
-    let mock = text_of("mock.rs");
+    let texts = FILES.map(text_of);
     let stand_in = || build(&work.join("mock.rs"), &work.join("mock"));
 
-    let source = |slip: &Slip| if slip.file == "mock.rs" { &mock } else { &second };
+    let source = |slip: &Slip| &texts[FILES.iter().position(|file| *file == slip.file).expect(slip.file)];
     let stale = |slip: &&Slip| source(slip).matches(slip.old).count() != 1;
     let stale: Vec<&str> = SLIPS.iter().filter(stale).map(|slip| slip.name).collect();
     assert!(stale.is_empty(), "slips whose old text is not there once: {}", stale.join("; "));
-    put("second.rs", &second);
-    put("mock.rs", &mock);
-    put("wire.rs", &text_of("wire.rs"));
+    let put_all = || FILES.iter().zip(&texts).for_each(|(file, text)| put(file, text));
+    put_all();
     assert!(stand_in(), "the stand-in does not build");
     assert!(build(Path::new("compare.rs"), &work.join("compare")), "the comparer does not build");
     let (code, output) = compare(work, &["2000", "2000"]);
@@ -1651,8 +1791,7 @@ fn main() {
     let mut tried = 0;
     for slip in SLIPS.iter().filter(|slip| slip.name.contains(&only)) {
         tried += 1;
-        put("second.rs", &second);
-        put("mock.rs", &mock);
+        put_all();
         put(slip.file, &source(slip).replace(slip.old, slip.new));
         assert!(stand_in(), "{}: does not build", slip.name);
         // the default size, for it ends at the first difference

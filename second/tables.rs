@@ -74,7 +74,10 @@ impl Comparison {
 
         if !heavy || d.one_in(4) {
             self.defaults(d, &t, &outcome, &answer);
-            self.shortening(d, &t);
+            self.shortening(d, &t, None);
+        }
+        if !heavy && d.one_in(2) || d.one_in(8) {
+            self.marked(d, &t, &outcome, &answer);
         }
 
         // a sheet doubles with each border: large ones mostly by `sheet_table`
@@ -321,6 +324,9 @@ impl Comparison {
         let short = d.one_in(8);
         let room = if short { d.below(answer.len()) } else { answer.len() + d.below(4) };
         self.answer(d, &text, &answer, room);
+        if d.one_in(4) {
+            self.marked_text(d, &text, h.borders);
+        }
         if let Ok(tables) = &reference {
             self.see("damaged text that is taken");
             let counts = with_extra(d, needed);

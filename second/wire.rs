@@ -2,13 +2,13 @@
 //! makes the calls: c/bridge.c over a library, mock.rs over the reference
 //! calculator.  A word has 64 bits, the least byte first.
 //!
-//! A request: eighteen words, then the lent buffers.  The words are the call, its
+//! A request: WORDS words, then the lent buffers.  The words are the call, its
 //! header (zones, borders, rows, share, intraday) and its row (each 0 where the
-//! call takes none), and the counts of items of z, t, b, c, f, p, atc, left, flows,
-//! text and out (0 where the call does not take that buffer).  The buffers that the
-//! call takes follow in this order, each with BEFORE items before the lent part and
-//! AFTER items after it; an item is as many words as it has numbers, and a byte
-//! for text and out.
+//! call takes none), and the counts of items of z, t, b, c, f, p, marks, atc, left,
+//! flows, text and out (0 where the call does not take that
+//! buffer).  The buffers that the call takes follow in this order, each with BEFORE
+//! items before the lent part and AFTER items after it; an item is as many words as it has
+//! numbers, and a byte for text and out.
 //!
 //! An answer: the fields of the call's struct, a word each, then the same
 //! buffers as the call left them.
@@ -24,13 +24,16 @@ pub const RESULT_TEXT: u64 = 4;
 pub const ANSWER: u64 = 5;
 pub const CORNER_FLOWS: u64 = 6;
 pub const CORNER_TEXT: u64 = 7;
+pub const EXTRACT_MARKED: u64 = 8;
+pub const RESULT_TEXT_MARKED: u64 = 9;
+pub const ANSWER_MARKED: u64 = 10;
 
 /// Items before and after the lent part that nobody may touch.
 pub const BEFORE: usize = 2;
 pub const AFTER: usize = 3;
 
 /// The words of a request.
-pub const WORDS: usize = 18;
+pub const WORDS: usize = 19;
 
 /// Where the header's words begin among them, and how many there are.
 pub const HEADER: usize = 1;
@@ -46,11 +49,12 @@ pub const B: usize = 9;
 pub const C: usize = 10;
 pub const F: usize = 11;
 pub const P: usize = 12;
-pub const ATC: usize = 13;
-pub const LEFT: usize = 14;
-pub const FLOWS: usize = 15;
-pub const TEXT: usize = 16;
-pub const OUT: usize = 17;
+pub const MARKS: usize = 13;
+pub const ATC: usize = 14;
+pub const LEFT: usize = 15;
+pub const FLOWS: usize = 16;
+pub const TEXT: usize = 17;
+pub const OUT: usize = 18;
 
 /// An item of a lent buffer as bytes.
 pub trait Item: Copy {

@@ -15,11 +15,12 @@ use Rattle.kinds.specs.Refusals.{Judged, passed, refused, then, either}
 use Rattle.kinds.proofs.RefusalLaws.{then-passed, then-next, either-passed}
 use Rattle.text.specs.Written.{textOf, decimal, fieldsText, lineText, linesText}
 use Rattle.table.specs.Table.{Table, rowAt}
+use Rattle.table.specs.Good.{Good}
 use Rattle.reading.specs.Reading.{readText}
 use Rattle.reading.proofs.ReadLaws.{read-good}
 use Rattle.start.specs.Setup.{gridBy, judgeBy}
 use Rattle.start.specs.Start.{every, judgeTable, setupWith}
-use Rattle.extraction.specs.Extraction.{Result, outcomeOf, atcRecord, rowRecord}
+use Rattle.extraction.specs.Extraction.{Result, outcomeMarked, outcomeOf, outcomeFor, atcRecord, rowRecord}
 use Rattle.promises.specs.Demand.{Demand3}
 use Rattle.promises.specs.DemandIn.{intradayRoundsMost, IntradayDemand3}
 use Rattle.promises.proofs.Demand3.{accepted-demand-3, accepted-intraday, accepted-rounds}
@@ -28,36 +29,41 @@ use Rattle.promises.proofs.Seven.{no-refusal-7}
 use Rattle.promises.proofs.ToldLaws.{Says, Told, told-passed, told-then, told-unless, told-first}
 use Rattle.result.specs.Records.{atcAt, marginAt, recordsText}
 use Rattle.result.specs.Refusal.{refusalText}
-use Rattle.answer.specs.Result.{resultText, answerText}
+use Rattle.answer.specs.Result.{resultText, answerFor, answerText}
 
 -- ---- demand 3
--- the text is a table's, and what is printed the text of a result that demand 3 is true of
-pub record TextDemand3 (text : List ℕ) : Type 0 where
+-- what was read is a table, and what is printed the text of a result that demand 3 is true of
+pub record TextDemand3 (read : Judged Table) (answered : List ℕ) : Type 0 where
   pub table : Table
   pub result : Result
-  pub read : readText text ≡ passed table
-  pub printed : answerText text ≡ resultText result
+  pub is : read ≡ passed table
+  pub printed : answered ≡ resultText result
   -- in the words of its profile: 01's, or E12's and at most 6,272 rounds
   pub demand : isIntraday (table .header) ≡ false → Demand3 table result
   pub intraday : isIntraday (table .header) ≡ true → IntradayDemand3 table every (table .allocated) result × (result .outcome .rounds ≤ intradayRoundsMost)
 
--- every text that is answered with results: an E line is the only other answer
-pub answer-demand-3 : (text : List ℕ) → (at (answerText text) 0 ≡ code "E" → ⊥) → TextDemand3 text
-unfolding answerText either refusalText lineText
-answer-demand-3 text = go (then (readText text) outcomeOf) refl
+judged-demand-3 : (read : Judged Table) → ((t : Table) → read ≡ passed t → Good t) → (at (either (then read outcomeOf) resultText refusalText) 0 ≡ code "E" → ⊥)
+    → TextDemand3 read (either (then read outcomeOf) resultText refusalText)
+unfolding either refusalText lineText
+judged-demand-3 read good = go (then read outcomeOf) refl
   where
-    go : (j : Judged Result) → then (readText text) outcomeOf ≡ j → (at (either j resultText refusalText) 0 ≡ code "E" → ⊥) → TextDemand3 text
+    go : (j : Judged Result) → then read outcomeOf ≡ j → (at (either j resultText refusalText) 0 ≡ code "E" → ⊥) → TextDemand3 read (either (then read outcomeOf) resultText refusalText)
     go (refused w) q h = absurd (h refl)
     go (passed r) q h =
-        let a = then-passed (readText text) outcomeOf r q in
+        let a = then-passed read outcomeOf r q in
         record {
           table = a .it;
           result = r;
-          read = a .first;
+          is = a .first;
           printed = either-passed resultText refusalText q;
-          demand = λ day. accepted-demand-3 (a .it) r (read-good text (a .it) (a .first)) day (a .second);
-          intraday = λ late. (accepted-intraday (a .it) late r (a .second), accepted-rounds (a .it) late r (read-good text (a .it) (a .first)) (a .second));
+          demand = λ day. accepted-demand-3 (a .it) r (good (a .it) (a .first)) day (a .second);
+          intraday = λ late. (accepted-intraday (a .it) late r (a .second), accepted-rounds (a .it) late r (good (a .it) (a .first)) (a .second));
         }
+
+-- every text that is answered with results: an E line is the only other answer
+pub answer-demand-3 : (text : List ℕ) → (at (answerText text) 0 ≡ code "E" → ⊥) → TextDemand3 (readText text) (answerText text)
+unfolding answerText answerFor outcomeFor outcomeOf
+answer-demand-3 text = judged-demand-3 (readText text) (read-good text)
 
 -- ---- no refusal 7
 -- the outcome of a table is refused by 5, 6 or 7 alone
@@ -65,7 +71,7 @@ abbrev Late : ℕ → Type 0
 Late n = (n ≡ 5) ⊎ ((n ≡ 6) ⊎ (n ≡ 7))
 
 outcome-late : (t : Table) → Told Late (outcomeOf t)
-unfolding outcomeOf judgeBy gridBy setupWith
+unfolding outcomeOf outcomeMarked judgeBy gridBy setupWith
 outcome-late t =
     told-then (judgeTable t) _
     (told-unless _ _ _ (inl refl) (told-first _ _ _ _ (λ b. inr (inl refl)) (told-first _ _ _ _ (λ i. inr (inr refl)) (told-passed _))))
@@ -87,7 +93,7 @@ result-letter r =
 pub answer-not-7 : (text : List ℕ) (t : Table) → readText text ≡ passed t
     → ((i : ℕ) → i < t .header .rows → rowAt t i .cva ≡ pos 0) → ((i : ℕ) → i < t .header .rows → rowAt t i .iva ≡ pos 0)
     → at (answerText text) 0 ≡ code "E" → at (answerText text) 2 ≡ code "7" → ⊥
-unfolding answerText either refusalText lineText fieldsText decimal textOf
+unfolding answerText answerFor outcomeFor outcomeOf either refusalText lineText fieldsText decimal textOf
 answer-not-7 text t read cva iva e k = go (outcomeOf t) (outcome-late t .says) (no-refusal-7 t cva iva) (byte 0 ∙ e) (byte 2 ∙ k)
   where
     byte : (i : ℕ) → at (either (outcomeOf t) resultText refusalText) i ≡ at (answerText text) i

@@ -1,4 +1,5 @@
 pub mod OutcomeLaws
 pub mod ReadLaws
 pub mod Demand
+pub mod EveryMark
 pub mod Unique

@@ -1,6 +1,7 @@
--- The outcome of lent tables as the code comes to it: what `extract` answers, with room for the most results, and the text that is made of it. No contract cites this file.
--- In order: the outcome's header; what `extract` answered; making the text; what `result_text` and `answer` do with it.
+-- The outcome of lent tables as the code comes to it: what `extract_for` answers, with room for the most results, and the text that is made of it. No contract cites this file.
+-- In order: the outcome's header; what `extract_for` answered; making the text; what `result_text` and `answer` do with it.
 use mathlib.Core.Path.{_≡_, refl, sym, ap, ap₂, _∙_}
+use mathlib.Core.Bool.{Bool}
 use mathlib.Core.List.{List}
 use Prim.Native.Nat.{ℕ, _*_, _≤_}
 use native.Mathlib.Omega.{arith}
@@ -21,16 +22,18 @@ use Rattle.kinds.proofs.KindLaws.{header-in}
 use Rattle.kinds.proofs.RefusalLaws.{passed-is, refused-is, not-passed, then-passed, then-next, then-refused, either-passed, either-refused}
 use Rattle.text.specs.Left.{TextLeft, textLeft, textSaid}
 use Rattle.text.proofs.LeftLaws.{text-refused}
+use Rattle.marks.specs.Marks.{mayRise}
 use Rattle.table.specs.Table.{Table, judgeLent}
 use Rattle.table.proofs.GoodLaws.{judged-front, judged-good}
-use Rattle.extraction.specs.Extraction.{Result, resultOf, outcomeOf, atcRecord, rowRecord, ExtractLeft, leaves, resultStored, extractLeft}
+use Rattle.extraction.specs.Extraction.{Result, resultMarked, outcomeFor, atcRecord, rowRecord, ExtractLeft, leaves, resultStored, extractFor}
 use Rattle.extraction.proofs.AcceptedLaws.{accepted}
 use Rattle.extraction.proofs.LentLaws.{extract-roomy}
+use Rattle.extraction.proofs.MarkedLaws.{for-is}
 use Rattle.result.specs.Records.{recordsText}
 use Rattle.result.specs.Refusal.{refusalText}
 use Rattle.answer.specs.declared.made.Made.{Made}
 use Rattle.answer.specs.declared.made.Made.the-variants as made
-use Rattle.answer.specs.Result.{resultText, resultTextLeft}
+use Rattle.answer.specs.Result.{resultText, resultTextFor}
 use Rattle.answer.specs.Made.{outcomeLent, printed, MadeLeft, madeText, madeLeft, saidMade}
 
 -- ---- the outcome of lent tables
@@ -41,19 +44,19 @@ pub record HeaderKept (given : Table) (r : Result) : Type 0 where
   pub borders : given .header .borders ≤ bordersMost
   pub rows : given .header .rows ≤ rowsMost
 
-pub outcome-header : (given : Table) (r : Result) → outcomeLent given ≡ passed r → HeaderKept given r
-unfolding outcomeLent resultOf
-outcome-header given r e =
-    let w = then-passed (judgeLent given) outcomeOf r e in
+pub outcome-header : (all : Bool) (marks : List ℕ) (given : Table) (r : Result) → outcomeLent all marks given ≡ passed r → HeaderKept given r
+unfolding outcomeLent resultMarked
+outcome-header all marks given r e =
+    let w = then-passed (judgeLent given) (outcomeFor all marks) r e in
     let f : w .it .header ≡ given .header = ap (λ (t : Table). t .header) (judged-front given (w .it) (w .first)) in
     let h = header-in (w .it .header) (judged-good given (w .it) (w .first) .exact .header) in
     record {
-      header = sym (ap (λ (v : Result). v .header) (accepted (w .it) r (w .second) .is)) ∙ f;
+      header = sym (ap (λ (v : Result). v .header) (accepted (mayRise all marks) (w .it) r (for-is all marks (w .it) r (w .second)) .is)) ∙ f;
       borders = omega (arith, h .borders-most, ap (λ (v : Header). v .borders) f);
       rows = omega (arith, h .rows-most, ap (λ (v : Header). v .rows) f);
     }
 
--- ---- what `extract` answered
+-- ---- what `extract_for` answered
 module _ (ps : List ℕ) (atcs lefts : List (List ℤ)) where
   abbrev extracted : Judged Result → ExtractLeft
   extracted o = either o (resultStored ps atcs lefts) (λ w. leaves (refused w) ps atcs lefts)
@@ -77,28 +80,28 @@ module _ (ps : List ℕ) (atcs lefts : List (List ℤ)) where
 stored-front : (n m : ℕ) (f : ℕ → List ℤ) (new old : List (List ℤ)) → new ≡ over (table n f) old → n ≡ m → take m new ≡ table n f
 stored-front n m f new old a b = ap (take m) a ∙ take-at (table n f) _ m (table-long n f ∙ b)
 
-module _ (given : Table) (ps : List ℕ) (atcs lefts : List (List ℤ)) (hp : rowsMost * bordersMost ≤ length ps) (hb : bordersMost ≤ length atcs) (hr : rowsMost ≤ length lefts)
-    (e : Extracted) {ps′ : List ℕ} {atcs′ lefts′ : List (List ℤ)} (said : leaves (saidExtracted e) ps′ atcs′ lefts′ ≡ extractLeft given ps atcs lefts) where
+module _ (all : Bool) (marks : List ℕ) (given : Table) (ps : List ℕ) (atcs lefts : List (List ℤ)) (hp : rowsMost * bordersMost ≤ length ps) (hb : bordersMost ≤ length atcs) (hr : rowsMost ≤ length lefts)
+    (e : Extracted) {ps′ : List ℕ} {atcs′ lefts′ : List (List ℤ)} (said : leaves (saidExtracted e) ps′ atcs′ lefts′ ≡ extractFor all marks given ps atcs lefts) where
   -- there is room for every result, so the answer is the outcome's
-  told-by : {x : Extracted} → e ≡ x → leaves (saidExtracted x) ps′ atcs′ lefts′ ≡ extracted ps atcs lefts (outcomeLent given)
+  told-by : {x : Extracted} → e ≡ x → leaves (saidExtracted x) ps′ atcs′ lefts′ ≡ extracted ps atcs lefts (outcomeLent all marks given)
   unfolding outcomeLent
-  told-by k = ap (λ (y : Extracted). leaves (saidExtracted y) ps′ atcs′ lefts′) (sym k) ∙ said ∙ extract-roomy given ps atcs lefts hp hb hr
+  told-by k = ap (λ (y : Extracted). leaves (saidExtracted y) ps′ atcs′ lefts′) (sym k) ∙ said ∙ extract-roomy all marks given ps atcs lefts hp hb hr
 
-  pub outcome-refused : (w : Refusal) → e ≡ Refused w → outcomeLent given ≡ refused w
-  outcome-refused w k = refused-from ps atcs lefts (outcomeLent given) w (told-by k)
+  pub outcome-refused : (w : Refusal) → e ≡ Refused w → outcomeLent all marks given ≡ refused w
+  outcome-refused w k = refused-from ps atcs lefts (outcomeLent all marks given) w (told-by k)
 
   -- the records in front give the result's text
   pub record OutcomeTold (rounds : ℕ) : Type 0 where
     pub it : Result
-    pub is : outcomeLent given ≡ passed it
+    pub is : outcomeLent all marks given ≡ passed it
     pub text : recordsText (take (given .header .borders) atcs′) (take (given .header .rows) lefts′) rounds ≡ resultText it
 
   pub outcome-told : (rounds : ℕ) → e ≡ Rounds rounds → OutcomeTold rounds
   unfolding resultText
   outcome-told rounds k =
-      let u = stored-from ps atcs lefts (outcomeLent given) rounds (told-by k) in
+      let u = stored-from ps atcs lefts (outcomeLent all marks given) rounds (told-by k) in
       let r = u .it in
-      let h = outcome-header given r (u .is) .header in
+      let h = outcome-header all marks given r (u .is) .header in
       record {
         it = r;
         is = u .is;
@@ -142,18 +145,18 @@ unfolding madeLeft either
 turned (passed r) out w out′ e = absurd (not-passed w _ (ap (λ (l : MadeLeft). l .answer) e))
 turned (refused v) out w out′ e = (ap refused (sym (refused-is {A = Judged ℕ} w v (ap (λ (l : MadeLeft). l .answer) e))), ap (λ (l : MadeLeft). l .out) e)
 
-result-outcome : (given : Table) → then (judgeLent given) (λ t. then (outcomeOf t) (λ r. passed (resultText r))) ≡ then (outcomeLent given) (λ r. passed (resultText r))
+result-outcome : (all : Bool) (marks : List ℕ) (given : Table) → then (judgeLent given) (λ t. then (outcomeFor all marks t) (λ r. passed (resultText r))) ≡ then (outcomeLent all marks given) (λ r. passed (resultText r))
 unfolding outcomeLent then
-result-outcome given = go (judgeLent given)
+result-outcome all marks given = go (judgeLent given)
   where
-    go : (j : Judged Table) → then j (λ t. then (outcomeOf t) (λ r. passed (resultText r))) ≡ then (then j outcomeOf) (λ r. passed (resultText r))
+    go : (j : Judged Table) → then j (λ t. then (outcomeFor all marks t) (λ r. passed (resultText r))) ≡ then (then j (outcomeFor all marks)) (λ r. passed (resultText r))
     go (passed t) = refl
     go (refused w) = refl
 
 -- ---- `result_text` tells what was made, and `answer` prints it
-module _ (given : Table) (out : List ℕ) (m : Made) (out′ : List ℕ) (said : saidMade m out′ ≡ madeLeft (outcomeLent given) out) where
+module _ (all : Bool) (marks : List ℕ) (given : Table) (out : List ℕ) (m : Made) (out′ : List ℕ) (said : saidMade m out′ ≡ madeLeft (outcomeLent all marks given) out) where
   abbrev outcome : Judged Result
-  outcome = outcomeLent given
+  outcome = outcomeLent all marks given
 
   text-made : (w : Written) → m ≡ made.Text w → Texted outcome out w out′
   text-made w k = texted outcome out w out′ (ap (λ (x : Made). saidMade x out′) (sym k) ∙ said)
@@ -161,17 +164,17 @@ module _ (given : Table) (out : List ℕ) (m : Made) (out′ : List ℕ) (said :
   none-made : (w : Refusal) → m ≡ made.Refused w → (outcome ≡ refused w) × (out′ ≡ out)
   none-made w k = turned outcome out w out′ (ap (λ (x : Made). saidMade x out′) (sym k) ∙ said)
 
-  pub result-told : (w : Written) → m ≡ made.Text w → textSaid w out′ ≡ resultTextLeft given out
-  unfolding resultTextLeft
+  pub result-told : (w : Written) → m ≡ made.Text w → textSaid w out′ ≡ resultTextFor all marks given out
+  unfolding resultTextFor
   result-told w k =
       let u = text-made w k in
-      u .text ∙ ap (λ (j : Judged (List ℕ)). textLeft j out) (sym (result-outcome given ∙ then-next _ (u .is)))
+      u .text ∙ ap (λ (j : Judged (List ℕ)). textLeft j out) (sym (result-outcome all marks given ∙ then-next _ (u .is)))
 
-  pub result-refused : (w : Refusal) → m ≡ made.Refused w → _≡_ {A = TextLeft} (record { answer = refused w; out = out′ }) (resultTextLeft given out)
-  unfolding resultTextLeft
+  pub result-refused : (w : Refusal) → m ≡ made.Refused w → _≡_ {A = TextLeft} (record { answer = refused w; out = out′ }) (resultTextFor all marks given out)
+  unfolding resultTextFor
   result-refused w k =
       let u = none-made w k in
-      ap {B = TextLeft} (λ (o : List ℕ). record { answer = refused w; out = o }) (u .1) ∙ text-refused out (result-outcome given ∙ then-refused _ (u .0))
+      ap {B = TextLeft} (λ (o : List ℕ). record { answer = refused w; out = o }) (u .1) ∙ text-refused out (result-outcome all marks given ∙ then-refused _ (u .0))
 
   pub printed-result : (w : Written) → m ≡ made.Text w → textSaid w out′ ≡ textLeft (passed (printed outcome)) out
   unfolding printed

@@ -1,5 +1,6 @@
--- What `read` leaves of a text, with room for the largest table, and the text's answer (01, "Result text"). No contract cites this file.
+-- What `read` leaves of a text, with room for the largest table, and its answer (01, "Result text"). No contract cites this file.
 use mathlib.Core.Path.{_≡_, refl, sym, ap, _∙_}
+use mathlib.Core.Bool.{Bool}
 use mathlib.Core.List.{List}
 use Prim.Native.Nat.{ℕ, _*_, _≤_}
 use lib.IntN.{ℤ}
@@ -12,27 +13,27 @@ use Rattle.kinds.specs.Limits.{zonesMost, bordersMost, rowsMost}
 use Rattle.kinds.specs.Refusals.{then}
 use Rattle.kinds.proofs.RefusalLaws.{then-next, then-refused, either-refused}
 use Rattle.table.specs.Table.{lent}
-use Rattle.extraction.specs.Extraction.{outcomeOf}
+use Rattle.extraction.specs.Extraction.{outcomeFor}
 use Rattle.reading.specs.Places.{readSaid}
 use Rattle.reading.specs.Reading.{readText, readLeft}
 use Rattle.reading.proofs.LeftLaws.{taken, as-read, refused-text}
 use Rattle.result.specs.Refusal.{refusalText}
-use Rattle.answer.specs.Result.{answerText}
+use Rattle.answer.specs.Result.{answerFor}
 use Rattle.answer.specs.Made.{outcomeLent, printed}
 
-answer-printed : (text : List ℕ) → answerText text ≡ printed (then (readText text) outcomeOf)
-unfolding answerText printed
-answer-printed text = refl
+answer-printed : (all : Bool) (marks text : List ℕ) → answerFor all marks text ≡ printed (then (readText text) (outcomeFor all marks))
+unfolding answerFor printed
+answer-printed all marks text = refl
 
-module _ (text : List ℕ) (z a : List ℤ) (b c : List (List ℤ)) (f : List ℤ)
+module _ (all : Bool) (marks text : List ℕ) (z a : List ℤ) (b c : List (List ℤ)) (f : List ℤ)
     (r : Read) {z′ a′ : List ℤ} {b′ c′ : List (List ℤ)} {f′ : List ℤ} (said : readSaid r z′ a′ b′ c′ f′ ≡ readLeft text z a b c f) where
   -- a refusal is one of the text
   pub read-refused : zonesMost ≤ length z → zonesMost ≤ length a → bordersMost ≤ length b → rowsMost ≤ length c → rowsMost * zonesMost ≤ length f
-      → (w : Refusal) → r ≡ read.Refused w → refusalText w ≡ answerText text
-  unfolding answerText
-  read-refused hz ha hb hc hf w k = sym (either-refused _ _ (then-refused outcomeOf (refused-text text z a b c f r said hz ha hb hc hf w k)))
+      → (w : Refusal) → r ≡ read.Refused w → refusalText w ≡ answerFor all marks text
+  unfolding answerFor
+  read-refused hz ha hb hc hf w k = sym (either-refused _ _ (then-refused (outcomeFor all marks) (refused-text text z a b c f r said hz ha hb hc hf w k)))
 
   -- what was read is judged to be the table that the text holds
-  pub read-printed : (h : Header) → r ≡ read.Table h → printed (outcomeLent (lent h z′ a′ b′ c′ f′)) ≡ answerText text
+  pub read-printed : (h : Header) → r ≡ read.Table h → printed (outcomeLent all marks (lent h z′ a′ b′ c′ f′)) ≡ answerFor all marks text
   unfolding outcomeLent
-  read-printed h k = ap printed (then-next outcomeOf (as-read text z a b c f r said h k) ∙ sym (then-next outcomeOf (taken text z a b c f r said h k .read))) ∙ sym (answer-printed text)
+  read-printed h k = ap printed (then-next (outcomeFor all marks) (as-read text z a b c f r said h k) ∙ sym (then-next (outcomeFor all marks) (taken text z a b c f r said h k .read))) ∙ sym (answer-printed all marks text)

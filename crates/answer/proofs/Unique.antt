@@ -1,4 +1,4 @@
--- No second answer, and no second content of the lent bytes, satisfies the contract of `result_text` or of `answer`.
+-- No second answer, and no second content of the lent bytes, satisfies the contract of `result_text` or of `answer`, or of one of them with marks.
 -- The theorems are about the contracts as the check reads them from the source (`reads.Post`), and not about copies.
 use mathlib.Core.Path.{_≡_}
 use contract.Lifetimes.{Lfts}
@@ -10,9 +10,15 @@ use Rattle.text.proofs.LeftLaws.{said-once}
 use Rattle.answer.proofs.result_text as result-text
 use Rattle.answer.proofs.result_text.Kinds as result-text-kinds
 use Rattle.answer.proofs.result_text.Reads as result-text-reads
+use Rattle.answer.proofs.result_text_marked as result-text-marked
+use Rattle.answer.proofs.result_text_marked.Kinds as result-text-marked-kinds
+use Rattle.answer.proofs.result_text_marked.Reads as result-text-marked-reads
 use Rattle.answer.proofs.answer as answer
 use Rattle.answer.proofs.answer.Kinds as answer-kinds
 use Rattle.answer.proofs.answer.Reads as answer-reads
+use Rattle.answer.proofs.answer_marked as answer-marked
+use Rattle.answer.proofs.answer_marked.Kinds as answer-marked-kinds
+use Rattle.answer.proofs.answer_marked.Reads as answer-marked-reads
 
 -- `out` is the call's sixth argument
 pub result-text-once : (κs : Lfts 6) (x : ArgsD result-text.signature κs) (r r′ : ResD result-text.signature κs) (s s′ : AtExit (endedOf 6 result-text-kinds.ps result-text-kinds.r) κs)
@@ -23,3 +29,13 @@ result-text-once κs x r r′ s s′ p q = said-once _ _ _ _ _ p q
 pub answer-once : (κs : Lfts 2) (x : ArgsD answer.signature κs) (r r′ : ResD answer.signature κs) (s s′ : AtExit (endedOf 2 answer-kinds.ps answer-kinds.r) κs)
     → answer-reads.Post κs x r s → answer-reads.Post κs x r′ s′ → (r ≡ r′) × (now (s .1 .0) ≡ now (s′ .1 .0))
 answer-once κs x r r′ s s′ p q = said-once _ _ _ _ _ p q
+
+-- .. and comes after the marks
+pub result-text-marked-once : (κs : Lfts 7) (x : ArgsD result-text-marked.signature κs) (r r′ : ResD result-text-marked.signature κs)
+    (s s′ : AtExit (endedOf 7 result-text-marked-kinds.ps result-text-marked-kinds.r) κs)
+    → result-text-marked-reads.Post κs x r s → result-text-marked-reads.Post κs x r′ s′ → (r ≡ r′) × (now (s .1 .1 .1 .1 .1 .1 .1 .0) ≡ now (s′ .1 .1 .1 .1 .1 .1 .1 .0))
+result-text-marked-once κs x r r′ s s′ p q = said-once _ _ _ _ _ p q
+
+pub answer-marked-once : (κs : Lfts 3) (x : ArgsD answer-marked.signature κs) (r r′ : ResD answer-marked.signature κs) (s s′ : AtExit (endedOf 3 answer-marked-kinds.ps answer-marked-kinds.r) κs)
+    → answer-marked-reads.Post κs x r s → answer-marked-reads.Post κs x r′ s′ → (r ≡ r′) × (now (s .1 .1 .0) ≡ now (s′ .1 .1 .0))
+answer-marked-once κs x r r′ s s′ p q = said-once _ _ _ _ _ p q

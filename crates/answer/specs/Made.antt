@@ -1,4 +1,5 @@
 -- The outcome of lent tables, what it is printed as (01, "Result text"), and what making its text leaves. Promises of the inner functions are stated through these.
+use mathlib.Core.Bool.{Bool}
 use mathlib.Core.List.{List}
 use Prim.Native.Nat.{ℕ}
 use Rattle.kinds.specs.declared.Written.{Written}
@@ -7,15 +8,15 @@ use Rattle.kinds.specs.Answers.{saidWritten}
 use Rattle.kinds.specs.Refusals.{Judged, passed, refused, then, either}
 use Rattle.text.specs.Left.{TextLeft, textLeft}
 use Rattle.table.specs.Table.{Table, judgeLent}
-use Rattle.extraction.specs.Extraction.{Result, outcomeOf}
+use Rattle.extraction.specs.Extraction.{Result, outcomeFor}
 use Rattle.result.specs.Records.{recordsMost}
 use Rattle.result.specs.Refusal.{refusalText}
 use Rattle.answer.specs.declared.made.Made.{Made}
 use Rattle.answer.specs.declared.made.Made.the-variants.{Text, Refused}
 use Rattle.answer.specs.Result.{resultText}
 
-unfoldable pub outcomeLent : (lent : Table) → Judged Result
-outcomeLent lent = then (judgeLent lent) outcomeOf
+unfoldable pub outcomeLent : (all : Bool) → (marks : List ℕ) → (lent : Table) → Judged Result
+outcomeLent all marks lent = then (judgeLent lent) (outcomeFor all marks)
 
 -- the result text, or the E line
 unfoldable pub printed : Judged Result → List ℕ

@@ -1,4 +1,4 @@
-// The open calls that answer in text (01, "Result text"): `result_text` of lent tables, and `answer` of a table's text.
+// The open calls that answer in text (01, "Result text"): `result_text` of lent tables, and `answer` of a table's text; each with marks too (02, E13).
 // They differ in what becomes of a refusal: `result_text` tells it, and `answer` writes it as the E line.
 mod made;
 
@@ -10,7 +10,7 @@ ghost use Rattle.kinds.specs.Refusals.{passed};
 ghost use Rattle.text.specs.Left.{textLeft, textSaid};
 ghost use Rattle.table.specs.Table.{lent};
 ghost use Rattle.result.specs.Refusal.{refusalText, refusalMost};
-ghost use Rattle.answer.specs.Result.{resultTextLeft, answerLeft};
+ghost use Rattle.answer.specs.Result.{resultTextFor, resultTextLeft, resultTextMarkedLeft, answerForLeft, answerLeft, answerMarkedLeft};
 ghost use Rattle.answer.specs.Made.{outcomeLent, printed, answerMost, bytesAsked};
 use crate::made::Made;
 use kinds::Border;
@@ -34,7 +34,41 @@ pub fn result_text(
 ) -> Written
     ensures { λ r. ⌜ textSaid r (now (out .exit)) ≡ resultTextLeft (lent h (now (z .entry)) (now (t .entry)) (now (b .entry)) (now (c .entry)) (now (f .entry))) (now (out .entry)) ⌝ }
 {
-    match made::make(h, z, t, b, c, f, out) {
+    // No marks are looked at.
+    let marks: [u64; 1] = [0];
+    result_text_for(h, z, t, b, c, f, true, &marks, out)
+}
+
+// The same where only the borders of a list of marks rise (02, E13).
+pub fn result_text_marked(
+    h: Header,
+    z: &[i64],
+    t: &[i64],
+    b: &[BorderRecord],
+    c: &[RowRecord],
+    f: &[i64],
+    marks: &[u64],
+    out: &mut [u8],
+) -> Written
+    ensures { λ r. ⌜ textSaid r (now (out .exit)) ≡ resultTextMarkedLeft (lent h (now (z .entry)) (now (t .entry)) (now (b .entry)) (now (c .entry)) (now (f .entry))) (now (marks .entry)) (now (out .entry)) ⌝ }
+{
+    result_text_for(h, z, t, b, c, f, false, marks, out)
+}
+
+fn result_text_for(
+    h: Header,
+    z: &[i64],
+    t: &[i64],
+    b: &[BorderRecord],
+    c: &[RowRecord],
+    f: &[i64],
+    all: bool,
+    marks: &[u64],
+    out: &mut [u8],
+) -> Written
+    ensures { λ r. ⌜ textSaid r (now (out .exit)) ≡ resultTextFor all (now (marks .entry)) (lent h (now (z .entry)) (now (t .entry)) (now (b .entry)) (now (c .entry)) (now (f .entry))) (now (out .entry)) ⌝ }
+{
+    match made::make(h, z, t, b, c, f, all, marks, out) {
         Made::Text(written) => written,
         Made::Refused(w) => Written::Refused(w),
     }
@@ -51,18 +85,46 @@ pub fn answer(text: &[u8], out: &mut [u8]) -> Written
 pub fn answer_within(text: &[u8], out: &mut [u8]) -> Written
     ensures { λ r. ⌜ (textSaid r (now (out .exit)) ≡ answerLeft (now (text .entry)) (now (out .entry))) × (bytesAsked r ≤ answerMost) ⌝ }
 {
+    // No marks are looked at.
+    let marks: [u64; 1] = [0];
+    answer_for(text, true, &marks, out)
+}
+
+// The answer where only the borders of a list of marks rise (02, E13).
+pub fn answer_marked(text: &[u8], marks: &[u64], out: &mut [u8]) -> Written
+    ensures { λ r. ⌜ textSaid r (now (out .exit)) ≡ answerMarkedLeft (now (text .entry)) (now (marks .entry)) (now (out .entry)) ⌝ }
+{
+    answer_for(text, false, marks, out)
+}
+
+// Both, as asked, and how many bytes are asked for at most.
+pub fn answer_for(text: &[u8], all: bool, marks: &[u64], out: &mut [u8]) -> Written
+    ensures { λ r. ⌜ (textSaid r (now (out .exit)) ≡ answerForLeft all (now (marks .entry)) (now (text .entry)) (now (out .entry))) × (bytesAsked r ≤ answerMost) ⌝ }
+{
     let mut z: [i64; Header::ZONES_MOST] = [0; Header::ZONES_MOST];
     let mut t: [i64; Header::ZONES_MOST] = [0; Header::ZONES_MOST];
     let mut b: [BorderRecord; Header::BORDERS_MOST] = [[0; Border::ITEMS]; Header::BORDERS_MOST];
     let mut c: [RowRecord; Header::ROWS_MOST] = [[0; Row::ITEMS]; Header::ROWS_MOST];
     let mut f: [i64; Header::ROWS_MOST * Header::ZONES_MOST] = [0; Header::ROWS_MOST
         * Header::ZONES_MOST];
-    answer_in(text, &mut z, &mut t, &mut b, &mut c, &mut f, out)
+    answer_in(
+        text,
+        all,
+        marks,
+        &mut z,
+        &mut t,
+        &mut b,
+        &mut c,
+        &mut f,
+        out,
+    )
 }
 
-// The tables are made in `answer_within`, and not here, where goals would spell them out.
+// The tables are made in `answer_for`, and not here, where goals would spell them out.
 fn answer_in(
     text: &[u8],
+    all: bool,
+    marks: &[u64],
     z: &mut [i64],
     t: &mut [i64],
     b: &mut [BorderRecord],
@@ -71,27 +133,29 @@ fn answer_in(
     out: &mut [u8],
 ) -> Written
     requires { ⌜ (zonesMost ≤ length (now z)) × (zonesMost ≤ length (now t)) × (bordersMost ≤ length (now b)) × (rowsMost ≤ length (now c)) × (rowsMost * zonesMost ≤ length (now f)) ⌝ }
-    ensures { λ r. ⌜ (textSaid r (now (out .exit)) ≡ answerLeft (now (text .entry)) (now (out .entry))) × (bytesAsked r ≤ answerMost) ⌝ }
+    ensures { λ r. ⌜ (textSaid r (now (out .exit)) ≡ answerForLeft all (now (marks .entry)) (now (text .entry)) (now (out .entry))) × (bytesAsked r ≤ answerMost) ⌝ }
 {
     match reading::read(text, z, t, b, c, f) {
-        Read::Table(h) => answer_lent(h, z, t, b, c, f, out),
+        Read::Table(h) => answer_lent(h, z, t, b, c, f, all, marks, out),
         Read::Refused(w) => write_refusal(w, out),
     }
 }
 
-// The answer to lent tables.
-fn answer_lent(
+// The answer to lent tables, and how many bytes it asks for at most.
+pub fn answer_lent(
     h: Header,
     z: &[i64],
     t: &[i64],
     b: &[BorderRecord],
     c: &[RowRecord],
     f: &[i64],
+    all: bool,
+    marks: &[u64],
     out: &mut [u8],
 ) -> Written
-    ensures { λ r. ⌜ (textSaid r (now (out .exit)) ≡ textLeft (passed (printed (outcomeLent (lent h (now (z .entry)) (now (t .entry)) (now (b .entry)) (now (c .entry)) (now (f .entry)))))) (now (out .entry))) × (bytesAsked r ≤ answerMost) ⌝ }
+    ensures { λ r. ⌜ (textSaid r (now (out .exit)) ≡ textLeft (passed (printed (outcomeLent all (now (marks .entry)) (lent h (now (z .entry)) (now (t .entry)) (now (b .entry)) (now (c .entry)) (now (f .entry)))))) (now (out .entry))) × (bytesAsked r ≤ answerMost) ⌝ }
 {
-    match made::make(h, z, t, b, c, f, out) {
+    match made::make(h, z, t, b, c, f, all, marks, out) {
         Made::Text(written) => written,
         Made::Refused(w) => write_refusal(w, out),
     }

@@ -1,4 +1,4 @@
-// The result text of lent tables, as both open calls make it.
+// The result text of lent tables, as the open calls make it.
 ghost use mathlib.Core.Path.{_≡_};
 ghost use Prim.Native.Nat.{_*_, _≤_};
 ghost use lib.ListN.{length, take};
@@ -33,16 +33,31 @@ pub fn make(
     b: &[BorderRecord],
     c: &[RowRecord],
     f: &[i64],
+    all: bool,
+    marks: &[u64],
     out: &mut [u8],
 ) -> Made
-    ensures { λ r. ⌜ (saidMade r (now (out .exit)) ≡ madeLeft (outcomeLent (lent h (now (z .entry)) (now (t .entry)) (now (b .entry)) (now (c .entry)) (now (f .entry)))) (now (out .entry))) × (madeAsked r ≤ answerMost) ⌝ }
+    ensures { λ r. ⌜ (saidMade r (now (out .exit)) ≡ madeLeft (outcomeLent all (now (marks .entry)) (lent h (now (z .entry)) (now (t .entry)) (now (b .entry)) (now (c .entry)) (now (f .entry)))) (now (out .entry))) × (madeAsked r ≤ answerMost) ⌝ }
 {
     let mut p: [u64; Header::ROWS_MOST * Header::BORDERS_MOST] = [0; Header::ROWS_MOST
         * Header::BORDERS_MOST];
     let mut atc: [AtcRecord; Header::BORDERS_MOST] =
         [[0; BorderResult::ITEMS]; Header::BORDERS_MOST];
     let mut left: [LeftRecord; Header::ROWS_MOST] = [[0; RowResult::ITEMS]; Header::ROWS_MOST];
-    make_in(h, z, t, b, c, f, &mut p, &mut atc, &mut left, out)
+    make_in(
+        h,
+        z,
+        t,
+        b,
+        c,
+        f,
+        all,
+        marks,
+        &mut p,
+        &mut atc,
+        &mut left,
+        out,
+    )
 }
 
 // The table of p and the records are made in `make`, and not here, where goals would spell them out.
@@ -53,15 +68,17 @@ fn make_in(
     b: &[BorderRecord],
     c: &[RowRecord],
     f: &[i64],
+    all: bool,
+    marks: &[u64],
     p: &mut [u64],
     atc: &mut [AtcRecord],
     left: &mut [LeftRecord],
     out: &mut [u8],
 ) -> Made
     requires { ⌜ (rowsMost * bordersMost ≤ length (now p)) × (bordersMost ≤ length (now atc)) × (rowsMost ≤ length (now left)) ⌝ }
-    ensures { λ r. ⌜ (saidMade r (now (out .exit)) ≡ madeLeft (outcomeLent (lent h (now (z .entry)) (now (t .entry)) (now (b .entry)) (now (c .entry)) (now (f .entry)))) (now (out .entry))) × (madeAsked r ≤ answerMost) ⌝ }
+    ensures { λ r. ⌜ (saidMade r (now (out .exit)) ≡ madeLeft (outcomeLent all (now (marks .entry)) (lent h (now (z .entry)) (now (t .entry)) (now (b .entry)) (now (c .entry)) (now (f .entry)))) (now (out .entry))) × (madeAsked r ≤ answerMost) ⌝ }
 {
-    match extraction::extract(h, z, t, b, c, f, p, atc, left) {
+    match extraction::extract_for(h, z, t, b, c, f, all, marks, p, atc, left) {
         Extracted::Rounds(rounds) => Made::Text(write_result(h, atc, left, rounds, out)),
         Extracted::Refused(w) => Made::Refused(w),
     }

@@ -23,12 +23,21 @@ use Rattle.cabi.proofs.keravnoth_write.Reads as write-reads
 use Rattle.cabi.proofs.keravnoth_extract as extract
 use Rattle.cabi.proofs.keravnoth_extract.Kinds as extract-kinds
 use Rattle.cabi.proofs.keravnoth_extract.Reads as extract-reads
+use Rattle.cabi.proofs.keravnoth_extract_marked as extract-marked
+use Rattle.cabi.proofs.keravnoth_extract_marked.Kinds as extract-marked-kinds
+use Rattle.cabi.proofs.keravnoth_extract_marked.Reads as extract-marked-reads
 use Rattle.cabi.proofs.keravnoth_result_text as result-text
 use Rattle.cabi.proofs.keravnoth_result_text.Kinds as result-text-kinds
 use Rattle.cabi.proofs.keravnoth_result_text.Reads as result-text-reads
+use Rattle.cabi.proofs.keravnoth_result_text_marked as result-text-marked
+use Rattle.cabi.proofs.keravnoth_result_text_marked.Kinds as result-text-marked-kinds
+use Rattle.cabi.proofs.keravnoth_result_text_marked.Reads as result-text-marked-reads
 use Rattle.cabi.proofs.keravnoth_answer as answer
 use Rattle.cabi.proofs.keravnoth_answer.Kinds as answer-kinds
 use Rattle.cabi.proofs.keravnoth_answer.Reads as answer-reads
+use Rattle.cabi.proofs.keravnoth_answer_marked as answer-marked
+use Rattle.cabi.proofs.keravnoth_answer_marked.Kinds as answer-marked-kinds
+use Rattle.cabi.proofs.keravnoth_answer_marked.Reads as answer-marked-reads
 use Rattle.cabi.proofs.keravnoth_corner_flows as corner-flows
 use Rattle.cabi.proofs.keravnoth_corner_flows.Kinds as corner-flows-kinds
 use Rattle.cabi.proofs.keravnoth_corner_flows.Reads as corner-flows-reads
@@ -55,7 +64,7 @@ extract-one may r r′ ps ps′ atcs atcs′ lefts lefts′ p q =
 flows-one : (may : FlowsCoded) (r r′ : KeravnothFlows) (out out′ : List ℤ) → flowsFound r out ≡ may → flowsFound r′ out′ ≡ may → (r ≡ r′) × (out ≡ out′)
 flows-one may r r′ out out′ p q = let e = p ∙ sym q in (ap (λ (l : FlowsCoded). l .answer) e, ap (λ (l : FlowsCoded). l .out) e)
 
--- ---- the calls; the tables that `keravnoth_read` fills are its second to fifth arguments
+-- ---- the calls; the tables that `keravnoth_read` fills are its second to sixth arguments
 pub keravnoth-read-once : (κs : Lfts 6) (x : ArgsD read.signature κs) (r r′ : ResD read.signature κs) (s s′ : AtExit (endedOf 6 read-kinds.ps read-kinds.r) κs)
     → read-reads.Post κs x r s → read-reads.Post κs x r′ s′
     → (r ≡ r′)
@@ -79,15 +88,30 @@ pub keravnoth-extract-once : (κs : Lfts 8) (x : ArgsD extract.signature κs) (r
     × ((now (s .1 .1 .1 .1 .1 .1 .1 .0) ≡ now (s′ .1 .1 .1 .1 .1 .1 .1 .0)) × (now (s .1 .1 .1 .1 .1 .1 .1 .1 .0) ≡ now (s′ .1 .1 .1 .1 .1 .1 .1 .1 .0))))
 keravnoth-extract-once κs x r r′ s s′ p q = extract-one _ _ _ _ _ _ _ _ _ p q
 
+-- p is the seventh, and the results are the ninth and the tenth
+pub keravnoth-extract-marked-once : (κs : Lfts 9) (x : ArgsD extract-marked.signature κs) (r r′ : ResD extract-marked.signature κs) (s s′ : AtExit (endedOf 9 extract-marked-kinds.ps extract-marked-kinds.r) κs)
+    → extract-marked-reads.Post κs x r s → extract-marked-reads.Post κs x r′ s′ → (r ≡ r′) × ((now (s .1 .1 .1 .1 .1 .1 .0) ≡ now (s′ .1 .1 .1 .1 .1 .1 .0)) × ((now (s .1 .1 .1 .1 .1 .1 .1 .1 .0) ≡ now (s′ .1 .1 .1 .1 .1 .1 .1 .1 .0)) × (now (s .1 .1 .1 .1 .1 .1 .1 .1 .1 .0) ≡ now (s′ .1 .1 .1 .1 .1 .1 .1 .1 .1 .0))))
+keravnoth-extract-marked-once κs x r r′ s s′ p q = extract-one _ _ _ _ _ _ _ _ _ p q
+
 -- `out` is the seventh argument
 pub keravnoth-result-text-once : (κs : Lfts 6) (x : ArgsD result-text.signature κs) (r r′ : ResD result-text.signature κs) (s s′ : AtExit (endedOf 6 result-text-kinds.ps result-text-kinds.r) κs)
     → result-text-reads.Post κs x r s → result-text-reads.Post κs x r′ s′ → (r ≡ r′) × (now (s .1 .1 .1 .1 .1 .1 .0) ≡ now (s′ .1 .1 .1 .1 .1 .1 .0))
 keravnoth-result-text-once κs x r r′ s s′ p q = text-one _ _ _ _ _ p q
 
+-- `out` is the eighth argument
+pub keravnoth-result-text-marked-once : (κs : Lfts 7) (x : ArgsD result-text-marked.signature κs) (r r′ : ResD result-text-marked.signature κs) (s s′ : AtExit (endedOf 7 result-text-marked-kinds.ps result-text-marked-kinds.r) κs)
+    → result-text-marked-reads.Post κs x r s → result-text-marked-reads.Post κs x r′ s′ → (r ≡ r′) × (now (s .1 .1 .1 .1 .1 .1 .1 .0) ≡ now (s′ .1 .1 .1 .1 .1 .1 .1 .0))
+keravnoth-result-text-marked-once κs x r r′ s s′ p q = text-one _ _ _ _ _ p q
+
 -- `out` is the second argument
 pub keravnoth-answer-once : (κs : Lfts 2) (x : ArgsD answer.signature κs) (r r′ : ResD answer.signature κs) (s s′ : AtExit (endedOf 2 answer-kinds.ps answer-kinds.r) κs)
     → answer-reads.Post κs x r s → answer-reads.Post κs x r′ s′ → (r ≡ r′) × (now (s .1 .0) ≡ now (s′ .1 .0))
 keravnoth-answer-once κs x r r′ s s′ p q = text-one _ _ _ _ _ p q
+
+-- `out` is the third argument
+pub keravnoth-answer-marked-once : (κs : Lfts 3) (x : ArgsD answer-marked.signature κs) (r r′ : ResD answer-marked.signature κs) (s s′ : AtExit (endedOf 3 answer-marked-kinds.ps answer-marked-kinds.r) κs)
+    → answer-marked-reads.Post κs x r s → answer-marked-reads.Post κs x r′ s′ → (r ≡ r′) × (now (s .1 .1 .0) ≡ now (s′ .1 .1 .0))
+keravnoth-answer-marked-once κs x r r′ s s′ p q = text-one _ _ _ _ _ p q
 
 -- `out` is the eighth argument, also of the text
 pub keravnoth-corner-flows-once : (κs : Lfts 6) (x : ArgsD corner-flows.signature κs) (r r′ : ResD corner-flows.signature κs) (s s′ : AtExit (endedOf 6 corner-flows-kinds.ps corner-flows-kinds.r) κs)

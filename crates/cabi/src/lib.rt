@@ -5,10 +5,10 @@ ghost use Rattle.kinds.specs.Answers.{saidRead, saidWritten, saidExtracted, sai
 ghost use Rattle.table.specs.Table.{lent};
 ghost use Rattle.reading.specs.Reading.{readLeft};
 ghost use Rattle.writing.specs.Writing.{writeLeft};
-ghost use Rattle.extraction.specs.Extraction.{extractLeft};
+ghost use Rattle.extraction.specs.Extraction.{extractLeft, extractMarkedLeft};
 ghost use Rattle.corners.specs.Corners.{cornersLeft};
 ghost use Rattle.cornertext.specs.CornerText.{cornerTextLeft};
-ghost use Rattle.answer.specs.Result.{resultTextLeft, answerLeft};
+ghost use Rattle.answer.specs.Result.{resultTextLeft, resultTextMarkedLeft, answerLeft, answerMarkedLeft};
 ghost use Rattle.cabi.specs.Coded.{codedRead, codedWritten, codedExtracted, codedFlows, readFound, readCoded, textFound, textCoded, extractFound, extractCoded, flowsFound, flowsCoded};
 use extraction::AtcRecord;
 use extraction::LeftRecord;
@@ -105,7 +105,26 @@ pub extern "C" fn keravnoth_extract(
     code_extracted(extraction::extract(h, z, t, b, c, f, p, atc, left))
 }
 
-// The same as text.
+// The same where only the marked borders may rise.
+#[no_mangle]
+pub extern "C" fn keravnoth_extract_marked(
+    h: Header,
+    z: &[i64],
+    t: &[i64],
+    b: &[BorderRecord],
+    c: &[RowRecord],
+    f: &[i64],
+    p: &mut [u64],
+    marks: &[u64],
+    atc: &mut [AtcRecord],
+    left: &mut [LeftRecord],
+) -> KeravnothExtracted
+    ensures { λ r. ⌜ extractFound r (now (p .exit)) (now (atc .exit)) (now (left .exit)) ≡ extractCoded (extractMarkedLeft (lent h (now (z .entry)) (now (t .entry)) (now (b .entry)) (now (c .entry)) (now (f .entry))) (now (marks .entry)) (now (p .entry)) (now (atc .entry)) (now (left .entry))) ⌝ }
+{
+    code_extracted(extraction::extract_marked(h, z, t, b, c, f, p, marks, atc, left))
+}
+
+// The extraction as text.
 #[no_mangle]
 pub extern "C" fn keravnoth_result_text(
     h: Header,
@@ -121,12 +140,41 @@ pub extern "C" fn keravnoth_result_text(
     code_written(answer::result_text(h, z, t, b, c, f, out))
 }
 
+// .. where only the marked borders may rise.
+#[no_mangle]
+pub extern "C" fn keravnoth_result_text_marked(
+    h: Header,
+    z: &[i64],
+    t: &[i64],
+    b: &[BorderRecord],
+    c: &[RowRecord],
+    f: &[i64],
+    marks: &[u64],
+    out: &mut [u8],
+) -> KeravnothWritten
+    ensures { λ r. ⌜ textFound r (now (out .exit)) ≡ textCoded (resultTextMarkedLeft (lent h (now (z .entry)) (now (t .entry)) (now (b .entry)) (now (c .entry)) (now (f .entry))) (now (marks .entry)) (now (out .entry))) ⌝ }
+{
+    code_written(answer::result_text_marked(h, z, t, b, c, f, marks, out))
+}
+
 // From text to text: the result text, or the E line.
 #[no_mangle]
 pub extern "C" fn keravnoth_answer(text: &[u8], out: &mut [u8]) -> KeravnothWritten
     ensures { λ r. ⌜ textFound r (now (out .exit)) ≡ textCoded (answerLeft (now (text .entry)) (now (out .entry))) ⌝ }
 {
     code_written(answer::answer(text, out))
+}
+
+// .. where only the marked borders may rise.
+#[no_mangle]
+pub extern "C" fn keravnoth_answer_marked(
+    text: &[u8],
+    marks: &[u64],
+    out: &mut [u8],
+) -> KeravnothWritten
+    ensures { λ r. ⌜ textFound r (now (out .exit)) ≡ textCoded (answerMarkedLeft (now (text .entry)) (now (marks .entry)) (now (out .entry))) ⌝ }
+{
+    code_written(answer::answer_marked(text, marks, out))
 }
 
 // The flows of all corners on one row.

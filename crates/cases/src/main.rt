@@ -1,75 +1,108 @@
-// Answers every file that the arguments name: the name on a line, and then the answer.
-// After the argument `corners` come the corner sheets of every row instead, after a number those of that row.
+// Answers every file that the arguments name: the name on a line, and then what the word before it asks for, as the program prints it.
+// After the argument `corners` come the corner sheets of every row, after a number those of that row. After `--marks` and a list only those borders
+// rise, until the next word; `answer` is the word for the answer.
 ghost use Prim.Native.Nat.{_≤_};
 ghost use lib.ListN.{length};
 ghost use Rattle.printing.specs.Printed.{sheetRoom};
 use libc::STDOUT_FILENO;
+use printing::MARKS_ROOM;
 use printing::TEXT_ROOM;
 use printing::arguments;
 use printing::arguments::Held;
+use printing::input;
 use printing::sheets;
-use printing::sheets::Rows;
-use printing::texts;
+use printing::tasks;
+use printing::tasks::Asked;
+use printing::tasks::Task;
 
-// What is printed of a file.
-enum Task {
-    Answer,
-    Corners(Rows),
+// What was asked for last, by its place among the arguments: the word, what stands after it, the marks, and an option whose value comes next.
+struct Setting {
+    word: usize,
+    after: usize,
+    marks: usize,
+    due: usize,
+}
+
+fn word_at(i: usize) -> Setting {
+    Setting {
+        word: i,
+        after: 0,
+        marks: 0,
+        due: 0,
+    }
 }
 
 fn main() {
     let count = os::arg_count();
-    let mut task = Task::Answer;
+    let mut setting = word_at(0);
     let mut i: usize = 1;
     while i < count {
-        task = take(i, task);
+        setting = take(i, setting);
         i += 1;
     }
 }
 
-// Argument i is another task, or the name of a file.
-fn take(i: usize, task: Task) -> Task {
-    if arguments::is(i, b"corners") {
-        return Task::Corners(Rows::Every);
+// Argument i is an option or its value, a word, a row, or the name of a file.
+fn take(i: usize, mut setting: Setting) -> Setting {
+    if setting.due > 0 {
+        return take_value(i, setting);
     }
-    if let Held::Number(row) = arguments::number(i) {
-        return Task::Corners(Rows::One(row as usize));
+    if arguments::is(i, b"--marks") {
+        setting.due = i;
+        return setting;
     }
-    one(i, task);
-    task
+    if arguments::is(i, b"answer") {
+        return word_at(0);
+    }
+    if let Asked::Task(_) = tasks::understand(i, 0) {
+        return word_at(i);
+    }
+    take_rest(i, setting)
 }
 
-fn one(i: usize, task: Task) {
-    let mut name = io::buffer();
-    let length = os::arg(i, &mut name);
-    if os::errno() != 0 {
-        os::fail(b"cases: argument");
-        return;
+fn take_value(i: usize, mut setting: Setting) -> Setting {
+    setting.due = 0;
+    setting.marks = i;
+    setting
+}
+
+fn take_rest(i: usize, mut setting: Setting) -> Setting {
+    if let Held::Number(_) = arguments::number(i) {
+        setting.after = i;
+        return setting;
     }
-    let fd = os::open_read(&name[..length]);
-    if fd < 0 {
-        os::fail(&name[..length]);
+    one(i, setting);
+    setting
+}
+
+fn one(i: usize, setting: Setting) {
+    let Asked::Task(task) = tasks::understand(setting.word, setting.after) else {
         return;
-    }
+    };
     let mut text = [0u8; TEXT_ROOM];
-    let n = io::read_full(fd, &mut text);
-    libc::close(fd);
-    io::write_all(STDOUT_FILENO, &name[..length]);
-    io::write_all(STDOUT_FILENO, b"\n");
+    let mut marks = [0u64; MARKS_ROOM];
     let mut out = [0u8; sheets::ROOM];
-    print(task, &text[..n], &mut out)
+    print(i, task, setting.marks, &mut text, &mut marks, &mut out)
 }
 
-fn print(task: Task, text: &[u8], out: &mut [u8])
+// The memory is made in `one`, and not here, where goals would spell it out.
+fn print(i: usize, task: Task, list: usize, text: &mut [u8], marks: &mut [u64], out: &mut [u8])
     requires { ⌜ sheetRoom ≤ length (now out) ⌝ }
 {
-    match task {
-        Task::Answer => {
-            let m = texts::answer(text, out);
-            io::write_all(STDOUT_FILENO, &out[..m]);
-        }
-        Task::Corners(rows) => {
-            sheets::print(text, rows, out);
-        }
+    let table = input::file(i, text);
+    if table.failed {
+        return;
     }
+    name(i);
+    let n = table.bytes;
+    let listed = arguments::list(list, marks);
+    let m = listed.count;
+    tasks::print(task, list == 0, &marks[..m], &text[..n], out);
+}
+
+fn name(i: usize) {
+    let mut own = io::buffer();
+    let n = os::arg(i, &mut own);
+    io::write_all(STDOUT_FILENO, &own[..n]);
+    io::write_all(STDOUT_FILENO, b"\n");
 }

@@ -16,7 +16,7 @@ use Rattle.kinds.specs.Refusals.{passed, refused, tooShort, noCorners}
 use Rattle.kinds.proofs.RefusalLaws.{passed-is, then-passed, then-next, then-refused, either-passed, either-refused, unless-passed, unless-ok, unless-refused, need-enough, need-short}
 use Rattle.table.specs.Table.{Table, front, factorsAt, judgeLent}
 use Rattle.table.specs.Good.{Good}
-use Rattle.table.proofs.GoodLaws.{judged-good}
+use Rattle.table.proofs.GoodLaws.{judged-good, told-judged}
 use Rattle.corners.specs.Corners.{sheetBordersMost, partOf, flowsOf, judgeCorners, flowsLeft, cornersLeft}
 use Rattle.corners.specs.Listed.{FlowsListed}
 use Rattle.corners.proofs.CornerLaws.{flows-length}
@@ -30,21 +30,18 @@ module _ (given : Table) (row : ℕ) (r : Judgement) (said : ruled r (front give
       q ∙ sym (then-refused _ (sym said ∙ q))
 
   module _ (ok : r ≡ Passed) where
-    past-table : judgeLent given ≡ passed (front given)
-    past-table = sym said ∙ ap (λ (j : Judgement). ruled j (front given)) ok
-
     pub borders-refused : sheetBordersMost < given .header .borders → refused (noCorners (given .header .borders)) ≡ judgeCorners given row
     unfolding judgeCorners
-    borders-refused h = sym (then-next _ past-table ∙ unless-refused _ _ (lt-leb _ _ h))
+    borders-refused h = sym (then-next _ (told-judged given r said ok) ∙ unless-refused _ _ (lt-leb _ _ h))
 
     module _ (few : given .header .borders ≤ sheetBordersMost) where
       pub row-refused : given .header .rows ≤ row → refused (noCorners row) ≡ judgeCorners given row
       unfolding judgeCorners
-      row-refused h = sym (then-next _ past-table ∙ unless-ok _ _ (le-leb _ _ few) ∙ unless-refused _ _ (le-ltb _ _ h))
+      row-refused h = sym (then-next _ (told-judged given r said ok) ∙ unless-ok _ _ (le-leb _ _ few) ∙ unless-refused _ _ (le-ltb _ _ h))
 
       pub sheet-passed : row < given .header .rows → passed (front given) ≡ judgeCorners given row
       unfolding judgeCorners
-      sheet-passed h = sym (then-next _ past-table ∙ unless-ok _ _ (le-leb _ _ few) ∙ unless-ok _ _ (lt-ltb _ _ h))
+      sheet-passed h = sym (then-next _ (told-judged given r said ok) ∙ unless-ok _ _ (le-leb _ _ few) ∙ unless-ok _ _ (lt-ltb _ _ h))
 
 -- ---- what is known of a table that has a sheet for a row
 pub record Sheet (t : Table) (row : ℕ) : Type 0 where

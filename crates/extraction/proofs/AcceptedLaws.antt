@@ -5,7 +5,6 @@ use mathlib.Core.List.{List}
 use Prim.Native.Nat.{ℕ, _*_, _^_, _≤_, _<_}
 use native.Mathlib.Nat.{le-of-eq, le-trans, mul-le-mul}
 use native.Mathlib.Omega.{arith}
-use borrow.Author.Tests.{not-false}
 use lib.Dec.{ltb}
 use lib.IntN.{ℤ, pos, negsuc, natAbs}
 use lib.ListN.{length}
@@ -21,28 +20,28 @@ use Rattle.table.specs.Table.{Table, borderAt, factorsAt}
 use Rattle.rounds.specs.Rounds.{load}
 use Rattle.margin.specs.Margin.{pOf, ltaKw, sOf, sAt, marginOf, startsOf}
 use Rattle.start.specs.Setup.{gridBy, beginBy, judgeBy}
-use Rattle.start.specs.Start.{rowsOf, kept, fromBy, tableGrid, tableStart, judgeTable, setupWith}
-use Rattle.extraction.specs.Extraction.{Result, resultOf, outcomeOf}
+use Rattle.start.specs.Start.{rowsOf, kept, fromBy, gridMarked, tableStart, judgeMarked, setupWith}
+use Rattle.extraction.specs.Extraction.{Result, resultMarked, outcomeMarked}
 
 -- ---- what an accepted table has
 starts-at : (t : Table) (i : ℕ) → i < t .header .rows → atℤ (startsOf t) i ≡ marginOf t i
 starts-at t i h = table-get (t .header .rows) (marginOf t) i (pos 0) h
 
-pub record Accepted (t : Table) (r : Result) : Type 0 where
-  pub is : resultOf t ≡ r
-  pub loaded : (b : ℕ) → b < t .header .borders → someBelow (t .header .rows) (λ i. ltb 0 (tableGrid t .p i b)) ≡ true
+pub record Accepted (marked : ℕ → Bool) (t : Table) (r : Result) : Type 0 where
+  pub is : resultMarked marked t ≡ r
+  pub loaded : (b : ℕ) → b < t .header .borders → (marked b && not (someBelow (t .header .rows) (λ i. ltb 0 (gridMarked marked t .p i b)))) ≡ false
   pub above : (i : ℕ) → i < t .header .rows → (kept (rowsOf t .states) i && (not (isIntraday (t .header)) && ltZ (marginOf t i) (pos 0))) ≡ false
 
-pub accepted : (t : Table) (r : Result) → outcomeOf t ≡ passed r → Accepted t r
-unfolding outcomeOf judgeBy gridBy setupWith
-accepted t r e =
-    let w = then-passed (judgeTable t) (λ states. passed (resultOf t)) r e in
+pub accepted : (marked : ℕ → Bool) (t : Table) (r : Result) → outcomeMarked marked t ≡ passed r → Accepted marked t r
+unfolding outcomeMarked judgeBy gridBy setupWith
+accepted marked t r e =
+    let w = then-passed (judgeMarked marked t) (λ states. passed (resultMarked marked t)) r e in
     let a = unless-passed (w .it) _ _ _ (w .first) in
     let b = none-passed _ _ _ _ (w .it) (a .1) in
     let c = none-passed _ _ _ _ (w .it) (b .1) in
     record {
       is = passed-is _ _ (w .second);
-      loaded = λ k h. not-false _ (b .0 k h);
+      loaded = b .0;
       above = λ i h. ap (λ (z : ℤ). kept (rowsOf t .states) i && (not (isIntraday (t .header)) && ltZ z (pos 0))) (sym (starts-at t i h)) ∙ c .0 i h;
     }
 
@@ -83,13 +82,13 @@ module _ (t : Table) where
   unfolding sOf
   s-ltas long i = ap (λ (n : ℕ). sum n (λ b. pOf (factorsAt t i) (borderAt t b) * ltaKw (borderAt t b))) (sym long)
 
-  -- .. and at the start it is that, or less where the row takes no part and in the intraday profile
-  pub load-le : length (t .borders) ≡ t .header .borders → (i : ℕ) → load (tableGrid t) i (tableStart t .x) ≤ s-of i
+  -- .. and at the start it is that, or less where a border is not marked, where the row takes no part, and in the intraday profile
+  pub load-le : (marked : ℕ → Bool) → length (t .borders) ≡ t .header .borders → (i : ℕ) → load (gridMarked marked t) i (tableStart t .x) ≤ s-of i
   unfolding load gridBy setupWith
-  load-le long i =
+  load-le marked long i =
       le-trans
       (sum-mono (t .header .borders) _ _ (λ b h.
-      mul-le-mul (part-le-whole (kept states i) (pOf (factorsAt t i) (borderAt t b))) (rw (start-x b h) (from-most (isIntraday (t .header)) (borderAt t b)))))
+      mul-le-mul (part-le-whole (marked b && kept states i) (pOf (factorsAt t i) (borderAt t b))) (rw (start-x b h) (from-most (isIntraday (t .header)) (borderAt t b)))))
       (le-of-eq (s-ltas long i))
 
   -- margins of less than 2^E in magnitude start the rounds so

@@ -11,7 +11,7 @@ use Rattle.margin.specs.Margin.{grains, f0coreOf, fuafOf, baseOf, amrOf, signed
 use Rattle.states.specs.States.{highest, lowest, spreadOf, shifted, below, stateOf}
 use Rattle.start.specs.Setup.{gridBy, judgeBy}
 use Rattle.start.specs.Start.{rowsOf, kept, setupWith}
-use Rattle.extraction.specs.Extraction.{outcomeOf}
+use Rattle.extraction.specs.Extraction.{outcomeMarked, outcomeOf}
 
 -- IVA 1 takes row 0 below 0, and no row limits border 1
 abbrev sixAndSeven : Table
@@ -26,5 +26,5 @@ sixAndSeven =
     }
 
 pub six-before-seven : outcomeOf sixAndSeven ≡ refused (unlimited 1)
-unfolding ifZero sum table firstFrom given maxℤ minℤ positivePart sameℤ sumℤ hubsOf borderOf shareOf rowOf worth defaultOf then unless refuseAt refuseFirst stretch grains f0coreOf fuafOf baseOf amrOf signedFactor pOf ltaKw sOf ltaMarginOf ramOf ramAt highest lowest spreadOf shifted below stateOf rowsOf kept outcomeOf gridBy setupWith judgeBy
+unfolding outcomeMarked ifZero sum table firstFrom given maxℤ minℤ positivePart sameℤ sumℤ hubsOf borderOf shareOf rowOf worth defaultOf then unless refuseAt refuseFirst stretch grains f0coreOf fuafOf baseOf amrOf signedFactor pOf ltaKw sOf ltaMarginOf ramOf ramAt highest lowest spreadOf shifted below stateOf rowsOf kept outcomeOf gridBy setupWith judgeBy
 six-before-seven = refl

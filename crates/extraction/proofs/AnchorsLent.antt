@@ -1,4 +1,4 @@
--- What `extract` leaves of a small hour in lent memory that holds something else. Nobody cites it: it refuses a definition that slipped, by the number that comes out.
+-- What `extract` and `extract_marked` leave of a small hour in lent memory that holds something else. Nobody cites it: it refuses a definition that slipped, by the number that comes out.
 use mathlib.Core.Path.{_≡_, refl}
 use mathlib.Core.List.{List, [], _∷_}
 use Prim.Native.Nat.{ℕ}
@@ -8,6 +8,7 @@ use Rattle.numbers.specs.Below.{ifZero, sum, count, lesser, least, orZero, tabl
 use Rattle.numbers.specs.Ints.{minus, maxℤ, minℤ, positivePart, sameℤ, inside, sumℤ}
 use Rattle.kinds.specs.Ranges.{headerFits, allocatedItems, zoneFits, exists, hubsFit, borderFits, hubsOf, borderOf, shareOf, rowOf, rowFits, factorFits, worth, defaultOf}
 use Rattle.kinds.specs.Refusals.{passed, refused, refusal, then, either, unless, refuseAt, refuseFirst, need}
+use Rattle.marks.specs.Marks.{markedBy, faultyMark, judgeMarks}
 use Rattle.table.specs.Table.{Table, stretch, balanced, twice, roomFor, judgeShape}
 use Rattle.rounds.specs.Rounds.{sharers, raise, raises, load, lowered, risen, apply, next, raised, counted, run, extract}
 use Rattle.rounds.specs.Last.{after, raiseIn, lastTo, lastRound}
@@ -16,7 +17,7 @@ use Rattle.margin.specs.Margin.{grains, f0coreOf, fuafOf, baseOf, amrOf, signed
 use Rattle.states.specs.States.{highest, lowest, spreadOf, shifted, below, stateOf}
 use Rattle.start.specs.Setup.{gridBy, beginBy, judgeBy}
 use Rattle.start.specs.Start.{rowsOf, kept, setupWith}
-use Rattle.extraction.specs.Extraction.{resultOf, atcOf, leftOf, lastOf, stopOf, outcomeOf, atcRecord, rowRecord, judgeExtract, ExtractLeft, extractLeft}
+use Rattle.extraction.specs.Extraction.{resultMarked, resultOf, atcOf, leftOf, lastOf, stopOf, outcomeMarked, outcomeOf, outcomeFor, atcRecord, rowRecord, judgeExtract, ExtractLeft, extractFor, extractLeft, extractMarkedLeft}
 
 -- rows 0 and 1 limit a border each, 15 kW and 10 kW, row 2 is under 5%; FRM and IVA of row 0 are one's own
 abbrev smallIn : (mark : ℕ) → (allocated : List ℤ) → (frm iva : ℕ) → Table
@@ -60,7 +61,21 @@ pub record Anchors : Type 0 where
   -- 8 looks at it before records, of which row 0 is out of range (3, line 6)
   pub short : leaving 4 0 5 .answer ≡ refused (refusal 8 6 0)
   pub long : leaving 4 0 6 .answer ≡ refused (refusal 3 6 0)
+  -- border 1 alone marked (02, E13): border 0 stays, with last round 0 and no stopping row, and row 0 keeps its margin; the table of p is whole
+  pub marked : extractMarkedLeft (smallIn 0 [] 0 0) (1 ∷ []) (replicate 7 9) (replicate 2 []) (replicate 3 [])
+      ≡ record {
+        answer = passed 1;
+        p = 20000 ∷ 0 ∷ 0 ∷ 30000 ∷ 0 ∷ 0 ∷ 9 ∷ [];
+        atcs = (pos 0 ∷ pos 0 ∷ minus 1 ∷ []) ∷ (pos 0 ∷ pos 1 ∷ pos 1 ∷ []) ∷ [];
+        lefts = (pos 0 ∷ pos 300000 ∷ pos 300000 ∷ []) ∷ (pos 0 ∷ pos 300000 ∷ pos 0 ∷ []) ∷ (pos 1 ∷ pos 500000 ∷ minus 1 ∷ []) ∷ [];
+      }
+  -- both marked, in any order, is the ordinary answer
+  pub marked-both : extractMarkedLeft (smallIn 0 [] 0 0) (1 ∷ 0 ∷ []) (replicate 7 9) (replicate 2 []) (replicate 3 []) ≡ leaving 0 0 7
+  -- 13 comes before 7, and after records
+  pub thirteen : extractMarkedLeft (smallIn 0 [] 0 4) (0 ∷ 0 ∷ []) (replicate 7 9) (replicate 2 []) (replicate 3 [])
+      ≡ record { answer = refused (refusal 13 2 0); p = replicate 7 9; atcs = replicate 2 []; lefts = replicate 3 [] }
+  pub thirteen-late : extractMarkedLeft (smallIn 0 [] 4 0) [] (replicate 7 9) (replicate 2 []) (replicate 3 []) .answer ≡ refused (refusal 3 6 0)
 
 pub anchors : Anchors
-unfolding ifZero sum count lesser least orZero table firstFrom given maxℤ minℤ positivePart sameℤ inside sumℤ headerFits allocatedItems zoneFits exists hubsFit borderFits hubsOf borderOf shareOf rowOf rowFits factorFits worth defaultOf then either unless refuseAt refuseFirst need stretch balanced twice roomFor judgeShape sharers raise raises load lowered risen apply next raised counted run extract after raiseIn lastTo lastRound stopRow grains f0coreOf fuafOf baseOf amrOf signedFactor pOf ltaKw sOf ltaMarginOf ramOf ramAt highest lowest spreadOf shifted below stateOf rowsOf kept resultOf atcOf leftOf lastOf stopOf outcomeOf atcRecord rowRecord judgeExtract extractLeft gridBy setupWith beginBy judgeBy
-anchors = record { accepted = refl; below = refl; intraday = refl; short = refl; long = refl }
+unfolding resultMarked outcomeMarked outcomeFor extractFor extractMarkedLeft judgeMarks faultyMark markedBy ifZero sum count lesser least orZero table firstFrom given maxℤ minℤ positivePart sameℤ inside sumℤ headerFits allocatedItems zoneFits exists hubsFit borderFits hubsOf borderOf shareOf rowOf rowFits factorFits worth defaultOf then either unless refuseAt refuseFirst need stretch balanced twice roomFor judgeShape sharers raise raises load lowered risen apply next raised counted run extract after raiseIn lastTo lastRound stopRow grains f0coreOf fuafOf baseOf amrOf signedFactor pOf ltaKw sOf ltaMarginOf ramOf ramAt highest lowest spreadOf shifted below stateOf rowsOf kept resultOf atcOf leftOf lastOf stopOf outcomeOf atcRecord rowRecord judgeExtract extractLeft gridBy setupWith beginBy judgeBy
+anchors = record { accepted = refl; below = refl; intraday = refl; short = refl; long = refl; marked = refl; marked-both = refl; thirteen = refl; thirteen-late = refl }

@@ -1,5 +1,6 @@
 -- The laws behind `extract`: what the rounds of the code come to, what is stored, and which judgement decides of a judged table. No contract cites this file.
 use mathlib.Core.Path.{_≡_, refl, sym, ap, ap₂, _∙_}
+use mathlib.Core.Bool.{Bool}
 use mathlib.Core.List.{List, [], _++_, append-nil}
 use mathlib.Core.Option.{Option, none}
 use Prim.Native.Nat.{ℕ, _+_, _*_, _/_, _^_, _≤_, _<_}
@@ -33,10 +34,10 @@ use Rattle.margin.specs.Bounds.{startBits}
 use Rattle.margin.proofs.JudgedLaws.{good-borders}
 use Rattle.margin.proofs.Small.{named-values-small}
 use Rattle.start.specs.Setup.{gridBy, beginBy}
-use Rattle.start.specs.Start.{Rows, rowsOf, fromBy, tableGrid, tableStart, judgeTable, setupWith}
+use Rattle.start.specs.Start.{Rows, rowsOf, every, fromBy, gridMarked, tableGrid, tableStart, judgeMarked, setupWith}
 use Rattle.start.specs.Filled.{froms, exchangesOf, cells}
 use Rattle.start.proofs.StartLaws.{cells-at, grid-long, rows-in, PreparedAs}
-use Rattle.extraction.specs.Extraction.{Result, resultBy, resultOf, leftOf, lastOf, stopOf, outcomeOf, borderLeft, leftOfRow, atcRecord, rowRecord, ExtractLeft, leaves, resultRoom, resultStored}
+use Rattle.extraction.specs.Extraction.{Result, resultBy, resultMarked, leftOf, lastOf, stopOf, outcomeMarked, borderLeft, leftOfRow, atcRecord, rowRecord, ExtractLeft, leaves, resultRoom, resultStored}
 use Rattle.extraction.specs.Work.{endedAt, gridWith, startWith, outcomeWith, Runnable, Ran, Finishable, resultWith, finished, outcomeLeft}
 use Rattle.extraction.proofs.AcceptedLaws.{accepted, load-le, small-start}
 
@@ -143,15 +144,15 @@ module _ {h : Header} {b : List (List ℤ)} {m : Rows} {p margins : List ℕ} (u
             (stop-by (gridWith h p) ends k (ran .shared) ∙ sym (table-get (h .borders) (stopRow (gridWith h p) ends) k none hk))
 
 -- ---- a prepared table
-module _ {t : Table} {r : Judgement} {rams starts : List ℤ} {states : List ℕ} (q : PreparedAs t r rams starts states) where
-  pub start-turned : {w : Refusal} → r ≡ Refused w → judgeTable t ≡ refused w
+module _ {marked : ℕ → Bool} {t : Table} {r : Judgement} {rams starts : List ℤ} {states : List ℕ} (q : PreparedAs marked t r rams starts states) where
+  pub start-turned : {w : Refusal} → r ≡ Refused w → judgeMarked marked t ≡ refused w
   start-turned e = sym (q .judged) ∙ ap (λ (j : Judgement). ruled j states) e
 
-  pub start-passed : r ≡ Passed → judgeTable t ≡ passed (rowsOf t .states)
+  pub start-passed : r ≡ Passed → judgeMarked marked t ≡ passed (rowsOf t .states)
   start-passed e = sym (q .judged) ∙ ap (λ (j : Judgement). ruled j states) e ∙ ap (λ (n : Rows). passed (n .states)) (q .rows)
 
--- ---- .. whose p and margins are laid out
-module _ {t : Table} (good : Good t) {m : Rows} (rows-are : m ≡ rowsOf t) {p margins : List ℕ} (p-is : p ≡ cells (tableGrid t)) (margins-are : margins ≡ tableStart t .margins) where
+-- ---- .. whose p at the marked borders and whose margins are laid out
+module _ (marked : ℕ → Bool) {t : Table} (good : Good t) {m : Rows} (rows-are : m ≡ rowsOf t) {p margins : List ℕ} (p-is : p ≡ cells (gridMarked marked t)) (margins-are : margins ≡ tableStart t .margins) where
   abbrev h : Header
   h = t .header
 
@@ -160,11 +161,11 @@ module _ {t : Table} (good : Good t) {m : Rows} (rows-are : m ≡ rowsOf t) {p m
   froms-are = ap (λ (n : ℕ). table n (λ k. fromBy (isIntraday h) (borderOf (getD (t .borders) k [])))) (good .exact .borders-long)
 
   -- the flat table of p agrees with the grid at every row and border
-  p-at : (i b : ℕ) → i < h .rows → b < h .borders → flat (h .rows) (h .borders) p .p i b ≡ tableGrid t .p i b
+  p-at : (i b : ℕ) → i < h .rows → b < h .borders → flat (h .rows) (h .borders) p .p i b ≡ gridMarked marked t .p i b
   unfolding gridBy setupWith
-  p-at i b l k = ap (λ (ps : List ℕ). at ps (i * h .borders + b)) p-is ∙ cells-at (tableGrid t) i b l k
+  p-at i b l k = ap (λ (ps : List ℕ). at ps (i * h .borders + b)) p-is ∙ cells-at (gridMarked marked t) i b l k
 
-  load-is : (i : ℕ) → i < h .rows → load (flat (h .rows) (h .borders) p) i (froms (isIntraday h) (t .borders)) ≡ load (tableGrid t) i (tableStart t .x)
+  load-is : (i : ℕ) → i < h .rows → load (flat (h .rows) (h .borders) p) i (froms (isIntraday h) (t .borders)) ≡ load (gridMarked marked t) i (tableStart t .x)
   unfolding load gridBy setupWith
   load-is i l = sum-cong (h .borders) _ _ (λ b k. ap₂ _*_ (p-at i b l k) (ap (λ (v : List ℕ). at v b) froms-are))
 
@@ -177,7 +178,7 @@ module _ {t : Table} (good : Good t) {m : Rows} (rows-are : m ≡ rowsOf t) {p m
           header = good .exact .header;
           borders = good-borders good;
           borders-long = good .exact .borders-long;
-          p-long = grid-long t p-is;
+          p-long = grid-long marked t p-is;
           margins-long = ap length margins-are ∙ table-long (h .rows) _;
           fits = λ i l.
               omega (
@@ -185,7 +186,7 @@ module _ {t : Table} (good : Good t) {m : Rows} (rows-are : m ≡ rowsOf t) {p m
                 ap (λ (v : List ℕ). at v i) margins-are,
                 small-start t startBits (λ j k. named-values-small good j k .start) i l,
                 load-is i l,
-                load-le t (good .exact .borders-long) i,
+                load-le t marked (good .exact .borders-long) i,
                 named-values-small good i l .s,
               );
         };
@@ -194,61 +195,65 @@ module _ {t : Table} (good : Good t) {m : Rows} (rows-are : m ≡ rowsOf t) {p m
         states-in = rows .states-in;
       }
 
-  result-is : resultWith h (t .borders) m p margins ≡ resultOf t
-  unfolding resultOf gridBy setupWith
+  -- the result, but for its p, which is that of the marked borders
+  result-is : resultWith h (t .borders) m p margins ≡ resultBy h (rowsOf t) p (gridMarked marked t) (tableStart t)
+  unfolding gridBy setupWith
   result-is =
       let g = gridWith h p in
       let s = tableStart t in
       let made : Outcome → List ℕ → List (Option ℕ) → Result =
-      λ o lasts stops. record { header = h; rows = rowsOf t; p = cells (tableGrid t); outcome = o; lasts = lasts; stops = stops } in
-      let ended : extract g s ≡ extract (tableGrid t) s = same-factors (h .rows) (h .borders) _ _ p-at s in
-      ap₂ {C = Result} (λ (n : Rows) (ps : List ℕ). resultBy h n ps g (startWith h (t .borders) margins)) rows-are p-is
-      ∙ ap (resultBy h (rowsOf t) (cells (tableGrid t)) g) (ap₂ {C = State} (λ (ms xs : List ℕ). record { margins = ms; x = xs }) margins-are froms-are)
+      λ o lasts stops. record { header = h; rows = rowsOf t; p = p; outcome = o; lasts = lasts; stops = stops } in
+      let ended : extract g s ≡ extract (gridMarked marked t) s = same-factors (h .rows) (h .borders) _ _ p-at s in
+      ap {B = Result} (λ (n : Rows). resultBy h n p g (startWith h (t .borders) margins)) rows-are
+      ∙ ap (resultBy h (rowsOf t) p g) (ap₂ {C = State} (λ (ms xs : List ℕ). record { margins = ms; x = xs }) margins-are froms-are)
       ∙ ap₂ (λ (o : Outcome) (l : List ℕ). made o l (stopRows g (extract g s .state .margins))) ended (same-lasts (h .rows) (h .borders) _ _ p-at s)
-      ∙ ap (made (extract (tableGrid t) s) (lastRounds (tableGrid t) s))
-      (ap (λ (o : Outcome). stopRows g (o .state .margins)) ended ∙ same-stops (h .rows) (h .borders) _ _ p-at (extract (tableGrid t) s .state .margins))
+      ∙ ap (made (extract (gridMarked marked t) s) (lastRounds (gridMarked marked t) s))
+      (ap (λ (o : Outcome). stopRows g (o .state .margins)) ended ∙ same-stops (h .rows) (h .borders) _ _ p-at (extract (gridMarked marked t) s .state .margins))
 
-  -- a lent table of p of just that length is filled
-  pub stored-is : (ps : List ℕ) → length ps ≡ h .rows * h .borders → (atcs lefts : List (List ℤ))
-      → finished atcs lefts (resultWith h (t .borders) m p margins) ≡ resultStored ps atcs lefts (resultOf t)
-  unfolding resultOf
-  stored-is ps long atcs lefts =
-      ap (finished atcs lefts) result-is
-      ∙ ap (λ (v : List ℕ). leaves (passed (resultOf t .outcome .rounds)) v (over (table (h .borders) (atcRecord (resultOf t))) atcs) (over (table (h .rows) (rowRecord (resultOf t))) lefts))
-      (sym (ap (λ (old : List ℕ). cells (tableGrid t) ++ old) (drop-of-length-le ps {i = length (cells (tableGrid t))} (omega (arith, long, p-long-is))) ∙ append-nil _))
+  -- with p of every border it is the table's; a lent table of p of just that length is filled
+  pub stored-is : (ps : List ℕ) → length ps ≡ h .rows * h .borders → (atcs lefts : List (List ℤ)) {atcs′ lefts′ : List (List ℤ)} (k : ℕ)
+      → leaves (passed k) p atcs′ lefts′ ≡ finished atcs lefts (resultWith h (t .borders) m p margins)
+      → {whole : List ℕ} → whole ≡ cells (tableGrid t) → leaves (passed k) whole atcs′ lefts′ ≡ resultStored ps atcs lefts (resultMarked marked t)
+  unfolding resultMarked atcRecord rowRecord leftOf lastOf stopOf
+  stored-is ps long atcs lefts k e {whole} whole-is =
+      let stored : Result → List ℕ → ExtractLeft =
+      λ r v. leaves (passed (r .outcome .rounds)) v (over (table (r .header .borders) (atcRecord r)) atcs) (over (table (r .header .rows) (rowRecord r)) lefts) in
+      ap (λ (l : ExtractLeft). leaves (l .answer) whole (l .atcs) (l .lefts)) e
+      ∙ ap (λ (r : Result). stored r whole) result-is
+      ∙ ap (stored (resultMarked marked t)) (whole-is ∙ sym (ap (λ (old : List ℕ). cells (tableGrid t) ++ old) (drop-of-length-le ps {i = length (cells (tableGrid t))} (omega (arith, long, whole-long))) ∙ append-nil _))
     where
-      p-long-is : length (cells (tableGrid t)) ≡ h .rows * h .borders
-      p-long-is = grid-long t refl
+      whole-long : length (cells (tableGrid t)) ≡ h .rows * h .borders
+      whole-long = grid-long every t refl
 
 -- ---- which judgement decides, of a judged table
-module _ (t : Table) (ps : List ℕ) (atcs lefts : List (List ℤ)) where
-  pub start-refused : {w : Refusal} → judgeTable t ≡ refused w → leaves (refused w) ps atcs lefts ≡ outcomeLeft (outcomeOf t) ps atcs lefts
-  unfolding outcomeLeft outcomeOf
+module _ (marked : ℕ → Bool) (t : Table) (ps : List ℕ) (atcs lefts : List (List ℤ)) where
+  pub start-refused : {w : Refusal} → judgeMarked marked t ≡ refused w → leaves (refused w) ps atcs lefts ≡ outcomeLeft (outcomeMarked marked t) ps atcs lefts
+  unfolding outcomeLeft outcomeMarked
   start-refused e = sym (either-refused _ _ (then-refused _ (then-refused _ e)))
 
-  module _ (e : judgeTable t ≡ passed (rowsOf t .states)) where
+  module _ (e : judgeMarked marked t ≡ passed (rowsOf t .states)) where
     abbrev result : Result
-    result = resultOf t
+    result = resultMarked marked t
 
-    past-start : then (outcomeOf t) (resultRoom atcs lefts) ≡ resultRoom atcs lefts result
-    unfolding outcomeOf
+    past-start : then (outcomeMarked marked t) (resultRoom atcs lefts) ≡ resultRoom atcs lefts result
+    unfolding outcomeMarked
     past-start = then-next _ (then-next _ e)
 
-    pub short-borders : length atcs < t .header .borders → leaves (refused (tooShort (t .header .borders))) ps atcs lefts ≡ outcomeLeft (outcomeOf t) ps atcs lefts
-    unfolding outcomeLeft resultOf
+    pub short-borders : length atcs < t .header .borders → leaves (refused (tooShort (t .header .borders))) ps atcs lefts ≡ outcomeLeft (outcomeMarked marked t) ps atcs lefts
+    unfolding outcomeLeft resultMarked
     short-borders l = sym (either-refused _ _ (past-start ∙ need-short _ _ _ l))
 
     module _ (hb : t .header .borders ≤ length atcs) where
-      pub short-rows : length lefts < t .header .rows → leaves (refused (tooShort (t .header .rows))) ps atcs lefts ≡ outcomeLeft (outcomeOf t) ps atcs lefts
-      unfolding outcomeLeft resultOf
+      pub short-rows : length lefts < t .header .rows → leaves (refused (tooShort (t .header .rows))) ps atcs lefts ≡ outcomeLeft (outcomeMarked marked t) ps atcs lefts
+      unfolding outcomeLeft resultMarked
       short-rows l = sym (either-refused _ _ (past-start ∙ need-enough _ _ _ hb ∙ need-short _ _ _ l))
 
-      pub all-stored : t .header .rows ≤ length lefts → resultStored ps atcs lefts result ≡ outcomeLeft (outcomeOf t) ps atcs lefts
-      unfolding outcomeLeft resultOf
+      pub all-stored : t .header .rows ≤ length lefts → resultStored ps atcs lefts result ≡ outcomeLeft (outcomeMarked marked t) ps atcs lefts
+      unfolding outcomeLeft resultMarked
       all-stored l = sym (either-passed _ _ (past-start ∙ need-enough _ _ _ hb ∙ need-enough _ _ _ l))
 
 -- .. of a lent table of p that is longer than the front that was worked on
-module _ (t : Table) (n : ℕ) (is : n ≡ t .header .rows * t .header .borders) (ps : List ℕ) (enough : n ≤ length ps) (atcs lefts : List (List ℤ)) where
+module _ (marked : ℕ → Bool) (t : Table) (n : ℕ) (is : n ≡ t .header .rows * t .header .borders) (ps : List ℕ) (enough : n ≤ length ps) (atcs lefts : List (List ℤ)) where
   abbrev longer : ExtractLeft → ExtractLeft
   longer l = leaves (l .answer) (l .p ++ drop n ps) (l .atcs) (l .lefts)
 
@@ -258,18 +263,18 @@ module _ (t : Table) (n : ℕ) (is : n ≡ t .header .rows * t .header .borders)
       ∙ ap (λ (v : List ℕ). v ++ drop n ps) (append-nil new)
       ∙ ap (λ (k : ℕ). new ++ drop k ps) (sym e)
 
-  longer-is : (j : Judged Result) → then (outcomeOf t) (resultRoom atcs lefts) ≡ j
+  longer-is : (j : Judged Result) → then (outcomeMarked marked t) (resultRoom atcs lefts) ≡ j
       → longer (either j (resultStored (take n ps) atcs lefts) (λ w. leaves (refused w) (take n ps) atcs lefts)) ≡ either j (resultStored ps atcs lefts) (λ w. leaves (refused w) ps atcs lefts)
-  unfolding either resultOf
+  unfolding either resultMarked
   longer-is (refused w) e = ap (λ (v : List ℕ). leaves (refused w) v atcs lefts) (take-append-drop n ps)
   longer-is (passed r) e =
-      let o = then-passed (outcomeOf t) (resultRoom atcs lefts) r e in
+      let o = then-passed (outcomeMarked marked t) (resultRoom atcs lefts) r e in
       let b = need-passed r _ _ _ (o .second) in
       let c = need-passed r _ _ _ (b .1) in
-      let k : resultOf t ≡ r = accepted t (o .it) (o .first) .is ∙ passed-is _ _ (c .1) in
+      let k : resultMarked marked t ≡ r = accepted marked t (o .it) (o .first) .is ∙ passed-is _ _ (c .1) in
       ap (λ (v : List ℕ). leaves (passed (r .outcome .rounds)) v (resultStored ps atcs lefts r .atcs) (resultStored ps atcs lefts r .lefts))
-      (over-front (r .p) (sym (ap (λ (v : Result). length (v .p)) k) ∙ grid-long t refl ∙ sym is))
+      (over-front (r .p) (sym (ap (λ (v : Result). length (v .p)) k) ∙ grid-long every t refl ∙ sym is))
 
-  pub front-left : {l : ExtractLeft} → l ≡ outcomeLeft (outcomeOf t) (take n ps) atcs lefts → longer l ≡ outcomeLeft (outcomeOf t) ps atcs lefts
+  pub front-left : {l : ExtractLeft} → l ≡ outcomeLeft (outcomeMarked marked t) (take n ps) atcs lefts → longer l ≡ outcomeLeft (outcomeMarked marked t) ps atcs lefts
   unfolding outcomeLeft
-  front-left e = ap longer e ∙ longer-is (then (outcomeOf t) (resultRoom atcs lefts)) refl
+  front-left e = ap longer e ∙ longer-is (then (outcomeMarked marked t) (resultRoom atcs lefts)) refl

@@ -1,5 +1,5 @@
--- No second answer, and no second content of a lent buffer, satisfies the contract of `extract`.
--- The theorem is about the contract itself, as the check reads it from the source (`reads.Post`), and not about a copy.
+-- No second answer, and no second content of a lent buffer, satisfies the contract of `extract` or of `extract_marked`.
+-- The theorems are about the contracts themselves, as the check reads them from the source (`reads.Post`), and not about copies.
 use mathlib.Core.Path.{_≡_, sym, ap, _∙_}
 use mathlib.Core.List.{List}
 use Prim.Native.Nat.{ℕ}
@@ -16,6 +16,9 @@ use Rattle.extraction.specs.Extraction.{ExtractLeft, leaves}
 use Rattle.extraction.proofs.extract.{signature}
 use Rattle.extraction.proofs.extract.Kinds as kinds
 use Rattle.extraction.proofs.extract.Reads as reads
+use Rattle.extraction.proofs.extract_marked as marked
+use Rattle.extraction.proofs.extract_marked.Kinds as marked-kinds
+use Rattle.extraction.proofs.extract_marked.Reads as marked-reads
 
 -- whatever a call may leave
 one : (may : ExtractLeft) (r r′ : Extracted) (ps ps′ : List ℕ) (atcs atcs′ lefts lefts′ : List (List ℤ)) → leaves (saidExtracted r) ps atcs lefts ≡ may → leaves (saidExtracted r′) ps′ atcs′ lefts′ ≡ may
@@ -30,3 +33,12 @@ pub extract-once : (κs : Lfts 8) (x : ArgsD signature κs) (r r′ : ResD signa
     × ((now (s .1 .1 .1 .1 .1 .1 .1 .0) ≡ now (s′ .1 .1 .1 .1 .1 .1 .1 .0))
     × (now (s .1 .1 .1 .1 .1 .1 .1 .1 .0) ≡ now (s′ .1 .1 .1 .1 .1 .1 .1 .1 .0))))
 extract-once κs x r r′ s s′ p q = one _ r r′ _ _ _ _ _ _ p q
+
+-- the marks stand between p and the results
+pub extract-marked-once : (κs : Lfts 9) (x : ArgsD marked.signature κs) (r r′ : ResD marked.signature κs) (s s′ : AtExit (endedOf 9 marked-kinds.ps marked-kinds.r) κs)
+    → marked-reads.Post κs x r s → marked-reads.Post κs x r′ s′
+    → (r ≡ r′)
+    × ((now (s .1 .1 .1 .1 .1 .1 .0) ≡ now (s′ .1 .1 .1 .1 .1 .1 .0))
+    × ((now (s .1 .1 .1 .1 .1 .1 .1 .1 .0) ≡ now (s′ .1 .1 .1 .1 .1 .1 .1 .1 .0))
+    × (now (s .1 .1 .1 .1 .1 .1 .1 .1 .1 .0) ≡ now (s′ .1 .1 .1 .1 .1 .1 .1 .1 .1 .0))))
+extract-marked-once κs x r r′ s s′ p q = one _ r r′ _ _ _ _ _ _ p q

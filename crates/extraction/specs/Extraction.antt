@@ -1,5 +1,6 @@
--- From a table to its result (01, "Extraction"), and what the open call `extract` leaves. What the rounds start from is crate start's.
-use mathlib.Core.Bool.{cond}
+-- From a table to its result (01, "Extraction"), with every border free to rise or only those that are marked (02, E13), and what the open calls `extract` and
+-- `extract_marked` leave. What the rounds start from is crate start's.
+use mathlib.Core.Bool.{Bool, true, false, cond}
 use mathlib.Core.List.{List, [], _∷_}
 use mathlib.Core.Option.{Option, none, some}
 use Prim.Native.Nat.{ℕ, _*_, _/_}
@@ -11,11 +12,12 @@ use Rattle.numbers.specs.Below.{at, table, over}
 use Rattle.kinds.specs.declared.Header.{Header}
 use Rattle.kinds.specs.Ranges.{atℤ}
 use Rattle.kinds.specs.Refusals.{Judged, passed, refused, then, either, need}
+use Rattle.marks.specs.Marks.{judgeAsked, mayRise}
 use Rattle.table.specs.Table.{Table, judgeShape, judgeRecords}
 use Rattle.rounds.specs.Rounds.{Grid, State, Outcome, extract, mostSharers, aloneBits}
 use Rattle.rounds.specs.Last.{lastRounds}
 use Rattle.rounds.specs.Stopping.{stopRows}
-use Rattle.start.specs.Start.{Rows, rowsOf, tableGrid, tableStart, judgeTable}
+use Rattle.start.specs.Start.{Rows, rowsOf, every, gridMarked, tableGrid, tableStart, judgeMarked}
 use Rattle.start.specs.Filled.{cells}
 
 -- the whole result: what the rows were, p of each row at each border (row after row, border after border), where the rounds ended, and of each
@@ -40,8 +42,12 @@ resultBy h m p g s =
       stops = stopRows g (extract g s .state .margins);
     }
 
+-- .. of a table with these borders marked: p is of every border, and the rounds read the grid in which the others have p = 0
+unfoldable pub resultMarked : (marked : ℕ → Bool) → Table → Result
+resultMarked marked t = resultBy (t .header) (rowsOf t) (cells (tableGrid t)) (gridMarked marked t) (tableStart t)
+
 unfoldable pub resultOf : Table → Result
-resultOf t = resultBy (t .header) (rowsOf t) (cells (tableGrid t)) (tableGrid t) (tableStart t)
+resultOf t = resultMarked every t
 
 -- ATC = kW value floored to whole MW
 abbrev pub inMw : (kw : ℕ) → ℕ
@@ -62,8 +68,15 @@ unfoldable pub stopOf : Result → (b : ℕ) → Option ℕ
 stopOf r b = getD (r .stops) b none
 
 -- the outcome of a judged table: 5, 6, 7, and then the rounds
+unfoldable pub outcomeMarked : (marked : ℕ → Bool) → Table → Judged Result
+outcomeMarked marked t = then (judgeMarked marked t) (λ states. passed (resultMarked marked t))
+
 unfoldable pub outcomeOf : Table → Judged Result
-outcomeOf t = then (judgeTable t) (λ states. passed (resultOf t))
+outcomeOf t = outcomeMarked every t
+
+-- .. as it was asked for, with a list of marks or for every border: 13 comes first
+unfoldable pub outcomeFor : (all : Bool) → (marks : List ℕ) → Table → Judged Result
+outcomeFor all marks t = judgeAsked all (t .header .borders) marks (outcomeMarked (mayRise all marks) t)
 
 -- N and L of demand 3
 unfoldable pub nOf : Table → ℕ
@@ -115,6 +128,14 @@ abbrev pub resultStored : (ps : List ℕ) → (atcs lefts : List (List ℤ)) →
 resultStored ps atcs lefts r =
     leaves (passed (r .outcome .rounds)) (over (r .p) ps) (over (table (r .header .borders) (atcRecord r)) atcs) (over (table (r .header .rows) (rowRecord r)) lefts)
 
+unfoldable pub extractFor : (all : Bool) → (marks : List ℕ) → (lent : Table) → (ps : List ℕ) → (atcs lefts : List (List ℤ)) → ExtractLeft
+extractFor all marks lent ps atcs lefts =
+    either (then (judgeExtract lent (length ps)) (λ t. then (outcomeFor all marks t) (resultRoom atcs lefts))) (resultStored ps atcs lefts) (λ w. leaves (refused w) ps atcs lefts)
+
+-- the open call `extract`
 unfoldable pub extractLeft : (lent : Table) → (ps : List ℕ) → (atcs lefts : List (List ℤ)) → ExtractLeft
-extractLeft lent ps atcs lefts =
-    either (then (judgeExtract lent (length ps)) (λ t. then (outcomeOf t) (resultRoom atcs lefts))) (resultStored ps atcs lefts) (λ w. leaves (refused w) ps atcs lefts)
+extractLeft lent ps atcs lefts = extractFor true [] lent ps atcs lefts
+
+-- the open call `extract_marked`
+unfoldable pub extractMarkedLeft : (lent : Table) → (marks : List ℕ) → (ps : List ℕ) → (atcs lefts : List (List ℤ)) → ExtractLeft
+extractMarkedLeft lent marks ps atcs lefts = extractFor false marks lent ps atcs lefts

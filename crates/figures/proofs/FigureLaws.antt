@@ -25,8 +25,8 @@ use Rattle.margin.specs.Margin.{f0coreOf, sOf, ramOf, ramAt, ramsOf}
 use Rattle.states.specs.States.{spreadOf, shifted, below, stateOf}
 use Rattle.states.proofs.ShiftLaws.{shifted-self}
 use Rattle.start.specs.Setup.{gridBy}
-use Rattle.start.specs.Start.{tableGrid, tableStart, setupWith}
-use Rattle.extraction.specs.Extraction.{Result, resultOf, outcomeOf}
+use Rattle.start.specs.Start.{every, tableGrid, tableStart, setupWith}
+use Rattle.extraction.specs.Extraction.{Result, resultMarked, outcomeOf}
 use Rattle.extraction.proofs.AcceptedLaws.{accepted}
 
 -- ---- spread
@@ -78,9 +78,9 @@ module _ (t : Table) (i j : ℕ) (before : i < j) (h : j < t .header .rows) (val
 
 -- ---- one border
 pub one-border-alone : (t : Table) (r : Result) → outcomeOf t ≡ passed r → t .header .borders ≡ 1 → r .outcome .rounds ≤ 1
-unfolding resultOf gridBy setupWith
+unfolding outcomeOf resultMarked gridBy setupWith
 one-border-alone t r e one =
-    subst (λ (r : Result). r .outcome .rounds ≤ 1) (accepted t r e .is)
+    subst (λ (r : Result). r .outcome .rounds ≤ 1) (accepted every t r e .is)
     (rounds.one-border (extracts (tableGrid t) (tableStart t)) one)
 
 -- ---- a raise

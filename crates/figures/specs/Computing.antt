@@ -3,9 +3,10 @@ use Rattle.block.specs.Block.{linesAt}
 use Rattle.promises.specs.Demand.{loadOf}
 use Rattle.promises.specs.Order.{reorder}
 use Rattle.promises.specs.Ways.{setupIn, resultIn, outcomeIn, unshortened}
+use Rattle.marks.specs.Marks.{markedBy, faultyMark, judgeMarks}
 use Rattle.start.specs.Setup.{gridBy, beginBy, judgeBy, endBy}
 use Rattle.start.specs.Start.{rowsOf, kept, gridOf, startOf, judgeStart, setupWith}
-use Rattle.extraction.specs.Extraction.{resultOf, atcOf, leftOf, lastOf, stopOf, outcomeOf, nOf, lOf, atcRecord, rowRecord, judgeExtract, extractLeft}
+use Rattle.extraction.specs.Extraction.{resultOf, atcOf, leftOf, lastOf, stopOf, outcomeOf, nOf, lOf, atcRecord, rowRecord, judgeExtract, extractFor, extractLeft, extractMarkedLeft, outcomeFor, outcomeMarked, resultMarked}
 use Rattle.corners.specs.Corners.{raisedBy, cornerFlows, judgeCorners, cornersLeft}
 use Rattle.cornertext.specs.CornerText.{cornersText, cornerTextLeft}
 use Rattle.kinds.specs.Ranges.{headerFits, allocatedItems, zoneFits, exists, hubsFit, hubsOf, borderFits, borderOf, shareOf, rowOf, rowFits, factorFits, worth, defaultOf}
@@ -17,7 +18,7 @@ use Rattle.numbers.specs.Ints.{maxℤ, minℤ, positivePart, sameℤ, inside, s
 use Rattle.lines.specs.Lines.{headerLine, positionLine, borderLine, rowLine}
 use Rattle.printing.specs.Printed.{oneSheet, everySheet}
 use Rattle.reading.specs.Reading.{linesOf, readText, readLeft}
-use Rattle.answer.specs.Result.{resultText, answerText, resultTextLeft, answerLeft}
+use Rattle.answer.specs.Result.{resultText, answerFor, answerText, resultTextFor, resultTextLeft, resultTextMarkedLeft, answerForLeft, answerLeft, answerMarkedLeft}
 use Rattle.result.specs.Records.{orDash, recordsText}
 use Rattle.result.specs.Refusal.{refusalText}
 use Rattle.rounds.specs.Rounds.{sharers, raise, alone, raises, load, lowered, risen, apply, next, raised, counted, run, extract, mostSharers, bitsTo, bits, aloneBits}
@@ -37,5 +38,5 @@ use Rattle.text.specs.Written.{textOf, decimal, decimalℤ, fieldsText, lineTex
 use Rattle.writing.specs.Writing.{tableText, writeLeft}
 
 unfoldable pub computing : Unit {0}
-unfolding linesAt loadOf reorder setupIn resultIn outcomeIn unshortened endBy rowsOf kept gridOf startOf resultOf atcOf leftOf lastOf stopOf judgeStart outcomeOf nOf lOf atcRecord rowRecord judgeExtract extractLeft raisedBy cornerFlows judgeCorners cornersLeft cornersText cornerTextLeft headerFits allocatedItems zoneFits exists hubsFit hubsOf borderFits borderOf shareOf rowOf rowFits factorFits worth defaultOf then either unless refuseAt refuseFirst need grains f0coreOf fuafOf baseOf amrOf signedFactor pOf ltaKw cornerPart cornerSum sOf ltaMarginOf ramOf ramAt highest lowest spreadOf shifted below stateOf ifZero sum count largest lesser least orZero table firstFrom given maxℤ minℤ positivePart sameℤ inside sumℤ headerLine positionLine borderLine rowLine oneSheet everySheet linesOf readText readLeft orDash recordsText resultText refusalText answerText resultTextLeft answerLeft sharers raise alone raises load lowered risen apply next raised counted run extract after raiseIn lastTo lastRound stopRow mostSharers bitsTo bits aloneBits stretch balanced twice roomFor judgeShape judgeLent numberAt signedAt shareAt textOf decimal decimalℤ fieldsText lineText linesText tableText textLeft writeLeft fieldAt fieldsAt indexAt restAt columnsLine plainLine plainOptional optionalLine fieldText fieldsEnded indexText columnsText plainText gridBy setupWith beginBy judgeBy goodAt byteAt fieldsByte lineByte plainByte pastSeps rangeByte
+unfolding markedBy faultyMark judgeMarks extractMarkedLeft answerFor resultTextFor resultTextMarkedLeft answerForLeft answerMarkedLeft linesAt loadOf reorder setupIn resultIn outcomeIn unshortened endBy rowsOf kept gridOf startOf resultOf atcOf leftOf lastOf stopOf judgeStart outcomeOf nOf lOf atcRecord rowRecord judgeExtract extractLeft raisedBy cornerFlows judgeCorners cornersLeft cornersText cornerTextLeft headerFits allocatedItems zoneFits exists hubsFit hubsOf borderFits borderOf shareOf rowOf rowFits factorFits worth defaultOf then either unless refuseAt refuseFirst need grains f0coreOf fuafOf baseOf amrOf signedFactor pOf ltaKw cornerPart cornerSum sOf ltaMarginOf ramOf ramAt highest lowest spreadOf shifted below stateOf ifZero sum count largest lesser least orZero table firstFrom given maxℤ minℤ positivePart sameℤ inside sumℤ headerLine positionLine borderLine rowLine oneSheet everySheet linesOf readText readLeft orDash recordsText resultText refusalText answerText resultTextLeft answerLeft sharers raise alone raises load lowered risen apply next raised counted run extract after raiseIn lastTo lastRound stopRow mostSharers bitsTo bits aloneBits stretch balanced twice roomFor judgeShape judgeLent numberAt signedAt shareAt textOf decimal decimalℤ fieldsText lineText linesText tableText textLeft writeLeft fieldAt fieldsAt indexAt restAt columnsLine plainLine plainOptional optionalLine fieldText fieldsEnded indexText columnsText plainText gridBy setupWith beginBy judgeBy goodAt byteAt fieldsByte lineByte plainByte pastSeps rangeByte resultMarked outcomeMarked extractFor outcomeFor
 computing = tt

@@ -1,33 +1,25 @@
 // The program: a table on standard input, its answer on standard output (01, "Result text").
 // `keravnoth rewrite` writes the table again instead, `keravnoth corners` its corner sheets, of all rows or of the one that is named
-// (02, E1). What a refusal means, and that reading or writing failed, is said on standard error: a table that was not read to its end
+// (02, E1). With `--marks LIST` only the borders of the list rise (02, E13).
+// What a refusal means, and that reading or writing failed, is said on standard error: a table that was not read to its end
 // is not answered. With `--status-fd N` the program's last word is its status, on descriptor N.
 mod options;
 
-ghost use mathlib.Core.Bool.{cond};
 ghost use Prim.Native.Nat.{_≤_};
 ghost use lib.ListN.{length};
-ghost use Rattle.kinds.specs.Limits.{bytesMost};
-ghost use Rattle.answer.specs.Result.{answerText};
-ghost use Rattle.printing.specs.Printed.{rewritten, sheetRoom, Printed};
-ghost use Rattle.keravnoth.specs.Taken.{within};
-use libc::STDIN_FILENO;
+ghost use Rattle.printing.specs.Printed.{sheetRoom};
 use libc::STDOUT_FILENO;
-use options::Asked;
 use options::Command;
-use options::Task;
+use printing::MARKS_ROOM;
 use printing::TEXT_ROOM;
-use printing::output;
+use printing::arguments;
+use printing::input;
 use printing::output::Ended;
 use printing::sheets;
-use printing::texts;
+use printing::tasks;
+use printing::tasks::Asked;
+use printing::tasks::Task;
 use printing::words;
-
-// What came of reading: so many bytes in front of the lent text, or an error.
-enum Input {
-    Bytes(usize),
-    Failed,
-}
 
 fn main() {
     let command = options::read_arguments();
@@ -37,15 +29,19 @@ fn main() {
 
 fn obey(command: Command) -> Ended {
     if command.wrong > 0 {
-        words::misuse(command.wrong);
-        return Ended::Failed;
+        return misuse(command.wrong);
     }
-    let asked = command.asked;
-    match asked {
-        Asked::Task(task) => run(task),
+    match tasks::understand(command.word, command.after) {
+        Asked::Task(task) => run(task, command),
         Asked::Help => written(words::usage(STDOUT_FILENO)),
         Asked::Version => written(words::version(STDOUT_FILENO)),
+        Asked::Wrong(i) => misuse(i),
     }
+}
+
+fn misuse(i: usize) -> Ended {
+    words::misuse(i);
+    Ended::Failed
 }
 
 fn written(all: bool) -> Ended {
@@ -55,21 +51,25 @@ fn written(all: bool) -> Ended {
     explain(Ended::Failed)
 }
 
-fn run(task: Task) -> Ended {
+fn run(task: Task, command: Command) -> Ended {
     let mut text = [0u8; TEXT_ROOM];
+    let mut marks = [0u64; MARKS_ROOM];
     let mut out = [0u8; sheets::ROOM];
-    run_in(task, &mut text, &mut out)
+    run_in(task, command.marks, &mut text, &mut marks, &mut out)
 }
 
 // The memory is made in `run`, and not here, where goals would spell it out.
-fn run_in(task: Task, text: &mut [u8], out: &mut [u8]) -> Ended
+fn run_in(task: Task, list: usize, text: &mut [u8], marks: &mut [u64], out: &mut [u8]) -> Ended
     requires { ⌜ sheetRoom ≤ length (now out) ⌝ }
 {
-    let Input::Bytes(n) = read_text(text) else {
-        os::fail(b"keravnoth: reading");
+    let table = input::standard(text);
+    if table.failed {
         return Ended::Failed;
-    };
-    explain(print(task, &text[..n], out))
+    }
+    let n = table.bytes;
+    let listed = arguments::list(list, marks);
+    let m = listed.count;
+    explain(tasks::print(task, list == 0, &marks[..m], &text[..n], out))
 }
 
 // Says on standard error what people need to know. What was written before an error stays written: the message is all that can be said.
@@ -82,11 +82,13 @@ fn explain(ended: Ended) -> Ended {
     ended
 }
 
-// Writes the status, a digit on a line: a program of this language has no exit status, so whoever starts it hands this on.
-fn tell(fd: i32, ended: Ended) {
-    if fd < 0 {
+// Writes the status, a digit on a line, to the descriptor that argument i holds: a program of this language has no exit status, so whoever starts it
+// hands this on.
+fn tell(i: usize, ended: Ended) {
+    if i == 0 {
         return;
     }
+    let fd = arguments::descriptor(i);
     match ended {
         Ended::Answered => tell_digit(fd, b"0\n"),
         Ended::Refused(_, _, _) => tell_digit(fd, b"1\n"),
@@ -98,60 +100,4 @@ fn tell_digit(fd: i32, line: &[u8]) {
     if !io::write_all(fd, line) {
         os::fail(b"keravnoth: status");
     }
-}
-
-fn print(task: Task, text: &[u8], out: &mut [u8]) -> Ended
-    requires { ⌜ sheetRoom ≤ length (now out) ⌝ }
-{
-    match task {
-        Task::Answer => print_text(false, text, out),
-        Task::Rewrite => print_text(true, text, out),
-        Task::Corners(rows) => sheets::print(text, rows, out),
-    }
-}
-
-fn print_text(rewrite: bool, text: &[u8], out: &mut [u8]) -> Ended
-    requires { ⌜ bytesMost ≤ length (now out) ⌝ }
-{
-    let m = put(rewrite, text, out);
-    output::put(&out[..m])
-}
-
-// The table that was read, or its answer; where it is refused, the E line.
-fn put(rewrite: bool, text: &[u8], out: &mut [u8]) -> usize
-    requires { ⌜ bytesMost ≤ length (now out) ⌝ }
-    ensures { λ r. ⌜ Printed r (cond rewrite (rewritten (now (text .entry))) (answerText (now (text .entry)))) (now (out .exit)) ⌝ }
-{
-    if rewrite {
-        return texts::rewrite(text, out);
-    }
-    texts::answer(text, out)
-}
-
-// Reads until the input ends or the text is full.
-fn read_text(text: &mut [u8]) -> Input
-    ensures { λ r. ⌜ within r (now (text .exit)) ⌝ }
-{
-    let mut done: usize = 0;
-    while done < text.len() {
-        let Input::Bytes(more) = read_some(&mut text[done..]) else {
-            return Input::Failed;
-        };
-        if more == 0 {
-            return Input::Bytes(done);
-        }
-        done += more;
-    }
-    Input::Bytes(done)
-}
-
-// Reads once: no bytes at the end of the input.
-fn read_some(text: &mut [u8]) -> Input
-    ensures { λ r. ⌜ within r (now (text .exit)) ⌝ }
-{
-    let got = libc::read(STDIN_FILENO, text);
-    if got < 0 {
-        return Input::Failed;
-    }
-    Input::Bytes(io::count(got, text))
 }

@@ -1,28 +1,21 @@
-// What the arguments ask for: a word, its row, and options, which stand before or after the word.
+// The arguments, by their places: a word, what stands after it, and options, which stand before or after the word.
 use printing::arguments;
-use printing::arguments::Held;
-use printing::sheets::Rows;
+use printing::tasks;
+use printing::tasks::Asked;
+use printing::tasks::Task;
 
-pub enum Task {
-    Answer,
-    Rewrite,
-    Corners(Rows),
-}
-
-pub enum Asked {
-    Task(Task),
-    Help,
-    Version,
-}
-
-// What the arguments ask for, as far as they were looked at.
+// Where each thing stands among the arguments, 0 where it does not.
 pub struct Command {
-    pub asked: Asked,
-    // the argument `--status-fd`, 0 where it was not met
-    pub option: usize,
-    // where the status goes: a descriptor, -1 where none was given
-    pub status: i32,
-    // the first argument that cannot be taken, 0 where all can
+    pub word: usize,
+    // what stands after the word: a row
+    pub after: usize,
+    // the borders that may rise
+    pub marks: usize,
+    // the descriptor that the status goes to
+    pub status: usize,
+    // an option whose value comes next
+    due: usize,
+    // the first argument that cannot be taken
     pub wrong: usize,
 }
 
@@ -30,9 +23,11 @@ pub struct Command {
 pub fn read_arguments() -> Command {
     let count = os::arg_count();
     let mut command = Command {
-        asked: Asked::Task(Task::Answer),
-        option: 0,
-        status: -1,
+        word: 0,
+        after: 0,
+        marks: 0,
+        status: 0,
+        due: 0,
         wrong: 0,
     };
     let mut i: usize = 1;
@@ -43,116 +38,113 @@ pub fn read_arguments() -> Command {
     whole(command)
 }
 
-// An option without its descriptor is wrong itself.
-fn whole(command: Command) -> Command {
-    if command.option > 0 && command.status < 0 {
-        return refuse(command, command.option);
+fn refuse(mut command: Command, i: usize) -> Command {
+    if command.wrong == 0 || i < command.wrong {
+        command.wrong = i;
     }
     command
 }
 
-fn refuse(command: Command, i: usize) -> Command {
-    if command.wrong > 0 {
-        return command;
-    }
-    let asked = command.asked;
-    Command {
-        asked: asked,
-        option: command.option,
-        status: command.status,
-        wrong: i,
-    }
-}
-
-fn ask(command: Command, asked: Asked) -> Command {
-    Command {
-        asked: asked,
-        option: command.option,
-        status: command.status,
-        wrong: command.wrong,
-    }
-}
-
 fn take(command: Command, i: usize) -> Command {
-    if command.option > 0 && command.status < 0 {
-        return take_descriptor(command, i);
+    if command.due > 0 {
+        return take_value(command, i);
+    }
+    if arguments::is(i, b"--marks") {
+        return await_value(command, i, command.marks);
     }
     if arguments::is(i, b"--status-fd") {
-        return take_option(command, i);
+        return await_value(command, i, command.status);
     }
     if arguments::is(i, b"--help") {
-        return ask(command, Asked::Help);
+        return take_word(command, i);
     }
     if arguments::is(i, b"--version") {
-        return ask(command, Asked::Version);
+        return take_word(command, i);
     }
-    take_word(command, i)
+    take_plain(command, i)
 }
 
-fn take_option(command: Command, i: usize) -> Command {
-    if command.status >= 0 {
+// The value of option i comes next. An option that has its value was given before.
+fn await_value(mut command: Command, i: usize, value: usize) -> Command {
+    if value > 0 {
         return refuse(command, i);
     }
-    let asked = command.asked;
-    Command {
-        asked: asked,
-        option: i,
-        status: command.status,
-        wrong: command.wrong,
-    }
+    command.due = i;
+    command
 }
 
-fn take_descriptor(command: Command, i: usize) -> Command {
-    let fd = arguments::descriptor(i);
-    if fd < 0 {
+// A value that cannot be taken leaves its option without one.
+fn take_value(mut command: Command, i: usize) -> Command {
+    let option = command.due;
+    command.due = 0;
+    if arguments::is(option, b"--marks") {
+        return take_marks(command, i);
+    }
+    take_status(command, i)
+}
+
+fn take_marks(mut command: Command, i: usize) -> Command {
+    if !arguments::is_list(i) {
         return refuse(command, i);
     }
-    let asked = command.asked;
-    Command {
-        asked: asked,
-        option: command.option,
-        status: fd,
-        wrong: command.wrong,
-    }
+    command.marks = i;
+    command
 }
 
-fn take_word(command: Command, i: usize) -> Command {
-    let asked = command.asked;
-    match asked {
-        Asked::Task(task) => take_after(command, task, i),
-        Asked::Help => refuse(command, i),
-        Asked::Version => refuse(command, i),
+fn take_status(mut command: Command, i: usize) -> Command {
+    if arguments::descriptor(i) < 0 {
+        return refuse(command, i);
     }
+    command.status = i;
+    command
 }
 
-// A second word is wrong, but for the row of `corners`.
-fn take_after(command: Command, task: Task, i: usize) -> Command {
-    match task {
-        Task::Answer => take_first(command, i),
-        Task::Rewrite => refuse(command, i),
-        Task::Corners(rows) => take_row(command, rows, i),
-    }
+// These take the place of a word that was given before.
+fn take_word(mut command: Command, i: usize) -> Command {
+    command.word = i;
+    command
 }
 
-fn take_first(command: Command, i: usize) -> Command {
-    if arguments::is(i, b"rewrite") {
-        return ask(command, Asked::Task(Task::Rewrite));
+fn take_plain(mut command: Command, i: usize) -> Command {
+    if command.word == 0 {
+        command.word = i;
+        return command;
     }
-    if arguments::is(i, b"corners") {
-        return ask(command, Asked::Task(Task::Corners(Rows::Every)));
-    }
-    if arguments::is(i, b"help") {
-        return ask(command, Asked::Help);
+    if command.after == 0 {
+        command.after = i;
+        return command;
     }
     refuse(command, i)
 }
 
-fn take_row(command: Command, rows: Rows, i: usize) -> Command {
-    let Rows::Every = rows else {
-        return refuse(command, i);
-    };
-    if let Held::Number(row) = arguments::number(i) {
-        return ask(command, Asked::Task(Task::Corners(Rows::One(row as usize))));
+// What can be judged only when all arguments are known: an option without its value, the word, and the options that do not go with it.
+fn whole(command: Command) -> Command {
+    if command.due > 0 {
+        return refuse(command, command.due);
     }
-    refuse(command, i)
+    match tasks::understand(command.word, command.after) {
+        Asked::Task(task) => with_task(command, task),
+        Asked::Help => without_table(command),
+        Asked::Version => without_table(command),
+        Asked::Wrong(i) => refuse(command, i),
+    }
+}
+
+fn with_task(command: Command, task: Task) -> Command {
+    if tasks::takes_marks(task) {
+        return command;
+    }
+    without(command, command.marks)
+}
+
+fn without_table(command: Command) -> Command {
+    without(command, command.marks)
+}
+
+// An option stands before its value.
+fn without(command: Command, value: usize) -> Command {
+    if value > 0 {
+        return refuse(command, value - 1);
+    }
+    command
 }

@@ -1,8 +1,10 @@
--- What an answer says tells the answer: each `said..` of `specs/Answers.antt` is injective, since what it says can be read back.
+-- What an answer says tells the answer: `ruled` and each `said..` of `specs/Answers.antt` are injective, since what it says can be read back.
 -- That an open call has one answer cites these. No contract cites this file.
 use mathlib.Core.Path.{_≡_, refl, sym, ap, _∙_}
 use Prim.Native.Nat.{ℕ}
 use Rattle.kinds.specs.declared.Header.{Header}
+use Rattle.kinds.specs.declared.Judgement.{Judgement}
+use Rattle.kinds.specs.declared.Judgement.the-variants as judgement
 use Rattle.kinds.specs.declared.Read.{Read}
 use Rattle.kinds.specs.declared.Read.the-variants as read
 use Rattle.kinds.specs.declared.Written.{Written}
@@ -12,10 +14,22 @@ use Rattle.kinds.specs.declared.Extracted.the-variants as extracted
 use Rattle.kinds.specs.declared.Flows.{Flows}
 use Rattle.kinds.specs.declared.Flows.the-variants as flows
 use Rattle.kinds.specs.Refusals.{Judged, passed, refused}
-use Rattle.kinds.specs.Answers.{saidRead, saidWritten, saidExtracted, saidFlows}
+use Rattle.kinds.specs.Answers.{ruled, saidRead, saidWritten, saidExtracted, saidFlows}
 
 injective : {A B : Type 0} (said : A → B) (back : B → A) → ((a : A) → back (said a) ≡ a) → (a a′ : A) → said a ≡ said a′ → a ≡ a′
 injective said back h a a′ e = sym (h a) ∙ ap back e ∙ h a′
+
+judgementOf : {A : Type 0} → Judged A → Judgement
+judgementOf (passed a) = judgement.Passed
+judgementOf (refused w) = judgement.Refused w
+
+judgement-ruled : {A : Type 0} (a : A) (r : Judgement) → judgementOf (ruled r a) ≡ r
+unfolding judgementOf
+judgement-ruled a judgement.Passed = refl
+judgement-ruled a (judgement.Refused w) = refl
+
+pub ruled-injective : {A : Type 0} (a : A) (r r′ : Judgement) → ruled r a ≡ ruled r′ a → r ≡ r′
+ruled-injective a = injective (λ (r : Judgement). ruled r a) judgementOf (judgement-ruled a)
 
 readOf : Judged Header → Read
 readOf (passed h) = read.Table h

@@ -55,6 +55,22 @@ tooShort needed = refusal 8 needed 0
 abbrev pub noCorners : (place : ℕ) → Refusal
 noCorners place = refusal 9 place 0
 
+-- 10 (02, E2) a correction line of wrong form or value, or with an index not above the one before or not in the table
+abbrev pub wrongCorrection : (line byte : ℕ) → Refusal
+wrongCorrection line byte = refusal 10 line byte
+
+-- 11 (02, E10) a claim is malformed or out of range
+abbrev pub malformedClaim : (claim : ℕ) → Refusal
+malformedClaim claim = refusal 11 claim 0
+
+-- 12 (02, E10) a claim is not borne out
+abbrev pub notBorneOut : (claim : ℕ) → Refusal
+notBorneOut claim = refusal 12 claim 0
+
+-- 13 (02, E13) no mark, or the first position in the list, from 1, whose mark is no border or was given before
+abbrev pub badMark : (position : ℕ) → Refusal
+badMark position = refusal 13 position 0
+
 -- a table, a result .. that passed, or the refusal
 pub data Judged (A : Type 0) : Type 0 where
   passed : A → Judged A

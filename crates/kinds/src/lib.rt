@@ -7,7 +7,7 @@ ghost use mathlib.Core.Bool.{true};
 ghost use mathlib.Core.List.{[], _∷_};
 ghost use Rattle.kinds.specs.Ranges.{headerFits, isIntraday, allocatedItems, profiled, defaultOf, exists, hubsFit, hubsOf, borderFits, borderOf, shareOf, rowFits, rowOf, factorFits, worth};
 ghost use Rattle.kinds.specs.Kinds.{headerRead, zoneRead, borderRead, rowRead};
-ghost use Rattle.kinds.specs.Refusals.{refusal, tooLong, wrongFormAt, wrongForm, outOfRangeAt, outOfRange, givenTwice, noRow, unlimited, belowZero, tooShort, noCorners};
+ghost use Rattle.kinds.specs.Refusals.{refusal, tooLong, wrongFormAt, wrongForm, outOfRangeAt, outOfRange, givenTwice, noRow, unlimited, belowZero, tooShort, noCorners, wrongCorrection, malformedClaim, notBorneOut, badMark};
 
 // The raw number of a field that may be left out and was not written: the hubs of a border, and the default of R. No such field can be below 0.
 pub const NOT_WRITTEN: i64 = -1;
@@ -480,6 +480,30 @@ impl Refusal {
         ensures { λ r. ⌜ r ≡ noCorners place ⌝ }
     {
         Refusal::numbered(9, place, 0)
+    }
+
+    pub fn wrong_correction(line: usize, byte: usize) -> Refusal
+        ensures { λ r. ⌜ r ≡ wrongCorrection line byte ⌝ }
+    {
+        Refusal::numbered(10, line, byte)
+    }
+
+    pub fn malformed_claim(claim: usize) -> Refusal
+        ensures { λ r. ⌜ r ≡ malformedClaim claim ⌝ }
+    {
+        Refusal::numbered(11, claim, 0)
+    }
+
+    pub fn not_borne_out(claim: usize) -> Refusal
+        ensures { λ r. ⌜ r ≡ notBorneOut claim ⌝ }
+    {
+        Refusal::numbered(12, claim, 0)
+    }
+
+    pub fn bad_mark(position: usize) -> Refusal
+        ensures { λ r. ⌜ r ≡ badMark position ⌝ }
+    {
+        Refusal::numbered(13, position, 0)
     }
 
     fn numbered(number: u32, place: usize, byte: usize) -> Refusal

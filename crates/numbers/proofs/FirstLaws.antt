@@ -1,11 +1,11 @@
 -- The laws of a search that found something (`specs/Below.antt`'s `firstFrom`). No contract cites this file.
-use mathlib.Core.Path.{_≡_, refl, ap, subst, _∙_}
-use mathlib.Core.Bool.{Bool, true, false, cond}
+use mathlib.Core.Path.{_≡_, refl, sym, ap, subst, _∙_}
+use mathlib.Core.Bool.{Bool, true, false, cond, false≢true}
 use mathlib.Core.Logic.{⊎-elim}
-use mathlib.Core.Option.{some}
+use mathlib.Core.Option.{Option, none, some}
 use Prim.Native.Nat.{ℕ, zero, suc, _+_, _≤_, _<_}
 use native.Mathlib.Omega.{arith}
-use Rattle.numbers.specs.Below.{firstFrom}
+use Rattle.numbers.specs.Below.{firstFrom, given, someBelow}
 use Rattle.numbers.proofs.BelowLaws.{some-none, le-or-lt}
 
 some-is : {A : Type 0} (a b : A) → some a ≡ some b → a ≡ b
@@ -50,3 +50,12 @@ find-before (suc left) i test k e j l h = go (test i) refl (find-before left (i 
 -- .. and of none before it
 pub first-before : (n : ℕ) (test : ℕ → Bool) {k : ℕ} → some k ≡ firstFrom n 0 test → (j : ℕ) → j < k → test j ≡ false
 first-before n test {k} e j h = find-before n 0 test k e j (omega arith) h
+
+-- a test that holds of some index has one
+pub some-has : (n : ℕ) (test : ℕ → Bool) → someBelow n test ≡ true → (k : ℕ) × (k < n) × (test k ≡ true)
+unfolding given
+some-has n test e = go (firstFrom n 0 test) refl e
+  where
+    go : (o : Option ℕ) → firstFrom n 0 test ≡ o → given o ≡ true → (k : ℕ) × (k < n) × (test k ≡ true)
+    go none h e = absurd (false≢true e)
+    go (some k) h e = (k, first-within n test (sym h), first-holds n test (sym h))

@@ -1,6 +1,7 @@
--- That what the open calls leave is what `answer` and `rewrite` are to print (specs/Printed.antt). No contract cites this file.
--- In order: a buffer that begins with the text; a text that there is room for; a table that was read and written again, with room for the largest; its refusal.
+-- That what the calls leave is what a program is to print (specs/Printed.antt). No contract cites this file.
+-- In order: a buffer that begins with the text; a text that there is room for; a call that tells its refusal; a text that was read, or refused; the words.
 use mathlib.Core.Path.{_≡_, refl, sym, ap, subst, _∙_}
+use mathlib.Core.Bool.{Bool}
 use mathlib.Core.List.{List}
 use mathlib.Core.Logic.{⊎-elim}
 use Prim.Native.Nat.{ℕ, _*_, _≤_, _<_}
@@ -17,21 +18,25 @@ use Rattle.kinds.specs.declared.Refusal.{Refusal}
 use Rattle.kinds.specs.declared.Written.{Written}
 use Rattle.kinds.specs.declared.Written.the-variants as written
 use Rattle.kinds.specs.Limits.{zonesMost, bordersMost, rowsMost, bytesMost}
-use Rattle.kinds.specs.Refusals.{passed, tooShort}
+use Rattle.kinds.specs.Refusals.{Judged, passed, refused, then, either, tooShort}
 use Rattle.kinds.proofs.AnswerLaws.{saidWritten-injective}
-use Rattle.kinds.proofs.RefusalLaws.{either-passed, either-refused}
+use Rattle.kinds.proofs.RefusalLaws.{passed-is, then-passed, then-refused, either-passed, either-refused}
 use Rattle.text.specs.Left.{TextLeft, textLeft, textSaid}
-use Rattle.text.proofs.LeftLaws.{text-left, text-short}
-use Rattle.table.specs.Table.{lent}
+use Rattle.text.proofs.LeftLaws.{text-left, text-short, text-refused}
+use Rattle.table.specs.Table.{Table, lent, judgeLent}
+use Rattle.table.proofs.GoodLaws.{judged-good}
 use Rattle.reading.specs.Places.{readSaid}
-use Rattle.reading.specs.Reading.{ReadLeft, readLeft}
-use Rattle.reading.proofs.ReadLaws.{reading}
-use Rattle.reading.proofs.LeftLaws.{answered, taken, refused-text}
+use Rattle.reading.specs.Reading.{readText, readLeft}
+use Rattle.reading.proofs.LeftLaws.{taken, as-read, refused-text}
 use Rattle.writing.specs.Writing.{tableText, writeLeft}
-use Rattle.writing.proofs.RoundTrip.{read-write, read-then-write}
+use Rattle.writing.proofs.RoundTrip.{never-too-long}
+use Rattle.extraction.specs.Extraction.{outcomeFor}
 use Rattle.result.specs.Refusal.{refusalText}
-use Rattle.answer.specs.Made.{bytesAsked}
-use Rattle.printing.specs.Printed.{bytesOf, rewritten, Printed}
+use Rattle.answer.specs.Result.{resultText}
+use Rattle.answer.specs.Made.{outcomeLent, printed, bytesAsked}
+use Rattle.printing.specs.declared.texts.Word.{Word}
+use Rattle.printing.specs.declared.texts.Word.the-variants.{Answer, Rewrite}
+use Rattle.printing.specs.Printed.{Printed, bytesOf, toldText, Told, saidOf, wordText}
 
 -- ---- a buffer that begins with the text
 pub over-printed : (text out out′ : List ℕ) (n : ℕ) → n ≡ length text → out′ ≡ over text out → Printed n text out′
@@ -56,23 +61,64 @@ text-printed text out out′ r n e said few = ⊎-elim whole (λ short. absurd (
         let asks : r ≡ written.Refused (tooShort (length text)) = saidWritten-injective r (written.Refused (tooShort (length text))) (ap (λ (x : TextLeft). x .answer) l) in
         omega (arith, few, ap (λ (x : Written). bytesAsked x) asks)
 
-module _ (text : List ℕ) (z a : List ℤ) (b c : List (List ℤ)) (f : List ℤ)
-    (r : Read) {z′ a′ : List ℤ} {b′ c′ : List (List ℤ)} {f′ : List ℤ} (said : readSaid r z′ a′ b′ c′ f′ ≡ readLeft text z a b c f) where
-  -- ---- a table that was read
-  module _ (h : Header) (is : r ≡ read.Table h) (w : Written) (out out′ : List ℕ) (room : bytesMost ≤ length out) where
-    pub table-printed : (n : ℕ) → n ≡ bytesOf w → textSaid w out′ ≡ writeLeft (lent h z′ a′ b′ c′ f′) out → Printed n (rewritten text) out′
-    unfolding rewritten
-    table-printed n k wrote =
-        let t = taken text z a b c f r said h is in
-        let enough : length text ≤ length out = omega (arith, reading text (t .it) (t .read) .short) in
-        let l = wrote ∙ ap (λ (l : ReadLeft). writeLeft (lent h (l .z) (l .t) (l .b) (l .c) (l .f)) out) said ∙ read-then-write text z a b c f h out (answered text z a b c f r said h is) enough in
-        let bytes : w ≡ written.Bytes (length text) = saidWritten-injective w (written.Bytes (length text)) (ap (λ (x : TextLeft). x .answer) l) in
-        let same : rewritten text ≡ text = either-passed _ _ (t .read) ∙ read-write text (t .it) (t .read) in
-        subst (λ (s : List ℕ). Printed n s out′) (sym same) (over-printed text out out′ n (k ∙ ap (λ (x : Written). bytesOf x) bytes) (ap (λ (x : TextLeft). x .out) l))
+-- ---- what a call that tells its refusal leaves, where there is room for every text that it may have to write
+pub told-printed : (said : Judged (List ℕ)) (out : List ℕ) {out′ out″ : List ℕ} (r : Written) {n : ℕ} → ((text : List ℕ) → said ≡ passed text → length text ≤ length out)
+    → textSaid r out′ ≡ textLeft said out → Told r out′ n out″ → Printed n (toldText said) out″
+told-printed (passed text) out {out′} {out″} r {n} enough left told =
+    let l = left ∙ text-left text out (enough text refl) in
+    let bytes : r ≡ written.Bytes (length text) = saidWritten-injective r (written.Bytes (length text)) (ap (λ (x : TextLeft). x .answer) l) in
+    let at : Told (written.Bytes (length text)) out′ n out″ = subst (λ (x : Written). Told x out′ n out″) bytes told in
+    subst (λ (s : List ℕ). Printed n s out″) (sym (either-passed _ _ refl)) (over-printed text out out″ n (at .0) (at .1 ∙ ap (λ (x : TextLeft). x .out) l))
+told-printed (refused w) out {out′} {out″} r {n} enough left told =
+    let l = left ∙ sym (text-refused out {w = w} refl) in
+    let why : r ≡ written.Refused w = saidWritten-injective r (written.Refused w) (ap (λ (x : TextLeft). x .answer) l) in
+    subst (λ (s : List ℕ). Printed n s out″) (sym (either-refused _ _ refl)) (subst (λ (x : Written). Told x out′ n out″) why told)
 
-  -- ---- a refusal: with room for the largest table it is the text's own
+-- ---- a text that was read: what is printed of the lent tables is printed of it
+module _ (word : Word) (all : Bool) (marks text : List ℕ) (z a : List ℤ) (b c : List (List ℤ)) (f : List ℤ)
+    (r : Read) {z′ a′ : List ℤ} {b′ c′ : List (List ℤ)} {f′ : List ℤ} (said : readSaid r z′ a′ b′ c′ f′ ≡ readLeft text z a b c f) where
+  module _ (h : Header) (is : r ≡ read.Table h) where
+    pub lent-printed : {n : ℕ} {out : List ℕ} → Printed n (toldText (then (judgeLent (lent h z′ a′ b′ c′ f′)) (saidOf word all marks))) out → Printed n (wordText word all marks text) out
+    unfolding wordText
+    lent-printed {n} {out} p =
+        let same : judgeLent (lent h z′ a′ b′ c′ f′) ≡ readText text = as-read text z a b c f r said h is ∙ sym (taken text z a b c f r said h is .read) in
+        subst (λ (j : Judged Table). Printed n (toldText (then j (saidOf word all marks))) out) same p
+
+  -- .. and one that was refused, with room for the largest table
   module _ (hz : zonesMost ≤ length z) (ha : zonesMost ≤ length a) (hb : bordersMost ≤ length b) (hc : rowsMost ≤ length c) (hf : rowsMost * zonesMost ≤ length f)
       (w : Refusal) (is : r ≡ read.Refused w) where
-    pub refusal-printed : {n : ℕ} {out : List ℕ} → Printed n (refusalText w) out → Printed n (rewritten text) out
-    unfolding rewritten
-    refusal-printed p = rw (either-refused tableText refusalText (refused-text text z a b c f r said hz ha hb hc hf w is)) p
+    pub refusal-printed : {n : ℕ} {out : List ℕ} → Printed n (refusalText w) out → Printed n (wordText word all marks text) out
+    unfolding wordText
+    refusal-printed {n} {out} p =
+        subst (λ (s : List ℕ). Printed n s out) (sym (either-refused _ _ (then-refused (saidOf word all marks) (refused-text text z a b c f r said hz ha hb hc hf w is)))) p
+
+-- ---- the words
+-- a text made of what passed is told as it is printed
+made-told : {A B : Type 0} (j : Judged A) (next : A → Judged B) (made : B → List ℕ) → either (then j next) made refusalText ≡ toldText (then j (λ a. then (next a) (λ b. passed (made b))))
+unfolding either then
+made-told {B = B} (passed a) next made = go (next a)
+  where
+    go : (k : Judged B) → either k made refusalText ≡ toldText (then k (λ b. passed (made b)))
+    go (passed b) = refl
+    go (refused w) = refl
+made-told (refused w) next made = refl
+
+module _ (all : Bool) (marks : List ℕ) (given : Table) where
+  answer-told : printed (outcomeLent all marks given) ≡ toldText (then (judgeLent given) (saidOf Answer all marks))
+  unfolding printed outcomeLent saidOf
+  answer-told = made-told (judgeLent given) (outcomeFor all marks) resultText
+
+  pub answer-printed : (out out′ : List ℕ) (r : Written) (n : ℕ) → n ≡ bytesOf r → textSaid r out′ ≡ textLeft (passed (printed (outcomeLent all marks given))) out → bytesAsked r ≤ length out
+      → Printed n (toldText (then (judgeLent given) (saidOf Answer all marks))) out′
+  answer-printed out out′ r n e said few = subst (λ (s : List ℕ). Printed n s out′) answer-told (text-printed _ out out′ r n e said few)
+
+  -- a table is never too long to be written again
+  table-fits : (text : List ℕ) → then (judgeLent given) (λ t. passed (tableText t)) ≡ passed text → length text ≤ bytesMost
+  table-fits text e =
+      let d = then-passed (judgeLent given) _ text e in
+      subst (λ (s : List ℕ). length s ≤ bytesMost) (passed-is _ _ (d .second)) (never-too-long (d .it) (judged-good given (d .it) (d .first)))
+
+  pub rewrite-printed : (out : List ℕ) {out′ out″ : List ℕ} (r : Written) {n : ℕ} → bytesMost ≤ length out → textSaid r out′ ≡ writeLeft given out → Told r out′ n out″
+      → Printed n (toldText (then (judgeLent given) (saidOf Rewrite all marks))) out″
+  unfolding saidOf writeLeft
+  rewrite-printed out r room said told = told-printed (then (judgeLent given) (λ t. passed (tableText t))) out r (λ text e. omega (arith, table-fits text e, room)) said told

@@ -1,6 +1,6 @@
 -- What a program prints for a table's text (01, "Result text"; 02, E1). No contract can speak of standard output, so these speak of the buffer that goes there.
 use mathlib.Core.Path.{_≡_}
-use mathlib.Core.Bool.{cond}
+use mathlib.Core.Bool.{Bool, cond}
 use mathlib.Core.List.{List}
 use Prim.Native.Nat.{ℕ, _+_, _*_, _≤_}
 use lib.Dec.{leb}
@@ -8,23 +8,47 @@ use lib.ListN.{length, take}
 use Rattle.kinds.specs.declared.Header.{Header}
 use Rattle.kinds.specs.declared.Written.{Written}
 use Rattle.kinds.specs.declared.Written.the-variants as written
-use Rattle.kinds.specs.Refusals.{then, either}
+use Rattle.kinds.specs.Refusals.{Judged, passed, then, either}
 use Rattle.text.specs.Written.{linesText}
 use Rattle.table.specs.Table.{Table}
 use Rattle.reading.specs.Reading.{readText}
 use Rattle.writing.specs.Writing.{tableText}
 use Rattle.corners.specs.Corners.{sheetBordersMost, judgeCorners}
 use Rattle.cornertext.specs.CornerText.{sheetMost, sheetText}
+use Rattle.extraction.specs.Extraction.{outcomeFor}
 use Rattle.result.specs.Refusal.{refusalText}
+use Rattle.answer.specs.Result.{resultText}
+use Rattle.printing.specs.declared.texts.Word.{Word}
+use Rattle.printing.specs.declared.texts.Word.the-variants.{Answer, Rewrite}
+
+-- the first n bytes of the buffer are the text to print; that there are so many follows, and is said for the caller's `&out[..n]`
+pub record Printed (n : ℕ) (text out : List ℕ) : Type 0 where
+  pub within : n ≤ length out
+  pub long : n ≡ length (take n out)
+  pub whole : take n out ≡ text
 
 -- how much of the buffer to print
 abbrev pub bytesOf : Written → ℕ
 bytesOf (written.Bytes n) = n
 bytesOf (written.Refused w) = 0
 
--- what `rewrite` prints: the table's text, or one line E, number, place, byte
-unfoldable pub rewritten : (text : List ℕ) → List ℕ
-rewritten text = either (readText text) tableText refusalText
+-- what a call that tells its refusal comes to on paper: its text, or one line E, number, place, byte
+abbrev pub toldText : Judged (List ℕ) → List ℕ
+toldText said = either said (λ text. text) refusalText
+
+-- .. and in the buffer: what the call left there, or that line
+abbrev pub Told : Written → (before : List ℕ) → (n : ℕ) → (after : List ℕ) → Type 0
+Told (written.Bytes m) before n after = (n ≡ m) × (after ≡ before)
+Told (written.Refused w) before n after = Printed n (refusalText w) after
+
+-- what a word says of a table; which borders may rise is asked of it by marks, or `all` of them (02, E13)
+unfoldable pub saidOf : Word → (all : Bool) → (marks : List ℕ) → Table → Judged (List ℕ)
+saidOf Answer all marks t = then (outcomeFor all marks t) (λ r. passed (resultText r))
+saidOf Rewrite all marks t = passed (tableText t)
+
+-- .. of the table of a text: what a program prints
+unfoldable pub wordText : Word → (all : Bool) → (marks text : List ℕ) → List ℕ
+wordText word all marks text = toldText (then (readText text) (saidOf word all marks))
 
 -- what `corners` prints for a row: its sheet, or one line E
 unfoldable pub oneSheet : (text : List ℕ) → (row : ℕ) → List ℕ
@@ -49,9 +73,3 @@ sheetLineMost = 5 + 3 + 4 + 15
 -- .. and no row's sheet
 abbrev pub sheetRoom : ℕ
 sheetRoom = sheetMost * sheetLineMost
-
--- the first n bytes of the buffer are the text to print; that there are so many follows, and is said for the caller's `&out[..n]`
-pub record Printed (n : ℕ) (text out : List ℕ) : Type 0 where
-  pub within : n ≤ length out
-  pub long : n ≡ length (take n out)
-  pub whole : take n out ≡ text

@@ -22,13 +22,21 @@ pub fn usage(fd: i32) -> bool {
             fd,
             b"       keravnoth --version            which rules are built, and in which logic they are proved\n",
         )
-        && io::write_all(
-            fd,
-            b"option: --status-fd N                 the status digit goes to descriptor N\n",
-        )
+        && options(fd)
         && io::write_all(
             fd,
             b"status: 0 answered, 1 refused (the E line), 2 misuse, or input or output that failed\n",
+        )
+}
+
+fn options(fd: i32) -> bool {
+    io::write_all(
+        fd,
+        b"option: --marks LIST                  only these borders rise: their indices with commas between\n",
+    )
+        && io::write_all(
+            fd,
+            b"        --status-fd N                 the status digit goes to descriptor N\n",
         )
 }
 
@@ -36,7 +44,7 @@ pub fn usage(fd: i32) -> bool {
 pub fn version(fd: i32) -> bool {
     io::write_all(
         fd,
-        b"keravnoth: rules: document 01; requests of document 02: E1, E3, E4, E5, E6, E7, E8, E9, E12, E14; C interface: 8\n",
+        b"keravnoth: rules: document 01; requests of document 02: E1, E3, E4, E5, E6, E7, E8, E9, E12, E13, E14; C interface: 9\n",
     )
         && io::write_all(fd, b"proved in the Rattle kit's logic 064da1ca440f63e7\n")
 }
@@ -59,7 +67,13 @@ fn name(i: usize) {
     io::write_all(STDERR_FILENO, b"' is not known, or not wanted there\n");
 }
 
-// One line for a refusal, by its number, place and byte (01, "When the table is turned away"; 02, E1, E3, E5 and E6).
+// Says that a file cannot be read, and why.
+pub fn unread(name: &[u8]) {
+    io::write_all(STDERR_FILENO, b"keravnoth: ");
+    os::fail(name);
+}
+
+// One line for a refusal, by its number, place and byte (01, "When the table is turned away"; 02, E1, E3, E5, E6 and E13).
 pub fn refusal(number: u64, place: u64, byte: u64) {
     match number {
         1 => say(b"keravnoth: the table has more than 65,536 bytes: send one hour alone\n"),
@@ -96,12 +110,27 @@ pub fn refusal(number: u64, place: u64, byte: u64) {
             place,
             b"): take borders out, or ask for a row that it has\n",
         ),
+        13 => bad_mark(place),
         _ => say_place(
             b"keravnoth: the table is refused (",
             place,
             b"): see docs/GUIDE.md\n",
         ),
     }
+}
+
+fn bad_mark(place: u64) {
+    if place == 0 {
+        say(
+            b"keravnoth: no border is marked, so none may rise: name one at least after --marks, or leave the option out\n",
+        );
+        return;
+    }
+    say_place(
+        b"keravnoth: mark ",
+        place,
+        b" of the list is no border of the table, or was given before: look at what follows --marks\n",
+    )
 }
 
 fn say(words: &[u8]) {

@@ -20,7 +20,7 @@ use Rattle.margin.specs.Margin.{grains, f0coreOf, fuafOf, baseOf, amrOf, signed
 use Rattle.states.specs.States.{highest, lowest, spreadOf, shifted, below, stateOf}
 use Rattle.start.specs.Setup.{gridBy, beginBy, judgeBy}
 use Rattle.start.specs.Start.{rowsOf, kept, setupWith}
-use Rattle.extraction.specs.Extraction.{Result, resultOf, atcOf, leftOf, outcomeOf, nOf, lOf}
+use Rattle.extraction.specs.Extraction.{Result, resultOf, atcOf, leftOf, outcomeOf, nOf, lOf, outcomeMarked, resultMarked}
 use Rattle.promises.specs.Demand.{loadOf, Demand3}
 
 -- border 0 has 2 MW; row 0 leaves it 400 kW more, shared with border 1, which row 1 stops at 20 kW and border 0 relieves
@@ -81,7 +81,7 @@ pub record Anchors : Type 0 where
   pub one-round : Demand3 small (ended 1 (1800000 ∷ 0 ∷ []) (2200 ∷ 20 ∷ [])) → ⊥
 
 pub anchors : Anchors
-unfolding ifZero sum count largest lesser least orZero table firstFrom given maxℤ minℤ positivePart sameℤ sumℤ hubsOf borderOf shareOf rowOf worth defaultOf then unless refuseAt refuseFirst stretch sharers raise alone raises load lowered risen apply next raised counted run extract after raiseIn lastTo lastRound stopRow mostSharers bitsTo bits aloneBits grains f0coreOf fuafOf baseOf amrOf signedFactor pOf ltaKw sOf ltaMarginOf ramOf ramAt highest lowest spreadOf shifted below stateOf rowsOf kept resultOf atcOf leftOf outcomeOf nOf lOf loadOf gridBy setupWith beginBy judgeBy
+unfolding ifZero sum count largest lesser least orZero table firstFrom given maxℤ minℤ positivePart sameℤ sumℤ hubsOf borderOf shareOf rowOf worth defaultOf then unless refuseAt refuseFirst stretch sharers raise alone raises load lowered risen apply next raised counted run extract after raiseIn lastTo lastRound stopRow mostSharers bitsTo bits aloneBits grains f0coreOf fuafOf baseOf amrOf signedFactor pOf ltaKw sOf ltaMarginOf ramOf ramAt highest lowest spreadOf shifted below stateOf rowsOf kept resultOf atcOf leftOf outcomeOf nOf lOf loadOf gridBy setupWith beginBy judgeBy resultMarked outcomeMarked
 anchors =
     record {
       outcome = refl;

@@ -13,10 +13,10 @@ use Rattle.rounds.proofs.Laid.{laid-raise, laid-next}
 use Rattle.rounds.proofs.Theorems.{same-factors}
 use Rattle.rounds.proofs.Loops.{place-inside}
 use Rattle.start.specs.Setup.{gridBy}
-use Rattle.start.specs.Start.{tableGrid, tableStart, setupWith}
+use Rattle.start.specs.Start.{every, tableGrid, tableStart, setupWith}
 use Rattle.start.specs.Filled.{cells}
 use Rattle.start.proofs.StartLaws.{cells-at, grid-long}
-use Rattle.extraction.specs.Extraction.{resultOf, ExtractLeft, extractLeft}
+use Rattle.extraction.specs.Extraction.{resultOf, ExtractLeft, extractLeft, resultMarked}
 use Rattle.promises.specs.ByBorder.{ByBorder}
 use Rattle.extraction.proofs.LentLaws.{accepted-left}
 
@@ -27,11 +27,11 @@ module _ (t : Table) (ps : List ℕ) {p : List ℕ} (e : p ≡ over (cells (tabl
   p-at i b hi hb =
       let k : ℕ = i * t .header .borders + b in
       ap (λ (v : List ℕ). at v k) e
-      ∙ List·getD-append (cells (tableGrid t)) _ 0 k (omega (arith, place-inside (t .header .rows) (t .header .borders) i b (t .header .rows * t .header .borders) (omega arith) hi hb, grid-long t {p = cells (tableGrid t)} refl))
+      ∙ List·getD-append (cells (tableGrid t)) _ 0 k (omega (arith, place-inside (t .header .rows) (t .header .borders) i b (t .header .rows * t .header .borders) (omega arith) hi hb, grid-long every t {p = cells (tableGrid t)} refl))
       ∙ cells-at (tableGrid t) i b hi hb
 
   by-border : ByBorder t p
-  unfolding resultOf gridBy setupWith
+  unfolding resultOf gridBy setupWith resultMarked
   by-border =
       record {
         same = p-at;
@@ -42,5 +42,5 @@ module _ (t : Table) (ps : List ℕ) {p : List ℕ} (e : p ≡ over (cells (tabl
       }
 
 pub extract-by-border : (given : Table) (ps : List ℕ) (atcs lefts : List (List ℤ)) (k : ℕ) → let e = extractLeft given ps atcs lefts in e .answer ≡ passed k → ByBorder (front given) (e .p)
-unfolding resultOf
+unfolding resultOf resultMarked
 extract-by-border given ps atcs lefts k e = by-border (front given) ps (ap (λ (l : ExtractLeft). l .p) (accepted-left given ps atcs lefts k e .left))

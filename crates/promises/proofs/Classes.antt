@@ -12,6 +12,7 @@ use Rattle.numbers.specs.Ints.{positivePart, sumℤ}
 use Rattle.numbers.specs.Below.{someBelow}
 use Rattle.numbers.proofs.IntLaws.{diff, diffs, zarith}
 use Rattle.numbers.proofs.BelowLaws.{sum-cong, sumℤ-cong}
+use Rattle.numbers.proofs.SignedSums.{add-mulℤ, sumℤ-add, sumℤ-left}
 use Rattle.kinds.specs.declared.Hubs.{Hubs}
 use Rattle.kinds.specs.declared.Hubs.the-variants.{Without, Between}
 use Rattle.kinds.specs.declared.Border.{Border}
@@ -24,7 +25,6 @@ use Rattle.margin.proofs.JudgedLaws.{border-bound, good-factors, stretch-long}
 use Rattle.states.specs.States.{spreadOf, spreadLeast, shifted, below, stateOf}
 use Rattle.states.proofs.ShiftLaws.{shifted-alike}
 use Rattle.promises.specs.Ways.{lessSOf, Profile, remainderOf, marginIn, zeroOrTwo, Balanced}
-use Rattle.promises.proofs.SignedSums.{add-mulℤ, sumℤ-add, sumℤ-left}
 
 -- ---- factors that differ by one number
 cross : (a b c d k : ℤ) → a -ℤ c ≡ k → b -ℤ d ≡ k → a -ℤ b ≡ c -ℤ d

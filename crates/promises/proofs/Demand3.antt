@@ -1,6 +1,6 @@
 -- Demand 3 of every accepted table, in the words of its profile (`specs/Demand.antt`, `specs/DemandIn.antt`), and that N, L and the figure of 6,144 are 01's.
 use mathlib.Core.Path.{_≡_, refl, sym, ap, subst, _∙_}
-use mathlib.Core.Bool.{true, false}
+use mathlib.Core.Bool.{Bool, true, false}
 use Prim.Native.Nat.{ℕ, _*_, _^_, _≤_, _<_}
 use native.Mathlib.Omega.{arith}
 use lib.IntN.{pos}
@@ -54,16 +54,17 @@ pub l-least : (t : Table) (l : ℕ) → ((b : ℕ) → b < t .header .borders �
 unfolding lOf gridBy setupWith
 l-least t l h = alone-least (tableGrid t) (tableStart t .margins) l h
 
--- demand 3 of every good table of the day-ahead profile that extraction accepts: that of its setup, with every border marked
+-- at most 6,144 rounds, whatever is marked
 module _ (t : Table) (good : Good t) where
-  start-small : (i : ℕ) → i < t .header .rows → positivePart (setupIn dayAhead kept every t .margin i) < 2 ^ namedBits
+  start-small : (marked : ℕ → Bool) (i : ℕ) → i < t .header .rows → positivePart (setupIn dayAhead kept marked t .margin i) < 2 ^ namedBits
   unfolding setupIn
-  start-small i h = omega (arith, ap positivePart (table-get (t .header .rows) (lessSOf t) i (pos 0) h), part-le-abs (lessSOf t i), named-values-small good i h .less-s)
+  start-small marked i h = omega (arith, ap positivePart (table-get (t .header .rows) (lessSOf t) i (pos 0) h), part-le-abs (lessSOf t i), named-values-small good i h .less-s)
 
-  most : resultIn dayAhead kept every t .outcome .rounds ≤ roundsMost
+  pub day-rounds : (marked : ℕ → Bool) → resultIn dayAhead kept marked t .outcome .rounds ≤ roundsMost
   unfolding resultIn endBy setupIn
-  most = setup-rounds (setupIn dayAhead kept every t) bordersMost namedBits (header-in (t .header) (good .exact .header) .borders-most) start-small
+  day-rounds marked = setup-rounds (setupIn dayAhead kept marked t) bordersMost namedBits (header-in (t .header) (good .exact .header) .borders-most) (start-small marked)
 
+-- demand 3 of every good table of the day-ahead profile that extraction accepts: that of its setup, with every border marked
 pub accepted-demand-3 : (t : Table) (r : Result) → Good t → isIntraday (t .header) ≡ false → outcomeOf t ≡ passed r → Demand3 t r
 unfolding nOf lOf
 accepted-demand-3 t r good day e =
@@ -74,7 +75,7 @@ accepted-demand-3 t r good day e =
       rose = d .rose;
       lost = d .lost;
       few = subst (λ (s : Setup). r .outcome .rounds ≤ 2 * nBy s * lBy s) own (d .few);
-      most = subst (λ (v : Result). v .outcome .rounds ≤ roundsMost) (accepted-is dayAhead every t r (outcome-day t day ∙ e)) (most t good);
+      most = subst (λ (v : Result). v .outcome .rounds ≤ roundsMost) (accepted-is dayAhead every t r (outcome-day t day ∙ e)) (day-rounds t good every);
       still = subst (λ (s : Setup). (b : ℕ) → b < t .header .borders → raise (gridBy s) (r .outcome .state .margins) b ≡ 0) own (d .still);
     }
 

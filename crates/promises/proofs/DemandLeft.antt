@@ -19,7 +19,7 @@ use Rattle.rounds.proofs.LeastLaws.{least-mono, div-mono}
 use Rattle.margin.specs.Margin.{pOf, ltaKw}
 use Rattle.start.specs.Setup.{gridBy}
 use Rattle.start.specs.Start.{rowsOf, kept, tableGrid, setupWith}
-use Rattle.extraction.specs.Extraction.{Result, resultOf, atcOf, leftOf, outcomeOf, atcRecord, rowRecord, judgeExtract, ExtractLeft, leaves, resultRoom, resultStored, extractLeft}
+use Rattle.extraction.specs.Extraction.{Result, resultOf, atcOf, leftOf, outcomeOf, atcRecord, rowRecord, judgeExtract, ExtractLeft, leaves, resultRoom, resultStored, extractLeft, extractFor, outcomeFor, resultMarked}
 use Rattle.promises.specs.Demand.{Demand3}
 use Rattle.promises.specs.DemandLeft.{atcIn, leftIn, LeftDemand3}
 use Rattle.promises.specs.Seven.{NotSeven}
@@ -53,7 +53,7 @@ module _ (t : Table) (atcs lefts : List (List ℤ)) where
   atc-in b h = ap (λ (x : List ℤ). atℤ x 0) (over-get (t .header .borders) (atcRecord its) atcs b [] h)
 
   left-in : (i : ℕ) → i < t .header .rows → leftIn leftsLeft i ≡ cond (kept (rowsOf t .states) i) (pos (leftOf its i)) (minus 1)
-  unfolding rowRecord resultOf kept
+  unfolding rowRecord resultOf kept resultMarked
   left-in i h = ap (λ (x : List ℤ). atℤ x 2) (over-get (t .header .rows) (rowRecord its) lefts i [] h)
 
   left-kept : (i : ℕ) → i < t .header .rows → kept (rowsOf t .states) i ≡ true → leftIn leftsLeft i ≡ pos (leftOf its i)
@@ -91,7 +91,7 @@ module _ (t : Table) (atcs lefts : List (List ℤ)) where
 
 -- ---- of the call
 pub extract-demand-3 : (given : Table) (ps : List ℕ) (atcs lefts : List (List ℤ)) (k : ℕ) → isIntraday (given .header) ≡ false → let e = extractLeft given ps atcs lefts in e .answer ≡ passed k → LeftDemand3 (front given) k (e .atcs) (e .lefts)
-unfolding resultOf
+unfolding resultOf resultMarked
 extract-demand-3 given ps atcs lefts k day e =
     let a = accepted-left given ps atcs lefts k e in
     let t = front given in
@@ -122,7 +122,7 @@ judged-not-7 given n =
 
 pub extract-not-7 : (given : Table) (ps : List ℕ) (atcs lefts : List (List ℤ)) → ((i : ℕ) → i < given .header .rows → rowAt given i .cva ≡ pos 0) → ((i : ℕ) → i < given .header .rows → rowAt given i .iva ≡ pos 0)
     → NotSeven (extractLeft given ps atcs lefts .answer)
-unfolding extractLeft either
+unfolding extractLeft either extractFor outcomeFor outcomeOf
 extract-not-7 given ps atcs lefts cva iva =
     go (then (judgeExtract given (length ps)) (λ t. then (outcomeOf t) (resultRoom atcs lefts)))
     (told-then (judgeExtract given (length ps)) _ (judged-not-7 given (length ps))

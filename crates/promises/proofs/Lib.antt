@@ -1,6 +1,5 @@
 pub mod AnchorsDemand
 pub mod AnchorsWays
-pub mod SignedSums
 pub mod PlaceLaws
 pub mod SetupLaws
 pub mod LoadLaws
@@ -10,6 +9,8 @@ pub mod OrdinaryLaws
 pub mod Demand3
 pub mod DemandLeft
 pub mod Intraday
+pub mod Marked
+pub mod EveryMark
 pub mod Alike
 pub mod Classes
 pub mod Moved

@@ -22,7 +22,7 @@ use Rattle.states.specs.States.{statesOf}
 use Rattle.start.specs.Setup.{gridBy, beginBy, judgeBy}
 use Rattle.start.specs.Start.{Rows, rowsOf, kept, every, setupWith}
 use Rattle.start.specs.Filled.{cells}
-use Rattle.extraction.specs.Extraction.{resultBy, resultOf, outcomeOf}
+use Rattle.extraction.specs.Extraction.{resultBy, resultOf, outcomeOf, outcomeMarked, resultMarked}
 use Rattle.promises.specs.Replaced.{replacedShare, replacedRow, replacedRows, replaced, ReplacedSame}
 
 -- ---- one row
@@ -99,7 +99,7 @@ module _ (t : Table) where
   same-rows = ap (λ (rams : List ℤ). record { rams = rams; states = statesOf (t .header) (t .factors) rams }) same-rams
 
   same-outcome : outcomeOf (replaced t) ≡ outcomeOf t
-  unfolding outcomeOf resultOf
+  unfolding outcomeOf resultOf resultMarked outcomeMarked
   same-outcome =
       ap₂ (λ (rows : Rows) (starts : List ℤ).
       let setup = setupWith (kept (rows .states)) every (t .header) (t .borders) (t .factors) starts in

@@ -17,7 +17,7 @@ use Rattle.margin.specs.Margin.{sAt, ramAt, startBy, marginOf, startsOf}
 use Rattle.margin.proofs.MarginLaws.{start-not-negative}
 use Rattle.start.specs.Setup.{gridBy, judgeBy}
 use Rattle.start.specs.Start.{rowsOf, kept, tableGrid, setupWith}
-use Rattle.extraction.specs.Extraction.{resultOf, outcomeOf}
+use Rattle.extraction.specs.Extraction.{resultOf, outcomeOf, outcomeMarked}
 use Rattle.promises.specs.Seven.{NotSeven}
 
 and-right : (a b : Bool) → b ≡ false → (a && b) ≡ false
@@ -45,7 +45,7 @@ module _ (t : Table) (cva : (i : ℕ) → i < t .header .rows → rowAt t i .cva
   free b = not (someBelow (t .header .rows) (λ i. ltb 0 (tableGrid t .p i b)))
 
   pub no-refusal-7 : NotSeven (outcomeOf t)
-  unfolding outcomeOf then unless refuseAt refuseFirst judgeBy gridBy setupWith
+  unfolding outcomeOf then unless refuseAt refuseFirst judgeBy gridBy setupWith outcomeMarked resultOf
   no-refusal-7 =
       subst (λ (o : Option ℕ). NotSeven (then (unless (someBelow (t .header .rows) (kept states)) noRow
       (refuseFirst (t .header .borders) free unlimited (refuseAt o belowZero (passed states)))) (λ ss. passed (resultOf t))))

@@ -6,7 +6,7 @@ use mathlib.Core.List.{List, []}
 use mathlib.Core.Option.{Option, none, some}
 use Prim.Native.Nat.{ℕ, _/_, _≤_, _<_}
 use native.Mathlib.Nat.{not-suc-le-zero}
-use borrow.Author.Tests.{ltb-true}
+use borrow.Author.Tests.{ltb-true, not-false}
 use lib.Dec.{ltb}
 use lib.IntN.{ℤ}
 use lib.ListN.{getD}
@@ -23,8 +23,8 @@ use Rattle.rounds.proofs.Rounds.{extracts}
 use Rattle.rounds.proofs.Stopped as rules
 use Rattle.margin.specs.Margin.{pOf}
 use Rattle.start.specs.Setup.{gridBy}
-use Rattle.start.specs.Start.{rowsOf, kept, tableGrid, tableStart, setupWith}
-use Rattle.extraction.specs.Extraction.{Result, resultOf, leftOf, lastOf, stopOf, outcomeOf, atcRecord, ExtractLeft, rowOrDash, extractLeft}
+use Rattle.start.specs.Start.{rowsOf, kept, every, tableGrid, tableStart, setupWith}
+use Rattle.extraction.specs.Extraction.{Result, resultOf, leftOf, lastOf, stopOf, outcomeOf, atcRecord, ExtractLeft, rowOrDash, extractLeft, resultMarked}
 use Rattle.extraction.proofs.AcceptedLaws.{accepted}
 use Rattle.extraction.proofs.LentLaws.{accepted-left}
 use Rattle.promises.specs.Stopped.{shareKw, StoppedBy, BorderStopped, LeftStopped}
@@ -63,7 +63,7 @@ module _ (t : Table) (b : ℕ) where
 
   -- the row of the grid's rounds is the table's
   stopped-by : {i : ℕ} → Stops g (its .outcome .state .margins) b i → StoppedBy t its b i
-  unfolding gridBy setupWith resultOf leftOf p-of
+  unfolding gridBy setupWith resultOf leftOf p-of resultMarked
   stopped-by {i} u =
       let k = part-takes (kept (rowsOf t .states) i) (p-of i) (subst (λ (v : ℕ). 0 < v) (grid-p i) (u .loads)) in
       record {
@@ -77,7 +77,7 @@ module _ (t : Table) (b : ℕ) where
       }
 
   border-stopped : b < t .header .borders → someBelow (t .header .rows) (λ i. ltb 0 (g .p i b)) ≡ true → BorderStopped t its b
-  unfolding gridBy setupWith resultOf stopOf lastOf
+  unfolding gridBy setupWith resultOf stopOf lastOf resultMarked
   border-stopped hb e =
       let i = some-index (t .header .rows) (λ i. ltb 0 (g .p i b)) e in
       let w = extracts g (tableStart t) in
@@ -93,12 +93,13 @@ module _ (t : Table) (b : ℕ) where
 
 -- every border of every accepted table
 pub accepted-stopped : (t : Table) (r : Result) → outcomeOf t ≡ passed r → (b : ℕ) → b < t .header .borders → BorderStopped t r b
-accepted-stopped t r e b hb = let a = accepted t r e in subst (λ (v : Result). BorderStopped t v b) (a .is) (border-stopped t b hb (a .loaded b hb))
+unfolding outcomeOf resultOf
+accepted-stopped t r e b hb = let a = accepted every t r e in subst (λ (v : Result). BorderStopped t v b) (a .is) (border-stopped t b hb (not-false _ (a .loaded b hb)))
 
 -- .. and as a caller of `extract` finds it in lent memory
 pub extract-stopped : (given : Table) (ps : List ℕ) (atcs lefts : List (List ℤ)) (k : ℕ) → let e = extractLeft given ps atcs lefts in e .answer ≡ passed k
     → (b : ℕ) → b < given .header .borders → LeftStopped (front given) (e .atcs) b
-unfolding resultOf atcRecord
+unfolding resultOf atcRecord resultMarked
 extract-stopped given ps atcs lefts k e b hb =
     let a = accepted-left given ps atcs lefts k e in
     let t = front given in

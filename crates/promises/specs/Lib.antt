@@ -6,6 +6,7 @@ pub mod DemandIn
 pub mod Same
 pub mod Order
 pub mod Seven
+pub mod Marked
 pub mod Stopped
 pub mod ByBorder
 pub mod Replaced

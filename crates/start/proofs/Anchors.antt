@@ -10,8 +10,9 @@ use Rattle.kinds.specs.Ranges.{hubsOf, borderOf}
 use Rattle.kinds.specs.Refusals.{Judged, passed, refused, refusal, unless, refuseAt, refuseFirst}
 use Rattle.table.specs.Table.{stretch}
 use Rattle.margin.specs.Margin.{signedFactor, pOf, ltaKw}
+use Rattle.marks.specs.Marks.{flagged}
 use Rattle.start.specs.Setup.{gridBy, beginBy, judgeBy}
-use Rattle.start.specs.Start.{kept, gridOf, startOf, judgeStart, setupWith}
+use Rattle.start.specs.Start.{kept, every, gridOf, startOf, judgeStart, setupWith}
 use Rattle.start.specs.Filled.{cells}
 
 abbrev headerIn : (mark rows : ℕ) → Header
@@ -26,14 +27,14 @@ borders = (pos 0 ∷ pos 1 ∷ pos 1 ∷ minus 1 ∷ minus 1 ∷ []) ∷ (pos 1 
 
 -- one row, which loads border 0 alone
 abbrev one : (states : List ℕ) → (starts : List ℤ) → Judged (List ℕ)
-one states starts = judgeStart (header 1) borders (pos 20000 ∷ pos 0 ∷ []) states starts
+one states starts = judgeStart every (header 1) borders (pos 20000 ∷ pos 0 ∷ []) states starts
 
 -- three: row 1 loads border 1, and row 2 is as row 0
 abbrev factors : List ℤ
 factors = pos 20000 ∷ pos 0 ∷ pos 0 ∷ pos 20000 ∷ pos 20000 ∷ pos 0 ∷ []
 
 abbrev three : (states : List ℕ) → (starts : List ℤ) → Judged (List ℕ)
-three states starts = judgeStart (header 3) borders factors states starts
+three states starts = judgeStart every (header 3) borders factors states starts
 
 pub record Anchors : Type 0 where
   -- 5 before 6, and 6 before 7: no row loads border 1, and row 0 starts below 0
@@ -48,11 +49,16 @@ pub record Anchors : Type 0 where
   pub starts : startOf (header 3) borders (0 ∷ 0 ∷ 2 ∷ []) (pos 7 ∷ pos 9 ∷ pos 8 ∷ []) ≡ record { margins = 7 ∷ 9 ∷ 0 ∷ []; x = 1000 ∷ 0 ∷ [] }
   -- in the intraday profile (02, E12) each border starts at 0 kW, a margin below 0 counts as 0, and 7 is not given; 6 is
   pub intraday : startOf (headerIn 1 3) borders (0 ∷ 0 ∷ 2 ∷ []) (pos 7 ∷ minus 9 ∷ pos 8 ∷ []) ≡ record { margins = 7 ∷ 0 ∷ 0 ∷ []; x = 0 ∷ 0 ∷ [] }
-  pub no-seven : judgeStart (headerIn 1 3) borders factors (0 ∷ 0 ∷ 0 ∷ []) (pos 0 ∷ minus 1 ∷ minus 1 ∷ []) ≡ passed (0 ∷ 0 ∷ 0 ∷ [])
-  pub six-too : judgeStart (headerIn 1 3) borders factors (0 ∷ 2 ∷ 0 ∷ []) (pos 0 ∷ minus 1 ∷ minus 1 ∷ []) ≡ refused (refusal 6 1 0)
+  pub no-seven : judgeStart every (headerIn 1 3) borders factors (0 ∷ 0 ∷ 0 ∷ []) (pos 0 ∷ minus 1 ∷ minus 1 ∷ []) ≡ passed (0 ∷ 0 ∷ 0 ∷ [])
+  pub six-too : judgeStart every (headerIn 1 3) borders factors (0 ∷ 2 ∷ 0 ∷ []) (pos 0 ∷ minus 1 ∷ minus 1 ∷ []) ≡ refused (refusal 6 1 0)
   -- the table of p, row after row and border after border; a row that takes no part has zeros
-  pub laid-out : cells (gridOf (header 3) borders (pos 20000 ∷ pos 0 ∷ pos 0 ∷ pos 30000 ∷ pos 50000 ∷ pos 10000 ∷ []) (0 ∷ 0 ∷ 2 ∷ [])) ≡ 20000 ∷ 0 ∷ 0 ∷ 30000 ∷ 0 ∷ 0 ∷ []
+  pub laid-out : cells (gridOf every (header 3) borders (pos 20000 ∷ pos 0 ∷ pos 0 ∷ pos 30000 ∷ pos 50000 ∷ pos 10000 ∷ []) (0 ∷ 0 ∷ 2 ∷ [])) ≡ 20000 ∷ 0 ∷ 0 ∷ 30000 ∷ 0 ∷ 0 ∷ []
+  -- with marks (02, E13): p is 0 at a border that is not marked, and 6 does not look at it; 5 and 7 are as they were
+  pub marked : cells (gridOf (flagged (1 ∷ 0 ∷ [])) (header 3) borders (pos 20000 ∷ pos 0 ∷ pos 0 ∷ pos 30000 ∷ pos 50000 ∷ pos 10000 ∷ []) (0 ∷ 0 ∷ 0 ∷ [])) ≡ 20000 ∷ 0 ∷ 0 ∷ 0 ∷ 40000 ∷ 0 ∷ []
+  pub six-marked : judgeStart (flagged (1 ∷ 0 ∷ [])) (header 1) borders (pos 20000 ∷ pos 0 ∷ []) (0 ∷ []) (pos 0 ∷ []) ≡ passed (0 ∷ [])
+  pub six-other : judgeStart (flagged (0 ∷ 1 ∷ [])) (header 1) borders (pos 20000 ∷ pos 0 ∷ []) (0 ∷ []) (pos 0 ∷ []) ≡ refused (refusal 6 1 0)
+  pub seven-marked : judgeStart (flagged (1 ∷ 0 ∷ [])) (header 3) borders factors (0 ∷ 0 ∷ 0 ∷ []) (pos 0 ∷ minus 1 ∷ pos 0 ∷ []) ≡ refused (refusal 7 1 0)
 
 pub anchors : Anchors
-unfolding table firstFrom given positivePart hubsOf borderOf unless refuseAt refuseFirst stretch signedFactor pOf ltaKw kept gridOf startOf judgeStart gridBy setupWith beginBy judgeBy
-anchors = record { five-first = refl; six-first = refl; seven = refl; six-kept = refl; seven-kept = refl; starts = refl; intraday = refl; no-seven = refl; six-too = refl; laid-out = refl }
+unfolding flagged table firstFrom given positivePart hubsOf borderOf unless refuseAt refuseFirst stretch signedFactor pOf ltaKw kept gridOf startOf judgeStart gridBy setupWith beginBy judgeBy
+anchors = record { five-first = refl; six-first = refl; seven = refl; six-kept = refl; seven-kept = refl; starts = refl; intraday = refl; no-seven = refl; six-too = refl; laid-out = refl; marked = refl; six-marked = refl; six-other = refl; seven-marked = refl }

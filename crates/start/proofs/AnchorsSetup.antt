@@ -1,6 +1,6 @@
 -- A small setup, with this border or that marked: what the rounds come to. Nobody cites it: it refuses a definition that slipped, by the number that comes out.
 use mathlib.Core.Path.{_≡_, refl}
-use mathlib.Core.Bool.{Bool, true, false, cond, _||_}
+use mathlib.Core.Bool.{Bool, true, false, cond}
 use mathlib.Core.List.{List, [], _∷_}
 use Prim.Native.Nat.{ℕ}
 use lib.Dec.{eqb}
@@ -8,6 +8,7 @@ use lib.IntN.{ℤ, pos}
 use Rattle.numbers.specs.Ints.{minus, positivePart}
 use Rattle.numbers.specs.Below.{ifZero, sum, count, least, lesser, orZero, table, firstFrom, given}
 use Rattle.kinds.specs.Refusals.{Judged, passed, refused, refusal, unless, refuseAt, refuseFirst}
+use Rattle.marks.specs.Marks.{markedBy}
 use Rattle.rounds.specs.Rounds.{Outcome, sharers, raise, raises, load, lowered, risen, apply, next, raised, counted, run, extract}
 use Rattle.start.specs.Setup.{Setup, gridBy, beginBy, judgeBy, endBy, outcomeBy}
 
@@ -34,11 +35,6 @@ only k i = eqb i k
 abbrev end : (rounds : ℕ) → (margins x : List ℕ) → Judged Outcome
 end rounds margins x = passed (record { rounds = rounds; state = record { margins = margins; x = x } })
 
--- the borders of a list
-abbrev markedBy : (marks : List ℕ) → (b : ℕ) → Bool
-markedBy [] b = false
-markedBy (mark ∷ marks) b = eqb mark b || markedBy marks b
-
 abbrev marked : (marks : List ℕ) → Judged Outcome
 marked marks = outcomeBy (small both (markedBy marks) (pos 47) (pos 60) true)
 
@@ -59,7 +55,7 @@ pub record Anchors : Type 0 where
   pub not-seven : outcomeBy (small both (markedBy (1 ∷ [])) (minus 1) (pos 60) false) ≡ end 0 (0 ∷ 60 ∷ []) (7 ∷ 7 ∷ 7 ∷ [])
 
 pub anchors : Anchors
-unfolding outcomeBy judgeBy endBy gridBy beginBy unless refuseAt refuseFirst firstFrom given positivePart table extract run counted next apply raises raised raise load lowered risen sharers count sum least lesser orZero ifZero
+unfolding markedBy outcomeBy judgeBy endBy gridBy beginBy unless refuseAt refuseFirst firstFrom given positivePart table extract run counted next apply raises raised raise load lowered risen sharers count sum least lesser orZero ifZero
 anchors =
     record {
       two = refl;

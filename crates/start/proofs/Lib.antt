@@ -1,3 +1,4 @@
 pub mod Anchors
 pub mod AnchorsSetup
 pub mod StartLaws
+pub mod SameMarks

@@ -5,18 +5,17 @@ use mathlib.Core.Bool.{Bool, true, false, cond, not, _&&_}
 use mathlib.Core.List.{List, [], _++_}
 use mathlib.Core.Option.{none, some}
 use mathlib.Core.Logic.{⊎-elim}
-use Prim.Native.Nat.{ℕ, _+_, _*_, _/_, _%_, _≤_, _<_}
-use native.Mathlib.Nat.{le-refl, zero-mul, add-zero, suc-mul, div-eq-of-lt, mod-eq-of-lt, mul-add-div-right, mul-add-mod-self-right}
+use Prim.Native.Nat.{ℕ, zero, suc, _+_, _*_, _/_, _%_, _≤_, _<_}
+use native.Mathlib.Nat.{le-refl, not-suc-le-zero, zero-mul, mul-zero, div-lt-iff-lt-mul, mod-lt, add-zero, suc-mul, div-eq-of-lt, mod-eq-of-lt, mul-add-div-right, mul-add-mod-self-right}
 use native.Mathlib.Numerals.{add-one}
 use native.Mathlib.Omega.{arith}
-use lib.Dec.{ltb}
 use lib.IntN.{ℤ, pos}
 use lib.ListN.{length, getD, set, drop, length-set}
 use lib.Seq.{getD-set-same, getD-set-other}
 use lib.Signed.{ltZ}
 use Rattle.numbers.specs.Ints.{positivePart}
 use Rattle.numbers.specs.Below.{at, table, firstFrom, someBelow}
-use Rattle.numbers.proofs.BelowLaws.{lt-suc-cases, table-long, table-get, table-of}
+use Rattle.numbers.proofs.BelowLaws.{lt-suc-cases, table-long, table-get, table-cong, table-of}
 use Rattle.kinds.specs.declared.Header.{Header}
 use Rattle.kinds.specs.declared.Judgement.{Judgement}
 use Rattle.kinds.specs.Answers.{ruled}
@@ -24,14 +23,15 @@ use Rattle.kinds.specs.Limits.{bordersMost}
 use Rattle.kinds.specs.Ranges.{atℤ, isIntraday, borderOf}
 use Rattle.kinds.specs.Refusals.{Judged, passed, refused, refuseFirst, noRow, unlimited, belowZero}
 use Rattle.kinds.proofs.RefusalLaws.{unless-ok, unless-refused, first-found, first-none-next}
-use Rattle.table.specs.Table.{Table, stretch}
+use Rattle.table.specs.Table.{Table}
 use Rattle.rounds.specs.Rounds.{Grid}
 use Rattle.rounds.proofs.Loops.{place-inside}
 use Rattle.margin.specs.Margin.{ramAt, ramsOf, startsOf}
-use Rattle.states.specs.States.{spreadOf, spreadLeast, shifted, below, stateOf, statesOf}
+use Rattle.states.specs.States.{stateOf, statesOf}
+use Rattle.states.proofs.StateLaws.{state-most}
 use Rattle.start.specs.Setup.{gridBy, beginBy, judgeBy}
-use Rattle.start.specs.Start.{Rows, rowsOf, kept, fromBy, gridOf, startOf, judgeStart, tableGrid, tableStart, judgeTable, setupWith}
-use Rattle.start.specs.Filled.{rowsWith, froms, exchangesOf, cells, Prepared, prepared, preparedOf}
+use Rattle.start.specs.Start.{Rows, rowsOf, kept, fromBy, gridOf, startOf, judgeStart, gridMarked, tableStart, judgeMarked, setupWith}
+use Rattle.start.specs.Filled.{rowsWith, froms, exchangesOf, freeOf, cells, Prepared, prepared, preparedOf}
 
 -- ---- a grid in one list
 -- what stands at row i and border b in a list of cells
@@ -44,6 +44,14 @@ cell-is g i b hb =
 
 pub cells-at : (g : Grid) (i b : ℕ) → i < g .rows → b < g .borders → at (cells g) (i * g .borders + b) ≡ g .p i b
 cells-at g i b hi hb = table-get (g .rows * g .borders) _ _ 0 (place-inside _ _ i b _ (le-refl _) hi hb) ∙ cell-is g i b hb
+
+-- grids that agree on every row and border
+pub cells-cong : (rows borders : ℕ) (p p′ : ℕ → ℕ → ℕ) → ((i b : ℕ) → i < rows → b < borders → p i b ≡ p′ i b) → cells (record { rows = rows; borders = borders; p = p }) ≡ cells (record { rows = rows; borders = borders; p = p′ })
+cells-cong rows borders p p′ same = table-cong (rows * borders) _ _ (λ k h. let z : 0 < borders = some-border borders h in same (k / borders) (k % borders) (div-lt-iff-lt-mul z .1 h) (mod-lt k z))
+  where
+    some-border : (n : ℕ) {k : ℕ} → k < rows * n → 0 < n
+    some-border zero h = absurd (not-suc-le-zero (rw (mul-zero rows) at h))
+    some-border (suc n) h = omega arith
 
 -- ---- filling the cells, row after row: those before row i and border b are the grid's
 pub record FilledTo (g : Grid) (p : List ℕ) (i b : ℕ) : Type 0 where
@@ -91,37 +99,37 @@ filled-to-all {g} {p} {i} u h =
     table-of (g .rows * g .borders) _ p 0 (u .long) (λ j l. u .filled j (omega (arith, ap (λ (x : ℕ). x * g .borders) e)))
 
 -- ---- which of 5, 6 and 7 decides
-module _ (h : Header) (borders : List (List ℤ)) (factors : List ℤ) (states : List ℕ) (starts : List ℤ) where
+module _ (marked : ℕ → Bool) (h : Header) (borders : List (List ℤ)) (factors : List ℤ) (states : List ℕ) (starts : List ℤ) where
   abbrev free : ℕ → Bool
-  free b = not (someBelow (h .rows) (λ i. ltb 0 (gridOf h borders factors states .p i b)))
+  free = freeOf marked h borders factors states
 
   abbrev low : ℕ → Bool
   low i = kept states i && (not (isIntraday h) && ltZ (atℤ starts i) (pos 0))
 
   module _ (long : length states ≡ h .rows) where
-    pub none-kept : someBelow (length states) (kept states) ≡ false → refused noRow ≡ judgeStart h borders factors states starts
+    pub none-kept : someBelow (length states) (kept states) ≡ false → refused noRow ≡ judgeStart marked h borders factors states starts
     unfolding judgeStart judgeBy gridOf gridBy setupWith
     none-kept e = sym (unless-refused _ _ (subst (λ (n : ℕ). someBelow n (kept states) ≡ false) long e))
 
     module _ (k : someBelow (length states) (kept states) ≡ true) where
-      past-kept : judgeStart h borders factors states starts ≡ refuseFirst (h .borders) free unlimited (refuseFirst (h .rows) low belowZero (passed states))
+      past-kept : judgeStart marked h borders factors states starts ≡ refuseFirst (h .borders) free unlimited (refuseFirst (h .rows) low belowZero (passed states))
       unfolding judgeStart judgeBy gridOf gridBy setupWith
       past-kept = unless-ok _ _ (subst (λ (n : ℕ). someBelow n (kept states) ≡ true) long k)
 
-      pub border-free : (b : ℕ) → some b ≡ firstFrom (h .borders) 0 free → refused (unlimited b) ≡ judgeStart h borders factors states starts
+      pub border-free : (b : ℕ) → some b ≡ firstFrom (h .borders) 0 free → refused (unlimited b) ≡ judgeStart marked h borders factors states starts
       border-free b e = sym (past-kept ∙ first-found _ _ _ _ (sym e))
 
       module _ (u : none ≡ firstFrom (h .borders) 0 free) where
-        past-free : judgeStart h borders factors states starts ≡ refuseFirst (h .rows) low belowZero (passed states)
+        past-free : judgeStart marked h borders factors states starts ≡ refuseFirst (h .rows) low belowZero (passed states)
         past-free = past-kept ∙ first-none-next _ _ _ _ (sym u)
 
         of-rows : firstFrom (length states) 0 low ≡ firstFrom (h .rows) 0 low
         of-rows = ap (λ (n : ℕ). firstFrom n 0 low) long
 
-        pub row-below : (i : ℕ) → some i ≡ firstFrom (length states) 0 low → refused (belowZero i) ≡ judgeStart h borders factors states starts
+        pub row-below : (i : ℕ) → some i ≡ firstFrom (length states) 0 low → refused (belowZero i) ≡ judgeStart marked h borders factors states starts
         row-below i e = sym (past-free ∙ first-found _ _ _ _ (sym (e ∙ of-rows)))
 
-        pub may-start : none ≡ firstFrom (length states) 0 low → passed states ≡ judgeStart h borders factors states starts
+        pub may-start : none ≡ firstFrom (length states) 0 low → passed states ≡ judgeStart marked h borders factors states starts
         may-start e = sym (past-free ∙ first-none-next _ _ _ _ (sym (e ∙ of-rows)))
 
 -- ---- what is filled in is what the definitions say
@@ -129,22 +137,22 @@ pub rows-are : (t : Table) (rams : List ℤ) (states : List ℕ) → rams ≡ ra
 unfolding rowsOf
 rows-are t rams states e u = ap₂ rowsWith e (u ∙ ap (statesOf (t .header) (t .factors)) e)
 
-pub prepared-by : (t : Table) (r : Judgement) {rams starts : List ℤ} {states : List ℕ} → rowsWith rams states ≡ rowsOf t → starts ≡ startsOf t
-    → ruled r states ≡ judgeStart (t .header) (t .borders) (t .factors) states starts → prepared r rams starts states ≡ preparedOf t
+pub prepared-by : (marked : ℕ → Bool) (t : Table) (r : Judgement) {rams starts : List ℤ} {states : List ℕ} → rowsWith rams states ≡ rowsOf t → starts ≡ startsOf t
+    → ruled r states ≡ judgeStart marked (t .header) (t .borders) (t .factors) states starts → prepared r rams starts states ≡ preparedOf marked t
 unfolding preparedOf judgeStart
-prepared-by t r {rams} {starts} {states} m s w =
+prepared-by marked t r {rams} {starts} {states} m s w =
     let e : states ≡ rowsOf t .states = ap (λ (n : Rows). n .states) m in
-    let judged : ruled r states ≡ judgeTable t = w ∙ ap₂ (λ (ss : List ℕ) (ms : List ℤ). judgeStart (t .header) (t .borders) (t .factors) ss ms) e s in
+    let judged : ruled r states ≡ judgeMarked marked t = w ∙ ap₂ (λ (ss : List ℕ) (ms : List ℤ). judgeStart marked (t .header) (t .borders) (t .factors) ss ms) e s in
     ap₂ {C = Prepared} (λ (j : Judged (List ℕ)) (n : Rows). record { judged = j; rows = n; starts = starts }) judged m
-    ∙ ap {B = Prepared} (λ (ms : List ℤ). record { judged = judgeTable t; rows = rowsOf t; starts = ms }) s
+    ∙ ap {B = Prepared} (λ (ms : List ℤ). record { judged = judgeMarked marked t; rows = rowsOf t; starts = ms }) s
 
 -- .. and back: what the code left is what the definitions say
-pub record PreparedAs (t : Table) (r : Judgement) (rams starts : List ℤ) (states : List ℕ) : Type 0 where
-  pub judged : ruled r states ≡ judgeTable t
+pub record PreparedAs (marked : ℕ → Bool) (t : Table) (r : Judgement) (rams starts : List ℤ) (states : List ℕ) : Type 0 where
+  pub judged : ruled r states ≡ judgeMarked marked t
   pub rows : rowsWith rams states ≡ rowsOf t
   pub starts-are : starts ≡ startsOf t
 
-pub prepared-as : {t : Table} (r : Judgement) {rams starts : List ℤ} {states : List ℕ} → prepared r rams starts states ≡ preparedOf t → PreparedAs t r rams starts states
+pub prepared-as : {marked : ℕ → Bool} {t : Table} (r : Judgement) {rams starts : List ℤ} {states : List ℕ} → prepared r rams starts states ≡ preparedOf marked t → PreparedAs marked t r rams starts states
 unfolding preparedOf
 prepared-as r e =
     record {
@@ -159,18 +167,22 @@ pub margins-are : (h : Header) (b : List (List ℤ)) (states : List ℕ) (starts
 unfolding startOf beginBy setupWith
 margins-are h b states starts long e = e ∙ ap (λ (n : ℕ). table n (λ i. cond (kept states i) (positivePart (atℤ starts i)) 0)) long
 
-pub laid-grid : (t : Table) {rams : List ℤ} {states p : List ℕ} → rowsWith rams states ≡ rowsOf t → p ≡ cells (gridOf (t .header) (t .borders) (t .factors) states) → p ≡ cells (tableGrid t)
+pub laid-grid : (marked : ℕ → Bool) (t : Table) {rams : List ℤ} {states p : List ℕ} → rowsWith rams states ≡ rowsOf t → p ≡ cells (gridOf marked (t .header) (t .borders) (t .factors) states) → p ≡ cells (gridMarked marked t)
 unfolding gridOf gridBy setupWith
-laid-grid t m e = e ∙ ap (λ (n : Rows). cells (gridOf (t .header) (t .borders) (t .factors) (n .states))) m
+laid-grid marked t m e = e ∙ ap (λ (n : Rows). cells (gridOf marked (t .header) (t .borders) (t .factors) (n .states))) m
 
 pub laid-margins : (t : Table) {rams starts : List ℤ} {states margins : List ℕ} → rowsWith rams states ≡ rowsOf t → starts ≡ startsOf t
     → margins ≡ startOf (t .header) (t .borders) states starts .margins → margins ≡ tableStart t .margins
 unfolding startOf beginBy setupWith
 laid-margins t m s e = e ∙ ap₂ (λ (n : Rows) (ms : List ℤ). startOf (t .header) (t .borders) (n .states) ms .margins) m s
 
-pub grid-long : (t : Table) {p : List ℕ} → p ≡ cells (tableGrid t) → length p ≡ t .header .rows * t .header .borders
+pub filled-long : (marked : ℕ → Bool) (h : Header) (b : List (List ℤ)) (f : List ℤ) (states : List ℕ) {p : List ℕ} → p ≡ cells (gridOf marked h b f states) → length p ≡ h .rows * h .borders
+unfolding gridOf gridBy setupWith
+filled-long marked h b f states e = ap length e ∙ table-long (h .rows * h .borders) _
+
+pub grid-long : (marked : ℕ → Bool) (t : Table) {p : List ℕ} → p ≡ cells (gridMarked marked t) → length p ≡ t .header .rows * t .header .borders
 unfolding gridBy setupWith
-grid-long t e = ap length e ∙ table-long (t .header .rows * t .header .borders) _
+grid-long marked t e = ap length e ∙ table-long (t .header .rows * t .header .borders) _
 
 -- ---- exchanges
 pub exchanges-are : (intraday : Bool) (b : List (List ℤ)) (ys zs : List ℕ) → ys ≡ froms intraday b → zs ≡ table bordersMost (λ k. 0) → ys ++ drop (length b) zs ≡ exchangesOf intraday b
@@ -183,15 +195,6 @@ pub record RowsIn (t : Table) (m : Rows) : Type 0 where
   pub rams-long : length (m .rams) ≡ t .header .rows
   pub states-long : length (m .states) ≡ t .header .rows
   pub states-in : (i : ℕ) → i < t .header .rows → at (m .states) i ≤ 2
-
-state-most : (h : Header) (f rams : List ℤ) (i : ℕ) → stateOf h f rams i ≤ 2
-unfolding stateOf
-state-most h f rams i = go (ltZ (spreadOf (stretch (h .zones) f i)) (pos spreadLeast)) (someBelow (h .rows) (λ j. below rams j i && shifted (stretch (h .zones) f j) (stretch (h .zones) f i)))
-  where
-    go : (a b : Bool) → cond a 1 (cond b 2 0) ≤ 2
-    go true b = omega arith
-    go false true = omega arith
-    go false false = omega arith
 
 pub rows-in : (t : Table) (m : Rows) → m ≡ rowsOf t → RowsIn t m
 unfolding rowsOf

@@ -1,10 +1,12 @@
 -- What the functions of src/ ask and leave, on the lists that they fill in.
-use mathlib.Core.Bool.{Bool}
+use mathlib.Core.Bool.{Bool, not, _&&_}
 use mathlib.Core.List.{List, []}
 use Prim.Native.Nat.{ℕ, _*_, _/_, _%_}
+use lib.Dec.{ltb}
 use lib.IntN.{ℤ}
 use lib.ListN.{length, getD}
-use Rattle.numbers.specs.Below.{table, over}
+use Rattle.numbers.specs.Below.{table, over, someBelow}
+use Rattle.kinds.specs.declared.Header.{Header}
 use Rattle.kinds.specs.declared.Judgement.{Judgement}
 use Rattle.kinds.specs.Answers.{ruled}
 use Rattle.kinds.specs.Limits.{bordersMost}
@@ -13,7 +15,7 @@ use Rattle.kinds.specs.Refusals.{Judged}
 use Rattle.table.specs.Table.{Table}
 use Rattle.rounds.specs.Rounds.{Grid}
 use Rattle.margin.specs.Margin.{startsOf}
-use Rattle.start.specs.Start.{Rows, rowsOf, fromBy, judgeTable}
+use Rattle.start.specs.Start.{Rows, rowsOf, fromBy, gridOf, judgeMarked}
 
 abbrev pub rowsWith : (rams : List ℤ) → (states : List ℕ) → Rows
 rowsWith rams states = record { rams = rams; states = states }
@@ -25,6 +27,10 @@ froms intraday b = table (length b) (λ k. fromBy intraday (borderOf (getD b k [
 -- .. at the front of an array for the most borders, and 0 beyond them
 abbrev pub exchangesOf : (intraday : Bool) → (b : List (List ℤ)) → List ℕ
 exchangesOf intraday b = over (froms intraday b) (table bordersMost (λ k. 0))
+
+-- a marked border that no row loads
+abbrev pub freeOf : (marked : ℕ → Bool) → Header → (borders : List (List ℤ)) → (factors : List ℤ) → (states : List ℕ) → (b : ℕ) → Bool
+freeOf marked h borders factors states b = marked b && not (someBelow (h .rows) (λ i. ltb 0 (gridOf marked h borders factors states .p i b)))
 
 -- a grid's factors in one list, row after row and, for each row, border after border
 abbrev pub cells : Grid → List ℕ
@@ -39,5 +45,5 @@ pub record Prepared : Type 0 where
 abbrev pub prepared : Judgement → (rams starts : List ℤ) → (states : List ℕ) → Prepared
 prepared r rams starts states = record { judged = ruled r states; rows = rowsWith rams states; starts = starts }
 
-unfoldable pub preparedOf : Table → Prepared
-preparedOf t = record { judged = judgeTable t; rows = rowsOf t; starts = startsOf t }
+unfoldable pub preparedOf : (marked : ℕ → Bool) → Table → Prepared
+preparedOf marked t = record { judged = judgeMarked marked t; rows = rowsOf t; starts = startsOf t }

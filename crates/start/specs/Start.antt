@@ -51,27 +51,33 @@ setupWith takes marked h borders factors starts =
       from = λ b. fromBy (isIntraday h) (borderOf (getD borders b []));
     }
 
--- the grid of factors p, which asks for no margins; a row that takes no part has p = 0 at every border
-unfoldable pub gridOf : Header → (borders : List (List ℤ)) → (factors : List ℤ) → (states : List ℕ) → Grid
-gridOf h borders factors states = gridBy (setupWith (kept states) every h borders factors [])
+-- the grid of factors p, which asks for no margins; a row that takes no part has p = 0 at every border, and a border that is not marked on every row
+unfoldable pub gridOf : (marked : ℕ → Bool) → Header → (borders : List (List ℤ)) → (factors : List ℤ) → (states : List ℕ) → Grid
+gridOf marked h borders factors states = gridBy (setupWith (kept states) marked h borders factors [])
 
--- the margins and exchanges, which ask for no factors
+-- the margins and exchanges, which ask for no factors, and are the same whatever is marked
 unfoldable pub startOf : Header → (borders : List (List ℤ)) → (states : List ℕ) → (starts : List ℤ) → State
 startOf h borders states starts = beginBy (setupWith (kept states) every h borders [] starts)
 
--- 5: no row of state 0; 6: a border with p > 0 on no kept row; 7: a kept row's starting margin is below 0
-unfoldable pub judgeStart : Header → (borders : List (List ℤ)) → (factors : List ℤ) → (states : List ℕ) → (starts : List ℤ) → Judged (List ℕ)
-judgeStart h borders factors states starts = judgeBy (setupWith (kept states) every h borders factors starts) states
+-- 5: no row of state 0; 6: a marked border with p > 0 on no kept row; 7: a kept row's starting margin is below 0
+unfoldable pub judgeStart : (marked : ℕ → Bool) → Header → (borders : List (List ℤ)) → (factors : List ℤ) → (states : List ℕ) → (starts : List ℤ) → Judged (List ℕ)
+judgeStart marked h borders factors states starts = judgeBy (setupWith (kept states) marked h borders factors starts) states
 
 -- the same of a table, which hands on its parts: the rows that take part are told by their states
 abbrev pub setupOf : (takes : (states : List ℕ) → (i : ℕ) → Bool) → (marked : ℕ → Bool) → Table → Setup
 setupOf takes marked t = setupWith (takes (rowsOf t .states)) marked (t .header) (t .borders) (t .factors) (startsOf t)
 
+abbrev pub gridMarked : (marked : ℕ → Bool) → Table → Grid
+gridMarked marked t = gridBy (setupOf kept marked t)
+
 abbrev pub tableGrid : Table → Grid
-tableGrid t = gridBy (setupOf kept every t)
+tableGrid t = gridMarked every t
 
 abbrev pub tableStart : Table → State
 tableStart t = beginBy (setupOf kept every t)
 
+abbrev pub judgeMarked : (marked : ℕ → Bool) → Table → Judged (List ℕ)
+judgeMarked marked t = judgeBy (setupOf kept marked t) (rowsOf t .states)
+
 abbrev pub judgeTable : Table → Judged (List ℕ)
-judgeTable t = judgeBy (setupOf kept every t) (rowsOf t .states)
+judgeTable t = judgeMarked every t

@@ -1,22 +1,24 @@
 // What the rounds start from, and refusals 5, 6, 7. Margins are in grains, exchanges in kW.
 ghost use mathlib.Core.Path.{_≡_};
 ghost use mathlib.Core.Bool.{true, cond, not, _&&_};
-ghost use Prim.Native.Nat.{_*_, _<_};
+ghost use Prim.Native.Nat.{_*_, _<_, _≤_};
 ghost use lib.Dec.{ltb, eqb};
 ghost use lib.IntN.{pos};
 ghost use lib.ListN.{length};
 ghost use lib.Signed.{ltZ};
 ghost use Rattle.numbers.specs.Ints.{positivePart};
-ghost use Rattle.numbers.specs.Below.{table, firstFrom, someBelow};
+ghost use Rattle.numbers.specs.Below.{table, firstFrom, someBelow, allBelow};
 ghost use Rattle.numbers.specs.First.{found};
 ghost use Rattle.kinds.specs.Answers.{ruled};
+ghost use Rattle.kinds.specs.Limits.{bordersMost};
 ghost use Rattle.kinds.specs.Ranges.{atℤ, isIntraday, borderFits, borderOf};
+ghost use Rattle.marks.specs.Marks.{flagged};
 ghost use Rattle.table.specs.Table.{lent};
 ghost use Rattle.table.specs.Good.{Good};
 ghost use Rattle.margin.specs.Bounds.{FactorsBound, TableFactorsBound, BordersBound};
 ghost use Rattle.margin.specs.Margin.{pOf, startsOf};
-ghost use Rattle.start.specs.Start.{rowsOf, kept, fromBy, gridOf, startOf, judgeStart};
-ghost use Rattle.start.specs.Filled.{rowsWith, froms, exchangesOf, cells, prepared, preparedOf};
+ghost use Rattle.start.specs.Start.{rowsOf, kept, every, fromBy, gridOf, startOf, judgeStart};
+ghost use Rattle.start.specs.Filled.{rowsWith, froms, exchangesOf, freeOf, cells, prepared, preparedOf};
 use kinds::BorderRecord;
 use kinds::Header;
 use kinds::Judgement;
@@ -25,7 +27,7 @@ use kinds::RowRecord;
 use numbers::First;
 
 // RAM of each row, where its margin starts, and its state.
-fn fill_rows(
+pub fn fill_rows(
     h: Header,
     z: &[i64],
     t: &[i64],
@@ -45,12 +47,15 @@ fn fill_rows(
     states::fill_states(h, f, rams, states);
 }
 
-// p of a row at a border, which is 0 where the row takes no part.
-fn cell(state: u64, factors: &[i64], raw: BorderRecord) -> u64
+// p of a row at a border, which is 0 where the border is not marked or the row takes no part.
+fn cell(flag: u64, state: u64, factors: &[i64], raw: BorderRecord) -> u64
     requires { ⌜ FactorsBound (now factors) ⌝ }
     requires { ⌜ borderFits (length (now factors)) raw ≡ true ⌝ }
-    ensures { λ r. ⌜ r ≡ cond (eqb state 0) (pOf (now (factors .entry)) (borderOf raw)) 0 ⌝ }
+    ensures { λ r. ⌜ r ≡ cond (not (eqb flag 0) && eqb state 0) (pOf (now (factors .entry)) (borderOf raw)) 0 ⌝ }
 {
+    if flag == 0 {
+        return 0;
+    }
     if state == 0 {
         margin::p(factors, kinds::Border::judged(factors.len(), raw))
     } else {
@@ -59,13 +64,13 @@ fn cell(state: u64, factors: &[i64], raw: BorderRecord) -> u64
 }
 
 // p of each row at each border, row after row. What only the row decides is read once for the row.
-fn fill_grid(h: Header, b: &[BorderRecord], f: &[i64], states: &[u64], p: &mut [u64])
+fn fill_grid(h: Header, b: &[BorderRecord], f: &[i64], flags: &[u64], states: &[u64], p: &mut [u64])
     requires { ⌜ TableFactorsBound h (now f) ⌝ }
     requires { ⌜ BordersBound (h .zones) (now b) ⌝ }
-    requires { ⌜ length (now b) ≡ h .borders ⌝ }
+    requires { ⌜ (length (now b) ≡ h .borders) × (length (now flags) ≡ h .borders) ⌝ }
     requires { ⌜ length (now states) ≡ h .rows ⌝ }
     requires { ⌜ length (now p) ≡ h .rows * h .borders ⌝ }
-    ensures { λ _. ⌜ now (p .exit) ≡ cells (gridOf h (now (b .entry)) (now (f .entry)) (now (states .entry))) ⌝ }
+    ensures { λ _. ⌜ now (p .exit) ≡ cells (gridOf (flagged (now (flags .entry))) h (now (b .entry)) (now (f .entry)) (now (states .entry))) ⌝ }
 {
     let rows = h.rows;
     let borders = h.borders;
@@ -73,7 +78,7 @@ fn fill_grid(h: Header, b: &[BorderRecord], f: &[i64], states: &[u64], p: &mut [
         let state = states[i];
         let factors = margin::row_factors(h, f, i);
         for k in 0..borders {
-            p[i * borders + k] = cell(state, factors, b[k]);
+            p[i * borders + k] = cell(flags[k], state, factors, b[k]);
         }
     }
 }
@@ -91,32 +96,60 @@ fn some_kept(states: &[u64]) -> bool
 }
 
 // Whether some row has p > 0 at border k. No table of p is asked: it is lent, and 6 leaves it as it was.
-fn is_limited(h: Header, b: &[BorderRecord], f: &[i64], states: &[u64], k: usize) -> bool
+fn is_limited(
+    h: Header,
+    b: &[BorderRecord],
+    f: &[i64],
+    flags: &[u64],
+    states: &[u64],
+    k: usize,
+) -> bool
     requires { ⌜ TableFactorsBound h (now f) ⌝ }
     requires { ⌜ BordersBound (h .zones) (now b) ⌝ }
     requires { ⌜ length (now states) ≡ h .rows ⌝ }
-    requires { ⌜ k < length (now b) ⌝ }
-    ensures { λ r. ⌜ r ≡ someBelow (h .rows) (λ i. ltb 0 (gridOf h (now (b .entry)) (now (f .entry)) (now (states .entry)) .p i k)) ⌝ }
+    requires { ⌜ (k < length (now b)) × (k < length (now flags)) ⌝ }
+    ensures { λ r. ⌜ r ≡ someBelow (h .rows) (λ i. ltb 0 (gridOf (flagged (now (flags .entry))) h (now (b .entry)) (now (f .entry)) (now (states .entry)) .p i k)) ⌝ }
 {
     for i in 0..h.rows {
         let factors = margin::row_factors(h, f, i);
-        if cell(states[i], factors, b[k]) > 0 {
+        if cell(flags[k], states[i], factors, b[k]) > 0 {
             return true;
         }
     }
     false
 }
 
-// 6: the first border that no row limits.
-fn first_unlimited(h: Header, b: &[BorderRecord], f: &[i64], states: &[u64]) -> First
+// A border that is marked, and that no row limits.
+fn is_unlimited(
+    h: Header,
+    b: &[BorderRecord],
+    f: &[i64],
+    flags: &[u64],
+    states: &[u64],
+    k: usize,
+) -> bool
     requires { ⌜ TableFactorsBound h (now f) ⌝ }
     requires { ⌜ BordersBound (h .zones) (now b) ⌝ }
-    requires { ⌜ length (now b) ≡ h .borders ⌝ }
     requires { ⌜ length (now states) ≡ h .rows ⌝ }
-    ensures { λ r. ⌜ found r ≡ firstFrom (h .borders) 0 (λ k. not (someBelow (h .rows) (λ i. ltb 0 (gridOf h (now (b .entry)) (now (f .entry)) (now (states .entry)) .p i k)))) ⌝ }
+    requires { ⌜ (k < length (now b)) × (k < length (now flags)) ⌝ }
+    ensures { λ r. ⌜ r ≡ freeOf (flagged (now (flags .entry))) h (now (b .entry)) (now (f .entry)) (now (states .entry)) k ⌝ }
+{
+    if flags[k] == 0 {
+        return false;
+    }
+    !is_limited(h, b, f, flags, states, k)
+}
+
+// 6: the first marked border that no row limits.
+fn first_unlimited(h: Header, b: &[BorderRecord], f: &[i64], flags: &[u64], states: &[u64]) -> First
+    requires { ⌜ TableFactorsBound h (now f) ⌝ }
+    requires { ⌜ BordersBound (h .zones) (now b) ⌝ }
+    requires { ⌜ (length (now b) ≡ h .borders) × (length (now flags) ≡ h .borders) ⌝ }
+    requires { ⌜ length (now states) ≡ h .rows ⌝ }
+    ensures { λ r. ⌜ found r ≡ firstFrom (h .borders) 0 (freeOf (flagged (now (flags .entry))) h (now (b .entry)) (now (f .entry)) (now (states .entry))) ⌝ }
 {
     for k in 0..h.borders {
-        if !is_limited(h, b, f, states, k) {
+        if is_unlimited(h, b, f, flags, states, k) {
             return First::At(k);
         }
     }
@@ -143,19 +176,20 @@ fn judge_start(
     h: Header,
     b: &[BorderRecord],
     f: &[i64],
+    flags: &[u64],
     states: &[u64],
     starts: &[i64],
 ) -> Judgement
     requires { ⌜ TableFactorsBound h (now f) ⌝ }
     requires { ⌜ BordersBound (h .zones) (now b) ⌝ }
-    requires { ⌜ length (now b) ≡ h .borders ⌝ }
+    requires { ⌜ (length (now b) ≡ h .borders) × (length (now flags) ≡ h .borders) ⌝ }
     requires { ⌜ (length (now states) ≡ h .rows) × (length (now starts) ≡ h .rows) ⌝ }
-    ensures { λ r. ⌜ ruled r (now (states .entry)) ≡ judgeStart h (now (b .entry)) (now (f .entry)) (now (states .entry)) (now (starts .entry)) ⌝ }
+    ensures { λ r. ⌜ ruled r (now (states .entry)) ≡ judgeStart (flagged (now (flags .entry))) h (now (b .entry)) (now (f .entry)) (now (states .entry)) (now (starts .entry)) ⌝ }
 {
     if !some_kept(states) {
         return Judgement::Refused(Refusal::no_row());
     }
-    if let First::At(b) = first_unlimited(h, b, f, states) {
+    if let First::At(b) = first_unlimited(h, b, f, flags, states) {
         return Judgement::Refused(Refusal::unlimited(b));
     }
     if let First::At(i) = first_below(!h.is_intraday(), states, starts) {
@@ -195,24 +229,27 @@ pub fn prepare(
     b: &[BorderRecord],
     c: &[RowRecord],
     f: &[i64],
+    flags: &[u64],
     rams: &mut [i64],
     starts: &mut [i64],
     states: &mut [u64],
 ) -> Judgement
     requires { ⌜ Good (lent h (now z) (now t) (now b) (now c) (now f)) ⌝ }
+    requires { ⌜ length (now flags) ≡ h .borders ⌝ }
     requires { ⌜ (length (now rams) ≡ h .rows) × (length (now starts) ≡ h .rows) ⌝ }
     requires { ⌜ length (now states) ≡ h .rows ⌝ }
-    ensures { λ r. ⌜ prepared r (now (rams .exit)) (now (starts .exit)) (now (states .exit)) ≡ preparedOf (lent h (now (z .entry)) (now (t .entry)) (now (b .entry)) (now (c .entry)) (now (f .entry))) ⌝ }
+    ensures { λ r. ⌜ prepared r (now (rams .exit)) (now (starts .exit)) (now (states .exit)) ≡ preparedOf (flagged (now (flags .entry))) (lent h (now (z .entry)) (now (t .entry)) (now (b .entry)) (now (c .entry)) (now (f .entry))) ⌝ }
 {
     fill_rows(h, z, t, b, c, f, rams, starts, states);
-    judge_start(h, b, f, states, starts)
+    judge_start(h, b, f, flags, states, starts)
 }
 
-// p of each row at each border, and the margins that the rounds start from.
+// p of each row at each marked border, and the margins that the rounds start from.
 pub fn lay_out(
     h: Header,
     b: &[BorderRecord],
     f: &[i64],
+    flags: &[u64],
     starts: &[i64],
     states: &[u64],
     p: &mut [u64],
@@ -220,13 +257,51 @@ pub fn lay_out(
 )
     requires { ⌜ TableFactorsBound h (now f) ⌝ }
     requires { ⌜ BordersBound (h .zones) (now b) ⌝ }
-    requires { ⌜ length (now b) ≡ h .borders ⌝ }
+    requires { ⌜ (length (now b) ≡ h .borders) × (length (now flags) ≡ h .borders) ⌝ }
     requires { ⌜ (length (now starts) ≡ h .rows) × (length (now states) ≡ h .rows) ⌝ }
     requires { ⌜ (length (now p) ≡ h .rows * h .borders) × (length (now margins) ≡ h .rows) ⌝ }
-    ensures { λ _. ⌜ (now (p .exit) ≡ cells (gridOf h (now (b .entry)) (now (f .entry)) (now (states .entry)))) × (now (margins .exit) ≡ startOf h (now (b .entry)) (now (states .entry)) (now (starts .entry)) .margins) ⌝ }
+    ensures { λ _. ⌜ (now (p .exit) ≡ cells (gridOf (flagged (now (flags .entry))) h (now (b .entry)) (now (f .entry)) (now (states .entry)))) × (now (margins .exit) ≡ startOf h (now (b .entry)) (now (states .entry)) (now (starts .entry)) .margins) ⌝ }
 {
-    fill_grid(h, b, f, states, p);
+    fill_grid(h, b, f, flags, states, p);
     fill_margins(states, starts, margins);
+}
+
+// Whether every border is marked.
+fn all_marked(flags: &[u64]) -> bool
+    ensures { λ r. ⌜ r ≡ allBelow (length (now (flags .entry))) (flagged (now (flags .entry))) ⌝ }
+{
+    for k in 0..flags.len() {
+        if flags[k] == 0 {
+            return false;
+        }
+    }
+    true
+}
+
+// p of each row at every border, marked or not (02, E9), over what `lay_out` left. Where all are marked it stands there already.
+pub fn complete(
+    h: Header,
+    b: &[BorderRecord],
+    f: &[i64],
+    flags: &[u64],
+    states: &[u64],
+    p: &mut [u64],
+)
+    requires { ⌜ TableFactorsBound h (now f) ⌝ }
+    requires { ⌜ BordersBound (h .zones) (now b) ⌝ }
+    requires { ⌜ (length (now b) ≡ h .borders) × (length (now flags) ≡ h .borders) ⌝ }
+    requires { ⌜ length (now states) ≡ h .rows ⌝ }
+    requires { ⌜ h .borders ≤ bordersMost ⌝ }
+    requires { ⌜ now p ≡ cells (gridOf (flagged (now flags)) h (now b) (now f) (now states)) ⌝ }
+    ensures { λ _. ⌜ now (p .exit) ≡ cells (gridOf every h (now (b .entry)) (now (f .entry)) (now (states .entry))) ⌝ }
+{
+    if all_marked(flags) {
+        return;
+    }
+    let borders = h.borders;
+    // Every border: no marks are looked at.
+    let every = marks::chosen(true, flags);
+    fill_grid(h, b, f, &every[..borders], states, p);
 }
 
 // Where a judged border starts, in kW: at its LTA, or at 0 in the intraday profile.

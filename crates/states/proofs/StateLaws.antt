@@ -1,7 +1,7 @@
 -- The laws of `specs/States.antt` that loops and branches cite. No contract cites this file.
 -- In order: the largest and the smallest of a list; the spread; which of two rows is below; a row's state.
 use mathlib.Core.Path.{_≡_, refl, sym, ap, _∙_}
-use mathlib.Core.Bool.{Bool, true, false, _&&_, and-true, and-false}
+use mathlib.Core.Bool.{Bool, true, false, cond, _&&_, and-true, and-false}
 use mathlib.Core.List.{List, [], _∷_}
 use Prim.Native.Nat.{ℕ, _+_, _≤_, _<_}
 use native.Mathlib.Numerals.{add-one}
@@ -80,3 +80,12 @@ module _ (h : Header) (f rams : List ℤ) (i : ℕ) where
   pub state-kept : ltZ (spreadOf (stretch (h .zones) f i)) (pos spreadLeast) ≡ false → someBelow (h .rows) stood ≡ false → 0 ≡ stateOf h f rams i
   unfolding stateOf
   state-kept e q = rw (e, q)
+
+pub state-most : (h : Header) (f rams : List ℤ) (i : ℕ) → stateOf h f rams i ≤ 2
+unfolding stateOf
+state-most h f rams i = go (ltZ (spreadOf (stretch (h .zones) f i)) (pos spreadLeast)) (someBelow (h .rows) (stood h f rams i))
+  where
+    go : (a b : Bool) → cond a 1 (cond b 2 0) ≤ 2
+    go true b = omega arith
+    go false true = omega arith
+    go false false = omega arith

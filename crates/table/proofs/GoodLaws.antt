@@ -1,4 +1,4 @@
--- The laws of `specs/Good.antt`: what judging lent tables gives (`records-good`, `judged-front`, `judged-good`), and that a good table in front of lent tables is what they are judged to be
+-- The laws of `specs/Good.antt`: what judging lent tables gives (`records-good`, `judged-front`, `judged-good`, `told-good`), and that a good table in front of lent tables is what they are judged to be
 -- (`front-judged`, `good-judged`, `over-judged`).
 -- Row i's factors are its stretch, so factor k of the whole table is factor k % zones of row k / zones. No contract cites this file.
 use mathlib.Core.Path.{_≡_, sym, ap, subst, _∙_}
@@ -16,6 +16,9 @@ use Rattle.numbers.proofs.TestLaws.{and-both, both-and, all-true, true-all}
 use Rattle.kinds.specs.Ranges.{atℤ, headerFits, allocatedItems, rowFits, factorFits}
 use Rattle.kinds.specs.Refusals.{passed}
 use Rattle.kinds.specs.declared.Header.{Header}
+use Rattle.kinds.specs.declared.Judgement.{Judgement}
+use Rattle.kinds.specs.declared.Judgement.the-variants.{Passed}
+use Rattle.kinds.specs.Answers.{ruled}
 use Rattle.kinds.proofs.KindLaws.{header-in}
 use Rattle.kinds.proofs.RefusalLaws.{passed-is, none-passed, then-passed, unless-passed, unless-ok, none-next, then-next}
 use Rattle.table.specs.Table.{Table, lent, stretch, factorsAt, twice, notTwice, rowGood, front, inRange, judgeShape, judgeRecords, judgeLent}
@@ -96,6 +99,14 @@ judged-front given t e = judged given t e .0
 
 pub judged-good : (given t : Table) → judgeLent given ≡ passed t → Good t
 judged-good given t e = let j = judged given t e in subst Good (sym (j .0)) (j .1)
+
+-- .. as a call that judges them is told
+module _ (given : Table) (r : Judgement) (said : ruled r (front given) ≡ judgeLent given) (e : r ≡ Passed) where
+  pub told-judged : judgeLent given ≡ passed (front given)
+  told-judged = sym said ∙ ap (λ (j : Judgement). ruled j (front given)) e
+
+  pub told-good : Good (front given)
+  told-good = judged-good given (front given) told-judged
 
 -- ---- a good table is judged to be itself
 lent-is : (h : Header) (z z′ t t′ : List ℤ) (b b′ c c′ : List (List ℤ)) (f f′ : List ℤ) → z ≡ z′ → t ≡ t′ → b ≡ b′ → c ≡ c′ → f ≡ f′ → lent h z t b c f ≡ lent h z′ t′ b′ c′ f′

@@ -15,17 +15,17 @@ given s = lent (s .args .h) (s .args .z .now) (s .args .t .now) (s .args .b .now
 
 returns : tie.Need-returns
 returns c =
-    let s = c .before .before .before .before .before .before .before .before in
+    let s = c .before .before .before .before .before .before .before .before .before in
     let made = c .before .before .before .before .before .make .ensures in
     let is = c .before .written .given .1 in
-    (printed-result (given s) (s .args .out .now) _ _ (made .0) _ is, subst (λ (m : Made). madeAsked m ≤ answerMost) is (made .1))
+    (printed-result (s .args .all) (s .args .marks .now) (given s) (s .args .out .now) _ _ (made .0) _ is, subst (λ (m : Made). madeAsked m ≤ answerMost) is (made .1))
 
 returns-2 : tie.Need-returns-2
 returns-2 c =
     let called = c .before .before .before .before .before .before .before .before .before in
-    let s = called .before .before .before in
+    let s = called .before .before .before .before in
     let answered = c .before .before .write-refusal .ensures in
-    (answered .0 ∙ printed-refusal (given s) (s .args .out .now) _ _ (called .make .ensures .0) _ (c .before .before .before .before .before .w .given .1), omega (arith, answered .1))
+    (answered .0 ∙ printed-refusal (s .args .all) (s .args .marks .now) (given s) (s .args .out .now) _ _ (called .make .ensures .0) _ (c .before .before .before .before .before .w .given .1), omega (arith, answered .1))
 
 pub answer-lent-spec : {M : Type 1} → statement M
 answer-lent-spec =

@@ -1,30 +1,13 @@
--- `answer::result_text` meets its contract: what was made is told (`result-told`, `result-refused`).
+-- `answer::result_text` meets its contract: for every border, whatever the marks.
 use borrow.Author.Needs.{needs}
-use Rattle.table.specs.Table.{Table, lent}
-use Rattle.answer.proofs.OutcomeLaws.{result-told, result-refused}
+use Rattle.extraction.specs.Extraction.{outcomeFor}
+use Rattle.answer.specs.Result.{resultTextFor, resultTextLeft}
 use Rattle.answer.proofs.result_text.Statement.{statement}
 use Rattle.answer.proofs.result_text.Tie as tie
 
-abbrev given : tie.Start → Table
-given s = lent (s .args .h) (s .args .z .now) (s .args .t .now) (s .args .b .now) (s .args .c .now) (s .args .f .now)
-
-abbrev entry : tie.After-slice-known2 → tie.Start
-entry c = c .before .before .before .before .before
-
 returns : tie.Need-returns
-returns c = let s = entry (c .before .before .before) in result-told (given s) (s .args .out .now) _ _ (c .before .before .before .before .before .make .ensures .0) _ (c .before .written .given .1)
-
-returns-2 : tie.Need-returns-2
-returns-2 c = let s = entry (c .before .before .before) in result-refused (given s) (s .args .out .now) _ _ (c .before .before .before .before .before .make .ensures .0) _ (c .before .w .given .1)
+unfolding resultTextLeft resultTextFor outcomeFor
+returns c = c .before .before .result-text-for .ensures
 
 pub result-text-spec : {M : Type 1} → statement M
-result-text-spec =
-    tie.close
-    (tie.spec
-    (λ c κs. search needs)
-    (λ c. search needs)
-    (λ c. search needs)
-    (λ c. search needs)
-    returns
-    (λ c. search needs)
-    returns-2)
+result-text-spec = tie.close (tie.spec (λ c. search needs) (λ c κs. search needs) (λ c. search needs) returns)

@@ -12,17 +12,17 @@ use Rattle.extraction.proofs.extract_judged.Tie as tie
 
 mul-cells : tie.Need-mul-cells
 mul-cells c =
-    let e = header-in _ (c .before .before .pre .0 .exact .header) in
+    let e = header-in _ (c .before .before .before .pre .0 .exact .header) in
     omega (arith, mul-le-mul (e .rows-most) (e .borders-most))
 
 array-borrow-prefix-rams : tie.Need-array-borrow-prefix-rams
-array-borrow-prefix-rams c = header-in _ (c .before .before .pre .0 .exact .header) .rows-most
+array-borrow-prefix-rams c = header-in _ (c .before .before .before .pre .0 .exact .header) .rows-most
 
 slice-aggregate-extract-in : tie.Need-slice-aggregate-extract-in
 slice-aggregate-extract-in c = sym (length-take-le _ _ (array-borrow-prefix-rams (c .before)))
 
 abbrev entry : tie.After-rams → tie.Start
-entry c = c .before .before .before
+entry c = c .before .before .before .before
 
 array-borrow-prefix-starts : tie.Need-array-borrow-prefix-starts
 array-borrow-prefix-starts c = header-in _ (entry c .pre .0 .exact .header) .rows-most
@@ -43,7 +43,7 @@ slice-aggregate-extract-in-4 : tie.Need-slice-aggregate-extract-in-4
 slice-aggregate-extract-in-4 c = sym (length-take-le _ _ (array-borrow-prefix-margins (c .before)))
 
 slice-relend-prefix-extract-in : tie.Need-slice-relend-prefix-extract-in
-slice-relend-prefix-extract-in c = entry (c .before .before .before) .pre .1
+slice-relend-prefix-extract-in c = entry (c .before .before .before) .pre .1 .1
 
 slice-aggregate-extract-in-5 : tie.Need-slice-aggregate-extract-in-5
 slice-aggregate-extract-in-5 c = sym (length-take-le _ _ (slice-relend-prefix-extract-in (c .before)))
@@ -57,16 +57,19 @@ extract-in-requires c κs =
     let at-rams = at-starts .before in (
       entry at-rams .pre .0,
       (
-        (sym (slice-aggregate-extract-in at-rams), sym (slice-aggregate-extract-in-2 at-starts)),
-        ((sym (slice-aggregate-extract-in-3 at-states), sym (slice-aggregate-extract-in-4 at-margins)), sym (slice-aggregate-extract-in-5 at-p)),
+        entry at-rams .pre .1 .0,
+        (
+          (sym (slice-aggregate-extract-in at-rams), sym (slice-aggregate-extract-in-2 at-starts)),
+          ((sym (slice-aggregate-extract-in-3 at-states), sym (slice-aggregate-extract-in-4 at-margins)), sym (slice-aggregate-extract-in-5 at-p)),
+        ),
       ),
     )
 
 returns : tie.Need-returns
 returns c =
     let called = c .before .before .before .before .before .before .before .before in
-    let s = called .before .before .before .before .before .before .before .before .before .before in
-    front-left _ _ refl (s .args .p .now) (s .pre .1) _ _ (called .extract-in .ensures)
+    let s = called .before .before .before .before .before .before .before .before .before .before .before in
+    front-left _ _ _ refl (s .args .p .now) (s .pre .1 .1) _ _ (called .extract-in .ensures)
 
 pub extract-judged-spec : {M : Type 1} → statement M
 extract-judged-spec =

@@ -1,12 +1,13 @@
 -- `start::fill_grid` meets its contract: before row i and border k the cells are the grid's (`FilledTo`).
 use mathlib.Core.Path.{_≡_, sym, ap, subst, _∙_}
-use mathlib.Core.Bool.{true, cond}
+use mathlib.Core.Bool.{true, cond, _&&_}
 use mathlib.Core.List.{List, []}
 use Prim.Native.Nat.{ℕ, _-_}
 use native.Mathlib.Omega.{arith}
 use lib.IntN.{ℤ}
 use lib.ListN.{getD}
 use Rattle.kinds.specs.Ranges.{borderFits, borderOf}
+use Rattle.marks.specs.Marks.{flagged}
 use Rattle.margin.specs.Margin.{pOf}
 use Rattle.margin.proofs.JudgedLaws.{part-long, part-bound}
 use Rattle.start.specs.Setup.{gridBy}
@@ -16,26 +17,26 @@ use Rattle.start.proofs.fill_grid.Statement.{statement}
 use Rattle.start.proofs.fill_grid.Tie as tie
 
 abbrev Inv-loop2 : tie.InvT-loop2
-Inv-loop2 h b f states p₀ rows borders i state factors k₀ p k = FilledTo (gridOf h b f states) p i k
+Inv-loop2 h b f flags states p₀ rows borders i state factors k₀ p k = FilledTo (gridOf (flagged flags) h b f states) p i k
 
 abbrev μ-loop2 : tie.MeasureT-loop2
-μ-loop2 h b f states p₀ rows borders i state factors k₀ p k = h .borders - k
+μ-loop2 h b f flags states p₀ rows borders i state factors k₀ p k = h .borders - k
 
 abbrev Inv-loop : tie.InvT-loop
-Inv-loop h b f states p₀ rows borders i₀ p i = FilledTo (gridOf h b f states) p i 0
+Inv-loop h b f flags states p₀ rows borders i₀ p i = FilledTo (gridOf (flagged flags) h b f states) p i 0
 
 abbrev μ-loop : tie.MeasureT-loop
-μ-loop h b f states p₀ rows borders i₀ p i = h .rows - i
+μ-loop h b f flags states p₀ rows borders i₀ p i = h .rows - i
 
 loop-holds : tie.Need-loop-holds Inv-loop2 μ-loop2 Inv-loop μ-loop
 unfolding gridOf gridBy setupWith
-loop-holds c = filled-to-none _ _ (c .before .before .pre .1 .1 .1 .1)
+loop-holds c = filled-to-none _ _ (c .before .before .before .pre .1 .1 .1 .1)
 
 shared-slice-read-state : tie.Need-shared-slice-read-state Inv-loop2 μ-loop2 Inv-loop μ-loop
-shared-slice-read-state c = omega (arith, c .before .before .before .before .before .pre .1 .1 .1 .0)
+shared-slice-read-state c = omega (arith, c .before .before .before .before .before .before .pre .1 .1 .1 .0)
 
 row-factors-requires : tie.Need-row-factors-requires Inv-loop2 μ-loop2 Inv-loop μ-loop
-row-factors-requires c κs = (c .before .before .before .before .before .pre .0, omega arith)
+row-factors-requires c κs = (c .before .before .before .before .before .before .pre .0, omega arith)
 
 loop2-holds : tie.Need-loop2-holds Inv-loop2 μ-loop2 Inv-loop μ-loop
 loop2-holds c = c .before .before .before .loop .inv
@@ -46,48 +47,54 @@ module _ (c : tie.After-row-factors Inv-loop2 μ-loop2 Inv-loop μ-loop) where
   row = c .before .before .before .loop .i
 
   abbrev entry : tie.Start Inv-loop2 μ-loop2 Inv-loop μ-loop
-  entry = c .before .before .before .before .before .before
+  entry = c .before .before .before .before .before .before .before
 
 mul-cell : tie.Need-mul-cell Inv-loop2 μ-loop2 Inv-loop μ-loop
-mul-cell c = omega (arith, entry (c .before .before) .pre .1 .1 .0)
+mul-cell c = omega (arith, entry (c .before .before) .pre .1 .1 .0 .1)
+
+shared-slice-read-cell : tie.Need-shared-slice-read-cell Inv-loop2 μ-loop2 Inv-loop μ-loop
+shared-slice-read-cell c = omega (arith, entry (c .before .before .before) .pre .1 .1 .0 .1)
+
+mul-cell-2 : tie.Need-mul-cell-2 Inv-loop2 μ-loop2 Inv-loop μ-loop
+mul-cell-2 c = omega (arith, entry (c .before .before .before) .pre .1 .1 .0 .0)
 
 shared-slice-copy-out-cell : tie.Need-shared-slice-copy-out-cell Inv-loop2 μ-loop2 Inv-loop μ-loop
-shared-slice-copy-out-cell c = omega (arith, entry (c .before .before) .pre .1 .1 .0)
+shared-slice-copy-out-cell c = omega (arith, entry (c .before .before .before) .pre .1 .1 .0 .0)
 
 cell-requires : tie.Need-cell-requires Inv-loop2 μ-loop2 Inv-loop μ-loop
 cell-requires c κs =
-    let at-row = c .before .before .before in
+    let at-row = c .before .before .before .before in
     let q = entry at-row .pre in
-    let k = c .before .before .loop2 .k in
+    let k = c .before .before .before .loop2 .k in
     let e = at-row .row-factors .ensures in (
       part-bound (q .0) (row at-row) (omega arith) e,
-      subst (λ (n : ℕ). borderFits n (getD (entry at-row .args .b .now) k []) ≡ true) (sym (part-long (q .0) (row at-row) (omega arith) e)) (q .1 .0 .each k (omega (arith, q .1 .1 .0))),
+      subst (λ (n : ℕ). borderFits n (getD (entry at-row .args .b .now) k []) ≡ true) (sym (part-long (q .0) (row at-row) (omega arith) e)) (q .1 .0 .each k (omega (arith, q .1 .1 .0 .0))),
     )
 
 mul-p : tie.Need-mul-p Inv-loop2 μ-loop2 Inv-loop μ-loop
 unfolding gridOf gridBy setupWith
-mul-p c = omega (arith, filled-to-place (c .before .before .before .loop2 .inv) (omega arith) (omega arith))
+mul-p c = omega (arith, filled-to-place (c .before .before .before .before .loop2 .inv) (omega arith) (omega arith))
 
 add-p : tie.Need-add-p Inv-loop2 μ-loop2 Inv-loop μ-loop
 unfolding gridOf gridBy setupWith
-add-p c = omega (arith, filled-to-place (c .before .before .before .loop2 .inv) (omega arith) (omega arith))
+add-p c = omega (arith, filled-to-place (c .before .before .before .before .loop2 .inv) (omega arith) (omega arith))
 
 mul-p-2 : tie.Need-mul-p-2 Inv-loop2 μ-loop2 Inv-loop μ-loop
 unfolding gridOf gridBy setupWith
-mul-p-2 c = omega (arith, filled-to-place (c .before .before .before .loop2 .inv) (omega arith) (omega arith))
+mul-p-2 c = omega (arith, filled-to-place (c .before .before .before .before .loop2 .inv) (omega arith) (omega arith))
 
 slice-write-p : tie.Need-slice-write-p Inv-loop2 μ-loop2 Inv-loop μ-loop
 unfolding gridOf gridBy setupWith
-slice-write-p c = filled-to-place (c .before .before .before .loop2 .inv) (omega arith) (omega arith)
+slice-write-p c = filled-to-place (c .before .before .before .before .loop2 .inv) (omega arith) (omega arith)
 
 loop2-again : tie.Need-loop2-again Inv-loop2 μ-loop2 Inv-loop μ-loop
-unfolding gridOf kept gridBy setupWith
+unfolding gridOf kept gridBy setupWith flagged
 loop2-again c =
-    let at-loop2 = c .before .before .before in
+    let at-loop2 = c .before .before .before .before in
     let at-row = at-loop2 .before in
     let a = entry at-row .args in
     filled-to-more (at-loop2 .loop2 .inv) (omega arith) (omega arith) _
-    (c .cell .ensures ∙ ap (λ (fs : List ℤ). cond (kept (a .states .now) (row at-row)) (pOf fs (borderOf (getD (a .b .now) (at-loop2 .loop2 .k) []))) 0) (at-row .row-factors .ensures))
+    (c .cell .ensures ∙ ap (λ (fs : List ℤ). cond (flagged (a .flags .now) (at-loop2 .loop2 .k) && kept (a .states .now) (row at-row)) (pOf fs (borderOf (getD (a .b .now) (at-loop2 .loop2 .k) []))) 0) (at-row .row-factors .ensures))
 
 loop-again : tie.Need-loop-again Inv-loop2 μ-loop2 Inv-loop μ-loop
 unfolding gridOf gridBy setupWith
@@ -95,7 +102,7 @@ loop-again c = filled-to-row (c .before .loop2 .inv) (omega arith) (omega arith)
 
 same-length : tie.Need-same-length Inv-loop2 μ-loop2 Inv-loop μ-loop
 unfolding gridOf gridBy setupWith
-same-length c = c .before .loop .inv .long ∙ sym (c .before .before .before .before .pre .1 .1 .1 .1)
+same-length c = c .before .loop .inv .long ∙ sym (c .before .before .before .before .before .pre .1 .1 .1 .1)
 
 returns : tie.Need-returns Inv-loop2 μ-loop2 Inv-loop μ-loop
 unfolding gridOf gridBy setupWith
@@ -115,6 +122,8 @@ fill-grid-spec =
     row-factors-requires
     loop2-holds
     mul-cell
+    shared-slice-read-cell
+    mul-cell-2
     shared-slice-copy-out-cell
     cell-requires
     mul-p

@@ -15,10 +15,10 @@ use Rattle.start.proofs.judge_start.Tie as tie
 
 returns : tie.Need-returns
 unfolding gridOf gridBy setupWith
-returns c = ap refused (c .no-row .ensures) ∙ none-kept _ _ _ _ _ (c .before .before .before .before .pre .1 .1 .1 .0) (sym (c .before .before .some-kept .ensures) ∙ not-true _ (c .before .if1 .taken))
+returns c = ap refused (c .no-row .ensures) ∙ none-kept _ _ _ _ _ _ (c .before .before .before .before .before .pre .1 .1 .1 .0) (sym (c .before .before .some-kept .ensures) ∙ not-true _ (c .before .if1 .taken))
 
 abbrev entry : tie.Else1 → tie.Start
-entry c = c .before .before .before
+entry c = c .before .before .before .before
 
 -- past refusal 5
 some-row : (c : tie.Else1)
@@ -33,7 +33,7 @@ returns-2 : tie.Need-returns-2
 unfolding gridOf gridBy setupWith
 returns-2 c =
     let past-5 = c .before .before .before .before .before in
-    ap refused (c .unlimited .ensures) ∙ border-free _ _ _ _ _ (entry past-5 .pre .1 .1 .1 .0) (some-row past-5) _ (sym (ap found (c .before .before .b .given .1)) ∙ c .before .before .before .before .first-unlimited .ensures)
+    ap refused (c .unlimited .ensures) ∙ border-free _ _ _ _ _ _ (entry past-5 .pre .1 .1 .1 .0) (some-row past-5) _ (sym (ap found (c .before .before .b .given .1)) ∙ c .before .before .before .before .first-unlimited .ensures)
 
 first-below-requires : tie.Need-first-below-requires
 first-below-requires c κs = let q = entry (c .before .before .before .before) .pre in q .1 .1 .1 .1 ∙ sym (q .1 .1 .1 .0)
@@ -44,7 +44,7 @@ returns-3 c =
     let profile = c .before .before .before .before .before in
     let past-6 = profile .before in
     let past-5 = past-6 .before .before .before in
-    ap refused (c .below-zero .ensures) ∙ row-below _ _ _ _ _ (entry past-5 .pre .1 .1 .1 .0) (some-row past-5) (sym (ap found (past-6 .enum-told .given .1)) ∙ past-6 .before .before .first-unlimited .ensures) _
+    ap refused (c .below-zero .ensures) ∙ row-below _ _ _ _ _ _ (entry past-5 .pre .1 .1 .1 .0) (some-row past-5) (sym (ap found (past-6 .enum-told .given .1)) ∙ past-6 .before .before .first-unlimited .ensures) _
     (sym (ap found (c .before .before .i .given .1)) ∙ (rw (profile .is-intraday .ensures) at (c .before .before .before .before .first-below .ensures)))
 
 returns-4 : tie.Need-returns-4
@@ -53,7 +53,7 @@ returns-4 c =
     let profile = c .before .before .before in
     let past-6 = profile .before in
     let past-5 = past-6 .before .before .before in
-    may-start _ _ _ _ _ (entry past-5 .pre .1 .1 .1 .0) (some-row past-5) (sym (ap found (past-6 .enum-told .given .1)) ∙ past-6 .before .before .first-unlimited .ensures)
+    may-start _ _ _ _ _ _ (entry past-5 .pre .1 .1 .1 .0) (some-row past-5) (sym (ap found (past-6 .enum-told .given .1)) ∙ past-6 .before .before .first-unlimited .ensures)
     (sym (ap found (c .enum-told2 .given .1)) ∙ (rw (profile .is-intraday .ensures) at (c .before .before .first-below .ensures)))
 
 pub judge-start-spec : {M : Type 1} → statement M

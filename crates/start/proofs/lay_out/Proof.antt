@@ -6,13 +6,13 @@ use Rattle.start.proofs.lay_out.Tie as tie
 
 fill-grid-requires : tie.Need-fill-grid-requires
 fill-grid-requires c κs =
-    let q = c .before .before .before .before .pre in
+    let q = c .before .before .before .before .before .pre in
     (q .0, (q .1 .0, (q .1 .1 .0, (q .1 .1 .1 .0 .1, q .1 .1 .1 .1 .0))))
 
 returns : tie.Need-returns
 returns c =
     let at-grid = c .before .before .before .before .before .before in
-    let q = at-grid .before .before .before .before .before .pre in
+    let q = at-grid .before .before .before .before .before .before .pre in
     (at-grid .fill-grid .ensures, margins-are _ _ _ _ (q .1 .1 .1 .0 .1) (c .before .before .fill-margins .ensures))
 
 pub lay-out-spec : {M : Type 1} → statement M

@@ -12,13 +12,13 @@ judge-start-requires : tie.Need-judge-start-requires
 judge-start-requires c κs =
     let at-rows = c .before .before .before .before .before .before in
     let said = at-rows .fill-rows .ensures in
-    let q = at-rows .before .before .before .before .before .pre in
-    (good-factors (q .0), (good-borders (q .0), (q .0 .exact .borders-long, (rows-in _ _ (said .0) .states-long, ap length (said .1) ∙ table-long _ _))))
+    let q = at-rows .before .before .before .before .before .before .pre in
+    (good-factors (q .0), (good-borders (q .0), ((q .0 .exact .borders-long, q .1 .0), (rows-in _ _ (said .0) .states-long, ap length (said .1) ∙ table-long _ _))))
 
 returns : tie.Need-returns
 returns c =
     let said = c .before .before .before .before .before .before .before .fill-rows .ensures in
-    prepared-by _ (c .judge-start .result) (said .0) (said .1) (c .judge-start .ensures)
+    prepared-by _ _ (c .judge-start .result) (said .0) (said .1) (c .judge-start .ensures)
 
 pub prepare-spec : {M : Type 1} → statement M
 prepare-spec =

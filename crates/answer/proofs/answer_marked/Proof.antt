@@ -1,0 +1,12 @@
+-- `answer::answer_marked` meets its contract.
+use borrow.Author.Needs.{needs}
+use Rattle.answer.specs.Result.{answerMarkedLeft}
+use Rattle.answer.proofs.answer_marked.Statement.{statement}
+use Rattle.answer.proofs.answer_marked.Tie as tie
+
+returns : tie.Need-returns
+unfolding answerMarkedLeft
+returns c = c .before .before .answer-for .ensures .0
+
+pub answer-marked-spec : {M : Type 1} → statement M
+answer-marked-spec = tie.close (tie.spec (λ c κs. search needs) (λ c. search needs) returns)

@@ -1,0 +1,10 @@
+-- `marks::chosen` meets its contract.
+use borrow.Author.Needs.{needs}
+use Rattle.marks.proofs.chosen.Statement.{statement}
+use Rattle.marks.proofs.chosen.Tie as tie
+
+returns : tie.Need-returns
+returns c = c .before .choose .ensures
+
+pub chosen-spec : {M : Type 1} → statement M
+chosen-spec = tie.close (tie.spec (λ c. search needs) (λ c κs. search needs) returns)

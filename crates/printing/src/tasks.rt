@@ -1,0 +1,109 @@
+// What a program can be asked for: the words, with what may stand after each, and what each prints of a table's text.
+ghost use Prim.Native.Nat.{_≤_};
+ghost use lib.ListN.{length};
+ghost use Rattle.printing.specs.Printed.{sheetRoom};
+use crate::arguments;
+use crate::arguments::Held;
+use crate::output;
+use crate::output::Ended;
+use crate::sheets;
+use crate::sheets::Rows;
+use crate::texts;
+use crate::texts::Word;
+
+pub enum Task {
+    Text(Word),
+    // printed row by row
+    Corners(Rows),
+}
+
+pub enum Asked {
+    Task(Task),
+    Help,
+    Version,
+    // the argument that cannot be taken
+    Wrong(usize),
+}
+
+// What the word at an argument asks for, with the argument after it; 0 stands for one that is not there.
+pub fn understand(word: usize, after: usize) -> Asked {
+    if word == 0 {
+        return alone(text_of(Word::Answer), after);
+    }
+    if arguments::is(word, b"rewrite") {
+        return alone(text_of(Word::Rewrite), after);
+    }
+    if arguments::is(word, b"corners") {
+        return corners(after);
+    }
+    about(word, after)
+}
+
+fn text_of(word: Word) -> Asked {
+    Asked::Task(Task::Text(word))
+}
+
+// The words that ask for nothing of a table.
+fn about(word: usize, after: usize) -> Asked {
+    if arguments::is(word, b"help") {
+        return alone(Asked::Help, after);
+    }
+    if arguments::is(word, b"--help") {
+        return alone(Asked::Help, after);
+    }
+    if arguments::is(word, b"--version") {
+        return alone(Asked::Version, after);
+    }
+    Asked::Wrong(word)
+}
+
+// Nothing may stand after the word.
+fn alone(asked: Asked, after: usize) -> Asked {
+    if after > 0 {
+        return Asked::Wrong(after);
+    }
+    asked
+}
+
+// A row may.
+fn corners(after: usize) -> Asked {
+    if after == 0 {
+        return Asked::Task(Task::Corners(Rows::Every));
+    }
+    if let Held::Number(row) = arguments::number(after) {
+        return Asked::Task(Task::Corners(Rows::One(row as usize)));
+    }
+    Asked::Wrong(after)
+}
+
+// Whether marks go with the task.
+pub fn takes_marks(task: Task) -> bool {
+    match task {
+        Task::Text(word) => marks_go_with(word),
+        Task::Corners(_) => false,
+    }
+}
+
+fn marks_go_with(word: Word) -> bool {
+    match word {
+        Word::Answer => true,
+        Word::Rewrite => false,
+    }
+}
+
+// Prints what the task is for this text; where it is refused, the E line. Where `all` borders may rise, the marks are not looked at.
+pub fn print(task: Task, all: bool, marks: &[u64], text: &[u8], out: &mut [u8]) -> Ended
+    requires { ⌜ sheetRoom ≤ length (now out) ⌝ }
+{
+    match task {
+        Task::Text(word) => print_text(word, all, marks, text, out),
+        Task::Corners(rows) => sheets::print(text, rows, out),
+    }
+}
+
+fn print_text(word: Word, all: bool, marks: &[u64], text: &[u8], out: &mut [u8]) -> Ended
+    requires { ⌜ sheetRoom ≤ length (now out) ⌝ }
+{
+    let n = texts::put(word, all, marks, text, out);
+    output::put(&out[..n])
+}
