@@ -9,7 +9,7 @@
  * A request: its words (struct request), then the lent buffers.  The words are the
  * call, its header (zones, borders, rows, share, intraday) and its row (each 0 where
  * the call takes none), and the counts of items of z, t, b, c, f, p, marks, atc,
- * left, flows, text and out (0 where the call does not take
+ * left, flows, text, sheet and out (0 where the call does not take
  * that buffer).  The buffers that the call takes follow in this order, each with
  * BEFORE items before the lent part and AFTER items after it.
  *
@@ -32,11 +32,12 @@ enum { BEFORE = 2, AFTER = 3 };
 
 enum {
     READ = 1, WRITE, EXTRACT, RESULT_TEXT, ANSWER, CORNER_FLOWS, CORNER_TEXT,
-    EXTRACT_MARKED, RESULT_TEXT_MARKED, ANSWER_MARKED, CALLS
+    EXTRACT_MARKED, RESULT_TEXT_MARKED, ANSWER_MARKED,
+    READ_CORRECTED, ANSWER_CORRECTED, REWRITE_CORRECTED, CALLS
 };
 
 /* Buffers of numbers stand before buffers of bytes, so each is aligned. */
-enum { Z, T, B, C, F, P, MARKS, ATC, LEFT, FLOWS, TEXT, OUT, BUFFERS };
+enum { Z, T, B, C, F, P, MARKS, ATC, LEFT, FLOWS, TEXT, SHEET, OUT, BUFFERS };
 
 typedef int64_t border_record[KERAVNOTH_B_ITEMS];
 typedef int64_t row_record[KERAVNOTH_C_ITEMS];
@@ -55,6 +56,7 @@ static const size_t item_bytes[BUFFERS] = {
     [LEFT] = sizeof(left_record),
     [FLOWS] = sizeof(int64_t),
     [TEXT] = 1,
+    [SHEET] = 1,
     [OUT] = 1,
 };
 
@@ -70,6 +72,9 @@ static const unsigned char takes[CALLS][BUFFERS] = {
     [EXTRACT_MARKED] = {[Z] = 1, [T] = 1, [B] = 1, [C] = 1, [F] = 1, [P] = 1, [MARKS] = 1, [ATC] = 1, [LEFT] = 1},
     [RESULT_TEXT_MARKED] = {[Z] = 1, [T] = 1, [B] = 1, [C] = 1, [F] = 1, [MARKS] = 1, [OUT] = 1},
     [ANSWER_MARKED] = {[MARKS] = 1, [TEXT] = 1, [OUT] = 1},
+    [READ_CORRECTED] = {[Z] = 1, [T] = 1, [B] = 1, [C] = 1, [F] = 1, [TEXT] = 1, [SHEET] = 1},
+    [ANSWER_CORRECTED] = {[TEXT] = 1, [SHEET] = 1, [OUT] = 1},
+    [REWRITE_CORRECTED] = {[TEXT] = 1, [SHEET] = 1, [OUT] = 1},
 };
 
 /* The most bytes that the buffers of a request may have, guards included. */
@@ -106,9 +111,14 @@ static size_t make(const struct request *r, unsigned char *const *at, uint64_t *
     const uint64_t *marks = (const uint64_t *)at[MARKS];
     size_t nz = r->count[Z], nt = r->count[T], nb = r->count[B], nc = r->count[C], nf = r->count[F];
 
-    if (r->call == READ) {
-        struct KeravnothRead said = keravnoth_read(
-            at[TEXT], r->count[TEXT], z, nz, t, nt, b, nb, c, nc, f, nf);
+    if (r->call == READ || r->call == READ_CORRECTED) {
+        struct KeravnothRead said;
+        if (r->call == READ)
+            said = keravnoth_read(
+                at[TEXT], r->count[TEXT], z, nz, t, nt, b, nb, c, nc, f, nf);
+        else
+            said = keravnoth_read_corrected(
+                at[TEXT], r->count[TEXT], at[SHEET], r->count[SHEET], z, nz, t, nt, b, nb, c, nc, f, nf);
         answer[0] = said.number;
         answer[1] = said.place;
         answer[2] = said.byte;
@@ -176,6 +186,12 @@ static size_t make(const struct request *r, unsigned char *const *at, uint64_t *
     else if (r->call == ANSWER_MARKED)
         said = keravnoth_answer_marked(
             at[TEXT], r->count[TEXT], marks, r->count[MARKS], at[OUT], r->count[OUT]);
+    else if (r->call == ANSWER_CORRECTED)
+        said = keravnoth_answer_corrected(
+            at[TEXT], r->count[TEXT], at[SHEET], r->count[SHEET], at[OUT], r->count[OUT]);
+    else if (r->call == REWRITE_CORRECTED)
+        said = keravnoth_rewrite_corrected(
+            at[TEXT], r->count[TEXT], at[SHEET], r->count[SHEET], at[OUT], r->count[OUT]);
     else
         said = keravnoth_answer(at[TEXT], r->count[TEXT], at[OUT], r->count[OUT]);
     answer[0] = said.number;

@@ -20,12 +20,12 @@
 #include <stdio.h>
 #include <string.h>
 
-enum { CALLS = 10, THREADS = 4, TURNS = 8, KIB = 1024, SPARE = 256 };
+enum { CALLS = 13, THREADS = 4, TURNS = 8, KIB = 1024, SPARE = 256 };
 
 /* Everything that the calls are lent, once a thread. */
 struct room {
     struct KeravnothRead table;
-    size_t n, row;
+    size_t n, row, rows_at;
     int64_t z[KERAVNOTH_ZONES_MOST];
     int64_t t[KERAVNOTH_ZONES_MOST];
     int64_t b[KERAVNOTH_BORDERS_MOST][KERAVNOTH_B_ITEMS];
@@ -65,9 +65,25 @@ static void read_(struct room *r)
         r->c, KERAVNOTH_ROWS_MOST, r->f, KERAVNOTH_FACTORS_MOST);
 }
 
+/* The table's own C lines are a sheet that changes nothing, and the longest walk. */
+static void read_corrected(struct room *r)
+{
+    r->table = keravnoth_read_corrected(
+        r->text, r->n, r->text + r->rows_at, r->n - r->rows_at,
+        r->z, KERAVNOTH_ZONES_MOST, r->t, KERAVNOTH_ZONES_MOST,
+        r->b, KERAVNOTH_BORDERS_MOST,
+        r->c, KERAVNOTH_ROWS_MOST, r->f, KERAVNOTH_FACTORS_MOST);
+}
+
 static void write_(struct room *r)
 {
     keravnoth_write(TABLE(r), r->out, KERAVNOTH_WRITE_MOST);
+}
+
+static void rewrite_corrected(struct room *r)
+{
+    keravnoth_rewrite_corrected(
+        r->text, r->n, r->text + r->rows_at, r->n - r->rows_at, r->out, KERAVNOTH_WRITE_MOST);
 }
 
 static void extract(struct room *r)
@@ -116,6 +132,12 @@ static void answer_marked(struct room *r)
     keravnoth_answer_marked(r->text, r->n, r->marks, count, r->out, KERAVNOTH_ANSWER_MOST);
 }
 
+static void answer_corrected(struct room *r)
+{
+    keravnoth_answer_corrected(
+        r->text, r->n, r->text + r->rows_at, r->n - r->rows_at, r->out, KERAVNOTH_ANSWER_MOST);
+}
+
 static void corner_flows(struct room *r)
 {
     keravnoth_corner_flows(TABLE(r), r->row, r->flows, KERAVNOTH_CORNERS_MOST);
@@ -132,13 +154,16 @@ static const struct {
     size_t stack;
 } calls[CALLS] = {
     {"read", read_, KERAVNOTH_READ_STACK},
+    {"read_corrected", read_corrected, KERAVNOTH_READ_CORRECTED_STACK},
     {"write", write_, KERAVNOTH_WRITE_STACK},
+    {"rewrite_corrected", rewrite_corrected, KERAVNOTH_REWRITE_CORRECTED_STACK},
     {"extract", extract, KERAVNOTH_EXTRACT_STACK},
     {"extract_marked", extract_marked, KERAVNOTH_EXTRACT_MARKED_STACK},
     {"result_text", result_text, KERAVNOTH_RESULT_TEXT_STACK},
     {"result_text_marked", result_text_marked, KERAVNOTH_RESULT_TEXT_MARKED_STACK},
     {"answer", answer, KERAVNOTH_ANSWER_STACK},
     {"answer_marked", answer_marked, KERAVNOTH_ANSWER_MARKED_STACK},
+    {"answer_corrected", answer_corrected, KERAVNOTH_ANSWER_CORRECTED_STACK},
     {"corner_flows", corner_flows, KERAVNOTH_CORNER_FLOWS_STACK},
     {"corner_text", corner_text, KERAVNOTH_CORNER_TEXT_STACK},
 };
@@ -152,6 +177,8 @@ static int load(struct room *r, const char *name)
     }
     memset(r, 0, sizeof *r);
     r->n = fread(r->text, 1, sizeof r->text, file);
+    while (r->rows_at < r->n && r->text[r->rows_at] != 'C')
+        r->rows_at++;
     int failed = ferror(file);
     fclose(file);
     return failed ? 2 : 0;
@@ -218,6 +245,15 @@ static int check_null(const char *name)
     same &= SAME(
         keravnoth_read(r->text, r->n, NULL, 0, NULL, 0, NULL, 0, NULL, 0, NULL, 0),
         keravnoth_read(r->text, r->n, r->z, 0, r->t, 0, r->b, 0, r->c, 0, r->f, 0));
+    same &= SAME(
+        keravnoth_read_corrected(r->text, r->n, NULL, 0, NULL, 0, NULL, 0, NULL, 0, NULL, 0, NULL, 0),
+        keravnoth_read_corrected(r->text, r->n, r->text, 0, r->z, 0, r->t, 0, r->b, 0, r->c, 0, r->f, 0));
+    same &= SAME(
+        keravnoth_rewrite_corrected(r->text, r->n, NULL, 0, NULL, 0),
+        keravnoth_rewrite_corrected(r->text, r->n, r->text, 0, r->out, 0));
+    same &= SAME(
+        keravnoth_answer_corrected(r->text, r->n, NULL, 0, r->out, KERAVNOTH_ANSWER_MOST),
+        keravnoth_answer_corrected(r->text, r->n, r->text, 0, r->out, KERAVNOTH_ANSWER_MOST));
     same &= SAME(
         keravnoth_answer(NULL, 0, NULL, 0),
         keravnoth_answer(r->text, 0, r->out, 0));

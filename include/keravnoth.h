@@ -29,6 +29,11 @@
  *            header says), CVA 0..10000000, IVA 0..10000000
  *   f        one int64_t a row and zone, -100000..100000; row i's factors start
  *            at item i * zones
+ *   sheet    (of the calls named .._corrected) the text of a correction sheet: C lines
+ *            as in a table, and nothing else, each index above the one before and
+ *            below the table's rows; each replaces the table's row of its index, "-"
+ *            in R taking the table's default.  The table is then the merged one.  An
+ *            empty sheet changes nothing
  *   p        one uint64_t a row and border, filled in by the extraction: the
  *            factor that the border has on the row, from factor - to factor (of a
  *            border with hubs from factor - sending + receiving - to factor), and 0
@@ -53,7 +58,7 @@
  *            may be negative
  *
  * REFUSALS (field number of every answer; 0: no refusal; names below)
- *   1  more than 65,536 bytes                                       place 0
+ *   1  a text (the table's, a sheet's) of more than 65,536 bytes    place 0
  *   2  the first faulty line has the wrong form, kind, index or
  *      field count, is missing, has no LF, or is extra              place: line, from 1
  *   3  the first faulty line has right form, a value outside its
@@ -71,6 +76,8 @@
  *                                                                   the first short one
  *   9  more than 12 borders; or else no such row (corner sheet      place: border count;
  *      only)                                                        the row's index
+ *   10 the first faulty line of the sheet: its form or a value, an
+ *      index that is not above the one before or that no row has    place: its line, from 1
  *   13 no border is marked; or a mark is no border, or was given
  *      before                                                       place: 0; its position
  *                                                                   in marks, from 1
@@ -80,24 +87,26 @@
  *   header is line 1.
  *
  *   Byte (field byte of every answer): the byte to blame in the line that place
- *   names, from 1, or 0 where no byte is to blame.  Only keravnoth_read names one,
- *   and only with 2 and 3: the first byte from the left that no good field could
- *   have there, where an index is not the line's own or a value is outside its range
- *   the field's first byte (of two in conflict the later field's), where a field ends
- *   too soon the byte after it.  A wrong letter or field count, a line that is
- *   missing or extra, and every other refusal have 0, as has every call on lent
- *   tables.
+ *   names, from 1, or 0 where no byte is to blame.  Only keravnoth_read and the calls
+ *   with a correction sheet name one, and only with 2, 3 and 10: the first byte from
+ *   the left that no good field could have there, where an index is not the line's own
+ *   or a value is outside its range the field's first byte (of two in conflict the
+ *   later field's), where a field ends too soon the byte after it.  A wrong letter or
+ *   field count, a line that is missing or extra, and every other refusal have 0, as
+ *   has every call on lent tables.
  *
- *   Order.  keravnoth_read: 1, then 2 and 3 line by line, 4, 8.  The calls on
- *   lent tables: the header (3), lengths (8) in the order z, t, b, c, f, p,
- *   records (3), 4; the extraction and the result text go on to 13, 5, 6, 7, the
- *   corner sheet to 9; last comes room for results (8), atc before left.  The corner
- *   sheet does not judge 5, 6, 7: a table that the extraction refuses has its sheets.
+ *   Order.  keravnoth_read: 1, then 2 and 3 line by line, 4, 8; with a correction
+ *   sheet 1 of either text, 2 to 4 of the table's, 10, 8; 5, 6 and 7 are of the
+ *   merged table.  The calls on lent tables: the header (3), lengths (8) in the order
+ *   z, t, b, c, f, p, records (3), 4; the extraction and the result text go on to 13,
+ *   5, 6, 7, the corner sheet to 9; last comes room for results (8), atc before left.
+ *   The corner sheet does not judge 5, 6, 7: a table that the extraction refuses has
+ *   its sheets.
  *
  * LENT MEMORY
  *   Each pointer goes with the count of its items (records for b, c, atc and left;
- *   numbers for z, t, f, p, marks and flows; bytes for text and for out that takes
- *   text) and points to that many; it is aligned for its
+ *   numbers for z, t, f, p, marks and flows; bytes for text, sheet and for out that
+ *   takes text) and points to that many; it is aligned for its
  *   type.  What is written to overlaps nothing else that is lent.  Nothing is kept
  *   after the call, nothing is allocated.
  *   A pointer is not NULL, also where its count is 0: a count of 0 is allowed
@@ -136,7 +145,7 @@
 extern "C" {
 #endif
 
-#define KERAVNOTH_VERSION 9
+#define KERAVNOTH_VERSION 10
 
 /* The largest table, in items. */
 enum {
@@ -172,6 +181,7 @@ enum {
     KERAVNOTH_MARGIN_BELOW_0 = 7,
     KERAVNOTH_BUFFER_TOO_SHORT = 8,
     KERAVNOTH_NO_CORNER_SHEET = 9,
+    KERAVNOTH_WRONG_CORRECTION = 10,
     KERAVNOTH_BAD_MARK = 13
 };
 
@@ -230,13 +240,16 @@ enum {
 /* The stack that each call needs, in bytes: see STACK above. */
 enum {
     KERAVNOTH_READ_STACK = 5120,
+    KERAVNOTH_READ_CORRECTED_STACK = 5120,
     KERAVNOTH_WRITE_STACK = 2048,
+    KERAVNOTH_REWRITE_CORRECTED_STACK = 45056,
     KERAVNOTH_EXTRACT_STACK = 18432,
     KERAVNOTH_EXTRACT_MARKED_STACK = 14336,
     KERAVNOTH_RESULT_TEXT_STACK = 123904,
     KERAVNOTH_RESULT_TEXT_MARKED_STACK = 123904,
     KERAVNOTH_ANSWER_STACK = 163840,
     KERAVNOTH_ANSWER_MARKED_STACK = 163840,
+    KERAVNOTH_ANSWER_CORRECTED_STACK = 163840,
     KERAVNOTH_CORNER_FLOWS_STACK = 3072,
     KERAVNOTH_CORNER_TEXT_STACK = 35840
 };
@@ -302,6 +315,16 @@ struct KeravnothRead keravnoth_read(
     int64_t (*c)[KERAVNOTH_C_ITEMS], size_t nc,
     int64_t *f, size_t nf);
 
+/* .. as a sheet corrects it.  Refusals 1, 2, 3, 4, 8, 10. */
+struct KeravnothRead keravnoth_read_corrected(
+    const uint8_t *text, size_t n,
+    const uint8_t *sheet, size_t nsheet,
+    int64_t *z, size_t nz,
+    int64_t *t, size_t nt,
+    int64_t (*b)[KERAVNOTH_B_ITEMS], size_t nb,
+    int64_t (*c)[KERAVNOTH_C_ITEMS], size_t nc,
+    int64_t *f, size_t nf);
+
 /* Writes the tables as text; text that is read and written again is the same.
    Refusals 3, 4, 8. */
 struct KeravnothWritten keravnoth_write(
@@ -311,6 +334,13 @@ struct KeravnothWritten keravnoth_write(
     const int64_t (*b)[KERAVNOTH_B_ITEMS], size_t nb,
     const int64_t (*c)[KERAVNOTH_C_ITEMS], size_t nc,
     const int64_t *f, size_t nf,
+    uint8_t *out, size_t nout);
+
+/* From text to text: the table as a sheet corrects it, written again.  Refusals 1, 2,
+   3, 4, 8, 10. */
+struct KeravnothWritten keravnoth_rewrite_corrected(
+    const uint8_t *text, size_t n,
+    const uint8_t *sheet, size_t nsheet,
     uint8_t *out, size_t nout);
 
 /* Capacities and margins from the tables, and the factors by border that they
@@ -371,6 +401,12 @@ struct KeravnothWritten keravnoth_answer(
 struct KeravnothWritten keravnoth_answer_marked(
     const uint8_t *text, size_t n,
     const uint64_t *marks, size_t nmarks,
+    uint8_t *out, size_t nout);
+
+/* .. of the table as a sheet corrects it.  Refused as keravnoth_answer is. */
+struct KeravnothWritten keravnoth_answer_corrected(
+    const uint8_t *text, size_t n,
+    const uint8_t *sheet, size_t nsheet,
     uint8_t *out, size_t nout);
 
 /* The flows of all corners of one row: 2^borders numbers.  row may be any number.

@@ -173,14 +173,22 @@ impl Bridge {
         self.back(l.f);
     }
 
-    /// The header of the tables is not looked at.
-    pub fn read(&mut self, text: &mut [u8], mut l: Lent) -> Result<Read, Ended> {
-        self.begin(wire::READ, [0; wire::HEADER_WORDS]);
+    /// The header of the tables is not looked at.  With a sheet: the call that takes
+    /// one.
+    pub fn read(&mut self, text: &mut [u8], sheet: Option<&mut [u8]>, mut l: Lent) -> Result<Read, Ended> {
+        let call = if sheet.is_some() { wire::READ_CORRECTED } else { wire::READ };
+        self.begin(call, [0; wire::HEADER_WORDS]);
         self.lend_tables(&l);
         self.lend(wire::TEXT, text);
+        if let Some(sheet) = &sheet {
+            self.lend(wire::SHEET, sheet);
+        }
         let [number, place, byte, zones, borders, rows, share, intraday] = self.ask()?;
         self.tables_back(&mut l);
         self.back(text);
+        if let Some(sheet) = sheet {
+            self.back(sheet);
+        }
         let [place, byte, zones, borders, rows] =
             [place, byte, zones, borders, rows].map(|field| field as usize);
         Ok(Read { number, place, byte, zones, borders, rows, share: share as i64, intraday })
@@ -277,6 +285,26 @@ impl Bridge {
         self.tables_back(&mut l);
         self.back(flows);
         Ok(Flows { number, place: place as usize, byte: byte as usize, corners: corners as usize })
+    }
+
+    pub fn answer_corrected(&mut self, text: &mut [u8], sheet: &mut [u8], out: &mut [u8]) -> Result<Written, Ended> {
+        self.two_texts(wire::ANSWER_CORRECTED, text, sheet, out)
+    }
+
+    pub fn rewrite_corrected(&mut self, text: &mut [u8], sheet: &mut [u8], out: &mut [u8]) -> Result<Written, Ended> {
+        self.two_texts(wire::REWRITE_CORRECTED, text, sheet, out)
+    }
+
+    fn two_texts(&mut self, call: u64, text: &mut [u8], sheet: &mut [u8], out: &mut [u8]) -> Result<Written, Ended> {
+        self.begin(call, [0; wire::HEADER_WORDS]);
+        self.lend(wire::TEXT, text);
+        self.lend(wire::SHEET, sheet);
+        self.lend(wire::OUT, out);
+        let [number, place, byte, bytes] = self.ask()?;
+        self.back(text);
+        self.back(sheet);
+        self.back(out);
+        Ok(Written { number, place: place as usize, byte: byte as usize, bytes: bytes as usize })
     }
 
     pub fn answer(&mut self, text: &mut [u8], out: &mut [u8]) -> Result<Written, Ended> {

@@ -31,6 +31,8 @@ mod promises;
 mod second;
 #[path = "seen.rs"]
 mod seen;
+#[path = "sheets.rs"]
+mod sheets;
 #[path = "tables.rs"]
 mod tables;
 #[path = "ways.rs"]
@@ -59,14 +61,18 @@ const SHARES_EVERY: u64 = 8;
 const T_EVERY: u64 = 8;
 /// .. a bad list of marks.
 const MARKS_EVERY: u64 = 8;
+/// .. a bad correction sheet.
+const BAD_SHEETS_EVERY: u64 = 8;
 
 /// The refusals that a run meets.
-const REFUSALS: [usize; 10] = [1, 2, 3, 4, 5, 6, 7, 8, 9, 13];
+const REFUSALS: [usize; 11] = [1, 2, 3, 4, 5, 6, 7, 8, 9, 10, 13];
 
 struct Comparison {
     bridge: Bridge,
     /// where the small texts are damaged
     places: Vec<damage::Place>,
+    /// where the small correction sheet is
+    sheet_places: Vec<damage::Place>,
     seed: u64,
     kind: &'static str,
     number: u64,
@@ -124,7 +130,19 @@ impl Comparison {
     }
 
     fn read(&mut self, d: &mut Dice, text: &[u8], room: Counts) -> Result<Tables, Refusal> {
+        self.read_by(d, text, None, room)
+    }
+
+    /// With a correction sheet, or without one.
+    fn read_by(
+        &mut self,
+        d: &mut Dice,
+        text: &[u8],
+        sheet: Option<&[u8]>,
+        room: Counts,
+    ) -> Result<Tables, Refusal> {
         let mut lent_text = Lent::holding(d, text, text.len());
+        let mut lent_sheet = sheet.map(|sheet| Lent::holding(d, sheet, sheet.len()));
         let mut z = Lent::room(d, room[0]);
         let mut t = Lent::room(d, room[1]);
         let mut b = Lent::room(d, room[2]);
@@ -138,9 +156,15 @@ impl Comparison {
             c: &mut c.whole,
             f: &mut f.whole,
         };
-        let found = self.bridge.read(&mut lent_text.whole, lent);
-        let found = self.said("keravnoth_read", found, &|| text.to_vec());
-        let reference = second::read(text, room);
+        let given = lent_sheet.as_mut().map(|lent| &mut lent.whole[..]);
+        let found = self.bridge.read(&mut lent_text.whole, given, lent);
+        let call = if sheet.is_some() { "keravnoth_read_corrected" } else { "keravnoth_read" };
+        let shown = || sheets::with_sheet(text, sheet);
+        let found = self.said(call, found, &shown);
+        let reference = match sheet {
+            Some(sheet) => second::read_corrected(text, sheet, room),
+            None => second::read(text, room),
+        };
         let none = Tables {
             header: Header { zones: 0, borders: 0, rows: 0, share: 0, intraday: 0 },
             z: vec![],
@@ -155,10 +179,10 @@ impl Comparison {
         };
         let Header { zones, borders, rows, share, intraday } = tables.header;
         let wanted = Read { number: number.into(), place, byte, zones, borders, rows, share, intraday };
-        self.count("keravnoth_read", number);
+        self.count(call, number);
         if found != wanted {
             let details = format!("library {found:?}\nreference {wanted:?}\nroom {room:?}");
-            self.fail("keravnoth_read", &details, text);
+            self.fail(call, &details, &shown());
         }
         let fault = z
             .fault("z", &tables.z)
@@ -166,10 +190,11 @@ impl Comparison {
             .or_else(|| b.fault("b", &tables.b))
             .or_else(|| c.fault("c", &tables.c))
             .or_else(|| f.fault("f", &tables.f))
-            .or_else(|| lent_text.fault("text", &[]));
+            .or_else(|| lent_text.fault("text", &[]))
+            .or_else(|| lent_sheet.and_then(|lent| lent.fault("sheet", &[])));
         if let Some(fault) = fault {
             let details = format!("{fault}\nboth answer {wanted:?}\nroom {room:?}");
-            self.fail("keravnoth_read", &details, text);
+            self.fail(call, &details, &shown());
         }
         reference
     }
@@ -458,6 +483,7 @@ fn main() {
     let mut c = Comparison {
         bridge,
         places: damage::places(),
+        sheet_places: damage::sheet_places(),
         seed,
         kind: "",
         number: 0,
@@ -492,6 +518,9 @@ fn main() {
             if number % MARKS_EVERY == 0 {
                 c.mark_tables(number / MARKS_EVERY);
             }
+            if number % BAD_SHEETS_EVERY == 0 {
+                c.bad_sheets(number / BAD_SHEETS_EVERY);
+            }
         }
         if number < texts {
             c.text(number);
@@ -499,10 +528,16 @@ fn main() {
         if (number as usize) < c.places.len() {
             c.each_damage(number as usize);
         }
+        if (number as usize) < c.sheet_places.len() {
+            c.each_sheet_damage(number as usize);
+        }
     }
     // a small run has not had them all
     for number in tables.max(texts) as usize..c.places.len() {
         c.each_damage(number);
+    }
+    for number in tables.max(texts) as usize..c.sheet_places.len() {
+        c.each_sheet_damage(number);
     }
     // the largest of them take the second program a while: a difference is mostly seen before
     for number in 0..HOURS.len() {

@@ -40,16 +40,16 @@ pub fn plain_text(t: &Tables) -> Vec<u8> {
 
 // ------------------------------------------------------------ damaged texts
 
-fn lines_of(text: &[u8]) -> Vec<Vec<u8>> {
+pub fn lines_of(text: &[u8]) -> Vec<Vec<u8>> {
     text.split_inclusive(|byte| *byte == b'\n').map(|line| line.to_vec()).collect()
 }
 
-fn fields_of(line: &[u8]) -> Vec<Vec<u8>> {
+pub fn fields_of(line: &[u8]) -> Vec<Vec<u8>> {
     let body = line.strip_suffix(b"\n").unwrap_or(line);
     body.split(|byte| *byte == b'\t').map(|field| field.to_vec()).collect()
 }
 
-fn line_from(fields: &[Vec<u8>]) -> Vec<u8> {
+pub fn line_from(fields: &[Vec<u8>]) -> Vec<u8> {
     let mut line = fields.join(&b'\t');
     line.push(b'\n');
     line
@@ -249,7 +249,11 @@ const TELLING_FIELDS: [&str; 20] = [
 const FEW_FIELDS: [&str; 6] = ["", "-", "7", "01", "9999999999", "5x"];
 
 fn small_text(number: usize) -> Vec<u8> {
-    SMALL[number].replace(' ', "\t").replace('/', "\n").into_bytes()
+    as_text(SMALL[number])
+}
+
+pub fn as_text(shown: &str) -> Vec<u8> {
+    shown.replace(' ', "\t").replace('/', "\n").into_bytes()
 }
 
 /// Where a small text is damaged.
@@ -262,13 +266,14 @@ pub enum Place {
 
 /// Every byte and every field of every small text.
 pub fn places() -> Vec<Place> {
-    let mut all = Vec::new();
-    for number in 0..SMALL.len() {
-        let text = small_text(number);
-        all.extend((0..=text.len()).map(|at| Place::Byte(number, at)));
-        for (line, bytes) in lines_of(&text).iter().enumerate() {
-            all.extend((0..=fields_of(bytes).len()).map(|field| Place::Field(number, line, field)));
-        }
+    (0..SMALL.len()).flat_map(|number| places_in(number, &small_text(number))).collect()
+}
+
+/// Every byte and every field of a text.
+pub fn places_in(number: usize, text: &[u8]) -> Vec<Place> {
+    let mut all: Vec<Place> = (0..=text.len()).map(|at| Place::Byte(number, at)).collect();
+    for (line, bytes) in lines_of(text).iter().enumerate() {
+        all.extend((0..=fields_of(bytes).len()).map(|field| Place::Field(number, line, field)));
     }
     all
 }
@@ -276,10 +281,36 @@ pub fn places() -> Vec<Place> {
 /// The text damaged there in every way, each with whether its answer is asked
 /// for too.
 pub fn each_damage(place: &Place) -> Vec<(Vec<u8>, bool)> {
+    let (Place::Byte(number, ..) | Place::Field(number, ..)) = *place;
+    each_damage_of(&small_text(number), place)
+}
+
+/// .. another text than the small ones.
+pub fn each_damage_of(text: &[u8], place: &Place) -> Vec<(Vec<u8>, bool)> {
     match *place {
-        Place::Byte(number, at) => each_byte(&small_text(number), at),
-        Place::Field(number, line, field) => each_field(&small_text(number), line, field),
+        Place::Byte(_, at) => each_byte(text, at),
+        Place::Field(_, line, field) => each_field(text, line, field),
     }
+}
+
+/// A day's text of five rows, shown as the small texts are, and a correction sheet for
+/// it.
+const DAY: &str = "H 2 1 5 6000/Z 0 0/Z 1 0/B 0 0 1 0/C 0 9 0 0 0 - 0 0 5000 0/C 1 9 0 0 0 1 0 0 0 0/C 2 9 0 0 0 2 0 0 0 0/C 3 9 0 0 0 3 0 0 7000 0/C 4 9 0 0 0 4 0 0 0 0/";
+const SHEET: &str = "C 1 90 5 -1 20 - 0 3 20000 -7/C 3 100 0 0 -9 7000 10 0 0 9000/";
+
+pub fn day_text() -> Vec<u8> {
+    as_text(DAY)
+}
+
+/// Every byte and every field of the sheet.
+pub fn sheet_places() -> Vec<Place> {
+    places_in(0, &as_text(SHEET))
+}
+
+/// The sheet damaged there in every way, each with whether the answer is asked for
+/// too.
+pub fn each_sheet_damage(place: &Place) -> Vec<(Vec<u8>, bool)> {
+    each_damage_of(&as_text(SHEET), place)
 }
 
 /// The byte there replaced by each of the 256, taken out, doubled, each telling

@@ -3,11 +3,13 @@
 //! With `corners`: the corner sheets of all rows, row 0 first, or the E line;
 //! with `corners` and a row's index, the sheet of that row.
 //! With `--marks` and a list, numbers with commas between: the result where only the
-//! marked borders rise.
+//! marked borders rise.  With `--corrections` and a file, each of these of the table that
+//! has the rows of that correction sheet.
 
 #[path = "second.rs"]
 mod second;
 
+use std::fs::File;
 use std::io::{Read, Write};
 use std::process::ExitCode;
 
@@ -36,57 +38,79 @@ fn list(argument: &str) -> Option<Vec<u64>> {
     argument.split(',').map(|number| index(number).map(|number| number as u64)).collect()
 }
 
-/// The words, and the list of marks taken out of them, given once at most.
-fn parted(arguments: &[String]) -> Option<(Vec<&str>, Option<Vec<u64>>)> {
+/// The options, each given once at most, wherever they stand.
+#[derive(Default)]
+struct Options {
+    marks: Option<Vec<u64>>,
+    /// the correction sheet's file
+    corrections: Option<String>,
+}
+
+/// The words, and the options taken out of them.
+fn parted(arguments: &[String]) -> Option<(Vec<&str>, Options)> {
     let mut words = Vec::new();
-    let mut marks = None;
+    let mut options = Options::default();
     let mut rest = arguments.iter();
     while let Some(argument) = rest.next() {
         match argument.as_str() {
-            "--marks" if marks.is_none() => marks = Some(list(rest.next()?)?),
+            "--marks" if options.marks.is_none() => options.marks = Some(list(rest.next()?)?),
+            "--corrections" if options.corrections.is_none() => options.corrections = Some(rest.next()?.clone()),
             word => words.push(word),
         }
     }
-    Some((words, marks))
+    Some((words, options))
 }
 
-fn asked(arguments: &[String]) -> Option<Work> {
-    let (words, marks) = parted(arguments)?;
-    Some(match (&words[..], marks) {
+/// What is asked for, and the correction sheet's file.
+fn asked(arguments: &[String]) -> Option<(Work, Option<String>)> {
+    let (words, options) = parted(arguments)?;
+    let work = match (&words[..], options.marks) {
         ([], marks) => Work::Answer(marks),
         (["rewrite"], None) => Work::Rewrite,
         (["corners"], None) => Work::Corners(None),
         (["corners", row], None) => Work::Corners(Some(index(row)?)),
         _ => return None,
-    })
+    };
+    Some((work, options.corrections))
 }
 
 /// More than 65,536 bytes are refused whatever follows, so one byte more than
 /// that is enough to read.
-fn input() -> std::io::Result<Vec<u8>> {
+fn bytes_of(from: impl Read) -> std::io::Result<Vec<u8>> {
     let mut text = Vec::new();
     let most = second::MOST_BYTES as u64 + 1;
-    std::io::stdin().lock().take(most).read_to_end(&mut text)?;
+    from.take(most).read_to_end(&mut text)?;
     Ok(text)
+}
+
+/// A file's text.
+fn text_of(file: &str) -> Result<Vec<u8>, String> {
+    File::open(file).and_then(bytes_of).map_err(|error| format!("{file}: {error}"))
+}
+
+/// The answer; the correction sheet is empty without a file.
+fn answer(work: Work, corrections: Option<String>) -> Result<Vec<u8>, String> {
+    let sheet = corrections.map_or(Ok(Vec::new()), |file| text_of(&file))?;
+    let text = bytes_of(std::io::stdin().lock()).map_err(|error| format!("standard input: {error}"))?;
+    Ok(match work {
+        Work::Answer(marks) => second::answer_by(&text, &sheet, marks.as_deref()),
+        Work::Rewrite => second::rewrite_by(&text, &sheet),
+        Work::Corners(only) => second::corners_by(&text, &sheet, only),
+    })
 }
 
 fn main() -> ExitCode {
     let arguments: Vec<String> = std::env::args().skip(1).collect();
-    let Some(work) = asked(&arguments) else {
-        eprintln!("arguments: none, \"rewrite\", \"corners\", or \"corners\" and a row's index; with none also \"--marks\" and a list");
+    let Some((work, corrections)) = asked(&arguments) else {
+        eprintln!("arguments: none, \"rewrite\", \"corners\", or \"corners\" and a row's index; with each also \"--corrections\" and a file; with none also \"--marks\" and a list");
         return ExitCode::from(2);
     };
-    let text = match input() {
-        Ok(text) => text,
+    let answer = match answer(work, corrections) {
+        Ok(answer) => answer,
         Err(error) => {
-            eprintln!("standard input: {error}");
+            eprintln!("{error}");
             return ExitCode::from(2);
         }
-    };
-    let answer = match work {
-        Work::Answer(marks) => second::answer_by(&text, marks.as_deref()),
-        Work::Rewrite => second::rewrite(&text),
-        Work::Corners(only) => second::corners(&text, only),
     };
     let mut out = std::io::stdout().lock();
     match out.write_all(&answer).and_then(|_| out.flush()) {

@@ -488,6 +488,18 @@ pub fn table(d: &mut Dice) -> (Tables, Aim) {
     (t, aim)
 }
 
+/// Another row of a table of so many zones: its record and its factors.
+pub fn row(d: &mut Dice, zones: usize) -> ([i64; 7], Vec<i64>) {
+    let style = d.of(&[Style::Near, Style::Near, Style::Any, Style::Ends, Style::Few, Style::Mixed]);
+    let mut record = record(d, style);
+    if d.one_in(3) {
+        record[5] = value(d, style, 0, 10_000_000, 2_000);
+        record[6] = value(d, style, 0, 10_000_000, 2_000);
+    }
+    let narrow = d.one_in(4);
+    (record, factors(d, zones, narrow))
+}
+
 /// A small table of so many borders, for the corner sheet and for hubs: often one
 /// that the extraction turns away.
 pub fn of_borders(d: &mut Dice, borders: usize) -> Tables {

@@ -69,10 +69,14 @@ fn text_to(text: Result<Vec<u8>, Refusal>, out: &mut Lent<u8>) -> [u64; 4] {
     }
 }
 
-fn read(text: &Lent<u8>, l: &mut LentTables) -> [u64; 8] {
+fn read(text: &Lent<u8>, sheet: Option<&Lent<u8>>, l: &mut LentTables) -> [u64; 8] {
     let LentTables { z, t, b, c, f, .. } = l;
     let room = [z.len(), t.len(), b.len(), c.len(), f.len()];
-    match second::read(text, room) {
+    let found = match sheet {
+        Some(sheet) => second::read_corrected(text, sheet, room),
+        None => second::read(text, room),
+    };
+    match found {
         Err(refusal) => {
             let zones = 0;
             let share = 0;
@@ -161,6 +165,16 @@ fn answer_marked(text: &Lent<u8>, marks: &Lent<u64>, out: &mut Lent<u8>) -> [u64
     whole_or_8(answer, out)
 }
 
+fn answer_corrected(text: &Lent<u8>, sheet: &Lent<u8>, out: &mut Lent<u8>) -> [u64; 4] {
+    let answer = second::answer_corrected(text, sheet);
+    whole_or_8(answer, out)
+}
+
+fn rewrite_corrected(text: &Lent<u8>, sheet: &Lent<u8>, out: &mut Lent<u8>) -> [u64; 4] {
+    let merged = second::rewrite_corrected(text, sheet, out.len());
+    text_to(merged, out)
+}
+
 fn whole_or_8(answer: Vec<u8>, out: &mut Lent<u8>) -> [u64; 4] {
     if out.len() < answer.len() {
         return refused(Refusal { number: 8, place: answer.len(), byte: second::NO_BYTE });
@@ -245,12 +259,26 @@ fn put_fields(fields: &[u64], to: &mut Vec<u8>) {
 /// The answer to the request whose words are there.
 fn serve<R: Read>(request: &mut Request<R>, to: &mut Vec<u8>) -> std::io::Result<()> {
     match request.words[0] {
-        wire::READ => {
+        call @ (wire::READ | wire::READ_CORRECTED) => {
             let mut l = request.tables()?;
             let text = request.lent(wire::TEXT)?;
-            put_fields(&read(&text, &mut l), to);
+            let sheet = if call == wire::READ_CORRECTED { Some(request.lent(wire::SHEET)?) } else { None };
+            put_fields(&read(&text, sheet.as_ref(), &mut l), to);
             put_tables(&l, to);
             wire::put_all(&text.whole, to);
+            if let Some(sheet) = sheet {
+                wire::put_all(&sheet.whole, to);
+            }
+        }
+        call @ (wire::ANSWER_CORRECTED | wire::REWRITE_CORRECTED) => {
+            let text = request.lent(wire::TEXT)?;
+            let sheet = request.lent(wire::SHEET)?;
+            let mut out = request.lent(wire::OUT)?;
+            let work = if call == wire::ANSWER_CORRECTED { answer_corrected } else { rewrite_corrected };
+            put_fields(&work(&text, &sheet, &mut out), to);
+            wire::put_all(&text.whole, to);
+            wire::put_all(&sheet.whole, to);
+            wire::put_all(&out.whole, to);
         }
         call @ (wire::WRITE | wire::RESULT_TEXT) => {
             let mut l = request.tables()?;

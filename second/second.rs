@@ -215,6 +215,8 @@ fn dash_or_unsigned(field: &[u8]) -> Result<i64, usize> {
 enum Column {
     /// an unsigned number, this one
     Index(usize),
+    /// an unsigned number of these: a row that a correction may be of
+    OneOf { from: usize, below: usize },
     Unsigned,
     Signed,
     DashOrUnsigned,
@@ -224,7 +226,7 @@ enum Column {
 /// text ends after this field, without LF.
 fn number_of(field: &Field, column: Column, cut: bool) -> Result<i64, usize> {
     let read = match column {
-        Column::Index(_) | Column::Unsigned => unsigned(field.bytes),
+        Column::Index(_) | Column::OneOf { .. } | Column::Unsigned => unsigned(field.bytes),
         Column::Signed => signed(field.bytes),
         Column::DashOrUnsigned => dash_or_unsigned(field.bytes),
     };
@@ -234,12 +236,16 @@ fn number_of(field: &Field, column: Column, cut: bool) -> Result<i64, usize> {
         Err(at) if cut && at == field.bytes.len() => return Err(NO_BYTE),
         Err(at) => return Err(field.start + at),
     };
-    match column {
-        // "a wrong index" names "the field's first byte"; a line cut off there
-        // names none
-        Column::Index(due) if number != due as i64 => Err(if cut { NO_BYTE } else { field.start }),
-        _ => Ok(number),
+    let wrong_index = match column {
+        Column::Index(due) => number != due as i64,
+        Column::OneOf { from, below } => !(from as i64..below as i64).contains(&number),
+        _ => false,
+    };
+    // "a wrong index" names "the field's first byte"; a line cut off there names none
+    if wrong_index {
+        return Err(if cut { NO_BYTE } else { field.start });
     }
+    Ok(number)
 }
 
 /// A line of right form: its numbers after the index, and the byte at which each
@@ -318,12 +324,25 @@ fn border_of(values: &[i64]) -> Border {
 }
 
 /// "C | index, Fmax, FRM, Fref, F0all, R or "-", CVA, IVA, then one factor per zone"
-fn form_c(line: &[u8], index: usize, zones: usize) -> Result<Form, usize> {
-    let mut columns = vec![Column::Index(index)];
+fn columns_c(index: Column, zones: usize) -> Vec<Column> {
+    let mut columns = vec![index];
     columns.extend([Column::Unsigned, Column::Unsigned, Column::Signed, Column::Signed]);
     columns.extend([Column::DashOrUnsigned, Column::Unsigned, Column::Unsigned]);
     columns.extend(vec![Column::Signed; zones]);
-    form_of(line, b"C", &columns, &[7 + zones])
+    columns
+}
+
+fn form_c(line: &[u8], index: usize, zones: usize) -> Result<Form, usize> {
+    form_of(line, b"C", &columns_c(Column::Index(index), zones), &[7 + zones])
+}
+
+/// A line of a correction sheet: a C line whose index is one of the rows from `from`
+/// on.  The row, and the form without its index.
+fn form_correction(line: &[u8], from: usize, header: Header) -> Result<(usize, Form), usize> {
+    let index = Column::OneOf { from, below: header.rows };
+    let mut form = form_of(line, b"C", &columns_c(index, header.zones), &[8 + header.zones])?;
+    form.starts.remove(0);
+    Ok((form.values.remove(0) as usize, form))
 }
 
 fn row_of(values: &[i64]) -> [i64; 7] {
@@ -518,9 +537,14 @@ impl<'a> Lines<'a> {
         self.text.get(self.start) == Some(&letter)
     }
 
+    /// Whether anything follows.
+    fn more(&self) -> bool {
+        self.start < self.text.len()
+    }
+
     /// "Nothing follows."  Anything there is an extra line: 2.
     fn end(&self) -> Result<(), Refusal> {
-        if self.start < self.text.len() {
+        if self.more() {
             return refuse(2, self.number);
         }
         Ok(())
@@ -588,14 +612,46 @@ fn read_lines(text: &[u8]) -> Result<Tables, Refusal> {
     Ok(tables)
 }
 
+/// Takes over the rows of a correction sheet: "For each row the line handed on is the
+/// piece of the sheet that holds it, or else the piece of the day's text."  "The sheet
+/// has C lines with rising indices, nothing else."  "10, a sheet line of wrong form or
+/// value, or with an index not above the one before or not in the table, place the
+/// sheet line".
+fn correct(tables: &mut Tables, sheet: &[u8]) -> Result<(), Refusal> {
+    let header = tables.header;
+    let mut lines = Lines { text: sheet, start: 0, number: 1 };
+    // the least index that the next line may have
+    let mut from = 0;
+    while lines.more() {
+        let (number, line) = lines.next()?;
+        let refused = |byte| Refusal { number: 10, place: number, byte };
+        let (row, form) = form_correction(line, from, header).map_err(refused)?;
+        let (record, factors) = (row_of(&form.values), &form.values[7..]);
+        if let Some(place) = fault_c(&record, factors) {
+            return Err(refused(form.starts[place]));
+        }
+        tables.c[row] = record;
+        tables.f[row * header.zones..(row + 1) * header.zones].copy_from_slice(factors);
+        from = row + 1;
+    }
+    Ok(())
+}
+
 /// "Reading judges 1 to 4 and then 8."  `room` is the number of items in the
-/// lent Z, T, B, C and factor buffers.
+/// lent Z, T, B, C and factor buffers.  "An empty sheet changes nothing."
 pub fn read(text: &[u8], room: [usize; 5]) -> Result<Tables, Refusal> {
-    if text.len() > MOST_BYTES {
+    read_corrected(text, b"", room)
+}
+
+/// The same with a correction sheet: "1 also for a sheet of more than 65,536 bytes",
+/// 10 "after 4 of the day's text and before 8".
+pub fn read_corrected(text: &[u8], sheet: &[u8], room: [usize; 5]) -> Result<Tables, Refusal> {
+    if text.len() > MOST_BYTES || sheet.len() > MOST_BYTES {
         return refuse(1, 0);
     }
-    let tables = read_lines(text)?;
+    let mut tables = read_lines(text)?;
     judge_twice(&tables.b)?;
+    correct(&mut tables, sheet)?;
     judge_lengths(tables.header, room)?;
     Ok(tables)
 }
@@ -1199,7 +1255,7 @@ struct Start {
     kept: Vec<Kept>,
 }
 
-/// Where the rounds start, after the tables are judged: 13, "after 4 .. and before
+/// Where the rounds start, after the tables are judged: 13, "after 4 and 10 and before
 /// 5", then 5, 6, 7.
 fn start_of(tables: &Tables, marks: Option<&[u64]>) -> Result<Start, Refusal> {
     let borders = tables.header.borders;
@@ -1410,22 +1466,37 @@ const ALL_ROOM: [usize; 5] = [usize::MAX; 5];
 /// "The program reads the table on standard input and writes this, or one line
 /// `E`".
 pub fn answer(text: &[u8]) -> Vec<u8> {
-    answer_by(text, None)
+    answer_by(text, b"", None)
 }
 
 /// The same where only the marked borders rise.
 pub fn answer_marked(text: &[u8], marks: &[u64]) -> Vec<u8> {
-    answer_by(text, Some(marks))
+    answer_by(text, b"", Some(marks))
 }
 
-pub fn answer_by(text: &[u8], marks: Option<&[u64]>) -> Vec<u8> {
-    let tables = read(text, ALL_ROOM);
+/// The answer of the merged table: "Demands 2 and 3 then read of the merged table."
+pub fn answer_corrected(text: &[u8], sheet: &[u8]) -> Vec<u8> {
+    answer_by(text, sheet, None)
+}
+
+pub fn answer_by(text: &[u8], sheet: &[u8], marks: Option<&[u64]>) -> Vec<u8> {
+    let tables = read_corrected(text, sheet, ALL_ROOM);
     or_e_line(tables.and_then(|tables| result_text_by(tables.lend(), marks, usize::MAX)))
+}
+
+/// The merged table's text; the room is in bytes.
+pub fn rewrite_corrected(text: &[u8], sheet: &[u8], room: usize) -> Result<Vec<u8>, Refusal> {
+    let tables = read_corrected(text, sheet, ALL_ROOM)?;
+    write(tables.lend(), room)
 }
 
 /// The table read and written again, or the E line.
 pub fn rewrite(text: &[u8]) -> Vec<u8> {
-    or_e_line(read(text, ALL_ROOM).and_then(|tables| write(tables.lend(), usize::MAX)))
+    rewrite_by(text, b"")
+}
+
+pub fn rewrite_by(text: &[u8], sheet: &[u8]) -> Vec<u8> {
+    or_e_line(rewrite_corrected(text, sheet, usize::MAX))
 }
 
 fn or_e_line(result: Result<Vec<u8>, Refusal>) -> Vec<u8> {
@@ -1507,7 +1578,11 @@ pub fn corner_text(lent: Lent, row: usize, room: usize) -> Result<Vec<u8>, Refus
 
 /// The sheet of one row of a text, or of all rows, row 0 first; or the E line.
 pub fn corners(text: &[u8], only: Option<usize>) -> Vec<u8> {
-    let tables = match read(text, ALL_ROOM) {
+    corners_by(text, b"", only)
+}
+
+pub fn corners_by(text: &[u8], sheet: &[u8], only: Option<usize>) -> Vec<u8> {
+    let tables = match read_corrected(text, sheet, ALL_ROOM) {
         Ok(tables) => tables,
         Err(refusal) => return refusal_text(refusal),
     };

@@ -4,7 +4,7 @@ use crate::dice::Dice;
 use crate::lent::{needed, Counts, LentTables, KINDS};
 use crate::second::{self, Border, Header, Outcome, Refusal, Tables};
 use crate::second::{INTRADAY, LTA, MOST_BORDERS, MOST_ROWS, MOST_ZONES, NO_BYTE, NO_HUB, NO_SHARE, RECEIVING, SENDING};
-use crate::{damage, extracted, make, marks, Comparison, TABLES, TEXTS};
+use crate::{damage, extracted, make, marks, sheets, Comparison, TABLES, TEXTS};
 
 impl Comparison {
     /// A refusal has left p as it was (the call has compared it).  Which one it
@@ -360,6 +360,9 @@ pub fn wanted() -> Vec<(String, u64)> {
         ("keravnoth_extract_marked", &[0, 3, 4, 5, 6, 7, 8, 13]),
         ("keravnoth_result_text_marked", &[0, 3, 4, 5, 6, 7, 8, 13]),
         ("keravnoth_answer_marked", &[0, 8]),
+        ("keravnoth_read_corrected", &[0, 1, 2, 3, 4, 8, 10]),
+        ("keravnoth_answer_corrected", &[0, 8]),
+        ("keravnoth_rewrite_corrected", &[0, 1, 2, 3, 4, 8, 10]),
     ] {
         for number in numbers {
             add(&format!("{call} {number}"), 100);
@@ -368,6 +371,47 @@ pub fn wanted() -> Vec<(String, u64)> {
     for number in 1..=7 {
         add(&format!("keravnoth_answer E {number}"), 100);
         add(&format!("keravnoth_answer_marked E {number}"), 20);
+        add(&format!("keravnoth_answer_corrected E {number}"), 100);
+    }
+    add("keravnoth_answer_corrected E 10", 1_000);
+    for name in [
+        "none",
+        "all own lines",
+        "some own lines",
+        "one row",
+        "some rows",
+        "every row",
+        "not the first row",
+        "a gap",
+        "R \"-\"",
+        "R \"-\" with a default",
+    ] {
+        add(&format!("sheet, {name}"), 200);
+    }
+    add("sheet, 200 rows", 1);
+    add("sheet of 65,536 bytes", 200);
+    for number in [5, 6, 7] {
+        add(&format!("sheet causes {number}"), 50);
+        add(&format!("sheet cures {number}"), 50);
+        add(&format!("10 before {number}"), 100);
+    }
+    for name in ["a long text", "2", "3", "4", "an empty text"] {
+        add(&format!("{name} before 10"), 200);
+        add(&format!("a long sheet before {name}"), 200);
+    }
+    for number in [1, 2, 3, 4, 10] {
+        add(&format!("damaged text and sheet, {number}"), 20);
+    }
+    let mut few = Dice::new(0);
+    let mut three = make::of_borders(&mut few, 2);
+    while three.header.rows < 3 {
+        three = make::of_borders(&mut few, 2);
+    }
+    for way in 0..sheets::BAD_SHEETS {
+        add(&format!("bad sheet, {}", sheets::bad_sheet(&mut few, &three, way).name), 70);
+    }
+    for name in ["without a byte", "at the index", "at a tab", "at an LF", "at a byte"] {
+        add(&format!("10 {name}"), 100);
     }
     add("keravnoth_answer_marked E 13", 100);
     for number in [0, 4, 5, 6, 7] {

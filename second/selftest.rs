@@ -1151,6 +1151,155 @@ fn marks_and_6_and_7() {
     assert_eq!(shown(&answer_marked(&text(&other.replace("0 1 0 /", "1 0 0 /")), &[1])), "E 7 1 0");
 }
 
+// ---------------------------------------------------------- correction sheets
+
+/// The C lines of a text.
+fn own_lines(bytes: &[u8]) -> Vec<Vec<u8>> {
+    bytes.split_inclusive(|byte| *byte == b'\n').filter(|line| line[0] == b'C').map(|line| line.to_vec()).collect()
+}
+
+#[test]
+fn sheets_that_change_nothing() {
+    let hour = text(HOUR);
+    let own = own_lines(&hour);
+    for sheet in [vec![], own.concat(), own[2].clone(), own[1..].concat(), [own[0].clone(), own[3].clone()].concat()] {
+        assert_eq!(read_corrected(&hour, &sheet, ALL), Ok(table(HOUR)));
+        assert_eq!(answer_corrected(&hour, &sheet), text(HOUR_GIVES));
+        assert_eq!(rewrite_corrected(&hour, &sheet, hour.len()), Ok(hour.clone()));
+        assert_eq!(rewrite_corrected(&hour, &sheet, hour.len() - 1), e(8, hour.len()));
+    }
+    // all lines of the longest text, 39,090 bytes
+    let t = longest();
+    let bytes = write(t.lend(), usize::MAX).unwrap();
+    let sheet = own_lines(&bytes).concat();
+    assert_eq!(sheet.len(), 1_940 + 17_550 + 19_600);
+    assert_eq!(read_corrected(&bytes, &sheet, ALL), Ok(t));
+}
+
+#[test]
+fn worked_hour_corrected_by_hand() {
+    let hour = text(HOUR);
+    // CVA of 40,000 kW on row 1: 4 x 10^9 are left of it, so 800,000 kW for border 1; row 0 then
+    // has 2,900,000 times 20000 for border 0, of which one is left over.  The first round takes
+    // 1,650,000 and the 1,250,000 that are left then are halved 21 times
+    let sheet = text("C 1 100000 10000 15000 0 7000 40000 0 5000 5000 0");
+    let gives = "A 0 2999 22 0 / A 1 1000 1 1 / M 0 0 70000000000 20000 / M 1 0 5000000000 0 / M 2 1 12499500000 - / M 3 2 100000000000 - / R 22";
+    assert_eq!(shown(&answer_corrected(&hour, &sheet)), gives);
+    let merged = hour_with(8, "C 1 100000 10000 15000 0 7000 40000 0 5000 5000 0");
+    assert_eq!(rewrite_corrected(&hour, &sheet, usize::MAX), Ok(merged.clone()));
+    assert_eq!(rewrite_by(&hour, &sheet), merged);
+    assert_eq!(read_corrected(&hour, &sheet, ALL), read(&merged, ALL));
+    // with marks, border 1 alone: 200 and 800 MW
+    let marked = answer_by(&hour, &sheet, Some(&[1]));
+    assert_eq!(marked, answer_marked(&merged, &[1]));
+    assert!(shown(&marked).starts_with("A 0 100 0 - / A 1 1000 1 1 / "));
+    // two rows, the last among them, and the corner sheet of one of them
+    let sheet = text("C 0 1000000 200000 200000 150000 - 0 0 30000 0 0 / C 3 7 0 0 0 0 0 0 0 0 0");
+    let t = read_corrected(&hour, &sheet, ALL).unwrap();
+    assert_eq!((t.c[0][4], t.c[0][6], t.c[1], t.c[3]), (-1, 0, table(HOUR).c[1], [7, 0, 0, 0, 0, 0, 0]));
+    assert_eq!((&t.f[..3], &t.f[3..9], &t.f[9..]), (&[30_000, 0, 0][..], &[5_000, 5_000, 0, 4_999, 0, 0][..], &[0, 0, 0][..]));
+    assert_eq!(shown(&corners_by(&hour, &sheet, Some(0))), "K 0 0 0 / K 0 1 3000000000 / K 0 2 0 / K 0 3 3000000000");
+}
+
+#[test]
+fn sheets_that_cure_and_cause() {
+    // 7 is judged of the merged table only
+    let over = text("H 2 1 1 / Z 0 0 / Z 1 0 / B 0 0 1 100 / C 0 10000 0 0 0 0 0 1 20000 0");
+    let cured = "A 0 100 0 0 / M 0 0 2000000000 0 / R 0";
+    assert_eq!(shown(&answer(&over)), "E 7 0 0");
+    assert_eq!(shown(&answer_corrected(&over, &text("C 0 10000 0 0 0 0 0 0 20000 0"))), cured);
+    let full = text("H 2 1 1 / Z 0 0 / Z 1 0 / B 0 0 1 100 / C 0 10000 0 0 0 0 0 0 20000 0");
+    assert_eq!(shown(&answer_corrected(&full, &text("C 0 10000 0 0 0 0 1 0 20000 0"))), "E 7 0 0");
+    // 6: row 1 now is parallel to row 0
+    let both = text("H 2 2 2 / Z 0 0 / Z 1 0 / B 0 0 1 0 / B 1 1 0 0 / C 0 100000 0 0 0 0 0 0 20000 0 / C 1 100000 0 0 0 0 0 0 0 20000");
+    assert_eq!(shown(&answer_corrected(&both, &text("C 1 100000 0 0 0 0 0 0 20000 0"))), "E 6 1 0");
+    // 5
+    assert_eq!(shown(&answer_corrected(&over, &text("C 0 10000 0 0 0 0 0 1 4999 0"))), "E 5 0 0");
+    // "-" takes the day's default: Fmax 100000, 8000 or 7000
+    for (h, ram) in [("H 2 1 1 8000", 8_000_000_000i64), ("H 2 1 1", 7_000_000_000)] {
+        let day = text(&format!("{h} / Z 0 0 / Z 1 0 / B 0 0 1 0 / C 0 100000 90000 0 0 0 0 0 20000 0"));
+        let sheet = text("C 0 100000 90000 0 0 - 0 0 20000 0");
+        assert!(shown(&answer_corrected(&day, &sheet)).contains(&format!("/ M 0 0 {ram} 0 /")));
+        assert!(shown(&rewrite_by(&day, &sheet)).ends_with("C 0 100000 90000 0 0 - 0 0 20000 0"));
+    }
+}
+
+/// The refusal of the worked hour with a sheet.
+fn sheet_refusal(sheet: &[u8]) -> Option<(u32, usize, usize)> {
+    let refusal = read_corrected(&text(HOUR), sheet, ALL).err()?;
+    assert_eq!(answer_corrected(&text(HOUR), sheet), refusal_text(refusal));
+    assert_eq!(rewrite_corrected(&text(HOUR), sheet, 0), Err(refusal));
+    // before room for the tables
+    assert_eq!(read_corrected(&text(HOUR), sheet, [0; 5]), Err(refusal));
+    Some((refusal.number, refusal.place, refusal.byte))
+}
+
+#[test]
+fn bad_sheets_by_hand() {
+    let good = "C 1 9 5 0 0 - 0 0 0 20000 0";
+    assert_eq!(sheet_refusal(&text(good)), None);
+    for (line, byte) in [
+        // an index that is not above the one before, or not in the table
+        ("C 1 9 5 0 0 - 0 0 0 20000 0", 3), ("C 0 9 5 0 0 - 0 0 0 20000 0", 3), ("C 4 9 5 0 0 - 0 0 0 20000 0", 3),
+        ("C 9999999999 9", 3), ("C 4294967298 9 5 0 0 - 0 0 0 20000 0", 3), ("C 1", 3), ("C 1 x", 3),
+        // form
+        ("C 12345678901 9", 13), ("C 02 9", 4), ("C -2 9", 3), ("C  9 5", 3), ("C x", 3), ("C 2x 9", 4), ("", 0), ("C", 0), ("C ", 3),
+        ("Z 2 9", 0), ("c 2 9 5 0 0 - 0 0 0 20000 0", 0), ("H 3 2 4", 0), ("C 2 9 5", 0), ("C 2 9 5 0 0 - 0 0 0 20000 0 0", 0),
+        ("C 2 9 5 0 0 - 0 0 0 20000", 0), ("C 2 9 5 -0", 10), ("C 2 9 5 - 0", 10), ("C 2 9 5 0 0 -5 0", 14), ("C 2 9 5 0 0 - - 0", 15),
+        ("C 2 9 5 0 0 - 0 0 0 20000 0\r", 28),
+        // value
+        ("C 2 0 0 0 0 - 0 0 0 20000 0", 5), ("C 2 9 10 0 0 - 0 0 0 20000 0", 7), ("C 2 9 5 0 0 10001 0 0 0 20000 0", 13),
+        ("C 2 9 5 0 0 - 0 0 0 20000 100001", 27), ("C 2 0 5 0 0 - 0 0 0 20000 100001", 5),
+        // form before value, the index before both
+        ("C 2 0 5 0 0 - 0 0 0 20000 x", 27), ("C 1 0 5 0 0 - 0 0 0 20000 x", 3),
+    ] {
+        let line = line.replace(' ', "\t").into_bytes();
+        let sheet = [&text(good)[..], &line, b"\n"].concat();
+        assert_eq!(sheet_refusal(&sheet), Some((10, 2, byte)), "{}", line.escape_ascii());
+        // what follows is not looked at
+        assert_eq!(sheet_refusal(&[&sheet[..], b"\xff"].concat()), Some((10, 2, byte)));
+    }
+    // no LF at the end, something after the last line
+    let all = own_lines(&text(HOUR)).concat();
+    assert_eq!(sheet_refusal(&all[..all.len() - 1]), Some((10, 4, 0)));
+    assert_eq!(sheet_refusal(&[&all[..], b"\n"].concat()), Some((10, 5, 0)));
+    assert_eq!(sheet_refusal(&[&all[..], b"C"].concat()), Some((10, 5, 0)));
+    assert_eq!(sheet_refusal(b"C\t4"), Some((10, 1, 0)));
+    assert_eq!(sheet_refusal(b"C\t4\t"), Some((10, 1, 3)));
+    assert_eq!(sheet_refusal(b"\n"), Some((10, 1, 0)));
+    // of two faulty lines the first
+    assert_eq!(sheet_refusal(&text("C 2 9 x / C 1 9 y")), Some((10, 1, 7)));
+    // a value in an earlier line before the form of a later one
+    assert_eq!(sheet_refusal(&text("C 2 0 0 0 0 - 0 0 0 20000 0 / Z")), Some((10, 1, 5)));
+}
+
+#[test]
+fn sheets_among_the_refusals() {
+    let bad = b"x".to_vec();
+    let long = vec![b'\n'; 65_537];
+    let refusal = |day: &[u8], sheet: &[u8]| shown(&answer_corrected(day, sheet));
+    assert_eq!(refusal(&text(HOUR), &long), "E 1 0 0");
+    assert_eq!(refusal(&long, &[]), "E 1 0 0");
+    assert_eq!(refusal(b"", &long), "E 1 0 0");
+    assert_eq!(refusal(&text(HOUR), &long[1..]), "E 10 1 0");
+    assert_eq!(refusal(b"", &bad), "E 2 1 0");
+    assert_eq!(refusal(&hour_with(10, "C 3 0 0 0 0 - 0 0 0 0 0"), &bad), "E 3 10 5");
+    // a line that the sheet has is judged all the same
+    assert_eq!(refusal(&hour_with(10, "C 3 0 0 0 0 - 0 0 0 0 0"), &text("C 3 1 0 0 0 - 0 0 0 0 0")), "E 3 10 5");
+    assert_eq!(refusal(&hour_with(6, "B 1 0 1 0"), &bad), "E 4 1 0");
+    assert_eq!(refusal(&one_row("100000 0 0 0 0 0 0 4999 0"), &bad), "E 10 1 0");
+    // before 9 and 13
+    assert_eq!(shown(&corners_by(&text(HOUR), &bad, Some(9))), "E 10 1 0");
+    assert_eq!(shown(&corners_by(&text(HOUR), &[], Some(9))), "E 9 9 0");
+    assert_eq!(shown(&answer_by(&text(HOUR), &bad, Some(&[]))), "E 10 1 0");
+    assert_eq!(shown(&answer_by(&text(HOUR), &[], Some(&[]))), "E 13 0 0");
+    // then the room, in the order of the tables
+    let own = own_lines(&text(HOUR)).concat();
+    assert_eq!(read_corrected(&text(HOUR), &own, [3, 0, 2, 3, 11]), e(8, 4));
+    assert_eq!(read_corrected(&text(HOUR), &own, [3, 0, 2, 4, 11]), e(8, 12));
+    assert!(read_corrected(&text(HOUR), &own, [3, 0, 2, 4, 12]).is_ok());
+}
+
 // --------------------------------------------------------- intraday remainder
 
 /// Two zones, one row of 100,000 kW with p 20000, LTA 100 MW, and these T lines.
@@ -1889,6 +2038,21 @@ fn check_random(t: &Tables, seen: &mut [usize; 8]) {
             assert_eq!(answer(&bytes), result_text(t.lend(), usize::MAX).unwrap());
         }
     }
+    // every other row as the row counted from the end has it
+    let mut merged = t.clone();
+    let mut sheet = Vec::new();
+    for row in (0..h.rows).step_by(2) {
+        let other = h.rows - 1 - row;
+        merged.c[row] = t.c[other];
+        merged.f[row * h.zones..(row + 1) * h.zones].copy_from_slice(&t.f[other * h.zones..(other + 1) * h.zones]);
+    }
+    let merged_bytes = write(merged.lend(), usize::MAX).unwrap();
+    for line in own_lines(&merged_bytes).iter().step_by(2) {
+        sheet.extend(line);
+    }
+    assert_eq!(read_corrected(&bytes, &sheet, ALL), Ok(merged));
+    assert_eq!(rewrite_by(&bytes, &sheet), merged_bytes);
+    assert_eq!(answer_corrected(&bytes, &sheet), answer(&merged_bytes));
     // all borders marked, in any order
     let all: Vec<u64> = (0..h.borders as u64).rev().collect();
     assert_eq!(marked(t, &all), out(t));

@@ -79,6 +79,9 @@ impl Comparison {
         if !heavy && d.one_in(2) || d.one_in(8) {
             self.marked(d, &t, &outcome, &answer);
         }
+        if !heavy && d.one_in(2) || d.one_in(8) {
+            self.corrected(d, &t, &answer);
+        }
 
         // a sheet doubles with each border: large ones mostly by `sheet_table`
         let one_in = match h.borders {
@@ -326,6 +329,9 @@ impl Comparison {
         self.answer(d, &text, &answer, room);
         if d.one_in(4) {
             self.marked_text(d, &text, h.borders);
+        }
+        if d.one_in(4) {
+            self.corrected_text(d, &text, &t);
         }
         if let Ok(tables) = &reference {
             self.see("damaged text that is taken");

@@ -5,10 +5,10 @@
 //! A request: WORDS words, then the lent buffers.  The words are the call, its
 //! header (zones, borders, rows, share, intraday) and its row (each 0 where the
 //! call takes none), and the counts of items of z, t, b, c, f, p, marks, atc, left,
-//! flows, text and out (0 where the call does not take that
+//! flows, text, sheet and out (0 where the call does not take that
 //! buffer).  The buffers that the call takes follow in this order, each with BEFORE
 //! items before the lent part and AFTER items after it; an item is as many words as it has
-//! numbers, and a byte for text and out.
+//! numbers, and a byte for text, sheet and out.
 //!
 //! An answer: the fields of the call's struct, a word each, then the same
 //! buffers as the call left them.
@@ -27,13 +27,16 @@ pub const CORNER_TEXT: u64 = 7;
 pub const EXTRACT_MARKED: u64 = 8;
 pub const RESULT_TEXT_MARKED: u64 = 9;
 pub const ANSWER_MARKED: u64 = 10;
+pub const READ_CORRECTED: u64 = 11;
+pub const ANSWER_CORRECTED: u64 = 12;
+pub const REWRITE_CORRECTED: u64 = 13;
 
 /// Items before and after the lent part that nobody may touch.
 pub const BEFORE: usize = 2;
 pub const AFTER: usize = 3;
 
 /// The words of a request.
-pub const WORDS: usize = 19;
+pub const WORDS: usize = 20;
 
 /// Where the header's words begin among them, and how many there are.
 pub const HEADER: usize = 1;
@@ -54,7 +57,8 @@ pub const ATC: usize = 14;
 pub const LEFT: usize = 15;
 pub const FLOWS: usize = 16;
 pub const TEXT: usize = 17;
-pub const OUT: usize = 18;
+pub const SHEET: usize = 18;
+pub const OUT: usize = 19;
 
 /// An item of a lent buffer as bytes.
 pub trait Item: Copy {

@@ -1,4 +1,5 @@
 -- Demand 3, and that refusal 7 isn't given where CVA and IVA are 0, of the text that `answer` leaves: said of its bytes, for every text that it answers.
+-- With a correction sheet demand 3 reads of the merged table (02, E2).
 use mathlib.Core.Path.{_≡_, refl, sym, ap, _∙_}
 use mathlib.Core.Bool.{true, false}
 use mathlib.Core.List.{List, [], _∷_, _++_}
@@ -16,8 +17,9 @@ use Rattle.kinds.proofs.RefusalLaws.{then-passed, then-next, either-passed}
 use Rattle.text.specs.Written.{textOf, decimal, fieldsText, lineText, linesText}
 use Rattle.table.specs.Table.{Table, rowAt}
 use Rattle.table.specs.Good.{Good}
-use Rattle.reading.specs.Reading.{readText}
+use Rattle.reading.specs.Reading.{readText, readCorrected}
 use Rattle.reading.proofs.ReadLaws.{read-good}
+use Rattle.reading.proofs.CorrectedLaws.{corrected-good}
 use Rattle.start.specs.Setup.{gridBy, judgeBy}
 use Rattle.start.specs.Start.{every, judgeTable, setupWith}
 use Rattle.extraction.specs.Extraction.{Result, outcomeMarked, outcomeOf, outcomeFor, atcRecord, rowRecord}
@@ -29,7 +31,7 @@ use Rattle.promises.proofs.Seven.{no-refusal-7}
 use Rattle.promises.proofs.ToldLaws.{Says, Told, told-passed, told-then, told-unless, told-first}
 use Rattle.result.specs.Records.{atcAt, marginAt, recordsText}
 use Rattle.result.specs.Refusal.{refusalText}
-use Rattle.answer.specs.Result.{resultText, answerFor, answerText}
+use Rattle.answer.specs.Result.{resultText, answerFor, answerWith, answerText}
 
 -- ---- demand 3
 -- what was read is a table, and what is printed the text of a result that demand 3 is true of
@@ -64,6 +66,11 @@ judged-demand-3 read good = go (then read outcomeOf) refl
 pub answer-demand-3 : (text : List ℕ) → (at (answerText text) 0 ≡ code "E" → ⊥) → TextDemand3 (readText text) (answerText text)
 unfolding answerText answerFor outcomeFor outcomeOf
 answer-demand-3 text = judged-demand-3 (readText text) (read-good text)
+
+-- .. and every text with a correction sheet
+pub corrected-demand-3 : (text sheet : List ℕ) → (at (answerWith true [] text sheet) 0 ≡ code "E" → ⊥) → TextDemand3 (readCorrected text sheet) (answerWith true [] text sheet)
+unfolding answerWith outcomeFor outcomeOf
+corrected-demand-3 text sheet = judged-demand-3 (readCorrected text sheet) (corrected-good text sheet)
 
 -- ---- no refusal 7
 -- the outcome of a table is refused by 5, 6 or 7 alone

@@ -3,3 +3,4 @@ pub mod ReadLaws
 pub mod Demand
 pub mod EveryMark
 pub mod Unique
+pub mod EmptySheet

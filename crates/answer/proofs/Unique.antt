@@ -1,4 +1,5 @@
--- No second answer, and no second content of the lent bytes, satisfies the contract of `result_text` or of `answer`, or of one of them with marks.
+-- No second answer, and no second content of the lent bytes, satisfies the contract of `result_text` or of `answer`, or of one of them with marks
+-- or with a correction sheet.
 -- The theorems are about the contracts as the check reads them from the source (`reads.Post`), and not about copies.
 use mathlib.Core.Path.{_≡_}
 use contract.Lifetimes.{Lfts}
@@ -19,6 +20,9 @@ use Rattle.answer.proofs.answer.Reads as answer-reads
 use Rattle.answer.proofs.answer_marked as answer-marked
 use Rattle.answer.proofs.answer_marked.Kinds as answer-marked-kinds
 use Rattle.answer.proofs.answer_marked.Reads as answer-marked-reads
+use Rattle.answer.proofs.answer_corrected as answer-corrected
+use Rattle.answer.proofs.answer_corrected.Kinds as answer-corrected-kinds
+use Rattle.answer.proofs.answer_corrected.Reads as answer-corrected-reads
 
 -- `out` is the call's sixth argument
 pub result-text-once : (κs : Lfts 6) (x : ArgsD result-text.signature κs) (r r′ : ResD result-text.signature κs) (s s′ : AtExit (endedOf 6 result-text-kinds.ps result-text-kinds.r) κs)
@@ -39,3 +43,8 @@ result-text-marked-once κs x r r′ s s′ p q = said-once _ _ _ _ _ p q
 pub answer-marked-once : (κs : Lfts 3) (x : ArgsD answer-marked.signature κs) (r r′ : ResD answer-marked.signature κs) (s s′ : AtExit (endedOf 3 answer-marked-kinds.ps answer-marked-kinds.r) κs)
     → answer-marked-reads.Post κs x r s → answer-marked-reads.Post κs x r′ s′ → (r ≡ r′) × (now (s .1 .1 .0) ≡ now (s′ .1 .1 .0))
 answer-marked-once κs x r r′ s s′ p q = said-once _ _ _ _ _ p q
+
+-- both texts have one lifetime
+pub answer-corrected-once : (κs : Lfts 2) (x : ArgsD answer-corrected.signature κs) (r r′ : ResD answer-corrected.signature κs) (s s′ : AtExit (endedOf 2 answer-corrected-kinds.ps answer-corrected-kinds.r) κs)
+    → answer-corrected-reads.Post κs x r s → answer-corrected-reads.Post κs x r′ s′ → (r ≡ r′) × (now (s .1 .1 .0) ≡ now (s′ .1 .1 .0))
+answer-corrected-once κs x r r′ s s′ p q = said-once _ _ _ _ _ p q

@@ -8,7 +8,7 @@ use Rattle.numbers.specs.Below.{table}
 use Rattle.kinds.specs.Refusals.{passed, then, either}
 use Rattle.text.specs.Left.{TextLeft, textLeft}
 use Rattle.table.specs.Table.{Table, judgeLent}
-use Rattle.reading.specs.Reading.{readText}
+use Rattle.reading.specs.Reading.{readText, readCorrected}
 use Rattle.extraction.specs.Extraction.{Result, outcomeFor, atcRecord, rowRecord}
 use Rattle.result.specs.Records.{recordsText}
 use Rattle.result.specs.Refusal.{refusalText}
@@ -20,6 +20,10 @@ resultText r = recordsText (table (r .header .borders) (atcRecord r)) (table (r 
 -- the answer to a table's text as it was asked for, with a list of marks or for every border
 unfoldable pub answerFor : (all : Bool) → (marks text : List ℕ) → List ℕ
 answerFor all marks text = either (then (readText text) (outcomeFor all marks)) resultText refusalText
+
+-- .. with a correction sheet (02, E2): the answer to the merged table
+unfoldable pub answerWith : (all : Bool) → (marks text sheet : List ℕ) → List ℕ
+answerWith all marks text sheet = either (then (readCorrected text sheet) (outcomeFor all marks)) resultText refusalText
 
 -- the program: the table on standard input, and this on standard output
 unfoldable pub answerText : (text : List ℕ) → List ℕ
@@ -44,3 +48,10 @@ answerLeft text out = textLeft (passed (answerText text)) out
 
 unfoldable pub answerMarkedLeft : (text marks out : List ℕ) → TextLeft
 answerMarkedLeft text marks out = answerForLeft false marks text out
+
+-- the open call `answer_corrected`, and what answers with a sheet, of every border or with marks
+unfoldable pub answerWithLeft : (all : Bool) → (marks text sheet out : List ℕ) → TextLeft
+answerWithLeft all marks text sheet out = textLeft (passed (answerWith all marks text sheet)) out
+
+unfoldable pub answerCorrectedLeft : (text sheet out : List ℕ) → TextLeft
+answerCorrectedLeft text sheet out = answerWithLeft true [] text sheet out

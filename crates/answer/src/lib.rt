@@ -1,4 +1,5 @@
-// The open calls that answer in text (01, "Result text"): `result_text` of lent tables, and `answer` of a table's text; each with marks too (02, E13).
+// The open calls that answer in text (01, "Result text"): `result_text` of lent tables, and `answer` of a table's text; each with marks too (02, E13),
+// and `answer` with a correction sheet (02, E2).
 // They differ in what becomes of a refusal: `result_text` tells it, and `answer` writes it as the E line.
 mod made;
 
@@ -10,7 +11,7 @@ ghost use Rattle.kinds.specs.Refusals.{passed};
 ghost use Rattle.text.specs.Left.{textLeft, textSaid};
 ghost use Rattle.table.specs.Table.{lent};
 ghost use Rattle.result.specs.Refusal.{refusalText, refusalMost};
-ghost use Rattle.answer.specs.Result.{resultTextFor, resultTextLeft, resultTextMarkedLeft, answerForLeft, answerLeft, answerMarkedLeft};
+ghost use Rattle.answer.specs.Result.{resultTextFor, resultTextLeft, resultTextMarkedLeft, answerForLeft, answerLeft, answerMarkedLeft, answerWithLeft, answerCorrectedLeft};
 ghost use Rattle.answer.specs.Made.{outcomeLent, printed, answerMost, bytesAsked};
 use crate::made::Made;
 use kinds::Border;
@@ -101,6 +102,28 @@ pub fn answer_marked(text: &[u8], marks: &[u64], out: &mut [u8]) -> Written
 pub fn answer_for(text: &[u8], all: bool, marks: &[u64], out: &mut [u8]) -> Written
     ensures { λ r. ⌜ (textSaid r (now (out .exit)) ≡ answerForLeft all (now (marks .entry)) (now (text .entry)) (now (out .entry))) × (bytesAsked r ≤ answerMost) ⌝ }
 {
+    answer_with(text, b"", all, marks, out)
+}
+
+// The answer to a table's text with a correction sheet (02, E2), of which an empty one changes nothing.
+pub fn answer_corrected<'a>(text: &'a [u8], sheet: &'a [u8], out: &mut [u8]) -> Written
+    ensures { λ r. ⌜ textSaid r (now (out .exit)) ≡ answerCorrectedLeft (now (text .entry)) (now (sheet .entry)) (now (out .entry)) ⌝ }
+{
+    // No marks are looked at.
+    let marks: [u64; 1] = [0];
+    answer_with(text, sheet, true, &marks, out)
+}
+
+// All of it, as asked: with a sheet, of every border or with marks. And how many bytes are asked for at most.
+pub fn answer_with<'a>(
+    text: &'a [u8],
+    sheet: &'a [u8],
+    all: bool,
+    marks: &[u64],
+    out: &mut [u8],
+) -> Written
+    ensures { λ r. ⌜ (textSaid r (now (out .exit)) ≡ answerWithLeft all (now (marks .entry)) (now (text .entry)) (now (sheet .entry)) (now (out .entry))) × (bytesAsked r ≤ answerMost) ⌝ }
+{
     let mut z: [i64; Header::ZONES_MOST] = [0; Header::ZONES_MOST];
     let mut t: [i64; Header::ZONES_MOST] = [0; Header::ZONES_MOST];
     let mut b: [BorderRecord; Header::BORDERS_MOST] = [[0; Border::ITEMS]; Header::BORDERS_MOST];
@@ -109,6 +132,7 @@ pub fn answer_for(text: &[u8], all: bool, marks: &[u64], out: &mut [u8]) -> Writ
         * Header::ZONES_MOST];
     answer_in(
         text,
+        sheet,
         all,
         marks,
         &mut z,
@@ -120,9 +144,10 @@ pub fn answer_for(text: &[u8], all: bool, marks: &[u64], out: &mut [u8]) -> Writ
     )
 }
 
-// The tables are made in `answer_for`, and not here, where goals would spell them out.
-fn answer_in(
-    text: &[u8],
+// The tables are made in `answer_with`, and not here, where goals would spell them out.
+fn answer_in<'a>(
+    text: &'a [u8],
+    sheet: &'a [u8],
     all: bool,
     marks: &[u64],
     z: &mut [i64],
@@ -133,9 +158,9 @@ fn answer_in(
     out: &mut [u8],
 ) -> Written
     requires { ⌜ (zonesMost ≤ length (now z)) × (zonesMost ≤ length (now t)) × (bordersMost ≤ length (now b)) × (rowsMost ≤ length (now c)) × (rowsMost * zonesMost ≤ length (now f)) ⌝ }
-    ensures { λ r. ⌜ (textSaid r (now (out .exit)) ≡ answerForLeft all (now (marks .entry)) (now (text .entry)) (now (out .entry))) × (bytesAsked r ≤ answerMost) ⌝ }
+    ensures { λ r. ⌜ (textSaid r (now (out .exit)) ≡ answerWithLeft all (now (marks .entry)) (now (text .entry)) (now (sheet .entry)) (now (out .entry))) × (bytesAsked r ≤ answerMost) ⌝ }
 {
-    match reading::read(text, z, t, b, c, f) {
+    match reading::read_corrected(text, sheet, z, t, b, c, f) {
         Read::Table(h) => answer_lent(h, z, t, b, c, f, all, marks, out),
         Read::Refused(w) => write_refusal(w, out),
     }

@@ -17,9 +17,15 @@ use Rattle.cabi.specs.Coded.{ReadCoded, readFound, TextCoded, textFound,
 use Rattle.cabi.proofs.keravnoth_read as read
 use Rattle.cabi.proofs.keravnoth_read.Kinds as read-kinds
 use Rattle.cabi.proofs.keravnoth_read.Reads as read-reads
+use Rattle.cabi.proofs.keravnoth_read_corrected as read-corrected
+use Rattle.cabi.proofs.keravnoth_read_corrected.Kinds as read-corrected-kinds
+use Rattle.cabi.proofs.keravnoth_read_corrected.Reads as read-corrected-reads
 use Rattle.cabi.proofs.keravnoth_write as write
 use Rattle.cabi.proofs.keravnoth_write.Kinds as write-kinds
 use Rattle.cabi.proofs.keravnoth_write.Reads as write-reads
+use Rattle.cabi.proofs.keravnoth_rewrite_corrected as rewrite-corrected
+use Rattle.cabi.proofs.keravnoth_rewrite_corrected.Kinds as rewrite-corrected-kinds
+use Rattle.cabi.proofs.keravnoth_rewrite_corrected.Reads as rewrite-corrected-reads
 use Rattle.cabi.proofs.keravnoth_extract as extract
 use Rattle.cabi.proofs.keravnoth_extract.Kinds as extract-kinds
 use Rattle.cabi.proofs.keravnoth_extract.Reads as extract-reads
@@ -38,6 +44,9 @@ use Rattle.cabi.proofs.keravnoth_answer.Reads as answer-reads
 use Rattle.cabi.proofs.keravnoth_answer_marked as answer-marked
 use Rattle.cabi.proofs.keravnoth_answer_marked.Kinds as answer-marked-kinds
 use Rattle.cabi.proofs.keravnoth_answer_marked.Reads as answer-marked-reads
+use Rattle.cabi.proofs.keravnoth_answer_corrected as answer-corrected
+use Rattle.cabi.proofs.keravnoth_answer_corrected.Kinds as answer-corrected-kinds
+use Rattle.cabi.proofs.keravnoth_answer_corrected.Reads as answer-corrected-reads
 use Rattle.cabi.proofs.keravnoth_corner_flows as corner-flows
 use Rattle.cabi.proofs.keravnoth_corner_flows.Kinds as corner-flows-kinds
 use Rattle.cabi.proofs.keravnoth_corner_flows.Reads as corner-flows-reads
@@ -75,10 +84,26 @@ pub keravnoth-read-once : (κs : Lfts 6) (x : ArgsD read.signature κs) (r r′ 
     × (now (s .1 .1 .1 .1 .1 .0) ≡ now (s′ .1 .1 .1 .1 .1 .0))))))
 keravnoth-read-once κs x r r′ s s′ p q = read-one _ _ _ _ _ _ _ _ _ _ _ _ _ p q
 
+-- .. and the third to seventh of `keravnoth_read_corrected`, whose two texts have one lifetime
+pub keravnoth-read-corrected-once : (κs : Lfts 6) (x : ArgsD read-corrected.signature κs) (r r′ : ResD read-corrected.signature κs) (s s′ : AtExit (endedOf 6 read-corrected-kinds.ps read-corrected-kinds.r) κs)
+    → read-corrected-reads.Post κs x r s → read-corrected-reads.Post κs x r′ s′
+    → (r ≡ r′)
+    × ((now (s .1 .1 .0) ≡ now (s′ .1 .1 .0))
+    × ((now (s .1 .1 .1 .0) ≡ now (s′ .1 .1 .1 .0))
+    × ((now (s .1 .1 .1 .1 .0) ≡ now (s′ .1 .1 .1 .1 .0))
+    × ((now (s .1 .1 .1 .1 .1 .0) ≡ now (s′ .1 .1 .1 .1 .1 .0))
+    × (now (s .1 .1 .1 .1 .1 .1 .0) ≡ now (s′ .1 .1 .1 .1 .1 .1 .0))))))
+keravnoth-read-corrected-once κs x r r′ s s′ p q = read-one _ _ _ _ _ _ _ _ _ _ _ _ _ p q
+
 -- `out` is the seventh argument
 pub keravnoth-write-once : (κs : Lfts 6) (x : ArgsD write.signature κs) (r r′ : ResD write.signature κs) (s s′ : AtExit (endedOf 6 write-kinds.ps write-kinds.r) κs)
     → write-reads.Post κs x r s → write-reads.Post κs x r′ s′ → (r ≡ r′) × (now (s .1 .1 .1 .1 .1 .1 .0) ≡ now (s′ .1 .1 .1 .1 .1 .1 .0))
 keravnoth-write-once κs x r r′ s s′ p q = text-one _ _ _ _ _ p q
+
+-- `out` is the third argument
+pub keravnoth-rewrite-corrected-once : (κs : Lfts 2) (x : ArgsD rewrite-corrected.signature κs) (r r′ : ResD rewrite-corrected.signature κs) (s s′ : AtExit (endedOf 2 rewrite-corrected-kinds.ps rewrite-corrected-kinds.r) κs)
+    → rewrite-corrected-reads.Post κs x r s → rewrite-corrected-reads.Post κs x r′ s′ → (r ≡ r′) × (now (s .1 .1 .0) ≡ now (s′ .1 .1 .0))
+keravnoth-rewrite-corrected-once κs x r r′ s s′ p q = text-one _ _ _ _ _ p q
 
 -- p is the seventh, and the results are the eighth and the ninth
 pub keravnoth-extract-once : (κs : Lfts 8) (x : ArgsD extract.signature κs) (r r′ : ResD extract.signature κs) (s s′ : AtExit (endedOf 8 extract-kinds.ps extract-kinds.r) κs)
@@ -112,6 +137,11 @@ keravnoth-answer-once κs x r r′ s s′ p q = text-one _ _ _ _ _ p q
 pub keravnoth-answer-marked-once : (κs : Lfts 3) (x : ArgsD answer-marked.signature κs) (r r′ : ResD answer-marked.signature κs) (s s′ : AtExit (endedOf 3 answer-marked-kinds.ps answer-marked-kinds.r) κs)
     → answer-marked-reads.Post κs x r s → answer-marked-reads.Post κs x r′ s′ → (r ≡ r′) × (now (s .1 .1 .0) ≡ now (s′ .1 .1 .0))
 keravnoth-answer-marked-once κs x r r′ s s′ p q = text-one _ _ _ _ _ p q
+
+-- `out` is the third argument
+pub keravnoth-answer-corrected-once : (κs : Lfts 2) (x : ArgsD answer-corrected.signature κs) (r r′ : ResD answer-corrected.signature κs) (s s′ : AtExit (endedOf 2 answer-corrected-kinds.ps answer-corrected-kinds.r) κs)
+    → answer-corrected-reads.Post κs x r s → answer-corrected-reads.Post κs x r′ s′ → (r ≡ r′) × (now (s .1 .1 .0) ≡ now (s′ .1 .1 .0))
+keravnoth-answer-corrected-once κs x r r′ s s′ p q = text-one _ _ _ _ _ p q
 
 -- `out` is the eighth argument, also of the text
 pub keravnoth-corner-flows-once : (κs : Lfts 6) (x : ArgsD corner-flows.signature κs) (r r′ : ResD corner-flows.signature κs) (s s′ : AtExit (endedOf 6 corner-flows-kinds.ps corner-flows-kinds.r) κs)

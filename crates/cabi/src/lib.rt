@@ -3,12 +3,12 @@
 ghost use mathlib.Core.Path.{_≡_};
 ghost use Rattle.kinds.specs.Answers.{saidRead, saidWritten, saidExtracted, saidFlows};
 ghost use Rattle.table.specs.Table.{lent};
-ghost use Rattle.reading.specs.Reading.{readLeft};
-ghost use Rattle.writing.specs.Writing.{writeLeft};
+ghost use Rattle.reading.specs.Reading.{readLeft, readCorrectedLeft};
+ghost use Rattle.writing.specs.Writing.{writeLeft, rewriteCorrectedLeft};
 ghost use Rattle.extraction.specs.Extraction.{extractLeft, extractMarkedLeft};
 ghost use Rattle.corners.specs.Corners.{cornersLeft};
 ghost use Rattle.cornertext.specs.CornerText.{cornerTextLeft};
-ghost use Rattle.answer.specs.Result.{resultTextLeft, resultTextMarkedLeft, answerLeft, answerMarkedLeft};
+ghost use Rattle.answer.specs.Result.{resultTextLeft, resultTextMarkedLeft, answerLeft, answerMarkedLeft, answerCorrectedLeft};
 ghost use Rattle.cabi.specs.Coded.{codedRead, codedWritten, codedExtracted, codedFlows, readFound, readCoded, textFound, textCoded, extractFound, extractCoded, flowsFound, flowsCoded};
 use extraction::AtcRecord;
 use extraction::LeftRecord;
@@ -71,6 +71,22 @@ pub extern "C" fn keravnoth_read(
     code_read(reading::read(text, z, t, b, c, f))
 }
 
+// .. as a sheet of corrected rows corrects it.
+#[no_mangle]
+pub extern "C" fn keravnoth_read_corrected<'a>(
+    text: &'a [u8],
+    sheet: &'a [u8],
+    z: &mut [i64],
+    t: &mut [i64],
+    b: &mut [BorderRecord],
+    c: &mut [RowRecord],
+    f: &mut [i64],
+) -> KeravnothRead
+    ensures { λ r. ⌜ readFound r (now (z .exit)) (now (t .exit)) (now (b .exit)) (now (c .exit)) (now (f .exit)) ≡ readCoded (readCorrectedLeft (now (text .entry)) (now (sheet .entry)) (now (z .entry)) (now (t .entry)) (now (b .entry)) (now (c .entry)) (now (f .entry))) ⌝ }
+{
+    code_read(reading::read_corrected(text, sheet, z, t, b, c, f))
+}
+
 // Writes the tables as text.
 #[no_mangle]
 pub extern "C" fn keravnoth_write(
@@ -85,6 +101,18 @@ pub extern "C" fn keravnoth_write(
     ensures { λ r. ⌜ textFound r (now (out .exit)) ≡ textCoded (writeLeft (lent h (now (z .entry)) (now (t .entry)) (now (b .entry)) (now (c .entry)) (now (f .entry))) (now (out .entry))) ⌝ }
 {
     code_written(writing::write(h, z, t, b, c, f, out))
+}
+
+// From text to text: the table as the sheet corrects it, written again.
+#[no_mangle]
+pub extern "C" fn keravnoth_rewrite_corrected<'a>(
+    text: &'a [u8],
+    sheet: &'a [u8],
+    out: &mut [u8],
+) -> KeravnothWritten
+    ensures { λ r. ⌜ textFound r (now (out .exit)) ≡ textCoded (rewriteCorrectedLeft (now (text .entry)) (now (sheet .entry)) (now (out .entry))) ⌝ }
+{
+    code_written(writing::rewrite_corrected(text, sheet, out))
 }
 
 // Capacities and margins from the tables, and p of each row at each border.
@@ -175,6 +203,18 @@ pub extern "C" fn keravnoth_answer_marked(
     ensures { λ r. ⌜ textFound r (now (out .exit)) ≡ textCoded (answerMarkedLeft (now (text .entry)) (now (marks .entry)) (now (out .entry))) ⌝ }
 {
     code_written(answer::answer_marked(text, marks, out))
+}
+
+// .. of the table as the sheet corrects it.
+#[no_mangle]
+pub extern "C" fn keravnoth_answer_corrected<'a>(
+    text: &'a [u8],
+    sheet: &'a [u8],
+    out: &mut [u8],
+) -> KeravnothWritten
+    ensures { λ r. ⌜ textFound r (now (out .exit)) ≡ textCoded (answerCorrectedLeft (now (text .entry)) (now (sheet .entry)) (now (out .entry))) ⌝ }
+{
+    code_written(answer::answer_corrected(text, sheet, out))
 }
 
 // The flows of all corners on one row.

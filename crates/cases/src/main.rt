@@ -1,6 +1,6 @@
 // Answers every file that the arguments name: the name on a line, and then what the word before it asks for, as the program prints it.
 // After the argument `corners` come the corner sheets of every row, after a number those of that row. After `--marks` and a list only those borders
-// rise, until the next word; `answer` is the word for the answer.
+// rise, after `--corrections` and a file its rows are put in, until the next word; `answer` is the word for the answer.
 ghost use Prim.Native.Nat.{_≤_};
 ghost use lib.ListN.{length};
 ghost use Rattle.printing.specs.Printed.{sheetRoom};
@@ -19,6 +19,7 @@ use printing::tasks::Task;
 struct Setting {
     word: usize,
     after: usize,
+    corrections: usize,
     marks: usize,
     due: usize,
 }
@@ -27,6 +28,7 @@ fn word_at(i: usize) -> Setting {
     Setting {
         word: i,
         after: 0,
+        corrections: 0,
         marks: 0,
         due: 0,
     }
@@ -47,6 +49,10 @@ fn take(i: usize, mut setting: Setting) -> Setting {
     if setting.due > 0 {
         return take_value(i, setting);
     }
+    if arguments::is(i, b"--corrections") {
+        setting.due = i;
+        return setting;
+    }
     if arguments::is(i, b"--marks") {
         setting.due = i;
         return setting;
@@ -61,7 +67,12 @@ fn take(i: usize, mut setting: Setting) -> Setting {
 }
 
 fn take_value(i: usize, mut setting: Setting) -> Setting {
+    let option = setting.due;
     setting.due = 0;
+    if arguments::is(option, b"--corrections") {
+        setting.corrections = i;
+        return setting;
+    }
     setting.marks = i;
     setting
 }
@@ -80,13 +91,50 @@ fn one(i: usize, setting: Setting) {
         return;
     };
     let mut text = [0u8; TEXT_ROOM];
+    let mut sheet = [0u8; TEXT_ROOM];
     let mut marks = [0u64; MARKS_ROOM];
     let mut out = [0u8; sheets::ROOM];
-    print(i, task, setting.marks, &mut text, &mut marks, &mut out)
+    print(
+        i,
+        task,
+        setting,
+        &mut text,
+        &mut sheet,
+        &mut marks,
+        &mut out,
+    )
 }
 
-// The memory is made in `one`, and not here, where goals would spell it out.
-fn print(i: usize, task: Task, list: usize, text: &mut [u8], marks: &mut [u64], out: &mut [u8])
+// The memory is made in `one`, and not here, where goals would spell it out. First the correction sheet is read ..
+fn print(
+    i: usize,
+    task: Task,
+    setting: Setting,
+    text: &mut [u8],
+    sheet: &mut [u8],
+    marks: &mut [u64],
+    out: &mut [u8],
+)
+    requires { ⌜ sheetRoom ≤ length (now out) ⌝ }
+{
+    let corrections = input::named(setting.corrections, sheet);
+    if corrections.failed {
+        return;
+    }
+    let n = corrections.bytes;
+    print_corrected(i, task, setting.marks, text, &sheet[..n], marks, out)
+}
+
+// .. and then the table.
+fn print_corrected(
+    i: usize,
+    task: Task,
+    list: usize,
+    text: &mut [u8],
+    sheet: &[u8],
+    marks: &mut [u64],
+    out: &mut [u8],
+)
     requires { ⌜ sheetRoom ≤ length (now out) ⌝ }
 {
     let table = input::file(i, text);
@@ -97,7 +145,7 @@ fn print(i: usize, task: Task, list: usize, text: &mut [u8], marks: &mut [u64], 
     let n = table.bytes;
     let listed = arguments::list(list, marks);
     let m = listed.count;
-    tasks::print(task, list == 0, &marks[..m], &text[..n], out);
+    tasks::print(task, list == 0, &marks[..m], &text[..n], sheet, out);
 }
 
 fn name(i: usize) {

@@ -54,10 +54,10 @@ pub record Corners : Type 0 where
   pub text-signed : cornerTextLeft (withBorders bBack) 0 (replicate 51 7)
       ≡ record { answer = passed 51; out = sheet "K 0 0 0/K 0 1 2000000000/K 0 2 -2000000000/K 0 3 0/" }
   -- what the program prints
-  pub one : oneSheet hourText 1 ≡ sheet "K 1 0 0/K 1 1 0/K 1 2 1000000000/K 1 3 1000000000/"
-  pub one-refused : oneSheet hourText 4 ≡ sheet "E 9 4 0/"
-  pub one-unread : oneSheet [] 4 ≡ sheet "E 2 1 0/"
-  pub every : everySheet hourText
+  pub one : oneSheet hourText [] 1 ≡ sheet "K 1 0 0/K 1 1 0/K 1 2 1000000000/K 1 3 1000000000/"
+  pub one-refused : oneSheet hourText [] 4 ≡ sheet "E 9 4 0/"
+  pub one-unread : oneSheet [] [] 4 ≡ sheet "E 2 1 0/"
+  pub every : everySheet hourText []
       ≡ sheet "K 0 0 0/K 0 1 2000000000/K 0 2 2000000000/K 0 3 4000000000/"
       ++ sheet "K 1 0 0/K 1 1 0/K 1 2 1000000000/K 1 3 1000000000/"
       ++ sheet "K 2 0 0/K 2 1 499900000/K 2 2 0/K 2 3 499900000/"

@@ -1,7 +1,7 @@
 // The program: a table on standard input, its answer on standard output (01, "Result text").
 // `keravnoth rewrite` writes the table again instead, `keravnoth corners` its corner sheets, of all rows or of the one that is named
-// (02, E1). With `--marks LIST` only the borders of the list rise (02, E13).
-// What a refusal means, and that reading or writing failed, is said on standard error: a table that was not read to its end
+// (02, E1). With `--marks LIST` only the borders of the list rise (02, E13), with `--corrections FILE` rows are replaced by those of a correction
+// sheet (02, E2). What a refusal means, and that reading or writing failed, is said on standard error: a table that was not read to its end
 // is not answered. With `--status-fd N` the program's last word is its status, on descriptor N.
 mod options;
 
@@ -53,13 +53,40 @@ fn written(all: bool) -> Ended {
 
 fn run(task: Task, command: Command) -> Ended {
     let mut text = [0u8; TEXT_ROOM];
+    let mut sheet = [0u8; TEXT_ROOM];
     let mut marks = [0u64; MARKS_ROOM];
     let mut out = [0u8; sheets::ROOM];
-    run_in(task, command.marks, &mut text, &mut marks, &mut out)
+    run_in(task, command, &mut text, &mut sheet, &mut marks, &mut out)
 }
 
-// The memory is made in `run`, and not here, where goals would spell it out.
-fn run_in(task: Task, list: usize, text: &mut [u8], marks: &mut [u64], out: &mut [u8]) -> Ended
+// The memory is made in `run`, and not here, where goals would spell it out. First the correction sheet is read ..
+fn run_in(
+    task: Task,
+    command: Command,
+    text: &mut [u8],
+    sheet: &mut [u8],
+    marks: &mut [u64],
+    out: &mut [u8],
+) -> Ended
+    requires { ⌜ sheetRoom ≤ length (now out) ⌝ }
+{
+    let corrections = input::named(command.corrections, sheet);
+    if corrections.failed {
+        return Ended::Failed;
+    }
+    let n = corrections.bytes;
+    run_corrected(task, command.marks, text, &sheet[..n], marks, out)
+}
+
+// .. and then the table.
+fn run_corrected(
+    task: Task,
+    list: usize,
+    text: &mut [u8],
+    sheet: &[u8],
+    marks: &mut [u64],
+    out: &mut [u8],
+) -> Ended
     requires { ⌜ sheetRoom ≤ length (now out) ⌝ }
 {
     let table = input::standard(text);
@@ -69,7 +96,7 @@ fn run_in(task: Task, list: usize, text: &mut [u8], marks: &mut [u64], out: &mut
     let n = table.bytes;
     let listed = arguments::list(list, marks);
     let m = listed.count;
-    explain(tasks::print(task, list == 0, &marks[..m], &text[..n], out))
+    explain(tasks::print(task, list == 0, &marks[..m], &text[..n], sheet, out))
 }
 
 // Says on standard error what people need to know. What was written before an error stays written: the message is all that can be said.

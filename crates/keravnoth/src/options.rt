@@ -9,6 +9,8 @@ pub struct Command {
     pub word: usize,
     // what stands after the word: a row
     pub after: usize,
+    // the file of corrections
+    pub corrections: usize,
     // the borders that may rise
     pub marks: usize,
     // the descriptor that the status goes to
@@ -25,6 +27,7 @@ pub fn read_arguments() -> Command {
     let mut command = Command {
         word: 0,
         after: 0,
+        corrections: 0,
         marks: 0,
         status: 0,
         due: 0,
@@ -48,6 +51,9 @@ fn refuse(mut command: Command, i: usize) -> Command {
 fn take(command: Command, i: usize) -> Command {
     if command.due > 0 {
         return take_value(command, i);
+    }
+    if arguments::is(i, b"--corrections") {
+        return await_value(command, i, command.corrections);
     }
     if arguments::is(i, b"--marks") {
         return await_value(command, i, command.marks);
@@ -77,10 +83,18 @@ fn await_value(mut command: Command, i: usize, value: usize) -> Command {
 fn take_value(mut command: Command, i: usize) -> Command {
     let option = command.due;
     command.due = 0;
+    if arguments::is(option, b"--corrections") {
+        return take_corrections(command, i);
+    }
     if arguments::is(option, b"--marks") {
         return take_marks(command, i);
     }
     take_status(command, i)
+}
+
+fn take_corrections(mut command: Command, i: usize) -> Command {
+    command.corrections = i;
+    command
 }
 
 fn take_marks(mut command: Command, i: usize) -> Command {
@@ -138,7 +152,8 @@ fn with_task(command: Command, task: Task) -> Command {
 }
 
 fn without_table(command: Command) -> Command {
-    without(command, command.marks)
+    let rest = without(command, command.corrections);
+    without(rest, rest.marks)
 }
 
 // An option stands before its value.

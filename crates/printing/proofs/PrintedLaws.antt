@@ -26,8 +26,9 @@ use Rattle.text.proofs.LeftLaws.{text-left, text-short, text-refused}
 use Rattle.table.specs.Table.{Table, lent, judgeLent}
 use Rattle.table.proofs.GoodLaws.{judged-good}
 use Rattle.reading.specs.Places.{readSaid}
-use Rattle.reading.specs.Reading.{readText, readLeft}
+use Rattle.reading.specs.Reading.{readCorrected, readCorrectedLeft}
 use Rattle.reading.proofs.LeftLaws.{taken, as-read, refused-text}
+use Rattle.reading.proofs.CorrectedLaws.{corrected-good}
 use Rattle.writing.specs.Writing.{tableText, writeLeft}
 use Rattle.writing.proofs.RoundTrip.{never-too-long}
 use Rattle.extraction.specs.Extraction.{outcomeFor}
@@ -75,22 +76,22 @@ told-printed (refused w) out {out′} {out″} r {n} enough left told =
     subst (λ (s : List ℕ). Printed n s out″) (sym (either-refused _ _ refl)) (subst (λ (x : Written). Told x out′ n out″) why told)
 
 -- ---- a text that was read: what is printed of the lent tables is printed of it
-module _ (word : Word) (all : Bool) (marks text : List ℕ) (z a : List ℤ) (b c : List (List ℤ)) (f : List ℤ)
-    (r : Read) {z′ a′ : List ℤ} {b′ c′ : List (List ℤ)} {f′ : List ℤ} (said : readSaid r z′ a′ b′ c′ f′ ≡ readLeft text z a b c f) where
+module _ (word : Word) (all : Bool) (marks text sheet : List ℕ) (z a : List ℤ) (b c : List (List ℤ)) (f : List ℤ)
+    (r : Read) {z′ a′ : List ℤ} {b′ c′ : List (List ℤ)} {f′ : List ℤ} (said : readSaid r z′ a′ b′ c′ f′ ≡ readCorrectedLeft text sheet z a b c f) where
   module _ (h : Header) (is : r ≡ read.Table h) where
-    pub lent-printed : {n : ℕ} {out : List ℕ} → Printed n (toldText (then (judgeLent (lent h z′ a′ b′ c′ f′)) (saidOf word all marks))) out → Printed n (wordText word all marks text) out
+    pub lent-printed : {n : ℕ} {out : List ℕ} → Printed n (toldText (then (judgeLent (lent h z′ a′ b′ c′ f′)) (saidOf word all marks))) out → Printed n (wordText word all marks text sheet) out
     unfolding wordText
     lent-printed {n} {out} p =
-        let same : judgeLent (lent h z′ a′ b′ c′ f′) ≡ readText text = as-read text z a b c f r said h is ∙ sym (taken text z a b c f r said h is .read) in
+        let same : judgeLent (lent h z′ a′ b′ c′ f′) ≡ readCorrected text sheet = as-read (readCorrected text sheet) z a b c f r said (corrected-good text sheet) h is ∙ sym (taken (readCorrected text sheet) z a b c f r said (corrected-good text sheet) h is .read) in
         subst (λ (j : Judged Table). Printed n (toldText (then j (saidOf word all marks))) out) same p
 
   -- .. and one that was refused, with room for the largest table
   module _ (hz : zonesMost ≤ length z) (ha : zonesMost ≤ length a) (hb : bordersMost ≤ length b) (hc : rowsMost ≤ length c) (hf : rowsMost * zonesMost ≤ length f)
       (w : Refusal) (is : r ≡ read.Refused w) where
-    pub refusal-printed : {n : ℕ} {out : List ℕ} → Printed n (refusalText w) out → Printed n (wordText word all marks text) out
+    pub refusal-printed : {n : ℕ} {out : List ℕ} → Printed n (refusalText w) out → Printed n (wordText word all marks text sheet) out
     unfolding wordText
     refusal-printed {n} {out} p =
-        subst (λ (s : List ℕ). Printed n s out) (sym (either-refused _ _ (then-refused (saidOf word all marks) (refused-text text z a b c f r said hz ha hb hc hf w is)))) p
+        subst (λ (s : List ℕ). Printed n s out) (sym (either-refused _ _ (then-refused (saidOf word all marks) (refused-text (readCorrected text sheet) z a b c f r said (corrected-good text sheet) hz ha hb hc hf w is)))) p
 
 -- ---- the words
 -- a text made of what passed is told as it is printed

@@ -36,8 +36,8 @@ use Rattle.table.specs.Table.{Table, lent, factorsAt, judgeLent}
 use Rattle.table.specs.Good.{Good}
 use Rattle.table.proofs.GoodLaws.{good-judged}
 use Rattle.reading.specs.Places.{readSaid}
-use Rattle.reading.specs.Reading.{readText, readLeft}
-use Rattle.reading.proofs.ReadLaws.{read-good}
+use Rattle.reading.specs.Reading.{readCorrected, readCorrectedLeft}
+use Rattle.reading.proofs.CorrectedLaws.{corrected-good}
 use Rattle.reading.proofs.LeftLaws.{taken, as-read, refused-text}
 use Rattle.margin.specs.Bounds.{BordersBound}
 use Rattle.margin.proofs.JudgedLaws.{stretch-long, stretch-bound, good-factors, good-borders}
@@ -150,50 +150,50 @@ module _ (given t : Table) (judged : judgeLent given ≡ passed t) where
       (le-or-lt (t .header .borders) sheetBordersMost)
 
 -- ---- a text
-module _ (text : List ℕ) (z a : List ℤ) (b c : List (List ℤ)) (f : List ℤ) where
-  module _ (r : Read) {z′ a′ : List ℤ} {b′ c′ : List (List ℤ)} {f′ : List ℤ} (said : readSaid r z′ a′ b′ c′ f′ ≡ readLeft text z a b c f) where
+module _ (text sheet : List ℕ) (z a : List ℤ) (b c : List (List ℤ)) (f : List ℤ) where
+  module _ (r : Read) {z′ a′ : List ℤ} {b′ c′ : List (List ℤ)} {f′ : List ℤ} (said : readSaid r z′ a′ b′ c′ f′ ≡ readCorrectedLeft text sheet z a b c f) where
     -- its table was read
     module _ (h : Header) (is : r ≡ read.Table h) where
       abbrev given : Table
       given = lent h z′ a′ b′ c′ f′
 
       abbrev t : Table
-      t = taken text z a b c f r said h is .it
+      t = taken (readCorrected text sheet) z a b c f r said (corrected-good text sheet) h is .it
 
-      is-read : readText text ≡ passed t
-      is-read = taken text z a b c f r said h is .read
+      is-read : readCorrected text sheet ≡ passed t
+      is-read = taken (readCorrected text sheet) z a b c f r said (corrected-good text sheet) h is .read
 
       good : Good t
-      good = read-good text t is-read
+      good = corrected-good text sheet t is-read
 
       judged : judgeLent given ≡ passed t
-      judged = as-read text z a b c f r said h is
+      judged = as-read (readCorrected text sheet) z a b c f r said (corrected-good text sheet) h is
 
-      corners-read : (row : ℕ) → judgeCorners given row ≡ then (readText text) (λ t. judgeCorners t row)
+      corners-read : (row : ℕ) → judgeCorners given row ≡ then (readCorrected text sheet) (λ t. judgeCorners t row)
       unfolding judgeCorners
       corners-read row = then-next _ judged ∙ sym (then-next _ is-read ∙ then-next _ (good-judged t good))
 
-      pub one-sheet : (row : ℕ) → sheetAt given row ≡ oneSheet text row
+      pub one-sheet : (row : ℕ) → sheetAt given row ≡ oneSheet text sheet row
       unfolding sheetAt oneSheet
       one-sheet row = ap (λ (j : Judged Table). either j (λ t. sheetText t row) refusalText) (corners-read row)
 
-      pub every-sheet : linesText (sheetRows h) 0 (sheetAt given) ≡ everySheet text
+      pub every-sheet : linesText (sheetRows h) 0 (sheetAt given) ≡ everySheet text sheet
       unfolding everySheet
       every-sheet =
-          ap (λ (g : Header). linesText (sheetRows g) 0 (sheetAt given)) (sym (taken text z a b c f r said h is .header))
+          ap (λ (g : Header). linesText (sheetRows g) 0 (sheetAt given)) (sym (taken (readCorrected text sheet) z a b c f r said (corrected-good text sheet) h is .header))
           ∙ rows-printed given t judged (omega (arith, header-in (t .header) (good .exact .header) .rows-least))
           ∙ ap (λ (j : Judged Table). either j (λ t. linesText (t .header .rows) 0 (sheetText t)) refusalText) (corners-read 0)
 
     -- it was refused, with room for the largest table
     module _ (hz : zonesMost ≤ length z) (ha : zonesMost ≤ length a) (hb : bordersMost ≤ length b) (hc : rowsMost ≤ length c) (hf : rowsMost * zonesMost ≤ length f)
         (w : Refusal) (is : r ≡ read.Refused w) where
-      none-read : (next : Table → Judged Table) → then (readText text) next ≡ refused w
-      none-read next = then-refused next (refused-text text z a b c f r said hz ha hb hc hf w is)
+      none-read : (next : Table → Judged Table) → then (readCorrected text sheet) next ≡ refused w
+      none-read next = then-refused next (refused-text (readCorrected text sheet) z a b c f r said (corrected-good text sheet) hz ha hb hc hf w is)
 
-      pub one-refused : (row : ℕ) → refusalText w ≡ oneSheet text row
+      pub one-refused : (row : ℕ) → refusalText w ≡ oneSheet text sheet row
       unfolding oneSheet
       one-refused row = sym (either-refused _ _ (none-read _))
 
-      pub every-refused : refusalText w ≡ everySheet text
+      pub every-refused : refusalText w ≡ everySheet text sheet
       unfolding everySheet
       every-refused = sym (either-refused _ _ (none-read _))

@@ -1,4 +1,5 @@
--- What a program prints for a table's text (01, "Result text"; 02, E1). No contract can speak of standard output, so these speak of the buffer that goes there.
+-- What a program prints for a table's text and a correction sheet (01, "Result text"; 02, E1, E2).
+-- Without one the sheet is empty, and an empty sheet changes nothing. No contract can speak of standard output, so these speak of the buffer that goes there.
 use mathlib.Core.Path.{_≡_}
 use mathlib.Core.Bool.{Bool, cond}
 use mathlib.Core.List.{List}
@@ -11,7 +12,7 @@ use Rattle.kinds.specs.declared.Written.the-variants as written
 use Rattle.kinds.specs.Refusals.{Judged, passed, then, either}
 use Rattle.text.specs.Written.{linesText}
 use Rattle.table.specs.Table.{Table}
-use Rattle.reading.specs.Reading.{readText}
+use Rattle.reading.specs.Reading.{readCorrected}
 use Rattle.writing.specs.Writing.{tableText}
 use Rattle.corners.specs.Corners.{sheetBordersMost, judgeCorners}
 use Rattle.cornertext.specs.CornerText.{sheetMost, sheetText}
@@ -47,16 +48,16 @@ saidOf Answer all marks t = then (outcomeFor all marks t) (λ r. passed (resultT
 saidOf Rewrite all marks t = passed (tableText t)
 
 -- .. of the table of a text: what a program prints
-unfoldable pub wordText : Word → (all : Bool) → (marks text : List ℕ) → List ℕ
-wordText word all marks text = toldText (then (readText text) (saidOf word all marks))
+unfoldable pub wordText : Word → (all : Bool) → (marks text sheet : List ℕ) → List ℕ
+wordText word all marks text sheet = toldText (then (readCorrected text sheet) (saidOf word all marks))
 
 -- what `corners` prints for a row: its sheet, or one line E
-unfoldable pub oneSheet : (text : List ℕ) → (row : ℕ) → List ℕ
-oneSheet text row = either (then (readText text) (λ t. judgeCorners t row)) (λ t. sheetText t row) refusalText
+unfoldable pub oneSheet : (text sheet : List ℕ) → (row : ℕ) → List ℕ
+oneSheet text sheet row = either (then (readCorrected text sheet) (λ t. judgeCorners t row)) (λ t. sheetText t row) refusalText
 
 -- .. and for all rows, one after another: each table has a row 0, so that only its borders can be refused
-unfoldable pub everySheet : (text : List ℕ) → List ℕ
-everySheet text = either (then (readText text) (λ t. judgeCorners t 0)) (λ t. linesText (t .header .rows) 0 (sheetText t)) refusalText
+unfoldable pub everySheet : (text sheet : List ℕ) → List ℕ
+everySheet text sheet = either (then (readCorrected text sheet) (λ t. judgeCorners t 0)) (λ t. linesText (t .header .rows) 0 (sheetText t)) refusalText
 
 -- what is printed at once: a row of lent tables
 unfoldable pub sheetAt : (given : Table) → (row : ℕ) → List ℕ

@@ -22,6 +22,19 @@ pub fn standard(text: &mut [u8]) -> Input
     input
 }
 
+// The file that argument i names, or nothing where i is 0 and no argument names one.
+pub fn named(i: usize, text: &mut [u8]) -> Input
+    ensures { λ r. ⌜ Counts (r .bytes) (now (text .exit)) ⌝ }
+{
+    if i == 0 {
+        return Input {
+            bytes: 0,
+            failed: false,
+        };
+    }
+    file(i, text)
+}
+
 // The file that argument i names.
 pub fn file(i: usize, text: &mut [u8]) -> Input
     ensures { λ r. ⌜ Counts (r .bytes) (now (text .exit)) ⌝ }

@@ -69,8 +69,8 @@ pub fn sheet_row(
     }
 }
 
-// The sheets of the table that the text holds, or the E line.
-pub fn print(text: &[u8], rows: Rows, out: &mut [u8]) -> Ended
+// The sheets of the table that the text holds, as the correction sheet corrects it, or the E line.
+pub fn print<'a>(text: &'a [u8], sheet: &'a [u8], rows: Rows, out: &mut [u8]) -> Ended
     requires { ⌜ sheetRoom ≤ length (now out) ⌝ }
 {
     let mut z: [i64; Header::ZONES_MOST] = [0; Header::ZONES_MOST];
@@ -79,12 +79,23 @@ pub fn print(text: &[u8], rows: Rows, out: &mut [u8]) -> Ended
     let mut c: [RowRecord; Header::ROWS_MOST] = [[0; Row::ITEMS]; Header::ROWS_MOST];
     let mut f: [i64; Header::ROWS_MOST * Header::ZONES_MOST] = [0; Header::ROWS_MOST
         * Header::ZONES_MOST];
-    print_in(text, rows, &mut z, &mut t, &mut b, &mut c, &mut f, out)
+    print_in(
+        text,
+        sheet,
+        rows,
+        &mut z,
+        &mut t,
+        &mut b,
+        &mut c,
+        &mut f,
+        out,
+    )
 }
 
 // The tables are made in `print`, and not here, where goals would spell them out.
-fn print_in(
-    text: &[u8],
+fn print_in<'a>(
+    text: &'a [u8],
+    sheet: &'a [u8],
     rows: Rows,
     z: &mut [i64],
     t: &mut [i64],
@@ -95,7 +106,7 @@ fn print_in(
 ) -> Ended
     requires { ⌜ sheetRoom ≤ length (now out) ⌝ }
 {
-    match reading::read(text, z, t, b, c, f) {
+    match reading::read_corrected(text, sheet, z, t, b, c, f) {
         Read::Table(h) => print_rows(h, z, t, b, c, f, rows, out),
         Read::Refused(w) => {
             let n = refusal_line(w, out);

@@ -91,19 +91,33 @@ fn marks_go_with(word: Word) -> bool {
     }
 }
 
-// Prints what the task is for this text; where it is refused, the E line. Where `all` borders may rise, the marks are not looked at.
-pub fn print(task: Task, all: bool, marks: &[u64], text: &[u8], out: &mut [u8]) -> Ended
+// Prints what the task is for this text as the sheet corrects it; where one of them is refused, the E line. Where `all` borders may rise, the marks are not looked at.
+pub fn print<'a>(
+    task: Task,
+    all: bool,
+    marks: &[u64],
+    text: &'a [u8],
+    sheet: &'a [u8],
+    out: &mut [u8],
+) -> Ended
     requires { ⌜ sheetRoom ≤ length (now out) ⌝ }
 {
     match task {
-        Task::Text(word) => print_text(word, all, marks, text, out),
-        Task::Corners(rows) => sheets::print(text, rows, out),
+        Task::Text(word) => print_text(word, all, marks, text, sheet, out),
+        Task::Corners(rows) => sheets::print(text, sheet, rows, out),
     }
 }
 
-fn print_text(word: Word, all: bool, marks: &[u64], text: &[u8], out: &mut [u8]) -> Ended
+fn print_text<'a>(
+    word: Word,
+    all: bool,
+    marks: &[u64],
+    text: &'a [u8],
+    sheet: &'a [u8],
+    out: &mut [u8],
+) -> Ended
     requires { ⌜ sheetRoom ≤ length (now out) ⌝ }
 {
-    let n = texts::put(word, all, marks, text, out);
+    let n = texts::put(word, all, marks, text, sheet, out);
     output::put(&out[..n])
 }

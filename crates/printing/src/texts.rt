@@ -1,4 +1,4 @@
-// What a program prints for a word and a table's text: what the word says of the table; where that or the text is refused, the E line.
+// What a program prints for a word, a table's text and a correction sheet (02, E2): what the word says of the table; where that or a text is refused, the E line.
 // A buffer is lent that nothing to print is too long for, so that no refusal is left to tell.
 ghost use mathlib.Core.Path.{_≡_};
 ghost use Prim.Native.Nat.{_*_, _≤_};
@@ -23,9 +23,16 @@ pub enum Word {
     Rewrite,
 }
 
-pub fn put(word: Word, all: bool, marks: &[u64], text: &[u8], out: &mut [u8]) -> usize
+pub fn put<'a>(
+    word: Word,
+    all: bool,
+    marks: &[u64],
+    text: &'a [u8],
+    sheet: &'a [u8],
+    out: &mut [u8],
+) -> usize
     requires { ⌜ bytesMost ≤ length (now out) ⌝ }
-    ensures { λ r. ⌜ Printed r (wordText word all (now (marks .entry)) (now (text .entry))) (now (out .exit)) ⌝ }
+    ensures { λ r. ⌜ Printed r (wordText word all (now (marks .entry)) (now (text .entry)) (now (sheet .entry))) (now (out .exit)) ⌝ }
 {
     let mut z: [i64; Header::ZONES_MOST] = [0; Header::ZONES_MOST];
     let mut t: [i64; Header::ZONES_MOST] = [0; Header::ZONES_MOST];
@@ -38,6 +45,7 @@ pub fn put(word: Word, all: bool, marks: &[u64], text: &[u8], out: &mut [u8]) ->
         all,
         marks,
         text,
+        sheet,
         &mut z,
         &mut t,
         &mut b,
@@ -48,11 +56,12 @@ pub fn put(word: Word, all: bool, marks: &[u64], text: &[u8], out: &mut [u8]) ->
 }
 
 // The tables are made in `put`, and not here, where goals would spell them out.
-fn put_in(
+fn put_in<'a>(
     word: Word,
     all: bool,
     marks: &[u64],
-    text: &[u8],
+    text: &'a [u8],
+    sheet: &'a [u8],
     z: &mut [i64],
     t: &mut [i64],
     b: &mut [BorderRecord],
@@ -61,9 +70,9 @@ fn put_in(
     out: &mut [u8],
 ) -> usize
     requires { ⌜ (zonesMost ≤ length (now z)) × (zonesMost ≤ length (now t)) × (bordersMost ≤ length (now b)) × (rowsMost ≤ length (now c)) × (rowsMost * zonesMost ≤ length (now f)) × (bytesMost ≤ length (now out)) ⌝ }
-    ensures { λ r. ⌜ Printed r (wordText word all (now (marks .entry)) (now (text .entry))) (now (out .exit)) ⌝ }
+    ensures { λ r. ⌜ Printed r (wordText word all (now (marks .entry)) (now (text .entry)) (now (sheet .entry))) (now (out .exit)) ⌝ }
 {
-    match reading::read(text, z, t, b, c, f) {
+    match reading::read_corrected(text, sheet, z, t, b, c, f) {
         Read::Table(h) => put_lent(word, all, marks, h, z, t, b, c, f, out),
         Read::Refused(w) => refusal_line(w, out),
     }

@@ -32,8 +32,12 @@ pub fn usage(fd: i32) -> bool {
 fn options(fd: i32) -> bool {
     io::write_all(
         fd,
-        b"option: --marks LIST                  only these borders rise: their indices with commas between\n",
+        b"option: --corrections FILE            rows of the table replaced by those of a correction sheet\n",
     )
+        && io::write_all(
+            fd,
+            b"        --marks LIST                  only these borders rise: their indices with commas between\n",
+        )
         && io::write_all(
             fd,
             b"        --status-fd N                 the status digit goes to descriptor N\n",
@@ -44,7 +48,7 @@ fn options(fd: i32) -> bool {
 pub fn version(fd: i32) -> bool {
     io::write_all(
         fd,
-        b"keravnoth: rules: document 01; requests of document 02: E1, E3, E4, E5, E6, E7, E8, E9, E12, E13, E14; C interface: 9\n",
+        b"keravnoth: rules: document 01; requests of document 02: E1, E2, E3, E4, E5, E6, E7, E8, E9, E12, E13, E14; C interface: 10\n",
     )
         && io::write_all(fd, b"proved in the Rattle kit's logic 064da1ca440f63e7\n")
 }
@@ -73,10 +77,12 @@ pub fn unread(name: &[u8]) {
     os::fail(name);
 }
 
-// One line for a refusal, by its number, place and byte (01, "When the table is turned away"; 02, E1, E3, E5, E6 and E13).
+// One line for a refusal, by its number, place and byte (01, "When the table is turned away"; 02, E1, E2, E3, E5, E6 and E13).
 pub fn refusal(number: u64, place: u64, byte: u64) {
     match number {
-        1 => say(b"keravnoth: the table has more than 65,536 bytes: send one hour alone\n"),
+        1 => say(
+            b"keravnoth: the table, or a file that goes with it, has more than 65,536 bytes: send one hour alone\n",
+        ),
         2 => say_line(
             place,
             byte,
@@ -110,6 +116,11 @@ pub fn refusal(number: u64, place: u64, byte: u64) {
             place,
             b"): take borders out, or ask for a row that it has\n",
         ),
+        10 => say_sheet(
+            place,
+            byte,
+            b" has the wrong form or value, an index that is not above the one before, or one that the table has no row for: look at it as at a C line of the table\n",
+        ),
         13 => bad_mark(place),
         _ => say_place(
             b"keravnoth: the table is refused (",
@@ -137,9 +148,18 @@ fn say(words: &[u8]) {
     io::write_all(STDERR_FILENO, words);
 }
 
-// A line, and its byte where one is to blame.
+// A line of the table, and its byte where one is to blame.
 fn say_line(line: u64, byte: u64, after: &[u8]) {
-    io::write_all(STDERR_FILENO, b"keravnoth: line ");
+    say_byte(b"keravnoth: line ", line, byte, after)
+}
+
+// .. of the correction sheet.
+fn say_sheet(line: u64, byte: u64, after: &[u8]) {
+    say_byte(b"keravnoth: the correction sheet: line ", line, byte, after)
+}
+
+fn say_byte(before: &[u8], line: u64, byte: u64, after: &[u8]) {
+    io::write_all(STDERR_FILENO, before);
     io::print_decimal(STDERR_FILENO, line);
     if byte > 0 {
         io::write_all(STDERR_FILENO, b", byte ");

@@ -29,17 +29,17 @@ use Rattle.lines.specs.Lines.{RowLine, headerLine, positionLine, zoneLine, allo
 use Rattle.lines.proofs.HeaderTrip.{header-read}
 use Rattle.lines.proofs.ZoneTrip.{zone-read}
 use Rattle.runs.specs.Runs.{allGood, positionsIn}
-use Rattle.runs.specs.Rows.{valuesOf, factorsOf, rowsIn}
+use Rattle.runs.specs.Rows.{valuesOf, factorsOf, asGiven, rowsIn}
 use Rattle.runs.proofs.RowPasses.{Run, run-again}
 use Rattle.runs.proofs.StoredLaws.{after-within, run-refused, run-within}
 use Rattle.reading.specs.declared.judged.Places.{Places}
-use Rattle.reading.specs.Reading.{intradayAt, balanceByte, bordersFrom, allocatedFrom, linesOf, readText}
+use Rattle.reading.specs.Reading.{intradayAt, balanceByte, rowsFrom, bordersFrom, allocatedFrom, linesBy, linesOf, readText}
 use Rattle.reading.specs.Places.{Headed, netsIn, allocatedIn, Netted, Allocated, tableAt, Placed}
 use Rattle.reading.proofs.ReadLaws.{opened, borders-held}
 
 -- ---- a run of lines, opened
 module _ {A B : Type 0} (x : Block A) (f : List A → ℕ → Judged B) where
-  with-read : (xs : List A) (next : ℕ) → x ≡ read xs next → withLines x f ≡ f xs next
+  pub with-read : (xs : List A) (next : ℕ) → x ≡ read xs next → withLines x f ≡ f xs next
   with-read xs next e = ap (λ (y : Block A). withLines y f) e
 
   with-fault : (w : Refusal) → x ≡ fault w → withLines x f ≡ refused w
@@ -48,11 +48,11 @@ module _ {A B : Type 0} (x : Block A) (f : List A → ℕ → Judged B) where
 -- ---- the H line
 module _ (text : List ℕ) where
   pub header-form : (byte : ℕ) → headerLine (lineAt text 0) ≡ form byte → refused (wrongFormAt headerLineNo byte) ≡ linesOf text
-  unfolding linesOf
+  unfolding linesBy
   header-form byte e = rw e
 
   pub header-range : (byte : ℕ) → headerLine (lineAt text 0) ≡ range byte → refused (outOfRangeAt headerLineNo byte) ≡ linesOf text
-  unfolding linesOf
+  unfolding linesBy
   header-range byte e = rw e
 
 -- ---- beyond the text no letter stands
@@ -88,15 +88,15 @@ module _ {text : List ℕ} {counts : Header} {at : ℕ} (u : Headed text counts 
   pub at-within : at ≤ length text
   at-within = omega (arith, u .at-is, after-within text 0 (omega arith))
 
-  abbrev afterNets : List ℤ → ℕ → Judged Table
-  afterNets nets p = allocatedFrom text (profiled counts (intradayAt text p)) nets p
+  abbrev afterNets : (pick : List ℕ → ℕ → List ℕ) → List ℤ → ℕ → Judged Table
+  afterNets pick nets p = allocatedFrom pick text (profiled counts (intradayAt text p)) nets p
 
-  past-header : linesOf text ≡ withLines (netsRun text counts at) afterNets
-  unfolding linesOf
-  past-header = rw (u .header-is, u .at-is)
+  past-header : (pick : List ℕ → ℕ → List ℕ) → linesBy pick text ≡ withLines (netsRun text counts at) (afterNets pick)
+  unfolding linesBy
+  past-header pick = rw (u .header-is, u .at-is)
 
   pub nets-refused : {w : Refusal} → refused w ≡ endOf (netsRun text counts at) → refused w ≡ linesOf text
-  nets-refused {w} e = sym (past-header ∙ with-fault _ afterNets w (run-refused (netsRun text counts at) w e))
+  nets-refused {w} e = sym (past-header asGiven ∙ with-fault _ (afterNets asGiven) w (run-refused (netsRun text counts at) w e))
 
   pub nets-passed : {p : ℕ} → passed p ≡ endOf (netsRun text counts at) → Netted text (profiled counts (intradayAt text p)) at p
   nets-passed {p} end =
@@ -106,7 +106,7 @@ module _ {text : List ℕ} {counts : Header} {at : ℕ} (u : Headed text counts 
         zones-within = at-within;
         within = run-within zoneLine zoneLineNo (counts .zones) text at 0 p at-within end;
         nets-good = again .sound;
-        left = past-header ∙ with-read _ afterNets _ p (again .is);
+        left = λ pick. past-header pick ∙ with-read _ (afterNets pick) _ p (again .is);
       }
 
 -- ---- the T lines, and their sum
@@ -117,11 +117,11 @@ module _ {text : List ℕ} {h : Header} {zones at : ℕ} (u : Netted text h zone
   abbrev nets : List ℤ
   nets = heldBy (netsIn h text zones)
 
-  abbrev afterSum : List ℤ → ℕ → Judged Table
-  afterSum allocated o = unless (balanced allocated) (outOfRangeAt (lastAllocatedLineNo h) (balanceByte (h .zones))) (bordersFrom text h nets allocated o)
+  abbrev afterSum : (pick : List ℕ → ℕ → List ℕ) → List ℤ → ℕ → Judged Table
+  afterSum pick allocated o = unless (balanced allocated) (outOfRangeAt (lastAllocatedLineNo h) (balanceByte (h .zones))) (bordersFrom pick text h nets allocated o)
 
   pub allocated-refused : {w : Refusal} → refused w ≡ endOf (allocatedRun text h at) → refused w ≡ linesOf text
-  allocated-refused {w} e = sym (u .left ∙ with-fault _ afterSum w (run-refused (allocatedRun text h at) w e))
+  allocated-refused {w} e = sym (u .left asGiven ∙ with-fault _ (afterSum asGiven) w (run-refused (allocatedRun text h at) w e))
 
   module _ {o : ℕ} (end : passed o ≡ endOf (allocatedRun text h at)) where
     again-allocated : Run (allocatedRun text h at) (allocatedIn h text at) o
@@ -130,11 +130,11 @@ module _ {text : List ℕ} {h : Header} {zones at : ℕ} (u : Netted text h zone
     pub allocated-sound : allGood (allocatedIn h text at) ≡ true
     allocated-sound = again-allocated .sound
 
-    past-allocated : linesOf text ≡ afterSum (heldBy (allocatedIn h text at)) o
-    past-allocated = u .left ∙ with-read _ afterSum _ o (again-allocated .is)
+    past-allocated : (pick : List ℕ → ℕ → List ℕ) → linesBy pick text ≡ afterSum pick (heldBy (allocatedIn h text at)) o
+    past-allocated pick = u .left pick ∙ with-read _ (afterSum pick) _ o (again-allocated .is)
 
     pub unbalanced : balanced (heldBy (allocatedIn h text at)) ≡ false → refused (outOfRangeAt (lastAllocatedLineNo h) (balanceByte (h .zones))) ≡ linesOf text
-    unbalanced e = sym (past-allocated ∙ unless-refused _ _ e)
+    unbalanced e = sym (past-allocated asGiven ∙ unless-refused _ _ e)
 
     pub allocated-passed : balanced (heldBy (allocatedIn h text at)) ≡ true → Allocated text h zones at o
     allocated-passed e =
@@ -145,7 +145,7 @@ module _ {text : List ℕ} {h : Header} {zones at : ℕ} (u : Netted text h zone
           within = run-within allocatedLine (allocatedLineNo h) (allocatedItems h) text at 0 o (u .within) end;
           nets-good = u .nets-good;
           allocated-good = allocated-sound;
-          left = past-allocated ∙ unless-ok _ _ e;
+          left = λ pick. past-allocated pick ∙ unless-ok _ _ e;
         }
 
 -- the positions of good lines, as their sum is asked for
@@ -173,8 +173,8 @@ module _ {text : List ℕ} {h : Header} {zones allocated at : ℕ} (u : Allocate
   abbrev afterRows : List (List ℤ) → List RowLine → ℕ → Judged Table
   afterRows borders rows e = cond (ltb e (length text)) (refused (wrongForm (pastLineNo h))) (passed (lent h its-nets its-allocated borders (valuesOf rows) (factorsOf rows)))
 
-  abbrev afterBorders : List (List ℤ) → ℕ → Judged Table
-  afterBorders borders q = withLines (rowsRun text h q) (afterRows borders)
+  abbrev afterBorders : (pick : List ℕ → ℕ → List ℕ) → List (List ℤ) → ℕ → Judged Table
+  afterBorders pick borders q = rowsFrom pick text h its-nets its-allocated borders q
 
   -- the borders' part of the memory
   pub borders-room : (memory : List (List ℤ)) → length memory ≡ bordersMost → length (take (h .borders) memory) ≡ h .borders
@@ -185,11 +185,11 @@ module _ {text : List ℕ} {h : Header} {zones allocated at : ℕ} (u : Allocate
   run-lent memory long = ap (λ (n : ℕ). linesAt (borderLine (h .zones)) (borderLineNo h) n text at 0) (borders-room memory long)
 
   pub borders-refused : {w : Refusal} → fault w ≡ bordersRun text h at → refused w ≡ linesOf text
-  borders-refused {w} e = sym (u .left ∙ with-fault _ afterBorders w (sym e))
+  borders-refused {w} e = sym (u .left asGiven ∙ with-fault _ (afterBorders asGiven) w (sym e))
 
   module _ {borders : List (List ℤ)} {q : ℕ} (borders-are : read borders q ≡ bordersRun text h at) where
-    past-borders : linesOf text ≡ afterBorders borders q
-    past-borders = u .left ∙ with-read _ afterBorders borders q (sym borders-are)
+    past-borders : (pick : List ℕ → ℕ → List ℕ) → linesBy pick text ≡ afterBorders pick borders q
+    past-borders pick = u .left pick ∙ with-read _ (afterBorders pick) borders q (sym borders-are)
 
     pub q-within : q ≤ length text
     q-within = run-within (borderLine (h .zones)) (borderLineNo h) (h .borders) text at 0 q (u .within) (ap endOf borders-are)
@@ -198,17 +198,17 @@ module _ {text : List ℕ} {h : Header} {zones allocated at : ℕ} (u : Allocate
     borders-long = run-fits (borderLine (h .zones)) (borderLineNo h) (λ i raw. Unit {0}) (λ line i raw e. tt) (h .borders) text at 0 borders q (sym borders-are) .0
 
     pub rows-refused : {w : Refusal} → refused w ≡ endOf (rowsRun text h q) → refused w ≡ linesOf text
-    rows-refused {w} e = sym (past-borders ∙ with-fault _ (afterRows borders) w (run-refused (rowsRun text h q) w e))
+    rows-refused {w} e = sym (past-borders asGiven ∙ with-fault _ (afterRows borders) w (run-refused (rowsRun text h q) w e))
 
     module _ {e : ℕ} (rows-end : passed e ≡ endOf (rowsRun text h q)) where
       abbrev rowsAgain : Block RowLine
-      rowsAgain = rowsIn (h .zones) (h .rows) text q
+      rowsAgain = rowsIn (h .zones) asGiven (h .rows) text q
 
       again : Run (rowsRun text h q) rowsAgain e
       again = run-again (rowLine (h .zones)) (rowLineNo h) 0 (h .rows) text q e rows-end
 
       past-rows : linesOf text ≡ afterRows borders (heldBy rowsAgain) e
-      past-rows = past-borders ∙ with-read _ (afterRows borders) (heldBy rowsAgain) e (again .is)
+      past-rows = past-borders asGiven ∙ with-read _ (afterRows borders) (heldBy rowsAgain) e (again .is)
 
       pub more-follows : e < length text → refused (wrongForm (pastLineNo h)) ≡ linesOf text
       more-follows l = sym (past-rows ∙ rw (lt-ltb e (length text) l))
@@ -217,11 +217,11 @@ module _ {text : List ℕ} {h : Header} {zones allocated at : ℕ} (u : Allocate
       places = record { header = h; zones = zones; allocated = allocated; rows = q }
 
       -- what the memory holds beyond the borders does not matter
-      pub lines-pass : (rest : List (List ℤ)) → length text ≤ e → passed (tableAt places text (take (h .borders) (borders ++ rest))) ≡ linesOf text
+      pub lines-pass : (rest : List (List ℤ)) → length text ≤ e → passed (tableAt places text [] (take (h .borders) (borders ++ rest))) ≡ linesOf text
       lines-pass rest l = sym (past-rows ∙ rw (le-ltb e (length text) l, take-at borders rest (h .borders) borders-long))
 
-      pub lines-placed : Placed places text
-      lines-placed = record {
+      pub lines-placed : (rest : List (List ℤ)) → Placed places text [] (take (h .borders) (borders ++ rest))
+      lines-placed rest = record {
         header-fits = u .fits;
         zones-within = u .zones-within;
         allocated-within = u .allocated-within;
@@ -229,6 +229,8 @@ module _ {text : List ℕ} {h : Header} {zones allocated at : ℕ} (u : Allocate
         nets-good = u .nets-good;
         allocated-good = u .allocated-good;
         rows-good = again .sound;
+        sheet-good = refl;
+        left = λ pick. past-borders pick ∙ ap (λ (l : List (List ℤ)). rowsFrom pick text h its-nets its-allocated l q) (sym (take-at borders rest (h .borders) borders-long));
       }
 
 -- ---- the length of the text, and borders given twice
@@ -250,7 +252,7 @@ module _ (text : List ℕ) where
       past-lines = past-length ∙ then-next notTwice (sym lines-are)
 
       all-borders : length (t .borders) ≡ t .header .borders
-      all-borders = borders-held text t (opened text t (sym lines-are)) .0
+      all-borders = borders-held asGiven text t (opened asGiven text t (sym lines-are)) .0
 
       pub twice-refused : (i : ℕ) → some i ≡ firstFrom (length (t .borders)) 0 (twice (t .borders)) → refused (givenTwice i) ≡ readText text
       twice-refused i e = sym (past-lines ∙ first-found _ _ _ _ (sym (rw all-borders at e)))

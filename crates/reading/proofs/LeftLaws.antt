@@ -1,7 +1,8 @@
--- The laws of what `read` leaves (`readLeft`): a text's table with room for it; a table that was read; a refusal, with room for the largest table. No contract cites this file.
+-- The laws of what reading leaves (`tablesLeft`), with or without a correction sheet: a table with room for it; a table that was read; a refusal, with room for the
+-- largest table. `judged` is what the texts come to. No contract cites this file.
 use mathlib.Core.Path.{_≡_, refl, sym, ap, subst, _∙_}
 use mathlib.Core.List.{List}
-use Prim.Native.Nat.{ℕ, _*_, _≤_}
+use Prim.Native.Nat.{_*_, _≤_}
 use native.Mathlib.Omega.{arith}
 use lib.IntN.{ℤ}
 use lib.ListN.{length}
@@ -16,31 +17,31 @@ use Rattle.kinds.specs.Refusals.{Judged, passed, refused}
 use Rattle.kinds.proofs.KindLaws.{header-in, allocated-most}
 use Rattle.kinds.proofs.RefusalLaws.{passed-is, refused-is, not-passed, then-passed, then-next, then-refused, either-passed, either-refused, answer-passed}
 use Rattle.table.specs.Table.{Table, lent, judgeLent}
+use Rattle.table.specs.Good.{Good}
 use Rattle.table.proofs.RoomLaws.{Enough, room-enough, room-passed, factors-most}
 use Rattle.table.proofs.GoodLaws.{over-judged}
 use Rattle.reading.specs.Places.{readSaid}
-use Rattle.reading.specs.Reading.{readText, ReadLeft, readLeft}
-use Rattle.reading.proofs.ReadLaws.{read-good}
+use Rattle.reading.specs.Reading.{ReadLeft, tablesLeft}
 
-module _ (text : List ℕ) (z a : List ℤ) (b c : List (List ℤ)) (f : List ℤ) where
+module _ (judged : Judged Table) (z a : List ℤ) (b c : List (List ℤ)) (f : List ℤ) where
   abbrev leaves : Table → ReadLeft
   leaves t = record { answer = passed (t .header); z = over (t .nets) z; t = over (t .allocated) a; b = over (t .borders) b; c = over (t .rows) c; f = over (t .factors) f }
 
-  pub read-left : (t : Table) → readText text ≡ passed t → Enough (t .header) (length z) (length a) (length b) (length c) (length f) → readLeft text z a b c f ≡ leaves t
-  unfolding readLeft
+  pub read-left : (t : Table) → judged ≡ passed t → Enough (t .header) (length z) (length a) (length b) (length c) (length f) → tablesLeft judged z a b c f ≡ leaves t
+  unfolding tablesLeft
   read-left t e n = either-passed _ _ (then-next _ e ∙ sym (room-enough _ _ _ _ _ _ _ (n .zones) (n .allocated) (n .borders) (n .rows) (n .factors)))
 
   pub record Taken (h : Header) : Type 0 where
     pub it : Table
-    pub read : readText text ≡ passed it
+    pub read : judged ≡ passed it
     pub header : it .header ≡ h
-    pub left : readLeft text z a b c f ≡ leaves it
+    pub left : tablesLeft judged z a b c f ≡ leaves it
 
-  pub read-taken : (h : Header) → readLeft text z a b c f .answer ≡ passed h → Taken h
-  unfolding readLeft
+  pub read-taken : (h : Header) → tablesLeft judged z a b c f .answer ≡ passed h → Taken h
+  unfolding tablesLeft
   read-taken h e =
       let d = answer-passed _ _ _ (λ (l : ReadLeft). l .answer) h (λ w. refl) e in
-      let r = then-passed (readText text) _ (d .0) (d .1) in
+      let r = then-passed judged _ (d .0) (d .1) in
       let n = room-passed _ _ _ _ _ _ _ (d .0) (r .second) in
       let t : r .it ≡ d .0 = passed-is _ _ (n .1) in
       record {
@@ -51,10 +52,11 @@ module _ (text : List ℕ) (z a : List ℤ) (b c : List (List ℤ)) (f : List �
       }
 
   -- ---- as the call says it
-  module _ (r : Read) {z′ a′ : List ℤ} {b′ c′ : List (List ℤ)} {f′ : List ℤ} (said : readSaid r z′ a′ b′ c′ f′ ≡ readLeft text z a b c f) where
+  module _ (r : Read) {z′ a′ : List ℤ} {b′ c′ : List (List ℤ)} {f′ : List ℤ} (said : readSaid r z′ a′ b′ c′ f′ ≡ tablesLeft judged z a b c f)
+      (good : (t : Table) → judged ≡ passed t → Good t) where
     -- a table was read, and the lent tables are judged to be it
     module _ (h : Header) (is : r ≡ read.Table h) where
-      pub answered : readLeft text z a b c f .answer ≡ passed h
+      pub answered : tablesLeft judged z a b c f .answer ≡ passed h
       answered = sym (ap (λ (l : ReadLeft). l .answer) said) ∙ ap (λ (x : Read). saidRead x) is
 
       pub taken : Taken h
@@ -64,14 +66,14 @@ module _ (text : List ℕ) (z a : List ℤ) (b c : List (List ℤ)) (f : List �
       as-read =
           subst (λ (g : Header). judgeLent (lent g z′ a′ b′ c′ f′) ≡ passed (taken .it)) (taken .header)
           (ap (λ (l : ReadLeft). judgeLent (lent (taken .it .header) (l .z) (l .t) (l .b) (l .c) (l .f))) (said ∙ taken .left)
-          ∙ over-judged (taken .it) (read-good text (taken .it) (taken .read)) z a b c f)
+          ∙ over-judged (taken .it) (good (taken .it) (taken .read)) z a b c f)
 
-    -- with room for the largest table a refusal is the text's own
+    -- with room for the largest table a refusal is the texts' own
     module _ (hz : zonesMost ≤ length z) (ha : zonesMost ≤ length a) (hb : bordersMost ≤ length b) (hc : rowsMost ≤ length c) (hf : rowsMost * zonesMost ≤ length f)
         (w : Refusal) (is : r ≡ read.Refused w) where
-      enough : (t : Table) → readText text ≡ passed t → Enough (t .header) (length z) (length a) (length b) (length c) (length f)
+      enough : (t : Table) → judged ≡ passed t → Enough (t .header) (length z) (length a) (length b) (length c) (length f)
       enough t e =
-          let fits = read-good text t e .exact .header in
+          let fits = good t e .exact .header in
           let h = header-in (t .header) fits in
           record {
             zones = omega (arith, h .zones-most);
@@ -81,13 +83,13 @@ module _ (text : List ℕ) (z a : List ℤ) (b c : List (List ℤ)) (f : List �
             factors = omega (arith, factors-most (t .header) fits);
           }
 
-      pub refused-text : readText text ≡ refused w
-      unfolding readLeft
-      refused-text = go (readText text) refl
+      pub refused-text : judged ≡ refused w
+      unfolding tablesLeft
+      refused-text = go judged refl
         where
-          turned : (x : ReadLeft) → readLeft text z a b c f ≡ x → refused w ≡ x .answer
+          turned : (x : ReadLeft) → tablesLeft judged z a b c f ≡ x → refused w ≡ x .answer
           turned x q = ap (λ (y : Read). saidRead y) (sym is) ∙ ap (λ (l : ReadLeft). l .answer) (said ∙ q)
 
-          go : (j : Judged Table) → readText text ≡ j → readText text ≡ refused w
+          go : (j : Judged Table) → judged ≡ j → judged ≡ refused w
           go (passed t) q = absurd (not-passed w (t .header) (turned _ (read-left t q (enough t q))))
           go (refused v) q = q ∙ ap refused (sym (refused-is {A = Header} w v (turned _ (either-refused _ _ (then-refused _ q)))))

@@ -1,5 +1,9 @@
+pub mod Anchors
 pub mod ReadLaws
 pub mod JudgedTextLaws
 pub mod FilledLaws
 pub mod Unique
 pub mod LeftLaws
+pub mod CorrectedLaws
+pub mod EmptySheet
+pub mod OwnLines

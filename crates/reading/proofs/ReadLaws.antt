@@ -12,7 +12,7 @@ use Rattle.kinds.specs.declared.Header.{Header}
 use Rattle.kinds.specs.Limits.{bytesMost}
 use Rattle.kinds.specs.Ranges.{headerFits, isIntraday, allocatedItems, profiled, zoneFits, rowFits, factorFits, atℤ}
 use Rattle.kinds.specs.declared.Refusal.{Refusal}
-use Rattle.kinds.specs.Refusals.{Judged, passed, refused, tooLong, wrongFormAt, wrongForm, outOfRangeAt}
+use Rattle.kinds.specs.Refusals.{Judged, passed, refused, unless, tooLong, wrongFormAt, wrongForm, outOfRangeAt}
 use Rattle.kinds.proofs.RefusalLaws.{passed-is, not-passed, unless-passed, none-passed, then-passed}
 use Rattle.kinds.proofs.KindLaws.{header-in, profiled-fits}
 use Rattle.text.specs.Line.{lineAt, after, Line, holds, form, range}
@@ -22,10 +22,10 @@ use Rattle.block.proofs.RunLaws.{run-fits, fits-at, lines-then}
 use Rattle.table.specs.Table.{Table, stretch, balanced, twice, notTwice, headerLineNo, zoneLineNo, allocatedLineNo, borderLineNo, rowLineNo, pastLineNo}
 use Rattle.table.specs.Good.{Good, Shaped}
 use Rattle.table.proofs.GoodLaws.{row-good, flat-fit}
-use Rattle.lines.specs.Lines.{RowLine, headerLine, zoneLine, allocatedLine, borderLine, rowLine}
-use Rattle.runs.specs.Rows.{valuesOf, factorsOf}
+use Rattle.lines.specs.Lines.{RowLine, headerLine, zoneLine, allocatedLine, borderLine}
+use Rattle.runs.specs.Rows.{valuesOf, factorsOf, asGiven, pickedRow}
 use Rattle.runs.proofs.RowLaws.{emptyRow, values-long, values-at, factors-long, stretch-of}
-use Rattle.reading.specs.Reading.{withHeader, intradayAt, linesOf, readText}
+use Rattle.reading.specs.Reading.{withHeader, intradayAt, rowsFrom, linesBy, linesOf, readText}
 use Rattle.lines.proofs.HeaderTrip.{header-read, header-plain}
 use Rattle.lines.proofs.ZoneTrip.{zone-read}
 use Rattle.lines.proofs.BorderTrip.{BorderHeld, border-read}
@@ -36,8 +36,8 @@ profile-given : (h : Header) (intraday : Bool) → isIntraday (profiled h intrad
 profile-given h true = refl
 profile-given h false = refl
 
--- ---- the chain of H, Z, T, B, C lines and the end of the text, opened
-pub record Opened (text : List ℕ) (t : Table) : Type 0 where
+-- ---- the chain of H, Z, T, B, C lines and the end of the text, opened. All but the rows is the same whichever lines are picked for them (`left`)
+pub record Opened (pick : List ℕ → ℕ → List ℕ) (text : List ℕ) (t : Table) : Type 0 where
   pub lines : List RowLine
   pub p : ℕ
   pub o : ℕ
@@ -50,10 +50,11 @@ pub record Opened (text : List ℕ) (t : Table) : Type 0 where
   pub allocated-are : linesAt allocatedLine (allocatedLineNo (t .header)) (allocatedItems (t .header)) text p 0 ≡ read (t .allocated) o
   pub in-balance : balanced (t .allocated) ≡ true
   pub borders-are : linesAt (borderLine (t .header .zones)) (borderLineNo (t .header)) (t .header .borders) text o 0 ≡ read (t .borders) q
-  pub rows-are : linesAt (rowLine (t .header .zones)) (rowLineNo (t .header)) (t .header .rows) text q 0 ≡ read lines e
+  pub rows-are : linesAt (pickedRow (t .header .zones) pick) (rowLineNo (t .header)) (t .header .rows) text q 0 ≡ read lines e
   pub whole : length text ≤ e
   pub values-are : valuesOf lines ≡ t .rows
   pub factors-are : factorsOf lines ≡ t .factors
+  pub left : (other : List ℕ → ℕ → List ℕ) → linesBy other text ≡ rowsFrom other text (t .header) (t .nets) (t .allocated) (t .borders) q
 
 header-then : {P : Type 0} (t : Table) (l : Line Header) (next : Header → Judged Table) → withHeader l next ≡ passed t → ((h : Header) → l ≡ holds h → next h ≡ passed t → P) → P
 header-then t (holds h) next e k = k h refl e
@@ -61,25 +62,36 @@ header-then t (form byte) next e k = absurd (not-passed (wrongFormAt headerLineN
 header-then t (range byte) next e k = absurd (not-passed (outOfRangeAt headerLineNo byte) t e)
 
 -- a refusal where a test holds, and none was given
-cond-passed : (a b : ℕ) (w : Refusal) (x : Judged Table) (t : Table) → cond (ltb a b) (refused w) x ≡ passed t → (b ≤ a) × (x ≡ passed t)
+pub cond-passed : (a b : ℕ) (w : Refusal) (x : Judged Table) (t : Table) → cond (ltb a b) (refused w) x ≡ passed t → (b ≤ a) × (x ≡ passed t)
 cond-passed a b w x t e = go (ltb a b) refl e
   where
     go : (s : Bool) → ltb a b ≡ s → cond s (refused w) x ≡ passed t → (b ≤ a) × (x ≡ passed t)
     go true q e = absurd (not-passed w t e)
     go false q e = (ltb-false a b q, e)
 
-pub opened : (text : List ℕ) (t : Table) → linesOf text ≡ passed t → Opened text t
-unfolding linesOf
-opened text t e =
+rows-left : (pick : List ℕ → ℕ → List ℕ) (text : List ℕ) (counts : Header) (nets : List ℤ) (p : ℕ) (allocated : List ℤ) (o : ℕ) (borders : List (List ℤ)) (q : ℕ)
+    → let h = profiled counts (intradayAt text p) in
+    headerLine (lineAt text 0) ≡ holds counts
+    → linesAt zoneLine zoneLineNo (counts .zones) text (after text 0) 0 ≡ read nets p
+    → linesAt allocatedLine (allocatedLineNo h) (allocatedItems h) text p 0 ≡ read allocated o
+    → balanced allocated ≡ true
+    → linesAt (borderLine (h .zones)) (borderLineNo h) (h .borders) text o 0 ≡ read borders q
+    → linesBy pick text ≡ rowsFrom pick text h nets allocated borders q
+unfolding linesBy unless
+rows-left pick text counts nets p allocated o borders q eh en ea eb ec = rw (eh, en, ea, eb, ec)
+
+pub opened : (pick : List ℕ → ℕ → List ℕ) (text : List ℕ) (t : Table) → linesBy pick text ≡ passed t → Opened pick text t
+unfolding linesBy
+opened pick text t e =
     header-then t (headerLine (lineAt text 0)) _ e (λ counts header-is e1.
     lines-then t (linesAt zoneLine zoneLineNo (counts .zones) text (after text 0) 0) _ e1 (λ nets p nets-are e2.
     let h = profiled counts (intradayAt text p) in
     lines-then t (linesAt allocatedLine (allocatedLineNo h) (allocatedItems h) text p 0) _ e2 (λ allocated o allocated-are e3.
     let s = unless-passed t _ _ _ e3 in
     lines-then t (linesAt (borderLine (h .zones)) (borderLineNo h) (h .borders) text o 0) _ (s .1) (λ borders q borders-are e4.
-    lines-then t (linesAt (rowLine (h .zones)) (rowLineNo h) (h .rows) text q 0) _ e4 (λ lines e rows-are e5.
+    lines-then t (linesAt (pickedRow (h .zones) pick) (rowLineNo h) (h .rows) text q 0) _ e4 (λ lines e rows-are e5.
     let l = cond-passed e (length text) (wrongForm (pastLineNo h)) _ t e5 in
-    subst (Opened text) (passed-is _ t (l .1))
+    subst (Opened pick text) (passed-is _ t (l .1))
     (record {
       lines = lines;
       p = p;
@@ -97,6 +109,7 @@ opened text t e =
       whole = l .0;
       values-are = refl;
       factors-are = refl;
+      left = λ other. rows-left other text counts nets p allocated o borders q header-is nets-are allocated-are (s .0) borders-are;
     }))))))
 
 pub record Reading (text : List ℕ) (t : Table) : Type 0 where
@@ -114,7 +127,7 @@ reading text t e =
     record { short = a .0; lines = w .first ∙ ap passed u; once = subst (λ (x : Table). (b : ℕ) → b < x .header .borders → twice (x .borders) b ≡ false) u (f .0) }
 
 -- ---- a table that was read is good
-module _ (text : List ℕ) (t : Table) (o : Opened text t) where
+module _ (pick : List ℕ → ℕ → List ℕ) (text : List ℕ) (t : Table) (o : Opened pick text t) where
   pub fits : headerFits (t .header) ≡ true
   fits = o .header-fits
 
@@ -136,7 +149,7 @@ module _ (text : List ℕ) (t : Table) (o : Opened text t) where
 
   pub rows-held : (length (o .lines) ≡ t .header .rows) × allFit (RowHeldAt (t .header .zones)) 0 (o .lines)
   rows-held =
-      run-fits (rowLine (t .header .zones)) (rowLineNo (t .header)) (RowHeldAt (t .header .zones)) (λ line i c e. row-read (t .header .zones) line i c e .1)
+      run-fits (pickedRow (t .header .zones) pick) (rowLineNo (t .header)) (RowHeldAt (t .header .zones)) (λ line i c e. row-read (t .header .zones) (pick line i) i c e .1)
       (t .header .rows) text (o .q) 0 (o .lines) (o .e) (o .rows-are)
 
   border-at : (b : ℕ) → b < t .header .borders → BorderHeld (t .header .zones) (getD (t .borders) b [])
@@ -157,7 +170,7 @@ module _ (text : List ℕ) (t : Table) (o : Opened text t) where
   row-fits : (i : ℕ) → i < t .header .rows → rowFits (getD (t .rows) i []) ≡ true
   row-fits i h = let c = getD (o .lines) i emptyRow in rw (values-is i) (row-good (c .values) (c .factors) (row-at i h .good) .0)
 
-  opened-good : ((b : ℕ) → b < t .header .borders → twice (t .borders) b ≡ false) → Good t
+  pub opened-good : ((b : ℕ) → b < t .header .borders → twice (t .borders) b ≡ false) → Good t
   opened-good once = record {
     exact = record {
       header = fits;
@@ -178,14 +191,14 @@ module _ (text : List ℕ) (t : Table) (o : Opened text t) where
     once = once;
   }
 
-  opened-shaped : Shaped t
+  pub opened-shaped : Shaped t
   opened-shaped = record {
     borders-wide = λ b h. border-at b h .wide;
     rows-wide = λ i h. ap length (values-is i) ∙ row-at i h .wide;
   }
 
 pub read-good : (text : List ℕ) (t : Table) → readText text ≡ passed t → Good t
-read-good text t e = let r = reading text t e in opened-good text t (opened text t (r .lines)) (r .once)
+read-good text t e = let r = reading text t e in opened-good asGiven text t (opened asGiven text t (r .lines)) (r .once)
 
 pub read-shaped : (text : List ℕ) (t : Table) → readText text ≡ passed t → Shaped t
-read-shaped text t e = opened-shaped text t (opened text t (reading text t e .lines))
+read-shaped text t e = opened-shaped asGiven text t (opened asGiven text t (reading text t e .lines))

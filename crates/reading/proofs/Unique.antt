@@ -1,5 +1,5 @@
--- `read` has one answer: no second one, and no second content of a lent table, satisfies its contract.
--- The theorem is about the contract as the check reads it from the source (`reads.Post`), and not about a copy.
+-- `read` and `read_corrected` have one answer each: no second one, and no second content of a lent table, satisfies the contract.
+-- The theorems are about the contracts as the check reads them from the source (`reads.Post`), and not about copies.
 use mathlib.Core.Path.{_≡_, sym, ap, _∙_}
 use mathlib.Core.List.{List}
 use lib.IntN.{ℤ}
@@ -15,6 +15,9 @@ use Rattle.reading.specs.Places.{readSaid}
 use Rattle.reading.proofs.read.{signature}
 use Rattle.reading.proofs.read.Kinds as kinds
 use Rattle.reading.proofs.read.Reads as reads
+use Rattle.reading.proofs.read_corrected as corrected
+use Rattle.reading.proofs.read_corrected.Kinds as corrected-kinds
+use Rattle.reading.proofs.read_corrected.Reads as corrected-reads
 
 -- what is left tells the answer and each table
 left-once : (r r′ : Read) (z z′ t t′ : List ℤ) (b b′ c c′ : List (List ℤ)) (f f′ : List ℤ) (x : ReadLeft) → readSaid r z t b c f ≡ x → readSaid r′ z′ t′ b′ c′ f′ ≡ x
@@ -33,3 +36,13 @@ pub read-once : (κs : Lfts 6) (x : ArgsD signature κs) (r r′ : ResD signatur
     × ((now (s .1 .1 .1 .1 .0) ≡ now (s′ .1 .1 .1 .1 .0))
     × (now (s .1 .1 .1 .1 .1 .0) ≡ now (s′ .1 .1 .1 .1 .1 .0))))))
 read-once κs x r r′ s s′ p q = left-once _ _ _ _ _ _ _ _ _ _ _ _ _ p q
+
+pub read-corrected-once : (κs : Lfts 6) (x : ArgsD corrected.signature κs) (r r′ : ResD corrected.signature κs) (s s′ : AtExit (endedOf 6 corrected-kinds.ps corrected-kinds.r) κs)
+    → corrected-reads.Post κs x r s → corrected-reads.Post κs x r′ s′
+    → (r ≡ r′)
+    × ((now (s .1 .1 .0) ≡ now (s′ .1 .1 .0))
+    × ((now (s .1 .1 .1 .0) ≡ now (s′ .1 .1 .1 .0))
+    × ((now (s .1 .1 .1 .1 .0) ≡ now (s′ .1 .1 .1 .1 .0))
+    × ((now (s .1 .1 .1 .1 .1 .0) ≡ now (s′ .1 .1 .1 .1 .1 .0))
+    × (now (s .1 .1 .1 .1 .1 .1 .0) ≡ now (s′ .1 .1 .1 .1 .1 .1 .0))))))
+read-corrected-once κs x r r′ s s′ p q = left-once _ _ _ _ _ _ _ _ _ _ _ _ _ p q

@@ -1,4 +1,5 @@
--- Reading the table (01, "The table as text", "When the table is turned away"), and what the open call `read` leaves.
+-- Reading the table (01, "The table as text", "When the table is turned away"), with or without a correction sheet (02, E2), and what the open calls `read` and
+-- `read_corrected` leave. Which line is handed on for a row is said by `pick`, of the day's line and the row's index: the day's own (`asGiven`), or by a sheet (`handedOn`).
 use mathlib.Core.Bool.{Bool, cond}
 use mathlib.Core.List.{List}
 use Prim.Native.Char.{code}
@@ -14,8 +15,9 @@ use Rattle.kinds.specs.Refusals.{Judged, passed, refused, then, either, unless,
 use Rattle.text.specs.Line.{lineAt, after, Line, holds, form, range}
 use Rattle.block.specs.Block.{linesAt, withLines}
 use Rattle.table.specs.Table.{Table, lent, balanced, notTwice, tableRoom, headerLineNo, zoneLineNo, allocatedLineNo, lastAllocatedLineNo, borderLineNo, rowLineNo, pastLineNo}
-use Rattle.lines.specs.Lines.{headerLine, zoneLine, allocatedLine, borderLine, rowLine}
-use Rattle.runs.specs.Rows.{valuesOf, factorsOf}
+use Rattle.lines.specs.Lines.{headerLine, zoneLine, allocatedLine, borderLine}
+use Rattle.corrections.specs.Corrections.{pieces, handedOn, judgeSheet}
+use Rattle.runs.specs.Rows.{valuesOf, factorsOf, asGiven, pickedRow}
 
 abbrev pub withHeader : {A : Type 0} → Line Header → (Header → Judged A) → Judged A
 withHeader (holds h) next = next h
@@ -30,33 +32,50 @@ intradayAt text p = eqb (at text p) (code "T")
 abbrev pub balanceByte : (zones : ℕ) → ℕ
 balanceByte zones = cond (leb zones 10) 5 6
 
--- all B and C lines, from place o on; nothing follows
-abbrev pub bordersFrom : (text : List ℕ) → Header → (nets allocated : List ℤ) → (o : ℕ) → Judged Table
-bordersFrom text h nets allocated o =
-    withLines (linesAt (borderLine (h .zones)) (borderLineNo h) (h .borders) text o 0) (λ borders q.
-    withLines (linesAt (rowLine (h .zones)) (rowLineNo h) (h .rows) text q 0) (λ rows e.
+-- all C lines, from place q on; nothing follows
+abbrev pub rowsFrom : (pick : List ℕ → ℕ → List ℕ) → (text : List ℕ) → Header → (nets allocated : List ℤ) → (borders : List (List ℤ)) → (q : ℕ) → Judged Table
+rowsFrom pick text h nets allocated borders q =
+    withLines (linesAt (pickedRow (h .zones) pick) (rowLineNo h) (h .rows) text q 0) (λ rows e.
     cond (ltb e (length text)) (refused (wrongForm (pastLineNo h)))
-    (passed (record { header = h; nets = nets; allocated = allocated; borders = borders; rows = valuesOf rows; factors = factorsOf rows }))))
+    (passed (record { header = h; nets = nets; allocated = allocated; borders = borders; rows = valuesOf rows; factors = factorsOf rows })))
+
+-- .. and before them all B lines, from place o on
+abbrev pub bordersFrom : (pick : List ℕ → ℕ → List ℕ) → (text : List ℕ) → Header → (nets allocated : List ℤ) → (o : ℕ) → Judged Table
+bordersFrom pick text h nets allocated o =
+    withLines (linesAt (borderLine (h .zones)) (borderLineNo h) (h .borders) text o 0) (λ borders q.
+    rowsFrom pick text h nets allocated borders q)
 
 -- .. and before them, from place p on, no T line or one for each zone, whose positions sum to zero: this is judged at the last T line
-abbrev pub allocatedFrom : (text : List ℕ) → Header → (nets : List ℤ) → (p : ℕ) → Judged Table
-allocatedFrom text h nets p =
+abbrev pub allocatedFrom : (pick : List ℕ → ℕ → List ℕ) → (text : List ℕ) → Header → (nets : List ℤ) → (p : ℕ) → Judged Table
+allocatedFrom pick text h nets p =
     withLines (linesAt allocatedLine (allocatedLineNo h) (allocatedItems h) text p 0) (λ allocated o.
     unless (balanced allocated) (outOfRangeAt (lastAllocatedLineNo h) (balanceByte (h .zones)))
-    (bordersFrom text h nets allocated o))
+    (bordersFrom pick text h nets allocated o))
 
 -- one H line, then all Z, T (where they are there), B, C lines, each kind by index from 0; nothing follows
-unfoldable pub linesOf : (text : List ℕ) → Judged Table
-linesOf text =
+unfoldable pub linesBy : (pick : List ℕ → ℕ → List ℕ) → (text : List ℕ) → Judged Table
+linesBy pick text =
     withHeader (headerLine (lineAt text 0)) (λ counts.
     withLines (linesAt zoneLine zoneLineNo (counts .zones) text (after text 0) 0) (λ nets p.
-    allocatedFrom text (profiled counts (intradayAt text p)) nets p))
+    allocatedFrom pick text (profiled counts (intradayAt text p)) nets p))
+
+abbrev pub linesOf : (text : List ℕ) → Judged Table
+linesOf text = linesBy asGiven text
 
 -- reading judges 1, then the lines (2 and 3), then 4
 unfoldable pub readText : (text : List ℕ) → Judged Table
 readText text = cond (ltb bytesMost (length text)) (refused tooLong) (then (linesOf text) notTwice)
 
--- what `read` leaves: its answer, and each lent table
+-- with a correction sheet: 1 of either text, then 2 to 4 of the day's, then 10; and then each row's line is the piece of the sheet that holds it, or else the
+-- piece of the day's text
+unfoldable pub readCorrected : (text sheet : List ℕ) → Judged Table
+readCorrected text sheet =
+    cond (ltb bytesMost (length sheet)) (refused tooLong)
+    (then (readText text) (λ day.
+    then (judgeSheet (day .header .zones) (day .header .rows) sheet) (λ _.
+    linesBy (handedOn (pieces sheet)) text)))
+
+-- what reading leaves: its answer, and each lent table
 pub record ReadLeft : Type 0 where
   pub answer : Judged Header
   pub z : List ℤ
@@ -66,8 +85,15 @@ pub record ReadLeft : Type 0 where
   pub f : List ℤ
 
 -- .. and then 8. A refusal writes nothing; else the table stands in front, and the rest stays as it was
-unfoldable pub readLeft : (text : List ℕ) → (z t : List ℤ) → (b c : List (List ℤ)) → (f : List ℤ) → ReadLeft
-readLeft text z t b c f =
-    either (then (readText text) (λ u. tableRoom (u .header) (lent (u .header) z t b c f) (passed u)))
+unfoldable pub tablesLeft : Judged Table → (z t : List ℤ) → (b c : List (List ℤ)) → (f : List ℤ) → ReadLeft
+tablesLeft judged z t b c f =
+    either (then judged (λ u. tableRoom (u .header) (lent (u .header) z t b c f) (passed u)))
     (λ u. record { answer = passed (u .header); z = over (u .nets) z; t = over (u .allocated) t; b = over (u .borders) b; c = over (u .rows) c; f = over (u .factors) f })
     (λ w. record { answer = refused w; z = z; t = t; b = b; c = c; f = f })
+
+-- the open calls `read` and `read_corrected`
+abbrev pub readLeft : (text : List ℕ) → (z t : List ℤ) → (b c : List (List ℤ)) → (f : List ℤ) → ReadLeft
+readLeft text z t b c f = tablesLeft (readText text) z t b c f
+
+abbrev pub readCorrectedLeft : (text sheet : List ℕ) → (z t : List ℤ) → (b c : List (List ℤ)) → (f : List ℤ) → ReadLeft
+readCorrectedLeft text sheet z t b c f = tablesLeft (readCorrected text sheet) z t b c f

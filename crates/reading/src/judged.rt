@@ -1,7 +1,8 @@
-// Judging a text: 1, then the lines one by one (2 and 3), then 4. The tables to be filled are not lent to any function here.
+// Judging a text: 1, then the lines one by one (2 and 3), then 4; and then a correction sheet (10). The tables to be filled are not lent to any function here.
 use block::End;
 ghost use mathlib.Core.Path.{_≡_};
 ghost use mathlib.Core.Bool.{true};
+ghost use mathlib.Core.List.{[]};
 ghost use Prim.Native.Nat.{_≤_};
 ghost use lib.ListN.{length};
 ghost use Rattle.kinds.specs.Limits.{zonesMost, bordersMost};
@@ -9,10 +10,11 @@ ghost use Rattle.block.specs.Block.{heldBy};
 ghost use Rattle.table.specs.Table.{balanced};
 ghost use Rattle.runs.specs.Runs.{allGood};
 ghost use Rattle.reading.specs.Places.{Headed, Netted, Allocated, allocatedLines, tableIn, placedIn};
-ghost use Rattle.reading.specs.Reading.{intradayAt, balanceByte, linesOf, readText};
+ghost use Rattle.reading.specs.Reading.{intradayAt, balanceByte, linesOf, readText, readCorrected};
 use crate::BYTES_MOST;
 use kinds::BorderRecord;
 use kinds::Header;
+use kinds::Judgement;
 use kinds::Refusal;
 use lines::HeaderLine;
 use numbers::First;
@@ -30,11 +32,32 @@ pub enum TextJudged {
     Refused(Refusal),
 }
 
-// Judges a text. Its borders are read into the front of the memory, since each is compared with those before it.
-pub fn judge_text(text: &[u8], memory: &mut [BorderRecord]) -> TextJudged
+// Judges the day's text and a correction sheet, which is judged against the table that the text has.
+pub fn judge_texts(text: &[u8], sheet: &[u8], memory: &mut [BorderRecord]) -> TextJudged
     requires { ⌜ length (now memory) ≡ bordersMost ⌝ }
-    ensures { λ r. ⌜ tableIn r (now (text .entry)) (now (memory .exit)) ≡ readText (now (text .entry)) ⌝ }
-    ensures { λ r. ⌜ placedIn r (now (text .entry)) ⌝ }
+    ensures { λ r. ⌜ tableIn r (now (text .entry)) (now (sheet .entry)) (now (memory .exit)) ≡ readCorrected (now (text .entry)) (now (sheet .entry)) ⌝ }
+    ensures { λ r. ⌜ placedIn r (now (text .entry)) (now (sheet .entry)) (now (memory .exit)) ⌝ }
+{
+    if BYTES_MOST < sheet.len() {
+        return TextJudged::Refused(Refusal::too_long());
+    }
+    match judge_text(text, memory) {
+        TextJudged::Passed(places) => {
+            let h = places.header;
+            match corrections::judged::sheet_judged(sheet, h.zones, h.rows) {
+                Judgement::Passed => TextJudged::Passed(places),
+                Judgement::Refused(w) => TextJudged::Refused(w),
+            }
+        }
+        TextJudged::Refused(w) => TextJudged::Refused(w),
+    }
+}
+
+// Judges a text. Its borders are read into the front of the memory, since each is compared with those before it.
+fn judge_text(text: &[u8], memory: &mut [BorderRecord]) -> TextJudged
+    requires { ⌜ length (now memory) ≡ bordersMost ⌝ }
+    ensures { λ r. ⌜ tableIn r (now (text .entry)) [] (now (memory .exit)) ≡ readText (now (text .entry)) ⌝ }
+    ensures { λ r. ⌜ placedIn r (now (text .entry)) [] (now (memory .exit)) ⌝ }
 {
     if BYTES_MOST < text.len() {
         return TextJudged::Refused(Refusal::too_long());
@@ -55,8 +78,8 @@ pub fn judge_text(text: &[u8], memory: &mut [BorderRecord]) -> TextJudged
 // The lines one by one, from the H line on.
 fn judge_lines(text: &[u8], memory: &mut [BorderRecord]) -> TextJudged
     requires { ⌜ length (now memory) ≡ bordersMost ⌝ }
-    ensures { λ r. ⌜ tableIn r (now (text .entry)) (now (memory .exit)) ≡ linesOf (now (text .entry)) ⌝ }
-    ensures { λ r. ⌜ placedIn r (now (text .entry)) ⌝ }
+    ensures { λ r. ⌜ tableIn r (now (text .entry)) [] (now (memory .exit)) ≡ linesOf (now (text .entry)) ⌝ }
+    ensures { λ r. ⌜ placedIn r (now (text .entry)) [] (now (memory .exit)) ⌝ }
 {
     let line = text::line::line_at(text, 0);
     match lines::header::header_line(line) {
@@ -76,8 +99,8 @@ fn judge_lines(text: &[u8], memory: &mut [BorderRecord]) -> TextJudged
 fn judge_runs(text: &[u8], counts: Header, at: usize, memory: &mut [BorderRecord]) -> TextJudged
     requires { ⌜ Headed (now text) counts at ⌝ }
     requires { ⌜ length (now memory) ≡ bordersMost ⌝ }
-    ensures { λ r. ⌜ tableIn r (now (text .entry)) (now (memory .exit)) ≡ linesOf (now (text .entry)) ⌝ }
-    ensures { λ r. ⌜ placedIn r (now (text .entry)) ⌝ }
+    ensures { λ r. ⌜ tableIn r (now (text .entry)) [] (now (memory .exit)) ≡ linesOf (now (text .entry)) ⌝ }
+    ensures { λ r. ⌜ placedIn r (now (text .entry)) [] (now (memory .exit)) ⌝ }
 {
     let zones = counts.zones;
     let allocated_at = match runs::zones::zones_judged(b'Z', text, at, table::ZONE_LINE_NO, zones) {
@@ -105,8 +128,8 @@ fn judge_allocated(
 ) -> TextJudged
     requires { ⌜ Netted (now text) h nets at ⌝ }
     requires { ⌜ length (now memory) ≡ bordersMost ⌝ }
-    ensures { λ r. ⌜ tableIn r (now (text .entry)) (now (memory .exit)) ≡ linesOf (now (text .entry)) ⌝ }
-    ensures { λ r. ⌜ placedIn r (now (text .entry)) ⌝ }
+    ensures { λ r. ⌜ tableIn r (now (text .entry)) [] (now (memory .exit)) ≡ linesOf (now (text .entry)) ⌝ }
+    ensures { λ r. ⌜ placedIn r (now (text .entry)) [] (now (memory .exit)) ⌝ }
 {
     let zones = h.zones;
     let items = h.allocated_items();
@@ -158,8 +181,8 @@ fn judge_borders(
 ) -> TextJudged
     requires { ⌜ Allocated (now text) h nets allocated at ⌝ }
     requires { ⌜ length (now memory) ≡ bordersMost ⌝ }
-    ensures { λ r. ⌜ tableIn r (now (text .entry)) (now (memory .exit)) ≡ linesOf (now (text .entry)) ⌝ }
-    ensures { λ r. ⌜ placedIn r (now (text .entry)) ⌝ }
+    ensures { λ r. ⌜ tableIn r (now (text .entry)) [] (now (memory .exit)) ≡ linesOf (now (text .entry)) ⌝ }
+    ensures { λ r. ⌜ placedIn r (now (text .entry)) [] (now (memory .exit)) ⌝ }
 {
     let zones = h.zones;
     let borders = h.borders;

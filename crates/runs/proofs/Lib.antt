@@ -1,3 +1,4 @@
 pub mod StoredLaws
 pub mod RowLaws
 pub mod RowPasses
+pub mod PickedLaws

@@ -16,13 +16,12 @@ use Rattle.text.specs.Line.{lineAt, after, Line, holds, form, range}
 use Rattle.block.specs.Block.{Block, read, fault, more, onLine, linesAt, endOf, heldBy}
 use Rattle.block.proofs.BlockLaws.{no-read, Passed, passed-start, passed-line, passed-more}
 use Rattle.table.proofs.StretchLaws.{stretch-end}
-use Rattle.lines.specs.Lines.{RowLine, row, rowLine}
+use Rattle.lines.specs.Lines.{RowLine, row}
 use Rattle.lines.specs.SaidRow.{judgedOf}
 use Rattle.lines.specs.declared.row.RowJudged.the-variants.{Holds}
 use Rattle.lines.proofs.RowJudge.{RowHolds}
-use Rattle.runs.specs.Rows.{valuesOf, factorsOf}
 use Rattle.runs.specs.Runs.{allGood}
-use Rattle.runs.specs.Rows.{rowsIn}
+use Rattle.runs.specs.Rows.{valuesOf, factorsOf}
 
 -- ---- what one line more leaves as it was
 pub good-more : {A : Type 0} (a : A) (b : Block A) → allGood (more a b) ≡ allGood b
@@ -84,20 +83,26 @@ module _ {A : Type 0} (f ys : List A) (s n : ℕ) (room : s + n ≤ length f) (l
       ∙ ap (λ (l : List A). (take s f ++ l) ++ xs) (take-all n ys (omega arith))
       ∙ append-assoc (take s f) ys xs ∙ e
 
--- ---- the filling pass
-module _ (zones : ℕ) (text : List ℕ) (at count : ℕ) where
+-- ---- the filling pass, over lines of any form that hold rows, each picked for its row
+module _ (judge : (zones : ℕ) → List ℕ → ℕ → Line RowLine) (zones : ℕ) (pick : List ℕ → ℕ → List ℕ) (text : List ℕ) (at count : ℕ) where
+  abbrev picked : (line : List ℕ) → (i : ℕ) → Line RowLine
+  picked line i = judge zones (pick line i) i
+
+  abbrev run : Block RowLine
+  run = linesAt picked 0 count text at 0
+
   -- i rows are in their places, and the lines left, from place p on, hold the others
   pub record RowsFilled (c : List (List ℤ)) (f : List ℤ) (p i : ℕ) : Type 0 where
-    pub passed : Passed (rowLine zones) 0 allGood good-more text at count i p
-    pub sound : allGood (rowsIn zones count text at) ≡ true
+    pub passed : Passed picked 0 allGood good-more text at count i p
+    pub sound : allGood run ≡ true
     pub rows-long : length c ≡ count
     pub factors-long : length f ≡ count * zones
-    pub rows : take i c ++ valuesOf (heldBy (linesAt (rowLine zones) 0 (count - i) text p i)) ≡ valuesOf (heldBy (rowsIn zones count text at))
-    pub factors : take (i * zones) f ++ factorsOf (heldBy (linesAt (rowLine zones) 0 (count - i) text p i)) ≡ factorsOf (heldBy (rowsIn zones count text at))
+    pub rows : take i c ++ valuesOf (heldBy (linesAt picked 0 (count - i) text p i)) ≡ valuesOf (heldBy run)
+    pub factors : take (i * zones) f ++ factorsOf (heldBy (linesAt picked 0 (count - i) text p i)) ≡ factorsOf (heldBy run)
 
-  pub rows-filled-none : (c : List (List ℤ)) (f : List ℤ) → at ≤ length text → length c ≡ count → length f ≡ count * zones → allGood (rowsIn zones count text at) ≡ true → RowsFilled c f at 0
+  pub rows-filled-none : (c : List (List ℤ)) (f : List ℤ) → at ≤ length text → length c ≡ count → length f ≡ count * zones → allGood run ≡ true → RowsFilled c f at 0
   rows-filled-none c f h k l g = record {
-    passed = passed-start (rowLine zones) 0 allGood good-more text at count h;
+    passed = passed-start picked 0 allGood good-more text at count h;
     sound = g;
     rows-long = k;
     factors-long = l;
@@ -106,13 +111,13 @@ module _ (zones : ℕ) (text : List ℕ) (at count : ℕ) where
   }
 
   module _ (c : List (List ℤ)) (f : List ℤ) (p i : ℕ) (u : RowsFilled c f p i) where
-    pub rows-filled-all : count ≤ i → (c ≡ valuesOf (heldBy (rowsIn zones count text at))) × (f ≡ factorsOf (heldBy (rowsIn zones count text at)))
+    pub rows-filled-all : count ≤ i → (c ≡ valuesOf (heldBy run)) × (f ≡ factorsOf (heldBy run))
     unfolding linesAt
     rows-filled-all h =
         let none : count - i ≡ 0 = omega arith in
         let all : i ≡ count = omega (arith, u .passed .high) in
-        let rows = subst (λ (k : ℕ). take i c ++ valuesOf (heldBy (linesAt (rowLine zones) 0 k text p i)) ≡ valuesOf (heldBy (rowsIn zones count text at))) none (u .rows) in
-        let factors = subst (λ (k : ℕ). take (i * zones) f ++ factorsOf (heldBy (linesAt (rowLine zones) 0 k text p i)) ≡ factorsOf (heldBy (rowsIn zones count text at))) none (u .factors) in (
+        let rows = subst (λ (k : ℕ). take i c ++ valuesOf (heldBy (linesAt picked 0 k text p i)) ≡ valuesOf (heldBy run)) none (u .rows) in
+        let factors = subst (λ (k : ℕ). take (i * zones) f ++ factorsOf (heldBy (linesAt picked 0 k text p i)) ≡ factorsOf (heldBy run)) none (u .factors) in (
           sym (take-all i c (omega (arith, u .rows-long))) ∙ sym (append-nil (take i c)) ∙ rows,
           sym (take-all (i * zones) f (omega (arith, u .factors-long, ap (λ (k : ℕ). k * zones) all))) ∙ sym (append-nil (take (i * zones) f)) ∙ factors,
         )
@@ -121,39 +126,39 @@ module _ (zones : ℕ) (text : List ℕ) (at count : ℕ) where
       pub rows-filled-room : i * zones + zones ≤ length f
       rows-filled-room = omega (arith, stretch-end zones count i h, u .factors-long)
 
-      -- the line at p holds a row
-      rows-filled-row : RowHolds (rowLine zones (lineAt text p) i)
-      rows-filled-row = go (rowLine zones (lineAt text p) i) refl
+      -- the line that is picked for row i holds it
+      rows-filled-row : RowHolds (picked (lineAt text p) i)
+      rows-filled-row = go (picked (lineAt text p) i) refl
         where
-          past : (l : Line RowLine) → rowLine zones (lineAt text p) i ≡ l → allGood (onLine l (0 + i) (linesAt (rowLine zones) 0 (count - (i + 1)) text (after text p) (i + 1))) ≡ true
-          past l q = passed-line (rowLine zones) 0 allGood good-more text at count i p (u .passed) h l q ∙ u .sound
+          past : (l : Line RowLine) → picked (lineAt text p) i ≡ l → allGood (onLine l (0 + i) (linesAt picked 0 (count - (i + 1)) text (after text p) (i + 1))) ≡ true
+          past l q = passed-line picked 0 allGood good-more text at count i p (u .passed) h l q ∙ u .sound
 
-          go : (l : Line RowLine) → rowLine zones (lineAt text p) i ≡ l → RowHolds l
+          go : (l : Line RowLine) → picked (lineAt text p) i ≡ l → RowHolds l
           go (holds a) q = record { it = a; is = refl }
           go (form byte) q = absurd (false≢true (past (form byte) q))
           go (range byte) q = absurd (false≢true (past (range byte) q))
 
-      module _ (line : List ℕ) (is : line ≡ lineAt text p) (n : ℕ) (long : n ≡ zones) where
-        line-row : rowLine zones line i ≡ holds (rows-filled-row .it)
-        line-row = ap (λ (l : List ℕ). rowLine zones l i) is ∙ rows-filled-row .is
+      module _ (line : List ℕ) (is : line ≡ pick (lineAt text p) i) (n : ℕ) (long : n ≡ zones) where
+        line-row : judge zones line i ≡ holds (rows-filled-row .it)
+        line-row = ap (λ (l : List ℕ). judge zones l i) is ∙ rows-filled-row .is
 
-        pub rows-filled-holds : judgedOf (rowLine n line i) ≡ Holds
-        rows-filled-holds = ap judgedOf (ap (λ (m : ℕ). rowLine m line i) long ∙ line-row)
+        pub rows-filled-holds : judgedOf (judge n line i) ≡ Holds
+        rows-filled-holds = ap judgedOf (ap (λ (m : ℕ). judge m line i) long ∙ line-row)
 
         -- .. which comes back as its record and its stretch
-        pub rows-filled-more : (r part : List ℤ) → length part ≡ n → rowLine n line i ≡ holds (row r part) → RowsFilled (set c i r) (back f part (i * zones) zones) (p + length line) (i + 1)
+        pub rows-filled-more : (skipped : List ℕ) → skipped ≡ lineAt text p → (r part : List ℤ) → length part ≡ n → judge n line i ≡ holds (row r part) → RowsFilled (set c i r) (back f part (i * zones) zones) (p + length skipped) (i + 1)
         unfolding linesAt
-        rows-filled-more r part kept held =
+        rows-filled-more skipped days r part kept held =
             let b = row r part in
-            let rest = linesAt (rowLine zones) 0 (count - (i + 1)) text (after text p) (i + 1) in
-            let here : rowLine zones (lineAt text p) i ≡ holds b = ap (λ (l : List ℕ). rowLine zones l i) (sym is) ∙ ap (λ (m : ℕ). rowLine m line i) (sym long) ∙ held in
+            let rest = linesAt picked 0 (count - (i + 1)) text (after text p) (i + 1) in
+            let here : picked (lineAt text p) i ≡ holds b = ap (λ (l : List ℕ). judge zones l i) (sym is) ∙ ap (λ (m : ℕ). judge m line i) (sym long) ∙ held in
             let one : count - i ≡ suc (count - (i + 1)) = omega arith in
-            let step = ap (λ (m : ℕ). linesAt (rowLine zones) 0 m text p i) one ∙ ap (λ (l : Line RowLine). onLine l (0 + i) rest) here in
-            let next = passed-more (rowLine zones) 0 allGood good-more text at count i p (u .passed) h b here in
-            let both : heldBy (linesAt (rowLine zones) 0 (count - i) text p i) ≡ b ∷ heldBy rest = ap heldBy step ∙ more-held b rest (next .rest ∙ u .sound) in
+            let step = ap (λ (m : ℕ). linesAt picked 0 m text p i) one ∙ ap (λ (l : Line RowLine). onLine l (0 + i) rest) here in
+            let next = passed-more picked 0 allGood good-more text at count i p (u .passed) h b here in
+            let both : heldBy (linesAt picked 0 (count - i) text p i) ≡ b ∷ heldBy rest = ap heldBy step ∙ more-held b rest (next .rest ∙ u .sound) in
             let wide : length part ≡ zones = kept ∙ long in
             let ends : (i + 1) * zones ≡ i * zones + zones = ap (λ (m : ℕ). m * zones) (add-one i) ∙ suc-mul i zones in
-            subst (λ (l : List ℕ). RowsFilled (set c i r) (back f part (i * zones) zones) (p + length l) (i + 1)) (sym is)
+            subst (λ (l : List ℕ). RowsFilled (set c i r) (back f part (i * zones) zones) (p + length l) (i + 1)) (sym days)
             (record {
               passed = next;
               sound = u .sound;

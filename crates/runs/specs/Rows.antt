@@ -1,7 +1,9 @@
 -- The rows that a run of C lines holds: their raw records and factors, and the run as the filling pass asks for it (01, "The table as text").
+-- Which line is handed on for a row, the day's or another (02, E2), is said by `pick`, of the day's line and the row's index.
 use mathlib.Core.List.{List, [], _∷_, _++_}
 use Prim.Native.Nat.{ℕ}
 use lib.IntN.{ℤ}
+use Rattle.text.specs.Line.{Line}
 use Rattle.block.specs.Block.{Block, linesAt}
 use Rattle.lines.specs.Lines.{RowLine, rowLine}
 
@@ -14,6 +16,14 @@ abbrev pub factorsOf : List RowLine → List ℤ
 factorsOf [] = []
 factorsOf (c ∷ cs) = c .factors ++ factorsOf cs
 
+-- each line is the day's own
+abbrev pub asGiven : (line : List ℕ) → (i : ℕ) → List ℕ
+asGiven line i = line
+
+-- a C line, as the line that is picked for its row
+abbrev pub pickedRow : (zones : ℕ) → (pick : List ℕ → ℕ → List ℕ) → (line : List ℕ) → (i : ℕ) → Line RowLine
+pickedRow zones pick line i = rowLine zones (pick line i) i
+
 -- `count` C lines from place `at` on; their line numbers, which only a refusal tells, count from 0 here
-abbrev pub rowsIn : (zones count : ℕ) → (text : List ℕ) → (at : ℕ) → Block RowLine
-rowsIn zones count text at = linesAt (rowLine zones) 0 count text at 0
+abbrev pub rowsIn : (zones : ℕ) → (pick : List ℕ → ℕ → List ℕ) → (count : ℕ) → (text : List ℕ) → (at : ℕ) → Block RowLine
+rowsIn zones pick count text at = linesAt (pickedRow zones pick) 0 count text at 0

@@ -8,11 +8,12 @@ ghost use mathlib.Core.Bool.{true};
 ghost use Prim.Native.Nat.{_+_, _*_, _^_, _≤_, _<_};
 ghost use lib.ListN.{length};
 ghost use Rattle.kinds.specs.Limits.{zonesMost};
+ghost use Rattle.kinds.specs.Refusals.{passed};
 ghost use Rattle.block.specs.Block.{linesAt, endOf, saidEnd, heldBy};
 ghost use Rattle.lines.specs.Lines.{rowLine};
-ghost use Rattle.runs.specs.Rows.{valuesOf, factorsOf};
+ghost use Rattle.corrections.specs.Corrections.{pieces, handedOn, judgeSheet};
+ghost use Rattle.runs.specs.Rows.{valuesOf, factorsOf, asGiven, rowsIn};
 ghost use Rattle.runs.specs.Runs.{allGood};
-ghost use Rattle.runs.specs.Rows.{rowsIn};
 
 // Judges the C lines from place `at` on, of which the first is line `first` of the text; the first faulty line decides.
 pub fn rows_judged(text: &[u8], at: usize, zones: usize, first: usize, count: usize) -> End
@@ -35,17 +36,29 @@ pub fn rows_judged(text: &[u8], at: usize, zones: usize, first: usize, count: us
     End::At(p)
 }
 
-// Fills in the rows of C lines that were judged before: each row's factors at its own stretch of the lent table.
-pub fn rows_filled(text: &[u8], at: usize, zones: usize, c: &mut [RowRecord], f: &mut [i64])
-    requires { ⌜ (at ≤ length (now text)) × (length (now f) ≡ length (now c) * zones) × (allGood (rowsIn zones (length (now c)) (now text) at) ≡ true) × (0 < zones) × (zones ≤ zonesMost) ⌝ }
-    ensures { λ _. ⌜ now (c .exit) ≡ valuesOf (heldBy (rowsIn zones (length (now (c .entry))) (now (text .entry)) at)) ⌝ }
-    ensures { λ _. ⌜ now (f .exit) ≡ factorsOf (heldBy (rowsIn zones (length (now (c .entry))) (now (text .entry)) at)) ⌝ }
+// Fills in the rows of C lines that were judged before, each from the sheet's line where the sheet has one (02, E2): each row's factors at its own stretch
+// of the lent table. Both texts are walked once, since the sheet's indices rise.
+pub fn rows_filled<'a>(
+    text: &'a [u8],
+    sheet: &'a [u8],
+    at: usize,
+    zones: usize,
+    c: &mut [RowRecord],
+    f: &mut [i64],
+)
+    requires { ⌜ (at ≤ length (now text)) × (length (now f) ≡ length (now c) * zones) × (allGood (rowsIn zones asGiven (length (now c)) (now text) at) ≡ true) × (0 < zones) × (zones ≤ zonesMost) ⌝ }
+    requires { ⌜ judgeSheet zones (length (now c)) (now sheet) ≡ passed tt ⌝ }
+    ensures { λ _. ⌜ now (c .exit) ≡ valuesOf (heldBy (rowsIn zones (handedOn (pieces (now (sheet .entry)))) (length (now (c .entry))) (now (text .entry)) at)) ⌝ }
+    ensures { λ _. ⌜ now (f .exit) ≡ factorsOf (heldBy (rowsIn zones (handedOn (pieces (now (sheet .entry)))) (length (now (c .entry))) (now (text .entry)) at)) ⌝ }
 {
     let mut p = at;
+    let mut s = 0;
     for i in 0..c.len() {
-        let line = text::line::line_at(text, p);
+        let given = text::line::line_at(text, p);
+        let line = corrections::handed::row_line(sheet, s, text, p, i);
         let start = i * zones;
         c[i] = lines::row::row_filled(line, i, &mut f[start..start + zones]);
-        p += line.len();
+        s = corrections::handed::sheet_after(sheet, s, i);
+        p += given.len();
     }
 }

@@ -46,7 +46,7 @@ module _ (t : Table) (lines : List RowLine) where
     borders-lines : linesText (t .header .borders) 0 (λ i. borderText i (getD (t .borders) i [])) ≡ blockText borderText 0 (t .borders)
     borders-lines = rw (← l .borders-long) (lines-block borderText [] (t .borders) 0 _ (λ k h. rw (zero-add k)))
 
-    rows-lines : linesText (t .header .rows) 0 (λ i. rowText i (getD (t .rows) i []) (factorsAt t i)) ≡ blockText rowLineOf 0 lines
+    pub rows-lines : linesText (t .header .rows) 0 (λ i. rowText i (getD (t .rows) i []) (factorsAt t i)) ≡ blockText rowLineOf 0 lines
     rows-lines =
         subst (λ (n : ℕ). linesText n 0 (λ i. rowText i (getD (t .rows) i []) (factorsAt t i)) ≡ blockText rowLineOf 0 lines) (l .lines-long)
         (lines-block rowLineOf emptyRow lines 0 _ (λ k h. rw (zero-add k) (line k h)))

@@ -5,3 +5,5 @@ pub mod LeftLaws
 pub mod RoundTrip
 pub mod TextLaws
 pub mod Unique
+pub mod RewriteLaws
+pub mod Corrected

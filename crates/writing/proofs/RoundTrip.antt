@@ -19,6 +19,7 @@ use Rattle.text.proofs.LeftLaws.{text-left}
 use Rattle.table.specs.Table.{Table, lent, front}
 use Rattle.table.specs.Good.{Good, Shaped}
 use Rattle.table.proofs.GoodLaws.{judged-good, over-judged}
+use Rattle.runs.specs.Rows.{asGiven}
 use Rattle.reading.specs.Reading.{readText, ReadLeft, readLeft}
 use Rattle.reading.proofs.ReadLaws.{opened, reading, read-good}
 use Rattle.reading.proofs.LeftLaws.{read-left, read-taken}
@@ -29,7 +30,7 @@ use Rattle.writing.proofs.LeftLaws.{write-on, write-accepted}
 
 -- a table that was read and is written again gives the same text, byte for byte
 pub read-write : (text : List ℕ) (t : Table) → readText text ≡ passed t → tableText t ≡ text
-read-write text t e = read-text text t (opened text t (reading text t e .lines))
+read-write text t e = read-text text t (opened asGiven text t (reading text t e .lines))
 
 -- refusal 1 is never given of a good table that was written
 pub never-too-long : (t : Table) → Good t → length (tableText t) ≤ bytesMost
@@ -45,7 +46,7 @@ write-read t g s = text-read t g s (never-too-long t g)
 pub read-then-write : (text : List ℕ) (z a : List ℤ) (b c : List (List ℤ)) (f : List ℤ) (h : Header) (out : List ℕ) → let r = readLeft text z a b c f in r .answer ≡ passed h → length text ≤ length out
     → writeLeft (lent h (r .z) (r .t) (r .b) (r .c) (r .f)) out ≡ record { answer = passed (length text); out = over text out }
 read-then-write text z a b c f h out e room =
-    let u = read-taken text z a b c f h e in
+    let u = read-taken (readText text) z a b c f h e in
     let t = u .it in
     let same : tableText t ≡ text = read-write text t (u .read) in
     ap (λ (l : ReadLeft). writeLeft (lent h (l .z) (l .t) (l .b) (l .c) (l .f)) out) (u .left)
@@ -63,4 +64,4 @@ write-then-read given out n z a b c f shaped e hz ha hb hc hf =
     let t = front given in
     let text : take n (writeLeft given out .out) ≡ tableText t = ap (take n) (w .left) ∙ take-at (tableText t) _ n (w .bytes) in
     ap (λ (l : List ℕ). readLeft l z a b c f) text
-    ∙ read-left (tableText t) z a b c f t (write-read t (judged-good given t (w .judged)) shaped) (record { zones = hz; allocated = ha; borders = hb; rows = hc; factors = hf })
+    ∙ read-left (readText (tableText t)) z a b c f t (write-read t (judged-good given t (w .judged)) shaped) (record { zones = hz; allocated = ha; borders = hb; rows = hc; factors = hf })

@@ -28,30 +28,35 @@ use Rattle.table.specs.Good.{Good, Shaped}
 use Rattle.table.proofs.GoodLaws.{good-row, row-fit, stretch-long}
 use Rattle.table.proofs.JudgeLaws.{exact-factors}
 use Rattle.lines.specs.Lines.{RowLine, headerLine, zoneLine, allocatedLine, borderLine, rowLine}
-use Rattle.runs.specs.Rows.{valuesOf, factorsOf}
-use Rattle.reading.specs.Reading.{intradayAt, allocatedFrom, linesOf, readText}
+use Rattle.runs.specs.Rows.{valuesOf, factorsOf, asGiven}
+use Rattle.reading.specs.Reading.{intradayAt, allocatedFrom, linesBy, linesOf, readText}
 use Rattle.lines.proofs.HeaderTrip.{header-read, header-written, header-one}
 use Rattle.lines.proofs.ZoneTrip.{zone-read, zone-written, zone-one}
 use Rattle.lines.proofs.BorderTrip.{BorderHeld, border-read, border-written, border-one}
 use Rattle.lines.proofs.RowTrip.{RowHeld, RowHeldAt, row-read, row-written, row-one}
-use Rattle.runs.proofs.RowLaws.{emptyRow, values-at, cut, cut-long, cut-values, cut-factors, cut-at}
+use Rattle.runs.proofs.RowLaws.{emptyRow, values-long, values-at, cut, cut-long, cut-values, cut-factors, cut-at}
 use Rattle.reading.proofs.ReadLaws.{Opened, nets-held, allocated-held, borders-held, rows-held}
 use Rattle.layout.specs.Layout.{headerText, zoneText, allocatedText, borderText}
-use Rattle.writing.specs.Writing.{tableText}
-use Rattle.writing.proofs.BlockTrip.{rowLineOf, Lined, blocks, text-blocks}
+use Rattle.writing.specs.Writing.{tableText, rowsText}
+use Rattle.writing.proofs.BlockTrip.{rowLineOf, Lined, blocks, rows-lines, text-blocks}
 
 -- ---- what was read
-module _ (text : List ℕ) (t : Table) (o : Opened text t) where
+module _ (text : List ℕ) (t : Table) (o : Opened asGiven text t) where
   read-lined : Lined t (o .lines)
   read-lined = record {
-    nets-long = nets-held text t o .0;
-    allocated-long = allocated-held text t o .0;
-    borders-long = borders-held text t o .0;
-    lines-long = rows-held text t o .0;
+    nets-long = nets-held asGiven text t o .0;
+    allocated-long = allocated-held asGiven text t o .0;
+    borders-long = borders-held asGiven text t o .0;
+    lines-long = rows-held asGiven text t o .0;
     values-are = o .values-are;
     factors-are = o .factors-are;
-    held = rows-held text t o .1;
+    held = rows-held asGiven text t o .1;
   }
+
+  read-rows : drop (o .q) text ≡ blockText rowLineOf 0 (o .lines)
+  read-rows =
+      block-read (rowLine (t .header .zones)) (rowLineNo (t .header)) rowLineOf (λ line i c e. row-read (t .header .zones) line i c e .0) (t .header .rows) text (o .q) 0 (o .lines) (o .e) (o .rows-are) .0
+      ∙ ap (λ (l : List ℕ). blockText rowLineOf 0 (o .lines) ++ l) (drop-of-length-le text (o .whole)) ∙ append-nil _
 
   read-blocks : text ≡ blocks t (o .lines)
   read-blocks =
@@ -59,12 +64,16 @@ module _ (text : List ℕ) (t : Table) (o : Opened text t) where
       let z = block-read zoneLine zoneLineNo zoneText (λ line i net e. zone-read _ line i net e .0) (t .header .zones) text (after text 0) 0 (t .nets) (o .p) (o .nets-are) .0 in
       let a = block-read allocatedLine (allocatedLineNo (t .header)) allocatedText (λ line i net e. zone-read _ line i net e .0) (allocatedItems (t .header)) text (o .p) 0 (t .allocated) (o .o) (o .allocated-are) .0 in
       let b = block-read (borderLine (t .header .zones)) (borderLineNo (t .header)) borderText (λ line i raw e. border-read (t .header .zones) line i raw e .0) (t .header .borders) text (o .o) 0 (t .borders) (o .q) (o .borders-are) .0 in
-      let c = block-read (rowLine (t .header .zones)) (rowLineNo (t .header)) rowLineOf (λ line i c e. row-read (t .header .zones) line i c e .0) (t .header .rows) text (o .q) 0 (o .lines) (o .e) (o .rows-are) .0 in
-      let last : drop (o .e) text ≡ [] = drop-of-length-le text (o .whole) in
-      let d : drop (o .q) text ≡ blockText rowLineOf 0 (o .lines) = c ∙ ap (λ (l : List ℕ). blockText rowLineOf 0 (o .lines) ++ l) last ∙ append-nil _ in
       let first : drop (length (lineOf text)) text ≡ drop (after text 0) text = ap (λ (k : ℕ). drop k text) (sym (zero-add (length (lineOf text)))) in
       line-split text ∙ ap₂ (λ (x y : List ℕ). x ++ y) h (first ∙ z ∙ ap (λ (l : List ℕ). blockText zoneText 0 (t .nets) ++ l)
-      (a ∙ ap (λ (l : List ℕ). blockText allocatedText 0 (t .allocated) ++ l) (b ∙ ap (λ (l : List ℕ). blockText borderText 0 (t .borders) ++ l) d)))
+      (a ∙ ap (λ (l : List ℕ). blockText allocatedText 0 (t .allocated) ++ l) (b ∙ ap (λ (l : List ℕ). blockText borderText 0 (t .borders) ++ l) read-rows)))
+
+  -- its C lines are the text of its rows
+  pub rows-text : rowsText (t .header .zones) (t .rows) (t .factors) ≡ drop (o .q) text
+  rows-text = rw (rows-many) (rows-lines t (o .lines) read-lined) ∙ sym read-rows
+    where
+      rows-many : length (t .rows) ≡ t .header .rows
+      rows-many = ap length (sym (o .values-are)) ∙ values-long (o .lines) ∙ rows-held asGiven text t o .0
 
   pub read-text : tableText t ≡ text
   read-text = text-blocks t (o .lines) read-lined ∙ sym read-blocks
@@ -190,7 +199,7 @@ module _ (t : Table) (g : Good t) (s : Shaped t) where
         ∙ profile-kept (t .header) (g .exact .header)
 
     blocks-read : linesOf text ≡ passed t
-    unfolding linesOf
+    unfolding linesBy
     blocks-read =
         let h = t .header in
         let done : List RowLine → ℕ → Judged Table = λ rows e.
@@ -199,7 +208,7 @@ module _ (t : Table) (g : Good t) (s : Shaped t) where
         rw first
         (lines-goes zoneLine zoneLineNo zoneText ZoneFits (λ i net f. zone-written _ i net (f .0) (f .1)) (λ i net r. zone-one _ i net refl r)
         _ (passed t) (t .nets) (h .zones) text (after text 0) _ (g .exact .nets-long) past-first zones-fit (λ p h0.
-        subst (λ (k : Header). allocatedFrom text k (t .nets) p ≡ passed t) (sym (seen p h0))
+        subst (λ (k : Header). allocatedFrom asGiven text k (t .nets) p ≡ passed t) (sym (seen p h0))
         (lines-goes allocatedLine (allocatedLineNo h) allocatedText ZoneFits (λ i net f. zone-written _ i net (f .0) (f .1)) (λ i net r. zone-one _ i net refl r)
         _ (passed t) (t .allocated) (allocatedItems h) text p (blockText borderText 0 (t .borders) ++ blockText rowLineOf 0 lines) (g .exact .allocated-long) h0 allocated-fit (λ o h1.
         unless-ok _ _ (g .in-balance)

@@ -1,4 +1,4 @@
--- Writing the table (01, "The table as text"), and what the open call `write` leaves.
+-- Writing the table (01, "The table as text"), and what the open calls `write` and `rewrite_corrected` leave.
 use mathlib.Core.List.{List, [], _++_}
 use Prim.Native.Char.{code}
 use Prim.Native.Nat.{ℕ}
@@ -9,6 +9,7 @@ use Rattle.kinds.specs.Refusals.{passed, then}
 use Rattle.text.specs.Left.{TextLeft, textLeft}
 use Rattle.text.specs.Written.{linesText}
 use Rattle.table.specs.Table.{Table, factorsAt, stretch, judgeLent}
+use Rattle.reading.specs.Reading.{readCorrected}
 use Rattle.layout.specs.Layout.{headerText, positionText, zoneText, allocatedText, borderText, rowText}
 
 unfoldable pub tableText : Table → List ℕ
@@ -22,6 +23,10 @@ tableText t =
 -- the open call `write`
 unfoldable pub writeLeft : (lent : Table) → (out : List ℕ) → TextLeft
 writeLeft lent out = textLeft (then (judgeLent lent) (λ t. passed (tableText t))) out
+
+-- the open call `rewrite_corrected` (02, E2): the merged table's text
+unfoldable pub rewriteCorrectedLeft : (text sheet out : List ℕ) → TextLeft
+rewriteCorrectedLeft text sheet out = textLeft (then (readCorrected text sheet) (λ t. passed (tableText t))) out
 
 -- the lines of each kind, by the lent records
 abbrev pub positionTextAt : (letter : ℕ) → (nets : List ℤ) → (i : ℕ) → List ℕ

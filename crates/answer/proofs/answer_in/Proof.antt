@@ -1,4 +1,4 @@
--- `answer::answer_in` meets its contract: a refusal of the text is written as it is told (`read-refused`), and a table that was read is the text's own (`read-printed`).
+-- `answer::answer_in` meets its contract: a refusal of the texts is written as it is told (`read-refused`), and a table that was read is the merged one (`read-printed`).
 use mathlib.Core.Path.{ap, _∙_}
 use mathlib.Core.List.{List}
 use Prim.Native.Nat.{ℕ}
@@ -6,16 +6,16 @@ use native.Mathlib.Omega.{arith}
 use borrow.Author.Needs.{needs}
 use Rattle.kinds.specs.Refusals.{passed}
 use Rattle.text.specs.Left.{textLeft}
-use Rattle.answer.specs.Result.{answerForLeft}
+use Rattle.answer.specs.Result.{answerWithLeft}
 use Rattle.answer.proofs.ReadLaws.{read-refused, read-printed}
 use Rattle.answer.proofs.answer_in.Statement.{statement}
 use Rattle.answer.proofs.answer_in.Tie as tie
 
-abbrev entry : tie.After-read → tie.Start
-entry c = c .before .before .before .before .before .before .before .before .before
+abbrev entry : tie.After-read-corrected → tie.Start
+entry c = c .before .before .before .before .before .before .before .before .before .before
 
 returns : tie.Need-returns
-unfolding answerForLeft
+unfolding answerWithLeft
 returns c =
     let told = c .before .before .before .before .before .before .before .before .before .before in
     let called = told .before .before .before .before .before .before .before in
@@ -23,12 +23,12 @@ returns c =
     let a = s .args in
     let answered = c .before .before .answer-lent .ensures in (
       answered .0
-          ∙ ap (λ (text : List ℕ). textLeft (passed text) (a .out .now)) (read-printed (a .all) (a .marks .now) (a .text .now) (a .z .now) (a .t .now) (a .b .now) (a .c .now) (a .f .now) _ (called .read .ensures) _ (told .h .given .1)),
+          ∙ ap (λ (text : List ℕ). textLeft (passed text) (a .out .now)) (read-printed (a .all) (a .marks .now) (a .text .now) (a .sheet .now) (a .z .now) (a .t .now) (a .b .now) (a .c .now) (a .f .now) _ (called .read-corrected .ensures) _ (told .h .given .1)),
       answered .1,
     )
 
 returns-2 : tie.Need-returns-2
-unfolding answerForLeft
+unfolding answerWithLeft
 returns-2 c =
     let told = c .before .before .before .before .before in
     let called = told .before .before .before .before .before .before .before in
@@ -37,7 +37,7 @@ returns-2 c =
     let p = s .pre in
     let answered = c .before .before .write-refusal .ensures in (
       answered .0
-          ∙ ap (λ (text : List ℕ). textLeft (passed text) (a .out .now)) (read-refused (a .all) (a .marks .now) (a .text .now) (a .z .now) (a .t .now) (a .b .now) (a .c .now) (a .f .now) _ (called .read .ensures) (p .0) (p .1) (p .2) (p .3) (p .4) _ (told .w .given .1)),
+          ∙ ap (λ (text : List ℕ). textLeft (passed text) (a .out .now)) (read-refused (a .all) (a .marks .now) (a .text .now) (a .sheet .now) (a .z .now) (a .t .now) (a .b .now) (a .c .now) (a .f .now) _ (called .read-corrected .ensures) (p .0) (p .1) (p .2) (p .3) (p .4) _ (told .w .given .1)),
       omega (arith, answered .1),
     )
 

@@ -13,6 +13,7 @@ use Rattle.table.specs.Good.{Exact}
 use Rattle.table.proofs.RoomLaws.{Enough, factors-most, room-passed}
 use Rattle.table.proofs.JudgeLaws.{shape-ruled, front-exact}
 use Rattle.reading.proofs.FilledLaws.{room-refused, front-filled}
+use Rattle.reading.proofs.CorrectedLaws.{corrected-good}
 use Rattle.reading.proofs.read_judged.Statement.{statement}
 use Rattle.reading.proofs.read_judged.Tie as tie
 
@@ -21,15 +22,15 @@ given s = lent (s .args .places .header) (s .args .z .now) (s .args .t .now) (s 
 
 -- past the lengths: the front parts are as long as the header says, and so is the borders' part of the memory
 room : (c : tie.After-enum-told)
-    → let a = c .before .before .before .before .before .args in
+    → let a = c .before .before .before .before .before .before .args in
     Enough (a .places .header) (length (a .z .now)) (length (a .t .now)) (length (a .b .now)) (length (a .c .now)) (length (a .f .now))
 room c =
-    let h = c .before .before .before .before .before .args .places .header in
+    let h = c .before .before .before .before .before .before .args .places .header in
     room-passed h _ _ _ _ _ (passed h) h (sym (c .before .before .judge-room .ensures) ∙ ap (λ (j : Judgement). ruled j h) (c .enum-told .given .1)) .0
 
-exact : (c : tie.After-enum-told) → Exact (front (given (c .before .before .before .before .before)))
+exact : (c : tie.After-enum-told) → Exact (front (given (c .before .before .before .before .before .before)))
 exact c =
-    let start = c .before .before .before .before .before in
+    let start = c .before .before .before .before .before .before in
     let r = c .before .before .judge-room in
     front-exact (given start) (r .result) (shape-ruled (given start) (start .pre .0 .header-fits) (r .result) (r .ensures)) (c .enum-told .given .1)
 
@@ -37,10 +38,10 @@ memory-long : (c : tie.Start) → length (take (c .args .places .header .borders
 memory-long c = length-take-le _ (c .args .memory .now) (omega (arith, header-in _ (c .pre .0 .header-fits), c .pre .1 .0))
 
 returns : tie.Need-returns
-returns c = room-refused _ _ _ _ _ _ _ (c .before .before .before .before .before .before .pre .1 .1) _ (c .before .before .before .judge-room .ensures) _ (c .before .w .given .1)
+returns c = room-refused _ _ _ _ _ _ _ (c .before .before .before .before .before .before .before .pre .1 .1) _ (c .before .before .before .judge-room .ensures) _ (c .before .w .given .1)
 
 slice-aggregate-fill : tie.Need-slice-aggregate-fill
-slice-aggregate-fill c = sym (memory-long (c .before .before .before .before .before .before .before))
+slice-aggregate-fill c = sym (memory-long (c .before .before .before .before .before .before .before .before))
 
 slice-relend-prefix-fill : tie.Need-slice-relend-prefix-fill
 slice-relend-prefix-fill c = room (c .before .before) .zones
@@ -67,7 +68,7 @@ slice-aggregate-fill-5 : tie.Need-slice-aggregate-fill-5
 slice-aggregate-fill-5 c = sym (exact (c .before .before .before .before .before .before) .rows-long)
 
 mul-fill : tie.Need-mul-fill
-mul-fill c = omega (arith, factors-most _ (c .before .before .before .before .before .before .before .before .before .before .before .pre .0 .header-fits))
+mul-fill c = omega (arith, factors-most _ (c .before .before .before .before .before .before .before .before .before .before .before .before .pre .0 .header-fits))
 
 slice-relend-prefix-fill-5 : tie.Need-slice-relend-prefix-fill-5
 slice-relend-prefix-fill-5 c = room (c .before .before .before .before .before .before) .factors
@@ -77,7 +78,7 @@ slice-aggregate-fill-6 c = sym (exact (c .before .before .before .before .before
 
 fill-requires : tie.Need-fill-requires
 fill-requires c κs =
-    let start = c .before .before .before .before .before .before .before .before .before .before .before .before in
+    let start = c .before .before .before .before .before .before .before .before .before .before .before .before .before in
     let e = exact (c .before .before .before .before .before .before .before) in
     let items = c .before .before .before .before .before .before .allocated-items .ensures in
     (start .pre .0, (memory-long start ∙ sym (e .borders-long), rw items e))
@@ -86,7 +87,7 @@ returns-2 : tie.Need-returns-2
 returns-2 c =
     let told = c .before .before .before .before .before .before .before .before .before .before .before .before .before in
     let items = c .before .before .before .before .before .before .before .before .before .before .before .before .allocated-items .ensures in
-    rw items (front-filled _ _ _ _ _ _ _ (c .before .before .before .before .before .before .before .before .before .before .before .before .before .before .before .before .before .before .pre .1 .1) _ (told .before .before .judge-room .ensures) (told .enum-told .given .1) _ _ _ _ _ (c .before .before .before .before .before .fill .ensures))
+    rw items (front-filled _ _ _ _ _ _ _ (c .before .before .before .before .before .before .before .before .before .before .before .before .before .before .before .before .before .before .before .pre .1 .1) _ (told .before .before .judge-room .ensures) (corrected-good _ _ _ (sym (c .before .before .before .before .before .before .before .before .before .before .before .before .before .before .before .before .before .before .before .pre .1 .1))) (told .enum-told .given .1) _ _ _ _ _ (c .before .before .before .before .before .fill .ensures))
 
 pub read-judged-spec : {M : Type 1} → statement M
 read-judged-spec =

@@ -83,7 +83,7 @@ returns-4 c =
     let u = c .before .before .before .before .before .before .before .before .before .before .before .before .before .pre .0 in
     let borders = borders-are (c .before .before .before .before .before) in
     let rows = rows-end (c .before) in
-    (lines-pass u borders rows _ (c .if1 .left), lines-placed u borders rows)
+    (lines-pass u borders rows _ (c .if1 .left), lines-placed u borders rows _)
 
 pub judge-borders-spec : {M : Type 1} → statement M
 judge-borders-spec =

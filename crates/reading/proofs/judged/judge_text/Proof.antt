@@ -1,7 +1,8 @@
 -- `reading::judged::judge_text` meets its contract: the length decides, then the lines, then borders given twice.
 use mathlib.Core.Path.{_≡_, sym, ap, subst, _∙_}
+use mathlib.Core.List.{[]}
 use native.Mathlib.Omega.{arith}
-use lib.ListN.{length}
+use lib.ListN.{length, take}
 use lib.Seq.{length-take-le}
 use Rattle.kinds.specs.Limits.{bordersMost}
 use Rattle.kinds.specs.Refusals.{refused}
@@ -26,15 +27,17 @@ abbrev at-judge-lines : tie.After-known-told → tie.After-judge-lines
 at-judge-lines c = c .before .before .before .before
 
 -- the lines were judged good: where they stand, and the table that they make
-placed : (c : tie.After-known-told) → Placed (c .before .places .given .0 .0) (entry c .args .text .now)
-placed c = subst (λ (r : TextJudged). placedIn r (entry c .args .text .now)) (c .before .places .given .1) (at-judge-lines c .judge-lines .ensures .1)
+placed : (c : tie.After-known-told)
+    → let p = c .before .places .given .0 .0 in
+    Placed p (entry c .args .text .now) [] (take (p .header .borders) (at-judge-lines c .judge-lines .last .1 .0))
+placed c = subst (λ (r : TextJudged). placedIn r (entry c .args .text .now) [] (at-judge-lines c .judge-lines .last .1 .0)) (c .before .places .given .1) (at-judge-lines c .judge-lines .ensures .1)
 
 lines-are : (c : tie.After-known-told)
     → let text = entry c .args .text .now in
-    tableIn (Passed (c .before .places .given .0 .0)) text (at-judge-lines c .judge-lines .last .1 .0) ≡ linesOf text
+    tableIn (Passed (c .before .places .given .0 .0)) text [] (at-judge-lines c .judge-lines .last .1 .0) ≡ linesOf text
 lines-are c =
     let text = entry c .args .text .now in
-    sym (ap (λ (r : TextJudged). tableIn r text (at-judge-lines c .judge-lines .last .1 .0)) (c .before .places .given .1)) ∙ at-judge-lines c .judge-lines .ensures .0
+    sym (ap (λ (r : TextJudged). tableIn r text [] (at-judge-lines c .judge-lines .last .1 .0)) (c .before .places .given .1)) ∙ at-judge-lines c .judge-lines .ensures .0
 
 -- the memory is as long as it was
 memory-long : (c : tie.After-known-told) → length (at-judge-lines c .judge-lines .last .1 .0) ≡ bordersMost
@@ -56,7 +59,7 @@ returns-3 : tie.Need-returns-3
 returns-3 c = (text-passes _ (c .before .before .before .before .before .before .before .before .before .before .before .if1 .left) _ (lines-are (c .before .before .before .before .before)) (sym (ap found (c .enum-told .given .1)) ∙ c .before .before .first-twice .ensures), placed (c .before .before .before .before .before))
 
 returns-4 : tie.Need-returns-4
-returns-4 c = (lines-refused _ (c .before .before .before .before .before .before .if1 .left) _ (sym (ap (λ (r : TextJudged). tableIn r (entry-from-judge-lines (c .before .before .before) .args .text .now) (c .before .before .before .before .judge-lines .last .1 .0)) (c .before .w .given .1)) ∙ c .before .before .before .before .judge-lines .ensures .0), tt)
+returns-4 c = (lines-refused _ (c .before .before .before .before .before .before .if1 .left) _ (sym (ap (λ (r : TextJudged). tableIn r (entry-from-judge-lines (c .before .before .before) .args .text .now) [] (c .before .before .before .before .judge-lines .last .1 .0)) (c .before .w .given .1)) ∙ c .before .before .before .before .judge-lines .ensures .0), tt)
 
 pub judge-text-spec : {M : Type 1} → statement M
 judge-text-spec =

@@ -1,0 +1,5 @@
+pub mod Anchors
+pub mod PieceLaws
+pub mod SheetLaws
+pub mod JudgedLaws
+pub mod WalkLaws

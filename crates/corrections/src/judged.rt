@@ -1,0 +1,72 @@
+// Judging a correction sheet: its lines one by one, against the table that the day's text has.
+use kinds::Judgement;
+use kinds::Refusal;
+use lines::row::RowJudged;
+use text::Number;
+ghost use mathlib.Core.Path.{_≡_};
+ghost use Prim.Native.Nat.{_≤_, _<_};
+ghost use Rattle.kinds.specs.Answers.{ruled};
+ghost use Rattle.kinds.specs.Limits.{zonesMost};
+ghost use Rattle.corrections.specs.Corrections.{endedIndex, givenIndex, dueIndex, judgeSheet};
+
+// The first faulty line decides (10), with its byte.
+pub fn sheet_judged(sheet: &[u8], zones: usize, rows: usize) -> Judgement
+    requires { ⌜ (0 < zones) × (zones ≤ zonesMost) ⌝ }
+    ensures { λ r. ⌜ ruled r tt ≡ judgeSheet zones rows (now (sheet .entry)) ⌝ }
+{
+    let mut s = 0;
+    let mut least = 0;
+    let mut number = 1;
+    while s < sheet.len() {
+        let line = text::line::line_at(sheet, s);
+        let i = due_index(line, rows, least);
+        match lines::row::row_judged(zones, line, i) {
+            RowJudged::Holds => {}
+            RowJudged::Form(byte) => return Judgement::Refused(Refusal::wrong_correction(
+                number,
+                byte,
+            )),
+            RowJudged::Range(byte) => return Judgement::Refused(Refusal::wrong_correction(
+                number,
+                byte,
+            )),
+        }
+        least = i + 1;
+        number += 1;
+        s += line.len();
+    }
+    Judgement::Passed
+}
+
+// The index that is due in a line: its own, where this is a row's from `least` on; else another, so that the index is what is wrong with the line.
+fn due_index(line: &[u8], rows: usize, least: usize) -> usize
+    ensures { λ r. ⌜ r ≡ dueIndex rows least (now (line .entry)) ⌝ }
+{
+    let given = given_index(line);
+    if given < least {
+        return given + 1;
+    }
+    if given < rows {
+        return given;
+    }
+    given + 1
+}
+
+// The index that a line gives itself, before a tab or else before an LF; 0 where it gives none.
+fn given_index(line: &[u8]) -> usize
+    ensures { λ r. ⌜ r ≡ givenIndex (now (line .entry)) ⌝ }
+{
+    match text::field::number_at(line, 2, b'\t') {
+        Number::Value(index, _) => index as usize,
+        Number::Bad(_) => ended_index(line),
+    }
+}
+
+fn ended_index(line: &[u8]) -> usize
+    ensures { λ r. ⌜ r ≡ endedIndex (now (line .entry)) ⌝ }
+{
+    match text::field::number_at(line, 2, b'\n') {
+        Number::Value(index, _) => index as usize,
+        Number::Bad(_) => 0,
+    }
+}
