@@ -9,7 +9,7 @@
  * A request: its words (struct request), then the lent buffers.  The words are the
  * call, its header (zones, borders, rows, share, intraday) and its row (each 0 where
  * the call takes none), and the counts of items of z, t, b, c, f, p, marks, atc,
- * left, flows, text, sheet and out (0 where the call does not take
+ * left, flows, claims, text, sheet and out (0 where the call does not take
  * that buffer).  The buffers that the call takes follow in this order, each with
  * BEFORE items before the lent part and AFTER items after it.
  *
@@ -33,16 +33,18 @@ enum { BEFORE = 2, AFTER = 3 };
 enum {
     READ = 1, WRITE, EXTRACT, RESULT_TEXT, ANSWER, CORNER_FLOWS, CORNER_TEXT,
     EXTRACT_MARKED, RESULT_TEXT_MARKED, ANSWER_MARKED,
-    READ_CORRECTED, ANSWER_CORRECTED, REWRITE_CORRECTED, CALLS
+    READ_CORRECTED, ANSWER_CORRECTED, REWRITE_CORRECTED,
+    JUDGE_CLAIMS, PUBLISHED_TEXT, CALLS
 };
 
 /* Buffers of numbers stand before buffers of bytes, so each is aligned. */
-enum { Z, T, B, C, F, P, MARKS, ATC, LEFT, FLOWS, TEXT, SHEET, OUT, BUFFERS };
+enum { Z, T, B, C, F, P, MARKS, ATC, LEFT, FLOWS, CLAIMS, TEXT, SHEET, OUT, BUFFERS };
 
 typedef int64_t border_record[KERAVNOTH_B_ITEMS];
 typedef int64_t row_record[KERAVNOTH_C_ITEMS];
 typedef int64_t atc_record[KERAVNOTH_ATC_ITEMS];
 typedef int64_t left_record[KERAVNOTH_LEFT_ITEMS];
+typedef int64_t claim_record[KERAVNOTH_CLAIM_ITEMS];
 
 static const size_t item_bytes[BUFFERS] = {
     [Z] = sizeof(int64_t),
@@ -55,6 +57,7 @@ static const size_t item_bytes[BUFFERS] = {
     [ATC] = sizeof(atc_record),
     [LEFT] = sizeof(left_record),
     [FLOWS] = sizeof(int64_t),
+    [CLAIMS] = sizeof(claim_record),
     [TEXT] = 1,
     [SHEET] = 1,
     [OUT] = 1,
@@ -75,6 +78,8 @@ static const unsigned char takes[CALLS][BUFFERS] = {
     [READ_CORRECTED] = {[Z] = 1, [T] = 1, [B] = 1, [C] = 1, [F] = 1, [TEXT] = 1, [SHEET] = 1},
     [ANSWER_CORRECTED] = {[TEXT] = 1, [SHEET] = 1, [OUT] = 1},
     [REWRITE_CORRECTED] = {[TEXT] = 1, [SHEET] = 1, [OUT] = 1},
+    [JUDGE_CLAIMS] = {[Z] = 1, [T] = 1, [B] = 1, [C] = 1, [F] = 1, [CLAIMS] = 1},
+    [PUBLISHED_TEXT] = {[Z] = 1, [T] = 1, [B] = 1, [C] = 1, [F] = 1, [SHEET] = 1, [OUT] = 1},
 };
 
 /* The most bytes that the buffers of a request may have, guards included. */
@@ -162,6 +167,16 @@ static size_t make(const struct request *r, unsigned char *const *at, uint64_t *
         answer[3] = said.corners;
         return 4;
     }
+    if (r->call == JUDGE_CLAIMS) {
+        struct KeravnothJudged said = keravnoth_claims(
+            HEADER(r),
+            z, nz, t, nt, (const border_record *)b, nb, (const row_record *)c, nc, f, nf,
+            (const claim_record *)at[CLAIMS], r->count[CLAIMS]);
+        answer[0] = said.number;
+        answer[1] = said.place;
+        answer[2] = said.byte;
+        return 3;
+    }
     struct KeravnothWritten said;
     if (r->call == WRITE)
         said = keravnoth_write(
@@ -192,6 +207,11 @@ static size_t make(const struct request *r, unsigned char *const *at, uint64_t *
     else if (r->call == REWRITE_CORRECTED)
         said = keravnoth_rewrite_corrected(
             at[TEXT], r->count[TEXT], at[SHEET], r->count[SHEET], at[OUT], r->count[OUT]);
+    else if (r->call == PUBLISHED_TEXT)
+        said = keravnoth_published_text(
+            HEADER(r),
+            z, nz, t, nt, (const border_record *)b, nb, (const row_record *)c, nc, f, nf,
+            at[SHEET], r->count[SHEET], at[OUT], r->count[OUT]);
     else
         said = keravnoth_answer(at[TEXT], r->count[TEXT], at[OUT], r->count[OUT]);
     answer[0] = said.number;

@@ -20,7 +20,7 @@
 #include <stdio.h>
 #include <string.h>
 
-enum { CALLS = 13, THREADS = 4, TURNS = 8, KIB = 1024, SPARE = 256 };
+enum { CALLS = 15, THREADS = 4, TURNS = 8, KIB = 1024, SPARE = 256 };
 
 /* Everything that the calls are lent, once a thread. */
 struct room {
@@ -36,6 +36,7 @@ struct room {
     int64_t atc[KERAVNOTH_BORDERS_MOST][KERAVNOTH_ATC_ITEMS];
     int64_t left[KERAVNOTH_ROWS_MOST][KERAVNOTH_LEFT_ITEMS];
     int64_t flows[KERAVNOTH_CORNERS_MOST];
+    int64_t claims[KERAVNOTH_ROWS_MOST][KERAVNOTH_CLAIM_ITEMS];
     uint8_t text[KERAVNOTH_TEXT_MOST + 1];
     uint8_t out[KERAVNOTH_CORNER_TEXT_MOST];
 };
@@ -148,6 +149,25 @@ static void corner_text(struct room *r)
     keravnoth_corner_text(TABLE(r), r->row, r->out, KERAVNOTH_CORNER_TEXT_MOST);
 }
 
+/* A claim on each row: the first that is kept is not borne out, since it cites none. */
+static void claims(struct room *r)
+{
+    for (size_t row = 0; row < r->table.rows; row++) {
+        r->claims[row][KERAVNOTH_CLAIM_ROW] = (int64_t)row;
+        r->claims[row][KERAVNOTH_CLAIM_D] = 1;
+    }
+    keravnoth_claims(
+        TABLE(r), (const int64_t (*)[KERAVNOTH_CLAIM_ITEMS])r->claims, r->table.rows);
+}
+
+static void published_text(struct room *r)
+{
+    static const uint8_t list[] = "Q\t0\t1\t1\t1\n";
+    keravnoth_published_text(TABLE(r), list, 0, r->out, KERAVNOTH_PUBLISHED_TEXT_MOST);
+    keravnoth_published_text(
+        TABLE(r), list, sizeof list - 1, r->out, KERAVNOTH_PUBLISHED_TEXT_MOST);
+}
+
 static const struct {
     const char *name;
     void (*make)(struct room *);
@@ -166,6 +186,8 @@ static const struct {
     {"answer_corrected", answer_corrected, KERAVNOTH_ANSWER_CORRECTED_STACK},
     {"corner_flows", corner_flows, KERAVNOTH_CORNER_FLOWS_STACK},
     {"corner_text", corner_text, KERAVNOTH_CORNER_TEXT_STACK},
+    {"claims", claims, KERAVNOTH_CLAIMS_STACK},
+    {"published_text", published_text, KERAVNOTH_PUBLISHED_TEXT_STACK},
 };
 
 static int load(struct room *r, const char *name)
@@ -292,6 +314,12 @@ static int check_null(const char *name)
     same &= SAME(
         keravnoth_corner_text(TABLE(r), 0, NULL, 0),
         keravnoth_corner_text(TABLE(r), 0, r->out, 0));
+    same &= SAME(
+        keravnoth_claims(TABLE(r), NULL, 0),
+        keravnoth_claims(TABLE(r), (const int64_t (*)[KERAVNOTH_CLAIM_ITEMS])r->claims, 0));
+    same &= SAME(
+        keravnoth_published_text(TABLE(r), NULL, 0, NULL, 0),
+        keravnoth_published_text(TABLE(r), r->text, 0, r->out, 0));
     puts(same ? "NULL with count 0 answers as count 0" : "NULL with count 0 answers otherwise");
     return same ? 0 : 1;
 }

@@ -106,6 +106,28 @@ C 2 200000 20000 -20000 0 - 0 0 0 0 10000
 C 3 600000 60000 60000 10000 7000 0 0 10000 0 -10000
 ";
 
+/// A small hour for claims of an outside solver, made by hand: row 3 is rows 0 and 1
+/// together, and twice row 4 is row 0 and three times row 2, each but for one number
+/// in every zone; row 5 is not kept.
+const CLAIMS: &str = "H 3 2 6
+Z 0 300000
+Z 1 -100000
+Z 2 -200000
+B 0 0 1 100
+B 1 1 2 50
+C 0 300000 30000 60000 20000 7000 0 0 30000 10000 0
+C 1 200000 20000 -10000 0 7000 0 0 0 20000 -5000
+C 2 250000 25000 20000 5000 7000 0 10000 -10000 5000 15000
+C 3 700000 70000 90000 10000 7000 0 0 32000 32000 -3000
+C 4 500000 50000 -30000 0 7000 5000 0 500 13000 23000
+C 5 100000 10000 5000 0 7000 0 0 3000 0 0
+";
+
+/// .. and the claims on rows 3 and 4.
+const CLAIMS_LIST: &str = "Q 3 1 0 1 1 1
+Q 4 2 0 1 2 3
+";
+
 fn extract(t: &Tables) -> Option<Outcome> {
     second::extract(t.lend(), usize::MAX, usize::MAX, usize::MAX).ok()
 }
@@ -559,6 +581,9 @@ fn main() {
     put(&directory, "trajectory-replaced", "the same with the default in each of these rows", &replaced);
     let intraday = second::read(INTRADAY.replace(' ', "\t").as_bytes(), [usize::MAX; 5]).expect("the intraday hour");
     put(&directory, "intraday", "a small hour after the coupling", &intraday);
+    let claims = second::read(CLAIMS.replace(' ', "\t").as_bytes(), [usize::MAX; 5]).expect("the hour with claims");
+    put(&directory, "claims", "a small hour for two claims", &claims);
+    std::fs::write(format!("{directory}/claims.txt"), CLAIMS_LIST.replace(' ', "\t")).expect("written");
     put(&directory, "sheet", "the longest corner sheet", &longest_sheet());
     put(&directory, "plain", &format!("seed {SEED_PLAIN}"), &plausible(SEED_PLAIN, PLAIN));
     let (_, seed) = busiest(SEEDS_BUSY, busy_of);

@@ -43,6 +43,11 @@
  *            index, in any order, each once.  Only these borders rise and only they
  *            are counted in n; the others keep what they start with.  S, starting
  *            margins and p are those of all borders
+ *   claims   one record a claim that a row need not be published: the claimed row, D
+ *            1..1000, how many pairs 0..16, and then the pairs: cited row, multiplier
+ *            1..1000; what lies beyond its pairs is not looked at.  Claims are
+ *            numbered from 0.  The same as text is one line a claim, Q, row, D, then
+ *            row and multiplier of each pair, tabs and LF as in a table
  *   atc      one record a border: ATC, the last round that raised the border (0
  *            if none did), and the row that stopped it: the first of state 0 with
  *            p > 0 whose equal share of its margin left is under one kW for it; a
@@ -58,7 +63,8 @@
  *            may be negative
  *
  * REFUSALS (field number of every answer; 0: no refusal; names below)
- *   1  a text (the table's, a sheet's) of more than 65,536 bytes    place 0
+ *   1  a text (the table's, a sheet's, the claims') of more than 65,536
+ *      bytes                                                        place 0
  *   2  the first faulty line has the wrong form, kind, index or
  *      field count, is missing, has no LF, or is extra              place: line, from 1
  *   3  the first faulty line has right form, a value outside its
@@ -78,6 +84,13 @@
  *      only)                                                        the row's index
  *   10 the first faulty line of the sheet: its form or a value, an
  *      index that is not above the one before or that no row has    place: its line, from 1
+ *   11 the first faulty claim is malformed or out of range: its row
+ *      or a cited one is not kept (state 0), a row is claimed
+ *      again, cited twice, or cited and claimed; D, a multiplier or
+ *      the number of pairs is out of range                          place: its number
+ *   12 .. is not borne out: multiplier * factor summed over its
+ *      pairs less D * factor of its row is not the same in each
+ *      zone, or multiplier * RAM summed is over D * RAM             place: its number
  *   13 no border is marked; or a mark is no border, or was given
  *      before                                                       place: 0; its position
  *                                                                   in marks, from 1
@@ -99,14 +112,15 @@
  *   sheet 1 of either text, 2 to 4 of the table's, 10, 8; 5, 6 and 7 are of the
  *   merged table.  The calls on lent tables: the header (3), lengths (8) in the order
  *   z, t, b, c, f, p, records (3), 4; the extraction and the result text go on to 13,
- *   5, 6, 7, the corner sheet to 9; last comes room for results (8), atc before left.
- *   The corner sheet does not judge 5, 6, 7: a table that the extraction refuses has
- *   its sheets.
+ *   5, 6, 7, the corner sheet to 9, the claims to 11 and 12, claim by claim (1 of
+ *   their text goes first); last comes room for results (8), atc before left.  The
+ *   corner sheet and the claims do not judge 5, 6, 7: a table that the extraction
+ *   refuses has them.
  *
  * LENT MEMORY
- *   Each pointer goes with the count of its items (records for b, c, atc and left;
- *   numbers for z, t, f, p, marks and flows; bytes for text, sheet and for out that
- *   takes text) and points to that many; it is aligned for its
+ *   Each pointer goes with the count of its items (records for b, c, claims, atc and
+ *   left; numbers for z, t, f, p, marks and flows; bytes for text, sheet,
+ *   list and for out that takes text) and points to that many; it is aligned for its
  *   type.  What is written to overlaps nothing else that is lent.  Nothing is kept
  *   after the call, nothing is allocated.
  *   A pointer is not NULL, also where its count is 0: a count of 0 is allowed
@@ -145,7 +159,7 @@
 extern "C" {
 #endif
 
-#define KERAVNOTH_VERSION 10
+#define KERAVNOTH_VERSION 11
 
 /* The largest table, in items. */
 enum {
@@ -166,7 +180,8 @@ enum {
     KERAVNOTH_WRITE_MOST = 58212,
     KERAVNOTH_RESULT_TEXT_MOST = 22790,
     KERAVNOTH_ANSWER_MOST = 22790,
-    KERAVNOTH_CORNER_TEXT_MOST = 110592
+    KERAVNOTH_CORNER_TEXT_MOST = 110592,
+    KERAVNOTH_PUBLISHED_TEXT_MOST = 8800
 };
 
 /* Refusals. */
@@ -182,6 +197,8 @@ enum {
     KERAVNOTH_BUFFER_TOO_SHORT = 8,
     KERAVNOTH_NO_CORNER_SHEET = 9,
     KERAVNOTH_WRONG_CORRECTION = 10,
+    KERAVNOTH_MALFORMED_CLAIM = 11,
+    KERAVNOTH_NOT_BORNE_OUT = 12,
     KERAVNOTH_BAD_MARK = 13
 };
 
@@ -208,6 +225,16 @@ enum {
     KERAVNOTH_C_IVA,
     KERAVNOTH_C_ITEMS,
     KERAVNOTH_R_DASH = -1
+};
+
+/* .. of a claim: these, and two for each pair. */
+enum {
+    KERAVNOTH_CLAIM_ROW,
+    KERAVNOTH_CLAIM_D,
+    KERAVNOTH_CLAIM_PAIRS,
+    KERAVNOTH_CLAIM_FIRST_PAIR,
+    KERAVNOTH_CLAIM_PAIRS_MOST = 16,
+    KERAVNOTH_CLAIM_ITEMS = 35
 };
 
 /* .. of atc; the stopping row where no row loads the border, or it is not marked. */
@@ -251,7 +278,9 @@ enum {
     KERAVNOTH_ANSWER_MARKED_STACK = 163840,
     KERAVNOTH_ANSWER_CORRECTED_STACK = 163840,
     KERAVNOTH_CORNER_FLOWS_STACK = 3072,
-    KERAVNOTH_CORNER_TEXT_STACK = 35840
+    KERAVNOTH_CORNER_TEXT_STACK = 35840,
+    KERAVNOTH_CLAIMS_STACK = 7168,
+    KERAVNOTH_PUBLISHED_TEXT_STACK = 65536
 };
 
 /* The header of a table, by value; share where the H line does not write it, and
@@ -304,6 +333,13 @@ struct KeravnothFlows {
     size_t place;
     size_t byte;
     size_t corners;
+};
+
+/* A judgement alone. */
+struct KeravnothJudged {
+    uint32_t number;
+    size_t place;
+    size_t byte;
 };
 
 /* Reads a table's text into z, t, b, c and f.  Refusals 1, 2, 3, 4, 8. */
@@ -431,6 +467,30 @@ struct KeravnothWritten keravnoth_corner_text(
     const int64_t (*c)[KERAVNOTH_C_ITEMS], size_t nc,
     const int64_t *f, size_t nf,
     size_t row,
+    uint8_t *out, size_t nout);
+
+/* Whether each claim of a list is well formed and borne out, so that without the claimed
+   rows, all at once, the kept rows allow the same net positions that sum to zero.
+   Refusals 3, 4, 8, 11, 12. */
+struct KeravnothJudged keravnoth_claims(
+    struct KeravnothHeader header,
+    const int64_t *z, size_t nz,
+    const int64_t *t, size_t nt,
+    const int64_t (*b)[KERAVNOTH_B_ITEMS], size_t nb,
+    const int64_t (*c)[KERAVNOTH_C_ITEMS], size_t nc,
+    const int64_t *f, size_t nf,
+    const int64_t (*claims)[KERAVNOTH_CLAIM_ITEMS], size_t nclaims);
+
+/* The published list of the claims that a text holds: a D line (row, RAM) for each kept
+   row that is not claimed.  Refusals 1, 3, 4, 8, 11, 12. */
+struct KeravnothWritten keravnoth_published_text(
+    struct KeravnothHeader header,
+    const int64_t *z, size_t nz,
+    const int64_t *t, size_t nt,
+    const int64_t (*b)[KERAVNOTH_B_ITEMS], size_t nb,
+    const int64_t (*c)[KERAVNOTH_C_ITEMS], size_t nc,
+    const int64_t *f, size_t nf,
+    const uint8_t *list, size_t nlist,
     uint8_t *out, size_t nout);
 
 #ifdef __cplusplus

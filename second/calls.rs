@@ -53,6 +53,14 @@ pub struct Flows {
     pub corners: usize,
 }
 
+/// What a call says that has nothing to say but a refusal.
+#[derive(Clone, Copy, Debug, PartialEq, Eq)]
+pub struct Judged {
+    pub number: u64,
+    pub place: usize,
+    pub byte: usize,
+}
+
 /// The bridge ended within a call: how.
 #[derive(Debug)]
 pub struct Ended(pub String);
@@ -303,6 +311,28 @@ impl Bridge {
         let [number, place, byte, bytes] = self.ask()?;
         self.back(text);
         self.back(sheet);
+        self.back(out);
+        Ok(Written { number, place: place as usize, byte: byte as usize, bytes: bytes as usize })
+    }
+
+    pub fn claims(&mut self, mut l: Lent, claims: &mut [[i64; 35]]) -> Result<Judged, Ended> {
+        self.begin(wire::JUDGE_CLAIMS, l.header);
+        self.lend_tables(&l);
+        self.lend(wire::CLAIMS, claims);
+        let [number, place, byte] = self.ask()?;
+        self.tables_back(&mut l);
+        self.back(claims);
+        Ok(Judged { number, place: place as usize, byte: byte as usize })
+    }
+
+    pub fn published_text(&mut self, mut l: Lent, list: &mut [u8], out: &mut [u8]) -> Result<Written, Ended> {
+        self.begin(wire::PUBLISHED_TEXT, l.header);
+        self.lend_tables(&l);
+        self.lend(wire::SHEET, list);
+        self.lend(wire::OUT, out);
+        let [number, place, byte, bytes] = self.ask()?;
+        self.tables_back(&mut l);
+        self.back(list);
         self.back(out);
         Ok(Written { number, place: place as usize, byte: byte as usize, bytes: bytes as usize })
     }

@@ -15,6 +15,10 @@
 
 #[path = "calls.rs"]
 mod calls;
+#[path = "claim_cases.rs"]
+mod claim_cases;
+#[path = "claim_lists.rs"]
+mod claim_lists;
 #[path = "damage.rs"]
 mod damage;
 #[path = "dice.rs"]
@@ -63,9 +67,11 @@ const T_EVERY: u64 = 8;
 const MARKS_EVERY: u64 = 8;
 /// .. a bad correction sheet.
 const BAD_SHEETS_EVERY: u64 = 8;
+/// .. a table made for claims.
+const CLAIMS_EVERY: u64 = 4;
 
 /// The refusals that a run meets.
-const REFUSALS: [usize; 11] = [1, 2, 3, 4, 5, 6, 7, 8, 9, 10, 13];
+const REFUSALS: [usize; 13] = [1, 2, 3, 4, 5, 6, 7, 8, 9, 10, 11, 12, 13];
 
 struct Comparison {
     bridge: Bridge,
@@ -73,6 +79,8 @@ struct Comparison {
     places: Vec<damage::Place>,
     /// where the small correction sheet is
     sheet_places: Vec<damage::Place>,
+    /// small lists of claims, and where each is damaged
+    list_places: Vec<(Vec<u8>, damage::Place)>,
     seed: u64,
     kind: &'static str,
     number: u64,
@@ -81,6 +89,7 @@ struct Comparison {
     accepted: u64,
     exchanges: u64,
     corners: u64,
+    positions: u64,
     most_rounds: u64,
     /// how often each number was the answer, 0: no refusal
     numbers: [u64; 14],
@@ -484,6 +493,7 @@ fn main() {
         bridge,
         places: damage::places(),
         sheet_places: damage::sheet_places(),
+        list_places: claim_cases::list_places(),
         seed,
         kind: "",
         number: 0,
@@ -492,6 +502,7 @@ fn main() {
         accepted: 0,
         exchanges: 0,
         corners: 0,
+        positions: 0,
         most_rounds: 0,
         numbers: [0; 14],
         seen: BTreeMap::new(),
@@ -521,6 +532,9 @@ fn main() {
             if number % BAD_SHEETS_EVERY == 0 {
                 c.bad_sheets(number / BAD_SHEETS_EVERY);
             }
+            if number % CLAIMS_EVERY == 0 {
+                c.claim_tables(number / CLAIMS_EVERY);
+            }
         }
         if number < texts {
             c.text(number);
@@ -531,6 +545,9 @@ fn main() {
         if (number as usize) < c.sheet_places.len() {
             c.each_sheet_damage(number as usize);
         }
+        if (number as usize) < c.list_places.len() {
+            c.each_list_damage(number as usize);
+        }
     }
     // a small run has not had them all
     for number in tables.max(texts) as usize..c.places.len() {
@@ -538,6 +555,9 @@ fn main() {
     }
     for number in tables.max(texts) as usize..c.sheet_places.len() {
         c.each_sheet_damage(number);
+    }
+    for number in tables.max(texts) as usize..c.list_places.len() {
+        c.each_list_damage(number);
     }
     // the largest of them take the second program a while: a difference is mostly seen before
     for number in 0..HOURS.len() {
@@ -572,13 +592,14 @@ fn main() {
     let refusals: Vec<String> =
         REFUSALS.map(|number| format!("{number}: {}", c.numbers[number])).to_vec();
     println!(
-        "no difference: {} of {tables} tables accepted; calls by refusal {}; {} texts, {} calls compared, {} sets of exchanges within RAM, {} corners, most rounds {}",
+        "no difference: {} of {tables} tables accepted; calls by refusal {}; {} texts, {} calls compared, {} sets of exchanges within RAM, {} corners, {} net positions, most rounds {}",
         c.accepted,
         refusals.join(", "),
         c.texts,
         c.calls,
         c.exchanges,
         c.corners,
+        c.positions,
         c.most_rounds
     );
     assert!(missed.is_empty(), "cases not reached often enough: {}", missed.join("; "));

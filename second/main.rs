@@ -2,6 +2,8 @@
 //! E line.  With the argument `rewrite`: the table written again, or the E line.
 //! With `corners`: the corner sheets of all rows, row 0 first, or the E line;
 //! with `corners` and a row's index, the sheet of that row.
+//! With `claims` and a file: the published list that the claims in it leave, or the
+//! E line.
 //! With `--marks` and a list, numbers with commas between: the result where only the
 //! marked borders rise.  With `--corrections` and a file, each of these of the table that
 //! has the rows of that correction sheet.
@@ -19,6 +21,8 @@ enum Work {
     Rewrite,
     /// of one row, or of all
     Corners(Option<usize>),
+    /// the file of the list
+    Claims(String),
 }
 
 /// An index: a number as the table writes it.
@@ -69,6 +73,7 @@ fn asked(arguments: &[String]) -> Option<(Work, Option<String>)> {
         (["rewrite"], None) => Work::Rewrite,
         (["corners"], None) => Work::Corners(None),
         (["corners", row], None) => Work::Corners(Some(index(row)?)),
+        (["claims", file], None) => Work::Claims(file.to_string()),
         _ => return None,
     };
     Some((work, options.corrections))
@@ -92,17 +97,19 @@ fn text_of(file: &str) -> Result<Vec<u8>, String> {
 fn answer(work: Work, corrections: Option<String>) -> Result<Vec<u8>, String> {
     let sheet = corrections.map_or(Ok(Vec::new()), |file| text_of(&file))?;
     let text = bytes_of(std::io::stdin().lock()).map_err(|error| format!("standard input: {error}"))?;
+    let read = || second::read_corrected(&text, &sheet, second::ALL_ROOM);
     Ok(match work {
         Work::Answer(marks) => second::answer_by(&text, &sheet, marks.as_deref()),
         Work::Rewrite => second::rewrite_by(&text, &sheet),
         Work::Corners(only) => second::corners_by(&text, &sheet, only),
+        Work::Claims(file) => second::claims::published(read(), &text_of(&file)?),
     })
 }
 
 fn main() -> ExitCode {
     let arguments: Vec<String> = std::env::args().skip(1).collect();
     let Some((work, corrections)) = asked(&arguments) else {
-        eprintln!("arguments: none, \"rewrite\", \"corners\", or \"corners\" and a row's index; with each also \"--corrections\" and a file; with none also \"--marks\" and a list");
+        eprintln!("arguments: none, \"rewrite\", \"corners\", \"corners\" and a row's index, or \"claims\" and a file; with each also \"--corrections\" and a file; with none also \"--marks\" and a list");
         return ExitCode::from(2);
     };
     let answer = match answer(work, corrections) {

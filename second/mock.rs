@@ -6,6 +6,7 @@ mod second;
 #[path = "wire.rs"]
 mod wire;
 
+use second::claims::ClaimRecord;
 use second::{Header, Refusal};
 use std::fs::File;
 use std::io::{BufReader, Read, Write};
@@ -152,6 +153,19 @@ fn corner_flows(l: &mut LentTables, row: usize, flows: &mut Lent<i64>) -> [u64; 
 
 fn corner_text(l: &mut LentTables, row: usize, out: &mut Lent<u8>) -> [u64; 4] {
     let text = second::corner_text(l.lend(), row, out.len());
+    text_to(text, out)
+}
+
+fn judged(judgement: Result<(), Refusal>) -> [u64; 3] {
+    judgement.map_or_else(why, |()| [0; 3])
+}
+
+fn judge_claims(l: &mut LentTables, claims: &mut Lent<ClaimRecord>) -> [u64; 3] {
+    judged(second::claims::judge_claims(l.lend(), claims))
+}
+
+fn published_text(l: &mut LentTables, list: &mut Lent<u8>, out: &mut Lent<u8>) -> [u64; 4] {
+    let text = second::claims::published_text(l.lend(), list, out.len());
     text_to(text, out)
 }
 
@@ -335,6 +349,22 @@ fn serve<R: Read>(request: &mut Request<R>, to: &mut Vec<u8>) -> std::io::Result
             let mut out = request.lent(wire::OUT)?;
             put_fields(&corner_text(&mut l, row, &mut out), to);
             put_tables(&l, to);
+            wire::put_all(&out.whole, to);
+        }
+        wire::JUDGE_CLAIMS => {
+            let mut l = request.tables()?;
+            let mut claims = request.lent(wire::CLAIMS)?;
+            put_fields(&judge_claims(&mut l, &mut claims), to);
+            put_tables(&l, to);
+            wire::put_all(&claims.whole, to);
+        }
+        wire::PUBLISHED_TEXT => {
+            let mut l = request.tables()?;
+            let mut list = request.lent(wire::SHEET)?;
+            let mut out = request.lent(wire::OUT)?;
+            put_fields(&published_text(&mut l, &mut list, &mut out), to);
+            put_tables(&l, to);
+            wire::put_all(&list.whole, to);
             wire::put_all(&out.whole, to);
         }
         wire::ANSWER => {

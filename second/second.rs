@@ -6,6 +6,9 @@
 //! All margin arithmetic is in i128 grains.
 #![allow(dead_code)]
 
+#[path = "claims.rs"]
+pub mod claims;
+
 /// "1 | more than 65,536 bytes"
 pub const MOST_BYTES: usize = 65_536;
 /// "a kW is 100,000 grains"
@@ -1461,7 +1464,7 @@ pub fn refusal_text(refusal: Refusal) -> Vec<u8> {
     out
 }
 
-const ALL_ROOM: [usize; 5] = [usize::MAX; 5];
+pub const ALL_ROOM: [usize; 5] = [usize::MAX; 5];
 
 /// "The program reads the table on standard input and writes this, or one line
 /// `E`".

@@ -1,5 +1,7 @@
 //! Tests of the reference calculator: `rustc --edition 2021 --test selftest.rs`.
 
+#[path = "claims_by_hand.rs"]
+mod claims_by_hand;
 #[path = "second.rs"]
 mod second;
 

@@ -1881,10 +1881,108 @@ const SLIPS: &[Slip] = &[
         "    match second::corner_flows(l.lend(), row, flows.len()) {\n        Err(refusal) => refused(refusal),",
         "    match second::corner_flows(l.lend(), row, flows.len()) {\n        Err(refusal) => [u64::from(refusal.number), refusal.place as u64, 0, 1],",
     ),
+    // ---- claims
+    slip(
+        "claims: RAMs must be lower, not equal",
+        "claims.rs",
+        "ram <= denominator * self.rams[row]",
+        "ram < denominator * self.rams[row]",
+    ),
+    slip(
+        "claims: RAMs divided by D, rounded down",
+        "claims.rs",
+        "ram <= denominator * self.rams[row]",
+        "ram.div_euclid(denominator) <= self.rams[row]",
+    ),
+    slip(
+        "claims: a RAM below 0 counts as 0",
+        "claims.rs",
+        "            ram += i128::from(*multiplier) * self.rams[*cited as usize];",
+        "            ram += i128::from(*multiplier) * self.rams[*cited as usize].max(0);",
+    ),
+    slip(
+        "claims: the number of every zone must be 0",
+        "claims.rs",
+        "numbers.iter().all(|number| *number == numbers[0])",
+        "numbers.iter().all(|number| *number == 0)",
+    ),
+    slip(
+        "claims: the factor test does not look at the last zone",
+        "claims.rs",
+        "numbers.iter().all(|number| *number == numbers[0])",
+        "numbers[..numbers.len() - 1].iter().all(|number| *number == numbers[0])",
+    ),
+    slip(
+        "claims: a row that is claimed later may be cited",
+        "claims.rs",
+        "            let named = claims.iter().any(|claim| claim.row == Some(*cited));",
+        "            let named = claims[..=index].iter().any(|claim| claim.row == Some(*cited));",
+    ),
+    slip(
+        "claims: of two on one row the earlier is at fault",
+        "claims.rs",
+        "        let again = claims[..index].iter().any(",
+        "        let again = claims[index + 1..].iter().any(",
+    ),
+    slip(
+        "claims: the truth of any after the form of all",
+        "claims.rs",
+        "        for index in 0..claims.len() {\n            if !self.right_form(claims, index) {\n                return refuse(11, index);\n            }\n",
+        "        for index in 0..claims.len() {\n            if !self.right_form(claims, index) {\n                return refuse(11, index);\n            }\n        }\n        for index in 0..claims.len() {\n",
+    ),
+    slip(
+        "claims: a row of state 2 may be cited",
+        "claims.rs",
+        "self.states[row as usize] == 0\n",
+        "self.states[row as usize] != 1\n",
+    ),
+    slip("claims: 1001 is taken", "claims.rs", "const MOST: i64 = 1_000;", "const MOST: i64 = 1_001;"),
+    slip(
+        "claims: 16 pairs are refused",
+        "claims.rs",
+        "within(count, 0, MOST_PAIRS as i64)",
+        "within(count, 0, MOST_PAIRS as i64 - 1)",
+    ),
+    slip(
+        "claims: a claim without a pair is malformed",
+        "claims.rs",
+        "within(count, 0, MOST_PAIRS as i64)",
+        "within(count, 1, MOST_PAIRS as i64)",
+    ),
+    slip(
+        "claims as text: a line of wrong form names its row",
+        "claims.rs",
+        "        Err(_) => Claim { row: None, says: None },",
+        "        Err(_) => {\n            let row = super::fields_of(line).0.get(1).and_then(|field| super::unsigned(field.bytes).ok());\n            Claim { row, says: None }\n        }",
+    ),
+    slip(
+        "claims as text: the 201st line names its row",
+        "claims.rs",
+        "        if claims.len() == MOST_ROWS {",
+        "        if claims.len() == MOST_ROWS + 1 {",
+    ),
+    slip(
+        "claims as text: room before claims",
+        "claims.rs",
+        "    let text = list_text(&tables, list)?;\n    judge_room",
+        "    judge_room(room, 1)?;\n    let text = list_text(&tables, list)?;\n    judge_room",
+    ),
+    slip(
+        "claims as text: 5 is judged",
+        "claims.rs",
+        "    let judged = Judged::new(tables);\n",
+        "    let judged = Judged::new(tables);\n    if judged.states.iter().all(|state| *state != 0) {\n        return refuse(5, 0);\n    }\n",
+    ),
+    slip(
+        "claims as text: a claimed row is published",
+        "claims.rs",
+        "if self.states[row] == 0 && !claimed {",
+        "if self.states[row] == 0 && !(claimed && row > 0) {",
+    ),
 ];
 
 /// What the stand-in is made of.
-const FILES: [&str; 3] = ["mock.rs", "second.rs", "wire.rs"];
+const FILES: [&str; 4] = ["mock.rs", "second.rs", "claims.rs", "wire.rs"];
 
 fn build(source: &Path, program: &Path) -> bool {
     Command::new("rustc")

@@ -75,6 +75,7 @@ impl Comparison {
         if !heavy || d.one_in(4) {
             self.defaults(d, &t, &outcome, &answer);
             self.shortening(d, &t, None);
+            self.claims_at_random(d, &t);
         }
         if !heavy && d.one_in(2) || d.one_in(8) {
             self.marked(d, &t, &outcome, &answer);

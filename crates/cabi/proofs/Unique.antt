@@ -53,6 +53,12 @@ use Rattle.cabi.proofs.keravnoth_corner_flows.Reads as corner-flows-rea
 use Rattle.cabi.proofs.keravnoth_corner_text as corner-text
 use Rattle.cabi.proofs.keravnoth_corner_text.Kinds as corner-text-kinds
 use Rattle.cabi.proofs.keravnoth_corner_text.Reads as corner-text-reads
+use Rattle.cabi.proofs.keravnoth_published_text as published-text
+use Rattle.cabi.proofs.keravnoth_published_text.Kinds as published-text-kinds
+use Rattle.cabi.proofs.keravnoth_published_text.Reads as published-text-reads
+use Rattle.cabi.proofs.keravnoth_claims as claims
+use Rattle.cabi.proofs.keravnoth_claims.Kinds as claims-kinds
+use Rattle.cabi.proofs.keravnoth_claims.Reads as claims-reads
 
 -- ---- whatever a call may leave, it leaves one thing
 read-one : (may : ReadCoded) (r r′ : KeravnothRead) (z z′ t t′ : List ℤ) (b b′ c c′ : List (List ℤ)) (f f′ : List ℤ) → readFound r z t b c f ≡ may → readFound r′ z′ t′ b′ c′ f′ ≡ may
@@ -151,3 +157,13 @@ keravnoth-corner-flows-once κs x r r′ s s′ p q = flows-one _ _ _ _ _ p q
 pub keravnoth-corner-text-once : (κs : Lfts 6) (x : ArgsD corner-text.signature κs) (r r′ : ResD corner-text.signature κs) (s s′ : AtExit (endedOf 6 corner-text-kinds.ps corner-text-kinds.r) κs)
     → corner-text-reads.Post κs x r s → corner-text-reads.Post κs x r′ s′ → (r ≡ r′) × (now (s .1 .1 .1 .1 .1 .1 .1 .0) ≡ now (s′ .1 .1 .1 .1 .1 .1 .1 .0))
 keravnoth-corner-text-once κs x r r′ s s′ p q = text-one _ _ _ _ _ p q
+
+-- nothing that is lent is written to
+pub keravnoth-claims-once : (κs : Lfts 6) (x : ArgsD claims.signature κs) (r r′ : ResD claims.signature κs) (s s′ : AtExit (endedOf 6 claims-kinds.ps claims-kinds.r) κs)
+    → claims-reads.Post κs x r s → claims-reads.Post κs x r′ s′ → r ≡ r′
+keravnoth-claims-once κs x r r′ s s′ p q = p ∙ sym q
+
+-- `out` is the eighth argument
+pub keravnoth-published-text-once : (κs : Lfts 7) (x : ArgsD published-text.signature κs) (r r′ : ResD published-text.signature κs) (s s′ : AtExit (endedOf 7 published-text-kinds.ps published-text-kinds.r) κs)
+    → published-text-reads.Post κs x r s → published-text-reads.Post κs x r′ s′ → (r ≡ r′) × (now (s .1 .1 .1 .1 .1 .1 .1 .0) ≡ now (s′ .1 .1 .1 .1 .1 .1 .1 .0))
+keravnoth-published-text-once κs x r r′ s s′ p q = text-one _ _ _ _ _ p q

@@ -1,9 +1,11 @@
 -- What the C interface answers: number, place and byte of the refusal, all 0 where there is none, and then the values (0 where refused).
--- `readCoded`, `textCoded`, `extractCoded` and `flowsCoded` are what contracts cite: a call's answer coded so, and each lent buffer as the call leaves it.
+-- `readCoded`, `textCoded`, `extractCoded`, `flowsCoded` and `codedJudged` are what contracts cite: a call's answer coded so, and each lent buffer as the call leaves it.
 use mathlib.Core.List.{List}
 use Prim.Native.Nat.{ℕ}
 use lib.IntN.{ℤ, pos}
 use Rattle.kinds.specs.declared.Header.{Header}
+use Rattle.kinds.specs.declared.Judgement.{Judgement}
+use Rattle.kinds.specs.declared.Judgement.the-variants as judgement
 use Rattle.kinds.specs.Refusals.{Judged, passed, refused}
 use Rattle.reading.specs.Reading.{ReadLeft}
 use Rattle.text.specs.Left.{TextLeft}
@@ -13,6 +15,7 @@ use Rattle.cabi.specs.declared.KeravnothRead.{KeravnothRead}
 use Rattle.cabi.specs.declared.KeravnothWritten.{KeravnothWritten}
 use Rattle.cabi.specs.declared.KeravnothExtracted.{KeravnothExtracted}
 use Rattle.cabi.specs.declared.KeravnothFlows.{KeravnothFlows}
+use Rattle.cabi.specs.declared.KeravnothJudged.{KeravnothJudged}
 
 -- the header of the table that was read
 abbrev pub codedRead : Judged Header → KeravnothRead
@@ -33,6 +36,15 @@ codedExtracted (refused w) = record { number = w .number; place = w .place; byte
 abbrev pub codedFlows : Judged ℕ → KeravnothFlows
 codedFlows (passed n) = record { number = 0; place = 0; byte = 0; corners = n }
 codedFlows (refused w) = record { number = w .number; place = w .place; byte = w .byte; corners = 0 }
+
+-- a judgement alone, by what was judged and as the code tells it
+abbrev pub codedJudged : {A : Type 0} → Judged A → KeravnothJudged
+codedJudged (passed a) = record { number = 0; place = 0; byte = 0 }
+codedJudged (refused w) = record { number = w .number; place = w .place; byte = w .byte }
+
+abbrev pub codedRuling : Judgement → KeravnothJudged
+codedRuling judgement.Passed = record { number = 0; place = 0; byte = 0 }
+codedRuling (judgement.Refused w) = record { number = w .number; place = w .place; byte = w .byte }
 
 -- what `keravnoth_read` leaves: its answer, and each lent table
 pub record ReadCoded : Type 0 where

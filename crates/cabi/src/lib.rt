@@ -8,14 +8,18 @@ ghost use Rattle.writing.specs.Writing.{writeLeft, rewriteCorrectedLeft};
 ghost use Rattle.extraction.specs.Extraction.{extractLeft, extractMarkedLeft};
 ghost use Rattle.corners.specs.Corners.{cornersLeft};
 ghost use Rattle.cornertext.specs.CornerText.{cornerTextLeft};
+ghost use Rattle.claims.specs.Claims.{claimsAnswer};
+ghost use Rattle.claimtext.specs.Published.{publishedLeft};
 ghost use Rattle.answer.specs.Result.{resultTextLeft, resultTextMarkedLeft, answerLeft, answerMarkedLeft, answerCorrectedLeft};
-ghost use Rattle.cabi.specs.Coded.{codedRead, codedWritten, codedExtracted, codedFlows, readFound, readCoded, textFound, textCoded, extractFound, extractCoded, flowsFound, flowsCoded};
+ghost use Rattle.cabi.specs.Coded.{codedRead, codedWritten, codedExtracted, codedFlows, codedJudged, codedRuling, readFound, readCoded, textFound, textCoded, extractFound, extractCoded, flowsFound, flowsCoded};
+use claims::ClaimRecord;
 use extraction::AtcRecord;
 use extraction::LeftRecord;
 use kinds::BorderRecord;
 use kinds::Extracted;
 use kinds::Flows;
 use kinds::Header;
+use kinds::Judgement;
 use kinds::Read;
 use kinds::RowRecord;
 use kinds::Written;
@@ -54,6 +58,13 @@ pub struct KeravnothFlows {
     pub place: usize,
     pub byte: usize,
     pub corners: usize,
+}
+
+#[repr(C)]
+pub struct KeravnothJudged {
+    pub number: u32,
+    pub place: usize,
+    pub byte: usize,
 }
 
 // Reads a table's text into z, t, b, c and f.
@@ -251,6 +262,39 @@ pub extern "C" fn keravnoth_corner_text(
     code_written(cornertext::corner_text(h, z, t, b, c, f, row, out))
 }
 
+// Whether each claim is well formed and borne out.
+#[no_mangle]
+pub extern "C" fn keravnoth_claims(
+    h: Header,
+    z: &[i64],
+    t: &[i64],
+    b: &[BorderRecord],
+    c: &[RowRecord],
+    f: &[i64],
+    claims: &[ClaimRecord],
+) -> KeravnothJudged
+    ensures { λ r. ⌜ r ≡ codedJudged (claimsAnswer (lent h (now (z .entry)) (now (t .entry)) (now (b .entry)) (now (c .entry)) (now (f .entry))) (now (claims .entry))) ⌝ }
+{
+    code_judged(claims::judge_claims(h, z, t, b, c, f, claims))
+}
+
+// The published list of the claims that a text holds.
+#[no_mangle]
+pub extern "C" fn keravnoth_published_text(
+    h: Header,
+    z: &[i64],
+    t: &[i64],
+    b: &[BorderRecord],
+    c: &[RowRecord],
+    f: &[i64],
+    list: &[u8],
+    out: &mut [u8],
+) -> KeravnothWritten
+    ensures { λ r. ⌜ textFound r (now (out .exit)) ≡ textCoded (publishedLeft (lent h (now (z .entry)) (now (t .entry)) (now (b .entry)) (now (c .entry)) (now (f .entry))) (now (list .entry)) (now (out .entry))) ⌝ }
+{
+    code_written(claimtext::published_text(h, z, t, b, c, f, list, out))
+}
+
 fn code_read(said: Read) -> KeravnothRead
     ensures { λ r. ⌜ r ≡ codedRead (saidRead said) ⌝ }
 {
@@ -334,6 +378,23 @@ fn code_flows(said: Flows) -> KeravnothFlows
             place: w.place,
             byte: w.byte,
             corners: 0,
+        },
+    }
+}
+
+fn code_judged(said: Judgement) -> KeravnothJudged
+    ensures { λ r. ⌜ r ≡ codedRuling said ⌝ }
+{
+    match said {
+        Judgement::Passed => KeravnothJudged {
+            number: 0,
+            place: 0,
+            byte: 0,
+        },
+        Judgement::Refused(w) => KeravnothJudged {
+            number: w.number,
+            place: w.place,
+            byte: w.byte,
         },
     }
 }

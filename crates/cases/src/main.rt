@@ -1,4 +1,5 @@
 // Answers every file that the arguments name: the name on a line, and then what the word before it asks for, as the program prints it.
+// After the argument `claims` and a file comes the published list.
 // After the argument `corners` come the corner sheets of every row, after a number those of that row. After `--marks` and a list only those borders
 // rise, after `--corrections` and a file its rows are put in, until the next word; `answer` is the word for the answer.
 ghost use Prim.Native.Nat.{_≤_};
@@ -57,6 +58,11 @@ fn take(i: usize, mut setting: Setting) -> Setting {
         setting.due = i;
         return setting;
     }
+    if arguments::is(i, b"claims") {
+        setting = word_at(i);
+        setting.due = i;
+        return setting;
+    }
     if arguments::is(i, b"answer") {
         return word_at(0);
     }
@@ -73,7 +79,11 @@ fn take_value(i: usize, mut setting: Setting) -> Setting {
         setting.corrections = i;
         return setting;
     }
-    setting.marks = i;
+    if arguments::is(option, b"--marks") {
+        setting.marks = i;
+        return setting;
+    }
+    setting.after = i;
     setting
 }
 
@@ -92,6 +102,7 @@ fn one(i: usize, setting: Setting) {
     };
     let mut text = [0u8; TEXT_ROOM];
     let mut sheet = [0u8; TEXT_ROOM];
+    let mut file = [0u8; TEXT_ROOM];
     let mut marks = [0u64; MARKS_ROOM];
     let mut out = [0u8; sheets::ROOM];
     print(
@@ -100,18 +111,20 @@ fn one(i: usize, setting: Setting) {
         setting,
         &mut text,
         &mut sheet,
+        &mut file,
         &mut marks,
         &mut out,
     )
 }
 
-// The memory is made in `one`, and not here, where goals would spell it out. First the correction sheet is read ..
+// The memory is made in `one`, and not here, where goals would spell it out. First the files that options name are read, the corrections ..
 fn print(
     i: usize,
     task: Task,
     setting: Setting,
     text: &mut [u8],
     sheet: &mut [u8],
+    file: &mut [u8],
     marks: &mut [u64],
     out: &mut [u8],
 )
@@ -122,16 +135,38 @@ fn print(
         return;
     }
     let n = corrections.bytes;
-    print_corrected(i, task, setting.marks, text, &sheet[..n], marks, out)
+    print_corrected(i, task, setting, text, &sheet[..n], file, marks, out)
+}
+
+// .. and what goes with the word; ..
+fn print_corrected(
+    i: usize,
+    task: Task,
+    setting: Setting,
+    text: &mut [u8],
+    sheet: &[u8],
+    file: &mut [u8],
+    marks: &mut [u64],
+    out: &mut [u8],
+)
+    requires { ⌜ sheetRoom ≤ length (now out) ⌝ }
+{
+    let with = input::named(tasks::file_of(task, setting.after), file);
+    if with.failed {
+        return;
+    }
+    let n = with.bytes;
+    print_with(i, task, setting.marks, text, sheet, &file[..n], marks, out)
 }
 
 // .. and then the table.
-fn print_corrected(
+fn print_with(
     i: usize,
     task: Task,
     list: usize,
     text: &mut [u8],
     sheet: &[u8],
+    file: &[u8],
     marks: &mut [u64],
     out: &mut [u8],
 )
@@ -145,7 +180,7 @@ fn print_corrected(
     let n = table.bytes;
     let listed = arguments::list(list, marks);
     let m = listed.count;
-    tasks::print(task, list == 0, &marks[..m], &text[..n], sheet, out);
+    tasks::print(task, list == 0, &marks[..m], file, &text[..n], sheet, out);
 }
 
 fn name(i: usize) {

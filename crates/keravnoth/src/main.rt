@@ -1,6 +1,6 @@
 // The program: a table on standard input, its answer on standard output (01, "Result text").
 // `keravnoth rewrite` writes the table again instead, `keravnoth corners` its corner sheets, of all rows or of the one that is named
-// (02, E1). With `--marks LIST` only the borders of the list rise (02, E13), with `--corrections FILE` rows are replaced by those of a correction
+// (02, E1), `keravnoth claims FILE` the published list of the claims in a file (02, E10). With `--marks LIST` only the borders of the list rise (02, E13), with `--corrections FILE` rows are replaced by those of a correction
 // sheet (02, E2). What a refusal means, and that reading or writing failed, is said on standard error: a table that was not read to its end
 // is not answered. With `--status-fd N` the program's last word is its status, on descriptor N.
 mod options;
@@ -54,17 +54,27 @@ fn written(all: bool) -> Ended {
 fn run(task: Task, command: Command) -> Ended {
     let mut text = [0u8; TEXT_ROOM];
     let mut sheet = [0u8; TEXT_ROOM];
+    let mut file = [0u8; TEXT_ROOM];
     let mut marks = [0u64; MARKS_ROOM];
     let mut out = [0u8; sheets::ROOM];
-    run_in(task, command, &mut text, &mut sheet, &mut marks, &mut out)
+    run_in(
+        task,
+        command,
+        &mut text,
+        &mut sheet,
+        &mut file,
+        &mut marks,
+        &mut out,
+    )
 }
 
-// The memory is made in `run`, and not here, where goals would spell it out. First the correction sheet is read ..
+// The memory is made in `run`, and not here, where goals would spell it out. First the files that arguments name are read, the corrections ..
 fn run_in(
     task: Task,
     command: Command,
     text: &mut [u8],
     sheet: &mut [u8],
+    file: &mut [u8],
     marks: &mut [u64],
     out: &mut [u8],
 ) -> Ended
@@ -75,15 +85,36 @@ fn run_in(
         return Ended::Failed;
     }
     let n = corrections.bytes;
-    run_corrected(task, command.marks, text, &sheet[..n], marks, out)
+    run_corrected(task, command, text, &sheet[..n], file, marks, out)
+}
+
+// .. and what goes with the word; ..
+fn run_corrected(
+    task: Task,
+    command: Command,
+    text: &mut [u8],
+    sheet: &[u8],
+    file: &mut [u8],
+    marks: &mut [u64],
+    out: &mut [u8],
+) -> Ended
+    requires { ⌜ sheetRoom ≤ length (now out) ⌝ }
+{
+    let with = input::named(tasks::file_of(task, command.after), file);
+    if with.failed {
+        return Ended::Failed;
+    }
+    let n = with.bytes;
+    run_with(task, command.marks, text, sheet, &file[..n], marks, out)
 }
 
 // .. and then the table.
-fn run_corrected(
+fn run_with(
     task: Task,
     list: usize,
     text: &mut [u8],
     sheet: &[u8],
+    file: &[u8],
     marks: &mut [u64],
     out: &mut [u8],
 ) -> Ended
@@ -96,7 +127,7 @@ fn run_corrected(
     let n = table.bytes;
     let listed = arguments::list(list, marks);
     let m = listed.count;
-    explain(tasks::print(task, list == 0, &marks[..m], &text[..n], sheet, out))
+    explain(tasks::print(task, list == 0, &marks[..m], file, &text[..n], sheet, out))
 }
 
 // Says on standard error what people need to know. What was written before an error stays written: the message is all that can be said.

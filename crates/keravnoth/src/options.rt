@@ -7,7 +7,7 @@ use printing::tasks::Task;
 // Where each thing stands among the arguments, 0 where it does not.
 pub struct Command {
     pub word: usize,
-    // what stands after the word: a row
+    // what stands after the word: a row, a file
     pub after: usize,
     // the file of corrections
     pub corrections: usize,

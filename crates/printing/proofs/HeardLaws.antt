@@ -1,6 +1,7 @@
 -- The laws of `specs/Heard.antt`. No contract cites this file.
--- In order: what the code's three tests come to; that a refusal is heard with its number, place and byte, and a result, a table or a sheet as an answer.
+-- In order: what the code's three tests come to; that a refusal is heard with its number, place and byte, and a result, a table, a sheet and a published list as an answer.
 use mathlib.Core.Path.{_≡_, refl, sym, subst, _∙_}
+use mathlib.Core.Bool.{Bool, true, false, cond}
 use mathlib.Core.List.{List, [], _∷_, _++_, append-assoc, append-nil}
 use Prim.Native.Nat.{ℕ, zero, suc, _+_, _^_, _<_}
 use native.Mathlib.Omega.{arith}
@@ -9,6 +10,7 @@ use lib.ListN.{length, getD, drop}
 use borrow.Author.Tests.{eq-eqb, ne-eqb}
 use Rattle.numbers.specs.Below.{table}
 use Rattle.kinds.specs.declared.Refusal.{Refusal}
+use Rattle.kinds.specs.Ranges.{atℤ}
 use Rattle.text.specs.Fields.{tab, feed}
 use Rattle.text.specs.Written.{decimal, fieldsText, lineText, linesText}
 use Rattle.text.proofs.NumberTrip.{number-written, number-rest}
@@ -17,6 +19,9 @@ use Rattle.table.specs.Table.{Table, factorsAt}
 use Rattle.writing.specs.Writing.{tableText}
 use Rattle.corners.specs.Corners.{flowsOf}
 use Rattle.cornertext.specs.CornerText.{cornerLineAt, cornersText, sheetText}
+use Rattle.start.specs.Start.{Rows}
+use Rattle.claims.specs.Claims.{remaining}
+use Rattle.claimtext.specs.Published.{rowLine, publishedLine, publishedText}
 use Rattle.extraction.specs.Extraction.{Result, atcRecord, rowRecord}
 use Rattle.result.specs.Records.{atcAt, marginAt, roundsLine, recordsText}
 use Rattle.result.specs.Refusal.{refusalText}
@@ -93,3 +98,21 @@ sheet-heard t row =
     let flows = flowsOf (factorsAt t row) (t .borders) in
     let lines = linesText (length flows) 0 (cornerLineAt row flows) in
     sym (heard-other (sheetText t row) (subst Other (append-nil lines) (lines-other (length flows) 0 (cornerLineAt row flows) [] (λ k more e. omega arith) (λ e. omega arith))))
+
+-- .. and a published list (02, E10), which may be empty: each of its lines begins with D
+lines-beside : (left i : ℕ) (line : ℕ → List ℕ) (rest : List ℕ) → ((k : ℕ) (more : List ℕ) → Other more → Other (line k ++ more)) → Other rest → Other (linesText left i line ++ rest)
+unfolding linesText
+lines-beside zero i line rest each last = last
+lines-beside (suc left) i line rest each last =
+    subst Other (sym (append-assoc (line i) (linesText left (i + 1) line) rest)) (each i (linesText left (i + 1) line ++ rest) (lines-beside left (i + 1) line rest each last))
+
+published-other : (b : Bool) (row : ℕ) (ram : ℤ) (more : List ℕ) → Other more → Other (cond b (rowLine row ram) [] ++ more)
+unfolding lineText
+published-other true row ram more o = λ e. omega arith
+published-other false row ram more o = o
+
+pub published-heard : (m : Rows) (claims : List (List ℤ)) → heardOf (publishedText m claims) ≡ Answered
+unfolding publishedText publishedLine
+published-heard m claims =
+    let lines = linesText (length (m .states)) 0 (publishedLine m claims) in
+    sym (heard-other lines (subst Other (append-nil lines) (lines-beside (length (m .states)) 0 (publishedLine m claims) [] (λ k more o. published-other (remaining (m .states) claims k) k (atℤ (m .rams) k) more o) (λ e. omega arith))))

@@ -6,6 +6,7 @@ use mathlib.Core.List.{List}
 use mathlib.Core.Logic.{⊎-elim}
 use Prim.Native.Nat.{ℕ, _*_, _≤_, _<_}
 use native.Mathlib.Omega.{arith}
+use borrow.Author.Tests.{lt-ltb, le-ltb}
 use lib.IntN.{ℤ}
 use lib.ListN.{length, take, drop, length-append}
 use lib.Seq.{take-at}
@@ -18,7 +19,7 @@ use Rattle.kinds.specs.declared.Refusal.{Refusal}
 use Rattle.kinds.specs.declared.Written.{Written}
 use Rattle.kinds.specs.declared.Written.the-variants as written
 use Rattle.kinds.specs.Limits.{zonesMost, bordersMost, rowsMost, bytesMost}
-use Rattle.kinds.specs.Refusals.{Judged, passed, refused, then, either, tooShort}
+use Rattle.kinds.specs.Refusals.{Judged, passed, refused, then, either, tooLong, tooShort}
 use Rattle.kinds.proofs.AnswerLaws.{saidWritten-injective}
 use Rattle.kinds.proofs.RefusalLaws.{passed-is, then-passed, then-refused, either-passed, either-refused}
 use Rattle.text.specs.Left.{TextLeft, textLeft, textSaid}
@@ -31,13 +32,16 @@ use Rattle.reading.proofs.LeftLaws.{taken, as-read, refused-text}
 use Rattle.reading.proofs.CorrectedLaws.{corrected-good}
 use Rattle.writing.specs.Writing.{tableText, writeLeft}
 use Rattle.writing.proofs.RoundTrip.{never-too-long}
+use Rattle.claimtext.specs.ClaimText.{claimsIn}
+use Rattle.claimtext.specs.Published.{publishedOf, publishedAnswer, publishedLeft}
+use Rattle.claimtext.proofs.PublishedLaws.{published-fits}
 use Rattle.extraction.specs.Extraction.{outcomeFor}
 use Rattle.result.specs.Refusal.{refusalText}
 use Rattle.answer.specs.Result.{resultText}
 use Rattle.answer.specs.Made.{outcomeLent, printed, bytesAsked}
 use Rattle.printing.specs.declared.texts.Word.{Word}
-use Rattle.printing.specs.declared.texts.Word.the-variants.{Answer, Rewrite}
-use Rattle.printing.specs.Printed.{Printed, bytesOf, toldText, Told, saidOf, wordText}
+use Rattle.printing.specs.declared.texts.Word.the-variants.{Answer, Rewrite, Claims}
+use Rattle.printing.specs.Printed.{Printed, bytesOf, toldText, Told, saidOf, wordOf, wordText}
 
 -- ---- a buffer that begins with the text
 pub over-printed : (text out out′ : List ℕ) (n : ℕ) → n ≡ length text → out′ ≡ over text out → Printed n text out′
@@ -76,22 +80,32 @@ told-printed (refused w) out {out′} {out″} r {n} enough left told =
     subst (λ (s : List ℕ). Printed n s out″) (sym (either-refused _ _ refl)) (subst (λ (x : Written). Told x out′ n out″) why told)
 
 -- ---- a text that was read: what is printed of the lent tables is printed of it
-module _ (word : Word) (all : Bool) (marks text sheet : List ℕ) (z a : List ℤ) (b c : List (List ℤ)) (f : List ℤ)
+module _ (word : Word) (all : Bool) (marks file text sheet : List ℕ) (z a : List ℤ) (b c : List (List ℤ)) (f : List ℤ)
     (r : Read) {z′ a′ : List ℤ} {b′ c′ : List (List ℤ)} {f′ : List ℤ} (said : readSaid r z′ a′ b′ c′ f′ ≡ readCorrectedLeft text sheet z a b c f) where
   module _ (h : Header) (is : r ≡ read.Table h) where
-    pub lent-printed : {n : ℕ} {out : List ℕ} → Printed n (toldText (then (judgeLent (lent h z′ a′ b′ c′ f′)) (saidOf word all marks))) out → Printed n (wordText word all marks text sheet) out
-    unfolding wordText
+    pub lent-printed : {n : ℕ} {out : List ℕ} → Printed n (toldText (then (judgeLent (lent h z′ a′ b′ c′ f′)) (saidOf word all marks file))) out → Printed n (wordOf word all marks file text sheet) out
+    unfolding wordOf
     lent-printed {n} {out} p =
         let same : judgeLent (lent h z′ a′ b′ c′ f′) ≡ readCorrected text sheet = as-read (readCorrected text sheet) z a b c f r said (corrected-good text sheet) h is ∙ sym (taken (readCorrected text sheet) z a b c f r said (corrected-good text sheet) h is .read) in
-        subst (λ (j : Judged Table). Printed n (toldText (then j (saidOf word all marks))) out) same p
+        subst (λ (j : Judged Table). Printed n (toldText (then j (saidOf word all marks file))) out) same p
 
   -- .. and one that was refused, with room for the largest table
   module _ (hz : zonesMost ≤ length z) (ha : zonesMost ≤ length a) (hb : bordersMost ≤ length b) (hc : rowsMost ≤ length c) (hf : rowsMost * zonesMost ≤ length f)
       (w : Refusal) (is : r ≡ read.Refused w) where
-    pub refusal-printed : {n : ℕ} {out : List ℕ} → Printed n (refusalText w) out → Printed n (wordText word all marks text sheet) out
-    unfolding wordText
+    pub refusal-printed : {n : ℕ} {out : List ℕ} → Printed n (refusalText w) out → Printed n (wordOf word all marks file text sheet) out
+    unfolding wordOf
     refusal-printed {n} {out} p =
-        subst (λ (s : List ℕ). Printed n s out) (sym (either-refused _ _ (then-refused (saidOf word all marks) (refused-text (readCorrected text sheet) z a b c f r said (corrected-good text sheet) hz ha hb hc hf w is)))) p
+        subst (λ (s : List ℕ). Printed n s out) (sym (either-refused _ _ (then-refused (saidOf word all marks file) (refused-text (readCorrected text sheet) z a b c f r said (corrected-good text sheet) hz ha hb hc hf w is)))) p
+
+-- ---- the file that goes with a word: one that is too long is refused before all else
+module _ (word : Word) (all : Bool) (marks file text sheet : List ℕ) {n : ℕ} {out : List ℕ} where
+  pub long-printed : bytesMost < length file → (w : Refusal) → w ≡ tooLong → Printed n (refusalText w) out → Printed n (wordText word all marks file text sheet) out
+  unfolding wordText
+  long-printed h w e p = rw (lt-ltb bytesMost (length file) h) (subst (λ (v : Refusal). Printed n (refusalText v) out) e p)
+
+  pub short-printed : length file ≤ bytesMost → Printed n (wordOf word all marks file text sheet) out → Printed n (wordText word all marks file text sheet) out
+  unfolding wordText
+  short-printed h p = rw (le-ltb bytesMost (length file) h) p
 
 -- ---- the words
 -- a text made of what passed is told as it is printed
@@ -104,13 +118,13 @@ made-told {B = B} (passed a) next made = go (next a)
     go (refused w) = refl
 made-told (refused w) next made = refl
 
-module _ (all : Bool) (marks : List ℕ) (given : Table) where
-  answer-told : printed (outcomeLent all marks given) ≡ toldText (then (judgeLent given) (saidOf Answer all marks))
+module _ (all : Bool) (marks file : List ℕ) (given : Table) where
+  answer-told : printed (outcomeLent all marks given) ≡ toldText (then (judgeLent given) (saidOf Answer all marks file))
   unfolding printed outcomeLent saidOf
   answer-told = made-told (judgeLent given) (outcomeFor all marks) resultText
 
   pub answer-printed : (out out′ : List ℕ) (r : Written) (n : ℕ) → n ≡ bytesOf r → textSaid r out′ ≡ textLeft (passed (printed (outcomeLent all marks given))) out → bytesAsked r ≤ length out
-      → Printed n (toldText (then (judgeLent given) (saidOf Answer all marks))) out′
+      → Printed n (toldText (then (judgeLent given) (saidOf Answer all marks file))) out′
   answer-printed out out′ r n e said few = subst (λ (s : List ℕ). Printed n s out′) answer-told (text-printed _ out out′ r n e said few)
 
   -- a table is never too long to be written again
@@ -120,6 +134,15 @@ module _ (all : Bool) (marks : List ℕ) (given : Table) where
       subst (λ (s : List ℕ). length s ≤ bytesMost) (passed-is _ _ (d .second)) (never-too-long (d .it) (judged-good given (d .it) (d .first)))
 
   pub rewrite-printed : (out : List ℕ) {out′ out″ : List ℕ} (r : Written) {n : ℕ} → bytesMost ≤ length out → textSaid r out′ ≡ writeLeft given out → Told r out′ n out″
-      → Printed n (toldText (then (judgeLent given) (saidOf Rewrite all marks))) out″
+      → Printed n (toldText (then (judgeLent given) (saidOf Rewrite all marks file))) out″
   unfolding saidOf writeLeft
   rewrite-printed out r room said told = told-printed (then (judgeLent given) (λ t. passed (tableText t))) out r (λ text e. omega (arith, table-fits text e, room)) said told
+
+  -- the published list
+  pub claims-printed : (out : List ℕ) {out′ out″ : List ℕ} (r : Written) {n : ℕ} → length file ≤ bytesMost → bytesMost ≤ length out → textSaid r out′ ≡ publishedLeft given file out → Told r out′ n out″
+      → Printed n (toldText (then (judgeLent given) (saidOf Claims all marks file))) out″
+  unfolding saidOf publishedLeft publishedAnswer
+  claims-printed out {out′} {out″} r {n} short room said told =
+      let same : publishedAnswer given file ≡ then (judgeLent given) (λ t. publishedOf t (claimsIn file)) = rw (le-ltb bytesMost (length file) short) in
+      subst (λ (j : Judged (List ℕ)). Printed n (toldText j) out″) same
+      (told-printed (publishedAnswer given file) out r (λ text e. omega (arith, published-fits given file text e, room)) said told)

@@ -4,23 +4,26 @@ use mathlib.Core.Path.{_≡_}
 use mathlib.Core.Bool.{Bool, cond}
 use mathlib.Core.List.{List}
 use Prim.Native.Nat.{ℕ, _+_, _*_, _≤_}
-use lib.Dec.{leb}
+use lib.Dec.{leb, ltb}
 use lib.ListN.{length, take}
 use Rattle.kinds.specs.declared.Header.{Header}
 use Rattle.kinds.specs.declared.Written.{Written}
 use Rattle.kinds.specs.declared.Written.the-variants as written
-use Rattle.kinds.specs.Refusals.{Judged, passed, then, either}
+use Rattle.kinds.specs.Limits.{bytesMost}
+use Rattle.kinds.specs.Refusals.{Judged, passed, then, either, tooLong}
 use Rattle.text.specs.Written.{linesText}
 use Rattle.table.specs.Table.{Table}
 use Rattle.reading.specs.Reading.{readCorrected}
 use Rattle.writing.specs.Writing.{tableText}
 use Rattle.corners.specs.Corners.{sheetBordersMost, judgeCorners}
 use Rattle.cornertext.specs.CornerText.{sheetMost, sheetText}
+use Rattle.claimtext.specs.ClaimText.{claimsIn}
+use Rattle.claimtext.specs.Published.{publishedOf}
 use Rattle.extraction.specs.Extraction.{outcomeFor}
 use Rattle.result.specs.Refusal.{refusalText}
 use Rattle.answer.specs.Result.{resultText}
 use Rattle.printing.specs.declared.texts.Word.{Word}
-use Rattle.printing.specs.declared.texts.Word.the-variants.{Answer, Rewrite}
+use Rattle.printing.specs.declared.texts.Word.the-variants.{Answer, Rewrite, Claims}
 
 -- the first n bytes of the buffer are the text to print; that there are so many follows, and is said for the caller's `&out[..n]`
 pub record Printed (n : ℕ) (text out : List ℕ) : Type 0 where
@@ -42,14 +45,19 @@ abbrev pub Told : Written → (before : List ℕ) → (n : ℕ) → (after : Lis
 Told (written.Bytes m) before n after = (n ≡ m) × (after ≡ before)
 Told (written.Refused w) before n after = Printed n (refusalText w) after
 
--- what a word says of a table; which borders may rise is asked of it by marks, or `all` of them (02, E13)
-unfoldable pub saidOf : Word → (all : Bool) → (marks : List ℕ) → Table → Judged (List ℕ)
-saidOf Answer all marks t = then (outcomeFor all marks t) (λ r. passed (resultText r))
-saidOf Rewrite all marks t = passed (tableText t)
+-- what a word says of a table; which borders may rise is asked of it by marks, or `all` of them (02, E13); a file goes with some words: the list of claims (02, E10)
+unfoldable pub saidOf : Word → (all : Bool) → (marks file : List ℕ) → Table → Judged (List ℕ)
+saidOf Answer all marks file t = then (outcomeFor all marks t) (λ r. passed (resultText r))
+saidOf Rewrite all marks file t = passed (tableText t)
+saidOf Claims all marks file t = publishedOf t (claimsIn file)
 
--- .. of the table of a text: what a program prints
-unfoldable pub wordText : Word → (all : Bool) → (marks text sheet : List ℕ) → List ℕ
-wordText word all marks text sheet = toldText (then (readCorrected text sheet) (saidOf word all marks))
+-- .. of the table of a text
+unfoldable pub wordOf : Word → (all : Bool) → (marks file text sheet : List ℕ) → List ℕ
+wordOf word all marks file text sheet = toldText (then (readCorrected text sheet) (saidOf word all marks file))
+
+-- what a program prints: 1 of any text goes before all else
+unfoldable pub wordText : Word → (all : Bool) → (marks file text sheet : List ℕ) → List ℕ
+wordText word all marks file text sheet = cond (ltb bytesMost (length file)) (refusalText tooLong) (wordOf word all marks file text sheet)
 
 -- what `corners` prints for a row: its sheet, or one line E
 unfoldable pub oneSheet : (text sheet : List ℕ) → (row : ℕ) → List ℕ

@@ -36,6 +36,9 @@ pub fn understand(word: usize, after: usize) -> Asked {
     if arguments::is(word, b"corners") {
         return corners(after);
     }
+    if arguments::is(word, b"claims") {
+        return with_file(Word::Claims, word, after);
+    }
     about(word, after)
 }
 
@@ -65,6 +68,30 @@ fn alone(asked: Asked, after: usize) -> Asked {
     asked
 }
 
+// A file has to.
+fn with_file(text: Word, word: usize, after: usize) -> Asked {
+    if after == 0 {
+        return Asked::Wrong(word);
+    }
+    text_of(text)
+}
+
+// Which argument names the file that goes with a task, of what stands after its word; 0 where none goes with it.
+pub fn file_of(task: Task, after: usize) -> usize {
+    match task {
+        Task::Text(word) => file_with(word, after),
+        Task::Corners(_) => 0,
+    }
+}
+
+fn file_with(word: Word, after: usize) -> usize {
+    match word {
+        Word::Answer => 0,
+        Word::Rewrite => 0,
+        Word::Claims => after,
+    }
+}
+
 // A row may.
 fn corners(after: usize) -> Asked {
     if after == 0 {
@@ -88,6 +115,7 @@ fn marks_go_with(word: Word) -> bool {
     match word {
         Word::Answer => true,
         Word::Rewrite => false,
+        Word::Claims => false,
     }
 }
 
@@ -96,6 +124,7 @@ pub fn print<'a>(
     task: Task,
     all: bool,
     marks: &[u64],
+    file: &[u8],
     text: &'a [u8],
     sheet: &'a [u8],
     out: &mut [u8],
@@ -103,7 +132,7 @@ pub fn print<'a>(
     requires { ⌜ sheetRoom ≤ length (now out) ⌝ }
 {
     match task {
-        Task::Text(word) => print_text(word, all, marks, text, sheet, out),
+        Task::Text(word) => print_text(word, all, marks, file, text, sheet, out),
         Task::Corners(rows) => sheets::print(text, sheet, rows, out),
     }
 }
@@ -112,12 +141,13 @@ fn print_text<'a>(
     word: Word,
     all: bool,
     marks: &[u64],
+    file: &[u8],
     text: &'a [u8],
     sheet: &'a [u8],
     out: &mut [u8],
 ) -> Ended
     requires { ⌜ sheetRoom ≤ length (now out) ⌝ }
 {
-    let n = texts::put(word, all, marks, text, sheet, out);
+    let n = texts::put(word, all, marks, file, text, sheet, out);
     output::put(&out[..n])
 }

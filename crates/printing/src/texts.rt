@@ -7,7 +7,7 @@ ghost use Rattle.kinds.specs.Limits.{zonesMost, bordersMost, rowsMost, bytesMos
 ghost use Rattle.kinds.specs.Refusals.{then};
 ghost use Rattle.table.specs.Table.{lent, judgeLent};
 ghost use Rattle.result.specs.Refusal.{refusalText, refusalMost};
-ghost use Rattle.printing.specs.Printed.{bytesOf, Told, toldText, saidOf, wordText, Printed};
+ghost use Rattle.printing.specs.Printed.{bytesOf, Told, toldText, saidOf, wordOf, wordText, Printed};
 use kinds::Border;
 use kinds::BorderRecord;
 use kinds::Header;
@@ -21,18 +21,39 @@ use kinds::Written;
 pub enum Word {
     Answer,
     Rewrite,
+    // the published list of the claims in a file (02, E10)
+    Claims,
 }
 
 pub fn put<'a>(
     word: Word,
     all: bool,
     marks: &[u64],
+    file: &[u8],
     text: &'a [u8],
     sheet: &'a [u8],
     out: &mut [u8],
 ) -> usize
     requires { ⌜ bytesMost ≤ length (now out) ⌝ }
-    ensures { λ r. ⌜ Printed r (wordText word all (now (marks .entry)) (now (text .entry)) (now (sheet .entry))) (now (out .exit)) ⌝ }
+    ensures { λ r. ⌜ Printed r (wordText word all (now (marks .entry)) (now (file .entry)) (now (text .entry)) (now (sheet .entry))) (now (out .exit)) ⌝ }
+{
+    if reading::BYTES_MOST < file.len() {
+        return refusal_line(Refusal::too_long(), out);
+    }
+    put_read(word, all, marks, file, text, sheet, out)
+}
+
+fn put_read<'a>(
+    word: Word,
+    all: bool,
+    marks: &[u64],
+    file: &[u8],
+    text: &'a [u8],
+    sheet: &'a [u8],
+    out: &mut [u8],
+) -> usize
+    requires { ⌜ (length (now file) ≤ bytesMost) × (bytesMost ≤ length (now out)) ⌝ }
+    ensures { λ r. ⌜ Printed r (wordOf word all (now (marks .entry)) (now (file .entry)) (now (text .entry)) (now (sheet .entry))) (now (out .exit)) ⌝ }
 {
     let mut z: [i64; Header::ZONES_MOST] = [0; Header::ZONES_MOST];
     let mut t: [i64; Header::ZONES_MOST] = [0; Header::ZONES_MOST];
@@ -44,6 +65,7 @@ pub fn put<'a>(
         word,
         all,
         marks,
+        file,
         text,
         sheet,
         &mut z,
@@ -55,11 +77,12 @@ pub fn put<'a>(
     )
 }
 
-// The tables are made in `put`, and not here, where goals would spell them out.
+// The tables are made in `put_read`, and not here, where goals would spell them out.
 fn put_in<'a>(
     word: Word,
     all: bool,
     marks: &[u64],
+    file: &[u8],
     text: &'a [u8],
     sheet: &'a [u8],
     z: &mut [i64],
@@ -69,11 +92,11 @@ fn put_in<'a>(
     f: &mut [i64],
     out: &mut [u8],
 ) -> usize
-    requires { ⌜ (zonesMost ≤ length (now z)) × (zonesMost ≤ length (now t)) × (bordersMost ≤ length (now b)) × (rowsMost ≤ length (now c)) × (rowsMost * zonesMost ≤ length (now f)) × (bytesMost ≤ length (now out)) ⌝ }
-    ensures { λ r. ⌜ Printed r (wordText word all (now (marks .entry)) (now (text .entry)) (now (sheet .entry))) (now (out .exit)) ⌝ }
+    requires { ⌜ (zonesMost ≤ length (now z)) × (zonesMost ≤ length (now t)) × (bordersMost ≤ length (now b)) × (rowsMost ≤ length (now c)) × (rowsMost * zonesMost ≤ length (now f)) × (length (now file) ≤ bytesMost) × (bytesMost ≤ length (now out)) ⌝ }
+    ensures { λ r. ⌜ Printed r (wordOf word all (now (marks .entry)) (now (file .entry)) (now (text .entry)) (now (sheet .entry))) (now (out .exit)) ⌝ }
 {
     match reading::read_corrected(text, sheet, z, t, b, c, f) {
-        Read::Table(h) => put_lent(word, all, marks, h, z, t, b, c, f, out),
+        Read::Table(h) => put_lent(word, all, marks, file, h, z, t, b, c, f, out),
         Read::Refused(w) => refusal_line(w, out),
     }
 }
@@ -83,6 +106,7 @@ fn put_lent(
     word: Word,
     all: bool,
     marks: &[u64],
+    file: &[u8],
     h: Header,
     z: &[i64],
     t: &[i64],
@@ -91,12 +115,13 @@ fn put_lent(
     f: &[i64],
     out: &mut [u8],
 ) -> usize
-    requires { ⌜ bytesMost ≤ length (now out) ⌝ }
-    ensures { λ r. ⌜ Printed r (toldText (then (judgeLent (lent h (now (z .entry)) (now (t .entry)) (now (b .entry)) (now (c .entry)) (now (f .entry)))) (saidOf word all (now (marks .entry))))) (now (out .exit)) ⌝ }
+    requires { ⌜ (length (now file) ≤ bytesMost) × (bytesMost ≤ length (now out)) ⌝ }
+    ensures { λ r. ⌜ Printed r (toldText (then (judgeLent (lent h (now (z .entry)) (now (t .entry)) (now (b .entry)) (now (c .entry)) (now (f .entry)))) (saidOf word all (now (marks .entry)) (now (file .entry))))) (now (out .exit)) ⌝ }
 {
     match word {
         Word::Answer => bytes_of(answer::answer_lent(h, z, t, b, c, f, all, marks, out)),
         Word::Rewrite => told(writing::write(h, z, t, b, c, f, out), out),
+        Word::Claims => told(claimtext::published_text(h, z, t, b, c, f, file, out), out),
     }
 }
 

@@ -17,6 +17,10 @@ pub fn usage(fd: i32) -> bool {
             b"       keravnoth corners < TABLE      every corner's flow on each row\n",
         )
         && io::write_all(fd, b"       keravnoth corners ROW < TABLE  .. on one row\n")
+        && io::write_all(
+            fd,
+            b"       keravnoth claims FILE < TABLE  the rows that are left when those claimed in FILE go\n",
+        )
         && io::write_all(fd, b"       keravnoth help, --help         this\n")
         && io::write_all(
             fd,
@@ -48,7 +52,7 @@ fn options(fd: i32) -> bool {
 pub fn version(fd: i32) -> bool {
     io::write_all(
         fd,
-        b"keravnoth: rules: document 01; requests of document 02: E1, E2, E3, E4, E5, E6, E7, E8, E9, E12, E13, E14; C interface: 10\n",
+        b"keravnoth: rules: document 01; requests of document 02: E1, E2, E3, E4, E5, E6, E7, E8, E9, E10, E12, E13, E14; C interface: 11\n",
     )
         && io::write_all(fd, b"proved in the Rattle kit's logic 064da1ca440f63e7\n")
 }
@@ -77,7 +81,7 @@ pub fn unread(name: &[u8]) {
     os::fail(name);
 }
 
-// One line for a refusal, by its number, place and byte (01, "When the table is turned away"; 02, E1, E2, E3, E5, E6 and E13).
+// One line for a refusal, by its number, place and byte (01, "When the table is turned away"; 02, E1, E2, E3, E5, E6, E10 and E13).
 pub fn refusal(number: u64, place: u64, byte: u64) {
     match number {
         1 => say(
@@ -120,6 +124,16 @@ pub fn refusal(number: u64, place: u64, byte: u64) {
             place,
             byte,
             b" has the wrong form or value, an index that is not above the one before, or one that the table has no row for: look at it as at a C line of the table\n",
+        ),
+        11 => say_place(
+            b"keravnoth: claim ",
+            place,
+            b" (from 0) is malformed or out of range: look at its line's form, at D and the multipliers (1 to 1000), that its row and those it cites are kept (state 0), and that no row is claimed twice or cited and claimed\n",
+        ),
+        12 => say_place(
+            b"keravnoth: claim ",
+            place,
+            b" (from 0) is not borne out: the rows that it cites do not make the claimed row redundant\n",
         ),
         13 => bad_mark(place),
         _ => say_place(

@@ -7,13 +7,13 @@ use Rattle.printing.proofs.texts.put_in.Tie as tie
 returns : tie.Need-returns
 returns c =
     let read = c .before .before .before .before .before .before .before .before .before .before .before .before .before .before .before .before .before .read-corrected in
-    lent-printed _ _ _ _ _ _ _ _ _ _ (read .result) (read .ensures) _ (c .before .before .before .before .before .before .before .before .before .before .h .given .1) (c .before .before .put-lent .ensures)
+    lent-printed _ _ _ _ _ _ _ _ _ _ _ (read .result) (read .ensures) _ (c .before .before .before .before .before .before .before .before .before .before .h .given .1) (c .before .before .put-lent .ensures)
 
 returns-2 : tie.Need-returns-2
 returns-2 c =
     let read = c .before .before .before .before .before .before .before .before .before .before .before .before .read-corrected in
-    let p = c .before .before .before .before .before .before .before .before .before .before .before .before .before .before .before .before .before .before .before .before .before .before .pre in
-    refusal-printed _ _ _ _ _ _ _ _ _ _ (read .result) (read .ensures) (p .0) (p .1) (p .2) (p .3) (p .4) _ (c .before .before .before .before .before .w .given .1) (c .before .before .refusal-line .ensures)
+    let p = c .before .before .before .before .before .before .before .before .before .before .before .before .before .before .before .before .before .before .before .before .before .before .before .pre in
+    refusal-printed _ _ _ _ _ _ _ _ _ _ _ (read .result) (read .ensures) (p .0) (p .1) (p .2) (p .3) (p .4) _ (c .before .before .before .before .before .w .given .1) (c .before .before .refusal-line .ensures)
 
 pub put-in-spec : {M : Type 1} → statement M
 put-in-spec =

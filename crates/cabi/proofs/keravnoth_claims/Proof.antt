@@ -1,0 +1,14 @@
+-- `cabi::keravnoth_claims` meets its contract: what `judge_claims` answers, coded.
+use mathlib.Core.Path.{_∙_}
+use borrow.Author.Needs.{needs}
+use Rattle.cabi.proofs.JudgedLaws.{judged-coded}
+use Rattle.cabi.proofs.keravnoth_claims.Statement.{statement}
+use Rattle.cabi.proofs.keravnoth_claims.Tie as tie
+
+returns : tie.Need-returns
+returns c =
+    let said = c .before .judge-claims in
+    c .code-judged .ensures ∙ judged-coded (said .result) _ _ (said .ensures)
+
+pub keravnoth-claims-spec : {M : Type 1} → statement M
+keravnoth-claims-spec = tie.close (tie.spec (λ c κs. search needs) (λ c κs. search needs) returns)

@@ -1,0 +1,13 @@
+-- `cabi::keravnoth_published_text` meets its contract: what `published_text` leaves, coded.
+use mathlib.Core.Path.{ap}
+use borrow.Author.Needs.{needs}
+use Rattle.cabi.specs.Coded.{textCoded}
+use Rattle.cabi.proofs.keravnoth_published_text.Statement.{statement}
+use Rattle.cabi.proofs.keravnoth_published_text.Tie as tie
+
+returns : tie.Need-returns
+returns c = rw (c .code-written .ensures) (ap textCoded (c .before .before .before .published-text .ensures))
+
+pub keravnoth-published-text-spec : {M : Type 1} → statement M
+keravnoth-published-text-spec =
+    tie.close (tie.spec (λ c κs. search needs) (λ c κs. search needs) (λ c. search needs) returns)

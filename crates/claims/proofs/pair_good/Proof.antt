@@ -1,0 +1,96 @@
+-- `claims::pair_good` meets its contract: each test is the definition's, of the pair's numbers.
+use mathlib.Core.Path.{_≡_, sym, ap, _∙_}
+use native.Mathlib.Omega.{arith}
+use borrow.Author.Tests.{not-true, not-false}
+use lib.IntN.{pos}
+use lib.ListN.{length}
+use Rattle.numbers.specs.Ints.{inside}
+use Rattle.numbers.proofs.IntLaws.{plain}
+use Rattle.claims.specs.Claims.{timesMost, citedRow, keptRow, claimedIn, pairGood}
+use borrow.Author.Needs.{needs}
+use Rattle.claims.proofs.pair_good.Statement.{statement}
+use Rattle.claims.proofs.pair_good.Tie as tie
+
+mul-row : tie.Need-mul-row
+mul-row c = search needs
+
+add-row : tie.Need-add-row
+add-row c = search needs
+
+mul-row-2 : tie.Need-mul-row-2
+mul-row-2 c = search needs
+
+array-copy-out-row : tie.Need-array-copy-out-row
+array-copy-out-row c = omega arith
+
+mul-times : tie.Need-mul-times
+mul-times c = search needs
+
+add-times : tie.Need-add-times
+add-times c = search needs
+
+mul-times-2 : tie.Need-mul-times-2
+mul-times-2 c = search needs
+
+array-copy-out-times : tie.Need-array-copy-out-times
+array-copy-out-times c = omega arith
+
+kept-row-requires : tie.Need-kept-row-requires
+kept-row-requires c κs = tt
+
+kept-is : (c : tie.After-kept-row) → c .kept-row .result ≡ keptRow (c .before .before .before .before .args .states .now) (citedRow (c .before .before .before .before .args .t3) (c .before .before .before .before .args .j))
+kept-is c = c .kept-row .ensures ∙ ap (keptRow (c .before .before .before .before .args .states .now)) (plain _ (c .before .before .row .given))
+
+returns : tie.Need-returns
+unfolding pairGood
+returns c = simp (sym (kept-is (c .before)) ∙ not-true _ (c .if1 .taken))
+
+claimed-in-requires : tie.Need-claimed-in-requires
+claimed-in-requires c κs = omega arith
+
+claimed-is : (c : tie.After-claimed-in) → let a = c .before .before .before .before .before .before .args in c .claimed-in .result ≡ claimedIn (a .claims .now) (length (a .claims .now)) (citedRow (a .t3) (a .j))
+claimed-is c = let a = c .before .before .before .before .before .before .args in c .claimed-in .ensures ∙ ap (claimedIn (a .claims .now) (length (a .claims .now))) (plain _ (c .before .before .before .before .row .given))
+
+returns-2 : tie.Need-returns-2
+unfolding pairGood
+returns-2 c = simp (sym (kept-is (c .before .before .before)) ∙ not-false _ (c .before .before .if1 .left), sym (claimed-is (c .before)) ∙ c .if2 .taken)
+
+cited-before-requires : tie.Need-cited-before-requires
+cited-before-requires c κs = c .before .before .before .before .before .before .before .pre
+
+returns-3 : tie.Need-returns-3
+unfolding pairGood
+returns-3 c = simp (sym (kept-is (c .before .before .before .before .before)) ∙ not-false _ (c .before .before .before .before .if1 .left), sym (claimed-is (c .before .before .before)) ∙ c .before .before .if2 .left, sym (c .before .cited-before .ensures) ∙ c .if3 .taken)
+
+inside-requires : tie.Need-inside-requires
+inside-requires c κs = tt
+
+returns-4 : tie.Need-returns-4
+unfolding pairGood
+returns-4 c =
+    let at-cited = c .before .before in
+    let at-claimed = at-cited .before .before in
+    let at-kept = at-claimed .before .before in
+    simp (sym (kept-is at-kept) ∙ not-false _ (at-claimed .before .if1 .left), sym (claimed-is at-claimed) ∙ at-cited .before .if2 .left, sym (at-cited .cited-before .ensures) ∙ c .before .if3 .left)
+    (c .inside .ensures ∙ ap (inside (pos 1) (pos timesMost)) (plain _ (at-kept .before .times .given)))
+
+pub pair-good-spec : {M : Type 1} → statement M
+pair-good-spec =
+    tie.close
+    (tie.spec
+    mul-row
+    add-row
+    mul-row-2
+    array-copy-out-row
+    mul-times
+    add-times
+    mul-times-2
+    array-copy-out-times
+    kept-row-requires
+    returns
+    claimed-in-requires
+    returns-2
+    cited-before-requires
+    returns-3
+    inside-requires
+    returns-4)

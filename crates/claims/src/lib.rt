@@ -1,0 +1,321 @@
+// Judging claims of an outside solver on kept rows (02, E10): the form of a claim, then whether it is borne out.
+ghost use mathlib.Core.Path.{_≡_};
+ghost use mathlib.Core.Bool.{true};
+ghost use Prim.Native.Nat.{_<_, _≤_};
+ghost use lib.IntN.{natAbs, _*ℤ_};
+ghost use lib.ListN.{length};
+ghost use Rattle.numbers.specs.Below.{allBelow};
+ghost use Rattle.kinds.specs.Answers.{ruled};
+ghost use Rattle.kinds.specs.Ranges.{exists};
+ghost use Rattle.table.specs.Table.{lent, front};
+ghost use Rattle.table.specs.Good.{Good};
+ghost use Rattle.start.specs.Start.{rowsOf};
+ghost use Rattle.start.specs.Filled.{rowsWith};
+ghost use Rattle.claims.specs.Claims.{pairsMost, citedRow, multiplier, pairs, keptRow, claimedIn, citedBefore, pairGood, formed, citedSum, excess, level, borneOut, judgeClaims, claimsOf, claimsAnswer};
+ghost use Rattle.claims.specs.Bounds.{ClaimBound, Lent, valueOf};
+use kinds::BorderRecord;
+use kinds::Header;
+use kinds::Judgement;
+use kinds::Refusal;
+use kinds::RowRecord;
+
+// A lent claim: the claimed row, the denominator D, how many pairs there are; then the pairs, each a cited row and its multiplier.
+pub const CLAIM_ITEMS: usize = 35;
+
+pub type ClaimRecord = [i64; CLAIM_ITEMS];
+
+// D and a multiplier are 1 to so much.
+pub const TIMES_MOST: i64 = 1000;
+
+// A claim has at most so many pairs, which its record has room for.
+pub const PAIRS_MOST: i64 = 16;
+
+// A row that exists and is kept.
+fn kept_row(states: &[u64], row: i64) -> bool
+    ensures { λ r. ⌜ r ≡ keptRow (now (states .entry)) row ⌝ }
+{
+    if row < 0 {
+        return false;
+    }
+    let i = row as usize;
+    if i < states.len() {
+        return states[i] == 0;
+    }
+    false
+}
+
+// One of the first n claims names this row.
+pub fn claimed_in(claims: &[ClaimRecord], n: usize, row: i64) -> bool
+    requires { ⌜ n ≤ length (now claims) ⌝ }
+    ensures { λ r. ⌜ r ≡ claimedIn (now (claims .entry)) n row ⌝ }
+{
+    for e in 0..n {
+        let claim = claims[e];
+        if numbers::same(claim[0], row) {
+            return true;
+        }
+    }
+    false
+}
+
+// An earlier pair of the claim cites the row of pair j.
+fn cited_before(claim: ClaimRecord, j: usize) -> bool
+    requires { ⌜ j < pairsMost ⌝ }
+    ensures { λ r. ⌜ r ≡ citedBefore claim j ⌝ }
+{
+    for e in 0..j {
+        if numbers::same(claim[3 + 2 * e], claim[3 + 2 * j]) {
+            return true;
+        }
+    }
+    false
+}
+
+// A pair of right form: a kept row that no claim names and no earlier pair cites, and a multiplier in range.
+fn pair_good(states: &[u64], claims: &[ClaimRecord], claim: ClaimRecord, j: usize) -> bool
+    requires { ⌜ j < pairsMost ⌝ }
+    ensures { λ r. ⌜ r ≡ pairGood (now (states .entry)) (now (claims .entry)) claim j ⌝ }
+{
+    let row = claim[3 + 2 * j];
+    let times = claim[4 + 2 * j];
+    if !kept_row(states, row) {
+        return false;
+    }
+    if claimed_in(claims, claims.len(), row) {
+        return false;
+    }
+    if cited_before(claim, j) {
+        return false;
+    }
+    numbers::inside(times, 1, TIMES_MOST)
+}
+
+fn pairs_good(states: &[u64], claims: &[ClaimRecord], claim: ClaimRecord, n: usize) -> bool
+    requires { ⌜ n ≤ pairsMost ⌝ }
+    ensures { λ r. ⌜ r ≡ allBelow n (pairGood (now (states .entry)) (now (claims .entry)) claim) ⌝ }
+{
+    for j in 0..n {
+        if !pair_good(states, claims, claim, j) {
+            return false;
+        }
+    }
+    true
+}
+
+// 11: whether claim k is of right form. The later of two claims on one row is not.
+fn is_formed(states: &[u64], claims: &[ClaimRecord], k: usize) -> bool
+    requires { ⌜ k < length (now claims) ⌝ }
+    ensures { λ r. ⌜ r ≡ formed (now (states .entry)) (now (claims .entry)) k ⌝ }
+{
+    let claim = claims[k];
+    let row = claim[0];
+    let denominator = claim[1];
+    let pairs = claim[2];
+    if !kept_row(states, row) {
+        return false;
+    }
+    if claimed_in(claims, k, row) {
+        return false;
+    }
+    if !numbers::inside(denominator, 1, TIMES_MOST) {
+        return false;
+    }
+    if !numbers::inside(pairs, 0, PAIRS_MOST) {
+        return false;
+    }
+    pairs_good(states, claims, claim, pairs as usize)
+}
+
+// A row's value, among `stride` of each row.
+fn value_of(rows: usize, xs: &[i64], stride: usize, at: usize, row: i64) -> i64
+    requires { ⌜ Lent rows stride at (now xs) ⌝ }
+    requires { ⌜ exists rows row ≡ true ⌝ }
+    ensures { λ r. ⌜ r ≡ valueOf (now (xs .entry)) stride at (natAbs row) ⌝ }
+{
+    let i = row as usize;
+    xs[i * stride + at]
+}
+
+// The multiplied value of the row that pair j cites.
+fn multiplied(
+    rows: usize,
+    xs: &[i64],
+    stride: usize,
+    at: usize,
+    claim: ClaimRecord,
+    j: usize,
+) -> i64
+    requires { ⌜ Lent rows stride at (now xs) ⌝ }
+    requires { ⌜ ClaimBound rows claim ⌝ }
+    requires { ⌜ j < natAbs (pairs claim) ⌝ }
+    ensures { λ r. ⌜ r ≡ multiplier claim j *ℤ valueOf (now (xs .entry)) stride at (natAbs (citedRow claim j)) ⌝ }
+{
+    let row = claim[3 + 2 * j];
+    let times = claim[4 + 2 * j];
+    let value = value_of(rows, xs, stride, at, row);
+    times * value
+}
+
+// The multiplied values of the cited rows, summed.
+fn cited_sum(rows: usize, xs: &[i64], stride: usize, at: usize, claim: ClaimRecord) -> i64
+    requires { ⌜ Lent rows stride at (now xs) ⌝ }
+    requires { ⌜ ClaimBound rows claim ⌝ }
+    ensures { λ r. ⌜ r ≡ citedSum claim (valueOf (now (xs .entry)) stride at) ⌝ }
+{
+    let pairs = claim[2];
+    let n = pairs as usize;
+    let mut sum: i64 = 0;
+    for j in 0..n {
+        sum += multiplied(rows, xs, stride, at, claim, j);
+    }
+    sum
+}
+
+// .. less D times the claimed row's own.
+fn excess(rows: usize, xs: &[i64], stride: usize, at: usize, claim: ClaimRecord) -> i64
+    requires { ⌜ Lent rows stride at (now xs) ⌝ }
+    requires { ⌜ ClaimBound rows claim ⌝ }
+    ensures { λ r. ⌜ r ≡ excess claim (valueOf (now (xs .entry)) stride at) ⌝ }
+{
+    let row = claim[0];
+    let denominator = claim[1];
+    let sum = cited_sum(rows, xs, stride, at, claim);
+    let value = value_of(rows, xs, stride, at, row);
+    sum - denominator * value
+}
+
+// The factors' excess is one and the same number in each zone.
+fn is_level(rows: usize, zones: usize, f: &[i64], claim: ClaimRecord) -> bool
+    requires { ⌜ Lent rows zones 0 (now f) ⌝ }
+    requires { ⌜ ClaimBound rows claim ⌝ }
+    ensures { λ r. ⌜ r ≡ level zones (now (f .entry)) claim ⌝ }
+{
+    let first = excess(rows, f, zones, 0, claim);
+    for z in 0..zones {
+        if !numbers::same(excess(rows, f, zones, z, claim), first) {
+            return false;
+        }
+    }
+    true
+}
+
+// 12: whether a claim of right form is true. The sums fit: at most 17 values under 2^48, each taken at most a thousand times.
+fn is_borne_out(rows: usize, zones: usize, f: &[i64], rams: &[i64], claim: ClaimRecord) -> bool
+    requires { ⌜ Lent rows zones 0 (now f) ⌝ }
+    requires { ⌜ Lent rows 1 0 (now rams) ⌝ }
+    requires { ⌜ ClaimBound rows claim ⌝ }
+    ensures { λ r. ⌜ r ≡ borneOut zones (now (f .entry)) (now (rams .entry)) claim ⌝ }
+{
+    if !is_level(rows, zones, f, claim) {
+        return false;
+    }
+    excess(rows, rams, 1, 0, claim) <= 0
+}
+
+// Judges the claims on a judged table, whose RAMs and states are known. The first faulty claim decides, form before truth.
+pub fn judge_known(
+    h: Header,
+    f: &[i64],
+    rams: &[i64],
+    states: &[u64],
+    claims: &[ClaimRecord],
+) -> Judgement
+    requires { ⌜ Lent (h .rows) (h .zones) 0 (now f) ⌝ }
+    requires { ⌜ Lent (h .rows) 1 0 (now rams) ⌝ }
+    requires { ⌜ length (now states) ≡ h .rows ⌝ }
+    ensures { λ r. ⌜ ruled r (rowsWith (now (rams .entry)) (now (states .entry))) ≡ judgeClaims (h .zones) (now (f .entry)) (rowsWith (now (rams .entry)) (now (states .entry))) (now (claims .entry)) ⌝ }
+{
+    for k in 0..claims.len() {
+        if !is_formed(states, claims, k) {
+            return Judgement::Refused(Refusal::malformed_claim(k));
+        }
+        if !is_borne_out(h.rows, h.zones, f, rams, claims[k]) {
+            return Judgement::Refused(Refusal::not_borne_out(k));
+        }
+    }
+    Judgement::Passed
+}
+
+// A judged table: the RAM and the state of each row are found in the lent room, and then the claims are judged.
+fn judge_in(
+    h: Header,
+    z: &[i64],
+    t: &[i64],
+    b: &[BorderRecord],
+    c: &[RowRecord],
+    f: &[i64],
+    rams: &mut [i64],
+    starts: &mut [i64],
+    states: &mut [u64],
+    claims: &[ClaimRecord],
+) -> Judgement
+    requires { ⌜ Good (lent h (now z) (now t) (now b) (now c) (now f)) ⌝ }
+    requires { ⌜ (length (now rams) ≡ h .rows) × (length (now starts) ≡ h .rows) ⌝ }
+    requires { ⌜ length (now states) ≡ h .rows ⌝ }
+    ensures { λ r. ⌜ ruled r (rowsOf (lent h (now (z .entry)) (now (t .entry)) (now (b .entry)) (now (c .entry)) (now (f .entry)))) ≡ claimsOf (lent h (now (z .entry)) (now (t .entry)) (now (b .entry)) (now (c .entry)) (now (f .entry))) (now (claims .entry)) ⌝ }
+{
+    start::fill_rows(h, z, t, b, c, f, rams, starts, states);
+    judge_known(h, f, rams, states, claims)
+}
+
+// A judged table. The room to work in is made here, and not in `judge_in`, whose goals would spell it out.
+fn judge_good(
+    h: Header,
+    z: &[i64],
+    t: &[i64],
+    b: &[BorderRecord],
+    c: &[RowRecord],
+    f: &[i64],
+    claims: &[ClaimRecord],
+) -> Judgement
+    requires { ⌜ Good (lent h (now z) (now t) (now b) (now c) (now f)) ⌝ }
+    ensures { λ r. ⌜ ruled r (rowsOf (lent h (now (z .entry)) (now (t .entry)) (now (b .entry)) (now (c .entry)) (now (f .entry)))) ≡ claimsOf (lent h (now (z .entry)) (now (t .entry)) (now (b .entry)) (now (c .entry)) (now (f .entry))) (now (claims .entry)) ⌝ }
+{
+    let rows = h.rows;
+    let mut rams: [i64; Header::ROWS_MOST] = [0; Header::ROWS_MOST];
+    let mut starts: [i64; Header::ROWS_MOST] = [0; Header::ROWS_MOST];
+    let mut states: [u64; Header::ROWS_MOST] = [0; Header::ROWS_MOST];
+    judge_in(
+        h,
+        z,
+        t,
+        b,
+        c,
+        f,
+        &mut rams[..rows],
+        &mut starts[..rows],
+        &mut states[..rows],
+        claims,
+    )
+}
+
+// Judges a list of claims on a lent table. Any input has an answer: there is no `requires`.
+pub fn judge_claims(
+    h: Header,
+    z: &[i64],
+    t: &[i64],
+    b: &[BorderRecord],
+    c: &[RowRecord],
+    f: &[i64],
+    claims: &[ClaimRecord],
+) -> Judgement
+    ensures { λ r. ⌜ ruled r (rowsOf (front (lent h (now (z .entry)) (now (t .entry)) (now (b .entry)) (now (c .entry)) (now (f .entry))))) ≡ claimsAnswer (lent h (now (z .entry)) (now (t .entry)) (now (b .entry)) (now (c .entry)) (now (f .entry))) (now (claims .entry)) ⌝ }
+{
+    let judged = table::judge(h, z, t, b, c, f);
+    let Judgement::Passed = judged else {
+        return judged;
+    };
+    let zones = h.zones;
+    let allocated = h.allocated_items();
+    let borders = h.borders;
+    let rows = h.rows;
+    judge_good(
+        h,
+        &z[..zones],
+        &t[..allocated],
+        &b[..borders],
+        &c[..rows],
+        &f[..rows * zones],
+        claims,
+    )
+}

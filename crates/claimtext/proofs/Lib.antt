@@ -1,0 +1,5 @@
+pub mod Anchors
+pub mod PublishedLaws
+pub mod ReadLaws
+pub mod SameAllowed
+pub mod Unique

@@ -1,0 +1,22 @@
+-- The published list allows the same net positions as all kept rows, among those that sum to zero (02, E10). No contract cites this file.
+use mathlib.Core.Path.{_≡_}
+use mathlib.Core.List.{List}
+use Prim.Native.Nat.{ℕ}
+use Rattle.kinds.specs.Refusals.{passed}
+use Rattle.table.specs.Table.{Table, front}
+use Rattle.start.specs.Start.{rowsOf, kept}
+use Rattle.claims.specs.Claims.{Same, remaining}
+use Rattle.claims.proofs.CanGo.{claimed-rows-can-go}
+use Rattle.claimtext.specs.ClaimText.{claimsIn}
+use Rattle.claimtext.specs.Published.{publishedText, publishedAnswer}
+use Rattle.claimtext.proofs.PublishedLaws.{publishes}
+
+-- the text has the rows that remain, and these allow what all kept rows do
+pub record AllowsTheSame (t : Table) (list text : List ℕ) : Type 0 where
+  pub is : text ≡ publishedText (rowsOf t) (claimsIn list)
+  pub same : Same t (kept (rowsOf t .states)) (remaining (rowsOf t .states) (claimsIn list))
+
+pub published-allows-the-same : (given : Table) (list text : List ℕ) → publishedAnswer given list ≡ passed text → AllowsTheSame (front given) list text
+published-allows-the-same given list text e =
+    let p = publishes given list text e in
+    record { is = p .is; same = claimed-rows-can-go (front given) (claimsIn list) (p .accepted) }

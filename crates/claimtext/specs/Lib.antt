@@ -1,0 +1,3 @@
+pub mod ClaimText
+pub mod Published
+pub mod Read

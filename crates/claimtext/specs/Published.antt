@@ -1,0 +1,47 @@
+-- The published list as text (02, E10), and what the open call `published_text` leaves: D, row, RAM in grains as in the M line, for each kept row that is not claimed.
+use mathlib.Core.Bool.{cond}
+use mathlib.Core.List.{List, [], _∷_}
+use Prim.Native.Char.{code}
+use Prim.Native.Nat.{ℕ, _+_, _*_}
+use lib.Dec.{ltb}
+use lib.IntN.{ℤ}
+use lib.ListN.{length}
+use Rattle.kinds.specs.Limits.{rowsMost, bytesMost}
+use Rattle.kinds.specs.Ranges.{atℤ}
+use Rattle.kinds.specs.Refusals.{Judged, passed, refused, then, tooLong}
+use Rattle.text.specs.Left.{TextLeft, textLeft}
+use Rattle.text.specs.Written.{decimal, decimalℤ, lineText, linesText}
+use Rattle.table.specs.Table.{Table, judgeLent}
+use Rattle.start.specs.Start.{Rows}
+use Rattle.claims.specs.Claims.{claimsOf, remaining}
+use Rattle.claimtext.specs.ClaimText.{claimsIn}
+
+abbrev pub rowLine : (row : ℕ) → (ram : ℤ) → List ℕ
+rowLine row ram = lineText (code "D") (decimal row ∷ decimalℤ ram ∷ [])
+
+-- .. of machine numbers, each of at most 20 bytes: letter, tabs and LF besides
+abbrev pub lineMost : ℕ
+lineMost = 4 + 2 * 20
+
+-- a row that is not published has no line
+unfoldable pub publishedLine : Rows → (claims : List (List ℤ)) → (row : ℕ) → List ℕ
+publishedLine m claims row = cond (remaining (m .states) claims row) (rowLine row (atℤ (m .rams) row)) []
+
+unfoldable pub publishedText : Rows → (claims : List (List ℤ)) → List ℕ
+publishedText m claims = linesText (length (m .states)) 0 (publishedLine m claims)
+
+-- no published list is longer
+abbrev pub publishedMost : ℕ
+publishedMost = rowsMost * lineMost
+
+-- a judged table's: 11 and 12 first
+unfoldable pub publishedOf : Table → (claims : List (List ℤ)) → Judged (List ℕ)
+publishedOf t claims = then (claimsOf t claims) (λ m. passed (publishedText m claims))
+
+-- 1 of the list's text, then the lent tables as for every call on them, then 11 and 12
+unfoldable pub publishedAnswer : (given : Table) → (list : List ℕ) → Judged (List ℕ)
+publishedAnswer given list = cond (ltb bytesMost (length list)) (refused tooLong) (then (judgeLent given) (λ t. publishedOf t (claimsIn list)))
+
+-- .. and last the room for the bytes
+unfoldable pub publishedLeft : (given : Table) → (list out : List ℕ) → TextLeft
+publishedLeft given list out = textLeft (publishedAnswer given list) out

@@ -1,0 +1,142 @@
+// Claims as text, and the published list as text (02, E10). The text's length is counted before the first byte is stored.
+mod published;
+mod read;
+
+ghost use mathlib.Core.Path.{_≡_};
+ghost use Prim.Native.Nat.{suc, _≤_};
+ghost use lib.ListN.{length};
+ghost use Rattle.kinds.specs.Limits.{rowsMost};
+ghost use Rattle.kinds.specs.Refusals.{passed, then};
+ghost use Rattle.text.specs.Left.{textLeft, textSaid};
+ghost use Rattle.table.specs.Table.{lent};
+ghost use Rattle.table.specs.Good.{Good};
+ghost use Rattle.start.specs.Filled.{rowsWith};
+ghost use Rattle.claims.specs.Claims.{judgeClaims};
+ghost use Rattle.claims.specs.Bounds.{Lent};
+ghost use Rattle.claimtext.specs.ClaimText.{claimsMost, claimsIn};
+ghost use Rattle.claimtext.specs.Published.{publishedText, publishedOf, publishedLeft};
+use claims::ClaimRecord;
+use kinds::BorderRecord;
+use kinds::Header;
+use kinds::Judgement;
+use kinds::Refusal;
+use kinds::RowRecord;
+use kinds::Written;
+
+// No published list has more bytes: so many suffice a caller that lends room for any.
+pub const PUBLISHED_MOST: usize = Header::ROWS_MOST * published::LINE_MOST;
+
+// The published list of a lent table, by the text of a list of claims. Any input has an answer: there is no `requires`.
+pub fn published_text(
+    h: Header,
+    z: &[i64],
+    t: &[i64],
+    b: &[BorderRecord],
+    c: &[RowRecord],
+    f: &[i64],
+    list: &[u8],
+    out: &mut [u8],
+) -> Written
+    ensures { λ r. ⌜ textSaid r (now (out .exit)) ≡ publishedLeft (lent h (now (z .entry)) (now (t .entry)) (now (b .entry)) (now (c .entry)) (now (f .entry))) (now (list .entry)) (now (out .entry)) ⌝ }
+{
+    if reading::BYTES_MOST < list.len() {
+        return Written::Refused(Refusal::too_long());
+    }
+    if let Judgement::Refused(w) = table::judge(h, z, t, b, c, f) {
+        return Written::Refused(w);
+    }
+    let zones = h.zones;
+    let allocated = h.allocated_items();
+    let borders = h.borders;
+    let rows = h.rows;
+    publish_good(
+        h,
+        &z[..zones],
+        &t[..allocated],
+        &b[..borders],
+        &c[..rows],
+        &f[..rows * zones],
+        list,
+        out,
+    )
+}
+
+// A judged table. The room to work in is made here, and not in `publish_in`, whose goals would spell it out.
+fn publish_good(
+    h: Header,
+    z: &[i64],
+    t: &[i64],
+    b: &[BorderRecord],
+    c: &[RowRecord],
+    f: &[i64],
+    list: &[u8],
+    out: &mut [u8],
+) -> Written
+    requires { ⌜ Good (lent h (now z) (now t) (now b) (now c) (now f)) ⌝ }
+    ensures { λ r. ⌜ textSaid r (now (out .exit)) ≡ textLeft (publishedOf (lent h (now (z .entry)) (now (t .entry)) (now (b .entry)) (now (c .entry)) (now (f .entry))) (claimsIn (now (list .entry)))) (now (out .entry)) ⌝ }
+{
+    let rows = h.rows;
+    let mut rams: [i64; Header::ROWS_MOST] = [0; Header::ROWS_MOST];
+    let mut starts: [i64; Header::ROWS_MOST] = [0; Header::ROWS_MOST];
+    let mut states: [u64; Header::ROWS_MOST] = [0; Header::ROWS_MOST];
+    let mut memory: [ClaimRecord; read::ROOM] = [[0; claims::CLAIM_ITEMS]; read::ROOM];
+    publish_in(
+        h,
+        z,
+        t,
+        b,
+        c,
+        f,
+        list,
+        &mut rams[..rows],
+        &mut starts[..rows],
+        &mut states[..rows],
+        &mut memory,
+        out,
+    )
+}
+
+// .. with that room: the RAM and the state of each row, the claims, and what they come to.
+fn publish_in(
+    h: Header,
+    z: &[i64],
+    t: &[i64],
+    b: &[BorderRecord],
+    c: &[RowRecord],
+    f: &[i64],
+    list: &[u8],
+    rams: &mut [i64],
+    starts: &mut [i64],
+    states: &mut [u64],
+    memory: &mut [ClaimRecord],
+    out: &mut [u8],
+) -> Written
+    requires { ⌜ Good (lent h (now z) (now t) (now b) (now c) (now f)) ⌝ }
+    requires { ⌜ (length (now rams) ≡ h .rows) × (length (now starts) ≡ h .rows) ⌝ }
+    requires { ⌜ (length (now states) ≡ h .rows) × (length (now memory) ≡ suc claimsMost) ⌝ }
+    ensures { λ r. ⌜ textSaid r (now (out .exit)) ≡ textLeft (publishedOf (lent h (now (z .entry)) (now (t .entry)) (now (b .entry)) (now (c .entry)) (now (f .entry))) (claimsIn (now (list .entry)))) (now (out .entry)) ⌝ }
+{
+    start::fill_rows(h, z, t, b, c, f, rams, starts, states);
+    let n = read::read_claims(list, memory);
+    publish(h, f, rams, states, &memory[..n], out)
+}
+
+// A judged table whose RAMs and states are known: the claims are judged, and then the list is written.
+fn publish(
+    h: Header,
+    f: &[i64],
+    rams: &[i64],
+    states: &[u64],
+    claims: &[ClaimRecord],
+    out: &mut [u8],
+) -> Written
+    requires { ⌜ Lent (h .rows) (h .zones) 0 (now f) ⌝ }
+    requires { ⌜ Lent (h .rows) 1 0 (now rams) ⌝ }
+    requires { ⌜ (length (now states) ≡ h .rows) × (h .rows ≤ rowsMost) ⌝ }
+    ensures { λ r. ⌜ textSaid r (now (out .exit)) ≡ textLeft (then (judgeClaims (h .zones) (now (f .entry)) (rowsWith (now (rams .entry)) (now (states .entry))) (now (claims .entry))) (λ m. passed (publishedText m (now (claims .entry))))) (now (out .entry)) ⌝ }
+{
+    if let Judgement::Refused(w) = claims::judge_known(h, f, rams, states, claims) {
+        return Written::Refused(w);
+    }
+    published::write_rows(rams, states, claims, out)
+}

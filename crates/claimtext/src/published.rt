@@ -1,0 +1,109 @@
+// The published list as text: a D line for each kept row that no claim names.
+ghost use mathlib.Core.Path.{_≡_};
+ghost use Prim.Native.Nat.{_+_, _<_, _≤_};
+ghost use lib.ListN.{length};
+ghost use Rattle.kinds.specs.Limits.{rowsMost};
+ghost use Rattle.kinds.specs.Refusals.{passed};
+ghost use Rattle.text.specs.Left.{textLeft, textSaid};
+ghost use Rattle.text.specs.Put.{Put};
+ghost use Rattle.start.specs.Filled.{rowsWith};
+ghost use Rattle.claims.specs.Claims.{remaining};
+ghost use Rattle.claimtext.specs.Published.{rowLine, lineMost, publishedLine, publishedText};
+use claims::ClaimRecord;
+use kinds::Refusal;
+use kinds::Written;
+
+// A line's letter, tabs and LF, and two machine numbers of at most 20 bytes each.
+pub const LINE_MOST: usize = 4 + 2 * 20;
+
+// What is left to judge is the room for the text.
+pub fn write_rows(rams: &[i64], states: &[u64], claims: &[ClaimRecord], out: &mut [u8]) -> Written
+    requires { ⌜ (length (now rams) ≡ length (now states)) × (length (now states) ≤ rowsMost) ⌝ }
+    ensures { λ r. ⌜ textSaid r (now (out .exit)) ≡ textLeft (passed (publishedText (rowsWith (now (rams .entry)) (now (states .entry))) (now (claims .entry)))) (now (out .entry)) ⌝ }
+{
+    let needed = text_length(rams, states, claims);
+    if out.len() < needed {
+        return Written::Refused(Refusal::too_short(needed));
+    }
+    Written::Bytes(put_rows(rams, states, claims, out))
+}
+
+fn text_length(rams: &[i64], states: &[u64], claims: &[ClaimRecord]) -> usize
+    requires { ⌜ (length (now rams) ≡ length (now states)) × (length (now states) ≤ rowsMost) ⌝ }
+    ensures { λ r. ⌜ r ≡ length (publishedText (rowsWith (now (rams .entry)) (now (states .entry))) (now (claims .entry))) ⌝ }
+{
+    let mut sum: usize = 0;
+    for i in 0..states.len() {
+        sum += line_length(rams, states, claims, i);
+    }
+    sum
+}
+
+fn line_length(rams: &[i64], states: &[u64], claims: &[ClaimRecord], row: usize) -> usize
+    requires { ⌜ (length (now rams) ≡ length (now states)) × (length (now states) ≤ rowsMost) × (row < length (now states)) ⌝ }
+    ensures { λ r. ⌜ (r ≡ length (publishedLine (rowsWith (now (rams .entry)) (now (states .entry))) (now (claims .entry)) row)) × (r ≤ lineMost) ⌝ }
+{
+    if is_published(states, claims, row) {
+        return row_length(row, rams[row]);
+    }
+    0
+}
+
+// The letter, a tab before each field, the LF; and the fields.
+fn row_length(row: usize, ram: i64) -> usize
+    ensures { λ r. ⌜ (r ≡ length (rowLine row ram)) × (r ≤ lineMost) ⌝ }
+{
+    let digits = text::put::digit_count(row as u64);
+    4 + digits + text::put::signed_length(ram)
+}
+
+// Whether a row is kept and no claim names it.
+fn is_published(states: &[u64], claims: &[ClaimRecord], row: usize) -> bool
+    requires { ⌜ (length (now states) ≤ rowsMost) × (row < length (now states)) ⌝ }
+    ensures { λ r. ⌜ r ≡ remaining (now (states .entry)) (now (claims .entry)) row ⌝ }
+{
+    if states[row] == 0 {
+        return !claims::claimed_in(claims, claims.len(), row as i64);
+    }
+    false
+}
+
+fn put_rows(rams: &[i64], states: &[u64], claims: &[ClaimRecord], out: &mut [u8]) -> usize
+    requires { ⌜ (length (now rams) ≡ length (now states)) × (length (now states) ≤ rowsMost) ⌝ }
+    requires { ⌜ length (publishedText (rowsWith (now rams) (now states)) (now claims)) ≤ length (now out) ⌝ }
+    ensures { λ r. ⌜ Put (publishedText (rowsWith (now (rams .entry)) (now (states .entry))) (now (claims .entry))) 0 (now (out .entry)) r (now (out .exit)) ⌝ }
+{
+    let mut next: usize = 0;
+    for i in 0..states.len() {
+        next = put_line(rams, states, claims, i, out, next);
+    }
+    next
+}
+
+fn put_line(
+    rams: &[i64],
+    states: &[u64],
+    claims: &[ClaimRecord],
+    row: usize,
+    out: &mut [u8],
+    at: usize,
+) -> usize
+    requires { ⌜ (length (now rams) ≡ length (now states)) × (length (now states) ≤ rowsMost) × (row < length (now states)) ⌝ }
+    requires { ⌜ at + length (publishedLine (rowsWith (now rams) (now states)) (now claims) row) ≤ length (now out) ⌝ }
+    ensures { λ r. ⌜ Put (publishedLine (rowsWith (now (rams .entry)) (now (states .entry))) (now (claims .entry)) row) at (now (out .entry)) r (now (out .exit)) ⌝ }
+{
+    if is_published(states, claims, row) {
+        return put_row(row, rams[row], out, at);
+    }
+    at
+}
+
+fn put_row(row: usize, ram: i64, out: &mut [u8], at: usize) -> usize
+    requires { ⌜ at + length (rowLine row ram) ≤ length (now out) ⌝ }
+    ensures { λ r. ⌜ Put (rowLine row ram) at (now (out .entry)) r (now (out .exit)) ⌝ }
+{
+    let next = text::put::put_byte(b'D', out, at);
+    let next = text::put::put_number_field(row as u64, out, next);
+    let next = text::put::put_signed_field(ram, out, next);
+    text::put::put_byte(b'\n', out, next)
+}
