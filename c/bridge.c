@@ -9,7 +9,7 @@
  * A request: its words (struct request), then the lent buffers.  The words are the
  * call, its header (zones, borders, rows, share, intraday) and its row (each 0 where
  * the call takes none), and the counts of items of z, t, b, c, f, p, marks, atc,
- * left, flows, claims, text, sheet and out (0 where the call does not take
+ * left, flows, claims, parts, text, sheet and out (0 where the call does not take
  * that buffer).  The buffers that the call takes follow in this order, each with
  * BEFORE items before the lent part and AFTER items after it.
  *
@@ -34,17 +34,19 @@ enum {
     READ = 1, WRITE, EXTRACT, RESULT_TEXT, ANSWER, CORNER_FLOWS, CORNER_TEXT,
     EXTRACT_MARKED, RESULT_TEXT_MARKED, ANSWER_MARKED,
     READ_CORRECTED, ANSWER_CORRECTED, REWRITE_CORRECTED,
-    JUDGE_CLAIMS, PUBLISHED_TEXT, CALLS
+    JUDGE_CLAIMS, PUBLISHED_TEXT,
+    BOUND, BOUND_MARKED, MARGINS, CALLS
 };
 
 /* Buffers of numbers stand before buffers of bytes, so each is aligned. */
-enum { Z, T, B, C, F, P, MARKS, ATC, LEFT, FLOWS, CLAIMS, TEXT, SHEET, OUT, BUFFERS };
+enum { Z, T, B, C, F, P, MARKS, ATC, LEFT, FLOWS, CLAIMS, PARTS, TEXT, SHEET, OUT, BUFFERS };
 
 typedef int64_t border_record[KERAVNOTH_B_ITEMS];
 typedef int64_t row_record[KERAVNOTH_C_ITEMS];
 typedef int64_t atc_record[KERAVNOTH_ATC_ITEMS];
 typedef int64_t left_record[KERAVNOTH_LEFT_ITEMS];
 typedef int64_t claim_record[KERAVNOTH_CLAIM_ITEMS];
+typedef int64_t parts_record[KERAVNOTH_PARTS_ITEMS];
 
 static const size_t item_bytes[BUFFERS] = {
     [Z] = sizeof(int64_t),
@@ -58,6 +60,7 @@ static const size_t item_bytes[BUFFERS] = {
     [LEFT] = sizeof(left_record),
     [FLOWS] = sizeof(int64_t),
     [CLAIMS] = sizeof(claim_record),
+    [PARTS] = sizeof(parts_record),
     [TEXT] = 1,
     [SHEET] = 1,
     [OUT] = 1,
@@ -80,6 +83,9 @@ static const unsigned char takes[CALLS][BUFFERS] = {
     [REWRITE_CORRECTED] = {[TEXT] = 1, [SHEET] = 1, [OUT] = 1},
     [JUDGE_CLAIMS] = {[Z] = 1, [T] = 1, [B] = 1, [C] = 1, [F] = 1, [CLAIMS] = 1},
     [PUBLISHED_TEXT] = {[Z] = 1, [T] = 1, [B] = 1, [C] = 1, [F] = 1, [SHEET] = 1, [OUT] = 1},
+    [BOUND] = {[Z] = 1, [T] = 1, [B] = 1, [C] = 1, [F] = 1},
+    [BOUND_MARKED] = {[Z] = 1, [T] = 1, [B] = 1, [C] = 1, [F] = 1, [MARKS] = 1},
+    [MARGINS] = {[Z] = 1, [T] = 1, [B] = 1, [C] = 1, [F] = 1, [PARTS] = 1},
 };
 
 /* The most bytes that the buffers of a request may have, guards included. */
@@ -155,6 +161,35 @@ static size_t make(const struct request *r, unsigned char *const *at, uint64_t *
         answer[2] = said.byte;
         answer[3] = said.rounds;
         return 4;
+    }
+    if (r->call == BOUND || r->call == BOUND_MARKED) {
+        struct KeravnothBounded said;
+        if (r->call == BOUND)
+            said = keravnoth_bound(
+                HEADER(r),
+                z, nz, t, nt, (const border_record *)b, nb, (const row_record *)c, nc, f, nf);
+        else
+            said = keravnoth_bound_marked(
+                HEADER(r),
+                z, nz, t, nt, (const border_record *)b, nb, (const row_record *)c, nc, f, nf,
+                marks, r->count[MARKS]);
+        answer[0] = said.number;
+        answer[1] = said.place;
+        answer[2] = said.byte;
+        answer[3] = said.sharers;
+        answer[4] = said.bits;
+        answer[5] = said.rounds;
+        return 6;
+    }
+    if (r->call == MARGINS) {
+        struct KeravnothJudged said = keravnoth_margins(
+            HEADER(r),
+            z, nz, t, nt, (const border_record *)b, nb, (const row_record *)c, nc, f, nf,
+            (parts_record *)at[PARTS], r->count[PARTS]);
+        answer[0] = said.number;
+        answer[1] = said.place;
+        answer[2] = said.byte;
+        return 3;
     }
     if (r->call == CORNER_FLOWS) {
         struct KeravnothFlows said = keravnoth_corner_flows(

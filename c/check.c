@@ -20,7 +20,7 @@
 #include <stdio.h>
 #include <string.h>
 
-enum { CALLS = 15, THREADS = 4, TURNS = 8, KIB = 1024, SPARE = 256 };
+enum { CALLS = 18, THREADS = 4, TURNS = 8, KIB = 1024, SPARE = 256 };
 
 /* Everything that the calls are lent, once a thread. */
 struct room {
@@ -36,6 +36,7 @@ struct room {
     int64_t atc[KERAVNOTH_BORDERS_MOST][KERAVNOTH_ATC_ITEMS];
     int64_t left[KERAVNOTH_ROWS_MOST][KERAVNOTH_LEFT_ITEMS];
     int64_t flows[KERAVNOTH_CORNERS_MOST];
+    int64_t parts[KERAVNOTH_ROWS_MOST][KERAVNOTH_PARTS_ITEMS];
     int64_t claims[KERAVNOTH_ROWS_MOST][KERAVNOTH_CLAIM_ITEMS];
     uint8_t text[KERAVNOTH_TEXT_MOST + 1];
     uint8_t out[KERAVNOTH_CORNER_TEXT_MOST];
@@ -168,6 +169,22 @@ static void published_text(struct room *r)
         TABLE(r), list, sizeof list - 1, r->out, KERAVNOTH_PUBLISHED_TEXT_MOST);
 }
 
+static void bound(struct room *r)
+{
+    keravnoth_bound(TABLE(r));
+}
+
+static void bound_marked(struct room *r)
+{
+    size_t count = mark(r);
+    keravnoth_bound_marked(TABLE(r), r->marks, count);
+}
+
+static void margins(struct room *r)
+{
+    keravnoth_margins(TABLE(r), r->parts, KERAVNOTH_ROWS_MOST);
+}
+
 static const struct {
     const char *name;
     void (*make)(struct room *);
@@ -188,6 +205,9 @@ static const struct {
     {"corner_text", corner_text, KERAVNOTH_CORNER_TEXT_STACK},
     {"claims", claims, KERAVNOTH_CLAIMS_STACK},
     {"published_text", published_text, KERAVNOTH_PUBLISHED_TEXT_STACK},
+    {"bound", bound, KERAVNOTH_BOUND_STACK},
+    {"bound_marked", bound_marked, KERAVNOTH_BOUND_MARKED_STACK},
+    {"margins", margins, KERAVNOTH_MARGINS_STACK},
 };
 
 static int load(struct room *r, const char *name)
@@ -320,6 +340,15 @@ static int check_null(const char *name)
     same &= SAME(
         keravnoth_published_text(TABLE(r), NULL, 0, NULL, 0),
         keravnoth_published_text(TABLE(r), r->text, 0, r->out, 0));
+    same &= SAME(
+        keravnoth_bound(header(r), NONE),
+        keravnoth_bound(header(r), SOME));
+    same &= SAME(
+        keravnoth_bound_marked(TABLE(r), NULL, 0),
+        keravnoth_bound_marked(TABLE(r), r->marks, 0));
+    same &= SAME(
+        keravnoth_margins(TABLE(r), NULL, 0),
+        keravnoth_margins(TABLE(r), r->parts, 0));
     puts(same ? "NULL with count 0 answers as count 0" : "NULL with count 0 answers otherwise");
     return same ? 0 : 1;
 }

@@ -55,6 +55,11 @@
  *   left     one record a row: state (0 kept, 1 under 5%, 2 parallel to a row
  *            that is kept), RAM in grains, margin left in grains or -1 where the
  *            state is not 0
+ *   parts    (out of keravnoth_margins) one record a row: state, n (how many borders
+ *            have p > 0 on it, all borders counted), and in grains F0core, Fuaf, Base,
+ *            AMR, S, LTA margin, CVA, IVA, RAM and the starting margin: RAM - S, or in
+ *            an intraday table the remainder, 0 where negative; of every row, kept or
+ *            not
  *   flows    (out of keravnoth_corner_flows) one int64_t a corner, corner 0
  *            first; corner k uses border b at its whole LTA where bit b of k is
  *            set, else at 0; its flow in grains is the sum over the used borders
@@ -111,15 +116,15 @@
  *   Order.  keravnoth_read: 1, then 2 and 3 line by line, 4, 8; with a correction
  *   sheet 1 of either text, 2 to 4 of the table's, 10, 8; 5, 6 and 7 are of the
  *   merged table.  The calls on lent tables: the header (3), lengths (8) in the order
- *   z, t, b, c, f, p, records (3), 4; the extraction and the result text go on to 13,
- *   5, 6, 7, the corner sheet to 9, the claims to 11 and 12, claim by claim (1 of
- *   their text goes first); last comes room for results (8), atc before left.  The
- *   corner sheet and the claims do not judge 5, 6, 7: a table that the extraction
- *   refuses has them.
+ *   z, t, b, c, f, p, records (3), 4; the extraction, the result text and the bound
+ *   go on to 13, 5, 6, 7, the corner sheet to 9, the claims to 11 and 12, claim by
+ *   claim (1 of their text goes first); last comes room for results (8), atc before
+ *   left.  The corner sheet, the claims and the margins do not judge 5, 6, 7: a table
+ *   that the extraction refuses has them.
  *
  * LENT MEMORY
- *   Each pointer goes with the count of its items (records for b, c, claims, atc and
- *   left; numbers for z, t, f, p, marks and flows; bytes for text, sheet,
+ *   Each pointer goes with the count of its items (records for b, c, claims, atc,
+ *   left and parts; numbers for z, t, f, p, marks and flows; bytes for text, sheet,
  *   list and for out that takes text) and points to that many; it is aligned for its
  *   type.  What is written to overlaps nothing else that is lent.  Nothing is kept
  *   after the call, nothing is allocated.
@@ -159,7 +164,7 @@
 extern "C" {
 #endif
 
-#define KERAVNOTH_VERSION 11
+#define KERAVNOTH_VERSION 12
 
 /* The largest table, in items. */
 enum {
@@ -258,6 +263,23 @@ enum {
     KERAVNOTH_NO_MARGIN = -1
 };
 
+/* .. of parts. */
+enum {
+    KERAVNOTH_PARTS_STATE,
+    KERAVNOTH_PARTS_N,
+    KERAVNOTH_PARTS_F0CORE,
+    KERAVNOTH_PARTS_FUAF,
+    KERAVNOTH_PARTS_BASE,
+    KERAVNOTH_PARTS_AMR,
+    KERAVNOTH_PARTS_S,
+    KERAVNOTH_PARTS_LTA_MARGIN,
+    KERAVNOTH_PARTS_CVA,
+    KERAVNOTH_PARTS_IVA,
+    KERAVNOTH_PARTS_RAM,
+    KERAVNOTH_PARTS_START,
+    KERAVNOTH_PARTS_ITEMS
+};
+
 /* Grains to a kW, kW to a MW. */
 enum {
     KERAVNOTH_GRAINS_PER_KW = 100000,
@@ -270,17 +292,20 @@ enum {
     KERAVNOTH_READ_CORRECTED_STACK = 5120,
     KERAVNOTH_WRITE_STACK = 2048,
     KERAVNOTH_REWRITE_CORRECTED_STACK = 45056,
-    KERAVNOTH_EXTRACT_STACK = 18432,
-    KERAVNOTH_EXTRACT_MARKED_STACK = 14336,
-    KERAVNOTH_RESULT_TEXT_STACK = 123904,
-    KERAVNOTH_RESULT_TEXT_MARKED_STACK = 123904,
-    KERAVNOTH_ANSWER_STACK = 163840,
-    KERAVNOTH_ANSWER_MARKED_STACK = 163840,
-    KERAVNOTH_ANSWER_CORRECTED_STACK = 163840,
+    KERAVNOTH_EXTRACT_STACK = 19456,
+    KERAVNOTH_EXTRACT_MARKED_STACK = 16384,
+    KERAVNOTH_RESULT_TEXT_STACK = 124928,
+    KERAVNOTH_RESULT_TEXT_MARKED_STACK = 124928,
+    KERAVNOTH_ANSWER_STACK = 164864,
+    KERAVNOTH_ANSWER_MARKED_STACK = 164864,
+    KERAVNOTH_ANSWER_CORRECTED_STACK = 164864,
     KERAVNOTH_CORNER_FLOWS_STACK = 3072,
     KERAVNOTH_CORNER_TEXT_STACK = 35840,
     KERAVNOTH_CLAIMS_STACK = 7168,
-    KERAVNOTH_PUBLISHED_TEXT_STACK = 65536
+    KERAVNOTH_PUBLISHED_TEXT_STACK = 65536,
+    KERAVNOTH_BOUND_STACK = 113664,
+    KERAVNOTH_BOUND_MARKED_STACK = 113664,
+    KERAVNOTH_MARGINS_STACK = 6144
 };
 
 /* The header of a table, by value; share where the H line does not write it, and
@@ -340,6 +365,16 @@ struct KeravnothJudged {
     uint32_t number;
     size_t place;
     size_t byte;
+};
+
+/* The bound of the rounds: N, L, and 2 x N x L, which the rounds are never more than. */
+struct KeravnothBounded {
+    uint32_t number;
+    size_t place;
+    size_t byte;
+    uint64_t sharers;
+    uint64_t bits;
+    uint64_t rounds;
 };
 
 /* Reads a table's text into z, t, b, c and f.  Refusals 1, 2, 3, 4, 8. */
@@ -492,6 +527,38 @@ struct KeravnothWritten keravnoth_published_text(
     const int64_t *f, size_t nf,
     const uint8_t *list, size_t nlist,
     uint8_t *out, size_t nout);
+
+/* How many rounds the extraction of these tables can take at most, known before the first
+   of them: it costs less than one round.  Refusals 3 to 8, as the extraction's, but no
+   room is asked for. */
+struct KeravnothBounded keravnoth_bound(
+    struct KeravnothHeader header,
+    const int64_t *z, size_t nz,
+    const int64_t *t, size_t nt,
+    const int64_t (*b)[KERAVNOTH_B_ITEMS], size_t nb,
+    const int64_t (*c)[KERAVNOTH_C_ITEMS], size_t nc,
+    const int64_t *f, size_t nf);
+
+/* .. where only the marked borders may rise.  Refusals 3 to 8, 13. */
+struct KeravnothBounded keravnoth_bound_marked(
+    struct KeravnothHeader header,
+    const int64_t *z, size_t nz,
+    const int64_t *t, size_t nt,
+    const int64_t (*b)[KERAVNOTH_B_ITEMS], size_t nb,
+    const int64_t (*c)[KERAVNOTH_C_ITEMS], size_t nc,
+    const int64_t *f, size_t nf,
+    const uint64_t *marks, size_t nmarks);
+
+/* What the margin of each row is made of, also of tables that the extraction refuses.
+   Refusals 3, 4, 8. */
+struct KeravnothJudged keravnoth_margins(
+    struct KeravnothHeader header,
+    const int64_t *z, size_t nz,
+    const int64_t *t, size_t nt,
+    const int64_t (*b)[KERAVNOTH_B_ITEMS], size_t nb,
+    const int64_t (*c)[KERAVNOTH_C_ITEMS], size_t nc,
+    const int64_t *f, size_t nf,
+    int64_t (*out)[KERAVNOTH_PARTS_ITEMS], size_t nout);
 
 #ifdef __cplusplus
 }

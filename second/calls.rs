@@ -53,6 +53,17 @@ pub struct Flows {
     pub corners: usize,
 }
 
+/// What the bound says.
+#[derive(Clone, Copy, Debug, PartialEq, Eq)]
+pub struct Bounded {
+    pub number: u64,
+    pub place: usize,
+    pub byte: usize,
+    pub sharers: u64,
+    pub bits: u64,
+    pub rounds: u64,
+}
+
 /// What a call says that has nothing to say but a refusal.
 #[derive(Clone, Copy, Debug, PartialEq, Eq)]
 pub struct Judged {
@@ -282,6 +293,32 @@ impl Bridge {
         self.back(text);
         self.back(out);
         Ok(Written { number, place: place as usize, byte: byte as usize, bytes: bytes as usize })
+    }
+
+    /// With a list of marks: the call that takes one.
+    pub fn bound(&mut self, mut l: Lent, marks: Option<&mut [u64]>) -> Result<Bounded, Ended> {
+        let call = if marks.is_some() { wire::BOUND_MARKED } else { wire::BOUND };
+        self.begin(call, l.header);
+        self.lend_tables(&l);
+        if let Some(marks) = &marks {
+            self.lend(wire::MARKS, marks);
+        }
+        let [number, place, byte, sharers, bits, rounds] = self.ask()?;
+        self.tables_back(&mut l);
+        if let Some(marks) = marks {
+            self.back(marks);
+        }
+        Ok(Bounded { number, place: place as usize, byte: byte as usize, sharers, bits, rounds })
+    }
+
+    pub fn margins(&mut self, mut l: Lent, parts: &mut [[i64; 12]]) -> Result<Judged, Ended> {
+        self.begin(wire::MARGINS, l.header);
+        self.lend_tables(&l);
+        self.lend(wire::PARTS, parts);
+        let [number, place, byte] = self.ask()?;
+        self.tables_back(&mut l);
+        self.back(parts);
+        Ok(Judged { number, place: place as usize, byte: byte as usize })
     }
 
     pub fn corner_flows(&mut self, mut l: Lent, row: usize, flows: &mut [i64]) -> Result<Flows, Ended> {

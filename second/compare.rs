@@ -23,6 +23,8 @@ mod claim_lists;
 mod damage;
 #[path = "dice.rs"]
 mod dice;
+#[path = "known.rs"]
+mod known;
 #[path = "lent.rs"]
 mod lent;
 #[path = "make.rs"]
@@ -69,6 +71,8 @@ const MARKS_EVERY: u64 = 8;
 const BAD_SHEETS_EVERY: u64 = 8;
 /// .. a table made for claims.
 const CLAIMS_EVERY: u64 = 4;
+/// .. bad lists of marks and bad tables for the bound and the margins.
+const KNOWN_EVERY: u64 = 8;
 
 /// The refusals that a run meets.
 const REFUSALS: [usize; 13] = [1, 2, 3, 4, 5, 6, 7, 8, 9, 10, 11, 12, 13];
@@ -534,6 +538,9 @@ fn main() {
             }
             if number % CLAIMS_EVERY == 0 {
                 c.claim_tables(number / CLAIMS_EVERY);
+            }
+            if number % KNOWN_EVERY == 0 {
+                c.known_tables(number / KNOWN_EVERY);
             }
         }
         if number < texts {

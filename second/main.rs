@@ -4,9 +4,11 @@
 //! with `corners` and a row's index, the sheet of that row.
 //! With `claims` and a file: the published list that the claims in it leave, or the
 //! E line.
-//! With `--marks` and a list, numbers with commas between: the result where only the
-//! marked borders rise.  With `--corrections` and a file, each of these of the table that
-//! has the rows of that correction sheet.
+//! With `bound`: the hour's own bound of the rounds; with `margins`: what each row's
+//! margin is made of; or the E line.
+//! With `--marks` and a list, numbers with commas between: the result or the bound
+//! where only the marked borders rise.  With `--corrections` and a file, each of these of the
+//! table that has the rows of that correction sheet.
 
 #[path = "second.rs"]
 mod second;
@@ -23,6 +25,9 @@ enum Work {
     Corners(Option<usize>),
     /// the file of the list
     Claims(String),
+    /// with a list of marks, or without one
+    Bound(Option<Vec<u64>>),
+    Margins,
 }
 
 /// An index: a number as the table writes it.
@@ -74,6 +79,8 @@ fn asked(arguments: &[String]) -> Option<(Work, Option<String>)> {
         (["corners"], None) => Work::Corners(None),
         (["corners", row], None) => Work::Corners(Some(index(row)?)),
         (["claims", file], None) => Work::Claims(file.to_string()),
+        (["bound"], marks) => Work::Bound(marks),
+        (["margins"], None) => Work::Margins,
         _ => return None,
     };
     Some((work, options.corrections))
@@ -103,13 +110,15 @@ fn answer(work: Work, corrections: Option<String>) -> Result<Vec<u8>, String> {
         Work::Rewrite => second::rewrite_by(&text, &sheet),
         Work::Corners(only) => second::corners_by(&text, &sheet, only),
         Work::Claims(file) => second::claims::published(read(), &text_of(&file)?),
+        Work::Bound(marks) => second::bound_text(&text, &sheet, marks.as_deref()),
+        Work::Margins => second::margins_text(&text, &sheet),
     })
 }
 
 fn main() -> ExitCode {
     let arguments: Vec<String> = std::env::args().skip(1).collect();
     let Some((work, corrections)) = asked(&arguments) else {
-        eprintln!("arguments: none, \"rewrite\", \"corners\", \"corners\" and a row's index, or \"claims\" and a file; with each also \"--corrections\" and a file; with none also \"--marks\" and a list");
+        eprintln!("arguments: none, \"rewrite\", \"corners\", \"corners\" and a row's index, \"claims\" and a file, \"bound\" or \"margins\"; with each also \"--corrections\" and a file; with none and \"bound\" also \"--marks\" and a list");
         return ExitCode::from(2);
     };
     let answer = match answer(work, corrections) {

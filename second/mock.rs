@@ -139,6 +139,30 @@ fn result_text_marked(l: &mut LentTables, marks: &Lent<u64>, out: &mut Lent<u8>)
     text_to(text, out)
 }
 
+fn bound(l: &mut LentTables, marks: Option<&Lent<u64>>) -> [u64; 6] {
+    let found = match marks {
+        Some(marks) => second::bound_marked(l.lend(), marks),
+        None => second::bound(l.lend()),
+    };
+    match found {
+        Err(refusal) => {
+            let [number, place, byte] = why(refusal);
+            [number, place, byte, 0, 0, 0]
+        }
+        Ok(bound) => [0, 0, 0, bound.sharers, bound.bits, bound.rounds],
+    }
+}
+
+fn margins(l: &mut LentTables, parts: &mut Lent<[i64; 12]>) -> [u64; 3] {
+    match second::margins(l.lend(), parts.len()) {
+        Err(refusal) => why(refusal),
+        Ok(found) => {
+            parts[..found.len()].copy_from_slice(&found);
+            [0, 0, 0]
+        }
+    }
+}
+
 fn corner_flows(l: &mut LentTables, row: usize, flows: &mut Lent<i64>) -> [u64; 4] {
     match second::corner_flows(l.lend(), row, flows.len()) {
         Err(refusal) => refused(refusal),
@@ -334,6 +358,22 @@ fn serve<R: Read>(request: &mut Request<R>, to: &mut Vec<u8>) -> std::io::Result
             wire::put_all(&marks.whole, to);
             wire::put_all(&text.whole, to);
             wire::put_all(&out.whole, to);
+        }
+        call @ (wire::BOUND | wire::BOUND_MARKED) => {
+            let mut l = request.tables()?;
+            let marks = if call == wire::BOUND_MARKED { Some(request.lent(wire::MARKS)?) } else { None };
+            put_fields(&bound(&mut l, marks.as_ref()), to);
+            put_tables(&l, to);
+            if let Some(marks) = marks {
+                wire::put_all(&marks.whole, to);
+            }
+        }
+        wire::MARGINS => {
+            let mut l = request.tables()?;
+            let mut parts = request.lent(wire::PARTS)?;
+            put_fields(&margins(&mut l, &mut parts), to);
+            put_tables(&l, to);
+            wire::put_all(&parts.whole, to);
         }
         wire::CORNER_FLOWS => {
             let row = request.row();

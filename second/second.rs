@@ -1510,6 +1510,92 @@ fn or_e_line(result: Result<Vec<u8>, Refusal>) -> Vec<u8> {
 }
 
 // ---------------------------------------------------------------------------
+// The hour's own bound
+// ---------------------------------------------------------------------------
+
+/// "rounds are at most 2 x N x L"
+#[derive(Clone, Copy, Debug, PartialEq, Eq)]
+pub struct Bound {
+    /// N
+    pub sharers: u64,
+    /// L
+    pub bits: u64,
+    /// 2 x N x L
+    pub rounds: u64,
+}
+
+/// The bound of a table, without its rounds; what the extraction refuses has none.
+pub fn bound(lent: Lent) -> Result<Bound, Refusal> {
+    bound_by(lent, None)
+}
+
+/// The same where only the marked borders rise: "N and L counted over the marked
+/// borders".
+pub fn bound_marked(lent: Lent, marks: &[u64]) -> Result<Bound, Refusal> {
+    bound_by(lent, Some(marks))
+}
+
+fn bound_by(lent: Lent, marks: Option<&[u64]>) -> Result<Bound, Refusal> {
+    let tables = judge(lent)?;
+    let start = start_of(&tables, marks)?;
+    let sharers = n_of(&start.kept) as u64;
+    let bits = u64::from(l_of(&start.kept, &start.marked));
+    Ok(Bound { sharers, bits, rounds: 2 * sharers * bits })
+}
+
+/// One line `U`, N, L, 2 N L, or the E line.
+pub fn bound_text(text: &[u8], sheet: &[u8], marks: Option<&[u64]>) -> Vec<u8> {
+    let tables = read_corrected(text, sheet, ALL_ROOM);
+    or_e_line(tables.and_then(|tables| bound_by(tables.lend(), marks)).map(|bound| {
+        let mut out = Vec::new();
+        push_line(&mut out, "U", &[bound.sharers, bound.bits, bound.rounds].map(|number| number.to_string()));
+        out
+    }))
+}
+
+// ---------------------------------------------------------------------------
+// What a margin is made of
+// ---------------------------------------------------------------------------
+
+/// State, n, F0core, Fuaf, Base, AMR, S, LTA margin, CVA, IVA, RAM, starting margin.
+pub type Parts = [i64; 12];
+
+/// The named values of a row, whatever its state, over all borders.
+fn parts_of(tables: &Tables, margins: &[Margin], row: usize) -> Parts {
+    let m = &margins[row];
+    let loads = |border: &&Border| border_factor(factors_of(tables, row), border) > 0;
+    let n = tables.b.iter().filter(loads).count() as i128;
+    let state = i128::from(state_of(tables, margins, row));
+    let [cva, iva] = [CVA, IVA].map(|place| grains(tables.c[row][place]));
+    let start = starting_margin(tables, row, m);
+    [state, n, m.f0core, m.fuaf, m.base, m.amr, m.s, m.lta_margin, cva, iva, m.ram, start].map(|value| value as i64)
+}
+
+/// One record for each row.  5, 6 and 7 are the extraction's; last comes the room, in
+/// records.
+pub fn margins(lent: Lent, room: usize) -> Result<Vec<Parts>, Refusal> {
+    let tables = judge(lent)?;
+    let rows = 0..tables.header.rows;
+    judge_room(room, rows.len())?;
+    let margins: Vec<Margin> = rows.clone().map(|row| margin_of(&tables, row)).collect();
+    Ok(rows.map(|row| parts_of(&tables, &margins, row)).collect())
+}
+
+/// A line `V`, index and the twelve numbers for each row, or the E line.
+pub fn margins_text(text: &[u8], sheet: &[u8]) -> Vec<u8> {
+    let tables = read_corrected(text, sheet, ALL_ROOM);
+    or_e_line(tables.and_then(|tables| margins(tables.lend(), usize::MAX)).map(|all| {
+        let mut out = Vec::new();
+        for (index, parts) in all.iter().enumerate() {
+            let mut fields = vec![index.to_string()];
+            fields.extend(parts.map(|number| number.to_string()));
+            push_line(&mut out, "V", &fields);
+        }
+        out
+    }))
+}
+
+// ---------------------------------------------------------------------------
 // Corner sheet
 // ---------------------------------------------------------------------------
 

@@ -363,6 +363,9 @@ pub fn wanted() -> Vec<(String, u64)> {
         ("keravnoth_read_corrected", &[0, 1, 2, 3, 4, 8, 10]),
         ("keravnoth_answer_corrected", &[0, 8]),
         ("keravnoth_rewrite_corrected", &[0, 1, 2, 3, 4, 8, 10]),
+        ("keravnoth_bound", &[0, 3, 4, 5, 6, 7, 8]),
+        ("keravnoth_bound_marked", &[0, 3, 4, 5, 6, 7, 8, 13]),
+        ("keravnoth_margins", &[0, 3, 4, 8]),
     ] {
         for number in numbers {
             add(&format!("{call} {number}"), 100);
@@ -441,8 +444,35 @@ pub fn wanted() -> Vec<(String, u64)> {
     for number in [1, 2, 3, 4] {
         add(&format!("text {number} before 13"), 20);
     }
+    for name in ["L 0", "intraday", "over 1000", "smaller with marks", "rounds over a tenth of it", "as many as with marks"] {
+        add(&format!("bound, {name}"), 100);
+    }
+    for number in [0, 5, 6, 7] {
+        add(&format!("margins, extraction {number}"), 200);
+    }
+    for name in [
+        "state 0",
+        "state 1",
+        "state 2",
+        "intraday",
+        "a start below 0",
+        "a start of 0",
+        "an AMR",
+        "an LTA margin",
+        "CVA or IVA",
+        "n 0",
+        "longer room",
+        "no room",
+    ] {
+        add(&format!("margins, {name}"), 200);
+    }
+    for number in [3, 4, 8] {
+        add(&format!("bound, {number} before 13"), 50);
+        add(&format!("margins, {number} before the room"), 50);
+    }
     for way in 0..marks::BAD_LISTS {
         let name = marks::bad_list(&mut Dice::new(0), 5, way).name;
+        add(&format!("bound, bad marks, {name}"), 100);
         add(&format!("bad marks, {name}"), 100);
     }
     for kind in ["H", "Z", "T", "B", "C"] {

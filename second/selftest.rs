@@ -1302,6 +1302,107 @@ fn sheets_among_the_refusals() {
     assert!(read_corrected(&text(HOUR), &own, [3, 0, 2, 4, 12]).is_ok());
 }
 
+// -------------------------------------------------------- the hour's own bound
+
+#[test]
+fn bounds_by_hand() {
+    let hour = text(HOUR);
+    // "Here N = 2, L = 22, bound 88."
+    assert_eq!(shown(&bound_text(&hour, &[], None)), "U 2 22 88");
+    // border 0 alone: 3,300,000 kW, under 2^22; border 1 alone: 1,600,000 kW, under 2^21
+    assert_eq!(shown(&bound_text(&hour, &[], Some(&[0]))), "U 1 22 44");
+    assert_eq!(shown(&bound_text(&hour, &[], Some(&[1]))), "U 1 21 42");
+    assert_eq!(shown(&bound_text(&hour, &[], Some(&[1, 0]))), "U 2 22 88");
+    assert_eq!(bound(table(HOUR).lend()), Ok(Bound { sharers: 2, bits: 22, rounds: 88 }));
+    assert_eq!(bound_marked(table(HOUR).lend(), &[1]), Ok(Bound { sharers: 1, bits: 21, rounds: 42 }));
+    // a sheet that leaves border 1 alone 800,000 kW, and row 0 its 3,300,000 for border 0
+    let sheet = text("C 1 100000 10000 15000 0 7000 40000 0 5000 5000 0");
+    assert_eq!(shown(&bound_text(&hour, &sheet, Some(&[1]))), "U 1 20 40");
+    assert_eq!(shown(&bound_text(&hour, &sheet, None)), "U 2 22 88");
+    // nothing is left: L is 0
+    let full = text("H 2 1 1 / Z 0 0 / Z 1 0 / B 0 0 1 100 / C 0 10000 0 0 0 0 0 0 20000 0");
+    assert_eq!(shown(&bound_text(&full, &[], None)), "U 1 0 0");
+    // intraday: 10^10 by 20000 is 500,000 kW, of which 499,999 are allocated, or all and one
+    assert_eq!(shown(&bound_text(&allocated_hour(" / T 0 0 / T 1 0"), &[], None)), "U 1 19 38");
+    assert_eq!(shown(&bound_text(&allocated_hour(" / T 0 499999 / T 1 -499999"), &[], None)), "U 1 1 2");
+    assert_eq!(shown(&bound_text(&allocated_hour(" / T 0 500001 / T 1 -500001"), &[], None)), "U 1 0 0");
+}
+
+#[test]
+fn bounds_are_refused_as_the_extraction_is() {
+    let hour = text(HOUR);
+    assert_eq!(shown(&bound_text(b"", &[], None)), "E 2 1 0");
+    assert_eq!(shown(&bound_text(&hour, b"x", Some(&[]))), "E 10 1 0");
+    assert_eq!(shown(&bound_text(&hour, &[], Some(&[]))), "E 13 0 0");
+    assert_eq!(shown(&bound_text(&hour, &[], Some(&[0, 2]))), "E 13 2 0");
+    let narrow = one_row("100000 0 0 0 0 0 0 4999 0");
+    assert_eq!(shown(&bound_text(&narrow, &[], None)), "E 5 0 0");
+    assert_eq!(shown(&bound_text(&narrow, &[], Some(&[1]))), "E 13 1 0");
+    let back = text("H 2 2 1 / Z 0 0 / Z 1 0 / B 0 0 1 0 / B 1 1 0 3 / C 0 100000 0 0 0 0 0 0 20000 0");
+    assert_eq!(shown(&bound_text(&back, &[], None)), "E 6 1 0");
+    // 10^10 by 20000 is 500,000 kW
+    assert_eq!(shown(&bound_text(&back, &[], Some(&[0]))), "U 1 19 38");
+    let over = text("H 2 1 1 / Z 0 0 / Z 1 0 / B 0 0 1 100 / C 0 10000 0 0 0 0 0 1 20000 0");
+    assert_eq!(shown(&bound_text(&over, &[], None)), "E 7 0 0");
+    // lent tables
+    let t = table(HOUR);
+    assert_eq!(bound(nothing(Header { zones: 17, ..t.header })), e(3, 1));
+    assert_eq!(bound(nothing(t.header)), e(8, 3));
+    assert_eq!(bound_marked(nothing(t.header), &[]), e(8, 3));
+    let mut bad = t.clone();
+    bad.c[3][0] = 0;
+    assert_eq!(bound_marked(bad.lend(), &[]), e(3, 10));
+    bad = t.clone();
+    bad.b[1] = bad.b[0];
+    assert_eq!(bound_marked(bad.lend(), &[]), e(4, 1));
+}
+
+// ---------------------------------------------------- what a margin is made of
+
+#[test]
+fn margins_by_hand() {
+    // state, n; F0core, Fuaf, Base, AMR, S, LTA margin, CVA, IVA, RAM, start
+    // row 0: 130,000 kW of 200,000 are the exchanges'; p 20000 and 10000 by 100 and 200 MW
+    // row 1: 15,000 kW of 15,000; row 2: 4999 x 500,000; row 3: 130,000 kW of 130,000
+    let gives = "V 0 0 2 7000000000 -8000000000 73000000000 5000000000 4000000000 0 0 8000000000 70000000000 66000000000 / V 1 0 1 0 0 9000000000 0 1000000000 0 0 0 9000000000 8000000000 / V 2 1 1 -2499500000 -2499500000 12499500000 0 499900000 0 0 0 12499500000 11999600000 / V 3 2 2 0 0 100000000000 0 4000000000 0 0 0 100000000000 96000000000";
+    assert_eq!(shown(&margins_text(&text(HOUR), &[])), gives);
+    // with CVA of 40,000 kW on row 1
+    let sheet = text("C 1 100000 10000 15000 0 7000 40000 0 5000 5000 0");
+    let row_1 = "V 1 0 1 0 0 9000000000 0 1000000000 0 4000000000 0 5000000000 4000000000";
+    assert_eq!(shown(&margins_text(&text(HOUR), &sheet)).split(" / ").nth(1), Some(row_1));
+    // a table that the extraction refuses, with 7: the LTA margin lifts RAM to S, IVA takes one kW
+    let over = text("H 2 1 1 / Z 0 0 / Z 1 0 / B 0 0 1 100 / C 0 10000 0 0 0 0 0 1 20000 0");
+    let lifted = "V 0 0 1 0 0 1000000000 0 2000000000 1000000000 0 100000 1999900000 -100000";
+    assert_eq!(shown(&margins_text(&over, &[])), lifted);
+    // with 5, and with 6: no border loads the row
+    let narrow = one_row("100000 0 0 0 0 0 0 4999 0");
+    assert_eq!(shown(&margins_text(&narrow, &[])), "V 0 1 1 0 0 10000000000 0 0 0 0 0 10000000000 10000000000");
+    let back = text("H 2 1 1 / Z 0 0 / Z 1 0 / B 0 1 0 3 / C 0 100000 0 0 0 0 0 0 20000 0");
+    assert_eq!(shown(&margins_text(&back, &[])), "V 0 0 0 0 0 10000000000 0 0 0 0 0 10000000000 10000000000");
+    // intraday: RAM less T, and 0 where that is below 0
+    let some = margins_text(&allocated_hour(" / T 0 100000 / T 1 -100000"), &[]);
+    assert_eq!(shown(&some), "V 0 0 1 0 0 10000000000 0 2000000000 0 0 0 10000000000 8000000000");
+    let more = margins_text(&allocated_hour(" / T 0 500001 / T 1 -500001"), &[]);
+    assert_eq!(shown(&more), "V 0 0 1 0 0 10000000000 0 2000000000 0 0 0 10000000000 0");
+}
+
+#[test]
+fn margins_among_the_refusals() {
+    let t = table(HOUR);
+    assert_eq!(margins(t.lend(), 3), e(8, 4));
+    assert_eq!(margins(t.lend(), 4).map(|rows| rows.len()), Ok(4));
+    assert_eq!(margins(nothing(Header { zones: 17, ..t.header }), 0), e(3, 1));
+    assert_eq!(margins(nothing(t.header), 0), e(8, 3));
+    let mut bad = t.clone();
+    bad.c[3][0] = 0;
+    assert_eq!(margins(bad.lend(), 0), e(3, 10));
+    bad = t.clone();
+    bad.b[1] = bad.b[0];
+    assert_eq!(margins(bad.lend(), 0), e(4, 1));
+    assert_eq!(shown(&margins_text(&hour_with(2, "Z 0 -0"), &[])), "E 2 2 6");
+    assert_eq!(shown(&margins_text(&text(HOUR), b"x")), "E 10 1 0");
+}
+
 // --------------------------------------------------------- intraday remainder
 
 /// Two zones, one row of 100,000 kW with p 20000, LTA 100 MW, and these T lines.
@@ -2055,6 +2156,20 @@ fn check_random(t: &Tables, seen: &mut [usize; 8]) {
     assert_eq!(read_corrected(&bytes, &sheet, ALL), Ok(merged));
     assert_eq!(rewrite_by(&bytes, &sheet), merged_bytes);
     assert_eq!(answer_corrected(&bytes, &sheet), answer(&merged_bytes));
+    // the bound is refused as the extraction is, or is no less than the rounds
+    match (bound(t.lend()), out(t)) {
+        (Ok(bound), Ok(o)) => {
+            assert_eq!((bound.sharers, bound.bits), (o.n_most as u64, u64::from(o.l_bits)));
+            assert!(o.rounds <= bound.rounds && bound.rounds == 2 * bound.sharers * bound.bits);
+        }
+        (bound, o) => assert_eq!(bound.err(), o.err()),
+    }
+    for (parts, m) in second::margins(t.lend(), h.rows).unwrap().iter().zip(&margins) {
+        let own = [m.f0core, m.fuaf, m.base, m.amr, m.s, m.lta_margin];
+        assert_eq!(parts[2..8].iter().map(|value| i128::from(*value)).collect::<Vec<i128>>(), own);
+        assert_eq!(i128::from(parts[10]), m.ram);
+        assert!(h.intraday == INTRADAY || parts[11] == parts[10] - parts[6]);
+    }
     // all borders marked, in any order
     let all: Vec<u64> = (0..h.borders as u64).rev().collect();
     assert_eq!(marked(t, &all), out(t));

@@ -1676,6 +1676,103 @@ const SLIPS: &[Slip] = &[
         "    let found = match sheet {",
         "    if let Ok(day) = second::read(text, room) {\n        c[..day.c.len()].copy_from_slice(&day.c);\n    }\n    let found = match sheet {",
     ),
+    // ---- the bound, and what a margin is made of
+    slip(
+        "bound: N L",
+        "second.rs",
+        "rounds: 2 * sharers * bits }",
+        "rounds: sharers * bits }",
+    ),
+    slip(
+        "bound: N is the number of borders",
+        "second.rs",
+        "    let sharers = n_of(&start.kept) as u64;",
+        "    let sharers = start.marked.iter().filter(|marked| **marked).count() as u64;",
+    ),
+    slip(
+        "bound: N over all borders",
+        "second.rs",
+        "    let start = start_of(&tables, marks)?;\n",
+        "    let mut start = start_of(&tables, marks)?;\n    for row in start.kept.iter_mut() {\n        let own = &start.p[row.row * tables.header.borders..(row.row + 1) * tables.header.borders];\n        row.n = own.iter().filter(|p| **p > 0).count() as i128;\n    }\n",
+    ),
+    slip(
+        "bound: L at least 1",
+        "second.rs",
+        "    let bits = u64::from(l_of(&start.kept, &start.marked));",
+        "    let bits = u64::from(l_of(&start.kept, &start.marked)).max(1);",
+    ),
+    slip(
+        "bound: L by the raise that is shared",
+        "second.rs",
+        "    let start = start_of(&tables, marks)?;\n    let sharers = n_of(&start.kept) as u64;",
+        "    let mut start = start_of(&tables, marks)?;\n    let sharers = n_of(&start.kept) as u64;\n    for row in start.kept.iter_mut() {\n        row.margin /= row.n.max(1);\n    }",
+    ),
+    slip(
+        "bound: 7 not judged",
+        "second.rs",
+        "    let start = start_of(&tables, marks)?;\n    let sharers",
+        "    let start = match start_of(&tables, marks) {\n        Err(Refusal { number: 7, .. }) => return Ok(Bound { sharers: 1, bits: 0, rounds: 0 }),\n        start => start?,\n    };\n    let sharers",
+    ),
+    slip(
+        "bound: fields said also where it refuses",
+        "mock.rs",
+        "            [number, place, byte, 0, 0, 0]",
+        "            [number, place, byte, 1, 0, 0]",
+    ),
+    slip(
+        "margins: n 0 on a row not kept",
+        "second.rs",
+        "    let n = tables.b.iter().filter(loads).count() as i128;",
+        "    let n = if state_of(tables, margins, row) == 0 { tables.b.iter().filter(loads).count() as i128 } else { 0 };",
+    ),
+    slip(
+        "margins: n counts relieving borders",
+        "second.rs",
+        "    let loads = |border: &&Border| border_factor(factors_of(tables, row), border) > 0;",
+        "    let loads = |border: &&Border| signed_factor(factors_of(tables, row), border) != 0;",
+    ),
+    slip(
+        "margins: CVA and IVA in kW",
+        "second.rs",
+        "map(|place| grains(tables.c[row][place]));",
+        "map(|place| i128::from(tables.c[row][place]));",
+    ),
+    slip(
+        "margins: CVA and IVA swapped",
+        "second.rs",
+        "    let [cva, iva] = [CVA, IVA]",
+        "    let [iva, cva] = [CVA, IVA]",
+    ),
+    slip(
+        "margins: RAM for the start",
+        "second.rs",
+        "    let start = starting_margin(tables, row, m);",
+        "    let start = m.ram;",
+    ),
+    slip(
+        "margins: a start below 0 taken as 0",
+        "second.rs",
+        "    let start = starting_margin(tables, row, m);",
+        "    let start = starting_margin(tables, row, m).max(0);",
+    ),
+    slip(
+        "margins: 7 judged",
+        "second.rs",
+        "    let rows = 0..tables.header.rows;\n",
+        "    let rows = 0..tables.header.rows;\n    if let Err(refusal @ Refusal { number: 7, .. }) = work(&tables, None) {\n        return Err(refusal);\n    }\n",
+    ),
+    slip(
+        "margins: the room judged before records",
+        "second.rs",
+        "    let tables = judge(lent)?;\n    let rows = 0..tables.header.rows;",
+        "    if fault_h(&lent.header).is_none() {\n        judge_room(room, lent.header.rows)?;\n    }\n    let tables = judge(lent)?;\n    let rows = 0..tables.header.rows;",
+    ),
+    slip(
+        "margins: the rest of the room cleared",
+        "mock.rs",
+        "            parts[..found.len()].copy_from_slice(&found);",
+        "            parts[..found.len()].copy_from_slice(&found);\n            parts[found.len()..].fill([0; 12]);",
+    ),
     // ---- corner sheet
     slip(
         "corner: bit order reversed",

@@ -83,6 +83,9 @@ impl Comparison {
         if !heavy && d.one_in(2) || d.one_in(8) {
             self.corrected(d, &t, &answer);
         }
+        if !heavy && d.one_in(2) || d.one_in(8) {
+            self.known(d, &t, &outcome);
+        }
 
         // a sheet doubles with each border: large ones mostly by `sheet_table`
         let one_in = match h.borders {

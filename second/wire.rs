@@ -5,7 +5,7 @@
 //! A request: WORDS words, then the lent buffers.  The words are the call, its
 //! header (zones, borders, rows, share, intraday) and its row (each 0 where the
 //! call takes none), and the counts of items of z, t, b, c, f, p, marks, atc, left,
-//! flows, claims, text, sheet and out (0 where the call does not take that
+//! flows, claims, parts, text, sheet and out (0 where the call does not take that
 //! buffer).  The buffers that the call takes follow in this order, each with BEFORE
 //! items before the lent part and AFTER items after it; an item is as many words as it has
 //! numbers, and a byte for text, sheet and out.
@@ -32,13 +32,16 @@ pub const ANSWER_CORRECTED: u64 = 12;
 pub const REWRITE_CORRECTED: u64 = 13;
 pub const JUDGE_CLAIMS: u64 = 14;
 pub const PUBLISHED_TEXT: u64 = 15;
+pub const BOUND: u64 = 16;
+pub const BOUND_MARKED: u64 = 17;
+pub const MARGINS: u64 = 18;
 
 /// Items before and after the lent part that nobody may touch.
 pub const BEFORE: usize = 2;
 pub const AFTER: usize = 3;
 
 /// The words of a request.
-pub const WORDS: usize = 21;
+pub const WORDS: usize = 22;
 
 /// Where the header's words begin among them, and how many there are.
 pub const HEADER: usize = 1;
@@ -59,9 +62,10 @@ pub const ATC: usize = 14;
 pub const LEFT: usize = 15;
 pub const FLOWS: usize = 16;
 pub const CLAIMS: usize = 17;
-pub const TEXT: usize = 18;
-pub const SHEET: usize = 19;
-pub const OUT: usize = 20;
+pub const PARTS: usize = 18;
+pub const TEXT: usize = 19;
+pub const SHEET: usize = 20;
+pub const OUT: usize = 21;
 
 /// An item of a lent buffer as bytes.
 pub trait Item: Copy {

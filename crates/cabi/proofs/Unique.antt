@@ -13,7 +13,8 @@ use Rattle.cabi.specs.declared.KeravnothRead.{KeravnothRead}
 use Rattle.cabi.specs.declared.KeravnothWritten.{KeravnothWritten}
 use Rattle.cabi.specs.declared.KeravnothExtracted.{KeravnothExtracted}
 use Rattle.cabi.specs.declared.KeravnothFlows.{KeravnothFlows}
-use Rattle.cabi.specs.Coded.{ReadCoded, readFound, TextCoded, textFound, ExtractCoded, extractFound, FlowsCoded, flowsFound}
+use Rattle.cabi.specs.declared.KeravnothJudged.{KeravnothJudged}
+use Rattle.cabi.specs.Coded.{ReadCoded, readFound, TextCoded, textFound, ExtractCoded, extractFound, FlowsCoded, flowsFound, MarginsCoded, marginsFound}
 use Rattle.cabi.proofs.keravnoth_read as read
 use Rattle.cabi.proofs.keravnoth_read.Kinds as read-kinds
 use Rattle.cabi.proofs.keravnoth_read.Reads as read-reads
@@ -59,6 +60,15 @@ use Rattle.cabi.proofs.keravnoth_published_text.Reads as published-text
 use Rattle.cabi.proofs.keravnoth_claims as claims
 use Rattle.cabi.proofs.keravnoth_claims.Kinds as claims-kinds
 use Rattle.cabi.proofs.keravnoth_claims.Reads as claims-reads
+use Rattle.cabi.proofs.keravnoth_bound as bound
+use Rattle.cabi.proofs.keravnoth_bound.Kinds as bound-kinds
+use Rattle.cabi.proofs.keravnoth_bound.Reads as bound-reads
+use Rattle.cabi.proofs.keravnoth_bound_marked as bound-marked
+use Rattle.cabi.proofs.keravnoth_bound_marked.Kinds as bound-marked-kinds
+use Rattle.cabi.proofs.keravnoth_bound_marked.Reads as bound-marked-reads
+use Rattle.cabi.proofs.keravnoth_margins as margins
+use Rattle.cabi.proofs.keravnoth_margins.Kinds as margins-kinds
+use Rattle.cabi.proofs.keravnoth_margins.Reads as margins-reads
 
 -- ---- whatever a call may leave, it leaves one thing
 read-one : (may : ReadCoded) (r r′ : KeravnothRead) (z z′ t t′ : List ℤ) (b b′ c c′ : List (List ℤ)) (f f′ : List ℤ) → readFound r z t b c f ≡ may → readFound r′ z′ t′ b′ c′ f′ ≡ may
@@ -78,6 +88,9 @@ extract-one may r r′ ps ps′ atcs atcs′ lefts lefts′ p q =
 
 flows-one : (may : FlowsCoded) (r r′ : KeravnothFlows) (out out′ : List ℤ) → flowsFound r out ≡ may → flowsFound r′ out′ ≡ may → (r ≡ r′) × (out ≡ out′)
 flows-one may r r′ out out′ p q = let e = p ∙ sym q in (ap (λ (l : FlowsCoded). l .answer) e, ap (λ (l : FlowsCoded). l .out) e)
+
+margins-one : (may : MarginsCoded) (r r′ : KeravnothJudged) (out out′ : List (List ℤ)) → marginsFound r out ≡ may → marginsFound r′ out′ ≡ may → (r ≡ r′) × (out ≡ out′)
+margins-one may r r′ out out′ p q = let e = p ∙ sym q in (ap (λ (l : MarginsCoded). l .answer) e, ap (λ (l : MarginsCoded). l .out) e)
 
 -- ---- the calls; the tables that `keravnoth_read` fills are its second to sixth arguments
 pub keravnoth-read-once : (κs : Lfts 6) (x : ArgsD read.signature κs) (r r′ : ResD read.signature κs) (s s′ : AtExit (endedOf 6 read-kinds.ps read-kinds.r) κs)
@@ -167,3 +180,17 @@ keravnoth-claims-once κs x r r′ s s′ p q = p ∙ sym q
 pub keravnoth-published-text-once : (κs : Lfts 7) (x : ArgsD published-text.signature κs) (r r′ : ResD published-text.signature κs) (s s′ : AtExit (endedOf 7 published-text-kinds.ps published-text-kinds.r) κs)
     → published-text-reads.Post κs x r s → published-text-reads.Post κs x r′ s′ → (r ≡ r′) × (now (s .1 .1 .1 .1 .1 .1 .1 .0) ≡ now (s′ .1 .1 .1 .1 .1 .1 .1 .0))
 keravnoth-published-text-once κs x r r′ s s′ p q = text-one _ _ _ _ _ p q
+
+-- nothing that is lent is written to
+pub keravnoth-bound-once : (κs : Lfts 5) (x : ArgsD bound.signature κs) (r r′ : ResD bound.signature κs) (s s′ : AtExit (endedOf 5 bound-kinds.ps bound-kinds.r) κs)
+    → bound-reads.Post κs x r s → bound-reads.Post κs x r′ s′ → r ≡ r′
+keravnoth-bound-once κs x r r′ s s′ p q = p ∙ sym q
+
+pub keravnoth-bound-marked-once : (κs : Lfts 6) (x : ArgsD bound-marked.signature κs) (r r′ : ResD bound-marked.signature κs) (s s′ : AtExit (endedOf 6 bound-marked-kinds.ps bound-marked-kinds.r) κs)
+    → bound-marked-reads.Post κs x r s → bound-marked-reads.Post κs x r′ s′ → r ≡ r′
+keravnoth-bound-marked-once κs x r r′ s s′ p q = p ∙ sym q
+
+-- `out` is the seventh argument
+pub keravnoth-margins-once : (κs : Lfts 6) (x : ArgsD margins.signature κs) (r r′ : ResD margins.signature κs) (s s′ : AtExit (endedOf 6 margins-kinds.ps margins-kinds.r) κs)
+    → margins-reads.Post κs x r s → margins-reads.Post κs x r′ s′ → (r ≡ r′) × (now (s .1 .1 .1 .1 .1 .1 .0) ≡ now (s′ .1 .1 .1 .1 .1 .1 .0))
+keravnoth-margins-once κs x r r′ s s′ p q = margins-one _ _ _ _ _ p q

@@ -1,5 +1,5 @@
 -- What the C interface answers: number, place and byte of the refusal, all 0 where there is none, and then the values (0 where refused).
--- `readCoded`, `textCoded`, `extractCoded`, `flowsCoded` and `codedJudged` are what contracts cite: a call's answer coded so, and each lent buffer as the call leaves it.
+-- `readCoded`, `textCoded`, `extractCoded`, `flowsCoded`, `marginsCoded`, `codedJudged` and `codedBounded` are what contracts cite: a call's answer coded so, and each lent buffer as the call leaves it.
 use mathlib.Core.List.{List}
 use Prim.Native.Nat.{ℕ}
 use lib.IntN.{ℤ, pos}
@@ -15,7 +15,10 @@ use Rattle.cabi.specs.declared.KeravnothRead.{KeravnothRead}
 use Rattle.cabi.specs.declared.KeravnothWritten.{KeravnothWritten}
 use Rattle.cabi.specs.declared.KeravnothExtracted.{KeravnothExtracted}
 use Rattle.cabi.specs.declared.KeravnothFlows.{KeravnothFlows}
+use Rattle.bound.specs.declared.RoundsMost.{RoundsMost}
+use Rattle.parts.specs.Parts.{MarginsLeft}
 use Rattle.cabi.specs.declared.KeravnothJudged.{KeravnothJudged}
+use Rattle.cabi.specs.declared.KeravnothBounded.{KeravnothBounded}
 
 -- the header of the table that was read
 abbrev pub codedRead : Judged Header → KeravnothRead
@@ -45,6 +48,11 @@ codedJudged (refused w) = record { number = w .number; place = w .place; byte = 
 abbrev pub codedRuling : Judgement → KeravnothJudged
 codedRuling judgement.Passed = record { number = 0; place = 0; byte = 0 }
 codedRuling (judgement.Refused w) = record { number = w .number; place = w .place; byte = w .byte }
+
+-- N, L and 2 x N x L
+abbrev pub codedBounded : Judged RoundsMost → KeravnothBounded
+codedBounded (passed most) = record { number = 0; place = 0; byte = 0; sharers = most .sharers; bits = most .bits; rounds = most .rounds }
+codedBounded (refused w) = record { number = w .number; place = w .place; byte = w .byte; sharers = 0; bits = 0; rounds = 0 }
 
 -- what `keravnoth_read` leaves: its answer, and each lent table
 pub record ReadCoded : Type 0 where
@@ -95,3 +103,14 @@ flowsFound answer out = record { answer = answer; out = out }
 
 abbrev pub flowsCoded : FlowsLeft → FlowsCoded
 flowsCoded l = flowsFound (codedFlows (l .answer)) (l .out)
+
+-- what `keravnoth_margins` leaves: its answer, and the lent records
+pub record MarginsCoded : Type 0 where
+  pub answer : KeravnothJudged
+  pub out : List (List ℤ)
+
+abbrev pub marginsFound : (answer : KeravnothJudged) → (out : List (List ℤ)) → MarginsCoded
+marginsFound answer out = record { answer = answer; out = out }
+
+abbrev pub marginsCoded : MarginsLeft → MarginsCoded
+marginsCoded l = marginsFound (codedJudged (l .answer)) (l .out)

@@ -1,6 +1,8 @@
 // The open calls for C and everything that speaks C: include/keravnoth.h. Each calls its namesake and codes the answer.
 // C hands a slice over as a pointer and the count of its items, and a header by value. Any input has an answer: there is no `requires`.
 ghost use mathlib.Core.Path.{_≡_};
+ghost use mathlib.Core.Bool.{true, false};
+ghost use mathlib.Core.List.{[]};
 ghost use Rattle.kinds.specs.Answers.{saidRead, saidWritten, saidExtracted, saidFlows};
 ghost use Rattle.table.specs.Table.{lent};
 ghost use Rattle.reading.specs.Reading.{readLeft, readCorrectedLeft};
@@ -10,8 +12,11 @@ ghost use Rattle.corners.specs.Corners.{cornersLeft};
 ghost use Rattle.cornertext.specs.CornerText.{cornerTextLeft};
 ghost use Rattle.claims.specs.Claims.{claimsAnswer};
 ghost use Rattle.claimtext.specs.Published.{publishedLeft};
+ghost use Rattle.bound.specs.Bound.{saidBounded, boundFor};
+ghost use Rattle.parts.specs.Parts.{marginsLeft};
 ghost use Rattle.answer.specs.Result.{resultTextLeft, resultTextMarkedLeft, answerLeft, answerMarkedLeft, answerCorrectedLeft};
-ghost use Rattle.cabi.specs.Coded.{codedRead, codedWritten, codedExtracted, codedFlows, codedJudged, codedRuling, readFound, readCoded, textFound, textCoded, extractFound, extractCoded, flowsFound, flowsCoded};
+ghost use Rattle.cabi.specs.Coded.{codedRead, codedWritten, codedExtracted, codedFlows, codedJudged, codedRuling, codedBounded, readFound, readCoded, textFound, textCoded, extractFound, extractCoded, flowsFound, flowsCoded, marginsFound, marginsCoded};
+use bound::Bounded;
 use claims::ClaimRecord;
 use extraction::AtcRecord;
 use extraction::LeftRecord;
@@ -23,6 +28,7 @@ use kinds::Judgement;
 use kinds::Read;
 use kinds::RowRecord;
 use kinds::Written;
+use parts::PartsRecord;
 
 #[repr(C)]
 pub struct KeravnothRead {
@@ -65,6 +71,16 @@ pub struct KeravnothJudged {
     pub number: u32,
     pub place: usize,
     pub byte: usize,
+}
+
+#[repr(C)]
+pub struct KeravnothBounded {
+    pub number: u32,
+    pub place: usize,
+    pub byte: usize,
+    pub sharers: u64,
+    pub bits: u64,
+    pub rounds: u64,
 }
 
 // Reads a table's text into z, t, b, c and f.
@@ -295,6 +311,53 @@ pub extern "C" fn keravnoth_published_text(
     code_written(claimtext::published_text(h, z, t, b, c, f, list, out))
 }
 
+// How many rounds the tables can take at most.
+#[no_mangle]
+pub extern "C" fn keravnoth_bound(
+    h: Header,
+    z: &[i64],
+    t: &[i64],
+    b: &[BorderRecord],
+    c: &[RowRecord],
+    f: &[i64],
+) -> KeravnothBounded
+    ensures { λ r. ⌜ r ≡ codedBounded (boundFor true [] (lent h (now (z .entry)) (now (t .entry)) (now (b .entry)) (now (c .entry)) (now (f .entry)))) ⌝ }
+{
+    code_bounded(bound::bound(h, z, t, b, c, f))
+}
+
+// The same where only marked borders rise.
+#[no_mangle]
+pub extern "C" fn keravnoth_bound_marked(
+    h: Header,
+    z: &[i64],
+    t: &[i64],
+    b: &[BorderRecord],
+    c: &[RowRecord],
+    f: &[i64],
+    marks: &[u64],
+) -> KeravnothBounded
+    ensures { λ r. ⌜ r ≡ codedBounded (boundFor false (now (marks .entry)) (lent h (now (z .entry)) (now (t .entry)) (now (b .entry)) (now (c .entry)) (now (f .entry)))) ⌝ }
+{
+    code_bounded(bound::bound_marked(h, z, t, b, c, f, marks))
+}
+
+// What the margin of each row is made of.
+#[no_mangle]
+pub extern "C" fn keravnoth_margins(
+    h: Header,
+    z: &[i64],
+    t: &[i64],
+    b: &[BorderRecord],
+    c: &[RowRecord],
+    f: &[i64],
+    out: &mut [PartsRecord],
+) -> KeravnothJudged
+    ensures { λ r. ⌜ marginsFound r (now (out .exit)) ≡ marginsCoded (marginsLeft (lent h (now (z .entry)) (now (t .entry)) (now (b .entry)) (now (c .entry)) (now (f .entry))) (now (out .entry))) ⌝ }
+{
+    code_judged(parts::margins(h, z, t, b, c, f, out))
+}
+
 fn code_read(said: Read) -> KeravnothRead
     ensures { λ r. ⌜ r ≡ codedRead (saidRead said) ⌝ }
 {
@@ -395,6 +458,29 @@ fn code_judged(said: Judgement) -> KeravnothJudged
             number: w.number,
             place: w.place,
             byte: w.byte,
+        },
+    }
+}
+
+fn code_bounded(said: Bounded) -> KeravnothBounded
+    ensures { λ r. ⌜ r ≡ codedBounded (saidBounded said) ⌝ }
+{
+    match said {
+        Bounded::Rounds(most) => KeravnothBounded {
+            number: 0,
+            place: 0,
+            byte: 0,
+            sharers: most.sharers,
+            bits: most.bits,
+            rounds: most.rounds,
+        },
+        Bounded::Refused(w) => KeravnothBounded {
+            number: w.number,
+            place: w.place,
+            byte: w.byte,
+            sharers: 0,
+            bits: 0,
+            rounds: 0,
         },
     }
 }

@@ -1,5 +1,5 @@
 -- The laws of `specs/Heard.antt`. No contract cites this file.
--- In order: what the code's three tests come to; that a refusal is heard with its number, place and byte, and a result, a table, a sheet and a published list as an answer.
+-- In order: what the code's three tests come to; that a refusal is heard with its number, place and byte, and a result, a table, a sheet, a published list, the bound and margins as an answer.
 use mathlib.Core.Path.{_≡_, refl, sym, subst, _∙_}
 use mathlib.Core.Bool.{Bool, true, false, cond}
 use mathlib.Core.List.{List, [], _∷_, _++_, append-assoc, append-nil}
@@ -14,7 +14,7 @@ use Rattle.kinds.specs.Ranges.{atℤ}
 use Rattle.text.specs.Fields.{tab, feed}
 use Rattle.text.specs.Written.{decimal, fieldsText, lineText, linesText}
 use Rattle.text.proofs.NumberTrip.{number-written, number-rest}
-use Rattle.columns.specs.ColumnText.{plainText}
+use Rattle.columns.specs.ColumnText.{plainText, indexText, columnsText}
 use Rattle.table.specs.Table.{Table, factorsAt}
 use Rattle.writing.specs.Writing.{tableText}
 use Rattle.corners.specs.Corners.{flowsOf}
@@ -22,6 +22,9 @@ use Rattle.cornertext.specs.CornerText.{cornerLineAt, cornersText, sheetText}
 use Rattle.start.specs.Start.{Rows}
 use Rattle.claims.specs.Claims.{remaining}
 use Rattle.claimtext.specs.Published.{rowLine, publishedLine, publishedText}
+use Rattle.bound.specs.declared.RoundsMost.{RoundsMost}
+use Rattle.boundtext.specs.BoundText.{boundText}
+use Rattle.partstext.specs.PartsText.{partsLineAt, partsText}
 use Rattle.extraction.specs.Extraction.{Result, atcRecord, rowRecord}
 use Rattle.result.specs.Records.{atcAt, marginAt, roundsLine, recordsText}
 use Rattle.result.specs.Refusal.{refusalText}
@@ -116,3 +119,15 @@ unfolding publishedText publishedLine
 published-heard m claims =
     let lines = linesText (length (m .states)) 0 (publishedLine m claims) in
     sym (heard-other lines (subst Other (append-nil lines) (lines-beside (length (m .states)) 0 (publishedLine m claims) [] (λ k more o. published-other (remaining (m .states) claims k) k (atℤ (m .rams) k) more o) (λ e. omega arith))))
+
+-- .. the hour's own bound: it begins with U
+pub bound-heard : (m : RoundsMost) → heardOf (boundText m) ≡ Answered
+unfolding lineText
+bound-heard m = sym (heard-other (boundText m) (λ e. omega arith))
+
+-- .. and what margins are made of: it begins with V
+pub margins-heard : (records : List (List ℤ)) → heardOf (partsText records) ≡ Answered
+unfolding columnsText indexText
+margins-heard records =
+    let lines = linesText (length records) 0 (partsLineAt records) in
+    sym (heard-other lines (subst Other (append-nil lines) (lines-other (length records) 0 (partsLineAt records) [] (λ k more e. omega arith) (λ e. omega arith))))

@@ -1,3 +1,4 @@
 pub mod PrintedLaws
+pub mod KnownLaws
 pub mod SheetLaws
 pub mod HeardLaws

@@ -17,13 +17,18 @@ use Rattle.reading.specs.Reading.{readCorrected}
 use Rattle.writing.specs.Writing.{tableText}
 use Rattle.corners.specs.Corners.{sheetBordersMost, judgeCorners}
 use Rattle.cornertext.specs.CornerText.{sheetMost, sheetText}
+use Rattle.marks.specs.Marks.{judgeAsked, mayRise}
+use Rattle.parts.specs.Parts.{recordsOf}
+use Rattle.partstext.specs.PartsText.{partsText}
+use Rattle.bound.specs.Bound.{boundMarked}
+use Rattle.boundtext.specs.BoundText.{boundText}
 use Rattle.claimtext.specs.ClaimText.{claimsIn}
 use Rattle.claimtext.specs.Published.{publishedOf}
 use Rattle.extraction.specs.Extraction.{outcomeFor}
 use Rattle.result.specs.Refusal.{refusalText}
 use Rattle.answer.specs.Result.{resultText}
 use Rattle.printing.specs.declared.texts.Word.{Word}
-use Rattle.printing.specs.declared.texts.Word.the-variants.{Answer, Rewrite, Claims}
+use Rattle.printing.specs.declared.texts.Word.the-variants.{Answer, Rewrite, Claims, Bound, Margins}
 
 -- the first n bytes of the buffer are the text to print; that there are so many follows, and is said for the caller's `&out[..n]`
 pub record Printed (n : ℕ) (text out : List ℕ) : Type 0 where
@@ -50,6 +55,8 @@ unfoldable pub saidOf : Word → (all : Bool) → (marks file : List ℕ) → Ta
 saidOf Answer all marks file t = then (outcomeFor all marks t) (λ r. passed (resultText r))
 saidOf Rewrite all marks file t = passed (tableText t)
 saidOf Claims all marks file t = publishedOf t (claimsIn file)
+saidOf Bound all marks file t = then (judgeAsked all (t .header .borders) marks (boundMarked (mayRise all marks) t)) (λ m. passed (boundText m))
+saidOf Margins all marks file t = passed (partsText (recordsOf t))
 
 -- .. of the table of a text
 unfoldable pub wordOf : Word → (all : Bool) → (marks file text sheet : List ℕ) → List ℕ

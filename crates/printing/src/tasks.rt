@@ -39,6 +39,17 @@ pub fn understand(word: usize, after: usize) -> Asked {
     if arguments::is(word, b"claims") {
         return with_file(Word::Claims, word, after);
     }
+    known(word, after)
+}
+
+// What is known of a table before the first round.
+fn known(word: usize, after: usize) -> Asked {
+    if arguments::is(word, b"bound") {
+        return alone(text_of(Word::Bound), after);
+    }
+    if arguments::is(word, b"margins") {
+        return alone(text_of(Word::Margins), after);
+    }
     about(word, after)
 }
 
@@ -89,6 +100,8 @@ fn file_with(word: Word, after: usize) -> usize {
         Word::Answer => 0,
         Word::Rewrite => 0,
         Word::Claims => after,
+        Word::Bound => 0,
+        Word::Margins => 0,
     }
 }
 
@@ -116,6 +129,8 @@ fn marks_go_with(word: Word) -> bool {
         Word::Answer => true,
         Word::Rewrite => false,
         Word::Claims => false,
+        Word::Bound => true,
+        Word::Margins => false,
     }
 }
 

@@ -23,6 +23,10 @@ pub enum Word {
     Rewrite,
     // the published list of the claims in a file (02, E10)
     Claims,
+    // the hour's own bound of the rounds
+    Bound,
+    // what each row's margin is made of
+    Margins,
 }
 
 pub fn put<'a>(
@@ -122,6 +126,11 @@ fn put_lent(
         Word::Answer => bytes_of(answer::answer_lent(h, z, t, b, c, f, all, marks, out)),
         Word::Rewrite => told(writing::write(h, z, t, b, c, f, out), out),
         Word::Claims => told(claimtext::published_text(h, z, t, b, c, f, file, out), out),
+        Word::Bound => told(
+            boundtext::bound_text(h, z, t, b, c, f, all, marks, out),
+            out,
+        ),
+        Word::Margins => told(partstext::margins_text(h, z, t, b, c, f, out), out),
     }
 }
 

@@ -21,6 +21,14 @@ pub fn usage(fd: i32) -> bool {
             fd,
             b"       keravnoth claims FILE < TABLE  the rows that are left when those claimed in FILE go\n",
         )
+        && io::write_all(
+            fd,
+            b"       keravnoth bound < TABLE        how many rounds there can be at most: U, N, L, 2 N L\n",
+        )
+        && io::write_all(
+            fd,
+            b"       keravnoth margins < TABLE      what each row's margin is made of\n",
+        )
         && io::write_all(fd, b"       keravnoth help, --help         this\n")
         && io::write_all(
             fd,
@@ -40,7 +48,7 @@ fn options(fd: i32) -> bool {
     )
         && io::write_all(
             fd,
-            b"        --marks LIST                  only these borders rise: their indices with commas between\n",
+            b"        --marks LIST                  only these borders rise: their indices with commas between; with the result and bound\n",
         )
         && io::write_all(
             fd,
@@ -52,7 +60,7 @@ fn options(fd: i32) -> bool {
 pub fn version(fd: i32) -> bool {
     io::write_all(
         fd,
-        b"keravnoth: rules: document 01; requests of document 02: E1, E2, E3, E4, E5, E6, E7, E8, E9, E10, E12, E13, E14; C interface: 11\n",
+        b"keravnoth: rules: document 01; requests of document 02: E1, E2, E3, E4, E5, E6, E7, E8, E9, E10, E12, E13, E14; C interface: 12\n",
     )
         && io::write_all(fd, b"proved in the Rattle kit's logic 064da1ca440f63e7\n")
 }

@@ -2,6 +2,7 @@
 use native.Mathlib.Omega.{arith}
 use borrow.Author.Needs.{needs}
 use Rattle.printing.proofs.PrintedLaws.{answer-printed, rewrite-printed, claims-printed}
+use Rattle.printing.proofs.KnownLaws.{bound-printed, margins-printed}
 use Rattle.printing.proofs.texts.put_lent.Statement.{statement}
 use Rattle.printing.proofs.texts.put_lent.Tie as tie
 
@@ -22,7 +23,17 @@ returns-3 c =
     let p = c .before .before .before .before .before .before .before .before .before .before .before .before .before .pre in
     rw (c .before .before .before .before .before .before .before .before .enum-told3 .given .1) (claims-printed _ _ _ _ _ (said .result) (p .0) (p .1) (said .ensures) (c .before .before .told2 .ensures))
 
+returns-4 : tie.Need-returns-4
+returns-4 c =
+    let said = c .before .before .before .before .before .before .bound-text in
+    rw (c .before .before .before .before .before .before .before .before .enum-told4 .given .1) (bound-printed _ _ _ _ _ (said .result) (c .before .before .before .before .before .before .before .before .before .before .before .before .before .pre .1) (said .ensures) (c .before .before .told3 .ensures))
+
+returns-5 : tie.Need-returns-5
+returns-5 c =
+    let said = c .before .before .before .before .before .before .margins-text in
+    rw (c .before .before .before .before .before .before .before .before .enum-told5 .given .1) (margins-printed _ _ _ _ _ (said .result) (c .before .before .before .before .before .before .before .before .before .before .before .before .before .pre .1) (said .ensures) (c .before .before .told4 .ensures))
+
 pub put-lent-spec : {M : Type 1} → statement M
 put-lent-spec =
     tie.close
-    (tie.spec (λ c. search needs) (λ c κs. search needs) (λ c κs. search needs) (λ c. search needs) (λ c κs. search needs) (λ c κs. search needs) (λ c. search needs) (λ c κs. search needs) (λ c κs. search needs) (λ c. search needs) returns (λ c. search needs) returns-2 (λ c. search needs) returns-3)
+    (tie.spec (λ c. search needs) (λ c κs. search needs) (λ c κs. search needs) (λ c. search needs) (λ c κs. search needs) (λ c κs. search needs) (λ c. search needs) (λ c κs. search needs) (λ c κs. search needs) (λ c. search needs) (λ c κs. search needs) (λ c κs. search needs) (λ c. search needs) (λ c κs. search needs) (λ c κs. search needs) (λ c. search needs) returns (λ c. search needs) returns-2 (λ c. search needs) returns-3 (λ c. search needs) returns-4 (λ c. search needs) returns-5)

@@ -1,0 +1,74 @@
+-- The bound of the hour that 01 checks whole, computed, with every border and with one marked; and tables that the rounds do not start from. Nobody cites them: they
+-- refuse a definition that slipped.
+use mathlib.Core.Path.{_≡_, refl}
+use mathlib.Core.Bool.{Bool, true, false}
+use mathlib.Core.List.{List, [], _∷_}
+use Prim.Native.Nat.{ℕ}
+use lib.IntN.{ℤ, pos}
+use Rattle.numbers.specs.Below.{ifZero, sum, count, largest, lesser, least, orZero, table, firstFrom, given}
+use Rattle.numbers.specs.Ints.{minus, maxℤ, minℤ, positivePart, sameℤ, sumℤ, inside}
+use Rattle.kinds.specs.Ranges.{headerFits, allocatedItems, zoneFits, exists, hubsFit, hubsOf, borderFits, borderOf, shareOf, rowOf, rowFits, factorFits, worth, defaultOf}
+use Rattle.kinds.specs.Refusals.{Judged, passed, refused, then, unless, refuseAt, refuseFirst, need, badMark, unlimited, belowZero}
+use Rattle.marks.specs.Marks.{markedBy, faultyMark, judgeMarks}
+use Rattle.table.specs.Table.{Table, stretch, balanced, twice, roomFor, judgeShape, judgeLent}
+use Rattle.rounds.specs.Rounds.{sharers, alone, mostSharers, bitsTo, bits, aloneBits}
+use Rattle.margin.specs.Margin.{grains, f0coreOf, fuafOf, baseOf, amrOf, signedFactor, pOf, ltaKw, sOf, ltaMarginOf, ramOf, ramAt}
+use Rattle.states.specs.States.{highest, lowest, spreadOf, shifted, below, stateOf}
+use Rattle.start.specs.Setup.{gridBy, beginBy, judgeBy}
+use Rattle.start.specs.Start.{rowsOf, kept, setupWith}
+use Rattle.bound.specs.declared.RoundsMost.{RoundsMost}
+use Rattle.bound.specs.Bound.{boundBy, boundMarked, boundFor}
+
+-- the hour of 01
+abbrev hour : Table
+hour =
+    record {
+      header = record { zones = 3; borders = 2; rows = 4; share = minus 1; intraday = 0 };
+      nets = pos 500000 ∷ minus 200000 ∷ minus 300000 ∷ [];
+      allocated = [];
+      borders = (pos 0 ∷ pos 1 ∷ pos 100 ∷ minus 1 ∷ minus 1 ∷ []) ∷ (pos 1 ∷ pos 2 ∷ pos 200 ∷ minus 1 ∷ minus 1 ∷ []) ∷ [];
+      rows =
+          (pos 1000000 ∷ pos 200000 ∷ pos 200000 ∷ pos 150000 ∷ pos 7000 ∷ pos 0 ∷ pos 80000 ∷ [])
+          ∷ (pos 100000 ∷ pos 10000 ∷ pos 15000 ∷ pos 0 ∷ pos 7000 ∷ pos 0 ∷ pos 0 ∷ [])
+          ∷ (pos 100000 ∷ pos 0 ∷ pos 0 ∷ pos 0 ∷ pos 0 ∷ pos 0 ∷ pos 0 ∷ [])
+          ∷ (pos 1000000 ∷ pos 0 ∷ pos 130000 ∷ pos 0 ∷ pos 7000 ∷ pos 0 ∷ pos 0 ∷ [])
+          ∷ [];
+      factors =
+          pos 30000 ∷ pos 10000 ∷ pos 0
+          ∷ pos 5000 ∷ pos 5000 ∷ pos 0
+          ∷ pos 4999 ∷ pos 0 ∷ pos 0
+          ∷ pos 20000 ∷ pos 0 ∷ minus 10000
+          ∷ [];
+    }
+
+-- Fmax 10000 kW, borders 0 to 1 of p 20000 and LTA 100 MW, and back, which no row limits; and the row's IVA
+abbrev small : (iva : ℤ) → Table
+small iva =
+    record {
+      header = record { zones = 2; borders = 2; rows = 1; share = minus 1; intraday = 0 };
+      nets = pos 0 ∷ pos 0 ∷ [];
+      allocated = [];
+      borders = (pos 0 ∷ pos 1 ∷ pos 100 ∷ minus 1 ∷ minus 1 ∷ []) ∷ (pos 1 ∷ pos 0 ∷ pos 0 ∷ minus 1 ∷ minus 1 ∷ []) ∷ [];
+      rows = (pos 10000 ∷ pos 0 ∷ pos 0 ∷ pos 0 ∷ pos 0 ∷ pos 0 ∷ iva ∷ []) ∷ [];
+      factors = pos 20000 ∷ pos 0 ∷ [];
+    }
+
+abbrev most : (n l rounds : ℕ) → Judged RoundsMost
+most n l rounds = passed (record { sharers = n; bits = l; rounds = rounds })
+
+pub record Anchors : Type 0 where
+  -- 01: N = 2, L = 22, bound 88
+  pub worked : boundFor true [] hour ≡ most 2 22 88
+  -- border 1 alone is marked: no row shares, and it could take 1,600,000 kW, under 2^21
+  pub marked : boundFor false (1 ∷ []) hour ≡ most 1 21 42
+  -- 13 comes before 6, and 6 looks at marked borders only; then 7
+  pub no-mark : boundFor false [] (small (pos 1)) ≡ refused (badMark 0)
+  pub no-border : boundFor false (0 ∷ 2 ∷ []) (small (pos 1)) ≡ refused (badMark 2)
+  pub free : boundFor true [] (small (pos 1)) ≡ refused (unlimited 1)
+  pub low : boundFor false (0 ∷ []) (small (pos 1)) ≡ refused (belowZero 0)
+  -- a margin of 0: L is 0, and so are the rounds
+  pub no-room : boundFor false (0 ∷ []) (small (pos 0)) ≡ most 1 0 0
+
+pub anchors : Anchors
+unfolding ifZero sum count largest lesser least orZero table firstFrom given maxℤ minℤ positivePart sameℤ sumℤ inside headerFits allocatedItems zoneFits exists hubsFit hubsOf borderFits borderOf shareOf rowOf rowFits factorFits worth defaultOf then unless refuseAt refuseFirst need markedBy faultyMark judgeMarks stretch balanced twice roomFor judgeShape judgeLent sharers alone mostSharers bitsTo bits aloneBits grains f0coreOf fuafOf baseOf amrOf signedFactor pOf ltaKw sOf ltaMarginOf ramOf ramAt highest lowest spreadOf shifted below stateOf gridBy beginBy judgeBy rowsOf kept setupWith boundBy boundMarked boundFor
+anchors = record { worked = refl; marked = refl; no-mark = refl; no-border = refl; free = refl; low = refl; no-room = refl }

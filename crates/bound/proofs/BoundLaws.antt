@@ -1,0 +1,99 @@
+-- The laws of `specs/Bound.antt`: which judgement decides, what was laid out is the table's, and that flags say what marks do. No contract cites this file.
+use mathlib.Core.Path.{_≡_, refl, sym, ap, ap₂, _∙_}
+use mathlib.Core.Bool.{Bool, true, false}
+use mathlib.Core.List.{List, []}
+use Prim.Native.Nat.{ℕ, _+_, _*_, _<_}
+use lib.IntN.{ℤ}
+use lib.ListN.{length}
+use Rattle.numbers.specs.Below.{at}
+use Rattle.numbers.proofs.BelowLaws.{table-long}
+use Rattle.kinds.specs.declared.Judgement.{Judgement}
+use Rattle.kinds.specs.declared.Judgement.the-variants.{Passed, Refused}
+use Rattle.kinds.specs.declared.Refusal.{Refusal}
+use Rattle.kinds.specs.Answers.{ruled}
+use Rattle.kinds.specs.Refusals.{Judged, passed, refused, then}
+use Rattle.kinds.proofs.RefusalLaws.{then-next, then-refused}
+use Rattle.marks.specs.Marks.{judgeAsked, mayRise}
+use Rattle.marks.proofs.MarkLaws.{asked-then}
+use Rattle.table.specs.Table.{Table, front, judgeLent}
+use Rattle.rounds.specs.Work.{flat}
+use Rattle.start.specs.Setup.{gridBy, beginBy}
+use Rattle.start.specs.Start.{rowsOf, kept, gridMarked, tableStart, judgeMarked, setupOf, setupWith}
+use Rattle.start.specs.Filled.{cells}
+use Rattle.start.proofs.StartLaws.{cells-at, PreparedAs}
+use Rattle.start.proofs.SameMarks.{p-marks, judge-marks}
+use Rattle.bound.specs.declared.RoundsMost.{RoundsMost}
+use Rattle.bound.specs.Bound.{boundBy, boundOf, boundMarked, boundFor}
+use Rattle.bound.proofs.MeasureLaws.{same-bound}
+
+-- ---- a judged table
+module _ {marked : ℕ → Bool} {t : Table} {r : Judgement} {rams starts : List ℤ} {states : List ℕ} (said : PreparedAs marked t r rams starts states) where
+  pub start-refused : (w : Refusal) → r ≡ Refused w → refused w ≡ boundMarked marked t
+  unfolding boundMarked
+  start-refused w e = sym (then-refused _ (sym (said .judged) ∙ ap (λ (j : Judgement). ruled j states) e))
+
+  pub start-passed : r ≡ Passed → passed (boundOf marked t) ≡ boundMarked marked t
+  unfolding boundMarked
+  start-passed e = sym (then-next _ (sym (said .judged) ∙ ap (λ (j : Judgement). ruled j states) e))
+
+-- a starting margin for each row
+pub start-long : (t : Table) → length (tableStart t .margins) ≡ t .header .rows
+unfolding beginBy setupWith
+start-long t = table-long (t .header .rows) _
+
+-- what was laid out is the table's
+pub laid-bound : (marked : ℕ → Bool) (t : Table) {p margins : List ℕ} → p ≡ cells (gridMarked marked t) → margins ≡ tableStart t .margins → boundBy (flat (t .header .rows) (t .header .borders) p) margins ≡ boundOf marked t
+unfolding gridBy setupWith
+laid-bound marked t {p} {margins} e d =
+    ap (boundBy (flat (t .header .rows) (t .header .borders) p)) d
+    ∙ same-bound (t .header .rows) (t .header .borders) _ (gridMarked marked t .p)
+    (λ i b hi hb. ap (λ (ps : List ℕ). at ps (i * t .header .borders + b)) e ∙ cells-at (gridMarked marked t) i b hi hb) (tableStart t .margins)
+
+-- ---- marks that agree on the borders
+module _ (m m′ : ℕ → Bool) (t : Table) (e : (b : ℕ) → b < t .header .borders → m b ≡ m′ b) where
+  judge-agree : judgeMarked m t ≡ judgeMarked m′ t
+  unfolding setupWith
+  judge-agree = judge-marks (setupOf kept m′ t) m e (rowsOf t .states)
+
+  p-agree : (i b : ℕ) → b < t .header .borders → gridMarked m t .p i b ≡ gridMarked m′ t .p i b
+  unfolding setupWith
+  p-agree i b hb = p-marks (setupOf kept m′ t) m e i b hb
+
+  bound-agree : boundOf m t ≡ boundOf m′ t
+  unfolding gridBy setupWith
+  bound-agree = same-bound (t .header .rows) (t .header .borders) (gridMarked m t .p) (gridMarked m′ t .p) (λ i b hi hb. p-agree i b hb) (tableStart t .margins)
+
+  pub marked-agree : boundMarked m t ≡ boundMarked m′ t
+  unfolding boundMarked
+  marked-agree = ap₂ (λ (j : Judged (List ℕ)) (b : RoundsMost). then j (λ states. passed b)) judge-agree bound-agree
+
+-- ---- lent tables
+pub past-judge : (given : Table) (r : Judgement) → ruled r (front given) ≡ judgeLent given → r ≡ Passed → judgeLent given ≡ passed (front given)
+past-judge given r said ok = sym said ∙ ap (λ (j : Judgement). ruled j (front given)) ok
+
+module _ (all : Bool) (marks : List ℕ) (given : Table) (r : Judgement) (said : ruled r (front given) ≡ judgeLent given) where
+  pub table-refused : (w : Refusal) → r ≡ Refused w → refused w ≡ boundFor all marks given
+  unfolding boundFor
+  table-refused w e = sym (then-refused _ (sym said ∙ ap (λ (j : Judgement). ruled j (front given)) e))
+
+  module _ (ok : r ≡ Passed) where
+    abbrev next : Judged RoundsMost
+    next = boundMarked (mayRise all marks) (front given)
+
+    past-table : boundFor all marks given ≡ judgeAsked all (given .header .borders) marks next
+    unfolding boundFor
+    past-table = then-next _ (past-judge given r said ok)
+
+    module _ (q : Judgement) (told : ruled q marks ≡ judgeAsked all (given .header .borders) marks (passed marks)) where
+      pub marks-refused : (w : Refusal) → q ≡ Refused w → refused w ≡ boundFor all marks given
+      marks-refused w e =
+          sym (past-table ∙ sym (asked-then all (given .header .borders) marks marks next) ∙ then-refused _ (sym told ∙ ap (λ (j : Judgement). ruled j marks) e))
+
+      pub marks-passed : q ≡ Passed → next ≡ boundFor all marks given
+      marks-passed e =
+          sym (past-table ∙ sym (asked-then all (given .header .borders) marks marks next) ∙ then-next _ (sym told ∙ ap (λ (j : Judgement). ruled j marks) e))
+
+-- with no list, no marks are looked at
+pub none-looked-at : (marks : List ℕ) (given : Table) → boundFor true marks given ≡ boundFor true [] given
+unfolding boundFor
+none-looked-at marks given = refl

@@ -1,0 +1,6 @@
+pub mod Anchors
+pub mod MeasureLaws
+pub mod BoundLaws
+pub mod Unique
+pub mod FewRounds
+pub mod SameRefusals

@@ -1,0 +1,34 @@
+-- The hour's own bound, known before the first round (01, "Extraction" and demand 3): N, L and 2 x N x L of a table, with every border free to rise or only those
+-- that are marked (02, E13), and what the open calls `bound` and `bound_marked` answer. That the rounds are at most this: `proofs/FewRounds.antt`.
+use mathlib.Core.Bool.{Bool}
+use mathlib.Core.List.{List}
+use Prim.Native.Nat.{ℕ, _*_}
+use Rattle.kinds.specs.Refusals.{Judged, passed, refused, then}
+use Rattle.marks.specs.Marks.{judgeAsked, mayRise}
+use Rattle.table.specs.Table.{Table, judgeLent}
+use Rattle.rounds.specs.Rounds.{Grid, mostSharers, aloneBits}
+use Rattle.start.specs.Start.{gridMarked, tableStart, judgeMarked}
+use Rattle.bound.specs.declared.RoundsMost.{RoundsMost}
+use Rattle.bound.specs.declared.Bounded.{Bounded}
+use Rattle.bound.specs.declared.Bounded.the-variants as bounded
+
+-- of a grid, and the margins that the rounds start from: N is the most borders that one row shares among, and 2^L is above what any border could take alone
+unfoldable pub boundBy : Grid → (margins : List ℕ) → RoundsMost
+boundBy g margins = record { sharers = mostSharers g; bits = aloneBits g margins; rounds = 2 * mostSharers g * aloneBits g margins }
+
+-- .. of a table; where some borders are marked, N and L are counted over these
+abbrev pub boundOf : (marked : ℕ → Bool) → Table → RoundsMost
+boundOf marked t = boundBy (gridMarked marked t) (tableStart t .margins)
+
+-- .. where the rounds may start: 5, 6 and 7 come first
+unfoldable pub boundMarked : (marked : ℕ → Bool) → Table → Judged RoundsMost
+boundMarked marked t = then (judgeMarked marked t) (λ states. passed (boundOf marked t))
+
+-- lent tables are judged as for the extraction, which asks for room besides: header, lengths, records, then the marks (13)
+unfoldable pub boundFor : (all : Bool) → (marks : List ℕ) → (given : Table) → Judged RoundsMost
+boundFor all marks given = then (judgeLent given) (λ t. judgeAsked all (t .header .borders) marks (boundMarked (mayRise all marks) t))
+
+-- what each case of the answer says
+abbrev pub saidBounded : Bounded → Judged RoundsMost
+saidBounded (bounded.Rounds b) = passed b
+saidBounded (bounded.Refused w) = refused w

@@ -1,0 +1,165 @@
+// How many rounds an hour can take at most, known before the first round: the open calls `bound` and `bound_marked`. They cost less than one round.
+mod measure;
+
+ghost use mathlib.Core.Path.{_≡_};
+ghost use mathlib.Core.Bool.{true, false};
+ghost use mathlib.Core.List.{[]};
+ghost use Prim.Native.Nat.{_*_};
+ghost use lib.ListN.{length};
+ghost use Rattle.marks.specs.Marks.{flagged};
+ghost use Rattle.table.specs.Table.{lent};
+ghost use Rattle.table.specs.Good.{Good};
+ghost use Rattle.bound.specs.Bound.{boundMarked, boundFor, saidBounded};
+use kinds::BorderRecord;
+use kinds::Header;
+use kinds::Judgement;
+use kinds::Refusal;
+use kinds::RowRecord;
+
+// N, L and 2 x N x L of 01's demand 3.
+pub struct RoundsMost {
+    pub sharers: u64,
+    pub bits: u64,
+    pub rounds: u64,
+}
+
+pub enum Bounded {
+    Rounds(RoundsMost),
+    Refused(Refusal),
+}
+
+// The bound of a lent table. Any input has an answer: there is no `requires`.
+pub fn bound(
+    h: Header,
+    z: &[i64],
+    t: &[i64],
+    b: &[BorderRecord],
+    c: &[RowRecord],
+    f: &[i64],
+) -> Bounded
+    ensures { λ r. ⌜ saidBounded r ≡ boundFor true [] (lent h (now (z .entry)) (now (t .entry)) (now (b .entry)) (now (c .entry)) (now (f .entry))) ⌝ }
+{
+    // No marks are looked at.
+    let marks: [u64; 1] = [0];
+    bound_for(h, z, t, b, c, f, true, &marks)
+}
+
+// The same where only the borders of a list of marks rise (02, E13).
+pub fn bound_marked(
+    h: Header,
+    z: &[i64],
+    t: &[i64],
+    b: &[BorderRecord],
+    c: &[RowRecord],
+    f: &[i64],
+    marks: &[u64],
+) -> Bounded
+    ensures { λ r. ⌜ saidBounded r ≡ boundFor false (now (marks .entry)) (lent h (now (z .entry)) (now (t .entry)) (now (b .entry)) (now (c .entry)) (now (f .entry))) ⌝ }
+{
+    bound_for(h, z, t, b, c, f, false, marks)
+}
+
+// Both, as asked: for every border, or with marks.
+pub fn bound_for(
+    h: Header,
+    z: &[i64],
+    t: &[i64],
+    b: &[BorderRecord],
+    c: &[RowRecord],
+    f: &[i64],
+    all: bool,
+    marks: &[u64],
+) -> Bounded
+    ensures { λ r. ⌜ saidBounded r ≡ boundFor all (now (marks .entry)) (lent h (now (z .entry)) (now (t .entry)) (now (b .entry)) (now (c .entry)) (now (f .entry))) ⌝ }
+{
+    if let Judgement::Refused(w) = table::judge(h, z, t, b, c, f) {
+        return Bounded::Refused(w);
+    }
+    let borders = h.borders;
+    if let Judgement::Refused(w) = marks::judge_asked(all, borders, marks) {
+        return Bounded::Refused(w);
+    }
+    let flags = marks::chosen(all, marks);
+    let zones = h.zones;
+    let allocated = h.allocated_items();
+    let rows = h.rows;
+    bound_judged(
+        h,
+        &z[..zones],
+        &t[..allocated],
+        &b[..borders],
+        &c[..rows],
+        &f[..rows * zones],
+        &flags[..borders],
+    )
+}
+
+// A judged table. The room to work in is made here, and not in `bound_in`, whose goals would spell it out.
+fn bound_judged(
+    h: Header,
+    z: &[i64],
+    t: &[i64],
+    b: &[BorderRecord],
+    c: &[RowRecord],
+    f: &[i64],
+    flags: &[u64],
+) -> Bounded
+    requires { ⌜ Good (lent h (now z) (now t) (now b) (now c) (now f)) ⌝ }
+    requires { ⌜ length (now flags) ≡ h .borders ⌝ }
+    ensures { λ r. ⌜ saidBounded r ≡ boundMarked (flagged (now (flags .entry))) (lent h (now (z .entry)) (now (t .entry)) (now (b .entry)) (now (c .entry)) (now (f .entry))) ⌝ }
+{
+    let rows = h.rows;
+    let cells = rows * h.borders;
+    let mut rams: [i64; Header::ROWS_MOST] = [0; Header::ROWS_MOST];
+    let mut starts: [i64; Header::ROWS_MOST] = [0; Header::ROWS_MOST];
+    let mut states: [u64; Header::ROWS_MOST] = [0; Header::ROWS_MOST];
+    let mut margins: [u64; Header::ROWS_MOST] = [0; Header::ROWS_MOST];
+    let mut ns: [u64; Header::ROWS_MOST] = [0; Header::ROWS_MOST];
+    let mut p: [u64; Header::ROWS_MOST * Header::BORDERS_MOST] = [0; Header::ROWS_MOST
+        * Header::BORDERS_MOST];
+    bound_in(
+        h,
+        z,
+        t,
+        b,
+        c,
+        f,
+        flags,
+        &mut rams[..rows],
+        &mut starts[..rows],
+        &mut states[..rows],
+        &mut margins[..rows],
+        &mut ns[..rows],
+        &mut p[..cells],
+    )
+}
+
+// 5, 6, 7, and only then p, the margins that the rounds would start from, and what they come to.
+fn bound_in(
+    h: Header,
+    z: &[i64],
+    t: &[i64],
+    b: &[BorderRecord],
+    c: &[RowRecord],
+    f: &[i64],
+    flags: &[u64],
+    rams: &mut [i64],
+    starts: &mut [i64],
+    states: &mut [u64],
+    margins: &mut [u64],
+    ns: &mut [u64],
+    p: &mut [u64],
+) -> Bounded
+    requires { ⌜ Good (lent h (now z) (now t) (now b) (now c) (now f)) ⌝ }
+    requires { ⌜ length (now flags) ≡ h .borders ⌝ }
+    requires { ⌜ (length (now rams) ≡ h .rows) × (length (now starts) ≡ h .rows) ⌝ }
+    requires { ⌜ (length (now states) ≡ h .rows) × (length (now margins) ≡ h .rows) ⌝ }
+    requires { ⌜ (length (now ns) ≡ h .rows) × (length (now p) ≡ h .rows * h .borders) ⌝ }
+    ensures { λ r. ⌜ saidBounded r ≡ boundMarked (flagged (now (flags .entry))) (lent h (now (z .entry)) (now (t .entry)) (now (b .entry)) (now (c .entry)) (now (f .entry))) ⌝ }
+{
+    if let Judgement::Refused(w) = start::prepare(h, z, t, b, c, f, flags, rams, starts, states) {
+        return Bounded::Refused(w);
+    }
+    start::lay_out(h, b, f, flags, starts, states, p, margins);
+    Bounded::Rounds(measure::measure(h.rows, h.borders, p, margins, ns))
+}

@@ -1,0 +1,42 @@
+-- The laws of `specs/BoundText.antt`: how long the line is, and what the bound's answer leaves. No contract cites this file.
+use mathlib.Core.Path.{_≡_, sym, ap, _∙_}
+use mathlib.Core.Bool.{Bool}
+use mathlib.Core.List.{List, [], _∷_}
+use Prim.Native.Char.{code}
+use Prim.Native.Nat.{ℕ, _+_}
+use native.Mathlib.Omega.{arith}
+use lib.ListN.{length}
+use Rattle.kinds.specs.declared.Refusal.{Refusal}
+use Rattle.kinds.specs.Refusals.{Judged, passed, refused}
+use Rattle.kinds.proofs.RefusalLaws.{then-next, then-refused}
+use Rattle.text.specs.Left.{TextLeft, textLeft}
+use Rattle.text.specs.Written.{decimal}
+use Rattle.text.proofs.LeftLaws.{text-refused}
+use Rattle.text.proofs.PutLaws.{line-length, tabbed-length, tabbed-empty}
+use Rattle.table.specs.Table.{Table}
+use Rattle.bound.specs.declared.RoundsMost.{RoundsMost}
+use Rattle.bound.specs.declared.Bounded.{Bounded}
+use Rattle.bound.specs.declared.Bounded.the-variants as bounded
+use Rattle.bound.specs.Bound.{boundFor, saidBounded}
+use Rattle.boundtext.specs.BoundText.{boundLine, boundText, boundTextLeft}
+
+pub bound-line-long : (n l rounds : ℕ) → length (boundLine n l rounds) ≡ 5 + length (decimal n) + length (decimal l) + length (decimal rounds)
+bound-line-long n l rounds =
+    line-length (code "U") (decimal n ∷ decimal l ∷ decimal rounds ∷ [])
+    ∙ omega (
+      arith,
+      tabbed-length (decimal n) (decimal l ∷ decimal rounds ∷ []),
+      tabbed-length (decimal l) (decimal rounds ∷ []),
+      tabbed-length (decimal rounds) [],
+      tabbed-empty,
+    )
+
+-- ---- what the answer leaves
+module _ (all : Bool) (marks : List ℕ) (given : Table) (out : List ℕ) (r : Bounded) (said : saidBounded r ≡ boundFor all marks given) where
+  pub told-refused : (w : Refusal) → r ≡ bounded.Refused w → _≡_ {A = TextLeft} (record { answer = refused w; out = out }) (boundTextLeft all marks given out)
+  unfolding boundTextLeft
+  told-refused w e = text-refused out (then-refused _ (sym said ∙ ap saidBounded e))
+
+  pub told-rounds : (m : RoundsMost) → r ≡ bounded.Rounds m → textLeft (passed (boundText m)) out ≡ boundTextLeft all marks given out
+  unfolding boundTextLeft
+  told-rounds m e = ap (λ (j : Judged (List ℕ)). textLeft j out) (sym (then-next _ (sym said ∙ ap saidBounded e)))

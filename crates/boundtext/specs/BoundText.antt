@@ -1,0 +1,26 @@
+-- The hour's own bound as text: the `U` line, and what the open call `bound_text` leaves.
+use mathlib.Core.Bool.{Bool}
+use mathlib.Core.List.{List, [], _∷_}
+use Prim.Native.Char.{code}
+use Prim.Native.Nat.{ℕ, _+_, _*_}
+use Rattle.kinds.specs.Refusals.{passed, then}
+use Rattle.text.specs.Left.{TextLeft, textLeft}
+use Rattle.text.specs.Written.{decimal, lineText}
+use Rattle.table.specs.Table.{Table}
+use Rattle.bound.specs.declared.RoundsMost.{RoundsMost}
+use Rattle.bound.specs.Bound.{boundFor}
+
+-- `U`, N, L, 2 N L
+abbrev pub boundLine : (n l rounds : ℕ) → List ℕ
+boundLine n l rounds = lineText (code "U") (decimal n ∷ decimal l ∷ decimal rounds ∷ [])
+
+abbrev pub boundText : RoundsMost → List ℕ
+boundText m = boundLine (m .sharers) (m .bits) (m .rounds)
+
+-- .. of machine numbers, each of at most 20 bytes: letter, tabs and LF besides
+abbrev pub boundMost : ℕ
+boundMost = 5 + 3 * 20
+
+-- refusals as for the bound, then room for the bytes of the text
+unfoldable pub boundTextLeft : (all : Bool) → (marks : List ℕ) → (given : Table) → (out : List ℕ) → TextLeft
+boundTextLeft all marks given out = textLeft (then (boundFor all marks given) (λ m. passed (boundText m))) out

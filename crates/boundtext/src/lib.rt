@@ -1,0 +1,70 @@
+// The hour's own bound as text: the `U` line. Its length is counted before the first byte is stored.
+ghost use mathlib.Core.Path.{_≡_};
+ghost use Prim.Native.Nat.{_≤_};
+ghost use lib.ListN.{length};
+ghost use Rattle.kinds.specs.Refusals.{passed};
+ghost use Rattle.text.specs.Left.{textLeft, textSaid};
+ghost use Rattle.text.specs.Put.{Put};
+ghost use Rattle.table.specs.Table.{lent};
+ghost use Rattle.boundtext.specs.BoundText.{boundLine, boundMost, boundTextLeft};
+use bound::Bounded;
+use kinds::BorderRecord;
+use kinds::Header;
+use kinds::Refusal;
+use kinds::RowRecord;
+use kinds::Written;
+
+// A line of so many bytes at most: the letter, three tabs, the LF, and three numbers of at most 20.
+pub const TEXT_MOST: usize = 65;
+
+// The bound for every border, or with marks. Any input has an answer: there is no `requires`.
+pub fn bound_text(
+    h: Header,
+    z: &[i64],
+    t: &[i64],
+    b: &[BorderRecord],
+    c: &[RowRecord],
+    f: &[i64],
+    all: bool,
+    marks: &[u64],
+    out: &mut [u8],
+) -> Written
+    ensures { λ r. ⌜ textSaid r (now (out .exit)) ≡ boundTextLeft all (now (marks .entry)) (lent h (now (z .entry)) (now (t .entry)) (now (b .entry)) (now (c .entry)) (now (f .entry))) (now (out .entry)) ⌝ }
+{
+    let bounded = bound::bound_for(h, z, t, b, c, f, all, marks);
+    match bounded {
+        Bounded::Refused(w) => Written::Refused(w),
+        Bounded::Rounds(most) => write_bound(most.sharers, most.bits, most.rounds, out),
+    }
+}
+
+// What is left to judge is the room for the text.
+fn write_bound(n: u64, l: u64, rounds: u64, out: &mut [u8]) -> Written
+    ensures { λ r. ⌜ textSaid r (now (out .exit)) ≡ textLeft (passed (boundLine n l rounds)) (now (out .entry)) ⌝ }
+{
+    let needed = line_length(n, l, rounds);
+    if out.len() < needed {
+        return Written::Refused(Refusal::too_short(needed));
+    }
+    Written::Bytes(put_bound(n, l, rounds, out))
+}
+
+// The letter, a tab before each field, the LF; and the fields.
+fn line_length(n: u64, l: u64, rounds: u64) -> usize
+    ensures { λ r. ⌜ (r ≡ length (boundLine n l rounds)) × (r ≤ boundMost) ⌝ }
+{
+    let n_digits = text::put::digit_count(n);
+    let l_digits = text::put::digit_count(l);
+    5 + n_digits + l_digits + text::put::digit_count(rounds)
+}
+
+fn put_bound(n: u64, l: u64, rounds: u64, out: &mut [u8]) -> usize
+    requires { ⌜ length (boundLine n l rounds) ≤ length (now out) ⌝ }
+    ensures { λ r. ⌜ Put (boundLine n l rounds) 0 (now (out .entry)) r (now (out .exit)) ⌝ }
+{
+    let next = text::put::put_byte(b'U', out, 0);
+    let next = text::put::put_number_field(n, out, next);
+    let next = text::put::put_number_field(l, out, next);
+    let next = text::put::put_number_field(rounds, out, next);
+    text::put::put_byte(b'\n', out, next)
+}

@@ -1,0 +1,12 @@
+-- `cabi::keravnoth_bound` meets its contract: what `bound` answers, coded.
+use mathlib.Core.Path.{ap, _∙_}
+use borrow.Author.Needs.{needs}
+use Rattle.cabi.specs.Coded.{codedBounded}
+use Rattle.cabi.proofs.keravnoth_bound.Statement.{statement}
+use Rattle.cabi.proofs.keravnoth_bound.Tie as tie
+
+returns : tie.Need-returns
+returns c = c .code-bounded .ensures ∙ ap codedBounded (c .before .bound .ensures)
+
+pub keravnoth-bound-spec : {M : Type 1} → statement M
+keravnoth-bound-spec = tie.close (tie.spec (λ c κs. search needs) (λ c κs. search needs) returns)

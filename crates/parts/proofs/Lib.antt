@@ -1,0 +1,5 @@
+pub mod Anchors
+pub mod PartsLaws
+pub mod Theorems
+pub mod OfTheRounds
+pub mod Unique

@@ -1,0 +1,140 @@
+// What each row's margin is made of (01, "Margin of a row"), for those who set the margins and publish them: the open call `margins`.
+// It asks no more of a table than writing does, so it answers for tables that the extraction refuses.
+mod row;
+
+ghost use mathlib.Core.Path.{_≡_};
+ghost use Prim.Native.Nat.{_≤_};
+ghost use lib.ListN.{length};
+ghost use Rattle.numbers.specs.Below.{table, over};
+ghost use Rattle.kinds.specs.Answers.{ruled};
+ghost use Rattle.kinds.specs.Refusals.{passed};
+ghost use Rattle.table.specs.Table.{lent};
+ghost use Rattle.table.specs.Good.{Good};
+ghost use Rattle.parts.specs.Parts.{recordOf, recordsOf, leaves, partsLeft, marginsLeft};
+ghost use Rattle.parts.specs.Stored.{partsAt, Storable};
+use kinds::BorderRecord;
+use kinds::Header;
+use kinds::Judgement;
+use kinds::Refusal;
+use kinds::RowRecord;
+
+// State, n, F0core, Fuaf, Base, AMR, S, LTA margin, CVA, IVA, RAM, starting margin; grains, but for state and n.
+pub const ITEMS: usize = 12;
+
+pub type PartsRecord = [i64; ITEMS];
+
+// The record of each row. Any input has an answer; where that is a refusal, nothing is written.
+pub fn margins(
+    h: Header,
+    z: &[i64],
+    t: &[i64],
+    b: &[BorderRecord],
+    c: &[RowRecord],
+    f: &[i64],
+    out: &mut [PartsRecord],
+) -> Judgement
+    ensures { λ r. ⌜ leaves (ruled r tt) (now (out .exit)) ≡ marginsLeft (lent h (now (z .entry)) (now (t .entry)) (now (b .entry)) (now (c .entry)) (now (f .entry))) (now (out .entry)) ⌝ }
+{
+    let judged = table::judge(h, z, t, b, c, f);
+    let Judgement::Passed = judged else {
+        return judged;
+    };
+    let zones = h.zones;
+    let allocated = h.allocated_items();
+    let borders = h.borders;
+    let rows = h.rows;
+    margins_judged(
+        h,
+        &z[..zones],
+        &t[..allocated],
+        &b[..borders],
+        &c[..rows],
+        &f[..rows * zones],
+        out,
+    )
+}
+
+// A judged table: what is left to judge is the room. The room to work in is made here, and not in `fill_parts`, whose goals would spell it out.
+fn margins_judged(
+    h: Header,
+    z: &[i64],
+    t: &[i64],
+    b: &[BorderRecord],
+    c: &[RowRecord],
+    f: &[i64],
+    out: &mut [PartsRecord],
+) -> Judgement
+    requires { ⌜ Good (lent h (now z) (now t) (now b) (now c) (now f)) ⌝ }
+    ensures { λ r. ⌜ leaves (ruled r tt) (now (out .exit)) ≡ partsLeft (passed (lent h (now (z .entry)) (now (t .entry)) (now (b .entry)) (now (c .entry)) (now (f .entry)))) (now (out .entry)) ⌝ }
+{
+    let rows = h.rows;
+    if out.len() < rows {
+        return Judgement::Refused(Refusal::too_short(rows));
+    }
+    let mut rams: [i64; Header::ROWS_MOST] = [0; Header::ROWS_MOST];
+    let mut starts: [i64; Header::ROWS_MOST] = [0; Header::ROWS_MOST];
+    let mut states: [u64; Header::ROWS_MOST] = [0; Header::ROWS_MOST];
+    fill_parts(
+        h,
+        z,
+        t,
+        b,
+        c,
+        f,
+        &mut rams[..rows],
+        &mut starts[..rows],
+        &mut states[..rows],
+        out,
+    );
+    Judgement::Passed
+}
+
+// RAMs, starting margins and states, by the functions that the extraction calls, and then the records.
+fn fill_parts(
+    h: Header,
+    z: &[i64],
+    t: &[i64],
+    b: &[BorderRecord],
+    c: &[RowRecord],
+    f: &[i64],
+    rams: &mut [i64],
+    starts: &mut [i64],
+    states: &mut [u64],
+    out: &mut [PartsRecord],
+)
+    requires { ⌜ Good (lent h (now z) (now t) (now b) (now c) (now f)) ⌝ }
+    requires { ⌜ (length (now rams) ≡ h .rows) × (length (now starts) ≡ h .rows) ⌝ }
+    requires { ⌜ (length (now states) ≡ h .rows) × (h .rows ≤ length (now out)) ⌝ }
+    ensures { λ _. ⌜ now (out .exit) ≡ over (recordsOf (lent h (now (z .entry)) (now (t .entry)) (now (b .entry)) (now (c .entry)) (now (f .entry)))) (now (out .entry)) ⌝ }
+{
+    margin::fill_rams(h, z, t, b, c, f, rams, starts);
+    states::fill_states(h, f, rams, states);
+    store_parts(h, z, b, c, f, rams, starts, states, out);
+}
+
+fn store_parts(
+    h: Header,
+    z: &[i64],
+    b: &[BorderRecord],
+    c: &[RowRecord],
+    f: &[i64],
+    rams: &[i64],
+    starts: &[i64],
+    states: &[u64],
+    out: &mut [PartsRecord],
+)
+    requires { ⌜ Storable h (now z) (now b) (now c) (now f) (now states) ⌝ }
+    requires { ⌜ (length (now rams) ≡ h .rows) × (length (now starts) ≡ h .rows) ⌝ }
+    requires { ⌜ (length (now states) ≡ h .rows) × (h .rows ≤ length (now out)) ⌝ }
+    ensures { λ _. ⌜ now (out .exit) ≡ over (table (h .rows) (λ i. recordOf (partsAt h (now (z .entry)) (now (b .entry)) (now (c .entry)) (now (f .entry)) (now (rams .entry)) (now (starts .entry)) (now (states .entry)) i))) (now (out .entry)) ⌝ }
+{
+    let default = h.default_share();
+    let intraday = h.is_intraday();
+    for i in 0..h.rows {
+        let factors = margin::row_factors(h, f, i);
+        let state = states[i];
+        let ram = rams[i];
+        let start = row::start_from(intraday, starts[i]);
+        out[i] = row::row_parts(default, c[i], factors, z, b, state, ram, start);
+    }
+}

@@ -1,0 +1,30 @@
+-- `partstext::line_length` meets its contract.
+use mathlib.Core.Path.{sym, _∙_}
+use Prim.Native.Char.{code}
+use native.Mathlib.Omega.{arith}
+use borrow.Author.Needs.{needs}
+use Rattle.text.specs.Fields.{tab}
+use Rattle.columns.proofs.ColumnPut.{line-long}
+use Rattle.partstext.specs.PartsText.{partsColumns}
+use Rattle.partstext.proofs.line_length.Statement.{statement}
+use Rattle.partstext.proofs.line_length.Tie as tie
+
+slice-aggregate-line-length : tie.Need-slice-aggregate-line-length
+slice-aggregate-line-length c = search needs
+
+slice-aggregate-line-length-2 : tie.Need-slice-aggregate-line-length-2
+slice-aggregate-line-length-2 c = search needs
+
+line-length-requires : tie.Need-line-length-requires
+line-length-requires c κs =
+    let s = c .before .before in
+    (search needs, omega (arith, line-long tab (code "V") partsColumns (s .args .i) (s .args .t2), s .pre))
+
+returns : tie.Need-returns
+returns c =
+    let s = c .before .before .before in
+    c .line-length .ensures ∙ sym (line-long tab (code "V") partsColumns (s .args .i) (s .args .t2))
+
+pub line-length-spec : {M : Type 1} → statement M
+line-length-spec =
+    tie.close (tie.spec slice-aggregate-line-length slice-aggregate-line-length-2 line-length-requires returns)

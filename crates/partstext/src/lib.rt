@@ -1,0 +1,95 @@
+// What each row's margin is made of, as text: a `V` line for each row.
+// The text's length is counted before the first byte is stored.
+ghost use mathlib.Core.Path.{_≡_};
+ghost use Prim.Native.Nat.{ℕ, _+_, _<_, _≤_};
+ghost use lib.ListN.{length};
+ghost use Rattle.kinds.specs.Limits.{rowsMost};
+ghost use Rattle.kinds.specs.Refusals.{passed};
+ghost use Rattle.text.specs.Left.{textLeft, textSaid};
+ghost use Rattle.text.specs.Put.{Put};
+ghost use Rattle.table.specs.Table.{lent};
+ghost use Rattle.partstext.specs.PartsText.{partsLine, partsLineAt, partsLineMost, partsText, marginsTextLeft};
+use kinds::BorderRecord;
+use kinds::Header;
+use kinds::Judgement;
+use kinds::Refusal;
+use kinds::RowRecord;
+use kinds::Written;
+use parts::PartsRecord;
+
+// The columns of a V line after its index: n a number, s a signed number.
+pub const COLUMNS: [u8; parts::ITEMS] = *b"nnsssnnnnnss";
+
+// A text of so many bytes at most: 200 lines of at most 210.
+pub const TEXT_MOST: usize = 42000;
+
+// The records stand in working memory, which has room for every table. Any input has an answer: there is no `requires`.
+pub fn margins_text(
+    h: Header,
+    z: &[i64],
+    t: &[i64],
+    b: &[BorderRecord],
+    c: &[RowRecord],
+    f: &[i64],
+    out: &mut [u8],
+) -> Written
+    ensures { λ r. ⌜ textSaid r (now (out .exit)) ≡ marginsTextLeft (lent h (now (z .entry)) (now (t .entry)) (now (b .entry)) (now (c .entry)) (now (f .entry))) (now (out .entry)) ⌝ }
+{
+    let mut records = [[0i64; parts::ITEMS]; Header::ROWS_MOST];
+    let filled = parts::margins(h, z, t, b, c, f, &mut records);
+    let rows = h.rows;
+    match filled {
+        Judgement::Refused(w) => Written::Refused(w),
+        Judgement::Passed => write_parts(&records[..rows], out),
+    }
+}
+
+// What is left to judge is the room for the text.
+fn write_parts(records: &[PartsRecord], out: &mut [u8]) -> Written
+    requires { ⌜ length (now records) ≤ rowsMost ⌝ }
+    requires { ⌜ ((i : ℕ) → i < length (now records) → length (partsLineAt (now records) i) ≤ partsLineMost) ⌝ }
+    ensures { λ r. ⌜ textSaid r (now (out .exit)) ≡ textLeft (passed (partsText (now (records .entry)))) (now (out .entry)) ⌝ }
+{
+    let needed = text_length(records);
+    if out.len() < needed {
+        return Written::Refused(Refusal::too_short(needed));
+    }
+    Written::Bytes(put_parts(records, out))
+}
+
+fn text_length(records: &[PartsRecord]) -> usize
+    requires { ⌜ length (now records) ≤ rowsMost ⌝ }
+    requires { ⌜ ((i : ℕ) → i < length (now records) → length (partsLineAt (now records) i) ≤ partsLineMost) ⌝ }
+    ensures { λ r. ⌜ r ≡ length (partsText (now (records .entry))) ⌝ }
+{
+    let mut sum: usize = 0;
+    for i in 0..records.len() {
+        sum += line_length(i, records[i]);
+    }
+    sum
+}
+
+fn line_length(i: usize, raw: PartsRecord) -> usize
+    requires { ⌜ length (partsLine i raw) ≤ partsLineMost ⌝ }
+    ensures { λ r. ⌜ r ≡ length (partsLine i raw) ⌝ }
+{
+    columns::write::line_length(&COLUMNS, i, &raw)
+}
+
+fn put_parts(records: &[PartsRecord], out: &mut [u8]) -> usize
+    requires { ⌜ length (partsText (now records)) ≤ length (now out) ⌝ }
+    ensures { λ r. ⌜ Put (partsText (now (records .entry))) 0 (now (out .entry)) r (now (out .exit)) ⌝ }
+{
+    let mut next: usize = 0;
+    for i in 0..records.len() {
+        next = put_line(i, records[i], out, next);
+    }
+    next
+}
+
+fn put_line(i: usize, raw: PartsRecord, out: &mut [u8], at: usize) -> usize
+    requires { ⌜ at + length (partsLine i raw) ≤ length (now out) ⌝ }
+    ensures { λ r. ⌜ Put (partsLine i raw) at (now (out .entry)) r (now (out .exit)) ⌝ }
+{
+    columns::write::put_line(b'\t', b'V', &COLUMNS, i, &raw, out, at)
+}

@@ -1,0 +1,106 @@
+-- That what `bound_text` and `margins_text` leave is what a program is to print (specs/Printed.antt), and that neither text is too long. No contract cites this file.
+use mathlib.Core.Path.{_≡_, refl, sym, ap, subst, _∙_}
+use mathlib.Core.Bool.{Bool}
+use mathlib.Core.List.{List}
+use Prim.Native.Nat.{ℕ, _*_, _^_, _≤_, _<_}
+use native.Mathlib.Nat.{mul-le-mul, le-refl}
+use native.Mathlib.Omega.{arith}
+use lib.ListN.{length}
+use Rattle.numbers.specs.Below.{at}
+use Rattle.kinds.specs.declared.Written.{Written}
+use Rattle.kinds.specs.Limits.{bordersMost, bytesMost}
+use Rattle.kinds.specs.Refusals.{Judged, passed, refused, then}
+use Rattle.kinds.proofs.KindLaws.{header-in}
+use Rattle.kinds.proofs.RefusalLaws.{passed-is, then-passed}
+use Rattle.marks.specs.Marks.{judgeAsked, mayRise}
+use Rattle.marks.proofs.MarkLaws.{asked-then}
+use Rattle.text.specs.Left.{textSaid}
+use Rattle.text.proofs.WrittenLaws.{decimal-long}
+use Rattle.table.specs.Table.{Table, judgeLent}
+use Rattle.table.specs.Good.{Good}
+use Rattle.table.proofs.GoodLaws.{judged-good}
+use Rattle.rounds.specs.Rounds.{Grid, mostSharers, aloneBits}
+use Rattle.rounds.proofs.Round.{alone-lt}
+use Rattle.rounds.proofs.Theorems.{alone-least}
+use Rattle.margin.specs.Bounds.{startBits}
+use Rattle.margin.proofs.Small.{named-values-small}
+use Rattle.parts.specs.Parts.{recordsOf}
+use Rattle.partstext.specs.PartsText.{partsText, marginsTextLeft}
+use Rattle.partstext.proofs.PartsTextLaws.{parts-text-most}
+use Rattle.start.specs.Setup.{gridBy, beginBy}
+use Rattle.start.specs.Start.{setupWith, gridMarked, tableStart, judgeMarked}
+use Rattle.extraction.proofs.AcceptedLaws.{small-start}
+use Rattle.bound.specs.declared.RoundsMost.{RoundsMost}
+use Rattle.bound.specs.Bound.{boundBy, boundOf, boundMarked, boundFor}
+use Rattle.bound.proofs.MeasureLaws.{sharers-few}
+use Rattle.boundtext.specs.BoundText.{boundText, boundTextLeft}
+use Rattle.boundtext.proofs.BoundTextLaws.{bound-line-long}
+use Rattle.printing.specs.declared.texts.Word.the-variants.{Bound, Margins}
+use Rattle.printing.specs.Printed.{Printed, toldText, Told, saidOf}
+use Rattle.printing.proofs.PrintedLaws.{told-printed}
+
+-- ---- the bound: N is at most 64, and 2^49 is above every starting margin, so L is at most 49
+module _ (marked : ℕ → Bool) {t : Table} (good : Good t) where
+  abbrev grid : Grid
+  grid = gridMarked marked t
+
+  sharers-most : mostSharers grid ≤ bordersMost
+  unfolding gridBy setupWith
+  sharers-most = omega (arith, sharers-few grid, header-in (t .header) (good .exact .header) .borders-most)
+
+  bits-most : aloneBits grid (tableStart t .margins) ≤ startBits
+  unfolding gridBy setupWith
+  bits-most =
+      alone-least grid (tableStart t .margins) startBits
+      (λ b h. alone-lt grid (tableStart t .margins) b (2 ^ startBits) (omega arith) (λ i k. small-start t startBits (λ j l. named-values-small good j l .start) i k))
+
+  bound-short : length (boundText (boundOf marked t)) ≤ bytesMost
+  unfolding boundBy
+  bound-short =
+      let n = mostSharers grid in
+      let l = aloneBits grid (tableStart t .margins) in
+      let rounds : 2 * n * l ≤ 2 * bordersMost * startBits = mul-le-mul (mul-le-mul (le-refl 2) sharers-most) bits-most in
+      omega (
+        arith,
+        bound-line-long n l (2 * n * l),
+        decimal-long 1 n (omega (arith, sharers-most)),
+        decimal-long 1 l (omega (arith, bits-most)),
+        decimal-long 3 (2 * n * l) (omega (arith, rounds)),
+      )
+
+-- one judgement after two is that after the first, and so on
+then-then : {A B C : Type 0} (j : Judged A) (next : A → Judged B) (last : B → Judged C) → then (then j next) last ≡ then j (λ a. then (next a) last)
+unfolding then
+then-then (passed a) next last = refl
+then-then (refused w) next last = refl
+
+module _ (all : Bool) (marks file : List ℕ) (given : Table) where
+  bound-fits : (text : List ℕ) → then (boundFor all marks given) (λ m. passed (boundText m)) ≡ passed text → length text ≤ bytesMost
+  unfolding boundFor boundMarked
+  bound-fits text e =
+      let d = then-passed (boundFor all marks given) _ text e in
+      let j = then-passed (judgeLent given) _ (d .it) (d .first) in
+      let t = j .it in
+      let a = then-passed (judgeAsked all (t .header .borders) marks (passed marks)) _ (d .it) (asked-then all (t .header .borders) marks marks (boundMarked (mayRise all marks) t) ∙ j .second) in
+      let b = then-passed (judgeMarked (mayRise all marks) t) _ (d .it) (a .second) in
+      let is : boundText (boundOf (mayRise all marks) t) ≡ text = ap (λ (m : RoundsMost). boundText m) (passed-is _ _ (b .second)) ∙ passed-is _ _ (d .second) in
+      subst (λ (s : List ℕ). length s ≤ bytesMost) is (bound-short (mayRise all marks) (judged-good given t (j .first)))
+
+  pub bound-printed : (out : List ℕ) {out′ out″ : List ℕ} (r : Written) {n : ℕ} → bytesMost ≤ length out → textSaid r out′ ≡ boundTextLeft all marks given out → Told r out′ n out″
+      → Printed n (toldText (then (judgeLent given) (saidOf Bound all marks file))) out″
+  unfolding saidOf boundTextLeft boundFor
+  bound-printed out {out′} {out″} r {n} room said told =
+      subst (λ (j : Judged (List ℕ)). Printed n (toldText j) out″)
+      (then-then (judgeLent given) (λ t. judgeAsked all (t .header .borders) marks (boundMarked (mayRise all marks) t)) (λ m. passed (boundText m)))
+      (told-printed (then (boundFor all marks given) (λ m. passed (boundText m))) out r (λ text e. omega (arith, bound-fits text e, room)) said told)
+
+  margins-fit : (text : List ℕ) → then (judgeLent given) (λ t. passed (partsText (recordsOf t))) ≡ passed text → length text ≤ bytesMost
+  margins-fit text e =
+      let d = then-passed (judgeLent given) _ text e in
+      subst (λ (s : List ℕ). length s ≤ bytesMost) (passed-is _ _ (d .second)) (omega (arith, parts-text-most (judged-good given (d .it) (d .first))))
+
+  pub margins-printed : (out : List ℕ) {out′ out″ : List ℕ} (r : Written) {n : ℕ} → bytesMost ≤ length out → textSaid r out′ ≡ marginsTextLeft given out → Told r out′ n out″
+      → Printed n (toldText (then (judgeLent given) (saidOf Margins all marks file))) out″
+  unfolding saidOf marginsTextLeft
+  margins-printed out r room said told =
+      told-printed (then (judgeLent given) (λ t. passed (partsText (recordsOf t)))) out r (λ text e. omega (arith, margins-fit text e, room)) said told
