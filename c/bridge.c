@@ -34,7 +34,7 @@ enum {
     READ = 1, WRITE, EXTRACT, RESULT_TEXT, ANSWER, CORNER_FLOWS, CORNER_TEXT,
     EXTRACT_MARKED, RESULT_TEXT_MARKED, ANSWER_MARKED,
     READ_CORRECTED, ANSWER_CORRECTED, REWRITE_CORRECTED,
-    JUDGE_CLAIMS, PUBLISHED_TEXT,
+    JUDGE_CLAIMS, PUBLISHED_TEXT, READ_ROWS, WRITE_ROWS,
     BOUND, BOUND_MARKED, MARGINS, CALLS
 };
 
@@ -83,6 +83,8 @@ static const unsigned char takes[CALLS][BUFFERS] = {
     [REWRITE_CORRECTED] = {[TEXT] = 1, [SHEET] = 1, [OUT] = 1},
     [JUDGE_CLAIMS] = {[Z] = 1, [T] = 1, [B] = 1, [C] = 1, [F] = 1, [CLAIMS] = 1},
     [PUBLISHED_TEXT] = {[Z] = 1, [T] = 1, [B] = 1, [C] = 1, [F] = 1, [SHEET] = 1, [OUT] = 1},
+    [READ_ROWS] = {[C] = 1, [F] = 1, [SHEET] = 1},
+    [WRITE_ROWS] = {[C] = 1, [F] = 1, [OUT] = 1},
     [BOUND] = {[Z] = 1, [T] = 1, [B] = 1, [C] = 1, [F] = 1},
     [BOUND_MARKED] = {[Z] = 1, [T] = 1, [B] = 1, [C] = 1, [F] = 1, [MARKS] = 1},
     [MARGINS] = {[Z] = 1, [T] = 1, [B] = 1, [C] = 1, [F] = 1, [PARTS] = 1},
@@ -202,11 +204,16 @@ static size_t make(const struct request *r, unsigned char *const *at, uint64_t *
         answer[3] = said.corners;
         return 4;
     }
-    if (r->call == JUDGE_CLAIMS) {
-        struct KeravnothJudged said = keravnoth_claims(
-            HEADER(r),
-            z, nz, t, nt, (const border_record *)b, nb, (const row_record *)c, nc, f, nf,
-            (const claim_record *)at[CLAIMS], r->count[CLAIMS]);
+    if (r->call == JUDGE_CLAIMS || r->call == READ_ROWS) {
+        struct KeravnothJudged said;
+        if (r->call == JUDGE_CLAIMS)
+            said = keravnoth_claims(
+                HEADER(r),
+                z, nz, t, nt, (const border_record *)b, nb, (const row_record *)c, nc, f, nf,
+                (const claim_record *)at[CLAIMS], r->count[CLAIMS]);
+        else
+            said = keravnoth_read_rows(
+                HEADER(r), at[SHEET], r->count[SHEET], c, nc, f, nf);
         answer[0] = said.number;
         answer[1] = said.place;
         answer[2] = said.byte;
@@ -247,6 +254,9 @@ static size_t make(const struct request *r, unsigned char *const *at, uint64_t *
             HEADER(r),
             z, nz, t, nt, (const border_record *)b, nb, (const row_record *)c, nc, f, nf,
             at[SHEET], r->count[SHEET], at[OUT], r->count[OUT]);
+    else if (r->call == WRITE_ROWS)
+        said = keravnoth_write_rows(
+            HEADER(r), (const row_record *)c, nc, f, nf, at[OUT], r->count[OUT]);
     else
         said = keravnoth_answer(at[TEXT], r->count[TEXT], at[OUT], r->count[OUT]);
     answer[0] = said.number;

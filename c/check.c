@@ -20,7 +20,7 @@
 #include <stdio.h>
 #include <string.h>
 
-enum { CALLS = 18, THREADS = 4, TURNS = 8, KIB = 1024, SPARE = 256 };
+enum { CALLS = 20, THREADS = 4, TURNS = 8, KIB = 1024, SPARE = 256 };
 
 /* Everything that the calls are lent, once a thread. */
 struct room {
@@ -185,6 +185,23 @@ static void margins(struct room *r)
     keravnoth_margins(TABLE(r), r->parts, KERAVNOTH_ROWS_MOST);
 }
 
+/* The rows as a sheet, and back. */
+static void write_rows(struct room *r)
+{
+    keravnoth_write_rows(
+        header(r), C(r), KERAVNOTH_ROWS_MOST, r->f, KERAVNOTH_FACTORS_MOST,
+        r->out, KERAVNOTH_WRITE_ROWS_MOST);
+}
+
+static void read_rows(struct room *r)
+{
+    struct KeravnothWritten sheet = keravnoth_write_rows(
+        header(r), C(r), KERAVNOTH_ROWS_MOST, r->f, KERAVNOTH_FACTORS_MOST,
+        r->out, KERAVNOTH_WRITE_ROWS_MOST);
+    keravnoth_read_rows(
+        header(r), r->out, sheet.bytes, r->c, KERAVNOTH_ROWS_MOST, r->f, KERAVNOTH_FACTORS_MOST);
+}
+
 static const struct {
     const char *name;
     void (*make)(struct room *);
@@ -208,6 +225,8 @@ static const struct {
     {"bound", bound, KERAVNOTH_BOUND_STACK},
     {"bound_marked", bound_marked, KERAVNOTH_BOUND_MARKED_STACK},
     {"margins", margins, KERAVNOTH_MARGINS_STACK},
+    {"write_rows", write_rows, KERAVNOTH_WRITE_ROWS_STACK},
+    {"read_rows", read_rows, KERAVNOTH_READ_ROWS_STACK},
 };
 
 static int load(struct room *r, const char *name)
@@ -349,6 +368,12 @@ static int check_null(const char *name)
     same &= SAME(
         keravnoth_margins(TABLE(r), NULL, 0),
         keravnoth_margins(TABLE(r), r->parts, 0));
+    same &= SAME(
+        keravnoth_read_rows(header(r), NULL, 0, NULL, 0, NULL, 0),
+        keravnoth_read_rows(header(r), r->text, 0, r->c, 0, r->f, 0));
+    same &= SAME(
+        keravnoth_write_rows(header(r), NULL, 0, NULL, 0, NULL, 0),
+        keravnoth_write_rows(header(r), C(r), 0, r->f, 0, r->out, 0));
     puts(same ? "NULL with count 0 answers as count 0" : "NULL with count 0 answers otherwise");
     return same ? 0 : 1;
 }

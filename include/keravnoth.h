@@ -34,6 +34,10 @@
  *            below the table's rows; each replaces the table's row of its index, "-"
  *            in R taking the table's default.  The table is then the merged one.  An
  *            empty sheet changes nothing
+ *   sheet    (of keravnoth_read_rows) the text of the planners' sheet: one line a row,
+ *            as a C line without its letter, fields parted by semicolons, powers in
+ *            MW with exactly three decimals, factors with exactly five, index and R
+ *            as in a C line; all rows of the header, in index order
  *   p        one uint64_t a row and border, filled in by the extraction: the
  *            factor that the border has on the row, from factor - to factor (of a
  *            border with hubs from factor - sending + receiving - to factor), and 0
@@ -105,13 +109,13 @@
  *   header is line 1.
  *
  *   Byte (field byte of every answer): the byte to blame in the line that place
- *   names, from 1, or 0 where no byte is to blame.  Only keravnoth_read and the calls
- *   with a correction sheet name one, and only with 2, 3 and 10: the first byte from
- *   the left that no good field could have there, where an index is not the line's own
- *   or a value is outside its range the field's first byte (of two in conflict the
- *   later field's), where a field ends too soon the byte after it.  A wrong letter or
- *   field count, a line that is missing or extra, and every other refusal have 0, as
- *   has every call on lent tables.
+ *   names, from 1, or 0 where no byte is to blame.  Only keravnoth_read,
+ *   keravnoth_read_rows and the calls with a correction sheet name one, and only with
+ *   2, 3 and 10: the first byte from the left that no good field could have there,
+ *   where an index is not the line's own or a value is outside its range the field's
+ *   first byte (of two in conflict the later field's), where a field ends too soon
+ *   the byte after it.  A wrong letter or field count, a line that is missing or
+ *   extra, and every other refusal have 0, as has every call on lent tables.
  *
  *   Order.  keravnoth_read: 1, then 2 and 3 line by line, 4, 8; with a correction
  *   sheet 1 of either text, 2 to 4 of the table's, 10, 8; 5, 6 and 7 are of the
@@ -164,7 +168,7 @@
 extern "C" {
 #endif
 
-#define KERAVNOTH_VERSION 12
+#define KERAVNOTH_VERSION 13
 
 /* The largest table, in items. */
 enum {
@@ -186,7 +190,8 @@ enum {
     KERAVNOTH_RESULT_TEXT_MOST = 22790,
     KERAVNOTH_ANSWER_MOST = 22790,
     KERAVNOTH_CORNER_TEXT_MOST = 110592,
-    KERAVNOTH_PUBLISHED_TEXT_MOST = 8800
+    KERAVNOTH_PUBLISHED_TEXT_MOST = 8800,
+    KERAVNOTH_WRITE_ROWS_MOST = 60200
 };
 
 /* Refusals. */
@@ -305,7 +310,9 @@ enum {
     KERAVNOTH_PUBLISHED_TEXT_STACK = 65536,
     KERAVNOTH_BOUND_STACK = 113664,
     KERAVNOTH_BOUND_MARKED_STACK = 113664,
-    KERAVNOTH_MARGINS_STACK = 6144
+    KERAVNOTH_MARGINS_STACK = 6144,
+    KERAVNOTH_READ_ROWS_STACK = 2048,
+    KERAVNOTH_WRITE_ROWS_STACK = 2048
 };
 
 /* The header of a table, by value; share where the H line does not write it, and
@@ -559,6 +566,23 @@ struct KeravnothJudged keravnoth_margins(
     const int64_t (*c)[KERAVNOTH_C_ITEMS], size_t nc,
     const int64_t *f, size_t nf,
     int64_t (*out)[KERAVNOTH_PARTS_ITEMS], size_t nout);
+
+/* Reads the rows of the planners' sheet into c and f.  Refusals 1, 2, 3, 8, in this order
+   but for the header, which is judged (3, line 1) before the lines; place is the
+   sheet's line. */
+struct KeravnothJudged keravnoth_read_rows(
+    struct KeravnothHeader header,
+    const uint8_t *sheet, size_t nsheet,
+    int64_t (*c)[KERAVNOTH_C_ITEMS], size_t nc,
+    int64_t *f, size_t nf);
+
+/* Writes rows as the planners' sheet; a sheet that is read and written again is the same.
+   Refusals 3, 8; place is the header's line 1 or the sheet's line. */
+struct KeravnothWritten keravnoth_write_rows(
+    struct KeravnothHeader header,
+    const int64_t (*c)[KERAVNOTH_C_ITEMS], size_t nc,
+    const int64_t *f, size_t nf,
+    uint8_t *out, size_t nout);
 
 #ifdef __cplusplus
 }

@@ -374,6 +374,42 @@ impl Bridge {
         Ok(Written { number, place: place as usize, byte: byte as usize, bytes: bytes as usize })
     }
 
+    pub fn read_rows(
+        &mut self,
+        header: [u64; wire::HEADER_WORDS],
+        sheet: &mut [u8],
+        c: &mut [[i64; 7]],
+        f: &mut [i64],
+    ) -> Result<Judged, Ended> {
+        self.begin(wire::READ_ROWS, header);
+        self.lend(wire::C, c);
+        self.lend(wire::F, f);
+        self.lend(wire::SHEET, sheet);
+        let [number, place, byte] = self.ask()?;
+        self.back(c);
+        self.back(f);
+        self.back(sheet);
+        Ok(Judged { number, place: place as usize, byte: byte as usize })
+    }
+
+    pub fn write_rows(
+        &mut self,
+        header: [u64; wire::HEADER_WORDS],
+        c: &mut [[i64; 7]],
+        f: &mut [i64],
+        out: &mut [u8],
+    ) -> Result<Written, Ended> {
+        self.begin(wire::WRITE_ROWS, header);
+        self.lend(wire::C, c);
+        self.lend(wire::F, f);
+        self.lend(wire::OUT, out);
+        let [number, place, byte, bytes] = self.ask()?;
+        self.back(c);
+        self.back(f);
+        self.back(out);
+        Ok(Written { number, place: place as usize, byte: byte as usize, bytes: bytes as usize })
+    }
+
     pub fn answer(&mut self, text: &mut [u8], out: &mut [u8]) -> Result<Written, Ended> {
         self.begin(wire::ANSWER, [0; wire::HEADER_WORDS]);
         self.lend(wire::TEXT, text);

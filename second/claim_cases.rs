@@ -3,6 +3,7 @@
 
 use crate::calls::Judged;
 use crate::claim_lists::{self, Made, TEXT_WAYS, WAYS};
+use crate::damage::TABLE_FIELDS;
 use crate::dice::Dice;
 use crate::lent::{needed, short, with_extra, Lent, LentTables, KINDS};
 use crate::promises::factors;
@@ -218,7 +219,7 @@ impl Comparison {
         let t = second::read(&damage::as_text(SMALL_TABLE), second::ALL_ROOM).expect("a good table");
         let mut l = LentTables::new(d, &t, needed(t.header));
         let (list, place) = &self.list_places[number];
-        let damaged = damage::each_damage_of(list, place);
+        let damaged = damage::each_damage_of(list, place, &TABLE_FIELDS);
         for (list, _) in damaged {
             if let Err(refusal) = self.published(d, &mut l, &list) {
                 self.see(&format!("damaged list, {} at {}", refusal.number, refusal.place));
@@ -310,7 +311,7 @@ pub fn list_places() -> Vec<(Vec<u8>, damage::Place)> {
     let mut all = Vec::new();
     for (number, list) in SMALL_LISTS.into_iter().enumerate() {
         let list = damage::as_text(list);
-        all.extend(damage::places_in(number, &list).into_iter().map(|place| (list.clone(), place)));
+        all.extend(damage::places_in(number, &list, &TABLE_FIELDS).into_iter().map(|place| (list.clone(), place)));
     }
     all
 }

@@ -33,6 +33,10 @@ mod make;
 mod marks;
 #[path = "promises.rs"]
 mod promises;
+#[path = "row_cases.rs"]
+mod row_cases;
+#[path = "row_sheets.rs"]
+mod row_sheets;
 #[path = "second.rs"]
 mod second;
 #[path = "seen.rs"]
@@ -71,6 +75,8 @@ const MARKS_EVERY: u64 = 8;
 const BAD_SHEETS_EVERY: u64 = 8;
 /// .. a table made for claims.
 const CLAIMS_EVERY: u64 = 4;
+/// .. a table made for sheets of rows.
+const ROWS_EVERY: u64 = 4;
 /// .. bad lists of marks and bad tables for the bound and the margins.
 const KNOWN_EVERY: u64 = 8;
 
@@ -85,6 +91,8 @@ struct Comparison {
     sheet_places: Vec<damage::Place>,
     /// small lists of claims, and where each is damaged
     list_places: Vec<(Vec<u8>, damage::Place)>,
+    /// where the small sheets of rows are damaged
+    row_places: Vec<(usize, damage::Place)>,
     seed: u64,
     kind: &'static str,
     number: u64,
@@ -498,6 +506,7 @@ fn main() {
         places: damage::places(),
         sheet_places: damage::sheet_places(),
         list_places: claim_cases::list_places(),
+        row_places: row_cases::row_places(),
         seed,
         kind: "",
         number: 0,
@@ -539,6 +548,9 @@ fn main() {
             if number % CLAIMS_EVERY == 0 {
                 c.claim_tables(number / CLAIMS_EVERY);
             }
+            if number % ROWS_EVERY == 0 {
+                c.row_sheets(number / ROWS_EVERY);
+            }
             if number % KNOWN_EVERY == 0 {
                 c.known_tables(number / KNOWN_EVERY);
             }
@@ -555,6 +567,9 @@ fn main() {
         if (number as usize) < c.list_places.len() {
             c.each_list_damage(number as usize);
         }
+        if (number as usize) < c.row_places.len() {
+            c.each_row_damage(number as usize);
+        }
     }
     // a small run has not had them all
     for number in tables.max(texts) as usize..c.places.len() {
@@ -565,6 +580,9 @@ fn main() {
     }
     for number in tables.max(texts) as usize..c.list_places.len() {
         c.each_list_damage(number);
+    }
+    for number in tables.max(texts) as usize..c.row_places.len() {
+        c.each_row_damage(number);
     }
     // the largest of them take the second program a while: a difference is mostly seen before
     for number in 0..HOURS.len() {

@@ -45,8 +45,13 @@ pub fn lines_of(text: &[u8]) -> Vec<Vec<u8>> {
 }
 
 pub fn fields_of(line: &[u8]) -> Vec<Vec<u8>> {
+    parts_of(line, b'\t')
+}
+
+/// The fields that a byte parts.
+pub fn parts_of(line: &[u8], by: u8) -> Vec<Vec<u8>> {
     let body = line.strip_suffix(b"\n").unwrap_or(line);
-    body.split(|byte| *byte == b'\t').map(|field| field.to_vec()).collect()
+    body.split(|byte| *byte == by).map(|field| field.to_vec()).collect()
 }
 
 pub fn line_from(fields: &[Vec<u8>]) -> Vec<u8> {
@@ -237,7 +242,20 @@ const SMALL: [&str; 6] = [
 
 /// Bytes that tell: digits, what parts fields, letters, and some that are none of
 /// these.
-const TELLING: &[u8] = b"0159-\t\n \r+.HZBCTx\x00\xff/:";
+const TELLING: &[u8] = b"0159-\t\n \r+.,;HZBCTx\x00\xff/:";
+
+/// What parts the fields of a text, and fields to put into it: those that tell, and a
+/// few of them.
+pub struct Fields {
+    by: u8,
+    telling: &'static [&'static str],
+    few: &'static [&'static str],
+}
+
+/// Those of a table, of a correction sheet, and of a list of claims.
+pub const TABLE_FIELDS: Fields = Fields { by: b'\t', telling: &TELLING_FIELDS, few: &FEW_FIELDS };
+/// Those of a semicolon sheet.
+pub const SHEET_FIELDS: Fields = Fields { by: b';', telling: &TELLING_DECIMALS, few: &FEW_DECIMALS };
 
 /// Fields that tell where a number goes wrong, good ones among them.
 const TELLING_FIELDS: [&str; 20] = [
@@ -247,6 +265,14 @@ const TELLING_FIELDS: [&str; 20] = [
 
 /// .. and a few, for two fields of a line at once.
 const FEW_FIELDS: [&str; 6] = ["", "-", "7", "01", "9999999999", "5x"];
+
+/// The same for numbers with a point.
+const TELLING_DECIMALS: [&str; 27] = [
+    "", "-", "0", "1", "-1", "0.", ".0", "0.0", "0.000", "-0.000", "-0.001", "00.000", "01.000", "-01.000", "0.00000",
+    "-0.00000", "-0.00001", "1.0000", "0.000000", "1,000", "1.000,5", "1 000.000", "5.000\r", "1234567.890",
+    "12345678.901", "12345.67890", "123456.78901",
+];
+const FEW_DECIMALS: [&str; 7] = ["", "-", "7", "7.000", "0.70000", "9999999.999", "1,000"];
 
 fn small_text(number: usize) -> Vec<u8> {
     as_text(SMALL[number])
@@ -266,14 +292,14 @@ pub enum Place {
 
 /// Every byte and every field of every small text.
 pub fn places() -> Vec<Place> {
-    (0..SMALL.len()).flat_map(|number| places_in(number, &small_text(number))).collect()
+    (0..SMALL.len()).flat_map(|number| places_in(number, &small_text(number), &TABLE_FIELDS)).collect()
 }
 
 /// Every byte and every field of a text.
-pub fn places_in(number: usize, text: &[u8]) -> Vec<Place> {
+pub fn places_in(number: usize, text: &[u8], parted: &Fields) -> Vec<Place> {
     let mut all: Vec<Place> = (0..=text.len()).map(|at| Place::Byte(number, at)).collect();
     for (line, bytes) in lines_of(text).iter().enumerate() {
-        all.extend((0..=fields_of(bytes).len()).map(|field| Place::Field(number, line, field)));
+        all.extend((0..=parts_of(bytes, parted.by).len()).map(|field| Place::Field(number, line, field)));
     }
     all
 }
@@ -282,14 +308,14 @@ pub fn places_in(number: usize, text: &[u8]) -> Vec<Place> {
 /// for too.
 pub fn each_damage(place: &Place) -> Vec<(Vec<u8>, bool)> {
     let (Place::Byte(number, ..) | Place::Field(number, ..)) = *place;
-    each_damage_of(&small_text(number), place)
+    each_damage_of(&small_text(number), place, &TABLE_FIELDS)
 }
 
 /// .. another text than the small ones.
-pub fn each_damage_of(text: &[u8], place: &Place) -> Vec<(Vec<u8>, bool)> {
+pub fn each_damage_of(text: &[u8], place: &Place, parted: &Fields) -> Vec<(Vec<u8>, bool)> {
     match *place {
         Place::Byte(_, at) => each_byte(text, at),
-        Place::Field(_, line, field) => each_field(text, line, field),
+        Place::Field(_, line, field) => each_field(text, line, field, parted),
     }
 }
 
@@ -304,13 +330,13 @@ pub fn day_text() -> Vec<u8> {
 
 /// Every byte and every field of the sheet.
 pub fn sheet_places() -> Vec<Place> {
-    places_in(0, &as_text(SHEET))
+    places_in(0, &as_text(SHEET), &TABLE_FIELDS)
 }
 
 /// The sheet damaged there in every way, each with whether the answer is asked for
 /// too.
 pub fn each_sheet_damage(place: &Place) -> Vec<(Vec<u8>, bool)> {
-    each_damage_of(&as_text(SHEET), place)
+    each_damage_of(&as_text(SHEET), place, &TABLE_FIELDS)
 }
 
 /// The byte there replaced by each of the 256, taken out, doubled, each telling
@@ -336,14 +362,15 @@ fn each_byte(text: &[u8], at: usize) -> Vec<(Vec<u8>, bool)> {
 /// The field there replaced by each telling one, alone and with another field of
 /// the line replaced by one of a few; with the LF and, for the last line, without;
 /// and the text cut off after a telling one.
-fn each_field(text: &[u8], line: usize, field: usize) -> Vec<(Vec<u8>, bool)> {
+fn each_field(text: &[u8], line: usize, field: usize, parted: &Fields) -> Vec<(Vec<u8>, bool)> {
     let lines = lines_of(text);
-    let own = fields_of(&lines[line]);
+    let own = parts_of(&lines[line], parted.by);
     let mut all = Vec::new();
     let mut cuts = Vec::new();
     let mut put = |fields: &[Vec<u8>], whole: bool| {
         let mut damaged = lines.clone();
-        damaged[line] = line_from(fields);
+        damaged[line] = fields.join(&parted.by);
+        damaged[line].push(b'\n');
         all.push((damaged.concat(), whole));
         if line + 1 == lines.len() {
             damaged[line].pop();
@@ -358,16 +385,16 @@ fn each_field(text: &[u8], line: usize, field: usize) -> Vec<(Vec<u8>, bool)> {
         fields[field] = by.as_bytes().to_vec();
         fields
     };
-    for by in TELLING_FIELDS {
+    for by in parted.telling {
         put(&replaced(&own, field, by), true);
         let mut cut = lines[..line].concat();
-        cut.extend(replaced(&own, field, by)[..=field].join(&b'\t'));
+        cut.extend(replaced(&own, field, by)[..=field].join(&parted.by));
         cuts.push((cut, false));
     }
-    for by in FEW_FIELDS {
+    for by in parted.few {
         let one = replaced(&own, field, by);
         for other in (field + 1)..=one.len() {
-            for by in FEW_FIELDS {
+            for by in parted.few {
                 put(&replaced(&one, other, by), false);
             }
         }

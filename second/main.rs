@@ -4,6 +4,8 @@
 //! with `corners` and a row's index, the sheet of that row.
 //! With `claims` and a file: the published list that the claims in it leave, or the
 //! E line.
+//! With `rows`: the rows as a semicolon sheet, or the E line; with `rows` and a file,
+//! the table with all its rows taken from the sheet in it.
 //! With `bound`: the hour's own bound of the rounds; with `margins`: what each row's
 //! margin is made of; or the E line.
 //! With `--marks` and a list, numbers with commas between: the result or the bound
@@ -25,6 +27,8 @@ enum Work {
     Corners(Option<usize>),
     /// the file of the list
     Claims(String),
+    /// as a sheet, or from the file of one
+    Rows(Option<String>),
     /// with a list of marks, or without one
     Bound(Option<Vec<u64>>),
     Margins,
@@ -79,6 +83,8 @@ fn asked(arguments: &[String]) -> Option<(Work, Option<String>)> {
         (["corners"], None) => Work::Corners(None),
         (["corners", row], None) => Work::Corners(Some(index(row)?)),
         (["claims", file], None) => Work::Claims(file.to_string()),
+        (["rows"], None) => Work::Rows(None),
+        (["rows", file], None) => Work::Rows(Some(file.to_string())),
         (["bound"], marks) => Work::Bound(marks),
         (["margins"], None) => Work::Margins,
         _ => return None,
@@ -110,6 +116,8 @@ fn answer(work: Work, corrections: Option<String>) -> Result<Vec<u8>, String> {
         Work::Rewrite => second::rewrite_by(&text, &sheet),
         Work::Corners(only) => second::corners_by(&text, &sheet, only),
         Work::Claims(file) => second::claims::published(read(), &text_of(&file)?),
+        Work::Rows(None) => second::rows::sheet_of(read()),
+        Work::Rows(Some(file)) => second::rows::with_sheet(read(), &text_of(&file)?),
         Work::Bound(marks) => second::bound_text(&text, &sheet, marks.as_deref()),
         Work::Margins => second::margins_text(&text, &sheet),
     })
@@ -118,7 +126,7 @@ fn answer(work: Work, corrections: Option<String>) -> Result<Vec<u8>, String> {
 fn main() -> ExitCode {
     let arguments: Vec<String> = std::env::args().skip(1).collect();
     let Some((work, corrections)) = asked(&arguments) else {
-        eprintln!("arguments: none, \"rewrite\", \"corners\", \"corners\" and a row's index, \"claims\" and a file, \"bound\" or \"margins\"; with each also \"--corrections\" and a file; with none and \"bound\" also \"--marks\" and a list");
+        eprintln!("arguments: none, \"rewrite\", \"corners\", \"corners\" and a row's index, \"claims\" and a file, \"rows\", \"rows\" and a file, \"bound\" or \"margins\"; with each also \"--corrections\" and a file; with none and \"bound\" also \"--marks\" and a list");
         return ExitCode::from(2);
     };
     let answer = match answer(work, corrections) {

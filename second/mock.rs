@@ -193,6 +193,22 @@ fn published_text(l: &mut LentTables, list: &mut Lent<u8>, out: &mut Lent<u8>) -
     text_to(text, out)
 }
 
+fn read_rows(header: Header, sheet: &Lent<u8>, c: &mut Lent<[i64; 7]>, f: &mut Lent<i64>) -> [u64; 3] {
+    match second::rows::read_rows(header, sheet, [c.len(), f.len()]) {
+        Err(refusal) => why(refusal),
+        Ok((rows, factors)) => {
+            c[..rows.len()].copy_from_slice(&rows);
+            f[..factors.len()].copy_from_slice(&factors);
+            [0; 3]
+        }
+    }
+}
+
+fn write_rows(header: Header, c: &mut Lent<[i64; 7]>, f: &mut Lent<i64>, out: &mut Lent<u8>) -> [u64; 4] {
+    let text = second::rows::write_rows(header, c, f, out.len());
+    text_to(text, out)
+}
+
 fn answer(text: &Lent<u8>, out: &mut Lent<u8>) -> [u64; 4] {
     let answer = second::answer(text);
     whole_or_8(answer, out)
@@ -405,6 +421,26 @@ fn serve<R: Read>(request: &mut Request<R>, to: &mut Vec<u8>) -> std::io::Result
             put_fields(&published_text(&mut l, &mut list, &mut out), to);
             put_tables(&l, to);
             wire::put_all(&list.whole, to);
+            wire::put_all(&out.whole, to);
+        }
+        wire::READ_ROWS => {
+            let header = request.header();
+            let mut c = request.lent(wire::C)?;
+            let mut f = request.lent(wire::F)?;
+            let sheet = request.lent(wire::SHEET)?;
+            put_fields(&read_rows(header, &sheet, &mut c, &mut f), to);
+            wire::put_all(&c.whole, to);
+            wire::put_all(&f.whole, to);
+            wire::put_all(&sheet.whole, to);
+        }
+        wire::WRITE_ROWS => {
+            let header = request.header();
+            let mut c = request.lent(wire::C)?;
+            let mut f = request.lent(wire::F)?;
+            let mut out = request.lent(wire::OUT)?;
+            put_fields(&write_rows(header, &mut c, &mut f, &mut out), to);
+            wire::put_all(&c.whole, to);
+            wire::put_all(&f.whole, to);
             wire::put_all(&out.whole, to);
         }
         wire::ANSWER => {

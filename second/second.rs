@@ -8,6 +8,8 @@
 
 #[path = "claims.rs"]
 pub mod claims;
+#[path = "rows.rs"]
+pub mod rows;
 
 /// "1 | more than 65,536 bytes"
 pub const MOST_BYTES: usize = 65_536;

@@ -2,6 +2,8 @@
 
 #[path = "claims_by_hand.rs"]
 mod claims_by_hand;
+#[path = "rows_by_hand.rs"]
+mod rows_by_hand;
 #[path = "second.rs"]
 mod second;
 

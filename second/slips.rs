@@ -2076,10 +2076,119 @@ const SLIPS: &[Slip] = &[
         "if self.states[row] == 0 && !claimed {",
         "if self.states[row] == 0 && !(claimed && row > 0) {",
     ),
+    // ---- the semicolon sheet
+    slip(
+        "row sheet: of \"-0.000\" the minus",
+        "rows.rs",
+        "        return Err(at - 1);",
+        "        return Err(0);",
+    ),
+    slip(
+        "row sheet: \"-0.000\" is taken",
+        "rows.rs",
+        "    if number == 0 && first > 0 {",
+        "    if number == 0 && first > 0 && at < field.len() {",
+    ),
+    slip(
+        "row sheet: a leading zero is taken",
+        "rows.rs",
+        "        if leading_zero || at - first",
+        "        if leading_zero && first > 0 || at - first",
+    ),
+    slip(
+        "row sheet: ten digits before the point",
+        "rows.rs",
+        "at - first == MOST_DIGITS - decimals {",
+        "at - first == MOST_DIGITS {",
+    ),
+    slip(
+        "row sheet: a minus counts as a digit",
+        "rows.rs",
+        "at - first == MOST_DIGITS - decimals {",
+        "at == MOST_DIGITS - decimals {",
+    ),
+    slip(
+        "row sheet: no digit before the point",
+        "rows.rs",
+        "    if at == first || field.get(at)",
+        "    if field.get(at)",
+    ),
+    slip(
+        "row sheet: more decimals are cut off",
+        "rows.rs",
+        "    if at < field.len() {\n        return Err(at);",
+        "    if field[at..].iter().any(|byte| !byte.is_ascii_digit()) {\n        return Err(at);",
+    ),
+    slip(
+        "row sheet: a number ending too soon names its last byte",
+        "rows.rs",
+        "            other => other.map_err(|at| field.start + at),",
+        "            other => other.map_err(|at| field.start + at.min(field.bytes.len().max(1) - 1)),",
+    ),
+    slip(
+        "row sheet: one past the end of the sheet",
+        "rows.rs",
+        "            Err(at) if cut && at == field.bytes.len() => Err(NO_BYTE),\n",
+        "",
+    ),
+    slip(
+        "row sheet: an empty line names none",
+        "rows.rs",
+        "    let cells = cells(index, zones);",
+        "    if body.is_empty() {\n        return Err(NO_BYTE);\n    }\n    let cells = cells(index, zones);",
+    ),
+    slip(
+        "row sheet: R in MW too",
+        "rows.rs",
+        "cells.extend([Cell::Plain(Column::DashOrUnsigned), power(false), power(false)]);",
+        "cells.extend([power(false), power(false), power(false)]);",
+    ),
+    slip(
+        "row sheet: the line as in the table",
+        "rows.rs",
+        "            return refuse(3, index + 1);",
+        "            return refuse(3, super::line_c(header, index));",
+    ),
+    slip(
+        "row sheet: header not judged whole",
+        "rows.rs",
+        "    if fault_h(&header).is_some() {",
+        "    if fault_h(&Header { borders: 1, ..header }).is_some() {",
+    ),
+    slip(
+        "row sheet: the header before its length",
+        "rows.rs",
+        "    judge_length(sheet)?;\n    judge_header(header)?;",
+        "    judge_header(header)?;\n    judge_length(sheet)?;",
+    ),
+    slip(
+        "row sheet: room before the lines",
+        "rows.rs",
+        "    let rows = sheet_rows(sheet, header)?;\n    judge_lengths(header, room)?;",
+        "    judge_lengths(header, room)?;\n    let rows = sheet_rows(sheet, header)?;",
+    ),
+    slip(
+        "row sheet: factors looked at before rows",
+        "rows.rs",
+        "    judge_room(lent[0], header.rows)?;\n    judge_room(lent[1], header.rows * header.zones)",
+        "    judge_room(lent[1], header.rows * header.zones)?;\n    judge_room(lent[0], header.rows)",
+    ),
+    slip(
+        "row sheet: a number below one written without its minus",
+        "rows.rs",
+        "    format!(\"{sign}{}.{:0decimals$}\"",
+        "    let sign = if number < one { \"\" } else { sign };\n    format!(\"{sign}{}.{:0decimals$}\"",
+    ),
+    slip(
+        "row sheet: what is left of the rows cleared",
+        "mock.rs",
+        "            c[..rows.len()].copy_from_slice(&rows);",
+        "            c[..rows.len()].copy_from_slice(&rows);\n            c[rows.len()..].fill([0; 7]);",
+    ),
 ];
 
 /// What the stand-in is made of.
-const FILES: [&str; 4] = ["mock.rs", "second.rs", "claims.rs", "wire.rs"];
+const FILES: [&str; 5] = ["mock.rs", "second.rs", "claims.rs", "rows.rs", "wire.rs"];
 
 fn build(source: &Path, program: &Path) -> bool {
     Command::new("rustc")

@@ -76,6 +76,8 @@ impl Comparison {
             self.defaults(d, &t, &outcome, &answer);
             self.shortening(d, &t, None);
             self.claims_at_random(d, &t);
+            self.rows_of(d, &t);
+            self.damaged_sheet(d, &t);
         }
         if !heavy && d.one_in(2) || d.one_in(8) {
             self.marked(d, &t, &outcome, &answer);

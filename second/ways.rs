@@ -272,6 +272,7 @@ impl Comparison {
         let mut l = LentTables::new(d, &t, needed(h));
         let outcome = self.extract(d, &mut l, [h.rows * h.borders, h.borders, h.rows]);
         self.claims_at_random(d, &t);
+        self.rows_of(d, &t);
         let answer = second::answer(text);
         let result = self.result_text(d, &mut l, answer.len());
         if outcome.is_err() || result.as_ref() != Ok(&answer) {

@@ -32,9 +32,11 @@ pub const ANSWER_CORRECTED: u64 = 12;
 pub const REWRITE_CORRECTED: u64 = 13;
 pub const JUDGE_CLAIMS: u64 = 14;
 pub const PUBLISHED_TEXT: u64 = 15;
-pub const BOUND: u64 = 16;
-pub const BOUND_MARKED: u64 = 17;
-pub const MARGINS: u64 = 18;
+pub const READ_ROWS: u64 = 16;
+pub const WRITE_ROWS: u64 = 17;
+pub const BOUND: u64 = 18;
+pub const BOUND_MARKED: u64 = 19;
+pub const MARGINS: u64 = 20;
 
 /// Items before and after the lent part that nobody may touch.
 pub const BEFORE: usize = 2;

@@ -18,7 +18,7 @@ use Rattle.text.specs.Fields.{feed, numberAt}
 use Rattle.text.specs.Line.{headed}
 use Rattle.columns.specs.Columns.{fieldAt, stopOf}
 use Rattle.columns.proofs.ColumnLaws.{stopByLeft, stop-is}
-use Rattle.blame.specs.Blame.{isWhole, goodAt, byteAt, blamed, orLater, fieldsByte, otherIndex, endedByte, lineByte, plainByte}
+use Rattle.blame.specs.Blame.{isWhole, goodAt, byteAt, blamed, orLater, fieldsByte, otherIndex, endedByte, indexByte, lineByte, plainByte, bareByte}
 
 -- ---- one field
 module _ (sep : ℕ) (c : Column) (line : List ℕ) (at : ℕ) where
@@ -82,12 +82,24 @@ module _ (sep : ℕ) (columns line : List ℕ) where
       blaming-here place q = sym (first k p h (Wrong place) q) ∙ u .so-far
 
 -- ---- an index that `sep` does not end
-module _ (sep : ℕ) (line : List ℕ) (i place : ℕ) where
-  pub ended-other : otherIndex i (numberAt line 2 feed) ≡ true → 3 ≡ endedByte sep line i place
+module _ (sep at : ℕ) (line : List ℕ) (i place : ℕ) where
+  pub ended-other : otherIndex i (numberAt line at feed) ≡ true → at + 1 ≡ endedByte sep at line i place
   ended-other e = rw e
 
-  pub ended-bad : otherIndex i (numberAt line 2 feed) ≡ false → byteAt sep number line 2 place ≡ endedByte sep line i place
+  pub ended-bad : otherIndex i (numberAt line at feed) ≡ false → byteAt sep number line at place ≡ endedByte sep at line i place
   ended-bad e = rw e
+
+-- ---- an index, by what was read of it
+module _ (sep at : ℕ) (columns : List Column) (line : List ℕ) (i : ℕ) where
+  pub index-ended : (place : ℕ) → numberAt line at sep ≡ Bad place → endedByte sep at line i place ≡ indexByte sep at columns line i (numberAt line at sep)
+  index-ended place q = rw q
+
+  module _ (index next : ℕ) (q : numberAt line at sep ≡ Value index next) where
+    pub index-other : (index ≡ i → ⊥) → at + 1 ≡ indexByte sep at columns line i (numberAt line at sep)
+    index-other h = rw (q, ne-eqb index i h)
+
+    pub index-fields : index ≡ i → fieldsByte sep columns line next ≡ indexByte sep at columns line i (numberAt line at sep)
+    index-fields h = rw (q, eq-eqb index i h)
 
 -- ---- letter and index
 module _ (sep letter : ℕ) (columns : List Column) (line : List ℕ) where
@@ -104,15 +116,10 @@ module _ (sep letter : ℕ) (columns : List Column) (line : List ℕ) where
     unfolding lineByte
     line-letter e = rw e
 
-    module _ (e : headed letter sep line ≡ true) where
-      pub line-ended : (place : ℕ) → numberAt line 2 sep ≡ Bad place → endedByte sep line i place ≡ lineByte sep letter columns line i
-      unfolding lineByte
-      line-ended place q = rw (e, q)
+    pub line-index : headed letter sep line ≡ true → indexByte sep 2 columns line i (numberAt line 2 sep) ≡ lineByte sep letter columns line i
+    unfolding lineByte
+    line-index e = rw e
 
-      pub line-other : (index next : ℕ) → numberAt line 2 sep ≡ Value index next → (index ≡ i → ⊥) → 3 ≡ lineByte sep letter columns line i
-      unfolding lineByte
-      line-other index next q h = rw (e, q, ne-eqb index i h)
-
-      pub line-fields : (index next : ℕ) → numberAt line 2 sep ≡ Value index next → index ≡ i → fieldsByte sep columns line next ≡ lineByte sep letter columns line i
-      unfolding lineByte
-      line-fields index next q h = rw (e, q, eq-eqb index i h)
+pub bare-index : (sep : ℕ) (columns : List Column) (line : List ℕ) (i : ℕ) → indexByte sep 0 columns line i (numberAt line 0 sep) ≡ bareByte sep columns line i
+unfolding bareByte
+bare-index sep columns line i = refl

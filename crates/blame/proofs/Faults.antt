@@ -1,4 +1,4 @@
--- The byte named in a line (02, E5): the first bad byte of a field, the fields before it good, or the index (`line-fault`, `plain-fault`); it lies in the
+-- The byte named in a line (02, E5): the first bad byte of a field, the fields before it good, or the index (`line-fault`, `plain-fault`, `bare-fault`); it lies in the
 -- line (`fault-within`, `found-within`). Of the byte that parts the fields only this is asked: it is not 0, for past a line's end 0 is read.
 -- In order: a good field ends in the line; fields; a line; the byte lies in the line.
 use mathlib.Core.Path.{_≡_, refl, sym, ap, _∙_}
@@ -7,23 +7,25 @@ use mathlib.Core.Logic.{_⊎_, inl, inr}
 use mathlib.Core.List.{List, [], _∷_}
 use Prim.Native.Nat.{ℕ, _+_, _≤_, _<_}
 use native.Mathlib.Omega.{arith}
-use lib.Dec.{leb, eqb}
+use lib.Dec.{leb, eqb, lit<}
 use lib.IntN.{ℤ}
 use lib.ListN.{length, getD}
 use borrow.Author.Tests.{eqb-true, eqb-false, leb-true, not-true}
 use Rattle.numbers.specs.Ints.{minus}
 use Rattle.numbers.proofs.TestLaws.{and-both}
-use Rattle.kinds.specs.LineColumns.{Column, number, signed, share}
+use Rattle.kinds.specs.LineColumns.{Column, number, signed, share, power, flow, factor}
 use Rattle.text.specs.declared.Number.{Number}
 use Rattle.text.specs.declared.Number.the-variants.{Value, Bad}
 use Rattle.text.specs.declared.Signed.{Signed}
 use Rattle.text.specs.declared.Signed.the-variants.{Whole, Wrong}
 use Rattle.text.specs.Fields.{feed, numberAt, positive, shareAt}
 use Rattle.text.specs.Line.{headed}
+use Rattle.text.specs.Point.{pointAt}
 use Rattle.text.proofs.NumberTrip.{number-read, signed-read, no-whole, whole-is}
 use Rattle.text.proofs.FieldLaws.{some-within, share-plus}
+use Rattle.text.proofs.PointTrip.{plus-read, signed-point-read}
 use Rattle.columns.specs.Columns.{fieldAt, stopOf}
-use Rattle.blame.specs.Blame.{byteAt, blamed, orLater, fieldsByte, otherIndex, indexByte, lineByte, plainByte}
+use Rattle.blame.specs.Blame.{byteAt, blamed, orLater, fieldsByte, otherIndex, indexByte, lineByte, plainByte, bareByte}
 use Rattle.blame.specs.FirstBad.{Found, here, later, Fault, index, other, field}
 use Rattle.blame.proofs.FieldBad.{share-dash}
 use Rattle.blame.proofs.Blames.{blames}
@@ -50,6 +52,9 @@ module _ (line : List ℕ) (at stop : ℕ) (some : 0 < stop) (z : ℤ) (next : �
   field-within number e = plus-within (numberAt line at stop) refl e
   field-within signed e = signed-read line at stop z next e .within
   field-within share e = share-within e
+  field-within power e = plus-read 3 (lit< tt) line at stop some z next (pointAt false 3 line at stop) refl e .within
+  field-within flow e = signed-point-read 3 (lit< tt) line at stop some z next e .within
+  field-within factor e = signed-point-read 5 (lit< tt) line at stop some z next e .within
 
 module _ (sep : ℕ) (some : 0 < sep) where
   -- ---- fields
@@ -83,30 +88,38 @@ module _ (sep : ℕ) (some : 0 < sep) where
       go true h e = fields-found columns line 2 place (headed-long letter line h) e
       go false h e = absurd (omega arith)
 
-  pub line-fault : (letter : ℕ) (columns : List Column) (line : List ℕ) (i place : ℕ) → lineByte sep letter columns line i ≡ place + 1 → Fault sep columns line i place
-  unfolding lineByte fieldAt
-  line-fault letter columns line i place e = go (headed letter sep line) refl e
+  index-fault : (at : ℕ) (columns : List Column) (line : List ℕ) (i place : ℕ) → at ≤ length line → indexByte sep at columns line i (numberAt line at sep) ≡ place + 1 → Fault sep at columns line i place
+  unfolding fieldAt
+  index-fault at columns line i place l e = indexed (numberAt line at sep) refl e
     where
-      valued : (v next : ℕ) → numberAt line 2 sep ≡ Value v next → (t : Bool) → eqb v i ≡ t → cond t (fieldsByte sep columns line next) 3 ≡ place + 1 → Fault sep columns line i place
+      valued : (v next : ℕ) → numberAt line at sep ≡ Value v next → (t : Bool) → eqb v i ≡ t → cond t (fieldsByte sep columns line next) (at + 1) ≡ place + 1 → Fault sep at columns line i place
       valued v next q true s e =
           let same : v ≡ i = eqb-true v i s in
-          field next (q ∙ ap (λ (x : ℕ). Value x next) same) (fields-found columns line next place (number-read line 2 sep v next (sym q) .within) e)
+          field next (q ∙ ap (λ (x : ℕ). Value x next) same) (fields-found columns line next place (number-read line at sep v next (sym q) .within) e)
       valued v next q false s e = other v next (inl q) (eqb-false v i s) (omega arith)
 
       -- the index that `sep` does not end, by what it is before an LF
-      ended : 2 ≤ length line → (p : ℕ) → numberAt line 2 sep ≡ Bad p → (n : Number) → numberAt line 2 feed ≡ n → (t : Bool) → otherIndex i n ≡ t
-          → cond t 3 (byteAt sep number line 2 p) ≡ place + 1 → Fault sep columns line i place
-      ended l p q (Value v next) r true s e = other v next (inr r) (eqb-false v i (not-true _ s)) (omega arith)
-      ended l p q (Bad m) r true s e = absurd (false≢true s)
-      ended l p q n r false s e = index (blames sep number line 2 sep (inl refl) l .named place (ap (blamed sep number line 2) (ap positive q) ∙ e))
+      ended : (p : ℕ) → numberAt line at sep ≡ Bad p → (n : Number) → numberAt line at feed ≡ n → (t : Bool) → otherIndex i n ≡ t
+          → cond t (at + 1) (byteAt sep number line at p) ≡ place + 1 → Fault sep at columns line i place
+      ended p q (Value v next) r true s e = other v next (inr r) (eqb-false v i (not-true _ s)) (omega arith)
+      ended p q (Bad m) r true s e = absurd (false≢true s)
+      ended p q n r false s e = index (blames sep number line at sep (inl refl) l .named place (ap (blamed sep number line at) (ap positive q) ∙ e))
 
-      indexed : 2 ≤ length line → (n : Number) → numberAt line 2 sep ≡ n → indexByte sep columns line i n ≡ place + 1 → Fault sep columns line i place
-      indexed l (Value v next) q e = valued v next q (eqb v i) refl e
-      indexed l (Bad p) q e = ended l p q (numberAt line 2 feed) refl (otherIndex i (numberAt line 2 feed)) refl e
+      indexed : (n : Number) → numberAt line at sep ≡ n → indexByte sep at columns line i n ≡ place + 1 → Fault sep at columns line i place
+      indexed (Value v next) q e = valued v next q (eqb v i) refl e
+      indexed (Bad p) q e = ended p q (numberAt line at feed) refl (otherIndex i (numberAt line at feed)) refl e
 
-      go : (t : Bool) → headed letter sep line ≡ t → cond t (indexByte sep columns line i (numberAt line 2 sep)) 0 ≡ place + 1 → Fault sep columns line i place
-      go true h e = indexed (headed-long letter line h) (numberAt line 2 sep) refl e
+  pub line-fault : (letter : ℕ) (columns : List Column) (line : List ℕ) (i place : ℕ) → lineByte sep letter columns line i ≡ place + 1 → Fault sep 2 columns line i place
+  unfolding lineByte
+  line-fault letter columns line i place e = go (headed letter sep line) refl e
+    where
+      go : (t : Bool) → headed letter sep line ≡ t → cond t (indexByte sep 2 columns line i (numberAt line 2 sep)) 0 ≡ place + 1 → Fault sep 2 columns line i place
+      go true h e = index-fault 2 columns line i place (headed-long letter line h) e
       go false h e = absurd (omega arith)
+
+  pub bare-fault : (columns : List Column) (line : List ℕ) (i place : ℕ) → bareByte sep columns line i ≡ place + 1 → Fault sep 0 columns line i place
+  unfolding bareByte
+  bare-fault columns line i place e = index-fault 0 columns line i place (omega arith) e
 
 -- ---- the byte named lies in the line
 module _ (sep : ℕ) (line : List ℕ) where
@@ -114,8 +127,8 @@ module _ (sep : ℕ) (line : List ℕ) where
   found-within (here f) = f .within
   found-within (later q f) = found-within f
 
-  pub fault-within : (columns : List Column) (i place : ℕ) → Fault sep columns line i place → place < length line
-  fault-within columns i place (index f) = f .within
-  fault-within columns i place (other v next (inl q) n e) = omega (arith, number-read line 2 sep v next (sym q) .within, number-read line 2 sep v next (sym q) .after)
-  fault-within columns i place (other v next (inr q) n e) = omega (arith, number-read line 2 feed v next (sym q) .within, number-read line 2 feed v next (sym q) .after)
-  fault-within columns i place (field next q f) = found-within f
+  pub fault-within : (at : ℕ) (columns : List Column) (i place : ℕ) → Fault sep at columns line i place → place < length line
+  fault-within at columns i place (index f) = f .within
+  fault-within at columns i place (other v next (inl q) n e) = omega (arith, number-read line at sep v next (sym q) .within, number-read line at sep v next (sym q) .after)
+  fault-within at columns i place (other v next (inr q) n e) = omega (arith, number-read line at feed v next (sym q) .within, number-read line at feed v next (sym q) .after)
+  fault-within at columns i place (field next q f) = found-within f

@@ -1,49 +1,35 @@
 -- Which bytes make a field bad (02, E5): up to its bad place they do so whatever follows (`field-no`), and those before it can be gone on with to a good
 -- field (`field-could`). No contract cites this file.
--- In order: a number; a number after a minus; "-" in R; a field of each kind is bad whatever follows; the bytes before its bad place.
+-- In order: a number after a minus; "-" in R; a field of each kind is bad whatever follows; the bytes before its bad place. Numbers with a point are in `PointBad.antt`.
 use mathlib.Core.Path.{_≡_, refl, sym, ap, subst, _∙_}
 use mathlib.Core.Bool.{Bool, true, false, cond, or-true}
 use mathlib.Core.Logic.{⊎-elim}
 use mathlib.Core.List.{List, [], _∷_, _++_}
 use Prim.Native.Nat.{ℕ, _+_, _^_, _≤_, _<_}
 use native.Mathlib.Omega.{arith}
-use lib.Dec.{eqb}
+use lib.Dec.{eqb, lit<}
 use lib.ListN.{length, getD, take, drop, length-drop, List·getD-append}
 use lib.Seq.{take-append-le}
 use borrow.Author.Tests.{eqb-true, eqb-false, eq-eqb, ne-eqb}
 use Rattle.numbers.specs.Ints.{minus}
 use Rattle.numbers.proofs.BelowLaws.{le-or-lt}
-use Rattle.kinds.specs.LineColumns.{Column, number, signed, share}
+use Rattle.kinds.specs.LineColumns.{Column, number, signed, share, power, flow, factor}
 use Rattle.text.specs.declared.Number.{Number}
 use Rattle.text.specs.declared.Number.the-variants.{Value, Bad}
 use Rattle.text.specs.declared.Signed.the-variants.{Whole, Wrong}
-use Rattle.text.specs.Fields.{feed, digits, value, firstBad, numberAt, positive, negative, signedAt, shareAt}
+use Rattle.text.specs.Fields.{feed, numberAt, positive, negative, signedAt, shareAt}
+use Rattle.text.specs.Point.{pointAt, negated, signedPointAt}
 use Rattle.text.specs.Written.{decimal}
 use Rattle.text.proofs.NumberTrip.{number-read, signed-plus, signed-minus, no-whole, first-digit, first-at, decimal-some, decimal-ten, text-first, plain-parts}
 use Rattle.text.proofs.DigitLaws.{decimal-one}
 use Rattle.text.proofs.FieldLaws.{dash-within, share-plus}
+use Rattle.text.proofs.PointLaws.{signed-point-plus, signed-point-minus}
 use Rattle.columns.specs.Columns.{fieldAt}
 use Rattle.blame.specs.Blame.{isWhole, goodAt}
 use Rattle.blame.specs.FirstBad.{Could}
-use Rattle.blame.proofs.NumberBad.{num, off, number-local, num-of, Grown, grown, grown-none}
+use Rattle.blame.proofs.NumberBad.{num, off, whole-number, place-number, number-no, num-of, Grown, grown, grown-none}
+use Rattle.blame.proofs.PointBad.{positive-bad, negated-bad, negated-whole, point-low, point-no, PointCould, point-could, value-first}
 use Rattle.blame.proofs.AgreeLaws.{agree-at, agree-drop, built-drop, built-take, built-at}
-
--- ---- a number
-whole-number : (line : List ℕ) (at stop : ℕ) → isWhole (positive (numberAt line at stop)) ≡ num (drop at line) stop
-unfolding numberAt
-whole-number line at stop = go (num (drop at line) stop)
-  where
-    go : (t : Bool) → isWhole (positive (cond t (Value (value 0 (digits (drop at line))) (at + length (digits (drop at line)) + 1)) (Bad (firstBad (digits (drop at line)) at)))) ≡ t
-    go true = refl
-    go false = refl
-
-place-number : (line : List ℕ) (at stop place : ℕ) → positive (numberAt line at stop) ≡ Wrong place → place ≡ at + off (drop at line)
-unfolding numberAt
-place-number line at stop place e = go (num (drop at line) stop) e
-  where
-    go : (t : Bool) → positive (cond t (Value (value 0 (digits (drop at line))) (at + length (digits (drop at line)) + 1)) (Bad (firstBad (digits (drop at line)) at))) ≡ Wrong place → place ≡ at + off (drop at line)
-    go true e = absurd (no-whole place _ _ (sym e))
-    go false e = cc
 
 -- ---- a number after a minus: 0 is seen from its first byte
 module _ (l : List ℕ) (p stop : ℕ) where
@@ -108,14 +94,8 @@ lone-place at place false e = cc
 
 -- ---- a field of each kind is bad by its bytes up to its bad place, whatever follows
 module _ (line other : List ℕ) (at first stop place : ℕ) (in-line : at ≤ length line) (within : place < length line) (a : take (place + 1) other ≡ take (place + 1) line) where
-  number-no : (p : ℕ) → p ≤ length line → place ≡ p + off (drop p line) → num (drop p line) stop ≡ false → num (drop p other) stop ≡ false
-  number-no p l e n =
-      let m : place + 1 ≡ p + (off (drop p line) + 1) = omega arith in
-      let b : take (p + (off (drop p line) + 1)) other ≡ take (p + (off (drop p line) + 1)) line = subst (λ (k : ℕ). take k other ≡ take k line) m a in
-      number-local (drop p line) (drop p other) stop (agree-drop line other p (off (drop p line) + 1) l b) (omega (arith, length-drop p line)) n
-
   positive-no : positive (numberAt line at first) ≡ Wrong place → isWhole (positive (numberAt line at stop)) ≡ false → isWhole (positive (numberAt other at stop)) ≡ false
-  positive-no e n = whole-number other at stop ∙ number-no at in-line (place-number line at first place e) (sym (whole-number line at stop) ∙ n)
+  positive-no e n = whole-number other at stop ∙ number-no line other stop place within a at in-line (place-number line at first place e) (sym (whole-number line at stop) ∙ n)
 
   same-first : at ≤ place → getD other at 0 ≡ getD line at 0
   same-first h = agree-at line other (place + 1) a at (omega arith)
@@ -151,7 +131,7 @@ module _ (line other : List ℕ) (at first stop place : ℕ) (in-line : at ≤ l
               let h : place ≡ at + 1 + off (drop (at + 1) line) = minus-other-place line (at + 1) first f place q in
               let m : num (drop (at + 1) line) stop ≡ false = sym (minus-other line (at + 1) stop f) ∙ ap isWhole (signed-minus line at stop d) ∙ n in
               let k : getD other (at + 1) 0 ≡ getD line (at + 1) 0 = agree-at line other (place + 1) a (at + 1) (omega arith) in
-              close (omega arith) (minus-other other (at + 1) stop (λ x. f (sym k ∙ x)) ∙ number-no (at + 1) inside h m)
+              close (omega arith) (minus-other other (at + 1) stop (λ x. f (sym k ∙ x)) ∙ number-no line other stop place within a (at + 1) inside h m)
 
   share-no : shareAt line at first ≡ Wrong place → isWhole (shareAt line at stop) ≡ false → isWhole (shareAt other at stop) ≡ false
   share-no e n = go (eqb (getD line at 0) 45) refl
@@ -168,11 +148,37 @@ module _ (line other : List ℕ) (at first stop place : ℕ) (in-line : at ≤ l
           let g : getD other at 0 ≡ 45 = same-first (omega arith) ∙ f in
           ap isWhole (sym (share-dash other at stop g)) ∙ ap (λ (b : ℕ). isWhole (cond (eqb b stop) (Whole (minus 1) (at + 2)) (Wrong (at + 1)))) k ∙ ap isWhole (share-dash line at stop f) ∙ n
 
+  -- a number with a point, and a signed one
+  module _ (k : ℕ) (few : k < 10) (some : 0 < k) where
+    point-plus-no : positive (pointAt false k line at first) ≡ Wrong place → isWhole (positive (pointAt false k line at stop)) ≡ false → isWhole (positive (pointAt false k other at stop)) ≡ false
+    point-plus-no e n = point-no false k few some line other at first stop place in-line within a (positive-bad place (pointAt false k line at first) e) n
+
+    signed-point-no : signedPointAt k line at first ≡ Wrong place → isWhole (signedPointAt k line at stop) ≡ false → isWhole (signedPointAt k other at stop) ≡ false
+    signed-point-no e n = go (eqb (getD line at 0) 45) refl
+      where
+        go : (t : Bool) → eqb (getD line at 0) 45 ≡ t → isWhole (signedPointAt k other at stop) ≡ false
+        go false d =
+            let q = signed-point-plus k line at first d ∙ e in
+            let low : at ≤ place = point-low false k line at first place (positive-bad place (pointAt false k line at first) q) in
+            let g : eqb (getD other at 0) 45 ≡ false = ap (λ (b : ℕ). eqb b 45) (same-first low) ∙ d in
+            ap isWhole (sym (signed-point-plus k other at stop g)) ∙ point-plus-no q (ap isWhole (signed-point-plus k line at stop d) ∙ n)
+        go true d =
+            let q = negated-bad place (pointAt true k line (at + 1) first) (signed-point-minus k line at first d ∙ e) in
+            let low : at + 1 ≤ place = point-low true k line (at + 1) first place q in
+            let inside : at + 1 ≤ length line = omega (arith, dash-within line at d) in
+            let g : eqb (getD other at 0) 45 ≡ true = ap (λ (b : ℕ). eqb b 45) (same-first (omega arith)) ∙ d in
+            let m = sym (negated-whole (pointAt true k line (at + 1) stop)) ∙ ap isWhole (signed-point-minus k line at stop d) ∙ n in
+            ap isWhole (sym (signed-point-minus k other at stop g)) ∙ negated-whole (pointAt true k other (at + 1) stop)
+            ∙ point-no true k few some line other (at + 1) first stop place inside within a q m
+
   pub field-no : (c : Column) → fieldAt c line at first ≡ Wrong place → isWhole (fieldAt c line at stop) ≡ false → isWhole (fieldAt c other at stop) ≡ false
   unfolding fieldAt
   field-no number e n = positive-no e n
   field-no signed e n = signed-no e n
   field-no share e n = share-no e n
+  field-no power e n = point-plus-no 3 (lit< tt) (lit< tt) e n
+  field-no flow e n = signed-point-no 3 (lit< tt) (lit< tt) e n
+  field-no factor e n = signed-point-no 5 (lit< tt) (lit< tt) e n
 
 -- ---- .. and those before it could stand in a good field, one that an LF ends
 good-either : (sep : ℕ) (c : Column) (line : List ℕ) (at : ℕ) → isWhole (fieldAt c line at feed) ≡ true → goodAt sep c line at ≡ true
@@ -257,8 +263,34 @@ module _ (sep : ℕ) (line : List ℕ) (at first place : ℕ) (in-line : at ≤ 
           let s : getD o (at + 1) 0 ≡ feed = first-at o (at + 1) _ (built-drop line (at + 1) l (feed ∷ [])) in
           could share o a (ap isWhole (sym (share-dash o at feed g)) ∙ rw (eq-eqb (getD o (at + 1) 0) feed s))
 
+  power-could : positive (pointAt false 3 line at first) ≡ Wrong place → Could sep power line at place
+  unfolding fieldAt
+  power-could e =
+      let g = point-could false 3 (lit< tt) (lit< tt) line at first place in-line (positive-bad place (pointAt false 3 line at first) e) in
+      could power (g .other) (g .agrees) (g .good)
+
+  signed-point-could : (k : ℕ) → k < 10 → 0 < k → (c : Column) → ((o : List ℕ) → signedPointAt k o at feed ≡ fieldAt c o at feed) → signedPointAt k line at first ≡ Wrong place → Could sep c line at place
+  signed-point-could k few some c is e = go (eqb (getD line at 0) 45) refl
+    where
+      go : (t : Bool) → eqb (getD line at 0) 45 ≡ t → Could sep c line at place
+      go false d =
+          let g = point-could false k few some line at first place in-line (positive-bad place (pointAt false k line at first) (signed-point-plus k line at first d ∙ e)) in
+          let o = g .other in
+          could c o (g .agrees) (ap isWhole (sym (is o) ∙ sym (signed-point-plus k o at feed (value-first false k few o at feed (lit< tt) (g .good)))) ∙ g .good)
+      go true d =
+          let l : at + 1 ≤ length line = omega (arith, dash-within line at d) in
+          let q = negated-bad place (pointAt true k line (at + 1) first) (signed-point-minus k line at first d ∙ e) in
+          let low : at + 1 ≤ place = point-low true k line (at + 1) first place q in
+          let g = point-could true k few some line (at + 1) first place l q in
+          let o = g .other in
+          let b : eqb (getD (g .other) at 0) 45 ≡ true = ap (λ (b : ℕ). eqb b 45) (agree-at line (g .other) place (g .agrees) at (omega arith)) ∙ d in
+          could c o (g .agrees) (ap isWhole (sym (is o) ∙ sym (signed-point-minus k o at feed b)) ∙ negated-whole (pointAt true k o (at + 1) feed) ∙ g .good)
+
   pub field-could : (c : Column) → fieldAt c line at first ≡ Wrong place → Could sep c line at place
   unfolding fieldAt
   field-could number e = positive-could (place-number line at first place e) number (λ o d. refl)
   field-could signed e = signed-could e
   field-could share e = share-could e
+  field-could power e = power-could e
+  field-could flow e = signed-point-could 3 (lit< tt) (lit< tt) flow (λ o. refl) e
+  field-could factor e = signed-point-could 5 (lit< tt) (lit< tt) factor (λ o. refl) e

@@ -3,6 +3,7 @@ pub mod BlameLaws
 pub mod RangeLaws
 pub mod NumberBad
 pub mod AgreeLaws
+pub mod PointBad
 pub mod FieldBad
 pub mod Blames
 pub mod Faults

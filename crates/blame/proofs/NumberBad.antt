@@ -8,12 +8,16 @@ use Prim.Native.Nat.{ℕ, zero, suc, _+_, _-_, _≤_, _<_, min}
 use native.Mathlib.Nat.{not-suc-le-zero}
 use native.Mathlib.Omega.{arith}
 use lib.Dec.{leb, ltb, eqb}
-use lib.ListN.{length, getD, take, length-append, length-take}
+use lib.ListN.{length, getD, take, drop, length-append, length-drop, length-take}
 use lib.Seq.{getD-take, getD-append-seam, take-take, length-take-le}
 use borrow.Author.Tests.{ltb-true, ltb-false, eqb-true, eqb-false, lt-leb, lt-ltb, le-ltb, eq-eqb}
-use Rattle.text.specs.Fields.{isDigit, digits, plain}
+use Rattle.text.specs.declared.Number.the-variants.{Value, Bad}
+use Rattle.text.specs.declared.Signed.the-variants.{Wrong}
+use Rattle.text.specs.Fields.{isDigit, digits, value, plain, firstBad, numberAt, positive}
 use Rattle.numbers.proofs.BelowLaws.{le-or-lt}
-use Rattle.text.proofs.NumberTrip.{plain-true, digits-app, digits-twice}
+use Rattle.text.proofs.NumberTrip.{plain-true, digits-app, digits-twice, no-whole}
+use Rattle.blame.specs.Blame.{isWhole}
+use Rattle.blame.proofs.AgreeLaws.{agree-drop}
 
 -- s begins with a number that `stop` ends
 abbrev pub num : (s : List ℕ) → (stop : ℕ) → Bool
@@ -24,7 +28,7 @@ abbrev pub off : List ℕ → ℕ
 off s = cond (ltb 1 (length (digits s)) && eqb (getD (digits s) 0 0) 48) 1 (min (length (digits s)) 10)
 
 -- ---- digits of a front part
-digits-take : (k : ℕ) (s : List ℕ) → digits (take k s) ≡ take k (digits s)
+pub digits-take : (k : ℕ) (s : List ℕ) → digits (take k s) ≡ take k (digits s)
 digits-take zero s = refl
 digits-take (suc k) [] = refl
 digits-take (suc k) (b ∷ s) = go (digits-take k s) (isDigit b)
@@ -48,7 +52,7 @@ pub data Ends (ds : List ℕ) (k : ℕ) : Type 0 where
   long : 10 < length ds → (getD ds 0 0 ≡ 48 → ⊥) → k ≡ 10 → Ends ds k
   few : length ds ≤ 10 → (length ds ≤ 1) ⊎ (getD ds 0 0 ≡ 48 → ⊥) → k ≡ length ds → Ends ds k
 
-ends : (s : List ℕ) → Ends (digits s) (off s)
+pub ends : (s : List ℕ) → Ends (digits s) (off s)
 ends s = go (ltb 1 (length (digits s))) refl (eqb (getD (digits s) 0 0) 48) refl
   where
     rest : (k : ℕ) → k ≡ min (length (digits s)) 10 → (length (digits s) ≤ 1) ⊎ (getD (digits s) 0 0 ≡ 48 → ⊥) → Ends (digits s) k
@@ -125,32 +129,60 @@ pub record Grown (s : List ℕ) (k : ℕ) : Type 0 where
   pub high : k ≤ length text
   pub front : take k text ≡ take k s
   pub not-zero : (getD s 0 0 ≡ 48 → ⊥) → getD text 0 0 ≡ 48 → ⊥
+  pub few : (m : ℕ) → 0 < m → k ≤ m → length text ≤ m
 
 abbrev pub grown-none : (s : List ℕ) → Grown s 0
-grown-none s = record { text = 49 ∷ []; all = refl; is-plain = refl; high = omega arith; front = refl; not-zero = λ n e. omega arith }
+grown-none s = record { text = 49 ∷ []; all = refl; is-plain = refl; high = omega arith; front = refl; not-zero = λ n e. omega arith; few = λ m p h. omega arith }
+
+-- the first k digits, of which the first is no zero where they are more than one
+pub grown-some : (s : List ℕ) (k : ℕ) → 0 < k → k ≤ 10 → k ≤ length (digits s) → (k ≤ 1) ⊎ (getD (digits s) 0 0 ≡ 48 → ⊥) → Grown s k
+grown-some s k p t h o =
+    let long : length (take k (digits s)) ≡ k = length-take-le k (digits s) h in
+    let first : getD (take k (digits s)) 0 0 ≡ getD (digits s) 0 0 = getD-take k (digits s) 0 0 p in
+    let same : take k (digits s) ≡ take k s = take-digits k s h in
+    record {
+      text = take k (digits s);
+      all = digits-take k (digits s) ∙ ap (take k) (digits-twice s);
+      is-plain = plain-true (take k (digits s)) (omega arith) (omega arith) (⊎-elim (λ (x : k ≤ 1). inl (omega arith)) (λ (x : getD (digits s) 0 0 ≡ 48 → ⊥). inr (λ e. x (sym first ∙ e))) o);
+      high = omega arith;
+      front = take-take k k (digits s) (omega arith) ∙ same;
+      not-zero = λ n e. n (sym (getD-take k s 0 0 p) ∙ sym (ap (λ (l : List ℕ). getD l 0 0) same) ∙ e);
+      few = λ m q l. omega arith;
+    }
 
 pub grown : (s : List ℕ) → Grown s (off s)
 grown s = go (off s) (ends s)
   where
-    some : (k : ℕ) → 0 < k → k ≤ 10 → k ≤ length (digits s) → (k ≤ 1) ⊎ (getD (digits s) 0 0 ≡ 48 → ⊥) → Grown s k
-    some k p t h o =
-        let long : length (take k (digits s)) ≡ k = length-take-le k (digits s) h in
-        let first : getD (take k (digits s)) 0 0 ≡ getD (digits s) 0 0 = getD-take k (digits s) 0 0 p in
-        let same : take k (digits s) ≡ take k s = take-digits k s h in
-        record {
-          text = take k (digits s);
-          all = digits-take k (digits s) ∙ ap (take k) (digits-twice s);
-          is-plain = plain-true (take k (digits s)) (omega arith) (omega arith) (⊎-elim (λ (x : k ≤ 1). inl (omega arith)) (λ (x : getD (digits s) 0 0 ≡ 48 → ⊥). inr (λ e. x (sym first ∙ e))) o);
-          high = omega arith;
-          front = take-take k k (digits s) (omega arith) ∙ same;
-          not-zero = λ n e. n (sym (getD-take k s 0 0 p) ∙ sym (ap (λ (l : List ℕ). getD l 0 0) same) ∙ e);
-        }
-
     go : (k : ℕ) → Ends (digits s) k → Grown s k
-    go k (lead l z q) = some k (omega arith) (omega arith) (omega arith) (inl (omega arith))
-    go k (long l z q) = some k (omega arith) (omega arith) (omega arith) (inr z)
+    go k (lead l z q) = grown-some s k (omega arith) (omega arith) (omega arith) (inl (omega arith))
+    go k (long l z q) = grown-some s k (omega arith) (omega arith) (omega arith) (inr z)
     go k (few l z q) =
         ⊎-elim
         (λ (p : k ≤ 0). let e : 0 ≡ k = omega arith in subst (λ (j : ℕ). Grown s j) e (grown-none s))
-        (λ (p : 0 < k). some k p (omega arith) (omega arith) (⊎-elim (λ (x : length (digits s) ≤ 1). inl (omega arith)) (λ (x : getD (digits s) 0 0 ≡ 48 → ⊥). inr x) z))
+        (λ (p : 0 < k). grown-some s k p (omega arith) (omega arith) (⊎-elim (λ (x : length (digits s) ≤ 1). inl (omega arith)) (λ (x : getD (digits s) 0 0 ≡ 48 → ⊥). inr x) z))
         (le-or-lt k 0)
+
+-- ---- a number at a place of a line
+pub whole-number : (line : List ℕ) (at stop : ℕ) → isWhole (positive (numberAt line at stop)) ≡ num (drop at line) stop
+unfolding numberAt
+whole-number line at stop = go (num (drop at line) stop)
+  where
+    go : (t : Bool) → isWhole (positive (cond t (Value (value 0 (digits (drop at line))) (at + length (digits (drop at line)) + 1)) (Bad (firstBad (digits (drop at line)) at)))) ≡ t
+    go true = refl
+    go false = refl
+
+pub place-number : (line : List ℕ) (at stop place : ℕ) → positive (numberAt line at stop) ≡ Wrong place → place ≡ at + off (drop at line)
+unfolding numberAt
+place-number line at stop place e = go (num (drop at line) stop) e
+  where
+    go : (t : Bool) → positive (cond t (Value (value 0 (digits (drop at line))) (at + length (digits (drop at line)) + 1)) (Bad (firstBad (digits (drop at line)) at))) ≡ Wrong place → place ≡ at + off (drop at line)
+    go true e = absurd (no-whole place _ _ (sym e))
+    go false e = cc
+
+-- .. is bad by its bytes up to its bad place, whatever follows
+module _ (line other : List ℕ) (stop place : ℕ) (within : place < length line) (a : take (place + 1) other ≡ take (place + 1) line) where
+  pub number-no : (p : ℕ) → p ≤ length line → place ≡ p + off (drop p line) → num (drop p line) stop ≡ false → num (drop p other) stop ≡ false
+  number-no p l e n =
+      let m : place + 1 ≡ p + (off (drop p line) + 1) = omega arith in
+      let b : take (p + (off (drop p line) + 1)) other ≡ take (p + (off (drop p line) + 1)) line = subst (λ (k : ℕ). take k other ≡ take k line) m a in
+      number-local (drop p line) (drop p other) stop (agree-drop line other p (off (drop p line) + 1) l b) (omega (arith, length-drop p line)) n

@@ -1,5 +1,5 @@
--- The byte named lies in the line (02, E5): of a line of wrong form (`line-byte-le`, `plain-byte-le`), and of one of right form whose value is outside its
--- range (`line-range-le`, `plain-range-le`: a line of right form is its columns' text, by `line-read` and `plain-read` of crate columns). Tests of fields
+-- The byte named lies in the line (02, E5): of a line of wrong form (`line-byte-le`, `plain-byte-le`, `bare-byte-le`), and of one of right form whose value is outside its
+-- range (`line-range-le`, `plain-range-le`, `bare-range-le`: a line of right form is its columns' text, by `line-read`, `plain-read` and `bare-read` of crate columns). Tests of fields
 -- that were left out pass and change nothing (`range-left-out`); whatever the line, a byte is at most one past its end (`range-le`).
 use mathlib.Core.Path.{_≡_, refl, sym, ap, subst}
 use mathlib.Core.Bool.{Bool, true, false, cond, false≢true}
@@ -15,9 +15,10 @@ use Rattle.text.specs.Fields.{feed}
 use Rattle.text.specs.Written.{decimal}
 use Rattle.columns.specs.Columns.{stopOf}
 use Rattle.columns.specs.ColumnText.{fieldText, fieldsEnded, indexText, columnsText, plainText}
-use Rattle.blame.specs.Blame.{lineByte, plainByte}
+use Rattle.columns.specs.Bare.{bareIndexText, bareText}
+use Rattle.blame.specs.Blame.{lineByte, plainByte, bareByte}
 use Rattle.blame.specs.RangeBlame.{pastSeps, rangeByte, allTrue}
-use Rattle.blame.proofs.Faults.{line-fault, plain-fault, fault-within, found-within}
+use Rattle.blame.proofs.Faults.{line-fault, plain-fault, bare-fault, fault-within, found-within}
 
 -- ---- wrong form
 named-le : (byte : ℕ) (line : List ℕ) → ((place : ℕ) → byte ≡ place + 1 → place < length line) → byte ≤ length line
@@ -26,10 +27,13 @@ named-le (suc x) line f = let h : x < length line = f x (omega arith) in omega a
 
 module _ (sep : ℕ) (some : 0 < sep) (letter : ℕ) (columns : List Column) (line : List ℕ) where
   pub line-byte-le : (i : ℕ) → lineByte sep letter columns line i ≤ length line
-  line-byte-le i = named-le _ line (λ place e. fault-within sep line columns i place (line-fault sep some letter columns line i place e))
+  line-byte-le i = named-le _ line (λ place e. fault-within sep line 2 columns i place (line-fault sep some letter columns line i place e))
 
   pub plain-byte-le : plainByte sep letter columns line ≤ length line
   plain-byte-le = named-le _ line (λ place e. found-within sep line (plain-fault sep some letter columns line place e))
+
+pub bare-byte-le : (sep : ℕ) → 0 < sep → (columns : List Column) (line : List ℕ) (i : ℕ) → bareByte sep columns line i ≤ length line
+bare-byte-le sep some columns line i = named-le _ line (λ place e. fault-within sep line 0 columns i place (bare-fault sep some columns line i place e))
 
 -- ---- a value outside its range
 module _ (sep : ℕ) where
@@ -129,3 +133,16 @@ module _ (sep : ℕ) where
             let after = decimal i ++ (sep ∷ fields) in
             let past : pastSeps sep (suc (suc j)) (letter ∷ sep ∷ after) ≤ 2 + pastSeps sep (suc j) after = past-field (suc j) (letter ∷ []) after in
             omega (arith, past, past-field j (decimal i) fields, past-fields cs zs j (omega arith), length-append (decimal i) (sep ∷ fields))
+
+  module _ (cs : List Column) (zs : List ℤ) (tests : List Bool) (h : length tests ≤ length cs) where
+    pub bare-range-le : (i : ℕ) → rangeByte sep tests 1 (bareText sep cs i zs) ≤ length (bareText sep cs i zs)
+    unfolding bareText bareIndexText
+    bare-range-le i =
+        let fields = fieldsEnded sep feed cs zs in
+        let joined = sym (append-assoc (decimal i) (sep ∷ []) fields) in
+        subst (λ (s : List ℕ). rangeByte sep tests 1 s ≤ length s) joined (range-in _ tests 1 (λ j k. begins-at _ (suc j) (1 + j) (omega arith) (begins j k)))
+      where
+        begins : (j : ℕ) → j < length tests → pastSeps sep (suc j) (decimal i ++ (sep ∷ fieldsEnded sep feed cs zs)) < length (decimal i ++ (sep ∷ fieldsEnded sep feed cs zs))
+        begins j k =
+            let fields = fieldsEnded sep feed cs zs in
+            omega (arith, past-field j (decimal i) fields, past-fields cs zs j (omega arith), length-append (decimal i) (sep ∷ fields))

@@ -1,5 +1,5 @@
 -- The byte to blame in a line of wrong form (02, E5): bytes of a line count from 1, and 0 says that none is to blame.
--- `lineByte` and `plainByte` are what contracts cite. Where the last columns of a line may be left out, its columns are all of them.
+-- `lineByte`, `plainByte` and `bareByte` are what contracts cite. Where the last columns of a line may be left out, its columns are all of them.
 -- `sep` is the byte that parts the fields, a tab in the table. Left to others: values outside their range (`RangeBlame.antt`), and what these bytes have to
 -- do with E5's words (`FirstBad.antt`). A good line has 0, as has one that is wrong by its letter or by the number of its fields.
 use mathlib.Core.Bool.{Bool, true, false, cond, not, _||_}
@@ -51,23 +51,23 @@ abbrev pub otherIndex : (i : ℕ) → Number → Bool
 otherIndex i (Value index next) = not (eqb index i)
 otherIndex i (Bad place) = false
 
--- the first byte of the index, after the letter and the byte that parts them
-abbrev pub indexFirst : ℕ
-indexFirst = 3
-
--- an index that `sep` does not end. An LF may end it: the fields after it are missing then, but it is judged, since it stands left of them. Where the text
--- cuts it off it is not known to be wrong
-abbrev pub endedByte : (sep : ℕ) → (line : List ℕ) → (i place : ℕ) → ℕ
-endedByte sep line i place = cond (otherIndex i (numberAt line 2 feed)) indexFirst (byteAt sep number line 2 place)
+-- an index from place `at` on that `sep` does not end. An LF may end it: the fields after it are missing then, but it is judged, since it stands left of
+-- them. Where the text cuts it off it is not known to be wrong
+abbrev pub endedByte : (sep at : ℕ) → (line : List ℕ) → (i place : ℕ) → ℕ
+endedByte sep at line i place = cond (otherIndex i (numberAt line at feed)) (at + 1) (byteAt sep number line at place)
 
 -- the index as read before `sep`: its form, and then its value, which is bad at the field's first byte; and then the fields after it
-abbrev pub indexByte : (sep : ℕ) → List Column → (line : List ℕ) → (i : ℕ) → Number → ℕ
-indexByte sep columns line i (Value index next) = cond (eqb index i) (fieldsByte sep columns line next) indexFirst
-indexByte sep columns line i (Bad place) = endedByte sep line i place
+abbrev pub indexByte : (sep at : ℕ) → List Column → (line : List ℕ) → (i : ℕ) → Number → ℕ
+indexByte sep at columns line i (Value index next) = cond (eqb index i) (fieldsByte sep columns line next) (at + 1)
+indexByte sep at columns line i (Bad place) = endedByte sep at line i place
 
 -- a line with its letter, its index and its columns
 unfoldable pub lineByte : (sep letter : ℕ) → List Column → (line : List ℕ) → (i : ℕ) → ℕ
-lineByte sep letter columns line i = cond (headed letter sep line) (indexByte sep columns line i (numberAt line 2 sep)) 0
+lineByte sep letter columns line i = cond (headed letter sep line) (indexByte sep 2 columns line i (numberAt line 2 sep)) 0
+
+-- a line that begins with its index, no letter before it
+unfoldable pub bareByte : (sep : ℕ) → List Column → (line : List ℕ) → (i : ℕ) → ℕ
+bareByte sep columns line i = indexByte sep 0 columns line i (numberAt line 0 sep)
 
 -- a line that has no index
 unfoldable pub plainByte : (sep letter : ℕ) → List Column → (line : List ℕ) → ℕ

@@ -1,6 +1,6 @@
 -- What E5 asks of the byte that is named (02: "the first byte in the line, from 1, that no good number could have there"). Nothing here computes a byte;
--- that the bytes of `Blame.antt` are these is proved: for a field `blames` and `blames-only` (`Blames.antt`), for a line `line-fault` and `plain-fault`
--- (`Faults.antt`). A place counts bytes from 0, so place p is byte p + 1.
+-- that the bytes of `Blame.antt` are these is proved: for a field `blames` and `blames-only` (`Blames.antt`), for a line `line-fault`, `plain-fault`
+-- and `bare-fault` (`Faults.antt`). A place counts bytes from 0, so place p is byte p + 1.
 use mathlib.Core.Path.{_≡_}
 use mathlib.Core.Bool.{true}
 use mathlib.Core.Logic.{_⊎_}
@@ -38,11 +38,11 @@ module _ (sep : ℕ) where
     here : {c : Column} {cs : List Column} {at place : ℕ} → FirstBad c line at place → Found line (c ∷ cs) at place
     later : {c : Column} {cs : List Column} {at next place : ℕ} {z : ℤ} → fieldAt c line at (stopOf sep feed cs) ≡ Whole z next → Found line cs next place → Found line (c ∷ cs) at place
 
-  -- what a byte named in the line of index i is
-  pub data Fault (columns : List Column) (line : List ℕ) (i place : ℕ) : Type 0 where
+  -- what a byte named in the line of index i is, where the index begins at place `at`
+  pub data Fault (at : ℕ) (columns : List Column) (line : List ℕ) (i place : ℕ) : Type 0 where
     -- the first bad byte of the index
-    index : FirstBad number line 2 place → Fault columns line i place
+    index : FirstBad number line at place → Fault at columns line i place
     -- the first byte of an index of right form, ended by `sep` or by an LF, that is another line's
-    other : (value next : ℕ) → (numberAt line 2 sep ≡ Value value next) ⊎ (numberAt line 2 feed ≡ Value value next) → (value ≡ i → ⊥) → place ≡ 2 → Fault columns line i place
+    other : (value next : ℕ) → (numberAt line at sep ≡ Value value next) ⊎ (numberAt line at feed ≡ Value value next) → (value ≡ i → ⊥) → place ≡ at → Fault at columns line i place
     -- after the line's own index, the first bad byte of a field
-    field : (next : ℕ) → numberAt line 2 sep ≡ Value i next → Found line columns next place → Fault columns line i place
+    field : (next : ℕ) → numberAt line at sep ≡ Value i next → Found line columns next place → Fault at columns line i place

@@ -8,8 +8,10 @@ use text::Number;
 use text::Signed;
 use text::field::number_at;
 ghost use mathlib.Core.Path.{_≡_};
+ghost use Prim.Native.Nat.{_≤_};
 ghost use Rattle.kinds.specs.LineColumns.{columnOf, columnsOf};
-ghost use Rattle.blame.specs.Blame.{isWhole, goodAt, byteAt, blamed, fieldsByte, otherIndex, endedByte, lineByte, plainByte};
+ghost use Rattle.text.specs.Fields.{numberAt};
+ghost use Rattle.blame.specs.Blame.{isWhole, goodAt, byteAt, blamed, fieldsByte, otherIndex, endedByte, indexByte, lineByte, plainByte, bareByte};
 
 // A line with its letter, its index and its columns, those that may be left out among them.
 pub fn line_byte(sep: u8, letter: u8, columns: &[u8], line: &[u8], i: usize) -> usize
@@ -18,28 +20,41 @@ pub fn line_byte(sep: u8, letter: u8, columns: &[u8], line: &[u8], i: usize) -> 
     if !text::line::headed(line, letter, sep) {
         return 0;
     }
-    match number_at(line, 2, sep) {
+    index_byte(sep, 2, columns, line, i)
+}
+
+// A line that begins with its index, no letter before it.
+pub fn bare_byte(sep: u8, columns: &[u8], line: &[u8], i: usize) -> usize
+    ensures { λ r. ⌜ r ≡ bareByte sep (columnsOf (now (columns .entry))) (now (line .entry)) i ⌝ }
+{
+    index_byte(sep, 0, columns, line, i)
+}
+
+// The index, from place `at` on, and the columns after it.
+fn index_byte(sep: u8, at: usize, columns: &[u8], line: &[u8], i: usize) -> usize
+    requires { ⌜ at ≤ 2 ⌝ }
+    ensures { λ r. ⌜ r ≡ indexByte sep at (columnsOf (now (columns .entry))) (now (line .entry)) i (numberAt (now (line .entry)) at sep) ⌝ }
+{
+    match number_at(line, at, sep) {
         Number::Value(index, next) => {
             if index == i as u64 {
                 return fields_byte(sep, columns, line, next);
             }
-            INDEX_FIRST
+            at + 1
         }
-        Number::Bad(place) => ended_byte(sep, line, i, place),
+        Number::Bad(place) => ended_byte(sep, at, line, i, place),
     }
 }
 
-// The first byte of the index, after the letter and the byte that parts them.
-const INDEX_FIRST: usize = 3;
-
 // The index that `sep` does not end: where an LF ends it, another line's index is still named.
-fn ended_byte(sep: u8, line: &[u8], i: usize, place: usize) -> usize
-    ensures { λ r. ⌜ r ≡ endedByte sep (now (line .entry)) i place ⌝ }
+fn ended_byte(sep: u8, at: usize, line: &[u8], i: usize, place: usize) -> usize
+    requires { ⌜ at ≤ 2 ⌝ }
+    ensures { λ r. ⌜ r ≡ endedByte sep at (now (line .entry)) i place ⌝ }
 {
-    if other_index(i, number_at(line, 2, b'\n')) {
-        return INDEX_FIRST;
+    if other_index(i, number_at(line, at, b'\n')) {
+        return at + 1;
     }
-    byte_at(sep, b'n', line, 2, place)
+    byte_at(sep, b'n', line, at, place)
 }
 
 fn other_index(i: usize, found: Number) -> bool

@@ -69,13 +69,14 @@ fn no_hubs(sending: i64, receiving: i64) -> bool
     same(sending, NOT_WRITTEN) & same(receiving, NOT_WRITTEN)
 }
 
-// C: the seven values, and then the factors.
-pub fn row_range(sep: u8, raw: RowRecord, f: &[i64], line: &[u8]) -> usize
-    requires { ⌜ 9 + length (now f) < 2 ^ 64 ⌝ }
-    ensures { λ r. ⌜ r ≡ rangeByte sep (rowTests raw ++ factorTests (now (f .entry))) 2 (now (line .entry)) ⌝ }
+// A row: the seven values, of which the first follows the line's k-th `sep`, and then the factors.
+pub fn row_range(sep: u8, k: usize, raw: RowRecord, f: &[i64], line: &[u8]) -> usize
+    requires { ⌜ k + 7 + length (now f) < 2 ^ 64 ⌝ }
+    ensures { λ r. ⌜ r ≡ rangeByte sep (rowTests raw ++ factorTests (now (f .entry))) k (now (line .entry)) ⌝ }
 {
     let byte = values_range(
         sep,
+        k,
         raw[0],
         raw[1],
         raw[2],
@@ -86,7 +87,7 @@ pub fn row_range(sep: u8, raw: RowRecord, f: &[i64], line: &[u8]) -> usize
         line,
     );
     if byte == 0 {
-        factors_range(sep, f, 9, line)
+        factors_range(sep, f, k + 7, line)
     } else {
         byte
     }
@@ -94,6 +95,7 @@ pub fn row_range(sep: u8, raw: RowRecord, f: &[i64], line: &[u8]) -> usize
 
 fn values_range(
     sep: u8,
+    k: usize,
     fmax: i64,
     frm: i64,
     fref: i64,
@@ -103,7 +105,8 @@ fn values_range(
     iva: i64,
     line: &[u8],
 ) -> usize
-    ensures { λ r. ⌜ r ≡ rangeByte sep (rowTests (fmax ∷ frm ∷ fref ∷ f0all ∷ share ∷ cva ∷ iva ∷ [])) 2 (now (line .entry)) ⌝ }
+    requires { ⌜ k + 7 < 2 ^ 64 ⌝ }
+    ensures { λ r. ⌜ r ≡ rangeByte sep (rowTests (fmax ∷ frm ∷ fref ∷ f0all ∷ share ∷ cva ∷ iva ∷ [])) k (now (line .entry)) ⌝ }
 {
     let tests = [
         inside(fmax, Row::FMAX_LEAST, Row::FMAX_MOST),
@@ -114,7 +117,7 @@ fn values_range(
         inside(cva, 0, Row::VA_MOST),
         inside(iva, 0, Row::VA_MOST),
     ];
-    range_byte(sep, &tests, 2, line)
+    range_byte(sep, &tests, k, line)
 }
 
 // The factors, of which the first follows the line's k-th `sep`.

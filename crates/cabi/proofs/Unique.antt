@@ -14,7 +14,7 @@ use Rattle.cabi.specs.declared.KeravnothWritten.{KeravnothWritten}
 use Rattle.cabi.specs.declared.KeravnothExtracted.{KeravnothExtracted}
 use Rattle.cabi.specs.declared.KeravnothFlows.{KeravnothFlows}
 use Rattle.cabi.specs.declared.KeravnothJudged.{KeravnothJudged}
-use Rattle.cabi.specs.Coded.{ReadCoded, readFound, TextCoded, textFound, ExtractCoded, extractFound, FlowsCoded, flowsFound, MarginsCoded, marginsFound}
+use Rattle.cabi.specs.Coded.{ReadCoded, readFound, TextCoded, textFound, ExtractCoded, extractFound, FlowsCoded, flowsFound, RowsCoded, rowsFound, MarginsCoded, marginsFound}
 use Rattle.cabi.proofs.keravnoth_read as read
 use Rattle.cabi.proofs.keravnoth_read.Kinds as read-kinds
 use Rattle.cabi.proofs.keravnoth_read.Reads as read-reads
@@ -60,6 +60,12 @@ use Rattle.cabi.proofs.keravnoth_published_text.Reads as published-text
 use Rattle.cabi.proofs.keravnoth_claims as claims
 use Rattle.cabi.proofs.keravnoth_claims.Kinds as claims-kinds
 use Rattle.cabi.proofs.keravnoth_claims.Reads as claims-reads
+use Rattle.cabi.proofs.keravnoth_read_rows as read-rows
+use Rattle.cabi.proofs.keravnoth_read_rows.Kinds as read-rows-kinds
+use Rattle.cabi.proofs.keravnoth_read_rows.Reads as read-rows-reads
+use Rattle.cabi.proofs.keravnoth_write_rows as write-rows
+use Rattle.cabi.proofs.keravnoth_write_rows.Kinds as write-rows-kinds
+use Rattle.cabi.proofs.keravnoth_write_rows.Reads as write-rows-reads
 use Rattle.cabi.proofs.keravnoth_bound as bound
 use Rattle.cabi.proofs.keravnoth_bound.Kinds as bound-kinds
 use Rattle.cabi.proofs.keravnoth_bound.Reads as bound-reads
@@ -88,6 +94,9 @@ extract-one may r r′ ps ps′ atcs atcs′ lefts lefts′ p q =
 
 flows-one : (may : FlowsCoded) (r r′ : KeravnothFlows) (out out′ : List ℤ) → flowsFound r out ≡ may → flowsFound r′ out′ ≡ may → (r ≡ r′) × (out ≡ out′)
 flows-one may r r′ out out′ p q = let e = p ∙ sym q in (ap (λ (l : FlowsCoded). l .answer) e, ap (λ (l : FlowsCoded). l .out) e)
+
+rows-one : (may : RowsCoded) (r r′ : KeravnothJudged) (c c′ : List (List ℤ)) (f f′ : List ℤ) → rowsFound r c f ≡ may → rowsFound r′ c′ f′ ≡ may → (r ≡ r′) × ((c ≡ c′) × (f ≡ f′))
+rows-one may r r′ c c′ f f′ p q = let e = p ∙ sym q in (ap (λ (l : RowsCoded). l .answer) e, (ap (λ (l : RowsCoded). l .c) e, ap (λ (l : RowsCoded). l .f) e))
 
 margins-one : (may : MarginsCoded) (r r′ : KeravnothJudged) (out out′ : List (List ℤ)) → marginsFound r out ≡ may → marginsFound r′ out′ ≡ may → (r ≡ r′) × (out ≡ out′)
 margins-one may r r′ out out′ p q = let e = p ∙ sym q in (ap (λ (l : MarginsCoded). l .answer) e, ap (λ (l : MarginsCoded). l .out) e)
@@ -180,6 +189,16 @@ keravnoth-claims-once κs x r r′ s s′ p q = p ∙ sym q
 pub keravnoth-published-text-once : (κs : Lfts 7) (x : ArgsD published-text.signature κs) (r r′ : ResD published-text.signature κs) (s s′ : AtExit (endedOf 7 published-text-kinds.ps published-text-kinds.r) κs)
     → published-text-reads.Post κs x r s → published-text-reads.Post κs x r′ s′ → (r ≡ r′) × (now (s .1 .1 .1 .1 .1 .1 .1 .0) ≡ now (s′ .1 .1 .1 .1 .1 .1 .1 .0))
 keravnoth-published-text-once κs x r r′ s s′ p q = text-one _ _ _ _ _ p q
+
+-- the records and the factors are the third and the fourth argument
+pub keravnoth-read-rows-once : (κs : Lfts 3) (x : ArgsD read-rows.signature κs) (r r′ : ResD read-rows.signature κs) (s s′ : AtExit (endedOf 3 read-rows-kinds.ps read-rows-kinds.r) κs)
+    → read-rows-reads.Post κs x r s → read-rows-reads.Post κs x r′ s′ → (r ≡ r′) × ((now (s .1 .1 .0) ≡ now (s′ .1 .1 .0)) × (now (s .1 .1 .1 .0) ≡ now (s′ .1 .1 .1 .0)))
+keravnoth-read-rows-once κs x r r′ s s′ p q = rows-one _ _ _ _ _ _ _ p q
+
+-- `out` is the fourth argument
+pub keravnoth-write-rows-once : (κs : Lfts 3) (x : ArgsD write-rows.signature κs) (r r′ : ResD write-rows.signature κs) (s s′ : AtExit (endedOf 3 write-rows-kinds.ps write-rows-kinds.r) κs)
+    → write-rows-reads.Post κs x r s → write-rows-reads.Post κs x r′ s′ → (r ≡ r′) × (now (s .1 .1 .1 .0) ≡ now (s′ .1 .1 .1 .0))
+keravnoth-write-rows-once κs x r r′ s s′ p q = text-one _ _ _ _ _ p q
 
 -- nothing that is lent is written to
 pub keravnoth-bound-once : (κs : Lfts 5) (x : ArgsD bound.signature κs) (r r′ : ResD bound.signature κs) (s s′ : AtExit (endedOf 5 bound-kinds.ps bound-kinds.r) κs)

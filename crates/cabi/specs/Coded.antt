@@ -1,5 +1,5 @@
 -- What the C interface answers: number, place and byte of the refusal, all 0 where there is none, and then the values (0 where refused).
--- `readCoded`, `textCoded`, `extractCoded`, `flowsCoded`, `marginsCoded`, `codedJudged` and `codedBounded` are what contracts cite: a call's answer coded so, and each lent buffer as the call leaves it.
+-- `readCoded`, `textCoded`, `extractCoded`, `flowsCoded`, `rowsCoded`, `marginsCoded`, `codedJudged` and `codedBounded` are what contracts cite: a call's answer coded so, and each lent buffer as the call leaves it.
 use mathlib.Core.List.{List}
 use Prim.Native.Nat.{ℕ}
 use lib.IntN.{ℤ, pos}
@@ -15,6 +15,7 @@ use Rattle.cabi.specs.declared.KeravnothRead.{KeravnothRead}
 use Rattle.cabi.specs.declared.KeravnothWritten.{KeravnothWritten}
 use Rattle.cabi.specs.declared.KeravnothExtracted.{KeravnothExtracted}
 use Rattle.cabi.specs.declared.KeravnothFlows.{KeravnothFlows}
+use Rattle.rowsheet.specs.RowSheet.{RowsLeft}
 use Rattle.bound.specs.declared.RoundsMost.{RoundsMost}
 use Rattle.parts.specs.Parts.{MarginsLeft}
 use Rattle.cabi.specs.declared.KeravnothJudged.{KeravnothJudged}
@@ -103,6 +104,18 @@ flowsFound answer out = record { answer = answer; out = out }
 
 abbrev pub flowsCoded : FlowsLeft → FlowsCoded
 flowsCoded l = flowsFound (codedFlows (l .answer)) (l .out)
+
+-- what `keravnoth_read_rows` leaves: its answer, the lent records and the lent factors
+pub record RowsCoded : Type 0 where
+  pub answer : KeravnothJudged
+  pub c : List (List ℤ)
+  pub f : List ℤ
+
+abbrev pub rowsFound : (answer : KeravnothJudged) → (c : List (List ℤ)) → (f : List ℤ) → RowsCoded
+rowsFound answer c f = record { answer = answer; c = c; f = f }
+
+abbrev pub rowsCoded : RowsLeft → RowsCoded
+rowsCoded l = rowsFound (codedJudged (l .answer)) (l .c) (l .f)
 
 -- what `keravnoth_margins` leaves: its answer, and the lent records
 pub record MarginsCoded : Type 0 where

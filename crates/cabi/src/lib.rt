@@ -12,10 +12,11 @@ ghost use Rattle.corners.specs.Corners.{cornersLeft};
 ghost use Rattle.cornertext.specs.CornerText.{cornerTextLeft};
 ghost use Rattle.claims.specs.Claims.{claimsAnswer};
 ghost use Rattle.claimtext.specs.Published.{publishedLeft};
+ghost use Rattle.rowsheet.specs.RowSheet.{readRowsLeft, writeRowsLeft};
 ghost use Rattle.bound.specs.Bound.{saidBounded, boundFor};
 ghost use Rattle.parts.specs.Parts.{marginsLeft};
 ghost use Rattle.answer.specs.Result.{resultTextLeft, resultTextMarkedLeft, answerLeft, answerMarkedLeft, answerCorrectedLeft};
-ghost use Rattle.cabi.specs.Coded.{codedRead, codedWritten, codedExtracted, codedFlows, codedJudged, codedRuling, codedBounded, readFound, readCoded, textFound, textCoded, extractFound, extractCoded, flowsFound, flowsCoded, marginsFound, marginsCoded};
+ghost use Rattle.cabi.specs.Coded.{codedRead, codedWritten, codedExtracted, codedFlows, codedJudged, codedRuling, codedBounded, readFound, readCoded, textFound, textCoded, extractFound, extractCoded, flowsFound, flowsCoded, rowsFound, rowsCoded, marginsFound, marginsCoded};
 use bound::Bounded;
 use claims::ClaimRecord;
 use extraction::AtcRecord;
@@ -309,6 +310,32 @@ pub extern "C" fn keravnoth_published_text(
     ensures { λ r. ⌜ textFound r (now (out .exit)) ≡ textCoded (publishedLeft (lent h (now (z .entry)) (now (t .entry)) (now (b .entry)) (now (c .entry)) (now (f .entry))) (now (list .entry)) (now (out .entry))) ⌝ }
 {
     code_written(claimtext::published_text(h, z, t, b, c, f, list, out))
+}
+
+// Reads the rows of the planners' sheet into c and f.
+#[no_mangle]
+pub extern "C" fn keravnoth_read_rows(
+    h: Header,
+    sheet: &[u8],
+    c: &mut [RowRecord],
+    f: &mut [i64],
+) -> KeravnothJudged
+    ensures { λ r. ⌜ rowsFound r (now (c .exit)) (now (f .exit)) ≡ rowsCoded (readRowsLeft h (now (sheet .entry)) (now (c .entry)) (now (f .entry))) ⌝ }
+{
+    code_judged(rowsheet::read_rows(h, sheet, c, f))
+}
+
+// Writes rows as the planners' sheet.
+#[no_mangle]
+pub extern "C" fn keravnoth_write_rows(
+    h: Header,
+    c: &[RowRecord],
+    f: &[i64],
+    out: &mut [u8],
+) -> KeravnothWritten
+    ensures { λ r. ⌜ textFound r (now (out .exit)) ≡ textCoded (writeRowsLeft h (now (c .entry)) (now (f .entry)) (now (out .entry))) ⌝ }
+{
+    code_written(rowsheet::write_rows(h, c, f, out))
 }
 
 // How many rounds the tables can take at most.

@@ -1,5 +1,5 @@
 // Answers every file that the arguments name: the name on a line, and then what the word before it asks for, as the program prints it.
-// After the argument `claims` and a file comes the published list.
+// After the argument `claims` and a file comes the published list, after `rows`, `with` and a file the table with its rows.
 // After the argument `corners` come the corner sheets of every row, after a number those of that row. After `--marks` and a list only those borders
 // rise, after `--corrections` and a file its rows are put in, until the next word; `answer` is the word for the answer.
 ghost use Prim.Native.Nat.{_≤_};
@@ -60,6 +60,10 @@ fn take(i: usize, mut setting: Setting) -> Setting {
     }
     if arguments::is(i, b"claims") {
         setting = word_at(i);
+        setting.due = i;
+        return setting;
+    }
+    if arguments::is(i, b"with") {
         setting.due = i;
         return setting;
     }

@@ -14,14 +14,14 @@ use lib.Seq.{drop-cons, take-suc-set, take-all}
 use borrow.Author.Tests.{le-leb, lt-leb, eq-eqb, ne-eqb}
 use Rattle.numbers.proofs.ListLaws.{part-long}
 use Rattle.kinds.specs.Limits.{zonesMost}
-use Rattle.kinds.specs.LineColumns.{Column, signed, rowColumns, rowItems, factorColumns, columnOf, columnsOf}
+use Rattle.kinds.specs.LineColumns.{Column, rowColumns, rowItems, factorColumns, sheetColumns, sheetFactors, columnOf, columnsOf}
 use Rattle.text.specs.declared.Number.{Number}
 use Rattle.text.specs.declared.Number.the-variants.{Value, Bad}
 use Rattle.text.specs.declared.Signed.{Signed}
 use Rattle.text.specs.declared.Signed.the-variants.{Whole, Wrong}
 use Rattle.text.specs.Fields.{feed, numberAt}
 use Rattle.text.specs.Line.{headed}
-use Rattle.columns.specs.ColumnLine.{indexAt, toEnd, restAt, afterNumber, headAt, columnsLine, plainLine}
+use Rattle.columns.specs.ColumnLine.{ownIndex, indexAt, toEnd, restAt, afterNumber, headAt, columnsLine, plainLine}
 use Rattle.columns.specs.declared.Fields.{Fields}
 use Rattle.columns.specs.declared.Fields.the-variants as fields
 use Rattle.columns.specs.Columns.{stored, fieldAt, Values, values, wrong, push, onward, stopOf, fieldsAt}
@@ -104,18 +104,17 @@ module _ (sep letter : ℕ) (line : List ℕ) (i : ℕ) where
   unfolding indexAt
   letter-bad e = rw e
 
-  module _ (e : headed letter sep line ≡ true) where
-    pub index-bad : (place : ℕ) → numberAt line 2 sep ≡ Bad place → Bad place ≡ indexAt sep letter line i
-    unfolding indexAt
-    index-bad place q = rw (e, q)
+  pub index-goes : headed letter sep line ≡ true → ownIndex 2 i (numberAt line 2 sep) ≡ indexAt sep letter line i
+  unfolding indexAt
+  index-goes e = rw e
 
-    pub index-other : (index next : ℕ) → numberAt line 2 sep ≡ Value index next → (index ≡ i → ⊥) → Bad 2 ≡ indexAt sep letter line i
-    unfolding indexAt
-    index-other index next q h = rw (e, q, ne-eqb index i h)
+-- an index as it was found
+module _ (first i index next : ℕ) where
+  pub index-own : index ≡ i → Value index next ≡ ownIndex first i (Value index next)
+  index-own h = rw (eq-eqb index i h)
 
-    pub index-own : (index next : ℕ) → numberAt line 2 sep ≡ Value index next → index ≡ i → Value index next ≡ indexAt sep letter line i
-    unfolding indexAt
-    index-own index next q h = rw (e, q, eq-eqb index i h)
+  pub index-other : (index ≡ i → ⊥) → Bad first ≡ ownIndex first i (Value index next)
+  index-other h = rw (ne-eqb index i h)
 
 -- ---- columns to the line's end, and a whole line
 module _ (sep : ℕ) (columns : List Column) (line : List ℕ) where
@@ -173,30 +172,31 @@ module _ (sep last : ℕ) (line : List ℕ) (d : Column) (ds : List Column) wher
       go ih (Whole z next) = ap (push z) (ih next) ∙ push-chain z (fieldsAt sep sep cs line next) rest
       go ih (Wrong place) = refl
 
-module _ (sep letter : ℕ) (cs : List Column) (d : Column) (ds : List Column) (line : List ℕ) (i : ℕ) where
-  -- the first part of a line, and then the second to the line's end
-  parts-bad : (place : ℕ) → wrong place ≡ headAt sep letter cs line i → wrong place ≡ columnsLine sep letter (cs ++ (d ∷ ds)) line i
-  unfolding headAt columnsLine restAt
-  parts-bad place e = go (indexAt sep letter line i) e
+module _ (sep : ℕ) (cs : List Column) (d : Column) (ds : List Column) (line : List ℕ) where
+  -- the first part of a line, after its index, and then the second to the line's end
+  parts-bad : (n : Number) (place : ℕ) → wrong place ≡ afterNumber n (λ at. fieldsAt sep sep cs line at) → wrong place ≡ afterNumber n (λ at. restAt sep (cs ++ (d ∷ ds)) line at)
+  unfolding restAt
+  parts-bad (Bad p) place e = e
+  parts-bad (Value v at) place e = fielded (fieldsAt sep sep cs line at) e ∙ ap (toEnd line) (sym (fields-append sep feed line d ds cs at))
     where
       clash : (zs : List ℤ) (n : ℕ) → wrong place ≡ values zs n → ⊥
       clash zs n e = let x : _≡_ {A = ℕ} 0 1 = cc in omega arith
 
-      fielded : (at : ℕ) (v : Values) → wrong place ≡ v → wrong place ≡ toEnd line (chain v (λ next. fieldsAt sep feed (d ∷ ds) line next))
-      fielded at (values zs n) e = absurd (clash zs n e)
-      fielded at (wrong p) e = e
+      fielded : (v : Values) → wrong place ≡ v → wrong place ≡ toEnd line (chain v (λ next. fieldsAt sep feed (d ∷ ds) line next))
+      fielded (values zs n) e = absurd (clash zs n e)
+      fielded (wrong p) e = e
 
-      go : (n : Number) → wrong place ≡ afterNumber n (λ at. fieldsAt sep sep cs line at) → wrong place ≡ afterNumber n (λ at. toEnd line (fieldsAt sep feed (cs ++ (d ∷ ds)) line at))
-      go (Bad p) e = e
-      go (Value v at) e = fielded at (fieldsAt sep sep cs line at) e ∙ ap (toEnd line) (sym (fields-append sep feed line d ds cs at))
-
-  parts-more : (zs : List ℤ) (at : ℕ) (v : Values) → values zs at ≡ headAt sep letter cs line i → v ≡ restAt sep (d ∷ ds) line at → pushAll zs v ≡ columnsLine sep letter (cs ++ (d ∷ ds)) line i
-  unfolding headAt columnsLine restAt
-  parts-more zs at v e q = go (indexAt sep letter line i) e
+  parts-more : (n : Number) (zs : List ℤ) (at : ℕ) (v : Values) → values zs at ≡ afterNumber n (λ p. fieldsAt sep sep cs line p) → v ≡ restAt sep (d ∷ ds) line at → pushAll zs v ≡ afterNumber n (λ p. restAt sep (cs ++ (d ∷ ds)) line p)
+  unfolding restAt
+  parts-more (Bad p) zs at v e q = absurd (clash p e)
     where
       clash : (place : ℕ) → values zs at ≡ wrong place → ⊥
       clash place e = let x : _≡_ {A = ℕ} 0 1 = cc in omega arith
-
+  parts-more (Value x p) zs at v e q =
+      ap (pushAll zs) q ∙ ended-last (fieldsAt sep feed (d ∷ ds) line at)
+      ∙ ap (λ (w : Values). toEnd line (chain w (λ next. fieldsAt sep feed (d ∷ ds) line next))) e
+      ∙ ap (toEnd line) (sym (fields-append sep feed line d ds cs p))
+    where
       ended-last : (w : Values) → pushAll zs (toEnd line w) ≡ toEnd line (pushAll zs w)
       ended-last (wrong place) = refl
       ended-last (values ys next) = sure (leb (length line) next)
@@ -204,13 +204,6 @@ module _ (sep letter : ℕ) (cs : List Column) (d : Column) (ds : List Column) (
           sure : (t : Bool) → pushAll zs (cond t (values ys next) (wrong next)) ≡ cond t (values (zs ++ ys) next) (wrong next)
           sure true = refl
           sure false = refl
-
-      go : (n : Number) → values zs at ≡ afterNumber n (λ p. fieldsAt sep sep cs line p) → pushAll zs v ≡ afterNumber n (λ p. toEnd line (fieldsAt sep feed (cs ++ (d ∷ ds)) line p))
-      go (Bad p) e = absurd (clash p e)
-      go (Value x p) e =
-          ap (pushAll zs) q ∙ ended-last (fieldsAt sep feed (d ∷ ds) line at)
-          ∙ ap (λ (w : Values). toEnd line (chain w (λ next. fieldsAt sep feed (d ∷ ds) line next))) e
-          ∙ ap (toEnd line) (sym (fields-append sep feed line d ds cs p))
 
 module _ (sep letter : ℕ) (columns : List Column) (line : List ℕ) (i : ℕ) where
   pub head-bad : (place : ℕ) → indexAt sep letter line i ≡ Bad place → wrong place ≡ headAt sep letter columns line i
@@ -236,28 +229,57 @@ abbrev pub repeated : (n b : ℕ) → List ℕ
 repeated zero b = []
 repeated (suc n) b = b ∷ repeated n b
 
-factors-front : (n m : ℕ) → n ≤ m → columnsOf (take n (repeated m 115)) ≡ factorColumns n
-factors-front zero m h = refl
-factors-front (suc n) zero h = absurd (not-suc-le-zero h)
-factors-front (suc n) (suc m) h = ap (λ (l : List Column). signed ∷ l) (factors-front n m (omega arith))
+-- .. which name the columns cs makes
+letters-front : (b : ℕ) (cs : ℕ → List Column) → cs 0 ≡ [] → ((n : ℕ) → cs (suc n) ≡ columnOf b ∷ cs n) → (n m : ℕ) → n ≤ m → columnsOf (take n (repeated m b)) ≡ cs n
+letters-front b cs none more zero m h = sym none
+letters-front b cs none more (suc n) zero h = absurd (not-suc-le-zero h)
+letters-front b cs none more (suc n) (suc m) h = ap (λ (l : List Column). columnOf b ∷ l) (letters-front b cs none more n m (omega arith)) ∙ sym (more n)
 
 -- the columns of a row as the code has them: its values, and a factor for each zone that a table may have
 abbrev rowLetters : List ℕ
 rowLetters = 110 ∷ 110 ∷ 115 ∷ 115 ∷ 114 ∷ 110 ∷ 110 ∷ repeated zonesMost 115
 
-pub row-letters : (n : ℕ) → n ≤ zonesMost → columnsOf (take (rowItems + n) rowLetters) ≡ rowColumns ++ factorColumns n
-row-letters n h =
-    let e : rowItems + n ≡ suc (suc (suc (suc (suc (suc (suc n)))))) = omega arith in
-    ap (λ (k : ℕ). columnsOf (take k rowLetters)) e ∙ ap (λ (l : List Column). rowColumns ++ l) (factors-front n zonesMost h)
+-- .. and in the planners' sheet
+abbrev sheetLetters : List ℕ
+sheetLetters = 112 ∷ 112 ∷ 113 ∷ 113 ∷ 114 ∷ 112 ∷ 112 ∷ repeated zonesMost 102
 
--- .. the part of it that n factors have
-pub factor-letters : (n : ℕ) → n ≤ zonesMost → columnsOf (take (rowItems + n - rowItems) (drop rowItems rowLetters)) ≡ factorColumns n
-factor-letters n h =
-    let e : rowItems + n - rowItems ≡ n = omega arith in
-    ap (λ (k : ℕ). columnsOf (take k (drop rowItems rowLetters))) e ∙ factors-front n zonesMost h
+-- seven letters, and then one letter again and again
+module _ (a b c d e f g x : ℕ) (cs : ℕ → List Column) (none : cs 0 ≡ []) (more : (n : ℕ) → cs (suc n) ≡ columnOf x ∷ cs n) (n : ℕ) (h : n ≤ zonesMost) where
+  abbrev letters : List ℕ
+  letters = a ∷ b ∷ c ∷ d ∷ e ∷ f ∷ g ∷ repeated zonesMost x
 
-pub factor-letters-long : (n : ℕ) → n ≤ zonesMost → length (take (rowItems + n - rowItems) (drop rowItems rowLetters)) ≡ n
-factor-letters-long n h = part-long rowLetters rowItems n (omega arith)
+  all-letters : columnsOf (take (rowItems + n) letters) ≡ columnsOf (a ∷ b ∷ c ∷ d ∷ e ∷ f ∷ g ∷ []) ++ cs n
+  all-letters =
+      let q : rowItems + n ≡ suc (suc (suc (suc (suc (suc (suc n)))))) = omega arith in
+      ap (λ (k : ℕ). columnsOf (take k letters)) q ∙ ap (λ (l : List Column). columnsOf (a ∷ b ∷ c ∷ d ∷ e ∷ f ∷ g ∷ []) ++ l) (letters-front x cs none more n zonesMost h)
+
+  last-letters : columnsOf (take (rowItems + n - rowItems) (drop rowItems letters)) ≡ cs n
+  last-letters =
+      let q : rowItems + n - rowItems ≡ n = omega arith in
+      ap (λ (k : ℕ). columnsOf (take k (drop rowItems letters))) q ∙ letters-front x cs none more n zonesMost h
+
+  last-long : length (take (rowItems + n - rowItems) (drop rowItems letters)) ≡ n
+  last-long = part-long letters rowItems n (omega arith)
+
+module _ (n : ℕ) (h : n ≤ zonesMost) where
+  pub row-letters : columnsOf (take (rowItems + n) rowLetters) ≡ rowColumns ++ factorColumns n
+  row-letters = all-letters 110 110 115 115 114 110 110 115 factorColumns refl (λ n. refl) n h
+
+  -- .. the part of it that n factors have
+  pub factor-letters : columnsOf (take (rowItems + n - rowItems) (drop rowItems rowLetters)) ≡ factorColumns n
+  factor-letters = last-letters 110 110 115 115 114 110 110 115 factorColumns refl (λ n. refl) n h
+
+  pub factor-letters-long : length (take (rowItems + n - rowItems) (drop rowItems rowLetters)) ≡ n
+  factor-letters-long = last-long 110 110 115 115 114 110 110 115 factorColumns refl (λ n. refl) n h
+
+  pub sheet-letters : columnsOf (take (rowItems + n) sheetLetters) ≡ sheetColumns ++ sheetFactors n
+  sheet-letters = all-letters 112 112 113 113 114 112 112 102 sheetFactors refl (λ n. refl) n h
+
+  pub sheet-factors : columnsOf (take (rowItems + n - rowItems) (drop rowItems sheetLetters)) ≡ sheetFactors n
+  sheet-factors = last-letters 112 112 113 113 114 112 112 102 sheetFactors refl (λ n. refl) n h
+
+  pub sheet-factors-long : length (take (rowItems + n - rowItems) (drop rowItems sheetLetters)) ≡ n
+  sheet-factors-long = last-long 112 112 113 113 114 112 112 102 sheetFactors refl (λ n. refl) n h
 
 -- .. as two parts of a line: what was stored of each
 stored-parts : (f : Fields) (zs ys : List ℤ) → pushAll zs (stored f ys) ≡ stored f (zs ++ ys)
@@ -265,11 +287,11 @@ stored-parts (fields.End next) zs ys = refl
 stored-parts (fields.Bad place) zs ys = refl
 
 -- .. by the code's second part
-module _ (sep letter : ℕ) (cs : List Column) (line : List ℕ) (i : ℕ) where
-  pub part-bad : (bs : List ℕ) → 0 < length bs → (place : ℕ) → wrong place ≡ headAt sep letter cs line i → wrong place ≡ columnsLine sep letter (cs ++ columnsOf bs) line i
+module _ (sep : ℕ) (cs : List Column) (line : List ℕ) (n : Number) where
+  pub part-bad : (bs : List ℕ) → 0 < length bs → (place : ℕ) → wrong place ≡ afterNumber n (λ at. fieldsAt sep sep cs line at) → wrong place ≡ afterNumber n (λ at. restAt sep (cs ++ columnsOf bs) line at)
   part-bad [] some place e = absurd (not-suc-le-zero some)
-  part-bad (b ∷ bs) some place e = parts-bad sep letter cs (columnOf b) (columnsOf bs) line i place e
+  part-bad (b ∷ bs) some place e = parts-bad sep cs (columnOf b) (columnsOf bs) line n place e
 
-  pub part-more : (bs : List ℕ) → 0 < length bs → (zs ys : List ℤ) (at : ℕ) (f : Fields) → values zs at ≡ headAt sep letter cs line i → stored f ys ≡ restAt sep (columnsOf bs) line at → stored f (zs ++ ys) ≡ columnsLine sep letter (cs ++ columnsOf bs) line i
+  pub part-more : (bs : List ℕ) → 0 < length bs → (zs ys : List ℤ) (at : ℕ) (f : Fields) → values zs at ≡ afterNumber n (λ p. fieldsAt sep sep cs line p) → stored f ys ≡ restAt sep (columnsOf bs) line at → stored f (zs ++ ys) ≡ afterNumber n (λ p. restAt sep (cs ++ columnsOf bs) line p)
   part-more [] some zs ys at f e q = absurd (not-suc-le-zero some)
-  part-more (b ∷ bs) some zs ys at f e q = sym (stored-parts f zs ys) ∙ parts-more sep letter cs (columnOf b) (columnsOf bs) line i zs at (stored f ys) e q
+  part-more (b ∷ bs) some zs ys at f e q = sym (stored-parts f zs ys) ∙ parts-more sep cs (columnOf b) (columnsOf bs) line n zs at (stored f ys) e q

@@ -16,6 +16,7 @@ use borrow.Author.Tests.{ne-eqb, ltb-true}
 use Rattle.kinds.specs.LineColumns.{Column, number, signed, columnOf, columnsOf}
 use Rattle.text.specs.Fields.{feed, dash}
 use Rattle.text.specs.Written.{decimal, decimalℤ, shareText}
+use Rattle.text.specs.Point.{pointedℤ}
 use Rattle.text.specs.Put.{Put}
 use Rattle.text.proofs.NumberTrip.{zero-one}
 use Rattle.text.proofs.PutLaws.{put-none, put-more, put-room}
@@ -37,9 +38,21 @@ pub value-share : (b : ℕ) (z : ℤ) → b ≡ 114 → fieldText (columnOf b) z
 unfolding fieldText
 value-share b z e = rw e
 
-pub value-plain : (b : ℕ) (z : ℤ) → (b ≡ 114 → ⊥) → fieldText (columnOf b) z ≡ decimalℤ z
+pub value-power : (b : ℕ) (z : ℤ) → b ≡ 112 → fieldText (columnOf b) z ≡ pointedℤ 3 z
 unfolding fieldText
-value-plain b z h = rw (ne-eqb b 114 h) (go (eqb b 115))
+value-power b z e = rw e
+
+pub value-flow : (b : ℕ) (z : ℤ) → b ≡ 113 → fieldText (columnOf b) z ≡ pointedℤ 3 z
+unfolding fieldText
+value-flow b z e = rw e
+
+pub value-factor : (b : ℕ) (z : ℤ) → b ≡ 102 → fieldText (columnOf b) z ≡ pointedℤ 5 z
+unfolding fieldText
+value-factor b z e = rw e
+
+pub value-plain : (b : ℕ) (z : ℤ) → (b ≡ 114 → ⊥) → (b ≡ 112 → ⊥) → (b ≡ 113 → ⊥) → (b ≡ 102 → ⊥) → fieldText (columnOf b) z ≡ decimalℤ z
+unfolding fieldText
+value-plain b z r p q f = rw (ne-eqb b 114 r, ne-eqb b 112 p, ne-eqb b 113 q, ne-eqb b 102 f) (go (eqb b 115))
   where
     go : (t : Bool) → fieldText (cond t signed number) z ≡ decimalℤ z
     go true = refl
@@ -168,13 +181,17 @@ module _ (sep last : ℕ) (d : Column) (ds : List Column) (ys : List ℤ) where
       stop [] = refl
       stop (x ∷ xs) = refl
 
+pub fields-parts : (sep : ℕ) (cs : List Column) (bs : List ℕ) (zs ys : List ℤ) → 0 < length bs → length zs ≡ length cs
+    → fieldsEnded sep feed (cs ++ columnsOf bs) (zs ++ ys) ≡ fieldsEnded sep sep cs zs ++ fieldsEnded sep feed (columnsOf bs) ys
+fields-parts sep cs [] zs ys some e = absurd (not-suc-le-zero some)
+fields-parts sep cs (b ∷ bs) zs ys some e = text-parts sep feed (columnOf b) (columnsOf bs) ys cs zs e
+
 pub parts-text : (sep letter : ℕ) (cs : List Column) (bs : List ℕ) (i : ℕ) (zs ys : List ℤ) → 0 < length bs → length zs ≡ length cs
     → columnsText sep letter (cs ++ columnsOf bs) i (zs ++ ys) ≡ (indexText sep letter i ++ fieldsEnded sep sep cs zs) ++ fieldsEnded sep feed (columnsOf bs) ys
 unfolding columnsText
-parts-text sep letter cs [] i zs ys some e = absurd (not-suc-le-zero some)
-parts-text sep letter cs (b ∷ bs) i zs ys some e =
-    ap (λ (l : List ℕ). indexText sep letter i ++ l) (text-parts sep feed (columnOf b) (columnsOf bs) ys cs zs e)
-    ∙ sym (append-assoc (indexText sep letter i) (fieldsEnded sep sep cs zs) (fieldsEnded sep feed (columnsOf (b ∷ bs)) ys))
+parts-text sep letter cs bs i zs ys some e =
+    ap (λ (l : List ℕ). indexText sep letter i ++ l) (fields-parts sep cs bs zs ys some e)
+    ∙ sym (append-assoc (indexText sep letter i) (fieldsEnded sep sep cs zs) (fieldsEnded sep feed (columnsOf bs) ys))
 
 pub columns-long : (bs : List ℕ) → length (columnsOf bs) ≡ length bs
 columns-long [] = refl

@@ -2,17 +2,17 @@
 -- `Ends` is all that is asked of the byte that parts the fields: it is not 0, and no digit. For a line to be one line it is no LF either.
 -- In order: what is kept of a column; one field; fields; letter and index; a whole line, and one that is judged; a line that has no index; two parts.
 use mathlib.Core.Path.{_≡_, refl, sym, ap, ap₂, subst, _∙_}
-use mathlib.Core.Bool.{Bool, true, false, cond}
+use mathlib.Core.Bool.{Bool, true, false, cond, false≢true}
 use mathlib.Core.List.{List, [], _∷_, _++_, append-assoc, append-nil}
 use Prim.Native.Nat.{ℕ, suc, _+_, _^_, _<_}
 use native.Mathlib.Nat.{not-suc-le-zero}
 use native.Mathlib.Omega.{arith}
-use lib.Dec.{eqb}
+use lib.Dec.{eqb, lit<}
 use lib.IntN.{ℤ, pos, natAbs}
 use lib.ListN.{length, getD, drop, drop-of-length-le}
 use borrow.Author.Tests.{le-leb, leb-true, eqb-true, eq-eqb}
 use Rattle.numbers.specs.Ints.{minus}
-use Rattle.kinds.specs.LineColumns.{Column, number, signed, share}
+use Rattle.kinds.specs.LineColumns.{Column, number, signed, share, power, flow, factor}
 use Rattle.text.specs.declared.Number.{Number}
 use Rattle.text.specs.declared.Number.the-variants.{Value, Bad}
 use Rattle.text.specs.declared.Signed.{Signed}
@@ -20,8 +20,10 @@ use Rattle.text.specs.declared.Signed.the-variants.{Whole, Wrong}
 use Rattle.text.specs.Fields.{tab, feed, isDigit, numberAt, positive, shareAt}
 use Rattle.text.specs.Line.{lineOf, holds, range, plainly, headed, ended}
 use Rattle.text.specs.Written.{decimal, decimalℤ}
+use Rattle.text.specs.Point.{pointAt, pointed, pointedℤ}
 use Rattle.text.proofs.NumberTrip.{zero-one, whole-is, no-whole, number-read, number-written, number-rest, signed-read, signed-written, signed-rest}
 use Rattle.text.proofs.FieldTrip.{ShareKept, share-read, share-written}
+use Rattle.text.proofs.PointTrip.{point-read, point-written, point-rest, signed-point-read, signed-point-written, signed-point-rest, pointedℤ-no-feed}
 use Rattle.text.proofs.ChainLaws.{holds-is, no-form, no-range, headed-line}
 use Rattle.text.proofs.LineLaws.{noFeed, line-past}
 use Rattle.text.proofs.WrittenLaws.{ended-text, decimal-no-feed, decimalℤ-no-feed, share-no-feed}
@@ -34,6 +36,9 @@ abbrev pub Kept : Column → ℤ → Type 0
 Kept number z = (z ≡ pos (natAbs z)) × (natAbs z < 10 ^ 10)
 Kept signed z = natAbs z < 10 ^ 10
 Kept share z = ShareKept z
+Kept power z = (z ≡ pos (natAbs z)) × (natAbs z < 10 ^ 10)
+Kept flow z = natAbs z < 10 ^ 10
+Kept factor z = natAbs z < 10 ^ 10
 
 -- one value for each column
 abbrev pub AllKept : List Column → List ℤ → Type 0
@@ -63,6 +68,15 @@ module _ (line : List ℕ) (at stop : ℕ) (z : ℤ) (next : ℕ) where
       subst (λ (y : ℤ). FieldRead number line at stop y next) (w .0)
       (record { here = r .here ∙ ap (λ (y : ℕ). decimal v ++ (stop ∷ drop y line)) (w .1); kept = (refl, r .small) })
 
+  power-field : 0 < stop → (n : Number) → pointAt false 3 line at stop ≡ n → positive n ≡ Whole z next → FieldRead power line at stop z next
+  unfolding fieldText pointedℤ
+  power-field some (Bad place) q e = absurd (no-whole place z next e)
+  power-field some (Value v m) q e =
+      let w = whole-is z (pos v) m next e in
+      let r = point-read false 3 (lit< tt) line at stop some v m q in
+      subst (λ (y : ℤ). FieldRead power line at stop y next) (w .0)
+      (record { here = r .here ∙ ap (λ (y : ℕ). pointed 3 v ++ (stop ∷ drop y line)) (w .1); kept = (refl, r .small) })
+
   number-kept : (n : Number) → numberAt line at stop ≡ n → positive n ≡ Whole z next → ShareKept z
   number-kept (Bad place) q e = absurd (no-whole place z next e)
   number-kept (Value v m) q e = subst ShareKept (whole-is z (pos v) m next e .0) (number-read line at stop v m (sym q) .small)
@@ -85,6 +99,9 @@ module _ (line : List ℕ) (at stop : ℕ) (z : ℤ) (next : ℕ) where
   field-read signed some e = let r = signed-read line at stop z next e in record { here = r .here; kept = r .small }
   field-read share some e =
       record { here = share-read line at stop z next some e .here; kept = share-kept e }
+  field-read power some e = power-field some (pointAt false 3 line at stop) refl e
+  field-read flow some e = let r = signed-point-read 3 (lit< tt) line at stop some z next e in record { here = r .here; kept = r .small }
+  field-read factor some e = let r = signed-point-read 5 (lit< tt) line at stop some z next e in record { here = r .here; kept = r .small }
 
 pub record FieldWritten (c : Column) (line : List ℕ) (at stop : ℕ) (z : ℤ) (rest : List ℕ) : Type 0 where
   pub next : ℕ
@@ -93,7 +110,7 @@ pub record FieldWritten (c : Column) (line : List ℕ) (at stop : ℕ) (z : ℤ)
 
 module _ (line : List ℕ) (at stop : ℕ) (z : ℤ) (rest : List ℕ) (apart : isDigit stop ≡ false) where
   pub field-written : (c : Column) → drop at line ≡ fieldText c z ++ (stop ∷ rest) → Kept c z → FieldWritten c line at stop z rest
-  unfolding fieldAt fieldText decimalℤ
+  unfolding fieldAt fieldText decimalℤ pointedℤ
   field-written number here k =
       let n = natAbs z in
       let t : drop at line ≡ decimal n ++ (stop ∷ rest) = here ∙ ap (λ (y : ℤ). decimalℤ y ++ (stop ∷ rest)) (k .0) in
@@ -106,15 +123,28 @@ module _ (line : List ℕ) (at stop : ℕ) (z : ℤ) (rest : List ℕ) (apart : 
   field-written share here k =
       let w = share-written line at stop z rest here k apart in
       record { next = w .next; is = w .is; then = w .then }
+  field-written power here k =
+      let n = natAbs z in
+      let t : drop at line ≡ pointed 3 n ++ (stop ∷ rest) = here ∙ ap (λ (y : ℤ). pointedℤ 3 y ++ (stop ∷ rest)) (k .0) in
+      record {
+        next = at + length (pointed 3 n) + 1;
+        is = ap positive (point-written false 3 (lit< tt) line at stop n rest t (k .1) (λ e. absurd (false≢true e))) ∙ ap (λ (y : ℤ). Whole y (at + length (pointed 3 n) + 1)) (sym (k .0));
+        then = point-rest false 3 (lit< tt) line at stop n rest t;
+      }
+  field-written flow here k = record { next = at + length (pointedℤ 3 z) + 1; is = signed-point-written 3 (lit< tt) line at stop z rest here k; then = signed-point-rest 3 line at stop z rest here }
+  field-written factor here k = record { next = at + length (pointedℤ 5 z) + 1; is = signed-point-written 5 (lit< tt) line at stop z rest here k; then = signed-point-rest 5 line at stop z rest here }
 
 pub field-no-feed : (c : Column) (z : ℤ) → noFeed (fieldText c z)
 unfolding fieldText
 field-no-feed number z = decimalℤ-no-feed z
 field-no-feed signed z = decimalℤ-no-feed z
 field-no-feed share z = share-no-feed z
+field-no-feed power z = pointedℤ-no-feed 3 z
+field-no-feed flow z = pointedℤ-no-feed 3 z
+field-no-feed factor z = pointedℤ-no-feed 5 z
 
 -- ---- fields
-values-is : (zs ys : List ℤ) (m n : ℕ) → values zs m ≡ values ys n → (zs ≡ ys) × (m ≡ n)
+pub values-is : (zs ys : List ℤ) (m n : ℕ) → values zs m ≡ values ys n → (zs ≡ ys) × (m ≡ n)
 values-is zs ys m n e = (cc, cc)
 
 pub no-values : (place : ℕ) (ys : List ℤ) (n : ℕ) → wrong place ≡ values ys n → ⊥
@@ -187,10 +217,10 @@ tab-ends = record { some = omega arith; apart = refl }
 pub feed-ends : Ends feed
 feed-ends = record { some = omega arith; apart = refl }
 
-no-value : (place v n : ℕ) → _≡_ {A = Number} (Bad place) (Value v n) → ⊥
+pub no-value : (place v n : ℕ) → _≡_ {A = Number} (Bad place) (Value v n) → ⊥
 no-value place v n e = let x : _≡_ {A = ℕ} 0 1 = cc in zero-one x
 
-value-is : (v w m n : ℕ) → _≡_ {A = Number} (Value v m) (Value w n) → (v ≡ w) × (m ≡ n)
+pub value-is : (v w m n : ℕ) → _≡_ {A = Number} (Value v m) (Value w n) → (v ≡ w) × (m ≡ n)
 value-is v w m n e = (cc, cc)
 
 pub record IndexRead (sep letter : ℕ) (line : List ℕ) (i at : ℕ) : Type 0 where
@@ -214,11 +244,11 @@ module _ (sep letter : ℕ) (line : List ℕ) (i v at : ℕ) where
             small = rw x at (r .small);
           }
 
-      numbered : headed letter sep line ≡ true → (n : Number) → numberAt line 2 sep ≡ n → ownIndex i n ≡ Value v at → IndexRead sep letter line i at
+      numbered : headed letter sep line ≡ true → (n : Number) → numberAt line 2 sep ≡ n → ownIndex 2 i n ≡ Value v at → IndexRead sep letter line i at
       numbered h (Bad place) q e = absurd (no-value place v at e)
       numbered h (Value index next) q e = own h index next q (eqb index i) refl e
 
-      lettered : (t : Bool) → headed letter sep line ≡ t → cond t (ownIndex i (numberAt line 2 sep)) (Bad 0) ≡ Value v at → IndexRead sep letter line i at
+      lettered : (t : Bool) → headed letter sep line ≡ t → cond t (ownIndex 2 i (numberAt line 2 sep)) (Bad 0) ≡ Value v at → IndexRead sep letter line i at
       lettered false h e = absurd (no-value 0 v at e)
       lettered true h e = numbered h (numberAt line 2 sep) refl e
 
@@ -286,7 +316,7 @@ line-written sep letter parts cs i zs small k =
     record { next = f .next; is = rw (x .is, f .is, ended-text line (f .next) (f .then)) }
 
 -- .. which is one line, whatever follows
-fields-one : (sep : ℕ) → eqb sep feed ≡ false → (c : Column) (cs : List Column) (zs : List ℤ) (r : List ℕ) → lineOf (fieldsEnded sep feed (c ∷ cs) zs ++ r) ≡ fieldsEnded sep feed (c ∷ cs) zs
+pub fields-one : (sep : ℕ) → eqb sep feed ≡ false → (c : Column) (cs : List Column) (zs : List ℤ) (r : List ℕ) → lineOf (fieldsEnded sep feed (c ∷ cs) zs ++ r) ≡ fieldsEnded sep feed (c ∷ cs) zs
 unfolding fieldsEnded
 fields-one sep other c [] zs r =
     let f = fieldText c (getD zs 0 (pos 0)) in

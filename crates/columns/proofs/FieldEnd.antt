@@ -2,39 +2,64 @@
 -- is wrong by any shorter list. No contract cites this file.
 -- In order: the byte that ends a field; fields and a shorter list; lines.
 use mathlib.Core.Path.{_≡_, refl, sym, ap, _∙_}
-use mathlib.Core.Bool.{Bool, true, false, cond}
+use mathlib.Core.Bool.{Bool, true, false, cond, _&&_}
 use mathlib.Core.List.{List, [], _∷_, _++_}
-use Prim.Native.Nat.{ℕ, _+_, _≤_, _<_}
+use Prim.Native.Nat.{ℕ, zero, suc, _+_, _*_, _-_, _≤_, _<_}
+use native.Mathlib.Nat.{add-zero}
 use native.Mathlib.Omega.{arith}
-use lib.Dec.{eqb, ltb}
+use lib.Dec.{eqb, leb, ltb}
 use lib.IntN.{ℤ, pos, negℤ}
 use lib.ListN.{length, getD, drop, length-append, drop-of-length-le}
 use borrow.Author.Tests.{leb-true, eqb-true, eqb-false}
 use Rattle.numbers.specs.Ints.{minus}
 use Rattle.numbers.proofs.TestLaws.{and-both}
-use Rattle.kinds.specs.LineColumns.{Column, number, signed, share}
+use Rattle.kinds.specs.LineColumns.{Column, number, signed, share, power, flow, factor}
 use Rattle.text.specs.declared.Number.{Number}
 use Rattle.text.specs.declared.Number.the-variants.{Value, Bad}
 use Rattle.text.specs.declared.Signed.{Signed}
 use Rattle.text.specs.declared.Signed.the-variants.{Whole, Wrong}
-use Rattle.text.specs.Fields.{feed, dash, digits, value, plain, numberAt, positive, negative, signedAt, shareAt}
+use Rattle.text.specs.Fields.{feed, dash, isDigit, digits, value, plain, numberAt, positive, negative, signedAt, shareAt, withNumber}
+use Rattle.text.specs.Point.{point, decimalsAt, wholeMost, afterWhole, pointAt, negated, signedPointAt}
 use Rattle.text.specs.Line.{headed, ended}
 use Rattle.text.proofs.NumberTrip.{zero-one, no-whole}
 use Rattle.columns.specs.Columns.{fieldAt, Values, values, wrong, push, onward, stopOf, fieldsAt}
 use Rattle.columns.specs.ColumnText.{fieldText, fieldsEnded}
 use Rattle.columns.specs.ColumnLine.{indexAt, toEnd, restAt, afterNumber, columnsLine, plainLine}
-use Rattle.columns.proofs.ColumnTrip.{Ends, feed-ends, no-values, fields-read}
+use Rattle.columns.proofs.ColumnTrip.{Ends, feed-ends, no-value, no-values, fields-read}
 
 -- ---- the byte that ends a field
 -- past the digits at a place
 abbrev pastDigits : (line : List ℕ) → (at : ℕ) → ℕ
 pastDigits line at = getD (drop at line) (length (digits (drop at line))) 0
 
+-- past a point and its k decimals
+abbrev pastPoint : (k : ℕ) → (line : List ℕ) → (at : ℕ) → ℕ
+pastPoint k line at = withNumber (numberAt line at point) 0 (λ v next. getD line (next + k) 0)
+
 -- .. by the column
 abbrev endByte : Column → (line : List ℕ) → (at : ℕ) → ℕ
 endByte number line at = pastDigits line at
 endByte signed line at = cond (eqb (getD line at 0) dash) (pastDigits line (at + 1)) (pastDigits line at)
 endByte share line at = cond (eqb (getD line at 0) dash) (getD line (at + 1) 0) (pastDigits line at)
+endByte power line at = pastPoint 3 line at
+endByte flow line at = cond (eqb (getD line at 0) dash) (pastPoint 3 line (at + 1)) (pastPoint 3 line at)
+endByte factor line at = cond (eqb (getD line at 0) dash) (pastPoint 5 line (at + 1)) (pastPoint 5 line at)
+
+-- k decimals that were read end in `stop`
+decimals-end : (minus : Bool) (line : List ℕ) (stop k at w v m : ℕ) → decimalsAt minus k line at w stop ≡ Value v m → getD line (at + k) 0 ≡ stop
+unfolding decimalsAt
+decimals-end minus line stop zero at w v m e = ap (λ (j : ℕ). getD line j 0) (add-zero at) ∙ go (minus && eqb w 0) (eqb (getD line at 0) stop) refl e
+  where
+    go : (t u : Bool) → eqb (getD line at 0) stop ≡ u → cond t (Bad (at - 1)) (cond u (Value w (at + 1)) (Bad at)) ≡ Value v m → getD line at 0 ≡ stop
+    go true u q e = absurd (no-value (at - 1) v m e)
+    go false true q e = eqb-true _ _ q
+    go false false q e = absurd (no-value at v m e)
+decimals-end minus line stop (suc k) at w v m e = go (decimals-end minus line stop k (at + 1) (w * 10 + (getD line at 0 - 48)) v m) (isDigit (getD line at 0)) e
+  where
+    go : (decimalsAt minus k line (at + 1) (w * 10 + (getD line at 0 - 48)) stop ≡ Value v m → getD line (at + 1 + k) 0 ≡ stop)
+        → (t : Bool) → cond t (decimalsAt minus k line (at + 1) (w * 10 + (getD line at 0 - 48)) stop) (Bad at) ≡ Value v m → getD line (at + suc k) 0 ≡ stop
+    go ih true e = let j : at + suc k ≡ at + 1 + k = omega arith in ap (λ (j : ℕ). getD line j 0) j ∙ ih e
+    go ih false e = absurd (no-value at v m e)
 
 module _ (line : List ℕ) (stop : ℕ) where
   number-end : (at v next : ℕ) → numberAt line at stop ≡ Value v next → pastDigits line at ≡ stop
@@ -57,6 +82,36 @@ module _ (line : List ℕ) (stop : ℕ) where
     negative-end (Value v m) q e = number-end (at + 1) v m q
     negative-end (Bad place) q e = absurd (no-whole _ z next e)
 
+    -- a number with its point, and a signed one
+    module _ (k : ℕ) where
+      point-end : (minus : Bool) (p v m : ℕ) → pointAt minus k line p stop ≡ Value v m → pastPoint k line p ≡ stop
+      unfolding pointAt
+      point-end minus p v m e = go (numberAt line p point) refl e
+        where
+          by : (w q : ℕ) (t : Bool) → cond t (decimalsAt minus k line q w stop) (Bad (p + wholeMost k)) ≡ Value v m → getD line (q + k) 0 ≡ stop
+          by w q true e = decimals-end minus line stop k q w v m e
+          by w q false e = absurd (no-value (p + wholeMost k) v m e)
+
+          go : (n : Number) → numberAt line p point ≡ n → afterWhole minus k line p stop n ≡ Value v m → withNumber n 0 (λ v next. getD line (next + k) 0) ≡ stop
+          go (Bad place) q e = absurd (no-value _ v m e)
+          go (Value w q) r e = by w q (leb (q - p) (wholeMost k + 1)) e
+
+      plus-end : (n : Number) → pointAt false k line at stop ≡ n → positive n ≡ Whole z next → pastPoint k line at ≡ stop
+      plus-end (Value v m) q e = point-end false at v m q
+      plus-end (Bad place) q e = absurd (no-whole place z next e)
+
+      minus-end : (n : Number) → pointAt true k line (at + 1) stop ≡ n → negated n ≡ Whole z next → pastPoint k line (at + 1) ≡ stop
+      minus-end (Value v m) q e = point-end true (at + 1) v m q
+      minus-end (Bad place) q e = absurd (no-whole place z next e)
+
+      signed-end : signedPointAt k line at stop ≡ Whole z next → cond (eqb (getD line at 0) dash) (pastPoint k line (at + 1)) (pastPoint k line at) ≡ stop
+      unfolding signedPointAt
+      signed-end e = go (eqb (getD line at 0) dash) e
+        where
+          go : (t : Bool) → cond t (negated (pointAt true k line (at + 1) stop)) (positive (pointAt false k line at stop)) ≡ Whole z next → cond t (pastPoint k line (at + 1)) (pastPoint k line at) ≡ stop
+          go true e = minus-end (pointAt true k line (at + 1) stop) refl e
+          go false e = plus-end (pointAt false k line at stop) refl e
+
     field-end : (c : Column) → fieldAt c line at stop ≡ Whole z next → endByte c line at ≡ stop
     unfolding fieldAt signedAt shareAt
     field-end number e = positive-end (numberAt line at stop) refl e
@@ -76,6 +131,9 @@ module _ (line : List ℕ) (stop : ℕ) where
             → cond t (getD line (at + 1) 0) (pastDigits line at) ≡ stop
         go true e = alone (eqb (getD line (at + 1) 0) stop) refl e
         go false e = positive-end (numberAt line at stop) refl e
+    field-end power e = plus-end 3 (pointAt false 3 line at stop) refl e
+    field-end flow e = signed-end 3 e
+    field-end factor e = signed-end 5 e
 
 -- ---- fields and a shorter list
 record First (s : Signed) (rest : ℕ → Values) (next : ℕ) : Type 0 where

@@ -13,13 +13,13 @@ use Rattle.text.specs.Line.{Line, holds, form, range, headed, ended}
 use Rattle.columns.specs.Columns.{Values, values, wrong, fieldsAt}
 
 -- an index that is not the line's own is bad where it begins
-abbrev pub ownIndex : (i : ℕ) → Number → Number
-ownIndex i (Value index next) = cond (eqb index i) (Value index next) (Bad 2)
-ownIndex i (Bad place) = Bad place
+abbrev pub ownIndex : (first i : ℕ) → Number → Number
+ownIndex first i (Value index next) = cond (eqb index i) (Value index next) (Bad first)
+ownIndex first i (Bad place) = Bad place
 
 -- letter and index, and the place after them; the letter's place is 0
 unfoldable pub indexAt : (sep letter : ℕ) → (line : List ℕ) → (i : ℕ) → Number
-indexAt sep letter line i = cond (headed letter sep line) (ownIndex i (numberAt line 2 sep)) (Bad 0)
+indexAt sep letter line i = cond (headed letter sep line) (ownIndex 2 i (numberAt line 2 sep)) (Bad 0)
 
 -- nothing follows the columns
 abbrev pub toEnd : (line : List ℕ) → Values → Values

@@ -4,16 +4,20 @@ use mathlib.Core.List.{List, [], _∷_, _++_}
 use Prim.Native.Nat.{ℕ, suc, _+_}
 use lib.IntN.{ℤ, pos}
 use lib.ListN.{length, getD, drop}
-use Rattle.kinds.specs.LineColumns.{Column, number, signed, share}
+use Rattle.kinds.specs.LineColumns.{Column, number, signed, share, power, flow, factor}
 use Rattle.text.specs.Fields.{feed}
 use Rattle.text.specs.Written.{decimal, decimalℤ, shareText}
-use Rattle.columns.specs.Columns.{stopOf}
+use Rattle.text.specs.Point.{pointedℤ}
+use Rattle.columns.specs.Columns.{powerDecimals, factorDecimals, stopOf}
 
 -- a column's field
 unfoldable pub fieldText : Column → ℤ → List ℕ
 fieldText number z = decimalℤ z
 fieldText signed z = decimalℤ z
 fieldText share z = shareText z
+fieldText power z = pointedℤ powerDecimals z
+fieldText flow z = pointedℤ powerDecimals z
+fieldText factor z = pointedℤ factorDecimals z
 
 -- the fields of columns, one value of zs for each (0 where zs is too short)
 unfoldable pub fieldsEnded : (sep last : ℕ) → List Column → (zs : List ℤ) → List ℕ

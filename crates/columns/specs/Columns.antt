@@ -1,20 +1,32 @@
 -- The fields of a list of columns (01, "The table as text"), read from left to right; which columns a line has is said in kinds, specs/LineColumns.antt.
 -- `fieldAt` and `fieldsAt` are what contracts cite. Left to others: the letter, the index and the end of the line (`ColumnLine.antt`), and ranges.
 use mathlib.Core.List.{List, [], _∷_}
+use mathlib.Core.Bool.{false}
 use Prim.Native.Nat.{ℕ}
 use lib.IntN.{ℤ}
-use Rattle.kinds.specs.LineColumns.{Column, number, signed, share}
+use Rattle.kinds.specs.LineColumns.{Column, number, signed, share, power, flow, factor}
 use Rattle.text.specs.declared.Signed.{Signed}
 use Rattle.text.specs.declared.Signed.the-variants.{Whole, Wrong}
 use Rattle.text.specs.Fields.{numberAt, positive, signedAt, shareAt}
+use Rattle.text.specs.Point.{pointAt, signedPointAt}
 use Rattle.columns.specs.declared.Fields.{Fields}
 use Rattle.columns.specs.declared.Fields.the-variants.{End, Bad}
+
+-- the decimals of a power, and of a factor, in the planners' sheet (02, E11)
+abbrev pub powerDecimals : ℕ
+powerDecimals = 3
+
+abbrev pub factorDecimals : ℕ
+factorDecimals = 5
 
 -- a column's field at a place, ended by `stop`
 unfoldable pub fieldAt : Column → (line : List ℕ) → (at stop : ℕ) → Signed
 fieldAt number line at stop = positive (numberAt line at stop)
 fieldAt signed line at stop = signedAt line at stop
 fieldAt share line at stop = shareAt line at stop
+fieldAt power line at stop = positive (pointAt false powerDecimals line at stop)
+fieldAt flow line at stop = signedPointAt powerDecimals line at stop
+fieldAt factor line at stop = signedPointAt factorDecimals line at stop
 
 -- what fields come to: their values from left to right and the place after them; or the first place that no good line could have
 pub data Values : Type 0 where

@@ -1,4 +1,5 @@
 pub mod Columns
 pub mod ColumnText
 pub mod ColumnLine
+pub mod Bare
 pub mod Optional

@@ -6,6 +6,8 @@ use text::field::number_at;
 use text::field::plus;
 use text::field::share_at;
 use text::field::signed_at;
+use text::point::point_at;
+use text::point::signed_point_at;
 ghost use mathlib.Core.Path.{_≡_};
 ghost use mathlib.Core.Bool.{cond};
 ghost use mathlib.Core.List.{_++_};
@@ -14,10 +16,17 @@ ghost use lib.Dec.{leb};
 ghost use lib.ListN.{length};
 ghost use Rattle.kinds.specs.LineColumns.{columnOf, columnsOf};
 ghost use Rattle.columns.specs.Columns.{fieldAt, fieldsAt, stored, badOf};
-ghost use Rattle.columns.specs.ColumnLine.{indexAt, restAt, headAt, columnsLine, plainLine};
+ghost use Rattle.columns.specs.ColumnLine.{ownIndex, indexAt, restAt, headAt, columnsLine, plainLine};
 
 // The fields of the columns from place `at` on into `out`, parted by `sep`, the last of them ended by `last`.
-fn fields_at(columns: &[u8], sep: u8, last: u8, line: &[u8], at: usize, out: &mut [i64]) -> Fields
+pub fn fields_at(
+    columns: &[u8],
+    sep: u8,
+    last: u8,
+    line: &[u8],
+    at: usize,
+    out: &mut [i64],
+) -> Fields
     requires { ⌜ length (now columns) ≡ length (now out) ⌝ }
     ensures { λ r. ⌜ stored r (now (out .exit)) ≡ fieldsAt sep last (columnsOf (now (columns .entry))) (now (line .entry)) at ⌝ }
 {
@@ -36,6 +45,11 @@ fn fields_at(columns: &[u8], sep: u8, last: u8, line: &[u8], at: usize, out: &mu
     Fields::End(p)
 }
 
+// The decimals of a power, and of a factor, in the planners' sheet.
+pub const POWER_DECIMALS: usize = 3;
+
+pub const FACTOR_DECIMALS: usize = 5;
+
 // The field of a column at a place, ended by `stop`.
 pub fn field_at(column: u8, line: &[u8], at: usize, stop: u8) -> Signed
     ensures { λ r. ⌜ r ≡ fieldAt (columnOf column) (now (line .entry)) at stop ⌝ }
@@ -43,6 +57,9 @@ pub fn field_at(column: u8, line: &[u8], at: usize, stop: u8) -> Signed
     match column {
         b'r' => share_at(line, at, stop),
         b's' => signed_at(line, at, stop),
+        b'p' => plus(point_at(false, POWER_DECIMALS, line, at, stop)),
+        b'q' => signed_point_at(POWER_DECIMALS, line, at, stop),
+        b'f' => signed_point_at(FACTOR_DECIMALS, line, at, stop),
         _ => plus(number_at(line, at, stop)),
     }
 }
@@ -119,18 +136,26 @@ fn index_at(sep: u8, letter: u8, line: &[u8], i: usize) -> Number
     if !text::line::headed(line, letter, sep) {
         return Number::Bad(0);
     }
-    let found = number_at(line, 2, sep);
-    let Number::Value(index, next) = found else {
-        return found;
-    };
-    if index == i as u64 {
-        return Number::Value(index, next);
+    own_index(2, i, number_at(line, 2, sep))
+}
+
+// An index as it was found, from place `first` on: another line's is bad there.
+pub fn own_index(first: usize, i: usize, found: Number) -> Number
+    ensures { λ r. ⌜ r ≡ ownIndex first i found ⌝ }
+{
+    match found {
+        Number::Value(index, next) => {
+            if index == i as u64 {
+                return Number::Value(index, next);
+            }
+            Number::Bad(first)
+        }
+        Number::Bad(place) => Number::Bad(place),
     }
-    Number::Bad(2)
 }
 
 // The columns from a place on, and then the line's end.
-fn rest_at(sep: u8, columns: &[u8], line: &[u8], at: usize, out: &mut [i64]) -> Fields
+pub fn rest_at(sep: u8, columns: &[u8], line: &[u8], at: usize, out: &mut [i64]) -> Fields
     requires { ⌜ length (now columns) ≡ length (now out) ⌝ }
     ensures { λ r. ⌜ stored r (now (out .exit)) ≡ restAt sep (columnsOf (now (columns .entry))) (now (line .entry)) at ⌝ }
 {

@@ -1,4 +1,8 @@
 // Writes the fields of columns into lent bytes at a place, and says how long they are. There is room: the length was counted before.
+use crate::read::FACTOR_DECIMALS;
+use crate::read::POWER_DECIMALS;
+use text::point::put_signed_point;
+use text::point::signed_point_length;
 ghost use mathlib.Core.Path.{_≡_};
 ghost use mathlib.Core.List.{[], _∷_, _++_};
 ghost use Prim.Native.Nat.{_+_, _<_, _≤_};
@@ -64,7 +68,14 @@ pub fn put_plain(
 }
 
 // The fields of the columns, one for each value, parted by `sep`, the last of them ended by `last`.
-fn put_fields(columns: &[u8], sep: u8, last: u8, values: &[i64], out: &mut [u8], at: usize) -> usize
+pub fn put_fields(
+    columns: &[u8],
+    sep: u8,
+    last: u8,
+    values: &[i64],
+    out: &mut [u8],
+    at: usize,
+) -> usize
     requires { ⌜ (length (now columns) ≡ length (now values)) × (at + length (fieldsEnded sep last (columnsOf (now columns)) (now values)) ≤ length (now out)) ⌝ }
     ensures { λ r. ⌜ Put (fieldsEnded sep last (columnsOf (now (columns .entry))) (now (values .entry))) at (now (out .entry)) r (now (out .exit)) ⌝ }
 {
@@ -95,10 +106,13 @@ fn put_value(column: u8, z: i64, out: &mut [u8], at: usize) -> usize
     requires { ⌜ at + length (fieldText (columnOf column) z) ≤ length (now out) ⌝ }
     ensures { λ r. ⌜ Put (fieldText (columnOf column) z) at (now (out .entry)) r (now (out .exit)) ⌝ }
 {
-    if column == b'r' {
-        return put_share(z, out, at);
+    match column {
+        b'r' => put_share(z, out, at),
+        b'p' => put_signed_point(POWER_DECIMALS, z, out, at),
+        b'q' => put_signed_point(POWER_DECIMALS, z, out, at),
+        b'f' => put_signed_point(FACTOR_DECIMALS, z, out, at),
+        _ => text::put::put_signed(z, out, at),
     }
-    text::put::put_signed(z, out, at)
 }
 
 // R as it was written: "-" is the one raw number below 0.
@@ -148,10 +162,13 @@ pub fn fields_length(columns: &[u8], values: &[i64]) -> usize
 fn field_length(column: u8, z: i64) -> usize
     ensures { λ r. ⌜ r ≡ length (fieldText (columnOf column) z) ⌝ }
 {
-    if column == b'r' {
-        return share_length(z);
+    match column {
+        b'r' => share_length(z),
+        b'p' => signed_point_length(POWER_DECIMALS, z),
+        b'q' => signed_point_length(POWER_DECIMALS, z),
+        b'f' => signed_point_length(FACTOR_DECIMALS, z),
+        _ => text::put::signed_length(z),
     }
-    text::put::signed_length(z)
 }
 
 fn share_length(z: i64) -> usize

@@ -9,11 +9,15 @@ use Prim.Native.Nat.{ℕ, zero, suc}
 use lib.Dec.{eqb}
 use lib.ListN.{length}
 
--- what a column's field may be: a number; a signed number; R, which is a number or "-"
+-- what a column's field may be: a number; a signed number; R, which is a number or "-"; and in the planners' sheet (02, E11) a power in MW with three
+-- decimals, a power that may be below 0, and a factor with five decimals
 pub data Column : Type 0 where
   number : Column
   signed : Column
   share : Column
+  power : Column
+  flow : Column
+  factor : Column
 
 -- H: zones, borders, rows
 abbrev pub headerColumns : List Column
@@ -77,9 +81,29 @@ factorColumns (suc zones) =
     signed  -- a zone's factor, hundred-thousandths
     ∷ factorColumns zones
 
+-- the same row in the planners' sheet (02, E11): the fields in the same order, the index first, and only the form of the numbers differs
+abbrev pub sheetColumns : List Column
+sheetColumns =
+    power  -- Fmax
+    ∷ power  -- FRM
+    ∷ flow  -- Fref
+    ∷ flow  -- F0all
+    ∷ share  -- R, ten-thousandths, or "-"
+    ∷ power  -- CVA
+    ∷ power  -- IVA
+    ∷ []
+
+-- .. the factors
+abbrev pub sheetFactors : (zones : ℕ) → List Column
+sheetFactors zero = []
+sheetFactors (suc zones) =
+    factor  -- a zone's factor
+    ∷ sheetFactors zones
+
 -- the byte by which the code names a column
 abbrev pub columnOf : ℕ → Column
-columnOf b = cond (eqb b (code "r")) share (cond (eqb b (code "s")) signed number)
+columnOf b =
+    cond (eqb b (code "r")) share (cond (eqb b (code "s")) signed (cond (eqb b (code "p")) power (cond (eqb b (code "q")) flow (cond (eqb b (code "f")) factor number))))
 
 abbrev pub columnsOf : List ℕ → List Column
 columnsOf [] = []

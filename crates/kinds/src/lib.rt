@@ -325,6 +325,9 @@ impl Row {
     // Fmax, FRM, Fref, F0all, R, CVA, IVA, and then one factor per zone: of these, as many as the table has zones.
     pub const COLUMNS: [u8; Row::ITEMS + Header::ZONES_MOST] = *b"nnssrnnssssssssssssssss";
 
+    // The same fields in the planners' sheet (02, E11).
+    pub const SHEET_COLUMNS: [u8; Row::ITEMS + Header::ZONES_MOST] = *b"ppqqrppffffffffffffffff";
+
     // kW.
     pub const FMAX_LEAST: i64 = 1;
 

@@ -63,7 +63,7 @@ row-read zones line i c e =
 
 -- ---- the other way
 -- R in range is kept as it may be: -1, or a share
-share-kept : (r : ℤ) → inside (minus 1) (pos shareMost) r ≡ true → ShareKept r
+pub share-kept : (r : ℤ) → inside (minus 1) (pos shareMost) r ≡ true → ShareKept r
 share-kept (pos n) e = omega (arith, leb→le n shareMost (inside-true (minus 1) (pos shareMost) (pos n) e .1 .le))
 share-kept (negsuc n) e = omega (arith, leb→le n 0 (inside-true (minus 1) (pos shareMost) (negsuc n) e .0 .le))
 

@@ -42,7 +42,7 @@ fn judged_in(line: &[u8], i: usize, f: &mut [i64]) -> RowJudged
     if table::row_good(raw, f) {
         return RowJudged::Holds;
     }
-    RowJudged::Range(blame::range::row_range(b'\t', raw, f, line))
+    RowJudged::Range(blame::range::row_range(b'\t', FIRST_SEP, raw, f, line))
 }
 
 // The byte to blame in a C line of wrong form.
@@ -52,6 +52,9 @@ fn row_bad(zones: usize, line: &[u8], i: usize) -> usize
 {
     blame::line_byte(b'\t', b'C', &Row::COLUMNS[..Row::ITEMS + zones], line, i)
 }
+
+// The first value follows the line's second tab: letter and index stand before it.
+const FIRST_SEP: usize = 2;
 
 // Fills a row's stretch of the factors from its C line, which was judged before, and answers its raw record.
 pub fn row_filled(line: &[u8], i: usize, f: &mut [i64]) -> RowRecord

@@ -6,6 +6,7 @@ use crate::arguments;
 use crate::arguments::Held;
 use crate::output;
 use crate::output::Ended;
+use crate::rows;
 use crate::sheets;
 use crate::sheets::Rows;
 use crate::texts;
@@ -15,6 +16,9 @@ pub enum Task {
     Text(Word),
     // printed row by row
     Corners(Rows),
+    // the rows as a sheet, or the table with the rows of the sheet in a file
+    Sheet,
+    Filled,
 }
 
 pub enum Asked {
@@ -35,6 +39,9 @@ pub fn understand(word: usize, after: usize) -> Asked {
     }
     if arguments::is(word, b"corners") {
         return corners(after);
+    }
+    if arguments::is(word, b"rows") {
+        return sheet_or_file(after);
     }
     if arguments::is(word, b"claims") {
         return with_file(Word::Claims, word, after);
@@ -87,11 +94,21 @@ fn with_file(text: Word, word: usize, after: usize) -> Asked {
     text_of(text)
 }
 
+// A file may.
+fn sheet_or_file(after: usize) -> Asked {
+    if after == 0 {
+        return Asked::Task(Task::Sheet);
+    }
+    Asked::Task(Task::Filled)
+}
+
 // Which argument names the file that goes with a task, of what stands after its word; 0 where none goes with it.
 pub fn file_of(task: Task, after: usize) -> usize {
     match task {
         Task::Text(word) => file_with(word, after),
         Task::Corners(_) => 0,
+        Task::Sheet => 0,
+        Task::Filled => after,
     }
 }
 
@@ -121,6 +138,8 @@ pub fn takes_marks(task: Task) -> bool {
     match task {
         Task::Text(word) => marks_go_with(word),
         Task::Corners(_) => false,
+        Task::Sheet => false,
+        Task::Filled => false,
     }
 }
 
@@ -149,6 +168,8 @@ pub fn print<'a>(
     match task {
         Task::Text(word) => print_text(word, all, marks, file, text, sheet, out),
         Task::Corners(rows) => sheets::print(text, sheet, rows, out),
+        Task::Sheet => rows::print(false, file, text, sheet, out),
+        Task::Filled => rows::print(true, file, text, sheet, out),
     }
 }
 

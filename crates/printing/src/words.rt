@@ -23,6 +23,14 @@ pub fn usage(fd: i32) -> bool {
         )
         && io::write_all(
             fd,
+            b"       keravnoth rows < TABLE         the rows as a semicolon sheet\n",
+        )
+        && io::write_all(
+            fd,
+            b"       keravnoth rows FILE < TABLE    the table with all its rows taken from the sheet FILE\n",
+        )
+        && io::write_all(
+            fd,
             b"       keravnoth bound < TABLE        how many rounds there can be at most: U, N, L, 2 N L\n",
         )
         && io::write_all(
@@ -60,7 +68,7 @@ fn options(fd: i32) -> bool {
 pub fn version(fd: i32) -> bool {
     io::write_all(
         fd,
-        b"keravnoth: rules: document 01; requests of document 02: E1, E2, E3, E4, E5, E6, E7, E8, E9, E10, E12, E13, E14; C interface: 12\n",
+        b"keravnoth: rules: document 01; requests of document 02: E1, E2, E3, E4, E5, E6, E7, E8, E9, E10, E11, E12, E13, E14; C interface: 13\n",
     )
         && io::write_all(fd, b"proved in the Rattle kit's logic 064da1ca440f63e7\n")
 }

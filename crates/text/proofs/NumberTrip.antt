@@ -76,7 +76,7 @@ decimal-of f n h = text-enough n f n (under-pow n) h
 pub decimal-ten : (n : ℕ) → n < 10 ^ 10 → decimal n ≡ textOf 10 n
 decimal-ten n h = decimal-of 9 n h
 
-is-digit : (d : ℕ) → d < 10 → isDigit (48 + d) ≡ true
+pub is-digit : (d : ℕ) → d < 10 → isDigit (48 + d) ≡ true
 is-digit d h =
     let a : 48 ≤ 48 + d = omega arith in
     let b : 48 + d < 58 = omega arith in
@@ -221,7 +221,7 @@ plain-parts d e =
       ⊎-elim (λ (t : leb (length d) 1 ≡ true). inl (leb-true _ _ t)) (λ (t : eqb (getD d 0 0) 48 ≡ false). inr (eqb-false _ _ t)) (or-either (leb (length d) 1) (eqb (getD d 0 0) 48) (b .1)),
     )
 
-value-small : (v n : ℕ) (s : List ℕ) → digits s ≡ s → v < 10 ^ n → value v s < 10 ^ (n + length s)
+pub value-small : (v n : ℕ) (s : List ℕ) → digits s ≡ s → v < 10 ^ n → value v s < 10 ^ (n + length s)
 value-small v n [] e h = rw (add-zero n) h
 value-small v n (b ∷ s) e h =
     let k = digits-cons b s e in

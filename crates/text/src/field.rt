@@ -83,7 +83,7 @@ pub fn share_at(line: &[u8], at: usize, stop: u8) -> Signed
     plus(number_at(line, at, stop))
 }
 
-fn has_minus(line: &[u8], at: usize) -> bool
+pub fn has_minus(line: &[u8], at: usize) -> bool
     ensures { λ r. ⌜ r ≡ eqb (getD (now (line .entry)) at 0) dash ⌝ }
 {
     let Class::Minus = class_of(byte_at(line, at)) else {
@@ -93,7 +93,7 @@ fn has_minus(line: &[u8], at: usize) -> bool
 }
 
 // The byte at a place, 0 past the line's end.
-fn byte_at(line: &[u8], at: usize) -> u8
+pub fn byte_at(line: &[u8], at: usize) -> u8
     ensures { λ r. ⌜ r ≡ getD (now (line .entry)) at 0 ⌝ }
 {
     if at < line.len() { line[at] } else { 0 }

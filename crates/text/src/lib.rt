@@ -1,6 +1,7 @@
 // One line of text: its bytes, its fields, where it ends, and how it is written.
 pub mod field;
 pub mod line;
+pub mod point;
 pub mod put;
 
 // What a byte of a field is; a digit with its value.

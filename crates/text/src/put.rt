@@ -67,7 +67,7 @@ pub fn put_number(n: u64, out: &mut [u8], at: usize) -> usize
     next
 }
 
-fn digit(d: u64) -> u8
+pub fn digit(d: u64) -> u8
     requires { ⌜ d < 10 ⌝ }
     ensures { λ r. ⌜ r ≡ 48 + d ⌝ }
 {

@@ -2,6 +2,7 @@
 use mathlib.Core.Path.{_≡_, sym, ap, _∙_}
 use mathlib.Core.Bool.{Bool}
 use mathlib.Core.List.{List}
+use native.Mathlib.Omega.{arith}
 use borrow.Author.Needs.{needs}
 use Rattle.numbers.proofs.IntLaws.{plain}
 use Rattle.blame.specs.RangeBlame.{rangeByte, rowTests, factorTests}
@@ -13,7 +14,7 @@ abbrev entry : tie.After-values-range → tie.Start
 entry c = c .before .before .before .before .before .before .before .before .before
 
 -- the byte of the seven values
-valued : (c : tie.After-values-range) → c .values-range .result ≡ rangeByte (entry c .args .sep) (rowTests (entry c .args .t2)) 2 (entry c .args .line .now)
+valued : (c : tie.After-values-range) → c .values-range .result ≡ rangeByte (entry c .args .sep) (rowTests (entry c .args .t3)) (entry c .args .k) (entry c .args .line .now)
 valued c =
     let a = entry c .args in
     let at-iva = c .before in
@@ -24,9 +25,9 @@ valued c =
     let at-frm = at-fref .before in
     let at-fmax = at-frm .before in
     c .values-range .ensures
-    ∙ ap (λ (ts : List Bool). rangeByte (a .sep) ts 2 (a .line .now))
+    ∙ ap (λ (ts : List Bool). rangeByte (a .sep) ts (a .k) (a .line .now))
     (row-same
-    (a .t2)
+    (a .t3)
     _
     _
     _
@@ -46,14 +47,14 @@ returns : tie.Need-returns
 returns c =
     let at-values = c .before .before in
     let a = entry at-values .args in
-    c .factors-range .ensures ∙ range-later (a .sep) (factorTests (a .f .now)) (a .line .now) (rowTests (a .t2)) 2 (sym (valued at-values) ∙ c .before .if1 .taken)
+    c .factors-range .ensures ∙ range-later (a .sep) (factorTests (a .f .now)) (a .line .now) (rowTests (a .t3)) (a .k) (sym (valued at-values) ∙ c .before .if1 .taken)
 
 returns-2 : tie.Need-returns-2
 returns-2 c =
     let at-values = c .before in
     let a = entry at-values .args in
     let q = valued at-values in
-    q ∙ range-first (a .sep) (factorTests (a .f .now)) (a .line .now) (rowTests (a .t2)) 2 (λ z. c .if1 .left (q ∙ z))
+    q ∙ range-first (a .sep) (factorTests (a .f .now)) (a .line .now) (rowTests (a .t3)) (a .k) (λ z. c .if1 .left (q ∙ z))
 
 pub row-range-spec : {M : Type 1} → statement M
 row-range-spec =
@@ -66,7 +67,8 @@ row-range-spec =
     (λ c. search needs)
     (λ c. search needs)
     (λ c. search needs)
-    (λ c κs. search needs)
-    (λ c κs. search needs)
+    (λ c κs. omega (arith, c .before .before .before .before .before .before .before .before .pre))
+    (λ c. omega (arith, entry (c .before) .pre))
+    (λ c κs. omega (arith, entry (c .before) .pre))
     returns
     returns-2)

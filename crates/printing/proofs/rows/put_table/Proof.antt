@@ -1,0 +1,13 @@
+-- `printing::rows::put_table` meets its contract: the law `table-printed`.
+use borrow.Author.Needs.{needs}
+use Rattle.printing.proofs.RowsLaws.{table-printed}
+use Rattle.printing.proofs.rows.put_table.Statement.{statement}
+use Rattle.printing.proofs.rows.put_table.Tie as tie
+
+returns : tie.Need-returns
+returns c =
+    let said = c .before .before .before .before .before .before .write in
+    table-printed _ _ (said .result) (c .before .before .before .before .before .before .before .before .before .pre) (said .ensures) (c .before .before .told .ensures)
+
+pub put-table-spec : {M : Type 1} → statement M
+put-table-spec = tie.close (tie.spec (λ c κs. search needs) (λ c κs. search needs) (λ c. search needs) returns)

@@ -1,0 +1,71 @@
+-- How long a sheet gets (specs/RowSheet.antt): each line, and by the longest line all of them. The bound is rough: only that it is no more than 65,536 bytes
+-- is asked. No contract cites this file.
+use mathlib.Core.Path.{_≡_, refl, ap, _∙_}
+use mathlib.Core.Bool.{true}
+use mathlib.Core.List.{List, [], _∷_, _++_}
+use Prim.Native.Nat.{ℕ, suc, _+_, _*_, _/_, _^_, _≤_, _<_}
+use native.Mathlib.Omega.{arith}
+use lib.IntN.{ℤ, pos, negsuc, natAbs}
+use lib.ListN.{length}
+use Rattle.kinds.specs.Limits.{zonesMost, rowsMost}
+use Rattle.kinds.specs.LineColumns.{sheetColumns, sheetFactors}
+use Rattle.kinds.specs.Ranges.{atℤ, rowOf, rowFits, factorFits}
+use Rattle.kinds.proofs.KindLaws.{row-in, factor-in}
+use Rattle.text.specs.Written.{decimal, shareText}
+use Rattle.text.specs.Point.{pointed, pointedℤ}
+use Rattle.text.proofs.FieldTrip.{ShareKept}
+use Rattle.text.proofs.WrittenLaws.{decimal-long}
+use Rattle.text.proofs.PointLaws.{pointed-long}
+use Rattle.columns.specs.ColumnText.{fieldText, fieldsLength, numbersOf}
+use Rattle.columns.proofs.ColumnPut.{length-parts}
+use Rattle.columns.proofs.BareLaws.{bare-long}
+use Rattle.table.specs.Table.{rowGood}
+use Rattle.table.proofs.GoodLaws.{row-good}
+use Rattle.lines.proofs.RowTrip.{share-kept}
+use Rattle.rowsheet.specs.SheetLine.{semicolon, sheetText}
+
+-- ten digits, a point and a minus
+power-most : (z : ℤ) → natAbs z < 10 ^ 10 → length (pointedℤ 3 z) ≤ 12
+unfolding pointedℤ
+power-most (pos n) h = omega (arith, pointed-long 3 n, decimal-long 6 (n / 10 ^ 3) (omega arith))
+power-most (negsuc n) h = omega (arith, pointed-long 3 (suc n), decimal-long 6 (suc n / 10 ^ 3) (omega arith))
+
+factor-most : (z : ℤ) → natAbs z < 10 ^ 10 → length (pointedℤ 5 z) ≤ 12
+unfolding pointedℤ
+factor-most (pos n) h = omega (arith, pointed-long 5 n, decimal-long 4 (n / 10 ^ 5) (omega arith))
+factor-most (negsuc n) h = omega (arith, pointed-long 5 (suc n), decimal-long 4 (suc n / 10 ^ 5) (omega arith))
+
+-- R is "-", or a number
+share-most : (r : ℤ) → ShareKept r → length (shareText r) ≤ 10
+share-most (pos n) h = decimal-long 9 n h
+share-most (negsuc n) h = omega arith
+
+each-most : (zs : List ℤ) → ((z : ℕ) → z < length zs → factorFits (atℤ zs z) ≡ true) → fieldsLength (sheetFactors (length zs)) zs ≤ length zs * 13
+unfolding fieldsLength fieldText
+each-most [] h = omega arith
+each-most (y ∷ zs) h = omega (arith, factor-most y (omega (arith, factor-in y (h 0 (omega arith)) .abs)), each-most zs (λ z l. h (suc z) (omega arith)))
+
+values-most : (values : List ℤ) → rowFits values ≡ true → fieldsLength sheetColumns (numbersOf sheetColumns values) ≤ 89
+unfolding rowOf fieldsLength fieldText
+values-most values e =
+    let k = row-in values e in
+    omega (
+      arith,
+      power-most (atℤ values 0) (omega (arith, k .fmax .most)),
+      power-most (atℤ values 1) (omega (arith, k .fmax .most, k .frm .most)),
+      power-most (atℤ values 2) (omega (arith, k .fref .abs)),
+      power-most (atℤ values 3) (omega (arith, k .f0all .abs)),
+      share-most (atℤ values 4) (share-kept (atℤ values 4) (k .share)),
+      power-most (atℤ values 5) (omega (arith, k .cva .most)),
+      power-most (atℤ values 6) (omega (arith, k .iva .most)),
+    )
+
+-- a line
+abbrev pub lineMost : ℕ
+lineMost = 301
+
+pub line-most : (i : ℕ) (values factors : List ℤ) → i < rowsMost → rowGood values factors ≡ true → length factors ≤ zonesMost → length (sheetText i values factors) ≤ lineMost
+line-most i values factors l e few =
+    let g = row-good values factors e in
+    rw (bare-long semicolon (sheetColumns ++ sheetFactors (length factors)) i (numbersOf sheetColumns values ++ factors))
+    (omega (arith, length-parts sheetColumns (sheetFactors (length factors)) (numbersOf sheetColumns values) factors refl, values-most values (g .0), each-most factors (g .1), decimal-long 2 i (omega arith)))

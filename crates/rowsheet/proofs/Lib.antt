@@ -1,0 +1,9 @@
+pub mod Anchors
+pub mod LineJudge
+pub mod LineTrip
+pub mod LengthLaws
+pub mod SheetLaws
+pub mod WriteLaws
+pub mod SheetTrip
+pub mod Unique
+pub mod UniqueSheet

@@ -1,0 +1,215 @@
+-- The round trip of the planners' sheet (02, E11), both ways: rows that were read and are written again give the same text (`read-write`), and rows that are
+-- written read back as themselves (`write-read`); the same of what the calls leave is `read-then-write` and `write-then-read`.
+use mathlib.Core.Path.{_≡_, refl, sym, ap, ap₂, subst, _∙_}
+use mathlib.Core.Bool.{true, false, not, cond}
+use mathlib.Core.List.{List, [], _∷_, _++_, append-nil}
+use Prim.Native.Nat.{ℕ, _+_, _*_, _^_, _≤_, _<_}
+use native.Mathlib.Nat.{zero-add, mul-le-mul-right}
+use native.Mathlib.Omega.{arith}
+use borrow.Author.Tests.{le-ltb, not-false}
+use lib.Dec.{ltb}
+use lib.IntN.{ℤ}
+use lib.ListN.{length, getD, take, drop, drop-of-length-le, length-drop, length-append}
+use lib.Seq.{take-at, take-all, length-take-le}
+use Rattle.numbers.specs.Below.{over}
+use Rattle.kinds.specs.declared.Header.{Header}
+use Rattle.kinds.specs.LineColumns.{rowItems}
+use Rattle.kinds.specs.Limits.{bytesMost, rowsMost, zonesMost}
+use Rattle.kinds.specs.Ranges.{headerFits}
+use Rattle.kinds.specs.Refusals.{Judged, passed, refused, wrongForm, outOfRange}
+use Rattle.kinds.proofs.KindLaws.{header-in}
+use Rattle.kinds.proofs.RefusalLaws.{passed-is, then-next, then-passed, either-passed, answer-passed, unless-ok, unless-passed, none-next, none-passed}
+use Rattle.text.specs.Left.{TextLeft, textLeft}
+use Rattle.text.specs.Written.{linesText}
+use Rattle.text.proofs.LeftLaws.{text-left}
+use Rattle.text.proofs.PutLaws.{lines-most}
+use Rattle.block.specs.Block.{read, linesAt, withLines}
+use Rattle.block.proofs.BlockLaws.{blockText, allFit, block-read}
+use Rattle.block.proofs.RunLaws.{fits-at, fits-all, lines-block, lines-goes}
+use Rattle.table.specs.Table.{rowGood, stretch}
+use Rattle.table.proofs.GoodLaws.{stretch-long}
+use Rattle.lines.specs.Lines.{RowLine}
+use Rattle.lines.proofs.RowTrip.{RowHeld, RowHeldAt}
+use Rattle.runs.specs.Rows.{valuesOf, factorsOf}
+use Rattle.runs.proofs.RowLaws.{emptyRow, values-at, stretch-of, cut, cut-long, cut-values, cut-factors, cut-at}
+use Rattle.rowsheet.specs.SheetLine.{sheetLine, sheetText}
+use Rattle.rowsheet.specs.RowSheet.{Rows, rowsOf, firstLineNo, sheetRows, readSheet, rowRoom, RowsLeft, readRowsLeft, sheetTextAt, sheetOf, rowsInRange, judgeRows, writeRowsLeft}
+use Rattle.rowsheet.proofs.LineTrip.{lineTextOf, line-read, line-written, line-one}
+use Rattle.rowsheet.proofs.LengthLaws.{lineMost, line-most}
+use Rattle.rowsheet.proofs.SheetLaws.{SheetRun, sheet-run, rows-many, factors-many, room-passed, room-enough}
+
+-- ---- the sheet of rows is the lines that hold them
+module _ (zones : ℕ) (t : Rows) (lines : List RowLine) (values-are : valuesOf lines ≡ t .rows) (factors-are : factorsOf lines ≡ t .factors) (many : length lines ≡ length (t .rows)) (held : allFit (RowHeldAt zones) 0 lines) where
+  sheet-block : sheetOf zones t ≡ blockText lineTextOf 0 lines
+  unfolding sheetOf
+  sheet-block =
+      subst (λ (n : ℕ). linesText n 0 (sheetTextAt zones (t .rows) (t .factors)) ≡ blockText lineTextOf 0 lines) many
+      (lines-block lineTextOf emptyRow lines 0 _ (λ k h. rw (zero-add k) (line k h)))
+    where
+      line : (k : ℕ) → k < length lines → sheetTextAt zones (t .rows) (t .factors) k ≡ lineTextOf k (getD lines k emptyRow)
+      line k h =
+          ap₂ (λ (v f : List ℤ). sheetText k v f)
+          (ap (λ (rows : List (List ℤ)). getD rows k []) (sym values-are) ∙ values-at lines k)
+          (ap (λ (f : List ℤ). stretch zones f k) (sym factors-are) ∙ stretch-of zones lines 0 held k h)
+
+-- ---- read, and written again
+pub read-write : (h : Header) (sheet : List ℕ) (t : Rows) → readSheet h sheet ≡ passed t → sheetOf (h .zones) t ≡ sheet
+read-write h sheet t e =
+    let u = sheet-run h sheet t e in
+    let b = block-read (sheetLine (h .zones)) firstLineNo lineTextOf (λ line i c q. line-read (h .zones) line i c q .0) (h .rows) sheet 0 0 (u .lines) (u .end) (u .run) .0 in
+    let none : drop (u .end) sheet ≡ [] = drop-of-length-le sheet (u .last) in
+    sheet-block (h .zones) t (u .lines) (sym (ap (λ (r : Rows). r .rows) (u .is))) (sym (ap (λ (r : Rows). r .factors) (u .is))) (u .many ∙ sym (rows-many u)) (u .held)
+    ∙ sym (append-nil (blockText lineTextOf 0 (u .lines))) ∙ ap (λ (l : List ℕ). blockText lineTextOf 0 (u .lines) ++ l) (sym none) ∙ sym b
+
+-- ---- what judging gives
+pub record RowsJudged (h : Header) (c : List (List ℤ)) (f : List ℤ) (t : Rows) : Type 0 where
+  pub fits : headerFits h ≡ true
+  pub rows-room : h .rows ≤ length c
+  pub factors-room : h .rows * h .zones ≤ length f
+  pub is : t ≡ record { rows = take (h .rows) c; factors = take (h .rows * h .zones) f }
+  pub rows-long : length (t .rows) ≡ h .rows
+  pub factors-long : length (t .factors) ≡ h .rows * h .zones
+  pub good : (i : ℕ) → i < h .rows → rowGood (getD (t .rows) i []) (stretch (h .zones) (t .factors) i) ≡ true
+
+pub rows-judged : (h : Header) (c : List (List ℤ)) (f : List ℤ) (t : Rows) → judgeRows h c f ≡ passed t → RowsJudged h c f t
+unfolding judgeRows rowsInRange
+rows-judged h c f t e =
+    let a = unless-passed t _ _ _ e in
+    let b = room-passed h (length c) (length f) _ t (a .1) in
+    let r = none-passed _ _ _ _ t (b .2) in
+    let is : record { rows = take (h .rows) c; factors = take (h .rows * h .zones) f } ≡ t = passed-is _ t (r .1) in
+    let rows-long : length (take (h .rows) c) ≡ h .rows = length-take-le (h .rows) c (b .0) in
+    let factors-long : length (take (h .rows * h .zones) f) ≡ h .rows * h .zones = length-take-le (h .rows * h .zones) f (b .1) in
+    subst (RowsJudged h c f) is
+    (record {
+      fits = a .0;
+      rows-room = b .0;
+      factors-room = b .1;
+      is = refl;
+      rows-long = rows-long;
+      factors-long = factors-long;
+      good = λ i l. not-false _ (r .0 i (omega (arith, rows-long)));
+    })
+
+-- ---- written, and read again
+-- what a lent row record's type says of it: seven numbers
+abbrev pub Wide : Header → Rows → Type 0
+Wide h t = (i : ℕ) → i < h .rows → length (getD (t .rows) i []) ≡ rowItems
+
+module _ (h : Header) (t : Rows) (fits : headerFits h ≡ true) (rows-long : length (t .rows) ≡ h .rows) (factors-long : length (t .factors) ≡ h .rows * h .zones)
+    (good : (i : ℕ) → i < h .rows → rowGood (getD (t .rows) i []) (stretch (h .zones) (t .factors) i) ≡ true) where
+  lines : List RowLine
+  lines = cut (h .zones) (t .rows) (t .factors)
+
+  lines-long : length lines ≡ h .rows
+  unfolding lines
+  lines-long = cut-long (h .zones) (t .rows) (t .factors) ∙ rows-long
+
+  values-are : valuesOf lines ≡ t .rows
+  unfolding lines
+  values-are = cut-values (h .zones) (t .rows) (t .factors)
+
+  factors-are : factorsOf lines ≡ t .factors
+  unfolding lines
+  factors-are = cut-factors (h .zones) (t .rows) (t .factors) (factors-long ∙ ap (λ (n : ℕ). n * h .zones) (sym rows-long))
+
+  -- refusal 1 is never given of rows that were written
+  pub never-too-long : length (sheetOf (h .zones) t) ≤ bytesMost
+  unfolding sheetOf
+  never-too-long =
+      let k = header-in h fits in
+      let most = lines-most (sheetTextAt (h .zones) (t .rows) (t .factors)) (length (t .rows)) {q = lineMost} (λ i l.
+      let j : i < h .rows = omega (arith, rows-long) in
+      line-most i (getD (t .rows) i []) (stretch (h .zones) (t .factors) i) (omega (arith, k .rows-most)) (good i j) (omega (arith, stretch-long (h .zones) (h .rows) (t .factors) factors-long i j, k .zones-most))) in
+      let le : length (t .rows) * lineMost ≤ rowsMost * lineMost = mul-le-mul-right {m = length (t .rows)} {n = rowsMost} lineMost (omega (arith, rows-long, k .rows-most)) in
+      omega arith
+
+  module _ (wide : Wide h t) where
+    row-held : (i : ℕ) → i < h .rows → RowHeld (h .zones) (getD lines i emptyRow)
+    unfolding lines
+    row-held i l =
+        let v : getD (t .rows) i [] ≡ getD lines i emptyRow .values = ap (λ (rows : List (List ℤ)). getD rows i []) (sym values-are) ∙ values-at lines i in
+        let f : stretch (h .zones) (t .factors) i ≡ getD lines i emptyRow .factors = sym (cut-at (h .zones) (t .rows) (t .factors) i (omega (arith, rows-long))) in
+        record {
+          wide = ap length (sym v) ∙ wide i l;
+          long = ap length (sym f) ∙ stretch-long (h .zones) (h .rows) (t .factors) factors-long i l;
+          good = rw (← v, ← f) (good i l);
+        }
+
+    abbrev Fits : ℕ → RowLine → Type 0
+    Fits i c = (i < 10 ^ 10) × RowHeld (h .zones) c
+
+    fit : allFit Fits 0 lines
+    fit = fits-all Fits emptyRow lines 0 (λ k l. (omega (arith, lines-long, header-in h fits .rows-most), row-held k (omega (arith, lines-long))))
+
+    held : allFit (RowHeldAt (h .zones)) 0 lines
+    held = fits-all (RowHeldAt (h .zones)) emptyRow lines 0 (λ k l. row-held k (omega (arith, lines-long)))
+
+    back : sheetRows h (sheetOf (h .zones) t) ≡ passed t
+    back =
+        let sheet = sheetOf (h .zones) t in
+        let here : drop 0 sheet ≡ blockText lineTextOf 0 lines ++ [] = sheet-block (h .zones) t lines values-are factors-are (lines-long ∙ sym rows-long) held ∙ sym (append-nil (blockText lineTextOf 0 lines)) in
+        lines-goes (sheetLine (h .zones)) firstLineNo lineTextOf Fits (λ i c q. line-written (h .zones) c (q .1) i (q .0)) line-one
+        (λ xs e. cond (ltb e (length sheet)) (refused (wrongForm (firstLineNo + h .rows))) (passed (rowsOf xs))) (passed t) lines (h .rows) sheet 0 [] lines-long here fit (λ next none. ended next none)
+      where
+        ended : (next : ℕ) → drop next (sheetOf (h .zones) t) ≡ [] → cond (ltb next (length (sheetOf (h .zones) t))) (refused (wrongForm (firstLineNo + h .rows))) (passed (rowsOf lines)) ≡ passed t
+        ended next none =
+            let past : length (sheetOf (h .zones) t) ≤ next = omega (arith, length-drop next (sheetOf (h .zones) t), ap length none) in
+            rw (le-ltb next (length (sheetOf (h .zones) t)) past) (ap passed (ap₂ {C = Rows} (λ (r : List (List ℤ)) (f : List ℤ). record { rows = r; factors = f }) values-are factors-are))
+
+    pub write-read : readSheet h (sheetOf (h .zones) t) ≡ passed t
+    unfolding readSheet
+    write-read = rw (le-ltb bytesMost (length (sheetOf (h .zones) t)) never-too-long) (unless-ok _ _ fits ∙ back)
+
+-- ---- the same of the calls
+-- what `read_rows` left, `write_rows` writes again as the very sheet it was read from
+pub record RowsTaken (h : Header) (sheet : List ℕ) (c : List (List ℤ)) (f : List ℤ) : Type 0 where
+  pub it : Rows
+  pub read : readSheet h sheet ≡ passed it
+  pub left : readRowsLeft h sheet c f ≡ record { answer = passed tt; c = over (it .rows) c; f = over (it .factors) f }
+
+pub rows-taken : (h : Header) (sheet : List ℕ) (c : List (List ℤ)) (f : List ℤ) → readRowsLeft h sheet c f .answer ≡ passed tt → RowsTaken h sheet c f
+unfolding readRowsLeft
+rows-taken h sheet c f e =
+    let d = answer-passed _ _ _ (λ (l : RowsLeft). l .answer) tt (λ w. refl) e in
+    let r = then-passed (readSheet h sheet) _ (d .0) (d .1) in
+    let n = room-passed h (length c) (length f) _ (d .0) (r .second) in
+    record { it = r .it; read = r .first; left = either-passed _ _ (then-next _ (r .first) ∙ sym (room-enough h (length c) (length f) (passed (r .it)) (n .0) (n .1))) }
+
+-- rows that were read are judged good, whatever stands behind them
+read-judged : (h : Header) (sheet : List ℕ) (t : Rows) (c : List (List ℤ)) (f : List ℤ) → readSheet h sheet ≡ passed t → judgeRows h (over (t .rows) c) (over (t .factors) f) ≡ passed t
+unfolding judgeRows rowsInRange
+read-judged h sheet t c f e =
+    let u = sheet-run h sheet t e in
+    let n = rows-many u in
+    let m = factors-many u in
+    let rows : take (h .rows) (over (t .rows) c) ≡ t .rows = take-at (t .rows) _ (h .rows) n in
+    let factors : take (h .rows * h .zones) (over (t .factors) f) ≡ t .factors = take-at (t .factors) _ (h .rows * h .zones) m in
+    unless-ok _ _ (u .fits)
+    ∙ sym (room-enough h _ _ _ (omega (arith, n, length-append (t .rows) (drop (length (t .rows)) c))) (omega (arith, m, length-append (t .factors) (drop (length (t .factors)) f))))
+    ∙ rw (rows, factors) (none-next _ _ _ _ (λ i l. ap not (in-range u i (omega (arith, n)))))
+  where
+    in-range : (u : SheetRun h sheet t) (i : ℕ) → i < h .rows → rowGood (getD (t .rows) i []) (stretch (h .zones) (t .factors) i) ≡ true
+    in-range u i l =
+        let row = fits-at (RowHeldAt (h .zones)) emptyRow (u .lines) 0 (u .held) i (omega (arith, u .many)) in
+        let v : getD (t .rows) i [] ≡ getD (u .lines) i emptyRow .values = ap (λ (r : Rows). getD (r .rows) i []) (u .is) ∙ values-at (u .lines) i in
+        let k : stretch (h .zones) (t .factors) i ≡ getD (u .lines) i emptyRow .factors = ap (λ (r : Rows). stretch (h .zones) (r .factors) i) (u .is) ∙ stretch-of (h .zones) (u .lines) 0 (u .held) i (omega (arith, u .many)) in
+        rw (v, k) (row .good)
+
+pub read-then-write : (h : Header) (sheet : List ℕ) (c : List (List ℤ)) (f : List ℤ) (out : List ℕ) → let r = readRowsLeft h sheet c f in r .answer ≡ passed tt → length sheet ≤ length out
+    → writeRowsLeft h (r .c) (r .f) out ≡ record { answer = passed (length sheet); out = over sheet out }
+unfolding writeRowsLeft
+read-then-write h sheet c f out e room =
+    let u = rows-taken h sheet c f e in
+    let t = u .it in
+    ap (λ (l : RowsLeft). writeRowsLeft h (l .c) (l .f) out) (u .left)
+    ∙ ap (λ (j : Judged (List ℕ)). textLeft j out) (then-next _ (read-judged h sheet t c f (u .read)) ∙ ap passed (read-write h sheet t (u .read)))
+    ∙ text-left sheet out room
+
+-- what `write_rows` wrote, `read_rows` reads back into tables with room for it: the records and factors that were lent, as many as the header says
+pub write-then-read : (h : Header) (c : List (List ℤ)) (f : List ℤ) (t : Rows) (c′ : List (List ℤ)) (f′ : List ℤ) → judgeRows h c f ≡ passed t → Wide h t → h .rows ≤ length c′ → h .rows * h .zones ≤ length f′
+    → readRowsLeft h (sheetOf (h .zones) t) c′ f′ ≡ record { answer = passed tt; c = over (t .rows) c′; f = over (t .factors) f′ }
+unfolding readRowsLeft
+write-then-read h c f t c′ f′ e wide hc hf =
+    let j = rows-judged h c f t e in
+    either-passed _ _ (then-next _ (write-read h t (j .fits) (j .rows-long) (j .factors-long) (j .good) wide) ∙ sym (room-enough h (length c′) (length f′) (passed t) hc hf))
