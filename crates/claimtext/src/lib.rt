@@ -39,7 +39,7 @@ pub fn published_text(
 ) -> Written
     ensures { λ r. ⌜ textSaid r (now (out .exit)) ≡ publishedLeft (lent h (now (z .entry)) (now (t .entry)) (now (b .entry)) (now (c .entry)) (now (f .entry))) (now (list .entry)) (now (out .entry)) ⌝ }
 {
-    if reading::BYTES_MOST < list.len() {
+    if text::BYTES_MOST < list.len() {
         return Written::Refused(Refusal::too_long());
     }
     if let Judgement::Refused(w) = table::judge(h, z, t, b, c, f) {

@@ -20,14 +20,11 @@ ghost use Rattle.runs.specs.Runs.{allGood};
 ghost use Rattle.rowsheet.specs.SheetLine.{sheetLine};
 ghost use Rattle.rowsheet.specs.RowSheet.{firstLineNo, rowsOf, linesIn, readSheet};
 
-// Bytes of a sheet.
-const BYTES_MOST: usize = 65536;
-
 // Judges a sheet: its length, the header, the lines; nothing follows them.
 pub fn judge_sheet(h: Header, sheet: &[u8]) -> Judgement
     ensures { λ r. ⌜ ruled r (rowsOf (heldBy (linesIn h (now (sheet .entry))))) ≡ readSheet h (now (sheet .entry)) ⌝ }
 {
-    if BYTES_MOST < sheet.len() {
+    if text::BYTES_MOST < sheet.len() {
         return Judgement::Refused(Refusal::too_long());
     }
     if !h.fits() {

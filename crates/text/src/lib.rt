@@ -4,6 +4,9 @@ pub mod line;
 pub mod point;
 pub mod put;
 
+// Bytes of a text that is read (01, refusal 1).
+pub const BYTES_MOST: usize = 65536;
+
 // What a byte of a field is; a digit with its value.
 pub enum Class {
     Digit(u64),
