@@ -14,8 +14,11 @@ use kinds::Refusal;
 use kinds::RowRecord;
 use kinds::Written;
 
-// A line of so many bytes at most: the letter, three tabs, the LF, and three numbers of at most 20.
-pub const TEXT_MOST: usize = 65;
+// A line's letter, tabs and LF.
+const MARKS: usize = 5;
+
+// No line has more bytes: its marks, and three machine numbers of at most 20 bytes each.
+pub const TEXT_MOST: usize = MARKS + 3 * 20;
 
 // The bound for every border, or with marks. Any input has an answer: there is no `requires`.
 pub fn bound_text(
@@ -55,7 +58,7 @@ fn line_length(n: u64, l: u64, rounds: u64) -> usize
 {
     let n_digits = text::put::digit_count(n);
     let l_digits = text::put::digit_count(l);
-    5 + n_digits + l_digits + text::put::digit_count(rounds)
+    MARKS + n_digits + l_digits + text::put::digit_count(rounds)
 }
 
 fn put_bound(n: u64, l: u64, rounds: u64, out: &mut [u8]) -> usize

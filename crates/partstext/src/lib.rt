@@ -20,8 +20,11 @@ use parts::PartsRecord;
 // The columns of a V line after its index: n a number, s a signed number.
 pub const COLUMNS: [u8; parts::ITEMS] = *b"nnsssnnnnnss";
 
-// A text of so many bytes at most: 200 lines of at most 210.
-pub const TEXT_MOST: usize = 42000;
+// No line has more bytes: a letter, an index of up to 3 digits, numbers of up to 15 digits and a minus, and a tab or the LF after each.
+const LINE_MOST: usize = 2 + 4 + parts::ITEMS * 17;
+
+// No text has more bytes: so many suffice a caller that lends room for any.
+pub const TEXT_MOST: usize = Header::ROWS_MOST * LINE_MOST;
 
 // The records stand in working memory, which has room for every table. Any input has an answer: there is no `requires`.
 pub fn margins_text(
