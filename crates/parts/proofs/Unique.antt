@@ -1,6 +1,6 @@
 -- No second answer, and no second content of the lent records, satisfies the contract of `margins`.
 -- The theorem is about the contract itself as the checker reads it (`reads.Post`), and not about a copy.
-use mathlib.Core.Path.{_≡_, refl, sym, ap, _∙_}
+use mathlib.Core.Path.{_≡_, sym, ap, _∙_}
 use mathlib.Core.List.{List}
 use lib.IntN.{ℤ}
 use contract.Lifetimes.{Lfts}
@@ -9,28 +9,17 @@ use denote.Triple.Clauses.{AtExit}
 use borrow.Fn.World.{ArgsD, ResD}
 use borrow.Fn.Kinds.{endedOf}
 use Rattle.kinds.specs.declared.Judgement.{Judgement}
-use Rattle.kinds.specs.declared.Judgement.the-variants.{Passed, Refused}
 use Rattle.kinds.specs.Answers.{ruled}
-use Rattle.kinds.specs.Refusals.{Judged, passed, refused}
+use Rattle.kinds.proofs.AnswerLaws.{ruled-injective}
 use Rattle.parts.specs.Parts.{MarginsLeft, leaves}
 use Rattle.parts.proofs.margins.{signature}
 use Rattle.parts.proofs.margins.Kinds as kinds
 use Rattle.parts.proofs.margins.Reads as reads
 
--- a judgement can be read back from what it says
-judgementOf : Judged (Unit {0}) → Judgement
-judgementOf (passed a) = Passed
-judgementOf (refused w) = Refused w
-
-back : (r : Judgement) → judgementOf (ruled r tt) ≡ r
-unfolding judgementOf
-back Passed = refl
-back (Refused w) = refl
-
 one : (left : MarginsLeft) (r r′ : Judgement) (o o′ : List (List ℤ)) → leaves (ruled r tt) o ≡ left → leaves (ruled r′ tt) o′ ≡ left → (r ≡ r′) × (o ≡ o′)
 one left r r′ o o′ p q =
     let e = p ∙ sym q in
-    (sym (back r) ∙ ap (λ (l : MarginsLeft). judgementOf (l .answer)) e ∙ back r′, ap (λ (l : MarginsLeft). l .out) e)
+    (ruled-injective tt r r′ (ap (λ (l : MarginsLeft). l .answer) e), ap (λ (l : MarginsLeft). l .out) e)
 
 pub margins-once : (κs : Lfts 6) (x : ArgsD signature κs) (r r′ : ResD signature κs) (s s′ : AtExit (endedOf 6 kinds.ps kinds.r) κs)
     → reads.Post κs x r s → reads.Post κs x r′ s′ → (r ≡ r′) × (now (s .1 .1 .1 .1 .1 .1 .0) ≡ now (s′ .1 .1 .1 .1 .1 .1 .0))
