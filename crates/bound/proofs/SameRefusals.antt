@@ -1,5 +1,5 @@
 -- `bound` turns away what the extraction turns away, with the same number and place: a table, or marks, and nothing else. The extraction besides asks for room.
-use mathlib.Core.Path.{_≡_, refl, sym, ap, ap₂, _∙_}
+use mathlib.Core.Path.{_≡_, refl, sym, ap, _∙_}
 use mathlib.Core.Bool.{Bool}
 use mathlib.Core.List.{List}
 use Prim.Native.Nat.{ℕ, _*_, _≤_}
@@ -15,7 +15,6 @@ use Rattle.table.specs.Table.{Table, judgeLent}
 use Rattle.start.specs.Start.{judgeMarked}
 use Rattle.extraction.specs.Extraction.{Result, outcomeMarked, outcomeFor, ExtractLeft, extractFor}
 use Rattle.extraction.proofs.LentLaws.{extract-roomy}
-use Rattle.bound.specs.declared.RoundsMost.{RoundsMost}
 use Rattle.bound.specs.Bound.{boundMarked, boundFor}
 
 -- a judgement without what passed

@@ -7,7 +7,7 @@ use lib.IntN.{pos}
 use Rattle.numbers.specs.Below.{firstFrom, given}
 use Rattle.numbers.specs.Ints.{minus, inside}
 use Rattle.kinds.specs.declared.Header.{Header}
-use Rattle.kinds.specs.Refusals.{Judged, passed, refused, unless, refuseAt, refuseFirst, wrongFormAt, wrongForm, outOfRangeAt, outOfRange}
+use Rattle.kinds.specs.Refusals.{Judged, passed, refused, unless, refuseAt, refuseFirst, wrongFormAt, wrongForm, outOfRangeAt}
 use Rattle.kinds.specs.Ranges.{headerFits, shareOf, rowFits, rowOf, factorFits}
 use Rattle.text.specs.Fields.{numberAt, shareAt}
 use Rattle.text.specs.Sheets.{sheet}

@@ -1,6 +1,6 @@
 -- How long a sheet gets (specs/RowSheet.antt): each line, and by the longest line all of them. The bound is rough: only that it is no more than 65,536 bytes
 -- is asked. No contract cites this file.
-use mathlib.Core.Path.{_≡_, refl, ap, _∙_}
+use mathlib.Core.Path.{_≡_, refl}
 use mathlib.Core.Bool.{true}
 use mathlib.Core.List.{List, [], _∷_, _++_}
 use Prim.Native.Nat.{ℕ, suc, _+_, _*_, _/_, _^_, _≤_, _<_}

@@ -4,17 +4,14 @@ use mathlib.Core.Path.{_≡_, refl, sym, ap, ap₂, _∙_}
 use mathlib.Core.Bool.{Bool, true, false, cond}
 use mathlib.Core.List.{List, _++_}
 use Prim.Native.Nat.{ℕ, _+_, _*_, _≤_, _<_}
-use native.Mathlib.Omega.{arith}
 use borrow.Author.Tests.{ltb-false, lt-ltb, le-ltb}
 use lib.Dec.{ltb}
 use lib.IntN.{ℤ}
 use lib.ListN.{length, drop}
 use Rattle.numbers.specs.Below.{over}
 use Rattle.kinds.specs.declared.Header.{Header}
-use Rattle.kinds.specs.declared.Judgement.{Judgement}
 use Rattle.kinds.specs.declared.Judgement.the-variants as judgement
 use Rattle.kinds.specs.declared.Refusal.{Refusal}
-use Rattle.kinds.specs.Answers.{ruled}
 use Rattle.kinds.specs.Limits.{bytesMost}
 use Rattle.kinds.specs.Ranges.{headerFits}
 use Rattle.kinds.specs.Refusals.{Judged, passed, refused, unless, need, tooLong, tooShort, wrongForm, outOfRange}
@@ -25,7 +22,6 @@ use Rattle.block.proofs.RunLaws.{run-fits}
 use Rattle.lines.specs.Lines.{RowLine}
 use Rattle.lines.proofs.RowTrip.{RowHeldAt}
 use Rattle.runs.specs.Rows.{valuesOf, factorsOf}
-use Rattle.runs.specs.Runs.{allGood}
 use Rattle.runs.proofs.RowLaws.{values-long, factors-long}
 use Rattle.runs.proofs.RowPasses.{Run, run-again}
 use Rattle.rowsheet.specs.SheetLine.{sheetLine}

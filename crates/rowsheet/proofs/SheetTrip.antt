@@ -2,7 +2,7 @@
 -- written read back as themselves (`write-read`); the same of what the calls leave is `read-then-write` and `write-then-read`.
 use mathlib.Core.Path.{_≡_, refl, sym, ap, ap₂, subst, _∙_}
 use mathlib.Core.Bool.{true, false, not, cond}
-use mathlib.Core.List.{List, [], _∷_, _++_, append-nil}
+use mathlib.Core.List.{List, [], _++_, append-nil}
 use Prim.Native.Nat.{ℕ, _+_, _*_, _^_, _≤_, _<_}
 use native.Mathlib.Nat.{zero-add, mul-le-mul-right}
 use native.Mathlib.Omega.{arith}
@@ -10,20 +10,20 @@ use borrow.Author.Tests.{le-ltb, not-false}
 use lib.Dec.{ltb}
 use lib.IntN.{ℤ}
 use lib.ListN.{length, getD, take, drop, drop-of-length-le, length-drop, length-append}
-use lib.Seq.{take-at, take-all, length-take-le}
+use lib.Seq.{take-at, length-take-le}
 use Rattle.numbers.specs.Below.{over}
 use Rattle.kinds.specs.declared.Header.{Header}
 use Rattle.kinds.specs.LineColumns.{rowItems}
-use Rattle.kinds.specs.Limits.{bytesMost, rowsMost, zonesMost}
+use Rattle.kinds.specs.Limits.{bytesMost, rowsMost}
 use Rattle.kinds.specs.Ranges.{headerFits}
-use Rattle.kinds.specs.Refusals.{Judged, passed, refused, wrongForm, outOfRange}
+use Rattle.kinds.specs.Refusals.{Judged, passed, refused, wrongForm}
 use Rattle.kinds.proofs.KindLaws.{header-in}
 use Rattle.kinds.proofs.RefusalLaws.{passed-is, then-next, then-passed, either-passed, answer-passed, unless-ok, unless-passed, none-next, none-passed}
-use Rattle.text.specs.Left.{TextLeft, textLeft}
+use Rattle.text.specs.Left.{textLeft}
 use Rattle.text.specs.Written.{linesText}
 use Rattle.text.proofs.LeftLaws.{text-left}
 use Rattle.text.proofs.PutLaws.{lines-most}
-use Rattle.block.specs.Block.{read, linesAt, withLines}
+use Rattle.block.specs.Block.{read}
 use Rattle.block.proofs.BlockLaws.{blockText, allFit, block-read}
 use Rattle.block.proofs.RunLaws.{fits-at, fits-all, lines-block, lines-goes}
 use Rattle.table.specs.Table.{rowGood, stretch}
@@ -33,7 +33,7 @@ use Rattle.lines.proofs.RowTrip.{RowHeld, RowHeldAt}
 use Rattle.runs.specs.Rows.{valuesOf, factorsOf}
 use Rattle.runs.proofs.RowLaws.{emptyRow, values-at, stretch-of, cut, cut-long, cut-values, cut-factors, cut-at}
 use Rattle.rowsheet.specs.SheetLine.{sheetLine, sheetText}
-use Rattle.rowsheet.specs.RowSheet.{Rows, rowsOf, firstLineNo, sheetRows, readSheet, rowRoom, RowsLeft, readRowsLeft, sheetTextAt, sheetOf, rowsInRange, judgeRows, writeRowsLeft}
+use Rattle.rowsheet.specs.RowSheet.{Rows, rowsOf, firstLineNo, sheetRows, readSheet, RowsLeft, readRowsLeft, sheetTextAt, sheetOf, rowsInRange, judgeRows, writeRowsLeft}
 use Rattle.rowsheet.proofs.LineTrip.{lineTextOf, line-read, line-written, line-one}
 use Rattle.rowsheet.proofs.LengthLaws.{lineMost, line-most}
 use Rattle.rowsheet.proofs.SheetLaws.{SheetRun, sheet-run, rows-many, factors-many, room-passed, room-enough}

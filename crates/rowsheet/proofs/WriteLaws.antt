@@ -1,5 +1,5 @@
 -- The laws of `specs/RowSheet.antt`'s writing: what `write_rows` leaves by what was judged, and the sheet as a chain of lines. No contract cites this file.
-use mathlib.Core.Path.{_≡_, refl, sym, ap, _∙_}
+use mathlib.Core.Path.{_≡_, sym, ap, _∙_}
 use mathlib.Core.Bool.{Bool, true, false, not}
 use mathlib.Core.Option.{none, some}
 use mathlib.Core.List.{List, []}

@@ -16,7 +16,7 @@ ghost use Rattle.text.specs.Left.{textLeft, textSaid};
 ghost use Rattle.text.specs.Put.{Put};
 ghost use Rattle.table.specs.Table.{rowGood, stretch};
 ghost use Rattle.rowsheet.specs.SheetLine.{sheetText};
-ghost use Rattle.rowsheet.specs.RowSheet.{Rows, sheetOf, rowsInRange};
+ghost use Rattle.rowsheet.specs.RowSheet.{sheetOf, rowsInRange};
 
 pub fn write_front(zones: usize, c: &[RowRecord], f: &[i64], out: &mut [u8]) -> Written
     requires { ⌜ (length (now f) ≡ length (now c) * zones) × (0 < zones) × (zones ≤ zonesMost) × (length (now c) ≤ rowsMost) ⌝ }

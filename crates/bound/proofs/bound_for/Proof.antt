@@ -1,5 +1,5 @@
 -- `bound::bound_for` meets its contract: what judging the table or the marks refuses is refused, and else the flags say what the marks do (`marked-agree`).
-use mathlib.Core.Path.{_≡_, sym, ap, _∙_}
+use mathlib.Core.Path.{sym, ap, _∙_}
 use Prim.Native.Nat.{_≤_}
 use native.Mathlib.Omega.{arith}
 use borrow.Author.Needs.{needs}

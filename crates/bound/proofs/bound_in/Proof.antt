@@ -1,5 +1,5 @@
 -- `bound::bound_in` meets its contract: a refusal of what preparing refuses, and else the measure of what is laid out (`laid-bound`).
-use mathlib.Core.Path.{_≡_, ap, _∙_}
+use mathlib.Core.Path.{ap, _∙_}
 use native.Mathlib.Omega.{arith}
 use borrow.Author.Needs.{needs}
 use lib.ListN.{length}

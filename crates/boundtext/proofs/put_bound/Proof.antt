@@ -1,7 +1,6 @@
 -- `boundtext::put_bound` meets its contract: letter, fields and LF are a chain of writes (`Begun`).
-use mathlib.Core.List.{List, [], _∷_}
+use mathlib.Core.List.{[], _∷_}
 use Prim.Native.Char.{code}
-use Prim.Native.Nat.{ℕ}
 use native.Mathlib.Omega.{arith}
 use borrow.Author.Needs.{needs}
 use Rattle.text.specs.Written.{decimal}

@@ -1,5 +1,5 @@
 -- `bound::measure::alone` meets its contract. The invariant: `low` is the smallest of the first i rows, where one of them loads the border (`Lowest`).
-use mathlib.Core.Path.{_≡_, ap, _∙_}
+use mathlib.Core.Path.{ap, _∙_}
 use Prim.Native.Nat.{ℕ, _-_, _/_}
 use native.Mathlib.Omega.{arith}
 use borrow.Author.Needs.{needs}

@@ -1,5 +1,4 @@
 -- `bound::measure::loads` meets its contract.
-use borrow.Author.Needs.{needs}
 use Rattle.bound.proofs.measure.loads.Statement.{statement}
 use Rattle.bound.proofs.measure.loads.Tie as tie
 

@@ -7,7 +7,6 @@ use lib.IntN.{ℤ}
 use lib.ListN.{length}
 use Rattle.kinds.specs.Limits.{bytesMost}
 use Rattle.kinds.specs.LineColumns.{Column, sheetColumns, sheetFactors}
-use Rattle.columns.specs.ColumnText.{numbersOf}
 use Rattle.columns.specs.Bare.{bareText, bareLength}
 use Rattle.columns.proofs.ColumnLaws.{sheet-factors, sheet-factors-long}
 use Rattle.columns.proofs.ColumnPut.{numbers-are}

@@ -1,7 +1,7 @@
 -- `rowsheet::write::sheet_length` meets its contract: the sum over the lines, none of which is longer than `lineMost` (`Measured`).
 use mathlib.Core.Path.{_≡_}
 use mathlib.Core.List.{[]}
-use Prim.Native.Nat.{_*_, _≤_, _+_, _-_}
+use Prim.Native.Nat.{_*_, _≤_, _-_}
 use native.Mathlib.Omega.{arith}
 use lib.ListN.{length, getD}
 use Rattle.numbers.proofs.ListLaws.{part-long}
