@@ -2,6 +2,7 @@
 use kinds::Judgement;
 use kinds::Refusal;
 use lines::row::RowJudged;
+use lines::row::RowKind;
 use text::Number;
 ghost use mathlib.Core.Path.{_≡_};
 ghost use Prim.Native.Nat.{_≤_, _<_};
@@ -20,7 +21,7 @@ pub fn sheet_judged(sheet: &[u8], zones: usize, rows: usize) -> Judgement
     while s < sheet.len() {
         let line = text::line::line_at(sheet, s);
         let i = due_index(line, rows, least);
-        match lines::row::row_judged(zones, line, i) {
+        match lines::row::row_judged(RowKind::Table, zones, line, i) {
             RowJudged::Holds => {}
             RowJudged::Form(byte) => return Judgement::Refused(Refusal::wrong_correction(
                 number,

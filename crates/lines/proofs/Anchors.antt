@@ -10,19 +10,22 @@ use Rattle.kinds.specs.declared.Header.{Header}
 use Rattle.kinds.specs.Ranges.{headerFits, zoneFits, exists, hubsFit, borderFits, shareOf, rowOf, rowFits, factorFits}
 use Rattle.text.specs.Fields.{numberAt, signedAt, shareAt}
 use Rattle.text.specs.Line.{Line, holds, form, range}
+use Rattle.text.specs.Point.{decimalsAt, pointAt, signedPointAt}
 use Rattle.text.specs.Sheets.{sheet}
 use Rattle.columns.specs.Columns.{fieldAt, fieldsAt}
 use Rattle.columns.specs.ColumnLine.{indexAt, restAt, columnsLine, plainLine}
+use Rattle.columns.specs.Bare.{bareIndexAt, bareLine}
 use Rattle.columns.specs.Optional.{optionalLine, plainOptional}
-use Rattle.blame.specs.Blame.{goodAt, byteAt, fieldsByte, lineByte, plainByte}
+use Rattle.blame.specs.Blame.{goodAt, byteAt, fieldsByte, lineByte, plainByte, bareByte}
 use Rattle.blame.specs.RangeBlame.{pastSeps, rangeByte}
-use Rattle.lines.specs.Lines.{RowLine, row, headerLine, positionLine, zoneLine, allocatedLine, borderLine, rowLine}
+use Rattle.lines.specs.Lines.{RowLine, row, headerLine, positionLine, zoneLine, borderLine, rowLine}
+use Rattle.lines.specs.SheetLine.{sheetLine}
 
 unfoldable computing : Unit {0}
-unfolding firstFrom given inside sameℤ headerFits zoneFits exists hubsFit borderFits shareOf rowOf rowFits factorFits numberAt signedAt shareAt fieldAt fieldsAt indexAt restAt columnsLine plainLine optionalLine plainOptional goodAt byteAt fieldsByte lineByte plainByte pastSeps rangeByte headerLine positionLine borderLine rowLine
+unfolding firstFrom given inside sameℤ headerFits zoneFits exists hubsFit borderFits shareOf rowOf rowFits factorFits numberAt signedAt shareAt fieldAt fieldsAt indexAt restAt columnsLine plainLine optionalLine plainOptional goodAt byteAt fieldsByte lineByte plainByte pastSeps rangeByte headerLine positionLine borderLine rowLine decimalsAt pointAt signedPointAt bareIndexAt bareLine bareByte sheetLine
 computing = tt
 
--- index 1, and 3 zones in a B line, 2 in a C line
+-- index 1, and 3 zones in a B line, 2 in a C line and in a line of the planners' sheet
 abbrev h : String → Line Header
 h s = headerLine (sheet s)
 
@@ -34,6 +37,9 @@ b s = borderLine 3 (sheet s) 1
 
 abbrev c : String → Line RowLine
 c s = rowLine 2 (sheet s) 1
+
+abbrev p : String → Line RowLine
+p s = sheetLine 2 (sheet s) 1
 
 pub record Lines : Type 0 where
   pub h-good : h "H 3 2 4/" ≡ holds (record { zones = 3; borders = 2; rows = 4; share = minus 1; intraday = 0 })
@@ -57,6 +63,11 @@ pub record Lines : Type 0 where
   pub c-many : c "C 1 9 10 0 0 - 0 0 1 -2 0/" ≡ form 0
   pub c-range : c "C 1 9 10 0 0 - 0 0 1 100001/" ≡ range 7
   pub c-factor : c "C 1 9 0 0 0 - 0 0 1 100001/" ≡ range 21
+  -- the same row in the sheet
+  pub p-good : p "1;0.009;0.000;0.000;0.000;-;0.000;0.000;0.00001;-0.00002/" ≡ holds (row (pos 9 ∷ pos 0 ∷ pos 0 ∷ pos 0 ∷ minus 1 ∷ pos 0 ∷ pos 0 ∷ []) (pos 1 ∷ minus 2 ∷ []))
+  pub p-form : p "1;0.009;0.010;0.000;0.000;-;0.000;0.000;0.00001;-0,00002/" ≡ form 51
+  pub p-range : p "1;0.009;0.010;0.000;0.000;-;0.000;0.000;0.00001;1.00001/" ≡ range 9
+  pub p-factor : p "1;0.009;0.000;0.000;0.000;-;0.000;0.000;0.00001;1.00001/" ≡ range 49
 
 pub lines : Lines
 unfolding computing
@@ -82,4 +93,8 @@ lines =
       c-many = refl;
       c-range = refl;
       c-factor = refl;
+      p-good = refl;
+      p-form = refl;
+      p-range = refl;
+      p-factor = refl;
     }

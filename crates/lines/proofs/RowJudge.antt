@@ -1,57 +1,60 @@
--- A C line by what was read of it, as it is judged and as it is filled in. No contract cites this file.
+-- A row's line by what was read of it, as it is judged and as it is filled in, whichever its kind. No contract cites this file.
 use mathlib.Core.Path.{_≡_, refl, sym, ap, _∙_}
 use mathlib.Core.Bool.{Bool, true, false, cond}
 use mathlib.Core.List.{List, _++_}
-use Prim.Native.Char.{code}
 use Prim.Native.Nat.{ℕ}
 use lib.IntN.{ℤ}
 use lib.ListN.{length}
 use lib.Seq.{take-at, drop-at}
 use Rattle.numbers.proofs.TestLaws.{zero-one}
-use Rattle.kinds.specs.LineColumns.{rowColumns, rowItems, factorColumns}
-use Rattle.text.specs.Fields.{tab}
+use Rattle.kinds.specs.LineColumns.{rowItems}
 use Rattle.text.specs.Line.{Line, holds, form, range}
 use Rattle.columns.specs.Columns.{values, wrong}
-use Rattle.columns.specs.ColumnLine.{columnsLine}
 use Rattle.table.specs.Table.{rowGood}
-use Rattle.lines.specs.Lines.{RowLine, row, rowBad, rowOut, rowLine}
-use Rattle.lines.specs.SaidRow.{judgedOf}
+use Rattle.lines.specs.Lines.{RowLine, row, rowBy, rowLine}
+use Rattle.lines.specs.SheetLine.{sheetLine}
+use Rattle.lines.specs.SaidRow.{judgedOf, lineBy, valuesBy, badBy, outBy}
+use Rattle.lines.specs.declared.row.RowKind.{RowKind}
+use Rattle.lines.specs.declared.row.RowKind.the-variants.{Table, Sheet}
 use Rattle.lines.specs.declared.row.RowJudged.the-variants.{Holds, Form, Range}
 
 -- ---- by what was read
-module _ (zones : ℕ) (line : List ℕ) (i : ℕ) where
-  pub row-form : (place : ℕ) → wrong place ≡ columnsLine tab (code "C") (rowColumns ++ factorColumns zones) line i → rowLine zones line i ≡ form (rowBad zones line i)
-  unfolding rowLine
-  row-form place e = rw (← e)
+pub by-values : (kind : RowKind) (zones : ℕ) (line : List ℕ) (i : ℕ) → lineBy kind zones line i ≡ rowBy (badBy kind zones line i) (outBy kind line) (valuesBy kind zones line i)
+unfolding rowLine sheetLine
+by-values Table zones line i = refl
+by-values Sheet zones line i = refl
 
-  module _ (raw f : List ℤ) (wide : length raw ≡ rowItems) (next : ℕ) (e : values (raw ++ f) next ≡ columnsLine tab (code "C") (rowColumns ++ factorColumns zones) line i) where
-    row-by : rowLine zones line i ≡ cond (rowGood raw f) (holds (row raw f)) (range (rowOut line raw f))
-    unfolding rowLine
-    row-by = rw (← e, take-at raw f rowItems wide, drop-at raw f rowItems wide)
+module _ (kind : RowKind) (zones : ℕ) (line : List ℕ) (i : ℕ) where
+  pub row-form : (place : ℕ) → wrong place ≡ valuesBy kind zones line i → lineBy kind zones line i ≡ form (badBy kind zones line i)
+  row-form place e = by-values kind zones line i ∙ rw (← e)
 
-    pub row-holds : rowGood raw f ≡ true → rowLine zones line i ≡ holds (row raw f)
+  module _ (raw f : List ℤ) (wide : length raw ≡ rowItems) (next : ℕ) (e : values (raw ++ f) next ≡ valuesBy kind zones line i) where
+    row-by : lineBy kind zones line i ≡ cond (rowGood raw f) (holds (row raw f)) (range (outBy kind line raw f))
+    row-by = by-values kind zones line i ∙ rw (← e, take-at raw f rowItems wide, drop-at raw f rowItems wide)
+
+    pub row-holds : rowGood raw f ≡ true → lineBy kind zones line i ≡ holds (row raw f)
     row-holds g = row-by ∙ rw g
 
-    pub row-range : rowGood raw f ≡ false → rowLine zones line i ≡ range (rowOut line raw f)
+    pub row-range : rowGood raw f ≡ false → lineBy kind zones line i ≡ range (outBy kind line raw f)
     row-range g = row-by ∙ rw g
 
     -- .. of a line that was judged good
-    pub row-filled : judgedOf (rowLine zones line i) ≡ Holds → rowLine zones line i ≡ holds (row raw f)
+    pub row-filled : judgedOf (lineBy kind zones line i) ≡ Holds → lineBy kind zones line i ≡ holds (row raw f)
     row-filled good = go (rowGood raw f) refl
       where
-        go : (t : Bool) → rowGood raw f ≡ t → rowLine zones line i ≡ holds (row raw f)
+        go : (t : Bool) → rowGood raw f ≡ t → lineBy kind zones line i ≡ holds (row raw f)
         go true g = row-holds g
         go false g = absurd (clash (sym (ap judgedOf (row-range g)) ∙ good))
           where
             clash : {byte : ℕ} → Range byte ≡ Holds → ⊥
             clash e = zero-one cc
 
--- ---- what an answer says of the line
-pub row-never : (zones : ℕ) (line : List ℕ) (i place : ℕ) → wrong place ≡ columnsLine tab (code "C") (rowColumns ++ factorColumns zones) line i → judgedOf (rowLine zones line i) ≡ Holds → ⊥
-row-never zones line i place e good = go (sym (ap judgedOf (row-form zones line i place e)) ∙ good)
-  where
-    go : {byte : ℕ} → Form byte ≡ Holds → ⊥
-    go e = zero-one cc
+  -- ---- what an answer says of the line
+  pub row-never : (place : ℕ) → wrong place ≡ valuesBy kind zones line i → judgedOf (lineBy kind zones line i) ≡ Holds → ⊥
+  row-never place e good = go (sym (ap judgedOf (row-form place e)) ∙ good)
+    where
+      go : {byte : ℕ} → Form byte ≡ Holds → ⊥
+      go e = zero-one cc
 
 pub record RowHolds (l : Line RowLine) : Type 0 where
   pub it : RowLine

@@ -1,4 +1,5 @@
--- The C line: a line that holds a raw row record and its factors is its text, and that text holds them. No contract cites this file.
+-- A row's line, whichever its kind: one that holds a raw row record and its factors is its text, and that text holds them. No contract cites this file.
+-- In order: a line's text; what is known of a row that a line holds; what was read of a line; what is written; it is one line.
 use mathlib.Core.Path.{_≡_, refl, sym, ap, ap₂, subst, _∙_}
 use mathlib.Core.Bool.{true}
 use mathlib.Core.List.{List, [], _∷_, _++_}
@@ -14,25 +15,57 @@ use Rattle.numbers.specs.Ints.{minus, inside}
 use Rattle.numbers.proofs.BelowLaws.{table-of}
 use Rattle.numbers.proofs.IntLaws.{inside-true}
 use Rattle.kinds.specs.Limits.{shareMost}
-use Rattle.kinds.specs.LineColumns.{rowColumns, rowItems, factorColumns}
+use Rattle.kinds.specs.LineColumns.{Column, rowColumns, rowItems, factorColumns, sheetColumns, sheetFactors}
 use Rattle.kinds.specs.Ranges.{atℤ, rowOf, factorFits}
 use Rattle.kinds.proofs.KindLaws.{row-in, factor-in}
 use Rattle.text.specs.Fields.{tab}
 use Rattle.text.specs.Line.{lineOf, holds}
 use Rattle.text.proofs.FieldTrip.{ShareKept}
 use Rattle.columns.specs.Columns.{values}
+use Rattle.columns.specs.Bare.{bareText}
 use Rattle.columns.specs.ColumnText.{columnsText, numbersOf}
-use Rattle.columns.specs.ColumnLine.{columnsLine, judged}
+use Rattle.columns.proofs.BareTrip.{bare-read, bare-written, bare-one}
 use Rattle.columns.proofs.ColumnPut.{numbers-are}
-use Rattle.columns.proofs.ColumnTrip.{tab-ends, AllKept, kept-long, kept-append, line-one, judged-read, judged-written}
+use Rattle.columns.proofs.ColumnTrip.{Ends, tab-ends, AllKept, kept-long, kept-append, line-read, line-written, line-one, judged-is}
 use Rattle.table.specs.Table.{rowGood}
 use Rattle.table.proofs.GoodLaws.{row-good}
-use Rattle.lines.specs.Lines.{RowLine, row, rowBad, rowOut, rowLine}
+use Rattle.lines.specs.Lines.{RowLine, row, rowBy}
+use Rattle.lines.specs.SheetLine.{semicolon}
+use Rattle.lines.specs.SaidRow.{lineBy, valuesBy, badBy, outBy}
+use Rattle.lines.specs.declared.row.RowKind.{RowKind}
+use Rattle.lines.specs.declared.row.RowKind.the-variants.{Table, Sheet}
+use Rattle.lines.proofs.RowJudge.{by-values}
 
-abbrev pub rowTextOf : (i : ℕ) → RowLine → List ℕ
-rowTextOf i c = columnsText tab (code "C") (rowColumns ++ factorColumns (length (c .factors))) i (numbersOf rowColumns (c .values) ++ c .factors)
+-- ---- a line's text
+abbrev firstBy : RowKind → List Column
+firstBy Table = rowColumns
+firstBy Sheet = sheetColumns
 
--- what is known of what a C line holds
+abbrev factorsBy : RowKind → (zones : ℕ) → List Column
+factorsBy Table = factorColumns
+factorsBy Sheet = sheetFactors
+
+abbrev columnsBy : RowKind → (zones : ℕ) → List Column
+columnsBy kind zones = firstBy kind ++ factorsBy kind zones
+
+abbrev fieldsBy : RowKind → List Column → (i : ℕ) → List ℤ → List ℕ
+fieldsBy Table = columnsText tab (code "C")
+fieldsBy Sheet = bareText semicolon
+
+abbrev pub textBy : RowKind → (i : ℕ) → RowLine → List ℕ
+textBy kind i c = fieldsBy kind (columnsBy kind (length (c .factors))) i (numbersOf rowColumns (c .values) ++ c .factors)
+
+factors-many : (kind : RowKind) (zones : ℕ) → length (factorsBy kind zones) ≡ zones
+factors-many Table zero = refl
+factors-many Sheet zero = refl
+factors-many Table (suc zones) = ap suc (factors-many Table zones)
+factors-many Sheet (suc zones) = ap suc (factors-many Sheet zones)
+
+columns-many : (kind : RowKind) (zones : ℕ) → length (columnsBy kind zones) ≡ rowItems + zones
+columns-many Table zones = omega (arith, factors-many Table zones)
+columns-many Sheet zones = omega (arith, factors-many Sheet zones)
+
+-- ---- what is known of a row that a line holds
 pub record RowHeld (zones : ℕ) (c : RowLine) : Type 0 where
   pub wide : length (c .values) ≡ rowItems
   pub long : length (c .factors) ≡ zones
@@ -42,70 +75,94 @@ pub record RowHeld (zones : ℕ) (c : RowLine) : Type 0 where
 abbrev pub RowHeldAt : (zones i : ℕ) → RowLine → Type 0
 RowHeldAt zones i c = RowHeld zones c
 
-abbrev pub RowIs : (zones : ℕ) → (line : List ℕ) → (i : ℕ) → RowLine → Type 0
-RowIs zones line i c = (line ≡ rowTextOf i c) × RowHeld zones c
+abbrev pub RowIs : (kind : RowKind) → (zones : ℕ) → (line : List ℕ) → (i : ℕ) → RowLine → Type 0
+RowIs kind zones line i c = (line ≡ textBy kind i c) × RowHeld zones c
 
-factors-many : (zones : ℕ) → length (factorColumns zones) ≡ zones
-factors-many zero = refl
-factors-many (suc zones) = ap suc (factors-many zones)
+-- ---- what was read of a line
+semicolon-ends : Ends semicolon
+semicolon-ends = record { some = omega arith; apart = refl }
 
-pub row-read : (zones : ℕ) (line : List ℕ) (i : ℕ) (c : RowLine) → rowLine zones line i ≡ holds c → RowIs zones line i c
-unfolding rowLine
-row-read zones line i c e =
-    let h = judged-read (λ zs. rowGood (take rowItems zs) (drop rowItems zs)) (λ zs. row (take rowItems zs) (drop rowItems zs)) (rowBad zones line i) (λ zs. rowOut line (take rowItems zs) (drop rowItems zs)) tab (code "C") tab-ends (rowColumns ++ factorColumns zones) i line c e in
+values-read : (kind : RowKind) (zones : ℕ) (line : List ℕ) (i : ℕ) (zs : List ℤ) (next : ℕ) → valuesBy kind zones line i ≡ values zs next → (line ≡ fieldsBy kind (columnsBy kind zones) i zs) × AllKept (columnsBy kind zones) zs
+values-read Table zones line i zs next e = let r = line-read tab (code "C") tab-ends (columnsBy Table zones) line i zs next e in (r .here, r .kept)
+values-read Sheet zones line i zs next e = let r = bare-read semicolon semicolon-ends (columnsBy Sheet zones) i line zs next e in (r .here, r .kept)
+
+pub row-read : (kind : RowKind) (zones : ℕ) (line : List ℕ) (i : ℕ) (c : RowLine) → lineBy kind zones line i ≡ holds c → RowIs kind zones line i c
+row-read kind zones line i c e =
+    let h = judged-is (λ zs. rowGood (take rowItems zs) (drop rowItems zs)) (λ zs. row (take rowItems zs) (drop rowItems zs)) (badBy kind zones line i) (λ zs. outBy kind line (take rowItems zs) (drop rowItems zs)) c (valuesBy kind zones line i) (sym (by-values kind zones line i) ∙ e) in
     let zs = h .zs in
-    let all : length zs ≡ rowItems + zones = kept-long (rowColumns ++ factorColumns zones) zs (h .read .kept) ∙ omega (arith, factors-many zones) in
+    let r = values-read kind zones line i zs (h .next) (h .is) in
+    let all : length zs ≡ rowItems + zones = kept-long (columnsBy kind zones) zs (r .1) ∙ columns-many kind zones in
     let long : length (drop rowItems zs) ≡ zones = length-drop rowItems zs ∙ omega arith in
-    subst (RowIs zones line i) (h .made) (
-      h .read .here ∙ ap₂ (λ (n : ℕ) (l : List ℤ). columnsText tab (code "C") (rowColumns ++ factorColumns n) i l) (sym long) (sym (take-append-drop rowItems zs) ∙ ap (λ (l : List ℤ). l ++ drop rowItems zs) (sym (numbers-are rowColumns (take rowItems zs) (length-take-le rowItems zs (omega arith))))),
+    subst (RowIs kind zones line i) (h .made) (
+      r .0 ∙ ap₂ (λ (n : ℕ) (l : List ℤ). fieldsBy kind (columnsBy kind n) i l) (sym long) (sym (take-append-drop rowItems zs) ∙ ap (λ (l : List ℤ). l ++ drop rowItems zs) (sym (numbers-are rowColumns (take rowItems zs) (length-take-le rowItems zs (omega arith))))),
       record { wide = length-take-le rowItems zs (omega arith); long = long; good = h .fit },
     )
 
--- ---- the other way
+-- ---- what is written
 -- R in range is kept as it may be: -1, or a share
 pub share-kept : (r : ℤ) → inside (minus 1) (pos shareMost) r ≡ true → ShareKept r
 share-kept (pos n) e = omega (arith, leb→le n shareMost (inside-true (minus 1) (pos shareMost) (pos n) e .1 .le))
 share-kept (negsuc n) e = omega (arith, leb→le n 0 (inside-true (minus 1) (pos shareMost) (negsuc n) e .0 .le))
 
-factors-kept : (zs : List ℤ) → ((z : ℕ) → z < length zs → factorFits (atℤ zs z) ≡ true) → AllKept (factorColumns (length zs)) zs
-factors-kept [] h = tt
-factors-kept (y ∷ zs) h = (omega (arith, factor-in y (h 0 (omega arith)) .abs), factors-kept zs (λ z l. h (suc z) (omega arith)))
+factors-kept : (kind : RowKind) (zs : List ℤ) → ((z : ℕ) → z < length zs → factorFits (atℤ zs z) ≡ true) → AllKept (factorsBy kind (length zs)) zs
+factors-kept Table [] h = tt
+factors-kept Sheet [] h = tt
+factors-kept Table (y ∷ zs) h = (omega (arith, factor-in y (h 0 (omega arith)) .abs), factors-kept Table zs (λ z l. h (suc z) (omega arith)))
+factors-kept Sheet (y ∷ zs) h = (omega (arith, factor-in y (h 0 (omega arith)) .abs), factors-kept Sheet zs (λ z l. h (suc z) (omega arith)))
+
+record ValuesWritten (kind : RowKind) (zones i : ℕ) (zs : List ℤ) : Type 0 where
+  next : ℕ
+  is : valuesBy kind zones (fieldsBy kind (columnsBy kind zones) i zs) i ≡ values zs next
+
+values-written : (kind : RowKind) (zones i : ℕ) (zs : List ℤ) → i < 10 ^ 10 → AllKept (columnsBy kind zones) zs → ValuesWritten kind zones i zs
+values-written Table zones i zs small k = let w = line-written tab (code "C") tab-ends (columnsBy Table zones) i zs small k in record { next = w .next; is = w .is }
+values-written Sheet zones i zs small k = let w = bare-written semicolon semicolon-ends (columnsBy Sheet zones) i zs small k in record { next = w .next; is = w .is }
 
 module _ (zones : ℕ) (c : RowLine) (held : RowHeld zones c) where
-  values-kept : AllKept rowColumns (c .values)
+  -- a field of the sheet keeps what the table's keeps
+  values-kept : (kind : RowKind) → AllKept (firstBy kind) (c .values)
   unfolding rowOf table
-  values-kept =
-      let k = row-in (c .values) (row-good (c .values) (c .factors) (held .good) .0) in
-      let at = atℤ (c .values) in
-      subst (AllKept rowColumns) (sym (table-of rowItems at (c .values) (pos 0) (held .wide) (λ i h. refl))) (
-        (k .fmax .is, omega (arith, k .fmax .most)),
-        (
-          (k .frm .is, omega (arith, k .fmax .most, k .frm .most)),
-          (
-            omega (arith, k .fref .abs),
+  values-kept kind = subst (AllKept (firstBy kind)) (sym (table-of rowItems at (c .values) (pos 0) (held .wide) (λ i h. refl))) (by kind)
+    where
+      at : ℕ → ℤ
+      at = atℤ (c .values)
+
+      all : AllKept rowColumns (table rowItems at)
+      all =
+          let k = row-in (c .values) (row-good (c .values) (c .factors) (held .good) .0) in (
+            (k .fmax .is, omega (arith, k .fmax .most)),
             (
-              omega (arith, k .f0all .abs),
-              (share-kept (at 4) (k .share), ((k .cva .is, omega (arith, k .cva .most)), ((k .iva .is, omega (arith, k .iva .most)), tt))),
+              (k .frm .is, omega (arith, k .fmax .most, k .frm .most)),
+              (
+                omega (arith, k .fref .abs),
+                (
+                  omega (arith, k .f0all .abs),
+                  (share-kept (at 4) (k .share), ((k .cva .is, omega (arith, k .cva .most)), ((k .iva .is, omega (arith, k .iva .most)), tt))),
+                ),
+              ),
             ),
-          ),
-        ),
-      )
+          )
 
-  by-values : (i : ℕ) → i < 10 ^ 10 → rowLine zones (columnsText tab (code "C") (rowColumns ++ factorColumns (length (c .factors))) i (c .values ++ c .factors)) i ≡ holds c
-  unfolding rowLine
-  by-values i small =
-      let cs = rowColumns ++ factorColumns (length (c .factors)) in
-      let zs = c .values ++ c .factors in
-      let line = columnsText tab (code "C") cs i zs in
-      let kept = kept-append rowColumns (factorColumns (length (c .factors))) (c .values) (c .factors) values-kept (factors-kept (c .factors) (row-good (c .values) (c .factors) (held .good) .1)) in
-      let v : take rowItems zs ≡ c .values = take-at (c .values) (c .factors) rowItems (held .wide) in
-      let f : drop rowItems zs ≡ c .factors = drop-at (c .values) (c .factors) rowItems (held .wide) in
-      subst (λ (n : ℕ). judged (λ zs. rowGood (take rowItems zs) (drop rowItems zs)) (λ zs. row (take rowItems zs) (drop rowItems zs)) (rowBad n line i) (λ zs. rowOut line (take rowItems zs) (drop rowItems zs)) (columnsLine tab (code "C") (rowColumns ++ factorColumns n) line i) ≡ holds c) (held .long)
-      (judged-written (λ zs. rowGood (take rowItems zs) (drop rowItems zs)) (λ zs. row (take rowItems zs) (drop rowItems zs)) (rowBad (length (c .factors)) line i) (λ zs. rowOut line (take rowItems zs) (drop rowItems zs)) tab (code "C") tab-ends cs i zs small kept (rw (v, f) (held .good))
-      ∙ ap₂ (λ (x y : List ℤ). holds (row x y)) v f)
+      by : (kind : RowKind) → AllKept (firstBy kind) (table rowItems at)
+      by Table = all
+      by Sheet = all
 
-  pub row-written : (i : ℕ) → i < 10 ^ 10 → rowLine zones (rowTextOf i c) i ≡ holds c
-  row-written i small = ap (λ (v : List ℤ). rowLine zones (columnsText tab (code "C") (rowColumns ++ factorColumns (length (c .factors))) i (v ++ c .factors)) i) (numbers-are rowColumns (c .values) (held .wide)) ∙ by-values i small
+  module _ (kind : RowKind) (i : ℕ) (small : i < 10 ^ 10) where
+    by-numbers : lineBy kind zones (fieldsBy kind (columnsBy kind (length (c .factors))) i (c .values ++ c .factors)) i ≡ holds c
+    by-numbers =
+        let n = length (c .factors) in
+        let zs = c .values ++ c .factors in
+        let line = fieldsBy kind (columnsBy kind n) i zs in
+        let kept = kept-append (firstBy kind) (factorsBy kind n) (c .values) (c .factors) (values-kept kind) (factors-kept kind (c .factors) (row-good (c .values) (c .factors) (held .good) .1)) in
+        let v : take rowItems zs ≡ c .values = take-at (c .values) (c .factors) rowItems (held .wide) in
+        let f : drop rowItems zs ≡ c .factors = drop-at (c .values) (c .factors) rowItems (held .wide) in
+        subst (λ (m : ℕ). lineBy kind m line i ≡ holds c) (held .long)
+        (by-values kind n line i ∙ ap (rowBy (badBy kind n line i) (outBy kind line)) (values-written kind n i zs small kept .is) ∙ rw (v, f, held .good))
 
-pub row-one : (i : ℕ) (c : RowLine) (r : List ℕ) → lineOf (rowTextOf i c ++ r) ≡ rowTextOf i c
-row-one i c r = line-one tab (code "C") (rowColumns ++ factorColumns (length (c .factors))) i (numbersOf rowColumns (c .values) ++ c .factors) r (omega arith) refl refl
+    pub row-written : lineBy kind zones (textBy kind i c) i ≡ holds c
+    row-written = ap (λ (v : List ℤ). lineBy kind zones (fieldsBy kind (columnsBy kind (length (c .factors))) i (v ++ c .factors)) i) (numbers-are rowColumns (c .values) (held .wide)) ∙ by-numbers
+
+-- ---- it is one line
+pub row-one : (kind : RowKind) (i : ℕ) (c : RowLine) (r : List ℕ) → lineOf (textBy kind i c ++ r) ≡ textBy kind i c
+row-one Table i c r = line-one tab (code "C") (columnsBy Table (length (c .factors))) i (numbersOf rowColumns (c .values) ++ c .factors) r (omega arith) refl refl
+row-one Sheet i c r = bare-one semicolon (columnsBy Sheet (length (c .factors))) i (numbersOf rowColumns (c .values) ++ c .factors) r (omega arith) refl

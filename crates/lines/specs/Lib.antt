@@ -1,3 +1,4 @@
 pub mod Lines
+pub mod SheetLine
 pub mod Said
 pub mod SaidRow

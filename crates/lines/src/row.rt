@@ -1,4 +1,5 @@
-// The C line, in two passes: it is judged without being kept, and then its record and its factors are filled in.
+// A row's line, in two passes: it is judged without being kept, and then its record and its factors are filled in.
+// A C line and a line of the planners' sheet (02, E11) differ in their columns, in the byte that parts these, and in the letter.
 use columns::Fields;
 use kinds::Row;
 use kinds::RowRecord;
@@ -9,79 +10,108 @@ ghost use lib.ListN.{length};
 ghost use Rattle.kinds.specs.Limits.{zonesMost};
 ghost use Rattle.text.specs.Line.{holds};
 ghost use Rattle.columns.specs.Columns.{stored};
-ghost use Rattle.lines.specs.Lines.{rowValues, rowBad, rowLine, row};
-ghost use Rattle.lines.specs.SaidRow.{judgedOf};
+ghost use Rattle.lines.specs.Lines.{row};
+ghost use Rattle.lines.specs.SaidRow.{judgedOf, lineBy, valuesBy, badBy, outBy};
 ghost use Rattle.lines.specs.declared.row.RowJudged.the-variants.{Holds};
 
-// What a C line comes to.
+// The kinds of line that hold a row: the table's, which is a C line, and the planners' sheet's.
+pub enum RowKind {
+    Table,
+    Sheet,
+}
+
+// What a row's line comes to.
 pub enum RowJudged {
     Holds,
     Form(usize),
     Range(usize),
 }
 
-// Judges a C line: the form of all fields, then the ranges.
-pub fn row_judged(zones: usize, line: &[u8], i: usize) -> RowJudged
+// Judges a row's line: the form of all fields, then the ranges.
+pub fn row_judged(kind: RowKind, zones: usize, line: &[u8], i: usize) -> RowJudged
     requires { ⌜ (0 < zones) × (zones ≤ zonesMost) ⌝ }
-    ensures { λ r. ⌜ r ≡ judgedOf (rowLine zones (now (line .entry)) i) ⌝ }
+    ensures { λ r. ⌜ r ≡ judgedOf (lineBy kind zones (now (line .entry)) i) ⌝ }
 {
     let mut factors = [0i64; kinds::Header::ZONES_MOST];
-    judged_in(line, i, &mut factors[..zones])
+    judged_in(kind, line, i, &mut factors[..zones])
 }
 
 // .. with working memory for its factors.
-fn judged_in(line: &[u8], i: usize, f: &mut [i64]) -> RowJudged
+fn judged_in(kind: RowKind, line: &[u8], i: usize, f: &mut [i64]) -> RowJudged
     requires { ⌜ (0 < length (now f)) × (length (now f) ≤ zonesMost) ⌝ }
-    ensures { λ r. ⌜ r ≡ judgedOf (rowLine (length (now (f .entry))) (now (line .entry)) i) ⌝ }
+    ensures { λ r. ⌜ r ≡ judgedOf (lineBy kind (length (now (f .entry))) (now (line .entry)) i) ⌝ }
 {
     let zones = f.len();
     let mut raw: RowRecord = [0; Row::ITEMS];
-    let Fields::End(_) = row_at(line, i, &mut raw, f) else {
-        return RowJudged::Form(row_bad(zones, line, i));
+    let Fields::End(_) = row_at(kind, line, i, &mut raw, f) else {
+        return RowJudged::Form(row_bad(kind, zones, line, i));
     };
     if table::row_good(raw, f) {
         return RowJudged::Holds;
     }
-    RowJudged::Range(blame::range::row_range(b'\t', FIRST_SEP, raw, f, line))
+    RowJudged::Range(row_out(kind, raw, f, line))
 }
 
-// The byte to blame in a C line of wrong form.
-fn row_bad(zones: usize, line: &[u8], i: usize) -> usize
+// The byte to blame in a line of wrong form.
+fn row_bad(kind: RowKind, zones: usize, line: &[u8], i: usize) -> usize
     requires { ⌜ zones ≤ zonesMost ⌝ }
-    ensures { λ r. ⌜ r ≡ rowBad zones (now (line .entry)) i ⌝ }
+    ensures { λ r. ⌜ r ≡ badBy kind zones (now (line .entry)) i ⌝ }
 {
-    blame::line_byte(b'\t', b'C', &Row::COLUMNS[..Row::ITEMS + zones], line, i)
+    let n = Row::ITEMS + zones;
+    match kind {
+        RowKind::Table => blame::line_byte(b'\t', b'C', &Row::COLUMNS[..n], line, i),
+        RowKind::Sheet => blame::bare_byte(b';', &Row::SHEET_COLUMNS[..n], line, i),
+    }
 }
 
-// The first value follows the line's second tab: letter and index stand before it.
-const FIRST_SEP: usize = 2;
+// .. and where a value is outside its range. The first value follows a C line's second tab, since letter and index stand before it, and a sheet's first semicolon.
+fn row_out(kind: RowKind, raw: RowRecord, f: &[i64], line: &[u8]) -> usize
+    requires { ⌜ length (now f) ≤ zonesMost ⌝ }
+    ensures { λ r. ⌜ r ≡ outBy kind (now (line .entry)) raw (now (f .entry)) ⌝ }
+{
+    match kind {
+        RowKind::Table => blame::range::row_range(b'\t', 2, raw, f, line),
+        RowKind::Sheet => blame::range::row_range(b';', 1, raw, f, line),
+    }
+}
 
-// Fills a row's stretch of the factors from its C line, which was judged before, and answers its raw record.
-pub fn row_filled(line: &[u8], i: usize, f: &mut [i64]) -> RowRecord
-    requires { ⌜ (0 < length (now f)) × (length (now f) ≤ zonesMost) × (judgedOf (rowLine (length (now f)) (now line) i) ≡ Holds) ⌝ }
-    ensures { λ r. ⌜ rowLine (length (now (f .entry))) (now (line .entry)) i ≡ holds (row r (now (f .exit))) ⌝ }
+// Fills a row's stretch of the factors from its line, which was judged before, and answers its raw record.
+pub fn row_filled(kind: RowKind, line: &[u8], i: usize, f: &mut [i64]) -> RowRecord
+    requires { ⌜ (0 < length (now f)) × (length (now f) ≤ zonesMost) × (judgedOf (lineBy kind (length (now f)) (now line) i) ≡ Holds) ⌝ }
+    ensures { λ r. ⌜ lineBy kind (length (now (f .entry))) (now (line .entry)) i ≡ holds (row r (now (f .exit))) ⌝ }
 {
     let mut raw: RowRecord = [0; Row::ITEMS];
-    let Fields::End(_) = row_at(line, i, &mut raw, f) else {
+    let Fields::End(_) = row_at(kind, line, i, &mut raw, f) else {
         return raw;
     };
     raw
 }
 
 // The seven values, and one factor for each item of f.
-fn row_at(line: &[u8], i: usize, raw: &mut [i64], f: &mut [i64]) -> Fields
+fn row_at(kind: RowKind, line: &[u8], i: usize, raw: &mut [i64], f: &mut [i64]) -> Fields
     requires { ⌜ (length (now raw) ≡ 7) × (0 < length (now f)) × (length (now f) ≤ zonesMost) ⌝ }
-    ensures { λ r. ⌜ stored r (now (raw .exit) ++ now (f .exit)) ≡ rowValues (length (now (f .entry))) (now (line .entry)) i ⌝ }
+    ensures { λ r. ⌜ stored r (now (raw .exit) ++ now (f .exit)) ≡ valuesBy kind (length (now (f .entry))) (now (line .entry)) i ⌝ }
 {
-    let n = f.len();
-    columns::read::parts_at(
-        b'\t',
-        b'C',
-        &Row::COLUMNS[..Row::ITEMS],
-        &Row::COLUMNS[Row::ITEMS..Row::ITEMS + n],
-        line,
-        i,
-        raw,
-        f,
-    )
+    let n = Row::ITEMS + f.len();
+    match kind {
+        RowKind::Table => columns::read::parts_at(
+            b'\t',
+            b'C',
+            &Row::COLUMNS[..Row::ITEMS],
+            &Row::COLUMNS[Row::ITEMS..n],
+            line,
+            i,
+            raw,
+            f,
+        ),
+        RowKind::Sheet => columns::bare::bare_at(
+            b';',
+            &Row::SHEET_COLUMNS[..Row::ITEMS],
+            &Row::SHEET_COLUMNS[Row::ITEMS..n],
+            line,
+            i,
+            raw,
+            f,
+        ),
+    }
 }

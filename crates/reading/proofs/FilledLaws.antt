@@ -24,7 +24,8 @@ use Rattle.table.proofs.JudgeLaws.{exact-factors}
 use Rattle.table.proofs.RoomLaws.{room-of}
 use Rattle.runs.specs.Runs.{allGood, positionsIn}
 use Rattle.corrections.specs.Corrections.{pieces, handedOn, judgeSheet}
-use Rattle.runs.specs.Rows.{valuesOf, factorsOf, asGiven, rowsIn}
+use Rattle.runs.specs.Rows.{valuesOf, factorsOf, rowsIn}
+use Rattle.runs.proofs.PickedLaws.{picked-good}
 use Rattle.reading.specs.declared.judged.Places.{Places}
 use Rattle.reading.specs.Reading.{ReadLeft, tablesLeft}
 use Rattle.reading.specs.Places.{tableAt, Placed, readSaid}
@@ -37,11 +38,11 @@ module _ (p : Places) (text sheet : List ℕ) (borders : List (List ℤ)) (z a :
   pub allocated-again : allGood (positionsIn (code "T") (length a) text (p .allocated)) ≡ true
   allocated-again = rw (exact .allocated-long) (placed .allocated-good)
 
-  pub rows-again : allGood (rowsIn (p .header .zones) asGiven (length c) text (p .rows)) ≡ true
-  rows-again = rw (exact .rows-long) (placed .rows-good)
-
   pub sheet-again : judgeSheet (p .header .zones) (length c) sheet ≡ passed tt
   sheet-again = rw (exact .rows-long) (placed .sheet-good)
+
+  pub rows-again : allGood (rowsIn (p .header .zones) (handedOn (pieces sheet)) (length c) text (p .rows)) ≡ true
+  rows-again = picked-good (p .header .zones) (length c) sheet text (p .rows) sheet-again (rw (exact .rows-long) (placed .rows-good))
 
   pub factors-asked : length f ≡ length c * p .header .zones
   factors-asked = exact-factors (lent (p .header) z a b c f) exact

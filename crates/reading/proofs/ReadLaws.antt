@@ -29,6 +29,7 @@ use Rattle.reading.specs.Reading.{withHeader, intradayAt, rowsFrom, line
 use Rattle.lines.proofs.HeaderTrip.{header-read, header-plain}
 use Rattle.lines.proofs.ZoneTrip.{zone-read}
 use Rattle.lines.proofs.BorderTrip.{BorderHeld, border-read}
+use Rattle.lines.specs.declared.row.RowKind.the-variants as rowKind
 use Rattle.lines.proofs.RowTrip.{RowHeld, RowHeldAt, row-read}
 
 -- ---- the profile that a header is given
@@ -149,7 +150,7 @@ module _ (pick : List ℕ → ℕ → List ℕ) (text : List ℕ) (t : Table) (o
 
   pub rows-held : (length (o .lines) ≡ t .header .rows) × allFit (RowHeldAt (t .header .zones)) 0 (o .lines)
   rows-held =
-      run-fits (pickedRow (t .header .zones) pick) (rowLineNo (t .header)) (RowHeldAt (t .header .zones)) (λ line i c e. row-read (t .header .zones) (pick line i) i c e .1)
+      run-fits (pickedRow (t .header .zones) pick) (rowLineNo (t .header)) (RowHeldAt (t .header .zones)) (λ line i c e. row-read rowKind.Table (t .header .zones) (pick line i) i c e .1)
       (t .header .rows) text (o .q) 0 (o .lines) (o .e) (o .rows-are)
 
   border-at : (b : ℕ) → b < t .header .borders → BorderHeld (t .header .zones) (getD (t .borders) b [])

@@ -7,6 +7,7 @@ ghost use Rattle.reading.specs.Places.{tableAt, Placed};
 use crate::judged::Places;
 use kinds::BorderRecord;
 use kinds::RowRecord;
+use lines::row::RowKind;
 
 // Fills tables that have exactly the items of the text's table; its borders were read before. Both texts have one lifetime, since a row's line is a part of
 // either.
@@ -31,7 +32,7 @@ pub fn fill<'a>(
     runs::zones::zones_filled(b'Z', text, places.zones, z);
     runs::zones::zones_filled(b'T', text, places.allocated, t);
     copy(borders, b);
-    runs::rows::rows_filled(text, sheet, places.rows, zones, c, f);
+    runs::rows::rows_filled(RowKind::Table, text, sheet, places.rows, zones, c, f);
 }
 
 fn copy(from: &[BorderRecord], to: &mut [BorderRecord])

@@ -17,6 +17,7 @@ use kinds::Header;
 use kinds::Judgement;
 use kinds::Refusal;
 use lines::HeaderLine;
+use lines::row::RowKind;
 use numbers::First;
 
 // Where the Z, the T and the C lines of a good text begin.
@@ -199,7 +200,7 @@ fn judge_borders(
         End::At(p) => p,
         End::Refused(w) => return TextJudged::Refused(w),
     };
-    let end = match runs::rows::rows_judged(text, rows_at, zones, first_row, rows) {
+    let end = match runs::rows::rows_judged(RowKind::Table, text, rows_at, zones, first_row, rows) {
         End::At(p) => p,
         End::Refused(w) => return TextJudged::Refused(w),
     };

@@ -21,7 +21,7 @@ use Rattle.blame.specs.Blame.{goodAt, byteAt, fieldsByte, bareByte}
 use Rattle.blame.specs.RangeBlame.{pastSeps, rangeByte}
 use Rattle.block.specs.Block.{linesAt}
 use Rattle.table.specs.Table.{stretch}
-use Rattle.rowsheet.specs.SheetLine.{sheetLine}
+use Rattle.lines.specs.SheetLine.{sheetLine}
 use Rattle.rowsheet.specs.RowSheet.{Rows, readSheet, sheetOf, rowsInRange}
 
 unfoldable computing : Unit {0}

@@ -22,7 +22,7 @@ use Rattle.columns.proofs.BareLaws.{bare-long}
 use Rattle.table.specs.Table.{rowGood}
 use Rattle.table.proofs.GoodLaws.{row-good}
 use Rattle.lines.proofs.RowTrip.{share-kept}
-use Rattle.rowsheet.specs.SheetLine.{semicolon, sheetText}
+use Rattle.lines.specs.SheetLine.{semicolon, sheetText}
 
 -- ten digits, a point and a minus
 power-most : (z : ℤ) → natAbs z < 10 ^ 10 → length (pointedℤ 3 z) ≤ 12

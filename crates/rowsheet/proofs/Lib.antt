@@ -1,6 +1,4 @@
 pub mod Anchors
-pub mod LineJudge
-pub mod LineTrip
 pub mod LengthLaws
 pub mod SheetLaws
 pub mod WriteLaws

@@ -20,13 +20,13 @@ use Rattle.block.specs.Block.{Block, read, fault, linesAt, withLines, endOf, he
 use Rattle.block.proofs.BlockLaws.{allFit}
 use Rattle.block.proofs.RunLaws.{run-fits}
 use Rattle.lines.specs.Lines.{RowLine}
-use Rattle.lines.proofs.RowTrip.{RowHeldAt}
+use Rattle.lines.specs.declared.row.RowKind.the-variants as rowKind
+use Rattle.lines.proofs.RowTrip.{RowHeldAt, row-read}
 use Rattle.runs.specs.Rows.{valuesOf, factorsOf}
 use Rattle.runs.proofs.RowLaws.{values-long, factors-long}
 use Rattle.runs.proofs.RowPasses.{Run, run-again}
-use Rattle.rowsheet.specs.SheetLine.{sheetLine}
+use Rattle.lines.specs.SheetLine.{sheetLine}
 use Rattle.rowsheet.specs.RowSheet.{Rows, rowsOf, firstLineNo, linesIn, sheetRows, readSheet, rowRoom, RowsLeft, readRowsLeft, rowsSaid}
-use Rattle.rowsheet.proofs.LineTrip.{line-read}
 
 -- ---- a sheet by its length, header and lines
 module _ (h : Header) (sheet : List ℕ) where
@@ -84,7 +84,7 @@ sheet-run h sheet t e = long (ltb bytesMost (length sheet)) refl e
     at-end : length sheet ≤ bytesMost → headerFits h ≡ true → (xs : List RowLine) (m : ℕ) → linesIn h sheet ≡ read xs m → (u : Bool) → ltb m (length sheet) ≡ u → cond u (refused (wrongForm (firstLineNo + h .rows))) (passed (rowsOf xs)) ≡ passed t → SheetRun h sheet t
     at-end l f xs m q true k e = absurd (not-passed (wrongForm (firstLineNo + h .rows)) t e)
     at-end l f xs m q false k e =
-        let r = run-fits (sheetLine (h .zones)) firstLineNo (RowHeldAt (h .zones)) (λ line i a g. line-read (h .zones) line i a g .1) (h .rows) sheet 0 0 xs m q in
+        let r = run-fits (sheetLine (h .zones)) firstLineNo (RowHeldAt (h .zones)) (λ line i a g. row-read rowKind.Sheet (h .zones) line i a g .1) (h .rows) sheet 0 0 xs m q in
         record { short = l; fits = f; lines = xs; end = m; run = q; last = ltb-false m (length sheet) k; is = sym (passed-is (rowsOf xs) t e); many = r .0; held = r .1 }
 
     lined : length sheet ≤ bytesMost → headerFits h ≡ true → (b : Block RowLine) → linesIn h sheet ≡ b → withLines b (λ lines e. cond (ltb e (length sheet)) (refused (wrongForm (firstLineNo + h .rows))) (passed (rowsOf lines))) ≡ passed t → SheetRun h sheet t

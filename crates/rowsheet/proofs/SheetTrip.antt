@@ -29,16 +29,19 @@ use Rattle.block.proofs.RunLaws.{fits-at, fits-all, lines-block, lines-goes}
 use Rattle.table.specs.Table.{rowGood, stretch}
 use Rattle.table.proofs.GoodLaws.{stretch-long}
 use Rattle.lines.specs.Lines.{RowLine}
-use Rattle.lines.proofs.RowTrip.{RowHeld, RowHeldAt}
+use Rattle.lines.specs.declared.row.RowKind.the-variants as rowKind
+use Rattle.lines.proofs.RowTrip.{textBy, RowHeld, RowHeldAt, row-read, row-written, row-one}
 use Rattle.runs.specs.Rows.{valuesOf, factorsOf}
 use Rattle.runs.proofs.RowLaws.{emptyRow, values-at, stretch-of, cut, cut-long, cut-values, cut-factors, cut-at}
-use Rattle.rowsheet.specs.SheetLine.{sheetLine, sheetText}
+use Rattle.lines.specs.SheetLine.{sheetLine, sheetText}
 use Rattle.rowsheet.specs.RowSheet.{Rows, rowsOf, firstLineNo, sheetRows, readSheet, RowsLeft, readRowsLeft, sheetTextAt, sheetOf, rowsInRange, judgeRows, writeRowsLeft}
-use Rattle.rowsheet.proofs.LineTrip.{lineTextOf, line-read, line-written, line-one}
 use Rattle.rowsheet.proofs.LengthLaws.{lineMost, line-most}
 use Rattle.rowsheet.proofs.SheetLaws.{SheetRun, sheet-run, rows-many, factors-many, room-passed, room-enough}
 
 -- ---- the sheet of rows is the lines that hold them
+abbrev lineTextOf : (i : ℕ) → RowLine → List ℕ
+lineTextOf = textBy rowKind.Sheet
+
 module _ (zones : ℕ) (t : Rows) (lines : List RowLine) (values-are : valuesOf lines ≡ t .rows) (factors-are : factorsOf lines ≡ t .factors) (many : length lines ≡ length (t .rows)) (held : allFit (RowHeldAt zones) 0 lines) where
   sheet-block : sheetOf zones t ≡ blockText lineTextOf 0 lines
   unfolding sheetOf
@@ -56,7 +59,7 @@ module _ (zones : ℕ) (t : Rows) (lines : List RowLine) (values-are : valuesOf 
 pub read-write : (h : Header) (sheet : List ℕ) (t : Rows) → readSheet h sheet ≡ passed t → sheetOf (h .zones) t ≡ sheet
 read-write h sheet t e =
     let u = sheet-run h sheet t e in
-    let b = block-read (sheetLine (h .zones)) firstLineNo lineTextOf (λ line i c q. line-read (h .zones) line i c q .0) (h .rows) sheet 0 0 (u .lines) (u .end) (u .run) .0 in
+    let b = block-read (sheetLine (h .zones)) firstLineNo lineTextOf (λ line i c q. row-read rowKind.Sheet (h .zones) line i c q .0) (h .rows) sheet 0 0 (u .lines) (u .end) (u .run) .0 in
     let none : drop (u .end) sheet ≡ [] = drop-of-length-le sheet (u .last) in
     sheet-block (h .zones) t (u .lines) (sym (ap (λ (r : Rows). r .rows) (u .is))) (sym (ap (λ (r : Rows). r .factors) (u .is))) (u .many ∙ sym (rows-many u)) (u .held)
     ∙ sym (append-nil (blockText lineTextOf 0 (u .lines))) ∙ ap (λ (l : List ℕ). blockText lineTextOf 0 (u .lines) ++ l) (sym none) ∙ sym b
@@ -149,7 +152,7 @@ module _ (h : Header) (t : Rows) (fits : headerFits h ≡ true) (rows-long : len
     back =
         let sheet = sheetOf (h .zones) t in
         let here : drop 0 sheet ≡ blockText lineTextOf 0 lines ++ [] = sheet-block (h .zones) t lines values-are factors-are (lines-long ∙ sym rows-long) held ∙ sym (append-nil (blockText lineTextOf 0 lines)) in
-        lines-goes (sheetLine (h .zones)) firstLineNo lineTextOf Fits (λ i c q. line-written (h .zones) c (q .1) i (q .0)) line-one
+        lines-goes (sheetLine (h .zones)) firstLineNo lineTextOf Fits (λ i c q. row-written (h .zones) c (q .1) rowKind.Sheet i (q .0)) (row-one rowKind.Sheet)
         (λ xs e. cond (ltb e (length sheet)) (refused (wrongForm (firstLineNo + h .rows))) (passed (rowsOf xs))) (passed t) lines (h .rows) sheet 0 [] lines-long here fit (λ next none. ended next none)
       where
         ended : (next : ℕ) → drop next (sheetOf (h .zones) t) ≡ [] → cond (ltb next (length (sheetOf (h .zones) t))) (refused (wrongForm (firstLineNo + h .rows))) (passed (rowsOf lines)) ≡ passed t

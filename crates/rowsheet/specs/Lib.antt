@@ -1,2 +1,1 @@
-pub mod SheetLine
 pub mod RowSheet

@@ -19,7 +19,7 @@ use Rattle.block.specs.Block.{Block, linesAt, withLines}
 use Rattle.table.specs.Table.{rowGood, stretch, headerLineNo}
 use Rattle.lines.specs.Lines.{RowLine}
 use Rattle.runs.specs.Rows.{valuesOf, factorsOf}
-use Rattle.rowsheet.specs.SheetLine.{sheetLine, sheetText}
+use Rattle.lines.specs.SheetLine.{sheetLine, sheetText}
 
 -- the rows of a table: their raw records, and their factors, each row's after the one before
 pub record Rows : Type 0 where

@@ -1,6 +1,5 @@
 // The planners' semicolon sheet (02, E11): the open calls `read_rows` and `write_rows`.
 // All is judged before the first record or byte is stored.
-mod line;
 mod read;
 mod write;
 
@@ -16,6 +15,7 @@ use kinds::Judgement;
 use kinds::Refusal;
 use kinds::RowRecord;
 use kinds::Written;
+use lines::row::RowKind;
 
 // The line of row 0; the header's own is the table's first.
 pub const FIRST_LINE_NO: usize = 1;
@@ -32,7 +32,15 @@ pub fn read_rows(h: Header, sheet: &[u8], c: &mut [RowRecord], f: &mut [i64]) ->
     }
     let zones = h.zones;
     let rows = h.rows;
-    read::rows_filled(sheet, zones, &mut c[..rows], &mut f[..rows * zones]);
+    runs::rows::rows_filled(
+        RowKind::Sheet,
+        sheet,
+        b"",
+        0,
+        zones,
+        &mut c[..rows],
+        &mut f[..rows * zones],
+    );
     Judgement::Passed
 }
 

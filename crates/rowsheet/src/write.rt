@@ -15,7 +15,7 @@ ghost use Rattle.kinds.specs.Refusals.{then, passed};
 ghost use Rattle.text.specs.Left.{textLeft, textSaid};
 ghost use Rattle.text.specs.Put.{Put};
 ghost use Rattle.table.specs.Table.{rowGood, stretch};
-ghost use Rattle.rowsheet.specs.SheetLine.{sheetText};
+ghost use Rattle.lines.specs.SheetLine.{sheetText};
 ghost use Rattle.rowsheet.specs.RowSheet.{sheetOf, rowsInRange};
 
 pub fn write_front(zones: usize, c: &[RowRecord], f: &[i64], out: &mut [u8]) -> Written

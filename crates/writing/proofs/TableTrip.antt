@@ -33,6 +33,7 @@ use Rattle.reading.specs.Reading.{intradayAt, allocatedFrom, linesBy, linesOf, 
 use Rattle.lines.proofs.HeaderTrip.{header-read, header-written, header-one}
 use Rattle.lines.proofs.ZoneTrip.{zone-read, zone-written, zone-one}
 use Rattle.lines.proofs.BorderTrip.{BorderHeld, border-read, border-written, border-one}
+use Rattle.lines.specs.declared.row.RowKind.the-variants as rowKind
 use Rattle.lines.proofs.RowTrip.{RowHeld, RowHeldAt, row-read, row-written, row-one}
 use Rattle.runs.proofs.RowLaws.{emptyRow, values-long, values-at, cut, cut-long, cut-values, cut-factors, cut-at}
 use Rattle.reading.proofs.ReadLaws.{Opened, nets-held, allocated-held, borders-held, rows-held}
@@ -55,7 +56,7 @@ module _ (text : List ℕ) (t : Table) (o : Opened asGiven text t) where
 
   read-rows : drop (o .q) text ≡ blockText rowLineOf 0 (o .lines)
   read-rows =
-      block-read (rowLine (t .header .zones)) (rowLineNo (t .header)) rowLineOf (λ line i c e. row-read (t .header .zones) line i c e .0) (t .header .rows) text (o .q) 0 (o .lines) (o .e) (o .rows-are) .0
+      block-read (rowLine (t .header .zones)) (rowLineNo (t .header)) rowLineOf (λ line i c e. row-read rowKind.Table (t .header .zones) line i c e .0) (t .header .rows) text (o .q) 0 (o .lines) (o .e) (o .rows-are) .0
       ∙ ap (λ (l : List ℕ). blockText rowLineOf 0 (o .lines) ++ l) (drop-of-length-le text (o .whole)) ∙ append-nil _
 
   read-blocks : text ≡ blocks t (o .lines)
@@ -215,7 +216,7 @@ module _ (t : Table) (g : Good t) (s : Shaped t) where
         ∙ lines-goes (borderLine (h .zones)) (borderLineNo h) borderText (BorderFits (h .zones))
         (λ i raw f. border-written (h .zones) i raw (f .0) (header-in h (g .exact .header) .zones-most) (f .1)) (λ i raw r. border-one (h .zones) i raw r)
         _ (passed t) (t .borders) (h .borders) text o (blockText rowLineOf 0 lines) (g .exact .borders-long) h1 borders-fit (λ q h2.
-        lines-goes (rowLine (h .zones)) (rowLineNo h) rowLineOf (RowFits (h .zones)) (λ i c f. row-written (h .zones) c (f .1) i (f .0)) row-one
+        lines-goes (rowLine (h .zones)) (rowLineNo h) rowLineOf (RowFits (h .zones)) (λ i c f. row-written (h .zones) c (f .1) rowKind.Table i (f .0)) (row-one rowKind.Table)
         done (passed t) lines (h .rows) text q [] lines-long (h2 ∙ sym (append-nil _)) rows-fit (λ e h3.
         rw (le-ltb e (length text) (omega (arith, length-drop e text, ap length h3)))
         (ap passed (table-is h (t .nets) (t .allocated) (t .borders) _ _ _ _ values-are factors-are))))))))

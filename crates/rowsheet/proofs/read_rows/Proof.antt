@@ -1,5 +1,5 @@
 -- `rowsheet::read_rows` meets its contract: what is refused writes nothing (`sheet-refused`, `left-short`), and else the rows stand in front (`left-filled`).
-use mathlib.Core.Path.{_≡_, sym, ap, _∙_}
+use mathlib.Core.Path.{_≡_, refl, sym, ap, _∙_}
 use Prim.Native.Nat.{ℕ, _*_, _≤_}
 use native.Mathlib.Omega.{arith}
 use borrow.Author.Needs.{needs}
@@ -12,7 +12,7 @@ use Rattle.kinds.proofs.KindLaws.{header-in}
 use Rattle.block.specs.Block.{linesAt, heldBy}
 use Rattle.table.proofs.RoomLaws.{factors-most}
 use Rattle.runs.specs.Rows.{valuesOf, factorsOf}
-use Rattle.rowsheet.specs.SheetLine.{sheetLine}
+use Rattle.lines.specs.SheetLine.{sheetLine}
 use Rattle.rowsheet.specs.RowSheet.{Rows, rowsOf, linesIn, readSheet, rowRoom}
 use Rattle.rowsheet.proofs.SheetLaws.{sheet-refused, SheetRun, sheet-run, again, left-short, left-filled, room-passed}
 use Rattle.rowsheet.proofs.read_rows.Statement.{statement}
@@ -62,34 +62,36 @@ returns-2 c =
     left-short (a .h) (a .sheet .now) (a .c .now) (a .f .now) (rows s) (good told) _ (sym (ap (λ (j : Judgement). ruled j (a .h)) (c .before .w2 .given .1)) ∙ c .before .before .before .judge-room .ensures)
 
 slice-relend-prefix-rows-filled : tie.Need-slice-relend-prefix-rows-filled
-slice-relend-prefix-rows-filled c = enough c .0
-
-slice-aggregate-rows-filled : tie.Need-slice-aggregate-rows-filled
-slice-aggregate-rows-filled c = sym (length-take-le _ _ (enough (c .before) .0))
-
-mul-rows-filled : tie.Need-mul-rows-filled
-mul-rows-filled c = omega (arith, factors-most _ (run (past-sheet (c .before)) .fits))
-
-slice-relend-prefix-rows-filled-2 : tie.Need-slice-relend-prefix-rows-filled-2
-slice-relend-prefix-rows-filled-2 c = enough (c .before) .1
+slice-relend-prefix-rows-filled c = enough (c .before) .0
 
 slice-aggregate-rows-filled-2 : tie.Need-slice-aggregate-rows-filled-2
-slice-aggregate-rows-filled-2 c = sym (length-take-le _ _ (enough (c .before .before) .1))
+slice-aggregate-rows-filled-2 c = sym (length-take-le _ _ (enough (c .before .before) .0))
+
+mul-rows-filled : tie.Need-mul-rows-filled
+mul-rows-filled c = omega (arith, factors-most _ (run (past-sheet (c .before .before)) .fits))
+
+slice-relend-prefix-rows-filled-2 : tie.Need-slice-relend-prefix-rows-filled-2
+slice-relend-prefix-rows-filled-2 c = enough (c .before .before) .1
+
+slice-aggregate-rows-filled-3 : tie.Need-slice-aggregate-rows-filled-3
+slice-aggregate-rows-filled-3 c = sym (length-take-le _ _ (enough (c .before .before .before) .1))
 
 rows-filled-requires : tie.Need-rows-filled-requires
 rows-filled-requires c κs =
-    let told = c .before .before in
+    let told = c .before .before .before in
     let a = entry (past-sheet told) .args in
     let n = enough told in
     let u = run (past-sheet told) in
     let k = header-in (a .h) (u .fits) in
-    let long = length-take-le (a .h .rows) (a .c .now) (n .0) in
-    (length-take-le (a .h .rows * a .h .zones) (a .f .now) (n .1) ∙ ap (λ (m : ℕ). m * a .h .zones) (sym long), rw long (again u .sound), omega (arith, k .zones-least), k .zones-most)
+    let long = length-take-le (a .h .rows) (a .c .now) (n .0) in (
+      (omega arith, length-take-le (a .h .rows * a .h .zones) (a .f .now) (n .1) ∙ ap (λ (m : ℕ). m * a .h .zones) (sym long), rw long (again u .sound), omega (arith, k .zones-least), k .zones-most),
+      refl,
+    )
 
 returns-3 : tie.Need-returns-3
 returns-3 c =
     let filled = c .before .before in
-    let told = filled .before .before .before in
+    let told = filled .before .before .before .before in
     let s = entry (past-sheet told) in
     let a = s .args in
     let long = length-take-le (a .h .rows) (a .c .now) (enough told .0) in
@@ -109,11 +111,12 @@ read-rows-spec =
     (λ c. search needs)
     returns-2
     (λ c. search needs)
+    (λ c. refl)
     slice-relend-prefix-rows-filled
-    slice-aggregate-rows-filled
+    slice-aggregate-rows-filled-2
     mul-rows-filled
     slice-relend-prefix-rows-filled-2
-    slice-aggregate-rows-filled-2
+    slice-aggregate-rows-filled-3
     rows-filled-requires
     (λ c. search needs)
     (λ c. search needs)

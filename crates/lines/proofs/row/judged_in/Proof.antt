@@ -1,42 +1,55 @@
 -- `lines::row::judged_in` meets its contract: what the columns hold is judged.
-use mathlib.Core.Path.{sym, ap, _∙_}
+use mathlib.Core.Path.{_≡_, sym, ap, _∙_}
 use mathlib.Core.List.{_++_}
+use lib.ListN.{length}
 use native.Mathlib.Omega.{arith}
 use Rattle.columns.specs.declared.Fields.{Fields}
 use Rattle.columns.specs.Columns.{stored}
-use Rattle.lines.specs.SaidRow.{judgedOf}
+use Rattle.lines.specs.SaidRow.{judgedOf, valuesBy}
 use Rattle.lines.specs.declared.row.RowJudged.the-variants.{Form, Range}
 use Rattle.lines.proofs.RowJudge.{row-form, row-holds, row-range}
 use borrow.Author.Needs.{needs}
 use Rattle.lines.proofs.row.judged_in.Statement.{statement}
 use Rattle.lines.proofs.row.judged_in.Tie as tie
 
+abbrev entry : tie.After-row-at → tie.Start
+entry o = o .before .before .before .before
+
 row-bad-requires : tie.Need-row-bad-requires
-row-bad-requires c κs = c .before .before .before .before .before .before .before .before .pre .1
+row-bad-requires c κs = entry (c .before .before .before .before) .pre .1
+
+-- what was stored is what the line's columns hold
+read : (o : tie.After-row-at) (r : Fields) → o .row-at .result ≡ r → let a = entry o .args in stored r (o .row-at .last .1 .1 .1 .0 ++ o .row-at .last .1 .1 .1 .1 .0) ≡ valuesBy (a .kind) (length (a .f .now)) (a .line .now) (a .i)
+read o r e = sym (ap (λ (f : Fields). stored f (o .row-at .last .1 .1 .1 .0 ++ o .row-at .last .1 .1 .1 .1 .0)) e) ∙ o .row-at .ensures
 
 returns : tie.Need-returns
 returns c =
     let o = c .before .before .before .before .before in
-    ap Form (c .row-bad .ensures)
-    ∙ sym (ap judgedOf (row-form _ _ _ _ (ap (λ (f : Fields). stored f (o .row-at .last .1 .1 .0 ++ o .row-at .last .1 .1 .1 .0)) (sym (c .before .enum-told2 .given .1)) ∙ o .row-at .ensures)))
+    let a = entry o .args in
+    ap Form (c .row-bad .ensures) ∙ sym (ap judgedOf (row-form (a .kind) (length (a .f .now)) (a .line .now) (a .i) _ (read o _ (c .before .enum-told2 .given .1))))
 
 abbrev at-row-at : tie.After-row-good → tie.After-row-at
 at-row-at c = c .before .before .before .before .before .before
 
 returns-2 : tie.Need-returns-2
-returns-2 c = sym (ap judgedOf (row-holds _ _ _ (at-row-at (c .before) .row-at .last .1 .1 .0) (at-row-at (c .before) .row-at .last .1 .1 .1 .0) (at-row-at (c .before) .row-at .kept .1 .1 .0) _ (ap (λ (f : Fields). stored f (at-row-at (c .before) .row-at .last .1 .1 .0 ++ at-row-at (c .before) .row-at .last .1 .1 .1 .0)) (sym (c .before .before .before .enum-told .given .1)) ∙ at-row-at (c .before) .row-at .ensures) (sym (c .before .row-good .ensures) ∙ c .if1 .taken)))
+returns-2 c =
+    let judged = c .before in
+    let o = at-row-at judged in
+    let a = entry o .args in
+    sym (ap judgedOf (row-holds (a .kind) (length (a .f .now)) (a .line .now) (a .i) _ _ (o .row-at .kept .1 .1 .1 .0) _ (read o _ (judged .before .before .enum-told .given .1)) (sym (judged .row-good .ensures) ∙ c .if1 .taken)))
 
-row-range-requires : tie.Need-row-range-requires
-row-range-requires c κs =
+row-out-requires : tie.Need-row-out-requires
+row-out-requires c κs =
     let o = at-row-at (c .before .before) in
-    omega (arith, o .row-at .kept .1 .1 .1 .0, o .before .before .before .before .pre .1)
+    omega (arith, o .row-at .kept .1 .1 .1 .1 .0, entry o .pre .1)
 
 returns-3 : tie.Need-returns-3
 returns-3 c =
     let judged = c .before .before .before in
     let o = at-row-at judged in
-    ap Range (c .row-range .ensures)
-    ∙ sym (ap judgedOf (row-range _ _ _ (o .row-at .last .1 .1 .0) (o .row-at .last .1 .1 .1 .0) (o .row-at .kept .1 .1 .0) _ (ap (λ (f : Fields). stored f (o .row-at .last .1 .1 .0 ++ o .row-at .last .1 .1 .1 .0)) (sym (judged .before .before .enum-told .given .1)) ∙ o .row-at .ensures) (sym (judged .row-good .ensures) ∙ c .before .before .if1 .left)))
+    let a = entry o .args in
+    ap Range (c .row-out .ensures)
+    ∙ sym (ap judgedOf (row-range (a .kind) (length (a .f .now)) (a .line .now) (a .i) _ _ (o .row-at .kept .1 .1 .1 .0) _ (read o _ (judged .before .before .enum-told .given .1)) (sym (judged .row-good .ensures) ∙ c .before .before .if1 .left)))
 
 pub judged-in-spec : {M : Type 1} → statement M
 judged-in-spec =
@@ -52,6 +65,6 @@ judged-in-spec =
     (λ c κs. search needs)
     (λ c. search needs)
     returns-2
-    row-range-requires
+    row-out-requires
     (λ c. search needs)
     returns-3)

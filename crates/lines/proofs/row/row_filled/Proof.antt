@@ -1,8 +1,10 @@
 -- `lines::row::row_filled` meets its contract: the line was judged good, so that the refusal's arm is never taken, and what its columns hold is what it holds.
-use mathlib.Core.Path.{sym, ap, _∙_}
+use mathlib.Core.Path.{_≡_, sym, ap, _∙_}
 use mathlib.Core.List.{_++_}
+use lib.ListN.{length}
 use Rattle.columns.specs.declared.Fields.{Fields}
 use Rattle.columns.specs.Columns.{stored}
+use Rattle.lines.specs.SaidRow.{valuesBy}
 use Rattle.lines.proofs.RowJudge.{row-never, row-filled}
 use borrow.Author.Needs.{needs}
 use Rattle.lines.proofs.row.row_filled.Statement.{statement}
@@ -14,11 +16,20 @@ entry c = c .before .before .before .before .before .before
 abbrev at-row-at : tie.After-enum-told → tie.After-row-at
 at-row-at c = c .before .before .before .before
 
+-- what was stored is what the line's columns hold
+read : (o : tie.After-row-at) (r : Fields) → o .row-at .result ≡ r → let a = o .before .before .before .before .args in stored r (o .row-at .last .1 .1 .1 .0 ++ o .row-at .last .1 .1 .1 .1 .0) ≡ valuesBy (a .kind) (length (a .f .now)) (a .line .now) (a .i)
+read o r e = sym (ap (λ (f : Fields). stored f (o .row-at .last .1 .1 .1 .0 ++ o .row-at .last .1 .1 .1 .1 .0)) e) ∙ o .row-at .ensures
+
 returns : tie.Need-returns
-returns c = absurd (row-never _ _ _ _ (ap (λ (f : Fields). stored f (c .before .before .before .before .row-at .last .1 .1 .0 ++ c .before .before .before .before .row-at .last .1 .1 .1 .0)) (sym (c .enum-told2 .given .1)) ∙ c .before .before .before .before .row-at .ensures) (entry (c .before .before) .pre .2))
+returns c =
+    let s = entry (c .before .before) in
+    absurd (row-never (s .args .kind) (length (s .args .f .now)) (s .args .line .now) (s .args .i) _ (read (c .before .before .before .before) _ (c .enum-told2 .given .1)) (s .pre .2))
 
 returns-2 : tie.Need-returns-2
-returns-2 c = row-filled _ _ _ (at-row-at c .row-at .last .1 .1 .0) (at-row-at c .row-at .last .1 .1 .1 .0) (at-row-at c .row-at .kept .1 .1 .0) _ (ap (λ (f : Fields). stored f (at-row-at c .row-at .last .1 .1 .0 ++ at-row-at c .row-at .last .1 .1 .1 .0)) (sym (c .enum-told .given .1)) ∙ at-row-at c .row-at .ensures) (entry (c .before .before) .pre .2)
+returns-2 c =
+    let s = entry (c .before .before) in
+    let o = at-row-at c in
+    row-filled (s .args .kind) (length (s .args .f .now)) (s .args .line .now) (s .args .i) _ _ (o .row-at .kept .1 .1 .1 .0) _ (read o _ (c .enum-told .given .1)) (s .pre .2)
 
 pub row-filled-spec : {M : Type 1} → statement M
 row-filled-spec =

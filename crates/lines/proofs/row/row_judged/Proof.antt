@@ -2,8 +2,7 @@
 use mathlib.Core.Path.{sym, ap, _∙_}
 use Prim.Native.Nat.{ℕ}
 use lib.Seq.{length-take-le}
-use Rattle.lines.specs.Lines.{rowLine}
-use Rattle.lines.specs.SaidRow.{judgedOf}
+use Rattle.lines.specs.SaidRow.{judgedOf, lineBy}
 use borrow.Author.Needs.{needs}
 use Rattle.lines.proofs.row.row_judged.Statement.{statement}
 use Rattle.lines.proofs.row.row_judged.Tie as tie
@@ -20,7 +19,7 @@ abbrev entry : tie.After-factors2 → tie.Start
 entry c = c .before .before .before .before
 
 returns : tie.Need-returns
-returns c = c .before .judged-in .ensures ∙ ap (λ (n : ℕ). judgedOf (rowLine n (entry c .args .line .now) (entry c .args .i))) (length-take-le _ _ (entry c .pre .1))
+returns c = c .before .judged-in .ensures ∙ ap (λ (n : ℕ). judgedOf (lineBy (entry c .args .kind) n (entry c .args .line .now) (entry c .args .i))) (length-take-le _ _ (entry c .pre .1))
 
 pub row-judged-spec : {M : Type 1} → statement M
 row-judged-spec =

@@ -32,7 +32,7 @@ returns-2 c =
 rows-judged-requires : tie.Need-rows-judged-requires
 rows-judged-requires c κs =
     let k = header-in (entry c .args .h) (fit c) in
-    (omega (arith, k .rows-most), omega (arith, k .zones-least), k .zones-most)
+    (omega arith, omega (arith, k .rows-most), omega (arith, k .zones-least), k .zones-most)
 
 add-wrong-form : tie.Need-add-wrong-form
 add-wrong-form c =

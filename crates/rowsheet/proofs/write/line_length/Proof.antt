@@ -12,7 +12,7 @@ use Rattle.columns.proofs.ColumnLaws.{sheet-factors, sheet-factors-long}
 use Rattle.columns.proofs.ColumnPut.{numbers-are}
 use Rattle.columns.proofs.BareLaws.{bare-long}
 use borrow.Author.Needs.{needs}
-use Rattle.rowsheet.specs.SheetLine.{semicolon, sheetText}
+use Rattle.lines.specs.SheetLine.{semicolon, sheetText}
 use Rattle.rowsheet.proofs.write.line_length.Statement.{statement}
 use Rattle.rowsheet.proofs.write.line_length.Tie as tie
 

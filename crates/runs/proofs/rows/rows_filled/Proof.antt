@@ -9,24 +9,24 @@ use lib.IntN.{ℤ}
 use lib.ListN.{length, take, drop}
 use Rattle.numbers.proofs.ListLaws.{part-long}
 use Rattle.text.specs.Line.{lineAt}
-use Rattle.lines.specs.Lines.{rowLine}
+use Rattle.lines.specs.SaidRow.{lineBy}
+use Rattle.lines.specs.declared.row.RowKind.{RowKind}
 use Rattle.corrections.specs.Corrections.{pieces, handedOn}
 use Rattle.corrections.specs.Walk.{lineFor}
 use Rattle.corrections.proofs.WalkLaws.{Walked, walked-start, walked-line, walked-more}
-use Rattle.runs.proofs.PickedLaws.{picked-good}
 use Rattle.runs.proofs.RowPasses.{RowsFilled, rows-filled-none, rows-filled-room, rows-filled-holds, rows-filled-more, rows-filled-all}
 use Rattle.runs.proofs.rows.rows_filled.Statement.{statement}
 use Rattle.runs.proofs.rows.rows_filled.Tie as tie
 
-record Head (text sheet : List ℕ) (at zones n : ℕ) (c : List (List ℤ)) (f : List ℤ) (p s i : ℕ) : Type 0 where
-  filled : RowsFilled rowLine zones (handedOn (pieces sheet)) text at n c f p i
+record Head (kind : RowKind) (text sheet : List ℕ) (at zones n : ℕ) (c : List (List ℤ)) (f : List ℤ) (p s i : ℕ) : Type 0 where
+  filled : RowsFilled (lineBy kind) zones (handedOn (pieces sheet)) text at n c f p i
   walked : Walked zones n sheet s i
 
 abbrev Inv-loop : tie.InvT-loop
-Inv-loop text sheet at zones c₀ f₀ p₀ s₀ i₀ i-end c f p s i = Head text sheet at zones i-end c f p s i
+Inv-loop kind text sheet at zones c₀ f₀ p₀ s₀ i₀ i-end c f p s i = Head kind text sheet at zones i-end c f p s i
 
 abbrev μ-loop : tie.MeasureT-loop
-μ-loop text sheet at zones c₀ f₀ p₀ s₀ i₀ i-end c f p s i = i-end - i
+μ-loop kind text sheet at zones c₀ f₀ p₀ s₀ i₀ i-end c f p s i = i-end - i
 
 abbrev entry : tie.In-loop Inv-loop μ-loop → tie.Start Inv-loop μ-loop
 entry c = c .before .before .before .before
@@ -42,7 +42,7 @@ room : (c : tie.In-loop Inv-loop μ-loop)
 room c =
     let l = c .before .loop in
     let a = entry c .args in
-    rows-filled-room rowLine (a .zones) (handedOn (pieces (a .sheet .now))) (a .text .now) (a .at) (length (a .c .now)) (l .c) (l .f) (l .p) (l .i) (l .inv .filled) (c .loop-test .taken)
+    rows-filled-room (lineBy (a .kind)) (a .zones) (handedOn (pieces (a .sheet .now))) (a .text .now) (a .at) (length (a .c .now)) (l .c) (l .f) (l .p) (l .i) (l .inv .filled) (c .loop-test .taken)
 
 lent : (c : tie.In-loop Inv-loop μ-loop)
     → let start = c .before .loop .i * entry c .args .zones in
@@ -65,8 +65,7 @@ loop-holds c =
     let a = c .before .before .args in
     let s = c .before .before .pre in
     record {
-      filled = rows-filled-none rowLine (a .zones) (handedOn (pieces (a .sheet .now))) (a .text .now) (a .at) (length (a .c .now)) (a .c .now) (a .f .now) (s .0 .0) refl (s .0 .1)
-          (picked-good (a .zones) (length (a .c .now)) (a .sheet .now) (a .text .now) (a .at) (s .1) (s .0 .2));
+      filled = rows-filled-none (lineBy (a .kind)) (a .zones) (handedOn (pieces (a .sheet .now))) (a .text .now) (a .at) (length (a .c .now)) (a .c .now) (a .f .now) (s .0 .0) refl (s .0 .1) (s .0 .2);
       walked = walked-start (a .zones) (length (a .c .now)) (a .sheet .now) (s .1);
     }
 
@@ -95,7 +94,7 @@ row-filled-requires c κs =
     let start = entry here in
     let a = start .args in
     let n = lent here in
-    (omega (arith, n, start .pre .0 .3), omega (arith, n, start .pre .0 .4), rows-filled-holds rowLine (a .zones) (handedOn (pieces (a .sheet .now))) (a .text .now) (a .at) (length (a .c .now)) (l .c) (l .f) (l .p) (l .i) (l .inv .filled) (here .loop-test .taken) _ (line-is (c .before)) _ n)
+    (omega (arith, n, start .pre .0 .3), omega (arith, n, start .pre .0 .4), rows-filled-holds (lineBy (a .kind)) (a .zones) (handedOn (pieces (a .sheet .now))) (a .text .now) (a .at) (length (a .c .now)) (l .c) (l .f) (l .p) (l .i) (l .inv .filled) (here .loop-test .taken) _ (line-is (c .before)) _ n)
 
 slice-set-from-c : tie.Need-slice-set-from-c Inv-loop μ-loop
 slice-set-from-c c = omega (arith, in-loop (c .before .before .before) .before .loop .inv .filled .rows-long)
@@ -112,8 +111,8 @@ loop-again c =
     let given = picked .before .line-at in
     let row = c .before .before .row-filled in
     record {
-      filled = rows-filled-more rowLine (a .zones) (handedOn (pieces (a .sheet .now))) (a .text .now) (a .at) (length (a .c .now)) (l .c) (l .f) (l .p) (l .i) (l .inv .filled) (here .loop-test .taken) _ (line-is picked) _ (lent here)
-          (given .result .now) (given .ensures) (row .result) (row .last .1 .1 .0) (row .kept .1 .1 .0) (row .ensures);
+      filled = rows-filled-more (lineBy (a .kind)) (a .zones) (handedOn (pieces (a .sheet .now))) (a .text .now) (a .at) (length (a .c .now)) (l .c) (l .f) (l .p) (l .i) (l .inv .filled) (here .loop-test .taken) _ (line-is picked) _ (lent here)
+          (given .result .now) (given .ensures) (row .result) (row .last .1 .1 .1 .0) (row .kept .1 .1 .1 .0) (row .ensures);
       walked = subst (λ (v : ℕ). Walked (a .zones) (length (a .c .now)) (a .sheet .now) v (l .i + 1)) (sym (c .sheet-after .ensures)) (walked-more (a .zones) (length (a .c .now)) (a .sheet .now) (l .s) (l .i) (l .inv .walked));
     }
 
@@ -127,7 +126,7 @@ returns : tie.Need-returns Inv-loop μ-loop
 returns c =
     let a = c .before .before .before .before .args in
     let l = c .before .loop in
-    rows-filled-all rowLine (a .zones) (handedOn (pieces (a .sheet .now))) (a .text .now) (a .at) (length (a .c .now)) (l .c) (l .f) (l .p) (l .i) (l .inv .filled) (c .loop-test .left)
+    rows-filled-all (lineBy (a .kind)) (a .zones) (handedOn (pieces (a .sheet .now))) (a .text .now) (a .at) (length (a .c .now)) (l .c) (l .f) (l .p) (l .i) (l .inv .filled) (c .loop-test .left)
 
 pub rows-filled-spec : {M : Type 1} → statement M
 rows-filled-spec =

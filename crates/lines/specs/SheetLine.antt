@@ -1,20 +1,18 @@
 -- A line of the planners' sheet (02, E11): a row as a C line has it, without the letter, its fields parted by semicolons, powers in MW with three decimals
--- and factors with five. What it holds, its ranges and the order in which they are judged are those of a C line (crate lines, `rowLine`).
+-- and factors with five. What it holds, its ranges and the order in which they are judged are those of a C line (`rowBy`).
 use mathlib.Core.List.{List, _++_}
 use Prim.Native.Char.{code}
 use Prim.Native.Nat.{ℕ}
 use lib.IntN.{ℤ}
-use lib.ListN.{length, take, drop}
-use Rattle.kinds.specs.LineColumns.{rowItems, sheetColumns, sheetFactors}
+use lib.ListN.{length}
+use Rattle.kinds.specs.LineColumns.{sheetColumns, sheetFactors}
 use Rattle.text.specs.Line.{Line}
 use Rattle.columns.specs.Columns.{Values}
-use Rattle.columns.specs.ColumnLine.{judged}
 use Rattle.columns.specs.ColumnText.{numbersOf}
 use Rattle.columns.specs.Bare.{bareLine, bareText}
 use Rattle.blame.specs.Blame.{bareByte}
 use Rattle.blame.specs.RangeBlame.{rangeByte, rowTests, factorTests}
-use Rattle.table.specs.Table.{rowGood}
-use Rattle.lines.specs.Lines.{RowLine, row}
+use Rattle.lines.specs.Lines.{RowLine, rowBy}
 
 -- the byte that parts the fields
 abbrev pub semicolon : ℕ
@@ -31,13 +29,7 @@ abbrev pub sheetOut : (line : List ℕ) → (values factors : List ℤ) → ℕ
 sheetOut line values factors = rangeByte semicolon (rowTests values ++ factorTests factors) 1 line
 
 unfoldable pub sheetLine : (zones : ℕ) → (line : List ℕ) → (i : ℕ) → Line RowLine
-sheetLine zones line i =
-    judged
-    (λ zs. rowGood (take rowItems zs) (drop rowItems zs))
-    (λ zs. row (take rowItems zs) (drop rowItems zs))
-    (sheetBad zones line i)
-    (λ zs. sheetOut line (take rowItems zs) (drop rowItems zs))
-    (sheetValues zones line i)
+sheetLine zones line i = rowBy (sheetBad zones line i) (sheetOut line) (sheetValues zones line i)
 
 -- as it is written
 abbrev pub sheetText : (i : ℕ) → (raw factors : List ℤ) → List ℕ
