@@ -1,14 +1,19 @@
--- The lines of the table as they are written (01, "The table as text"): H, Z, T, B and C, each by its columns.
+-- The lines of the table as they are written (01, "The table as text"): H, Z, T, B and C, each by its columns; and rows as the planners' sheet has them (02, E11).
 use mathlib.Core.List.{List, [], _∷_, _++_}
 use Prim.Native.Char.{code}
 use Prim.Native.Nat.{ℕ}
 use lib.IntN.{ℤ, pos}
-use lib.ListN.{length}
+use lib.ListN.{length, getD}
 use Rattle.kinds.specs.declared.Header.{Header}
 use Rattle.kinds.specs.LineColumns.{headerColumns, defaultColumns, zoneColumns, borderColumns, hubColumns, rowColumns, factorColumns}
 use Rattle.text.specs.Fields.{tab}
+use Rattle.text.specs.Written.{linesText}
 use Rattle.columns.specs.ColumnText.{columnsText, numbersOf}
 use Rattle.columns.specs.Optional.{plainOptionalText, optionalText}
+use Rattle.table.specs.Table.{stretch}
+use Rattle.lines.specs.SheetLine.{sheetText}
+use Rattle.lines.specs.declared.row.RowKind.{RowKind}
+use Rattle.lines.specs.declared.row.RowKind.the-variants.{Table, Sheet}
 
 abbrev pub headerText : Header → List ℕ
 headerText h = plainOptionalText tab (code "H") headerColumns defaultColumns (pos (h .zones) ∷ pos (h .borders) ∷ pos (h .rows) ∷ h .share ∷ [])
@@ -28,3 +33,16 @@ borderText i raw = optionalText tab (code "B") borderColumns hubColumns i raw
 
 abbrev pub rowText : (i : ℕ) → (raw factors : List ℤ) → List ℕ
 rowText i raw factors = columnsText tab (code "C") (rowColumns ++ factorColumns (length factors)) i (numbersOf rowColumns raw ++ factors)
+
+-- a row's line by its kind: a C line, or a line of the planners' sheet (02, E11)
+abbrev pub rowTextBy : RowKind → (i : ℕ) → (raw factors : List ℤ) → List ℕ
+rowTextBy Table = rowText
+rowTextBy Sheet = sheetText
+
+-- .. of lent rows
+abbrev pub rowTextIn : RowKind → (zones : ℕ) → (rows : List (List ℤ)) → (factors : List ℤ) → (i : ℕ) → List ℕ
+rowTextIn kind zones rows factors i = rowTextBy kind i (getD rows i []) (stretch zones factors i)
+
+-- .. and all of them
+abbrev pub rowsTextBy : RowKind → (zones : ℕ) → (rows : List (List ℤ)) → (factors : List ℤ) → List ℕ
+rowsTextBy kind zones rows factors = linesText (length rows) 0 (rowTextIn kind zones rows factors)

@@ -1,18 +1,20 @@
-// Writes a line of the table into lent bytes at a place. There is room for it: its length was counted before.
+// Writes a line into lent bytes at a place. There is room for it: its length was counted before.
 ghost use mathlib.Core.Path.{_≡_};
 ghost use mathlib.Core.Bool.{true};
-ghost use Prim.Native.Nat.{_+_, _<_, _≤_};
+ghost use Prim.Native.Nat.{_+_, _*_, _<_, _≤_};
 ghost use lib.ListN.{length};
 ghost use Rattle.kinds.specs.Limits.{zonesMost};
 ghost use Rattle.kinds.specs.Ranges.{headerFits};
 ghost use Rattle.text.specs.Put.{Put};
-ghost use Rattle.layout.specs.Layout.{headerText, positionText, borderText, rowText};
+ghost use Rattle.lines.specs.SheetLine.{sheetText};
+ghost use Rattle.layout.specs.Layout.{headerText, positionText, borderText, rowText, rowTextBy, rowsTextBy};
 use kinds::Border;
 use kinds::BorderRecord;
 use kinds::Header;
 use kinds::Row;
 use kinds::RowRecord;
 use kinds::Zone;
+use lines::row::RowKind;
 
 pub fn put_header(h: Header, out: &mut [u8], at: usize) -> usize
     requires { ⌜ (headerFits h ≡ true) × (at + length (headerText h) ≤ length (now out)) ⌝ }
@@ -56,7 +58,37 @@ pub fn put_border(i: usize, raw: BorderRecord, out: &mut [u8], at: usize) -> usi
     )
 }
 
-pub fn put_row(i: usize, raw: RowRecord, f: &[i64], out: &mut [u8], at: usize) -> usize
+// The lines of lent rows, of either kind: the table's or the planners' sheet's.
+pub fn put_rows(
+    kind: RowKind,
+    zones: usize,
+    c: &[RowRecord],
+    f: &[i64],
+    out: &mut [u8],
+    at: usize,
+) -> usize
+    requires { ⌜ (length (now f) ≡ length (now c) * zones) × (0 < zones) × (zones ≤ zonesMost) × (at + length (rowsTextBy kind zones (now c) (now f)) ≤ length (now out)) ⌝ }
+    ensures { λ r. ⌜ Put (rowsTextBy kind zones (now (c .entry)) (now (f .entry))) at (now (out .entry)) r (now (out .exit)) ⌝ }
+{
+    let mut next = at;
+    for i in 0..c.len() {
+        let start = i * zones;
+        next = put_row(kind, i, c[i], &f[start..start + zones], out, next);
+    }
+    next
+}
+
+fn put_row(kind: RowKind, i: usize, raw: RowRecord, f: &[i64], out: &mut [u8], at: usize) -> usize
+    requires { ⌜ (0 < length (now f)) × (length (now f) ≤ zonesMost) × (at + length (rowTextBy kind i raw (now f)) ≤ length (now out)) ⌝ }
+    ensures { λ r. ⌜ Put (rowTextBy kind i raw (now (f .entry))) at (now (out .entry)) r (now (out .exit)) ⌝ }
+{
+    match kind {
+        RowKind::Table => put_c(i, raw, f, out, at),
+        RowKind::Sheet => put_sheet(i, raw, f, out, at),
+    }
+}
+
+fn put_c(i: usize, raw: RowRecord, f: &[i64], out: &mut [u8], at: usize) -> usize
     requires { ⌜ (0 < length (now f)) × (length (now f) ≤ zonesMost) × (at + length (rowText i raw (now f)) ≤ length (now out)) ⌝ }
     ensures { λ r. ⌜ Put (rowText i raw (now (f .entry))) at (now (out .entry)) r (now (out .exit)) ⌝ }
 {
@@ -66,6 +98,23 @@ pub fn put_row(i: usize, raw: RowRecord, f: &[i64], out: &mut [u8], at: usize) -
         b'C',
         &Row::COLUMNS[..Row::ITEMS],
         &Row::COLUMNS[Row::ITEMS..Row::ITEMS + n],
+        i,
+        &raw,
+        f,
+        out,
+        at,
+    )
+}
+
+fn put_sheet(i: usize, raw: RowRecord, f: &[i64], out: &mut [u8], at: usize) -> usize
+    requires { ⌜ (0 < length (now f)) × (length (now f) ≤ zonesMost) × (at + length (sheetText i raw (now f)) ≤ length (now out)) ⌝ }
+    ensures { λ r. ⌜ Put (sheetText i raw (now (f .entry))) at (now (out .entry)) r (now (out .exit)) ⌝ }
+{
+    let n = f.len();
+    columns::bare::put_bare(
+        b';',
+        &Row::SHEET_COLUMNS[..Row::ITEMS],
+        &Row::SHEET_COLUMNS[Row::ITEMS..Row::ITEMS + n],
         i,
         &raw,
         f,

@@ -4,10 +4,11 @@ use mathlib.Core.Path.{_≡_, refl}
 use mathlib.Core.Bool.{true}
 use mathlib.Core.List.{List, [], _∷_, _++_}
 use Prim.Native.Nat.{ℕ, suc, _+_, _*_, _/_, _^_, _≤_, _<_}
+use native.Mathlib.Nat.{mul-le-mul-right}
 use native.Mathlib.Omega.{arith}
 use lib.IntN.{ℤ, pos, negsuc, natAbs}
-use lib.ListN.{length}
-use Rattle.kinds.specs.Limits.{zonesMost, rowsMost}
+use lib.ListN.{length, getD}
+use Rattle.kinds.specs.Limits.{zonesMost, rowsMost, bytesMost}
 use Rattle.kinds.specs.LineColumns.{sheetColumns, sheetFactors}
 use Rattle.kinds.specs.Ranges.{atℤ, rowOf, rowFits, factorFits}
 use Rattle.kinds.proofs.KindLaws.{row-in, factor-in}
@@ -15,14 +16,17 @@ use Rattle.text.specs.Written.{decimal, shareText}
 use Rattle.text.specs.Point.{pointed, pointedℤ}
 use Rattle.text.proofs.FieldTrip.{ShareKept}
 use Rattle.text.proofs.WrittenLaws.{decimal-long}
+use Rattle.text.proofs.PutLaws.{lines-most}
 use Rattle.text.proofs.PointLaws.{pointed-long}
 use Rattle.columns.specs.ColumnText.{fieldText, fieldsLength, numbersOf}
 use Rattle.columns.proofs.ColumnPut.{length-parts}
 use Rattle.columns.proofs.BareLaws.{bare-long}
-use Rattle.table.specs.Table.{rowGood}
-use Rattle.table.proofs.GoodLaws.{row-good}
+use Rattle.table.specs.Table.{rowGood, stretch}
+use Rattle.table.proofs.GoodLaws.{row-good, stretch-long}
+use Rattle.lines.specs.declared.row.RowKind.the-variants as rowKind
 use Rattle.lines.proofs.RowTrip.{share-kept}
 use Rattle.lines.specs.SheetLine.{semicolon, sheetText}
+use Rattle.layout.specs.Layout.{rowTextIn, rowsTextBy}
 
 -- ten digits, a point and a minus
 power-most : (z : ℤ) → natAbs z < 10 ^ 10 → length (pointedℤ 3 z) ≤ 12
@@ -69,3 +73,11 @@ line-most i values factors l e few =
     let g = row-good values factors e in
     rw (bare-long semicolon (sheetColumns ++ sheetFactors (length factors)) i (numbersOf sheetColumns values ++ factors))
     (omega (arith, length-parts sheetColumns (sheetFactors (length factors)) (numbersOf sheetColumns values) factors refl, values-most values (g .0), each-most factors (g .1), decimal-long 2 i (omega arith)))
+
+-- all of them
+pub sheet-most : (zones : ℕ) (rows : List (List ℤ)) (factors : List ℤ) → length factors ≡ length rows * zones → zones ≤ zonesMost → length rows ≤ rowsMost
+    → ((i : ℕ) → i < length rows → rowGood (getD rows i []) (stretch zones factors i) ≡ true) → length (rowsTextBy rowKind.Sheet zones rows factors) ≤ bytesMost
+sheet-most zones rows factors long z r good =
+    let most = lines-most (rowTextIn rowKind.Sheet zones rows factors) (length rows) {q = lineMost} (λ i l. line-most i (getD rows i []) (stretch zones factors i) (omega arith) (good i l) (omega (arith, stretch-long zones (length rows) factors long i l))) in
+    let le : length rows * lineMost ≤ rowsMost * lineMost = mul-le-mul-right {m = length rows} {n = rowsMost} lineMost r in
+    omega arith

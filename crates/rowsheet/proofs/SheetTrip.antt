@@ -4,7 +4,7 @@ use mathlib.Core.Path.{_≡_, refl, sym, ap, ap₂, subst, _∙_}
 use mathlib.Core.Bool.{true, false, not, cond}
 use mathlib.Core.List.{List, [], _++_, append-nil}
 use Prim.Native.Nat.{ℕ, _+_, _*_, _^_, _≤_, _<_}
-use native.Mathlib.Nat.{zero-add, mul-le-mul-right}
+use native.Mathlib.Nat.{zero-add}
 use native.Mathlib.Omega.{arith}
 use borrow.Author.Tests.{le-ltb, not-false}
 use lib.Dec.{ltb}
@@ -14,7 +14,7 @@ use lib.Seq.{take-at, length-take-le}
 use Rattle.numbers.specs.Below.{over}
 use Rattle.kinds.specs.declared.Header.{Header}
 use Rattle.kinds.specs.LineColumns.{rowItems}
-use Rattle.kinds.specs.Limits.{bytesMost, rowsMost}
+use Rattle.kinds.specs.Limits.{bytesMost}
 use Rattle.kinds.specs.Ranges.{headerFits}
 use Rattle.kinds.specs.Refusals.{Judged, passed, refused, wrongForm}
 use Rattle.kinds.proofs.KindLaws.{header-in}
@@ -22,7 +22,6 @@ use Rattle.kinds.proofs.RefusalLaws.{passed-is, then-next, then-passed, either-
 use Rattle.text.specs.Left.{textLeft}
 use Rattle.text.specs.Written.{linesText}
 use Rattle.text.proofs.LeftLaws.{text-left}
-use Rattle.text.proofs.PutLaws.{lines-most}
 use Rattle.block.specs.Block.{read}
 use Rattle.block.proofs.BlockLaws.{blockText, allFit, block-read}
 use Rattle.block.proofs.RunLaws.{fits-at, fits-all, lines-block, lines-goes}
@@ -31,11 +30,12 @@ use Rattle.table.proofs.GoodLaws.{stretch-long}
 use Rattle.lines.specs.Lines.{RowLine}
 use Rattle.lines.specs.declared.row.RowKind.the-variants as rowKind
 use Rattle.lines.proofs.RowTrip.{textBy, RowHeld, RowHeldAt, row-read, row-written, row-one}
+use Rattle.layout.specs.Layout.{rowTextIn}
 use Rattle.runs.specs.Rows.{valuesOf, factorsOf}
 use Rattle.runs.proofs.RowLaws.{emptyRow, values-at, stretch-of, cut, cut-long, cut-values, cut-factors, cut-at}
 use Rattle.lines.specs.SheetLine.{sheetLine, sheetText}
-use Rattle.rowsheet.specs.RowSheet.{Rows, rowsOf, firstLineNo, sheetRows, readSheet, RowsLeft, readRowsLeft, sheetTextAt, sheetOf, rowsInRange, judgeRows, writeRowsLeft}
-use Rattle.rowsheet.proofs.LengthLaws.{lineMost, line-most}
+use Rattle.rowsheet.specs.RowSheet.{Rows, rowsOf, firstLineNo, sheetRows, readSheet, RowsLeft, readRowsLeft, sheetOf, rowsInRange, judgeRows, writeRowsLeft}
+use Rattle.rowsheet.proofs.LengthLaws.{sheet-most}
 use Rattle.rowsheet.proofs.SheetLaws.{SheetRun, sheet-run, rows-many, factors-many, room-passed, room-enough}
 
 -- ---- the sheet of rows is the lines that hold them
@@ -46,10 +46,10 @@ module _ (zones : ℕ) (t : Rows) (lines : List RowLine) (values-are : valuesOf 
   sheet-block : sheetOf zones t ≡ blockText lineTextOf 0 lines
   unfolding sheetOf
   sheet-block =
-      subst (λ (n : ℕ). linesText n 0 (sheetTextAt zones (t .rows) (t .factors)) ≡ blockText lineTextOf 0 lines) many
+      subst (λ (n : ℕ). linesText n 0 (rowTextIn rowKind.Sheet zones (t .rows) (t .factors)) ≡ blockText lineTextOf 0 lines) many
       (lines-block lineTextOf emptyRow lines 0 _ (λ k h. rw (zero-add k) (line k h)))
     where
-      line : (k : ℕ) → k < length lines → sheetTextAt zones (t .rows) (t .factors) k ≡ lineTextOf k (getD lines k emptyRow)
+      line : (k : ℕ) → k < length lines → rowTextIn rowKind.Sheet zones (t .rows) (t .factors) k ≡ lineTextOf k (getD lines k emptyRow)
       line k h =
           ap₂ (λ (v f : List ℤ). sheetText k v f)
           (ap (λ (rows : List (List ℤ)). getD rows k []) (sym values-are) ∙ values-at lines k)
@@ -121,11 +121,7 @@ module _ (h : Header) (t : Rows) (fits : headerFits h ≡ true) (rows-long : len
   unfolding sheetOf
   never-too-long =
       let k = header-in h fits in
-      let most = lines-most (sheetTextAt (h .zones) (t .rows) (t .factors)) (length (t .rows)) {q = lineMost} (λ i l.
-      let j : i < h .rows = omega (arith, rows-long) in
-      line-most i (getD (t .rows) i []) (stretch (h .zones) (t .factors) i) (omega (arith, k .rows-most)) (good i j) (omega (arith, stretch-long (h .zones) (h .rows) (t .factors) factors-long i j, k .zones-most))) in
-      let le : length (t .rows) * lineMost ≤ rowsMost * lineMost = mul-le-mul-right {m = length (t .rows)} {n = rowsMost} lineMost (omega (arith, rows-long, k .rows-most)) in
-      omega arith
+      sheet-most (h .zones) (t .rows) (t .factors) (factors-long ∙ ap (λ (n : ℕ). n * h .zones) (sym rows-long)) (k .zones-most) (omega (arith, rows-long, k .rows-most)) (λ i l. good i (omega (arith, rows-long)))
 
   module _ (wide : Wide h t) where
     row-held : (i : ℕ) → i < h .rows → RowHeld (h .zones) (getD lines i emptyRow)

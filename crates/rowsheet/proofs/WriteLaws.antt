@@ -1,10 +1,9 @@
--- The laws of `specs/RowSheet.antt`'s writing: what `write_rows` leaves by what was judged, and the sheet as a chain of lines. No contract cites this file.
+-- The laws of `specs/RowSheet.antt`'s writing: what `write_rows` leaves by what was judged. No contract cites this file.
 use mathlib.Core.Path.{_≡_, sym, ap, _∙_}
 use mathlib.Core.Bool.{Bool, true, false, not}
 use mathlib.Core.Option.{none, some}
 use mathlib.Core.List.{List, []}
 use Prim.Native.Nat.{ℕ, _+_, _*_, _-_, _<_}
-use native.Mathlib.Omega.{arith}
 use borrow.Author.Tests.{not-false}
 use lib.IntN.{ℤ}
 use lib.ListN.{length, getD, take}
@@ -57,7 +56,3 @@ module _ (h : Header) (c : List (List ℤ)) (f : List ℤ) (out : List ℕ) wher
     front-on q =
         let n = room-passed h (length c) (length f) (passed h) h (sym q) in
         ap (λ (j : Judged Rows). textLeft (then j (λ t. passed (sheetOf (h .zones) t))) out) (room-enough h (length c) (length f) _ (n .0) (n .1) ∙ sym (unless-ok _ _ e))
-
--- a part of zones items from i x zones on
-pub part-count : (i zones : ℕ) → i * zones + zones - i * zones ≡ zones
-part-count i zones = omega arith

@@ -14,12 +14,13 @@ use Rattle.kinds.specs.Limits.{bytesMost}
 use Rattle.kinds.specs.Ranges.{headerFits}
 use Rattle.kinds.specs.Refusals.{Judged, passed, refused, then, either, unless, refuseFirst, need, tooLong, wrongForm, outOfRange}
 use Rattle.text.specs.Left.{TextLeft, textLeft}
-use Rattle.text.specs.Written.{linesText}
 use Rattle.block.specs.Block.{Block, linesAt, withLines}
 use Rattle.table.specs.Table.{rowGood, stretch, headerLineNo}
 use Rattle.lines.specs.Lines.{RowLine}
 use Rattle.runs.specs.Rows.{valuesOf, factorsOf}
-use Rattle.lines.specs.SheetLine.{sheetLine, sheetText}
+use Rattle.lines.specs.SheetLine.{sheetLine}
+use Rattle.lines.specs.declared.row.RowKind.the-variants as rowKind
+use Rattle.layout.specs.Layout.{rowsTextBy}
 
 -- the rows of a table: their raw records, and their factors, each row's after the one before
 pub record Rows : Type 0 where
@@ -65,11 +66,8 @@ abbrev pub rowsSaid : Judgement → (c : List (List ℤ)) → (f : List ℤ) →
 rowsSaid r c f = record { answer = ruled r tt; c = c; f = f }
 
 -- ---- writing
-abbrev pub sheetTextAt : (zones : ℕ) → (rows : List (List ℤ)) → (factors : List ℤ) → (i : ℕ) → List ℕ
-sheetTextAt zones rows factors i = sheetText i (getD rows i []) (stretch zones factors i)
-
 unfoldable pub sheetOf : (zones : ℕ) → Rows → List ℕ
-sheetOf zones t = linesText (length (t .rows)) 0 (sheetTextAt zones (t .rows) (t .factors))
+sheetOf zones t = rowsTextBy rowKind.Sheet zones (t .rows) (t .factors)
 
 -- each row in range, with the line it would have
 unfoldable pub rowsInRange : (zones : ℕ) → Rows → Judged Rows

@@ -2,16 +2,15 @@
 use mathlib.Core.Path.{_≡_, sym, ap, _∙_}
 use mathlib.Core.List.{List, [], _∷_, _++_, append-assoc}
 use Prim.Native.Char.{code}
-use Prim.Native.Nat.{ℕ, _+_, _*_, _-_, _≤_, _<_}
+use Prim.Native.Nat.{ℕ, _+_, _*_, _-_, _≤_}
 use native.Mathlib.Omega.{arith}
 use lib.IntN.{ℤ}
 use lib.ListN.{length, length-append}
-use Rattle.numbers.proofs.BelowLaws.{Summed, sum-cong, sum-part, summed-all}
+use Rattle.numbers.proofs.BelowLaws.{sum-cong}
 use Rattle.kinds.specs.Limits.{bytesMost}
 use Rattle.kinds.specs.LineColumns.{zoneColumns}
 use Rattle.kinds.specs.Ranges.{atℤ}
 use Rattle.text.specs.Fields.{tab}
-use Rattle.text.specs.Written.{linesText}
 use Rattle.text.specs.Put.{Put}
 use Rattle.text.proofs.PutLaws.{put-more, put-room, lines-length}
 use Rattle.columns.proofs.ColumnPut.{line-long}
@@ -84,15 +83,3 @@ letters-alike letter nets =
     lines-length (positionTextAt (code "Z") nets) (length nets)
     ∙ sum-cong (length nets) _ _ (λ i l. line-long tab (code "Z") zoneColumns i (atℤ nets i ∷ []) ∙ sym (line-long tab letter zoneColumns i (atℤ nets i ∷ [])))
     ∙ sym (lines-length (positionTextAt letter nets) (length nets))
-
--- ---- a row's part of the factors is as long as there are zones
-pub part-count : (i zones : ℕ) → i * zones + zones - i * zones ≡ zones
-part-count i zones = omega arith
-
--- ---- lengths of lines, added up
-module _ (line : ℕ → List ℕ) (n : ℕ) (few : length (linesText n 0 line) ≤ bytesMost) {i s : ℕ} (u : Summed (λ i. length (line i)) n i s) where
-  pub sum-within : i < n → s + length (line i) ≤ bytesMost
-  sum-within h = omega (arith, u .total, lines-length line n, sum-part n (λ i. length (line i)) i h)
-
-  pub sum-lines : n ≤ i → s ≡ length (linesText n 0 line)
-  sum-lines h = summed-all u h ∙ sym (lines-length line n)

@@ -8,9 +8,10 @@ use Rattle.kinds.specs.Ranges.{atℤ, allocatedItems}
 use Rattle.kinds.specs.Refusals.{passed, then}
 use Rattle.text.specs.Left.{TextLeft, textLeft}
 use Rattle.text.specs.Written.{linesText}
-use Rattle.table.specs.Table.{Table, factorsAt, stretch, judgeLent}
+use Rattle.table.specs.Table.{Table, factorsAt, judgeLent}
+use Rattle.lines.specs.declared.row.RowKind.the-variants as rowKind
 use Rattle.reading.specs.Reading.{readCorrected}
-use Rattle.layout.specs.Layout.{headerText, positionText, zoneText, allocatedText, borderText, rowText}
+use Rattle.layout.specs.Layout.{headerText, positionText, zoneText, allocatedText, borderText, rowText, rowTextIn, rowsTextBy}
 
 unfoldable pub tableText : Table → List ℕ
 tableText t =
@@ -36,7 +37,7 @@ abbrev pub borderTextAt : (borders : List (List ℤ)) → (i : ℕ) → List ℕ
 borderTextAt borders i = borderText i (getD borders i [])
 
 abbrev pub rowTextAt : (zones : ℕ) → (rows : List (List ℤ)) → (factors : List ℤ) → (i : ℕ) → List ℕ
-rowTextAt zones rows factors i = rowText i (getD rows i []) (stretch zones factors i)
+rowTextAt = rowTextIn rowKind.Table
 
 -- .. and all of them
 abbrev pub positionsText : (letter : ℕ) → List ℤ → List ℕ
@@ -52,4 +53,4 @@ abbrev pub bordersText : List (List ℤ) → List ℕ
 bordersText borders = linesText (length borders) 0 (borderTextAt borders)
 
 abbrev pub rowsText : (zones : ℕ) → (rows : List (List ℤ)) → (factors : List ℤ) → List ℕ
-rowsText zones rows factors = linesText (length rows) 0 (rowTextAt zones rows factors)
+rowsText = rowsTextBy rowKind.Table

@@ -1,14 +1,15 @@
 // How many bytes the text of a table has, before one is written.
 ghost use mathlib.Core.Path.{_≡_};
-ghost use Prim.Native.Nat.{_*_, _<_, _≤_};
+ghost use Prim.Native.Nat.{_≤_};
 ghost use lib.ListN.{length};
-ghost use Rattle.kinds.specs.Limits.{zonesMost, bytesMost};
+ghost use Rattle.kinds.specs.Limits.{bytesMost};
 ghost use Rattle.table.specs.Table.{lent};
 ghost use Rattle.table.specs.Good.{Good};
-ghost use Rattle.writing.specs.Writing.{tableText, zonesText, bordersText, rowsText};
+ghost use Rattle.writing.specs.Writing.{tableText, zonesText, bordersText};
 use kinds::BorderRecord;
 use kinds::Header;
 use kinds::RowRecord;
+use lines::row::RowKind;
 
 // The Z lines; T lines of the same positions are as long.
 fn zones_length(z: &[i64]) -> usize
@@ -33,18 +34,6 @@ fn borders_length(b: &[BorderRecord]) -> usize
     sum
 }
 
-fn rows_length(zones: usize, c: &[RowRecord], f: &[i64]) -> usize
-    requires { ⌜ (length (now f) ≡ length (now c) * zones) × (0 < zones) × (zones ≤ zonesMost) × (length (rowsText zones (now c) (now f)) ≤ bytesMost) ⌝ }
-    ensures { λ r. ⌜ r ≡ length (rowsText zones (now (c .entry)) (now (f .entry))) ⌝ }
-{
-    let mut sum: usize = 0;
-    for i in 0..c.len() {
-        let start = i * zones;
-        sum += layout::length::row_length(i, c[i], &f[start..start + zones]);
-    }
-    sum
-}
-
 pub fn text_length(
     h: Header,
     z: &[i64],
@@ -60,6 +49,6 @@ pub fn text_length(
     let zones = zones_length(z);
     let allocated = zones_length(t);
     let borders = borders_length(b);
-    let rows = rows_length(h.zones, c, f);
+    let rows = layout::length::rows_length(RowKind::Table, h.zones, c, f);
     header + zones + allocated + borders + rows
 }

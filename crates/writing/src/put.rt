@@ -1,15 +1,14 @@
 // Writes the lines of a table into lent bytes, each kind at a place, and then all kinds from the start.
-ghost use mathlib.Core.Path.{_≡_};
-ghost use Prim.Native.Nat.{_+_, _*_, _<_, _≤_};
+ghost use Prim.Native.Nat.{_+_, _≤_};
 ghost use lib.ListN.{length};
-ghost use Rattle.kinds.specs.Limits.{zonesMost};
 ghost use Rattle.text.specs.Put.{Put};
 ghost use Rattle.table.specs.Table.{lent};
 ghost use Rattle.table.specs.Good.{Good};
-ghost use Rattle.writing.specs.Writing.{tableText, positionsText, bordersText, rowsText};
+ghost use Rattle.writing.specs.Writing.{tableText, positionsText, bordersText};
 use kinds::BorderRecord;
 use kinds::Header;
 use kinds::RowRecord;
+use lines::row::RowKind;
 
 // The Z lines, or the T lines, by their letter.
 fn put_zones(letter: u8, z: &[i64], out: &mut [u8], at: usize) -> usize
@@ -34,18 +33,6 @@ fn put_borders(b: &[BorderRecord], out: &mut [u8], at: usize) -> usize
     next
 }
 
-fn put_rows(zones: usize, c: &[RowRecord], f: &[i64], out: &mut [u8], at: usize) -> usize
-    requires { ⌜ (length (now f) ≡ length (now c) * zones) × (0 < zones) × (zones ≤ zonesMost) × (at + length (rowsText zones (now c) (now f)) ≤ length (now out)) ⌝ }
-    ensures { λ r. ⌜ Put (rowsText zones (now (c .entry)) (now (f .entry))) at (now (out .entry)) r (now (out .exit)) ⌝ }
-{
-    let mut next = at;
-    for i in 0..c.len() {
-        let start = i * zones;
-        next = layout::put::put_row(i, c[i], &f[start..start + zones], out, next);
-    }
-    next
-}
-
 pub fn put_table(
     h: Header,
     z: &[i64],
@@ -62,5 +49,5 @@ pub fn put_table(
     let next = put_zones(b'Z', z, out, next);
     let next = put_zones(b'T', t, out, next);
     let next = put_borders(b, out, next);
-    put_rows(h.zones, c, f, out, next)
+    layout::put::put_rows(RowKind::Table, h.zones, c, f, out, next)
 }

@@ -1,58 +1,48 @@
--- `layout::put::put_row` meets its contract: the factors' columns are as many as f has items.
-use mathlib.Core.Path.{_≡_, sym, subst}
-use Rattle.kinds.specs.LineColumns.{Column, rowColumns, factorColumns}
-use Rattle.text.specs.Fields.{tab}
-use Rattle.columns.proofs.ColumnPut.{numbers-are}
-use mathlib.Core.List.{List, _++_}
-use Prim.Native.Char.{code}
-use Prim.Native.Nat.{_+_, _≤_}
-use native.Mathlib.Omega.{arith}
-use lib.IntN.{ℤ}
+-- `layout::put::put_row` meets its contract.
+use mathlib.Core.Path.{sym, subst}
+use mathlib.Core.List.{List}
+use Prim.Native.Nat.{ℕ, _+_, _≤_}
 use lib.ListN.{length}
 use Rattle.text.specs.Put.{Put}
-use Rattle.columns.specs.ColumnText.{columnsText, numbersOf}
-use Rattle.columns.proofs.ColumnLaws.{factor-letters, factor-letters-long}
+use Rattle.lines.specs.declared.row.RowKind.{RowKind}
+use Rattle.layout.specs.Layout.{rowTextBy}
 use borrow.Author.Needs.{needs}
 use Rattle.layout.proofs.put.put_row.Statement.{statement}
 use Rattle.layout.proofs.put.put_row.Tie as tie
 
-numbers : (s : tie.Start) → numbersOf rowColumns (s .args .t2) ≡ s .args .t2
-numbers s =
-    let wide : 7 ≡ length (s .args .t2) = search needs in
-    numbers-are rowColumns (s .args .t2) (sym wide)
+-- by the kind, as the match tells it
+abbrev line : tie.Start → RowKind → List ℕ
+line s k = rowTextBy k (s .args .i) (s .args .raw) (s .args .f .now)
 
-add-put-parts : tie.Need-add-put-parts
-add-put-parts c = omega (arith, c .before .before .pre .1)
+put-c-requires : tie.Need-put-c-requires
+put-c-requires c κs = let s = c .before .before .before .before in (s .pre .0, s .pre .1, subst (λ (k : RowKind). s .args .at + length (line s k) ≤ length (s .args .out .now)) (c .before .enum-told .given .1) (s .pre .2))
 
-part-put-parts-end : tie.Need-part-put-parts-end
-part-put-parts-end c = omega (arith, c .before .before .before .pre .1)
-
-abbrev entry : tie.After-put-parts-arg4 → tie.Start
-entry c = c .before .before .before .before .before .before
-
-put-parts-requires : tie.Need-put-parts-requires
-put-parts-requires c κs =
-    let a = entry c .args in
-    let p = entry c .pre in
-    let long = factor-letters-long (length (a .f .now)) (p .1) in
-    (search needs, rw long (p .0), long, subst (λ (l : List Column). a .at + length (columnsText tab (code "C") (rowColumns ++ l) (a .i) (a .t2 ++ a .f .now)) ≤ length (a .out .now)) (sym (factor-letters _ (p .1))) (subst (λ (v : List ℤ). a .at + length (columnsText tab (code "C") (rowColumns ++ factorColumns (length (a .f .now))) (a .i) (v ++ a .f .now)) ≤ length (a .out .now)) (numbers (entry c)) (p .2)))
+put-sheet-requires : tie.Need-put-sheet-requires
+put-sheet-requires c κs = let s = c .before .before .before .before in (s .pre .0, s .pre .1, subst (λ (k : RowKind). s .args .at + length (line s k) ≤ length (s .args .out .now)) (c .before .enum-told2 .given .1) (s .pre .2))
 
 returns : tie.Need-returns
 returns c =
-    let a = entry (c .before .before .before) .args in
-    subst (λ (v : List ℤ). Put (columnsText tab (code "C") (rowColumns ++ factorColumns (length (a .f .now))) (a .i) (v ++ a .f .now)) (a .at) (a .out .now) (c .before .before .put-parts .result) (c .before .before .put-parts .last .1 .1 .1 .1 .1 .1 .1 .0)) (sym (numbers (entry (c .before .before .before)))) (subst (λ (l : List Column). Put (columnsText tab (code "C") (rowColumns ++ l) (a .i) (a .t2 ++ a .f .now)) (a .at) (a .out .now) (c .before .before .put-parts .result) (c .before .before .put-parts .last .1 .1 .1 .1 .1 .1 .1 .0)) (factor-letters _ (entry (c .before .before .before) .pre .1)) (c .before .before .put-parts .ensures))
+    let told = c .before .before .before .before in
+    let s = told .before .before .before in
+    let put = c .before .before .put-c in
+    subst (λ (k : RowKind). Put (line s k) (s .args .at) (s .args .out .now) (put .result) (put .last .1 .1 .1 .0)) (sym (told .enum-told .given .1)) (put .ensures)
+
+returns-2 : tie.Need-returns-2
+returns-2 c =
+    let told = c .before .before .before .before in
+    let s = told .before .before .before in
+    let put = c .before .before .put-sheet in
+    subst (λ (k : RowKind). Put (line s k) (s .args .at) (s .args .out .now) (put .result) (put .last .1 .1 .1 .0)) (sym (told .enum-told2 .given .1)) (put .ensures)
 
 pub put-row-spec : {M : Type 1} → statement M
 put-row-spec =
     tie.close
     (tie.spec
     (λ c. search needs)
+    put-c-requires
     (λ c. search needs)
-    add-put-parts
-    (λ c. omega arith)
-    (λ c. omega arith)
-    part-put-parts-end
+    put-sheet-requires
     (λ c. search needs)
-    put-parts-requires
+    returns
     (λ c. search needs)
-    returns)
+    returns-2)

@@ -5,7 +5,7 @@ use native.Mathlib.Omega.{arith}
 use lib.ListN.{length}
 use Rattle.numbers.proofs.BelowLaws.{Summed, summed-none, summed-more}
 use Rattle.writing.specs.Writing.{borderTextAt}
-use Rattle.writing.proofs.TextLaws.{sum-within, sum-lines}
+use Rattle.layout.proofs.SumLaws.{sum-within, sum-lines}
 use Rattle.kinds.specs.Limits.{bytesMost}
 use Rattle.writing.proofs.length.borders_length.Statement.{statement}
 use Rattle.writing.proofs.length.borders_length.Tie as tie

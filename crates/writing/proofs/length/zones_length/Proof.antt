@@ -7,7 +7,7 @@ use lib.ListN.{length}
 use Rattle.numbers.proofs.BelowLaws.{Summed, summed-none, summed-more}
 use Rattle.numbers.proofs.IntLaws.{plain}
 use Rattle.writing.specs.Writing.{positionTextAt}
-use Rattle.writing.proofs.TextLaws.{sum-within, sum-lines}
+use Rattle.layout.proofs.SumLaws.{sum-within, sum-lines}
 use Rattle.kinds.specs.Limits.{bytesMost}
 use Rattle.writing.proofs.length.zones_length.Statement.{statement}
 use Rattle.writing.proofs.length.zones_length.Tie as tie

@@ -1,23 +1,23 @@
--- `writing::put::put_rows` meets its contract: the first i lines are written.
+-- `layout::put::put_rows` meets its contract: the first i lines are written.
 use Prim.Native.Nat.{_*_, _≤_, _-_}
 use native.Mathlib.Omega.{arith}
 use lib.ListN.{length}
 use Rattle.numbers.proofs.ListLaws.{part-long}
 use Rattle.table.specs.Table.{stretch}
 use Rattle.table.proofs.StretchLaws.{stretch-end}
-use Rattle.writing.specs.Writing.{rowTextAt, rowsText}
-use Rattle.writing.proofs.TextLaws.{part-count}
+use Rattle.layout.specs.Layout.{rowTextIn, rowsTextBy}
+use Rattle.layout.proofs.SumLaws.{part-count}
 use Rattle.text.specs.Written.{linesText}
 use Rattle.text.specs.Put.{Put}
 use Rattle.text.proofs.PutLaws.{lines-none, lines-more, lines-all, lines-room, put-kept}
-use Rattle.writing.proofs.put.put_rows.Statement.{statement}
-use Rattle.writing.proofs.put.put_rows.Tie as tie
+use Rattle.layout.proofs.put.put_rows.Statement.{statement}
+use Rattle.layout.proofs.put.put_rows.Tie as tie
 
 abbrev Inv-loop : tie.InvT-loop
-Inv-loop zones c f out₀ at next₀ i₀ i-end out next i = (i ≤ length c) × Put (linesText i 0 (rowTextAt zones c f)) at out₀ next out
+Inv-loop kind zones c f out₀ at next₀ i₀ i-end out next i = (i ≤ length c) × Put (linesText i 0 (rowTextIn kind zones c f)) at out₀ next out
 
 abbrev μ-loop : tie.MeasureT-loop
-μ-loop zones c f out₀ at next₀ i₀ i-end out next i = length c - i
+μ-loop kind zones c f out₀ at next₀ i₀ i-end out next i = length c - i
 
 loop-holds : tie.Need-loop-holds Inv-loop μ-loop
 loop-holds c = (omega arith, lines-none _ _ _)
@@ -49,18 +49,18 @@ put-row-requires c κs =
     let s = entry-from-loop (c .before .before) in
     let head = c .before .before .before .before .loop in
     let n = part-long (s .args .f .now) (head .i * s .args .zones) (s .args .zones) (omega (arith, stretch-end (s .args .zones) (length (s .args .c .now)) (head .i) (omega arith), s .pre .0)) in
-    (omega (arith, n, s .pre .1), omega (arith, n, s .pre .2), rw (part-count (head .i) (s .args .zones)) (lines-room (rowTextAt (s .args .zones) (s .args .c .now) (s .args .f .now)) (head .i) (length (s .args .c .now)) (omega arith) (s .pre .3) (head .inv .1)))
+    (omega (arith, n, s .pre .1), omega (arith, n, s .pre .2), rw (part-count (head .i) (s .args .zones)) (lines-room (rowTextIn (s .args .kind) (s .args .zones) (s .args .c .now) (s .args .f .now)) (head .i) (length (s .args .c .now)) (omega arith) (s .pre .3) (head .inv .1)))
 
 loop-again : tie.Need-loop-again Inv-loop μ-loop
 unfolding stretch
 loop-again c =
     let s = c .before .before .before .before .before .before .before .before .before in
     let head = c .before .before .before .before .before .before .before .loop in
-    (omega arith, lines-more (rowTextAt (s .args .zones) (s .args .c .now) (s .args .f .now)) (omega (arith, s .pre .3)) (head .inv .1) (rw (part-count (head .i) (s .args .zones)) at (c .before .before .put-row .ensures)))
+    (omega arith, lines-more (rowTextIn (s .args .kind) (s .args .zones) (s .args .c .now) (s .args .f .now)) (omega (arith, s .pre .3)) (head .inv .1) (rw (part-count (head .i) (s .args .zones)) at (c .before .before .put-row .ensures)))
 
 -- all lines are written
-all : (c : tie.After-loop Inv-loop μ-loop) → let s = entry (c .before) in Put (rowsText (s .args .zones) (s .args .c .now) (s .args .f .now)) (s .args .at) (s .args .out .now) (c .before .loop .next) (c .before .loop .out)
-all c = lines-all (rowTextAt (entry (c .before) .args .zones) (entry (c .before) .args .c .now) (entry (c .before) .args .f .now)) (c .before .loop .inv .0) (omega arith) (c .before .loop .inv .1)
+all : (c : tie.After-loop Inv-loop μ-loop) → let s = entry (c .before) in Put (rowsTextBy (s .args .kind) (s .args .zones) (s .args .c .now) (s .args .f .now)) (s .args .at) (s .args .out .now) (c .before .loop .next) (c .before .loop .out)
+all c = lines-all (rowTextIn (entry (c .before) .args .kind) (entry (c .before) .args .zones) (entry (c .before) .args .c .now) (entry (c .before) .args .f .now)) (c .before .loop .inv .0) (omega arith) (c .before .loop .inv .1)
 
 same-length : tie.Need-same-length Inv-loop μ-loop
 same-length c = put-kept (all c) (entry (c .before) .pre .3)

@@ -1,4 +1,4 @@
--- `writing::length::rows_length` meets its contract: the sum over the lines (`Summed`), within that of all.
+-- `layout::length::rows_length` meets its contract: the sum over the lines (`Summed`), within that of all.
 use mathlib.Core.Path.{_≡_}
 use Prim.Native.Nat.{_*_, _≤_, _+_, _-_}
 use native.Mathlib.Omega.{arith}
@@ -7,26 +7,26 @@ use Rattle.numbers.proofs.ListLaws.{part-long}
 use Rattle.numbers.proofs.BelowLaws.{Summed, summed-none, summed-more}
 use Rattle.table.specs.Table.{stretch}
 use Rattle.table.proofs.StretchLaws.{stretch-end}
-use Rattle.writing.specs.Writing.{rowTextAt}
-use Rattle.writing.proofs.TextLaws.{part-count, sum-within, sum-lines}
+use Rattle.layout.specs.Layout.{rowTextIn}
+use Rattle.layout.proofs.SumLaws.{part-count, sum-within, sum-lines}
 use Rattle.kinds.specs.Limits.{bytesMost}
-use Rattle.writing.proofs.length.rows_length.Statement.{statement}
-use Rattle.writing.proofs.length.rows_length.Tie as tie
+use Rattle.layout.proofs.length.rows_length.Statement.{statement}
+use Rattle.layout.proofs.length.rows_length.Tie as tie
 
 abbrev Inv-loop : tie.InvT-loop
-Inv-loop zones c f sum₀ i₀ i-end sum i = Summed (λ i. length (rowTextAt zones c f i)) (length c) i sum
+Inv-loop kind zones c f sum₀ i₀ i-end sum i = Summed (λ i. length (rowTextIn kind zones c f i)) (length c) i sum
 
 abbrev μ-loop : tie.MeasureT-loop
-μ-loop zones c f sum₀ i₀ i-end sum i = length c - i
+μ-loop kind zones c f sum₀ i₀ i-end sum i = length c - i
 
 -- line i is counted without a carry
-within : (c : tie.In-loop Inv-loop μ-loop) → let s = c .before .before in c .before .loop .sum + length (rowTextAt (s .args .zones) (s .args .c .now) (s .args .f .now) (c .before .loop .i)) ≤ bytesMost
-within c = let s = c .before .before in sum-within (rowTextAt (s .args .zones) (s .args .c .now) (s .args .f .now)) (length (s .args .c .now)) (s .pre .3) (c .before .loop .inv) (omega arith)
+within : (c : tie.In-loop Inv-loop μ-loop) → let s = c .before .before in c .before .loop .sum + length (rowTextIn (s .args .kind) (s .args .zones) (s .args .c .now) (s .args .f .now) (c .before .loop .i)) ≤ bytesMost
+within c = let s = c .before .before in sum-within (rowTextIn (s .args .kind) (s .args .zones) (s .args .c .now) (s .args .f .now)) (length (s .args .c .now)) (s .pre .3) (c .before .loop .inv) (omega arith)
 
 abbrev entry : tie.After-row-length-arg Inv-loop μ-loop → tie.Start Inv-loop μ-loop
 entry c = c .before .before .before
 
-counted : (c : tie.After-row-length Inv-loop μ-loop) → let s = entry (c .before .before) in c .row-length .result ≡ length (rowTextAt (s .args .zones) (s .args .c .now) (s .args .f .now) (c .before .before .before .before .loop .i))
+counted : (c : tie.After-row-length Inv-loop μ-loop) → let s = entry (c .before .before) in c .row-length .result ≡ length (rowTextIn (s .args .kind) (s .args .zones) (s .args .c .now) (s .args .f .now) (c .before .before .before .before .loop .i))
 unfolding stretch
 counted c = rw (part-count (c .before .before .before .before .loop .i) (entry (c .before .before) .args .zones)) at (c .row-length .ensures)
 
@@ -63,7 +63,7 @@ loop-again : tie.Need-loop-again Inv-loop μ-loop
 loop-again c = summed-more (c .before .before .before .before .loop .inv) _ (omega arith) (counted c)
 
 returns : tie.Need-returns Inv-loop μ-loop
-returns c = let s = c .before .before in sum-lines (rowTextAt (s .args .zones) (s .args .c .now) (s .args .f .now)) (length (s .args .c .now)) (s .pre .3) (c .before .loop .inv) (omega arith)
+returns c = let s = c .before .before in sum-lines (rowTextIn (s .args .kind) (s .args .zones) (s .args .c .now) (s .args .f .now)) (length (s .args .c .now)) (s .pre .3) (c .before .loop .inv) (omega arith)
 
 pub rows-length-spec : {M : Type 1} → statement M
 rows-length-spec = tie.close (tie.spec Inv-loop μ-loop loop-holds mul-start (λ c. omega arith) (λ c. omega arith) add-row-length mul-row-length-2 (λ c. omega arith) part-row-length-start part-row-length-end row-length-requires add-sum (λ c. omega arith) (λ c. omega arith) loop-again returns)

@@ -1,4 +1,4 @@
--- `rowsheet::write::put_line` meets its contract: the factors' columns are as many as f has items.
+-- `layout::put::put_sheet` meets its contract: the factors' columns are as many as f has items.
 use mathlib.Core.Path.{_≡_, sym, subst}
 use Rattle.kinds.specs.LineColumns.{Column, sheetColumns, sheetFactors}
 use Rattle.columns.proofs.ColumnPut.{numbers-are}
@@ -12,8 +12,8 @@ use Rattle.columns.specs.ColumnText.{numbersOf}
 use Rattle.columns.specs.Bare.{bareText}
 use Rattle.columns.proofs.ColumnLaws.{sheet-factors, sheet-factors-long}
 use borrow.Author.Needs.{needs}
-use Rattle.rowsheet.proofs.write.put_line.Statement.{statement}
-use Rattle.rowsheet.proofs.write.put_line.Tie as tie
+use Rattle.layout.proofs.put.put_sheet.Statement.{statement}
+use Rattle.layout.proofs.put.put_sheet.Tie as tie
 
 numbers : (s : tie.Start) → numbersOf sheetColumns (s .args .t2) ≡ s .args .t2
 numbers s =
@@ -41,8 +41,8 @@ returns c =
     let a = entry (c .before .before .before) .args in
     subst (λ (v : List ℤ). Put (bareText 59 (sheetColumns ++ sheetFactors (length (a .f .now))) (a .i) (v ++ a .f .now)) (a .at) (a .out .now) (c .before .before .put-bare .result) (c .before .before .put-bare .last .1 .1 .1 .1 .1 .1 .0)) (sym (numbers (entry (c .before .before .before)))) (subst (λ (l : List Column). Put (bareText 59 (sheetColumns ++ l) (a .i) (a .t2 ++ a .f .now)) (a .at) (a .out .now) (c .before .before .put-bare .result) (c .before .before .put-bare .last .1 .1 .1 .1 .1 .1 .0)) (sheet-factors _ (entry (c .before .before .before) .pre .1)) (c .before .before .put-bare .ensures))
 
-pub put-line-spec : {M : Type 1} → statement M
-put-line-spec =
+pub put-sheet-spec : {M : Type 1} → statement M
+put-sheet-spec =
     tie.close
     (tie.spec
     (λ c. search needs)

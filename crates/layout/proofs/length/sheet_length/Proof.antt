@@ -1,4 +1,4 @@
--- `rowsheet::write::line_length` meets its contract: the factors' columns are as many as f has items.
+-- `layout::length::sheet_length` meets its contract: the factors' columns are as many as f has items.
 use mathlib.Core.Path.{_≡_, sym, ap, subst, _∙_}
 use mathlib.Core.List.{List, _++_}
 use Prim.Native.Nat.{_≤_}
@@ -13,8 +13,8 @@ use Rattle.columns.proofs.ColumnPut.{numbers-are}
 use Rattle.columns.proofs.BareLaws.{bare-long}
 use borrow.Author.Needs.{needs}
 use Rattle.lines.specs.SheetLine.{semicolon, sheetText}
-use Rattle.rowsheet.proofs.write.line_length.Statement.{statement}
-use Rattle.rowsheet.proofs.write.line_length.Tie as tie
+use Rattle.layout.proofs.length.sheet_length.Statement.{statement}
+use Rattle.layout.proofs.length.sheet_length.Tie as tie
 
 total : (s : tie.Start) → let a = s .args in length (sheetText (a .i) (a .t2) (a .f .now)) ≡ bareLength (sheetColumns ++ sheetFactors (length (a .f .now))) (a .i) (a .t2 ++ a .f .now)
 total s =
@@ -44,8 +44,8 @@ returns c =
     let a = s .args in
     c .bare-length .ensures ∙ ap (λ (l : List Column). bareLength (sheetColumns ++ l) (a .i) (a .t2 ++ a .f .now)) (sheet-factors _ (s .pre .1)) ∙ sym (total s)
 
-pub line-length-spec : {M : Type 1} → statement M
-line-length-spec =
+pub sheet-length-spec : {M : Type 1} → statement M
+sheet-length-spec =
     tie.close
     (tie.spec
     (λ c. search needs)
