@@ -1,6 +1,6 @@
 -- The laws of `specs/Records.antt` and `specs/Refusal.antt` that proofs cite. No contract cites this file.
 -- In order: the lengths of lines; the E line; `orDash`; lines of 64-bit numbers; the whole text.
-use mathlib.Core.Path.{_≡_, refl, ap, _∙_}
+use mathlib.Core.Path.{_≡_, ap, _∙_}
 use mathlib.Core.Bool.{Bool, true, false}
 use mathlib.Core.List.{List, [], _∷_, _++_}
 use Prim.Native.Nat.{ℕ, _+_, _^_, _≤_, _<_}
@@ -18,7 +18,7 @@ use Rattle.text.proofs.DigitLaws.{decimal-u64, decimal-i64}
 use Rattle.text.proofs.WrittenLaws.{decimal-long}
 use Rattle.text.proofs.PutLaws.{tabbed-length, tabbed-empty, line-length, put-more}
 use Rattle.result.specs.Refusal.{refusalText, refusalMost}
-use Rattle.result.specs.Records.{orDash, recordLine, roundsLine, atcLines, marginLines, recordsText, resultLineMost}
+use Rattle.result.specs.Records.{orDash, thirdGiven, recordLine, roundsLine, atcLines, marginLines, recordsText, resultLineMost}
 
 -- ---- the lengths of lines
 module _ (letter : ℕ) (f : List ℕ) where
@@ -43,9 +43,9 @@ module _ (letter : ℕ) (f : List ℕ) where
         tabbed-empty,
       )
 
-pub record-length : (letter i : ℕ) (first second : ℤ) (given : Bool) (third : ℤ)
-    → 6 + length (decimal i) + length (decimalℤ first) + length (decimalℤ second) + length (orDash given third) ≡ length (recordLine letter i first second given third)
-record-length letter i first second given third = four-length letter (decimal i) (decimalℤ first) (decimalℤ second) (orDash given third)
+pub record-length : (letter i : ℕ) (first second third : ℤ)
+    → 6 + length (decimal i) + length (decimalℤ first) + length (decimalℤ second) + length (orDash (thirdGiven letter first third) third) ≡ length (recordLine letter i first second third)
+record-length letter i first second third = four-length letter (decimal i) (decimalℤ first) (decimalℤ second) (orDash (thirdGiven letter first third) third)
 
 pub rounds-length : (rounds : ℕ) → 3 + length (decimal rounds) ≡ length (roundsLine rounds)
 rounds-length rounds = one-length 82 (decimal rounds)
@@ -74,16 +74,16 @@ module _ (v : ℤ) where
   dash-most false k l h = l
 
 -- ---- lines of 64-bit numbers
-pub record-most : (letter i : ℕ) (first second : ℤ) (given : Bool) (third : ℤ) → i < 2 ^ 64 → mag first < 2 ^ hbits w64 → mag second < 2 ^ hbits w64 → mag third < 2 ^ hbits w64
-    → length (recordLine letter i first second given third) ≤ resultLineMost
-record-most letter i first second given third h k l m =
+pub record-most : (letter i : ℕ) (first second third : ℤ) → i < 2 ^ 64 → mag first < 2 ^ hbits w64 → mag second < 2 ^ hbits w64 → mag third < 2 ^ hbits w64
+    → length (recordLine letter i first second third) ≤ resultLineMost
+record-most letter i first second third h k l m =
     omega (
       arith,
-      record-length letter i first second given third,
+      record-length letter i first second third,
       decimal-u64 i h,
       decimal-i64 first k,
       decimal-i64 second l,
-      dash-most third given 20 (omega arith) (decimal-i64 third m),
+      dash-most third (thirdGiven letter first third) 20 (omega arith) (decimal-i64 third m),
     )
 
 -- ---- the whole text

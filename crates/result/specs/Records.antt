@@ -4,6 +4,7 @@ use mathlib.Core.Bool.{Bool, cond}
 use mathlib.Core.List.{List, [], _∷_, _++_}
 use Prim.Native.Char.{code}
 use Prim.Native.Nat.{ℕ, _+_, _*_}
+use lib.Dec.{eqb}
 use lib.IntN.{ℤ, pos}
 use lib.ListN.{length, getD}
 use lib.Signed.{leZ}
@@ -17,28 +18,39 @@ use Rattle.text.specs.Written.{decimal, decimalℤ, lineText, linesText}
 unfoldable pub orDash : (given : Bool) → ℤ → List ℕ
 orDash given v = cond given (decimalℤ v) (dash ∷ [])
 
+-- whether a record's third number is given: of a border (A) the row that stopped it, where there is one; of a row (M) the margin left, where the state is 0
+abbrev pub thirdGiven : (letter : ℕ) → (first third : ℤ) → Bool
+thirdGiven letter first third = cond (eqb letter (code "A")) (leZ (pos 0) third) (sameℤ first (pos 0))
+
 -- the line of a record: the letter, the index, two numbers, and a third or "-"
-abbrev pub recordLine : (letter i : ℕ) → (first second : ℤ) → (given : Bool) → (third : ℤ) → List ℕ
-recordLine letter i first second given third = lineText letter (decimal i ∷ decimalℤ first ∷ decimalℤ second ∷ orDash given third ∷ [])
+abbrev pub recordLine : (letter i : ℕ) → (first second third : ℤ) → List ℕ
+recordLine letter i first second third = lineText letter (decimal i ∷ decimalℤ first ∷ decimalℤ second ∷ orDash (thirdGiven letter first third) third ∷ [])
 
 -- A, border index, ATC in MW, last round, and the row that stopped it or "-"
 abbrev pub atcLine : (b : ℕ) → (atc last row : ℤ) → List ℕ
-atcLine b atc last row = recordLine (code "A") b atc last (leZ (pos 0) row) row
+atcLine b atc last row = recordLine (code "A") b atc last row
 
 -- M, row index, state, RAM in grains, and margin left in grains or "-" where the state isn't 0
 abbrev pub marginLine : (i : ℕ) → (state ram left : ℤ) → List ℕ
-marginLine i state ram left = recordLine (code "M") i state ram (sameℤ state (pos 0)) left
+marginLine i state ram left = recordLine (code "M") i state ram left
 
 -- R, rounds
 abbrev pub roundsLine : (rounds : ℕ) → List ℕ
 roundsLine rounds = lineText (code "R") (decimal rounds ∷ [])
 
--- the lines of border records and of row records
+-- the line that is made of record i
+abbrev pub lineOf : (line : (i : ℕ) → (first second third : ℤ) → List ℕ) → (records : List (List ℤ)) → (i : ℕ) → List ℕ
+lineOf line records i = line i (atℤ (getD records i []) 0) (atℤ (getD records i []) 1) (atℤ (getD records i []) 2)
+
+-- the lines of records, of border records and of row records
+abbrev pub recordLines : (letter : ℕ) → (records : List (List ℤ)) → List ℕ
+recordLines letter records = linesText (length records) 0 (lineOf (recordLine letter) records)
+
 abbrev pub atcAt : (atcs : List (List ℤ)) → (b : ℕ) → List ℕ
-atcAt atcs b = atcLine b (atℤ (getD atcs b []) 0) (atℤ (getD atcs b []) 1) (atℤ (getD atcs b []) 2)
+atcAt atcs b = lineOf atcLine atcs b
 
 abbrev pub marginAt : (lefts : List (List ℤ)) → (i : ℕ) → List ℕ
-marginAt lefts i = marginLine i (atℤ (getD lefts i []) 0) (atℤ (getD lefts i []) 1) (atℤ (getD lefts i []) 2)
+marginAt lefts i = lineOf marginLine lefts i
 
 abbrev pub atcLines : (atcs : List (List ℤ)) → List ℕ
 atcLines atcs = linesText (length atcs) 0 (atcAt atcs)

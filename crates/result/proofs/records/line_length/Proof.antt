@@ -34,26 +34,27 @@ add-result-3 c =
 
 add-result-4 : tie.Need-add-result-4
 add-result-4 c =
-    let start = entry (c .before) in
-    let first = simp (toZ-ofZ, start .fits .first) at (c .before .before .signed-length .ensures) in
-    let second = simp (toZ-ofZ, start .fits .second) at (c .before .signed-length2 .ensures) in
+    let start = entry (c .before .before) in
+    let first = simp (toZ-ofZ, start .fits .first) at (c .before .before .before .signed-length .ensures) in
+    let second = simp (toZ-ofZ, start .fits .second) at (c .before .before .signed-length2 .ensures) in
     let third = simp (toZ-ofZ, start .fits .third) at (c .field-length .ensures) in
     omega (
       arith,
-      c .before .before .before .digit-count .ensures,
+      c .before .before .before .before .digit-count .ensures,
       decimal-u64 (start .args .i) (omega arith),
       decimal-i64 (start .args .first) (start .fits .first .sfits),
       decimal-i64 (start .args .second) (start .fits .second .sfits),
-      dash-most (start .args .third) (start .args .given) 20 (omega arith) (decimal-i64 (start .args .third) (start .fits .third .sfits)),
+      dash-most (start .args .third) (c .before .third-given .result) 20 (omega arith) (decimal-i64 (start .args .third) (start .fits .third .sfits)),
     )
 
 returns : tie.Need-returns
-returns c letter =
-    let start = entry (c .before) in
-    let first = simp (toZ-ofZ, start .fits .first) at (c .before .before .signed-length .ensures) in
-    let second = simp (toZ-ofZ, start .fits .second) at (c .before .signed-length2 .ensures) in
-    let third = simp (toZ-ofZ, start .fits .third) at (c .field-length .ensures) in
-    omega (arith, c .before .before .before .digit-count .ensures, record-length letter (start .args .i) (start .args .first) (start .args .second) (start .args .given) (start .args .third))
+returns c =
+    let start = entry (c .before .before) in
+    let first = simp (toZ-ofZ, start .fits .first) at (c .before .before .before .signed-length .ensures) in
+    let second = simp (toZ-ofZ, start .fits .second) at (c .before .before .signed-length2 .ensures) in
+    let given = simp (toZ-ofZ, start .fits .first, start .fits .third) at (c .before .third-given .ensures) in
+    let third = simp (toZ-ofZ, start .fits .third, given) at (c .field-length .ensures) in
+    omega (arith, c .before .before .before .before .digit-count .ensures, record-length (start .args .letter) (start .args .i) (start .args .first) (start .args .second) (start .args .third))
 
 pub line-length-spec : {M : Type 1} → statement M
 line-length-spec =
@@ -65,6 +66,7 @@ line-length-spec =
     add-result-2
     (λ c κs. search needs)
     add-result-3
+    (λ c κs. search needs)
     (λ c κs. search needs)
     add-result-4
     returns)

@@ -7,7 +7,7 @@ use lib.ListN.{length}
 use mir.Facts.{toZ-ofZ}
 use Rattle.text.specs.Written.{decimal, decimalℤ}
 use Rattle.text.proofs.PutLaws.{Begun, line-none, line-more, line-all, room-first, room-more, room-last}
-use Rattle.result.specs.Records.{orDash}
+use Rattle.result.specs.Records.{orDash, thirdGiven}
 use borrow.Author.Needs.{needs}
 use Rattle.result.proofs.records.put_line.Statement.{statement}
 use Rattle.result.proofs.records.put_line.Tie as tie
@@ -34,7 +34,7 @@ abbrev entry-from-put-signed-field2 : tie.After-put-signed-field2 → tie.Start
 entry-from-put-signed-field2 c = entry-from-put-signed-field (c .before .before .before .before)
 
 abbrev entry : tie.After-put-field → tie.Start
-entry c = entry-from-put-signed-field2 (c .before .before .before .before)
+entry c = entry-from-put-signed-field2 (c .before .before .before .before .before)
 
 abbrev at-put-field : tie.After-slice-known7 → tie.After-put-field
 at-put-field c = c .before .before .before .before .before .before
@@ -54,35 +54,37 @@ second c =
     let start = entry-from-put-signed-field2 c in
     line-more (within start) (first (c .before .before .before .before)) (simp (toZ-ofZ, start .fits .second) at (c .put-signed-field2 .ensures))
 
-third : (c : tie.After-put-field) → let start = entry c in begun start (decimal (start .args .i) ∷ decimalℤ (start .args .first) ∷ decimalℤ (start .args .second) ∷ orDash (start .args .given) (start .args .third) ∷ []) (c .put-field .result) (c .put-field .last .1 .1 .0)
+third : (c : tie.After-put-field) → let start = entry c in begun start (decimal (start .args .i) ∷ decimalℤ (start .args .first) ∷ decimalℤ (start .args .second) ∷ orDash (thirdGiven (start .args .letter) (start .args .first) (start .args .third)) (start .args .third) ∷ []) (c .put-field .result) (c .put-field .last .1 .1 .0)
 third c =
     let start = entry c in
-    line-more (within start) (second (c .before .before .before .before)) (simp (toZ-ofZ, start .fits .third) at (c .put-field .ensures))
+    let given = simp (toZ-ofZ, start .fits .first, start .fits .third) at (c .before .before .third-given .ensures) in
+    line-more (within start) (second (c .before .before .before .before .before)) (simp (toZ-ofZ, start .fits .third, given) at (c .put-field .ensures))
 
 put-byte-requires : tie.Need-put-byte-requires
 put-byte-requires c κs =
     let start = c .before .before in
-    room-first (start .args .letter) (decimal (start .args .i) ∷ decimalℤ (start .args .first) ∷ decimalℤ (start .args .second) ∷ orDash (start .args .given) (start .args .third) ∷ []) (start .pre)
+    room-first (start .args .letter) (decimal (start .args .i) ∷ decimalℤ (start .args .first) ∷ decimalℤ (start .args .second) ∷ orDash (thirdGiven (start .args .letter) (start .args .first) (start .args .third)) (start .args .third) ∷ []) (start .pre)
 
 put-number-field-requires : tie.Need-put-number-field-requires
 put-number-field-requires c κs =
     let start = entry-from-put-byte c in
-    room-more (letter (c .before .before .before)) _ (decimalℤ (start .args .first) ∷ decimalℤ (start .args .second) ∷ orDash (start .args .given) (start .args .third) ∷ []) (start .pre)
+    room-more (letter (c .before .before .before)) _ (decimalℤ (start .args .first) ∷ decimalℤ (start .args .second) ∷ orDash (thirdGiven (start .args .letter) (start .args .first) (start .args .third)) (start .args .third) ∷ []) (start .pre)
 
 put-signed-field-requires : tie.Need-put-signed-field-requires
 put-signed-field-requires c κs =
     let start = entry-from-put-number-field (c .before .before .before) in
-    simp (toZ-ofZ, start .fits .first) (room-more (index (c .before .before .before)) _ (decimalℤ (start .args .second) ∷ orDash (start .args .given) (start .args .third) ∷ []) (start .pre))
+    simp (toZ-ofZ, start .fits .first) (room-more (index (c .before .before .before)) _ (decimalℤ (start .args .second) ∷ orDash (thirdGiven (start .args .letter) (start .args .first) (start .args .third)) (start .args .third) ∷ []) (start .pre))
 
 put-signed-field-requires-2 : tie.Need-put-signed-field-requires-2
 put-signed-field-requires-2 c κs =
     let start = entry-from-put-signed-field (c .before .before .before) in
-    simp (toZ-ofZ, start .fits .second) (room-more (first (c .before .before .before)) _ (orDash (start .args .given) (start .args .third) ∷ []) (start .pre))
+    simp (toZ-ofZ, start .fits .second) (room-more (first (c .before .before .before)) _ (orDash (thirdGiven (start .args .letter) (start .args .first) (start .args .third)) (start .args .third) ∷ []) (start .pre))
 
 put-field-requires : tie.Need-put-field-requires
 put-field-requires c κs =
-    let start = entry-from-put-signed-field2 (c .before .before .before) in
-    simp (toZ-ofZ, start .fits .third) (room-more (second (c .before .before .before)) _ [] (start .pre))
+    let start = entry-from-put-signed-field2 (c .before .before .before .before) in
+    let given = simp (toZ-ofZ, start .fits .first, start .fits .third) at (c .before .third-given .ensures) in
+    simp (toZ-ofZ, start .fits .third, given) (room-more (second (c .before .before .before .before)) _ [] (start .pre))
 
 put-byte-requires-2 : tie.Need-put-byte-requires-2
 put-byte-requires-2 c κs = room-last (third (c .before .before .before)) (entry (c .before .before .before) .pre)
@@ -98,6 +100,7 @@ put-line-spec =
     put-number-field-requires
     put-signed-field-requires
     put-signed-field-requires-2
+    (λ c κs. search needs)
     put-field-requires
     put-byte-requires-2
     (λ c. search needs)
