@@ -1,5 +1,5 @@
 -- The corner sheet (02, E1) of the worked hour, and who has none, by computation.
-use mathlib.Core.Path.{_≡_, refl}
+use mathlib.Core.Path.{refl}
 use mathlib.Core.List.{List, [], _∷_, _++_}
 use Prim.Native.Nat.{ℕ}
 use lib.IntN.{ℤ, pos}
@@ -11,6 +11,7 @@ use Rattle.margin.specs.Margin.{sOf}
 use Rattle.corners.specs.Corners.{judgeCorners, cornersLeft}
 use Rattle.cornertext.specs.CornerText.{cornerTextLeft}
 use Rattle.printing.specs.Printed.{oneSheet, everySheet}
+use Rattle.figures.specs.Computed.{_is_, Hold}
 use Rattle.figures.specs.Computing.{computing}
 use Rattle.text.specs.Sheets.{sheet}
 use Rattle.figures.specs.Borders.{plainBorder}
@@ -33,55 +34,38 @@ many n borders =
     lent (record { zones = 5; borders = n; rows = 1; share = minus 1; intraday = 0 }) (replicate 5 (pos 0)) [] borders
     ((pos 10000 ∷ pos 0 ∷ pos 0 ∷ pos 0 ∷ pos 0 ∷ pos 0 ∷ pos 0 ∷ []) ∷ []) (replicate 5 (pos 0))
 
-pub record Corners : Type 0 where
-  -- the flows in front, the rest as it was; S of row 0 is 4,000,000,000, which is also the largest flow
-  pub flows : cornersLeft hourTable 0 (nines 5) ≡ record { answer = passed 4; out = pos 0 ∷ pos 2000000000 ∷ pos 2000000000 ∷ pos 4000000000 ∷ pos 9 ∷ [] }
-  pub s : sOf (take 3 (hourTable .factors)) (hourTable .borders) ≡ 4000000000
-  -- a border that relieves the row, and the largest flow at neither end; the extraction would refuse this table (6)
-  pub relieves : cornersLeft (withBorders bBack) 0 (nines 4) ≡ record { answer = passed 4; out = pos 0 ∷ pos 2000000000 ∷ minus 2000000000 ∷ pos 0 ∷ [] }
-  -- 9 for the borders, or else for the row
-  pub borders-12 : judgeCorners (many 12 (take 12 borders13)) 0 ≡ passed (many 12 (take 12 borders13))
-  pub borders-13 : cornersLeft (many 13 borders13) 0 [] ≡ record { answer = refused (noCorners 13); out = [] }
-  pub borders-first : cornersLeft (many 13 borders13) 7 [] ≡ record { answer = refused (noCorners 13); out = [] }
-  pub no-row : cornersLeft hourTable 4 [] ≡ record { answer = refused (noCorners 4); out = [] }
-  -- .. after 3 and 4, before room for the flows
-  pub range-first : cornersLeft (many 13 (plainBorder 0 0 1 ∷ borders13)) 7 [] ≡ record { answer = refused (outOfRange 7); out = [] }
-  pub twice-first : cornersLeft (withBorders bTwice) 4 [] ≡ record { answer = refused (givenTwice 1); out = [] }
-  pub room-last : cornersLeft hourTable 0 (nines 3) ≡ record { answer = refused (tooShort 4); out = nines 3 }
-  -- the text
-  pub text : cornerTextLeft hourTable 1 (replicate 51 7) ≡ record { answer = passed 50; out = sheet "K 1 0 0/K 1 1 0/K 1 2 1000000000/K 1 3 1000000000/" ++ (7 ∷ []) }
-  pub text-short : cornerTextLeft hourTable 1 (replicate 49 7) ≡ record { answer = refused (tooShort 50); out = replicate 49 7 }
-  pub text-signed : cornerTextLeft (withBorders bBack) 0 (replicate 51 7)
-      ≡ record { answer = passed 51; out = sheet "K 0 0 0/K 0 1 2000000000/K 0 2 -2000000000/K 0 3 0/" }
-  -- what the program prints
-  pub one : oneSheet hourText [] 1 ≡ sheet "K 1 0 0/K 1 1 0/K 1 2 1000000000/K 1 3 1000000000/"
-  pub one-refused : oneSheet hourText [] 4 ≡ sheet "E 9 4 0/"
-  pub one-unread : oneSheet [] [] 4 ≡ sheet "E 2 1 0/"
-  pub every : everySheet hourText []
-      ≡ sheet "K 0 0 0/K 0 1 2000000000/K 0 2 2000000000/K 0 3 4000000000/"
-      ++ sheet "K 1 0 0/K 1 1 0/K 1 2 1000000000/K 1 3 1000000000/"
-      ++ sheet "K 2 0 0/K 2 1 499900000/K 2 2 0/K 2 3 499900000/"
-      ++ sheet "K 3 0 0/K 3 1 2000000000/K 3 2 2000000000/K 3 3 4000000000/"
+-- the sheets of the hour's rows, one after another
+abbrev everyRow : List ℕ
+everyRow =
+    sheet "K 0 0 0/K 0 1 2000000000/K 0 2 2000000000/K 0 3 4000000000/"
+    ++ sheet "K 1 0 0/K 1 1 0/K 1 2 1000000000/K 1 3 1000000000/"
+    ++ sheet "K 2 0 0/K 2 1 499900000/K 2 2 0/K 2 3 499900000/"
+    ++ sheet "K 3 0 0/K 3 1 2000000000/K 3 2 2000000000/K 3 3 4000000000/"
 
-pub corners : Corners
+pub corners : Hold (
+    -- the flows in front, the rest as it was; S of row 0 is 4,000,000,000, which is also the largest flow
+    cornersLeft hourTable 0 (nines 5) is record { answer = passed 4; out = pos 0 ∷ pos 2000000000 ∷ pos 2000000000 ∷ pos 4000000000 ∷ pos 9 ∷ [] }
+    ∷ sOf (take 3 (hourTable .factors)) (hourTable .borders) is 4000000000
+    -- a border that relieves the row, and the largest flow at neither end; the extraction would refuse this table (6)
+    ∷ cornersLeft (withBorders bBack) 0 (nines 4) is record { answer = passed 4; out = pos 0 ∷ pos 2000000000 ∷ minus 2000000000 ∷ pos 0 ∷ [] }
+    -- 9 for the borders, or else for the row
+    ∷ judgeCorners (many 12 (take 12 borders13)) 0 is passed (many 12 (take 12 borders13))
+    ∷ cornersLeft (many 13 borders13) 0 [] is record { answer = refused (noCorners 13); out = [] }
+    ∷ cornersLeft (many 13 borders13) 7 [] is record { answer = refused (noCorners 13); out = [] }
+    ∷ cornersLeft hourTable 4 [] is record { answer = refused (noCorners 4); out = [] }
+    -- .. after 3 and 4, before room for the flows
+    ∷ cornersLeft (many 13 (plainBorder 0 0 1 ∷ borders13)) 7 [] is record { answer = refused (outOfRange 7); out = [] }
+    ∷ cornersLeft (withBorders bTwice) 4 [] is record { answer = refused (givenTwice 1); out = [] }
+    ∷ cornersLeft hourTable 0 (nines 3) is record { answer = refused (tooShort 4); out = nines 3 }
+    -- the text
+    ∷ cornerTextLeft hourTable 1 (replicate 51 7) is record { answer = passed 50; out = sheet "K 1 0 0/K 1 1 0/K 1 2 1000000000/K 1 3 1000000000/" ++ (7 ∷ []) }
+    ∷ cornerTextLeft hourTable 1 (replicate 49 7) is record { answer = refused (tooShort 50); out = replicate 49 7 }
+    ∷ cornerTextLeft (withBorders bBack) 0 (replicate 51 7) is record { answer = passed 51; out = sheet "K 0 0 0/K 0 1 2000000000/K 0 2 -2000000000/K 0 3 0/" }
+    -- what the program prints
+    ∷ oneSheet hourText [] 1 is sheet "K 1 0 0/K 1 1 0/K 1 2 1000000000/K 1 3 1000000000/"
+    ∷ oneSheet hourText [] 4 is sheet "E 9 4 0/"
+    ∷ oneSheet [] [] 4 is sheet "E 2 1 0/"
+    ∷ everySheet hourText [] is everyRow
+    ∷ [])
 unfolding computing
-corners =
-    record {
-      flows = refl;
-      s = refl;
-      relieves = refl;
-      borders-12 = refl;
-      borders-13 = refl;
-      borders-first = refl;
-      no-row = refl;
-      range-first = refl;
-      twice-first = refl;
-      room-last = refl;
-      text = refl;
-      text-short = refl;
-      text-signed = refl;
-      one = refl;
-      one-refused = refl;
-      one-unread = refl;
-      every = refl;
-    }
+corners = refl

@@ -18,6 +18,7 @@ use Rattle.extraction.specs.Extraction.{outcomeOf, resultOf}
 use Rattle.promises.specs.DemandIn.{IntradayDemand3}
 use Rattle.promises.proofs.Demand3.{accepted-intraday}
 use Rattle.answer.specs.Result.{answerText}
+use Rattle.figures.specs.Computed.{_is_, Hold}
 use Rattle.figures.specs.Computing.{computing}
 use Rattle.figures.specs.Borders.{plainBorder}
 
@@ -58,39 +59,25 @@ hour =
 abbrev mark : List ℕ → ℕ
 mark t = either (readText t) (λ u. u .header .intraday) (λ w. 9)
 
-pub record Intraday : Type 0 where
-  pub answered : answerText text ≡ result
-  pub read : readText text ≡ passed hour
-  pub written : tableText hour ≡ text
-  -- no T line, and T all zero: another profile
-  pub without : mark (withT "") ≡ 0
-  pub zeros : mark (withT "T 0 0/T 1 0/T 2 0/") ≡ 1
-  -- a T line too few, and one too many, which is a B line of another letter
-  pub few : readText (withT "T 0 0/T 1 0/") ≡ refused (refusal 2 7 0)
-  pub many : readText (withT "T 0 0/T 1 0/T 2 0/T 3 0/") ≡ refused (refusal 2 8 0)
-  -- the sum, at the last T line; its own form and range come first
-  pub sum : readText (withT "T 0 600000/T 1 200000/T 2 -799999/") ≡ refused (refusal 3 7 5)
-  pub form : readText (withT "T 0 600000/T 1 200000/T 2 -799999x/") ≡ refused (refusal 2 7 12)
-  pub range : readText (withT "T 0 600000/T 1 100000001/T 2 0/") ≡ refused (refusal 3 6 5)
-  -- the byte of the last position, at 2 to 16 zones: after the letter, a tab, the index and a tab
-  pub bytes : table 15 (λ k. balanceByte (k + 2)) ≡ table 15 (λ k. 4 + length (decimal (k + 1)))
-
-pub intraday : Intraday
+pub intraday : Hold (
+    answerText text is result
+    ∷ readText text is passed hour
+    ∷ tableText hour is text
+    -- no T line, and T all zero: another profile
+    ∷ mark (withT "") is 0
+    ∷ mark (withT "T 0 0/T 1 0/T 2 0/") is 1
+    -- a T line too few, and one too many, which is a B line of another letter
+    ∷ readText (withT "T 0 0/T 1 0/") is refused (refusal 2 7 0)
+    ∷ readText (withT "T 0 0/T 1 0/T 2 0/T 3 0/") is refused (refusal 2 8 0)
+    -- the sum, at the last T line; its own form and range come first
+    ∷ readText (withT "T 0 600000/T 1 200000/T 2 -799999/") is refused (refusal 3 7 5)
+    ∷ readText (withT "T 0 600000/T 1 200000/T 2 -799999x/") is refused (refusal 2 7 12)
+    ∷ readText (withT "T 0 600000/T 1 100000001/T 2 0/") is refused (refusal 3 6 5)
+    -- the byte of the last position, at 2 to 16 zones: after the letter, a tab, the index and a tab
+    ∷ table 15 (λ k. balanceByte (k + 2)) is table 15 (λ k. 4 + length (decimal (k + 1)))
+    ∷ [])
 unfolding computing
-intraday =
-    record {
-      answered = refl;
-      read = refl;
-      written = refl;
-      without = refl;
-      zeros = refl;
-      few = refl;
-      many = refl;
-      sum = refl;
-      form = refl;
-      range = refl;
-      bytes = refl;
-    }
+intraday = refl
 
 hour-end : outcomeOf hour ≡ passed (resultOf hour)
 unfolding computing

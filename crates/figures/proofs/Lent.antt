@@ -1,5 +1,5 @@
 -- What the open calls leave on the worked hour: an accepted call of each, and the refusals and turns that only a lent call has, by computation.
-use mathlib.Core.Path.{_≡_, refl}
+use mathlib.Core.Path.{refl}
 use mathlib.Core.List.{List, [], _∷_, _++_}
 use Prim.Native.Nat.{ℕ}
 use lib.IntN.{ℤ, pos}
@@ -12,6 +12,7 @@ use Rattle.reading.specs.Reading.{readLeft}
 use Rattle.writing.specs.Writing.{tableText, writeLeft}
 use Rattle.extraction.specs.Extraction.{extractLeft}
 use Rattle.answer.specs.Result.{resultTextLeft, answerLeft}
+use Rattle.figures.specs.Computed.{_is_, Hold}
 use Rattle.figures.specs.Computing.{computing}
 use Rattle.text.specs.Sheets.{sheet}
 use Rattle.figures.specs.Hour.{hourText, hourResult, hourTable, bTwice, bBack, nines}
@@ -59,83 +60,48 @@ cvaHigh = take 1 c ++ ((pos 100000 ∷ pos 10000 ∷ pos 15000 ∷ pos 0 ∷ min
 abbrev frmHigh : List (List ℤ)
 frmHigh = take 1 c ++ ((pos 100000 ∷ pos 100001 ∷ pos 15000 ∷ pos 0 ∷ minus 1 ∷ pos 0 ∷ pos 0 ∷ []) ∷ drop 2 c)
 
-pub record LentCalls : Type 0 where
-  -- read: the table in front, the rest as it was
-  pub read-into : readLeft hourText (nines 4) [] (old 3) (old 4) (nines 13)
-      ≡ record { answer = passed h; z = z ++ nines 1; t = []; b = b ++ old 1; c = c; f = f ++ nines 1 }
-  -- .. 8 in the order Z, B, C, factors, and nothing written (T: `Intraday.antt`)
-  pub read-short-z : readLeft hourText (nines 2) [] (old 1) (old 3) [] ≡ record { answer = refused (tooShort 3); z = nines 2; t = []; b = old 1; c = old 3; f = [] }
-  pub read-short-b : readLeft hourText (nines 4) [] (old 1) (old 3) [] ≡ record { answer = refused (tooShort 2); z = nines 4; t = []; b = old 1; c = old 3; f = [] }
-  pub read-short-c : readLeft hourText (nines 4) [] (old 2) (old 3) [] ≡ record { answer = refused (tooShort 4); z = nines 4; t = []; b = old 2; c = old 3; f = [] }
-  pub read-short-f : readLeft hourText z [] b c (take 11 f) ≡ record { answer = refused (tooShort 12); z = z; t = []; b = b; c = c; f = take 11 f }
-  -- .. after 1 to 4
-  pub read-form-first : readLeft (take 100 hourText) [] [] [] [] [] ≡ record { answer = refused (wrongForm 7); z = []; t = []; b = []; c = []; f = [] }
-  -- .. with the byte to blame (02, E5)
-  pub read-form-byte : readLeft (sheet "H 3 2 4/Z 0 +5/") [] [] [] [] [] ≡ record { answer = refused (wrongFormAt 2 5); z = []; t = []; b = []; c = []; f = [] }
-  pub read-range-byte : readLeft (sheet "H 3 2 4/Z 0 100000001/") [] [] [] [] [] ≡ record { answer = refused (outOfRangeAt 2 5); z = []; t = []; b = []; c = []; f = [] }
-  -- write: from tables that may be longer than needed; the rest of the text as it was
-  pub write-out : writeLeft (lent h (z ++ z) [] (b ++ b) (c ++ c) (f ++ f)) (replicate 253 7) ≡ record { answer = passed 252; out = hourText ++ (7 ∷ []) }
-  pub write-short : writeLeft hourTable (replicate 251 7) ≡ record { answer = refused (tooShort 252); out = replicate 251 7 }
-  -- a call on lent tables judges the header (3, line 1), then lengths (8), then 3 and 4 with the line the record would have
-  pub header-first : writeLeft (lent (record { zones = 3; borders = 65; rows = 4; share = minus 1; intraday = 0 }) [] [] [] [] []) [] ≡ record { answer = refused (outOfRange 1); out = [] }
-  pub length-first : writeLeft (lent h (pos 100000001 ∷ []) [] b c f) [] ≡ record { answer = refused (tooShort 3); out = [] }
-  pub factors-short : writeLeft (lent h z [] bTwice frmHigh (take 11 f)) [] ≡ record { answer = refused (tooShort 12); out = [] }
-  pub zone-line : writeLeft (lent h (pos 0 ∷ pos 100000001 ∷ pos 0 ∷ []) [] b c f) [] ≡ record { answer = refused (outOfRange 3); out = [] }
-  pub border-line : writeLeft (lent h z [] ((pos 0 ∷ minus 1 ∷ pos 0 ∷ []) ∷ b) c f) [] ≡ record { answer = refused (outOfRange 5); out = [] }
-  pub row-line : writeLeft (lent h z [] bTwice frmHigh f) [] ≡ record { answer = refused (outOfRange 8); out = [] }
-  pub factor-line : writeLeft (lent h z [] b c (take 6 f ++ (pos 100001 ∷ drop 7 f))) [] ≡ record { answer = refused (outOfRange 9); out = [] }
-  pub twice-lent : writeLeft (lent h z [] bTwice c f) [] ≡ record { answer = refused (givenTwice 1); out = [] }
-  -- only the extraction goes on to 5, 6 and 7, so that a table it refuses can be written
-  pub write-unlimited : writeLeft (lent h z [] bBack c f) (replicate 252 7) ≡ record { answer = passed 252; out = tableText (lent h z [] bBack c f) }
-  pub extract-unlimited : extractLeft (lent h z [] bBack c f) (sevens 8) [] [] ≡ record { answer = refused (unlimited 1); p = sevens 8; atcs = []; lefts = [] }
-  pub extract-below : extractLeft (lent h z [] b cvaHigh f) (sevens 8) [] [] ≡ record { answer = refused (belowZero 1); p = sevens 8; atcs = []; lefts = [] }
-  -- extract: p and results in front, the rest as it was; last comes room for results, border results before row results
-  pub extract-out : extractLeft hourTable (sevens 9) (old 3) (old 5) ≡ record { answer = passed 21; p = ps ++ sevens 1; atcs = ATCs ++ old 1; lefts = lefts ++ old 1 }
-  pub extract-short : extractLeft hourTable (sevens 8) (old 2) (old 3) ≡ record { answer = refused (tooShort 4); p = sevens 8; atcs = old 2; lefts = old 3 }
-  pub extract-short-both : extractLeft hourTable (sevens 8) (old 1) (old 3) ≡ record { answer = refused (tooShort 2); p = sevens 8; atcs = old 1; lefts = old 3 }
-  -- .. room for p is looked at after the factors, and before any record
-  pub extract-short-p : extractLeft (lent h z [] b frmHigh f) (sevens 7) [] [] ≡ record { answer = refused (tooShort 8); p = sevens 7; atcs = []; lefts = [] }
-  -- result_text and answer
-  pub result-out : resultTextLeft hourTable (replicate 118 7) ≡ record { answer = passed 116; out = hourResult ++ (7 ∷ 7 ∷ []) }
-  pub result-short : resultTextLeft hourTable (replicate 115 7) ≡ record { answer = refused (tooShort 116); out = replicate 115 7 }
-  pub result-below : resultTextLeft (lent h z [] b cvaHigh f) [] ≡ record { answer = refused (belowZero 1); out = [] }
-  pub answer-out : answerLeft hourText (replicate 117 7) ≡ record { answer = passed 116; out = hourResult ++ (7 ∷ []) }
-  pub answer-refused : answerLeft [] (replicate 10 7) ≡ record { answer = passed 8; out = sheet "E 2 1 0/" ++ (7 ∷ 7 ∷ []) }
-  pub answer-short : answerLeft [] (replicate 7 7) ≡ record { answer = refused (tooShort 8); out = replicate 7 7 }
-
-pub lent-calls : LentCalls
+pub lent-calls : Hold (
+    -- read: the table in front, the rest as it was
+    readLeft hourText (nines 4) [] (old 3) (old 4) (nines 13) is record { answer = passed h; z = z ++ nines 1; t = []; b = b ++ old 1; c = c; f = f ++ nines 1 }
+    -- .. 8 in the order Z, B, C, factors, and nothing written (T: `Intraday.antt`)
+    ∷ readLeft hourText (nines 2) [] (old 1) (old 3) [] is record { answer = refused (tooShort 3); z = nines 2; t = []; b = old 1; c = old 3; f = [] }
+    ∷ readLeft hourText (nines 4) [] (old 1) (old 3) [] is record { answer = refused (tooShort 2); z = nines 4; t = []; b = old 1; c = old 3; f = [] }
+    ∷ readLeft hourText (nines 4) [] (old 2) (old 3) [] is record { answer = refused (tooShort 4); z = nines 4; t = []; b = old 2; c = old 3; f = [] }
+    ∷ readLeft hourText z [] b c (take 11 f) is record { answer = refused (tooShort 12); z = z; t = []; b = b; c = c; f = take 11 f }
+    -- .. after 1 to 4
+    ∷ readLeft (take 100 hourText) [] [] [] [] [] is record { answer = refused (wrongForm 7); z = []; t = []; b = []; c = []; f = [] }
+    -- .. with the byte to blame (02, E5)
+    ∷ readLeft (sheet "H 3 2 4/Z 0 +5/") [] [] [] [] [] is record { answer = refused (wrongFormAt 2 5); z = []; t = []; b = []; c = []; f = [] }
+    ∷ readLeft (sheet "H 3 2 4/Z 0 100000001/") [] [] [] [] [] is record { answer = refused (outOfRangeAt 2 5); z = []; t = []; b = []; c = []; f = [] }
+    -- write: from tables that may be longer than needed; the rest of the text as it was
+    ∷ writeLeft (lent h (z ++ z) [] (b ++ b) (c ++ c) (f ++ f)) (replicate 253 7) is record { answer = passed 252; out = hourText ++ (7 ∷ []) }
+    ∷ writeLeft hourTable (replicate 251 7) is record { answer = refused (tooShort 252); out = replicate 251 7 }
+    -- a call on lent tables judges the header (3, line 1), then lengths (8), then 3 and 4 with the line the record would have
+    ∷ writeLeft (lent (record { zones = 3; borders = 65; rows = 4; share = minus 1; intraday = 0 }) [] [] [] [] []) [] is record { answer = refused (outOfRange 1); out = [] }
+    ∷ writeLeft (lent h (pos 100000001 ∷ []) [] b c f) [] is record { answer = refused (tooShort 3); out = [] }
+    ∷ writeLeft (lent h z [] bTwice frmHigh (take 11 f)) [] is record { answer = refused (tooShort 12); out = [] }
+    ∷ writeLeft (lent h (pos 0 ∷ pos 100000001 ∷ pos 0 ∷ []) [] b c f) [] is record { answer = refused (outOfRange 3); out = [] }
+    ∷ writeLeft (lent h z [] ((pos 0 ∷ minus 1 ∷ pos 0 ∷ []) ∷ b) c f) [] is record { answer = refused (outOfRange 5); out = [] }
+    ∷ writeLeft (lent h z [] bTwice frmHigh f) [] is record { answer = refused (outOfRange 8); out = [] }
+    ∷ writeLeft (lent h z [] b c (take 6 f ++ (pos 100001 ∷ drop 7 f))) [] is record { answer = refused (outOfRange 9); out = [] }
+    ∷ writeLeft (lent h z [] bTwice c f) [] is record { answer = refused (givenTwice 1); out = [] }
+    -- only the extraction goes on to 5, 6 and 7, so that a table it refuses can be written
+    ∷ writeLeft (lent h z [] bBack c f) (replicate 252 7) is record { answer = passed 252; out = tableText (lent h z [] bBack c f) }
+    ∷ extractLeft (lent h z [] bBack c f) (sevens 8) [] [] is record { answer = refused (unlimited 1); p = sevens 8; atcs = []; lefts = [] }
+    ∷ extractLeft (lent h z [] b cvaHigh f) (sevens 8) [] [] is record { answer = refused (belowZero 1); p = sevens 8; atcs = []; lefts = [] }
+    -- extract: p and results in front, the rest as it was; last comes room for results, border results before row results
+    ∷ extractLeft hourTable (sevens 9) (old 3) (old 5) is record { answer = passed 21; p = ps ++ sevens 1; atcs = ATCs ++ old 1; lefts = lefts ++ old 1 }
+    ∷ extractLeft hourTable (sevens 8) (old 2) (old 3) is record { answer = refused (tooShort 4); p = sevens 8; atcs = old 2; lefts = old 3 }
+    ∷ extractLeft hourTable (sevens 8) (old 1) (old 3) is record { answer = refused (tooShort 2); p = sevens 8; atcs = old 1; lefts = old 3 }
+    -- .. room for p is looked at after the factors, and before any record
+    ∷ extractLeft (lent h z [] b frmHigh f) (sevens 7) [] [] is record { answer = refused (tooShort 8); p = sevens 7; atcs = []; lefts = [] }
+    -- result_text and answer
+    ∷ resultTextLeft hourTable (replicate 118 7) is record { answer = passed 116; out = hourResult ++ (7 ∷ 7 ∷ []) }
+    ∷ resultTextLeft hourTable (replicate 115 7) is record { answer = refused (tooShort 116); out = replicate 115 7 }
+    ∷ resultTextLeft (lent h z [] b cvaHigh f) [] is record { answer = refused (belowZero 1); out = [] }
+    ∷ answerLeft hourText (replicate 117 7) is record { answer = passed 116; out = hourResult ++ (7 ∷ []) }
+    ∷ answerLeft [] (replicate 10 7) is record { answer = passed 8; out = sheet "E 2 1 0/" ++ (7 ∷ 7 ∷ []) }
+    ∷ answerLeft [] (replicate 7 7) is record { answer = refused (tooShort 8); out = replicate 7 7 }
+    ∷ [])
 unfolding computing
-lent-calls =
-    record {
-      read-into = refl;
-      read-short-z = refl;
-      read-short-b = refl;
-      read-short-c = refl;
-      read-short-f = refl;
-      read-form-first = refl;
-      read-form-byte = refl;
-      read-range-byte = refl;
-      write-out = refl;
-      write-short = refl;
-      header-first = refl;
-      length-first = refl;
-      factors-short = refl;
-      zone-line = refl;
-      border-line = refl;
-      row-line = refl;
-      factor-line = refl;
-      twice-lent = refl;
-      write-unlimited = refl;
-      extract-unlimited = refl;
-      extract-below = refl;
-      extract-out = refl;
-      extract-short = refl;
-      extract-short-both = refl;
-      extract-short-p = refl;
-      result-out = refl;
-      result-short = refl;
-      result-below = refl;
-      answer-out = refl;
-      answer-refused = refl;
-      answer-short = refl;
-    }
+lent-calls = refl

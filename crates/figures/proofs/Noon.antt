@@ -1,7 +1,7 @@
 -- A correction sheet at noon (02, E2), by computation: a day that it cures, one that it spoils, its refusals, and the merged table written again.
-use mathlib.Core.Path.{_≡_, refl}
+use mathlib.Core.Path.{refl}
 use mathlib.Core.Bool.{true, false}
-use mathlib.Core.List.{List, []}
+use mathlib.Core.List.{List, [], _∷_}
 use Prim.Native.Nat.{ℕ}
 use Prim.Native.String.{String}
 use Rattle.kinds.specs.Refusals.{either}
@@ -9,6 +9,7 @@ use Rattle.reading.specs.Reading.{readCorrected}
 use Rattle.writing.specs.Writing.{tableText}
 use Rattle.result.specs.Refusal.{refusalText}
 use Rattle.answer.specs.Result.{answerText, answerWith}
+use Rattle.figures.specs.Computed.{_is_, Hold}
 use Rattle.figures.specs.Computing.{computing}
 use Rattle.text.specs.Sheets.{sheet}
 
@@ -25,32 +26,20 @@ at-noon day corrections = answerWith true [] day (sheet corrections)
 abbrev rewritten : (corrections : String) → List ℕ
 rewritten corrections = either (readCorrected morning (sheet corrections)) tableText refusalText
 
-pub record Noon : Type 0 where
-  pub refused-7 : answerText morning ≡ sheet "E 7 0 0/"
-  -- an empty sheet changes nothing
-  pub empty : at-noon morning "" ≡ sheet "E 7 0 0/"
-  -- 5, 6 and 7 are of the merged table alone: a sheet that cures 7, one that causes it, and one that causes 6
-  pub cures-7 : at-noon morning "C 0 10000 0 0 0 7000 0 0 20000 0/" ≡ sheet "A 0 100 0 0/M 0 0 2000000000 0/R 0/"
-  pub causes-7 : at-noon evening "C 0 10000 0 0 0 7000 0 1 20000 0/" ≡ sheet "E 7 0 0/"
-  pub causes-6 : at-noon evening "C 0 10000 0 0 0 7000 0 0 0 20000/" ≡ sheet "E 6 0 0/"
-  -- 10 is told with the sheet's line and the byte, before 13
-  pub ten : at-noon morning "C 0 10000 0 0 0 7000 0 0 20000 0/C 0 10000 0 0 0 7000 0 0 20000 0/" ≡ sheet "E 10 2 3/"
-  pub ten-first : answerWith false [] morning (sheet "x") ≡ sheet "E 10 1 0/"
-  pub then-13 : answerWith false [] morning (sheet "C 0 10000 0 0 0 7000 0 0 20000 0/") ≡ sheet "E 13 0 0/"
-  -- "-" in a sheet's line is written as "-" again
-  pub again : rewritten "C 0 9000 0 0 0 - 0 0 20000 0/" ≡ sheet "H 2 1 1/Z 0 0/Z 1 0/B 0 0 1 100/C 0 9000 0 0 0 - 0 0 20000 0/"
-
-pub noon : Noon
+pub noon : Hold (
+    answerText morning is sheet "E 7 0 0/"
+    -- an empty sheet changes nothing
+    ∷ at-noon morning "" is sheet "E 7 0 0/"
+    -- 5, 6 and 7 are of the merged table alone: a sheet that cures 7, one that causes it, and one that causes 6
+    ∷ at-noon morning "C 0 10000 0 0 0 7000 0 0 20000 0/" is sheet "A 0 100 0 0/M 0 0 2000000000 0/R 0/"
+    ∷ at-noon evening "C 0 10000 0 0 0 7000 0 1 20000 0/" is sheet "E 7 0 0/"
+    ∷ at-noon evening "C 0 10000 0 0 0 7000 0 0 0 20000/" is sheet "E 6 0 0/"
+    -- 10 is told with the sheet's line and the byte, before 13
+    ∷ at-noon morning "C 0 10000 0 0 0 7000 0 0 20000 0/C 0 10000 0 0 0 7000 0 0 20000 0/" is sheet "E 10 2 3/"
+    ∷ answerWith false [] morning (sheet "x") is sheet "E 10 1 0/"
+    ∷ answerWith false [] morning (sheet "C 0 10000 0 0 0 7000 0 0 20000 0/") is sheet "E 13 0 0/"
+    -- "-" in a sheet's line is written as "-" again
+    ∷ rewritten "C 0 9000 0 0 0 - 0 0 20000 0/" is sheet "H 2 1 1/Z 0 0/Z 1 0/B 0 0 1 100/C 0 9000 0 0 0 - 0 0 20000 0/"
+    ∷ [])
 unfolding computing
-noon =
-    record {
-      refused-7 = refl;
-      empty = refl;
-      cures-7 = refl;
-      causes-7 = refl;
-      causes-6 = refl;
-      ten = refl;
-      ten-first = refl;
-      then-13 = refl;
-      again = refl;
-    }
+noon = refl

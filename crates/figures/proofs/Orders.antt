@@ -1,6 +1,6 @@
 -- Two faults in one table, for each order that 01 names ("When the table is turned away"), and refusal 8's own number, by computation.
 -- A text's two faults, and 5, 6 and 7, are in `Refusals.antt`; room for results last is in `Lent.antt`.
-use mathlib.Core.Path.{_≡_, refl}
+use mathlib.Core.Path.{refl}
 use mathlib.Core.List.{List, [], _∷_, _++_}
 use Prim.Native.Nat.{ℕ}
 use lib.IntN.{ℤ, pos}
@@ -10,6 +10,7 @@ use Rattle.table.specs.Table.{Table, lent, judgeLent}
 use Rattle.reading.specs.Reading.{readLeft}
 use Rattle.writing.specs.Writing.{writeLeft}
 use Rattle.extraction.specs.Extraction.{extractLeft}
+use Rattle.figures.specs.Computed.{_is_, Hold}
 use Rattle.figures.specs.Computing.{computing}
 use Rattle.text.specs.Sheets.{sheet}
 use Rattle.figures.specs.Borders.{plainBorder}
@@ -47,46 +48,28 @@ abbrev twiceText : List ℕ
 twiceText =
     sheet "H 3 2 1/Z 0 500000/Z 1 -200000/Z 2 -300000/B 0 0 1 100/B 1 0 1 200/C 0 1000000 200000 200000 150000 7000 0 80000 30000 10000 0/"
 
-pub record Ordered : Type 0 where
-  -- refusal 8 has the number 8, in reading, on lent tables, and for each result
-  pub eight-read : readLeft hourText [] [] [] [] [] .answer ≡ refused (refusal 8 3 0)
-  pub eight-lent : writeLeft (lent (hourTable .header) [] [] [] [] []) [] .answer ≡ refused (refusal 8 3 0)
-  pub eight-text : writeLeft hourTable [] .answer ≡ refused (refusal 8 252 0)
-  pub eight-p : extractLeft hourTable [] [] [] .answer ≡ refused (refusal 8 8 0)
-  pub eight-atcs : extractLeft hourTable (replicate 8 7) [] [] .answer ≡ refused (refusal 8 2 0)
-  -- short tables in the order Z, B, C, factors, p
-  pub short-z-b : judged shortZ shortB (hourTable .rows) (hourTable .factors) ≡ refused (refusal 8 3 0)
-  pub short-b-c : judged (hourTable .nets) shortB shortC (hourTable .factors) ≡ refused (refusal 8 2 0)
-  pub short-c-f : judged (hourTable .nets) (hourTable .borders) shortC shortF ≡ refused (refusal 8 4 0)
-  pub short-f-p : extractLeft (lent (hourTable .header) (hourTable .nets) [] (hourTable .borders) (hourTable .rows) shortF) (replicate 7 7) [] [] .answer ≡ refused (refusal 8 12 0)
-  -- lengths before ranges, whichever table it is
-  pub short-before-far : judged farZ farB farC shortF ≡ refused (refusal 8 12 0)
-  pub short-p-before-far : extractLeft (lent (hourTable .header) farZ [] farB farC (hourTable .factors)) (replicate 7 7) [] [] .answer ≡ refused (refusal 8 8 0)
-  -- records by the line they would have: Z lines 2 to 4, B lines 5 and 6, C lines 7 to 10
-  pub far-z-b : judged farZ farB (hourTable .rows) (hourTable .factors) ≡ refused (refusal 3 4 0)
-  pub far-b-c : judged (hourTable .nets) farB farC (hourTable .factors) ≡ refused (refusal 3 6 0)
-  -- 3 before 4, also where the border comes first
-  pub far-c-twice : judged (hourTable .nets) bTwice farC (hourTable .factors) ≡ refused (refusal 3 10 0)
-  -- reading: 4 before 8
-  pub twice-before-short : readLeft twiceText [] [] [] [] [] .answer ≡ refused (refusal 4 1 0)
-
-pub ordered : Ordered
+pub ordered : Hold (
+    -- refusal 8 has the number 8, in reading, on lent tables, and for each result
+    readLeft hourText [] [] [] [] [] .answer is refused (refusal 8 3 0)
+    ∷ writeLeft (lent (hourTable .header) [] [] [] [] []) [] .answer is refused (refusal 8 3 0)
+    ∷ writeLeft hourTable [] .answer is refused (refusal 8 252 0)
+    ∷ extractLeft hourTable [] [] [] .answer is refused (refusal 8 8 0)
+    ∷ extractLeft hourTable (replicate 8 7) [] [] .answer is refused (refusal 8 2 0)
+    -- short tables in the order Z, B, C, factors, p
+    ∷ judged shortZ shortB (hourTable .rows) (hourTable .factors) is refused (refusal 8 3 0)
+    ∷ judged (hourTable .nets) shortB shortC (hourTable .factors) is refused (refusal 8 2 0)
+    ∷ judged (hourTable .nets) (hourTable .borders) shortC shortF is refused (refusal 8 4 0)
+    ∷ extractLeft (lent (hourTable .header) (hourTable .nets) [] (hourTable .borders) (hourTable .rows) shortF) (replicate 7 7) [] [] .answer is refused (refusal 8 12 0)
+    -- lengths before ranges, whichever table it is
+    ∷ judged farZ farB farC shortF is refused (refusal 8 12 0)
+    ∷ extractLeft (lent (hourTable .header) farZ [] farB farC (hourTable .factors)) (replicate 7 7) [] [] .answer is refused (refusal 8 8 0)
+    -- records by the line they would have: Z lines 2 to 4, B lines 5 and 6, C lines 7 to 10
+    ∷ judged farZ farB (hourTable .rows) (hourTable .factors) is refused (refusal 3 4 0)
+    ∷ judged (hourTable .nets) farB farC (hourTable .factors) is refused (refusal 3 6 0)
+    -- 3 before 4, also where the border comes first
+    ∷ judged (hourTable .nets) bTwice farC (hourTable .factors) is refused (refusal 3 10 0)
+    -- reading: 4 before 8
+    ∷ readLeft twiceText [] [] [] [] [] .answer is refused (refusal 4 1 0)
+    ∷ [])
 unfolding computing
-ordered =
-    record {
-      eight-read = refl;
-      eight-lent = refl;
-      eight-text = refl;
-      eight-p = refl;
-      eight-atcs = refl;
-      short-z-b = refl;
-      short-b-c = refl;
-      short-c-f = refl;
-      short-f-p = refl;
-      short-before-far = refl;
-      short-p-before-far = refl;
-      far-z-b = refl;
-      far-b-c = refl;
-      far-c-twice = refl;
-      twice-before-short = refl;
-    }
+ordered = refl

@@ -1,5 +1,5 @@
 -- 02, E14 on the worked hour, by computation: row 3, which another stands for, takes part and costs nothing; and its rows in the other order come to the same.
-use mathlib.Core.Path.{_≡_, refl}
+use mathlib.Core.Path.{refl}
 use mathlib.Core.List.{List, [], _∷_}
 use Prim.Native.Nat.{ℕ, _-_}
 use Rattle.kinds.specs.Refusals.{Judged, passed, then}
@@ -9,6 +9,7 @@ use Rattle.start.specs.Start.{every}
 use Rattle.extraction.specs.Extraction.{Result, outcomeOf}
 use Rattle.promises.specs.Ways.{dayAhead, outcomeIn, unshortened}
 use Rattle.promises.specs.Order.{reorder}
+use Rattle.figures.specs.Computed.{_is_, Hold}
 use Rattle.figures.specs.Computing.{computing}
 use Rattle.figures.specs.Hour.{hourTable}
 
@@ -23,12 +24,11 @@ end margins = passed (record { rounds = 21; state = record { margins = margins; 
 abbrev turned : Table
 turned = reorder (λ i. 3 - i) hourTable
 
-pub record HourShortened : Type 0 where
-  -- rows 0, 1 and 3 take part, where 01 has rows 0 and 1 (`hour-demand`'s `result`): the same rounds and exchanges, and row 3 keeps 30,000,020,000 grains
-  pub long : ends (outcomeIn dayAhead unshortened every hourTable) ≡ end (20000 ∷ 0 ∷ 0 ∷ 30000020000 ∷ [])
-  -- the same rows, the last first
-  pub other-order : ends (outcomeOf turned) ≡ end (0 ∷ 0 ∷ 0 ∷ 20000 ∷ [])
-
-pub hour-shortened : HourShortened
+pub hour-shortened : Hold (
+    -- rows 0, 1 and 3 take part, where 01 has rows 0 and 1 (`hour-demand`'s `result`): the same rounds and exchanges, and row 3 keeps 30,000,020,000 grains
+    ends (outcomeIn dayAhead unshortened every hourTable) is end (20000 ∷ 0 ∷ 0 ∷ 30000020000 ∷ [])
+    -- the same rows, the last first
+    ∷ ends (outcomeOf turned) is end (0 ∷ 0 ∷ 0 ∷ 20000 ∷ [])
+    ∷ [])
 unfolding computing
-hour-shortened = record { long = refl; other-order = refl }
+hour-shortened = refl
