@@ -11,7 +11,7 @@ use lib.ListN.{length}
 use lib.Signed.{ltZ}
 use Rattle.numbers.specs.Ints.{positivePart}
 use Rattle.numbers.specs.Below.{at, sum, someBelow}
-use Rattle.numbers.proofs.BelowLaws.{sum-cong, sum-mono, table-get}
+use Rattle.numbers.proofs.BelowLaws.{sum-mono, table-get}
 use Rattle.kinds.specs.declared.Border.{Border}
 use Rattle.kinds.specs.Ranges.{atℤ, isIntraday}
 use Rattle.kinds.specs.Refusals.{passed}
@@ -51,7 +51,7 @@ unfolding positivePart
 part-le-abs (pos n) = omega arith
 part-le-abs (negsuc n) = omega arith
 
-part-le-whole : (k : Bool) (p : ℕ) → cond k p 0 ≤ p
+pub part-le-whole : (k : Bool) (p : ℕ) → cond k p 0 ≤ p
 part-le-whole true p = omega arith
 part-le-whole false p = omega arith
 

@@ -13,6 +13,7 @@ use Rattle.rounds.specs.Rounds.{Grid, State, load, Outcome}
 use Rattle.rounds.proofs.Rounds.{extracts}
 use Rattle.rounds.proofs.Theorems.{extract-demand3, most-rounds}
 use Rattle.start.specs.Setup.{Setup, gridBy, beginBy, endBy}
+use Rattle.extraction.proofs.AcceptedLaws.{part-le-whole}
 use Rattle.promises.specs.DemandBy.{loadBy, DemandBy}
 use Rattle.promises.proofs.SetupLaws.{margin-at, from-at, p-marked, p-unmarked, unloaded-stays}
 
@@ -89,10 +90,6 @@ module _ (s : Setup) where
         few = d .few;
         still = d .still;
       }
-
-part-le-whole : (k : Bool) (v : ℕ) → cond k v 0 ≤ v
-part-le-whole true v = omega arith
-part-le-whole false v = omega arith
 
 -- starting margins under 2^E: at most 2 B E rounds, in any profile
 pub setup-rounds : (s : Setup) (B E : ℕ) → s .borders ≤ B → ((i : ℕ) → i < s .rows → positivePart (s .margin i) < 2 ^ E) → endBy s .rounds ≤ 2 * B * E
