@@ -10,11 +10,9 @@ use denote.Triple.Clauses.{AtExit}
 use borrow.Fn.World.{ArgsD, ResD}
 use borrow.Fn.Kinds.{endedOf}
 use Rattle.cabi.specs.declared.KeravnothRead.{KeravnothRead}
-use Rattle.cabi.specs.declared.KeravnothWritten.{KeravnothWritten}
 use Rattle.cabi.specs.declared.KeravnothExtracted.{KeravnothExtracted}
-use Rattle.cabi.specs.declared.KeravnothFlows.{KeravnothFlows}
 use Rattle.cabi.specs.declared.KeravnothJudged.{KeravnothJudged}
-use Rattle.cabi.specs.Coded.{ReadCoded, readFound, TextCoded, textFound, ExtractCoded, extractFound, FlowsCoded, flowsFound, RowsCoded, rowsFound, MarginsCoded, marginsFound}
+use Rattle.cabi.specs.Coded.{ReadCoded, readFound, OutCoded, outFound, ExtractCoded, extractFound, RowsCoded, rowsFound}
 use Rattle.cabi.proofs.keravnoth_read as read
 use Rattle.cabi.proofs.keravnoth_read.Kinds as read-kinds
 use Rattle.cabi.proofs.keravnoth_read.Reads as read-reads
@@ -83,8 +81,8 @@ read-one may r r′ z z′ t t′ b b′ c c′ f f′ p q =
     let e = p ∙ sym q in
     (ap (λ (l : ReadCoded). l .answer) e, (ap (λ (l : ReadCoded). l .z) e, (ap (λ (l : ReadCoded). l .t) e, (ap (λ (l : ReadCoded). l .b) e, (ap (λ (l : ReadCoded). l .c) e, ap (λ (l : ReadCoded). l .f) e)))))
 
-text-one : (may : TextCoded) (r r′ : KeravnothWritten) (out out′ : List ℕ) → textFound r out ≡ may → textFound r′ out′ ≡ may → (r ≡ r′) × (out ≡ out′)
-text-one may r r′ out out′ p q = let e = p ∙ sym q in (ap (λ (l : TextCoded). l .answer) e, ap (λ (l : TextCoded). l .out) e)
+out-one : {A B : Type 0} (may : OutCoded A B) (r r′ : A) (out out′ : List B) → outFound r out ≡ may → outFound r′ out′ ≡ may → (r ≡ r′) × (out ≡ out′)
+out-one {A} {B} may r r′ out out′ p q = let e = p ∙ sym q in (ap (λ (l : OutCoded A B). l .answer) e, ap (λ (l : OutCoded A B). l .out) e)
 
 extract-one : (may : ExtractCoded) (r r′ : KeravnothExtracted) (ps ps′ : List ℕ) (atcs atcs′ lefts lefts′ : List (List ℤ)) → extractFound r ps atcs lefts ≡ may → extractFound r′ ps′ atcs′ lefts′ ≡ may
     → (r ≡ r′) × ((ps ≡ ps′) × ((atcs ≡ atcs′) × (lefts ≡ lefts′)))
@@ -92,14 +90,8 @@ extract-one may r r′ ps ps′ atcs atcs′ lefts lefts′ p q =
     let e = p ∙ sym q in
     (ap (λ (l : ExtractCoded). l .answer) e, (ap (λ (l : ExtractCoded). l .p) e, (ap (λ (l : ExtractCoded). l .atcs) e, ap (λ (l : ExtractCoded). l .lefts) e)))
 
-flows-one : (may : FlowsCoded) (r r′ : KeravnothFlows) (out out′ : List ℤ) → flowsFound r out ≡ may → flowsFound r′ out′ ≡ may → (r ≡ r′) × (out ≡ out′)
-flows-one may r r′ out out′ p q = let e = p ∙ sym q in (ap (λ (l : FlowsCoded). l .answer) e, ap (λ (l : FlowsCoded). l .out) e)
-
 rows-one : (may : RowsCoded) (r r′ : KeravnothJudged) (c c′ : List (List ℤ)) (f f′ : List ℤ) → rowsFound r c f ≡ may → rowsFound r′ c′ f′ ≡ may → (r ≡ r′) × ((c ≡ c′) × (f ≡ f′))
 rows-one may r r′ c c′ f f′ p q = let e = p ∙ sym q in (ap (λ (l : RowsCoded). l .answer) e, (ap (λ (l : RowsCoded). l .c) e, ap (λ (l : RowsCoded). l .f) e))
-
-margins-one : (may : MarginsCoded) (r r′ : KeravnothJudged) (out out′ : List (List ℤ)) → marginsFound r out ≡ may → marginsFound r′ out′ ≡ may → (r ≡ r′) × (out ≡ out′)
-margins-one may r r′ out out′ p q = let e = p ∙ sym q in (ap (λ (l : MarginsCoded). l .answer) e, ap (λ (l : MarginsCoded). l .out) e)
 
 -- ---- the calls; the tables that `keravnoth_read` fills are its second to sixth arguments
 pub keravnoth-read-once : (κs : Lfts 6) (x : ArgsD read.signature κs) (r r′ : ResD read.signature κs) (s s′ : AtExit (endedOf 6 read-kinds.ps read-kinds.r) κs)
@@ -126,12 +118,12 @@ keravnoth-read-corrected-once κs x r r′ s s′ p q = read-one _ _ _ _ _ _ _ _
 -- `out` is the seventh argument
 pub keravnoth-write-once : (κs : Lfts 6) (x : ArgsD write.signature κs) (r r′ : ResD write.signature κs) (s s′ : AtExit (endedOf 6 write-kinds.ps write-kinds.r) κs)
     → write-reads.Post κs x r s → write-reads.Post κs x r′ s′ → (r ≡ r′) × (now (s .1 .1 .1 .1 .1 .1 .0) ≡ now (s′ .1 .1 .1 .1 .1 .1 .0))
-keravnoth-write-once κs x r r′ s s′ p q = text-one _ _ _ _ _ p q
+keravnoth-write-once κs x r r′ s s′ p q = out-one _ _ _ _ _ p q
 
 -- `out` is the third argument
 pub keravnoth-rewrite-corrected-once : (κs : Lfts 2) (x : ArgsD rewrite-corrected.signature κs) (r r′ : ResD rewrite-corrected.signature κs) (s s′ : AtExit (endedOf 2 rewrite-corrected-kinds.ps rewrite-corrected-kinds.r) κs)
     → rewrite-corrected-reads.Post κs x r s → rewrite-corrected-reads.Post κs x r′ s′ → (r ≡ r′) × (now (s .1 .1 .0) ≡ now (s′ .1 .1 .0))
-keravnoth-rewrite-corrected-once κs x r r′ s s′ p q = text-one _ _ _ _ _ p q
+keravnoth-rewrite-corrected-once κs x r r′ s s′ p q = out-one _ _ _ _ _ p q
 
 -- p is the seventh, and the results are the eighth and the ninth
 pub keravnoth-extract-once : (κs : Lfts 8) (x : ArgsD extract.signature κs) (r r′ : ResD extract.signature κs) (s s′ : AtExit (endedOf 8 extract-kinds.ps extract-kinds.r) κs)
@@ -149,36 +141,36 @@ keravnoth-extract-marked-once κs x r r′ s s′ p q = extract-one _ _ _ _ _ _ 
 -- `out` is the seventh argument
 pub keravnoth-result-text-once : (κs : Lfts 6) (x : ArgsD result-text.signature κs) (r r′ : ResD result-text.signature κs) (s s′ : AtExit (endedOf 6 result-text-kinds.ps result-text-kinds.r) κs)
     → result-text-reads.Post κs x r s → result-text-reads.Post κs x r′ s′ → (r ≡ r′) × (now (s .1 .1 .1 .1 .1 .1 .0) ≡ now (s′ .1 .1 .1 .1 .1 .1 .0))
-keravnoth-result-text-once κs x r r′ s s′ p q = text-one _ _ _ _ _ p q
+keravnoth-result-text-once κs x r r′ s s′ p q = out-one _ _ _ _ _ p q
 
 -- `out` is the eighth argument
 pub keravnoth-result-text-marked-once : (κs : Lfts 7) (x : ArgsD result-text-marked.signature κs) (r r′ : ResD result-text-marked.signature κs) (s s′ : AtExit (endedOf 7 result-text-marked-kinds.ps result-text-marked-kinds.r) κs)
     → result-text-marked-reads.Post κs x r s → result-text-marked-reads.Post κs x r′ s′ → (r ≡ r′) × (now (s .1 .1 .1 .1 .1 .1 .1 .0) ≡ now (s′ .1 .1 .1 .1 .1 .1 .1 .0))
-keravnoth-result-text-marked-once κs x r r′ s s′ p q = text-one _ _ _ _ _ p q
+keravnoth-result-text-marked-once κs x r r′ s s′ p q = out-one _ _ _ _ _ p q
 
 -- `out` is the second argument
 pub keravnoth-answer-once : (κs : Lfts 2) (x : ArgsD answer.signature κs) (r r′ : ResD answer.signature κs) (s s′ : AtExit (endedOf 2 answer-kinds.ps answer-kinds.r) κs)
     → answer-reads.Post κs x r s → answer-reads.Post κs x r′ s′ → (r ≡ r′) × (now (s .1 .0) ≡ now (s′ .1 .0))
-keravnoth-answer-once κs x r r′ s s′ p q = text-one _ _ _ _ _ p q
+keravnoth-answer-once κs x r r′ s s′ p q = out-one _ _ _ _ _ p q
 
 -- `out` is the third argument
 pub keravnoth-answer-marked-once : (κs : Lfts 3) (x : ArgsD answer-marked.signature κs) (r r′ : ResD answer-marked.signature κs) (s s′ : AtExit (endedOf 3 answer-marked-kinds.ps answer-marked-kinds.r) κs)
     → answer-marked-reads.Post κs x r s → answer-marked-reads.Post κs x r′ s′ → (r ≡ r′) × (now (s .1 .1 .0) ≡ now (s′ .1 .1 .0))
-keravnoth-answer-marked-once κs x r r′ s s′ p q = text-one _ _ _ _ _ p q
+keravnoth-answer-marked-once κs x r r′ s s′ p q = out-one _ _ _ _ _ p q
 
 -- `out` is the third argument
 pub keravnoth-answer-corrected-once : (κs : Lfts 2) (x : ArgsD answer-corrected.signature κs) (r r′ : ResD answer-corrected.signature κs) (s s′ : AtExit (endedOf 2 answer-corrected-kinds.ps answer-corrected-kinds.r) κs)
     → answer-corrected-reads.Post κs x r s → answer-corrected-reads.Post κs x r′ s′ → (r ≡ r′) × (now (s .1 .1 .0) ≡ now (s′ .1 .1 .0))
-keravnoth-answer-corrected-once κs x r r′ s s′ p q = text-one _ _ _ _ _ p q
+keravnoth-answer-corrected-once κs x r r′ s s′ p q = out-one _ _ _ _ _ p q
 
 -- `out` is the eighth argument, also of the text
 pub keravnoth-corner-flows-once : (κs : Lfts 6) (x : ArgsD corner-flows.signature κs) (r r′ : ResD corner-flows.signature κs) (s s′ : AtExit (endedOf 6 corner-flows-kinds.ps corner-flows-kinds.r) κs)
     → corner-flows-reads.Post κs x r s → corner-flows-reads.Post κs x r′ s′ → (r ≡ r′) × (now (s .1 .1 .1 .1 .1 .1 .1 .0) ≡ now (s′ .1 .1 .1 .1 .1 .1 .1 .0))
-keravnoth-corner-flows-once κs x r r′ s s′ p q = flows-one _ _ _ _ _ p q
+keravnoth-corner-flows-once κs x r r′ s s′ p q = out-one _ _ _ _ _ p q
 
 pub keravnoth-corner-text-once : (κs : Lfts 6) (x : ArgsD corner-text.signature κs) (r r′ : ResD corner-text.signature κs) (s s′ : AtExit (endedOf 6 corner-text-kinds.ps corner-text-kinds.r) κs)
     → corner-text-reads.Post κs x r s → corner-text-reads.Post κs x r′ s′ → (r ≡ r′) × (now (s .1 .1 .1 .1 .1 .1 .1 .0) ≡ now (s′ .1 .1 .1 .1 .1 .1 .1 .0))
-keravnoth-corner-text-once κs x r r′ s s′ p q = text-one _ _ _ _ _ p q
+keravnoth-corner-text-once κs x r r′ s s′ p q = out-one _ _ _ _ _ p q
 
 -- nothing that is lent is written to
 pub keravnoth-claims-once : (κs : Lfts 6) (x : ArgsD claims.signature κs) (r r′ : ResD claims.signature κs) (s s′ : AtExit (endedOf 6 claims-kinds.ps claims-kinds.r) κs)
@@ -188,7 +180,7 @@ keravnoth-claims-once κs x r r′ s s′ p q = p ∙ sym q
 -- `out` is the eighth argument
 pub keravnoth-published-text-once : (κs : Lfts 7) (x : ArgsD published-text.signature κs) (r r′ : ResD published-text.signature κs) (s s′ : AtExit (endedOf 7 published-text-kinds.ps published-text-kinds.r) κs)
     → published-text-reads.Post κs x r s → published-text-reads.Post κs x r′ s′ → (r ≡ r′) × (now (s .1 .1 .1 .1 .1 .1 .1 .0) ≡ now (s′ .1 .1 .1 .1 .1 .1 .1 .0))
-keravnoth-published-text-once κs x r r′ s s′ p q = text-one _ _ _ _ _ p q
+keravnoth-published-text-once κs x r r′ s s′ p q = out-one _ _ _ _ _ p q
 
 -- the records and the factors are the third and the fourth argument
 pub keravnoth-read-rows-once : (κs : Lfts 3) (x : ArgsD read-rows.signature κs) (r r′ : ResD read-rows.signature κs) (s s′ : AtExit (endedOf 3 read-rows-kinds.ps read-rows-kinds.r) κs)
@@ -198,7 +190,7 @@ keravnoth-read-rows-once κs x r r′ s s′ p q = rows-one _ _ _ _ _ _ _ p q
 -- `out` is the fourth argument
 pub keravnoth-write-rows-once : (κs : Lfts 3) (x : ArgsD write-rows.signature κs) (r r′ : ResD write-rows.signature κs) (s s′ : AtExit (endedOf 3 write-rows-kinds.ps write-rows-kinds.r) κs)
     → write-rows-reads.Post κs x r s → write-rows-reads.Post κs x r′ s′ → (r ≡ r′) × (now (s .1 .1 .1 .0) ≡ now (s′ .1 .1 .1 .0))
-keravnoth-write-rows-once κs x r r′ s s′ p q = text-one _ _ _ _ _ p q
+keravnoth-write-rows-once κs x r r′ s s′ p q = out-one _ _ _ _ _ p q
 
 -- nothing that is lent is written to
 pub keravnoth-bound-once : (κs : Lfts 5) (x : ArgsD bound.signature κs) (r r′ : ResD bound.signature κs) (s s′ : AtExit (endedOf 5 bound-kinds.ps bound-kinds.r) κs)
@@ -212,4 +204,4 @@ keravnoth-bound-marked-once κs x r r′ s s′ p q = p ∙ sym q
 -- `out` is the seventh argument
 pub keravnoth-margins-once : (κs : Lfts 6) (x : ArgsD margins.signature κs) (r r′ : ResD margins.signature κs) (s s′ : AtExit (endedOf 6 margins-kinds.ps margins-kinds.r) κs)
     → margins-reads.Post κs x r s → margins-reads.Post κs x r′ s′ → (r ≡ r′) × (now (s .1 .1 .1 .1 .1 .1 .0) ≡ now (s′ .1 .1 .1 .1 .1 .1 .0))
-keravnoth-margins-once κs x r r′ s s′ p q = margins-one _ _ _ _ _ p q
+keravnoth-margins-once κs x r r′ s s′ p q = out-one _ _ _ _ _ p q

@@ -70,16 +70,34 @@ readFound answer z t b c f = record { answer = answer; z = z; t = t; b = b; c = 
 abbrev pub readCoded : ReadLeft → ReadCoded
 readCoded l = readFound (codedRead (l .answer)) (l .z) (l .t) (l .b) (l .c) (l .f)
 
--- what the calls that write text leave: the answer, and the lent bytes
-pub record TextCoded : Type 0 where
-  pub answer : KeravnothWritten
-  pub out : List ℕ
+-- what a call leaves that fills one lent buffer: its answer, and the buffer
+pub record OutCoded (A B : Type 0) : Type 0 where
+  pub answer : A
+  pub out : List B
 
-abbrev pub textFound : (answer : KeravnothWritten) → (out : List ℕ) → TextCoded
-textFound answer out = record { answer = answer; out = out }
+abbrev pub outFound : {A B : Type 0} → (answer : A) → (out : List B) → OutCoded A B
+outFound answer out = record { answer = answer; out = out }
 
-abbrev pub textCoded : TextLeft → TextCoded
+-- .. the calls that write text, the lent bytes
+abbrev pub textFound : (answer : KeravnothWritten) → (out : List ℕ) → OutCoded KeravnothWritten ℕ
+textFound answer out = outFound answer out
+
+abbrev pub textCoded : TextLeft → OutCoded KeravnothWritten ℕ
 textCoded l = textFound (codedWritten (l .answer)) (l .out)
+
+-- .. `keravnoth_corner_flows`, the lent numbers
+abbrev pub flowsFound : (answer : KeravnothFlows) → (out : List ℤ) → OutCoded KeravnothFlows ℤ
+flowsFound answer out = outFound answer out
+
+abbrev pub flowsCoded : FlowsLeft → OutCoded KeravnothFlows ℤ
+flowsCoded l = flowsFound (codedFlows (l .answer)) (l .out)
+
+-- .. `keravnoth_margins`, the lent records
+abbrev pub marginsFound : (answer : KeravnothJudged) → (out : List (List ℤ)) → OutCoded KeravnothJudged (List ℤ)
+marginsFound answer out = outFound answer out
+
+abbrev pub marginsCoded : MarginsLeft → OutCoded KeravnothJudged (List ℤ)
+marginsCoded l = marginsFound (codedJudged (l .answer)) (l .out)
 
 -- what `keravnoth_extract` leaves: its answer, the lent table of p, and the lent results
 pub record ExtractCoded : Type 0 where
@@ -94,17 +112,6 @@ extractFound answer ps atcs lefts = record { answer = answer; p = ps; atcs = atc
 abbrev pub extractCoded : ExtractLeft → ExtractCoded
 extractCoded l = extractFound (codedExtracted (l .answer)) (l .p) (l .atcs) (l .lefts)
 
--- what `keravnoth_corner_flows` leaves: its answer, and the lent numbers
-pub record FlowsCoded : Type 0 where
-  pub answer : KeravnothFlows
-  pub out : List ℤ
-
-abbrev pub flowsFound : (answer : KeravnothFlows) → (out : List ℤ) → FlowsCoded
-flowsFound answer out = record { answer = answer; out = out }
-
-abbrev pub flowsCoded : FlowsLeft → FlowsCoded
-flowsCoded l = flowsFound (codedFlows (l .answer)) (l .out)
-
 -- what `keravnoth_read_rows` leaves: its answer, the lent records and the lent factors
 pub record RowsCoded : Type 0 where
   pub answer : KeravnothJudged
@@ -116,14 +123,3 @@ rowsFound answer c f = record { answer = answer; c = c; f = f }
 
 abbrev pub rowsCoded : RowsLeft → RowsCoded
 rowsCoded l = rowsFound (codedJudged (l .answer)) (l .c) (l .f)
-
--- what `keravnoth_margins` leaves: its answer, and the lent records
-pub record MarginsCoded : Type 0 where
-  pub answer : KeravnothJudged
-  pub out : List (List ℤ)
-
-abbrev pub marginsFound : (answer : KeravnothJudged) → (out : List (List ℤ)) → MarginsCoded
-marginsFound answer out = record { answer = answer; out = out }
-
-abbrev pub marginsCoded : MarginsLeft → MarginsCoded
-marginsCoded l = marginsFound (codedJudged (l .answer)) (l .out)
