@@ -15,8 +15,8 @@ use Rattle.kinds.specs.LineColumns.{Column, columnOf, columnsOf}
 use Rattle.text.specs.Fields.{feed}
 use Rattle.columns.specs.Columns.{Values, values, wrong, stopOf}
 use Rattle.columns.specs.ColumnLine.{columnsLine, plainLine}
-use Rattle.columns.specs.ColumnText.{fieldText, fieldsEnded, fieldsLength, lineLength, indexText, columnsText, plainText}
-use Rattle.columns.specs.Optional.{leftOut, orLonger, optionalLine, plainOptional, writtenBy, optionalText, plainOptionalText}
+use Rattle.columns.specs.ColumnText.{fieldText, fieldsEnded, fieldsLength, indexText, columnsText, plainText}
+use Rattle.columns.specs.Optional.{leftOut, optionalLine, plainOptional, writtenBy}
 use Rattle.columns.proofs.ColumnPut.{columns-long}
 
 -- ---- the marks of what was left out
@@ -120,12 +120,19 @@ module _ (columns : List ℕ) (n : ℕ) (zs : List ℤ) (h : n < length columns)
   abbrev by : List Column
   by = writtenBy (columnsOf (take n columns)) (columnsOf (drop n columns)) zs
 
-  pub written-most : k ≤ length columns
+  written-most : k ≤ length columns
   written-most = go (ltZ (getD zs n (pos 0)) (pos 0)) is
     where
       go : (t : Bool) → k ≡ cond t n (length zs) → k ≤ length columns
       go true e = omega arith
       go false e = omega arith
+
+  -- the fronts that are written have k items each
+  pub front-columns : k ≡ length (take k columns)
+  front-columns = sym (length-take-le k columns written-most)
+
+  pub front-values : k ≡ length (take k zs)
+  front-values = sym (length-take-le k zs (omega (arith, written-most, long)))
 
   pub written-by : columnsOf (take k columns) ≡ by
   written-by = go (ltZ (getD zs n (pos 0)) (pos 0)) is
@@ -137,7 +144,7 @@ module _ (columns : List ℕ) (n : ℕ) (zs : List ℤ) (h : n < length columns)
       go false e = ap columnsOf (take-all k columns (omega arith)) ∙ sym (columns-split n columns)
 
   taken : length (columnsOf (take k columns)) ≡ k
-  taken = columns-long (take k columns) ∙ length-take-le k columns written-most
+  taken = columns-long (take k columns) ∙ sym front-columns
 
   fields-by : (sep last : ℕ) → fieldsEnded sep last (columnsOf (take k columns)) (take k zs) ≡ fieldsEnded sep last by zs
   fields-by sep last =

@@ -1,9 +1,7 @@
 -- `columns::optional::optional_fields_length` meets its contract.
-use mathlib.Core.Path.{_≡_, sym, _∙_}
+use mathlib.Core.Path.{sym, _∙_}
 use native.Mathlib.Omega.{arith}
-use lib.ListN.{length, take}
-use lib.Seq.{length-take-le}
-use Rattle.columns.proofs.OptionalLaws.{written-most, length-by}
+use Rattle.columns.proofs.OptionalLaws.{front-columns, front-values, length-by}
 use borrow.Author.Needs.{needs}
 use Rattle.columns.proofs.optional.optional_fields_length.Statement.{statement}
 use Rattle.columns.proofs.optional.optional_fields_length.Tie as tie
@@ -13,23 +11,22 @@ slice-aggregate-fields-length c =
     let m = c .before in
     let s = m .before .before in
     let a = s .args in
-    sym (length-take-le _ _ (written-most (a .columns .now) (a .n) (a .values .now) (s .pre .0) (s .pre .1) (m .written .result) (m .written .ensures)))
+    front-columns (a .columns .now) (a .n) (a .values .now) (s .pre .0) (s .pre .1) (m .written .result) (m .written .ensures)
 
 slice-aggregate-fields-length-2 : tie.Need-slice-aggregate-fields-length-2
 slice-aggregate-fields-length-2 c =
     let m = c .before .before in
     let s = m .before .before in
     let a = s .args in
-    sym (length-take-le _ _ (omega (arith, s .pre .1, written-most (a .columns .now) (a .n) (a .values .now) (s .pre .0) (s .pre .1) (m .written .result) (m .written .ensures))))
+    front-values (a .columns .now) (a .n) (a .values .now) (s .pre .0) (s .pre .1) (m .written .result) (m .written .ensures)
 
 fields-length-requires : tie.Need-fields-length-requires
 fields-length-requires c κs =
     let m = c .before .before in
     let s = m .before .before in
     let a = s .args in
-    let k = m .written .result in
-    let most = written-most (a .columns .now) (a .n) (a .values .now) (s .pre .0) (s .pre .1) k (m .written .ensures) in (
-      length-take-le k (a .columns .now) most ∙ sym (length-take-le k (a .values .now) (omega (arith, most, s .pre .1))),
+    let k = m .written .result in (
+      sym (front-columns (a .columns .now) (a .n) (a .values .now) (s .pre .0) (s .pre .1) k (m .written .ensures)) ∙ front-values (a .columns .now) (a .n) (a .values .now) (s .pre .0) (s .pre .1) k (m .written .ensures),
       omega (arith, s .pre .2, length-by (a .columns .now) (a .n) (a .values .now) (s .pre .0) (s .pre .1) k (m .written .ensures)),
     )
 

@@ -1,12 +1,11 @@
 -- `columns::optional::put_plain_optional` meets its contract.
-use mathlib.Core.Path.{_≡_, sym, ap, subst, _∙_}
+use mathlib.Core.Path.{sym, ap, subst, _∙_}
 use mathlib.Core.List.{List}
 use Prim.Native.Nat.{ℕ}
 use native.Mathlib.Omega.{arith}
-use lib.ListN.{length, take}
-use lib.Seq.{length-take-le}
+use lib.ListN.{length}
 use Rattle.text.specs.Put.{Put}
-use Rattle.columns.proofs.OptionalLaws.{written-most, plain-by}
+use Rattle.columns.proofs.OptionalLaws.{front-columns, front-values, plain-by}
 use borrow.Author.Needs.{needs}
 use Rattle.columns.proofs.optional.put_plain_optional.Statement.{statement}
 use Rattle.columns.proofs.optional.put_plain_optional.Tie as tie
@@ -16,23 +15,22 @@ slice-aggregate-put-plain c =
     let m = c .before in
     let s = m .before .before .before in
     let a = s .args in
-    sym (length-take-le _ _ (written-most (a .columns .now) (a .n) (a .values .now) (s .pre .0) (s .pre .1) (m .written .result) (m .written .ensures)))
+    front-columns (a .columns .now) (a .n) (a .values .now) (s .pre .0) (s .pre .1) (m .written .result) (m .written .ensures)
 
 slice-aggregate-put-plain-2 : tie.Need-slice-aggregate-put-plain-2
 slice-aggregate-put-plain-2 c =
     let m = c .before .before in
     let s = m .before .before .before in
     let a = s .args in
-    sym (length-take-le _ _ (omega (arith, s .pre .1, written-most (a .columns .now) (a .n) (a .values .now) (s .pre .0) (s .pre .1) (m .written .result) (m .written .ensures))))
+    front-values (a .columns .now) (a .n) (a .values .now) (s .pre .0) (s .pre .1) (m .written .result) (m .written .ensures)
 
 put-plain-requires : tie.Need-put-plain-requires
 put-plain-requires c κs =
     let m = c .before .before .before in
     let s = m .before .before .before in
     let a = s .args in
-    let k = m .written .result in
-    let most = written-most (a .columns .now) (a .n) (a .values .now) (s .pre .0) (s .pre .1) k (m .written .ensures) in (
-      length-take-le k (a .columns .now) most ∙ sym (length-take-le k (a .values .now) (omega (arith, most, s .pre .1))),
+    let k = m .written .result in (
+      sym (front-columns (a .columns .now) (a .n) (a .values .now) (s .pre .0) (s .pre .1) k (m .written .ensures)) ∙ front-values (a .columns .now) (a .n) (a .values .now) (s .pre .0) (s .pre .1) k (m .written .ensures),
       omega (arith, s .pre .2, ap length (plain-by (a .columns .now) (a .n) (a .values .now) (s .pre .0) (s .pre .1) k (m .written .ensures) (a .sep) (a .letter))),
     )
 
