@@ -8,7 +8,7 @@ use mathlib.Core.List.{List, [], _∷_, _++_}
 use Prim.Native.Nat.{ℕ, _+_, _^_, _≤_, _<_}
 use native.Mathlib.Omega.{arith}
 use lib.Dec.{eqb, lit<}
-use lib.ListN.{length, getD, take, drop, length-drop, List·getD-append}
+use lib.ListN.{length, getD, take, drop, List·getD-append}
 use lib.Seq.{take-append-le}
 use borrow.Author.Tests.{eqb-true, eqb-false, eq-eqb, ne-eqb}
 use Rattle.numbers.specs.Ints.{minus}
@@ -18,7 +18,7 @@ use Rattle.text.specs.declared.Number.{Number}
 use Rattle.text.specs.declared.Number.the-variants.{Value, Bad}
 use Rattle.text.specs.declared.Signed.the-variants.{Whole, Wrong}
 use Rattle.text.specs.Fields.{feed, numberAt, positive, negative, signedAt, shareAt}
-use Rattle.text.specs.Point.{pointAt, negated, signedPointAt}
+use Rattle.text.specs.Point.{pointAt, signedPointAt}
 use Rattle.text.specs.Written.{decimal}
 use Rattle.text.proofs.NumberTrip.{number-read, signed-plus, signed-minus, no-whole, first-digit, first-at, decimal-some, decimal-ten, text-first, plain-parts}
 use Rattle.text.proofs.DigitLaws.{decimal-one}
@@ -28,8 +28,8 @@ use Rattle.columns.specs.Columns.{fieldAt}
 use Rattle.blame.specs.Blame.{isWhole, goodAt}
 use Rattle.blame.specs.FirstBad.{Could}
 use Rattle.blame.proofs.NumberBad.{num, off, whole-number, place-number, number-no, num-of, Grown, grown, grown-none}
-use Rattle.blame.proofs.PointBad.{positive-bad, negated-bad, negated-whole, point-low, point-no, PointCould, point-could, value-first}
-use Rattle.blame.proofs.AgreeLaws.{agree-at, agree-drop, built-drop, built-take, built-at}
+use Rattle.blame.proofs.PointBad.{positive-bad, negated-bad, negated-whole, point-low, point-no, point-could, value-first}
+use Rattle.blame.proofs.AgreeLaws.{agree-at, built-drop, built-take, built-at}
 
 -- ---- a number after a minus: 0 is seen from its first byte
 module _ (l : List ℕ) (p stop : ℕ) where

@@ -1,7 +1,7 @@
 -- Which bytes make a number with a point bad (02, E11): up to its bad place they do so whatever follows (`point-no`), and those before it can be gone on with
 -- to a good one that an LF ends (`point-could`). No contract cites this file.
 -- In order: answers; the digits before the point; decimals that are bad whatever follows; a number with a point likewise; decimals gone on with; a number.
-use mathlib.Core.Path.{_≡_, refl, sym, ap, ap₂, subst, _∙_}
+use mathlib.Core.Path.{_≡_, refl, sym, ap, subst, _∙_}
 use mathlib.Core.Bool.{Bool, true, false, cond, _&&_, and-false, false≢true}
 use mathlib.Core.Logic.{_⊎_, inl, inr, ⊎-elim}
 use mathlib.Core.List.{List, [], _∷_, _++_, append-assoc}
@@ -9,19 +9,19 @@ use Prim.Native.Nat.{ℕ, zero, suc, _+_, _*_, _-_, _^_, _≤_, _<_, min}
 use native.Mathlib.Nat.{lt-of-lt-of-le, pow-le-pow-right}
 use native.Mathlib.Numerals.{add-one}
 use native.Mathlib.Omega.{arith}
-use lib.Dec.{leb, ltb, eqb, lit<}
+use lib.Dec.{leb, eqb, lit<}
 use lib.IntN.{pos, negℤ}
-use lib.ListN.{length, getD, take, drop, length-append, length-take, length-drop, take-append-drop}
+use lib.ListN.{length, getD, take, drop, length-append, length-take, take-append-drop}
 use lib.Seq.{drop-cons, drop-drop, take-append-le, take-at}
-use borrow.Author.Tests.{leb-true, leb-false, le-leb, lt-leb, eqb-true, ne-eqb}
+use borrow.Author.Tests.{leb-true, leb-false, lt-leb, ne-eqb}
 use Rattle.numbers.proofs.BelowLaws.{le-or-lt}
 use Rattle.text.specs.declared.Number.{Number}
 use Rattle.text.specs.declared.Number.the-variants.{Value, Bad}
-use Rattle.text.specs.declared.Signed.the-variants.{Whole, Wrong}
+use Rattle.text.specs.declared.Signed.the-variants.{Wrong}
 use Rattle.text.specs.Fields.{feed, isDigit, digits, value, plain, numberAt, positive}
 use Rattle.text.specs.Written.{decimal}
 use Rattle.text.specs.Point.{point, decimalsAt, wholeMost, afterWhole, pointAt, negated}
-use Rattle.text.proofs.NumberTrip.{zero-one, digit-range, number-read, number-written, number-rest, no-whole, first-at, decimal-value, decimal-digits, plain-parts, value-small}
+use Rattle.text.proofs.NumberTrip.{zero-one, digit-range, number-read, number-written, number-rest, no-whole, first-at, decimal-value, plain-parts, value-small}
 use Rattle.text.proofs.FieldLaws.{some-within}
 use Rattle.text.proofs.PointLaws.{bad-after, decimals-digit, decimals-none, decimals-stop, point-goes, whole-after}
 use Rattle.text.proofs.PointTrip.{point-read, pointed-first}

@@ -12,7 +12,7 @@ use Rattle.text.specs.Written.{decimal}
 use Rattle.columns.specs.declared.Fields.{Fields}
 use Rattle.columns.specs.Columns.{Values, values, wrong, stored, fieldsAt}
 use Rattle.columns.specs.ColumnLine.{ownIndex, restAt}
-use Rattle.columns.specs.ColumnText.{fieldsEnded, fieldsLength}
+use Rattle.columns.specs.ColumnText.{fieldsEnded}
 use Rattle.columns.specs.Bare.{bareIndexAt, bareLine, bareHeadAt, bareIndexText, bareText, bareLength}
 use Rattle.columns.proofs.ColumnLaws.{part-bad, part-more}
 use Rattle.columns.proofs.ColumnPut.{fields-parts, fields-long}

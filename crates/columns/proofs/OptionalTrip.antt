@@ -1,10 +1,10 @@
 -- The round trip of lines whose last columns may be left out, both ways: what was read is what stands there, and what is written reads as itself.
 -- It is said once over any reader and text that make a round trip by their columns (`Trips`); lines with an index and without one are its instances. No contract cites this file.
 -- In order: what is kept; the columns by which it is written; the round trip; lines with an index; lines without one.
-use mathlib.Core.Path.{_≡_, refl, sym, ap, subst, _∙_}
+use mathlib.Core.Path.{_≡_, refl, sym, ap, _∙_}
 use mathlib.Core.Bool.{Bool, true, false, cond}
 use mathlib.Core.List.{List, [], _∷_, _++_, append-nil}
-use Prim.Native.Nat.{ℕ, suc, _+_, _^_, _≤_, _<_}
+use Prim.Native.Nat.{ℕ, _+_, _^_, _<_}
 use native.Mathlib.Omega.{arith}
 use lib.Dec.{eqb}
 use lib.IntN.{ℤ, pos, natAbs}
@@ -21,7 +21,7 @@ use Rattle.columns.specs.Columns.{Values, values, wrong}
 use Rattle.columns.specs.ColumnText.{fieldsEnded, indexText, columnsText, plainText}
 use Rattle.columns.specs.ColumnLine.{restAt, columnsLine, plainLine, judged}
 use Rattle.columns.specs.Optional.{leftOut, orLonger, optionalLine, plainOptional, writtenBy, optionalText, plainOptionalText}
-use Rattle.columns.proofs.ColumnTrip.{AllKept, kept-long, Ends, feed-ends, no-values, headed-is, fields-written, line-read, line-written, plain-read, judged-is}
+use Rattle.columns.proofs.ColumnTrip.{AllKept, kept-long, Ends, feed-ends, headed-is, fields-written, line-read, line-written, plain-read, judged-is}
 use Rattle.columns.proofs.OptionalLaws.{left-out-long, text-front}
 use Rattle.columns.proofs.FieldEnd.{line-shorter, plain-shorter}
 

@@ -1,6 +1,6 @@
 -- 01, "Margin of a row": each value named in the list stays under 2^48 in magnitude, for every judged table, and RAM less a flow under 2^49 (`specs/Small.antt`). No contract cites this file.
 -- The bounds are laws with the limits as variables (`BoundLaws.antt`); here stand 01's limits.
-use Prim.Native.Nat.{ℕ, _+_, _*_, _≤_, _<_}
+use Prim.Native.Nat.{ℕ, _≤_, _<_}
 use native.Mathlib.Omega.{arith}
 use lib.IntN.{ℤ, pos, _-ℤ_}
 use lib.ListN.{length, getD}

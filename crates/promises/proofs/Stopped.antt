@@ -27,7 +27,7 @@ use Rattle.start.specs.Start.{rowsOf, kept, every, tableGrid, tableStart, setup
 use Rattle.extraction.specs.Extraction.{Result, resultOf, leftOf, lastOf, stopOf, outcomeOf, atcRecord, ExtractLeft, rowOrDash, extractLeft, resultMarked}
 use Rattle.extraction.proofs.AcceptedLaws.{accepted}
 use Rattle.extraction.proofs.LentLaws.{accepted-left}
-use Rattle.promises.specs.Stopped.{shareKw, StoppedBy, BorderStopped, LeftStopped}
+use Rattle.promises.specs.Stopped.{StoppedBy, BorderStopped, LeftStopped}
 use Rattle.promises.proofs.DemandLeft.{over-get}
 
 -- a test that holds of some index holds of one

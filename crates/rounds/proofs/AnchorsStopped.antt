@@ -1,6 +1,5 @@
 -- Small computed works with the last round and the stopping row of each border (02, E7). Nobody cites them: they refuse a definition that slipped, by the number that comes out.
 use mathlib.Core.Path.{_≡_, refl}
-use mathlib.Core.Bool.{Bool}
 use mathlib.Core.List.{List, [], _∷_}
 use mathlib.Core.Option.{Option, none, some}
 use Prim.Native.Nat.{ℕ}

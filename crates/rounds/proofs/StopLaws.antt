@@ -14,7 +14,7 @@ use Rattle.numbers.specs.Below.{at, firstFrom, table}
 use Rattle.numbers.proofs.BelowLaws.{le-or-lt, first-none, first-nothing, first-cong, table-get, table-cong}
 use Rattle.numbers.proofs.FirstLaws.{first-within, first-holds, first-before}
 use Rattle.numbers.proofs.TestLaws.{and-both, both-and}
-use Rattle.rounds.specs.Rounds.{Grid, sharers}
+use Rattle.rounds.specs.Rounds.{Grid}
 use Rattle.rounds.specs.Stopping.{shareLeft, shareFor, stopping, stopRow, Stops}
 use Rattle.rounds.specs.Work.{Ready, stopBy}
 use Rattle.rounds.proofs.Loops.{ready-at}

@@ -1,10 +1,8 @@
 -- Numbers with a point, read and written. Nobody cites it: it refuses a definition that slipped. `good` and `bad` read a text from its start on before an
 -- LF, with three decimals or five; a bad one has the place of its bad byte, from 0.
 use mathlib.Core.Path.{_≡_, refl}
-use mathlib.Core.List.{List, [], _∷_}
-use Prim.Native.Nat.{ℕ}
 use Prim.Native.String.{String}
-use lib.IntN.{ℤ, pos}
+use lib.IntN.{pos}
 use Rattle.numbers.specs.Ints.{minus}
 use Rattle.text.specs.declared.Signed.{Signed}
 use Rattle.text.specs.declared.Signed.the-variants.{Whole, Wrong}

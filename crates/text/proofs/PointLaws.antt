@@ -1,6 +1,6 @@
 -- The laws of `specs/Point.antt` that its readers and writers cite. No contract cites this file.
 -- In order: decimals one by one, `Decimals`; the number before the point; a whole number with its point; the digits that are written; lengths.
-use mathlib.Core.Path.{_≡_, refl, sym, ap, ap₂, subst, _∙_}
+use mathlib.Core.Path.{_≡_, refl, sym, ap, subst, _∙_}
 use mathlib.Core.Bool.{Bool, true, false, cond, _&&_, false≢true}
 use mathlib.Core.List.{List, [], _∷_, _++_, append-assoc, append-nil}
 use Prim.Native.Nat.{ℕ, zero, suc, _+_, _*_, _-_, _/_, _%_, _^_, _≤_, _<_, min}

@@ -1,30 +1,29 @@
 -- A number with its point, read and written: what is read is written as itself, and what is written reads as itself. No contract cites this file.
 -- In order: the decimals; the whole number; a signed one; it holds no LF; it is not empty.
 use mathlib.Core.Path.{_≡_, refl, sym, ap, ap₂, subst, _∙_}
-use mathlib.Core.Bool.{Bool, true, false, cond, _&&_, and-false, false≢true}
+use mathlib.Core.Bool.{Bool, true, false, cond, _&&_, false≢true}
 use mathlib.Core.List.{List, [], _∷_, _++_, append-assoc}
-use Prim.Native.Nat.{ℕ, zero, suc, _+_, _*_, _-_, _/_, _%_, _^_, _≤_, _<_, min}
-use native.Mathlib.Nat.{add-assoc, pow-suc, lt-of-lt-of-le, pow-le-pow-right, div-lt-iff-lt-mul, div-le-self}
+use Prim.Native.Nat.{ℕ, zero, suc, _+_, _*_, _-_, _/_, _%_, _^_, _≤_, _<_}
+use native.Mathlib.Nat.{add-assoc, lt-of-lt-of-le, pow-le-pow-right, div-lt-iff-lt-mul, div-le-self}
 use native.Mathlib.Numerals.{add-one}
 use native.Mathlib.Omega.{arith}
 use lib.Dec.{leb, eqb, lit<}
 use lib.Pow.{pow-add}
-use lib.IntN.{ℤ, pos, negsuc, negℤ, natAbs}
-use lib.ListN.{length, getD, drop, length-append, length-drop}
+use lib.IntN.{ℤ, pos, negsuc, natAbs}
+use lib.ListN.{length, getD, drop}
 use lib.Seq.{drop-cons, drop-drop, drop-append-add}
-use borrow.Author.Tests.{leb-true, eqb-true, eqb-false, le-leb, lt-ltb, eq-eqb, ne-eqb}
-use Rattle.numbers.proofs.BelowLaws.{le-or-lt}
+use borrow.Author.Tests.{leb-true, eqb-true, eqb-false, eq-eqb, ne-eqb}
 use Rattle.text.specs.declared.Number.{Number}
 use Rattle.text.specs.declared.Number.the-variants.{Value, Bad}
-use Rattle.text.specs.declared.Signed.the-variants.{Whole, Wrong}
-use Rattle.text.specs.Fields.{dash, isDigit, digits, numberAt, positive}
+use Rattle.text.specs.declared.Signed.the-variants.{Whole}
+use Rattle.text.specs.Fields.{isDigit, numberAt, positive}
 use Rattle.text.specs.Written.{decimal}
 use Rattle.text.specs.Point.{point, decimalsAt, wholeMost, afterWhole, pointAt, negated, signedPointAt, lastDigits, pointed, pointedℤ}
 use Rattle.text.proofs.NumberTrip.{zero-one, digit-range, number-read, number-written, number-rest, whole-is, no-whole, first-digit, first-at, decimal-digits, decimal-some, is-digit}
 use Rattle.text.proofs.FieldLaws.{some-within}
 use Rattle.text.proofs.LineLaws.{noFeed}
 use Rattle.text.proofs.WrittenLaws.{decimal-no-feed, decimal-long}
-use Rattle.text.proofs.PointLaws.{decimals-digit, decimals-lt, point-bad, whole-small, point-goes, signed-point-plus, signed-point-minus, shift-none, shift-one, last-long, pointed-long}
+use Rattle.text.proofs.PointLaws.{decimals-lt, whole-small, point-goes, signed-point-plus, signed-point-minus, shift-none, shift-one, pointed-long}
 
 value-is : (v w m n : ℕ) → _≡_ {A = Number} (Value v m) (Value w n) → (v ≡ w) × (m ≡ n)
 value-is v w m n e = (cc, cc)

@@ -4,7 +4,7 @@ use mathlib.Core.Path.{refl, sym}
 use native.Mathlib.Nat.{mul-le-mul}
 use native.Mathlib.Omega.{arith}
 use borrow.Author.Needs.{needs}
-use lib.Seq.{length-take-le, length-front}
+use lib.Seq.{length-take-le}
 use Rattle.kinds.proofs.KindLaws.{header-in}
 use Rattle.extraction.proofs.ExtractLaws.{front-left}
 use Rattle.extraction.proofs.extract_judged.Statement.{statement}

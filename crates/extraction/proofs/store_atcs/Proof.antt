@@ -1,7 +1,6 @@
 -- `extraction::store_atcs` meets its contract. The invariant: the first b records are stored, and the rest is as it was.
 use mathlib.Core.Path.{ap, _∙_}
-use mathlib.Core.Option.{Option}
-use Prim.Native.Nat.{ℕ, _-_}
+use Prim.Native.Nat.{_-_}
 use native.Mathlib.Omega.{arith}
 use Rattle.numbers.specs.Below.{at}
 use Rattle.numbers.proofs.FirstLaws.{first-within}

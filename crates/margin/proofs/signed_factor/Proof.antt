@@ -1,5 +1,5 @@
 -- `margin::signed_factor` meets its contract. Each factor is of the row, and so is each sum of them small.
-use mathlib.Core.Path.{_≡_, subst}
+use mathlib.Core.Path.{subst}
 use Prim.Native.Nat.{ℕ, _<_}
 use native.Mathlib.Omega.{arith}
 use borrow.Author.Needs.{needs}

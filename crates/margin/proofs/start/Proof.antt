@@ -1,6 +1,6 @@
 -- `margin::start` meets its contract: each profile has its own.
 use mathlib.Core.Path.{_∙_}
-use borrow.Author.Needs.{needs, sfits-of}
+use borrow.Author.Needs.{sfits-of}
 use mir.Facts.{toZ-ofZ}
 use Rattle.margin.proofs.start.Statement.{statement}
 use Rattle.margin.proofs.start.Tie as tie

@@ -9,9 +9,9 @@ use lib.IntN.{ℤ, pos, _+ℤ_}
 use lib.ListN.{length}
 use mir.Facts.{toZ-ofZ}
 use mir.Syntax.{w64}
-use mir.Val.{SFits, toZ, ofZ}
+use mir.Val.{SFits, toZ}
 use Rattle.numbers.specs.Ints.{Within, sumℤ, sameℤ}
-use Rattle.numbers.proofs.IntLaws.{plain, within-fits, within-le, within-sum}
+use Rattle.numbers.proofs.IntLaws.{within-fits, within-le, within-sum}
 use Rattle.kinds.specs.Limits.{zonesMost, netMost}
 use Rattle.kinds.specs.Ranges.{atℤ}
 use Rattle.table.specs.Table.{balanced}

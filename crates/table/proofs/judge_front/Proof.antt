@@ -1,5 +1,5 @@
 -- `table::judge_front` meets its contract: each front part is as long as the header says.
-use mathlib.Core.Path.{sym, _∙_}
+use mathlib.Core.Path.{sym}
 use native.Mathlib.Omega.{arith}
 use borrow.Author.Needs.{needs}
 use Rattle.table.proofs.RoomLaws.{factors-most}

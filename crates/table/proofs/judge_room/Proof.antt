@@ -1,5 +1,5 @@
 -- `table::judge_room` meets its contract: the first short buffer is named.
-use mathlib.Core.Path.{sym, ap, _∙_}
+use mathlib.Core.Path.{ap, _∙_}
 use native.Mathlib.Omega.{arith}
 use Rattle.kinds.specs.Refusals.{refused, tooShort}
 use borrow.Author.Needs.{needs}

@@ -1,5 +1,5 @@
 -- `table::judge_shape` meets its contract: the header, and then lengths.
-use mathlib.Core.Path.{_≡_, sym, ap, _∙_}
+use mathlib.Core.Path.{sym, ap, _∙_}
 use borrow.Author.Needs.{needs}
 use borrow.Author.Tests.{not-true, not-false}
 use Rattle.kinds.specs.Refusals.{refused}

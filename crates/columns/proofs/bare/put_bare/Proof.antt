@@ -1,6 +1,5 @@
 -- `columns::bare::put_bare` meets its contract: the index, the fields of the first part, and those of the second (`bare-parts`).
 use mathlib.Core.Path.{_≡_, sym, _∙_}
-use Prim.Native.Nat.{_+_}
 use native.Mathlib.Omega.{arith}
 use borrow.Author.Needs.{needs}
 use lib.ListN.{length, length-append}
@@ -8,7 +7,7 @@ use Rattle.text.specs.Fields.{feed}
 use Rattle.text.proofs.PutLaws.{put-more, put-room}
 use Rattle.kinds.specs.LineColumns.{columnsOf}
 use Rattle.columns.specs.ColumnText.{fieldsEnded}
-use Rattle.columns.specs.Bare.{bareIndexText, bareText}
+use Rattle.columns.specs.Bare.{bareIndexText}
 use Rattle.columns.proofs.ColumnPut.{columns-long}
 use Rattle.columns.proofs.BareLaws.{bare-parts, bare-sum}
 use Rattle.columns.proofs.bare.put_bare.Statement.{statement}

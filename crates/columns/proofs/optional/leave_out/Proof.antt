@@ -3,7 +3,6 @@ use mathlib.Core.Path.{_≡_, refl}
 use Prim.Native.Nat.{_-_}
 use native.Mathlib.Omega.{arith}
 use lib.ListN.{length}
-use borrow.Author.Needs.{needs}
 use Rattle.columns.proofs.OptionalLaws.{Marked, marked-none, marked-more, marked-all}
 use Rattle.columns.proofs.optional.leave_out.Statement.{statement}
 use Rattle.columns.proofs.optional.leave_out.Tie as tie

@@ -1,6 +1,5 @@
 -- `extraction::BorderResult::stop_row` meets its contract: a row is what the search found, and its index fits.
 use mathlib.Core.Path.{sym, ap, _∙_}
-use lib.IntN.{ℤ}
 use mir.Facts.{toZ-pos}
 use mir.Syntax.{w64}
 use borrow.Author.Needs.{needs}

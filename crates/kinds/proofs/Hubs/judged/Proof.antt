@@ -1,6 +1,4 @@
 -- `kinds::Hubs::judged` meets its contract: hubs that fit and are not below 0 are both natural, so the casts lose nothing.
-use mathlib.Core.Path.{_≡_}
-use lib.IntN.{pos, natAbs}
 use mir.Facts.{toZ-ofZ}
 use Rattle.numbers.proofs.IntLaws.{natural-cast}
 use Rattle.kinds.specs.Ranges.{hubsOf}

@@ -1,6 +1,5 @@
 -- `reading::judged::balance_byte` meets its contract.
 use borrow.Author.Tests.{le-leb, lt-leb}
-use native.Mathlib.Omega.{arith}
 use Rattle.reading.proofs.judged.balance_byte.Statement.{statement}
 use Rattle.reading.proofs.judged.balance_byte.Tie as tie
 

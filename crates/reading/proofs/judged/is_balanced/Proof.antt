@@ -1,9 +1,6 @@
 -- `reading::judged::is_balanced` meets its contract: there is room for so many positions.
-use mathlib.Core.Path.{_≡_, sym, ap, _∙_}
+use mathlib.Core.Path.{sym, ap, _∙_}
 use Prim.Native.Nat.{ℕ}
-use native.Mathlib.Omega.{arith}
-use borrow.Author.Needs.{needs}
-use lib.ListN.{length}
 use lib.Seq.{length-take-le}
 use Rattle.block.specs.Block.{heldBy}
 use Rattle.table.specs.Table.{balanced}

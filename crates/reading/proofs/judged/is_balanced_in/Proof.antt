@@ -1,5 +1,5 @@
 -- `reading::judged::is_balanced_in` meets its contract: the positions are filled in, and then summed.
-use mathlib.Core.Path.{_≡_, ap, _∙_}
+use mathlib.Core.Path.{ap, _∙_}
 use native.Mathlib.Omega.{arith}
 use borrow.Author.Needs.{needs}
 use Rattle.table.specs.Table.{balanced}

@@ -1,16 +1,13 @@
 -- `reading::judged::judge_allocated` meets its contract: a refused T line decides, or their sum, or else the lines after them.
 use mathlib.Core.Path.{_≡_, sym, ap, ap₂, _∙_}
-use mathlib.Core.Bool.{true, not}
 use Prim.Native.Nat.{ℕ, _+_}
 use native.Mathlib.Omega.{arith}
 use borrow.Author.Needs.{needs}
 use borrow.Author.Tests.{not-true, not-false}
-use Rattle.kinds.specs.Ranges.{allocatedItems}
 use Rattle.kinds.specs.Refusals.{passed, refused, outOfRangeAt}
 use Rattle.kinds.proofs.KindLaws.{allocated-most}
-use Rattle.block.specs.Block.{endOf, saidEnd, heldBy}
-use Rattle.table.specs.Table.{headerLineNo, balanced}
-use Rattle.reading.specs.Places.{allocatedIn}
+use Rattle.block.specs.Block.{endOf, saidEnd}
+use Rattle.table.specs.Table.{headerLineNo}
 use Rattle.reading.proofs.JudgedTextLaws.{allocatedRun, netted, allocated-refused, allocated-sound, unbalanced, allocated-passed}
 use Rattle.reading.proofs.judged.judge_allocated.Statement.{statement}
 use Rattle.reading.proofs.judged.judge_allocated.Tie as tie

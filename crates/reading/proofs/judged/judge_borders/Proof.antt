@@ -3,7 +3,6 @@ use mathlib.Core.Path.{_≡_, sym, ap, _∙_}
 use Prim.Native.Nat.{ℕ, _+_}
 use native.Mathlib.Omega.{arith}
 use borrow.Author.Needs.{needs}
-use Rattle.kinds.specs.Ranges.{allocatedItems}
 use Rattle.kinds.specs.Refusals.{passed, refused, wrongForm}
 use Rattle.kinds.proofs.KindLaws.{allocated-most}
 use Rattle.block.specs.declared.End.{End}

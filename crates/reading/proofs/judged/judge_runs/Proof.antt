@@ -1,15 +1,12 @@
 -- `reading::judged::judge_runs` meets its contract: a refused Z line decides, or else the lines after them (`nets-passed`).
-use mathlib.Core.Path.{_≡_, sym, ap, ap₂, subst, _∙_}
-use mathlib.Core.Bool.{Bool}
+use mathlib.Core.Path.{sym, ap, subst, _∙_}
 use native.Mathlib.Omega.{arith}
 use borrow.Author.Needs.{needs}
 use Rattle.kinds.specs.declared.Header.{Header}
 use Rattle.kinds.specs.Ranges.{profiled}
-use Rattle.kinds.specs.Refusals.{passed}
-use Rattle.block.specs.Block.{endOf, saidEnd}
-use Rattle.reading.specs.Reading.{intradayAt}
+use Rattle.block.specs.Block.{saidEnd}
 use Rattle.reading.specs.Places.{Netted}
-use Rattle.reading.proofs.JudgedTextLaws.{netsRun, counted, at-within, nets-refused, nets-passed}
+use Rattle.reading.proofs.JudgedTextLaws.{counted, at-within, nets-refused, nets-passed}
 use Rattle.reading.proofs.judged.judge_runs.Statement.{statement}
 use Rattle.reading.proofs.judged.judge_runs.Tie as tie
 

@@ -1,5 +1,5 @@
 -- `rounds::stopping::later` meets its contract, by its one test.
-use mathlib.Core.Path.{sym, ap, _∙_}
+use mathlib.Core.Path.{sym, ap}
 use Prim.Native.Nat.{ℕ}
 use native.Mathlib.Omega.{arith}
 use Rattle.numbers.specs.Below.{ifZero}

@@ -1,7 +1,6 @@
 -- `text::point::point_at` meets its contract: by the number before the point it is one of the three cases of `pointAt`.
 use mathlib.Core.Path.{sym, ap, _∙_}
 use mathlib.Core.Path.{_≡_}
-use Prim.Native.Nat.{_≤_}
 use native.Mathlib.Omega.{arith}
 use borrow.Author.Needs.{needs}
 use Rattle.text.specs.declared.Number.the-variants.{Value, Bad}

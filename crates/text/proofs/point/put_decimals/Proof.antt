@@ -1,6 +1,6 @@
 -- `text::point::put_decimals` meets its contract. The invariant: what is written and the digits left make all of them (`DecimalsPut`). The measure is how
 -- many are left. A turn is the law `decimals-put-more`.
-use mathlib.Core.Path.{_≡_, ap, _∙_}
+use mathlib.Core.Path.{ap, _∙_}
 use Prim.Native.Nat.{ℕ, _+_, _%_}
 use native.Mathlib.Omega.{arith}
 use Rattle.text.specs.Point.{lastDigits}

@@ -6,7 +6,6 @@ use borrow.Author.Needs.{needs}
 use lib.IntN.{pos, natAbs}
 use lib.Signed.{ltZ}
 use mir.Facts.{toZ-ofZ}
-use Rattle.text.proofs.PutLaws.{put-room}
 use Rattle.text.proofs.PointLaws.{below-point-length, above-point-length, below-point-put, above-point-put}
 use Rattle.text.proofs.point.put_signed_point.Statement.{statement}
 use Rattle.text.proofs.point.put_signed_point.Tie as tie

@@ -1,5 +1,5 @@
 -- `text::point::signed_point_length` meets its contract: the digits before the point, the point, the decimals, and one more for a minus.
-use mathlib.Core.Path.{_≡_, sym, ap, _∙_}
+use mathlib.Core.Path.{_≡_, ap, _∙_}
 use Prim.Native.Nat.{ℕ, _/_, _^_, _≤_}
 use native.Mathlib.Omega.{arith}
 use borrow.Author.Needs.{needs}
