@@ -18,9 +18,10 @@ use Rattle.margin.specs.Margin.{flowOf, grains, f0coreOf, fuafOf, baseOf, amrOf
 use Rattle.states.specs.States.{highest, lowest, spreadOf, shifted, below, stateOf}
 use Rattle.start.specs.Setup.{gridBy, beginBy, judgeBy, endBy}
 use Rattle.start.specs.Start.{rowsOf, kept, every, setupWith}
-use Rattle.extraction.specs.Extraction.{Result, atcOf, leftOf}
+use Rattle.extraction.specs.Extraction.{Result, atcOf, leftOf, nOf, lOf}
 use Rattle.promises.specs.Demand.{loadOf}
 use Rattle.promises.specs.DemandIn.{IntradayDemand3}
+use Rattle.promises.specs.DemandLeft.{LeftIntraday3}
 use Rattle.promises.specs.Ways.{dayAhead, onTopOf, setupIn, resultIn, outcomeIn, unshortened}
 
 -- border 0 to 1 has 1 MW, the way back none. Row 0 loads the first and row 1 the second; row 2 is of row 0's class, with a higher RAM, and row 3 is under 5%. IVA of row 0 is one's own
@@ -43,6 +44,18 @@ small iva =
 -- 3 MW flow from zone 1 to zone 0: they relieve row 0, and take row 1 60,000,000 grains over its RAM
 abbrev taken : List ℤ
 taken = minus 3000 ∷ pos 3000 ∷ []
+
+-- .. and the hour with them, as an intraday table
+abbrev late : Table
+late = let t = small 0 in record { header = record { zones = 2; borders = 2; rows = 4; share = minus 1; intraday = 1 }; nets = t .nets; allocated = taken; borders = t .borders; rows = t .rows; factors = t .factors }
+
+-- the records that a call could have left: the two ATCs, and row 0's margin
+abbrev atcsLeft : (mw mw′ : ℕ) → List (List ℤ)
+atcsLeft mw mw′ = (pos mw ∷ pos 1 ∷ pos 0 ∷ []) ∷ (pos mw′ ∷ pos 0 ∷ pos 1 ∷ []) ∷ []
+
+abbrev leftsLeft : (margin : ℕ) → List (List ℤ)
+leftsLeft margin =
+    (pos 0 ∷ pos 240000000 ∷ pos margin ∷ []) ∷ (pos 0 ∷ pos 30000000 ∷ pos 0 ∷ []) ∷ (pos 2 ∷ pos 500000000 ∷ minus 1 ∷ []) ∷ (pos 1 ∷ pos 4999000 ∷ minus 1 ∷ []) ∷ []
 
 -- the second border alone
 abbrev second : (b : ℕ) → Bool
@@ -96,9 +109,14 @@ pub record Anchors : Type 0 where
   -- more rounds than 2 x 1 x 14; ended before the last raise
   pub many : IntradayDemand3 (small 0) every taken (ended 29 (0 ∷ 0 ∷ 0 ∷ 0 ∷ []) (15000 ∷ 0 ∷ [])) → ⊥
   pub early : IntradayDemand3 (small 0) every taken (ended 0 (300000000 ∷ 0 ∷ 0 ∷ 0 ∷ []) (0 ∷ 0 ∷ [])) → ⊥
+  -- the same of records that a call could have left
+  pub left-beyond : LeftIntraday3 late 1 (atcsLeft 16 0) (leftsLeft 0) → ⊥
+  pub left-idle : LeftIntraday3 late 1 (atcsLeft 15 1) (leftsLeft 0) → ⊥
+  pub left-many : LeftIntraday3 late 29 (atcsLeft 15 0) (leftsLeft 0) → ⊥
+  pub left-early : LeftIntraday3 late 0 (atcsLeft 0 0) (leftsLeft 300000000) → ⊥
 
 pub anchors : Anchors
-unfolding ifZero sum count largest lesser least orZero table firstFrom given maxℤ minℤ positivePart sameℤ sumℤ hubsOf borderOf shareOf rowOf worth defaultOf then unless refuseAt refuseFirst stretch sharers raise alone raises load lowered risen apply next raised counted run extract mostSharers bitsTo bits aloneBits grains f0coreOf fuafOf baseOf amrOf signedFactor pOf ltaKw sOf ltaMarginOf ramOf ramAt highest lowest spreadOf shifted below stateOf rowsOf kept gridBy beginBy judgeBy endBy setupWith atcOf leftOf loadOf setupIn resultIn outcomeIn unshortened
+unfolding ifZero sum count largest lesser least orZero table firstFrom given maxℤ minℤ positivePart sameℤ sumℤ hubsOf borderOf shareOf rowOf worth defaultOf then unless refuseAt refuseFirst stretch sharers raise alone raises load lowered risen apply next raised counted run extract mostSharers bitsTo bits aloneBits grains f0coreOf fuafOf baseOf amrOf signedFactor pOf ltaKw sOf ltaMarginOf ramOf ramAt highest lowest spreadOf shifted below stateOf rowsOf kept gridBy beginBy judgeBy endBy setupWith atcOf leftOf nOf lOf loadOf setupIn resultIn outcomeIn unshortened
 anchors =
     record {
       day = refl;
@@ -115,4 +133,8 @@ anchors =
       stayed = λ d. let e : _≡_ {A = ℕ} 15000 0 = d .stayed 0 (lit< tt) refl in omega arith;
       many = λ d. let h : 29 ≤ 28 = d .few in omega arith;
       early = λ d. let e : _≡_ {A = ℕ} 15000 0 = d .still 0 (lit< tt) in omega arith;
+      left-beyond = λ d. clashℤ (ltZ-yes {a = pos 240000000} {b = pos 260000000} tt) (d .within (16000 ∷ 0 ∷ []) (both _ _ (lit≤ tt) (lit≤ tt)) 0 (lit< tt) refl (ltZ-no {a = pos 300000000} {b = pos 0} tt));
+      left-idle = λ d. clashℤ (ltZ-yes {a = pos 0} {b = pos 30000000} tt) (d .idle (0 ∷ 1000 ∷ []) (both _ _ (lit≤ tt) (lit≤ tt)) 1 (lit< tt) refl (ltZ-yes {a = minus 60000000} {b = pos 0} tt));
+      left-many = λ d. let h : 29 ≤ 28 = d .few in omega arith;
+      left-early = λ d. let e : _≡_ {A = ℕ} 15000 0 = d .still 0 (lit< tt) in omega arith;
     }

@@ -1,4 +1,4 @@
--- Demand 3 of what `extract` leaves (`specs/DemandLeft.antt`), for every lent input that it answers with rounds; and that it never answers refusal 7 where CVA and IVA are 0.
+-- Demand 3 of what `extract` leaves (`specs/DemandLeft.antt`), in both profiles, for every lent input that it answers with rounds; and that it never answers refusal 7 where CVA and IVA are 0.
 use mathlib.Core.Path.{_≡_, sym, ap, subst, _∙_}
 use mathlib.Core.Bool.{Bool, true, false, cond}
 use mathlib.Core.List.{List, []}
@@ -17,13 +17,17 @@ use Rattle.table.proofs.GoodLaws.{judged-front, judged-good}
 use Rattle.rounds.specs.Rounds.{Grid, sharers, raise}
 use Rattle.rounds.proofs.LeastLaws.{least-mono, div-mono}
 use Rattle.margin.specs.Margin.{pOf, ltaKw}
-use Rattle.start.specs.Setup.{gridBy}
-use Rattle.start.specs.Start.{rowsOf, kept, tableGrid, setupWith}
-use Rattle.extraction.specs.Extraction.{Result, resultOf, atcOf, leftOf, outcomeOf, atcRecord, rowRecord, judgeExtract, ExtractLeft, leaves, resultRoom, resultStored, extractLeft, extractFor, outcomeFor, resultMarked}
+use Rattle.start.specs.Setup.{Setup, gridBy}
+use Rattle.start.specs.Start.{rowsOf, kept, every, tableGrid, setupOf, setupWith}
+use Rattle.extraction.specs.Extraction.{Result, resultOf, atcOf, leftOf, nOf, lOf, outcomeOf, atcRecord, rowRecord, judgeExtract, ExtractLeft, leaves, resultRoom, resultStored, extractLeft, extractFor, outcomeFor, resultMarked}
 use Rattle.promises.specs.Demand.{Demand3}
-use Rattle.promises.specs.DemandLeft.{atcIn, leftIn, LeftDemand3}
+use Rattle.promises.specs.DemandBy.{nBy, lBy}
+use Rattle.promises.specs.DemandIn.{intradayRoundsMost, WithinAtcs, IntradayDemand3}
+use Rattle.promises.specs.DemandLeft.{atcIn, leftIn, WithinLeft, LeftDemand3, LeftIntraday3}
 use Rattle.promises.specs.Seven.{NotSeven}
-use Rattle.promises.proofs.Demand3.{accepted-demand-3}
+use Rattle.promises.specs.Ways.{onTopOf, setupIn}
+use Rattle.promises.proofs.Demand3.{accepted-demand-3, accepted-intraday, accepted-rounds}
+use Rattle.promises.proofs.OrdinaryLaws.{setup-intraday}
 use Rattle.extraction.proofs.LentLaws.{judged-lent, accepted-left}
 use Rattle.promises.proofs.Seven.{no-refusal-7}
 use Rattle.promises.proofs.ToldLaws.{Told, told-passed, told-then, told-unless, told-first, told-need}
@@ -67,11 +71,23 @@ module _ (t : Table) (atcs lefts : List (List ℤ)) where
       go true = omega arith
       go false = omega arith
 
+  -- exchanges up to the ATCs left are within the result's
+  within-left : (e : List ℕ) → WithinLeft t atcsLeft e → WithinAtcs t its e
+  unfolding positivePart atcOf
+  within-left e h b l = subst (λ (z : ℤ). at e b ≤ positivePart z * 1000) (atc-in b l) (h b l)
+
+  -- from the margins left a border rises no more than from the result's
+  left-raise : (b : ℕ) → raise (tableGrid t) (table (t .header .rows) (λ i. positivePart (leftIn leftsLeft i))) b ≤ raise (tableGrid t) (its .outcome .state .margins) b
+  unfolding leftOf gridBy setupWith
+  left-raise b =
+      raise-lower (tableGrid t) (table (t .header .rows) (λ i. positivePart (leftIn leftsLeft i))) (its .outcome .state .margins)
+      (λ i h. subst (λ (n : ℕ). n ≤ at (its .outcome .state .margins) i) (sym (table-get (t .header .rows) (λ j. positivePart (leftIn leftsLeft j)) i 0 h)) (left-le i h)) b
+
   left-demand-3 : Demand3 t its → LeftDemand3 t (its .outcome .rounds) atcsLeft leftsLeft
   unfolding positivePart atcOf leftOf gridBy setupWith
   left-demand-3 d =
       record {
-        within = λ e h i hi k. d .within e (λ b l. subst (λ (z : ℤ). at e b ≤ positivePart z * 1000) (atc-in b l) (h b l)) i hi k;
+        within = λ e h. d .within e (within-left e h);
         kw = its .outcome .state .x;
         floored = atc-in;
         rose = d .rose;
@@ -80,12 +96,28 @@ module _ (t : Table) (atcs lefts : List (List ℤ)) where
             ∙ ap (λ (z : ℤ). z +ℤ pos (sum (t .header .borders) (λ b. pOf (factorsAt t i) (borderAt t b) * (at (its .outcome .state .x) b - ltaKw (borderAt t b))))) (sym (left-kept i hi k));
         few = d .few;
         most = d .most;
+        still = λ b l. omega (arith, d .still b l, left-raise b);
+      }
+
+  left-intraday-3 : IntradayDemand3 t every (t .allocated) its → setupOf kept every t ≡ setupIn (onTopOf (t .allocated)) kept every t → its .outcome .rounds ≤ intradayRoundsMost
+      → LeftIntraday3 t (its .outcome .rounds) atcsLeft leftsLeft
+  unfolding positivePart atcOf leftOf nOf lOf
+  left-intraday-3 d own most =
+      record {
+        within = λ e h. d .within e (within-left e h);
+        idle = λ e h. d .idle e (within-left e h);
+        kw = its .outcome .state .x;
+        floored = atc-in;
+        lost = λ i hi k.
+            ap pos (sym (d .lost i hi k))
+            ∙ ap (λ (z : ℤ). z +ℤ pos (sum (t .header .borders) (λ b. pOf (factorsAt t i) (borderAt t b) * at (its .outcome .state .x) b))) (sym (left-kept i hi k));
+        few = subst (λ (s : Setup). its .outcome .rounds ≤ 2 * nBy s * lBy s) (sym own) (d .few);
+        most = most;
         still = λ b l.
             omega (
               arith,
-              d .still b l,
-              raise-lower (tableGrid t) (table (t .header .rows) (λ i. positivePart (leftIn leftsLeft i))) (its .outcome .state .margins)
-                  (λ i h. subst (λ (n : ℕ). n ≤ at (its .outcome .state .margins) i) (sym (table-get (t .header .rows) (λ j. positivePart (leftIn leftsLeft j)) i 0 h)) (left-le i h)) b,
+              subst (λ (s : Setup). raise (gridBy s) (its .outcome .state .margins) b ≡ 0) (sym own) (d .still b l),
+              left-raise b,
             );
       }
 
@@ -98,6 +130,15 @@ extract-demand-3 given ps atcs lefts k day e =
     let d : Demand3 t (resultOf t) = accepted-demand-3 t _ (judged-good given t (a .judged)) day (a .outcome) in
     subst (λ (n : ℕ). LeftDemand3 t n (extractLeft given ps atcs lefts .atcs) (extractLeft given ps atcs lefts .lefts)) (a .rounds)
     (subst (λ (l : ExtractLeft). LeftDemand3 t (resultOf t .outcome .rounds) (l .atcs) (l .lefts)) (sym (a .left)) (left-demand-3 t atcs lefts d))
+
+pub extract-intraday-3 : (given : Table) (ps : List ℕ) (atcs lefts : List (List ℤ)) (k : ℕ) → isIntraday (given .header) ≡ true → let e = extractLeft given ps atcs lefts in e .answer ≡ passed k → LeftIntraday3 (front given) k (e .atcs) (e .lefts)
+unfolding resultOf resultMarked
+extract-intraday-3 given ps atcs lefts k late e =
+    let a = accepted-left given ps atcs lefts k e in
+    let t = front given in
+    let d = left-intraday-3 t atcs lefts (accepted-intraday t late _ (a .outcome)) (setup-intraday t late) (accepted-rounds t late _ (judged-good given t (a .judged)) (a .outcome)) in
+    subst (λ (n : ℕ). LeftIntraday3 t n (extractLeft given ps atcs lefts .atcs) (extractLeft given ps atcs lefts .lefts)) (a .rounds)
+    (subst (λ (l : ExtractLeft). LeftIntraday3 t (resultOf t .outcome .rounds) (l .atcs) (l .lefts)) (sym (a .left)) d)
 
 -- ---- no refusal 7
 abbrev Other : ℕ → Type 0

@@ -28,6 +28,10 @@ pub setup-day : (t : Table) → isIntraday (t .header) ≡ false → setupOf kep
 unfolding setupIn setupWith
 setup-day t day = ap (λ (k : Bool). setupIn (record { intraday = k; allocated = t .allocated }) kept every t) day
 
+pub setup-intraday : (t : Table) → isIntraday (t .header) ≡ true → setupOf kept every t ≡ setupIn (onTopOf (t .allocated)) kept every t
+unfolding setupIn setupWith
+setup-intraday t late = ap (λ (k : Bool). setupIn (record { intraday = k; allocated = t .allocated }) kept every t) late
+
 pub marked-day : (marked : ℕ → Bool) (t : Table) → isIntraday (t .header) ≡ false → outcomeIn dayAhead kept marked t ≡ outcomeMarked marked t
 unfolding outcomeIn resultIn setupIn
 marked-day marked t day = ap (λ (k : Bool). outcomeIn (record { intraday = k; allocated = t .allocated }) kept marked t) (sym day) ∙ outcome-marked marked t
