@@ -1,22 +1,32 @@
 -- The laws of `specs/Heard.antt`. No contract cites this file.
--- In order: what the code's three tests come to; that a refusal is heard with its number, place and byte, and a result, a table, a sheet, a published list, the bound and margins as an answer.
+-- In order: what the code's three tests come to; that a refusal is heard with its number, place and byte, and a result, a table, a corner sheet, a published list,
+-- the bound, margins, and rows as a sheet as an answer.
 use mathlib.Core.Path.{_≡_, refl, sym, subst, _∙_}
 use mathlib.Core.Bool.{Bool, true, false, cond}
 use mathlib.Core.List.{List, [], _∷_, _++_, append-assoc, append-nil}
 use Prim.Native.Nat.{ℕ, zero, suc, _+_, _^_, _<_}
 use native.Mathlib.Omega.{arith}
+use lib.Dec.{leb, ltb}
 use lib.IntN.{ℤ}
 use lib.ListN.{length, getD, drop}
-use borrow.Author.Tests.{eq-eqb, ne-eqb}
+use borrow.Author.Tests.{eq-eqb, ne-eqb, ltb-true}
 use Rattle.numbers.specs.Below.{table}
+use Rattle.numbers.proofs.TestLaws.{and-both}
 use Rattle.kinds.specs.declared.Refusal.{Refusal}
 use Rattle.kinds.specs.Ranges.{atℤ}
-use Rattle.text.specs.Fields.{tab, feed}
+use Rattle.text.specs.Fields.{tab, feed, digits}
 use Rattle.text.specs.Written.{decimal, fieldsText, lineText, linesText}
-use Rattle.text.proofs.NumberTrip.{number-written, number-rest}
-use Rattle.columns.specs.ColumnText.{plainText, indexText, columnsText}
+use Rattle.text.proofs.NumberTrip.{number-written, number-rest, digits-cons, decimal-digits, decimal-some}
+use Rattle.kinds.specs.LineColumns.{Column}
+use Rattle.columns.specs.Bare.{bareIndexText, bareText}
+use Rattle.columns.specs.ColumnText.{plainText, indexText, columnsText, fieldsEnded}
 use Rattle.table.specs.Table.{Table, factorsAt}
 use Rattle.writing.specs.Writing.{tableText}
+use Rattle.lines.specs.SheetLine.{semicolon}
+use Rattle.lines.specs.declared.row.RowKind.the-variants as rowKind
+use Rattle.layout.specs.Layout.{rowTextIn}
+use Rattle.rowsheet.specs.RowSheet as rowsheet
+use Rattle.rowsheet.specs.RowSheet.{sheetOf}
 use Rattle.corners.specs.Corners.{flowsOf}
 use Rattle.cornertext.specs.CornerText.{cornerLineAt, cornersText, sheetText}
 use Rattle.start.specs.Start.{Rows}
@@ -30,6 +40,7 @@ use Rattle.result.specs.Records.{atcAt, marginAt, roundsLine, recordsText}
 use Rattle.result.specs.Refusal.{refusalText}
 use Rattle.answer.specs.Result.{resultText}
 use Rattle.printing.specs.declared.output.Ended.the-variants.{Answered, Refused}
+use Rattle.printing.specs.Printed.{withRows}
 use Rattle.printing.specs.Heard.{letterE, refusalIn, heardOf}
 
 -- ---- the code's three tests
@@ -131,3 +142,27 @@ unfolding columnsText indexText
 margins-heard records =
     let lines = linesText (length records) 0 (partsLineAt records) in
     sym (heard-other lines (subst Other (append-nil lines) (lines-other (length records) 0 (partsLineAt records) [] (λ k more e. omega arith) (λ e. omega arith))))
+
+-- .. and the rows as a sheet (02, E11): each of its lines begins with a digit
+decimal-other : (n : ℕ) (more : List ℕ) → Other (decimal n ++ more)
+decimal-other n more = go (decimal n) (decimal-digits n) (decimal-some n)
+  where
+    go : (s : List ℕ) → digits s ≡ s → 0 < length s → Other (s ++ more)
+    go [] d l = absurd (omega arith)
+    go (b ∷ s) d l = λ e. omega (arith, ltb-true b 58 (and-both (leb 48 b) (ltb b 58) (digits-cons b s d .0) .1))
+
+line-other : (columns : List Column) (i : ℕ) (zs : List ℤ) (more : List ℕ) → Other (bareText semicolon columns i zs ++ more)
+unfolding bareText bareIndexText
+line-other columns i zs more =
+    let rest = fieldsEnded semicolon feed columns zs in
+    subst Other (sym (append-assoc (decimal i ++ (semicolon ∷ [])) rest more ∙ append-assoc (decimal i) (semicolon ∷ []) (rest ++ more))) (decimal-other i _)
+
+pub rows-heard : (zones : ℕ) (r : rowsheet.Rows) → heardOf (sheetOf zones r) ≡ Answered
+unfolding sheetOf
+rows-heard zones r =
+    let lines = linesText (length (r .rows)) 0 (rowTextIn rowKind.Sheet zones (r .rows) (r .factors)) in
+    sym (heard-other lines (subst Other (append-nil lines) (lines-other (length (r .rows)) 0 (rowTextIn rowKind.Sheet zones (r .rows) (r .factors)) [] (λ k more. line-other _ k _ more) (λ e. omega arith))))
+
+-- .. and a table with the rows of a sheet, as every table
+pub filled-heard : (t : Table) (r : rowsheet.Rows) → heardOf (tableText (withRows t r)) ≡ Answered
+filled-heard t r = table-heard (withRows t r)

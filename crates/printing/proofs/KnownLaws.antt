@@ -1,15 +1,14 @@
--- That what `bound_text` and `margins_text` leave is what a program is to print (specs/Printed.antt), and that neither text is too long. No contract cites this file.
-use mathlib.Core.Path.{_≡_, refl, sym, ap, subst, _∙_}
+-- That what `bound_text` and `margins_text` leave is printed as they tell it (specs/Lent.antt): neither text is too long. No contract cites this file.
+use mathlib.Core.Path.{_≡_, ap, subst, _∙_}
 use mathlib.Core.Bool.{Bool}
 use mathlib.Core.List.{List}
-use Prim.Native.Nat.{ℕ, _*_, _^_, _≤_, _<_}
+use Prim.Native.Nat.{ℕ, _*_, _^_, _≤_}
 use native.Mathlib.Nat.{mul-le-mul, le-refl}
 use native.Mathlib.Omega.{arith}
 use lib.ListN.{length}
-use Rattle.numbers.specs.Below.{at}
 use Rattle.kinds.specs.declared.Written.{Written}
 use Rattle.kinds.specs.Limits.{bordersMost, bytesMost}
-use Rattle.kinds.specs.Refusals.{Judged, passed, refused, then}
+use Rattle.kinds.specs.Refusals.{passed}
 use Rattle.kinds.proofs.KindLaws.{header-in}
 use Rattle.kinds.proofs.RefusalLaws.{passed-is, then-passed}
 use Rattle.marks.specs.Marks.{judgeAsked, mayRise}
@@ -24,10 +23,9 @@ use Rattle.rounds.proofs.Round.{alone-lt}
 use Rattle.rounds.proofs.Theorems.{alone-least}
 use Rattle.margin.specs.Bounds.{startBits}
 use Rattle.margin.proofs.Small.{named-values-small}
-use Rattle.parts.specs.Parts.{recordsOf}
-use Rattle.partstext.specs.PartsText.{partsText, marginsTextLeft}
+use Rattle.partstext.specs.PartsText.{marginsTextLeft}
 use Rattle.partstext.proofs.PartsTextLaws.{parts-text-most}
-use Rattle.start.specs.Setup.{gridBy, beginBy}
+use Rattle.start.specs.Setup.{gridBy}
 use Rattle.start.specs.Start.{setupWith, gridMarked, tableStart, judgeMarked}
 use Rattle.extraction.proofs.AcceptedLaws.{small-start}
 use Rattle.bound.specs.declared.RoundsMost.{RoundsMost}
@@ -35,8 +33,8 @@ use Rattle.bound.specs.Bound.{boundBy, boundOf, boundMarked, boundFor}
 use Rattle.bound.proofs.MeasureLaws.{sharers-few}
 use Rattle.boundtext.specs.BoundText.{boundText, boundTextLeft}
 use Rattle.boundtext.proofs.BoundTextLaws.{bound-line-long}
-use Rattle.printing.specs.declared.texts.Word.the-variants.{Bound, Margins}
-use Rattle.printing.specs.Printed.{Printed, toldText, Told, saidOf}
+use Rattle.printing.specs.Printed.{Printed, toldText, Told}
+use Rattle.printing.specs.Lent.{boundSaid, marginsSaid}
 use Rattle.printing.proofs.PrintedLaws.{told-printed}
 
 -- ---- the bound: N is at most 64, and 2^49 is above every starting margin, so L is at most 49
@@ -68,16 +66,10 @@ module _ (marked : ℕ → Bool) {t : Table} (good : Good t) where
         decimal-long 3 (2 * n * l) (omega (arith, rounds)),
       )
 
--- one judgement after two is that after the first, and so on
-then-then : {A B C : Type 0} (j : Judged A) (next : A → Judged B) (last : B → Judged C) → then (then j next) last ≡ then j (λ a. then (next a) last)
-unfolding then
-then-then (passed a) next last = refl
-then-then (refused w) next last = refl
-
-module _ (all : Bool) (marks file : List ℕ) (given : Table) where
-  bound-fits : (text : List ℕ) → then (boundFor all marks given) (λ m. passed (boundText m)) ≡ passed text → length text ≤ bytesMost
+module _ (given : Table) where
+  bound-fits : (all : Bool) (marks text : List ℕ) → boundSaid all marks given ≡ passed text → length text ≤ bytesMost
   unfolding boundFor boundMarked
-  bound-fits text e =
+  bound-fits all marks text e =
       let d = then-passed (boundFor all marks given) _ text e in
       let j = then-passed (judgeLent given) _ (d .it) (d .first) in
       let t = j .it in
@@ -86,21 +78,16 @@ module _ (all : Bool) (marks file : List ℕ) (given : Table) where
       let is : boundText (boundOf (mayRise all marks) t) ≡ text = ap (λ (m : RoundsMost). boundText m) (passed-is _ _ (b .second)) ∙ passed-is _ _ (d .second) in
       subst (λ (s : List ℕ). length s ≤ bytesMost) is (bound-short (mayRise all marks) (judged-good given t (j .first)))
 
-  pub bound-printed : (out : List ℕ) {out′ out″ : List ℕ} (r : Written) {n : ℕ} → bytesMost ≤ length out → textSaid r out′ ≡ boundTextLeft all marks given out → Told r out′ n out″
-      → Printed n (toldText (then (judgeLent given) (saidOf Bound all marks file))) out″
-  unfolding saidOf boundTextLeft boundFor
-  bound-printed out {out′} {out″} r {n} room said told =
-      subst (λ (j : Judged (List ℕ)). Printed n (toldText j) out″)
-      (then-then (judgeLent given) (λ t. judgeAsked all (t .header .borders) marks (boundMarked (mayRise all marks) t)) (λ m. passed (boundText m)))
-      (told-printed (then (boundFor all marks given) (λ m. passed (boundText m))) out r (λ text e. omega (arith, bound-fits text e, room)) said told)
+  pub bound-printed : (all : Bool) (marks out : List ℕ) {out′ out″ : List ℕ} (r : Written) {n : ℕ} → bytesMost ≤ length out → textSaid r out′ ≡ boundTextLeft all marks given out → Told r out′ n out″
+      → Printed n (toldText (boundSaid all marks given)) out″
+  unfolding boundTextLeft
+  bound-printed all marks out r room said told = told-printed (boundSaid all marks given) out r (λ text e. omega (arith, bound-fits all marks text e, room)) said told
 
-  margins-fit : (text : List ℕ) → then (judgeLent given) (λ t. passed (partsText (recordsOf t))) ≡ passed text → length text ≤ bytesMost
+  margins-fit : (text : List ℕ) → marginsSaid given ≡ passed text → length text ≤ bytesMost
   margins-fit text e =
       let d = then-passed (judgeLent given) _ text e in
       subst (λ (s : List ℕ). length s ≤ bytesMost) (passed-is _ _ (d .second)) (omega (arith, parts-text-most (judged-good given (d .it) (d .first))))
 
-  pub margins-printed : (out : List ℕ) {out′ out″ : List ℕ} (r : Written) {n : ℕ} → bytesMost ≤ length out → textSaid r out′ ≡ marginsTextLeft given out → Told r out′ n out″
-      → Printed n (toldText (then (judgeLent given) (saidOf Margins all marks file))) out″
-  unfolding saidOf marginsTextLeft
-  margins-printed out r room said told =
-      told-printed (then (judgeLent given) (λ t. passed (partsText (recordsOf t)))) out r (λ text e. omega (arith, margins-fit text e, room)) said told
+  pub margins-printed : (out : List ℕ) {out′ out″ : List ℕ} (r : Written) {n : ℕ} → bytesMost ≤ length out → textSaid r out′ ≡ marginsTextLeft given out → Told r out′ n out″ → Printed n (toldText (marginsSaid given)) out″
+  unfolding marginsTextLeft
+  margins-printed out r room said told = told-printed (marginsSaid given) out r (λ text e. omega (arith, margins-fit text e, room)) said told

@@ -1,5 +1,6 @@
 pub mod PrintedLaws
-pub mod RowsLaws
 pub mod KnownLaws
+pub mod RowsLaws
+pub mod WordLaws
 pub mod SheetLaws
 pub mod HeardLaws

@@ -1,5 +1,6 @@
 -- That what the calls leave is what a program is to print (specs/Printed.antt). No contract cites this file.
--- In order: a buffer that begins with the text; a text that there is room for; a call that tells its refusal; a text that was read, or refused; the words.
+-- In order: a buffer that begins with the text; a text that there is room for; a call that tells its refusal; a text that was read, or refused; a file that is too long;
+-- what the calls that write a table and a published list leave. What other calls leave is in `KnownLaws.antt` and `RowsLaws.antt`.
 use mathlib.Core.Path.{_≡_, refl, sym, ap, subst, _∙_}
 use mathlib.Core.Bool.{Bool}
 use mathlib.Core.List.{List}
@@ -19,29 +20,26 @@ use Rattle.kinds.specs.declared.Refusal.{Refusal}
 use Rattle.kinds.specs.declared.Written.{Written}
 use Rattle.kinds.specs.declared.Written.the-variants as written
 use Rattle.kinds.specs.Limits.{zonesMost, bordersMost, rowsMost, bytesMost}
-use Rattle.kinds.specs.Refusals.{Judged, passed, refused, then, either, tooLong, tooShort}
+use Rattle.kinds.specs.Refusals.{Judged, passed, refused, then, tooLong, tooShort}
 use Rattle.kinds.proofs.AnswerLaws.{saidWritten-injective}
 use Rattle.kinds.proofs.RefusalLaws.{passed-is, then-passed, then-refused, either-passed, either-refused}
 use Rattle.text.specs.Left.{TextLeft, textLeft, textSaid}
 use Rattle.text.proofs.LeftLaws.{text-left, text-short, text-refused}
 use Rattle.table.specs.Table.{Table, lent, judgeLent}
-use Rattle.table.proofs.GoodLaws.{judged-good}
+use Rattle.table.proofs.GoodLaws.{judged-front, judged-good}
 use Rattle.reading.specs.Places.{readSaid}
 use Rattle.reading.specs.Reading.{readCorrected, readCorrectedLeft}
 use Rattle.reading.proofs.LeftLaws.{taken, as-read, refused-text}
 use Rattle.reading.proofs.CorrectedLaws.{corrected-good}
-use Rattle.writing.specs.Writing.{tableText, writeLeft}
+use Rattle.writing.specs.Writing.{writeLeft}
 use Rattle.writing.proofs.RoundTrip.{never-too-long}
-use Rattle.claimtext.specs.ClaimText.{claimsIn}
-use Rattle.claimtext.specs.Published.{publishedOf, publishedAnswer, publishedLeft}
+use Rattle.claimtext.specs.Published.{publishedAnswer, publishedLeft}
 use Rattle.claimtext.proofs.PublishedLaws.{published-fits}
-use Rattle.extraction.specs.Extraction.{outcomeFor}
 use Rattle.result.specs.Refusal.{refusalText}
-use Rattle.answer.specs.Result.{resultText}
-use Rattle.answer.specs.Made.{outcomeLent, printed, bytesAsked}
+use Rattle.answer.specs.Made.{bytesAsked}
 use Rattle.printing.specs.declared.texts.Word.{Word}
-use Rattle.printing.specs.declared.texts.Word.the-variants.{Answer, Rewrite, Claims}
 use Rattle.printing.specs.Printed.{Printed, bytesOf, toldText, Told, saidOf, wordOf, wordText}
+use Rattle.printing.specs.Lent.{Sound, tableSaid}
 
 -- ---- a buffer that begins with the text
 pub over-printed : (text out out′ : List ℕ) (n : ℕ) → n ≡ length text → out′ ≡ over text out → Printed n text out′
@@ -49,6 +47,13 @@ over-printed text out out′ n e o =
     let long : n ≤ length out′ = omega (arith, ap length o, length-append text (drop (length text) out)) in
     let whole : take n out′ ≡ text = ap (take n) o ∙ take-at text _ n (sym e) in
     record { within = long; long = e ∙ sym (ap length whole); whole = whole }
+
+-- .. with the same text, by another name
+pub printed-as : {n : ℕ} {text text′ out : List ℕ} → text ≡ text′ → Printed n text out → Printed n text′ out
+printed-as {n} {out = out} e p = subst (λ (s : List ℕ). Printed n s out) e p
+
+pub told-as : {n : ℕ} {said said′ : Judged (List ℕ)} {out : List ℕ} → said ≡ said′ → Printed n (toldText said) out → Printed n (toldText said′) out
+told-as {n} {out = out} e p = subst (λ (j : Judged (List ℕ)). Printed n (toldText j) out) e p
 
 -- ---- a text whose call asks for no more bytes than there are
 pub text-printed : (text out out′ : List ℕ) (r : Written) (n : ℕ) → n ≡ bytesOf r → textSaid r out′ ≡ textLeft (passed text) out → bytesAsked r ≤ length out → Printed n text out′
@@ -79,7 +84,13 @@ told-printed (refused w) out {out′} {out″} r {n} enough left told =
     let why : r ≡ written.Refused w = saidWritten-injective r (written.Refused w) (ap (λ (x : TextLeft). x .answer) l) in
     subst (λ (s : List ℕ). Printed n s out″) (sym (either-refused _ _ refl)) (subst (λ (x : Written). Told x out′ n out″) why told)
 
--- ---- a text that was read: what is printed of the lent tables is printed of it
+-- ---- a text that was read: the lent tables hold its table, and what is printed of them is printed of it
+pub read-sound : (text sheet : List ℕ) (z a : List ℤ) (b c : List (List ℤ)) (f : List ℤ) (r : Read) {z′ a′ : List ℤ} {b′ c′ : List (List ℤ)} {f′ : List ℤ}
+    → readSaid r z′ a′ b′ c′ f′ ≡ readCorrectedLeft text sheet z a b c f → (h : Header) → r ≡ read.Table h → Sound (lent h z′ a′ b′ c′ f′)
+read-sound text sheet z a b c f r {z′} {a′} {b′} {c′} {f′} said h is =
+    let e = as-read (readCorrected text sheet) z a b c f r said (corrected-good text sheet) h is in
+    e ∙ ap passed (judged-front (lent h z′ a′ b′ c′ f′) _ e)
+
 module _ (word : Word) (all : Bool) (marks file text sheet : List ℕ) (z a : List ℤ) (b c : List (List ℤ)) (f : List ℤ)
     (r : Read) {z′ a′ : List ℤ} {b′ c′ : List (List ℤ)} {f′ : List ℤ} (said : readSaid r z′ a′ b′ c′ f′ ≡ readCorrectedLeft text sheet z a b c f) where
   module _ (h : Header) (is : r ≡ read.Table h) where
@@ -107,42 +118,19 @@ module _ (word : Word) (all : Bool) (marks file text sheet : List ℕ) {n : ℕ}
   unfolding wordText
   short-printed h p = rw (le-ltb bytesMost (length file) h) p
 
--- ---- the words
--- a text made of what passed is told as it is printed
-made-told : {A B : Type 0} (j : Judged A) (next : A → Judged B) (made : B → List ℕ) → either (then j next) made refusalText ≡ toldText (then j (λ a. then (next a) (λ b. passed (made b))))
-unfolding either then
-made-told {B = B} (passed a) next made = go (next a)
-  where
-    go : (k : Judged B) → either k made refusalText ≡ toldText (then k (λ b. passed (made b)))
-    go (passed b) = refl
-    go (refused w) = refl
-made-told (refused w) next made = refl
-
-module _ (all : Bool) (marks file : List ℕ) (given : Table) where
-  answer-told : printed (outcomeLent all marks given) ≡ toldText (then (judgeLent given) (saidOf Answer all marks file))
-  unfolding printed outcomeLent saidOf
-  answer-told = made-told (judgeLent given) (outcomeFor all marks) resultText
-
-  pub answer-printed : (out out′ : List ℕ) (r : Written) (n : ℕ) → n ≡ bytesOf r → textSaid r out′ ≡ textLeft (passed (printed (outcomeLent all marks given))) out → bytesAsked r ≤ length out
-      → Printed n (toldText (then (judgeLent given) (saidOf Answer all marks file))) out′
-  answer-printed out out′ r n e said few = subst (λ (s : List ℕ). Printed n s out′) answer-told (text-printed _ out out′ r n e said few)
-
+-- ---- what each call on lent tables leaves, with room for the longest
+module _ (given : Table) where
   -- a table is never too long to be written again
-  table-fits : (text : List ℕ) → then (judgeLent given) (λ t. passed (tableText t)) ≡ passed text → length text ≤ bytesMost
+  table-fits : (text : List ℕ) → tableSaid given ≡ passed text → length text ≤ bytesMost
   table-fits text e =
       let d = then-passed (judgeLent given) _ text e in
       subst (λ (s : List ℕ). length s ≤ bytesMost) (passed-is _ _ (d .second)) (never-too-long (d .it) (judged-good given (d .it) (d .first)))
 
-  pub rewrite-printed : (out : List ℕ) {out′ out″ : List ℕ} (r : Written) {n : ℕ} → bytesMost ≤ length out → textSaid r out′ ≡ writeLeft given out → Told r out′ n out″
-      → Printed n (toldText (then (judgeLent given) (saidOf Rewrite all marks file))) out″
-  unfolding saidOf writeLeft
-  rewrite-printed out r room said told = told-printed (then (judgeLent given) (λ t. passed (tableText t))) out r (λ text e. omega (arith, table-fits text e, room)) said told
+  pub table-printed : (out : List ℕ) {out′ out″ : List ℕ} (r : Written) {n : ℕ} → bytesMost ≤ length out → textSaid r out′ ≡ writeLeft given out → Told r out′ n out″ → Printed n (toldText (tableSaid given)) out″
+  unfolding writeLeft
+  table-printed out r room said told = told-printed (tableSaid given) out r (λ text e. omega (arith, table-fits text e, room)) said told
 
   -- the published list
-  pub claims-printed : (out : List ℕ) {out′ out″ : List ℕ} (r : Written) {n : ℕ} → length file ≤ bytesMost → bytesMost ≤ length out → textSaid r out′ ≡ publishedLeft given file out → Told r out′ n out″
-      → Printed n (toldText (then (judgeLent given) (saidOf Claims all marks file))) out″
-  unfolding saidOf publishedLeft publishedAnswer
-  claims-printed out {out′} {out″} r {n} short room said told =
-      let same : publishedAnswer given file ≡ then (judgeLent given) (λ t. publishedOf t (claimsIn file)) = rw (le-ltb bytesMost (length file) short) in
-      subst (λ (j : Judged (List ℕ)). Printed n (toldText j) out″) same
-      (told-printed (publishedAnswer given file) out r (λ text e. omega (arith, published-fits given file text e, room)) said told)
+  pub claims-printed : (file out : List ℕ) {out′ out″ : List ℕ} (r : Written) {n : ℕ} → bytesMost ≤ length out → textSaid r out′ ≡ publishedLeft given file out → Told r out′ n out″ → Printed n (toldText (publishedAnswer given file)) out″
+  unfolding publishedLeft
+  claims-printed file out r room said told = told-printed (publishedAnswer given file) out r (λ text e. omega (arith, published-fits given file text e, room)) said told

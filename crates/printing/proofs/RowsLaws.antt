@@ -1,64 +1,143 @@
--- That what the calls on rows leave is what `rows` is to print (specs/Rows.antt). No contract cites this file.
+-- That what the calls on rows (02, E11) leave is what a program is to print (specs/Printed.antt). No contract cites this file.
+-- In order: a table with the rows of a sheet is good; what is printed of rows as a sheet; lent tables that hold a good one: their rows are judged good, and what is
+-- printed where a sheet fills them.
 use mathlib.Core.Path.{_≡_, refl, sym, subst, ap, _∙_}
-use mathlib.Core.List.{List}
-use Prim.Native.Nat.{ℕ, _≤_}
+use mathlib.Core.Bool.{true, not}
+use mathlib.Core.List.{List, []}
+use Prim.Native.Nat.{ℕ, _*_, _≤_, _<_}
 use native.Mathlib.Omega.{arith}
 use lib.IntN.{ℤ}
-use lib.ListN.{length}
+use lib.ListN.{length, getD, drop, length-append}
+use lib.Seq.{take-at}
+use Rattle.numbers.specs.Below.{over}
 use Rattle.kinds.specs.declared.Header.{Header}
 use Rattle.kinds.specs.declared.Judgement.{Judgement}
 use Rattle.kinds.specs.declared.Judgement.the-variants as judgement
 use Rattle.kinds.specs.declared.Refusal.{Refusal}
 use Rattle.kinds.specs.declared.Written.{Written}
+use Rattle.kinds.specs.Answers.{ruled}
 use Rattle.kinds.specs.Limits.{bytesMost}
-use Rattle.kinds.specs.Refusals.{passed, then}
-use Rattle.kinds.proofs.RefusalLaws.{passed-is, then-passed, either-passed, either-refused}
+use Rattle.kinds.specs.Refusals.{Judged, passed, refused}
+use Rattle.kinds.proofs.KindLaws.{header-in}
+use Rattle.kinds.proofs.RefusalLaws.{passed-is, refused-is, not-passed, then-passed, then-next, then-refused, either-passed, either-refused, unless-passed, unless-ok, none-next}
 use Rattle.text.specs.Left.{textSaid}
-use Rattle.table.specs.Table.{Table, lent, judgeLent}
-use Rattle.table.proofs.GoodLaws.{judged-good}
-use Rattle.writing.specs.Writing.{tableText, writeLeft}
-use Rattle.writing.proofs.RoundTrip.{never-too-long}
-use Rattle.rowsheet.specs.RowSheet.{Rows, RowsLeft, judgeRows, sheetOf, rowsSaid, readRowsLeft, writeRowsLeft}
+use Rattle.table.specs.Table.{Table, lent, stretch, factorsAt, rowGood, front, judgeShape, judgeRecords, judgeLent}
+use Rattle.table.specs.Good.{Good}
+use Rattle.table.proofs.GoodLaws.{stretch-long, row-good, good-row, flat-fit, row-fit, judged-good, front-judged}
+use Rattle.table.proofs.RoomLaws.{Enough, room-passed}
+use Rattle.writing.specs.Writing.{tableText}
+use Rattle.rowsheet.specs.RowSheet.{Rows, RowsLeft, readSheet, judgeRows, rowsInRange, rowsSaid, readRowsLeft, writeRowsLeft}
+use Rattle.rowsheet.proofs.SheetLaws.{sheet-run, rows-many, factors-many, room-enough}
 use Rattle.rowsheet.proofs.SheetTrip as sheet
 use Rattle.result.specs.Refusal.{refusalText}
-use Rattle.printing.specs.Printed.{Printed, toldText, Told}
-use Rattle.printing.specs.Rows.{sheetPrinted, tablePrinted, leftPrinted}
-use Rattle.printing.proofs.PrintedLaws.{told-printed}
+use Rattle.printing.specs.Printed.{Printed, toldText, Told, rowsIn, withRows, filledBy}
+use Rattle.printing.specs.Lent.{Sound, tableSaid, sheetSaid}
+use Rattle.printing.proofs.PrintedLaws.{printed-as, told-as, told-printed}
 
--- ---- the sheet
+-- ---- a table with the rows of a sheet is good
+rows-good : {t : Table} (g : Good t) (i : ℕ) → i < t .header .rows → rowGood (getD (t .rows) i []) (factorsAt t i) ≡ true
+rows-good {t} g i l =
+    let h = t .header in
+    let some : 0 < h .zones = omega (arith, header-in h (g .exact .header) .zones-least) in
+    good-row (getD (t .rows) i []) (factorsAt t i) (g .rows-fit i l)
+    (λ z m. row-fit (h .zones) (h .rows) (t .factors) (g .exact .factors-long) some (g .factors-fit) i l z
+    (rw (stretch-long (h .zones) (h .rows) (t .factors) (g .exact .factors-long) i l) at m))
+
+filled-good : {t : Table} (g : Good t) (file : List ℕ) (r : Rows) → readSheet (t .header) file ≡ passed r → Good (withRows t r)
+filled-good {t} g file r e =
+    let h = t .header in
+    let u = sheet-run h file r e in
+    let some : 0 < h .zones = omega (arith, header-in h (g .exact .header) .zones-least) in
+    let rows : (i : ℕ) → i < h .rows → rowGood (getD (r .rows) i []) (stretch (h .zones) (r .factors) i) ≡ true = sheet.read-good h file r e in
+    record {
+      exact = record {
+        header = g .exact .header;
+        nets-long = g .exact .nets-long;
+        allocated-long = g .exact .allocated-long;
+        borders-long = g .exact .borders-long;
+        rows-long = rows-many u;
+        factors-long = factors-many u;
+      };
+      nets-fit = g .nets-fit;
+      allocated-fit = g .allocated-fit;
+      in-balance = g .in-balance;
+      borders-fit = g .borders-fit;
+      rows-fit = λ i l. row-good (getD (r .rows) i []) (stretch (h .zones) (r .factors) i) (rows i l) .0;
+      factors-fit = flat-fit (h .zones) (h .rows) (r .factors) (factors-many u) some (λ i l. row-good (getD (r .rows) i []) (stretch (h .zones) (r .factors) i) (rows i l) .1);
+      once = g .once;
+    }
+
+-- ---- the rows as a sheet, with room for the longest
 module _ (h : Header) (c : List (List ℤ)) (f : List ℤ) where
-  sheet-fits : (text : List ℕ) → then (judgeRows h c f) (λ r. passed (sheetOf (h .zones) r)) ≡ passed text → length text ≤ bytesMost
+  sheet-fits : (text : List ℕ) → sheetSaid h c f ≡ passed text → length text ≤ bytesMost
   sheet-fits text e =
       let d = then-passed (judgeRows h c f) _ text e in
       let j = sheet.rows-judged h c f (d .it) (d .first) in
       subst (λ (s : List ℕ). length s ≤ bytesMost) (passed-is _ _ (d .second)) (sheet.never-too-long h (d .it) (j .fits) (j .rows-long) (j .factors-long) (j .good))
 
-  pub sheet-printed : (out : List ℕ) {out′ out″ : List ℕ} (r : Written) {n : ℕ} → bytesMost ≤ length out → textSaid r out′ ≡ writeRowsLeft h c f out → Told r out′ n out″ → Printed n (sheetPrinted h c f) out″
-  unfolding sheetPrinted writeRowsLeft
-  sheet-printed out r room said told = told-printed (then (judgeRows h c f) (λ r. passed (sheetOf (h .zones) r))) out r (λ text e. omega (arith, sheet-fits text e, room)) said told
+  pub sheet-printed : (out : List ℕ) {out′ out″ : List ℕ} (r : Written) {n : ℕ} → bytesMost ≤ length out → textSaid r out′ ≡ writeRowsLeft h c f out → Told r out′ n out″ → Printed n (toldText (sheetSaid h c f)) out″
+  unfolding writeRowsLeft
+  sheet-printed out r room said told = told-printed (sheetSaid h c f) out r (λ text e. omega (arith, sheet-fits text e, room)) said told
 
--- ---- a table
-module _ (given : Table) where
-  table-fits : (text : List ℕ) → then (judgeLent given) (λ t. passed (tableText t)) ≡ passed text → length text ≤ bytesMost
-  table-fits text e =
-      let d = then-passed (judgeLent given) _ text e in
-      subst (λ (s : List ℕ). length s ≤ bytesMost) (passed-is _ _ (d .second)) (never-too-long (d .it) (judged-good given (d .it) (d .first)))
+module _ (given : Table) (sound : Sound given) where
+  abbrev h : Header
+  h = given .header
 
-  pub table-printed : (out : List ℕ) {out′ out″ : List ℕ} (r : Written) {n : ℕ} → bytesMost ≤ length out → textSaid r out′ ≡ writeLeft given out → Told r out′ n out″ → Printed n (tablePrinted given) out″
-  unfolding tablePrinted writeLeft
-  table-printed out r room said told = told-printed (then (judgeLent given) (λ t. passed (tableText t))) out r (λ text e. omega (arith, table-fits text e, room)) said told
+  good : Good (front given)
+  good = judged-good given (front given) sound
 
--- ---- the table with the rows of a sheet
-module _ (h : Header) (z t : List ℤ) (b c : List (List ℤ)) (f : List ℤ) (sheet : List ℕ) (r : Judgement) (c′ : List (List ℤ)) (f′ : List ℤ)
-    (said : rowsSaid r c′ f′ ≡ readRowsLeft h sheet c f) {n : ℕ} {out : List ℕ} where
-  pub filled-printed : r ≡ judgement.Passed → Printed n (tablePrinted (lent h z t b c′ f′)) out → Printed n (leftPrinted h z t b (readRowsLeft h sheet c f)) out
-  unfolding leftPrinted
-  filled-printed is p =
-      subst (λ (l : RowsLeft). Printed n (leftPrinted h z t b l) out) (ap (λ (j : Judgement). rowsSaid j c′ f′) (sym is) ∙ said)
-      (subst (λ (s : List ℕ). Printed n s out) (sym (either-passed _ _ refl)) p)
+  enough : Enough h (length (given .nets)) (length (given .allocated)) (length (given .borders)) (length (given .rows)) (length (given .factors))
+  unfolding judgeLent judgeShape
+  enough =
+      let w = then-passed (judgeShape given) judgeRecords (front given) sound in
+      let s = unless-passed (w .it) _ _ _ (w .first) in
+      room-passed _ _ _ _ _ _ _ (w .it) (s .1) .0
 
-  pub unfilled-printed : (w : Refusal) → r ≡ judgement.Refused w → Printed n (refusalText w) out → Printed n (leftPrinted h z t b (readRowsLeft h sheet c f)) out
-  unfolding leftPrinted
-  unfilled-printed w is p =
-      subst (λ (l : RowsLeft). Printed n (leftPrinted h z t b l) out) (ap (λ (j : Judgement). rowsSaid j c′ f′) (sym is) ∙ said)
-      (subst (λ (s : List ℕ). Printed n s out) (sym (either-refused _ _ refl)) p)
+  -- ---- their rows are judged good
+  pub rows-pass : judgeRows h (given .rows) (given .factors) ≡ passed (rowsIn (front given))
+  unfolding judgeRows rowsInRange
+  rows-pass =
+      unless-ok _ _ (good .exact .header)
+      ∙ sym (room-enough h _ _ _ (enough .rows) (enough .factors))
+      ∙ none-next _ _ _ _ (λ i l. ap not (rows-good good i (omega (arith, good .exact .rows-long))))
+
+  -- ---- the table with the rows of a sheet
+  module _ (file : List ℕ) (r : Judgement) (c′ : List (List ℤ)) (f′ : List ℤ) (said : rowsSaid r c′ f′ ≡ readRowsLeft h file (given .rows) (given .factors)) where
+    -- .. that was read
+    module _ (t : Rows) (is : readSheet h file ≡ passed t) where
+      abbrev left : Table
+      left = lent h (given .nets) (given .allocated) (given .borders) (over (t .rows) (given .rows)) (over (t .factors) (given .factors))
+
+      filled-judged : judgeLent left ≡ passed (withRows (front given) t)
+      filled-judged =
+          let u = sheet-run h file t is in
+          front-judged (withRows (front given) t) (filled-good good file t is) left
+          (rw (take-at (t .rows) _ (h .rows) (rows-many u), take-at (t .factors) _ (h .rows * h .zones) (factors-many u)))
+          (record {
+            zones = enough .zones;
+            allocated = enough .allocated;
+            borders = enough .borders;
+            rows = omega (arith, rows-many u, length-append (t .rows) (drop (length (t .rows)) (given .rows)));
+            factors = omega (arith, factors-many u, length-append (t .factors) (drop (length (t .factors)) (given .factors)));
+          })
+
+    pub filled-printed : {n : ℕ} {out : List ℕ} → r ≡ judgement.Passed → Printed n (toldText (tableSaid (lent h (given .nets) (given .allocated) (given .borders) c′ f′))) out → Printed n (toldText (filledBy file (front given))) out
+    unfolding filledBy
+    filled-printed is p =
+        let l : readRowsLeft h file (given .rows) (given .factors) ≡ rowsSaid judgement.Passed c′ f′ = sym said ∙ ap (λ (j : Judgement). rowsSaid j c′ f′) is in
+        let d = sheet.rows-taken h file (given .rows) (given .factors) (ap (λ (x : RowsLeft). x .answer) l) in
+        let same : rowsSaid judgement.Passed c′ f′ ≡ record { answer = passed tt; c = over (d .it .rows) (given .rows); f = over (d .it .factors) (given .factors) } = sym l ∙ d .left in
+        let told : tableSaid (lent h (given .nets) (given .allocated) (given .borders) c′ f′) ≡ passed (tableText (withRows (front given) (d .it))) =
+        ap (λ (x : RowsLeft). tableSaid (lent h (given .nets) (given .allocated) (given .borders) (x .c) (x .f))) same ∙ then-next _ (filled-judged (d .it) (d .read)) in
+        told-as (told ∙ sym (then-next _ (d .read))) p
+
+    pub unfilled-printed : {n : ℕ} {out : List ℕ} (w : Refusal) → r ≡ judgement.Refused w → Printed n (refusalText w) out → Printed n (toldText (filledBy file (front given))) out
+    unfolding filledBy readRowsLeft
+    unfilled-printed w is p = printed-as (sym (either-refused _ _ (then-refused _ (go (readSheet h file) refl)))) p
+      where
+        told : (x : RowsLeft) → readRowsLeft h file (given .rows) (given .factors) ≡ x → refused w ≡ x .answer
+        told x q = ap (λ (j : Judgement). ruled j tt) (sym is) ∙ ap (λ (l : RowsLeft). l .answer) (said ∙ q)
+
+        go : (j : Judged Rows) → readSheet h file ≡ j → readSheet h file ≡ refused w
+        go (passed t) q = absurd (not-passed w tt (told _ (either-passed _ _ (then-next _ q ∙ sym (room-enough h (length (given .rows)) (length (given .factors)) (passed t) (enough .rows) (enough .factors))))))
+        go (refused v) q = q ∙ ap refused (sym (refused-is {A = Unit {0}} w v (told _ (either-refused _ _ (then-refused _ q)))))

@@ -1,3 +1,3 @@
 pub mod Printed
-pub mod Rows
+pub mod Lent
 pub mod Heard

@@ -12,9 +12,11 @@ use Rattle.kinds.specs.declared.Written.the-variants as written
 use Rattle.kinds.specs.Limits.{bytesMost}
 use Rattle.kinds.specs.Refusals.{Judged, passed, then, either, tooLong}
 use Rattle.text.specs.Written.{linesText}
-use Rattle.table.specs.Table.{Table}
+use Rattle.table.specs.Table.{Table, lent}
 use Rattle.reading.specs.Reading.{readCorrected}
 use Rattle.writing.specs.Writing.{tableText}
+use Rattle.rowsheet.specs.RowSheet as rowsheet
+use Rattle.rowsheet.specs.RowSheet.{readSheet, sheetOf}
 use Rattle.corners.specs.Corners.{sheetBordersMost, judgeCorners}
 use Rattle.cornertext.specs.CornerText.{sheetMost, sheetText}
 use Rattle.marks.specs.Marks.{judgeAsked, mayRise}
@@ -28,7 +30,7 @@ use Rattle.extraction.specs.Extraction.{outcomeFor}
 use Rattle.result.specs.Refusal.{refusalText}
 use Rattle.answer.specs.Result.{resultText}
 use Rattle.printing.specs.declared.texts.Word.{Word}
-use Rattle.printing.specs.declared.texts.Word.the-variants.{Answer, Rewrite, Claims, Bound, Margins}
+use Rattle.printing.specs.declared.texts.Word.the-variants.{Answer, Rewrite, Claims, Bound, Margins, Rows, Filled}
 
 -- the first n bytes of the buffer are the text to print; that there are so many follows, and is said for the caller's `&out[..n]`
 pub record Printed (n : ℕ) (text out : List ℕ) : Type 0 where
@@ -50,13 +52,28 @@ abbrev pub Told : Written → (before : List ℕ) → (n : ℕ) → (after : Lis
 Told (written.Bytes m) before n after = (n ≡ m) × (after ≡ before)
 Told (written.Refused w) before n after = Printed n (refusalText w) after
 
--- what a word says of a table; which borders may rise is asked of it by marks, or `all` of them (02, E13); a file goes with some words: the list of claims (02, E10)
+-- the rows of a table, as the planners' sheet has them (02, E11)
+abbrev pub rowsIn : Table → rowsheet.Rows
+rowsIn t = record { rows = t .rows; factors = t .factors }
+
+-- .. and a table with others in their place
+abbrev pub withRows : Table → rowsheet.Rows → Table
+withRows t r = lent (t .header) (t .nets) (t .allocated) (t .borders) (r .rows) (r .factors)
+
+-- .. those of a sheet: the sheet is judged (1, 2, 3), and the table is written
+unfoldable pub filledBy : (sheet : List ℕ) → Table → Judged (List ℕ)
+filledBy sheet t = then (readSheet (t .header) sheet) (λ r. passed (tableText (withRows t r)))
+
+-- what a word says of a table; which borders may rise is asked of it by marks, or `all` of them (02, E13); a file goes with some words: the list of claims (02, E10),
+-- the sheet of rows (02, E11)
 unfoldable pub saidOf : Word → (all : Bool) → (marks file : List ℕ) → Table → Judged (List ℕ)
 saidOf Answer all marks file t = then (outcomeFor all marks t) (λ r. passed (resultText r))
 saidOf Rewrite all marks file t = passed (tableText t)
 saidOf Claims all marks file t = publishedOf t (claimsIn file)
 saidOf Bound all marks file t = then (judgeAsked all (t .header .borders) marks (boundMarked (mayRise all marks) t)) (λ m. passed (boundText m))
 saidOf Margins all marks file t = passed (partsText (recordsOf t))
+saidOf Rows all marks file t = passed (sheetOf (t .header .zones) (rowsIn t))
+saidOf Filled all marks file t = filledBy file t
 
 -- .. of the table of a text
 unfoldable pub wordOf : Word → (all : Bool) → (marks file text sheet : List ℕ) → List ℕ

@@ -3,7 +3,6 @@
 pub mod arguments;
 pub mod input;
 pub mod output;
-pub mod rows;
 pub mod sheets;
 pub mod tasks;
 pub mod texts;

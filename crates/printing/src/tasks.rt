@@ -6,7 +6,6 @@ use crate::arguments;
 use crate::arguments::Held;
 use crate::output;
 use crate::output::Ended;
-use crate::rows;
 use crate::sheets;
 use crate::sheets::Rows;
 use crate::texts;
@@ -16,9 +15,6 @@ pub enum Task {
     Text(Word),
     // printed row by row
     Corners(Rows),
-    // the rows as a sheet, or the table with the rows of the sheet in a file
-    Sheet,
-    Filled,
 }
 
 pub enum Asked {
@@ -97,9 +93,9 @@ fn with_file(text: Word, word: usize, after: usize) -> Asked {
 // A file may.
 fn sheet_or_file(after: usize) -> Asked {
     if after == 0 {
-        return Asked::Task(Task::Sheet);
+        return text_of(Word::Rows);
     }
-    Asked::Task(Task::Filled)
+    text_of(Word::Filled)
 }
 
 // Which argument names the file that goes with a task, of what stands after its word; 0 where none goes with it.
@@ -107,8 +103,6 @@ pub fn file_of(task: Task, after: usize) -> usize {
     match task {
         Task::Text(word) => file_with(word, after),
         Task::Corners(_) => 0,
-        Task::Sheet => 0,
-        Task::Filled => after,
     }
 }
 
@@ -119,6 +113,8 @@ fn file_with(word: Word, after: usize) -> usize {
         Word::Claims => after,
         Word::Bound => 0,
         Word::Margins => 0,
+        Word::Rows => 0,
+        Word::Filled => after,
     }
 }
 
@@ -138,8 +134,6 @@ pub fn takes_marks(task: Task) -> bool {
     match task {
         Task::Text(word) => marks_go_with(word),
         Task::Corners(_) => false,
-        Task::Sheet => false,
-        Task::Filled => false,
     }
 }
 
@@ -150,6 +144,8 @@ fn marks_go_with(word: Word) -> bool {
         Word::Claims => false,
         Word::Bound => true,
         Word::Margins => false,
+        Word::Rows => false,
+        Word::Filled => false,
     }
 }
 
@@ -168,8 +164,6 @@ pub fn print<'a>(
     match task {
         Task::Text(word) => print_text(word, all, marks, file, text, sheet, out),
         Task::Corners(rows) => sheets::print(text, sheet, rows, out),
-        Task::Sheet => rows::print(false, file, text, sheet, out),
-        Task::Filled => rows::print(true, file, text, sheet, out),
     }
 }
 

@@ -5,12 +5,16 @@ ghost use Prim.Native.Nat.{_*_, _≤_};
 ghost use lib.ListN.{length};
 ghost use Rattle.kinds.specs.Limits.{zonesMost, bordersMost, rowsMost, bytesMost};
 ghost use Rattle.kinds.specs.Refusals.{then};
-ghost use Rattle.table.specs.Table.{lent, judgeLent};
+ghost use Rattle.table.specs.Table.{lent, front, judgeLent};
+ghost use Rattle.claimtext.specs.Published.{publishedAnswer};
 ghost use Rattle.result.specs.Refusal.{refusalText, refusalMost};
-ghost use Rattle.printing.specs.Printed.{bytesOf, Told, toldText, saidOf, wordOf, wordText, Printed};
+ghost use Rattle.answer.specs.Made.{outcomeLent, printed};
+ghost use Rattle.printing.specs.Printed.{bytesOf, Told, toldText, filledBy, saidOf, wordOf, wordText, Printed};
+ghost use Rattle.printing.specs.Lent.{Sound, tableSaid, boundSaid, marginsSaid, sheetSaid};
 use kinds::Border;
 use kinds::BorderRecord;
 use kinds::Header;
+use kinds::Judgement;
 use kinds::Read;
 use kinds::Refusal;
 use kinds::Row;
@@ -27,6 +31,10 @@ pub enum Word {
     Bound,
     // what each row's margin is made of
     Margins,
+    // the rows as the planners' sheet (02, E11)
+    Rows,
+    // .. and the table with all its rows taken from the sheet in a file
+    Filled,
 }
 
 pub fn put<'a>(
@@ -105,7 +113,7 @@ fn put_in<'a>(
     }
 }
 
-// The same of lent tables.
+// The same of lent tables that hold a good one.
 fn put_lent(
     word: Word,
     all: bool,
@@ -115,22 +123,131 @@ fn put_lent(
     z: &[i64],
     t: &[i64],
     b: &[BorderRecord],
+    c: &mut [RowRecord],
+    f: &mut [i64],
+    out: &mut [u8],
+) -> usize
+    requires { ⌜ Sound (lent h (now z) (now t) (now b) (now c) (now f)) × (length (now file) ≤ bytesMost) × (bytesMost ≤ length (now out)) ⌝ }
+    ensures { λ r. ⌜ Printed r (toldText (then (judgeLent (lent h (now (z .entry)) (now (t .entry)) (now (b .entry)) (now (c .entry)) (now (f .entry)))) (saidOf word all (now (marks .entry)) (now (file .entry))))) (now (out .exit)) ⌝ }
+{
+    match word {
+        Word::Answer => put_answer(all, marks, h, z, t, b, c, f, out),
+        Word::Rewrite => put_table(h, z, t, b, c, f, out),
+        Word::Claims => put_claims(file, h, z, t, b, c, f, out),
+        Word::Bound => put_bound(all, marks, h, z, t, b, c, f, out),
+        Word::Margins => put_margins(h, z, t, b, c, f, out),
+        Word::Rows => put_rows(h, c, f, out),
+        Word::Filled => put_filled(file, h, z, t, b, c, f, out),
+    }
+}
+
+fn put_answer(
+    all: bool,
+    marks: &[u64],
+    h: Header,
+    z: &[i64],
+    t: &[i64],
+    b: &[BorderRecord],
     c: &[RowRecord],
     f: &[i64],
     out: &mut [u8],
 ) -> usize
-    requires { ⌜ (length (now file) ≤ bytesMost) × (bytesMost ≤ length (now out)) ⌝ }
-    ensures { λ r. ⌜ Printed r (toldText (then (judgeLent (lent h (now (z .entry)) (now (t .entry)) (now (b .entry)) (now (c .entry)) (now (f .entry)))) (saidOf word all (now (marks .entry)) (now (file .entry))))) (now (out .exit)) ⌝ }
+    requires { ⌜ bytesMost ≤ length (now out) ⌝ }
+    ensures { λ r. ⌜ Printed r (printed (outcomeLent all (now (marks .entry)) (lent h (now (z .entry)) (now (t .entry)) (now (b .entry)) (now (c .entry)) (now (f .entry))))) (now (out .exit)) ⌝ }
 {
-    match word {
-        Word::Answer => bytes_of(answer::answer_lent(h, z, t, b, c, f, all, marks, out)),
-        Word::Rewrite => told(writing::write(h, z, t, b, c, f, out), out),
-        Word::Claims => told(claimtext::published_text(h, z, t, b, c, f, file, out), out),
-        Word::Bound => told(
-            boundtext::bound_text(h, z, t, b, c, f, all, marks, out),
-            out,
-        ),
-        Word::Margins => told(partstext::margins_text(h, z, t, b, c, f, out), out),
+    bytes_of(answer::answer_lent(h, z, t, b, c, f, all, marks, out))
+}
+
+fn put_table(
+    h: Header,
+    z: &[i64],
+    t: &[i64],
+    b: &[BorderRecord],
+    c: &[RowRecord],
+    f: &[i64],
+    out: &mut [u8],
+) -> usize
+    requires { ⌜ bytesMost ≤ length (now out) ⌝ }
+    ensures { λ r. ⌜ Printed r (toldText (tableSaid (lent h (now (z .entry)) (now (t .entry)) (now (b .entry)) (now (c .entry)) (now (f .entry))))) (now (out .exit)) ⌝ }
+{
+    told(writing::write(h, z, t, b, c, f, out), out)
+}
+
+fn put_claims(
+    file: &[u8],
+    h: Header,
+    z: &[i64],
+    t: &[i64],
+    b: &[BorderRecord],
+    c: &[RowRecord],
+    f: &[i64],
+    out: &mut [u8],
+) -> usize
+    requires { ⌜ bytesMost ≤ length (now out) ⌝ }
+    ensures { λ r. ⌜ Printed r (toldText (publishedAnswer (lent h (now (z .entry)) (now (t .entry)) (now (b .entry)) (now (c .entry)) (now (f .entry))) (now (file .entry)))) (now (out .exit)) ⌝ }
+{
+    told(claimtext::published_text(h, z, t, b, c, f, file, out), out)
+}
+
+fn put_bound(
+    all: bool,
+    marks: &[u64],
+    h: Header,
+    z: &[i64],
+    t: &[i64],
+    b: &[BorderRecord],
+    c: &[RowRecord],
+    f: &[i64],
+    out: &mut [u8],
+) -> usize
+    requires { ⌜ bytesMost ≤ length (now out) ⌝ }
+    ensures { λ r. ⌜ Printed r (toldText (boundSaid all (now (marks .entry)) (lent h (now (z .entry)) (now (t .entry)) (now (b .entry)) (now (c .entry)) (now (f .entry))))) (now (out .exit)) ⌝ }
+{
+    told(
+        boundtext::bound_text(h, z, t, b, c, f, all, marks, out),
+        out,
+    )
+}
+
+fn put_margins(
+    h: Header,
+    z: &[i64],
+    t: &[i64],
+    b: &[BorderRecord],
+    c: &[RowRecord],
+    f: &[i64],
+    out: &mut [u8],
+) -> usize
+    requires { ⌜ bytesMost ≤ length (now out) ⌝ }
+    ensures { λ r. ⌜ Printed r (toldText (marginsSaid (lent h (now (z .entry)) (now (t .entry)) (now (b .entry)) (now (c .entry)) (now (f .entry))))) (now (out .exit)) ⌝ }
+{
+    told(partstext::margins_text(h, z, t, b, c, f, out), out)
+}
+
+fn put_rows(h: Header, c: &[RowRecord], f: &[i64], out: &mut [u8]) -> usize
+    requires { ⌜ bytesMost ≤ length (now out) ⌝ }
+    ensures { λ r. ⌜ Printed r (toldText (sheetSaid h (now (c .entry)) (now (f .entry)))) (now (out .exit)) ⌝ }
+{
+    told(rowsheet::write_rows(h, c, f, out), out)
+}
+
+// The rows of the file take the place of those that were read.
+fn put_filled(
+    file: &[u8],
+    h: Header,
+    z: &[i64],
+    t: &[i64],
+    b: &[BorderRecord],
+    c: &mut [RowRecord],
+    f: &mut [i64],
+    out: &mut [u8],
+) -> usize
+    requires { ⌜ Sound (lent h (now z) (now t) (now b) (now c) (now f)) × (bytesMost ≤ length (now out)) ⌝ }
+    ensures { λ r. ⌜ Printed r (toldText (filledBy (now (file .entry)) (front (lent h (now (z .entry)) (now (t .entry)) (now (b .entry)) (now (c .entry)) (now (f .entry)))))) (now (out .exit)) ⌝ }
+{
+    match rowsheet::read_rows(h, file, c, f) {
+        Judgement::Passed => put_table(h, z, t, b, c, f, out),
+        Judgement::Refused(w) => refusal_line(w, out),
     }
 }
 

@@ -36,7 +36,7 @@ use Rattle.runs.proofs.RowLaws.{emptyRow, values-at, stretch-of, cut, cut-long,
 use Rattle.lines.specs.SheetLine.{sheetLine, sheetText}
 use Rattle.rowsheet.specs.RowSheet.{Rows, rowsOf, firstLineNo, sheetRows, readSheet, RowsLeft, readRowsLeft, sheetOf, rowsInRange, judgeRows, writeRowsLeft}
 use Rattle.rowsheet.proofs.LengthLaws.{sheet-most}
-use Rattle.rowsheet.proofs.SheetLaws.{SheetRun, sheet-run, rows-many, factors-many, room-passed, room-enough}
+use Rattle.rowsheet.proofs.SheetLaws.{sheet-run, rows-many, factors-many, room-passed, room-enough}
 
 -- ---- the sheet of rows is the lines that hold them
 abbrev lineTextOf : (i : ℕ) → RowLine → List ℕ
@@ -175,7 +175,16 @@ rows-taken h sheet c f e =
     let n = room-passed h (length c) (length f) _ (d .0) (r .second) in
     record { it = r .it; read = r .first; left = either-passed _ _ (then-next _ (r .first) ∙ sym (room-enough h (length c) (length f) (passed (r .it)) (n .0) (n .1))) }
 
--- rows that were read are judged good, whatever stands behind them
+-- rows that were read are in range ..
+pub read-good : (h : Header) (sheet : List ℕ) (t : Rows) → readSheet h sheet ≡ passed t → (i : ℕ) → i < h .rows → rowGood (getD (t .rows) i []) (stretch (h .zones) (t .factors) i) ≡ true
+read-good h sheet t e i l =
+    let u = sheet-run h sheet t e in
+    let row = fits-at (RowHeldAt (h .zones)) emptyRow (u .lines) 0 (u .held) i (omega (arith, u .many)) in
+    let v : getD (t .rows) i [] ≡ getD (u .lines) i emptyRow .values = ap (λ (r : Rows). getD (r .rows) i []) (u .is) ∙ values-at (u .lines) i in
+    let k : stretch (h .zones) (t .factors) i ≡ getD (u .lines) i emptyRow .factors = ap (λ (r : Rows). stretch (h .zones) (r .factors) i) (u .is) ∙ stretch-of (h .zones) (u .lines) 0 (u .held) i (omega (arith, u .many)) in
+    rw (v, k) (row .good)
+
+-- .. and so judged good, whatever stands behind them
 read-judged : (h : Header) (sheet : List ℕ) (t : Rows) (c : List (List ℤ)) (f : List ℤ) → readSheet h sheet ≡ passed t → judgeRows h (over (t .rows) c) (over (t .factors) f) ≡ passed t
 unfolding judgeRows rowsInRange
 read-judged h sheet t c f e =
@@ -186,14 +195,7 @@ read-judged h sheet t c f e =
     let factors : take (h .rows * h .zones) (over (t .factors) f) ≡ t .factors = take-at (t .factors) _ (h .rows * h .zones) m in
     unless-ok _ _ (u .fits)
     ∙ sym (room-enough h _ _ _ (omega (arith, n, length-append (t .rows) (drop (length (t .rows)) c))) (omega (arith, m, length-append (t .factors) (drop (length (t .factors)) f))))
-    ∙ rw (rows, factors) (none-next _ _ _ _ (λ i l. ap not (in-range u i (omega (arith, n)))))
-  where
-    in-range : (u : SheetRun h sheet t) (i : ℕ) → i < h .rows → rowGood (getD (t .rows) i []) (stretch (h .zones) (t .factors) i) ≡ true
-    in-range u i l =
-        let row = fits-at (RowHeldAt (h .zones)) emptyRow (u .lines) 0 (u .held) i (omega (arith, u .many)) in
-        let v : getD (t .rows) i [] ≡ getD (u .lines) i emptyRow .values = ap (λ (r : Rows). getD (r .rows) i []) (u .is) ∙ values-at (u .lines) i in
-        let k : stretch (h .zones) (t .factors) i ≡ getD (u .lines) i emptyRow .factors = ap (λ (r : Rows). stretch (h .zones) (r .factors) i) (u .is) ∙ stretch-of (h .zones) (u .lines) 0 (u .held) i (omega (arith, u .many)) in
-        rw (v, k) (row .good)
+    ∙ rw (rows, factors) (none-next _ _ _ _ (λ i l. ap not (read-good h sheet t e i (omega (arith, n)))))
 
 pub read-then-write : (h : Header) (sheet : List ℕ) (c : List (List ℤ)) (f : List ℤ) (out : List ℕ) → let r = readRowsLeft h sheet c f in r .answer ≡ passed tt → length sheet ≤ length out
     → writeRowsLeft h (r .c) (r .f) out ≡ record { answer = passed (length sheet); out = over sheet out }

@@ -1,8 +1,8 @@
--- `printing::rows::put_table` meets its contract: the law `table-printed`.
+-- `printing::texts::put_table` meets its contract: the law `table-printed`.
 use borrow.Author.Needs.{needs}
-use Rattle.printing.proofs.RowsLaws.{table-printed}
-use Rattle.printing.proofs.rows.put_table.Statement.{statement}
-use Rattle.printing.proofs.rows.put_table.Tie as tie
+use Rattle.printing.proofs.PrintedLaws.{table-printed}
+use Rattle.printing.proofs.texts.put_table.Statement.{statement}
+use Rattle.printing.proofs.texts.put_table.Tie as tie
 
 returns : tie.Need-returns
 returns c =

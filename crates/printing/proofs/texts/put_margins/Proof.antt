@@ -1,0 +1,13 @@
+-- `printing::texts::put_margins` meets its contract: the law `margins-printed`.
+use borrow.Author.Needs.{needs}
+use Rattle.printing.proofs.KnownLaws.{margins-printed}
+use Rattle.printing.proofs.texts.put_margins.Statement.{statement}
+use Rattle.printing.proofs.texts.put_margins.Tie as tie
+
+returns : tie.Need-returns
+returns c =
+    let said = c .before .before .before .before .before .before .margins-text in
+    margins-printed _ _ (said .result) (c .before .before .before .before .before .before .before .before .before .pre) (said .ensures) (c .before .before .told .ensures)
+
+pub put-margins-spec : {M : Type 1} → statement M
+put-margins-spec = tie.close (tie.spec (λ c κs. search needs) (λ c κs. search needs) (λ c. search needs) returns)
