@@ -4,16 +4,17 @@
 // rise, after `--corrections` and a file its rows are put in, until the next word; `answer` is the word for the answer.
 ghost use Prim.Native.Nat.{_≤_};
 ghost use lib.ListN.{length};
-ghost use Rattle.printing.specs.Printed.{sheetRoom};
+ghost use Rattle.printing.specs.Room.{sheetRoom};
+use command::MARKS_ROOM;
+use command::TEXT_ROOM;
+use command::arguments;
+use command::arguments::Held;
+use command::asked;
+use command::asked::Asked;
+use command::input;
 use libc::STDOUT_FILENO;
-use printing::MARKS_ROOM;
-use printing::TEXT_ROOM;
-use printing::arguments;
-use printing::arguments::Held;
-use printing::input;
 use printing::sheets;
 use printing::tasks;
-use printing::tasks::Asked;
 use printing::tasks::Task;
 
 // What was asked for last, by its place among the arguments: the word, what stands after it, the marks, and an option whose value comes next.
@@ -70,7 +71,7 @@ fn take(i: usize, mut setting: Setting) -> Setting {
     if arguments::is(i, b"answer") {
         return word_at(0);
     }
-    if let Asked::Task(_) = tasks::understand(i, 0) {
+    if let Asked::Task(_) = asked::understand(i, 0) {
         return word_at(i);
     }
     take_rest(i, setting)
@@ -101,7 +102,7 @@ fn take_rest(i: usize, mut setting: Setting) -> Setting {
 }
 
 fn one(i: usize, setting: Setting) {
-    let Asked::Task(task) = tasks::understand(setting.word, setting.after) else {
+    let Asked::Task(task) = asked::understand(setting.word, setting.after) else {
         return;
     };
     let mut text = [0u8; TEXT_ROOM];
@@ -155,7 +156,7 @@ fn print_corrected(
 )
     requires { ⌜ sheetRoom ≤ length (now out) ⌝ }
 {
-    let with = input::named(tasks::file_of(task, setting.after), file);
+    let with = input::named(asked::file_of(task, setting.after), file);
     if with.failed {
         return;
     }

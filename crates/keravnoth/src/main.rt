@@ -7,19 +7,21 @@ mod options;
 
 ghost use Prim.Native.Nat.{_≤_};
 ghost use lib.ListN.{length};
-ghost use Rattle.printing.specs.Printed.{sheetRoom};
+ghost use Rattle.printing.specs.Room.{sheetRoom};
+use command::MARKS_ROOM;
+use command::TEXT_ROOM;
+use command::arguments;
+use command::asked;
+use command::asked::Asked;
+use command::input;
+use command::usage;
+use command::words;
 use libc::STDOUT_FILENO;
 use options::Command;
-use printing::MARKS_ROOM;
-use printing::TEXT_ROOM;
-use printing::arguments;
-use printing::input;
 use printing::output::Ended;
 use printing::sheets;
 use printing::tasks;
-use printing::tasks::Asked;
 use printing::tasks::Task;
-use printing::words;
 
 fn main() {
     let command = options::read_arguments();
@@ -31,10 +33,10 @@ fn obey(command: Command) -> Ended {
     if command.wrong > 0 {
         return misuse(command.wrong);
     }
-    match tasks::understand(command.word, command.after) {
+    match asked::understand(command.word, command.after) {
         Asked::Task(task) => run(task, command),
-        Asked::Help => written(words::usage(STDOUT_FILENO)),
-        Asked::Version => written(words::version(STDOUT_FILENO)),
+        Asked::Help => written(usage::usage(STDOUT_FILENO)),
+        Asked::Version => written(usage::version(STDOUT_FILENO)),
         Asked::Wrong(i) => misuse(i),
     }
 }
@@ -100,7 +102,7 @@ fn run_corrected(
 ) -> Ended
     requires { ⌜ sheetRoom ≤ length (now out) ⌝ }
 {
-    let with = input::named(tasks::file_of(task, command.after), file);
+    let with = input::named(asked::file_of(task, command.after), file);
     if with.failed {
         return Ended::Failed;
     }

@@ -1,7 +1,7 @@
 // The arguments, by their places: a word, what stands after it, and options, which stand before or after the word.
-use printing::arguments;
-use printing::tasks;
-use printing::tasks::Asked;
+use command::arguments;
+use command::asked;
+use command::asked::Asked;
 use printing::tasks::Task;
 
 // Where each thing stands among the arguments, 0 where it does not.
@@ -136,7 +136,7 @@ fn whole(command: Command) -> Command {
     if command.due > 0 {
         return refuse(command, command.due);
     }
-    match tasks::understand(command.word, command.after) {
+    match asked::understand(command.word, command.after) {
         Asked::Task(task) => with_task(command, task),
         Asked::Help => without_table(command),
         Asked::Version => without_table(command),
@@ -145,7 +145,7 @@ fn whole(command: Command) -> Command {
 }
 
 fn with_task(command: Command, task: Task) -> Command {
-    if tasks::takes_marks(task) {
+    if asked::takes_marks(task) {
         return command;
     }
     without(command, command.marks)

@@ -49,7 +49,8 @@ use Rattle.corners.proofs.SheetLaws.{Sheet, judged-sheet, flows-long}
 use Rattle.cornertext.specs.CornerText.{sheetMost, cornerLineAt, cornersText, sheetText, cornerTextLeft}
 use Rattle.cornertext.proofs.CornerTextLaws.{corner-line-long}
 use Rattle.result.specs.Refusal.{refusalText}
-use Rattle.printing.specs.Printed.{oneSheet, everySheet, sheetAt, sheetRows, sheetLineMost, sheetRoom, Printed}
+use Rattle.printing.specs.Printed.{oneSheet, everySheet, sheetAt, sheetRows, Printed}
+use Rattle.printing.specs.Room.{sheetLineMost, sheetRoom}
 use Rattle.printing.proofs.PrintedLaws.{over-printed}
 
 -- ---- how long a row's sheet is

@@ -1,3 +1,4 @@
+pub mod Room
 pub mod Printed
 pub mod Lent
 pub mod Heard

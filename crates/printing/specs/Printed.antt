@@ -3,7 +3,7 @@
 use mathlib.Core.Path.{_≡_}
 use mathlib.Core.Bool.{Bool, cond}
 use mathlib.Core.List.{List}
-use Prim.Native.Nat.{ℕ, _+_, _*_, _≤_}
+use Prim.Native.Nat.{ℕ, _≤_}
 use lib.Dec.{leb, ltb}
 use lib.ListN.{length, take}
 use Rattle.kinds.specs.declared.Header.{Header}
@@ -18,7 +18,7 @@ use Rattle.writing.specs.Writing.{tableText}
 use Rattle.rowsheet.specs.RowSheet as rowsheet
 use Rattle.rowsheet.specs.RowSheet.{readSheet, sheetOf}
 use Rattle.corners.specs.Corners.{sheetBordersMost, judgeCorners}
-use Rattle.cornertext.specs.CornerText.{sheetMost, sheetText}
+use Rattle.cornertext.specs.CornerText.{sheetText}
 use Rattle.marks.specs.Marks.{judgeAsked, mayRise}
 use Rattle.parts.specs.Parts.{recordsOf}
 use Rattle.partstext.specs.PartsText.{partsText}
@@ -98,11 +98,3 @@ sheetAt given row = either (judgeCorners given row) (λ t. sheetText t row) refu
 -- .. for so many rows: where the table has no sheet, the line E stands for all
 abbrev pub sheetRows : Header → ℕ
 sheetRows h = cond (leb (h .borders) sheetBordersMost) (h .rows) 1
-
--- no line of a sheet is longer: a letter, three tabs, an LF, a row of 3 digits, a corner of 4, a flow of 14 and its minus
-abbrev pub sheetLineMost : ℕ
-sheetLineMost = 5 + 3 + 4 + 15
-
--- .. and no row's sheet
-abbrev pub sheetRoom : ℕ
-sheetRoom = sheetMost * sheetLineMost

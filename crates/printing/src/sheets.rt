@@ -4,7 +4,8 @@ ghost use mathlib.Core.Path.{_≡_};
 ghost use Prim.Native.Nat.{_≤_};
 ghost use lib.ListN.{length};
 ghost use Rattle.table.specs.Table.{lent};
-ghost use Rattle.printing.specs.Printed.{sheetAt, sheetRows, sheetRoom, Printed};
+ghost use Rattle.printing.specs.Printed.{sheetAt, sheetRows, Printed};
+ghost use Rattle.printing.specs.Room.{sheetRoom};
 use crate::output::Ended;
 use crate::output::put;
 use crate::texts::refusal_line;
@@ -12,6 +13,7 @@ use kinds::Border;
 use kinds::BorderRecord;
 use kinds::Header;
 use kinds::Read;
+use kinds::Refusal;
 use kinds::Row;
 use kinds::RowRecord;
 use kinds::Written;
@@ -108,11 +110,15 @@ fn print_in<'a>(
 {
     match reading::read_corrected(text, sheet, z, t, b, c, f) {
         Read::Table(h) => print_rows(h, z, t, b, c, f, rows, out),
-        Read::Refused(w) => {
-            let n = refusal_line(w, out);
-            put(&out[..n])
-        }
+        Read::Refused(w) => print_refusal(w, out),
     }
+}
+
+fn print_refusal(w: Refusal, out: &mut [u8]) -> Ended
+    requires { ⌜ sheetRoom ≤ length (now out) ⌝ }
+{
+    let n = refusal_line(w, out);
+    put(&out[..n])
 }
 
 fn print_rows(

@@ -1,9 +1,9 @@
--- `printing::arguments::kept` meets its contract.
+-- `command::arguments::kept` meets its contract.
 use native.Mathlib.Omega.{arith}
 use lib.ListN.{length-take}
 use borrow.Author.Needs.{needs}
-use Rattle.printing.proofs.arguments.kept.Statement.{statement}
-use Rattle.printing.proofs.arguments.kept.Tie as tie
+use Rattle.command.proofs.arguments.kept.Statement.{statement}
+use Rattle.command.proofs.arguments.kept.Tie as tie
 
 returns : tie.Need-returns
 returns c = (omega arith, simp length-take (omega arith))

@@ -1,12 +1,12 @@
--- `printing::input::read_text` meets its contract. The invariant: what was read is within the text, whose length has not changed. The measure is the room left:
+-- `command::input::read_text` meets its contract. The invariant: what was read is within the text, whose length has not changed. The measure is the room left:
 -- a read that takes nothing ends the loop.
 use Prim.Native.Nat.{_≤_, _-_}
 use mathlib.Core.Path.{_≡_}
 use native.Mathlib.Omega.{arith}
 use lib.ListN.{length, length-take}
 use borrow.Author.Needs.{needs}
-use Rattle.printing.proofs.input.read_text.Statement.{statement}
-use Rattle.printing.proofs.input.read_text.Tie as tie
+use Rattle.command.proofs.input.read_text.Statement.{statement}
+use Rattle.command.proofs.input.read_text.Tie as tie
 
 abbrev Inv-loop : tie.InvT-loop
 Inv-loop fd text₀ done₀ text done = (done ≤ length text) × (length text ≡ length text₀)

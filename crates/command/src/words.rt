@@ -1,77 +1,7 @@
-// What the program says to people: how it is used, which build it is, which argument is wrong, what a refusal means and what to look at.
+// What the program says to people: which argument is wrong, what a refusal means and what to look at.
 // On a refusal standard output holds the E line alone (01, "Result text"), so its meaning goes to standard error.
+use crate::usage::usage;
 use libc::STDERR_FILENO;
-
-// How the program is used. False where not all could be written.
-pub fn usage(fd: i32) -> bool {
-    io::write_all(
-        fd,
-        b"usage: keravnoth < TABLE              the result, or a line E, number, place, byte\n",
-    )
-        && io::write_all(
-            fd,
-            b"       keravnoth rewrite < TABLE      the table, written again\n",
-        )
-        && io::write_all(
-            fd,
-            b"       keravnoth corners < TABLE      every corner's flow on each row\n",
-        )
-        && io::write_all(fd, b"       keravnoth corners ROW < TABLE  .. on one row\n")
-        && io::write_all(
-            fd,
-            b"       keravnoth claims FILE < TABLE  the rows that are left when those claimed in FILE go\n",
-        )
-        && io::write_all(
-            fd,
-            b"       keravnoth rows < TABLE         the rows as a semicolon sheet\n",
-        )
-        && io::write_all(
-            fd,
-            b"       keravnoth rows FILE < TABLE    the table with all its rows taken from the sheet FILE\n",
-        )
-        && io::write_all(
-            fd,
-            b"       keravnoth bound < TABLE        how many rounds there can be at most: U, N, L, 2 N L\n",
-        )
-        && io::write_all(
-            fd,
-            b"       keravnoth margins < TABLE      what each row's margin is made of\n",
-        )
-        && io::write_all(fd, b"       keravnoth help, --help         this\n")
-        && io::write_all(
-            fd,
-            b"       keravnoth --version            which rules are built, and in which logic they are proved\n",
-        )
-        && options(fd)
-        && io::write_all(
-            fd,
-            b"status: 0 answered, 1 refused (the E line), 2 misuse, or input or output that failed\n",
-        )
-}
-
-fn options(fd: i32) -> bool {
-    io::write_all(
-        fd,
-        b"option: --corrections FILE            rows of the table replaced by those of a correction sheet\n",
-    )
-        && io::write_all(
-            fd,
-            b"        --marks LIST                  only these borders rise: their indices with commas between; with the result and bound\n",
-        )
-        && io::write_all(
-            fd,
-            b"        --status-fd N                 the status digit goes to descriptor N\n",
-        )
-}
-
-// Which build this is. The gate holds these words to the notes of what was built, to the C header and to the pin of the kit.
-pub fn version(fd: i32) -> bool {
-    io::write_all(
-        fd,
-        b"keravnoth: rules: document 01; requests of document 02: E1, E2, E3, E4, E5, E6, E7, E8, E9, E10, E11, E12, E13, E14; C interface: 13\n",
-    )
-        && io::write_all(fd, b"proved in the Rattle kit's logic 064da1ca440f63e7\n")
-}
 
 // Names the argument that is wrong, and says how the program is used.
 pub fn misuse(i: usize) {
@@ -98,7 +28,19 @@ pub fn unread(name: &[u8]) {
 }
 
 // One line for a refusal, by its number, place and byte (01, "When the table is turned away"; 02, E1, E2, E3, E5, E6, E10 and E13).
+// The numbers are told in groups: a function with many literals is slow to check.
 pub fn refusal(number: u64, place: u64, byte: u64) {
+    if number <= 3 {
+        return of_text(number, place, byte);
+    }
+    if number <= 7 {
+        return of_hour(number, place);
+    }
+    of_request(number, place, byte)
+}
+
+// 1 to 3: a text.
+fn of_text(number: u64, place: u64, byte: u64) {
     match number {
         1 => say(
             b"keravnoth: the table, or a file that goes with it, has more than 65,536 bytes: send one hour alone\n",
@@ -108,11 +50,17 @@ pub fn refusal(number: u64, place: u64, byte: u64) {
             byte,
             b" has the wrong form, kind, index or field count, is missing, has no LF, or is extra: look at its letter, index, tabs, LF and stray bytes (a CR, a BOM, a blank)\n",
         ),
-        3 => say_line(
+        _ => say_line(
             place,
             byte,
             b" has a value outside its range (also a zone or hub that does not exist, or two equal ones; in line 1 a count or the default of R): compare its fields with the ranges in docs/GUIDE.md\n",
         ),
+    }
+}
+
+// 4 to 7: the table that it holds.
+fn of_hour(number: u64, place: u64) {
+    match number {
         4 => say_place(
             b"keravnoth: border ",
             place,
@@ -126,11 +74,17 @@ pub fn refusal(number: u64, place: u64, byte: u64) {
             place,
             b" loads no kept row, so nothing limits it: leave it out, or add the row that does\n",
         ),
-        7 => say_place(
+        _ => say_place(
             b"keravnoth: row ",
             place,
             b" has a starting margin (RAM - S) below 0: look at its CVA and IVA\n",
         ),
+    }
+}
+
+// From 9 on: what is asked of it, and what goes with it.
+fn of_request(number: u64, place: u64, byte: u64) {
+    match number {
         9 => say_place(
             b"keravnoth: no corner sheet: the table has more than 12 borders, or no such row (",
             place,

@@ -1,11 +1,11 @@
--- `printing::arguments::numbers_in` meets its contract and ends. The invariant: the list is as long as it came. The measure is the number of turns left.
+-- `command::arguments::numbers_in` meets its contract and ends. The invariant: the list is as long as it came. The measure is the number of turns left.
 use Prim.Native.Nat.{_-_}
 use mathlib.Core.Path.{_≡_}
 use native.Mathlib.Omega.{arith}
 use lib.ListN.{length}
 use borrow.Author.Needs.{needs}
-use Rattle.printing.proofs.arguments.numbers_in.Statement.{statement}
-use Rattle.printing.proofs.arguments.numbers_in.Tie as tie
+use Rattle.command.proofs.arguments.numbers_in.Statement.{statement}
+use Rattle.command.proofs.arguments.numbers_in.Tie as tie
 
 abbrev Inv-loop : tie.InvT-loop
 Inv-loop word list₀ at₀ k₀ k-end list at k = length list ≡ length list₀
