@@ -94,6 +94,11 @@ pub fn file_of(task: Task, after: usize) -> usize {
     }
 }
 
+// Whether one goes with it.
+pub fn takes_file(task: Task) -> bool {
+    file_of(task, 1) > 0
+}
+
 fn file_with(word: Word, after: usize) -> usize {
     match word {
         Word::Answer => 0,

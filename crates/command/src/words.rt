@@ -39,6 +39,26 @@ pub fn refusal(number: u64, place: u64, byte: u64) {
     of_request(number, place, byte)
 }
 
+// The same where the table itself is good, and what is refused is the file that goes with the word: a sheet of rows, or a list of claims.
+pub fn file_refusal(number: u64, place: u64, byte: u64) {
+    match number {
+        1 => say(
+            b"keravnoth: the file has more than 65,536 bytes: give the rows, or the claims, of one hour alone\n",
+        ),
+        2 => say_rows(
+            place,
+            byte,
+            b" has the wrong form, index or field count, is missing, has no LF, or is extra: look at its index, semicolons, decimals (three of a power, five of a factor), LF and stray bytes (a CR, a BOM, a blank)\n",
+        ),
+        3 => say_rows(
+            place,
+            byte,
+            b" has a value outside its range: compare its fields, in MW, with the ranges of a C line in docs/GUIDE.md\n",
+        ),
+        _ => refusal(number, place, byte),
+    }
+}
+
 // 1 to 3: a text.
 fn of_text(number: u64, place: u64, byte: u64) {
     match number {
@@ -135,6 +155,11 @@ fn say(words: &[u8]) {
 // A line of the table, and its byte where one is to blame.
 fn say_line(line: u64, byte: u64, after: &[u8]) {
     say_byte(b"keravnoth: line ", line, byte, after)
+}
+
+// .. of the sheet of rows.
+fn say_rows(line: u64, byte: u64, after: &[u8]) {
+    say_byte(b"keravnoth: the sheet: line ", line, byte, after)
 }
 
 // .. of the correction sheet.

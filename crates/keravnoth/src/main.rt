@@ -129,7 +129,31 @@ fn run_with(
     let n = table.bytes;
     let listed = arguments::list(list, marks);
     let m = listed.count;
-    explain(tasks::print(task, list == 0, &marks[..m], file, &text[..n], sheet, out))
+    let ended = tasks::print(task, list == 0, &marks[..m], file, &text[..n], sheet, out);
+    explain_task(task, ended, &text[..n], sheet, out)
+}
+
+// The E line does not tell the table from the file that goes with the word: where the table itself is good, the file is meant.
+fn explain_task<'a>(
+    task: Task,
+    ended: Ended,
+    text: &'a [u8],
+    sheet: &'a [u8],
+    out: &mut [u8],
+) -> Ended
+    requires { ⌜ sheetRoom ≤ length (now out) ⌝ }
+{
+    let Ended::Refused(number, place, byte) = ended else {
+        return explain(ended);
+    };
+    if !asked::takes_file(task) {
+        return explain(ended);
+    }
+    if !tasks::table_good(text, sheet, out) {
+        return explain(ended);
+    }
+    words::file_refusal(number, place, byte);
+    ended
 }
 
 // Says on standard error what people need to know. What was written before an error stays written: the message is all that can be said.

@@ -22,7 +22,7 @@ pub fn put(printed: &[u8]) -> Ended {
 }
 
 // Whether a text that is printed is a refusal, and which.
-fn heard(printed: &[u8]) -> Ended
+pub fn heard(printed: &[u8]) -> Ended
     ensures { λ r. ⌜ r ≡ heardOf (now (printed .entry)) ⌝ }
 {
     if printed.len() == 0 {

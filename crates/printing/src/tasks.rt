@@ -47,3 +47,15 @@ fn print_text<'a>(
     let n = texts::put(word, all, marks, file, text, sheet, out);
     output::put(&out[..n])
 }
+
+// Whether the table itself is good, as the sheet corrects it: what is refused then lies in the file that goes with a word. Nothing is printed.
+pub fn table_good<'a>(text: &'a [u8], sheet: &'a [u8], out: &mut [u8]) -> bool
+    requires { ⌜ sheetRoom ≤ length (now out) ⌝ }
+{
+    let none = [0u64; 1];
+    let n = texts::put(Word::Rewrite, true, &none, &text[..0], text, sheet, out);
+    let Ended::Answered = output::heard(&out[..n]) else {
+        return false;
+    };
+    true
+}
