@@ -39,6 +39,16 @@ pub struct Extracted {
     pub rounds: u64,
 }
 
+#[repr(C)]
+pub struct Bounded {
+    pub number: u32,
+    pub place: usize,
+    pub byte: usize,
+    pub sharers: u64,
+    pub bits: u64,
+    pub rounds: u64,
+}
+
 /// On x86-64 C hands answers of these sizes back through a place that the caller names in a hidden first argument. The
 /// library is compiled so on every machine (see `run`); elsewhere that argument has to be written out.
 macro_rules! linked {
@@ -83,6 +93,10 @@ linked! {
         out: *mut u8, nout: usize
     ) -> Written;
     fn keravnoth_answer(text: *const u8, n: usize, out: *mut u8, nout: usize) -> Written;
+    fn keravnoth_bound(
+        header: Header,
+        z: *const i64, nz: usize, t: *const i64, nt: usize, b: *const [i64; 5], nb: usize, c: *const [i64; 7], nc: usize, f: *const i64, nf: usize
+    ) -> Bounded;
 }
 
 /// The hours of the bench are of the day-ahead profile: they have no T.
@@ -123,4 +137,8 @@ pub fn result_text(t: &Lent, out: &mut [u8]) -> Written {
 
 pub fn answer(text: &[u8], out: &mut [u8]) -> Written {
     unsafe { keravnoth_answer(text.as_ptr(), text.len(), out.as_mut_ptr(), out.len()) }
+}
+
+pub fn bound(t: &Lent) -> Bounded {
+    unsafe { on_lent!(keravnoth_bound(t)) }
 }

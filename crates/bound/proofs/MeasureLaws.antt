@@ -1,22 +1,25 @@
--- What the loops of src/measure.rt need: the largest and the smallest so far, and bits by halving; how large N and L get; and that both ask for p at the rows and
--- borders of a grid alone. No contract cites this file.
-use mathlib.Core.Path.{_≡_, refl, sym, ap, ap₂, _∙_}
-use mathlib.Core.Bool.{Bool, true, false, cond, _||_}
+-- What the loops of src/measure.rt need: the largest so far, what a border could take alone, and bits by halving; how large N and L get; and that both ask for p at
+-- the rows and borders of a grid alone. No contract cites this file.
+use mathlib.Core.Path.{_≡_, refl, sym, ap, ap₂, _∙_, subst}
 use mathlib.Core.List.{List}
-use mathlib.Core.Option.{Option, none, some}
-use Prim.Native.Nat.{ℕ, zero, suc, _+_, _*_, _/_, _^_, _≤_, _<_, min, max}
-use native.Mathlib.Nat.{le-antisymm}
+use mathlib.Core.Logic.{⊎-elim}
+use Prim.Native.Nat.{ℕ, zero, suc, _+_, _*_, _/_, _^_, _≤_, _<_, max}
+use native.Mathlib.Nat.{not-suc-le-zero, le-antisymm, le-of-eq, le-refl, le-trans, le-max-left, max-le, mul-le-mul-right, le-div-iff-mul-le, div-le-self}
 use native.Mathlib.Numerals.{add-one}
 use native.Mathlib.Omega.{arith}
-use borrow.Author.Tests.{lt-ltb}
-use lib.Dec.{ltb}
-use Rattle.numbers.specs.Below.{at, ifZero, count, largest, lesser, least, orZero, table}
-use Rattle.numbers.proofs.BelowLaws.{count-cong, count-le, largest-le, largest-under, table-get}
+use Rattle.numbers.specs.Below.{at, count, largest, least, orZero, table}
+use Rattle.numbers.proofs.BelowLaws.{lt-suc-cases, le-or-lt, count-cong, count-le, largest-le, largest-under, table-get}
 use Rattle.rounds.specs.Rounds.{Grid, sharers, alone, mostSharers, bitsTo, bits, aloneBits}
+use Rattle.rounds.proofs.LeastLaws.{least-some, least-one}
+use Rattle.rounds.proofs.Round.{alone-le}
 use Rattle.rounds.proofs.Halving.{bits-least}
 use Rattle.rounds.proofs.Laid.{grid}
+use Rattle.walk.specs.Walk.{tight}
+use Rattle.walk.proofs.TightLaws.{tight-le, tight-share, tight-over}
+use Rattle.walk.proofs.BoundLaws.{Unloaded}
 use Rattle.bound.specs.declared.RoundsMost.{RoundsMost}
 use Rattle.bound.specs.Bound.{boundBy}
+use Rattle.bound.specs.Measure.{Over}
 
 -- ---- the largest of the first i, of n
 pub record Highest (f : ℕ → ℕ) (n i v : ℕ) : Type 0 where
@@ -49,45 +52,77 @@ most-is g {ns} e d u =
     ∙ ap (λ (k : ℕ). largest k (at ns)) d
     ∙ largest-cong (g .rows) (at ns) (sharers g) (λ i h. ap (λ (l : List ℕ). at l i) e ∙ table-get (g .rows) (sharers g) i 0 h)
 
--- ---- the smallest of those of the first i, of n, that count
-pub record Lowest (w f : ℕ → ℕ) (n i : ℕ) (loaded : Bool) (low : ℕ) : Type 0 where
-  pub high : i ≤ n
-  pub is : least i w f ≡ cond loaded (some low) none
-  pub value : orZero (least i w f) ≡ low
+-- ---- what a border could take alone, row by row
 
-pub lowest-none : (w f : ℕ → ℕ) (n : ℕ) → Lowest w f n 0 false 0
-unfolding least orZero
-lowest-none w f n = record { high = omega arith; is = refl; value = refl }
+-- no row allows more than its margin
+pub margin-over : (g : Grid) (m : List ℕ) (i b f : ℕ) → i < g .rows → f ≡ g .p i b → 0 < f → Over g m b (at m i)
+margin-over g m i b f hi e z =
+    let y : 0 < g .p i b = omega arith in
+    record {
+      over = le-trans (alone-le g m i b hi y) (div-le-self (at m i) (g .p i b));
+      row = λ z. i;
+      inside = λ z. hi;
+      loads = λ z. y;
+    }
 
--- what one more makes of the smallest so far
-abbrev pub lowered : (v low : ℕ) → (loaded : Bool) → (taken : ℕ) → ℕ
-lowered v low loaded taken = ifZero v low (cond loaded (min low taken) taken)
+-- where no row loads the border, it takes nothing
+pub unloaded-over : {g : Grid} {b i : ℕ} → Unloaded g b i → (m : List ℕ) → g .rows ≤ i → Over g m b 0
+unfolding alone
+unloaded-over {g} {b} {i} u m h =
+    let w : ℕ → ℕ = λ i. g .p i b in
+    let q : ℕ → ℕ = λ i. at m i / g .p i b in
+    record {
+      over = ⊎-elim (λ l. l) (λ l. let s = least-one (g .rows) w q l in omega (arith, s .counts, u .none (s .i) (omega (arith, s .below)))) (le-or-lt (orZero (least (g .rows) w q)) 0);
+      row = λ z. i;
+      inside = λ z. absurd (not-suc-le-zero z);
+      loads = λ z. absurd (not-suc-le-zero z);
+    }
 
-more-is : (o : Option ℕ) (low taken v : ℕ) (loaded : Bool) → o ≡ cond loaded (some low) none → ifZero v o (some (lesser o taken)) ≡ cond (loaded || ltb 0 v) (some (lowered v low loaded taken)) none
-unfolding ifZero lesser
-more-is o low taken zero true e = e
-more-is o low taken zero false e = e
-more-is o low taken (suc v) true e = rw e
-more-is o low taken (suc v) false e = rw (e, lt-ltb 0 (suc v) (omega arith))
+-- v is over, and the first i rows allow no less
+pub record Lowest (g : Grid) (m : List ℕ) (b i v : ℕ) : Type 0 where
+  pub high : i ≤ g .rows
+  pub over : Over g m b v
+  pub under : (j : ℕ) → j < i → v * g .p j b ≤ at m j
 
-more-value : (o : Option ℕ) (low taken v : ℕ) (loaded : Bool) → o ≡ cond loaded (some low) none → orZero o ≡ low → orZero (ifZero v o (some (lesser o taken))) ≡ lowered v low loaded taken
-unfolding ifZero lesser orZero
-more-value o low taken zero loaded e k = k
-more-value o low taken (suc v) true e k = rw e
-more-value o low taken (suc v) false e k = rw e
+pub lowest-none : {g : Grid} {m : List ℕ} {b v : ℕ} → Over g m b v → Lowest g m b 0 v
+lowest-none q = record { high = omega arith; over = q; under = λ j h. absurd (not-suc-le-zero h) }
 
-module _ {w f : ℕ → ℕ} {n i : ℕ} {loaded : Bool} {low : ℕ} (u : Lowest w f n i loaded low) where
-  pub lowest-more : i < n → (v : ℕ) → v ≡ w i → (low′ : ℕ) → low′ ≡ lowered v low loaded (f i) → (loaded′ : Bool) → loaded′ ≡ (loaded || ltb 0 v) → Lowest w f n (i + 1) loaded′ low′
-  unfolding least
-  lowest-more h v e low′ d loaded′ l =
+module _ {g : Grid} {m : List ℕ} {b i v : ℕ} (u : Lowest g m b i v) where
+  pub lowest-more : i < g .rows → (f : ℕ) → f ≡ g .p i b → (v′ : ℕ) → v′ ≡ tight f (at m i) v → Lowest g m b (i + 1) v′
+  lowest-more h f e v′ d =
+      let less : v′ ≤ v = omega (arith, d, tight-le f (at m i) v) in
+      let c = u .over in
+      let more : 0 < v′ → 0 < v = λ z. omega arith in
       record {
         high = omega arith;
-        is = rw (add-one i, ← e, d, l) (more-is (least i w f) low (f i) v loaded (u .is));
-        value = rw (add-one i, ← e, d) (more-value (least i w f) low (f i) v loaded (u .is) (u .value));
+        over =
+            record {
+              over = rw d (tight-over f (at m i) v (alone g m b) (c .over) (λ z. rw e (alone-le g m i b h (omega arith))));
+              row = λ z. c .row (more z);
+              inside = λ z. c .inside (more z);
+              loads = λ z. c .loads (more z);
+            };
+        under = λ j hj.
+            ⊎-elim
+            (λ a. le-trans (mul-le-mul-right (g .p j b) less) (u .under j a))
+            (λ y. subst (λ (r : ℕ). v′ * g .p r b ≤ at m r) (sym y) (rw (← e, d) (tight-share f (at m i) v)))
+            (lt-suc-cases j i (rw add-one at hj));
       }
 
-  pub lowest-all : n ≤ i → low ≡ orZero (least n w f)
-  lowest-all h = let e : i ≡ n = omega (arith, u .high) in sym (u .value) ∙ ap (λ (k : ℕ). orZero (least k w f)) e
+  -- what is not above `most` adds nothing to it, and what the border takes alone is not above that
+  pub lowest-under : (most : ℕ) → v ≤ most → most ≡ max most (alone g m b)
+  lowest-under most h = le-antisymm (le-max-left most (alone g m b)) (max-le (le-refl most) (le-trans (u .over .over) h))
+
+  pub lowest-all : g .rows ≤ i → v ≡ alone g m b
+  unfolding alone
+  lowest-all h =
+      let c = u .over in
+      ⊎-elim
+      (λ z. omega (arith, c .over))
+      (λ z.
+      let s = least-some (g .rows) (λ i. g .p i b) (λ i. at m i / g .p i b) (c .row z) (c .inside z) (c .loads z) in
+      le-antisymm (le-trans (le-div-iff-mul-le (s .counts) .1 (u .under (s .i) (omega (arith, s .below)))) (le-of-eq (s .is))) (c .over))
+      (le-or-lt v 0)
 
 -- ---- bits, by halving
 same-fuel : (k k′ v : ℕ) → v ≤ k → v ≤ k′ → bitsTo k v ≡ bitsTo k′ v

@@ -1,4 +1,5 @@
-// How many rounds an hour can take at most, known before the first round: the open calls `bound` and `bound_marked`. They cost less than one round.
+// How many rounds an hour can take at most, known before the first round: the open calls `bound` and `bound_marked`. What they do beyond judging the table and
+// starting the margins costs less than one round (docs/BENCH.md).
 mod measure;
 
 ghost use mathlib.Core.Path.{_≡_};

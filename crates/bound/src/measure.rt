@@ -1,15 +1,21 @@
 // N and L of 01's demand 3, of a flat table of factors p and the margins that the rounds start from.
 use crate::RoundsMost;
 ghost use mathlib.Core.Path.{_≡_};
-ghost use mathlib.Core.Bool.{cond, _||_};
-ghost use Prim.Native.Nat.{_*_, _/_, _<_, _≤_, min, max};
-ghost use lib.Dec.{ltb};
+ghost use Prim.Native.Nat.{_*_, _<_, _≤_, max};
 ghost use lib.ListN.{length};
-ghost use Rattle.numbers.specs.Below.{at, ifZero, largest};
+ghost use Rattle.numbers.specs.Below.{at, largest};
 ghost use Rattle.kinds.specs.Limits.{bordersMost};
 ghost use Rattle.rounds.specs.Rounds.{alone, bits};
 ghost use Rattle.rounds.specs.Work.{flat};
+ghost use Rattle.walk.specs.Walk.{tight};
 ghost use Rattle.bound.specs.Bound.{boundBy};
+ghost use Rattle.bound.specs.Measure.{Over};
+
+// Where what a border takes, in kW, is below this, and a factor p below the next, their product is below 2^64 and is made.
+const LOW_BELOW: u64 = 1 << 44;
+
+// Of factors, in hundred-thousandths. No table of 01 reaches it.
+const FACTOR_BELOW: u64 = 1 << 20;
 
 // N, L and 2 x N x L; `ns` is room to work in.
 pub fn measure(
@@ -51,53 +57,56 @@ fn most_alone(rows: usize, borders: usize, p: &[u64], margins: &[u64]) -> u64
 {
     let mut most: u64 = 0;
     for b in 0..borders {
-        most = larger(most, alone(rows, borders, p, margins, b));
+        most = more_alone(rows, borders, p, margins, b, most);
     }
     most
 }
 
-// What border `b` could take alone: the smallest floor(margin / p) over the rows that load it, and 0 where none does.
-fn alone(rows: usize, borders: usize, p: &[u64], margins: &[u64], b: usize) -> u64
+// The larger of `most` and what border `b` could take alone: the smallest floor(margin / p) over the rows that load it, and 0 where none does.
+// `low` is not below that, and falls; once it is not above `most`, the other rows are not looked at.
+fn more_alone(rows: usize, borders: usize, p: &[u64], margins: &[u64], b: usize, most: u64) -> u64
     requires { ⌜ (rows * borders ≤ length (now p)) × (length (now margins) ≡ rows) × (b < borders) ⌝ }
-    ensures { λ r. ⌜ r ≡ alone (flat rows borders (now (p .entry))) (now (margins .entry)) b ⌝ }
+    ensures { λ r. ⌜ r ≡ max most (alone (flat rows borders (now (p .entry))) (now (margins .entry)) b) ⌝ }
 {
-    let mut loaded = false;
-    let mut low: u64 = 0;
+    let mut low = first_margin(rows, borders, p, margins, b);
     for i in 0..rows {
+        if low <= most {
+            return most;
+        }
         let f = rounds::factor(rows, borders, p, i, b);
-        low = lower(loaded, low, margins[i], f);
-        loaded = loads(loaded, f);
+        low = lower(f, margins[i], low);
     }
-    low
+    larger(most, low)
 }
 
-// The smallest so far, once a row's margin and its factor at the border are known: a factor of 0 lets it be.
-fn lower(loaded: bool, low: u64, margin: u64, f: u64) -> u64
-    ensures { λ r. ⌜ r ≡ ifZero f low (cond loaded (min low (margin / f)) (margin / f)) ⌝ }
+// The margin of the first row that loads border `b`, or 0: the border could not take more alone, and this takes no division.
+fn first_margin(rows: usize, borders: usize, p: &[u64], margins: &[u64], b: usize) -> u64
+    requires { ⌜ (rows * borders ≤ length (now p)) × (length (now margins) ≡ rows) × (b < borders) ⌝ }
+    ensures { λ v. ⌜ Over (flat rows borders (now (p .entry))) (now (margins .entry)) b v ⌝ }
 {
+    for i in 0..rows {
+        if rounds::factor(rows, borders, p, i, b) > 0 {
+            return margins[i];
+        }
+    }
+    0
+}
+
+// `low`, once a row's margin and its factor `f` at the border are known. Tried by a product where that fits, and divided only where `low` is too high.
+fn lower(f: u64, margin: u64, low: u64) -> u64
+    ensures { λ r. ⌜ r ≡ tight f margin low ⌝ }
+{
+    if low < LOW_BELOW && f < FACTOR_BELOW {
+        if low * f <= margin {
+            return low;
+        }
+        return margin / f;
+    }
     if f == 0 {
         return low;
     }
     let taken = margin / f;
-    if loaded {
-        return smaller(low, taken);
-    }
-    taken
-}
-
-fn loads(loaded: bool, f: u64) -> bool
-    ensures { λ r. ⌜ r ≡ (loaded || ltb 0 f) ⌝ }
-{
-    if loaded {
-        return true;
-    }
-    0 < f
-}
-
-fn smaller(a: u64, b: u64) -> u64
-    ensures { λ r. ⌜ r ≡ min a b ⌝ }
-{
-    if a < b { a } else { b }
+    if taken < low { taken } else { low }
 }
 
 fn larger(a: u64, b: u64) -> u64

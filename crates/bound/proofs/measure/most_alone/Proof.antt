@@ -1,7 +1,7 @@
 -- `bound::measure::most_alone` meets its contract. The invariant: `most` is the largest of the first b borders.
+use mathlib.Core.Path.{refl}
 use Prim.Native.Nat.{_-_}
 use native.Mathlib.Omega.{arith}
-use borrow.Author.Needs.{needs}
 use Rattle.rounds.specs.Rounds.{alone}
 use Rattle.rounds.specs.Work.{flat}
 use Rattle.bound.proofs.MeasureLaws.{Highest, highest-none, highest-more, highest-all}
@@ -17,11 +17,8 @@ abbrev μ-loop : tie.MeasureT-loop
 loop-holds : tie.Need-loop-holds Inv-loop μ-loop
 loop-holds c = highest-none _ _
 
-alone-requires : tie.Need-alone-requires Inv-loop μ-loop
-alone-requires c κs = (c .before .before .before .before .pre .0, c .before .before .before .before .pre .1, omega arith)
-
-larger-requires : tie.Need-larger-requires Inv-loop μ-loop
-larger-requires c κs = search needs
+more-alone-requires : tie.Need-more-alone-requires Inv-loop μ-loop
+more-alone-requires c κs = (c .before .before .before .before .pre .0, c .before .before .before .before .pre .1, omega arith)
 
 add-b : tie.Need-add-b Inv-loop μ-loop
 add-b c = omega arith
@@ -30,11 +27,11 @@ loop-less : tie.Need-loop-less Inv-loop μ-loop
 loop-less c = omega arith
 
 loop-again : tie.Need-loop-again Inv-loop μ-loop
-loop-again c = highest-more (c .before .before .before .loop .inv) _ _ (omega arith) (c .before .alone .ensures) (c .larger .ensures)
+loop-again c = highest-more (c .before .before .loop .inv) _ _ (omega arith) refl (c .more-alone .ensures)
 
 returns : tie.Need-returns Inv-loop μ-loop
 returns c = highest-all (c .before .loop .inv) (omega arith)
 
 pub most-alone-spec : {M : Type 1} → statement M
 most-alone-spec =
-    tie.close (tie.spec Inv-loop μ-loop loop-holds alone-requires larger-requires add-b loop-less loop-again returns)
+    tie.close (tie.spec Inv-loop μ-loop loop-holds more-alone-requires add-b loop-less loop-again returns)
