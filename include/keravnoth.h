@@ -536,8 +536,8 @@ struct KeravnothWritten keravnoth_published_text(
     uint8_t *out, size_t nout);
 
 /* How many rounds the extraction of these tables can take at most, known before the first
-   of them: it costs less than one round.  Refusals 3 to 8, as the extraction's, but no
-   room is asked for. */
+   of them: it does what comes before the rounds, and no round.  Refusals 3 to 8, as the
+   extraction's, but no room is asked for. */
 struct KeravnothBounded keravnoth_bound(
     struct KeravnothHeader header,
     const int64_t *z, size_t nz,

@@ -6,7 +6,7 @@ pub mod usage;
 pub mod words;
 
 // Room for a table's text, one byte more than it may have, so that a longer one is seen.
-pub const TEXT_ROOM: usize = reading::BYTES_MOST + 1;
+pub const TEXT_ROOM: usize = text::BYTES_MOST + 1;
 
 // Room for marks, one more than a table may have borders: of a longer list the first faulty mark is among these.
 pub const MARKS_ROOM: usize = kinds::Header::BORDERS_MOST + 1;

@@ -49,7 +49,7 @@ pub fn put<'a>(
     requires { ⌜ bytesMost ≤ length (now out) ⌝ }
     ensures { λ r. ⌜ Printed r (wordText word all (now (marks .entry)) (now (file .entry)) (now (text .entry)) (now (sheet .entry))) (now (out .exit)) ⌝ }
 {
-    if reading::BYTES_MOST < file.len() {
+    if text::BYTES_MOST < file.len() {
         return refusal_line(Refusal::too_long(), out);
     }
     put_read(word, all, marks, file, text, sheet, out)

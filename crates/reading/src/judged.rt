@@ -11,7 +11,6 @@ ghost use Rattle.table.specs.Table.{balanced};
 ghost use Rattle.runs.specs.Runs.{allGood};
 ghost use Rattle.reading.specs.Places.{Headed, Netted, Allocated, allocatedLines, tableIn, placedIn};
 ghost use Rattle.reading.specs.Reading.{intradayAt, balanceByte, linesOf, readText, readCorrected};
-use crate::BYTES_MOST;
 use kinds::BorderRecord;
 use kinds::Header;
 use kinds::Judgement;
@@ -19,6 +18,7 @@ use kinds::Refusal;
 use lines::HeaderLine;
 use lines::row::RowKind;
 use numbers::First;
+use text::BYTES_MOST;
 
 // Where the Z, the T and the C lines of a good text begin.
 pub struct Places {
