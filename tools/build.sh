@@ -44,7 +44,7 @@ file_sum() { sha256sum <"$1" | cut -d ' ' -f 1; }
 
 # Whether FILE was built from what stands there now, and is still what was built.
 is_built() { # CRATE FILE
-    [ -e "$2" ] && [ -r "$2.sum" ] && [ "$(cat "$2.sum")" = "$(sum_of "$1") $(file_sum "$2")" ]
+    [ -e "$2" ] && [ -s "$2.proved" ] && [ -r "$2.sum" ] && [ "$(cat "$2.sum")" = "$(sum_of "$1") $(file_sum "$2")" ]
 }
 
 build_program() {
@@ -58,10 +58,6 @@ build_library() {
 # Makes FILE, one build at a time: who comes second waits, and finds it built.
 alone() { # CRATE FILE MAKE
     find_kit "" || cannot "$(basename "$2") is not built, and $no_kit"
-    case " $("$kit/bin/rt" version) " in
-    *" $(cat "$here/.ci/kit") "*) ;;
-    *) cannot "$(basename "$2") is not built, and the kit at $kit has another logic than the proofs ($(cat "$here/.ci/kit"))" ;;
-    esac
     command -v flock >/dev/null || cannot "$(basename "$2") is not built, and flock, which keeps two builds apart, is not found"
     { mkdir -p "$(dirname "$2")" && true >>"$here/target/lock"; } 2>/dev/null || cannot "$(basename "$2") is not built, and $here/target cannot be written"
     exec 9>>"$here/target/lock"
@@ -73,6 +69,8 @@ alone() { # CRATE FILE MAKE
         sum=$(sum_of "$1")
         say "proving and building $(basename "$2"), minutes where nothing is proved yet; the kit's notes go to $log"
         "$3" || cannot "$(basename "$2") is not proved, so it is not built: see $log"
+        # Any kit will do: proved is proved in its logic, which is kept beside what was built.
+        "$kit/bin/rt" version >"$2.proved"
         # The files that were there when the build began: one that was changed meanwhile is built the next time.
         echo "$sum $(file_sum "$2")" >"$2.sum"
         echo "$kit" >"$here/target/kit"

@@ -28,10 +28,12 @@ need_kit() { # SCRIPT
     }
 }
 
-# Becomes a program of x86-64 code: in the kit's emulator where this machine is another.
+# Starts a program of x86-64 code by `how` (exec, or a function that ends so): in the kit's emulator where this machine is another.
 # The kit's loader by name: the C library that the program was linked with is the kit's, not one of this machine.
-on_x86_64() { # PROGRAM ARGUMENTS..
+on_x86_64() { # HOW PROGRAM ARGUMENTS..
+    how=$1
+    shift
     set -- "$toolchain/lib/ld-linux-x86-64.so.2" --library-path "$toolchain/lib" "$@"
-    if [ -x "$toolchain/bin/qemu-x86_64" ]; then exec "$toolchain/bin/qemu-x86_64" "$@"; fi
-    exec "$@"
+    if [ -x "$toolchain/bin/qemu-x86_64" ]; then set -- "$toolchain/bin/qemu-x86_64" "$@"; fi
+    "$how" "$@"
 }

@@ -27,5 +27,11 @@ start() { # NAME REMEMBERED-KIT PROGRAM ARGUMENTS..
 
 # Without a kit, x86-64 has a C library of its own.
 become() { # PROGRAM ARGUMENTS..
-    if [ -d "${toolchain:-}" ]; then on_x86_64 "$@"; else exec "$@"; fi
+    if [ -d "${toolchain:-}" ]; then on_x86_64 with_parent "$@"; else with_parent "$@"; fi
+}
+
+# Becomes a command that is ended when this one is ended by a signal. The shell waits and cannot hand a signal on: the system does, where setpriv can ask for it.
+with_parent() { # COMMAND..
+    if setpriv --pdeathsig TERM true 2>/dev/null; then exec setpriv --pdeathsig TERM "$@"; fi
+    exec "$@"
 }
