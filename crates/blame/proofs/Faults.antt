@@ -1,24 +1,26 @@
 -- The byte named in a line (02, E5): the first bad byte of a field, the fields before it good, or the index (`line-fault`, `plain-fault`, `bare-fault`); it lies in the
--- line (`fault-within`, `found-within`). Of the byte that parts the fields only this is asked: it is not 0, for past a line's end 0 is read.
--- In order: a good field ends in the line; fields; a line; the byte lies in the line.
+-- line (`fault-within`, `found-within`). Where a line that begins with its letter has such a byte, it is named (`fault-line`, `fault-plain`, `fault-bare`): so 0 is said
+-- exactly where there is none (`none-line`, `none-plain`, `none-bare`) or another letter (`other-letter`, `other-plain`).
+-- Of the byte that parts the fields only this is asked: it is not 0, for past a line's end 0 is read.
+-- In order: a good field ends in the line; fields; a line; fields with a bad byte; a line with one; a line with none; the byte lies in the line.
 use mathlib.Core.Path.{_≡_, refl, sym, ap, _∙_}
-use mathlib.Core.Bool.{Bool, true, false, cond, false≢true}
-use mathlib.Core.Logic.{_⊎_, inl, inr}
+use mathlib.Core.Bool.{Bool, true, false, cond, _&&_, false≢true}
+use mathlib.Core.Logic.{_⊎_, inl, inr, _↔_}
 use mathlib.Core.List.{List, [], _∷_}
-use Prim.Native.Nat.{ℕ, _+_, _≤_, _<_}
+use Prim.Native.Nat.{ℕ, zero, suc, _+_, _≤_, _<_}
 use native.Mathlib.Omega.{arith}
-use lib.Dec.{leb, eqb, lit<}
+use lib.Dec.{leb, ltb, eqb, lit<}
 use lib.IntN.{ℤ}
-use lib.ListN.{length, getD}
-use borrow.Author.Tests.{eqb-true, eqb-false, leb-true, not-true}
+use lib.ListN.{length, getD, drop}
+use borrow.Author.Tests.{eqb-true, eqb-false, eq-eqb, ne-eqb, leb-true, not-true}
 use Rattle.numbers.specs.Ints.{minus}
-use Rattle.numbers.proofs.TestLaws.{and-both}
+use Rattle.numbers.proofs.TestLaws.{zero-one, and-both}
 use Rattle.kinds.specs.LineColumns.{Column, number, signed, share, power, flow, factor}
 use Rattle.text.specs.declared.Number.{Number}
 use Rattle.text.specs.declared.Number.the-variants.{Value, Bad}
 use Rattle.text.specs.declared.Signed.{Signed}
 use Rattle.text.specs.declared.Signed.the-variants.{Whole, Wrong}
-use Rattle.text.specs.Fields.{feed, numberAt, positive, shareAt}
+use Rattle.text.specs.Fields.{feed, digits, value, plain, firstBad, numberAt, positive, shareAt}
 use Rattle.text.specs.Line.{headed}
 use Rattle.text.specs.Point.{pointAt}
 use Rattle.text.proofs.NumberTrip.{number-read, signed-read, no-whole, whole-is}
@@ -26,9 +28,9 @@ use Rattle.text.proofs.FieldLaws.{some-within, share-plus}
 use Rattle.text.proofs.PointTrip.{plus-read, signed-point-read}
 use Rattle.columns.specs.Columns.{fieldAt, stopOf}
 use Rattle.blame.specs.Blame.{byteAt, blamed, orLater, fieldsByte, otherIndex, indexByte, lineByte, plainByte, bareByte}
-use Rattle.blame.specs.FirstBad.{Found, here, later, Fault, index, other, field}
+use Rattle.blame.specs.FirstBad.{FirstBad, Found, here, later, Fault, index, other, field}
 use Rattle.blame.proofs.FieldBad.{share-dash}
-use Rattle.blame.proofs.Blames.{blames}
+use Rattle.blame.proofs.Blames.{blames, blames-only}
 
 -- ---- a good field ends in the line
 module _ (line : List ℕ) (at stop : ℕ) (some : 0 < stop) (z : ℤ) (next : ℕ) where
@@ -120,6 +122,95 @@ module _ (sep : ℕ) (some : 0 < sep) where
   pub bare-fault : (columns : List Column) (line : List ℕ) (i place : ℕ) → bareByte sep columns line i ≡ place + 1 → Fault sep 0 columns line i place
   unfolding bareByte
   bare-fault columns line i place e = index-fault 0 columns line i place (omega arith) e
+
+  -- ---- fields with a bad byte: it is named
+  -- a field that has one is not good, and its bad byte is the one that it came to
+  bad-named : (c : Column) (cs : List Column) (line : List ℕ) (at place : ℕ) → at ≤ length line → FirstBad sep c line at place → blamed sep c line at (fieldAt c line at (stopOf sep feed cs)) ≡ place + 1
+  bad-named c cs line at place l f = blames-only sep c line at _ place (blames sep c line at (stopOf sep feed cs) (stop-either cs) l) f
+
+  -- the first field that has one: those before it are good
+  found-fields : (columns : List Column) (line : List ℕ) (at place : ℕ) → at ≤ length line → Found sep line columns at place → fieldsByte sep columns line at ≡ place + 1
+  unfolding fieldsByte
+  found-fields (c ∷ cs) line at place l (here f) = go (fieldAt c line at (stopOf sep feed cs)) (bad-named c cs line at place l f)
+    where
+      go : (r : Signed) → blamed sep c line at r ≡ place + 1 → orLater r (blamed sep c line at r) (λ (next : ℕ). fieldsByte sep cs line next) ≡ place + 1
+      go (Whole z next) e = absurd (omega arith)
+      go (Wrong p) e = e
+  found-fields (c ∷ cs) line at place l (later {next} {z} q f) = rw q (found-fields cs line next place (field-within line at (stopOf sep feed cs) (stop-some cs) z next c q) f)
+
+  -- ---- a line with a bad byte: it is named
+  -- a line that has no index
+  pub fault-plain : (letter : ℕ) (columns : List Column) (line : List ℕ) (place : ℕ) → headed letter sep line ≡ true → Found sep line columns 2 place → plainByte sep letter columns line ≡ place + 1
+  unfolding plainByte
+  fault-plain letter columns line place h f = rw h (found-fields columns line 2 place (headed-long letter line h) f)
+
+  -- an index is worth the same whatever ends it
+  worth : (line : List ℕ) (at stop v next : ℕ) → numberAt line at stop ≡ Value v next → v ≡ value 0 (digits (drop at line))
+  unfolding numberAt
+  worth line at stop v next e =
+      let d = digits (drop at line) in
+      go (plain d && (ltb (length d) (length (drop at line)) && eqb (getD (drop at line) (length d) 0) stop)) (at + length d + 1) (firstBad d at) e
+    where
+      go : (t : Bool) (m b : ℕ) → cond t (Value (value 0 (digits (drop at line))) m) (Bad b) ≡ Value v next → v ≡ value 0 (digits (drop at line))
+      go true m b e = cc
+      go false m b e = let z : _≡_ {A = ℕ} 0 1 = cc in absurd (zero-one z)
+
+  -- an index and the fields after it: the index's form, then its value, then the fields
+  fault-index : (at : ℕ) (columns : List Column) (line : List ℕ) (i place : ℕ) → at ≤ length line → Fault sep at columns line i place → indexByte sep at columns line i (numberAt line at sep) ≡ place + 1
+  unfolding fieldAt
+  fault-index at columns line i place l (index f) = go (numberAt line at sep) refl (numberAt line at feed) refl
+    where
+      named : (stop : ℕ) → (stop ≡ sep) ⊎ (stop ≡ feed) → blamed sep number line at (positive (numberAt line at stop)) ≡ place + 1
+      named stop s = blames-only sep number line at _ place (blames sep number line at stop s l) f
+
+      go : (n : Number) → numberAt line at sep ≡ n → (m : Number) → numberAt line at feed ≡ m → indexByte sep at columns line i n ≡ place + 1
+      go (Value v next) q m r = absurd (omega (arith, ap (λ (n : Number). blamed sep number line at (positive n)) (sym q) ∙ named sep (inl refl)))
+      go (Bad p) q (Value v next) r = absurd (omega (arith, ap (λ (n : Number). blamed sep number line at (positive n)) (sym r) ∙ named feed (inr refl)))
+      go (Bad p) q (Bad b) r = rw r (ap (λ (n : Number). blamed sep number line at (positive n)) (sym q) ∙ named sep (inl refl))
+  fault-index at columns line i place l (other v next (inl q) n e) = rw (q, ne-eqb v i n) (omega arith)
+  fault-index at columns line i place l (other v next (inr q) n e) = go (numberAt line at sep) refl
+    where
+      go : (m : Number) → numberAt line at sep ≡ m → indexByte sep at columns line i m ≡ place + 1
+      go (Value w k) r =
+          let same : w ≡ v = worth line at sep w k r ∙ sym (worth line at feed v next q) in
+          rw (ne-eqb w i (λ x. n (sym same ∙ x))) (omega arith)
+      go (Bad p) r = rw (q, ne-eqb v i n) (omega arith)
+  fault-index at columns line i place l (field next q f) = rw (q, eq-eqb i i refl) (found-fields columns line next place (number-read line at sep i next (sym q) .within) f)
+
+  -- a line with its letter, its index and its columns
+  pub fault-line : (letter : ℕ) (columns : List Column) (line : List ℕ) (i place : ℕ) → headed letter sep line ≡ true → Fault sep 2 columns line i place → lineByte sep letter columns line i ≡ place + 1
+  unfolding lineByte
+  fault-line letter columns line i place h f = rw h (fault-index 2 columns line i place (headed-long letter line h) f)
+
+  -- a line that begins with its index
+  pub fault-bare : (columns : List Column) (line : List ℕ) (i place : ℕ) → Fault sep 0 columns line i place → bareByte sep columns line i ≡ place + 1
+  unfolding bareByte
+  fault-bare columns line i place f = fault-index 0 columns line i place (omega arith) f
+
+  -- ---- 0 is said exactly where no byte is bad, or the letter is another
+  -- a byte that names exactly the places of P is 0 exactly where P has none
+  none-named : (P : ℕ → Type 0) (byte : ℕ) → ((place : ℕ) → byte ≡ place + 1 → P place) → ((place : ℕ) → P place → byte ≡ place + 1) → (byte ≡ 0) ↔ ((place : ℕ) → P place → ⊥)
+  none-named P zero to from = ((λ e place f. zero-one (omega (arith, from place f))), (λ none. refl))
+  none-named P (suc byte) to from = ((λ e place f. zero-one (omega arith)), (λ none. absurd (none byte (to byte (omega arith)))))
+
+  -- of each kind of line
+  pub none-plain : (letter : ℕ) (columns : List Column) (line : List ℕ) → headed letter sep line ≡ true → (plainByte sep letter columns line ≡ 0) ↔ ((place : ℕ) → Found sep line columns 2 place → ⊥)
+  none-plain letter columns line h = none-named (Found sep line columns 2) _ (plain-fault letter columns line) (λ place. fault-plain letter columns line place h)
+
+  pub none-line : (letter : ℕ) (columns : List Column) (line : List ℕ) (i : ℕ) → headed letter sep line ≡ true → (lineByte sep letter columns line i ≡ 0) ↔ ((place : ℕ) → Fault sep 2 columns line i place → ⊥)
+  none-line letter columns line i h = none-named (Fault sep 2 columns line i) _ (line-fault letter columns line i) (λ place. fault-line letter columns line i place h)
+
+  pub none-bare : (columns : List Column) (line : List ℕ) (i : ℕ) → (bareByte sep columns line i ≡ 0) ↔ ((place : ℕ) → Fault sep 0 columns line i place → ⊥)
+  none-bare columns line i = none-named (Fault sep 0 columns line i) _ (bare-fault columns line i) (fault-bare columns line i)
+
+  -- whatever its fields are
+  pub other-plain : (letter : ℕ) (columns : List Column) (line : List ℕ) → headed letter sep line ≡ false → plainByte sep letter columns line ≡ 0
+  unfolding plainByte
+  other-plain letter columns line h = rw h
+
+  pub other-letter : (letter : ℕ) (columns : List Column) (line : List ℕ) (i : ℕ) → headed letter sep line ≡ false → lineByte sep letter columns line i ≡ 0
+  unfolding lineByte
+  other-letter letter columns line i h = rw h
 
 -- ---- the byte named lies in the line
 module _ (sep : ℕ) (line : List ℕ) where

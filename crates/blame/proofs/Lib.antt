@@ -8,3 +8,4 @@ pub mod FieldBad
 pub mod Blames
 pub mod Faults
 pub mod Within
+pub mod AnchorsFaults

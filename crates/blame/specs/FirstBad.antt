@@ -1,6 +1,6 @@
 -- What E5 asks of the byte that is named (02: "the first byte in the line, from 1, that no good number could have there"). Nothing here computes a byte;
 -- that the bytes of `Blame.antt` are these is proved: for a field `blames` and `blames-only` (`Blames.antt`), for a line `line-fault`, `plain-fault`
--- and `bare-fault` (`Faults.antt`). A place counts bytes from 0, so place p is byte p + 1.
+-- and `bare-fault`, and the other way `fault-line`, `fault-plain` and `fault-bare` (`Faults.antt`). A place counts bytes from 0, so place p is byte p + 1.
 use mathlib.Core.Path.{_≡_}
 use mathlib.Core.Bool.{true}
 use mathlib.Core.Logic.{_⊎_}

@@ -4,3 +4,4 @@ pub mod BoundLaws
 pub mod Unique
 pub mod FewRounds
 pub mod SameRefusals
+pub mod NotSeven

@@ -1,4 +1,5 @@
 pub mod Anchors
+pub mod AnchorsAllowed
 pub mod CanGo
 pub mod FormLaws
 pub mod JudgeLaws

@@ -116,17 +116,22 @@ claimsAnswer given claims = then (judgeLent given) (λ t. claimsOf t claims)
 
 -- ---- what a list of rows allows
 
--- the load of net positions q, kW at each zone, on row i, in grains
+-- Net positions are rational numbers of kW, written over one denominator: q z / k at zone z.
+-- k times their load on row i, in grains
 unfoldable pub netLoad : Table → (q : ℕ → ℤ) → (i : ℕ) → ℤ
 netLoad t q i = sumℤ (t .header .zones) (λ z. atℤ (factorsAt t i) z *ℤ q z)
 
--- net positions that a list of rows allows: no row of it is loaded beyond its RAM
-pub record Allowed (t : Table) (listed : ℕ → Bool) (q : ℕ → ℤ) : Type 0 where
-  pub each : (i : ℕ) → i < t .header .rows → listed i ≡ true → netLoad t q i ≤ℤ ramAt t i
+-- net positions q / k that a list of rows allows: no row of it is loaded beyond its RAM, each side taken k times
+pub record Allowed (t : Table) (listed : ℕ → Bool) (k : ℕ) (q : ℕ → ℤ) : Type 0 where
+  pub each : (i : ℕ) → i < t .header .rows → listed i ≡ true → netLoad t q i ≤ℤ (pos k *ℤ ramAt t i)
 
 -- two lists of rows allow the same net positions, among those that sum to zero
 pub record Same (t : Table) (listed listed′ : ℕ → Bool) : Type 0 where
-  pub same : (q : ℕ → ℤ) → sumℤ (t .header .zones) q ≡ pos 0 → Allowed t listed q ↔ Allowed t listed′ q
+  pub same : (k : ℕ) → 0 < k → (q : ℕ → ℤ) → sumℤ (t .header .zones) q ≡ pos 0 → Allowed t listed k q ↔ Allowed t listed′ k q
+
+-- .. whole net positions q that a list of rows allows: these are q / 1
+pub record WholeAllowed (t : Table) (listed : ℕ → Bool) (q : ℕ → ℤ) : Type 0 where
+  pub each : (i : ℕ) → i < t .header .rows → listed i ≡ true → netLoad t q i ≤ℤ ramAt t i
 
 -- the kept rows, with all claimed rows taken out
 unfoldable pub remaining : (states : List ℕ) → (claims : List (List ℤ)) → (i : ℕ) → Bool

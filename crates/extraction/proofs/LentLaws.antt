@@ -1,8 +1,8 @@
 -- The laws behind `extract` and `extract_marked` on lent tables (`specs/Extraction.antt`'s `judgeExtract` and `extractFor`): which judgement decides, and what an answer with rounds comes from.
 -- `extract-roomy` is for a caller that lends room for the most p, borders and rows. No contract cites this file.
 use mathlib.Core.Path.{_≡_, refl, sym, ap, subst, _∙_}
-use mathlib.Core.Bool.{Bool, true}
-use mathlib.Core.List.{List, []}
+use mathlib.Core.Bool.{Bool}
+use mathlib.Core.List.{List}
 use Prim.Native.Nat.{ℕ, _*_, _≤_, _<_}
 use native.Mathlib.Nat.{mul-le-mul}
 use native.Mathlib.Omega.{arith}
@@ -23,7 +23,7 @@ use Rattle.table.specs.Table.{Table, front, judgeShape, judgeRecords, judgeLent
 use Rattle.table.specs.Good.{Exact, Good}
 use Rattle.table.proofs.JudgeLaws.{shape-front, shape-refused, shape-passed}
 use Rattle.table.proofs.GoodLaws.{records-good, judged-front, judged-good}
-use Rattle.extraction.specs.Extraction.{Result, resultMarked, resultOf, outcomeMarked, outcomeOf, outcomeFor, judgeExtract, ExtractLeft, leaves, resultRoom, resultStored, extractFor, extractLeft}
+use Rattle.extraction.specs.Extraction.{Result, resultMarked, outcomeMarked, outcomeFor, judgeExtract, ExtractLeft, leaves, resultRoom, resultStored, extractFor}
 use Rattle.extraction.specs.Work.{outcomeLeft}
 use Rattle.extraction.proofs.AcceptedLaws.{accepted}
 use Rattle.extraction.proofs.MarkedLaws.{outcome-agree, for-refused, for-passed, for-is}
@@ -151,16 +151,3 @@ accepted-for all marks given ps atcs lefts k e =
       rounds = ap (λ (v : Result). v .outcome .rounds) is ∙ passed-is _ _ (p .2);
       left = either-passed _ _ (p .1) ∙ ap (resultStored ps atcs lefts) (sym is);
     }
-
--- .. of `extract`
-pub record AcceptedLeft (given : Table) (ps : List ℕ) (atcs lefts : List (List ℤ)) (k : ℕ) : Type 0 where
-  pub judged : judgeLent given ≡ passed (front given)
-  pub outcome : outcomeOf (front given) ≡ passed (resultOf (front given))
-  pub rounds : resultOf (front given) .outcome .rounds ≡ k
-  pub left : extractLeft given ps atcs lefts ≡ resultStored ps atcs lefts (resultOf (front given))
-
-pub accepted-left : (given : Table) (ps : List ℕ) (atcs lefts : List (List ℤ)) (k : ℕ) → extractLeft given ps atcs lefts .answer ≡ passed k → AcceptedLeft given ps atcs lefts k
-unfolding extractLeft outcomeOf resultOf
-accepted-left given ps atcs lefts k e =
-    let a = accepted-for true [] given ps atcs lefts k e in
-    record { judged = a .judged; outcome = a .outcome; rounds = a .rounds; left = a .left }

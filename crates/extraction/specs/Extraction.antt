@@ -78,12 +78,12 @@ outcomeOf t = outcomeMarked every t
 unfoldable pub outcomeFor : (all : Bool) → (marks : List ℕ) → Table → Judged Result
 outcomeFor all marks t = judgeAsked all (t .header .borders) marks (outcomeMarked (mayRise all marks) t)
 
--- N and L of demand 3
-unfoldable pub nOf : Table → ℕ
-nOf t = mostSharers (tableGrid t)
+-- N and L of demand 3, over the marked borders
+unfoldable pub nOf : (marked : ℕ → Bool) → Table → ℕ
+nOf marked t = mostSharers (gridMarked marked t)
 
-unfoldable pub lOf : Table → ℕ
-lOf t = aloneBits (tableGrid t) (tableStart t .margins)
+unfoldable pub lOf : (marked : ℕ → Bool) → Table → ℕ
+lOf marked t = aloneBits (gridMarked marked t) (tableStart t .margins)
 
 -- a border's record: ATC in MW, by its exchange in kW; last round; stopping row, or -1 where there is none
 abbrev pub rowOrDash : Option ℕ → ℤ

@@ -9,6 +9,7 @@ use Rattle.kinds.specs.Refusals.{passed, refused, either, outOfRange}
 use Rattle.margin.specs.Margin.{sOf}
 use Rattle.reading.specs.Reading.{readText}
 use Rattle.writing.specs.Writing.{tableText}
+use Rattle.start.specs.Start.{every}
 use Rattle.extraction.specs.Extraction.{outcomeOf, nOf, lOf}
 use Rattle.answer.specs.Result.{answerText}
 use Rattle.figures.specs.Computed.{_is_, Hold}
@@ -29,8 +30,8 @@ pub cable : Hold (
     ∷ tableText cableTable is cableText
     -- S of row 0, and N = 2, L = 23
     ∷ sOf (pos 30000 ∷ pos 10000 ∷ pos 24000 ∷ pos 12000 ∷ []) (cableTable .borders) is 1800000000
-    ∷ nOf cableTable is 2
-    ∷ lOf cableTable is 23
+    ∷ nOf every cableTable is 2
+    ∷ lOf every cableTable is 23
     -- border 1 ends at 3,790,999 kW
     ∷ either (outcomeOf cableTable) (λ r. r .outcome .state .x) (λ w. []) is (1560000 ∷ 3790999 ∷ [])
     -- 2: a B line has four fields after the letter, or six

@@ -9,12 +9,13 @@ use lib.IntN.{pos, _-ℤ_}
 use lib.Signed.{_≤ℤ_}
 use Rattle.kinds.specs.Refusals.{passed}
 use Rattle.table.specs.Table.{judgeLent}
+use Rattle.table.proofs.GoodLaws.{judged-good}
 use Rattle.rounds.specs.Rounds.{State, next}
 use Rattle.margin.specs.Margin.{ramAt}
-use Rattle.start.specs.Start.{tableGrid, tableStart}
-use Rattle.extraction.specs.Extraction.{Result, leftOf, outcomeOf}
-use Rattle.promises.specs.Demand.{loadOf, Demand3}
-use Rattle.promises.proofs.Demand3.{lent-demand-3}
+use Rattle.start.specs.Start.{every, tableGrid, tableStart}
+use Rattle.extraction.specs.Extraction.{Result, atcOf, leftOf, outcomeOf}
+use Rattle.promises.specs.Demand.{loadOf, UpTo, WithinAtcs, ResultDemand3}
+use Rattle.promises.proofs.Demand3.{accepted-demand-3, atcs-up-to}
 use Rattle.figures.specs.Computing.{computing}
 use Rattle.figures.specs.Hour.{hourTable}
 
@@ -48,7 +49,7 @@ both f g x y (suc (suc b)) h = absurd (omega arith)
 pub record HourDemand : Type 0 where
   pub result : outcomeOf hourTable ≡ passed hourEnd
   -- demand 3 of it ..
-  pub holds : Demand3 hourTable hourEnd
+  pub holds : ResultDemand3 hourTable every hourEnd
   -- .. and at 2,599,000 and 1,800,000 kW: row 0 carries 69,980,000,000 grains of 70,000,000,000, and row 1 all of its 9,000,000,000
   pub within-0 : loadOf hourTable 0 (2599000 ∷ 1800000 ∷ []) ≤ℤ ramAt hourTable 0
   pub within-1 : loadOf hourTable 1 (2599000 ∷ 1800000 ∷ []) ≤ℤ ramAt hourTable 1
@@ -60,8 +61,8 @@ pub record HourDemand : Type 0 where
   pub load-end : loadOf hourTable 0 (2599999 ∷ 1800000 ∷ []) ≡ pos 69999980000
   pub left-end : loadOf hourTable 0 (2599999 ∷ 1800000 ∷ []) ≡ ramAt hourTable 0 -ℤ pos (leftOf hourEnd 0)
   -- a build that leaves the exchanges at LTA, and one that does a full first round and none after
-  pub at-lta : Demand3 hourTable (ended 0 hourStart) → ⊥
-  pub one-round : Demand3 hourTable (ended 1 (next (tableGrid hourTable) hourStart)) → ⊥
+  pub at-lta : ResultDemand3 hourTable every (ended 0 hourStart) → ⊥
+  pub one-round : ResultDemand3 hourTable every (ended 1 (next (tableGrid hourTable) hourStart)) → ⊥
 
 hour-end : outcomeOf hourTable ≡ passed hourEnd
 unfolding computing
@@ -71,8 +72,18 @@ hour-judged : judgeLent hourTable ≡ passed hourTable
 unfolding computing
 hour-judged = refl
 
-hour-holds : Demand3 hourTable hourEnd
-hour-holds = lent-demand-3 hourTable hourTable hourEnd hour-judged refl hour-end
+hour-holds : ResultDemand3 hourTable every hourEnd
+unfolding outcomeOf
+hour-holds = accepted-demand-3 every hourTable hourEnd (judged-good hourTable hourTable hour-judged) hour-end
+
+-- 2,599,000 and 1,800,000 kW are within the ATCs
+hour-atcs : WithinAtcs hourTable (atcOf hourEnd) (2599000 ∷ 1800000 ∷ [])
+unfolding computing
+hour-atcs = both _ _ (lit≤ tt) (lit≤ tt)
+
+hour-within : UpTo hourTable (hourEnd .outcome .state .x) (2599000 ∷ 1800000 ∷ [])
+unfolding atcOf
+hour-within = atcs-up-to hourTable (hourEnd .outcome .state .x) (atcOf hourEnd) (λ b h. refl) (2599000 ∷ 1800000 ∷ []) hour-atcs
 
 pub hour-demand : HourDemand
 unfolding computing
@@ -80,8 +91,8 @@ hour-demand =
     record {
       result = hour-end;
       holds = hour-holds;
-      within-0 = hour-holds .within (2599000 ∷ 1800000 ∷ []) (both _ _ (lit≤ tt) (lit≤ tt)) 0 (lit< tt) refl;
-      within-1 = hour-holds .within (2599000 ∷ 1800000 ∷ []) (both _ _ (lit≤ tt) (lit≤ tt)) 1 (lit< tt) refl;
+      within-0 = hour-holds .within refl (2599000 ∷ 1800000 ∷ []) hour-within 0 (lit< tt) refl;
+      within-1 = hour-holds .within refl (2599000 ∷ 1800000 ∷ []) hour-within 1 (lit< tt) refl;
       load-0 = refl;
       load-1 = refl;
       ram-0 = refl;

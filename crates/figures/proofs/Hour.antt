@@ -5,6 +5,7 @@ use Prim.Native.Nat.{_*_}
 use Rattle.kinds.specs.Refusals.{passed, either}
 use Rattle.reading.specs.Reading.{readText}
 use Rattle.writing.specs.Writing.{tableText}
+use Rattle.start.specs.Start.{every}
 use Rattle.extraction.specs.Extraction.{outcomeOf, nOf, lOf}
 use Rattle.answer.specs.Result.{answerText}
 use Rattle.figures.specs.Computed.{_is_, Hold}
@@ -18,9 +19,9 @@ pub hour : Hold (
     ∷ readText hourText is passed hourTable
     ∷ tableText hourTable is hourText
     -- N = 2, L = 22, bound 88
-    ∷ nOf hourTable is 2
-    ∷ lOf hourTable is 22
-    ∷ (2 * nOf hourTable * lOf hourTable) is 88
+    ∷ nOf every hourTable is 2
+    ∷ lOf every hourTable is 22
+    ∷ (2 * nOf every hourTable * lOf every hourTable) is 88
     -- border 0 ends at 2,599,999 kW
     ∷ either (outcomeOf hourTable) (λ r. r .outcome .state .x) (λ w. []) is (2599999 ∷ 1800000 ∷ [])
     ∷ [])

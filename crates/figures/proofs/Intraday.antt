@@ -10,13 +10,14 @@ use Rattle.numbers.specs.Ints.{minus}
 use Rattle.kinds.specs.Refusals.{passed, refused, refusal, either}
 use Rattle.text.specs.Sheets.{sheet}
 use Rattle.text.specs.Written.{decimal}
-use Rattle.table.specs.Table.{Table}
+use Rattle.table.specs.Table.{Table, judgeLent}
+use Rattle.table.proofs.GoodLaws.{judged-good}
 use Rattle.reading.specs.Reading.{balanceByte, readText}
 use Rattle.writing.specs.Writing.{tableText}
 use Rattle.start.specs.Start.{every}
 use Rattle.extraction.specs.Extraction.{outcomeOf, resultOf}
-use Rattle.promises.specs.DemandIn.{IntradayDemand3}
-use Rattle.promises.proofs.Demand3.{accepted-intraday}
+use Rattle.promises.specs.Demand.{ResultDemand3}
+use Rattle.promises.proofs.Demand3.{accepted-demand-3}
 use Rattle.answer.specs.Result.{answerText}
 use Rattle.figures.specs.Computed.{_is_, Hold}
 use Rattle.figures.specs.Computing.{computing}
@@ -83,6 +84,11 @@ hour-end : outcomeOf hour ≡ passed (resultOf hour)
 unfolding computing
 hour-end = refl
 
--- E12's demand 3 of it
-pub hour-demand : IntradayDemand3 hour every (hour .allocated) (resultOf hour)
-hour-demand = accepted-intraday hour refl (resultOf hour) hour-end
+hour-judged : judgeLent hour ≡ passed hour
+unfolding computing
+hour-judged = refl
+
+-- demand 3 of it, in E12's words
+pub hour-demand : ResultDemand3 hour every (resultOf hour)
+unfolding outcomeOf
+hour-demand = accepted-demand-3 every hour (resultOf hour) (judged-good hour hour hour-judged) hour-end

@@ -3,28 +3,39 @@
 use mathlib.Core.Path.{_≡_, refl, sym, ap, subst, _∙_}
 use mathlib.Core.Bool.{Bool, true, false, cond, not, _&&_, false≢true}
 use mathlib.Core.List.{List, []}
-use Prim.Native.Nat.{ℕ, _*_, _<_}
+use Prim.Native.Nat.{ℕ, _*_, _≤_, _<_}
 use native.Mathlib.Omega.{arith}
 use lib.IntN.{ℤ, pos, _+ℤ_, _-ℤ_, _*ℤ_, *ℤ-zero, +ℤ-idr}
 use lib.ListN.{length, getD}
 use lib.Signed.{ltZ, _≤ℤ_}
 use Rattle.numbers.specs.Ints.{positivePart, sumℤ}
 use Rattle.numbers.specs.Below.{someBelow}
-use Rattle.numbers.proofs.IntLaws.{diff, diffs, zarith}
+use Rattle.numbers.proofs.IntLaws.{diff, diffs, zarith, same-true}
 use Rattle.numbers.proofs.BelowLaws.{sum-cong, sumℤ-cong}
 use Rattle.numbers.proofs.SignedSums.{add-mulℤ, sumℤ-add, sumℤ-left}
 use Rattle.kinds.specs.declared.Hubs.{Hubs}
 use Rattle.kinds.specs.declared.Hubs.the-variants.{Without, Between}
 use Rattle.kinds.specs.declared.Border.{Border}
-use Rattle.kinds.specs.Ranges.{atℤ}
-use Rattle.table.specs.Table.{Table, borderAt, factorsAt}
+use Rattle.kinds.specs.Ranges.{isIntraday, atℤ}
+use Rattle.kinds.proofs.KindLaws.{allocated-most}
+use Rattle.table.specs.Table.{Table, balanced, borderAt, factorsAt}
 use Rattle.table.specs.Good.{Good}
-use Rattle.margin.specs.Margin.{flowOf, byHubs, signedFactor, pOf, ltaKw, sOf, sAt, ramAt}
+use Rattle.margin.specs.Margin.{flowOf, byHubs, signedFactor, pOf, ltaKw, sOf, sAt, ramAt, marginOf}
 use Rattle.margin.specs.Bounds.{HubsWithin, BorderBound}
 use Rattle.margin.proofs.JudgedLaws.{border-bound, good-factors, stretch-long}
 use Rattle.states.specs.States.{spreadOf, spreadLeast, shifted, below, stateOf}
 use Rattle.states.proofs.ShiftLaws.{shifted-alike}
-use Rattle.promises.specs.Ways.{lessSOf, Profile, remainderOf, marginIn, zeroOrTwo, Balanced}
+use Rattle.promises.specs.Demand.{lessSOf, remainderOf}
+use Rattle.promises.specs.Ways.{zeroOrTwo}
+
+-- ---- positions that sum to zero, at most one for each zone; the T positions of a judged table are
+record Balanced (zones : ℕ) (positions : List ℤ) : Type 0 where
+  few : length positions ≤ zones
+  none : sumℤ (length positions) (atℤ positions) ≡ pos 0
+
+table-balanced : {t : Table} → Good t → Balanced (t .header .zones) (t .allocated)
+unfolding balanced
+table-balanced {t} good = record { few = omega (arith, good .exact .allocated-long, allocated-most (t .header)); none = same-true _ (pos 0) (good .in-balance) }
 
 -- ---- factors that differ by one number
 cross : (a b c d k : ℤ) → a -ℤ c ≡ k → b -ℤ d ≡ k → a -ℤ b ≡ c -ℤ d
@@ -88,8 +99,8 @@ module _ {t : Table} (good : Good t) (j i : ℕ) (hj : j < t .header .rows) (e :
   unfolding sOf
   class-s = sum-cong (length (t .borders)) _ _ (λ b h. ap (λ (p : ℕ). p * ltaKw (borderAt t b)) (class-p b (omega (arith, good .exact .borders-long))))
 
-  class-flow : {allocated : List ℤ} → Balanced (t .header .zones) allocated → flowOf (factorsAt t j) allocated ≡ flowOf (factorsAt t i) allocated
-  class-flow {allocated} a = flow-same (factorsAt t j) (factorsAt t i) e (subst (λ (zones : ℕ). Balanced zones allocated) (sym long) a)
+  class-flow : flowOf (factorsAt t j) (t .allocated) ≡ flowOf (factorsAt t i) (t .allocated)
+  class-flow = flow-same (factorsAt t j) (factorsAt t i) e (subst (λ (zones : ℕ). Balanced zones (t .allocated)) (sym long) (table-balanced good))
 
   -- the margins of two rows of a class differ as their RAMs do
   less-le : (x y c d : ℤ) → c ≡ d → x ≤ℤ y → (x -ℤ c) ≤ℤ (y -ℤ d)
@@ -97,11 +108,11 @@ module _ {t : Table} (good : Good t) (j i : ℕ) (hj : j < t .header .rows) (e :
       let h′ = simp diffs at (rw (diff x, diff y) at h) in
       rw (e) (rw (diff x, diff y, diff d) (simp diffs (omega (zarith, h′))))
 
-  pub class-margin : (profile : Profile) → Balanced (t .header .zones) (profile .allocated) → ramAt t j ≤ℤ ramAt t i → marginIn profile t j ≤ℤ marginIn profile t i
-  class-margin profile a h = go (profile .intraday)
+  pub class-margin : ramAt t j ≤ℤ ramAt t i → marginOf t j ≤ℤ marginOf t i
+  class-margin h = go (isIntraday (t .header))
     where
-      go : (intraday : Bool) → cond intraday (remainderOf t (profile .allocated) j) (lessSOf t j) ≤ℤ cond intraday (remainderOf t (profile .allocated) i) (lessSOf t i)
-      go true = less-le _ _ _ _ (class-flow a) h
+      go : (late : Bool) → cond late (remainderOf t j) (lessSOf t j) ≤ℤ cond late (remainderOf t i) (lessSOf t i)
+      go true = less-le _ _ _ _ class-flow h
       go false = less-le _ _ _ _ (ap pos class-s) h
 
 -- ---- states

@@ -1,4 +1,5 @@
--- Demand 3 of every setup (`specs/DemandBy.antt`), from demand 3 over natural numbers (crate rounds); and the most rounds, by how large the margins start.
+-- What demand 3 of a table takes from its setup, whichever rows take part, whichever borders may rise and from margins of any kind: from demand 3 over natural numbers
+-- (crate rounds), which knows of no border that is not marked. And the most rounds, by how large the margins start. No contract cites this file.
 -- p splits in two: at marked borders it is the grid's, and the other borders stay where they start, so that they carry no more than they did.
 use mathlib.Core.Path.{_≡_, refl, sym, ap, _∙_}
 use mathlib.Core.Bool.{Bool, true, false, cond}
@@ -14,8 +15,11 @@ use Rattle.rounds.proofs.Rounds.{extracts}
 use Rattle.rounds.proofs.Theorems.{extract-demand3, most-rounds}
 use Rattle.start.specs.Setup.{Setup, gridBy, beginBy, endBy}
 use Rattle.extraction.proofs.AcceptedLaws.{part-le-whole}
-use Rattle.promises.specs.DemandBy.{loadBy, DemandBy}
 use Rattle.promises.proofs.SetupLaws.{margin-at, from-at, p-marked, p-unmarked, unloaded-stays}
+
+-- row i's load from exchanges v, over all borders, marked or not
+abbrev pub loadBy : Setup → (i : ℕ) → (v : ℕ → ℕ) → ℕ
+loadBy s i v = sum (s .borders) (λ b. s .p i b * v b)
 
 module _ (s : Setup) where
   abbrev g : Grid
@@ -27,7 +31,12 @@ module _ (s : Setup) where
   abbrev end : Outcome
   end = endBy s
 
-  stays : (b : ℕ) → b < s .borders → s .marked b ≡ false → at (end .state .x) b ≡ s .from b
+  -- no border fell, and one that is not marked stays where it started
+  pub rises : (b : ℕ) → b < s .borders → s .from b ≤ at (end .state .x) b
+  unfolding endBy gridBy
+  rises b h = omega (arith, extract-demand3 g start .rose b h, from-at s b h)
+
+  pub stays : (b : ℕ) → b < s .borders → s .marked b ≡ false → at (end .state .x) b ≡ s .from b
   unfolding endBy gridBy
   stays b h m = unloaded-stays (extracts g start) b h (λ r l. p-unmarked s r b m) ∙ from-at s b h
 
@@ -58,7 +67,8 @@ module _ (s : Setup) where
     start-load : sum (s .borders) (λ b. g .p i b * at (start .x) b) ≡ sum (s .borders) (λ b. g .p i b * s .from b)
     start-load = sum-cong (s .borders) _ _ (λ b h. ap (λ (x : ℕ). g .p i b * x) (from-at s b h))
 
-    within-all : (e : List ℕ) → ((b : ℕ) → b < s .borders → at e b ≤ at (end .state .x) b) → i < s .rows → loadBy s i (at e) ≤ positivePart (s .margin i) + loadBy s i (s .from)
+    -- any exchanges from zero up to the final ones load a row that takes part within its margin and its load at the start
+    pub within-all : (e : List ℕ) → ((b : ℕ) → b < s .borders → at e b ≤ at (end .state .x) b) → i < s .rows → loadBy s i (at e) ≤ positivePart (s .margin i) + loadBy s i (s .from)
     unfolding endBy gridBy load
     within-all e h hi =
         let u : sum (s .borders) (λ b. g .p i b * at e b) ≤ at (start .margins) i + sum (s .borders) (λ b. g .p i b * at (start .x) b) = extract-demand3 g start .within e h i hi in
@@ -71,25 +81,12 @@ module _ (s : Setup) where
         go true e = rw (p-marked s i b k e, from-at s b h)
         go false e = rw (p-unmarked s i b e, stays b h e, sub-self (s .from b)) (omega (arith, zero-mul (s .from b - at (start .x) b), mul-zero (s .p i b)))
 
-    lost-all : i < s .rows → at (end .state .margins) i + sum (s .borders) (λ b. s .p i b * (at (end .state .x) b - s .from b)) ≡ positivePart (s .margin i)
+    -- what it lost is the sum of p times what each border rose by
+    pub lost-all : i < s .rows → at (end .state .margins) i + sum (s .borders) (λ b. s .p i b * (at (end .state .x) b - s .from b)) ≡ positivePart (s .margin i)
     unfolding endBy gridBy
     lost-all hi =
         ap (λ (v : ℕ). at (end .state .margins) i + v) (sym (sum-cong (s .borders) _ _ rise-same))
         ∙ extract-demand3 g start .lost i hi ∙ margin-at s i hi k
-
-  -- demand 3 of every setup
-  pub demand-by : DemandBy s (endBy s)
-  unfolding endBy gridBy
-  demand-by =
-      let d = extract-demand3 g start in
-      record {
-        within = λ e h i hi k. within-all i k e h hi;
-        rose = λ b h. omega (arith, d .rose b h, from-at s b h);
-        stayed = stays;
-        lost = λ i hi k. lost-all i k hi;
-        few = d .few;
-        still = d .still;
-      }
 
 -- starting margins under 2^E: at most 2 B E rounds, in any profile
 pub setup-rounds : (s : Setup) (B E : ℕ) → s .borders ≤ B → ((i : ℕ) → i < s .rows → positivePart (s .margin i) < 2 ^ E) → endBy s .rounds ≤ 2 * B * E

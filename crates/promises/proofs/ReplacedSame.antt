@@ -15,14 +15,15 @@ use Rattle.kinds.specs.Limits.{shareMost}
 use Rattle.kinds.specs.Ranges.{isIntraday, atℤ, shareOf, rowOf, rowFits, worth, defaultOf}
 use Rattle.kinds.specs.Refusals.{passed, then}
 use Rattle.kinds.proofs.KindLaws.{row-in, default-low, default-fits}
+use Rattle.marks.specs.Marks.{judgeAsked, mayRise}
 use Rattle.table.specs.Table.{Table, factorsAt}
 use Rattle.table.specs.Good.{Good}
 use Rattle.margin.specs.Margin.{f0coreOf, fuafOf, baseOf, amrOf, ltaMarginOf, ramOf, sAt, ramAt, startBy, marginOf, ramsOf, startsOf}
 use Rattle.states.specs.States.{statesOf}
-use Rattle.start.specs.Setup.{gridBy, beginBy, judgeBy}
+use Rattle.start.specs.Setup.{Setup, gridBy, beginBy, judgeBy}
 use Rattle.start.specs.Start.{Rows, rowsOf, kept, every, setupWith}
 use Rattle.start.specs.Filled.{cells}
-use Rattle.extraction.specs.Extraction.{resultBy, resultOf, outcomeOf, outcomeMarked, resultMarked}
+use Rattle.extraction.specs.Extraction.{resultBy, resultMarked, outcomeMarked, outcomeFor}
 use Rattle.promises.specs.Replaced.{replacedShare, replacedRow, replacedRows, replaced, ReplacedSame}
 
 -- ---- one row
@@ -98,12 +99,14 @@ module _ (t : Table) where
   unfolding rowsOf
   same-rows = ap (λ (rams : List ℤ). record { rams = rams; states = statesOf (t .header) (t .factors) rams }) same-rams
 
-  same-outcome : outcomeOf (replaced t) ≡ outcomeOf t
-  unfolding outcomeOf resultOf resultMarked outcomeMarked
-  same-outcome =
+  same-outcome : (all : Bool) (marks : List ℕ) → outcomeFor all marks (replaced t) ≡ outcomeFor all marks t
+  unfolding outcomeFor outcomeMarked resultMarked
+  same-outcome all marks =
       ap₂ (λ (rows : Rows) (starts : List ℤ).
-      let setup = setupWith (kept (rows .states)) every (t .header) (t .borders) (t .factors) starts in
-      then (judgeBy setup (rows .states)) (λ states. passed (resultBy (t .header) rows (cells (gridBy setup)) (gridBy setup) (beginBy setup))))
+      let setup : (ℕ → Bool) → Setup = λ marked. setupWith (kept (rows .states)) marked (t .header) (t .borders) (t .factors) starts in
+      let marked = mayRise all marks in
+      judgeAsked all (t .header .borders) marks
+      (then (judgeBy (setup marked) (rows .states)) (λ states. passed (resultBy (t .header) rows (cells (gridBy (setup every))) (gridBy (setup marked)) (beginBy (setup every))))))
       same-rows same-starts
 
   stays-good : Good t → Good (replaced t)

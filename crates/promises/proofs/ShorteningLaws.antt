@@ -2,44 +2,74 @@
 -- Each row of states 0 and 2 is covered by the kept row of its class, which has the lowest RAM. State 1 is the spread alone, so that states 0 and 2 go with the rows in
 -- any order; which of a class is kept is never spoken of.
 use mathlib.Core.Path.{_≡_, refl, sym, ap, subst, _∙_}
-use mathlib.Core.Bool.{Bool, true, not, _||_}
+use mathlib.Core.Bool.{Bool, true, false, cond, not, _||_}
 use mathlib.Core.List.{List}
-use Prim.Native.Nat.{ℕ, _<_}
+use mathlib.Core.Option.{Option, none, some}
+use Prim.Native.Nat.{ℕ, _+_, _<_}
 use native.Mathlib.Omega.{arith}
-use lib.Dec.{eqb}
+use lib.Dec.{ltb, eqb}
 use lib.IntN.{ℤ, pos}
+use lib.ListN.{length}
 use lib.Signed.{ltZ, _≤ℤ_, ≤ℤ-refl}
-use Rattle.numbers.specs.Below.{at}
+use Rattle.numbers.specs.Below.{at, firstFrom}
 use Rattle.numbers.proofs.BelowLaws.{table-get}
 use Rattle.kinds.specs.declared.Header.{Header}
-use Rattle.kinds.specs.Ranges.{atℤ}
+use Rattle.kinds.specs.Ranges.{isIntraday, atℤ}
+use Rattle.kinds.specs.Refusals.{Judged, unless, refuseAt, refuseFirst, badMark}
+use Rattle.marks.specs.Marks.{faultyMark, judgeMarks, judgeAsked, mayRise}
 use Rattle.table.specs.Table.{Table, borderAt, factorsAt}
 use Rattle.table.specs.Good.{Good}
-use Rattle.margin.specs.Margin.{pOf, ramAt, ramsOf}
+use Rattle.margin.specs.Margin.{pOf, ramAt, marginOf, ramsOf}
 use Rattle.margin.proofs.JudgedLaws.{good-factors}
 use Rattle.states.specs.States.{spreadOf, spreadLeast, shifted, stateOf}
 use Rattle.states.proofs.ShiftLaws.{shifted-self}
 use Rattle.states.proofs.OneKept.{one-kept}
-use Rattle.start.specs.Setup.{endBy}
-use Rattle.start.specs.Start.{rowsOf, kept}
-use Rattle.extraction.specs.Extraction.{inMw, atcOf}
-use Rattle.promises.specs.Ways.{Profile, marginIn, setupIn, resultIn, outcomeIn, zeroOrTwo, unshortened, Balanced}
+use Rattle.start.specs.Setup.{beginBy, endBy}
+use Rattle.start.specs.Start.{rowsOf, kept, setupOf, setupWith}
+use Rattle.extraction.specs.Extraction.{inMw, atcOf, resultMarked, outcomeMarked, outcomeFor}
+use Rattle.promises.specs.Ways.{resultIn, outcomeIn, outcomeTaking, zeroOrTwo, unshortened}
 use Rattle.promises.specs.Same.{SameResult, Both}
 use Rattle.promises.specs.Order.{Reordered}
+use Rattle.promises.proofs.SetupLaws.{then-judged}
 use Rattle.promises.proofs.Alike.{Alike, same-end, same-judged}
 use Rattle.promises.proofs.Classes.{class-p, class-margin, wide-is, not-one}
 
+-- ---- of state 0 alone: the calls' own outcome
+pub taking-kept : (all : Bool) (marks : List ℕ) (t : Table) → outcomeTaking kept all marks t ≡ outcomeFor all marks t
+unfolding outcomeTaking outcomeFor outcomeIn outcomeMarked resultIn resultMarked setupWith beginBy
+taking-kept all marks t =
+    let marked = mayRise all marks in
+    ap (judgeAsked all (t .header .borders) marks) (sym (then-judged (setupOf kept marked t) (rowsOf t .states) (λ states. resultMarked marked t)))
+
 -- ---- the outcomes of alike setups
-module _ (profile : Profile) (takes takes′ : List ℕ → ℕ → Bool) (marked : ℕ → Bool) (t t′ : Table) where
-  pub alike-results : Alike (setupIn profile takes marked t) (setupIn profile takes′ marked t′)
-      → Both (SameResult (t .header .borders)) (outcomeIn profile takes marked t) (outcomeIn profile takes′ marked t′)
-  unfolding outcomeIn resultIn endBy atcOf setupIn
+module _ (takes takes′ : List ℕ → ℕ → Bool) (marked : ℕ → Bool) (t t′ : Table) where
+  alike-results : Alike (setupOf takes marked t) (setupOf takes′ marked t′) → Both (SameResult (t .header .borders)) (outcomeIn takes marked t) (outcomeIn takes′ marked t′)
+  unfolding outcomeIn resultIn endBy atcOf setupWith
   alike-results a =
-      let s = setupIn profile takes marked t in
-      let s′ = setupIn profile takes′ marked t′ in
+      let s = setupOf takes marked t in
+      let s′ = setupOf takes′ marked t′ in
       let e = same-end s s′ a in
-      same-judged s s′ a (SameResult (t .header .borders)) (resultIn profile takes marked t) (resultIn profile takes′ marked t′)
+      same-judged s s′ a (SameResult (t .header .borders)) (resultIn takes marked t) (resultIn takes′ marked t′)
       (record { rounds = e .rounds; atcs = λ b h. ap inMw (e .exchanges b h) })
+
+-- .. as asked: 13 is the same of both
+asked-both : {A : Type 0} (like : A → A → Type 0) (all : Bool) (borders : ℕ) (marks : List ℕ) (j j′ : Judged A) → Both like j j′ → Both like (judgeAsked all borders marks j) (judgeAsked all borders marks j′)
+unfolding judgeMarks refuseFirst unless refuseAt
+asked-both {A} like all borders marks j j′ both = go all (ltb 0 (length marks)) (firstFrom (length marks) 0 (faultyMark borders marks))
+  where
+    go : (all some-mark : Bool) (o : Option ℕ)
+        → Both like (cond all j (unless some-mark (badMark 0) (refuseAt o (λ k. badMark (k + 1)) j))) (cond all j′ (unless some-mark (badMark 0) (refuseAt o (λ k. badMark (k + 1)) j′)))
+    go true m o = both
+    go false false o = record { number = refl; place = λ n. refl }
+    go false true (some k) = record { number = refl; place = λ n. refl }
+    go false true none = both
+
+pub alike-outcomes : (takes takes′ : List ℕ → ℕ → Bool) (all : Bool) (marks : List ℕ) (t t′ : Table) → t′ .header .borders ≡ t .header .borders
+    → Alike (setupOf takes (mayRise all marks) t) (setupOf takes′ (mayRise all marks) t′) → Both (SameResult (t .header .borders)) (outcomeTaking takes all marks t) (outcomeTaking takes′ all marks t′)
+unfolding outcomeTaking
+alike-outcomes takes takes′ all marks t t′ same a =
+    subst (λ (n : ℕ). Both (SameResult (t .header .borders)) (outcomeTaking takes all marks t) (judgeAsked all n marks (outcomeIn takes′ (mayRise all marks) t′))) (sym same)
+    (asked-both (SameResult (t .header .borders)) all (t .header .borders) marks _ _ (alike-results takes takes′ (mayRise all marks) t t′ a))
 
 -- ---- the states and margins of a table's rows
 module _ (t : Table) (i : ℕ) (h : i < t .header .rows) where
@@ -50,15 +80,15 @@ module _ (t : Table) (i : ℕ) (h : i < t .header .rows) where
   ram-at : atℤ (ramsOf t) i ≡ ramAt t i
   ram-at = table-get (t .header .rows) (ramAt t) i (pos 0) h
 
-  margin-in : (profile : Profile) (takes : List ℕ → ℕ → Bool) (marked : ℕ → Bool) → setupIn profile takes marked t .margin i ≡ marginIn profile t i
-  unfolding setupIn
-  margin-in profile takes marked = table-get (t .header .rows) (marginIn profile t) i (pos 0) h
+  margin-in : (takes : List ℕ → ℕ → Bool) (marked : ℕ → Bool) → setupOf takes marked t .margin i ≡ marginOf t i
+  unfolding setupWith
+  margin-in takes marked = table-get (t .header .rows) (marginOf t) i (pos 0) h
 
 le-same : (x x′ y y′ : ℤ) → x′ ≡ x → y′ ≡ y → x ≤ℤ y → x′ ≤ℤ y′
 le-same x x′ y y′ e q h = subst (λ (z : ℤ). z ≤ℤ y′) (sym e) (subst (λ (z : ℤ). x ≤ℤ z) (sym q) h)
 
 -- ---- states 0 and 2 against state 0
-module _ {t : Table} (good : Good t) (marked : ℕ → Bool) (profile : Profile) (balanced : Balanced (t .header .zones) (profile .allocated)) where
+module _ {t : Table} (good : Good t) (marked : ℕ → Bool) where
   kept-too : (i : ℕ) → kept (rowsOf t .states) i ≡ true → unshortened (rowsOf t .states) i ≡ true
   unfolding kept unshortened
   kept-too i k = ap (λ (v : Bool). v || eqb (at (rowsOf t .states) i) 2) k
@@ -71,8 +101,8 @@ module _ {t : Table} (good : Good t) (marked : ℕ → Bool) (profile : Profile)
   unfolding kept
   kept-state i h e = ap (λ (v : ℕ). eqb v 0) (state-at t i h ∙ e)
 
-  pub shortened : Alike (setupIn profile kept marked t) (setupIn profile unshortened marked t)
-  unfolding setupIn
+  pub shortened : Alike (setupOf kept marked t) (setupOf unshortened marked t)
+  unfolding setupWith
   shortened =
       record {
         borders = refl;
@@ -89,8 +119,8 @@ module _ {t : Table} (good : Good t) (marked : ℕ → Bool) (profile : Profile)
               takes = kept-state j (l .in-range) (l .is-kept);
               same = class-p good j i (l .in-range) (l .alike);
               lower =
-                  le-same _ _ _ _ (margin-in t j (l .in-range) profile kept marked) (margin-in t i h profile kept marked)
-                  (class-margin good j i (l .in-range) (l .alike) profile balanced (le-same _ _ _ _ (sym (ram-at t j (l .in-range))) (sym (ram-at t i h)) (l .lowest i h (shifted-row i))));
+                  le-same _ _ _ _ (margin-in t j (l .in-range) kept marked) (margin-in t i h kept marked)
+                  (class-margin good j i (l .in-range) (l .alike) (le-same _ _ _ _ (sym (ram-at t j (l .in-range))) (sym (ram-at t i h)) (l .lowest i h (shifted-row i))));
             };
       }
     where
@@ -118,28 +148,28 @@ module _ {t t′ : Table} (o : Reordered t t′) where
   p-moved : (i b : ℕ) → i < t .header .rows → pOf (factorsAt t′ i) (borderAt t′ b) ≡ pOf (factorsAt t (o .row i)) (borderAt t b)
   p-moved i b h = rw (o .factors i h, o .borders)
 
-  margin-moved : (profile : Profile) (i : ℕ) → i < t .header .rows → marginIn profile t′ i ≡ marginIn profile t (o .row i)
-  margin-moved profile i h = rw (ram-moved i h, o .factors i h, o .borders)
+  margin-moved : (i : ℕ) → i < t .header .rows → marginOf t′ i ≡ marginOf t (o .row i)
+  margin-moved i h = rw (ram-moved i h, o .factors i h, o .borders, o .allocated, o .header)
 
-  module _ (marked : ℕ → Bool) (profile : Profile) where
+  module _ (marked : ℕ → Bool) where
     abbrev at-first : (i : ℕ) → ℤ
-    at-first i = setupIn profile unshortened marked t .margin i
+    at-first i = setupOf unshortened marked t .margin i
 
     abbrev at-second : (i : ℕ) → ℤ
-    at-second i = setupIn profile unshortened marked t′ .margin i
+    at-second i = setupOf unshortened marked t′ .margin i
 
     starts-moved : (i : ℕ) → i < t .header .rows → at-second i ≡ at-first (o .row i)
     starts-moved i h =
-        margin-in t′ i (omega (arith, same-rows)) profile unshortened marked ∙ margin-moved profile i h ∙ sym (margin-in t (o .row i) (o .row-below i h) profile unshortened marked)
+        margin-in t′ i (omega (arith, same-rows)) unshortened marked ∙ margin-moved i h ∙ sym (margin-in t (o .row i) (o .row-below i h) unshortened marked)
 
-    pub moved : Alike (setupIn profile unshortened marked t) (setupIn profile unshortened marked t′)
-    unfolding setupIn
+    pub moved : Alike (setupOf unshortened marked t) (setupOf unshortened marked t′)
+    unfolding setupWith
     moved =
         record {
           borders = ap (λ (h : Header). h .borders) (o .header);
           marked = λ b h. refl;
-          from = λ b h. rw (o .borders);
-          strict = refl;
+          from = λ b h. rw (o .header, o .borders);
+          strict = ap (λ (h : Header). not (isIntraday h)) (o .header);
           there = λ i h k.
               let j = o .place i in
               let hj : j < t .header .rows = o .place-below i h in

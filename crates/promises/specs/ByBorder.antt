@@ -1,28 +1,33 @@
--- 02, E9: the lent table of p, which the rounds read, against the zone factors. The statement, proved of every accepted table (`proofs/ByBorder.antt`).
+-- 02, E9: the lent table of p, which the rounds read, against the zone factors, with any borders marked (02, E13). The statement, proved of every accepted table
+-- (`proofs/ByBorder.antt`).
 use mathlib.Core.Path.{_≡_}
-use mathlib.Core.Bool.{cond}
+use mathlib.Core.Bool.{Bool, cond}
 use mathlib.Core.List.{List}
 use Prim.Native.Nat.{ℕ, _+_, _*_, _<_}
 use Rattle.numbers.specs.Below.{at}
 use Rattle.table.specs.Table.{Table, borderAt, factorsAt}
 use Rattle.rounds.specs.Rounds.{Grid, State, raise, next, extract}
-use Rattle.rounds.specs.Work.{flat}
 use Rattle.margin.specs.Margin.{pOf}
-use Rattle.start.specs.Start.{rowsOf, kept, tableGrid, tableStart}
-use Rattle.extraction.specs.Extraction.{resultOf}
+use Rattle.start.specs.Start.{rowsOf, kept, gridMarked, tableStart}
+use Rattle.extraction.specs.Extraction.{resultMarked}
 
--- the grid that a list of p lays out: row i's factors begin at item i x borders, border after border
-abbrev pub laidOut : Table → (p : List ℕ) → Grid
-laidOut t p = flat (t .header .rows) (t .header .borders) p
+-- the grid that a list of p lays out: row i's factors begin at item i x borders, border after border. The rounds take those of the marked borders
+abbrev pub laidOut : Table → (marked : ℕ → Bool) → (p : List ℕ) → Grid
+laidOut t marked p =
+    record {
+      rows = t .header .rows;
+      borders = t .header .borders;
+      p = λ i b. cond (marked b) (at p (i * t .header .borders + b)) 0;
+    }
 
-pub record ByBorder (t : Table) (p : List ℕ) : Type 0 where
-  -- at every row and border the p that the zone factors give, and 0 where the row is not kept
+pub record ByBorder (t : Table) (marked : ℕ → Bool) (p : List ℕ) : Type 0 where
+  -- at every row and border, marked or not, the p that the zone factors give, and 0 where the row is not kept
   pub same : (i b : ℕ) → i < t .header .rows → b < t .header .borders
       → at p (i * t .header .borders + b) ≡ cond (kept (rowsOf t .states) i) (pOf (factorsAt t i) (borderAt t b)) 0
   -- and so equal raises at any margins,
-  pub raises : (margins : List ℕ) (b : ℕ) → b < t .header .borders → raise (laidOut t p) margins b ≡ raise (tableGrid t) margins b
+  pub raises : (margins : List ℕ) (b : ℕ) → b < t .header .borders → raise (laidOut t marked p) margins b ≡ raise (gridMarked marked t) margins b
   -- equal margins and exchanges after a round,
-  pub round : (s : State) → next (laidOut t p) s ≡ next (tableGrid t) s
+  pub round : (s : State) → next (laidOut t marked p) s ≡ next (gridMarked marked t) s
   -- and equal rounds, from any start; from the table's own they end where its result does
-  pub rounds : (s : State) → extract (laidOut t p) s ≡ extract (tableGrid t) s
-  pub ends : extract (laidOut t p) (tableStart t) ≡ resultOf t .outcome
+  pub rounds : (s : State) → extract (laidOut t marked p) s ≡ extract (gridMarked marked t) s
+  pub ends : extract (laidOut t marked p) (tableStart t) ≡ resultMarked marked t .outcome

@@ -1,8 +1,6 @@
 pub mod Demand
 pub mod DemandLeft
-pub mod DemandBy
 pub mod Ways
-pub mod DemandIn
 pub mod Same
 pub mod Order
 pub mod Seven

@@ -2,7 +2,7 @@
 -- `replaced` is the table with its "-" replaced; `ReplacedSame` says that no row of it has "-", that it is as good as the table, and that RAM, states,
 -- capacities, rounds and refusals are the same. It is proved in `proofs/ReplacedSame.antt`.
 use mathlib.Core.Path.{_≡_}
-use mathlib.Core.Bool.{false, cond}
+use mathlib.Core.Bool.{Bool, false, cond}
 use mathlib.Core.List.{List, [], _∷_}
 use Prim.Native.Nat.{ℕ}
 use lib.IntN.{ℤ, pos}
@@ -13,7 +13,7 @@ use Rattle.table.specs.Table.{Table}
 use Rattle.table.specs.Good.{Good}
 use Rattle.margin.specs.Margin.{ramAt, ramsOf}
 use Rattle.start.specs.Start.{rowsOf}
-use Rattle.extraction.specs.Extraction.{outcomeOf}
+use Rattle.extraction.specs.Extraction.{outcomeFor}
 
 -- R as a raw number, the default where it was "-"
 abbrev pub replacedShare : (default r : ℤ) → ℤ
@@ -50,5 +50,5 @@ pub record ReplacedSame (t : Table) : Type 0 where
   pub rams : ramsOf (replaced t) ≡ ramsOf t
   -- and so the states
   pub rows : rowsOf (replaced t) ≡ rowsOf t
-  -- and so the capacities and the rounds, or the refusal
-  pub outcome : outcomeOf (replaced t) ≡ outcomeOf t
+  -- and so the capacities and the rounds, or the refusal, of every border or with marks
+  pub outcome : (all : Bool) (marks : List ℕ) → outcomeFor all marks (replaced t) ≡ outcomeFor all marks t

@@ -1,39 +1,46 @@
--- 02, E7: which row stopped a border, and which round raised it last, in the words of the table and of its result. The statements, proved of every accepted
--- table (`proofs/Stopped.antt`). Rows, states and factors are the table's own.
+-- 02, E7: which row stopped a border, and which round raised it last, in the words of the table and of its result, with any borders marked (02, E13). The statements,
+-- proved of every accepted table (`proofs/Stopped.antt`). Rows, states and factors are the table's own.
 use mathlib.Core.Path.{_≡_}
-use mathlib.Core.Bool.{true}
+use mathlib.Core.Bool.{Bool, true}
 use mathlib.Core.List.{List, []}
-use mathlib.Core.Option.{some}
+use mathlib.Core.Option.{none, some}
 use Prim.Native.Nat.{ℕ, _/_, _≤_, _<_}
 use lib.IntN.{ℤ, pos}
 use lib.ListN.{getD}
+use Rattle.numbers.specs.Ints.{minus}
 use Rattle.kinds.specs.Ranges.{atℤ}
 use Rattle.table.specs.Table.{Table, borderAt, factorsAt}
 use Rattle.rounds.specs.Rounds.{sharers}
 use Rattle.rounds.specs.Last.{LastRaise}
 use Rattle.margin.specs.Margin.{pOf}
-use Rattle.start.specs.Start.{rowsOf, kept, tableGrid, tableStart}
-use Rattle.extraction.specs.Extraction.{Result, resultOf, leftOf, lastOf, stopOf}
+use Rattle.start.specs.Start.{rowsOf, kept, gridMarked, tableStart}
+use Rattle.extraction.specs.Extraction.{Result, resultMarked, leftOf, lastOf, stopOf}
 
--- what border b could rise by from row i's equal share of its margin left, whole kW
-abbrev pub shareKw : Table → Result → (b i : ℕ) → ℕ
-shareKw t r b i = leftOf r i / sharers (tableGrid t) i / pOf (factorsAt t i) (borderAt t b)
+-- what border b could rise by from row i's equal share of its margin left, whole kW: shared among the marked borders
+abbrev pub shareKw : Table → (marked : ℕ → Bool) → Result → (b i : ℕ) → ℕ
+shareKw t marked r b i = leftOf r i / sharers (gridMarked marked t) i / pOf (factorsAt t i) (borderAt t b)
 
 -- row i is the first kept row with p > 0 whose equal share at the end is under one kW for border b
-pub record StoppedBy (t : Table) (r : Result) (b i : ℕ) : Type 0 where
+pub record StoppedBy (t : Table) (marked : ℕ → Bool) (r : Result) (b i : ℕ) : Type 0 where
   pub row : i < t .header .rows
   pub takes : kept (rowsOf t .states) i ≡ true
   pub loads : 0 < pOf (factorsAt t i) (borderAt t b)
-  pub under : shareKw t r b i < 1
-  pub first : (j : ℕ) → j < i → kept (rowsOf t .states) j ≡ true → 0 < pOf (factorsAt t j) (borderAt t b) → 1 ≤ shareKw t r b j
+  pub under : shareKw t marked r b i < 1
+  pub first : (j : ℕ) → j < i → kept (rowsOf t .states) j ≡ true → 0 < pOf (factorsAt t j) (borderAt t b) → 1 ≤ shareKw t marked r b j
 
-pub record BorderStopped (t : Table) (r : Result) (b : ℕ) : Type 0 where
+-- of a marked border
+pub record BorderStopped (t : Table) (marked : ℕ → Bool) (r : Result) (b : ℕ) : Type 0 where
   -- there is such a row, and the result has it
   pub row : ℕ
   pub found : stopOf r b ≡ some row
-  pub stopped : StoppedBy t r b row
+  pub stopped : StoppedBy t marked r b row
   -- the result's last round is the last one in which the rules raise the border, or 0
-  pub last : LastRaise (tableGrid t) (tableStart t) b (r .outcome .rounds) (lastOf r b)
+  pub last : LastRaise (gridMarked marked t) (tableStart t) b (r .outcome .rounds) (lastOf r b)
+
+-- a border that is not marked was never raised, and no row stopped it
+pub record Unmarked (r : Result) (b : ℕ) : Type 0 where
+  pub last : lastOf r b ≡ 0
+  pub stop : stopOf r b ≡ none
 
 -- the last round and the row, as the lent results hold them
 abbrev pub lastIn : (atcs : List (List ℤ)) → (b : ℕ) → ℤ
@@ -42,7 +49,13 @@ lastIn atcs b = atℤ (getD atcs b []) 1
 abbrev pub rowIn : (atcs : List (List ℤ)) → (b : ℕ) → ℤ
 rowIn atcs b = atℤ (getD atcs b []) 2
 
-pub record LeftStopped (t : Table) (atcs : List (List ℤ)) (b : ℕ) : Type 0 where
-  pub of-result : BorderStopped t (resultOf t) b
+-- .. of a marked border
+pub record LeftStopped (t : Table) (marked : ℕ → Bool) (atcs : List (List ℤ)) (b : ℕ) : Type 0 where
+  pub of-result : BorderStopped t marked (resultMarked marked t) b
   pub row-left : rowIn atcs b ≡ pos (of-result .row)
-  pub last-left : lastIn atcs b ≡ pos (lastOf (resultOf t) b)
+  pub last-left : lastIn atcs b ≡ pos (lastOf (resultMarked marked t) b)
+
+-- .. and of one that is not marked: 0, and -1 for "-"
+pub record LeftUnmarked (atcs : List (List ℤ)) (b : ℕ) : Type 0 where
+  pub row-left : rowIn atcs b ≡ minus 1
+  pub last-left : lastIn atcs b ≡ pos 0

@@ -4,12 +4,14 @@ use mathlib.Core.Path.{_≡_, refl}
 use mathlib.Core.List.{[], _∷_, _++_}
 use Prim.Native.String.{String}
 use lib.IntN.{pos}
-use Rattle.numbers.specs.Below.{firstFrom, given}
+use lib.ListN.{length, take}
+use Rattle.numbers.specs.Below.{firstFrom, given, table}
 use Rattle.numbers.specs.Ints.{minus, inside}
 use Rattle.kinds.specs.declared.Header.{Header}
-use Rattle.kinds.specs.Refusals.{Judged, passed, refused, unless, refuseAt, refuseFirst, wrongFormAt, wrongForm, outOfRangeAt}
+use Rattle.kinds.specs.Refusals.{Judged, passed, refused, then, either, unless, need, refuseAt, refuseFirst, wrongFormAt, wrongForm, outOfRangeAt}
 use Rattle.kinds.specs.Ranges.{headerFits, shareOf, rowFits, rowOf, factorFits}
 use Rattle.text.specs.Fields.{numberAt, shareAt}
+use Rattle.text.specs.Left.{TextLeft, textLeft}
 use Rattle.text.specs.Sheets.{sheet}
 use Rattle.text.specs.Written.{textOf, decimal, linesText}
 use Rattle.text.specs.Point.{decimalsAt, pointAt, signedPointAt, lastDigits, pointed, pointedℤ}
@@ -22,10 +24,11 @@ use Rattle.blame.specs.RangeBlame.{pastSeps, rangeByte}
 use Rattle.block.specs.Block.{linesAt}
 use Rattle.table.specs.Table.{stretch}
 use Rattle.lines.specs.SheetLine.{sheetLine}
-use Rattle.rowsheet.specs.RowSheet.{Rows, readSheet, sheetOf, rowsInRange}
+use Rattle.rowsheet.specs.RowSheet.{Rows, readSheet, rowRoom, sheetOf, rowsInRange, judgeRows, writeRowsLeft}
+use Rattle.rowsheet.proofs.LengthLaws.{sheetMost}
 
 unfoldable computing : Unit {0}
-unfolding readSheet sheetOf rowsInRange sheetLine linesAt bareIndexAt bareLine bareIndexText bareText restAt fieldsAt fieldAt fieldText fieldsEnded goodAt byteAt fieldsByte bareByte pastSeps rangeByte numberAt shareAt textOf decimal linesText decimalsAt pointAt signedPointAt lastDigits pointed pointedℤ unless refuseAt refuseFirst firstFrom given inside headerFits shareOf rowFits rowOf factorFits stretch
+unfolding readSheet rowRoom sheetOf rowsInRange judgeRows writeRowsLeft textLeft then either need table sheetLine linesAt bareIndexAt bareLine bareIndexText bareText restAt fieldsAt fieldAt fieldText fieldsEnded goodAt byteAt fieldsByte bareByte pastSeps rangeByte numberAt shareAt textOf decimal linesText decimalsAt pointAt signedPointAt lastDigits pointed pointedℤ unless refuseAt refuseFirst firstFrom given inside headerFits shareOf rowFits rowOf factorFits stretch
 computing = tt
 
 abbrev two : Header
@@ -43,6 +46,10 @@ text = "0;1.500;0.100;-0.020;0.000;-;0.000;0.007;0.50000;-0.12345/1;2000.000;0.0
 
 abbrev reads : String → Judged Rows
 reads s = readSheet two (sheet s)
+
+-- what `write_rows` leaves of three records of which the header says two, in as many bytes as their sheet has and two more
+abbrev left : TextLeft
+left = writeRowsLeft two (rows .rows ++ ((pos 0 ∷ []) ∷ [])) (rows .factors ++ (pos 9 ∷ [])) (table (length (sheet text)) (λ k. 0) ++ (55 ∷ 10 ∷ []))
 
 pub record SheetAnchors : Type 0 where
   pub read : reads text ≡ passed rows
@@ -64,6 +71,12 @@ pub record SheetAnchors : Type 0 where
   pub fourth : reads "0;1.5000;0.100;-0.020;0.000;-;0.000;0.007;0.50000;-0.12345/" ≡ refused (wrongFormAt 1 8)
   -- right form, and Fmax out of range: its first byte
   pub out : reads "0;9999999.999;0.100;-0.020;0.000;-;0.000;0.007;0.50000;-0.12345/" ≡ refused (outOfRangeAt 1 3)
+  -- the sheet of the two rows, and then what stood there: what was written reads back, and all of the lent bytes do not
+  pub wrote : left ≡ record { answer = passed (length (sheet text)); out = sheet text ++ (55 ∷ 10 ∷ []) }
+  pub read-back : readSheet two (take (length (sheet text)) (left .out)) ≡ passed rows
+  pub all-of-it : readSheet two (left .out) ≡ refused (wrongForm 3)
+  -- the bytes of the longest sheet
+  pub longest : sheetMost ≡ 60200
 
 pub sheet-anchors : SheetAnchors
 unfolding computing
@@ -83,4 +96,8 @@ sheet-anchors = record {
   two-decimals = refl;
   fourth = refl;
   out = refl;
+  wrote = refl;
+  read-back = refl;
+  all-of-it = refl;
+  longest = refl;
 }

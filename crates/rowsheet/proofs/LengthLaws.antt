@@ -1,11 +1,12 @@
--- How long a sheet gets (specs/RowSheet.antt): each line, and by the longest line all of them. The bound is rough: only that it is no more than 65,536 bytes
--- is asked. No contract cites this file.
+-- How long a sheet gets (specs/RowSheet.antt): each line, and by the longest line all of them, so no more than 60,200 bytes (`sheet-most`), which
+-- refusal 1 lets through (`sheet-short`). No contract cites this file.
 use mathlib.Core.Path.{_≡_, refl}
 use mathlib.Core.Bool.{true}
 use mathlib.Core.List.{List, [], _∷_, _++_}
 use Prim.Native.Nat.{ℕ, suc, _+_, _*_, _/_, _^_, _≤_, _<_}
-use native.Mathlib.Nat.{mul-le-mul-right}
+use native.Mathlib.Nat.{le-trans, mul-le-mul-right}
 use native.Mathlib.Omega.{arith}
+use lib.Dec.{lit≤}
 use lib.IntN.{ℤ, pos, negsuc, natAbs}
 use lib.ListN.{length, getD}
 use Rattle.kinds.specs.Limits.{zonesMost, rowsMost, bytesMost}
@@ -74,10 +75,17 @@ line-most i values factors l e few =
     rw (bare-long semicolon (sheetColumns ++ sheetFactors (length factors)) i (numbersOf sheetColumns values ++ factors))
     (omega (arith, length-parts sheetColumns (sheetFactors (length factors)) (numbersOf sheetColumns values) factors refl, values-most values (g .0), each-most factors (g .1), decimal-long 2 i (omega arith)))
 
--- all of them
-pub sheet-most : (zones : ℕ) (rows : List (List ℤ)) (factors : List ℤ) → length factors ≡ length rows * zones → zones ≤ zonesMost → length rows ≤ rowsMost
-    → ((i : ℕ) → i < length rows → rowGood (getD rows i []) (stretch zones factors i) ≡ true) → length (rowsTextBy rowKind.Sheet zones rows factors) ≤ bytesMost
-sheet-most zones rows factors long z r good =
-    let most = lines-most (rowTextIn rowKind.Sheet zones rows factors) (length rows) {q = lineMost} (λ i l. line-most i (getD rows i []) (stretch zones factors i) (omega arith) (good i l) (omega (arith, stretch-long zones (length rows) factors long i l))) in
-    let le : length rows * lineMost ≤ rowsMost * lineMost = mul-le-mul-right {m = length rows} {n = rowsMost} lineMost r in
-    omega arith
+-- all of them: 60,200 bytes
+abbrev pub sheetMost : ℕ
+sheetMost = rowsMost * lineMost
+
+module _ (zones : ℕ) (rows : List (List ℤ)) (factors : List ℤ) (long : length factors ≡ length rows * zones) (z : zones ≤ zonesMost) (r : length rows ≤ rowsMost)
+    (good : (i : ℕ) → i < length rows → rowGood (getD rows i []) (stretch zones factors i) ≡ true) where
+  pub sheet-most : length (rowsTextBy rowKind.Sheet zones rows factors) ≤ sheetMost
+  sheet-most =
+      let most = lines-most (rowTextIn rowKind.Sheet zones rows factors) (length rows) {q = lineMost} (λ i l. line-most i (getD rows i []) (stretch zones factors i) (omega arith) (good i l) (omega (arith, stretch-long zones (length rows) factors long i l))) in
+      le-trans most (mul-le-mul-right {m = length rows} {n = rowsMost} lineMost r)
+
+  -- .. and so refusal 1 is not given of it
+  pub sheet-short : length (rowsTextBy rowKind.Sheet zones rows factors) ≤ bytesMost
+  sheet-short = le-trans sheet-most (lit≤ {m = sheetMost} {n = bytesMost} tt)

@@ -1,27 +1,30 @@
 -- The round trip of the planners' sheet (02, E11), both ways: rows that were read and are written again give the same text (`read-write`), and rows that are
 -- written read back as themselves (`write-read`); the same of what the calls leave is `read-then-write` and `write-then-read`.
+-- What is written has no more than 60,200 bytes (`sheet-length`; of the call `written-most`).
 use mathlib.Core.Path.{_≡_, refl, sym, ap, ap₂, subst, _∙_}
 use mathlib.Core.Bool.{true, false, not, cond}
+use mathlib.Core.Logic.{⊎-elim}
 use mathlib.Core.List.{List, [], _++_, append-nil}
 use Prim.Native.Nat.{ℕ, _+_, _*_, _^_, _≤_, _<_}
-use native.Mathlib.Nat.{zero-add}
+use native.Mathlib.Nat.{le-trans, zero-add}
 use native.Mathlib.Omega.{arith}
 use borrow.Author.Tests.{le-ltb, not-false}
-use lib.Dec.{ltb}
+use lib.Dec.{ltb, lit≤}
 use lib.IntN.{ℤ}
 use lib.ListN.{length, getD, take, drop, drop-of-length-le, length-drop, length-append}
 use lib.Seq.{take-at, length-take-le}
 use Rattle.numbers.specs.Below.{over}
+use Rattle.numbers.proofs.BelowLaws.{le-or-lt}
 use Rattle.kinds.specs.declared.Header.{Header}
 use Rattle.kinds.specs.LineColumns.{rowItems}
 use Rattle.kinds.specs.Limits.{bytesMost}
 use Rattle.kinds.specs.Ranges.{headerFits}
-use Rattle.kinds.specs.Refusals.{Judged, passed, refused, wrongForm}
+use Rattle.kinds.specs.Refusals.{Judged, passed, refused, tooShort, wrongForm}
 use Rattle.kinds.proofs.KindLaws.{header-in}
-use Rattle.kinds.proofs.RefusalLaws.{passed-is, then-next, then-passed, either-passed, answer-passed, unless-ok, unless-passed, none-next, none-passed}
-use Rattle.text.specs.Left.{textLeft}
+use Rattle.kinds.proofs.RefusalLaws.{passed-is, not-passed, then-next, then-refused, then-passed, either-passed, answer-passed, unless-ok, unless-passed, none-next, none-passed}
+use Rattle.text.specs.Left.{TextLeft, textLeft}
 use Rattle.text.specs.Written.{linesText}
-use Rattle.text.proofs.LeftLaws.{text-left}
+use Rattle.text.proofs.LeftLaws.{text-refused, text-short, text-left}
 use Rattle.block.specs.Block.{read}
 use Rattle.block.proofs.BlockLaws.{blockText, allFit, block-read}
 use Rattle.block.proofs.RunLaws.{fits-at, fits-all, lines-block, lines-goes}
@@ -35,7 +38,7 @@ use Rattle.runs.specs.Rows.{valuesOf, factorsOf}
 use Rattle.runs.proofs.RowLaws.{emptyRow, values-at, stretch-of, cut, cut-long, cut-values, cut-factors, cut-at}
 use Rattle.lines.specs.SheetLine.{sheetLine, sheetText}
 use Rattle.rowsheet.specs.RowSheet.{Rows, rowsOf, firstLineNo, sheetRows, readSheet, RowsLeft, readRowsLeft, sheetOf, rowsInRange, judgeRows, writeRowsLeft}
-use Rattle.rowsheet.proofs.LengthLaws.{sheet-most}
+use Rattle.rowsheet.proofs.LengthLaws.{sheetMost, sheet-most}
 use Rattle.rowsheet.proofs.SheetLaws.{sheet-run, rows-many, factors-many, room-passed, room-enough}
 
 -- ---- the sheet of rows is the lines that hold them
@@ -116,12 +119,16 @@ module _ (h : Header) (t : Rows) (fits : headerFits h ≡ true) (rows-long : len
   unfolding lines
   factors-are = cut-factors (h .zones) (t .rows) (t .factors) (factors-long ∙ ap (λ (n : ℕ). n * h .zones) (sym rows-long))
 
-  -- refusal 1 is never given of rows that were written
-  pub never-too-long : length (sheetOf (h .zones) t) ≤ bytesMost
+  -- rows that were written have no more than 60,200 bytes ..
+  pub sheet-length : length (sheetOf (h .zones) t) ≤ sheetMost
   unfolding sheetOf
-  never-too-long =
+  sheet-length =
       let k = header-in h fits in
       sheet-most (h .zones) (t .rows) (t .factors) (factors-long ∙ ap (λ (n : ℕ). n * h .zones) (sym rows-long)) (k .zones-most) (omega (arith, rows-long, k .rows-most)) (λ i l. good i (omega (arith, rows-long)))
+
+  -- .. so refusal 1 is never given of them
+  pub never-too-long : length (sheetOf (h .zones) t) ≤ bytesMost
+  never-too-long = le-trans sheet-length (lit≤ {m = sheetMost} {n = bytesMost} tt)
 
   module _ (wide : Wide h t) where
     row-held : (i : ℕ) → i < h .rows → RowHeld (h .zones) (getD lines i emptyRow)
@@ -207,10 +214,52 @@ read-then-write h sheet c f out e room =
     ∙ ap (λ (j : Judged (List ℕ)). textLeft j out) (then-next _ (read-judged h sheet t c f (u .read)) ∙ ap passed (read-write h sheet t (u .read)))
     ∙ text-left sheet out room
 
+-- the rows that a call looks at: the front of what it was lent
+abbrev pub frontRows : Header → (c : List (List ℤ)) → (f : List ℤ) → Rows
+frontRows h c f = record { rows = take (h .rows) c; factors = take (h .rows * h .zones) f }
+
+-- what `write_rows` wrote is the sheet of the front of what was lent
+pub record RowsWritten (h : Header) (c : List (List ℤ)) (f : List ℤ) (out : List ℕ) (n : ℕ) : Type 0 where
+  pub judged : judgeRows h c f ≡ passed (frontRows h c f)
+  pub bytes : length (sheetOf (h .zones) (frontRows h c f)) ≡ n
+  pub left : writeRowsLeft h c f out .out ≡ over (sheetOf (h .zones) (frontRows h c f)) out
+
+pub rows-written : (h : Header) (c : List (List ℤ)) (f : List ℤ) (out : List ℕ) (n : ℕ) → writeRowsLeft h c f out .answer ≡ passed n → RowsWritten h c f out n
+unfolding writeRowsLeft
+rows-written h c f out n e = go (judgeRows h c f) refl
+  where
+    go : (j : Judged Rows) → judgeRows h c f ≡ j → RowsWritten h c f out n
+    go (refused w) q = absurd (not-passed w n (ap (λ (l : TextLeft). l .answer) (text-refused out (then-refused _ q)) ∙ e))
+    go (passed t) q =
+        let sheet = sheetOf (h .zones) t in
+        let call : writeRowsLeft h c f out ≡ textLeft (passed sheet) out = ap (λ (j : Judged (List ℕ)). textLeft j out) (then-next _ q) in
+        ⊎-elim
+        (λ (room : length sheet ≤ length out).
+        let done = call ∙ text-left sheet out room in
+        subst (λ (u : Rows). judgeRows h c f ≡ passed u → length (sheetOf (h .zones) u) ≡ n → writeRowsLeft h c f out .out ≡ over (sheetOf (h .zones) u) out → RowsWritten h c f out n)
+        (sym (rows-judged h c f t q .is)) (λ judged bytes left. record { judged = judged; bytes = bytes; left = left })
+        q (passed-is _ _ (sym (ap (λ (l : TextLeft). l .answer) done) ∙ e)) (ap (λ (l : TextLeft). l .out) done))
+        (λ (short : length out < length sheet).
+        absurd (not-passed (tooShort (length sheet)) n (ap (λ (l : TextLeft). l .answer) (text-short sheet out (length sheet) refl short ∙ sym call) ∙ e)))
+        (le-or-lt (length sheet) (length out))
+
+-- .. so the call asks for no more than 60,200 bytes
+pub written-most : (h : Header) (c : List (List ℤ)) (f : List ℤ) (out : List ℕ) (n : ℕ) → writeRowsLeft h c f out .answer ≡ passed n → n ≤ sheetMost
+written-most h c f out n e =
+    let w = rows-written h c f out n e in
+    let t = frontRows h c f in
+    let j = rows-judged h c f t (w .judged) in
+    subst (λ (k : ℕ). k ≤ sheetMost) (w .bytes) (sheet-length h t (j .fits) (j .rows-long) (j .factors-long) (j .good))
+
 -- what `write_rows` wrote, `read_rows` reads back into tables with room for it: the records and factors that were lent, as many as the header says
-pub write-then-read : (h : Header) (c : List (List ℤ)) (f : List ℤ) (t : Rows) (c′ : List (List ℤ)) (f′ : List ℤ) → judgeRows h c f ≡ passed t → Wide h t → h .rows ≤ length c′ → h .rows * h .zones ≤ length f′
-    → readRowsLeft h (sheetOf (h .zones) t) c′ f′ ≡ record { answer = passed tt; c = over (t .rows) c′; f = over (t .factors) f′ }
+pub write-then-read : (h : Header) (c : List (List ℤ)) (f : List ℤ) (out : List ℕ) (n : ℕ) (c′ : List (List ℤ)) (f′ : List ℤ) → let t = frontRows h c f in let w = writeRowsLeft h c f out in
+    Wide h t → w .answer ≡ passed n → h .rows ≤ length c′ → h .rows * h .zones ≤ length f′
+    → readRowsLeft h (take n (w .out)) c′ f′ ≡ record { answer = passed tt; c = over (t .rows) c′; f = over (t .factors) f′ }
 unfolding readRowsLeft
-write-then-read h c f t c′ f′ e wide hc hf =
-    let j = rows-judged h c f t e in
-    either-passed _ _ (then-next _ (write-read h t (j .fits) (j .rows-long) (j .factors-long) (j .good) wide) ∙ sym (room-enough h (length c′) (length f′) (passed t) hc hf))
+write-then-read h c f out n c′ f′ wide e hc hf =
+    let t = frontRows h c f in
+    let w = rows-written h c f out n e in
+    let j = rows-judged h c f t (w .judged) in
+    let sheet : take n (writeRowsLeft h c f out .out) ≡ sheetOf (h .zones) t = ap (take n) (w .left) ∙ take-at (sheetOf (h .zones) t) _ n (w .bytes) in
+    ap (λ (s : List ℕ). readRowsLeft h s c′ f′) sheet
+    ∙ either-passed _ _ (then-next _ (write-read h t (j .fits) (j .rows-long) (j .factors-long) (j .good) wide) ∙ sym (room-enough h (length c′) (length f′) (passed t) hc hf))

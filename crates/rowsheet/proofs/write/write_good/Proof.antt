@@ -3,7 +3,7 @@ use native.Mathlib.Omega.{arith}
 use borrow.Author.Needs.{needs}
 use Rattle.text.proofs.LeftLaws.{text-short, text-written}
 use Rattle.rowsheet.specs.RowSheet.{Rows, sheetOf}
-use Rattle.rowsheet.proofs.LengthLaws.{sheet-most}
+use Rattle.rowsheet.proofs.LengthLaws.{sheet-short}
 use Rattle.rowsheet.proofs.write.write_good.Statement.{statement}
 use Rattle.rowsheet.proofs.write.write_good.Tie as tie
 
@@ -13,7 +13,7 @@ rows s = record { rows = s .args .c .now; factors = s .args .f .now }
 rows-length-requires : tie.Need-rows-length-requires
 rows-length-requires c κs =
     let s = c .before in
-    (s .pre .0, s .pre .1, s .pre .2, sheet-most (s .args .zones) (s .args .c .now) (s .args .f .now) (s .pre .0) (s .pre .2) (s .pre .3) (s .pre .4))
+    (s .pre .0, s .pre .1, s .pre .2, sheet-short (s .args .zones) (s .args .c .now) (s .args .f .now) (s .pre .0) (s .pre .2) (s .pre .3) (s .pre .4))
 
 returns : tie.Need-returns
 unfolding sheetOf

@@ -1,0 +1,5 @@
+pub mod MergedLaws
+pub mod MergedText
+pub mod EmptySheet
+pub mod Answered
+pub mod Anchors

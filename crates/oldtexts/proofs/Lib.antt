@@ -1,0 +1,2 @@
+pub mod OldTexts
+pub mod Anchors

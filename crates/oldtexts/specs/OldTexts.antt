@@ -1,0 +1,71 @@
+-- Reading by any limit of borders (02, E8: "Raise borders from 40 to 64. Old texts stay valid and mean the same."). The limit stands in the judgement of the H
+-- line alone: in its range, and in which of its bytes is to blame. At today's limit this is `readText` (proofs/OldTexts: `read-now`), so that nothing of it can
+-- differ from how texts are read but the limit.
+use mathlib.Core.Bool.{Bool, cond, _&&_}
+use mathlib.Core.List.{List, [], _∷_}
+use Prim.Native.Char.{code}
+use Prim.Native.Nat.{ℕ}
+use lib.Dec.{leb, ltb}
+use lib.IntN.{ℤ, pos}
+use lib.ListN.{length}
+use Rattle.numbers.specs.Ints.{minus, inside}
+use Rattle.kinds.specs.declared.Header.{Header}
+use Rattle.kinds.specs.LineColumns.{headerColumns, defaultColumns}
+use Rattle.kinds.specs.Limits.{zonesLeast, zonesMost, bordersLeast, rowsLeast, rowsMost, intradayMark, shareMost, bytesMost}
+use Rattle.kinds.specs.Ranges.{profiled}
+use Rattle.kinds.specs.Refusals.{Judged, refused, then, either, tooLong}
+use Rattle.text.specs.Fields.{tab}
+use Rattle.text.specs.Line.{lineAt, after, Line}
+use Rattle.columns.specs.ColumnLine.{judged}
+use Rattle.columns.specs.Optional.{plainOptional}
+use Rattle.blame.specs.RangeBlame.{rangeByte}
+use Rattle.block.specs.Block.{linesAt, withLines}
+use Rattle.table.specs.Table.{Table, notTwice, zoneLineNo}
+use Rattle.lines.specs.Lines.{headerOf, headerBad, zoneLine}
+use Rattle.runs.specs.Rows.{asGiven}
+use Rattle.reading.specs.Reading.{withHeader, intradayAt, allocatedFrom}
+use Rattle.extraction.specs.Extraction.{outcomeFor}
+use Rattle.result.specs.Refusal.{refusalText}
+use Rattle.answer.specs.Result.{resultText}
+
+-- the most borders before E8
+abbrev pub bordersBefore : ℕ
+bordersBefore = 40
+
+-- a header in range (kinds: `headerFits`)
+abbrev pub fitsBy : (limit : ℕ) → Header → Bool
+fitsBy limit h =
+    leb zonesLeast (h .zones) && leb (h .zones) zonesMost
+    && leb bordersLeast (h .borders) && leb (h .borders) limit
+    && leb rowsLeast (h .rows) && leb (h .rows) rowsMost
+    && inside (minus 1) (pos shareMost) (h .share)
+    && leb (h .intraday) intradayMark
+
+-- the byte to blame of one out of range (blame: `headerTests`)
+abbrev pub outBy : (limit : ℕ) → (line : List ℕ) → (zs : List ℤ) → ℕ
+outBy limit line zs =
+    let h = headerOf zs in
+    rangeByte tab
+    ((leb zonesLeast (h .zones) && leb (h .zones) zonesMost)
+    ∷ (leb bordersLeast (h .borders) && leb (h .borders) limit)
+    ∷ (leb rowsLeast (h .rows) && leb (h .rows) rowsMost)
+    ∷ inside (minus 1) (pos shareMost) (h .share) ∷ [])
+    1 line
+
+-- the H line
+abbrev pub headerBy : (limit : ℕ) → (line : List ℕ) → Line Header
+headerBy limit line = judged (λ zs. fitsBy limit (headerOf zs)) headerOf (headerBad line) (outBy limit line) (plainOptional tab (code "H") headerColumns defaultColumns line)
+
+-- the lines of a text, and the text
+abbrev pub linesWithin : (limit : ℕ) → (text : List ℕ) → Judged Table
+linesWithin limit text =
+    withHeader (headerBy limit (lineAt text 0)) (λ counts.
+    withLines (linesAt zoneLine zoneLineNo (counts .zones) text (after text 0) 0) (λ nets p.
+    allocatedFrom asGiven text (profiled counts (intradayAt text p)) nets p))
+
+unfoldable pub readWithin : (limit : ℕ) → (text : List ℕ) → Judged Table
+readWithin limit text = cond (ltb bytesMost (length text)) (refused tooLong) (then (linesWithin limit text) notTwice)
+
+-- the answer to it, of every border or with marks
+unfoldable pub answerWithin : (limit : ℕ) → (all : Bool) → (marks text : List ℕ) → List ℕ
+answerWithin limit all marks text = either (then (readWithin limit text) (outcomeFor all marks)) resultText refusalText

@@ -1,0 +1,98 @@
+-- The bound of small grids beside the rounds that they take, and of the hour that 01 checks whole, computed. Nobody cites them: they refuse a definition that slipped.
+use mathlib.Core.Path.{_≡_, refl}
+use mathlib.Core.List.{List, [], _∷_}
+use Prim.Native.Nat.{ℕ}
+use lib.ListN.{getD}
+use Rattle.numbers.specs.Below.{at, ifZero, sum, count, largest, lesser, least, orZero, table}
+use Rattle.rounds.specs.Rounds.{Grid, sharers, raise, alone, raises, load, lowered, risen, apply, next, raised, counted, run, extract, mostSharers, bitsTo, bits, aloneBits}
+use Rattle.tight.specs.Tight.{shareUp, cut, stepsWithin, steps, rowReach, reach, farthest, tightBound}
+
+-- rows of factors p, one list for each row
+abbrev grid : (rows borders : ℕ) → List (List ℕ) → Grid
+grid rows borders ps = record { rows = rows; borders = borders; p = λ i b. at (getD ps i []) b }
+
+-- the rounds from these margins, each exchange from 0
+abbrev rounds : Grid → (margins : List ℕ) → ℕ
+rounds g margins = extract g (record { margins = margins; x = table (g .borders) (λ b. 0) }) .rounds
+
+-- what is computed of a start: the rounds, the bound, and of the bound N and U
+pub record Found : Type 0 where
+  pub rounds : ℕ
+  pub most : ℕ
+  pub n : ℕ
+  pub u : ℕ
+
+abbrev found : (rounds most n u : ℕ) → Found
+found rounds most n u = record { rounds = rounds; most = most; n = n; u = u }
+
+abbrev from : Grid → (margins : List ℕ) → Found
+from g margins = found (rounds g margins) (tightBound g margins) (mostSharers g) (farthest g margins)
+
+-- the kept rows of 01's hour
+abbrev hour : Grid
+hour = grid 2 2 ((20000 ∷ 10000 ∷ []) ∷ (0 ∷ 5000 ∷ []) ∷ [])
+
+abbrev hourMargins : List ℕ
+hourMargins = 66000000000 ∷ 8000000000 ∷ []
+
+-- one row and one border
+abbrev lone : Grid
+lone = grid 1 1 ((3 ∷ []) ∷ [])
+
+-- one row; two borders that load it alike
+abbrev alike : Grid
+alike = grid 1 2 ((1 ∷ 1 ∷ []) ∷ [])
+
+-- one row; the second border takes three times as much of it
+abbrev steep : Grid
+steep = grid 1 2 ((1 ∷ 3 ∷ []) ∷ [])
+
+-- row 1 stops border 1
+abbrev stopped : Grid
+stopped = grid 2 2 ((1 ∷ 1 ∷ []) ∷ (0 ∷ 1 ∷ []) ∷ [])
+
+-- .. and border 2, so that border 0 is one of three sharers and rises alone
+abbrev third : Grid
+third = grid 2 3 ((1 ∷ 1 ∷ 1 ∷ []) ∷ (0 ∷ 1 ∷ 1 ∷ []) ∷ [])
+
+pub record Anchors : Type 0 where
+  -- 01's hour: 21 rounds, at most 22, where 2 N L is 88
+  pub worked : from hour hourMargins ≡ found 21 22 2 3299999
+  -- one border and one row: 1, or 0 where nothing can rise
+  pub once : from lone (7 ∷ []) ≡ found 1 1 1 2
+  pub never : from lone (2 ∷ []) ≡ found 0 0 1 0
+  -- the other sharer's 1 kW is taken off: of 1 grain among two nothing rises. 2 N L is 4
+  pub other-sharer : from alike (1 ∷ []) ≡ found 0 0 2 0
+  -- all rise at once, and the bound does not know it
+  pub at-once : from alike (4 ∷ []) ≡ found 1 2 2 3
+  -- attained: 3, 1
+  pub two : from steep (4 ∷ []) ≡ found 2 2 2 3
+  -- .. 7, 3, 1: a share of what is left, rounded up
+  pub three : from stopped (8 ∷ 0 ∷ []) ≡ found 3 3 2 7
+  -- .. 3000, 1500, 750 and so on, where 2 N L is 48
+  pub twelve : from stopped (3001 ∷ 0 ∷ []) ≡ found 12 12 2 3000
+  -- .. and of three sharers 998, 665, 443 and so on
+  pub thirds : from third (1000 ∷ 0 ∷ []) ≡ found 16 16 3 998
+  -- the row that leaves less decides: 5 of row 0, 3 of row 1
+  pub least-row : reach stopped (6 ∷ 3 ∷ []) 1 ≡ 3
+  -- 40 and 64 borders from the largest start without T lines, 165,000,000,000,000 grains: the worst hours of docs/BENCH.md, which take as many rounds
+  pub worst-40 : steps 40 165000000000000 ≡ 1171
+  pub worst-64 : steps 64 165000000000000 ≡ 1852
+
+pub anchors : Anchors
+unfolding ifZero sum count largest lesser least orZero table sharers raise alone raises load lowered risen apply next raised counted run extract mostSharers bitsTo bits aloneBits shareUp cut stepsWithin steps rowReach reach farthest tightBound
+anchors =
+    record {
+      worked = refl;
+      once = refl;
+      never = refl;
+      other-sharer = refl;
+      at-once = refl;
+      two = refl;
+      three = refl;
+      twelve = refl;
+      thirds = refl;
+      least-row = refl;
+      worst-40 = refl;
+      worst-64 = refl;
+    }

@@ -1,0 +1,4 @@
+pub mod StepLaws
+pub mod FewRounds
+pub mod Anchors
+pub mod PassLaws

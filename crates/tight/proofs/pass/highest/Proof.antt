@@ -1,0 +1,29 @@
+-- `tight::pass::highest` meets its contract. The invariant: `most` has the largest of the first b borders (`Both`).
+use Prim.Native.Nat.{_-_}
+use native.Mathlib.Omega.{arith}
+use Rattle.rounds.specs.Work.{flat}
+use Rattle.tight.proofs.PassLaws.{Both, both-none, both-more, both-all}
+use Rattle.tight.proofs.pass.highest.Statement.{statement}
+use Rattle.tight.proofs.pass.highest.Tie as tie
+
+abbrev Inv-loop : tie.InvT-loop
+Inv-loop rows borders p margins ns most₀ b₀ most b = Both (flat rows borders p) margins b most
+
+abbrev μ-loop : tie.MeasureT-loop
+μ-loop rows borders p margins ns most₀ b₀ most b = borders - b
+
+loop-holds : tie.Need-loop-holds Inv-loop μ-loop
+loop-holds c = both-none _ _
+
+higher-requires : tie.Need-higher-requires Inv-loop μ-loop
+higher-requires c κs = let q = c .before .before .before .before .before .pre in ((q .0 .0, q .0 .1, omega arith), q .1)
+
+loop-again : tie.Need-loop-again Inv-loop μ-loop
+loop-again c = both-more (c .before .before .loop .inv) (omega arith) (c .higher .ensures)
+
+returns : tie.Need-returns Inv-loop μ-loop
+returns c = both-all (c .before .loop .inv) (omega arith)
+
+pub highest-spec : {M : Type 1} → statement M
+highest-spec =
+    tie.close (tie.spec Inv-loop μ-loop loop-holds higher-requires (λ c. omega arith) (λ c. omega arith) loop-again returns)

@@ -1,0 +1,2 @@
+pub mod TopLaws
+pub mod Worst
