@@ -495,8 +495,18 @@ fn alone(t: &Tables) -> i128 {
     (m.ram - m.s) / second::border_factor(&t.f[..FULL.zones], &t.b[0]).max(1)
 }
 
+/// The largest A below, without T lines: p 1, each zone at its ends but the one that
+/// makes p 1 (hubs change nothing: four ends sum to an even number of 100,000), Fref,
+/// F0all, Fmax and R at their ends.
 const START_MOST: i128 = 165_000_000_000_000 - 100_000_000;
-const START_MOST_INTRADAY: i128 = START_MOST + 160_000_000_000_000 - 100_000_000;
+
+/// With T lines at their ends, too, it is 1.6 x 10^14 less 10^8 more.  S is not taken off
+/// here, and may be the larger part: p 1 of one border and p 400,000, by hubs, of the
+/// others, at the highest LTA.
+fn start_most_intraday(borders: i128) -> i128 {
+    let s = ((borders - 1) * 400_000 + 1) * 10_000_000;
+    START_MOST.max(s) + 160_000_000_000_000 - 100_000_000
+}
 
 /// No table of so many borders has more rounds than this.  Raises never grow, so
 /// the border that rises last rises in every round: by R in a round, and by U from
@@ -507,10 +517,7 @@ const START_MOST_INTRADAY: i128 = START_MOST + 160_000_000_000_000 - 100_000_000
 /// this border shares among.  U thus loses an m-th of itself, rounded up, in each
 /// round, and starts at A - (m - 1) of that row at most.  Where a border rises alone
 /// against a row of m, A - (m - 1) does just that.
-/// A starts at 1.65 x 10^14 less 10^8 at most: p 1, each zone at its ends but the
-/// one that makes p 1 (hubs change nothing: four ends sum to an even number of
-/// 100,000), Fref, F0all, Fmax and R at their ends.  With T lines at their ends, too,
-/// it starts at 1.6 x 10^14 less 10^8 more.
+/// Of 64 borders it is proved: crates/worst.
 fn ceiling(borders: i128, start: i128) -> u64 {
     let alone = |m: i128| {
         let mut a = start;
@@ -522,6 +529,34 @@ fn ceiling(borders: i128, start: i128) -> u64 {
         rounds
     };
     (1..=borders).map(alone).max().expect("a border")
+}
+
+/// The most rounds with T lines: border 0 rises alone, as in the worst hour.  Here S is
+/// not taken off RAM, and is the largest of RAM's values: of border 0, p 1, and of 63
+/// borders with hubs, p 400,000, all at the highest LTA.  Row 0 has that RAM, and T at
+/// its ends relieves it.  Each other border is stopped by the row of the zone that it
+/// leads to, which has no margin left.
+fn late() -> Tables {
+    let header = Header { rows: 9, intraday: second::INTRADAY, ..FULL_64 };
+    let half = header.zones / 2;
+    let ends = |zone: usize, first: i64| if zone < half { first } else { -first };
+    // the zones with the factor 100,000, of which zone 1 has one less
+    let high = |k: usize| [0, 2, 3, 4, 5, 6, 7][k % 7];
+    let low = |k: usize| (half + k % half) as i64;
+    let mut b = vec![without_hubs(0, 1, 10_000)];
+    for k in 0..header.borders - 1 {
+        // the hubs are the zones after to and after from; once every pair was there, those after these
+        let (step, to) = (1 + k / (7 * half), k / 7);
+        b.push([high(k), low(to), 10_000, low(to + step), high(k + step)]);
+    }
+    let mut c = vec![[1, 0, 0, 0, 0, 0, 0]];
+    let mut f: Vec<i64> = (0..header.zones).map(|zone| ends(zone, 100_000) - i64::from(zone == 1)).collect();
+    for stopped in half..header.zones {
+        c.push([1, 0, 0, 0, 0, 10_000_000, 10_000_000]);
+        f.extend((0..header.zones).map(|zone| if zone == stopped { -5_000 } else { 0 }));
+    }
+    let t = (0..header.zones).map(|zone| ends(zone, -100_000_000)).collect();
+    Tables { header, z: vec![0; header.zones], t, b, c, f }
 }
 
 /// The longest corner sheet: 12 borders at the highest LTA, from zones at one end
@@ -591,7 +626,9 @@ fn main() {
     put(&directory, "busy64", &format!("seed {SEED_BUSY_64}, the most of seeds {SEEDS_BUSY_64:?}"), &busy_64_of(SEED_BUSY_64));
     for (name, header) in [("worst", FULL), ("worst64", FULL_64)] {
         put(&directory, name, &format!("seed {SEED_WORST}, {STEPS_WORST} steps"), &worst(header));
-        let [plain, intraday] = [START_MOST, START_MOST_INTRADAY].map(|start| ceiling(header.borders as i128, start));
-        println!("no table of {} borders has more than {plain} rounds, or {intraday} with T lines", header.borders);
+        let borders = header.borders as i128;
+        let [plain, intraday] = [START_MOST, start_most_intraday(borders)].map(|start| ceiling(borders, start));
+        println!("no table of {borders} borders has more than {plain} rounds, or {intraday} with T lines");
     }
+    put(&directory, "late", "the most rounds with T lines", &late());
 }
