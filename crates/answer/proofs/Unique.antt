@@ -24,7 +24,7 @@ use Rattle.answer.proofs.answer_corrected as answer-corrected
 use Rattle.answer.proofs.answer_corrected.Kinds as answer-corrected-kinds
 use Rattle.answer.proofs.answer_corrected.Reads as answer-corrected-reads
 
--- `out` is the call's sixth argument
+-- `out` is the call's seventh argument
 pub result-text-once : (κs : Lfts 6) (x : ArgsD result-text.signature κs) (r r′ : ResD result-text.signature κs) (s s′ : AtExit (endedOf 6 result-text-kinds.ps result-text-kinds.r) κs)
     → result-text-reads.Post κs x r s → result-text-reads.Post κs x r′ s′ → (r ≡ r′) × (now (s .1 .1 .1 .1 .1 .1 .0) ≡ now (s′ .1 .1 .1 .1 .1 .1 .0))
 result-text-once κs x r r′ s s′ p q = said-once _ _ _ _ _ p q

@@ -1,6 +1,7 @@
 // The values that a table carries, with their ranges, and why a table is turned away.
 // A range is given once, on the type that carries the value, and that type's constructor judges by it.
-// So are the columns of a line, in 01's order and without the index, one byte for each field: n a number, s a signed number, r a number or "-".
+// So are the columns of a line, in 01's order and without the index, one byte for each field: n a number, s a signed number, r a number or "-",
+// and in the planners' sheet (02, E11) p a power in MW, q one that may be below 0, f a factor.
 // The tests of a record are joined by `&`: each may be made whatever the others say, so judging has no branch.
 ghost use mathlib.Core.Path.{_≡_};
 ghost use mathlib.Core.Bool.{true};

@@ -1,6 +1,6 @@
 -- Reading and writing the table are each other's inverse (01, "The table as text"), as definitions and as what the calls leave; no text of a good table has more than 65,536 bytes.
 -- `Good` (specs/Good.antt of table) is what judging gives: lengths as the header says, each record in range, no border twice. `Shaped` is what a lent
--- record's type says of it: three numbers for a border, seven for a row. Reading gives both (`read-good`, `read-shaped` in reading).
+-- record's type says of it: five numbers for a border, seven for a row. Reading gives both (`read-good`, `read-shaped` in reading).
 use mathlib.Core.Path.{_≡_, sym, ap, _∙_}
 use mathlib.Core.List.{List}
 use Prim.Native.Nat.{ℕ, _*_, _≤_}

@@ -14,7 +14,7 @@ use Rattle.writing.proofs.rewrite_corrected as rewrite
 use Rattle.writing.proofs.rewrite_corrected.Kinds as rewrite-kinds
 use Rattle.writing.proofs.rewrite_corrected.Reads as rewrite-reads
 
--- `out` is the call's sixth argument
+-- `out` is the call's seventh argument
 pub write-once : (κs : Lfts 6) (x : ArgsD signature κs) (r r′ : ResD signature κs) (s s′ : AtExit (endedOf 6 kinds.ps kinds.r) κs)
     → reads.Post κs x r s → reads.Post κs x r′ s′ → (r ≡ r′) × (now (s .1 .1 .1 .1 .1 .1 .0) ≡ now (s′ .1 .1 .1 .1 .1 .1 .0))
 write-once κs x r r′ s s′ p q = said-once _ _ _ _ _ p q
