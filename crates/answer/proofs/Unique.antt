@@ -1,5 +1,5 @@
--- No second answer, and no second content of the lent bytes, satisfies the contract of `result_text` or of `answer`, or of one of them with marks
--- or with a correction sheet.
+-- No second answer, and no second content of the lent bytes, satisfies the contract of `result_text` or of `answer`, of one of them with marks
+-- or with a correction sheet, or of `answer_lent` or `write_refusal`, which crates above call.
 -- The theorems are about the contracts as the check reads them from the source (`reads.Post`), and not about copies.
 use mathlib.Core.Path.{_≡_}
 use contract.Lifetimes.{Lfts}
@@ -23,6 +23,12 @@ use Rattle.answer.proofs.answer_marked.Reads as answer-marked-reads
 use Rattle.answer.proofs.answer_corrected as answer-corrected
 use Rattle.answer.proofs.answer_corrected.Kinds as answer-corrected-kinds
 use Rattle.answer.proofs.answer_corrected.Reads as answer-corrected-reads
+use Rattle.answer.proofs.answer_lent as answer-lent
+use Rattle.answer.proofs.answer_lent.Kinds as answer-lent-kinds
+use Rattle.answer.proofs.answer_lent.Reads as answer-lent-reads
+use Rattle.answer.proofs.write_refusal as write-refusal
+use Rattle.answer.proofs.write_refusal.Kinds as write-refusal-kinds
+use Rattle.answer.proofs.write_refusal.Reads as write-refusal-reads
 
 -- `out` is the call's seventh argument
 pub result-text-once : (κs : Lfts 6) (x : ArgsD result-text.signature κs) (r r′ : ResD result-text.signature κs) (s s′ : AtExit (endedOf 6 result-text-kinds.ps result-text-kinds.r) κs)
@@ -48,3 +54,12 @@ answer-marked-once κs x r r′ s s′ p q = said-once _ _ _ _ _ p q
 pub answer-corrected-once : (κs : Lfts 2) (x : ArgsD answer-corrected.signature κs) (r r′ : ResD answer-corrected.signature κs) (s s′ : AtExit (endedOf 2 answer-corrected-kinds.ps answer-corrected-kinds.r) κs)
     → answer-corrected-reads.Post κs x r s → answer-corrected-reads.Post κs x r′ s′ → (r ≡ r′) × (now (s .1 .1 .0) ≡ now (s′ .1 .1 .0))
 answer-corrected-once κs x r r′ s s′ p q = said-once _ _ _ _ _ p q
+
+-- besides the equation these two say how many bytes they ask for at most
+pub answer-lent-once : (κs : Lfts 7) (x : ArgsD answer-lent.signature κs) (r r′ : ResD answer-lent.signature κs) (s s′ : AtExit (endedOf 7 answer-lent-kinds.ps answer-lent-kinds.r) κs)
+    → answer-lent-reads.Post κs x r s → answer-lent-reads.Post κs x r′ s′ → (r ≡ r′) × (now (s .1 .1 .1 .1 .1 .1 .1 .1 .0) ≡ now (s′ .1 .1 .1 .1 .1 .1 .1 .1 .0))
+answer-lent-once κs x r r′ s s′ p q = said-once _ _ _ _ _ (p .0) (q .0)
+
+pub write-refusal-once : (κs : Lfts 1) (x : ArgsD write-refusal.signature κs) (r r′ : ResD write-refusal.signature κs) (s s′ : AtExit (endedOf 1 write-refusal-kinds.ps write-refusal-kinds.r) κs)
+    → write-refusal-reads.Post κs x r s → write-refusal-reads.Post κs x r′ s′ → (r ≡ r′) × (now (s .1 .0) ≡ now (s′ .1 .0))
+write-refusal-once κs x r r′ s s′ p q = said-once _ _ _ _ _ (p .0) (q .0)

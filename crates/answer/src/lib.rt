@@ -11,7 +11,7 @@ ghost use Rattle.kinds.specs.Refusals.{passed};
 ghost use Rattle.text.specs.Left.{textLeft, textSaid};
 ghost use Rattle.table.specs.Table.{lent};
 ghost use Rattle.result.specs.Refusal.{refusalText, refusalMost};
-ghost use Rattle.answer.specs.Result.{resultTextFor, resultTextLeft, resultTextMarkedLeft, answerForLeft, answerLeft, answerMarkedLeft, answerWithLeft, answerCorrectedLeft};
+ghost use Rattle.answer.specs.Result.{resultTextFor, resultTextLeft, resultTextMarkedLeft, answerLeft, answerMarkedLeft, answerWithLeft, answerCorrectedLeft};
 ghost use Rattle.answer.specs.Made.{outcomeLent, printed, answerMost, bytesAsked};
 use crate::made::Made;
 use kinds::Border;
@@ -79,30 +79,16 @@ fn result_text_for(
 pub fn answer(text: &[u8], out: &mut [u8]) -> Written
     ensures { λ r. ⌜ textSaid r (now (out .exit)) ≡ answerLeft (now (text .entry)) (now (out .entry)) ⌝ }
 {
-    answer_within(text, out)
-}
-
-// .. and how many bytes it asks for at most, for a caller that lends as many.
-pub fn answer_within(text: &[u8], out: &mut [u8]) -> Written
-    ensures { λ r. ⌜ (textSaid r (now (out .exit)) ≡ answerLeft (now (text .entry)) (now (out .entry))) × (bytesAsked r ≤ answerMost) ⌝ }
-{
     // No marks are looked at.
     let marks: [u64; 1] = [0];
-    answer_for(text, true, &marks, out)
+    answer_with(text, b"", true, &marks, out)
 }
 
 // The answer where only the borders of a list of marks rise (02, E13).
 pub fn answer_marked(text: &[u8], marks: &[u64], out: &mut [u8]) -> Written
     ensures { λ r. ⌜ textSaid r (now (out .exit)) ≡ answerMarkedLeft (now (text .entry)) (now (marks .entry)) (now (out .entry)) ⌝ }
 {
-    answer_for(text, false, marks, out)
-}
-
-// Both, as asked, and how many bytes are asked for at most.
-pub fn answer_for(text: &[u8], all: bool, marks: &[u64], out: &mut [u8]) -> Written
-    ensures { λ r. ⌜ (textSaid r (now (out .exit)) ≡ answerForLeft all (now (marks .entry)) (now (text .entry)) (now (out .entry))) × (bytesAsked r ≤ answerMost) ⌝ }
-{
-    answer_with(text, b"", all, marks, out)
+    answer_with(text, b"", false, marks, out)
 }
 
 // The answer to a table's text with a correction sheet (02, E2), of which an empty one changes nothing.
@@ -114,15 +100,15 @@ pub fn answer_corrected<'a>(text: &'a [u8], sheet: &'a [u8], out: &mut [u8]) -> 
     answer_with(text, sheet, true, &marks, out)
 }
 
-// All of it, as asked: with a sheet, of every border or with marks. And how many bytes are asked for at most.
-pub fn answer_with<'a>(
+// All of it, as asked: with a sheet, of every border or with marks.
+fn answer_with<'a>(
     text: &'a [u8],
     sheet: &'a [u8],
     all: bool,
     marks: &[u64],
     out: &mut [u8],
 ) -> Written
-    ensures { λ r. ⌜ (textSaid r (now (out .exit)) ≡ answerWithLeft all (now (marks .entry)) (now (text .entry)) (now (sheet .entry)) (now (out .entry))) × (bytesAsked r ≤ answerMost) ⌝ }
+    ensures { λ r. ⌜ textSaid r (now (out .exit)) ≡ answerWithLeft all (now (marks .entry)) (now (text .entry)) (now (sheet .entry)) (now (out .entry)) ⌝ }
 {
     let mut z: [i64; Header::ZONES_MOST] = [0; Header::ZONES_MOST];
     let mut t: [i64; Header::ZONES_MOST] = [0; Header::ZONES_MOST];
@@ -158,7 +144,7 @@ fn answer_in<'a>(
     out: &mut [u8],
 ) -> Written
     requires { ⌜ (zonesMost ≤ length (now z)) × (zonesMost ≤ length (now t)) × (bordersMost ≤ length (now b)) × (rowsMost ≤ length (now c)) × (rowsMost * zonesMost ≤ length (now f)) ⌝ }
-    ensures { λ r. ⌜ (textSaid r (now (out .exit)) ≡ answerWithLeft all (now (marks .entry)) (now (text .entry)) (now (sheet .entry)) (now (out .entry))) × (bytesAsked r ≤ answerMost) ⌝ }
+    ensures { λ r. ⌜ textSaid r (now (out .exit)) ≡ answerWithLeft all (now (marks .entry)) (now (text .entry)) (now (sheet .entry)) (now (out .entry)) ⌝ }
 {
     match reading::read_corrected(text, sheet, z, t, b, c, f) {
         Read::Table(h) => answer_lent(h, z, t, b, c, f, all, marks, out),

@@ -1,4 +1,4 @@
--- No second answer, and no second content of a lent buffer, satisfies the contract of `extract` or of `extract_marked`.
+-- No second answer, and no second content of a lent buffer, satisfies the contract of `extract`, of `extract_marked` or of `extract_for`.
 -- The theorems are about the contracts themselves, as the check reads them from the source (`reads.Post`), and not about copies.
 use mathlib.Core.Path.{_≡_, sym, ap, _∙_}
 use mathlib.Core.List.{List}
@@ -19,6 +19,9 @@ use Rattle.extraction.proofs.extract.Reads as reads
 use Rattle.extraction.proofs.extract_marked as marked
 use Rattle.extraction.proofs.extract_marked.Kinds as marked-kinds
 use Rattle.extraction.proofs.extract_marked.Reads as marked-reads
+use Rattle.extraction.proofs.extract_for as asked
+use Rattle.extraction.proofs.extract_for.Kinds as asked-kinds
+use Rattle.extraction.proofs.extract_for.Reads as asked-reads
 
 -- whatever a call may leave
 one : (may : ExtractLeft) (r r′ : Extracted) (ps ps′ : List ℕ) (atcs atcs′ lefts lefts′ : List (List ℤ)) → leaves (saidExtracted r) ps atcs lefts ≡ may → leaves (saidExtracted r′) ps′ atcs′ lefts′ ≡ may
@@ -42,3 +45,12 @@ pub extract-marked-once : (κs : Lfts 9) (x : ArgsD marked.signature κs) (r r�
     × ((now (s .1 .1 .1 .1 .1 .1 .1 .1 .0) ≡ now (s′ .1 .1 .1 .1 .1 .1 .1 .1 .0))
     × (now (s .1 .1 .1 .1 .1 .1 .1 .1 .1 .0) ≡ now (s′ .1 .1 .1 .1 .1 .1 .1 .1 .1 .0))))
 extract-marked-once κs x r r′ s s′ p q = one _ r r′ _ _ _ _ _ _ p q
+
+-- .. or before it, after whether every border is asked for
+pub extract-for-once : (κs : Lfts 9) (x : ArgsD asked.signature κs) (r r′ : ResD asked.signature κs) (s s′ : AtExit (endedOf 9 asked-kinds.ps asked-kinds.r) κs)
+    → asked-reads.Post κs x r s → asked-reads.Post κs x r′ s′
+    → (r ≡ r′)
+    × ((now (s .1 .1 .1 .1 .1 .1 .1 .1 .0) ≡ now (s′ .1 .1 .1 .1 .1 .1 .1 .1 .0))
+    × ((now (s .1 .1 .1 .1 .1 .1 .1 .1 .1 .0) ≡ now (s′ .1 .1 .1 .1 .1 .1 .1 .1 .1 .0))
+    × (now (s .1 .1 .1 .1 .1 .1 .1 .1 .1 .1 .0) ≡ now (s′ .1 .1 .1 .1 .1 .1 .1 .1 .1 .1 .0))))
+extract-for-once κs x r r′ s s′ p q = one _ r r′ _ _ _ _ _ _ p q

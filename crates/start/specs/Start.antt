@@ -78,6 +78,3 @@ tableStart t = beginBy (setupOf kept every t)
 
 abbrev pub judgeMarked : (marked : ℕ → Bool) → Table → Judged (List ℕ)
 judgeMarked marked t = judgeBy (setupOf kept marked t) (rowsOf t .states)
-
-abbrev pub judgeTable : Table → Judged (List ℕ)
-judgeTable t = judgeMarked every t

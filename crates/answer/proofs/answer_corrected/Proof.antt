@@ -7,7 +7,7 @@ use Rattle.answer.proofs.answer_corrected.Tie as tie
 
 returns : tie.Need-returns
 unfolding answerCorrectedLeft answerWithLeft answerWith outcomeFor
-returns c = c .before .before .answer-with .ensures .0
+returns c = c .before .before .answer-with .ensures
 
 pub answer-corrected-spec : {M : Type 1} → statement M
 answer-corrected-spec =

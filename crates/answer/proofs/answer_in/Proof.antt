@@ -2,7 +2,6 @@
 use mathlib.Core.Path.{ap, _∙_}
 use mathlib.Core.List.{List}
 use Prim.Native.Nat.{ℕ}
-use native.Mathlib.Omega.{arith}
 use borrow.Author.Needs.{needs}
 use Rattle.kinds.specs.Refusals.{passed}
 use Rattle.text.specs.Left.{textLeft}
@@ -21,11 +20,8 @@ returns c =
     let called = told .before .before .before .before .before .before .before in
     let s = entry called in
     let a = s .args in
-    let answered = c .before .before .answer-lent .ensures in (
-      answered .0
-          ∙ ap (λ (text : List ℕ). textLeft (passed text) (a .out .now)) (read-printed (a .all) (a .marks .now) (a .text .now) (a .sheet .now) (a .z .now) (a .t .now) (a .b .now) (a .c .now) (a .f .now) _ (called .read-corrected .ensures) _ (told .h .given .1)),
-      answered .1,
-    )
+    c .before .before .answer-lent .ensures .0
+    ∙ ap (λ (text : List ℕ). textLeft (passed text) (a .out .now)) (read-printed (a .all) (a .marks .now) (a .text .now) (a .sheet .now) (a .z .now) (a .t .now) (a .b .now) (a .c .now) (a .f .now) _ (called .read-corrected .ensures) _ (told .h .given .1))
 
 returns-2 : tie.Need-returns-2
 unfolding answerWithLeft
@@ -35,11 +31,8 @@ returns-2 c =
     let s = entry called in
     let a = s .args in
     let p = s .pre in
-    let answered = c .before .before .write-refusal .ensures in (
-      answered .0
-          ∙ ap (λ (text : List ℕ). textLeft (passed text) (a .out .now)) (read-refused (a .all) (a .marks .now) (a .text .now) (a .sheet .now) (a .z .now) (a .t .now) (a .b .now) (a .c .now) (a .f .now) _ (called .read-corrected .ensures) (p .0) (p .1) (p .2) (p .3) (p .4) _ (told .w .given .1)),
-      omega (arith, answered .1),
-    )
+    c .before .before .write-refusal .ensures .0
+    ∙ ap (λ (text : List ℕ). textLeft (passed text) (a .out .now)) (read-refused (a .all) (a .marks .now) (a .text .now) (a .sheet .now) (a .z .now) (a .t .now) (a .b .now) (a .c .now) (a .f .now) _ (called .read-corrected .ensures) (p .0) (p .1) (p .2) (p .3) (p .4) _ (told .w .given .1))
 
 pub answer-in-spec : {M : Type 1} → statement M
 answer-in-spec =
