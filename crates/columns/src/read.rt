@@ -143,15 +143,13 @@ fn index_at(sep: u8, letter: u8, line: &[u8], i: usize) -> Number
 pub fn own_index(first: usize, i: usize, found: Number) -> Number
     ensures { λ r. ⌜ r ≡ ownIndex first i found ⌝ }
 {
-    match found {
-        Number::Value(index, next) => {
-            if index == i as u64 {
-                return Number::Value(index, next);
-            }
-            Number::Bad(first)
-        }
-        Number::Bad(place) => Number::Bad(place),
+    let Number::Value(index, next) = found else {
+        return found;
+    };
+    if index == i as u64 {
+        return Number::Value(index, next);
     }
+    Number::Bad(first)
 }
 
 // The columns from a place on, and then the line's end.
