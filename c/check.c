@@ -1,8 +1,11 @@
 /*
  * Tries on the compiled library what keravnoth.h says beyond the rules:
  *
- *   check stack TABLE..     the stack that each call touches at most over these
- *                           tables, beside the header's figure
+ *   check stack TABLE..     the stack that each call takes at most over these
+ *                           tables and one that is made here, beside the
+ *                           header's figure; LD_BIND_NOW in the environment has
+ *                           memcpy and memset bound before the first call
+ *   check figures TABLE..   the figures that follow, as the header has them
  *   check null TABLE        every call with NULL and count 0 answers as with a
  *                           pointer and count 0
  *   check threads TABLE     the same answers from four threads at once as from one
@@ -14,18 +17,25 @@
  * Exit code: 0 as the header says, 1 not so, 2 a misuse, or a file that cannot be
  * read.
  */
+#define _DEFAULT_SOURCE /* fork, mmap */
 #include "keravnoth.h"
 
+#include <ctype.h>
 #include <pthread.h>
 #include <stdio.h>
+#include <stdlib.h>
 #include <string.h>
+#include <sys/mman.h>
+#include <sys/wait.h>
+#include <unistd.h>
 
 enum { CALLS = 20, THREADS = 4, TURNS = 8, KIB = 1024, SPARE = 256 };
 
-/* Everything that the calls are lent, once a thread. */
+/* Everything that the calls are lent, once a thread, and `said`, the header that reading
+   answered.  No call changes what another is lent: reading gives the same table. */
 struct room {
-    struct KeravnothRead table;
-    size_t n, row, rows_at;
+    struct KeravnothHeader table, said;
+    size_t n, row, corrected, marked, claimed, listed, sheeted;
     int64_t z[KERAVNOTH_ZONES_MOST];
     int64_t t[KERAVNOTH_ZONES_MOST];
     int64_t b[KERAVNOTH_BORDERS_MOST][KERAVNOTH_B_ITEMS];
@@ -39,6 +49,9 @@ struct room {
     int64_t parts[KERAVNOTH_ROWS_MOST][KERAVNOTH_PARTS_ITEMS];
     int64_t claims[KERAVNOTH_ROWS_MOST][KERAVNOTH_CLAIM_ITEMS];
     uint8_t text[KERAVNOTH_TEXT_MOST + 1];
+    uint8_t corrections[KERAVNOTH_TEXT_MOST + 1];
+    uint8_t list[KERAVNOTH_TEXT_MOST];
+    uint8_t sheet[KERAVNOTH_WRITE_ROWS_MOST];
     uint8_t out[KERAVNOTH_CORNER_TEXT_MOST];
 };
 
@@ -47,34 +60,32 @@ static struct room rooms[THREADS];
 #define B(r) ((const int64_t (*)[KERAVNOTH_B_ITEMS])(r)->b)
 #define C(r) ((const int64_t (*)[KERAVNOTH_C_ITEMS])(r)->c)
 #define TABLE(r) \
-    header(r), \
+    (r)->table, \
     (r)->z, KERAVNOTH_ZONES_MOST, (r)->t, KERAVNOTH_ZONES_MOST, \
     B(r), KERAVNOTH_BORDERS_MOST, \
     C(r), KERAVNOTH_ROWS_MOST, (r)->f, KERAVNOTH_FACTORS_MOST
 
-static struct KeravnothHeader header(const struct room *r)
+static struct KeravnothHeader header(struct KeravnothRead said)
 {
     return (struct KeravnothHeader){
-        r->table.zones, r->table.borders, r->table.rows, r->table.share,
-        r->table.intraday};
+        said.zones, said.borders, said.rows, said.share, said.intraday};
 }
 
 static void read_(struct room *r)
 {
-    r->table = keravnoth_read(
+    r->said = header(keravnoth_read(
         r->text, r->n, r->z, KERAVNOTH_ZONES_MOST, r->t, KERAVNOTH_ZONES_MOST,
         r->b, KERAVNOTH_BORDERS_MOST,
-        r->c, KERAVNOTH_ROWS_MOST, r->f, KERAVNOTH_FACTORS_MOST);
+        r->c, KERAVNOTH_ROWS_MOST, r->f, KERAVNOTH_FACTORS_MOST));
 }
 
-/* The table's own C lines are a sheet that changes nothing, and the longest walk. */
 static void read_corrected(struct room *r)
 {
-    r->table = keravnoth_read_corrected(
-        r->text, r->n, r->text + r->rows_at, r->n - r->rows_at,
+    r->said = header(keravnoth_read_corrected(
+        r->text, r->n, r->corrections, r->corrected,
         r->z, KERAVNOTH_ZONES_MOST, r->t, KERAVNOTH_ZONES_MOST,
         r->b, KERAVNOTH_BORDERS_MOST,
-        r->c, KERAVNOTH_ROWS_MOST, r->f, KERAVNOTH_FACTORS_MOST);
+        r->c, KERAVNOTH_ROWS_MOST, r->f, KERAVNOTH_FACTORS_MOST));
 }
 
 static void write_(struct room *r)
@@ -85,7 +96,7 @@ static void write_(struct room *r)
 static void rewrite_corrected(struct room *r)
 {
     keravnoth_rewrite_corrected(
-        r->text, r->n, r->text + r->rows_at, r->n - r->rows_at, r->out, KERAVNOTH_WRITE_MOST);
+        r->text, r->n, r->corrections, r->corrected, r->out, KERAVNOTH_WRITE_MOST);
 }
 
 static void extract(struct room *r)
@@ -95,20 +106,10 @@ static void extract(struct room *r)
         r->atc, KERAVNOTH_BORDERS_MOST, r->left, KERAVNOTH_ROWS_MOST);
 }
 
-/* Every second border is marked. */
-static size_t mark(struct room *r)
-{
-    size_t count = (r->table.borders + 1) / 2;
-    for (size_t k = 0; k < count; k++)
-        r->marks[k] = 2 * k;
-    return count;
-}
-
 static void extract_marked(struct room *r)
 {
-    size_t count = mark(r);
     keravnoth_extract_marked(
-        TABLE(r), r->p, KERAVNOTH_P_MOST, r->marks, count,
+        TABLE(r), r->p, KERAVNOTH_P_MOST, r->marks, r->marked,
         r->atc, KERAVNOTH_BORDERS_MOST, r->left, KERAVNOTH_ROWS_MOST);
 }
 
@@ -119,8 +120,7 @@ static void result_text(struct room *r)
 
 static void result_text_marked(struct room *r)
 {
-    size_t count = mark(r);
-    keravnoth_result_text_marked(TABLE(r), r->marks, count, r->out, KERAVNOTH_RESULT_TEXT_MOST);
+    keravnoth_result_text_marked(TABLE(r), r->marks, r->marked, r->out, KERAVNOTH_RESULT_TEXT_MOST);
 }
 
 static void answer(struct room *r)
@@ -130,14 +130,13 @@ static void answer(struct room *r)
 
 static void answer_marked(struct room *r)
 {
-    size_t count = mark(r);
-    keravnoth_answer_marked(r->text, r->n, r->marks, count, r->out, KERAVNOTH_ANSWER_MOST);
+    keravnoth_answer_marked(r->text, r->n, r->marks, r->marked, r->out, KERAVNOTH_ANSWER_MOST);
 }
 
 static void answer_corrected(struct room *r)
 {
     keravnoth_answer_corrected(
-        r->text, r->n, r->text + r->rows_at, r->n - r->rows_at, r->out, KERAVNOTH_ANSWER_MOST);
+        r->text, r->n, r->corrections, r->corrected, r->out, KERAVNOTH_ANSWER_MOST);
 }
 
 static void corner_flows(struct room *r)
@@ -150,23 +149,15 @@ static void corner_text(struct room *r)
     keravnoth_corner_text(TABLE(r), r->row, r->out, KERAVNOTH_CORNER_TEXT_MOST);
 }
 
-/* A claim on each row: the first that is kept is not borne out, since it cites none. */
 static void claims(struct room *r)
 {
-    for (size_t row = 0; row < r->table.rows; row++) {
-        r->claims[row][KERAVNOTH_CLAIM_ROW] = (int64_t)row;
-        r->claims[row][KERAVNOTH_CLAIM_D] = 1;
-    }
     keravnoth_claims(
-        TABLE(r), (const int64_t (*)[KERAVNOTH_CLAIM_ITEMS])r->claims, r->table.rows);
+        TABLE(r), (const int64_t (*)[KERAVNOTH_CLAIM_ITEMS])r->claims, r->claimed);
 }
 
 static void published_text(struct room *r)
 {
-    static const uint8_t list[] = "Q\t0\t1\t1\t1\n";
-    keravnoth_published_text(TABLE(r), list, 0, r->out, KERAVNOTH_PUBLISHED_TEXT_MOST);
-    keravnoth_published_text(
-        TABLE(r), list, sizeof list - 1, r->out, KERAVNOTH_PUBLISHED_TEXT_MOST);
+    keravnoth_published_text(TABLE(r), r->list, r->listed, r->out, KERAVNOTH_PUBLISHED_TEXT_MOST);
 }
 
 static void bound(struct room *r)
@@ -176,8 +167,7 @@ static void bound(struct room *r)
 
 static void bound_marked(struct room *r)
 {
-    size_t count = mark(r);
-    keravnoth_bound_marked(TABLE(r), r->marks, count);
+    keravnoth_bound_marked(TABLE(r), r->marks, r->marked);
 }
 
 static void margins(struct room *r)
@@ -185,23 +175,20 @@ static void margins(struct room *r)
     keravnoth_margins(TABLE(r), r->parts, KERAVNOTH_ROWS_MOST);
 }
 
-/* The rows as a sheet, and back. */
+static void read_rows(struct room *r)
+{
+    keravnoth_read_rows(
+        r->table, r->sheet, r->sheeted, r->c, KERAVNOTH_ROWS_MOST, r->f, KERAVNOTH_FACTORS_MOST);
+}
+
 static void write_rows(struct room *r)
 {
     keravnoth_write_rows(
-        header(r), C(r), KERAVNOTH_ROWS_MOST, r->f, KERAVNOTH_FACTORS_MOST,
+        r->table, C(r), KERAVNOTH_ROWS_MOST, r->f, KERAVNOTH_FACTORS_MOST,
         r->out, KERAVNOTH_WRITE_ROWS_MOST);
 }
 
-static void read_rows(struct room *r)
-{
-    struct KeravnothWritten sheet = keravnoth_write_rows(
-        header(r), C(r), KERAVNOTH_ROWS_MOST, r->f, KERAVNOTH_FACTORS_MOST,
-        r->out, KERAVNOTH_WRITE_ROWS_MOST);
-    keravnoth_read_rows(
-        header(r), r->out, sheet.bytes, r->c, KERAVNOTH_ROWS_MOST, r->f, KERAVNOTH_FACTORS_MOST);
-}
-
+/* The calls of the header, in the order of its figures. */
 static const struct {
     const char *name;
     void (*make)(struct room *);
@@ -225,8 +212,8 @@ static const struct {
     {"bound", bound, KERAVNOTH_BOUND_STACK},
     {"bound_marked", bound_marked, KERAVNOTH_BOUND_MARKED_STACK},
     {"margins", margins, KERAVNOTH_MARGINS_STACK},
-    {"write_rows", write_rows, KERAVNOTH_WRITE_ROWS_STACK},
     {"read_rows", read_rows, KERAVNOTH_READ_ROWS_STACK},
+    {"write_rows", write_rows, KERAVNOTH_WRITE_ROWS_STACK},
 };
 
 static int load(struct room *r, const char *name)
@@ -238,54 +225,331 @@ static int load(struct room *r, const char *name)
     }
     memset(r, 0, sizeof *r);
     r->n = fread(r->text, 1, sizeof r->text, file);
-    while (r->rows_at < r->n && r->text[r->rows_at] != 'C')
-        r->rows_at++;
     int failed = ferror(file);
     fclose(file);
     return failed ? 2 : 0;
 }
 
-/* Paints the stack below this frame, makes the call, and looks how far down the
-   paint is gone.  It is not inlined, so that no other frame counts.  What it takes
-   itself counts, and the call's arguments: some hundred bytes, which another compiler
-   makes more or less. */
-__attribute__((noinline)) static size_t touched(void (*make)(struct room *), struct room *r)
+/* The table that the text has, for the calls on lent tables. */
+static void read_table(struct room *r)
 {
-    enum { DEPTH = 1 << 20, OWN = 256, PAINT = 0xa5 };
-    volatile unsigned char *top = __builtin_frame_address(0);
-    volatile unsigned char *at;
-    for (at = top - DEPTH; at < top - OWN; at++)
-        *at = PAINT;
-    make(r);
-    for (at = top - DEPTH; at < top - OWN && *at == PAINT; at++)
-        ;
-    return (size_t)(top - at);
+    read_(r);
+    r->table = r->said;
 }
 
-/* The figure of the header is what was touched, with SPARE for another compiler of
-   this file, in whole KiB: it is never less, nor 2 KiB more. */
+/* The table's own C lines are corrections that change nothing, and the longest walk. */
+static void correct(struct room *r)
+{
+    size_t at = 0;
+    while (at < r->n && r->text[at] != 'C')
+        at++;
+    r->corrected = r->n - at;
+    memcpy(r->corrections, r->text + at, r->corrected);
+}
+
+/* Every second border is marked. */
+static void mark(struct room *r)
+{
+    r->marked = (r->table.borders + 1) / 2;
+    for (size_t k = 0; k < r->marked; k++)
+        r->marks[k] = 2 * k;
+}
+
+/* The multiplier of pair j in claim k: no two claims have the same ones. */
+static int64_t times(size_t k, size_t j)
+{
+    enum { PAIRS = KERAVNOTH_CLAIM_PAIRS_MOST };
+    return j == k % PAIRS ? 2 + (int64_t)(k / PAIRS) : 1;
+}
+
+/* A claim on every kept row but the first ones, which it cites, as many as it may: as a
+   record and as a line. */
+static void claim(struct room *r)
+{
+    size_t kept[KERAVNOTH_ROWS_MOST], count = 0;
+    margins(r);
+    for (size_t row = 0; row < r->table.rows; row++)
+        if (r->parts[row][KERAVNOTH_PARTS_STATE] == KERAVNOTH_STATE_KEPT)
+            kept[count++] = row;
+    size_t pairs = count > KERAVNOTH_CLAIM_PAIRS_MOST ? KERAVNOTH_CLAIM_PAIRS_MOST : count / 2;
+    char *line = (char *)r->list;
+    for (size_t k = 0; k < count - pairs; k++) {
+        int64_t *pair = r->claims[k] + KERAVNOTH_CLAIM_FIRST_PAIR;
+        r->claims[k][KERAVNOTH_CLAIM_ROW] = (int64_t)kept[pairs + k];
+        r->claims[k][KERAVNOTH_CLAIM_D] = 1;
+        r->claims[k][KERAVNOTH_CLAIM_PAIRS] = (int64_t)pairs;
+        line += sprintf(line, "Q\t%zu\t1", kept[pairs + k]);
+        for (size_t j = 0; j < pairs; j++) {
+            *pair++ = (int64_t)kept[j];
+            *pair++ = times(k, j);
+            line += sprintf(line, "\t%zu\t%d", kept[j], (int)times(k, j));
+        }
+        *line++ = '\n';
+    }
+    r->claimed = count - pairs;
+    r->listed = (size_t)(line - (char *)r->list);
+}
+
+/* The rows as the planners' sheet. */
+static void keep_sheet(struct room *r)
+{
+    r->sheeted = keravnoth_write_rows(
+        r->table, C(r), KERAVNOTH_ROWS_MOST, r->f, KERAVNOTH_FACTORS_MOST,
+        r->sheet, KERAVNOTH_WRITE_ROWS_MOST).bytes;
+}
+
+/* All that goes with the table of the text. */
+static void prepare(struct room *r)
+{
+    read_table(r);
+    correct(r);
+    mark(r);
+    claim(r);
+    keep_sheet(r);
+}
+
+/* The text of a table on which as many claims as there can be, each with as many pairs
+   as it can have, are borne out: the rows cited have little room and differ in how far
+   apart their factors are, every other row is a sum of them. */
+static void make_sums(struct room *r)
+{
+    enum { PAIRS = KERAVNOTH_CLAIM_PAIRS_MOST, APART = 5000, FMAX = 10000000 };
+    memset(r, 0, sizeof *r);
+    r->table.zones = 2;
+    r->table.borders = 1;
+    r->table.rows = KERAVNOTH_ROWS_MOST;
+    r->table.share = KERAVNOTH_SHARE_UNWRITTEN;
+    r->b[0][KERAVNOTH_B_TO] = 1;
+    r->b[0][KERAVNOTH_B_SENDING] = KERAVNOTH_NO_HUB;
+    r->b[0][KERAVNOTH_B_RECEIVING] = KERAVNOTH_NO_HUB;
+    for (size_t row = 0; row < KERAVNOTH_ROWS_MOST; row++) {
+        int64_t apart = row < PAIRS ? APART + (int64_t)row : 0;
+        for (size_t j = 0; j < PAIRS && row >= PAIRS; j++)
+            apart += times(row - PAIRS, j) * (APART + (int64_t)j);
+        r->c[row][KERAVNOTH_C_FMAX] = row < PAIRS ? 1 : FMAX;
+        r->f[2 * row] = apart - apart / 2;
+        r->f[2 * row + 1] = -(apart / 2);
+    }
+    r->n = keravnoth_write(TABLE(r), r->text, KERAVNOTH_WRITE_MOST).bytes;
+}
+
+static int borne_out(const struct room *r)
+{
+    struct KeravnothJudged said = keravnoth_claims(
+        TABLE(r), (const int64_t (*)[KERAVNOTH_CLAIM_ITEMS])r->claims, r->claimed);
+    return said.number == KERAVNOTH_ACCEPTED
+        && r->claimed == KERAVNOTH_ROWS_MOST - KERAVNOTH_CLAIM_PAIRS_MOST;
+}
+
+/* Paints the stack below this frame, makes the call, and looks how far down the paint
+   is gone.  It is not inlined, so that no other frame counts.  What `make` takes itself
+   counts, and the call's arguments: some hundred bytes, which another compiler makes
+   more or less.  The frame is aligned as the linker aligns what it saves, so that the
+   answer is the same wherever the stack begins. */
+__attribute__((noinline)) static size_t touched(void (*make)(struct room *), struct room *r)
+{
+    enum { DEPTH = 1 << 20, OWN = 256 };
+    const uint64_t paint = 0xa5a5a5a5a5a5a5a5;
+    _Alignas(64) volatile unsigned char here[1];
+    uintptr_t top = (uintptr_t)here, at;
+    for (at = top - DEPTH; at < top - OWN; at += sizeof paint)
+        *(volatile uint64_t *)at = paint;
+    make(r);
+    for (at = top - DEPTH; at < top - OWN && *(volatile uint64_t *)at == paint; at += sizeof paint)
+        ;
+    return top - at;
+}
+
+/* What a call takes: as the first of its process, where the linker may still have to
+   bind memcpy and memset, and where that is done. */
+struct taken {
+    size_t first, bound;
+};
+
+/* What the processes share. */
+struct shared {
+    struct room room;
+    struct taken taken;
+};
+
+/* How a process that was started here ended: its exit code, or 2. */
+static int ended(pid_t child)
+{
+    int status;
+    if (child < 0 || waitpid(child, &status, 0) != child || !WIFEXITED(status)) {
+        fputs("a process was not started, or was stopped\n", stderr);
+        return 2;
+    }
+    return WEXITSTATUS(status);
+}
+
+/* Makes the call first and alone in a process of its own, and then once more, where all
+   that it reaches is bound. */
+static int measure(struct shared *s, void (*make)(struct room *), struct taken *most)
+{
+    pid_t child = fork();
+    if (child == 0) {
+        s->taken.first = touched(make, &s->room);
+        s->taken.bound = touched(make, &s->room);
+        _exit(0);
+    }
+    if (ended(child) != 0)
+        return 2;
+    if (s->taken.first > most->first)
+        most->first = s->taken.first;
+    if (s->taken.bound > most->bound)
+        most->bound = s->taken.bound;
+    return 0;
+}
+
+static void copy(struct room *r)
+{
+    memcpy(r->out, r->text, r->n);
+}
+
+static void fill(struct room *r)
+{
+    memset(r->out, 0, r->n);
+}
+
+/* The most of each call, and of what the linker binds for them. */
+struct most {
+    struct taken calls[CALLS], copy, fill;
+};
+
+static int measure_each(struct shared *s, struct most *most)
+{
+    for (int call = 0; call < CALLS; call++)
+        if (measure(s, calls[call].make, &most->calls[call]) != 0)
+            return 2;
+    return measure(s, copy, &most->copy) | measure(s, fill, &most->fill);
+}
+
+/* Has a process of its own fill the room, for a table or for the one that is made here. */
+static int set_up(struct room *r, const char *name)
+{
+    pid_t child = fork();
+    if (child == 0) {
+        if (name == NULL)
+            make_sums(r);
+        else if (load(r, name) != 0)
+            _exit(2);
+        prepare(r);
+        if (name != NULL || borne_out(r))
+            _exit(0);
+        fputs("the claims that are made here are not borne out\n", stderr);
+        _exit(2);
+    }
+    return ended(child);
+}
+
+/* The last byte before the last LF is one that no number has. */
+static void spoil(uint8_t *text, size_t n)
+{
+    if (n > 1)
+        text[n - 2] = 'x';
+}
+
+/* Over the tables, and over the one that is made here: whole, with what goes with it
+   refused, and refused itself, since whoever finds the byte to blame goes deep.  This
+   process makes no call, and neither copies nor fills memory: nothing is bound in it,
+   so nothing is in those that it starts. */
+static int measure_all(int count, char **names, struct most *most)
+{
+    struct shared *s = mmap(NULL, sizeof *s, PROT_READ | PROT_WRITE, MAP_SHARED | MAP_ANONYMOUS, -1, 0);
+    if (s == MAP_FAILED) {
+        perror("mmap");
+        return 2;
+    }
+    struct room *r = &s->room;
+    for (int i = 0; i < count; i++)
+        if (set_up(r, names[i]) != 0 || measure_each(s, most) != 0)
+            return 2;
+    if (set_up(r, NULL) != 0 || measure_each(s, most) != 0)
+        return 2;
+    spoil(r->corrections, r->corrected);
+    spoil(r->list, r->listed);
+    spoil(r->sheet, r->sheeted);
+    if (measure_each(s, most) != 0)
+        return 2;
+    spoil(r->text, r->n);
+    return measure_each(s, most);
+}
+
+/* The header's rule, under STACK. */
+static size_t figure(size_t bytes)
+{
+    return (bytes + SPARE + KIB - 1) / KIB * KIB;
+}
+
+static size_t binding(const struct most *most)
+{
+    return most->copy.first > most->fill.first ? most->copy.first : most->fill.first;
+}
+
+static int lazily(void)
+{
+    const char *at_once = getenv("LD_BIND_NOW");
+    return at_once == NULL || *at_once == '\0';
+}
+
+/* Lazily: memcpy and memset were each bound where they were first reached.  At once: no
+   call took less when it was made again. */
+static int bound_as_wanted(const struct most *most)
+{
+    int as_wanted = 1;
+    if (lazily())
+        as_wanted = most->copy.first > most->copy.bound && most->fill.first > most->fill.bound;
+    else
+        for (int call = 0; call < CALLS; call++)
+            as_wanted &= most->calls[call].first == most->calls[call].bound;
+    if (!as_wanted)
+        fprintf(stderr, "memcpy and memset are not bound %s\n", lazily() ? "lazily" : "at once");
+    return as_wanted;
+}
+
+/* Says what was taken beside the header's figure; 1 where it is more. */
+static int judge(const char *name, size_t bytes, size_t said)
+{
+    printf("%s: %zu bytes; the header has %zu", name, bytes, said);
+    if (bytes > said)
+        printf(", which is too little");
+    else if (figure(bytes) != said)
+        printf(", and its rule gives %zu", figure(bytes));
+    printf("\n");
+    return bytes > said;
+}
+
 static int check_stack(int count, char **names)
 {
-    struct room *r = &rooms[0];
-    size_t most[CALLS] = {0};
-    int status = 0;
-    for (int i = 0; i < count; i++) {
-        if (load(r, names[i]) != 0)
-            return 2;
-        for (int call = 0; call < CALLS; call++) {
-            size_t bytes = touched(calls[call].make, r);
-            if (bytes > most[call])
-                most[call] = bytes;
-        }
-    }
+    static struct most most;
+    if (measure_all(count, names, &most) != 0)
+        return 2;
+    int status = !bound_as_wanted(&most);
     for (int call = 0; call < CALLS; call++) {
-        size_t figure = (most[call] + SPARE + KIB - 1) / KIB * KIB;
-        printf("%s: %zu bytes touched, so %zu; the header says %zu\n",
-            calls[call].name, most[call], figure, calls[call].stack);
-        if (calls[call].stack < most[call] || calls[call].stack >= most[call] + 2 * KIB)
-            status = 1;
+        size_t said = calls[call].stack;
+        status |= judge(calls[call].name, most.calls[call].bound, said);
+        if (most.calls[call].first > said + KERAVNOTH_BINDING_STACK)
+            status |= judge("bound lazily it takes", most.calls[call].first, said + KERAVNOTH_BINDING_STACK);
     }
+    if (lazily())
+        status |= judge("binding", binding(&most), KERAVNOTH_BINDING_STACK);
     return status;
+}
+
+static int print_figures(int count, char **names)
+{
+    static struct most most;
+    if (measure_all(count, names, &most) != 0)
+        return 2;
+    for (int call = 0; call < CALLS; call++) {
+        printf("    KERAVNOTH_");
+        for (const char *letter = calls[call].name; *letter != '\0'; letter++)
+            putchar(toupper(*letter));
+        printf("_STACK = %zu,\n", figure(most.calls[call].bound));
+    }
+    printf("    KERAVNOTH_BINDING_STACK = %zu\n", figure(binding(&most)));
+    return !bound_as_wanted(&most);
 }
 
 #define SAME(one, other) \
@@ -298,8 +562,8 @@ static int check_null(const char *name)
     struct room *r = &rooms[0];
     if (load(r, name) != 0)
         return 2;
-    read_(r);
-    int same = r->table.number == KERAVNOTH_ACCEPTED;
+    read_table(r);
+    int same = r->table.zones != 0;
     same &= SAME(
         keravnoth_read(NULL, 0, NULL, 0, NULL, 0, NULL, 0, NULL, 0, NULL, 0),
         keravnoth_read(r->text, 0, r->z, 0, r->t, 0, r->b, 0, r->c, 0, r->f, 0));
@@ -327,11 +591,11 @@ static int check_null(const char *name)
 #define NONE NULL, 0, NULL, 0, NULL, 0, NULL, 0, NULL, 0
 #define SOME r->z, 0, r->t, 0, B(r), 0, C(r), 0, r->f, 0
     same &= SAME(
-        keravnoth_write(header(r), NONE, NULL, 0),
-        keravnoth_write(header(r), SOME, r->out, 0));
+        keravnoth_write(r->table, NONE, NULL, 0),
+        keravnoth_write(r->table, SOME, r->out, 0));
     same &= SAME(
-        keravnoth_extract(header(r), NONE, NULL, 0, NULL, 0, NULL, 0),
-        keravnoth_extract(header(r), SOME, r->p, 0, r->atc, 0, r->left, 0));
+        keravnoth_extract(r->table, NONE, NULL, 0, NULL, 0, NULL, 0),
+        keravnoth_extract(r->table, SOME, r->p, 0, r->atc, 0, r->left, 0));
     same &= SAME(
         keravnoth_extract(TABLE(r), NULL, 0, NULL, 0, NULL, 0),
         keravnoth_extract(TABLE(r), r->p, 0, r->atc, 0, r->left, 0));
@@ -348,8 +612,8 @@ static int check_null(const char *name)
         keravnoth_result_text_marked(TABLE(r), NULL, 0, NULL, 0),
         keravnoth_result_text_marked(TABLE(r), r->marks, 0, r->out, 0));
     same &= SAME(
-        keravnoth_corner_flows(header(r), NONE, 0, NULL, 0),
-        keravnoth_corner_flows(header(r), SOME, 0, r->flows, 0));
+        keravnoth_corner_flows(r->table, NONE, 0, NULL, 0),
+        keravnoth_corner_flows(r->table, SOME, 0, r->flows, 0));
     same &= SAME(
         keravnoth_corner_text(TABLE(r), 0, NULL, 0),
         keravnoth_corner_text(TABLE(r), 0, r->out, 0));
@@ -360,8 +624,8 @@ static int check_null(const char *name)
         keravnoth_published_text(TABLE(r), NULL, 0, NULL, 0),
         keravnoth_published_text(TABLE(r), r->text, 0, r->out, 0));
     same &= SAME(
-        keravnoth_bound(header(r), NONE),
-        keravnoth_bound(header(r), SOME));
+        keravnoth_bound(r->table, NONE),
+        keravnoth_bound(r->table, SOME));
     same &= SAME(
         keravnoth_bound_marked(TABLE(r), NULL, 0),
         keravnoth_bound_marked(TABLE(r), r->marks, 0));
@@ -369,11 +633,11 @@ static int check_null(const char *name)
         keravnoth_margins(TABLE(r), NULL, 0),
         keravnoth_margins(TABLE(r), r->parts, 0));
     same &= SAME(
-        keravnoth_read_rows(header(r), NULL, 0, NULL, 0, NULL, 0),
-        keravnoth_read_rows(header(r), r->text, 0, r->c, 0, r->f, 0));
+        keravnoth_read_rows(r->table, NULL, 0, NULL, 0, NULL, 0),
+        keravnoth_read_rows(r->table, r->text, 0, r->c, 0, r->f, 0));
     same &= SAME(
-        keravnoth_write_rows(header(r), NULL, 0, NULL, 0, NULL, 0),
-        keravnoth_write_rows(header(r), C(r), 0, r->f, 0, r->out, 0));
+        keravnoth_write_rows(r->table, NULL, 0, NULL, 0, NULL, 0),
+        keravnoth_write_rows(r->table, C(r), 0, r->f, 0, r->out, 0));
     puts(same ? "NULL with count 0 answers as count 0" : "NULL with count 0 answers otherwise");
     return same ? 0 : 1;
 }
@@ -404,7 +668,7 @@ static int check_factors(const char *name)
     struct room *r = &rooms[0];
     if (load(r, name) != 0)
         return 2;
-    read_(r);
+    read_table(r);
     size_t borders = r->table.borders, rows = r->table.rows, needed = rows * borders;
     for (size_t item = 0; item < KERAVNOTH_P_MOST; item++)
         r->p[item] = PAINT;
@@ -424,6 +688,7 @@ static int check_factors(const char *name)
 static void *turns(void *lent)
 {
     struct room *r = lent;
+    prepare(r);
     for (int turn = 0; turn < TURNS; turn++)
         for (int call = 0; call < CALLS; call++)
             calls[call].make(r);
@@ -458,12 +723,14 @@ int main(int argc, char **argv)
 {
     if (argc > 2 && strcmp(argv[1], "stack") == 0)
         return check_stack(argc - 2, argv + 2);
+    if (argc > 2 && strcmp(argv[1], "figures") == 0)
+        return print_figures(argc - 2, argv + 2);
     if (argc == 3 && strcmp(argv[1], "null") == 0)
         return check_null(argv[2]);
     if (argc == 3 && strcmp(argv[1], "threads") == 0)
         return check_threads(argv[2]);
     if (argc == 3 && strcmp(argv[1], "factors") == 0)
         return check_factors(argv[2]);
-    fprintf(stderr, "usage: %s stack TABLE.. | null TABLE | threads TABLE | factors TABLE\n", argv[0]);
+    fprintf(stderr, "usage: %s stack TABLE.. | figures TABLE.. | null TABLE | threads TABLE | factors TABLE\n", argv[0]);
     return 2;
 }

@@ -149,11 +149,17 @@
  *
  * STACK
  *   Working memory is on the stack.  KERAVNOTH_READ_STACK and so on are the bytes
- *   that a call takes at most below its caller's frame, in whole KiB.  They are
- *   measured, not proved: c/check.c paints the stack, makes the call on every
- *   example hour and the largest stored cases, and looks how much of the paint is
- *   gone, on the x86-64 code of the library.  A thread that calls needs so much beyond its own
- *   frames.
+ *   that a call takes at most below its caller's frame; a thread that calls needs so
+ *   much beyond its own frames.  They are measured, not proved: c/check.c makes each
+ *   call first and alone in a process of its own, over every example hour, the largest
+ *   stored cases, the fullest claims and texts that are refused, and looks how much of
+ *   a painted stack is gone, on the x86-64 code of the library.  A figure is the most
+ *   that was measured, arguments included, and 256 bytes more for another compiler of
+ *   the caller and another memcpy, rounded up to whole KiB.
+ *   The figures are of a program that is bound at once (-z now, LD_BIND_NOW).  One that
+ *   is bound lazily needs KERAVNOTH_BINDING_STACK beyond them: the call that first
+ *   reaches memcpy or memset has the linker's work on its stack, which saves the
+ *   processor's registers there (measured by the same rule, with those of AVX-512).
  *
  * VERSION
  *   KERAVNOTH_VERSION rises with every change of this file that a caller can see.
@@ -291,28 +297,29 @@ enum {
     KERAVNOTH_KW_PER_MW = 1000
 };
 
-/* The stack that each call needs, in bytes: see STACK above. */
+/* The stack that each call needs, in bytes, and what lazy binding adds: see STACK above. */
 enum {
     KERAVNOTH_READ_STACK = 5120,
     KERAVNOTH_READ_CORRECTED_STACK = 5120,
     KERAVNOTH_WRITE_STACK = 2048,
     KERAVNOTH_REWRITE_CORRECTED_STACK = 45056,
-    KERAVNOTH_EXTRACT_STACK = 19456,
+    KERAVNOTH_EXTRACT_STACK = 16384,
     KERAVNOTH_EXTRACT_MARKED_STACK = 16384,
     KERAVNOTH_RESULT_TEXT_STACK = 124928,
     KERAVNOTH_RESULT_TEXT_MARKED_STACK = 124928,
     KERAVNOTH_ANSWER_STACK = 164864,
     KERAVNOTH_ANSWER_MARKED_STACK = 164864,
     KERAVNOTH_ANSWER_CORRECTED_STACK = 164864,
-    KERAVNOTH_CORNER_FLOWS_STACK = 3072,
-    KERAVNOTH_CORNER_TEXT_STACK = 35840,
+    KERAVNOTH_CORNER_FLOWS_STACK = 2048,
+    KERAVNOTH_CORNER_TEXT_STACK = 34816,
     KERAVNOTH_CLAIMS_STACK = 7168,
-    KERAVNOTH_PUBLISHED_TEXT_STACK = 65536,
+    KERAVNOTH_PUBLISHED_TEXT_STACK = 64512,
     KERAVNOTH_BOUND_STACK = 113664,
     KERAVNOTH_BOUND_MARKED_STACK = 113664,
     KERAVNOTH_MARGINS_STACK = 6144,
     KERAVNOTH_READ_ROWS_STACK = 2048,
-    KERAVNOTH_WRITE_ROWS_STACK = 2048
+    KERAVNOTH_WRITE_ROWS_STACK = 1024,
+    KERAVNOTH_BINDING_STACK = 4096
 };
 
 /* The header of a table, by value; share where the H line does not write it, and
