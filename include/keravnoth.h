@@ -253,7 +253,7 @@ enum {
     KERAVNOTH_CLAIM_ITEMS = 35
 };
 
-/* .. of atc; the stopping row where no row loads the border, or it is not marked. */
+/* .. of atc; the stopping row of a border that is not marked, as every other has one. */
 enum {
     KERAVNOTH_ATC_MW,
     KERAVNOTH_ATC_LAST_ROUND,
@@ -477,18 +477,21 @@ struct KeravnothWritten keravnoth_result_text_marked(
     uint8_t *out, size_t nout);
 
 /* From text to text: the result text, or one line E, number, place,
-   byte.  Refused only where out is too short (8, bytes needed). */
+   byte.  Refused only where out is too short (8, bytes needed).
+   Number 0 may stand beside an E line in out: its first byte tells, A or E. */
 struct KeravnothWritten keravnoth_answer(
     const uint8_t *text, size_t n,
     uint8_t *out, size_t nout);
 
-/* .. where only the marked borders may rise.  Refused as keravnoth_answer is. */
+/* .. where only the marked borders may rise.  Refused as keravnoth_answer is.
+   Number 0 may stand beside an E line in out: its first byte tells, A or E. */
 struct KeravnothWritten keravnoth_answer_marked(
     const uint8_t *text, size_t n,
     const uint64_t *marks, size_t nmarks,
     uint8_t *out, size_t nout);
 
-/* .. of the table as a sheet corrects it.  Refused as keravnoth_answer is. */
+/* .. of the table as a sheet corrects it.  Refused as keravnoth_answer is.
+   Number 0 may stand beside an E line in out: its first byte tells, A or E. */
 struct KeravnothWritten keravnoth_answer_corrected(
     const uint8_t *text, size_t n,
     const uint8_t *sheet, size_t nsheet,
