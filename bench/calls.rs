@@ -47,6 +47,7 @@ pub struct Bounded {
     pub sharers: u64,
     pub bits: u64,
     pub rounds: u64,
+    pub sharp: u64,
 }
 
 /// On x86-64 C hands answers of these sizes back through a place that the caller names in a hidden first argument. The

@@ -174,7 +174,7 @@
 extern "C" {
 #endif
 
-#define KERAVNOTH_VERSION 13
+#define KERAVNOTH_VERSION 14
 
 /* The largest table, in items. */
 enum {
@@ -381,7 +381,9 @@ struct KeravnothJudged {
     size_t byte;
 };
 
-/* The bound of the rounds: N, L, and 2 x N x L, which the rounds are never more than. */
+/* The bound of the rounds: N, L, and 2 x N x L, which the rounds are never more than.
+   sharp is the sharper bound: the rounds are never more than it, and it is never more
+   than rounds. */
 struct KeravnothBounded {
     uint32_t number;
     size_t place;
@@ -389,6 +391,7 @@ struct KeravnothBounded {
     uint64_t sharers;
     uint64_t bits;
     uint64_t rounds;
+    uint64_t sharp;
 };
 
 /* Reads a table's text into z, t, b, c and f.  Refusals 1, 2, 3, 4, 8. */

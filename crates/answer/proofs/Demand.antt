@@ -45,6 +45,7 @@ pub record TextDemand3 (marked : ℕ → Bool) (read : Judged Table) (answered :
   pub result : Result
   pub is : read ≡ passed table
   pub printed : answered ≡ resultText result
+  pub outcome : outcomeMarked marked table ≡ passed result
   pub demand : ResultDemand3 table marked result
   pub stopped : (b : ℕ) → b < table .header .borders → marked b ≡ true → BorderStopped table marked result b
   pub unmarked : (b : ℕ) → b < table .header .borders → marked b ≡ false → Unmarked result b
@@ -61,6 +62,7 @@ module _ (all : Bool) (marks : List ℕ) (read : Judged Table) (good : (t : Tabl
         result = r;
         is = a .first;
         printed = printed;
+        outcome = o;
         demand = accepted-demand-3 marked (a .it) r (good (a .it) (a .first)) o;
         stopped = accepted-stopped marked (a .it) r o;
         unmarked = accepted-unmarked marked (a .it) r o;

@@ -1,14 +1,16 @@
 -- The bound of the hour that 01 checks whole, computed, with every border and with one marked; and tables that the rounds do not start from. Nobody cites them: they
 -- refuse a definition that slipped.
-use mathlib.Core.Path.{_≡_, refl}
+use mathlib.Core.Path.{_≡_, refl, sym, subst, _∙_}
 use mathlib.Core.Bool.{true, false}
 use mathlib.Core.List.{[], _∷_}
-use Prim.Native.Nat.{ℕ}
+use Prim.Native.Nat.{ℕ, _≤_}
+use native.Mathlib.Omega.{arith}
 use lib.IntN.{ℤ, pos}
 use Rattle.numbers.specs.Below.{ifZero, sum, count, largest, lesser, least, orZero, table, firstFrom, given}
 use Rattle.numbers.specs.Ints.{minus, maxℤ, minℤ, positivePart, sameℤ, sumℤ, inside}
 use Rattle.kinds.specs.Ranges.{headerFits, allocatedItems, zoneFits, exists, hubsFit, hubsOf, borderFits, borderOf, shareOf, rowOf, rowFits, factorFits, worth, defaultOf}
 use Rattle.kinds.specs.Refusals.{Judged, passed, refused, then, unless, refuseAt, refuseFirst, need, badMark, unlimited, belowZero}
+use Rattle.kinds.proofs.RefusalLaws.{passed-is}
 use Rattle.marks.specs.Marks.{markedBy, faultyMark, judgeMarks}
 use Rattle.table.specs.Table.{Table, stretch, balanced, twice, roomFor, judgeShape, judgeLent}
 use Rattle.rounds.specs.Rounds.{sharers, alone, mostSharers, bitsTo, bits, aloneBits}
@@ -16,8 +18,10 @@ use Rattle.margin.specs.Margin.{grains, f0coreOf, fuafOf, baseOf, amrOf, signed
 use Rattle.states.specs.States.{highest, lowest, spreadOf, shifted, below, stateOf}
 use Rattle.start.specs.Setup.{gridBy, beginBy, judgeBy}
 use Rattle.start.specs.Start.{rowsOf, kept, setupWith}
-use Rattle.bound.specs.declared.RoundsMost.{RoundsMost}
-use Rattle.bound.specs.Bound.{boundBy, boundMarked, boundFor}
+use Rattle.tight.specs.declared.RoundsMost.{RoundsMost}
+use Rattle.tight.specs.Tight.{shareUp, cut, stepsWithin, steps, rowReach, reach, farthest, tightBound}
+use Rattle.tight.specs.Measure.{boundBy}
+use Rattle.bound.specs.Bound.{boundMarked, boundFor, AtMost}
 
 -- the hour of 01
 abbrev hour : Table
@@ -53,22 +57,44 @@ small iva =
       factors = pos 20000 ∷ pos 0 ∷ [];
     }
 
-abbrev most : (n l rounds : ℕ) → Judged RoundsMost
-most n l rounds = passed (record { sharers = n; bits = l; rounds = rounds })
+abbrev most : (n l rounds sharp : ℕ) → Judged RoundsMost
+most n l rounds sharp = passed (record { sharers = n; bits = l; rounds = rounds; sharp = sharp })
 
 pub record Anchors : Type 0 where
-  -- 01: N = 2, L = 22, bound 88
-  pub worked : boundFor true [] hour ≡ most 2 22 88
-  -- border 1 alone is marked: no row shares, and it could take 1,600,000 kW, under 2^21
-  pub marked : boundFor false (1 ∷ []) hour ≡ most 1 21 42
+  -- 01: N = 2, L = 22, bound 88. Border 0 reaches 3,299,999 kW, of which 22 halves, rounded up, are taken
+  pub worked : boundFor true [] hour ≡ most 2 22 88 22
+  -- border 1 alone is marked: no row shares, and it could take 1,600,000 kW, under 2^21, at once
+  pub marked : boundFor false (1 ∷ []) hour ≡ most 1 21 42 1
   -- 13 comes before 6, and 6 looks at marked borders only; then 7
   pub no-mark : boundFor false [] (small (pos 1)) ≡ refused (badMark 0)
   pub no-border : boundFor false (0 ∷ 2 ∷ []) (small (pos 1)) ≡ refused (badMark 2)
   pub free : boundFor true [] (small (pos 1)) ≡ refused (unlimited 1)
   pub low : boundFor false (0 ∷ []) (small (pos 1)) ≡ refused (belowZero 0)
   -- a margin of 0: L is 0, and so are the rounds
-  pub no-room : boundFor false (0 ∷ []) (small (pos 0)) ≡ most 1 0 0
+  pub no-room : boundFor false (0 ∷ []) (small (pos 0)) ≡ most 1 0 0 0
 
 pub anchors : Anchors
-unfolding ifZero sum count largest lesser least orZero table firstFrom given maxℤ minℤ positivePart sameℤ sumℤ inside headerFits allocatedItems zoneFits exists hubsFit hubsOf borderFits borderOf shareOf rowOf rowFits factorFits worth defaultOf then unless refuseAt refuseFirst need markedBy faultyMark judgeMarks stretch balanced twice roomFor judgeShape judgeLent sharers alone mostSharers bitsTo bits aloneBits grains f0coreOf fuafOf baseOf amrOf signedFactor pOf ltaKw sOf ltaMarginOf ramOf ramAt highest lowest spreadOf shifted below stateOf gridBy beginBy judgeBy rowsOf kept setupWith boundBy boundMarked boundFor
+unfolding ifZero sum count largest lesser least orZero table firstFrom given maxℤ minℤ positivePart sameℤ sumℤ inside headerFits allocatedItems zoneFits exists hubsFit hubsOf borderFits borderOf shareOf rowOf rowFits factorFits worth defaultOf then unless refuseAt refuseFirst need markedBy faultyMark judgeMarks stretch balanced twice roomFor judgeShape judgeLent sharers alone mostSharers bitsTo bits aloneBits grains f0coreOf fuafOf baseOf amrOf signedFactor pOf ltaKw sOf ltaMarginOf ramOf ramAt highest lowest spreadOf shifted below stateOf gridBy beginBy judgeBy rowsOf kept setupWith shareUp cut stepsWithin steps rowReach reach farthest tightBound boundBy boundMarked boundFor
 anchors = record { worked = refl; marked = refl; no-mark = refl; no-border = refl; free = refl; low = refl; no-room = refl }
+
+-- ---- the statement
+-- what `AtMost` says of 01's hour, by its numbers
+module _ {k : ℕ} (d : AtMost (boundFor true [] hour) k) where
+  is : record { sharers = 2; bits = 22; rounds = 88; sharp = 22 } ≡ d .most
+  is = passed-is _ _ (sym (anchors .worked) ∙ d .answered)
+
+  few : k ≤ 88
+  few = subst (λ (m : RoundsMost). k ≤ m .rounds) (sym is) (d .few)
+
+  sharp : k ≤ 22
+  sharp = subst (λ (m : RoundsMost). k ≤ m .sharp) (sym is) (d .sharp)
+
+  sharper : 22 ≤ 88
+  sharper = subst (λ (m : RoundsMost). m .sharp ≤ m .rounds) (sym is) (d .sharper)
+
+pub record Statement : Type 0 where
+  -- more rounds than the sharper bound
+  pub many : AtMost (boundFor true [] hour) 23 → ⊥
+
+pub statement : Statement
+statement = record { many = λ d. omega (arith, sharp d) }

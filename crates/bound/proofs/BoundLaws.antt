@@ -1,8 +1,9 @@
--- The laws of `specs/Bound.antt`: which judgement decides, what was laid out is the table's, and that flags say what marks do. No contract cites this file.
+-- The laws of `specs/Bound.antt`: which judgement decides, what was laid out is the table's, with small margins, and that flags say what marks do. No contract cites this file.
 use mathlib.Core.Path.{_≡_, refl, sym, ap, ap₂, _∙_}
 use mathlib.Core.Bool.{Bool, true}
 use mathlib.Core.List.{List, []}
 use Prim.Native.Nat.{ℕ, _+_, _*_, _<_}
+use native.Mathlib.Omega.{arith}
 use lib.IntN.{ℤ}
 use lib.ListN.{length}
 use Rattle.numbers.specs.Below.{at}
@@ -16,15 +17,21 @@ use Rattle.kinds.proofs.RefusalLaws.{then-next, then-refused}
 use Rattle.marks.specs.Marks.{judgeAsked, mayRise}
 use Rattle.marks.proofs.MarkLaws.{asked-then}
 use Rattle.table.specs.Table.{Table, front, judgeLent}
+use Rattle.table.specs.Good.{Good}
 use Rattle.rounds.specs.Work.{flat}
+use Rattle.margin.specs.Bounds.{startBits}
+use Rattle.margin.proofs.Small.{named-values-small}
 use Rattle.start.specs.Setup.{gridBy, beginBy}
 use Rattle.start.specs.Start.{rowsOf, kept, gridMarked, tableStart, judgeMarked, setupOf, setupWith}
 use Rattle.start.specs.Filled.{cells}
 use Rattle.start.proofs.StartLaws.{cells-at, PreparedAs}
 use Rattle.start.proofs.SameMarks.{p-marks, judge-marks}
-use Rattle.bound.specs.declared.RoundsMost.{RoundsMost}
-use Rattle.bound.specs.Bound.{boundBy, boundOf, boundMarked, boundFor}
-use Rattle.bound.proofs.MeasureLaws.{same-bound}
+use Rattle.extraction.proofs.AcceptedLaws.{small-start}
+use Rattle.tight.specs.declared.RoundsMost.{RoundsMost}
+use Rattle.tight.specs.Measure.{boundBy}
+use Rattle.tight.specs.Pass.{Small}
+use Rattle.tight.proofs.SameLaws.{same-bound}
+use Rattle.bound.specs.Bound.{boundOf, boundMarked, boundFor}
 
 -- ---- a judged table
 module _ {marked : ℕ → Bool} {t : Table} {r : Judgement} {rams starts : List ℤ} {states : List ℕ} (said : PreparedAs marked t r rams starts states) where
@@ -40,6 +47,12 @@ module _ {marked : ℕ → Bool} {t : Table} {r : Judgement} {rams starts : List
 pub start-long : (t : Table) → length (tableStart t .margins) ≡ t .header .rows
 unfolding beginBy setupWith
 start-long t = table-long (t .header .rows) _
+
+-- .. under 2^49, so that sums with it fit
+pub start-small : {t : Table} → Good t → {margins : List ℕ} → margins ≡ tableStart t .margins → Small margins
+start-small {t} good {margins} e i h =
+    let here : i < t .header .rows = omega (arith, ap length e, start-long t) in
+    omega (arith, ap (λ (m : List ℕ). at m i) e, small-start t startBits (λ j l. named-values-small good j l .start) i here)
 
 -- what was laid out is the table's
 pub laid-bound : (marked : ℕ → Bool) (t : Table) {p margins : List ℕ} → p ≡ cells (gridMarked marked t) → margins ≡ tableStart t .margins → boundBy (flat (t .header .rows) (t .header .borders) p) margins ≡ boundOf marked t

@@ -1,12 +1,12 @@
--- The extraction's rounds are at most what `bound` answered before the first of them: both profiles, with and without marks. It is demand 3 of the same grid and the
--- same start. Where the extraction answers rounds, `bound` answers too.
+-- The extraction's rounds are at most what `bound` answered before the first of them (`AtMost`): both profiles, with and without marks. Of 2 N L it is demand 3 of the same grid and
+-- the same start; of the sharper bound it is crate tight's theorem. Where the extraction answers rounds, `bound` answers too.
 use mathlib.Core.Path.{_≡_, refl, sym, ap, subst, _∙_}
 use mathlib.Core.Bool.{Bool, true, false}
 use mathlib.Core.List.{List, []}
 use Prim.Native.Nat.{ℕ, _≤_}
 use lib.IntN.{ℤ}
 use lib.ListN.{length}
-use Rattle.kinds.specs.Refusals.{Judged, passed, then}
+use Rattle.kinds.specs.Refusals.{passed, then}
 use Rattle.kinds.proofs.RefusalLaws.{passed-is, then-passed, then-next, answer-passed, need-passed}
 use Rattle.marks.specs.Marks.{judgeAsked, mayRise}
 use Rattle.marks.proofs.MarkLaws.{asked-then}
@@ -16,14 +16,9 @@ use Rattle.rounds.proofs.Theorems.{extract-demand3}
 use Rattle.start.specs.Start.{gridMarked, tableStart, judgeMarked}
 use Rattle.extraction.specs.Extraction.{Result, resultMarked, outcomeMarked, outcomeFor, judgeExtract, ExtractLeft, resultRoom, extractFor, extractLeft, extractMarkedLeft}
 use Rattle.extraction.proofs.LentLaws.{judged-lent}
-use Rattle.bound.specs.declared.RoundsMost.{RoundsMost}
-use Rattle.bound.specs.Bound.{boundBy, boundOf, boundMarked, boundFor}
-
--- k rounds are at most what `bound` answers
-pub record AtMost (answer : Judged RoundsMost) (k : ℕ) : Type 0 where
-  pub most : RoundsMost
-  pub answered : answer ≡ passed most
-  pub few : k ≤ most .rounds
+use Rattle.tight.specs.Measure.{boundBy}
+use Rattle.tight.proofs.FewRounds.{extract-few, tight-le}
+use Rattle.bound.specs.Bound.{boundOf, boundMarked, boundFor, AtMost}
 
 -- ---- a judged table
 module _ (marked : ℕ → Bool) (t : Table) where
@@ -32,11 +27,25 @@ module _ (marked : ℕ → Bool) (t : Table) where
   unfolding resultMarked boundBy
   table-few = extract-demand3 (gridMarked marked t) (tableStart t) .few
 
-  answered-too : (r : Result) → outcomeMarked marked t ≡ passed r → (boundMarked marked t ≡ passed (boundOf marked t)) × (r .outcome .rounds ≤ boundOf marked t .rounds)
+  -- the sharper bound of the same rounds, and that it is never above the other
+  pub table-sharp : resultMarked marked t .outcome .rounds ≤ boundOf marked t .sharp
+  unfolding resultMarked boundBy
+  table-sharp = extract-few (gridMarked marked t) (tableStart t)
+
+  pub table-sharper : boundOf marked t .sharp ≤ boundOf marked t .rounds
+  unfolding boundBy
+  table-sharper = tight-le (gridMarked marked t) (tableStart t .margins)
+
+  answered-too : (r : Result) → outcomeMarked marked t ≡ passed r
+      → (boundMarked marked t ≡ passed (boundOf marked t)) × (r .outcome .rounds ≤ boundOf marked t .rounds) × (r .outcome .rounds ≤ boundOf marked t .sharp)
   unfolding outcomeMarked boundMarked
   answered-too r e =
       let w = then-passed (judgeMarked marked t) _ r e in
-      (then-next _ (w .first), subst (λ (v : Result). v .outcome .rounds ≤ boundOf marked t .rounds) (passed-is _ _ (w .second)) table-few)
+      let is : resultMarked marked t ≡ r = passed-is _ _ (w .second) in (
+        then-next _ (w .first),
+        subst (λ (v : Result). v .outcome .rounds ≤ boundOf marked t .rounds) is table-few,
+        subst (λ (v : Result). v .outcome .rounds ≤ boundOf marked t .sharp) is table-sharp,
+      )
 
 -- ---- lent tables, as asked
 module _ (all : Bool) (marks : List ℕ) (given : Table) (ps : List ℕ) (atcs lefts : List (List ℤ)) (k : ℕ) where
@@ -52,7 +61,7 @@ module _ (all : Bool) (marks : List ℕ) (given : Table) (ps : List ℕ) (atcs l
       let m = then-passed (judgeAsked all (t .header .borders) marks (passed marks)) _ (o .it) (asked ∙ o .first) in
       let b = answered-too (mayRise all marks) t (o .it) (m .second) in
       let same : o .it ≡ a .0 = passed-is _ _ (r .1) in
-      let rounds : a .0 .outcome .rounds ≡ k = passed-is _ _ (a .2) in
+      let rounds : o .it .outcome .rounds ≡ k = ap (λ (v : Result). v .outcome .rounds) same ∙ passed-is _ _ (a .2) in
       record {
         most = boundOf (mayRise all marks) t;
         answered =
@@ -60,7 +69,9 @@ module _ (all : Bool) (marks : List ℕ) (given : Table) (ps : List ℕ) (atcs l
             ∙ sym (asked-then all (t .header .borders) marks marks (boundMarked (mayRise all marks) t))
             ∙ then-next _ (m .first)
             ∙ b .0;
-        few = subst (λ (n : ℕ). n ≤ boundOf (mayRise all marks) t .rounds) (ap (λ (v : Result). v .outcome .rounds) same ∙ rounds) (b .1);
+        few = subst (λ (n : ℕ). n ≤ boundOf (mayRise all marks) t .rounds) rounds (b .1);
+        sharp = subst (λ (n : ℕ). n ≤ boundOf (mayRise all marks) t .sharp) rounds (b .2);
+        sharper = table-sharper (mayRise all marks) t;
       }
 
 -- of the open calls

@@ -1,5 +1,4 @@
 pub mod Anchors
-pub mod MeasureLaws
 pub mod BoundLaws
 pub mod Unique
 pub mod FewRounds

@@ -6,7 +6,7 @@ use denote.Triple.Clauses.{AtExit}
 use borrow.Fn.World.{ArgsD, ResD}
 use borrow.Fn.Kinds.{endedOf}
 use Rattle.kinds.specs.Refusals.{Judged, passed, refused}
-use Rattle.bound.specs.declared.RoundsMost.{RoundsMost}
+use Rattle.tight.specs.declared.RoundsMost.{RoundsMost}
 use Rattle.bound.specs.declared.Bounded.{Bounded}
 use Rattle.bound.specs.declared.Bounded.the-variants as bounded
 use Rattle.bound.specs.Bound.{saidBounded}

@@ -1,22 +1,19 @@
--- The hour's own bound, known before the first round (01, "Extraction" and demand 3): N, L and 2 x N x L of a table, with every border free to rise or only those
--- that are marked (02, E13), and what the open calls `bound` and `bound_marked` answer. That the rounds are at most this: `proofs/FewRounds.antt`.
+-- The hour's own bound, known before the first round (01, "Extraction" and demand 3): N, L, 2 x N x L and the sharper bound of a table, with every border free to rise or
+-- only those that are marked (02, E13), and what the open calls `bound` and `bound_marked` answer. That the rounds are at most this: `proofs/FewRounds.antt`.
+use mathlib.Core.Path.{_≡_}
 use mathlib.Core.Bool.{Bool}
 use mathlib.Core.List.{List}
-use Prim.Native.Nat.{ℕ, _*_}
+use Prim.Native.Nat.{ℕ, _≤_}
 use Rattle.kinds.specs.Refusals.{Judged, passed, refused, then}
 use Rattle.marks.specs.Marks.{judgeAsked, mayRise}
 use Rattle.table.specs.Table.{Table, judgeLent}
-use Rattle.rounds.specs.Rounds.{Grid, mostSharers, aloneBits}
 use Rattle.start.specs.Start.{gridMarked, tableStart, judgeMarked}
-use Rattle.bound.specs.declared.RoundsMost.{RoundsMost}
+use Rattle.tight.specs.declared.RoundsMost.{RoundsMost}
+use Rattle.tight.specs.Measure.{boundBy}
 use Rattle.bound.specs.declared.Bounded.{Bounded}
 use Rattle.bound.specs.declared.Bounded.the-variants as bounded
 
--- of a grid, and the margins that the rounds start from: N is the most borders that one row shares among, and 2^L is above what any border could take alone
-unfoldable pub boundBy : Grid → (margins : List ℕ) → RoundsMost
-boundBy g margins = record { sharers = mostSharers g; bits = aloneBits g margins; rounds = 2 * mostSharers g * aloneBits g margins }
-
--- .. of a table; where some borders are marked, N and L are counted over these
+-- of a table; where some borders are marked, all is counted over these
 abbrev pub boundOf : (marked : ℕ → Bool) → Table → RoundsMost
 boundOf marked t = boundBy (gridMarked marked t) (tableStart t .margins)
 
@@ -32,3 +29,11 @@ boundFor all marks given = then (judgeLent given) (λ t. judgeAsked all (t .head
 abbrev pub saidBounded : Bounded → Judged RoundsMost
 saidBounded (bounded.Rounds b) = passed b
 saidBounded (bounded.Refused w) = refused w
+
+-- k rounds are at most what `bound` answers: at most 2 N L, and at most the sharper bound, which is never more
+pub record AtMost (answer : Judged RoundsMost) (k : ℕ) : Type 0 where
+  pub most : RoundsMost
+  pub answered : answer ≡ passed most
+  pub few : k ≤ most .rounds
+  pub sharp : k ≤ most .sharp
+  pub sharper : most .sharp ≤ most .rounds

@@ -1,7 +1,5 @@
 // How many rounds an hour can take at most, known before the first round: the open calls `bound` and `bound_marked`. What they do beyond judging the table and
-// starting the margins costs less than one round (docs/BENCH.md).
-mod measure;
-
+// starting the margins (tight::measure) costs less than one round (docs/BENCH.md).
 ghost use mathlib.Core.Path.{_≡_};
 ghost use mathlib.Core.Bool.{true, false};
 ghost use mathlib.Core.List.{[]};
@@ -16,13 +14,7 @@ use kinds::Header;
 use kinds::Judgement;
 use kinds::Refusal;
 use kinds::RowRecord;
-
-// N, L and 2 x N x L of 01's demand 3.
-pub struct RoundsMost {
-    pub sharers: u64,
-    pub bits: u64,
-    pub rounds: u64,
-}
+use tight::RoundsMost;
 
 pub enum Bounded {
     Rounds(RoundsMost),
@@ -162,5 +154,5 @@ fn bound_in(
         return Bounded::Refused(w);
     }
     start::lay_out(h, b, f, flags, starts, states, p, margins);
-    Bounded::Rounds(measure::measure(h.rows, h.borders, p, margins, ns))
+    Bounded::Rounds(tight::measure(h.rows, h.borders, p, margins, ns))
 }

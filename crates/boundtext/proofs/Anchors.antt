@@ -5,9 +5,9 @@ use Rattle.text.specs.Written.{textOf, decimal, fieldsText, lineText}
 use Rattle.boundtext.specs.BoundText.{boundLine, boundMost}
 
 pub record Anchors : Type 0 where
-  pub line : boundLine 2 22 88 ≡ sheet "U 2 22 88/"
+  pub line : boundLine 2 22 88 22 ≡ sheet "U 2 22 88 22/"
   -- the code's `TEXT_MOST`
-  pub most : boundMost ≡ 65
+  pub most : boundMost ≡ 86
 
 pub anchors : Anchors
 unfolding textOf decimal fieldsText lineText

@@ -14,20 +14,21 @@ use Rattle.text.specs.Written.{decimal}
 use Rattle.text.proofs.LeftLaws.{text-refused}
 use Rattle.text.proofs.PutLaws.{line-length, tabbed-length, tabbed-empty}
 use Rattle.table.specs.Table.{Table}
-use Rattle.bound.specs.declared.RoundsMost.{RoundsMost}
+use Rattle.tight.specs.declared.RoundsMost.{RoundsMost}
 use Rattle.bound.specs.declared.Bounded.{Bounded}
 use Rattle.bound.specs.declared.Bounded.the-variants as bounded
 use Rattle.bound.specs.Bound.{boundFor, saidBounded}
 use Rattle.boundtext.specs.BoundText.{boundLine, boundText, boundTextLeft}
 
-pub bound-line-long : (n l rounds : ℕ) → length (boundLine n l rounds) ≡ 5 + length (decimal n) + length (decimal l) + length (decimal rounds)
-bound-line-long n l rounds =
-    line-length (code "U") (decimal n ∷ decimal l ∷ decimal rounds ∷ [])
+pub bound-line-long : (n l rounds sharp : ℕ) → length (boundLine n l rounds sharp) ≡ 6 + length (decimal n) + length (decimal l) + length (decimal rounds) + length (decimal sharp)
+bound-line-long n l rounds sharp =
+    line-length (code "U") (decimal n ∷ decimal l ∷ decimal rounds ∷ decimal sharp ∷ [])
     ∙ omega (
       arith,
-      tabbed-length (decimal n) (decimal l ∷ decimal rounds ∷ []),
-      tabbed-length (decimal l) (decimal rounds ∷ []),
-      tabbed-length (decimal rounds) [],
+      tabbed-length (decimal n) (decimal l ∷ decimal rounds ∷ decimal sharp ∷ []),
+      tabbed-length (decimal l) (decimal rounds ∷ decimal sharp ∷ []),
+      tabbed-length (decimal rounds) (decimal sharp ∷ []),
+      tabbed-length (decimal sharp) [],
       tabbed-empty,
     )
 

@@ -7,19 +7,19 @@ use Rattle.kinds.specs.Refusals.{passed, then}
 use Rattle.text.specs.Left.{TextLeft, textLeft}
 use Rattle.text.specs.Written.{decimal, lineText}
 use Rattle.table.specs.Table.{Table}
-use Rattle.bound.specs.declared.RoundsMost.{RoundsMost}
+use Rattle.tight.specs.declared.RoundsMost.{RoundsMost}
 use Rattle.bound.specs.Bound.{boundFor}
 
--- `U`, N, L, 2 N L
-abbrev pub boundLine : (n l rounds : ℕ) → List ℕ
-boundLine n l rounds = lineText (code "U") (decimal n ∷ decimal l ∷ decimal rounds ∷ [])
+-- `U`, N, L, 2 N L, and the sharper bound
+abbrev pub boundLine : (n l rounds sharp : ℕ) → List ℕ
+boundLine n l rounds sharp = lineText (code "U") (decimal n ∷ decimal l ∷ decimal rounds ∷ decimal sharp ∷ [])
 
 abbrev pub boundText : RoundsMost → List ℕ
-boundText m = boundLine (m .sharers) (m .bits) (m .rounds)
+boundText m = boundLine (m .sharers) (m .bits) (m .rounds) (m .sharp)
 
 -- .. of machine numbers, each of at most 20 bytes: letter, tabs and LF besides
 abbrev pub boundMost : ℕ
-boundMost = 5 + 3 * 20
+boundMost = 6 + 4 * 20
 
 -- refusals as for the bound, then room for the bytes of the text
 unfoldable pub boundTextLeft : (all : Bool) → (marks : List ℕ) → (given : Table) → (out : List ℕ) → TextLeft

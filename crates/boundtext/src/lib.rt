@@ -15,10 +15,10 @@ use kinds::RowRecord;
 use kinds::Written;
 
 // A line's letter, tabs and LF.
-const MARKS: usize = 5;
+const MARKS: usize = 6;
 
-// No line has more bytes: its marks, and three machine numbers of at most 20 bytes each.
-pub const TEXT_MOST: usize = MARKS + 3 * 20;
+// No line has more bytes: its marks, and four machine numbers of at most 20 bytes each.
+pub const TEXT_MOST: usize = MARKS + 4 * 20;
 
 // The bound for every border, or with marks. Any input has an answer: there is no `requires`.
 pub fn bound_text(
@@ -37,37 +37,41 @@ pub fn bound_text(
     let bounded = bound::bound_for(h, z, t, b, c, f, all, marks);
     match bounded {
         Bounded::Refused(w) => Written::Refused(w),
-        Bounded::Rounds(most) => write_bound(most.sharers, most.bits, most.rounds, out),
+        Bounded::Rounds(most) => {
+            write_bound(most.sharers, most.bits, most.rounds, most.sharp, out)
+        }
     }
 }
 
 // What is left to judge is the room for the text.
-fn write_bound(n: u64, l: u64, rounds: u64, out: &mut [u8]) -> Written
-    ensures { λ r. ⌜ textSaid r (now (out .exit)) ≡ textLeft (passed (boundLine n l rounds)) (now (out .entry)) ⌝ }
+fn write_bound(n: u64, l: u64, rounds: u64, sharp: u64, out: &mut [u8]) -> Written
+    ensures { λ r. ⌜ textSaid r (now (out .exit)) ≡ textLeft (passed (boundLine n l rounds sharp)) (now (out .entry)) ⌝ }
 {
-    let needed = line_length(n, l, rounds);
+    let needed = line_length(n, l, rounds, sharp);
     if out.len() < needed {
         return Written::Refused(Refusal::too_short(needed));
     }
-    Written::Bytes(put_bound(n, l, rounds, out))
+    Written::Bytes(put_bound(n, l, rounds, sharp, out))
 }
 
 // The letter, a tab before each field, the LF; and the fields.
-fn line_length(n: u64, l: u64, rounds: u64) -> usize
-    ensures { λ r. ⌜ (r ≡ length (boundLine n l rounds)) × (r ≤ boundMost) ⌝ }
+fn line_length(n: u64, l: u64, rounds: u64, sharp: u64) -> usize
+    ensures { λ r. ⌜ (r ≡ length (boundLine n l rounds sharp)) × (r ≤ boundMost) ⌝ }
 {
     let n_digits = text::put::digit_count(n);
     let l_digits = text::put::digit_count(l);
-    MARKS + n_digits + l_digits + text::put::digit_count(rounds)
+    let rounds_digits = text::put::digit_count(rounds);
+    MARKS + n_digits + l_digits + rounds_digits + text::put::digit_count(sharp)
 }
 
-fn put_bound(n: u64, l: u64, rounds: u64, out: &mut [u8]) -> usize
-    requires { ⌜ length (boundLine n l rounds) ≤ length (now out) ⌝ }
-    ensures { λ r. ⌜ Put (boundLine n l rounds) 0 (now (out .entry)) r (now (out .exit)) ⌝ }
+fn put_bound(n: u64, l: u64, rounds: u64, sharp: u64, out: &mut [u8]) -> usize
+    requires { ⌜ length (boundLine n l rounds sharp) ≤ length (now out) ⌝ }
+    ensures { λ r. ⌜ Put (boundLine n l rounds sharp) 0 (now (out .entry)) r (now (out .exit)) ⌝ }
 {
     let next = text::put::put_byte(b'U', out, 0);
     let next = text::put::put_number_field(n, out, next);
     let next = text::put::put_number_field(l, out, next);
     let next = text::put::put_number_field(rounds, out, next);
+    let next = text::put::put_number_field(sharp, out, next);
     text::put::put_byte(b'\n', out, next)
 }

@@ -16,7 +16,7 @@ use Rattle.cabi.specs.declared.KeravnothWritten.{KeravnothWritten}
 use Rattle.cabi.specs.declared.KeravnothExtracted.{KeravnothExtracted}
 use Rattle.cabi.specs.declared.KeravnothFlows.{KeravnothFlows}
 use Rattle.rowsheet.specs.RowSheet.{RowsLeft}
-use Rattle.bound.specs.declared.RoundsMost.{RoundsMost}
+use Rattle.tight.specs.declared.RoundsMost.{RoundsMost}
 use Rattle.parts.specs.Parts.{MarginsLeft}
 use Rattle.cabi.specs.declared.KeravnothJudged.{KeravnothJudged}
 use Rattle.cabi.specs.declared.KeravnothBounded.{KeravnothBounded}
@@ -50,10 +50,10 @@ abbrev pub codedRuling : Judgement → KeravnothJudged
 codedRuling judgement.Passed = record { number = 0; place = 0; byte = 0 }
 codedRuling (judgement.Refused w) = record { number = w .number; place = w .place; byte = w .byte }
 
--- N, L and 2 x N x L
+-- N, L, 2 x N x L and the sharper bound
 abbrev pub codedBounded : Judged RoundsMost → KeravnothBounded
-codedBounded (passed most) = record { number = 0; place = 0; byte = 0; sharers = most .sharers; bits = most .bits; rounds = most .rounds }
-codedBounded (refused w) = record { number = w .number; place = w .place; byte = w .byte; sharers = 0; bits = 0; rounds = 0 }
+codedBounded (passed most) = record { number = 0; place = 0; byte = 0; sharers = most .sharers; bits = most .bits; rounds = most .rounds; sharp = most .sharp }
+codedBounded (refused w) = record { number = w .number; place = w .place; byte = w .byte; sharers = 0; bits = 0; rounds = 0; sharp = 0 }
 
 -- what `keravnoth_read` leaves: its answer, and each lent table
 pub record ReadCoded : Type 0 where

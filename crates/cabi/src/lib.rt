@@ -82,6 +82,7 @@ pub struct KeravnothBounded {
     pub sharers: u64,
     pub bits: u64,
     pub rounds: u64,
+    pub sharp: u64,
 }
 
 // Reads a table's text into z, t, b, c and f.
@@ -500,6 +501,7 @@ fn code_bounded(said: Bounded) -> KeravnothBounded
             sharers: most.sharers,
             bits: most.bits,
             rounds: most.rounds,
+            sharp: most.sharp,
         },
         Bounded::Refused(w) => KeravnothBounded {
             number: w.number,
@@ -508,6 +510,7 @@ fn code_bounded(said: Bounded) -> KeravnothBounded
             sharers: 0,
             bits: 0,
             rounds: 0,
+            sharp: 0,
         },
     }
 }

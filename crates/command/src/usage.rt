@@ -39,7 +39,7 @@ fn of_files(fd: i32) -> bool {
 fn of_rounds(fd: i32) -> bool {
     io::write_all(
         fd,
-        b"       keravnoth bound < TABLE        how many rounds there can be at most: U, N, L, 2 N L\n",
+        b"       keravnoth bound < TABLE        how many rounds there can be at most: U, N, L, 2 N L, the sharper bound\n",
     )
         && io::write_all(
             fd,
@@ -81,7 +81,7 @@ fn statuses(fd: i32) -> bool {
 pub fn version(fd: i32) -> bool {
     io::write_all(
         fd,
-        b"keravnoth: rules: document 01; requests of document 02: E1, E2, E3, E4, E5, E6, E7, E8, E9, E10, E11, E12, E13, E14; C interface: 13\n",
+        b"keravnoth: rules: document 01; requests of document 02: E1, E2, E3, E4, E5, E6, E7, E8, E9, E10, E11, E12, E13, E14; C interface: 14\n",
     )
         && io::write_all(fd, b"proved in the Rattle kit's logic 064da1ca440f63e7\n")
 }

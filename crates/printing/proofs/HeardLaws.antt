@@ -32,7 +32,7 @@ use Rattle.cornertext.specs.CornerText.{cornerLineAt, cornersText, sheetText}
 use Rattle.start.specs.Start.{Rows}
 use Rattle.claims.specs.Claims.{remaining}
 use Rattle.claimtext.specs.Published.{rowLine, publishedLine, publishedText}
-use Rattle.bound.specs.declared.RoundsMost.{RoundsMost}
+use Rattle.tight.specs.declared.RoundsMost.{RoundsMost}
 use Rattle.boundtext.specs.BoundText.{boundText}
 use Rattle.partstext.specs.PartsText.{partsLineAt, partsText}
 use Rattle.extraction.specs.Extraction.{Result, atcRecord, rowRecord}

@@ -28,16 +28,19 @@ use Rattle.partstext.proofs.PartsTextLaws.{parts-text-most}
 use Rattle.start.specs.Setup.{gridBy}
 use Rattle.start.specs.Start.{setupWith, gridMarked, tableStart, judgeMarked}
 use Rattle.extraction.proofs.AcceptedLaws.{small-start}
-use Rattle.bound.specs.declared.RoundsMost.{RoundsMost}
-use Rattle.bound.specs.Bound.{boundBy, boundOf, boundMarked, boundFor}
-use Rattle.bound.proofs.MeasureLaws.{sharers-few}
+use Rattle.tight.specs.declared.RoundsMost.{RoundsMost}
+use Rattle.tight.specs.Tight.{tightBound}
+use Rattle.tight.specs.Measure.{boundBy}
+use Rattle.tight.proofs.BitsLaws.{sharers-few}
+use Rattle.tight.proofs.FewRounds.{tight-le}
+use Rattle.bound.specs.Bound.{boundOf, boundMarked, boundFor}
 use Rattle.boundtext.specs.BoundText.{boundText, boundTextLeft}
 use Rattle.boundtext.proofs.BoundTextLaws.{bound-line-long}
 use Rattle.printing.specs.Printed.{Printed, toldText, Told}
 use Rattle.printing.specs.Lent.{boundSaid, marginsSaid}
 use Rattle.printing.proofs.PrintedLaws.{told-printed}
 
--- ---- the bound: N is at most 64, and 2^49 is above every starting margin, so L is at most 49
+-- ---- the bound: N is at most 64, and 2^49 is above every starting margin, so L is at most 49; the sharper bound is at most 2 N L
 module _ (marked : ℕ → Bool) {t : Table} (good : Good t) where
   abbrev grid : Grid
   grid = gridMarked marked t
@@ -57,13 +60,15 @@ module _ (marked : ℕ → Bool) {t : Table} (good : Good t) where
   bound-short =
       let n = mostSharers grid in
       let l = aloneBits grid (tableStart t .margins) in
+      let sharp = tightBound grid (tableStart t .margins) in
       let rounds : 2 * n * l ≤ 2 * bordersMost * startBits = mul-le-mul (mul-le-mul (le-refl 2) sharers-most) bits-most in
       omega (
         arith,
-        bound-line-long n l (2 * n * l),
+        bound-line-long n l (2 * n * l) sharp,
         decimal-long 1 n (omega (arith, sharers-most)),
         decimal-long 1 l (omega (arith, bits-most)),
         decimal-long 3 (2 * n * l) (omega (arith, rounds)),
+        decimal-long 3 sharp (omega (arith, rounds, tight-le grid (tableStart t .margins))),
       )
 
 module _ (given : Table) where

@@ -1,4 +1,5 @@
 -- The bound of small grids beside the rounds that they take, and of the hour that 01 checks whole, computed. Nobody cites them: they refuse a definition that slipped.
+-- The small ones come first: a share that takes nothing would keep the hour's steps going for millions.
 use mathlib.Core.Path.{_≡_, refl}
 use mathlib.Core.List.{List, [], _∷_}
 use Prim.Native.Nat.{ℕ}
@@ -6,6 +7,7 @@ use lib.ListN.{getD}
 use Rattle.numbers.specs.Below.{at, ifZero, sum, count, largest, lesser, least, orZero, table}
 use Rattle.rounds.specs.Rounds.{Grid, sharers, raise, alone, raises, load, lowered, risen, apply, next, raised, counted, run, extract, mostSharers, bitsTo, bits, aloneBits}
 use Rattle.tight.specs.Tight.{shareUp, cut, stepsWithin, steps, rowReach, reach, farthest, tightBound}
+use Rattle.tight.specs.Measure.{boundBy}
 
 -- rows of factors p, one list for each row
 abbrev grid : (rows borders : ℕ) → List (List ℕ) → Grid
@@ -28,13 +30,6 @@ found rounds most n u = record { rounds = rounds; most = most; n = n; u = u }
 abbrev from : Grid → (margins : List ℕ) → Found
 from g margins = found (rounds g margins) (tightBound g margins) (mostSharers g) (farthest g margins)
 
--- the kept rows of 01's hour
-abbrev hour : Grid
-hour = grid 2 2 ((20000 ∷ 10000 ∷ []) ∷ (0 ∷ 5000 ∷ []) ∷ [])
-
-abbrev hourMargins : List ℕ
-hourMargins = 66000000000 ∷ 8000000000 ∷ []
-
 -- one row and one border
 abbrev lone : Grid
 lone = grid 1 1 ((3 ∷ []) ∷ [])
@@ -55,9 +50,15 @@ stopped = grid 2 2 ((1 ∷ 1 ∷ []) ∷ (0 ∷ 1 ∷ []) ∷ [])
 abbrev third : Grid
 third = grid 2 3 ((1 ∷ 1 ∷ 1 ∷ []) ∷ (0 ∷ 1 ∷ 1 ∷ []) ∷ [])
 
+-- row 1 stops border 0, and border 1 rises alone
+abbrev turned : Grid
+turned = grid 2 2 ((1 ∷ 1 ∷ []) ∷ (1 ∷ 0 ∷ []) ∷ [])
+
 pub record Anchors : Type 0 where
-  -- 01's hour: 21 rounds, at most 22, where 2 N L is 88
-  pub worked : from hour hourMargins ≡ found 21 22 2 3299999
+  -- the equal share is rounded up
+  pub shared : shareUp 3 7 ≡ 3
+  pub shared-whole : shareUp 3 6 ≡ 2
+  pub left : cut 3 7 ≡ 4
   -- one border and one row: 1, or 0 where nothing can rise
   pub once : from lone (7 ∷ []) ≡ found 1 1 1 2
   pub never : from lone (2 ∷ []) ≡ found 0 0 1 0
@@ -69,13 +70,27 @@ pub record Anchors : Type 0 where
   pub two : from steep (4 ∷ []) ≡ found 2 2 2 3
   -- .. 7, 3, 1: a share of what is left, rounded up
   pub three : from stopped (8 ∷ 0 ∷ []) ≡ found 3 3 2 7
+  -- .. the same of the last border
+  pub three-turned : from turned (8 ∷ 0 ∷ []) ≡ found 3 3 2 7
   -- .. 3000, 1500, 750 and so on, where 2 N L is 48
   pub twelve : from stopped (3001 ∷ 0 ∷ []) ≡ found 12 12 2 3000
   -- .. and of three sharers 998, 665, 443 and so on
   pub thirds : from third (1000 ∷ 0 ∷ []) ≡ found 16 16 3 998
   -- the row that leaves less decides: 5 of row 0, 3 of row 1
   pub least-row : reach stopped (6 ∷ 3 ∷ []) 1 ≡ 3
-  -- 40 and 64 borders from the largest start without T lines, 165,000,000,000,000 grains: the worst hours of docs/BENCH.md, which take as many rounds
+
+-- the kept rows of 01's hour
+abbrev hour : Grid
+hour = grid 2 2 ((20000 ∷ 10000 ∷ []) ∷ (0 ∷ 5000 ∷ []) ∷ [])
+
+abbrev hourMargins : List ℕ
+hourMargins = 66000000000 ∷ 8000000000 ∷ []
+
+pub record Hour : Type 0 where
+  -- 01: N = 2, L = 22, bound 88; and at most 22, of the 21 rounds that it takes
+  pub worked : from hour hourMargins ≡ found 21 22 2 3299999
+  pub measured : boundBy hour hourMargins ≡ record { sharers = 2; bits = 22; rounds = 88; sharp = 22 }
+  -- 40 and 64 borders from the largest start without T lines, 165,000,000,000,000 grains: hours/worst.tsv and hours/worst64.tsv take as many rounds
   pub worst-40 : steps 40 165000000000000 ≡ 1171
   pub worst-64 : steps 64 165000000000000 ≡ 1852
 
@@ -83,16 +98,21 @@ pub anchors : Anchors
 unfolding ifZero sum count largest lesser least orZero table sharers raise alone raises load lowered risen apply next raised counted run extract mostSharers bitsTo bits aloneBits shareUp cut stepsWithin steps rowReach reach farthest tightBound
 anchors =
     record {
-      worked = refl;
+      shared = refl;
+      shared-whole = refl;
+      left = refl;
       once = refl;
       never = refl;
       other-sharer = refl;
       at-once = refl;
       two = refl;
       three = refl;
+      three-turned = refl;
       twelve = refl;
       thirds = refl;
       least-row = refl;
-      worst-40 = refl;
-      worst-64 = refl;
     }
+
+pub of-hour : Hour
+unfolding ifZero sum count largest lesser least orZero table sharers raise alone raises load lowered risen apply next raised counted run extract mostSharers bitsTo bits aloneBits shareUp cut stepsWithin steps rowReach reach farthest tightBound boundBy
+of-hour = record { worked = refl; measured = refl; worst-40 = refl; worst-64 = refl }

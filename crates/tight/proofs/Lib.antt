@@ -1,4 +1,6 @@
+pub mod Anchors
+pub mod BitsLaws
 pub mod StepLaws
 pub mod FewRounds
-pub mod Anchors
 pub mod PassLaws
+pub mod SameLaws

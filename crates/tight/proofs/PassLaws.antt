@@ -1,25 +1,26 @@
--- What the loops of src/ need: the largest so far, and the smallest that a walk over the rows has left. No contract cites this file.
+-- What the loops of src/pass.rt need: the largest so far, and the smallest that a walk over the rows has left; and what `measure` puts together. No contract cites this file.
 use mathlib.Core.Path.{_≡_, refl, sym, ap, ap₂, _∙_}
-use mathlib.Core.Bool.{Bool, true, false}
 use mathlib.Core.List.{List}
 use mathlib.Core.Logic.{⊎-elim}
 use Prim.Native.Nat.{ℕ, zero, suc, _+_, _*_, _-_, _/_, _^_, _≤_, _<_, max, min}
-use native.Mathlib.Nat.{not-suc-le-zero, zero-lt-suc, le-antisymm, le-refl, le-trans, le-max-left, le-max-right, max-le, le-min, min-le-left, min-le-right, le-div-iff-mul-le, div-le-self}
+use native.Mathlib.Nat.{not-suc-le-zero, le-antisymm, le-refl, le-trans, le-max-left, max-le, mul-le-mul-right, le-div-iff-mul-le}
 use native.Mathlib.Numerals.{add-one}
-use native.Mathlib.Omega.{arith}
-use borrow.Author.Tests.{leb-true}
-use lib.Dec.{leb}
+use native.Mathlib.Omega.{arith, min-cases}
 use lib.ListN.{length}
 use Rattle.numbers.specs.Below.{at, ifZero, largest, least, orZero, table}
 use Rattle.numbers.proofs.BelowLaws.{lt-suc-cases, le-or-lt, table-get, table-long, largest-le, largest-under}
-use Rattle.rounds.specs.Rounds.{Grid, sharers, alone, mostSharers}
-use Rattle.rounds.proofs.LeastLaws.{least-le, least-some, least-one}
+use Rattle.kinds.specs.Limits.{bordersMost}
+use Rattle.rounds.specs.Rounds.{Grid, sharers, alone, mostSharers, bits, aloneBits}
+use Rattle.rounds.proofs.LeastLaws.{least-le, least-some}
 use Rattle.rounds.proofs.Round.{alone-le}
-use Rattle.walk.proofs.BoundLaws.{Unloaded}
-use Rattle.walk.proofs.TightLaws.{product-fits}
+use Rattle.walk.specs.Walk.{First, tight}
+use Rattle.walk.proofs.TightLaws.{tight-le, tight-share, tight-over, tight-same, tight-less}
 use Rattle.tight.specs.declared.Kws.{Kws}
+use Rattle.tight.specs.declared.RoundsMost.{RoundsMost}
 use Rattle.tight.specs.Tight.{steps, rowReach, reach, farthest, tightBound}
-use Rattle.tight.specs.Pass.{Measured, Highest, Higher, Start, lowerBy, Lowered, Held}
+use Rattle.tight.specs.Measure.{boundBy}
+use Rattle.tight.specs.Pass.{Small, Highest, Higher, Lowered}
+use Rattle.tight.proofs.BitsLaws.{sharers-few}
 use Rattle.tight.proofs.FewRounds.{reach-alone}
 
 -- ---- the largest of the first i, of n
@@ -39,6 +40,12 @@ module _ {f : ℕ → ℕ} {n i v : ℕ} (u : UpTo f n i v) where
   pub upTo-all : n ≤ i → v ≡ largest n f
   upTo-all h = let e : i ≡ n = omega (arith, u .high) in u .is ∙ ap (λ (k : ℕ). largest k f) e
 
+pub largest-cong : (k : ℕ) (f g : ℕ → ℕ) → ((i : ℕ) → i < k → f i ≡ g i) → largest k f ≡ largest k g
+largest-cong k f g e =
+    le-antisymm
+    (largest-under k f (largest k g) (λ i h. omega (arith, e i h, largest-le k g i h)))
+    (largest-under k g (largest k f) (λ i h. omega (arith, e i h, largest-le k f i h)))
+
 -- .. of both numbers of a border
 pub record Both (g : Grid) (m : List ℕ) (b : ℕ) (r : Kws) : Type 0 where
   pub alone : UpTo (alone g m) (g .borders) b (r .alone)
@@ -55,68 +62,61 @@ module _ {g : Grid} {m : List ℕ} {b : ℕ} {r : Kws} (u : Both g m b r) where
   both-all h = record { alone = upTo-all (u .alone) h; reach = upTo-all (u .reach) h }
 
 -- ---- one row
-lowerBy-le : (f q v : ℕ) → lowerBy f q v ≤ v
-unfolding lowerBy ifZero
-lowerBy-le zero q v = le-refl v
-lowerBy-le (suc f) q v = min-le-left v q
 
-lowerBy-under : (f q v : ℕ) → 0 < f → lowerBy f q v ≤ q
-unfolding lowerBy ifZero
-lowerBy-under zero q v z = absurd (not-suc-le-zero z)
-lowerBy-under (suc f) q v z = min-le-right v q
+-- a row lets both be where it has room for more than either ..
+pub lowered-same : {f n most margin : ℕ} {low : Kws} → n ≤ most → low .reach ≤ low .alone → low .alone + most ≡ tight f margin (low .alone + most) → Lowered f n margin low low
+lowered-same {f} {n} {most} {margin} {low} h l e =
+    let fits : (low .alone + most) * f ≤ margin = rw e (tight-share f margin (low .alone + most)) in
+    let stays : low .reach + (n - 1) ≡ tight f margin (low .reach + (n - 1)) = tight-same f margin (low .reach + (n - 1)) (le-trans (mul-le-mul-right f (omega arith)) fits) in
+    record {
+      alone = tight-same f margin (low .alone) (le-trans (mul-le-mul-right f (omega arith)) fits);
+      reach = omega (arith, stays);
+    }
 
-lowerBy-over : (f q v u : ℕ) → u ≤ v → (0 < f → u ≤ q) → u ≤ lowerBy f q v
-unfolding lowerBy ifZero
-lowerBy-over zero q v u h k = h
-lowerBy-over (suc f) q v u h k = le-min h (k (zero-lt-suc f))
+-- .. and else its quotient is found
+tight-min : (f margin v : ℕ) → 0 < f → tight f margin v ≡ min v (margin / f)
+unfolding tight ifZero
+tight-min zero margin v z = absurd (not-suc-le-zero z)
+tight-min (suc f) margin v z = refl
 
--- what stays, stays
-lowerBy-same : (f q v : ℕ) → (0 < f → v ≤ q) → v ≡ lowerBy f q v
-lowerBy-same f q v h = le-antisymm (lowerBy-over f q v v (le-refl v) h) (lowerBy-le f q v)
+fell : (f margin v : ℕ) → (v ≡ tight f margin v → ⊥) → (0 < f) × (margin / f ≡ tight f margin v)
+fell f margin v h = ⊎-elim (λ l. absurd (h (tight-same f margin v l))) (λ l. tight-less f margin v l) (le-or-lt (v * f) margin)
 
-lowerBy-min : (f q v : ℕ) → 0 < f → min v q ≡ lowerBy f q v
-unfolding lowerBy ifZero
-lowerBy-min zero q v z = absurd (not-suc-le-zero z)
-lowerBy-min (suc f) q v z = refl
+min-less : (v q o : ℕ) → min v (q - o) ≡ min (v + o) q - o
+min-less v q o =
+    min-cases v (q - o) (min v (q - o) ≡ min (v + o) q - o)
+    (λ a e. min-cases (v + o) q (min v (q - o) ≡ min (v + o) q - o) (λ b d. omega arith) (λ b d. omega arith))
+    (λ a e. min-cases (v + o) q (min v (q - o) ≡ min (v + o) q - o) (λ b d. omega arith) (λ b d. omega arith))
 
-module _ {f n margin : ℕ} {low : Kws} where
-  pub lowered-none : f ≡ 0 → Lowered f n margin low low
-  lowered-none e = record { alone = lowerBy-same f _ _ (λ z. absurd (omega arith)); reach = lowerBy-same f _ _ (λ z. absurd (omega arith)) }
+pub lowered-fell : {f n margin room : ℕ} {low : Kws} {taken others left a r : ℕ} → taken ≡ tight f margin room → (taken ≡ room → ⊥)
+    → a ≡ min (low .alone) taken → others ≡ n - 1 → left ≡ taken - others → r ≡ min (low .reach) left → Lowered f n margin low (record { alone = a; reach = r })
+lowered-fell {f} {n} {margin} {room} {low} {taken} {others} {left} t h p e d q =
+    let w = fell f margin room (λ y. h (t ∙ sym y)) in
+    let is : taken ≡ margin / f = t ∙ sym (w .1) in
+    record {
+      alone = p ∙ ap (min (low .alone)) is ∙ sym (tight-min f margin (low .alone) (w .0));
+      reach =
+          q
+          ∙ ap (min (low .reach)) (d ∙ ap₂ (λ (k o : ℕ). k - o) is e)
+          ∙ min-less (low .reach) (margin / f) (n - 1)
+          ∙ ap (λ (k : ℕ). k - (n - 1)) (sym (tight-min f margin (low .reach + (n - 1)) (w .0)));
+    }
 
-  pub lowered-same : {others : ℕ} {r : Bool} → others ≡ n - 1 → Held f others margin low r → r ≡ true → Lowered f n margin low low
-  lowered-same e h t =
-      record {
-        alone = lowerBy-same f _ _ (λ z. h .alone t);
-        reach = lowerBy-same f _ _ (λ z. rw (← e) (h .reach t));
-      }
+-- neither is above what the row allows, nor below what all allow
+tight-under : (f margin v : ℕ) → 0 < f → tight f margin v ≤ margin / f
+tight-under f margin v z = le-div-iff-mul-le z .1 (tight-share f margin v)
 
-  pub lowered-min : {a r left others : ℕ} → 0 < f → others ≡ n - 1 → left ≡ margin / f - others → a ≡ min (low .alone) (margin / f) → r ≡ min (low .reach) left → Lowered f n margin low (record { alone = a; reach = r })
-  lowered-min z e d p q =
-      record {
-        alone = p ∙ lowerBy-min f _ _ z;
-        reach = q ∙ ap (min (low .reach)) (d ∙ ap (λ (o : ℕ). margin / f - o) e) ∙ lowerBy-min f _ _ z;
-      }
+-- the reach stays below what the border takes alone
+reach-below : (f margin others : ℕ) {v a : ℕ} → v ≤ a → tight f margin (v + others) - others ≤ tight f margin a
+reach-below f margin others {v} {a} h =
+    tight-over f margin a (tight f margin (v + others) - others) (omega (arith, tight-le f margin (v + others))) (λ z. omega (arith, tight-under f margin (v + others) z))
 
--- a product tells, where it and its sum fit
-pub sum-fits : (others : ℕ) (low : Kws) → low .reach < 2 ^ 43 → others < 2 ^ 20 → low .reach + others < 2 ^ 64
-sum-fits others low r o = omega arith
-
-pub held-fits : (f others : ℕ) (low : Kws) (v : ℕ) → v ≡ max (low .alone) (low .reach + others) → low .alone < 2 ^ 43 → low .reach < 2 ^ 43 → f < 2 ^ 20 → others < 2 ^ 20 → v * f < 2 ^ 64
-held-fits f others low v e a r k o = product-fits f v (omega arith) k
-
-module _ {f others margin : ℕ} {low : Kws} where
-  pub held-not : Held f others margin low false
-  held-not =
-      let never : false ≡ true → ⊥ = λ e. let z : _≡_ {A = ℕ} 0 1 = cc in omega arith in
-      record { alone = λ e. absurd (never e); reach = λ e. absurd (never e) }
-
-  pub held-product : (v : ℕ) (t : Bool) → 0 < f → v ≡ max (low .alone) (low .reach + others) → t ≡ leb (v * f) margin → Held f others margin low t
-  held-product v t z e d =
-      let q : t ≡ true → v ≤ margin / f = λ y. le-div-iff-mul-le z .1 (leb-true _ _ (sym d ∙ y)) in
-      record {
-        alone = λ y. omega (arith, q y, le-max-left (low .alone) (low .reach + others));
-        reach = λ y. omega (arith, q y, le-max-right (low .alone) (low .reach + others));
-      }
+reach-over : (f margin v others u : ℕ) → u ≤ v → (0 < f → u ≤ margin / f - others) → u ≤ tight f margin (v + others) - others
+reach-over f margin v others u h k =
+    ⊎-elim
+    (λ z. omega arith)
+    (λ y. omega (arith, tight-over f margin (v + others) (u + others) (omega arith) (λ z. omega (arith, k z))))
+    (le-or-lt u 0)
 
 -- ---- a walk over the rows: v is not below the smallest that counts, nor above that of the first i
 pub record Lowest (k : ℕ) (w f : ℕ → ℕ) (i v : ℕ) : Type 0 where
@@ -126,17 +126,17 @@ pub record Lowest (k : ℕ) (w f : ℕ → ℕ) (i v : ℕ) : Type 0 where
   pub under : (j : ℕ) → j < i → 0 < w j → v ≤ f j
 
 module _ {k : ℕ} {w f : ℕ → ℕ} {i v : ℕ} (u : Lowest k w f i v) where
-  lowest-more : i < k → (v′ : ℕ) → v′ ≡ lowerBy (w i) (f i) v → Lowest k w f (i + 1) v′
-  lowest-more h v′ d =
-      let less : v′ ≤ v = omega (arith, d, lowerBy-le (w i) (f i) v) in
+  -- one row more lets v fall, not below the smallest and to what the row allows
+  lowest-more : i < k → (v′ : ℕ) → v′ ≤ v → orZero (least k w f) ≤ v′ → (0 < w i → v′ ≤ f i) → Lowest k w f (i + 1) v′
+  lowest-more h v′ less over under =
       record {
         high = omega arith;
-        over = rw d (lowerBy-over (w i) (f i) v (orZero (least k w f)) (u .over) (λ z. least-le k w f i h z));
+        over = over;
         some = λ z. u .some (omega arith);
         under = λ j hj z.
             ⊎-elim
             (λ a. le-trans less (u .under j a z))
-            (λ y. rw y (rw d (lowerBy-under (w i) (f i) v (rw y at z))))
+            (λ y. rw y (under (rw y at z)))
             (lt-suc-cases j i (rw add-one at hj));
       }
 
@@ -158,41 +158,43 @@ module _ {k : ℕ} {w f : ℕ → ℕ} {i v : ℕ} (u : Lowest k w f i v) where
 pub record Walked (g : Grid) (m : List ℕ) (b i : ℕ) (low : Kws) : Type 0 where
   pub alone : Lowest (g .rows) (λ i. g .p i b) (λ i. at m i / g .p i b) i (low .alone)
   pub reach : Lowest (g .rows) (λ i. g .p i b) (rowReach g m b) i (low .reach)
+  pub below : low .reach ≤ low .alone
+  pub small : low .alone < 2 ^ 63
 
--- no row allows more than its margin
-pub margin-start : (g : Grid) (m : List ℕ) (i b f : ℕ) → i < g .rows → f ≡ g .p i b → 0 < f → Start g m b (at m i)
-margin-start g m i b f hi e z =
-    let y : 0 < g .p i b = omega arith in
-    record { over = le-trans (alone-le g m i b hi y) (div-le-self (at m i) (g .p i b)); some = λ z. (i, hi, y) }
-
--- where no row loads the border, it takes nothing
-pub unloaded-start : {g : Grid} {b i : ℕ} → Unloaded g b i → (m : List ℕ) → g .rows ≤ i → Start g m b 0
-unfolding alone
-unloaded-start {g} {b} {i} u m h =
-    record {
-      over =
-          ⊎-elim
-          (λ l. l)
-          (λ l. let s = least-one (g .rows) (λ i. g .p i b) (λ i. at m i / g .p i b) l in omega (arith, s .counts, u .none (s .i) (omega (arith, s .below))))
-          (le-or-lt (alone g m b) 0);
-      some = λ z. absurd (not-suc-le-zero z);
-    }
-
-pub walked-none : {g : Grid} {m : List ℕ} {b v : ℕ} → Start g m b v → Walked g m b 0 (record { alone = v; reach = v })
+pub walked-none : {g : Grid} {m : List ℕ} {b v : ℕ} → length m ≡ g .rows → Small m → First g m b v → Walked g m b 0 (record { alone = v; reach = v })
 unfolding alone reach
-walked-none {g} {m} {b} {v} s =
+walked-none {g} {m} {b} {v} long small s =
+    let some : 0 < v → (i : ℕ) × (i < g .rows) × (0 < g .p i b) = λ z. (s .some z .0, s .some z .1, s .some z .2) in
     record {
-      alone = record { high = omega arith; over = s .over; some = s .some; under = λ j h. absurd (not-suc-le-zero h) };
-      reach = record { high = omega arith; over = le-trans (reach-alone g m b) (s .over); some = s .some; under = λ j h. absurd (not-suc-le-zero h) };
+      alone = record { high = omega arith; over = s .over; some = some; under = λ j h. absurd (not-suc-le-zero h) };
+      reach = record { high = omega arith; over = le-trans (reach-alone g m b) (s .over); some = some; under = λ j h. absurd (not-suc-le-zero h) };
+      below = le-refl v;
+      small = ⊎-elim (λ z. omega arith) (λ z. omega (arith, s .some z .3, small (s .some z .0) (omega (arith, s .some z .1)))) (le-or-lt v 0);
     }
 
 module _ {g : Grid} {m : List ℕ} {b i : ℕ} {low : Kws} (u : Walked g m b i low) where
+  -- what the border takes alone and a kW for each of the most sharers fit
+  pub walked-fits : {n : ℕ} → n ≡ mostSharers g → g .borders ≤ bordersMost → low .alone + n < 2 ^ 64
+  walked-fits e few = omega (arith, u .small, sharers-few g)
+
   pub walked-more : i < g .rows → {f n : ℕ} {low′ : Kws} → f ≡ g .p i b → n ≡ sharers g i → Lowered f n (at m i) low low′ → Walked g m b (i + 1) low′
-  unfolding rowReach
+  unfolding alone reach rowReach
   walked-more h {f} {n} {low′} e d l =
+      let under : low′ .alone ≤ low .alone = omega (arith, l .alone, tight-le f (at m i) (low .alone)) in
+      let less : low′ .reach ≤ low .reach = omega (arith, l .reach, tight-le f (at m i) (low .reach + (n - 1))) in
+      let here : 0 < f → reach g m b ≤ at m i / f - (n - 1) = λ z. rw (e, d) (least-le (g .rows) (λ i. g .p i b) (rowReach g m b) i h (omega arith)) in
+      let allowed : 0 < g .p i b → low′ .reach ≤ at m i / g .p i b - (sharers g i - 1) = λ z. rw (← e, ← d) (omega (arith, l .reach, tight-under f (at m i) (low .reach + (n - 1)) (omega arith))) in
       record {
-        alone = lowest-more (u .alone) h (low′ .alone) (l .alone ∙ ap (λ (p : ℕ). lowerBy p (at m i / p) (low .alone)) e);
-        reach = lowest-more (u .reach) h (low′ .reach) (l .reach ∙ ap₂ (λ (p s : ℕ). lowerBy p (at m i / p - (s - 1)) (low .reach)) e d);
+        alone =
+            lowest-more (u .alone) h (low′ .alone) under
+            (rw (l .alone) (tight-over f (at m i) (low .alone) (alone g m b) (u .alone .over) (λ z. rw e (alone-le g m i b h (omega arith)))))
+            (λ z. rw (l .alone, ← e) (tight-under f (at m i) (low .alone) (omega arith)));
+        reach =
+            lowest-more (u .reach) h (low′ .reach) less
+            (rw (l .reach) (reach-over f (at m i) (low .reach) (n - 1) (reach g m b) (u .reach .over) here))
+            allowed;
+        below = rw (l .alone, l .reach) (reach-below f (at m i) (n - 1) (u .below));
+        small = omega (arith, u .small);
       }
 
   module _ {most : Kws} where
@@ -213,16 +215,19 @@ module _ (g : Grid) {ns : List ℕ} (e : ns ≡ table (g .rows) (sharers g)) whe
   pub counted-at : (i : ℕ) → i < g .rows → at ns i ≡ sharers g i
   counted-at i h = ap (λ (l : List ℕ). at l i) e ∙ table-get (g .rows) (sharers g) i 0 h
 
+  pub counted-few : {n : ℕ} → n ≡ mostSharers g → (i : ℕ) → i < g .rows → at ns i ≤ n
+  unfolding mostSharers
+  counted-few d i h = omega (arith, d, counted-at i h, largest-le (g .rows) (sharers g) i h)
+
   pub counted-most : {v : ℕ} → v ≡ largest (length ns) (at ns) → v ≡ mostSharers g
   unfolding mostSharers
   counted-most d =
-      let long : length ns ≡ g .rows = ap length e ∙ table-long (g .rows) (sharers g) in
-      d
-      ∙ le-antisymm
-      (largest-under (length ns) (at ns) (mostSharers g) (λ i h. omega (arith, counted-at i (omega arith), largest-le (g .rows) (sharers g) i (omega arith))))
-      (largest-under (g .rows) (sharers g) (largest (length ns) (at ns)) (λ i h. omega (arith, counted-at i h, largest-le (length ns) (at ns) i (omega arith))))
+      d ∙ ap (λ (k : ℕ). largest k (at ns)) (ap length e ∙ table-long (g .rows) (sharers g)) ∙ largest-cong (g .rows) (at ns) (sharers g) counted-at
 
--- ---- N, the most that a border could take alone, and the bound
-pub measured : (g : Grid) {m : List ℕ} {n k : ℕ} {kws : Kws} → n ≡ mostSharers g → Highest g m (g .borders) kws → k ≡ steps n (kws .reach) → Measured g m (record { sharers = n; alone = kws .alone; rounds = k })
-unfolding tightBound farthest
-measured g e h d = record { sharers = e; alone = h .alone; rounds = d ∙ ap₂ steps e (h .reach) }
+-- ---- N, L, 2 N L and the sharper bound together
+pub measured : (g : Grid) {m : List ℕ} {n l k : ℕ} {kws : Kws} → n ≡ mostSharers g → Highest g m (g .borders) kws → l ≡ bits (kws .alone) → k ≡ steps n (kws .reach) → _≡_ {A = RoundsMost} (record { sharers = n; bits = l; rounds = 2 * n * l; sharp = k }) (boundBy g m)
+unfolding boundBy tightBound farthest aloneBits
+measured g {m} {n} {l} {k} e h d f =
+    let b : l ≡ bits (largest (g .borders) (alone g m)) = d ∙ ap bits (h .alone) in
+    let s : k ≡ steps (mostSharers g) (largest (g .borders) (reach g m)) = f ∙ ap₂ steps e (h .reach) in
+    rw (e, b, s)

@@ -32,9 +32,9 @@ shareUp-add (suc n) u d =
     omega (arith, add-mul-div-left v d (zero-lt-suc n))
 
 -- ---- cut
-cut-mono : (n : ℕ) {u u′ : ℕ} → u ≤ u′ → cut n u ≤ cut n u′
+cut-mono : {n n′ u u′ : ℕ} → 0 < n → n ≤ n′ → u ≤ u′ → cut n u ≤ cut n′ u′
 unfolding cut
-cut-mono n {u} {u′} h = let e : u′ ≡ u + (u′ - u) = omega arith in rw e (omega (arith, shareUp-add n u (u′ - u)))
+cut-mono {n} {n′} {u} {u′} z l h = let e : u′ ≡ u + (u′ - u) = omega arith in rw e (omega (arith, shareUp-add n u (u′ - u), shareUp-anti (u + (u′ - u)) z l))
 
 -- what is left after a step of at least a share is within the cut
 pub cut-over : (n u v : ℕ) → shareUp n (u + v) ≤ v → u ≤ cut n (u + v)
@@ -47,13 +47,13 @@ unfolding cut
 cut-suc u {n} z = omega (arith, shareUp-suc u z)
 
 -- ---- steps
-within-mono : (fuel fuel′ n u u′ : ℕ) → fuel ≤ fuel′ → u ≤ u′ → stepsWithin fuel n u ≤ stepsWithin fuel′ n u′
+within-mono : (fuel fuel′ n n′ u u′ : ℕ) → 0 < n → n ≤ n′ → fuel ≤ fuel′ → u ≤ u′ → stepsWithin fuel n u ≤ stepsWithin fuel′ n′ u′
 unfolding stepsWithin
-within-mono zero fuel′ n u u′ f h = omega arith
-within-mono (suc fuel) fuel′ n zero u′ f h = omega arith
-within-mono (suc fuel) zero n (suc u) u′ f h = absurd (omega arith)
-within-mono (suc fuel) (suc fuel′) n (suc u) zero f h = absurd (omega arith)
-within-mono (suc fuel) (suc fuel′) n (suc u) (suc u′) f h = omega (arith, within-mono fuel fuel′ n (cut n (suc u)) (cut n (suc u′)) (omega arith) (cut-mono n h))
+within-mono zero fuel′ n n′ u u′ z l f h = omega arith
+within-mono (suc fuel) fuel′ n n′ zero u′ z l f h = omega arith
+within-mono (suc fuel) zero n n′ (suc u) u′ z l f h = absurd (omega arith)
+within-mono (suc fuel) (suc fuel′) n n′ (suc u) zero z l f h = absurd (omega arith)
+within-mono (suc fuel) (suc fuel′) n n′ (suc u) (suc u′) z l f h = omega (arith, within-mono fuel fuel′ n n′ (cut n (suc u)) (cut n′ (suc u′)) z l (omega arith) (cut-mono z l h))
 
 -- among none a cut takes nothing, and the fuel decides
 within-idle : (fuel u : ℕ) → stepsWithin fuel 0 (suc u) ≡ fuel
@@ -67,15 +67,16 @@ pub steps-none : (n : ℕ) → steps n 0 ≡ 0
 unfolding steps stepsWithin
 steps-none n = refl
 
-pub steps-mono : (n : ℕ) {u u′ : ℕ} → u ≤ u′ → steps n u ≤ steps n u′
+-- of no less, among no fewer
+pub steps-mono : {n n′ u u′ : ℕ} → 0 < n → n ≤ n′ → u ≤ u′ → steps n u ≤ steps n′ u′
 unfolding steps
-steps-mono n {u} {u′} h = within-mono u u′ n u u′ h h
+steps-mono {n} {n′} {u} {u′} z l h = within-mono u u′ n n′ u u′ z l h h
 
 -- one step more, from what is cut to no less
 pub steps-more : (n u : ℕ) {u′ k : ℕ} → 0 < n → 0 < u → u′ ≤ cut n u → k ≤ steps n u′ → suc k ≤ steps n u
 unfolding steps stepsWithin
 steps-more n zero z y h l = absurd (omega arith)
-steps-more n (suc u) {u′} z y h l = omega (arith, within-mono u′ u n u′ (cut n (suc u)) (omega (arith, cut-suc u z)) h)
+steps-more n (suc u) {u′} z y h l = omega (arith, within-mono u′ u n n u′ (cut n (suc u)) z (le-refl n) (omega (arith, cut-suc u z)) h)
 
 within-le : (fuel n u : ℕ) → stepsWithin fuel n u ≤ fuel
 unfolding stepsWithin

@@ -1,2 +1,3 @@
 pub mod Tight
+pub mod Measure
 pub mod Pass

@@ -1,19 +1,17 @@
--- What the functions of src/ leave, over a grid g and the margins m at the start: of a border, of all borders, and of a walk over the rows.
+-- What the functions of src/pass.rt ask and leave, over a grid g and the margins m at the start: of a border, of all borders, and of a walk over the rows.
 use mathlib.Core.Path.{_≡_}
-use mathlib.Core.Bool.{Bool, true}
 use mathlib.Core.List.{List}
-use Prim.Native.Nat.{ℕ, _-_, _/_, _≤_, _<_, max, min}
-use Rattle.numbers.specs.Below.{ifZero, largest}
-use Rattle.rounds.specs.Rounds.{Grid, alone, mostSharers}
+use Prim.Native.Nat.{ℕ, _+_, _-_, _^_, _<_, max}
+use lib.ListN.{length}
+use Rattle.numbers.specs.Below.{at, largest}
+use Rattle.rounds.specs.Rounds.{Grid, alone}
+use Rattle.walk.specs.Walk.{tight}
 use Rattle.tight.specs.declared.Kws.{Kws}
-use Rattle.tight.specs.declared.Most.{Most}
-use Rattle.tight.specs.Tight.{reach, tightBound}
+use Rattle.tight.specs.Tight.{reach}
 
--- N, the most that a border could take alone, and the bound
-pub record Measured (g : Grid) (m : List ℕ) (r : Most) : Type 0 where
-  pub sharers : r .sharers ≡ mostSharers g
-  pub alone : r .alone ≡ largest (g .borders) (alone g m)
-  pub rounds : r .rounds ≡ tightBound g m
+-- no margin is so large that a kW for each sharer besides would not fit 64 bits: no table of 01 reaches 2^49
+abbrev pub Small : (m : List ℕ) → Type 0
+Small m = (i : ℕ) → i < length m → at m i < 2 ^ 63
 
 -- the largest of the first k borders
 pub record Highest (g : Grid) (m : List ℕ) (k : ℕ) (r : Kws) : Type 0 where
@@ -25,21 +23,7 @@ pub record Higher (g : Grid) (m : List ℕ) (b : ℕ) (most r : Kws) : Type 0 wh
   pub alone : r .alone ≡ max (most .alone) (alone g m b)
   pub reach : r .reach ≡ max (most .reach) (reach g m b)
 
--- what a walk over the rows starts from: v is not below what border b could take alone, and where it is above 0 some row loads b
-pub record Start (g : Grid) (m : List ℕ) (b v : ℕ) : Type 0 where
-  pub over : alone g m b ≤ v
-  pub some : 0 < v → (i : ℕ) × (i < g .rows) × (0 < g .p i b)
-
--- the smaller of v and q, where a row loads the border
-unfoldable pub lowerBy : (f q v : ℕ) → ℕ
-lowerBy f q v = ifZero f v (min v q)
-
--- one row of the walk
+-- one row of the walk, where the border's factor p is f: neither is above what the row allows
 pub record Lowered (f n margin : ℕ) (low r : Kws) : Type 0 where
-  pub alone : r .alone ≡ lowerBy f (margin / f) (low .alone)
-  pub reach : r .reach ≡ lowerBy f (margin / f - (n - 1)) (low .reach)
-
--- the row lets both stay
-pub record Held (f others margin : ℕ) (low : Kws) (r : Bool) : Type 0 where
-  pub alone : r ≡ true → low .alone ≤ margin / f
-  pub reach : r ≡ true → low .reach ≤ margin / f - others
+  pub alone : r .alone ≡ tight f margin (low .alone)
+  pub reach : r .reach ≡ tight f margin (low .reach + (n - 1)) - (n - 1)

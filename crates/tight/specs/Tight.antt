@@ -1,6 +1,6 @@
 -- A sharper bound of the rounds than 2 N L, known before the first of them. A border that rises in the last round rises in every one, each time by at least
 -- the N-th part, rounded up, of what it still rises by; and what it rises by in all is no more than each row leaves it beside 1 kW for each other sharer.
--- `tightBound` is what contracts cite. That the rounds are at most this: `proofs/FewRounds.antt`.
+-- `steps` and `reach` are what contracts cite, and `tightBound` as a part of `boundBy` (`Measure.antt`). That the rounds are at most this: `proofs/FewRounds.antt`.
 use mathlib.Core.List.{List}
 use Prim.Native.Nat.{ℕ, zero, suc, _+_, _-_, _/_}
 use Rattle.numbers.specs.Below.{at, largest, least, orZero}

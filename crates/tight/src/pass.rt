@@ -1,18 +1,13 @@
 // What each border could take alone, and its reach, found in one pass: the smallest floor(margin / p), and the smallest of that less n - 1.
 use crate::Kws;
 ghost use mathlib.Core.Path.{_≡_};
-ghost use Prim.Native.Nat.{_*_, _-_, _<_, _≤_, max, min};
+ghost use Prim.Native.Nat.{_+_, _*_, _-_, _^_, _<_, _≤_, min};
 ghost use lib.ListN.{length};
 ghost use Rattle.numbers.specs.Below.{at, largest, table};
-ghost use Rattle.rounds.specs.Rounds.{sharers};
+ghost use Rattle.kinds.specs.Limits.{bordersMost};
+ghost use Rattle.rounds.specs.Rounds.{sharers, mostSharers};
 ghost use Rattle.rounds.specs.Work.{flat};
-ghost use Rattle.tight.specs.Pass.{Highest, Higher, Start, Held, Lowered};
-
-// Where what a border takes, in kW, is below this, and n and a factor p below the next, the product that is tried is below 2^64.
-const LOW_BELOW: u64 = 1 << 43;
-
-// Of factors, in hundred-thousandths, and of borders. No table of 01 reaches it.
-const FACTOR_BELOW: u64 = 1 << 20;
+ghost use Rattle.tight.specs.Pass.{Small, Highest, Higher, Lowered};
 
 // The largest of a list, 0 where it is empty.
 pub fn most(list: &[u64]) -> u64
@@ -20,20 +15,21 @@ pub fn most(list: &[u64]) -> u64
 {
     let mut most: u64 = 0;
     for i in 0..list.len() {
-        most = larger(most, list[i]);
+        most = walk::larger(most, list[i]);
     }
     most
 }
 
-// Of all borders the most that one could take alone, and U.
-pub fn highest(rows: usize, borders: usize, p: &[u64], margins: &[u64], ns: &[u64]) -> Kws
-    requires { ⌜ (rows * borders ≤ length (now p)) × (length (now margins) ≡ rows) ⌝ }
-    requires { ⌜ now ns ≡ table rows (sharers (flat rows borders (now p))) ⌝ }
+// Of all borders the most that one could take alone, and U. `n` is N.
+pub fn highest(rows: usize, borders: usize, p: &[u64], margins: &[u64], ns: &[u64], n: u64) -> Kws
+    requires { ⌜ (rows * borders ≤ length (now p)) × (length (now margins) ≡ rows) × (borders ≤ bordersMost) ⌝ }
+    requires { ⌜ (now ns ≡ table rows (sharers (flat rows borders (now p)))) × (n ≡ mostSharers (flat rows borders (now p))) ⌝ }
+    requires { ⌜ Small (now margins) ⌝ }
     ensures { λ r. ⌜ Highest (flat rows borders (now (p .entry))) (now (margins .entry)) borders r ⌝ }
 {
     let mut most = Kws { alone: 0, reach: 0 };
     for b in 0..borders {
-        most = higher(rows, borders, p, margins, ns, b, most);
+        most = higher(rows, borders, p, margins, ns, n, b, most);
     }
     most
 }
@@ -45,14 +41,16 @@ fn higher(
     p: &[u64],
     margins: &[u64],
     ns: &[u64],
+    n: u64,
     b: usize,
     most: Kws,
 ) -> Kws
-    requires { ⌜ (rows * borders ≤ length (now p)) × (length (now margins) ≡ rows) × (b < borders) ⌝ }
-    requires { ⌜ now ns ≡ table rows (sharers (flat rows borders (now p))) ⌝ }
+    requires { ⌜ (rows * borders ≤ length (now p)) × (length (now margins) ≡ rows) × (borders ≤ bordersMost) × (b < borders) ⌝ }
+    requires { ⌜ (now ns ≡ table rows (sharers (flat rows borders (now p)))) × (n ≡ mostSharers (flat rows borders (now p))) ⌝ }
+    requires { ⌜ Small (now margins) ⌝ }
     ensures { λ r. ⌜ Higher (flat rows borders (now (p .entry))) (now (margins .entry)) b most r ⌝ }
 {
-    let first = first_margin(rows, borders, p, margins, b);
+    let first = walk::first_bound(rows, borders, p, margins, b);
     let mut low = Kws {
         alone: first,
         reach: first,
@@ -62,74 +60,43 @@ fn higher(
             return most;
         }
         let f = rounds::factor(rows, borders, p, i, b);
-        low = lower(f, ns[i], margins[i], low);
+        low = lower(f, ns[i], n, margins[i], low);
     }
-    let alone = larger(most.alone, low.alone);
-    let reach = larger(most.reach, low.reach);
+    let alone = walk::larger(most.alone, low.alone);
+    let reach = walk::larger(most.reach, low.reach);
     Kws {
         alone: alone,
         reach: reach,
     }
 }
 
-// The margin of the first row that loads border `b`, or 0: the border could not take more alone, and this takes no division.
-fn first_margin(rows: usize, borders: usize, p: &[u64], margins: &[u64], b: usize) -> u64
-    requires { ⌜ (rows * borders ≤ length (now p)) × (length (now margins) ≡ rows) × (b < borders) ⌝ }
-    ensures { λ v. ⌜ Start (flat rows borders (now (p .entry))) (now (margins .entry)) b v ⌝ }
-{
-    for i in 0..rows {
-        if rounds::factor(rows, borders, p, i, b) > 0 {
-            return margins[i];
-        }
-    }
-    0
-}
-
-// `low`, once a row's margin, its n and its factor `f` at the border are known. Divided only where a product does not tell that `low` stays.
-fn lower(f: u64, n: u64, margin: u64, low: Kws) -> Kws
+// `low`, once a row's margin, its `n` and its factor `f` at the border are known. A row that has room for what the border takes alone and a kW for each of the most
+// sharers lets both be: so most rows take one product. Where it has not, its quotient is known.
+fn lower(f: u64, n: u64, most: u64, margin: u64, low: Kws) -> Kws
+    requires { ⌜ (n ≤ most) × (low .reach ≤ low .alone) × (low .alone + most < 2 ^ 64) ⌝ }
     ensures { λ r. ⌜ Lowered f n margin low r ⌝ }
 {
-    if f == 0 {
+    let room = low.alone + most;
+    let taken = walk::tighten(f, margin, room);
+    if taken == room {
         return low;
     }
-    let others = less(n, 1);
-    if held(f, others, margin, low) {
-        return low;
-    }
-    let taken = margin / f;
     let alone = smaller(low.alone, taken);
-    let reach = smaller(low.reach, less(taken, others));
+    let reach = smaller(low.reach, less(taken, less(n, 1)));
     Kws {
         alone: alone,
         reach: reach,
     }
 }
 
-// That the row has room for both, told by a product where that fits.
-fn held(f: u64, others: u64, margin: u64, low: Kws) -> bool
-    requires { ⌜ 0 < f ⌝ }
-    ensures { λ r. ⌜ Held f others margin low r ⌝ }
-{
-    if low.alone < LOW_BELOW && low.reach < LOW_BELOW {
-        if f < FACTOR_BELOW && others < FACTOR_BELOW {
-            return larger(low.alone, low.reach + others) * f <= margin;
-        }
-    }
-    false
-}
-
+// The difference, or 0.
 fn less(a: u64, b: u64) -> u64
     ensures { λ r. ⌜ r ≡ a - b ⌝ }
 {
     if a < b { 0 } else { a - b }
 }
 
-fn larger(a: u64, b: u64) -> u64
-    ensures { λ r. ⌜ r ≡ max a b ⌝ }
-{
-    if a < b { b } else { a }
-}
-
+// The smaller of two.
 fn smaller(a: u64, b: u64) -> u64
     ensures { λ r. ⌜ r ≡ min a b ⌝ }
 {

@@ -4,19 +4,19 @@ use mathlib.Core.Path.{_≡_, refl, sym, ap, _∙_, subst}
 use mathlib.Core.List.{List}
 use mathlib.Core.Logic.{⊎-elim}
 use Prim.Native.Nat.{ℕ, _+_, _*_, _/_, _≤_, _<_}
-use native.Mathlib.Nat.{not-suc-le-zero, le-trans, le-antisymm, le-of-eq, mul-le-mul-right, le-div-iff-mul-le, div-le-self}
+use native.Mathlib.Nat.{not-suc-le-zero, le-refl, le-trans, le-antisymm, le-of-eq, mul-le-mul-right, le-div-iff-mul-le, div-le-self}
 use native.Mathlib.Numerals.{add-one}
 use native.Mathlib.Omega.{arith}
 use lib.ListN.{length, set, length-set}
 use lib.Seq.{getD-set-same, getD-set-other}
 use Rattle.numbers.specs.Below.{at, table}
 use Rattle.numbers.proofs.BelowLaws.{lt-suc-cases, le-or-lt, table-long, table-get, table-of}
-use Rattle.rounds.specs.Rounds.{Grid, sharers, raise, raises}
+use Rattle.rounds.specs.Rounds.{Grid, sharers, raise, alone, raises}
 use Rattle.rounds.specs.Work.{Ready}
-use Rattle.rounds.proofs.LeastLaws.{least-some}
-use Rattle.rounds.proofs.Round.{raise-le, raiser}
+use Rattle.rounds.proofs.LeastLaws.{least-some, least-one, least-mono, div-mono}
+use Rattle.rounds.proofs.Round.{raise-le, alone-le}
 use Rattle.rounds.proofs.Loops.{ready-at}
-use Rattle.walk.specs.Walk.{Bound, Bounds, tight, tightened}
+use Rattle.walk.specs.Walk.{First, Bound, Bounds, tight, tightened}
 use Rattle.walk.proofs.TightLaws.{tight-le, tight-share, tight-over}
 
 -- ---- row by row
@@ -89,18 +89,13 @@ module _ {g : Grid} {m w : List ℕ} {i : ℕ} (u : Bounded g m w (λ i. i) (g .
 
 -- ---- first bounds
 
--- a loaded row's margin bounds the raise
-pub margin-bound : (g : Grid) (m : List ℕ) (i b f : ℕ) → i < g .rows → f ≡ g .p i b → 0 < f → Bound g m b (at m i)
-margin-bound g m i b f hi e z =
+-- no row allows a border more than its margin
+pub margin-first : (g : Grid) (m : List ℕ) (i b f : ℕ) → i < g .rows → f ≡ g .p i b → 0 < f → First g m b (at m i)
+margin-first g m i b f hi e z =
     let y : 0 < g .p i b = omega arith in
-    record {
-      over = omega (arith, raise-le g m i b hi y, div-le-self (at m i / sharers g i) (g .p i b), div-le-self (at m i) (sharers g i));
-      row = λ z. i;
-      inside = λ z. hi;
-      loads = λ z. y;
-    }
+    record { over = le-trans (alone-le g m i b hi y) (div-le-self (at m i) (g .p i b)); some = λ z. (i, hi, y, le-refl (at m i)) }
 
--- and 0 does, where no row loads the border
+-- and one that no row loads takes nothing
 pub record Unloaded (g : Grid) (b i : ℕ) : Type 0 where
   pub high : i ≤ g .rows
   pub none : (i′ : ℕ) → i′ < i → g .p i′ b ≡ 0
@@ -115,13 +110,30 @@ unloaded-more {g} {b} {i} u f hi e l =
       none = λ i′ h. ⊎-elim (λ a. u .none i′ a) (λ y. omega (arith, ap (λ (k : ℕ). g .p k b) y)) (lt-suc-cases i′ i (rw add-one at h));
     }
 
-pub unloaded-all : {g : Grid} {b i : ℕ} → Unloaded g b i → (m : List ℕ) → g .rows ≤ i → Bound g m b 0
-unloaded-all {g} {b} {i} u m h =
+pub unloaded-first : {g : Grid} {b i : ℕ} → Unloaded g b i → (m : List ℕ) → g .rows ≤ i → First g m b 0
+unfolding alone
+unloaded-first {g} {b} {i} u m h =
     record {
-      over = ⊎-elim (λ l. l) (λ l. let s = raiser g m b l in omega (arith, s .counts, u .none (s .i) (omega (arith, s .below)))) (le-or-lt (raise g m b) 0);
-      row = λ z. i;
-      inside = λ z. absurd (not-suc-le-zero z);
-      loads = λ z. absurd (not-suc-le-zero z);
+      over =
+          ⊎-elim
+          (λ l. l)
+          (λ l. let s = least-one (g .rows) (λ i. g .p i b) (λ i. at m i / g .p i b) l in omega (arith, s .counts, u .none (s .i) (omega (arith, s .below))))
+          (le-or-lt (alone g m b) 0);
+      some = λ z. absurd (not-suc-le-zero z);
+    }
+
+-- among sharers a border rises by no more than it could take alone
+pub first-bound : {g : Grid} {m : List ℕ} {b v : ℕ} → First g m b v → Bound g m b v
+unfolding raise alone
+first-bound {g} {m} {b} {v} f =
+    record {
+      over =
+          le-trans
+          (least-mono (g .rows) (λ i. g .p i b) (λ i. at m i / sharers g i / g .p i b) (λ i. at m i / g .p i b) (λ i hi hp. div-mono (g .p i b) (div-le-self (at m i) (sharers g i))))
+          (f .over);
+      row = λ z. f .some z .0;
+      inside = λ z. f .some z .1;
+      loads = λ z. f .some z .2;
     }
 
 -- the borders before b have their bound

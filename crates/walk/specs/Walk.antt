@@ -1,12 +1,12 @@
 -- One row's work in a round (02, E4), over a grid g: what its functions ask and leave. A border's bound is what it may rise by at most: its last raise, or at first a row's margin.
--- `Listed`, `Bound`, `tightened`, `mostPart` and `Partable` are what contracts cite, here, in resting and in roundloop.
+-- `Listed`, `First`, `Bounds`, `tightened`, `mostPart` and `Partable` are what contracts cite, here, in resting, roundloop and tight.
 -- Left to others: the raises themselves and what a round does (`Rounds.antt` of rounds), which rows are looked at in a round (resting), the loop of rounds (roundloop).
 use mathlib.Core.Path.{_≡_}
 use mathlib.Core.List.{List}
 use Prim.Native.Nat.{ℕ, _*_, _/_, _^_, _≤_, _<_, min}
 use lib.ListN.{length}
 use Rattle.numbers.specs.Below.{at, ifZero, sum, largest}
-use Rattle.rounds.specs.Rounds.{Grid, raise, load}
+use Rattle.rounds.specs.Rounds.{Grid, raise, alone, load}
 
 -- The first `live` of the list are borders, and they hold each border where v is above 0, once. Said by sums: what is 0 where v is 0 sums over
 -- the list to what it sums to over all borders.
@@ -14,6 +14,11 @@ pub record Listed (borders : ℕ) (v list : List ℕ) (live : ℕ) : Type 0 wher
   pub room : live ≤ length list
   pub inside : (j : ℕ) → j < live → at list j < borders
   pub adds : (w : ℕ → ℕ) → ((b : ℕ) → b < borders → at v b ≡ 0 → w b ≡ 0) → sum live (λ j. w (at list j)) ≡ sum borders w
+
+-- v is not below what border b could take alone, and where it is above 0 some row loads b and has as large a margin
+pub record First (g : Grid) (m : List ℕ) (b v : ℕ) : Type 0 where
+  pub over : alone g m b ≤ v
+  pub some : 0 < v → (i : ℕ) × (i < g .rows) × (0 < g .p i b) × (v ≤ at m i)
 
 -- v bounds border b's raise: it is not below the raise, and where it is above 0 some row loads b
 pub record Bound (g : Grid) (m : List ℕ) (b v : ℕ) : Type 0 where

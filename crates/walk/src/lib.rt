@@ -8,7 +8,7 @@ ghost use lib.ListN.{length};
 ghost use Rattle.numbers.specs.Below.{table};
 ghost use Rattle.rounds.specs.Rounds.{sharers, raises, load};
 ghost use Rattle.rounds.specs.Work.{flat, Ready};
-ghost use Rattle.walk.specs.Walk.{Listed, Bound, Bounds, tight, tightened, mostPart, Partable};
+ghost use Rattle.walk.specs.Walk.{Listed, First, Bounds, tight, tightened, mostPart, Partable};
 
 // Where a bound, in kW, is below this, and a factor p below the next, their product is below 2^64 and is made.
 const BOUND_BELOW: u64 = 1 << 44;
@@ -57,11 +57,11 @@ fn first_bounds(rows: usize, borders: usize, p: &[u64], margins: &[u64], bounds:
     }
 }
 
-// .. for border `b`: the margin of the first row that loads it, or 0. No row allows more than its margin, and this takes no division.
-fn first_bound(rows: usize, borders: usize, p: &[u64], margins: &[u64], b: usize) -> u64
+// .. for border `b`: the margin of the first row that loads it, or 0. No row allows more than its margin, not even to a border alone, and this takes no division.
+pub fn first_bound(rows: usize, borders: usize, p: &[u64], margins: &[u64], b: usize) -> u64
     requires { ⌜ (rows * borders ≤ length (now p)) × (b < borders) ⌝ }
     requires { ⌜ length (now margins) ≡ rows ⌝ }
-    ensures { λ v. ⌜ Bound (flat rows borders (now (p .entry))) (now (margins .entry)) b v ⌝ }
+    ensures { λ v. ⌜ First (flat rows borders (now (p .entry))) (now (margins .entry)) b v ⌝ }
 {
     for i in 0..rows {
         if rounds::factor(rows, borders, p, i, b) > 0 {
@@ -119,7 +119,7 @@ fn lower_bounds(
 }
 
 // A border's bound, once a row's share is known and its factor `f` there. Tried by a product where that fits, and divided only where the bound is too high.
-fn tighten(f: u64, share: u64, bound: u64) -> u64
+pub fn tighten(f: u64, share: u64, bound: u64) -> u64
     ensures { λ r. ⌜ r ≡ tight f share bound ⌝ }
 {
     if bound < BOUND_BELOW && f < FACTOR_BELOW {
@@ -170,7 +170,7 @@ pub fn row_parts(
 }
 
 // The larger of two.
-fn larger(a: u64, b: u64) -> u64
+pub fn larger(a: u64, b: u64) -> u64
     ensures { λ r. ⌜ r ≡ max a b ⌝ }
 {
     if a < b { b } else { a }

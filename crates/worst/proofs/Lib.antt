@@ -1,2 +1,4 @@
+pub mod Anchors
 pub mod TopLaws
 pub mod Worst
+pub mod Calls

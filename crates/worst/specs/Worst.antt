@@ -1,7 +1,17 @@
--- How large a starting margin, and how many rounds, can get: of any table that is accepted (`proofs/Worst.antt`).
-use Prim.Native.Nat.{ℕ, _+_, _*_, _-_}
+-- How large a starting margin, and how many rounds, can get: of any table that is accepted (`proofs/Worst.antt`); and what is known of a call's rounds beforehand
+-- (`proofs/Calls.antt`).
+use mathlib.Core.Path.{_≡_}
+use mathlib.Core.Bool.{Bool, cond}
+use mathlib.Core.List.{List}
+use Prim.Native.Nat.{ℕ, _+_, _*_, _-_, _≤_}
 use Rattle.kinds.specs.Limits.{bordersMost, fmaxMost, flowMost, shareMost, ltaMost}
+use Rattle.kinds.specs.Ranges.{isIntraday}
+use Rattle.kinds.specs.Refusals.{Judged, passed}
+use Rattle.table.specs.Table.{Table}
 use Rattle.margin.specs.Bounds.{f0coreMost, pMost, netFlowMost}
+use Rattle.extraction.specs.Extraction.{Result}
+use Rattle.bound.specs.Bound.{boundOf}
+use Rattle.answer.specs.Result.{resultText}
 
 -- RAM - S, grains: R x Fmax / 10000 - Fuaf can be the largest of RAM's values, 165,000,000,000,000; S, where it is larger, is taken off
 abbrev pub startTop : ℕ
@@ -15,9 +25,21 @@ ltaTop = ltaMost * 1000
 abbrev pub lateTop : ℕ
 lateTop = (bordersMost - 1) * (pMost * ltaTop) + netFlowMost
 
--- the most rounds of a table without T lines, and with them. hours/worst64.tsv has the first
-abbrev pub roundsWorst : ℕ
-roundsWorst = 1852
+-- the most rounds of a table without T lines, and with them: hours/worst64.tsv and hours/late.tsv take so many
+abbrev pub roundsWorst : (intraday : Bool) → ℕ
+roundsWorst intraday = cond intraday 1910 1852
 
-abbrev pub lateWorst : ℕ
-lateWorst = 1910
+-- what is known of k rounds, of a table with these borders marked: they are at most the sharper bound, which is at most 2 N L, and at most the most of any table
+pub record Known (marked : ℕ → Bool) (t : Table) (k : ℕ) : Type 0 where
+  pub sharp : k ≤ boundOf marked t .sharp
+  pub sharper : boundOf marked t .sharp ≤ boundOf marked t .rounds
+  pub worst : boundOf marked t .sharp ≤ roundsWorst (isIntraday (t .header))
+  pub most : k ≤ roundsWorst (isIntraday (t .header))
+
+-- .. of a text: what was read is a table, and what is printed the text of a result of such rounds
+pub record TextKnown (marked : ℕ → Bool) (read : Judged Table) (answered : List ℕ) : Type 0 where
+  pub table : Table
+  pub result : Result
+  pub is : read ≡ passed table
+  pub printed : answered ≡ resultText result
+  pub known : Known marked table (result .outcome .rounds)

@@ -10,7 +10,7 @@ use Rattle.marks.specs.Marks.{flagged}
 use Rattle.table.specs.Table.{Table, lent}
 use Rattle.margin.proofs.JudgedLaws.{good-factors, good-borders}
 use Rattle.start.proofs.StartLaws.{PreparedAs, prepared-as, rows-in, laid-grid, laid-margins, grid-long}
-use Rattle.bound.proofs.BoundLaws.{start-refused, start-passed, laid-bound, start-long}
+use Rattle.bound.proofs.BoundLaws.{start-refused, start-passed, laid-bound, start-long, start-small}
 use Rattle.bound.proofs.bound_in.Statement.{statement}
 use Rattle.bound.proofs.bound_in.Tie as tie
 
@@ -69,9 +69,10 @@ measure-requires c κs =
     let q = c .before .before .before .before .before .before .before .before .before .before .before .before .before .before .before .before .before .before .before .before .before .before .before .before .before .before .before .pre in
     let said = as-said (c .before .before .before .before .before .before .before .before .before .before .before .before .before .before .before .before .before .before) in
     let t = given (c .before .before .before .before .before .before .before .before .before .before .before .before .before .before .before .before .before .before .before .before .before .before .before .before .before .before .before) in
-    let laid = c .before .before .before .before .before .before .before in (
+    let laid = c .before .before .before .before .before .before .before in
+    let margins = laid-margins t (said .rows) (said .starts-are) (laid .lay-out .ensures .1) in (
       (omega (arith, grid-long _ t (laid-grid _ t (said .rows) (laid .lay-out .ensures .0))), header-in _ (q .0 .exact .header) .borders-most),
-      (ap length (laid-margins t (said .rows) (said .starts-are) (laid .lay-out .ensures .1)) ∙ start-long t, q .1 .1 .1 .1 .0),
+      ((ap length margins ∙ start-long t, q .1 .1 .1 .1 .0), start-small (q .0) margins),
     )
 
 same-length-4 : tie.Need-same-length-4

@@ -17,39 +17,33 @@ l-short c = omega (arith, c .digit-count2 .ensures, decimal-u64 (c .before .befo
 rounds-short : (c : tie.After-digit-count3) → c .digit-count3 .result ≤ 20
 rounds-short c = omega (arith, c .digit-count3 .ensures, decimal-u64 (c .before .before .before .args .rounds) (c .before .before .before .fits .rounds .fits))
 
-digit-count-requires : tie.Need-digit-count-requires
-digit-count-requires c κs = search needs
-
-digit-count-requires-2 : tie.Need-digit-count-requires-2
-digit-count-requires-2 c κs = search needs
-
-add-result : tie.Need-add-result
-add-result c = omega (arith, n-short (c .before))
-
-add-result-2 : tie.Need-add-result-2
-add-result-2 c = omega (arith, n-short (c .before), l-short (c))
-
-digit-count-requires-3 : tie.Need-digit-count-requires-3
-digit-count-requires-3 c κs = search needs
-
-add-result-3 : tie.Need-add-result-3
-add-result-3 c = omega (arith, n-short (c .before .before), l-short (c .before), rounds-short (c))
+sharp-short : (c : tie.After-digit-count4) → c .digit-count4 .result ≤ 20
+sharp-short c = omega (arith, c .digit-count4 .ensures, decimal-u64 (c .before .before .before .before .args .sharp) (c .before .before .before .before .fits .sharp .fits))
 
 returns : tie.Need-returns
 returns c =
-    let s = c .before .before .before in (
-      omega (arith, bound-line-long (s .args .n) (s .args .l) (s .args .rounds), c .before .before .digit-count .ensures, c .before .digit-count2 .ensures, c .digit-count3 .ensures),
-      omega (arith, n-short (c .before .before), l-short (c .before), rounds-short (c)),
+    let s = c .before .before .before .before in (
+      omega (
+        arith,
+        bound-line-long (s .args .n) (s .args .l) (s .args .rounds) (s .args .sharp),
+        c .before .before .before .digit-count .ensures,
+        c .before .before .digit-count2 .ensures,
+        c .before .digit-count3 .ensures,
+        c .digit-count4 .ensures,
+      ),
+      omega (arith, n-short (c .before .before .before), l-short (c .before .before), rounds-short (c .before), sharp-short (c)),
     )
 
 pub line-length-spec : {M : Type 1} → statement M
 line-length-spec =
     tie.close
     (tie.spec
-    digit-count-requires
-    digit-count-requires-2
-    add-result
-    add-result-2
-    digit-count-requires-3
-    add-result-3
+    (λ c κs. search needs)
+    (λ c κs. search needs)
+    (λ c κs. search needs)
+    (λ c. omega (arith, n-short (c .before .before)))
+    (λ c. omega (arith, n-short (c .before .before), l-short (c .before)))
+    (λ c. omega (arith, n-short (c .before .before), l-short (c .before), rounds-short (c)))
+    (λ c κs. search needs)
+    (λ c. omega (arith, n-short (c .before .before .before), l-short (c .before .before), rounds-short (c .before), sharp-short (c)))
     returns)

@@ -37,34 +37,46 @@ module _ (c : tie.After-put-number-field3) where
   rounds-put : Begun (code "U") (decimal (start4 .args .n) ∷ decimal (start4 .args .l) ∷ decimal (start4 .args .rounds) ∷ []) 0 (start4 .args .out .now) (c .put-number-field3 .result) (c .put-number-field3 .last .1 .0)
   rounds-put = line-more (omega arith) (l-put (c .before .before .before .before)) (c .put-number-field3 .ensures)
 
+module _ (c : tie.After-put-number-field4) where
+  abbrev start5 : tie.Start
+  start5 = start4 (c .before .before .before .before)
+
+  sharp-put : Begun (code "U") (decimal (start5 .args .n) ∷ decimal (start5 .args .l) ∷ decimal (start5 .args .rounds) ∷ decimal (start5 .args .sharp) ∷ []) 0 (start5 .args .out .now) (c .put-number-field4 .result) (c .put-number-field4 .last .1 .0)
+  sharp-put = line-more (omega arith) (rounds-put (c .before .before .before .before)) (c .put-number-field4 .ensures)
+
 put-byte-requires : tie.Need-put-byte-requires
 put-byte-requires c κs =
     let s = c .before .before in
-    room-first (code "U") (decimal (s .args .n) ∷ decimal (s .args .l) ∷ decimal (s .args .rounds) ∷ []) (omega (arith, s .pre))
+    room-first (code "U") (decimal (s .args .n) ∷ decimal (s .args .l) ∷ decimal (s .args .rounds) ∷ decimal (s .args .sharp) ∷ []) (omega (arith, s .pre))
 
 put-number-field-requires : tie.Need-put-number-field-requires
 put-number-field-requires c κs =
     let s = c .before .before .before .before .before .before in
-    room-more (letter (c .before .before .before)) (decimal (s .args .n)) (decimal (s .args .l) ∷ decimal (s .args .rounds) ∷ []) (omega (arith, s .pre))
+    room-more (letter (c .before .before .before)) (decimal (s .args .n)) (decimal (s .args .l) ∷ decimal (s .args .rounds) ∷ decimal (s .args .sharp) ∷ []) (omega (arith, s .pre))
 
 put-number-field-requires-2 : tie.Need-put-number-field-requires-2
 put-number-field-requires-2 c κs =
     let s = c .before .before .before .before .before .before .before .before .before .before in
-    room-more (n-put (c .before .before .before)) (decimal (s .args .l)) (decimal (s .args .rounds) ∷ []) (omega (arith, s .pre))
+    room-more (n-put (c .before .before .before)) (decimal (s .args .l)) (decimal (s .args .rounds) ∷ decimal (s .args .sharp) ∷ []) (omega (arith, s .pre))
 
 put-number-field-requires-3 : tie.Need-put-number-field-requires-3
 put-number-field-requires-3 c κs =
     let s = c .before .before .before .before .before .before .before .before .before .before .before .before .before .before in
-    room-more (l-put (c .before .before .before)) (decimal (s .args .rounds)) [] (omega (arith, s .pre))
+    room-more (l-put (c .before .before .before)) (decimal (s .args .rounds)) (decimal (s .args .sharp) ∷ []) (omega (arith, s .pre))
+
+put-number-field-requires-4 : tie.Need-put-number-field-requires-4
+put-number-field-requires-4 c κs =
+    let s = c .before .before .before .before .before .before .before .before .before .before .before .before .before .before .before .before .before .before in
+    room-more (rounds-put (c .before .before .before)) (decimal (s .args .sharp)) [] (omega (arith, s .pre))
 
 put-byte-requires-2 : tie.Need-put-byte-requires-2
-put-byte-requires-2 c κs = room-last (rounds-put (c .before .before .before)) (omega (arith, c .before .before .before .before .before .before .before .before .before .before .before .before .before .before .before .before .before .before .pre))
+put-byte-requires-2 c κs = room-last (sharp-put (c .before .before .before)) (omega (arith, c .before .before .before .before .before .before .before .before .before .before .before .before .before .before .before .before .before .before .before .before .before .before .pre))
 
 same-length : tie.Need-same-length
 same-length c = search needs
 
 returns : tie.Need-returns
-returns c = line-all (omega arith) (rounds-put (c .before .before .before .before .before .before)) (c .before .before .put-byte2 .ensures)
+returns c = line-all (omega arith) (sharp-put (c .before .before .before .before .before .before)) (c .before .before .put-byte2 .ensures)
 
 pub put-bound-spec : {M : Type 1} → statement M
 put-bound-spec =
@@ -74,6 +86,7 @@ put-bound-spec =
     put-number-field-requires
     put-number-field-requires-2
     put-number-field-requires-3
+    put-number-field-requires-4
     put-byte-requires-2
     same-length
     returns)

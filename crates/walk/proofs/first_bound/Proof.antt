@@ -1,8 +1,8 @@
--- `walk::first_bound` meets its contract: no row before i loads the border (`Unloaded`); the first that does bounds the raise by its margin.
+-- `walk::first_bound` meets its contract: no row before i loads the border (`Unloaded`); the first that does allows no more than its margin.
 use Prim.Native.Nat.{_-_}
 use native.Mathlib.Omega.{arith}
 use Rattle.rounds.specs.Work.{flat}
-use Rattle.walk.proofs.BoundLaws.{margin-bound, Unloaded, unloaded-none, unloaded-more, unloaded-all}
+use Rattle.walk.proofs.BoundLaws.{margin-first, Unloaded, unloaded-none, unloaded-more, unloaded-first}
 use Rattle.walk.proofs.first_bound.Statement.{statement}
 use Rattle.walk.proofs.first_bound.Tie as tie
 
@@ -24,13 +24,13 @@ shared-slice-read-result c =
     omega (arith, entry .pre .1)
 
 returns : tie.Need-returns Inv-loop μ-loop
-returns c = margin-bound _ _ _ _ _ (omega arith) (c .before .before .factor .ensures) (c .before .if1 .taken)
+returns c = margin-first _ _ _ _ _ (omega arith) (c .before .before .factor .ensures) (c .before .if1 .taken)
 
 loop-again : tie.Need-loop-again Inv-loop μ-loop
 loop-again c = unloaded-more (c .before .before .before .loop .inv) _ (omega arith) (c .before .factor .ensures) (c .if1 .left)
 
 returns-2 : tie.Need-returns-2 Inv-loop μ-loop
-returns-2 c = unloaded-all (c .before .loop .inv) _ (omega arith)
+returns-2 c = unloaded-first (c .before .loop .inv) _ (omega arith)
 
 pub first-bound-spec : {M : Type 1} → statement M
 first-bound-spec =

@@ -3,7 +3,7 @@ use mathlib.Core.Path.{sym, _∙_}
 use Prim.Native.Nat.{_-_}
 use native.Mathlib.Omega.{arith}
 use Rattle.rounds.specs.Work.{flat}
-use Rattle.walk.proofs.BoundLaws.{FirstBounds, first-bounds-none, first-bounds-more, first-bounds-all}
+use Rattle.walk.proofs.BoundLaws.{first-bound, FirstBounds, first-bounds-none, first-bounds-more, first-bounds-all}
 use Rattle.walk.proofs.first_bounds.Statement.{statement}
 use Rattle.walk.proofs.first_bounds.Tie as tie
 
@@ -25,7 +25,7 @@ slice-write-bounds : tie.Need-slice-write-bounds Inv-loop μ-loop
 slice-write-bounds c = omega (arith, c .before .before .loop .inv .long)
 
 loop-again : tie.Need-loop-again Inv-loop μ-loop
-loop-again c = first-bounds-more (c .before .before .loop .inv) (omega arith) _ (c .first-bound .ensures)
+loop-again c = first-bounds-more (c .before .before .loop .inv) (omega arith) _ (first-bound (c .first-bound .ensures))
 
 same-length : tie.Need-same-length Inv-loop μ-loop
 same-length c =

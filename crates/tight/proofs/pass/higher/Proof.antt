@@ -7,42 +7,49 @@ use borrow.Author.Tests.{leb-true}
 use lib.ListN.{length}
 use Rattle.numbers.proofs.BelowLaws.{table-long}
 use Rattle.rounds.specs.Work.{flat}
-use Rattle.tight.proofs.PassLaws.{Walked, walked-none, walked-more, walked-under, walked-all, counted-at}
+use Rattle.tight.proofs.PassLaws.{Walked, walked-none, walked-fits, walked-more, walked-under, walked-all, counted-at, counted-few}
 use Rattle.tight.proofs.pass.higher.Statement.{statement}
 use Rattle.tight.proofs.pass.higher.Tie as tie
 
 abbrev Inv-loop : tie.InvT-loop
-Inv-loop rows borders p margins ns b most first low₀ i₀ low i = Walked (flat rows borders p) margins b i low
+Inv-loop rows borders p margins ns n b most first low₀ i₀ low i = Walked (flat rows borders p) margins b i low
 
 abbrev μ-loop : tie.MeasureT-loop
-μ-loop rows borders p margins ns b most first low₀ i₀ low i = rows - i
+μ-loop rows borders p margins ns n b most first low₀ i₀ low i = rows - i
 
-first-margin-requires : tie.Need-first-margin-requires Inv-loop μ-loop
-first-margin-requires c κs = let q = c .before .before .before .pre .0 in (q .0, q .1, q .2)
+first-bound-requires : tie.Need-first-bound-requires Inv-loop μ-loop
+first-bound-requires c κs = let q = c .before .before .before .pre .0 in ((q .0, q .3), q .1)
 
 loop-holds : tie.Need-loop-holds Inv-loop μ-loop
-loop-holds c = walked-none (c .first-margin .ensures)
+loop-holds c = let q = c .before .before .before .before .pre in walked-none (q .0 .1) (q .1 .1) (c .first-bound .ensures)
 
 returns : tie.Need-returns Inv-loop μ-loop
 returns c = walked-under (c .before .before .before .before .before .before .before .loop .inv) (c .before .before .before .if1 .taken) (leb-true _ _ (c .if2 .taken))
 
 factor-requires : tie.Need-factor-requires Inv-loop μ-loop
-factor-requires c κs = let q = c .before .before .before .before .before .before .before .before .before .pre .0 in (q .0, omega arith, q .2)
+factor-requires c κs = let q = c .before .before .before .before .before .before .before .before .before .pre .0 in (q .0, omega arith, q .3)
 
 -- a number for each row
 shared-slice-read-lower : tie.Need-shared-slice-read-lower Inv-loop μ-loop
 shared-slice-read-lower c =
     let q = c .before .before .before .before .before .before .before .before .before .before .before .pre in
-    omega (arith, ap length (q .1) ∙ table-long _ _)
+    omega (arith, ap length (q .1 .0 .0) ∙ table-long _ _)
 
 shared-slice-read-lower-2 : tie.Need-shared-slice-read-lower-2 Inv-loop μ-loop
 shared-slice-read-lower-2 c = omega (arith, c .before .before .before .before .before .before .before .before .before .before .before .before .pre .0 .1)
+
+lower-requires : tie.Need-lower-requires Inv-loop μ-loop
+lower-requires c κs =
+    let entry = c .before .before .before .before .before .before .before .before .before .before .before .before in
+    let walked = c .before .before .before .before .before .before .before .loop .inv in
+    let g = flat (entry .args .rows) (entry .args .borders) (entry .args .p .now) in
+    (counted-few g (entry .pre .1 .0 .0) (entry .pre .1 .0 .1) _ (omega arith), walked .below, walked-fits walked (entry .pre .1 .0 .1) (entry .pre .0 .2))
 
 loop-again : tie.Need-loop-again Inv-loop μ-loop
 loop-again c =
     let entry = c .before .before .before .before .before .before .before .before .before .before .before .before .before in
     walked-more (c .before .before .before .before .before .before .before .before .loop .inv) (omega arith) (c .before .before .before .factor .ensures)
-    (counted-at (flat (entry .args .rows) (entry .args .borders) (entry .args .p .now)) (entry .pre .1) _ (omega arith)) (c .lower .ensures)
+    (counted-at (flat (entry .args .rows) (entry .args .borders) (entry .args .p .now)) (entry .pre .1 .0 .0) _ (omega arith)) (c .lower .ensures)
 
 returns-2 : tie.Need-returns-2 Inv-loop μ-loop
 returns-2 c = walked-all (c .before .before .before .loop .inv) (omega arith) (c .before .larger .ensures) (c .larger2 .ensures)
@@ -53,7 +60,7 @@ higher-spec =
     (tie.spec
     Inv-loop
     μ-loop
-    first-margin-requires
+    first-bound-requires
     loop-holds
     returns
     factor-requires
@@ -61,7 +68,7 @@ higher-spec =
     shared-slice-read-lower
     (λ c. omega arith)
     shared-slice-read-lower-2
-    (λ c κs. search needs)
+    lower-requires
     (λ c. omega arith)
     (λ c. omega arith)
     loop-again

@@ -7,16 +7,16 @@ use Rattle.tight.proofs.pass.highest.Statement.{statement}
 use Rattle.tight.proofs.pass.highest.Tie as tie
 
 abbrev Inv-loop : tie.InvT-loop
-Inv-loop rows borders p margins ns most₀ b₀ most b = Both (flat rows borders p) margins b most
+Inv-loop rows borders p margins ns n most₀ b₀ most b = Both (flat rows borders p) margins b most
 
 abbrev μ-loop : tie.MeasureT-loop
-μ-loop rows borders p margins ns most₀ b₀ most b = borders - b
+μ-loop rows borders p margins ns n most₀ b₀ most b = borders - b
 
 loop-holds : tie.Need-loop-holds Inv-loop μ-loop
 loop-holds c = both-none _ _
 
 higher-requires : tie.Need-higher-requires Inv-loop μ-loop
-higher-requires c κs = let q = c .before .before .before .before .before .pre in ((q .0 .0, q .0 .1, omega arith), q .1)
+higher-requires c κs = let q = c .before .before .before .before .before .pre in ((q .0 .0, q .0 .1, q .0 .2, omega arith), q .1)
 
 loop-again : tie.Need-loop-again Inv-loop μ-loop
 loop-again c = both-more (c .before .before .loop .inv) (omega arith) (c .higher .ensures)

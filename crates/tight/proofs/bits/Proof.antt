@@ -1,14 +1,14 @@
--- `bound::measure::bits` meets its contract. The invariant: `rest` is v halved `count` times. The measure is `rest`.
+-- `tight::bits` meets its contract. The invariant: `half` is v halved `count` times. The measure is `half`.
 use native.Mathlib.Omega.{arith}
-use Rattle.bound.proofs.MeasureLaws.{Halved, halved-none, halved-more, halved-few, halved-all}
-use Rattle.bound.proofs.measure.bits.Statement.{statement}
-use Rattle.bound.proofs.measure.bits.Tie as tie
+use Rattle.tight.proofs.BitsLaws.{Halved, halved-none, halved-more, halved-few, halved-all}
+use Rattle.tight.proofs.bits.Statement.{statement}
+use Rattle.tight.proofs.bits.Tie as tie
 
 abbrev Inv-loop : tie.InvT-loop
-Inv-loop v rest₀ count₀ rest count = Halved v rest count
+Inv-loop v half₀ count₀ half count = Halved v half count
 
 abbrev μ-loop : tie.MeasureT-loop
-μ-loop v rest₀ count₀ rest count = rest
+μ-loop v half₀ count₀ half count = half
 
 loop-holds : tie.Need-loop-holds Inv-loop μ-loop
 loop-holds c = halved-none _

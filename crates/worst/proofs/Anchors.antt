@@ -1,0 +1,83 @@
+-- The most rounds, from the largest starts, and what the statements say of the hour that 01 checks whole, computed. Nobody cites them: they refuse a definition or a
+-- statement that slipped.
+use mathlib.Core.Path.{_≡_, refl}
+use mathlib.Core.Bool.{Bool, true, false}
+use mathlib.Core.List.{[], _∷_}
+use Prim.Native.Nat.{ℕ, _+_, _≤_}
+use native.Mathlib.Omega.{arith}
+use lib.Dec.{eqb}
+use lib.IntN.{pos}
+use Rattle.numbers.specs.Below.{ifZero, sum, count, largest, lesser, least, orZero, table, firstFrom, given}
+use Rattle.numbers.specs.Ints.{minus, maxℤ, minℤ, positivePart, sumℤ, sameℤ}
+use Rattle.kinds.specs.Limits.{bordersMost}
+use Rattle.kinds.specs.Ranges.{hubsOf, borderOf, shareOf, rowOf, worth, defaultOf}
+use Rattle.table.specs.Table.{Table, stretch}
+use Rattle.rounds.specs.Rounds.{sharers, alone, mostSharers, bitsTo, bits, aloneBits}
+use Rattle.margin.specs.Margin.{grains, f0coreOf, fuafOf, baseOf, amrOf, signedFactor, pOf, ltaKw, sOf, ltaMarginOf, ramOf, ramAt}
+use Rattle.states.specs.States.{highest, lowest, spreadOf, shifted, below, stateOf}
+use Rattle.start.specs.Setup.{gridBy, beginBy}
+use Rattle.start.specs.Start.{rowsOf, kept, every, setupWith}
+use Rattle.tight.specs.Tight.{shareUp, cut, stepsWithin, steps, rowReach, reach, farthest, tightBound}
+use Rattle.tight.specs.Measure.{boundBy}
+use Rattle.worst.specs.Worst.{startTop, ltaTop, lateTop, roundsWorst, Known}
+
+-- the hour of 01, and the same with another profile in its header
+abbrev hour : (intraday : ℕ) → Table
+hour intraday =
+    record {
+      header = record { zones = 3; borders = 2; rows = 4; share = minus 1; intraday = intraday };
+      nets = pos 500000 ∷ minus 200000 ∷ minus 300000 ∷ [];
+      allocated = [];
+      borders = (pos 0 ∷ pos 1 ∷ pos 100 ∷ minus 1 ∷ minus 1 ∷ []) ∷ (pos 1 ∷ pos 2 ∷ pos 200 ∷ minus 1 ∷ minus 1 ∷ []) ∷ [];
+      rows =
+          (pos 1000000 ∷ pos 200000 ∷ pos 200000 ∷ pos 150000 ∷ pos 7000 ∷ pos 0 ∷ pos 80000 ∷ [])
+          ∷ (pos 100000 ∷ pos 10000 ∷ pos 15000 ∷ pos 0 ∷ pos 7000 ∷ pos 0 ∷ pos 0 ∷ [])
+          ∷ (pos 100000 ∷ pos 0 ∷ pos 0 ∷ pos 0 ∷ pos 0 ∷ pos 0 ∷ pos 0 ∷ [])
+          ∷ (pos 1000000 ∷ pos 0 ∷ pos 130000 ∷ pos 0 ∷ pos 7000 ∷ pos 0 ∷ pos 0 ∷ [])
+          ∷ [];
+      factors =
+          pos 30000 ∷ pos 10000 ∷ pos 0
+          ∷ pos 5000 ∷ pos 5000 ∷ pos 0
+          ∷ pos 4999 ∷ pos 0 ∷ pos 0
+          ∷ pos 20000 ∷ pos 0 ∷ minus 10000
+          ∷ [];
+    }
+
+-- the second border alone
+abbrev second : (b : ℕ) → Bool
+second b = eqb b 1
+
+pub record Tops : Type 0 where
+  -- the largest start without T lines, grains, and the largest quotient of a start with them and its factor, kW
+  pub start : startTop ≡ 165000000000000
+  pub late-start : lateTop + ltaTop ≡ 412000010000000
+  -- 64 borders cut these so often
+  pub day : roundsWorst false ≡ steps bordersMost startTop
+  pub late : roundsWorst true ≡ steps bordersMost (lateTop + ltaTop)
+
+pub tops : Tops
+unfolding shareUp cut stepsWithin steps
+tops = record { start = refl; late-start = refl; day = refl; late = refl }
+
+pub record Statement : Type 0 where
+  -- 01's hour has 21 rounds, and can have 22; 88 is 2 N L
+  pub sharper : Known every (hour 0) 21 → 22 ≤ 88
+  pub worst : Known every (hour 0) 21 → 22 ≤ 1852
+  pub many : Known every (hour 0) 23 → ⊥
+  -- of the second border alone 1
+  pub many-marked : Known second (hour 0) 2 → ⊥
+  -- more than any table has
+  pub most : Known every (hour 0) 1853 → ⊥
+  pub late-most : Known every (hour 1) 1911 → ⊥
+
+pub statement : Statement
+unfolding ifZero sum count largest lesser least orZero table firstFrom given maxℤ minℤ positivePart sumℤ sameℤ hubsOf borderOf shareOf rowOf worth defaultOf stretch sharers alone mostSharers bitsTo bits aloneBits grains f0coreOf fuafOf baseOf amrOf signedFactor pOf ltaKw sOf ltaMarginOf ramOf ramAt highest lowest spreadOf shifted below stateOf gridBy beginBy rowsOf kept setupWith shareUp cut stepsWithin steps rowReach reach farthest tightBound boundBy
+statement =
+    record {
+      sharper = λ d. d .sharper;
+      worst = λ d. d .worst;
+      many = λ d. let h : 23 ≤ 22 = d .sharp in omega arith;
+      many-marked = λ d. let h : 2 ≤ 1 = d .sharp in omega arith;
+      most = λ d. let h : 1853 ≤ 1852 = d .most in omega arith;
+      late-most = λ d. let h : 1911 ≤ 1910 = d .most in omega arith;
+    }
