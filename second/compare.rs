@@ -5,9 +5,11 @@
 //!
 //! Arguments: that process's program and its own arguments, "--", number of
 //! tables, number of damaged texts, seed (each number may be left out).  At the
-//! first difference both answers and the table are printed and the exit code is
-//! 1; a call that ends the process is a difference too.  A run that does not
-//! reach every refusal number and the other cases listed in `wanted` fails too.
+//! first difference both answers, the table and how to see it again are printed and
+//! the exit code is 1; a call that ends the process is a difference too.  With the
+//! fixed seed a run that does not reach every refusal number and the other cases
+//! listed in `wanted` fails too.  With another seed a case may be missed by chance:
+//! such a run only says so.
 //!
 //! With SHOW_CASES set, how often each case was reached; with SHOW_EACH set,
 //! each table's and text's number before it is tried (for a library that does
@@ -60,6 +62,7 @@ use ways::HOURS;
 
 const TABLES: u64 = 20_000;
 const TEXTS: u64 = 20_000;
+/// The fixed seed, of a run to which none is given.
 const SEED: u64 = 20_260_101;
 
 /// One table in so many has, beside it, a table made for the corner sheet.
@@ -94,6 +97,8 @@ struct Comparison {
     /// where the small sheets of rows are damaged
     row_places: Vec<(usize, damage::Place)>,
     seed: u64,
+    /// the command that makes the same run
+    again: String,
     kind: &'static str,
     number: u64,
     calls: u64,
@@ -122,6 +127,7 @@ impl Comparison {
     fn fail(&self, call: &str, details: &str, shown: &[u8]) -> ! {
         println!("DIFFERENCE in {call}");
         println!("seed {}, {} number {}, call number {}", self.seed, self.kind, self.number, self.calls);
+        println!("to see it again: {}", self.again);
         println!("{details}");
         println!("the table's text ({} bytes):", shown.len());
         match std::str::from_utf8(shown) {
@@ -508,6 +514,7 @@ fn main() {
         list_places: claim_cases::list_places(),
         row_places: row_cases::row_places(),
         seed,
+        again: format!("second/compare LIBRARY {tables} {texts} {seed}"),
         kind: "",
         number: 0,
         calls: 0,
@@ -590,6 +597,7 @@ fn main() {
     }
     if let Err(Ended(how)) = c.bridge.end() {
         println!("DIFFERENCE after the last call: the process that makes the calls ended: {how}");
+        println!("to see it again: {}", c.again);
         std::process::exit(1);
     }
 
@@ -614,6 +622,10 @@ fn main() {
     if c.accepted * 5 < tables * 2 {
         missed.push(format!("accepted: {} of {tables} tables, wanted two fifths", c.accepted));
     }
+    let missed = missed.join("; ");
+    if seed != SEED && !missed.is_empty() {
+        println!("cases not reached often enough, as may be with a drawn seed: {missed}");
+    }
     let refusals: Vec<String> =
         REFUSALS.map(|number| format!("{number}: {}", c.numbers[number])).to_vec();
     println!(
@@ -627,5 +639,5 @@ fn main() {
         c.positions,
         c.most_rounds
     );
-    assert!(missed.is_empty(), "cases not reached often enough: {}", missed.join("; "));
+    assert!(seed != SEED || missed.is_empty(), "cases not reached often enough: {missed}");
 }
