@@ -2,12 +2,12 @@
 //! made for them; the promise that an accepted list keeps.
 
 use crate::calls::Judged;
-use crate::claim_lists::{self, Made, TEXT_WAYS, WAYS};
+use crate::claim_lists::{self, Claim, Made, TEXT_WAYS, WAYS};
 use crate::damage::TABLE_FIELDS;
 use crate::dice::Dice;
 use crate::lent::{needed, short, with_extra, Lent, LentTables, KINDS};
 use crate::promises::factors;
-use crate::second::claims::{self, ClaimRecord};
+use crate::second::claims::{self, ClaimRecord, MOST_PAIRS};
 use crate::second::{self, Refusal, Tables, MOST_BYTES, MOST_ROWS};
 use crate::{damage, refused_at, Comparison, NO_REFUSAL};
 
@@ -16,6 +16,11 @@ use crate::{damage, refused_at, Comparison, NO_REFUSAL};
 const SMALL_TABLE: &str =
     "H 3 1 5/Z 0 0/Z 1 0/Z 2 0/B 0 0 1 0/C 0 100 0 0 0 0 0 0 20000 0 0/C 1 200 0 0 0 0 0 0 0 20000 0/C 2 150 0 0 0 0 0 0 10007 10007 7/C 3 50 0 0 0 0 0 0 10000 0 0/C 4 9 0 0 0 0 0 0 4999 0 0/";
 const SMALL_LISTS: [&str; 3] = ["Q 2 2 0 1 1 1/", "Q 2 2 1 1 0 1/Q 3 10 0 5/", "Q 3 1000 0 500/Q 2 2/"];
+
+/// The lines, from 1, of a list that may be anything, in which a cited row is named.
+const FAR_LINES: [usize; 8] = [2, MOST_ROWS, MOST_ROWS + 1, MOST_ROWS + 2, 256, 257, 1_000, 5_000];
+/// Numbers of pairs that no claim has.
+const BAD_COUNTS: [i64; 7] = [-1, 17, 18, i64::MIN, i64::MAX, 1 << 32, (1 << 32) + 1];
 
 impl Comparison {
     // ----------------------------------------------------------- the calls
@@ -89,6 +94,8 @@ impl Comparison {
             self.faults_before(d, &t, &list.records, &list.text, wanted);
         }
         self.list_texts(d, &made, number);
+        self.long_lists(d, &made);
+        self.bad_counts(d, &made);
     }
 
     /// The list is accepted and keeps its promise; room that is too short.
@@ -173,9 +180,10 @@ impl Comparison {
         let list = claim_lists::in_a_text(claim, shown);
         self.list_text(d, &mut l, name, &list, place.and_then(|place| refused_at(11, place)));
         if d.one_in(8) {
-            for (lines, place) in [(MOST_ROWS, 0), (MOST_ROWS + 1, 1), (MOST_ROWS + 2, 1)] {
-                let list = claim_lists::long_text(claim, lines);
-                self.list_text(d, &mut l, &format!("a row named in line {lines}"), &list, refused_at(11, place));
+            let between = d.of(&["Q\n", "\n", "Q\t9999\t1\n"]);
+            for lines in FAR_LINES {
+                let list = claim_lists::long_text(claim, between, lines);
+                self.list_text(d, &mut l, &format!("a row named in line {lines}"), &list, refused_at(11, 0));
             }
         }
         if d.one_in(16) {
@@ -184,6 +192,50 @@ impl Comparison {
                 self.list_text(d, &mut l, &format!("{bytes} bytes"), &list, refused);
             }
         }
+    }
+
+    /// More claims than there can be rows, as records and as text: what each of them
+    /// names counts, wherever it stands.
+    fn long_lists(&mut self, d: &mut Dice, made: &Made) {
+        let t = &made.t;
+        let named = d.one_in(2);
+        let more = d.of(&[1, 10, 60, 800]);
+        let claims = MOST_ROWS + 1 + d.below(more);
+        let (list, place) = claim_lists::long_list(d, made, claims, named);
+        let wanted = refused_at(11, place);
+        let records = claim_lists::records(d, &list);
+        let mut l = LentTables::new(d, t, needed(t.header));
+        let found = self.claims(d, &mut l, &records).err();
+        let found_text = self.published(d, &mut l, &claim_lists::text(&list)).err();
+        if found != wanted || found_text != wanted {
+            let details = format!("{claims} claims: {found:?}, as text {found_text:?}, by the rules {wanted:?}\n{list:?}");
+            self.fail("keravnoth_claims", &details, &damage::plain_text(t));
+        }
+        let cited = |row: i64| list[place].pairs.iter().any(|(cited, _)| *cited == row);
+        let far = list[MOST_ROWS..].iter().any(|claim| cited(claim.row));
+        self.see(match (named, far) {
+            (false, _) => "long list, no cited row named",
+            (true, false) => "long list, a cited row named",
+            (true, true) => "long list, a cited row named after 200 claims",
+        });
+    }
+
+    /// A record with a number of pairs that no claim has names its row too.
+    fn bad_counts(&mut self, d: &mut Dice, made: &Made) {
+        let t = &made.t;
+        let mut records = claim_lists::records(d, &made.claims);
+        let mut bad = records[d.below(records.len())];
+        let count = d.of(&BAD_COUNTS);
+        (bad[0], bad[2]) = (made.claims[0].pairs[0].0, count);
+        records.push(bad);
+        let mut l = LentTables::new(d, t, needed(t.header));
+        let found = self.claims(d, &mut l, &records).err();
+        let wanted = refused_at(11, 0);
+        if found != wanted {
+            let details = format!("a record of {count} pairs names a cited row: {found:?}, by the rules {wanted:?}\n{records:?}");
+            self.fail("keravnoth_claims", &details, &damage::plain_text(t));
+        }
+        self.see(&format!("claims, a record of {count} pairs names a cited row"));
     }
 
     fn list_text(&mut self, d: &mut Dice, l: &mut LentTables, name: &str, list: &[u8], wanted: Option<Refusal>) {
@@ -195,17 +247,30 @@ impl Comparison {
         self.see(&format!("list, {name}"));
     }
 
-    /// Claims at random about any table, one that the extraction refuses too.
+    /// Claims at random about any table, one that the extraction refuses too: a few, and
+    /// sometimes more than there can be rows.
     pub fn claims_at_random(&mut self, d: &mut Dice, t: &Tables) {
-        let list = claim_lists::at_random(d, t);
-        let records = claim_lists::records(d, &list);
+        let few = d.of(&[0, 1, 1, 2, 4]);
+        let list = claim_lists::at_random(d, t, few);
+        self.judged_both_ways(d, t, &list);
+        // dice of its own: what else the table is tried with stays as it was
+        let mut own = Dice::for_case(self.seed, 24, self.number);
+        let d = &mut own;
+        if d.one_in(8) {
+            let list = claim_lists::many_at_random(d, t);
+            self.judged_both_ways(d, t, &list);
+            self.see("claims at random, over 200");
+        }
+    }
+
+    /// One judging, whichever way the claims came.
+    fn judged_both_ways(&mut self, d: &mut Dice, t: &Tables, list: &[Claim]) {
+        let records = claim_lists::records(d, list);
         let counts = with_extra(d, needed(t.header));
         let mut l = LentTables::new(d, t, counts);
         let found = self.claims(d, &mut l, &records);
-        let text = self.published(d, &mut l, &claim_lists::text(&list));
-        // a line of more pairs names no row, a record does
-        let told = list.iter().all(|claim| claim.pairs.len() <= claims::MOST_PAIRS);
-        if told && found.err() != text.err() {
+        let text = self.published(d, &mut l, &claim_lists::text(list));
+        if found.err() != text.err() {
             self.fail("keravnoth_published_text", "another judgement of the text", &damage::plain_text(t));
         }
     }
@@ -331,9 +396,16 @@ pub fn wanted() -> Vec<(String, u64)> {
     for (name, ..) in TEXT_WAYS {
         add(&format!("list, {name}"), 50);
     }
-    for lines in [MOST_ROWS, MOST_ROWS + 1, MOST_ROWS + 2] {
+    for lines in FAR_LINES {
         add(&format!("list, a row named in line {lines}"), 50);
     }
+    for name in ["no cited row named", "a cited row named", "a cited row named after 200 claims"] {
+        add(&format!("long list, {name}"), 100);
+    }
+    for count in BAD_COUNTS {
+        add(&format!("claims, a record of {count} pairs names a cited row"), 50);
+    }
+    add("claims at random, over 200", 200);
     for bytes in [MOST_BYTES, MOST_BYTES + 1] {
         add(&format!("list, {bytes} bytes"), 50);
     }
@@ -351,7 +423,7 @@ pub fn wanted() -> Vec<(String, u64)> {
     }
     add("true claim, a number of 1000", 50);
     add("true list, most pairs 1", 50);
-    add(&format!("true list, most pairs {}", claims::MOST_PAIRS), 5);
+    add(&format!("true list, most pairs {MOST_PAIRS}"), 5);
     for number in [11, 12] {
         for place in [0, 1] {
             add(&format!("damaged list, {number} at {place}"), 20);

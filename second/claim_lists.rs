@@ -5,7 +5,7 @@
 use crate::dice::Dice;
 use crate::promises::factors;
 use crate::second::claims::{ClaimRecord, CLAIM_ITEMS, MOST_PAIRS};
-use crate::second::{self, Header, Tables, INTRADAY, NO_SHARE, NO_T};
+use crate::second::{self, Header, Tables, INTRADAY, MOST_ROWS, NO_SHARE, NO_T};
 
 /// A claim as the solver means it: row, D, and each cited row with its multiplier.
 #[derive(Clone, Debug)]
@@ -238,7 +238,7 @@ pub struct List {
 }
 
 /// The ways to have a claim, as record and as text.
-pub const WAYS: [&str; 42] = [
+pub const WAYS: [&str; 44] = [
     "as they are",
     "in another order",
     "none",
@@ -268,6 +268,8 @@ pub const WAYS: [&str; 42] = [
     "cites a row claimed before",
     "cites a row claimed after",
     "cites a row that a bad claim names",
+    "cites a row that a claim of 17 pairs names",
+    "cites a row that a claim of many pairs names",
     "claimed again",
     "claimed again by many",
     "D 1 more",
@@ -282,6 +284,16 @@ pub const WAYS: [&str; 42] = [
     "11 before 12",
     "11 and 12",
 ];
+
+/// The first claim that cites the row.
+fn first_citing(claims: &[Claim], row: i64) -> Option<usize> {
+    claims.iter().position(|claim| claim.pairs.iter().any(|(cited, _)| *cited == row))
+}
+
+/// A claim of right numbers but for how many there are.
+fn too_many_pairs(row: i64, pairs: usize) -> Claim {
+    Claim { row, denominator: 1, pairs: vec![(0, 1); pairs] }
+}
 
 /// The list in this way, and the table that it is about; none where the table does
 /// not allow it.
@@ -355,12 +367,19 @@ pub fn in_a_way(d: &mut Dice, made: &Made, way: &str) -> Option<(Tables, List)> 
             }
             claims[at].pairs[pair].0 = claims[at + 1 + d.below(last - at)].row;
         }
-        "cites a row that a bad claim names" => {
-            // the first that cites it
+        "cites a row that a bad claim names"
+        | "cites a row that a claim of 17 pairs names"
+        | "cites a row that a claim of many pairs names" => {
             let cited = claim.pairs[pair].0;
-            let first = claims.iter().position(|claim| claim.pairs.iter().any(|pair| pair.0 == cited))?;
-            refused = Some((11, first));
-            claims.push(Claim { row: cited, denominator: d.of(&[0, 1_001]), pairs: vec![] });
+            refused = Some((11, first_citing(&claims, cited)?));
+            let bad = match way {
+                "cites a row that a bad claim names" => {
+                    Claim { row: cited, denominator: d.of(&[0, 1_001]), pairs: vec![] }
+                }
+                "cites a row that a claim of 17 pairs names" => too_many_pairs(cited, MOST_PAIRS + 1),
+                _ => too_many_pairs(cited, d.of(&[18, 32, 40, 255, 256, 257, 3_000])),
+            };
+            claims.push(bad);
         }
         "claimed again" => {
             let again = claims[at].clone();
@@ -442,8 +461,9 @@ pub fn in_a_way(d: &mut Dice, made: &Made, way: &str) -> Option<(Tables, List)> 
 }
 
 /// The ways to write a list as text; each LF is shown as a slash, each tab as a
-/// blank; the claim of the list stands for &.
-pub const TEXT_WAYS: [(&str, &str, Option<usize>); 35] = [
+/// blank; & stands for the claim of the list, # for what follows its letter, $ for a
+/// row that it cites, ^ for 17 pairs and % for 3,000.
+pub const TEXT_WAYS: [(&str, &str, Option<usize>); 45] = [
     ("empty", "", None),
     ("as it is", "&/", None),
     ("no LF", "&", Some(0)),
@@ -478,6 +498,16 @@ pub const TEXT_WAYS: [(&str, &str, Option<usize>); 35] = [
     ("a line cut off that would name a cited row", "&/Q $ 1", Some(1)),
     ("a bad letter that would name a cited row", "&/D $ 1/", Some(1)),
     ("a line that names a cited row", "&/Q $ 0/", Some(0)),
+    ("a line of 17 pairs that names a cited row", "&/Q $ 1^/", Some(0)),
+    ("a line of 17 pairs before it that names a cited row", "Q $ 1^/&/", Some(0)),
+    ("a line of 17 pairs that names another row", "&/Q 9999 1^/", Some(1)),
+    ("17 pairs and half a pair that would name a cited row", "&/Q $ 1^ 0/", Some(1)),
+    ("17 pairs and a bad number that would name a cited row", "&/Q $ 1^ 0 01/", Some(1)),
+    ("17 pairs and a tab that would name a cited row", "&/Q $ 1^ /", Some(1)),
+    ("17 pairs cut off that would name a cited row", "&/Q $ 1^", Some(1)),
+    ("a line of 3000 pairs that names a cited row", "&/Q $ 1%/", Some(0)),
+    ("3000 pairs and a minus that would name a cited row", "&/Q $ 1% 0 -1/", Some(1)),
+    ("3000 pairs cut off that would name a cited row", "&/Q $ 1%", Some(1)),
     ("twice", "&/&/", Some(1)),
 ];
 
@@ -487,15 +517,17 @@ pub fn in_a_text(claim: &Claim, shown: &str) -> Vec<u8> {
     let line = line.strip_suffix('\n').expect("an LF");
     let tail = line.strip_prefix('Q').expect("a Q");
     let cited = claim.pairs[0].0.to_string();
-    let text = shown.replace(' ', "\t").replace('/', "\n");
+    let pairs = |count: usize| " 0 1".repeat(count);
+    let text = shown.replace('^', &pairs(MOST_PAIRS + 1)).replace('%', &pairs(3_000));
+    let text = text.replace(' ', "\t").replace('/', "\n");
     text.replace('&', line).replace('#', tail).replace('$', &cited).into_bytes()
 }
 
-/// A true claim, bad lines that name no row, and as the line of this number, from 1,
-/// one that names a row that the claim cites; then one more.
-pub fn long_text(claim: &Claim, lines: usize) -> Vec<u8> {
+/// A true claim, lines like this one, and as the line of this number, from 1, one that
+/// names a row that the claim cites; then one more.
+pub fn long_text(claim: &Claim, between: &str, lines: usize) -> Vec<u8> {
     let mut text = claim.line();
-    text += &"Q\n".repeat(lines - 2);
+    text += &between.repeat(lines - 2);
     text += &format!("Q\t{}\t1\n", claim.pairs[0].0);
     text += "Q\n";
     text.into_bytes()
@@ -508,10 +540,59 @@ pub fn of_bytes(claim: &Claim, bytes: usize) -> Vec<u8> {
     text
 }
 
+// ------------------------------------------------------------ long lists
+
+/// More claims than a table can have rows: the true ones, in any order, and then bad
+/// ones.  None of these bears itself out; each names a row: one that is not there, one
+/// not kept, one that is claimed already, or, where `named`, at one place a row that a
+/// true claim cites.  The second number: which claim is to be refused (11).
+pub fn long_list(d: &mut Dice, made: &Made, claims: usize, named: bool) -> (Vec<Claim>, usize) {
+    let mut list = made.claims.clone();
+    list.rotate_left(d.below(made.claims.len()));
+    let rows = made.t.header.rows as i64;
+    while list.len() < claims {
+        let known = d.of(&made.claims.iter().map(|claim| claim.row).collect::<Vec<i64>>());
+        let row = d.of(&[rows, 9_999, made.narrow, made.parallel, known]);
+        list.push(bad_claim(d, row));
+    }
+    let mut refused = made.claims.len();
+    if named {
+        let citing = d.below(refused);
+        let (cited, _) = d.of(&list[citing].pairs);
+        let at = if d.one_in(2) { claims - 1 } else { d.within(refused as i64, claims as i64 - 1) as usize };
+        list[at] = bad_claim(d, cited);
+        refused = first_citing(&list, cited).expect("a true claim cites it");
+    }
+    (list, refused)
+}
+
+/// A claim of right form, by itself or by its row, its pairs or D at fault; nothing but
+/// its row is named.
+fn bad_claim(d: &mut Dice, row: i64) -> Claim {
+    match d.below(4) {
+        0 => Claim { row, denominator: 0, pairs: vec![] },
+        1 => Claim { row, denominator: 1_001, pairs: vec![(row, 1)] },
+        2 => Claim { row, denominator: 1, pairs: vec![(row, 1)] },
+        _ => too_many_pairs(row, d.of(&[17, 18, 40])),
+    }
+}
+
 // ------------------------------------------------------- lists at random
 
-/// Claims about any table: mostly of kept rows, mostly in range, seldom true.
-pub fn at_random(d: &mut Dice, t: &Tables) -> Vec<Claim> {
+/// More claims than there can be rows, some of more pairs than a claim may have.
+pub fn many_at_random(d: &mut Dice, t: &Tables) -> Vec<Claim> {
+    let claims = MOST_ROWS + 1 + d.below(100);
+    let mut list = at_random(d, t, claims);
+    for claim in &mut list {
+        if d.one_in(4) {
+            claim.pairs.resize(d.of(&[MOST_PAIRS + 1, 18, 40]), (0, 1));
+        }
+    }
+    list
+}
+
+/// So many claims about any table: mostly of kept rows, mostly in range, seldom true.
+pub fn at_random(d: &mut Dice, t: &Tables, claims: usize) -> Vec<Claim> {
     let rows = t.header.rows;
     let all: Vec<i64> = (0..rows as i64).collect();
     let good: Vec<i64> = if rows <= 40 { all.iter().copied().filter(|row| kept(t, *row as usize)).collect() } else { vec![] };
@@ -520,7 +601,7 @@ pub fn at_random(d: &mut Dice, t: &Tables) -> Vec<Claim> {
         let some = d.within(1, 1_000);
         if d.one_in(12) { d.of(&[0, 1_001]) } else { d.of(&[1, 1, 2, 1_000, some]) }
     };
-    (0..d.of(&[0, 1, 1, 2, 4]))
+    (0..claims)
         .map(|_| {
             let row = some(d);
             let denominator = number(d);

@@ -1,8 +1,8 @@
 //! Claims of an outside solver (02, E10): which kept rows can go from the published
 //! list.  Quoted sentences are those of the request.
 
-use super::{factors_of, form_of, judge, judge_room, line_at, margin_of, or_e_line, push_line, refuse, states_of, within};
-use super::{Column, Lent, Refusal, Tables, MOST_BYTES, MOST_ROWS};
+use super::{factors_of, fields_of, judge, judge_room, line_at, margin_of, or_e_line, push_line, refuse, states_of, unsigned, within};
+use super::{Lent, Refusal, Tables, MOST_BYTES};
 
 /// "at most 16 pairs of another kept row and a multiplier"
 pub const MOST_PAIRS: usize = 16;
@@ -18,9 +18,10 @@ const MOST: i64 = 1_000;
 
 /// A claim of a list.
 struct Claim {
-    /// the row that it names, none where the claim is a line of wrong form
+    /// the row that it names, whatever else is wrong with the claim; none where it is a
+    /// line of wrong form
     row: Option<i64>,
-    /// D and the pairs, none where they cannot be told
+    /// D and the pairs; none where it has no such number of pairs
     says: Option<(i64, Vec<(i64, i64)>)>,
 }
 
@@ -32,28 +33,34 @@ fn claim_of(record: &ClaimRecord) -> Claim {
 }
 
 fn pairs_of(numbers: &[i64]) -> Vec<(i64, i64)> {
-    numbers.chunks(2).map(|pair| (pair[0], pair[1])).collect()
+    numbers.chunks_exact(2).map(|pair| (pair[0], pair[1])).collect()
 }
 
-/// A line of the list's text: `Q`, row, D, then row and multiplier of each pair.
-fn claim_in(line: &[u8]) -> Claim {
-    let counts: Vec<usize> = (0..=MOST_PAIRS).map(|pairs| 2 + 2 * pairs).collect();
-    match form_of(line, b"Q", &[Column::Unsigned; 2 + 2 * MOST_PAIRS], &counts) {
-        Ok(form) => Claim { row: Some(form.values[0]), says: Some((form.values[1], pairs_of(&form.values[2..]))) },
-        Err(_) => Claim { row: None, says: None },
+/// The numbers of a line of right form: `Q`, row, D, then row and multiplier of each
+/// pair, however many there are.
+fn numbers_in(line: &[u8]) -> Option<Vec<i64>> {
+    let (fields, ended) = fields_of(line);
+    let (letter, fields) = fields.split_first()?;
+    if letter.bytes != b"Q" || !ended || fields.len() < 2 || fields.len() % 2 != 0 {
+        return None;
     }
+    fields.iter().map(|field| unsigned(field.bytes).ok()).collect()
 }
 
-/// The claims of the text, one a line.  No row is claimed twice, so a line after as
-/// many as there can be rows is a malformed claim, and nothing behind it counts.
+fn claim_in(line: &[u8]) -> Claim {
+    let Some(numbers) = numbers_in(line) else {
+        return Claim { row: None, says: None };
+    };
+    let pairs = pairs_of(&numbers[2..]);
+    let says = (pairs.len() <= MOST_PAIRS).then(|| (numbers[1], pairs));
+    Claim { row: Some(numbers[0]), says }
+}
+
+/// The claims of the text, one a line, each line of it.
 fn claims_in(text: &[u8]) -> Vec<Claim> {
     let mut claims = Vec::new();
     let mut start = 0;
     while let Some(line) = line_at(text, start) {
-        if claims.len() == MOST_ROWS {
-            claims.push(Claim { row: None, says: None });
-            break;
-        }
         claims.push(claim_in(line));
         start += line.len();
     }

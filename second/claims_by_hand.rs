@@ -192,15 +192,133 @@ fn lists_as_text() {
     ] {
         assert_eq!(of(list), format!("E 11 {place} 0"), "{}", list.escape_ascii());
     }
-    // 16 pairs have right form, 17 have not: only the line that has names row 0
-    let pairs = |count: usize| "\t1\t1".repeat(count);
-    let many = |count: usize| format!("Q\t3\t2\t0\t1\nQ\t0\t1{}\n", pairs(count));
-    assert_eq!(of(many(16).as_bytes()), "E 11 0 0");
-    assert_eq!(of(many(17).as_bytes()), "E 11 1 0");
-    // the 200th line is looked at, the 201st is malformed whatever it is
-    let long = |bad: usize| format!("Q\t3\t2\t0\t1\n{}Q\t0\t1\n", "Q\n".repeat(bad));
-    assert_eq!(of(long(198).as_bytes()), "E 11 0 0");
-    assert_eq!(of(long(199).as_bytes()), "E 11 1 0");
+}
+
+/// A list's text: each line so many times; tabs are shown as blanks.
+fn lines(claims: &[(String, usize)]) -> String {
+    claims.iter().map(|(line, times)| format!("{}\n", line.replace(' ', "\t")).repeat(*times)).collect()
+}
+
+fn line(text: &str) -> (String, usize) {
+    (text.to_string(), 1)
+}
+
+#[test]
+fn what_a_line_names() {
+    let t = rows();
+    let of = |list: &[u8]| shown(&published(Ok(t.clone()), list));
+    // claim 0 cites row 0: it is at fault where the second line names that row, and else
+    // the second line is
+    let second = |named: &str| {
+        let text = format!("Q 3 2 0 1\n{named}").replace(' ', "\t");
+        of(text.as_bytes())
+    };
+    let pairs = |count: usize| " 1 1".repeat(count);
+    for named in [
+        "Q 0 1\n".to_string(),
+        "Q 0 0\n".to_string(),
+        "Q 0 5000\n".to_string(),
+        "Q 0 9999999999\n".to_string(),
+        "Q 0 1 1 0\n".to_string(),
+        "Q 0 1 9 1\n".to_string(),
+        "Q 0 1 1 1 1 1\n".to_string(),
+        format!("Q 0 1{}\n", pairs(16)),
+        format!("Q 0 1{}\n", pairs(17)),
+        format!("Q 0 1{}\n", pairs(18)),
+        format!("Q 0 1{}\n", pairs(3_000)),
+        format!("Q 0 1{} 4 9999999999\n", pairs(16)),
+    ] {
+        assert_eq!(second(&named), "E 11 0 0", "{named}");
+    }
+    for named in [
+        "Q 0\n".to_string(),
+        "Q 0 1".to_string(),
+        "Q 0 x\n".to_string(),
+        "Q 0 -1\n".to_string(),
+        "Q 0 01\n".to_string(),
+        "Q 00 1\n".to_string(),
+        "Q -0 1\n".to_string(),
+        "Q 0 12345678901\n".to_string(),
+        "Q 0 1 1\n".to_string(),
+        "Q 0 1 \n".to_string(),
+        "Q  0 1\n".to_string(),
+        "P 0 1\n".to_string(),
+        "\n".to_string(),
+        "Q 200 1\n".to_string(),
+        format!("Q 0 1{} 1\n", pairs(17)),
+        format!("Q 0 1{} 1 01\n", pairs(16)),
+        format!("Q 0 1{} 1 01\n", pairs(17)),
+        format!("Q 0 1{}", pairs(17)),
+        format!("Q 0 1{} \n", pairs(17)),
+        format!("Q 0 1{} 1 -1\n", pairs(3_000)),
+        // more pairs than a claim may have, but of another row
+        format!("Q 4 1{}\n", pairs(17)),
+    ] {
+        assert_eq!(second(&named), "E 11 1 0", "{named}");
+    }
+    // a record names its row whatever its number of pairs is
+    for count in [17, 18, 1_000, -1, i64::MIN, i64::MAX, 1 << 32] {
+        let mut record = claim(&[0, 1]);
+        record[2] = count;
+        assert_eq!(judge_claims(t.lend(), &[claim(TRUE_3), record]), e(11, 0), "{count}");
+        record[0] = 4;
+        assert_eq!(judge_claims(t.lend(), &[claim(TRUE_3), record]), e(11, 1), "{count}");
+    }
+}
+
+#[test]
+fn lists_of_many_lines() {
+    let t = rows();
+    let of = |claims: &[(String, usize)]| shown(&published(Ok(t.clone()), lines(claims).as_bytes()));
+    let first = line("Q 3 2 0 1");
+    // what stands between names no row, or one that nobody cites
+    for between in ["Q", "Q 9 1", "Q 3 2 0 1", "Q 4 1", ""] {
+        for count in [0, 1, 198, 199, 200, 201, 254, 255, 256, 1_000, 5_000] {
+            let many = (between.to_string(), count);
+            assert_eq!(of(&[first.clone(), many.clone(), line("Q 0 1")]), "E 11 0 0", "{count} {between}");
+            assert_eq!(of(&[first.clone(), many, line("Q 0")]), "E 11 1 0", "{count} {between}");
+        }
+    }
+    // the very last line that a text can have
+    let most = (65_536 - "Q 3 2 0 1 Q 0 1 ".len()) / 2;
+    assert_eq!(of(&[first.clone(), ("Q".to_string(), most), line("Q 0 1")]), "E 11 0 0");
+    assert_eq!(of(&[first.clone(), ("Q".to_string(), most + 1), line("Q 0 1")]), "E 1 0 0");
+    // the same as records
+    for count in [0, 198, 199, 200, 255, 256, 1_000] {
+        let mut records = vec![claim(TRUE_3)];
+        records.resize(1 + count, claim(&[9, 1]));
+        records.push(claim(&[0, 1]));
+        assert_eq!(judge_claims(t.lend(), &records), e(11, 0), "{count}");
+        records.pop();
+        assert_eq!(judge_claims(t.lend(), &records), if count == 0 { Ok(()) } else { e(11, 1) }, "{count}");
+    }
+}
+
+#[test]
+fn the_lists_of_the_stored_hour() {
+    let t = read(include_bytes!("../hours/claims.tsv"), ALL).unwrap();
+    let of = |claims: &[(String, usize)]| shown(&published(Ok(t.clone()), lines(claims).as_bytes()));
+    let first = line("Q 3 1 0 1 1 1");
+    let many = ("Q 9 1".to_string(), 199);
+    assert_eq!(of(&[first.clone(), many.clone(), line("Q 0 1")]), "E 11 0 0");
+    assert_eq!(of(&[first.clone(), many.clone(), line("Q 0")]), "E 11 1 0");
+    let mut records = vec![claim(&[9, 1]); 201];
+    (records[0], records[200]) = (claim(&[3, 1, 0, 1, 1, 1]), claim(&[0, 1]));
+    assert_eq!(judge_claims(t.lend(), &records), e(11, 0));
+
+    // row 2 is at most what rows 0 and 1 let through, and the second claim names row 1
+    let t = table("H 2 1 3 / Z 0 0 / Z 1 0 / B 0 0 1 0 / C 0 1000 0 0 0 0 0 0 6000 0 / C 1 2000 0 0 0 0 0 0 12001 0 / C 2 3000 0 0 0 0 0 0 18001 0");
+    let of = |claims: &[(String, usize)]| shown(&published(Ok(t.clone()), lines(claims).as_bytes()));
+    let first = line("Q 2 1 0 1 1 1");
+    let named = |count: usize| line(&format!("Q 1 1{}", " 0 1".repeat(count)));
+    let half = line(&format!("{} 0", named(17).0));
+    assert_eq!(of(&[first.clone(), named(17)]), "E 11 0 0");
+    assert_eq!(of(&[first.clone(), half]), "E 11 1 0");
+    assert_eq!(of(&[first]), "D 0 100000000 / D 1 200000000");
+    let mut record = claim(&[1, 1]);
+    record[3..].copy_from_slice(&[0, 1].repeat(16));
+    record[2] = 17;
+    assert_eq!(judge_claims(t.lend(), &[claim(&[2, 1, 0, 1, 1, 1]), record]), e(11, 0));
 }
 
 #[test]

@@ -6,6 +6,10 @@ mod claims_by_hand;
 mod rows_by_hand;
 #[path = "second.rs"]
 mod second;
+#[path = "words.rs"]
+mod words;
+#[path = "words_by_hand.rs"]
+mod words_by_hand;
 
 use second::*;
 
