@@ -181,7 +181,8 @@ static size_t make(const struct request *r, unsigned char *const *at, uint64_t *
         answer[3] = said.sharers;
         answer[4] = said.bits;
         answer[5] = said.rounds;
-        return 6;
+        answer[6] = said.sharp;
+        return 7;
     }
     if (r->call == MARGINS) {
         struct KeravnothJudged said = keravnoth_margins(

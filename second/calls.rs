@@ -62,6 +62,7 @@ pub struct Bounded {
     pub sharers: u64,
     pub bits: u64,
     pub rounds: u64,
+    pub sharp: u64,
 }
 
 /// What a call says that has nothing to say but a refusal.
@@ -303,12 +304,12 @@ impl Bridge {
         if let Some(marks) = &marks {
             self.lend(wire::MARKS, marks);
         }
-        let [number, place, byte, sharers, bits, rounds] = self.ask()?;
+        let [number, place, byte, sharers, bits, rounds, sharp] = self.ask()?;
         self.tables_back(&mut l);
         if let Some(marks) = marks {
             self.back(marks);
         }
-        Ok(Bounded { number, place: place as usize, byte: byte as usize, sharers, bits, rounds })
+        Ok(Bounded { number, place: place as usize, byte: byte as usize, sharers, bits, rounds, sharp })
     }
 
     pub fn margins(&mut self, mut l: Lent, parts: &mut [[i64; 12]]) -> Result<Judged, Ended> {

@@ -80,7 +80,8 @@ const BAD_SHEETS_EVERY: u64 = 8;
 const CLAIMS_EVERY: u64 = 4;
 /// .. a table made for sheets of rows.
 const ROWS_EVERY: u64 = 4;
-/// .. bad lists of marks and bad tables for the bound and the margins.
+/// .. bad lists of marks and bad tables for the bound and the margins, and a table of a
+/// few kW.
 const KNOWN_EVERY: u64 = 8;
 
 /// The refusals that a run meets.
@@ -560,6 +561,7 @@ fn main() {
             }
             if number % KNOWN_EVERY == 0 {
                 c.known_tables(number / KNOWN_EVERY);
+                c.few_kw(number / KNOWN_EVERY);
             }
         }
         if number < texts {

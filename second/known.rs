@@ -11,7 +11,7 @@ use crate::{damage, make, with_marks, Comparison, NO_REFUSAL};
 impl Comparison {
     // ---------------------------------------------------------- the calls
 
-    fn bound(&mut self, d: &mut Dice, l: &mut LentTables, marks: Option<&[u64]>) -> Result<Bound, Refusal> {
+    pub fn bound(&mut self, d: &mut Dice, l: &mut LentTables, marks: Option<&[u64]>) -> Result<Bound, Refusal> {
         let (call, reference) = match marks {
             Some(marks) => ("keravnoth_bound_marked", second::bound_marked(l.part(), marks)),
             None => ("keravnoth_bound", second::bound(l.part())),
@@ -21,13 +21,13 @@ impl Comparison {
         let found = self.bridge.bound(l.lend(), given);
         let shown = || with_marks(l.shown(), marks);
         let found = self.said(call, found, &shown);
-        let none = Bound { sharers: 0, bits: 0, rounds: 0 };
+        let none = Bound { sharers: 0, bits: 0, rounds: 0, sharp: 0 };
         let (Refusal { number, place, byte }, bound) = match reference {
             Ok(bound) => (NO_REFUSAL, bound),
             Err(refusal) => (refusal, none),
         };
-        let Bound { sharers, bits, rounds } = bound;
-        let wanted = Bounded { number: number.into(), place, byte, sharers, bits, rounds };
+        let Bound { sharers, bits, rounds, sharp } = bound;
+        let wanted = Bounded { number: number.into(), place, byte, sharers, bits, rounds, sharp };
         self.count(call, number);
         if found != wanted {
             self.fail(call, &format!("library {found:?}\nreference {wanted:?}"), &shown());
@@ -89,6 +89,9 @@ impl Comparison {
             if some.len() < h.borders {
                 let less = with_some.rounds < ordinary.rounds;
                 self.see(if less { "bound, smaller with marks" } else { "bound, as many as with marks" });
+                if with_some.sharp < ordinary.sharp {
+                    self.see("sharp bound, smaller with marks");
+                }
             }
         }
 
@@ -112,8 +115,9 @@ impl Comparison {
         }
     }
 
-    /// The bound is refused as the extraction is, or the rounds are at most as many.
-    fn bounds(
+    /// The bound is refused as the extraction is, or the rounds are at most as many, by the
+    /// sharp bound, which is at most 2 N L.
+    pub fn bounds(
         &mut self,
         t: &Tables,
         marks: Option<&[u64]>,
@@ -123,7 +127,8 @@ impl Comparison {
         let good = match (&bound, outcome) {
             (Ok(bound), Ok(outcome)) => {
                 bound.rounds == 2 * bound.sharers * bound.bits
-                    && outcome.rounds <= bound.rounds
+                    && outcome.rounds <= bound.sharp
+                    && bound.sharp <= bound.rounds
                     && bound.sharers == outcome.n_most as u64
                     && bound.bits == u64::from(outcome.l_bits)
             }
@@ -146,6 +151,14 @@ impl Comparison {
         }
         if outcome.rounds * 10 > bound.rounds {
             self.see("bound, rounds over a tenth of it");
+        }
+        self.see(match bound.sharp {
+            0 => "sharp bound 0",
+            sharp if sharp == outcome.rounds => "sharp bound, as many rounds",
+            _ => "sharp bound, between the two",
+        });
+        if bound.sharp == 0 && bound.bits > 0 {
+            self.see("sharp bound 0, L above 0");
         }
     }
 
@@ -194,6 +207,22 @@ impl Comparison {
                     self.see(&format!("margins, {name}"));
                 }
             }
+        }
+    }
+
+    /// A table of a few kW, for which each kW of the sharp bound tells.
+    pub fn few_kw(&mut self, number: u64) {
+        self.kind = "table of a few kW";
+        self.number = number;
+        let mut dice = Dice::for_case(self.seed, 25, number);
+        let d = &mut dice;
+        let t = make::few_kw(d);
+        let h = t.header;
+        let mut l = LentTables::new(d, &t, needed(h));
+        let outcome = self.extract(d, &mut l, [h.rows * h.borders, h.borders, h.rows]);
+        self.known(d, &t, &outcome);
+        if let Ok(outcome) = outcome {
+            self.see(if outcome.sharp == outcome.rounds { "few kW, as many rounds" } else { "few kW, fewer rounds" });
         }
     }
 

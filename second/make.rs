@@ -513,6 +513,36 @@ pub fn of_borders(d: &mut Dice, borders: usize) -> Tables {
     ordinary(d, aim, of_size(zones, borders, rows))
 }
 
+/// A table whose rows have a few kW for each of their sharers, so that one kW or one
+/// sharer more or less tells in the bound of the rounds.  Row 0 is loaded by every border.
+pub fn few_kw(d: &mut Dice) -> Tables {
+    let borders = 2 + d.below(7);
+    let rows = 1 + d.below(4);
+    let mut f = Vec::new();
+    for row in 0..rows {
+        let from = d.of(&[50_000, 100_000]);
+        f.push(from);
+        for _ in 0..borders {
+            let to = d.of(&[from, from, 0, 25_000, -50_000, from - 1]);
+            f.push(if row == 0 { to.min(from - 5_000) } else { to });
+        }
+    }
+    let record = |d: &mut Dice| {
+        let fmax = d.of(&[1, 2, 3, 5, 8, 13, 40]);
+        [fmax, 0, 0, 0, 0, d.of(&[0, 0, 0, 1]), 0]
+    };
+    let zones = borders + 1;
+    let header = Header { intraday: profile(d), ..of_size(zones, borders, rows) };
+    Tables {
+        header,
+        z: vec![0; zones],
+        t: vec![0; if header.intraday == INTRADAY { zones } else { 0 }],
+        b: (1..zones).map(|to| without_hubs(0, to as i64, 0)).collect(),
+        c: (0..rows).map(|_| record(d)).collect(),
+        f,
+    }
+}
+
 /// .. of the intraday profile.
 pub fn intraday(d: &mut Dice, borders: usize) -> Tables {
     let mut t = of_borders(d, borders);

@@ -139,7 +139,7 @@ fn result_text_marked(l: &mut LentTables, marks: &Lent<u64>, out: &mut Lent<u8>)
     text_to(text, out)
 }
 
-fn bound(l: &mut LentTables, marks: Option<&Lent<u64>>) -> [u64; 6] {
+fn bound(l: &mut LentTables, marks: Option<&Lent<u64>>) -> [u64; 7] {
     let found = match marks {
         Some(marks) => second::bound_marked(l.lend(), marks),
         None => second::bound(l.lend()),
@@ -147,9 +147,9 @@ fn bound(l: &mut LentTables, marks: Option<&Lent<u64>>) -> [u64; 6] {
     match found {
         Err(refusal) => {
             let [number, place, byte] = why(refusal);
-            [number, place, byte, 0, 0, 0]
+            [number, place, byte, 0, 0, 0, 0]
         }
-        Ok(bound) => [0, 0, 0, bound.sharers, bound.bits, bound.rounds],
+        Ok(bound) => [0, 0, 0, bound.sharers, bound.bits, bound.rounds, bound.sharp],
     }
 }
 

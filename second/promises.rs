@@ -7,8 +7,13 @@ use crate::dice::Dice;
 use crate::lent::{needed, remainder, signed_factor, LentTables};
 use crate::marks::rising;
 use crate::second::{self, Outcome, Refusal, Tables};
-use crate::second::{INTRADAY, LTA, MOST_ROUNDS, MOST_ROUNDS_INTRADAY, NO_SHARE, R_DASH};
+use crate::second::{INTRADAY, LTA, NO_SHARE, R_DASH};
 use crate::{damage, make, Comparison};
+
+/// No table at all has more rounds, nor one with T lines; the documents' own numbers,
+/// 6,144 and 6,272, are larger.
+const MOST_ROUNDS: u64 = 1_852;
+const MOST_ROUNDS_INTRADAY: u64 = 1_910;
 
 impl Comparison {
     // --------------------------------------------------- factors by border
@@ -108,8 +113,8 @@ impl Comparison {
         }
     }
 
-    /// The library's own rounds are at most 2 N L, with N and L over the borders that
-    /// rise, by its own p and RAM.
+    /// The library's own rounds are at most the sharp bound, and that at most 2 N L, over
+    /// the borders that rise, by its own p and RAM.
     pub fn bound_holds(
         &mut self,
         l: &LentTables,
@@ -122,15 +127,20 @@ impl Comparison {
         let h = l.header;
         let (mut n_most, mut l_bits) = (0, 0);
         let mut alone: Vec<Option<i128>> = vec![None; h.borders];
+        let mut reach = alone.clone();
         for row in (0..h.rows).filter(|row| left[*row][0] == 0) {
             let own = &p[row * h.borders..(row + 1) * h.borders];
             let used: i128 = own.iter().zip(l.b.part()).map(|(p, b)| i128::from(*p) * i128::from(b[LTA]) * 1_000).sum();
             let ram = i128::from(left[row][1]);
             let margin = remainder(l, row, left[row][1]).map_or(ram - used, |remainder| remainder.max(0));
-            n_most = n_most.max((0..h.borders).filter(|border| rising[*border] && own[*border] > 0).count());
-            for border in (0..h.borders).filter(|border| rising[*border] && own[*border] > 0) {
-                let raise = margin / i128::from(own[border]);
-                alone[border] = Some(alone[border].map_or(raise, |least| least.min(raise)));
+            let sharers: Vec<usize> = (0..h.borders).filter(|border| rising[*border] && own[*border] > 0).collect();
+            n_most = n_most.max(sharers.len());
+            for border in &sharers {
+                let raise = margin / i128::from(own[*border]);
+                let least = |so_far: Option<i128>, value: i128| Some(so_far.map_or(value, |least| least.min(value)));
+                alone[*border] = least(alone[*border], raise);
+                // from the row's first share of one kW for each on, so many kW
+                reach[*border] = least(reach[*border], (raise + 1 - sharers.len() as i128).max(0));
             }
         }
         while alone.iter().flatten().any(|raise| *raise >= 1 << l_bits) {
@@ -140,10 +150,20 @@ impl Comparison {
             let details = format!("N {n_most}, L {l_bits}; reference N {}, L {}", outcome.n_most, outcome.l_bits);
             self.fail("keravnoth_extract", &details, &l.shown());
         }
+        // u less its N-th part, rounded up, is N - 1 of N parts of u, rounded down
+        let (mut u, mut sharp) = (reach.into_iter().flatten().max().unwrap_or(0), 0);
+        while u > 0 {
+            u = u * (n_most as i128 - 1) / n_most as i128;
+            sharp += 1;
+        }
         let bound = 2 * n_most as u64 * u64::from(l_bits);
         let most = if h.intraday == INTRADAY { MOST_ROUNDS_INTRADAY } else { MOST_ROUNDS };
-        if found.rounds > bound || found.rounds > most {
-            self.fail("keravnoth_extract", &format!("{} rounds, over 2 N L = {bound}", found.rounds), &l.shown());
+        if found.rounds > sharp || sharp > bound || found.rounds > most || sharp != outcome.sharp {
+            let details = format!(
+                "{} rounds, sharp bound {sharp}, 2 N L = {bound}, at most {most}; reference's sharp bound {}",
+                found.rounds, outcome.sharp
+            );
+            self.fail("keravnoth_extract", &details, &l.shown());
         }
     }
 

@@ -1044,6 +1044,8 @@ pub struct Outcome {
     pub n_most: usize,
     /// L: the least number with each marked border's raise alone under 2^L
     pub l_bits: u32,
+    /// the sharp bound of the rounds
+    pub sharp: u64,
     /// Divisions done in the rounds, the last round, which raises nothing and
     /// is not counted, included: for each border and each kept row with p > 0
     /// one by n and one by p, so two for each such pair in each round.
@@ -1245,6 +1247,41 @@ fn l_of(kept: &[Kept], marked: &[bool]) -> u32 {
     l
 }
 
+/// How often u can lose its N-th part, rounded up, until it is 0.
+pub fn steps(n: i128, mut u: i128) -> u64 {
+    let mut count = 0;
+    while u > 0 {
+        u -= floor_div(u + n - 1, n);
+        count += 1;
+    }
+    count
+}
+
+/// The smallest over the kept rows with p > 0 of floor(margin / p) less the row's other
+/// sharers; 0 where a row's share is under one kW for the border.
+fn reach_of(kept: &[Kept], border: usize) -> i128 {
+    let mut least = None;
+    for row in kept {
+        if row.p[border] > 0 {
+            let reach = floor_div(row.margin, row.p[border]) - (row.n - 1);
+            least = smaller(least, reach.max(0));
+        }
+    }
+    least.expect("each marked border has p > 0 on a kept row")
+}
+
+/// The sharp bound of the rounds: `steps` of N and of the largest reach of a border that
+/// may rise.
+fn sharp_of(kept: &[Kept], marked: &[bool]) -> u64 {
+    let mut u = 0;
+    for border in 0..marked.len() {
+        if marked[border] {
+            u = u.max(reach_of(kept, border));
+        }
+    }
+    steps(n_of(kept), u)
+}
+
 /// The most borders that one kept row shares among.
 fn n_of(kept: &[Kept]) -> i128 {
     kept.iter().map(|row| row.n).max().expect("there is a kept row")
@@ -1281,6 +1318,7 @@ fn work(tables: &Tables, marks: Option<&[u64]>) -> Result<Outcome, Refusal> {
     let Start { marked, margins, states, p, mut kept } = start_of(tables, marks)?;
     let n_most = n_of(&kept);
     let l_bits = l_of(&kept, &marked);
+    let sharp = sharp_of(&kept, &marked);
 
     let mut kw: Vec<i128> = tables.b.iter().map(|border| starting_kw(&tables.header, border)).collect();
     let mut rounds: u64 = 0;
@@ -1325,6 +1363,7 @@ fn work(tables: &Tables, marks: Option<&[u64]>) -> Result<Outcome, Refusal> {
         kw: kw.iter().map(|kw| *kw as u64).collect(),
         n_most: n_most as usize,
         l_bits,
+        sharp,
         divisions,
     };
     if cfg!(debug_assertions) {
@@ -1346,7 +1385,8 @@ fn row_outcomes(margins: &[Margin], states: &[u8], kept: &[Kept]) -> Vec<RowOut>
 fn check_outcome(tables: &Tables, marked: &[bool], kept: &[Kept], outcome: &Outcome) {
     let intraday = tables.header.intraday == INTRADAY;
     // "rounds are at most 2 x N x L, so at most" the largest round number
-    assert!(outcome.rounds <= 2 * outcome.n_most as u64 * u64::from(outcome.l_bits));
+    let bound = 2 * outcome.n_most as u64 * u64::from(outcome.l_bits);
+    assert!(outcome.rounds <= outcome.sharp && outcome.sharp <= bound);
     assert!(outcome.rounds <= if intraday { MOST_ROUNDS_INTRADAY } else { MOST_ROUNDS });
     for row in kept {
         // the largest load of the row: each relieving border at 0
@@ -1515,7 +1555,7 @@ fn or_e_line(result: Result<Vec<u8>, Refusal>) -> Vec<u8> {
 // The hour's own bound
 // ---------------------------------------------------------------------------
 
-/// "rounds are at most 2 x N x L"
+/// "rounds are at most 2 x N x L", and at most the sharp bound
 #[derive(Clone, Copy, Debug, PartialEq, Eq)]
 pub struct Bound {
     /// N
@@ -1524,6 +1564,8 @@ pub struct Bound {
     pub bits: u64,
     /// 2 x N x L
     pub rounds: u64,
+    /// the sharp bound
+    pub sharp: u64,
 }
 
 /// The bound of a table, without its rounds; what the extraction refuses has none.
@@ -1532,7 +1574,7 @@ pub fn bound(lent: Lent) -> Result<Bound, Refusal> {
 }
 
 /// The same where only the marked borders rise: "N and L counted over the marked
-/// borders".
+/// borders", and so is the sharp bound.
 pub fn bound_marked(lent: Lent, marks: &[u64]) -> Result<Bound, Refusal> {
     bound_by(lent, Some(marks))
 }
@@ -1542,15 +1584,17 @@ fn bound_by(lent: Lent, marks: Option<&[u64]>) -> Result<Bound, Refusal> {
     let start = start_of(&tables, marks)?;
     let sharers = n_of(&start.kept) as u64;
     let bits = u64::from(l_of(&start.kept, &start.marked));
-    Ok(Bound { sharers, bits, rounds: 2 * sharers * bits })
+    let sharp = sharp_of(&start.kept, &start.marked);
+    Ok(Bound { sharers, bits, rounds: 2 * sharers * bits, sharp })
 }
 
-/// One line `U`, N, L, 2 N L, or the E line.
+/// One line `U`, N, L, 2 N L, the sharp bound, or the E line.
 pub fn bound_text(text: &[u8], sheet: &[u8], marks: Option<&[u64]>) -> Vec<u8> {
     let tables = read_corrected(text, sheet, ALL_ROOM);
     or_e_line(tables.and_then(|tables| bound_by(tables.lend(), marks)).map(|bound| {
         let mut out = Vec::new();
-        push_line(&mut out, "U", &[bound.sharers, bound.bits, bound.rounds].map(|number| number.to_string()));
+        let Bound { sharers, bits, rounds, sharp } = bound;
+        push_line(&mut out, "U", &[sharers, bits, rounds, sharp].map(|number| number.to_string()));
         out
     }))
 }

@@ -447,6 +447,12 @@ pub fn wanted() -> Vec<(String, u64)> {
     for name in ["L 0", "intraday", "over 1000", "smaller with marks", "rounds over a tenth of it", "as many as with marks"] {
         add(&format!("bound, {name}"), 100);
     }
+    for name in [" 0", ", as many rounds", ", between the two", ", smaller with marks"] {
+        add(&format!("sharp bound{name}"), 500);
+    }
+    add("sharp bound 0, L above 0", 200);
+    add("few kW, as many rounds", 200);
+    add("few kW, fewer rounds", 200);
     for number in [0, 5, 6, 7] {
         add(&format!("margins, extraction {number}"), 200);
     }

@@ -1314,24 +1314,100 @@ fn sheets_among_the_refusals() {
 fn bounds_by_hand() {
     let hour = text(HOUR);
     // "Here N = 2, L = 22, bound 88."
-    assert_eq!(shown(&bound_text(&hour, &[], None)), "U 2 22 88");
+    // row 0 lets border 0 reach 3,300,000 kW less its one other sharer, halved 22 times
+    assert_eq!(shown(&bound_text(&hour, &[], None)), "U 2 22 88 22");
     // border 0 alone: 3,300,000 kW, under 2^22; border 1 alone: 1,600,000 kW, under 2^21
-    assert_eq!(shown(&bound_text(&hour, &[], Some(&[0]))), "U 1 22 44");
-    assert_eq!(shown(&bound_text(&hour, &[], Some(&[1]))), "U 1 21 42");
-    assert_eq!(shown(&bound_text(&hour, &[], Some(&[1, 0]))), "U 2 22 88");
-    assert_eq!(bound(table(HOUR).lend()), Ok(Bound { sharers: 2, bits: 22, rounds: 88 }));
-    assert_eq!(bound_marked(table(HOUR).lend(), &[1]), Ok(Bound { sharers: 1, bits: 21, rounds: 42 }));
+    assert_eq!(shown(&bound_text(&hour, &[], Some(&[0]))), "U 1 22 44 1");
+    assert_eq!(shown(&bound_text(&hour, &[], Some(&[1]))), "U 1 21 42 1");
+    assert_eq!(shown(&bound_text(&hour, &[], Some(&[1, 0]))), "U 2 22 88 22");
+    assert_eq!(bound(table(HOUR).lend()), Ok(Bound { sharers: 2, bits: 22, rounds: 88, sharp: 22 }));
+    assert_eq!(bound_marked(table(HOUR).lend(), &[1]), Ok(Bound { sharers: 1, bits: 21, rounds: 42, sharp: 1 }));
     // a sheet that leaves border 1 alone 800,000 kW, and row 0 its 3,300,000 for border 0
     let sheet = text("C 1 100000 10000 15000 0 7000 40000 0 5000 5000 0");
-    assert_eq!(shown(&bound_text(&hour, &sheet, Some(&[1]))), "U 1 20 40");
-    assert_eq!(shown(&bound_text(&hour, &sheet, None)), "U 2 22 88");
+    assert_eq!(shown(&bound_text(&hour, &sheet, Some(&[1]))), "U 1 20 40 1");
+    assert_eq!(shown(&bound_text(&hour, &sheet, None)), "U 2 22 88 22");
     // nothing is left: L is 0
     let full = text("H 2 1 1 / Z 0 0 / Z 1 0 / B 0 0 1 100 / C 0 10000 0 0 0 0 0 0 20000 0");
-    assert_eq!(shown(&bound_text(&full, &[], None)), "U 1 0 0");
+    assert_eq!(shown(&bound_text(&full, &[], None)), "U 1 0 0 0");
     // intraday: 10^10 by 20000 is 500,000 kW, of which 499,999 are allocated, or all and one
-    assert_eq!(shown(&bound_text(&allocated_hour(" / T 0 0 / T 1 0"), &[], None)), "U 1 19 38");
-    assert_eq!(shown(&bound_text(&allocated_hour(" / T 0 499999 / T 1 -499999"), &[], None)), "U 1 1 2");
-    assert_eq!(shown(&bound_text(&allocated_hour(" / T 0 500001 / T 1 -500001"), &[], None)), "U 1 0 0");
+    assert_eq!(shown(&bound_text(&allocated_hour(" / T 0 0 / T 1 0"), &[], None)), "U 1 19 38 1");
+    assert_eq!(shown(&bound_text(&allocated_hour(" / T 0 499999 / T 1 -499999"), &[], None)), "U 1 1 2 1");
+    assert_eq!(shown(&bound_text(&allocated_hour(" / T 0 500001 / T 1 -500001"), &[], None)), "U 1 0 0 0");
+}
+
+#[test]
+fn steps_by_hand() {
+    assert_eq!(steps(1, 0), 0);
+    assert_eq!(steps(64, 0), 0);
+    assert_eq!(steps(1, 1 << 48), 1);
+    // 7, 3, 1, 0
+    assert_eq!(steps(2, 7), 3);
+    // 10, 6, 4, 2, 1, 0: an N-th part rounds up
+    assert_eq!(steps(3, 10), 5);
+    // one each from N on
+    assert_eq!(steps(64, 64), 64);
+    assert_eq!(steps(64, 65), 64);
+    assert_eq!(steps(64, 66), 65);
+}
+
+#[test]
+fn sharp_bounds_by_hand() {
+    // two borders share a row whose margin is so many times p: twice p is the first that
+    // gives each of them a kW
+    for (times, rounds, line) in [
+        (0, 0, "U 2 0 0 0"),
+        (1, 0, "U 2 1 4 0"),
+        (2, 1, "U 2 2 8 1"),
+        (3, 1, "U 2 2 8 2"),
+        (4, 1, "U 2 3 12 2"),
+        (5, 1, "U 2 3 12 3"),
+        (6, 1, "U 2 3 12 3"),
+        (7, 1, "U 2 3 12 3"),
+        (8, 1, "U 2 4 16 3"),
+        (9, 1, "U 2 4 16 4"),
+    ] {
+        let hour = text(&format!(
+            "H 3 2 1 / Z 0 0 / Z 1 0 / Z 2 0 / B 0 0 1 0 / B 1 0 2 0 / C 0 9 0 0 0 0 {} 0 100000 0 0",
+            9 - times
+        ));
+        let t = read(&hour, ALL).unwrap();
+        assert_eq!(shown(&bound_text(&hour, &[], None)), line, "{times}");
+        assert_eq!(out(&t).unwrap().rounds, rounds, "{times}");
+        // marked alone a border has no other sharer
+        let alone = bound_marked(t.lend(), &[1]).unwrap();
+        assert_eq!((alone.sharers, alone.sharp), (1, u64::from(times > 0)), "{times}");
+    }
+    // row 0 lets each of three borders reach 300,000 kW less two; row 1 lets the one to zone 3
+    // reach 100 kW, row 2 the one to zone 2 150 kW: the largest is that of the one to zone 1,
+    // wherever it stands
+    for order in [[1, 2, 3], [2, 1, 3], [3, 2, 1]] {
+        let [a, b, c] = order;
+        let hour = text(&format!(
+            "H 4 3 3 / Z 0 0 / Z 1 0 / Z 2 0 / Z 3 0 / B 0 0 {a} 0 / B 1 0 {b} 0 / B 2 0 {c} 0
+C 0 60000 0 0 0 0 0 0 20000 0 0 0
+C 1 20 0 0 0 0 0 0 0 0 0 -20000
+C 2 30 0 0 0 0 0 0 0 0 -20000 0"
+        ));
+        assert_eq!(shown(&bound_text(&hour, &[], None)), format!("U 3 19 114 {}", steps(3, 299_998)));
+        // without that one 150 kW are the largest, of a row that no other loads
+        let marks: Vec<u64> = (0..3).filter(|border| order[*border as usize] != 1).collect();
+        assert_eq!(shown(&bound_text(&hour, &[], Some(&marks))), format!("U 2 8 32 {}", steps(2, 150)));
+    }
+}
+
+#[test]
+fn sharp_bounds_of_the_stored_hours() {
+    for (hour, line, rounds) in [
+        (&include_bytes!("../hours/worked.tsv")[..], "U 2 22 88 22", 21),
+        (include_bytes!("../hours/plain.tsv"), "U 20 21 840 231", 231),
+        (include_bytes!("../hours/busy.tsv"), "U 40 23 1840 503", 429),
+        (include_bytes!("../hours/busy64.tsv"), "U 63 25 3150 821", 807),
+        (include_bytes!("../hours/worst.tsv"), "U 40 48 3840 1171", 1_171),
+        (include_bytes!("../hours/worst64.tsv"), "U 64 48 6144 1852", 1_852),
+    ] {
+        assert_eq!(shown(&bound_text(hour, &[], None)), line);
+        assert_eq!(out(&read(hour, ALL).unwrap()).unwrap().rounds, rounds, "{line}");
+    }
 }
 
 #[test]
@@ -1347,7 +1423,7 @@ fn bounds_are_refused_as_the_extraction_is() {
     let back = text("H 2 2 1 / Z 0 0 / Z 1 0 / B 0 0 1 0 / B 1 1 0 3 / C 0 100000 0 0 0 0 0 0 20000 0");
     assert_eq!(shown(&bound_text(&back, &[], None)), "E 6 1 0");
     // 10^10 by 20000 is 500,000 kW
-    assert_eq!(shown(&bound_text(&back, &[], Some(&[0]))), "U 1 19 38");
+    assert_eq!(shown(&bound_text(&back, &[], Some(&[0]))), "U 1 19 38 1");
     let over = text("H 2 1 1 / Z 0 0 / Z 1 0 / B 0 0 1 100 / C 0 10000 0 0 0 0 0 1 20000 0");
     assert_eq!(shown(&bound_text(&over, &[], None)), "E 7 0 0");
     // lent tables

@@ -35,6 +35,8 @@ impl Comparison {
         self.see_40("lent", h, counts);
         let room = [h.rows * h.borders + d.below(3), h.borders + d.below(3), h.rows + d.below(3)];
         let outcome = self.extract(d, &mut l, room);
+        let bound = self.bound(d, &mut l, None);
+        self.bounds(&t, None, bound, &outcome);
         let result_room = answer.len() + d.below(4);
         let result = self.result_text(d, &mut l, result_room);
 

@@ -271,6 +271,8 @@ impl Comparison {
         let h = t.header;
         let mut l = LentTables::new(d, &t, needed(h));
         let outcome = self.extract(d, &mut l, [h.rows * h.borders, h.borders, h.rows]);
+        let bound = self.bound(d, &mut l, None);
+        self.bounds(&t, None, bound, &outcome);
         self.claims_at_random(d, &t);
         self.rows_of(d, &t);
         let answer = second::answer(text);
