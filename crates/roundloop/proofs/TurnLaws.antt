@@ -1,11 +1,11 @@
 -- The round loop's head, where the bounds are the raises and the rows wait for the end of their block (`Found`), and what a turn leaves there. `Head` and `Turn` of RoundLoop.antt have the rounds themselves, of the margins that the rows come to.
 -- No contract cites this file.
 use mathlib.Core.Path.{_≡_, refl, sym, ap, _∙_, subst}
-use mathlib.Core.Bool.{Bool, true, false, not}
+use mathlib.Core.Bool.{Bool, true, false, not, false≢true}
 use mathlib.Core.List.{List, _++_}
 use Prim.Native.Nat.{ℕ, _+_, _≤_, _<_}
 use native.Mathlib.Omega.{arith}
-use borrow.Author.Tests.{ltb-true, ltb-false, not-true, not-false}
+use borrow.Author.Tests.{ltb-true, ltb-false, not-true}
 use lib.Dec.{ltb}
 use lib.ListN.{length, take, drop}
 use Rattle.numbers.specs.Below.{at, sum, count, table}
@@ -39,6 +39,11 @@ found-start {g} {ns} {m} {x} {lasts} {d} {w} {list} {near} q l k lk ek n ld ed e
       places = refl;
     }
 
+-- past a test that holds wherever r does not, r does
+pub past : (r test : Bool) → (r ≡ false → test ≡ true) → test ≡ false → r ≡ true
+past true test h t = refl
+past false test h t = absurd (false≢true (sym t ∙ h refl))
+
 module _ {g : Grid} {ns m₀ x₀ near₀ s x lasts d w list : List ℕ} {live : ℕ} {near : List ℕ} {count′ wait k : ℕ} (u : Found g ns m₀ x₀ near₀ s x lasts d w list live near count′ wait k) where
   -- a block anew, or on
   pub found-renewed : {s′ d′ list′ : List ℕ} {live′ : ℕ} {near′ : List ℕ} {count″ wait′ : ℕ} → Renewed g ns s d s′ d′ w list′ live′ near′ count″ wait′ → length list′ ≡ length list → length near′ ≡ length near → Found g ns m₀ x₀ near₀ s′ x lasts d′ w list′ live′ near′ count″ wait′ k
@@ -61,8 +66,8 @@ module _ {g : Grid} {ns m₀ x₀ near₀ s x lasts d w list : List ℕ} {live :
   found-listed = waiting-bounds (u .waiting)
 
   module _ {r : Bool} (e : r ≡ ltb 0 (count (length w) (at w))) where
-    pub found-some : not r ≡ false → 0 < count (length w) (at w)
-    found-some t = ltb-true 0 (count (length w) (at w)) (sym e ∙ not-false r t)
+    pub found-some : r ≡ true → 0 < count (length w) (at w)
+    found-some t = ltb-true 0 (count (length w) (at w)) (sym e ∙ t)
 
     pub found-none : not r ≡ true → count (length w) (at w) ≤ 0
     found-none t = ltb-false 0 (count (length w) (at w)) (sym e ∙ not-true r t)

@@ -1,12 +1,13 @@
 -- `roundloop::do_rounds` meets its contract: a turn is one round of the definition, and the loop is left where a round raises nothing (`Found`, `Turn`). The measure is the sum of the margins that the rows come to, of which a round that raises something takes at least 1.
-use mathlib.Core.Path.{sym, _∙_}
+use mathlib.Core.Path.{_≡_, sym, ap, _∙_}
+use mathlib.Core.Bool.{Bool, true, not}
 use native.Mathlib.Omega.{arith}
 use Rattle.numbers.specs.Below.{at, sum}
 use Rattle.rounds.specs.Work.{flat}
 use Rattle.resting.specs.Resting.{leftTo}
 use Rattle.resting.proofs.WalkLaws.{waiting-settleable}
 use Rattle.roundloop.proofs.RoundLoop.{front-long, turn-risable, turn-few}
-use Rattle.roundloop.proofs.TurnLaws.{Found, found-start, found-renewed, found-long, found-noted, found-listed, found-some, found-none, found-turn, found-end, found-gains, found-walkable, found-next, found-less}
+use Rattle.roundloop.proofs.TurnLaws.{past, Found, found-start, found-renewed, found-long, found-noted, found-listed, found-some, found-none, found-turn, found-end, found-gains, found-walkable, found-next, found-less}
 use Rattle.roundloop.proofs.do_rounds.Statement.{statement}
 use Rattle.roundloop.proofs.do_rounds.Tie as tie
 
@@ -45,6 +46,10 @@ at-renew-from-rises c = c .before .before .before .before .before .before .befor
 
 abbrev at-renew-from-settle-arg3 : tie.After-settle-arg3 Inv-loop μ-loop → tie.After-renew Inv-loop μ-loop
 at-renew-from-settle-arg3 c = at-renew-from-rises (c .before .before .before .before)
+
+-- past the test the round raises a border
+past-test : (c : tie.Else1 Inv-loop μ-loop) → c .before .rises .result ≡ true
+past-test c = past _ _ (λ e. ap (λ (r : Bool). not r) e) (c .if1 .left)
 
 abbrev at-rises-from-rise : tie.After-rise Inv-loop μ-loop → tie.After-rises Inv-loop μ-loop
 at-rises-from-rise c = c .before .before .before .before
@@ -114,7 +119,7 @@ add-done c =
     let at-loop = at-loop-from-renew at-renew in
     let entry = entry-from-loop at-loop in
     let u = found-renewed (at-loop .loop .inv) (at-renew .renew .ensures) (at-renew .renew .kept .1 .1 .1 .1 .1 .1 .1 .1 .1 .1 .0) (at-renew .renew .kept .1 .1 .1 .1 .1 .1 .1 .1 .1 .1 .1 .0) in
-    let h = found-some u (at-rises .rises .ensures) (at-if1 .if1 .left) in
+    let h = found-some u (at-rises .rises .ensures) (past-test at-if1) in
     omega (arith, turn-few (found-turn u (entry .pre .1 .0)) (λ z. omega arith))
 
 note-requires : tie.Need-note-requires Inv-loop μ-loop
@@ -147,7 +152,7 @@ loop-less c =
     let at-loop = at-loop-from-renew at-renew in
     let entry = entry-from-loop at-loop in
     let u = found-renewed (at-loop .loop .inv) (at-renew .renew .ensures) (at-renew .renew .kept .1 .1 .1 .1 .1 .1 .1 .1 .1 .1 .0) (at-renew .renew .kept .1 .1 .1 .1 .1 .1 .1 .1 .1 .1 .1 .0) in
-    let h = found-some u (at-rises .rises .ensures) (at-if1 .if1 .left) in
+    let h = found-some u (at-rises .rises .ensures) (past-test at-if1) in
     found-less u (at-renew .renew .ensures .some) (at-rise .rise .ensures) (entry .pre .1 .0) h (at-rise2 .rise2 .ensures) (at-renew .renew .ensures .same)
 
 loop-again : tie.Need-loop-again Inv-loop μ-loop
@@ -162,7 +167,7 @@ loop-again c =
     let at-loop = at-loop-from-renew at-renew in
     let entry = entry-from-loop at-loop in
     let u = found-renewed (at-loop .loop .inv) (at-renew .renew .ensures) (at-renew .renew .kept .1 .1 .1 .1 .1 .1 .1 .1 .1 .1 .0) (at-renew .renew .kept .1 .1 .1 .1 .1 .1 .1 .1 .1 .1 .1 .0) in
-    let h = found-some u (at-rises .rises .ensures) (at-if1 .if1 .left) in
+    let h = found-some u (at-rises .rises .ensures) (past-test at-if1) in
     found-next u (at-renew .renew .ensures .some) (at-rise .rise .ensures) (entry .pre .1 .0) h (at-rise2 .rise2 .ensures) (at-note .note .ensures) (at-walk-near .walk-near .ensures) _ (omega (arith, at-renew .renew .ensures .some))
 
 same-length : tie.Need-same-length Inv-loop μ-loop
