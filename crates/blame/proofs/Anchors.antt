@@ -17,11 +17,11 @@ use Rattle.text.specs.Sheets.{sheet}
 use Rattle.columns.specs.Columns.{Values, values, wrong, fieldAt, fieldsAt}
 use Rattle.columns.specs.ColumnLine.{indexAt, restAt, columnsLine, plainLine}
 use Rattle.columns.specs.Optional.{optionalLine, plainOptional}
-use Rattle.blame.specs.Blame.{goodAt, byteAt, fieldsByte, lineByte, plainByte}
+use Rattle.blame.specs.Blame.{goodAt, byteAt, fieldsByte, lineByte, bareByte, plainByte}
 use Rattle.blame.specs.RangeBlame.{pastSeps, fieldFirst, rangeByte, headerTests, zoneTests, borderTests, rowTests, factorTests}
 
 unfoldable computing : Unit {0}
-unfolding numberAt signedAt shareAt fieldAt fieldsAt indexAt restAt columnsLine plainLine optionalLine plainOptional inside sameℤ zoneFits exists factorFits goodAt byteAt fieldsByte lineByte plainByte pastSeps rangeByte
+unfolding numberAt signedAt shareAt fieldAt fieldsAt indexAt restAt columnsLine plainLine optionalLine plainOptional inside sameℤ zoneFits exists factorFits goodAt byteAt fieldsByte lineByte bareByte plainByte pastSeps rangeByte
 computing = tt
 
 -- ---- wrong form
@@ -46,6 +46,10 @@ c s = lineByte tab (code "C") (rowColumns ++ factorColumns 2) (sheet s) 0
 -- .. and a line whose fields are parted by semicolons
 abbrev semicolons : String → ℕ
 semicolons s = lineByte (code ";") (code "B") borderColumns (sheet s) 0
+
+-- .. and one that begins with its index
+abbrev bare : String → ℕ
+bare s = bareByte (code ";") zoneColumns (sheet s) 0
 
 pub record Form : Type 0 where
   -- good lines have none, with and without the fields that may be left out
@@ -78,6 +82,10 @@ pub record Form : Type 0 where
   pub minus-in-r : c "C 0 9 0 0 0 -5 0 0 1 2/" ≡ 14
   pub two-minuses : z "Z 0 --5/" ≡ 6
   pub default-zero-first : h "H 3 2 4 07000/" ≡ 10
+  -- no letter before the index: the plus, another index, a good line
+  pub bare-plus : bare "0;+5/" ≡ 3
+  pub bare-index : bare "1;5/" ≡ 1
+  pub bare-good : bare "0;5/" ≡ 0
   -- an empty field, or "-" alone in a signed field: the byte after it; 0 where the text ends there
   pub empty-last : z "Z 0 /" ≡ 5
   pub empty-first : h "H  2 4/" ≡ 3
@@ -163,6 +171,9 @@ form = record {
   minus-in-r = refl;
   two-minuses = refl;
   default-zero-first = refl;
+  bare-plus = refl;
+  bare-index = refl;
+  bare-good = refl;
   empty-last = refl;
   empty-first = refl;
   empty = refl;

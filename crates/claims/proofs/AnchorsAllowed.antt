@@ -5,7 +5,7 @@ use mathlib.Core.List.{[], _∷_}
 use Prim.Native.Nat.{ℕ}
 use native.Mathlib.Omega.{arith}
 use borrow.Author.Tests.{eqb-true}
-use lib.Dec.{eqb}
+use lib.Dec.{eqb, lit<}
 use lib.IntN.{ℤ, pos, _*ℤ_}
 use lib.Signed.{_≤ℤ_}
 use Rattle.numbers.specs.Below.{sum}
@@ -13,14 +13,14 @@ use Rattle.numbers.specs.Ints.{minus, maxℤ, positivePart, sumℤ}
 use Rattle.kinds.specs.Ranges.{atℤ, hubsOf, borderOf, shareOf, rowOf, worth, defaultOf}
 use Rattle.table.specs.Table.{Table, lent, stretch}
 use Rattle.margin.specs.Margin.{grains, f0coreOf, fuafOf, baseOf, amrOf, signedFactor, pOf, ltaKw, sOf, ltaMarginOf, ramOf, ramAt}
-use Rattle.claims.specs.Claims.{netLoad, Allowed}
+use Rattle.claims.specs.Claims.{netLoad, Allowed, Same}
 
--- two zones; two rows with the factors 66666 and 0, row 0 with a RAM of 100000 grains and row 1 with one of 70000
+-- two zones, both of which load; two rows with the factors 33333 and -33333, row 0 with a RAM of 100000 grains and row 1 with one of 70000
 abbrev t : Table
 t =
     lent (record { zones = 2; borders = 1; rows = 2; share = minus 1; intraday = 0 }) (pos 0 ∷ pos 0 ∷ []) [] ((pos 0 ∷ pos 1 ∷ pos 0 ∷ minus 1 ∷ minus 1 ∷ []) ∷ [])
     ((pos 1 ∷ pos 0 ∷ pos 0 ∷ pos 0 ∷ pos 0 ∷ pos 0 ∷ pos 0 ∷ []) ∷ (pos 1 ∷ pos 1 ∷ pos 0 ∷ pos 0 ∷ pos 7000 ∷ pos 0 ∷ pos 0 ∷ []) ∷ [])
-    (pos 66666 ∷ pos 0 ∷ pos 66666 ∷ pos 0 ∷ [])
+    (pos 33333 ∷ minus 33333 ∷ pos 33333 ∷ minus 33333 ∷ [])
 
 -- n from zone 0 to zone 1
 abbrev exchange : (n : ℕ) → (z : ℕ) → ℤ
@@ -42,6 +42,8 @@ pub record AllowedAnchors : Type 0 where
   pub half-0 : only 0 2 3
   pub half-1 : only 1 2 3 → ⊥
   pub three-0 : only 0 1 3 → ⊥
+  -- so the two rows do not allow the same, though of whole kW they do: 3/2 kW from zone 0 to zone 1 sum to zero over both zones
+  pub not-same : Same t (eqb 0) (eqb 1) → ⊥
 
 listed : (row k n : ℕ) → netLoad t (exchange n) row ≤ℤ (pos k *ℤ ramAt t row) → only row k n
 listed row k n within = record { each = λ i h l. subst (λ (j : ℕ). netLoad t (exchange n) j ≤ℤ (pos k *ℤ ramAt t j)) (eqb-true row i l) within }
@@ -59,4 +61,5 @@ allowed-anchors =
       half-0 = listed 0 2 3 (record { le = tt });
       half-1 = λ a. a .each 1 (omega arith) refl .le;
       three-0 = λ a. a .each 0 (omega arith) refl .le;
+      not-same = λ s. s .same 2 (lit< tt) (exchange 3) refl .0 (listed 0 2 3 (record { le = tt })) .each 1 (omega arith) refl .le;
     }

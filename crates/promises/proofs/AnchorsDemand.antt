@@ -72,6 +72,13 @@ atcsLeft mw = (pos mw ∷ pos 9 ∷ pos 0 ∷ []) ∷ (pos 0 ∷ pos 1 ∷ pos 0
 abbrev leftsLeft : (margin : ℕ) → List (List ℤ)
 leftsLeft margin = (pos 0 ∷ pos 24000000 ∷ pos margin ∷ []) ∷ (pos 0 ∷ pos 100000 ∷ pos 0 ∷ []) ∷ []
 
+-- .. border 1's ATC, with border 0 at its LTA, and the margins of both rows where they start
+abbrev secondLeft : (mw : ℕ) → List (List ℤ)
+secondLeft mw = (pos 2 ∷ pos 0 ∷ minus 1 ∷ []) ∷ (pos mw ∷ pos 1 ∷ pos 0 ∷ []) ∷ []
+
+abbrev startLeft : List (List ℤ)
+startLeft = (pos 0 ∷ pos 24000000 ∷ pos 4000000 ∷ []) ∷ (pos 0 ∷ pos 100000 ∷ pos 100000 ∷ []) ∷ []
+
 -- .. and border 0's last round and stopping row
 abbrev stopLeft : (last : ℕ) → (row : ℤ) → List (List ℤ)
 stopLeft last row = (pos 2 ∷ pos last ∷ row ∷ []) ∷ []
@@ -130,6 +137,11 @@ pub record Anchors : Type 0 where
   pub at-lta : ResultDemand3 small every (ended 0 (4000000 ∷ 100000 ∷ []) (2000 ∷ 0 ∷ [])) → ⊥
   pub at-lta-marked : ResultDemand3 small second (ended 0 (4000000 ∷ 100000 ∷ []) (2000 ∷ 0 ∷ [])) → ⊥
   pub one-round : ResultDemand3 small every (ended 1 (1800000 ∷ 0 ∷ []) (2200 ∷ 20 ∷ [])) → ⊥
+  -- with border 1 alone marked: at 401 kW it loads row 0 beyond its RAM; border 0 below its LTA; row 0 lost a grain more; more than 6,144 rounds
+  pub beyond-marked : ResultDemand3 small second (ended 1 (0 ∷ 0 ∷ []) (2000 ∷ 401 ∷ [])) → ⊥
+  pub fell-marked : ResultDemand3 small second (ended 1 (3800000 ∷ 0 ∷ []) (1999 ∷ 20 ∷ [])) → ⊥
+  pub lost-marked : ResultDemand3 small second (ended 1 (3799999 ∷ 0 ∷ []) (2000 ∷ 20 ∷ [])) → ⊥
+  pub most-marked : ResultDemand3 small second (ended 6145 (3800000 ∷ 0 ∷ []) (2000 ∷ 20 ∷ [])) → ⊥
   -- the same of records that a call could have left: an ATC of 3 MW, which loads row 0 beyond its RAM; of 1 MW, below the LTA; of 3 MW on a border that is not marked
   pub left-beyond : LeftDemand3 small every 9 (atcsLeft 3) (leftsLeft 10000) → ⊥
   pub left-fell : LeftDemand3 small every 9 (atcsLeft 1) (leftsLeft 10000) → ⊥
@@ -140,6 +152,12 @@ pub record Anchors : Type 0 where
   pub left-many-marked : LeftDemand3 small second 11 (atcsLeft 2) (leftsLeft 3800000) → ⊥
   pub left-most : LeftDemand3 small every 6145 (atcsLeft 2) (leftsLeft 10000) → ⊥
   pub left-early : LeftDemand3 small every 1 (atcsLeft 2) (leftsLeft 1800000) → ⊥
+  -- .. and with border 1 alone marked
+  pub left-beyond-marked : LeftDemand3 small second 1 (secondLeft 1) (leftsLeft 3800000) → ⊥
+  pub left-fell-marked : LeftDemand3 small second 1 (atcsLeft 1) (leftsLeft 3800000) → ⊥
+  pub left-lost-marked : LeftDemand3 small second 1 (secondLeft 0) (leftsLeft 3799999) → ⊥
+  pub left-most-marked : LeftDemand3 small second 6145 (secondLeft 0) (leftsLeft 3800000) → ⊥
+  pub left-early-marked : LeftDemand3 small second 0 (secondLeft 0) startLeft → ⊥
   -- E7: row 1 stops border 1 too, but row 0 is the first; row 1 does not load border 0; a share of one kW stops nobody, also where border 0 has no part in it
   pub not-first : StoppedBy small every hour 1 1 → ⊥
   pub not-loaded : StoppedBy small every hour 0 1 → ⊥
@@ -189,6 +207,10 @@ anchors =
       at-lta = λ d. let e : _≡_ {A = ℕ} 200 0 = d .still 0 (lit< tt) in omega arith;
       at-lta-marked = λ d. let e : _≡_ {A = ℕ} 20 0 = d .still 1 (lit< tt) in omega arith;
       one-round = λ d. let e : _≡_ {A = ℕ} 90 0 = d .still 0 (lit< tt) in omega arith;
+      beyond-marked = λ d. clashℤ (ltZ-yes {a = pos 24000000} {b = pos 24010000} tt) (d .within refl (2000 ∷ 401 ∷ []) (both _ _ (lit≤ tt) (lit≤ tt)) 0 (lit< tt) refl);
+      fell-marked = λ d. let h : 2000 ≤ 1999 = d .rose 0 (lit< tt) in omega arith;
+      lost-marked = λ d. let e : _≡_ {A = ℕ} 4000000 3999999 = ap natAbs (d .lost 0 (lit< tt) refl) in omega arith;
+      most-marked = λ d. let h : 6145 ≤ 6144 = d .most in omega arith;
       left-beyond = λ d.
           clashℤ (ltZ-yes {a = pos 24000000} {b = pos 30000000} tt)
           (d .demand .within refl (3000 ∷ 0 ∷ []) (both _ (at (d .kw)) (at-least (at (d .kw) 0) 3 (d .floored 0 (lit< tt))) (omega arith)) 0 (lit< tt) refl);
@@ -199,6 +221,13 @@ anchors =
       left-many-marked = λ d. let h : 11 ≤ 10 = d .demand .few in omega arith;
       left-most = λ d. let h : 6145 ≤ 6144 = d .demand .most in omega arith;
       left-early = λ d. let e : _≡_ {A = ℕ} 90 0 = d .demand .still 0 (lit< tt) in omega arith;
+      left-beyond-marked = λ d.
+          clashℤ (ltZ-yes {a = pos 24000000} {b = pos 30000000} tt)
+          (d .demand .within refl (2000 ∷ 1000 ∷ []) (both _ (at (d .kw)) (at-least (at (d .kw) 0) 2 (d .floored 0 (lit< tt))) (at-least (at (d .kw) 1) 1 (d .floored 1 (lit< tt)))) 0 (lit< tt) refl);
+      left-fell-marked = λ d. let h : 2000 ≤ at (d .kw) 0 = d .demand .rose 0 (lit< tt) in omega (arith, under (at (d .kw) 0) 1 (d .floored 0 (lit< tt)));
+      left-lost-marked = λ d. let e : 4000000 ≡ 3799999 + (0 + 10000 * (at (d .kw) 0 - 2000) + 10000 * (at (d .kw) 1 - 0)) = ap natAbs (d .demand .lost 0 (lit< tt) refl) in omega arith;
+      left-most-marked = λ d. let h : 6145 ≤ 6144 = d .demand .most in omega arith;
+      left-early-marked = λ d. let e : _≡_ {A = ℕ} 20 0 = d .demand .still 1 (lit< tt) in omega arith;
       not-first = λ u. let h : 1 ≤ 0 = u .first 0 (lit< tt) refl (lit< tt) in omega arith;
       not-loaded = λ u. let h : 0 < 0 = u .loads in omega arith;
       not-under = λ u. let h : 1 < 1 = u .under in omega arith;

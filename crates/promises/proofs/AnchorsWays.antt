@@ -1,7 +1,7 @@
 -- A small hour in both profiles, with marks, and with its list not shortened; results and records that intraday demand 3 rejects, and tables of p that E9 rejects.
 -- Nobody cites it: it refuses a definition or a statement that slipped, by the number that comes out.
 use mathlib.Core.Path.{_≡_, refl, sym, ap, subst}
-use mathlib.Core.Bool.{Bool, true, false}
+use mathlib.Core.Bool.{Bool, true, false, false≢true}
 use mathlib.Core.List.{List, [], _∷_}
 use Prim.Native.Nat.{ℕ, zero, suc, _+_, _*_, _-_, _/_, _≤_, _<_}
 use native.Mathlib.Nat.{div-mul-le-self}
@@ -15,15 +15,16 @@ use Rattle.kinds.specs.Ranges.{hubsOf, borderOf, shareOf, rowOf, worth, default
 use Rattle.kinds.specs.Refusals.{Judged, passed, refused, refusal, then, unless, refuseAt, refuseFirst}
 use Rattle.marks.specs.Marks.{markedBy, faultyMark, judgeMarks}
 use Rattle.table.specs.Table.{Table, factorsAt, stretch}
-use Rattle.rounds.specs.Rounds.{Outcome, sharers, raise, alone, raises, load, lowered, risen, apply, next, raised, counted, run, extract, mostSharers, bitsTo, bits, aloneBits}
+use Rattle.rounds.specs.Rounds.{State, Outcome, sharers, raise, alone, raises, load, lowered, risen, apply, next, raised, counted, run, extract, mostSharers, bitsTo, bits, aloneBits}
 use Rattle.margin.specs.Margin.{flowOf, grains, f0coreOf, fuafOf, baseOf, amrOf, signedFactor, pOf, ltaKw, sOf, ltaMarginOf, ramOf, ramAt}
 use Rattle.states.specs.States.{highest, lowest, spreadOf, shifted, below, stateOf}
 use Rattle.start.specs.Setup.{gridBy, beginBy, judgeBy}
 use Rattle.start.specs.Start.{rowsOf, kept, every, setupWith}
-use Rattle.extraction.specs.Extraction.{Result, leftOf, nOf, lOf}
+use Rattle.extraction.specs.Extraction.{Result, resultMarked, leftOf, nOf, lOf}
 use Rattle.promises.specs.ByBorder.{laidOut, ByBorder}
 use Rattle.promises.specs.Demand.{loadOf, startMargin, startKw, ResultDemand3}
 use Rattle.promises.specs.DemandLeft.{LeftDemand3}
+use Rattle.promises.specs.Stopped.{StoppedBy}
 use Rattle.promises.specs.Ways.{resultIn, outcomeIn, outcomeTaking, unshortened}
 
 -- border 0 to 1 has 1 MW, the way back none. Row 0 loads the first and row 1 the second; row 2 is of row 0's class, with a higher RAM, and row 3 is under 5%. IVA of row 0 is one's own
@@ -63,8 +64,16 @@ leftsLeft margin =
 abbrev second : (b : ℕ) → Bool
 second b = eqb b 1
 
+-- .. and the first
+abbrev first : (b : ℕ) → Bool
+first b = eqb b 0
+
 abbrev end : (rounds : ℕ) → (margins x : List ℕ) → Outcome
 end rounds margins x = record { rounds = rounds; state = record { margins = margins; x = x } }
+
+-- margins that let border 1 rise by one kW
+abbrev one-kw : State
+one-kw = record { margins = 0 ∷ 30000 ∷ 0 ∷ 0 ∷ []; x = 0 ∷ 0 ∷ [] }
 
 -- where an outcome ends
 abbrev ends : Judged Result → Judged Outcome
@@ -126,6 +135,12 @@ pub record Anchors : Type 0 where
   pub many-marked : ResultDemand3 (late 0) second (ended 1 (300000000 ∷ 0 ∷ 0 ∷ 0 ∷ []) (0 ∷ 0 ∷ [])) → ⊥
   pub most : ResultDemand3 (late 0) every (ended 6273 (0 ∷ 0 ∷ 0 ∷ 0 ∷ []) (15000 ∷ 0 ∷ [])) → ⊥
   pub early : ResultDemand3 (late 0) every (ended 0 (300000000 ∷ 0 ∷ 0 ∷ 0 ∷ []) (0 ∷ 0 ∷ [])) → ⊥
+  -- the same with one border marked
+  pub beyond-marked : ResultDemand3 (late 0) first (ended 1 (0 ∷ 0 ∷ 0 ∷ 0 ∷ []) (16000 ∷ 0 ∷ [])) → ⊥
+  pub idle-marked : ResultDemand3 (late 0) second (ended 0 (300000000 ∷ 0 ∷ 0 ∷ 0 ∷ []) (0 ∷ 1 ∷ [])) → ⊥
+  pub lost-marked : ResultDemand3 (late 0) first (ended 1 (1 ∷ 0 ∷ 0 ∷ 0 ∷ []) (15000 ∷ 0 ∷ [])) → ⊥
+  pub most-marked : ResultDemand3 (late 0) first (ended 6273 (0 ∷ 0 ∷ 0 ∷ 0 ∷ []) (15000 ∷ 0 ∷ [])) → ⊥
+  pub early-marked : ResultDemand3 (late 0) first (ended 0 (300000000 ∷ 0 ∷ 0 ∷ 0 ∷ []) (0 ∷ 0 ∷ [])) → ⊥
   -- the same of records that a call could have left
   pub left-beyond : LeftDemand3 (late 0) every 1 (atcsLeft 16 0) (leftsLeft 0) → ⊥
   pub left-idle : LeftDemand3 (late 0) every 1 (atcsLeft 15 1) (leftsLeft 0) → ⊥
@@ -134,6 +149,15 @@ pub record Anchors : Type 0 where
   pub left-many : LeftDemand3 (late 0) every 29 (atcsLeft 15 0) (leftsLeft 0) → ⊥
   pub left-most : LeftDemand3 (late 0) every 6273 (atcsLeft 15 0) (leftsLeft 0) → ⊥
   pub left-early : LeftDemand3 (late 0) every 0 (atcsLeft 0 0) (leftsLeft 300000000) → ⊥
+  -- .. and with one border marked
+  pub left-beyond-marked : LeftDemand3 (late 0) first 1 (atcsLeft 16 0) (leftsLeft 0) → ⊥
+  pub left-idle-marked : LeftDemand3 (late 0) second 0 (atcsLeft 0 1) (leftsLeft 300000000) → ⊥
+  pub left-lost-marked : LeftDemand3 (late 0) first 1 (atcsLeft 15 0) (leftsLeft 1) → ⊥
+  pub left-many-marked : LeftDemand3 (late 0) second 1 (atcsLeft 0 0) (leftsLeft 300000000) → ⊥
+  pub left-most-marked : LeftDemand3 (late 0) first 6273 (atcsLeft 15 0) (leftsLeft 0) → ⊥
+  pub left-early-marked : LeftDemand3 (late 0) first 0 (atcsLeft 0 0) (leftsLeft 300000000) → ⊥
+  -- E7: row 2 loads border 0 and has nothing left, but is not kept
+  pub not-kept-row : StoppedBy (small 0) every (ended 1 (0 ∷ 0 ∷ 0 ∷ 0 ∷ []) (12000 ∷ 1000 ∷ [])) 0 2 → ⊥
   -- E9: the rounds take the table's factors of the marked borders
   pub laid : laidOut (small 0) every (20000 ∷ 0 ∷ 0 ∷ 30000 ∷ []) .p 1 1 ≡ 30000
   pub laid-unmarked : laidOut (small 0) second (20000 ∷ 0 ∷ 0 ∷ 30000 ∷ []) .p 0 0 ≡ 0
@@ -141,9 +165,14 @@ pub record Anchors : Type 0 where
   pub not-kept : ByBorder (small 0) every (20000 ∷ 0 ∷ 0 ∷ 30000 ∷ 20000 ∷ 0 ∷ 0 ∷ 0 ∷ []) → ⊥
   pub other : ByBorder (small 0) every (20000 ∷ 0 ∷ 0 ∷ 30001 ∷ 0 ∷ 0 ∷ 0 ∷ 0 ∷ []) → ⊥
   pub left-out : ByBorder (small 0) second (0 ∷ 0 ∷ 0 ∷ 30000 ∷ 0 ∷ 0 ∷ 0 ∷ 0 ∷ []) → ⊥
+  -- .. and what the other factor makes other: a raise, a round, the rounds, and where they end (11,999 kW for 12,000)
+  pub other-raise : ByBorder (small 0) every (20000 ∷ 0 ∷ 0 ∷ 30001 ∷ 0 ∷ 0 ∷ 0 ∷ 0 ∷ []) → ⊥
+  pub other-round : ByBorder (small 0) every (20000 ∷ 0 ∷ 0 ∷ 30001 ∷ 0 ∷ 0 ∷ 0 ∷ 0 ∷ []) → ⊥
+  pub other-rounds : ByBorder (small 0) every (20000 ∷ 0 ∷ 0 ∷ 30001 ∷ 0 ∷ 0 ∷ 0 ∷ 0 ∷ []) → ⊥
+  pub other-end : ByBorder (small 0) every (20001 ∷ 0 ∷ 0 ∷ 30000 ∷ 0 ∷ 0 ∷ 0 ∷ 0 ∷ []) → ⊥
 
 pub anchors : Anchors
-unfolding ifZero sum count largest lesser least orZero table firstFrom given maxℤ minℤ positivePart sameℤ sumℤ hubsOf borderOf shareOf rowOf worth defaultOf then unless refuseAt refuseFirst stretch markedBy faultyMark judgeMarks sharers raise alone raises load lowered risen apply next raised counted run extract mostSharers bitsTo bits aloneBits grains f0coreOf fuafOf baseOf amrOf signedFactor pOf ltaKw sOf ltaMarginOf ramOf ramAt highest lowest spreadOf shifted below stateOf rowsOf kept gridBy beginBy judgeBy setupWith leftOf nOf lOf loadOf resultIn outcomeIn outcomeTaking unshortened
+unfolding ifZero sum count largest lesser least orZero table firstFrom given maxℤ minℤ positivePart sameℤ sumℤ hubsOf borderOf shareOf rowOf worth defaultOf then unless refuseAt refuseFirst stretch markedBy faultyMark judgeMarks sharers raise alone raises load lowered risen apply next raised counted run extract mostSharers bitsTo bits aloneBits grains f0coreOf fuafOf baseOf amrOf signedFactor pOf ltaKw sOf ltaMarginOf ramOf ramAt highest lowest spreadOf shifted below stateOf rowsOf kept gridBy beginBy judgeBy setupWith leftOf nOf lOf loadOf resultMarked resultIn outcomeIn outcomeTaking unshortened
 anchors =
     record {
       day = refl;
@@ -169,6 +198,11 @@ anchors =
       many-marked = λ d. let h : 1 ≤ 0 = d .few in omega arith;
       most = λ d. let h : 6273 ≤ 6272 = d .most in omega arith;
       early = λ d. let e : _≡_ {A = ℕ} 15000 0 = d .still 0 (lit< tt) in omega arith;
+      beyond-marked = λ d. clashℤ (ltZ-yes {a = pos 240000000} {b = pos 260000000} tt) (d .on-top refl (16000 ∷ 0 ∷ []) (both _ _ (lit≤ tt) (lit≤ tt)) 0 (lit< tt) refl (ltZ-no {a = pos 300000000} {b = pos 0} tt));
+      idle-marked = λ d. clashℤ (ltZ-yes {a = pos 0} {b = pos 30000} tt) (d .idle refl (0 ∷ 1 ∷ []) (both _ _ (lit≤ tt) (lit≤ tt)) 1 (lit< tt) refl (ltZ-yes {a = minus 60000000} {b = pos 0} tt));
+      lost-marked = λ d. let e : _≡_ {A = ℕ} 300000000 300000001 = ap natAbs (d .lost 0 (lit< tt) refl) in omega arith;
+      most-marked = λ d. let h : 6273 ≤ 6272 = d .most in omega arith;
+      early-marked = λ d. let e : _≡_ {A = ℕ} 15000 0 = d .still 0 (lit< tt) in omega arith;
       left-beyond = λ d.
           clashℤ (ltZ-yes {a = pos 240000000} {b = pos 260000000} tt)
           (d .demand .on-top refl (16000 ∷ 0 ∷ []) (both _ (at (d .kw)) (at-least (at (d .kw) 0) 16 (d .floored 0 (lit< tt))) (omega arith)) 0 (lit< tt) refl (ltZ-no {a = pos 300000000} {b = pos 0} tt));
@@ -180,9 +214,24 @@ anchors =
       left-many = λ d. let h : 29 ≤ 28 = d .demand .few in omega arith;
       left-most = λ d. let h : 6273 ≤ 6272 = d .demand .most in omega arith;
       left-early = λ d. let e : _≡_ {A = ℕ} 15000 0 = d .demand .still 0 (lit< tt) in omega arith;
+      left-beyond-marked = λ d.
+          clashℤ (ltZ-yes {a = pos 240000000} {b = pos 260000000} tt)
+          (d .demand .on-top refl (16000 ∷ 0 ∷ []) (both _ (at (d .kw)) (at-least (at (d .kw) 0) 16 (d .floored 0 (lit< tt))) (omega arith)) 0 (lit< tt) refl (ltZ-no {a = pos 300000000} {b = pos 0} tt));
+      left-idle-marked = λ d.
+          clashℤ (ltZ-yes {a = pos 0} {b = pos 30000000} tt)
+          (d .demand .idle refl (0 ∷ 1000 ∷ []) (both _ (at (d .kw)) (omega arith) (at-least (at (d .kw) 1) 1 (d .floored 1 (lit< tt)))) 1 (lit< tt) refl (ltZ-yes {a = minus 60000000} {b = pos 0} tt));
+      left-lost-marked = λ d. let e : 300000000 ≡ 1 + (0 + 20000 * (at (d .kw) 0 - 0) + 0 * (at (d .kw) 1 - 0)) = ap natAbs (d .demand .lost 0 (lit< tt) refl) in omega arith;
+      left-many-marked = λ d. let h : 1 ≤ 0 = d .demand .few in omega arith;
+      left-most-marked = λ d. let h : 6273 ≤ 6272 = d .demand .most in omega arith;
+      left-early-marked = λ d. let e : _≡_ {A = ℕ} 15000 0 = d .demand .still 0 (lit< tt) in omega arith;
+      not-kept-row = λ u. false≢true (u .takes);
       laid = refl;
       laid-unmarked = refl;
       not-kept = λ d. let e : _≡_ {A = ℕ} 20000 0 = d .same 2 0 (lit< tt) (lit< tt) in omega arith;
       other = λ d. let e : _≡_ {A = ℕ} 30001 30000 = d .same 1 1 (lit< tt) (lit< tt) in omega arith;
       left-out = λ d. let e : _≡_ {A = ℕ} 0 20000 = d .same 0 0 (lit< tt) (lit< tt) in omega arith;
+      other-raise = λ d. let e : _≡_ {A = ℕ} 0 1 = d .raises (0 ∷ 30000 ∷ 0 ∷ 0 ∷ []) 1 (lit< tt) in omega arith;
+      other-round = λ d. let e : _≡_ {A = ℕ} 0 1 = ap (λ (s : State). at (s .x) 1) (d .round one-kw) in omega arith;
+      other-rounds = λ d. let e : _≡_ {A = ℕ} 0 1 = ap (λ (o : Outcome). o .rounds) (d .rounds one-kw) in omega arith;
+      other-end = λ d. let e : _≡_ {A = ℕ} 11999 12000 = ap (λ (o : Outcome). at (o .state .x) 0) (d .ends) in omega arith;
     }

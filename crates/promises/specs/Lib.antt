@@ -3,6 +3,7 @@ pub mod DemandLeft
 pub mod Ways
 pub mod Same
 pub mod Order
+pub mod Shortening
 pub mod Seven
 pub mod Marked
 pub mod Stopped
