@@ -10,28 +10,31 @@ use Rattle.table.specs.Table.{Table, stretch}
 use Rattle.margin.specs.Margin.{grains, f0coreOf, fuafOf, baseOf, amrOf, signedFactor, pOf, ltaKw, sOf, ltaMarginOf, ramOf, ramAt, ramsOf}
 use Rattle.states.specs.States.{highest, lowest, spreadOf, shifted, below, stateOf, statesOf}
 
--- rows of Fmax 100000 kW, their other values 0, with these factors of two zones
-abbrev rowsWith : (rows : ℕ) → (factors : List ℤ) → Table
-rowsWith rows factors =
+-- rows of Fmax 100000 kW, their other values 0, with these factors; the border is from zone 0 to zone 1
+abbrev rowsWith : (zones rows : ℕ) → (factors : List ℤ) → Table
+rowsWith zones rows factors =
     record {
-      header = record { zones = 2; borders = 1; rows = rows; share = minus 1; intraday = 0 };
-      nets = pos 0 ∷ pos 0 ∷ [];
+      header = record { zones = zones; borders = 1; rows = rows; share = minus 1; intraday = 0 };
+      nets = table zones (λ z. pos 0);
       allocated = [];
       borders = (pos 0 ∷ pos 1 ∷ pos 0 ∷ minus 1 ∷ minus 1 ∷ []) ∷ [];
       rows = table rows (λ i. pos 100000 ∷ pos 0 ∷ pos 0 ∷ pos 0 ∷ pos 0 ∷ pos 0 ∷ pos 0 ∷ []);
       factors = factors;
     }
 
-abbrev statesWith : (rows : ℕ) → (factors : List ℤ) → List ℕ
-statesWith rows factors = let t = rowsWith rows factors in statesOf (t .header) (t .factors) (ramsOf t)
+abbrev statesWith : (zones rows : ℕ) → (factors : List ℤ) → List ℕ
+statesWith zones rows factors = let t = rowsWith zones rows factors in statesOf (t .header) (t .factors) (ramsOf t)
 
 pub record Anchors : Type 0 where
   -- spread 5000: kept; 4999: state 1
-  pub spread-5000 : statesWith 1 (pos 5000 ∷ pos 0 ∷ []) ≡ 0 ∷ []
-  pub spread-4999 : statesWith 1 (pos 4999 ∷ pos 0 ∷ []) ≡ 1 ∷ []
+  pub spread-5000 : statesWith 2 1 (pos 5000 ∷ pos 0 ∷ []) ≡ 0 ∷ []
+  pub spread-4999 : statesWith 2 1 (pos 4999 ∷ pos 0 ∷ []) ≡ 1 ∷ []
+  -- zone 2 is in no border, and its factor counts for the spread (02, E3)
+  pub outside-5000 : statesWith 3 1 (pos 0 ∷ pos 0 ∷ pos 5000 ∷ []) ≡ 0 ∷ []
+  pub outside-4999 : statesWith 3 1 (pos 0 ∷ pos 0 ∷ pos 4999 ∷ []) ≡ 1 ∷ []
   -- of two rows with equal RAM and equal factors the second is state 2
-  pub tie : statesWith 2 (pos 5000 ∷ pos 0 ∷ pos 5000 ∷ pos 0 ∷ []) ≡ 0 ∷ 2 ∷ []
+  pub tie : statesWith 2 2 (pos 5000 ∷ pos 0 ∷ pos 5000 ∷ pos 0 ∷ []) ≡ 0 ∷ 2 ∷ []
 
 pub anchors : Anchors
 unfolding sum table firstFrom given maxℤ minℤ positivePart sameℤ sumℤ hubsOf borderOf shareOf rowOf worth defaultOf stretch grains f0coreOf fuafOf baseOf amrOf signedFactor pOf ltaKw sOf ltaMarginOf ramOf ramAt highest lowest spreadOf shifted below stateOf
-anchors = record { spread-5000 = refl; spread-4999 = refl; tie = refl }
+anchors = record { spread-5000 = refl; spread-4999 = refl; outside-5000 = refl; outside-4999 = refl; tie = refl }
