@@ -68,6 +68,7 @@ impl Room {
     fn for_hour(hour: &Hour) -> Room {
         let mut tables = hour.tables.clone();
         tables.z.fill(UNSAID);
+        tables.t.fill(UNSAID);
         tables.b.fill([UNSAID; 5]);
         tables.c.fill([UNSAID; 7]);
         tables.f.fill(UNSAID);
@@ -88,7 +89,7 @@ impl Room {
 
 /// The library's `extract` through its C interface.
 fn proved(hour: &Hour, room: &mut Room) -> u64 {
-    calls::extract(&hour.lent(), &mut room.p, &mut room.atc, &mut room.left).rounds
+    calls::extract(&hour.tables, &mut room.p, &mut room.atc, &mut room.left).rounds
 }
 
 /// The extraction as it stood before E4.
@@ -128,7 +129,7 @@ fn float_loop(hour: &Hour, room: &mut Room) -> u64 {
 /// this is what is not rounds.
 fn proved_short(hour: &Hour, room: &mut Room) -> u64 {
     let short = room.left.len() - 1;
-    calls::extract(&hour.lent(), &mut room.p, &mut room.atc, &mut room.left[..short]).place as u64
+    calls::extract(&hour.tables, &mut room.p, &mut room.atc, &mut room.left[..short]).place as u64
 }
 
 /// The old shape refused at the same place.
@@ -140,23 +141,22 @@ fn old_short(hour: &Hour, room: &mut Room) -> u64 {
 
 /// The library's `bound`: 2 x N x L, known before the first round.
 fn proved_bound(hour: &Hour, _: &mut Room) -> u64 {
-    calls::bound(&hour.lent()).rounds
+    calls::bound(&hour.tables).rounds
 }
 
 /// .. where the borders stand in the order that costs most.
 fn proved_bound_ascending(hour: &Hour, _: &mut Room) -> u64 {
-    calls::bound(&lent(&hour.ascending)).rounds
+    calls::bound(&hour.ascending).rounds
 }
 
 /// The library's `read`: text to tables.
 fn proved_read(hour: &Hour, room: &mut Room) -> u64 {
-    let Tables { z, b, c, f, .. } = &mut room.tables;
-    calls::read(&hour.text, z, b, c, f).rows as u64
+    calls::read(&hour.text, &mut room.tables).rows as u64
 }
 
 /// The library's `result_text`: tables to the result's text.
 fn proved_result_text(hour: &Hour, room: &mut Room) -> u64 {
-    calls::result_text(&hour.lent(), &mut room.out).bytes as u64
+    calls::result_text(&hour.tables, &mut room.out).bytes as u64
 }
 
 /// The library's `answer`: text to the result's text.
@@ -166,7 +166,7 @@ fn proved_answer(hour: &Hour, room: &mut Room) -> u64 {
 
 /// The library's `write`: tables to their text.
 fn proved_write(hour: &Hour, room: &mut Room) -> u64 {
-    calls::write(&hour.lent(), &mut room.out).bytes as u64
+    calls::write(&hour.tables, &mut room.out).bytes as u64
 }
 
 fn keep(text: Vec<u8>, room: &mut Room) -> u64 {
@@ -356,7 +356,8 @@ fn once(design: &str, path: &str) -> ! {
 fn hour_of(path: &str) -> Hour {
     let text = std::fs::read(path).unwrap_or_else(|error| panic!("{path}: {error}"));
     let tables = second::read(&text, [usize::MAX; 5]).expect("a good table");
-    let ascending = ascending(&tables);
+    // The old shape knows no T lines: such an hour is only counted.
+    let ascending = if tables.t.is_empty() { ascending(&tables) } else { tables.clone() };
     Hour { text, tables, ascending }
 }
 

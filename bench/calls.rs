@@ -1,6 +1,6 @@
 //! The calls of include/keravnoth.h that the bench measures, linked.
 
-use crate::old::Lent;
+use crate::second::{self, Tables};
 
 #[repr(C)]
 pub struct Header {
@@ -100,39 +100,38 @@ linked! {
     ) -> Bounded;
 }
 
-/// The hours of the bench are of the day-ahead profile: they have no T.
-const NO_T: [i64; 0] = [];
-
-/// A call on a lent table, which comes first, and on the buffers that follow it.
+/// A call on tables, which come first, and on the buffers that follow them.
 macro_rules! on_lent {
-    ($call:ident($lent:expr $(, $buffer:expr)*)) => {{
-        let Lent { zones, borders, rows, share, z, b, c, f } = *$lent;
+    ($call:ident($tables:expr $(, $buffer:expr)*)) => {{
+        let Tables { header, z, t, b, c, f } = $tables;
+        let second::Header { zones, borders, rows, share, intraday } = *header;
         $call(
-            Header { zones, borders, rows, share, intraday: 0 },
-            z.as_ptr(), z.len(), NO_T.as_ptr(), NO_T.len(), b.as_ptr(), b.len(), c.as_ptr(), c.len(), f.as_ptr(), f.len(),
+            Header { zones, borders, rows, share, intraday: intraday as usize },
+            z.as_ptr(), z.len(), t.as_ptr(), t.len(), b.as_ptr(), b.len(), c.as_ptr(), c.len(), f.as_ptr(), f.len(),
             $($buffer.as_mut_ptr(), $buffer.len()),*
         )
     }};
 }
 
-pub fn read(text: &[u8], z: &mut [i64], b: &mut [[i64; 5]], c: &mut [[i64; 7]], f: &mut [i64]) -> Read {
+pub fn read(text: &[u8], into: &mut Tables) -> Read {
+    let Tables { z, t, b, c, f, .. } = into;
     unsafe {
         keravnoth_read(
             text.as_ptr(), text.len(),
-            z.as_mut_ptr(), z.len(), [0; 0].as_mut_ptr(), 0, b.as_mut_ptr(), b.len(), c.as_mut_ptr(), c.len(), f.as_mut_ptr(), f.len(),
+            z.as_mut_ptr(), z.len(), t.as_mut_ptr(), t.len(), b.as_mut_ptr(), b.len(), c.as_mut_ptr(), c.len(), f.as_mut_ptr(), f.len(),
         )
     }
 }
 
-pub fn write(t: &Lent, out: &mut [u8]) -> Written {
+pub fn write(t: &Tables, out: &mut [u8]) -> Written {
     unsafe { on_lent!(keravnoth_write(t, out)) }
 }
 
-pub fn extract(t: &Lent, p: &mut [u64], atc: &mut [[i64; 3]], left: &mut [[i64; 3]]) -> Extracted {
+pub fn extract(t: &Tables, p: &mut [u64], atc: &mut [[i64; 3]], left: &mut [[i64; 3]]) -> Extracted {
     unsafe { on_lent!(keravnoth_extract(t, p, atc, left)) }
 }
 
-pub fn result_text(t: &Lent, out: &mut [u8]) -> Written {
+pub fn result_text(t: &Tables, out: &mut [u8]) -> Written {
     unsafe { on_lent!(keravnoth_result_text(t, out)) }
 }
 
@@ -140,6 +139,6 @@ pub fn answer(text: &[u8], out: &mut [u8]) -> Written {
     unsafe { keravnoth_answer(text.as_ptr(), text.len(), out.as_mut_ptr(), out.len()) }
 }
 
-pub fn bound(t: &Lent) -> Bounded {
+pub fn bound(t: &Tables) -> Bounded {
     unsafe { on_lent!(keravnoth_bound(t)) }
 }

@@ -127,15 +127,41 @@ fn row_parts(row: &[u64], x: &[u64], bounds: &[u64], rising: &[usize]) -> (u64, 
 }
 
 /// Every row loses the sum of p times what was gained.
-fn settle(w: &mut Work, gained: &[u64], rising: &[usize]) {
+fn settle(w: &mut Work, gained: &[u64], rising: &[usize], told: &mut impl Told) {
     for (margin, row) in w.margins.iter_mut().zip(w.p.chunks_exact(w.borders)) {
         *margin -= row_parts(row, gained, gained, rising).0;
+        told.step(Step::Sorted, rising.len());
     }
 }
 
-/// The library's rounds in plain Rust: the last raise bounds the next one, only borders that still rise are looked at, a row
-/// divides only where a product shows that a bound is above its share, and rows far from that rest for 16 rounds.
+/// What a stretch of `told_rounds` does: a row of the first round, a row where a block of rounds begins or the work ends, a row in a round, once more
+/// where it is tight, and what a round does besides.
+#[derive(Clone, Copy)]
+pub enum Step {
+    Begun,
+    Sorted,
+    Walked,
+    Lowered,
+    Rose,
+}
+
+/// Is told of each stretch, with the borders that it looks at. `()` makes nothing of it, and then it costs nothing.
+pub trait Told {
+    fn step(&mut self, step: Step, borders: usize);
+}
+
+impl Told for () {
+    fn step(&mut self, _: Step, _: usize) {}
+}
+
+/// The library's rounds in plain Rust.
 pub fn new_rounds(w: &mut Work) -> u64 {
+    told_rounds(w, &mut ())
+}
+
+/// The last raise bounds the next one, only borders that still rise are looked at, a row divides only where a product shows that a bound is above its
+/// share, and rows far from that rest for 16 rounds.
+pub fn told_rounds(w: &mut Work, told: &mut impl Told) -> u64 {
     const BLOCK: u64 = 16;
     let mut bounds = [0; BORDERS_MOST];
     let mut gained = [0; BORDERS_MOST];
@@ -150,10 +176,11 @@ pub fn new_rounds(w: &mut Work) -> u64 {
     for ((row, margin), n) in w.p.chunks_exact(w.borders).zip(&*w.margins).zip(w.ns) {
         let share = if *n == 0 { 0 } else { margin / n };
         lower_bounds(row, share, &rising[..live], bounds);
+        told.step(Step::Begun, live);
     }
     loop {
         if wait == 0 {
-            settle(w, gained, &rising[..live]);
+            settle(w, gained, &rising[..live], told);
             gained.fill(0);
             let mut kept = 0;
             for j in 0..live {
@@ -164,13 +191,14 @@ pub fn new_rounds(w: &mut Work) -> u64 {
             count = 0;
             for (i, row) in w.p.chunks_exact(w.borders).enumerate() {
                 let (loss, most) = row_parts(row, bounds, bounds, &rising[..live]);
+                told.step(Step::Sorted, live);
                 near[count] = i;
                 count += usize::from((w.margins[i] - most * w.ns[i]) / BLOCK < loss);
             }
             wait = BLOCK;
         }
         if rising[..live].iter().all(|b| bounds[*b] == 0) {
-            settle(w, gained, &rising[..live]);
+            settle(w, gained, &rising[..live], told);
             return done;
         }
         for b in 0..w.borders {
@@ -181,10 +209,13 @@ pub fn new_rounds(w: &mut Work) -> u64 {
             let row = &w.p[i * w.borders..(i + 1) * w.borders];
             let (loss, most) = row_parts(row, gained, bounds, &rising[..live]);
             let margin = w.margins[*i] - loss;
+            told.step(Step::Walked, live);
             if margin < most * w.ns[*i] {
                 lower_bounds(row, margin / w.ns[*i], &rising[..live], bounds);
+                told.step(Step::Lowered, live);
             }
         }
+        told.step(Step::Rose, w.borders);
         done += 1;
         wait -= 1;
     }
