@@ -6,6 +6,9 @@
  *                           header's figure; LD_BIND_NOW in the environment has
  *                           memcpy and memset bound before the first call
  *   check figures TABLE..   the figures that follow, as the header has them
+ *   check claims TABLE      claims lent as records and as text are judged alike: a claim
+ *                           of 17 pairs names its row (rows 0 to 2 are kept, and row 2
+ *                           can go for rows 0 and 1)
  *   check null TABLE        every call with NULL and count 0 answers as with a
  *                           pointer and count 0
  *   check threads TABLE     the same answers from four threads at once as from one
@@ -556,6 +559,37 @@ static int print_figures(int count, char **names)
     ((one).number == (other).number && (one).place == (other).place \
         && (one).byte == (other).byte)
 
+/* A claim on row 2 by rows 0 and 1, and one on `row` with so many pairs: both ways. */
+static int judged_alike(struct room *r, int64_t row, int pairs, uint32_t number, size_t place)
+{
+    int64_t list[2][KERAVNOTH_CLAIM_ITEMS] = {{2, 1, 2, 0, 1, 1, 1}, {row, 1, pairs}};
+    int n = sprintf((char *)r->text, "Q\t2\t1\t0\t1\t1\t1\nQ\t%d\t1", (int)row);
+    for (int pair = 0; pair < pairs; pair++) {
+        if (pair < KERAVNOTH_CLAIM_PAIRS_MOST)
+            list[1][KERAVNOTH_CLAIM_FIRST_PAIR + 2 * pair + 1] = 1;
+        n += sprintf((char *)r->text + n, "\t0\t1");
+    }
+    n += sprintf((char *)r->text + n, "\n");
+    struct KeravnothJudged lent = keravnoth_claims(TABLE(r), (const int64_t (*)[KERAVNOTH_CLAIM_ITEMS])list, 2);
+    struct KeravnothWritten text = keravnoth_published_text(TABLE(r), r->text, (size_t)n, r->out, sizeof r->out);
+    return SAME(lent, text) && lent.number == number && lent.place == place;
+}
+
+static int check_claims(const char *name)
+{
+    struct room *r = &rooms[0];
+    if (load(r, name) != 0)
+        return 2;
+    read_table(r);
+    int same = r->table.zones != 0;
+    same &= judged_alike(r, 1, 17, KERAVNOTH_MALFORMED_CLAIM, 0);
+    same &= judged_alike(r, 1, 3000, KERAVNOTH_MALFORMED_CLAIM, 0);
+    same &= judged_alike(r, 9, 17, KERAVNOTH_MALFORMED_CLAIM, 1);
+    same &= judged_alike(r, 2, 17, KERAVNOTH_MALFORMED_CLAIM, 1);
+    puts(same ? "claims are judged alike, as records and as text" : "claims are judged otherwise as text");
+    return same ? 0 : 1;
+}
+
 /* Every pointer NULL with count 0, beside one that is not NULL with count 0. */
 static int check_null(const char *name)
 {
@@ -725,12 +759,14 @@ int main(int argc, char **argv)
         return check_stack(argc - 2, argv + 2);
     if (argc > 2 && strcmp(argv[1], "figures") == 0)
         return print_figures(argc - 2, argv + 2);
+    if (argc == 3 && strcmp(argv[1], "claims") == 0)
+        return check_claims(argv[2]);
     if (argc == 3 && strcmp(argv[1], "null") == 0)
         return check_null(argv[2]);
     if (argc == 3 && strcmp(argv[1], "threads") == 0)
         return check_threads(argv[2]);
     if (argc == 3 && strcmp(argv[1], "factors") == 0)
         return check_factors(argv[2]);
-    fprintf(stderr, "usage: %s stack TABLE.. | figures TABLE.. | null TABLE | threads TABLE | factors TABLE\n", argv[0]);
+    fprintf(stderr, "usage: %s stack TABLE.. | figures TABLE.. | claims TABLE | null TABLE | threads TABLE | factors TABLE\n", argv[0]);
     return 2;
 }

@@ -8,7 +8,7 @@ use Rattle.kinds.specs.Ranges.{exists}
 use Rattle.kinds.specs.Refusals.{passed, refused, refuseAt, refuseFirst, malformedClaim, notBorneOut}
 use Rattle.table.specs.Table.{stretch}
 use Rattle.start.specs.Start.{Rows, kept}
-use Rattle.claims.specs.Claims.{keptRow, claimedIn, citedBefore, pairGood, formed, citedSum, ownShare, excess, level, borneOut, judgeClaims}
+use Rattle.claims.specs.Claims.{keptRow, claimedIn, citedBefore, pairGood, formedBy, formed, citedSum, ownShare, excess, level, borneOut, judgeClaims}
 
 -- two zones, four kept rows and one that is not. Row 2's factors are the sum of those of rows 0 and 1 and 7000 in each zone, row 3's twice those of row 0
 abbrev f : List ℤ
@@ -63,13 +63,17 @@ pub record Anchors : Type 0 where
   -- the later of two claims on one row; a claim that cites a row which a later claim names, or an earlier one
   pub claimed-twice : judgeClaims 2 f m (both ∷ both ∷ []) ≡ refused (malformedClaim 1)
   pub named-later : judgeClaims 2 f m (both ∷ (pos 1 ∷ pos 1 ∷ pos 1 ∷ pos 0 ∷ pos 1 ∷ []) ∷ []) ≡ refused (malformedClaim 0)
+  -- .. a row that a malformed claim names is named: one of 17 pairs, one that is at fault by D, and one that comes after any number of others
+  pub crowded-names : judgeClaims 2 f m (both ∷ (pos 1 ∷ pos 1 ∷ pos 17 ∷ pos 0 ∷ pos 1 ∷ []) ∷ []) ≡ refused (malformedClaim 0)
+  pub malformed-names : judgeClaims 2 f m (both ∷ (pos 1 ∷ pos 0 ∷ pos 0 ∷ []) ∷ []) ≡ refused (malformedClaim 0)
+  pub last-names : judgeClaims 2 f m (both ∷ (pos 9 ∷ pos 1 ∷ pos 0 ∷ []) ∷ (pos 9 ∷ pos 1 ∷ pos 0 ∷ []) ∷ (pos 1 ∷ pos 1 ∷ pos 0 ∷ []) ∷ []) ≡ refused (malformedClaim 0)
   pub named-before : judgeClaims 2 f m ((pos 3 ∷ pos 1 ∷ pos 1 ∷ pos 0 ∷ pos 2 ∷ []) ∷ (pos 2 ∷ pos 1 ∷ pos 1 ∷ pos 3 ∷ pos 1 ∷ []) ∷ []) ≡ refused (malformedClaim 1)
   -- form before truth within a claim, but the first faulty claim decides
   pub form-first : judgeClaims 2 f m ((pos 2 ∷ pos 1 ∷ pos 2 ∷ pos 0 ∷ pos 1 ∷ pos 0 ∷ pos 1 ∷ []) ∷ []) ≡ refused (malformedClaim 0)
   pub first-decides : judgeClaims 2 f m ((pos 2 ∷ pos 1 ∷ pos 1 ∷ pos 0 ∷ pos 1 ∷ []) ∷ (pos 4 ∷ pos 1 ∷ pos 0 ∷ []) ∷ []) ≡ refused (notBorneOut 0)
 
 pub anchors : Anchors
-unfolding firstFrom given sameℤ inside sumℤ exists refuseAt refuseFirst stretch kept keptRow claimedIn citedBefore pairGood formed citedSum ownShare excess level borneOut judgeClaims
+unfolding firstFrom given sameℤ inside sumℤ exists refuseAt refuseFirst stretch kept keptRow claimedIn citedBefore pairGood formedBy formed citedSum ownShare excess level borneOut judgeClaims
 anchors =
     record {
       none-claimed = refl;
@@ -96,6 +100,9 @@ anchors =
       few-pairs = refl;
       claimed-twice = refl;
       named-later = refl;
+      crowded-names = refl;
+      malformed-names = refl;
+      last-names = refl;
       named-before = refl;
       form-first = refl;
       first-decides = refl;

@@ -98,10 +98,10 @@ module _ (t : Table) (claims : List (List ℤ)) (accepted : claimsOf t claims �
   -- .. and so is the load on a claimed row
   claimed-within : (k : ℕ) (q : ℕ → ℤ) → sumℤ (t .header .zones) q ≡ pos 0 → Allowed t (remaining states claims) k q → (e : ℕ) → e < length claims
       → netLoad t q (natAbs (claimedRow (getD claims e []))) ≤ℤ (pos k *ℤ ramAt t (natAbs (claimedRow (getD claims e []))))
-  unfolding netLoad borneOut level excess citedSum ownShare
+  unfolding formed netLoad borneOut level excess citedSum ownShare
   claimed-within k q zero-sum rest e h =
       let claim = getD claims e [] in
-      let c = claim-formed states claims e (good e h .0) in
+      let c = claim-formed states (claimedIn claims (length claims)) (claimedIn claims e) claim (good e h .0) in
       let own = natAbs (claimedRow claim) in
       let ram-of : (row : ℤ) → keptRow states row ≡ true → atℤ rams (natAbs row) ≡ ramAt t (natAbs row) = λ row e. ram-at t _ (below-rows (row-in states row e)) in
       let truth = and-both _ (not (ltZ (ownShare claim (atℤ rams)) (citedSum claim (atℤ rams)))) (good e h .1) in

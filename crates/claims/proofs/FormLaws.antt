@@ -21,7 +21,7 @@ use Rattle.kinds.specs.Ranges.{atℤ, exists}
 use Rattle.kinds.proofs.KindLaws.{exists-test, exists-in}
 use Rattle.table.proofs.GoodLaws.{stretch-at}
 use Rattle.start.specs.Start.{kept}
-use Rattle.claims.specs.Claims.{timesMost, pairsMost, claimedRow, denominator, pairs, citedRow, multiplier, keptRow, claimedIn, citedBefore, pairGood, formed, citedSum, ownShare, excess, factorAt}
+use Rattle.claims.specs.Claims.{timesMost, pairsMost, claimedRow, denominator, pairs, citedRow, multiplier, keptRow, citedBefore, pairGood, formedBy, citedSum, ownShare, excess, factorAt}
 use Rattle.claims.specs.Bounds.{ClaimBound, Lent, valueOf, valueMost}
 
 -- ---- keptRow
@@ -43,20 +43,24 @@ module _ (states : List ℕ) (row : ℤ) where
     unfolding keptRow
     kept-beyond h = rw (sym there ∙ le-ltb (natAbs row) (length states) h)
 
+pub kept-exists : (states : List ℕ) (row : ℤ) → keptRow states row ≡ true → exists (length states) row ≡ true
+unfolding keptRow
+kept-exists states row e = and-both (exists (length states) row) (kept states (natAbs row)) e .0
+
 -- ---- a well-formed claim
-pub record PairFormed (states : List ℕ) (claims : List (List ℤ)) (claim : List ℤ) (j : ℕ) : Type 0 where
+pub record PairFormed (states : List ℕ) (named : ℤ → Bool) (claim : List ℤ) (j : ℕ) : Type 0 where
   pub row : keptRow states (citedRow claim j) ≡ true
-  pub free : claimedIn claims (length claims) (citedRow claim j) ≡ false
+  pub free : named (citedRow claim j) ≡ false
   pub times : inside (pos 1) (pos timesMost) (multiplier claim j) ≡ true
 
-pub record ClaimFormed (states : List ℕ) (claims : List (List ℤ)) (claim : List ℤ) : Type 0 where
+pub record ClaimFormed (states : List ℕ) (named : ℤ → Bool) (claim : List ℤ) : Type 0 where
   pub row : keptRow states (claimedRow claim) ≡ true
   pub times : inside (pos 1) (pos timesMost) (denominator claim) ≡ true
   pub few : inside (pos 0) (pos pairsMost) (pairs claim) ≡ true
-  pub cited : (j : ℕ) → j < natAbs (pairs claim) → PairFormed states claims claim j
+  pub cited : (j : ℕ) → j < natAbs (pairs claim) → PairFormed states named claim j
 
-module _ (states : List ℕ) (claims : List (List ℤ)) where
-  pair-formed : (claim : List ℤ) (j : ℕ) → pairGood states claims claim j ≡ true → PairFormed states claims claim j
+module _ (states : List ℕ) (named : ℤ → Bool) where
+  pair-formed : (claim : List ℤ) (j : ℕ) → pairGood states named claim j ≡ true → PairFormed states named claim j
   unfolding pairGood
   pair-formed claim j e =
       let c = and-both _ (inside (pos 1) (pos timesMost) (multiplier claim j)) e in
@@ -64,11 +68,10 @@ module _ (states : List ℕ) (claims : List (List ℤ)) where
       let a = and-both (keptRow states (citedRow claim j)) _ (b .0) in
       record { row = a .0; free = not-true _ (a .1); times = c .1 }
 
-  pub claim-formed : (k : ℕ) → formed states claims k ≡ true → ClaimFormed states claims (getD claims k [])
-  unfolding formed
-  claim-formed k e =
-      let claim = getD claims k [] in
-      let d = and-both _ (allBelow (natAbs (pairs claim)) (pairGood states claims claim)) e in
+  pub claim-formed : (before : ℤ → Bool) (claim : List ℤ) → formedBy states named before claim ≡ true → ClaimFormed states named claim
+  unfolding formedBy
+  claim-formed before claim e =
+      let d = and-both _ (allBelow (natAbs (pairs claim)) (pairGood states named claim)) e in
       let c = and-both _ (inside (pos 0) (pos pairsMost) (pairs claim)) (d .0) in
       let b = and-both _ (inside (pos 1) (pos timesMost) (denominator claim)) (c .0) in
       let a = and-both (keptRow states (claimedRow claim)) _ (b .0) in
@@ -76,21 +79,17 @@ module _ (states : List ℕ) (claims : List (List ℤ)) where
         row = a .0;
         times = b .1;
         few = c .1;
-        cited = λ j h. pair-formed claim j (all-true (natAbs (pairs claim)) (pairGood states claims claim) (d .1) j h);
+        cited = λ j h. pair-formed claim j (all-true (natAbs (pairs claim)) (pairGood states named claim) (d .1) j h);
       }
 
-  kept-exists : (row : ℤ) → keptRow states row ≡ true → exists (length states) row ≡ true
-  unfolding keptRow
-  kept-exists row e = and-both (exists (length states) row) (kept states (natAbs row)) e .0
-
   -- .. is in range
-  pub formed-bound : {claim : List ℤ} → ClaimFormed states claims claim → ClaimBound (length states) claim
+  pub formed-bound : {claim : List ℤ} → ClaimFormed states named claim → ClaimBound (length states) claim
   formed-bound {claim} c =
       record {
-        row-in = kept-exists (claimedRow claim) (c .row);
+        row-in = kept-exists states (claimedRow claim) (c .row);
         times-in = c .times;
         pairs-in = c .few;
-        cited-in = λ j h. kept-exists (citedRow claim j) (c .cited j h .row);
+        cited-in = λ j h. kept-exists states (citedRow claim j) (c .cited j h .row);
         multiplied-in = λ j h. c .cited j h .times;
       }
 

@@ -1,23 +1,22 @@
--- The laws of `judgeClaims` that its loop asks for, what a judged table gives it, and the answer of the open call. No contract cites this file.
-use mathlib.Core.Path.{_≡_, sym, ap, subst, _∙_}
+-- The laws of `judgeClaims` that a loop over claims asks for (`Judging`), what a judged table gives it, and the answer of the open call. No contract cites this file.
+use mathlib.Core.Path.{_≡_, refl, sym, ap, ap₂, subst, _∙_}
 use mathlib.Core.Bool.{Bool, true, false, cond, not, _&&_}
 use mathlib.Core.List.{List, []}
-use mathlib.Core.Option.{none, some}
-use Prim.Native.Nat.{ℕ, _<_}
+use Prim.Native.Nat.{ℕ, _+_, _<_, _≤_}
 use native.Mathlib.Omega.{arith}
 use lib.IntN.{ℤ, pos}
 use lib.ListN.{length, getD}
 use Rattle.numbers.specs.Ints.{Within}
-use Rattle.numbers.specs.Below.{firstFrom}
-use Rattle.numbers.proofs.BelowLaws.{table-get}
+use Rattle.numbers.proofs.BelowLaws.{Looked, looked-none, looked-all, looked-here, looked-more, table-get}
 use Rattle.numbers.proofs.IntLaws.{within-le}
 use Rattle.kinds.specs.declared.Refusal.{Refusal}
 use Rattle.kinds.specs.declared.Judgement.{Judgement}
 use Rattle.kinds.specs.declared.Judgement.the-variants.{Passed, Refused}
 use Rattle.kinds.specs.Answers.{ruled}
+use Rattle.kinds.specs.Limits.{rowsMost}
 use Rattle.kinds.specs.Ranges.{atℤ}
-use Rattle.kinds.specs.Refusals.{passed, refused, malformedClaim, notBorneOut}
-use Rattle.kinds.proofs.RefusalLaws.{first-found, first-none-next, then-refused, then-next}
+use Rattle.kinds.specs.Refusals.{passed, refused, unless, refuseFirst, malformedClaim, notBorneOut}
+use Rattle.kinds.proofs.RefusalLaws.{not-passed, first-found, first-none-next, then-refused, then-next}
 use Rattle.table.specs.Table.{Table, front, judgeLent}
 use Rattle.table.specs.Good.{Good}
 use Rattle.table.proofs.GoodLaws.{told-judged}
@@ -25,35 +24,77 @@ use Rattle.margin.specs.Margin.{ramAt}
 use Rattle.margin.proofs.JudgedLaws.{good-factors}
 use Rattle.margin.proofs.Small as small
 use Rattle.start.specs.Start.{Rows, rowsOf}
+use Rattle.start.specs.Filled.{rowsWith}
 use Rattle.start.proofs.StartLaws.{rows-in}
-use Rattle.claims.specs.Claims.{formed, borneOut, judgeClaims, claimsOf, claimsAnswer}
+use Rattle.claims.specs.Claims.{claimedRow, formedBy, formed, borneOut, judgeClaims, claimsOf, claimsAnswer}
+use Rattle.claims.specs.Named.{namedRows, noneNamed, flagged, nameRow, judgeClaim}
 use Rattle.claims.specs.Bounds.{Lent, valueMost}
+use Rattle.claims.proofs.NameLaws.{named-none, named-long, name-more, formed-flags}
 
 -- ---- the first faulty claim
 abbrev pub faulty : (zones : ℕ) → (f rams : List ℤ) → (states : List ℕ) → (claims : List (List ℤ)) → (k : ℕ) → Bool
 faulty zones f rams states claims k = not (formed states claims k && borneOut zones f rams (getD claims k []))
 
-module _ (zones : ℕ) (f : List ℤ) (m : Rows) (claims : List (List ℤ)) where
-  abbrev why : ℕ → Refusal
-  why k = cond (formed (m .states) claims k) (notBorneOut k) (malformedClaim k)
+-- the claims before k are not faulty, and the rows that they name are flagged
+pub record Judging (zones : ℕ) (f rams : List ℤ) (states : List ℕ) (claims : List (List ℤ)) (before : List Bool) (k : ℕ) : Type 0 where
+  pub looked : Looked (length claims) (faulty zones f rams states claims) k
+  pub flags : before ≡ namedRows claims k
+
+module _ (zones : ℕ) (f rams : List ℤ) (states : List ℕ) (claims : List (List ℤ)) where
+  abbrev m : Rows
+  m = rowsWith rams states
 
   abbrev found : ℕ → Bool
-  found = faulty zones f (m .rams) (m .states) claims
+  found = faulty zones f rams states claims
 
-  module _ (k : ℕ) (e : some k ≡ firstFrom (length claims) 0 found) where
-    found-why : {v : Bool} → formed (m .states) claims k ≡ v → judgeClaims zones f m claims ≡ refused (cond v (notBorneOut k) (malformedClaim k))
+  abbrev why : ℕ → Refusal
+  why k = cond (formed states claims k) (notBorneOut k) (malformedClaim k)
+
+  pub judging-none : {before : List Bool} → before ≡ noneNamed → Judging zones f rams states claims before 0
+  judging-none e = record { looked = looked-none _ _; flags = e ∙ named-none claims }
+
+  module _ {before : List Bool} {k : ℕ} (u : Judging zones f rams states claims before k) where
+    pub judging-long : length before ≡ rowsMost
+    judging-long = ap length (u .flags) ∙ named-long claims k
+
+    pub judging-all : length claims ≤ k → passed m ≡ judgeClaims zones f m claims
     unfolding judgeClaims
-    found-why h = first-found (passed m) (length claims) found why (sym e) ∙ ap (λ (v : Bool). refused (cond v (notBorneOut k) (malformedClaim k))) h
+    judging-all h = sym (first-none-next (passed m) (length claims) found why (sym (looked-all _ _ k (u .looked) h)))
 
-    pub judged-malformed : formed (m .states) claims k ≡ false → refused (malformedClaim k) ≡ judgeClaims zones f m claims
-    judged-malformed h = sym (found-why h)
+    -- claim k, judged by flags
+    module _ (h : k < length claims) (few : length states ≤ rowsMost) {named : List Bool} (all : named ≡ namedRows claims (length claims)) {claim : List ℤ} (is : claim ≡ getD claims k [])
+        (r : Judgement) (said : ruled r m ≡ judgeClaim zones f m (flagged named) (flagged before) claim k) where
+      told : ruled r m ≡ cond (found k) (refused (why k)) (passed m)
+      unfolding judgeClaim unless
+      told =
+          said
+          ∙ ap₂ (λ (v w : Bool). cond v (cond w (passed m) (refused (notBorneOut k))) (refused (malformedClaim k)))
+          (ap₂ (λ (n b : List Bool). formedBy states (flagged n) (flagged b) claim) all (u .flags) ∙ formed-flags states few claims k is)
+          (ap (borneOut zones f rams) is)
+          ∙ cases (formed states claims k) (borneOut zones f rams (getD claims k []))
+        where
+          cases : (v w : Bool) → cond v (cond w (passed m) (refused (notBorneOut k))) (refused (malformedClaim k)) ≡ cond (not (v && w)) (refused (cond v (notBorneOut k) (malformedClaim k))) (passed m)
+          cases true true = refl
+          cases true false = refl
+          cases false w = refl
 
-    pub judged-not-borne-out : formed (m .states) claims k ≡ true → refused (notBorneOut k) ≡ judgeClaims zones f m claims
-    judged-not-borne-out h = sym (found-why h)
+      pub judging-refused : (w : Refusal) → r ≡ Refused w → ruled r m ≡ judgeClaims zones f m claims
+      unfolding judgeClaims
+      judging-refused w e = go (found k) refl
+        where
+          is-refused : ruled r m ≡ refused w
+          is-refused = ap (λ (j : Judgement). ruled j m) e
 
-  pub judged-accepted : none ≡ firstFrom (length claims) 0 found → passed m ≡ judgeClaims zones f m claims
-  unfolding judgeClaims
-  judged-accepted e = sym (first-none-next (passed m) (length claims) found why (sym e))
+          go : (v : Bool) → found k ≡ v → ruled r m ≡ refuseFirst (length claims) found why (passed m)
+          go true q = told ∙ ap (λ (v : Bool). cond v (refused (why k)) (passed m)) q ∙ sym (first-found (passed m) (length claims) found why (sym (looked-here _ _ k (u .looked) h q)))
+          go false q = absurd (not-passed w m (sym is-refused ∙ told ∙ ap (λ (v : Bool). cond v (refused (why k)) (passed m)) q))
+
+      pub judging-more : r ≡ Passed → {row : ℤ} → row ≡ claimedRow claim → {more : List Bool} → more ≡ nameRow row before → Judging zones f rams states claims more (k + 1)
+      judging-more e {row} own q = record { looked = looked-more _ _ k (u .looked) h (go (found k) refl); flags = q ∙ ap (nameRow row) (u .flags) ∙ name-more claims k (own ∙ ap claimedRow is) }
+        where
+          go : (v : Bool) → found k ≡ v → found k ≡ false
+          go true q = absurd (not-passed (why k) m (sym (told ∙ ap (λ (v : Bool). cond v (refused (why k)) (passed m)) q) ∙ ap (λ (j : Judgement). ruled j m) e))
+          go false q = q
 
 -- ---- a judged table's factors and RAMs, as the functions on a claim ask for them
 pub ram-at : (t : Table) (i : ℕ) → i < t .header .rows → atℤ (rowsOf t .rams) i ≡ ramAt t i

@@ -2,6 +2,7 @@ pub mod Anchors
 pub mod AnchorsAllowed
 pub mod CanGo
 pub mod FormLaws
+pub mod NameLaws
 pub mod JudgeLaws
 pub mod Outweighed
 pub mod Unique

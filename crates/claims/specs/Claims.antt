@@ -55,22 +55,25 @@ unfoldable pub citedBefore : (claim : List ℤ) → (j : ℕ) → Bool
 citedBefore claim j = someBelow j (λ e. sameℤ (citedRow claim e) (citedRow claim j))
 
 -- pair j: a kept row that no claim of the list names, this one included, and no earlier pair cites; a multiplier 1..1000
-unfoldable pub pairGood : (states : List ℕ) → (claims : List (List ℤ)) → (claim : List ℤ) → (j : ℕ) → Bool
-pairGood states claims claim j =
+unfoldable pub pairGood : (states : List ℕ) → (named : ℤ → Bool) → (claim : List ℤ) → (j : ℕ) → Bool
+pairGood states named claim j =
     keptRow states (citedRow claim j)
-    && not (claimedIn claims (length claims) (citedRow claim j))
+    && not (named (citedRow claim j))
     && not (citedBefore claim j)
     && inside (pos 1) (pos timesMost) (multiplier claim j)
 
--- claim k: a kept row that no earlier claim names, a denominator 1..1000, at most 16 pairs, each good
-unfoldable pub formed : (states : List ℕ) → (claims : List (List ℤ)) → (k : ℕ) → Bool
-formed states claims k =
-    let claim = getD claims k [] in
+-- a claim: a kept row that no earlier claim names, a denominator 1..1000, at most 16 pairs, each good
+unfoldable pub formedBy : (states : List ℕ) → (named before : ℤ → Bool) → (claim : List ℤ) → Bool
+formedBy states named before claim =
     keptRow states (claimedRow claim)
-    && not (claimedIn claims k (claimedRow claim))
+    && not (before (claimedRow claim))
     && inside (pos 1) (pos timesMost) (denominator claim)
     && inside (pos 0) (pos pairsMost) (pairs claim)
-    && allBelow (natAbs (pairs claim)) (pairGood states claims claim)
+    && allBelow (natAbs (pairs claim)) (pairGood states named claim)
+
+-- .. claim k of a list: any claim of the list may name a cited row, whatever else is wrong with it
+unfoldable pub formed : (states : List ℕ) → (claims : List (List ℤ)) → (k : ℕ) → Bool
+formed states claims k = formedBy states (claimedIn claims (length claims)) (claimedIn claims k) (getD claims k [])
 
 -- ---- truth
 

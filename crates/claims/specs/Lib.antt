@@ -1,2 +1,3 @@
 pub mod Claims
+pub mod Named
 pub mod Bounds

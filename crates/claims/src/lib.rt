@@ -6,12 +6,14 @@ ghost use lib.IntN.{natAbs, _*ℤ_};
 ghost use lib.ListN.{length};
 ghost use Rattle.numbers.specs.Below.{allBelow};
 ghost use Rattle.kinds.specs.Answers.{ruled};
+ghost use Rattle.kinds.specs.Limits.{rowsMost};
 ghost use Rattle.kinds.specs.Ranges.{exists};
 ghost use Rattle.table.specs.Table.{lent, front};
 ghost use Rattle.table.specs.Good.{Good};
 ghost use Rattle.start.specs.Start.{rowsOf};
 ghost use Rattle.start.specs.Filled.{rowsWith};
-ghost use Rattle.claims.specs.Claims.{pairsMost, citedRow, multiplier, pairs, keptRow, claimedIn, citedBefore, pairGood, formed, citedSum, excess, level, borneOut, judgeClaims, claimsOf, claimsAnswer};
+ghost use Rattle.claims.specs.Claims.{pairsMost, citedRow, multiplier, pairs, keptRow, citedBefore, pairGood, formedBy, citedSum, excess, level, borneOut, judgeClaims, claimsOf, claimsAnswer};
+ghost use Rattle.claims.specs.Named.{namedRows, noneNamed, flagged, nameRow, judgeClaim};
 ghost use Rattle.claims.specs.Bounds.{ClaimBound, Lent, valueOf};
 use kinds::BorderRecord;
 use kinds::Header;
@@ -44,18 +46,31 @@ fn kept_row(states: &[u64], row: i64) -> bool
     false
 }
 
-// One of the first n claims names this row.
-pub fn claimed_in(claims: &[ClaimRecord], n: usize, row: i64) -> bool
-    requires { ⌜ n ≤ length (now claims) ⌝ }
-    ensures { λ r. ⌜ r ≡ claimedIn (now (claims .entry)) n row ⌝ }
+// What flags say of a row.
+pub fn is_flagged(flags: &[bool], row: i64) -> bool
+    ensures { λ r. ⌜ r ≡ flagged (now (flags .entry)) row ⌝ }
 {
-    for e in 0..n {
-        let claim = claims[e];
-        if numbers::same(claim[0], row) {
-            return true;
-        }
+    if row < 0 {
+        return false;
+    }
+    let i = row as usize;
+    if i < flags.len() {
+        return flags[i];
     }
     false
+}
+
+// One row more is named. A row that no table has needs no flag.
+pub fn name_row(row: i64, flags: &mut [bool])
+    ensures { λ _. ⌜ now (flags .exit) ≡ nameRow row (now (flags .entry)) ⌝ }
+{
+    if row < 0 {
+        return;
+    }
+    let i = row as usize;
+    if i < flags.len() {
+        flags[i] = true;
+    }
 }
 
 // An earlier pair of the claim cites the row of pair j.
@@ -72,16 +87,16 @@ fn cited_before(claim: ClaimRecord, j: usize) -> bool
 }
 
 // A pair of right form: a kept row that no claim names and no earlier pair cites, and a multiplier in range.
-fn pair_good(states: &[u64], claims: &[ClaimRecord], claim: ClaimRecord, j: usize) -> bool
+fn pair_good(states: &[u64], named: &[bool], claim: ClaimRecord, j: usize) -> bool
     requires { ⌜ j < pairsMost ⌝ }
-    ensures { λ r. ⌜ r ≡ pairGood (now (states .entry)) (now (claims .entry)) claim j ⌝ }
+    ensures { λ r. ⌜ r ≡ pairGood (now (states .entry)) (flagged (now (named .entry))) claim j ⌝ }
 {
     let row = claim[3 + 2 * j];
     let times = claim[4 + 2 * j];
     if !kept_row(states, row) {
         return false;
     }
-    if claimed_in(claims, claims.len(), row) {
+    if is_flagged(named, row) {
         return false;
     }
     if cited_before(claim, j) {
@@ -90,31 +105,29 @@ fn pair_good(states: &[u64], claims: &[ClaimRecord], claim: ClaimRecord, j: usiz
     numbers::inside(times, 1, TIMES_MOST)
 }
 
-fn pairs_good(states: &[u64], claims: &[ClaimRecord], claim: ClaimRecord, n: usize) -> bool
+fn pairs_good(states: &[u64], named: &[bool], claim: ClaimRecord, n: usize) -> bool
     requires { ⌜ n ≤ pairsMost ⌝ }
-    ensures { λ r. ⌜ r ≡ allBelow n (pairGood (now (states .entry)) (now (claims .entry)) claim) ⌝ }
+    ensures { λ r. ⌜ r ≡ allBelow n (pairGood (now (states .entry)) (flagged (now (named .entry))) claim) ⌝ }
 {
     for j in 0..n {
-        if !pair_good(states, claims, claim, j) {
+        if !pair_good(states, named, claim, j) {
             return false;
         }
     }
     true
 }
 
-// 11: whether claim k is of right form. The later of two claims on one row is not.
-fn is_formed(states: &[u64], claims: &[ClaimRecord], k: usize) -> bool
-    requires { ⌜ k < length (now claims) ⌝ }
-    ensures { λ r. ⌜ r ≡ formed (now (states .entry)) (now (claims .entry)) k ⌝ }
+// 11: whether a claim is of right form, where the rows that any claim names are flagged, and those that an earlier one names.
+fn is_formed(states: &[u64], named: &[bool], earlier: &[bool], claim: ClaimRecord) -> bool
+    ensures { λ r. ⌜ r ≡ formedBy (now (states .entry)) (flagged (now (named .entry))) (flagged (now (earlier .entry))) claim ⌝ }
 {
-    let claim = claims[k];
     let row = claim[0];
     let denominator = claim[1];
     let pairs = claim[2];
     if !kept_row(states, row) {
         return false;
     }
-    if claimed_in(claims, k, row) {
+    if is_flagged(earlier, row) {
         return false;
     }
     if !numbers::inside(denominator, 1, TIMES_MOST) {
@@ -123,7 +136,7 @@ fn is_formed(states: &[u64], claims: &[ClaimRecord], k: usize) -> bool
     if !numbers::inside(pairs, 0, PAIRS_MOST) {
         return false;
     }
-    pairs_good(states, claims, claim, pairs as usize)
+    pairs_good(states, named, claim, pairs as usize)
 }
 
 // A row's value, among `stride` of each row.
@@ -212,8 +225,71 @@ fn is_borne_out(rows: usize, zones: usize, f: &[i64], rams: &[i64], claim: Claim
     excess(rows, rams, 1, 0, claim) <= 0
 }
 
-// Judges the claims on a judged table, whose RAMs and states are known. The first faulty claim decides, form before truth.
-pub fn judge_known(
+// Judges claim k on a judged table, whose RAMs and states are known: form before truth.
+pub fn judge_claim(
+    h: Header,
+    f: &[i64],
+    rams: &[i64],
+    states: &[u64],
+    named: &[bool],
+    earlier: &[bool],
+    claim: ClaimRecord,
+    k: usize,
+) -> Judgement
+    requires { ⌜ Lent (h .rows) (h .zones) 0 (now f) ⌝ }
+    requires { ⌜ Lent (h .rows) 1 0 (now rams) ⌝ }
+    requires { ⌜ length (now states) ≡ h .rows ⌝ }
+    ensures { λ r. ⌜ ruled r (rowsWith (now (rams .entry)) (now (states .entry))) ≡ judgeClaim (h .zones) (now (f .entry)) (rowsWith (now (rams .entry)) (now (states .entry))) (flagged (now (named .entry))) (flagged (now (earlier .entry))) claim k ⌝ }
+{
+    if !is_formed(states, named, earlier, claim) {
+        return Judgement::Refused(Refusal::malformed_claim(k));
+    }
+    if !is_borne_out(h.rows, h.zones, f, rams, claim) {
+        return Judgement::Refused(Refusal::not_borne_out(k));
+    }
+    Judgement::Passed
+}
+
+// Flags the rows that the claims name.
+fn name_rows(claims: &[ClaimRecord], named: &mut [bool])
+    requires { ⌜ now named ≡ noneNamed ⌝ }
+    ensures { λ _. ⌜ now (named .exit) ≡ namedRows (now (claims .entry)) (length (now (claims .entry))) ⌝ }
+{
+    for k in 0..claims.len() {
+        let claim = claims[k];
+        name_row(claim[0], named);
+    }
+}
+
+// The first faulty claim decides. The rows that claims name are flagged, and none yet that an earlier one names.
+fn judge_each(
+    h: Header,
+    f: &[i64],
+    rams: &[i64],
+    states: &[u64],
+    named: &[bool],
+    earlier: &mut [bool],
+    claims: &[ClaimRecord],
+) -> Judgement
+    requires { ⌜ Lent (h .rows) (h .zones) 0 (now f) ⌝ }
+    requires { ⌜ Lent (h .rows) 1 0 (now rams) ⌝ }
+    requires { ⌜ (length (now states) ≡ h .rows) × (h .rows ≤ rowsMost) ⌝ }
+    requires { ⌜ (now named ≡ namedRows (now claims) (length (now claims))) × (now earlier ≡ noneNamed) ⌝ }
+    ensures { λ r. ⌜ ruled r (rowsWith (now (rams .entry)) (now (states .entry))) ≡ judgeClaims (h .zones) (now (f .entry)) (rowsWith (now (rams .entry)) (now (states .entry))) (now (claims .entry)) ⌝ }
+{
+    for k in 0..claims.len() {
+        let claim = claims[k];
+        let judged = judge_claim(h, f, rams, states, named, earlier, claim, k);
+        let Judgement::Passed = judged else {
+            return judged;
+        };
+        name_row(claim[0], earlier);
+    }
+    Judgement::Passed
+}
+
+// Judges the claims on a judged table, whose RAMs and states are known.
+fn judge_known(
     h: Header,
     f: &[i64],
     rams: &[i64],
@@ -222,18 +298,13 @@ pub fn judge_known(
 ) -> Judgement
     requires { ⌜ Lent (h .rows) (h .zones) 0 (now f) ⌝ }
     requires { ⌜ Lent (h .rows) 1 0 (now rams) ⌝ }
-    requires { ⌜ length (now states) ≡ h .rows ⌝ }
+    requires { ⌜ (length (now states) ≡ h .rows) × (h .rows ≤ rowsMost) ⌝ }
     ensures { λ r. ⌜ ruled r (rowsWith (now (rams .entry)) (now (states .entry))) ≡ judgeClaims (h .zones) (now (f .entry)) (rowsWith (now (rams .entry)) (now (states .entry))) (now (claims .entry)) ⌝ }
 {
-    for k in 0..claims.len() {
-        if !is_formed(states, claims, k) {
-            return Judgement::Refused(Refusal::malformed_claim(k));
-        }
-        if !is_borne_out(h.rows, h.zones, f, rams, claims[k]) {
-            return Judgement::Refused(Refusal::not_borne_out(k));
-        }
-    }
-    Judgement::Passed
+    let mut named: [bool; Header::ROWS_MOST] = [false; Header::ROWS_MOST];
+    let mut earlier: [bool; Header::ROWS_MOST] = [false; Header::ROWS_MOST];
+    name_rows(claims, &mut named);
+    judge_each(h, f, rams, states, &named, &mut earlier, claims)
 }
 
 // A judged table: the RAM and the state of each row are found in the lent room, and then the claims are judged.

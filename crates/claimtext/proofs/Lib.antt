@@ -1,4 +1,5 @@
 pub mod Anchors
+pub mod ListLaws
 pub mod PublishedLaws
 pub mod ReadLaws
 pub mod SameAllowed

@@ -1,7 +1,7 @@
 -- The laws of `specs/Published.antt`: a row's line and its length, and which judgement decides. No contract cites this file.
 -- `published-fits` is for a caller that lends room for the longest list.
-use mathlib.Core.Path.{_≡_, refl, sym, ap, ap₂, subst, _∙_}
-use mathlib.Core.Bool.{Bool, true, false, cond, not}
+use mathlib.Core.Path.{_≡_, refl, sym, ap, subst, _∙_}
+use mathlib.Core.Bool.{Bool, true, false, cond, not, _&&_}
 use mathlib.Core.List.{List, [], _∷_}
 use Prim.Native.Char.{code}
 use Prim.Native.Nat.{ℕ, _+_, _≤_, _<_}
@@ -26,16 +26,19 @@ use Rattle.text.specs.Left.{TextLeft, textLeft}
 use Rattle.text.specs.Written.{decimal, decimalℤ}
 use Rattle.text.proofs.DigitLaws.{decimal-u64, decimal-i64}
 use Rattle.text.proofs.LeftLaws.{text-refused}
-use Rattle.text.proofs.PutLaws.{line-length, tabbed-length, tabbed-empty, lines-most}
+use Rattle.text.proofs.PutLaws.{line-length, tabbed-length, tabbed-empty, lines-most, lines-cong}
 use Rattle.table.specs.Table.{Table, front, judgeLent}
 use Rattle.table.specs.Good.{Good}
 use Rattle.table.proofs.GoodLaws.{judged-front, judged-good, told-judged}
 use Rattle.start.specs.Start.{Rows, rowsOf, kept}
 use Rattle.claims.specs.Claims.{claimedIn, judgeClaims, claimsOf, remaining}
+use Rattle.claims.specs.Named.{namedRows, flagged}
 use Rattle.claims.proofs.CanGo.{claims-rows}
+use Rattle.claims.proofs.NameLaws.{exists-pos, flagged-named}
 use Rattle.claims.proofs.JudgeLaws.{rams-lent, states-lent}
 use Rattle.claimtext.specs.ClaimText.{claimsIn}
 use Rattle.claimtext.specs.Published.{rowLine, lineMost, publishedLine, publishedText, publishedMost, publishedOf, publishedAnswer, publishedLeft}
+use Rattle.claimtext.specs.Read.{unflagged}
 
 -- ---- a row's line
 pub row-line-long : (row : ℕ) (ram : ℤ) → length (rowLine row ram) ≡ 4 + length (decimal row) + length (decimalℤ ram)
@@ -43,40 +46,50 @@ row-line-long row ram =
     line-length (code "D") (decimal row ∷ decimalℤ ram ∷ [])
     ∙ omega (arith, tabbed-length (decimal row) (decimalℤ ram ∷ []), tabbed-length (decimalℤ ram) [], tabbed-empty)
 
-module _ (m : Rows) (claims : List (List ℤ)) (row : ℕ) where
-  pub published-here : remaining (m .states) claims row ≡ true → publishedLine m claims row ≡ rowLine row (atℤ (m .rams) row)
+module _ (m : Rows) (listed : ℕ → Bool) (row : ℕ) where
+  pub published-here : listed row ≡ true → publishedLine m listed row ≡ rowLine row (atℤ (m .rams) row)
   unfolding publishedLine
   published-here e = rw e
 
-  pub published-not : remaining (m .states) claims row ≡ false → publishedLine m claims row ≡ []
+  pub published-not : listed row ≡ false → publishedLine m listed row ≡ []
   unfolding publishedLine
   published-not e = rw e
 
-module _ (states : List ℕ) (claims : List (List ℤ)) (row : ℕ) where
-  pub remaining-kept : at states row ≡ 0 → not (claimedIn claims (length claims) (pos row)) ≡ remaining states claims row
-  unfolding remaining kept
-  remaining-kept e = rw e
+module _ (states : List ℕ) (flags : List Bool) (row : ℕ) where
+  pub unflagged-kept : at states row ≡ 0 → not (flagged flags (pos row)) ≡ unflagged states flags row
+  unfolding unflagged kept
+  unflagged-kept e = rw e
 
-  pub remaining-not : (at states row ≡ 0 → ⊥) → false ≡ remaining states claims row
-  unfolding remaining kept
-  remaining-not e = rw (ne-eqb (at states row) 0 e)
+  pub unflagged-not : (at states row ≡ 0 → ⊥) → false ≡ unflagged states flags row
+  unfolding unflagged kept
+  unflagged-not e = rw (ne-eqb (at states row) 0 e)
+
+-- the rows whose flag is not set are those that remain
+pub unflagged-text : (m : Rows) (claims : List (List ℤ)) {flags : List Bool} → length (m .states) ≤ rowsMost → flags ≡ namedRows claims (length claims)
+    → publishedText m (unflagged (m .states) flags) ≡ publishedText m (remaining (m .states) claims)
+unfolding publishedText publishedLine unflagged remaining
+unflagged-text m claims {flags} few e =
+    lines-cong (length (m .states)) 0 _ _ (λ j h. ap (λ (v : Bool). cond (kept (m .states) j && not v) (rowLine j (atℤ (m .rams) j)) []) (told j (omega arith)))
+  where
+    told : (j : ℕ) → j < length (m .states) → flagged flags (pos j) ≡ claimedIn claims (length claims) (pos j)
+    told j h = ap (λ (l : List Bool). flagged l (pos j)) e ∙ flagged-named claims (length claims) (length (m .states)) few (pos j) (exists-pos (length (m .states)) j h)
 
 -- ---- a judged table
 module _ (zones : ℕ) (f : List ℤ) (m : Rows) (claims : List (List ℤ)) (out : List ℕ) (r : Judgement) (said : ruled r m ≡ judgeClaims zones f m claims) where
   abbrev judged : Judged (List ℕ)
-  judged = then (judgeClaims zones f m claims) (λ n. passed (publishedText n claims))
+  judged = then (judgeClaims zones f m claims) (λ n. passed (publishedText n (remaining (n .states) claims)))
 
   pub claims-refused : (w : Refusal) → r ≡ Refused w → _≡_ {A = TextLeft} (record { answer = refused w; out = out }) (textLeft judged out)
   claims-refused w e = text-refused out (then-refused _ (sym said ∙ ap (λ (j : Judgement). ruled j m) e))
 
-  pub claims-accepted : r ≡ Passed → textLeft (passed (publishedText m claims)) out ≡ textLeft judged out
+  pub claims-accepted : r ≡ Passed → textLeft (passed (publishedText m (remaining (m .states) claims))) out ≡ textLeft judged out
   claims-accepted e = ap (λ (j : Judged (List ℕ)). textLeft j out) (sym (then-next _ (sym said ∙ ap (λ (j : Judgement). ruled j m) e)))
 
-pub published-known : (t : Table) (m : Rows) (claims claims′ : List (List ℤ)) (out : List ℕ) → m ≡ rowsOf t → claims ≡ claims′
-    → textLeft (then (judgeClaims (t .header .zones) (t .factors) m claims) (λ n. passed (publishedText n claims))) out ≡ textLeft (publishedOf t claims′) out
+pub published-known : (t : Table) (m : Rows) (claims : List (List ℤ)) (out : List ℕ) → m ≡ rowsOf t
+    → textLeft (then (judgeClaims (t .header .zones) (t .factors) m claims) (λ n. passed (publishedText n (remaining (n .states) claims)))) out ≡ textLeft (publishedOf t claims) out
 unfolding publishedOf claimsOf
-published-known t m claims claims′ out e u =
-    ap₂ (λ (n : Rows) (l : List (List ℤ)). textLeft (then (judgeClaims (t .header .zones) (t .factors) n l) (λ k. passed (publishedText k l))) out) e u
+published-known t m claims out e =
+    ap (λ (n : Rows). textLeft (then (judgeClaims (t .header .zones) (t .factors) n claims) (λ k. passed (publishedText k (remaining (k .states) claims)))) out) e
 
 -- ---- lent tables
 module _ (given : Table) (list out : List ℕ) where
@@ -98,9 +111,9 @@ module _ (given : Table) (list out : List ℕ) where
     table-judged e = ap (λ (j : Judged (List ℕ)). textLeft j out) (sym (past-length ∙ then-next _ (told-judged given r said e)))
 
 -- ---- the longest list
-module _ {t : Table} (good : Good t) (claims : List (List ℤ)) where
-  line-most : (row : ℕ) → row < length (rowsOf t .states) → length (publishedLine (rowsOf t) claims row) ≤ lineMost
-  line-most row h = go (remaining (rowsOf t .states) claims row) refl
+module _ {t : Table} (good : Good t) (listed : ℕ → Bool) where
+  line-most : (row : ℕ) → row < length (rowsOf t .states) → length (publishedLine (rowsOf t) listed row) ≤ lineMost
+  line-most row h = go (listed row) refl
     where
       ram : ℤ
       ram = atℤ (rowsOf t .rams) row
@@ -117,18 +130,18 @@ module _ {t : Table} (good : Good t) (claims : List (List ℤ)) where
             decimal-i64 ram (within-fits (rams .each .at row (omega (arith, rams .long))) tt .sfits),
           )
 
-      go : (v : Bool) → remaining (rowsOf t .states) claims row ≡ v → length (publishedLine (rowsOf t) claims row) ≤ lineMost
-      go true e = omega (arith, ap length (published-here (rowsOf t) claims row e), long)
-      go false e = omega (arith, ap length (published-not (rowsOf t) claims row e))
+      go : (v : Bool) → listed row ≡ v → length (publishedLine (rowsOf t) listed row) ≤ lineMost
+      go true e = omega (arith, ap length (published-here (rowsOf t) listed row e), long)
+      go false e = omega (arith, ap length (published-not (rowsOf t) listed row e))
 
-  text-most : length (publishedText (rowsOf t) claims) ≤ publishedMost
+  text-most : length (publishedText (rowsOf t) listed) ≤ publishedMost
   unfolding publishedText
   text-most =
       let few = header-in (t .header) (good .exact .header) .rows-most in
       let states = states-lent good (rowsOf t) refl in
       omega (
         arith,
-        lines-most (publishedLine (rowsOf t) claims) (length (rowsOf t .states)) line-most,
+        lines-most (publishedLine (rowsOf t) listed) (length (rowsOf t .states)) line-most,
         mul-le-mul-right {m = length (rowsOf t .states)} {n = rowsMost} lineMost (omega arith),
       )
 
@@ -136,14 +149,14 @@ module _ {t : Table} (good : Good t) (claims : List (List ℤ)) where
 pub record Publishes (given : Table) (list text : List ℕ) : Type 0 where
   pub judged : judgeLent given ≡ passed (front given)
   pub accepted : claimsOf (front given) (claimsIn list) ≡ passed (rowsOf (front given))
-  pub is : text ≡ publishedText (rowsOf (front given)) (claimsIn list)
+  pub is : text ≡ publishedText (rowsOf (front given)) (remaining (rowsOf (front given) .states) (claimsIn list))
 
 module _ (given : Table) (list text : List ℕ) where
   pub publishes : publishedAnswer given list ≡ passed text → Publishes given list text
   unfolding publishedAnswer publishedOf
   publishes e = go (ltb bytesMost (length list)) e
     where
-      go : (v : Bool) → cond v (refused tooLong) (then (judgeLent given) (λ t. then (claimsOf t (claimsIn list)) (λ m. passed (publishedText m (claimsIn list))))) ≡ passed text → Publishes given list text
+      go : (v : Bool) → cond v (refused tooLong) (then (judgeLent given) (λ t. then (claimsOf t (claimsIn list)) (λ m. passed (publishedText m (remaining (m .states) (claimsIn list)))))) ≡ passed text → Publishes given list text
       go true q = absurd (not-passed tooLong text q)
       go false q =
           let a = then-passed (judgeLent given) _ text q in
@@ -153,11 +166,11 @@ module _ (given : Table) (list text : List ℕ) where
           record {
             judged = a .first ∙ ap passed table;
             accepted = subst (λ (t : Table). claimsOf t (claimsIn list) ≡ passed (rowsOf t)) table (b .first ∙ ap passed rows);
-            is = sym (passed-is _ _ (b .second)) ∙ ap (λ (m : Rows). publishedText m (claimsIn list)) rows ∙ ap (λ (t : Table). publishedText (rowsOf t) (claimsIn list)) table;
+            is = sym (passed-is _ _ (b .second)) ∙ ap (λ (m : Rows). publishedText m (remaining (m .states) (claimsIn list))) rows ∙ ap (λ (t : Table). publishedText (rowsOf t) (remaining (rowsOf t .states) (claimsIn list))) table;
           }
 
   -- whatever is published fits
   pub published-fits : publishedAnswer given list ≡ passed text → length text ≤ publishedMost
   published-fits e =
       let p = publishes e in
-      omega (arith, ap length (p .is), text-most (judged-good given (front given) (p .judged)) (claimsIn list))
+      omega (arith, ap length (p .is), text-most (judged-good given (front given) (p .judged)) (remaining (rowsOf (front given) .states) (claimsIn list)))

@@ -1,31 +1,36 @@
 -- The laws of `specs/ClaimText.antt`: the columns of a line, the claim of a line, and a list that is read line by line. No contract cites this file.
-use mathlib.Core.Path.{_≡_, refl, sym, ap, _∙_}
-use mathlib.Core.Bool.{Bool}
-use mathlib.Core.List.{List, [], _∷_, _++_, append-assoc, append-nil}
-use mathlib.Core.Option.{none, some}
+use mathlib.Core.Path.{_≡_, refl, sym, ap, subst, _∙_}
+use mathlib.Core.Bool.{Bool, true, false, cond}
+use mathlib.Core.List.{List, [], _∷_}
 use Prim.Native.Char.{code}
-use Prim.Native.Nat.{ℕ, zero, suc, _+_, _-_, _≤_, _<_}
-use native.Mathlib.Nat.{not-suc-le-zero}
+use Prim.Native.Nat.{ℕ, zero, suc, _+_, _*_, _-_, _/_, _≤_, _<_}
+use native.Mathlib.Nat.{not-suc-le-zero, sub-zero, div-mul-le-self}
 use native.Mathlib.Numerals.{add-one}
 use native.Mathlib.Omega.{arith}
 use borrow.Author.Tests.{lt-ltb, le-ltb, le-leb, lt-leb, ne-eqb}
+use lib.Dec.{leb, eqb}
 use lib.IntN.{ℤ, pos}
-use lib.ListN.{length, take, drop, set, length-drop, length-set}
-use lib.Seq.{take-suc-set}
-use Rattle.numbers.specs.Below.{firstFrom}
+use lib.ListN.{length, getD, take, drop, length-drop, drop-of-length-le}
+use lib.Seq.{drop-cons}
+use Rattle.numbers.specs.Below.{at, sum}
+use Rattle.numbers.proofs.SumLaws.{sum-most}
 use Rattle.kinds.specs.LineColumns.{Column, number, columnsOf}
 use Rattle.kinds.specs.Ranges.{atℤ}
-use Rattle.text.specs.Fields.{tab}
-use Rattle.text.specs.Line.{lineAt, after}
+use Rattle.text.specs.declared.Signed.{Signed}
+use Rattle.text.specs.declared.Signed.the-variants.{Whole, Wrong}
+use Rattle.text.specs.Fields.{tab, feed}
+use Rattle.text.specs.Line.{lineAt, after, headed}
 use Rattle.text.proofs.LineLaws.{line-le-length}
 use Rattle.columns.specs.declared.Fields.{Fields}
 use Rattle.columns.specs.declared.Fields.the-variants as fields
-use Rattle.columns.specs.Columns.{stored}
-use Rattle.columns.specs.ColumnLine.{plainLine}
+use Rattle.columns.specs.Columns.{Values, values, wrong, push, onward, stopOf, fieldAt, fieldsAt, stored}
+use Rattle.columns.specs.ColumnLine.{toEnd, restAt, plainLine}
 use Rattle.columns.proofs.ColumnLaws.{repeated}
+use Rattle.corrections.specs.Corrections.{pieces}
+use Rattle.corrections.proofs.PieceLaws.{pieces-at, line-some}
 use Rattle.claims.specs.Claims.{pairsMost}
-use Rattle.claimtext.specs.ClaimText.{fieldsOf, numberColumns, claimItem, claimRecord, noClaim, recordOf, claimWith, names, claimFound, claimLine, claimsMost, claimsFrom, claimsIn}
-use Rattle.claimtext.specs.Read.{ClaimsRead}
+use Rattle.claimtext.specs.ClaimText.{fieldsOf, numberColumns, claimItem, claimRecord, noClaim, crowded, recordOf, claimWith, isTab, pairsIn, claimLine, claimLines, claimsIn}
+use Rattle.claimtext.specs.Read.{areGood}
 
 -- ---- the columns of a line, as the code has them
 pub number-letters : (n m : ℕ) → n ≤ m → columnsOf (take n (repeated m 110)) ≡ numberColumns n
@@ -47,7 +52,7 @@ module _ (pairs : ℕ) (fields : List ℤ) (k : ℕ) where
   unfolding claimItem
   item-rest h n = rw (le-ltb k 2 h, ne-eqb k 2 n)
 
--- ---- the claim of a line with so many pairs
+-- ---- the claim of a line with so many pairs, 16 at most
 module _ (line : List ℕ) (pairs : ℕ) {columns : List Column} (are : columns ≡ numberColumns (fieldsOf pairs)) (f : Fields) (zs : List ℤ) (said : stored f zs ≡ plainLine tab (code "Q") columns line) where
   read-is : recordOf pairs (stored f zs) ≡ claimWith line pairs
   unfolding claimWith
@@ -56,85 +61,181 @@ module _ (line : List ℕ) (pairs : ℕ) {columns : List Column} (are : columns 
   pub with-bad : (place : ℕ) → f ≡ fields.Bad place → noClaim ≡ claimWith line pairs
   with-bad place e = ap (λ (g : Fields). recordOf pairs (stored g zs)) (sym e) ∙ read-is
 
-  pub with-fields : (next : ℕ) → f ≡ fields.End next → claimRecord pairs zs ≡ claimWith line pairs
-  with-fields next e = ap (λ (g : Fields). recordOf pairs (stored g zs)) (sym e) ∙ read-is
+  pub with-fields : pairs ≤ pairsMost → (next : ℕ) → f ≡ fields.End next → claimRecord pairs zs ≡ claimWith line pairs
+  with-fields few next e =
+      sym (ap (λ (v : Bool). cond v (claimRecord pairs zs) (crowded (atℤ zs 0))) (le-leb pairs pairsMost few))
+      ∙ ap (λ (g : Fields). recordOf pairs (stored g zs)) (sym e)
+      ∙ read-is
 
--- ---- the claim of a line
-abbrev pub named : (line : List ℕ) → (pairs : ℕ) → Bool
-named line pairs = names (claimWith line pairs)
+-- ---- .. with more
+module _ (line : List ℕ) (pairs : ℕ) (many : pairsMost < pairs) where
+  -- the numbers after the row
+  abbrev others : (next : ℕ) → Values
+  others next = fieldsAt tab feed (numberColumns (1 + 2 * pairs)) line next
 
-module _ (line : List ℕ) where
-  pub line-found : (pairs : ℕ) → some pairs ≡ firstFrom (suc pairsMost) 0 (named line) → claimWith line pairs ≡ claimLine line
-  unfolding claimLine
-  line-found pairs e = ap (claimFound line) e
+  begun : claimWith line pairs ≡ recordOf pairs (cond (headed (code "Q") tab line) (toEnd line (onward (fieldAt number line 2 tab) others)) (wrong 0))
+  unfolding claimWith plainLine restAt fieldsAt
+  begun =
+      let all : fieldsOf pairs ≡ suc (suc (2 * pairs)) = omega arith in
+      let but-row : 1 + 2 * pairs ≡ suc (2 * pairs) = omega arith in
+      ap (λ (n : ℕ). recordOf pairs (plainLine tab (code "Q") (numberColumns n) line)) all
+      ∙ ap (λ (n : ℕ). recordOf pairs (cond (headed (code "Q") tab line) (toEnd line (onward (fieldAt number line 2 tab) (λ next. fieldsAt tab feed (numberColumns n) line next))) (wrong 0))) (sym but-row)
 
-  pub line-wrong : none ≡ firstFrom (suc pairsMost) 0 (named line) → noClaim ≡ claimLine line
-  unfolding claimLine
-  line-wrong e = ap (claimFound line) e
+  row-and-others : (row : ℤ) (v : Values) → recordOf pairs (toEnd line (push row v)) ≡ cond (areGood (toEnd line v)) (crowded row) noClaim
+  row-and-others row (wrong place) = refl
+  row-and-others row (values zs next) = go (leb (length line) next)
+    where
+      go : (t : Bool) → recordOf pairs (cond t (values (row ∷ zs) next) (wrong next)) ≡ cond (areGood (cond t (values zs next) (wrong next))) (crowded row) noClaim
+      go true = ap (λ (v : Bool). cond v (claimRecord pairs (row ∷ zs)) (crowded row)) (lt-leb pairs pairsMost many)
+      go false = refl
 
--- ---- a list, line by line
-claims-past : (left : ℕ) (text : List ℕ) (p : ℕ) → length text ≤ p → claimsFrom left text p ≡ []
-unfolding claimsFrom
-claims-past zero text p h = rw (le-leb (length text) p h)
-claims-past (suc left) text p h = rw (le-leb (length text) p h)
+  pub crowded-unheaded : headed (code "Q") tab line ≡ false → noClaim ≡ claimWith line pairs
+  crowded-unheaded e = sym (begun ∙ ap (λ (t : Bool). recordOf pairs (cond t (toEnd line (onward (fieldAt number line 2 tab) others)) (wrong 0))) e)
 
-claims-next : (left : ℕ) (text : List ℕ) (p : ℕ) → p < length text → claimsFrom (suc left) text p ≡ claimLine (lineAt text p) ∷ claimsFrom left text (after text p)
-unfolding claimsFrom
-claims-next left text p h = rw (lt-leb (length text) p h)
+  module _ (e : headed (code "Q") tab line ≡ true) (s : Signed) (q : s ≡ fieldAt number line 2 tab) where
+    headed-on : claimWith line pairs ≡ recordOf pairs (toEnd line (onward s others))
+    headed-on =
+        begun
+        ∙ ap (λ (t : Bool). recordOf pairs (cond t (toEnd line (onward (fieldAt number line 2 tab) others)) (wrong 0))) e
+        ∙ ap (λ (r : Signed). recordOf pairs (toEnd line (onward r others))) (sym q)
 
-claims-full : (text : List ℕ) (p : ℕ) → p < length text → claimsFrom zero text p ≡ noClaim ∷ []
-unfolding claimsFrom
-claims-full text p h = rw (lt-leb (length text) p h)
+    pub crowded-rowless : (place : ℕ) → s ≡ Wrong place → noClaim ≡ claimWith line pairs
+    crowded-rowless place d = sym (headed-on ∙ ap (λ (r : Signed). recordOf pairs (toEnd line (onward r others))) d)
 
--- the first n claims are read, and the text is read up to place p
-pub record ReadTo (list : List ℕ) (out : List (List ℤ)) (n p : ℕ) : Type 0 where
-  pub few : n ≤ claimsMost
+    module _ (row : ℤ) (next : ℕ) (d : s ≡ Whole row next) {good : Bool} (told : good ≡ areGood (restAt tab (numberColumns (1 + 2 * pairs)) line next)) where
+      row-on : claimWith line pairs ≡ cond good (crowded row) noClaim
+      unfolding restAt
+      row-on =
+          headed-on
+          ∙ ap (λ (r : Signed). recordOf pairs (toEnd line (onward r others))) d
+          ∙ row-and-others row (others next)
+          ∙ ap (λ (v : Bool). cond v (crowded row) noClaim) (sym told)
+
+      pub crowded-bad : good ≡ false → noClaim ≡ claimWith line pairs
+      crowded-bad n = sym (row-on ∙ ap (λ (v : Bool). cond v (crowded row) noClaim) n)
+
+      pub crowded-row : good ≡ true → crowded row ≡ claimWith line pairs
+      crowded-row y = sym (row-on ∙ ap (λ (v : Bool). cond v (crowded row) noClaim) y)
+
+-- ---- numbers to the line's end: k of n are read, and those left begin at place p
+pub record NumbersTo (line : List ℕ) (at n p k : ℕ) : Type 0 where
+  pub high : k ≤ n
+  pub rest : areGood (restAt tab (numberColumns (n - k)) line p) ≡ areGood (restAt tab (numberColumns n) line at)
+
+module _ (line : List ℕ) (at n : ℕ) where
+  pub numbers-none : NumbersTo line at n at 0
+  numbers-none = record { high = omega arith; rest = ap (λ (m : ℕ). areGood (restAt tab (numberColumns m) line at)) (sub-zero n) }
+
+  module _ (p k : ℕ) (u : NumbersTo line at n p k) where
+    pub numbers-all : n ≤ k → leb (length line) p ≡ areGood (restAt tab (numberColumns n) line at)
+    unfolding restAt fieldsAt
+    numbers-all h =
+        let none : n - k ≡ 0 = omega arith in
+        sym (go (leb (length line) p)) ∙ sym (ap (λ (m : ℕ). areGood (restAt tab (numberColumns m) line p)) none) ∙ u .rest
+      where
+        go : (t : Bool) → areGood (cond t (values [] p) (wrong p)) ≡ t
+        go true = refl
+        go false = refl
+
+    module _ (h : k < n) (stop : ℕ) (is : stop ≡ cond (leb (n - k) 1) feed tab) (s : Signed) (q : s ≡ fieldAt number line p stop) where
+      -- the byte that ends the next number
+      stop-next : (m : ℕ) → stopOf tab feed (numberColumns m) ≡ cond (leb (suc m) 1) feed tab
+      stop-next zero = refl
+      stop-next (suc m) = rw (lt-leb (suc (suc m)) 1 (omega arith))
+
+      step : areGood (toEnd line (onward s (λ next. fieldsAt tab feed (numberColumns (n - (k + 1))) line next))) ≡ areGood (restAt tab (numberColumns n) line at)
+      unfolding restAt fieldsAt
+      step =
+          let left : n - k ≡ suc (n - (k + 1)) = omega arith in
+          ap (λ (r : Signed). areGood (toEnd line (onward r (λ next. fieldsAt tab feed (numberColumns (n - (k + 1))) line next))))
+          (q ∙ ap (fieldAt number line p) (is ∙ ap (λ (m : ℕ). cond (leb m 1) feed tab) left ∙ sym (stop-next (n - (k + 1)))))
+          ∙ sym (ap (λ (m : ℕ). areGood (restAt tab (numberColumns m) line p)) left)
+          ∙ u .rest
+
+      pub numbers-bad : (place : ℕ) → s ≡ Wrong place → false ≡ areGood (restAt tab (numberColumns n) line at)
+      numbers-bad place d = sym (ap (λ (r : Signed). areGood (toEnd line (onward r (λ next. fieldsAt tab feed (numberColumns (n - (k + 1))) line next)))) d) ∙ step
+
+      pub numbers-more : (z : ℤ) (next : ℕ) → s ≡ Whole z next → NumbersTo line at n next (k + 1)
+      unfolding restAt
+      numbers-more z next d =
+          record {
+            high = omega arith;
+            rest = sym (pushed (fieldsAt tab feed (numberColumns (n - (k + 1))) line next))
+                ∙ sym (ap (λ (r : Signed). areGood (toEnd line (onward r (λ next. fieldsAt tab feed (numberColumns (n - (k + 1))) line next)))) d)
+                ∙ step;
+          }
+        where
+          pushed : (v : Values) → areGood (toEnd line (push z v)) ≡ areGood (toEnd line v)
+          pushed (wrong place) = refl
+          pushed (values zs m) = go (leb (length line) m)
+            where
+              go : (t : Bool) → areGood (cond t (values (z ∷ zs) m) (wrong m)) ≡ areGood (cond t (values zs m) (wrong m))
+              go true = refl
+              go false = refl
+
+-- ---- how many pairs a line has
+pub tabs-le : (line : List ℕ) (k : ℕ) → sum k (isTab line) ≤ k
+tabs-le line k = omega (arith, sum-most {m = 1} k (isTab line) (λ i h. one (eqb (at line i) tab)))
+  where
+    one : (t : Bool) → cond t 1 0 ≤ 1
+    one true = omega arith
+    one false = omega arith
+
+module _ (line : List ℕ) {tabs : ℕ} (are : tabs ≡ sum (length line) (isTab line)) where
+  pub pairs-none : tabs < 2 → 0 ≡ pairsIn line
+  unfolding pairsIn
+  pairs-none h = let none : sum (length line) (isTab line) - fieldsOf 0 ≡ 0 = omega arith in sym (ap (λ (n : ℕ). n / 2) none)
+
+  pub pairs-some : (tabs - 2) / 2 ≡ pairsIn line
+  unfolding pairsIn
+  pairs-some = ap (λ (n : ℕ). (n - 2) / 2) are
+
+-- a line of more than 16 pairs has a byte for each of its numbers
+pub pairs-long : (line : List ℕ) → pairsMost < pairsIn line → 1 + 2 * pairsIn line ≤ length line
+unfolding pairsIn
+pairs-long line h = omega (arith, tabs-le line (length line), div-mul-le-self (sum (length line) (isTab line) - fieldsOf 0) 2)
+
+pub line-is : (line : List ℕ) {pairs : ℕ} → pairs ≡ pairsIn line → claimWith line pairs ≡ claimLine line
+unfolding claimLine
+line-is line e = ap (claimWith line) e
+
+-- ---- a list, line by line: n lines are passed, and those left begin at place p
+pub record LinesTo (list : List ℕ) (n p : ℕ) : Type 0 where
   pub within : p ≤ length list
-  pub as-long : length out ≡ suc claimsMost
-  pub so-far : take n out ++ claimsFrom (claimsMost - n) list p ≡ claimsIn list
+  pub many : n ≤ p
+  pub high : n ≤ length (claimsIn list)
+  pub left : drop n (claimsIn list) ≡ claimLines (pieces (drop p list))
 
-pub read-none : (list : List ℕ) (out : List (List ℤ)) → length out ≡ suc claimsMost → ReadTo list out 0 0
+pub lines-first : (list : List ℕ) → LinesTo list 0 0
 unfolding claimsIn
-read-none list out long = record { few = omega arith; within = omega arith; as-long = long; so-far = refl }
+lines-first list = record { within = omega arith; many = omega arith; high = omega arith; left = refl }
 
-module _ {list : List ℕ} {out : List (List ℤ)} {n p : ℕ} (u : ReadTo list out n p) where
+module _ {list : List ℕ} {n p : ℕ} (u : LinesTo list n p) where
   pub after-within : after list p ≤ length list
   after-within = omega (arith, line-le-length (drop p list), length-drop p list, u .within)
 
-  -- a claim more
-  pub read-more : (v : List ℤ) → n < claimsMost → p < length list → v ≡ claimLine (lineAt list p) → ReadTo list (set out n v) (n + 1) (after list p)
-  read-more v h l e =
-      let left : claimsMost - n ≡ suc (claimsMost - (n + 1)) = omega arith in
-      record {
-        few = omega arith;
-        within = after-within;
-        as-long = simp length-set (u .as-long);
-        so-far =
-            ap (λ (xs : List (List ℤ)). xs ++ claimsFrom (claimsMost - (n + 1)) list (after list p))
-            (ap (λ (k : ℕ). take k (set out n v)) (add-one n) ∙ take-suc-set out n v (omega (arith, u .as-long)) ∙ ap (λ (x : List ℤ). take n out ++ (x ∷ [])) e)
-            ∙ append-assoc (take n out) (claimLine (lineAt list p) ∷ []) (claimsFrom (claimsMost - (n + 1)) list (after list p))
-            ∙ ap (λ (xs : List (List ℤ)). take n out ++ xs) (sym (ap (λ (k : ℕ). claimsFrom k list p) left ∙ claims-next (claimsMost - (n + 1)) list p l))
-            ∙ u .so-far;
-      }
+  pub after-further : p < length list → p < after list p
+  after-further h = omega (arith, line-some list p h)
 
-  -- a line too many
-  pub read-full : (v : List ℤ) → claimsMost ≤ n → p < length list → v ≡ noClaim → ClaimsRead list (n + 1) (set out n v)
-  read-full v h l e =
-      let left : claimsMost - n ≡ 0 = omega arith in
-      record {
-        are =
-            ap (λ (k : ℕ). take k (set out n v)) (add-one n)
-            ∙ take-suc-set out n v (omega (arith, u .as-long, u .few))
-            ∙ ap (λ (x : List ℤ). take n out ++ (x ∷ [])) e
-            ∙ ap (λ (xs : List (List ℤ)). take n out ++ xs) (sym (ap (λ (k : ℕ). claimsFrom k list p) left ∙ claims-full list p l))
-            ∙ u .so-far;
-        within = rw (length-set out n v) (omega (arith, u .as-long, u .few));
-      }
+  -- at the list's end
+  pub lines-all : length list ≤ p → n ≡ length (claimsIn list)
+  lines-all h =
+      let none : drop n (claimsIn list) ≡ [] = u .left ∙ ap (λ (l : List ℕ). claimLines (pieces l)) (drop-of-length-le list h) in
+      omega (arith, u .high, ap length none, length-drop n (claimsIn list))
 
-  -- the list is at its end
-  pub read-all : length list ≤ p → ClaimsRead list n out
-  read-all h =
-      record {
-        are = sym (append-nil (take n out)) ∙ ap (λ (xs : List (List ℤ)). take n out ++ xs) (sym (claims-past (claimsMost - n) list p h)) ∙ u .so-far;
-        within = omega (arith, u .as-long, u .few);
-      }
+  module _ (h : p < length list) where
+    cut : drop n (claimsIn list) ≡ claimLine (lineAt list p) ∷ claimLines (pieces (drop (after list p) list))
+    cut = u .left ∙ ap claimLines (pieces-at list p h)
+
+    -- the next line is the next claim
+    pub lines-some : n < length (claimsIn list)
+    lines-some = omega (arith, ap length cut, length-drop n (claimsIn list))
+
+    both : getD (claimsIn list) n [] ∷ drop (n + 1) (claimsIn list) ≡ claimLine (lineAt list p) ∷ claimLines (pieces (drop (after list p) list))
+    both = ap (λ (k : ℕ). getD (claimsIn list) n [] ∷ drop k (claimsIn list)) (add-one n) ∙ sym (drop-cons (claimsIn list) n [] lines-some) ∙ cut
+
+    pub lines-here : claimLine (lineAt list p) ≡ getD (claimsIn list) n []
+    lines-here = let e = both in cc
+
+    pub lines-more : LinesTo list (n + 1) (after list p)
+    lines-more = let e = both in record { within = after-within; many = omega (arith, u .many, after-further h); high = omega (arith, lines-some); left = cc }

@@ -13,7 +13,7 @@ use Rattle.claimtext.proofs.PublishedLaws.{publishes}
 
 -- the text has the rows that remain, and these allow what all kept rows do
 pub record AllowsTheSame (t : Table) (list text : List ℕ) : Type 0 where
-  pub is : text ≡ publishedText (rowsOf t) (claimsIn list)
+  pub is : text ≡ publishedText (rowsOf t) (remaining (rowsOf t .states) (claimsIn list))
   pub same : Same t (kept (rowsOf t .states)) (remaining (rowsOf t .states) (claimsIn list))
 
 pub published-allows-the-same : (given : Table) (list text : List ℕ) → publishedAnswer given list ≡ passed text → AllowsTheSame (front given) list text

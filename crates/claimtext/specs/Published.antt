@@ -1,5 +1,5 @@
 -- The published list as text (02, E10), and what the open call `published_text` leaves: D, row, RAM in grains as in the M line, for each kept row that is not claimed.
-use mathlib.Core.Bool.{cond}
+use mathlib.Core.Bool.{Bool, cond}
 use mathlib.Core.List.{List, [], _∷_}
 use Prim.Native.Char.{code}
 use Prim.Native.Nat.{ℕ, _+_, _*_}
@@ -23,20 +23,20 @@ rowLine row ram = lineText (code "D") (decimal row ∷ decimalℤ ram ∷ [])
 abbrev pub lineMost : ℕ
 lineMost = 4 + 2 * 20
 
--- a row that is not published has no line
-unfoldable pub publishedLine : Rows → (claims : List (List ℤ)) → (row : ℕ) → List ℕ
-publishedLine m claims row = cond (remaining (m .states) claims row) (rowLine row (atℤ (m .rams) row)) []
+-- a row that is not listed has no line
+unfoldable pub publishedLine : Rows → (listed : ℕ → Bool) → (row : ℕ) → List ℕ
+publishedLine m listed row = cond (listed row) (rowLine row (atℤ (m .rams) row)) []
 
-unfoldable pub publishedText : Rows → (claims : List (List ℤ)) → List ℕ
-publishedText m claims = linesText (length (m .states)) 0 (publishedLine m claims)
+unfoldable pub publishedText : Rows → (listed : ℕ → Bool) → List ℕ
+publishedText m listed = linesText (length (m .states)) 0 (publishedLine m listed)
 
 -- no published list is longer
 abbrev pub publishedMost : ℕ
 publishedMost = rowsMost * lineMost
 
--- a judged table's: 11 and 12 first
+-- a judged table's: 11 and 12 first, and then each kept row that no claim names
 unfoldable pub publishedOf : Table → (claims : List (List ℤ)) → Judged (List ℕ)
-publishedOf t claims = then (claimsOf t claims) (λ m. passed (publishedText m claims))
+publishedOf t claims = then (claimsOf t claims) (λ m. passed (publishedText m (remaining (m .states) claims)))
 
 -- 1 of the list's text, then the lent tables as for every call on them, then 11 and 12
 unfoldable pub publishedAnswer : (given : Table) → (list : List ℕ) → Judged (List ℕ)

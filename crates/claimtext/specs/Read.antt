@@ -1,11 +1,16 @@
--- What reading a list of claims leaves: how many there are, and their records in front of the lent room.
-use mathlib.Core.Path.{_≡_}
+-- What the code asks and leaves besides: whether fields have right form, and which rows are left by flags.
+use mathlib.Core.Bool.{Bool, true, false, not, _&&_}
 use mathlib.Core.List.{List}
-use Prim.Native.Nat.{ℕ, _≤_}
-use lib.IntN.{ℤ}
-use lib.ListN.{length, take}
-use Rattle.claimtext.specs.ClaimText.{claimsIn}
+use Prim.Native.Nat.{ℕ}
+use lib.IntN.{pos}
+use Rattle.columns.specs.Columns.{Values, values, wrong}
+use Rattle.start.specs.Start.{kept}
+use Rattle.claims.specs.Named.{flagged}
 
-pub record ClaimsRead (list : List ℕ) (n : ℕ) (out : List (List ℤ)) : Type 0 where
-  pub are : take n out ≡ claimsIn list
-  pub within : n ≤ length out
+abbrev pub areGood : Values → Bool
+areGood (values zs next) = true
+areGood (wrong place) = false
+
+-- the kept rows whose flag is not set
+unfoldable pub unflagged : (states : List ℕ) → (flags : List Bool) → (i : ℕ) → Bool
+unflagged states flags i = kept states i && not (flagged flags (pos i))

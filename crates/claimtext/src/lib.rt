@@ -1,9 +1,10 @@
 // Claims as text, and the published list as text (02, E10). The text's length is counted before the first byte is stored.
+mod judge;
 mod published;
 mod read;
 
 ghost use mathlib.Core.Path.{_≡_};
-ghost use Prim.Native.Nat.{suc, _≤_};
+ghost use Prim.Native.Nat.{_≤_};
 ghost use lib.ListN.{length};
 ghost use Rattle.kinds.specs.Limits.{rowsMost};
 ghost use Rattle.kinds.specs.Refusals.{passed, then};
@@ -11,11 +12,11 @@ ghost use Rattle.text.specs.Left.{textLeft, textSaid};
 ghost use Rattle.table.specs.Table.{lent};
 ghost use Rattle.table.specs.Good.{Good};
 ghost use Rattle.start.specs.Filled.{rowsWith};
-ghost use Rattle.claims.specs.Claims.{judgeClaims};
+ghost use Rattle.claims.specs.Claims.{judgeClaims, remaining};
+ghost use Rattle.claims.specs.Named.{namedRows, noneNamed};
 ghost use Rattle.claims.specs.Bounds.{Lent};
-ghost use Rattle.claimtext.specs.ClaimText.{claimsMost, claimsIn};
+ghost use Rattle.claimtext.specs.ClaimText.{claimsIn};
 ghost use Rattle.claimtext.specs.Published.{publishedText, publishedOf, publishedLeft};
-use claims::ClaimRecord;
 use kinds::BorderRecord;
 use kinds::Header;
 use kinds::Judgement;
@@ -79,7 +80,8 @@ fn publish_good(
     let mut rams: [i64; Header::ROWS_MOST] = [0; Header::ROWS_MOST];
     let mut starts: [i64; Header::ROWS_MOST] = [0; Header::ROWS_MOST];
     let mut states: [u64; Header::ROWS_MOST] = [0; Header::ROWS_MOST];
-    let mut memory: [ClaimRecord; read::ROOM] = [[0; claims::CLAIM_ITEMS]; read::ROOM];
+    let mut named: [bool; Header::ROWS_MOST] = [false; Header::ROWS_MOST];
+    let mut earlier: [bool; Header::ROWS_MOST] = [false; Header::ROWS_MOST];
     publish_in(
         h,
         z,
@@ -91,12 +93,13 @@ fn publish_good(
         &mut rams[..rows],
         &mut starts[..rows],
         &mut states[..rows],
-        &mut memory,
+        &mut named,
+        &mut earlier,
         out,
     )
 }
 
-// .. with that room: the RAM and the state of each row, the claims, and what they come to.
+// .. with that room: the RAM and the state of each row, the rows that claims name, and what the claims come to.
 fn publish_in(
     h: Header,
     z: &[i64],
@@ -108,35 +111,40 @@ fn publish_in(
     rams: &mut [i64],
     starts: &mut [i64],
     states: &mut [u64],
-    memory: &mut [ClaimRecord],
+    named: &mut [bool],
+    earlier: &mut [bool],
     out: &mut [u8],
 ) -> Written
     requires { ⌜ Good (lent h (now z) (now t) (now b) (now c) (now f)) ⌝ }
     requires { ⌜ (length (now rams) ≡ h .rows) × (length (now starts) ≡ h .rows) ⌝ }
-    requires { ⌜ (length (now states) ≡ h .rows) × (length (now memory) ≡ suc claimsMost) ⌝ }
+    requires { ⌜ length (now states) ≡ h .rows ⌝ }
+    requires { ⌜ (now named ≡ noneNamed) × (now earlier ≡ noneNamed) ⌝ }
     ensures { λ r. ⌜ textSaid r (now (out .exit)) ≡ textLeft (publishedOf (lent h (now (z .entry)) (now (t .entry)) (now (b .entry)) (now (c .entry)) (now (f .entry))) (claimsIn (now (list .entry)))) (now (out .entry)) ⌝ }
 {
     start::fill_rows(h, z, t, b, c, f, rams, starts, states);
-    let n = read::read_claims(list, memory);
-    publish(h, f, rams, states, &memory[..n], out)
+    judge::name_lines(list, named);
+    publish(h, f, rams, states, list, named, earlier, out)
 }
 
-// A judged table whose RAMs and states are known: the claims are judged, and then the list is written.
+// A judged table whose RAMs and states are known, and the rows that claims name: the claims are judged, and then the list is written.
 fn publish(
     h: Header,
     f: &[i64],
     rams: &[i64],
     states: &[u64],
-    claims: &[ClaimRecord],
+    list: &[u8],
+    named: &[bool],
+    earlier: &mut [bool],
     out: &mut [u8],
 ) -> Written
     requires { ⌜ Lent (h .rows) (h .zones) 0 (now f) ⌝ }
     requires { ⌜ Lent (h .rows) 1 0 (now rams) ⌝ }
     requires { ⌜ (length (now states) ≡ h .rows) × (h .rows ≤ rowsMost) ⌝ }
-    ensures { λ r. ⌜ textSaid r (now (out .exit)) ≡ textLeft (then (judgeClaims (h .zones) (now (f .entry)) (rowsWith (now (rams .entry)) (now (states .entry))) (now (claims .entry))) (λ m. passed (publishedText m (now (claims .entry))))) (now (out .entry)) ⌝ }
+    requires { ⌜ (now named ≡ namedRows (claimsIn (now list)) (length (claimsIn (now list)))) × (now earlier ≡ noneNamed) ⌝ }
+    ensures { λ r. ⌜ textSaid r (now (out .exit)) ≡ textLeft (then (judgeClaims (h .zones) (now (f .entry)) (rowsWith (now (rams .entry)) (now (states .entry))) (claimsIn (now (list .entry)))) (λ m. passed (publishedText m (remaining (m .states) (claimsIn (now (list .entry))))))) (now (out .entry)) ⌝ }
 {
-    if let Judgement::Refused(w) = claims::judge_known(h, f, rams, states, claims) {
+    if let Judgement::Refused(w) = judge::judge_lines(h, f, rams, states, list, named, earlier) {
         return Written::Refused(w);
     }
-    published::write_rows(rams, states, claims, out)
+    published::write_rows(rams, states, named, out)
 }

@@ -1,4 +1,4 @@
-// The published list as text: a D line for each kept row that no claim names.
+// The published list as text: a D line for each kept row that no claim names. The rows that claims name are flagged.
 ghost use mathlib.Core.Path.{_≡_};
 ghost use Prim.Native.Nat.{_+_, _<_, _≤_};
 ghost use lib.ListN.{length};
@@ -7,9 +7,8 @@ ghost use Rattle.kinds.specs.Refusals.{passed};
 ghost use Rattle.text.specs.Left.{textLeft, textSaid};
 ghost use Rattle.text.specs.Put.{Put};
 ghost use Rattle.start.specs.Filled.{rowsWith};
-ghost use Rattle.claims.specs.Claims.{remaining};
 ghost use Rattle.claimtext.specs.Published.{rowLine, lineMost, publishedLine, publishedText};
-use claims::ClaimRecord;
+ghost use Rattle.claimtext.specs.Read.{unflagged};
 use kinds::Refusal;
 use kinds::Written;
 
@@ -17,33 +16,33 @@ use kinds::Written;
 pub const LINE_MOST: usize = 4 + 2 * 20;
 
 // What is left to judge is the room for the text.
-pub fn write_rows(rams: &[i64], states: &[u64], claims: &[ClaimRecord], out: &mut [u8]) -> Written
+pub fn write_rows(rams: &[i64], states: &[u64], named: &[bool], out: &mut [u8]) -> Written
     requires { ⌜ (length (now rams) ≡ length (now states)) × (length (now states) ≤ rowsMost) ⌝ }
-    ensures { λ r. ⌜ textSaid r (now (out .exit)) ≡ textLeft (passed (publishedText (rowsWith (now (rams .entry)) (now (states .entry))) (now (claims .entry)))) (now (out .entry)) ⌝ }
+    ensures { λ r. ⌜ textSaid r (now (out .exit)) ≡ textLeft (passed (publishedText (rowsWith (now (rams .entry)) (now (states .entry))) (unflagged (now (states .entry)) (now (named .entry))))) (now (out .entry)) ⌝ }
 {
-    let needed = text_length(rams, states, claims);
+    let needed = text_length(rams, states, named);
     if out.len() < needed {
         return Written::Refused(Refusal::too_short(needed));
     }
-    Written::Bytes(put_rows(rams, states, claims, out))
+    Written::Bytes(put_rows(rams, states, named, out))
 }
 
-fn text_length(rams: &[i64], states: &[u64], claims: &[ClaimRecord]) -> usize
+fn text_length(rams: &[i64], states: &[u64], named: &[bool]) -> usize
     requires { ⌜ (length (now rams) ≡ length (now states)) × (length (now states) ≤ rowsMost) ⌝ }
-    ensures { λ r. ⌜ r ≡ length (publishedText (rowsWith (now (rams .entry)) (now (states .entry))) (now (claims .entry))) ⌝ }
+    ensures { λ r. ⌜ r ≡ length (publishedText (rowsWith (now (rams .entry)) (now (states .entry))) (unflagged (now (states .entry)) (now (named .entry)))) ⌝ }
 {
     let mut sum: usize = 0;
     for i in 0..states.len() {
-        sum += line_length(rams, states, claims, i);
+        sum += line_length(rams, states, named, i);
     }
     sum
 }
 
-fn line_length(rams: &[i64], states: &[u64], claims: &[ClaimRecord], row: usize) -> usize
+fn line_length(rams: &[i64], states: &[u64], named: &[bool], row: usize) -> usize
     requires { ⌜ (length (now rams) ≡ length (now states)) × (length (now states) ≤ rowsMost) × (row < length (now states)) ⌝ }
-    ensures { λ r. ⌜ (r ≡ length (publishedLine (rowsWith (now (rams .entry)) (now (states .entry))) (now (claims .entry)) row)) × (r ≤ lineMost) ⌝ }
+    ensures { λ r. ⌜ (r ≡ length (publishedLine (rowsWith (now (rams .entry)) (now (states .entry))) (unflagged (now (states .entry)) (now (named .entry))) row)) × (r ≤ lineMost) ⌝ }
 {
-    if is_published(states, claims, row) {
+    if is_published(states, named, row) {
         return row_length(row, rams[row]);
     }
     0
@@ -57,25 +56,25 @@ fn row_length(row: usize, ram: i64) -> usize
     4 + digits + text::put::signed_length(ram)
 }
 
-// Whether a row is kept and no claim names it.
-fn is_published(states: &[u64], claims: &[ClaimRecord], row: usize) -> bool
+// Whether a row is kept and its flag is not set.
+fn is_published(states: &[u64], named: &[bool], row: usize) -> bool
     requires { ⌜ (length (now states) ≤ rowsMost) × (row < length (now states)) ⌝ }
-    ensures { λ r. ⌜ r ≡ remaining (now (states .entry)) (now (claims .entry)) row ⌝ }
+    ensures { λ r. ⌜ r ≡ unflagged (now (states .entry)) (now (named .entry)) row ⌝ }
 {
     if states[row] == 0 {
-        return !claims::claimed_in(claims, claims.len(), row as i64);
+        return !claims::is_flagged(named, row as i64);
     }
     false
 }
 
-fn put_rows(rams: &[i64], states: &[u64], claims: &[ClaimRecord], out: &mut [u8]) -> usize
+fn put_rows(rams: &[i64], states: &[u64], named: &[bool], out: &mut [u8]) -> usize
     requires { ⌜ (length (now rams) ≡ length (now states)) × (length (now states) ≤ rowsMost) ⌝ }
-    requires { ⌜ length (publishedText (rowsWith (now rams) (now states)) (now claims)) ≤ length (now out) ⌝ }
-    ensures { λ r. ⌜ Put (publishedText (rowsWith (now (rams .entry)) (now (states .entry))) (now (claims .entry))) 0 (now (out .entry)) r (now (out .exit)) ⌝ }
+    requires { ⌜ length (publishedText (rowsWith (now rams) (now states)) (unflagged (now states) (now named))) ≤ length (now out) ⌝ }
+    ensures { λ r. ⌜ Put (publishedText (rowsWith (now (rams .entry)) (now (states .entry))) (unflagged (now (states .entry)) (now (named .entry)))) 0 (now (out .entry)) r (now (out .exit)) ⌝ }
 {
     let mut next: usize = 0;
     for i in 0..states.len() {
-        next = put_line(rams, states, claims, i, out, next);
+        next = put_line(rams, states, named, i, out, next);
     }
     next
 }
@@ -83,16 +82,16 @@ fn put_rows(rams: &[i64], states: &[u64], claims: &[ClaimRecord], out: &mut [u8]
 fn put_line(
     rams: &[i64],
     states: &[u64],
-    claims: &[ClaimRecord],
+    named: &[bool],
     row: usize,
     out: &mut [u8],
     at: usize,
 ) -> usize
     requires { ⌜ (length (now rams) ≡ length (now states)) × (length (now states) ≤ rowsMost) × (row < length (now states)) ⌝ }
-    requires { ⌜ at + length (publishedLine (rowsWith (now rams) (now states)) (now claims) row) ≤ length (now out) ⌝ }
-    ensures { λ r. ⌜ Put (publishedLine (rowsWith (now (rams .entry)) (now (states .entry))) (now (claims .entry)) row) at (now (out .entry)) r (now (out .exit)) ⌝ }
+    requires { ⌜ at + length (publishedLine (rowsWith (now rams) (now states)) (unflagged (now states) (now named)) row) ≤ length (now out) ⌝ }
+    ensures { λ r. ⌜ Put (publishedLine (rowsWith (now (rams .entry)) (now (states .entry))) (unflagged (now (states .entry)) (now (named .entry))) row) at (now (out .entry)) r (now (out .exit)) ⌝ }
 {
-    if is_published(states, claims, row) {
+    if is_published(states, named, row) {
         return put_row(row, rams[row], out, at);
     }
     at

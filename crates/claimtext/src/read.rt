@@ -1,63 +1,100 @@
-// A list of claims read from its text into records. A line of wrong form becomes a claim on no row, which judging finds.
+// The claim of a line, as its record. A line of wrong form becomes a claim on no row, which judging finds.
 use claims::CLAIM_ITEMS;
 use claims::ClaimRecord;
 use columns::Fields;
+use text::Signed;
 ghost use mathlib.Core.Path.{_≡_};
-ghost use Prim.Native.Nat.{suc, _≤_};
+ghost use mathlib.Core.Bool.{cond};
+ghost use Prim.Native.Nat.{suc, _+_, _*_, _<_, _≤_};
+ghost use lib.Dec.{eqb};
 ghost use lib.ListN.{length};
+ghost use Rattle.numbers.specs.Below.{sum};
 ghost use Rattle.kinds.specs.Ranges.{atℤ};
+ghost use Rattle.text.specs.Fields.{tab};
+ghost use Rattle.columns.specs.ColumnLine.{restAt};
 ghost use Rattle.claims.specs.Claims.{pairsMost};
-ghost use Rattle.claimtext.specs.ClaimText.{claimItems, claimItem, claimRecord, noClaim, claimWith, claimLine, claimsMost};
-ghost use Rattle.claimtext.specs.Read.{ClaimsRead};
-
-// A table has at most so many rows, and no row is claimed twice.
-const CLAIMS_MOST: usize = kinds::Header::ROWS_MOST;
-
-// Room for those, and for one line too many.
-pub const ROOM: usize = CLAIMS_MOST + 1;
+ghost use Rattle.claimtext.specs.ClaimText.{claimItems, numberColumns, claimItem, claimRecord, noClaim, crowded, claimWith, isTab, pairsIn, claimLine};
+ghost use Rattle.claimtext.specs.Read.{areGood};
 
 // The fields of a line with the most pairs: all numbers of a record but the count of its pairs.
 const FIELDS_MOST: usize = CLAIM_ITEMS - 1;
 
 const COLUMNS: [u8; FIELDS_MOST] = *b"nnnnnnnnnnnnnnnnnnnnnnnnnnnnnnnnnn";
 
-// How many pairs a line may have, none among them.
-const COUNTS: usize = FIELDS_MOST / 2;
+// One pair more than a claim may have.
+const CROWDED: usize = FIELDS_MOST / 2;
 
 // The fields of a claim on no row.
 const NO_ROW: [i64; 1] = [-1];
 
-// Reads the claims of a list into the lent room, and answers how many there are.
-pub fn read_claims(list: &[u8], out: &mut [ClaimRecord]) -> usize
-    requires { ⌜ length (now out) ≡ suc claimsMost ⌝ }
-    ensures { λ r. ⌜ ClaimsRead (now (list .entry)) r (now (out .exit)) ⌝ }
-{
-    let mut n = 0;
-    let mut p = 0;
-    while p < list.len() {
-        if n == CLAIMS_MOST {
-            out[n] = no_claim();
-            return n + 1;
-        }
-        let line = text::line::line_at(list, p);
-        out[n] = claim_line(line);
-        p += line.len();
-        n += 1;
-    }
-    n
-}
-
-// The claim of a line: with as many pairs as its fields say.
-fn claim_line(line: &[u8]) -> ClaimRecord
+// The claim of a line: with as many pairs as its tabs say.
+pub fn claim_line(line: &[u8]) -> ClaimRecord
     ensures { λ r. ⌜ r ≡ claimLine (now (line .entry)) ⌝ }
 {
-    for pairs in 0..COUNTS {
-        let claim = claim_with(line, pairs);
-        if 0 <= claim[0] {
-            return claim;
-        }
+    let pairs = pairs_in(line);
+    if pairs < CROWDED {
+        return claim_with(line, pairs);
     }
-    no_claim()
+    crowded_line(line, pairs)
+}
+
+// A tab stands before each field.
+fn pairs_in(line: &[u8]) -> usize
+    ensures { λ r. ⌜ r ≡ pairsIn (now (line .entry)) ⌝ }
+{
+    let tabs = tabs_in(line);
+    if tabs < 2 {
+        return 0;
+    }
+    (tabs - 2) / 2
+}
+
+fn tabs_in(line: &[u8]) -> usize
+    ensures { λ r. ⌜ r ≡ sum (length (now (line .entry))) (isTab (now (line .entry))) ⌝ }
+{
+    let mut tabs = 0;
+    for i in 0..line.len() {
+        tabs += is_tab(line[i]);
+    }
+    tabs
+}
+
+fn is_tab(byte: u8) -> usize
+    ensures { λ r. ⌜ r ≡ cond (eqb byte tab) 1 0 ⌝ }
+{
+    if byte == b'\t' { 1 } else { 0 }
+}
+
+// The claim of a line with more pairs than a claim may have: no record has room for them, but its row is named.
+fn crowded_line(line: &[u8], pairs: usize) -> ClaimRecord
+    requires { ⌜ (pairsMost < pairs) × (1 + 2 * pairs ≤ length (now line)) ⌝ }
+    ensures { λ r. ⌜ r ≡ claimWith (now (line .entry)) pairs ⌝ }
+{
+    if !text::line::headed(line, b'Q', b'\t') {
+        return no_claim();
+    }
+    let Signed::Whole(row, next) = columns::read::field_at(b'n', line, 2, b'\t') else {
+        return no_claim();
+    };
+    if !are_numbers(line, next, 1 + 2 * pairs) {
+        return no_claim();
+    }
+    crowded(row)
+}
+
+// Whether the line goes on with n numbers, and then ends.
+fn are_numbers(line: &[u8], at: usize, n: usize) -> bool
+    ensures { λ r. ⌜ r ≡ areGood (restAt tab (numberColumns n) (now (line .entry)) at) ⌝ }
+{
+    let mut p = at;
+    for k in 0..n {
+        let stop = columns::read::stop_of(n - k, b'\t', b'\n');
+        let Signed::Whole(_, next) = columns::read::field_at(b'n', line, p, stop) else {
+            return false;
+        };
+        p = next;
+    }
+    line.len() <= p
 }
 
 // The claim of a line that has so many pairs, or no claim.
@@ -88,9 +125,16 @@ fn no_claim() -> ClaimRecord
     claim_record(0, &NO_ROW)
 }
 
+fn crowded(row: i64) -> ClaimRecord
+    ensures { λ r. ⌜ r ≡ crowded row ⌝ }
+{
+    let fields: [i64; 1] = [row];
+    claim_record(CROWDED, &fields)
+}
+
 // The record of a claim with these fields.
 fn claim_record(pairs: usize, fields: &[i64]) -> ClaimRecord
-    requires { ⌜ pairs ≤ pairsMost ⌝ }
+    requires { ⌜ pairs ≤ suc pairsMost ⌝ }
     ensures { λ r. ⌜ r ≡ claimRecord pairs (now (fields .entry)) ⌝ }
 {
     let mut claim: ClaimRecord = [0; CLAIM_ITEMS];
@@ -99,7 +143,7 @@ fn claim_record(pairs: usize, fields: &[i64]) -> ClaimRecord
 }
 
 fn fill_record(pairs: usize, fields: &[i64], claim: &mut [i64])
-    requires { ⌜ (pairs ≤ pairsMost) × (length (now claim) ≡ claimItems) ⌝ }
+    requires { ⌜ (pairs ≤ suc pairsMost) × (length (now claim) ≡ claimItems) ⌝ }
     ensures { λ _. ⌜ now (claim .exit) ≡ claimRecord pairs (now (fields .entry)) ⌝ }
 {
     for k in 0..CLAIM_ITEMS {
@@ -108,7 +152,7 @@ fn fill_record(pairs: usize, fields: &[i64], claim: &mut [i64])
 }
 
 fn claim_item(pairs: usize, fields: &[i64], k: usize) -> i64
-    requires { ⌜ pairs ≤ pairsMost ⌝ }
+    requires { ⌜ pairs ≤ suc pairsMost ⌝ }
     ensures { λ r. ⌜ r ≡ claimItem pairs (now (fields .entry)) k ⌝ }
 {
     if k < 2 {

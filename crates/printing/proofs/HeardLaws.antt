@@ -30,7 +30,6 @@ use Rattle.rowsheet.specs.RowSheet.{sheetOf}
 use Rattle.corners.specs.Corners.{flowsOf}
 use Rattle.cornertext.specs.CornerText.{cornerLineAt, cornersText, sheetText}
 use Rattle.start.specs.Start.{Rows}
-use Rattle.claims.specs.Claims.{remaining}
 use Rattle.claimtext.specs.Published.{rowLine, publishedLine, publishedText}
 use Rattle.tight.specs.declared.RoundsMost.{RoundsMost}
 use Rattle.boundtext.specs.BoundText.{boundText}
@@ -125,11 +124,11 @@ unfolding lineText
 published-other true row ram more o = λ e. omega arith
 published-other false row ram more o = o
 
-pub published-heard : (m : Rows) (claims : List (List ℤ)) → heardOf (publishedText m claims) ≡ Answered
+pub published-heard : (m : Rows) (listed : ℕ → Bool) → heardOf (publishedText m listed) ≡ Answered
 unfolding publishedText publishedLine
-published-heard m claims =
-    let lines = linesText (length (m .states)) 0 (publishedLine m claims) in
-    sym (heard-other lines (subst Other (append-nil lines) (lines-beside (length (m .states)) 0 (publishedLine m claims) [] (λ k more o. published-other (remaining (m .states) claims k) k (atℤ (m .rams) k) more o) (λ e. omega arith))))
+published-heard m listed =
+    let lines = linesText (length (m .states)) 0 (publishedLine m listed) in
+    sym (heard-other lines (subst Other (append-nil lines) (lines-beside (length (m .states)) 0 (publishedLine m listed) [] (λ k more o. published-other (listed k) k (atℤ (m .rams) k) more o) (λ e. omega arith))))
 
 -- .. the hour's own bound: it begins with U
 pub bound-heard : (m : RoundsMost) → heardOf (boundText m) ≡ Answered

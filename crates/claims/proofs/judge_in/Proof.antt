@@ -1,5 +1,6 @@
 -- `claims::judge_in` meets its contract: a judged table gives what `judge_known` asks, and the rows that were filled in are the table's (`known-claims`).
 use borrow.Author.Needs.{needs}
+use Rattle.kinds.proofs.KindLaws.{header-in}
 use Rattle.claims.proofs.JudgeLaws.{factors-lent, rams-lent, states-lent, known-claims}
 use Rattle.claims.proofs.judge_in.Statement.{statement}
 use Rattle.claims.proofs.judge_in.Tie as tie
@@ -9,7 +10,7 @@ judge-known-requires c κs =
     let filled = c .before .before .before .before .before .before in
     let good = filled .before .before .before .before .before .pre .0 in
     let e = filled .fill-rows .ensures .0 in
-    (factors-lent good _ e, (rams-lent good _ e, states-lent good _ e))
+    (factors-lent good _ e, (rams-lent good _ e, (states-lent good _ e, header-in _ (good .exact .header) .rows-most)))
 
 returns : tie.Need-returns
 returns c =

@@ -3,10 +3,10 @@ use mathlib.Core.Path.{_≡_, sym, ap, _∙_}
 use native.Mathlib.Omega.{arith}
 use borrow.Author.Tests.{not-true, not-false}
 use lib.IntN.{pos}
-use lib.ListN.{length}
 use Rattle.numbers.specs.Ints.{inside}
 use Rattle.numbers.proofs.IntLaws.{plain}
-use Rattle.claims.specs.Claims.{timesMost, citedRow, keptRow, claimedIn, pairGood}
+use Rattle.claims.specs.Claims.{timesMost, citedRow, keptRow, pairGood}
+use Rattle.claims.specs.Named.{flagged}
 use borrow.Author.Needs.{needs}
 use Rattle.claims.proofs.pair_good.Statement.{statement}
 use Rattle.claims.proofs.pair_good.Tie as tie
@@ -38,29 +38,29 @@ array-copy-out-times c = omega arith
 kept-row-requires : tie.Need-kept-row-requires
 kept-row-requires c κs = tt
 
-kept-is : (c : tie.After-kept-row) → c .kept-row .result ≡ keptRow (c .before .before .before .before .args .states .now) (citedRow (c .before .before .before .before .args .t3) (c .before .before .before .before .args .j))
-kept-is c = c .kept-row .ensures ∙ ap (keptRow (c .before .before .before .before .args .states .now)) (plain _ (c .before .before .row .given))
+kept-is : (c : tie.After-kept-row) → let a = c .before .before .before .before .before .args in c .kept-row .result ≡ keptRow (a .states .now) (citedRow (a .t3) (a .j))
+kept-is c = let a = c .before .before .before .before .before .args in c .kept-row .ensures ∙ ap (keptRow (a .states .now)) (plain _ (c .before .before .row .given))
 
 returns : tie.Need-returns
 unfolding pairGood
 returns c = simp (sym (kept-is (c .before)) ∙ not-true _ (c .if1 .taken))
 
-claimed-in-requires : tie.Need-claimed-in-requires
-claimed-in-requires c κs = omega arith
+is-flagged-requires : tie.Need-is-flagged-requires
+is-flagged-requires c κs = tt
 
-claimed-is : (c : tie.After-claimed-in) → let a = c .before .before .before .before .before .before .args in c .claimed-in .result ≡ claimedIn (a .claims .now) (length (a .claims .now)) (citedRow (a .t3) (a .j))
-claimed-is c = let a = c .before .before .before .before .before .before .args in c .claimed-in .ensures ∙ ap (claimedIn (a .claims .now) (length (a .claims .now))) (plain _ (c .before .before .before .before .row .given))
+named-is : (c : tie.After-is-flagged) → let a = c .before .before .before .before .before .before .before .args in c .is-flagged .result ≡ flagged (a .named .now) (citedRow (a .t3) (a .j))
+named-is c = let a = c .before .before .before .before .before .before .before .args in c .is-flagged .ensures ∙ ap (flagged (a .named .now)) (plain _ (c .before .before .before .before .row .given))
 
 returns-2 : tie.Need-returns-2
 unfolding pairGood
-returns-2 c = simp (sym (kept-is (c .before .before .before)) ∙ not-false _ (c .before .before .if1 .left), sym (claimed-is (c .before)) ∙ c .if2 .taken)
+returns-2 c = simp (sym (kept-is (c .before .before .before)) ∙ not-false _ (c .before .before .if1 .left), sym (named-is (c .before)) ∙ c .if2 .taken)
 
 cited-before-requires : tie.Need-cited-before-requires
-cited-before-requires c κs = c .before .before .before .before .before .before .before .pre
+cited-before-requires c κs = c .before .before .before .before .before .before .before .before .pre
 
 returns-3 : tie.Need-returns-3
 unfolding pairGood
-returns-3 c = simp (sym (kept-is (c .before .before .before .before .before)) ∙ not-false _ (c .before .before .before .before .if1 .left), sym (claimed-is (c .before .before .before)) ∙ c .before .before .if2 .left, sym (c .before .cited-before .ensures) ∙ c .if3 .taken)
+returns-3 c = simp (sym (kept-is (c .before .before .before .before .before)) ∙ not-false _ (c .before .before .before .before .if1 .left), sym (named-is (c .before .before .before)) ∙ c .before .before .if2 .left, sym (c .before .cited-before .ensures) ∙ c .if3 .taken)
 
 inside-requires : tie.Need-inside-requires
 inside-requires c κs = tt
@@ -69,9 +69,9 @@ returns-4 : tie.Need-returns-4
 unfolding pairGood
 returns-4 c =
     let at-cited = c .before .before in
-    let at-claimed = at-cited .before .before in
-    let at-kept = at-claimed .before .before in
-    simp (sym (kept-is at-kept) ∙ not-false _ (at-claimed .before .if1 .left), sym (claimed-is at-claimed) ∙ at-cited .before .if2 .left, sym (at-cited .cited-before .ensures) ∙ c .before .if3 .left)
+    let at-named = at-cited .before .before in
+    let at-kept = at-named .before .before in
+    simp (sym (kept-is at-kept) ∙ not-false _ (at-named .before .if1 .left), sym (named-is at-named) ∙ at-cited .before .if2 .left, sym (at-cited .cited-before .ensures) ∙ c .before .if3 .left)
     (c .inside .ensures ∙ ap (inside (pos 1) (pos timesMost)) (plain _ (at-kept .before .times .given)))
 
 pub pair-good-spec : {M : Type 1} → statement M
@@ -88,7 +88,7 @@ pair-good-spec =
     array-copy-out-times
     kept-row-requires
     returns
-    claimed-in-requires
+    is-flagged-requires
     returns-2
     cited-before-requires
     returns-3

@@ -7,14 +7,15 @@ use native.Mathlib.Omega.{arith}
 use Rattle.numbers.specs.Below.{given}
 use Rattle.numbers.proofs.BelowLaws.{Looked, looked-none, looked-all, looked-here, looked-more}
 use Rattle.claims.specs.Claims.{pairGood}
+use Rattle.claims.specs.Named.{flagged}
 use Rattle.claims.proofs.pairs_good.Statement.{statement}
 use Rattle.claims.proofs.pairs_good.Tie as tie
 
 abbrev Inv-loop : tie.InvT-loop
-Inv-loop states claims claim n j₀ j = Looked n (λ j. not (pairGood states claims claim j)) j
+Inv-loop states named claim n j₀ j = Looked n (λ j. not (pairGood states (flagged named) claim j)) j
 
 abbrev μ-loop : tie.MeasureT-loop
-μ-loop states claims claim n j₀ j = n - j
+μ-loop states named claim n j₀ j = n - j
 
 loop-holds : tie.Need-loop-holds Inv-loop μ-loop
 loop-holds c = looked-none _ _

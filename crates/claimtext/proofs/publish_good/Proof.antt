@@ -1,7 +1,8 @@
--- `claimtext::publish_good` meets its contract, which is that of `publish_in`: each part of the room is as long as the header says.
+-- `claimtext::publish_good` meets its contract, which is that of `publish_in`: each part of the room is as long as the header says, and no flag is set.
 use mathlib.Core.Path.{refl, sym}
 use borrow.Author.Needs.{needs}
 use lib.Seq.{length-take-le}
+use Rattle.numbers.specs.Below.{table}
 use Rattle.kinds.proofs.KindLaws.{header-in}
 use Rattle.claimtext.proofs.publish_good.Statement.{statement}
 use Rattle.claimtext.proofs.publish_good.Tie as tie
@@ -25,14 +26,15 @@ slice-aggregate-publish-in-3 : tie.Need-slice-aggregate-publish-in-3
 slice-aggregate-publish-in-3 c = sym (length-take-le _ _ (array-borrow-prefix-states (c .before)))
 
 publish-in-requires : tie.Need-publish-in-requires
+unfolding table
 publish-in-requires c κs =
-    let at-states = c .before .before in
-    let at-starts = c .before .before .before in
-    let at-rams = c .before .before .before .before in
-    (c .before .before .before .before .before .before .before .pre, ((sym (slice-aggregate-publish-in at-rams), sym (slice-aggregate-publish-in-2 at-starts)), (sym (slice-aggregate-publish-in-3 at-states), refl)))
+    let at-states = c .before .before .before in
+    let at-starts = at-states .before in
+    let at-rams = at-starts .before in
+    (c .before .before .before .before .before .before .before .before .pre, ((sym (slice-aggregate-publish-in at-rams), sym (slice-aggregate-publish-in-2 at-starts)), (sym (slice-aggregate-publish-in-3 at-states), (refl, refl))))
 
 returns : tie.Need-returns
-returns c = c .before .before .before .before .before .before .publish-in .ensures
+returns c = c .before .before .before .before .before .before .before .publish-in .ensures
 
 pub publish-good-spec : {M : Type 1} → statement M
 publish-good-spec =
@@ -44,6 +46,7 @@ publish-good-spec =
     slice-aggregate-publish-in-2
     array-borrow-prefix-states
     slice-aggregate-publish-in-3
+    (λ c. search needs)
     (λ c. search needs)
     publish-in-requires
     (λ c. search needs)

@@ -68,7 +68,7 @@ returns-2 c =
     let a = c .before .before .before .before .before .before .before .before .before .args in
     c .claim-record .ensures
     ∙ ap (claimRecord (a .pairs)) (take-at (values (c .before .before .before .before .before)) (drop (fieldsOf (a .pairs)) (a .fields .now)) (fieldsOf (a .pairs)) (values-long (c .before .before .before .before .before)))
-    ∙ with-fields (a .line .now) (a .pairs) (number-letters (fieldsOf (a .pairs)) 34 (omega (arith, c .before .before .before .before .before .before .before .before .before .pre .0))) _ _ (c .before .before .before .before .before .plain-line .ensures) _ (c .before .before .enum-told .given .1)
+    ∙ with-fields (a .line .now) (a .pairs) (number-letters (fieldsOf (a .pairs)) 34 (omega (arith, c .before .before .before .before .before .before .before .before .before .pre .0))) _ _ (c .before .before .before .before .before .plain-line .ensures) (c .before .before .before .before .before .before .before .before .before .pre .0) _ (c .before .before .enum-told .given .1)
 
 pub claim-in-spec : {M : Type 1} → statement M
 claim-in-spec =

@@ -15,7 +15,7 @@ cast-result : tie.Need-cast-result
 cast-result c = omega (arith, c .before .before .pre)
 
 returns-2 : tie.Need-returns-2
-returns-2 c = read-pos {n = 16} (c .before .before .pre) tt ∙ item-count _ _ _ (c .if2 .taken)
+returns-2 c = read-pos {n = 17} (c .before .before .pre) tt ∙ item-count _ _ _ (c .if2 .taken)
 
 returns-3 : tie.Need-returns-3
 returns-3 c = toZ-ofZ (sfits-of (c .field2 .ok)) ∙ c .field2 .ensures ∙ item-rest _ _ _ (omega arith) (c .before .if2 .left)

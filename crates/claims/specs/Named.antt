@@ -1,0 +1,36 @@
+-- What the code keeps of a list of claims while it judges them one by one: a flag for each row that a table can have, whether a claim names it.
+-- A list of any length is judged so, lent as records or as text; that flags say what the list says is proved (`proofs/NameLaws.antt`).
+use mathlib.Core.Bool.{Bool, true, false, cond, _&&_}
+use mathlib.Core.List.{List}
+use Prim.Native.Nat.{ℕ}
+use lib.IntN.{ℤ, pos, natAbs}
+use lib.ListN.{length, getD, set}
+use Rattle.numbers.specs.Below.{table}
+use Rattle.kinds.specs.Limits.{rowsMost}
+use Rattle.kinds.specs.Ranges.{exists}
+use Rattle.kinds.specs.Refusals.{Judged, passed, unless, malformedClaim, notBorneOut}
+use Rattle.start.specs.Start.{Rows, kept}
+use Rattle.claims.specs.Claims.{claimedIn, formedBy, borneOut}
+
+-- the rows that the first n claims name
+unfoldable pub namedRows : (claims : List (List ℤ)) → (n : ℕ) → List Bool
+namedRows claims n = table rowsMost (λ i. claimedIn claims n (pos i))
+
+-- .. and none of them
+abbrev pub noneNamed : List Bool
+noneNamed = table rowsMost (λ i. false)
+
+-- what flags say of a row
+unfoldable pub flagged : (flags : List Bool) → (row : ℤ) → Bool
+flagged flags row = exists (length flags) row && getD flags (natAbs row) false
+
+-- one row more is named; a row that no table has needs no flag
+unfoldable pub nameRow : (row : ℤ) → (flags : List Bool) → List Bool
+nameRow row flags = cond (exists (length flags) row) (set flags (natAbs row) true) flags
+
+-- what claim k comes to: form before truth
+unfoldable pub judgeClaim : (zones : ℕ) → (factors : List ℤ) → Rows → (named before : ℤ → Bool) → (claim : List ℤ) → (k : ℕ) → Judged Rows
+judgeClaim zones factors m named before claim k =
+    unless (formedBy (m .states) named before claim) (malformedClaim k)
+    (unless (borneOut zones factors (m .rams) claim) (notBorneOut k)
+    (passed m))
