@@ -1,6 +1,7 @@
 # shellcheck shell=sh
 # Starts the program and ends with its status. Read by ./run and by the installed command, before anything else; needs kit.sh.
 # A program of its language has no exit status: it writes a digit to the descriptor that --status-fd names.
+# Which kit proved it stands in a file beside it: --proved hands it on, for --version.
 
 # The next file or pipe that is opened would take the place of a descriptor that is closed: what cannot be read, or written, takes it.
 true 3>&2 || exec 2>/dev/null
@@ -16,6 +17,7 @@ start() { # NAME REMEMBERED-KIT PROGRAM ARGUMENTS..
     fi
     program=$3
     shift 3
+    if { IFS= read -r proved <"$program.proved"; } 2>/dev/null; then set -- --proved "$proved" "$@"; fi
     { digit=$(become "$program" --status-fd 3 "$@" 3>&1 >&4 4>&-) || ended=$?; } 4>&1
     case $digit in
     0 | 1 | 2) exit "$digit" ;;

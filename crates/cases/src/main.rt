@@ -9,6 +9,8 @@ use command::MARKS_ROOM;
 use command::TEXT_ROOM;
 use command::arguments;
 use command::arguments::Held;
+use command::arguments::Piece;
+use command::arguments::whole;
 use command::asked;
 use command::asked::Asked;
 use command::input;
@@ -47,53 +49,41 @@ fn main() {
 }
 
 // Argument i is an option or its value, a word, a row, or the name of a file.
-fn take(i: usize, mut setting: Setting) -> Setting {
+fn take(i: usize, setting: Setting) -> Setting {
     if setting.due > 0 {
         return take_value(i, setting);
     }
-    if arguments::is(i, b"--corrections") {
-        setting.due = i;
-        return setting;
+    match arguments::which(whole(i), b"--corrections\n--marks\nwith\nclaims\nanswer\n") {
+        0..=2 => awaiting(i, setting),
+        3 => awaiting(i, word_at(i)),
+        4 => word_at(0),
+        _ => take_word(i, setting),
     }
-    if arguments::is(i, b"--marks") {
-        setting.due = i;
-        return setting;
+}
+
+fn awaiting(i: usize, mut setting: Setting) -> Setting {
+    setting.due = i;
+    setting
+}
+
+fn take_value(i: usize, mut setting: Setting) -> Setting {
+    match arguments::which(whole(setting.due), b"--corrections\n--marks\n") {
+        0 => setting.corrections = i,
+        1 => setting.marks = i,
+        _ => setting.after = i,
     }
-    if arguments::is(i, b"claims") {
-        setting = word_at(i);
-        setting.due = i;
-        return setting;
-    }
-    if arguments::is(i, b"with") {
-        setting.due = i;
-        return setting;
-    }
-    if arguments::is(i, b"answer") {
-        return word_at(0);
-    }
+    awaiting(0, setting)
+}
+
+fn take_word(i: usize, setting: Setting) -> Setting {
     if let Asked::Task(_) = asked::understand(i, 0) {
         return word_at(i);
     }
     take_rest(i, setting)
 }
 
-fn take_value(i: usize, mut setting: Setting) -> Setting {
-    let option = setting.due;
-    setting.due = 0;
-    if arguments::is(option, b"--corrections") {
-        setting.corrections = i;
-        return setting;
-    }
-    if arguments::is(option, b"--marks") {
-        setting.marks = i;
-        return setting;
-    }
-    setting.after = i;
-    setting
-}
-
 fn take_rest(i: usize, mut setting: Setting) -> Setting {
-    if let Held::Number(_) = arguments::number(i) {
+    if let Held::Number(_) = arguments::number(whole(i)) {
         setting.after = i;
         return setting;
     }
@@ -135,7 +125,7 @@ fn print(
 )
     requires { ⌜ sheetRoom ≤ length (now out) ⌝ }
 {
-    let corrections = input::named(setting.corrections, sheet);
+    let corrections = input::named(whole(setting.corrections), sheet);
     if corrections.failed {
         return;
     }
@@ -156,19 +146,28 @@ fn print_corrected(
 )
     requires { ⌜ sheetRoom ≤ length (now out) ⌝ }
 {
-    let with = input::named(asked::file_of(task, setting.after), file);
+    let with = input::named(whole(asked::file_of(task, setting.after)), file);
     if with.failed {
         return;
     }
     let n = with.bytes;
-    print_with(i, task, setting.marks, text, sheet, &file[..n], marks, out)
+    print_with(
+        i,
+        task,
+        whole(setting.marks),
+        text,
+        sheet,
+        &file[..n],
+        marks,
+        out,
+    )
 }
 
 // .. and then the table.
 fn print_with(
     i: usize,
     task: Task,
-    list: usize,
+    list: Piece,
     text: &mut [u8],
     sheet: &[u8],
     file: &[u8],
@@ -177,7 +176,7 @@ fn print_with(
 )
     requires { ⌜ sheetRoom ≤ length (now out) ⌝ }
 {
-    let table = input::file(i, text);
+    let table = input::file(whole(i), text);
     if table.failed {
         return;
     }
@@ -185,7 +184,15 @@ fn print_with(
     let n = table.bytes;
     let listed = arguments::list(list, marks);
     let m = listed.count;
-    tasks::print(task, list == 0, &marks[..m], file, &text[..n], sheet, out);
+    tasks::print(
+        task,
+        list.at == 0,
+        &marks[..m],
+        file,
+        &text[..n],
+        sheet,
+        out,
+    );
 }
 
 fn name(i: usize) {

@@ -1,47 +1,57 @@
-// The arguments that a program was started with: which word one is, or which number or list of numbers it holds.
+// The arguments that a program was started with: which word a piece of one is, or which number or list of numbers it holds.
+// Each is read into memory that is all zeros, so one stands behind it. The memory is made where an argument is read, and not where goals would spell it out.
 ghost use mathlib.Core.Path.{_≡_};
 ghost use Rattle.io.specs.Counts.{Counts};
+use crate::lists;
 use text::Number;
+
+// Room for an argument: Linux lets one have 131,071 bytes, where a page of memory has 4,096. Whether all of it is here, `os::errno` tells.
+pub const ROOM: usize = 131072;
+
+// What stands in argument `at` from byte `from` on; `at` is 0 where nothing is given.
+pub struct Piece {
+    pub at: usize,
+    pub from: usize,
+}
+
+// All of argument i.
+pub fn whole(i: usize) -> Piece {
+    Piece { at: i, from: 0 }
+}
+
+// A text from a place on.
+pub fn tail<'a>(text: &'a [u8], from: usize) -> &'a [u8] {
+    if from < text.len() {
+        return &text[from..];
+    }
+    &text[..0]
+}
+
+// Which line of a list of words the piece is, from 0; as many as there are lines where it is none.
+pub fn which(piece: Piece, list: &[u8]) -> usize {
+    let mut own = [0u8; ROOM];
+    let n = os::arg(piece.at, &mut own);
+    lists::line_of(list, tail(&own[..n], piece.from))
+}
 
 pub enum Held {
     Number(u64),
     Other,
 }
 
-// Whether argument i is this word, which is not empty.
-pub fn is(i: usize, word: &[u8]) -> bool {
-    let mut own = io::buffer();
-    let n = os::arg(i, &mut own);
-    same(&own[..n], word)
-}
-
-fn same(word: &[u8], other: &[u8]) -> bool {
-    if word.len() != other.len() {
-        return false;
-    }
-    let mut i: usize = 0;
-    while i < word.len() {
-        if word[i] != other[i] {
-            return false;
-        }
-        i += 1;
-    }
-    true
-}
-
-// The number that argument i holds, written as numbers are in a table. It ends where the zeros behind it begin.
-pub fn number(i: usize) -> Held {
-    let mut own = io::buffer();
-    os::arg(i, &mut own);
-    match text::field::number_at(&own, 0, 0) {
+// The number that a piece holds, written as numbers are in a table.
+pub fn number(piece: Piece) -> Held {
+    let mut own = [0u8; ROOM];
+    os::arg(piece.at, &mut own);
+    match text::field::number_at(&own, piece.from, 0) {
         Number::Value(v, _) => Held::Number(v),
         Number::Bad(_) => Held::Other,
     }
 }
 
-// The descriptor that argument i holds, -1 where it holds none.
-pub fn descriptor(i: usize) -> i32 {
-    match number(i) {
+// The descriptor that a piece holds, -1 where it holds none.
+pub fn descriptor(piece: Piece) -> i32 {
+    match number(piece) {
         Held::Number(v) => narrow(v),
         Held::Other => -1,
     }
@@ -60,26 +70,27 @@ pub struct Listed {
     pub good: bool,
 }
 
-// The numbers that argument i holds, written as they are in a table, with commas between: an empty word holds none.
-// The whole word is looked at, but only as many are kept as the lent list has room for.
-pub fn list(i: usize, list: &mut [u64]) -> Listed
+// The numbers that a piece holds, written as they are in a table, with commas between: an empty one holds none.
+// The whole piece is looked at, but only as many are kept as the lent list has room for.
+pub fn list(piece: Piece, list: &mut [u64]) -> Listed
     ensures { λ r. ⌜ Counts (r .count) (now (list .exit)) ⌝ }
 {
-    let mut own = io::buffer();
-    if os::arg(i, &mut own) == 0 {
+    let mut own = [0u8; ROOM];
+    os::arg(piece.at, &mut own);
+    if text::field::byte_at(&own, piece.from) == 0 {
         return Listed {
             count: 0,
             good: true,
         };
     }
-    numbers_in(&own, list)
+    numbers_in(&own, piece.from, list)
 }
 
 // A number takes two bytes at least, with what ends it, so there are fewer than bytes.
-fn numbers_in(word: &[u8], list: &mut [u64]) -> Listed
+fn numbers_in(word: &[u8], from: usize, list: &mut [u64]) -> Listed
     ensures { λ r. ⌜ Counts (r .count) (now (list .exit)) ⌝ }
 {
-    let mut at: usize = 0;
+    let mut at = from;
     for k in 0..word.len() {
         let Number::Value(v, next) = text::field::number_at(word, at, b',') else {
             return last(word, at, k, list);
@@ -129,9 +140,9 @@ fn kept(list: &[u64], k: usize) -> usize
     list.len()
 }
 
-// Whether argument i is such a list.
-pub fn is_list(i: usize) -> bool {
+// Whether a piece is such a list.
+pub fn is_list(piece: Piece) -> bool {
     let mut first: [u64; 1] = [0; 1];
-    let read = list(i, &mut first);
+    let read = list(piece, &mut first);
     read.good
 }

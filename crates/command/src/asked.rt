@@ -1,6 +1,7 @@
 // What the arguments ask for: the words, with what may stand after each and what goes with it.
 use crate::arguments;
 use crate::arguments::Held;
+use crate::arguments::whole;
 use printing::sheets::Rows;
 use printing::tasks::Task;
 use printing::texts::Word;
@@ -9,8 +10,14 @@ pub enum Asked {
     Task(Task),
     Help,
     Version,
-    // the argument that cannot be taken
-    Wrong(usize),
+    // there is no such word
+    Unknown,
+    // nothing may stand after the word
+    TooMany,
+    // what stands after the word is no row
+    NoRow,
+    // no file stands after the word
+    NoFile,
 }
 
 // What the word at an argument asks for, with the argument after it; 0 stands for one that is not there.
@@ -18,64 +25,43 @@ pub fn understand(word: usize, after: usize) -> Asked {
     if word == 0 {
         return alone(text_of(Word::Answer), after);
     }
-    if arguments::is(word, b"rewrite") {
-        return alone(text_of(Word::Rewrite), after);
+    match arguments::which(
+        whole(word),
+        b"rewrite\nbound\nmargins\ncorners\nrows\nclaims\nhelp\n--help\n-h\n--version\n",
+    ) {
+        0 => alone(text_of(Word::Rewrite), after),
+        1 => alone(text_of(Word::Bound), after),
+        2 => alone(text_of(Word::Margins), after),
+        3 => corners(after),
+        4 => sheet_or_file(after),
+        5 => claims(after),
+        6..=8 => alone(Asked::Help, after),
+        9 => alone(Asked::Version, after),
+        _ => Asked::Unknown,
     }
-    if arguments::is(word, b"corners") {
-        return corners(after);
-    }
-    if arguments::is(word, b"rows") {
-        return sheet_or_file(after);
-    }
-    if arguments::is(word, b"claims") {
-        return with_file(Word::Claims, word, after);
-    }
-    known(word, after)
-}
-
-// What is known of a table before the first round.
-fn known(word: usize, after: usize) -> Asked {
-    if arguments::is(word, b"bound") {
-        return alone(text_of(Word::Bound), after);
-    }
-    if arguments::is(word, b"margins") {
-        return alone(text_of(Word::Margins), after);
-    }
-    about(word, after)
 }
 
 fn text_of(word: Word) -> Asked {
     Asked::Task(Task::Text(word))
 }
 
-// The words that ask for nothing of a table.
-fn about(word: usize, after: usize) -> Asked {
-    if arguments::is(word, b"help") {
-        return alone(Asked::Help, after);
-    }
-    if arguments::is(word, b"--help") {
-        return alone(Asked::Help, after);
-    }
-    if arguments::is(word, b"--version") {
-        return alone(Asked::Version, after);
-    }
-    Asked::Wrong(word)
-}
-
 // Nothing may stand after the word.
 fn alone(asked: Asked, after: usize) -> Asked {
     if after > 0 {
-        return Asked::Wrong(after);
+        return Asked::TooMany;
     }
     asked
 }
 
-// A file has to.
-fn with_file(text: Word, word: usize, after: usize) -> Asked {
+// A row may.
+fn corners(after: usize) -> Asked {
     if after == 0 {
-        return Asked::Wrong(word);
+        return Asked::Task(Task::Corners(Rows::Every));
     }
-    text_of(text)
+    if let Held::Number(row) = arguments::number(whole(after)) {
+        return Asked::Task(Task::Corners(Rows::One(row as usize)));
+    }
+    Asked::NoRow
 }
 
 // A file may.
@@ -84,6 +70,14 @@ fn sheet_or_file(after: usize) -> Asked {
         return text_of(Word::Rows);
     }
     text_of(Word::Filled)
+}
+
+// A file has to.
+fn claims(after: usize) -> Asked {
+    if after == 0 {
+        return Asked::NoFile;
+    }
+    text_of(Word::Claims)
 }
 
 // Which argument names the file that goes with a task, of what stands after its word; 0 where none goes with it.
@@ -109,17 +103,6 @@ fn file_with(word: Word, after: usize) -> usize {
         Word::Rows => 0,
         Word::Filled => after,
     }
-}
-
-// A row may.
-fn corners(after: usize) -> Asked {
-    if after == 0 {
-        return Asked::Task(Task::Corners(Rows::Every));
-    }
-    if let Held::Number(row) = arguments::number(after) {
-        return Asked::Task(Task::Corners(Rows::One(row as usize)));
-    }
-    Asked::Wrong(after)
 }
 
 // Whether marks go with the task.

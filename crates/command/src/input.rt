@@ -2,6 +2,8 @@
 // That one cannot be read is said on standard error.
 ghost use mathlib.Core.Path.{_≡_};
 ghost use Rattle.io.specs.Counts.{Counts};
+use crate::arguments;
+use crate::arguments::Piece;
 use crate::words;
 use libc::STDIN_FILENO;
 
@@ -22,30 +24,26 @@ pub fn standard(text: &mut [u8]) -> Input
     input
 }
 
-// The file that argument i names, or nothing where i is 0 and no argument names one.
-pub fn named(i: usize, text: &mut [u8]) -> Input
+// The file that a piece of an argument names, or nothing where none is given.
+pub fn named(piece: Piece, text: &mut [u8]) -> Input
     ensures { λ r. ⌜ Counts (r .bytes) (now (text .exit)) ⌝ }
 {
-    if i == 0 {
+    if piece.at == 0 {
         return Input {
             bytes: 0,
             failed: false,
         };
     }
-    file(i, text)
+    file(piece, text)
 }
 
-// The file that argument i names.
-pub fn file(i: usize, text: &mut [u8]) -> Input
+// The file that a piece of an argument names. An argument that cannot be read names none.
+pub fn file(piece: Piece, text: &mut [u8]) -> Input
     ensures { λ r. ⌜ Counts (r .bytes) (now (text .exit)) ⌝ }
 {
-    let mut name = io::buffer();
-    let n = os::arg(i, &mut name);
-    if os::errno() != 0 {
-        os::fail(b"keravnoth: argument");
-        return failed();
-    }
-    read_file(&name[..n], text)
+    let mut name = [0u8; arguments::ROOM];
+    let n = os::arg(piece.at, &mut name);
+    read_file(arguments::tail(&name[..n], piece.from), text)
 }
 
 fn read_file(name: &[u8], text: &mut [u8]) -> Input

@@ -1,7 +1,8 @@
-// The command line: the arguments, what is read, what can be asked for, and words for people. What is printed stands below (crate printing).
+// The command line: the arguments, what is read, what can be asked for, lists of words, and words for people. What is printed stands below (crate printing).
 pub mod arguments;
 pub mod asked;
 pub mod input;
+pub mod lists;
 pub mod usage;
 pub mod words;
 

@@ -1,8 +1,7 @@
-// The program: a table on standard input, its answer on standard output (01, "Result text").
-// `keravnoth rewrite` writes the table again instead, `keravnoth corners` its corner sheets, of all rows or of the one that is named
-// (02, E1), `keravnoth claims FILE` the published list of the claims in a file (02, E10). With `--marks LIST` only the borders of the list rise (02, E13), with `--corrections FILE` rows are replaced by those of a correction
-// sheet (02, E2). What a refusal means, and that reading or writing failed, is said on standard error: a table that was not read to its end
-// is not answered. With `--status-fd N` the program's last word is its status, on descriptor N.
+// The program: a table on standard input, its answer on standard output (01, "Result text"); a word asks for something else (`command::usage`).
+// What a refusal means, and that reading or writing failed, is said on standard error: a table that was not read to its end is not answered.
+// Whoever starts the program gives it two options that are not for people: with `--status-fd N` its last word is its status, on descriptor N;
+// `--proved TEXT` is what `--version` says that it was proved in.
 mod options;
 
 ghost use Prim.Native.Nat.{_≤_};
@@ -11,12 +10,13 @@ ghost use Rattle.printing.specs.Room.{sheetRoom};
 use command::MARKS_ROOM;
 use command::TEXT_ROOM;
 use command::arguments;
+use command::arguments::Piece;
+use command::arguments::whole;
 use command::asked;
 use command::asked::Asked;
 use command::input;
 use command::usage;
 use command::words;
-use libc::STDOUT_FILENO;
 use options::Command;
 use printing::output::Ended;
 use printing::sheets;
@@ -30,27 +30,28 @@ fn main() {
 }
 
 fn obey(command: Command) -> Ended {
-    if command.wrong > 0 {
-        return misuse(command.wrong);
+    if command.wrong {
+        return Ended::Failed;
     }
     match asked::understand(command.word, command.after) {
         Asked::Task(task) => run(task, command),
-        Asked::Help => written(usage::usage(STDOUT_FILENO)),
-        Asked::Version => written(usage::version(STDOUT_FILENO)),
-        Asked::Wrong(i) => misuse(i),
+        Asked::Help => written(usage::usage()),
+        Asked::Version => written(usage::version(command.proved)),
+        _ => Ended::Failed,
     }
-}
-
-fn misuse(i: usize) -> Ended {
-    words::misuse(i);
-    Ended::Failed
 }
 
 fn written(all: bool) -> Ended {
     if all {
         return Ended::Answered;
     }
-    explain(Ended::Failed)
+    unwritten();
+    Ended::Failed
+}
+
+// What was written before an error stays written: the message is all that can be said.
+fn unwritten() {
+    os::fail(b"keravnoth: writing");
 }
 
 fn run(task: Task, command: Command) -> Ended {
@@ -102,7 +103,7 @@ fn run_corrected(
 ) -> Ended
     requires { ⌜ sheetRoom ≤ length (now out) ⌝ }
 {
-    let with = input::named(asked::file_of(task, command.after), file);
+    let with = input::named(whole(asked::file_of(task, command.after)), file);
     if with.failed {
         return Ended::Failed;
     }
@@ -113,7 +114,7 @@ fn run_corrected(
 // .. and then the table.
 fn run_with(
     task: Task,
-    list: usize,
+    list: Piece,
     text: &mut [u8],
     sheet: &[u8],
     file: &[u8],
@@ -129,50 +130,88 @@ fn run_with(
     let n = table.bytes;
     let listed = arguments::list(list, marks);
     let m = listed.count;
-    let ended = tasks::print(task, list == 0, &marks[..m], file, &text[..n], sheet, out);
-    explain_task(task, ended, &text[..n], sheet, out)
+    let ended = tasks::print(
+        task,
+        list.at == 0,
+        &marks[..m],
+        file,
+        &text[..n],
+        sheet,
+        out,
+    );
+    explain(task, ended, &text[..n], sheet, file, out)
 }
 
-// The E line does not tell the table from the file that goes with the word: where the table itself is good, the file is meant.
-fn explain_task<'a>(
+// Says on standard error what people need to know.
+fn explain<'a>(
     task: Task,
     ended: Ended,
     text: &'a [u8],
     sheet: &'a [u8],
+    file: &[u8],
     out: &mut [u8],
 ) -> Ended
     requires { ⌜ sheetRoom ≤ length (now out) ⌝ }
 {
-    let Ended::Refused(number, place, byte) = ended else {
-        return explain(ended);
-    };
-    if !asked::takes_file(task) {
-        return explain(ended);
-    }
-    if !tasks::table_good(text, sheet, out) {
-        return explain(ended);
-    }
-    words::file_refusal(number, place, byte);
-    ended
-}
-
-// Says on standard error what people need to know. What was written before an error stays written: the message is all that can be said.
-fn explain(ended: Ended) -> Ended {
     match ended {
         Ended::Answered => {}
-        Ended::Refused(number, place, byte) => words::refusal(number, place, byte),
-        Ended::Failed => os::fail(b"keravnoth: writing"),
+        Ended::Refused(number, place, byte) => {
+            explain_refusal(task, number, place, byte, text, sheet, file, out)
+        }
+        Ended::Failed => unwritten(),
     }
     ended
 }
 
-// Writes the status, a digit on a line, to the descriptor that argument i holds: a program of this language has no exit status, so whoever starts it
+// The E line tells neither a text from another, nor the two causes of 9.
+fn explain_refusal<'a>(
+    task: Task,
+    number: u64,
+    place: u64,
+    byte: u64,
+    text: &'a [u8],
+    sheet: &'a [u8],
+    file: &[u8],
+    out: &mut [u8],
+)
+    requires { ⌜ sheetRoom ≤ length (now out) ⌝ }
+{
+    match number {
+        1 => words::too_long(sheet.len(), file.len()),
+        2..=3 => explain_line(task, number, place, byte, text, sheet, out),
+        9 => words::no_corners(place, text),
+        _ => words::refusal(number, place, byte),
+    }
+}
+
+// Where the table itself is good, the sheet of rows after the word is meant.
+fn explain_line<'a>(
+    task: Task,
+    number: u64,
+    place: u64,
+    byte: u64,
+    text: &'a [u8],
+    sheet: &'a [u8],
+    out: &mut [u8],
+)
+    requires { ⌜ sheetRoom ≤ length (now out) ⌝ }
+{
+    if !asked::takes_file(task) {
+        return words::refusal(number, place, byte);
+    }
+    if !tasks::table_good(text, sheet, out) {
+        return words::refusal(number, place, byte);
+    }
+    words::of_rows(number, place, byte)
+}
+
+// Writes the status, a digit on a line, to the descriptor that is given: a program of this language has no exit status, so whoever starts it
 // hands this on.
-fn tell(i: usize, ended: Ended) {
-    if i == 0 {
+fn tell(given: Piece, ended: Ended) {
+    if given.at == 0 {
         return;
     }
-    let fd = arguments::descriptor(i);
+    let fd = arguments::descriptor(given);
     match ended {
         Ended::Answered => tell_digit(fd, b"0\n"),
         Ended::Refused(_, _, _) => tell_digit(fd, b"1\n"),

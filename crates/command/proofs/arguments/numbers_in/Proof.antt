@@ -8,10 +8,10 @@ use Rattle.command.proofs.arguments.numbers_in.Statement.{statement}
 use Rattle.command.proofs.arguments.numbers_in.Tie as tie
 
 abbrev Inv-loop : tie.InvT-loop
-Inv-loop word list₀ at₀ k₀ k-end list at k = length list ≡ length list₀
+Inv-loop word from list₀ at₀ k₀ k-end list at k = length list ≡ length list₀
 
 abbrev μ-loop : tie.MeasureT-loop
-μ-loop word list₀ at₀ k₀ k-end list at k = k-end - k
+μ-loop word from list₀ at₀ k₀ k-end list at k = k-end - k
 
 pub numbers-in-spec : {M : Type 1} → statement M
 numbers-in-spec =

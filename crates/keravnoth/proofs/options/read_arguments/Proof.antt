@@ -13,6 +13,9 @@ abbrev μ-loop : tie.MeasureT-loop
 arg-count-requires : tie.Need-arg-count-requires Inv-loop μ-loop
 arg-count-requires c κs = tt
 
+nothing-requires : tie.Need-nothing-requires Inv-loop μ-loop
+nothing-requires c κs = tt
+
 loop-holds : tie.Need-loop-holds Inv-loop μ-loop
 loop-holds c = tt
 
@@ -22,8 +25,8 @@ take-requires c κs = tt
 loop-again : tie.Need-loop-again Inv-loop μ-loop
 loop-again c = tt
 
-whole-requires : tie.Need-whole-requires Inv-loop μ-loop
-whole-requires c κs = tt
+judge-requires : tie.Need-judge-requires Inv-loop μ-loop
+judge-requires c κs = tt
 
 returns : tie.Need-returns Inv-loop μ-loop
 returns c = tt
@@ -35,10 +38,11 @@ read-arguments-spec =
     Inv-loop
     μ-loop
     arg-count-requires
+    nothing-requires
     loop-holds
     take-requires
     (λ c. omega arith)
     (λ c. omega arith)
     loop-again
-    whole-requires
+    judge-requires
     returns)

@@ -1,11 +1,11 @@
--- `command::arguments::same` is safe and ends. The invariant: i is within both words, which are equally long. The measure is what is left of them.
+-- `command::lists::same` is safe and ends. The invariant: i is within both words, which are equally long. The measure is what is left of them.
 use Prim.Native.Nat.{_≤_, _-_}
 use mathlib.Core.Path.{_≡_}
 use native.Mathlib.Omega.{arith}
 use lib.ListN.{length}
 use borrow.Author.Needs.{needs}
-use Rattle.command.proofs.arguments.same.Statement.{statement}
-use Rattle.command.proofs.arguments.same.Tie as tie
+use Rattle.command.proofs.lists.same.Statement.{statement}
+use Rattle.command.proofs.lists.same.Tie as tie
 
 abbrev Inv-loop : tie.InvT-loop
 Inv-loop word other i₀ i = (i ≤ length word) × (length word ≡ length other)
