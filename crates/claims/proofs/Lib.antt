@@ -1,5 +1,6 @@
 pub mod Anchors
 pub mod AnchorsAllowed
+pub mod AnchorsOrder
 pub mod CanGo
 pub mod FormLaws
 pub mod NameLaws

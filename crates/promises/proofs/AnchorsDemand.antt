@@ -2,13 +2,14 @@
 -- what refusal 7 is about. Nobody cites them: they refuse a statement that slipped, by the number that comes out.
 use mathlib.Core.Path.{_≡_, refl, sym, ap, subst}
 use mathlib.Core.Bool.{Bool, false≢true}
-use mathlib.Core.List.{List, [], _∷_}
+use mathlib.Core.List.{List, [], _∷_, _++_}
 use mathlib.Core.Option.{Option, none, some}
 use Prim.Native.Nat.{ℕ, zero, suc, _+_, _*_, _-_, _/_, _≤_, _<_}
 use native.Mathlib.Nat.{div-mul-le-self}
 use native.Mathlib.Omega.{arith}
 use lib.Dec.{eqb, lit≤, lit<}
 use lib.IntN.{ℤ, pos, natAbs}
+use lib.ListN.{take}
 use lib.Signed.{ltZ-yes, clashℤ}
 use Rattle.numbers.specs.Below.{at, ifZero, sum, count, largest, lesser, least, orZero, table, firstFrom, given}
 use Rattle.numbers.specs.Ints.{minus, maxℤ, minℤ, positivePart, sameℤ, sumℤ}
@@ -41,6 +42,18 @@ small =
           ∷ (pos 1 ∷ pos 0 ∷ pos 0 ∷ pos 0 ∷ pos 0 ∷ pos 0 ∷ pos 0 ∷ [])
           ∷ [];
       factors = pos 10000 ∷ pos 0 ∷ pos 0 ∷ pos 0 ∷ pos 5000 ∷ minus 5000 ∷ [];
+    }
+
+-- the same with row 0 once more, which is its state 2
+abbrev doubled : Table
+doubled =
+    record {
+      header = record { zones = 3; borders = 2; rows = 3; share = minus 1; intraday = 0 };
+      nets = small .nets;
+      allocated = [];
+      borders = small .borders;
+      rows = small .rows ++ take 1 (small .rows);
+      factors = small .factors ++ take 3 (small .factors);
     }
 
 -- the second border alone
@@ -164,6 +177,9 @@ pub record Anchors : Type 0 where
   pub not-under : StoppedBy small every (ended 9 (20000 ∷ 0 ∷ []) (2379 ∷ 20 ∷ [])) 0 0 → ⊥
   pub not-shared : StoppedBy small second (ended 1 (15000 ∷ 0 ∷ []) (2000 ∷ 20 ∷ [])) 1 0 → ⊥
   pub no-row : StoppedBy small every hour 0 2 → ⊥
+  -- .. nor does a row that takes no part, though its share is none and row 0 leaves border 0 two kW
+  pub states : rowsOf doubled .states ≡ 0 ∷ 0 ∷ 2 ∷ []
+  pub not-kept : StoppedBy doubled every (ended 9 (40000 ∷ 0 ∷ 0 ∷ []) (2379 ∷ 20 ∷ [])) 0 2 → ⊥
   -- .. border 0 rose in round 9, and border 1 did not in round 2; no row told, and another than the first
   pub later : BorderStopped small every (told (8 ∷ 1 ∷ []) (some 0 ∷ some 0 ∷ [])) 0 → ⊥
   pub earlier : BorderStopped small every (told (9 ∷ 2 ∷ []) (some 0 ∷ some 0 ∷ [])) 1 → ⊥
@@ -233,6 +249,8 @@ anchors =
       not-under = λ u. let h : 1 < 1 = u .under in omega arith;
       not-shared = λ u. let h : 1 < 1 = u .under in omega arith;
       no-row = λ u. let h : 2 < 2 = u .row in omega arith;
+      states = refl;
+      not-kept = λ u. false≢true (u .takes);
       later = λ u. let e : _≡_ {A = ℕ} 1 0 = u .last .no-later 9 (lit< tt) (lit≤ tt) in omega arith;
       earlier = λ u. let h : 0 < 0 = u .last .raised (lit< tt) in omega arith;
       not-told = λ u. false≢true (ap given (u .found));
