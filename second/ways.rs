@@ -12,7 +12,7 @@ use crate::{damage, make, refused_at, Comparison};
 const SHEET_BORDERS: u64 = 16;
 /// The stored hours, all of them: those that the bench runs on are held against the
 /// second program too.
-pub const HOURS: [&[u8]; 12] = [
+pub const HOURS: [&[u8]; 14] = [
     include_bytes!("../hours/worked.tsv"),
     include_bytes!("../hours/planner.tsv"),
     include_bytes!("../hours/sheet.tsv"),
@@ -25,6 +25,8 @@ pub const HOURS: [&[u8]; 12] = [
     include_bytes!("../hours/worst.tsv"),
     include_bytes!("../hours/busy64.tsv"),
     include_bytes!("../hours/worst64.tsv"),
+    include_bytes!("../hours/late.tsv"),
+    include_bytes!("../hours/slowest.tsv"),
 ];
 
 impl Comparison {

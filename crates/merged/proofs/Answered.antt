@@ -37,7 +37,7 @@ merged-answer all marks text sheet t e = same-answer all marks (mergedText text 
 pub merged-demand-3 : (all : Bool) (marks text sheet : List ℕ) → (at (answerWith all marks text sheet) 0 ≡ code "E" → ⊥) → TextDemand3 (mayRise all marks) (readText (mergedText text sheet)) (answerWith all marks text sheet)
 merged-demand-3 all marks text sheet h =
     let d = answer-demand-3 all marks text sheet h in
-    record { table = d .table; result = d .result; is = merged-reads text sheet (d .table) (d .is); printed = d .printed; demand = d .demand; stopped = d .stopped; unmarked = d .unmarked }
+    record { table = d .table; result = d .result; is = merged-reads text sheet (d .table) (d .is); printed = d .printed; outcome = d .outcome; demand = d .demand; stopped = d .stopped; unmarked = d .unmarked }
 
 -- ---- what `rewrite_corrected` leaves, where it took both texts
 module _ (text sheet out : List ℕ) (n : ℕ) (done : rewriteCorrectedLeft text sheet out .answer ≡ passed n) where
