@@ -34,14 +34,14 @@ ended rounds s =
 abbrev state : (margins x : List ℕ) → State
 state margins x = record { margins = margins; x = x }
 
-abbrev hourEnd : Result
+abbrev pub hourEnd : Result
 hourEnd = ended 21 (state (20000 ∷ 0 ∷ 0 ∷ 0 ∷ []) (2599999 ∷ 1800000 ∷ []))
 
 -- where it starts: at LTA, each margin RAM - S
 abbrev hourStart : State
 hourStart = tableStart hourTable
 
-both : (f g : ℕ → ℕ) → f 0 ≤ g 0 → f 1 ≤ g 1 → (b : ℕ) → b < 2 → f b ≤ g b
+pub both : (f g : ℕ → ℕ) → f 0 ≤ g 0 → f 1 ≤ g 1 → (b : ℕ) → b < 2 → f b ≤ g b
 both f g x y zero h = x
 both f g x y (suc zero) h = y
 both f g x y (suc (suc b)) h = absurd (omega arith)
@@ -68,7 +68,7 @@ hour-end : outcomeOf hourTable ≡ passed hourEnd
 unfolding computing
 hour-end = refl
 
-hour-judged : judgeLent hourTable ≡ passed hourTable
+pub hour-judged : judgeLent hourTable ≡ passed hourTable
 unfolding computing
 hour-judged = refl
 

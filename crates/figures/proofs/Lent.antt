@@ -6,16 +6,16 @@ use lib.IntN.{ℤ, pos}
 use lib.ListN.{replicate, take, drop}
 use Rattle.numbers.specs.Ints.{minus}
 use Rattle.kinds.specs.declared.Header.{Header}
-use Rattle.kinds.specs.Refusals.{passed, refused, wrongFormAt, wrongForm, outOfRangeAt, outOfRange, givenTwice, unlimited, belowZero, tooShort}
+use Rattle.kinds.specs.Refusals.{passed, refused, wrongFormAt, wrongForm, outOfRangeAt, outOfRange, givenTwice, unlimited, belowZero, tooShort, badMark}
 use Rattle.table.specs.Table.{lent}
 use Rattle.reading.specs.Reading.{readLeft}
 use Rattle.writing.specs.Writing.{tableText, writeLeft}
 use Rattle.extraction.specs.Extraction.{extractLeft}
-use Rattle.answer.specs.Result.{resultTextLeft, answerLeft}
+use Rattle.answer.specs.Result.{resultTextLeft, resultTextMarkedLeft, answerLeft}
 use Rattle.figures.specs.Computed.{_is_, Hold}
 use Rattle.figures.specs.Computing.{computing}
 use Rattle.text.specs.Sheets.{sheet}
-use Rattle.figures.specs.Hour.{hourText, hourResult, hourTable, bTwice, bBack, nines}
+use Rattle.figures.specs.Hour.{hourText, hourResult, markedResult, hourTable, bTwice, bBack, nines}
 
 -- the hour's tables, as they are lent
 abbrev h : Header
@@ -99,6 +99,10 @@ pub lent-calls : Hold (
     ∷ resultTextLeft hourTable (replicate 118 7) is record { answer = passed 116; out = hourResult ++ (7 ∷ 7 ∷ []) }
     ∷ resultTextLeft hourTable (replicate 115 7) is record { answer = refused (tooShort 116); out = replicate 115 7 }
     ∷ resultTextLeft (lent h z [] b cvaHigh f) [] is record { answer = refused (belowZero 1); out = [] }
+    -- .. with border 1 marked, and with a mark that is no border
+    ∷ resultTextMarkedLeft hourTable (1 ∷ []) (replicate 120 7) is record { answer = passed 119; out = markedResult ++ (7 ∷ []) }
+    ∷ resultTextMarkedLeft hourTable (1 ∷ []) (replicate 118 7) is record { answer = refused (tooShort 119); out = replicate 118 7 }
+    ∷ resultTextMarkedLeft hourTable (1 ∷ 2 ∷ []) [] is record { answer = refused (badMark 2); out = [] }
     ∷ answerLeft hourText (replicate 117 7) is record { answer = passed 116; out = hourResult ++ (7 ∷ []) }
     ∷ answerLeft [] (replicate 10 7) is record { answer = passed 8; out = sheet "E 2 1 0/" ++ (7 ∷ 7 ∷ []) }
     ∷ answerLeft [] (replicate 7 7) is record { answer = refused (tooShort 8); out = replicate 7 7 }

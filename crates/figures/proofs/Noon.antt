@@ -1,12 +1,13 @@
 -- A correction sheet at noon (02, E2), by computation: a day that it cures, one that it spoils, its refusals, and the merged table written again.
 use mathlib.Core.Path.{refl}
 use mathlib.Core.Bool.{true, false}
-use mathlib.Core.List.{List, [], _∷_}
+use mathlib.Core.List.{List, [], _∷_, _++_}
 use Prim.Native.Nat.{ℕ}
 use Prim.Native.String.{String}
-use Rattle.kinds.specs.Refusals.{either}
+use lib.ListN.{replicate}
+use Rattle.kinds.specs.Refusals.{passed, refused, either, wrongForm, wrongCorrection, tooShort}
 use Rattle.reading.specs.Reading.{readCorrected}
-use Rattle.writing.specs.Writing.{tableText}
+use Rattle.writing.specs.Writing.{tableText, rewriteCorrectedLeft}
 use Rattle.result.specs.Refusal.{refusalText}
 use Rattle.answer.specs.Result.{answerText, answerWith}
 use Rattle.figures.specs.Computed.{_is_, Hold}
@@ -40,6 +41,14 @@ pub noon : Hold (
     ∷ answerWith false [] morning (sheet "C 0 10000 0 0 0 7000 0 0 20000 0/") is sheet "E 13 0 0/"
     -- "-" in a sheet's line is written as "-" again
     ∷ rewritten "C 0 9000 0 0 0 - 0 0 20000 0/" is sheet "H 2 1 1/Z 0 0/Z 1 0/B 0 0 1 100/C 0 9000 0 0 0 - 0 0 20000 0/"
+    -- the open call `rewrite_corrected`: the merged table in front, the rest as it was; too little room; the sheet's refusal, and the day's before it
+    ∷ rewriteCorrectedLeft morning (sheet "C 0 9000 0 0 0 - 0 0 20000 0/") (replicate 62 7) is record {
+      answer = passed 61;
+      out = sheet "H 2 1 1/Z 0 0/Z 1 0/B 0 0 1 100/C 0 9000 0 0 0 - 0 0 20000 0/" ++ (7 ∷ []);
+    }
+    ∷ rewriteCorrectedLeft morning (sheet "C 0 9000 0 0 0 - 0 0 20000 0/") (replicate 60 7) is record { answer = refused (tooShort 61); out = replicate 60 7 }
+    ∷ rewriteCorrectedLeft morning (sheet "C 1 9000 0 0 0 - 0 0 20000 0/") [] is record { answer = refused (wrongCorrection 1 3); out = [] }
+    ∷ rewriteCorrectedLeft [] (sheet "x") [] is record { answer = refused (wrongForm 1); out = [] }
     ∷ [])
 unfolding computing
 noon = refl

@@ -21,6 +21,12 @@ hourResult =
     sheet "A 0 2599 21 0/A 1 1800 1 1/"
     ++ sheet "M 0 0 70000000000 20000/M 1 0 9000000000 0/M 2 1 12499500000 -/M 3 2 100000000000 -/R 21/"
 
+-- .. and with border 1 marked (02, E13): border 0 stays at its LTA
+abbrev pub markedResult : List ℕ
+markedResult =
+    sheet "A 0 100 0 -/A 1 1800 1 1/"
+    ++ sheet "M 0 0 70000000000 50000000000/M 1 0 9000000000 0/M 2 1 12499500000 -/M 3 2 100000000000 -/R 1/"
+
 abbrev pub hourTable : Table
 hourTable =
     record {
