@@ -67,7 +67,7 @@ alone() { # CRATE FILE MAKE
     }
     if ! is_built "$1" "$2"; then
         sum=$(sum_of "$1")
-        say "proving and building $(basename "$2"), minutes where nothing is proved yet; the kit's notes go to $log"
+        say "proving and building $(basename "$2"), some $(minutes "$(recorded "$(reached_by "$1" | sed 's/:.*//')")") min where nothing is proved yet; the kit's notes go to $log"
         "$3" || cannot "$(basename "$2") is not proved, so it is not built: see $log"
         # Any kit will do: proved is proved in its logic, which is kept beside what was built.
         "$kit/bin/rt" version >"$2.proved"
@@ -92,7 +92,7 @@ make_library() {
 
 # Runs rt with its words in the log, and tells each crate as it is done.
 with_progress() { # CRATE WORDS-FOR-RT..
-    all=$(reached_by "$1" | wc -l)
+    reached=$(reached_by "$1" | sed 's/:.*//')
     shift
     # Not on this script's standard input, which is the table.
     {
@@ -101,19 +101,43 @@ with_progress() { # CRATE WORDS-FOR-RT..
     } | tell_progress
 }
 
+# The seconds that crates took when tools/seconds was recorded, in all.
+recorded() { # CRATES
+    echo "$1" | awk 'NR == FNR { took[$1] = $2; next } { all += took[$1] } END { print all + 0 }' "$here/tools/seconds" -
+}
+
+# So many seconds of crates, in minutes by the clock: rt proves two at a time and waits for both, which wins a fifth.
+minutes() { # SECONDS
+    echo $((($1 * 4 / 5 + 59) / 60))
+}
+
+# How long what is left may take: as much more or less than was recorded as the crates before it took.
+time_left() { # SECONDS
+    set -- "$((seen > 0 ? $1 * taken / seen : $1))"
+    [ "$1" -eq 0 ] || echo "; some $(minutes "$1") min left"
+}
+
 tell_progress() {
-    done=0 last=$(date +%s) status=1
+    all=$(echo "$reached" | wc -l) rest=$(recorded "$reached")
+    done=0 seen=0 taken=0 last=$(date +%s) status=1
     while IFS= read -r line; do
         echo "$line" >&3
         case $line in
         'rt: '*' proved ('* | 'rt: target/staticlib/lib'*)
             done=$((done + 1)) now=$(date +%s)
             crate=${line#rt: } took=${line##*\(}
+            crate=${crate%% *}
             case $line in
             *' (unchanged '*) took='0 s, proved before' ;;
             *staticlib*) crate=cabi took="$((now - last)) s" ;;
             esac
-            say "$done of $all, ${crate%% *}, ${took%\)}"
+            its=$(recorded "$crate")
+            rest=$((rest - its))
+            case $took in
+            *before) ;;
+            *) seen=$((seen + its)) taken=$((taken + ${took%% *})) ;;
+            esac
+            say "$done of $all, $crate, ${took%\)}$(time_left "$rest")"
             last=$now
             ;;
         'rt: '*'NOT PROVED'* | 'rt: FAILED'*) say "${line#rt: }" ;;
