@@ -111,9 +111,9 @@ minutes() { # SECONDS
     echo $((($1 * 4 / 5 + 59) / 60))
 }
 
-# How long what is left may take: as much more or less than was recorded as the crates before it took.
+# How long what is left may take: as much more or less than was recorded as the crates before it took, where these tell enough.
 time_left() { # SECONDS
-    set -- "$((seen > 0 ? $1 * taken / seen : $1))"
+    set -- "$((seen > 60 ? $1 * taken / seen : $1))"
     [ "$1" -eq 0 ] || echo "; some $(minutes "$1") min left"
 }
 
