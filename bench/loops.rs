@@ -134,12 +134,13 @@ fn settle(w: &mut Work, gained: &[u64], rising: &[usize], told: &mut impl Told) 
     }
 }
 
-/// What a stretch of `told_rounds` does: a row of the first round, a row where a block of rounds begins or the work ends, a row in a round, once more
-/// where it is tight, and what a round does besides.
+/// What a stretch of `told_rounds` does: a row of the first round, a row where a block of rounds begins or the work ends, two near rows set side by side, a
+/// row in a round, once more where it is tight, and what a round does besides.
 #[derive(Clone, Copy)]
 pub enum Step {
     Begun,
     Sorted,
+    Compared,
     Walked,
     Lowered,
     Rose,
@@ -159,10 +160,28 @@ pub fn new_rounds(w: &mut Work) -> u64 {
     told_rounds(w, &mut ())
 }
 
-/// The last raise bounds the next one, only borders that still rise are looked at, a row divides only where a product shows that a bound is above its
-/// share, and rows far from that rest for 16 rounds.
+/// Whether row `i` never tightens a bound below row `t`: it has no less margin, no larger n, and no larger p at a border that rises.
+fn yields(w: &Work, rising: &[usize], t: usize, i: usize, told: &mut impl Told) -> bool {
+    told.step(Step::Compared, 0);
+    let p = |row: usize, b: usize| w.p[row * w.borders + b];
+    w.margins[t] <= w.margins[i] && w.ns[i] <= w.ns[t] && rising.iter().all(|b| p(i, *b) <= p(t, *b))
+}
+
+/// The rounds of the next block, as a power of 2: about as many as were done.
+fn block_bits(done: u64) -> u32 {
+    match done {
+        0..8 => 2,
+        8..16 => 3,
+        16..32 => 4,
+        32..64 => 5,
+        64..128 => 6,
+        _ => 7,
+    }
+}
+
+/// The last raise bounds the next one, only borders that still rise are raised and looked at, a row divides only where a product shows that a bound is above
+/// its share, rows far from that rest for a block of rounds, and of near rows those that yield to the first of them rest too.
 pub fn told_rounds(w: &mut Work, told: &mut impl Told) -> u64 {
-    const BLOCK: u64 = 16;
     let mut bounds = [0; BORDERS_MOST];
     let mut gained = [0; BORDERS_MOST];
     let mut rising: [usize; BORDERS_MOST] = std::array::from_fn(|b| b);
@@ -189,21 +208,30 @@ pub fn told_rounds(w: &mut Work, told: &mut impl Told) -> u64 {
             }
             live = kept;
             count = 0;
+            let bits = block_bits(done);
             for (i, row) in w.p.chunks_exact(w.borders).enumerate() {
                 let (loss, most) = row_parts(row, bounds, bounds, &rising[..live]);
                 told.step(Step::Sorted, live);
-                near[count] = i;
-                count += usize::from((w.margins[i] - most * w.ns[i]) / BLOCK < loss);
+                if (w.margins[i] - most * w.ns[i]) >> bits >= loss {
+                    continue;
+                }
+                if count > 0 && yields(w, &rising[..live], near[0], i, told) {
+                    continue;
+                }
+                let place = if count > 0 && yields(w, &rising[..live], i, near[0], told) { 0 } else { count };
+                near[place] = i;
+                count += usize::from(place == count);
             }
-            wait = BLOCK;
+            wait = 1 << bits;
         }
         if rising[..live].iter().all(|b| bounds[*b] == 0) {
             settle(w, gained, &rising[..live], told);
             return done;
         }
-        for b in 0..w.borders {
-            gained[b] += bounds[b];
-            w.x[b] += bounds[b];
+        done += 1;
+        for b in &rising[..live] {
+            gained[*b] += bounds[*b];
+            w.x[*b] += bounds[*b];
         }
         for i in &near[..count] {
             let row = &w.p[i * w.borders..(i + 1) * w.borders];
@@ -215,8 +243,7 @@ pub fn told_rounds(w: &mut Work, told: &mut impl Told) -> u64 {
                 told.step(Step::Lowered, live);
             }
         }
-        told.step(Step::Rose, w.borders);
-        done += 1;
+        told.step(Step::Rose, live);
         wait -= 1;
     }
 }

@@ -36,10 +36,11 @@ impl Told for Guide {
     fn step(&mut self, step: Step, borders: usize) {
         let (own, each) = match step {
             Step::Begun => (20, 15),
-            Step::Sorted => (12, 8),
+            Step::Sorted => (14, 8),
+            Step::Compared => (16, 0),
             Step::Walked => (25, 13),
             Step::Lowered => (20, 18),
-            Step::Rose => (80, 11),
+            Step::Rose => (60, 16),
         };
         self.instructions += own + each * borders as u64;
     }

@@ -1,10 +1,10 @@
--- The walk over the near rows (`Walking` is its invariant), each of which tightens the bounds for what is left to it, and why the rows that rest would tighten none. What holds between two rounds (`Waiting`): a round keeps it (`waiting-next`), and so does taking the losses and sorting anew (`waiting-block`).
+-- The walk over the near rows (`Walking` is its invariant), each of which tightens the bounds for what is left to it, and why the rows that rest would tighten none. What holds between two rounds (`Waiting`): a round keeps it (`waiting-next`), and so does taking the losses and sorting anew (`block-renewed`).
 -- No contract cites this file.
-use mathlib.Core.Path.{_≡_, refl, sym, ap, ap₂, _∙_, subst}
+use mathlib.Core.Path.{_≡_, refl, sym, ap, ap₂, _∙_}
 use mathlib.Core.List.{List}
 use mathlib.Core.Logic.{inl, inr, ⊎-elim}
 use Prim.Native.Nat.{ℕ, _+_, _*_, _-_, _/_, _^_, _≤_, _<_}
-use native.Mathlib.Nat.{le-trans, le-refl, mul-le-mul-left, mul-le-mul-right, add-mul, one-mul}
+use native.Mathlib.Nat.{le-trans, le-refl, mul-le-mul, mul-le-mul-left, mul-le-mul-right, add-mul, one-mul, div-mul-le-self}
 use native.Mathlib.Omega.{arith}
 use lib.ListN.{length, set}
 use Rattle.numbers.specs.Below.{at, table}
@@ -18,8 +18,9 @@ use Rattle.walk.specs.Walk.{Listed, tightened, mostPart, Partable}
 use Rattle.walk.proofs.ListedLaws.{listed-all, listed-zero, listed-less}
 use Rattle.walk.proofs.PartLaws.{slack-part}
 use Rattle.walk.proofs.BoundLaws.{Bounded, bounded-none, bounded-less, bounded-more, bounded-all}
-use Rattle.resting.specs.Resting.{leftTo, restRounds, Settleable, Sortable, Sorted, nearRow, nearRows, Waiting, Walkable}
+use Rattle.resting.specs.Resting.{leftTo, Yields, Settleable, Sortable, Sorted, nearRow, nearRows, Waiting, Renewed, Walkable}
 use Rattle.resting.proofs.LoadLaws.{load-add, load-none, load-less, most-less, left-at, left-step, left-none, raises-within, most-within, raises-less, raises-bound}
+use Rattle.resting.proofs.YieldLaws.{load-yields, most-yields}
 use Rattle.resting.proofs.SortLaws.{near-inside, watched-block, watched-none}
 
 -- ---- the walk
@@ -135,13 +136,34 @@ module _ {g : Grid} {ns s d w₀ list : List ℕ} {live : ℕ} {near : List ℕ}
           left-at g d s i hi,
         )
 
+    -- nor does one that yields to a row that was looked at
+    led-slack : (i : ℕ) → i < g .rows → (j : ℕ) → j < nearRows g near count → Yields g s list live (nearRow near count j) i → ((b : ℕ) → b < g .borders → at w b * g .p (nearRow near count j) b ≤ at (leftTo g d s) (nearRow near count j) / sharers g (nearRow near count j)) → mostPart g i w * sharers g i ≤ at (leftTo g d s) i
+    led-slack i hi j hj y h =
+        let t : ℕ = nearRow near count j in
+        let ht : t < g .rows = near-inside (q .waiting .watched) j hj in
+        let share : ℕ = at (leftTo g d s) t / sharers g t in
+        let m : mostPart g i w * sharers g i ≤ share * sharers g t = mul-le-mul (most-yields y walk-listed share h) (y .share) in
+        omega (
+          arith,
+          m,
+          div-mul-le-self (at (leftTo g d s) t) (sharers g t),
+          left-at g d s t ht,
+          left-at g d s i hi,
+          load-yields y gained-listed,
+          gained-within t ht,
+          y .margin,
+        )
+
+    within : (i : ℕ) → mostPart g i w * sharers g i ≤ at (leftTo g d s) i → (b : ℕ) → b < g .borders → at w b * g .p i b ≤ at (leftTo g d s) i / sharers g i
+    within i h b hb = slack-part g i w (u .bounded .long) (sharers g i) (at (leftTo g d s) i) (mostPart g i w) refl refl h b hb
+
     pub walking-all : nearRows g near count ≤ k → w ≡ raises g (leftTo g d s)
     walking-all h =
         bounded-all (u .bounded)
         (λ i hi b hb.
         ⊎-elim
-        (λ z. subst (λ (r : ℕ). at w b * g .p r b ≤ at (leftTo g d s) r / sharers g r) (z .is) (u .bounded .under (z .place) (omega (arith, z .before)) b hb))
-        (λ z. slack-part g i w (u .bounded .long) (sharers g i) (at (leftTo g d s) i) (mostPart g i w) refl refl (rest-slack i hi z) b hb)
+        (λ z. within i (led-slack i hi (z .place) (z .before) (z .yields) (u .bounded .under (z .place) (omega (arith, z .before)))) b hb)
+        (λ z. within i (rest-slack i hi z) b hb)
         (q .waiting .watched .each i hi))
 
   -- ---- a round later
@@ -220,7 +242,7 @@ waiting-start {g} {ns} {s} {d} {w} {list} {near} r f ld z ew el l =
       found = ew;
       listed = listed-all (g .borders) (table (g .borders) (risen w d)) list el;
       room = l;
-      watched = watched-none g s d w near ew within;
+      watched = watched-none g s d w list (g .borders) near ew within;
     }
 
 -- a block later
@@ -262,12 +284,12 @@ module _ {g : Grid} {ns s d w list : List ℕ} {live : ℕ} {near : List ℕ} {c
       cleared : (b : ℕ) → b < g .borders → at d′ b ≡ 0
       cleared b hb = ap (λ (l : List ℕ). at l b) ed ∙ table-get (length d) (λ b. 0) b 0 (omega (arith, u .gained))
 
-      pub block-same : leftTo g d′ s′ ≡ leftTo g d s
+      block-same : leftTo g d′ s′ ≡ leftTo g d s
       block-same = left-none g d′ s′ cleared (block-sortable .ready .margins) ∙ es
 
-      pub waiting-block : {near′ : List ℕ} {count′ : ℕ} → length near′ ≡ length near → Sorted g s′ w near′ count′ (length near′) → Waiting g ns s′ d′ w list′ live′ near′ count′ restRounds
+      waiting-block : {near′ : List ℕ} {count′ wait′ : ℕ} → length near′ ≡ length near → Sorted g s′ w list′ live′ wait′ near′ count′ (length near′) → Waiting g ns s′ d′ w list′ live′ near′ count′ wait′
       unfolding risen
-      waiting-block {near′} {count′} el a =
+      waiting-block {near′} {count′} {wait′} el a =
           let l : length near′ ≤ g .rows = omega (arith, u .room) in
           record {
             ready = block-sortable .ready;
@@ -279,3 +301,6 @@ module _ {g : Grid} {ns s d w list : List ℕ} {live : ℕ} {near : List ℕ} {c
             room = l;
             watched = watched-block a l d′ cleared;
           }
+
+      pub block-renewed : {near′ : List ℕ} {count′ wait′ : ℕ} → length list′ ≡ length list → length near′ ≡ length near → Sorted g s′ w list′ live′ wait′ near′ count′ (length near′) → 0 < wait′ → (wait″ : ℕ) → wait″ ≡ wait′ → Renewed g ns s d list near s′ d′ w list′ live′ near′ count′ wait″
+      block-renewed el en a z wait″ e = rw e (record { waiting = waiting-block en a; some = z; same = block-same; room = el; places = en })

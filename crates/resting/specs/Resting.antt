@@ -1,7 +1,8 @@
 -- Which rows are looked at in a round, and which rest (02, E4), over a grid g. Margins are lent as they stood where the rows last lost (s), with what each border gained since (d).
 -- The margins of the rules are then `leftTo g d s`; bounds (w) are the raises of those. `near` lists rows, in its first `count` places; a row that it has no place for is never listed.
--- `leftTo`, `restRounds`, `Settleable`, `Sortable`, `Sorted`, `nearRow`, `Waiting`, `Renewed` and `Walkable` are what contracts cite, here and in roundloop.
+-- `leftTo`, `Settleable`, `Sortable`, `Yields`, `Placed`, `Sorted`, `nearRow`, `Waiting`, `Renewed` and `Walkable` are what contracts cite, here and in roundloop.
 use mathlib.Core.Path.{_≡_}
+use mathlib.Core.Bool.{Bool, true}
 use mathlib.Core.List.{List}
 use mathlib.Core.Logic.{_⊎_}
 use Prim.Native.Nat.{ℕ, _+_, _*_, _-_, _^_, _≤_, _<_}
@@ -14,10 +15,6 @@ use Rattle.walk.specs.Walk.{Listed, mostPart}
 -- what the rows' margins s come to, where the borders gained d
 abbrev pub leftTo : Grid → (d s : List ℕ) → List ℕ
 leftTo g d s = table (g .rows) (lowered g d s)
-
--- the rounds that a row rests
-abbrev pub restRounds : ℕ
-restRounds = 16
 
 -- what taking the losses asks: the list holds the borders that gained, and no row loses more than its margin
 pub record Settleable (g : Grid) (s d list : List ℕ) (live : ℕ) : Type 0 where
@@ -37,17 +34,31 @@ pub record Sortable (g : Grid) (ns s w list : List ℕ) (live : ℕ) : Type 0 wh
   pub found : w ≡ raises g s
   pub listed : Listed (g .borders) w list live
 
--- row i is one of the rows f 0, .., f (k - 1)
-pub record Among (f : ℕ → ℕ) (k i : ℕ) : Type 0 where
+-- row i yields to row t: t has no more margin and no fewer borders to share it, and no smaller factor at a listed border. So while only listed borders rise, i never tightens a bound below t's
+pub record Yields (g : Grid) (s list : List ℕ) (live t i : ℕ) : Type 0 where
+  pub margin : at s t ≤ at s i
+  pub share : sharers g i ≤ sharers g t
+  pub factors : (j : ℕ) → j < live → g .p i (at list j) ≤ g .p t (at list j)
+
+-- row i yields to one of the rows f 0, .., f (k - 1), or is one: a row yields to itself
+pub record Led (g : Grid) (s list : List ℕ) (live : ℕ) (f : ℕ → ℕ) (k i : ℕ) : Type 0 where
   pub place : ℕ
   pub before : place < k
-  pub is : f place ≡ i
+  pub yields : Yields g s list live (f place) i
 
--- what sorting leaves, of the first i rows: each is listed or may rest for a block
-pub record Sorted (g : Grid) (s w near : List ℕ) (count i : ℕ) : Type 0 where
+-- what listing row i leaves, where `tight` says whether it is to be listed: rows up to i, which lead all that were led before, and i where it is tight
+pub record Placed (g : Grid) (s list : List ℕ) (live : ℕ) (tight : Bool) (near : List ℕ) (count i : ℕ) (near′ : List ℕ) (count′ : ℕ) : Type 0 where
+  pub long : length near′ ≡ length near
+  pub few : count′ ≤ count + 1
+  pub inside : (j : ℕ) → j < count′ → at near′ j < i + 1
+  pub here : tight ≡ true → Led g s list live (at near′) count′ i
+  pub still : (i′ : ℕ) → Led g s list live (at near) count i′ → Led g s list live (at near′) count′ i′
+
+-- what sorting leaves, of the first i rows: each is led by a listed one or may rest for `wait` rounds
+pub record Sorted (g : Grid) (s w list : List ℕ) (live wait : ℕ) (near : List ℕ) (count i : ℕ) : Type 0 where
   pub few : count ≤ i
   pub inside : (j : ℕ) → j < count → at near j < i
-  pub each : (i′ : ℕ) → i′ < i → Among (at near) count i′ ⊎ (restRounds * load g i′ w + mostPart g i′ w * sharers g i′ ≤ at s i′)
+  pub each : (i′ : ℕ) → i′ < i → Led g s list live (at near) count i′ ⊎ (wait * load g i′ w + mostPart g i′ w * sharers g i′ ≤ at s i′)
 
 -- the rows that a round looks at, in order: those listed, and then those that the list has no place for
 unfoldable pub nearRow : (near : List ℕ) (count j : ℕ) → ℕ
@@ -57,11 +68,11 @@ nearRow near count j = ifZero (count - j) (length near + (j - count)) (at near j
 abbrev pub nearRows : Grid → (near : List ℕ) (count : ℕ) → ℕ
 nearRows g near count = count + (g .rows - length near)
 
--- each row is one of those, or may rest for `wait` rounds
-pub record Watched (g : Grid) (s d w near : List ℕ) (count wait : ℕ) : Type 0 where
+-- each row is led by one of those, or may rest for `wait` rounds
+pub record Watched (g : Grid) (s d w list : List ℕ) (live : ℕ) (near : List ℕ) (count wait : ℕ) : Type 0 where
   pub few : count ≤ length near
   pub inside : (j : ℕ) → j < count → at near j < g .rows
-  pub each : (i : ℕ) → i < g .rows → Among (nearRow near count) (nearRows g near count) i ⊎ Rests g s d w wait i
+  pub each : (i : ℕ) → i < g .rows → Led g s list live (nearRow near count) (nearRows g near count) i ⊎ Rests g s d w wait i
 
 -- between two rounds, with `wait` left before all rows are sorted anew
 pub record Waiting (g : Grid) (ns s d w list : List ℕ) (live : ℕ) (near : List ℕ) (count wait : ℕ) : Type 0 where
@@ -72,13 +83,15 @@ pub record Waiting (g : Grid) (ns s d w list : List ℕ) (live : ℕ) (near : Li
   pub found : w ≡ raises g (leftTo g d s)
   pub listed : Listed (g .borders) (table (g .borders) (risen w d)) list live
   pub room : length near ≤ g .rows
-  pub watched : Watched g s d w near count wait
+  pub watched : Watched g s d w list live near count wait
 
--- a block goes on or is made anew: what was s with d gained is s′ with d′ gained, so the rules' margins are the same, and a round is left to it
-pub record Renewed (g : Grid) (ns s d s′ d′ w list : List ℕ) (live : ℕ) (near : List ℕ) (count wait : ℕ) : Type 0 where
+-- a block goes on or is made anew: what was s with d gained is s′ with d′ gained, so the rules' margins are the same, and a round is left to it. The lists are as long as list₀ and near₀ were
+pub record Renewed (g : Grid) (ns s d list₀ near₀ s′ d′ w list : List ℕ) (live : ℕ) (near : List ℕ) (count wait : ℕ) : Type 0 where
   pub waiting : Waiting g ns s′ d′ w list live near count wait
   pub some : 0 < wait
   pub same : leftTo g d′ s′ ≡ leftTo g d s
+  pub room : length list ≡ length list₀
+  pub places : length near ≡ length near₀
 
 -- what the walk asks: the borders have gained the raises w besides what they had before, and w is as yet the bounds
 pub record Walkable (g : Grid) (ns s d w list : List ℕ) (live : ℕ) (near : List ℕ) (count : ℕ) : Type 0 where

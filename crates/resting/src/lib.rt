@@ -1,18 +1,17 @@
 // The rows of a round, of which most may rest (02, E4). A row far from tight need not be looked at in every round: raises never grow, so what it loses in a
-// round now is the most that it loses in each of the next. The rows are sorted once for a block of rounds, and in these only the near ones are walked.
+// round now is the most that it loses in each of the next. The rows are sorted once for a block of rounds, and in these only the near ones are walked. Of rows
+// that are near together many need no look either: one that yields to another, with no less margin and no larger n or factor, never tightens a bound below it.
 // So the margins, in grains, stay as they were where the block began, and `gained` holds what each border rose by since, in kW.
 ghost use mathlib.Core.Path.{_≡_};
-ghost use Prim.Native.Nat.{_+_, _*_, _-_, _/_, _^_, _<_, _≤_};
+ghost use mathlib.Core.Bool.{true};
+ghost use Prim.Native.Nat.{ℕ, _+_, _*_, _-_, _/_, _^_, _<_, _≤_};
 ghost use lib.Dec.{ltb};
 ghost use lib.ListN.{length};
 ghost use Rattle.numbers.specs.Below.{at, count, table};
 ghost use Rattle.rounds.specs.Rounds.{raises};
-ghost use Rattle.rounds.specs.Work.{flat};
+ghost use Rattle.rounds.specs.Work.{flat, Ready};
 ghost use Rattle.walk.specs.Walk.{Listed};
-ghost use Rattle.resting.specs.Resting.{leftTo, restRounds, nearRow, Settleable, Sortable, Sorted, Waiting, Renewed, Walkable};
-
-// A block has this many rounds. A power of 2, so that the division by it is a shift.
-const ROUNDS: u64 = 16;
+ghost use Rattle.resting.specs.Resting.{leftTo, nearRow, Settleable, Sortable, Yields, Placed, Sorted, Waiting, Renewed, Walkable};
 
 // A block of rounds: the borders and the rows that its rounds look at, and the rounds that are left of it.
 pub struct Block {
@@ -28,6 +27,7 @@ pub fn renew(
     p: &[u64],
     ns: &[u64],
     bounds: &[u64],
+    done: u64,
     live: usize,
     count: usize,
     wait: u64,
@@ -38,7 +38,7 @@ pub fn renew(
 ) -> Block
     requires { ⌜ rows * borders ≤ length (now p) ⌝ }
     requires { ⌜ Waiting (flat rows borders (now p)) (now ns) (now margins) (now gained) (now bounds) (now rising) live (now near) count wait ⌝ }
-    ensures { λ r. ⌜ Renewed (flat rows borders (now (p .entry))) (now (ns .entry)) (now (margins .entry)) (now (gained .entry)) (now (margins .exit)) (now (gained .exit)) (now (bounds .entry)) (now (rising .exit)) (r .live) (now (near .exit)) (r .count) (r .wait) ⌝ }
+    ensures { λ r. ⌜ Renewed (flat rows borders (now (p .entry))) (now (ns .entry)) (now (margins .entry)) (now (gained .entry)) (now (rising .entry)) (now (near .entry)) (now (margins .exit)) (now (gained .exit)) (now (bounds .entry)) (now (rising .exit)) (r .live) (now (near .exit)) (r .count) (r .wait) ⌝ }
 {
     if wait > 0 {
         return Block {
@@ -50,12 +50,44 @@ pub fn renew(
     settle(rows, borders, p, gained, rising, live, margins);
     clear(gained);
     let kept = keep_rising(bounds, rising, live);
-    let found = find_near(rows, borders, p, ns, margins, bounds, rising, kept, near);
+    let bits = block_bits(done);
+    let found = find_near(
+        rows,
+        borders,
+        p,
+        ns,
+        margins,
+        bounds,
+        rising,
+        kept,
+        bits,
+        near,
+    );
     Block {
         live: kept,
         count: found,
-        wait: ROUNDS,
+        wait: 1 << bits,
     }
+}
+
+// The next block has 2^bits rounds: about as many as were done, 4 at least and 128 at most. At first many borders rise and many rows are near, and they soon
+// become few. Powers of 2, so that the division by them is a shift.
+fn block_bits(done: u64) -> u64
+    ensures { λ r. ⌜ r < 64 ⌝ }
+{
+    if done < 8 {
+        return 2;
+    }
+    if done < 16 {
+        return 3;
+    }
+    if done < 32 {
+        return 4;
+    }
+    if done < 64 {
+        return 5;
+    }
+    if done < 128 { 6 } else { 7 }
 }
 
 // Every row loses the sum of p times what was gained.
@@ -121,7 +153,7 @@ pub fn rises(bounds: &[u64], rising: &[usize], live: usize) -> bool
     false
 }
 
-// Lists, in front of `near`, the rows that the next block is to look at in every round, of those that have a place there. Answers how many.
+// Lists, in front of `near`, the rows that the next block, of 2^bits rounds, is to look at in every round, of those that have a place there. Answers how many.
 fn find_near(
     rows: usize,
     borders: usize,
@@ -131,33 +163,114 @@ fn find_near(
     bounds: &[u64],
     rising: &[usize],
     live: usize,
+    bits: u64,
     near: &mut [usize],
 ) -> usize
     requires { ⌜ rows * borders ≤ length (now p) ⌝ }
     requires { ⌜ Sortable (flat rows borders (now p)) (now ns) (now margins) (now bounds) (now rising) live ⌝ }
-    requires { ⌜ length (now near) ≤ rows ⌝ }
-    ensures { λ count. ⌜ Sorted (flat rows borders (now (p .entry))) (now (margins .entry)) (now (bounds .entry)) (now (near .exit)) count (length (now (near .exit))) ⌝ }
+    requires { ⌜ (length (now near) ≤ rows) × (bits < 64) ⌝ }
+    ensures { λ count. ⌜ Sorted (flat rows borders (now (p .entry))) (now (margins .entry)) (now (bounds .entry)) (now (rising .entry)) live (2 ^ bits) (now (near .exit)) count (length (now (near .exit))) ⌝ }
 {
     let mut count: usize = 0;
     for i in 0..near.len() {
         let parts = walk::row_parts(rows, borders, p, i, bounds, bounds, rising, live);
-        let tight = is_near(margins[i], ns[i], parts.loss, parts.most);
-        // Written in any case: where the row may rest, the next one is written over it.
-        near[count] = i;
-        if tight {
-            count += 1;
-        }
+        let tight = is_near(margins[i], ns[i], parts.loss, parts.most, bits);
+        count = list_row(
+            rows,
+            borders,
+            p,
+            ns,
+            margins,
+            rising,
+            live,
+            tight,
+            i,
+            near,
+            count,
+        );
     }
     count
 }
 
-// Whether a block at the loss of this round could leave less than n times the most part, so that the row could tighten a bound.
-fn is_near(margin: u64, n: u64, loss: u64, most: u64) -> bool
-    requires { ⌜ most * n ≤ margin ⌝ }
-    ensures { λ r. ⌜ r ≡ ltb ((margin - most * n) / restRounds) loss ⌝ }
+// Whether 2^bits rounds at the loss of this one could leave less than n times the most part, so that the row could tighten a bound.
+fn is_near(margin: u64, n: u64, loss: u64, most: u64, bits: u64) -> bool
+    requires { ⌜ (most * n ≤ margin) × (bits < 64) ⌝ }
+    ensures { λ r. ⌜ r ≡ ltb ((margin - most * n) / 2 ^ bits) loss ⌝ }
 {
     let slack = margin - most * n;
-    slack / ROUNDS < loss
+    slack >> bits < loss
+}
+
+// Lists row `i` where it is tight, after the first `count` of `near`. Not where it yields to the first of them; and where that yields to it, in its place. Answers how many are listed then.
+fn list_row(
+    rows: usize,
+    borders: usize,
+    p: &[u64],
+    ns: &[u64],
+    margins: &[u64],
+    rising: &[usize],
+    live: usize,
+    tight: bool,
+    i: usize,
+    near: &mut [usize],
+    count: usize,
+) -> usize
+    requires { ⌜ (rows * borders ≤ length (now p)) × (i < rows) ⌝ }
+    requires { ⌜ Ready (flat rows borders (now p)) (now ns) (now margins) ⌝ }
+    requires { ⌜ (live ≤ length (now rising)) × ((j : ℕ) → j < live → at (now rising) j < borders) ⌝ }
+    requires { ⌜ (count ≤ i) × (i < length (now near)) × ((j : ℕ) → j < count → at (now near) j < i) ⌝ }
+    ensures { λ r. ⌜ Placed (flat rows borders (now (p .entry))) (now (margins .entry)) (now (rising .entry)) live tight (now (near .entry)) count i (now (near .exit)) r ⌝ }
+{
+    if !tight {
+        return count;
+    }
+    if count == 0 {
+        near[0] = i;
+        return 1;
+    }
+    let first = near[0];
+    if yields(rows, borders, p, ns, margins, rising, live, first, i) {
+        return count;
+    }
+    if yields(rows, borders, p, ns, margins, rising, live, i, first) {
+        near[0] = i;
+        return count;
+    }
+    near[count] = i;
+    count + 1
+}
+
+// Whether row `i` yields to row `t`: true only where it does.
+fn yields(
+    rows: usize,
+    borders: usize,
+    p: &[u64],
+    ns: &[u64],
+    margins: &[u64],
+    rising: &[usize],
+    live: usize,
+    t: usize,
+    i: usize,
+) -> bool
+    requires { ⌜ (rows * borders ≤ length (now p)) × (t < rows) × (i < rows) ⌝ }
+    requires { ⌜ Ready (flat rows borders (now p)) (now ns) (now margins) ⌝ }
+    requires { ⌜ (live ≤ length (now rising)) × ((j : ℕ) → j < live → at (now rising) j < borders) ⌝ }
+    ensures { λ r. ⌜ (r ≡ true → Yields (flat rows borders (now (p .entry))) (now (margins .entry)) (now (rising .entry)) live t i) ⌝ }
+{
+    if margins[i] < margins[t] {
+        return false;
+    }
+    if ns[t] < ns[i] {
+        return false;
+    }
+    for j in 0..live {
+        let b = rising[j];
+        let f = rounds::factor(rows, borders, p, t, b);
+        if f < rounds::factor(rows, borders, p, i, b) {
+            return false;
+        }
+    }
+    true
 }
 
 // The near rows tighten the bounds by what is left to them: the bounds become the raises of the next round. A row that rests would tighten none.

@@ -1,2 +1,3 @@
+pub mod RiseLaws
 pub mod RoundLoop
 pub mod TurnLaws

@@ -1,5 +1,5 @@
 -- The round loop: what holds at its head, and what a turn needs once the raises are found.
--- A turn is a round of the definition (`turn-next`); the loop is left where a round raises nothing (`turn-end`). The measure is the margins' sum. Last: a turn of `rise`.
+-- A turn is a round of the definition (`turn-next`); the loop is left where a round raises nothing (`turn-end`). The measure is the margins' sum.
 -- No contract cites this file.
 use mathlib.Core.Path.{_≡_, refl, sym, ap, ap₂, _∙_, subst}
 use mathlib.Core.List.{List, _++_}
@@ -11,13 +11,12 @@ use lib.ListN.{length, take, drop, set, take-append-drop}
 use lib.Seq.{length-take-le, length-front, take-at, drop-at, getD-take}
 use Rattle.numbers.specs.Below.{ifZero, sum, count, table, at, over}
 use Rattle.numbers.proofs.BelowLaws.{sum-cong, sum-term, count-pos, table-long, table-get, table-cong}
-use Rattle.numbers.proofs.ListLaws.{Filled, filled-rest, filled-more}
 use Rattle.rounds.specs.Rounds.{Grid, State, raise, raises, load, lowered, risen, apply, next, raised, Rounds, done, more}
 use Rattle.rounds.specs.Last.{after, raiseIn, lastTo, lastRound}
 use Rattle.rounds.specs.Work.{Startable, noted, workLeft, stateFrom, leftBy, workOf}
 use Rattle.rounds.proofs.Round.{raises-at, raises-long, raises-are, raiser, alone-lt, next-sum, next-x}
 use Rattle.rounds.proofs.Rounds.{keeps, extracts, unique, rounds-below}
-use Rattle.roundloop.specs.Loop.{Risable}
+use Rattle.roundloop.specs.Loop.{Fits}
 
 -- ---- what is reached after d rounds
 
@@ -122,14 +121,14 @@ module _ {g : Grid} {ns m₀ x₀ m x lasts : List ℕ} {d : ℕ} {v : List ℕ}
   pub front-long : length (take (g .borders) x) ≡ g .borders
   front-long = length-take-le (g .borders) x (omega (arith, u .start .borders, u .head .exchanges))
 
-  pub turn-risable : Risable (g .borders) v (take (g .borders) x)
-  turn-risable =
+  pub turn-fits : Fits v (take (g .borders) x)
+  turn-fits =
+      let l : length v ≡ g .borders = raises-long g m (u .found .list) in
       record {
-        raises = raises-long g m (u .found .list);
-        exchanges = front-long;
+        long = front-long ∙ sym l;
         fits = λ b hb.
             rw (u .found .list)
-            (x-fits (u .head .reached) (2 ^ 64) (λ i hi. rw (load-front g i x₀) (u .start .fits i hi)) b hb);
+            (x-fits (u .head .reached) (2 ^ 64) (λ i hi. rw (load-front g i x₀) (u .start .fits i hi)) b (omega arith));
       }
 
   -- a round that raises nothing ends the work
@@ -179,10 +178,3 @@ module _ {g : Grid} {ns m₀ x₀ m x lasts : List ℕ} {d : ℕ} {v : List ℕ}
       pub turn-sum : sum (g .rows) (at m′) < sum (g .rows) (at m)
       turn-sum =
           subst (λ (s : State). sum (g .rows) (at (s .margins)) < sum (g .rows) (at m)) turn-state (next-sum g (stateFrom g m x) raises-some)
-
--- ---- a turn of `rise`
-
-pub rise-more : (v : List ℕ) {x₀ x : List ℕ} {n b : ℕ} → Filled (risen v x₀) n x₀ x b → b < n → length x₀ ≡ n → Filled (risen v x₀) n x₀ (set x b (at x b + at v b)) (b + 1)
-unfolding risen
-rise-more v {x₀} {x} {n} {b} u h l =
-    filled-more u (at x b + at v b) h (omega arith) (ap (λ (k : ℕ). k + at v b) (filled-rest u 0 (omega arith)))

@@ -17,8 +17,8 @@ use Rattle.walk.specs.Walk.{Listed}
 use Rattle.resting.specs.Resting.{leftTo, Waiting, Renewed, Walkable}
 use Rattle.resting.proofs.LoadLaws.{load-add, left-at, left-step, left-none, raises-within}
 use Rattle.resting.proofs.WalkLaws.{waiting-start, waiting-bounds, waiting-next}
-use Rattle.roundloop.specs.Loop.{Risable}
-use Rattle.roundloop.proofs.RoundLoop.{x-le-load, Head, head-start, Turn, turn-next, turn-sum, turn-end}
+use Rattle.roundloop.specs.Loop.{Fits, Risable, Rose}
+use Rattle.roundloop.proofs.RoundLoop.{x-le-load, Head, head-start, Turn, turn-fits, turn-next, turn-sum, turn-end}
 
 -- m₀, x₀ and near₀ where the loop begins; s, x, lasts, d, w, list and near at its head after k rounds
 pub record Found (g : Grid) (ns m₀ x₀ near₀ s x lasts d w list : List ℕ) (live : ℕ) (near : List ℕ) (count wait k : ℕ) : Type 0 where
@@ -46,13 +46,13 @@ past false test h t = absurd (false≢true (sym t ∙ h refl))
 
 module _ {g : Grid} {ns m₀ x₀ near₀ s x lasts d w list : List ℕ} {live : ℕ} {near : List ℕ} {count′ wait k : ℕ} (u : Found g ns m₀ x₀ near₀ s x lasts d w list live near count′ wait k) where
   -- a block anew, or on
-  pub found-renewed : {s′ d′ list′ : List ℕ} {live′ : ℕ} {near′ : List ℕ} {count″ wait′ : ℕ} → Renewed g ns s d s′ d′ w list′ live′ near′ count″ wait′ → length list′ ≡ length list → length near′ ≡ length near → Found g ns m₀ x₀ near₀ s′ x lasts d′ w list′ live′ near′ count″ wait′ k
-  found-renewed r el en =
+  pub found-renewed : {s′ d′ list′ : List ℕ} {live′ : ℕ} {near′ : List ℕ} {count″ wait′ : ℕ} → Renewed g ns s d list near s′ d′ w list′ live′ near′ count″ wait′ → Found g ns m₀ x₀ near₀ s′ x lasts d′ w list′ live′ near′ count″ wait′ k
+  found-renewed r =
       record {
         head = rw (r .same) (u .head);
         waiting = r .waiting;
-        room = el ∙ u .room;
-        places = en ∙ u .places;
+        room = r .room ∙ u .room;
+        places = r .places ∙ u .places;
       }
 
   pub found-long : length w ≡ g .borders
@@ -89,19 +89,19 @@ module _ {g : Grid} {ns m₀ x₀ near₀ s x lasts d w list : List ℕ} {live :
     found-end z s′ e = rw e (turn-end found-turn (omega arith))
 
   -- what is gained fits, as a loaded row's margin holds it
-  pub found-gains : Risable (g .borders) w d
+  found-gains : Fits w d
   unfolding risen
   found-gains =
       record {
-        raises = found-long;
-        exchanges = u .waiting .gained;
+        long = u .waiting .gained ∙ sym found-long;
         fits = λ b hb z.
             let m : List ℕ = leftTo g d s in
-            let f = raiser g m b (omega (arith, raises-are g m (u .waiting .found) b hb)) in
+            let h : b < g .borders = omega (arith, found-long) in
+            let f = raiser g m b (omega (arith, raises-are g m (u .waiting .found) b h)) in
             omega (
               arith,
-              table-get (g .borders) (risen w d) b 0 hb,
-              x-le-load g (table (g .borders) (risen w d)) (f .i) b hb (f .counts),
+              table-get (g .borders) (risen w d) b 0 h,
+              x-le-load g (table (g .borders) (risen w d)) (f .i) b h (f .counts),
               load-add g (f .i) w d,
               raises-within g m (u .waiting .found) (f .i) (f .below),
               left-at g d s (f .i) (f .below),
@@ -110,19 +110,34 @@ module _ {g : Grid} {ns m₀ x₀ near₀ s x lasts d w list : List ℕ} {live :
             );
       }
 
-  module _ (some : 0 < wait) {d′ : List ℕ} (ed : d′ ≡ table (g .borders) (risen w d)) where
+  pub found-risable : Startable g ns m₀ x₀ → Risable w list live d (take (g .borders) x) lasts
+  found-risable q =
+      record {
+        listed = found-listed;
+        gains = found-gains;
+        exchanges = turn-fits (found-turn q);
+        notes = found-noted ∙ sym found-long;
+      }
+
+  module _ (some : 0 < wait) {d′ y lasts′ : List ℕ} (r : Rose w d (take (g .borders) x) lasts (k + 1) d′ y lasts′) where
+    for-each : (f : ℕ → ℕ) {l : List ℕ} → l ≡ table (length w) f → l ≡ table (g .borders) f
+    for-each f e = e ∙ ap (λ (n : ℕ). table n f) found-long
+
     pub found-walkable : Walkable g ns s d′ w list live near count′
-    found-walkable = record { before = d; wait = wait; some = some; waiting = u .waiting; gained = ed }
+    found-walkable = record { before = d; wait = wait; some = some; waiting = u .waiting; gained = for-each (risen w d) (r .gained) }
 
     found-left : leftTo g d′ s ≡ leftTo g w (leftTo g d s)
-    found-left = ap (λ (l : List ℕ). leftTo g l s) ed ∙ left-step g d s w
+    found-left = ap (λ (l : List ℕ). leftTo g l s) (for-each (risen w d) (r .gained)) ∙ left-step g d s w
 
-    module _ (q : Startable g ns m₀ x₀) (rises : 0 < count (length w) (at w)) {y : List ℕ} (ey : y ≡ table (g .borders) (risen w (take (g .borders) x))) where
-      pub found-next : {lasts′ : List ℕ} → lasts′ ≡ table (g .borders) (noted (k + 1) w lasts) → {w′ : List ℕ} → w′ ≡ raises g (leftTo g d′ s) → (wait′ : ℕ) → wait ≡ wait′ + 1 → Found g ns m₀ x₀ near₀ s (y ++ drop (g .borders) x) lasts′ d′ w′ list live near count′ wait′ (k + 1)
+    module _ (q : Startable g ns m₀ x₀) (rises : 0 < count (length w) (at w)) where
+      ey : y ≡ table (g .borders) (risen w (take (g .borders) x))
+      ey = for-each (risen w (take (g .borders) x)) (r .exchanges)
+
+      pub found-next : {w′ : List ℕ} → w′ ≡ raises g (leftTo g d′ s) → (wait′ : ℕ) → wait ≡ wait′ + 1 → Found g ns m₀ x₀ near₀ s (y ++ drop (g .borders) x) lasts′ d′ w′ list live near count′ wait′ (k + 1)
       unfolding found-walkable
-      found-next el ew wait′ e =
+      found-next ew wait′ e =
           record {
-            head = turn-next (found-turn q) (λ z. omega arith) (leftTo g d′ s) y found-left ey el;
+            head = turn-next (found-turn q) (λ z. omega arith) (leftTo g d′ s) y found-left ey (for-each (noted (k + 1) w lasts) (r .last-rounds));
             waiting = waiting-next found-walkable ew wait′ e;
             room = u .room;
             places = u .places;

@@ -5,10 +5,9 @@ use rounds::Final;
 ghost use mathlib.Core.Path.{_≡_};
 ghost use Prim.Native.Nat.{_*_, _≤_, min};
 ghost use lib.ListN.{length};
-ghost use Rattle.numbers.specs.Below.{table};
-ghost use Rattle.rounds.specs.Rounds.{risen};
+ghost use Rattle.numbers.specs.Below.{ifZero};
 ghost use Rattle.rounds.specs.Work.{flat, Startable, workLeft, workOf};
-ghost use Rattle.roundloop.specs.Loop.{Risable};
+ghost use Rattle.roundloop.specs.Loop.{Risable, Rose};
 
 // The whole work, from any margins and any exchanges. `lasts` is left with the last round that raised each border (02, E7). The room is made here, and not in `do_rounds`, whose goals would spell it out.
 pub fn extract_rounds(
@@ -89,6 +88,7 @@ fn do_rounds(
             p,
             ns,
             bounds,
+            done,
             live,
             count,
             wait,
@@ -103,10 +103,8 @@ fn do_rounds(
             resting::settle(rows, borders, p, gained, rising, live, margins);
             break Final { x: x, rounds: done };
         }
-        rise(borders, bounds, gained);
-        rise(borders, bounds, &mut x[..borders]);
         done += 1;
-        rounds::stopping::note(borders, bounds, done, lasts);
+        rise(bounds, rising, live, done, gained, &mut x[..borders], lasts);
         resting::walk_near(
             rows,
             borders,
@@ -124,12 +122,33 @@ fn do_rounds(
     }
 }
 
-// Every border rises: its exchange, or what it gained.
-fn rise(borders: usize, raises: &[u64], x: &mut [u64])
-    requires { ⌜ Risable borders (now raises) (now x) ⌝ }
-    ensures { λ _. ⌜ now (x .exit) ≡ table borders (risen (now (raises .entry)) (now (x .entry))) ⌝ }
+// Every border rises: its exchange, and what it gained. Those that do have the round noted as their last (02, E7). Borders that are not listed rise by 0.
+fn rise(
+    bounds: &[u64],
+    rising: &[usize],
+    live: usize,
+    round: u64,
+    gained: &mut [u64],
+    x: &mut [u64],
+    lasts: &mut [u64],
+)
+    requires { ⌜ Risable (now bounds) (now rising) live (now gained) (now x) (now lasts) ⌝ }
+    ensures { λ _. ⌜ Rose (now (bounds .entry)) (now (gained .entry)) (now (x .entry)) (now (lasts .entry)) round (now (gained .exit)) (now (x .exit)) (now (lasts .exit)) ⌝ }
 {
-    for b in 0..borders {
-        x[b] += raises[b];
+    for j in 0..live {
+        let b = rising[j];
+        let raise = bounds[b];
+        gained[b] += raise;
+        x[b] += raise;
+        // Written in any case, which is cheaper than to ask.
+        let last = lasts[b];
+        lasts[b] = later(raise, last, round);
     }
+}
+
+// The last round of a border: this one where it rises, or else the one noted before.
+fn later(raise: u64, last: u64, round: u64) -> u64
+    ensures { λ r. ⌜ r ≡ ifZero raise last round ⌝ }
+{
+    if raise == 0 { last } else { round }
 }

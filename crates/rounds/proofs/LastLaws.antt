@@ -1,17 +1,13 @@
--- The laws of `specs/Last.antt`: where the rules stand after k rounds, and the last of them that raises a border; last, the code's turn. No contract cites this file.
+-- The laws of `specs/Last.antt`: where the rules stand after k rounds, and the last of them that raises a border. No contract cites this file.
 use mathlib.Core.Path.{_≡_, refl, sym, ap, subst, _∙_}
-use mathlib.Core.List.{List}
 use mathlib.Core.Logic.{⊎-elim}
-use Prim.Native.Nat.{ℕ, zero, suc, _+_, _≤_, _<_}
+use Prim.Native.Nat.{ℕ, zero, suc, _≤_, _<_}
 use native.Mathlib.Nat.{le-trans, not-suc-le-zero}
 use native.Mathlib.Omega.{arith}
-use lib.ListN.{length, set}
 use Rattle.numbers.specs.Below.{at, ifZero}
 use Rattle.numbers.proofs.BelowLaws.{lt-suc-cases, le-or-lt}
-use Rattle.numbers.proofs.ListLaws.{Filled, filled-rest, filled-more}
 use Rattle.rounds.specs.Rounds.{Grid, State, next, raised, Rounds, done, more}
 use Rattle.rounds.specs.Last.{after, raiseIn, lastTo, LastRaise}
-use Rattle.rounds.specs.Work.{noted}
 use Rattle.rounds.proofs.Round.{raise-falls, unloaded-raise}
 
 -- ---- after
@@ -75,10 +71,3 @@ module _ (g : Grid) (s : State) (b : ℕ) where
   unfolding lastTo raiseIn ifZero
   unloaded-last h zero = refl
   unloaded-last h (suc k) = rw (unloaded-raise g (after g s k .margins) b h) (unloaded-last h k)
-
--- ---- a turn of `note`
-
-pub note-more : (round : ℕ) (v : List ℕ) {lasts₀ lasts : List ℕ} {n b r : ℕ} → Filled (noted round v lasts₀) n lasts₀ lasts b → b < n → length lasts₀ ≡ n → r ≡ ifZero (at v b) (at lasts b) round → Filled (noted round v lasts₀) n lasts₀ (set lasts b r) (b + 1)
-unfolding noted
-note-more round v {lasts₀} {lasts} {n} {b} {r} u h l e =
-    filled-more u r h (omega arith) (e ∙ ap (λ (k : ℕ). ifZero (at v b) k round) (filled-rest u 0 (omega arith)))

@@ -1,30 +1,11 @@
-// Which round raised a border last, and which row stopped it (02, E7).
+// Which row stopped a border (02, E7). Which round raised it last is noted by the rounds (roundloop).
 use numbers::First;
 ghost use mathlib.Core.Path.{_≡_};
 ghost use Prim.Native.Nat.{_*_, _/_, _<_, _≤_};
 ghost use lib.ListN.{length};
-ghost use Rattle.numbers.specs.Below.{at, ifZero, table};
+ghost use Rattle.numbers.specs.Below.{at, table};
 ghost use Rattle.numbers.specs.First.{found};
-ghost use Rattle.rounds.specs.Work.{flat, noted, stopBy};
-
-// Every border that rises has the round noted beside it.
-pub fn note(borders: usize, raises: &[u64], round: u64, lasts: &mut [u64])
-    requires { ⌜ (length (now raises) ≡ borders) × (length (now lasts) ≡ borders) ⌝ }
-    ensures { λ _. ⌜ now (lasts .exit) ≡ table borders (noted round (now (raises .entry)) (now (lasts .entry))) ⌝ }
-{
-    for b in 0..borders {
-        // Written in any case, which is cheaper than to ask.
-        let last = lasts[b];
-        lasts[b] = later(raises[b], last, round);
-    }
-}
-
-// The last round of a border: this one where it rises, or else the one noted before.
-fn later(raise: u64, last: u64, round: u64) -> u64
-    ensures { λ r. ⌜ r ≡ ifZero raise last round ⌝ }
-{
-    if raise == 0 { last } else { round }
-}
+ghost use Rattle.rounds.specs.Work.{flat, stopBy};
 
 // Each row's equal share of its margin, where its n stood.
 pub fn share_out(margins: &[u64], ns: &mut [u64])

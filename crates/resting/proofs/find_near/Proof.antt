@@ -1,91 +1,79 @@
--- `resting::find_near` meets its contract: each of the first i rows is listed or may rest (`Sorting`). The raises are those of the margins, so n times the most part is within the margin.
+-- `resting::find_near` meets its contract: each of the first i rows is led by a listed one or may rest (`Sorting`). The raises are those of the margins, so n times the most part is within the margin.
 use mathlib.Core.Path.{sym, _∙_}
-use mathlib.Core.Logic.{⊎-elim}
-use Prim.Native.Nat.{_-_}
+use Prim.Native.Nat.{_-_, _^_}
 use native.Mathlib.Omega.{arith}
 use borrow.Author.Tests.{ltb-false}
+use lib.Pow.{pow-pos}
 use Rattle.rounds.specs.Work.{flat}
 use Rattle.rounds.proofs.Loops.{ready-long}
-use Rattle.resting.proofs.SortLaws.{Sorting, sorting-none, sort-partable, sort-most, far-rests, sorting-up, sorting-on, sorting-all}
+use Rattle.resting.proofs.SortLaws.{Sorting, sorting-none, sort-partable, sort-most, far-rests, sorting-more, sorting-all}
 use Rattle.resting.proofs.find_near.Statement.{statement}
 use Rattle.resting.proofs.find_near.Tie as tie
 
 abbrev Inv-loop : tie.InvT-loop
-Inv-loop rows borders p ns margins bounds rising live near₀ count₀ i₀ i-end near count i = Sorting (flat rows borders p) margins bounds near₀ near count i
+Inv-loop rows borders p ns margins bounds rising live bits near₀ count₀ i₀ i-end near count i = Sorting (flat rows borders p) margins bounds rising live (2 ^ bits) near₀ near count i
 
 abbrev μ-loop : tie.MeasureT-loop
-μ-loop rows borders p ns margins bounds rising live near₀ count₀ i₀ i-end near count i = i-end - i
+μ-loop rows borders p ns margins bounds rising live bits near₀ count₀ i₀ i-end near count i = i-end - i
 
 loop-holds : tie.Need-loop-holds Inv-loop μ-loop
-loop-holds c = sorting-none _ _ _ _
-
-abbrev entry-from-loop : tie.In-loop Inv-loop μ-loop → tie.Start Inv-loop μ-loop
-entry-from-loop c = c .before .before .before .before .before .before .before .before
+loop-holds c = sorting-none _ _ _ _ _ _ _
 
 row-parts-requires : tie.Need-row-parts-requires Inv-loop μ-loop
 row-parts-requires c κs =
-    let entry = entry-from-loop c in
-    let q = entry .pre in
-    ((q .0, omega (arith, q .1 .1)), sort-partable (q .1 .0) _ (omega (arith, q .1 .1)))
+    let entry = c .before .before .before .before .before .before .before .before in
+    ((entry .pre .0, omega (arith, entry .pre .1 .1 .0)), sort-partable (entry .pre .1 .0) _ (omega (arith, entry .pre .1 .1 .0)))
 
 mul-is-near : tie.Need-mul-is-near Inv-loop μ-loop
 mul-is-near c =
-    let entry = entry-from-loop (c .before) in
-    omega (arith, entry .pre .1 .0 .ready .margins, entry .pre .1 .1)
+    let entry = c .before .before .before .before .before .before .before .before .before in
+    omega (arith, entry .pre .1 .0 .ready .margins, entry .pre .1 .1 .0)
 
 shared-slice-read-is-near : tie.Need-shared-slice-read-is-near Inv-loop μ-loop
 shared-slice-read-is-near c =
-    let entry = entry-from-loop (c .before .before) in
-    omega (arith, entry .pre .1 .0 .ready .margins, entry .pre .1 .1)
+    let entry = c .before .before .before .before .before .before .before .before .before .before in
+    omega (arith, entry .pre .1 .0 .ready .margins, entry .pre .1 .1 .0)
 
 mul-is-near-2 : tie.Need-mul-is-near-2 Inv-loop μ-loop
 mul-is-near-2 c =
-    let entry = entry-from-loop (c .before .before) in
-    omega (arith, entry .pre .1 .0 .ready .margins, entry .pre .1 .1)
+    let entry = c .before .before .before .before .before .before .before .before .before .before in
+    omega (arith, ready-long (entry .pre .1 .0 .ready), entry .pre .1 .1 .0)
 
 shared-slice-read-is-near-2 : tie.Need-shared-slice-read-is-near-2 Inv-loop μ-loop
 shared-slice-read-is-near-2 c =
-    let entry = entry-from-loop (c .before .before .before) in
-    omega (arith, ready-long (entry .pre .1 .0 .ready), entry .pre .1 .1)
+    let entry = c .before .before .before .before .before .before .before .before .before .before .before in
+    omega (arith, ready-long (entry .pre .1 .0 .ready), entry .pre .1 .1 .0)
 
 is-near-requires : tie.Need-is-near-requires Inv-loop μ-loop
 is-near-requires c κs =
     let at-row-parts = c .before .before in
-    let entry = entry-from-loop (at-row-parts .before) in
-    let q = entry .pre .1 in
-    let e = at-row-parts .row-parts .ensures in
-    sort-most (q .0) _ (omega (arith, q .1)) _ _ (e .1) (e .0)
+    let entry = at-row-parts .before .before .before .before .before .before .before .before .before in
+    (sort-most (entry .pre .1 .0) _ (omega (arith, entry .pre .1 .1 .0)) _ _ (at-row-parts .row-parts .ensures .1) (at-row-parts .row-parts .ensures .0), entry .pre .1 .1 .1)
 
-mul-near : tie.Need-mul-near Inv-loop μ-loop
-mul-near c =
-    let at-loop = c .before .before .before .before .before in
-    omega (arith, at-loop .loop .inv .long, at-loop .loop .inv .sorted .few)
-
-slice-write-near : tie.Need-slice-write-near Inv-loop μ-loop
-slice-write-near c =
-    let at-loop = c .before .before .before .before .before in
-    omega (arith, at-loop .loop .inv .long, at-loop .loop .inv .sorted .few)
-
-add-count : tie.Need-add-count Inv-loop μ-loop
-add-count c =
+list-row-requires : tie.Need-list-row-requires Inv-loop μ-loop
+list-row-requires c κs =
     let at-loop = c .before .before .before .before .before .before in
-    omega (arith, at-loop .loop .inv .sorted .few)
+    let entry = at-loop .before .before .before .before .before .before .before in
+    ((entry .pre .0, omega (arith, entry .pre .1 .1 .0)), (entry .pre .1 .0 .ready, ((entry .pre .1 .0 .listed .room, entry .pre .1 .0 .listed .inside), (omega (arith, at-loop .loop .inv .sorted .few), omega (arith, at-loop .loop .inv .long), at-loop .loop .inv .sorted .inside))))
+
+add-i : tie.Need-add-i Inv-loop μ-loop
+add-i c =
+    let at-test = c .before .before .before .before .before .before .before .before in
+    let at-loop = at-test .before in
+    let entry = at-loop .before .before .before .before .before .before .before in
+    omega (arith, at-test .loop-test .taken, at-loop .loop .inv .high, entry .pre .1 .1 .0, entry .fits .rows)
+
+loop-less : tie.Need-loop-less Inv-loop μ-loop
+loop-less c = omega arith
 
 loop-again : tie.Need-loop-again Inv-loop μ-loop
 loop-again c =
-    let at-is-near = c .before in
+    let at-list-row = c .before .before in
+    let at-is-near = at-list-row .before .before in
     let at-row-parts = at-is-near .before .before .before in
     let at-loop = at-row-parts .before .before in
     let entry = at-loop .before .before .before .before .before .before .before in
-    let q = entry .pre .1 in
-    let e = at-row-parts .row-parts .ensures in
-    ⊎-elim
-    (λ w. sorting-up (at-loop .loop .inv) (omega arith) _ (w .1))
-    (λ w.
-    sorting-on (at-loop .loop .inv) (omega arith) _
-    (far-rests (q .0) _ (omega (arith, q .1)) _ _ (e .1) (e .0) (ltb-false _ _ (sym (at-is-near .is-near .ensures) ∙ w .0 .left)))
-    (w .1))
-    (c .if1 .came)
+    sorting-more (at-loop .loop .inv) (omega arith) (at-list-row .list-row .ensures) (λ z. far-rests (entry .pre .1 .0) _ (omega (arith, entry .pre .1 .1 .0)) _ _ (at-row-parts .row-parts .ensures .1) (at-row-parts .row-parts .ensures .0) _ (pow-pos _) (ltb-false _ _ (sym (at-is-near .is-near .ensures) ∙ z)))
 
 same-length : tie.Need-same-length Inv-loop μ-loop
 same-length c = c .before .loop .inv .long
@@ -106,11 +94,9 @@ find-near-spec =
     mul-is-near-2
     shared-slice-read-is-near-2
     is-near-requires
-    mul-near
-    slice-write-near
-    add-count
-    (λ c. omega arith)
-    (λ c. omega arith)
+    list-row-requires
+    add-i
+    loop-less
     loop-again
     same-length
     returns)

@@ -6,8 +6,8 @@ use Rattle.numbers.specs.Below.{at, sum}
 use Rattle.rounds.specs.Work.{flat}
 use Rattle.resting.specs.Resting.{leftTo}
 use Rattle.resting.proofs.WalkLaws.{waiting-settleable}
-use Rattle.roundloop.proofs.RoundLoop.{front-long, turn-risable, turn-few}
-use Rattle.roundloop.proofs.TurnLaws.{past, Found, found-start, found-renewed, found-long, found-noted, found-listed, found-some, found-none, found-turn, found-end, found-gains, found-walkable, found-next, found-less}
+use Rattle.roundloop.proofs.RoundLoop.{front-long, turn-few}
+use Rattle.roundloop.proofs.TurnLaws.{past, Found, found-start, found-renewed, found-long, found-noted, found-listed, found-some, found-none, found-turn, found-end, found-risable, found-walkable, found-next, found-less}
 use Rattle.roundloop.proofs.do_rounds.Statement.{statement}
 use Rattle.roundloop.proofs.do_rounds.Tie as tie
 
@@ -51,11 +51,11 @@ at-renew-from-settle-arg3 c = at-renew-from-rises (c .before .before .before .be
 past-test : (c : tie.Else1 Inv-loop μ-loop) → c .before .rises .result ≡ true
 past-test c = past _ _ (λ e. ap (λ (r : Bool). not r) e) (c .if1 .left)
 
-abbrev at-rises-from-rise : tie.After-rise Inv-loop μ-loop → tie.After-rises Inv-loop μ-loop
-at-rises-from-rise c = c .before .before .before .before
+abbrev at-rises-from-arg3 : tie.After-rise-arg3 Inv-loop μ-loop → tie.After-rises Inv-loop μ-loop
+at-rises-from-arg3 c = c .before .before .before .before
 
-abbrev at-renew-from-rise : tie.After-rise-arg3 Inv-loop μ-loop → tie.After-renew Inv-loop μ-loop
-at-renew-from-rise c = at-renew-from-rises (at-rises-from-rise (c .before .before .before))
+abbrev at-else-from-rise : tie.After-rise Inv-loop μ-loop → tie.Else1 Inv-loop μ-loop
+at-else-from-rise c = c .before .before .before .before .before .before
 
 renew-requires : tie.Need-renew-requires Inv-loop μ-loop
 renew-requires c κs =
@@ -67,7 +67,7 @@ rises-requires : tie.Need-rises-requires Inv-loop μ-loop
 rises-requires c κs =
     let at-renew = c .before .before .before .before .before .before .before .before .before .before in
     let at-loop = at-loop-from-renew at-renew in
-    let u = found-renewed (at-loop .loop .inv) (at-renew .renew .ensures) (at-renew .renew .kept .1 .1 .1 .1 .1 .1 .1 .1 .1 .1 .0) (at-renew .renew .kept .1 .1 .1 .1 .1 .1 .1 .1 .1 .1 .1 .0) in
+    let u = found-renewed (at-loop .loop .inv) (at-renew .renew .ensures) in
     found-listed u
 
 settle-requires : tie.Need-settle-requires Inv-loop μ-loop
@@ -76,99 +76,78 @@ settle-requires c κs =
     let entry = entry-from-loop (at-loop-from-renew at-renew) in
     (entry .pre .0, waiting-settleable (at-renew .renew .ensures .waiting))
 
-rise-requires : tie.Need-rise-requires Inv-loop μ-loop
-rise-requires c κs =
-    let at-renew = at-renew-from-rises (c .before .before .before) in
+add-done : tie.Need-add-done Inv-loop μ-loop
+add-done c =
+    let at-rises = c .before in
+    let at-renew = at-renew-from-rises at-rises in
     let at-loop = at-loop-from-renew at-renew in
-    let u = found-renewed (at-loop .loop .inv) (at-renew .renew .ensures) (at-renew .renew .kept .1 .1 .1 .1 .1 .1 .1 .1 .1 .1 .0) (at-renew .renew .kept .1 .1 .1 .1 .1 .1 .1 .1 .1 .1 .1 .0) in
-    found-gains u
+    let entry = entry-from-loop at-loop in
+    let u = found-renewed (at-loop .loop .inv) (at-renew .renew .ensures) in
+    let h = found-some u (at-rises .rises .ensures) (past-test c) in
+    omega (arith, turn-few (found-turn u (entry .pre .1 .0)) (λ z. omega arith))
 
 array-borrow-prefix-x : tie.Need-array-borrow-prefix-x Inv-loop μ-loop
 array-borrow-prefix-x c =
-    let at-loop = at-loop-from-renew (at-renew-from-rise c) in
+    let at-loop = at-loop-from-renew (at-renew-from-rises (at-rises-from-arg3 c)) in
     let entry = entry-from-loop at-loop in
     omega (arith, entry .pre .1 .0 .borders, at-loop .loop .inv .head .exchanges)
 
 slice-aggregate-rise : tie.Need-slice-aggregate-rise Inv-loop μ-loop
 slice-aggregate-rise c =
-    let at-renew = at-renew-from-rise (c .before) in
+    let at-renew = at-renew-from-rises (at-rises-from-arg3 (c .before)) in
     let at-loop = at-loop-from-renew at-renew in
     let entry = entry-from-loop at-loop in
-    let u = found-renewed (at-loop .loop .inv) (at-renew .renew .ensures) (at-renew .renew .kept .1 .1 .1 .1 .1 .1 .1 .1 .1 .1 .0) (at-renew .renew .kept .1 .1 .1 .1 .1 .1 .1 .1 .1 .1 .1 .0) in
+    let u = found-renewed (at-loop .loop .inv) (at-renew .renew .ensures) in
     sym (front-long (found-turn u (entry .pre .1 .0)))
 
-rise-requires-2 : tie.Need-rise-requires-2 Inv-loop μ-loop
-rise-requires-2 c κs =
-    let at-renew = at-renew-from-rise (c .before) in
+rise-requires : tie.Need-rise-requires Inv-loop μ-loop
+rise-requires c κs =
+    let at-renew = at-renew-from-rises (at-rises-from-arg3 (c .before .before)) in
     let at-loop = at-loop-from-renew at-renew in
     let entry = entry-from-loop at-loop in
-    let u = found-renewed (at-loop .loop .inv) (at-renew .renew .ensures) (at-renew .renew .kept .1 .1 .1 .1 .1 .1 .1 .1 .1 .1 .0) (at-renew .renew .kept .1 .1 .1 .1 .1 .1 .1 .1 .1 .1 .1 .0) in
-    turn-risable (found-turn u (entry .pre .1 .0))
-
-abbrev at-rise-from-rise2 : tie.After-rise2 Inv-loop μ-loop → tie.After-rise Inv-loop μ-loop
-at-rise-from-rise2 c = c .before .before .before .before .before
-
-abbrev at-rise2-from-note : tie.After-note Inv-loop μ-loop → tie.After-rise2 Inv-loop μ-loop
-at-rise2-from-note c = c .before .before .before .before
-
-add-done : tie.Need-add-done Inv-loop μ-loop
-add-done c =
-    let at-if1 = at-rise-from-rise2 (c .before) .before .before .before in
-    let at-rises = at-if1 .before in
-    let at-renew = at-renew-from-rises at-rises in
-    let at-loop = at-loop-from-renew at-renew in
-    let entry = entry-from-loop at-loop in
-    let u = found-renewed (at-loop .loop .inv) (at-renew .renew .ensures) (at-renew .renew .kept .1 .1 .1 .1 .1 .1 .1 .1 .1 .1 .0) (at-renew .renew .kept .1 .1 .1 .1 .1 .1 .1 .1 .1 .1 .1 .0) in
-    let h = found-some u (at-rises .rises .ensures) (past-test at-if1) in
-    omega (arith, turn-few (found-turn u (entry .pre .1 .0)) (λ z. omega arith))
-
-note-requires : tie.Need-note-requires Inv-loop μ-loop
-note-requires c κs =
-    let at-loop = at-loop-from-renew (at-renew-from-rises (at-rises-from-rise (at-rise-from-rise2 (c .before .before .before)))) in
-    (found-long (at-loop .loop .inv), found-noted (at-loop .loop .inv))
+    let u = found-renewed (at-loop .loop .inv) (at-renew .renew .ensures) in
+    found-risable u (entry .pre .1 .0)
 
 walk-near-requires : tie.Need-walk-near-requires Inv-loop μ-loop
 walk-near-requires c κs =
-    let at-rise = at-rise-from-rise2 (at-rise2-from-note (c .before .before .before .before .before .before .before)) in
-    let at-renew = at-renew-from-rises (at-rises-from-rise at-rise) in
+    let at-rise = c .before .before .before .before .before .before .before .before .before .before in
+    let at-renew = at-renew-from-rises (at-else-from-rise at-rise .before) in
     let at-loop = at-loop-from-renew at-renew in
     let entry = entry-from-loop at-loop in
-    let u = found-renewed (at-loop .loop .inv) (at-renew .renew .ensures) (at-renew .renew .kept .1 .1 .1 .1 .1 .1 .1 .1 .1 .1 .0) (at-renew .renew .kept .1 .1 .1 .1 .1 .1 .1 .1 .1 .1 .1 .0) in
+    let u = found-renewed (at-loop .loop .inv) (at-renew .renew .ensures) in
     (entry .pre .0, found-walkable u (at-renew .renew .ensures .some) (at-rise .rise .ensures))
+
+abbrev at-rise-from-walk : tie.After-walk-near Inv-loop μ-loop → tie.After-rise Inv-loop μ-loop
+at-rise-from-walk c = c .before .before .before .before .before .before .before .before .before .before .before
 
 sub-wait : tie.Need-sub-wait Inv-loop μ-loop
 sub-wait c =
-    let at-note = c .before .before .before .before .before .before .before .before .before .before .before in
-    let at-renew = at-renew-from-rises (at-rises-from-rise (at-rise-from-rise2 (at-rise2-from-note at-note))) in
+    let at-rise = at-rise-from-walk (c .before .before .before) in
+    let at-renew = at-renew-from-rises (at-else-from-rise at-rise .before) in
     omega (arith, at-renew .renew .ensures .some)
 
 loop-less : tie.Need-loop-less Inv-loop μ-loop
 loop-less c =
-    let at-rise2 = at-rise2-from-note (c .before .before .before .before .before .before .before .before .before .before .before) in
-    let at-rise = at-rise-from-rise2 at-rise2 in
-    let at-if1 = at-rise .before .before .before in
-    let at-rises = at-if1 .before in
-    let at-renew = at-renew-from-rises at-rises in
+    let at-rise = at-rise-from-walk (c .before .before .before) in
+    let at-else = at-else-from-rise at-rise in
+    let at-renew = at-renew-from-rises (at-else .before) in
     let at-loop = at-loop-from-renew at-renew in
     let entry = entry-from-loop at-loop in
-    let u = found-renewed (at-loop .loop .inv) (at-renew .renew .ensures) (at-renew .renew .kept .1 .1 .1 .1 .1 .1 .1 .1 .1 .1 .0) (at-renew .renew .kept .1 .1 .1 .1 .1 .1 .1 .1 .1 .1 .1 .0) in
-    let h = found-some u (at-rises .rises .ensures) (past-test at-if1) in
-    found-less u (at-renew .renew .ensures .some) (at-rise .rise .ensures) (entry .pre .1 .0) h (at-rise2 .rise2 .ensures) (at-renew .renew .ensures .same)
+    let u = found-renewed (at-loop .loop .inv) (at-renew .renew .ensures) in
+    let h = found-some u (at-else .before .rises .ensures) (past-test at-else) in
+    found-less u (at-renew .renew .ensures .some) (at-rise .rise .ensures) (entry .pre .1 .0) h (at-renew .renew .ensures .same)
 
 loop-again : tie.Need-loop-again Inv-loop μ-loop
 loop-again c =
     let at-walk-near = c .before .before .before in
-    let at-note = at-walk-near .before .before .before .before .before .before .before .before in
-    let at-rise2 = at-rise2-from-note at-note in
-    let at-rise = at-rise-from-rise2 at-rise2 in
-    let at-if1 = at-rise .before .before .before in
-    let at-rises = at-if1 .before in
-    let at-renew = at-renew-from-rises at-rises in
+    let at-rise = at-rise-from-walk at-walk-near in
+    let at-else = at-else-from-rise at-rise in
+    let at-renew = at-renew-from-rises (at-else .before) in
     let at-loop = at-loop-from-renew at-renew in
     let entry = entry-from-loop at-loop in
-    let u = found-renewed (at-loop .loop .inv) (at-renew .renew .ensures) (at-renew .renew .kept .1 .1 .1 .1 .1 .1 .1 .1 .1 .1 .0) (at-renew .renew .kept .1 .1 .1 .1 .1 .1 .1 .1 .1 .1 .1 .0) in
-    let h = found-some u (at-rises .rises .ensures) (past-test at-if1) in
-    found-next u (at-renew .renew .ensures .some) (at-rise .rise .ensures) (entry .pre .1 .0) h (at-rise2 .rise2 .ensures) (at-note .note .ensures) (at-walk-near .walk-near .ensures) _ (omega (arith, at-renew .renew .ensures .some))
+    let u = found-renewed (at-loop .loop .inv) (at-renew .renew .ensures) in
+    let h = found-some u (at-else .before .rises .ensures) (past-test at-else) in
+    found-next u (at-renew .renew .ensures .some) (at-rise .rise .ensures) (entry .pre .1 .0) h (at-walk-near .walk-near .ensures) _ (omega (arith, at-renew .renew .ensures .some))
 
 same-length : tie.Need-same-length Inv-loop μ-loop
 same-length c =
@@ -199,14 +178,14 @@ same-length-5 c =
     let at-renew = at-renew-from-settle-arg3 (c .before .before .before) in
     let at-loop = at-loop-from-renew at-renew in
     let entry = entry-from-loop at-loop in
-    let u = found-renewed (at-loop .loop .inv) (at-renew .renew .ensures) (at-renew .renew .kept .1 .1 .1 .1 .1 .1 .1 .1 .1 .1 .0) (at-renew .renew .kept .1 .1 .1 .1 .1 .1 .1 .1 .1 .1 .1 .0) in
+    let u = found-renewed (at-loop .loop .inv) (at-renew .renew .ensures) in
     u .room ∙ sym (entry .pre .1 .1 .1 .1 .0)
 
 same-length-6 : tie.Need-same-length-6 Inv-loop μ-loop
 same-length-6 c =
     let at-renew = at-renew-from-settle-arg3 (c .before .before .before) in
     let at-loop = at-loop-from-renew at-renew in
-    let u = found-renewed (at-loop .loop .inv) (at-renew .renew .ensures) (at-renew .renew .kept .1 .1 .1 .1 .1 .1 .1 .1 .1 .1 .0) (at-renew .renew .kept .1 .1 .1 .1 .1 .1 .1 .1 .1 .1 .1 .0) in
+    let u = found-renewed (at-loop .loop .inv) (at-renew .renew .ensures) in
     u .places
 
 returns : tie.Need-returns Inv-loop μ-loop
@@ -217,7 +196,7 @@ returns c =
     let at-renew = at-renew-from-rises at-rises in
     let at-loop = at-loop-from-renew at-renew in
     let entry = entry-from-loop at-loop in
-    let u = found-renewed (at-loop .loop .inv) (at-renew .renew .ensures) (at-renew .renew .kept .1 .1 .1 .1 .1 .1 .1 .1 .1 .1 .0) (at-renew .renew .kept .1 .1 .1 .1 .1 .1 .1 .1 .1 .1 .1 .0) in
+    let u = found-renewed (at-loop .loop .inv) (at-renew .renew .ensures) in
     found-end u (entry .pre .1 .0) (found-none u (at-rises .rises .ensures) (at-if1 .if1 .taken)) _ (at-settle .settle .ensures)
 
 pub do-rounds-spec : {M : Type 1} → statement M
@@ -233,12 +212,10 @@ do-rounds-spec =
     renew-requires
     rises-requires
     settle-requires
-    rise-requires
+    add-done
     array-borrow-prefix-x
     slice-aggregate-rise
-    rise-requires-2
-    add-done
-    note-requires
+    rise-requires
     walk-near-requires
     sub-wait
     loop-less

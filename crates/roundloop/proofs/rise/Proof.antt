@@ -1,46 +1,148 @@
--- `roundloop::rise` meets its contract: the loop fills the exchanges with the risen ones (`Filled`).
--- A sum fits: either the raise is 0 and the exchange fits, or the contract says so.
-use mathlib.Core.Logic.{⊎-elim}
+-- `roundloop::rise` meets its contract: the first j listed borders rose (`Rising`). A sum fits: either the raise is 0, or the border rises here and at no other place.
 use Prim.Native.Nat.{_-_}
 use native.Mathlib.Omega.{arith}
 use Rattle.numbers.specs.Below.{at}
-use Rattle.numbers.proofs.BelowLaws.{le-or-lt}
-use Rattle.numbers.proofs.ListLaws.{Filled, filled-none, filled-rest, filled-all}
-use Rattle.rounds.specs.Rounds.{risen}
-use Rattle.roundloop.proofs.RoundLoop.{rise-more}
+use Rattle.roundloop.proofs.RiseLaws.{Rising, rising-none, rising-here, gained-fits, x-fits, rising-more, rising-all}
 use Rattle.roundloop.proofs.rise.Statement.{statement}
 use Rattle.roundloop.proofs.rise.Tie as tie
 
 abbrev Inv-loop : tie.InvT-loop
-Inv-loop borders raises x₀ b₀ x b = Filled (risen raises x₀) borders x₀ x b
+Inv-loop bounds rising live round gained₀ x₀ lasts₀ j₀ gained x lasts j = Rising bounds rising live round gained₀ x₀ lasts₀ gained x lasts j
 
 abbrev μ-loop : tie.MeasureT-loop
-μ-loop borders raises x₀ b₀ x b = borders - b
+μ-loop bounds rising live round gained₀ x₀ lasts₀ j₀ gained x lasts j = live - j
 
 loop-holds : tie.Need-loop-holds Inv-loop μ-loop
-loop-holds c = filled-none _ _ _
+loop-holds c = rising-none _ _ _ _ _ _ _
+
+mul-b : tie.Need-mul-b Inv-loop μ-loop
+mul-b c =
+    let entry = c .before .before .before .before .before .before .before in
+    omega (arith, entry .pre .listed .room)
+
+shared-slice-read-b : tie.Need-shared-slice-read-b Inv-loop μ-loop
+shared-slice-read-b c =
+    let entry = c .before .before .before .before .before .before .before .before in
+    omega (arith, entry .pre .listed .room)
+
+mul-raise : tie.Need-mul-raise Inv-loop μ-loop
+mul-raise c =
+    let at-loop = c .before .before in
+    let entry = at-loop .before .before .before .before .before .before in
+    omega (arith, rising-here (entry .pre) (at-loop .loop .inv) (omega arith))
+
+shared-slice-read-raise : tie.Need-shared-slice-read-raise Inv-loop μ-loop
+shared-slice-read-raise c =
+    let at-loop = c .before .before .before in
+    let entry = at-loop .before .before .before .before .before .before in
+    rising-here (entry .pre) (at-loop .loop .inv) (omega arith)
+
+mul-gained : tie.Need-mul-gained Inv-loop μ-loop
+mul-gained c =
+    let at-loop = c .before .before .before in
+    let entry = at-loop .before .before .before .before .before .before in
+    omega (arith, rising-here (entry .pre) (at-loop .loop .inv) (omega arith), at-loop .loop .inv .gained-long, entry .pre .gains .long)
+
+slice-read-gained : tie.Need-slice-read-gained Inv-loop μ-loop
+slice-read-gained c =
+    let at-loop = c .before .before .before .before in
+    let entry = at-loop .before .before .before .before .before .before in
+    omega (arith, rising-here (entry .pre) (at-loop .loop .inv) (omega arith), at-loop .loop .inv .gained-long, entry .pre .gains .long)
+
+add-gained : tie.Need-add-gained Inv-loop μ-loop
+add-gained c =
+    let at-loop = c .before .before .before .before in
+    let entry = at-loop .before .before .before .before .before .before in
+    omega (arith, gained-fits (entry .pre) (at-loop .loop .inv) (omega arith) (omega (arith, c .slice-known4 .given (at (entry .args .rising .now) (at-loop .loop .j)))))
+
+slice-write-gained : tie.Need-slice-write-gained Inv-loop μ-loop
+slice-write-gained c =
+    let at-loop = c .before .before .before .before in
+    let entry = at-loop .before .before .before .before .before .before in
+    omega (arith, rising-here (entry .pre) (at-loop .loop .inv) (omega arith), at-loop .loop .inv .gained-long, entry .pre .gains .long)
+
+mul-x : tie.Need-mul-x Inv-loop μ-loop
+mul-x c =
+    let at-loop = c .before .before .before .before in
+    let entry = at-loop .before .before .before .before .before .before in
+    omega (arith, rising-here (entry .pre) (at-loop .loop .inv) (omega arith), at-loop .loop .inv .x-long, entry .pre .exchanges .long)
+
+slice-read-x : tie.Need-slice-read-x Inv-loop μ-loop
+slice-read-x c =
+    let at-loop = c .before .before .before .before .before in
+    let entry = at-loop .before .before .before .before .before .before in
+    omega (arith, rising-here (entry .pre) (at-loop .loop .inv) (omega arith), at-loop .loop .inv .x-long, entry .pre .exchanges .long)
 
 add-x : tie.Need-add-x Inv-loop μ-loop
 add-x c =
-    let at-loop = c .before .before .before in
-    let entry = at-loop .before in
-    let b = at-loop .loop .b in
-    ⊎-elim
-    (λ z. omega (arith, c .slice-known .given b))
-    (λ z. omega (arith, filled-rest (at-loop .loop .inv) 0 (omega arith), entry .pre .fits b (omega arith) z))
-    (le-or-lt (at (entry .args .raises .now) b) 0)
+    let at-loop = c .before .before .before .before .before in
+    let entry = at-loop .before .before .before .before .before .before in
+    omega (arith, x-fits (entry .pre) (at-loop .loop .inv) (omega arith) (omega (arith, c .slice-known5 .given (at (entry .args .rising .now) (at-loop .loop .j)))))
+
+slice-write-x : tie.Need-slice-write-x Inv-loop μ-loop
+slice-write-x c =
+    let at-loop = c .before .before .before .before .before in
+    let entry = at-loop .before .before .before .before .before .before in
+    omega (arith, rising-here (entry .pre) (at-loop .loop .inv) (omega arith), at-loop .loop .inv .x-long, entry .pre .exchanges .long)
+
+mul-last : tie.Need-mul-last Inv-loop μ-loop
+mul-last c =
+    let at-loop = c .before .before .before .before .before in
+    let entry = at-loop .before .before .before .before .before .before in
+    omega (arith, rising-here (entry .pre) (at-loop .loop .inv) (omega arith), at-loop .loop .inv .lasts-long, entry .pre .notes)
+
+slice-read-last : tie.Need-slice-read-last Inv-loop μ-loop
+slice-read-last c =
+    let at-loop = c .before .before .before .before .before .before in
+    let entry = at-loop .before .before .before .before .before .before in
+    omega (arith, rising-here (entry .pre) (at-loop .loop .inv) (omega arith), at-loop .loop .inv .lasts-long, entry .pre .notes)
+
+later-requires : tie.Need-later-requires Inv-loop μ-loop
+later-requires c κs = tt
+
+mul-lasts : tie.Need-mul-lasts Inv-loop μ-loop
+mul-lasts c =
+    let at-loop = c .before .before .before .before .before .before .before in
+    let entry = at-loop .before .before .before .before .before .before in
+    omega (arith, rising-here (entry .pre) (at-loop .loop .inv) (omega arith), at-loop .loop .inv .lasts-long, entry .pre .notes)
+
+slice-write-lasts : tie.Need-slice-write-lasts Inv-loop μ-loop
+slice-write-lasts c =
+    let at-loop = c .before .before .before .before .before .before .before in
+    let entry = at-loop .before .before .before .before .before .before in
+    omega (arith, rising-here (entry .pre) (at-loop .loop .inv) (omega arith), at-loop .loop .inv .lasts-long, entry .pre .notes)
+
+add-j : tie.Need-add-j Inv-loop μ-loop
+add-j c =
+    let at-loop-test = c .before .before .before .before .before .before in
+    let entry = at-loop-test .before .before .before .before .before .before .before in
+    omega (arith, at-loop-test .loop-test .taken, entry .fits .live)
+
+loop-less : tie.Need-loop-less Inv-loop μ-loop
+loop-less c =
+    let at-loop-test = c .before .before .before .before .before .before in
+    omega (arith, at-loop-test .loop-test .taken)
 
 loop-again : tie.Need-loop-again Inv-loop μ-loop
 loop-again c =
-    let at-loop = c .before .before .before in
-    let entry = at-loop .before in
-    rise-more _ (at-loop .loop .inv) (omega arith) (entry .pre .exchanges)
+    let at-loop = c .before .before .before .before .before .before .before in
+    let entry = at-loop .before .before .before .before .before .before in
+    rising-more (entry .pre) (at-loop .loop .inv) (omega arith) _ (c .later .ensures)
 
 same-length : tie.Need-same-length Inv-loop μ-loop
-same-length c = c .before .loop .inv .as-long
+same-length c = c .before .loop .inv .gained-long
+
+same-length-2 : tie.Need-same-length-2 Inv-loop μ-loop
+same-length-2 c = c .before .loop .inv .x-long
+
+same-length-3 : tie.Need-same-length-3 Inv-loop μ-loop
+same-length-3 c = c .before .loop .inv .lasts-long
 
 returns : tie.Need-returns Inv-loop μ-loop
-returns c = filled-all (c .before .loop .inv) (c .loop-test .left) (c .before .before .pre .exchanges)
+returns c =
+    let at-loop = c .before in
+    let entry = at-loop .before .before .before .before .before .before in
+    rising-all (entry .pre) (at-loop .loop .inv) (omega arith)
 
 pub rise-spec : {M : Type 1} → statement M
 rise-spec =
@@ -49,14 +151,27 @@ rise-spec =
     Inv-loop
     μ-loop
     loop-holds
-    (λ c. omega arith)
-    (λ c. omega arith)
-    (λ c. omega arith)
-    (λ c. omega arith)
+    mul-b
+    shared-slice-read-b
+    mul-raise
+    shared-slice-read-raise
+    mul-gained
+    slice-read-gained
+    add-gained
+    slice-write-gained
+    mul-x
+    slice-read-x
     add-x
-    (λ c. omega arith)
-    (λ c. omega arith)
-    (λ c. omega arith)
+    slice-write-x
+    mul-last
+    slice-read-last
+    later-requires
+    mul-lasts
+    slice-write-lasts
+    add-j
+    loop-less
     loop-again
     same-length
+    same-length-2
+    same-length-3
     returns)

@@ -1,11 +1,11 @@
--- `rounds::stopping::later` meets its contract, by its one test.
+-- `roundloop::later` meets its contract, by its one test.
 use mathlib.Core.Path.{sym, ap}
 use Prim.Native.Nat.{ℕ}
 use native.Mathlib.Omega.{arith}
 use Rattle.numbers.specs.Below.{ifZero}
 use Rattle.numbers.proofs.BelowLaws.{ifZero-pos}
-use Rattle.rounds.proofs.stopping.later.Statement.{statement}
-use Rattle.rounds.proofs.stopping.later.Tie as tie
+use Rattle.roundloop.proofs.later.Statement.{statement}
+use Rattle.roundloop.proofs.later.Tie as tie
 
 returns : tie.Need-returns
 unfolding ifZero
