@@ -2,20 +2,15 @@
 // After the argument `claims` and a file comes the published list, after `rows`, `with` and a file the table with its rows.
 // After the argument `corners` come the corner sheets of every row, after a number those of that row. After `--marks` and a list only those borders
 // rise, after `--corrections` and a file its rows are put in, until the next word; `answer` is the word for the answer.
-ghost use Prim.Native.Nat.{_≤_};
-ghost use lib.ListN.{length};
-ghost use Rattle.printing.specs.Room.{sheetRoom};
-use command::MARKS_ROOM;
-use command::TEXT_ROOM;
+ghost use Rattle.io.specs.Counts.{Counts};
+use asked::Asked;
 use command::arguments;
 use command::arguments::Held;
 use command::arguments::Piece;
 use command::arguments::whole;
-use command::asked;
-use command::asked::Asked;
 use command::input;
+use command::input::Text;
 use libc::STDOUT_FILENO;
-use printing::sheets;
 use printing::tasks;
 use printing::tasks::Task;
 
@@ -91,107 +86,50 @@ fn take_rest(i: usize, mut setting: Setting) -> Setting {
     setting
 }
 
+// First the files that options name are read, the corrections and what goes with the word, and then the table.
 fn one(i: usize, setting: Setting) {
     let Asked::Task(task) = asked::understand(setting.word, setting.after) else {
         return;
     };
-    let mut text = [0u8; TEXT_ROOM];
-    let mut sheet = [0u8; TEXT_ROOM];
-    let mut file = [0u8; TEXT_ROOM];
-    let mut marks = [0u64; MARKS_ROOM];
-    let mut out = [0u8; sheets::ROOM];
-    print(
-        i,
-        task,
-        setting,
-        &mut text,
-        &mut sheet,
-        &mut file,
-        &mut marks,
-        &mut out,
-    )
-}
-
-// The memory is made in `one`, and not here, where goals would spell it out. First the files that options name are read, the corrections ..
-fn print(
-    i: usize,
-    task: Task,
-    setting: Setting,
-    text: &mut [u8],
-    sheet: &mut [u8],
-    file: &mut [u8],
-    marks: &mut [u64],
-    out: &mut [u8],
-)
-    requires { ⌜ sheetRoom ≤ length (now out) ⌝ }
-{
-    let corrections = input::named(whole(setting.corrections), sheet);
-    if corrections.failed {
+    let sheet = input::named(whole(setting.corrections));
+    if sheet.failed {
         return;
     }
-    let n = corrections.bytes;
-    print_corrected(i, task, setting, text, &sheet[..n], file, marks, out)
-}
-
-// .. and what goes with the word; ..
-fn print_corrected(
-    i: usize,
-    task: Task,
-    setting: Setting,
-    text: &mut [u8],
-    sheet: &[u8],
-    file: &mut [u8],
-    marks: &mut [u64],
-    out: &mut [u8],
-)
-    requires { ⌜ sheetRoom ≤ length (now out) ⌝ }
-{
-    let with = input::named(whole(asked::file_of(task, setting.after)), file);
-    if with.failed {
+    let file = input::named(whole(asked::file_of(task, setting.after)));
+    if file.failed {
         return;
     }
-    let n = with.bytes;
-    print_with(
-        i,
-        task,
-        whole(setting.marks),
-        text,
-        sheet,
-        &file[..n],
-        marks,
-        out,
-    )
-}
-
-// .. and then the table.
-fn print_with(
-    i: usize,
-    task: Task,
-    list: Piece,
-    text: &mut [u8],
-    sheet: &[u8],
-    file: &[u8],
-    marks: &mut [u64],
-    out: &mut [u8],
-)
-    requires { ⌜ sheetRoom ≤ length (now out) ⌝ }
-{
-    let table = input::file(whole(i), text);
+    let table = input::named(whole(i));
     if table.failed {
         return;
     }
     name(i);
-    let n = table.bytes;
-    let listed = arguments::list(list, marks);
+    print(task, whole(setting.marks), table, sheet, file)
+}
+
+fn print(task: Task, list: Piece, table: Text, sheet: Text, file: Text)
+    requires { ⌜ Counts (table .count) (table .bytes) ⌝ }
+    requires { ⌜ Counts (sheet .count) (sheet .bytes) ⌝ }
+    requires { ⌜ Counts (file .count) (file .bytes) ⌝ }
+{
+    let listed = arguments::list(list);
     let m = listed.count;
+    let marks = listed.numbers;
+    let n = table.count;
+    let text = table.bytes;
+    let k = sheet.count;
+    let rows = sheet.bytes;
+    let f = file.count;
+    let with = file.bytes;
+    let mut out = asked::room();
     tasks::print(
         task,
         list.at == 0,
         &marks[..m],
-        file,
+        &with[..f],
         &text[..n],
-        sheet,
-        out,
+        &rows[..k],
+        &mut out,
     );
 }
 

@@ -1,12 +1,20 @@
 // The arguments that a program was started with: which word a piece of one is, or which number or list of numbers it holds.
-// Each is read into memory that is all zeros, so one stands behind it. The memory is made where an argument is read, and not where goals would spell it out.
+// Each is read into memory that is all zeros, so one stands behind it.
 ghost use mathlib.Core.Path.{_≡_};
+ghost use lib.ListN.{length};
 ghost use Rattle.io.specs.Counts.{Counts};
 use crate::lists;
 use text::Number;
 
 // Room for an argument: Linux lets one have 131,071 bytes, where a page of memory has 4,096. Whether all of it is here, `os::errno` tells.
-pub const ROOM: usize = 131072;
+const ROOM: usize = 131072;
+
+// The memory for one. It is written out here alone: where it is, a check takes a second.
+pub fn room() -> [u8; ROOM]
+    ensures { λ r. ⌜ 131072 ≡ length r ⌝ }
+{
+    [0; ROOM]
+}
 
 // What stands in argument `at` from byte `from` on; `at` is 0 where nothing is given.
 pub struct Piece {
@@ -29,7 +37,7 @@ pub fn tail<'a>(text: &'a [u8], from: usize) -> &'a [u8] {
 
 // Which line of a list of words the piece is, from 0; as many as there are lines where it is none.
 pub fn which(piece: Piece, list: &[u8]) -> usize {
-    let mut own = [0u8; ROOM];
+    let mut own = room();
     let n = os::arg(piece.at, &mut own);
     lists::line_of(list, tail(&own[..n], piece.from))
 }
@@ -41,7 +49,7 @@ pub enum Held {
 
 // The number that a piece holds, written as numbers are in a table.
 pub fn number(piece: Piece) -> Held {
-    let mut own = [0u8; ROOM];
+    let mut own = room();
     os::arg(piece.at, &mut own);
     match text::field::number_at(&own, piece.from, 0) {
         Number::Value(v, _) => Held::Number(v),
@@ -51,43 +59,48 @@ pub fn number(piece: Piece) -> Held {
 
 // The descriptor that a piece holds, -1 where it holds none.
 pub fn descriptor(piece: Piece) -> i32 {
-    match number(piece) {
-        Held::Number(v) => narrow(v),
-        Held::Other => -1,
-    }
-}
-
-fn narrow(v: u64) -> i32 {
+    let Held::Number(v) = number(piece) else {
+        return -1;
+    };
     if v > 2147483647 {
         return -1;
     }
     v as i32
 }
 
-// What came of reading a list: so many of its numbers at the front of the lent ones, and whether it is a list at all.
+// Room for a list, one more than a table may have borders: of a longer one the first faulty mark is among these.
+const LIST_ROOM: usize = kinds::Header::BORDERS_MOST + 1;
+
+// What came of reading a list: so many of its numbers at the front, and whether it is a list at all.
 pub struct Listed {
+    pub numbers: [u64; LIST_ROOM],
     pub count: usize,
     pub good: bool,
 }
 
 // The numbers that a piece holds, written as they are in a table, with commas between: an empty one holds none.
-// The whole piece is looked at, but only as many are kept as the lent list has room for.
-pub fn list(piece: Piece, list: &mut [u64]) -> Listed
-    ensures { λ r. ⌜ Counts (r .count) (now (list .exit)) ⌝ }
+// The whole piece is looked at, but only as many are kept as there is room for.
+pub fn list(piece: Piece) -> Listed
+    ensures { λ r. ⌜ Counts (r .count) (r .numbers) ⌝ }
 {
-    let mut own = [0u8; ROOM];
+    let mut own = room();
     os::arg(piece.at, &mut own);
-    if text::field::byte_at(&own, piece.from) == 0 {
-        return Listed {
-            count: 0,
-            good: true,
-        };
+    let mut numbers = [0u64; LIST_ROOM];
+    let kept = numbers_in(&own, piece.from, &mut numbers);
+    Listed {
+        numbers: numbers,
+        count: kept.count,
+        good: kept.good,
     }
-    numbers_in(&own, piece.from, list)
+}
+
+struct Kept {
+    count: usize,
+    good: bool,
 }
 
 // A number takes two bytes at least, with what ends it, so there are fewer than bytes.
-fn numbers_in(word: &[u8], from: usize, list: &mut [u64]) -> Listed
+fn numbers_in(word: &[u8], from: usize, list: &mut [u64]) -> Kept
     ensures { λ r. ⌜ Counts (r .count) (now (list .exit)) ⌝ }
 {
     let mut at = from;
@@ -98,51 +111,35 @@ fn numbers_in(word: &[u8], from: usize, list: &mut [u64]) -> Listed
         keep(list, k, v);
         at = next;
     }
-    no_list()
-}
-
-// The last one ends where the zeros behind the word begin.
-fn last(word: &[u8], at: usize, k: usize, list: &mut [u64]) -> Listed
-    ensures { λ r. ⌜ Counts (r .count) (now (list .exit)) ⌝ }
-{
-    let Number::Value(v, _) = text::field::number_at(word, at, 0) else {
-        return no_list();
-    };
-    keep(list, k, v);
-    Listed {
-        count: kept(list, k),
-        good: true,
-    }
-}
-
-fn no_list() -> Listed
-    ensures { λ r. ⌜ r .count ≡ 0 ⌝ }
-{
-    Listed {
+    Kept {
         count: 0,
         good: false,
     }
 }
 
-fn keep(list: &mut [u64], k: usize, v: u64) {
-    if k < list.len() {
-        list[k] = v;
+// The last one ends where the zeros behind the word begin. Only a list of none has no last one.
+fn last(word: &[u8], at: usize, k: usize, list: &mut [u64]) -> Kept
+    ensures { λ r. ⌜ Counts (r .count) (now (list .exit)) ⌝ }
+{
+    let Number::Value(v, _) = text::field::number_at(word, at, 0) else {
+        return Kept {
+            count: 0,
+            good: k == 0 && text::field::byte_at(word, at) == 0,
+        };
+    };
+    Kept {
+        count: keep(list, k, v),
+        good: true,
     }
 }
 
-// How many are kept of k and one more.
-fn kept(list: &[u64], k: usize) -> usize
-    ensures { λ r. ⌜ Counts r (now (list .entry)) ⌝ }
+// Keeps number k where there is room for it: how many are kept then.
+fn keep(list: &mut [u64], k: usize, v: u64) -> usize
+    ensures { λ r. ⌜ Counts r (now (list .exit)) ⌝ }
 {
     if k < list.len() {
+        list[k] = v;
         return k + 1;
     }
     list.len()
-}
-
-// Whether a piece is such a list.
-pub fn is_list(piece: Piece) -> bool {
-    let mut first: [u64; 1] = [0; 1];
-    let read = list(piece, &mut first);
-    read.good
 }

@@ -1,70 +1,96 @@
-// What a program is given to read, each read whole into a lent text: standard input, or a file that an argument names.
-// That one cannot be read is said on standard error.
+// What a program is given to read, each read whole: standard input, or a file that an argument names. That one cannot be read is said on standard error.
 ghost use mathlib.Core.Path.{_≡_};
+ghost use lib.ListN.{length};
 ghost use Rattle.io.specs.Counts.{Counts};
 use crate::arguments;
 use crate::arguments::Piece;
 use crate::words;
 use libc::STDIN_FILENO;
 
-// What came of reading: so many bytes in front of the lent text, or an error, and then none. No contract can say which bytes are read.
-pub struct Input {
-    pub bytes: usize,
+// Room for a text, one byte more than it may have, so that a longer one is seen.
+const ROOM: usize = text::BYTES_MOST + 1;
+
+// What came of reading: so many bytes at the front, or an error, and then none. No contract can say which bytes are read.
+pub struct Text {
+    pub bytes: [u8; ROOM],
+    pub count: usize,
     pub failed: bool,
 }
 
-// Standard input.
-pub fn standard(text: &mut [u8]) -> Input
-    ensures { λ r. ⌜ Counts (r .bytes) (now (text .exit)) ⌝ }
+// The memory for one. It is written out here alone: where it is, a check takes a second.
+fn room() -> [u8; ROOM]
+    ensures { λ r. ⌜ 65537 ≡ length r ⌝ }
 {
-    let input = read_text(STDIN_FILENO, text);
-    if input.failed {
-        os::fail(b"keravnoth: reading");
-    }
-    input
+    [0; ROOM]
 }
 
-// The file that a piece of an argument names, or nothing where none is given.
-pub fn named(piece: Piece, text: &mut [u8]) -> Input
-    ensures { λ r. ⌜ Counts (r .bytes) (now (text .exit)) ⌝ }
+// Standard input.
+pub fn standard() -> Text
+    ensures { λ r. ⌜ Counts (r .count) (r .bytes) ⌝ }
+{
+    let mut bytes = room();
+    let read = read_text(STDIN_FILENO, &mut bytes);
+    if read.failed {
+        os::fail(b"keravnoth: reading");
+    }
+    Text {
+        bytes: bytes,
+        count: read.count,
+        failed: read.failed,
+    }
+}
+
+// The file that a piece of an argument names, or nothing where none is given. An argument that cannot be read names none.
+pub fn named(piece: Piece) -> Text
+    ensures { λ r. ⌜ Counts (r .count) (r .bytes) ⌝ }
+{
+    let mut bytes = room();
+    let read = read_named(piece, &mut bytes);
+    Text {
+        bytes: bytes,
+        count: read.count,
+        failed: read.failed,
+    }
+}
+
+struct Read {
+    count: usize,
+    failed: bool,
+}
+
+fn read_named(piece: Piece, text: &mut [u8]) -> Read
+    ensures { λ r. ⌜ Counts (r .count) (now (text .exit)) ⌝ }
 {
     if piece.at == 0 {
-        return Input {
-            bytes: 0,
+        return Read {
+            count: 0,
             failed: false,
         };
     }
-    file(piece, text)
-}
-
-// The file that a piece of an argument names. An argument that cannot be read names none.
-pub fn file(piece: Piece, text: &mut [u8]) -> Input
-    ensures { λ r. ⌜ Counts (r .bytes) (now (text .exit)) ⌝ }
-{
-    let mut name = [0u8; arguments::ROOM];
+    let mut name = arguments::room();
     let n = os::arg(piece.at, &mut name);
     read_file(arguments::tail(&name[..n], piece.from), text)
 }
 
-fn read_file(name: &[u8], text: &mut [u8]) -> Input
-    ensures { λ r. ⌜ Counts (r .bytes) (now (text .exit)) ⌝ }
+fn read_file(name: &[u8], text: &mut [u8]) -> Read
+    ensures { λ r. ⌜ Counts (r .count) (now (text .exit)) ⌝ }
 {
     let fd = os::open_read(name);
     if fd < 0 {
         words::unread(name);
         return failed();
     }
-    let input = read_text(fd, text);
-    if input.failed {
+    let read = read_text(fd, text);
+    if read.failed {
         words::unread(name);
     }
     libc::close(fd);
-    input
+    read
 }
 
 // Reads until the input ends or the text is full.
-fn read_text(fd: i32, text: &mut [u8]) -> Input
-    ensures { λ r. ⌜ Counts (r .bytes) (now (text .exit)) ⌝ }
+fn read_text(fd: i32, text: &mut [u8]) -> Read
+    ensures { λ r. ⌜ Counts (r .count) (now (text .exit)) ⌝ }
 {
     let mut done: usize = 0;
     while done < text.len() {
@@ -72,39 +98,36 @@ fn read_text(fd: i32, text: &mut [u8]) -> Input
         if more.failed {
             return failed();
         }
-        if more.bytes == 0 {
-            return Input {
-                bytes: done,
-                failed: false,
-            };
+        if more.count == 0 {
+            break;
         }
-        done += more.bytes;
+        done += more.count;
     }
-    Input {
-        bytes: done,
+    Read {
+        count: done,
         failed: false,
     }
 }
 
 // Reads once: no bytes at the end of the input.
-fn read_some(fd: i32, text: &mut [u8]) -> Input
-    ensures { λ r. ⌜ Counts (r .bytes) (now (text .exit)) ⌝ }
+fn read_some(fd: i32, text: &mut [u8]) -> Read
+    ensures { λ r. ⌜ Counts (r .count) (now (text .exit)) ⌝ }
 {
     let got = libc::read(fd, text);
     if got < 0 {
         return failed();
     }
-    Input {
-        bytes: io::count(got, text),
+    Read {
+        count: io::count(got, text),
         failed: false,
     }
 }
 
-fn failed() -> Input
-    ensures { λ r. ⌜ r .bytes ≡ 0 ⌝ }
+fn failed() -> Read
+    ensures { λ r. ⌜ r .count ≡ 0 ⌝ }
 {
-    Input {
-        bytes: 0,
+    Read {
+        count: 0,
         failed: true,
     }
 }

@@ -3,7 +3,7 @@ use crate::arguments;
 use crate::arguments::Piece;
 use libc::STDOUT_FILENO;
 
-// Options that are not for people stand in no line: those that whoever starts the program gives it (options.rt of the program).
+// Options that are not for people stand in no line: those that whoever starts the program gives it (options.rt).
 pub fn usage() -> bool {
     io::write_all(
         STDOUT_FILENO,
@@ -37,22 +37,18 @@ pub fn version(proved: Piece) -> bool {
 
 fn logic(proved: Piece) -> bool {
     if proved.at == 0 {
-        return unnamed();
+        return named(b"");
     }
-    let mut own = [0u8; arguments::ROOM];
+    let mut own = arguments::room();
     let n = os::arg(proved.at, &mut own);
     named(arguments::tail(&own[..n], proved.from))
 }
 
 fn named(text: &[u8]) -> bool {
     if text.len() == 0 {
-        return unnamed();
+        return io::write_all(STDOUT_FILENO, b": not named by what started the program\n");
     }
     io::write_all(STDOUT_FILENO, b" ")
         && io::write_all(STDOUT_FILENO, text)
         && io::write_all(STDOUT_FILENO, b"\n")
-}
-
-fn unnamed() -> bool {
-    io::write_all(STDOUT_FILENO, b": not named by what started the program\n")
 }

@@ -7,8 +7,37 @@ use crate::lists;
 use libc::STDERR_FILENO;
 use text::Number;
 
+// The ways in which arguments can be wrong, by their lines in `misuse`.
+pub const TOO_LONG: usize = 0;
+
+pub const UNKNOWN: usize = 1;
+
+pub const TWICE: usize = 2;
+
+pub const NO_LIST: usize = 3;
+
+pub const NO_DESCRIPTOR: usize = 4;
+
+pub const ONE_TOO_MANY: usize = 5;
+
+pub const NO_ROW: usize = 6;
+
+pub const FILE_MISSING: usize = 7;
+
+pub const LIST_MISSING: usize = 8;
+
+pub const DESCRIPTOR_MISSING: usize = 9;
+
+pub const TEXT_MISSING: usize = 10;
+
+pub const NOT_WITH: usize = 11;
+
+pub const NAME_EMPTY: usize = 12;
+
+pub const STANDARD_INPUT: usize = 13;
+
 // A misuse: the option or word that it is about, the piece of an argument that is wrong, 0 for each that there is none of, and in which way.
-pub fn misuse(of: usize, wrong: Piece, way: &[u8]) {
+pub fn misuse(of: usize, wrong: Piece, way: usize) {
     say(b"keravnoth: ");
     if of > 0 {
         show(arguments::whole(of), b'=');
@@ -17,7 +46,23 @@ pub fn misuse(of: usize, wrong: Piece, way: &[u8]) {
     if wrong.at > 0 {
         quote(wrong);
     }
-    say(way);
+    say(lists::line(
+        b"is too long to be read\n\
+        is not known\n\
+        given twice\n\
+        is no list of borders, as 0,3,7 is\n\
+        is no descriptor\n\
+        is one word too many\n\
+        is no row\n\
+        the file is missing\n\
+        the list is missing\n\
+        the descriptor is missing\n\
+        the text is missing\n\
+        does not go with it\n\
+        the file's name is empty\n\
+        is standard input, which has the table\n",
+        way,
+    ));
     say(b"; see keravnoth --help\n");
 }
 
@@ -32,7 +77,7 @@ const SHOWN_MOST: usize = 64;
 
 // The piece up to a byte that ends it. One that is long, or that would not stay on the line, is cut.
 fn show(piece: Piece, stop: u8) {
-    let mut own = [0u8; arguments::ROOM];
+    let mut own = arguments::room();
     os::arg(piece.at, &mut own);
     show_text(arguments::tail(&own, piece.from), stop);
 }
@@ -66,9 +111,17 @@ pub fn unread(name: &[u8]) {
     os::fail(name);
 }
 
-// One line for a refusal, by its number, place and byte (01, "When the table is turned away"; 02, E2, E3, E5, E6, E10 and E13). 1 and 9 have more than
-// one meaning: see below.
-pub fn refusal(number: u64, place: u64, byte: u64) {
+// One line for a refusal, by its number, place and byte (01, "When the table is turned away"; 02, E2, E3, E5, E6, E10 and E13), the table's text, and
+// how long those are that go with it: 1 and 9 have more than one meaning.
+pub fn refusal(number: u64, place: u64, byte: u64, text: &[u8], sheet: usize, file: usize) {
+    match number {
+        1 => too_long(sheet, file),
+        9 => no_corners(place, text),
+        _ => meaning(number, place, byte),
+    }
+}
+
+fn meaning(number: u64, place: u64, byte: u64) {
     say_line(
         b"line # has the wrong form, kind, index or field count, is missing, has no LF, or is extra: look at its letter, index, tabs, LF and stray bytes (a CR, a BOM, a blank)\n\
         line # has a value outside its range (also a zone or hub that does not exist, or two equal ones; in line 1 a count or the default of R): compare its fields with the ranges in docs/GUIDE.md\n\
@@ -99,7 +152,7 @@ fn refusal_line(number: u64, place: u64) -> usize {
 }
 
 // 1: which text is too long, by the bytes of those that go with the table. They are looked at before it.
-pub fn too_long(sheet: usize, file: usize) {
+fn too_long(sheet: usize, file: usize) {
     say_line(
         b"the file has more than 65,536 bytes: give the rows, or the claims, of one hour alone\n\
         the correction sheet has more than 65,536 bytes: give the changed rows of one hour alone\n\
@@ -121,32 +174,28 @@ fn long_text(sheet: usize, file: usize) -> usize {
 }
 
 // 9: which of its two causes it is (02, E1), by the table's border count.
-pub fn no_corners(place: u64, text: &[u8]) {
+fn no_corners(place: u64, text: &[u8]) {
     say_line(
         b"no corner sheet: the table has no row #: ask for a row that it has, from 0 on\n\
         no corner sheet: the table has # borders, and a sheet has 12 at most: take borders out\n",
-        too_many(borders_in(text)),
+        too_many(text),
         place,
         0,
     )
 }
 
-fn too_many(borders: u64) -> usize {
+// Whether the second number of a good table's first line is too large for a sheet.
+fn too_many(text: &[u8]) -> usize {
+    let Number::Value(_, next) = text::field::number_at(text, 2, b'\t') else {
+        return 0;
+    };
+    let Number::Value(borders, _) = text::field::number_at(text, next, b'\t') else {
+        return 0;
+    };
     if borders > corners::BORDERS_MOST as u64 {
         return 1;
     }
     0
-}
-
-// The second number of a good table's first line.
-fn borders_in(text: &[u8]) -> u64 {
-    let Number::Value(_, next) = text::field::number_at(text, 2, b'\t') else {
-        return 0;
-    };
-    match text::field::number_at(text, next, b'\t') {
-        Number::Value(borders, _) => borders,
-        Number::Bad(_) => 0,
-    }
 }
 
 // 2 and 3 of the sheet of rows that goes with a good table.

@@ -2,31 +2,35 @@
 // What a refusal means, and that reading or writing failed, is said on standard error: a table that was not read to its end is not answered.
 // Whoever starts the program gives it two options that are not for people: with `--status-fd N` its last word is its status, on descriptor N;
 // `--proved TEXT` is what `--version` says that it was proved in.
-mod options;
-
 ghost use Prim.Native.Nat.{_≤_};
 ghost use lib.ListN.{length};
+ghost use Rattle.io.specs.Counts.{Counts};
 ghost use Rattle.printing.specs.Room.{sheetRoom};
-use command::MARKS_ROOM;
-use command::TEXT_ROOM;
+use asked::Asked;
 use command::arguments;
 use command::arguments::Piece;
 use command::arguments::whole;
-use command::asked;
-use command::asked::Asked;
 use command::input;
+use command::input::Text;
+use command::options;
+use command::options::Command;
 use command::usage;
 use command::words;
-use options::Command;
 use printing::output::Ended;
-use printing::sheets;
 use printing::tasks;
 use printing::tasks::Task;
 
 fn main() {
     let command = options::read_arguments();
-    let ended = obey(command);
-    tell(command.status, ended)
+    options::tell(command.status, digit(obey(command)))
+}
+
+fn digit(ended: Ended) -> u8 {
+    match ended {
+        Ended::Answered => b'0',
+        Ended::Refused(_, _, _) => b'1',
+        Ended::Failed => b'2',
+    }
 }
 
 fn obey(command: Command) -> Ended {
@@ -34,11 +38,24 @@ fn obey(command: Command) -> Ended {
         return Ended::Failed;
     }
     match asked::understand(command.word, command.after) {
-        Asked::Task(task) => run(task, command),
-        Asked::Help => written(usage::usage()),
-        Asked::Version => written(usage::version(command.proved)),
-        _ => Ended::Failed,
+        Asked::Task(task) => obey_task(task, command),
+        Asked::Help => about(command, false),
+        Asked::Version => about(command, true),
+        Asked::Wrong(of, wrong, way) => {
+            words::misuse(of, whole(wrong), way);
+            Ended::Failed
+        }
     }
+}
+
+fn about(command: Command, version: bool) -> Ended {
+    if !options::alone(command) {
+        return Ended::Failed;
+    }
+    if version {
+        return written(usage::version(command.proved));
+    }
+    written(usage::usage())
 }
 
 fn written(all: bool) -> Ended {
@@ -54,92 +71,58 @@ fn unwritten() {
     os::fail(b"keravnoth: writing");
 }
 
-fn run(task: Task, command: Command) -> Ended {
-    let mut text = [0u8; TEXT_ROOM];
-    let mut sheet = [0u8; TEXT_ROOM];
-    let mut file = [0u8; TEXT_ROOM];
-    let mut marks = [0u64; MARKS_ROOM];
-    let mut out = [0u8; sheets::ROOM];
-    run_in(
-        task,
-        command,
-        &mut text,
-        &mut sheet,
-        &mut file,
-        &mut marks,
-        &mut out,
-    )
-}
-
-// The memory is made in `run`, and not here, where goals would spell it out. First the files that arguments name are read, the corrections ..
-fn run_in(
-    task: Task,
-    command: Command,
-    text: &mut [u8],
-    sheet: &mut [u8],
-    file: &mut [u8],
-    marks: &mut [u64],
-    out: &mut [u8],
-) -> Ended
-    requires { ⌜ sheetRoom ≤ length (now out) ⌝ }
-{
-    let corrections = input::named(command.corrections, sheet);
-    if corrections.failed {
+// First the files that arguments name are read, the corrections and what goes with the word, and then the table.
+fn obey_task(task: Task, command: Command) -> Ended {
+    if !fits(task, command) {
         return Ended::Failed;
     }
-    let n = corrections.bytes;
-    run_corrected(task, command, text, &sheet[..n], file, marks, out)
-}
-
-// .. and what goes with the word; ..
-fn run_corrected(
-    task: Task,
-    command: Command,
-    text: &mut [u8],
-    sheet: &[u8],
-    file: &mut [u8],
-    marks: &mut [u64],
-    out: &mut [u8],
-) -> Ended
-    requires { ⌜ sheetRoom ≤ length (now out) ⌝ }
-{
-    let with = input::named(whole(asked::file_of(task, command.after)), file);
-    if with.failed {
+    let sheet = input::named(command.corrections);
+    if sheet.failed {
         return Ended::Failed;
     }
-    let n = with.bytes;
-    run_with(task, command.marks, text, sheet, &file[..n], marks, out)
-}
-
-// .. and then the table.
-fn run_with(
-    task: Task,
-    list: Piece,
-    text: &mut [u8],
-    sheet: &[u8],
-    file: &[u8],
-    marks: &mut [u64],
-    out: &mut [u8],
-) -> Ended
-    requires { ⌜ sheetRoom ≤ length (now out) ⌝ }
-{
-    let table = input::standard(text);
+    let file = input::named(whole(asked::file_of(task, command.after)));
+    if file.failed {
+        return Ended::Failed;
+    }
+    let table = input::standard();
     if table.failed {
         return Ended::Failed;
     }
-    let n = table.bytes;
-    let listed = arguments::list(list, marks);
+    print(task, command.marks, table, sheet, file)
+}
+
+// Whether what is given goes with the task.
+fn fits(task: Task, command: Command) -> bool {
+    (asked::takes_marks(task) || options::without(command.word, command.marks))
+        && options::can_correct(command.corrections)
+        && options::can_read(command.word, whole(asked::file_of(task, command.after)))
+}
+
+fn print(task: Task, list: Piece, table: Text, sheet: Text, file: Text) -> Ended
+    requires { ⌜ Counts (table .count) (table .bytes) ⌝ }
+    requires { ⌜ Counts (sheet .count) (sheet .bytes) ⌝ }
+    requires { ⌜ Counts (file .count) (file .bytes) ⌝ }
+{
+    let listed = arguments::list(list);
     let m = listed.count;
+    let marks = listed.numbers;
+    let n = table.count;
+    let text = table.bytes;
+    let k = sheet.count;
+    let rows = sheet.bytes;
+    let f = file.count;
+    let with = file.bytes;
+    let mut out = asked::room();
     let ended = tasks::print(
         task,
         list.at == 0,
         &marks[..m],
-        file,
+        &with[..f],
         &text[..n],
-        sheet,
-        out,
+        &rows[..k],
+        &mut out,
     );
-    explain(task, ended, &text[..n], sheet, file, out)
+    explain(task, ended, &text[..n], &rows[..k], f, &mut out)
 }
 
 // Says on standard error what people need to know.
@@ -148,7 +131,7 @@ fn explain<'a>(
     ended: Ended,
     text: &'a [u8],
     sheet: &'a [u8],
-    file: &[u8],
+    file: usize,
     out: &mut [u8],
 ) -> Ended
     requires { ⌜ sheetRoom ≤ length (now out) ⌝ }
@@ -156,71 +139,23 @@ fn explain<'a>(
     match ended {
         Ended::Answered => {}
         Ended::Refused(number, place, byte) => {
-            explain_refusal(task, number, place, byte, text, sheet, file, out)
+            if of_rows(task, number, text, sheet, out) {
+                words::of_rows(number, place, byte)
+            } else {
+                words::refusal(number, place, byte, text, sheet.len(), file)
+            }
         }
         Ended::Failed => unwritten(),
     }
     ended
 }
 
-// The E line tells neither a text from another, nor the two causes of 9.
-fn explain_refusal<'a>(
-    task: Task,
-    number: u64,
-    place: u64,
-    byte: u64,
-    text: &'a [u8],
-    sheet: &'a [u8],
-    file: &[u8],
-    out: &mut [u8],
-)
+// The E line does not tell a text from another: where the table itself is good, 2 and 3 mean the sheet of rows after the word.
+fn of_rows<'a>(task: Task, number: u64, text: &'a [u8], sheet: &'a [u8], out: &mut [u8]) -> bool
     requires { ⌜ sheetRoom ≤ length (now out) ⌝ }
 {
-    match number {
-        1 => words::too_long(sheet.len(), file.len()),
-        2..=3 => explain_line(task, number, place, byte, text, sheet, out),
-        9 => words::no_corners(place, text),
-        _ => words::refusal(number, place, byte),
+    if number != 2 && number != 3 {
+        return false;
     }
-}
-
-// Where the table itself is good, the sheet of rows after the word is meant.
-fn explain_line<'a>(
-    task: Task,
-    number: u64,
-    place: u64,
-    byte: u64,
-    text: &'a [u8],
-    sheet: &'a [u8],
-    out: &mut [u8],
-)
-    requires { ⌜ sheetRoom ≤ length (now out) ⌝ }
-{
-    if !asked::takes_file(task) {
-        return words::refusal(number, place, byte);
-    }
-    if !tasks::table_good(text, sheet, out) {
-        return words::refusal(number, place, byte);
-    }
-    words::of_rows(number, place, byte)
-}
-
-// Writes the status, a digit on a line, to the descriptor that is given: a program of this language has no exit status, so whoever starts it
-// hands this on.
-fn tell(given: Piece, ended: Ended) {
-    if given.at == 0 {
-        return;
-    }
-    let fd = arguments::descriptor(given);
-    match ended {
-        Ended::Answered => tell_digit(fd, b"0\n"),
-        Ended::Refused(_, _, _) => tell_digit(fd, b"1\n"),
-        Ended::Failed => tell_digit(fd, b"2\n"),
-    }
-}
-
-fn tell_digit(fd: i32, line: &[u8]) {
-    if !io::write_all(fd, line) {
-        os::fail(b"keravnoth: status");
-    }
+    asked::file_of(task, 1) > 0 && tasks::table_good(text, sheet, out)
 }

@@ -35,9 +35,9 @@ read-text-spec =
     (λ c. omega arith)
     (λ c. search needs)
     (λ c. omega arith)
+    (λ c. omega arith)
+    (λ c. omega arith)
+    (λ c. omega arith)
     returns-2
-    (λ c. omega arith)
-    (λ c. omega arith)
-    (λ c. omega arith)
     (λ c. omega arith)
     returns-3)

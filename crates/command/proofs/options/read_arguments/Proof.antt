@@ -1,8 +1,8 @@
--- `keravnoth::options::read_arguments` is safe and ends. Nothing need be known of the command; the measure is the number of arguments left.
+-- `command::options::read_arguments` is safe and ends. Nothing need be known of the command; the measure is the number of arguments left.
 use Prim.Native.Nat.{_-_}
 use native.Mathlib.Omega.{arith}
-use Rattle.keravnoth.proofs.options.read_arguments.Statement.{statement}
-use Rattle.keravnoth.proofs.options.read_arguments.Tie as tie
+use Rattle.command.proofs.options.read_arguments.Statement.{statement}
+use Rattle.command.proofs.options.read_arguments.Tie as tie
 
 abbrev Inv-loop : tie.InvT-loop
 Inv-loop count command₀ i₀ command i = Unit {0}
@@ -25,8 +25,8 @@ take-requires c κs = tt
 loop-again : tie.Need-loop-again Inv-loop μ-loop
 loop-again c = tt
 
-judge-requires : tie.Need-judge-requires Inv-loop μ-loop
-judge-requires c κs = tt
+complete-requires : tie.Need-complete-requires Inv-loop μ-loop
+complete-requires c κs = tt
 
 returns : tie.Need-returns Inv-loop μ-loop
 returns c = tt
@@ -44,5 +44,5 @@ read-arguments-spec =
     (λ c. omega arith)
     (λ c. omega arith)
     loop-again
-    judge-requires
+    complete-requires
     returns)
