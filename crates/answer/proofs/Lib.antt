@@ -1,5 +1,4 @@
 pub mod OutcomeLaws
-pub mod ReadLaws
 pub mod Demand
 pub mod EveryMark
 pub mod Unique

@@ -1,5 +1,5 @@
 -- No second answer, and no second content of the lent bytes, satisfies the contract of `result_text` or of `answer`, of one of them with marks
--- or with a correction sheet, or of `answer_lent` or `write_refusal`, which crates above call.
+-- or with a correction sheet, or of `answer_good` or `write_refusal`, which crates above call.
 -- The theorems are about the contracts as the check reads them from the source (`reads.Post`), and not about copies.
 use mathlib.Core.Path.{_≡_}
 use contract.Lifetimes.{Lfts}
@@ -23,9 +23,9 @@ use Rattle.answer.proofs.answer_marked.Reads as answer-marked-reads
 use Rattle.answer.proofs.answer_corrected as answer-corrected
 use Rattle.answer.proofs.answer_corrected.Kinds as answer-corrected-kinds
 use Rattle.answer.proofs.answer_corrected.Reads as answer-corrected-reads
-use Rattle.answer.proofs.answer_lent as answer-lent
-use Rattle.answer.proofs.answer_lent.Kinds as answer-lent-kinds
-use Rattle.answer.proofs.answer_lent.Reads as answer-lent-reads
+use Rattle.answer.proofs.answer_good as answer-good
+use Rattle.answer.proofs.answer_good.Kinds as answer-good-kinds
+use Rattle.answer.proofs.answer_good.Reads as answer-good-reads
 use Rattle.answer.proofs.write_refusal as write-refusal
 use Rattle.answer.proofs.write_refusal.Kinds as write-refusal-kinds
 use Rattle.answer.proofs.write_refusal.Reads as write-refusal-reads
@@ -56,9 +56,9 @@ pub answer-corrected-once : (κs : Lfts 2) (x : ArgsD answer-corrected.signature
 answer-corrected-once κs x r r′ s s′ p q = said-once _ _ _ _ _ p q
 
 -- besides the equation these two say how many bytes they ask for at most
-pub answer-lent-once : (κs : Lfts 7) (x : ArgsD answer-lent.signature κs) (r r′ : ResD answer-lent.signature κs) (s s′ : AtExit (endedOf 7 answer-lent-kinds.ps answer-lent-kinds.r) κs)
-    → answer-lent-reads.Post κs x r s → answer-lent-reads.Post κs x r′ s′ → (r ≡ r′) × (now (s .1 .1 .1 .1 .1 .1 .1 .1 .0) ≡ now (s′ .1 .1 .1 .1 .1 .1 .1 .1 .0))
-answer-lent-once κs x r r′ s s′ p q = said-once _ _ _ _ _ (p .0) (q .0)
+pub answer-good-once : (κs : Lfts 7) (x : ArgsD answer-good.signature κs) (r r′ : ResD answer-good.signature κs) (s s′ : AtExit (endedOf 7 answer-good-kinds.ps answer-good-kinds.r) κs)
+    → answer-good-reads.Post κs x r s → answer-good-reads.Post κs x r′ s′ → (r ≡ r′) × (now (s .1 .1 .1 .1 .1 .1 .1 .1 .1 .0) ≡ now (s′ .1 .1 .1 .1 .1 .1 .1 .1 .1 .0))
+answer-good-once κs x r r′ s s′ p q = said-once _ _ _ _ _ (p .0) (q .0)
 
 pub write-refusal-once : (κs : Lfts 1) (x : ArgsD write-refusal.signature κs) (r r′ : ResD write-refusal.signature κs) (s s′ : AtExit (endedOf 1 write-refusal-kinds.ps write-refusal-kinds.r) κs)
     → write-refusal-reads.Post κs x r s → write-refusal-reads.Post κs x r′ s′ → (r ≡ r′) × (now (s .1 .0) ≡ now (s′ .1 .0))

@@ -1,27 +1,36 @@
 // The open calls that answer in text (01, "Result text"): `result_text` of lent tables, and `answer` of a table's text; each with marks too (02, E13),
 // and `answer` with a correction sheet (02, E2).
 // They differ in what becomes of a refusal: `result_text` tells it, and `answer` writes it as the E line.
-mod made;
+mod records;
 
 ghost use mathlib.Core.Path.{_≡_};
+ghost use mathlib.Core.Bool.{true};
 ghost use Prim.Native.Nat.{_*_, _≤_};
 ghost use lib.ListN.{length};
 ghost use Rattle.kinds.specs.Limits.{zonesMost, bordersMost, rowsMost};
 ghost use Rattle.kinds.specs.Refusals.{passed};
 ghost use Rattle.text.specs.Left.{textLeft, textSaid};
-ghost use Rattle.table.specs.Table.{lent};
+ghost use Rattle.table.specs.Table.{lent, front};
+ghost use Rattle.table.specs.Good.{Good};
+ghost use Rattle.extraction.specs.Extraction.{outcomeFor};
 ghost use Rattle.result.specs.Refusal.{refusalText, refusalMost};
 ghost use Rattle.answer.specs.Result.{resultTextFor, resultTextLeft, resultTextMarkedLeft, answerLeft, answerMarkedLeft, answerWithLeft, answerCorrectedLeft};
-ghost use Rattle.answer.specs.Made.{outcomeLent, printed, answerMost, bytesAsked};
-use crate::made::Made;
+ghost use Rattle.answer.specs.Printed.{outcomeSaid, answerMost, bytesAsked};
+use extraction::AtcRecord;
+use extraction::BorderResult;
+use extraction::LeftRecord;
+use extraction::RowResult;
 use kinds::Border;
 use kinds::BorderRecord;
+use kinds::Extracted;
 use kinds::Header;
+use kinds::Judgement;
 use kinds::Read;
 use kinds::Refusal;
 use kinds::Row;
 use kinds::RowRecord;
 use kinds::Written;
+use table::Room;
 
 // The result text of lent tables. Any input has an answer: there is no `requires`.
 pub fn result_text(
@@ -69,10 +78,10 @@ fn result_text_for(
 ) -> Written
     ensures { λ r. ⌜ textSaid r (now (out .exit)) ≡ resultTextFor all (now (marks .entry)) (lent h (now (z .entry)) (now (t .entry)) (now (b .entry)) (now (c .entry)) (now (f .entry))) (now (out .entry)) ⌝ }
 {
-    match made::make(h, z, t, b, c, f, all, marks, out) {
-        Made::Text(written) => written,
-        Made::Refused(w) => Written::Refused(w),
+    if let Judgement::Refused(w) = table::judge(h, z, t, b, c, f, Room::None) {
+        return Written::Refused(w);
     }
+    answer_good(h, z, t, b, c, f, all, marks, false, out)
 }
 
 // The answer to a table's text: the result text, or the E line. Any input has an answer: there is no `requires`.
@@ -146,14 +155,14 @@ fn answer_in<'a>(
     requires { ⌜ (zonesMost ≤ length (now z)) × (zonesMost ≤ length (now t)) × (bordersMost ≤ length (now b)) × (rowsMost ≤ length (now c)) × (rowsMost * zonesMost ≤ length (now f)) ⌝ }
     ensures { λ r. ⌜ textSaid r (now (out .exit)) ≡ answerWithLeft all (now (marks .entry)) (now (text .entry)) (now (sheet .entry)) (now (out .entry)) ⌝ }
 {
-    match reading::read_corrected(text, sheet, z, t, b, c, f) {
-        Read::Table(h) => answer_lent(h, z, t, b, c, f, all, marks, out),
+    match reading::read_into(text, sheet, z, t, b, c, f) {
+        Read::Table(h) => answer_good(h, z, t, b, c, f, all, marks, true, out),
         Read::Refused(w) => write_refusal(w, out),
     }
 }
 
-// The answer to lent tables, and how many bytes it asks for at most.
-pub fn answer_lent(
+// The answer to a good table, as it was lent; where a refusal is written as the E line, also how many bytes it asks for at most.
+pub fn answer_good(
     h: Header,
     z: &[i64],
     t: &[i64],
@@ -162,13 +171,69 @@ pub fn answer_lent(
     f: &[i64],
     all: bool,
     marks: &[u64],
+    line: bool,
     out: &mut [u8],
 ) -> Written
-    ensures { λ r. ⌜ (textSaid r (now (out .exit)) ≡ textLeft (passed (printed (outcomeLent all (now (marks .entry)) (lent h (now (z .entry)) (now (t .entry)) (now (b .entry)) (now (c .entry)) (now (f .entry)))))) (now (out .entry))) × (bytesAsked r ≤ answerMost) ⌝ }
+    requires { ⌜ Good (front (lent h (now z) (now t) (now b) (now c) (now f))) ⌝ }
+    ensures { λ r. ⌜ textSaid r (now (out .exit)) ≡ textLeft (outcomeSaid line (outcomeFor all (now (marks .entry)) (front (lent h (now (z .entry)) (now (t .entry)) (now (b .entry)) (now (c .entry)) (now (f .entry)))))) (now (out .entry)) ⌝ }
+    ensures { λ r. ⌜ (line ≡ true → bytesAsked r ≤ answerMost) ⌝ }
 {
-    match made::make(h, z, t, b, c, f, all, marks, out) {
-        Made::Text(written) => written,
-        Made::Refused(w) => write_refusal(w, out),
+    let mut p: [u64; Header::ROWS_MOST * Header::BORDERS_MOST] = [0; Header::ROWS_MOST
+        * Header::BORDERS_MOST];
+    let mut atc: [AtcRecord; Header::BORDERS_MOST] =
+        [[0; BorderResult::ITEMS]; Header::BORDERS_MOST];
+    let mut left: [LeftRecord; Header::ROWS_MOST] = [[0; RowResult::ITEMS]; Header::ROWS_MOST];
+    answer_from(
+        h,
+        z,
+        t,
+        b,
+        c,
+        f,
+        all,
+        marks,
+        line,
+        &mut p,
+        &mut atc,
+        &mut left,
+        out,
+    )
+}
+
+// The table of p and the records are made in `answer_good`, and not here, where goals would spell them out.
+fn answer_from(
+    h: Header,
+    z: &[i64],
+    t: &[i64],
+    b: &[BorderRecord],
+    c: &[RowRecord],
+    f: &[i64],
+    all: bool,
+    marks: &[u64],
+    line: bool,
+    p: &mut [u64],
+    atc: &mut [AtcRecord],
+    left: &mut [LeftRecord],
+    out: &mut [u8],
+) -> Written
+    requires { ⌜ Good (front (lent h (now z) (now t) (now b) (now c) (now f))) ⌝ }
+    requires { ⌜ (rowsMost * bordersMost ≤ length (now p)) × (bordersMost ≤ length (now atc)) × (rowsMost ≤ length (now left)) ⌝ }
+    ensures { λ r. ⌜ textSaid r (now (out .exit)) ≡ textLeft (outcomeSaid line (outcomeFor all (now (marks .entry)) (front (lent h (now (z .entry)) (now (t .entry)) (now (b .entry)) (now (c .entry)) (now (f .entry)))))) (now (out .entry)) ⌝ }
+    ensures { λ r. ⌜ (line ≡ true → bytesAsked r ≤ answerMost) ⌝ }
+{
+    match extraction::extract_good(h, z, t, b, c, f, all, marks, p, atc, left) {
+        Extracted::Rounds(rounds) => {
+            let borders = h.borders;
+            let rows = h.rows;
+            records::write_records(&atc[..borders], &left[..rows], rounds, out)
+        }
+        Extracted::Refused(w) => {
+            if line {
+                write_refusal(w, out)
+            } else {
+                Written::Refused(w)
+            }
+        }
     }
 }
 

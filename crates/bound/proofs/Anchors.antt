@@ -12,12 +12,13 @@ use Rattle.kinds.specs.Ranges.{headerFits, allocatedItems, zoneFits, exists, hu
 use Rattle.kinds.specs.Refusals.{Judged, passed, refused, then, unless, refuseAt, refuseFirst, need, badMark, unlimited, belowZero}
 use Rattle.kinds.proofs.RefusalLaws.{passed-is}
 use Rattle.marks.specs.Marks.{markedBy, faultyMark, judgeMarks}
-use Rattle.table.specs.Table.{Table, stretch, balanced, twice, roomFor, judgeShape, judgeLent}
+use Rattle.table.specs.Table.{Table, stretch, balanced, twice, roomFor, judgeShape, judgeFor}
 use Rattle.rounds.specs.Rounds.{sharers, alone, mostSharers, bitsTo, bits, aloneBits}
 use Rattle.margin.specs.Margin.{grains, f0coreOf, fuafOf, baseOf, amrOf, signedFactor, pOf, ltaKw, sOf, ltaMarginOf, ramOf, ramAt}
 use Rattle.states.specs.States.{highest, lowest, spreadOf, shifted, below, stateOf}
+use Rattle.states.specs.Rows.{rowsOf}
 use Rattle.start.specs.Setup.{gridBy, beginBy, judgeBy}
-use Rattle.start.specs.Start.{rowsOf, kept, setupWith}
+use Rattle.start.specs.Start.{kept, setupWith}
 use Rattle.tight.specs.declared.RoundsMost.{RoundsMost}
 use Rattle.tight.specs.Tight.{shareUp, cut, stepsWithin, steps, rowReach, reach, farthest, tightBound}
 use Rattle.tight.specs.Measure.{boundBy}
@@ -74,7 +75,7 @@ pub record Anchors : Type 0 where
   pub no-room : boundFor false (0 ∷ []) (small (pos 0)) ≡ most 1 0 0 0
 
 pub anchors : Anchors
-unfolding ifZero sum count largest lesser least orZero table firstFrom given maxℤ minℤ positivePart sameℤ sumℤ inside headerFits allocatedItems zoneFits exists hubsFit hubsOf borderFits borderOf shareOf rowOf rowFits factorFits worth defaultOf then unless refuseAt refuseFirst need markedBy faultyMark judgeMarks stretch balanced twice roomFor judgeShape judgeLent sharers alone mostSharers bitsTo bits aloneBits grains f0coreOf fuafOf baseOf amrOf signedFactor pOf ltaKw sOf ltaMarginOf ramOf ramAt highest lowest spreadOf shifted below stateOf gridBy beginBy judgeBy rowsOf kept setupWith shareUp cut stepsWithin steps rowReach reach farthest tightBound boundBy boundMarked boundFor
+unfolding ifZero sum count largest lesser least orZero table firstFrom given maxℤ minℤ positivePart sameℤ sumℤ inside headerFits allocatedItems zoneFits exists hubsFit hubsOf borderFits borderOf shareOf rowOf rowFits factorFits worth defaultOf then unless refuseAt refuseFirst need markedBy faultyMark judgeMarks stretch balanced twice roomFor judgeShape judgeFor sharers alone mostSharers bitsTo bits aloneBits grains f0coreOf fuafOf baseOf amrOf signedFactor pOf ltaKw sOf ltaMarginOf ramOf ramAt highest lowest spreadOf shifted below stateOf gridBy beginBy judgeBy rowsOf kept setupWith shareUp cut stepsWithin steps rowReach reach farthest tightBound boundBy boundMarked boundFor
 anchors = record { worked = refl; marked = refl; no-mark = refl; no-border = refl; free = refl; low = refl; no-room = refl }
 
 -- ---- the statement

@@ -2,27 +2,31 @@
 use mathlib.Core.Path.{_≡_, refl, sym, ap, ap₂, _∙_}
 use mathlib.Core.Bool.{Bool, true}
 use mathlib.Core.List.{List, []}
-use Prim.Native.Nat.{ℕ, _+_, _*_, _<_}
+use Prim.Native.Nat.{ℕ, _+_, _*_, _≤_, _<_}
 use native.Mathlib.Omega.{arith}
 use lib.IntN.{ℤ}
-use lib.ListN.{length}
+use lib.ListN.{length, take}
 use Rattle.numbers.specs.Below.{at}
 use Rattle.numbers.proofs.BelowLaws.{table-long}
 use Rattle.kinds.specs.declared.Judgement.{Judgement}
 use Rattle.kinds.specs.declared.Judgement.the-variants.{Passed, Refused}
 use Rattle.kinds.specs.declared.Refusal.{Refusal}
 use Rattle.kinds.specs.Answers.{ruled}
+use Rattle.kinds.specs.Limits.{bordersMost}
 use Rattle.kinds.specs.Refusals.{Judged, passed, refused, then}
 use Rattle.kinds.proofs.RefusalLaws.{then-next, then-refused}
-use Rattle.marks.specs.Marks.{judgeAsked, mayRise}
-use Rattle.marks.proofs.MarkLaws.{asked-then}
+use Rattle.marks.specs.Marks.{judgeAsked, mayRise, flagsOf, flagged}
+use Rattle.marks.proofs.MarkLaws.{asked-then, flags-tell}
+use Rattle.table.specs.declared.Room.the-variants.{None}
 use Rattle.table.specs.Table.{Table, front, judgeLent}
 use Rattle.table.specs.Good.{Good}
+use Rattle.table.proofs.GoodLaws.{told-judged}
 use Rattle.rounds.specs.Work.{flat}
 use Rattle.margin.specs.Bounds.{startBits}
 use Rattle.margin.proofs.Small.{named-values-small}
+use Rattle.states.specs.Rows.{rowsOf}
 use Rattle.start.specs.Setup.{gridBy, beginBy}
-use Rattle.start.specs.Start.{rowsOf, kept, gridMarked, tableStart, judgeMarked, setupOf, setupWith}
+use Rattle.start.specs.Start.{kept, gridMarked, tableStart, judgeMarked, setupOf, setupWith}
 use Rattle.start.specs.Filled.{cells}
 use Rattle.start.proofs.StartLaws.{cells-at, PreparedAs}
 use Rattle.start.proofs.SameMarks.{p-marks, judge-marks}
@@ -31,7 +35,7 @@ use Rattle.tight.specs.declared.RoundsMost.{RoundsMost}
 use Rattle.tight.specs.Measure.{boundBy}
 use Rattle.tight.specs.Pass.{Small}
 use Rattle.tight.proofs.SameLaws.{same-bound}
-use Rattle.bound.specs.Bound.{boundOf, boundMarked, boundFor}
+use Rattle.bound.specs.Bound.{boundOf, boundMarked, boundAsked, boundFor}
 
 -- ---- a judged table
 module _ {marked : ℕ → Bool} {t : Table} {r : Judgement} {rams starts : List ℤ} {states : List ℕ} (said : PreparedAs marked t r rams starts states) where
@@ -80,31 +84,25 @@ module _ (m m′ : ℕ → Bool) (t : Table) (e : (b : ℕ) → b < t .header .b
   unfolding boundMarked
   marked-agree = ap₂ (λ (j : Judged (List ℕ)) (b : RoundsMost). then j (λ states. passed b)) judge-agree bound-agree
 
--- ---- lent tables
-pub past-judge : (given : Table) (r : Judgement) → ruled r (front given) ≡ judgeLent given → r ≡ Passed → judgeLent given ≡ passed (front given)
-past-judge given r said ok = sym said ∙ ap (λ (j : Judgement). ruled j (front given)) ok
-
+-- ---- which judgement decides: of lent tables ..
 module _ (all : Bool) (marks : List ℕ) (given : Table) (r : Judgement) (said : ruled r (front given) ≡ judgeLent given) where
-  pub table-refused : (w : Refusal) → r ≡ Refused w → refused w ≡ boundFor all marks given
+  pub lent-refused : (w : Refusal) → r ≡ Refused w → refused w ≡ boundFor all marks given
   unfolding boundFor
-  table-refused w e = sym (then-refused _ (sym said ∙ ap (λ (j : Judgement). ruled j (front given)) e))
+  lent-refused w e = sym (then-refused _ (sym said ∙ ap (λ (j : Judgement). ruled j (front given)) e))
 
-  module _ (ok : r ≡ Passed) where
-    abbrev next : Judged RoundsMost
-    next = boundMarked (mayRise all marks) (front given)
+  pub lent-bound : r ≡ Passed → boundAsked all marks (front given) ≡ boundFor all marks given
+  unfolding boundFor
+  lent-bound e = sym (then-next _ (told-judged None given r said e))
 
-    past-table : boundFor all marks given ≡ judgeAsked all (given .header .borders) marks next
-    unfolding boundFor
-    past-table = then-next _ (past-judge given r said ok)
+-- .. and of a table, as it was asked for: the marks, and then the bound of the borders that the flags tell
+module _ (all : Bool) (marks : List ℕ) (t : Table) (j : Judgement) (told : ruled j marks ≡ judgeAsked all (t .header .borders) marks (passed marks)) where
+  pub marks-refused : (w : Refusal) → j ≡ Refused w → refused w ≡ boundAsked all marks t
+  marks-refused w e = sym (sym (asked-then all (t .header .borders) marks marks _) ∙ then-refused _ (sym told ∙ ap (λ (v : Judgement). ruled v marks) e))
 
-    module _ (q : Judgement) (told : ruled q marks ≡ judgeAsked all (given .header .borders) marks (passed marks)) where
-      pub marks-refused : (w : Refusal) → q ≡ Refused w → refused w ≡ boundFor all marks given
-      marks-refused w e =
-          sym (past-table ∙ sym (asked-then all (given .header .borders) marks marks next) ∙ then-refused _ (sym told ∙ ap (λ (j : Judgement). ruled j marks) e))
-
-      pub marks-passed : q ≡ Passed → next ≡ boundFor all marks given
-      marks-passed e =
-          sym (past-table ∙ sym (asked-then all (given .header .borders) marks marks next) ∙ then-next _ (sym told ∙ ap (λ (j : Judgement). ruled j marks) e))
+  pub marks-passed : j ≡ Passed → t .header .borders ≤ bordersMost → {flags : List ℕ} → flags ≡ flagsOf bordersMost all marks → boundMarked (flagged (take (t .header .borders) flags)) t ≡ boundAsked all marks t
+  marks-passed e few {flags} f =
+      marked-agree (flagged (take (t .header .borders) flags)) (mayRise all marks) t (flags-tell all marks (t .header .borders) f few)
+      ∙ sym (sym (asked-then all (t .header .borders) marks marks _) ∙ then-next _ (sym told ∙ ap (λ (v : Judgement). ruled v marks) e))
 
 -- with no list, no marks are looked at
 pub none-looked-at : (marks : List ℕ) (given : Table) → boundFor true marks given ≡ boundFor true [] given

@@ -21,9 +21,13 @@ boundOf marked t = boundBy (gridMarked marked t) (tableStart t .margins)
 unfoldable pub boundMarked : (marked : ℕ → Bool) → Table → Judged RoundsMost
 boundMarked marked t = then (judgeMarked marked t) (λ states. passed (boundOf marked t))
 
--- lent tables are judged as for the extraction, which asks for room besides: header, lengths, records, then the marks (13)
+-- .. and before them the marks (13)
+abbrev pub boundAsked : (all : Bool) → (marks : List ℕ) → Table → Judged RoundsMost
+boundAsked all marks t = judgeAsked all (t .header .borders) marks (boundMarked (mayRise all marks) t)
+
+-- lent tables are judged as for the extraction, which asks for room besides: header, lengths, records
 unfoldable pub boundFor : (all : Bool) → (marks : List ℕ) → (given : Table) → Judged RoundsMost
-boundFor all marks given = then (judgeLent given) (λ t. judgeAsked all (t .header .borders) marks (boundMarked (mayRise all marks) t))
+boundFor all marks given = then (judgeLent given) (boundAsked all marks)
 
 -- what each case of the answer says
 abbrev pub saidBounded : Bounded → Judged RoundsMost

@@ -6,9 +6,9 @@ ghost use mathlib.Core.List.{[]};
 ghost use Prim.Native.Nat.{_*_};
 ghost use lib.ListN.{length};
 ghost use Rattle.marks.specs.Marks.{flagged};
-ghost use Rattle.table.specs.Table.{lent};
+ghost use Rattle.table.specs.Table.{lent, front};
 ghost use Rattle.table.specs.Good.{Good};
-ghost use Rattle.bound.specs.Bound.{boundMarked, boundFor, saidBounded};
+ghost use Rattle.bound.specs.Bound.{boundMarked, boundAsked, boundFor, saidBounded};
 use kinds::BorderRecord;
 use kinds::Header;
 use kinds::Judgement;
@@ -65,44 +65,33 @@ pub fn bound_for(
 ) -> Bounded
     ensures { λ r. ⌜ saidBounded r ≡ boundFor all (now (marks .entry)) (lent h (now (z .entry)) (now (t .entry)) (now (b .entry)) (now (c .entry)) (now (f .entry))) ⌝ }
 {
-    if let Judgement::Refused(w) = table::judge(h, z, t, b, c, f) {
+    if let Judgement::Refused(w) = table::judge(h, z, t, b, c, f, table::Room::None) {
         return Bounded::Refused(w);
     }
-    let borders = h.borders;
-    if let Judgement::Refused(w) = marks::judge_asked(all, borders, marks) {
-        return Bounded::Refused(w);
-    }
-    let flags = marks::chosen(all, marks);
-    let zones = h.zones;
-    let allocated = h.allocated_items();
-    let rows = h.rows;
-    bound_judged(
-        h,
-        &z[..zones],
-        &t[..allocated],
-        &b[..borders],
-        &c[..rows],
-        &f[..rows * zones],
-        &flags[..borders],
-    )
+    bound_good(h, z, t, b, c, f, all, marks)
 }
 
-// A judged table. The room to work in is made here, and not in `bound_in`, whose goals would spell it out.
-fn bound_judged(
+// .. of a good table: 13, and then the bound. The room to work in is made here, and not in `bound_in`, whose goals would spell it out.
+pub fn bound_good(
     h: Header,
     z: &[i64],
     t: &[i64],
     b: &[BorderRecord],
     c: &[RowRecord],
     f: &[i64],
-    flags: &[u64],
+    all: bool,
+    marks: &[u64],
 ) -> Bounded
-    requires { ⌜ Good (lent h (now z) (now t) (now b) (now c) (now f)) ⌝ }
-    requires { ⌜ length (now flags) ≡ h .borders ⌝ }
-    ensures { λ r. ⌜ saidBounded r ≡ boundMarked (flagged (now (flags .entry))) (lent h (now (z .entry)) (now (t .entry)) (now (b .entry)) (now (c .entry)) (now (f .entry))) ⌝ }
+    requires { ⌜ Good (front (lent h (now z) (now t) (now b) (now c) (now f))) ⌝ }
+    ensures { λ r. ⌜ saidBounded r ≡ boundAsked all (now (marks .entry)) (front (lent h (now (z .entry)) (now (t .entry)) (now (b .entry)) (now (c .entry)) (now (f .entry)))) ⌝ }
 {
+    let borders = h.borders;
+    if let Judgement::Refused(w) = marks::judge_asked(all, borders, marks) {
+        return Bounded::Refused(w);
+    }
+    let flags = marks::chosen(all, marks);
     let rows = h.rows;
-    let cells = rows * h.borders;
+    let cells = rows * borders;
     let mut rams: [i64; Header::ROWS_MOST] = [0; Header::ROWS_MOST];
     let mut starts: [i64; Header::ROWS_MOST] = [0; Header::ROWS_MOST];
     let mut states: [u64; Header::ROWS_MOST] = [0; Header::ROWS_MOST];
@@ -117,7 +106,7 @@ fn bound_judged(
         b,
         c,
         f,
-        flags,
+        &flags[..borders],
         &mut rams[..rows],
         &mut starts[..rows],
         &mut states[..rows],
@@ -143,16 +132,20 @@ fn bound_in(
     ns: &mut [u64],
     p: &mut [u64],
 ) -> Bounded
-    requires { ⌜ Good (lent h (now z) (now t) (now b) (now c) (now f)) ⌝ }
+    requires { ⌜ Good (front (lent h (now z) (now t) (now b) (now c) (now f))) ⌝ }
     requires { ⌜ length (now flags) ≡ h .borders ⌝ }
     requires { ⌜ (length (now rams) ≡ h .rows) × (length (now starts) ≡ h .rows) ⌝ }
     requires { ⌜ (length (now states) ≡ h .rows) × (length (now margins) ≡ h .rows) ⌝ }
     requires { ⌜ (length (now ns) ≡ h .rows) × (length (now p) ≡ h .rows * h .borders) ⌝ }
-    ensures { λ r. ⌜ saidBounded r ≡ boundMarked (flagged (now (flags .entry))) (lent h (now (z .entry)) (now (t .entry)) (now (b .entry)) (now (c .entry)) (now (f .entry))) ⌝ }
+    ensures { λ r. ⌜ saidBounded r ≡ boundMarked (flagged (now (flags .entry))) (front (lent h (now (z .entry)) (now (t .entry)) (now (b .entry)) (now (c .entry)) (now (f .entry)))) ⌝ }
 {
     if let Judgement::Refused(w) = start::prepare(h, z, t, b, c, f, flags, rams, starts, states) {
         return Bounded::Refused(w);
     }
-    start::lay_out(h, b, f, flags, starts, states, p, margins);
-    Bounded::Rounds(tight::measure(h.rows, h.borders, p, margins, ns))
+    let borders = h.borders;
+    let rows = h.rows;
+    let ends = &b[..borders];
+    let factors = &f[..rows * h.zones];
+    start::lay_out(h, ends, factors, flags, starts, states, p, margins);
+    Bounded::Rounds(tight::measure(rows, borders, p, margins, ns))
 }

@@ -3,7 +3,7 @@ use mathlib.Core.Bool.{Bool}
 use mathlib.Core.List.{List, [], _∷_}
 use Prim.Native.Char.{code}
 use Prim.Native.Nat.{ℕ, _+_, _*_}
-use Rattle.kinds.specs.Refusals.{passed, then}
+use Rattle.kinds.specs.Refusals.{Judged, passed, then}
 use Rattle.text.specs.Left.{TextLeft, textLeft}
 use Rattle.text.specs.Written.{decimal, lineText}
 use Rattle.table.specs.Table.{Table}
@@ -21,6 +21,10 @@ boundText m = boundLine (m .sharers) (m .bits) (m .rounds) (m .sharp)
 abbrev pub boundMost : ℕ
 boundMost = 6 + 4 * 20
 
+-- .. where the bound is answered
+abbrev pub boundTextOf : Judged RoundsMost → Judged (List ℕ)
+boundTextOf bounded = then bounded (λ m. passed (boundText m))
+
 -- refusals as for the bound, then room for the bytes of the text
 unfoldable pub boundTextLeft : (all : Bool) → (marks : List ℕ) → (given : Table) → (out : List ℕ) → TextLeft
-boundTextLeft all marks given out = textLeft (then (boundFor all marks given) (λ m. passed (boundText m))) out
+boundTextLeft all marks given out = textLeft (boundTextOf (boundFor all marks given)) out

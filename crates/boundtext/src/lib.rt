@@ -5,11 +5,14 @@ ghost use lib.ListN.{length};
 ghost use Rattle.kinds.specs.Refusals.{passed};
 ghost use Rattle.text.specs.Left.{textLeft, textSaid};
 ghost use Rattle.text.specs.Put.{Put};
-ghost use Rattle.table.specs.Table.{lent};
-ghost use Rattle.boundtext.specs.BoundText.{boundLine, boundMost, boundTextLeft};
+ghost use Rattle.table.specs.Table.{lent, front};
+ghost use Rattle.table.specs.Good.{Good};
+ghost use Rattle.bound.specs.Bound.{boundAsked};
+ghost use Rattle.boundtext.specs.BoundText.{boundLine, boundMost, boundTextOf, boundTextLeft};
 use bound::Bounded;
 use kinds::BorderRecord;
 use kinds::Header;
+use kinds::Judgement;
 use kinds::Refusal;
 use kinds::RowRecord;
 use kinds::Written;
@@ -34,7 +37,28 @@ pub fn bound_text(
 ) -> Written
     ensures { λ r. ⌜ textSaid r (now (out .exit)) ≡ boundTextLeft all (now (marks .entry)) (lent h (now (z .entry)) (now (t .entry)) (now (b .entry)) (now (c .entry)) (now (f .entry))) (now (out .entry)) ⌝ }
 {
-    let bounded = bound::bound_for(h, z, t, b, c, f, all, marks);
+    if let Judgement::Refused(w) = table::judge(h, z, t, b, c, f, table::Room::None) {
+        return Written::Refused(w);
+    }
+    bound_text_good(h, z, t, b, c, f, all, marks, out)
+}
+
+// .. of a good table.
+pub fn bound_text_good(
+    h: Header,
+    z: &[i64],
+    t: &[i64],
+    b: &[BorderRecord],
+    c: &[RowRecord],
+    f: &[i64],
+    all: bool,
+    marks: &[u64],
+    out: &mut [u8],
+) -> Written
+    requires { ⌜ Good (front (lent h (now z) (now t) (now b) (now c) (now f))) ⌝ }
+    ensures { λ r. ⌜ textSaid r (now (out .exit)) ≡ textLeft (boundTextOf (boundAsked all (now (marks .entry)) (front (lent h (now (z .entry)) (now (t .entry)) (now (b .entry)) (now (c .entry)) (now (f .entry)))))) (now (out .entry)) ⌝ }
+{
+    let bounded = bound::bound_good(h, z, t, b, c, f, all, marks);
     match bounded {
         Bounded::Refused(w) => Written::Refused(w),
         Bounded::Rounds(most) => {

@@ -7,7 +7,8 @@ use Rattle.numbers.specs.Ints.{sameℤ, inside, sumℤ}
 use Rattle.kinds.specs.Ranges.{exists}
 use Rattle.kinds.specs.Refusals.{passed, refused, refuseAt, refuseFirst, malformedClaim, notBorneOut}
 use Rattle.table.specs.Table.{stretch}
-use Rattle.start.specs.Start.{Rows, kept}
+use Rattle.states.specs.Rows.{Rows}
+use Rattle.start.specs.Start.{kept}
 use Rattle.claims.specs.Claims.{keptRow, claimedIn, citedBefore, pairGood, formedBy, formed, citedSum, ownShare, excess, level, borneOut, judgeClaims}
 
 -- two zones, four kept rows and one that is not. Row 2's factors are the sum of those of rows 0 and 1 and 7000 in each zone, row 3's twice those of row 0

@@ -8,11 +8,12 @@ use Rattle.numbers.specs.Below.{ifZero, sum, table, firstFrom, given}
 use Rattle.numbers.specs.Ints.{minus, maxℤ, minℤ, positivePart, sameℤ, inside, sumℤ}
 use Rattle.kinds.specs.Ranges.{headerFits, allocatedItems, zoneFits, exists, hubsFit, hubsOf, borderFits, borderOf, shareOf, rowOf, rowFits, factorFits, worth, defaultOf}
 use Rattle.kinds.specs.Refusals.{Judged, passed, refused, refusal, then, unless, refuseAt, refuseFirst, need}
-use Rattle.table.specs.Table.{Table, stretch, balanced, twice, roomFor, judgeShape, judgeLent}
+use Rattle.table.specs.Table.{Table, stretch, balanced, twice, roomFor, judgeShape, judgeFor}
 use Rattle.margin.specs.Margin.{grains, f0coreOf, fuafOf, baseOf, amrOf, signedFactor, pOf, ltaKw, sOf, ltaMarginOf, ramOf, ramAt}
 use Rattle.states.specs.States.{highest, lowest, spreadOf, shifted, below, stateOf}
+use Rattle.states.specs.Rows.{Rows, rowsOf}
 use Rattle.start.specs.Setup.{gridBy, judgeBy}
-use Rattle.start.specs.Start.{Rows, rowsOf, kept, every, setupWith, judgeMarked}
+use Rattle.start.specs.Start.{kept, every, setupWith, judgeMarked}
 use Rattle.claims.specs.Claims.{judgeClaims, claimsOf, claimsAnswer}
 
 -- border 0 to 1 with an LTA of 100 MW, so many times, and a row of Fmax 10000 kW with this IVA and factors
@@ -51,5 +52,5 @@ pub record OrderAnchors : Type 0 where
   pub not-seven : claimsAnswer (hour 1 1 (pos 20000 ∷ pos 0 ∷ [])) [] ≡ passed (row 1999900000 0)
 
 pub order-anchors : OrderAnchors
-unfolding ifZero sum table firstFrom given maxℤ minℤ positivePart sameℤ inside sumℤ headerFits allocatedItems zoneFits exists hubsFit hubsOf borderFits borderOf shareOf rowOf rowFits factorFits worth defaultOf then unless refuseAt refuseFirst need stretch balanced twice roomFor judgeShape judgeLent grains f0coreOf fuafOf baseOf amrOf signedFactor pOf ltaKw sOf ltaMarginOf ramOf ramAt highest lowest spreadOf shifted below stateOf gridBy judgeBy rowsOf kept setupWith judgeClaims claimsOf claimsAnswer
+unfolding ifZero sum table firstFrom given maxℤ minℤ positivePart sameℤ inside sumℤ headerFits allocatedItems zoneFits exists hubsFit hubsOf borderFits borderOf shareOf rowOf rowFits factorFits worth defaultOf then unless refuseAt refuseFirst need stretch balanced twice roomFor judgeShape judgeFor grains f0coreOf fuafOf baseOf amrOf signedFactor pOf ltaKw sOf ltaMarginOf ramOf ramAt highest lowest spreadOf shifted below stateOf gridBy judgeBy rowsOf kept setupWith judgeClaims claimsOf claimsAnswer
 order-anchors = record { twice-first = refl; five = refl; not-five = refl; six = refl; not-six = refl; seven = refl; not-seven = refl }

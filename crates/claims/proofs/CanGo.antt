@@ -24,8 +24,9 @@ use Rattle.kinds.proofs.RefusalLaws.{passed-is, none-passed, then-passed}
 use Rattle.table.specs.Table.{Table, front, factorsAt, judgeLent}
 use Rattle.table.proofs.GoodLaws.{judged-front}
 use Rattle.margin.specs.Margin.{ramAt}
-use Rattle.start.specs.Start.{Rows, rowsOf, kept}
-use Rattle.start.proofs.StartLaws.{rows-in}
+use Rattle.states.specs.Rows.{Rows, rowsOf}
+use Rattle.states.proofs.RowsLaws.{rows-in}
+use Rattle.start.specs.Start.{kept}
 use Rattle.claims.specs.Claims.{timesMost, claimedRow, denominator, pairs, citedRow, multiplier, keptRow, claimedIn, formed, citedSum, ownShare, excess, factorAt, level, borneOut, judgeClaims, claimsOf, claimsAnswer, netLoad, Allowed, Same, WholeAllowed, remaining}
 use Rattle.claims.proofs.Outweighed.{outweighed}
 use Rattle.claims.proofs.FormLaws.{claim-formed}

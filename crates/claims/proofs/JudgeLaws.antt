@@ -17,15 +17,15 @@ use Rattle.kinds.specs.Limits.{rowsMost}
 use Rattle.kinds.specs.Ranges.{atℤ}
 use Rattle.kinds.specs.Refusals.{passed, refused, unless, refuseFirst, malformedClaim, notBorneOut}
 use Rattle.kinds.proofs.RefusalLaws.{not-passed, first-found, first-none-next, then-refused, then-next}
+use Rattle.table.specs.declared.Room.the-variants.{None}
 use Rattle.table.specs.Table.{Table, front, judgeLent}
 use Rattle.table.specs.Good.{Good}
 use Rattle.table.proofs.GoodLaws.{told-judged}
 use Rattle.margin.specs.Margin.{ramAt}
 use Rattle.margin.proofs.JudgedLaws.{good-factors}
 use Rattle.margin.proofs.Small as small
-use Rattle.start.specs.Start.{Rows, rowsOf}
-use Rattle.start.specs.Filled.{rowsWith}
-use Rattle.start.proofs.StartLaws.{rows-in}
+use Rattle.states.specs.Rows.{Rows, rowsOf, rowsWith}
+use Rattle.states.proofs.RowsLaws.{rows-in}
 use Rattle.claims.specs.Claims.{claimedRow, formedBy, formed, borneOut, judgeClaims, claimsOf, claimsAnswer}
 use Rattle.claims.specs.Named.{namedRows, noneNamed, flagged, nameRow, judgeClaim}
 use Rattle.claims.specs.Bounds.{Lent, valueMost}
@@ -130,6 +130,6 @@ module _ (given : Table) (claims : List (List ℤ)) (r : Judgement) (said : rule
       ap (λ (j : Judgement). ruled j (rowsOf (front given))) e
       ∙ sym (then-refused _ (sym said ∙ ap (λ (j : Judgement). ruled j (front given)) e))
 
-  pub answer-judged : r ≡ Passed → (j : Judgement) → ruled j (rowsOf (front given)) ≡ claimsOf (front given) claims → ruled j (rowsOf (front given)) ≡ claimsAnswer given claims
+  pub answer-judged : r ≡ Passed → claimsOf (front given) claims ≡ claimsAnswer given claims
   unfolding claimsAnswer
-  answer-judged e j q = q ∙ sym (then-next _ (told-judged given r said e))
+  answer-judged e = sym (then-next _ (told-judged None given r said e))

@@ -15,7 +15,8 @@ use Rattle.kinds.specs.Ranges.{atℤ, exists}
 use Rattle.kinds.specs.Refusals.{Judged, passed, then, refuseFirst, malformedClaim, notBorneOut}
 use Rattle.table.specs.Table.{Table, stretch, factorsAt, judgeLent}
 use Rattle.margin.specs.Margin.{ramAt}
-use Rattle.start.specs.Start.{Rows, rowsOf, kept}
+use Rattle.states.specs.Rows.{Rows, rowsOf}
+use Rattle.start.specs.Start.{kept}
 
 -- the most that D and a multiplier can be, and the most pairs
 abbrev pub timesMost : ℕ

@@ -9,7 +9,7 @@ use Rattle.numbers.specs.Below.{table}
 use Rattle.kinds.specs.Limits.{rowsMost}
 use Rattle.kinds.specs.Ranges.{exists}
 use Rattle.kinds.specs.Refusals.{Judged, passed, unless, malformedClaim, notBorneOut}
-use Rattle.start.specs.Start.{Rows, kept}
+use Rattle.states.specs.Rows.{Rows}
 use Rattle.claims.specs.Claims.{claimedIn, formedBy, borneOut}
 
 -- the rows that the first n claims name

@@ -10,8 +10,7 @@ ghost use Rattle.kinds.specs.Limits.{rowsMost};
 ghost use Rattle.kinds.specs.Ranges.{exists};
 ghost use Rattle.table.specs.Table.{lent, front};
 ghost use Rattle.table.specs.Good.{Good};
-ghost use Rattle.start.specs.Start.{rowsOf};
-ghost use Rattle.start.specs.Filled.{rowsWith};
+ghost use Rattle.states.specs.Rows.{rowsOf, rowsWith};
 ghost use Rattle.claims.specs.Claims.{pairsMost, citedRow, multiplier, pairs, keptRow, citedBefore, pairGood, formedBy, citedSum, excess, level, borneOut, judgeClaims, claimsOf, claimsAnswer};
 ghost use Rattle.claims.specs.Named.{namedRows, noneNamed, flagged, nameRow, judgeClaim};
 ghost use Rattle.claims.specs.Bounds.{ClaimBound, Lent, valueOf};
@@ -288,26 +287,7 @@ fn judge_each(
     Judgement::Passed
 }
 
-// Judges the claims on a judged table, whose RAMs and states are known.
-fn judge_known(
-    h: Header,
-    f: &[i64],
-    rams: &[i64],
-    states: &[u64],
-    claims: &[ClaimRecord],
-) -> Judgement
-    requires { ⌜ Lent (h .rows) (h .zones) 0 (now f) ⌝ }
-    requires { ⌜ Lent (h .rows) 1 0 (now rams) ⌝ }
-    requires { ⌜ (length (now states) ≡ h .rows) × (h .rows ≤ rowsMost) ⌝ }
-    ensures { λ r. ⌜ ruled r (rowsWith (now (rams .entry)) (now (states .entry))) ≡ judgeClaims (h .zones) (now (f .entry)) (rowsWith (now (rams .entry)) (now (states .entry))) (now (claims .entry)) ⌝ }
-{
-    let mut named: [bool; Header::ROWS_MOST] = [false; Header::ROWS_MOST];
-    let mut earlier: [bool; Header::ROWS_MOST] = [false; Header::ROWS_MOST];
-    name_rows(claims, &mut named);
-    judge_each(h, f, rams, states, &named, &mut earlier, claims)
-}
-
-// A judged table: the RAM and the state of each row are found in the lent room, and then the claims are judged.
+// The RAM and the state of each row, the rows that claims name, and then the claims.
 fn judge_in(
     h: Header,
     z: &[i64],
@@ -318,46 +298,20 @@ fn judge_in(
     rams: &mut [i64],
     starts: &mut [i64],
     states: &mut [u64],
+    named: &mut [bool],
+    earlier: &mut [bool],
     claims: &[ClaimRecord],
 ) -> Judgement
-    requires { ⌜ Good (lent h (now z) (now t) (now b) (now c) (now f)) ⌝ }
+    requires { ⌜ Good (front (lent h (now z) (now t) (now b) (now c) (now f))) ⌝ }
     requires { ⌜ (length (now rams) ≡ h .rows) × (length (now starts) ≡ h .rows) ⌝ }
     requires { ⌜ length (now states) ≡ h .rows ⌝ }
-    ensures { λ r. ⌜ ruled r (rowsOf (lent h (now (z .entry)) (now (t .entry)) (now (b .entry)) (now (c .entry)) (now (f .entry)))) ≡ claimsOf (lent h (now (z .entry)) (now (t .entry)) (now (b .entry)) (now (c .entry)) (now (f .entry))) (now (claims .entry)) ⌝ }
+    requires { ⌜ (now named ≡ noneNamed) × (now earlier ≡ noneNamed) ⌝ }
+    ensures { λ r. ⌜ ruled r (rowsOf (front (lent h (now (z .entry)) (now (t .entry)) (now (b .entry)) (now (c .entry)) (now (f .entry))))) ≡ claimsOf (front (lent h (now (z .entry)) (now (t .entry)) (now (b .entry)) (now (c .entry)) (now (f .entry)))) (now (claims .entry)) ⌝ }
 {
-    start::fill_rows(h, z, t, b, c, f, rams, starts, states);
-    judge_known(h, f, rams, states, claims)
-}
-
-// A judged table. The room to work in is made here, and not in `judge_in`, whose goals would spell it out.
-fn judge_good(
-    h: Header,
-    z: &[i64],
-    t: &[i64],
-    b: &[BorderRecord],
-    c: &[RowRecord],
-    f: &[i64],
-    claims: &[ClaimRecord],
-) -> Judgement
-    requires { ⌜ Good (lent h (now z) (now t) (now b) (now c) (now f)) ⌝ }
-    ensures { λ r. ⌜ ruled r (rowsOf (lent h (now (z .entry)) (now (t .entry)) (now (b .entry)) (now (c .entry)) (now (f .entry)))) ≡ claimsOf (lent h (now (z .entry)) (now (t .entry)) (now (b .entry)) (now (c .entry)) (now (f .entry))) (now (claims .entry)) ⌝ }
-{
-    let rows = h.rows;
-    let mut rams: [i64; Header::ROWS_MOST] = [0; Header::ROWS_MOST];
-    let mut starts: [i64; Header::ROWS_MOST] = [0; Header::ROWS_MOST];
-    let mut states: [u64; Header::ROWS_MOST] = [0; Header::ROWS_MOST];
-    judge_in(
-        h,
-        z,
-        t,
-        b,
-        c,
-        f,
-        &mut rams[..rows],
-        &mut starts[..rows],
-        &mut states[..rows],
-        claims,
-    )
+    states::fill_rows(h, z, t, b, c, f, rams, starts, states);
+    name_rows(claims, named);
+    let factors = h.rows * h.zones;
+    judge_each(h, &f[..factors], rams, states, named, earlier, claims)
 }
 
 // Judges a list of claims on a lent table. Any input has an answer: there is no `requires`.
@@ -372,21 +326,44 @@ pub fn judge_claims(
 ) -> Judgement
     ensures { λ r. ⌜ ruled r (rowsOf (front (lent h (now (z .entry)) (now (t .entry)) (now (b .entry)) (now (c .entry)) (now (f .entry))))) ≡ claimsAnswer (lent h (now (z .entry)) (now (t .entry)) (now (b .entry)) (now (c .entry)) (now (f .entry))) (now (claims .entry)) ⌝ }
 {
-    let judged = table::judge(h, z, t, b, c, f);
+    let judged = table::judge(h, z, t, b, c, f, table::Room::None);
     let Judgement::Passed = judged else {
         return judged;
     };
-    let zones = h.zones;
-    let allocated = h.allocated_items();
-    let borders = h.borders;
+    judge_claims_good(h, z, t, b, c, f, claims)
+}
+
+// .. on a good table. The room to work in is made here, and not in `judge_in`, whose goals would spell it out.
+pub fn judge_claims_good(
+    h: Header,
+    z: &[i64],
+    t: &[i64],
+    b: &[BorderRecord],
+    c: &[RowRecord],
+    f: &[i64],
+    claims: &[ClaimRecord],
+) -> Judgement
+    requires { ⌜ Good (front (lent h (now z) (now t) (now b) (now c) (now f))) ⌝ }
+    ensures { λ r. ⌜ ruled r (rowsOf (front (lent h (now (z .entry)) (now (t .entry)) (now (b .entry)) (now (c .entry)) (now (f .entry))))) ≡ claimsOf (front (lent h (now (z .entry)) (now (t .entry)) (now (b .entry)) (now (c .entry)) (now (f .entry)))) (now (claims .entry)) ⌝ }
+{
     let rows = h.rows;
-    judge_good(
+    let mut rams: [i64; Header::ROWS_MOST] = [0; Header::ROWS_MOST];
+    let mut starts: [i64; Header::ROWS_MOST] = [0; Header::ROWS_MOST];
+    let mut states: [u64; Header::ROWS_MOST] = [0; Header::ROWS_MOST];
+    let mut named: [bool; Header::ROWS_MOST] = [false; Header::ROWS_MOST];
+    let mut earlier: [bool; Header::ROWS_MOST] = [false; Header::ROWS_MOST];
+    judge_in(
         h,
-        &z[..zones],
-        &t[..allocated],
-        &b[..borders],
-        &c[..rows],
-        &f[..rows * zones],
+        z,
+        t,
+        b,
+        c,
+        f,
+        &mut rams[..rows],
+        &mut starts[..rows],
+        &mut states[..rows],
+        &mut named,
+        &mut earlier,
         claims,
     )
 }

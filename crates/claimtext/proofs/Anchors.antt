@@ -11,7 +11,8 @@ use Rattle.text.specs.Sheets.{sheet}
 use Rattle.text.specs.Written.{textOf, decimal, decimalℤ, fieldsText, lineText, linesText}
 use Rattle.columns.specs.Columns.{fieldAt, fieldsAt}
 use Rattle.columns.specs.ColumnLine.{restAt, plainLine}
-use Rattle.start.specs.Start.{Rows, kept}
+use Rattle.states.specs.Rows.{Rows}
+use Rattle.start.specs.Start.{kept}
 use Rattle.claims.specs.Claims.{claimedIn, remaining}
 use Rattle.claimtext.specs.ClaimText.{claimItems, claimItem, claimRecord, noClaim, crowded, claimWith, pairsIn, claimLine, claimsIn}
 use Rattle.claimtext.specs.Published.{publishedLine, publishedText}

@@ -1,6 +1,6 @@
 -- The laws of `specs/Published.antt`: a row's line and its length, and which judgement decides. No contract cites this file.
 -- `published-fits` is for a caller that lends room for the longest list.
-use mathlib.Core.Path.{_≡_, refl, sym, ap, subst, _∙_}
+use mathlib.Core.Path.{_≡_, refl, sym, ap, _∙_}
 use mathlib.Core.Bool.{Bool, true, false, cond, not, _&&_}
 use mathlib.Core.List.{List, [], _∷_}
 use Prim.Native.Char.{code}
@@ -27,15 +27,17 @@ use Rattle.text.specs.Written.{decimal, decimalℤ}
 use Rattle.text.proofs.DigitLaws.{decimal-u64, decimal-i64}
 use Rattle.text.proofs.LeftLaws.{text-refused}
 use Rattle.text.proofs.PutLaws.{line-length, tabbed-length, tabbed-empty, lines-most, lines-cong}
+use Rattle.table.specs.declared.Room.the-variants.{None}
 use Rattle.table.specs.Table.{Table, front, judgeLent}
 use Rattle.table.specs.Good.{Good}
-use Rattle.table.proofs.GoodLaws.{judged-front, judged-good, told-judged}
-use Rattle.start.specs.Start.{Rows, rowsOf, kept}
+use Rattle.table.proofs.GoodLaws.{judged-front, told-judged}
+use Rattle.states.specs.Rows.{Rows, rowsOf}
+use Rattle.start.specs.Start.{kept}
 use Rattle.claims.specs.Claims.{claimedIn, judgeClaims, claimsOf, remaining}
 use Rattle.claims.specs.Named.{namedRows, flagged}
 use Rattle.claims.proofs.CanGo.{claims-rows}
 use Rattle.claims.proofs.NameLaws.{exists-pos, flagged-named}
-use Rattle.claims.proofs.JudgeLaws.{rams-lent, states-lent}
+use Rattle.claims.proofs.JudgeLaws.{rams-lent, states-lent, known-claims}
 use Rattle.claimtext.specs.ClaimText.{claimsIn}
 use Rattle.claimtext.specs.Published.{rowLine, lineMost, publishedLine, publishedText, publishedMost, publishedOf, publishedAnswer, publishedLeft}
 use Rattle.claimtext.specs.Read.{unflagged}
@@ -74,22 +76,19 @@ unflagged-text m claims {flags} few e =
     told : (j : ℕ) → j < length (m .states) → flagged flags (pos j) ≡ claimedIn claims (length claims) (pos j)
     told j h = ap (λ (l : List Bool). flagged l (pos j)) e ∙ flagged-named claims (length claims) (length (m .states)) few (pos j) (exists-pos (length (m .states)) j h)
 
--- ---- a judged table
-module _ (zones : ℕ) (f : List ℤ) (m : Rows) (claims : List (List ℤ)) (out : List ℕ) (r : Judgement) (said : ruled r m ≡ judgeClaims zones f m claims) where
-  abbrev judged : Judged (List ℕ)
-  judged = then (judgeClaims zones f m claims) (λ n. passed (publishedText n (remaining (n .states) claims)))
+-- ---- a good table, whose rows were filled in
+module _ {t : Table} (good : Good t) (m : Rows) (e : m ≡ rowsOf t) (claims : List (List ℤ)) (out : List ℕ) (r : Judgement) (said : ruled r m ≡ judgeClaims (t .header .zones) (t .factors) m claims) where
+  pub claims-refused : (w : Refusal) → r ≡ Refused w → _≡_ {A = TextLeft} (record { answer = refused w; out = out }) (textLeft (publishedOf t claims) out)
+  unfolding publishedOf
+  claims-refused w q = text-refused out (then-refused _ (sym (known-claims good m e claims r said) ∙ ap (λ (j : Judgement). ruled j (rowsOf t)) q))
 
-  pub claims-refused : (w : Refusal) → r ≡ Refused w → _≡_ {A = TextLeft} (record { answer = refused w; out = out }) (textLeft judged out)
-  claims-refused w e = text-refused out (then-refused _ (sym said ∙ ap (λ (j : Judgement). ruled j m) e))
-
-  pub claims-accepted : r ≡ Passed → textLeft (passed (publishedText m (remaining (m .states) claims))) out ≡ textLeft judged out
-  claims-accepted e = ap (λ (j : Judged (List ℕ)). textLeft j out) (sym (then-next _ (sym said ∙ ap (λ (j : Judgement). ruled j m) e)))
-
-pub published-known : (t : Table) (m : Rows) (claims : List (List ℤ)) (out : List ℕ) → m ≡ rowsOf t
-    → textLeft (then (judgeClaims (t .header .zones) (t .factors) m claims) (λ n. passed (publishedText n (remaining (n .states) claims)))) out ≡ textLeft (publishedOf t claims) out
-unfolding publishedOf claimsOf
-published-known t m claims out e =
-    ap (λ (n : Rows). textLeft (then (judgeClaims (t .header .zones) (t .factors) n claims) (λ k. passed (publishedText k (remaining (k .states) claims)))) out) e
+  pub claims-accepted : r ≡ Passed → {flags : List Bool} → flags ≡ namedRows claims (length claims)
+      → textLeft (passed (publishedText m (unflagged (m .states) flags))) out ≡ textLeft (publishedOf t claims) out
+  unfolding publishedOf
+  claims-accepted q flags =
+      let few : length (m .states) ≤ rowsMost = omega (arith, states-lent good m e, header-in (t .header) (good .exact .header) .rows-most) in
+      ap (λ (text : List ℕ). textLeft (passed text) out) (unflagged-text m claims few flags ∙ ap (λ (n : Rows). publishedText n (remaining (n .states) claims)) e)
+      ∙ ap (λ (j : Judged (List ℕ)). textLeft j out) (sym (then-next _ (sym (known-claims good m e claims r said) ∙ ap (λ (j : Judgement). ruled j (rowsOf t)) q)))
 
 -- ---- lent tables
 module _ (given : Table) (list out : List ℕ) where
@@ -108,7 +107,7 @@ module _ (given : Table) (list out : List ℕ) where
 
     pub table-judged : r ≡ Passed → textLeft (publishedOf (front given) (claimsIn list)) out ≡ publishedLeft given list out
     unfolding publishedLeft
-    table-judged e = ap (λ (j : Judged (List ℕ)). textLeft j out) (sym (past-length ∙ then-next _ (told-judged given r said e)))
+    table-judged e = ap (λ (j : Judged (List ℕ)). textLeft j out) (sym (past-length ∙ then-next _ (told-judged None given r said e)))
 
 -- ---- the longest list
 module _ {t : Table} (good : Good t) (listed : ℕ → Bool) where
@@ -145,32 +144,33 @@ module _ {t : Table} (good : Good t) (listed : ℕ → Bool) where
         mul-le-mul-right {m = length (rowsOf t .states)} {n = rowsMost} lineMost (omega arith),
       )
 
--- ---- a list that is published: the table was judged, and its claims accepted
-pub record Publishes (given : Table) (list text : List ℕ) : Type 0 where
-  pub judged : judgeLent given ≡ passed (front given)
-  pub accepted : claimsOf (front given) (claimsIn list) ≡ passed (rowsOf (front given))
-  pub is : text ≡ publishedText (rowsOf (front given)) (remaining (rowsOf (front given) .states) (claimsIn list))
+-- ---- a list that is published: its claims were accepted
+pub record Publishes (t : Table) (claims : List (List ℤ)) (text : List ℕ) : Type 0 where
+  pub accepted : claimsOf t claims ≡ passed (rowsOf t)
+  pub is : text ≡ publishedText (rowsOf t) (remaining (rowsOf t .states) claims)
 
-module _ (given : Table) (list text : List ℕ) where
-  pub publishes : publishedAnswer given list ≡ passed text → Publishes given list text
-  unfolding publishedAnswer publishedOf
-  publishes e = go (ltb bytesMost (length list)) e
-    where
-      go : (v : Bool) → cond v (refused tooLong) (then (judgeLent given) (λ t. then (claimsOf t (claimsIn list)) (λ m. passed (publishedText m (remaining (m .states) (claimsIn list)))))) ≡ passed text → Publishes given list text
-      go true q = absurd (not-passed tooLong text q)
-      go false q =
-          let a = then-passed (judgeLent given) _ text q in
-          let b = then-passed (claimsOf (a .it) (claimsIn list)) _ text (a .second) in
-          let rows : b .it ≡ rowsOf (a .it) = claims-rows (a .it) (claimsIn list) (b .it) (b .first) in
-          let table : a .it ≡ front given = judged-front given (a .it) (a .first) in
-          record {
-            judged = a .first ∙ ap passed table;
-            accepted = subst (λ (t : Table). claimsOf t (claimsIn list) ≡ passed (rowsOf t)) table (b .first ∙ ap passed rows);
-            is = sym (passed-is _ _ (b .second)) ∙ ap (λ (m : Rows). publishedText m (remaining (m .states) (claimsIn list))) rows ∙ ap (λ (t : Table). publishedText (rowsOf t) (remaining (rowsOf t .states) (claimsIn list))) table;
-          }
+module _ (t : Table) (claims : List (List ℤ)) (text : List ℕ) (e : publishedOf t claims ≡ passed text) where
+  published : Publishes t claims text
+  unfolding publishedOf
+  published =
+      let a = then-passed (claimsOf t claims) _ text e in
+      let rows : a .it ≡ rowsOf t = claims-rows t claims (a .it) (a .first) in
+      record {
+        accepted = a .first ∙ ap passed rows;
+        is = sym (passed-is _ _ (a .second)) ∙ ap (λ (m : Rows). publishedText m (remaining (m .states) claims)) rows;
+      }
 
   -- whatever is published fits
-  pub published-fits : publishedAnswer given list ≡ passed text → length text ≤ publishedMost
-  published-fits e =
-      let p = publishes e in
-      omega (arith, ap length (p .is), text-most (judged-good given (front given) (p .judged)) (remaining (rowsOf (front given) .states) (claimsIn list)))
+  pub published-fits : Good t → length text ≤ publishedMost
+  published-fits good = omega (arith, ap length (published .is), text-most good (remaining (rowsOf t .states) claims))
+
+-- .. of lent tables
+pub publishes : (given : Table) (list text : List ℕ) → publishedAnswer given list ≡ passed text → Publishes (front given) (claimsIn list) text
+unfolding publishedAnswer
+publishes given list text e = go (ltb bytesMost (length list)) e
+  where
+    go : (v : Bool) → cond v (refused tooLong) (then (judgeLent given) (λ t. publishedOf t (claimsIn list))) ≡ passed text → Publishes (front given) (claimsIn list) text
+    go true q = absurd (not-passed tooLong text q)
+    go false q =
+        let a = then-passed (judgeLent given) _ text q in
+        published (front given) (claimsIn list) text (ap (λ (t : Table). publishedOf t (claimsIn list)) (sym (judged-front given (a .it) (a .first))) ∙ a .second)

@@ -4,7 +4,8 @@ use mathlib.Core.List.{List}
 use Prim.Native.Nat.{ℕ}
 use Rattle.kinds.specs.Refusals.{passed}
 use Rattle.table.specs.Table.{Table, front}
-use Rattle.start.specs.Start.{rowsOf, kept}
+use Rattle.states.specs.Rows.{rowsOf}
+use Rattle.start.specs.Start.{kept}
 use Rattle.claims.specs.Claims.{Same, remaining}
 use Rattle.claims.proofs.CanGo.{claimed-rows-can-go}
 use Rattle.claimtext.specs.ClaimText.{claimsIn}

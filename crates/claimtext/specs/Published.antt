@@ -12,7 +12,7 @@ use Rattle.kinds.specs.Refusals.{Judged, passed, refused, then, tooLong}
 use Rattle.text.specs.Left.{TextLeft, textLeft}
 use Rattle.text.specs.Written.{decimal, decimalℤ, lineText, linesText}
 use Rattle.table.specs.Table.{Table, judgeLent}
-use Rattle.start.specs.Start.{Rows}
+use Rattle.states.specs.Rows.{Rows}
 use Rattle.claims.specs.Claims.{claimsOf, remaining}
 use Rattle.claimtext.specs.ClaimText.{claimsIn}
 

@@ -6,7 +6,7 @@ ghost use Prim.Native.Nat.{_≤_};
 ghost use lib.ListN.{length};
 ghost use Rattle.kinds.specs.Answers.{ruled};
 ghost use Rattle.kinds.specs.Limits.{rowsMost};
-ghost use Rattle.start.specs.Filled.{rowsWith};
+ghost use Rattle.states.specs.Rows.{rowsWith};
 ghost use Rattle.claims.specs.Claims.{judgeClaims};
 ghost use Rattle.claims.specs.Named.{namedRows, noneNamed};
 ghost use Rattle.claims.specs.Bounds.{Lent};

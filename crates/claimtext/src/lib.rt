@@ -4,19 +4,13 @@ mod published;
 mod read;
 
 ghost use mathlib.Core.Path.{_≡_};
-ghost use Prim.Native.Nat.{_≤_};
 ghost use lib.ListN.{length};
-ghost use Rattle.kinds.specs.Limits.{rowsMost};
-ghost use Rattle.kinds.specs.Refusals.{passed, then};
 ghost use Rattle.text.specs.Left.{textLeft, textSaid};
-ghost use Rattle.table.specs.Table.{lent};
+ghost use Rattle.table.specs.Table.{lent, front};
 ghost use Rattle.table.specs.Good.{Good};
-ghost use Rattle.start.specs.Filled.{rowsWith};
-ghost use Rattle.claims.specs.Claims.{judgeClaims, remaining};
-ghost use Rattle.claims.specs.Named.{namedRows, noneNamed};
-ghost use Rattle.claims.specs.Bounds.{Lent};
+ghost use Rattle.claims.specs.Named.{noneNamed};
 ghost use Rattle.claimtext.specs.ClaimText.{claimsIn};
-ghost use Rattle.claimtext.specs.Published.{publishedText, publishedOf, publishedLeft};
+ghost use Rattle.claimtext.specs.Published.{publishedOf, publishedLeft};
 use kinds::BorderRecord;
 use kinds::Header;
 use kinds::Judgement;
@@ -43,27 +37,14 @@ pub fn published_text(
     if text::BYTES_MOST < list.len() {
         return Written::Refused(Refusal::too_long());
     }
-    if let Judgement::Refused(w) = table::judge(h, z, t, b, c, f) {
+    if let Judgement::Refused(w) = table::judge(h, z, t, b, c, f, table::Room::None) {
         return Written::Refused(w);
     }
-    let zones = h.zones;
-    let allocated = h.allocated_items();
-    let borders = h.borders;
-    let rows = h.rows;
-    publish_good(
-        h,
-        &z[..zones],
-        &t[..allocated],
-        &b[..borders],
-        &c[..rows],
-        &f[..rows * zones],
-        list,
-        out,
-    )
+    published_text_good(h, z, t, b, c, f, list, out)
 }
 
-// A judged table. The room to work in is made here, and not in `publish_in`, whose goals would spell it out.
-fn publish_good(
+// .. of a good table. The room to work in is made here, and not in `publish_in`, whose goals would spell it out.
+pub fn published_text_good(
     h: Header,
     z: &[i64],
     t: &[i64],
@@ -73,8 +54,8 @@ fn publish_good(
     list: &[u8],
     out: &mut [u8],
 ) -> Written
-    requires { ⌜ Good (lent h (now z) (now t) (now b) (now c) (now f)) ⌝ }
-    ensures { λ r. ⌜ textSaid r (now (out .exit)) ≡ textLeft (publishedOf (lent h (now (z .entry)) (now (t .entry)) (now (b .entry)) (now (c .entry)) (now (f .entry))) (claimsIn (now (list .entry)))) (now (out .entry)) ⌝ }
+    requires { ⌜ Good (front (lent h (now z) (now t) (now b) (now c) (now f))) ⌝ }
+    ensures { λ r. ⌜ textSaid r (now (out .exit)) ≡ textLeft (publishedOf (front (lent h (now (z .entry)) (now (t .entry)) (now (b .entry)) (now (c .entry)) (now (f .entry)))) (claimsIn (now (list .entry)))) (now (out .entry)) ⌝ }
 {
     let rows = h.rows;
     let mut rams: [i64; Header::ROWS_MOST] = [0; Header::ROWS_MOST];
@@ -99,7 +80,7 @@ fn publish_good(
     )
 }
 
-// .. with that room: the RAM and the state of each row, the rows that claims name, and what the claims come to.
+// The RAM and the state of each row, the rows that claims name, what the claims come to, and then the list.
 fn publish_in(
     h: Header,
     z: &[i64],
@@ -115,35 +96,17 @@ fn publish_in(
     earlier: &mut [bool],
     out: &mut [u8],
 ) -> Written
-    requires { ⌜ Good (lent h (now z) (now t) (now b) (now c) (now f)) ⌝ }
+    requires { ⌜ Good (front (lent h (now z) (now t) (now b) (now c) (now f))) ⌝ }
     requires { ⌜ (length (now rams) ≡ h .rows) × (length (now starts) ≡ h .rows) ⌝ }
     requires { ⌜ length (now states) ≡ h .rows ⌝ }
     requires { ⌜ (now named ≡ noneNamed) × (now earlier ≡ noneNamed) ⌝ }
-    ensures { λ r. ⌜ textSaid r (now (out .exit)) ≡ textLeft (publishedOf (lent h (now (z .entry)) (now (t .entry)) (now (b .entry)) (now (c .entry)) (now (f .entry))) (claimsIn (now (list .entry)))) (now (out .entry)) ⌝ }
+    ensures { λ r. ⌜ textSaid r (now (out .exit)) ≡ textLeft (publishedOf (front (lent h (now (z .entry)) (now (t .entry)) (now (b .entry)) (now (c .entry)) (now (f .entry)))) (claimsIn (now (list .entry)))) (now (out .entry)) ⌝ }
 {
-    start::fill_rows(h, z, t, b, c, f, rams, starts, states);
+    states::fill_rows(h, z, t, b, c, f, rams, starts, states);
     judge::name_lines(list, named);
-    publish(h, f, rams, states, list, named, earlier, out)
-}
-
-// A judged table whose RAMs and states are known, and the rows that claims name: the claims are judged, and then the list is written.
-fn publish(
-    h: Header,
-    f: &[i64],
-    rams: &[i64],
-    states: &[u64],
-    list: &[u8],
-    named: &[bool],
-    earlier: &mut [bool],
-    out: &mut [u8],
-) -> Written
-    requires { ⌜ Lent (h .rows) (h .zones) 0 (now f) ⌝ }
-    requires { ⌜ Lent (h .rows) 1 0 (now rams) ⌝ }
-    requires { ⌜ (length (now states) ≡ h .rows) × (h .rows ≤ rowsMost) ⌝ }
-    requires { ⌜ (now named ≡ namedRows (claimsIn (now list)) (length (claimsIn (now list)))) × (now earlier ≡ noneNamed) ⌝ }
-    ensures { λ r. ⌜ textSaid r (now (out .exit)) ≡ textLeft (then (judgeClaims (h .zones) (now (f .entry)) (rowsWith (now (rams .entry)) (now (states .entry))) (claimsIn (now (list .entry)))) (λ m. passed (publishedText m (remaining (m .states) (claimsIn (now (list .entry))))))) (now (out .entry)) ⌝ }
-{
-    if let Judgement::Refused(w) = judge::judge_lines(h, f, rams, states, list, named, earlier) {
+    let factors = h.rows * h.zones;
+    let judged = judge::judge_lines(h, &f[..factors], rams, states, list, named, earlier);
+    if let Judgement::Refused(w) = judged {
         return Written::Refused(w);
     }
     published::write_rows(rams, states, named, out)

@@ -6,7 +6,7 @@ ghost use Rattle.kinds.specs.Limits.{rowsMost};
 ghost use Rattle.kinds.specs.Refusals.{passed};
 ghost use Rattle.text.specs.Left.{textLeft, textSaid};
 ghost use Rattle.text.specs.Put.{Put};
-ghost use Rattle.start.specs.Filled.{rowsWith};
+ghost use Rattle.states.specs.Rows.{rowsWith};
 ghost use Rattle.claimtext.specs.Published.{rowLine, lineMost, publishedLine, publishedText};
 ghost use Rattle.claimtext.specs.Read.{unflagged};
 use kinds::Refusal;

@@ -16,7 +16,7 @@ use Rattle.margin.specs.Margin.{cornerPart, cornerSum, sOf}
 use Rattle.margin.proofs.Corner.{used, s-largest-corner}
 use Rattle.corners.specs.Corners.{partOf, flowsOf, judgeCorners, flowsLeft, cornersLeft, Stands, Largest}
 use Rattle.corners.proofs.CornerLaws.{flows-length, flows-at, cornerOf, number-below, number-bits, number-only, part-chosen}
-use Rattle.corners.proofs.SheetLaws.{judged-sheet, flows-long, corners-short, corners-all}
+use Rattle.corners.proofs.SheetLaws.{flows-long, sheet-short, sheet-all, judged-sheet}
 
 module _ (factors : List ℤ) (borders : List (List ℤ)) where
   -- as many flows as corners
@@ -63,9 +63,12 @@ module _ (factors : List ℤ) (borders : List (List ℤ)) where
 module _ (given : Table) (row : ℕ) (t : Table) (judged : judgeCorners given row ≡ passed t) (old : List ℤ) where
   pub sheet-filled : 2 ^ t .header .borders ≤ length old
       → cornersLeft given row old ≡ flowsLeft (passed (2 ^ t .header .borders)) (over (flowsOf (factorsAt t row) (t .borders)) old)
+  unfolding cornersLeft
   sheet-filled h =
-      corners-all given row old t judged h
-      ∙ ap (λ (n : ℕ). flowsLeft (passed n) (over (flowsOf (factorsAt t row) (t .borders)) old)) (flows-long (judged-sheet given row t judged))
+      let s = judged-sheet given row t judged in
+      sheet-all (judgeCorners given row) row old t judged s h
+      ∙ ap (λ (n : ℕ). flowsLeft (passed n) (over (flowsOf (factorsAt t row) (t .borders)) old)) (flows-long s)
 
   pub sheet-no-room : length old < 2 ^ t .header .borders → cornersLeft given row old ≡ flowsLeft (refused (tooShort (2 ^ t .header .borders))) old
-  sheet-no-room h = corners-short given row old t judged _ refl h
+  unfolding cornersLeft
+  sheet-no-room h = sheet-short (judgeCorners given row) row old t judged (judged-sheet given row t judged) _ refl h

@@ -1,5 +1,5 @@
 -- The corner sheet (02, E1): every corner's flow on one row, in grains, as summed for S, and what the open call `corner_flows` leaves.
--- `flowsOf`, `judgeCorners` and `cornersLeft` are what contracts cite; `Stands` and `Largest` are what the theorems say of a sheet.
+-- `flowsOf`, `judgeSheet`, `sheetLeft` and `cornersLeft` are what contracts cite; `Stands` and `Largest` are what the theorems say of a sheet.
 use mathlib.Core.Path.{_≡_}
 use mathlib.Core.Bool.{Bool, cond}
 use mathlib.Core.List.{List, [], _∷_, _++_}
@@ -37,13 +37,16 @@ partOf factors borders b = cornerPart factors (borderOf (getD borders b []))
 abbrev pub flowsOf : (factors : List ℤ) → (borders : List (List ℤ)) → List ℤ
 flowsOf factors borders = cornerFlows (partOf factors borders) (length borders)
 
--- 9: more than 12 borders, place the border count, or else no such row, place its index; after 4
-unfoldable pub judgeCorners : (given : Table) → (row : ℕ) → Judged Table
-judgeCorners given row =
-    then (judgeLent given) (λ t.
+-- 9: more than 12 borders, place the border count, or else no such row, place its index
+abbrev pub judgeSheet : Table → (row : ℕ) → Judged Table
+judgeSheet t row =
     unless (leb (t .header .borders) sheetBordersMost) (noCorners (t .header .borders))
     (unless (ltb row (t .header .rows)) (noCorners row)
-    (passed t)))
+    (passed t))
+
+-- .. after 4
+unfoldable pub judgeCorners : (given : Table) → (row : ℕ) → Judged Table
+judgeCorners given row = then (judgeLent given) (λ t. judgeSheet t row)
 
 -- what the open call `corner_flows` leaves: its answer, and the lent numbers
 pub record FlowsLeft : Type 0 where
@@ -54,14 +57,17 @@ abbrev pub flowsLeft : (answer : Judged ℕ) → (out : List ℤ) → FlowsLeft
 flowsLeft answer out = record { answer = answer; out = out }
 
 -- room for one number for each corner comes last; a refusal writes nothing
-unfoldable pub cornersLeft : (given : Table) → (row : ℕ) → (out : List ℤ) → FlowsLeft
-cornersLeft given row out =
+unfoldable pub sheetLeft : (judged : Judged Table) → (row : ℕ) → (out : List ℤ) → FlowsLeft
+sheetLeft judged row out =
     either
-    (then (judgeCorners given row) (λ t.
+    (then judged (λ t.
     let flows = flowsOf (factorsAt t row) (t .borders) in
     need (length flows) (length out) (passed flows)))
     (λ flows. flowsLeft (passed (length flows)) (over flows out))
     (λ w. flowsLeft (refused w) out)
+
+unfoldable pub cornersLeft : (given : Table) → (row : ℕ) → (out : List ℤ) → FlowsLeft
+cornersLeft given row out = sheetLeft (judgeCorners given row) row out
 
 -- border b is used when bit b of the corner's number is set
 abbrev pub bit : (corner b : ℕ) → Bool

@@ -7,11 +7,12 @@ ghost use Prim.Native.Nat.{_+_, _^_, _<_, _≤_};
 ghost use lib.ListN.{length, take};
 ghost use Rattle.numbers.specs.Ints.{Within, AllWithin};
 ghost use Rattle.kinds.specs.Ranges.{borderFits, borderOf};
-ghost use Rattle.kinds.specs.Answers.{ruled, saidFlows};
+ghost use Rattle.kinds.specs.Answers.{saidFlows};
 ghost use Rattle.table.specs.Table.{lent, front, stretch};
+ghost use Rattle.table.specs.Good.{Good};
 ghost use Rattle.margin.specs.Bounds.{FactorsBound, TableFactorsBound, BordersBound};
 ghost use Rattle.margin.specs.Margin.{cornerPart};
-ghost use Rattle.corners.specs.Corners.{sheetBordersMost, raisedBy, flowsOf, judgeCorners, flowsLeft, cornersLeft};
+ghost use Rattle.corners.specs.Corners.{sheetBordersMost, raisedBy, flowsOf, judgeSheet, flowsLeft, sheetLeft, cornersLeft};
 ghost use Rattle.corners.specs.Listed.{partMost, cornerFlowMost, FlowsListed};
 use kinds::BorderRecord;
 use kinds::Flows;
@@ -36,20 +37,14 @@ pub fn corner_flows(
 ) -> Flows
     ensures { λ r. ⌜ flowsLeft (saidFlows r) (now (out .exit)) ≡ cornersLeft (lent h (now (z .entry)) (now (t .entry)) (now (b .entry)) (now (c .entry)) (now (f .entry))) row (now (out .entry)) ⌝ }
 {
-    if let Judgement::Refused(w) = judge_corners(h, z, t, b, c, f, row) {
+    if let Judgement::Refused(w) = table::judge(h, z, t, b, c, f, table::Room::None) {
         return Flows::Refused(w);
     }
-    let borders = h.borders;
-    let needed = corner_count(borders);
-    if out.len() < needed {
-        return Flows::Refused(Refusal::too_short(needed));
-    }
-    let factors = h.rows * h.zones;
-    Flows::Corners(list_row(h, &b[..borders], &f[..factors], row, out))
+    corner_flows_good(h, z, t, b, c, f, row, out)
 }
 
-// The judging of a lent table, and then whether it has a sheet for this row.
-fn judge_corners(
+// .. of a good table: whether it has a sheet for this row, the room, and then the flows.
+pub fn corner_flows_good(
     h: Header,
     z: &[i64],
     t: &[i64],
@@ -57,20 +52,24 @@ fn judge_corners(
     c: &[RowRecord],
     f: &[i64],
     row: usize,
-) -> Judgement
-    ensures { λ r. ⌜ ruled r (front (lent h (now (z .entry)) (now (t .entry)) (now (b .entry)) (now (c .entry)) (now (f .entry)))) ≡ judgeCorners (lent h (now (z .entry)) (now (t .entry)) (now (b .entry)) (now (c .entry)) (now (f .entry))) row ⌝ }
+    out: &mut [i64],
+) -> Flows
+    requires { ⌜ Good (front (lent h (now z) (now t) (now b) (now c) (now f))) ⌝ }
+    ensures { λ r. ⌜ flowsLeft (saidFlows r) (now (out .exit)) ≡ sheetLeft (judgeSheet (front (lent h (now (z .entry)) (now (t .entry)) (now (b .entry)) (now (c .entry)) (now (f .entry)))) row) row (now (out .entry)) ⌝ }
 {
-    let judged = table::judge(h, z, t, b, c, f);
-    let Judgement::Passed = judged else {
-        return judged;
-    };
-    if BORDERS_MOST < h.borders {
-        return Judgement::Refused(Refusal::no_corners(h.borders));
+    let borders = h.borders;
+    if BORDERS_MOST < borders {
+        return Flows::Refused(Refusal::no_corners(borders));
     }
     if h.rows <= row {
-        return Judgement::Refused(Refusal::no_corners(row));
+        return Flows::Refused(Refusal::no_corners(row));
     }
-    Judgement::Passed
+    let needed = corner_count(borders);
+    if out.len() < needed {
+        return Flows::Refused(Refusal::too_short(needed));
+    }
+    let factors = h.rows * h.zones;
+    Flows::Corners(list_row(h, &b[..borders], &f[..factors], row, out))
 }
 
 fn corner_count(borders: usize) -> usize
@@ -80,7 +79,7 @@ fn corner_count(borders: usize) -> usize
     1 << borders
 }
 
-// The sheet of a row of a judged table.
+// The sheet of a row of a good table.
 fn list_row(h: Header, b: &[BorderRecord], f: &[i64], row: usize, out: &mut [i64]) -> usize
     requires { ⌜ TableFactorsBound h (now f) ⌝ }
     requires { ⌜ BordersBound (h .zones) (now b) ⌝ }

@@ -5,7 +5,7 @@ use Prim.Native.Nat.{ℕ, _+_, _*_, _^_}
 use lib.IntN.{ℤ}
 use lib.ListN.{length}
 use Rattle.kinds.specs.Ranges.{atℤ}
-use Rattle.kinds.specs.Refusals.{passed, then}
+use Rattle.kinds.specs.Refusals.{Judged, passed, then}
 use Rattle.text.specs.Left.{TextLeft, textLeft}
 use Rattle.text.specs.Written.{decimal, decimalℤ, lineText, linesText}
 use Rattle.table.specs.Table.{Table, factorsAt}
@@ -34,6 +34,10 @@ cornersText row flows = linesText (length flows) 0 (cornerLineAt row flows)
 abbrev pub sheetText : Table → (row : ℕ) → List ℕ
 sheetText t row = cornersText row (flowsOf (factorsAt t row) (t .borders))
 
+-- .. where the judging passes
+abbrev pub sheetTextOf : (judged : Judged Table) → (row : ℕ) → Judged (List ℕ)
+sheetTextOf judged row = then judged (λ t. passed (sheetText t row))
+
 -- refusals as for the flows, then room for the bytes of the text
 unfoldable pub cornerTextLeft : (given : Table) → (row : ℕ) → (out : List ℕ) → TextLeft
-cornerTextLeft given row out = textLeft (then (judgeCorners given row) (λ t. passed (sheetText t row))) out
+cornerTextLeft given row out = textLeft (sheetTextOf (judgeCorners given row) row) out

@@ -6,11 +6,14 @@ ghost use lib.ListN.{length};
 ghost use Rattle.kinds.specs.Refusals.{passed};
 ghost use Rattle.text.specs.Left.{textLeft, textSaid};
 ghost use Rattle.text.specs.Put.{Put};
-ghost use Rattle.table.specs.Table.{lent};
-ghost use Rattle.cornertext.specs.CornerText.{sheetMost, lineMost, cornerLine, cornersText, cornerTextLeft};
+ghost use Rattle.table.specs.Table.{lent, front};
+ghost use Rattle.table.specs.Good.{Good};
+ghost use Rattle.corners.specs.Corners.{judgeSheet};
+ghost use Rattle.cornertext.specs.CornerText.{sheetMost, lineMost, cornerLine, cornersText, sheetTextOf, cornerTextLeft};
 use kinds::BorderRecord;
 use kinds::Flows;
 use kinds::Header;
+use kinds::Judgement;
 use kinds::Refusal;
 use kinds::RowRecord;
 use kinds::Written;
@@ -18,7 +21,7 @@ use kinds::Written;
 // The corners of twelve borders.
 pub const SHEET_MOST: usize = 1 << corners::BORDERS_MOST;
 
-// The flows stand in working memory, which has room for every sheet. Any input has an answer: there is no `requires`.
+// Any input has an answer: there is no `requires`.
 pub fn corner_text(
     h: Header,
     z: &[i64],
@@ -31,8 +34,28 @@ pub fn corner_text(
 ) -> Written
     ensures { λ r. ⌜ textSaid r (now (out .exit)) ≡ cornerTextLeft (lent h (now (z .entry)) (now (t .entry)) (now (b .entry)) (now (c .entry)) (now (f .entry))) row (now (out .entry)) ⌝ }
 {
+    if let Judgement::Refused(w) = table::judge(h, z, t, b, c, f, table::Room::None) {
+        return Written::Refused(w);
+    }
+    corner_text_good(h, z, t, b, c, f, row, out)
+}
+
+// .. of a good table. The flows stand in working memory, which has room for every sheet.
+pub fn corner_text_good(
+    h: Header,
+    z: &[i64],
+    t: &[i64],
+    b: &[BorderRecord],
+    c: &[RowRecord],
+    f: &[i64],
+    row: usize,
+    out: &mut [u8],
+) -> Written
+    requires { ⌜ Good (front (lent h (now z) (now t) (now b) (now c) (now f))) ⌝ }
+    ensures { λ r. ⌜ textSaid r (now (out .exit)) ≡ textLeft (sheetTextOf (judgeSheet (front (lent h (now (z .entry)) (now (t .entry)) (now (b .entry)) (now (c .entry)) (now (f .entry)))) row) row) (now (out .entry)) ⌝ }
+{
     let mut flows = [0i64; SHEET_MOST];
-    let filled = corners::corner_flows(h, z, t, b, c, f, row, &mut flows);
+    let filled = corners::corner_flows_good(h, z, t, b, c, f, row, &mut flows);
     match filled {
         Flows::Refused(w) => Written::Refused(w),
         Flows::Corners(count) => write_corners(row, &flows[..count], out),

@@ -20,7 +20,8 @@ use Rattle.table.specs.Table.{Table, borderAt, factorsAt}
 use Rattle.rounds.specs.Rounds.{load}
 use Rattle.margin.specs.Margin.{pOf, ltaKw, sOf, sAt, marginOf, startsOf}
 use Rattle.start.specs.Setup.{gridBy, beginBy, judgeBy}
-use Rattle.start.specs.Start.{rowsOf, kept, fromBy, gridMarked, tableStart, judgeMarked, setupWith}
+use Rattle.states.specs.Rows.{rowsOf}
+use Rattle.start.specs.Start.{kept, fromBy, gridMarked, tableStart, judgeMarked, setupWith}
 use Rattle.extraction.specs.Extraction.{Result, resultMarked, outcomeMarked}
 
 -- ---- what an accepted table has

@@ -10,7 +10,8 @@ use Rattle.table.specs.Table.{Table, stretch}
 use Rattle.margin.specs.Margin.{grains, f0coreOf, fuafOf, baseOf, amrOf, signedFactor, pOf, ltaKw, sOf, ltaMarginOf, ramOf, ramAt}
 use Rattle.states.specs.States.{highest, lowest, spreadOf, shifted, below, stateOf}
 use Rattle.start.specs.Setup.{gridBy, judgeBy}
-use Rattle.start.specs.Start.{rowsOf, kept, setupWith}
+use Rattle.states.specs.Rows.{rowsOf}
+use Rattle.start.specs.Start.{kept, setupWith}
 use Rattle.extraction.specs.Extraction.{outcomeMarked, outcomeOf}
 
 -- IVA 1 takes row 0 below 0, and no row limits border 1

@@ -9,15 +9,16 @@ use Rattle.numbers.specs.Ints.{minus, maxℤ, minℤ, positivePart, sameℤ, in
 use Rattle.kinds.specs.Ranges.{headerFits, allocatedItems, zoneFits, exists, hubsFit, borderFits, hubsOf, borderOf, shareOf, rowOf, rowFits, factorFits, worth, defaultOf}
 use Rattle.kinds.specs.Refusals.{passed, refused, refusal, then, either, unless, refuseAt, refuseFirst, need}
 use Rattle.marks.specs.Marks.{markedBy, faultyMark, judgeMarks}
-use Rattle.table.specs.Table.{Table, stretch, balanced, twice, roomFor, judgeShape}
+use Rattle.table.specs.Table.{Table, stretch, balanced, twice, roomFor, judgeShape, judgeFor}
 use Rattle.rounds.specs.Rounds.{sharers, raise, raises, load, lowered, risen, apply, next, raised, counted, run, extract}
 use Rattle.rounds.specs.Last.{after, raiseIn, lastTo, lastRound}
 use Rattle.rounds.specs.Stopping.{stopRow}
 use Rattle.margin.specs.Margin.{grains, f0coreOf, fuafOf, baseOf, amrOf, signedFactor, pOf, ltaKw, sOf, ltaMarginOf, ramOf, ramAt}
 use Rattle.states.specs.States.{highest, lowest, spreadOf, shifted, below, stateOf}
 use Rattle.start.specs.Setup.{gridBy, beginBy, judgeBy}
-use Rattle.start.specs.Start.{rowsOf, kept, setupWith}
-use Rattle.extraction.specs.Extraction.{resultMarked, resultOf, atcOf, leftOf, lastOf, stopOf, outcomeMarked, outcomeOf, outcomeFor, atcRecord, rowRecord, judgeExtract, ExtractLeft, extractFor, extractLeft, extractMarkedLeft}
+use Rattle.states.specs.Rows.{rowsOf}
+use Rattle.start.specs.Start.{kept, setupWith}
+use Rattle.extraction.specs.Extraction.{resultMarked, resultOf, atcOf, leftOf, lastOf, stopOf, outcomeMarked, outcomeOf, outcomeFor, atcRecord, rowRecord, ExtractLeft, extractFor, extractLeft, extractMarkedLeft}
 
 -- rows 0 and 1 limit a border each, 15 kW and 10 kW, row 2 is under 5%; FRM and IVA of row 0 are one's own
 abbrev smallIn : (mark : ℕ) → (allocated : List ℤ) → (frm iva : ℕ) → Table
@@ -77,5 +78,5 @@ pub record Anchors : Type 0 where
   pub thirteen-late : extractMarkedLeft (smallIn 0 [] 4 0) [] (replicate 7 9) (replicate 2 []) (replicate 3 []) .answer ≡ refused (refusal 3 6 0)
 
 pub anchors : Anchors
-unfolding resultMarked outcomeMarked outcomeFor extractFor extractMarkedLeft judgeMarks faultyMark markedBy ifZero sum count lesser least orZero table firstFrom given maxℤ minℤ positivePart sameℤ inside sumℤ headerFits allocatedItems zoneFits exists hubsFit borderFits hubsOf borderOf shareOf rowOf rowFits factorFits worth defaultOf then either unless refuseAt refuseFirst need stretch balanced twice roomFor judgeShape sharers raise raises load lowered risen apply next raised counted run extract after raiseIn lastTo lastRound stopRow grains f0coreOf fuafOf baseOf amrOf signedFactor pOf ltaKw sOf ltaMarginOf ramOf ramAt highest lowest spreadOf shifted below stateOf rowsOf kept resultOf atcOf leftOf lastOf stopOf outcomeOf atcRecord rowRecord judgeExtract extractLeft gridBy setupWith beginBy judgeBy
+unfolding resultMarked outcomeMarked outcomeFor extractFor extractMarkedLeft judgeMarks faultyMark markedBy ifZero sum count lesser least orZero table firstFrom given maxℤ minℤ positivePart sameℤ inside sumℤ headerFits allocatedItems zoneFits exists hubsFit borderFits hubsOf borderOf shareOf rowOf rowFits factorFits worth defaultOf then either unless refuseAt refuseFirst need stretch balanced twice roomFor judgeShape sharers raise raises load lowered risen apply next raised counted run extract after raiseIn lastTo lastRound stopRow grains f0coreOf fuafOf baseOf amrOf signedFactor pOf ltaKw sOf ltaMarginOf ramOf ramAt highest lowest spreadOf shifted below stateOf rowsOf kept resultOf atcOf leftOf lastOf stopOf outcomeOf atcRecord rowRecord judgeFor extractLeft gridBy setupWith beginBy judgeBy
 anchors = record { accepted = refl; below = refl; intraday = refl; short = refl; long = refl; marked = refl; marked-both = refl; thirteen = refl; thirteen-late = refl }

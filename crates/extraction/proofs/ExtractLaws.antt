@@ -34,9 +34,11 @@ use Rattle.margin.specs.Bounds.{startBits}
 use Rattle.margin.proofs.JudgedLaws.{good-borders}
 use Rattle.margin.proofs.Small.{named-values-small}
 use Rattle.start.specs.Setup.{gridBy, beginBy}
-use Rattle.start.specs.Start.{Rows, rowsOf, every, fromBy, gridMarked, tableGrid, tableStart, judgeMarked, setupWith}
+use Rattle.states.specs.Rows.{Rows, rowsOf}
+use Rattle.states.proofs.RowsLaws.{rows-in}
+use Rattle.start.specs.Start.{every, fromBy, gridMarked, tableGrid, tableStart, judgeMarked, setupWith}
 use Rattle.start.specs.Filled.{froms, exchangesOf, cells}
-use Rattle.start.proofs.StartLaws.{cells-at, grid-long, rows-in, PreparedAs}
+use Rattle.start.proofs.StartLaws.{cells-at, grid-long, PreparedAs}
 use Rattle.extraction.specs.Extraction.{Result, resultBy, resultMarked, leftOf, lastOf, stopOf, outcomeMarked, borderLeft, leftOfRow, atcRecord, rowRecord, ExtractLeft, leaves, resultRoom, resultStored}
 use Rattle.extraction.specs.Work.{endedAt, gridWith, startWith, outcomeWith, Runnable, Ran, Finishable, resultWith, finished, outcomeLeft}
 use Rattle.extraction.proofs.AcceptedLaws.{accepted, load-le, small-start}

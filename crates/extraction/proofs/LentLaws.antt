@@ -1,9 +1,9 @@
 -- The laws behind `extract` and `extract_marked` on lent tables (`specs/Extraction.antt`'s `judgeExtract` and `extractFor`): which judgement decides, and what an answer with rounds comes from.
--- `extract-roomy` is for a caller that lends room for the most p, borders and rows. No contract cites this file.
+-- `outcome-roomy` and `extract-roomy` are for a caller that lends room for the most p, borders and rows. No contract cites this file.
 use mathlib.Core.Path.{_≡_, refl, sym, ap, subst, _∙_}
 use mathlib.Core.Bool.{Bool}
 use mathlib.Core.List.{List}
-use Prim.Native.Nat.{ℕ, _*_, _≤_, _<_}
+use Prim.Native.Nat.{ℕ, _*_, _≤_}
 use native.Mathlib.Nat.{mul-le-mul}
 use native.Mathlib.Omega.{arith}
 use lib.IntN.{ℤ}
@@ -14,34 +14,34 @@ use Rattle.kinds.specs.declared.Judgement.the-variants.{Passed, Refused}
 use Rattle.kinds.specs.declared.Refusal.{Refusal}
 use Rattle.kinds.specs.Answers.{ruled}
 use Rattle.kinds.specs.Limits.{bordersMost, rowsMost}
-use Rattle.kinds.specs.Refusals.{Judged, passed, refused, then, either, need, tooShort}
+use Rattle.kinds.specs.Refusals.{Judged, passed, refused, then, either, need}
 use Rattle.kinds.proofs.KindLaws.{header-in}
-use Rattle.kinds.proofs.RefusalLaws.{passed-is, answer-passed, then-passed, then-next, then-refused, either-passed, either-refused, need-passed, need-enough, need-short}
+use Rattle.kinds.proofs.RefusalLaws.{passed-is, answer-passed, then-passed, then-next, then-refused, either-passed, either-refused, need-passed, need-enough}
 use Rattle.marks.specs.Marks.{judgeAsked, mayRise, flagsOf, flagged}
 use Rattle.marks.proofs.MarkLaws.{flags-tell}
-use Rattle.table.specs.Table.{Table, front, judgeShape, judgeRecords, judgeLent}
-use Rattle.table.specs.Good.{Exact, Good}
-use Rattle.table.proofs.JudgeLaws.{shape-front, shape-refused, shape-passed}
-use Rattle.table.proofs.GoodLaws.{records-good, judged-front, judged-good}
+use Rattle.table.specs.declared.Room.the-variants.{P}
+use Rattle.table.specs.Table.{Table, front, judgeShape, judgeRecords, judgeFor, judgeLent}
+use Rattle.table.specs.Good.{Good}
+use Rattle.table.proofs.JudgeLaws.{shape-front}
+use Rattle.table.proofs.GoodLaws.{judged-front, judged-good, told-judged}
 use Rattle.extraction.specs.Extraction.{Result, resultMarked, outcomeMarked, outcomeFor, judgeExtract, ExtractLeft, leaves, resultRoom, resultStored, extractFor}
 use Rattle.extraction.specs.Work.{outcomeLeft}
 use Rattle.extraction.proofs.AcceptedLaws.{accepted}
 use Rattle.extraction.proofs.MarkedLaws.{outcome-agree, for-refused, for-passed, for-is}
 
 -- ---- judging lent tables with room for p is judging them, where there is room
-extract-judged : (given t : Table) (n : ℕ) → judgeExtract given n ≡ passed t → (judgeLent given ≡ passed t) × (t .header .rows * t .header .borders ≤ n)
-unfolding judgeExtract judgeLent
+extract-judged : (given t : Table) (n : ℕ) → judgeExtract given n ≡ passed t → (judgeLent given ≡ passed t) × (given .header .rows * given .header .borders ≤ n)
+unfolding judgeFor
 extract-judged given t n e =
     let w = then-passed (judgeShape given) _ t e in
     let k = need-passed t _ _ _ (w .second) in
-    let u = records-good (w .it) t (subst Exact (sym (shape-front given (w .it) (w .first) .0)) (shape-front given (w .it) (w .first) .1)) (k .1) in
-    (then-next judgeRecords (w .first) ∙ k .1, subst (λ (v : Table). v .header .rows * v .header .borders ≤ n) (sym (u .0)) (k .0))
+    (then-next _ (w .first) ∙ k .1, subst (λ (v : Table). v .header .rows * v .header .borders ≤ n) (shape-front given (w .it) (w .first) .0) (k .0))
 
 pub judged-lent : (given t : Table) (n : ℕ) → judgeExtract given n ≡ passed t → judgeLent given ≡ passed t
 judged-lent given t n e = extract-judged given t n e .0
 
 pub judged-roomy : (given : Table) (n : ℕ) → rowsMost * bordersMost ≤ n → judgeExtract given n ≡ judgeLent given
-unfolding judgeExtract judgeLent then
+unfolding judgeFor then
 judged-roomy given n enough = go (judgeShape given) refl
   where
     go : (j : Judged Table) → judgeShape given ≡ j → then j (λ t. need (t .header .rows * t .header .borders) n (judgeRecords t)) ≡ then j judgeRecords
@@ -51,60 +51,37 @@ judged-roomy given n enough = go (judgeShape given) refl
         let h = header-in (front given .header) (s .1 .header) in
         need-enough _ _ _ (subst (λ (u : Table). u .header .rows * u .header .borders ≤ n) (sym (s .0)) (omega (arith, mul-le-mul (h .rows-most) (h .borders-most))))
 
--- ---- which judgement decides, of lent tables
-module _ (given : Table) (n : ℕ) where
-  -- header and lengths, room for p, records
-  module _ (r : Judgement) (said : ruled r (front given) ≡ judgeShape given) where
-    pub shape-turned : (w : Refusal) → r ≡ Refused w → ruled r (front given) ≡ judgeExtract given n
-    unfolding judgeExtract
-    shape-turned w e = said ∙ shape-refused given r said w e ∙ sym (then-refused _ (shape-refused given r said w e))
+pub front-room : (given : Table) (n : ℕ) (r : Judgement) → ruled r (front given) ≡ judgeExtract given n → r ≡ Passed → given .header .rows * given .header .borders ≤ n
+front-room given n r said e = extract-judged given (front given) n (told-judged (P n) given r said e) .1
 
-    module _ (e : r ≡ Passed) where
-      pub short-p : n < given .header .rows * given .header .borders → refused (tooShort (given .header .rows * given .header .borders)) ≡ judgeExtract given n
-      unfolding judgeExtract
-      short-p l = sym (then-next _ (shape-passed given r said e) ∙ need-short _ _ _ l)
-
-      pub records-next : given .header .rows * given .header .borders ≤ n → judgeRecords (front given) ≡ judgeExtract given n
-      unfolding judgeExtract
-      records-next l = sym (then-next _ (shape-passed given r said e) ∙ need-enough _ _ _ l)
-
-module _ (given : Table) (ps : List ℕ) (r : Judgement) (said : ruled r (front given) ≡ judgeExtract given (length ps)) (e : r ≡ Passed) where
-  front-judged : judgeExtract given (length ps) ≡ passed (front given)
-  front-judged = sym said ∙ ap (λ (j : Judgement). ruled j (front given)) e
-
-  pub front-good : Good (front given)
-  front-good = judged-good given (front given) (extract-judged given (front given) (length ps) front-judged .0)
-
-  pub front-room : given .header .rows * given .header .borders ≤ length ps
-  front-room = extract-judged given (front given) (length ps) front-judged .1
-
+-- ---- which judgement decides: of lent tables ..
 module _ (all : Bool) (marks : List ℕ) (given : Table) (ps : List ℕ) (r : Judgement) (said : ruled r (front given) ≡ judgeExtract given (length ps)) where
   pub lent-refused : (atcs lefts : List (List ℤ)) (w : Refusal) → r ≡ Refused w → leaves (refused w) ps atcs lefts ≡ extractFor all marks given ps atcs lefts
   unfolding extractFor
   lent-refused atcs lefts w e = sym (either-refused _ _ (then-refused _ (sym said ∙ ap (λ (j : Judgement). ruled j (front given)) e)))
 
   module _ (e : r ≡ Passed) where
-    lent-outcome : (atcs lefts : List (List ℤ)) → outcomeLeft (outcomeFor all marks (front given)) ps atcs lefts ≡ extractFor all marks given ps atcs lefts
+    pub lent-outcome : (atcs lefts : List (List ℤ)) → outcomeLeft (outcomeFor all marks (front given)) ps atcs lefts ≡ extractFor all marks given ps atcs lefts
     unfolding extractFor outcomeLeft
-    lent-outcome atcs lefts = ap (λ (j : Judged Result). either j (resultStored ps atcs lefts) (λ w. leaves (refused w) ps atcs lefts)) (sym (then-next _ (front-judged given ps r said e)))
+    lent-outcome atcs lefts =
+        ap (λ (j : Judged Result). either j (resultStored ps atcs lefts) (λ w. leaves (refused w) ps atcs lefts))
+        (sym (then-next _ (told-judged (P (length ps)) given r said e)))
 
-    -- the marks, and then the outcome of the borders that the flags tell
-    module _ (j : Judgement) (told : ruled j marks ≡ judgeAsked all (given .header .borders) marks (passed marks)) where
-      pub marks-refused : (atcs lefts : List (List ℤ)) (w : Refusal) → j ≡ Refused w → leaves (refused w) ps atcs lefts ≡ extractFor all marks given ps atcs lefts
-      unfolding outcomeLeft
-      marks-refused atcs lefts w q = sym (either-refused _ _ (then-refused _ (for-refused all marks (front given) j told w q))) ∙ lent-outcome atcs lefts
+-- .. and of a table, as it was asked for: the marks, and then the outcome of the borders that the flags tell
+module _ (all : Bool) (marks : List ℕ) (t : Table) (ps : List ℕ) (atcs lefts : List (List ℤ)) (j : Judgement) (told : ruled j marks ≡ judgeAsked all (t .header .borders) marks (passed marks)) where
+  pub marks-refused : (w : Refusal) → j ≡ Refused w → leaves (refused w) ps atcs lefts ≡ outcomeLeft (outcomeFor all marks t) ps atcs lefts
+  unfolding outcomeLeft
+  marks-refused w q = sym (either-refused _ _ (then-refused _ (for-refused all marks t j told w q)))
 
-      pub lent-judged : (atcs lefts : List (List ℤ)) → j ≡ Passed → {flags : List ℕ} → flags ≡ flagsOf bordersMost all marks
-          → outcomeLeft (outcomeMarked (flagged (take (given .header .borders) flags)) (front given)) ps atcs lefts ≡ extractFor all marks given ps atcs lefts
-      lent-judged atcs lefts q {flags} f =
-          let few = header-in (given .header) (front-good given ps r said e .exact .header) .borders-most in
-          ap (λ (o : Judged Result). outcomeLeft o ps atcs lefts)
-          (outcome-agree (flagged (take (given .header .borders) flags)) (mayRise all marks) (front given) (flags-tell all marks (given .header .borders) f few)
-          ∙ sym (for-passed all marks (front given) j told q))
-          ∙ lent-outcome atcs lefts
+  pub marks-passed : j ≡ Passed → t .header .borders ≤ bordersMost → {flags : List ℕ} → flags ≡ flagsOf bordersMost all marks
+      → outcomeLeft (outcomeMarked (flagged (take (t .header .borders) flags)) t) ps atcs lefts ≡ outcomeLeft (outcomeFor all marks t) ps atcs lefts
+  marks-passed q few {flags} f =
+      ap (λ (o : Judged Result). outcomeLeft o ps atcs lefts)
+      (outcome-agree (flagged (take (t .header .borders) flags)) (mayRise all marks) t (flags-tell all marks (t .header .borders) f few)
+      ∙ sym (for-passed all marks t j told q))
 
 -- ---- with room for the most p, borders and rows, the answer and the records are those of the outcome
-module _ (all : Bool) (marks : List ℕ) (given : Table) (ps : List ℕ) (atcs lefts : List (List ℤ)) (hp : rowsMost * bordersMost ≤ length ps) (hb : bordersMost ≤ length atcs) (hr : rowsMost ≤ length lefts) where
+module _ (all : Bool) (marks : List ℕ) (ps : List ℕ) (atcs lefts : List (List ℤ)) (hb : bordersMost ≤ length atcs) (hr : rowsMost ≤ length lefts) where
   enough : (t : Table) → Good t → (o : Judged Result) → outcomeFor all marks t ≡ o → then o (resultRoom atcs lefts) ≡ o
   unfolding then resultMarked
   enough t good (passed r) e =
@@ -113,15 +90,20 @@ module _ (all : Bool) (marks : List ℕ) (given : Table) (ps : List ℕ) (atcs l
       need-enough _ _ _ (omega (arith, h .borders-most, ap (λ (v : Header). v .borders) k)) ∙ need-enough _ _ _ (omega (arith, h .rows-most, ap (λ (v : Header). v .rows) k))
   enough t good (refused w) e = refl
 
-  pub extract-roomy : extractFor all marks given ps atcs lefts ≡ either (then (judgeLent given) (outcomeFor all marks)) (resultStored ps atcs lefts) (λ w. leaves (refused w) ps atcs lefts)
-  unfolding extractFor then
-  extract-roomy =
-      ap (λ (j : Judged Result). either j (resultStored ps atcs lefts) (λ w. leaves (refused w) ps atcs lefts))
-      (ap (λ (j : Judged Table). then j (λ t. then (outcomeFor all marks t) (resultRoom atcs lefts))) (judged-roomy given (length ps) hp) ∙ go (judgeLent given) refl)
-    where
-      go : (j : Judged Table) → judgeLent given ≡ j → then j (λ t. then (outcomeFor all marks t) (resultRoom atcs lefts)) ≡ then j (outcomeFor all marks)
-      go (passed t) e = enough t (judged-good given t e) (outcomeFor all marks t) refl
-      go (refused w) e = refl
+  pub outcome-roomy : (t : Table) → Good t → outcomeLeft (outcomeFor all marks t) ps atcs lefts ≡ either (outcomeFor all marks t) (resultStored ps atcs lefts) (λ w. leaves (refused w) ps atcs lefts)
+  unfolding outcomeLeft
+  outcome-roomy t good = ap (λ (j : Judged Result). either j (resultStored ps atcs lefts) (λ w. leaves (refused w) ps atcs lefts)) (enough t good (outcomeFor all marks t) refl)
+
+pub extract-roomy : (all : Bool) (marks : List ℕ) (given : Table) (ps : List ℕ) (atcs lefts : List (List ℤ)) → rowsMost * bordersMost ≤ length ps → bordersMost ≤ length atcs → rowsMost ≤ length lefts
+    → extractFor all marks given ps atcs lefts ≡ either (then (judgeLent given) (outcomeFor all marks)) (resultStored ps atcs lefts) (λ w. leaves (refused w) ps atcs lefts)
+unfolding extractFor then
+extract-roomy all marks given ps atcs lefts hp hb hr =
+    ap (λ (j : Judged Result). either j (resultStored ps atcs lefts) (λ w. leaves (refused w) ps atcs lefts))
+    (ap (λ (j : Judged Table). then j (λ t. then (outcomeFor all marks t) (resultRoom atcs lefts))) (judged-roomy given (length ps) hp) ∙ go (judgeLent given) refl)
+  where
+    go : (j : Judged Table) → judgeLent given ≡ j → then j (λ t. then (outcomeFor all marks t) (resultRoom atcs lefts)) ≡ then j (outcomeFor all marks)
+    go (passed t) e = enough all marks ps atcs lefts hb hr t (judged-good given t e) (outcomeFor all marks t) refl
+    go (refused w) e = refl
 
 -- ---- an answer with rounds: the front of the tables was accepted, and its result is what is left
 pub record AcceptedFor (all : Bool) (marks : List ℕ) (given : Table) (ps : List ℕ) (atcs lefts : List (List ℤ)) (k : ℕ) : Type 0 where

@@ -19,7 +19,8 @@ use Rattle.rounds.specs.Last.{lastRounds}
 use Rattle.rounds.specs.Stopping.{stopRows}
 use Rattle.rounds.proofs.Theorems.{same-factors, same-lasts, same-stops}
 use Rattle.start.specs.Setup.{Setup, gridBy}
-use Rattle.start.specs.Start.{rowsOf, kept, gridMarked, tableGrid, tableStart, judgeMarked, setupOf, setupWith}
+use Rattle.states.specs.Rows.{rowsOf}
+use Rattle.start.specs.Start.{kept, gridMarked, tableGrid, tableStart, judgeMarked, setupOf, setupWith}
 use Rattle.start.specs.Filled.{cells}
 use Rattle.start.proofs.SameMarks.{p-marks, judge-marks}
 use Rattle.extraction.specs.Extraction.{Result, resultMarked, outcomeMarked, outcomeFor}

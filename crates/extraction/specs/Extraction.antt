@@ -3,7 +3,7 @@
 use mathlib.Core.Bool.{Bool, true, false, cond}
 use mathlib.Core.List.{List, [], _∷_}
 use mathlib.Core.Option.{Option, none, some}
-use Prim.Native.Nat.{ℕ, _*_, _/_}
+use Prim.Native.Nat.{ℕ, _/_}
 use lib.Dec.{eqb}
 use lib.IntN.{ℤ, pos}
 use lib.ListN.{length, getD}
@@ -13,11 +13,13 @@ use Rattle.kinds.specs.declared.Header.{Header}
 use Rattle.kinds.specs.Ranges.{atℤ}
 use Rattle.kinds.specs.Refusals.{Judged, passed, refused, then, either, need}
 use Rattle.marks.specs.Marks.{judgeAsked, mayRise}
-use Rattle.table.specs.Table.{Table, judgeShape, judgeRecords}
+use Rattle.table.specs.declared.Room.the-variants.{P}
+use Rattle.table.specs.Table.{Table, judgeFor}
 use Rattle.rounds.specs.Rounds.{Grid, State, Outcome, extract, mostSharers, aloneBits}
 use Rattle.rounds.specs.Last.{lastRounds}
 use Rattle.rounds.specs.Stopping.{stopRows}
-use Rattle.start.specs.Start.{Rows, rowsOf, every, gridMarked, tableGrid, tableStart, judgeMarked}
+use Rattle.states.specs.Rows.{Rows, rowsOf}
+use Rattle.start.specs.Start.{every, gridMarked, tableGrid, tableStart, judgeMarked}
 use Rattle.start.specs.Filled.{cells}
 
 -- the whole result: what the rows were, p of each row at each border (row after row, border after border), where the rounds ended, and of each
@@ -107,9 +109,9 @@ atcRecord r b = borderLeft (at (r .outcome .state .x) b) (lastOf r b) (stopOf r 
 unfoldable pub rowRecord : Result → (i : ℕ) → List ℤ
 rowRecord r i = leftOfRow (at (r .rows .states) i) (atℤ (r .rows .rams) i) (leftOf r i)
 
--- lent tables, and room for so many p: lengths (8) of the tables, of the room for p, and only then records
-unfoldable pub judgeExtract : (given : Table) → (resultRoom : ℕ) → Judged Table
-judgeExtract given resultRoom = then (judgeShape given) (λ t. need (t .header .rows * t .header .borders) resultRoom (judgeRecords t))
+-- lent tables, and room for so many p
+abbrev pub judgeExtract : (given : Table) → (items : ℕ) → Judged Table
+judgeExtract given items = judgeFor (P items) given
 
 -- what `extract` leaves: its answer, the lent table of p, and the lent results; last comes room for results, border results before row results
 pub record ExtractLeft : Type 0 where

@@ -18,7 +18,7 @@ use Rattle.rounds.specs.Last.{lastRounds}
 use Rattle.rounds.specs.Stopping.{shareLeft}
 use Rattle.rounds.specs.Work.{flat}
 use Rattle.margin.specs.Bounds.{BordersBound}
-use Rattle.start.specs.Start.{Rows}
+use Rattle.states.specs.Rows.{Rows}
 use Rattle.start.specs.Filled.{froms}
 use Rattle.extraction.specs.Extraction.{Result, resultBy, atcRecord, rowRecord, ExtractLeft, leaves, resultRoom, resultStored}
 

@@ -23,7 +23,7 @@ use Rattle.margin.proofs.Small.{named-values-small}
 use Rattle.corners.specs.Corners.{flowsOf, bit, Stands}
 use Rattle.corners.proofs.Theorems.{every-corner-stands}
 use Rattle.states.proofs.OneKept.{OneKept, one-kept}
-use Rattle.start.specs.Start.{Rows, rowsOf}
+use Rattle.states.specs.Rows.{Rows, rowsOf}
 use Rattle.extraction.specs.Extraction.{outcomeFor}
 use Rattle.promises.specs.Replaced.{replaced, ReplacedSame}
 use Rattle.promises.proofs.ReplacedSame.{replaced-same}

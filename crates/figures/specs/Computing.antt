@@ -4,10 +4,11 @@ use Rattle.promises.specs.Demand.{loadOf}
 use Rattle.promises.specs.Order.{reorder}
 use Rattle.promises.specs.Ways.{resultIn, outcomeIn, outcomeTaking, unshortened}
 use Rattle.marks.specs.Marks.{markedBy, faultyMark, judgeMarks}
+use Rattle.states.specs.Rows.{rowsOf}
 use Rattle.start.specs.Setup.{gridBy, beginBy, judgeBy, endBy}
-use Rattle.start.specs.Start.{rowsOf, kept, gridOf, startOf, judgeStart, setupWith}
-use Rattle.extraction.specs.Extraction.{resultOf, atcOf, leftOf, lastOf, stopOf, outcomeOf, nOf, lOf, atcRecord, rowRecord, judgeExtract, extractFor, extractLeft, extractMarkedLeft, outcomeFor, outcomeMarked, resultMarked}
-use Rattle.corners.specs.Corners.{raisedBy, cornerFlows, judgeCorners, cornersLeft}
+use Rattle.start.specs.Start.{kept, gridOf, startOf, judgeStart, setupWith}
+use Rattle.extraction.specs.Extraction.{resultOf, atcOf, leftOf, lastOf, stopOf, outcomeOf, nOf, lOf, atcRecord, rowRecord, extractFor, extractLeft, extractMarkedLeft, outcomeFor, outcomeMarked, resultMarked}
+use Rattle.corners.specs.Corners.{raisedBy, cornerFlows, judgeCorners, sheetLeft, cornersLeft}
 use Rattle.cornertext.specs.CornerText.{cornersText, cornerTextLeft}
 use Rattle.kinds.specs.Ranges.{headerFits, allocatedItems, zoneFits, exists, hubsFit, hubsOf, borderFits, borderOf, shareOf, rowOf, rowFits, factorFits, worth, defaultOf}
 use Rattle.kinds.specs.Refusals.{then, either, unless, refuseAt, refuseFirst, need}
@@ -23,7 +24,7 @@ use Rattle.answer.specs.Result.{resultText, answerFor, answerText, resultTextFo
 use Rattle.result.specs.Records.{orDash, recordsText}
 use Rattle.result.specs.Refusal.{refusalText}
 use Rattle.rounds.specs.Rounds.{sharers, raise, alone, raises, load, lowered, risen, apply, next, raised, counted, run, extract, mostSharers, bitsTo, bits, aloneBits}
-use Rattle.table.specs.Table.{stretch, balanced, twice, roomFor, judgeShape, judgeLent}
+use Rattle.table.specs.Table.{stretch, balanced, twice, roomFor, judgeShape, judgeFor}
 use Rattle.rounds.specs.Last.{after, raiseIn, lastTo, lastRound}
 use Rattle.rounds.specs.Stopping.{stopRow}
 use Rattle.columns.specs.Columns.{fieldAt, fieldsAt}
@@ -39,5 +40,5 @@ use Rattle.text.specs.Written.{textOf, decimal, decimalℤ, fieldsText, lineTex
 use Rattle.writing.specs.Writing.{tableText, writeLeft, rewriteCorrectedLeft}
 
 unfoldable pub computing : Unit {0}
-unfolding markedBy faultyMark judgeMarks extractMarkedLeft answerFor resultTextFor resultTextMarkedLeft answerForLeft answerMarkedLeft linesAt loadOf reorder resultIn outcomeIn outcomeTaking unshortened endBy rowsOf kept gridOf startOf resultOf atcOf leftOf lastOf stopOf judgeStart outcomeOf nOf lOf atcRecord rowRecord judgeExtract extractLeft raisedBy cornerFlows judgeCorners cornersLeft cornersText cornerTextLeft headerFits allocatedItems zoneFits exists hubsFit hubsOf borderFits borderOf shareOf rowOf rowFits factorFits worth defaultOf then either unless refuseAt refuseFirst need grains f0coreOf fuafOf baseOf amrOf signedFactor pOf ltaKw cornerPart cornerSum sOf ltaMarginOf ramOf ramAt highest lowest spreadOf shifted below stateOf ifZero sum count largest lesser least orZero table firstFrom given maxℤ minℤ positivePart sameℤ inside sumℤ headerLine positionLine borderLine rowLine oneSheet everySheet ofRow endedIndex givenIndex dueIndex linesBy readText readCorrected tablesLeft orDash recordsText resultText refusalText answerText resultTextLeft answerLeft answerWith answerWithLeft answerCorrectedLeft sharers raise alone raises load lowered risen apply next raised counted run extract after raiseIn lastTo lastRound stopRow mostSharers bitsTo bits aloneBits stretch balanced twice roomFor judgeShape judgeLent numberAt signedAt shareAt textOf decimal decimalℤ fieldsText lineText linesText tableText textLeft writeLeft rewriteCorrectedLeft fieldAt fieldsAt indexAt restAt columnsLine plainLine plainOptional optionalLine fieldText fieldsEnded indexText columnsText plainText gridBy setupWith beginBy judgeBy goodAt byteAt fieldsByte lineByte plainByte pastSeps rangeByte resultMarked outcomeMarked extractFor outcomeFor
+unfolding markedBy faultyMark judgeMarks extractMarkedLeft answerFor resultTextFor resultTextMarkedLeft answerForLeft answerMarkedLeft linesAt loadOf reorder resultIn outcomeIn outcomeTaking unshortened endBy rowsOf kept gridOf startOf resultOf atcOf leftOf lastOf stopOf judgeStart outcomeOf nOf lOf atcRecord rowRecord extractLeft raisedBy cornerFlows judgeCorners sheetLeft cornersLeft cornersText cornerTextLeft headerFits allocatedItems zoneFits exists hubsFit hubsOf borderFits borderOf shareOf rowOf rowFits factorFits worth defaultOf then either unless refuseAt refuseFirst need grains f0coreOf fuafOf baseOf amrOf signedFactor pOf ltaKw cornerPart cornerSum sOf ltaMarginOf ramOf ramAt highest lowest spreadOf shifted below stateOf ifZero sum count largest lesser least orZero table firstFrom given maxℤ minℤ positivePart sameℤ inside sumℤ headerLine positionLine borderLine rowLine oneSheet everySheet ofRow endedIndex givenIndex dueIndex linesBy readText readCorrected tablesLeft orDash recordsText resultText refusalText answerText resultTextLeft answerLeft answerWith answerWithLeft answerCorrectedLeft sharers raise alone raises load lowered risen apply next raised counted run extract after raiseIn lastTo lastRound stopRow mostSharers bitsTo bits aloneBits stretch balanced twice roomFor judgeShape judgeFor numberAt signedAt shareAt textOf decimal decimalℤ fieldsText lineText linesText tableText textLeft writeLeft rewriteCorrectedLeft fieldAt fieldsAt indexAt restAt columnsLine plainLine plainOptional optionalLine fieldText fieldsEnded indexText columnsText plainText gridBy setupWith beginBy judgeBy goodAt byteAt fieldsByte lineByte plainByte pastSeps rangeByte resultMarked outcomeMarked extractFor outcomeFor
 computing = tt

@@ -14,7 +14,7 @@ use Rattle.rounds.specs.Rounds.{Grid, sharers, raise}
 use Rattle.table.specs.Table.{Table, factorsAt}
 use Rattle.margin.specs.Margin.{grains, baseOf, amrOf, ramAt, ramsOf}
 use Rattle.states.specs.States.{spreadOf, stateOf}
-use Rattle.start.specs.Start.{rowsOf}
+use Rattle.states.specs.Rows.{rowsOf}
 use Rattle.extraction.specs.Extraction.{Result, outcomeOf}
 use Rattle.answer.specs.Result.{answerText}
 use Rattle.text.specs.Sheets.{sheet}

@@ -15,8 +15,9 @@ use Rattle.table.specs.Table.{Table, factorsAt}
 use Rattle.table.specs.Good.{Good}
 use Rattle.rounds.specs.Rounds.{sharers}
 use Rattle.margin.specs.Margin.{pOf, marginOf, startsOf}
+use Rattle.states.specs.Rows.{rowsOf}
 use Rattle.start.specs.Setup.{gridBy, beginBy}
-use Rattle.start.specs.Start.{rowsOf, kept, tableGrid, tableStart, setupWith}
+use Rattle.start.specs.Start.{kept, tableGrid, tableStart, setupWith}
 use Rattle.parts.specs.Parts.{nOf, startFrom, partsOf}
 
 start-part : (intraday : Bool) (z : ℤ) → positivePart (startFrom intraday z) ≡ positivePart z

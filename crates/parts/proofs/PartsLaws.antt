@@ -1,5 +1,5 @@
 -- The laws of `specs/Parts.antt` and `specs/Stored.antt`: n, that what is stored is what the definitions say, and what a call leaves. No contract cites this file.
-use mathlib.Core.Path.{_≡_, refl, sym, ap, _∙_}
+use mathlib.Core.Path.{_≡_, sym, ap, _∙_}
 use mathlib.Core.Bool.{Bool}
 use mathlib.Core.List.{List, []}
 use Prim.Native.Nat.{ℕ, _≤_, _<_}
@@ -16,16 +16,19 @@ use Rattle.kinds.specs.declared.Row.{Row}
 use Rattle.kinds.specs.Answers.{ruled}
 use Rattle.kinds.specs.Limits.{bordersMost}
 use Rattle.kinds.specs.Ranges.{atℤ, isIntraday, borderOf, rowOf, defaultOf}
-use Rattle.kinds.specs.Refusals.{Judged, passed, refused, tooShort}
+use Rattle.kinds.specs.Refusals.{passed, refused, tooShort}
 use Rattle.kinds.proofs.RefusalLaws.{then-next, then-refused, either-passed, either-refused, need-enough, need-short}
+use Rattle.table.specs.declared.Room.the-variants.{None}
 use Rattle.table.specs.Table.{Table, front, stretch, judgeLent}
 use Rattle.table.specs.Good.{Good}
+use Rattle.table.proofs.GoodLaws.{told-judged}
 use Rattle.margin.specs.Bounds.{BordersBound}
 use Rattle.margin.specs.Margin.{pOf, f0coreOf, sOf, ramAt, marginOf, ramsOf, startsOf}
 use Rattle.margin.proofs.JudgedLaws.{good-factors, good-borders, good-nets}
-use Rattle.states.specs.States.{stateOf, statesOf}
-use Rattle.states.proofs.StateLaws.{state-most}
-use Rattle.parts.specs.Parts.{nOf, startFrom, partsOf, recordOf, recordsOf, leaves, partsLeft, marginsLeft}
+use Rattle.states.specs.States.{stateOf}
+use Rattle.states.specs.Rows.{Rows, rowsOf, rowsWith}
+use Rattle.states.proofs.RowsLaws.{rows-in}
+use Rattle.parts.specs.Parts.{nOf, startFrom, partsOf, recordOf, recordsOf, leaves, marginsLeft}
 use Rattle.parts.specs.Stored.{partsBy, partsAt, Storable}
 
 -- ---- n
@@ -46,20 +49,20 @@ module _ (h : Header) (nets : List ℤ) (borders rows : List (List ℤ)) (factor
   stored-at d u e s = cc
 
 -- ---- each row, by the lists that were filled in
-module _ (t : Table) {rams starts : List ℤ} {states : List ℕ} (r : rams ≡ ramsOf t) (s : starts ≡ startsOf t) (u : states ≡ statesOf (t .header) (t .factors) rams) where
-  state-at : (i : ℕ) → i < t .header .rows → at states i ≡ stateOf (t .header) (t .factors) rams i
-  state-at i h = ap (λ (l : List ℕ). at l i) u ∙ table-get (t .header .rows) (stateOf (t .header) (t .factors) rams) i 0 h
+module _ (t : Table) {rams starts : List ℤ} {states : List ℕ} (r : rowsWith rams states ≡ rowsOf t) (s : starts ≡ startsOf t) where
+  state-at : (i : ℕ) → i < t .header .rows → at states i ≡ stateOf (t .header) (t .factors) (ramsOf t) i
+  unfolding rowsOf
+  state-at i h = ap (λ (m : Rows). at (m .states) i) r ∙ table-get (t .header .rows) (stateOf (t .header) (t .factors) (ramsOf t)) i 0 h
 
   row-is : (i : ℕ) → i < t .header .rows → recordOf (partsAt (t .header) (t .nets) (t .borders) (t .rows) (t .factors) rams starts states i) ≡ recordOf (partsOf t i)
-  unfolding partsOf
+  unfolding partsOf rowsOf
   row-is i h =
-      let state : at states i ≡ stateOf (t .header) (t .factors) (ramsOf t) i = state-at i h ∙ ap (λ (l : List ℤ). stateOf (t .header) (t .factors) l i) r in
-      let ram : atℤ rams i ≡ ramAt t i = ap (λ (l : List ℤ). atℤ l i) r ∙ table-get (t .header .rows) (ramAt t) i _ h in
+      let ram : atℤ rams i ≡ ramAt t i = ap (λ (m : Rows). atℤ (m .rams) i) r ∙ table-get (t .header .rows) (ramAt t) i _ h in
       let start : atℤ starts i ≡ marginOf t i = ap (λ (l : List ℤ). atℤ l i) s ∙ table-get (t .header .rows) (marginOf t) i _ h in
-      rw (state, ram, start)
+      rw (state-at i h, ram, start)
 
-  pub stored-are : table (t .header .rows) (λ i. recordOf (partsAt (t .header) (t .nets) (t .borders) (t .rows) (t .factors) rams starts states i)) ≡ recordsOf t
-  stored-are = table-cong (t .header .rows) _ _ row-is
+  pub stored-are : (out : List (List ℤ)) → over (table (t .header .rows) (λ i. recordOf (partsAt (t .header) (t .nets) (t .borders) (t .rows) (t .factors) rams starts states i))) out ≡ over (recordsOf t) out
+  stored-are out = ap (λ (l : List (List ℤ)). over l out) (table-cong (t .header .rows) _ _ row-is)
 
   pub storable : Good t → Storable (t .header) (t .nets) (t .borders) (t .rows) (t .factors) states
   storable good =
@@ -70,29 +73,22 @@ module _ (t : Table) {rams starts : List ℤ} {states : List ℕ} (r : rams ≡ 
         rows-long = good .exact .rows-long;
         rows-in = good .rows-fit;
         factors-in = good-factors good;
-        states-in = λ i h. rw (state-at i h) (state-most (t .header) (t .factors) rams i);
+        states-in = rows-in t (rowsWith rams states) r .states-in;
       }
 
 -- ---- what is left
-module _ (t : Table) (out : List (List ℤ)) where
-  pub parts-short : length out < t .header .rows → leaves (refused (tooShort (t .header .rows))) out ≡ partsLeft (passed t) out
-  unfolding partsLeft
-  parts-short h = sym (either-refused _ _ (then-next _ refl ∙ need-short _ _ _ h))
-
-  pub parts-stored : t .header .rows ≤ length out → {out′ : List (List ℤ)} → out′ ≡ over (recordsOf t) out → leaves (passed tt) out′ ≡ partsLeft (passed t) out
-  unfolding partsLeft
-  parts-stored h e = ap (leaves (passed tt)) e ∙ sym (either-passed _ _ (then-next _ refl ∙ need-enough _ _ _ h))
-
-module _ (given : Table) (r : Judgement) (said : ruled r (front given) ≡ judgeLent given) where
-  pub margins-refused : (out : List (List ℤ)) (w : Refusal) → r ≡ Refused w → leaves (ruled r tt) out ≡ marginsLeft given out
-  unfolding marginsLeft partsLeft
-  margins-refused out w e =
+module _ (given : Table) (r : Judgement) (said : ruled r (front given) ≡ judgeLent given) (out : List (List ℤ)) where
+  pub margins-refused : (w : Refusal) → r ≡ Refused w → leaves (ruled r tt) out ≡ marginsLeft given out
+  unfolding marginsLeft
+  margins-refused w e =
       ap (λ (j : Judgement). leaves (ruled j tt) out) e
       ∙ sym (either-refused _ _ (then-refused _ (sym said ∙ ap (λ (j : Judgement). ruled j (front given)) e)))
 
-  pub past-judge : r ≡ Passed → judgeLent given ≡ passed (front given)
-  past-judge e = sym said ∙ ap (λ (j : Judgement). ruled j (front given)) e
+  module _ (e : r ≡ Passed) where
+    pub margins-short : length out < given .header .rows → leaves (refused (tooShort (given .header .rows))) out ≡ marginsLeft given out
+    unfolding marginsLeft
+    margins-short h = sym (either-refused _ _ (then-next _ (told-judged None given r said e) ∙ need-short _ _ _ h))
 
-  pub margins-on : (out : List (List ℤ)) → r ≡ Passed → partsLeft (passed (front given)) out ≡ marginsLeft given out
-  unfolding marginsLeft
-  margins-on out e = ap (λ (j : Judged Table). partsLeft j out) (sym (past-judge e))
+    pub margins-stored : given .header .rows ≤ length out → {out′ : List (List ℤ)} → out′ ≡ over (recordsOf (front given)) out → leaves (passed tt) out′ ≡ marginsLeft given out
+    unfolding marginsLeft
+    margins-stored h q = ap (leaves (passed tt)) q ∙ sym (either-passed _ _ (then-next _ (told-judged None given r said e) ∙ need-enough _ _ _ h))

@@ -76,13 +76,9 @@ pub record MarginsLeft : Type 0 where
 abbrev pub leaves : (answer : Judged (Unit {0})) → (out : List (List ℤ)) → MarginsLeft
 leaves answer out = record { answer = answer; out = out }
 
--- room for a record of each row comes last (8); a refusal writes nothing
-unfoldable pub partsLeft : Judged Table → (out : List (List ℤ)) → MarginsLeft
-partsLeft judged out =
-    either (then judged (λ t. need (t .header .rows) (length out) (passed t)))
+-- a lent table is judged as for writing: 5, 6 and 7 are not looked at; room for a record of each row comes last (8), and a refusal writes nothing
+unfoldable pub marginsLeft : (given : Table) → (out : List (List ℤ)) → MarginsLeft
+marginsLeft given out =
+    either (then (judgeLent given) (λ t. need (t .header .rows) (length out) (passed t)))
     (λ t. leaves (passed tt) (over (recordsOf t) out))
     (λ w. leaves (refused w) out)
-
--- a lent table is judged as for writing: 5, 6 and 7 are not looked at
-unfoldable pub marginsLeft : (given : Table) → (out : List (List ℤ)) → MarginsLeft
-marginsLeft given out = partsLeft (judgeLent given) out

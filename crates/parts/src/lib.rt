@@ -7,10 +7,9 @@ ghost use Prim.Native.Nat.{_≤_};
 ghost use lib.ListN.{length};
 ghost use Rattle.numbers.specs.Below.{table, over};
 ghost use Rattle.kinds.specs.Answers.{ruled};
-ghost use Rattle.kinds.specs.Refusals.{passed};
-ghost use Rattle.table.specs.Table.{lent};
+ghost use Rattle.table.specs.Table.{lent, front};
 ghost use Rattle.table.specs.Good.{Good};
-ghost use Rattle.parts.specs.Parts.{recordOf, recordsOf, leaves, partsLeft, marginsLeft};
+ghost use Rattle.parts.specs.Parts.{recordOf, recordsOf, leaves, marginsLeft};
 ghost use Rattle.parts.specs.Stored.{partsAt, Storable};
 use kinds::BorderRecord;
 use kinds::Header;
@@ -35,27 +34,20 @@ pub fn margins(
 ) -> Judgement
     ensures { λ r. ⌜ leaves (ruled r tt) (now (out .exit)) ≡ marginsLeft (lent h (now (z .entry)) (now (t .entry)) (now (b .entry)) (now (c .entry)) (now (f .entry))) (now (out .entry)) ⌝ }
 {
-    let judged = table::judge(h, z, t, b, c, f);
+    let judged = table::judge(h, z, t, b, c, f, table::Room::None);
     let Judgement::Passed = judged else {
         return judged;
     };
-    let zones = h.zones;
-    let allocated = h.allocated_items();
-    let borders = h.borders;
     let rows = h.rows;
-    margins_judged(
-        h,
-        &z[..zones],
-        &t[..allocated],
-        &b[..borders],
-        &c[..rows],
-        &f[..rows * zones],
-        out,
-    )
+    if out.len() < rows {
+        return Judgement::Refused(Refusal::too_short(rows));
+    }
+    margins_good(h, z, t, b, c, f, out);
+    Judgement::Passed
 }
 
-// A judged table: what is left to judge is the room. The room to work in is made here, and not in `fill_parts`, whose goals would spell it out.
-fn margins_judged(
+// .. of a good table. The room to work in is made here, and not in `fill_parts`, whose goals would spell it out.
+pub fn margins_good(
     h: Header,
     z: &[i64],
     t: &[i64],
@@ -63,14 +55,12 @@ fn margins_judged(
     c: &[RowRecord],
     f: &[i64],
     out: &mut [PartsRecord],
-) -> Judgement
-    requires { ⌜ Good (lent h (now z) (now t) (now b) (now c) (now f)) ⌝ }
-    ensures { λ r. ⌜ leaves (ruled r tt) (now (out .exit)) ≡ partsLeft (passed (lent h (now (z .entry)) (now (t .entry)) (now (b .entry)) (now (c .entry)) (now (f .entry)))) (now (out .entry)) ⌝ }
+)
+    requires { ⌜ Good (front (lent h (now z) (now t) (now b) (now c) (now f))) ⌝ }
+    requires { ⌜ h .rows ≤ length (now out) ⌝ }
+    ensures { λ _. ⌜ now (out .exit) ≡ over (recordsOf (front (lent h (now (z .entry)) (now (t .entry)) (now (b .entry)) (now (c .entry)) (now (f .entry))))) (now (out .entry)) ⌝ }
 {
     let rows = h.rows;
-    if out.len() < rows {
-        return Judgement::Refused(Refusal::too_short(rows));
-    }
     let mut rams: [i64; Header::ROWS_MOST] = [0; Header::ROWS_MOST];
     let mut starts: [i64; Header::ROWS_MOST] = [0; Header::ROWS_MOST];
     let mut states: [u64; Header::ROWS_MOST] = [0; Header::ROWS_MOST];
@@ -86,7 +76,6 @@ fn margins_judged(
         &mut states[..rows],
         out,
     );
-    Judgement::Passed
 }
 
 // RAMs, starting margins and states, by the functions that the extraction calls, and then the records.
@@ -102,14 +91,26 @@ fn fill_parts(
     states: &mut [u64],
     out: &mut [PartsRecord],
 )
-    requires { ⌜ Good (lent h (now z) (now t) (now b) (now c) (now f)) ⌝ }
+    requires { ⌜ Good (front (lent h (now z) (now t) (now b) (now c) (now f))) ⌝ }
     requires { ⌜ (length (now rams) ≡ h .rows) × (length (now starts) ≡ h .rows) ⌝ }
     requires { ⌜ (length (now states) ≡ h .rows) × (h .rows ≤ length (now out)) ⌝ }
-    ensures { λ _. ⌜ now (out .exit) ≡ over (recordsOf (lent h (now (z .entry)) (now (t .entry)) (now (b .entry)) (now (c .entry)) (now (f .entry)))) (now (out .entry)) ⌝ }
+    ensures { λ _. ⌜ now (out .exit) ≡ over (recordsOf (front (lent h (now (z .entry)) (now (t .entry)) (now (b .entry)) (now (c .entry)) (now (f .entry))))) (now (out .entry)) ⌝ }
 {
-    margin::fill_rams(h, z, t, b, c, f, rams, starts);
-    states::fill_states(h, f, rams, states);
-    store_parts(h, z, b, c, f, rams, starts, states, out);
+    states::fill_rows(h, z, t, b, c, f, rams, starts, states);
+    let zones = h.zones;
+    let borders = h.borders;
+    let rows = h.rows;
+    store_parts(
+        h,
+        &z[..zones],
+        &b[..borders],
+        &c[..rows],
+        &f[..rows * zones],
+        rams,
+        starts,
+        states,
+        out,
+    );
 }
 
 fn store_parts(

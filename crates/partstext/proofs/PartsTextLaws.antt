@@ -1,4 +1,4 @@
--- The laws of `specs/PartsText.antt`: how long a line and the text get, what `margins` tells, and what is left. No contract cites this file.
+-- The laws of `specs/PartsText.antt`: how long a line and the text get, where the records stand, and what is left. No contract cites this file.
 use mathlib.Core.Path.{_≡_, refl, sym, ap, subst, _∙_}
 use mathlib.Core.Bool.{Bool, true, false}
 use mathlib.Core.List.{List, []}
@@ -8,7 +8,7 @@ use native.Mathlib.Omega.{arith}
 use lib.IntN.{ℤ, pos, natAbs}
 use lib.ListN.{length, getD, take, drop, length-append}
 use lib.Seq.{take-at}
-use Rattle.numbers.specs.Below.{table, over}
+use Rattle.numbers.specs.Below.{over}
 use Rattle.numbers.specs.Ints.{Within}
 use Rattle.numbers.proofs.BelowLaws.{table-long, table-get}
 use Rattle.numbers.proofs.IntLaws.{within-pos, within-max}
@@ -20,7 +20,7 @@ use Rattle.kinds.specs.Limits.{bordersMost, rowsMost}
 use Rattle.kinds.specs.Ranges.{isIntraday}
 use Rattle.kinds.specs.Refusals.{Judged, passed, refused}
 use Rattle.kinds.proofs.KindLaws.{header-in}
-use Rattle.kinds.proofs.RefusalLaws.{refused-is, not-passed, then-next, then-refused, either-passed, either-refused, need-enough}
+use Rattle.kinds.proofs.RefusalLaws.{then-next, then-refused}
 use Rattle.text.specs.Fields.{tab}
 use Rattle.text.specs.Left.{TextLeft, textLeft}
 use Rattle.text.proofs.LeftLaws.{text-refused}
@@ -28,16 +28,17 @@ use Rattle.text.proofs.PutLaws.{lines-most}
 use Rattle.text.proofs.WrittenLaws.{decimal-long, decimalℤ-long}
 use Rattle.columns.specs.ColumnText.{fieldText, fieldsLength}
 use Rattle.columns.proofs.ColumnPut.{line-long}
+use Rattle.table.specs.declared.Room.the-variants.{None}
 use Rattle.table.specs.Table.{Table, front, factorsAt, judgeLent}
 use Rattle.table.specs.Good.{Good}
-use Rattle.table.proofs.GoodLaws.{judged-front, judged-good}
+use Rattle.table.proofs.GoodLaws.{told-judged}
 use Rattle.margin.specs.Bounds.{startBits}
 use Rattle.margin.specs.Margin.{ramsOf}
 use Rattle.margin.proofs.BoundLaws.{within-grains}
 use Rattle.margin.proofs.JudgedLaws.{row-bound, good-borders}
 use Rattle.margin.proofs.Small.{start-in, named-values-small}
 use Rattle.states.proofs.StateLaws.{state-most}
-use Rattle.parts.specs.Parts.{Parts, nOf, startFrom, partsOf, recordOf, recordsOf, MarginsLeft, leaves, partsLeft, marginsLeft}
+use Rattle.parts.specs.Parts.{Parts, nOf, startFrom, partsOf, recordOf, recordsOf}
 use Rattle.parts.proofs.PartsLaws.{n-few}
 use Rattle.partstext.specs.PartsText.{partsColumns, partsLine, partsLineAt, partsText, partsLineMost, partsMost, marginsTextLeft}
 
@@ -117,66 +118,26 @@ module _ {t : Table} (good : Good t) where
   pub parts-text-most : length (partsText (recordsOf t)) ≤ partsMost
   parts-text-most = omega (arith, lines-most (partsLineAt (recordsOf t)) (length (recordsOf t)) lines-short, records-few)
 
--- ---- what `margins` tells of a judgement, where its room is enough for every table
--- the records that were filled in
-pub record PartsTold (given : Table) (o : List (List ℤ)) : Type 0 where
-  pub judged : judgeLent given ≡ passed (front given)
-  pub first : take (given .header .rows) o ≡ recordsOf (front given)
-  pub long : given .header .rows ≤ length o
+  -- the records stand in front of the room that `margins_good` was lent
+  module _ {o : List (List ℤ)} (room : List (List ℤ)) (e : o ≡ over (recordsOf t) room) where
+    count : length (recordsOf t) ≡ t .header .rows
+    count = table-long (t .header .rows) (λ i. recordOf (partsOf t i))
 
-module _ {given : Table} {o : List (List ℤ)} (told : PartsTold given o) where
-  good : Good (front given)
-  good = judged-good given (front given) (told .judged)
+    pub records-first : take (t .header .rows) o ≡ recordsOf t
+    records-first = ap (take (t .header .rows)) e ∙ take-at (recordsOf t) (drop (length (recordsOf t)) room) (t .header .rows) count
 
-  pub told-few : length (take (given .header .rows) o) ≤ rowsMost
-  told-few = rw (told .first) (records-few good)
+    pub records-long : t .header .rows ≤ length o
+    records-long = omega (arith, ap length e, count, length-append (recordsOf t) (drop (length (recordsOf t)) room))
 
-  pub told-short : (i : ℕ) → i < length (take (given .header .rows) o) → length (partsLineAt (take (given .header .rows) o) i) ≤ partsLineMost
-  told-short = subst (λ (rs : List (List ℤ)). (i : ℕ) → i < length rs → length (partsLineAt rs i) ≤ partsLineMost) (sym (told .first)) (lines-short good)
+    pub records-short : let rs = take (t .header .rows) o in (length rs ≤ rowsMost) × ((i : ℕ) → i < length rs → length (partsLineAt rs i) ≤ partsLineMost)
+    records-short = subst (λ (rs : List (List ℤ)). (length rs ≤ rowsMost) × ((i : ℕ) → i < length rs → length (partsLineAt rs i) ≤ partsLineMost)) (sym records-first) (records-few, lines-short)
 
-  pub text-on : (out : List ℕ) → textLeft (passed (partsText (take (given .header .rows) o))) out ≡ marginsTextLeft given out
+-- ---- what is left
+module _ (given : Table) (r : Judgement) (said : ruled r (front given) ≡ judgeLent given) (out : List ℕ) where
+  pub text-judged-not : (w : Refusal) → r ≡ Refused w → _≡_ {A = TextLeft} (record { answer = refused w; out = out }) (marginsTextLeft given out)
   unfolding marginsTextLeft
-  text-on out =
-      ap (λ (rs : List (List ℤ)). textLeft (passed (partsText rs)) out) (told .first)
-      ∙ ap (λ (j : Judged (List ℕ)). textLeft j out) (sym (then-next _ (told .judged)))
+  text-judged-not w e = text-refused out (then-refused _ (sym said ∙ ap (λ (j : Judgement). ruled j (front given)) e))
 
-module _ (given : Table) (room : List (List ℤ)) {o : List (List ℤ)} (r : Judgement) (e : leaves (ruled r tt) o ≡ marginsLeft given room) (enough : rowsMost ≤ length room) where
-  on-passed : (t : Table) → judgeLent given ≡ passed t → leaves (ruled r tt) o ≡ leaves (passed tt) (over (recordsOf t) room)
-  unfolding marginsLeft partsLeft
-  on-passed t q =
-      let few = header-in (t .header) (judged-good given t q .exact .header) .rows-most in
-      e ∙ either-passed _ _ (then-next _ q ∙ need-enough _ _ _ (omega (arith, few)))
-
-  on-refused : (v : Refusal) → judgeLent given ≡ refused v → ruled r (tt {0}) ≡ refused v
-  unfolding marginsLeft partsLeft
-  on-refused v q = ap (λ (l : MarginsLeft). l .answer) (e ∙ either-refused _ _ (then-refused _ q))
-
-  pub told-refused : (out : List ℕ) (w : Refusal) → r ≡ Refused w → _≡_ {A = TextLeft} (record { answer = refused w; out = out }) (marginsTextLeft given out)
+  pub text-judged : r ≡ Passed → textLeft (passed (partsText (recordsOf (front given)))) out ≡ marginsTextLeft given out
   unfolding marginsTextLeft
-  told-refused out w k = go (judgeLent given) refl
-    where
-      said : ruled r (tt {0}) ≡ refused w
-      said = ap (λ (j : Judgement). ruled j (tt {0})) k
-
-      go : (j : Judged Table) → judgeLent given ≡ j → _≡_ {A = TextLeft} (record { answer = refused w; out = out }) (marginsTextLeft given out)
-      go (passed t) q = absurd (not-passed w (tt {0}) (sym said ∙ ap (λ (l : MarginsLeft). l .answer) (on-passed t q)))
-      go (refused v) q = text-refused out (then-refused _ (q ∙ ap refused (refused-is v w (sym (on-refused v q) ∙ said))))
-
-  pub told-passed : r ≡ Passed → PartsTold given o
-  told-passed k = go (judgeLent given) refl
-    where
-      said : ruled r (tt {0}) ≡ passed tt
-      said = ap (λ (j : Judgement). ruled j (tt {0})) k
-
-      go : (j : Judged Table) → judgeLent given ≡ j → PartsTold given o
-      go (passed t) q =
-          let whole : t ≡ front given = judged-front given t q in
-          let judged : judgeLent given ≡ passed (front given) = q ∙ ap passed whole in
-          let w : o ≡ over (recordsOf (front given)) room = ap (λ (l : MarginsLeft). l .out) (on-passed (front given) judged) in
-          let count : length (recordsOf (front given)) ≡ given .header .rows = table-long (given .header .rows) (λ i. recordOf (partsOf (front given) i)) in
-          record {
-            judged = judged;
-            first = ap (take (given .header .rows)) w ∙ take-at (recordsOf (front given)) (drop (length (recordsOf (front given))) room) (given .header .rows) count;
-            long = omega (arith, ap length w, count, length-append (recordsOf (front given)) (drop (length (recordsOf (front given))) room));
-          }
-      go (refused v) q = absurd (not-passed v (tt {0}) (sym (on-refused v q) ∙ said))
+  text-judged e = ap (λ (j : Judged (List ℕ)). textLeft j out) (sym (then-next _ (told-judged None given r said e)))

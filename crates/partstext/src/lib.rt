@@ -7,7 +7,9 @@ ghost use Rattle.kinds.specs.Limits.{rowsMost};
 ghost use Rattle.kinds.specs.Refusals.{passed};
 ghost use Rattle.text.specs.Left.{textLeft, textSaid};
 ghost use Rattle.text.specs.Put.{Put};
-ghost use Rattle.table.specs.Table.{lent};
+ghost use Rattle.table.specs.Table.{lent, front};
+ghost use Rattle.table.specs.Good.{Good};
+ghost use Rattle.parts.specs.Parts.{recordsOf};
 ghost use Rattle.partstext.specs.PartsText.{partsLine, partsLineAt, partsLineMost, partsText, marginsTextLeft};
 use kinds::BorderRecord;
 use kinds::Header;
@@ -26,7 +28,7 @@ const LINE_MOST: usize = 2 + 4 + parts::ITEMS * 17;
 // No text has more bytes: so many suffice a caller that lends room for any.
 pub const TEXT_MOST: usize = Header::ROWS_MOST * LINE_MOST;
 
-// The records stand in working memory, which has room for every table. Any input has an answer: there is no `requires`.
+// Any input has an answer: there is no `requires`.
 pub fn margins_text(
     h: Header,
     z: &[i64],
@@ -38,13 +40,29 @@ pub fn margins_text(
 ) -> Written
     ensures { λ r. ⌜ textSaid r (now (out .exit)) ≡ marginsTextLeft (lent h (now (z .entry)) (now (t .entry)) (now (b .entry)) (now (c .entry)) (now (f .entry))) (now (out .entry)) ⌝ }
 {
-    let mut records = [[0i64; parts::ITEMS]; Header::ROWS_MOST];
-    let filled = parts::margins(h, z, t, b, c, f, &mut records);
-    let rows = h.rows;
-    match filled {
-        Judgement::Refused(w) => Written::Refused(w),
-        Judgement::Passed => write_parts(&records[..rows], out),
+    if let Judgement::Refused(w) = table::judge(h, z, t, b, c, f, table::Room::None) {
+        return Written::Refused(w);
     }
+    margins_text_good(h, z, t, b, c, f, out)
+}
+
+// .. of a good table. The records stand in working memory, which has room for every table.
+pub fn margins_text_good(
+    h: Header,
+    z: &[i64],
+    t: &[i64],
+    b: &[BorderRecord],
+    c: &[RowRecord],
+    f: &[i64],
+    out: &mut [u8],
+) -> Written
+    requires { ⌜ Good (front (lent h (now z) (now t) (now b) (now c) (now f))) ⌝ }
+    ensures { λ r. ⌜ textSaid r (now (out .exit)) ≡ textLeft (passed (partsText (recordsOf (front (lent h (now (z .entry)) (now (t .entry)) (now (b .entry)) (now (c .entry)) (now (f .entry))))))) (now (out .entry)) ⌝ }
+{
+    let mut records = [[0i64; parts::ITEMS]; Header::ROWS_MOST];
+    parts::margins_good(h, z, t, b, c, f, &mut records);
+    let rows = h.rows;
+    write_parts(&records[..rows], out)
 }
 
 // What is left to judge is the room for the text.

@@ -29,7 +29,7 @@ use Rattle.rowsheet.specs.RowSheet as rowsheet
 use Rattle.rowsheet.specs.RowSheet.{sheetOf}
 use Rattle.corners.specs.Corners.{flowsOf}
 use Rattle.cornertext.specs.CornerText.{cornerLineAt, cornersText, sheetText}
-use Rattle.start.specs.Start.{Rows}
+use Rattle.states.specs.Rows.{Rows}
 use Rattle.claimtext.specs.Published.{rowLine, publishedLine, publishedText}
 use Rattle.tight.specs.declared.RoundsMost.{RoundsMost}
 use Rattle.boundtext.specs.BoundText.{boundText}

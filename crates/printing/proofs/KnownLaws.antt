@@ -1,4 +1,4 @@
--- That what `bound_text` and `margins_text` leave is printed as they tell it (specs/Lent.antt): neither text is too long. No contract cites this file.
+-- That what `bound_text_good` and `margins_text_good` leave is printed as they tell it: neither text is too long. No contract cites this file.
 use mathlib.Core.Path.{_≡_, ap, subst, _∙_}
 use mathlib.Core.Bool.{Bool}
 use mathlib.Core.List.{List}
@@ -13,17 +13,17 @@ use Rattle.kinds.proofs.KindLaws.{header-in}
 use Rattle.kinds.proofs.RefusalLaws.{passed-is, then-passed}
 use Rattle.marks.specs.Marks.{judgeAsked, mayRise}
 use Rattle.marks.proofs.MarkLaws.{asked-then}
-use Rattle.text.specs.Left.{textSaid}
+use Rattle.text.specs.Left.{textLeft, textSaid}
 use Rattle.text.proofs.WrittenLaws.{decimal-long}
-use Rattle.table.specs.Table.{Table, judgeLent}
+use Rattle.table.specs.Table.{Table}
 use Rattle.table.specs.Good.{Good}
-use Rattle.table.proofs.GoodLaws.{judged-good}
 use Rattle.rounds.specs.Rounds.{Grid, mostSharers, aloneBits}
 use Rattle.rounds.proofs.Round.{alone-lt}
 use Rattle.rounds.proofs.Theorems.{alone-least}
 use Rattle.margin.specs.Bounds.{startBits}
 use Rattle.margin.proofs.Small.{named-values-small}
-use Rattle.partstext.specs.PartsText.{marginsTextLeft}
+use Rattle.parts.specs.Parts.{recordsOf}
+use Rattle.partstext.specs.PartsText.{partsText}
 use Rattle.partstext.proofs.PartsTextLaws.{parts-text-most}
 use Rattle.start.specs.Setup.{gridBy}
 use Rattle.start.specs.Start.{setupWith, gridMarked, tableStart, judgeMarked}
@@ -33,11 +33,10 @@ use Rattle.tight.specs.Tight.{tightBound}
 use Rattle.tight.specs.Measure.{boundBy}
 use Rattle.tight.proofs.BitsLaws.{sharers-few}
 use Rattle.tight.proofs.FewRounds.{tight-le}
-use Rattle.bound.specs.Bound.{boundOf, boundMarked, boundFor}
-use Rattle.boundtext.specs.BoundText.{boundText, boundTextLeft}
+use Rattle.bound.specs.Bound.{boundOf, boundMarked, boundAsked}
+use Rattle.boundtext.specs.BoundText.{boundText, boundTextOf}
 use Rattle.boundtext.proofs.BoundTextLaws.{bound-line-long}
 use Rattle.printing.specs.Printed.{Printed, toldText, Told}
-use Rattle.printing.specs.Lent.{boundSaid, marginsSaid}
 use Rattle.printing.proofs.PrintedLaws.{told-printed}
 
 -- ---- the bound: N is at most 64, and 2^49 is above every starting margin, so L is at most 49; the sharper bound is at most 2 N L
@@ -71,28 +70,20 @@ module _ (marked : ℕ → Bool) {t : Table} (good : Good t) where
         decimal-long 3 sharp (omega (arith, rounds, tight-le grid (tableStart t .margins))),
       )
 
-module _ (given : Table) where
-  bound-fits : (all : Bool) (marks text : List ℕ) → boundSaid all marks given ≡ passed text → length text ≤ bytesMost
-  unfolding boundFor boundMarked
+module _ {t : Table} (good : Good t) where
+  bound-fits : (all : Bool) (marks text : List ℕ) → boundTextOf (boundAsked all marks t) ≡ passed text → length text ≤ bytesMost
+  unfolding boundMarked
   bound-fits all marks text e =
-      let d = then-passed (boundFor all marks given) _ text e in
-      let j = then-passed (judgeLent given) _ (d .it) (d .first) in
-      let t = j .it in
-      let a = then-passed (judgeAsked all (t .header .borders) marks (passed marks)) _ (d .it) (asked-then all (t .header .borders) marks marks (boundMarked (mayRise all marks) t) ∙ j .second) in
+      let d = then-passed (boundAsked all marks t) _ text e in
+      let a = then-passed (judgeAsked all (t .header .borders) marks (passed marks)) _ (d .it) (asked-then all (t .header .borders) marks marks (boundMarked (mayRise all marks) t) ∙ d .first) in
       let b = then-passed (judgeMarked (mayRise all marks) t) _ (d .it) (a .second) in
       let is : boundText (boundOf (mayRise all marks) t) ≡ text = ap (λ (m : RoundsMost). boundText m) (passed-is _ _ (b .second)) ∙ passed-is _ _ (d .second) in
-      subst (λ (s : List ℕ). length s ≤ bytesMost) is (bound-short (mayRise all marks) (judged-good given t (j .first)))
+      subst (λ (s : List ℕ). length s ≤ bytesMost) is (bound-short (mayRise all marks) good)
 
-  pub bound-printed : (all : Bool) (marks out : List ℕ) {out′ out″ : List ℕ} (r : Written) {n : ℕ} → bytesMost ≤ length out → textSaid r out′ ≡ boundTextLeft all marks given out → Told r out′ n out″
-      → Printed n (toldText (boundSaid all marks given)) out″
-  unfolding boundTextLeft
-  bound-printed all marks out r room said told = told-printed (boundSaid all marks given) out r (λ text e. omega (arith, bound-fits all marks text e, room)) said told
+  module _ (out : List ℕ) {out′ out″ : List ℕ} (r : Written) {n : ℕ} (room : bytesMost ≤ length out) where
+    pub bound-printed : (all : Bool) (marks : List ℕ) → textSaid r out′ ≡ textLeft (boundTextOf (boundAsked all marks t)) out → Told r out′ n out″ → Printed n (toldText (boundTextOf (boundAsked all marks t))) out″
+    bound-printed all marks said told = told-printed (boundTextOf (boundAsked all marks t)) out r (λ text e. omega (arith, bound-fits all marks text e, room)) said told
 
-  margins-fit : (text : List ℕ) → marginsSaid given ≡ passed text → length text ≤ bytesMost
-  margins-fit text e =
-      let d = then-passed (judgeLent given) _ text e in
-      subst (λ (s : List ℕ). length s ≤ bytesMost) (passed-is _ _ (d .second)) (omega (arith, parts-text-most (judged-good given (d .it) (d .first))))
-
-  pub margins-printed : (out : List ℕ) {out′ out″ : List ℕ} (r : Written) {n : ℕ} → bytesMost ≤ length out → textSaid r out′ ≡ marginsTextLeft given out → Told r out′ n out″ → Printed n (toldText (marginsSaid given)) out″
-  unfolding marginsTextLeft
-  margins-printed out r room said told = told-printed (marginsSaid given) out r (λ text e. omega (arith, margins-fit text e, room)) said told
+    pub margins-printed : textSaid r out′ ≡ textLeft (passed (partsText (recordsOf t))) out → Told r out′ n out″ → Printed n (toldText (passed (partsText (recordsOf t)))) out″
+    margins-printed said told =
+        told-printed (passed (partsText (recordsOf t))) out r (λ text e. subst (λ (s : List ℕ). length s ≤ length out) (passed-is _ _ e) (omega (arith, parts-text-most good, room))) said told

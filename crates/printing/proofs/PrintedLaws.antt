@@ -1,45 +1,39 @@
 -- That what the calls leave is what a program is to print (specs/Printed.antt). No contract cites this file.
 -- In order: a buffer that begins with the text; a text that there is room for; a call that tells its refusal; a text that was read, or refused; a file that is too long;
--- what the calls that write a table and a published list leave. What other calls leave is in `KnownLaws.antt` and `RowsLaws.antt`.
+-- what the calls that answer, write a table and publish a list leave. What other calls leave is in `KnownLaws.antt` and `RowsLaws.antt`.
 use mathlib.Core.Path.{_≡_, refl, sym, ap, subst, _∙_}
-use mathlib.Core.Bool.{Bool}
+use mathlib.Core.Bool.{Bool, true}
 use mathlib.Core.List.{List}
 use mathlib.Core.Logic.{⊎-elim}
-use Prim.Native.Nat.{ℕ, _*_, _≤_, _<_}
+use Prim.Native.Nat.{ℕ, _≤_, _<_}
 use native.Mathlib.Omega.{arith}
 use borrow.Author.Tests.{lt-ltb, le-ltb}
-use lib.IntN.{ℤ}
 use lib.ListN.{length, take, drop, length-append}
 use lib.Seq.{take-at}
 use Rattle.numbers.specs.Below.{over}
 use Rattle.numbers.proofs.BelowLaws.{le-or-lt}
-use Rattle.kinds.specs.declared.Header.{Header}
-use Rattle.kinds.specs.declared.Read.{Read}
-use Rattle.kinds.specs.declared.Read.the-variants as read
 use Rattle.kinds.specs.declared.Refusal.{Refusal}
 use Rattle.kinds.specs.declared.Written.{Written}
 use Rattle.kinds.specs.declared.Written.the-variants as written
-use Rattle.kinds.specs.Limits.{zonesMost, bordersMost, rowsMost, bytesMost}
-use Rattle.kinds.specs.Refusals.{Judged, passed, refused, then, tooLong, tooShort}
+use Rattle.kinds.specs.Limits.{bytesMost}
+use Rattle.kinds.specs.Refusals.{Judged, passed, refused, either, tooLong, tooShort}
 use Rattle.kinds.proofs.AnswerLaws.{saidWritten-injective}
-use Rattle.kinds.proofs.RefusalLaws.{passed-is, then-passed, then-refused, either-passed, either-refused}
+use Rattle.kinds.proofs.RefusalLaws.{passed-is, then-next, then-refused, either-passed, either-refused}
 use Rattle.text.specs.Left.{TextLeft, textLeft, textSaid}
 use Rattle.text.proofs.LeftLaws.{text-left, text-short, text-refused}
-use Rattle.table.specs.Table.{Table, lent, judgeLent}
-use Rattle.table.proofs.GoodLaws.{judged-front, judged-good}
-use Rattle.reading.specs.Places.{readSaid}
-use Rattle.reading.specs.Reading.{readCorrected, readCorrectedLeft}
-use Rattle.reading.proofs.LeftLaws.{taken, as-read, refused-text}
-use Rattle.reading.proofs.CorrectedLaws.{corrected-good}
-use Rattle.writing.specs.Writing.{writeLeft}
+use Rattle.table.specs.Table.{Table}
+use Rattle.table.specs.Good.{Good}
+use Rattle.reading.specs.Reading.{readCorrected}
+use Rattle.writing.specs.Writing.{tableText}
 use Rattle.writing.proofs.RoundTrip.{never-too-long}
-use Rattle.claimtext.specs.Published.{publishedAnswer, publishedLeft}
+use Rattle.claimtext.specs.ClaimText.{claimsIn}
+use Rattle.claimtext.specs.Published.{publishedOf}
 use Rattle.claimtext.proofs.PublishedLaws.{published-fits}
+use Rattle.extraction.specs.Extraction.{Result}
 use Rattle.result.specs.Refusal.{refusalText}
-use Rattle.answer.specs.Made.{bytesAsked}
+use Rattle.answer.specs.Printed.{printed, outcomeSaid, bytesAsked}
 use Rattle.printing.specs.declared.texts.Word.{Word}
 use Rattle.printing.specs.Printed.{Printed, bytesOf, toldText, Told, saidOf, wordOf, wordText}
-use Rattle.printing.specs.Lent.{Sound, tableSaid}
 
 -- ---- a buffer that begins with the text
 pub over-printed : (text out out′ : List ℕ) (n : ℕ) → n ≡ length text → out′ ≡ over text out → Printed n text out′
@@ -84,29 +78,15 @@ told-printed (refused w) out {out′} {out″} r {n} enough left told =
     let why : r ≡ written.Refused w = saidWritten-injective r (written.Refused w) (ap (λ (x : TextLeft). x .answer) l) in
     subst (λ (s : List ℕ). Printed n s out″) (sym (either-refused _ _ refl)) (subst (λ (x : Written). Told x out′ n out″) why told)
 
--- ---- a text that was read: the lent tables hold its table, and what is printed of them is printed of it
-pub read-sound : (text sheet : List ℕ) (z a : List ℤ) (b c : List (List ℤ)) (f : List ℤ) (r : Read) {z′ a′ : List ℤ} {b′ c′ : List (List ℤ)} {f′ : List ℤ}
-    → readSaid r z′ a′ b′ c′ f′ ≡ readCorrectedLeft text sheet z a b c f → (h : Header) → r ≡ read.Table h → Sound (lent h z′ a′ b′ c′ f′)
-read-sound text sheet z a b c f r {z′} {a′} {b′} {c′} {f′} said h is =
-    let e = as-read (readCorrected text sheet) z a b c f r said (corrected-good text sheet) h is in
-    e ∙ ap passed (judged-front (lent h z′ a′ b′ c′ f′) _ e)
+-- ---- a text that was read, and one that was refused
+module _ (word : Word) (all : Bool) (marks file text sheet : List ℕ) {n : ℕ} {out : List ℕ} where
+  pub read-printed : (t : Table) → readCorrected text sheet ≡ passed t → Printed n (toldText (saidOf word all marks file t)) out → Printed n (wordOf word all marks file text sheet) out
+  unfolding wordOf
+  read-printed t is p = told-as (sym (then-next (saidOf word all marks file) is)) p
 
-module _ (word : Word) (all : Bool) (marks file text sheet : List ℕ) (z a : List ℤ) (b c : List (List ℤ)) (f : List ℤ)
-    (r : Read) {z′ a′ : List ℤ} {b′ c′ : List (List ℤ)} {f′ : List ℤ} (said : readSaid r z′ a′ b′ c′ f′ ≡ readCorrectedLeft text sheet z a b c f) where
-  module _ (h : Header) (is : r ≡ read.Table h) where
-    pub lent-printed : {n : ℕ} {out : List ℕ} → Printed n (toldText (then (judgeLent (lent h z′ a′ b′ c′ f′)) (saidOf word all marks file))) out → Printed n (wordOf word all marks file text sheet) out
-    unfolding wordOf
-    lent-printed {n} {out} p =
-        let same : judgeLent (lent h z′ a′ b′ c′ f′) ≡ readCorrected text sheet = as-read (readCorrected text sheet) z a b c f r said (corrected-good text sheet) h is ∙ sym (taken (readCorrected text sheet) z a b c f r said (corrected-good text sheet) h is .read) in
-        subst (λ (j : Judged Table). Printed n (toldText (then j (saidOf word all marks file))) out) same p
-
-  -- .. and one that was refused, with room for the largest table
-  module _ (hz : zonesMost ≤ length z) (ha : zonesMost ≤ length a) (hb : bordersMost ≤ length b) (hc : rowsMost ≤ length c) (hf : rowsMost * zonesMost ≤ length f)
-      (w : Refusal) (is : r ≡ read.Refused w) where
-    pub refusal-printed : {n : ℕ} {out : List ℕ} → Printed n (refusalText w) out → Printed n (wordOf word all marks file text sheet) out
-    unfolding wordOf
-    refusal-printed {n} {out} p =
-        subst (λ (s : List ℕ). Printed n s out) (sym (either-refused _ _ (then-refused (saidOf word all marks file) (refused-text (readCorrected text sheet) z a b c f r said (corrected-good text sheet) hz ha hb hc hf w is)))) p
+  pub refusal-printed : (w : Refusal) → readCorrected text sheet ≡ refused w → Printed n (refusalText w) out → Printed n (wordOf word all marks file text sheet) out
+  unfolding wordOf
+  refusal-printed w is p = printed-as (sym (either-refused _ _ (then-refused (saidOf word all marks file) is))) p
 
 -- ---- the file that goes with a word: one that is too long is refused before all else
 module _ (word : Word) (all : Bool) (marks file text sheet : List ℕ) {n : ℕ} {out : List ℕ} where
@@ -118,19 +98,19 @@ module _ (word : Word) (all : Bool) (marks file text sheet : List ℕ) {n : ℕ}
   unfolding wordText
   short-printed h p = rw (le-ltb bytesMost (length file) h) p
 
--- ---- what each call on lent tables leaves, with room for the longest
-module _ (given : Table) where
-  -- a table is never too long to be written again
-  table-fits : (text : List ℕ) → tableSaid given ≡ passed text → length text ≤ bytesMost
-  table-fits text e =
-      let d = then-passed (judgeLent given) _ text e in
-      subst (λ (s : List ℕ). length s ≤ bytesMost) (passed-is _ _ (d .second)) (never-too-long (d .it) (judged-good given (d .it) (d .first)))
+-- ---- what each call on a good table leaves, with room for the longest
+-- an answer is told as it is printed, its refusals too
+pub answer-said : (o : Judged Result) → outcomeSaid true o ≡ passed (printed o)
+unfolding outcomeSaid printed either
+answer-said (passed r) = refl
+answer-said (refused w) = refl
 
-  pub table-printed : (out : List ℕ) {out′ out″ : List ℕ} (r : Written) {n : ℕ} → bytesMost ≤ length out → textSaid r out′ ≡ writeLeft given out → Told r out′ n out″ → Printed n (toldText (tableSaid given)) out″
-  unfolding writeLeft
-  table-printed out r room said told = told-printed (tableSaid given) out r (λ text e. omega (arith, table-fits text e, room)) said told
+module _ {t : Table} (good : Good t) (out : List ℕ) {out′ out″ : List ℕ} (r : Written) {n : ℕ} (room : bytesMost ≤ length out) where
+  -- a table is never too long to be written again
+  pub table-printed : textSaid r out′ ≡ textLeft (passed (tableText t)) out → Told r out′ n out″ → Printed n (toldText (passed (tableText t))) out″
+  table-printed said told =
+      told-printed (passed (tableText t)) out r (λ text e. subst (λ (s : List ℕ). length s ≤ length out) (passed-is _ _ e) (omega (arith, never-too-long t good, room))) said told
 
   -- the published list
-  pub claims-printed : (file out : List ℕ) {out′ out″ : List ℕ} (r : Written) {n : ℕ} → bytesMost ≤ length out → textSaid r out′ ≡ publishedLeft given file out → Told r out′ n out″ → Printed n (toldText (publishedAnswer given file)) out″
-  unfolding publishedLeft
-  claims-printed file out r room said told = told-printed (publishedAnswer given file) out r (λ text e. omega (arith, published-fits given file text e, room)) said told
+  pub claims-printed : (file : List ℕ) → textSaid r out′ ≡ textLeft (publishedOf t (claimsIn file)) out → Told r out′ n out″ → Printed n (toldText (publishedOf t (claimsIn file))) out″
+  claims-printed file said told = told-printed (publishedOf t (claimsIn file)) out r (λ text e. omega (arith, published-fits t (claimsIn file) text e good, room)) said told

@@ -7,7 +7,7 @@ use mathlib.Core.List.{List, []}
 use Prim.Native.Nat.{ℕ, _*_, _≤_, _<_}
 use native.Mathlib.Omega.{arith}
 use lib.IntN.{ℤ}
-use lib.ListN.{length, getD, drop, length-append}
+use lib.ListN.{length, getD, take, drop, length-append, take-append-drop}
 use lib.Seq.{take-at}
 use Rattle.numbers.specs.Below.{over}
 use Rattle.kinds.specs.declared.Header.{Header}
@@ -19,19 +19,17 @@ use Rattle.kinds.specs.Answers.{ruled}
 use Rattle.kinds.specs.Limits.{bytesMost}
 use Rattle.kinds.specs.Refusals.{Judged, passed, refused}
 use Rattle.kinds.proofs.KindLaws.{header-in}
-use Rattle.kinds.proofs.RefusalLaws.{passed-is, refused-is, not-passed, then-passed, then-next, then-refused, either-passed, either-refused, unless-passed, unless-ok, none-next}
+use Rattle.kinds.proofs.RefusalLaws.{passed-is, refused-is, not-passed, then-passed, then-next, then-refused, either-passed, either-refused, unless-ok, none-next}
 use Rattle.text.specs.Left.{textSaid}
-use Rattle.table.specs.Table.{Table, lent, stretch, factorsAt, rowGood, front, judgeShape, judgeRecords, judgeLent}
+use Rattle.table.specs.Table.{Table, lent, stretch, factorsAt, rowGood, front}
 use Rattle.table.specs.Good.{Good}
-use Rattle.table.proofs.GoodLaws.{stretch-long, row-good, good-row, flat-fit, row-fit, judged-good, front-judged}
-use Rattle.table.proofs.RoomLaws.{Enough, room-passed}
+use Rattle.table.proofs.GoodLaws.{stretch-long, row-good, good-row, flat-fit, row-fit}
 use Rattle.writing.specs.Writing.{tableText}
 use Rattle.rowsheet.specs.RowSheet.{Rows, RowsLeft, readSheet, judgeRows, rowsInRange, rowsSaid, readRowsLeft, writeRowsLeft}
 use Rattle.rowsheet.proofs.SheetLaws.{sheet-run, rows-many, factors-many, room-enough}
 use Rattle.rowsheet.proofs.SheetTrip as sheet
 use Rattle.result.specs.Refusal.{refusalText}
-use Rattle.printing.specs.Printed.{Printed, toldText, Told, rowsIn, withRows, filledBy}
-use Rattle.printing.specs.Lent.{Sound, tableSaid, sheetSaid}
+use Rattle.printing.specs.Printed.{Printed, toldText, Told, rowsIn, sheetSaid, withRows, filledBy}
 use Rattle.printing.proofs.PrintedLaws.{printed-as, told-as, told-printed}
 
 -- ---- a table with the rows of a sheet is good
@@ -79,57 +77,60 @@ module _ (h : Header) (c : List (List ℤ)) (f : List ℤ) where
   unfolding writeRowsLeft
   sheet-printed out r room said told = told-printed (sheetSaid h c f) out r (λ text e. omega (arith, sheet-fits text e, room)) said told
 
-module _ (given : Table) (sound : Sound given) where
+-- ---- lent tables whose front is good are as long as it
+front-long : {A : Type 0} (n : ℕ) (xs : List A) → length (take n xs) ≡ n → n ≤ length xs
+front-long n xs e = omega (arith, ap length (take-append-drop n xs), length-append (take n xs) (drop n xs))
+
+module _ (given : Table) (good : Good (front given)) where
   abbrev h : Header
   h = given .header
 
-  good : Good (front given)
-  good = judged-good given (front given) sound
+  rows-enough : h .rows ≤ length (given .rows)
+  rows-enough = front-long (h .rows) (given .rows) (good .exact .rows-long)
 
-  enough : Enough h (length (given .nets)) (length (given .allocated)) (length (given .borders)) (length (given .rows)) (length (given .factors))
-  unfolding judgeLent judgeShape
-  enough =
-      let w = then-passed (judgeShape given) judgeRecords (front given) sound in
-      let s = unless-passed (w .it) _ _ _ (w .first) in
-      room-passed _ _ _ _ _ _ _ (w .it) (s .1) .0
+  factors-enough : h .rows * h .zones ≤ length (given .factors)
+  factors-enough = front-long (h .rows * h .zones) (given .factors) (good .exact .factors-long)
 
   -- ---- their rows are judged good
   pub rows-pass : judgeRows h (given .rows) (given .factors) ≡ passed (rowsIn (front given))
   unfolding judgeRows rowsInRange
   rows-pass =
       unless-ok _ _ (good .exact .header)
-      ∙ sym (room-enough h _ _ _ (enough .rows) (enough .factors))
+      ∙ sym (room-enough h _ _ _ rows-enough factors-enough)
       ∙ none-next _ _ _ _ (λ i l. ap not (rows-good good i (omega (arith, good .exact .rows-long))))
 
   -- ---- the table with the rows of a sheet
   module _ (file : List ℕ) (r : Judgement) (c′ : List (List ℤ)) (f′ : List ℤ) (said : rowsSaid r c′ f′ ≡ readRowsLeft h file (given .rows) (given .factors)) where
-    -- .. that was read
-    module _ (t : Rows) (is : readSheet h file ≡ passed t) where
-      abbrev left : Table
-      left = lent h (given .nets) (given .allocated) (given .borders) (over (t .rows) (given .rows)) (over (t .factors) (given .factors))
+    abbrev left : Table
+    left = lent h (given .nets) (given .allocated) (given .borders) c′ f′
 
-      filled-judged : judgeLent left ≡ passed (withRows (front given) t)
-      filled-judged =
-          let u = sheet-run h file t is in
-          front-judged (withRows (front given) t) (filled-good good file t is) left
-          (rw (take-at (t .rows) _ (h .rows) (rows-many u), take-at (t .factors) _ (h .rows * h .zones) (factors-many u)))
-          (record {
-            zones = enough .zones;
-            allocated = enough .allocated;
-            borders = enough .borders;
-            rows = omega (arith, rows-many u, length-append (t .rows) (drop (length (t .rows)) (given .rows)));
-            factors = omega (arith, factors-many u, length-append (t .factors) (drop (length (t .factors)) (given .factors)));
-          })
+    -- .. that was read: its front is the table with those rows
+    record Filled : Type 0 where
+      rows : Rows
+      read : readSheet h file ≡ passed rows
+      is : front left ≡ withRows (front given) rows
 
-    pub filled-printed : {n : ℕ} {out : List ℕ} → r ≡ judgement.Passed → Printed n (toldText (tableSaid (lent h (given .nets) (given .allocated) (given .borders) c′ f′))) out → Printed n (toldText (filledBy file (front given))) out
-    unfolding filledBy
-    filled-printed is p =
-        let l : readRowsLeft h file (given .rows) (given .factors) ≡ rowsSaid judgement.Passed c′ f′ = sym said ∙ ap (λ (j : Judgement). rowsSaid j c′ f′) is in
-        let d = sheet.rows-taken h file (given .rows) (given .factors) (ap (λ (x : RowsLeft). x .answer) l) in
-        let same : rowsSaid judgement.Passed c′ f′ ≡ record { answer = passed tt; c = over (d .it .rows) (given .rows); f = over (d .it .factors) (given .factors) } = sym l ∙ d .left in
-        let told : tableSaid (lent h (given .nets) (given .allocated) (given .borders) c′ f′) ≡ passed (tableText (withRows (front given) (d .it))) =
-        ap (λ (x : RowsLeft). tableSaid (lent h (given .nets) (given .allocated) (given .borders) (x .c) (x .f))) same ∙ then-next _ (filled-judged (d .it) (d .read)) in
-        told-as (told ∙ sym (then-next _ (d .read))) p
+    module _ (passes : r ≡ judgement.Passed) where
+      filled : Filled
+      filled =
+          let l : readRowsLeft h file (given .rows) (given .factors) ≡ rowsSaid judgement.Passed c′ f′ = sym said ∙ ap (λ (j : Judgement). rowsSaid j c′ f′) passes in
+          let d = sheet.rows-taken h file (given .rows) (given .factors) (ap (λ (x : RowsLeft). x .answer) l) in
+          let same : rowsSaid judgement.Passed c′ f′ ≡ record { answer = passed tt; c = over (d .it .rows) (given .rows); f = over (d .it .factors) (given .factors) } = sym l ∙ d .left in
+          let u = sheet-run h file (d .it) (d .read) in
+          record {
+            rows = d .it;
+            read = d .read;
+            is =
+                ap (λ (x : RowsLeft). front (lent h (given .nets) (given .allocated) (given .borders) (x .c) (x .f))) same
+                ∙ rw (take-at (d .it .rows) (drop (length (d .it .rows)) (given .rows)) (h .rows) (rows-many u), take-at (d .it .factors) (drop (length (d .it .factors)) (given .factors)) (h .rows * h .zones) (factors-many u));
+          }
+
+      pub filled-front : Good (front left)
+      filled-front = subst Good (sym (filled .is)) (filled-good good file (filled .rows) (filled .read))
+
+      pub filled-printed : {n : ℕ} {out : List ℕ} → Printed n (toldText (passed (tableText (front left)))) out → Printed n (toldText (filledBy file (front given))) out
+      unfolding filledBy
+      filled-printed p = told-as (ap (λ (t : Table). passed (tableText t)) (filled .is) ∙ sym (then-next _ (filled .read))) p
 
     pub unfilled-printed : {n : ℕ} {out : List ℕ} (w : Refusal) → r ≡ judgement.Refused w → Printed n (refusalText w) out → Printed n (toldText (filledBy file (front given))) out
     unfolding filledBy readRowsLeft
@@ -139,5 +140,5 @@ module _ (given : Table) (sound : Sound given) where
         told x q = ap (λ (j : Judgement). ruled j tt) (sym is) ∙ ap (λ (l : RowsLeft). l .answer) (said ∙ q)
 
         go : (j : Judged Rows) → readSheet h file ≡ j → readSheet h file ≡ refused w
-        go (passed t) q = absurd (not-passed w tt (told _ (either-passed _ _ (then-next _ q ∙ sym (room-enough h (length (given .rows)) (length (given .factors)) (passed t) (enough .rows) (enough .factors))))))
+        go (passed t) q = absurd (not-passed w tt (told _ (either-passed _ _ (then-next _ q ∙ sym (room-enough h (length (given .rows)) (length (given .factors)) (passed t) rows-enough factors-enough)))))
         go (refused v) q = q ∙ ap refused (sym (refused-is {A = Unit {0}} w v (told _ (either-refused _ _ (then-refused _ q)))))

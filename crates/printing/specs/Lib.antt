@@ -1,4 +1,3 @@
 pub mod Room
 pub mod Printed
-pub mod Lent
 pub mod Heard

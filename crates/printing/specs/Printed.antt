@@ -5,6 +5,7 @@ use mathlib.Core.Bool.{Bool, cond}
 use mathlib.Core.List.{List}
 use Prim.Native.Nat.{ℕ, _≤_}
 use lib.Dec.{leb, ltb}
+use lib.IntN.{ℤ}
 use lib.ListN.{length, take}
 use Rattle.kinds.specs.declared.Header.{Header}
 use Rattle.kinds.specs.declared.Written.{Written}
@@ -16,14 +17,13 @@ use Rattle.table.specs.Table.{Table, lent}
 use Rattle.reading.specs.Reading.{readCorrected}
 use Rattle.writing.specs.Writing.{tableText}
 use Rattle.rowsheet.specs.RowSheet as rowsheet
-use Rattle.rowsheet.specs.RowSheet.{readSheet, sheetOf}
-use Rattle.corners.specs.Corners.{sheetBordersMost, judgeCorners}
-use Rattle.cornertext.specs.CornerText.{sheetText}
-use Rattle.marks.specs.Marks.{judgeAsked, mayRise}
+use Rattle.rowsheet.specs.RowSheet.{readSheet, judgeRows, sheetOf}
+use Rattle.corners.specs.Corners.{sheetBordersMost, judgeSheet}
+use Rattle.cornertext.specs.CornerText.{sheetText, sheetTextOf}
 use Rattle.parts.specs.Parts.{recordsOf}
 use Rattle.partstext.specs.PartsText.{partsText}
-use Rattle.bound.specs.Bound.{boundMarked}
-use Rattle.boundtext.specs.BoundText.{boundText}
+use Rattle.bound.specs.Bound.{boundAsked}
+use Rattle.boundtext.specs.BoundText.{boundTextOf}
 use Rattle.claimtext.specs.ClaimText.{claimsIn}
 use Rattle.claimtext.specs.Published.{publishedOf}
 use Rattle.extraction.specs.Extraction.{outcomeFor}
@@ -56,6 +56,10 @@ Told (written.Refused w) before n after = Printed n (refusalText w) after
 abbrev pub rowsIn : Table → rowsheet.Rows
 rowsIn t = record { rows = t .rows; factors = t .factors }
 
+-- .. as lent rows are written
+abbrev pub sheetSaid : Header → (c : List (List ℤ)) → (f : List ℤ) → Judged (List ℕ)
+sheetSaid h c f = then (judgeRows h c f) (λ r. passed (sheetOf (h .zones) r))
+
 -- .. and a table with others in their place
 abbrev pub withRows : Table → rowsheet.Rows → Table
 withRows t r = lent (t .header) (t .nets) (t .allocated) (t .borders) (r .rows) (r .factors)
@@ -70,7 +74,7 @@ unfoldable pub saidOf : Word → (all : Bool) → (marks file : List ℕ) → Ta
 saidOf Answer all marks file t = then (outcomeFor all marks t) (λ r. passed (resultText r))
 saidOf Rewrite all marks file t = passed (tableText t)
 saidOf Claims all marks file t = publishedOf t (claimsIn file)
-saidOf Bound all marks file t = then (judgeAsked all (t .header .borders) marks (boundMarked (mayRise all marks) t)) (λ m. passed (boundText m))
+saidOf Bound all marks file t = boundTextOf (boundAsked all marks t)
 saidOf Margins all marks file t = passed (partsText (recordsOf t))
 saidOf Rows all marks file t = passed (sheetOf (t .header .zones) (rowsIn t))
 saidOf Filled all marks file t = filledBy file t
@@ -83,18 +87,18 @@ wordOf word all marks file text sheet = toldText (then (readCorrected text sheet
 unfoldable pub wordText : Word → (all : Bool) → (marks file text sheet : List ℕ) → List ℕ
 wordText word all marks file text sheet = cond (ltb bytesMost (length file)) (refusalText tooLong) (wordOf word all marks file text sheet)
 
--- what `corners` prints for a row: its sheet, or one line E
-unfoldable pub oneSheet : (text sheet : List ℕ) → (row : ℕ) → List ℕ
-oneSheet text sheet row = either (then (readCorrected text sheet) (λ t. judgeCorners t row)) (λ t. sheetText t row) refusalText
-
--- .. and for all rows, one after another: each table has a row 0, so that only its borders can be refused
-unfoldable pub everySheet : (text sheet : List ℕ) → List ℕ
-everySheet text sheet = either (then (readCorrected text sheet) (λ t. judgeCorners t 0)) (λ t. linesText (t .header .rows) 0 (sheetText t)) refusalText
-
--- what is printed at once: a row of lent tables
-unfoldable pub sheetAt : (given : Table) → (row : ℕ) → List ℕ
-sheetAt given row = either (judgeCorners given row) (λ t. sheetText t row) refusalText
+-- what is printed at once: a row's corner sheet, or one line E
+unfoldable pub sheetAt : Table → (row : ℕ) → List ℕ
+sheetAt t row = toldText (sheetTextOf (judgeSheet t row) row)
 
 -- .. for so many rows: where the table has no sheet, the line E stands for all
 abbrev pub sheetRows : Header → ℕ
 sheetRows h = cond (leb (h .borders) sheetBordersMost) (h .rows) 1
+
+-- what `corners` prints for a row of the table of a text
+unfoldable pub oneSheet : (text sheet : List ℕ) → (row : ℕ) → List ℕ
+oneSheet text sheet row = toldText (then (readCorrected text sheet) (λ t. sheetTextOf (judgeSheet t row) row))
+
+-- .. and for all rows, one after another: each table has a row 0, so that only its borders can be refused
+unfoldable pub everySheet : (text sheet : List ℕ) → List ℕ
+everySheet text sheet = toldText (then (readCorrected text sheet) (λ t. then (judgeSheet t 0) (λ t. passed (linesText (t .header .rows) 0 (sheetText t)))))

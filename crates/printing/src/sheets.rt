@@ -1,14 +1,17 @@
 // Corner sheets (02, E1), row by row, so that no buffer holds more than one row's sheet.
 // What each row's bytes are is promised here; that together they are the sheet of the text is proved (proofs/SheetLaws).
 ghost use mathlib.Core.Path.{_≡_};
-ghost use Prim.Native.Nat.{_≤_};
+ghost use Prim.Native.Nat.{_*_, _≤_};
 ghost use lib.ListN.{length};
-ghost use Rattle.table.specs.Table.{lent};
+ghost use Rattle.kinds.specs.Limits.{zonesMost, bordersMost, rowsMost};
+ghost use Rattle.table.specs.Table.{lent, front};
+ghost use Rattle.table.specs.Good.{Good};
 ghost use Rattle.printing.specs.Printed.{sheetAt, sheetRows, Printed};
 ghost use Rattle.printing.specs.Room.{sheetRoom};
 use crate::output::Ended;
 use crate::output::put;
 use crate::texts::refusal_line;
+use crate::texts::told;
 use kinds::Border;
 use kinds::BorderRecord;
 use kinds::Header;
@@ -16,7 +19,6 @@ use kinds::Read;
 use kinds::Refusal;
 use kinds::Row;
 use kinds::RowRecord;
-use kinds::Written;
 
 // The longest line of a sheet: a letter, three tabs and an LF ..
 const MARKS: usize = 5;
@@ -62,13 +64,13 @@ pub fn sheet_row(
     row: usize,
     out: &mut [u8],
 ) -> usize
-    requires { ⌜ sheetRoom ≤ length (now out) ⌝ }
-    ensures { λ r. ⌜ Printed r (sheetAt (lent h (now (z .entry)) (now (t .entry)) (now (b .entry)) (now (c .entry)) (now (f .entry))) row) (now (out .exit)) ⌝ }
+    requires { ⌜ Good (front (lent h (now z) (now t) (now b) (now c) (now f))) × (sheetRoom ≤ length (now out)) ⌝ }
+    ensures { λ r. ⌜ Printed r (sheetAt (front (lent h (now (z .entry)) (now (t .entry)) (now (b .entry)) (now (c .entry)) (now (f .entry)))) row) (now (out .exit)) ⌝ }
 {
-    match cornertext::corner_text(h, z, t, b, c, f, row, out) {
-        Written::Bytes(n) => n,
-        Written::Refused(w) => refusal_line(w, out),
-    }
+    told(
+        cornertext::corner_text_good(h, z, t, b, c, f, row, out),
+        out,
+    )
 }
 
 // The sheets of the table that the text holds, as the correction sheet corrects it, or the E line.
@@ -106,9 +108,9 @@ fn print_in<'a>(
     f: &mut [i64],
     out: &mut [u8],
 ) -> Ended
-    requires { ⌜ sheetRoom ≤ length (now out) ⌝ }
+    requires { ⌜ (zonesMost ≤ length (now z)) × (zonesMost ≤ length (now t)) × (bordersMost ≤ length (now b)) × (rowsMost ≤ length (now c)) × (rowsMost * zonesMost ≤ length (now f)) × (sheetRoom ≤ length (now out)) ⌝ }
 {
-    match reading::read_corrected(text, sheet, z, t, b, c, f) {
+    match reading::read_into(text, sheet, z, t, b, c, f) {
         Read::Table(h) => print_rows(h, z, t, b, c, f, rows, out),
         Read::Refused(w) => print_refusal(w, out),
     }
@@ -131,7 +133,7 @@ fn print_rows(
     rows: Rows,
     out: &mut [u8],
 ) -> Ended
-    requires { ⌜ sheetRoom ≤ length (now out) ⌝ }
+    requires { ⌜ Good (front (lent h (now z) (now t) (now b) (now c) (now f))) × (sheetRoom ≤ length (now out)) ⌝ }
 {
     match rows {
         Rows::One(row) => print_row(h, z, t, b, c, f, row, out),
@@ -148,7 +150,7 @@ fn print_every(
     f: &[i64],
     out: &mut [u8],
 ) -> Ended
-    requires { ⌜ sheetRoom ≤ length (now out) ⌝ }
+    requires { ⌜ Good (front (lent h (now z) (now t) (now b) (now c) (now f))) × (sheetRoom ≤ length (now out)) ⌝ }
 {
     for row in 0..sheet_rows(h) {
         let ended = print_row(h, z, t, b, c, f, row, out);
@@ -169,7 +171,7 @@ fn print_row(
     row: usize,
     out: &mut [u8],
 ) -> Ended
-    requires { ⌜ sheetRoom ≤ length (now out) ⌝ }
+    requires { ⌜ Good (front (lent h (now z) (now t) (now b) (now c) (now f))) × (sheetRoom ≤ length (now out)) ⌝ }
 {
     let n = sheet_row(h, z, t, b, c, f, row, out);
     put(&out[..n])

@@ -4,13 +4,20 @@ ghost use mathlib.Core.Path.{_≡_};
 ghost use Prim.Native.Nat.{_*_, _≤_};
 ghost use lib.ListN.{length};
 ghost use Rattle.kinds.specs.Limits.{zonesMost, bordersMost, rowsMost, bytesMost};
-ghost use Rattle.kinds.specs.Refusals.{then};
-ghost use Rattle.table.specs.Table.{lent, front, judgeLent};
-ghost use Rattle.claimtext.specs.Published.{publishedAnswer};
+ghost use Rattle.kinds.specs.Refusals.{passed};
+ghost use Rattle.table.specs.Table.{lent, front};
+ghost use Rattle.table.specs.Good.{Good};
+ghost use Rattle.writing.specs.Writing.{tableText};
+ghost use Rattle.parts.specs.Parts.{recordsOf};
+ghost use Rattle.partstext.specs.PartsText.{partsText};
+ghost use Rattle.bound.specs.Bound.{boundAsked};
+ghost use Rattle.boundtext.specs.BoundText.{boundTextOf};
+ghost use Rattle.claimtext.specs.ClaimText.{claimsIn};
+ghost use Rattle.claimtext.specs.Published.{publishedOf};
+ghost use Rattle.extraction.specs.Extraction.{outcomeFor};
 ghost use Rattle.result.specs.Refusal.{refusalText, refusalMost};
-ghost use Rattle.answer.specs.Made.{outcomeLent, printed};
-ghost use Rattle.printing.specs.Printed.{bytesOf, Told, toldText, filledBy, saidOf, wordOf, wordText, Printed};
-ghost use Rattle.printing.specs.Lent.{Sound, tableSaid, boundSaid, marginsSaid, sheetSaid};
+ghost use Rattle.answer.specs.Printed.{printed};
+ghost use Rattle.printing.specs.Printed.{bytesOf, Told, toldText, sheetSaid, filledBy, saidOf, wordOf, wordText, Printed};
 use kinds::Border;
 use kinds::BorderRecord;
 use kinds::Header;
@@ -64,7 +71,7 @@ fn put_read<'a>(
     sheet: &'a [u8],
     out: &mut [u8],
 ) -> usize
-    requires { ⌜ (length (now file) ≤ bytesMost) × (bytesMost ≤ length (now out)) ⌝ }
+    requires { ⌜ bytesMost ≤ length (now out) ⌝ }
     ensures { λ r. ⌜ Printed r (wordOf word all (now (marks .entry)) (now (file .entry)) (now (text .entry)) (now (sheet .entry))) (now (out .exit)) ⌝ }
 {
     let mut z: [i64; Header::ZONES_MOST] = [0; Header::ZONES_MOST];
@@ -104,10 +111,10 @@ fn put_in<'a>(
     f: &mut [i64],
     out: &mut [u8],
 ) -> usize
-    requires { ⌜ (zonesMost ≤ length (now z)) × (zonesMost ≤ length (now t)) × (bordersMost ≤ length (now b)) × (rowsMost ≤ length (now c)) × (rowsMost * zonesMost ≤ length (now f)) × (length (now file) ≤ bytesMost) × (bytesMost ≤ length (now out)) ⌝ }
+    requires { ⌜ (zonesMost ≤ length (now z)) × (zonesMost ≤ length (now t)) × (bordersMost ≤ length (now b)) × (rowsMost ≤ length (now c)) × (rowsMost * zonesMost ≤ length (now f)) × (bytesMost ≤ length (now out)) ⌝ }
     ensures { λ r. ⌜ Printed r (wordOf word all (now (marks .entry)) (now (file .entry)) (now (text .entry)) (now (sheet .entry))) (now (out .exit)) ⌝ }
 {
-    match reading::read_corrected(text, sheet, z, t, b, c, f) {
+    match reading::read_into(text, sheet, z, t, b, c, f) {
         Read::Table(h) => put_lent(word, all, marks, file, h, z, t, b, c, f, out),
         Read::Refused(w) => refusal_line(w, out),
     }
@@ -127,8 +134,8 @@ fn put_lent(
     f: &mut [i64],
     out: &mut [u8],
 ) -> usize
-    requires { ⌜ Sound (lent h (now z) (now t) (now b) (now c) (now f)) × (length (now file) ≤ bytesMost) × (bytesMost ≤ length (now out)) ⌝ }
-    ensures { λ r. ⌜ Printed r (toldText (then (judgeLent (lent h (now (z .entry)) (now (t .entry)) (now (b .entry)) (now (c .entry)) (now (f .entry)))) (saidOf word all (now (marks .entry)) (now (file .entry))))) (now (out .exit)) ⌝ }
+    requires { ⌜ Good (front (lent h (now z) (now t) (now b) (now c) (now f))) × (bytesMost ≤ length (now out)) ⌝ }
+    ensures { λ r. ⌜ Printed r (toldText (saidOf word all (now (marks .entry)) (now (file .entry)) (front (lent h (now (z .entry)) (now (t .entry)) (now (b .entry)) (now (c .entry)) (now (f .entry)))))) (now (out .exit)) ⌝ }
 {
     match word {
         Word::Answer => put_answer(all, marks, h, z, t, b, c, f, out),
@@ -152,10 +159,10 @@ fn put_answer(
     f: &[i64],
     out: &mut [u8],
 ) -> usize
-    requires { ⌜ bytesMost ≤ length (now out) ⌝ }
-    ensures { λ r. ⌜ Printed r (printed (outcomeLent all (now (marks .entry)) (lent h (now (z .entry)) (now (t .entry)) (now (b .entry)) (now (c .entry)) (now (f .entry))))) (now (out .exit)) ⌝ }
+    requires { ⌜ Good (front (lent h (now z) (now t) (now b) (now c) (now f))) × (bytesMost ≤ length (now out)) ⌝ }
+    ensures { λ r. ⌜ Printed r (printed (outcomeFor all (now (marks .entry)) (front (lent h (now (z .entry)) (now (t .entry)) (now (b .entry)) (now (c .entry)) (now (f .entry)))))) (now (out .exit)) ⌝ }
 {
-    bytes_of(answer::answer_lent(h, z, t, b, c, f, all, marks, out))
+    bytes_of(answer::answer_good(h, z, t, b, c, f, all, marks, true, out))
 }
 
 fn put_table(
@@ -167,10 +174,10 @@ fn put_table(
     f: &[i64],
     out: &mut [u8],
 ) -> usize
-    requires { ⌜ bytesMost ≤ length (now out) ⌝ }
-    ensures { λ r. ⌜ Printed r (toldText (tableSaid (lent h (now (z .entry)) (now (t .entry)) (now (b .entry)) (now (c .entry)) (now (f .entry))))) (now (out .exit)) ⌝ }
+    requires { ⌜ Good (front (lent h (now z) (now t) (now b) (now c) (now f))) × (bytesMost ≤ length (now out)) ⌝ }
+    ensures { λ r. ⌜ Printed r (toldText (passed (tableText (front (lent h (now (z .entry)) (now (t .entry)) (now (b .entry)) (now (c .entry)) (now (f .entry))))))) (now (out .exit)) ⌝ }
 {
-    told(writing::write(h, z, t, b, c, f, out), out)
+    told(writing::write_good(h, z, t, b, c, f, out), out)
 }
 
 fn put_claims(
@@ -183,10 +190,13 @@ fn put_claims(
     f: &[i64],
     out: &mut [u8],
 ) -> usize
-    requires { ⌜ bytesMost ≤ length (now out) ⌝ }
-    ensures { λ r. ⌜ Printed r (toldText (publishedAnswer (lent h (now (z .entry)) (now (t .entry)) (now (b .entry)) (now (c .entry)) (now (f .entry))) (now (file .entry)))) (now (out .exit)) ⌝ }
+    requires { ⌜ Good (front (lent h (now z) (now t) (now b) (now c) (now f))) × (bytesMost ≤ length (now out)) ⌝ }
+    ensures { λ r. ⌜ Printed r (toldText (publishedOf (front (lent h (now (z .entry)) (now (t .entry)) (now (b .entry)) (now (c .entry)) (now (f .entry)))) (claimsIn (now (file .entry))))) (now (out .exit)) ⌝ }
 {
-    told(claimtext::published_text(h, z, t, b, c, f, file, out), out)
+    told(
+        claimtext::published_text_good(h, z, t, b, c, f, file, out),
+        out,
+    )
 }
 
 fn put_bound(
@@ -200,11 +210,11 @@ fn put_bound(
     f: &[i64],
     out: &mut [u8],
 ) -> usize
-    requires { ⌜ bytesMost ≤ length (now out) ⌝ }
-    ensures { λ r. ⌜ Printed r (toldText (boundSaid all (now (marks .entry)) (lent h (now (z .entry)) (now (t .entry)) (now (b .entry)) (now (c .entry)) (now (f .entry))))) (now (out .exit)) ⌝ }
+    requires { ⌜ Good (front (lent h (now z) (now t) (now b) (now c) (now f))) × (bytesMost ≤ length (now out)) ⌝ }
+    ensures { λ r. ⌜ Printed r (toldText (boundTextOf (boundAsked all (now (marks .entry)) (front (lent h (now (z .entry)) (now (t .entry)) (now (b .entry)) (now (c .entry)) (now (f .entry))))))) (now (out .exit)) ⌝ }
 {
     told(
-        boundtext::bound_text(h, z, t, b, c, f, all, marks, out),
+        boundtext::bound_text_good(h, z, t, b, c, f, all, marks, out),
         out,
     )
 }
@@ -218,10 +228,10 @@ fn put_margins(
     f: &[i64],
     out: &mut [u8],
 ) -> usize
-    requires { ⌜ bytesMost ≤ length (now out) ⌝ }
-    ensures { λ r. ⌜ Printed r (toldText (marginsSaid (lent h (now (z .entry)) (now (t .entry)) (now (b .entry)) (now (c .entry)) (now (f .entry))))) (now (out .exit)) ⌝ }
+    requires { ⌜ Good (front (lent h (now z) (now t) (now b) (now c) (now f))) × (bytesMost ≤ length (now out)) ⌝ }
+    ensures { λ r. ⌜ Printed r (toldText (passed (partsText (recordsOf (front (lent h (now (z .entry)) (now (t .entry)) (now (b .entry)) (now (c .entry)) (now (f .entry)))))))) (now (out .exit)) ⌝ }
 {
-    told(partstext::margins_text(h, z, t, b, c, f, out), out)
+    told(partstext::margins_text_good(h, z, t, b, c, f, out), out)
 }
 
 fn put_rows(h: Header, c: &[RowRecord], f: &[i64], out: &mut [u8]) -> usize
@@ -242,7 +252,7 @@ fn put_filled(
     f: &mut [i64],
     out: &mut [u8],
 ) -> usize
-    requires { ⌜ Sound (lent h (now z) (now t) (now b) (now c) (now f)) × (bytesMost ≤ length (now out)) ⌝ }
+    requires { ⌜ Good (front (lent h (now z) (now t) (now b) (now c) (now f))) × (bytesMost ≤ length (now out)) ⌝ }
     ensures { λ r. ⌜ Printed r (toldText (filledBy (now (file .entry)) (front (lent h (now (z .entry)) (now (t .entry)) (now (b .entry)) (now (c .entry)) (now (f .entry)))))) (now (out .exit)) ⌝ }
 {
     match rowsheet::read_rows(h, file, c, f) {

@@ -21,8 +21,9 @@ use Rattle.rounds.specs.Last.{after, raiseIn, lastTo, lastRound}
 use Rattle.rounds.specs.Stopping.{stopRow}
 use Rattle.margin.specs.Margin.{grains, f0coreOf, fuafOf, baseOf, amrOf, signedFactor, pOf, ltaKw, sOf, ltaMarginOf, ramOf, ramAt}
 use Rattle.states.specs.States.{highest, lowest, spreadOf, shifted, below, stateOf}
+use Rattle.states.specs.Rows.{rowsOf}
 use Rattle.start.specs.Setup.{gridBy, beginBy, judgeBy}
-use Rattle.start.specs.Start.{rowsOf, kept, every, setupWith}
+use Rattle.start.specs.Start.{kept, every, setupWith}
 use Rattle.extraction.specs.Extraction.{Result, atcOf, leftOf, lastOf, stopOf, rowOrDash, nOf, lOf, outcomeMarked, resultMarked}
 use Rattle.promises.specs.Demand.{loadOf, WithinAtcs, ResultDemand3}
 use Rattle.promises.specs.DemandLeft.{LeftDemand3}

@@ -18,8 +18,9 @@ use Rattle.table.specs.Table.{Table, factorsAt, stretch}
 use Rattle.rounds.specs.Rounds.{State, Outcome, sharers, raise, alone, raises, load, lowered, risen, apply, next, raised, counted, run, extract, mostSharers, bitsTo, bits, aloneBits}
 use Rattle.margin.specs.Margin.{flowOf, grains, f0coreOf, fuafOf, baseOf, amrOf, signedFactor, pOf, ltaKw, sOf, ltaMarginOf, ramOf, ramAt}
 use Rattle.states.specs.States.{highest, lowest, spreadOf, shifted, below, stateOf}
+use Rattle.states.specs.Rows.{rowsOf}
 use Rattle.start.specs.Setup.{gridBy, beginBy, judgeBy}
-use Rattle.start.specs.Start.{rowsOf, kept, every, setupWith}
+use Rattle.start.specs.Start.{kept, every, setupWith}
 use Rattle.extraction.specs.Extraction.{Result, resultMarked, leftOf, nOf, lOf}
 use Rattle.promises.specs.ByBorder.{laidOut, ByBorder}
 use Rattle.promises.specs.Demand.{loadOf, startMargin, startKw, ResultDemand3}

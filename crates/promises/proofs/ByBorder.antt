@@ -15,8 +15,9 @@ use Rattle.rounds.proofs.Laid.{laid-raise, laid-next}
 use Rattle.rounds.proofs.Theorems.{same-factors}
 use Rattle.rounds.proofs.Loops.{place-inside}
 use Rattle.margin.specs.Margin.{pOf}
+use Rattle.states.specs.Rows.{rowsOf}
 use Rattle.start.specs.Setup.{gridBy}
-use Rattle.start.specs.Start.{rowsOf, kept, every, gridMarked, tableGrid, tableStart, setupWith}
+use Rattle.start.specs.Start.{kept, every, gridMarked, tableGrid, tableStart, setupWith}
 use Rattle.start.specs.Filled.{cells}
 use Rattle.start.proofs.StartLaws.{cells-at, grid-long}
 use Rattle.extraction.specs.Extraction.{ExtractLeft, extractFor, resultMarked}

@@ -25,8 +25,9 @@ use Rattle.rounds.proofs.Theorems.{alone-under, alone-least, extract-demand3}
 use Rattle.margin.specs.Bounds.{namedBits, startBits}
 use Rattle.margin.specs.Margin.{flowOf, signedFactor, pOf, ltaKw, sOf, sAt, ramAt, startBy, marginOf}
 use Rattle.margin.proofs.Small.{named-values-small}
+use Rattle.states.specs.Rows.{rowsOf}
 use Rattle.start.specs.Setup.{Setup, gridBy, beginBy, endBy}
-use Rattle.start.specs.Start.{rowsOf, kept, gridMarked, tableStart, setupOf, setupWith}
+use Rattle.start.specs.Start.{kept, gridMarked, tableStart, setupOf, setupWith}
 use Rattle.extraction.specs.Extraction.{Result, resultMarked, outcomeMarked, leftOf, nOf, lOf}
 use Rattle.extraction.proofs.AcceptedLaws.{accepted, part-le-abs}
 use Rattle.promises.specs.Demand.{loadOf, lessSOf, remainderOf, startMargin, UpTo, WithinAtcs, roundsMost, Demand3, ResultDemand3}

@@ -15,8 +15,9 @@ use Rattle.marks.specs.Marks.{mayRise}
 use Rattle.table.specs.Table.{Table, front}
 use Rattle.table.specs.Good.{Good}
 use Rattle.table.proofs.GoodLaws.{judged-good}
+use Rattle.states.specs.Rows.{rowsOf}
 use Rattle.start.specs.Setup.{beginBy, endBy}
-use Rattle.start.specs.Start.{rowsOf, kept, setupWith}
+use Rattle.start.specs.Start.{kept, setupWith}
 use Rattle.extraction.specs.Extraction.{Result, outcomeMarked, resultMarked, leftOf, atcRecord, rowRecord, ExtractLeft, extractFor}
 use Rattle.extraction.proofs.AcceptedLaws.{accepted}
 use Rattle.extraction.proofs.LentLaws.{accepted-for}

@@ -20,8 +20,9 @@ use Rattle.table.specs.Table.{Table, factorsAt}
 use Rattle.table.specs.Good.{Good}
 use Rattle.margin.specs.Margin.{f0coreOf, fuafOf, baseOf, amrOf, ltaMarginOf, ramOf, sAt, ramAt, startBy, marginOf, ramsOf, startsOf}
 use Rattle.states.specs.States.{statesOf}
+use Rattle.states.specs.Rows.{Rows, rowsOf}
 use Rattle.start.specs.Setup.{Setup, gridBy, beginBy, judgeBy}
-use Rattle.start.specs.Start.{Rows, rowsOf, kept, every, setupWith}
+use Rattle.start.specs.Start.{kept, every, setupWith}
 use Rattle.start.specs.Filled.{cells}
 use Rattle.extraction.specs.Extraction.{resultBy, resultMarked, outcomeMarked, outcomeFor}
 use Rattle.promises.specs.Replaced.{replacedShare, replacedRow, replacedRows, replaced, ReplacedSame}

@@ -15,7 +15,7 @@ use Rattle.numbers.proofs.BelowLaws.{first-nothing, table-get}
 use Rattle.kinds.specs.Ranges.{isIntraday, defaultOf, rowOf}
 use Rattle.kinds.specs.Refusals.{Judged, passed, refused, then, either, unless, refuseAt, refuseFirst, noRow, unlimited, belowZero}
 use Rattle.marks.specs.Marks.{judgeMarks, judgeAsked, mayRise}
-use Rattle.table.specs.Table.{Table, rowAt, factorsAt, front, roomFor, inRange, notTwice, judgeShape, judgeRecords, judgeLent}
+use Rattle.table.specs.Table.{Table, rowAt, factorsAt, front, roomFor, inRange, notTwice, judgeShape, judgeRecords, judgeFor, judgeLent}
 use Rattle.table.proofs.GoodLaws.{judged-front}
 use Rattle.margin.specs.Margin.{sAt, ramAt, startBy, marginOf}
 use Rattle.margin.proofs.MarginLaws.{start-not-negative}
@@ -110,7 +110,7 @@ records-not-7 t =
     (λ u v. told-first _ _ _ _ (λ i e. omega arith) (told-passed _))
 
 pub lent-not-7 : (given : Table) → Told Other (judgeLent given)
-unfolding judgeLent
+unfolding judgeFor
 lent-not-7 given = told-then (judgeShape given) judgeRecords (shape-not-7 given) (λ t e. records-not-7 t)
 
 -- ---- the outcome as asked, and what `extract` and `extract_marked` answer
@@ -130,7 +130,7 @@ front-reductions given none-taken =
     same-row i h f e = ap f (getD-take (given .header .rows) (given .rows) i [] h) ∙ e
 
 pub extract-not-7 : (all : Bool) (marks : List ℕ) (given : Table) (ps : List ℕ) (atcs lefts : List (List ℤ)) → NoReductions given → NotSeven (extractFor all marks given ps atcs lefts .answer)
-unfolding extractFor judgeExtract either
+unfolding extractFor judgeFor either
 extract-not-7 all marks given ps atcs lefts none-taken =
     go (then (judgeExtract given (length ps)) (λ t. then (outcomeFor all marks t) (resultRoom atcs lefts)))
     (told-then (judgeExtract given (length ps)) _

@@ -24,8 +24,9 @@ use Rattle.margin.proofs.JudgedLaws.{good-factors}
 use Rattle.states.specs.States.{spreadOf, spreadLeast, shifted, stateOf}
 use Rattle.states.proofs.ShiftLaws.{shifted-self}
 use Rattle.states.proofs.OneKept.{one-kept}
+use Rattle.states.specs.Rows.{rowsOf}
 use Rattle.start.specs.Setup.{beginBy, endBy}
-use Rattle.start.specs.Start.{rowsOf, kept, setupOf, setupWith}
+use Rattle.start.specs.Start.{kept, setupOf, setupWith}
 use Rattle.extraction.specs.Extraction.{inMw, atcOf, resultMarked, outcomeMarked, outcomeFor}
 use Rattle.promises.specs.Ways.{resultIn, outcomeIn, outcomeTaking, zeroOrTwo, unshortened}
 use Rattle.promises.specs.Same.{SameResult, Both}

@@ -20,8 +20,9 @@ use Rattle.rounds.specs.Stopping.{stopRow, Stops}
 use Rattle.rounds.proofs.Rounds.{extracts}
 use Rattle.rounds.proofs.Stopped as rules
 use Rattle.margin.specs.Margin.{pOf}
+use Rattle.states.specs.Rows.{rowsOf}
 use Rattle.start.specs.Setup.{Setup, gridBy}
-use Rattle.start.specs.Start.{rowsOf, kept, gridMarked, tableStart, judgeMarked, setupOf, setupWith}
+use Rattle.start.specs.Start.{kept, gridMarked, tableStart, judgeMarked, setupOf, setupWith}
 use Rattle.extraction.specs.Extraction.{Result, resultMarked, outcomeMarked, leftOf, lastOf, stopOf, atcRecord, ExtractLeft, rowOrDash, extractFor}
 use Rattle.extraction.proofs.AcceptedLaws.{accepted}
 use Rattle.extraction.proofs.LentLaws.{accepted-for}

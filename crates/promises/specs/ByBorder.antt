@@ -8,7 +8,8 @@ use Rattle.numbers.specs.Below.{at}
 use Rattle.table.specs.Table.{Table, borderAt, factorsAt}
 use Rattle.rounds.specs.Rounds.{Grid, State, raise, next, extract}
 use Rattle.margin.specs.Margin.{pOf}
-use Rattle.start.specs.Start.{rowsOf, kept, gridMarked, tableStart}
+use Rattle.states.specs.Rows.{rowsOf}
+use Rattle.start.specs.Start.{kept, gridMarked, tableStart}
 use Rattle.extraction.specs.Extraction.{resultMarked}
 
 -- the grid that a list of p lays out: row i's factors begin at item i x borders, border after border. The rounds take those of the marked borders

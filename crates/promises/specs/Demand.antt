@@ -16,7 +16,8 @@ use Rattle.table.specs.Table.{Table, borderAt, factorsAt}
 use Rattle.rounds.specs.Rounds.{raise}
 use Rattle.margin.specs.Margin.{flowOf, signedFactor, pOf, ltaKw, sAt, ramAt}
 use Rattle.margin.specs.Bounds.{namedBits, startBits}
-use Rattle.start.specs.Start.{rowsOf, kept, gridMarked}
+use Rattle.states.specs.Rows.{rowsOf}
+use Rattle.start.specs.Start.{kept, gridMarked}
 use Rattle.extraction.specs.Extraction.{Result, leftOf, nOf, lOf}
 
 -- row i's load from exchanges in whole kW: the sum of (from factor less to factor) times exchange

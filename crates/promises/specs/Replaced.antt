@@ -12,7 +12,7 @@ use Rattle.kinds.specs.Ranges.{atℤ, defaultOf}
 use Rattle.table.specs.Table.{Table}
 use Rattle.table.specs.Good.{Good}
 use Rattle.margin.specs.Margin.{ramAt, ramsOf}
-use Rattle.start.specs.Start.{rowsOf}
+use Rattle.states.specs.Rows.{rowsOf}
 use Rattle.extraction.specs.Extraction.{outcomeFor}
 
 -- R as a raw number, the default where it was "-"

@@ -13,7 +13,8 @@ use Rattle.table.specs.Table.{Table, borderAt, factorsAt}
 use Rattle.rounds.specs.Rounds.{sharers}
 use Rattle.rounds.specs.Last.{LastRaise}
 use Rattle.margin.specs.Margin.{pOf}
-use Rattle.start.specs.Start.{rowsOf, kept, gridMarked, tableStart}
+use Rattle.states.specs.Rows.{rowsOf}
+use Rattle.start.specs.Start.{kept, gridMarked, tableStart}
 use Rattle.extraction.specs.Extraction.{Result, resultMarked, leftOf, lastOf, stopOf}
 
 -- what border b could rise by from row i's equal share of its margin left, whole kW: shared among the marked borders

@@ -7,8 +7,9 @@ use Rattle.numbers.specs.Below.{at}
 use Rattle.kinds.specs.Refusals.{Judged}
 use Rattle.marks.specs.Marks.{judgeAsked, mayRise}
 use Rattle.table.specs.Table.{Table}
+use Rattle.states.specs.Rows.{rowsOf}
 use Rattle.start.specs.Setup.{gridBy, beginBy, judgeBy}
-use Rattle.start.specs.Start.{rowsOf, tableGrid, setupOf}
+use Rattle.start.specs.Start.{tableGrid, setupOf}
 use Rattle.start.specs.Filled.{cells}
 use Rattle.extraction.specs.Extraction.{Result, resultBy}
 

@@ -19,9 +19,9 @@ use Rattle.kinds.proofs.RefusalLaws.{passed-is, refused-is, not-passed, then-pa
 use Rattle.table.specs.Table.{Table, lent, judgeLent}
 use Rattle.table.specs.Good.{Good}
 use Rattle.table.proofs.RoomLaws.{Enough, room-enough, room-passed, factors-most}
-use Rattle.table.proofs.GoodLaws.{over-judged}
+use Rattle.table.proofs.GoodLaws.{judged-front, over-judged}
 use Rattle.reading.specs.Places.{readSaid}
-use Rattle.reading.specs.Reading.{ReadLeft, tablesLeft}
+use Rattle.reading.specs.Reading.{ReadLeft, tablesLeft, readInto}
 
 module _ (judged : Judged Table) (z a : List ℤ) (b c : List (List ℤ)) (f : List ℤ) where
   abbrev leaves : Table → ReadLeft
@@ -93,3 +93,14 @@ module _ (judged : Judged Table) (z a : List ℤ) (b c : List (List ℤ)) (f : L
           go : (j : Judged Table) → judged ≡ j → judged ≡ refused w
           go (passed t) q = absurd (not-passed w (t .header) (turned _ (read-left t q (enough t q))))
           go (refused v) q = q ∙ ap refused (sym (refused-is {A = Header} w v (turned _ (either-refused _ _ (then-refused _ q)))))
+
+-- .. so a read into such room says what the texts come to
+pub read-into : (judged : Judged Table) (z a : List ℤ) (b c : List (List ℤ)) (f : List ℤ) (r : Read) {z′ a′ : List ℤ} {b′ c′ : List (List ℤ)} {f′ : List ℤ}
+    → readSaid r z′ a′ b′ c′ f′ ≡ tablesLeft judged z a b c f → ((t : Table) → judged ≡ passed t → Good t)
+    → (zonesMost ≤ length z) × (zonesMost ≤ length a) × (bordersMost ≤ length b) × (rowsMost ≤ length c) × (rowsMost * zonesMost ≤ length f)
+    → readInto r z′ a′ b′ c′ f′ ≡ judged
+read-into judged z a b c f (read.Table h) said good room =
+    let it = taken judged z a b c f (read.Table h) said good h refl in
+    ap passed (sym (judged-front _ (it .it) (as-read judged z a b c f (read.Table h) said good h refl))) ∙ sym (it .read)
+read-into judged z a b c f (read.Refused w) said good room =
+    sym (refused-text judged z a b c f (read.Refused w) said good (room .0) (room .1) (room .2) (room .3) (room .4) w refl)

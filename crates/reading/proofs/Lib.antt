@@ -7,3 +7,4 @@ pub mod LeftLaws
 pub mod CorrectedLaws
 pub mod EmptySheet
 pub mod OwnLines
+pub mod IntoLaws

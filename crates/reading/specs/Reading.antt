@@ -9,12 +9,14 @@ use lib.IntN.{ℤ}
 use lib.ListN.{length}
 use Rattle.numbers.specs.Below.{at, over}
 use Rattle.kinds.specs.declared.Header.{Header}
+use Rattle.kinds.specs.declared.Read.{Read}
+use Rattle.kinds.specs.declared.Read.the-variants as read
 use Rattle.kinds.specs.Limits.{bytesMost}
 use Rattle.kinds.specs.Ranges.{allocatedItems, profiled}
 use Rattle.kinds.specs.Refusals.{Judged, passed, refused, then, either, unless, tooLong, wrongFormAt, wrongForm, outOfRangeAt}
 use Rattle.text.specs.Line.{lineAt, after, Line, holds, form, range}
 use Rattle.block.specs.Block.{linesAt, withLines}
-use Rattle.table.specs.Table.{Table, lent, balanced, notTwice, tableRoom, headerLineNo, zoneLineNo, allocatedLineNo, lastAllocatedLineNo, borderLineNo, rowLineNo, pastLineNo}
+use Rattle.table.specs.Table.{Table, lent, front, balanced, notTwice, tableRoom, headerLineNo, zoneLineNo, allocatedLineNo, lastAllocatedLineNo, borderLineNo, rowLineNo, pastLineNo}
 use Rattle.lines.specs.Lines.{headerLine, zoneLine, allocatedLine, borderLine}
 use Rattle.corrections.specs.Corrections.{pieces, handedOn, judgeSheet}
 use Rattle.runs.specs.Rows.{valuesOf, factorsOf, asGiven, pickedRow}
@@ -97,3 +99,8 @@ readLeft text z t b c f = tablesLeft (readText text) z t b c f
 
 abbrev pub readCorrectedLeft : (text sheet : List ℕ) → (z t : List ℤ) → (b c : List (List ℤ)) → (f : List ℤ) → ReadLeft
 readCorrectedLeft text sheet z t b c f = tablesLeft (readCorrected text sheet) z t b c f
+
+-- what a read into room for the largest table comes to: the table stands in front; where it is refused, what the lent tables hold says nothing
+abbrev pub readInto : Read → (z t : List ℤ) → (b c : List (List ℤ)) → (f : List ℤ) → Judged Table
+readInto (read.Table h) z t b c f = passed (front (lent h z t b c f))
+readInto (read.Refused w) z t b c f = refused w

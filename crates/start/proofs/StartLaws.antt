@@ -26,12 +26,11 @@ use Rattle.kinds.proofs.RefusalLaws.{unless-ok, unless-refused, first-found, fi
 use Rattle.table.specs.Table.{Table}
 use Rattle.rounds.specs.Rounds.{Grid}
 use Rattle.rounds.proofs.Loops.{place-inside}
-use Rattle.margin.specs.Margin.{ramAt, ramsOf, startsOf}
-use Rattle.states.specs.States.{stateOf, statesOf}
-use Rattle.states.proofs.StateLaws.{state-most}
+use Rattle.margin.specs.Margin.{startsOf}
+use Rattle.states.specs.Rows.{Rows, rowsOf, rowsWith}
 use Rattle.start.specs.Setup.{gridBy, beginBy, judgeBy}
-use Rattle.start.specs.Start.{Rows, rowsOf, kept, fromBy, gridOf, startOf, judgeStart, gridMarked, tableStart, judgeMarked, setupWith}
-use Rattle.start.specs.Filled.{rowsWith, froms, exchangesOf, freeOf, cells, Prepared, prepared, preparedOf}
+use Rattle.start.specs.Start.{kept, fromBy, gridOf, startOf, judgeStart, gridMarked, tableStart, judgeMarked, setupWith}
+use Rattle.start.specs.Filled.{froms, exchangesOf, freeOf, cells, Prepared, prepared, preparedOf}
 
 -- ---- a grid in one list
 -- what stands at row i and border b in a list of cells
@@ -133,10 +132,6 @@ module _ (marked : ℕ → Bool) (h : Header) (borders : List (List ℤ)) (facto
         may-start e = sym (past-free ∙ first-none-next _ _ _ _ (sym (e ∙ of-rows)))
 
 -- ---- what is filled in is what the definitions say
-pub rows-are : (t : Table) (rams : List ℤ) (states : List ℕ) → rams ≡ ramsOf t → states ≡ statesOf (t .header) (t .factors) rams → rowsWith rams states ≡ rowsOf t
-unfolding rowsOf
-rows-are t rams states e u = ap₂ rowsWith e (u ∙ ap (statesOf (t .header) (t .factors)) e)
-
 pub prepared-by : (marked : ℕ → Bool) (t : Table) (r : Judgement) {rams starts : List ℤ} {states : List ℕ} → rowsWith rams states ≡ rowsOf t → starts ≡ startsOf t
     → ruled r states ≡ judgeStart marked (t .header) (t .borders) (t .factors) states starts → prepared r rams starts states ≡ preparedOf marked t
 unfolding preparedOf judgeStart
@@ -189,19 +184,3 @@ pub exchanges-are : (intraday : Bool) (b : List (List ℤ)) (ys zs : List ℕ) �
 exchanges-are intraday b ys zs e u =
     ap₂ (λ (y z : List ℕ). y ++ drop (length b) z) e u
     ∙ ap (λ (n : ℕ). froms intraday b ++ drop n (table bordersMost (λ k. 0))) (sym (table-long (length b) (λ k. fromBy intraday (borderOf (getD b k [])))))
-
--- ---- what is known of the rows of a table
-pub record RowsIn (t : Table) (m : Rows) : Type 0 where
-  pub rams-long : length (m .rams) ≡ t .header .rows
-  pub states-long : length (m .states) ≡ t .header .rows
-  pub states-in : (i : ℕ) → i < t .header .rows → at (m .states) i ≤ 2
-
-pub rows-in : (t : Table) (m : Rows) → m ≡ rowsOf t → RowsIn t m
-unfolding rowsOf
-rows-in t m e =
-    let state : ℕ → ℕ = stateOf (t .header) (t .factors) (ramsOf t) in
-    subst (RowsIn t) (sym e) (record {
-      rams-long = table-long (t .header .rows) (ramAt t);
-      states-long = table-long (t .header .rows) state;
-      states-in = λ i h. rw (table-get (t .header .rows) state i 0 h) (state-most (t .header) (t .factors) (ramsOf t) i);
-    })

@@ -15,10 +15,8 @@ use Rattle.kinds.specs.Refusals.{Judged}
 use Rattle.table.specs.Table.{Table}
 use Rattle.rounds.specs.Rounds.{Grid}
 use Rattle.margin.specs.Margin.{startsOf}
-use Rattle.start.specs.Start.{Rows, rowsOf, fromBy, gridOf, judgeMarked}
-
-abbrev pub rowsWith : (rams : List ℤ) → (states : List ℕ) → Rows
-rowsWith rams states = record { rams = rams; states = states }
+use Rattle.states.specs.Rows.{Rows, rowsOf, rowsWith}
+use Rattle.start.specs.Start.{fromBy, gridOf, judgeMarked}
 
 -- where each border starts, kW
 abbrev pub froms : (intraday : Bool) → (b : List (List ℤ)) → List ℕ

@@ -13,17 +13,9 @@ use Rattle.kinds.specs.Ranges.{atℤ, isIntraday, borderOf}
 use Rattle.kinds.specs.Refusals.{Judged}
 use Rattle.table.specs.Table.{Table, stretch}
 use Rattle.rounds.specs.Rounds.{Grid, State}
-use Rattle.margin.specs.Margin.{pOf, ltaKw, ramsOf, startsOf}
-use Rattle.states.specs.States.{statesOf}
+use Rattle.margin.specs.Margin.{pOf, ltaKw, startsOf}
+use Rattle.states.specs.Rows.{rowsOf}
 use Rattle.start.specs.Setup.{Setup, gridBy, beginBy, judgeBy}
-
--- the RAM and the state of each row
-pub record Rows : Type 0 where
-  pub rams : List ℤ
-  pub states : List ℕ
-
-unfoldable pub rowsOf : Table → Rows
-rowsOf t = let rams = ramsOf t in record { rams = rams; states = statesOf (t .header) (t .factors) rams }
 
 -- only state 0 rows take part
 unfoldable pub kept : (states : List ℕ) → (i : ℕ) → Bool

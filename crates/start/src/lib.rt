@@ -13,39 +13,18 @@ ghost use Rattle.kinds.specs.Answers.{ruled};
 ghost use Rattle.kinds.specs.Limits.{bordersMost};
 ghost use Rattle.kinds.specs.Ranges.{atℤ, isIntraday, borderFits, borderOf};
 ghost use Rattle.marks.specs.Marks.{flagged};
-ghost use Rattle.table.specs.Table.{lent};
+ghost use Rattle.table.specs.Table.{lent, front};
 ghost use Rattle.table.specs.Good.{Good};
 ghost use Rattle.margin.specs.Bounds.{FactorsBound, TableFactorsBound, BordersBound};
-ghost use Rattle.margin.specs.Margin.{pOf, startsOf};
-ghost use Rattle.start.specs.Start.{rowsOf, kept, every, fromBy, gridOf, startOf, judgeStart};
-ghost use Rattle.start.specs.Filled.{rowsWith, froms, exchangesOf, freeOf, cells, prepared, preparedOf};
+ghost use Rattle.margin.specs.Margin.{pOf};
+ghost use Rattle.start.specs.Start.{kept, every, fromBy, gridOf, startOf, judgeStart};
+ghost use Rattle.start.specs.Filled.{froms, exchangesOf, freeOf, cells, prepared, preparedOf};
 use kinds::BorderRecord;
 use kinds::Header;
 use kinds::Judgement;
 use kinds::Refusal;
 use kinds::RowRecord;
 use numbers::First;
-
-// RAM of each row, where its margin starts, and its state.
-pub fn fill_rows(
-    h: Header,
-    z: &[i64],
-    t: &[i64],
-    b: &[BorderRecord],
-    c: &[RowRecord],
-    f: &[i64],
-    rams: &mut [i64],
-    starts: &mut [i64],
-    states: &mut [u64],
-)
-    requires { ⌜ Good (lent h (now z) (now t) (now b) (now c) (now f)) ⌝ }
-    requires { ⌜ (length (now rams) ≡ h .rows) × (length (now starts) ≡ h .rows) ⌝ }
-    requires { ⌜ length (now states) ≡ h .rows ⌝ }
-    ensures { λ _. ⌜ (rowsWith (now (rams .exit)) (now (states .exit)) ≡ rowsOf (lent h (now (z .entry)) (now (t .entry)) (now (b .entry)) (now (c .entry)) (now (f .entry)))) × (now (starts .exit) ≡ startsOf (lent h (now (z .entry)) (now (t .entry)) (now (b .entry)) (now (c .entry)) (now (f .entry)))) ⌝ }
-{
-    margin::fill_rams(h, z, t, b, c, f, rams, starts);
-    states::fill_states(h, f, rams, states);
-}
 
 // p of a row at a border, which is 0 where the border is not marked or the row takes no part.
 fn cell(flag: u64, state: u64, factors: &[i64], raw: BorderRecord) -> u64
@@ -221,7 +200,7 @@ fn fill_margins(states: &[u64], starts: &[i64], margins: &mut [u64])
     }
 }
 
-// RAM of each row, where its margin starts, and its state, and whether the rounds may start.
+// RAM of each row, where its margin starts, and its state, and whether the rounds may start. The tables may hold more than their header says.
 pub fn prepare(
     h: Header,
     z: &[i64],
@@ -234,14 +213,16 @@ pub fn prepare(
     starts: &mut [i64],
     states: &mut [u64],
 ) -> Judgement
-    requires { ⌜ Good (lent h (now z) (now t) (now b) (now c) (now f)) ⌝ }
+    requires { ⌜ Good (front (lent h (now z) (now t) (now b) (now c) (now f))) ⌝ }
     requires { ⌜ length (now flags) ≡ h .borders ⌝ }
     requires { ⌜ (length (now rams) ≡ h .rows) × (length (now starts) ≡ h .rows) ⌝ }
     requires { ⌜ length (now states) ≡ h .rows ⌝ }
-    ensures { λ r. ⌜ prepared r (now (rams .exit)) (now (starts .exit)) (now (states .exit)) ≡ preparedOf (flagged (now (flags .entry))) (lent h (now (z .entry)) (now (t .entry)) (now (b .entry)) (now (c .entry)) (now (f .entry))) ⌝ }
+    ensures { λ r. ⌜ prepared r (now (rams .exit)) (now (starts .exit)) (now (states .exit)) ≡ preparedOf (flagged (now (flags .entry))) (front (lent h (now (z .entry)) (now (t .entry)) (now (b .entry)) (now (c .entry)) (now (f .entry)))) ⌝ }
 {
-    fill_rows(h, z, t, b, c, f, rams, starts, states);
-    judge_start(h, b, f, flags, states, starts)
+    states::fill_rows(h, z, t, b, c, f, rams, starts, states);
+    let borders = h.borders;
+    let factors = h.rows * h.zones;
+    judge_start(h, &b[..borders], &f[..factors], flags, states, starts)
 }
 
 // p of each row at each marked border, and the margins that the rounds start from.

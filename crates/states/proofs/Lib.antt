@@ -2,3 +2,4 @@ pub mod Anchors
 pub mod StateLaws
 pub mod ShiftLaws
 pub mod OneKept
+pub mod RowsLaws

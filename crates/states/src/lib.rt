@@ -1,4 +1,4 @@
-// Row states: which rows take part in the extraction.
+// Row states: which rows take part in the extraction, and what every reading of a table's rows begins with: RAM, starting margin and state of each.
 ghost use mathlib.Core.Path.{_≡_};
 ghost use mathlib.Core.Bool.{_&&_};
 ghost use Prim.Native.Nat.{_<_};
@@ -6,9 +6,12 @@ ghost use lib.IntN.{pos};
 ghost use lib.ListN.{length};
 ghost use lib.Signed.{ltZ};
 ghost use Rattle.numbers.specs.Below.{someBelow};
-ghost use Rattle.table.specs.Table.{stretch};
+ghost use Rattle.table.specs.Table.{lent, front, stretch};
+ghost use Rattle.table.specs.Good.{Good};
 ghost use Rattle.margin.specs.Bounds.{FactorsBound, TableFactorsBound};
+ghost use Rattle.margin.specs.Margin.{startsOf};
 ghost use Rattle.states.specs.States.{spreadOf, spreadLeast, shifted, below, stateOf, statesOf};
+ghost use Rattle.states.specs.Rows.{rowsOf, rowsWith};
 
 // The 5% test: rows of a smaller spread, in hundred-thousandths, take no part.
 const SPREAD_LEAST: i64 = 5000;
@@ -116,4 +119,39 @@ pub fn fill_states(h: kinds::Header, f: &[i64], rams: &[i64], states: &mut [u64]
     for i in 0..h.rows {
         states[i] = state_of(h, f, rams, i);
     }
+}
+
+// RAM of each row, where its margin starts, and its state. The tables may hold more than their header says.
+pub fn fill_rows(
+    h: kinds::Header,
+    z: &[i64],
+    t: &[i64],
+    b: &[kinds::BorderRecord],
+    c: &[kinds::RowRecord],
+    f: &[i64],
+    rams: &mut [i64],
+    starts: &mut [i64],
+    states: &mut [u64],
+)
+    requires { ⌜ Good (front (lent h (now z) (now t) (now b) (now c) (now f))) ⌝ }
+    requires { ⌜ (length (now rams) ≡ h .rows) × (length (now starts) ≡ h .rows) ⌝ }
+    requires { ⌜ length (now states) ≡ h .rows ⌝ }
+    ensures { λ _. ⌜ (rowsWith (now (rams .exit)) (now (states .exit)) ≡ rowsOf (front (lent h (now (z .entry)) (now (t .entry)) (now (b .entry)) (now (c .entry)) (now (f .entry))))) × (now (starts .exit) ≡ startsOf (front (lent h (now (z .entry)) (now (t .entry)) (now (b .entry)) (now (c .entry)) (now (f .entry))))) ⌝ }
+{
+    let zones = h.zones;
+    let allocated = h.allocated_items();
+    let borders = h.borders;
+    let rows = h.rows;
+    let factors = &f[..rows * zones];
+    margin::fill_rams(
+        h,
+        &z[..zones],
+        &t[..allocated],
+        &b[..borders],
+        &c[..rows],
+        factors,
+        rams,
+        starts,
+    );
+    fill_states(h, factors, rams, states);
 }

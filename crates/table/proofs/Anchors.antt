@@ -9,7 +9,7 @@ use Rattle.numbers.specs.Below.{firstFrom, given}
 use Rattle.numbers.specs.Ints.{minus, sameℤ, sumℤ, inside}
 use Rattle.kinds.specs.Ranges.{headerFits, allocatedItems, zoneFits, exists, hubsFit, borderFits, shareOf, rowOf, rowFits, factorFits}
 use Rattle.kinds.specs.Refusals.{refused, then, unless, refuseAt, refuseFirst, need, outOfRange, tooShort}
-use Rattle.table.specs.Table.{Table, stretch, balanced, sameEnds, twice, roomFor, judgeShape, judgeLent}
+use Rattle.table.specs.Table.{Table, stretch, balanced, sameEnds, twice, roomFor, judgeShape, judgeFor, judgeLent}
 use Rattle.table.specs.Good.{Good}
 
 -- row 1 has FRM above Fmax: H is line 1, Z lines 2 and 3, B line 4, C lines 5 and 6
@@ -25,7 +25,7 @@ frmAbove =
     }
 
 pub row-line : judgeLent frmAbove ≡ refused (outOfRange 6)
-unfolding firstFrom given sameℤ sumℤ inside headerFits allocatedItems zoneFits exists hubsFit borderFits shareOf rowOf rowFits factorFits then unless refuseAt refuseFirst need stretch balanced roomFor judgeShape judgeLent
+unfolding firstFrom given sameℤ sumℤ inside headerFits allocatedItems zoneFits exists hubsFit borderFits shareOf rowOf rowFits factorFits then unless refuseAt refuseFirst need stretch balanced roomFor judgeShape judgeFor
 row-line = refl
 
 -- the same with T records (02, E12): they have lines 4 and 5, and the C lines come two lines later
@@ -52,7 +52,7 @@ pub record Allocated : Type 0 where
   pub mark : judgeLent (withT 2 (pos 0 ∷ pos 0 ∷ [])) ≡ refused (outOfRange 1)
 
 pub allocated : Allocated
-unfolding firstFrom given sameℤ sumℤ inside headerFits allocatedItems zoneFits exists hubsFit borderFits shareOf rowOf rowFits factorFits then unless refuseAt refuseFirst need stretch balanced roomFor judgeShape judgeLent
+unfolding firstFrom given sameℤ sumℤ inside headerFits allocatedItems zoneFits exists hubsFit borderFits shareOf rowOf rowFits factorFits then unless refuseAt refuseFirst need stretch balanced roomFor judgeShape judgeFor
 allocated = record { later = refl; sum = refl; range = refl; few = refl; without = refl; mark = refl }
 
 -- border 0 to 1, by hubs 2 and 3: the same again, by the same hubs the other way round, and without hubs

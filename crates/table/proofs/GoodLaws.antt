@@ -1,4 +1,4 @@
--- The laws of `specs/Good.antt`: what judging lent tables gives (`records-good`, `judged-front`, `judged-good`, `told-good`), and that a good table in front of lent tables is what they are judged to be
+-- The laws of `specs/Good.antt`: what judging lent tables gives (`judged-front`, `judged-good`, `told-judged`, `told-good`), and that a good table in front of lent tables is what they are judged to be
 -- (`front-judged`, `good-judged`, `over-judged`).
 -- Row i's factors are its stretch, so factor k of the whole table is factor k % zones of row k / zones. No contract cites this file.
 use mathlib.Core.Path.{_≡_, sym, ap, subst, _∙_}
@@ -17,13 +17,16 @@ use Rattle.kinds.specs.Ranges.{atℤ, headerFits, allocatedItems, rowFits, fact
 use Rattle.kinds.specs.Refusals.{passed}
 use Rattle.kinds.specs.declared.Header.{Header}
 use Rattle.kinds.specs.declared.Judgement.{Judgement}
-use Rattle.kinds.specs.declared.Judgement.the-variants.{Passed}
+use Rattle.kinds.specs.declared.Judgement.the-variants.{Passed, Refused}
+use Rattle.kinds.specs.declared.Refusal.{Refusal}
 use Rattle.kinds.specs.Answers.{ruled}
 use Rattle.kinds.proofs.KindLaws.{header-in}
 use Rattle.kinds.proofs.RefusalLaws.{passed-is, none-passed, then-passed, unless-passed, unless-ok, none-next, then-next}
-use Rattle.table.specs.Table.{Table, lent, stretch, factorsAt, twice, notTwice, rowGood, front, inRange, judgeShape, judgeRecords, judgeLent}
-use Rattle.table.specs.Good.{Exact, Good}
-use Rattle.table.proofs.RoomLaws.{Enough, room-enough}
+use Rattle.table.specs.declared.Room.{Room}
+use Rattle.table.specs.declared.Room.the-variants.{None}
+use Rattle.table.specs.Table.{Table, lent, stretch, factorsAt, twice, notTwice, rowGood, front, inRange, judgeShape, roomForP, judgeRecords, judgeFor, judgeLent}
+use Rattle.table.specs.Good.{Exact, Good, goodIn}
+use Rattle.table.proofs.RoomLaws.{Enough, room-enough, p-room-left}
 use Rattle.table.proofs.JudgeLaws.{shape-front}
 
 -- ---- stretches
@@ -87,26 +90,34 @@ records-good u t exact e =
       },
     )
 
-judged : (given t : Table) → judgeLent given ≡ passed t → (t ≡ front given) × Good (front given)
-unfolding judgeLent
-judged given t e =
-    let w = then-passed (judgeShape given) judgeRecords t e in
+judged : (room : Room) (given t : Table) → judgeFor room given ≡ passed t → (t ≡ front given) × Good (front given)
+unfolding judgeFor
+judged room given t e =
+    let w = then-passed (judgeShape given) _ t e in
     let s = shape-front given (w .it) (w .first) in
-    records-good (front given) t (s .1) (ap judgeRecords (sym (s .0)) ∙ w .second)
+    let r : roomForP room (given .header) (judgeRecords (front given)) ≡ passed t = ap (λ (u : Table). roomForP room (u .header) (judgeRecords u)) (sym (s .0)) ∙ w .second in
+    records-good (front given) t (s .1) (p-room-left room (given .header) _ t r)
 
 pub judged-front : (given t : Table) → judgeLent given ≡ passed t → t ≡ front given
-judged-front given t e = judged given t e .0
+judged-front given t e = judged None given t e .0
 
 pub judged-good : (given t : Table) → judgeLent given ≡ passed t → Good t
-judged-good given t e = let j = judged given t e in subst Good (sym (j .0)) (j .1)
+judged-good given t e = let j = judged None given t e in subst Good (sym (j .0)) (j .1)
 
 -- .. as a call that judges them is told
-module _ (given : Table) (r : Judgement) (said : ruled r (front given) ≡ judgeLent given) (e : r ≡ Passed) where
-  pub told-judged : judgeLent given ≡ passed (front given)
-  told-judged = sym said ∙ ap (λ (j : Judgement). ruled j (front given)) e
+pub told-judged : (room : Room) (given : Table) (r : Judgement) → ruled r (front given) ≡ judgeFor room given → r ≡ Passed → judgeFor room given ≡ passed (front given)
+told-judged room given r said e = sym said ∙ ap (λ (j : Judgement). ruled j (front given)) e
 
-  pub told-good : Good (front given)
-  told-good = judged-good given (front given) told-judged
+pub told-good : (given : Table) {r : Judgement} → goodIn r given → r ≡ Passed → Good (front given)
+told-good given g e = subst (λ (j : Judgement). goodIn j given) e g
+
+-- what the judging itself says of its own answers
+pub refused-in : (given : Table) {r : Judgement} (w : Refusal) → r ≡ Refused w → goodIn r given
+refused-in given w e = subst (λ (j : Judgement). goodIn j given) (sym e) tt
+
+pub records-in : (given : Table) → Exact (front given) → (r : Judgement) → ruled r (front given) ≡ judgeRecords (front given) → goodIn r given
+records-in given exact Passed said = records-good (front given) (front given) exact (sym said) .1
+records-in given exact (Refused w) said = tt
 
 -- ---- a good table is judged to be itself
 lent-is : (h : Header) (z z′ t t′ : List ℤ) (b b′ c c′ : List (List ℤ)) (f f′ : List ℤ) → z ≡ z′ → t ≡ t′ → b ≡ b′ → c ≡ c′ → f ≡ f′ → lent h z t b c f ≡ lent h z′ t′ b′ c′ f′
@@ -138,7 +149,7 @@ module _ (t : Table) (g : Good t) where
 
   -- .. and so are lent tables whose front it is
   pub front-judged : (given : Table) → front given ≡ t → Enough (given .header) (length (given .nets)) (length (given .allocated)) (length (given .borders)) (length (given .rows)) (length (given .factors)) → judgeLent given ≡ passed t
-  unfolding judgeLent judgeShape
+  unfolding judgeFor judgeShape
   front-judged given is n =
       then-next judgeRecords
       (unless-ok _ _ (subst (λ (u : Table). headerFits (u .header) ≡ true) (sym is) (g .exact .header))

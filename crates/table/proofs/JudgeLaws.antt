@@ -1,4 +1,4 @@
--- The laws of `specs/Table.antt`'s `judgeShape`, `judgeRecords` and `judgeLent`: which record decides, and what is said where none does. No contract cites this file.
+-- The laws of `specs/Table.antt`'s `judgeShape`, `judgeRecords` and `judgeFor`: which record decides, and what is said where none does. No contract cites this file.
 use mathlib.Core.Path.{_≡_, refl, sym, ap, subst, _∙_}
 use mathlib.Core.Bool.{Bool, true, false, not}
 use mathlib.Core.List.{[]}
@@ -21,9 +21,10 @@ use Rattle.kinds.specs.Ranges.{atℤ, headerFits, allocatedItems, zoneFits, bor
 use Rattle.kinds.specs.Refusals.{Judged, passed, refused, then, refuseFirst, outOfRange, givenTwice}
 use Rattle.kinds.proofs.KindLaws.{header-in, zone-in, allocated-most}
 use Rattle.kinds.proofs.RefusalLaws.{passed-is, then-next, then-refused, unless-passed, unless-ok, unless-refused, first-found, first-none-next}
-use Rattle.table.specs.Table.{Table, factorsAt, zoneLineNo, allocatedLineNo, lastAllocatedLineNo, borderLineNo, rowLineNo, balanced, rowGood, headerLineNo, twice, inRange, notTwice, tableRoom, front, judgeShape, judgeRecords, judgeLent}
+use Rattle.table.specs.declared.Room.{Room}
+use Rattle.table.specs.Table.{Table, factorsAt, zoneLineNo, allocatedLineNo, lastAllocatedLineNo, borderLineNo, rowLineNo, balanced, rowGood, headerLineNo, twice, inRange, notTwice, tableRoom, front, judgeShape, roomForP, judgeRecords, judgeFor}
 use Rattle.table.specs.Good.{Exact}
-use Rattle.table.proofs.RoomLaws.{room-passed, room-of}
+use Rattle.table.proofs.RoomLaws.{room-passed, room-of, p-room-of}
 
 module _ (t : Table) (exact : Exact t) where
   abbrev zoneOut : ℕ → Bool
@@ -150,22 +151,28 @@ module _ (given : Table) where
         },
       )
 
-  -- ---- .. and then the records of the front
+  -- ---- .. and then room for p, and the records of the front
   module _ (r : Judgement) (said : ruled r (front given) ≡ judgeShape given) where
-    pub shape-refused : (w : Refusal) → r ≡ Refused w → judgeShape given ≡ refused w
-    shape-refused w e = sym said ∙ ap (λ (j : Judgement). ruled j (front given)) e
+    told-shape : (q : Judgement) → r ≡ q → judgeShape given ≡ ruled q (front given)
+    told-shape q e = sym said ∙ ap (λ (j : Judgement). ruled j (front given)) e
 
-    pub lent-refused : (w : Refusal) → r ≡ Refused w → ruled r (front given) ≡ judgeLent given
-    unfolding judgeLent
-    lent-refused w e = said ∙ shape-refused w e ∙ sym (then-refused _ (shape-refused w e))
+    pub lent-refused : (room : Room) (w : Refusal) → r ≡ Refused w → ruled r (front given) ≡ judgeFor room given
+    unfolding judgeFor
+    lent-refused room w e = said ∙ told-shape (Refused w) e ∙ sym (then-refused _ (told-shape (Refused w) e))
 
     module _ (ok : r ≡ Passed) where
-      pub shape-passed : judgeShape given ≡ passed (front given)
-      shape-passed = sym said ∙ ap (λ (j : Judgement). ruled j (front given)) ok
-
       pub front-exact : Exact (front given)
-      front-exact = shape-front (front given) shape-passed .1
+      front-exact = shape-front (front given) (told-shape Passed ok) .1
 
-      pub records-left : judgeLent given ≡ judgeRecords (front given)
-      unfolding judgeLent
-      records-left = then-next _ shape-passed
+      module _ (room : Room) (q : Judgement) (fits : ruled q h ≡ roomForP room h (passed h)) where
+        past-shape : judgeFor room given ≡ then (ruled q h) (λ _. judgeRecords (front given))
+        unfolding judgeFor
+        past-shape = then-next _ (told-shape Passed ok) ∙ sym (p-room-of room h h q fits (judgeRecords (front given)))
+
+        pub p-refused : (w : Refusal) → q ≡ Refused w → ruled q (front given) ≡ judgeFor room given
+        p-refused w e =
+            ap (λ (j : Judgement). ruled j (front given)) e
+            ∙ sym (past-shape ∙ then-refused _ (ap (λ (j : Judgement). ruled j h) e))
+
+        pub records-left : q ≡ Passed → judgeFor room given ≡ judgeRecords (front given)
+        records-left e = past-shape ∙ then-next _ (ap (λ (j : Judgement). ruled j h) e)

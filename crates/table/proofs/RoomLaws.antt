@@ -1,4 +1,4 @@
--- The laws of `specs/Table.antt`'s `roomFor`: which buffer is named, and what is known where none is. No contract cites this file.
+-- The laws of `specs/Table.antt`'s `roomFor` and `roomForP`: which buffer is named, and what is known where none is. No contract cites this file.
 use mathlib.Core.Path.{_≡_, refl, sym, ap, _∙_}
 use mathlib.Core.Bool.{Bool, true, false, cond}
 use Prim.Native.Nat.{ℕ, _*_, _≤_, _<_}
@@ -12,7 +12,9 @@ use Rattle.kinds.specs.Refusals.{Judged, passed, refused, then, need, tooShort}
 use Rattle.kinds.specs.Answers.{ruled}
 use Rattle.kinds.proofs.KindLaws.{header-in}
 use Rattle.kinds.proofs.RefusalLaws.{need-passed, need-enough, need-short}
-use Rattle.table.specs.Table.{roomFor}
+use Rattle.table.specs.declared.Room.{Room}
+use Rattle.table.specs.declared.Room.the-variants.{None, P}
+use Rattle.table.specs.Table.{roomFor, roomForP}
 
 -- rows x zones of a header in range
 pub factors-most : (h : Header) → headerFits h ≡ true → h .rows * h .zones ≤ rowsMost * zonesMost
@@ -84,3 +86,24 @@ pub room-of : {A B : Type 0} (h : Header) (z t b c f : ℕ) (x : A) (r : Judgeme
     → then (ruled r x) (λ y. next) ≡ roomFor h z t b c f next
 unfolding then
 room-of h z t b c f x r e next = ap (λ j. then j (λ y. next)) e ∙ room-then h z t b c f (passed x) (λ y. next)
+
+-- ---- room for p
+module _ {A : Type 0} (h : Header) {room : Room} {items : ℕ} (is : room ≡ P items) (next : Judged A) where
+  pub p-short : items < h .rows * h .borders → refused (tooShort (h .rows * h .borders)) ≡ roomForP room h next
+  p-short l = sym (ap (λ (o : Room). roomForP o h next) is ∙ need-short _ _ _ l)
+
+  pub p-enough : h .rows * h .borders ≤ items → next ≡ roomForP room h next
+  p-enough l = sym (ap (λ (o : Room). roomForP o h next) is ∙ need-enough _ _ _ l)
+
+pub p-room-of : {A B : Type 0} (room : Room) (h : Header) (x : A) (r : Judgement) → ruled r x ≡ roomForP room h (passed x) → (next : Judged B)
+    → then (ruled r x) (λ y. next) ≡ roomForP room h next
+unfolding then
+p-room-of None h x r e next = ap (λ j. then j (λ y. next)) e
+p-room-of (P items) h x r e next = ap (λ j. then j (λ y. next)) e ∙ need-then (h .rows * h .borders) items (passed x) (λ y. next)
+
+pub p-room-passed : {A : Type 0} (items : ℕ) (h : Header) (next : Judged A) (a : A) → roomForP (P items) h next ≡ passed a → (h .rows * h .borders ≤ items) × (next ≡ passed a)
+p-room-passed items h next a e = need-passed a _ _ _ e
+
+pub p-room-left : {A : Type 0} (room : Room) (h : Header) (next : Judged A) (a : A) → roomForP room h next ≡ passed a → next ≡ passed a
+p-room-left None h next a e = e
+p-room-left (P items) h next a e = p-room-passed items h next a e .1

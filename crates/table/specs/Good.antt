@@ -6,8 +6,10 @@ use mathlib.Core.List.{[]}
 use Prim.Native.Nat.{ℕ, _*_, _<_}
 use lib.ListN.{length, getD}
 use Rattle.kinds.specs.LineColumns.{borderItems, rowItems}
+use Rattle.kinds.specs.declared.Judgement.{Judgement}
+use Rattle.kinds.specs.declared.Judgement.the-variants.{Passed, Refused}
 use Rattle.kinds.specs.Ranges.{atℤ, headerFits, allocatedItems, zoneFits, borderFits, rowFits, factorFits}
-use Rattle.table.specs.Table.{Table, balanced, twice}
+use Rattle.table.specs.Table.{Table, balanced, twice, front}
 
 -- lengths as the header says, and a header in range
 pub record Exact (t : Table) : Type 0 where
@@ -27,6 +29,11 @@ pub record Good (t : Table) : Type 0 where
   pub rows-fit : (i : ℕ) → i < t .header .rows → rowFits (getD (t .rows) i []) ≡ true
   pub factors-fit : (k : ℕ) → k < t .header .rows * t .header .zones → factorFits (atℤ (t .factors) k) ≡ true
   pub once : (b : ℕ) → b < t .header .borders → twice (t .borders) b ≡ false
+
+-- what judging lent tables gives: where they passed, their front is good
+abbrev pub goodIn : Judgement → (given : Table) → Type 0
+goodIn Passed given = Good (front given)
+goodIn (Refused w) given = Unit {0}
 
 -- a raw border record has five numbers, a raw row record seven: what a lent record's type says of it
 pub record Shaped (t : Table) : Type 0 where

@@ -12,6 +12,8 @@ use Rattle.kinds.specs.declared.Border.{Border}
 use Rattle.kinds.specs.declared.Row.{Row}
 use Rattle.kinds.specs.Ranges.{atℤ, headerFits, allocatedItems, zoneFits, borderFits, borderOf, rowOf, rowFits, factorFits}
 use Rattle.kinds.specs.Refusals.{Judged, passed, then, unless, refuseFirst, need, outOfRange, givenTwice}
+use Rattle.table.specs.declared.Room.{Room}
+use Rattle.table.specs.declared.Room.the-variants.{None, P}
 
 -- the header, and as many items as it says: net positions, allocated net positions (02, E12: one a zone, or none), raw border and row records, and the factors
 -- of all rows (lent tables may hold more)
@@ -122,9 +124,18 @@ judgeShape given =
     (tableRoom (given .header) given
     (passed (front given)))
 
--- .. then the records, 3 and 4
+-- .. then, where it is lent a table of p too, room in it for each row at each border (8)
+abbrev pub roomForP : {A : Type 0} → Room → Header → Judged A → Judged A
+roomForP None h next = next
+roomForP (P items) h next = need (h .rows * h .borders) items next
+
+-- .. and only then the records, 3 and 4
 abbrev pub judgeRecords : Table → Judged Table
 judgeRecords t = then (inRange t) notTwice
 
-unfoldable pub judgeLent : (given : Table) → Judged Table
-judgeLent given = then (judgeShape given) judgeRecords
+unfoldable pub judgeFor : Room → (given : Table) → Judged Table
+judgeFor room given = then (judgeShape given) (λ t. roomForP room (t .header) (judgeRecords t))
+
+-- the judging of lent tables alone
+abbrev pub judgeLent : (given : Table) → Judged Table
+judgeLent given = judgeFor None given

@@ -15,8 +15,9 @@ use Rattle.table.specs.Table.{Table, stretch}
 use Rattle.rounds.specs.Rounds.{sharers, alone, mostSharers, bitsTo, bits, aloneBits}
 use Rattle.margin.specs.Margin.{grains, f0coreOf, fuafOf, baseOf, amrOf, signedFactor, pOf, ltaKw, sOf, ltaMarginOf, ramOf, ramAt}
 use Rattle.states.specs.States.{highest, lowest, spreadOf, shifted, below, stateOf}
+use Rattle.states.specs.Rows.{rowsOf}
 use Rattle.start.specs.Setup.{gridBy, beginBy}
-use Rattle.start.specs.Start.{rowsOf, kept, every, setupWith}
+use Rattle.start.specs.Start.{kept, every, setupWith}
 use Rattle.tight.specs.Tight.{shareUp, cut, stepsWithin, steps, rowReach, reach, farthest, tightBound}
 use Rattle.tight.specs.Measure.{boundBy}
 use Rattle.worst.specs.Worst.{startTop, ltaTop, lateTop, roundsWorst, Known}

@@ -20,8 +20,9 @@ use Rattle.tight.specs.Tight.{shareUp, cut, stepsWithin, steps}
 use Rattle.tight.specs.Measure.{boundBy}
 use Rattle.tight.proofs.FewRounds.{reach-under, tight-within}
 use Rattle.margin.specs.Margin.{pOf, marginOf, startsOf}
+use Rattle.states.specs.Rows.{rowsOf}
 use Rattle.start.specs.Setup.{gridBy, beginBy}
-use Rattle.start.specs.Start.{rowsOf, kept, gridMarked, tableStart, setupWith}
+use Rattle.start.specs.Start.{kept, gridMarked, tableStart, setupWith}
 use Rattle.extraction.specs.Extraction.{Result, resultMarked, outcomeMarked}
 use Rattle.extraction.proofs.AcceptedLaws.{part-le-whole, accepted}
 use Rattle.bound.specs.Bound.{boundOf}

@@ -24,8 +24,8 @@ pub fn rewrite_in<'a>(
     requires { ⌜ (zonesMost ≤ length (now z)) × (zonesMost ≤ length (now t)) × (bordersMost ≤ length (now b)) × (rowsMost ≤ length (now c)) × (rowsMost * zonesMost ≤ length (now f)) ⌝ }
     ensures { λ r. ⌜ textSaid r (now (out .exit)) ≡ rewriteCorrectedLeft (now (text .entry)) (now (sheet .entry)) (now (out .entry)) ⌝ }
 {
-    match reading::read_corrected(text, sheet, z, t, b, c, f) {
-        Read::Table(h) => crate::write(h, z, t, b, c, f, out),
+    match reading::read_into(text, sheet, z, t, b, c, f) {
+        Read::Table(h) => crate::write_good(h, z, t, b, c, f, out),
         Read::Refused(w) => Written::Refused(w),
     }
 }

@@ -1,67 +1,34 @@
--- `cornertext::corner_text` meets its contract: the flows in working memory, which has room for every sheet, and then their text.
-use mathlib.Core.Path.{sym, _∙_}
-use Prim.Native.Nat.{ℕ}
-use native.Mathlib.Nat.{le-refl}
+-- `cornertext::corner_text` meets its contract: what judging refuses is refused, and else the front of the lent tables is a good table.
+use mathlib.Core.Path.{_∙_}
 use borrow.Author.Needs.{needs}
-use lib.Seq.{length-take-le}
-use Rattle.table.specs.Table.{Table, lent}
-use Rattle.cornertext.specs.CornerText.{sheetMost}
-use Rattle.cornertext.proofs.CornerTextLaws.{FlowsTold, told-refused, told-passed, text-on}
+use Rattle.table.specs.Table.{lent}
+use Rattle.table.proofs.GoodLaws.{told-good}
+use Rattle.cornertext.proofs.CornerTextLaws.{text-judged-not, text-judged}
 use Rattle.cornertext.proofs.corner_text.Statement.{statement}
 use Rattle.cornertext.proofs.corner_text.Tie as tie
 
--- what was lent
-abbrev given : tie.Start → Table
-given s = lent (s .args .h) (s .args .z .now) (s .args .t .now) (s .args .b .now) (s .args .c .now) (s .args .f .now)
-
--- the flows stand in front of the working memory
-module _ (c : tie.After-filled2) where
-  abbrev filled : tie.After-corner-flows
-  filled = c .before .before .before
-
-  abbrev start : tie.Start
-  start = filled .before .before .before
-
-  abbrev count : ℕ
-  count = c .filled2 .given .0 .0
-
-  told : FlowsTold (given start) (start .args .row) count (filled .corner-flows .last .1 .1 .1 .1 .1 .1 .1 .0)
-  told = told-passed (given start) (start .args .row) _ _ (filled .corner-flows .ensures) (le-refl sheetMost) count (c .filled2 .given .1)
-
-array-share-prefix-flows : tie.Need-array-share-prefix-flows
-array-share-prefix-flows c = told (c .before) .long
-
-slice-aggregate-write-corners : tie.Need-slice-aggregate-write-corners
-slice-aggregate-write-corners c = sym (length-take-le _ _ (told (c .before .before) .long))
-
-write-corners-requires : tie.Need-write-corners-requires
-write-corners-requires c κs =
-    let d = c .before .before .before in
-    rw (length-take-le (count d) _ (told d .long)) (told d .few)
-
 returns : tie.Need-returns
-returns c =
-    let f = c .before .before .before .before in
-    let s = f .before .before .before in
-    told-refused (given s) (s .args .row) _ _ (f .corner-flows .ensures) (le-refl sheetMost) (s .args .out .now) _ (c .before .filled .given .1)
+returns c = text-judged-not _ _ _ (c .before .before .before .judge .ensures .0) _ _ (c .before .w .given .1)
+
+corner-text-good-requires : tie.Need-corner-text-good-requires
+corner-text-good-requires c κs =
+    let told = c .before in
+    let a = told .before .before .before .before .args in
+    told-good (lent (a .h) (a .z .now) (a .t .now) (a .b .now) (a .c .now) (a .f .now)) (told .before .before .judge .ensures .1) (told .enum-told .given .1)
 
 returns-2 : tie.Need-returns-2
 returns-2 c =
-    let d = c .before .before .before .before .before .before in
-    let s = start d in
-    c .before .before .write-corners .ensures ∙ text-on (given s) (s .args .row) (s .args .out .now) (told d)
+    let told = c .before .before .before .before in
+    c .before .before .corner-text-good .ensures ∙ text-judged _ _ _ (told .before .before .judge .ensures .0) _ (told .enum-told .given .1)
 
 pub corner-text-spec : {M : Type 1} → statement M
 corner-text-spec =
     tie.close
     (tie.spec
-    (λ c. search needs)
     (λ c κs. search needs)
     (λ c. search needs)
-    (λ c. search needs)
-    array-share-prefix-flows
-    slice-aggregate-write-corners
-    write-corners-requires
     returns
+    (λ c. search needs)
+    corner-text-good-requires
     (λ c. search needs)
     returns-2)

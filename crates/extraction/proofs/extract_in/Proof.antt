@@ -2,16 +2,20 @@
 use mathlib.Core.Path.{_≡_, ap, _∙_}
 use mathlib.Core.Bool.{Bool}
 use Prim.Native.Nat.{ℕ}
+use native.Mathlib.Omega.{arith}
 use lib.ListN.{length}
 use borrow.Author.Needs.{needs}
 use Rattle.numbers.proofs.BelowLaws.{table-long}
 use Rattle.kinds.specs.Refusals.{passed}
 use Rattle.kinds.proofs.KindLaws.{header-in}
 use Rattle.marks.specs.Marks.{flagged}
-use Rattle.table.specs.Table.{Table, lent}
+use Rattle.table.specs.Table.{Table, lent, front}
+use Rattle.table.proofs.RoomLaws.{factors-most}
 use Rattle.margin.proofs.JudgedLaws.{good-factors, good-borders}
-use Rattle.start.specs.Start.{rowsOf, every, judgeMarked}
-use Rattle.start.proofs.StartLaws.{PreparedAs, prepared-as, rows-in, laid-grid, laid-margins}
+use Rattle.states.specs.Rows.{rowsOf}
+use Rattle.states.proofs.RowsLaws.{rows-in}
+use Rattle.start.specs.Start.{every, judgeMarked}
+use Rattle.start.proofs.StartLaws.{PreparedAs, prepared-as, laid-grid, laid-margins}
 use Rattle.extraction.proofs.ExtractLaws.{start-turned, start-passed, finishable, stored-is, start-refused, short-borders, short-rows, all-stored}
 use Rattle.extraction.proofs.extract_in.Statement.{statement}
 use Rattle.extraction.proofs.extract_in.Tie as tie
@@ -24,7 +28,7 @@ abbrev entry : tie.After-prepare → tie.Start
 entry c = c .before .before .before .before .before .before .before .before
 
 abbrev given : tie.Start → Table
-given s = lent (s .args .h) (s .args .z .now) (s .args .t .now) (s .args .b .now) (s .args .c .now) (s .args .f .now)
+given s = front (lent (s .args .h) (s .args .z .now) (s .args .t .now) (s .args .b .now) (s .args .c .now) (s .args .f .now))
 
 abbrev marked : tie.Start → ℕ → Bool
 marked s = flagged (s .args .flags .now)
@@ -48,9 +52,12 @@ returns-2 c = rw (c .too-short .ensures) (short-borders _ _ _ _ _ (passes (c .be
 returns-3 : tie.Need-returns-3
 returns-3 c = rw (c .too-short2 .ensures) (short-rows _ _ _ _ _ (passes (c .before .before .before)) (c .before .before .if1 .left) (c .before .if2 .taken))
 
+mul-factors : tie.Need-mul-factors
+mul-factors c = omega (arith, factors-most _ (entry (prepared-at (c .before .before .before .before)) .pre .0 .exact .header))
+
 lay-out-requires : tie.Need-lay-out-requires
 lay-out-requires c κs =
-    let at-prepare = c .before .before .before .before .before .before .before .before .before .before .before .before in
+    let at-prepare = prepared-at (c .before .before .before .before .before .before .before .before .before) in
     let q = entry at-prepare .pre in
     let said = as-said at-prepare in (
       good-factors (q .0),
@@ -65,7 +72,7 @@ lay-out-requires c κs =
 
 -- from where p and margins are laid out, to where preparing passed
 abbrev passed-at : tie.After-lay-out → tie.After-enum-told
-passed-at c = c .before .before .before .before .before .before .before
+passed-at c = c .before .before .before .before .before .before .before .before .before .before
 
 finish-requires : tie.Need-finish-requires
 finish-requires c κs =
@@ -75,7 +82,7 @@ finish-requires c κs =
     let s = entry at-prepare in
     let t = given s in (
       finishable (marked s) (s .pre .0) (said .rows) (laid-grid (marked s) t (said .rows) (laid .lay-out .ensures .0)) (laid-margins t (said .rows) (said .starts-are) (laid .lay-out .ensures .1)),
-      (laid .before .before .before .before .before .before .if1 .left, laid .before .before .before .before .before .if2 .left),
+      (laid .before .before .before .before .before .before .before .before .before .if1 .left, laid .before .before .before .before .before .before .before .before .if2 .left),
     )
 
 complete-requires : tie.Need-complete-requires
@@ -131,7 +138,7 @@ returns-4 c =
     let t = given s in
     stored-is (marked s) (s .pre .0) (said .rows) (laid-grid (marked s) t (said .rows) (laid .lay-out .ensures .0)) (laid-margins t (said .rows) (said .starts-are) (laid .lay-out .ensures .1)) (s .args .p .now) (s .pre .1 .1 .1 .1) _ _ _
     (finished-at c .finish .ensures) (laid-grid every t (said .rows) (c .before .before .complete .ensures))
-    ∙ all-stored (marked s) t (s .args .p .now) _ _ (passes at-told) (laid .before .before .before .before .before .before .if1 .left) (laid .before .before .before .before .before .if2 .left)
+    ∙ all-stored (marked s) t (s .args .p .now) _ _ (passes at-told) (laid .before .before .before .before .before .before .before .before .before .if1 .left) (laid .before .before .before .before .before .before .before .before .if2 .left)
 
 pub extract-in-spec : {M : Type 1} → statement M
 extract-in-spec =
@@ -154,6 +161,9 @@ extract-in-spec =
     (λ c. search needs)
     (λ c. search needs)
     returns-3
+    (λ c. search needs)
+    mul-factors
+    (λ c. search needs)
     lay-out-requires
     finish-requires
     complete-requires

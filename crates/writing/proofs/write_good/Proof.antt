@@ -1,23 +1,73 @@
--- `writing::write_good` meets its contract: too short (`text-short`), or the text and then what stood there (`text-written`).
+-- `writing::write_good` meets its contract: each front part is as long as the header says; too short (`text-short`), or the text and then what stood there
+-- (`text-written`).
+use mathlib.Core.Path.{_≡_, sym}
 use native.Mathlib.Omega.{arith}
 use borrow.Author.Needs.{needs}
+use lib.ListN.{length}
+use Rattle.kinds.specs.Ranges.{allocatedItems}
 use Rattle.text.proofs.LeftLaws.{text-short, text-written}
-use Rattle.table.specs.Table.{Table, lent}
+use Rattle.table.specs.Table.{Table, lent, front}
+use Rattle.table.specs.Good.{Good}
+use Rattle.table.proofs.RoomLaws.{factors-most}
 use Rattle.writing.specs.Writing.{tableText}
 use Rattle.writing.proofs.write_good.Statement.{statement}
 use Rattle.writing.proofs.write_good.Tie as tie
 
-abbrev table : tie.Start → Table
-table s = lent (s .args .h) (s .args .z .now) (s .args .t .now) (s .args .b .now) (s .args .c .now) (s .args .f .now)
+abbrev given : tie.After-allocated-items → Table
+given c = let a = c .before .before .args in lent (a .h) (a .z .now) (a .t .now) (a .b .now) (a .c .now) (a .f .now)
+
+good : (c : tie.After-allocated-items) → Good (front (given c))
+good c = c .before .before .pre
+
+items : (c : tie.After-allocated-items) → c .allocated-items .result ≡ allocatedItems (c .before .before .args .h)
+items c = c .allocated-items .ensures
+
+slice-aggregate-t : tie.Need-slice-aggregate-t
+slice-aggregate-t c = let i = c .before .before in rw (items i) (sym (good i .exact .allocated-long))
+
+mul-f : tie.Need-mul-f
+mul-f c = omega (arith, factors-most _ (good (c .before .before .before .before) .exact .header))
+
+abbrev counted : tie.After-f → tie.After-allocated-items
+counted c = c .before .before .before .before .before
+
+text-length-requires : tie.Need-text-length-requires
+text-length-requires c κs = let i = counted c in rw (items i) (good i)
 
 returns : tie.Need-returns
-returns c = let s = c .before .before .before .before in rw (c .too-short .ensures) (text-short (tableText (table s)) (s .args .out .now) _ (c .before .before .text-length .ensures) (omega arith))
+returns c =
+    let measured = c .before .before in
+    let i = counted (measured .before) in
+    rw (c .too-short .ensures) (text-short (tableText (front (given i))) _ _ (rw (items i) at (measured .text-length .ensures)) (omega arith))
 
 put-table-requires : tie.Need-put-table-requires
-put-table-requires c κs = (c .before .before .before .before .pre, omega (arith, c .before .before .text-length .ensures))
+put-table-requires c κs =
+    let measured = c .before .before in
+    let i = counted (measured .before) in
+    (rw (items i) (good i), omega (arith, measured .text-length .ensures))
 
 returns-2 : tie.Need-returns-2
-returns-2 c = let s = c .before .before .before .before .before .before .before in text-written (tableText (table s)) (s .args .out .now) (omega (arith, c .before .before .before .before .before .text-length .ensures)) (c .before .before .put-table .ensures)
+returns-2 c =
+    let put = c .before .before in
+    let measured = put .before .before .before in
+    let i = counted (measured .before) in
+    let long = rw (items i) at (measured .text-length .ensures) in
+    text-written (tableText (front (given i))) _ (omega (arith, long)) (rw (items i) at (put .put-table .ensures))
 
 pub write-good-spec : {M : Type 1} → statement M
-write-good-spec = tie.close (tie.spec (λ c κs. search needs) (λ c κs. search needs) returns put-table-requires (λ c. search needs) returns-2)
+write-good-spec =
+    tie.close
+    (tie.spec
+    (λ c κs. search needs)
+    (λ c. search needs)
+    slice-aggregate-t
+    (λ c. search needs)
+    (λ c. search needs)
+    mul-f
+    (λ c. search needs)
+    text-length-requires
+    (λ c κs. search needs)
+    returns
+    put-table-requires
+    (λ c. search needs)
+    returns-2)

@@ -21,7 +21,7 @@ print-every-spec =
     μ-loop
     (λ c κs. search needs)
     (λ c. omega arith)
-    (λ c κs. omega arith)
+    (λ c κs. let p = c .before .before .before .before .before .pre in (p .0, omega (arith, p .1)))
     (λ c. search needs)
     (λ c. omega arith)
     (λ c. search needs)

@@ -1,24 +1,14 @@
--- `printing::sheets::sheet_row` meets its contract: the laws `sheet-printed` and `sheet-refused`.
-use Rattle.printing.proofs.SheetLaws.{sheet-printed, sheet-refused}
+-- `printing::sheets::sheet_row` meets its contract: the law `sheet-printed`.
 use borrow.Author.Needs.{needs}
+use Rattle.printing.proofs.SheetLaws.{sheet-printed}
 use Rattle.printing.proofs.sheets.sheet_row.Statement.{statement}
 use Rattle.printing.proofs.sheets.sheet_row.Tie as tie
 
 returns : tie.Need-returns
-returns c = sheet-printed _ _ _ (c .before .before .before .before .before .corner-text .result) (c .before .before .before .before .before .before .before .before .pre) (c .before .before .before .before .before .corner-text .ensures) _ (c .before .n .given .1)
-
-returns-2 : tie.Need-returns-2
-returns-2 c = sheet-refused _ _ _ (c .before .before .before .before .before .before .before .before .before .corner-text .result) (c .before .before .before .before .before .before .before .before .before .before .before .before .pre) (c .before .before .before .before .before .before .before .before .before .corner-text .ensures) _ (c .before .before .before .before .before .w .given .1) (c .before .before .refusal-line .ensures)
+returns c =
+    let said = c .before .before .before .before .before .before .corner-text-good in
+    let s = c .before .before .before .before .before .before .before .before .before in
+    sheet-printed (s .pre .0) (s .args .row) _ (said .result) (s .pre .1) (said .ensures) (c .before .before .told .ensures)
 
 pub sheet-row-spec : {M : Type 1} → statement M
-sheet-row-spec =
-    tie.close
-    (tie.spec
-    (λ c κs. search needs)
-    (λ c. search needs)
-    (λ c. search needs)
-    (λ c κs. search needs)
-    (λ c. search needs)
-    returns
-    (λ c. search needs)
-    returns-2)
+sheet-row-spec = tie.close (tie.spec (λ c κs. search needs) (λ c κs. search needs) (λ c. search needs) returns)

@@ -1,18 +1,37 @@
 -- `printing::texts::put_filled` meets its contract: the laws `filled-printed` and `unfilled-printed`.
 use borrow.Author.Needs.{needs}
-use Rattle.printing.proofs.RowsLaws.{filled-printed, unfilled-printed}
+use Rattle.table.specs.Table.{Table, lent}
+use Rattle.printing.proofs.RowsLaws.{filled-front, filled-printed, unfilled-printed}
 use Rattle.printing.proofs.texts.put_filled.Statement.{statement}
 use Rattle.printing.proofs.texts.put_filled.Tie as tie
 
+-- what was lent
+abbrev given : tie.Start → Table
+given s = lent (s .args .h) (s .args .z .now) (s .args .t .now) (s .args .b .now) (s .args .c .now) (s .args .f .now)
+
+abbrev entry : tie.After-read-rows → tie.Start
+entry c = c .before .before .before .before .before
+
+put-table-requires : tie.Need-put-table-requires
+put-table-requires c κs =
+    let told = c .before .before .before in
+    let called = told .before .before .before .before in
+    let s = entry called in
+    (filled-front (given s) (s .pre .0) (s .args .file .now) (called .read-rows .result) _ _ (called .read-rows .ensures) (told .enum-told .given .1), s .pre .1)
+
 returns : tie.Need-returns
 returns c =
-    let read = c .before .before .before .before .before .before .before .before .before .before .read-rows in
-    filled-printed _ (c .before .before .before .before .before .before .before .before .before .before .before .before .before .before .before .pre .0) _ (read .result) _ _ (read .ensures) (c .before .before .before .before .before .before .enum-told .given .1) (c .before .before .put-table .ensures)
+    let told = c .before .before .before .before .before .before in
+    let called = told .before .before .before .before in
+    let s = entry called in
+    filled-printed (given s) (s .pre .0) (s .args .file .now) (called .read-rows .result) _ _ (called .read-rows .ensures) (told .enum-told .given .1) (c .before .before .put-table .ensures)
 
 returns-2 : tie.Need-returns-2
 returns-2 c =
-    let read = c .before .before .before .before .before .before .before .before .before .read-rows in
-    unfilled-printed _ (c .before .before .before .before .before .before .before .before .before .before .before .before .before .before .pre .0) _ (read .result) _ _ (read .ensures) _ (c .before .before .before .before .before .w .given .1) (c .before .before .refusal-line .ensures)
+    let told = c .before .before .before .before .before in
+    let called = told .before .before .before .before in
+    let s = entry called in
+    unfilled-printed (given s) (s .pre .0) (s .args .file .now) (called .read-rows .result) _ _ (called .read-rows .ensures) _ (told .w .given .1) (c .before .before .refusal-line .ensures)
 
 pub put-filled-spec : {M : Type 1} → statement M
-put-filled-spec = tie.close (tie.spec (λ c κs. search needs) (λ c. search needs) (λ c κs. search needs) (λ c. search needs) (λ c κs. search needs) (λ c. search needs) (λ c. search needs) (λ c. search needs) returns (λ c. search needs) (λ c. search needs) (λ c. search needs) returns-2)
+put-filled-spec = tie.close (tie.spec (λ c κs. search needs) (λ c. search needs) put-table-requires (λ c. search needs) (λ c κs. search needs) (λ c. search needs) (λ c. search needs) (λ c. search needs) returns (λ c. search needs) (λ c. search needs) (λ c. search needs) returns-2)

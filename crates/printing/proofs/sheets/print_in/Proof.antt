@@ -1,0 +1,36 @@
+-- `printing::sheets::print_in` is safe: a table that was read is good (`into-good`).
+use borrow.Author.Needs.{needs}
+use Rattle.reading.proofs.IntoLaws.{into-good}
+use Rattle.printing.proofs.sheets.print_in.Statement.{statement}
+use Rattle.printing.proofs.sheets.print_in.Tie as tie
+
+print-rows-requires : tie.Need-print-rows-requires
+print-rows-requires c κs =
+    let told = c .before .before .before .before .before .before .before in
+    let called = told .before .before .before .before .before .before .before in
+    let s = called .before .before .before .before .before .before .before .before .before in
+    (into-good (s .args .text .now) (s .args .sheet .now) (called .read-into .result) _ _ _ _ _ (called .read-into .ensures) (told .h .given .1), s .pre .5)
+
+pub print-in-spec : {M : Type 1} → statement M
+print-in-spec =
+    tie.close
+    (tie.spec
+    (λ c κs. search needs)
+    (λ c. search needs)
+    print-rows-requires
+    (λ c. search needs)
+    (λ c κs. search needs)
+    (λ c. search needs)
+    (λ c. search needs)
+    (λ c. search needs)
+    (λ c. search needs)
+    (λ c. search needs)
+    (λ c. search needs)
+    (λ c. search needs)
+    (λ c. search needs)
+    (λ c. search needs)
+    (λ c. search needs)
+    (λ c. search needs)
+    (λ c. search needs)
+    (λ c. search needs)
+    (λ c. search needs))
