@@ -18,6 +18,7 @@ use Rattle.kinds.proofs.RefusalLaws.{passed-is, answer-passed, then-passed, the
 use Rattle.marks.specs.Marks.{judgeMarks, judgeAsked, mayRise}
 use Rattle.text.specs.Left.{TextLeft, textLeft}
 use Rattle.text.specs.Written.{textOf, decimal, fieldsText, lineText, linesText}
+use Rattle.columns.specs.ColumnText.{indexText, headText, columnsText}
 use Rattle.table.specs.Table.{Table, judgeLent}
 use Rattle.table.specs.Good.{Good}
 use Rattle.table.proofs.GoodLaws.{judged-front, judged-good}
@@ -135,7 +136,7 @@ outcome-late all marks t = go all
 
 -- a result text begins with another letter
 result-letter : (r : Result) → at (resultText r) 0 ≡ code "E" → ⊥
-unfolding resultText recordsText linesText lineText
+unfolding resultText recordsText linesText lineText columnsText headText indexText
 result-letter r =
     let atcs = table (r .header .borders) (atcRecord r) in
     let lefts = table (r .header .rows) (rowRecord r) in

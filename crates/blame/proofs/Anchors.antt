@@ -11,25 +11,27 @@ use lib.IntN.{ℤ, natAbs}
 use lib.ListN.{take, drop}
 use Rattle.numbers.specs.Ints.{inside, sameℤ}
 use Rattle.kinds.specs.LineColumns.{headerColumns, defaultColumns, zoneColumns, borderColumns, hubColumns, rowColumns, rowItems, factorColumns}
-use Rattle.kinds.specs.Ranges.{atℤ, zoneFits, exists, factorFits}
+use Rattle.kinds.specs.declared.Header.{Header}
+use Rattle.kinds.specs.Ranges.{atℤ, headerTests, zoneTests, exists, borderTests, rowTests, factorFits, factorTests}
 use Rattle.text.specs.Fields.{tab, feed, numberAt, signedAt, shareAt}
 use Rattle.text.specs.Sheets.{sheet}
+use Rattle.columns.specs.declared.Head.the-variants.{Lettered, Indexed, Bare}
 use Rattle.columns.specs.Columns.{Values, values, wrong, fieldAt, fieldsAt}
-use Rattle.columns.specs.ColumnLine.{indexAt, restAt, columnsLine, plainLine}
-use Rattle.columns.specs.Optional.{optionalLine, plainOptional}
-use Rattle.blame.specs.Blame.{goodAt, byteAt, fieldsByte, lineByte, bareByte, plainByte}
-use Rattle.blame.specs.RangeBlame.{pastSeps, fieldFirst, rangeByte, headerTests, zoneTests, borderTests, rowTests, factorTests}
+use Rattle.columns.specs.ColumnLine.{headAt, restAt, columnsLine}
+use Rattle.columns.specs.Optional.{optionalLine}
+use Rattle.blame.specs.Blame.{goodAt, byteAt, fieldsByte, lineByte}
+use Rattle.blame.specs.RangeBlame.{pastSeps, fieldFirst, rangeByte}
 
 unfoldable computing : Unit {0}
-unfolding numberAt signedAt shareAt fieldAt fieldsAt indexAt restAt columnsLine plainLine optionalLine plainOptional inside sameℤ zoneFits exists factorFits goodAt byteAt fieldsByte lineByte bareByte plainByte pastSeps rangeByte
+unfolding numberAt signedAt shareAt fieldAt fieldsAt headAt restAt columnsLine optionalLine inside sameℤ exists factorFits goodAt byteAt fieldsByte lineByte pastSeps rangeByte
 computing = tt
 
 -- ---- wrong form
 abbrev z-of : (line : List ℕ) → (i : ℕ) → ℕ
-z-of line i = lineByte tab (code "Z") zoneColumns line i
+z-of line i = lineByte tab (Indexed (code "Z") i) zoneColumns line
 
 abbrev h : String → ℕ
-h s = plainByte tab (code "H") (headerColumns ++ defaultColumns) (sheet s)
+h s = lineByte tab (Lettered (code "H")) (headerColumns ++ defaultColumns) (sheet s)
 
 abbrev z : String → ℕ
 z s = z-of (sheet s) 0
@@ -38,18 +40,18 @@ abbrev z1 : String → ℕ
 z1 s = z-of (sheet s) 1
 
 abbrev b : String → ℕ
-b s = lineByte tab (code "B") (borderColumns ++ hubColumns) (sheet s) 0
+b s = lineByte tab (Indexed (code "B") 0) (borderColumns ++ hubColumns) (sheet s)
 
 abbrev c : String → ℕ
-c s = lineByte tab (code "C") (rowColumns ++ factorColumns 2) (sheet s) 0
+c s = lineByte tab (Indexed (code "C") 0) (rowColumns ++ factorColumns 2) (sheet s)
 
 -- .. and a line whose fields are parted by semicolons
 abbrev semicolons : String → ℕ
-semicolons s = lineByte (code ";") (code "B") borderColumns (sheet s) 0
+semicolons s = lineByte (code ";") (Indexed (code "B") 0) borderColumns (sheet s)
 
 -- .. and one that begins with its index
 abbrev bare : String → ℕ
-bare s = bareByte (code ";") zoneColumns (sheet s) 0
+bare s = lineByte (code ";") (Bare 0) zoneColumns (sheet s)
 
 pub record Form : Type 0 where
   -- good lines have none, with and without the fields that may be left out
@@ -228,21 +230,22 @@ abbrev outOf : Values → (tests : List ℤ → List Bool) → (k : ℕ) → (li
 outOf (values zs next) tests k line = rangeByte tab (tests zs) k line
 outOf (wrong place) tests k line = 0
 
+abbrev header : List ℤ → Header
+header zs = record { zones = natAbs (atℤ zs 0); borders = natAbs (atℤ zs 1); rows = natAbs (atℤ zs 2); share = atℤ zs 3; intraday = 0 }
+
 abbrev h-out : String → ℕ
-h-out s =
-    let line = sheet s in
-    outOf (plainOptional tab (code "H") headerColumns defaultColumns line) (λ zs. headerTests (natAbs (atℤ zs 0)) (natAbs (atℤ zs 1)) (natAbs (atℤ zs 2)) (atℤ zs 3)) 1 line
+h-out s = let line = sheet s in outOf (optionalLine tab (Lettered (code "H")) headerColumns defaultColumns line) (λ zs. headerTests (header zs)) 1 line
 
 abbrev z-out : String → ℕ
-z-out s = let line = sheet s in outOf (columnsLine tab (code "Z") zoneColumns line 0) (λ zs. zoneTests (atℤ zs 0)) 2 line
+z-out s = let line = sheet s in outOf (columnsLine tab (Indexed (code "Z") 0) zoneColumns line) (λ zs. zoneTests (atℤ zs 0)) 2 line
 
 abbrev b-out : String → ℕ
-b-out s = let line = sheet s in outOf (optionalLine tab (code "B") borderColumns hubColumns line 0) (borderTests 3) 2 line
+b-out s = let line = sheet s in outOf (optionalLine tab (Indexed (code "B") 0) borderColumns hubColumns line) (borderTests 3) 2 line
 
 abbrev c-out : String → ℕ
 c-out s =
     let line = sheet s in
-    outOf (columnsLine tab (code "C") (rowColumns ++ factorColumns 2) line 0) (λ zs. rowTests (take rowItems zs) ++ factorTests (drop rowItems zs)) 2 line
+    outOf (columnsLine tab (Indexed (code "C") 0) (rowColumns ++ factorColumns 2) line) (λ zs. rowTests (take rowItems zs) ++ factorTests (drop rowItems zs)) 2 line
 
 pub record Range : Type 0 where
   -- the first byte of a field: the index, from, to, LTA of a B line; rows of an H line

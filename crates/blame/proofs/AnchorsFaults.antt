@@ -11,13 +11,14 @@ use Rattle.kinds.specs.LineColumns.{zoneColumns}
 use Rattle.text.specs.Fields.{tab, numberAt, signedAt}
 use Rattle.text.specs.Line.{headed}
 use Rattle.text.specs.Sheets.{sheet}
+use Rattle.columns.specs.declared.Head.the-variants.{Indexed}
 use Rattle.columns.specs.Columns.{fieldAt}
 use Rattle.blame.specs.Blame.{goodAt, byteAt, fieldsByte, lineByte}
 use Rattle.blame.specs.FirstBad.{Fault}
 use Rattle.blame.proofs.Faults.{line-fault, fault-line, none-line, other-letter}
 
 abbrev byte : (letter : Char) → (s : String) → ℕ
-byte letter s = lineByte tab (code letter) zoneColumns (sheet s) 0
+byte letter s = lineByte tab (Indexed (code letter) 0) zoneColumns (sheet s)
 
 -- `place` counts from 0: the byte of a fault at place p is p + 1
 abbrev FaultAt : (s : String) → (place : ℕ) → Type 0
@@ -41,13 +42,13 @@ pub record Faults : Type 0 where
 -- a line with a letter, by its byte
 module _ (letter : Char) (s : String) (h : headed (code letter) tab (sheet s) ≡ true) where
   only : (x place : ℕ) → byte letter s ≡ x → FaultAt s place → x ≡ place + 1
-  only x place e f = sym e ∙ fault-line tab (lit< tt) (code letter) zoneColumns (sheet s) 0 place h f
+  only x place e f = sym e ∙ fault-line tab (lit< tt) (Indexed (code letter) 0) zoneColumns (sheet s) place h f
 
   none : byte letter s ≡ 0 → (place : ℕ) → FaultAt s place → ⊥
-  none e = none-line tab (lit< tt) (code letter) zoneColumns (sheet s) 0 h .0 e
+  none e = none-line tab (lit< tt) (Indexed (code letter) 0) zoneColumns (sheet s) h .0 e
 
 at-byte : (letter : Char) (s : String) (place : ℕ) → byte letter s ≡ place + 1 → FaultAt s place
-at-byte letter s place e = line-fault tab (lit< tt) (code letter) zoneColumns (sheet s) 0 place e
+at-byte letter s place e = line-fault tab (lit< tt) (Indexed (code letter) 0) zoneColumns (sheet s) place e
 
 pub faults : Faults
 unfolding numberAt signedAt fieldAt goodAt byteAt fieldsByte lineByte
@@ -61,5 +62,5 @@ faults =
       few = none "Z" "Z 0/" refl refl;
       many = none "Z" "Z 0 5 6/" refl refl;
       letter-fault = at-byte "Y" "Y 0 +5/" 4 refl;
-      letter-first = other-letter tab (lit< tt) (code "Z") zoneColumns (sheet "Y 0 +5/") 0 refl;
+      letter-first = other-letter tab (lit< tt) (Indexed (code "Z") 0) zoneColumns (sheet "Y 0 +5/") refl;
     }

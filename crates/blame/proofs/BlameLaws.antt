@@ -1,5 +1,5 @@
 -- The laws of `specs/Blame.antt` that its code cites. No contract cites this file.
--- In order: one field; the loop over fields, `Blaming`; an index; letter and index.
+-- In order: one field; the loop over fields, `Blaming`; an index; a line's head.
 use mathlib.Core.Path.{_≡_, refl, sym, ap, _∙_}
 use mathlib.Core.Bool.{true, false}
 use mathlib.Core.List.{List, _∷_}
@@ -15,10 +15,11 @@ use Rattle.text.specs.declared.Number.the-variants.{Value, Bad}
 use Rattle.text.specs.declared.Signed.{Signed}
 use Rattle.text.specs.declared.Signed.the-variants.{Whole, Wrong}
 use Rattle.text.specs.Fields.{feed, numberAt}
-use Rattle.text.specs.Line.{headed}
+use Rattle.columns.specs.declared.Head.{Head}
 use Rattle.columns.specs.Columns.{fieldAt, stopOf}
+use Rattle.columns.specs.ColumnLine.{begun}
 use Rattle.columns.proofs.ColumnLaws.{stopByLeft, stop-is}
-use Rattle.blame.specs.Blame.{isWhole, goodAt, byteAt, blamed, orLater, fieldsByte, otherIndex, endedByte, indexByte, lineByte, plainByte, bareByte}
+use Rattle.blame.specs.Blame.{isWhole, goodAt, byteAt, blamed, orLater, fieldsByte, otherIndex, endedByte, indexByte, byteAfter, lineByte}
 
 -- ---- one field
 module _ (sep : ℕ) (c : Column) (line : List ℕ) (at : ℕ) where
@@ -101,25 +102,12 @@ module _ (sep at : ℕ) (columns : List Column) (line : List ℕ) (i : ℕ) wher
     pub index-fields : index ≡ i → fieldsByte sep columns line next ≡ indexByte sep at columns line i (numberAt line at sep)
     index-fields h = rw (q, eq-eqb index i h)
 
--- ---- letter and index
-module _ (sep letter : ℕ) (columns : List Column) (line : List ℕ) where
-  pub plain-letter : headed letter sep line ≡ false → 0 ≡ plainByte sep letter columns line
-  unfolding plainByte
-  plain-letter e = rw e
+-- ---- a line's head
+module _ (sep : ℕ) (head : Head) (columns : List Column) (line : List ℕ) where
+  pub line-other : begun sep head line ≡ false → 0 ≡ lineByte sep head columns line
+  unfolding lineByte
+  line-other e = rw e
 
-  pub plain-fields : headed letter sep line ≡ true → fieldsByte sep columns line 2 ≡ plainByte sep letter columns line
-  unfolding plainByte
-  plain-fields e = rw e
-
-  module _ (i : ℕ) where
-    pub line-letter : headed letter sep line ≡ false → 0 ≡ lineByte sep letter columns line i
-    unfolding lineByte
-    line-letter e = rw e
-
-    pub line-index : headed letter sep line ≡ true → indexByte sep 2 columns line i (numberAt line 2 sep) ≡ lineByte sep letter columns line i
-    unfolding lineByte
-    line-index e = rw e
-
-pub bare-index : (sep : ℕ) (columns : List Column) (line : List ℕ) (i : ℕ) → indexByte sep 0 columns line i (numberAt line 0 sep) ≡ bareByte sep columns line i
-unfolding bareByte
-bare-index sep columns line i = refl
+  pub line-after : begun sep head line ≡ true → byteAfter sep head columns line ≡ lineByte sep head columns line
+  unfolding lineByte
+  line-after e = rw e

@@ -1,6 +1,6 @@
--- The byte named in a line (02, E5): the first bad byte of a field, the fields before it good, or the index (`line-fault`, `plain-fault`, `bare-fault`); it lies in the
--- line (`fault-within`, `found-within`). Where a line that begins with its letter has such a byte, it is named (`fault-line`, `fault-plain`, `fault-bare`): so 0 is said
--- exactly where there is none (`none-line`, `none-plain`, `none-bare`) or another letter (`other-letter`, `other-plain`).
+-- The byte named in a line (02, E5): the first bad byte of a field, the fields before it good, or the index (`line-fault`); it lies in the
+-- line (`fault-within`). Where a line that begins with its letter has such a byte, it is named (`fault-line`): so 0 is said exactly where there is none
+-- (`none-line`) or another letter (`other-letter`).
 -- Of the byte that parts the fields only this is asked: it is not 0, for past a line's end 0 is read.
 -- In order: a good field ends in the line; fields; a line; fields with a bad byte; a line with one; a line with none; the byte lies in the line.
 use mathlib.Core.Path.{_≡_, refl, sym, ap, _∙_}
@@ -26,9 +26,13 @@ use Rattle.text.specs.Point.{pointAt}
 use Rattle.text.proofs.NumberTrip.{number-read, signed-read, no-whole, whole-is}
 use Rattle.text.proofs.FieldLaws.{some-within, share-plus}
 use Rattle.text.proofs.PointTrip.{plus-read, signed-point-read}
+use Rattle.columns.specs.declared.Head.{Head}
+use Rattle.columns.specs.declared.Head.the-variants.{Lettered, Indexed, Bare}
 use Rattle.columns.specs.Columns.{fieldAt, stopOf}
-use Rattle.blame.specs.Blame.{byteAt, blamed, orLater, fieldsByte, otherIndex, indexByte, lineByte, plainByte, bareByte}
-use Rattle.blame.specs.FirstBad.{FirstBad, Found, here, later, Fault, index, other, field}
+use Rattle.columns.specs.ColumnLine.{begun}
+use Rattle.blame.specs.Blame.{byteAt, blamed, orLater, fieldsByte, otherIndex, indexByte, byteAfter, lineByte}
+use Rattle.blame.specs.FirstBad.{FirstBad, Found, here, later, Fault, index, other, field, LineFault}
+use Rattle.blame.proofs.BlameLaws.{line-other}
 use Rattle.blame.proofs.FieldBad.{share-dash}
 use Rattle.blame.proofs.Blames.{blames, blames-only}
 
@@ -82,14 +86,6 @@ module _ (sep : ℕ) (some : 0 < sep) where
   headed-long : (letter : ℕ) (line : List ℕ) → headed letter sep line ≡ true → 2 ≤ length line
   headed-long letter line e = leb-true _ _ (and-both (leb 2 (length line)) _ e .0)
 
-  pub plain-fault : (letter : ℕ) (columns : List Column) (line : List ℕ) (place : ℕ) → plainByte sep letter columns line ≡ place + 1 → Found sep line columns 2 place
-  unfolding plainByte
-  plain-fault letter columns line place e = go (headed letter sep line) refl e
-    where
-      go : (t : Bool) → headed letter sep line ≡ t → cond t (fieldsByte sep columns line 2) 0 ≡ place + 1 → Found sep line columns 2 place
-      go true h e = fields-found columns line 2 place (headed-long letter line h) e
-      go false h e = absurd (omega arith)
-
   index-fault : (at : ℕ) (columns : List Column) (line : List ℕ) (i place : ℕ) → at ≤ length line → indexByte sep at columns line i (numberAt line at sep) ≡ place + 1 → Fault sep at columns line i place
   unfolding fieldAt
   index-fault at columns line i place l e = indexed (numberAt line at sep) refl e
@@ -111,17 +107,18 @@ module _ (sep : ℕ) (some : 0 < sep) where
       indexed (Value v next) q e = valued v next q (eqb v i) refl e
       indexed (Bad p) q e = ended p q (numberAt line at feed) refl (otherIndex i (numberAt line at feed)) refl e
 
-  pub line-fault : (letter : ℕ) (columns : List Column) (line : List ℕ) (i place : ℕ) → lineByte sep letter columns line i ≡ place + 1 → Fault sep 2 columns line i place
+  pub line-fault : (head : Head) (columns : List Column) (line : List ℕ) (place : ℕ) → lineByte sep head columns line ≡ place + 1 → LineFault sep head columns line place
   unfolding lineByte
-  line-fault letter columns line i place e = go (headed letter sep line) refl e
+  line-fault head columns line place e = go (begun sep head line) refl e
     where
-      go : (t : Bool) → headed letter sep line ≡ t → cond t (indexByte sep 2 columns line i (numberAt line 2 sep)) 0 ≡ place + 1 → Fault sep 2 columns line i place
-      go true h e = index-fault 2 columns line i place (headed-long letter line h) e
-      go false h e = absurd (omega arith)
+      after : (h : Head) → begun sep h line ≡ true → byteAfter sep h columns line ≡ place + 1 → LineFault sep h columns line place
+      after (Lettered letter) b e = fields-found columns line 2 place (headed-long letter line b) e
+      after (Indexed letter i) b e = index-fault 2 columns line i place (headed-long letter line b) e
+      after (Bare i) b e = index-fault 0 columns line i place (omega arith) e
 
-  pub bare-fault : (columns : List Column) (line : List ℕ) (i place : ℕ) → bareByte sep columns line i ≡ place + 1 → Fault sep 0 columns line i place
-  unfolding bareByte
-  bare-fault columns line i place e = index-fault 0 columns line i place (omega arith) e
+      go : (t : Bool) → begun sep head line ≡ t → cond t (byteAfter sep head columns line) 0 ≡ place + 1 → LineFault sep head columns line place
+      go true b e = after head b e
+      go false b e = absurd (omega arith)
 
   -- ---- fields with a bad byte: it is named
   -- a field that has one is not good, and its bad byte is the one that it came to
@@ -139,11 +136,6 @@ module _ (sep : ℕ) (some : 0 < sep) where
   found-fields (c ∷ cs) line at place l (later {next} {z} q f) = rw q (found-fields cs line next place (field-within line at (stopOf sep feed cs) (stop-some cs) z next c q) f)
 
   -- ---- a line with a bad byte: it is named
-  -- a line that has no index
-  pub fault-plain : (letter : ℕ) (columns : List Column) (line : List ℕ) (place : ℕ) → headed letter sep line ≡ true → Found sep line columns 2 place → plainByte sep letter columns line ≡ place + 1
-  unfolding plainByte
-  fault-plain letter columns line place h f = rw h (found-fields columns line 2 place (headed-long letter line h) f)
-
   -- an index is worth the same whatever ends it
   worth : (line : List ℕ) (at stop v next : ℕ) → numberAt line at stop ≡ Value v next → v ≡ value 0 (digits (drop at line))
   unfolding numberAt
@@ -177,15 +169,12 @@ module _ (sep : ℕ) (some : 0 < sep) where
       go (Bad p) r = rw (q, ne-eqb v i n) (omega arith)
   fault-index at columns line i place l (field next q f) = rw (q, eq-eqb i i refl) (found-fields columns line next place (number-read line at sep i next (sym q) .within) f)
 
-  -- a line with its letter, its index and its columns
-  pub fault-line : (letter : ℕ) (columns : List Column) (line : List ℕ) (i place : ℕ) → headed letter sep line ≡ true → Fault sep 2 columns line i place → lineByte sep letter columns line i ≡ place + 1
+  -- a line that begins with its letter, where its head has one
+  pub fault-line : (head : Head) (columns : List Column) (line : List ℕ) (place : ℕ) → begun sep head line ≡ true → LineFault sep head columns line place → lineByte sep head columns line ≡ place + 1
   unfolding lineByte
-  fault-line letter columns line i place h f = rw h (fault-index 2 columns line i place (headed-long letter line h) f)
-
-  -- a line that begins with its index
-  pub fault-bare : (columns : List Column) (line : List ℕ) (i place : ℕ) → Fault sep 0 columns line i place → bareByte sep columns line i ≡ place + 1
-  unfolding bareByte
-  fault-bare columns line i place f = fault-index 0 columns line i place (omega arith) f
+  fault-line (Lettered letter) columns line place b f = rw b (found-fields columns line 2 place (headed-long letter line b) f)
+  fault-line (Indexed letter i) columns line place b f = rw b (fault-index 2 columns line i place (headed-long letter line b) f)
+  fault-line (Bare i) columns line place b f = fault-index 0 columns line i place (omega arith) f
 
   -- ---- 0 is said exactly where no byte is bad, or the letter is another
   -- a byte that names exactly the places of P is 0 exactly where P has none
@@ -193,33 +182,26 @@ module _ (sep : ℕ) (some : 0 < sep) where
   none-named P zero to from = ((λ e place f. zero-one (omega (arith, from place f))), (λ none. refl))
   none-named P (suc byte) to from = ((λ e place f. zero-one (omega arith)), (λ none. absurd (none byte (to byte (omega arith)))))
 
-  -- of each kind of line
-  pub none-plain : (letter : ℕ) (columns : List Column) (line : List ℕ) → headed letter sep line ≡ true → (plainByte sep letter columns line ≡ 0) ↔ ((place : ℕ) → Found sep line columns 2 place → ⊥)
-  none-plain letter columns line h = none-named (Found sep line columns 2) _ (plain-fault letter columns line) (λ place. fault-plain letter columns line place h)
-
-  pub none-line : (letter : ℕ) (columns : List Column) (line : List ℕ) (i : ℕ) → headed letter sep line ≡ true → (lineByte sep letter columns line i ≡ 0) ↔ ((place : ℕ) → Fault sep 2 columns line i place → ⊥)
-  none-line letter columns line i h = none-named (Fault sep 2 columns line i) _ (line-fault letter columns line i) (λ place. fault-line letter columns line i place h)
-
-  pub none-bare : (columns : List Column) (line : List ℕ) (i : ℕ) → (bareByte sep columns line i ≡ 0) ↔ ((place : ℕ) → Fault sep 0 columns line i place → ⊥)
-  none-bare columns line i = none-named (Fault sep 0 columns line i) _ (bare-fault columns line i) (fault-bare columns line i)
+  pub none-line : (head : Head) (columns : List Column) (line : List ℕ) → begun sep head line ≡ true → (lineByte sep head columns line ≡ 0) ↔ ((place : ℕ) → LineFault sep head columns line place → ⊥)
+  none-line head columns line b = none-named (LineFault sep head columns line) _ (line-fault head columns line) (λ place. fault-line head columns line place b)
 
   -- whatever its fields are
-  pub other-plain : (letter : ℕ) (columns : List Column) (line : List ℕ) → headed letter sep line ≡ false → plainByte sep letter columns line ≡ 0
-  unfolding plainByte
-  other-plain letter columns line h = rw h
-
-  pub other-letter : (letter : ℕ) (columns : List Column) (line : List ℕ) (i : ℕ) → headed letter sep line ≡ false → lineByte sep letter columns line i ≡ 0
-  unfolding lineByte
-  other-letter letter columns line i h = rw h
+  pub other-letter : (head : Head) (columns : List Column) (line : List ℕ) → begun sep head line ≡ false → lineByte sep head columns line ≡ 0
+  other-letter head columns line b = sym (line-other sep head columns line b)
 
 -- ---- the byte named lies in the line
 module _ (sep : ℕ) (line : List ℕ) where
-  pub found-within : {columns : List Column} {at place : ℕ} → Found sep line columns at place → place < length line
+  found-within : {columns : List Column} {at place : ℕ} → Found sep line columns at place → place < length line
   found-within (here f) = f .within
   found-within (later q f) = found-within f
 
-  pub fault-within : (at : ℕ) (columns : List Column) (i place : ℕ) → Fault sep at columns line i place → place < length line
-  fault-within at columns i place (index f) = f .within
-  fault-within at columns i place (other v next (inl q) n e) = omega (arith, number-read line at sep v next (sym q) .within, number-read line at sep v next (sym q) .after)
-  fault-within at columns i place (other v next (inr q) n e) = omega (arith, number-read line at feed v next (sym q) .within, number-read line at feed v next (sym q) .after)
-  fault-within at columns i place (field next q f) = found-within f
+  index-within : (at : ℕ) (columns : List Column) (i place : ℕ) → Fault sep at columns line i place → place < length line
+  index-within at columns i place (index f) = f .within
+  index-within at columns i place (other v next (inl q) n e) = omega (arith, number-read line at sep v next (sym q) .within, number-read line at sep v next (sym q) .after)
+  index-within at columns i place (other v next (inr q) n e) = omega (arith, number-read line at feed v next (sym q) .within, number-read line at feed v next (sym q) .after)
+  index-within at columns i place (field next q f) = found-within f
+
+  pub fault-within : (head : Head) (columns : List Column) (place : ℕ) → LineFault sep head columns line place → place < length line
+  fault-within (Lettered letter) columns place f = found-within f
+  fault-within (Indexed letter i) columns place f = index-within 2 columns i place f
+  fault-within (Bare i) columns place f = index-within 0 columns i place f

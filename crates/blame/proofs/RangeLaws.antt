@@ -1,22 +1,18 @@
 -- The laws of `specs/RangeBlame.antt`. Its code cites the loops and the tests in two parts; the rest is for readers: a line out of range has its byte
 -- (`range-some`) and one within has none (`range-none`), since the tests of a kind of line are together the range that the table is judged by.
--- In order: the loop over bytes, `Passing`; the loop over tests, `Tested`; tests in two parts; factors; a byte or none; the tests of each kind of line.
+-- In order: the loop over bytes, `Passing`; the loop over tests, `Tested`; tests in two parts; a byte or none.
 use mathlib.Core.Path.{_≡_, refl, sym, ap, _∙_}
-use mathlib.Core.Bool.{Bool, true, false, cond, not, _&&_, _||_, false≢true}
+use mathlib.Core.Bool.{Bool, true, false, cond, false≢true}
 use mathlib.Core.List.{List, [], _∷_, _++_}
 use Prim.Native.Nat.{ℕ, zero, suc, _+_, _-_, _≤_, _<_}
 use native.Mathlib.Nat.{add-zero, zero-add}
 use native.Mathlib.Numerals.{add-one}
 use native.Mathlib.Omega.{arith}
-use lib.Dec.{leb, eqb}
-use lib.IntN.{ℤ, pos}
+use lib.Dec.{eqb}
 use lib.ListN.{length, getD, drop, drop-of-length-le}
 use lib.Seq.{drop-cons}
-use Rattle.numbers.specs.Ints.{minus, inside, sameℤ}
-use Rattle.kinds.specs.declared.Header.{Header}
-use Rattle.kinds.specs.Limits.{zonesLeast, zonesMost, bordersLeast, bordersMost, rowsLeast, rowsMost, ltaMost, fmaxLeast, fmaxMost, flowMost, shareMost, vaMost}
-use Rattle.kinds.specs.Ranges.{atℤ, writtenFits, exists, hubsFit, borderFits, rowOf, rowFits, factorFits}
-use Rattle.blame.specs.RangeBlame.{pastSeps, fieldFirst, rangeByte, allTrue, headerTests, noHubs, borderTests, rowTests, factorTests}
+use Rattle.kinds.specs.Ranges.{allTrue}
+use Rattle.blame.specs.RangeBlame.{pastSeps, fieldFirst, rangeByte}
 
 -- ---- the loop over bytes: `left` of the bytes that part fields are still to be passed from place i on
 module _ (sep k : ℕ) (line : List ℕ) where
@@ -99,16 +95,6 @@ module _ (sep : ℕ) (us : List Bool) (line : List ℕ) where
   range-first (true ∷ ts) k e = range-first ts (suc k) e
   range-first (false ∷ ts) k e = refl
 
--- ---- factors
-pub tests-length : (fs : List ℤ) → length (factorTests fs) ≡ length fs
-tests-length [] = refl
-tests-length (f ∷ fs) = ap suc (tests-length fs)
-
-pub test-at : (fs : List ℤ) (j : ℕ) → j < length fs → getD (factorTests fs) j false ≡ factorFits (atℤ fs j)
-test-at [] j h = absurd (omega arith)
-test-at (f ∷ fs) zero h = refl
-test-at (f ∷ fs) (suc j) h = test-at fs j (omega arith)
-
 -- ---- a line out of range has its byte, and one within has none
 module _ (sep : ℕ) (line : List ℕ) where
   pub range-none : (tests : List Bool) (k : ℕ) → allTrue tests ≡ true → rangeByte sep tests k line ≡ 0
@@ -122,78 +108,3 @@ module _ (sep : ℕ) (line : List ℕ) where
   range-some [] k e = absurd (false≢true (sym e))
   range-some (true ∷ ts) k e = range-some ts (suc k) e
   range-some (false ∷ ts) k e = omega arith
-
--- ---- the tests of each kind of line are its range
-and-true : (t : Bool) → (t && true) ≡ t
-and-true true = refl
-and-true false = refl
-
-three-pairs : (a b c d e f g : Bool) → ((a && b) && ((c && d) && ((e && f) && (g && true)))) ≡ (a && b && c && d && e && f && g)
-three-pairs false b c d e f g = refl
-three-pairs true false c d e f g = refl
-three-pairs true true false d e f g = refl
-three-pairs true true true false e f g = refl
-three-pairs true true true true false f g = refl
-three-pairs true true true true true false g = refl
-three-pairs true true true true true true g = and-true g
-
-pub header-range : (h : Header) → allTrue (headerTests (h .zones) (h .borders) (h .rows) (h .share)) ≡ writtenFits h
-header-range h =
-    three-pairs
-    (leb zonesLeast (h .zones))
-    (leb (h .zones) zonesMost)
-    (leb bordersLeast (h .borders))
-    (leb (h .borders) bordersMost)
-    (leb rowsLeast (h .rows))
-    (leb (h .rows) rowsMost)
-    (inside (minus 1) (pos shareMost) (h .share))
-
--- without hubs, or both exist and they are not equal
-hubs-together : (none s r apart : Bool) → ((none || s) && ((none || (r && apart)) && true)) ≡ (none || (s && r && apart))
-hubs-together true s r apart = refl
-hubs-together false false r apart = refl
-hubs-together false true r apart = and-true (r && apart)
-
-four : (a b c d e : Bool) → (a && ((b && c) && (d && e))) ≡ (a && b && c && d && e)
-four false b c d e = refl
-four true false c d e = refl
-four true true false d e = refl
-four true true true d e = refl
-
-pub border-range : (zones : ℕ) (raw : List ℤ) → allTrue (borderTests zones raw) ≡ borderFits zones raw
-unfolding borderFits hubsFit
-border-range zones raw =
-    let from = exists zones (atℤ raw 0) in
-    let to = exists zones (atℤ raw 1) in
-    let apart = not (sameℤ (atℤ raw 0) (atℤ raw 1)) in
-    let lta = inside (pos 0) (pos ltaMost) (atℤ raw 2) in
-    four from to apart lta _
-    ∙ ap (λ (t : Bool). from && to && apart && lta && t)
-    (hubs-together (noHubs (atℤ raw 3) (atℤ raw 4)) (exists zones (atℤ raw 3)) (exists zones (atℤ raw 4)) (not (sameℤ (atℤ raw 3) (atℤ raw 4))))
-
-seven : (a b c d e f g : Bool) → (a && (b && (c && (d && (e && (f && (g && true))))))) ≡ (a && b && c && d && e && f && g)
-seven false b c d e f g = refl
-seven true false c d e f g = refl
-seven true true false d e f g = refl
-seven true true true false e f g = refl
-seven true true true true false f g = refl
-seven true true true true true false g = refl
-seven true true true true true true g = and-true g
-
-pub row-range : (raw : List ℤ) → allTrue (rowTests raw) ≡ rowFits raw
-unfolding rowFits rowOf
-row-range raw =
-    seven
-    (inside (pos fmaxLeast) (pos fmaxMost) (atℤ raw 0))
-    (inside (pos 0) (atℤ raw 0) (atℤ raw 1))
-    (inside (minus flowMost) (pos flowMost) (atℤ raw 2))
-    (inside (minus flowMost) (pos flowMost) (atℤ raw 3))
-    (inside (minus 1) (pos shareMost) (atℤ raw 4))
-    (inside (pos 0) (pos vaMost) (atℤ raw 5))
-    (inside (pos 0) (pos vaMost) (atℤ raw 6))
-
--- ---- the seven values one by one
-module _ (raw : List ℤ) (a b c d e f g : ℤ) where
-  pub row-same : a ≡ atℤ raw 0 → b ≡ atℤ raw 1 → c ≡ atℤ raw 2 → d ≡ atℤ raw 3 → e ≡ atℤ raw 4 → f ≡ atℤ raw 5 → g ≡ atℤ raw 6
-      → rowTests (a ∷ b ∷ c ∷ d ∷ e ∷ f ∷ g ∷ []) ≡ rowTests raw
-  row-same p₀ p₁ p₂ p₃ p₄ p₅ p₆ = rw (p₀, p₁, p₂, p₃, p₄, p₅, p₆)

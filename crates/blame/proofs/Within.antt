@@ -1,7 +1,7 @@
--- The byte named lies in the line (02, E5): of a line of wrong form (`line-byte-le`, `plain-byte-le`, `bare-byte-le`), and of one of right form whose value is outside its
--- range (`line-range-le`, `plain-range-le`, `bare-range-le`: a line of right form is its columns' text, by `line-read`, `plain-read` and `bare-read` of crate columns). Tests of fields
+-- The byte named lies in the line (02, E5): of a line of wrong form (`line-byte-le`), and of one of right form whose value is outside its range
+-- (`line-range-le`: a line of right form is its columns' text, by `line-read` of crate columns). Tests of fields
 -- that were left out pass and change nothing (`range-left-out`); whatever the line, a byte is at most one past its end (`range-le`).
-use mathlib.Core.Path.{_≡_, refl, sym, ap, subst}
+use mathlib.Core.Path.{_≡_, refl, sym, subst}
 use mathlib.Core.Bool.{Bool, true, false, cond, false≢true}
 use mathlib.Core.List.{List, [], _∷_, _++_, append-assoc}
 use Prim.Native.Nat.{ℕ, zero, suc, _+_, _≤_, _<_}
@@ -11,29 +11,24 @@ use lib.IntN.{ℤ, pos}
 use lib.ListN.{length, getD, drop, length-append}
 use borrow.Author.Tests.{eq-eqb}
 use Rattle.kinds.specs.LineColumns.{Column}
+use Rattle.kinds.specs.Ranges.{allTrue}
 use Rattle.text.specs.Fields.{feed}
 use Rattle.text.specs.Written.{decimal}
+use Rattle.columns.specs.declared.Head.{Head}
+use Rattle.columns.specs.declared.Head.the-variants.{Lettered, Indexed, Bare}
 use Rattle.columns.specs.Columns.{stopOf}
-use Rattle.columns.specs.ColumnText.{fieldText, fieldsEnded, indexText, columnsText, plainText}
-use Rattle.columns.specs.Bare.{bareIndexText, bareText}
-use Rattle.blame.specs.Blame.{lineByte, plainByte, bareByte}
-use Rattle.blame.specs.RangeBlame.{pastSeps, rangeByte, allTrue}
-use Rattle.blame.proofs.Faults.{line-fault, plain-fault, bare-fault, fault-within, found-within}
+use Rattle.columns.specs.ColumnText.{fieldText, fieldsEnded, indexText, headText, headSeps, columnsText}
+use Rattle.blame.specs.Blame.{lineByte}
+use Rattle.blame.specs.RangeBlame.{pastSeps, rangeByte}
+use Rattle.blame.proofs.Faults.{line-fault, fault-within}
 
 -- ---- wrong form
 named-le : (byte : ℕ) (line : List ℕ) → ((place : ℕ) → byte ≡ place + 1 → place < length line) → byte ≤ length line
 named-le zero line f = omega arith
 named-le (suc x) line f = let h : x < length line = f x (omega arith) in omega arith
 
-module _ (sep : ℕ) (some : 0 < sep) (letter : ℕ) (columns : List Column) (line : List ℕ) where
-  pub line-byte-le : (i : ℕ) → lineByte sep letter columns line i ≤ length line
-  line-byte-le i = named-le _ line (λ place e. fault-within sep line 2 columns i place (line-fault sep some letter columns line i place e))
-
-  pub plain-byte-le : plainByte sep letter columns line ≤ length line
-  plain-byte-le = named-le _ line (λ place e. found-within sep line (plain-fault sep some letter columns line place e))
-
-pub bare-byte-le : (sep : ℕ) → 0 < sep → (columns : List Column) (line : List ℕ) (i : ℕ) → bareByte sep columns line i ≤ length line
-bare-byte-le sep some columns line i = named-le _ line (λ place e. fault-within sep line 0 columns i place (bare-fault sep some columns line i place e))
+pub line-byte-le : (sep : ℕ) → 0 < sep → (head : Head) (columns : List Column) (line : List ℕ) → lineByte sep head columns line ≤ length line
+line-byte-le sep some head columns line = named-le _ line (λ place e. fault-within sep line head columns place (line-fault sep some head columns line place e))
 
 -- ---- a value outside its range
 module _ (sep : ℕ) where
@@ -107,42 +102,24 @@ module _ (sep : ℕ) where
     range-left-out (true ∷ ts) us k e = range-left-out ts us (suc k) e
     range-left-out (false ∷ ts) us k e = refl
 
-  module _ (letter : ℕ) (cs : List Column) (zs : List ℤ) (tests : List Bool) (h : length tests ≤ length cs) where
-    pub plain-range-le : rangeByte sep tests 1 (plainText sep letter cs zs) ≤ length (plainText sep letter cs zs)
-    unfolding plainText
-    plain-range-le = range-in _ tests 1 (λ j k. begins-at _ (suc j) (1 + j) (omega arith) (begins j k))
-      where
-        begins : (j : ℕ) → j < length tests → pastSeps sep (suc j) (letter ∷ sep ∷ fieldsEnded sep feed cs zs) < length (letter ∷ sep ∷ fieldsEnded sep feed cs zs)
-        begins j k =
-            let fields = fieldsEnded sep feed cs zs in
-            let past : pastSeps sep (suc j) (letter ∷ sep ∷ fields) ≤ 2 + pastSeps sep j fields = past-field j (letter ∷ []) fields in
-            omega (arith, past, past-fields cs zs j (omega arith))
+  -- .. past the line's head
+  past-index : (i j : ℕ) (fields : List ℕ) → pastSeps sep j fields < length fields → pastSeps sep (suc j) (indexText sep i ++ fields) < length (indexText sep i ++ fields)
+  unfolding indexText
+  past-index i j fields h =
+      subst (λ (s : List ℕ). pastSeps sep (suc j) s < length s) (sym (append-assoc (decimal i) (sep ∷ []) fields))
+      (omega (arith, past-field j (decimal i) fields, length-append (decimal i) (sep ∷ fields)))
 
-    pub line-range-le : (i : ℕ) → rangeByte sep tests 2 (columnsText sep letter cs i zs) ≤ length (columnsText sep letter cs i zs)
-    unfolding columnsText indexText
-    line-range-le i =
-        let fields = fieldsEnded sep feed cs zs in
-        let joined = ap (λ (s : List ℕ). letter ∷ sep ∷ s) (sym (append-assoc (decimal i) (sep ∷ []) fields)) in
-        subst (λ (s : List ℕ). rangeByte sep tests 2 s ≤ length s) joined
-        (range-in _ tests 2 (λ j k. begins-at _ (suc (suc j)) (2 + j) (omega arith) (begins j k)))
-      where
-        begins : (j : ℕ) → j < length tests
-            → pastSeps sep (suc (suc j)) (letter ∷ sep ∷ (decimal i ++ (sep ∷ fieldsEnded sep feed cs zs))) < length (letter ∷ sep ∷ (decimal i ++ (sep ∷ fieldsEnded sep feed cs zs)))
-        begins j k =
-            let fields = fieldsEnded sep feed cs zs in
-            let after = decimal i ++ (sep ∷ fields) in
-            let past : pastSeps sep (suc (suc j)) (letter ∷ sep ∷ after) ≤ 2 + pastSeps sep (suc j) after = past-field (suc j) (letter ∷ []) after in
-            omega (arith, past, past-field j (decimal i) fields, past-fields cs zs j (omega arith), length-append (decimal i) (sep ∷ fields))
+  past-letter : (letter j : ℕ) (fields : List ℕ) → pastSeps sep j fields < length fields → pastSeps sep (suc j) (letter ∷ sep ∷ fields) < length (letter ∷ sep ∷ fields)
+  past-letter letter j fields h =
+      let past : pastSeps sep (suc j) (letter ∷ sep ∷ fields) ≤ 2 + pastSeps sep j fields = past-field j (letter ∷ []) fields in
+      omega (arith, past)
 
-  module _ (cs : List Column) (zs : List ℤ) (tests : List Bool) (h : length tests ≤ length cs) where
-    pub bare-range-le : (i : ℕ) → rangeByte sep tests 1 (bareText sep cs i zs) ≤ length (bareText sep cs i zs)
-    unfolding bareText bareIndexText
-    bare-range-le i =
-        let fields = fieldsEnded sep feed cs zs in
-        let joined = sym (append-assoc (decimal i) (sep ∷ []) fields) in
-        subst (λ (s : List ℕ). rangeByte sep tests 1 s ≤ length s) joined (range-in _ tests 1 (λ j k. begins-at _ (suc j) (1 + j) (omega arith) (begins j k)))
-      where
-        begins : (j : ℕ) → j < length tests → pastSeps sep (suc j) (decimal i ++ (sep ∷ fieldsEnded sep feed cs zs)) < length (decimal i ++ (sep ∷ fieldsEnded sep feed cs zs))
-        begins j k =
-            let fields = fieldsEnded sep feed cs zs in
-            omega (arith, past-field j (decimal i) fields, past-fields cs zs j (omega arith), length-append (decimal i) (sep ∷ fields))
+  past-head : (head : Head) (j : ℕ) (fields : List ℕ) → pastSeps sep j fields < length fields → pastSeps sep (headSeps head + j) (headText sep head ++ fields) < length (headText sep head ++ fields)
+  unfolding headText
+  past-head (Lettered letter) j fields h = begins-at _ (suc j) (1 + j) (omega arith) (past-letter letter j fields h)
+  past-head (Indexed letter i) j fields h = begins-at _ (suc (suc j)) (2 + j) (omega arith) (past-letter letter (suc j) (indexText sep i ++ fields) (past-index i j fields h))
+  past-head (Bare i) j fields h = begins-at _ (suc j) (1 + j) (omega arith) (past-index i j fields h)
+
+  pub line-range-le : (head : Head) (cs : List Column) (zs : List ℤ) (tests : List Bool) → length tests ≤ length cs → rangeByte sep tests (headSeps head) (columnsText sep head cs zs) ≤ length (columnsText sep head cs zs)
+  unfolding columnsText
+  line-range-le head cs zs tests h = range-in _ tests (headSeps head) (λ j k. past-head head j (fieldsEnded sep feed cs zs) (past-fields cs zs j (omega arith)))

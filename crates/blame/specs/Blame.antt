@@ -1,5 +1,5 @@
 -- The byte to blame in a line of wrong form (02, E5): bytes of a line count from 1, and 0 says that none is to blame.
--- `lineByte`, `plainByte` and `bareByte` are what contracts cite. Where the last columns of a line may be left out, its columns are all of them.
+-- `lineByte` is what contracts cite. Where the last columns of a line may be left out, its columns are all of them.
 -- `sep` is the byte that parts the fields, a tab in the table. Left to others: values outside their range (`RangeBlame.antt`), and what these bytes have to
 -- do with E5's words (`FirstBad.antt`). A good line has 0, as has one that is wrong by its letter or by the number of its fields.
 use mathlib.Core.Bool.{Bool, true, false, cond, not, _||_}
@@ -13,8 +13,10 @@ use Rattle.text.specs.declared.Number.the-variants.{Value, Bad}
 use Rattle.text.specs.declared.Signed.{Signed}
 use Rattle.text.specs.declared.Signed.the-variants.{Whole, Wrong}
 use Rattle.text.specs.Fields.{feed, numberAt}
-use Rattle.text.specs.Line.{headed}
+use Rattle.columns.specs.declared.Head.{Head}
+use Rattle.columns.specs.declared.Head.the-variants.{Lettered, Indexed, Bare}
 use Rattle.columns.specs.Columns.{fieldAt, stopOf}
+use Rattle.columns.specs.ColumnLine.{begun}
 
 abbrev pub isWhole : Signed → Bool
 isWhole (Whole z next) = true
@@ -61,14 +63,12 @@ abbrev pub indexByte : (sep at : ℕ) → List Column → (line : List ℕ) → 
 indexByte sep at columns line i (Value index next) = cond (eqb index i) (fieldsByte sep columns line next) (at + 1)
 indexByte sep at columns line i (Bad place) = endedByte sep at line i place
 
--- a line with its letter, its index and its columns
-unfoldable pub lineByte : (sep letter : ℕ) → List Column → (line : List ℕ) → (i : ℕ) → ℕ
-lineByte sep letter columns line i = cond (headed letter sep line) (indexByte sep 2 columns line i (numberAt line 2 sep)) 0
+-- what follows a line's letter, where its head has one
+abbrev pub byteAfter : (sep : ℕ) → Head → List Column → (line : List ℕ) → ℕ
+byteAfter sep (Lettered letter) columns line = fieldsByte sep columns line 2
+byteAfter sep (Indexed letter i) columns line = indexByte sep 2 columns line i (numberAt line 2 sep)
+byteAfter sep (Bare i) columns line = indexByte sep 0 columns line i (numberAt line 0 sep)
 
--- a line that begins with its index, no letter before it
-unfoldable pub bareByte : (sep : ℕ) → List Column → (line : List ℕ) → (i : ℕ) → ℕ
-bareByte sep columns line i = indexByte sep 0 columns line i (numberAt line 0 sep)
-
--- a line that has no index
-unfoldable pub plainByte : (sep letter : ℕ) → List Column → (line : List ℕ) → ℕ
-plainByte sep letter columns line = cond (headed letter sep line) (fieldsByte sep columns line 2) 0
+-- a line with its head and its columns
+unfoldable pub lineByte : (sep : ℕ) → Head → List Column → (line : List ℕ) → ℕ
+lineByte sep head columns line = cond (begun sep head line) (byteAfter sep head columns line) 0

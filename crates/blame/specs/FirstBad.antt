@@ -1,6 +1,6 @@
 -- What E5 asks of the byte that is named (02: "the first byte in the line, from 1, that no good number could have there"). Nothing here computes a byte;
--- that the bytes of `Blame.antt` are these is proved: for a field `blames` and `blames-only` (`Blames.antt`), for a line `line-fault`, `plain-fault`
--- and `bare-fault`, and the other way `fault-line`, `fault-plain` and `fault-bare` (`Faults.antt`). A place counts bytes from 0, so place p is byte p + 1.
+-- that the bytes of `Blame.antt` are these is proved: for a field `blames` and `blames-only` (`Blames.antt`), for a line `line-fault`
+-- and, the other way, `fault-line` (`Faults.antt`). A place counts bytes from 0, so place p is byte p + 1.
 use mathlib.Core.Path.{_≡_}
 use mathlib.Core.Bool.{true}
 use mathlib.Core.Logic.{_⊎_}
@@ -12,6 +12,8 @@ use Rattle.kinds.specs.LineColumns.{Column, number}
 use Rattle.text.specs.declared.Number.the-variants.{Value}
 use Rattle.text.specs.declared.Signed.the-variants.{Whole}
 use Rattle.text.specs.Fields.{feed, numberAt}
+use Rattle.columns.specs.declared.Head.{Head}
+use Rattle.columns.specs.declared.Head.the-variants.{Lettered, Indexed, Bare}
 use Rattle.columns.specs.Columns.{fieldAt, stopOf}
 use Rattle.blame.specs.Blame.{goodAt}
 
@@ -46,3 +48,9 @@ module _ (sep : ℕ) where
     other : (value next : ℕ) → (numberAt line at sep ≡ Value value next) ⊎ (numberAt line at feed ≡ Value value next) → (value ≡ i → ⊥) → place ≡ at → Fault at columns line i place
     -- after the line's own index, the first bad byte of a field
     field : (next : ℕ) → numberAt line at sep ≡ Value i next → Found line columns next place → Fault at columns line i place
+
+  -- .. by the line's head: after a letter alone, the first bad byte of a field
+  abbrev pub LineFault : Head → (columns : List Column) → (line : List ℕ) → (place : ℕ) → Type 0
+  LineFault (Lettered letter) columns line place = Found line columns 2 place
+  LineFault (Indexed letter i) columns line place = Fault 2 columns line i place
+  LineFault (Bare i) columns line place = Fault 0 columns line i place

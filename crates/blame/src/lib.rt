@@ -2,6 +2,7 @@
 // The byte that parts the fields is an argument, `sep`; a line ends in an LF.
 pub mod range;
 
+use columns::Head;
 use columns::read::field_at;
 use columns::read::stop_of;
 use text::Number;
@@ -11,23 +12,27 @@ ghost use mathlib.Core.Path.{_≡_};
 ghost use Prim.Native.Nat.{_≤_};
 ghost use Rattle.kinds.specs.LineColumns.{columnOf, columnsOf};
 ghost use Rattle.text.specs.Fields.{numberAt};
-ghost use Rattle.blame.specs.Blame.{isWhole, goodAt, byteAt, blamed, fieldsByte, otherIndex, endedByte, indexByte, lineByte, plainByte, bareByte};
+ghost use Rattle.blame.specs.Blame.{isWhole, goodAt, byteAt, blamed, fieldsByte, otherIndex, endedByte, indexByte, lineByte};
 
-// A line with its letter, its index and its columns, those that may be left out among them.
-pub fn line_byte(sep: u8, letter: u8, columns: &[u8], line: &[u8], i: usize) -> usize
-    ensures { λ r. ⌜ r ≡ lineByte sep letter (columnsOf (now (columns .entry))) (now (line .entry)) i ⌝ }
+// A line with its head and its columns, those that may be left out among them.
+pub fn line_byte(sep: u8, head: Head, columns: &[u8], line: &[u8]) -> usize
+    ensures { λ r. ⌜ r ≡ lineByte sep head (columnsOf (now (columns .entry))) (now (line .entry)) ⌝ }
 {
-    if !text::line::headed(line, letter, sep) {
-        return 0;
+    match head {
+        Head::Lettered(letter) => {
+            if !text::line::headed(line, letter, sep) {
+                return 0;
+            }
+            fields_byte(sep, columns, line, 2)
+        }
+        Head::Indexed(letter, i) => {
+            if !text::line::headed(line, letter, sep) {
+                return 0;
+            }
+            index_byte(sep, 2, columns, line, i)
+        }
+        Head::Bare(i) => index_byte(sep, 0, columns, line, i),
     }
-    index_byte(sep, 2, columns, line, i)
-}
-
-// A line that begins with its index, no letter before it.
-pub fn bare_byte(sep: u8, columns: &[u8], line: &[u8], i: usize) -> usize
-    ensures { λ r. ⌜ r ≡ bareByte sep (columnsOf (now (columns .entry))) (now (line .entry)) i ⌝ }
-{
-    index_byte(sep, 0, columns, line, i)
 }
 
 // The index, from place `at` on, and the columns after it.
@@ -64,16 +69,6 @@ fn other_index(i: usize, found: Number) -> bool
         Number::Value(index, _) => index != i as u64,
         Number::Bad(_) => false,
     }
-}
-
-// A line that has no index.
-pub fn plain_byte(sep: u8, letter: u8, columns: &[u8], line: &[u8]) -> usize
-    ensures { λ r. ⌜ r ≡ plainByte sep letter (columnsOf (now (columns .entry))) (now (line .entry)) ⌝ }
-{
-    if !text::line::headed(line, letter, sep) {
-        return 0;
-    }
-    fields_byte(sep, columns, line, 2)
 }
 
 // The fields of the columns from place `at` on: the first that is bad.

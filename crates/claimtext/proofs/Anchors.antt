@@ -8,9 +8,10 @@ use Rattle.numbers.specs.Ints.{minus, sameℤ}
 use Rattle.numbers.specs.Below.{sum, table, firstFrom, given, over}
 use Rattle.text.specs.Fields.{feed, numberAt}
 use Rattle.text.specs.Sheets.{sheet}
-use Rattle.text.specs.Written.{textOf, decimal, decimalℤ, fieldsText, lineText, linesText}
+use Rattle.text.specs.Written.{textOf, decimal, decimalℤ, linesText}
 use Rattle.columns.specs.Columns.{fieldAt, fieldsAt}
-use Rattle.columns.specs.ColumnLine.{restAt, plainLine}
+use Rattle.columns.specs.ColumnLine.{headAt, restAt, columnsLine}
+use Rattle.columns.specs.ColumnText.{fieldText, fieldsEnded, indexText, headText, columnsText}
 use Rattle.states.specs.Rows.{Rows}
 use Rattle.start.specs.Start.{kept}
 use Rattle.claims.specs.Claims.{claimedIn, remaining}
@@ -66,7 +67,7 @@ pub record Anchors : Type 0 where
   pub claimed-out : publishedText m (remaining (m .states) (begins (pos 1 ∷ pos 1 ∷ []) ∷ [])) ≡ sheet "D 0 100/D 2 70/"
 
 pub anchors : Anchors
-unfolding sameℤ sum table firstFrom given numberAt textOf decimal decimalℤ fieldsText lineText linesText fieldAt fieldsAt restAt plainLine kept claimedIn remaining claimItem claimRecord noClaim crowded claimWith pairsIn claimLine claimsIn publishedLine publishedText
+unfolding sameℤ sum table firstFrom given numberAt textOf decimal decimalℤ linesText fieldText fieldsEnded indexText headText columnsText fieldAt fieldsAt headAt restAt columnsLine kept claimedIn remaining claimItem claimRecord noClaim crowded claimWith pairsIn claimLine claimsIn publishedLine publishedText
 anchors =
     record {
       no-pairs = refl;

@@ -4,13 +4,16 @@ use mathlib.Core.Path.{_≡_, refl, sym, ap, _∙_}
 use mathlib.Core.Bool.{Bool, true, false, cond, not, _&&_}
 use mathlib.Core.List.{List, [], _∷_}
 use Prim.Native.Char.{code}
-use Prim.Native.Nat.{ℕ, _+_, _≤_, _<_}
+use Prim.Native.Nat.{ℕ, _^_, _≤_, _<_}
 use native.Mathlib.Nat.{mul-le-mul-right}
 use native.Mathlib.Omega.{arith}
 use borrow.Author.Tests.{lt-ltb, le-ltb, ne-eqb}
 use lib.Dec.{ltb}
 use lib.IntN.{ℤ, pos}
 use lib.ListN.{length}
+use lib.Signed.{mag}
+use mir.Syntax.{w64}
+use mir.Val.{hbits}
 use Rattle.numbers.specs.Below.{at}
 use Rattle.numbers.proofs.IntLaws.{within-fits}
 use Rattle.kinds.specs.declared.Judgement.{Judgement}
@@ -22,11 +25,14 @@ use Rattle.kinds.specs.Ranges.{atℤ}
 use Rattle.kinds.specs.Refusals.{Judged, passed, refused, then, tooLong}
 use Rattle.kinds.proofs.KindLaws.{header-in}
 use Rattle.kinds.proofs.RefusalLaws.{passed-is, not-passed, then-passed, then-next, then-refused}
+use Rattle.text.specs.Fields.{tab}
 use Rattle.text.specs.Left.{TextLeft, textLeft}
-use Rattle.text.specs.Written.{decimal, decimalℤ}
 use Rattle.text.proofs.DigitLaws.{decimal-u64, decimal-i64}
 use Rattle.text.proofs.LeftLaws.{text-refused}
-use Rattle.text.proofs.PutLaws.{line-length, tabbed-length, tabbed-empty, lines-most, lines-cong}
+use Rattle.text.proofs.PutLaws.{lines-most, lines-cong}
+use Rattle.columns.specs.declared.Head.the-variants.{Indexed}
+use Rattle.columns.specs.ColumnText.{fieldText, fieldsLength, lineLength}
+use Rattle.columns.proofs.ColumnPut.{line-long}
 use Rattle.table.specs.declared.Room.the-variants.{None}
 use Rattle.table.specs.Table.{Table, front, judgeLent}
 use Rattle.table.specs.Good.{Good}
@@ -39,14 +45,18 @@ use Rattle.claims.proofs.CanGo.{claims-rows}
 use Rattle.claims.proofs.NameLaws.{exists-pos, flagged-named}
 use Rattle.claims.proofs.JudgeLaws.{rams-lent, states-lent, known-claims}
 use Rattle.claimtext.specs.ClaimText.{claimsIn}
-use Rattle.claimtext.specs.Published.{rowLine, lineMost, publishedLine, publishedText, publishedMost, publishedOf, publishedAnswer, publishedLeft}
+use Rattle.claimtext.specs.Published.{publishedColumns, rowLine, lineMost, publishedLine, publishedText, publishedMost, publishedOf, publishedAnswer, publishedLeft}
 use Rattle.claimtext.specs.Read.{unflagged}
 
 -- ---- a row's line
-pub row-line-long : (row : ℕ) (ram : ℤ) → length (rowLine row ram) ≡ 4 + length (decimal row) + length (decimalℤ ram)
-row-line-long row ram =
-    line-length (code "D") (decimal row ∷ decimalℤ ram ∷ [])
-    ∙ omega (arith, tabbed-length (decimal row) (decimalℤ ram ∷ []), tabbed-length (decimalℤ ram) [], tabbed-empty)
+module _ (row : ℕ) (ram : ℤ) where
+  pub row-line-long : length (rowLine row ram) ≡ lineLength (Indexed (code "D") row) publishedColumns (ram ∷ [])
+  row-line-long = line-long tab (Indexed (code "D") row) publishedColumns (ram ∷ [])
+
+  -- of machine numbers
+  pub row-line-most : row < 2 ^ 64 → mag ram < 2 ^ hbits w64 → lineLength (Indexed (code "D") row) publishedColumns (ram ∷ []) ≤ lineMost
+  unfolding fieldsLength fieldText
+  row-line-most h k = omega (arith, decimal-u64 row h, decimal-i64 ram k)
 
 module _ (m : Rows) (listed : ℕ → Bool) (row : ℕ) where
   pub published-here : listed row ≡ true → publishedLine m listed row ≡ rowLine row (atℤ (m .rams) row)
@@ -125,8 +135,7 @@ module _ {t : Table} (good : Good t) (listed : ℕ → Bool) where
           omega (
             arith,
             row-line-long row ram,
-            decimal-u64 row (omega arith),
-            decimal-i64 ram (within-fits (rams .each .at row (omega (arith, rams .long))) tt .sfits),
+            row-line-most row ram (omega arith) (within-fits (rams .each .at row (omega (arith, rams .long))) tt .sfits),
           )
 
       go : (v : Bool) → listed row ≡ v → length (publishedLine (rowsOf t) listed row) ≤ lineMost

@@ -21,11 +21,12 @@ use Rattle.text.specs.declared.Signed.the-variants.{Whole, Wrong}
 use Rattle.text.specs.Fields.{tab, feed}
 use Rattle.text.specs.Line.{lineAt, after, headed}
 use Rattle.text.proofs.LineLaws.{line-le-length}
+use Rattle.text.specs.declared.Number.the-variants.{Value, Bad}
 use Rattle.columns.specs.declared.Fields.{Fields}
 use Rattle.columns.specs.declared.Fields.the-variants as fields
+use Rattle.columns.specs.declared.Head.the-variants.{Lettered}
 use Rattle.columns.specs.Columns.{Values, values, wrong, push, onward, stopOf, fieldAt, fieldsAt, stored}
-use Rattle.columns.specs.ColumnLine.{toEnd, restAt, plainLine}
-use Rattle.columns.proofs.ColumnLaws.{repeated}
+use Rattle.columns.specs.ColumnLine.{toEnd, restAt, headAt, afterNumber, columnsLine}
 use Rattle.corrections.specs.Corrections.{pieces}
 use Rattle.corrections.proofs.PieceLaws.{pieces-at, line-some}
 use Rattle.claims.specs.Claims.{pairsMost}
@@ -33,6 +34,10 @@ use Rattle.claimtext.specs.ClaimText.{fieldsOf, numberColumns, claimItem
 use Rattle.claimtext.specs.Read.{areGood}
 
 -- ---- the columns of a line, as the code has them
+abbrev repeated : (n b : ℕ) → List ℕ
+repeated zero b = []
+repeated (suc n) b = b ∷ repeated n b
+
 pub number-letters : (n m : ℕ) → n ≤ m → columnsOf (take n (repeated m 110)) ≡ numberColumns n
 number-letters zero m h = refl
 number-letters (suc n) zero h = absurd (not-suc-le-zero h)
@@ -53,10 +58,10 @@ module _ (pairs : ℕ) (fields : List ℤ) (k : ℕ) where
   item-rest h n = rw (le-ltb k 2 h, ne-eqb k 2 n)
 
 -- ---- the claim of a line with so many pairs, 16 at most
-module _ (line : List ℕ) (pairs : ℕ) {columns : List Column} (are : columns ≡ numberColumns (fieldsOf pairs)) (f : Fields) (zs : List ℤ) (said : stored f zs ≡ plainLine tab (code "Q") columns line) where
+module _ (line : List ℕ) (pairs : ℕ) {columns : List Column} (are : columns ≡ numberColumns (fieldsOf pairs)) (f : Fields) (zs : List ℤ) (said : stored f zs ≡ columnsLine tab (Lettered (code "Q")) columns line) where
   read-is : recordOf pairs (stored f zs) ≡ claimWith line pairs
   unfolding claimWith
-  read-is = ap (recordOf pairs) (said ∙ ap (λ (l : List Column). plainLine tab (code "Q") l line) are)
+  read-is = ap (recordOf pairs) (said ∙ ap (λ (l : List Column). columnsLine tab (Lettered (code "Q")) l line) are)
 
   pub with-bad : (place : ℕ) → f ≡ fields.Bad place → noClaim ≡ claimWith line pairs
   with-bad place e = ap (λ (g : Fields). recordOf pairs (stored g zs)) (sym e) ∙ read-is
@@ -74,12 +79,17 @@ module _ (line : List ℕ) (pairs : ℕ) (many : pairsMost < pairs) where
   others next = fieldsAt tab feed (numberColumns (1 + 2 * pairs)) line next
 
   begun : claimWith line pairs ≡ recordOf pairs (cond (headed (code "Q") tab line) (toEnd line (onward (fieldAt number line 2 tab) others)) (wrong 0))
-  unfolding claimWith plainLine restAt fieldsAt
+  unfolding claimWith columnsLine headAt restAt fieldsAt
   begun =
       let all : fieldsOf pairs ≡ suc (suc (2 * pairs)) = omega arith in
       let but-row : 1 + 2 * pairs ≡ suc (2 * pairs) = omega arith in
-      ap (λ (n : ℕ). recordOf pairs (plainLine tab (code "Q") (numberColumns n) line)) all
+      ap (λ (n : ℕ). recordOf pairs (columnsLine tab (Lettered (code "Q")) (numberColumns n) line)) all
+      ∙ ap (recordOf pairs) (lettered (headed (code "Q") tab line))
       ∙ ap (λ (n : ℕ). recordOf pairs (cond (headed (code "Q") tab line) (toEnd line (onward (fieldAt number line 2 tab) (λ next. fieldsAt tab feed (numberColumns n) line next))) (wrong 0))) (sym but-row)
+    where
+      lettered : (t : Bool) → afterNumber (cond t (Value 0 2) (Bad 0)) (λ at. restAt tab (numberColumns (suc (suc (2 * pairs)))) line at) ≡ cond t (restAt tab (numberColumns (suc (suc (2 * pairs)))) line 2) (wrong 0)
+      lettered true = refl
+      lettered false = refl
 
   row-and-others : (row : ℤ) (v : Values) → recordOf pairs (toEnd line (push row v)) ≡ cond (areGood (toEnd line v)) (crowded row) noClaim
   row-and-others row (wrong place) = refl

@@ -15,7 +15,8 @@ use Rattle.kinds.specs.LineColumns.{Column, number}
 use Rattle.kinds.specs.Ranges.{atℤ}
 use Rattle.text.specs.Fields.{tab}
 use Rattle.columns.specs.Columns.{Values, values, wrong}
-use Rattle.columns.specs.ColumnLine.{plainLine}
+use Rattle.columns.specs.declared.Head.the-variants.{Lettered}
+use Rattle.columns.specs.ColumnLine.{columnsLine}
 use Rattle.corrections.specs.Corrections.{pieces}
 use Rattle.claims.specs.Claims.{pairsMost}
 
@@ -53,7 +54,7 @@ recordOf pairs (values fields next) = cond (leb pairs pairsMost) (claimRecord pa
 recordOf pairs (wrong place) = noClaim
 
 unfoldable pub claimWith : (line : List ℕ) → (pairs : ℕ) → List ℤ
-claimWith line pairs = recordOf pairs (plainLine tab (code "Q") (numberColumns (fieldsOf pairs)) line)
+claimWith line pairs = recordOf pairs (columnsLine tab (Lettered (code "Q")) (numberColumns (fieldsOf pairs)) line)
 
 -- a tab stands before each field, so a line of right form has as many pairs as its tabs say
 abbrev pub isTab : (line : List ℕ) → (i : ℕ) → ℕ

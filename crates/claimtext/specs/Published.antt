@@ -7,17 +7,27 @@ use lib.Dec.{ltb}
 use lib.IntN.{ℤ}
 use lib.ListN.{length}
 use Rattle.kinds.specs.Limits.{rowsMost, bytesMost}
+use Rattle.kinds.specs.LineColumns.{Column, signed}
 use Rattle.kinds.specs.Ranges.{atℤ}
 use Rattle.kinds.specs.Refusals.{Judged, passed, refused, then, tooLong}
+use Rattle.text.specs.Fields.{tab}
 use Rattle.text.specs.Left.{TextLeft, textLeft}
-use Rattle.text.specs.Written.{decimal, decimalℤ, lineText, linesText}
+use Rattle.text.specs.Written.{linesText}
+use Rattle.columns.specs.declared.Head.the-variants.{Indexed}
+use Rattle.columns.specs.ColumnText.{columnsText}
 use Rattle.table.specs.Table.{Table, judgeLent}
 use Rattle.states.specs.Rows.{Rows}
 use Rattle.claims.specs.Claims.{claimsOf, remaining}
 use Rattle.claimtext.specs.ClaimText.{claimsIn}
 
+-- the columns of a D line after its row
+abbrev pub publishedColumns : List Column
+publishedColumns =
+    signed  -- RAM, grains
+    ∷ []
+
 abbrev pub rowLine : (row : ℕ) → (ram : ℤ) → List ℕ
-rowLine row ram = lineText (code "D") (decimal row ∷ decimalℤ ram ∷ [])
+rowLine row ram = columnsText tab (Indexed (code "D") row) publishedColumns (ram ∷ [])
 
 -- .. of machine numbers, each of at most 20 bytes: letter, tabs and LF besides
 abbrev pub lineMost : ℕ

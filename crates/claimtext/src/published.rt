@@ -9,8 +9,12 @@ ghost use Rattle.text.specs.Put.{Put};
 ghost use Rattle.states.specs.Rows.{rowsWith};
 ghost use Rattle.claimtext.specs.Published.{rowLine, lineMost, publishedLine, publishedText};
 ghost use Rattle.claimtext.specs.Read.{unflagged};
+use columns::Head;
 use kinds::Refusal;
 use kinds::Written;
+
+// The columns of a D line after its row: the RAM.
+const COLUMNS: [u8; 1] = *b"s";
 
 // A line's letter, tabs and LF, and two machine numbers of at most 20 bytes each.
 pub const LINE_MOST: usize = 4 + 2 * 20;
@@ -48,12 +52,11 @@ fn line_length(rams: &[i64], states: &[u64], named: &[bool], row: usize) -> usiz
     0
 }
 
-// The letter, a tab before each field, the LF; and the fields.
 fn row_length(row: usize, ram: i64) -> usize
     ensures { λ r. ⌜ (r ≡ length (rowLine row ram)) × (r ≤ lineMost) ⌝ }
 {
-    let digits = text::put::digit_count(row as u64);
-    4 + digits + text::put::signed_length(ram)
+    let raw = [ram];
+    columns::write::line_length(Head::Indexed(b'D', row), &COLUMNS, &raw)
 }
 
 // Whether a row is kept and its flag is not set.
@@ -101,8 +104,6 @@ fn put_row(row: usize, ram: i64, out: &mut [u8], at: usize) -> usize
     requires { ⌜ at + length (rowLine row ram) ≤ length (now out) ⌝ }
     ensures { λ r. ⌜ Put (rowLine row ram) at (now (out .entry)) r (now (out .exit)) ⌝ }
 {
-    let next = text::put::put_byte(b'D', out, at);
-    let next = text::put::put_number_field(row as u64, out, next);
-    let next = text::put::put_signed_field(ram, out, next);
-    text::put::put_byte(b'\n', out, next)
+    let raw = [ram];
+    columns::write::put_line(b'\t', Head::Indexed(b'D', row), &COLUMNS, &raw, out, at)
 }

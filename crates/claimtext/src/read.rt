@@ -112,7 +112,13 @@ fn claim_in(line: &[u8], pairs: usize, fields: &mut [i64]) -> ClaimRecord
     ensures { λ r. ⌜ r ≡ claimWith (now (line .entry)) pairs ⌝ }
 {
     let n = 2 + 2 * pairs;
-    let found = columns::read::plain_line(b'\t', b'Q', &COLUMNS[..n], line, &mut fields[..n]);
+    let found = columns::read::line_at(
+        b'\t',
+        columns::Head::Lettered(b'Q'),
+        &COLUMNS[..n],
+        line,
+        &mut fields[..n],
+    );
     let Fields::End(_) = found else {
         return no_claim();
     };

@@ -7,29 +7,39 @@ use Rattle.numbers.specs.Ints.{minus}
 use Rattle.kinds.specs.LineColumns.{number, signed, share}
 use Rattle.text.specs.Written.{textOf, decimal, decimalℤ}
 use Rattle.text.specs.Fields.{tab, feed, dash, numberAt}
+use Rattle.columns.specs.declared.Head.the-variants.{Lettered, Indexed, Bare}
 use Rattle.columns.specs.Columns.{values, fieldAt, fieldsAt}
-use Rattle.columns.specs.ColumnLine.{indexAt, restAt, columnsLine}
-use Rattle.columns.specs.ColumnText.{fieldText, fieldsEnded, indexText, columnsText}
+use Rattle.columns.specs.ColumnLine.{headAt, restAt, columnsLine}
+use Rattle.columns.specs.ColumnText.{fieldText, fieldsEnded, indexText, headText, columnsText}
 use Rattle.columns.specs.Optional.{optionalLine, optionalText}
 
 -- index 0, the number 7, -5 and an R of "-", which a record keeps as -1: parted by tabs, and by semicolons
-pub dash-again : columnsText tab (code "C") (number ∷ signed ∷ share ∷ []) 0 (pos 7 ∷ minus 5 ∷ minus 1 ∷ []) ≡ code "C" ∷ tab ∷ 48 ∷ tab ∷ 55 ∷ tab ∷ dash ∷ 53 ∷ tab ∷ dash ∷ feed ∷ []
-unfolding columnsText indexText fieldsEnded fieldText decimal decimalℤ textOf
+pub dash-again : columnsText tab (Indexed (code "C") 0) (number ∷ signed ∷ share ∷ []) (pos 7 ∷ minus 5 ∷ minus 1 ∷ []) ≡ code "C" ∷ tab ∷ 48 ∷ tab ∷ 55 ∷ tab ∷ dash ∷ 53 ∷ tab ∷ dash ∷ feed ∷ []
+unfolding columnsText headText indexText fieldsEnded fieldText decimal decimalℤ textOf
 dash-again = refl
 
-pub other-separator : columnsText (code ";") (code "C") (number ∷ signed ∷ []) 0 (pos 7 ∷ minus 5 ∷ []) ≡ code "C" ∷ code ";" ∷ 48 ∷ code ";" ∷ 55 ∷ code ";" ∷ dash ∷ 53 ∷ feed ∷ []
-unfolding columnsText indexText fieldsEnded fieldText decimal decimalℤ textOf
+pub other-separator : columnsText (code ";") (Indexed (code "C") 0) (number ∷ signed ∷ []) (pos 7 ∷ minus 5 ∷ []) ≡ code "C" ∷ code ";" ∷ 48 ∷ code ";" ∷ 55 ∷ code ";" ∷ dash ∷ 53 ∷ feed ∷ []
+unfolding columnsText headText indexText fieldsEnded fieldText decimal decimalℤ textOf
 other-separator = refl
 
 -- index 0, the number 7, and two numbers that may be left out: left out, and 5 and 6
-pub left-out-again : optionalText tab (code "B") (number ∷ []) (number ∷ number ∷ []) 0 (pos 7 ∷ minus 1 ∷ minus 1 ∷ []) ≡ code "B" ∷ tab ∷ 48 ∷ tab ∷ 55 ∷ feed ∷ []
-unfolding columnsText indexText fieldsEnded fieldText decimal decimalℤ textOf
+pub left-out-again : optionalText tab (Indexed (code "B") 0) (number ∷ []) (number ∷ number ∷ []) (pos 7 ∷ minus 1 ∷ minus 1 ∷ []) ≡ code "B" ∷ tab ∷ 48 ∷ tab ∷ 55 ∷ feed ∷ []
+unfolding columnsText headText indexText fieldsEnded fieldText decimal decimalℤ textOf
 left-out-again = refl
 
-pub given-again : optionalText tab (code "B") (number ∷ []) (number ∷ number ∷ []) 0 (pos 7 ∷ pos 5 ∷ pos 6 ∷ []) ≡ code "B" ∷ tab ∷ 48 ∷ tab ∷ 55 ∷ tab ∷ 53 ∷ tab ∷ 54 ∷ feed ∷ []
-unfolding columnsText indexText fieldsEnded fieldText decimal decimalℤ textOf
+pub given-again : optionalText tab (Indexed (code "B") 0) (number ∷ []) (number ∷ number ∷ []) (pos 7 ∷ pos 5 ∷ pos 6 ∷ []) ≡ code "B" ∷ tab ∷ 48 ∷ tab ∷ 55 ∷ tab ∷ 53 ∷ tab ∷ 54 ∷ feed ∷ []
+unfolding columnsText headText indexText fieldsEnded fieldText decimal decimalℤ textOf
 given-again = refl
 
-pub left-out-read : optionalLine tab (code "B") (number ∷ []) (number ∷ number ∷ []) (code "B" ∷ tab ∷ 48 ∷ tab ∷ 55 ∷ feed ∷ []) 0 ≡ values (pos 7 ∷ minus 1 ∷ minus 1 ∷ []) 6
-unfolding optionalLine columnsLine indexAt restAt fieldsAt fieldAt numberAt
+pub left-out-read : optionalLine tab (Indexed (code "B") 0) (number ∷ []) (number ∷ number ∷ []) (code "B" ∷ tab ∷ 48 ∷ tab ∷ 55 ∷ feed ∷ []) ≡ values (pos 7 ∷ minus 1 ∷ minus 1 ∷ []) 6
+unfolding optionalLine columnsLine headAt restAt fieldsAt fieldAt numberAt
 left-out-read = refl
+
+-- a line without an index, and one without a letter
+pub lettered-again : columnsText tab (Lettered (code "H")) (number ∷ signed ∷ []) (pos 7 ∷ minus 5 ∷ []) ≡ code "H" ∷ tab ∷ 55 ∷ tab ∷ dash ∷ 53 ∷ feed ∷ []
+unfolding columnsText headText indexText fieldsEnded fieldText decimal decimalℤ textOf
+lettered-again = refl
+
+pub bare-again : columnsText (code ";") (Bare 0) (number ∷ signed ∷ []) (pos 7 ∷ minus 5 ∷ []) ≡ 48 ∷ code ";" ∷ 55 ∷ code ";" ∷ dash ∷ 53 ∷ feed ∷ []
+unfolding columnsText headText indexText fieldsEnded fieldText decimal decimalℤ textOf
+bare-again = refl

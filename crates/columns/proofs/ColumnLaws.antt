@@ -1,5 +1,5 @@
 -- The laws of `specs/Columns.antt` and `specs/ColumnLine.antt` that the reader of columns cites. No contract cites this file.
--- In order: values put before others; the first column left; the loop, `FieldsFilled`; letter and index; a whole line.
+-- In order: values put before others; the first column left; the loop, `FieldsFilled`; a line's head; a whole line; columns in two parts; a part of the code's columns.
 use mathlib.Core.Path.{_≡_, refl, sym, ap, _∙_}
 use mathlib.Core.Bool.{Bool, true, false, cond}
 use mathlib.Core.List.{List, [], _∷_, _++_, append-assoc, append-nil}
@@ -12,16 +12,13 @@ use lib.IntN.{ℤ}
 use lib.ListN.{length, getD, take, drop, set, length-set, length-drop, drop-of-length-le}
 use lib.Seq.{drop-cons, take-suc-set, take-all}
 use borrow.Author.Tests.{le-leb, lt-leb, eq-eqb, ne-eqb}
-use Rattle.numbers.proofs.ListLaws.{part-long}
-use Rattle.kinds.specs.Limits.{zonesMost}
-use Rattle.kinds.specs.LineColumns.{Column, rowColumns, rowItems, factorColumns, sheetColumns, sheetFactors, columnOf, columnsOf}
-use Rattle.text.specs.declared.Number.{Number}
+use Rattle.kinds.specs.LineColumns.{Column, columnOf, columnsOf}
 use Rattle.text.specs.declared.Number.the-variants.{Value, Bad}
 use Rattle.text.specs.declared.Signed.{Signed}
 use Rattle.text.specs.declared.Signed.the-variants.{Whole, Wrong}
-use Rattle.text.specs.Fields.{feed, numberAt}
-use Rattle.text.specs.Line.{headed}
-use Rattle.columns.specs.ColumnLine.{ownIndex, indexAt, toEnd, restAt, afterNumber, headAt, columnsLine, plainLine}
+use Rattle.text.specs.Fields.{feed}
+use Rattle.columns.specs.ColumnLine.{ownIndex, begun, numbered, headAt, toEnd, restAt, columnsLine}
+use Rattle.columns.specs.declared.Head.{Head}
 use Rattle.columns.specs.declared.Fields.{Fields}
 use Rattle.columns.specs.declared.Fields.the-variants as fields
 use Rattle.columns.specs.Columns.{stored, fieldAt, Values, values, wrong, push, onward, stopOf, fieldsAt}
@@ -98,15 +95,15 @@ module _ (columns : List ℕ) (sep last : ℕ) (line : List ℕ) where
                 ∙ step (Whole z next) q;
           }
 
--- ---- letter and index
-module _ (sep letter : ℕ) (line : List ℕ) (i : ℕ) where
-  pub letter-bad : headed letter sep line ≡ false → Bad 0 ≡ indexAt sep letter line i
-  unfolding indexAt
-  letter-bad e = rw e
+-- ---- a line's head
+module _ (sep : ℕ) (head : Head) (line : List ℕ) where
+  pub head-bad : begun sep head line ≡ false → Bad 0 ≡ headAt sep head line
+  unfolding headAt
+  head-bad e = rw e
 
-  pub index-goes : headed letter sep line ≡ true → ownIndex 2 i (numberAt line 2 sep) ≡ indexAt sep letter line i
-  unfolding indexAt
-  index-goes e = rw e
+  pub head-goes : begun sep head line ≡ true → numbered sep head line ≡ headAt sep head line
+  unfolding headAt
+  head-goes e = rw e
 
 -- an index as it was found
 module _ (first i index next : ℕ) where
@@ -132,12 +129,12 @@ module _ (sep : ℕ) (columns : List Column) (line : List ℕ) where
       unfolding restAt
       rest-end h = rw (← q, le-leb (length line) next h)
 
-  module _ (letter i : ℕ) where
-    pub line-bad : (place : ℕ) → indexAt sep letter line i ≡ Bad place → wrong place ≡ columnsLine sep letter columns line i
+  module _ (head : Head) where
+    pub line-bad : (place : ℕ) → headAt sep head line ≡ Bad place → wrong place ≡ columnsLine sep head columns line
     unfolding columnsLine
     line-bad place q = rw q
 
-    pub line-goes : (index at : ℕ) (v : Values) → indexAt sep letter line i ≡ Value index at → v ≡ restAt sep columns line at → v ≡ columnsLine sep letter columns line i
+    pub line-goes : (index at : ℕ) (v : Values) → headAt sep head line ≡ Value index at → v ≡ restAt sep columns line at → v ≡ columnsLine sep head columns line
     unfolding columnsLine
     line-goes index at v q e = rw q e
 
@@ -172,30 +169,21 @@ module _ (sep last : ℕ) (line : List ℕ) (d : Column) (ds : List Column) wher
       go ih (Whole z next) = ap (push z) (ih next) ∙ push-chain z (fieldsAt sep sep cs line next) rest
       go ih (Wrong place) = refl
 
-module _ (sep : ℕ) (cs : List Column) (d : Column) (ds : List Column) (line : List ℕ) where
-  -- the first part of a line, after its index, and then the second to the line's end
-  parts-bad : (n : Number) (place : ℕ) → wrong place ≡ afterNumber n (λ at. fieldsAt sep sep cs line at) → wrong place ≡ afterNumber n (λ at. restAt sep (cs ++ (d ∷ ds)) line at)
-  unfolding restAt
-  parts-bad (Bad p) place e = e
-  parts-bad (Value v at) place e = fielded (fieldsAt sep sep cs line at) e ∙ ap (toEnd line) (sym (fields-append sep feed line d ds cs at))
-    where
-      clash : (zs : List ℤ) (n : ℕ) → wrong place ≡ values zs n → ⊥
-      clash zs n e = let x : _≡_ {A = ℕ} 0 1 = cc in omega arith
+module _ (sep : ℕ) (cs : List Column) (d : Column) (ds : List Column) (line : List ℕ) (at : ℕ) where
+  -- the first part, and then the second to the line's end
+  abbrev both : Values → Values
+  both v = chain v (λ next. fieldsAt sep feed (d ∷ ds) line next)
 
-      fielded : (v : Values) → wrong place ≡ v → wrong place ≡ toEnd line (chain v (λ next. fieldsAt sep feed (d ∷ ds) line next))
-      fielded (values zs n) e = absurd (clash zs n e)
-      fielded (wrong p) e = e
-
-  parts-more : (n : Number) (zs : List ℤ) (at : ℕ) (v : Values) → values zs at ≡ afterNumber n (λ p. fieldsAt sep sep cs line p) → v ≡ restAt sep (d ∷ ds) line at → pushAll zs v ≡ afterNumber n (λ p. restAt sep (cs ++ (d ∷ ds)) line p)
+  parts-bad : (place : ℕ) → wrong place ≡ fieldsAt sep sep cs line at → wrong place ≡ restAt sep (cs ++ (d ∷ ds)) line at
   unfolding restAt
-  parts-more (Bad p) zs at v e q = absurd (clash p e)
-    where
-      clash : (place : ℕ) → values zs at ≡ wrong place → ⊥
-      clash place e = let x : _≡_ {A = ℕ} 0 1 = cc in omega arith
-  parts-more (Value x p) zs at v e q =
-      ap (pushAll zs) q ∙ ended-last (fieldsAt sep feed (d ∷ ds) line at)
-      ∙ ap (λ (w : Values). toEnd line (chain w (λ next. fieldsAt sep feed (d ∷ ds) line next))) e
-      ∙ ap (toEnd line) (sym (fields-append sep feed line d ds cs p))
+  parts-bad place e = ap (λ (v : Values). toEnd line (both v)) e ∙ ap (toEnd line) (sym (fields-append sep feed line d ds cs at))
+
+  parts-more : (zs : List ℤ) (next : ℕ) (v : Values) → values zs next ≡ fieldsAt sep sep cs line at → v ≡ restAt sep (d ∷ ds) line next → pushAll zs v ≡ restAt sep (cs ++ (d ∷ ds)) line at
+  unfolding restAt
+  parts-more zs next v e q =
+      ap (pushAll zs) q ∙ ended-last (fieldsAt sep feed (d ∷ ds) line next)
+      ∙ ap (λ (w : Values). toEnd line (both w)) e
+      ∙ ap (toEnd line) (sym (fields-append sep feed line d ds cs at))
     where
       ended-last : (w : Values) → pushAll zs (toEnd line w) ≡ toEnd line (pushAll zs w)
       ended-last (wrong place) = refl
@@ -205,93 +193,28 @@ module _ (sep : ℕ) (cs : List Column) (d : Column) (ds : List Column) (line : 
           sure true = refl
           sure false = refl
 
-module _ (sep letter : ℕ) (columns : List Column) (line : List ℕ) (i : ℕ) where
-  pub head-bad : (place : ℕ) → indexAt sep letter line i ≡ Bad place → wrong place ≡ headAt sep letter columns line i
-  unfolding headAt
-  head-bad place q = rw q
-
-  pub head-goes : (index at : ℕ) (v : Values) → indexAt sep letter line i ≡ Value index at → v ≡ fieldsAt sep sep columns line at → v ≡ headAt sep letter columns line i
-  unfolding headAt
-  head-goes index at v q e = rw q e
-
--- ---- a line that has no index
-module _ (sep letter : ℕ) (columns : List Column) (line : List ℕ) where
-  pub plain-bad : headed letter sep line ≡ false → wrong 0 ≡ plainLine sep letter columns line
-  unfolding plainLine
-  plain-bad e = rw e
-
-  pub plain-goes : (v : Values) → headed letter sep line ≡ true → v ≡ restAt sep columns line 2 → v ≡ plainLine sep letter columns line
-  unfolding plainLine
-  plain-goes v e q = rw e q
-
--- ---- the same letters, a list of columns in the code
-abbrev pub repeated : (n b : ℕ) → List ℕ
-repeated zero b = []
-repeated (suc n) b = b ∷ repeated n b
-
--- .. which name the columns cs makes
-letters-front : (b : ℕ) (cs : ℕ → List Column) → cs 0 ≡ [] → ((n : ℕ) → cs (suc n) ≡ columnOf b ∷ cs n) → (n m : ℕ) → n ≤ m → columnsOf (take n (repeated m b)) ≡ cs n
-letters-front b cs none more zero m h = sym none
-letters-front b cs none more (suc n) zero h = absurd (not-suc-le-zero h)
-letters-front b cs none more (suc n) (suc m) h = ap (λ (l : List Column). columnOf b ∷ l) (letters-front b cs none more n m (omega arith)) ∙ sym (more n)
-
--- the columns of a row as the code has them: its values, and a factor for each zone that a table may have
-abbrev rowLetters : List ℕ
-rowLetters = 110 ∷ 110 ∷ 115 ∷ 115 ∷ 114 ∷ 110 ∷ 110 ∷ repeated zonesMost 115
-
--- .. and in the planners' sheet
-abbrev sheetLetters : List ℕ
-sheetLetters = 112 ∷ 112 ∷ 113 ∷ 113 ∷ 114 ∷ 112 ∷ 112 ∷ repeated zonesMost 102
-
--- seven letters, and then one letter again and again
-module _ (a b c d e f g x : ℕ) (cs : ℕ → List Column) (none : cs 0 ≡ []) (more : (n : ℕ) → cs (suc n) ≡ columnOf x ∷ cs n) (n : ℕ) (h : n ≤ zonesMost) where
-  abbrev letters : List ℕ
-  letters = a ∷ b ∷ c ∷ d ∷ e ∷ f ∷ g ∷ repeated zonesMost x
-
-  all-letters : columnsOf (take (rowItems + n) letters) ≡ columnsOf (a ∷ b ∷ c ∷ d ∷ e ∷ f ∷ g ∷ []) ++ cs n
-  all-letters =
-      let q : rowItems + n ≡ suc (suc (suc (suc (suc (suc (suc n)))))) = omega arith in
-      ap (λ (k : ℕ). columnsOf (take k letters)) q ∙ ap (λ (l : List Column). columnsOf (a ∷ b ∷ c ∷ d ∷ e ∷ f ∷ g ∷ []) ++ l) (letters-front x cs none more n zonesMost h)
-
-  last-letters : columnsOf (take (rowItems + n - rowItems) (drop rowItems letters)) ≡ cs n
-  last-letters =
-      let q : rowItems + n - rowItems ≡ n = omega arith in
-      ap (λ (k : ℕ). columnsOf (take k (drop rowItems letters))) q ∙ letters-front x cs none more n zonesMost h
-
-  last-long : length (take (rowItems + n - rowItems) (drop rowItems letters)) ≡ n
-  last-long = part-long letters rowItems n (omega arith)
-
-module _ (n : ℕ) (h : n ≤ zonesMost) where
-  pub row-letters : columnsOf (take (rowItems + n) rowLetters) ≡ rowColumns ++ factorColumns n
-  row-letters = all-letters 110 110 115 115 114 110 110 115 factorColumns refl (λ n. refl) n h
-
-  -- .. the part of it that n factors have
-  pub factor-letters : columnsOf (take (rowItems + n - rowItems) (drop rowItems rowLetters)) ≡ factorColumns n
-  factor-letters = last-letters 110 110 115 115 114 110 110 115 factorColumns refl (λ n. refl) n h
-
-  pub factor-letters-long : length (take (rowItems + n - rowItems) (drop rowItems rowLetters)) ≡ n
-  factor-letters-long = last-long 110 110 115 115 114 110 110 115 factorColumns refl (λ n. refl) n h
-
-  pub sheet-letters : columnsOf (take (rowItems + n) sheetLetters) ≡ sheetColumns ++ sheetFactors n
-  sheet-letters = all-letters 112 112 113 113 114 112 112 102 sheetFactors refl (λ n. refl) n h
-
-  pub sheet-factors : columnsOf (take (rowItems + n - rowItems) (drop rowItems sheetLetters)) ≡ sheetFactors n
-  sheet-factors = last-letters 112 112 113 113 114 112 112 102 sheetFactors refl (λ n. refl) n h
-
-  pub sheet-factors-long : length (take (rowItems + n - rowItems) (drop rowItems sheetLetters)) ≡ n
-  sheet-factors-long = last-long 112 112 113 113 114 112 112 102 sheetFactors refl (λ n. refl) n h
-
--- .. as two parts of a line: what was stored of each
+-- .. what was stored of each
 stored-parts : (f : Fields) (zs ys : List ℤ) → pushAll zs (stored f ys) ≡ stored f (zs ++ ys)
 stored-parts (fields.End next) zs ys = refl
 stored-parts (fields.Bad place) zs ys = refl
 
 -- .. by the code's second part
-module _ (sep : ℕ) (cs : List Column) (line : List ℕ) (n : Number) where
-  pub part-bad : (bs : List ℕ) → 0 < length bs → (place : ℕ) → wrong place ≡ afterNumber n (λ at. fieldsAt sep sep cs line at) → wrong place ≡ afterNumber n (λ at. restAt sep (cs ++ columnsOf bs) line at)
+module _ (sep : ℕ) (cs : List Column) (line : List ℕ) (at : ℕ) where
+  pub part-bad : (bs : List ℕ) → 0 < length bs → (place : ℕ) → wrong place ≡ fieldsAt sep sep cs line at → wrong place ≡ restAt sep (cs ++ columnsOf bs) line at
   part-bad [] some place e = absurd (not-suc-le-zero some)
-  part-bad (b ∷ bs) some place e = parts-bad sep cs (columnOf b) (columnsOf bs) line n place e
+  part-bad (b ∷ bs) some place e = parts-bad sep cs (columnOf b) (columnsOf bs) line at place e
 
-  pub part-more : (bs : List ℕ) → 0 < length bs → (zs ys : List ℤ) (at : ℕ) (f : Fields) → values zs at ≡ afterNumber n (λ p. fieldsAt sep sep cs line p) → stored f ys ≡ restAt sep (columnsOf bs) line at → stored f (zs ++ ys) ≡ afterNumber n (λ p. restAt sep (cs ++ columnsOf bs) line p)
-  part-more [] some zs ys at f e q = absurd (not-suc-le-zero some)
-  part-more (b ∷ bs) some zs ys at f e q = sym (stored-parts f zs ys) ∙ parts-more sep cs (columnOf b) (columnsOf bs) line n zs at (stored f ys) e q
+  pub part-more : (bs : List ℕ) → 0 < length bs → (zs ys : List ℤ) (next : ℕ) (f : Fields) → values zs next ≡ fieldsAt sep sep cs line at → stored f ys ≡ restAt sep (columnsOf bs) line next → stored f (zs ++ ys) ≡ restAt sep (cs ++ columnsOf bs) line at
+  part-more [] some zs ys next f e q = absurd (not-suc-le-zero some)
+  part-more (b ∷ bs) some zs ys next f e q = sym (stored-parts f zs ys) ∙ parts-more sep cs (columnOf b) (columnsOf bs) line at zs next (stored f ys) e q
+
+-- ---- a part of the code's columns
+pub columns-take : (n : ℕ) (bs : List ℕ) → columnsOf (take n bs) ≡ take n (columnsOf bs)
+columns-take zero bs = refl
+columns-take (suc n) [] = refl
+columns-take (suc n) (b ∷ bs) = ap (λ (l : List Column). columnOf b ∷ l) (columns-take n bs)
+
+pub columns-drop : (n : ℕ) (bs : List ℕ) → columnsOf (drop n bs) ≡ drop n (columnsOf bs)
+columns-drop zero bs = refl
+columns-drop (suc n) [] = refl
+columns-drop (suc n) (b ∷ bs) = columns-drop n bs

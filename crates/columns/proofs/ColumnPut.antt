@@ -20,8 +20,10 @@ use Rattle.text.specs.Point.{pointedℤ}
 use Rattle.text.specs.Put.{Put}
 use Rattle.text.proofs.NumberTrip.{zero-one}
 use Rattle.text.proofs.PutLaws.{put-none, put-more, put-room}
+use Rattle.columns.specs.declared.Head.{Head}
+use Rattle.columns.specs.declared.Head.the-variants.{Lettered, Indexed, Bare}
 use Rattle.columns.specs.Columns.{stopOf}
-use Rattle.columns.specs.ColumnText.{numbersFrom, numbersOf, fieldText, fieldsEnded, fieldsLength, lineLength, indexText, columnsText, plainText}
+use Rattle.columns.specs.ColumnText.{numbersFrom, numbersOf, fieldText, fieldsEnded, fieldsLength, indexText, headText, headLength, columnsText, lineLength}
 use Rattle.columns.proofs.ColumnLaws.{stopByLeft, stop-is}
 
 -- ---- one field's text
@@ -158,13 +160,23 @@ fields-long sep last (c ∷ cs) zs =
     let f = fieldText c (getD zs 0 (pos 0)) in
     length-append f (stopOf sep last cs ∷ fieldsEnded sep last cs (drop 1 zs)) ∙ omega (arith, fields-long sep last cs (drop 1 zs))
 
-pub index-long : (sep letter i : ℕ) → length (indexText sep letter i) ≡ 3 + length (decimal i)
+pub index-long : (sep i : ℕ) → length (indexText sep i) ≡ length (decimal i) + 1
 unfolding indexText
-index-long sep letter i = omega (arith, length-append (decimal i) (sep ∷ []))
+index-long sep i = length-append (decimal i) (sep ∷ [])
 
-pub line-long : (sep letter : ℕ) (cs : List Column) (i : ℕ) (zs : List ℤ) → length (columnsText sep letter cs i zs) ≡ lineLength cs i zs
-unfolding columnsText
-line-long sep letter cs i zs = length-append (indexText sep letter i) (fieldsEnded sep feed cs zs) ∙ omega (arith, index-long sep letter i, fields-long sep feed cs zs)
+pub head-long : (sep : ℕ) (head : Head) → length (headText sep head) ≡ headLength head
+unfolding headText
+head-long sep (Lettered letter) = refl
+head-long sep (Indexed letter i) = omega (arith, index-long sep i)
+head-long sep (Bare i) = omega (arith, index-long sep i)
+
+module _ (sep : ℕ) (head : Head) (cs : List Column) (zs : List ℤ) where
+  pub line-sum : length (columnsText sep head cs zs) ≡ length (headText sep head) + length (fieldsEnded sep feed cs zs)
+  unfolding columnsText
+  line-sum = length-append (headText sep head) (fieldsEnded sep feed cs zs)
+
+  pub line-long : length (columnsText sep head cs zs) ≡ lineLength head cs zs
+  line-long = omega (arith, line-sum, head-long sep head, fields-long sep feed cs zs)
 
 -- ---- two parts
 module _ (sep last : ℕ) (d : Column) (ds : List Column) (ys : List ℤ) where
@@ -181,33 +193,28 @@ module _ (sep last : ℕ) (d : Column) (ds : List Column) (ys : List ℤ) where
       stop [] = refl
       stop (x ∷ xs) = refl
 
-pub fields-parts : (sep : ℕ) (cs : List Column) (bs : List ℕ) (zs ys : List ℤ) → 0 < length bs → length zs ≡ length cs
+fields-parts : (sep : ℕ) (cs : List Column) (bs : List ℕ) (zs ys : List ℤ) → 0 < length bs → length zs ≡ length cs
     → fieldsEnded sep feed (cs ++ columnsOf bs) (zs ++ ys) ≡ fieldsEnded sep sep cs zs ++ fieldsEnded sep feed (columnsOf bs) ys
 fields-parts sep cs [] zs ys some e = absurd (not-suc-le-zero some)
 fields-parts sep cs (b ∷ bs) zs ys some e = text-parts sep feed (columnOf b) (columnsOf bs) ys cs zs e
-
-pub parts-text : (sep letter : ℕ) (cs : List Column) (bs : List ℕ) (i : ℕ) (zs ys : List ℤ) → 0 < length bs → length zs ≡ length cs
-    → columnsText sep letter (cs ++ columnsOf bs) i (zs ++ ys) ≡ (indexText sep letter i ++ fieldsEnded sep sep cs zs) ++ fieldsEnded sep feed (columnsOf bs) ys
-unfolding columnsText
-parts-text sep letter cs bs i zs ys some e =
-    ap (λ (l : List ℕ). indexText sep letter i ++ l) (fields-parts sep cs bs zs ys some e)
-    ∙ sym (append-assoc (indexText sep letter i) (fieldsEnded sep sep cs zs) (fieldsEnded sep feed (columnsOf bs) ys))
 
 pub columns-long : (bs : List ℕ) → length (columnsOf bs) ≡ length bs
 columns-long [] = refl
 columns-long (b ∷ bs) = ap suc (columns-long bs)
 
-pub line-sum : (sep letter : ℕ) (cs : List Column) (i : ℕ) (zs : List ℤ) → length (columnsText sep letter cs i zs) ≡ length (indexText sep letter i) + length (fieldsEnded sep feed cs zs)
-unfolding columnsText
-line-sum sep letter cs i zs = length-append (indexText sep letter i) (fieldsEnded sep feed cs zs)
+module _ (sep : ℕ) (head : Head) (cs : List Column) (bs : List ℕ) (zs ys : List ℤ) (some : 0 < length bs) (long : length zs ≡ length cs) where
+  abbrev front : List ℕ
+  front = fieldsEnded sep sep cs zs
 
-pub parts-sum : (sep letter : ℕ) (cs : List Column) (bs : List ℕ) (i : ℕ) (zs ys : List ℤ) → 0 < length bs → length zs ≡ length cs
-    → length (columnsText sep letter (cs ++ columnsOf bs) i (zs ++ ys)) ≡ length (indexText sep letter i) + length (fieldsEnded sep sep cs zs) + length (fieldsEnded sep feed (columnsOf bs) ys)
-parts-sum sep letter cs bs i zs ys some e =
-    let x = indexText sep letter i in
-    let f = fieldsEnded sep sep cs zs in
-    let g = fieldsEnded sep feed (columnsOf bs) ys in
-    ap length (parts-text sep letter cs bs i zs ys some e) ∙ length-append (x ++ f) g ∙ ap (λ (n : ℕ). n + length g) (length-append x f)
+  abbrev back : List ℕ
+  back = fieldsEnded sep feed (columnsOf bs) ys
+
+  pub parts-text : columnsText sep head (cs ++ columnsOf bs) (zs ++ ys) ≡ (headText sep head ++ front) ++ back
+  unfolding columnsText
+  parts-text = ap (λ (l : List ℕ). headText sep head ++ l) (fields-parts sep cs bs zs ys some long) ∙ sym (append-assoc (headText sep head) front back)
+
+  pub parts-sum : length (columnsText sep head (cs ++ columnsOf bs) (zs ++ ys)) ≡ length (headText sep head) + length front + length back
+  parts-sum = ap length parts-text ∙ length-append (headText sep head ++ front) back ∙ ap (λ (n : ℕ). n + length back) (length-append (headText sep head) front)
 
 pub length-parts : (cs ds : List Column) (zs ys : List ℤ) → length zs ≡ length cs → fieldsLength (cs ++ ds) (zs ++ ys) ≡ fieldsLength cs zs + fieldsLength ds ys
 unfolding fieldsLength
@@ -215,10 +222,6 @@ length-parts [] ds [] ys e = sym (zero-add (fieldsLength ds ys))
 length-parts [] ds (z ∷ zs) ys e = absurd (omega arith)
 length-parts (c ∷ cs) ds [] ys e = absurd (omega arith)
 length-parts (c ∷ cs) ds (z ∷ zs) ys e = omega (arith, length-parts cs ds zs ys (omega arith))
-
-pub plain-long : (sep letter : ℕ) (cs : List Column) (zs : List ℤ) → length (plainText sep letter cs zs) ≡ 2 + fieldsLength cs zs
-unfolding plainText
-plain-long sep letter cs zs = omega (arith, fields-long sep feed cs zs)
 
 -- ---- a raw record by its numbers
 numbers-from : (cs : List Column) (k : ℕ) (raw : List ℤ) → length raw ≡ k + length cs → numbersFrom k cs raw ≡ drop k raw

@@ -1,6 +1,6 @@
 -- The round trip of columns, both ways and over any list of them: what was read is what stands there, and what is written reads as itself. No contract cites this file.
 -- `Ends` is all that is asked of the byte that parts the fields: it is not 0, and no digit. For a line to be one line it is no LF either.
--- In order: what is kept of a column; one field; fields; letter and index; a whole line, and one that is judged; a line that has no index; two parts.
+-- In order: what is kept of a column; one field; fields; a line's head; a whole line, and one that is judged; two parts.
 use mathlib.Core.Path.{_≡_, refl, sym, ap, ap₂, subst, _∙_}
 use mathlib.Core.Bool.{Bool, true, false, cond, false≢true}
 use mathlib.Core.List.{List, [], _∷_, _++_, append-assoc, append-nil}
@@ -27,9 +27,11 @@ use Rattle.text.proofs.PointTrip.{point-read, point-written, point-rest, signed
 use Rattle.text.proofs.ChainLaws.{holds-is, no-form, no-range, headed-line}
 use Rattle.text.proofs.LineLaws.{noFeed, line-past}
 use Rattle.text.proofs.WrittenLaws.{ended-text, decimal-no-feed, decimalℤ-no-feed, share-no-feed}
+use Rattle.columns.specs.declared.Head.{Head}
+use Rattle.columns.specs.declared.Head.the-variants.{Lettered, Indexed, Bare}
 use Rattle.columns.specs.Columns.{fieldAt, Values, values, wrong, push, onward, stopOf, fieldsAt}
-use Rattle.columns.specs.ColumnText.{fieldText, fieldsEnded, indexText, columnsText, plainText}
-use Rattle.columns.specs.ColumnLine.{ownIndex, indexAt, toEnd, restAt, afterNumber, columnsLine, plainLine, judged}
+use Rattle.columns.specs.ColumnText.{fieldText, fieldsEnded, indexText, headText, columnsText}
+use Rattle.columns.specs.ColumnLine.{ownIndex, indexAt, begun, numbered, headAt, toEnd, restAt, afterNumber, columnsLine, judged}
 
 -- ---- what is kept of a column
 abbrev pub Kept : Column → ℤ → Type 0
@@ -210,7 +212,7 @@ module _ (sep last : ℕ) (s : Ends sep) (l : Ends last) (line rest : List ℕ) 
       let w = fields-written cs zs (f .next) (k .1) (f .then) in
       record { next = w .next; is = rw (f .is, w .is); then = w .then }
 
--- ---- letter and index
+-- ---- a line's head
 pub tab-ends : Ends tab
 tab-ends = record { some = omega arith; apart = refl }
 
@@ -223,100 +225,138 @@ no-value place v n e = let x : _≡_ {A = ℕ} 0 1 = cc in zero-one x
 pub value-is : (v w m n : ℕ) → _≡_ {A = Number} (Value v m) (Value w n) → (v ≡ w) × (m ≡ n)
 value-is v w m n e = (cc, cc)
 
-pub record IndexRead (sep letter : ℕ) (line : List ℕ) (i at : ℕ) : Type 0 where
-  pub here : line ≡ indexText sep letter i ++ drop at line
-  pub small : i < 10 ^ 10
+-- an index from a place on
+record IndexRead (sep : ℕ) (line : List ℕ) (i first at : ℕ) : Type 0 where
+  here : drop first line ≡ indexText sep i ++ drop at line
+  small : i < 10 ^ 10
 
-module _ (sep letter : ℕ) (line : List ℕ) (i v at : ℕ) where
-  pub index-read : indexAt sep letter line i ≡ Value v at → IndexRead sep letter line i at
-  unfolding indexAt indexText
-  index-read e = lettered (headed letter sep line) refl e
+index-read : (sep first : ℕ) (line : List ℕ) (i v at : ℕ) → indexAt sep first line i ≡ Value v at → IndexRead sep line i first at
+unfolding indexText
+index-read sep first line i v at e = numbered (numberAt line first sep) refl e
+  where
+    own : (index next : ℕ) → numberAt line first sep ≡ Value index next → (t : Bool) → eqb index i ≡ t → cond t (Value index next) (Bad first) ≡ Value v at → IndexRead sep line i first at
+    own index next q false k e = absurd (no-value first v at e)
+    own index next q true k e =
+        let r = number-read line first sep index next (sym q) in
+        let x : index ≡ i = eqb-true index i k in
+        let w = value-is index v next at e in
+        record {
+          here = r .here ∙ ap₂ (λ (n m : ℕ). decimal n ++ (sep ∷ drop m line)) x (w .1) ∙ sym (append-assoc (decimal i) (sep ∷ []) (drop at line));
+          small = rw x at (r .small);
+        }
+
+    numbered : (n : Number) → numberAt line first sep ≡ n → ownIndex first i n ≡ Value v at → IndexRead sep line i first at
+    numbered (Bad place) q e = absurd (no-value place v at e)
+    numbered (Value index next) q e = own index next q (eqb index i) refl e
+
+-- what is asked of a head to be read again: an index has ten digits at most
+abbrev pub Small : Head → Type 0
+Small (Lettered letter) = Unit {0}
+Small (Indexed letter i) = i < 10 ^ 10
+Small (Bare i) = i < 10 ^ 10
+
+record HeadRead (sep : ℕ) (head : Head) (line : List ℕ) (at : ℕ) : Type 0 where
+  here : line ≡ headText sep head ++ drop at line
+  small : Small head
+
+module _ (sep : ℕ) (line : List ℕ) (v at : ℕ) where
+  numbered-read : (head : Head) → begun sep head line ≡ true → numbered sep head line ≡ Value v at → HeadRead sep head line at
+  unfolding headText
+  numbered-read (Lettered letter) h e = record { here = headed-line letter sep line h ∙ ap (λ (n : ℕ). letter ∷ sep ∷ drop n line) (value-is 0 v 2 at e .1); small = tt }
+  numbered-read (Indexed letter i) h e =
+      let r = index-read sep 2 line i v at e in
+      record { here = headed-line letter sep line h ∙ ap (λ (l : List ℕ). letter ∷ sep ∷ l) (r .here); small = r .small }
+  numbered-read (Bare i) h e = let r = index-read sep 0 line i v at e in record { here = r .here; small = r .small }
+
+  head-read : (head : Head) → headAt sep head line ≡ Value v at → HeadRead sep head line at
+  unfolding headAt
+  head-read head e = go (begun sep head line) refl e
     where
-      own : headed letter sep line ≡ true → (index next : ℕ) → numberAt line 2 sep ≡ Value index next → (t : Bool) → eqb index i ≡ t → cond t (Value index next) (Bad 2) ≡ Value v at → IndexRead sep letter line i at
-      own h index next q false k e = absurd (no-value 2 v at e)
-      own h index next q true k e =
-          let r = number-read line 2 sep index next (sym q) in
-          let x : index ≡ i = eqb-true index i k in
-          let w = value-is index v next at e in
-          record {
-            here = headed-line letter sep line h ∙ ap (λ (l : List ℕ). letter ∷ sep ∷ l)
-                (r .here ∙ ap₂ (λ (n m : ℕ). decimal n ++ (sep ∷ drop m line)) x (w .1) ∙ sym (append-assoc (decimal i) (sep ∷ []) (drop at line)));
-            small = rw x at (r .small);
-          }
+      go : (t : Bool) → begun sep head line ≡ t → cond t (numbered sep head line) (Bad 0) ≡ Value v at → HeadRead sep head line at
+      go false h e = absurd (no-value 0 v at e)
+      go true h e = numbered-read head h e
 
-      numbered : headed letter sep line ≡ true → (n : Number) → numberAt line 2 sep ≡ n → ownIndex 2 i n ≡ Value v at → IndexRead sep letter line i at
-      numbered h (Bad place) q e = absurd (no-value place v at e)
-      numbered h (Value index next) q e = own h index next q (eqb index i) refl e
-
-      lettered : (t : Bool) → headed letter sep line ≡ t → cond t (ownIndex 2 i (numberAt line 2 sep)) (Bad 0) ≡ Value v at → IndexRead sep letter line i at
-      lettered false h e = absurd (no-value 0 v at e)
-      lettered true h e = numbered h (numberAt line 2 sep) refl e
-
-pub headed-is : (sep letter : ℕ) (s : List ℕ) → headed letter sep (letter ∷ sep ∷ s) ≡ true
+headed-is : (sep letter : ℕ) (s : List ℕ) → headed letter sep (letter ∷ sep ∷ s) ≡ true
 headed-is sep letter s = rw (le-leb 2 (suc (suc (length s))) (omega arith), eq-eqb letter letter refl, eq-eqb sep sep refl)
 
-pub record IndexWritten (sep letter : ℕ) (line : List ℕ) (i : ℕ) (rest : List ℕ) : Type 0 where
-  pub next : ℕ
-  pub is : indexAt sep letter line i ≡ Value i next
-  pub then : drop next line ≡ rest
+record IndexWritten (sep first : ℕ) (line : List ℕ) (i : ℕ) (rest : List ℕ) : Type 0 where
+  next : ℕ
+  is : indexAt sep first line i ≡ Value i next
+  then : drop next line ≡ rest
 
-pub index-written : (sep letter i : ℕ) (rest : List ℕ) → isDigit sep ≡ false → i < 10 ^ 10 → IndexWritten sep letter (indexText sep letter i ++ rest) i rest
-unfolding indexAt indexText
-index-written sep letter i rest apart small =
-    let line = letter ∷ sep ∷ ((decimal i ++ (sep ∷ [])) ++ rest) in
-    let here : drop 2 line ≡ decimal i ++ (sep ∷ rest) = append-assoc (decimal i) (sep ∷ []) rest in
+index-written : (sep first : ℕ) (line : List ℕ) (i : ℕ) (rest : List ℕ) → drop first line ≡ indexText sep i ++ rest → isDigit sep ≡ false → i < 10 ^ 10 → IndexWritten sep first line i rest
+unfolding indexText
+index-written sep first line i rest e apart small =
+    let here : drop first line ≡ decimal i ++ (sep ∷ rest) = e ∙ append-assoc (decimal i) (sep ∷ []) rest in
     record {
-      next = 2 + length (decimal i) + 1;
-      is = rw (headed-is sep letter ((decimal i ++ (sep ∷ [])) ++ rest), number-written line 2 sep i rest here small apart, eq-eqb i i refl);
-      then = number-rest line 2 sep i rest here;
+      next = first + length (decimal i) + 1;
+      is = rw (number-written line first sep i rest here small apart, eq-eqb i i refl);
+      then = number-rest line first sep i rest here;
     }
 
--- ---- a whole line
-pub record LineRead (sep letter : ℕ) (cs : List Column) (line : List ℕ) (i : ℕ) (zs : List ℤ) : Type 0 where
-  pub here : line ≡ columnsText sep letter cs i zs
-  pub kept : AllKept cs zs
-  pub small : i < 10 ^ 10
+record HeadWritten (sep : ℕ) (head : Head) (rest : List ℕ) : Type 0 where
+  value : ℕ
+  next : ℕ
+  is : headAt sep head (headText sep head ++ rest) ≡ Value value next
+  then : drop next (headText sep head ++ rest) ≡ rest
 
-module _ (sep letter : ℕ) (parts : Ends sep) (cs : List Column) (line : List ℕ) (i : ℕ) (zs : List ℤ) (next : ℕ) where
-  pub line-read : columnsLine sep letter cs line i ≡ values zs next → LineRead sep letter cs line i zs
+head-written : (sep : ℕ) (head : Head) (rest : List ℕ) → isDigit sep ≡ false → Small head → HeadWritten sep head rest
+unfolding headAt headText
+head-written sep (Lettered letter) rest apart small = record { value = 0; next = 2; is = rw (headed-is sep letter rest); then = refl }
+head-written sep (Indexed letter i) rest apart small =
+    let after = indexText sep i ++ rest in
+    let w = index-written sep 2 (letter ∷ sep ∷ after) i rest refl apart small in
+    record { value = i; next = w .next; is = rw (headed-is sep letter after) (w .is); then = w .then }
+head-written sep (Bare i) rest apart small =
+    let w = index-written sep 0 (indexText sep i ++ rest) i rest refl apart small in
+    record { value = i; next = w .next; is = w .is; then = w .then }
+
+-- ---- a whole line
+pub record LineRead (sep : ℕ) (head : Head) (cs : List Column) (line : List ℕ) (zs : List ℤ) : Type 0 where
+  pub here : line ≡ columnsText sep head cs zs
+  pub kept : AllKept cs zs
+  pub small : Small head
+
+module _ (sep : ℕ) (parts : Ends sep) (head : Head) (cs : List Column) where
+  pub line-read : (line : List ℕ) (zs : List ℤ) (next : ℕ) → columnsLine sep head cs line ≡ values zs next → LineRead sep head cs line zs
   unfolding columnsLine restAt columnsText
-  line-read e = indexed (indexAt sep letter line i) refl e
+  line-read line zs next e = headed-by (headAt sep head line) refl e
     where
-      end : (at : ℕ) → IndexRead sep letter line i at → (ys : List ℤ) (m : ℕ) → fieldsAt sep feed cs line at ≡ values ys m → (t : Bool) → ended line m ≡ t → cond t (values ys m) (wrong m) ≡ values zs next → LineRead sep letter cs line i zs
+      end : (at : ℕ) → HeadRead sep head line at → (ys : List ℤ) (m : ℕ) → fieldsAt sep feed cs line at ≡ values ys m → (t : Bool) → ended line m ≡ t → cond t (values ys m) (wrong m) ≡ values zs next → LineRead sep head cs line zs
       end at r ys m q false k e = absurd (no-values m zs next e)
       end at r ys m q true k e =
           let f = fields-read sep feed parts feed-ends cs line at ys m q in
           let last : drop m line ≡ [] = drop-of-length-le line (leb-true (length line) m k) in
-          subst (LineRead sep letter cs line i) (values-is ys zs m next e .0)
+          subst (LineRead sep head cs line) (values-is ys zs m next e .0)
           (record {
-            here = r .here ∙ ap (λ (l : List ℕ). indexText sep letter i ++ l) (f .here ∙ ap (λ (l : List ℕ). fieldsEnded sep feed cs ys ++ l) last ∙ append-nil (fieldsEnded sep feed cs ys));
+            here = r .here ∙ ap (λ (l : List ℕ). headText sep head ++ l) (f .here ∙ ap (λ (l : List ℕ). fieldsEnded sep feed cs ys ++ l) last ∙ append-nil (fieldsEnded sep feed cs ys));
             kept = f .kept;
             small = r .small;
           })
 
-      fielded : (at : ℕ) → IndexRead sep letter line i at → (v : Values) → fieldsAt sep feed cs line at ≡ v → toEnd line v ≡ values zs next → LineRead sep letter cs line i zs
+      fielded : (at : ℕ) → HeadRead sep head line at → (v : Values) → fieldsAt sep feed cs line at ≡ v → toEnd line v ≡ values zs next → LineRead sep head cs line zs
       fielded at r (wrong place) q e = absurd (no-values place zs next e)
       fielded at r (values ys m) q e = end at r ys m q (ended line m) refl e
 
-      indexed : (n : Number) → indexAt sep letter line i ≡ n → afterNumber n (λ at. restAt sep cs line at) ≡ values zs next → LineRead sep letter cs line i zs
-      indexed (Bad place) q e = absurd (no-values place zs next e)
-      indexed (Value v at) q e = fielded at (index-read sep letter line i v at q) (fieldsAt sep feed cs line at) refl e
+      headed-by : (n : Number) → headAt sep head line ≡ n → afterNumber n (λ at. restAt sep cs line at) ≡ values zs next → LineRead sep head cs line zs
+      headed-by (Bad place) q e = absurd (no-values place zs next e)
+      headed-by (Value v at) q e = fielded at (head-read sep line v at head q) (fieldsAt sep feed cs line at) refl e
 
-pub record LineWritten (sep letter : ℕ) (cs : List Column) (i : ℕ) (zs : List ℤ) : Type 0 where
-  pub next : ℕ
-  pub is : columnsLine sep letter cs (columnsText sep letter cs i zs) i ≡ values zs next
+  pub record LineWritten (zs : List ℤ) : Type 0 where
+    pub next : ℕ
+    pub is : columnsLine sep head cs (columnsText sep head cs zs) ≡ values zs next
 
-pub line-written : (sep letter : ℕ) → Ends sep → (cs : List Column) (i : ℕ) (zs : List ℤ) → i < 10 ^ 10 → AllKept cs zs → LineWritten sep letter cs i zs
-unfolding columnsLine restAt columnsText
-line-written sep letter parts cs i zs small k =
-    let rest = fieldsEnded sep feed cs zs in
-    let line = indexText sep letter i ++ rest in
-    let x = index-written sep letter i rest (parts .apart) small in
-    let f = fields-written sep feed parts feed-ends line [] cs zs (x .next) k (x .then ∙ sym (append-nil rest)) in
-    record { next = f .next; is = rw (x .is, f .is, ended-text line (f .next) (f .then)) }
+  pub line-written : (zs : List ℤ) → Small head → AllKept cs zs → LineWritten zs
+  unfolding columnsLine restAt columnsText
+  line-written zs small k =
+      let rest = fieldsEnded sep feed cs zs in
+      let line = headText sep head ++ rest in
+      let x = head-written sep head rest (parts .apart) small in
+      let f = fields-written sep feed parts feed-ends line [] cs zs (x .next) k (x .then ∙ sym (append-nil rest)) in
+      record { next = f .next; is = rw (x .is, f .is, ended-text line (f .next) (f .then)) }
 
 -- .. which is one line, whatever follows
-pub fields-one : (sep : ℕ) → eqb sep feed ≡ false → (c : Column) (cs : List Column) (zs : List ℤ) (r : List ℕ) → lineOf (fieldsEnded sep feed (c ∷ cs) zs ++ r) ≡ fieldsEnded sep feed (c ∷ cs) zs
+fields-one : (sep : ℕ) → eqb sep feed ≡ false → (c : Column) (cs : List Column) (zs : List ℤ) (r : List ℕ) → lineOf (fieldsEnded sep feed (c ∷ cs) zs ++ r) ≡ fieldsEnded sep feed (c ∷ cs) zs
 unfolding fieldsEnded
 fields-one sep other c [] zs r =
     let f = fieldText c (getD zs 0 (pos 0)) in
@@ -327,21 +367,33 @@ fields-one sep other c (d ∷ ds) zs r =
     ap lineOf (append-assoc f (sep ∷ rest) r) ∙ line-past f (sep ∷ (rest ++ r)) (field-no-feed c (getD zs 0 (pos 0)))
     ∙ rw other (ap (λ (l : List ℕ). f ++ (sep ∷ l)) (fields-one sep other d ds (drop 1 zs) r))
 
-pub line-one : (sep letter : ℕ) (cs : List Column) (i : ℕ) (zs : List ℤ) (r : List ℕ) → 0 < length cs → eqb sep feed ≡ false → eqb letter feed ≡ false
-    → lineOf (columnsText sep letter cs i zs ++ r) ≡ columnsText sep letter cs i zs
-unfolding columnsText indexText
-line-one sep letter [] i zs r some other e = absurd (not-suc-le-zero some)
-line-one sep letter (c ∷ cs) i zs r some other e =
-    let rest = fieldsEnded sep feed (c ∷ cs) zs in
-    let d = decimal i in
-    let begins : (s : List ℕ) → lineOf (letter ∷ sep ∷ s) ≡ letter ∷ sep ∷ lineOf s = λ s. rw (e, other) in
-    let one : lineOf (sep ∷ (rest ++ r)) ≡ sep ∷ rest = rw other (ap (λ (l : List ℕ). sep ∷ l) (fields-one sep other c cs zs r)) in
-    begins (((d ++ (sep ∷ [])) ++ rest) ++ r)
-    ∙ ap (λ (l : List ℕ). letter ∷ sep ∷ l)
-    (ap lineOf (append-assoc (d ++ (sep ∷ [])) rest r ∙ append-assoc d (sep ∷ []) (rest ++ r))
-    ∙ line-past d (sep ∷ (rest ++ r)) (decimal-no-feed i)
-    ∙ ap (λ (l : List ℕ). d ++ l) one
-    ∙ sym (append-assoc d (sep ∷ []) rest))
+-- what is asked of a head for that: its letter is no LF
+abbrev pub NoFeed : Head → Type 0
+NoFeed (Lettered letter) = eqb letter feed ≡ false
+NoFeed (Indexed letter i) = eqb letter feed ≡ false
+NoFeed (Bare i) = Unit {0}
+
+module _ (sep : ℕ) (other : eqb sep feed ≡ false) where
+  index-one : (i : ℕ) (s : List ℕ) → lineOf (indexText sep i ++ s) ≡ indexText sep i ++ lineOf s
+  unfolding indexText
+  index-one i s =
+      let d = decimal i in
+      ap lineOf (append-assoc d (sep ∷ []) s) ∙ line-past d (sep ∷ s) (decimal-no-feed i)
+      ∙ rw other (sym (append-assoc d (sep ∷ []) (lineOf s)))
+
+  head-one : (head : Head) (s : List ℕ) → NoFeed head → lineOf (headText sep head ++ s) ≡ headText sep head ++ lineOf s
+  unfolding headText
+  head-one (Lettered letter) s e = rw (e, other)
+  head-one (Indexed letter i) s e = rw (e, other) (ap (λ (l : List ℕ). letter ∷ sep ∷ l) (index-one i s))
+  head-one (Bare i) s e = index-one i s
+
+  pub line-one : (head : Head) (cs : List Column) (zs : List ℤ) (r : List ℕ) → 0 < length cs → NoFeed head → lineOf (columnsText sep head cs zs ++ r) ≡ columnsText sep head cs zs
+  unfolding columnsText
+  line-one head [] zs r some e = absurd (not-suc-le-zero some)
+  line-one head (c ∷ cs) zs r some e =
+      let fields = fieldsEnded sep feed (c ∷ cs) zs in
+      ap lineOf (append-assoc (headText sep head) fields r) ∙ head-one head (fields ++ r) e
+      ∙ ap (λ (l : List ℕ). headText sep head ++ l) (fields-one sep other c cs zs r)
 
 -- ---- a line that is judged by its values, whatever it holds of them
 pub record JudgedValues {A : Type 0} (fits : List ℤ → Bool) (make : List ℤ → A) (v : Values) (a : A) : Type 0 where
@@ -369,77 +421,22 @@ module _ {A : Type 0} (fits : List ℤ → Bool) (make : List ℤ → A) (bad : 
       go true = refl
       go false = refl
 
-  module _ (sep letter : ℕ) (parts : Ends sep) (cs : List Column) (i : ℕ) where
+  module _ (sep : ℕ) (parts : Ends sep) (head : Head) (cs : List Column) where
     -- a line that holds a is the text of values that make a
     pub record Holding (line : List ℕ) (a : A) : Type 0 where
       pub zs : List ℤ
-      pub read : LineRead sep letter cs line i zs
+      pub read : LineRead sep head cs line zs
       pub fit : fits zs ≡ true
       pub made : make zs ≡ a
 
-    pub judged-read : (line : List ℕ) (a : A) → judged fits make bad out (columnsLine sep letter cs line i) ≡ holds a → Holding line a
+    pub judged-read : (line : List ℕ) (a : A) → judged fits make bad out (columnsLine sep head cs line) ≡ holds a → Holding line a
     judged-read line a e =
-        let j = judged-is a (columnsLine sep letter cs line i) e in
-        record { zs = j .zs; read = line-read sep letter parts cs line i (j .zs) (j .next) (j .is); fit = j .fit; made = j .made }
+        let j = judged-is a (columnsLine sep head cs line) e in
+        record { zs = j .zs; read = line-read sep parts head cs line (j .zs) (j .next) (j .is); fit = j .fit; made = j .made }
 
     -- .. and that text holds what they make
-    pub judged-written : (zs : List ℤ) → i < 10 ^ 10 → AllKept cs zs → fits zs ≡ true → judged fits make bad out (columnsLine sep letter cs (columnsText sep letter cs i zs) i) ≡ holds (make zs)
-    judged-written zs small k f = rw (line-written sep letter parts cs i zs small k .is, f)
-
--- ---- a line that has no index
-pub record PlainRead (sep letter : ℕ) (cs : List Column) (line : List ℕ) (zs : List ℤ) : Type 0 where
-  pub here : line ≡ plainText sep letter cs zs
-  pub kept : AllKept cs zs
-
-module _ (sep letter : ℕ) (parts : Ends sep) (cs : List Column) (line : List ℕ) (zs : List ℤ) (next : ℕ) where
-  pub plain-read : plainLine sep letter cs line ≡ values zs next → PlainRead sep letter cs line zs
-  unfolding plainLine restAt plainText
-  plain-read e = lettered (headed letter sep line) refl e
-    where
-      end : headed letter sep line ≡ true → (ys : List ℤ) (m : ℕ) → fieldsAt sep feed cs line 2 ≡ values ys m → (t : Bool) → ended line m ≡ t → cond t (values ys m) (wrong m) ≡ values zs next → PlainRead sep letter cs line zs
-      end h ys m q false k e = absurd (no-values m zs next e)
-      end h ys m q true k e =
-          let f = fields-read sep feed parts feed-ends cs line 2 ys m q in
-          let last : drop m line ≡ [] = drop-of-length-le line (leb-true (length line) m k) in
-          subst (PlainRead sep letter cs line) (values-is ys zs m next e .0)
-          (record {
-            here = headed-line letter sep line h ∙ ap (λ (l : List ℕ). letter ∷ sep ∷ l) (f .here ∙ ap (λ (l : List ℕ). fieldsEnded sep feed cs ys ++ l) last ∙ append-nil (fieldsEnded sep feed cs ys));
-            kept = f .kept;
-          })
-
-      fielded : headed letter sep line ≡ true → (v : Values) → fieldsAt sep feed cs line 2 ≡ v → toEnd line v ≡ values zs next → PlainRead sep letter cs line zs
-      fielded h (wrong place) q e = absurd (no-values place zs next e)
-      fielded h (values ys m) q e = end h ys m q (ended line m) refl e
-
-      lettered : (t : Bool) → headed letter sep line ≡ t → cond t (toEnd line (fieldsAt sep feed cs line 2)) (wrong 0) ≡ values zs next → PlainRead sep letter cs line zs
-      lettered false h e = absurd (no-values 0 zs next e)
-      lettered true h e = fielded h (fieldsAt sep feed cs line 2) refl e
-
-pub plain-one : (sep letter : ℕ) (cs : List Column) (zs : List ℤ) (r : List ℕ) → 0 < length cs → eqb sep feed ≡ false → eqb letter feed ≡ false
-    → lineOf (plainText sep letter cs zs ++ r) ≡ plainText sep letter cs zs
-unfolding plainText
-plain-one sep letter [] zs r some other e = absurd (not-suc-le-zero some)
-plain-one sep letter (c ∷ cs) zs r some other e = rw (e, other) (ap (λ (l : List ℕ). letter ∷ sep ∷ l) (fields-one sep other c cs zs r))
-
-module _ {A : Type 0} (fits : List ℤ → Bool) (make : List ℤ → A) (bad : ℕ) (out : List ℤ → ℕ) (sep letter : ℕ) (parts : Ends sep) (cs : List Column) where
-  pub record PlainHolding (line : List ℕ) (a : A) : Type 0 where
-    pub zs : List ℤ
-    pub read : PlainRead sep letter cs line zs
-    pub fit : fits zs ≡ true
-    pub made : make zs ≡ a
-
-  pub plain-judged : (line : List ℕ) (a : A) → judged fits make bad out (plainLine sep letter cs line) ≡ holds a → PlainHolding line a
-  plain-judged line a e =
-      let j = judged-is fits make bad out a (plainLine sep letter cs line) e in
-      record { zs = j .zs; read = plain-read sep letter parts cs line (j .zs) (j .next) (j .is); fit = j .fit; made = j .made }
-
-  pub plain-written : (zs : List ℤ) → AllKept cs zs → fits zs ≡ true → judged fits make bad out (plainLine sep letter cs (plainText sep letter cs zs)) ≡ holds (make zs)
-  unfolding plainLine restAt plainText
-  plain-written zs k f =
-      let rest = fieldsEnded sep feed cs zs in
-      let line = letter ∷ sep ∷ rest in
-      let w = fields-written sep feed parts feed-ends line [] cs zs 2 k (sym (append-nil rest)) in
-      rw (headed-is sep letter rest, w .is, ended-text line (w .next) (w .then), f)
+    pub judged-written : (zs : List ℤ) → Small head → AllKept cs zs → fits zs ≡ true → judged fits make bad out (columnsLine sep head cs (columnsText sep head cs zs)) ≡ holds (make zs)
+    judged-written zs small k f = rw (line-written sep parts head cs zs small k .is, f)
 
 -- ---- two parts
 pub kept-append : (cs ds : List Column) (zs ys : List ℤ) → AllKept cs zs → AllKept ds ys → AllKept (cs ++ ds) (zs ++ ys)

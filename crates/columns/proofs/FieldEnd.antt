@@ -20,11 +20,12 @@ use Rattle.text.specs.declared.Signed.{Signed}
 use Rattle.text.specs.declared.Signed.the-variants.{Whole, Wrong}
 use Rattle.text.specs.Fields.{feed, dash, isDigit, digits, value, plain, numberAt, positive, negative, signedAt, shareAt, withNumber}
 use Rattle.text.specs.Point.{point, decimalsAt, wholeMost, afterWhole, pointAt, negated, signedPointAt}
-use Rattle.text.specs.Line.{headed, ended}
+use Rattle.text.specs.Line.{ended}
 use Rattle.text.proofs.NumberTrip.{zero-one, no-whole}
+use Rattle.columns.specs.declared.Head.{Head}
 use Rattle.columns.specs.Columns.{fieldAt, Values, values, wrong, push, onward, stopOf, fieldsAt}
 use Rattle.columns.specs.ColumnText.{fieldText, fieldsEnded}
-use Rattle.columns.specs.ColumnLine.{indexAt, toEnd, restAt, afterNumber, columnsLine, plainLine}
+use Rattle.columns.specs.ColumnLine.{headAt, toEnd, restAt, afterNumber, columnsLine}
 use Rattle.columns.proofs.ColumnTrip.{Ends, feed-ends, no-value, no-values, fields-read}
 
 -- ---- the byte that ends a field
@@ -193,18 +194,10 @@ module _ (sep : ℕ) (ends : Ends sep) (other : eqb sep feed ≡ false) (line : 
         let s = to-end (fieldsAt sep feed cs line at) ys m short in
         shorter cs at zs n (l .0) ys m (s .0) (s .1)
 
-    pub line-shorter : (letter i : ℕ) → columnsLine sep letter (cs ++ (d ∷ ds)) line i ≡ values zs n → columnsLine sep letter cs line i ≡ values ys m → ⊥
+    pub line-shorter : (head : Head) → columnsLine sep head (cs ++ (d ∷ ds)) line ≡ values zs n → columnsLine sep head cs line ≡ values ys m → ⊥
     unfolding columnsLine
-    line-shorter letter i long short = go (indexAt sep letter line i) long short
+    line-shorter head long short = go (headAt sep head line) long short
       where
         go : (v : Number) → afterNumber v (λ at. restAt sep (cs ++ (d ∷ ds)) line at) ≡ values zs n → afterNumber v (λ at. restAt sep cs line at) ≡ values ys m → ⊥
         go (Bad place) long short = no-values place zs n long
         go (Value v at) long short = rest-shorter at long short
-
-    pub plain-shorter : (letter : ℕ) → plainLine sep letter (cs ++ (d ∷ ds)) line ≡ values zs n → plainLine sep letter cs line ≡ values ys m → ⊥
-    unfolding plainLine
-    plain-shorter letter long short = go (headed letter sep line) long short
-      where
-        go : (t : Bool) → cond t (restAt sep (cs ++ (d ∷ ds)) line 2) (wrong 0) ≡ values zs n → cond t (restAt sep cs line 2) (wrong 0) ≡ values ys m → ⊥
-        go false long short = no-values 0 zs n long
-        go true long short = rest-shorter 2 long short

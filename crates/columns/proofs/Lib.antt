@@ -2,8 +2,6 @@ pub mod Anchors
 pub mod ColumnLaws
 pub mod ColumnTrip
 pub mod ColumnPut
-pub mod BareLaws
-pub mod BareTrip
 pub mod OptionalLaws
 pub mod FieldEnd
 pub mod OptionalTrip

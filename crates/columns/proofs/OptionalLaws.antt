@@ -13,10 +13,11 @@ use lib.Signed.{ltZ}
 use Rattle.numbers.specs.Ints.{minus}
 use Rattle.kinds.specs.LineColumns.{Column, columnOf, columnsOf}
 use Rattle.text.specs.Fields.{feed}
+use Rattle.columns.specs.declared.Head.{Head}
 use Rattle.columns.specs.Columns.{Values, values, wrong, stopOf}
-use Rattle.columns.specs.ColumnLine.{columnsLine, plainLine}
-use Rattle.columns.specs.ColumnText.{fieldText, fieldsEnded, fieldsLength, indexText, columnsText, plainText}
-use Rattle.columns.specs.Optional.{leftOut, optionalLine, plainOptional, writtenBy}
+use Rattle.columns.specs.ColumnLine.{columnsLine}
+use Rattle.columns.specs.ColumnText.{fieldText, fieldsEnded, fieldsLength, headText, headLength, columnsText, lineLength}
+use Rattle.columns.specs.Optional.{leftOut, optionalLine, writtenBy}
 use Rattle.columns.proofs.ColumnPut.{columns-long}
 
 -- ---- the marks of what was left out
@@ -66,33 +67,19 @@ left-is n zs rest k long more =
     ap₂ (λ (l : List ℤ) (m : ℕ). l ++ leftOut m) (take-at zs rest n long) many
 
 -- ---- a line read
-module _ (sep letter : ℕ) (cs ds : List Column) (line : List ℕ) where
-  module _ (i : ℕ) where
-    optional-short : (zs ys : List ℤ) (next : ℕ) → values zs next ≡ columnsLine sep letter cs line i → ys ≡ leftOut (length ds) → values (zs ++ ys) next ≡ optionalLine sep letter cs ds line i
-    unfolding optionalLine
-    optional-short zs ys next e q = rw (← e, q)
+module _ (sep : ℕ) (head : Head) (cs ds : List Column) (line : List ℕ) where
+  optional-short : (zs ys : List ℤ) (next : ℕ) → values zs next ≡ columnsLine sep head cs line → ys ≡ leftOut (length ds) → values (zs ++ ys) next ≡ optionalLine sep head cs ds line
+  unfolding optionalLine
+  optional-short zs ys next e q = rw (← e, q)
 
-    pub optional-first : (n : ℕ) (zs rest out : List ℤ) (next : ℕ) → length zs ≡ n → length rest ≡ length ds → out ≡ take n (zs ++ rest) ++ leftOut (length (zs ++ rest) - n)
-        → values zs next ≡ columnsLine sep letter cs line i → values out next ≡ optionalLine sep letter cs ds line i
-    optional-first n zs rest out next long more is e =
-        ap (λ (l : List ℤ). values l next) (is ∙ left-is n zs rest (length ds) long more) ∙ optional-short zs (leftOut (length ds)) next e refl
+  pub optional-first : (n : ℕ) (zs rest out : List ℤ) (next : ℕ) → length zs ≡ n → length rest ≡ length ds → out ≡ take n (zs ++ rest) ++ leftOut (length (zs ++ rest) - n)
+      → values zs next ≡ columnsLine sep head cs line → values out next ≡ optionalLine sep head cs ds line
+  optional-first n zs rest out next long more is e =
+      ap (λ (l : List ℤ). values l next) (is ∙ left-is n zs rest (length ds) long more) ∙ optional-short zs (leftOut (length ds)) next e refl
 
-    pub optional-long : (place : ℕ) (v : Values) → wrong place ≡ columnsLine sep letter cs line i → v ≡ columnsLine sep letter (cs ++ ds) line i → v ≡ optionalLine sep letter cs ds line i
-    unfolding optionalLine
-    optional-long place v e q = rw (← e) q
-
-  plain-short : (zs ys : List ℤ) (next : ℕ) → values zs next ≡ plainLine sep letter cs line → ys ≡ leftOut (length ds) → values (zs ++ ys) next ≡ plainOptional sep letter cs ds line
-  unfolding plainOptional
-  plain-short zs ys next e q = rw (← e, q)
-
-  pub plain-first : (n : ℕ) (zs rest out : List ℤ) (next : ℕ) → length zs ≡ n → length rest ≡ length ds → out ≡ take n (zs ++ rest) ++ leftOut (length (zs ++ rest) - n)
-      → values zs next ≡ plainLine sep letter cs line → values out next ≡ plainOptional sep letter cs ds line
-  plain-first n zs rest out next long more is e =
-      ap (λ (l : List ℤ). values l next) (is ∙ left-is n zs rest (length ds) long more) ∙ plain-short zs (leftOut (length ds)) next e refl
-
-  pub plain-longer : (place : ℕ) (v : Values) → wrong place ≡ plainLine sep letter cs line → v ≡ plainLine sep letter (cs ++ ds) line → v ≡ plainOptional sep letter cs ds line
-  unfolding plainOptional
-  plain-longer place v e q = rw (← e) q
+  pub optional-long : (place : ℕ) (v : Values) → wrong place ≡ columnsLine sep head cs line → v ≡ columnsLine sep head (cs ++ ds) line → v ≡ optionalLine sep head cs ds line
+  unfolding optionalLine
+  optional-long place v e q = rw (← e) q
 
 -- ---- the code's columns, in two parts
 columns-append : (xs bs : List ℕ) → columnsOf (xs ++ bs) ≡ columnsOf xs ++ columnsOf bs
@@ -152,16 +139,13 @@ module _ (columns : List ℕ) (n : ℕ) (zs : List ℤ) (h : n < length columns)
       ∙ text-front sep last (columnsOf (take k columns)) zs
       ∙ ap (λ (l : List Column). fieldsEnded sep last l zs) written-by
 
-  pub length-by : fieldsLength (columnsOf (take k columns)) (take k zs) ≡ fieldsLength by zs
-  length-by =
-      ap (λ (m : ℕ). fieldsLength (columnsOf (take k columns)) (take m zs)) (sym taken)
+  pub length-by : (head : Head) → lineLength head (columnsOf (take k columns)) (take k zs) ≡ lineLength head by zs
+  length-by head =
+      ap (λ (m : ℕ). headLength head + m)
+      (ap (λ (m : ℕ). fieldsLength (columnsOf (take k columns)) (take m zs)) (sym taken)
       ∙ length-front (columnsOf (take k columns)) zs
-      ∙ ap (λ (l : List Column). fieldsLength l zs) written-by
+      ∙ ap (λ (l : List Column). fieldsLength l zs) written-by)
 
-  pub line-by : (sep letter i : ℕ) → columnsText sep letter (columnsOf (take k columns)) i (take k zs) ≡ columnsText sep letter by i zs
+  pub line-by : (sep : ℕ) (head : Head) → columnsText sep head (columnsOf (take k columns)) (take k zs) ≡ columnsText sep head by zs
   unfolding columnsText
-  line-by sep letter i = ap (λ (l : List ℕ). indexText sep letter i ++ l) (fields-by sep feed)
-
-  pub plain-by : (sep letter : ℕ) → plainText sep letter (columnsOf (take k columns)) (take k zs) ≡ plainText sep letter by zs
-  unfolding plainText
-  plain-by sep letter = ap (λ (l : List ℕ). letter ∷ sep ∷ l) (fields-by sep feed)
+  line-by sep head = ap (λ (l : List ℕ). headText sep head ++ l) (fields-by sep feed)

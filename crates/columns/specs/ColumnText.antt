@@ -8,6 +8,8 @@ use Rattle.kinds.specs.LineColumns.{Column, number, signed, share, power, flow,
 use Rattle.text.specs.Fields.{feed}
 use Rattle.text.specs.Written.{decimal, decimalℤ, shareText}
 use Rattle.text.specs.Point.{pointedℤ}
+use Rattle.columns.specs.declared.Head.{Head}
+use Rattle.columns.specs.declared.Head.the-variants.{Lettered, Indexed, Bare}
 use Rattle.columns.specs.Columns.{powerDecimals, factorDecimals, stopOf}
 
 -- a column's field
@@ -29,21 +31,34 @@ unfoldable pub fieldsLength : List Column → (zs : List ℤ) → ℕ
 fieldsLength [] zs = 0
 fieldsLength (c ∷ cs) zs = length (fieldText c (getD zs 0 (pos 0))) + 1 + fieldsLength cs (drop 1 zs)
 
--- .. with letter and index
-abbrev pub lineLength : List Column → (i : ℕ) → (zs : List ℤ) → ℕ
-lineLength columns i zs = 3 + length (decimal i) + fieldsLength columns zs
+-- a line's index
+unfoldable pub indexText : (sep i : ℕ) → List ℕ
+indexText sep i = decimal i ++ (sep ∷ [])
 
--- a line's letter and its index
-unfoldable pub indexText : (sep letter i : ℕ) → List ℕ
-indexText sep letter i = letter ∷ sep ∷ (decimal i ++ (sep ∷ []))
+-- a line's head
+unfoldable pub headText : (sep : ℕ) → Head → List ℕ
+headText sep (Lettered letter) = letter ∷ sep ∷ []
+headText sep (Indexed letter i) = letter ∷ sep ∷ indexText sep i
+headText sep (Bare i) = indexText sep i
 
--- a line: its letter, its index, and its columns
-unfoldable pub columnsText : (sep letter : ℕ) → List Column → (i : ℕ) → List ℤ → List ℕ
-columnsText sep letter columns i zs = indexText sep letter i ++ fieldsEnded sep feed columns zs
+-- how many bytes it has: the same for every letter
+abbrev pub headLength : Head → ℕ
+headLength (Lettered letter) = 2
+headLength (Indexed letter i) = 3 + length (decimal i)
+headLength (Bare i) = 1 + length (decimal i)
 
--- a line that has no index
-unfoldable pub plainText : (sep letter : ℕ) → List Column → List ℤ → List ℕ
-plainText sep letter columns zs = letter ∷ sep ∷ fieldsEnded sep feed columns zs
+-- how many of the bytes that part fields it has
+abbrev pub headSeps : Head → ℕ
+headSeps (Lettered letter) = 1
+headSeps (Indexed letter i) = 2
+headSeps (Bare i) = 1
+
+-- a line: its head and its columns
+unfoldable pub columnsText : (sep : ℕ) → Head → List Column → List ℤ → List ℕ
+columnsText sep head columns zs = headText sep head ++ fieldsEnded sep feed columns zs
+
+abbrev pub lineLength : Head → List Column → (zs : List ℤ) → ℕ
+lineLength head columns zs = headLength head + fieldsLength columns zs
 
 -- the numbers of a raw record by their columns, from number k on: one for each column (0 where the record is too short)
 abbrev pub numbersFrom : (k : ℕ) → List Column → (raw : List ℤ) → List ℤ

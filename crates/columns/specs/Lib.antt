@@ -1,5 +1,4 @@
 pub mod Columns
 pub mod ColumnText
 pub mod ColumnLine
-pub mod Bare
 pub mod Optional

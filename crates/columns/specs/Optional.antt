@@ -9,9 +9,10 @@ use lib.ListN.{length, getD}
 use lib.Signed.{ltZ}
 use Rattle.numbers.specs.Ints.{minus}
 use Rattle.kinds.specs.LineColumns.{Column}
+use Rattle.columns.specs.declared.Head.{Head}
 use Rattle.columns.specs.Columns.{Values, values, wrong}
-use Rattle.columns.specs.ColumnLine.{columnsLine, plainLine}
-use Rattle.columns.specs.ColumnText.{columnsText, plainText}
+use Rattle.columns.specs.ColumnLine.{columnsLine}
+use Rattle.columns.specs.ColumnText.{columnsText}
 
 -- the values of k columns that were left out
 abbrev pub leftOut : (k : ℕ) → List ℤ
@@ -24,21 +25,13 @@ orLonger k (values zs next) longer = values (zs ++ leftOut k) next
 orLonger k (wrong place) longer = longer
 
 -- a whole line
-unfoldable pub optionalLine : (sep letter : ℕ) → (columns more : List Column) → (line : List ℕ) → (i : ℕ) → Values
-optionalLine sep letter columns more line i = orLonger (length more) (columnsLine sep letter columns line i) (columnsLine sep letter (columns ++ more) line i)
-
--- a line that has no index
-unfoldable pub plainOptional : (sep letter : ℕ) → (columns more : List Column) → (line : List ℕ) → Values
-plainOptional sep letter columns more line = orLonger (length more) (plainLine sep letter columns line) (plainLine sep letter (columns ++ more) line)
+unfoldable pub optionalLine : (sep : ℕ) → Head → (columns more : List Column) → (line : List ℕ) → Values
+optionalLine sep head columns more line = orLonger (length more) (columnsLine sep head columns line) (columnsLine sep head (columns ++ more) line)
 
 -- the columns by which values are written: a value below 0 for the first of `more` says that these were left out
 abbrev pub writtenBy : (columns more : List Column) → (zs : List ℤ) → List Column
 writtenBy columns more zs = cond (ltZ (getD zs (length columns) (pos 0)) (pos 0)) columns (columns ++ more)
 
 -- a line as it is written
-abbrev pub optionalText : (sep letter : ℕ) → (columns more : List Column) → (i : ℕ) → List ℤ → List ℕ
-optionalText sep letter columns more i zs = columnsText sep letter (writtenBy columns more zs) i zs
-
--- a line that has no index
-abbrev pub plainOptionalText : (sep letter : ℕ) → (columns more : List Column) → List ℤ → List ℕ
-plainOptionalText sep letter columns more zs = plainText sep letter (writtenBy columns more zs) zs
+abbrev pub optionalText : (sep : ℕ) → Head → (columns more : List Column) → List ℤ → List ℕ
+optionalText sep head columns more zs = columnsText sep head (writtenBy columns more zs) zs

@@ -1,5 +1,6 @@
 // Reads the fields of columns from left to right: each is taken apart where it is read, and the first bad one leaves at once.
 use crate::Fields;
+use crate::Head;
 use text::Number;
 use text::Signed;
 use text::field::number_at;
@@ -16,17 +17,10 @@ ghost use lib.Dec.{leb};
 ghost use lib.ListN.{length};
 ghost use Rattle.kinds.specs.LineColumns.{columnOf, columnsOf};
 ghost use Rattle.columns.specs.Columns.{fieldAt, fieldsAt, stored, badOf};
-ghost use Rattle.columns.specs.ColumnLine.{ownIndex, indexAt, restAt, headAt, columnsLine, plainLine};
+ghost use Rattle.columns.specs.ColumnLine.{indexAt, headAt, restAt, columnsLine};
 
 // The fields of the columns from place `at` on into `out`, parted by `sep`, the last of them ended by `last`.
-pub fn fields_at(
-    columns: &[u8],
-    sep: u8,
-    last: u8,
-    line: &[u8],
-    at: usize,
-    out: &mut [i64],
-) -> Fields
+fn fields_at(columns: &[u8], sep: u8, last: u8, line: &[u8], at: usize, out: &mut [i64]) -> Fields
     requires { ⌜ length (now columns) ≡ length (now out) ⌝ }
     ensures { λ r. ⌜ stored r (now (out .exit)) ≡ fieldsAt sep last (columnsOf (now (columns .entry))) (now (line .entry)) at ⌝ }
 {
@@ -80,31 +74,13 @@ fn bad(found: Signed) -> Fields
     }
 }
 
-// Letter, index and columns of a line, to its end: the columns' values into `out`.
-pub fn line_at(
-    sep: u8,
-    letter: u8,
-    columns: &[u8],
-    line: &[u8],
-    i: usize,
-    out: &mut [i64],
-) -> Fields
+// Head and columns of a line, to its end: the columns' values into `out`.
+pub fn line_at(sep: u8, head: Head, columns: &[u8], line: &[u8], out: &mut [i64]) -> Fields
     requires { ⌜ length (now columns) ≡ length (now out) ⌝ }
-    ensures { λ r. ⌜ stored r (now (out .exit)) ≡ columnsLine sep letter (columnsOf (now (columns .entry))) (now (line .entry)) i ⌝ }
+    ensures { λ r. ⌜ stored r (now (out .exit)) ≡ columnsLine sep head (columnsOf (now (columns .entry))) (now (line .entry)) ⌝ }
 {
-    match index_at(sep, letter, line, i) {
+    match head_at(sep, head, line) {
         Number::Value(_, at) => rest_at(sep, columns, line, at, out),
-        Number::Bad(place) => Fields::Bad(place),
-    }
-}
-
-// Letter, index and columns of a line, where others follow.
-fn head_at(sep: u8, letter: u8, columns: &[u8], line: &[u8], i: usize, out: &mut [i64]) -> Fields
-    requires { ⌜ length (now columns) ≡ length (now out) ⌝ }
-    ensures { λ r. ⌜ stored r (now (out .exit)) ≡ headAt sep letter (columnsOf (now (columns .entry))) (now (line .entry)) i ⌝ }
-{
-    match index_at(sep, letter, line, i) {
-        Number::Value(_, at) => fields_at(columns, sep, sep, line, at, out),
         Number::Bad(place) => Fields::Bad(place),
     }
 }
@@ -112,48 +88,59 @@ fn head_at(sep: u8, letter: u8, columns: &[u8], line: &[u8], i: usize, out: &mut
 // A line whose columns are given in two parts, the second not empty: the values of each part into memory of its own.
 pub fn parts_at(
     sep: u8,
-    letter: u8,
+    head: Head,
     first: &[u8],
     second: &[u8],
     line: &[u8],
-    i: usize,
     out: &mut [i64],
     more: &mut [i64],
 ) -> Fields
     requires { ⌜ (length (now first) ≡ length (now out)) × (0 < length (now second)) × (length (now second) ≡ length (now more)) ⌝ }
-    ensures { λ r. ⌜ stored r (now (out .exit) ++ now (more .exit)) ≡ columnsLine sep letter (columnsOf (now (first .entry)) ++ columnsOf (now (second .entry))) (now (line .entry)) i ⌝ }
+    ensures { λ r. ⌜ stored r (now (out .exit) ++ now (more .exit)) ≡ columnsLine sep head (columnsOf (now (first .entry)) ++ columnsOf (now (second .entry))) (now (line .entry)) ⌝ }
 {
-    match head_at(sep, letter, first, line, i, out) {
-        Fields::End(at) => rest_at(sep, second, line, at, more),
-        Fields::Bad(place) => Fields::Bad(place),
+    match head_at(sep, head, line) {
+        Number::Value(_, at) => both_at(sep, first, second, line, at, out, more),
+        Number::Bad(place) => Fields::Bad(place),
     }
 }
 
-// A line's letter and its own index, and the place after them.
-fn index_at(sep: u8, letter: u8, line: &[u8], i: usize) -> Number
-    ensures { λ r. ⌜ r ≡ indexAt sep letter (now (line .entry)) i ⌝ }
+// A line's head, and the place after it.
+fn head_at(sep: u8, head: Head, line: &[u8]) -> Number
+    ensures { λ r. ⌜ r ≡ headAt sep head (now (line .entry)) ⌝ }
 {
-    if !text::line::headed(line, letter, sep) {
-        return Number::Bad(0);
+    match head {
+        Head::Lettered(letter) => {
+            if !text::line::headed(line, letter, sep) {
+                return Number::Bad(0);
+            }
+            Number::Value(0, 2)
+        }
+        Head::Indexed(letter, i) => {
+            if !text::line::headed(line, letter, sep) {
+                return Number::Bad(0);
+            }
+            index_at(sep, 2, line, i)
+        }
+        Head::Bare(i) => index_at(sep, 0, line, i),
     }
-    own_index(2, i, number_at(line, 2, sep))
 }
 
-// An index as it was found, from place `first` on: another line's is bad there.
-pub fn own_index(first: usize, i: usize, found: Number) -> Number
-    ensures { λ r. ⌜ r ≡ ownIndex first i found ⌝ }
+// A line's own index from place `at` on, and the place after it: another line's is bad there.
+fn index_at(sep: u8, at: usize, line: &[u8], i: usize) -> Number
+    ensures { λ r. ⌜ r ≡ indexAt sep at (now (line .entry)) i ⌝ }
 {
-    let Number::Value(index, next) = found else {
+    let found = number_at(line, at, sep);
+    let Number::Value(index, _) = found else {
         return found;
     };
     if index == i as u64 {
-        return Number::Value(index, next);
+        return found;
     }
-    Number::Bad(first)
+    Number::Bad(at)
 }
 
 // The columns from a place on, and then the line's end.
-pub fn rest_at(sep: u8, columns: &[u8], line: &[u8], at: usize, out: &mut [i64]) -> Fields
+fn rest_at(sep: u8, columns: &[u8], line: &[u8], at: usize, out: &mut [i64]) -> Fields
     requires { ⌜ length (now columns) ≡ length (now out) ⌝ }
     ensures { λ r. ⌜ stored r (now (out .exit)) ≡ restAt sep (columnsOf (now (columns .entry))) (now (line .entry)) at ⌝ }
 {
@@ -168,13 +155,21 @@ pub fn rest_at(sep: u8, columns: &[u8], line: &[u8], at: usize, out: &mut [i64])
     }
 }
 
-// Letter and columns of a line that has no index, to its end.
-pub fn plain_line(sep: u8, letter: u8, columns: &[u8], line: &[u8], out: &mut [i64]) -> Fields
-    requires { ⌜ length (now columns) ≡ length (now out) ⌝ }
-    ensures { λ r. ⌜ stored r (now (out .exit)) ≡ plainLine sep letter (columnsOf (now (columns .entry))) (now (line .entry)) ⌝ }
+// .. in two parts, the second not empty.
+fn both_at(
+    sep: u8,
+    first: &[u8],
+    second: &[u8],
+    line: &[u8],
+    at: usize,
+    out: &mut [i64],
+    more: &mut [i64],
+) -> Fields
+    requires { ⌜ (length (now first) ≡ length (now out)) × (0 < length (now second)) × (length (now second) ≡ length (now more)) ⌝ }
+    ensures { λ r. ⌜ stored r (now (out .exit) ++ now (more .exit)) ≡ restAt sep (columnsOf (now (first .entry)) ++ columnsOf (now (second .entry))) (now (line .entry)) at ⌝ }
 {
-    if !text::line::headed(line, letter, sep) {
-        return Fields::Bad(0);
+    match fields_at(first, sep, sep, line, at, out) {
+        Fields::End(next) => rest_at(sep, second, line, next, more),
+        Fields::Bad(place) => Fields::Bad(place),
     }
-    rest_at(sep, columns, line, 2, out)
 }

@@ -2,12 +2,15 @@
 use mathlib.Core.Path.{_≡_, refl, sym, ap, _∙_}
 use mathlib.Core.List.{List, [], _∷_}
 use Prim.Native.Char.{code}
-use Prim.Native.Nat.{ℕ, _+_, _≤_}
+use Prim.Native.Nat.{ℕ, _+_, _^_, _≤_, _<_}
 use native.Mathlib.Omega.{arith}
-use lib.IntN.{ℤ}
+use lib.IntN.{ℤ, pos}
 use lib.ListN.{length, take, drop, length-append}
 use lib.Seq.{take-at}
 use lib.Pow.{pow-mono}
+use lib.Signed.{mag}
+use mir.Syntax.{w64}
+use mir.Val.{hbits}
 use Rattle.numbers.specs.Below.{over}
 use Rattle.kinds.specs.declared.Flows.{Flows}
 use Rattle.kinds.specs.declared.Flows.the-variants as flows
@@ -17,27 +20,32 @@ use Rattle.kinds.specs.declared.Refusal.{Refusal}
 use Rattle.kinds.specs.Answers.{ruled, saidFlows}
 use Rattle.kinds.specs.Refusals.{Judged, passed, refused}
 use Rattle.kinds.proofs.RefusalLaws.{passed-is, refused-is, not-passed, then-next, then-refused}
+use Rattle.text.specs.Fields.{tab}
 use Rattle.text.specs.Left.{TextLeft, textLeft}
 use Rattle.text.specs.Written.{decimal, decimalℤ}
+use Rattle.text.proofs.DigitLaws.{decimal-u64, decimal-i64}
 use Rattle.text.proofs.LeftLaws.{text-refused}
-use Rattle.text.proofs.PutLaws.{line-length, tabbed-length, tabbed-empty}
+use Rattle.columns.specs.declared.Head.the-variants.{Indexed}
+use Rattle.columns.specs.ColumnText.{fieldText, fieldsLength, lineLength}
+use Rattle.columns.proofs.ColumnPut.{line-long}
 use Rattle.table.specs.Table.{Table, front, factorsAt, judgeLent}
 use Rattle.table.specs.Good.{Good}
 use Rattle.corners.specs.Corners.{flowsOf, judgeSheet, judgeCorners, FlowsLeft, flowsLeft, sheetLeft}
 use Rattle.corners.proofs.SheetLaws.{flows-long, passed-sheet, sheet-refused, sheet-all, corners-passed}
-use Rattle.cornertext.specs.CornerText.{sheetMost, cornerLine, cornersText, sheetTextOf, cornerTextLeft}
+use Rattle.cornertext.specs.CornerText.{sheetMost, cornerColumns, cornerLine, lineMost, cornersText, sheetTextOf, cornerTextLeft}
 
 -- ---- a line's length
-pub corner-line-long : (row corner : ℕ) (flow : ℤ) → length (cornerLine row corner flow) ≡ 5 + length (decimal row) + length (decimal corner) + length (decimalℤ flow)
-corner-line-long row corner flow =
-    line-length (code "K") (decimal row ∷ decimal corner ∷ decimalℤ flow ∷ [])
-    ∙ omega (
-      arith,
-      tabbed-length (decimal row) (decimal corner ∷ decimalℤ flow ∷ []),
-      tabbed-length (decimal corner) (decimalℤ flow ∷ []),
-      tabbed-length (decimalℤ flow) [],
-      tabbed-empty,
-    )
+module _ (row corner : ℕ) (flow : ℤ) where
+  pub corner-line-is : length (cornerLine row corner flow) ≡ lineLength (Indexed (code "K") row) cornerColumns (pos corner ∷ flow ∷ [])
+  corner-line-is = line-long tab (Indexed (code "K") row) cornerColumns (pos corner ∷ flow ∷ [])
+
+  pub corner-line-long : length (cornerLine row corner flow) ≡ 5 + length (decimal row) + length (decimal corner) + length (decimalℤ flow)
+  unfolding fieldsLength fieldText decimalℤ
+  corner-line-long = omega (arith, corner-line-is)
+
+  -- of machine numbers
+  pub corner-line-most : row < 2 ^ 64 → corner < sheetMost → mag flow < 2 ^ hbits w64 → length (cornerLine row corner flow) ≤ lineMost
+  corner-line-most h k l = omega (arith, corner-line-long, decimal-u64 row h, decimal-u64 corner (omega arith), decimal-i64 flow l)
 
 -- ---- lent tables: what judging refuses is refused, and else the text is that of the front's sheet
 module _ (given : Table) (row : ℕ) (r : Judgement) (said : ruled r (front given) ≡ judgeLent given) (out : List ℕ) where

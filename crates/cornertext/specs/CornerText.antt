@@ -2,12 +2,16 @@
 use mathlib.Core.List.{List, [], _∷_}
 use Prim.Native.Char.{code}
 use Prim.Native.Nat.{ℕ, _+_, _*_, _^_}
-use lib.IntN.{ℤ}
+use lib.IntN.{ℤ, pos}
 use lib.ListN.{length}
+use Rattle.kinds.specs.LineColumns.{Column, number, signed}
 use Rattle.kinds.specs.Ranges.{atℤ}
 use Rattle.kinds.specs.Refusals.{Judged, passed, then}
+use Rattle.text.specs.Fields.{tab}
 use Rattle.text.specs.Left.{TextLeft, textLeft}
-use Rattle.text.specs.Written.{decimal, decimalℤ, lineText, linesText}
+use Rattle.text.specs.Written.{linesText}
+use Rattle.columns.specs.declared.Head.the-variants.{Indexed}
+use Rattle.columns.specs.ColumnText.{columnsText}
 use Rattle.table.specs.Table.{Table, factorsAt}
 use Rattle.corners.specs.Corners.{sheetBordersMost, flowsOf, judgeCorners}
 
@@ -15,9 +19,16 @@ use Rattle.corners.specs.Corners.{sheetBordersMost, flowsOf, judgeCorners}
 abbrev pub sheetMost : ℕ
 sheetMost = 2 ^ sheetBordersMost
 
+-- the columns of a K line after its row
+abbrev pub cornerColumns : List Column
+cornerColumns =
+    number  -- corner
+    ∷ signed  -- flow, grains
+    ∷ []
+
 -- `K`, row, corner number, signed flow
 abbrev pub cornerLine : (row corner : ℕ) → (flow : ℤ) → List ℕ
-cornerLine row corner flow = lineText (code "K") (decimal row ∷ decimal corner ∷ decimalℤ flow ∷ [])
+cornerLine row corner flow = columnsText tab (Indexed (code "K") row) cornerColumns (pos corner ∷ flow ∷ [])
 
 -- .. of machine numbers, each of at most 20 bytes: letter, tabs and LF besides
 abbrev pub lineMost : ℕ

@@ -1,7 +1,7 @@
 // One row's corner sheet as text (02, E1): a `K` line for each corner.
 // The text's length is counted before the first byte is stored. A sheet may pass 65,536 bytes: that limit is for input.
 ghost use mathlib.Core.Path.{_≡_};
-ghost use Prim.Native.Nat.{_+_, _≤_};
+ghost use Prim.Native.Nat.{_+_, _<_, _≤_};
 ghost use lib.ListN.{length};
 ghost use Rattle.kinds.specs.Refusals.{passed};
 ghost use Rattle.text.specs.Left.{textLeft, textSaid};
@@ -10,6 +10,7 @@ ghost use Rattle.table.specs.Table.{lent, front};
 ghost use Rattle.table.specs.Good.{Good};
 ghost use Rattle.corners.specs.Corners.{judgeSheet};
 ghost use Rattle.cornertext.specs.CornerText.{sheetMost, lineMost, cornerLine, cornersText, sheetTextOf, cornerTextLeft};
+use columns::Head;
 use kinds::BorderRecord;
 use kinds::Flows;
 use kinds::Header;
@@ -17,6 +18,9 @@ use kinds::Judgement;
 use kinds::Refusal;
 use kinds::RowRecord;
 use kinds::Written;
+
+// The columns of a K line after its row: the corner's number, and its signed flow.
+const COLUMNS: [u8; 2] = *b"ns";
 
 // The corners of twelve borders.
 pub const SHEET_MOST: usize = 1 << corners::BORDERS_MOST;
@@ -85,17 +89,16 @@ fn text_length(row: usize, flows: &[i64]) -> usize
     sum
 }
 
-// The letter, a tab before each field, the LF; and the fields.
 fn line_length(row: usize, corner: usize, flow: i64) -> usize
+    requires { ⌜ corner < sheetMost ⌝ }
     ensures { λ r. ⌜ (r ≡ length (cornerLine row corner flow)) × (r ≤ lineMost) ⌝ }
 {
-    let row_digits = text::put::digit_count(row as u64);
-    let corner_digits = text::put::digit_count(corner as u64);
-    5 + row_digits + corner_digits + text::put::signed_length(flow)
+    let raw = [corner as i64, flow];
+    columns::write::line_length(Head::Indexed(b'K', row), &COLUMNS, &raw)
 }
 
 fn put_corners(row: usize, flows: &[i64], out: &mut [u8]) -> usize
-    requires { ⌜ length (cornersText row (now flows)) ≤ length (now out) ⌝ }
+    requires { ⌜ (length (now flows) ≤ sheetMost) × (length (cornersText row (now flows)) ≤ length (now out)) ⌝ }
     ensures { λ r. ⌜ Put (cornersText row (now (flows .entry))) 0 (now (out .entry)) r (now (out .exit)) ⌝ }
 {
     let mut next: usize = 0;
@@ -106,12 +109,9 @@ fn put_corners(row: usize, flows: &[i64], out: &mut [u8]) -> usize
 }
 
 fn put_corner(row: usize, corner: usize, flow: i64, out: &mut [u8], at: usize) -> usize
-    requires { ⌜ at + length (cornerLine row corner flow) ≤ length (now out) ⌝ }
+    requires { ⌜ (corner < sheetMost) × (at + length (cornerLine row corner flow) ≤ length (now out)) ⌝ }
     ensures { λ r. ⌜ Put (cornerLine row corner flow) at (now (out .entry)) r (now (out .exit)) ⌝ }
 {
-    let next = text::put::put_byte(b'K', out, at);
-    let next = text::put::put_number_field(row as u64, out, next);
-    let next = text::put::put_number_field(corner as u64, out, next);
-    let next = text::put::put_signed_field(flow, out, next);
-    text::put::put_byte(b'\n', out, next)
+    let raw = [corner as i64, flow];
+    columns::write::put_line(b'\t', Head::Indexed(b'K', row), &COLUMNS, &raw, out, at)
 }

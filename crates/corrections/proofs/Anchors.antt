@@ -11,7 +11,7 @@ use Rattle.kinds.specs.Refusals.{Judged, passed, refused, refusal}
 use Rattle.text.specs.Fields.{numberAt, signedAt, shareAt}
 use Rattle.text.specs.Sheets.{sheet}
 use Rattle.columns.specs.Columns.{fieldAt, fieldsAt}
-use Rattle.columns.specs.ColumnLine.{indexAt, restAt, columnsLine}
+use Rattle.columns.specs.ColumnLine.{headAt, restAt, columnsLine}
 use Rattle.blame.specs.Blame.{goodAt, byteAt, fieldsByte, lineByte}
 use Rattle.blame.specs.RangeBlame.{pastSeps, rangeByte}
 use Rattle.lines.specs.Lines.{rowLine}
@@ -30,7 +30,7 @@ abbrev bad : (line byte : ℕ) → Judged (Unit {0})
 bad line byte = refused (refusal 10 line byte)
 
 unfoldable computing : Unit {0}
-unfolding firstFrom given inside shareOf rowOf rowFits factorFits numberAt signedAt shareAt fieldAt fieldsAt indexAt restAt columnsLine goodAt byteAt fieldsByte lineByte pastSeps rangeByte rowLine ofRow endedIndex givenIndex dueIndex
+unfolding firstFrom given inside shareOf rowOf rowFits factorFits numberAt signedAt shareAt fieldAt fieldsAt headAt restAt columnsLine goodAt byteAt fieldsByte lineByte pastSeps rangeByte rowLine ofRow endedIndex givenIndex dueIndex
 computing = tt
 
 pub record Sheets : Type 0 where

@@ -20,19 +20,22 @@ use Rattle.text.specs.Fields.{tab, feed, numberAt, withNumber}
 use Rattle.text.specs.Line.{Line, holds, form, range}
 use Rattle.text.specs.Written.{decimal}
 use Rattle.text.proofs.NumberTrip.{number-read, number-written}
-use Rattle.columns.specs.ColumnText.{fieldsEnded, indexText, columnsText}
+use Rattle.columns.specs.declared.Head.the-variants.{Indexed}
+use Rattle.columns.specs.ColumnText.{fieldsEnded, indexText, headText, columnsText}
 use Rattle.columns.proofs.ColumnTrip.{tab-ends, judged-read}
 use Rattle.table.specs.Table.{rowGood}
-use Rattle.lines.specs.Lines.{RowLine, row, rowBad, rowOut, rowLine}
+use Rattle.lines.specs.RowKinds.{badBy, outBy}
+use Rattle.lines.specs.Lines.{RowLine, row, rowLine}
+use Rattle.lines.specs.declared.row.RowKind.the-variants.{Table}
 use Rattle.lines.proofs.RowJudge.{RowHolds}
 use Rattle.corrections.specs.Corrections.{ofRow, handedOn, endedIndex, givenIndex, dueIndex, onCorrection, judgeFrom}
 
 -- ---- a good C line gives itself its index
 pub row-index : (zones : ℕ) (line : List ℕ) (i : ℕ) (c : RowLine) → rowLine zones line i ≡ holds c → numberAt line 2 tab ≡ Value i (2 + length (decimal i) + 1)
-unfolding rowLine columnsText indexText
+unfolding rowLine columnsText headText indexText
 row-index zones line i c e =
     let cs = rowColumns ++ factorColumns zones in
-    let h = judged-read (λ zs. rowGood (take rowItems zs) (drop rowItems zs)) (λ zs. row (take rowItems zs) (drop rowItems zs)) (rowBad zones line i) (λ zs. rowOut line (take rowItems zs) (drop rowItems zs)) tab (code "C") tab-ends cs i line c e in
+    let h = judged-read (λ zs. rowGood (take rowItems zs) (drop rowItems zs)) (λ zs. row (take rowItems zs) (drop rowItems zs)) (badBy Table zones line i) (λ zs. outBy Table line (take rowItems zs) (drop rowItems zs)) tab tab-ends (Indexed (code "C") i) cs line c e in
     let rest = fieldsEnded tab feed cs (h .zs) in
     number-written line 2 tab i rest (ap (drop 2) (h .read .here) ∙ append-assoc (decimal i) (tab ∷ []) rest) (h .read .small) refl
 

@@ -38,16 +38,16 @@ module _ (zones rows : ℕ) where
     at-end : length sheet ≤ s → (lineAt sheet s ≡ []) × (pieces (drop s sheet) ≡ [])
     at-end h = let e = drop-of-length-le sheet h in (ap lineOf e, ap pieces e)
 
-    pub walked-line : (day : List ℕ) (p : ℕ) → lineFor sheet s day p i ≡ handedOn (pieces sheet) (lineAt day p) i
-    walked-line day p =
+    pub walked-line : (day : List ℕ) → lineFor sheet s day i ≡ handedOn (pieces sheet) day i
+    walked-line day =
         ⊎-elim
         (λ h. let e = at-end h in
-        ap (λ (l : List ℕ). cond (ofRow l i) l (lineAt day p)) (e .0)
-        ∙ ap (λ (v : Bool). cond v [] (lineAt day p)) (no-line i)
-        ∙ sym (u .same (lineAt day p) i (omega arith) ∙ ap (λ (ls : List (List ℕ)). handedOn ls (lineAt day p) i) (e .1)))
+        ap (λ (l : List ℕ). cond (ofRow l i) l day) (e .0)
+        ∙ ap (λ (v : Bool). cond v [] day) (no-line i)
+        ∙ sym (u .same day i (omega arith) ∙ ap (λ (ls : List (List ℕ)). handedOn ls day i) (e .1)))
         (λ h. let e = pieces-at sheet s h in
-        next-line zones rows i (u .number) (lineAt sheet s) (pieces (drop (after sheet s) sheet)) (subst (λ (ls : List (List ℕ)). judgeFrom zones rows i (u .number) ls ≡ passed tt) e (u .good)) (lineAt day p)
-        ∙ sym (u .same (lineAt day p) i (omega arith) ∙ ap (λ (ls : List (List ℕ)). handedOn ls (lineAt day p) i) e))
+        next-line zones rows i (u .number) (lineAt sheet s) (pieces (drop (after sheet s) sheet)) (subst (λ (ls : List (List ℕ)). judgeFrom zones rows i (u .number) ls ≡ passed tt) e (u .good)) day
+        ∙ sym (u .same day i (omega arith) ∙ ap (λ (ls : List (List ℕ)). handedOn ls day i) e))
         (le-or-lt (length sheet) s)
 
     pub walked-more : Walked sheet (sheetAfter sheet s i) (i + 1)

@@ -5,9 +5,9 @@ use Prim.Native.Nat.{ℕ}
 use Rattle.text.specs.Line.{lineAt, after}
 use Rattle.corrections.specs.Corrections.{ofRow}
 
--- row i's line, where the sheet's next line is at place s and the day's at place p
-abbrev pub lineFor : (sheet : List ℕ) → (s : ℕ) → (day : List ℕ) → (p i : ℕ) → List ℕ
-lineFor sheet s day p i = cond (ofRow (lineAt sheet s) i) (lineAt sheet s) (lineAt day p)
+-- row i's line, where the sheet's next line is at place s and the day's is at hand
+abbrev pub lineFor : (sheet : List ℕ) → (s : ℕ) → (day : List ℕ) → (i : ℕ) → List ℕ
+lineFor sheet s day i = cond (ofRow (lineAt sheet s) i) (lineAt sheet s) day
 
 -- the place of the sheet's next line after row i
 abbrev pub sheetAfter : (sheet : List ℕ) → (s i : ℕ) → ℕ

@@ -6,16 +6,16 @@ ghost use lib.ListN.{length};
 ghost use Rattle.corrections.specs.Corrections.{ofRow};
 ghost use Rattle.corrections.specs.Walk.{lineFor, sheetAfter};
 
-// Row i's line, as the piece of the sheet that holds it, or else the piece of the day's text. The sheet's next line is at place s, the day's at place p.
-pub fn row_line<'a>(sheet: &'a [u8], s: usize, day: &'a [u8], p: usize, i: usize) -> &'a [u8]
-    requires { ⌜ (s ≤ length (now sheet)) × (p ≤ length (now day)) ⌝ }
-    ensures { λ r. ⌜ now r ≡ lineFor (now (sheet .entry)) s (now (day .entry)) p i ⌝ }
+// Row i's line, as the piece of the sheet that holds it, or else the piece of the day's text. The sheet's next line is at place s; the day's is `day`.
+pub fn row_line<'a>(sheet: &'a [u8], s: usize, day: &'a [u8], i: usize) -> &'a [u8]
+    requires { ⌜ s ≤ length (now sheet) ⌝ }
+    ensures { λ r. ⌜ now r ≡ lineFor (now (sheet .entry)) s (now (day .entry)) i ⌝ }
 {
     let line = text::line::line_at(sheet, s);
     if of_row(line, i) {
         return line;
     }
-    text::line::line_at(day, p)
+    day
 }
 
 // The place of the sheet's next line after row i.

@@ -18,7 +18,8 @@ use Rattle.kinds.proofs.RefusalLaws.{passed-is}
 use Rattle.marks.specs.Marks.{mayRise}
 use Rattle.text.specs.Fields.{tab, digits, value}
 use Rattle.text.specs.Sheets.{sheet}
-use Rattle.text.specs.Written.{textOf, decimal, decimalℤ, fieldsText, lineText, linesText}
+use Rattle.text.specs.Written.{textOf, decimal, decimalℤ, lineText, linesText}
+use Rattle.columns.specs.ColumnText.{fieldText, fieldsEnded, indexText, headText, columnsText}
 use Rattle.text.proofs.NumberTrip.{under-pow, digits-app, decimal-digits, text-value}
 use Rattle.table.specs.Table.{Table}
 use Rattle.reading.specs.Reading.{readCorrected}
@@ -80,7 +81,7 @@ zero-text = refl
 
 -- border 0's ATC in the text
 atc-said : (r : Result) → beyond ≡ resultText r → 3501 ≡ atcOf r 0
-unfolding resultText recordsText linesText lineText fieldsText decimalℤ atcOf atcRecord
+unfolding resultText recordsText linesText lineText decimalℤ fieldText fieldsEnded indexText headText columnsText atcOf atcRecord
 atc-said r e =
     let atcs = table (r .header .borders) (atcRecord r) in
     let lefts = table (r .header .rows) (rowRecord r) in

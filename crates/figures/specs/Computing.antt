@@ -1,5 +1,5 @@
 -- `unfolding computing` opens every definition of the crates below: for theorems by computation.
-use Rattle.block.specs.Block.{linesAt}
+use Rattle.runs.specs.Block.{linesAt}
 use Rattle.promises.specs.Demand.{loadOf}
 use Rattle.promises.specs.Order.{reorder}
 use Rattle.promises.specs.Ways.{resultIn, outcomeIn, outcomeTaking, unshortened}
@@ -21,18 +21,17 @@ use Rattle.printing.specs.Printed.{oneSheet, everySheet}
 use Rattle.corrections.specs.Corrections.{ofRow, endedIndex, givenIndex, dueIndex}
 use Rattle.reading.specs.Reading.{linesBy, readText, readCorrected, tablesLeft}
 use Rattle.answer.specs.Result.{resultText, answerFor, answerText, resultTextFor, resultTextLeft, resultTextMarkedLeft, answerForLeft, answerLeft, answerMarkedLeft, answerWith, answerWithLeft, answerCorrectedLeft}
-use Rattle.result.specs.Records.{orDash, recordsText}
+use Rattle.result.specs.Records.{recordsText}
 use Rattle.result.specs.Refusal.{refusalText}
 use Rattle.rounds.specs.Rounds.{sharers, raise, alone, raises, load, lowered, risen, apply, next, raised, counted, run, extract, mostSharers, bitsTo, bits, aloneBits}
 use Rattle.table.specs.Table.{stretch, balanced, twice, roomFor, judgeShape, judgeFor}
 use Rattle.rounds.specs.Last.{after, raiseIn, lastTo, lastRound}
 use Rattle.rounds.specs.Stopping.{stopRow}
 use Rattle.columns.specs.Columns.{fieldAt, fieldsAt}
-use Rattle.columns.specs.ColumnLine.{indexAt, restAt, columnsLine, plainLine}
+use Rattle.columns.specs.ColumnLine.{headAt, restAt, columnsLine}
 use Rattle.columns.specs.Optional.{optionalLine}
-use Rattle.columns.specs.ColumnText.{fieldText, fieldsEnded, indexText, columnsText, plainText}
-use Rattle.columns.specs.Optional.{plainOptional}
-use Rattle.blame.specs.Blame.{goodAt, byteAt, fieldsByte, lineByte, plainByte}
+use Rattle.columns.specs.ColumnText.{fieldText, fieldsEnded, indexText, headText, columnsText}
+use Rattle.blame.specs.Blame.{goodAt, byteAt, fieldsByte, lineByte}
 use Rattle.blame.specs.RangeBlame.{pastSeps, rangeByte}
 use Rattle.text.specs.Fields.{numberAt, signedAt, shareAt}
 use Rattle.text.specs.Left.{textLeft}
@@ -40,5 +39,5 @@ use Rattle.text.specs.Written.{textOf, decimal, decimalℤ, fieldsText, lineTex
 use Rattle.writing.specs.Writing.{tableText, writeLeft, rewriteCorrectedLeft}
 
 unfoldable pub computing : Unit {0}
-unfolding markedBy faultyMark judgeMarks extractMarkedLeft answerFor resultTextFor resultTextMarkedLeft answerForLeft answerMarkedLeft linesAt loadOf reorder resultIn outcomeIn outcomeTaking unshortened endBy rowsOf kept gridOf startOf resultOf atcOf leftOf lastOf stopOf judgeStart outcomeOf nOf lOf atcRecord rowRecord extractLeft raisedBy cornerFlows judgeCorners sheetLeft cornersLeft cornersText cornerTextLeft headerFits allocatedItems zoneFits exists hubsFit hubsOf borderFits borderOf shareOf rowOf rowFits factorFits worth defaultOf then either unless refuseAt refuseFirst need grains f0coreOf fuafOf baseOf amrOf signedFactor pOf ltaKw cornerPart cornerSum sOf ltaMarginOf ramOf ramAt highest lowest spreadOf shifted below stateOf ifZero sum count largest lesser least orZero table firstFrom given maxℤ minℤ positivePart sameℤ inside sumℤ headerLine positionLine borderLine rowLine oneSheet everySheet ofRow endedIndex givenIndex dueIndex linesBy readText readCorrected tablesLeft orDash recordsText resultText refusalText answerText resultTextLeft answerLeft answerWith answerWithLeft answerCorrectedLeft sharers raise alone raises load lowered risen apply next raised counted run extract after raiseIn lastTo lastRound stopRow mostSharers bitsTo bits aloneBits stretch balanced twice roomFor judgeShape judgeFor numberAt signedAt shareAt textOf decimal decimalℤ fieldsText lineText linesText tableText textLeft writeLeft rewriteCorrectedLeft fieldAt fieldsAt indexAt restAt columnsLine plainLine plainOptional optionalLine fieldText fieldsEnded indexText columnsText plainText gridBy setupWith beginBy judgeBy goodAt byteAt fieldsByte lineByte plainByte pastSeps rangeByte resultMarked outcomeMarked extractFor outcomeFor
+unfolding markedBy faultyMark judgeMarks extractMarkedLeft answerFor resultTextFor resultTextMarkedLeft answerForLeft answerMarkedLeft linesAt loadOf reorder resultIn outcomeIn outcomeTaking unshortened endBy rowsOf kept gridOf startOf resultOf atcOf leftOf lastOf stopOf judgeStart outcomeOf nOf lOf atcRecord rowRecord extractLeft raisedBy cornerFlows judgeCorners sheetLeft cornersLeft cornersText cornerTextLeft headerFits allocatedItems zoneFits exists hubsFit hubsOf borderFits borderOf shareOf rowOf rowFits factorFits worth defaultOf then either unless refuseAt refuseFirst need grains f0coreOf fuafOf baseOf amrOf signedFactor pOf ltaKw cornerPart cornerSum sOf ltaMarginOf ramOf ramAt highest lowest spreadOf shifted below stateOf ifZero sum count largest lesser least orZero table firstFrom given maxℤ minℤ positivePart sameℤ inside sumℤ headerLine positionLine borderLine rowLine oneSheet everySheet ofRow endedIndex givenIndex dueIndex linesBy readText readCorrected tablesLeft recordsText resultText refusalText answerText resultTextLeft answerLeft answerWith answerWithLeft answerCorrectedLeft sharers raise alone raises load lowered risen apply next raised counted run extract after raiseIn lastTo lastRound stopRow mostSharers bitsTo bits aloneBits stretch balanced twice roomFor judgeShape judgeFor numberAt signedAt shareAt textOf decimal decimalℤ fieldsText lineText linesText tableText textLeft writeLeft rewriteCorrectedLeft fieldAt fieldsAt headAt restAt columnsLine optionalLine fieldText fieldsEnded indexText columnsText headText gridBy setupWith beginBy judgeBy goodAt byteAt fieldsByte lineByte pastSeps rangeByte resultMarked outcomeMarked extractFor outcomeFor
 computing = tt

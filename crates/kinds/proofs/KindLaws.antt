@@ -12,8 +12,9 @@ use Rattle.numbers.specs.Ints.{Within, minus, sameℤ, inside}
 use Rattle.numbers.proofs.IntLaws.{Between, same-true, same-false, inside-true, inside-within, inside-pos, within-pos}
 use Rattle.kinds.specs.declared.Header.{Header}
 use Rattle.kinds.specs.declared.Share.the-variants.{Standard, Written}
-use Rattle.kinds.specs.Limits.{zonesLeast, zonesMost, bordersLeast, bordersMost, rowsLeast, rowsMost, intradayMark, netMost, ltaMost, fmaxLeast, fmaxMost, flowMost, shareMost, shareStandard, vaMost, factorMost}
-use Rattle.kinds.specs.Ranges.{atℤ, writtenFits, headerFits, isIntraday, allocatedItems, profiled, zoneFits, exists, hubsFit, borderFits, borderOf, shareOf, rowOf, rowFits, factorFits, worth, defaultOf}
+use Rattle.kinds.specs.Limits.{zonesLeast, zonesMost, bordersLeast, bordersMost, rowsLeast, rowsMost, intradayMark, netMost, ltaLeast, ltaMost, fmaxLeast, fmaxMost, frmLeast, flowMost, shareMost, shareStandard, vaLeast, vaMost, factorMost}
+use Rattle.kinds.specs.Ranges.{atℤ, headerTests, headerFits, isIntraday, allocatedItems, profiled, zoneTests, zoneFits, exists, noHubs, hubTests, hubsFit, borderTests, borderFits, borderOf, shareOf, rowOf, rowTests, rowFits, factorFits, worth, defaultOf}
+use Rattle.kinds.proofs.AllLaws.{all-at}
 
 -- ---- numbers from 0 on
 
@@ -26,17 +27,6 @@ pub exists-test : (zones : ℕ) (z : ℤ) → not (ltZ z (pos 0)) ≡ true → l
 unfolding exists
 exists-test zones (pos n) e = rw e
 exists-test zones (negsuc n) e = absurd (subst T (sym e) tt)
-
--- ---- a record as its numbers
-
-pub border-listed : (zones : ℕ) (raw : List ℤ) → borderFits zones (atℤ raw 0 ∷ atℤ raw 1 ∷ atℤ raw 2 ∷ atℤ raw 3 ∷ atℤ raw 4 ∷ []) ≡ borderFits zones raw
-unfolding borderFits
-border-listed zones raw = refl
-
-pub row-listed : (raw : List ℤ)
-    → rowFits (atℤ raw 0 ∷ atℤ raw 1 ∷ atℤ raw 2 ∷ atℤ raw 3 ∷ atℤ raw 4 ∷ atℤ raw 5 ∷ atℤ raw 6 ∷ []) ≡ rowFits raw
-unfolding rowFits rowOf
-row-listed raw = refl
 
 -- ---- what is known of a record that fits
 
@@ -53,30 +43,27 @@ pub record HeaderIn (h : Header) : Type 0 where
 pub header-in : (h : Header) → headerFits h ≡ true → HeaderIn h
 unfolding headerFits
 header-in h e =
-    let i = and-eq-true-iff _ _ .0 e in
-    let g = and-eq-true-iff _ _ .0 (i .0) in
-    let f = and-eq-true-iff _ _ .0 (g .0) in
-    let d = and-eq-true-iff _ _ .0 (f .0) in
-    let c = and-eq-true-iff _ _ .0 (d .0) in
-    let b = and-eq-true-iff _ _ .0 (c .0) in
-    let a = and-eq-true-iff _ _ .0 (b .0) in
+    let all = all-at (headerTests h) e in
+    let zones = and-eq-true-iff _ _ .0 (all 0) in
+    let borders = and-eq-true-iff _ _ .0 (all 1) in
+    let rows = and-eq-true-iff _ _ .0 (all 2) in
     record {
-      zones-least = leb-true _ _ (a .0);
-      zones-most = leb-true _ _ (a .1);
-      borders-least = leb-true _ _ (b .1);
-      borders-most = leb-true _ _ (c .1);
-      rows-least = leb-true _ _ (d .1);
-      rows-most = leb-true _ _ (f .1);
-      share = g .1;
-      intraday = leb-true _ _ (i .1);
+      zones-least = leb-true _ _ (zones .0);
+      zones-most = leb-true _ _ (zones .1);
+      borders-least = leb-true _ _ (borders .0);
+      borders-most = leb-true _ _ (borders .1);
+      rows-least = leb-true _ _ (rows .0);
+      rows-most = leb-true _ _ (rows .1);
+      share = all 3;
+      intraday = leb-true _ _ (all 4);
     }
 
 -- a header in range stays so whatever follows the Z lines
 pub profiled-fits : (h : Header) (intraday : Bool) → headerFits h ≡ true → headerFits (profiled h intraday) ≡ true
 unfolding headerFits
-profiled-fits h intraday e = rw (and-eq-true-iff (writtenFits h) (leb (h .intraday) intradayMark) .0 e .0) (go intraday)
+profiled-fits h intraday e = let all = all-at (headerTests h) e in rw (all 0, all 1, all 2, all 3) (go intraday)
   where
-    go : (t : Bool) → leb (cond t intradayMark 0) intradayMark ≡ true
+    go : (t : Bool) → (leb (cond t intradayMark 0) intradayMark && true) ≡ true
     go true = refl
     go false = refl
 
@@ -100,7 +87,7 @@ module _ (h : Header) where
 
 pub zone-in : (net : ℤ) → zoneFits net ≡ true → Within netMost net
 unfolding zoneFits
-zone-in net e = inside-within netMost net e
+zone-in net e = inside-within netMost net (all-at (zoneTests net) e 0)
 
 pub exists-in : (zones : ℕ) (z : ℤ) → exists zones z ≡ true → (z ≡ pos (natAbs z)) × (natAbs z < zones)
 unfolding exists
@@ -115,15 +102,14 @@ pub data HubsIn (zones : ℕ) (sending receiving : ℤ) : Type 0 where
 module _ (zones : ℕ) (sending receiving : ℤ) where
   pub hubs-in : hubsFit zones sending receiving ≡ true → HubsIn zones sending receiving
   unfolding hubsFit
-  hubs-in e = go (sameℤ sending (minus 1) && sameℤ receiving (minus 1)) refl e
+  hubs-in e = let all = all-at (hubTests zones sending receiving) e in go (noHubs sending receiving) refl (all 0) (all 1)
     where
-      go : (t : Bool) → (sameℤ sending (minus 1) && sameℤ receiving (minus 1)) ≡ t
-          → (t || (exists zones sending && exists zones receiving && not (sameℤ sending receiving))) ≡ true → HubsIn zones sending receiving
-      go true q e = let a = and-eq-true-iff _ _ .0 q in none (same-true sending (minus 1) (a .0)) (same-true receiving (minus 1) (a .1))
-      go false q e =
-          let b = and-eq-true-iff _ _ .0 e in
-          let a = and-eq-true-iff _ _ .0 (b .0) in
-          both (exists-in zones sending (a .0)) (exists-in zones receiving (a .1)) (same-false sending receiving (not-true (sameℤ sending receiving) (b .1)))
+      go : (t : Bool) → noHubs sending receiving ≡ t → (t || exists zones sending) ≡ true → (t || (exists zones receiving && not (sameℤ sending receiving))) ≡ true
+          → HubsIn zones sending receiving
+      go true q s r = let a = and-eq-true-iff _ _ .0 q in none (same-true sending (minus 1) (a .0)) (same-true receiving (minus 1) (a .1))
+      go false q s r =
+          let a = and-eq-true-iff _ _ .0 r in
+          both (exists-in zones sending s) (exists-in zones receiving (a .0)) (same-false sending receiving (not-true (sameℤ sending receiving) (a .1)))
 
   -- a sending hub that is not below 0 comes with a receiving hub
   pub hubs-natural : hubsFit zones sending receiving ≡ true → ltZ sending (pos 0) ≡ false → (sending ≡ pos (natAbs sending)) × (receiving ≡ pos (natAbs receiving))
@@ -146,54 +132,48 @@ pub record BorderIn (zones : ℕ) (raw : List ℤ) : Type 0 where
   pub hubs : HubsIn zones (atℤ raw 3) (atℤ raw 4)
 
 pub border-in : (zones : ℕ) (raw : List ℤ) → borderFits zones raw ≡ true → BorderIn zones raw
-unfolding borderFits borderOf
+unfolding borderFits borderOf hubsFit
 border-in zones raw e =
-    let h = and-eq-true-iff _ _ .0 e in
-    let d = and-eq-true-iff _ _ .0 (h .0) in
-    let c = and-eq-true-iff _ _ .0 (d .0) in
-    let b = and-eq-true-iff _ _ .0 (c .0) in
-    let from = exists-in zones (atℤ raw 0) (b .0) in
-    let to = exists-in zones (atℤ raw 1) (b .1) in
-    let lta = inside-pos 0 ltaMost (atℤ raw 2) (d .1) in
+    let all = all-at (borderTests zones raw) e in
+    let later = and-eq-true-iff _ _ .0 (all 1) in
+    let from = exists-in zones (atℤ raw 0) (all 0) in
+    let to = exists-in zones (atℤ raw 1) (later .0) in
+    let lta = inside-pos ltaLeast ltaMost (atℤ raw 2) (all 2) in
+    let hubs : hubsFit zones (atℤ raw 3) (atℤ raw 4) ≡ true = rw (all 3, all 4) in
     record {
       from = from .0;
       to = to .0;
       lta = lta .is;
       from-below = from .1;
       to-below = to .1;
-      apart = λ q. same-false (atℤ raw 0) (atℤ raw 1) (not-true (sameℤ (atℤ raw 0) (atℤ raw 1)) (c .1)) (from .0 ∙ ap pos q ∙ sym (to .0));
+      apart = λ q. same-false (atℤ raw 0) (atℤ raw 1) (not-true (sameℤ (atℤ raw 0) (atℤ raw 1)) (later .1)) (from .0 ∙ ap pos q ∙ sym (to .0));
       lta-most = lta .most;
-      hubs-fit = h .1;
-      hubs = hubs-in zones (atℤ raw 3) (atℤ raw 4) (h .1);
+      hubs-fit = hubs;
+      hubs = hubs-in zones (atℤ raw 3) (atℤ raw 4) hubs;
     }
 
 pub record RowIn (raw : List ℤ) : Type 0 where
   pub fmax : Between fmaxLeast fmaxMost (rowOf raw .fmax)
-  pub frm : Between 0 (natAbs (rowOf raw .fmax)) (rowOf raw .frm)
+  pub frm : Between frmLeast (natAbs (rowOf raw .fmax)) (rowOf raw .frm)
   pub fref : Within flowMost (rowOf raw .fref)
   pub f0all : Within flowMost (rowOf raw .f0all)
   pub share : inside (minus 1) (pos shareMost) (atℤ raw 4) ≡ true
-  pub cva : Between 0 vaMost (rowOf raw .cva)
-  pub iva : Between 0 vaMost (rowOf raw .iva)
+  pub cva : Between vaLeast vaMost (rowOf raw .cva)
+  pub iva : Between vaLeast vaMost (rowOf raw .iva)
 
 pub row-in : (raw : List ℤ) → rowFits raw ≡ true → RowIn raw
-unfolding rowFits
+unfolding rowFits rowOf
 row-in raw e =
-    let iva = and-eq-true-iff _ _ .0 e in
-    let cva = and-eq-true-iff _ _ .0 (iva .0) in
-    let share = and-eq-true-iff _ _ .0 (cva .0) in
-    let f0all = and-eq-true-iff _ _ .0 (share .0) in
-    let fref = and-eq-true-iff _ _ .0 (f0all .0) in
-    let frm = and-eq-true-iff _ _ .0 (fref .0) in
-    let fmax = inside-pos fmaxLeast fmaxMost (rowOf raw .fmax) (frm .0) in
+    let all = all-at (rowTests raw) e in
+    let fmax = inside-pos fmaxLeast fmaxMost (atℤ raw 0) (all 0) in
     record {
       fmax = fmax;
-      frm = inside-pos 0 (natAbs (rowOf raw .fmax)) (rowOf raw .frm) (subst (λ (z : ℤ). inside (pos 0) z (rowOf raw .frm) ≡ true) (fmax .is) (frm .1));
-      fref = inside-within flowMost (rowOf raw .fref) (fref .1);
-      f0all = inside-within flowMost (rowOf raw .f0all) (f0all .1);
-      share = share .1;
-      cva = inside-pos 0 vaMost (rowOf raw .cva) (cva .1);
-      iva = inside-pos 0 vaMost (rowOf raw .iva) (iva .1);
+      frm = inside-pos frmLeast (natAbs (atℤ raw 0)) (atℤ raw 1) (subst (λ (z : ℤ). inside (pos frmLeast) z (atℤ raw 1) ≡ true) (fmax .is) (all 1));
+      fref = inside-within flowMost (atℤ raw 2) (all 2);
+      f0all = inside-within flowMost (atℤ raw 3) (all 3);
+      share = all 4;
+      cva = inside-pos vaLeast vaMost (atℤ raw 5) (all 5);
+      iva = inside-pos vaLeast vaMost (atℤ raw 6) (all 6);
     }
 
 -- a raw share: -1 or a share of Fmax

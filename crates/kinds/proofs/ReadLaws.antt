@@ -5,16 +5,14 @@ use mathlib.Core.List.{List}
 use Prim.Native.Nat.{ℕ}
 use lib.IntN.{ℤ}
 use Rattle.numbers.proofs.TestLaws.{zero-one}
-use Rattle.kinds.specs.declared.Header.{Header}
-use Rattle.kinds.specs.declared.HeaderRead.the-variants as header
 use Rattle.kinds.specs.declared.Zone.{Zone}
 use Rattle.kinds.specs.declared.ZoneRead.the-variants as zone
 use Rattle.kinds.specs.declared.Border.{Border}
 use Rattle.kinds.specs.declared.BorderRead.the-variants as border
 use Rattle.kinds.specs.declared.Row.{Row}
 use Rattle.kinds.specs.declared.RowRead.the-variants as row
-use Rattle.kinds.specs.Ranges.{headerFits, zoneFits, borderFits, borderOf, rowFits, rowOf}
-use Rattle.kinds.specs.Kinds.{headerRead, zoneRead, borderRead, rowRead}
+use Rattle.kinds.specs.Ranges.{zoneFits, borderFits, borderOf, rowFits, rowOf}
+use Rattle.kinds.specs.Kinds.{zoneRead, borderRead, rowRead}
 
 module _ (net : ℤ) where
   pub zone-good : (z : Zone) → zoneRead net ≡ zone.Good z → zoneFits net ≡ true
@@ -64,25 +62,5 @@ module _ (raw : List ℤ) where
   row-out e = go (rowFits raw) e
     where
       go : (t : Bool) → cond t (row.Good (rowOf raw)) row.Out ≡ row.Out → t ≡ false
-      go true e = absurd (zero-one cc)
-      go false e = refl
-
-module _ (zones borders rows : ℕ) (share : ℤ) where
-  abbrev counts : Header
-  counts = record { zones = zones; borders = borders; rows = rows; share = share; intraday = 0 }
-
-  pub header-good : (h : Header) → headerRead zones borders rows share ≡ header.Good h → (headerFits counts ≡ true) × (counts ≡ h)
-  unfolding headerRead
-  header-good h e = go (headerFits counts) e
-    where
-      go : (t : Bool) → cond t (header.Good counts) header.Out ≡ header.Good h → (t ≡ true) × (counts ≡ h)
-      go true e = (refl, cc)
-      go false e = absurd (zero-one cc)
-
-  pub header-out : headerRead zones borders rows share ≡ header.Out → headerFits counts ≡ false
-  unfolding headerRead
-  header-out e = go (headerFits counts) e
-    where
-      go : (t : Bool) → cond t (header.Good counts) header.Out ≡ header.Out → t ≡ false
       go true e = absurd (zero-one cc)
       go false e = refl

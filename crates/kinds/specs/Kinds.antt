@@ -3,21 +3,13 @@ use mathlib.Core.Bool.{cond}
 use mathlib.Core.List.{List}
 use Prim.Native.Nat.{ℕ}
 use lib.IntN.{ℤ}
-use Rattle.kinds.specs.declared.Header.{Header}
-use Rattle.kinds.specs.declared.HeaderRead.{HeaderRead}
-use Rattle.kinds.specs.declared.HeaderRead.the-variants as header
 use Rattle.kinds.specs.declared.ZoneRead.{ZoneRead}
 use Rattle.kinds.specs.declared.ZoneRead.the-variants as zone
 use Rattle.kinds.specs.declared.BorderRead.{BorderRead}
 use Rattle.kinds.specs.declared.BorderRead.the-variants as border
 use Rattle.kinds.specs.declared.RowRead.{RowRead}
 use Rattle.kinds.specs.declared.RowRead.the-variants as row
-use Rattle.kinds.specs.Ranges.{headerFits, zoneFits, borderFits, borderOf, rowFits, rowOf}
-
-unfoldable pub headerRead : (zones borders rows : ℕ) → (share : ℤ) → HeaderRead
-headerRead zones borders rows share =
-    let h : Header = record { zones = zones; borders = borders; rows = rows; share = share; intraday = 0 } in
-    cond (headerFits h) (header.Good h) header.Out
+use Rattle.kinds.specs.Ranges.{zoneFits, borderFits, borderOf, rowFits, rowOf}
 
 unfoldable pub zoneRead : ℤ → ZoneRead
 zoneRead net = cond (zoneFits net) (zone.Good (record { net = net })) zone.Out

@@ -29,6 +29,9 @@ abbrev pub netMost : ℕ
 netMost = 100000000
 
 -- B: LTA, MW
+abbrev pub ltaLeast : ℕ
+ltaLeast = 0
+
 abbrev pub ltaMost : ℕ
 ltaMost = 10000
 
@@ -38,6 +41,10 @@ fmaxLeast = 1
 
 abbrev pub fmaxMost : ℕ
 fmaxMost = 10000000
+
+-- .. FRM, kW; its most is the row's Fmax
+abbrev pub frmLeast : ℕ
+frmLeast = 0
 
 -- .. Fref's and F0all's magnitude, kW
 abbrev pub flowMost : ℕ
@@ -51,6 +58,9 @@ abbrev pub shareStandard : ℕ
 shareStandard = 7000
 
 -- .. CVA and IVA, kW
+abbrev pub vaLeast : ℕ
+vaLeast = 0
+
 abbrev pub vaMost : ℕ
 vaMost = 10000000
 

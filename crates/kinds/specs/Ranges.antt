@@ -1,7 +1,9 @@
 -- What each line of the table may hold (01, "The table as text", the column of ranges): each range stands here once.
 -- A raw record is the list of numbers of a line, without letter and index. Judging text and judging lent tables both cite these.
-use mathlib.Core.Bool.{Bool, cond, not, _&&_, _||_}
-use mathlib.Core.List.{List}
+-- A range is a list of tests, `..Tests`: one for each field from the left, and a test of two fields stands at the later. `..Fits` says that all hold; the
+-- first that fails names the byte to blame in a line (02, E5; crate blame).
+use mathlib.Core.Bool.{Bool, true, cond, not, _&&_, _||_}
+use mathlib.Core.List.{List, [], _∷_, _++_}
 use Prim.Native.Nat.{ℕ}
 use lib.Dec.{leb, eqb}
 use lib.IntN.{ℤ, pos, natAbs}
@@ -15,23 +17,33 @@ use Rattle.kinds.specs.declared.Border.{Border}
 use Rattle.kinds.specs.declared.Share.{Share}
 use Rattle.kinds.specs.declared.Share.the-variants.{Standard, Written}
 use Rattle.kinds.specs.declared.Row.{Row}
-use Rattle.kinds.specs.Limits.{zonesLeast, zonesMost, bordersLeast, bordersMost, rowsLeast, rowsMost, intradayMark, netMost, ltaMost, fmaxLeast, fmaxMost, flowMost, shareMost, shareStandard, vaMost, factorMost}
+use Rattle.kinds.specs.Limits.{zonesLeast, zonesMost, bordersLeast, bordersMost, rowsLeast, rowsMost, intradayMark, netMost, ltaLeast, ltaMost, fmaxLeast, fmaxMost, frmLeast, flowMost, shareMost, shareStandard, vaLeast, vaMost, factorMost}
 
 -- number k of a raw record, or of any list of whole numbers
 abbrev pub atℤ : List ℤ → ℕ → ℤ
 atℤ raw k = getD raw k (pos 0)
 
--- H: zones 2..16, borders 1..64, rows 1..200, the default of R 0..10000, or -1 where it was not written (02, E6)
-abbrev pub writtenFits : Header → Bool
-writtenFits h =
-    leb zonesLeast (h .zones) && leb (h .zones) zonesMost
-    && leb bordersLeast (h .borders) && leb (h .borders) bordersMost
-    && leb rowsLeast (h .rows) && leb (h .rows) rowsMost
-    && inside (minus 1) (pos shareMost) (h .share)
+-- all tests hold
+abbrev pub allTrue : List Bool → Bool
+allTrue [] = true
+allTrue (t ∷ ts) = t && allTrue ts
 
--- .. and whether T records are there (02, E12): 1 where they are, 0 where not; a lent header with another number is out of range
+-- H: zones 2..16, borders 1..64, rows 1..200, the default of R 0..10000, or -1 where it was not written (02, E6);
+-- and then whether T records are there (02, E12): 1 where they are, 0 where not. That is no field of the line: a lent header alone may have another number.
+-- The most borders is an argument, so that another limit can be spoken of (02, E8; crate oldtexts)
+abbrev pub headerTestsBy : (limit : ℕ) → Header → List Bool
+headerTestsBy limit h =
+    (leb zonesLeast (h .zones) && leb (h .zones) zonesMost)
+    ∷ (leb bordersLeast (h .borders) && leb (h .borders) limit)
+    ∷ (leb rowsLeast (h .rows) && leb (h .rows) rowsMost)
+    ∷ inside (minus 1) (pos shareMost) (h .share)
+    ∷ leb (h .intraday) intradayMark ∷ []
+
+abbrev pub headerTests : Header → List Bool
+headerTests = headerTestsBy bordersMost
+
 unfoldable pub headerFits : Header → Bool
-headerFits h = writtenFits h && leb (h .intraday) intradayMark
+headerFits h = allTrue (headerTests h)
 
 -- .. T is there: the table is of the intraday profile
 abbrev pub isIntraday : Header → Bool
@@ -46,27 +58,40 @@ abbrev pub profiled : Header → (intraday : Bool) → Header
 profiled h intraday = record { zones = h .zones; borders = h .borders; rows = h .rows; share = h .share; intraday = cond intraday intradayMark 0 }
 
 -- Z: reference net position, kW, -100000000..100000000; T: allocated net position, the same (02, E12)
+abbrev pub zoneTests : (net : ℤ) → List Bool
+zoneTests net = inside (minus netMost) (pos netMost) net ∷ []
+
 unfoldable pub zoneFits : ℤ → Bool
-zoneFits net = inside (minus netMost) (pos netMost) net
+zoneFits net = allTrue (zoneTests net)
 
 -- B: from zone, to zone (both exist, not equal), LTA in MW 0..10000
 unfoldable pub exists : (zones : ℕ) → ℤ → Bool
 exists zones z = not (ltZ z (pos 0)) && ltZ z (pos zones)
 
 -- .. and the hubs of a cable (02, E3): none, which the raw numbers tell by -1; or sending hub and receiving hub (both exist, not equal)
+abbrev pub noHubs : (sending receiving : ℤ) → Bool
+noHubs sending receiving = sameℤ sending (minus 1) && sameℤ receiving (minus 1)
+
+abbrev pub hubTests : (zones : ℕ) → (sending receiving : ℤ) → List Bool
+hubTests zones sending receiving =
+    (noHubs sending receiving || exists zones sending)
+    ∷ (noHubs sending receiving || (exists zones receiving && not (sameℤ sending receiving))) ∷ []
+
 unfoldable pub hubsFit : (zones : ℕ) → (sending receiving : ℤ) → Bool
-hubsFit zones sending receiving =
-    (sameℤ sending (minus 1) && sameℤ receiving (minus 1))
-    || (exists zones sending && exists zones receiving && not (sameℤ sending receiving))
+hubsFit zones sending receiving = allTrue (hubTests zones sending receiving)
 
 unfoldable pub hubsOf : (sending receiving : ℤ) → Hubs
 hubsOf sending receiving = cond (ltZ sending (pos 0)) Without (Between (natAbs sending) (natAbs receiving))
 
+abbrev pub borderTests : (zones : ℕ) → (raw : List ℤ) → List Bool
+borderTests zones raw =
+    exists zones (atℤ raw 0)
+    ∷ (exists zones (atℤ raw 1) && not (sameℤ (atℤ raw 0) (atℤ raw 1)))
+    ∷ inside (pos ltaLeast) (pos ltaMost) (atℤ raw 2)
+    ∷ hubTests zones (atℤ raw 3) (atℤ raw 4)
+
 unfoldable pub borderFits : (zones : ℕ) → List ℤ → Bool
-borderFits zones raw =
-    exists zones (atℤ raw 0) && exists zones (atℤ raw 1) && not (sameℤ (atℤ raw 0) (atℤ raw 1))
-    && inside (pos 0) (pos ltaMost) (atℤ raw 2)
-    && hubsFit zones (atℤ raw 3) (atℤ raw 4)
+borderFits zones raw = allTrue (borderTests zones raw)
 
 unfoldable pub borderOf : List ℤ → Border
 borderOf raw = record { from = natAbs (atℤ raw 0); to = natAbs (atℤ raw 1); lta = natAbs (atℤ raw 2); hubs = hubsOf (atℤ raw 3) (atℤ raw 4) }
@@ -88,19 +113,30 @@ rowOf raw =
     }
 
 -- C: Fmax kW 1..10000000, FRM kW 0..Fmax, Fref kW -20000000..20000000, F0all kW same range, R 0..10000 or "-", CVA kW 0..10000000, IVA kW same
+abbrev pub rowTests : (raw : List ℤ) → List Bool
+rowTests raw =
+    inside (pos fmaxLeast) (pos fmaxMost) (atℤ raw 0)
+    ∷ inside (pos frmLeast) (atℤ raw 0) (atℤ raw 1)
+    ∷ inside (minus flowMost) (pos flowMost) (atℤ raw 2)
+    ∷ inside (minus flowMost) (pos flowMost) (atℤ raw 3)
+    ∷ inside (minus 1) (pos shareMost) (atℤ raw 4)
+    ∷ inside (pos vaLeast) (pos vaMost) (atℤ raw 5)
+    ∷ inside (pos vaLeast) (pos vaMost) (atℤ raw 6) ∷ []
+
 unfoldable pub rowFits : List ℤ → Bool
-rowFits raw =
-    inside (pos fmaxLeast) (pos fmaxMost) (rowOf raw .fmax)
-    && inside (pos 0) (rowOf raw .fmax) (rowOf raw .frm)
-    && inside (minus flowMost) (pos flowMost) (rowOf raw .fref)
-    && inside (minus flowMost) (pos flowMost) (rowOf raw .f0all)
-    && inside (minus 1) (pos shareMost) (atℤ raw 4)
-    && inside (pos 0) (pos vaMost) (rowOf raw .cva)
-    && inside (pos 0) (pos vaMost) (rowOf raw .iva)
+rowFits raw = allTrue (rowTests raw)
 
 -- .. then one factor per zone, -100000..100000
 unfoldable pub factorFits : ℤ → Bool
 factorFits factor = inside (minus factorMost) (pos factorMost) factor
+
+abbrev pub factorTests : (factors : List ℤ) → List Bool
+factorTests [] = []
+factorTests (f ∷ fs) = factorFits f ∷ factorTests fs
+
+-- .. the tests of the whole line
+abbrev pub rowLineTests : (raw factors : List ℤ) → List Bool
+rowLineTests raw factors = rowTests raw ++ factorTests factors
 
 -- what R is worth, in ten-thousandths: "-" takes the default in force
 unfoldable pub worth : (default : ℤ) → Share → ℤ

@@ -1,13 +1,15 @@
 // The values that a table carries, with their ranges, and why a table is turned away.
-// A range is given once, on the type that carries the value, and that type's constructor judges by it.
+// A range is given once, on the type that carries the value: its `tests` are one for each field of a line, in the line's order, and a test of two fields
+// stands at the later. The value is within its range where all hold, and the first that fails names the field to blame (crate blame).
 // So are the columns of a line, in 01's order and without the index, one byte for each field: n a number, s a signed number, r a number or "-",
 // and in the planners' sheet (02, E11) p a power in MW, q one that may be below 0, f a factor.
-// The tests of a record are joined by `&`: each may be made whatever the others say, so judging has no branch.
+// Each test is made whatever the others say, and they are joined by `&`, so judging has no branch.
 ghost use mathlib.Core.Path.{_≡_};
 ghost use mathlib.Core.Bool.{true};
-ghost use mathlib.Core.List.{[], _∷_};
-ghost use Rattle.kinds.specs.Ranges.{headerFits, isIntraday, allocatedItems, profiled, defaultOf, exists, hubsFit, hubsOf, borderFits, borderOf, shareOf, rowFits, rowOf, factorFits, worth};
-ghost use Rattle.kinds.specs.Kinds.{headerRead, zoneRead, borderRead, rowRead};
+ghost use lib.ListN.{length};
+ghost use Rattle.kinds.specs.LineColumns.{borderItems, rowItems};
+ghost use Rattle.kinds.specs.Ranges.{allTrue, headerTests, headerFits, isIntraday, allocatedItems, profiled, defaultOf, zoneTests, zoneFits, exists, hubsFit, hubsOf, noHubs, borderTests, borderFits, borderOf, shareOf, rowTests, rowFits, rowOf, factorFits, worth};
+ghost use Rattle.kinds.specs.Kinds.{zoneRead, borderRead, rowRead};
 ghost use Rattle.kinds.specs.Refusals.{refusal, tooLong, wrongFormAt, wrongForm, outOfRangeAt, outOfRange, givenTwice, noRow, unlimited, belowZero, tooShort, noCorners, wrongCorrection, malformedClaim, notBorneOut, badMark};
 
 // The raw number of a field that may be left out and was not written: the hubs of a border, and the default of R. No such field can be below 0.
@@ -22,11 +24,6 @@ pub struct Header {
     pub rows: usize,
     pub share: i64,
     pub intraday: usize,
-}
-
-pub enum HeaderRead {
-    Good(Header),
-    Out,
 }
 
 impl Header {
@@ -55,36 +52,25 @@ impl Header {
 
     pub const INTRADAY: usize = 1;
 
-    // What an H line gives: whether T lines follow is seen later.
-    pub fn of(zones: u64, borders: u64, rows: u64, share: i64) -> HeaderRead
-        ensures { λ r. ⌜ r ≡ headerRead zones borders rows share ⌝ }
+    // A test for each field, and then that of the profile, which is no field of the line.
+    pub fn tests(self) -> [bool; Header::ITEMS + 1]
+        ensures { λ r. ⌜ r ≡ headerTests self ⌝ }
     {
-        let h = Header {
-            zones: zones as usize,
-            borders: borders as usize,
-            rows: rows as usize,
-            share: share,
-            intraday: Header::DAY_AHEAD,
-        };
-        if h.fits() {
-            HeaderRead::Good(h)
-        } else {
-            HeaderRead::Out
-        }
+        let share = self.share;
+        [
+            (Header::ZONES_LEAST <= self.zones) & (self.zones <= Header::ZONES_MOST),
+            (Header::BORDERS_LEAST <= self.borders) & (self.borders <= Header::BORDERS_MOST),
+            (Header::ROWS_LEAST <= self.rows) & (self.rows <= Header::ROWS_MOST),
+            numbers::inside(share, NOT_WRITTEN, Row::SHARE_MOST),
+            self.intraday <= Header::INTRADAY,
+        ]
     }
 
     pub fn fits(self) -> bool
         ensures { λ r. ⌜ r ≡ headerFits self ⌝ }
     {
-        let share = self.share;
-        (Header::ZONES_LEAST <= self.zones)
-            & (self.zones <= Header::ZONES_MOST)
-            & (Header::BORDERS_LEAST <= self.borders)
-            & (self.borders <= Header::BORDERS_MOST)
-            & (Header::ROWS_LEAST <= self.rows)
-            & (self.rows <= Header::ROWS_MOST)
-            & numbers::inside(share, NOT_WRITTEN, Row::SHARE_MOST)
-            & (self.intraday <= Header::INTRADAY)
+        let tests = self.tests();
+        all(&tests)
     }
 
     // The default in force, ten-thousandths: what "-" in R is worth. A default that was not written is a "-" itself.
@@ -153,11 +139,24 @@ impl Zone {
     pub fn of(raw: i64) -> ZoneRead
         ensures { λ r. ⌜ r ≡ zoneRead raw ⌝ }
     {
-        if numbers::inside(raw, Zone::LOWEST, Zone::HIGHEST) {
+        if Zone::fits(raw) {
             ZoneRead::Good(Zone { net: raw })
         } else {
             ZoneRead::Out
         }
+    }
+
+    fn fits(raw: i64) -> bool
+        ensures { λ r. ⌜ r ≡ zoneFits raw ⌝ }
+    {
+        let tests = Zone::tests(raw);
+        all(&tests)
+    }
+
+    pub fn tests(raw: i64) -> [bool; 1]
+        ensures { λ r. ⌜ r ≡ zoneTests raw ⌝ }
+    {
+        [numbers::inside(raw, Zone::LOWEST, Zone::HIGHEST)]
     }
 }
 
@@ -180,12 +179,11 @@ impl Hubs {
         Hubs::Between(sending as usize, receiving as usize)
     }
 
-    // None, or two that exist and are not equal.
-    fn fit(zones: usize, sending: i64, receiving: i64) -> bool
-        ensures { λ r. ⌜ r ≡ hubsFit zones sending receiving ⌝ }
+    // Hubs that were left out.
+    fn none(sending: i64, receiving: i64) -> bool
+        ensures { λ r. ⌜ r ≡ noHubs sending receiving ⌝ }
     {
         numbers::same(sending, NOT_WRITTEN) & numbers::same(receiving, NOT_WRITTEN)
-            | exists(zones, sending) & exists(zones, receiving) & !numbers::same(sending, receiving)
     }
 }
 
@@ -215,17 +213,14 @@ impl Border {
     pub const ALWAYS: usize = 3;
 
     // MW.
+    pub const LTA_LEAST: i64 = 0;
+
     pub const LTA_MOST: i64 = 10000;
 
     pub fn of(zones: usize, raw: BorderRecord) -> BorderRead
         ensures { λ r. ⌜ r ≡ borderRead zones raw ⌝ }
     {
-        let from = raw[0];
-        let to = raw[1];
-        let lta = raw[2];
-        let sending = raw[3];
-        let receiving = raw[4];
-        if Border::fits(zones, from, to, lta, sending, receiving) {
+        if Border::fits(zones, &raw) {
             BorderRead::Good(Border::judged(zones, raw))
         } else {
             BorderRead::Out
@@ -251,14 +246,32 @@ impl Border {
         }
     }
 
-    pub fn fits(zones: usize, from: i64, to: i64, lta: i64, sending: i64, receiving: i64) -> bool
-        ensures { λ r. ⌜ r ≡ borderFits zones (from ∷ to ∷ lta ∷ sending ∷ receiving ∷ []) ⌝ }
+    pub fn fits(zones: usize, raw: &[i64]) -> bool
+        requires { ⌜ length (now raw) ≡ borderItems ⌝ }
+        ensures { λ r. ⌜ r ≡ borderFits zones (now (raw .entry)) ⌝ }
     {
-        exists(zones, from)
-            & exists(zones, to)
-            & !numbers::same(from, to)
-            & numbers::inside(lta, 0, Border::LTA_MOST)
-            & Hubs::fit(zones, sending, receiving)
+        let tests = Border::tests(zones, raw);
+        all(&tests)
+    }
+
+    // Zones that exist, the two not equal; LTA; and no hubs, or two that exist and are not equal.
+    pub fn tests(zones: usize, raw: &[i64]) -> [bool; Border::ITEMS]
+        requires { ⌜ length (now raw) ≡ borderItems ⌝ }
+        ensures { λ r. ⌜ r ≡ borderTests zones (now (raw .entry)) ⌝ }
+    {
+        let from = raw[0];
+        let to = raw[1];
+        let lta = raw[2];
+        let sending = raw[3];
+        let receiving = raw[4];
+        let none = Hubs::none(sending, receiving);
+        [
+            exists(zones, from),
+            exists(zones, to) & !numbers::same(from, to),
+            numbers::inside(lta, Border::LTA_LEAST, Border::LTA_MOST),
+            none | exists(zones, sending),
+            none | exists(zones, receiving) & !numbers::same(sending, receiving),
+        ]
     }
 }
 
@@ -334,6 +347,9 @@ impl Row {
 
     pub const FMAX_MOST: i64 = 10000000;
 
+    // kW; the most is the row's Fmax.
+    pub const FRM_LEAST: i64 = 0;
+
     // Fref and F0all, kW.
     pub const FLOW_LOWEST: i64 = -20000000;
 
@@ -345,6 +361,8 @@ impl Row {
     pub const SHARE_MOST: i64 = 10000;
 
     // CVA and IVA, kW.
+    pub const VA_LEAST: i64 = 0;
+
     pub const VA_MOST: i64 = 10000000;
 
     // A zone's factor on the row, hundred-thousandths.
@@ -355,14 +373,7 @@ impl Row {
     pub fn of(raw: RowRecord) -> RowRead
         ensures { λ r. ⌜ r ≡ rowRead raw ⌝ }
     {
-        let fmax = raw[0];
-        let frm = raw[1];
-        let fref = raw[2];
-        let f0all = raw[3];
-        let share = raw[4];
-        let cva = raw[5];
-        let iva = raw[6];
-        if Row::fits(fmax, frm, fref, f0all, share, cva, iva) {
+        if Row::fits(&raw) {
             RowRead::Good(Row::judged(raw))
         } else {
             RowRead::Out
@@ -392,16 +403,35 @@ impl Row {
         }
     }
 
-    fn fits(fmax: i64, frm: i64, fref: i64, f0all: i64, share: i64, cva: i64, iva: i64) -> bool
-        ensures { λ r. ⌜ r ≡ rowFits (fmax ∷ frm ∷ fref ∷ f0all ∷ share ∷ cva ∷ iva ∷ []) ⌝ }
+    fn fits(raw: &[i64]) -> bool
+        requires { ⌜ length (now raw) ≡ rowItems ⌝ }
+        ensures { λ r. ⌜ r ≡ rowFits (now (raw .entry)) ⌝ }
     {
-        numbers::inside(fmax, Row::FMAX_LEAST, Row::FMAX_MOST)
-            & numbers::inside(frm, 0, fmax)
-            & numbers::inside(fref, Row::FLOW_LOWEST, Row::FLOW_HIGHEST)
-            & numbers::inside(f0all, Row::FLOW_LOWEST, Row::FLOW_HIGHEST)
-            & numbers::inside(share, Row::DASH, Row::SHARE_MOST)
-            & numbers::inside(cva, 0, Row::VA_MOST)
-            & numbers::inside(iva, 0, Row::VA_MOST)
+        let tests = Row::tests(raw);
+        all(&tests)
+    }
+
+    // The seven values. The factors, which are as many as the table has zones, are tested one by one.
+    pub fn tests(raw: &[i64]) -> [bool; Row::ITEMS]
+        requires { ⌜ length (now raw) ≡ rowItems ⌝ }
+        ensures { λ r. ⌜ r ≡ rowTests (now (raw .entry)) ⌝ }
+    {
+        let fmax = raw[0];
+        let frm = raw[1];
+        let fref = raw[2];
+        let f0all = raw[3];
+        let share = raw[4];
+        let cva = raw[5];
+        let iva = raw[6];
+        [
+            numbers::inside(fmax, Row::FMAX_LEAST, Row::FMAX_MOST),
+            numbers::inside(frm, Row::FRM_LEAST, fmax),
+            numbers::inside(fref, Row::FLOW_LOWEST, Row::FLOW_HIGHEST),
+            numbers::inside(f0all, Row::FLOW_LOWEST, Row::FLOW_HIGHEST),
+            numbers::inside(share, Row::DASH, Row::SHARE_MOST),
+            numbers::inside(cva, Row::VA_LEAST, Row::VA_MOST),
+            numbers::inside(iva, Row::VA_LEAST, Row::VA_MOST),
+        ]
     }
 
     pub fn factor_fits(factor: i64) -> bool
@@ -409,6 +439,17 @@ impl Row {
     {
         numbers::inside(factor, Row::FACTOR_LOWEST, Row::FACTOR_HIGHEST)
     }
+}
+
+// Whether all tests hold.
+fn all(tests: &[bool]) -> bool
+    ensures { λ r. ⌜ r ≡ allTrue (now (tests .entry)) ⌝ }
+{
+    let mut held = true;
+    for j in 0..tests.len() {
+        held = held & tests[j];
+    }
+    held
 }
 
 // Why a table is turned away, as 01 tells it: number and place, and 0 where there is no place; and the byte to blame in the line that the place names (02, E5),

@@ -1,9 +1,8 @@
 -- The laws of `specs/Layout.antt`'s lengths. No contract cites this file.
-use mathlib.Core.Path.{_≡_, refl, _∙_}
+use mathlib.Core.Path.{_≡_, ap, _∙_}
 use mathlib.Core.Bool.{true}
 use mathlib.Core.List.{List, [], _∷_, _++_}
-use Prim.Native.Char.{code}
-use Prim.Native.Nat.{ℕ, _+_}
+use Prim.Native.Nat.{ℕ}
 use native.Mathlib.Omega.{arith}
 use lib.IntN.{ℤ, pos}
 use lib.ListN.{length}
@@ -15,14 +14,19 @@ use Rattle.kinds.specs.declared.Header.{Header}
 use Rattle.kinds.specs.Ranges.{headerFits}
 use Rattle.kinds.proofs.KindLaws.{header-in, raw-share-in}
 use Rattle.text.proofs.FieldLaws.{read-back}
-use Rattle.kinds.specs.LineColumns.{rowColumns, factorColumns}
-use Rattle.text.specs.Fields.{tab}
-use Rattle.columns.specs.ColumnText.{fieldsLength, lineLength, numbersOf}
-use Rattle.columns.proofs.ColumnPut.{line-long, length-parts}
-use Rattle.layout.specs.Layout.{rowText}
+use Rattle.kinds.specs.LineColumns.{rowColumns, rowItems}
+use Rattle.columns.specs.ColumnText.{columnsText, lineLength}
+use Rattle.columns.proofs.ColumnPut.{numbers-are, line-long}
+use Rattle.lines.specs.RowKinds.{sepBy, headBy, columnsBy, rowTextBy}
+use Rattle.lines.specs.declared.row.RowKind.{RowKind}
 
-pub row-total : (i : ℕ) (raw f : List ℤ) → length (rowText i raw f) ≡ lineLength rowColumns i (numbersOf rowColumns raw) + fieldsLength (factorColumns (length f)) f
-row-total i raw f = line-long tab (code "C") (rowColumns ++ factorColumns (length f)) i (numbersOf rowColumns raw ++ f) ∙ omega (arith, length-parts rowColumns (factorColumns (length f)) (numbersOf rowColumns raw) f refl)
+-- a row's line is its values and its factors, by its columns
+module _ (kind : RowKind) (i : ℕ) (raw f : List ℤ) (wide : length raw ≡ rowItems) where
+  pub row-is : rowTextBy kind i raw f ≡ columnsText (sepBy kind) (headBy kind i) (columnsBy kind (length f)) (raw ++ f)
+  row-is = ap (λ (v : List ℤ). columnsText (sepBy kind) (headBy kind i) (columnsBy kind (length f)) (v ++ f)) (numbers-are rowColumns raw wide)
+
+  pub row-total : length (rowTextBy kind i raw f) ≡ lineLength (headBy kind i) (columnsBy kind (length f)) (raw ++ f)
+  row-total = ap length row-is ∙ line-long (sepBy kind) (headBy kind i) (columnsBy kind (length f)) (raw ++ f)
 
 -- a header's numbers as 64-bit values
 pub header-raw : (h : Header) → headerFits h ≡ true → toZ w64 (h .zones) ∷ toZ w64 (h .borders) ∷ toZ w64 (h .rows) ∷ toZ w64 (ofZ w64 (h .share)) ∷ [] ≡ pos (h .zones) ∷ pos (h .borders) ∷ pos (h .rows) ∷ h .share ∷ []

@@ -1,26 +1,27 @@
 -- The lines of the table as they are written (01, "The table as text"): H, Z, T, B and C, each by its columns; and rows as the planners' sheet has them (02, E11).
-use mathlib.Core.List.{List, [], _∷_, _++_}
+use mathlib.Core.List.{List, [], _∷_}
 use Prim.Native.Char.{code}
 use Prim.Native.Nat.{ℕ}
 use lib.IntN.{ℤ, pos}
 use lib.ListN.{length, getD}
 use Rattle.kinds.specs.declared.Header.{Header}
-use Rattle.kinds.specs.LineColumns.{headerColumns, defaultColumns, zoneColumns, borderColumns, hubColumns, rowColumns, factorColumns}
+use Rattle.kinds.specs.LineColumns.{headerColumns, defaultColumns, zoneColumns, borderColumns, hubColumns}
 use Rattle.text.specs.Fields.{tab}
 use Rattle.text.specs.Written.{linesText}
-use Rattle.columns.specs.ColumnText.{columnsText, numbersOf}
-use Rattle.columns.specs.Optional.{plainOptionalText, optionalText}
+use Rattle.columns.specs.declared.Head.the-variants.{Lettered, Indexed}
+use Rattle.columns.specs.ColumnText.{columnsText}
+use Rattle.columns.specs.Optional.{optionalText}
 use Rattle.table.specs.Table.{stretch}
-use Rattle.lines.specs.SheetLine.{sheetText}
+use Rattle.lines.specs.RowKinds.{rowTextBy}
 use Rattle.lines.specs.declared.row.RowKind.{RowKind}
-use Rattle.lines.specs.declared.row.RowKind.the-variants.{Table, Sheet}
+use Rattle.lines.specs.declared.row.RowKind.the-variants.{Table}
 
 abbrev pub headerText : Header → List ℕ
-headerText h = plainOptionalText tab (code "H") headerColumns defaultColumns (pos (h .zones) ∷ pos (h .borders) ∷ pos (h .rows) ∷ h .share ∷ [])
+headerText h = optionalText tab (Lettered (code "H")) headerColumns defaultColumns (pos (h .zones) ∷ pos (h .borders) ∷ pos (h .rows) ∷ h .share ∷ [])
 
 -- a net position: of a Z line, or of a T line (02, E12)
 abbrev pub positionText : (letter i : ℕ) → (net : ℤ) → List ℕ
-positionText letter i net = columnsText tab letter zoneColumns i (net ∷ [])
+positionText letter i net = columnsText tab (Indexed letter i) zoneColumns (net ∷ [])
 
 abbrev pub zoneText : (i : ℕ) → (net : ℤ) → List ℕ
 zoneText = positionText (code "Z")
@@ -29,17 +30,12 @@ abbrev pub allocatedText : (i : ℕ) → (net : ℤ) → List ℕ
 allocatedText = positionText (code "T")
 
 abbrev pub borderText : (i : ℕ) → (raw : List ℤ) → List ℕ
-borderText i raw = optionalText tab (code "B") borderColumns hubColumns i raw
+borderText i raw = optionalText tab (Indexed (code "B") i) borderColumns hubColumns raw
 
 abbrev pub rowText : (i : ℕ) → (raw factors : List ℤ) → List ℕ
-rowText i raw factors = columnsText tab (code "C") (rowColumns ++ factorColumns (length factors)) i (numbersOf rowColumns raw ++ factors)
+rowText = rowTextBy Table
 
--- a row's line by its kind: a C line, or a line of the planners' sheet (02, E11)
-abbrev pub rowTextBy : RowKind → (i : ℕ) → (raw factors : List ℤ) → List ℕ
-rowTextBy Table = rowText
-rowTextBy Sheet = sheetText
-
--- .. of lent rows
+-- a row's line by its kind, of lent rows
 abbrev pub rowTextIn : RowKind → (zones : ℕ) → (rows : List (List ℤ)) → (factors : List ℤ) → (i : ℕ) → List ℕ
 rowTextIn kind zones rows factors i = rowTextBy kind i (getD rows i []) (stretch zones factors i)
 

@@ -5,8 +5,9 @@ ghost use Prim.Native.Nat.{_*_, _<_, _≤_};
 ghost use lib.ListN.{length};
 ghost use Rattle.kinds.specs.Limits.{zonesMost, bytesMost};
 ghost use Rattle.kinds.specs.Ranges.{headerFits};
-ghost use Rattle.lines.specs.SheetLine.{sheetText};
-ghost use Rattle.layout.specs.Layout.{headerText, zoneText, borderText, rowText, rowTextBy, rowsTextBy};
+ghost use Rattle.lines.specs.RowKinds.{rowTextBy};
+ghost use Rattle.layout.specs.Layout.{headerText, zoneText, borderText, rowsTextBy};
+use columns::Head;
 use kinds::Border;
 use kinds::BorderRecord;
 use kinds::Header;
@@ -14,6 +15,8 @@ use kinds::Row;
 use kinds::RowRecord;
 use kinds::Zone;
 use lines::row::RowKind;
+use lines::row::columns_of;
+use lines::row::head_of;
 
 pub fn header_length(h: Header) -> usize
     requires { ⌜ (headerFits h ≡ true) × (length (headerText h) ≤ bytesMost) ⌝ }
@@ -21,7 +24,7 @@ pub fn header_length(h: Header) -> usize
 {
     let share = h.share;
     let raw = [h.zones as i64, h.borders as i64, h.rows as i64, share];
-    2 + columns::optional::optional_fields_length(&Header::COLUMNS, Header::ALWAYS, &raw)
+    columns::optional::optional_length(Head::Lettered(b'H'), &Header::COLUMNS, Header::ALWAYS, &raw)
 }
 
 // A Z line; a T line of the same position is as long.
@@ -30,14 +33,19 @@ pub fn zone_length(i: usize, net: i64) -> usize
     ensures { λ r. ⌜ r ≡ length (zoneText i net) ⌝ }
 {
     let raw = [net];
-    columns::write::line_length(&Zone::COLUMNS, i, &raw)
+    columns::write::line_length(Head::Indexed(b'Z', i), &Zone::COLUMNS, &raw)
 }
 
 pub fn border_length(i: usize, raw: BorderRecord) -> usize
     requires { ⌜ length (borderText i raw) ≤ bytesMost ⌝ }
     ensures { λ r. ⌜ r ≡ length (borderText i raw) ⌝ }
 {
-    columns::optional::optional_length(&Border::COLUMNS, Border::ALWAYS, i, &raw)
+    columns::optional::optional_length(
+        Head::Indexed(b'B', i),
+        &Border::COLUMNS,
+        Border::ALWAYS,
+        &raw,
+    )
 }
 
 // The lines of lent rows, of either kind: the table's or the planners' sheet's.
@@ -57,30 +65,11 @@ fn row_length(kind: RowKind, i: usize, raw: RowRecord, f: &[i64]) -> usize
     requires { ⌜ (0 < length (now f)) × (length (now f) ≤ zonesMost) × (length (rowTextBy kind i raw (now f)) ≤ bytesMost) ⌝ }
     ensures { λ r. ⌜ r ≡ length (rowTextBy kind i raw (now (f .entry))) ⌝ }
 {
-    match kind {
-        RowKind::Table => c_length(i, raw, f),
-        RowKind::Sheet => sheet_length(i, raw, f),
-    }
-}
-
-fn c_length(i: usize, raw: RowRecord, f: &[i64]) -> usize
-    requires { ⌜ (0 < length (now f)) × (length (now f) ≤ zonesMost) × (length (rowText i raw (now f)) ≤ bytesMost) ⌝ }
-    ensures { λ r. ⌜ r ≡ length (rowText i raw (now (f .entry))) ⌝ }
-{
-    let n = f.len();
-    let first = columns::write::line_length(&Row::COLUMNS[..Row::ITEMS], i, &raw);
-    first + columns::write::fields_length(&Row::COLUMNS[Row::ITEMS..Row::ITEMS + n], f)
-}
-
-fn sheet_length(i: usize, raw: RowRecord, f: &[i64]) -> usize
-    requires { ⌜ (0 < length (now f)) × (length (now f) ≤ zonesMost) × (length (sheetText i raw (now f)) ≤ bytesMost) ⌝ }
-    ensures { λ r. ⌜ r ≡ length (sheetText i raw (now (f .entry))) ⌝ }
-{
-    let n = f.len();
-    columns::bare::bare_length(
-        &Row::SHEET_COLUMNS[..Row::ITEMS],
-        &Row::SHEET_COLUMNS[Row::ITEMS..Row::ITEMS + n],
-        i,
+    let n = Row::ITEMS + f.len();
+    columns::write::parts_length(
+        head_of(kind, i),
+        &columns_of(kind)[..Row::ITEMS],
+        &columns_of(kind)[Row::ITEMS..n],
         &raw,
         f,
     )

@@ -6,8 +6,9 @@ ghost use lib.ListN.{length};
 ghost use Rattle.kinds.specs.Limits.{zonesMost};
 ghost use Rattle.kinds.specs.Ranges.{headerFits};
 ghost use Rattle.text.specs.Put.{Put};
-ghost use Rattle.lines.specs.SheetLine.{sheetText};
-ghost use Rattle.layout.specs.Layout.{headerText, positionText, borderText, rowText, rowTextBy, rowsTextBy};
+ghost use Rattle.lines.specs.RowKinds.{rowTextBy};
+ghost use Rattle.layout.specs.Layout.{headerText, positionText, borderText, rowsTextBy};
+use columns::Head;
 use kinds::Border;
 use kinds::BorderRecord;
 use kinds::Header;
@@ -15,6 +16,9 @@ use kinds::Row;
 use kinds::RowRecord;
 use kinds::Zone;
 use lines::row::RowKind;
+use lines::row::columns_of;
+use lines::row::head_of;
+use lines::row::sep_of;
 
 pub fn put_header(h: Header, out: &mut [u8], at: usize) -> usize
     requires { ⌜ (headerFits h ≡ true) × (at + length (headerText h) ≤ length (now out)) ⌝ }
@@ -22,9 +26,9 @@ pub fn put_header(h: Header, out: &mut [u8], at: usize) -> usize
 {
     let share = h.share;
     let raw = [h.zones as i64, h.borders as i64, h.rows as i64, share];
-    columns::optional::put_plain_optional(
+    columns::optional::put_optional(
         b'\t',
-        b'H',
+        Head::Lettered(b'H'),
         &Header::COLUMNS,
         Header::ALWAYS,
         &raw,
@@ -39,7 +43,14 @@ pub fn put_zone(letter: u8, i: usize, net: i64, out: &mut [u8], at: usize) -> us
     ensures { λ r. ⌜ Put (positionText letter i net) at (now (out .entry)) r (now (out .exit)) ⌝ }
 {
     let raw = [net];
-    columns::write::put_line(b'\t', letter, &Zone::COLUMNS, i, &raw, out, at)
+    columns::write::put_line(
+        b'\t',
+        Head::Indexed(letter, i),
+        &Zone::COLUMNS,
+        &raw,
+        out,
+        at,
+    )
 }
 
 pub fn put_border(i: usize, raw: BorderRecord, out: &mut [u8], at: usize) -> usize
@@ -48,10 +59,9 @@ pub fn put_border(i: usize, raw: BorderRecord, out: &mut [u8], at: usize) -> usi
 {
     columns::optional::put_optional(
         b'\t',
-        b'B',
+        Head::Indexed(b'B', i),
         &Border::COLUMNS,
         Border::ALWAYS,
-        i,
         &raw,
         out,
         at,
@@ -82,40 +92,12 @@ fn put_row(kind: RowKind, i: usize, raw: RowRecord, f: &[i64], out: &mut [u8], a
     requires { ⌜ (0 < length (now f)) × (length (now f) ≤ zonesMost) × (at + length (rowTextBy kind i raw (now f)) ≤ length (now out)) ⌝ }
     ensures { λ r. ⌜ Put (rowTextBy kind i raw (now (f .entry))) at (now (out .entry)) r (now (out .exit)) ⌝ }
 {
-    match kind {
-        RowKind::Table => put_c(i, raw, f, out, at),
-        RowKind::Sheet => put_sheet(i, raw, f, out, at),
-    }
-}
-
-fn put_c(i: usize, raw: RowRecord, f: &[i64], out: &mut [u8], at: usize) -> usize
-    requires { ⌜ (0 < length (now f)) × (length (now f) ≤ zonesMost) × (at + length (rowText i raw (now f)) ≤ length (now out)) ⌝ }
-    ensures { λ r. ⌜ Put (rowText i raw (now (f .entry))) at (now (out .entry)) r (now (out .exit)) ⌝ }
-{
-    let n = f.len();
+    let n = Row::ITEMS + f.len();
     columns::write::put_parts(
-        b'\t',
-        b'C',
-        &Row::COLUMNS[..Row::ITEMS],
-        &Row::COLUMNS[Row::ITEMS..Row::ITEMS + n],
-        i,
-        &raw,
-        f,
-        out,
-        at,
-    )
-}
-
-fn put_sheet(i: usize, raw: RowRecord, f: &[i64], out: &mut [u8], at: usize) -> usize
-    requires { ⌜ (0 < length (now f)) × (length (now f) ≤ zonesMost) × (at + length (sheetText i raw (now f)) ≤ length (now out)) ⌝ }
-    ensures { λ r. ⌜ Put (sheetText i raw (now (f .entry))) at (now (out .entry)) r (now (out .exit)) ⌝ }
-{
-    let n = f.len();
-    columns::bare::put_bare(
-        b';',
-        &Row::SHEET_COLUMNS[..Row::ITEMS],
-        &Row::SHEET_COLUMNS[Row::ITEMS..Row::ITEMS + n],
-        i,
+        sep_of(kind),
+        head_of(kind, i),
+        &columns_of(kind)[..Row::ITEMS],
+        &columns_of(kind)[Row::ITEMS..n],
         &raw,
         f,
         out,

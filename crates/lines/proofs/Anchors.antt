@@ -13,16 +13,15 @@ use Rattle.text.specs.Line.{Line, holds, form, range}
 use Rattle.text.specs.Point.{decimalsAt, pointAt, signedPointAt}
 use Rattle.text.specs.Sheets.{sheet}
 use Rattle.columns.specs.Columns.{fieldAt, fieldsAt}
-use Rattle.columns.specs.ColumnLine.{indexAt, restAt, columnsLine, plainLine}
-use Rattle.columns.specs.Bare.{bareIndexAt, bareLine}
-use Rattle.columns.specs.Optional.{optionalLine, plainOptional}
-use Rattle.blame.specs.Blame.{goodAt, byteAt, fieldsByte, lineByte, plainByte, bareByte}
+use Rattle.columns.specs.ColumnLine.{headAt, restAt, columnsLine}
+use Rattle.columns.specs.Optional.{optionalLine}
+use Rattle.blame.specs.Blame.{goodAt, byteAt, fieldsByte, lineByte}
 use Rattle.blame.specs.RangeBlame.{pastSeps, rangeByte}
 use Rattle.lines.specs.Lines.{RowLine, row, headerLine, positionLine, zoneLine, borderLine, rowLine}
 use Rattle.lines.specs.SheetLine.{sheetLine}
 
 unfoldable computing : Unit {0}
-unfolding firstFrom given inside sameℤ headerFits zoneFits exists hubsFit borderFits shareOf rowOf rowFits factorFits numberAt signedAt shareAt fieldAt fieldsAt indexAt restAt columnsLine plainLine optionalLine plainOptional goodAt byteAt fieldsByte lineByte plainByte pastSeps rangeByte headerLine positionLine borderLine rowLine decimalsAt pointAt signedPointAt bareIndexAt bareLine bareByte sheetLine
+unfolding firstFrom given inside sameℤ headerFits zoneFits exists hubsFit borderFits shareOf rowOf rowFits factorFits numberAt signedAt shareAt fieldAt fieldsAt headAt restAt columnsLine optionalLine goodAt byteAt fieldsByte lineByte pastSeps rangeByte headerLine positionLine borderLine rowLine decimalsAt pointAt signedPointAt sheetLine
 computing = tt
 
 -- index 1, and 3 zones in a B line, 2 in a C line and in a line of the planners' sheet

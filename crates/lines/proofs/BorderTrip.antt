@@ -14,6 +14,7 @@ use Rattle.kinds.specs.Ranges.{borderFits, borderOf}
 use Rattle.kinds.proofs.KindLaws.{HubsIn, none, both, BorderIn, border-in}
 use Rattle.text.specs.Fields.{tab}
 use Rattle.text.specs.Line.{lineOf, holds, form, range}
+use Rattle.columns.specs.declared.Head.the-variants.{Indexed}
 use Rattle.columns.specs.Columns.{values, wrong}
 use Rattle.columns.specs.Optional.{optionalLine, writtenBy, optionalText}
 use Rattle.columns.proofs.ColumnTrip.{tab-ends, line-one}
@@ -58,15 +59,15 @@ border-kept zones (a ∷ b ∷ c ∷ d ∷ e ∷ []) held few =
         )
 
 module _ (zones : ℕ) (line : List ℕ) (i : ℕ) (raw : List ℤ) where
-  pub border-read : borderLine zones line i ≡ holds raw → (line ≡ optionalText tab (code "B") borderColumns hubColumns i raw) × BorderHeld zones raw
+  pub border-read : borderLine zones line i ≡ holds raw → (line ≡ optionalText tab (Indexed (code "B") i) borderColumns hubColumns raw) × BorderHeld zones raw
   unfolding borderLine
   border-read e =
-      let h = optional-judged tab (code "B") tab-ends refl i borderColumns (number ∷ []) (borderFits zones) (λ raw. raw) (borderBad line i) (borderOut zones line) line raw e in
-      subst (λ (y : List ℤ). (line ≡ optionalText tab (code "B") borderColumns hubColumns i y) × BorderHeld zones y) (h .made)
-      (h .here, record { wide = kept-many borderColumns hubColumns (h .zs) (h .kept); fits = h .fit })
+      let h = optional-judged tab tab-ends refl (Indexed (code "B") i) borderColumns (number ∷ []) (borderFits zones) (λ raw. raw) (borderBad line i) (borderOut zones line) line raw e in
+      subst (λ (y : List ℤ). (line ≡ optionalText tab (Indexed (code "B") i) borderColumns hubColumns y) × BorderHeld zones y) (h .made)
+      (h .read .here, record { wide = kept-many borderColumns hubColumns (h .zs) (h .read .kept); fits = h .fit })
 
   -- by what was read of it
-  module _ (next : ℕ) (e : values raw next ≡ optionalLine tab (code "B") borderColumns hubColumns line i) where
+  module _ (next : ℕ) (e : values raw next ≡ optionalLine tab (Indexed (code "B") i) borderColumns hubColumns line) where
     pub border-holds : borderFits zones raw ≡ true → holds raw ≡ borderLine zones line i
     unfolding borderLine
     border-holds f = rw (← e, f)
@@ -75,19 +76,19 @@ module _ (zones : ℕ) (line : List ℕ) (i : ℕ) (raw : List ℤ) where
     unfolding borderLine
     border-range f = rw (← e, f)
 
-pub border-form : (zones : ℕ) (line : List ℕ) (i place : ℕ) → wrong place ≡ optionalLine tab (code "B") borderColumns hubColumns line i → form (borderBad line i) ≡ borderLine zones line i
+pub border-form : (zones : ℕ) (line : List ℕ) (i place : ℕ) → wrong place ≡ optionalLine tab (Indexed (code "B") i) borderColumns hubColumns line → form (borderBad line i) ≡ borderLine zones line i
 unfolding borderLine
 border-form zones line i place e = rw (← e)
 
 module _ (zones i : ℕ) (raw : List ℤ) where
-  pub border-written : i < 10 ^ 10 → zones ≤ zonesMost → BorderHeld zones raw → borderLine zones (optionalText tab (code "B") borderColumns hubColumns i raw) i ≡ holds raw
+  pub border-written : i < 10 ^ 10 → zones ≤ zonesMost → BorderHeld zones raw → borderLine zones (optionalText tab (Indexed (code "B") i) borderColumns hubColumns raw) i ≡ holds raw
   unfolding borderLine
   border-written small few held =
-      let line = optionalText tab (code "B") borderColumns hubColumns i raw in
-      optional-written tab (code "B") tab-ends refl i borderColumns (number ∷ []) (borderFits zones) (λ raw. raw) (borderBad line i) (borderOut zones line) raw small (border-kept zones raw held few) (held .fits)
+      let line = optionalText tab (Indexed (code "B") i) borderColumns hubColumns raw in
+      optional-written tab tab-ends refl (Indexed (code "B") i) borderColumns (number ∷ []) (borderFits zones) (λ raw. raw) (borderBad line i) (borderOut zones line) raw small (border-kept zones raw held few) (held .fits)
 
-  pub border-one : (r : List ℕ) → lineOf (optionalText tab (code "B") borderColumns hubColumns i raw ++ r) ≡ optionalText tab (code "B") borderColumns hubColumns i raw
-  border-one r = line-one tab (code "B") (writtenBy borderColumns hubColumns raw) i raw r (some (ltZ (getD raw 3 (pos 0)) (pos 0))) refl refl
+  pub border-one : (r : List ℕ) → lineOf (optionalText tab (Indexed (code "B") i) borderColumns hubColumns raw ++ r) ≡ optionalText tab (Indexed (code "B") i) borderColumns hubColumns raw
+  border-one r = line-one tab refl (Indexed (code "B") i) (writtenBy borderColumns hubColumns raw) raw r (some (ltZ (getD raw 3 (pos 0)) (pos 0))) refl
     where
       some : (t : Bool) → 0 < length (cond t borderColumns (borderColumns ++ hubColumns))
       some true = omega arith

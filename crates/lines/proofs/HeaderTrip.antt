@@ -18,10 +18,11 @@ use Rattle.kinds.specs.Ranges.{atℤ, headerFits, profiled}
 use Rattle.kinds.proofs.KindLaws.{HeaderIn, header-in, profiled-fits, raw-share-in}
 use Rattle.text.specs.Fields.{tab}
 use Rattle.text.specs.Line.{lineOf, holds, form, range}
+use Rattle.columns.specs.declared.Head.the-variants.{Lettered}
 use Rattle.columns.specs.Columns.{values, wrong}
-use Rattle.columns.specs.Optional.{leftOut, plainOptional, writtenBy, plainOptionalText}
-use Rattle.columns.proofs.ColumnTrip.{tab-ends, AllKept, plain-one}
-use Rattle.columns.proofs.OptionalTrip.{OptionalKept, left, given, plain-optional-read, plain-optional-judged, plain-optional-written}
+use Rattle.columns.specs.Optional.{leftOut, optionalLine, writtenBy, optionalText}
+use Rattle.columns.proofs.ColumnTrip.{tab-ends, AllKept, line-one}
+use Rattle.columns.proofs.OptionalTrip.{OptionalKept, left, given, optional-read, optional-judged, optional-written}
 use Rattle.lines.specs.Lines.{headerOf, headerBad, headerOut, headerLine}
 
 -- the raw numbers of a header
@@ -29,7 +30,7 @@ abbrev pub headerRaw : Header → List ℤ
 headerRaw h = pos (h .zones) ∷ pos (h .borders) ∷ pos (h .rows) ∷ h .share ∷ []
 
 abbrev pub headerTextOf : Header → List ℕ
-headerTextOf h = plainOptionalText tab (code "H") headerColumns defaultColumns (headerRaw h)
+headerTextOf h = optionalText tab (Lettered (code "H")) headerColumns defaultColumns (headerRaw h)
 
 -- the default was left out, or given
 raw-left : (ys : List ℤ) → AllKept headerColumns ys → headerRaw (headerOf (ys ++ leftOut 1)) ≡ ys ++ leftOut 1
@@ -65,21 +66,21 @@ numbers-are zs k =
 pub header-read : (line : List ℕ) (h : Header) → headerLine line ≡ holds h → (line ≡ headerTextOf h) × (headerFits h ≡ true)
 unfolding headerLine
 header-read line h e =
-    let j = plain-optional-judged tab (code "H") tab-ends refl headerColumns [] (λ zs. headerFits (headerOf zs)) headerOf (headerBad line) (headerOut line) line h e in
+    let j = optional-judged tab tab-ends refl (Lettered (code "H")) headerColumns [] (λ zs. headerFits (headerOf zs)) headerOf (headerBad line) (headerOut line) line h e in
     subst (λ (g : Header). (line ≡ headerTextOf g) × (headerFits g ≡ true)) (j .made)
-    (j .here ∙ ap (plainOptionalText tab (code "H") headerColumns defaultColumns) (sym (raw-is (j .zs) (j .kept))), j .fit)
+    (j .read .here ∙ ap (optionalText tab (Lettered (code "H")) headerColumns defaultColumns) (sym (raw-is (j .zs) (j .read .kept))), j .fit)
 
 -- an H line does not say whether T lines follow
 pub header-plain : (line : List ℕ) (h : Header) → headerLine line ≡ holds h → profiled h false ≡ h
 unfolding headerLine
 header-plain line h e =
-    let j = plain-optional-judged tab (code "H") tab-ends refl headerColumns [] (λ zs. headerFits (headerOf zs)) headerOf (headerBad line) (headerOut line) line h e in
+    let j = optional-judged tab tab-ends refl (Lettered (code "H")) headerColumns [] (λ zs. headerFits (headerOf zs)) headerOf (headerBad line) (headerOut line) line h e in
     subst (λ (g : Header). profiled g false ≡ g) (j .made) refl
 
 module _ (line : List ℕ) where
-  module _ (zs : List ℤ) (next : ℕ) (e : values zs next ≡ plainOptional tab (code "H") headerColumns defaultColumns line) where
+  module _ (zs : List ℤ) (next : ℕ) (e : values zs next ≡ optionalLine tab (Lettered (code "H")) headerColumns defaultColumns line) where
     pub header-numbers : Numbers zs
-    header-numbers = numbers-are zs (plain-optional-read tab (code "H") tab-ends refl headerColumns [] line zs next (sym e) .1)
+    header-numbers = numbers-are zs (optional-read tab tab-ends refl (Lettered (code "H")) headerColumns [] line zs next (sym e) .kept)
 
     pub header-holds : headerFits (headerOf zs) ≡ true → holds (headerOf zs) ≡ headerLine line
     unfolding headerLine
@@ -89,7 +90,7 @@ module _ (line : List ℕ) where
     unfolding headerLine
     header-range f = rw (← e, f)
 
-  pub header-form : (place : ℕ) → wrong place ≡ plainOptional tab (code "H") headerColumns defaultColumns line → form (headerBad line) ≡ headerLine line
+  pub header-form : (place : ℕ) → wrong place ≡ optionalLine tab (Lettered (code "H")) headerColumns defaultColumns line → form (headerBad line) ≡ headerLine line
   unfolding headerLine
   header-form place e = rw (← e)
 
@@ -105,7 +106,7 @@ module _ (h : Header) where
   unfolding headerLine
   header-written f =
       let i = header-in h f in
-      plain-optional-written tab (code "H") tab-ends refl headerColumns [] (λ zs. headerFits (headerOf zs)) headerOf (headerBad (headerTextOf h)) (headerOut (headerTextOf h)) (headerRaw h) (kept i (h .share) (i .share))
+      optional-written tab tab-ends refl (Lettered (code "H")) headerColumns [] (λ zs. headerFits (headerOf zs)) headerOf (headerBad (headerTextOf h)) (headerOut (headerTextOf h)) (headerRaw h) tt (kept i (h .share) (i .share))
       (profiled-fits h false f)
 
   some : (t : Bool) → 0 < length (cond t headerColumns (headerColumns ++ defaultColumns))
@@ -113,4 +114,4 @@ module _ (h : Header) where
   some false = omega arith
 
   pub header-one : (r : List ℕ) → lineOf (headerTextOf h ++ r) ≡ headerTextOf h
-  header-one r = plain-one tab (code "H") (writtenBy headerColumns defaultColumns (headerRaw h)) (headerRaw h) r (some (ltZ (h .share) (pos 0))) refl refl
+  header-one r = line-one tab refl (Lettered (code "H")) (writtenBy headerColumns defaultColumns (headerRaw h)) (headerRaw h) r (some (ltZ (h .share) (pos 0))) refl

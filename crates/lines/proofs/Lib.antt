@@ -1,3 +1,4 @@
+pub mod RowKindLaws
 pub mod Anchors
 pub mod HeaderTrip
 pub mod ZoneTrip

@@ -13,7 +13,8 @@ use Rattle.columns.specs.Columns.{values, wrong}
 use Rattle.table.specs.Table.{rowGood}
 use Rattle.lines.specs.Lines.{RowLine, row, rowBy, rowLine}
 use Rattle.lines.specs.SheetLine.{sheetLine}
-use Rattle.lines.specs.SaidRow.{judgedOf, lineBy, valuesBy, badBy, outBy}
+use Rattle.lines.specs.RowKinds.{valuesBy, badBy, outBy}
+use Rattle.lines.specs.SaidRow.{judgedOf, lineBy}
 use Rattle.lines.specs.declared.row.RowKind.{RowKind}
 use Rattle.lines.specs.declared.row.RowKind.the-variants.{Table, Sheet}
 use Rattle.lines.specs.declared.row.RowJudged.the-variants.{Holds, Form, Range}

@@ -1,12 +1,11 @@
 -- A row's line, whichever its kind: one that holds a raw row record and its factors is its text, and that text holds them. No contract cites this file.
 -- In order: a line's text; what is known of a row that a line holds; what was read of a line; what is written; it is one line.
 use mathlib.Core.Path.{_≡_, refl, sym, ap, ap₂, subst, _∙_}
-use mathlib.Core.Bool.{true}
+use mathlib.Core.Bool.{true, false}
 use mathlib.Core.List.{List, [], _∷_, _++_}
-use Prim.Native.Char.{code}
-use Prim.Native.Nat.{ℕ, zero, suc, _+_, _^_, _<_}
+use Prim.Native.Nat.{ℕ, suc, _+_, _^_, _<_}
 use native.Mathlib.Omega.{arith}
-use lib.Dec.{leb→le}
+use lib.Dec.{leb→le, eqb}
 use lib.IntN.{ℤ, pos, negsuc}
 use lib.ListN.{length, take, drop, length-drop, take-append-drop}
 use lib.Seq.{length-take-le, take-at, drop-at}
@@ -15,55 +14,31 @@ use Rattle.numbers.specs.Ints.{minus, inside}
 use Rattle.numbers.proofs.BelowLaws.{table-of}
 use Rattle.numbers.proofs.IntLaws.{inside-true}
 use Rattle.kinds.specs.Limits.{shareMost}
-use Rattle.kinds.specs.LineColumns.{Column, rowColumns, rowItems, factorColumns, sheetColumns, sheetFactors}
+use Rattle.kinds.specs.LineColumns.{Column, rowColumns, rowItems}
 use Rattle.kinds.specs.Ranges.{atℤ, rowOf, factorFits}
 use Rattle.kinds.proofs.KindLaws.{row-in, factor-in}
-use Rattle.text.specs.Fields.{tab}
+use Rattle.text.specs.Fields.{feed}
 use Rattle.text.specs.Line.{lineOf, holds}
 use Rattle.text.proofs.FieldTrip.{ShareKept}
-use Rattle.columns.specs.Columns.{values}
-use Rattle.columns.specs.Bare.{bareText}
 use Rattle.columns.specs.ColumnText.{columnsText, numbersOf}
-use Rattle.columns.proofs.BareTrip.{bare-read, bare-written, bare-one}
 use Rattle.columns.proofs.ColumnPut.{numbers-are}
-use Rattle.columns.proofs.ColumnTrip.{Ends, tab-ends, AllKept, kept-long, kept-append, line-read, line-written, line-one, judged-is}
+use Rattle.columns.proofs.ColumnTrip.{Ends, tab-ends, AllKept, kept-long, kept-append, Small, line-read, line-written, NoFeed, line-one, judged-is}
 use Rattle.table.specs.Table.{rowGood}
 use Rattle.table.proofs.GoodLaws.{row-good}
 use Rattle.lines.specs.Lines.{RowLine, row, rowBy}
-use Rattle.lines.specs.SheetLine.{semicolon}
-use Rattle.lines.specs.SaidRow.{lineBy, valuesBy, badBy, outBy}
+use Rattle.lines.specs.RowKinds.{sepBy, headBy, firstBy, factorsBy, columnsBy, valuesBy, badBy, outBy, rowTextBy}
+use Rattle.lines.specs.SaidRow.{lineBy}
 use Rattle.lines.specs.declared.row.RowKind.{RowKind}
 use Rattle.lines.specs.declared.row.RowKind.the-variants.{Table, Sheet}
 use Rattle.lines.proofs.RowJudge.{by-values}
+use Rattle.lines.proofs.RowKindLaws.{columns-many}
 
 -- ---- a line's text
-abbrev firstBy : RowKind → List Column
-firstBy Table = rowColumns
-firstBy Sheet = sheetColumns
-
-abbrev factorsBy : RowKind → (zones : ℕ) → List Column
-factorsBy Table = factorColumns
-factorsBy Sheet = sheetFactors
-
-abbrev columnsBy : RowKind → (zones : ℕ) → List Column
-columnsBy kind zones = firstBy kind ++ factorsBy kind zones
-
 abbrev fieldsBy : RowKind → List Column → (i : ℕ) → List ℤ → List ℕ
-fieldsBy Table = columnsText tab (code "C")
-fieldsBy Sheet = bareText semicolon
+fieldsBy kind columns i zs = columnsText (sepBy kind) (headBy kind i) columns zs
 
 abbrev pub textBy : RowKind → (i : ℕ) → RowLine → List ℕ
-textBy kind i c = fieldsBy kind (columnsBy kind (length (c .factors))) i (numbersOf rowColumns (c .values) ++ c .factors)
-
-factors-many : (kind : RowKind) (zones : ℕ) → length (factorsBy kind zones) ≡ zones
-factors-many Table zero = refl
-factors-many Sheet zero = refl
-factors-many Table (suc zones) = ap suc (factors-many Table zones)
-factors-many Sheet (suc zones) = ap suc (factors-many Sheet zones)
-
-columns-many : (kind : RowKind) (zones : ℕ) → length (columnsBy kind zones) ≡ rowItems + zones
-columns-many Table zones = omega (arith, factors-many Table zones)
-columns-many Sheet zones = omega (arith, factors-many Sheet zones)
+textBy kind i c = rowTextBy kind i (c .values) (c .factors)
 
 -- ---- what is known of a row that a line holds
 pub record RowHeld (zones : ℕ) (c : RowLine) : Type 0 where
@@ -79,22 +54,19 @@ abbrev pub RowIs : (kind : RowKind) → (zones : ℕ) → (line : List ℕ) → 
 RowIs kind zones line i c = (line ≡ textBy kind i c) × RowHeld zones c
 
 -- ---- what was read of a line
-semicolon-ends : Ends semicolon
-semicolon-ends = record { some = omega arith; apart = refl }
-
-values-read : (kind : RowKind) (zones : ℕ) (line : List ℕ) (i : ℕ) (zs : List ℤ) (next : ℕ) → valuesBy kind zones line i ≡ values zs next → (line ≡ fieldsBy kind (columnsBy kind zones) i zs) × AllKept (columnsBy kind zones) zs
-values-read Table zones line i zs next e = let r = line-read tab (code "C") tab-ends (columnsBy Table zones) line i zs next e in (r .here, r .kept)
-values-read Sheet zones line i zs next e = let r = bare-read semicolon semicolon-ends (columnsBy Sheet zones) i line zs next e in (r .here, r .kept)
+sep-ends : (kind : RowKind) → Ends (sepBy kind)
+sep-ends Table = tab-ends
+sep-ends Sheet = record { some = omega arith; apart = refl }
 
 pub row-read : (kind : RowKind) (zones : ℕ) (line : List ℕ) (i : ℕ) (c : RowLine) → lineBy kind zones line i ≡ holds c → RowIs kind zones line i c
 row-read kind zones line i c e =
     let h = judged-is (λ zs. rowGood (take rowItems zs) (drop rowItems zs)) (λ zs. row (take rowItems zs) (drop rowItems zs)) (badBy kind zones line i) (λ zs. outBy kind line (take rowItems zs) (drop rowItems zs)) c (valuesBy kind zones line i) (sym (by-values kind zones line i) ∙ e) in
     let zs = h .zs in
-    let r = values-read kind zones line i zs (h .next) (h .is) in
-    let all : length zs ≡ rowItems + zones = kept-long (columnsBy kind zones) zs (r .1) ∙ columns-many kind zones in
+    let r = line-read (sepBy kind) (sep-ends kind) (headBy kind i) (columnsBy kind zones) line zs (h .next) (h .is) in
+    let all : length zs ≡ rowItems + zones = kept-long (columnsBy kind zones) zs (r .kept) ∙ columns-many kind zones in
     let long : length (drop rowItems zs) ≡ zones = length-drop rowItems zs ∙ omega arith in
     subst (RowIs kind zones line i) (h .made) (
-      r .0 ∙ ap₂ (λ (n : ℕ) (l : List ℤ). fieldsBy kind (columnsBy kind n) i l) (sym long) (sym (take-append-drop rowItems zs) ∙ ap (λ (l : List ℤ). l ++ drop rowItems zs) (sym (numbers-are rowColumns (take rowItems zs) (length-take-le rowItems zs (omega arith))))),
+      r .here ∙ ap₂ (λ (n : ℕ) (l : List ℤ). fieldsBy kind (columnsBy kind n) i l) (sym long) (sym (take-append-drop rowItems zs) ∙ ap (λ (l : List ℤ). l ++ drop rowItems zs) (sym (numbers-are rowColumns (take rowItems zs) (length-take-le rowItems zs (omega arith))))),
       record { wide = length-take-le rowItems zs (omega arith); long = long; good = h .fit },
     )
 
@@ -110,13 +82,9 @@ factors-kept Sheet [] h = tt
 factors-kept Table (y ∷ zs) h = (omega (arith, factor-in y (h 0 (omega arith)) .abs), factors-kept Table zs (λ z l. h (suc z) (omega arith)))
 factors-kept Sheet (y ∷ zs) h = (omega (arith, factor-in y (h 0 (omega arith)) .abs), factors-kept Sheet zs (λ z l. h (suc z) (omega arith)))
 
-record ValuesWritten (kind : RowKind) (zones i : ℕ) (zs : List ℤ) : Type 0 where
-  next : ℕ
-  is : valuesBy kind zones (fieldsBy kind (columnsBy kind zones) i zs) i ≡ values zs next
-
-values-written : (kind : RowKind) (zones i : ℕ) (zs : List ℤ) → i < 10 ^ 10 → AllKept (columnsBy kind zones) zs → ValuesWritten kind zones i zs
-values-written Table zones i zs small k = let w = line-written tab (code "C") tab-ends (columnsBy Table zones) i zs small k in record { next = w .next; is = w .is }
-values-written Sheet zones i zs small k = let w = bare-written semicolon semicolon-ends (columnsBy Sheet zones) i zs small k in record { next = w .next; is = w .is }
+head-small : (kind : RowKind) (i : ℕ) → i < 10 ^ 10 → Small (headBy kind i)
+head-small Table i small = small
+head-small Sheet i small = small
 
 module _ (zones : ℕ) (c : RowLine) (held : RowHeld zones c) where
   -- a field of the sheet keeps what the table's keeps
@@ -157,12 +125,20 @@ module _ (zones : ℕ) (c : RowLine) (held : RowHeld zones c) where
         let v : take rowItems zs ≡ c .values = take-at (c .values) (c .factors) rowItems (held .wide) in
         let f : drop rowItems zs ≡ c .factors = drop-at (c .values) (c .factors) rowItems (held .wide) in
         subst (λ (m : ℕ). lineBy kind m line i ≡ holds c) (held .long)
-        (by-values kind n line i ∙ ap (rowBy (badBy kind n line i) (outBy kind line)) (values-written kind n i zs small kept .is) ∙ rw (v, f, held .good))
+        (by-values kind n line i ∙ ap (rowBy (badBy kind n line i) (outBy kind line)) (line-written (sepBy kind) (sep-ends kind) (headBy kind i) (columnsBy kind n) zs (head-small kind i small) kept .is) ∙ rw (v, f, held .good))
 
     pub row-written : lineBy kind zones (textBy kind i c) i ≡ holds c
     row-written = ap (λ (v : List ℤ). lineBy kind zones (fieldsBy kind (columnsBy kind (length (c .factors))) i (v ++ c .factors)) i) (numbers-are rowColumns (c .values) (held .wide)) ∙ by-numbers
 
 -- ---- it is one line
 pub row-one : (kind : RowKind) (i : ℕ) (c : RowLine) (r : List ℕ) → lineOf (textBy kind i c ++ r) ≡ textBy kind i c
-row-one Table i c r = line-one tab (code "C") (columnsBy Table (length (c .factors))) i (numbersOf rowColumns (c .values) ++ c .factors) r (omega arith) refl refl
-row-one Sheet i c r = bare-one semicolon (columnsBy Sheet (length (c .factors))) i (numbersOf rowColumns (c .values) ++ c .factors) r (omega arith) refl
+row-one kind i c r =
+    line-one (sepBy kind) (other kind) (headBy kind i) (columnsBy kind (length (c .factors))) (numbersOf rowColumns (c .values) ++ c .factors) r (omega (arith, columns-many kind (length (c .factors)))) (plain kind)
+  where
+    other : (kind : RowKind) → eqb (sepBy kind) feed ≡ false
+    other Table = refl
+    other Sheet = refl
+
+    plain : (kind : RowKind) → NoFeed (headBy kind i)
+    plain Table = refl
+    plain Sheet = tt

@@ -1,3 +1,4 @@
+pub mod RowKinds
 pub mod Lines
 pub mod SheetLine
 pub mod Said

@@ -1,12 +1,10 @@
 -- What the code answers of a row's line, of either kind: a C line of the table, or a line of the planners' sheet (02, E11).
--- Promises are stated through `judgedOf` and `lineBy`; the others are what `lineBy` is made of.
+-- Promises are stated through `judgedOf` and `lineBy`.
 use mathlib.Core.List.{List}
 use Prim.Native.Nat.{ℕ}
-use lib.IntN.{ℤ}
 use Rattle.text.specs.Line.{Line, holds, form, range}
-use Rattle.columns.specs.Columns.{Values}
-use Rattle.lines.specs.Lines.{RowLine, rowValues, rowBad, rowOut, rowLine}
-use Rattle.lines.specs.SheetLine.{sheetValues, sheetBad, sheetOut, sheetLine}
+use Rattle.lines.specs.Lines.{RowLine, rowLine}
+use Rattle.lines.specs.SheetLine.{sheetLine}
 use Rattle.lines.specs.declared.row.RowKind.{RowKind}
 use Rattle.lines.specs.declared.row.RowKind.the-variants.{Table, Sheet}
 use Rattle.lines.specs.declared.row.RowJudged.{RowJudged}
@@ -22,16 +20,3 @@ judgedOf (range byte) = Range byte
 abbrev pub lineBy : RowKind → (zones : ℕ) → (line : List ℕ) → (i : ℕ) → Line RowLine
 lineBy Table = rowLine
 lineBy Sheet = sheetLine
-
--- .. its values, and the bytes to blame
-abbrev pub valuesBy : RowKind → (zones : ℕ) → (line : List ℕ) → (i : ℕ) → Values
-valuesBy Table = rowValues
-valuesBy Sheet = sheetValues
-
-abbrev pub badBy : RowKind → (zones : ℕ) → (line : List ℕ) → (i : ℕ) → ℕ
-badBy Table = rowBad
-badBy Sheet = sheetBad
-
-abbrev pub outBy : RowKind → (line : List ℕ) → (values factors : List ℤ) → ℕ
-outBy Table = rowOut
-outBy Sheet = sheetOut

@@ -1,6 +1,7 @@
 // The B line.
 use crate::BorderLine;
 use columns::Fields;
+use columns::Head;
 use kinds::Border;
 ghost use mathlib.Core.Path.{_≡_};
 ghost use lib.ListN.{length};
@@ -13,33 +14,20 @@ pub fn border_line(zones: usize, line: &[u8], i: usize, raw: &mut [i64]) -> Bord
     requires { ⌜ length (now raw) ≡ borderItems ⌝ }
     ensures { λ r. ⌜ saidBorder r (now (raw .exit)) ≡ borderLine zones (now (line .entry)) i ⌝ }
 {
+    let head = Head::Indexed(b'B', i);
     let Fields::End(_) = columns::optional::optional_at(
         b'\t',
-        b'B',
+        head,
         &Border::COLUMNS,
         Border::ALWAYS,
         line,
-        i,
         raw,
     ) else {
-        return BorderLine::Form(blame::line_byte(b'\t', b'B', &Border::COLUMNS, line, i));
+        return BorderLine::Form(blame::line_byte(b'\t', head, &Border::COLUMNS, line));
     };
-    let from = raw[0];
-    let to = raw[1];
-    let lta = raw[2];
-    let sending = raw[3];
-    let receiving = raw[4];
-    if Border::fits(zones, from, to, lta, sending, receiving) {
+    if Border::fits(zones, raw) {
         return BorderLine::Holds;
     }
-    BorderLine::Range(blame::range::border_range(
-        b'\t',
-        zones,
-        from,
-        to,
-        lta,
-        sending,
-        receiving,
-        line,
-    ))
+    let tests = Border::tests(zones, raw);
+    BorderLine::Range(blame::range::range_byte(b'\t', &tests, 2, line))
 }

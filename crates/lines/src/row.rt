@@ -1,6 +1,7 @@
 // A row's line, in two passes: it is judged without being kept, and then its record and its factors are filled in.
-// A C line and a line of the planners' sheet (02, E11) differ in their columns, in the byte that parts these, and in the letter.
+// A C line and a line of the planners' sheet (02, E11) differ in the byte that parts the fields, in the head and in the columns.
 use columns::Fields;
+use columns::Head;
 use kinds::Row;
 use kinds::RowRecord;
 ghost use mathlib.Core.Path.{_≡_};
@@ -8,10 +9,12 @@ ghost use mathlib.Core.List.{_++_};
 ghost use Prim.Native.Nat.{_<_, _≤_};
 ghost use lib.ListN.{length};
 ghost use Rattle.kinds.specs.Limits.{zonesMost};
+ghost use Rattle.kinds.specs.LineColumns.{columnsOf};
 ghost use Rattle.text.specs.Line.{holds};
 ghost use Rattle.columns.specs.Columns.{stored};
 ghost use Rattle.lines.specs.Lines.{row};
-ghost use Rattle.lines.specs.SaidRow.{judgedOf, lineBy, valuesBy, badBy, outBy};
+ghost use Rattle.lines.specs.RowKinds.{sepBy, headBy, columnsBy, valuesBy, badBy, outBy};
+ghost use Rattle.lines.specs.SaidRow.{judgedOf, lineBy};
 ghost use Rattle.lines.specs.declared.row.RowJudged.the-variants.{Holds};
 
 // The kinds of line that hold a row: the table's, which is a C line, and the planners' sheet's.
@@ -58,21 +61,16 @@ fn row_bad(kind: RowKind, zones: usize, line: &[u8], i: usize) -> usize
     ensures { λ r. ⌜ r ≡ badBy kind zones (now (line .entry)) i ⌝ }
 {
     let n = Row::ITEMS + zones;
-    match kind {
-        RowKind::Table => blame::line_byte(b'\t', b'C', &Row::COLUMNS[..n], line, i),
-        RowKind::Sheet => blame::bare_byte(b';', &Row::SHEET_COLUMNS[..n], line, i),
-    }
+    blame::line_byte(sep_of(kind), head_of(kind, i), &columns_of(kind)[..n], line)
 }
 
-// .. and where a value is outside its range. The first value follows a C line's second tab, since letter and index stand before it, and a sheet's first semicolon.
+// .. and where a value is outside its range.
 fn row_out(kind: RowKind, raw: RowRecord, f: &[i64], line: &[u8]) -> usize
     requires { ⌜ length (now f) ≤ zonesMost ⌝ }
     ensures { λ r. ⌜ r ≡ outBy kind (now (line .entry)) raw (now (f .entry)) ⌝ }
 {
-    match kind {
-        RowKind::Table => blame::range::row_range(b'\t', 2, raw, f, line),
-        RowKind::Sheet => blame::range::row_range(b';', 1, raw, f, line),
-    }
+    let k = columns::write::head_seps(head_of(kind, 0));
+    blame::range::row_range(sep_of(kind), k, raw, f, line)
 }
 
 // Fills a row's stretch of the factors from its line, which was judged before, and answers its raw record.
@@ -93,25 +91,43 @@ fn row_at(kind: RowKind, line: &[u8], i: usize, raw: &mut [i64], f: &mut [i64]) 
     ensures { λ r. ⌜ stored r (now (raw .exit) ++ now (f .exit)) ≡ valuesBy kind (length (now (f .entry))) (now (line .entry)) i ⌝ }
 {
     let n = Row::ITEMS + f.len();
+    columns::read::parts_at(
+        sep_of(kind),
+        head_of(kind, i),
+        &columns_of(kind)[..Row::ITEMS],
+        &columns_of(kind)[Row::ITEMS..n],
+        line,
+        raw,
+        f,
+    )
+}
+
+// What the kinds differ in: the byte that parts the fields,
+pub fn sep_of(kind: RowKind) -> u8
+    ensures { λ r. ⌜ r ≡ sepBy kind ⌝ }
+{
     match kind {
-        RowKind::Table => columns::read::parts_at(
-            b'\t',
-            b'C',
-            &Row::COLUMNS[..Row::ITEMS],
-            &Row::COLUMNS[Row::ITEMS..n],
-            line,
-            i,
-            raw,
-            f,
-        ),
-        RowKind::Sheet => columns::bare::bare_at(
-            b';',
-            &Row::SHEET_COLUMNS[..Row::ITEMS],
-            &Row::SHEET_COLUMNS[Row::ITEMS..n],
-            line,
-            i,
-            raw,
-            f,
-        ),
+        RowKind::Table => b'\t',
+        RowKind::Sheet => b';',
+    }
+}
+
+// .. the head of row i's line,
+pub fn head_of(kind: RowKind, i: usize) -> Head
+    ensures { λ r. ⌜ r ≡ headBy kind i ⌝ }
+{
+    match kind {
+        RowKind::Table => Head::Indexed(b'C', i),
+        RowKind::Sheet => Head::Bare(i),
+    }
+}
+
+// .. and the columns, as many as the most zones ask for.
+pub fn columns_of(kind: RowKind) -> [u8; Row::ITEMS + kinds::Header::ZONES_MOST]
+    ensures { λ r. ⌜ columnsOf r ≡ columnsBy kind zonesMost ⌝ }
+{
+    match kind {
+        RowKind::Table => Row::COLUMNS,
+        RowKind::Sheet => Row::SHEET_COLUMNS,
     }
 }

@@ -9,9 +9,9 @@ use lib.ListN.{length, drop, length-drop, drop-of-length-le}
 use Rattle.kinds.specs.Refusals.{wrongFormAt, outOfRangeAt}
 use Rattle.text.specs.Line.{lineAt, after, Line, holds, form, range}
 use Rattle.text.proofs.LineLaws.{line-le-length}
-use Rattle.block.specs.Block.{Block, read, fault, onLine, linesAt}
-use Rattle.block.proofs.BlockLaws.{read-is, no-read, blockText}
-use Rattle.columns.specs.ColumnText.{columnsText, indexText}
+use Rattle.runs.specs.Block.{Block, read, fault, onLine, linesAt}
+use Rattle.runs.proofs.BlockLaws.{read-is, no-read, blockText}
+use Rattle.columns.specs.ColumnText.{columnsText, headText}
 use Rattle.lines.specs.Lines.{RowLine, rowLine}
 use Rattle.lines.specs.declared.row.RowKind.the-variants as rowKind
 use Rattle.lines.proofs.RowTrip.{row-read}
@@ -29,7 +29,7 @@ abbrev Own : (line : List ℕ) → Type 0
 Own line = (0 < length line) × (isRow line ≡ true)
 
 own-line : (i : ℕ) (c : RowLine) → Own (rowLineOf i c)
-unfolding columnsText indexText
+unfolding columnsText headText
 own-line i c = (omega arith, refl)
 
 module _ (sheet : List (List ℕ)) (text : List ℕ) where

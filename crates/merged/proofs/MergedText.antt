@@ -8,10 +8,10 @@ use lib.IntN.{ℤ}
 use Rattle.kinds.specs.Ranges.{allocatedItems, profiled}
 use Rattle.kinds.specs.Refusals.{passed}
 use Rattle.text.specs.Line.{lineAt, after}
-use Rattle.columns.specs.ColumnText.{columnsText, indexText, plainText}
-use Rattle.block.specs.Block.{linesAt}
-use Rattle.block.proofs.BlockLaws.{blockText}
-use Rattle.block.proofs.RunLaws.{lines-then}
+use Rattle.columns.specs.ColumnText.{columnsText, headText}
+use Rattle.runs.specs.Block.{linesAt}
+use Rattle.runs.proofs.BlockLaws.{blockText}
+use Rattle.runs.proofs.RunLaws.{lines-then}
 use Rattle.table.specs.Table.{Table, zoneLineNo, allocatedLineNo, borderLineNo, rowLineNo}
 use Rattle.lines.specs.Lines.{zoneLine, allocatedLine, borderLine, rowLine}
 use Rattle.lines.proofs.HeaderTrip.{header-read}
@@ -31,19 +31,19 @@ use Rattle.merged.proofs.MergedLaws.{Other, mergedAt, other-line, other
 
 -- ---- no line before the rows is a C line
 header-other : (t : Table) → Other (headerText (t .header))
-unfolding plainText
+unfolding columnsText headText
 header-other t = (omega arith, refl)
 
 zone-other : (i : ℕ) (net : ℤ) → Other (zoneText i net)
-unfolding columnsText indexText
+unfolding columnsText headText
 zone-other i net = (omega arith, refl)
 
 allocated-other : (i : ℕ) (net : ℤ) → Other (allocatedText i net)
-unfolding columnsText indexText
+unfolding columnsText headText
 allocated-other i net = (omega arith, refl)
 
 border-other : (i : ℕ) (raw : List ℤ) → Other (borderText i raw)
-unfolding columnsText indexText
+unfolding columnsText headText
 border-other i raw = (omega arith, refl)
 
 -- ---- the table that was read with a sheet, by its lines

@@ -9,8 +9,8 @@ use Rattle.text.specs.Fields.{numberAt}
 use Rattle.text.specs.Line.{Line, holds, range}
 use Rattle.text.specs.Sheets.{sheet}
 use Rattle.columns.specs.Columns.{fieldAt, fieldsAt}
-use Rattle.columns.specs.ColumnLine.{restAt, plainLine}
-use Rattle.columns.specs.Optional.{plainOptional}
+use Rattle.columns.specs.ColumnLine.{headAt, restAt, columnsLine}
+use Rattle.columns.specs.Optional.{optionalLine}
 use Rattle.blame.specs.RangeBlame.{pastSeps, rangeByte}
 use Rattle.oldtexts.specs.OldTexts.{bordersBefore, headerBy}
 
@@ -33,7 +33,7 @@ pub record Limits : Type 0 where
   pub beyond : now "H 16 65 200/" ≡ range 6
 
 pub limits : Limits
-unfolding inside numberAt fieldAt fieldsAt restAt plainLine plainOptional pastSeps rangeByte
+unfolding inside numberAt fieldAt fieldsAt headAt restAt columnsLine optionalLine pastSeps rangeByte
 limits =
     record {
       forty-before = refl;

@@ -1,28 +1,29 @@
 -- 02, E8: "Old texts stay valid and mean the same." A text that was read by a limit of borders is read as the same table by every larger one (`read-more`), so a
 -- text of before E8 is read as it was (`old-text`), and has the answer that it had (`old-answer`).
 use mathlib.Core.Path.{_≡_, refl, sym, ap, _∙_}
-use mathlib.Core.Bool.{Bool, true, false, cond, _&&_, false≢true}
+use mathlib.Core.Bool.{Bool, true, false, cond, and-eq-true-iff}
 use mathlib.Core.List.{List}
 use Prim.Native.Char.{code}
 use Prim.Native.Nat.{ℕ, _≤_}
 use native.Mathlib.Nat.{le-trans}
 use borrow.Author.Tests.{leb-true, le-leb}
 use lib.Dec.{leb, ltb, lit≤}
-use lib.IntN.{ℤ, pos}
+use lib.IntN.{ℤ}
 use lib.ListN.{length}
-use Rattle.numbers.specs.Ints.{minus, inside}
 use Rattle.numbers.proofs.TestLaws.{zero-one}
 use Rattle.kinds.specs.declared.Header.{Header}
 use Rattle.kinds.specs.LineColumns.{headerColumns, defaultColumns}
-use Rattle.kinds.specs.Limits.{zonesLeast, zonesMost, bordersLeast, bordersMost, rowsLeast, rowsMost, intradayMark, shareMost, bytesMost}
-use Rattle.kinds.specs.Ranges.{headerFits}
+use Rattle.kinds.specs.Limits.{bordersLeast, bordersMost, bytesMost}
+use Rattle.kinds.specs.Ranges.{headerTestsBy, headerFits}
 use Rattle.kinds.specs.Refusals.{Judged, passed, refused, then, either, tooLong, wrongFormAt, outOfRangeAt}
+use Rattle.kinds.proofs.AllLaws.{all-at}
 use Rattle.kinds.proofs.RefusalLaws.{not-passed, then-passed, then-next}
 use Rattle.text.specs.Fields.{tab}
 use Rattle.text.specs.Line.{lineAt, Line, holds, form, range}
 use Rattle.columns.specs.Columns.{Values, values, wrong}
 use Rattle.columns.specs.ColumnLine.{judged}
-use Rattle.columns.specs.Optional.{plainOptional}
+use Rattle.columns.specs.declared.Head.the-variants.{Lettered}
+use Rattle.columns.specs.Optional.{optionalLine}
 use Rattle.table.specs.Table.{Table, notTwice, headerLineNo}
 use Rattle.lines.specs.Lines.{headerOf, headerBad, headerLine}
 use Rattle.reading.specs.Reading.{withHeader, linesBy, readText}
@@ -41,21 +42,15 @@ unfolding answerWithin answerFor
 answer-now all marks text = ap (λ (j : Judged Table). either (then j (outcomeFor all marks)) resultText refusalText) (read-now text)
 
 -- ---- at a larger limit
--- tests together hold where one of them is replaced by a weaker one
-instead : (a b weaker c d e f : Bool) → (b ≡ true → weaker ≡ true) → (a && b && c && d && e && f) ≡ true → (a && weaker && c && d && e && f) ≡ true
-instead false b weaker c d e f k h = h
-instead true true weaker c d e f k h = rw (k refl) h
-instead true false weaker c d e f k h = absurd (false≢true h)
-
 module _ (limit larger : ℕ) (more : limit ≤ larger) where
   fits-more : (h : Header) → fitsBy limit h ≡ true → fitsBy larger h ≡ true
-  fits-more h =
-      instead (leb zonesLeast (h .zones) && leb (h .zones) zonesMost && leb bordersLeast (h .borders)) (leb (h .borders) limit) (leb (h .borders) larger)
-      (leb rowsLeast (h .rows)) (leb (h .rows) rowsMost) (inside (minus 1) (pos shareMost) (h .share)) (leb (h .intraday) intradayMark)
-      (λ q. le-leb _ _ (le-trans (leb-true _ _ q) more))
+  fits-more h e =
+      let all = all-at (headerTestsBy limit h) e in
+      let borders = and-eq-true-iff (leb bordersLeast (h .borders)) (leb (h .borders) limit) .0 (all 1) in
+      rw (all 0, borders .0, le-leb (h .borders) larger (le-trans (leb-true _ _ (borders .1)) more), all 2, all 3, all 4)
 
   header-more : (line : List ℕ) (h : Header) → headerBy limit line ≡ holds h → headerBy larger line ≡ holds h
-  header-more line h e = go (plainOptional tab (code "H") headerColumns defaultColumns line) e
+  header-more line h e = go (optionalLine tab (Lettered (code "H")) headerColumns defaultColumns line) e
     where
       by : (zs : List ℤ) (t : Bool) → fitsBy limit (headerOf zs) ≡ t → cond t (holds (headerOf zs)) (range (outBy limit line zs)) ≡ holds h
           → cond (fitsBy larger (headerOf zs)) (holds (headerOf zs)) (range (outBy larger line zs)) ≡ holds h

@@ -1,25 +1,25 @@
 -- Reading by any limit of borders (02, E8: "Raise borders from 40 to 64. Old texts stay valid and mean the same."). The limit stands in the judgement of the H
 -- line alone: in its range, and in which of its bytes is to blame. At today's limit this is `readText` (proofs/OldTexts: `read-now`), so that nothing of it can
 -- differ from how texts are read but the limit.
-use mathlib.Core.Bool.{Bool, cond, _&&_}
-use mathlib.Core.List.{List, [], _∷_}
+use mathlib.Core.Bool.{Bool, cond}
+use mathlib.Core.List.{List}
 use Prim.Native.Char.{code}
 use Prim.Native.Nat.{ℕ}
-use lib.Dec.{leb, ltb}
-use lib.IntN.{ℤ, pos}
+use lib.Dec.{ltb}
+use lib.IntN.{ℤ}
 use lib.ListN.{length}
-use Rattle.numbers.specs.Ints.{minus, inside}
 use Rattle.kinds.specs.declared.Header.{Header}
 use Rattle.kinds.specs.LineColumns.{headerColumns, defaultColumns}
-use Rattle.kinds.specs.Limits.{zonesLeast, zonesMost, bordersLeast, rowsLeast, rowsMost, intradayMark, shareMost, bytesMost}
-use Rattle.kinds.specs.Ranges.{profiled}
+use Rattle.kinds.specs.Limits.{bytesMost}
+use Rattle.kinds.specs.Ranges.{allTrue, headerTestsBy, profiled}
 use Rattle.kinds.specs.Refusals.{Judged, refused, then, either, tooLong}
 use Rattle.text.specs.Fields.{tab}
 use Rattle.text.specs.Line.{lineAt, after, Line}
 use Rattle.columns.specs.ColumnLine.{judged}
-use Rattle.columns.specs.Optional.{plainOptional}
+use Rattle.columns.specs.declared.Head.the-variants.{Lettered}
+use Rattle.columns.specs.Optional.{optionalLine}
 use Rattle.blame.specs.RangeBlame.{rangeByte}
-use Rattle.block.specs.Block.{linesAt, withLines}
+use Rattle.runs.specs.Block.{linesAt, withLines}
 use Rattle.table.specs.Table.{Table, notTwice, zoneLineNo}
 use Rattle.lines.specs.Lines.{headerOf, headerBad, zoneLine}
 use Rattle.runs.specs.Rows.{asGiven}
@@ -34,27 +34,15 @@ bordersBefore = 40
 
 -- a header in range (kinds: `headerFits`)
 abbrev pub fitsBy : (limit : ℕ) → Header → Bool
-fitsBy limit h =
-    leb zonesLeast (h .zones) && leb (h .zones) zonesMost
-    && leb bordersLeast (h .borders) && leb (h .borders) limit
-    && leb rowsLeast (h .rows) && leb (h .rows) rowsMost
-    && inside (minus 1) (pos shareMost) (h .share)
-    && leb (h .intraday) intradayMark
+fitsBy limit h = allTrue (headerTestsBy limit h)
 
--- the byte to blame of one out of range (blame: `headerTests`)
+-- the byte to blame of one out of range (lines: `headerOut`)
 abbrev pub outBy : (limit : ℕ) → (line : List ℕ) → (zs : List ℤ) → ℕ
-outBy limit line zs =
-    let h = headerOf zs in
-    rangeByte tab
-    ((leb zonesLeast (h .zones) && leb (h .zones) zonesMost)
-    ∷ (leb bordersLeast (h .borders) && leb (h .borders) limit)
-    ∷ (leb rowsLeast (h .rows) && leb (h .rows) rowsMost)
-    ∷ inside (minus 1) (pos shareMost) (h .share) ∷ [])
-    1 line
+outBy limit line zs = rangeByte tab (headerTestsBy limit (headerOf zs)) 1 line
 
 -- the H line
 abbrev pub headerBy : (limit : ℕ) → (line : List ℕ) → Line Header
-headerBy limit line = judged (λ zs. fitsBy limit (headerOf zs)) headerOf (headerBad line) (outBy limit line) (plainOptional tab (code "H") headerColumns defaultColumns line)
+headerBy limit line = judged (λ zs. fitsBy limit (headerOf zs)) headerOf (headerBad line) (outBy limit line) (optionalLine tab (Lettered (code "H")) headerColumns defaultColumns line)
 
 -- the lines of a text, and the text
 abbrev pub linesWithin : (limit : ℕ) → (text : List ℕ) → Judged Table

@@ -5,7 +5,7 @@ use lib.IntN.{pos}
 use Rattle.numbers.specs.Ints.{minus}
 use Rattle.text.specs.Sheets.{sheet}
 use Rattle.text.specs.Written.{textOf, decimal, decimalℤ, linesText}
-use Rattle.columns.specs.ColumnText.{fieldText, fieldsEnded, indexText, columnsText}
+use Rattle.columns.specs.ColumnText.{fieldText, fieldsEnded, indexText, headText, columnsText}
 use Rattle.partstext.specs.PartsText.{partsText, partsMost}
 
 pub record Anchors : Type 0 where
@@ -15,5 +15,5 @@ pub record Anchors : Type 0 where
   pub most : partsMost ≡ 42000
 
 pub anchors : Anchors
-unfolding textOf decimal decimalℤ linesText fieldText fieldsEnded indexText columnsText
+unfolding textOf decimal decimalℤ linesText fieldText fieldsEnded indexText headText columnsText
 anchors = record { line = refl; most = refl }

@@ -27,6 +27,7 @@ use Rattle.text.proofs.LeftLaws.{text-refused}
 use Rattle.text.proofs.PutLaws.{lines-most}
 use Rattle.text.proofs.WrittenLaws.{decimal-long, decimalℤ-long}
 use Rattle.columns.specs.ColumnText.{fieldText, fieldsLength}
+use Rattle.columns.specs.declared.Head.the-variants.{Indexed}
 use Rattle.columns.proofs.ColumnPut.{line-long}
 use Rattle.table.specs.declared.Room.the-variants.{None}
 use Rattle.table.specs.Table.{Table, front, factorsAt, judgeLent}
@@ -87,7 +88,7 @@ parts-small {t} good i h =
 line-most : (i : ℕ) (m : Parts) → i < rowsMost → Small m → length (partsLine i (recordOf m)) ≤ partsLineMost
 unfolding fieldsLength fieldText
 line-most i m h v =
-    rw (line-long tab (code "V") partsColumns i (recordOf m))
+    rw (line-long tab (Indexed (code "V") i) partsColumns (recordOf m))
     (omega (
       arith,
       decimal-long 2 i (omega arith),

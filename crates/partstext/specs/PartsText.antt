@@ -10,6 +10,7 @@ use Rattle.kinds.specs.Refusals.{passed, then}
 use Rattle.text.specs.Fields.{tab}
 use Rattle.text.specs.Left.{TextLeft, textLeft}
 use Rattle.text.specs.Written.{linesText}
+use Rattle.columns.specs.declared.Head.the-variants.{Indexed}
 use Rattle.columns.specs.ColumnText.{columnsText}
 use Rattle.table.specs.Table.{judgeLent, Table}
 use Rattle.parts.specs.Parts.{recordsOf}
@@ -33,7 +34,7 @@ partsColumns =
 
 -- `V`, row index, and the twelve numbers
 abbrev pub partsLine : (i : ℕ) → (raw : List ℤ) → List ℕ
-partsLine i raw = columnsText tab (code "V") partsColumns i raw
+partsLine i raw = columnsText tab (Indexed (code "V") i) partsColumns raw
 
 abbrev pub partsLineAt : (records : List (List ℤ)) → (i : ℕ) → List ℕ
 partsLineAt records i = partsLine i (getD records i [])

@@ -11,6 +11,7 @@ ghost use Rattle.table.specs.Table.{lent, front};
 ghost use Rattle.table.specs.Good.{Good};
 ghost use Rattle.parts.specs.Parts.{recordsOf};
 ghost use Rattle.partstext.specs.PartsText.{partsLine, partsLineAt, partsLineMost, partsText, marginsTextLeft};
+use columns::Head;
 use kinds::BorderRecord;
 use kinds::Header;
 use kinds::Judgement;
@@ -94,7 +95,7 @@ fn line_length(i: usize, raw: PartsRecord) -> usize
     requires { ⌜ length (partsLine i raw) ≤ partsLineMost ⌝ }
     ensures { λ r. ⌜ r ≡ length (partsLine i raw) ⌝ }
 {
-    columns::write::line_length(&COLUMNS, i, &raw)
+    columns::write::line_length(Head::Indexed(b'V', i), &COLUMNS, &raw)
 }
 
 fn put_parts(records: &[PartsRecord], out: &mut [u8]) -> usize
@@ -112,5 +113,5 @@ fn put_line(i: usize, raw: PartsRecord, out: &mut [u8], at: usize) -> usize
     requires { ⌜ at + length (partsLine i raw) ≤ length (now out) ⌝ }
     ensures { λ r. ⌜ Put (partsLine i raw) at (now (out .entry)) r (now (out .exit)) ⌝ }
 {
-    columns::write::put_line(b'\t', b'V', &COLUMNS, i, &raw, out, at)
+    columns::write::put_line(b'\t', Head::Indexed(b'V', i), &COLUMNS, &raw, out, at)
 }

@@ -18,11 +18,11 @@ use Rattle.text.specs.Fields.{tab, feed, digits}
 use Rattle.text.specs.Written.{decimal, fieldsText, lineText, linesText}
 use Rattle.text.proofs.NumberTrip.{number-written, number-rest, digits-cons, decimal-digits, decimal-some}
 use Rattle.kinds.specs.LineColumns.{Column}
-use Rattle.columns.specs.Bare.{bareIndexText, bareText}
-use Rattle.columns.specs.ColumnText.{plainText, indexText, columnsText, fieldsEnded}
+use Rattle.columns.specs.declared.Head.the-variants.{Bare}
+use Rattle.columns.specs.ColumnText.{indexText, headText, columnsText, fieldsEnded}
 use Rattle.table.specs.Table.{Table, factorsAt}
 use Rattle.writing.specs.Writing.{tableText}
-use Rattle.lines.specs.SheetLine.{semicolon}
+use Rattle.lines.specs.RowKinds.{semicolon}
 use Rattle.lines.specs.declared.row.RowKind.the-variants as rowKind
 use Rattle.layout.specs.Layout.{rowTextIn}
 use Rattle.rowsheet.specs.RowSheet as rowsheet
@@ -87,7 +87,7 @@ lines-other (suc left) i line rest each last = subst Other (sym (append-assoc (l
 
 -- a result's records are heard as an answer: their text begins with A, M or R
 records-heard : (atcs lefts : List (List ℤ)) (k : ℕ) → heardOf (recordsText atcs lefts k) ≡ Answered
-unfolding recordsText lineText
+unfolding recordsText lineText columnsText headText indexText
 records-heard atcs lefts k =
     let borders = linesText (length atcs) 0 (atcAt atcs) in
     let rows = linesText (length lefts) 0 (marginAt lefts) in
@@ -101,12 +101,12 @@ result-heard r = records-heard (table (r .header .borders) (atcRecord r)) (table
 
 -- .. and so is a table: it begins with H
 pub table-heard : (t : Table) → heardOf (tableText t) ≡ Answered
-unfolding tableText plainText
+unfolding tableText columnsText headText
 table-heard t = sym (heard-other (tableText t) (λ e. omega arith))
 
 -- .. and a row's corner sheet: it begins with K
 pub sheet-heard : (t : Table) (row : ℕ) → heardOf (sheetText t row) ≡ Answered
-unfolding cornersText lineText
+unfolding cornersText columnsText headText indexText
 sheet-heard t row =
     let flows = flowsOf (factorsAt t row) (t .borders) in
     let lines = linesText (length flows) 0 (cornerLineAt row flows) in
@@ -120,7 +120,7 @@ lines-beside (suc left) i line rest each last =
     subst Other (sym (append-assoc (line i) (linesText left (i + 1) line) rest)) (each i (linesText left (i + 1) line ++ rest) (lines-beside left (i + 1) line rest each last))
 
 published-other : (b : Bool) (row : ℕ) (ram : ℤ) (more : List ℕ) → Other more → Other (cond b (rowLine row ram) [] ++ more)
-unfolding lineText
+unfolding columnsText headText indexText
 published-other true row ram more o = λ e. omega arith
 published-other false row ram more o = o
 
@@ -137,7 +137,7 @@ bound-heard m = sym (heard-other (boundText m) (λ e. omega arith))
 
 -- .. and what margins are made of: it begins with V
 pub margins-heard : (records : List (List ℤ)) → heardOf (partsText records) ≡ Answered
-unfolding columnsText indexText
+unfolding columnsText headText
 margins-heard records =
     let lines = linesText (length records) 0 (partsLineAt records) in
     sym (heard-other lines (subst Other (append-nil lines) (lines-other (length records) 0 (partsLineAt records) [] (λ k more e. omega arith) (λ e. omega arith))))
@@ -150,8 +150,8 @@ decimal-other n more = go (decimal n) (decimal-digits n) (decimal-some n)
     go [] d l = absurd (omega arith)
     go (b ∷ s) d l = λ e. omega (arith, ltb-true b 58 (and-both (leb 48 b) (ltb b 58) (digits-cons b s d .0) .1))
 
-line-other : (columns : List Column) (i : ℕ) (zs : List ℤ) (more : List ℕ) → Other (bareText semicolon columns i zs ++ more)
-unfolding bareText bareIndexText
+line-other : (columns : List Column) (i : ℕ) (zs : List ℤ) (more : List ℕ) → Other (columnsText semicolon (Bare i) columns zs ++ more)
+unfolding columnsText headText indexText
 line-other columns i zs more =
     let rest = fieldsEnded semicolon feed columns zs in
     subst Other (sym (append-assoc (decimal i ++ (semicolon ∷ [])) rest more ∙ append-assoc (decimal i) (semicolon ∷ []) (rest ++ more))) (decimal-other i _)

@@ -13,18 +13,18 @@ use Rattle.kinds.specs.Refusals.{Judged, passed, refused, refusal, then, either
 use Rattle.text.specs.Fields.{numberAt, signedAt, shareAt}
 use Rattle.text.specs.Sheets.{sheet}
 use Rattle.columns.specs.Columns.{fieldAt, fieldsAt}
-use Rattle.columns.specs.ColumnLine.{indexAt, restAt, columnsLine, plainLine}
-use Rattle.columns.specs.Optional.{optionalLine, plainOptional}
-use Rattle.blame.specs.Blame.{goodAt, byteAt, fieldsByte, lineByte, plainByte}
+use Rattle.columns.specs.ColumnLine.{headAt, restAt, columnsLine}
+use Rattle.columns.specs.Optional.{optionalLine}
+use Rattle.blame.specs.Blame.{goodAt, byteAt, fieldsByte, lineByte}
 use Rattle.blame.specs.RangeBlame.{pastSeps, rangeByte}
-use Rattle.block.specs.Block.{linesAt}
+use Rattle.runs.specs.Block.{linesAt}
 use Rattle.table.specs.Table.{Table, lent, balanced, twice, roomFor}
 use Rattle.lines.specs.Lines.{headerLine, positionLine, borderLine, rowLine}
 use Rattle.corrections.specs.Corrections.{ofRow, endedIndex, givenIndex, dueIndex}
 use Rattle.reading.specs.Reading.{linesBy, readText, readCorrected, tablesLeft, readCorrectedLeft}
 
 unfoldable computing : Unit {0}
-unfolding firstFrom given inside sameℤ sumℤ headerFits allocatedItems zoneFits exists hubsFit borderFits shareOf rowOf rowFits factorFits then either unless refuseAt refuseFirst need numberAt signedAt shareAt fieldAt fieldsAt indexAt restAt columnsLine plainLine optionalLine plainOptional goodAt byteAt fieldsByte lineByte plainByte pastSeps rangeByte linesAt balanced twice roomFor headerLine positionLine borderLine rowLine ofRow endedIndex givenIndex dueIndex linesBy readText readCorrected tablesLeft
+unfolding firstFrom given inside sameℤ sumℤ headerFits allocatedItems zoneFits exists hubsFit borderFits shareOf rowOf rowFits factorFits then either unless refuseAt refuseFirst need numberAt signedAt shareAt fieldAt fieldsAt headAt restAt columnsLine optionalLine goodAt byteAt fieldsByte lineByte pastSeps rangeByte linesAt balanced twice roomFor headerLine positionLine borderLine rowLine ofRow endedIndex givenIndex dueIndex linesBy readText readCorrected tablesLeft
 computing = tt
 
 abbrev rows : String

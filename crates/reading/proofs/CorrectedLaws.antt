@@ -13,8 +13,8 @@ use Rattle.kinds.specs.declared.Refusal.{Refusal}
 use Rattle.kinds.specs.Limits.{bytesMost}
 use Rattle.kinds.specs.Refusals.{Judged, passed, refused, then, tooLong, wrongForm}
 use Rattle.kinds.proofs.RefusalLaws.{passed-is, then-passed, then-next, then-refused}
-use Rattle.block.specs.Block.{Block, linesAt, endOf, heldBy}
-use Rattle.block.proofs.RunLaws.{lines-then}
+use Rattle.runs.specs.Block.{Block, linesAt, endOf, heldBy}
+use Rattle.runs.proofs.RunLaws.{lines-then}
 use Rattle.table.specs.Table.{Table, lent, twice, rowLineNo, pastLineNo}
 use Rattle.table.specs.Good.{Good, Shaped}
 use Rattle.lines.specs.Lines.{RowLine, rowLine}

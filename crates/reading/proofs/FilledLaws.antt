@@ -17,7 +17,7 @@ use Rattle.kinds.specs.Answers.{ruled}
 use Rattle.kinds.specs.Ranges.{allocatedItems}
 use Rattle.kinds.specs.Refusals.{Judged, passed, refused, then}
 use Rattle.kinds.proofs.RefusalLaws.{then-next, then-refused, either-passed, either-refused}
-use Rattle.block.specs.Block.{heldBy}
+use Rattle.runs.specs.Block.{heldBy}
 use Rattle.table.specs.Table.{Table, lent, tableRoom}
 use Rattle.table.specs.Good.{Exact, Good}
 use Rattle.table.proofs.JudgeLaws.{exact-factors}

@@ -22,8 +22,8 @@ use Rattle.kinds.specs.Refusals.{Judged, passed, refused, then, unless, tooLong
 use Rattle.kinds.proofs.KindLaws.{HeaderIn, header-in, profiled-fits, zone-in}
 use Rattle.kinds.proofs.RefusalLaws.{then-next, then-refused, unless-ok, unless-refused, first-found, first-none-next}
 use Rattle.text.specs.Line.{lineAt, form, range}
-use Rattle.block.specs.Block.{Block, read, fault, linesAt, withLines, endOf, heldBy}
-use Rattle.block.proofs.RunLaws.{run-fits, fits-at}
+use Rattle.runs.specs.Block.{Block, read, fault, linesAt, withLines, endOf, heldBy}
+use Rattle.runs.proofs.RunLaws.{run-fits, fits-at}
 use Rattle.table.specs.Table.{Table, lent, balanced, twice, notTwice, headerLineNo, zoneLineNo, allocatedLineNo, lastAllocatedLineNo, borderLineNo, rowLineNo, pastLineNo}
 use Rattle.lines.specs.Lines.{RowLine, headerLine, positionLine, zoneLine, allocatedLine, borderLine, rowLine}
 use Rattle.lines.proofs.HeaderTrip.{header-read}

@@ -14,8 +14,8 @@ use Rattle.text.specs.Fields.{tab}
 use Rattle.text.specs.Line.{lineAt, after, Line, holds, form, range}
 use Rattle.text.proofs.LineLaws.{line-le-length}
 use Rattle.text.proofs.NumberTrip.{number-read}
-use Rattle.block.specs.Block.{Block, read, fault, more, onLine, linesAt}
-use Rattle.block.proofs.BlockLaws.{no-read, read-is}
+use Rattle.runs.specs.Block.{Block, read, fault, more, onLine, linesAt}
+use Rattle.runs.proofs.BlockLaws.{no-read, read-is}
 use Rattle.table.specs.Table.{Table, lent, rowLineNo, pastLineNo}
 use Rattle.lines.specs.Lines.{RowLine, rowLine}
 use Rattle.corrections.specs.Corrections.{pieces, ofRow, handedOn, givenIndex, dueIndex, judgeFrom}

@@ -16,9 +16,9 @@ use Rattle.kinds.specs.Refusals.{Judged, passed, refused, unless, tooLong, wron
 use Rattle.kinds.proofs.RefusalLaws.{passed-is, not-passed, unless-passed, none-passed, then-passed}
 use Rattle.kinds.proofs.KindLaws.{header-in, profiled-fits}
 use Rattle.text.specs.Line.{lineAt, after, Line, holds, form, range}
-use Rattle.block.specs.Block.{read, linesAt}
-use Rattle.block.proofs.BlockLaws.{allFit}
-use Rattle.block.proofs.RunLaws.{run-fits, fits-at, lines-then}
+use Rattle.runs.specs.Block.{read, linesAt}
+use Rattle.runs.proofs.BlockLaws.{allFit}
+use Rattle.runs.proofs.RunLaws.{run-fits, fits-at, lines-then}
 use Rattle.table.specs.Table.{Table, stretch, balanced, twice, notTwice, headerLineNo, zoneLineNo, allocatedLineNo, borderLineNo, rowLineNo, pastLineNo}
 use Rattle.table.specs.Good.{Good, Shaped}
 use Rattle.table.proofs.GoodLaws.{row-good, flat-fit}

@@ -13,7 +13,7 @@ use Rattle.kinds.specs.Answers.{saidRead}
 use Rattle.kinds.specs.Ranges.{headerFits, allocatedItems}
 use Rattle.kinds.specs.Refusals.{Judged, passed, refused}
 use Rattle.text.specs.Line.{lineAt, after, holds}
-use Rattle.block.specs.Block.{Block, heldBy}
+use Rattle.runs.specs.Block.{Block, heldBy}
 use Rattle.table.specs.Table.{Table, lent}
 use Rattle.lines.specs.Lines.{RowLine, headerLine}
 use Rattle.runs.specs.Runs.{allGood, positionsIn}

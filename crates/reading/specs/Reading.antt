@@ -15,7 +15,7 @@ use Rattle.kinds.specs.Limits.{bytesMost}
 use Rattle.kinds.specs.Ranges.{allocatedItems, profiled}
 use Rattle.kinds.specs.Refusals.{Judged, passed, refused, then, either, unless, tooLong, wrongFormAt, wrongForm, outOfRangeAt}
 use Rattle.text.specs.Line.{lineAt, after, Line, holds, form, range}
-use Rattle.block.specs.Block.{linesAt, withLines}
+use Rattle.runs.specs.Block.{linesAt, withLines}
 use Rattle.table.specs.Table.{Table, lent, front, balanced, notTwice, tableRoom, headerLineNo, zoneLineNo, allocatedLineNo, lastAllocatedLineNo, borderLineNo, rowLineNo, pastLineNo}
 use Rattle.lines.specs.Lines.{headerLine, zoneLine, allocatedLine, borderLine}
 use Rattle.corrections.specs.Corrections.{pieces, handedOn, judgeSheet}

@@ -1,12 +1,12 @@
 // Judging a text: 1, then the lines one by one (2 and 3), then 4; and then a correction sheet (10). The tables to be filled are not lent to any function here.
-use block::End;
+use runs::End;
 ghost use mathlib.Core.Path.{_≡_};
 ghost use mathlib.Core.Bool.{true};
 ghost use mathlib.Core.List.{[]};
 ghost use Prim.Native.Nat.{_≤_};
 ghost use lib.ListN.{length};
 ghost use Rattle.kinds.specs.Limits.{zonesMost, bordersMost};
-ghost use Rattle.block.specs.Block.{heldBy};
+ghost use Rattle.runs.specs.Block.{heldBy};
 ghost use Rattle.table.specs.Table.{balanced};
 ghost use Rattle.runs.specs.Runs.{allGood};
 ghost use Rattle.reading.specs.Places.{Headed, Netted, Allocated, allocatedLines, tableIn, placedIn};

@@ -1,62 +1,66 @@
 -- The result text made from result records, as the open call `extract` fills them (01, "Result text"; 02, E7): a border's ATC, last round and stopping row; a row's state, RAM and margin left.
 -- `recordsText` and the lines of it are what contracts cite; the text of a result is that of its records (answer's specs/Result.antt).
-use mathlib.Core.Bool.{Bool, cond}
+use mathlib.Core.Path.{_≡_}
+use mathlib.Core.Logic.{_⊎_}
 use mathlib.Core.List.{List, [], _∷_, _++_}
 use Prim.Native.Char.{code}
 use Prim.Native.Nat.{ℕ, _+_, _*_}
-use lib.Dec.{eqb}
-use lib.IntN.{ℤ, pos}
+use lib.IntN.{ℤ}
 use lib.ListN.{length, getD}
-use lib.Signed.{leZ}
-use Rattle.numbers.specs.Ints.{sameℤ}
 use Rattle.kinds.specs.Limits.{bordersMost, rowsMost}
-use Rattle.kinds.specs.Ranges.{atℤ}
-use Rattle.text.specs.Fields.{dash}
-use Rattle.text.specs.Written.{decimal, decimalℤ, lineText, linesText}
+use Rattle.kinds.specs.LineColumns.{Column, number, signed, share}
+use Rattle.text.specs.Fields.{tab}
+use Rattle.text.specs.Written.{decimal, lineText, linesText}
+use Rattle.columns.specs.declared.Head.the-variants.{Indexed}
+use Rattle.columns.specs.ColumnText.{lineLength, columnsText}
 
--- a number, or "-" where it is not given
-unfoldable pub orDash : (given : Bool) → ℤ → List ℕ
-orDash given v = cond given (decimalℤ v) (dash ∷ [])
+-- the columns of an A line after the border's index; a record's -1 is written "-"
+abbrev pub atcColumns : List Column
+atcColumns =
+    number  -- ATC, MW
+    ∷ number  -- last round
+    ∷ share  -- the row that stopped it, or "-"
+    ∷ []
 
--- whether a record's third number is given: of a border (A) the row that stopped it, where there is one; of a row (M) the margin left, where the state is 0
-abbrev pub thirdGiven : (letter : ℕ) → (first third : ℤ) → Bool
-thirdGiven letter first third = cond (eqb letter (code "A")) (leZ (pos 0) third) (sameℤ first (pos 0))
+-- .. of an M line after the row's index
+abbrev pub marginColumns : List Column
+marginColumns =
+    number  -- state
+    ∷ signed  -- RAM, grains
+    ∷ share  -- margin left, grains, or "-" where the state isn't 0
+    ∷ []
 
--- the line of a record: the letter, the index, two numbers, and a third or "-"
-abbrev pub recordLine : (letter i : ℕ) → (first second third : ℤ) → List ℕ
-recordLine letter i first second third = lineText letter (decimal i ∷ decimalℤ first ∷ decimalℤ second ∷ orDash (thirdGiven letter first third) third ∷ [])
+-- .. of one or the other
+abbrev pub ResultColumns : List Column → Type 0
+ResultColumns columns = (columns ≡ atcColumns) ⊎ (columns ≡ marginColumns)
 
--- A, border index, ATC in MW, last round, and the row that stopped it or "-"
-abbrev pub atcLine : (b : ℕ) → (atc last row : ℤ) → List ℕ
-atcLine b atc last row = recordLine (code "A") b atc last row
+-- the line of record i: its letter, i, and its columns
+abbrev pub recordLine : (letter : ℕ) → List Column → (records : List (List ℤ)) → (i : ℕ) → List ℕ
+recordLine letter columns records i = columnsText tab (Indexed letter i) columns (getD records i [])
 
--- M, row index, state, RAM in grains, and margin left in grains or "-" where the state isn't 0
-abbrev pub marginLine : (i : ℕ) → (state ram left : ℤ) → List ℕ
-marginLine i state ram left = recordLine (code "M") i state ram left
-
--- R, rounds
-abbrev pub roundsLine : (rounds : ℕ) → List ℕ
-roundsLine rounds = lineText (code "R") (decimal rounds ∷ [])
-
--- the line that is made of record i
-abbrev pub lineOf : (line : (i : ℕ) → (first second third : ℤ) → List ℕ) → (records : List (List ℤ)) → (i : ℕ) → List ℕ
-lineOf line records i = line i (atℤ (getD records i []) 0) (atℤ (getD records i []) 1) (atℤ (getD records i []) 2)
+-- how many bytes it has: the same for every letter
+abbrev pub recordLength : List Column → (i : ℕ) → (raw : List ℤ) → ℕ
+recordLength columns i raw = lineLength (Indexed (code "A") i) columns raw
 
 -- the lines of records, of border records and of row records
-abbrev pub recordLines : (letter : ℕ) → (records : List (List ℤ)) → List ℕ
-recordLines letter records = linesText (length records) 0 (lineOf (recordLine letter) records)
+abbrev pub recordLines : (letter : ℕ) → List Column → (records : List (List ℤ)) → List ℕ
+recordLines letter columns records = linesText (length records) 0 (recordLine letter columns records)
 
 abbrev pub atcAt : (atcs : List (List ℤ)) → (b : ℕ) → List ℕ
-atcAt atcs b = lineOf atcLine atcs b
+atcAt atcs b = recordLine (code "A") atcColumns atcs b
 
 abbrev pub marginAt : (lefts : List (List ℤ)) → (i : ℕ) → List ℕ
-marginAt lefts i = lineOf marginLine lefts i
+marginAt lefts i = recordLine (code "M") marginColumns lefts i
 
 abbrev pub atcLines : (atcs : List (List ℤ)) → List ℕ
 atcLines atcs = linesText (length atcs) 0 (atcAt atcs)
 
 abbrev pub marginLines : (lefts : List (List ℤ)) → List ℕ
 marginLines lefts = linesText (length lefts) 0 (marginAt lefts)
+
+-- R, rounds
+abbrev pub roundsLine : (rounds : ℕ) → List ℕ
+roundsLine rounds = lineText (code "R") (decimal rounds ∷ [])
 
 unfoldable pub recordsText : (atcs lefts : List (List ℤ)) → (rounds : ℕ) → List ℕ
 recordsText atcs lefts rounds = atcLines atcs ++ marginLines lefts ++ roundsLine rounds

@@ -2,18 +2,24 @@
 // A border record is its ATC in MW, last round and stopping row (02, E7); a row record is state, RAM and margin left, the last two in grains.
 // A writer answers the place after what it wrote, and leaves all other bytes as they were.
 ghost use mathlib.Core.Path.{_≡_};
-ghost use mathlib.Core.List.{_∷_};
-ghost use Prim.Native.Nat.{_+_, _*_, _≤_};
+ghost use mathlib.Core.List.{[], _∷_};
+ghost use Prim.Native.Nat.{ℕ, _+_, _*_, _≤_};
 ghost use lib.ListN.{length};
 ghost use Rattle.numbers.specs.Below.{over};
 ghost use Rattle.kinds.specs.Limits.{bordersMost, rowsMost};
+ghost use Rattle.kinds.specs.LineColumns.{columnsOf};
 ghost use Rattle.text.specs.Fields.{tab};
 ghost use Rattle.text.specs.Put.{Put};
-ghost use Rattle.result.specs.Records.{orDash, thirdGiven, recordLine, recordLines, roundsLine, recordsText, resultLineMost, recordsMost};
+ghost use Rattle.columns.specs.declared.Head.the-variants.{Indexed};
+ghost use Rattle.columns.specs.ColumnText.{columnsText};
+ghost use Rattle.result.specs.Records.{ResultColumns, recordLength, recordLines, roundsLine, recordsText, resultLineMost, recordsMost};
+use columns::Head;
 use extraction::AtcRecord;
+use extraction::BorderResult;
 use extraction::LeftRecord;
+use extraction::RowResult;
 
-// What a border's record and a row's have in common: three numbers, of which the third is not always given.
+// What a border's record and a row's have in common: three numbers.
 type ResultRecord = [i64; 3];
 
 // How many bytes the result text has.
@@ -21,59 +27,30 @@ pub fn records_length(atc: &[AtcRecord], left: &[LeftRecord], rounds: u64) -> us
     requires { ⌜ (length (now atc) ≤ bordersMost) × (length (now left) ≤ rowsMost) ⌝ }
     ensures { λ r. ⌜ (r ≡ length (recordsText (now (atc .entry)) (now (left .entry)) rounds)) × (r ≤ recordsMost) ⌝ }
 {
-    lines_length(b'A', atc) + lines_length(b'M', left) + rounds_length(rounds)
+    lines_length(&BorderResult::COLUMNS, atc)
+        + lines_length(&RowResult::COLUMNS, left)
+        + rounds_length(rounds)
 }
 
-// Of the A lines or the M lines.
-fn lines_length(letter: u8, records: &[ResultRecord]) -> usize
-    requires { ⌜ length (now records) ≤ rowsMost ⌝ }
-    ensures { λ r. ⌜ (r ≡ length (recordLines letter (now (records .entry)))) × (r ≤ length (now (records .entry)) * resultLineMost) ⌝ }
+// Of the A lines or the M lines: the same for every letter.
+fn lines_length(columns: &[u8], records: &[ResultRecord]) -> usize
+    requires { ⌜ ResultColumns (columnsOf (now columns)) × (length (now records) ≤ rowsMost) ⌝ }
+    ensures { λ r. ⌜ ((letter : ℕ) → r ≡ length (recordLines letter (columnsOf (now (columns .entry))) (now (records .entry)))) × (r ≤ length (now (records .entry)) * resultLineMost) ⌝ }
 {
     let mut sum: usize = 0;
-    let mut i: usize = 0;
-    while i < records.len() {
-        sum += line_length(
-            letter,
-            i as u64,
-            records[i][0],
-            records[i][1],
-            records[i][2],
-        );
-        i += 1;
+    for i in 0..records.len() {
+        sum += line_length(columns, i, records[i][0], records[i][1], records[i][2]);
     }
     sum
 }
 
-// Of one such line: the letter, four tabs and the LF, and the fields.
-fn line_length(letter: u8, i: u64, first: i64, second: i64, third: i64) -> usize
-    ensures { λ r. ⌜ r ≡ length (recordLine letter i first second third) ⌝ }
+// The numbers of a record come one by one: each is known to fit where it is read, and so no line is long. An M line is as long as the A line of its numbers.
+fn line_length(columns: &[u8], i: usize, first: i64, second: i64, third: i64) -> usize
+    requires { ⌜ ResultColumns (columnsOf (now columns)) ⌝ }
+    ensures { λ r. ⌜ (r ≡ recordLength (columnsOf (now (columns .entry))) i (first ∷ second ∷ third ∷ [])) × (r ≤ resultLineMost) ⌝ }
 {
-    6
-        + text::put::digit_count(i)
-        + text::put::signed_length(first)
-        + text::put::signed_length(second)
-        + field_length(third_given(letter, first, third), third)
-}
-
-// Whether the last field is a number: a border's row where a row stopped it, a row's margin left where its state is 0.
-fn third_given(letter: u8, first: i64, third: i64) -> bool
-    ensures { λ r. ⌜ r ≡ thirdGiven letter first third ⌝ }
-{
-    if letter == b'A' {
-        return 0 <= third;
-    }
-    numbers::same(first, 0)
-}
-
-// The last field: "-" where the number is not given.
-fn field_length(given: bool, v: i64) -> usize
-    ensures { λ r. ⌜ r ≡ length (orDash given v) ⌝ }
-{
-    if given {
-        text::put::signed_length(v)
-    } else {
-        1
-    }
+    let raw = [first, second, third];
+    columns::write::line_length(Head::Indexed(b'A', i), columns, &raw)
 }
 
 fn rounds_length(rounds: u64) -> usize
@@ -87,61 +64,40 @@ pub fn put_records(atc: &[AtcRecord], left: &[LeftRecord], rounds: u64, out: &mu
     requires { ⌜ length (recordsText (now atc) (now left) rounds) ≤ length (now out) ⌝ }
     ensures { λ r. ⌜ (r ≡ length (recordsText (now (atc .entry)) (now (left .entry)) rounds)) × (now (out .exit) ≡ over (recordsText (now (atc .entry)) (now (left .entry)) rounds) (now (out .entry))) ⌝ }
 {
-    let margins_at = put_lines(b'A', atc, out, 0);
-    let rounds_at = put_lines(b'M', left, out, margins_at);
+    let margins_at = put_lines(b'A', &BorderResult::COLUMNS, atc, out, 0);
+    let rounds_at = put_lines(b'M', &RowResult::COLUMNS, left, out, margins_at);
     put_rounds(rounds, out, rounds_at)
 }
 
-fn put_lines(letter: u8, records: &[ResultRecord], out: &mut [u8], at: usize) -> usize
-    requires { ⌜ at + length (recordLines letter (now records)) ≤ length (now out) ⌝ }
-    ensures { λ r. ⌜ Put (recordLines letter (now (records .entry))) at (now (out .entry)) r (now (out .exit)) ⌝ }
+fn put_lines(
+    letter: u8,
+    columns: &[u8],
+    records: &[ResultRecord],
+    out: &mut [u8],
+    at: usize,
+) -> usize
+    requires { ⌜ (length (now columns) ≡ 3) × (at + length (recordLines letter (columnsOf (now columns)) (now records)) ≤ length (now out)) ⌝ }
+    ensures { λ r. ⌜ Put (recordLines letter (columnsOf (now (columns .entry))) (now (records .entry))) at (now (out .entry)) r (now (out .exit)) ⌝ }
 {
     let mut next = at;
-    let mut i: usize = 0;
-    while i < records.len() {
-        next = put_line(
-            letter,
-            i as u64,
-            records[i][0],
-            records[i][1],
-            records[i][2],
-            out,
-            next,
-        );
-        i += 1;
+    for i in 0..records.len() {
+        next = put_line(letter, columns, i, records[i], out, next);
     }
     next
 }
 
 fn put_line(
     letter: u8,
-    i: u64,
-    first: i64,
-    second: i64,
-    third: i64,
+    columns: &[u8],
+    i: usize,
+    raw: ResultRecord,
     out: &mut [u8],
     at: usize,
 ) -> usize
-    requires { ⌜ at + length (recordLine letter i first second third) ≤ length (now out) ⌝ }
-    ensures { λ r. ⌜ Put (recordLine letter i first second third) at (now (out .entry)) r (now (out .exit)) ⌝ }
+    requires { ⌜ (length (now columns) ≡ 3) × (at + length (columnsText tab (Indexed letter i) (columnsOf (now columns)) raw) ≤ length (now out)) ⌝ }
+    ensures { λ r. ⌜ Put (columnsText tab (Indexed letter i) (columnsOf (now (columns .entry))) raw) at (now (out .entry)) r (now (out .exit)) ⌝ }
 {
-    let index_at = text::put::put_byte(letter, out, at);
-    let first_at = text::put::put_number_field(i, out, index_at);
-    let second_at = text::put::put_signed_field(first, out, first_at);
-    let third_at = text::put::put_signed_field(second, out, second_at);
-    let given = third_given(letter, first, third);
-    let feed_at = put_field(given, third, out, third_at);
-    text::put::put_byte(b'\n', out, feed_at)
-}
-
-fn put_field(given: bool, v: i64, out: &mut [u8], at: usize) -> usize
-    requires { ⌜ at + length (tab ∷ orDash given v) ≤ length (now out) ⌝ }
-    ensures { λ r. ⌜ Put (tab ∷ orDash given v) at (now (out .entry)) r (now (out .exit)) ⌝ }
-{
-    if given {
-        return text::put::put_signed_field(v, out, at);
-    }
-    text::put::put_dash_field(out, at)
+    columns::write::put_line(b'\t', Head::Indexed(letter, i), columns, &raw, out, at)
 }
 
 fn put_rounds(rounds: u64, out: &mut [u8], at: usize) -> usize

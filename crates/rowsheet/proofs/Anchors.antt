@@ -16,19 +16,18 @@ use Rattle.text.specs.Sheets.{sheet}
 use Rattle.text.specs.Written.{textOf, decimal, linesText}
 use Rattle.text.specs.Point.{decimalsAt, pointAt, signedPointAt, lastDigits, pointed, pointedℤ}
 use Rattle.columns.specs.Columns.{fieldAt, fieldsAt}
-use Rattle.columns.specs.ColumnLine.{restAt}
-use Rattle.columns.specs.ColumnText.{fieldText, fieldsEnded}
-use Rattle.columns.specs.Bare.{bareIndexAt, bareLine, bareIndexText, bareText}
-use Rattle.blame.specs.Blame.{goodAt, byteAt, fieldsByte, bareByte}
+use Rattle.columns.specs.ColumnLine.{headAt, restAt, columnsLine}
+use Rattle.columns.specs.ColumnText.{fieldText, fieldsEnded, indexText, headText, columnsText}
+use Rattle.blame.specs.Blame.{goodAt, byteAt, fieldsByte, lineByte}
 use Rattle.blame.specs.RangeBlame.{pastSeps, rangeByte}
-use Rattle.block.specs.Block.{linesAt}
+use Rattle.runs.specs.Block.{linesAt}
 use Rattle.table.specs.Table.{stretch}
 use Rattle.lines.specs.SheetLine.{sheetLine}
 use Rattle.rowsheet.specs.RowSheet.{Rows, readSheet, rowRoom, sheetOf, rowsInRange, judgeRows, writeRowsLeft}
 use Rattle.rowsheet.proofs.LengthLaws.{sheetMost}
 
 unfoldable computing : Unit {0}
-unfolding readSheet rowRoom sheetOf rowsInRange judgeRows writeRowsLeft textLeft then either need table sheetLine linesAt bareIndexAt bareLine bareIndexText bareText restAt fieldsAt fieldAt fieldText fieldsEnded goodAt byteAt fieldsByte bareByte pastSeps rangeByte numberAt shareAt textOf decimal linesText decimalsAt pointAt signedPointAt lastDigits pointed pointedℤ unless refuseAt refuseFirst firstFrom given inside headerFits shareOf rowFits rowOf factorFits stretch
+unfolding readSheet rowRoom sheetOf rowsInRange judgeRows writeRowsLeft textLeft then either need table sheetLine linesAt headAt columnsLine indexText headText columnsText restAt fieldsAt fieldAt fieldText fieldsEnded goodAt byteAt fieldsByte lineByte pastSeps rangeByte numberAt shareAt textOf decimal linesText decimalsAt pointAt signedPointAt lastDigits pointed pointedℤ unless refuseAt refuseFirst firstFrom given inside headerFits shareOf rowFits rowOf factorFits stretch
 computing = tt
 
 abbrev two : Header

@@ -19,14 +19,15 @@ use Rattle.text.proofs.FieldTrip.{ShareKept}
 use Rattle.text.proofs.WrittenLaws.{decimal-long}
 use Rattle.text.proofs.PutLaws.{lines-most}
 use Rattle.text.proofs.PointLaws.{pointed-long}
+use Rattle.columns.specs.declared.Head.the-variants.{Bare}
 use Rattle.columns.specs.ColumnText.{fieldText, fieldsLength, numbersOf}
-use Rattle.columns.proofs.ColumnPut.{length-parts}
-use Rattle.columns.proofs.BareLaws.{bare-long}
+use Rattle.columns.proofs.ColumnPut.{line-long, length-parts}
 use Rattle.table.specs.Table.{rowGood, stretch}
 use Rattle.table.proofs.GoodLaws.{row-good, stretch-long}
 use Rattle.lines.specs.declared.row.RowKind.the-variants as rowKind
 use Rattle.lines.proofs.RowTrip.{share-kept}
-use Rattle.lines.specs.SheetLine.{semicolon, sheetText}
+use Rattle.lines.specs.RowKinds.{semicolon}
+use Rattle.lines.specs.SheetLine.{sheetText}
 use Rattle.layout.specs.Layout.{rowTextIn, rowsTextBy}
 
 -- ten digits, a point and a minus
@@ -72,7 +73,7 @@ lineMost = 301
 pub line-most : (i : ℕ) (values factors : List ℤ) → i < rowsMost → rowGood values factors ≡ true → length factors ≤ zonesMost → length (sheetText i values factors) ≤ lineMost
 line-most i values factors l e few =
     let g = row-good values factors e in
-    rw (bare-long semicolon (sheetColumns ++ sheetFactors (length factors)) i (numbersOf sheetColumns values ++ factors))
+    rw (line-long semicolon (Bare i) (sheetColumns ++ sheetFactors (length factors)) (numbersOf sheetColumns values ++ factors))
     (omega (arith, length-parts sheetColumns (sheetFactors (length factors)) (numbersOf sheetColumns values) factors refl, values-most values (g .0), each-most factors (g .1), decimal-long 2 i (omega arith)))
 
 -- all of them: 60,200 bytes

@@ -16,9 +16,9 @@ use Rattle.kinds.specs.Limits.{bytesMost}
 use Rattle.kinds.specs.Ranges.{headerFits}
 use Rattle.kinds.specs.Refusals.{Judged, passed, refused, unless, need, tooLong, tooShort, wrongForm, outOfRange}
 use Rattle.kinds.proofs.RefusalLaws.{passed-is, not-passed, then-next, then-refused, either-passed, either-refused, unless-ok, unless-refused, unless-passed, need-passed, need-enough, need-short}
-use Rattle.block.specs.Block.{Block, read, fault, linesAt, withLines, endOf, heldBy}
-use Rattle.block.proofs.BlockLaws.{allFit}
-use Rattle.block.proofs.RunLaws.{run-fits}
+use Rattle.runs.specs.Block.{Block, read, fault, linesAt, withLines, endOf, heldBy}
+use Rattle.runs.proofs.BlockLaws.{allFit}
+use Rattle.runs.proofs.RunLaws.{run-fits}
 use Rattle.lines.specs.Lines.{RowLine}
 use Rattle.lines.specs.declared.row.RowKind.the-variants as rowKind
 use Rattle.lines.proofs.RowTrip.{RowHeldAt, row-read}

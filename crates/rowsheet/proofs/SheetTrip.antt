@@ -25,9 +25,9 @@ use Rattle.kinds.proofs.RefusalLaws.{passed-is, not-passed, then-next, then-ref
 use Rattle.text.specs.Left.{TextLeft, textLeft}
 use Rattle.text.specs.Written.{linesText}
 use Rattle.text.proofs.LeftLaws.{text-refused, text-short, text-left}
-use Rattle.block.specs.Block.{read}
-use Rattle.block.proofs.BlockLaws.{blockText, allFit, block-read}
-use Rattle.block.proofs.RunLaws.{fits-at, fits-all, lines-block, lines-goes}
+use Rattle.runs.specs.Block.{read}
+use Rattle.runs.proofs.BlockLaws.{blockText, allFit, block-read}
+use Rattle.runs.proofs.RunLaws.{fits-at, fits-all, lines-block, lines-goes}
 use Rattle.table.specs.Table.{rowGood, stretch}
 use Rattle.table.proofs.GoodLaws.{stretch-long}
 use Rattle.lines.specs.Lines.{RowLine}

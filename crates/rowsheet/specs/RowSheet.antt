@@ -14,7 +14,7 @@ use Rattle.kinds.specs.Limits.{bytesMost}
 use Rattle.kinds.specs.Ranges.{headerFits}
 use Rattle.kinds.specs.Refusals.{Judged, passed, refused, then, either, unless, refuseFirst, need, tooLong, wrongForm, outOfRange}
 use Rattle.text.specs.Left.{TextLeft, textLeft}
-use Rattle.block.specs.Block.{Block, linesAt, withLines}
+use Rattle.runs.specs.Block.{Block, linesAt, withLines}
 use Rattle.table.specs.Table.{rowGood, stretch, headerLineNo}
 use Rattle.lines.specs.Lines.{RowLine}
 use Rattle.runs.specs.Rows.{valuesOf, factorsOf}

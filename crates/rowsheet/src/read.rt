@@ -1,13 +1,13 @@
 // Judging a sheet, before a record is stored.
 use crate::FIRST_LINE_NO;
-use block::End;
 use kinds::Header;
 use kinds::Judgement;
 use kinds::Refusal;
 use lines::row::RowKind;
+use runs::End;
 ghost use mathlib.Core.Path.{_≡_};
 ghost use Rattle.kinds.specs.Answers.{ruled};
-ghost use Rattle.block.specs.Block.{heldBy};
+ghost use Rattle.runs.specs.Block.{heldBy};
 ghost use Rattle.rowsheet.specs.RowSheet.{rowsOf, linesIn, readSheet};
 
 // Its length, the header, the lines one by one; nothing follows them.

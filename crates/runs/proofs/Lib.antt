@@ -1,3 +1,5 @@
+pub mod BlockLaws
+pub mod RunLaws
 pub mod StoredLaws
 pub mod RowLaws
 pub mod RowPasses

@@ -5,8 +5,8 @@ use mathlib.Core.List.{List, [], _∷_}
 use Prim.Native.Nat.{ℕ, zero, suc, _+_}
 use Rattle.kinds.specs.Refusals.{passed, wrongFormAt, outOfRangeAt}
 use Rattle.text.specs.Line.{lineAt, after, Line, holds, form, range}
-use Rattle.block.specs.Block.{Block, read, fault, more, onLine, linesAt}
-use Rattle.block.proofs.BlockLaws.{no-read, read-is}
+use Rattle.runs.specs.Block.{Block, read, fault, more, onLine, linesAt}
+use Rattle.runs.proofs.BlockLaws.{no-read, read-is}
 use Rattle.lines.specs.Lines.{RowLine, rowLine}
 use Rattle.corrections.specs.Corrections.{pieces, handedOn, judgeSheet}
 use Rattle.corrections.proofs.SheetLaws.{handed-good}

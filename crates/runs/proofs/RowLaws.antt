@@ -7,7 +7,7 @@ use native.Mathlib.Omega.{arith}
 use lib.IntN.{ℤ}
 use lib.ListN.{length, getD, take, drop, length-append, length-drop, take-append-drop}
 use lib.Seq.{take-at, drop-at, drop-drop}
-use Rattle.block.proofs.BlockLaws.{allFit}
+use Rattle.runs.proofs.BlockLaws.{allFit}
 use Rattle.table.specs.Table.{stretch}
 use Rattle.lines.specs.Lines.{RowLine}
 use Rattle.runs.specs.Rows.{valuesOf, factorsOf}

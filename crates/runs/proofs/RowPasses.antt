@@ -13,8 +13,8 @@ use Rattle.numbers.proofs.ListLaws.{stretch-left}
 use Rattle.kinds.specs.Refusals.{passed, wrongFormAt, outOfRangeAt}
 use Rattle.kinds.proofs.RefusalLaws.{passed-is, not-passed}
 use Rattle.text.specs.Line.{lineAt, after, Line, holds, form, range}
-use Rattle.block.specs.Block.{Block, read, fault, more, onLine, linesAt, endOf, heldBy}
-use Rattle.block.proofs.BlockLaws.{no-read, Passed, passed-start, passed-line, passed-more}
+use Rattle.runs.specs.Block.{Block, read, fault, more, onLine, linesAt, endOf, heldBy}
+use Rattle.runs.proofs.BlockLaws.{no-read, Passed, passed-start, passed-line, passed-more}
 use Rattle.table.proofs.StretchLaws.{stretch-end}
 use Rattle.lines.specs.Lines.{RowLine, row}
 use Rattle.lines.specs.SaidRow.{judgedOf}

@@ -14,7 +14,7 @@ use Rattle.kinds.specs.Refusals.{wrongFormAt, outOfRangeAt, passed, refused}
 use Rattle.kinds.proofs.RefusalLaws.{passed-is, refused-is, not-passed}
 use Rattle.text.specs.Line.{lineAt, after, Line, holds, form, range}
 use Rattle.text.proofs.LineLaws.{line-le-length}
-use Rattle.block.specs.Block.{Block, read, fault, more, onLine, linesAt, endOf, heldBy}
+use Rattle.runs.specs.Block.{Block, read, fault, more, onLine, linesAt, endOf, heldBy}
 use Rattle.runs.specs.Runs.{allGood}
 
 -- ---- lines put before a run

@@ -4,7 +4,7 @@ use mathlib.Core.List.{List, [], _∷_, _++_}
 use Prim.Native.Nat.{ℕ}
 use lib.IntN.{ℤ}
 use Rattle.text.specs.Line.{Line}
-use Rattle.block.specs.Block.{Block, linesAt}
+use Rattle.runs.specs.Block.{Block, linesAt}
 use Rattle.lines.specs.Lines.{RowLine}
 use Rattle.lines.specs.SaidRow.{lineBy}
 use Rattle.lines.specs.declared.row.RowKind.{RowKind}

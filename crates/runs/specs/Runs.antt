@@ -3,9 +3,9 @@ use mathlib.Core.Bool.{Bool, true, false}
 use mathlib.Core.List.{List}
 use Prim.Native.Nat.{ℕ}
 use lib.IntN.{ℤ}
-use Rattle.block.specs.declared.End.{End}
-use Rattle.block.specs.declared.End.the-variants.{At, Refused}
-use Rattle.block.specs.Block.{Block, read, fault, linesAt}
+use Rattle.runs.specs.declared.End.{End}
+use Rattle.runs.specs.declared.End.the-variants.{At, Refused}
+use Rattle.runs.specs.Block.{Block, read, fault, linesAt}
 use Rattle.lines.specs.Lines.{positionLine}
 
 -- every line of the run is good

@@ -1,9 +1,9 @@
 // The B lines: each is read once, into memory that the caller lends, so that borders given twice can be judged before a table is written.
-use block::End;
+use crate::End;
 ghost use mathlib.Core.Path.{_≡_};
 ghost use Prim.Native.Nat.{_+_, _^_, _≤_, _<_};
 ghost use lib.ListN.{length};
-ghost use Rattle.block.specs.Block.{linesAt};
+ghost use Rattle.runs.specs.Block.{linesAt};
 ghost use Rattle.lines.specs.Lines.{borderLine};
 ghost use Rattle.runs.specs.Runs.{storedRun};
 use kinds::Border;

@@ -2,3 +2,11 @@
 pub mod borders;
 pub mod rows;
 pub mod zones;
+
+use kinds::Refusal;
+
+// Where a run of lines ends in the text, or why its first faulty line is turned away.
+pub enum End {
+    At(usize),
+    Refused(Refusal),
+}

@@ -1,5 +1,5 @@
 // The rows' lines of a text: judged one by one, and then filled into the lent records and factors.
-use block::End;
+use crate::End;
 use kinds::Refusal;
 use kinds::RowRecord;
 use lines::row::RowJudged;
@@ -10,7 +10,7 @@ ghost use Prim.Native.Nat.{_+_, _*_, _^_, _≤_, _<_};
 ghost use lib.ListN.{length};
 ghost use Rattle.kinds.specs.Limits.{zonesMost};
 ghost use Rattle.kinds.specs.Refusals.{passed};
-ghost use Rattle.block.specs.Block.{linesAt, endOf, saidEnd, heldBy};
+ghost use Rattle.runs.specs.Block.{linesAt, endOf, saidEnd, heldBy};
 ghost use Rattle.lines.specs.SaidRow.{lineBy};
 ghost use Rattle.corrections.specs.Corrections.{pieces, handedOn, judgeSheet};
 ghost use Rattle.runs.specs.Rows.{valuesOf, factorsOf, rowsBy};
@@ -64,7 +64,7 @@ pub fn rows_filled<'a>(
     let mut s = 0;
     for i in 0..c.len() {
         let given = text::line::line_at(text, p);
-        let line = corrections::handed::row_line(sheet, s, text, p, i);
+        let line = corrections::handed::row_line(sheet, s, given, i);
         let start = i * zones;
         c[i] = lines::row::row_filled(kind, line, i, &mut f[start..start + zones]);
         s = corrections::handed::sheet_after(sheet, s, i);

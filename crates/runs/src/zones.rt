@@ -1,10 +1,10 @@
 // The Z lines, and the T lines (02, E12), by their letter: judged before anything is written, and then read into the lent table.
-use block::End;
+use crate::End;
 ghost use mathlib.Core.Path.{_≡_};
 ghost use mathlib.Core.Bool.{true};
 ghost use Prim.Native.Nat.{_+_, _^_, _≤_, _<_};
 ghost use lib.ListN.{length};
-ghost use Rattle.block.specs.Block.{linesAt, endOf, saidEnd, heldBy};
+ghost use Rattle.runs.specs.Block.{linesAt, endOf, saidEnd, heldBy};
 ghost use Rattle.lines.specs.Lines.{positionLine};
 ghost use Rattle.runs.specs.Runs.{allGood, positionsIn};
 use kinds::Refusal;

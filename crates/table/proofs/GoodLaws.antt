@@ -2,7 +2,7 @@
 -- (`front-judged`, `good-judged`, `over-judged`).
 -- Row i's factors are its stretch, so factor k of the whole table is factor k % zones of row k / zones. No contract cites this file.
 use mathlib.Core.Path.{_≡_, sym, ap, subst, _∙_}
-use mathlib.Core.Bool.{true, false, not}
+use mathlib.Core.Bool.{true, false, not, and-eq-true-iff}
 use mathlib.Core.List.{List, []}
 use Prim.Native.Nat.{ℕ, suc, _+_, _*_, _/_, _%_, _≤_, _<_}
 use native.Mathlib.Nat.{div-add-mod', div-lt-iff-lt-mul, mod-lt, mul-le-mul-right, suc-mul}
@@ -12,14 +12,14 @@ use lib.ListN.{length, getD, drop, length-append, length-drop}
 use lib.Seq.{length-take-le, take-all, take-at, getD-take, getD-drop}
 use borrow.Author.Tests.{not-false}
 use Rattle.numbers.specs.Below.{over}
-use Rattle.numbers.proofs.TestLaws.{and-both, both-and, all-true, true-all}
-use Rattle.kinds.specs.Ranges.{atℤ, headerFits, allocatedItems, rowFits, factorFits}
+use Rattle.kinds.specs.Ranges.{atℤ, headerFits, allocatedItems, rowTests, rowFits, factorFits, factorTests}
 use Rattle.kinds.specs.Refusals.{passed}
 use Rattle.kinds.specs.declared.Header.{Header}
 use Rattle.kinds.specs.declared.Judgement.{Judgement}
 use Rattle.kinds.specs.declared.Judgement.the-variants.{Passed, Refused}
 use Rattle.kinds.specs.declared.Refusal.{Refusal}
 use Rattle.kinds.specs.Answers.{ruled}
+use Rattle.kinds.proofs.AllLaws.{all-join, factors-each, factors-all}
 use Rattle.kinds.proofs.KindLaws.{header-in}
 use Rattle.kinds.proofs.RefusalLaws.{passed-is, none-passed, then-passed, unless-passed, unless-ok, none-next, then-next}
 use Rattle.table.specs.declared.Room.{Room}
@@ -42,12 +42,14 @@ stretch-at zones factors i z h = getD-take zones (drop (i * zones) factors) z (p
 -- a row record with its factors is in range: the record is, and each factor
 module _ (values factors : List ℤ) where
   pub row-good : rowGood values factors ≡ true → (rowFits values ≡ true) × ((z : ℕ) → z < length factors → factorFits (atℤ factors z) ≡ true)
+  unfolding rowFits
   row-good e =
-      let a = and-both (rowFits values) _ e in
-      (a .0, all-true (length factors) (λ z. factorFits (atℤ factors z)) (a .1))
+      let a = and-eq-true-iff _ _ .0 (sym (all-join (rowTests values) (factorTests factors)) ∙ e) in
+      (a .0, factors-each factors (a .1))
 
   pub good-row : rowFits values ≡ true → ((z : ℕ) → z < length factors → factorFits (atℤ factors z) ≡ true) → rowGood values factors ≡ true
-  good-row a h = both-and (rowFits values) _ a (true-all (length factors) (λ z. factorFits (atℤ factors z)) h)
+  unfolding rowFits
+  good-row a h = all-join (rowTests values) (factorTests factors) ∙ and-eq-true-iff _ _ .1 (a, factors-all factors h)
 
 -- row by row, and all at once
 module _ (zones rows : ℕ) (factors : List ℤ) (long : length factors ≡ rows * zones) (some : 0 < zones) where

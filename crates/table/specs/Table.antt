@@ -5,12 +5,12 @@ use mathlib.Core.List.{List, []}
 use Prim.Native.Nat.{ℕ, _+_, _*_}
 use lib.IntN.{ℤ, pos}
 use lib.ListN.{length, getD, take, drop}
-use Rattle.numbers.specs.Below.{someBelow, allBelow}
+use Rattle.numbers.specs.Below.{someBelow}
 use Rattle.numbers.specs.Ints.{sameℤ, sumℤ}
 use Rattle.kinds.specs.declared.Header.{Header}
 use Rattle.kinds.specs.declared.Border.{Border}
 use Rattle.kinds.specs.declared.Row.{Row}
-use Rattle.kinds.specs.Ranges.{atℤ, headerFits, allocatedItems, zoneFits, borderFits, borderOf, rowOf, rowFits, factorFits}
+use Rattle.kinds.specs.Ranges.{atℤ, allTrue, headerFits, allocatedItems, zoneFits, borderFits, borderOf, rowOf, rowLineTests}
 use Rattle.kinds.specs.Refusals.{Judged, passed, then, unless, refuseFirst, need, outOfRange, givenTwice}
 use Rattle.table.specs.declared.Room.{Room}
 use Rattle.table.specs.declared.Room.the-variants.{None, P}
@@ -84,7 +84,7 @@ notTwice t = refuseFirst (t .header .borders) (twice (t .borders)) givenTwice (p
 
 -- a row record with its factors, all in range
 abbrev pub rowGood : (values factors : List ℤ) → Bool
-rowGood values factors = rowFits values && allBelow (length factors) (λ z. factorFits (atℤ factors z))
+rowGood values factors = allTrue (rowLineTests values factors)
 
 -- 8, in the order Z, T, B, C, factors: a table of this header, in buffers of so many items
 unfoldable pub roomFor : {A : Type 0} → Header → (z t b c f : ℕ) → Judged A → Judged A

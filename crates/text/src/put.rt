@@ -5,7 +5,7 @@ ghost use mathlib.Core.List.{[], _∷_};
 ghost use Prim.Native.Nat.{_+_, _<_, _≤_};
 ghost use lib.IntN.{natAbs};
 ghost use lib.ListN.{length};
-ghost use Rattle.text.specs.Fields.{tab, dash};
+ghost use Rattle.text.specs.Fields.{tab};
 ghost use Rattle.text.specs.Written.{decimal, decimalℤ};
 ghost use Rattle.text.specs.Put.{Put};
 
@@ -93,21 +93,4 @@ pub fn put_number_field(n: u64, out: &mut [u8], at: usize) -> usize
 {
     let first = put_byte(b'\t', out, at);
     put_number(n, out, first)
-}
-
-pub fn put_signed_field(z: i64, out: &mut [u8], at: usize) -> usize
-    requires { ⌜ at + length (tab ∷ decimalℤ z) ≤ length (now out) ⌝ }
-    ensures { λ r. ⌜ Put (tab ∷ decimalℤ z) at (now (out .entry)) r (now (out .exit)) ⌝ }
-{
-    let first = put_byte(b'\t', out, at);
-    put_signed(z, out, first)
-}
-
-// "-" alone: R as the standard share, or the margin left of a row whose state isn't 0.
-pub fn put_dash_field(out: &mut [u8], at: usize) -> usize
-    requires { ⌜ at + 2 ≤ length (now out) ⌝ }
-    ensures { λ r. ⌜ Put (tab ∷ dash ∷ []) at (now (out .entry)) r (now (out .exit)) ⌝ }
-{
-    let first = put_byte(b'\t', out, at);
-    put_byte(b'-', out, first)
 }

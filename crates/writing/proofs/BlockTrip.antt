@@ -7,8 +7,8 @@ use lib.IntN.{ℤ, pos}
 use lib.ListN.{length, getD}
 use Rattle.kinds.specs.Ranges.{atℤ, allocatedItems}
 use Rattle.text.specs.Written.{linesText}
-use Rattle.block.proofs.BlockLaws.{blockText, allFit}
-use Rattle.block.proofs.RunLaws.{lines-block}
+use Rattle.runs.proofs.BlockLaws.{blockText, allFit}
+use Rattle.runs.proofs.RunLaws.{lines-block}
 use Rattle.table.specs.Table.{Table, factorsAt, stretch}
 use Rattle.lines.specs.Lines.{RowLine}
 use Rattle.runs.specs.Rows.{valuesOf, factorsOf}

@@ -26,9 +26,10 @@ use Rattle.table.specs.Good.{Good}
 use Rattle.table.proofs.GoodLaws.{stretch-long, row-fit}
 use Rattle.kinds.specs.LineColumns.{headerColumns, defaultColumns, zoneColumns, borderColumns, hubColumns, rowColumns, factorColumns}
 use Rattle.text.specs.Fields.{tab}
+use Rattle.columns.specs.declared.Head.the-variants.{Lettered, Indexed}
 use Rattle.columns.specs.ColumnText.{fieldText, fieldsLength, numbersOf}
 use Rattle.columns.specs.Optional.{writtenBy}
-use Rattle.columns.proofs.ColumnPut.{line-long, plain-long, length-parts}
+use Rattle.columns.proofs.ColumnPut.{line-long, length-parts}
 use Rattle.layout.specs.Layout.{headerText, positionText, zoneText, allocatedText, borderText, rowText}
 use Rattle.writing.specs.Writing.{tableText}
 
@@ -51,11 +52,11 @@ pub header-most : (h : Header) → headerFits h ≡ true → length (headerText 
 header-most h e =
     let i = header-in h e in
     let raw = pos (h .zones) ∷ pos (h .borders) ∷ pos (h .rows) ∷ h .share ∷ [] in
-    omega (arith, plain-long tab (code "H") (writtenBy headerColumns defaultColumns raw) raw, counts-most h i (h .share) (i .share))
+    omega (arith, line-long tab (Lettered (code "H")) (writtenBy headerColumns defaultColumns raw) raw, counts-most h i (h .share) (i .share))
 
 pub zone-most : (letter i : ℕ) (net : ℤ) → zoneFits net ≡ true → length (positionText letter i net) ≤ 14 + digitsOf i
 unfolding fieldsLength fieldText
-zone-most letter i net e = rw (line-long tab letter zoneColumns i (net ∷ [])) (omega (arith, decimalℤ-long 8 net (omega (arith, zone-in net e .abs))))
+zone-most letter i net e = rw (line-long tab (Indexed letter i) zoneColumns (net ∷ [])) (omega (arith, decimalℤ-long 8 net (omega (arith, zone-in net e .abs))))
 
 -- R is "-", or a number
 share-most : (r : ℤ) → inside (minus 1) (pos shareMost) r ≡ true → length (shareText r) ≤ 5
@@ -85,7 +86,7 @@ values-most values e =
 pub row-most : (i : ℕ) (values factors : List ℤ) → rowFits values ≡ true → ((z : ℕ) → z < length factors → factorFits (atℤ factors z) ≡ true) → length factors ≤ zonesMost
     → length (rowText i values factors) ≤ 193 + digitsOf i
 row-most i values factors e h few =
-    rw (line-long tab (code "C") (rowColumns ++ factorColumns (length factors)) i (numbersOf rowColumns values ++ factors))
+    rw (line-long tab (Indexed (code "C") i) (rowColumns ++ factorColumns (length factors)) (numbersOf rowColumns values ++ factors))
     (omega (arith, length-parts rowColumns (factorColumns (length factors)) (numbersOf rowColumns values) factors refl, values-most values e, each-most factors h))
 
 border-fields : (zones : ℕ) (raw : List ℤ) → borderFits zones raw ≡ true → fieldsLength borderColumns raw ≡ digitsOf (borderOf raw .from) + 1 + (digitsOf (borderOf raw .to) + 1 + (digitsOf (borderOf raw .lta) + 1 + 0))
@@ -123,7 +124,7 @@ hub-fields raw =
 
 border-most : (zones i : ℕ) (raw : List ℤ) → zones ≤ zonesMost → borderFits zones raw ≡ true → length (borderText i raw) ≤ 23 + digitsOf i
 border-most zones i raw few e =
-    rw (line-long tab (code "B") (writtenBy borderColumns hubColumns raw) i raw) (omega (arith, go (ltZ (atℤ raw 3) (pos 0))))
+    rw (line-long tab (Indexed (code "B") i) (writtenBy borderColumns hubColumns raw) raw) (omega (arith, go (ltZ (atℤ raw 3) (pos 0))))
   where
     go : (t : Bool) → fieldsLength (cond t borderColumns (borderColumns ++ hubColumns)) raw ≤ 20
     go true = omega (arith, ends-most zones raw few e)

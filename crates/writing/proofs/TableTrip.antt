@@ -20,9 +20,9 @@ use Rattle.kinds.proofs.RefusalLaws.{unless-ok, none-next, then-next}
 use Rattle.kinds.proofs.KindLaws.{header-in, allocated-most, allocated-all, allocated-none}
 use Rattle.text.specs.Line.{lineOf, lineAt, after, holds}
 use Rattle.text.proofs.LineLaws.{line-split}
-use Rattle.columns.specs.ColumnText.{columnsText, indexText}
-use Rattle.block.proofs.BlockLaws.{blockText, allFit, block-read}
-use Rattle.block.proofs.RunLaws.{fits-all, lines-goes}
+use Rattle.columns.specs.ColumnText.{columnsText, headText}
+use Rattle.runs.proofs.BlockLaws.{blockText, allFit, block-read}
+use Rattle.runs.proofs.RunLaws.{fits-all, lines-goes}
 use Rattle.table.specs.Table.{Table, stretch, notTwice, zoneLineNo, allocatedLineNo, borderLineNo, rowLineNo, pastLineNo}
 use Rattle.table.specs.Good.{Good, Shaped}
 use Rattle.table.proofs.GoodLaws.{good-row, row-fit, stretch-long}
@@ -109,7 +109,7 @@ at-drop text rest p x e = ap (at text) (sym (add-zero p)) ∙ sym (getD-drop p t
 module _ (h : Header) (fits : headerFits h ≡ true) where
   letter-seen : (allocated : List ℤ) (borders : List (List ℤ)) (rows text : List ℕ) (p : ℕ) → length allocated ≡ allocatedItems h → length borders ≡ h .borders
       → drop p text ≡ blockText allocatedText 0 allocated ++ (blockText borderText 0 borders ++ rows) → intradayAt text p ≡ isIntraday h
-  unfolding columnsText indexText
+  unfolding columnsText headText
   letter-seen (a ∷ others) borders rows text p al bl here =
       let t : isIntraday h ≡ true = go (isIntraday h) refl in
       ap (λ (x : ℕ). eqb x (code "T")) (at-drop text _ p (code "T") here) ∙ sym t

@@ -13,6 +13,7 @@ use Rattle.kinds.specs.Ranges.{atℤ}
 use Rattle.text.specs.Fields.{tab}
 use Rattle.text.specs.Put.{Put}
 use Rattle.text.proofs.PutLaws.{put-more, put-room, lines-length}
+use Rattle.columns.specs.declared.Head.the-variants.{Indexed}
 use Rattle.columns.proofs.ColumnPut.{line-long}
 use Rattle.table.specs.Table.{Table}
 use Rattle.table.specs.Good.{Good}
@@ -81,5 +82,5 @@ module _ (t : Table) (g : Good t) where
 pub letters-alike : (letter : ℕ) (nets : List ℤ) → length (zonesText nets) ≡ length (positionsText letter nets)
 letters-alike letter nets =
     lines-length (positionTextAt (code "Z") nets) (length nets)
-    ∙ sum-cong (length nets) _ _ (λ i l. line-long tab (code "Z") zoneColumns i (atℤ nets i ∷ []) ∙ sym (line-long tab letter zoneColumns i (atℤ nets i ∷ [])))
+    ∙ sum-cong (length nets) _ _ (λ i l. line-long tab (Indexed (code "Z") i) zoneColumns (atℤ nets i ∷ []) ∙ sym (line-long tab (Indexed letter i) zoneColumns (atℤ nets i ∷ [])))
     ∙ sym (lines-length (positionTextAt letter nets) (length nets))

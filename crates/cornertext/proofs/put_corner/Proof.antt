@@ -1,91 +1,29 @@
--- `cornertext::put_corner` meets its contract: letter, fields and LF are a chain of writes (`Begun`).
-use mathlib.Core.List.{List, [], _∷_}
-use Prim.Native.Char.{code}
-use Prim.Native.Nat.{ℕ}
+-- `cornertext::put_corner` meets its contract: the corner's number goes through an i64 and comes back.
+use mathlib.Core.Path.{refl}
 use native.Mathlib.Omega.{arith}
 use borrow.Author.Needs.{needs}
 use mir.Facts.{toZ-ofZ}
-use Rattle.text.specs.Written.{decimal, decimalℤ}
-use Rattle.text.proofs.PutLaws.{Begun, line-none, line-more, line-all, room-first, room-more, room-last}
+use Rattle.text.proofs.FieldLaws.{read-back}
 use Rattle.cornertext.proofs.put_corner.Statement.{statement}
 use Rattle.cornertext.proofs.put_corner.Tie as tie
 
--- the fields
-abbrev rowField : tie.Start → List ℕ
-rowField s = decimal (s .args .row)
-
-abbrev cornerField : tie.Start → List ℕ
-cornerField s = decimal (s .args .corner)
-
-abbrev flowField : tie.Start → List ℕ
-flowField s = decimalℤ (s .args .flow)
-
--- what stands there after each call
-module _ (c : tie.After-put-byte) where
-  abbrev start : tie.Start
-  start = c .before .before .before
-
-  letter : Begun (code "K") [] (start .args .at) (start .args .out .now) (c .put-byte .result) (c .put-byte .last .1 .0)
-  letter = line-none (c .put-byte .ensures)
-
-module _ (c : tie.After-put-number-field) where
-  abbrev start2 : tie.Start
-  start2 = start (c .before .before .before .before)
-
-  row-put : Begun (code "K") (rowField start2 ∷ []) (start2 .args .at) (start2 .args .out .now) (c .put-number-field .result) (c .put-number-field .last .1 .0)
-  row-put = line-more (omega (arith, start2 .pre)) (letter (c .before .before .before .before)) (c .put-number-field .ensures)
-
-module _ (c : tie.After-put-number-field2) where
-  abbrev start3 : tie.Start
-  start3 = start2 (c .before .before .before .before)
-
-  corner-put : Begun (code "K") (rowField start3 ∷ cornerField start3 ∷ []) (start3 .args .at) (start3 .args .out .now) (c .put-number-field2 .result) (c .put-number-field2 .last .1 .0)
-  corner-put = line-more (omega (arith, start3 .pre)) (row-put (c .before .before .before .before)) (c .put-number-field2 .ensures)
-
-module _ (c : tie.After-put-signed-field) where
-  abbrev start4 : tie.Start
-  start4 = start3 (c .before .before .before .before)
-
-  flow-put : Begun (code "K") (rowField start4 ∷ cornerField start4 ∷ flowField start4 ∷ []) (start4 .args .at) (start4 .args .out .now) (c .put-signed-field .result) (c .put-signed-field .last .1 .0)
-  flow-put = line-more (omega (arith, start4 .pre)) (corner-put (c .before .before .before .before)) (simp (toZ-ofZ, start4 .fits .flow) at (c .put-signed-field .ensures))
-
-put-byte-requires : tie.Need-put-byte-requires
-put-byte-requires c κs = let s = c .before .before in room-first (code "K") (rowField s ∷ cornerField s ∷ flowField s ∷ []) (s .pre)
-
-put-number-field-requires : tie.Need-put-number-field-requires
-put-number-field-requires c κs =
-    let d = c .before .before .before in
-    let s = start d in
-    room-more (letter d) (rowField s) (cornerField s ∷ flowField s ∷ []) (s .pre)
-
-put-number-field-requires-2 : tie.Need-put-number-field-requires-2
-put-number-field-requires-2 c κs =
-    let d = c .before .before .before in
-    let s = start2 d in
-    room-more (row-put d) (cornerField s) (flowField s ∷ []) (s .pre)
-
-put-signed-field-requires : tie.Need-put-signed-field-requires
-put-signed-field-requires c κs =
-    let d = c .before .before .before in
-    let s = start3 d in
-    simp (toZ-ofZ, s .fits .flow) (room-more (corner-put d) (flowField s) [] (s .pre))
-
-put-byte-requires-2 : tie.Need-put-byte-requires-2
-put-byte-requires-2 c κs = let d = c .before .before .before in room-last (flow-put d) (start4 d .pre)
+put-line-requires : tie.Need-put-line-requires
+put-line-requires c κs =
+    let s = c .before .before .before .before in
+    simp (toZ-ofZ, s .fits .flow, read-back (s .args .corner) (omega (arith, s .pre .0))) (refl, s .pre .1)
 
 returns : tie.Need-returns
 returns c =
-    let d = c .before .before .before .before .before .before in
-    line-all (omega (arith, start4 d .pre)) (flow-put d) (c .before .before .put-byte2 .ensures)
+    let s = c .before .before .before .before .before .before .before in
+    simp (toZ-ofZ, s .fits .flow, read-back (s .args .corner) (omega (arith, s .pre .0))) at (c .before .before .put-line .ensures)
 
 pub put-corner-spec : {M : Type 1} → statement M
 put-corner-spec =
     tie.close
     (tie.spec
-    put-byte-requires
-    put-number-field-requires
-    put-number-field-requires-2
-    put-signed-field-requires
-    put-byte-requires-2
+    (λ c. search needs)
+    (λ c. search needs)
+    (λ c. search needs)
+    put-line-requires
     (λ c. search needs)
     returns)

@@ -25,8 +25,8 @@ unfolding cornersText
 put-corner-requires c κs =
     let s = c .before .before .before .before .before in
     let head = c .before .before .before .loop in
-    simp (plain, c .before .put-corner-arg .given)
-    (lines-room (cornerLineAt (s .args .row) (s .args .flows .now)) (head .k) (length (s .args .flows .now)) {at = 0} {out = s .args .out .now} (omega arith) (rw zero-add (s .pre)) (head .inv .1))
+    let room = lines-room (cornerLineAt (s .args .row) (s .args .flows .now)) (head .k) (length (s .args .flows .now)) {at = 0} {out = s .args .out .now} (omega arith) (rw zero-add (s .pre .1)) (head .inv .1) in
+    (omega (arith, s .pre .0), simp (plain, c .before .put-corner-arg .given) room)
 
 loop-again : tie.Need-loop-again Inv-loop μ-loop
 loop-again c =
@@ -40,7 +40,7 @@ unfolding cornersText
 all c = let s = c .before .before .before in lines-all (cornerLineAt (s .args .row) (s .args .flows .now)) (c .before .loop .inv .0) (omega arith) (c .before .loop .inv .1)
 
 same-length : tie.Need-same-length Inv-loop μ-loop
-same-length c = put-kept (all c) (rw zero-add (c .before .before .before .pre))
+same-length c = put-kept (all c) (rw zero-add (c .before .before .before .pre .1))
 
 returns : tie.Need-returns Inv-loop μ-loop
 returns c = all c

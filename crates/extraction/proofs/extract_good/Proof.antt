@@ -49,19 +49,33 @@ array-borrow-prefix-margins c = within (c .before .before .before .before) .rows
 slice-aggregate-extract-in-5 : tie.Need-slice-aggregate-extract-in-5
 slice-aggregate-extract-in-5 c = sym (length-take-le _ _ (array-borrow-prefix-margins (c .before)))
 
-abbrev chosen-at : tie.After-margins → tie.After-chosen
-chosen-at c = c .before .before .before .before .before
+array-borrow-prefix-ns : tie.Need-array-borrow-prefix-ns
+array-borrow-prefix-ns c = within (c .before .before .before .before .before) .rows-most
+
+slice-aggregate-extract-in-6 : tie.Need-slice-aggregate-extract-in-6
+slice-aggregate-extract-in-6 c = sym (length-take-le _ _ (array-borrow-prefix-ns (c .before)))
+
+array-borrow-prefix-lasts : tie.Need-array-borrow-prefix-lasts
+array-borrow-prefix-lasts c = within (c .before .before .before .before .before .before) .borders-most
+
+slice-aggregate-extract-in-7 : tie.Need-slice-aggregate-extract-in-7
+slice-aggregate-extract-in-7 c = sym (length-take-le _ _ (array-borrow-prefix-lasts (c .before)))
+
+abbrev chosen-at : tie.After-lasts → tie.After-chosen
+chosen-at c = c .before .before .before .before .before .before .before
 
 slice-relend-prefix-extract-in : tie.Need-slice-relend-prefix-extract-in
 slice-relend-prefix-extract-in c = entry (chosen-at c) .pre .1
 
-slice-aggregate-extract-in-6 : tie.Need-slice-aggregate-extract-in-6
-slice-aggregate-extract-in-6 c = sym (length-take-le _ _ (slice-relend-prefix-extract-in (c .before)))
+slice-aggregate-extract-in-8 : tie.Need-slice-aggregate-extract-in-8
+slice-aggregate-extract-in-8 c = sym (length-take-le _ _ (slice-relend-prefix-extract-in (c .before)))
 
 extract-in-requires : tie.Need-extract-in-requires
 extract-in-requires c κs =
     let at-p = c .before .before in
-    let at-margins = at-p .before in
+    let at-lasts = at-p .before in
+    let at-ns = at-lasts .before in
+    let at-margins = at-ns .before in
     let at-states = at-margins .before in
     let at-starts = at-states .before in
     let at-rams = at-starts .before in
@@ -71,14 +85,17 @@ extract-in-requires c κs =
         sym (slice-aggregate-extract-in at-flags),
         (
           (sym (slice-aggregate-extract-in-2 at-rams), sym (slice-aggregate-extract-in-3 at-starts)),
-          ((sym (slice-aggregate-extract-in-4 at-states), sym (slice-aggregate-extract-in-5 at-margins)), sym (slice-aggregate-extract-in-6 at-p)),
+          (
+            (sym (slice-aggregate-extract-in-4 at-states), sym (slice-aggregate-extract-in-5 at-margins)),
+            ((sym (slice-aggregate-extract-in-6 at-ns), sym (slice-aggregate-extract-in-7 at-lasts)), sym (slice-aggregate-extract-in-8 at-p)),
+          ),
         ),
       ),
     )
 
 returns-2 : tie.Need-returns-2
 returns-2 c =
-    let called = c .before .before .before .before .before .before .before .before in
+    let called = c .before .before .before .before .before .before .before .before .before .before in
     let chosen = chosen-at (called .before .before .before .before) in
     let s = entry chosen in
     front-left _ _ _ refl (s .args .p .now) (s .pre .1) _ _ (called .extract-in .ensures)
@@ -104,8 +121,12 @@ extract-good-spec =
     slice-aggregate-extract-in-4
     array-borrow-prefix-margins
     slice-aggregate-extract-in-5
-    slice-relend-prefix-extract-in
+    array-borrow-prefix-ns
     slice-aggregate-extract-in-6
+    array-borrow-prefix-lasts
+    slice-aggregate-extract-in-7
+    slice-relend-prefix-extract-in
+    slice-aggregate-extract-in-8
     extract-in-requires
     (λ c. search needs)
     (λ c. search needs)

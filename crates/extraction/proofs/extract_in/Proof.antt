@@ -1,5 +1,5 @@
 -- `extraction::extract_in` meets its contract: a return for each judgement that may decide, and the last for what is stored.
-use mathlib.Core.Path.{_≡_, ap, _∙_}
+use mathlib.Core.Path.{_≡_, sym, ap, _∙_}
 use mathlib.Core.Bool.{Bool}
 use Prim.Native.Nat.{ℕ}
 use native.Mathlib.Omega.{arith}
@@ -21,11 +21,11 @@ use Rattle.extraction.proofs.extract_in.Statement.{statement}
 use Rattle.extraction.proofs.extract_in.Tie as tie
 
 prepare-requires : tie.Need-prepare-requires
-prepare-requires c κs = let q = c .before .before .before .before .before .before .before .pre in (q .0, (q .1 .0, (q .1 .1 .0, q .1 .1 .1 .0 .0)))
+prepare-requires c κs = let q = c .before .before .before .before .before .before .before .before .before .pre in (q .0, (q .1 .0, (q .1 .1 .0, q .1 .1 .1 .0 .0)))
 
 -- the function's entry, its table and its marked borders, and what preparing said, from where it is done
 abbrev entry : tie.After-prepare → tie.Start
-entry c = c .before .before .before .before .before .before .before .before
+entry c = c .before .before .before .before .before .before .before .before .before .before
 
 abbrev given : tie.Start → Table
 given s = front (lent (s .args .h) (s .args .z .now) (s .args .t .now) (s .args .b .now) (s .args .c .now) (s .args .f .now))
@@ -52,8 +52,14 @@ returns-2 c = rw (c .too-short .ensures) (short-borders _ _ _ _ _ (passes (c .be
 returns-3 : tie.Need-returns-3
 returns-3 c = rw (c .too-short2 .ensures) (short-rows _ _ _ _ _ (passes (c .before .before .before)) (c .before .before .if1 .left) (c .before .if2 .taken))
 
+slice-aggregate-ends : tie.Need-slice-aggregate-ends
+slice-aggregate-ends c = sym (entry (prepared-at (c .before .before .before)) .pre .0 .exact .borders-long)
+
 mul-factors : tie.Need-mul-factors
 mul-factors c = omega (arith, factors-most _ (entry (prepared-at (c .before .before .before .before)) .pre .0 .exact .header))
+
+slice-aggregate-factors : tie.Need-slice-aggregate-factors
+slice-aggregate-factors c = sym (entry (prepared-at (c .before .before .before .before .before)) .pre .0 .exact .factors-long)
 
 lay-out-requires : tie.Need-lay-out-requires
 lay-out-requires c κs =
@@ -65,7 +71,7 @@ lay-out-requires c κs =
         good-borders (q .0),
         (
           (q .0 .exact .borders-long, q .1 .0),
-          ((ap length (said .starts-are) ∙ table-long _ _, rows-in _ _ (said .rows) .states-long), (q .1 .1 .1 .1, q .1 .1 .1 .0 .1)),
+          ((ap length (said .starts-are) ∙ table-long _ _, rows-in _ _ (said .rows) .states-long), (q .1 .1 .1 .1 .1, q .1 .1 .1 .0 .1)),
         ),
       ),
     )
@@ -76,18 +82,18 @@ passed-at c = c .before .before .before .before .before .before .before .before 
 
 finish-requires : tie.Need-finish-requires
 finish-requires c κs =
-    let laid = c .before .before .before .before .before .before .before .before .before .before in
+    let laid = c .before .before .before .before .before .before .before .before .before .before .before .before in
     let at-prepare = prepared-at (passed-at laid) in
     let said = as-said at-prepare in
     let s = entry at-prepare in
     let t = given s in (
       finishable (marked s) (s .pre .0) (said .rows) (laid-grid (marked s) t (said .rows) (laid .lay-out .ensures .0)) (laid-margins t (said .rows) (said .starts-are) (laid .lay-out .ensures .1)),
-      (laid .before .before .before .before .before .before .before .before .before .if1 .left, laid .before .before .before .before .before .before .before .before .if2 .left),
+      (s .pre .1 .1 .1 .1 .0, (laid .before .before .before .before .before .before .before .before .before .if1 .left, laid .before .before .before .before .before .before .before .before .if2 .left)),
     )
 
 complete-requires : tie.Need-complete-requires
 complete-requires c κs =
-    let laid = c .before .before .before .before .before .before .before .before .before .before .before .before .before .before .before .before .before in
+    let laid = c .before .before .before .before .before .before .before .before .before .before .before .before .before .before .before .before .before .before .before .before .before .before .before in
     let at-prepare = prepared-at (passed-at laid) in
     let q = entry at-prepare .pre in (
       good-factors (q .0),
@@ -101,11 +107,11 @@ complete-requires c κs =
     )
 
 -- what is lent keeps its length, from where all is done
-abbrev finished-at : tie.After-slice-known8 → tie.After-finish
-finished-at c = c .before .before .before .before .before .before .before .before .before
+abbrev finished-at : tie.After-slice-known12 → tie.After-finish
+finished-at c = c .before .before .before .before .before .before .before .before .before .before .before .before .before
 
-abbrev laid-at : tie.After-slice-known8 → tie.After-lay-out
-laid-at c = finished-at c .before .before .before .before .before .before .before .before .before .before .before
+abbrev laid-at : tie.After-slice-known12 → tie.After-lay-out
+laid-at c = finished-at c .before .before .before .before .before .before .before .before .before .before .before .before .before
 
 same-length-10 : tie.Need-same-length-10
 same-length-10 c = prepared-at (passed-at (laid-at c)) .prepare .kept .1 .1 .1 .1 .1 .1 .1 .0
@@ -117,16 +123,22 @@ same-length-12 : tie.Need-same-length-12
 same-length-12 c = prepared-at (passed-at (laid-at c)) .prepare .kept .1 .1 .1 .1 .1 .1 .1 .1 .1 .0
 
 same-length-13 : tie.Need-same-length-13
-same-length-13 c = finished-at c .finish .kept .1 .1 .1 .1 .1 .0 ∙ laid-at c .lay-out .kept .1 .1 .1 .1 .1 .1 .1 .0
+same-length-13 c = finished-at c .finish .kept .1 .1 .1 .1 .1 .1 .1 .0 ∙ laid-at c .lay-out .kept .1 .1 .1 .1 .1 .1 .1 .0
 
 same-length-14 : tie.Need-same-length-14
-same-length-14 c = c .before .before .complete .kept .1 .1 .1 .1 .1 .0 ∙ laid-at c .lay-out .kept .1 .1 .1 .1 .1 .1 .0
+same-length-14 c = finished-at c .finish .kept .1 .1 .1 .1 .1 .0
 
 same-length-15 : tie.Need-same-length-15
 same-length-15 c = finished-at c .finish .kept .1 .1 .1 .1 .1 .1 .0
 
 same-length-16 : tie.Need-same-length-16
-same-length-16 c = finished-at c .finish .kept .1 .1 .1 .1 .1 .1 .1 .0
+same-length-16 c = c .before .before .complete .kept .1 .1 .1 .1 .1 .0 ∙ laid-at c .lay-out .kept .1 .1 .1 .1 .1 .1 .0
+
+same-length-17 : tie.Need-same-length-17
+same-length-17 c = finished-at c .finish .kept .1 .1 .1 .1 .1 .1 .1 .1 .0
+
+same-length-18 : tie.Need-same-length-18
+same-length-18 c = finished-at c .finish .kept .1 .1 .1 .1 .1 .1 .1 .1 .1 .0
 
 returns-4 : tie.Need-returns-4
 returns-4 c =
@@ -136,7 +148,7 @@ returns-4 c =
     let said = as-said at-prepare in
     let s = entry at-prepare in
     let t = given s in
-    stored-is (marked s) (s .pre .0) (said .rows) (laid-grid (marked s) t (said .rows) (laid .lay-out .ensures .0)) (laid-margins t (said .rows) (said .starts-are) (laid .lay-out .ensures .1)) (s .args .p .now) (s .pre .1 .1 .1 .1) _ _ _
+    stored-is (marked s) (s .pre .0) (said .rows) (laid-grid (marked s) t (said .rows) (laid .lay-out .ensures .0)) (laid-margins t (said .rows) (said .starts-are) (laid .lay-out .ensures .1)) (s .args .p .now) (s .pre .1 .1 .1 .1 .1) _ _ _
     (finished-at c .finish .ensures) (laid-grid every t (said .rows) (c .before .before .complete .ensures))
     ∙ all-stored (marked s) t (s .args .p .now) _ _ (passes at-told) (laid .before .before .before .before .before .before .before .before .before .if1 .left) (laid .before .before .before .before .before .before .before .before .if2 .left)
 
@@ -161,9 +173,9 @@ extract-in-spec =
     (λ c. search needs)
     (λ c. search needs)
     returns-3
-    (λ c. search needs)
+    slice-aggregate-ends
     mul-factors
-    (λ c. search needs)
+    slice-aggregate-factors
     lay-out-requires
     finish-requires
     complete-requires
@@ -174,4 +186,6 @@ extract-in-spec =
     same-length-14
     same-length-15
     same-length-16
+    same-length-17
+    same-length-18
     returns-4)

@@ -4,6 +4,7 @@ use Prim.Native.Char.{code}
 use native.Mathlib.Omega.{arith}
 use borrow.Author.Needs.{needs}
 use Rattle.text.specs.Fields.{tab}
+use Rattle.columns.specs.declared.Head.the-variants.{Indexed}
 use Rattle.columns.proofs.ColumnPut.{line-long}
 use Rattle.partstext.specs.PartsText.{partsColumns}
 use Rattle.partstext.proofs.line_length.Statement.{statement}
@@ -18,12 +19,12 @@ slice-aggregate-line-length-2 c = search needs
 line-length-requires : tie.Need-line-length-requires
 line-length-requires c κs =
     let s = c .before .before in
-    (search needs, omega (arith, line-long tab (code "V") partsColumns (s .args .i) (s .args .t2), s .pre))
+    (search needs, omega (arith, line-long tab (Indexed (code "V") (s .args .i)) partsColumns (s .args .t2), s .pre))
 
 returns : tie.Need-returns
 returns c =
     let s = c .before .before .before in
-    c .line-length .ensures ∙ sym (line-long tab (code "V") partsColumns (s .args .i) (s .args .t2))
+    c .line-length .ensures ∙ sym (line-long tab (Indexed (code "V") (s .args .i)) partsColumns (s .args .t2))
 
 pub line-length-spec : {M : Type 1} → statement M
 line-length-spec =

@@ -9,7 +9,7 @@ use Rattle.kinds.specs.declared.Judgement.{Judgement}
 use Rattle.kinds.specs.Answers.{ruled}
 use Rattle.kinds.specs.Refusals.{passed}
 use Rattle.kinds.proofs.KindLaws.{header-in}
-use Rattle.block.specs.Block.{linesAt, heldBy}
+use Rattle.runs.specs.Block.{linesAt, heldBy}
 use Rattle.table.proofs.RoomLaws.{factors-most}
 use Rattle.runs.specs.Rows.{valuesOf, factorsOf}
 use Rattle.lines.specs.SheetLine.{sheetLine}

@@ -1,40 +1,36 @@
--- `table::factors_fit` meets its contract: no factor before z is out of range.
-use Prim.Native.Nat.{_-_}
-use mathlib.Core.Path.{_≡_, sym, ap, _∙_}
-use mathlib.Core.Bool.{not}
+-- `table::factors_fit` meets its contract. The invariant: `held` says whether the first z factors are in range (`Joined` of their tests). The measure is the
+-- number of factors less z. A turn is the law `joined-more`.
+use mathlib.Core.Path.{_≡_, sym, ap, subst, _∙_}
+use mathlib.Core.Bool.{Bool, true, _&&_}
+use Prim.Native.Nat.{_+_, _-_}
 use native.Mathlib.Omega.{arith}
 use borrow.Author.Needs.{needs}
 use lib.ListN.{length}
-use Rattle.numbers.specs.Below.{given}
-use Rattle.numbers.proofs.BelowLaws.{Looked, looked-none, looked-all, looked-here, looked-more}
 use Rattle.numbers.proofs.IntLaws.{plain}
-use Rattle.kinds.specs.Ranges.{atℤ, factorFits}
+use Rattle.kinds.specs.Ranges.{factorFits, factorTests}
+use Rattle.kinds.proofs.AllLaws.{tests-length, test-at, Joined, joined-none, joined-more, joined-all}
 use Rattle.table.proofs.factors_fit.Statement.{statement}
 use Rattle.table.proofs.factors_fit.Tie as tie
 
 abbrev Inv-loop : tie.InvT-loop
-Inv-loop f z₀ z-end z = Looked (length f) (λ z. not (factorFits (atℤ f z))) z
+Inv-loop f held₀ z₀ z-end held z = Joined (factorTests f) held z
 
 abbrev μ-loop : tie.MeasureT-loop
-μ-loop f z₀ z-end z = length f - z
+μ-loop f held₀ z₀ z-end held z = length f - z
 
 loop-holds : tie.Need-loop-holds Inv-loop μ-loop
-loop-holds c = looked-none _ _
-
-judged : (c : tie.After-factor-fits Inv-loop μ-loop)
-    → not (c .factor-fits .result) ≡ not (factorFits (atℤ (c .before .before .before .before .args .f .now) (c .before .before .before .loop .z)))
-judged c = ap not (c .factor-fits .ensures ∙ ap factorFits (plain _ (c .before .factor-fits-arg .given)))
-
-returns : tie.Need-returns Inv-loop μ-loop
-unfolding given
-returns c = ap (λ o. not (given o)) (looked-here _ _ _ (c .before .before .before .before .loop .inv) (omega arith) (sym (judged (c .before)) ∙ c .if1 .taken))
+loop-holds c = joined-none _
 
 loop-again : tie.Need-loop-again Inv-loop μ-loop
-loop-again c = looked-more _ _ _ (c .before .before .before .before .loop .inv) (omega arith) (sym (judged (c .before)) ∙ c .if1 .left)
+loop-again c =
+    let l = c .before .before .before .loop in
+    let f = c .before .before .before .before .args .f .now in
+    let fits = c .factor-fits .ensures ∙ ap factorFits (plain _ (c .before .factor-fits-arg .given)) in
+    subst (λ (t : Bool). Joined (factorTests f) (l .held && t) (l .z + 1)) (test-at f (l .z) (c .before .before .loop-test .taken) true ∙ sym fits)
+    (joined-more _ _ _ (l .inv) true (omega (arith, tests-length f)))
 
-returns-2 : tie.Need-returns-2 Inv-loop μ-loop
-unfolding given
-returns-2 c = ap (λ o. not (given o)) (looked-all _ _ _ (c .before .loop .inv) (omega arith))
+returns : tie.Need-returns Inv-loop μ-loop
+returns c = joined-all _ _ _ (c .before .loop .inv) (omega (arith, tests-length (c .before .before .args .f .now)))
 
 pub factors-fit-spec : {M : Type 1} → statement M
 factors-fit-spec =
@@ -46,8 +42,7 @@ factors-fit-spec =
     (λ c. search needs)
     (λ c. search needs)
     (λ c κs. search needs)
-    returns
     (λ c. search needs)
     (λ c. search needs)
     loop-again
-    returns-2)
+    returns)

@@ -8,9 +8,9 @@ use borrow.Author.Needs.{needs}
 use borrow.Author.Tests.{not-true, not-false}
 use lib.ListN.{length}
 use Rattle.numbers.proofs.IntLaws.{plain}
-use Rattle.kinds.specs.Ranges.{factorFits}
-use Rattle.blame.specs.RangeBlame.{factorTests}
-use Rattle.blame.proofs.RangeLaws.{Tested, tested-none, tested-here, tested-more, tested-all, tests-length, test-at}
+use Rattle.kinds.specs.Ranges.{factorFits, factorTests}
+use Rattle.kinds.proofs.AllLaws.{tests-length, test-at}
+use Rattle.blame.proofs.RangeLaws.{Tested, tested-none, tested-here, tested-more, tested-all}
 use Rattle.blame.proofs.range.factors_range.Statement.{statement}
 use Rattle.blame.proofs.range.factors_range.Tie as tie
 
@@ -34,7 +34,7 @@ returns c =
     let f = at-test .before .before .before .args .f .now in
     let fits = at-fits .factor-fits .ensures ∙ ap factorFits (plain _ (at-fits .before .factor-fits-arg .given)) in
     c .field-first .ensures
-    ∙ tested-here _ _ _ _ _ (l .inv) false (omega (arith, tests-length f)) (test-at f (l .j) (at-test .loop-test .taken) ∙ sym fits ∙ not-true _ (c .before .if1 .taken))
+    ∙ tested-here _ _ _ _ _ (l .inv) false (omega (arith, tests-length f)) (test-at f (l .j) (at-test .loop-test .taken) false ∙ sym fits ∙ not-true _ (c .before .if1 .taken))
 
 loop-again : tie.Need-loop-again Inv-loop μ-loop
 loop-again c =
@@ -43,7 +43,7 @@ loop-again c =
     let l = at-test .before .loop in
     let f = at-test .before .before .before .args .f .now in
     let fits = at-fits .factor-fits .ensures ∙ ap factorFits (plain _ (at-fits .before .factor-fits-arg .given)) in
-    tested-more _ _ _ _ _ (l .inv) false (omega (arith, tests-length f)) (test-at f (l .j) (at-test .loop-test .taken) ∙ sym fits ∙ not-false _ (c .if1 .left))
+    tested-more _ _ _ _ _ (l .inv) false (omega (arith, tests-length f)) (test-at f (l .j) (at-test .loop-test .taken) false ∙ sym fits ∙ not-false _ (c .if1 .left))
 
 returns-2 : tie.Need-returns-2 Inv-loop μ-loop
 returns-2 c = tested-all _ _ _ _ _ (c .before .loop .inv) (omega (arith, tests-length (c .before .before .before .args .f .now)))

@@ -1,45 +1,28 @@
--- `claimtext::published::row_length` meets its contract: a machine number has at most 20 bytes.
-use mathlib.Core.Path.{_≡_}
-use Prim.Native.Nat.{_≤_}
+-- `claimtext::published::row_length` meets its contract: a line of machine numbers is short (`row-line-most`).
+use mathlib.Core.Path.{refl, sym, _∙_}
 use native.Mathlib.Omega.{arith}
 use borrow.Author.Needs.{needs}
-use lib.ListN.{length}
 use mir.Facts.{toZ-ofZ}
-use Rattle.text.specs.Written.{decimalℤ}
-use Rattle.text.proofs.DigitLaws.{decimal-u64, decimal-i64}
-use Rattle.claimtext.proofs.PublishedLaws.{row-line-long}
+use Rattle.claimtext.proofs.PublishedLaws.{row-line-long, row-line-most}
 use Rattle.claimtext.proofs.published.row_length.Statement.{statement}
 use Rattle.claimtext.proofs.published.row_length.Tie as tie
 
--- the fields are short
-row-short : (c : tie.After-digit-count) → c .digit-count .result ≤ 20
-row-short c = omega (arith, c .digit-count .ensures, decimal-u64 (c .before .args .row) (c .before .fits .row .fits))
-
-ram-is : (c : tie.After-signed-length) → c .signed-length .result ≡ length (decimalℤ (c .before .before .args .ram))
-ram-is c = simp (toZ-ofZ, c .before .before .fits .ram) at (c .signed-length .ensures)
-
-ram-short : (c : tie.After-signed-length) → c .signed-length .result ≤ 20
-ram-short c = omega (arith, ram-is c, decimal-i64 (c .before .before .args .ram) (c .before .before .fits .ram .sfits))
-
-add-result : tie.Need-add-result
-add-result c = omega (arith, row-short c)
-
-add-result-2 : tie.Need-add-result-2
-add-result-2 c = omega (arith, row-short (c .before), ram-short c)
+line-length-requires : tie.Need-line-length-requires
+line-length-requires c κs =
+    let s = c .before .before in
+    simp (toZ-ofZ, s .fits .ram) (refl, omega (arith, row-line-most (s .args .row) (s .args .ram) (s .fits .row .fits) (s .fits .ram .sfits)))
 
 returns : tie.Need-returns
 returns c =
-    let s = c .before .before in (
-      omega (arith, row-line-long (s .args .row) (s .args .ram), c .before .digit-count .ensures, ram-is c),
-      omega (arith, row-short (c .before), ram-short c),
-    )
+    let s = c .before .before .before in
+    let said = simp (toZ-ofZ, s .fits .ram) at (c .line-length .ensures) in
+    (said ∙ sym (row-line-long (s .args .row) (s .args .ram)), omega (arith, said, row-line-most (s .args .row) (s .args .ram) (s .fits .row .fits) (s .fits .ram .sfits)))
 
 pub row-length-spec : {M : Type 1} → statement M
 row-length-spec =
     tie.close
     (tie.spec
-    (λ c κs. search needs)
-    add-result
-    (λ c κs. search needs)
-    add-result-2
+    (λ c. search needs)
+    (λ c. search needs)
+    line-length-requires
     returns)

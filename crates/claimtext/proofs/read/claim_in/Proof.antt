@@ -22,34 +22,34 @@ mul-n c = omega (arith, c .before .pre .0)
 add-n : tie.Need-add-n
 add-n c = omega (arith, c .before .pre .0)
 
-array-share-prefix-plain-line : tie.Need-array-share-prefix-plain-line
-array-share-prefix-plain-line c = omega (arith, c .before .pre .0)
+array-share-prefix-line-at : tie.Need-array-share-prefix-line-at
+array-share-prefix-line-at c = omega (arith, c .before .pre .0)
 
-slice-aggregate-plain-line : tie.Need-slice-aggregate-plain-line
-slice-aggregate-plain-line c = sym (length-take-le _ _ (array-share-prefix-plain-line (c .before)))
+slice-aggregate-line-at : tie.Need-slice-aggregate-line-at
+slice-aggregate-line-at c = sym (length-take-le _ _ (array-share-prefix-line-at (c .before)))
 
-slice-relend-prefix-plain-line : tie.Need-slice-relend-prefix-plain-line
-slice-relend-prefix-plain-line c = few (c .before .before)
+slice-relend-prefix-line-at : tie.Need-slice-relend-prefix-line-at
+slice-relend-prefix-line-at c = few (c .before .before)
 
-slice-aggregate-plain-line-2 : tie.Need-slice-aggregate-plain-line-2
-slice-aggregate-plain-line-2 c = sym (length-take-le _ _ (few (c .before .before .before)))
+slice-aggregate-line-at-2 : tie.Need-slice-aggregate-line-at-2
+slice-aggregate-line-at-2 c = sym (length-take-le _ _ (few (c .before .before .before)))
 
-plain-line-requires : tie.Need-plain-line-requires
-plain-line-requires c κs = sym (slice-aggregate-plain-line (c .before)) ∙ slice-aggregate-plain-line-2 c
+line-at-requires : tie.Need-line-at-requires
+line-at-requires c κs = sym (slice-aggregate-line-at (c .before)) ∙ slice-aggregate-line-at-2 c
 
 returns : tie.Need-returns
 returns c =
     let a = c .before .before .before .before .before .before .before .before .args in
     c .no-claim .ensures
-    ∙ with-bad (a .line .now) (a .pairs) (number-letters (fieldsOf (a .pairs)) 34 (omega (arith, c .before .before .before .before .before .before .before .before .pre .0))) _ _ (c .before .before .before .before .plain-line .ensures) _ (c .before .enum-told2 .given .1)
+    ∙ with-bad (a .line .now) (a .pairs) (number-letters (fieldsOf (a .pairs)) 34 (omega (arith, c .before .before .before .before .before .before .before .before .pre .0))) _ _ (c .before .before .before .before .line-at .ensures) _ (c .before .enum-told2 .given .1)
 
 -- the fields stand in front of the memory
-module _ (c : tie.After-plain-line) where
+module _ (c : tie.After-line-at) where
   abbrev entry : tie.Start
   entry = c .before .before .before .before
 
   abbrev values : List ℤ
-  values = c .plain-line .last .1 .1 .1 .1 .0
+  values = c .line-at .last .1 .1 .1 .1 .0
 
   values-long : length values ≡ fieldsOf (entry .args .pairs)
   values-long = let kept : length values ≡ length (take (fieldsOf (entry .args .pairs)) (entry .args .fields .now)) = search needs in kept ∙ length-take-le _ _ (few entry)
@@ -68,7 +68,7 @@ returns-2 c =
     let a = c .before .before .before .before .before .before .before .before .before .args in
     c .claim-record .ensures
     ∙ ap (claimRecord (a .pairs)) (take-at (values (c .before .before .before .before .before)) (drop (fieldsOf (a .pairs)) (a .fields .now)) (fieldsOf (a .pairs)) (values-long (c .before .before .before .before .before)))
-    ∙ with-fields (a .line .now) (a .pairs) (number-letters (fieldsOf (a .pairs)) 34 (omega (arith, c .before .before .before .before .before .before .before .before .before .pre .0))) _ _ (c .before .before .before .before .before .plain-line .ensures) (c .before .before .before .before .before .before .before .before .before .pre .0) _ (c .before .before .enum-told .given .1)
+    ∙ with-fields (a .line .now) (a .pairs) (number-letters (fieldsOf (a .pairs)) 34 (omega (arith, c .before .before .before .before .before .before .before .before .before .pre .0))) _ _ (c .before .before .before .before .before .line-at .ensures) (c .before .before .before .before .before .before .before .before .before .pre .0) _ (c .before .before .enum-told .given .1)
 
 pub claim-in-spec : {M : Type 1} → statement M
 claim-in-spec =
@@ -76,11 +76,11 @@ claim-in-spec =
     (tie.spec
     mul-n
     add-n
-    array-share-prefix-plain-line
-    slice-aggregate-plain-line
-    slice-relend-prefix-plain-line
-    slice-aggregate-plain-line-2
-    plain-line-requires
+    array-share-prefix-line-at
+    slice-aggregate-line-at
+    slice-relend-prefix-line-at
+    slice-aggregate-line-at-2
+    line-at-requires
     (λ c. search needs)
     (λ c. search needs)
     (λ c κs. search needs)

@@ -34,9 +34,9 @@ returns c =
     let m = c .before .before .before .before .before .before .before in
     let s = entry (m .before) in
     let a = s .args in
-    let zs = m .line-at .last .1 .1 .1 .1 .1 .0 in
+    let zs = m .line-at .last .1 .1 .1 .1 .0 in
     let long : length zs ≡ length (take (a .n) (a .out .now)) = search needs in
-    optional-first (a .sep) (a .letter) (columnsOf (take (a .n) (a .columns .now))) (columnsOf (drop (a .n) (a .columns .now))) (a .line .now) (a .i) (a .n) zs (drop (a .n) (a .out .now)) (c .before .leave-out .last .1 .0) _
+    optional-first (a .sep) (a .head) (columnsOf (take (a .n) (a .columns .now))) (columnsOf (drop (a .n) (a .columns .now))) (a .line .now) (a .n) zs (drop (a .n) (a .out .now)) (c .before .leave-out .last .1 .0) _
     (long ∙ length-take-le (a .n) (a .out .now) (omega (arith, s .pre .0, s .pre .1)))
     (length-drop (a .n) (a .out .now) ∙ sym (columns-long (drop (a .n) (a .columns .now)) ∙ length-drop (a .n) (a .columns .now) ∙ omega (arith, s .pre .1)))
     (c .before .leave-out .ensures)
@@ -47,10 +47,10 @@ returns-2 c =
     let m = c .before .before .before .before .before .before in
     let s = entry (m .before) in
     let a = s .args in
-    let zs = m .line-at .last .1 .1 .1 .1 .1 .0 in
-    optional-long (a .sep) (a .letter) (columnsOf (take (a .n) (a .columns .now))) (columnsOf (drop (a .n) (a .columns .now))) (a .line .now) (a .i) _ _
+    let zs = m .line-at .last .1 .1 .1 .1 .0 in
+    optional-long (a .sep) (a .head) (columnsOf (take (a .n) (a .columns .now))) (columnsOf (drop (a .n) (a .columns .now))) (a .line .now) _ _
     (ap (λ (f : Fields). stored f zs) (sym (c .before .before .before .enum-told .given .1)) ∙ m .line-at .ensures)
-    (c .before .line-at2 .ensures ∙ ap (λ (l : List Column). columnsLine (a .sep) (a .letter) l (a .line .now) (a .i)) (sym (columns-split (a .n) (a .columns .now))))
+    (c .before .line-at2 .ensures ∙ ap (λ (l : List Column). columnsLine (a .sep) (a .head) l (a .line .now)) (sym (columns-split (a .n) (a .columns .now))))
 
 pub optional-at-spec : {M : Type 1} → statement M
 optional-at-spec =

@@ -31,7 +31,7 @@ put-line-requires c κs =
     let a = s .args in
     let k = m .written .result in (
       sym (front-columns (a .columns .now) (a .n) (a .values .now) (s .pre .0) (s .pre .1) k (m .written .ensures)) ∙ front-values (a .columns .now) (a .n) (a .values .now) (s .pre .0) (s .pre .1) k (m .written .ensures),
-      omega (arith, s .pre .2, ap length (line-by (a .columns .now) (a .n) (a .values .now) (s .pre .0) (s .pre .1) k (m .written .ensures) (a .sep) (a .letter) (a .i))),
+      omega (arith, s .pre .2, ap length (line-by (a .columns .now) (a .n) (a .values .now) (s .pre .0) (s .pre .1) k (m .written .ensures) (a .sep) (a .head))),
     )
 
 returns : tie.Need-returns
@@ -39,7 +39,7 @@ returns c =
     let m = c .before .before .before .before .before .before in
     let s = m .before .before .before in
     let a = s .args in
-    subst (λ (t : List ℕ). Put t (a .at) (a .out .now) (c .before .before .put-line .result) (c .before .before .put-line .last .1 .1 .1 .1 .1 .0)) (line-by (a .columns .now) (a .n) (a .values .now) (s .pre .0) (s .pre .1) (m .written .result) (m .written .ensures) (a .sep) (a .letter) (a .i)) (c .before .before .put-line .ensures)
+    subst (λ (t : List ℕ). Put t (a .at) (a .out .now) (c .before .before .put-line .result) (c .before .before .put-line .last .1 .1 .1 .1 .0)) (line-by (a .columns .now) (a .n) (a .values .now) (s .pre .0) (s .pre .1) (m .written .result) (m .written .ensures) (a .sep) (a .head)) (c .before .before .put-line .ensures)
 
 pub put-optional-spec : {M : Type 1} → statement M
 put-optional-spec =

@@ -6,10 +6,10 @@ use Rattle.columns.proofs.read.line_at.Statement.{statement}
 use Rattle.columns.proofs.read.line_at.Tie as tie
 
 returns : tie.Need-returns
-returns c = line-goes _ _ _ _ _ _ _ _ (sym (c .before .before .before .before .before .before .index-at .ensures) ∙ c .before .before .before .before .at .given .1) (c .before .rest-at .ensures)
+returns c = line-goes _ _ _ _ _ _ _ (sym (c .before .before .before .before .before .before .head-at .ensures) ∙ c .before .before .before .before .at .given .1) (c .before .rest-at .ensures)
 
 returns-2 : tie.Need-returns-2
-returns-2 c = line-bad _ _ _ _ _ _ (sym (c .before .before .before .index-at .ensures) ∙ c .before .place .given .1)
+returns-2 c = line-bad _ _ _ _ _ (sym (c .before .before .before .head-at .ensures) ∙ c .before .place .given .1)
 
 pub line-at-spec : {M : Type 1} → statement M
 line-at-spec =

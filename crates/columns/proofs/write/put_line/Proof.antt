@@ -10,28 +10,28 @@ use Rattle.columns.proofs.ColumnPut.{line-sum}
 use Rattle.columns.proofs.write.put_line.Statement.{statement}
 use Rattle.columns.proofs.write.put_line.Tie as tie
 
-abbrev entry : tie.After-put-index-arg → tie.Start
+abbrev entry : tie.After-put-head-arg → tie.Start
 entry c = c .before .before .before
 
-put-index-requires : tie.Need-put-index-requires
-put-index-requires c κs =
+put-head-requires : tie.Need-put-head-requires
+put-head-requires c κs =
     let s = entry c in
     let a = s .args in
-    omega (arith, s .pre .1, line-sum (a .sep) (a .letter) (columnsOf (a .columns .now)) (a .i) (a .values .now))
+    omega (arith, s .pre .1, line-sum (a .sep) (a .head) (columnsOf (a .columns .now)) (a .values .now))
 
 put-fields-requires : tie.Need-put-fields-requires
 put-fields-requires c κs =
     let m = c .before .before .before in
     let s = entry (m .before) in
     let a = s .args in
-    (s .pre .0, put-room (m .put-index .ensures) (length (fieldsEnded (a .sep) feed (columnsOf (a .columns .now)) (a .values .now))) (omega (arith, s .pre .1, line-sum (a .sep) (a .letter) (columnsOf (a .columns .now)) (a .i) (a .values .now))))
+    (s .pre .0, put-room (m .put-head .ensures) (length (fieldsEnded (a .sep) feed (columnsOf (a .columns .now)) (a .values .now))) (omega (arith, s .pre .1, line-sum (a .sep) (a .head) (columnsOf (a .columns .now)) (a .values .now))))
 
 returns : tie.Need-returns
 unfolding columnsText
 returns c =
     let m = c .before .before .before .before .before .before in
     let s = entry (m .before) in
-    put-more (m .put-index .ensures) (omega (arith, s .pre .1)) (c .before .before .put-fields .ensures)
+    put-more (m .put-head .ensures) (omega (arith, s .pre .1)) (c .before .before .put-fields .ensures)
 
 pub put-line-spec : {M : Type 1} → statement M
-put-line-spec = tie.close (tie.spec put-index-requires put-fields-requires (λ c. search needs) returns)
+put-line-spec = tie.close (tie.spec put-head-requires put-fields-requires (λ c. search needs) returns)

@@ -1,5 +1,5 @@
 -- `corrections::handed::row_line` meets its contract: the test is the definition's, and each piece is the line at its place.
-use mathlib.Core.Path.{_≡_, sym, ap, _∙_}
+use mathlib.Core.Path.{_≡_, refl, sym, ap, _∙_}
 use mathlib.Core.List.{List}
 use Prim.Native.Nat.{ℕ}
 use Rattle.text.specs.Line.{lineAt}
@@ -15,9 +15,9 @@ returns : tie.Need-returns
 returns c = rw (sym (sheet-line (c .before)) ∙ c .if1 .taken) (c .before .before .line-at .ensures)
 
 returns-2 : tie.Need-returns-2
-returns-2 c = rw (sym (sheet-line (c .before .before)) ∙ c .before .if1 .left) (c .line-at2 .ensures)
+returns-2 c = rw (sym (sheet-line (c .before)) ∙ c .if1 .left) refl
 
 pub row-line-spec : {M : Type 1} → statement M
 row-line-spec =
     tie.close
-    (tie.spec (λ c κs. search needs) (λ c κs. search needs) returns (λ c κs. search needs) returns-2)
+    (tie.spec (λ c κs. search needs) (λ c κs. search needs) returns returns-2)

@@ -1,16 +1,13 @@
--- `kinds::Header::fits` meets its contract.
+-- `kinds::Header::fits` meets its contract: all tests hold.
+use mathlib.Core.Path.{ap, _∙_}
 use borrow.Author.Needs.{needs}
-use Rattle.numbers.proofs.IntLaws.{plain}
-use Rattle.kinds.specs.Ranges.{headerFits}
+use Rattle.kinds.specs.Ranges.{allTrue, headerFits}
 use Rattle.kinds.proofs.Header.fits.Statement.{statement}
 use Rattle.kinds.proofs.Header.fits.Tie as tie
 
 returns : tie.Need-returns
 unfolding headerFits
-returns c =
-    let at-inside = c .before in
-    let at-share = at-inside .before .before .before .before .before .before .before in
-    simp (at-inside .inside .ensures, plain (at-share .before .args .self .share) (at-share .struct-told .given .1 .1 .1 .0 .1))
+returns c = c .all .ensures ∙ ap allTrue (c .before .before .tests .ensures)
 
 pub fits-spec : {M : Type 1} → statement M
-fits-spec = tie.close (tie.spec (λ c κs. search needs) returns)
+fits-spec = tie.close (tie.spec (λ c κs. search needs) (λ c. search needs) (λ c κs. search needs) returns)

@@ -2,22 +2,21 @@
 use mathlib.Core.Path.{sym, _∙_}
 use borrow.Author.Needs.{needs}
 use mir.Facts.{toZ-ofZ}
-use Rattle.kinds.specs.Ranges.{zoneFits}
 use Rattle.kinds.specs.Kinds.{zoneRead}
 use Rattle.kinds.proofs.Zone.of.Statement.{statement}
 use Rattle.kinds.proofs.Zone.of.Tie as tie
 
 returns : tie.Need-returns
-unfolding zoneRead zoneFits
+unfolding zoneRead
 returns c =
     let raw = toZ-ofZ (c .before .before .fits .raw) in
-    simp (raw, sym (simp raw at (c .before .inside .ensures)) ∙ c .if1 .taken)
+    simp (raw, sym (simp raw at (c .before .fits2 .ensures)) ∙ c .if1 .taken)
 
 returns-2 : tie.Need-returns-2
-unfolding zoneRead zoneFits
+unfolding zoneRead
 returns-2 c =
     let raw = toZ-ofZ (c .before .before .fits .raw) in
-    simp (sym (simp raw at (c .before .inside .ensures)) ∙ c .if1 .left)
+    simp (sym (simp raw at (c .before .fits2 .ensures)) ∙ c .if1 .left)
 
 pub of-spec : {M : Type 1} → statement M
 of-spec = tie.close (tie.spec (λ c κs. search needs) returns returns-2)

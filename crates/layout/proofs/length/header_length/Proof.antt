@@ -2,7 +2,7 @@
 use mathlib.Core.Path.{_≡_, refl, sym, ap, subst, _∙_}
 use mathlib.Core.List.{List, [], _∷_}
 use Prim.Native.Char.{code}
-use Prim.Native.Nat.{ℕ, _+_, _≤_}
+use Prim.Native.Nat.{ℕ, _≤_}
 use native.Mathlib.Omega.{arith}
 use borrow.Author.Needs.{needs}
 use lib.IntN.{ℤ, pos}
@@ -13,32 +13,30 @@ use Rattle.kinds.specs.LineColumns.{headerColumns, defaultColumns}
 use Rattle.kinds.proofs.KindLaws.{header-in}
 use Rattle.text.specs.Fields.{tab}
 use Rattle.text.proofs.FieldLaws.{fits-pos}
-use Rattle.columns.specs.ColumnText.{fieldsLength}
+use Rattle.columns.specs.declared.Head.the-variants.{Lettered}
+use Rattle.columns.specs.ColumnText.{lineLength}
 use Rattle.columns.specs.Optional.{writtenBy}
-use Rattle.columns.proofs.ColumnPut.{plain-long}
+use Rattle.columns.proofs.ColumnPut.{line-long}
 use Rattle.layout.specs.Layout.{headerText}
 use Rattle.layout.proofs.LayoutLaws.{header-raw}
 use Rattle.layout.proofs.length.header_length.Statement.{statement}
 use Rattle.layout.proofs.length.header_length.Tie as tie
 
--- a header's numbers, and the bytes of their fields
+-- a header's numbers, and the bytes of its line
 abbrev raw : Header → List ℤ
 raw h = pos (h .zones) ∷ pos (h .borders) ∷ pos (h .rows) ∷ h .share ∷ []
 
-abbrev fields : List ℤ → ℕ
-fields zs = fieldsLength (writtenBy headerColumns defaultColumns zs) zs
+abbrev bytes : List ℤ → ℕ
+bytes zs = lineLength (Lettered (code "H")) (writtenBy headerColumns defaultColumns zs) zs
 
-long : (h : Header) → length (headerText h) ≡ 2 + fields (raw h)
-long h = plain-long tab (code "H") (writtenBy headerColumns defaultColumns (raw h)) (raw h)
+long : (h : Header) → length (headerText h) ≡ bytes (raw h)
+long h = line-long tab (Lettered (code "H")) (writtenBy headerColumns defaultColumns (raw h)) (raw h)
 
 abbrev entry-from-struct-known2 : tie.After-struct-known2 → tie.Start
 entry-from-struct-known2 c = c .before .before .before
 
 abbrev entry : tie.After-raw → tie.Start
 entry c = entry-from-struct-known2 (c .before .before .before)
-
-counted : (c : tie.After-optional-fields-length) → let h = entry (c .before) .args .h in c .optional-fields-length .result ≡ fields (raw h)
-counted c = c .optional-fields-length .ensures ∙ ap fields (header-raw (entry (c .before) .args .h) (entry (c .before) .pre .0))
 
 cast-t5 : tie.Need-cast-t5
 cast-t5 c = fits-pos _ (omega (arith, header-in (c .before .before .args .h) (c .before .before .pre .0) .zones-most))
@@ -49,18 +47,15 @@ cast-t6 c = fits-pos _ (omega (arith, header-in (c .before .before .before .args
 cast-t7 : tie.Need-cast-t7
 cast-t7 c = fits-pos _ (omega (arith, header-in (entry-from-struct-known2 (c .before) .args .h) (entry-from-struct-known2 (c .before) .pre .0) .rows-most))
 
-optional-fields-length-requires : tie.Need-optional-fields-length-requires
-optional-fields-length-requires c κs =
+optional-length-requires : tie.Need-optional-length-requires
+optional-length-requires c κs =
     let s = entry c in
-    (omega arith, refl, subst (λ (zs : List ℤ). fields zs ≤ bytesMost) (sym (header-raw (s .args .h) (s .pre .0))) (omega (arith, long (s .args .h), s .pre .1)))
-
-add-result : tie.Need-add-result
-add-result c =
-    let s = entry (c .before) in
-    omega (arith, counted c, long (s .args .h), s .pre .1)
+    (omega arith, refl, subst (λ (zs : List ℤ). bytes zs ≤ bytesMost) (sym (header-raw (s .args .h) (s .pre .0))) (omega (arith, long (s .args .h), s .pre .1)))
 
 returns : tie.Need-returns
-returns c = omega (arith, counted c, long (entry (c .before) .args .h))
+returns c =
+    let s = entry (c .before) in
+    c .optional-length .ensures ∙ ap bytes (header-raw (s .args .h) (s .pre .0)) ∙ sym (long (s .args .h))
 
 pub header-length-spec : {M : Type 1} → statement M
 header-length-spec =
@@ -71,6 +66,5 @@ header-length-spec =
     cast-t7
     (λ c. search needs)
     (λ c. search needs)
-    optional-fields-length-requires
-    add-result
+    optional-length-requires
     returns)

@@ -6,6 +6,7 @@ use native.Mathlib.Omega.{arith}
 use mir.Facts.{toZ-ofZ}
 use Rattle.kinds.specs.LineColumns.{zoneColumns}
 use Rattle.text.specs.Fields.{tab}
+use Rattle.columns.specs.declared.Head.the-variants.{Indexed}
 use Rattle.columns.proofs.ColumnPut.{line-long}
 use borrow.Author.Needs.{needs}
 use Rattle.layout.proofs.length.zone_length.Statement.{statement}
@@ -14,12 +15,12 @@ use Rattle.layout.proofs.length.zone_length.Tie as tie
 line-length-requires : tie.Need-line-length-requires
 line-length-requires c κs =
     let s = c .before .before in
-    simp (toZ-ofZ, s .fits .net) (refl, omega (arith, line-long tab (code "Z") zoneColumns (s .args .i) (s .args .net ∷ []), s .pre))
+    simp (toZ-ofZ, s .fits .net) (refl, omega (arith, line-long tab (Indexed (code "Z") (s .args .i)) zoneColumns (s .args .net ∷ []), s .pre))
 
 returns : tie.Need-returns
 returns c =
     let s = c .before .before .before in
-    simp (toZ-ofZ, s .fits .net) at (c .line-length .ensures) ∙ sym (line-long tab (code "Z") zoneColumns (s .args .i) (s .args .net ∷ []))
+    simp (toZ-ofZ, s .fits .net) at (c .line-length .ensures) ∙ sym (line-long tab (Indexed (code "Z") (s .args .i)) zoneColumns (s .args .net ∷ []))
 
 pub zone-length-spec : {M : Type 1} → statement M
 zone-length-spec =

@@ -12,13 +12,14 @@ use Rattle.kinds.proofs.KindLaws.{header-in}
 use Rattle.text.specs.Fields.{tab}
 use Rattle.text.specs.Put.{Put}
 use Rattle.text.proofs.FieldLaws.{fits-pos}
-use Rattle.columns.specs.Optional.{plainOptionalText}
+use Rattle.columns.specs.declared.Head.the-variants.{Lettered}
+use Rattle.columns.specs.Optional.{optionalText}
 use Rattle.layout.proofs.LayoutLaws.{header-raw}
 use Rattle.layout.proofs.put.put_header.Statement.{statement}
 use Rattle.layout.proofs.put.put_header.Tie as tie
 
 abbrev text : List ℤ → List ℕ
-text raw = plainOptionalText tab (code "H") headerColumns defaultColumns raw
+text raw = optionalText tab (Lettered (code "H")) headerColumns defaultColumns raw
 
 abbrev entry : tie.After-struct-known → tie.Start
 entry c = c .before .before .before
@@ -32,15 +33,15 @@ cast-t8 c = fits-pos _ (omega (arith, header-in (entry (c .before) .args .h) (en
 cast-t9 : tie.Need-cast-t9
 cast-t9 c = fits-pos _ (omega (arith, header-in (entry (c .before .before) .args .h) (entry (c .before .before) .pre .0) .rows-most))
 
-put-plain-optional-requires : tie.Need-put-plain-optional-requires
-put-plain-optional-requires c κs =
+put-optional-requires : tie.Need-put-optional-requires
+put-optional-requires c κs =
     let s = c .before .before .before .before .before .before .before .before in
     (omega arith, refl, subst (λ (raw : List ℤ). s .args .at + length (text raw) ≤ length (s .args .out .now)) (sym (header-raw (s .args .h) (s .pre .0))) (s .pre .1))
 
 returns : tie.Need-returns
 returns c =
     let s = c .before .before .before .before .before .before .before .before .before .before .before in
-    let put = c .before .before .put-plain-optional in
+    let put = c .before .before .put-optional in
     subst (λ (raw : List ℤ). Put (text raw) (s .args .at) (s .args .out .now) (put .result) (put .last .1 .1 .1 .1 .1 .0)) (header-raw (s .args .h) (s .pre .0)) (put .ensures)
 
 pub put-header-spec : {M : Type 1} → statement M
@@ -52,6 +53,6 @@ put-header-spec =
     cast-t9
     (λ c. search needs)
     (λ c. search needs)
-    put-plain-optional-requires
+    put-optional-requires
     (λ c. search needs)
     returns)

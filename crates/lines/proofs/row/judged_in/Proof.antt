@@ -5,7 +5,8 @@ use lib.ListN.{length}
 use native.Mathlib.Omega.{arith}
 use Rattle.columns.specs.declared.Fields.{Fields}
 use Rattle.columns.specs.Columns.{stored}
-use Rattle.lines.specs.SaidRow.{judgedOf, valuesBy}
+use Rattle.lines.specs.RowKinds.{valuesBy}
+use Rattle.lines.specs.SaidRow.{judgedOf}
 use Rattle.lines.specs.declared.row.RowJudged.the-variants.{Form, Range}
 use Rattle.lines.proofs.RowJudge.{row-form, row-holds, row-range}
 use borrow.Author.Needs.{needs}
@@ -36,7 +37,7 @@ returns-2 c =
     let judged = c .before in
     let o = at-row-at judged in
     let a = entry o .args in
-    sym (ap judgedOf (row-holds (a .kind) (length (a .f .now)) (a .line .now) (a .i) _ _ (o .row-at .kept .1 .1 .1 .0) _ (read o _ (judged .before .before .enum-told .given .1)) (sym (judged .row-good .ensures) ∙ c .if1 .taken)))
+    sym (ap judgedOf (row-holds (a .kind) (length (a .f .now)) (a .line .now) (a .i) (o .row-at .last .1 .1 .1 .0) (o .row-at .last .1 .1 .1 .1 .0) (o .row-at .kept .1 .1 .1 .0) _ (read o _ (judged .before .before .enum-told .given .1)) (sym (judged .row-good .ensures) ∙ c .if1 .taken)))
 
 row-out-requires : tie.Need-row-out-requires
 row-out-requires c κs =
@@ -49,7 +50,7 @@ returns-3 c =
     let o = at-row-at judged in
     let a = entry o .args in
     ap Range (c .row-out .ensures)
-    ∙ sym (ap judgedOf (row-range (a .kind) (length (a .f .now)) (a .line .now) (a .i) _ _ (o .row-at .kept .1 .1 .1 .0) _ (read o _ (judged .before .before .enum-told .given .1)) (sym (judged .row-good .ensures) ∙ c .before .before .if1 .left)))
+    ∙ sym (ap judgedOf (row-range (a .kind) (length (a .f .now)) (a .line .now) (a .i) (o .row-at .last .1 .1 .1 .0) (o .row-at .last .1 .1 .1 .1 .0) (o .row-at .kept .1 .1 .1 .0) _ (read o _ (judged .before .before .enum-told .given .1)) (sym (judged .row-good .ensures) ∙ c .before .before .if1 .left)))
 
 pub judged-in-spec : {M : Type 1} → statement M
 judged-in-spec =

@@ -1,80 +1,55 @@
 -- `lines::row::row_at` meets its contract: the factors' columns are as many as f has items.
-use mathlib.Core.Path.{sym, ap, _∙_}
-use mathlib.Core.List.{List, _++_}
-use Prim.Native.Char.{code}
+use mathlib.Core.Path.{sym, _∙_}
 use native.Mathlib.Omega.{arith}
 use lib.ListN.{length}
-use Rattle.kinds.specs.LineColumns.{Column, rowColumns, sheetColumns}
-use Rattle.text.specs.Fields.{tab}
-use Rattle.columns.specs.Bare.{bareLine}
-use Rattle.columns.specs.ColumnLine.{columnsLine}
-use Rattle.columns.proofs.ColumnLaws.{factor-letters, factor-letters-long, sheet-factors, sheet-factors-long}
-use Rattle.lines.specs.SheetLine.{semicolon}
-use Rattle.lines.specs.SaidRow.{valuesBy}
-use Rattle.lines.specs.declared.row.RowKind.{RowKind}
+use lib.Seq.{length-take-le}
 use borrow.Author.Needs.{needs}
+use Rattle.columns.specs.ColumnLine.{columnsLine}
+use Rattle.lines.proofs.RowKindLaws.{letters-long, letters-many, parts-by}
 use Rattle.lines.proofs.row.row_at.Statement.{statement}
 use Rattle.lines.proofs.row.row_at.Tie as tie
 
-add-n : tie.Need-add-n
-add-n c = omega (arith, c .before .pre .2)
+abbrev entry : tie.After-columns-of → tie.Start
+entry m = m .before .before .before .before
 
-part-parts-at-end : tie.Need-part-parts-at-end
-part-parts-at-end c = omega (arith, c .before .before .before .before .before .pre .2)
+slice-aggregate-parts-at : tie.Need-slice-aggregate-parts-at
+slice-aggregate-parts-at c =
+    let m = c .before in
+    sym (length-take-le 7 (m .columns-of .result) (omega (arith, letters-long (entry m .args .kind) (m .columns-of .result) (m .columns-of .ensures))))
 
 parts-at-requires : tie.Need-parts-at-requires
 parts-at-requires c κs =
-    let s = c .before .before .before .before .before .before .before .before in
-    let long = factor-letters-long (length (s .args .f .now)) (s .pre .2) in
-    (sym (s .pre .0), rw long (s .pre .1), long)
-
-part-bare-at-end : tie.Need-part-bare-at-end
-part-bare-at-end c = omega (arith, c .before .before .before .before .before .pre .2)
-
-bare-at-requires : tie.Need-bare-at-requires
-bare-at-requires c κs =
-    let s = c .before .before .before .before .before .before .before .before in
-    let long = sheet-factors-long (length (s .args .f .now)) (s .pre .2) in
-    (sym (s .pre .0), rw long (s .pre .1), long)
+    let n = c .before .before .before .before in
+    let m = n .before .before in
+    let s = entry m in
+    let first = length-take-le 7 (m .columns-of .result) (omega (arith, letters-long (s .args .kind) (m .columns-of .result) (m .columns-of .ensures))) in
+    let long = letters-many (s .args .kind) (n .columns-of2 .result) (n .columns-of2 .ensures) (length (s .args .f .now)) (s .pre .2) in
+    (first ∙ sym (s .pre .0), rw long (s .pre .1), long)
 
 returns : tie.Need-returns
 returns c =
-    let told = c .before .before .before .before .before .before .before .before in
-    let s = told .before .before .before in
+    let n = c .before .before .before .before .before .before .before in
+    let m = n .before .before in
+    let s = entry m in
+    let a = s .args in
     c .before .before .parts-at .ensures
-    ∙ ap (λ (l : List Column). columnsLine tab (code "C") (rowColumns ++ l) (s .args .line .now) (s .args .i)) (factor-letters _ (s .pre .2))
-    ∙ sym (ap (λ (k : RowKind). valuesBy k (length (s .args .f .now)) (s .args .line .now) (s .args .i)) (told .enum-told .given .1))
-
-returns-2 : tie.Need-returns-2
-returns-2 c =
-    let told = c .before .before .before .before .before .before .before .before in
-    let s = told .before .before .before in
-    c .before .before .bare-at .ensures
-    ∙ ap (λ (l : List Column). bareLine semicolon (sheetColumns ++ l) (s .args .line .now) (s .args .i)) (sheet-factors _ (s .pre .2))
-    ∙ sym (ap (λ (k : RowKind). valuesBy k (length (s .args .f .now)) (s .args .line .now) (s .args .i)) (told .enum-told2 .given .1))
+    ∙ parts-by (λ sep head columns. columnsLine sep head columns (a .line .now)) (a .kind) (a .i) (length (a .f .now)) (s .pre .2) (m .before .before .sep-of .ensures) (m .before .head-of .ensures) (m .columns-of .result) (m .columns-of .ensures) (n .columns-of2 .result) (n .columns-of2 .ensures)
 
 pub row-at-spec : {M : Type 1} → statement M
 row-at-spec =
     tie.close
     (tie.spec
-    add-n
+    (λ c. search needs)
+    (λ c κs. search needs)
+    (λ c κs. search needs)
+    (λ c κs. search needs)
+    (λ c. search needs)
+    slice-aggregate-parts-at
+    (λ c κs. search needs)
     (λ c. search needs)
     (λ c. search needs)
     (λ c. search needs)
-    (λ c. omega arith)
-    (λ c. omega arith)
-    part-parts-at-end
     parts-at-requires
     (λ c. search needs)
     (λ c. search needs)
-    (λ c. search needs)
-    (λ c. omega arith)
-    (λ c. omega arith)
-    part-bare-at-end
-    bare-at-requires
-    (λ c. search needs)
-    (λ c. search needs)
-    returns
-    (λ c. search needs)
-    (λ c. search needs)
-    returns-2)
+    returns)

@@ -4,7 +4,7 @@ use mathlib.Core.List.{_++_}
 use lib.ListN.{length}
 use Rattle.columns.specs.declared.Fields.{Fields}
 use Rattle.columns.specs.Columns.{stored}
-use Rattle.lines.specs.SaidRow.{valuesBy}
+use Rattle.lines.specs.RowKinds.{valuesBy}
 use Rattle.lines.proofs.RowJudge.{row-never, row-filled}
 use borrow.Author.Needs.{needs}
 use Rattle.lines.proofs.row.row_filled.Statement.{statement}

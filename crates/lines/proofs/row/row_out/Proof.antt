@@ -1,37 +1,29 @@
 -- `lines::row::row_out` meets its contract.
-use mathlib.Core.Path.{sym, ap, _∙_}
+use mathlib.Core.Path.{ap, ap₂, _∙_}
+use Prim.Native.Nat.{ℕ}
 use native.Mathlib.Omega.{arith}
-use Rattle.lines.specs.SaidRow.{outBy}
-use Rattle.lines.specs.declared.row.RowKind.{RowKind}
 use borrow.Author.Needs.{needs}
+use Rattle.kinds.specs.Ranges.{rowLineTests}
+use Rattle.columns.specs.ColumnText.{headSeps}
+use Rattle.blame.specs.RangeBlame.{rangeByte}
+use Rattle.lines.proofs.RowKindLaws.{seps-few}
 use Rattle.lines.proofs.row.row_out.Statement.{statement}
 use Rattle.lines.proofs.row.row_out.Tie as tie
 
 row-range-requires : tie.Need-row-range-requires
-row-range-requires c κs = omega (arith, c .before .before .before .pre)
-
-row-range-requires-2 : tie.Need-row-range-requires-2
-row-range-requires-2 c κs = omega (arith, c .before .before .before .pre)
+row-range-requires c κs =
+    let m = c .before in
+    let n = m .before in
+    omega (arith, n .before .before .pre, m .head-seps .ensures, seps-few (n .head-of .result))
 
 returns : tie.Need-returns
 returns c =
-    let told = c .before in
-    let a = told .before .before .before .args in
-    c .row-range .ensures ∙ sym (ap (λ (k : RowKind). outBy k (a .line .now) (a .raw) (a .f .now)) (told .enum-told .given .1))
-
-returns-2 : tie.Need-returns-2
-returns-2 c =
-    let told = c .before in
-    let a = told .before .before .before .args in
-    c .row-range2 .ensures ∙ sym (ap (λ (k : RowKind). outBy k (a .line .now) (a .raw) (a .f .now)) (told .enum-told2 .given .1))
+    let t = c .before in
+    let m = t .before in
+    let n = m .before in
+    let a = n .before .before .args in
+    c .row-range .ensures
+    ∙ ap₂ (λ (sep k : ℕ). rangeByte sep (rowLineTests (a .raw) (a .f .now)) k (a .line .now)) (t .sep-of .ensures) (m .head-seps .ensures ∙ ap headSeps (n .head-of .ensures))
 
 pub row-out-spec : {M : Type 1} → statement M
-row-out-spec =
-    tie.close
-    (tie.spec
-    (λ c. search needs)
-    row-range-requires
-    (λ c. search needs)
-    row-range-requires-2
-    returns
-    returns-2)
+row-out-spec = tie.close (tie.spec (λ c κs. search needs) (λ c κs. search needs) (λ c κs. search needs) row-range-requires returns)

@@ -2,7 +2,7 @@
 use mathlib.Core.Path.{sym, ap, _∙_}
 use Prim.Native.Nat.{ℕ}
 use lib.Seq.{length-take-le}
-use Rattle.block.specs.Block.{heldBy}
+use Rattle.runs.specs.Block.{heldBy}
 use Rattle.table.specs.Table.{balanced}
 use Rattle.reading.specs.Places.{allocatedLines}
 use Rattle.reading.proofs.judged.is_balanced.Statement.{statement}

@@ -6,7 +6,7 @@ use borrow.Author.Needs.{needs}
 use borrow.Author.Tests.{not-true, not-false}
 use Rattle.kinds.specs.Refusals.{passed, refused, outOfRangeAt}
 use Rattle.kinds.proofs.KindLaws.{allocated-most}
-use Rattle.block.specs.Block.{endOf, saidEnd}
+use Rattle.runs.specs.Block.{endOf, saidEnd}
 use Rattle.table.specs.Table.{headerLineNo}
 use Rattle.reading.proofs.JudgedTextLaws.{allocatedRun, netted, allocated-refused, allocated-sound, unbalanced, allocated-passed}
 use Rattle.reading.proofs.judged.judge_allocated.Statement.{statement}

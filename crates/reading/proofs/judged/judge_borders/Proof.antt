@@ -5,8 +5,8 @@ use native.Mathlib.Omega.{arith}
 use borrow.Author.Needs.{needs}
 use Rattle.kinds.specs.Refusals.{passed, refused, wrongForm}
 use Rattle.kinds.proofs.KindLaws.{allocated-most}
-use Rattle.block.specs.declared.End.{End}
-use Rattle.block.specs.Block.{read, endOf, saidEnd}
+use Rattle.runs.specs.declared.End.{End}
+use Rattle.runs.specs.Block.{read, endOf, saidEnd}
 use Rattle.runs.specs.Runs.{storedRun}
 use Rattle.table.specs.Table.{zoneLineNo}
 use Rattle.reading.proofs.JudgedTextLaws.{bordersRun, rowsRun, bounds, borders-room, run-lent, q-within, borders-refused, rows-refused, more-follows, lines-pass, lines-placed}

@@ -4,7 +4,7 @@ use native.Mathlib.Omega.{arith}
 use borrow.Author.Needs.{needs}
 use Rattle.kinds.specs.declared.Header.{Header}
 use Rattle.kinds.specs.Ranges.{profiled}
-use Rattle.block.specs.Block.{saidEnd}
+use Rattle.runs.specs.Block.{saidEnd}
 use Rattle.reading.specs.Places.{Netted}
 use Rattle.reading.proofs.JudgedTextLaws.{counted, at-within, nets-refused, nets-passed}
 use Rattle.reading.proofs.judged.judge_runs.Statement.{statement}

@@ -1,50 +1,52 @@
--- `result::records::lines_length` meets its contract: the sum is that of the first i lines (`Measured`), and no line is longer than `resultLineMost` (`record-most`).
+-- `result::records::lines_length` meets its contract. The invariant: the lengths of the first i lines are added up (`Measured`), whatever their letter. The measure is the records that are left.
+use mathlib.Core.Path.{sym, _∙_}
 use mathlib.Core.List.{[]}
-use Prim.Native.Nat.{_-_}
+use Prim.Native.Nat.{ℕ, _-_}
 use native.Mathlib.Omega.{arith}
 use borrow.Author.Needs.{needs}
 use lib.ListN.{length, getD}
 use Rattle.numbers.proofs.IntLaws.{plain}
-use Rattle.kinds.specs.Ranges.{atℤ}
+use Rattle.kinds.specs.LineColumns.{columnsOf}
+use Rattle.text.specs.Fields.{tab}
 use Rattle.text.proofs.MeasureLaws.{Measured, measured-none, measured-more, measured-all}
-use Rattle.result.specs.Records.{recordLine, lineOf, resultLineMost}
-use Rattle.result.proofs.RecordsLaws.{record-most}
+use Rattle.columns.specs.declared.Head.the-variants.{Indexed}
+use Rattle.columns.proofs.ColumnPut.{line-long}
+use Rattle.result.specs.Records.{recordLine, resultLineMost}
+use Rattle.result.proofs.RecordsLaws.{record-three}
 use Rattle.result.proofs.records.lines_length.Statement.{statement}
 use Rattle.result.proofs.records.lines_length.Tie as tie
 
 abbrev Inv-loop : tie.InvT-loop
-Inv-loop letter records sum₀ i₀ sum i = Measured (lineOf (recordLine letter) records) resultLineMost (length records) i sum
+Inv-loop columns records sum₀ i₀ i-end sum i = (letter : ℕ) → Measured (recordLine letter (columnsOf columns) records) resultLineMost (length records) i sum
 
 abbrev μ-loop : tie.MeasureT-loop
-μ-loop letter records sum₀ i₀ sum i = length records - i
+μ-loop columns records sum₀ i₀ i-end sum i = length records - i
 
 loop-holds : tie.Need-loop-holds Inv-loop μ-loop
-loop-holds c = measured-none _ _ _
+loop-holds c letter = measured-none _ _ _
+
+line-length-requires : tie.Need-line-length-requires Inv-loop μ-loop
+line-length-requires c κs = c .before .before .before .before .before .before .pre .0
 
 add-sum : tie.Need-add-sum Inv-loop μ-loop
 add-sum c =
-    let start = c .before .before .before .before .before .before in
-    let at-loop = c .before .before .before .before .before .loop in
-    let items = getD (start .args .records .now) (at-loop .i) [] in
-    let first = c .before .before .before .line-length-arg .given in
-    let second = c .before .before .line-length-arg2 .given in
-    let third = c .before .line-length-arg3 .given in
-    let added = simp (plain, first, second, third) at (c .line-length .ensures) in
-    omega (arith, start .pre, at-loop .inv .few, at-loop .inv .summed .high, record-most (start .args .letter) (at-loop .i) (atℤ items 0) (atℤ items 1) (atℤ items 2) (omega arith) first second third)
+    let s = c .before .before .before .before .before .before .before in
+    let head = c .before .before .before .before .before .loop in
+    omega (arith, head .inv 0 .few, head .inv 0 .summed .high, s .pre .1, c .line-length .ensures .1)
 
 loop-again : tie.Need-loop-again Inv-loop μ-loop
-loop-again c =
-    let start = c .before .before .before .before .before .before in
-    let at-loop = c .before .before .before .before .before .loop in
-    let items = getD (start .args .records .now) (at-loop .i) [] in
-    let first = c .before .before .before .line-length-arg .given in
-    let second = c .before .before .line-length-arg2 .given in
-    let third = c .before .line-length-arg3 .given in
-    let added = simp (plain, first, second, third) at (c .line-length .ensures) in
-    measured-more (at-loop .inv) _ (omega arith) added (record-most (start .args .letter) (at-loop .i) (atℤ items 0) (atℤ items 1) (atℤ items 2) (omega arith) first second third)
+loop-again c letter =
+    let s = c .before .before .before .before .before .before .before in
+    let head = c .before .before .before .before .before .loop in
+    let raw = getD (s .args .records .now) (head .i) [] in
+    let said = simp (plain, c .before .before .before .line-length-arg .given, c .before .before .line-length-arg2 .given, c .before .line-length-arg3 .given) at (c .line-length .ensures) in
+    let line = said .0 ∙ record-three (s .pre .0) (Indexed letter (head .i)) raw ∙ sym (line-long tab (Indexed letter (head .i)) (columnsOf (s .args .columns .now)) raw) in
+    measured-more (head .inv letter) _ (omega arith) line (omega (arith, line, said .1))
 
 returns : tie.Need-returns Inv-loop μ-loop
-returns c = (measured-all (c .before .loop .inv) (omega arith), omega (arith, c .before .before .pre, c .before .loop .inv .few, c .before .loop .inv .summed .high))
+returns c =
+    let head = c .before .loop in
+    (λ letter. measured-all (head .inv letter) (omega arith), omega (arith, c .before .before .before .pre .1, head .inv 0 .few, head .inv 0 .summed .high))
 
 pub lines-length-spec : {M : Type 1} → statement M
 lines-length-spec =
@@ -62,7 +64,7 @@ lines-length-spec =
     (λ c. omega arith)
     (λ c. omega arith)
     (λ c. search needs)
-    (λ c κs. search needs)
+    line-length-requires
     add-sum
     (λ c. omega arith)
     (λ c. omega arith)

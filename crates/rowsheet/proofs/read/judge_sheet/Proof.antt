@@ -7,7 +7,7 @@ use borrow.Author.Tests.{not-true, not-false}
 use Rattle.kinds.specs.Ranges.{headerFits}
 use Rattle.kinds.specs.Refusals.{refused}
 use Rattle.kinds.proofs.KindLaws.{header-in}
-use Rattle.block.specs.Block.{saidEnd}
+use Rattle.runs.specs.Block.{saidEnd}
 use Rattle.rowsheet.proofs.SheetLaws.{sheet-long, sheet-header, sheet-fault, sheet-more, sheet-good}
 use Rattle.rowsheet.proofs.read.judge_sheet.Statement.{statement}
 use Rattle.rowsheet.proofs.read.judge_sheet.Tie as tie

@@ -6,7 +6,7 @@ use mathlib.Core.List.{List}
 use native.Mathlib.Omega.{arith}
 use borrow.Author.Needs.{needs}
 use Rattle.text.specs.Line.{lineAt}
-use Rattle.block.specs.Block.{fault}
+use Rattle.runs.specs.Block.{fault}
 use Rattle.lines.specs.declared.BorderLine.{BorderLine}
 use Rattle.lines.specs.Lines.{borderLine}
 use Rattle.lines.specs.Said.{saidBorder}

@@ -1,6 +1,6 @@
 -- `runs::rows::rows_filled` meets its contract. The invariant: the first i rows are in their places, each with its stretch of the factors, and the lines left hold the others (`RowsFilled`);
 -- and the sheet's lines before its place are of earlier rows (`Walked`). The measure is the number of rows left. A turn is the laws `rows-filled-more` and `walked-more`.
-use mathlib.Core.Path.{_≡_, refl, sym, subst, _∙_}
+use mathlib.Core.Path.{_≡_, refl, sym, ap, subst, _∙_}
 use mathlib.Core.List.{List}
 use Prim.Native.Nat.{ℕ, _+_, _*_, _-_, _≤_}
 use native.Mathlib.Omega.{arith}
@@ -58,7 +58,9 @@ line-is : (c : tie.After-row-line Inv-loop μ-loop)
 line-is c =
     let l = in-loop c .before .loop in
     let a = entry (in-loop c) .args in
-    _∙_ {b = lineFor (a .sheet .now) (l .s) (a .text .now) (l .p) (l .i)} (c .row-line .ensures) (walked-line (a .zones) (length (a .c .now)) (a .sheet .now) (l .s) (l .i) (l .inv .walked) (a .text .now) (l .p))
+    let given = c .before .line-at in
+    _∙_ {b = lineFor (a .sheet .now) (l .s) (given .result .now) (l .i)} (c .row-line .ensures) (walked-line (a .zones) (length (a .c .now)) (a .sheet .now) (l .s) (l .i) (l .inv .walked) (given .result .now))
+    ∙ ap (λ (day : List ℕ). handedOn (pieces (a .sheet .now)) day (l .i)) (given .ensures)
 
 loop-holds : tie.Need-loop-holds Inv-loop μ-loop
 loop-holds c =
@@ -73,7 +75,7 @@ line-at-requires : tie.Need-line-at-requires Inv-loop μ-loop
 line-at-requires c κs = c .before .loop .inv .filled .passed .within
 
 row-line-requires : tie.Need-row-line-requires Inv-loop μ-loop
-row-line-requires c κs = let inv = c .before .before .loop .inv in (inv .walked .within, inv .filled .passed .within)
+row-line-requires c κs = c .before .before .loop .inv .walked .within
 
 mul-start : tie.Need-mul-start Inv-loop μ-loop
 mul-start c = omega (arith, room (in-loop c))

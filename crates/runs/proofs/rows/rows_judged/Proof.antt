@@ -6,8 +6,8 @@ use Prim.Native.Nat.{ℕ, _-_}
 use borrow.Author.Needs.{needs}
 use Rattle.kinds.specs.Refusals.{refused}
 use Rattle.text.specs.Line.{lineAt, form, range}
-use Rattle.block.specs.Block.{endOf}
-use Rattle.block.proofs.BlockLaws.{Passed, passed-start, passed-line, passed-more, passed-all}
+use Rattle.runs.specs.Block.{endOf}
+use Rattle.runs.proofs.BlockLaws.{Passed, passed-start, passed-line, passed-more, passed-all}
 use Rattle.lines.specs.SaidRow.{judgedOf, lineBy}
 use Rattle.lines.proofs.RowJudge.{said-holds, said-form, said-range}
 use Rattle.runs.proofs.StoredLaws.{end-drops}

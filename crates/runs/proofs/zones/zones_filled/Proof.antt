@@ -8,7 +8,7 @@ use borrow.Author.Needs.{needs}
 use mir.Syntax.{w64}
 use mir.Val.{toZ, ofZ}
 use Rattle.text.specs.Line.{lineAt}
-use Rattle.block.specs.Block.{heldBy}
+use Rattle.runs.specs.Block.{heldBy}
 use Rattle.lines.specs.Lines.{positionLine}
 use Rattle.lines.specs.Said.{saidZone}
 use Rattle.runs.proofs.StoredLaws.{after-within, Stored, stored-none, stored-all, stored-form, stored-range, stored-more, good-never}

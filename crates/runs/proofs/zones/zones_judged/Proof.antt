@@ -7,8 +7,8 @@ use native.Mathlib.Omega.{arith}
 use borrow.Author.Needs.{needs}
 use Rattle.kinds.specs.Refusals.{refused}
 use Rattle.text.specs.Line.{lineAt, form, range}
-use Rattle.block.specs.Block.{endOf}
-use Rattle.block.proofs.BlockLaws.{Passed, passed-start, passed-all, passed-line, passed-more}
+use Rattle.runs.specs.Block.{endOf}
+use Rattle.runs.proofs.BlockLaws.{Passed, passed-start, passed-all, passed-line, passed-more}
 use Rattle.lines.specs.Lines.{positionLine}
 use Rattle.lines.specs.Said.{saidZone}
 use Rattle.runs.proofs.StoredLaws.{end-drops, after-within}

@@ -1,0 +1,13 @@
+-- `kinds::Hubs::none` meets its contract.
+use borrow.Author.Needs.{needs}
+use mir.Facts.{toZ-ofZ}
+use Rattle.kinds.proofs.Hubs.none.Statement.{statement}
+use Rattle.kinds.proofs.Hubs.none.Tie as tie
+
+returns : tie.Need-returns
+returns c =
+    let f = c .before .before .fits in
+    simp (c .before .same .ensures, c .same2 .ensures, toZ-ofZ (f .sending), toZ-ofZ (f .receiving))
+
+pub none-spec : {M : Type 1} → statement M
+none-spec = tie.close (tie.spec (λ c κs. search needs) (λ c κs. search needs) returns)
