@@ -144,7 +144,7 @@ fn proved_bound(hour: &Hour, _: &mut Room) -> u64 {
     calls::bound(&hour.tables).rounds
 }
 
-/// .. where the borders stand in the order that costs most.
+/// The library's `bound` where the borders stand in the order that costs most.
 fn proved_bound_ascending(hour: &Hour, _: &mut Room) -> u64 {
     calls::bound(&hour.ascending).rounds
 }

@@ -79,7 +79,7 @@ pub fn blocks() -> Tables {
         }
     }
     let header = Header { zones: MOST_ZONES, borders: b.len(), rows: MOST_ROWS, share: NO_SHARE, intraday: NO_T };
-    // The more the others take of a row, the later it is tight. Such rows come first, so that the rows of a border tighten its bound one after the other.
+    // The more the others take of a row, the later it is tight. Such rows come first, so that the rows of a border tighten its cap one after the other.
     let little = |i: usize| std::array::from_fn(|k| if k < (MOST_ROWS - 1 - i) / own.len() { 2 } else { 1 });
     let f = (0..MOST_ROWS).flat_map(|i| factors(own[i % own.len()].0, &own[i % own.len()].1, little(i))).collect();
     let c = vec![[10_000_000, 0, -20_000_000, 0, 0, 0, 0]; MOST_ROWS];

@@ -102,26 +102,26 @@ pub fn letter_rounds(w: &mut Work) -> u64 {
     }
 }
 
-/// A border's bound once a row's share is known: divided only where a product shows that the bound is too high.
-fn tighten(p: u64, share: u64, bound: u64) -> u64 {
-    if bound < 1 << 44 && p < 1 << 20 {
-        return if bound * p <= share { bound } else { share / p };
+/// A border's cap once a row's share is known: divided only where a product shows that the cap is too high.
+fn tighten(p: u64, share: u64, cap: u64) -> u64 {
+    if cap < 1 << 44 && p < 1 << 20 {
+        return if cap * p <= share { cap } else { share / p };
     }
-    if p == 0 { bound } else { bound.min(share / p) }
+    if p == 0 { cap } else { cap.min(share / p) }
 }
 
-fn lower_bounds(row: &[u64], share: u64, rising: &[usize], bounds: &mut [u64]) {
+fn lower_caps(row: &[u64], share: u64, rising: &[usize], caps: &mut [u64]) {
     for b in rising {
-        bounds[*b] = tighten(row[*b], share, bounds[*b]);
+        caps[*b] = tighten(row[*b], share, caps[*b]);
     }
 }
 
-/// What a row loses by the exchanges `x`, and the most that one border would take of it by its bound.
-fn row_parts(row: &[u64], x: &[u64], bounds: &[u64], rising: &[usize]) -> (u64, u64) {
+/// What a row loses by the exchanges `x`, and the most that one border would take of it by its cap.
+fn row_loads(row: &[u64], x: &[u64], caps: &[u64], rising: &[usize]) -> (u64, u64) {
     let (mut loss, mut most) = (0, 0);
     for b in rising {
         loss += row[*b] * x[*b];
-        most = most.max(row[*b] * bounds[*b]);
+        most = most.max(row[*b] * caps[*b]);
     }
     (loss, most)
 }
@@ -129,7 +129,7 @@ fn row_parts(row: &[u64], x: &[u64], bounds: &[u64], rising: &[usize]) -> (u64, 
 /// Every row loses the sum of p times what was gained.
 fn settle(w: &mut Work, gained: &[u64], rising: &[usize], told: &mut impl Told) {
     for (margin, row) in w.margins.iter_mut().zip(w.p.chunks_exact(w.borders)) {
-        *margin -= row_parts(row, gained, gained, rising).0;
+        *margin -= row_loads(row, gained, gained, rising).0;
         told.step(Step::Sorted, rising.len());
     }
 }
@@ -160,7 +160,7 @@ pub fn new_rounds(w: &mut Work) -> u64 {
     told_rounds(w, &mut ())
 }
 
-/// Whether row `i` never tightens a bound below row `t`: it has no less margin, no larger n, and no larger p at a border that rises.
+/// Whether row `i` never tightens a cap below row `t`: it has no less margin, no larger n, and no larger p at a border that rises.
 fn yields(w: &Work, rising: &[usize], t: usize, i: usize, told: &mut impl Told) -> bool {
     told.step(Step::Compared, 0);
     let p = |row: usize, b: usize| w.p[row * w.borders + b];
@@ -179,22 +179,22 @@ fn block_bits(done: u64) -> u32 {
     }
 }
 
-/// The last raise bounds the next one, only borders that still rise are raised and looked at, a row divides only where a product shows that a bound is above
+/// The last raise caps the next one, only borders that still rise are raised and looked at, a row divides only where a product shows that a cap is above
 /// its share, rows far from that rest for a block of rounds, and of near rows those that yield to the first of them rest too.
 pub fn told_rounds(w: &mut Work, told: &mut impl Told) -> u64 {
-    let mut bounds = [0; BORDERS_MOST];
+    let mut caps = [0; BORDERS_MOST];
     let mut gained = [0; BORDERS_MOST];
     let mut rising: [usize; BORDERS_MOST] = std::array::from_fn(|b| b);
     let mut near = [0; ROWS_MOST];
-    let (bounds, gained) = (&mut bounds[..w.borders], &mut gained[..w.borders]);
+    let (caps, gained) = (&mut caps[..w.borders], &mut gained[..w.borders]);
     let (mut live, mut count, mut wait, mut done) = (w.borders, 0, 0, 0);
-    for (b, bound) in bounds.iter_mut().enumerate() {
+    for (b, cap) in caps.iter_mut().enumerate() {
         let first = w.p.chunks_exact(w.borders).position(|row| row[b] > 0);
-        *bound = first.map_or(0, |i| w.margins[i]);
+        *cap = first.map_or(0, |i| w.margins[i]);
     }
     for ((row, margin), n) in w.p.chunks_exact(w.borders).zip(&*w.margins).zip(w.ns) {
         let share = if *n == 0 { 0 } else { margin / n };
-        lower_bounds(row, share, &rising[..live], bounds);
+        lower_caps(row, share, &rising[..live], caps);
         told.step(Step::Begun, live);
     }
     loop {
@@ -204,13 +204,13 @@ pub fn told_rounds(w: &mut Work, told: &mut impl Told) -> u64 {
             let mut kept = 0;
             for j in 0..live {
                 rising[kept] = rising[j];
-                kept += usize::from(bounds[rising[j]] > 0);
+                kept += usize::from(caps[rising[j]] > 0);
             }
             live = kept;
             count = 0;
             let bits = block_bits(done);
             for (i, row) in w.p.chunks_exact(w.borders).enumerate() {
-                let (loss, most) = row_parts(row, bounds, bounds, &rising[..live]);
+                let (loss, most) = row_loads(row, caps, caps, &rising[..live]);
                 told.step(Step::Sorted, live);
                 if (w.margins[i] - most * w.ns[i]) >> bits >= loss {
                     continue;
@@ -224,22 +224,22 @@ pub fn told_rounds(w: &mut Work, told: &mut impl Told) -> u64 {
             }
             wait = 1 << bits;
         }
-        if rising[..live].iter().all(|b| bounds[*b] == 0) {
+        if rising[..live].iter().all(|b| caps[*b] == 0) {
             settle(w, gained, &rising[..live], told);
             return done;
         }
         done += 1;
         for b in &rising[..live] {
-            gained[*b] += bounds[*b];
-            w.x[*b] += bounds[*b];
+            gained[*b] += caps[*b];
+            w.x[*b] += caps[*b];
         }
         for i in &near[..count] {
             let row = &w.p[i * w.borders..(i + 1) * w.borders];
-            let (loss, most) = row_parts(row, gained, bounds, &rising[..live]);
+            let (loss, most) = row_loads(row, gained, caps, &rising[..live]);
             let margin = w.margins[*i] - loss;
             told.step(Step::Walked, live);
             if margin < most * w.ns[*i] {
-                lower_bounds(row, margin / w.ns[*i], &rising[..live], bounds);
+                lower_caps(row, margin / w.ns[*i], &rising[..live], caps);
                 told.step(Step::Lowered, live);
             }
         }

@@ -7,11 +7,11 @@
  * A word has 64 bits, the least byte first, as numbers lie in memory on x86-64.
  *
  * A request: its words (struct request), then the lent buffers.  The words are the
- * call, its header (zones, borders, rows, share, intraday) and its row (each 0 where
- * the call takes none), and the counts of items of z, t, b, c, f, p, marks, atc,
- * left, flows, claims, parts, text, sheet and out (0 where the call does not take
- * that buffer).  The buffers that the call takes follow in this order, each with
- * BEFORE items before the lent part and AFTER items after it.
+ * call, its header (zones, borders, rows, share, intraday) and its row or border
+ * (each 0 where the call takes none), and the counts of items of z, t, b, c, f, p,
+ * marks, atc, left, flows, claims, parts, ends, allowed, text, sheet and out (0 where
+ * the call does not take that buffer).  The buffers that the call takes follow in this
+ * order, each with BEFORE items before the lent part and AFTER items after it.
  *
  * An answer: the fields of the call's struct, a word each, then the same buffers
  * as the call left them, with what lies around them: whoever asks compares it.
@@ -35,11 +35,11 @@ enum {
     EXTRACT_MARKED, RESULT_TEXT_MARKED, ANSWER_MARKED,
     READ_CORRECTED, ANSWER_CORRECTED, REWRITE_CORRECTED,
     JUDGE_CLAIMS, PUBLISHED_TEXT, READ_ROWS, WRITE_ROWS,
-    BOUND, BOUND_MARKED, MARGINS, CALLS
+    BOUND, BOUND_MARKED, MARGINS, WHY, WHY_MARKED, CALLS
 };
 
 /* Buffers of numbers stand before buffers of bytes, so each is aligned. */
-enum { Z, T, B, C, F, P, MARKS, ATC, LEFT, FLOWS, CLAIMS, PARTS, TEXT, SHEET, OUT, BUFFERS };
+enum { Z, T, B, C, F, P, MARKS, ATC, LEFT, FLOWS, CLAIMS, PARTS, ENDS, ALLOWED, TEXT, SHEET, OUT, BUFFERS };
 
 typedef int64_t border_record[KERAVNOTH_B_ITEMS];
 typedef int64_t row_record[KERAVNOTH_C_ITEMS];
@@ -47,6 +47,8 @@ typedef int64_t atc_record[KERAVNOTH_ATC_ITEMS];
 typedef int64_t left_record[KERAVNOTH_LEFT_ITEMS];
 typedef int64_t claim_record[KERAVNOTH_CLAIM_ITEMS];
 typedef int64_t parts_record[KERAVNOTH_PARTS_ITEMS];
+typedef int64_t ends_record[KERAVNOTH_ENDS_ITEMS];
+typedef int64_t allowed_record[KERAVNOTH_HOLDS_ITEMS];
 
 static const size_t item_bytes[BUFFERS] = {
     [Z] = sizeof(int64_t),
@@ -61,6 +63,8 @@ static const size_t item_bytes[BUFFERS] = {
     [FLOWS] = sizeof(int64_t),
     [CLAIMS] = sizeof(claim_record),
     [PARTS] = sizeof(parts_record),
+    [ENDS] = sizeof(ends_record),
+    [ALLOWED] = sizeof(allowed_record),
     [TEXT] = 1,
     [SHEET] = 1,
     [OUT] = 1,
@@ -88,6 +92,8 @@ static const unsigned char takes[CALLS][BUFFERS] = {
     [BOUND] = {[Z] = 1, [T] = 1, [B] = 1, [C] = 1, [F] = 1},
     [BOUND_MARKED] = {[Z] = 1, [T] = 1, [B] = 1, [C] = 1, [F] = 1, [MARKS] = 1},
     [MARGINS] = {[Z] = 1, [T] = 1, [B] = 1, [C] = 1, [F] = 1, [PARTS] = 1},
+    [WHY] = {[Z] = 1, [T] = 1, [B] = 1, [C] = 1, [F] = 1, [P] = 1, [ENDS] = 1, [ALLOWED] = 1},
+    [WHY_MARKED] = {[Z] = 1, [T] = 1, [B] = 1, [C] = 1, [F] = 1, [P] = 1, [MARKS] = 1, [ENDS] = 1, [ALLOWED] = 1},
 };
 
 /* The most bytes that the buffers of a request may have, guards included. */
@@ -193,6 +199,31 @@ static size_t make(const struct request *r, unsigned char *const *at, uint64_t *
         answer[1] = said.place;
         answer[2] = said.byte;
         return 3;
+    }
+    if (r->call == WHY || r->call == WHY_MARKED) {
+        uint64_t *p = (uint64_t *)at[P];
+        ends_record *ends = (ends_record *)at[ENDS];
+        allowed_record *rows = (allowed_record *)at[ALLOWED];
+        size_t np = r->count[P], nends = r->count[ENDS], nrows = r->count[ALLOWED];
+        struct KeravnothExplained said;
+        if (r->call == WHY)
+            said = keravnoth_why(
+                HEADER(r),
+                z, nz, t, nt, (const border_record *)b, nb, (const row_record *)c, nc, f, nf,
+                r->row, p, np, ends, nends, rows, nrows);
+        else
+            said = keravnoth_why_marked(
+                HEADER(r),
+                z, nz, t, nt, (const border_record *)b, nb, (const row_record *)c, nc, f, nf,
+                marks, r->count[MARKS], r->row, p, np, ends, nends, rows, nrows);
+        answer[0] = said.number;
+        answer[1] = said.place;
+        answer[2] = said.byte;
+        answer[3] = said.rounds;
+        answer[4] = said.last;
+        answer[5] = said.named;
+        answer[6] = said.ended;
+        return 7;
     }
     if (r->call == CORNER_FLOWS) {
         struct KeravnothFlows said = keravnoth_corner_flows(

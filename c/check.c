@@ -14,6 +14,8 @@
  *   check threads TABLE     the same answers from four threads at once as from one
  *   check factors TABLE     the factors by border are those by zone, and a refusal
  *                           leaves their table whole
+ *   check why TABLE         the reasons of every border bear out the extraction and each
+ *                           other, and a refusal leaves every lent buffer whole
  *
  * c/build makes it and c/run runs it, on the code for x86-64.
  *
@@ -32,7 +34,7 @@
 #include <sys/wait.h>
 #include <unistd.h>
 
-enum { CALLS = 20, THREADS = 4, TURNS = 8, KIB = 1024, SPARE = 256 };
+enum { CALLS = 22, THREADS = 4, TURNS = 8, KIB = 1024, SPARE = 256 };
 
 /* Everything that the calls are lent, once a thread, and `said`, the header that reading
    answered.  No call changes what another is lent: reading gives the same table. */
@@ -48,6 +50,8 @@ struct room {
     uint64_t marks[KERAVNOTH_BORDERS_MOST];
     int64_t atc[KERAVNOTH_BORDERS_MOST][KERAVNOTH_ATC_ITEMS];
     int64_t left[KERAVNOTH_ROWS_MOST][KERAVNOTH_LEFT_ITEMS];
+    int64_t ends[KERAVNOTH_BORDERS_MOST][KERAVNOTH_ENDS_ITEMS];
+    int64_t holds[KERAVNOTH_ROWS_MOST][KERAVNOTH_HOLDS_ITEMS];
     int64_t flows[KERAVNOTH_CORNERS_MOST];
     int64_t parts[KERAVNOTH_ROWS_MOST][KERAVNOTH_PARTS_ITEMS];
     int64_t claims[KERAVNOTH_ROWS_MOST][KERAVNOTH_CLAIM_ITEMS];
@@ -191,6 +195,20 @@ static void write_rows(struct room *r)
         r->out, KERAVNOTH_WRITE_ROWS_MOST);
 }
 
+#define REASONS(r) \
+    (r)->p, KERAVNOTH_P_MOST, \
+    (r)->ends, KERAVNOTH_BORDERS_MOST, (r)->holds, KERAVNOTH_ROWS_MOST
+
+static void why(struct room *r)
+{
+    keravnoth_why(TABLE(r), 0, REASONS(r));
+}
+
+static void why_marked(struct room *r)
+{
+    keravnoth_why_marked(TABLE(r), r->marks, r->marked, 0, REASONS(r));
+}
+
 /* The calls of the header, in the order of its figures. */
 static const struct {
     const char *name;
@@ -217,6 +235,8 @@ static const struct {
     {"margins", margins, KERAVNOTH_MARGINS_STACK},
     {"read_rows", read_rows, KERAVNOTH_READ_ROWS_STACK},
     {"write_rows", write_rows, KERAVNOTH_WRITE_ROWS_STACK},
+    {"why", why, KERAVNOTH_WHY_STACK},
+    {"why_marked", why_marked, KERAVNOTH_WHY_MARKED_STACK},
 };
 
 static int load(struct room *r, const char *name)
@@ -672,6 +692,15 @@ static int check_null(const char *name)
     same &= SAME(
         keravnoth_write_rows(r->table, NULL, 0, NULL, 0, NULL, 0),
         keravnoth_write_rows(r->table, C(r), 0, r->f, 0, r->out, 0));
+    same &= SAME(
+        keravnoth_why(r->table, NONE, 0, NULL, 0, NULL, 0, NULL, 0),
+        keravnoth_why(r->table, SOME, 0, r->p, 0, r->ends, 0, r->holds, 0));
+    same &= SAME(
+        keravnoth_why(TABLE(r), 0, r->p, KERAVNOTH_P_MOST, NULL, 0, NULL, 0),
+        keravnoth_why(TABLE(r), 0, r->p, KERAVNOTH_P_MOST, r->ends, 0, r->holds, 0));
+    same &= SAME(
+        keravnoth_why_marked(TABLE(r), NULL, 0, 0, r->p, KERAVNOTH_P_MOST, NULL, 0, NULL, 0),
+        keravnoth_why_marked(TABLE(r), r->marks, 0, 0, r->p, KERAVNOTH_P_MOST, r->ends, 0, r->holds, 0));
     puts(same ? "NULL with count 0 answers as count 0" : "NULL with count 0 answers otherwise");
     return same ? 0 : 1;
 }
@@ -716,6 +745,145 @@ static int check_factors(const char *name)
             same &= r->p[row * borders + border] == by_zone(r, row, border);
     same &= whole(r, needed, PAINT);
     puts(same ? "factors by border are those by zone" : "factors by border are not those by zone");
+    return same ? 0 : 1;
+}
+
+/* What the reasons are written to: painted, and whether it is still so from an item on. */
+enum { PAINTED = 0x5a };
+
+static void paint(struct room *r)
+{
+    memset(r->p, PAINTED, sizeof r->p);
+    memset(r->ends, PAINTED, sizeof r->ends);
+    memset(r->holds, PAINTED, sizeof r->holds);
+}
+
+static int painted(const void *from, const void *end)
+{
+    for (const unsigned char *byte = from; byte < (const unsigned char *)end; byte++)
+        if (*byte != PAINTED)
+            return 0;
+    return 1;
+}
+
+static int painted_from(const struct room *r, size_t item, size_t border, size_t row)
+{
+    return painted(r->p + item, r->p + KERAVNOTH_P_MOST)
+        && painted(r->ends + border, r->ends + KERAVNOTH_BORDERS_MOST)
+        && painted(r->holds + row, r->holds + KERAVNOTH_ROWS_MOST);
+}
+
+/* A refusal: the fields after byte are 0, and nothing was written. */
+static int refused(const struct room *r, struct KeravnothExplained said, uint32_t number, size_t place)
+{
+    return said.number == number && said.place == place && said.byte == 0
+        && said.rounds == 0 && said.last == 0 && said.named == 0 && said.ended == 0
+        && painted_from(r, 0, 0, 0);
+}
+
+static int rises(int all, size_t border)
+{
+    return all || border % 2 == 0;
+}
+
+/* What a row's equal share of its margin left would still allow a border; what was asked
+   of `all` is whether every border may rise, or every second, as `mark` has it. */
+static int64_t allows(const struct room *r, int all, size_t row, size_t border)
+{
+    const uint64_t *p = r->p + row * r->table.borders;
+    int64_t n = r->holds[row][KERAVNOTH_HOLDS_N], margin = r->left[row][KERAVNOTH_LEFT_MARGIN];
+    if (margin == KERAVNOTH_NO_MARGIN || !rises(all, border) || p[border] == 0 || n == 0)
+        return KERAVNOTH_NO_LIMIT;
+    return margin / n / (int64_t)p[border];
+}
+
+static int64_t sharing(const struct room *r, int all, size_t row)
+{
+    int64_t n = 0;
+    for (size_t border = 0; border < r->table.borders; border++)
+        n += rises(all, border) && r->p[row * r->table.borders + border] > 0;
+    return n;
+}
+
+/* Where a border started, in kW. */
+static int64_t started(const struct room *r, size_t border)
+{
+    if (r->table.intraday == KERAVNOTH_INTRADAY)
+        return 0;
+    return r->b[border][KERAVNOTH_B_LTA] * KERAVNOTH_KW_PER_MW;
+}
+
+/* The reasons of one border beside what the extraction left in p, atc and left. */
+static int borne_by_extraction(struct room *r, int all, uint64_t border, uint64_t rounds)
+{
+    static uint64_t extracted[KERAVNOTH_P_MOST];
+    size_t borders = r->table.borders, rows = r->table.rows;
+    memcpy(extracted, r->p, sizeof extracted);
+    paint(r);
+    struct KeravnothExplained said = all
+        ? keravnoth_why(TABLE(r), border, REASONS(r))
+        : keravnoth_why_marked(TABLE(r), r->marks, r->marked, border, REASONS(r));
+    int same = said.number == KERAVNOTH_ACCEPTED && said.place == 0 && said.byte == 0
+        && said.rounds == rounds
+        && said.last == (uint64_t)r->atc[border][KERAVNOTH_ATC_LAST_ROUND]
+        && said.named == r->atc[border][KERAVNOTH_ATC_STOP_ROW];
+    same &= memcmp(extracted, r->p, rows * borders * sizeof *r->p) == 0;
+    for (size_t other = 0; other < borders; other++) {
+        const int64_t *end = r->ends[other];
+        same &= end[KERAVNOTH_ENDS_START] == started(r, other);
+        same &= end[KERAVNOTH_ENDS_END] / KERAVNOTH_KW_PER_MW == r->atc[other][KERAVNOTH_ATC_MW];
+        same &= rises(all, other) || end[KERAVNOTH_ENDS_END] == end[KERAVNOTH_ENDS_START];
+    }
+    for (size_t row = 0; row < rows; row++) {
+        same &= r->holds[row][KERAVNOTH_HOLDS_N] == sharing(r, all, row);
+        same &= r->holds[row][KERAVNOTH_HOLDS_MARGIN] == r->left[row][KERAVNOTH_LEFT_MARGIN];
+        same &= r->holds[row][KERAVNOTH_HOLDS_ALLOWS] == allows(r, all, row, border);
+    }
+    if (rises(all, border))
+        same &= said.ended >= 0 && said.ended < (int64_t)rows
+            && r->holds[said.ended][KERAVNOTH_HOLDS_ALLOWS] == KERAVNOTH_HOLDS
+            && r->holds[said.named][KERAVNOTH_HOLDS_ALLOWS] == KERAVNOTH_HOLDS;
+    else
+        same &= said.last == 0 && said.named == KERAVNOTH_NO_ROW && said.ended == KERAVNOTH_NO_ROW;
+    return same && painted_from(r, rows * borders, borders, rows);
+}
+
+/* Refusals that are why's own, room that is one item short, and which comes first. */
+static int refusals_of_why(struct room *r)
+{
+    size_t borders = r->table.borders, rows = r->table.rows, cells = rows * borders;
+    paint(r);
+    return refused(r, keravnoth_why(TABLE(r), borders, REASONS(r)), KERAVNOTH_NO_SUCH_BORDER, borders)
+        && refused(r, keravnoth_why(TABLE(r), UINT64_MAX, REASONS(r)), KERAVNOTH_NO_SUCH_BORDER, borders)
+        && refused(r, keravnoth_why_marked(TABLE(r), r->marks, r->marked, borders, REASONS(r)), KERAVNOTH_NO_SUCH_BORDER, borders)
+        && refused(r, keravnoth_why_marked(TABLE(r), r->marks, 0, borders, REASONS(r)), KERAVNOTH_BAD_MARK, 0)
+        && refused(r, keravnoth_why(TABLE(r), borders, r->p, cells - 1, r->ends, 0, r->holds, 0), KERAVNOTH_BUFFER_TOO_SHORT, cells)
+        && refused(r, keravnoth_why(TABLE(r), borders, r->p, cells, r->ends, 0, r->holds, 0), KERAVNOTH_NO_SUCH_BORDER, borders)
+        && refused(r, keravnoth_why(TABLE(r), 0, r->p, cells, r->ends, borders - 1, r->holds, 0), KERAVNOTH_BUFFER_TOO_SHORT, borders)
+        && refused(r, keravnoth_why(TABLE(r), 0, r->p, cells, r->ends, borders, r->holds, rows - 1), KERAVNOTH_BUFFER_TOO_SHORT, rows);
+}
+
+static int check_why(const char *name)
+{
+    struct room *r = &rooms[0];
+    if (load(r, name) != 0)
+        return 2;
+    read_table(r);
+    mark(r);
+    int same = r->table.zones != 0 && refusals_of_why(r);
+    for (int all = 0; all < 2 && same; all++) {
+        struct KeravnothExtracted said = keravnoth_extract_marked(
+            TABLE(r), r->p, KERAVNOTH_P_MOST, r->marks, r->marked,
+            r->atc, KERAVNOTH_BORDERS_MOST, r->left, KERAVNOTH_ROWS_MOST);
+        if (all)
+            said = keravnoth_extract(
+                TABLE(r), r->p, KERAVNOTH_P_MOST,
+                r->atc, KERAVNOTH_BORDERS_MOST, r->left, KERAVNOTH_ROWS_MOST);
+        same = said.number == KERAVNOTH_ACCEPTED;
+        for (uint64_t border = 0; border < r->table.borders && same; border++)
+            same = borne_by_extraction(r, all, border, said.rounds);
+    }
+    puts(same ? "reasons bear out the extraction" : "reasons do not bear out the extraction");
     return same ? 0 : 1;
 }
 
@@ -767,6 +935,8 @@ int main(int argc, char **argv)
         return check_threads(argv[2]);
     if (argc == 3 && strcmp(argv[1], "factors") == 0)
         return check_factors(argv[2]);
-    fprintf(stderr, "usage: %s stack TABLE.. | figures TABLE.. | claims TABLE | null TABLE | threads TABLE | factors TABLE\n", argv[0]);
+    if (argc == 3 && strcmp(argv[1], "why") == 0)
+        return check_why(argv[2]);
+    fprintf(stderr, "usage: %s stack TABLE.. | figures TABLE.. | claims TABLE | null TABLE | threads TABLE | factors TABLE | why TABLE\n", argv[0]);
     return 2;
 }

@@ -123,7 +123,7 @@ C 4 500000 50000 -30000 0 7000 5000 0 500 13000 23000
 C 5 100000 10000 5000 0 7000 0 0 3000 0 0
 ";
 
-/// .. and the claims on rows 3 and 4.
+/// Claims on rows 3 and 4 of the hour for claims.
 const CLAIMS_LIST: &str = "Q 3 1 0 1 1 1
 Q 4 2 0 1 2 3
 ";
@@ -362,7 +362,7 @@ fn busy_of(seed: u64) -> Tables {
     plausible(seed, Kind { header: FULL, one_way: true, reach: 5, lta_step: 50, cable: false, steepest, tight })
 }
 
-/// .. of 64 borders, a cable among them.
+/// A one-way hour of a seed, of 64 borders, a cable among them.
 fn busy_64_of(seed: u64) -> Tables {
     let mut d = Dice::new(!seed);
     let (steepest, tight) = (d.of(&[8_000, 15_000, 25_000]), d.of(&[0, 5, 10, 20]));

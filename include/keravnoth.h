@@ -38,7 +38,7 @@
  *            as a C line without its letter, fields parted by semicolons, powers in
  *            MW with exactly three decimals, factors with exactly five, index and R
  *            as in a C line; all rows of the header, in index order
- *   p        one uint64_t a row and border, filled in by the extraction: the
+ *   p        one uint64_t a row and border, filled in by the extraction and by why: the
  *            factor that the border has on the row, from factor - to factor (of a
  *            border with hubs from factor - sending + receiving - to factor), and 0
  *            where that is negative; row i's start at item i * borders, border
@@ -59,6 +59,15 @@
  *   left     one record a row: state (0 kept, 1 under 5%, 2 parallel to a row
  *            that is kept), RAM in grains, margin left in grains or -1 where the
  *            state is not 0
+ *   ends     (out of keravnoth_why) one record a border: where it started and where it
+ *            ended, in kW
+ *   holds    (out of keravnoth_why) one record a row: n (how many of the borders that
+ *            may rise have p > 0 on it), its margin left in grains or -1 where its
+ *            state is not 0, and what its equal share of that margin would still allow
+ *            the asked border in one round, in kW: margin left / n / p, each quotient
+ *            cut to a whole number.  This is 0 where the row holds the border, and -1
+ *            where the row does not limit it: p is 0, the row's state is not 0, or the
+ *            border is not marked.  n is 0 where the state is not 0
  *   parts    (out of keravnoth_margins) one record a row: state, n (how many borders
  *            have p > 0 on it, all borders counted), and in grains F0core, Fuaf, Base,
  *            AMR, S, LTA margin, CVA, IVA, RAM and the starting margin: RAM - S, or in
@@ -97,12 +106,14 @@
  *      or a cited one is not kept (state 0), a row is claimed
  *      again, cited twice, or cited and claimed; D, a multiplier or
  *      the number of pairs is out of range                          place: its number
- *   12 .. is not borne out: multiplier * factor summed over its
- *      pairs less D * factor of its row is not the same in each
- *      zone, or multiplier * RAM summed is over D * RAM             place: its number
+ *   12 the first faulty claim is not borne out: multiplier * factor
+ *      summed over its pairs less D * factor of its row is not the
+ *      same in each zone, or multiplier * RAM summed is over
+ *      D * RAM                                                      place: its number
  *   13 no border is marked; or a mark is no border, or was given
  *      before                                                       place: 0; its position
  *                                                                   in marks, from 1
+ *   14 no such border (why only)                                    place: border count
  *   A lent record has the line that it would have in the text: z i is line
  *   2 + i, t i is 2 + zones + i, b i is 2 + zones + i, or where t is there
  *   2 + 2 * zones + i, c i (its factors too) comes borders lines after b i; the
@@ -121,17 +132,17 @@
  *   sheet 1 of either text, 2 to 4 of the table's, 10, 8; 5, 6 and 7 are of the
  *   merged table.  The calls on lent tables: the header (3), lengths (8) in the order
  *   z, t, b, c, f, p, records (3), 4; the extraction, the result text and the bound
- *   go on to 13, 5, 6, 7, the corner sheet to 9, the claims to 11 and 12, claim by
- *   claim (1 of their text goes first); last comes room for results (8), atc before
- *   left.  The corner sheet, the claims and the margins do not judge 5, 6, 7: a table
- *   that the extraction refuses has them.
+ *   go on to 13, 5, 6, 7, why to 13, 14, 5, 6, 7, the corner sheet to 9, the claims to
+ *   11 and 12, claim by claim (1 of their text goes first); last comes room for results
+ *   (8), atc before left, ends before holds.  The corner sheet, the claims and the
+ *   margins do not judge 5, 6, 7: a table that the extraction refuses has them.
  *
  * LENT MEMORY
  *   Each pointer goes with the count of its items (records for b, c, claims, atc,
- *   left and parts; numbers for z, t, f, p, marks and flows; bytes for text, sheet,
- *   list and for out that takes text) and points to that many; it is aligned for its
- *   type.  What is written to overlaps nothing else that is lent.  Nothing is kept
- *   after the call, nothing is allocated.
+ *   left, ends, holds and parts; numbers for z, t, f, p, marks and flows; bytes for
+ *   text, sheet, list and for out that takes text) and points to that many; it is
+ *   aligned for its type.  What is written to overlaps nothing else that is lent.
+ *   Nothing is kept after the call, nothing is allocated.
  *   A pointer is not NULL, also where its count is 0: a count of 0 is allowed
  *   everywhere, with any pointer to an object of the type.  (NULL with count 0
  *   was tried in every call and answers as a count of 0 does; the proof does not
@@ -174,7 +185,7 @@
 extern "C" {
 #endif
 
-#define KERAVNOTH_VERSION 14
+#define KERAVNOTH_VERSION 15
 
 /* The largest table, in items. */
 enum {
@@ -215,7 +226,8 @@ enum {
     KERAVNOTH_WRONG_CORRECTION = 10,
     KERAVNOTH_MALFORMED_CLAIM = 11,
     KERAVNOTH_NOT_BORNE_OUT = 12,
-    KERAVNOTH_BAD_MARK = 13
+    KERAVNOTH_BAD_MARK = 13,
+    KERAVNOTH_NO_SUCH_BORDER = 14
 };
 
 /* The fields of a record of b, and how many there are; both hubs where the border has
@@ -230,7 +242,7 @@ enum {
     KERAVNOTH_NO_HUB = -1
 };
 
-/* .. of c; R where "-" is written. */
+/* The fields of a record of c, and how many there are; R where "-" is written. */
 enum {
     KERAVNOTH_C_FMAX,
     KERAVNOTH_C_FRM,
@@ -243,7 +255,8 @@ enum {
     KERAVNOTH_R_DASH = -1
 };
 
-/* .. of a claim: these, and two for each pair. */
+/* The fields of a claim: these, and two for each pair; the most pairs, and how many
+   fields a record has. */
 enum {
     KERAVNOTH_CLAIM_ROW,
     KERAVNOTH_CLAIM_D,
@@ -253,7 +266,8 @@ enum {
     KERAVNOTH_CLAIM_ITEMS = 35
 };
 
-/* .. of atc; the stopping row of a border that is not marked, as every other has one. */
+/* The fields of a record of atc, and how many there are; the stopping row of a border
+   that is not marked (every other border has one). */
 enum {
     KERAVNOTH_ATC_MW,
     KERAVNOTH_ATC_LAST_ROUND,
@@ -262,7 +276,8 @@ enum {
     KERAVNOTH_NO_ROW = -1
 };
 
-/* .. of left; the states; the margin left where the state is not 0. */
+/* The fields of a record of left, and how many there are; the states; the margin left
+   where the state is not 0. */
 enum {
     KERAVNOTH_LEFT_STATE,
     KERAVNOTH_LEFT_RAM,
@@ -274,7 +289,26 @@ enum {
     KERAVNOTH_NO_MARGIN = -1
 };
 
-/* .. of parts. */
+/* The fields of a record of ends, and how many there are. */
+enum {
+    KERAVNOTH_ENDS_START,
+    KERAVNOTH_ENDS_END,
+    KERAVNOTH_ENDS_ITEMS
+};
+
+/* The fields of a record of holds, and how many there are.  The margin left where the
+   state is not 0 is KERAVNOTH_NO_MARGIN.  KERAVNOTH_HOLDS is what a row that holds the
+   border allows it; KERAVNOTH_NO_LIMIT stands for a row that does not limit it. */
+enum {
+    KERAVNOTH_HOLDS_N,
+    KERAVNOTH_HOLDS_MARGIN,
+    KERAVNOTH_HOLDS_ALLOWS,
+    KERAVNOTH_HOLDS_ITEMS,
+    KERAVNOTH_HOLDS = 0,
+    KERAVNOTH_NO_LIMIT = -1
+};
+
+/* The fields of a record of parts, and how many there are. */
 enum {
     KERAVNOTH_PARTS_STATE,
     KERAVNOTH_PARTS_N,
@@ -299,17 +333,17 @@ enum {
 
 /* The stack that each call needs, in bytes, and what lazy binding adds: see STACK above. */
 enum {
-    KERAVNOTH_READ_STACK = 5120,
-    KERAVNOTH_READ_CORRECTED_STACK = 5120,
+    KERAVNOTH_READ_STACK = 43008,
+    KERAVNOTH_READ_CORRECTED_STACK = 43008,
     KERAVNOTH_WRITE_STACK = 2048,
-    KERAVNOTH_REWRITE_CORRECTED_STACK = 45056,
-    KERAVNOTH_EXTRACT_STACK = 16384,
-    KERAVNOTH_EXTRACT_MARKED_STACK = 16384,
-    KERAVNOTH_RESULT_TEXT_STACK = 124928,
-    KERAVNOTH_RESULT_TEXT_MARKED_STACK = 124928,
-    KERAVNOTH_ANSWER_STACK = 164864,
-    KERAVNOTH_ANSWER_MARKED_STACK = 164864,
-    KERAVNOTH_ANSWER_CORRECTED_STACK = 164864,
+    KERAVNOTH_REWRITE_CORRECTED_STACK = 43008,
+    KERAVNOTH_EXTRACT_STACK = 17408,
+    KERAVNOTH_EXTRACT_MARKED_STACK = 17408,
+    KERAVNOTH_RESULT_TEXT_STACK = 125952,
+    KERAVNOTH_RESULT_TEXT_MARKED_STACK = 125952,
+    KERAVNOTH_ANSWER_STACK = 165888,
+    KERAVNOTH_ANSWER_MARKED_STACK = 165888,
+    KERAVNOTH_ANSWER_CORRECTED_STACK = 165888,
     KERAVNOTH_CORNER_FLOWS_STACK = 2048,
     KERAVNOTH_CORNER_TEXT_STACK = 34816,
     KERAVNOTH_CLAIMS_STACK = 7168,
@@ -317,8 +351,10 @@ enum {
     KERAVNOTH_BOUND_STACK = 113664,
     KERAVNOTH_BOUND_MARKED_STACK = 113664,
     KERAVNOTH_MARGINS_STACK = 6144,
-    KERAVNOTH_READ_ROWS_STACK = 2048,
+    KERAVNOTH_READ_ROWS_STACK = 38912,
     KERAVNOTH_WRITE_ROWS_STACK = 1024,
+    KERAVNOTH_WHY_STACK = 19456,
+    KERAVNOTH_WHY_MARKED_STACK = 19456,
     KERAVNOTH_BINDING_STACK = 4096
 };
 
@@ -394,6 +430,23 @@ struct KeravnothBounded {
     uint64_t sharp;
 };
 
+/* Why a border got no more.  rounds: how many rounds raised something.  last: the last
+   of them that raised the border, 0 if none did.  named: the row that the result names
+   for it, its stopping row: the first of state 0 with p > 0 whose equal share of its
+   margin left is under one kW for it.  ended: the row that ended its rise: the first such
+   row by the margins that were left after round last, or at the start where last is 0.
+   It is often another row than named.  A border that is not marked has 0 in last, and
+   KERAVNOTH_NO_ROW in named and ended; every other border has both rows. */
+struct KeravnothExplained {
+    uint32_t number;
+    size_t place;
+    size_t byte;
+    uint64_t rounds;
+    uint64_t last;
+    int64_t named;
+    int64_t ended;
+};
+
 /* Reads a table's text into z, t, b, c and f.  Refusals 1, 2, 3, 4, 8. */
 struct KeravnothRead keravnoth_read(
     const uint8_t *text, size_t n,
@@ -403,7 +456,8 @@ struct KeravnothRead keravnoth_read(
     int64_t (*c)[KERAVNOTH_C_ITEMS], size_t nc,
     int64_t *f, size_t nf);
 
-/* .. as a sheet corrects it.  Refusals 1, 2, 3, 4, 8, 10. */
+/* Reads a table's text, as a sheet corrects it, into z, t, b, c and f.  Refusals 1, 2,
+   3, 4, 8, 10. */
 struct KeravnothRead keravnoth_read_corrected(
     const uint8_t *text, size_t n,
     const uint8_t *sheet, size_t nsheet,
@@ -444,7 +498,8 @@ struct KeravnothExtracted keravnoth_extract(
     int64_t (*atc)[KERAVNOTH_ATC_ITEMS], size_t natc,
     int64_t (*left)[KERAVNOTH_LEFT_ITEMS], size_t nleft);
 
-/* The same where only the marked borders may rise.  Refusals 3 to 8, 13. */
+/* Capacities, margins and factors by border where only the marked borders may rise.
+   Refusals 3 to 8, 13. */
 struct KeravnothExtracted keravnoth_extract_marked(
     struct KeravnothHeader header,
     const int64_t *z, size_t nz,
@@ -468,7 +523,8 @@ struct KeravnothWritten keravnoth_result_text(
     const int64_t *f, size_t nf,
     uint8_t *out, size_t nout);
 
-/* .. where only the marked borders may rise.  Refusals 3 to 8, 13. */
+/* The extraction as text, with the same lines, where only the marked borders may rise.
+   Refusals 3 to 8, 13. */
 struct KeravnothWritten keravnoth_result_text_marked(
     struct KeravnothHeader header,
     const int64_t *z, size_t nz,
@@ -486,14 +542,16 @@ struct KeravnothWritten keravnoth_answer(
     const uint8_t *text, size_t n,
     uint8_t *out, size_t nout);
 
-/* .. where only the marked borders may rise.  Refused as keravnoth_answer is.
+/* From text to text, where only the marked borders may rise.  Refused as
+   keravnoth_answer is.
    Number 0 may stand beside an E line in out: its first byte tells, A or E. */
 struct KeravnothWritten keravnoth_answer_marked(
     const uint8_t *text, size_t n,
     const uint64_t *marks, size_t nmarks,
     uint8_t *out, size_t nout);
 
-/* .. of the table as a sheet corrects it.  Refused as keravnoth_answer is.
+/* From text to text, of the table as a sheet corrects it.  Refused as
+   keravnoth_answer is.
    Number 0 may stand beside an E line in out: its first byte tells, A or E. */
 struct KeravnothWritten keravnoth_answer_corrected(
     const uint8_t *text, size_t n,
@@ -512,8 +570,9 @@ struct KeravnothFlows keravnoth_corner_flows(
     size_t row,
     int64_t *out, size_t nout);
 
-/* The same as text: a K line (row, corner, flow) for each corner.  It may pass
-   65,536 bytes: that limit is for text that is read.  Refusals 3, 4, 8, 9. */
+/* The flows of all corners of one row as text: a K line (row, corner, flow) for each
+   corner.  It may have more than 65,536 bytes: that limit is for text that is read.
+   Refusals 3, 4, 8, 9. */
 struct KeravnothWritten keravnoth_corner_text(
     struct KeravnothHeader header,
     const int64_t *z, size_t nz,
@@ -559,7 +618,8 @@ struct KeravnothBounded keravnoth_bound(
     const int64_t (*c)[KERAVNOTH_C_ITEMS], size_t nc,
     const int64_t *f, size_t nf);
 
-/* .. where only the marked borders may rise.  Refusals 3 to 8, 13. */
+/* How many rounds the extraction can take at most where only the marked borders may
+   rise.  Refusals 3 to 8, 13. */
 struct KeravnothBounded keravnoth_bound_marked(
     struct KeravnothHeader header,
     const int64_t *z, size_t nz,
@@ -596,6 +656,36 @@ struct KeravnothWritten keravnoth_write_rows(
     const int64_t (*c)[KERAVNOTH_C_ITEMS], size_t nc,
     const int64_t *f, size_t nf,
     uint8_t *out, size_t nout);
+
+/* Why the extraction gave a border no more: its reasons, of each border where it started
+   and ended, of each row what it would still allow the border, and p as the extraction
+   leaves it.  border may be any number.  Refusals 3 to 8, 14. */
+struct KeravnothExplained keravnoth_why(
+    struct KeravnothHeader header,
+    const int64_t *z, size_t nz,
+    const int64_t *t, size_t nt,
+    const int64_t (*b)[KERAVNOTH_B_ITEMS], size_t nb,
+    const int64_t (*c)[KERAVNOTH_C_ITEMS], size_t nc,
+    const int64_t *f, size_t nf,
+    uint64_t border,
+    uint64_t *p, size_t np,
+    int64_t (*ends)[KERAVNOTH_ENDS_ITEMS], size_t nends,
+    int64_t (*holds)[KERAVNOTH_HOLDS_ITEMS], size_t nholds);
+
+/* Why a border got no more, where only the marked borders may rise.  Refusals 3 to 8,
+   13, 14. */
+struct KeravnothExplained keravnoth_why_marked(
+    struct KeravnothHeader header,
+    const int64_t *z, size_t nz,
+    const int64_t *t, size_t nt,
+    const int64_t (*b)[KERAVNOTH_B_ITEMS], size_t nb,
+    const int64_t (*c)[KERAVNOTH_C_ITEMS], size_t nc,
+    const int64_t *f, size_t nf,
+    const uint64_t *marks, size_t nmarks,
+    uint64_t border,
+    uint64_t *p, size_t np,
+    int64_t (*ends)[KERAVNOTH_ENDS_ITEMS], size_t nends,
+    int64_t (*holds)[KERAVNOTH_HOLDS_ITEMS], size_t nholds);
 
 #ifdef __cplusplus
 }

@@ -65,6 +65,18 @@ pub struct Bounded {
     pub sharp: u64,
 }
 
+/// What the call says that explains a border; a row is -1 where there is none.
+#[derive(Clone, Copy, Debug, PartialEq, Eq)]
+pub struct Explained {
+    pub number: u64,
+    pub place: usize,
+    pub byte: usize,
+    pub rounds: u64,
+    pub last: u64,
+    pub named: i64,
+    pub ended: i64,
+}
+
 /// What a call says that has nothing to say but a refusal.
 #[derive(Clone, Copy, Debug, PartialEq, Eq)]
 pub struct Judged {
@@ -146,9 +158,9 @@ impl Bridge {
         }
     }
 
-    /// The row that the call is about.
-    fn ask_for(&mut self, row: usize) {
-        wire::set_word(&mut self.bytes, wire::ROW, row as u64);
+    /// The row or the border that the call is about.
+    fn ask_for(&mut self, row: u64) {
+        wire::set_word(&mut self.bytes, wire::ROW, row);
     }
 
     fn lend<T: Item>(&mut self, buffer: usize, block: &[T]) {
@@ -234,7 +246,7 @@ impl Bridge {
         out: &mut [u8],
     ) -> Result<Written, Ended> {
         self.begin(call, l.header);
-        self.ask_for(row);
+        self.ask_for(row as u64);
         self.lend_tables(&l);
         self.lend(wire::OUT, out);
         let [number, place, byte, bytes] = self.ask()?;
@@ -322,9 +334,41 @@ impl Bridge {
         Ok(Judged { number, place: place as usize, byte: byte as usize })
     }
 
+    /// With a list of marks: the call that takes one.
+    pub fn why(
+        &mut self,
+        mut l: Lent,
+        marks: Option<&mut [u64]>,
+        border: u64,
+        p: &mut [u64],
+        ends: &mut [[i64; 2]],
+        rows: &mut [[i64; 3]],
+    ) -> Result<Explained, Ended> {
+        let call = if marks.is_some() { wire::WHY_MARKED } else { wire::WHY };
+        self.begin(call, l.header);
+        self.ask_for(border);
+        self.lend_tables(&l);
+        self.lend(wire::P, p);
+        if let Some(marks) = &marks {
+            self.lend(wire::MARKS, marks);
+        }
+        self.lend(wire::ENDS, ends);
+        self.lend(wire::ALLOWED, rows);
+        let [number, place, byte, rounds, last, named, ended] = self.ask()?;
+        self.tables_back(&mut l);
+        self.back(p);
+        if let Some(marks) = marks {
+            self.back(marks);
+        }
+        self.back(ends);
+        self.back(rows);
+        let [place, byte] = [place, byte].map(|field| field as usize);
+        Ok(Explained { number, place, byte, rounds, last, named: named as i64, ended: ended as i64 })
+    }
+
     pub fn corner_flows(&mut self, mut l: Lent, row: usize, flows: &mut [i64]) -> Result<Flows, Ended> {
         self.begin(wire::CORNER_FLOWS, l.header);
-        self.ask_for(row);
+        self.ask_for(row as u64);
         self.lend_tables(&l);
         self.lend(wire::FLOWS, flows);
         let [number, place, byte, corners] = self.ask()?;

@@ -183,7 +183,7 @@ fn judge_length(list: &[u8]) -> Result<(), Refusal> {
     Ok(())
 }
 
-/// The same from lent tables and the text of the claims; room is in bytes.
+/// The published list from lent tables and the text of the claims; room is in bytes.
 pub fn published_text(lent: Lent, list: &[u8], room: usize) -> Result<Vec<u8>, Refusal> {
     judge_length(list)?;
     let tables = judge(lent)?;

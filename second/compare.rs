@@ -49,6 +49,8 @@ mod sheets;
 mod tables;
 #[path = "ways.rs"]
 mod ways;
+#[path = "why_cases.rs"]
+mod why_cases;
 
 use calls::wire::HEADER_WORDS;
 use calls::{Bridge, Ended, Extracted, Flows, Read, Written};
@@ -72,26 +74,30 @@ const SHEET_EVERY: u64 = 30;
 const HUBS_EVERY: u64 = 8;
 const SHARES_EVERY: u64 = 8;
 const T_EVERY: u64 = 8;
-/// .. a bad list of marks.
+/// One table in so many has, beside it, a bad list of marks.
 const MARKS_EVERY: u64 = 8;
-/// .. a bad correction sheet.
+/// One table in so many has, beside it, a bad correction sheet.
 const BAD_SHEETS_EVERY: u64 = 8;
-/// .. a table made for claims.
+/// One table in so many has, beside it, a table made for claims.
 const CLAIMS_EVERY: u64 = 4;
-/// .. a table made for sheets of rows.
+/// One table in so many has, beside it, a table made for sheets of rows.
 const ROWS_EVERY: u64 = 4;
-/// .. bad lists of marks and bad tables for the bound and the margins, and a table of a
-/// few kW.
+/// One table in so many has, beside it, bad lists of marks and bad tables for the bound and
+/// the margins, and a table of a few kW.
 const KNOWN_EVERY: u64 = 8;
+/// .. a table for the reasons of a border.
+const WHY_EVERY: u64 = 4;
+/// .. a border that is none.
+const NO_BORDER_EVERY: u64 = 8;
 
 /// The refusals that a run meets.
-const REFUSALS: [usize; 13] = [1, 2, 3, 4, 5, 6, 7, 8, 9, 10, 11, 12, 13];
+const REFUSALS: [usize; 14] = [1, 2, 3, 4, 5, 6, 7, 8, 9, 10, 11, 12, 13, 14];
 
 struct Comparison {
     bridge: Bridge,
     /// where the small texts are damaged
     places: Vec<damage::Place>,
-    /// where the small correction sheet is
+    /// where the small correction sheet is damaged
     sheet_places: Vec<damage::Place>,
     /// small lists of claims, and where each is damaged
     list_places: Vec<(Vec<u8>, damage::Place)>,
@@ -110,7 +116,7 @@ struct Comparison {
     positions: u64,
     most_rounds: u64,
     /// how often each number was the answer, 0: no refusal
-    numbers: [u64; 14],
+    numbers: [u64; 15],
     /// how often each other case was reached
     seen: BTreeMap<String, u64>,
 }
@@ -316,7 +322,7 @@ impl Comparison {
         self.extract_by(d, l, None, room)
     }
 
-    /// .. with a list of marks, or without one.
+    /// The extraction with a list of marks, or without one.
     fn extract_by(
         &mut self,
         d: &mut Dice,
@@ -525,7 +531,7 @@ fn main() {
         corners: 0,
         positions: 0,
         most_rounds: 0,
-        numbers: [0; 14],
+        numbers: [0; 15],
         seen: BTreeMap::new(),
     };
     let each = std::env::var_os("SHOW_EACH").is_some();
@@ -562,6 +568,12 @@ fn main() {
             if number % KNOWN_EVERY == 0 {
                 c.known_tables(number / KNOWN_EVERY);
                 c.few_kw(number / KNOWN_EVERY);
+            }
+            if number % WHY_EVERY == 0 {
+                c.why_table(number / WHY_EVERY);
+            }
+            if number % NO_BORDER_EVERY == 0 {
+                c.no_borders(number / NO_BORDER_EVERY);
             }
         }
         if number < texts {

@@ -252,9 +252,9 @@ pub struct Fields {
     few: &'static [&'static str],
 }
 
-/// Those of a table, of a correction sheet, and of a list of claims.
+/// The fields of a table, of a correction sheet, and of a list of claims.
 pub const TABLE_FIELDS: Fields = Fields { by: b'\t', telling: &TELLING_FIELDS, few: &FEW_FIELDS };
-/// Those of a semicolon sheet.
+/// The fields of a semicolon sheet.
 pub const SHEET_FIELDS: Fields = Fields { by: b';', telling: &TELLING_DECIMALS, few: &FEW_DECIMALS };
 
 /// Fields that tell where a number goes wrong, good ones among them.
@@ -263,10 +263,10 @@ const TELLING_FIELDS: [&str; 20] = [
     "-1234567890", "-12345678901", "1234567890x",
 ];
 
-/// .. and a few, for two fields of a line at once.
+/// A few such fields, for two fields of a line at once.
 const FEW_FIELDS: [&str; 6] = ["", "-", "7", "01", "9999999999", "5x"];
 
-/// The same for numbers with a point.
+/// Fields that tell where a number with a point goes wrong.
 const TELLING_DECIMALS: [&str; 27] = [
     "", "-", "0", "1", "-1", "0.", ".0", "0.0", "0.000", "-0.000", "-0.001", "00.000", "01.000", "-01.000", "0.00000",
     "-0.00000", "-0.00001", "1.0000", "0.000000", "1,000", "1.000,5", "1 000.000", "5.000\r", "1234567.890",
@@ -311,7 +311,7 @@ pub fn each_damage(place: &Place) -> Vec<(Vec<u8>, bool)> {
     each_damage_of(&small_text(number), place, &TABLE_FIELDS)
 }
 
-/// .. another text than the small ones.
+/// A text damaged at a place in every way, each with whether its answer is asked for too.
 pub fn each_damage_of(text: &[u8], place: &Place, parted: &Fields) -> Vec<(Vec<u8>, bool)> {
     match *place {
         Place::Byte(_, at) => each_byte(text, at),

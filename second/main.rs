@@ -8,15 +8,20 @@
 //! the table with all its rows taken from the sheet in it.
 //! With `bound`: the hour's own bound of the rounds; with `margins`: what each row's
 //! margin is made of; or the E line.
-//! With `--marks` and a list, numbers with commas between: the result or the bound
-//! where only the marked borders rise.  With `--corrections` and a file, each of these of the
-//! table that has the rows of that correction sheet.
+//! With `why` and a border's index: why it got no more, in words; or the E line and status
+//! 1.  A border that the table does not have: only a message, and status 2.
+//! With `--marks` and a list, numbers with commas between: the result, the bound or the
+//! words where only the marked borders rise.  With `--corrections` and a file, each of these
+//! of the table that has the rows of that correction sheet.
 
 #[path = "second.rs"]
 mod second;
 #[path = "words.rs"]
 mod words;
 
+use second::why::NO_BORDER;
+use second::why_words::{explained, no_border};
+use second::Refusal;
 use std::fs::File;
 use std::io::{Read, Write};
 use std::process::ExitCode;
@@ -36,12 +41,12 @@ fn text_of(file: &str) -> Result<Vec<u8>, String> {
     File::open(file).and_then(bytes_of).map_err(|error| format!("{file}: {error}"))
 }
 
-/// The answer; the correction sheet is empty without a file.
-fn answer(work: Work, corrections: Option<String>) -> Result<Vec<u8>, String> {
+/// The answer, and the status; the correction sheet is empty without a file.
+fn answer(work: Work, corrections: Option<String>) -> Result<(Vec<u8>, ExitCode), String> {
     let sheet = corrections.map_or(Ok(Vec::new()), |file| text_of(&file))?;
     let text = bytes_of(std::io::stdin().lock()).map_err(|error| format!("standard input: {error}"))?;
     let read = || second::read_corrected(&text, &sheet, second::ALL_ROOM);
-    Ok(match work {
+    let answer = match work {
         Work::Answer(marks) => second::answer_by(&text, &sheet, marks.as_deref()),
         Work::Rewrite => second::rewrite_by(&text, &sheet),
         Work::Corners(only) => second::corners_by(&text, &sheet, only),
@@ -50,17 +55,23 @@ fn answer(work: Work, corrections: Option<String>) -> Result<Vec<u8>, String> {
         Work::Rows(Some(file)) => second::rows::with_sheet(read(), &text_of(&file)?),
         Work::Bound(marks) => second::bound_text(&text, &sheet, marks.as_deref()),
         Work::Margins => second::margins_text(&text, &sheet),
-    })
+        Work::Why(border, marks) => match explained(&text, &sheet, marks.as_deref(), border) {
+            Ok(words) => words,
+            Err(Refusal { number: NO_BORDER, place, .. }) => return Err(no_border(border, place)),
+            Err(refusal) => return Ok((second::refusal_text(refusal), ExitCode::FAILURE)),
+        },
+    };
+    Ok((answer, ExitCode::SUCCESS))
 }
 
 fn main() -> ExitCode {
     let arguments: Vec<String> = std::env::args().skip(1).collect();
     let Some((work, corrections)) = words::asked(&arguments) else {
-        eprintln!("arguments: none, \"rewrite\", \"corners\", \"corners\" and a row's index, \"claims\" and a file, \"rows\", \"rows\" and a file, \"bound\" or \"margins\"; with each also \"--corrections\" and a file; with none and \"bound\" also \"--marks\" and a list");
+        eprintln!("arguments: none, \"rewrite\", \"corners\", \"corners\" and a row's index, \"claims\" and a file, \"rows\", \"rows\" and a file, \"bound\", \"margins\", or \"why\" and a border's index; with each also \"--corrections\" and a file; with none, \"bound\" and \"why\" also \"--marks\" and a list");
         return ExitCode::from(2);
     };
-    let answer = match answer(work, corrections) {
-        Ok(answer) => answer,
+    let (answer, status) = match answer(work, corrections) {
+        Ok(answered) => answered,
         Err(error) => {
             eprintln!("{error}");
             return ExitCode::from(2);
@@ -68,7 +79,7 @@ fn main() -> ExitCode {
     };
     let mut out = std::io::stdout().lock();
     match out.write_all(&answer).and_then(|_| out.flush()) {
-        Ok(()) => ExitCode::SUCCESS,
+        Ok(()) => status,
         Err(_) => ExitCode::from(2),
     }
 }

@@ -543,7 +543,7 @@ pub fn few_kw(d: &mut Dice) -> Tables {
     }
 }
 
-/// .. of the intraday profile.
+/// A table as `of_borders` makes it, of the intraday profile.
 pub fn intraday(d: &mut Dice, borders: usize) -> Tables {
     let mut t = of_borders(d, borders);
     if t.header.intraday == NO_T {

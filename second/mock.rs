@@ -153,6 +153,31 @@ fn bound(l: &mut LentTables, marks: Option<&Lent<u64>>) -> [u64; 7] {
     }
 }
 
+fn explain(
+    l: &mut LentTables,
+    marks: Option<&Lent<u64>>,
+    border: u64,
+    p: &mut Lent<u64>,
+    ends: &mut Lent<[i64; 2]>,
+    rows: &mut Lent<[i64; 3]>,
+) -> [u64; 7] {
+    let room = [p.len(), ends.len(), rows.len()];
+    match second::why::why(l.lend(), marks.map(|marks| &marks[..]), border, room) {
+        Err(refusal) => {
+            let last = 0;
+            let [number, place, byte] = why(refusal);
+            [number, place, byte, 0, last, 0, 0]
+        }
+        Ok(found) => {
+            p[..found.p.len()].copy_from_slice(&found.p);
+            ends[..found.ends.len()].copy_from_slice(&found.ends);
+            rows[..found.rows.len()].copy_from_slice(&found.rows);
+            let row = |row: Option<usize>| row.map_or(u64::MAX, |row| row as u64);
+            [0, 0, 0, found.rounds, found.last, row(found.named), row(found.ended)]
+        }
+    }
+}
+
 fn margins(l: &mut LentTables, parts: &mut Lent<[i64; 12]>) -> [u64; 3] {
     match second::margins(l.lend(), parts.len()) {
         Err(refusal) => why(refusal),
@@ -383,6 +408,22 @@ fn serve<R: Read>(request: &mut Request<R>, to: &mut Vec<u8>) -> std::io::Result
             if let Some(marks) = marks {
                 wire::put_all(&marks.whole, to);
             }
+        }
+        call @ (wire::WHY | wire::WHY_MARKED) => {
+            let border = request.words[wire::ROW];
+            let mut l = request.tables()?;
+            let mut p = request.lent(wire::P)?;
+            let marks = if call == wire::WHY_MARKED { Some(request.lent(wire::MARKS)?) } else { None };
+            let mut ends = request.lent(wire::ENDS)?;
+            let mut rows = request.lent(wire::ALLOWED)?;
+            put_fields(&explain(&mut l, marks.as_ref(), border, &mut p, &mut ends, &mut rows), to);
+            put_tables(&l, to);
+            wire::put_all(&p.whole, to);
+            if let Some(marks) = marks {
+                wire::put_all(&marks.whole, to);
+            }
+            wire::put_all(&ends.whole, to);
+            wire::put_all(&rows.whole, to);
         }
         wire::MARGINS => {
             let mut l = request.tables()?;

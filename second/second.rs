@@ -10,6 +10,10 @@
 pub mod claims;
 #[path = "rows.rs"]
 pub mod rows;
+#[path = "why.rs"]
+pub mod why;
+#[path = "why_words.rs"]
+pub mod why_words;
 
 /// "1 | more than 65,536 bytes"
 pub const MOST_BYTES: usize = 65_536;
@@ -648,7 +652,7 @@ pub fn read(text: &[u8], room: [usize; 5]) -> Result<Tables, Refusal> {
     read_corrected(text, b"", room)
 }
 
-/// The same with a correction sheet: "1 also for a sheet of more than 65,536 bytes",
+/// Reading with a correction sheet: "1 also for a sheet of more than 65,536 bytes",
 /// 10 "after 4 of the day's text and before 8".
 pub fn read_corrected(text: &[u8], sheet: &[u8], room: [usize; 5]) -> Result<Tables, Refusal> {
     if text.len() > MOST_BYTES || sheet.len() > MOST_BYTES {
@@ -1419,7 +1423,7 @@ pub fn extract(lent: Lent, room_p: usize, room_borders: usize, room_rows: usize)
     extract_by(lent, None, room_p, room_borders, room_rows)
 }
 
-/// The same where only the marked borders rise.
+/// The extraction where only the marked borders rise.
 pub fn extract_marked(
     lent: Lent,
     marks: &[u64],
@@ -1485,7 +1489,7 @@ pub fn result_text(lent: Lent, room: usize) -> Result<Vec<u8>, Refusal> {
     result_text_by(lent, None, room)
 }
 
-/// The same where only the marked borders rise.
+/// The result text where only the marked borders rise.
 pub fn result_text_marked(lent: Lent, marks: &[u64], room: usize) -> Result<Vec<u8>, Refusal> {
     result_text_by(lent, Some(marks), room)
 }
@@ -1514,7 +1518,7 @@ pub fn answer(text: &[u8]) -> Vec<u8> {
     answer_by(text, b"", None)
 }
 
-/// The same where only the marked borders rise.
+/// The answer where only the marked borders rise.
 pub fn answer_marked(text: &[u8], marks: &[u64]) -> Vec<u8> {
     answer_by(text, b"", Some(marks))
 }
@@ -1573,7 +1577,7 @@ pub fn bound(lent: Lent) -> Result<Bound, Refusal> {
     bound_by(lent, None)
 }
 
-/// The same where only the marked borders rise: "N and L counted over the marked
+/// The bound where only the marked borders rise: "N and L counted over the marked
 /// borders", and so is the sharp bound.
 pub fn bound_marked(lent: Lent, marks: &[u64]) -> Result<Bound, Refusal> {
     bound_by(lent, Some(marks))

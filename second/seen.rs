@@ -4,7 +4,7 @@ use crate::dice::Dice;
 use crate::lent::{needed, Counts, LentTables, KINDS};
 use crate::second::{self, Border, Header, Outcome, Refusal, Tables};
 use crate::second::{INTRADAY, LTA, MOST_BORDERS, MOST_ROWS, MOST_ZONES, NO_BYTE, NO_HUB, NO_SHARE, RECEIVING, SENDING};
-use crate::{claim_cases, damage, extracted, make, marks, row_cases, sheets, Comparison, TABLES, TEXTS};
+use crate::{claim_cases, damage, extracted, make, marks, row_cases, sheets, why_cases, Comparison, TABLES, TEXTS};
 
 impl Comparison {
     /// A refusal has left p as it was (the call has compared it).  Which one it
@@ -366,6 +366,8 @@ pub fn wanted() -> Vec<(String, u64)> {
         ("keravnoth_bound", &[0, 3, 4, 5, 6, 7, 8]),
         ("keravnoth_bound_marked", &[0, 3, 4, 5, 6, 7, 8, 13]),
         ("keravnoth_margins", &[0, 3, 4, 8]),
+        ("keravnoth_why", &[0, 3, 4, 5, 6, 7, 8, 14]),
+        ("keravnoth_why_marked", &[0, 3, 4, 5, 6, 7, 8, 13, 14]),
     ] {
         for number in numbers {
             add(&format!("{call} {number}"), 100);
@@ -654,6 +656,7 @@ pub fn wanted() -> Vec<(String, u64)> {
     }
     list.extend(claim_cases::wanted());
     list.extend(row_cases::wanted());
+    list.extend(why_cases::wanted());
     list
 }
 

@@ -6,6 +6,8 @@ mod claims_by_hand;
 mod rows_by_hand;
 #[path = "second.rs"]
 mod second;
+#[path = "why_by_hand.rs"]
+mod why_by_hand;
 #[path = "words.rs"]
 mod words;
 #[path = "words_by_hand.rs"]
@@ -1593,7 +1595,7 @@ fn t_lines() {
     assert_eq!(with(7, "T 2 19"), (3, 7, 5));
     assert_eq!(with(7, "T 2 21"), (3, 7, 5));
     assert_eq!(with(5, "T 0 11"), (3, 7, 5));
-    // .. where that line is otherwise good
+    // the sum is judged only where the last T line is otherwise good
     let mut off = lines.clone();
     off[4] = "T 0 11";
     off[6] = "T 2 -0";

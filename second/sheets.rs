@@ -208,7 +208,7 @@ impl Comparison {
         }
         let _ = self.rewrite_corrected(d, &text, &bad.sheet, 0);
 
-        // what comes before it
+        // what comes before a bad sheet
         let (name, text, wanted) = bad_day(&t, number / BAD_SHEETS);
         let found = self.by_sheet(d, &text, &bad.sheet);
         if found.tables != Err(wanted) {
@@ -216,7 +216,7 @@ impl Comparison {
             self.fail("keravnoth_read_corrected", &details, &with_sheet(&text, Some(&bad.sheet)));
         }
         self.see(&format!("{name} before 10"));
-        // .. and a sheet that is too long before all of these
+        // a sheet that is too long comes before all of these
         let mut long = bad.sheet;
         let length = MOST_BYTES + d.of(&[1, 1, 2, 500]);
         long.resize(length, d.of(b"\nC0\t"));

@@ -1731,7 +1731,7 @@ const SLIPS: &[Slip] = &[
         "bound.bits, bound.rounds, bound.sharp]",
         "bound.bits, bound.rounds, bound.rounds]",
     ),
-    // .. of one kW at least, or u would never be 0
+    // the share is one kW at least here, or u would never be 0
     slip(
         "sharp bound: the share rounded down",
         "second.rs",
@@ -1851,6 +1851,157 @@ const SLIPS: &[Slip] = &[
         "mock.rs",
         "            parts[..found.len()].copy_from_slice(&found);",
         "            parts[..found.len()].copy_from_slice(&found);\n            parts[found.len()..].fill([0; 12]);",
+    ),
+    // ---- why a border got no more
+    slip(
+        "why: the row at the end for the row that ended it",
+        "why.rs",
+        "            ended: self.first_under_one_kw(border, last),",
+        "            ended: self.first_under_one_kw(border, rounds),",
+    ),
+    slip(
+        "why: the row that ended another border",
+        "why.rs",
+        "            ended: self.first_under_one_kw(border, last),",
+        "            ended: self.first_under_one_kw((border + 1) % self.from.len(), last),",
+    ),
+    slip(
+        "why: the row named for another border",
+        "why.rs",
+        "            named: self.first_under_one_kw(border, rounds),",
+        "            named: self.first_under_one_kw((border + 1) % self.from.len(), rounds),",
+    ),
+    slip(
+        "why: the row that ended it a round later",
+        "why.rs",
+        "            ended: self.first_under_one_kw(border, last),",
+        "            ended: self.first_under_one_kw(border, (last + 1).min(rounds)),",
+    ),
+    slip(
+        "why: the last row that stops it",
+        "why.rs",
+        "zip(margins).find(stops)",
+        "zip(margins).filter(stops).last()",
+    ),
+    slip(
+        "why: last round off by one",
+        "why.rs",
+        "            last: last as u64,",
+        "            last: last.saturating_sub(1) as u64,",
+    ),
+    slip(
+        "why: the first round that raised it",
+        "why.rs",
+        "self.raises.iter().rposition(raised)",
+        "self.raises.iter().position(raised)",
+    ),
+    slip(
+        "why: n of all borders",
+        "why.rs",
+        "        [kept.n as i64, left as i64,",
+        "        let own = &self.p[row * self.from.len()..(row + 1) * self.from.len()];\n        [own.iter().filter(|p| **p > 0).count() as i64, left as i64,",
+    ),
+    slip(
+        "why: allowed without n",
+        "why.rs",
+        "    (p > 0).then(|| floor_div(floor_div(margin, row.n), p))",
+        "    (p > 0).then(|| floor_div(margin, p))",
+    ),
+    slip(
+        "why: allowed of another border",
+        "why.rs",
+        "allowed(kept, left, border).map_or(",
+        "allowed(kept, left, (border + 1) % self.from.len()).map_or(",
+    ),
+    slip(
+        "why: allowed 0 where the border does not load the row",
+        "why.rs",
+        ".map_or(-1, |kw| kw as i64)]",
+        ".map_or(0, |kw| kw as i64)]",
+    ),
+    slip(
+        "why: the margin after the border's last round",
+        "why.rs",
+        "        let left = self.margins[self.raises.len()][at];",
+        "        let left = self.margins[self.last(border)][at];",
+    ),
+    slip(
+        "why: margin left 0 where not kept",
+        "why.rs",
+        "            return [0, -1, -1];",
+        "            return [0, 0, -1];",
+    ),
+    slip(
+        "why: ends in MW",
+        "why.rs",
+        "[self.from[border] as i64, end(border) as i64]",
+        "[self.from[border] as i64, end(border) as i64 / 1_000 * 1_000]",
+    ),
+    slip(
+        "why: ends without the last round",
+        "why.rs",
+        "self.from[border] + self.raises.iter().map(",
+        "self.from[border] + self.raises.iter().take(self.raises.len().saturating_sub(1)).map(",
+    ),
+    slip(
+        "why: the border after the last is there",
+        "why.rs",
+        "    if border >= borders as u64 {",
+        "    if border > borders as u64 {",
+    ),
+    slip(
+        "why: the border cut to 32 bits",
+        "why.rs",
+        "    if border >= borders as u64 {",
+        "    if border as u32 as u64 >= borders as u64 {",
+    ),
+    slip(
+        "why: place of 14 is the border",
+        "why.rs",
+        "        return refuse(NO_BORDER, borders);",
+        "        return refuse(NO_BORDER, border as usize);",
+    ),
+    slip(
+        "why: 14 judged before 13",
+        "why.rs",
+        "    rising(marks, borders)?;\n    if border >= borders as u64 {\n        return refuse(NO_BORDER, borders);\n    }\n    Ok(())",
+        "    if border >= borders as u64 {\n        return refuse(NO_BORDER, borders);\n    }\n    rising(marks, borders)?;\n    Ok(())",
+    ),
+    slip(
+        "why: 14 judged after 5, 6, 7",
+        "why.rs",
+        "    judge_border(&tables, marks, border)?;\n    let rounds = rounds_of(&tables, marks)?;",
+        "    let rounds = rounds_of(&tables, marks)?;\n    judge_border(&tables, marks, border)?;",
+    ),
+    slip(
+        "why: 14 judged before records",
+        "why.rs",
+        "    judge_values(&tables)?;\n    judge_border(&tables, marks, border)?;",
+        "    judge_border(&tables, marks, border)?;\n    judge_values(&tables)?;",
+    ),
+    slip(
+        "why: row records judged before border records",
+        "why.rs",
+        "    judge_room(room_ends, header.borders)?;\n    judge_room(room_rows, header.rows)?;",
+        "    judge_room(room_rows, header.rows)?;\n    judge_room(room_ends, header.borders)?;",
+    ),
+    slip(
+        "why: fields said also where it refuses",
+        "mock.rs",
+        "            let last = 0;",
+        "            let last = 1;",
+    ),
+    slip(
+        "why: writes p before it refuses",
+        "mock.rs",
+        "    let room = [p.len(), ends.len(), rows.len()];",
+        "    let room = [p.len(), ends.len(), rows.len()];\n    if let Ok(found) = second::why::why(l.lend(), marks.map(|marks| &marks[..]), border, [p.len(), usize::MAX, usize::MAX]) {\n        p[..found.p.len()].copy_from_slice(&found.p);\n    }",
+    ),
+    slip(
+        "why: the rest of the room cleared",
+        "mock.rs",
+        "            rows[..found.rows.len()].copy_from_slice(&found.rows);",
+        "            rows[..found.rows.len()].copy_from_slice(&found.rows);\n            rows[found.rows.len()..].fill([0; 3]);",
     ),
     // ---- corner sheet
     slip(
@@ -2309,7 +2460,7 @@ const SLIPS: &[Slip] = &[
 ];
 
 /// What the stand-in is made of.
-const FILES: [&str; 5] = ["mock.rs", "second.rs", "claims.rs", "rows.rs", "wire.rs"];
+const FILES: [&str; 7] = ["mock.rs", "second.rs", "claims.rs", "rows.rs", "why.rs", "why_words.rs", "wire.rs"];
 
 fn build(source: &Path, program: &Path) -> bool {
     Command::new("rustc")

@@ -282,5 +282,9 @@ impl Comparison {
         if outcome.is_err() || result.as_ref() != Ok(&answer) {
             self.fail("keravnoth_extract", "a stored hour has no result, or another text", text);
         }
+        for _ in 0..4 {
+            let border = d.below(h.borders) as u64;
+            let _ = self.why(d, &mut l, None, border, [h.rows * h.borders, h.borders, h.rows]);
+        }
     }
 }

@@ -3,10 +3,10 @@
 //! calculator.  A word has 64 bits, the least byte first.
 //!
 //! A request: WORDS words, then the lent buffers.  The words are the call, its
-//! header (zones, borders, rows, share, intraday) and its row (each 0 where the
-//! call takes none), and the counts of items of z, t, b, c, f, p, marks, atc, left,
-//! flows, claims, parts, text, sheet and out (0 where the call does not take that
-//! buffer).  The buffers that the call takes follow in this order, each with BEFORE
+//! header (zones, borders, rows, share, intraday) and its row or border (each 0 where
+//! the call takes none), and the counts of items of z, t, b, c, f, p, marks, atc, left,
+//! flows, claims, parts, ends, allowed, text, sheet and out (0 where the call does not
+//! take that buffer).  The buffers that the call takes follow in this order, each with BEFORE
 //! items before the lent part and AFTER items after it; an item is as many words as it has
 //! numbers, and a byte for text, sheet and out.
 //!
@@ -37,19 +37,21 @@ pub const WRITE_ROWS: u64 = 17;
 pub const BOUND: u64 = 18;
 pub const BOUND_MARKED: u64 = 19;
 pub const MARGINS: u64 = 20;
+pub const WHY: u64 = 21;
+pub const WHY_MARKED: u64 = 22;
 
 /// Items before and after the lent part that nobody may touch.
 pub const BEFORE: usize = 2;
 pub const AFTER: usize = 3;
 
 /// The words of a request.
-pub const WORDS: usize = 22;
+pub const WORDS: usize = 24;
 
 /// Where the header's words begin among them, and how many there are.
 pub const HEADER: usize = 1;
 pub const HEADER_WORDS: usize = 5;
 
-/// Where the row stands among them.
+/// Where the row or the border stands among them.
 pub const ROW: usize = 6;
 
 /// Where the count of each buffer stands among them.
@@ -65,9 +67,11 @@ pub const LEFT: usize = 15;
 pub const FLOWS: usize = 16;
 pub const CLAIMS: usize = 17;
 pub const PARTS: usize = 18;
-pub const TEXT: usize = 19;
-pub const SHEET: usize = 20;
-pub const OUT: usize = 21;
+pub const ENDS: usize = 19;
+pub const ALLOWED: usize = 20;
+pub const TEXT: usize = 21;
+pub const SHEET: usize = 22;
+pub const OUT: usize = 23;
 
 /// An item of a lent buffer as bytes.
 pub trait Item: Copy {

@@ -14,6 +14,8 @@ pub enum Work {
     /// with a list of marks, or without one
     Bound(Option<Vec<u64>>),
     Margins,
+    /// of one border, with a list of marks or without one
+    Why(u64, Option<Vec<u64>>),
 }
 
 /// An index: a number as the table writes it.
@@ -69,6 +71,7 @@ pub fn asked(arguments: &[String]) -> Option<(Work, Option<String>)> {
         (["rows", file], None) => Work::Rows(Some(file.to_string())),
         (["bound"], marks) => Work::Bound(marks),
         (["margins"], None) => Work::Margins,
+        (["why", border], marks) => Work::Why(index(border)? as u64, marks),
         _ => return None,
     };
     Some((work, options.corrections))

@@ -54,7 +54,10 @@ fn options_and_words() {
     assert_eq!(asked_for(&[]), Some((Work::Answer(None), None)));
     let sheet = Some("sheet".to_string());
     assert_eq!(asked_for(&["--corrections", "sheet", "rewrite"]), Some((Work::Rewrite, sheet.clone())));
-    assert_eq!(asked_for(&["corners", "3", "--corrections", "sheet"]), Some((Work::Corners(Some(3)), sheet)));
+    assert_eq!(asked_for(&["corners", "3", "--corrections", "sheet"]), Some((Work::Corners(Some(3)), sheet.clone())));
+    assert_eq!(asked_for(&["why", "3"]), Some((Work::Why(3, None), None)));
+    let all = ["--corrections", "sheet", "--marks", "0,3", "why", "64"];
+    assert_eq!(asked_for(&all), Some((Work::Why(64, Some(vec![0, 3])), sheet)));
     for misuse in [
         &["--marks"][..],
         &["--marks", "0", "--marks", "1"],
@@ -64,6 +67,10 @@ fn options_and_words() {
         &["claims"],
         &["rows", "a", "b"],
         &["answer"],
+        &["why"],
+        &["why", "x"],
+        &["why", "03"],
+        &["why", "0", "1"],
     ] {
         assert_eq!(asked_for(misuse), None, "{misuse:?}");
     }

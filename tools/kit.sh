@@ -20,7 +20,7 @@ find_kit() { # FILE
     [ -x "$kit/bin/rt" ] && [ -d "$toolchain" ]
 }
 
-# The same, for a script that can do nothing without.
+# Finds the kit for a script that can do nothing without it, or ends.
 need_kit() { # SCRIPT
     find_kit '' || {
         echo "$1: $no_kit" >&2

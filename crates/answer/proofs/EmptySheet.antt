@@ -3,7 +3,7 @@ use mathlib.Core.Path.{_≡_, ap}
 use mathlib.Core.Bool.{Bool, true}
 use mathlib.Core.List.{List, []}
 use Prim.Native.Nat.{ℕ}
-use Rattle.kinds.specs.Refusals.{Judged, passed, then, either}
+use Rattle.refusals.specs.Refusals.{Judged, passed, then, either}
 use Rattle.text.specs.Left.{textLeft}
 use Rattle.table.specs.Table.{Table}
 use Rattle.extraction.specs.Extraction.{outcomeFor}
@@ -19,7 +19,7 @@ pub empty-answer-left : (all : Bool) (marks text out : List ℕ) → answerWithL
 unfolding answerWithLeft answerForLeft
 empty-answer-left all marks text out = ap (λ (l : List ℕ). textLeft (passed l) out) (empty-answer all marks text)
 
--- the call with it is the call without it
+-- the call with an empty sheet is the call without a sheet
 pub empty-corrected : (text out : List ℕ) → answerCorrectedLeft text [] out ≡ answerLeft text out
 unfolding answerCorrectedLeft answerWithLeft answerLeft answerText
 empty-corrected text out = ap (λ (l : List ℕ). textLeft (passed l) out) (empty-answer true [] text)

@@ -1,5 +1,2 @@
 pub mod OutcomeLaws
-pub mod Demand
-pub mod EveryMark
-pub mod Unique
 pub mod EmptySheet

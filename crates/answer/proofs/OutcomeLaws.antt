@@ -9,16 +9,14 @@ use lib.ListN.{length, take}
 use lib.Seq.{take-at}
 use Rattle.numbers.specs.Below.{table, over}
 use Rattle.numbers.proofs.BelowLaws.{table-long}
-use Rattle.kinds.specs.declared.Extracted.{Extracted}
-use Rattle.kinds.specs.declared.Extracted.the-variants.{Rounds, Refused}
-use Rattle.kinds.specs.declared.Header.{Header}
-use Rattle.kinds.specs.declared.Judgement.{Judgement}
-use Rattle.kinds.specs.declared.Judgement.the-variants as judgement
-use Rattle.kinds.specs.declared.Refusal.{Refusal}
-use Rattle.kinds.specs.Answers.{ruled, saidExtracted}
-use Rattle.kinds.specs.Limits.{bordersMost, rowsMost}
-use Rattle.kinds.specs.Refusals.{Judged, passed, refused, then, either}
-use Rattle.kinds.proofs.RefusalLaws.{passed-is, refused-is, not-passed, then-next, then-refused, either-passed, either-refused}
+use Rattle.limits.specs.Limits.{bordersMost, rowsMost}
+use Rattle.refusals.specs.declared.Judgement.{Judgement}
+use Rattle.refusals.specs.declared.Judgement.the-variants as judgement
+use Rattle.refusals.specs.declared.Refusal.{Refusal}
+use Rattle.refusals.specs.Answers.{saidJudgement}
+use Rattle.refusals.specs.Refusals.{Judged, passed, refused, then, either}
+use Rattle.refusals.proofs.RefusalLaws.{passed-is, refused-is, not-passed, then-next, then-refused, either-passed, either-refused}
+use Rattle.types.specs.declared.Header.{Header}
 use Rattle.text.specs.Left.{TextLeft, textLeft}
 use Rattle.text.proofs.LeftLaws.{text-refused}
 use Rattle.marks.specs.Marks.{mayRise}
@@ -26,9 +24,12 @@ use Rattle.table.specs.declared.Room.the-variants.{None}
 use Rattle.table.specs.Table.{Table, front, judgeLent}
 use Rattle.table.specs.Good.{Good}
 use Rattle.table.proofs.GoodLaws.{told-judged}
+use Rattle.extraction.specs.declared.Extracted.{Extracted}
+use Rattle.extraction.specs.declared.Extracted.the-variants.{Rounds, Refused}
+use Rattle.extraction.specs.Answers.{saidExtracted}
 use Rattle.reading.specs.Reading.{readCorrected}
 use Rattle.extraction.specs.Extraction.{Result, resultMarked, outcomeFor, atcRecord, rowRecord, ExtractLeft, leaves, resultStored}
-use Rattle.extraction.specs.Work.{outcomeLeft}
+use Rattle.extraction.specs.Inner.{outcomeLeft}
 use Rattle.extraction.proofs.AcceptedLaws.{accepted}
 use Rattle.extraction.proofs.LentLaws.{outcome-roomy}
 use Rattle.extraction.proofs.MarkedLaws.{for-is}
@@ -91,11 +92,17 @@ module _ (line : Bool) (o : Judged Result) (out : List ℕ) (w : Refusal) (e : o
   unfolding outcomeSaid
   line-written k = ap (λ (j : Judged (List ℕ)). textLeft j out) (sym (either-refused _ _ e ∙ ap (λ (l : Bool). cond l (passed (refusalText w)) (refused w)) k))
 
-  pub refusal-told : line ≡ false → _≡_ {A = TextLeft} (record { answer = refused w; out = out }) (textLeft (outcomeSaid line o) out)
+  told : line ≡ false → outcomeSaid line o ≡ refused w
   unfolding outcomeSaid
-  refusal-told k = text-refused out (either-refused _ _ e ∙ ap (λ (l : Bool). cond l (passed (refusalText w)) (refused w)) k)
+  told k = either-refused _ _ e ∙ ap (λ (l : Bool). cond l (passed (refusalText w)) (refused w)) k
 
-told-said : (o : Judged Result) → outcomeSaid false o ≡ then o (λ r. passed (resultText r))
+  pub refusal-told : line ≡ false → _≡_ {A = TextLeft} (record { answer = refused w; out = out }) (textLeft (outcomeSaid line o) out)
+  refusal-told k = text-refused out (told k)
+
+  pub no-text : line ≡ false → (text : List ℕ) → outcomeSaid line o ≡ passed text → ⊥
+  no-text k text is = not-passed w text (sym (told k) ∙ is)
+
+pub told-said : (o : Judged Result) → outcomeSaid false o ≡ then o (λ r. passed (resultText r))
 unfolding outcomeSaid then either
 told-said (passed r) = refl
 told-said (refused w) = refl
@@ -105,17 +112,17 @@ unfolding outcomeSaid printed either
 line-said (passed r) = refl
 line-said (refused w) = refl
 
--- ---- `result_text` of lent tables that were judged ..
-module _ (all : Bool) (marks : List ℕ) (given : Table) (out : List ℕ) (r : Judgement) (said : ruled r (front given) ≡ judgeLent given) where
+-- ---- `result_text` of lent tables that were judged
+module _ (all : Bool) (marks : List ℕ) (given : Table) (out : List ℕ) (r : Judgement) (said : saidJudgement r (front given) ≡ judgeLent given) where
   pub lent-refused : (w : Refusal) → r ≡ judgement.Refused w → _≡_ {A = TextLeft} (record { answer = refused w; out = out }) (resultTextFor all marks given out)
   unfolding resultTextFor
-  lent-refused w e = text-refused out (then-refused _ (sym said ∙ ap (λ (j : Judgement). ruled j (front given)) e))
+  lent-refused w e = text-refused out (then-refused _ (sym said ∙ ap (λ (j : Judgement). saidJudgement j (front given)) e))
 
   pub lent-said : r ≡ judgement.Passed → textLeft (outcomeSaid false (outcomeFor all marks (front given))) out ≡ resultTextFor all marks given out
   unfolding resultTextFor
   lent-said e = ap (λ (j : Judged (List ℕ)). textLeft j out) (told-said _ ∙ sym (then-next _ (told-judged None given r said e)))
 
--- .. and `answer` of texts that were read
+-- ---- `answer` of texts that were read
 module _ (all : Bool) (marks text sheet out : List ℕ) where
   pub read-refused : (w : Refusal) → readCorrected text sheet ≡ refused w → textLeft (passed (refusalText w)) out ≡ answerWithLeft all marks text sheet out
   unfolding answerWithLeft answerWith

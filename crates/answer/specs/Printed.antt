@@ -1,10 +1,8 @@
--- What an outcome is printed as (01, "Result text"), and how many bytes a call asks for. Promises of the inner functions are stated through these.
+-- What an outcome is printed as (01, "Result text"). Promises of the inner functions are stated through these.
 use mathlib.Core.Bool.{Bool, cond}
 use mathlib.Core.List.{List}
 use Prim.Native.Nat.{ℕ}
-use Rattle.kinds.specs.declared.Written.{Written}
-use Rattle.kinds.specs.declared.Written.the-variants as written
-use Rattle.kinds.specs.Refusals.{Judged, passed, refused, either}
+use Rattle.refusals.specs.Refusals.{Judged, passed, refused, either}
 use Rattle.extraction.specs.Extraction.{Result}
 use Rattle.result.specs.Records.{recordsMost}
 use Rattle.result.specs.Refusal.{refusalText}
@@ -21,8 +19,3 @@ outcomeSaid line outcome = either outcome (λ r. passed (resultText r)) (λ w. c
 -- bytes that take every answer: no E line is longer than a line of records
 abbrev pub answerMost : ℕ
 answerMost = recordsMost
-
--- the bytes that a call asks for: those that it wrote, or the place of 8
-abbrev pub bytesAsked : Written → ℕ
-bytesAsked (written.Bytes n) = n
-bytesAsked (written.Refused w) = w .place

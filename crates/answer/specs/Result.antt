@@ -5,7 +5,7 @@ use mathlib.Core.Bool.{Bool, true, false}
 use mathlib.Core.List.{List, []}
 use Prim.Native.Nat.{ℕ}
 use Rattle.numbers.specs.Below.{table}
-use Rattle.kinds.specs.Refusals.{passed, then, either}
+use Rattle.refusals.specs.Refusals.{passed, then, either}
 use Rattle.text.specs.Left.{TextLeft, textLeft}
 use Rattle.table.specs.Table.{Table, judgeLent}
 use Rattle.reading.specs.Reading.{readText, readCorrected}
@@ -21,7 +21,7 @@ resultText r = recordsText (table (r .header .borders) (atcRecord r)) (table (r 
 unfoldable pub answerFor : (all : Bool) → (marks text : List ℕ) → List ℕ
 answerFor all marks text = either (then (readText text) (outcomeFor all marks)) resultText refusalText
 
--- .. with a correction sheet (02, E2): the answer to the merged table
+-- the answer to a table's text with a correction sheet (02, E2): the answer to the merged table
 unfoldable pub answerWith : (all : Bool) → (marks text sheet : List ℕ) → List ℕ
 answerWith all marks text sheet = either (then (readCorrected text sheet) (outcomeFor all marks)) resultText refusalText
 
@@ -49,7 +49,7 @@ answerLeft text out = textLeft (passed (answerText text)) out
 unfoldable pub answerMarkedLeft : (text marks out : List ℕ) → TextLeft
 answerMarkedLeft text marks out = answerForLeft false marks text out
 
--- the open call `answer_corrected`, and what answers with a sheet, of every border or with marks
+-- the open call `answer_corrected`; and, for every border or with marks, the answer to a text with a sheet
 unfoldable pub answerWithLeft : (all : Bool) → (marks text sheet out : List ℕ) → TextLeft
 answerWithLeft all marks text sheet out = textLeft (passed (answerWith all marks text sheet)) out
 

@@ -1,36 +1,33 @@
 // The open calls that answer in text (01, "Result text"): `result_text` of lent tables, and `answer` of a table's text; each with marks too (02, E13),
 // and `answer` with a correction sheet (02, E2).
 // They differ in what becomes of a refusal: `result_text` tells it, and `answer` writes it as the E line.
-mod records;
-
 ghost use mathlib.Core.Path.{_≡_};
-ghost use mathlib.Core.Bool.{true};
-ghost use Prim.Native.Nat.{_*_, _≤_};
+ghost use mathlib.Core.List.{List};
+ghost use Prim.Native.Nat.{ℕ, _*_, _≤_};
 ghost use lib.ListN.{length};
-ghost use Rattle.kinds.specs.Limits.{zonesMost, bordersMost, rowsMost};
-ghost use Rattle.kinds.specs.Refusals.{passed};
+ghost use Rattle.limits.specs.Limits.{zonesMost, bordersMost, rowsMost};
+ghost use Rattle.refusals.specs.Refusals.{passed};
 ghost use Rattle.text.specs.Left.{textLeft, textSaid};
 ghost use Rattle.table.specs.Table.{lent, front};
 ghost use Rattle.table.specs.Good.{Good};
 ghost use Rattle.extraction.specs.Extraction.{outcomeFor};
-ghost use Rattle.result.specs.Refusal.{refusalText, refusalMost};
+ghost use Rattle.result.specs.Asked.{bytesAsked};
 ghost use Rattle.answer.specs.Result.{resultTextFor, resultTextLeft, resultTextMarkedLeft, answerLeft, answerMarkedLeft, answerWithLeft, answerCorrectedLeft};
-ghost use Rattle.answer.specs.Printed.{outcomeSaid, answerMost, bytesAsked};
-use extraction::AtcRecord;
-use extraction::BorderResult;
-use extraction::LeftRecord;
-use extraction::RowResult;
-use kinds::Border;
-use kinds::BorderRecord;
-use kinds::Extracted;
-use kinds::Header;
-use kinds::Judgement;
-use kinds::Read;
-use kinds::Refusal;
-use kinds::Row;
-use kinds::RowRecord;
-use kinds::Written;
+ghost use Rattle.answer.specs.Printed.{outcomeSaid, answerMost};
+use extraction::Extracted;
+use outcome::AtcRecord;
+use outcome::BorderResult;
+use outcome::LeftRecord;
+use outcome::RowResult;
+use reading::TableRead;
+use refusals::Judgement;
+use refusals::Written;
 use table::Room;
+use types::Border;
+use types::BorderRecord;
+use types::Header;
+use types::Row;
+use types::RowRecord;
 
 // The result text of lent tables. Any input has an answer: there is no `requires`.
 pub fn result_text(
@@ -49,7 +46,7 @@ pub fn result_text(
     result_text_for(h, z, t, b, c, f, true, &marks, out)
 }
 
-// The same where only the borders of a list of marks rise (02, E13).
+// The result text of lent tables where only the borders of a list of marks rise (02, E13).
 pub fn result_text_marked(
     h: Header,
     z: &[i64],
@@ -100,7 +97,7 @@ pub fn answer_marked(text: &[u8], marks: &[u64], out: &mut [u8]) -> Written
     answer_with(text, b"", false, marks, out)
 }
 
-// The answer to a table's text with a correction sheet (02, E2), of which an empty one changes nothing.
+// The answer to a table's text with a correction sheet (02, E2). An empty sheet changes nothing.
 pub fn answer_corrected<'a>(text: &'a [u8], sheet: &'a [u8], out: &mut [u8]) -> Written
     ensures { λ r. ⌜ textSaid r (now (out .exit)) ≡ answerCorrectedLeft (now (text .entry)) (now (sheet .entry)) (now (out .entry)) ⌝ }
 {
@@ -109,7 +106,7 @@ pub fn answer_corrected<'a>(text: &'a [u8], sheet: &'a [u8], out: &mut [u8]) -> 
     answer_with(text, sheet, true, &marks, out)
 }
 
-// All of it, as asked: with a sheet, of every border or with marks.
+// The general call: with a correction sheet, which may be empty; every border, or the marked ones.
 fn answer_with<'a>(
     text: &'a [u8],
     sheet: &'a [u8],
@@ -119,12 +116,12 @@ fn answer_with<'a>(
 ) -> Written
     ensures { λ r. ⌜ textSaid r (now (out .exit)) ≡ answerWithLeft all (now (marks .entry)) (now (text .entry)) (now (sheet .entry)) (now (out .entry)) ⌝ }
 {
-    let mut z: [i64; Header::ZONES_MOST] = [0; Header::ZONES_MOST];
-    let mut t: [i64; Header::ZONES_MOST] = [0; Header::ZONES_MOST];
-    let mut b: [BorderRecord; Header::BORDERS_MOST] = [[0; Border::ITEMS]; Header::BORDERS_MOST];
-    let mut c: [RowRecord; Header::ROWS_MOST] = [[0; Row::ITEMS]; Header::ROWS_MOST];
-    let mut f: [i64; Header::ROWS_MOST * Header::ZONES_MOST] = [0; Header::ROWS_MOST
-        * Header::ZONES_MOST];
+    let mut z: [i64; limits::ZONES_MOST] = [0; limits::ZONES_MOST];
+    let mut t: [i64; limits::ZONES_MOST] = [0; limits::ZONES_MOST];
+    let mut b: [BorderRecord; limits::BORDERS_MOST] = [[0; Border::ITEMS]; limits::BORDERS_MOST];
+    let mut c: [RowRecord; limits::ROWS_MOST] = [[0; Row::ITEMS]; limits::ROWS_MOST];
+    let mut f: [i64; limits::ROWS_MOST * limits::ZONES_MOST] = [0; limits::ROWS_MOST
+        * limits::ZONES_MOST];
     answer_in(
         text,
         sheet,
@@ -139,7 +136,7 @@ fn answer_with<'a>(
     )
 }
 
-// The tables are made in `answer_with`, and not here, where goals would spell them out.
+// The tables are allocated in `answer_with` so that the proof goals here do not contain them.
 fn answer_in<'a>(
     text: &'a [u8],
     sheet: &'a [u8],
@@ -156,12 +153,12 @@ fn answer_in<'a>(
     ensures { λ r. ⌜ textSaid r (now (out .exit)) ≡ answerWithLeft all (now (marks .entry)) (now (text .entry)) (now (sheet .entry)) (now (out .entry)) ⌝ }
 {
     match reading::read_into(text, sheet, z, t, b, c, f) {
-        Read::Table(h) => answer_good(h, z, t, b, c, f, all, marks, true, out),
-        Read::Refused(w) => write_refusal(w, out),
+        TableRead::Table(h) => answer_good(h, z, t, b, c, f, all, marks, true, out),
+        TableRead::Refused(w) => result::refusal::write_refusal(w, out),
     }
 }
 
-// The answer to a good table, as it was lent; where a refusal is written as the E line, also how many bytes it asks for at most.
+// The answer to a good table, as it was lent; where it writes a text, also how many bytes it asks for at most.
 pub fn answer_good(
     h: Header,
     z: &[i64],
@@ -176,13 +173,13 @@ pub fn answer_good(
 ) -> Written
     requires { ⌜ Good (front (lent h (now z) (now t) (now b) (now c) (now f))) ⌝ }
     ensures { λ r. ⌜ textSaid r (now (out .exit)) ≡ textLeft (outcomeSaid line (outcomeFor all (now (marks .entry)) (front (lent h (now (z .entry)) (now (t .entry)) (now (b .entry)) (now (c .entry)) (now (f .entry)))))) (now (out .entry)) ⌝ }
-    ensures { λ r. ⌜ (line ≡ true → bytesAsked r ≤ answerMost) ⌝ }
+    ensures { λ r. ⌜ ((text : List ℕ) → outcomeSaid line (outcomeFor all (now (marks .entry)) (front (lent h (now (z .entry)) (now (t .entry)) (now (b .entry)) (now (c .entry)) (now (f .entry))))) ≡ passed text → bytesAsked r ≤ answerMost) ⌝ }
 {
-    let mut p: [u64; Header::ROWS_MOST * Header::BORDERS_MOST] = [0; Header::ROWS_MOST
-        * Header::BORDERS_MOST];
-    let mut atc: [AtcRecord; Header::BORDERS_MOST] =
-        [[0; BorderResult::ITEMS]; Header::BORDERS_MOST];
-    let mut left: [LeftRecord; Header::ROWS_MOST] = [[0; RowResult::ITEMS]; Header::ROWS_MOST];
+    let mut p: [u64; limits::ROWS_MOST * limits::BORDERS_MOST] = [0; limits::ROWS_MOST
+        * limits::BORDERS_MOST];
+    let mut atc: [AtcRecord; limits::BORDERS_MOST] =
+        [[0; BorderResult::ITEMS]; limits::BORDERS_MOST];
+    let mut left: [LeftRecord; limits::ROWS_MOST] = [[0; RowResult::ITEMS]; limits::ROWS_MOST];
     answer_from(
         h,
         z,
@@ -200,7 +197,7 @@ pub fn answer_good(
     )
 }
 
-// The table of p and the records are made in `answer_good`, and not here, where goals would spell them out.
+// The table of p and the records are allocated in `answer_good` so that the proof goals here do not contain them.
 fn answer_from(
     h: Header,
     z: &[i64],
@@ -219,31 +216,20 @@ fn answer_from(
     requires { ⌜ Good (front (lent h (now z) (now t) (now b) (now c) (now f))) ⌝ }
     requires { ⌜ (rowsMost * bordersMost ≤ length (now p)) × (bordersMost ≤ length (now atc)) × (rowsMost ≤ length (now left)) ⌝ }
     ensures { λ r. ⌜ textSaid r (now (out .exit)) ≡ textLeft (outcomeSaid line (outcomeFor all (now (marks .entry)) (front (lent h (now (z .entry)) (now (t .entry)) (now (b .entry)) (now (c .entry)) (now (f .entry)))))) (now (out .entry)) ⌝ }
-    ensures { λ r. ⌜ (line ≡ true → bytesAsked r ≤ answerMost) ⌝ }
+    ensures { λ r. ⌜ ((text : List ℕ) → outcomeSaid line (outcomeFor all (now (marks .entry)) (front (lent h (now (z .entry)) (now (t .entry)) (now (b .entry)) (now (c .entry)) (now (f .entry))))) ≡ passed text → bytesAsked r ≤ answerMost) ⌝ }
 {
     match extraction::extract_good(h, z, t, b, c, f, all, marks, p, atc, left) {
         Extracted::Rounds(rounds) => {
             let borders = h.borders;
             let rows = h.rows;
-            records::write_records(&atc[..borders], &left[..rows], rounds, out)
+            result::records::write_records(&atc[..borders], &left[..rows], rounds, out)
         }
         Extracted::Refused(w) => {
             if line {
-                write_refusal(w, out)
+                result::refusal::write_refusal(w, out)
             } else {
                 Written::Refused(w)
             }
         }
     }
-}
-
-// The E line: 8, and only then is it written.
-pub fn write_refusal(w: Refusal, out: &mut [u8]) -> Written
-    ensures { λ r. ⌜ (textSaid r (now (out .exit)) ≡ textLeft (passed (refusalText w)) (now (out .entry))) × (bytesAsked r ≤ refusalMost) ⌝ }
-{
-    let needed = result::refusal::refusal_length(w);
-    if out.len() < needed {
-        return Written::Refused(Refusal::too_short(needed));
-    }
-    Written::Bytes(result::refusal::put_refusal(w, out))
 }

@@ -1,11 +1,3 @@
 pub mod Anchors
 pub mod BlameLaws
 pub mod RangeLaws
-pub mod NumberBad
-pub mod AgreeLaws
-pub mod PointBad
-pub mod FieldBad
-pub mod Blames
-pub mod Faults
-pub mod Within
-pub mod AnchorsFaults

@@ -11,7 +11,7 @@ use native.Mathlib.Omega.{arith}
 use lib.Dec.{eqb}
 use lib.ListN.{length, getD, drop, drop-of-length-le}
 use lib.Seq.{drop-cons}
-use Rattle.kinds.specs.Ranges.{allTrue}
+use Rattle.types.specs.Ranges.{allTrue}
 use Rattle.blame.specs.RangeBlame.{pastSeps, fieldFirst, rangeByte}
 
 -- ---- the loop over bytes: `left` of the bytes that part fields are still to be passed from place i on

@@ -1,13 +1,13 @@
 -- The byte to blame in a line of wrong form (02, E5): bytes of a line count from 1, and 0 says that none is to blame.
 -- `lineByte` is what contracts cite. Where the last columns of a line may be left out, its columns are all of them.
 -- `sep` is the byte that parts the fields, a tab in the table. Left to others: values outside their range (`RangeBlame.antt`), and what these bytes have to
--- do with E5's words (`FirstBad.antt`). A good line has 0, as has one that is wrong by its letter or by the number of its fields.
+-- do with E5's words (crate faults, specs/FirstBad). A good line has 0, as has one that is wrong by its letter or by the number of its fields.
 use mathlib.Core.Bool.{Bool, true, false, cond, not, _||_}
 use mathlib.Core.List.{List, [], _∷_}
 use Prim.Native.Nat.{ℕ, _+_}
 use lib.Dec.{leb, eqb}
 use lib.ListN.{length}
-use Rattle.kinds.specs.LineColumns.{Column, number}
+use Rattle.types.specs.LineColumns.{Column, number}
 use Rattle.text.specs.declared.Number.{Number}
 use Rattle.text.specs.declared.Number.the-variants.{Value, Bad}
 use Rattle.text.specs.declared.Signed.{Signed}
@@ -26,8 +26,8 @@ isWhole (Wrong place) = false
 unfoldable pub goodAt : (sep : ℕ) → Column → (line : List ℕ) → (at : ℕ) → Bool
 goodAt sep c line at = isWhole (fieldAt c line at sep) || isWhole (fieldAt c line at feed)
 
--- the byte of a field that was found bad at `place`. None where the field itself is good, for then the fields are too few or too many; and none where
--- the line ends there
+-- the byte of a field that was found bad at `place`. 0 where the field itself is good, for then the fields are too few or too many; and 0 where `place` is
+-- past the line's end
 unfoldable pub byteAt : (sep : ℕ) → Column → (line : List ℕ) → (at place : ℕ) → ℕ
 byteAt sep c line at place = cond (goodAt sep c line at || leb (length line) place) 0 (place + 1)
 
@@ -36,7 +36,7 @@ abbrev pub blamed : (sep : ℕ) → Column → (line : List ℕ) → (at : ℕ) 
 blamed sep c line at (Whole z next) = 0
 blamed sep c line at (Wrong place) = byteAt sep c line at place
 
--- .. or of those after it
+-- the byte of this field where it is bad, else the byte of the fields after it
 abbrev pub orLater : Signed → (here : ℕ) → (later : ℕ → ℕ) → ℕ
 orLater (Whole z next) here later = later next
 orLater (Wrong place) here later = here
@@ -53,8 +53,8 @@ abbrev pub otherIndex : (i : ℕ) → Number → Bool
 otherIndex i (Value index next) = not (eqb index i)
 otherIndex i (Bad place) = false
 
--- an index from place `at` on that `sep` does not end. An LF may end it: the fields after it are missing then, but it is judged, since it stands left of
--- them. Where the text cuts it off it is not known to be wrong
+-- the byte of an index from place `at` on that `sep` does not end. An LF may end it: the fields after it are then missing, but the index stands left of them and
+-- is judged first. An index that the text cuts off is not known to be wrong
 abbrev pub endedByte : (sep at : ℕ) → (line : List ℕ) → (i place : ℕ) → ℕ
 endedByte sep at line i place = cond (otherIndex i (numberAt line at feed)) (at + 1) (byteAt sep number line at place)
 

@@ -1,3 +1,2 @@
 pub mod Blame
 pub mod RangeBlame
-pub mod FirstBad

@@ -10,7 +10,7 @@ use text::Signed;
 use text::field::number_at;
 ghost use mathlib.Core.Path.{_≡_};
 ghost use Prim.Native.Nat.{_≤_};
-ghost use Rattle.kinds.specs.LineColumns.{columnOf, columnsOf};
+ghost use Rattle.types.specs.LineColumns.{columnOf, columnsOf};
 ghost use Rattle.text.specs.Fields.{numberAt};
 ghost use Rattle.blame.specs.Blame.{isWhole, goodAt, byteAt, blamed, fieldsByte, otherIndex, endedByte, indexByte, lineByte};
 
@@ -51,7 +51,7 @@ fn index_byte(sep: u8, at: usize, columns: &[u8], line: &[u8], i: usize) -> usiz
     }
 }
 
-// The index that `sep` does not end: where an LF ends it, another line's index is still named.
+// The byte to blame in an index that `sep` does not end. Where an LF ends it, an index of another line is still blamed.
 fn ended_byte(sep: u8, at: usize, line: &[u8], i: usize, place: usize) -> usize
     requires { ⌜ at ≤ 2 ⌝ }
     ensures { λ r. ⌜ r ≡ endedByte sep at (now (line .entry)) i place ⌝ }
@@ -99,7 +99,7 @@ fn blamed(sep: u8, column: u8, line: &[u8], at: usize, found: Signed) -> usize
     }
 }
 
-// None where the field itself is good, so that the fields are too few or too many, or where the line ends.
+// 0 if the field is well-formed (so the line has too few or too many fields), or if the place is past the line's end.
 fn byte_at(sep: u8, column: u8, line: &[u8], at: usize, place: usize) -> usize
     ensures { λ r. ⌜ r ≡ byteAt sep (columnOf column) (now (line .entry)) at place ⌝ }
 {

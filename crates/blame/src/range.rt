@@ -1,14 +1,14 @@
 // The byte to blame for a value outside its range: the first byte of the first field that fails its test, 0 where all are within. The tests are those that
-// the value is judged by (`tests` of its type, crate kinds). Fields are found by counting the bytes that part them, so nothing is read again.
-use kinds::Row;
-use kinds::RowRecord;
+// the value is judged by (`tests` of its type, crate types). Fields are found by counting the bytes that part them, so nothing is read again.
+use types::Row;
+use types::RowRecord;
 ghost use mathlib.Core.Path.{_≡_};
 ghost use mathlib.Core.Bool.{cond};
 ghost use Prim.Native.Nat.{_+_, _-_, _<_, _^_};
 ghost use lib.Dec.{eqb};
 ghost use lib.ListN.{length};
-ghost use Rattle.kinds.specs.LineColumns.{rowItems};
-ghost use Rattle.kinds.specs.Ranges.{factorTests, rowLineTests};
+ghost use Rattle.types.specs.LineColumns.{rowItems};
+ghost use Rattle.types.specs.Ranges.{factorTests, rowLineTests};
 ghost use Rattle.blame.specs.RangeBlame.{fieldFirst, rangeByte};
 
 // A line's fields by their tests; the first of them follows the line's k-th `sep`.
@@ -24,7 +24,7 @@ pub fn range_byte(sep: u8, tests: &[bool], k: usize, line: &[u8]) -> usize
     0
 }
 
-// A row: the seven values, of which the first follows the line's k-th `sep`, and then the factors.
+// A row: the seven values, then the factors. The first value follows the line's k-th `sep`.
 pub fn row_range(sep: u8, k: usize, raw: RowRecord, f: &[i64], line: &[u8]) -> usize
     requires { ⌜ k + rowItems + length (now f) < 2 ^ 64 ⌝ }
     ensures { λ r. ⌜ r ≡ rangeByte sep (rowLineTests raw (now (f .entry))) k (now (line .entry)) ⌝ }
@@ -38,7 +38,7 @@ pub fn row_range(sep: u8, k: usize, raw: RowRecord, f: &[i64], line: &[u8]) -> u
     }
 }
 
-// The factors, of which the first follows the line's k-th `sep`.
+// The factors. The first follows the line's k-th `sep`.
 fn factors_range(sep: u8, f: &[i64], k: usize, line: &[u8]) -> usize
     requires { ⌜ k + length (now f) < 2 ^ 64 ⌝ }
     ensures { λ r. ⌜ r ≡ rangeByte sep (factorTests (now (f .entry))) k (now (line .entry)) ⌝ }
@@ -67,7 +67,7 @@ fn field_first(sep: u8, k: usize, line: &[u8]) -> usize
     i + 1
 }
 
-// How many are left to pass after a byte.
+// How many `sep` are still to pass after a byte.
 fn less(sep: u8, left: usize, byte: u8) -> usize
     requires { ⌜ 0 < left ⌝ }
     ensures { λ r. ⌜ r ≡ cond (eqb byte sep) (left - 1) left ⌝ }

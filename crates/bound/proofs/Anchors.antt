@@ -8,19 +8,19 @@ use native.Mathlib.Omega.{arith}
 use lib.IntN.{ℤ, pos}
 use Rattle.numbers.specs.Below.{ifZero, sum, count, largest, lesser, least, orZero, table, firstFrom, given}
 use Rattle.numbers.specs.Ints.{minus, maxℤ, minℤ, positivePart, sameℤ, sumℤ, inside}
-use Rattle.kinds.specs.Ranges.{headerFits, allocatedItems, zoneFits, exists, hubsFit, hubsOf, borderFits, borderOf, shareOf, rowOf, rowFits, factorFits, worth, defaultOf}
-use Rattle.kinds.specs.Refusals.{Judged, passed, refused, then, unless, refuseAt, refuseFirst, need, badMark, unlimited, belowZero}
-use Rattle.kinds.proofs.RefusalLaws.{passed-is}
+use Rattle.refusals.specs.Refusals.{Judged, passed, refused, then, unless, refuseAt, refuseFirst, need, badMark, unlimited, belowZero}
+use Rattle.refusals.proofs.RefusalLaws.{passed-is}
+use Rattle.types.specs.Ranges.{headerFits, allocatedItems, zoneFits, exists, hubsFit, hubsOf, borderFits, borderOf, shareOf, rowOf, rowFits, factorFits, worth, defaultOf}
 use Rattle.marks.specs.Marks.{markedBy, faultyMark, judgeMarks}
 use Rattle.table.specs.Table.{Table, stretch, balanced, twice, roomFor, judgeShape, judgeFor}
 use Rattle.rounds.specs.Rounds.{sharers, alone, mostSharers, bitsTo, bits, aloneBits}
 use Rattle.margin.specs.Margin.{grains, f0coreOf, fuafOf, baseOf, amrOf, signedFactor, pOf, ltaKw, sOf, ltaMarginOf, ramOf, ramAt}
-use Rattle.states.specs.States.{highest, lowest, spreadOf, shifted, below, stateOf}
-use Rattle.states.specs.Rows.{rowsOf}
-use Rattle.start.specs.Setup.{gridBy, beginBy, judgeBy}
-use Rattle.start.specs.Start.{kept, setupWith}
+use Rattle.states.specs.States.{highest, lowest, spreadOf, shifted, below, stateOf, kept}
+use Rattle.states.specs.Standings.{standingsOf}
+use Rattle.setup.specs.Setup.{gridBy, beginBy, judgeBy}
+use Rattle.start.specs.Start.{setupWith}
 use Rattle.tight.specs.declared.RoundsMost.{RoundsMost}
-use Rattle.tight.specs.Tight.{shareUp, cut, stepsWithin, steps, rowReach, reach, farthest, tightBound}
+use Rattle.tight.specs.Tight.{equalShareUp, cut, stepsWithin, steps, rowReach, reach, farthest, tightBound}
 use Rattle.tight.specs.Measure.{boundBy}
 use Rattle.bound.specs.Bound.{boundMarked, boundFor, AtMost}
 
@@ -62,7 +62,7 @@ abbrev most : (n l rounds sharp : ℕ) → Judged RoundsMost
 most n l rounds sharp = passed (record { sharers = n; bits = l; rounds = rounds; sharp = sharp })
 
 pub record Anchors : Type 0 where
-  -- 01: N = 2, L = 22, bound 88. Border 0 reaches 3,299,999 kW, of which 22 halves, rounded up, are taken
+  -- 01: N = 2, L = 22, bound 88. Border 0 can rise by 3,299,999 kW in all, which a cut by half, rounded up, takes to 0 in 22 steps
   pub worked : boundFor true [] hour ≡ most 2 22 88 22
   -- border 1 alone is marked: no row shares, and it could take 1,600,000 kW, under 2^21, at once
   pub marked : boundFor false (1 ∷ []) hour ≡ most 1 21 42 1
@@ -75,7 +75,7 @@ pub record Anchors : Type 0 where
   pub no-room : boundFor false (0 ∷ []) (small (pos 0)) ≡ most 1 0 0 0
 
 pub anchors : Anchors
-unfolding ifZero sum count largest lesser least orZero table firstFrom given maxℤ minℤ positivePart sameℤ sumℤ inside headerFits allocatedItems zoneFits exists hubsFit hubsOf borderFits borderOf shareOf rowOf rowFits factorFits worth defaultOf then unless refuseAt refuseFirst need markedBy faultyMark judgeMarks stretch balanced twice roomFor judgeShape judgeFor sharers alone mostSharers bitsTo bits aloneBits grains f0coreOf fuafOf baseOf amrOf signedFactor pOf ltaKw sOf ltaMarginOf ramOf ramAt highest lowest spreadOf shifted below stateOf gridBy beginBy judgeBy rowsOf kept setupWith shareUp cut stepsWithin steps rowReach reach farthest tightBound boundBy boundMarked boundFor
+unfolding ifZero sum count largest lesser least orZero table firstFrom given maxℤ minℤ positivePart sameℤ sumℤ inside headerFits allocatedItems zoneFits exists hubsFit hubsOf borderFits borderOf shareOf rowOf rowFits factorFits worth defaultOf then unless refuseAt refuseFirst need markedBy faultyMark judgeMarks stretch balanced twice roomFor judgeShape judgeFor sharers alone mostSharers bitsTo bits aloneBits grains f0coreOf fuafOf baseOf amrOf signedFactor pOf ltaKw sOf ltaMarginOf ramOf ramAt highest lowest spreadOf shifted below stateOf gridBy beginBy judgeBy standingsOf kept setupWith equalShareUp cut stepsWithin steps rowReach reach farthest tightBound boundBy boundMarked boundFor
 anchors = record { worked = refl; marked = refl; no-mark = refl; no-border = refl; free = refl; low = refl; no-room = refl }
 
 -- ---- the statement

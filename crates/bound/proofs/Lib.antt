@@ -1,6 +1,2 @@
 pub mod Anchors
 pub mod BoundLaws
-pub mod Unique
-pub mod FewRounds
-pub mod SameRefusals
-pub mod NotSeven

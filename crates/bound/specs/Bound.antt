@@ -1,10 +1,10 @@
 -- The hour's own bound, known before the first round (01, "Extraction" and demand 3): N, L, 2 x N x L and the sharper bound of a table, with every border free to rise or
--- only those that are marked (02, E13), and what the open calls `bound` and `bound_marked` answer. That the rounds are at most this: `proofs/FewRounds.antt`.
+-- only those that are marked (02, E13), and what the open calls `bound` and `bound_marked` answer. That the rounds are at most this: crate worst, `rounds-at-most`.
 use mathlib.Core.Path.{_≡_}
 use mathlib.Core.Bool.{Bool}
 use mathlib.Core.List.{List}
 use Prim.Native.Nat.{ℕ, _≤_}
-use Rattle.kinds.specs.Refusals.{Judged, passed, refused, then}
+use Rattle.refusals.specs.Refusals.{Judged, passed, refused, then}
 use Rattle.marks.specs.Marks.{judgeAsked, mayRise}
 use Rattle.table.specs.Table.{Table, judgeLent}
 use Rattle.start.specs.Start.{gridMarked, tableStart, judgeMarked}
@@ -13,15 +13,15 @@ use Rattle.tight.specs.Measure.{boundBy}
 use Rattle.bound.specs.declared.Bounded.{Bounded}
 use Rattle.bound.specs.declared.Bounded.the-variants as bounded
 
--- of a table; where some borders are marked, all is counted over these
+-- the bound of a table; where some borders are marked, all is counted over these
 abbrev pub boundOf : (marked : ℕ → Bool) → Table → RoundsMost
 boundOf marked t = boundBy (gridMarked marked t) (tableStart t .margins)
 
--- .. where the rounds may start: 5, 6 and 7 come first
+-- the bound where the rounds may start: 5, 6 and 7 are judged first
 unfoldable pub boundMarked : (marked : ℕ → Bool) → Table → Judged RoundsMost
 boundMarked marked t = then (judgeMarked marked t) (λ states. passed (boundOf marked t))
 
--- .. and before them the marks (13)
+-- the bound as it was asked for, with a list of marks or for every border: 13 is judged first
 abbrev pub boundAsked : (all : Bool) → (marks : List ℕ) → Table → Judged RoundsMost
 boundAsked all marks t = judgeAsked all (t .header .borders) marks (boundMarked (mayRise all marks) t)
 

@@ -1,77 +1,25 @@
-// How many rounds an hour can take at most, known before the first round: the open calls `bound` and `bound_marked`. What they do beyond judging the table and
-// starting the margins (tight::measure) costs less than one round (docs/BENCH.md).
+// How many rounds the hour of a good table can take at most, known before the first round. What is done beyond starting the margins (tight::measure) costs less than one
+// round (docs/BENCH.md). What judges lent tables first is crate doors'.
 ghost use mathlib.Core.Path.{_≡_};
-ghost use mathlib.Core.Bool.{true, false};
-ghost use mathlib.Core.List.{[]};
 ghost use Prim.Native.Nat.{_*_};
 ghost use lib.ListN.{length};
 ghost use Rattle.marks.specs.Marks.{flagged};
 ghost use Rattle.table.specs.Table.{lent, front};
 ghost use Rattle.table.specs.Good.{Good};
-ghost use Rattle.bound.specs.Bound.{boundMarked, boundAsked, boundFor, saidBounded};
-use kinds::BorderRecord;
-use kinds::Header;
-use kinds::Judgement;
-use kinds::Refusal;
-use kinds::RowRecord;
+ghost use Rattle.bound.specs.Bound.{boundMarked, boundAsked, saidBounded};
+use refusals::Judgement;
+use refusals::Refusal;
 use tight::RoundsMost;
+use types::BorderRecord;
+use types::Header;
+use types::RowRecord;
 
 pub enum Bounded {
     Rounds(RoundsMost),
     Refused(Refusal),
 }
 
-// The bound of a lent table. Any input has an answer: there is no `requires`.
-pub fn bound(
-    h: Header,
-    z: &[i64],
-    t: &[i64],
-    b: &[BorderRecord],
-    c: &[RowRecord],
-    f: &[i64],
-) -> Bounded
-    ensures { λ r. ⌜ saidBounded r ≡ boundFor true [] (lent h (now (z .entry)) (now (t .entry)) (now (b .entry)) (now (c .entry)) (now (f .entry))) ⌝ }
-{
-    // No marks are looked at.
-    let marks: [u64; 1] = [0];
-    bound_for(h, z, t, b, c, f, true, &marks)
-}
-
-// The same where only the borders of a list of marks rise (02, E13).
-pub fn bound_marked(
-    h: Header,
-    z: &[i64],
-    t: &[i64],
-    b: &[BorderRecord],
-    c: &[RowRecord],
-    f: &[i64],
-    marks: &[u64],
-) -> Bounded
-    ensures { λ r. ⌜ saidBounded r ≡ boundFor false (now (marks .entry)) (lent h (now (z .entry)) (now (t .entry)) (now (b .entry)) (now (c .entry)) (now (f .entry))) ⌝ }
-{
-    bound_for(h, z, t, b, c, f, false, marks)
-}
-
-// Both, as asked: for every border, or with marks.
-pub fn bound_for(
-    h: Header,
-    z: &[i64],
-    t: &[i64],
-    b: &[BorderRecord],
-    c: &[RowRecord],
-    f: &[i64],
-    all: bool,
-    marks: &[u64],
-) -> Bounded
-    ensures { λ r. ⌜ saidBounded r ≡ boundFor all (now (marks .entry)) (lent h (now (z .entry)) (now (t .entry)) (now (b .entry)) (now (c .entry)) (now (f .entry))) ⌝ }
-{
-    if let Judgement::Refused(w) = table::judge(h, z, t, b, c, f, table::Room::None) {
-        return Bounded::Refused(w);
-    }
-    bound_good(h, z, t, b, c, f, all, marks)
-}
-
-// .. of a good table: 13, and then the bound. The room to work in is made here, and not in `bound_in`, whose goals would spell it out.
+// The bound of a good table: 13, and then the bound. The room to work in is made here, and not in `bound_in`, whose goals would spell it out.
 pub fn bound_good(
     h: Header,
     z: &[i64],
@@ -92,13 +40,13 @@ pub fn bound_good(
     let flags = marks::chosen(all, marks);
     let rows = h.rows;
     let cells = rows * borders;
-    let mut rams: [i64; Header::ROWS_MOST] = [0; Header::ROWS_MOST];
-    let mut starts: [i64; Header::ROWS_MOST] = [0; Header::ROWS_MOST];
-    let mut states: [u64; Header::ROWS_MOST] = [0; Header::ROWS_MOST];
-    let mut margins: [u64; Header::ROWS_MOST] = [0; Header::ROWS_MOST];
-    let mut ns: [u64; Header::ROWS_MOST] = [0; Header::ROWS_MOST];
-    let mut p: [u64; Header::ROWS_MOST * Header::BORDERS_MOST] = [0; Header::ROWS_MOST
-        * Header::BORDERS_MOST];
+    let mut rams: [i64; limits::ROWS_MOST] = [0; limits::ROWS_MOST];
+    let mut starts: [i64; limits::ROWS_MOST] = [0; limits::ROWS_MOST];
+    let mut states: [u64; limits::ROWS_MOST] = [0; limits::ROWS_MOST];
+    let mut margins: [u64; limits::ROWS_MOST] = [0; limits::ROWS_MOST];
+    let mut ns: [u64; limits::ROWS_MOST] = [0; limits::ROWS_MOST];
+    let mut p: [u64; limits::ROWS_MOST * limits::BORDERS_MOST] = [0; limits::ROWS_MOST
+        * limits::BORDERS_MOST];
     bound_in(
         h,
         z,
@@ -116,7 +64,7 @@ pub fn bound_good(
     )
 }
 
-// 5, 6, 7, and only then p, the margins that the rounds would start from, and what they come to.
+// 5, 6, 7, and only then p, the margins that the rounds would start from, and the bound that both give.
 fn bound_in(
     h: Header,
     z: &[i64],

@@ -6,12 +6,12 @@ use Prim.Native.Char.{code}
 use Prim.Native.Nat.{ℕ, _+_}
 use native.Mathlib.Omega.{arith}
 use lib.ListN.{length}
-use Rattle.kinds.specs.declared.Judgement.{Judgement}
-use Rattle.kinds.specs.declared.Judgement.the-variants.{Passed, Refused}
-use Rattle.kinds.specs.declared.Refusal.{Refusal}
-use Rattle.kinds.specs.Answers.{ruled}
-use Rattle.kinds.specs.Refusals.{Judged, passed, refused}
-use Rattle.kinds.proofs.RefusalLaws.{then-next, then-refused}
+use Rattle.refusals.specs.declared.Judgement.{Judgement}
+use Rattle.refusals.specs.declared.Judgement.the-variants.{Passed, Refused}
+use Rattle.refusals.specs.declared.Refusal.{Refusal}
+use Rattle.refusals.specs.Answers.{saidJudgement}
+use Rattle.refusals.specs.Refusals.{Judged, passed, refused}
+use Rattle.refusals.proofs.RefusalLaws.{then-next, then-refused}
 use Rattle.text.specs.Left.{TextLeft, textLeft}
 use Rattle.text.specs.Written.{decimal}
 use Rattle.text.proofs.LeftLaws.{text-refused}
@@ -45,7 +45,7 @@ module _ (asked : Judged RoundsMost) (out : List ℕ) (r : Bounded) (said : said
   told-rounds m e = ap (λ (j : Judged (List ℕ)). textLeft j out) (sym (then-next _ (sym said ∙ ap saidBounded e)))
 
 -- ---- lent tables: what judging refuses is refused, and else the text is that of the front's bound
-module _ (all : Bool) (marks : List ℕ) (given : Table) (r : Judgement) (said : ruled r (front given) ≡ judgeLent given) (out : List ℕ) where
+module _ (all : Bool) (marks : List ℕ) (given : Table) (r : Judgement) (said : saidJudgement r (front given) ≡ judgeLent given) (out : List ℕ) where
   pub text-judged-not : (w : Refusal) → r ≡ Refused w → _≡_ {A = TextLeft} (record { answer = refused w; out = out }) (boundTextLeft all marks given out)
   unfolding boundTextLeft
   text-judged-not w e = text-refused out (then-refused _ (sym (lent-refused all marks given r said w e)))

@@ -1,3 +1,2 @@
 pub mod Anchors
 pub mod BoundTextLaws
-pub mod Unique

@@ -3,7 +3,7 @@ use mathlib.Core.Bool.{Bool}
 use mathlib.Core.List.{List, [], _∷_}
 use Prim.Native.Char.{code}
 use Prim.Native.Nat.{ℕ, _+_, _*_}
-use Rattle.kinds.specs.Refusals.{Judged, passed, then}
+use Rattle.refusals.specs.Refusals.{Judged, passed, then}
 use Rattle.text.specs.Left.{TextLeft, textLeft}
 use Rattle.text.specs.Written.{decimal, lineText}
 use Rattle.table.specs.Table.{Table}
@@ -17,11 +17,11 @@ boundLine n l rounds sharp = lineText (code "U") (decimal n ∷ decimal l ∷ de
 abbrev pub boundText : RoundsMost → List ℕ
 boundText m = boundLine (m .sharers) (m .bits) (m .rounds) (m .sharp)
 
--- .. of machine numbers, each of at most 20 bytes: letter, tabs and LF besides
+-- no U line is longer: letter, tabs and LF, and four machine numbers of at most 20 bytes each
 abbrev pub boundMost : ℕ
 boundMost = 6 + 4 * 20
 
--- .. where the bound is answered
+-- the text of a bound, where it is answered
 abbrev pub boundTextOf : Judged RoundsMost → Judged (List ℕ)
 boundTextOf bounded = then bounded (λ m. passed (boundText m))
 

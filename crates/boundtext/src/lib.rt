@@ -2,7 +2,7 @@
 ghost use mathlib.Core.Path.{_≡_};
 ghost use Prim.Native.Nat.{_≤_};
 ghost use lib.ListN.{length};
-ghost use Rattle.kinds.specs.Refusals.{passed};
+ghost use Rattle.refusals.specs.Refusals.{passed};
 ghost use Rattle.text.specs.Left.{textLeft, textSaid};
 ghost use Rattle.text.specs.Put.{Put};
 ghost use Rattle.table.specs.Table.{lent, front};
@@ -10,12 +10,12 @@ ghost use Rattle.table.specs.Good.{Good};
 ghost use Rattle.bound.specs.Bound.{boundAsked};
 ghost use Rattle.boundtext.specs.BoundText.{boundLine, boundMost, boundTextOf, boundTextLeft};
 use bound::Bounded;
-use kinds::BorderRecord;
-use kinds::Header;
-use kinds::Judgement;
-use kinds::Refusal;
-use kinds::RowRecord;
-use kinds::Written;
+use refusals::Judgement;
+use refusals::Refusal;
+use refusals::Written;
+use types::BorderRecord;
+use types::Header;
+use types::RowRecord;
 
 // A line's letter, tabs and LF.
 const MARKS: usize = 6;
@@ -43,7 +43,7 @@ pub fn bound_text(
     bound_text_good(h, z, t, b, c, f, all, marks, out)
 }
 
-// .. of a good table.
+// The bound of a good table as text.
 pub fn bound_text_good(
     h: Header,
     z: &[i64],
@@ -67,7 +67,7 @@ pub fn bound_text_good(
     }
 }
 
-// What is left to judge is the room for the text.
+// Only the room for the text is left to judge.
 fn write_bound(n: u64, l: u64, rounds: u64, sharp: u64, out: &mut [u8]) -> Written
     ensures { λ r. ⌜ textSaid r (now (out .exit)) ≡ textLeft (passed (boundLine n l rounds sharp)) (now (out .entry)) ⌝ }
 {

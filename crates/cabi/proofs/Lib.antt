@@ -1,2 +1,1 @@
 pub mod JudgedLaws
-pub mod Unique

@@ -1,12 +1,12 @@
 -- What the C interface answers: number, place and byte of the refusal, all 0 where there is none, and then the values (0 where refused).
--- `readCoded`, `textCoded`, `extractCoded`, `flowsCoded`, `rowsCoded`, `marginsCoded`, `codedJudged` and `codedBounded` are what contracts cite: a call's answer coded so, and each lent buffer as the call leaves it.
+-- `readCoded`, `textCoded`, `extractCoded`, `explainedCoded`, `flowsCoded`, `rowsCoded`, `marginsCoded`, `codedJudged` and `codedBounded` are what contracts cite: a call's answer coded so, and each lent buffer as the call leaves it.
 use mathlib.Core.List.{List}
 use Prim.Native.Nat.{ℕ}
 use lib.IntN.{ℤ, pos}
-use Rattle.kinds.specs.declared.Header.{Header}
-use Rattle.kinds.specs.declared.Judgement.{Judgement}
-use Rattle.kinds.specs.declared.Judgement.the-variants as judgement
-use Rattle.kinds.specs.Refusals.{Judged, passed, refused}
+use Rattle.refusals.specs.declared.Judgement.{Judgement}
+use Rattle.refusals.specs.declared.Judgement.the-variants as judgement
+use Rattle.refusals.specs.Refusals.{Judged, passed, refused}
+use Rattle.types.specs.declared.Header.{Header}
 use Rattle.reading.specs.Reading.{ReadLeft}
 use Rattle.text.specs.Left.{TextLeft}
 use Rattle.extraction.specs.Extraction.{ExtractLeft}
@@ -20,6 +20,9 @@ use Rattle.tight.specs.declared.RoundsMost.{RoundsMost}
 use Rattle.parts.specs.Parts.{MarginsLeft}
 use Rattle.cabi.specs.declared.KeravnothJudged.{KeravnothJudged}
 use Rattle.cabi.specs.declared.KeravnothBounded.{KeravnothBounded}
+use Rattle.why.specs.declared.Reasons.{Reasons}
+use Rattle.why.specs.Why.{WhyLeft}
+use Rattle.cabi.specs.declared.KeravnothExplained.{KeravnothExplained}
 
 -- the header of the table that was read
 abbrev pub codedRead : Judged Header → KeravnothRead
@@ -55,6 +58,11 @@ abbrev pub codedBounded : Judged RoundsMost → KeravnothBounded
 codedBounded (passed most) = record { number = 0; place = 0; byte = 0; sharers = most .sharers; bits = most .bits; rounds = most .rounds; sharp = most .sharp }
 codedBounded (refused w) = record { number = w .number; place = w .place; byte = w .byte; sharers = 0; bits = 0; rounds = 0; sharp = 0 }
 
+-- a border's reasons: the rounds, the border's last, the row that the result names and the row that ended its rise
+abbrev pub codedExplained : Judged Reasons → KeravnothExplained
+codedExplained (passed r) = record { number = 0; place = 0; byte = 0; rounds = r .rounds; last = r .last; named = r .named; ended = r .ended }
+codedExplained (refused w) = record { number = w .number; place = w .place; byte = w .byte; rounds = 0; last = 0; named = pos 0; ended = pos 0 }
+
 -- what `keravnoth_read` leaves: its answer, and each lent table
 pub record ReadCoded : Type 0 where
   pub answer : KeravnothRead
@@ -78,21 +86,21 @@ pub record OutCoded (A B : Type 0) : Type 0 where
 abbrev pub outFound : {A B : Type 0} → (answer : A) → (out : List B) → OutCoded A B
 outFound answer out = record { answer = answer; out = out }
 
--- .. the calls that write text, the lent bytes
+-- what a call that writes text leaves: its answer, and the lent bytes
 abbrev pub textFound : (answer : KeravnothWritten) → (out : List ℕ) → OutCoded KeravnothWritten ℕ
 textFound answer out = outFound answer out
 
 abbrev pub textCoded : TextLeft → OutCoded KeravnothWritten ℕ
 textCoded l = textFound (codedWritten (l .answer)) (l .out)
 
--- .. `keravnoth_corner_flows`, the lent numbers
+-- what `keravnoth_corner_flows` leaves: its answer, and the lent numbers
 abbrev pub flowsFound : (answer : KeravnothFlows) → (out : List ℤ) → OutCoded KeravnothFlows ℤ
 flowsFound answer out = outFound answer out
 
 abbrev pub flowsCoded : FlowsLeft → OutCoded KeravnothFlows ℤ
 flowsCoded l = flowsFound (codedFlows (l .answer)) (l .out)
 
--- .. `keravnoth_margins`, the lent records
+-- what `keravnoth_margins` leaves: its answer, and the lent records
 abbrev pub marginsFound : (answer : KeravnothJudged) → (out : List (List ℤ)) → OutCoded KeravnothJudged (List ℤ)
 marginsFound answer out = outFound answer out
 
@@ -111,6 +119,19 @@ extractFound answer ps atcs lefts = record { answer = answer; p = ps; atcs = atc
 
 abbrev pub extractCoded : ExtractLeft → ExtractCoded
 extractCoded l = extractFound (codedExtracted (l .answer)) (l .p) (l .atcs) (l .lefts)
+
+-- what `keravnoth_why` leaves: its answer, the lent table of p, and the lent records
+pub record ExplainedCoded : Type 0 where
+  pub answer : KeravnothExplained
+  pub p : List ℕ
+  pub ends : List (List ℤ)
+  pub rows : List (List ℤ)
+
+abbrev pub explainedFound : (answer : KeravnothExplained) → (ps : List ℕ) → (ends rows : List (List ℤ)) → ExplainedCoded
+explainedFound answer ps ends rows = record { answer = answer; p = ps; ends = ends; rows = rows }
+
+abbrev pub explainedCoded : WhyLeft → ExplainedCoded
+explainedCoded l = explainedFound (codedExplained (l .answer)) (l .p) (l .ends) (l .rows)
 
 -- what `keravnoth_read_rows` leaves: its answer, the lent records and the lent factors
 pub record RowsCoded : Type 0 where

@@ -3,33 +3,40 @@
 ghost use mathlib.Core.Path.{_≡_};
 ghost use mathlib.Core.Bool.{true, false};
 ghost use mathlib.Core.List.{[]};
-ghost use Rattle.kinds.specs.Answers.{saidRead, saidWritten, saidExtracted, saidFlows};
+ghost use Rattle.refusals.specs.Answers.{saidWritten};
 ghost use Rattle.table.specs.Table.{lent};
+ghost use Rattle.corners.specs.Answers.{saidFlows};
+ghost use Rattle.extraction.specs.Answers.{saidExtracted};
 ghost use Rattle.reading.specs.Reading.{readLeft, readCorrectedLeft};
+ghost use Rattle.reading.specs.Answers.{saidRead};
 ghost use Rattle.writing.specs.Writing.{writeLeft, rewriteCorrectedLeft};
 ghost use Rattle.extraction.specs.Extraction.{extractLeft, extractMarkedLeft};
 ghost use Rattle.corners.specs.Corners.{cornersLeft};
 ghost use Rattle.cornertext.specs.CornerText.{cornerTextLeft};
-ghost use Rattle.claims.specs.Claims.{claimsAnswer};
+ghost use Rattle.claimrules.specs.Claims.{claimsAnswer};
 ghost use Rattle.claimtext.specs.Published.{publishedLeft};
 ghost use Rattle.rowsheet.specs.RowSheet.{readRowsLeft, writeRowsLeft};
 ghost use Rattle.bound.specs.Bound.{saidBounded, boundFor};
 ghost use Rattle.parts.specs.Parts.{marginsLeft};
+ghost use Rattle.why.specs.Why.{saidExplained, whyLeft, whyMarkedLeft};
 ghost use Rattle.answer.specs.Result.{resultTextLeft, resultTextMarkedLeft, answerLeft, answerMarkedLeft, answerCorrectedLeft};
-ghost use Rattle.cabi.specs.Coded.{codedRead, codedWritten, codedExtracted, codedFlows, codedJudged, codedRuling, codedBounded, readFound, readCoded, textFound, textCoded, extractFound, extractCoded, flowsFound, flowsCoded, rowsFound, rowsCoded, marginsFound, marginsCoded};
+ghost use Rattle.cabi.specs.Coded.{codedRead, codedWritten, codedExtracted, codedFlows, codedJudged, codedRuling, codedBounded, readFound, readCoded, textFound, textCoded, extractFound, extractCoded, flowsFound, flowsCoded, rowsFound, rowsCoded, marginsFound, marginsCoded, codedExplained, explainedFound, explainedCoded};
 use bound::Bounded;
 use claims::ClaimRecord;
-use extraction::AtcRecord;
-use extraction::LeftRecord;
-use kinds::BorderRecord;
-use kinds::Extracted;
-use kinds::Flows;
-use kinds::Header;
-use kinds::Judgement;
-use kinds::Read;
-use kinds::RowRecord;
-use kinds::Written;
+use corners::Flows;
+use extraction::Extracted;
+use outcome::AtcRecord;
+use outcome::LeftRecord;
 use parts::PartsRecord;
+use reading::TableRead;
+use refusals::Judgement;
+use refusals::Written;
+use types::BorderRecord;
+use types::Header;
+use types::RowRecord;
+use why::EndRecord;
+use why::Explained;
+use why::HoldRecord;
 
 #[repr(C)]
 pub struct KeravnothRead {
@@ -85,6 +92,17 @@ pub struct KeravnothBounded {
     pub sharp: u64,
 }
 
+#[repr(C)]
+pub struct KeravnothExplained {
+    pub number: u32,
+    pub place: usize,
+    pub byte: usize,
+    pub rounds: u64,
+    pub last: u64,
+    pub named: i64,
+    pub ended: i64,
+}
+
 // Reads a table's text into z, t, b, c and f.
 #[no_mangle]
 pub extern "C" fn keravnoth_read(
@@ -100,7 +118,7 @@ pub extern "C" fn keravnoth_read(
     code_read(reading::read(text, z, t, b, c, f))
 }
 
-// .. as a sheet of corrected rows corrects it.
+// Reads a table's text, as a sheet of corrected rows corrects it, into z, t, b, c and f.
 #[no_mangle]
 pub extern "C" fn keravnoth_read_corrected<'a>(
     text: &'a [u8],
@@ -159,10 +177,10 @@ pub extern "C" fn keravnoth_extract(
 ) -> KeravnothExtracted
     ensures { λ r. ⌜ extractFound r (now (p .exit)) (now (atc .exit)) (now (left .exit)) ≡ extractCoded (extractLeft (lent h (now (z .entry)) (now (t .entry)) (now (b .entry)) (now (c .entry)) (now (f .entry))) (now (p .entry)) (now (atc .entry)) (now (left .entry))) ⌝ }
 {
-    code_extracted(extraction::extract(h, z, t, b, c, f, p, atc, left))
+    code_extracted(doors::extract(h, z, t, b, c, f, p, atc, left))
 }
 
-// The same where only the marked borders may rise.
+// Capacities and margins where only the marked borders may rise.
 #[no_mangle]
 pub extern "C" fn keravnoth_extract_marked(
     h: Header,
@@ -178,7 +196,7 @@ pub extern "C" fn keravnoth_extract_marked(
 ) -> KeravnothExtracted
     ensures { λ r. ⌜ extractFound r (now (p .exit)) (now (atc .exit)) (now (left .exit)) ≡ extractCoded (extractMarkedLeft (lent h (now (z .entry)) (now (t .entry)) (now (b .entry)) (now (c .entry)) (now (f .entry))) (now (marks .entry)) (now (p .entry)) (now (atc .entry)) (now (left .entry))) ⌝ }
 {
-    code_extracted(extraction::extract_marked(h, z, t, b, c, f, p, marks, atc, left))
+    code_extracted(doors::extract_marked(h, z, t, b, c, f, p, marks, atc, left))
 }
 
 // The extraction as text.
@@ -197,7 +215,7 @@ pub extern "C" fn keravnoth_result_text(
     code_written(answer::result_text(h, z, t, b, c, f, out))
 }
 
-// .. where only the marked borders may rise.
+// The extraction as text, where only the marked borders may rise.
 #[no_mangle]
 pub extern "C" fn keravnoth_result_text_marked(
     h: Header,
@@ -222,7 +240,7 @@ pub extern "C" fn keravnoth_answer(text: &[u8], out: &mut [u8]) -> KeravnothWrit
     code_written(answer::answer(text, out))
 }
 
-// .. where only the marked borders may rise.
+// From text to text, where only the marked borders may rise.
 #[no_mangle]
 pub extern "C" fn keravnoth_answer_marked(
     text: &[u8],
@@ -234,7 +252,7 @@ pub extern "C" fn keravnoth_answer_marked(
     code_written(answer::answer_marked(text, marks, out))
 }
 
-// .. of the table as the sheet corrects it.
+// From text to text, of the table as the sheet corrects it.
 #[no_mangle]
 pub extern "C" fn keravnoth_answer_corrected<'a>(
     text: &'a [u8],
@@ -263,7 +281,7 @@ pub extern "C" fn keravnoth_corner_flows(
     code_flows(corners::corner_flows(h, z, t, b, c, f, row, out))
 }
 
-// The same as text.
+// The flows of all corners on one row, as text.
 #[no_mangle]
 pub extern "C" fn keravnoth_corner_text(
     h: Header,
@@ -351,10 +369,10 @@ pub extern "C" fn keravnoth_bound(
 ) -> KeravnothBounded
     ensures { λ r. ⌜ r ≡ codedBounded (boundFor true [] (lent h (now (z .entry)) (now (t .entry)) (now (b .entry)) (now (c .entry)) (now (f .entry)))) ⌝ }
 {
-    code_bounded(bound::bound(h, z, t, b, c, f))
+    code_bounded(doors::bound(h, z, t, b, c, f))
 }
 
-// The same where only marked borders rise.
+// How many rounds the tables can take at most where only the marked borders rise.
 #[no_mangle]
 pub extern "C" fn keravnoth_bound_marked(
     h: Header,
@@ -367,7 +385,7 @@ pub extern "C" fn keravnoth_bound_marked(
 ) -> KeravnothBounded
     ensures { λ r. ⌜ r ≡ codedBounded (boundFor false (now (marks .entry)) (lent h (now (z .entry)) (now (t .entry)) (now (b .entry)) (now (c .entry)) (now (f .entry)))) ⌝ }
 {
-    code_bounded(bound::bound_marked(h, z, t, b, c, f, marks))
+    code_bounded(doors::bound_marked(h, z, t, b, c, f, marks))
 }
 
 // What the margin of each row is made of.
@@ -386,11 +404,50 @@ pub extern "C" fn keravnoth_margins(
     code_judged(parts::margins(h, z, t, b, c, f, out))
 }
 
-fn code_read(said: Read) -> KeravnothRead
+// Why a border got no more, and p of each row at each border.
+#[no_mangle]
+pub extern "C" fn keravnoth_why(
+    h: Header,
+    z: &[i64],
+    t: &[i64],
+    b: &[BorderRecord],
+    c: &[RowRecord],
+    f: &[i64],
+    border: u64,
+    p: &mut [u64],
+    ends: &mut [EndRecord],
+    rows: &mut [HoldRecord],
+) -> KeravnothExplained
+    ensures { λ r. ⌜ explainedFound r (now (p .exit)) (now (ends .exit)) (now (rows .exit)) ≡ explainedCoded (whyLeft (lent h (now (z .entry)) (now (t .entry)) (now (b .entry)) (now (c .entry)) (now (f .entry))) border (now (p .entry)) (now (ends .entry)) (now (rows .entry))) ⌝ }
+{
+    code_explained(why::why(h, z, t, b, c, f, border, p, ends, rows))
+}
+
+// The same where only marked borders rise.
+#[no_mangle]
+pub extern "C" fn keravnoth_why_marked(
+    h: Header,
+    z: &[i64],
+    t: &[i64],
+    b: &[BorderRecord],
+    c: &[RowRecord],
+    f: &[i64],
+    marks: &[u64],
+    border: u64,
+    p: &mut [u64],
+    ends: &mut [EndRecord],
+    rows: &mut [HoldRecord],
+) -> KeravnothExplained
+    ensures { λ r. ⌜ explainedFound r (now (p .exit)) (now (ends .exit)) (now (rows .exit)) ≡ explainedCoded (whyMarkedLeft (lent h (now (z .entry)) (now (t .entry)) (now (b .entry)) (now (c .entry)) (now (f .entry))) (now (marks .entry)) border (now (p .entry)) (now (ends .entry)) (now (rows .entry))) ⌝ }
+{
+    code_explained(why::why_marked(h, z, t, b, c, f, marks, border, p, ends, rows))
+}
+
+fn code_read(said: TableRead) -> KeravnothRead
     ensures { λ r. ⌜ r ≡ codedRead (saidRead said) ⌝ }
 {
     match said {
-        Read::Table(h) => {
+        TableRead::Table(h) => {
             let share = h.share;
             KeravnothRead {
                 number: 0,
@@ -403,7 +460,7 @@ fn code_read(said: Read) -> KeravnothRead
                 intraday: h.intraday,
             }
         }
-        Read::Refused(w) => KeravnothRead {
+        TableRead::Refused(w) => KeravnothRead {
             number: w.number,
             place: w.place,
             byte: w.byte,
@@ -511,6 +568,31 @@ fn code_bounded(said: Bounded) -> KeravnothBounded
             bits: 0,
             rounds: 0,
             sharp: 0,
+        },
+    }
+}
+
+fn code_explained(said: Explained) -> KeravnothExplained
+    ensures { λ r. ⌜ r ≡ codedExplained (saidExplained said) ⌝ }
+{
+    match said {
+        Explained::Reasons(reasons) => KeravnothExplained {
+            number: 0,
+            place: 0,
+            byte: 0,
+            rounds: reasons.rounds,
+            last: reasons.last,
+            named: reasons.named,
+            ended: reasons.ended,
+        },
+        Explained::Refused(w) => KeravnothExplained {
+            number: w.number,
+            place: w.place,
+            byte: w.byte,
+            rounds: 0,
+            last: 0,
+            named: 0,
+            ended: 0,
         },
     }
 }

@@ -1,18 +1,15 @@
 // Answers every file that the arguments name: the name on a line, and then what the word before it asks for, as the program prints it.
-// After the argument `claims` and a file comes the published list, after `rows`, `with` and a file the table with its rows.
+// After the argument `claims` and a file comes the published list, after `rows`, `with` and a file the table with its rows, after `why` and a border its reasons.
 // After the argument `corners` come the corner sheets of every row, after a number those of that row. After `--marks` and a list only those borders
 // rise, after `--corrections` and a file its rows are put in, until the next word; `answer` is the word for the answer.
-ghost use Rattle.io.specs.Counts.{Counts};
-use asked::Asked;
-use command::arguments;
-use command::arguments::Held;
-use command::arguments::Piece;
-use command::arguments::whole;
+use arguments::Held;
+use arguments::whole;
+use command::asked;
+use command::asked::Asked;
+use command::asked::Task;
 use command::input;
-use command::input::Text;
 use libc::STDOUT_FILENO;
 use printing::tasks;
-use printing::tasks::Task;
 
 // What was asked for last, by its place among the arguments: the word, what stands after it, the marks, and an option whose value comes next.
 struct Setting {
@@ -48,10 +45,13 @@ fn take(i: usize, setting: Setting) -> Setting {
     if setting.due > 0 {
         return take_value(i, setting);
     }
-    match arguments::which(whole(i), b"--corrections\n--marks\nwith\nclaims\nanswer\n") {
+    match arguments::which(
+        whole(i),
+        b"--corrections\n--marks\nwith\nclaims\nwhy\nanswer\n",
+    ) {
         0..=2 => awaiting(i, setting),
-        3 => awaiting(i, word_at(i)),
-        4 => word_at(0),
+        3..=4 => awaiting(i, word_at(i)),
+        5 => word_at(0),
         _ => take_word(i, setting),
     }
 }
@@ -86,11 +86,16 @@ fn take_rest(i: usize, mut setting: Setting) -> Setting {
     setting
 }
 
-// First the files that options name are read, the corrections and what goes with the word, and then the table.
 fn one(i: usize, setting: Setting) {
-    let Asked::Task(task) = asked::understand(setting.word, setting.after) else {
-        return;
-    };
+    match asked::understand(setting.word, setting.after) {
+        Asked::Task(task) => one_task(task, i, setting),
+        Asked::Why(border) => one_why(border, i, setting),
+        _ => {}
+    }
+}
+
+// First the files that options name are read, the corrections and what goes with the word, and then the table.
+fn one_task(task: Task, i: usize, setting: Setting) {
     let sheet = input::named(whole(setting.corrections));
     if sheet.failed {
         return;
@@ -104,33 +109,20 @@ fn one(i: usize, setting: Setting) {
         return;
     }
     name(i);
-    print(task, whole(setting.marks), table, sheet, file)
+    tasks::print(task, whole(setting.marks), table, sheet, file);
 }
 
-fn print(task: Task, list: Piece, table: Text, sheet: Text, file: Text)
-    requires { ⌜ Counts (table .count) (table .bytes) ⌝ }
-    requires { ⌜ Counts (sheet .count) (sheet .bytes) ⌝ }
-    requires { ⌜ Counts (file .count) (file .bytes) ⌝ }
-{
-    let listed = arguments::list(list);
-    let m = listed.count;
-    let marks = listed.numbers;
-    let n = table.count;
-    let text = table.bytes;
-    let k = sheet.count;
-    let rows = sheet.bytes;
-    let f = file.count;
-    let with = file.bytes;
-    let mut out = asked::room();
-    tasks::print(
-        task,
-        list.at == 0,
-        &marks[..m],
-        &with[..f],
-        &text[..n],
-        &rows[..k],
-        &mut out,
-    );
+fn one_why(border: u64, i: usize, setting: Setting) {
+    let sheet = input::named(whole(setting.corrections));
+    if sheet.failed {
+        return;
+    }
+    let table = input::named(whole(i));
+    if table.failed {
+        return;
+    }
+    name(i);
+    reasons::print(border, whole(setting.marks), table, sheet);
 }
 
 fn name(i: usize) {

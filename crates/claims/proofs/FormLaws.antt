@@ -1,4 +1,4 @@
--- The laws of `specs/Claims.antt`'s tests of form, and of values lent among others (`specs/Bounds.antt`). No contract cites this file.
+-- The laws of the tests of form (claimrules: `specs/Claims.antt`), and of values lent among others (`specs/Magnitudes.antt`). No contract cites this file.
 use mathlib.Core.Path.{_≡_, refl, sym, ap, ap₂, _∙_}
 use mathlib.Core.Bool.{Bool, true, false, not}
 use mathlib.Core.List.{List, []}
@@ -16,13 +16,13 @@ use Rattle.numbers.specs.Below.{at, allBelow}
 use Rattle.numbers.proofs.BelowLaws.{sumℤ-cong}
 use Rattle.numbers.proofs.TestLaws.{and-both, all-true}
 use Rattle.numbers.proofs.IntLaws.{diff, diffs, zarith, ltZ-true, ltZ-false, within-le, within-mul, within-sum, inside-pos, between-within}
-use Rattle.margin.proofs.BoundLaws.{within-sub}
-use Rattle.kinds.specs.Ranges.{atℤ, exists}
-use Rattle.kinds.proofs.KindLaws.{exists-test, exists-in}
+use Rattle.margin.proofs.MagnitudeLaws.{within-sub}
+use Rattle.types.specs.Ranges.{atℤ, exists}
+use Rattle.types.proofs.RangeLaws.{exists-test, exists-in}
 use Rattle.table.proofs.GoodLaws.{stretch-at}
-use Rattle.start.specs.Start.{kept}
-use Rattle.claims.specs.Claims.{timesMost, pairsMost, claimedRow, denominator, pairs, citedRow, multiplier, keptRow, citedBefore, pairGood, formedBy, citedSum, ownShare, excess, factorAt}
-use Rattle.claims.specs.Bounds.{ClaimBound, Lent, valueOf, valueMost}
+use Rattle.states.specs.States.{kept}
+use Rattle.claimrules.specs.Claims.{timesMost, pairsMost, claimedRow, denominator, pairs, citedRow, multiplier, keptRow, citedBefore, pairGood, formedBy, citedSum, ownSum, excess, factorAt}
+use Rattle.claims.specs.Magnitudes.{ClaimInRange, Lent, valueOf, valueMost}
 
 -- ---- keptRow
 
@@ -82,9 +82,9 @@ module _ (states : List ℕ) (named : ℤ → Bool) where
         cited = λ j h. pair-formed claim j (all-true (natAbs (pairs claim)) (pairGood states named claim) (d .1) j h);
       }
 
-  -- .. is in range
-  pub formed-bound : {claim : List ℤ} → ClaimFormed states named claim → ClaimBound (length states) claim
-  formed-bound {claim} c =
+  -- a well-formed claim is in range
+  pub formed-ranges : {claim : List ℤ} → ClaimFormed states named claim → ClaimInRange (length states) claim
+  formed-ranges {claim} c =
       record {
         row-in = kept-exists states (claimedRow claim) (c .row);
         times-in = c .times;
@@ -115,7 +115,7 @@ pub sum-next : (f : ℕ → ℤ) (j : ℕ) {s v : ℤ} → s ≡ sumℤ j f → 
 unfolding sumℤ
 sum-next f j e d = rw (add-one j) (ap₂ (λ (x y : ℤ). x +ℤ y) e d)
 
-module _ {rows : ℕ} {claim : List ℤ} (bound : ClaimBound rows claim) where
+module _ {rows : ℕ} {claim : List ℤ} (bound : ClaimInRange rows claim) where
   pub few-pairs : natAbs (pairs claim) ≤ pairsMost
   few-pairs = inside-pos 0 pairsMost (pairs claim) (bound .pairs-in) .most
 
@@ -137,11 +137,11 @@ module _ {rows : ℕ} {claim : List ℤ} (bound : ClaimBound rows claim) where
         within-le (within-sum n (terms claim xs stride at) (λ j l. term-in j (omega arith) lent))
         (mul-le-mul {n₁ = n} {n₂ = pairsMost} (omega (arith, few-pairs)) (le-refl (timesMost * valueMost)))
 
-    pub own-in : Within (timesMost * valueMost) (ownShare claim (valueOf xs stride at))
-    unfolding ownShare
+    pub own-in : Within (timesMost * valueMost) (ownSum claim (valueOf xs stride at))
+    unfolding ownSum
     own-in = within-mul denominator-in (value-in lent (claimedRow claim) (bound .row-in))
 
-    pub excess-in : Within (pairsMost * (timesMost * valueMost) + timesMost * valueMost) (citedSum claim (valueOf xs stride at) -ℤ ownShare claim (valueOf xs stride at))
+    pub excess-in : Within (pairsMost * (timesMost * valueMost) + timesMost * valueMost) (citedSum claim (valueOf xs stride at) -ℤ ownSum claim (valueOf xs stride at))
     unfolding citedSum
     excess-in = within-sub (sum-in (natAbs (pairs claim)) (le-refl (natAbs (pairs claim)))) own-in
 
@@ -155,7 +155,7 @@ module _ {rows zones z : ℕ} {f : List ℤ} (lent : Lent rows zones z f) (claim
   factor-value row = sym (stretch-at zones f (natAbs row) z (lent .within))
 
   pub excess-factor : excess claim (valueOf f zones z) ≡ excess claim (factorAt zones f z)
-  unfolding excess citedSum ownShare
+  unfolding excess citedSum ownSum
   excess-factor =
       ap₂ (λ (x y : ℤ). x -ℤ y)
       (sumℤ-cong (natAbs (pairs claim)) _ _ (λ j h. ap (λ (x : ℤ). multiplier claim j *ℤ x) (factor-value (citedRow claim j))))
@@ -171,14 +171,14 @@ module _ (claim xs : List ℤ) where
   unfolding citedSum
   single-cited = sumℤ-cong (natAbs (pairs claim)) _ _ (λ j h. ap (λ (x : ℤ). multiplier claim j *ℤ x) (single (natAbs (citedRow claim j))))
 
-  single-own : ownShare claim (valueOf xs 1 0) ≡ ownShare claim (atℤ xs)
-  unfolding ownShare
+  single-own : ownSum claim (valueOf xs 1 0) ≡ ownSum claim (atℤ xs)
+  unfolding ownSum
   single-own = ap (λ (x : ℤ). denominator claim *ℤ x) (single (natAbs (claimedRow claim)))
 
   -- the sum is at most the claimed row's share
-  pub single-test : leZ (excess claim (valueOf xs 1 0)) (pos 0) ≡ not (ltZ (ownShare claim (atℤ xs)) (citedSum claim (atℤ xs)))
+  pub single-test : leZ (excess claim (valueOf xs 1 0)) (pos 0) ≡ not (ltZ (ownSum claim (atℤ xs)) (citedSum claim (atℤ xs)))
   unfolding excess
-  single-test = ap₂ (λ (x y : ℤ). leZ (x -ℤ y) (pos 0)) single-cited single-own ∙ at-most (citedSum claim (atℤ xs)) (ownShare claim (atℤ xs))
+  single-test = ap₂ (λ (x y : ℤ). leZ (x -ℤ y) (pos 0)) single-cited single-own ∙ at-most (citedSum claim (atℤ xs)) (ownSum claim (atℤ xs))
     where
       down : (x y : ℤ) → x ≤ℤ y → (x -ℤ y) ≤ℤ pos 0
       down x y h = let h′ = simp diffs at (rw (diff x, diff y) at h) in rw (diff x, diff y) (simp diffs (omega (zarith, h′)))

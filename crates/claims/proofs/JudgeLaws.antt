@@ -9,14 +9,14 @@ use lib.ListN.{length, getD}
 use Rattle.numbers.specs.Ints.{Within}
 use Rattle.numbers.proofs.BelowLaws.{Looked, looked-none, looked-all, looked-here, looked-more, table-get}
 use Rattle.numbers.proofs.IntLaws.{within-le}
-use Rattle.kinds.specs.declared.Refusal.{Refusal}
-use Rattle.kinds.specs.declared.Judgement.{Judgement}
-use Rattle.kinds.specs.declared.Judgement.the-variants.{Passed, Refused}
-use Rattle.kinds.specs.Answers.{ruled}
-use Rattle.kinds.specs.Limits.{rowsMost}
-use Rattle.kinds.specs.Ranges.{atℤ}
-use Rattle.kinds.specs.Refusals.{passed, refused, unless, refuseFirst, malformedClaim, notBorneOut}
-use Rattle.kinds.proofs.RefusalLaws.{not-passed, first-found, first-none-next, then-refused, then-next}
+use Rattle.limits.specs.Limits.{rowsMost}
+use Rattle.refusals.specs.declared.Refusal.{Refusal}
+use Rattle.refusals.specs.declared.Judgement.{Judgement}
+use Rattle.refusals.specs.declared.Judgement.the-variants.{Passed, Refused}
+use Rattle.refusals.specs.Answers.{saidJudgement}
+use Rattle.refusals.specs.Refusals.{passed, refused, unless, refuseFirst, malformedClaim, notBorneOut}
+use Rattle.refusals.proofs.RefusalLaws.{not-passed, first-found, first-none-next, then-refused, then-next}
+use Rattle.types.specs.Ranges.{atℤ}
 use Rattle.table.specs.declared.Room.the-variants.{None}
 use Rattle.table.specs.Table.{Table, front, judgeLent}
 use Rattle.table.specs.Good.{Good}
@@ -24,11 +24,11 @@ use Rattle.table.proofs.GoodLaws.{told-judged}
 use Rattle.margin.specs.Margin.{ramAt}
 use Rattle.margin.proofs.JudgedLaws.{good-factors}
 use Rattle.margin.proofs.Small as small
-use Rattle.states.specs.Rows.{Rows, rowsOf, rowsWith}
-use Rattle.states.proofs.RowsLaws.{rows-in}
-use Rattle.claims.specs.Claims.{claimedRow, formedBy, formed, borneOut, judgeClaims, claimsOf, claimsAnswer}
+use Rattle.states.specs.Standings.{Standings, standingsOf, standingsWith}
+use Rattle.states.proofs.StandingsLaws.{rows-in}
+use Rattle.claimrules.specs.Claims.{claimedRow, formedBy, formed, borneOut, judgeClaims, claimsOf, claimsAnswer}
 use Rattle.claims.specs.Named.{namedRows, noneNamed, flagged, nameRow, judgeClaim}
-use Rattle.claims.specs.Bounds.{Lent, valueMost}
+use Rattle.claims.specs.Magnitudes.{Lent, valueMost}
 use Rattle.claims.proofs.NameLaws.{named-none, named-long, name-more, formed-flags}
 
 -- ---- the first faulty claim
@@ -41,8 +41,8 @@ pub record Judging (zones : ℕ) (f rams : List ℤ) (states : List ℕ) (claims
   pub flags : before ≡ namedRows claims k
 
 module _ (zones : ℕ) (f rams : List ℤ) (states : List ℕ) (claims : List (List ℤ)) where
-  abbrev m : Rows
-  m = rowsWith rams states
+  abbrev m : Standings
+  m = standingsWith rams states
 
   abbrev found : ℕ → Bool
   found = faulty zones f rams states claims
@@ -63,8 +63,8 @@ module _ (zones : ℕ) (f rams : List ℤ) (states : List ℕ) (claims : List (L
 
     -- claim k, judged by flags
     module _ (h : k < length claims) (few : length states ≤ rowsMost) {named : List Bool} (all : named ≡ namedRows claims (length claims)) {claim : List ℤ} (is : claim ≡ getD claims k [])
-        (r : Judgement) (said : ruled r m ≡ judgeClaim zones f m (flagged named) (flagged before) claim k) where
-      told : ruled r m ≡ cond (found k) (refused (why k)) (passed m)
+        (r : Judgement) (said : saidJudgement r m ≡ judgeClaim zones f m (flagged named) (flagged before) claim k) where
+      told : saidJudgement r m ≡ cond (found k) (refused (why k)) (passed m)
       unfolding judgeClaim unless
       told =
           said
@@ -78,14 +78,14 @@ module _ (zones : ℕ) (f rams : List ℤ) (states : List ℕ) (claims : List (L
           cases true false = refl
           cases false w = refl
 
-      pub judging-refused : (w : Refusal) → r ≡ Refused w → ruled r m ≡ judgeClaims zones f m claims
+      pub judging-refused : (w : Refusal) → r ≡ Refused w → saidJudgement r m ≡ judgeClaims zones f m claims
       unfolding judgeClaims
       judging-refused w e = go (found k) refl
         where
-          is-refused : ruled r m ≡ refused w
-          is-refused = ap (λ (j : Judgement). ruled j m) e
+          is-refused : saidJudgement r m ≡ refused w
+          is-refused = ap (λ (j : Judgement). saidJudgement j m) e
 
-          go : (v : Bool) → found k ≡ v → ruled r m ≡ refuseFirst (length claims) found why (passed m)
+          go : (v : Bool) → found k ≡ v → saidJudgement r m ≡ refuseFirst (length claims) found why (passed m)
           go true q = told ∙ ap (λ (v : Bool). cond v (refused (why k)) (passed m)) q ∙ sym (first-found (passed m) (length claims) found why (sym (looked-here _ _ k (u .looked) h q)))
           go false q = absurd (not-passed w m (sym is-refused ∙ told ∙ ap (λ (v : Bool). cond v (refused (why k)) (passed m)) q))
 
@@ -93,15 +93,15 @@ module _ (zones : ℕ) (f rams : List ℤ) (states : List ℕ) (claims : List (L
       judging-more e {row} own q = record { looked = looked-more _ _ k (u .looked) h (go (found k) refl); flags = q ∙ ap (nameRow row) (u .flags) ∙ name-more claims k (own ∙ ap claimedRow is) }
         where
           go : (v : Bool) → found k ≡ v → found k ≡ false
-          go true q = absurd (not-passed (why k) m (sym (told ∙ ap (λ (v : Bool). cond v (refused (why k)) (passed m)) q) ∙ ap (λ (j : Judgement). ruled j m) e))
+          go true q = absurd (not-passed (why k) m (sym (told ∙ ap (λ (v : Bool). cond v (refused (why k)) (passed m)) q) ∙ ap (λ (j : Judgement). saidJudgement j m) e))
           go false q = q
 
 -- ---- a judged table's factors and RAMs, as the functions on a claim ask for them
-pub ram-at : (t : Table) (i : ℕ) → i < t .header .rows → atℤ (rowsOf t .rams) i ≡ ramAt t i
-unfolding rowsOf
+pub ram-at : (t : Table) (i : ℕ) → i < t .header .rows → atℤ (standingsOf t .rams) i ≡ ramAt t i
+unfolding standingsOf
 ram-at t i h = table-get (t .header .rows) (ramAt t) i (pos 0) h
 
-module _ {t : Table} (good : Good t) (m : Rows) (e : m ≡ rowsOf t) where
+module _ {t : Table} (good : Good t) (m : Standings) (e : m ≡ standingsOf t) where
   pub factors-lent : Lent (t .header .rows) (t .header .zones) 0 (t .factors)
   factors-lent =
       let f = good-factors good in
@@ -113,22 +113,22 @@ module _ {t : Table} (good : Good t) (m : Rows) (e : m ≡ rowsOf t) where
       record { long = omega (arith, long); within = omega arith; each = record { at = λ i h. ram-within i (omega (arith, long)) } }
     where
       ram-within : (i : ℕ) → i < t .header .rows → Within valueMost (atℤ (m .rams) i)
-      ram-within i h = subst (Within valueMost) (sym (ap (λ (n : Rows). atℤ (n .rams) i) e ∙ ram-at t i h)) (within-le (small.ram-in good i h) (omega arith))
+      ram-within i h = subst (Within valueMost) (sym (ap (λ (n : Standings). atℤ (n .rams) i) e ∙ ram-at t i h)) (within-le (small.ram-in good i h) (omega arith))
 
   pub states-lent : length (m .states) ≡ t .header .rows
   states-lent = rows-in t m e .states-long
 
-  pub known-claims : (claims : List (List ℤ)) (r : Judgement) → ruled r m ≡ judgeClaims (t .header .zones) (t .factors) m claims → ruled r (rowsOf t) ≡ claimsOf t claims
+  pub known-claims : (claims : List (List ℤ)) (r : Judgement) → saidJudgement r m ≡ judgeClaims (t .header .zones) (t .factors) m claims → saidJudgement r (standingsOf t) ≡ claimsOf t claims
   unfolding claimsOf
-  known-claims claims r h = subst (λ (n : Rows). ruled r n ≡ judgeClaims (t .header .zones) (t .factors) n claims) e h
+  known-claims claims r h = subst (λ (n : Standings). saidJudgement r n ≡ judgeClaims (t .header .zones) (t .factors) n claims) e h
 
 -- ---- the open call
-module _ (given : Table) (claims : List (List ℤ)) (r : Judgement) (said : ruled r (front given) ≡ judgeLent given) where
-  pub answer-refused : (w : Refusal) → r ≡ Refused w → ruled r (rowsOf (front given)) ≡ claimsAnswer given claims
+module _ (given : Table) (claims : List (List ℤ)) (r : Judgement) (said : saidJudgement r (front given) ≡ judgeLent given) where
+  pub answer-refused : (w : Refusal) → r ≡ Refused w → saidJudgement r (standingsOf (front given)) ≡ claimsAnswer given claims
   unfolding claimsAnswer
   answer-refused w e =
-      ap (λ (j : Judgement). ruled j (rowsOf (front given))) e
-      ∙ sym (then-refused _ (sym said ∙ ap (λ (j : Judgement). ruled j (front given)) e))
+      ap (λ (j : Judgement). saidJudgement j (standingsOf (front given))) e
+      ∙ sym (then-refused _ (sym said ∙ ap (λ (j : Judgement). saidJudgement j (front given)) e))
 
   pub answer-judged : r ≡ Passed → claimsOf (front given) claims ≡ claimsAnswer given claims
   unfolding claimsAnswer

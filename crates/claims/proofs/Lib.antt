@@ -1,9 +1,3 @@
-pub mod Anchors
-pub mod AnchorsAllowed
-pub mod AnchorsOrder
-pub mod CanGo
 pub mod FormLaws
 pub mod NameLaws
 pub mod JudgeLaws
-pub mod Outweighed
-pub mod Unique

@@ -18,10 +18,10 @@ use Rattle.numbers.proofs.BelowLaws.{lt-suc-cases, first-cong, table-long, tabl
 use Rattle.numbers.proofs.FirstLaws.{some-has}
 use Rattle.numbers.proofs.IntLaws.{same-true, same-self}
 use Rattle.numbers.proofs.TestLaws.{both-and, some-false, false-some}
-use Rattle.kinds.specs.Limits.{rowsMost}
-use Rattle.kinds.specs.Ranges.{exists}
-use Rattle.kinds.proofs.KindLaws.{exists-test, exists-in}
-use Rattle.claims.specs.Claims.{timesMost, pairsMost, claimedRow, denominator, pairs, citedRow, multiplier, keptRow, claimedIn, citedBefore, pairGood, formedBy, formed}
+use Rattle.limits.specs.Limits.{rowsMost}
+use Rattle.types.specs.Ranges.{exists}
+use Rattle.types.proofs.RangeLaws.{exists-test, exists-in}
+use Rattle.claimrules.specs.Claims.{timesMost, pairsMost, claimedRow, denominator, pairs, citedRow, multiplier, keptRow, claimedIn, citedBefore, pairGood, formedBy, formed}
 use Rattle.claims.specs.Named.{namedRows, noneNamed, flagged, nameRow}
 use Rattle.claims.proofs.FormLaws.{kept-exists}
 
@@ -119,7 +119,7 @@ module _ (claims : List (List ℤ)) where
   unfolding namedRows
   named-of n flags long is = table-of rowsMost (λ i. claimedIn claims n (pos i)) flags false long is
 
-  -- a claim more
+  -- one claim more
   module _ (n : ℕ) {row : ℤ} (is : row ≡ claimedRow (getD claims n [])) where
     abbrev flags : List Bool
     flags = namedRows claims n

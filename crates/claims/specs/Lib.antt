@@ -1,3 +1,2 @@
-pub mod Claims
 pub mod Named
-pub mod Bounds
+pub mod Magnitudes

@@ -6,30 +6,30 @@ use Prim.Native.Nat.{ℕ}
 use lib.IntN.{ℤ, pos, natAbs}
 use lib.ListN.{length, getD, set}
 use Rattle.numbers.specs.Below.{table}
-use Rattle.kinds.specs.Limits.{rowsMost}
-use Rattle.kinds.specs.Ranges.{exists}
-use Rattle.kinds.specs.Refusals.{Judged, passed, unless, malformedClaim, notBorneOut}
-use Rattle.states.specs.Rows.{Rows}
-use Rattle.claims.specs.Claims.{claimedIn, formedBy, borneOut}
+use Rattle.limits.specs.Limits.{rowsMost}
+use Rattle.refusals.specs.Refusals.{Judged, passed, unless, malformedClaim, notBorneOut}
+use Rattle.types.specs.Ranges.{exists}
+use Rattle.states.specs.Standings.{Standings}
+use Rattle.claimrules.specs.Claims.{claimedIn, formedBy, borneOut}
 
 -- the rows that the first n claims name
 unfoldable pub namedRows : (claims : List (List ℤ)) → (n : ℕ) → List Bool
 namedRows claims n = table rowsMost (λ i. claimedIn claims n (pos i))
 
--- .. and none of them
+-- no row is named
 abbrev pub noneNamed : List Bool
 noneNamed = table rowsMost (λ i. false)
 
--- what flags say of a row
+-- whether a row's flag is set
 unfoldable pub flagged : (flags : List Bool) → (row : ℤ) → Bool
 flagged flags row = exists (length flags) row && getD flags (natAbs row) false
 
--- one row more is named; a row that no table has needs no flag
+-- flags one row more; a row that no table has needs no flag
 unfoldable pub nameRow : (row : ℤ) → (flags : List Bool) → List Bool
 nameRow row flags = cond (exists (length flags) row) (set flags (natAbs row) true) flags
 
 -- what claim k comes to: form before truth
-unfoldable pub judgeClaim : (zones : ℕ) → (factors : List ℤ) → Rows → (named before : ℤ → Bool) → (claim : List ℤ) → (k : ℕ) → Judged Rows
+unfoldable pub judgeClaim : (zones : ℕ) → (factors : List ℤ) → Standings → (named before : ℤ → Bool) → (claim : List ℤ) → (k : ℕ) → Judged Standings
 judgeClaim zones factors m named before claim k =
     unless (formedBy (m .states) named before claim) (malformedClaim k)
     (unless (borneOut zones factors (m .rams) claim) (notBorneOut k)

@@ -5,30 +5,30 @@ ghost use Prim.Native.Nat.{_<_, _≤_};
 ghost use lib.IntN.{natAbs, _*ℤ_};
 ghost use lib.ListN.{length};
 ghost use Rattle.numbers.specs.Below.{allBelow};
-ghost use Rattle.kinds.specs.Answers.{ruled};
-ghost use Rattle.kinds.specs.Limits.{rowsMost};
-ghost use Rattle.kinds.specs.Ranges.{exists};
+ghost use Rattle.limits.specs.Limits.{rowsMost};
+ghost use Rattle.refusals.specs.Answers.{saidJudgement};
+ghost use Rattle.types.specs.Ranges.{exists};
 ghost use Rattle.table.specs.Table.{lent, front};
 ghost use Rattle.table.specs.Good.{Good};
-ghost use Rattle.states.specs.Rows.{rowsOf, rowsWith};
-ghost use Rattle.claims.specs.Claims.{pairsMost, citedRow, multiplier, pairs, keptRow, citedBefore, pairGood, formedBy, citedSum, excess, level, borneOut, judgeClaims, claimsOf, claimsAnswer};
+ghost use Rattle.states.specs.Standings.{standingsOf, standingsWith};
+ghost use Rattle.claimrules.specs.Claims.{pairsMost, citedRow, multiplier, pairs, keptRow, citedBefore, pairGood, formedBy, citedSum, excess, level, borneOut, judgeClaims, claimsOf, claimsAnswer};
 ghost use Rattle.claims.specs.Named.{namedRows, noneNamed, flagged, nameRow, judgeClaim};
-ghost use Rattle.claims.specs.Bounds.{ClaimBound, Lent, valueOf};
-use kinds::BorderRecord;
-use kinds::Header;
-use kinds::Judgement;
-use kinds::Refusal;
-use kinds::RowRecord;
+ghost use Rattle.claims.specs.Magnitudes.{ClaimInRange, Lent, valueOf};
+use refusals::Judgement;
+use refusals::Refusal;
+use types::BorderRecord;
+use types::Header;
+use types::RowRecord;
 
 // A lent claim: the claimed row, the denominator D, how many pairs there are; then the pairs, each a cited row and its multiplier.
 pub const CLAIM_ITEMS: usize = 35;
 
 pub type ClaimRecord = [i64; CLAIM_ITEMS];
 
-// D and a multiplier are 1 to so much.
+// D and a multiplier are 1 to `TIMES_MOST`.
 pub const TIMES_MOST: i64 = 1000;
 
-// A claim has at most so many pairs, which its record has room for.
+// A claim has at most `PAIRS_MOST` pairs. Its record has room for all of them.
 pub const PAIRS_MOST: i64 = 16;
 
 // A row that exists and is kept.
@@ -45,7 +45,7 @@ fn kept_row(states: &[u64], row: i64) -> bool
     false
 }
 
-// What flags say of a row.
+// Whether a row's flag is set.
 pub fn is_flagged(flags: &[bool], row: i64) -> bool
     ensures { λ r. ⌜ r ≡ flagged (now (flags .entry)) row ⌝ }
 {
@@ -59,7 +59,7 @@ pub fn is_flagged(flags: &[bool], row: i64) -> bool
     false
 }
 
-// One row more is named. A row that no table has needs no flag.
+// Flags one row more. A row that no table has needs no flag.
 pub fn name_row(row: i64, flags: &mut [bool])
     ensures { λ _. ⌜ now (flags .exit) ≡ nameRow row (now (flags .entry)) ⌝ }
 {
@@ -116,7 +116,7 @@ fn pairs_good(states: &[u64], named: &[bool], claim: ClaimRecord, n: usize) -> b
     true
 }
 
-// 11: whether a claim is of right form, where the rows that any claim names are flagged, and those that an earlier one names.
+// 11: whether a claim is of right form. `named` flags the rows that any claim names, `earlier` those that an earlier claim names.
 fn is_formed(states: &[u64], named: &[bool], earlier: &[bool], claim: ClaimRecord) -> bool
     ensures { λ r. ⌜ r ≡ formedBy (now (states .entry)) (flagged (now (named .entry))) (flagged (now (earlier .entry))) claim ⌝ }
 {
@@ -158,7 +158,7 @@ fn multiplied(
     j: usize,
 ) -> i64
     requires { ⌜ Lent rows stride at (now xs) ⌝ }
-    requires { ⌜ ClaimBound rows claim ⌝ }
+    requires { ⌜ ClaimInRange rows claim ⌝ }
     requires { ⌜ j < natAbs (pairs claim) ⌝ }
     ensures { λ r. ⌜ r ≡ multiplier claim j *ℤ valueOf (now (xs .entry)) stride at (natAbs (citedRow claim j)) ⌝ }
 {
@@ -168,10 +168,10 @@ fn multiplied(
     times * value
 }
 
-// The multiplied values of the cited rows, summed.
+// The sum of the multiplied values of the cited rows.
 fn cited_sum(rows: usize, xs: &[i64], stride: usize, at: usize, claim: ClaimRecord) -> i64
     requires { ⌜ Lent rows stride at (now xs) ⌝ }
-    requires { ⌜ ClaimBound rows claim ⌝ }
+    requires { ⌜ ClaimInRange rows claim ⌝ }
     ensures { λ r. ⌜ r ≡ citedSum claim (valueOf (now (xs .entry)) stride at) ⌝ }
 {
     let pairs = claim[2];
@@ -183,10 +183,10 @@ fn cited_sum(rows: usize, xs: &[i64], stride: usize, at: usize, claim: ClaimReco
     sum
 }
 
-// .. less D times the claimed row's own.
+// The sum of the multiplied values of the cited rows, less D times the claimed row's own value.
 fn excess(rows: usize, xs: &[i64], stride: usize, at: usize, claim: ClaimRecord) -> i64
     requires { ⌜ Lent rows stride at (now xs) ⌝ }
-    requires { ⌜ ClaimBound rows claim ⌝ }
+    requires { ⌜ ClaimInRange rows claim ⌝ }
     ensures { λ r. ⌜ r ≡ excess claim (valueOf (now (xs .entry)) stride at) ⌝ }
 {
     let row = claim[0];
@@ -199,7 +199,7 @@ fn excess(rows: usize, xs: &[i64], stride: usize, at: usize, claim: ClaimRecord)
 // The factors' excess is one and the same number in each zone.
 fn is_level(rows: usize, zones: usize, f: &[i64], claim: ClaimRecord) -> bool
     requires { ⌜ Lent rows zones 0 (now f) ⌝ }
-    requires { ⌜ ClaimBound rows claim ⌝ }
+    requires { ⌜ ClaimInRange rows claim ⌝ }
     ensures { λ r. ⌜ r ≡ level zones (now (f .entry)) claim ⌝ }
 {
     let first = excess(rows, f, zones, 0, claim);
@@ -215,7 +215,7 @@ fn is_level(rows: usize, zones: usize, f: &[i64], claim: ClaimRecord) -> bool
 fn is_borne_out(rows: usize, zones: usize, f: &[i64], rams: &[i64], claim: ClaimRecord) -> bool
     requires { ⌜ Lent rows zones 0 (now f) ⌝ }
     requires { ⌜ Lent rows 1 0 (now rams) ⌝ }
-    requires { ⌜ ClaimBound rows claim ⌝ }
+    requires { ⌜ ClaimInRange rows claim ⌝ }
     ensures { λ r. ⌜ r ≡ borneOut zones (now (f .entry)) (now (rams .entry)) claim ⌝ }
 {
     if !is_level(rows, zones, f, claim) {
@@ -238,7 +238,7 @@ pub fn judge_claim(
     requires { ⌜ Lent (h .rows) (h .zones) 0 (now f) ⌝ }
     requires { ⌜ Lent (h .rows) 1 0 (now rams) ⌝ }
     requires { ⌜ length (now states) ≡ h .rows ⌝ }
-    ensures { λ r. ⌜ ruled r (rowsWith (now (rams .entry)) (now (states .entry))) ≡ judgeClaim (h .zones) (now (f .entry)) (rowsWith (now (rams .entry)) (now (states .entry))) (flagged (now (named .entry))) (flagged (now (earlier .entry))) claim k ⌝ }
+    ensures { λ r. ⌜ saidJudgement r (standingsWith (now (rams .entry)) (now (states .entry))) ≡ judgeClaim (h .zones) (now (f .entry)) (standingsWith (now (rams .entry)) (now (states .entry))) (flagged (now (named .entry))) (flagged (now (earlier .entry))) claim k ⌝ }
 {
     if !is_formed(states, named, earlier, claim) {
         return Judgement::Refused(Refusal::malformed_claim(k));
@@ -260,7 +260,7 @@ fn name_rows(claims: &[ClaimRecord], named: &mut [bool])
     }
 }
 
-// The first faulty claim decides. The rows that claims name are flagged, and none yet that an earlier one names.
+// The first faulty claim decides. `named` flags the rows that claims name; no row is flagged yet as named by an earlier one.
 fn judge_each(
     h: Header,
     f: &[i64],
@@ -274,7 +274,7 @@ fn judge_each(
     requires { ⌜ Lent (h .rows) 1 0 (now rams) ⌝ }
     requires { ⌜ (length (now states) ≡ h .rows) × (h .rows ≤ rowsMost) ⌝ }
     requires { ⌜ (now named ≡ namedRows (now claims) (length (now claims))) × (now earlier ≡ noneNamed) ⌝ }
-    ensures { λ r. ⌜ ruled r (rowsWith (now (rams .entry)) (now (states .entry))) ≡ judgeClaims (h .zones) (now (f .entry)) (rowsWith (now (rams .entry)) (now (states .entry))) (now (claims .entry)) ⌝ }
+    ensures { λ r. ⌜ saidJudgement r (standingsWith (now (rams .entry)) (now (states .entry))) ≡ judgeClaims (h .zones) (now (f .entry)) (standingsWith (now (rams .entry)) (now (states .entry))) (now (claims .entry)) ⌝ }
 {
     for k in 0..claims.len() {
         let claim = claims[k];
@@ -306,7 +306,7 @@ fn judge_in(
     requires { ⌜ (length (now rams) ≡ h .rows) × (length (now starts) ≡ h .rows) ⌝ }
     requires { ⌜ length (now states) ≡ h .rows ⌝ }
     requires { ⌜ (now named ≡ noneNamed) × (now earlier ≡ noneNamed) ⌝ }
-    ensures { λ r. ⌜ ruled r (rowsOf (front (lent h (now (z .entry)) (now (t .entry)) (now (b .entry)) (now (c .entry)) (now (f .entry))))) ≡ claimsOf (front (lent h (now (z .entry)) (now (t .entry)) (now (b .entry)) (now (c .entry)) (now (f .entry)))) (now (claims .entry)) ⌝ }
+    ensures { λ r. ⌜ saidJudgement r (standingsOf (front (lent h (now (z .entry)) (now (t .entry)) (now (b .entry)) (now (c .entry)) (now (f .entry))))) ≡ claimsOf (front (lent h (now (z .entry)) (now (t .entry)) (now (b .entry)) (now (c .entry)) (now (f .entry)))) (now (claims .entry)) ⌝ }
 {
     states::fill_rows(h, z, t, b, c, f, rams, starts, states);
     name_rows(claims, named);
@@ -324,7 +324,7 @@ pub fn judge_claims(
     f: &[i64],
     claims: &[ClaimRecord],
 ) -> Judgement
-    ensures { λ r. ⌜ ruled r (rowsOf (front (lent h (now (z .entry)) (now (t .entry)) (now (b .entry)) (now (c .entry)) (now (f .entry))))) ≡ claimsAnswer (lent h (now (z .entry)) (now (t .entry)) (now (b .entry)) (now (c .entry)) (now (f .entry))) (now (claims .entry)) ⌝ }
+    ensures { λ r. ⌜ saidJudgement r (standingsOf (front (lent h (now (z .entry)) (now (t .entry)) (now (b .entry)) (now (c .entry)) (now (f .entry))))) ≡ claimsAnswer (lent h (now (z .entry)) (now (t .entry)) (now (b .entry)) (now (c .entry)) (now (f .entry))) (now (claims .entry)) ⌝ }
 {
     let judged = table::judge(h, z, t, b, c, f, table::Room::None);
     let Judgement::Passed = judged else {
@@ -333,7 +333,7 @@ pub fn judge_claims(
     judge_claims_good(h, z, t, b, c, f, claims)
 }
 
-// .. on a good table. The room to work in is made here, and not in `judge_in`, whose goals would spell it out.
+// Judges a list of claims on a good table. Allocates the arrays here so that the proof goals of `judge_in` do not contain them.
 pub fn judge_claims_good(
     h: Header,
     z: &[i64],
@@ -344,14 +344,14 @@ pub fn judge_claims_good(
     claims: &[ClaimRecord],
 ) -> Judgement
     requires { ⌜ Good (front (lent h (now z) (now t) (now b) (now c) (now f))) ⌝ }
-    ensures { λ r. ⌜ ruled r (rowsOf (front (lent h (now (z .entry)) (now (t .entry)) (now (b .entry)) (now (c .entry)) (now (f .entry))))) ≡ claimsOf (front (lent h (now (z .entry)) (now (t .entry)) (now (b .entry)) (now (c .entry)) (now (f .entry)))) (now (claims .entry)) ⌝ }
+    ensures { λ r. ⌜ saidJudgement r (standingsOf (front (lent h (now (z .entry)) (now (t .entry)) (now (b .entry)) (now (c .entry)) (now (f .entry))))) ≡ claimsOf (front (lent h (now (z .entry)) (now (t .entry)) (now (b .entry)) (now (c .entry)) (now (f .entry)))) (now (claims .entry)) ⌝ }
 {
     let rows = h.rows;
-    let mut rams: [i64; Header::ROWS_MOST] = [0; Header::ROWS_MOST];
-    let mut starts: [i64; Header::ROWS_MOST] = [0; Header::ROWS_MOST];
-    let mut states: [u64; Header::ROWS_MOST] = [0; Header::ROWS_MOST];
-    let mut named: [bool; Header::ROWS_MOST] = [false; Header::ROWS_MOST];
-    let mut earlier: [bool; Header::ROWS_MOST] = [false; Header::ROWS_MOST];
+    let mut rams: [i64; limits::ROWS_MOST] = [0; limits::ROWS_MOST];
+    let mut starts: [i64; limits::ROWS_MOST] = [0; limits::ROWS_MOST];
+    let mut states: [u64; limits::ROWS_MOST] = [0; limits::ROWS_MOST];
+    let mut named: [bool; limits::ROWS_MOST] = [false; limits::ROWS_MOST];
+    let mut earlier: [bool; limits::ROWS_MOST] = [false; limits::ROWS_MOST];
     judge_in(
         h,
         z,

@@ -5,13 +5,13 @@ use mathlib.Core.List.{List, []}
 use Prim.Native.Nat.{ℕ, _+_, _≤_, _<_}
 use lib.IntN.{ℤ}
 use lib.ListN.{length, getD}
-use Rattle.kinds.specs.Limits.{rowsMost}
+use Rattle.limits.specs.Limits.{rowsMost}
 use Rattle.text.specs.Line.{lineAt, after}
-use Rattle.claims.specs.Claims.{claimedRow}
+use Rattle.claimrules.specs.Claims.{claimedRow}
 use Rattle.claims.specs.Named.{namedRows, noneNamed, nameRow}
 use Rattle.claims.proofs.NameLaws.{named-none, named-long, name-more}
-use Rattle.claimtext.specs.ClaimText.{claimLine, claimsIn}
-use Rattle.claimtext.proofs.ReadLaws.{LinesTo, lines-first, lines-all, lines-here, lines-more}
+use Rattle.claimline.specs.ClaimText.{claimLine, claimsIn}
+use Rattle.claimline.proofs.ReadLaws.{LinesTo, lines-first, lines-all, lines-here, lines-more}
 
 -- the lines before place p are passed, and the rows that they name are flagged
 pub record Naming (list : List ℕ) (flags : List Bool) (p : ℕ) : Type 0 where

@@ -16,15 +16,15 @@ use mir.Syntax.{w64}
 use mir.Val.{hbits}
 use Rattle.numbers.specs.Below.{at}
 use Rattle.numbers.proofs.IntLaws.{within-fits}
-use Rattle.kinds.specs.declared.Judgement.{Judgement}
-use Rattle.kinds.specs.declared.Judgement.the-variants.{Passed, Refused}
-use Rattle.kinds.specs.declared.Refusal.{Refusal}
-use Rattle.kinds.specs.Answers.{ruled}
-use Rattle.kinds.specs.Limits.{rowsMost, bytesMost}
-use Rattle.kinds.specs.Ranges.{atℤ}
-use Rattle.kinds.specs.Refusals.{Judged, passed, refused, then, tooLong}
-use Rattle.kinds.proofs.KindLaws.{header-in}
-use Rattle.kinds.proofs.RefusalLaws.{passed-is, not-passed, then-passed, then-next, then-refused}
+use Rattle.limits.specs.Limits.{rowsMost, bytesMost}
+use Rattle.refusals.specs.declared.Judgement.{Judgement}
+use Rattle.refusals.specs.declared.Judgement.the-variants.{Passed, Refused}
+use Rattle.refusals.specs.declared.Refusal.{Refusal}
+use Rattle.refusals.specs.Answers.{saidJudgement}
+use Rattle.refusals.specs.Refusals.{Judged, passed, refused, then, tooLong}
+use Rattle.refusals.proofs.RefusalLaws.{passed-is, none-passed, not-passed, then-passed, then-next, then-refused}
+use Rattle.types.specs.Ranges.{atℤ}
+use Rattle.types.proofs.RangeLaws.{header-in}
 use Rattle.text.specs.Fields.{tab}
 use Rattle.text.specs.Left.{TextLeft, textLeft}
 use Rattle.text.proofs.DigitLaws.{decimal-u64, decimal-i64}
@@ -37,28 +37,27 @@ use Rattle.table.specs.declared.Room.the-variants.{None}
 use Rattle.table.specs.Table.{Table, front, judgeLent}
 use Rattle.table.specs.Good.{Good}
 use Rattle.table.proofs.GoodLaws.{judged-front, told-judged}
-use Rattle.states.specs.Rows.{Rows, rowsOf}
-use Rattle.start.specs.Start.{kept}
-use Rattle.claims.specs.Claims.{claimedIn, judgeClaims, claimsOf, remaining}
+use Rattle.states.specs.Standings.{Standings, standingsOf}
+use Rattle.states.specs.States.{kept}
+use Rattle.claimrules.specs.Claims.{claimedIn, judgeClaims, claimsOf, remaining}
 use Rattle.claims.specs.Named.{namedRows, flagged}
-use Rattle.claims.proofs.CanGo.{claims-rows}
 use Rattle.claims.proofs.NameLaws.{exists-pos, flagged-named}
 use Rattle.claims.proofs.JudgeLaws.{rams-lent, states-lent, known-claims}
-use Rattle.claimtext.specs.ClaimText.{claimsIn}
+use Rattle.claimline.specs.ClaimText.{claimsIn}
 use Rattle.claimtext.specs.Published.{publishedColumns, rowLine, lineMost, publishedLine, publishedText, publishedMost, publishedOf, publishedAnswer, publishedLeft}
-use Rattle.claimtext.specs.Read.{unflagged}
+use Rattle.claimtext.specs.Unflagged.{unflagged}
 
 -- ---- a row's line
 module _ (row : ℕ) (ram : ℤ) where
   pub row-line-long : length (rowLine row ram) ≡ lineLength (Indexed (code "D") row) publishedColumns (ram ∷ [])
   row-line-long = line-long tab (Indexed (code "D") row) publishedColumns (ram ∷ [])
 
-  -- of machine numbers
+  -- no D line of machine numbers is longer
   pub row-line-most : row < 2 ^ 64 → mag ram < 2 ^ hbits w64 → lineLength (Indexed (code "D") row) publishedColumns (ram ∷ []) ≤ lineMost
   unfolding fieldsLength fieldText
   row-line-most h k = omega (arith, decimal-u64 row h, decimal-i64 ram k)
 
-module _ (m : Rows) (listed : ℕ → Bool) (row : ℕ) where
+module _ (m : Standings) (listed : ℕ → Bool) (row : ℕ) where
   pub published-here : listed row ≡ true → publishedLine m listed row ≡ rowLine row (atℤ (m .rams) row)
   unfolding publishedLine
   published-here e = rw e
@@ -77,7 +76,7 @@ module _ (states : List ℕ) (flags : List Bool) (row : ℕ) where
   unflagged-not e = rw (ne-eqb (at states row) 0 e)
 
 -- the rows whose flag is not set are those that remain
-pub unflagged-text : (m : Rows) (claims : List (List ℤ)) {flags : List Bool} → length (m .states) ≤ rowsMost → flags ≡ namedRows claims (length claims)
+pub unflagged-text : (m : Standings) (claims : List (List ℤ)) {flags : List Bool} → length (m .states) ≤ rowsMost → flags ≡ namedRows claims (length claims)
     → publishedText m (unflagged (m .states) flags) ≡ publishedText m (remaining (m .states) claims)
 unfolding publishedText publishedLine unflagged remaining
 unflagged-text m claims {flags} few e =
@@ -87,18 +86,18 @@ unflagged-text m claims {flags} few e =
     told j h = ap (λ (l : List Bool). flagged l (pos j)) e ∙ flagged-named claims (length claims) (length (m .states)) few (pos j) (exists-pos (length (m .states)) j h)
 
 -- ---- a good table, whose rows were filled in
-module _ {t : Table} (good : Good t) (m : Rows) (e : m ≡ rowsOf t) (claims : List (List ℤ)) (out : List ℕ) (r : Judgement) (said : ruled r m ≡ judgeClaims (t .header .zones) (t .factors) m claims) where
+module _ {t : Table} (good : Good t) (m : Standings) (e : m ≡ standingsOf t) (claims : List (List ℤ)) (out : List ℕ) (r : Judgement) (said : saidJudgement r m ≡ judgeClaims (t .header .zones) (t .factors) m claims) where
   pub claims-refused : (w : Refusal) → r ≡ Refused w → _≡_ {A = TextLeft} (record { answer = refused w; out = out }) (textLeft (publishedOf t claims) out)
   unfolding publishedOf
-  claims-refused w q = text-refused out (then-refused _ (sym (known-claims good m e claims r said) ∙ ap (λ (j : Judgement). ruled j (rowsOf t)) q))
+  claims-refused w q = text-refused out (then-refused _ (sym (known-claims good m e claims r said) ∙ ap (λ (j : Judgement). saidJudgement j (standingsOf t)) q))
 
   pub claims-accepted : r ≡ Passed → {flags : List Bool} → flags ≡ namedRows claims (length claims)
       → textLeft (passed (publishedText m (unflagged (m .states) flags))) out ≡ textLeft (publishedOf t claims) out
   unfolding publishedOf
   claims-accepted q flags =
       let few : length (m .states) ≤ rowsMost = omega (arith, states-lent good m e, header-in (t .header) (good .exact .header) .rows-most) in
-      ap (λ (text : List ℕ). textLeft (passed text) out) (unflagged-text m claims few flags ∙ ap (λ (n : Rows). publishedText n (remaining (n .states) claims)) e)
-      ∙ ap (λ (j : Judged (List ℕ)). textLeft j out) (sym (then-next _ (sym (known-claims good m e claims r said) ∙ ap (λ (j : Judgement). ruled j (rowsOf t)) q)))
+      ap (λ (text : List ℕ). textLeft (passed text) out) (unflagged-text m claims few flags ∙ ap (λ (n : Standings). publishedText n (remaining (n .states) claims)) e)
+      ∙ ap (λ (j : Judged (List ℕ)). textLeft j out) (sym (then-next _ (sym (known-claims good m e claims r said) ∙ ap (λ (j : Judgement). saidJudgement j (standingsOf t)) q)))
 
 -- ---- lent tables
 module _ (given : Table) (list out : List ℕ) where
@@ -106,14 +105,14 @@ module _ (given : Table) (list out : List ℕ) where
   unfolding publishedLeft publishedAnswer
   list-long h = text-refused out (ap (λ (b : Bool). cond b (refused tooLong) (then (judgeLent given) (λ t. publishedOf t (claimsIn list)))) (lt-ltb bytesMost (length list) h))
 
-  module _ (short : length list ≤ bytesMost) (r : Judgement) (said : ruled r (front given) ≡ judgeLent given) where
+  module _ (short : length list ≤ bytesMost) (r : Judgement) (said : saidJudgement r (front given) ≡ judgeLent given) where
     past-length : publishedAnswer given list ≡ then (judgeLent given) (λ t. publishedOf t (claimsIn list))
     unfolding publishedAnswer
     past-length = ap (λ (b : Bool). cond b (refused tooLong) (then (judgeLent given) (λ t. publishedOf t (claimsIn list)))) (le-ltb bytesMost (length list) short)
 
     pub table-refused : (w : Refusal) → r ≡ Refused w → _≡_ {A = TextLeft} (record { answer = refused w; out = out }) (publishedLeft given list out)
     unfolding publishedLeft
-    table-refused w e = text-refused out (past-length ∙ then-refused _ (sym said ∙ ap (λ (j : Judgement). ruled j (front given)) e))
+    table-refused w e = text-refused out (past-length ∙ then-refused _ (sym said ∙ ap (λ (j : Judgement). saidJudgement j (front given)) e))
 
     pub table-judged : r ≡ Passed → textLeft (publishedOf (front given) (claimsIn list)) out ≡ publishedLeft given list out
     unfolding publishedLeft
@@ -121,59 +120,64 @@ module _ (given : Table) (list out : List ℕ) where
 
 -- ---- the longest list
 module _ {t : Table} (good : Good t) (listed : ℕ → Bool) where
-  line-most : (row : ℕ) → row < length (rowsOf t .states) → length (publishedLine (rowsOf t) listed row) ≤ lineMost
+  line-most : (row : ℕ) → row < length (standingsOf t .states) → length (publishedLine (standingsOf t) listed row) ≤ lineMost
   line-most row h = go (listed row) refl
     where
       ram : ℤ
-      ram = atℤ (rowsOf t .rams) row
+      ram = atℤ (standingsOf t .rams) row
 
       long : length (rowLine row ram) ≤ lineMost
       long =
           let few = header-in (t .header) (good .exact .header) .rows-most in
-          let states = states-lent good (rowsOf t) refl in
-          let rams = rams-lent good (rowsOf t) refl in
+          let states = states-lent good (standingsOf t) refl in
+          let rams = rams-lent good (standingsOf t) refl in
           omega (
             arith,
             row-line-long row ram,
             row-line-most row ram (omega arith) (within-fits (rams .each .at row (omega (arith, rams .long))) tt .sfits),
           )
 
-      go : (v : Bool) → listed row ≡ v → length (publishedLine (rowsOf t) listed row) ≤ lineMost
-      go true e = omega (arith, ap length (published-here (rowsOf t) listed row e), long)
-      go false e = omega (arith, ap length (published-not (rowsOf t) listed row e))
+      go : (v : Bool) → listed row ≡ v → length (publishedLine (standingsOf t) listed row) ≤ lineMost
+      go true e = omega (arith, ap length (published-here (standingsOf t) listed row e), long)
+      go false e = omega (arith, ap length (published-not (standingsOf t) listed row e))
 
-  text-most : length (publishedText (rowsOf t) listed) ≤ publishedMost
+  text-most : length (publishedText (standingsOf t) listed) ≤ publishedMost
   unfolding publishedText
   text-most =
       let few = header-in (t .header) (good .exact .header) .rows-most in
-      let states = states-lent good (rowsOf t) refl in
+      let states = states-lent good (standingsOf t) refl in
       omega (
         arith,
-        lines-most (publishedLine (rowsOf t) listed) (length (rowsOf t .states)) line-most,
-        mul-le-mul-right {m = length (rowsOf t .states)} {n = rowsMost} lineMost (omega arith),
+        lines-most (publishedLine (standingsOf t) listed) (length (standingsOf t .states)) line-most,
+        mul-le-mul-right {m = length (standingsOf t .states)} {n = rowsMost} lineMost (omega arith),
       )
 
 -- ---- a list that is published: its claims were accepted
 pub record Publishes (t : Table) (claims : List (List ℤ)) (text : List ℕ) : Type 0 where
-  pub accepted : claimsOf t claims ≡ passed (rowsOf t)
-  pub is : text ≡ publishedText (rowsOf t) (remaining (rowsOf t .states) claims)
+  pub accepted : claimsOf t claims ≡ passed (standingsOf t)
+  pub is : text ≡ publishedText (standingsOf t) (remaining (standingsOf t .states) claims)
+
+-- the rows whose claims were accepted are the table's
+pub claims-rows : (t : Table) (claims : List (List ℤ)) (m : Standings) → claimsOf t claims ≡ passed m → m ≡ standingsOf t
+unfolding claimsOf judgeClaims
+claims-rows t claims m e = sym (passed-is _ _ (none-passed _ _ _ _ m e .1))
 
 module _ (t : Table) (claims : List (List ℤ)) (text : List ℕ) (e : publishedOf t claims ≡ passed text) where
   published : Publishes t claims text
   unfolding publishedOf
   published =
       let a = then-passed (claimsOf t claims) _ text e in
-      let rows : a .it ≡ rowsOf t = claims-rows t claims (a .it) (a .first) in
+      let rows : a .it ≡ standingsOf t = claims-rows t claims (a .it) (a .first) in
       record {
         accepted = a .first ∙ ap passed rows;
-        is = sym (passed-is _ _ (a .second)) ∙ ap (λ (m : Rows). publishedText m (remaining (m .states) claims)) rows;
+        is = sym (passed-is _ _ (a .second)) ∙ ap (λ (m : Standings). publishedText m (remaining (m .states) claims)) rows;
       }
 
   -- whatever is published fits
   pub published-fits : Good t → length text ≤ publishedMost
-  published-fits good = omega (arith, ap length (published .is), text-most good (remaining (rowsOf t .states) claims))
+  published-fits good = omega (arith, ap length (published .is), text-most good (remaining (standingsOf t .states) claims))
 
--- .. of lent tables
+-- what is published of lent tables
 pub publishes : (given : Table) (list text : List ℕ) → publishedAnswer given list ≡ passed text → Publishes (front given) (claimsIn list) text
 unfolding publishedAnswer
 publishes given list text e = go (ltb bytesMost (length list)) e

@@ -1,3 +1,2 @@
-pub mod ClaimText
 pub mod Published
-pub mod Read
+pub mod Unflagged

@@ -1,16 +1,16 @@
 // A list of claims is judged line by line, and no claim is stored: first the rows that lines name are flagged, and then each line is judged.
-use kinds::Header;
-use kinds::Judgement;
+use refusals::Judgement;
+use types::Header;
 ghost use mathlib.Core.Path.{_≡_};
 ghost use Prim.Native.Nat.{_≤_};
 ghost use lib.ListN.{length};
-ghost use Rattle.kinds.specs.Answers.{ruled};
-ghost use Rattle.kinds.specs.Limits.{rowsMost};
-ghost use Rattle.states.specs.Rows.{rowsWith};
-ghost use Rattle.claims.specs.Claims.{judgeClaims};
+ghost use Rattle.limits.specs.Limits.{rowsMost};
+ghost use Rattle.refusals.specs.Answers.{saidJudgement};
+ghost use Rattle.states.specs.Standings.{standingsWith};
+ghost use Rattle.claimrules.specs.Claims.{judgeClaims};
 ghost use Rattle.claims.specs.Named.{namedRows, noneNamed};
-ghost use Rattle.claims.specs.Bounds.{Lent};
-ghost use Rattle.claimtext.specs.ClaimText.{claimsIn};
+ghost use Rattle.claims.specs.Magnitudes.{Lent};
+ghost use Rattle.claimline.specs.ClaimText.{claimsIn};
 
 // Flags the rows that the lines name: every line, however many there are.
 pub fn name_lines(list: &[u8], named: &mut [bool])
@@ -20,7 +20,7 @@ pub fn name_lines(list: &[u8], named: &mut [bool])
     let mut p = 0;
     while p < list.len() {
         let line = text::line::line_at(list, p);
-        let claim = crate::read::claim_line(line);
+        let claim = claimline::claim_line(line);
         claims::name_row(claim[0], named);
         p += line.len();
     }
@@ -40,13 +40,13 @@ pub fn judge_lines(
     requires { ⌜ Lent (h .rows) 1 0 (now rams) ⌝ }
     requires { ⌜ (length (now states) ≡ h .rows) × (h .rows ≤ rowsMost) ⌝ }
     requires { ⌜ (now named ≡ namedRows (claimsIn (now list)) (length (claimsIn (now list)))) × (now earlier ≡ noneNamed) ⌝ }
-    ensures { λ r. ⌜ ruled r (rowsWith (now (rams .entry)) (now (states .entry))) ≡ judgeClaims (h .zones) (now (f .entry)) (rowsWith (now (rams .entry)) (now (states .entry))) (claimsIn (now (list .entry))) ⌝ }
+    ensures { λ r. ⌜ saidJudgement r (standingsWith (now (rams .entry)) (now (states .entry))) ≡ judgeClaims (h .zones) (now (f .entry)) (standingsWith (now (rams .entry)) (now (states .entry))) (claimsIn (now (list .entry))) ⌝ }
 {
     let mut k = 0;
     let mut p = 0;
     while p < list.len() {
         let line = text::line::line_at(list, p);
-        let claim = crate::read::claim_line(line);
+        let claim = claimline::claim_line(line);
         let judged = claims::judge_claim(h, f, rams, states, named, earlier, claim, k);
         let Judgement::Passed = judged else {
             return judged;

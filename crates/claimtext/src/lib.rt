@@ -1,7 +1,6 @@
 // Claims as text, and the published list as text (02, E10). The text's length is counted before the first byte is stored.
 mod judge;
 mod published;
-mod read;
 
 ghost use mathlib.Core.Path.{_≡_};
 ghost use lib.ListN.{length};
@@ -9,17 +8,17 @@ ghost use Rattle.text.specs.Left.{textLeft, textSaid};
 ghost use Rattle.table.specs.Table.{lent, front};
 ghost use Rattle.table.specs.Good.{Good};
 ghost use Rattle.claims.specs.Named.{noneNamed};
-ghost use Rattle.claimtext.specs.ClaimText.{claimsIn};
+ghost use Rattle.claimline.specs.ClaimText.{claimsIn};
 ghost use Rattle.claimtext.specs.Published.{publishedOf, publishedLeft};
-use kinds::BorderRecord;
-use kinds::Header;
-use kinds::Judgement;
-use kinds::Refusal;
-use kinds::RowRecord;
-use kinds::Written;
+use refusals::Judgement;
+use refusals::Refusal;
+use refusals::Written;
+use types::BorderRecord;
+use types::Header;
+use types::RowRecord;
 
 // No published list has more bytes: so many suffice a caller that lends room for any.
-pub const PUBLISHED_MOST: usize = Header::ROWS_MOST * published::LINE_MOST;
+pub const PUBLISHED_MOST: usize = limits::ROWS_MOST * published::LINE_MOST;
 
 // The published list of a lent table, by the text of a list of claims. Any input has an answer: there is no `requires`.
 pub fn published_text(
@@ -43,7 +42,7 @@ pub fn published_text(
     published_text_good(h, z, t, b, c, f, list, out)
 }
 
-// .. of a good table. The room to work in is made here, and not in `publish_in`, whose goals would spell it out.
+// The published list of a good table. Allocates the arrays here so that the proof goals of `publish_in` do not contain them.
 pub fn published_text_good(
     h: Header,
     z: &[i64],
@@ -58,11 +57,11 @@ pub fn published_text_good(
     ensures { λ r. ⌜ textSaid r (now (out .exit)) ≡ textLeft (publishedOf (front (lent h (now (z .entry)) (now (t .entry)) (now (b .entry)) (now (c .entry)) (now (f .entry)))) (claimsIn (now (list .entry)))) (now (out .entry)) ⌝ }
 {
     let rows = h.rows;
-    let mut rams: [i64; Header::ROWS_MOST] = [0; Header::ROWS_MOST];
-    let mut starts: [i64; Header::ROWS_MOST] = [0; Header::ROWS_MOST];
-    let mut states: [u64; Header::ROWS_MOST] = [0; Header::ROWS_MOST];
-    let mut named: [bool; Header::ROWS_MOST] = [false; Header::ROWS_MOST];
-    let mut earlier: [bool; Header::ROWS_MOST] = [false; Header::ROWS_MOST];
+    let mut rams: [i64; limits::ROWS_MOST] = [0; limits::ROWS_MOST];
+    let mut starts: [i64; limits::ROWS_MOST] = [0; limits::ROWS_MOST];
+    let mut states: [u64; limits::ROWS_MOST] = [0; limits::ROWS_MOST];
+    let mut named: [bool; limits::ROWS_MOST] = [false; limits::ROWS_MOST];
+    let mut earlier: [bool; limits::ROWS_MOST] = [false; limits::ROWS_MOST];
     publish_in(
         h,
         z,

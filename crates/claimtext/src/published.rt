@@ -2,16 +2,16 @@
 ghost use mathlib.Core.Path.{_≡_};
 ghost use Prim.Native.Nat.{_+_, _<_, _≤_};
 ghost use lib.ListN.{length};
-ghost use Rattle.kinds.specs.Limits.{rowsMost};
-ghost use Rattle.kinds.specs.Refusals.{passed};
+ghost use Rattle.limits.specs.Limits.{rowsMost};
+ghost use Rattle.refusals.specs.Refusals.{passed};
 ghost use Rattle.text.specs.Left.{textLeft, textSaid};
 ghost use Rattle.text.specs.Put.{Put};
-ghost use Rattle.states.specs.Rows.{rowsWith};
+ghost use Rattle.states.specs.Standings.{standingsWith};
 ghost use Rattle.claimtext.specs.Published.{rowLine, lineMost, publishedLine, publishedText};
-ghost use Rattle.claimtext.specs.Read.{unflagged};
+ghost use Rattle.claimtext.specs.Unflagged.{unflagged};
 use columns::Head;
-use kinds::Refusal;
-use kinds::Written;
+use refusals::Refusal;
+use refusals::Written;
 
 // The columns of a D line after its row: the RAM.
 const COLUMNS: [u8; 1] = *b"s";
@@ -19,10 +19,10 @@ const COLUMNS: [u8; 1] = *b"s";
 // A line's letter, tabs and LF, and two machine numbers of at most 20 bytes each.
 pub const LINE_MOST: usize = 4 + 2 * 20;
 
-// What is left to judge is the room for the text.
+// Only the room for the text is left to judge.
 pub fn write_rows(rams: &[i64], states: &[u64], named: &[bool], out: &mut [u8]) -> Written
     requires { ⌜ (length (now rams) ≡ length (now states)) × (length (now states) ≤ rowsMost) ⌝ }
-    ensures { λ r. ⌜ textSaid r (now (out .exit)) ≡ textLeft (passed (publishedText (rowsWith (now (rams .entry)) (now (states .entry))) (unflagged (now (states .entry)) (now (named .entry))))) (now (out .entry)) ⌝ }
+    ensures { λ r. ⌜ textSaid r (now (out .exit)) ≡ textLeft (passed (publishedText (standingsWith (now (rams .entry)) (now (states .entry))) (unflagged (now (states .entry)) (now (named .entry))))) (now (out .entry)) ⌝ }
 {
     let needed = text_length(rams, states, named);
     if out.len() < needed {
@@ -33,7 +33,7 @@ pub fn write_rows(rams: &[i64], states: &[u64], named: &[bool], out: &mut [u8]) 
 
 fn text_length(rams: &[i64], states: &[u64], named: &[bool]) -> usize
     requires { ⌜ (length (now rams) ≡ length (now states)) × (length (now states) ≤ rowsMost) ⌝ }
-    ensures { λ r. ⌜ r ≡ length (publishedText (rowsWith (now (rams .entry)) (now (states .entry))) (unflagged (now (states .entry)) (now (named .entry)))) ⌝ }
+    ensures { λ r. ⌜ r ≡ length (publishedText (standingsWith (now (rams .entry)) (now (states .entry))) (unflagged (now (states .entry)) (now (named .entry)))) ⌝ }
 {
     let mut sum: usize = 0;
     for i in 0..states.len() {
@@ -44,7 +44,7 @@ fn text_length(rams: &[i64], states: &[u64], named: &[bool]) -> usize
 
 fn line_length(rams: &[i64], states: &[u64], named: &[bool], row: usize) -> usize
     requires { ⌜ (length (now rams) ≡ length (now states)) × (length (now states) ≤ rowsMost) × (row < length (now states)) ⌝ }
-    ensures { λ r. ⌜ (r ≡ length (publishedLine (rowsWith (now (rams .entry)) (now (states .entry))) (unflagged (now (states .entry)) (now (named .entry))) row)) × (r ≤ lineMost) ⌝ }
+    ensures { λ r. ⌜ (r ≡ length (publishedLine (standingsWith (now (rams .entry)) (now (states .entry))) (unflagged (now (states .entry)) (now (named .entry))) row)) × (r ≤ lineMost) ⌝ }
 {
     if is_published(states, named, row) {
         return row_length(row, rams[row]);
@@ -72,8 +72,8 @@ fn is_published(states: &[u64], named: &[bool], row: usize) -> bool
 
 fn put_rows(rams: &[i64], states: &[u64], named: &[bool], out: &mut [u8]) -> usize
     requires { ⌜ (length (now rams) ≡ length (now states)) × (length (now states) ≤ rowsMost) ⌝ }
-    requires { ⌜ length (publishedText (rowsWith (now rams) (now states)) (unflagged (now states) (now named))) ≤ length (now out) ⌝ }
-    ensures { λ r. ⌜ Put (publishedText (rowsWith (now (rams .entry)) (now (states .entry))) (unflagged (now (states .entry)) (now (named .entry)))) 0 (now (out .entry)) r (now (out .exit)) ⌝ }
+    requires { ⌜ length (publishedText (standingsWith (now rams) (now states)) (unflagged (now states) (now named))) ≤ length (now out) ⌝ }
+    ensures { λ r. ⌜ Put (publishedText (standingsWith (now (rams .entry)) (now (states .entry))) (unflagged (now (states .entry)) (now (named .entry)))) 0 (now (out .entry)) r (now (out .exit)) ⌝ }
 {
     let mut next: usize = 0;
     for i in 0..states.len() {
@@ -91,8 +91,8 @@ fn put_line(
     at: usize,
 ) -> usize
     requires { ⌜ (length (now rams) ≡ length (now states)) × (length (now states) ≤ rowsMost) × (row < length (now states)) ⌝ }
-    requires { ⌜ at + length (publishedLine (rowsWith (now rams) (now states)) (unflagged (now states) (now named)) row) ≤ length (now out) ⌝ }
-    ensures { λ r. ⌜ Put (publishedLine (rowsWith (now (rams .entry)) (now (states .entry))) (unflagged (now (states .entry)) (now (named .entry))) row) at (now (out .entry)) r (now (out .exit)) ⌝ }
+    requires { ⌜ at + length (publishedLine (standingsWith (now rams) (now states)) (unflagged (now states) (now named)) row) ≤ length (now out) ⌝ }
+    ensures { λ r. ⌜ Put (publishedLine (standingsWith (now (rams .entry)) (now (states .entry))) (unflagged (now (states .entry)) (now (named .entry))) row) at (now (out .entry)) r (now (out .exit)) ⌝ }
 {
     if is_published(states, named, row) {
         return put_row(row, rams[row], out, at);

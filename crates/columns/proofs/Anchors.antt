@@ -4,7 +4,7 @@ use mathlib.Core.List.{[], _∷_}
 use Prim.Native.Char.{code}
 use lib.IntN.{pos}
 use Rattle.numbers.specs.Ints.{minus}
-use Rattle.kinds.specs.LineColumns.{number, signed, share}
+use Rattle.types.specs.LineColumns.{number, signed, share}
 use Rattle.text.specs.Written.{textOf, decimal, decimalℤ}
 use Rattle.text.specs.Fields.{tab, feed, dash, numberAt}
 use Rattle.columns.specs.declared.Head.the-variants.{Lettered, Indexed, Bare}

@@ -12,7 +12,7 @@ use lib.IntN.{ℤ}
 use lib.ListN.{length, getD, take, drop, set, length-set, length-drop, drop-of-length-le}
 use lib.Seq.{drop-cons, take-suc-set, take-all}
 use borrow.Author.Tests.{le-leb, lt-leb, eq-eqb, ne-eqb}
-use Rattle.kinds.specs.LineColumns.{Column, columnOf, columnsOf}
+use Rattle.types.specs.LineColumns.{Column, columnOf, columnsOf}
 use Rattle.text.specs.declared.Number.the-variants.{Value, Bad}
 use Rattle.text.specs.declared.Signed.{Signed}
 use Rattle.text.specs.declared.Signed.the-variants.{Whole, Wrong}
@@ -138,7 +138,7 @@ module _ (sep : ℕ) (columns : List Column) (line : List ℕ) where
     unfolding columnsLine
     line-goes index at v q e = rw q e
 
--- ---- columns in two parts: the last field of the first part is ended as any other
+-- ---- columns in two parts: the last field of the first part ends as any other field does
 abbrev pub chain : Values → (ℕ → Values) → Values
 chain (values zs next) rest = pushAll zs (rest next)
 chain (wrong place) rest = wrong place
@@ -193,12 +193,12 @@ module _ (sep : ℕ) (cs : List Column) (d : Column) (ds : List Column) (line : 
           sure true = refl
           sure false = refl
 
--- .. what was stored of each
+-- what was stored of both parts
 stored-parts : (f : Fields) (zs ys : List ℤ) → pushAll zs (stored f ys) ≡ stored f (zs ++ ys)
 stored-parts (fields.End next) zs ys = refl
 stored-parts (fields.Bad place) zs ys = refl
 
--- .. by the code's second part
+-- columns in two parts, the second given as bytes of the code
 module _ (sep : ℕ) (cs : List Column) (line : List ℕ) (at : ℕ) where
   pub part-bad : (bs : List ℕ) → 0 < length bs → (place : ℕ) → wrong place ≡ fieldsAt sep sep cs line at → wrong place ≡ restAt sep (cs ++ columnsOf bs) line at
   part-bad [] some place e = absurd (not-suc-le-zero some)

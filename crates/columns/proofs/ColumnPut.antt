@@ -13,7 +13,7 @@ use lib.ListN.{length, getD, drop, length-append, length-drop, drop-of-length-le
 use lib.Seq.{drop-cons}
 use lib.Signed.{ltZ}
 use borrow.Author.Tests.{ne-eqb, ltb-true}
-use Rattle.kinds.specs.LineColumns.{Column, number, signed, columnOf, columnsOf}
+use Rattle.types.specs.LineColumns.{Column, number, signed, columnOf, columnsOf}
 use Rattle.text.specs.Fields.{feed, dash}
 use Rattle.text.specs.Written.{decimal, decimalℤ, shareText}
 use Rattle.text.specs.Point.{pointedℤ}

@@ -12,7 +12,7 @@ use lib.IntN.{ℤ, pos, natAbs}
 use lib.ListN.{length, getD, drop, drop-of-length-le}
 use borrow.Author.Tests.{le-leb, leb-true, eqb-true, eq-eqb}
 use Rattle.numbers.specs.Ints.{minus}
-use Rattle.kinds.specs.LineColumns.{Column, number, signed, share, power, flow, factor}
+use Rattle.types.specs.LineColumns.{Column, number, signed, share, power, flow, factor}
 use Rattle.text.specs.declared.Number.{Number}
 use Rattle.text.specs.declared.Number.the-variants.{Value, Bad}
 use Rattle.text.specs.declared.Signed.{Signed}
@@ -21,7 +21,7 @@ use Rattle.text.specs.Fields.{tab, feed, isDigit, numberAt, positive, shareAt}
 use Rattle.text.specs.Line.{lineOf, holds, range, plainly, headed, ended}
 use Rattle.text.specs.Written.{decimal, decimalℤ}
 use Rattle.text.specs.Point.{pointAt, pointed, pointedℤ}
-use Rattle.text.proofs.NumberTrip.{zero-one, whole-is, no-whole, number-read, number-written, number-rest, signed-read, signed-written, signed-rest}
+use Rattle.text.proofs.NumberTrip.{zero-one, value-is, no-value, whole-is, no-whole, number-read, number-written, number-rest, signed-read, signed-written, signed-rest}
 use Rattle.text.proofs.FieldTrip.{ShareKept, share-read, share-written}
 use Rattle.text.proofs.PointTrip.{point-read, point-written, point-rest, signed-point-read, signed-point-written, signed-point-rest, pointedℤ-no-feed}
 use Rattle.text.proofs.ChainLaws.{holds-is, no-form, no-range, headed-line}
@@ -219,12 +219,6 @@ tab-ends = record { some = omega arith; apart = refl }
 pub feed-ends : Ends feed
 feed-ends = record { some = omega arith; apart = refl }
 
-pub no-value : (place v n : ℕ) → _≡_ {A = Number} (Bad place) (Value v n) → ⊥
-no-value place v n e = let x : _≡_ {A = ℕ} 0 1 = cc in zero-one x
-
-pub value-is : (v w m n : ℕ) → _≡_ {A = Number} (Value v m) (Value w n) → (v ≡ w) × (m ≡ n)
-value-is v w m n e = (cc, cc)
-
 -- an index from a place on
 record IndexRead (sep : ℕ) (line : List ℕ) (i first at : ℕ) : Type 0 where
   here : drop first line ≡ indexText sep i ++ drop at line
@@ -355,7 +349,7 @@ module _ (sep : ℕ) (parts : Ends sep) (head : Head) (cs : List Column) where
       let f = fields-written sep feed parts feed-ends line [] cs zs (x .next) k (x .then ∙ sym (append-nil rest)) in
       record { next = f .next; is = rw (x .is, f .is, ended-text line (f .next) (f .then)) }
 
--- .. which is one line, whatever follows
+-- the text of fields is one line, whatever follows it
 fields-one : (sep : ℕ) → eqb sep feed ≡ false → (c : Column) (cs : List Column) (zs : List ℤ) (r : List ℕ) → lineOf (fieldsEnded sep feed (c ∷ cs) zs ++ r) ≡ fieldsEnded sep feed (c ∷ cs) zs
 unfolding fieldsEnded
 fields-one sep other c [] zs r =
@@ -367,7 +361,7 @@ fields-one sep other c (d ∷ ds) zs r =
     ap lineOf (append-assoc f (sep ∷ rest) r) ∙ line-past f (sep ∷ (rest ++ r)) (field-no-feed c (getD zs 0 (pos 0)))
     ∙ rw other (ap (λ (l : List ℕ). f ++ (sep ∷ l)) (fields-one sep other d ds (drop 1 zs) r))
 
--- what is asked of a head for that: its letter is no LF
+-- what is asked of a head for its text to be one line: its letter is no LF
 abbrev pub NoFeed : Head → Type 0
 NoFeed (Lettered letter) = eqb letter feed ≡ false
 NoFeed (Indexed letter i) = eqb letter feed ≡ false
@@ -412,7 +406,7 @@ module _ {A : Type 0} (fits : List ℤ → Bool) (make : List ℤ → A) (bad : 
       go false q e = absurd (no-range (out zs) a e)
       go true q e = record { zs = zs; next = next; is = refl; fit = q; made = holds-is (make zs) a e }
 
-  -- the bytes to blame change nothing else (02, E5: numbers and order are unchanged): a line comes to what it came to without them
+  -- the bytes to blame change nothing else (02, E5: numbers and order are unchanged): what a line comes to is the same without them
   pub judged-plainly : (v : Values) → plainly (judged fits make bad out v) ≡ judged fits make 0 (λ zs. 0) v
   judged-plainly (wrong place) = refl
   judged-plainly (values zs next) = go (fits zs)
@@ -434,7 +428,7 @@ module _ {A : Type 0} (fits : List ℤ → Bool) (make : List ℤ → A) (bad : 
         let j = judged-is a (columnsLine sep head cs line) e in
         record { zs = j .zs; read = line-read sep parts head cs line (j .zs) (j .next) (j .is); fit = j .fit; made = j .made }
 
-    -- .. and that text holds what they make
+    -- the text of values holds what they make
     pub judged-written : (zs : List ℤ) → Small head → AllKept cs zs → fits zs ≡ true → judged fits make bad out (columnsLine sep head cs (columnsText sep head cs zs)) ≡ holds (make zs)
     judged-written zs small k f = rw (line-written sep parts head cs zs small k .is, f)
 

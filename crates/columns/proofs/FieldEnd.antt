@@ -13,7 +13,7 @@ use lib.ListN.{length, getD, drop, length-append, drop-of-length-le}
 use borrow.Author.Tests.{leb-true, eqb-true, eqb-false}
 use Rattle.numbers.specs.Ints.{minus}
 use Rattle.numbers.proofs.TestLaws.{and-both}
-use Rattle.kinds.specs.LineColumns.{Column, number, signed, share, power, flow, factor}
+use Rattle.types.specs.LineColumns.{Column, number, signed, share, power, flow, factor}
 use Rattle.text.specs.declared.Number.{Number}
 use Rattle.text.specs.declared.Number.the-variants.{Value, Bad}
 use Rattle.text.specs.declared.Signed.{Signed}
@@ -21,23 +21,23 @@ use Rattle.text.specs.declared.Signed.the-variants.{Whole, Wrong}
 use Rattle.text.specs.Fields.{feed, dash, isDigit, digits, value, plain, numberAt, positive, negative, signedAt, shareAt, withNumber}
 use Rattle.text.specs.Point.{point, decimalsAt, wholeMost, afterWhole, pointAt, negated, signedPointAt}
 use Rattle.text.specs.Line.{ended}
-use Rattle.text.proofs.NumberTrip.{zero-one, no-whole}
+use Rattle.text.proofs.NumberTrip.{zero-one, no-value, no-whole}
 use Rattle.columns.specs.declared.Head.{Head}
 use Rattle.columns.specs.Columns.{fieldAt, Values, values, wrong, push, onward, stopOf, fieldsAt}
 use Rattle.columns.specs.ColumnText.{fieldText, fieldsEnded}
 use Rattle.columns.specs.ColumnLine.{headAt, toEnd, restAt, afterNumber, columnsLine}
-use Rattle.columns.proofs.ColumnTrip.{Ends, feed-ends, no-value, no-values, fields-read}
+use Rattle.columns.proofs.ColumnTrip.{Ends, feed-ends, no-values, fields-read}
 
 -- ---- the byte that ends a field
--- past the digits at a place
+-- the byte after the digits at a place
 abbrev pastDigits : (line : List ℕ) → (at : ℕ) → ℕ
 pastDigits line at = getD (drop at line) (length (digits (drop at line))) 0
 
--- past a point and its k decimals
+-- the byte after a point and its k decimals
 abbrev pastPoint : (k : ℕ) → (line : List ℕ) → (at : ℕ) → ℕ
 pastPoint k line at = withNumber (numberAt line at point) 0 (λ v next. getD line (next + k) 0)
 
--- .. by the column
+-- the byte that ends the field of a column
 abbrev endByte : Column → (line : List ℕ) → (at : ℕ) → ℕ
 endByte number line at = pastDigits line at
 endByte signed line at = cond (eqb (getD line at 0) dash) (pastDigits line (at + 1)) (pastDigits line at)

@@ -3,5 +3,5 @@ pub mod ColumnLaws
 pub mod ColumnTrip
 pub mod ColumnPut
 pub mod OptionalLaws
-pub mod FieldEnd
 pub mod OptionalTrip
+pub mod FieldEnd

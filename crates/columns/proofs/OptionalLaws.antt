@@ -11,7 +11,7 @@ use lib.ListN.{length, getD, take, drop, set, length-set, length-append, take-ap
 use lib.Seq.{take-at, take-suc-set, take-all, length-take-le}
 use lib.Signed.{ltZ}
 use Rattle.numbers.specs.Ints.{minus}
-use Rattle.kinds.specs.LineColumns.{Column, columnOf, columnsOf}
+use Rattle.types.specs.LineColumns.{Column, columnOf, columnsOf}
 use Rattle.text.specs.Fields.{feed}
 use Rattle.columns.specs.declared.Head.{Head}
 use Rattle.columns.specs.Columns.{Values, values, wrong, stopOf}

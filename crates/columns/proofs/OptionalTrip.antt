@@ -12,7 +12,7 @@ use lib.Seq.{take-at, getD-at}
 use lib.Signed.{ltZ}
 use borrow.Author.Tests.{le-ltb}
 use Rattle.numbers.specs.Ints.{minus}
-use Rattle.kinds.specs.LineColumns.{Column, number}
+use Rattle.types.specs.LineColumns.{Column, number}
 use Rattle.text.specs.Fields.{feed}
 use Rattle.text.specs.Line.{holds}
 use Rattle.columns.specs.declared.Head.{Head}
@@ -122,6 +122,6 @@ module _ (sep : ℕ) (ends : Ends sep) (other : eqb sep feed ≡ false) (head : 
         let j = judged-is fits make bad out a (optionalLine sep head cs ds line) e in
         record { zs = j .zs; read = optional-read line (j .zs) (j .next) (j .is); fit = j .fit; made = j .made }
 
-    -- .. and that text holds what they make
+    -- the text of values holds what they make
     pub optional-written : (zs : List ℤ) → Small head → OptionalKept cs ds zs → fits zs ≡ true → judged fits make bad out (optionalLine sep head cs ds (optionalText sep head cs ds zs)) ≡ holds (make zs)
     optional-written zs small k f = rw (again small zs k .is, f)

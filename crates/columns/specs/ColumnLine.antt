@@ -6,7 +6,7 @@ use mathlib.Core.List.{List}
 use Prim.Native.Nat.{ℕ}
 use lib.Dec.{eqb}
 use lib.IntN.{ℤ}
-use Rattle.kinds.specs.LineColumns.{Column}
+use Rattle.types.specs.LineColumns.{Column}
 use Rattle.text.specs.declared.Number.{Number}
 use Rattle.text.specs.declared.Number.the-variants.{Value, Bad}
 use Rattle.text.specs.Fields.{feed, numberAt}
@@ -30,7 +30,7 @@ begun sep (Lettered letter) line = headed letter sep line
 begun sep (Indexed letter i) line = headed letter sep line
 begun sep (Bare i) line = true
 
--- .. and the head's index follows, where it has one
+-- the index of a line's head, where the head has one; and the place after the head
 abbrev pub numbered : (sep : ℕ) → Head → (line : List ℕ) → Number
 numbered sep (Lettered letter) line = Value 0 2
 numbered sep (Indexed letter i) line = indexAt sep 2 line i

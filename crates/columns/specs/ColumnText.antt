@@ -4,7 +4,7 @@ use mathlib.Core.List.{List, [], _∷_, _++_}
 use Prim.Native.Nat.{ℕ, suc, _+_}
 use lib.IntN.{ℤ, pos}
 use lib.ListN.{length, getD, drop}
-use Rattle.kinds.specs.LineColumns.{Column, number, signed, share, power, flow, factor}
+use Rattle.types.specs.LineColumns.{Column, number, signed, share, power, flow, factor}
 use Rattle.text.specs.Fields.{feed}
 use Rattle.text.specs.Written.{decimal, decimalℤ, shareText}
 use Rattle.text.specs.Point.{pointedℤ}

@@ -1,10 +1,10 @@
--- The fields of a list of columns (01, "The table as text"), read from left to right; which columns a line has is said in kinds, specs/LineColumns.antt.
+-- The fields of a list of columns (01, "The table as text"), read from left to right; which columns a line has is said in types, specs/LineColumns.antt.
 -- `fieldAt` and `fieldsAt` are what contracts cite. Left to others: the letter, the index and the end of the line (`ColumnLine.antt`), and ranges.
 use mathlib.Core.List.{List, [], _∷_}
 use mathlib.Core.Bool.{false}
 use Prim.Native.Nat.{ℕ}
 use lib.IntN.{ℤ}
-use Rattle.kinds.specs.LineColumns.{Column, number, signed, share, power, flow, factor}
+use Rattle.types.specs.LineColumns.{Column, number, signed, share, power, flow, factor}
 use Rattle.text.specs.declared.Signed.{Signed}
 use Rattle.text.specs.declared.Signed.the-variants.{Whole, Wrong}
 use Rattle.text.specs.Fields.{numberAt, positive, signedAt, shareAt}

@@ -8,7 +8,7 @@ use lib.IntN.{ℤ, pos}
 use lib.ListN.{length, getD}
 use lib.Signed.{ltZ}
 use Rattle.numbers.specs.Ints.{minus}
-use Rattle.kinds.specs.LineColumns.{Column}
+use Rattle.types.specs.LineColumns.{Column}
 use Rattle.columns.specs.declared.Head.{Head}
 use Rattle.columns.specs.Columns.{Values, values, wrong}
 use Rattle.columns.specs.ColumnLine.{columnsLine}

@@ -1,5 +1,5 @@
 // Lines as a head and a list of columns: one reader, one writer and one count for every kind of line.
-// The lists are `COLUMNS` of the types that carry the values (crate kinds), one byte for each field: n a number, s a signed number, r R, which is a number or "-";
+// The lists are `COLUMNS` of the types that carry the values (crate types), one byte for each field: n a number, s a signed number, r R, which is a number or "-";
 // p a power in MW with three decimals, q one that may be below 0, f a factor with five decimals.
 // The byte that parts the fields is an argument, `sep`; a line ends in an LF.
 pub mod optional;

@@ -15,7 +15,7 @@ ghost use mathlib.Core.List.{_++_};
 ghost use Prim.Native.Nat.{_<_};
 ghost use lib.Dec.{leb};
 ghost use lib.ListN.{length};
-ghost use Rattle.kinds.specs.LineColumns.{columnOf, columnsOf};
+ghost use Rattle.types.specs.LineColumns.{columnOf, columnsOf};
 ghost use Rattle.columns.specs.Columns.{fieldAt, fieldsAt, stored, badOf};
 ghost use Rattle.columns.specs.ColumnLine.{indexAt, headAt, restAt, columnsLine};
 
@@ -155,7 +155,7 @@ fn rest_at(sep: u8, columns: &[u8], line: &[u8], at: usize, out: &mut [i64]) -> 
     }
 }
 
-// .. in two parts, the second not empty.
+// The columns from a place on, given in two parts, the second not empty; and then the line's end.
 fn both_at(
     sep: u8,
     first: &[u8],

@@ -8,8 +8,8 @@ ghost use mathlib.Core.Path.{_≡_};
 ghost use mathlib.Core.List.{[], _∷_, _++_};
 ghost use Prim.Native.Nat.{_+_, _<_, _≤_};
 ghost use lib.ListN.{length};
-ghost use Rattle.kinds.specs.Limits.{bytesMost};
-ghost use Rattle.kinds.specs.LineColumns.{columnOf, columnsOf};
+ghost use Rattle.limits.specs.Limits.{bytesMost};
+ghost use Rattle.types.specs.LineColumns.{columnOf, columnsOf};
 ghost use Rattle.text.specs.Put.{Put};
 ghost use Rattle.text.specs.Written.{shareText};
 ghost use Rattle.columns.specs.ColumnText.{fieldText, fieldsEnded, fieldsLength, indexText, headText, headLength, headSeps, columnsText, lineLength};
@@ -141,7 +141,7 @@ pub fn line_length(head: Head, columns: &[u8], values: &[i64]) -> usize
     first + fields_length(columns, values)
 }
 
-// .. whose columns and values are given in two parts.
+// How many bytes a line has whose columns and values are given in two parts.
 pub fn parts_length(head: Head, first: &[u8], second: &[u8], values: &[i64], more: &[i64]) -> usize
     requires { ⌜ (length (now first) ≡ length (now values)) × (length (now second) ≡ length (now more)) × (lineLength head (columnsOf (now first) ++ columnsOf (now second)) (now values ++ now more) ≤ bytesMost) ⌝ }
     ensures { λ r. ⌜ r ≡ lineLength head (columnsOf (now (first .entry)) ++ columnsOf (now (second .entry))) (now (values .entry) ++ now (more .entry)) ⌝ }

@@ -2,9 +2,7 @@
 ghost use mathlib.Core.Path.{_≡_};
 ghost use lib.ListN.{length};
 ghost use Rattle.io.specs.Counts.{Counts};
-use crate::arguments;
-use crate::arguments::Piece;
-use crate::words;
+use arguments::Piece;
 use libc::STDIN_FILENO;
 
 // Room for a text, one byte more than it may have, so that a longer one is seen.
@@ -17,7 +15,7 @@ pub struct Text {
     pub failed: bool,
 }
 
-// The memory for one. It is written out here alone: where it is, a check takes a second.
+// The memory for a text. The array is written out only here: each place that has it costs the check a second.
 fn room() -> [u8; ROOM]
     ensures { λ r. ⌜ 65537 ≡ length r ⌝ }
 {
@@ -77,12 +75,12 @@ fn read_file(name: &[u8], text: &mut [u8]) -> Read
 {
     let fd = os::open_read(name);
     if fd < 0 {
-        words::unread(name);
+        messages::unread(name);
         return failed();
     }
     let read = read_text(fd, text);
     if read.failed {
-        words::unread(name);
+        messages::unread(name);
     }
     libc::close(fd);
     read

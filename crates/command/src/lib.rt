@@ -1,7 +1,4 @@
-// The command line: the arguments and the options among them, what is read, lists of words, and words for people. Which words there are stands in crate asked.
-pub mod arguments;
+// The command line: the options among the arguments, what is read, and what the words ask for.
+pub mod asked;
 pub mod input;
-pub mod lists;
 pub mod options;
-pub mod usage;
-pub mod words;

@@ -1,9 +1,7 @@
 // The arguments: a word, what stands after it, and options, which stand before or after the word. A misuse is told where it is seen.
-use crate::arguments;
-use crate::arguments::Piece;
-use crate::arguments::whole;
-use crate::lists;
-use crate::words;
+use arguments::Piece;
+use arguments::lists;
+use arguments::whole;
 
 // Where each thing stands among the arguments, 0 where it does not.
 pub struct Command {
@@ -16,7 +14,7 @@ pub struct Command {
     pub marks: Piece,
     // the descriptor that the status goes to; whoever starts the program gives it
     pub status: Piece,
-    // what it was proved in; as the status
+    // what the program was proved in; whoever starts the program gives it
     pub proved: Piece,
     // an option whose value comes next, and which one it is
     due: usize,
@@ -69,10 +67,10 @@ fn complete(command: Command) -> Command {
     }
     let option = command.option;
     let way = match option {
-        CORRECTIONS => words::FILE_MISSING,
-        MARKS => words::LIST_MISSING,
-        STATUS => words::DESCRIPTOR_MISSING,
-        _ => words::TEXT_MISSING,
+        CORRECTIONS => messages::FILE_MISSING,
+        MARKS => messages::LIST_MISSING,
+        STATUS => messages::DESCRIPTOR_MISSING,
+        _ => messages::TEXT_MISSING,
     };
     misuse(command, command.due, whole(0), way)
 }
@@ -80,7 +78,7 @@ fn complete(command: Command) -> Command {
 // Only the first misuse is told.
 fn misuse(mut command: Command, of: usize, wrong: Piece, way: usize) -> Command {
     if !command.wrong {
-        words::misuse(of, wrong, way);
+        messages::misuse(of, wrong, way);
     }
     command.wrong = true;
     command
@@ -91,7 +89,7 @@ fn take(mut command: Command, i: usize) -> Command {
     let n = os::arg(i, &mut own);
     if os::errno() != 0 {
         command.due = 0;
-        return misuse(command, 0, whole(i), words::TOO_LONG);
+        return misuse(command, 0, whole(i), messages::TOO_LONG);
     }
     take_read(command, i, &own[..n])
 }
@@ -112,7 +110,7 @@ fn take_read(command: Command, i: usize, word: &[u8]) -> Command {
         return take_word(command, i);
     }
     if text::line::headed(word, b'-', b'-') {
-        return misuse(command, 0, whole(i), words::UNKNOWN);
+        return misuse(command, 0, whole(i), messages::UNKNOWN);
     }
     take_plain(command, i)
 }
@@ -120,7 +118,7 @@ fn take_read(command: Command, i: usize, word: &[u8]) -> Command {
 // The value of an option stands behind a = at `end`, or comes next.
 fn take_option(mut command: Command, option: usize, i: usize, end: usize, len: usize) -> Command {
     if given(command, option) {
-        return misuse(command, i, whole(0), words::TWICE);
+        return misuse(command, i, whole(0), messages::TWICE);
     }
     if end < len {
         let value = Piece {
@@ -158,7 +156,7 @@ fn take_value(mut command: Command, option: usize, value: Piece) -> Command {
 fn take_marks(mut command: Command, value: Piece) -> Command {
     let listed = arguments::list(value);
     if !listed.good {
-        return misuse(command, option_at(value), value, words::NO_LIST);
+        return misuse(command, option_at(value), value, messages::NO_LIST);
     }
     command.marks = value;
     command
@@ -166,7 +164,7 @@ fn take_marks(mut command: Command, value: Piece) -> Command {
 
 fn take_status(mut command: Command, value: Piece) -> Command {
     if arguments::descriptor(value) < 0 {
-        return misuse(command, option_at(value), value, words::NO_DESCRIPTOR);
+        return misuse(command, option_at(value), value, messages::NO_DESCRIPTOR);
     }
     command.status = value;
     command
@@ -180,7 +178,7 @@ fn option_at(value: Piece) -> usize {
     value.at
 }
 
-// These take the place of what was asked for before.
+// Help or version, asked for by an option: it replaces the word and what stood after it.
 fn take_word(mut command: Command, i: usize) -> Command {
     command.word = i;
     command.after = 0;
@@ -196,7 +194,7 @@ fn take_plain(mut command: Command, i: usize) -> Command {
         command.after = i;
         return command;
     }
-    misuse(command, 0, whole(i), words::ONE_TOO_MANY)
+    misuse(command, 0, whole(i), messages::ONE_TOO_MANY)
 }
 
 // Neither option goes with what is asked for: whether none of them is given.
@@ -209,7 +207,7 @@ pub fn without(word: usize, value: Piece) -> bool {
     if value.at == 0 {
         return true;
     }
-    words::misuse(word, whole(option_at(value)), words::NOT_WITH);
+    messages::misuse(word, whole(option_at(value)), messages::NOT_WITH);
     false
 }
 
@@ -225,8 +223,8 @@ pub fn can_read(of: usize, name: Piece) -> bool {
         return true;
     }
     match arguments::which(name, b"\n-\n/dev/stdin\n/dev/fd/0\n/proc/self/fd/0\n") {
-        0 => words::misuse(of, whole(0), words::NAME_EMPTY),
-        1..=4 => words::misuse(of, name, words::STANDARD_INPUT),
+        0 => messages::misuse(of, whole(0), messages::NAME_EMPTY),
+        1..=4 => messages::misuse(of, name, messages::STANDARD_INPUT),
         _ => return true,
     }
     false

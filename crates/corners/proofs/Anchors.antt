@@ -7,7 +7,7 @@ use lib.Dec.{lit<}
 use lib.IntN.{ℤ, pos}
 use lib.Signed.{_≤ℤ_, leZ-yes, ltZ-yes, clashℤ}
 use Rattle.numbers.specs.Ints.{minus}
-use Rattle.kinds.specs.Ranges.{atℤ, hubsOf, borderOf}
+use Rattle.types.specs.Ranges.{atℤ, hubsOf, borderOf}
 use Rattle.margin.specs.Margin.{signedFactor, ltaKw, cornerPart}
 use Rattle.corners.specs.Corners.{raisedBy, cornerFlows, flowsOf, Largest}
 

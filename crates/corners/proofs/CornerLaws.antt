@@ -1,24 +1,21 @@
--- The laws of `specs/Corners.antt`: how long a sheet is, what stands at each number, that a number is its bits, and how large a flow can be.
+-- The laws of `specs/Corners.antt`: how long a sheet is, what stands at each number, and how large a flow can be.
 -- No contract cites this file.
 use mathlib.Core.Path.{_≡_, refl, sym, ap, ap₂, subst, _∙_}
-use mathlib.Core.Bool.{Bool, true, false, cond}
 use mathlib.Core.List.{List, [], _∷_, _++_}
-use mathlib.Core.Logic.{_⊎_, inl, inr, ⊎-elim}
+use mathlib.Core.Logic.{⊎-elim}
 use Prim.Native.Nat.{ℕ, zero, suc, _+_, _*_, _-_, _/_, _%_, _^_, _<_}
-use native.Mathlib.Nat.{pow-zero, two-pow-succ, not-suc-le-zero, le-refl, mod-lt}
+use native.Mathlib.Nat.{pow-zero, two-pow-succ, not-suc-le-zero, le-refl}
 use native.Mathlib.Omega.{arith}
-use lib.Dec.{eqb}
 use lib.IntN.{ℤ, pos, _+ℤ_, +ℤ-idr}
 use lib.ListN.{length, length-append, List·getD-append}
-use lib.Pow.{pow-pos}
 use lib.Seq.{getD-append-add}
 use Rattle.numbers.specs.Ints.{Within, sumℤ}
 use Rattle.numbers.specs.Below.{ifZero}
-use Rattle.numbers.proofs.BelowLaws.{le-or-lt, lt-suc-cases, sumℤ-cong}
+use Rattle.numbers.proofs.BelowLaws.{le-or-lt, sumℤ-cong}
 use Rattle.numbers.proofs.IntLaws.{within-sum}
-use Rattle.kinds.specs.Ranges.{atℤ}
+use Rattle.types.specs.Ranges.{atℤ}
 use Rattle.margin.proofs.Corner.{low-bit, top-bit, same-bit, used}
-use Rattle.corners.specs.Corners.{raisedBy, cornerFlows, bit}
+use Rattle.corners.specs.Corners.{raisedBy, cornerFlows}
 
 -- ---- raisedBy
 pub raised-length : (part : ℤ) (flows : List ℤ) → length (raisedBy part flows) ≡ length flows
@@ -79,7 +76,7 @@ module _ (part : ℕ → ℤ) where
   flows-cong part′ (suc n) h =
       ap₂ (λ (rest : List ℤ) (z : ℤ). rest ++ raisedBy z rest) (flows-cong part′ n (λ b l. h b (omega arith))) (h n (le-refl (suc n)))
 
-  -- .. and a flow is at most n parts
+  -- a flow is at most n parts
   pub flow-within : {m : ℕ} (n : ℕ) → ((b : ℕ) → b < n → Within m (part b)) → (k : ℕ) → k < 2 ^ n → Within (n * m) (atℤ (cornerFlows part n) k)
   unfolding ifZero
   flow-within {m} n h k l = rw (flows-at n k l) (within-sum n (used part k) (λ b q. go b (k / 2 ^ b % 2) (h b q)))
@@ -87,68 +84,3 @@ module _ (part : ℕ → ℤ) where
       go : (b v : ℕ) → Within m (part b) → Within m (ifZero v (pos 0) (part b))
       go b zero w = record { abs = omega arith }
       go b (suc v) w = w
-
--- ---- a number below 2 ^ n is its bits
-pub low-not : (n k : ℕ) → k < 2 ^ n → bit k n ≡ false
-low-not n k h = ap (λ (v : ℕ). eqb v 1) (low-bit n k h)
-
-pub top-set : (n k : ℕ) → k < 2 ^ n → bit (2 ^ n + k) n ≡ true
-top-set n k h = ap (λ (v : ℕ). eqb v 1) (top-bit n k h)
-
-pub bit-same : (n b k : ℕ) → b < n → bit (2 ^ n + k) b ≡ bit k b
-bit-same n b k h = ap (λ (v : ℕ). eqb v 1) (same-bit n b k h)
-
--- the number whose bits choose the borders
-pub cornerOf : (chosen : ℕ → Bool) → (n : ℕ) → ℕ
-cornerOf chosen zero = 0
-cornerOf chosen (suc n) = let rest = cornerOf chosen n in cond (chosen n) (2 ^ n + rest) rest
-
-module _ (chosen : ℕ → Bool) where
-  pub number-below : (n : ℕ) → cornerOf chosen n < 2 ^ n
-  unfolding cornerOf
-  number-below zero = pow-pos 0
-  number-below (suc n) = go (chosen n) (number-below n)
-    where
-      go : (t : Bool) → cornerOf chosen n < 2 ^ n → cond t (2 ^ n + cornerOf chosen n) (cornerOf chosen n) < 2 ^ suc n
-      go true h = omega (arith, two-pow-succ n)
-      go false h = omega (arith, two-pow-succ n)
-
-  pub number-bits : (n b : ℕ) → b < n → bit (cornerOf chosen n) b ≡ chosen b
-  unfolding cornerOf
-  number-bits zero b h = absurd (not-suc-le-zero h)
-  number-bits (suc n) b h = go (chosen n) refl (number-bits n b) (lt-suc-cases b n h)
-    where
-      go : (t : Bool) → chosen n ≡ t → (b < n → bit (cornerOf chosen n) b ≡ chosen b) → (b < n) ⊎ (b ≡ n)
-          → bit (cond t (2 ^ n + cornerOf chosen n) (cornerOf chosen n)) b ≡ chosen b
-      go true e ih (inl l) = bit-same n b (cornerOf chosen n) l ∙ ih l
-      go true e ih (inr q) = rw q (top-set n (cornerOf chosen n) (number-below n) ∙ sym e)
-      go false e ih (inl l) = ih l
-      go false e ih (inr q) = rw q (low-not n (cornerOf chosen n) (number-below n) ∙ sym e)
-
-  -- .. and no other number has them
-  pub number-only : (n k : ℕ) → k < 2 ^ n → ((b : ℕ) → b < n → bit k b ≡ chosen b) → k ≡ cornerOf chosen n
-  unfolding cornerOf
-  number-only zero k h all = omega (arith, pow-zero 2)
-  number-only (suc n) k h all =
-      ⊎-elim
-      (λ l.
-      let j = k - 2 ^ n in
-      let e : 2 ^ n + j ≡ k = omega arith in
-      let q : j < 2 ^ n = omega (arith, two-pow-succ n) in
-      let t : chosen n ≡ true = sym (all n (le-refl (suc n))) ∙ ap (λ (x : ℕ). bit x n) (sym e) ∙ top-set n j q in
-      let i : j ≡ cornerOf chosen n = number-only n j q (λ b m. sym (bit-same n b j m) ∙ ap (λ (x : ℕ). bit x b) e ∙ all b (omega arith)) in
-      rw t (omega (arith, i, e)))
-      (λ l.
-      let t : chosen n ≡ false = sym (all n (le-refl (suc n))) ∙ low-not n k l in
-      rw t (number-only n k l (λ b m. all b (omega arith))))
-      (le-or-lt (2 ^ n) k)
-
--- what a border puts into a corner, by its bit
-pub part-chosen : (part : ℕ → ℤ) (k b : ℕ) → used part k b ≡ cond (bit k b) (part b) (pos 0)
-unfolding ifZero
-part-chosen part k b = go (k / 2 ^ b % 2) (mod-lt (k / 2 ^ b) (omega arith))
-  where
-    go : (v : ℕ) → v < 2 → ifZero v (pos 0) (part b) ≡ cond (eqb v 1) (part b) (pos 0)
-    go zero h = refl
-    go (suc zero) h = refl
-    go (suc (suc v)) h = absurd (omega arith)

@@ -1,6 +1,5 @@
 pub mod Anchors
+pub mod AnswerLaws
 pub mod CornerLaws
 pub mod ListedLaws
 pub mod SheetLaws
-pub mod Theorems
-pub mod Unique

@@ -17,23 +17,23 @@ use Rattle.numbers.specs.Below.{table, over}
 use Rattle.numbers.proofs.IntLaws.{within-le, within-pos, within-mul}
 use Rattle.numbers.proofs.BelowLaws.{le-or-lt, table-of, table-long, table-get}
 use Rattle.numbers.proofs.ListLaws.{Filled, filled-more, filled-over}
-use Rattle.kinds.specs.declared.Border.{Border}
-use Rattle.kinds.specs.Limits.{ltaMost}
-use Rattle.kinds.specs.Ranges.{atℤ, borderOf, borderFits}
+use Rattle.types.specs.declared.Border.{Border}
+use Rattle.types.specs.LineLimits.{ltaMost}
+use Rattle.types.specs.Ranges.{atℤ, borderOf, borderFits}
 use Rattle.margin.specs.Margin.{signedFactor, ltaKw, cornerPart}
-use Rattle.margin.specs.Bounds.{FactorsBound, BorderBound, BordersBound, pMost}
-use Rattle.margin.proofs.BoundLaws.{signed-within}
-use Rattle.margin.proofs.JudgedLaws.{border-bound}
+use Rattle.margin.specs.Magnitudes.{FactorsInRange, BorderInRange, BordersInRange, pMost}
+use Rattle.margin.proofs.MagnitudeLaws.{signed-within}
+use Rattle.margin.proofs.JudgedLaws.{border-ranges}
 use Rattle.corners.specs.Corners.{sheetBordersMost, raisedBy, cornerFlows, partOf, flowsOf}
 use Rattle.corners.specs.Listed.{partMost, cornerFlowMost, FlowsListed}
 use Rattle.corners.proofs.CornerLaws.{raised-length, raised-at, flows-length, flows-cong, flow-within}
 
--- ---- after the first `count` flows, the same with one border more used
+-- ---- after the first `count` flows, each of them again with one border more used
 module _ (part : ℤ) (old : List ℤ) (count : ℕ) where
   abbrev pub first : List ℤ
   first = take count old
 
-  -- what belongs at k
+  -- the flow that belongs at number k
   abbrev pub flowAt : ℕ → ℤ
   flowAt k = cond (ltb k count) (atℤ old k) (atℤ old (k - count) +ℤ part)
 
@@ -43,7 +43,7 @@ module _ (part : ℤ) (old : List ℤ) (count : ℕ) where
   flow-high : (k : ℕ) → count ≤ k → flowAt k ≡ atℤ old (k - count) +ℤ part
   flow-high k h = rw (le-ltb k count h)
 
-  -- the flows below k are listed, and the rest is as it was
+  -- the flows below k are listed, and the rest is not changed
   pub record Using (out : List ℤ) (k : ℕ) : Type 0 where
     pub low : count ≤ k
     pub so-far : Filled flowAt (count + count) old out k
@@ -66,7 +66,7 @@ module _ (part : ℤ) (old : List ℤ) (count : ℕ) where
         }
 
     module _ {out : List ℤ} {k : ℕ} (u : Using out k) where
-      -- what is read is as it was
+      -- the flows that are read are not changed
       pub using-read : k < count + count → atℤ out (k - count) ≡ atℤ old (k - count)
       using-read h =
           let j = k - count in
@@ -111,7 +111,7 @@ module _ (part : ℤ) (old : List ℤ) (count : ℕ) where
           }
 
 -- ---- a border's part, in grains
-module _ {factors : List ℤ} (all : FactorsBound factors) {border : Border} (bound : BorderBound (length factors) border) where
+module _ {factors : List ℤ} (all : FactorsInRange factors) {border : Border} (bound : BorderInRange (length factors) border) where
   pub factor-within : Within pMost (signedFactor factors border)
   factor-within = signed-within (all .each) bound
 
@@ -138,9 +138,9 @@ list-none factors borders {old} e h =
     record { counted = sym (ap length n); wrote = first-set old h ∙ ap (λ (flows : List ℤ). over flows old) (sym n) }
 
 -- ---- the corners of all borders, from those of all but the last
-module _ (factors : List ℤ) (borders : List (List ℤ)) (few : length borders ≤ sheetBordersMost) (f : FactorsBound factors) (b : BordersBound (length factors) borders) where
+module _ (factors : List ℤ) (borders : List (List ℤ)) (few : length borders ≤ sheetBordersMost) (f : FactorsInRange factors) (b : BordersInRange (length factors) borders) where
   pub part-of-within : (k : ℕ) → k < length borders → Within partMost (partOf factors borders k)
-  part-of-within k h = part-within f (border-bound (length factors) (getD borders k []) (b .each k h))
+  part-of-within k h = part-within f (border-ranges (length factors) (getD borders k []) (b .each k h))
 
   flows-within : AllWithin cornerFlowMost (flowsOf factors borders)
   flows-within =
@@ -162,8 +162,8 @@ module _ (factors : List ℤ) (borders : List (List ℤ)) (some : length borders
   pub shorter-long : length shorter ≡ last
   shorter-long = length-take-le last borders (omega arith)
 
-  pub shorter-bound : {zones : ℕ} → BordersBound zones borders → BordersBound zones shorter
-  shorter-bound {zones} b =
+  pub shorter-ranges : {zones : ℕ} → BordersInRange zones borders → BordersInRange zones shorter
+  shorter-ranges {zones} b =
       record {
         few = omega (arith, shorter-long, b .few);
         each = λ k h. subst (λ (raw : List ℤ). borderFits zones raw ≡ true) (sym (getD-take last borders k [] (omega (arith, shorter-long)))) (b .each k (omega (arith, shorter-long)));
@@ -178,7 +178,7 @@ module _ (factors : List ℤ) (borders : List (List ℤ)) (some : length borders
   abbrev rest : List ℤ
   rest = flowsOf factors shorter
 
-  -- the shorter list's corners, and the same with the last border used
+  -- the corners of the shorter list, and then the same with the last border used
   flows-more : flowsOf factors borders ≡ rest ++ raisedBy (partOf factors borders last) rest
   unfolding cornerFlows
   flows-more =
@@ -204,8 +204,8 @@ module _ (factors : List ℤ) (borders : List (List ℤ)) (some : length borders
     pub room-used : count + count ≤ length mid
     room-used = omega (arith, mid-long, l .counted, rest-long, twice-two)
 
-    pub within-used : length borders ≤ sheetBordersMost → FactorsBound factors → BordersBound (length factors) borders → AllWithin cornerFlowMost (take count mid)
-    within-used few f b = rw mid-first (flows-within factors shorter (omega (arith, shorter-long)) f (shorter-bound b))
+    pub within-used : length borders ≤ sheetBordersMost → FactorsInRange factors → BordersInRange (length factors) borders → AllWithin cornerFlowMost (take count mid)
+    within-used few f b = rw mid-first (flows-within factors shorter (omega (arith, shorter-long)) f (shorter-ranges b))
 
     -- what is written over what was written in front
     over-again : (new : List ℤ) → length rest ≤ length new → over new mid ≡ over new old

@@ -1,4 +1,4 @@
--- The laws of `specs/Corners.antt`'s `judgeSheet`, `sheetLeft`, `judgeCorners` and `cornersLeft`: which test decides, and what a call leaves.
+-- The laws of `specs/Corners.antt`'s `judgeCornerSheet`, `sheetLeft`, `judgeCorners` and `cornersLeft`: which test decides, and what a call leaves.
 -- No contract cites this file.
 use mathlib.Core.Path.{_≡_, sym, ap, ap₂, subst, _∙_}
 use mathlib.Core.List.{List}
@@ -8,17 +8,17 @@ use borrow.Author.Tests.{leb-true, lt-ltb, le-ltb, le-leb, lt-leb, ltb-true}
 use lib.IntN.{ℤ}
 use lib.ListN.{length}
 use Rattle.numbers.specs.Below.{over}
-use Rattle.kinds.specs.declared.Judgement.{Judgement}
-use Rattle.kinds.specs.declared.Judgement.the-variants.{Passed, Refused}
-use Rattle.kinds.specs.declared.Refusal.{Refusal}
-use Rattle.kinds.specs.Answers.{ruled}
-use Rattle.kinds.specs.Refusals.{Judged, passed, refused, tooShort, noCorners}
-use Rattle.kinds.proofs.RefusalLaws.{passed-is, then-passed, then-next, then-refused, either-passed, either-refused, unless-passed, unless-ok, unless-refused, need-enough, need-short}
+use Rattle.refusals.specs.declared.Judgement.{Judgement}
+use Rattle.refusals.specs.declared.Judgement.the-variants.{Passed, Refused}
+use Rattle.refusals.specs.declared.Refusal.{Refusal}
+use Rattle.refusals.specs.Answers.{saidJudgement}
+use Rattle.refusals.specs.Refusals.{Judged, passed, refused, tooShort, noCorners}
+use Rattle.refusals.proofs.RefusalLaws.{passed-is, then-passed, then-next, then-refused, either-passed, either-refused, unless-passed, unless-ok, unless-refused, need-enough, need-short}
 use Rattle.table.specs.declared.Room.the-variants.{None}
 use Rattle.table.specs.Table.{Table, front, factorsAt, judgeLent}
 use Rattle.table.specs.Good.{Good}
 use Rattle.table.proofs.GoodLaws.{judged-good, told-judged}
-use Rattle.corners.specs.Corners.{sheetBordersMost, partOf, flowsOf, judgeSheet, judgeCorners, flowsLeft, sheetLeft, cornersLeft}
+use Rattle.corners.specs.Corners.{sheetBordersMost, partOf, flowsOf, judgeCornerSheet, judgeCorners, flowsLeft, sheetLeft, cornersLeft}
 use Rattle.corners.specs.Listed.{FlowsListed}
 use Rattle.corners.proofs.CornerLaws.{flows-length}
 
@@ -31,18 +31,18 @@ pub record Sheet (t : Table) (row : ℕ) : Type 0 where
 pub flows-long : {t : Table} {row : ℕ} → Sheet t row → length (flowsOf (factorsAt t row) (t .borders)) ≡ 2 ^ t .header .borders
 flows-long {t} {row} s = flows-length (partOf (factorsAt t row) (t .borders)) (length (t .borders)) ∙ ap (λ (n : ℕ). 2 ^ n) (s .good .exact .borders-long)
 
--- ---- judgeSheet: which test decides
+-- ---- judgeCornerSheet: which test decides
 module _ (t : Table) (row : ℕ) where
-  pub borders-refused : sheetBordersMost < t .header .borders → judgeSheet t row ≡ refused (noCorners (t .header .borders))
+  pub borders-refused : sheetBordersMost < t .header .borders → judgeCornerSheet t row ≡ refused (noCorners (t .header .borders))
   borders-refused h = unless-refused _ _ (lt-leb _ _ h)
 
-  pub row-refused : t .header .borders ≤ sheetBordersMost → t .header .rows ≤ row → judgeSheet t row ≡ refused (noCorners row)
+  pub row-refused : t .header .borders ≤ sheetBordersMost → t .header .rows ≤ row → judgeCornerSheet t row ≡ refused (noCorners row)
   row-refused few h = unless-ok _ _ (le-leb _ _ few) ∙ unless-refused _ _ (le-ltb _ _ h)
 
-  pub sheet-passed : Sheet t row → judgeSheet t row ≡ passed t
+  pub sheet-passed : Sheet t row → judgeCornerSheet t row ≡ passed t
   sheet-passed s = unless-ok _ _ (le-leb _ _ (s .few)) ∙ unless-ok _ _ (lt-ltb _ _ (s .has))
 
-  pub passed-sheet : Good t → (u : Table) → judgeSheet t row ≡ passed u → Sheet u row
+  pub passed-sheet : Good t → (u : Table) → judgeCornerSheet t row ≡ passed u → Sheet u row
   passed-sheet good u e =
       let q = unless-passed u _ _ _ e in
       let s = unless-passed u _ _ _ (q .1) in
@@ -79,16 +79,16 @@ judged-sheet given row t e =
     let p = then-passed (judgeLent given) _ t e in
     passed-sheet (p .it) row (judged-good given (p .it) (p .first)) t (p .second)
 
-module _ (given : Table) (row : ℕ) (r : Judgement) (said : ruled r (front given) ≡ judgeLent given) where
+module _ (given : Table) (row : ℕ) (r : Judgement) (said : saidJudgement r (front given) ≡ judgeLent given) where
   pub corners-refused : (w : Refusal) → r ≡ Refused w → (out : List ℤ) → flowsLeft (refused w) out ≡ cornersLeft given row out
   unfolding judgeCorners cornersLeft
-  corners-refused w e out = sym (sheet-refused _ row out w (then-refused _ (sym said ∙ ap (λ (j : Judgement). ruled j (front given)) e)))
+  corners-refused w e out = sym (sheet-refused _ row out w (then-refused _ (sym said ∙ ap (λ (j : Judgement). saidJudgement j (front given)) e)))
 
-  -- what passed the door has the sheet of its front
-  pub corners-passed : r ≡ Passed → judgeSheet (front given) row ≡ judgeCorners given row
+  -- lent tables that were judged good have the sheet of their front
+  pub corners-passed : r ≡ Passed → judgeCornerSheet (front given) row ≡ judgeCorners given row
   unfolding judgeCorners
   corners-passed ok = sym (then-next _ (told-judged None given r said ok))
 
-  pub corners-left : r ≡ Passed → (out : List ℤ) → sheetLeft (judgeSheet (front given) row) row out ≡ cornersLeft given row out
+  pub corners-left : r ≡ Passed → (out : List ℤ) → sheetLeft (judgeCornerSheet (front given) row) row out ≡ cornersLeft given row out
   unfolding cornersLeft
   corners-left ok out = ap (λ (j : Judged Table). sheetLeft j row out) (corners-passed ok)

@@ -1,5 +1,5 @@
 -- The corner sheet (02, E1): every corner's flow on one row, in grains, as summed for S, and what the open call `corner_flows` leaves.
--- `flowsOf`, `judgeSheet`, `sheetLeft` and `cornersLeft` are what contracts cite; `Stands` and `Largest` are what the theorems say of a sheet.
+-- `flowsOf`, `judgeCornerSheet`, `sheetLeft` and `cornersLeft` are what contracts cite; `Stands` and `Largest` are what the theorems say of a sheet.
 use mathlib.Core.Path.{_≡_}
 use mathlib.Core.Bool.{Bool, cond}
 use mathlib.Core.List.{List, [], _∷_, _++_}
@@ -10,8 +10,8 @@ use lib.ListN.{length, getD}
 use lib.Signed.{_≤ℤ_}
 use Rattle.numbers.specs.Ints.{sumℤ}
 use Rattle.numbers.specs.Below.{over}
-use Rattle.kinds.specs.Ranges.{atℤ, borderOf}
-use Rattle.kinds.specs.Refusals.{Judged, passed, refused, then, either, unless, need, noCorners}
+use Rattle.refusals.specs.Refusals.{Judged, passed, refused, then, either, unless, need, noCorners}
+use Rattle.types.specs.Ranges.{atℤ, borderOf}
 use Rattle.table.specs.Table.{Table, factorsAt, judgeLent}
 use Rattle.margin.specs.Margin.{signedFactor, ltaKw, cornerPart}
 
@@ -24,7 +24,7 @@ unfoldable pub raisedBy : ℤ → List ℤ → List ℤ
 raisedBy part [] = []
 raisedBy part (flow ∷ flows) = (flow +ℤ part) ∷ raisedBy part flows
 
--- the corners of the first n borders, by number: those that leave border n - 1 unused, and then the same with it, its bit being the highest
+-- the corners of the first n borders, by number: those that do not use border n - 1, and then the same with it used, since its bit is the highest
 unfoldable pub cornerFlows : (part : ℕ → ℤ) → (n : ℕ) → List ℤ
 cornerFlows part zero = pos 0 ∷ []
 cornerFlows part (suc n) = let rest = cornerFlows part n in rest ++ raisedBy (part n) rest
@@ -38,15 +38,15 @@ abbrev pub flowsOf : (factors : List ℤ) → (borders : List (List ℤ)) → Li
 flowsOf factors borders = cornerFlows (partOf factors borders) (length borders)
 
 -- 9: more than 12 borders, place the border count, or else no such row, place its index
-abbrev pub judgeSheet : Table → (row : ℕ) → Judged Table
-judgeSheet t row =
+abbrev pub judgeCornerSheet : Table → (row : ℕ) → Judged Table
+judgeCornerSheet t row =
     unless (leb (t .header .borders) sheetBordersMost) (noCorners (t .header .borders))
     (unless (ltb row (t .header .rows)) (noCorners row)
     (passed t))
 
--- .. after 4
+-- lent tables are judged as for every call on them, and then whether there is a sheet (9)
 unfoldable pub judgeCorners : (given : Table) → (row : ℕ) → Judged Table
-judgeCorners given row = then (judgeLent given) (λ t. judgeSheet t row)
+judgeCorners given row = then (judgeLent given) (λ t. judgeCornerSheet t row)
 
 -- what the open call `corner_flows` leaves: its answer, and the lent numbers
 pub record FlowsLeft : Type 0 where
@@ -82,7 +82,7 @@ pub record Stands (factors : List ℤ) (borders : List (List ℤ)) (used : ℕ �
   pub flow : atℤ (flowsOf factors borders) corner
       ≡ sumℤ (length borders) (λ b. cond (used b) (signedFactor factors (borderOf (getD borders b [])) *ℤ pos (ltaKw (borderOf (getD borders b [])))) (pos 0))
 
--- z is the largest of the flows: none is over it, and one is it
+-- z is the largest of the flows: no flow is larger, and one is equal to it
 pub record Largest (flows : List ℤ) (z : ℤ) : Type 0 where
   pub none-over : (k : ℕ) → k < length flows → atℤ flows k ≤ℤ z
   pub corner : ℕ

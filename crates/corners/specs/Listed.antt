@@ -5,8 +5,8 @@ use Prim.Native.Nat.{ℕ, _*_}
 use lib.IntN.{ℤ}
 use lib.ListN.{length}
 use Rattle.numbers.specs.Below.{over}
-use Rattle.kinds.specs.Limits.{ltaMost}
-use Rattle.margin.specs.Bounds.{pMost}
+use Rattle.types.specs.LineLimits.{ltaMost}
+use Rattle.margin.specs.Magnitudes.{pMost}
 use Rattle.corners.specs.Corners.{sheetBordersMost}
 
 -- a border's part, and a sum of parts, in magnitude
@@ -16,7 +16,7 @@ partMost = pMost * (ltaMost * 1000)
 abbrev pub cornerFlowMost : ℕ
 cornerFlowMost = sheetBordersMost * partMost
 
--- so many flows stand in front, and the rest is as it was
+-- the flows stand in front of a buffer, `count` of them, and the rest is not changed
 pub record FlowsListed (flows old : List ℤ) (count : ℕ) (out : List ℤ) : Type 0 where
   pub counted : count ≡ length flows
   pub wrote : out ≡ over flows old

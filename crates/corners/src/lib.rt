@@ -6,20 +6,25 @@ ghost use mathlib.Core.List.{_++_};
 ghost use Prim.Native.Nat.{_+_, _^_, _<_, _≤_};
 ghost use lib.ListN.{length, take};
 ghost use Rattle.numbers.specs.Ints.{Within, AllWithin};
-ghost use Rattle.kinds.specs.Ranges.{borderFits, borderOf};
-ghost use Rattle.kinds.specs.Answers.{saidFlows};
+ghost use Rattle.types.specs.Ranges.{borderFits, borderOf};
 ghost use Rattle.table.specs.Table.{lent, front, stretch};
 ghost use Rattle.table.specs.Good.{Good};
-ghost use Rattle.margin.specs.Bounds.{FactorsBound, TableFactorsBound, BordersBound};
+ghost use Rattle.margin.specs.Magnitudes.{FactorsInRange, TableFactorsInRange, BordersInRange};
 ghost use Rattle.margin.specs.Margin.{cornerPart};
-ghost use Rattle.corners.specs.Corners.{sheetBordersMost, raisedBy, flowsOf, judgeSheet, flowsLeft, sheetLeft, cornersLeft};
+ghost use Rattle.corners.specs.Corners.{sheetBordersMost, raisedBy, flowsOf, judgeCornerSheet, flowsLeft, sheetLeft, cornersLeft};
 ghost use Rattle.corners.specs.Listed.{partMost, cornerFlowMost, FlowsListed};
-use kinds::BorderRecord;
-use kinds::Flows;
-use kinds::Header;
-use kinds::Judgement;
-use kinds::Refusal;
-use kinds::RowRecord;
+ghost use Rattle.corners.specs.Answers.{saidFlows};
+use refusals::Judgement;
+use refusals::Refusal;
+use types::BorderRecord;
+use types::Header;
+use types::RowRecord;
+
+// What `corner_flows` answers: the corners whose flows were filled in, or why there is no sheet.
+pub enum Flows {
+    Corners(usize),
+    Refused(Refusal),
+}
 
 // A sheet is made for at most so many borders.
 pub const BORDERS_MOST: usize = 12;
@@ -43,7 +48,7 @@ pub fn corner_flows(
     corner_flows_good(h, z, t, b, c, f, row, out)
 }
 
-// .. of a good table: whether it has a sheet for this row, the room, and then the flows.
+// The corner flows of a good table: refuses if there is no sheet for this row, then if the room is too small, and then stores the flows.
 pub fn corner_flows_good(
     h: Header,
     z: &[i64],
@@ -55,7 +60,7 @@ pub fn corner_flows_good(
     out: &mut [i64],
 ) -> Flows
     requires { ⌜ Good (front (lent h (now z) (now t) (now b) (now c) (now f))) ⌝ }
-    ensures { λ r. ⌜ flowsLeft (saidFlows r) (now (out .exit)) ≡ sheetLeft (judgeSheet (front (lent h (now (z .entry)) (now (t .entry)) (now (b .entry)) (now (c .entry)) (now (f .entry)))) row) row (now (out .entry)) ⌝ }
+    ensures { λ r. ⌜ flowsLeft (saidFlows r) (now (out .exit)) ≡ sheetLeft (judgeCornerSheet (front (lent h (now (z .entry)) (now (t .entry)) (now (b .entry)) (now (c .entry)) (now (f .entry)))) row) row (now (out .entry)) ⌝ }
 {
     let borders = h.borders;
     if BORDERS_MOST < borders {
@@ -81,8 +86,8 @@ fn corner_count(borders: usize) -> usize
 
 // The sheet of a row of a good table.
 fn list_row(h: Header, b: &[BorderRecord], f: &[i64], row: usize, out: &mut [i64]) -> usize
-    requires { ⌜ TableFactorsBound h (now f) ⌝ }
-    requires { ⌜ BordersBound (h .zones) (now b) ⌝ }
+    requires { ⌜ TableFactorsInRange h (now f) ⌝ }
+    requires { ⌜ BordersInRange (h .zones) (now b) ⌝ }
     requires { ⌜ length (now b) ≤ sheetBordersMost ⌝ }
     requires { ⌜ row < h .rows ⌝ }
     requires { ⌜ 2 ^ length (now b) ≤ length (now out) ⌝ }
@@ -91,11 +96,11 @@ fn list_row(h: Header, b: &[BorderRecord], f: &[i64], row: usize, out: &mut [i64
     list_corners(margin::row_factors(h, f, row), b, out)
 }
 
-// The corners of all borders but the last come from the same work on the shorter list; then the same with the last one used.
+// The corners of all borders but the last are listed first, by the same function on the shorter list; then each again with the last border used.
 // Answers how many there are.
 fn list_corners(factors: &[i64], borders: &[BorderRecord], out: &mut [i64]) -> usize
-    requires { ⌜ FactorsBound (now factors) ⌝ }
-    requires { ⌜ BordersBound (length (now factors)) (now borders) ⌝ }
+    requires { ⌜ FactorsInRange (now factors) ⌝ }
+    requires { ⌜ BordersInRange (length (now factors)) (now borders) ⌝ }
     requires { ⌜ length (now borders) ≤ sheetBordersMost ⌝ }
     requires { ⌜ 2 ^ length (now borders) ≤ length (now out) ⌝ }
     ensures { λ r. ⌜ FlowsListed (flowsOf (now (factors .entry)) (now (borders .entry))) (now (out .entry)) r (now (out .exit)) ⌝ }
@@ -111,7 +116,7 @@ fn list_corners(factors: &[i64], borders: &[BorderRecord], out: &mut [i64]) -> u
     list_used(part, out, count)
 }
 
-// After the first `count` flows, the same with one border more used. Answers how many there are then.
+// After the first `count` flows, appends each of them again with one more border used. Answers how many there are then.
 fn list_used(part: i64, out: &mut [i64], count: usize) -> usize
     requires { ⌜ Within partMost part ⌝ }
     requires { ⌜ AllWithin cornerFlowMost (take count (now out)) ⌝ }
@@ -127,11 +132,11 @@ fn list_used(part: i64, out: &mut [i64], count: usize) -> usize
 
 // What a border's whole LTA puts on a row: below 0 where it relieves.
 fn corner_part(factors: &[i64], raw: BorderRecord) -> i64
-    requires { ⌜ FactorsBound (now factors) ⌝ }
+    requires { ⌜ FactorsInRange (now factors) ⌝ }
     requires { ⌜ borderFits (length (now factors)) raw ≡ true ⌝ }
     ensures { λ r. ⌜ r ≡ cornerPart (now (factors .entry)) (borderOf raw) ⌝ }
 {
-    let border = kinds::Border::judged(factors.len(), raw);
+    let border = types::Border::of_good(factors.len(), raw);
     let lta = margin::lta_kw(border);
     margin::signed_factor(factors, border) * lta as i64
 }

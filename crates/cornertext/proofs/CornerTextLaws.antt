@@ -12,14 +12,12 @@ use lib.Signed.{mag}
 use mir.Syntax.{w64}
 use mir.Val.{hbits}
 use Rattle.numbers.specs.Below.{over}
-use Rattle.kinds.specs.declared.Flows.{Flows}
-use Rattle.kinds.specs.declared.Flows.the-variants as flows
-use Rattle.kinds.specs.declared.Judgement.{Judgement}
-use Rattle.kinds.specs.declared.Judgement.the-variants.{Passed, Refused}
-use Rattle.kinds.specs.declared.Refusal.{Refusal}
-use Rattle.kinds.specs.Answers.{ruled, saidFlows}
-use Rattle.kinds.specs.Refusals.{Judged, passed, refused}
-use Rattle.kinds.proofs.RefusalLaws.{passed-is, refused-is, not-passed, then-next, then-refused}
+use Rattle.refusals.specs.declared.Judgement.{Judgement}
+use Rattle.refusals.specs.declared.Judgement.the-variants.{Passed, Refused}
+use Rattle.refusals.specs.declared.Refusal.{Refusal}
+use Rattle.refusals.specs.Answers.{saidJudgement}
+use Rattle.refusals.specs.Refusals.{Judged, passed, refused}
+use Rattle.refusals.proofs.RefusalLaws.{passed-is, refused-is, not-passed, then-next, then-refused}
 use Rattle.text.specs.Fields.{tab}
 use Rattle.text.specs.Left.{TextLeft, textLeft}
 use Rattle.text.specs.Written.{decimal, decimalℤ}
@@ -30,7 +28,10 @@ use Rattle.columns.specs.ColumnText.{fieldText, fieldsLength, lineLength}
 use Rattle.columns.proofs.ColumnPut.{line-long}
 use Rattle.table.specs.Table.{Table, front, factorsAt, judgeLent}
 use Rattle.table.specs.Good.{Good}
-use Rattle.corners.specs.Corners.{flowsOf, judgeSheet, judgeCorners, FlowsLeft, flowsLeft, sheetLeft}
+use Rattle.corners.specs.declared.Flows.{Flows}
+use Rattle.corners.specs.declared.Flows.the-variants as flows
+use Rattle.corners.specs.Corners.{flowsOf, judgeCornerSheet, judgeCorners, FlowsLeft, flowsLeft, sheetLeft}
+use Rattle.corners.specs.Answers.{saidFlows}
 use Rattle.corners.proofs.SheetLaws.{flows-long, passed-sheet, sheet-refused, sheet-all, corners-passed}
 use Rattle.cornertext.specs.CornerText.{sheetMost, cornerColumns, cornerLine, lineMost, cornersText, sheetTextOf, cornerTextLeft}
 
@@ -43,17 +44,17 @@ module _ (row corner : ℕ) (flow : ℤ) where
   unfolding fieldsLength fieldText decimalℤ
   corner-line-long = omega (arith, corner-line-is)
 
-  -- of machine numbers
+  -- no K line of machine numbers is longer
   pub corner-line-most : row < 2 ^ 64 → corner < sheetMost → mag flow < 2 ^ hbits w64 → length (cornerLine row corner flow) ≤ lineMost
   corner-line-most h k l = omega (arith, corner-line-long, decimal-u64 row h, decimal-u64 corner (omega arith), decimal-i64 flow l)
 
 -- ---- lent tables: what judging refuses is refused, and else the text is that of the front's sheet
-module _ (given : Table) (row : ℕ) (r : Judgement) (said : ruled r (front given) ≡ judgeLent given) (out : List ℕ) where
+module _ (given : Table) (row : ℕ) (r : Judgement) (said : saidJudgement r (front given) ≡ judgeLent given) (out : List ℕ) where
   pub text-judged-not : (w : Refusal) → r ≡ Refused w → _≡_ {A = TextLeft} (record { answer = refused w; out = out }) (cornerTextLeft given row out)
   unfolding judgeCorners cornerTextLeft
-  text-judged-not w e = text-refused out (then-refused _ (then-refused _ (sym said ∙ ap (λ (j : Judgement). ruled j (front given)) e)))
+  text-judged-not w e = text-refused out (then-refused _ (then-refused _ (sym said ∙ ap (λ (j : Judgement). saidJudgement j (front given)) e)))
 
-  pub text-judged : r ≡ Passed → textLeft (sheetTextOf (judgeSheet (front given) row) row) out ≡ cornerTextLeft given row out
+  pub text-judged : r ≡ Passed → textLeft (sheetTextOf (judgeCornerSheet (front given) row) row) out ≡ cornerTextLeft given row out
   unfolding cornerTextLeft
   text-judged ok = ap (λ (j : Judged Table). textLeft (sheetTextOf j row) out) (corners-passed given row r said ok)
 
@@ -65,40 +66,40 @@ module _ (t : Table) (row : ℕ) where
   -- the flows that were filled in
   pub record FlowsTold (n : ℕ) (o : List ℤ) : Type 0 where
     pub table : Table
-    pub judged : judgeSheet t row ≡ passed table
+    pub judged : judgeCornerSheet t row ≡ passed table
     pub first : take n o ≡ sheetOf table
     pub few : n ≤ sheetMost
     pub long : n ≤ length o
 
-  pub text-on : (out : List ℕ) {n : ℕ} {o : List ℤ} → FlowsTold n o → textLeft (passed (cornersText row (take n o))) out ≡ textLeft (sheetTextOf (judgeSheet t row) row) out
+  pub text-on : (out : List ℕ) {n : ℕ} {o : List ℤ} → FlowsTold n o → textLeft (passed (cornersText row (take n o))) out ≡ textLeft (sheetTextOf (judgeCornerSheet t row) row) out
   text-on out told = ap (λ (flows : List ℤ). textLeft (passed (cornersText row flows)) out) (told .first) ∙ ap (λ (j : Judged (List ℕ)). textLeft j out) (sym (then-next _ (told .judged)))
 
-  module _ (good : Good t) (room : List ℤ) {o : List ℤ} (r : Flows) (e : flowsLeft (saidFlows r) o ≡ sheetLeft (judgeSheet t row) row room) (enough : sheetMost ≤ length room) where
-    on-passed : (u : Table) → judgeSheet t row ≡ passed u → flowsLeft (saidFlows r) o ≡ flowsLeft (passed (length (sheetOf u))) (over (sheetOf u) room)
+  module _ (good : Good t) (room : List ℤ) {o : List ℤ} (r : Flows) (e : flowsLeft (saidFlows r) o ≡ sheetLeft (judgeCornerSheet t row) row room) (enough : sheetMost ≤ length room) where
+    on-passed : (u : Table) → judgeCornerSheet t row ≡ passed u → flowsLeft (saidFlows r) o ≡ flowsLeft (passed (length (sheetOf u))) (over (sheetOf u) room)
     on-passed u q =
         let s = passed-sheet t row good u q in
-        e ∙ sheet-all (judgeSheet t row) row room u q s (omega (arith, pow-mono (s .few)))
+        e ∙ sheet-all (judgeCornerSheet t row) row room u q s (omega (arith, pow-mono (s .few)))
 
-    on-refused : (v : Refusal) → judgeSheet t row ≡ refused v → saidFlows r ≡ refused v
-    on-refused v q = ap (λ (l : FlowsLeft). l .answer) (e ∙ sheet-refused (judgeSheet t row) row room v q)
+    on-refused : (v : Refusal) → judgeCornerSheet t row ≡ refused v → saidFlows r ≡ refused v
+    on-refused v q = ap (λ (l : FlowsLeft). l .answer) (e ∙ sheet-refused (judgeCornerSheet t row) row room v q)
 
-    pub told-refused : (out : List ℕ) (w : Refusal) → r ≡ flows.Refused w → _≡_ {A = TextLeft} (record { answer = refused w; out = out }) (textLeft (sheetTextOf (judgeSheet t row) row) out)
-    told-refused out w k = go (judgeSheet t row) refl
+    pub told-refused : (out : List ℕ) (w : Refusal) → r ≡ flows.Refused w → _≡_ {A = TextLeft} (record { answer = refused w; out = out }) (textLeft (sheetTextOf (judgeCornerSheet t row) row) out)
+    told-refused out w k = go (judgeCornerSheet t row) refl
       where
         said : saidFlows r ≡ refused w
         said = ap saidFlows k
 
-        go : (j : Judged Table) → judgeSheet t row ≡ j → _≡_ {A = TextLeft} (record { answer = refused w; out = out }) (textLeft (sheetTextOf (judgeSheet t row) row) out)
+        go : (j : Judged Table) → judgeCornerSheet t row ≡ j → _≡_ {A = TextLeft} (record { answer = refused w; out = out }) (textLeft (sheetTextOf (judgeCornerSheet t row) row) out)
         go (passed u) q = absurd (not-passed w (length (sheetOf u)) (sym said ∙ ap (λ (l : FlowsLeft). l .answer) (on-passed u q)))
         go (refused v) q = text-refused out (then-refused _ (q ∙ ap refused (refused-is v w (sym (on-refused v q) ∙ said))))
 
     pub told-passed : (n : ℕ) → r ≡ flows.Corners n → FlowsTold n o
-    told-passed n k = go (judgeSheet t row) refl
+    told-passed n k = go (judgeCornerSheet t row) refl
       where
         said : saidFlows r ≡ passed n
         said = ap saidFlows k
 
-        go : (j : Judged Table) → judgeSheet t row ≡ j → FlowsTold n o
+        go : (j : Judged Table) → judgeCornerSheet t row ≡ j → FlowsTold n o
         go (passed u) q =
             let l = on-passed u q in
             let i : n ≡ length (sheetOf u) = passed-is n (length (sheetOf u)) (sym said ∙ ap (λ (x : FlowsLeft). x .answer) l) in

@@ -4,9 +4,9 @@ use Prim.Native.Char.{code}
 use Prim.Native.Nat.{ℕ, _+_, _*_, _^_}
 use lib.IntN.{ℤ, pos}
 use lib.ListN.{length}
-use Rattle.kinds.specs.LineColumns.{Column, number, signed}
-use Rattle.kinds.specs.Ranges.{atℤ}
-use Rattle.kinds.specs.Refusals.{Judged, passed, then}
+use Rattle.refusals.specs.Refusals.{Judged, passed, then}
+use Rattle.types.specs.LineColumns.{Column, number, signed}
+use Rattle.types.specs.Ranges.{atℤ}
 use Rattle.text.specs.Fields.{tab}
 use Rattle.text.specs.Left.{TextLeft, textLeft}
 use Rattle.text.specs.Written.{linesText}
@@ -30,14 +30,14 @@ cornerColumns =
 abbrev pub cornerLine : (row corner : ℕ) → (flow : ℤ) → List ℕ
 cornerLine row corner flow = columnsText tab (Indexed (code "K") row) cornerColumns (pos corner ∷ flow ∷ [])
 
--- .. of machine numbers, each of at most 20 bytes: letter, tabs and LF besides
+-- no K line is longer: letter, tabs and LF, and three machine numbers of at most 20 bytes each
 abbrev pub lineMost : ℕ
 lineMost = 5 + 3 * 20
 
 abbrev pub cornerLineAt : (row : ℕ) → (flows : List ℤ) → (corner : ℕ) → List ℕ
 cornerLineAt row flows corner = cornerLine row corner (atℤ flows corner)
 
--- .. for each corner, numbers rising from 0
+-- a line for each corner, numbers rising from 0
 unfoldable pub cornersText : (row : ℕ) → (flows : List ℤ) → List ℕ
 cornersText row flows = linesText (length flows) 0 (cornerLineAt row flows)
 
@@ -45,7 +45,7 @@ cornersText row flows = linesText (length flows) 0 (cornerLineAt row flows)
 abbrev pub sheetText : Table → (row : ℕ) → List ℕ
 sheetText t row = cornersText row (flowsOf (factorsAt t row) (t .borders))
 
--- .. where the judging passes
+-- a row's sheet as text, where the table was judged to have one
 abbrev pub sheetTextOf : (judged : Judged Table) → (row : ℕ) → Judged (List ℕ)
 sheetTextOf judged row = then judged (λ t. passed (sheetText t row))
 

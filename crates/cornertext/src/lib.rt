@@ -3,21 +3,21 @@
 ghost use mathlib.Core.Path.{_≡_};
 ghost use Prim.Native.Nat.{_+_, _<_, _≤_};
 ghost use lib.ListN.{length};
-ghost use Rattle.kinds.specs.Refusals.{passed};
+ghost use Rattle.refusals.specs.Refusals.{passed};
 ghost use Rattle.text.specs.Left.{textLeft, textSaid};
 ghost use Rattle.text.specs.Put.{Put};
 ghost use Rattle.table.specs.Table.{lent, front};
 ghost use Rattle.table.specs.Good.{Good};
-ghost use Rattle.corners.specs.Corners.{judgeSheet};
+ghost use Rattle.corners.specs.Corners.{judgeCornerSheet};
 ghost use Rattle.cornertext.specs.CornerText.{sheetMost, lineMost, cornerLine, cornersText, sheetTextOf, cornerTextLeft};
 use columns::Head;
-use kinds::BorderRecord;
-use kinds::Flows;
-use kinds::Header;
-use kinds::Judgement;
-use kinds::Refusal;
-use kinds::RowRecord;
-use kinds::Written;
+use corners::Flows;
+use refusals::Judgement;
+use refusals::Refusal;
+use refusals::Written;
+use types::BorderRecord;
+use types::Header;
+use types::RowRecord;
 
 // The columns of a K line after its row: the corner's number, and its signed flow.
 const COLUMNS: [u8; 2] = *b"ns";
@@ -25,7 +25,7 @@ const COLUMNS: [u8; 2] = *b"ns";
 // The corners of twelve borders.
 pub const SHEET_MOST: usize = 1 << corners::BORDERS_MOST;
 
-// Any input has an answer: there is no `requires`.
+// The corner sheet of a row of a lent table, as text. Any input has an answer: there is no `requires`.
 pub fn corner_text(
     h: Header,
     z: &[i64],
@@ -44,7 +44,7 @@ pub fn corner_text(
     corner_text_good(h, z, t, b, c, f, row, out)
 }
 
-// .. of a good table. The flows stand in working memory, which has room for every sheet.
+// The corner sheet of a row of a good table, as text. The flows stand in working memory, which has room for every sheet.
 pub fn corner_text_good(
     h: Header,
     z: &[i64],
@@ -56,7 +56,7 @@ pub fn corner_text_good(
     out: &mut [u8],
 ) -> Written
     requires { ⌜ Good (front (lent h (now z) (now t) (now b) (now c) (now f))) ⌝ }
-    ensures { λ r. ⌜ textSaid r (now (out .exit)) ≡ textLeft (sheetTextOf (judgeSheet (front (lent h (now (z .entry)) (now (t .entry)) (now (b .entry)) (now (c .entry)) (now (f .entry)))) row) row) (now (out .entry)) ⌝ }
+    ensures { λ r. ⌜ textSaid r (now (out .exit)) ≡ textLeft (sheetTextOf (judgeCornerSheet (front (lent h (now (z .entry)) (now (t .entry)) (now (b .entry)) (now (c .entry)) (now (f .entry)))) row) row) (now (out .entry)) ⌝ }
 {
     let mut flows = [0i64; SHEET_MOST];
     let filled = corners::corner_flows_good(h, z, t, b, c, f, row, &mut flows);
@@ -66,7 +66,7 @@ pub fn corner_text_good(
     }
 }
 
-// What is left to judge is the room for the text.
+// The table was judged: only the room for the text is left to judge.
 fn write_corners(row: usize, flows: &[i64], out: &mut [u8]) -> Written
     requires { ⌜ length (now flows) ≤ sheetMost ⌝ }
     ensures { λ r. ⌜ textSaid r (now (out .exit)) ≡ textLeft (passed (cornersText row (now (flows .entry)))) (now (out .entry)) ⌝ }

@@ -11,9 +11,9 @@ use borrow.Author.Tests.{eqb-true, ne-eqb, leb-true, ltb-true, le-leb, lt-leb, l
 use lib.Dec.{eqb, leb, ltb}
 use lib.ListN.{length, take, drop}
 use Rattle.numbers.proofs.TestLaws.{and-both}
-use Rattle.kinds.specs.LineColumns.{rowColumns, rowItems, factorColumns}
-use Rattle.kinds.specs.Refusals.{passed, wrongCorrection}
-use Rattle.kinds.proofs.RefusalLaws.{not-passed}
+use Rattle.refusals.specs.Refusals.{passed, wrongCorrection}
+use Rattle.refusals.proofs.RefusalLaws.{not-passed}
+use Rattle.types.specs.LineColumns.{rowColumns, rowItems, factorColumns}
 use Rattle.text.specs.declared.Number.{Number}
 use Rattle.text.specs.declared.Number.the-variants.{Value, Bad}
 use Rattle.text.specs.Fields.{tab, feed, numberAt, withNumber}
@@ -78,7 +78,7 @@ module _ (rows least : ℕ) (line : List ℕ) where
     pub low : least ≤ givenIndex line
     pub high : givenIndex line < rows
 
-  -- .. where it is the line's own
+  -- where the index that is due is the line's own, it is in least..rows
   due-is : givenIndex line ≡ dueIndex rows least line → Due
   unfolding dueIndex
   due-is e = go (leb least (givenIndex line) && ltb (givenIndex line) rows) refl e
@@ -114,7 +114,7 @@ module _ {zones rows least : ℕ} {line : List ℕ} (u : Correction zones rows l
   unfolding givenIndex
   given-is = rw (u .is)
 
-  -- .. from a later row on
+  -- the index that is due is the line's own from any row on that is not after it
   pub due-later : (i : ℕ) → i ≤ u .index → dueIndex rows i line ≡ u .index
   due-later i h = sym (due-own rows i line (u .index) (sym given-is) h (u .high))
 
@@ -134,7 +134,7 @@ module _ (zones rows : ℕ) where
       go (form byte) q e = absurd (not-passed (wrongCorrection number byte) tt e)
       go (range byte) q e = absurd (not-passed (wrongCorrection number byte) tt e)
 
-  -- .. and put together, from a later row on
+  -- a first line and the others make a good sheet, from any row on that is not after the first line's
   pub joined-good : (least number : ℕ) (line : List ℕ) (rest : List (List ℕ)) (w : Split least number line rest) (i : ℕ) → i ≤ w .first .index → judgeFrom zones rows i number (line ∷ rest) ≡ passed tt
   joined-good least number line rest w i h = rw (due-later (w .first) i h, w .first .held .is) (w .others)
 

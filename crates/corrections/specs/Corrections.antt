@@ -1,10 +1,10 @@
 -- A correction sheet over the day's text (02, E2): C lines with rising indices, nothing else. For each row the line handed on is the piece of the sheet
--- that holds it, or else the piece of the day's text. `handedOn` and `judgeSheet` are what reading is defined by.
+-- that holds it, or else the piece of the day's text. `handedOn` and `judgeCorrections` are what reading is defined by.
 use mathlib.Core.Bool.{Bool, false, cond, _&&_}
 use mathlib.Core.List.{List, [], _∷_}
 use Prim.Native.Nat.{ℕ, _+_}
 use lib.Dec.{eqb, leb, ltb}
-use Rattle.kinds.specs.Refusals.{Judged, passed, refused, wrongCorrection}
+use Rattle.refusals.specs.Refusals.{Judged, passed, refused, wrongCorrection}
 use Rattle.text.specs.Fields.{tab, feed, numberAt, withNumber}
 use Rattle.text.specs.Line.{Line, holds, form, range}
 use Rattle.lines.specs.Lines.{RowLine, rowLine}
@@ -31,14 +31,14 @@ handedOn (line ∷ rest) day i = cond (ofRow line i) line (handedOn rest day i)
 
 -- ---- the sheet, judged
 
--- the index that a line gives itself, whether a tab or an LF ends it. Where it gives none it is refused whatever index is due, and 0 stands for it
+-- the index that a line gives itself, whether a tab or an LF ends it. A line that gives none is refused whatever index is due, so 0 serves
 unfoldable pub endedIndex : (line : List ℕ) → ℕ
 endedIndex line = withNumber (numberAt line 2 feed) 0 (λ index next. index)
 
 unfoldable pub givenIndex : (line : List ℕ) → ℕ
 givenIndex line = withNumber (numberAt line 2 tab) (endedIndex line) (λ index next. index)
 
--- the index that is due in a line: its own, where this is a row's from row `least` on; else another, so that the index is what is wrong with the line,
+-- the index due in a line: its own, if that is in least..rows; else another, so that the index is what is wrong with the line,
 -- and its first byte is to blame (02, E5) unless the fault is further left
 unfoldable pub dueIndex : (rows least : ℕ) → (line : List ℕ) → ℕ
 dueIndex rows least line = let given = givenIndex line in cond (leb least given && ltb given rows) given (given + 1)
@@ -49,12 +49,12 @@ onCorrection (holds c) number rest = rest
 onCorrection (form byte) number rest = refused (wrongCorrection number byte)
 onCorrection (range byte) number rest = refused (wrongCorrection number byte)
 
--- lines of a sheet, of which the first may be of row `least`, or later; the first faulty line decides
+-- lines of a sheet, the first of them of row `least` or later; the first faulty line decides
 abbrev pub judgeFrom : (zones rows least number : ℕ) → (sheet : List (List ℕ)) → Judged (Unit {0})
 judgeFrom zones rows least number [] = passed tt
 judgeFrom zones rows least number (line ∷ rest) =
     let i = dueIndex rows least line in
     onCorrection (rowLine zones line i) number (judgeFrom zones rows (i + 1) (number + 1) rest)
 
-abbrev pub judgeSheet : (zones rows : ℕ) → (sheet : List ℕ) → Judged (Unit {0})
-judgeSheet zones rows sheet = judgeFrom zones rows 0 1 (pieces sheet)
+abbrev pub judgeCorrections : (zones rows : ℕ) → (sheet : List ℕ) → Judged (Unit {0})
+judgeCorrections zones rows sheet = judgeFrom zones rows 0 1 (pieces sheet)

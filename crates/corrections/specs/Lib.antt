@@ -1,2 +1,2 @@
 pub mod Corrections
-pub mod Walk
+pub mod Alongside

@@ -1,19 +1,19 @@
 // Judging a correction sheet: its lines one by one, against the table that the day's text has.
-use kinds::Judgement;
-use kinds::Refusal;
 use lines::row::RowJudged;
 use lines::row::RowKind;
+use refusals::Judgement;
+use refusals::Refusal;
 use text::Number;
 ghost use mathlib.Core.Path.{_≡_};
 ghost use Prim.Native.Nat.{_≤_, _<_};
-ghost use Rattle.kinds.specs.Answers.{ruled};
-ghost use Rattle.kinds.specs.Limits.{zonesMost};
-ghost use Rattle.corrections.specs.Corrections.{endedIndex, givenIndex, dueIndex, judgeSheet};
+ghost use Rattle.limits.specs.Limits.{zonesMost};
+ghost use Rattle.refusals.specs.Answers.{saidJudgement};
+ghost use Rattle.corrections.specs.Corrections.{endedIndex, givenIndex, dueIndex, judgeCorrections};
 
 // The first faulty line decides (10), with its byte.
 pub fn sheet_judged(sheet: &[u8], zones: usize, rows: usize) -> Judgement
     requires { ⌜ (0 < zones) × (zones ≤ zonesMost) ⌝ }
-    ensures { λ r. ⌜ ruled r tt ≡ judgeSheet zones rows (now (sheet .entry)) ⌝ }
+    ensures { λ r. ⌜ saidJudgement r tt ≡ judgeCorrections zones rows (now (sheet .entry)) ⌝ }
 {
     let mut s = 0;
     let mut least = 0;
@@ -39,7 +39,7 @@ pub fn sheet_judged(sheet: &[u8], zones: usize, rows: usize) -> Judgement
     Judgement::Passed
 }
 
-// The index that is due in a line: its own, where this is a row's from `least` on; else another, so that the index is what is wrong with the line.
+// The index due in a line: its own, if that is in least..rows; else another, so that the line fails by its index.
 fn due_index(line: &[u8], rows: usize, least: usize) -> usize
     ensures { λ r. ⌜ r ≡ dueIndex rows least (now (line .entry)) ⌝ }
 {

@@ -12,16 +12,17 @@ use lib.Signed.{ltZ}
 use Rattle.numbers.specs.Ints.{positivePart}
 use Rattle.numbers.specs.Below.{at, sum, someBelow}
 use Rattle.numbers.proofs.BelowLaws.{sum-mono, table-get}
-use Rattle.kinds.specs.declared.Border.{Border}
-use Rattle.kinds.specs.Ranges.{atℤ, isIntraday}
-use Rattle.kinds.specs.Refusals.{passed}
-use Rattle.kinds.proofs.RefusalLaws.{passed-is, unless-passed, none-passed, then-passed}
+use Rattle.refusals.specs.Refusals.{passed}
+use Rattle.refusals.proofs.RefusalLaws.{passed-is, unless-passed, none-passed, then-passed}
+use Rattle.types.specs.declared.Border.{Border}
+use Rattle.types.specs.Ranges.{atℤ, isIntraday}
 use Rattle.table.specs.Table.{Table, borderAt, factorsAt}
 use Rattle.rounds.specs.Rounds.{load}
 use Rattle.margin.specs.Margin.{pOf, ltaKw, sOf, sAt, marginOf, startsOf}
-use Rattle.start.specs.Setup.{gridBy, beginBy, judgeBy}
-use Rattle.states.specs.Rows.{rowsOf}
-use Rattle.start.specs.Start.{kept, fromBy, gridMarked, tableStart, judgeMarked, setupWith}
+use Rattle.setup.specs.Setup.{gridBy, beginBy, judgeBy}
+use Rattle.states.specs.Standings.{standingsOf}
+use Rattle.states.specs.States.{kept}
+use Rattle.start.specs.Start.{fromBy, gridMarked, tableStart, judgeMarked, setupWith}
 use Rattle.extraction.specs.Extraction.{Result, resultMarked, outcomeMarked}
 
 -- ---- what an accepted table has
@@ -31,7 +32,7 @@ starts-at t i h = table-get (t .header .rows) (marginOf t) i (pos 0) h
 pub record Accepted (marked : ℕ → Bool) (t : Table) (r : Result) : Type 0 where
   pub is : resultMarked marked t ≡ r
   pub loaded : (b : ℕ) → b < t .header .borders → (marked b && not (someBelow (t .header .rows) (λ i. ltb 0 (gridMarked marked t .p i b)))) ≡ false
-  pub above : (i : ℕ) → i < t .header .rows → (kept (rowsOf t .states) i && (not (isIntraday (t .header)) && ltZ (marginOf t i) (pos 0))) ≡ false
+  pub above : (i : ℕ) → i < t .header .rows → (kept (standingsOf t .states) i && (not (isIntraday (t .header)) && ltZ (marginOf t i) (pos 0))) ≡ false
 
 pub accepted : (marked : ℕ → Bool) (t : Table) (r : Result) → outcomeMarked marked t ≡ passed r → Accepted marked t r
 unfolding outcomeMarked judgeBy gridBy setupWith
@@ -43,7 +44,7 @@ accepted marked t r e =
     record {
       is = passed-is _ _ (w .second);
       loaded = b .0;
-      above = λ i h. ap (λ (z : ℤ). kept (rowsOf t .states) i && (not (isIntraday (t .header)) && ltZ z (pos 0))) (sym (starts-at t i h)) ∙ c .0 i h;
+      above = λ i h. ap (λ (z : ℤ). kept (standingsOf t .states) i && (not (isIntraday (t .header)) && ltZ z (pos 0))) (sym (starts-at t i h)) ∙ c .0 i h;
     }
 
 -- ---- what the rounds of a table start from
@@ -62,7 +63,7 @@ from-most false border = omega arith
 
 module _ (t : Table) where
   abbrev states : List ℕ
-  states = rowsOf t .states
+  states = standingsOf t .states
 
   -- S of a row
   abbrev s-of : (i : ℕ) → ℕ
@@ -78,12 +79,12 @@ module _ (t : Table) where
       table-get (t .header .rows) (λ i. cond (kept states i) (positivePart (atℤ (startsOf t) i)) 0) i 0 h
       ∙ ap (λ (z : ℤ). cond (kept states i) (positivePart z) 0) (starts-at t i h)
 
-  -- the load of all LTAs is S ..
+  -- S is the load of all LTAs
   s-ltas : length (t .borders) ≡ t .header .borders → (i : ℕ) → sum (t .header .borders) (λ b. pOf (factorsAt t i) (borderAt t b) * ltaKw (borderAt t b)) ≡ s-of i
   unfolding sOf
   s-ltas long i = ap (λ (n : ℕ). sum n (λ b. pOf (factorsAt t i) (borderAt t b) * ltaKw (borderAt t b))) (sym long)
 
-  -- .. and at the start it is that, or less where a border is not marked, where the row takes no part, and in the intraday profile
+  -- the load at the start is at most S. It may be less where a border is not marked, where the row takes no part, and in the intraday profile
   pub load-le : (marked : ℕ → Bool) → length (t .borders) ≡ t .header .borders → (i : ℕ) → load (gridMarked marked t) i (tableStart t .x) ≤ s-of i
   unfolding load gridBy setupWith
   load-le marked long i =
@@ -92,7 +93,7 @@ module _ (t : Table) where
       mul-le-mul (part-le-whole (marked b && kept states i) (pOf (factorsAt t i) (borderAt t b))) (rw (start-x b h) (from-most (isIntraday (t .header)) (borderAt t b)))))
       (le-of-eq (s-ltas long i))
 
-  -- margins of less than 2^E in magnitude start the rounds so
+  -- rounds start from margins of less than 2^E where the table's are less than 2^E in magnitude
   pub small-start : (E : ℕ) → ((i : ℕ) → i < t .header .rows → natAbs (marginOf t i) < 2 ^ E) → (i : ℕ) → i < t .header .rows → at (tableStart t .margins) i < 2 ^ E
   small-start E small i h = rw (start-margin i h) (go (kept states i))
     where

@@ -1,17 +1,17 @@
--- A small table that both 6 and 7 are true of. Nobody cites it: it refuses a definition that slipped.
+-- A small table to which both 6 and 7 apply. Nobody cites it: it refuses a definition that slipped.
 use mathlib.Core.Path.{_≡_, refl}
 use mathlib.Core.List.{[], _∷_}
 use lib.IntN.{pos}
 use Rattle.numbers.specs.Below.{ifZero, sum, table, firstFrom, given}
 use Rattle.numbers.specs.Ints.{minus, maxℤ, minℤ, positivePart, sameℤ, sumℤ}
-use Rattle.kinds.specs.Ranges.{hubsOf, borderOf, shareOf, rowOf, worth, defaultOf}
-use Rattle.kinds.specs.Refusals.{refused, then, unless, refuseAt, refuseFirst, unlimited}
+use Rattle.refusals.specs.Refusals.{refused, then, unless, refuseAt, refuseFirst, unlimited}
+use Rattle.types.specs.Ranges.{hubsOf, borderOf, shareOf, rowOf, worth, defaultOf}
 use Rattle.table.specs.Table.{Table, stretch}
 use Rattle.margin.specs.Margin.{grains, f0coreOf, fuafOf, baseOf, amrOf, signedFactor, pOf, ltaKw, sOf, ltaMarginOf, ramOf, ramAt}
-use Rattle.states.specs.States.{highest, lowest, spreadOf, shifted, below, stateOf}
-use Rattle.start.specs.Setup.{gridBy, judgeBy}
-use Rattle.states.specs.Rows.{rowsOf}
-use Rattle.start.specs.Start.{kept, setupWith}
+use Rattle.states.specs.States.{highest, lowest, spreadOf, shifted, below, stateOf, kept}
+use Rattle.setup.specs.Setup.{gridBy, judgeBy}
+use Rattle.states.specs.Standings.{standingsOf}
+use Rattle.start.specs.Start.{setupWith}
 use Rattle.extraction.specs.Extraction.{outcomeMarked, outcomeOf}
 
 -- IVA 1 takes row 0 below 0, and no row limits border 1
@@ -27,5 +27,5 @@ sixAndSeven =
     }
 
 pub six-before-seven : outcomeOf sixAndSeven ≡ refused (unlimited 1)
-unfolding outcomeMarked ifZero sum table firstFrom given maxℤ minℤ positivePart sameℤ sumℤ hubsOf borderOf shareOf rowOf worth defaultOf then unless refuseAt refuseFirst stretch grains f0coreOf fuafOf baseOf amrOf signedFactor pOf ltaKw sOf ltaMarginOf ramOf ramAt highest lowest spreadOf shifted below stateOf rowsOf kept outcomeOf gridBy setupWith judgeBy
+unfolding outcomeMarked ifZero sum table firstFrom given maxℤ minℤ positivePart sameℤ sumℤ hubsOf borderOf shareOf rowOf worth defaultOf then unless refuseAt refuseFirst stretch grains f0coreOf fuafOf baseOf amrOf signedFactor pOf ltaKw sOf ltaMarginOf ramOf ramAt highest lowest spreadOf shifted below stateOf standingsOf kept outcomeOf gridBy setupWith judgeBy
 six-before-seven = refl

@@ -6,18 +6,18 @@ use lib.IntN.{ℤ, pos}
 use lib.ListN.{replicate}
 use Rattle.numbers.specs.Below.{ifZero, sum, count, lesser, least, orZero, table, firstFrom, given}
 use Rattle.numbers.specs.Ints.{minus, maxℤ, minℤ, positivePart, sameℤ, inside, sumℤ}
-use Rattle.kinds.specs.Ranges.{headerFits, allocatedItems, zoneFits, exists, hubsFit, borderFits, hubsOf, borderOf, shareOf, rowOf, rowFits, factorFits, worth, defaultOf}
-use Rattle.kinds.specs.Refusals.{passed, refused, refusal, then, either, unless, refuseAt, refuseFirst, need}
+use Rattle.refusals.specs.Refusals.{passed, refused, refusal, then, either, unless, refuseAt, refuseFirst, need}
+use Rattle.types.specs.Ranges.{headerFits, allocatedItems, zoneFits, exists, hubsFit, borderFits, hubsOf, borderOf, shareOf, rowOf, rowFits, factorFits, worth, defaultOf}
 use Rattle.marks.specs.Marks.{markedBy, faultyMark, judgeMarks}
 use Rattle.table.specs.Table.{Table, stretch, balanced, twice, roomFor, judgeShape, judgeFor}
 use Rattle.rounds.specs.Rounds.{sharers, raise, raises, load, lowered, risen, apply, next, raised, counted, run, extract}
 use Rattle.rounds.specs.Last.{after, raiseIn, lastTo, lastRound}
 use Rattle.rounds.specs.Stopping.{stopRow}
 use Rattle.margin.specs.Margin.{grains, f0coreOf, fuafOf, baseOf, amrOf, signedFactor, pOf, ltaKw, sOf, ltaMarginOf, ramOf, ramAt}
-use Rattle.states.specs.States.{highest, lowest, spreadOf, shifted, below, stateOf}
-use Rattle.start.specs.Setup.{gridBy, beginBy, judgeBy}
-use Rattle.states.specs.Rows.{rowsOf}
-use Rattle.start.specs.Start.{kept, setupWith}
+use Rattle.states.specs.States.{highest, lowest, spreadOf, shifted, below, stateOf, kept}
+use Rattle.setup.specs.Setup.{gridBy, beginBy, judgeBy}
+use Rattle.states.specs.Standings.{standingsOf}
+use Rattle.start.specs.Start.{setupWith}
 use Rattle.extraction.specs.Extraction.{resultMarked, resultOf, atcOf, leftOf, lastOf, stopOf, outcomeMarked, outcomeOf, outcomeFor, atcRecord, rowRecord, ExtractLeft, extractFor, extractLeft, extractMarkedLeft}
 
 -- rows 0 and 1 limit a border each, 15 kW and 10 kW, row 2 is under 5%; FRM and IVA of row 0 are one's own
@@ -36,12 +36,12 @@ smallIn mark allocated frm iva =
       factors = pos 20000 ∷ pos 0 ∷ pos 0 ∷ pos 30000 ∷ pos 4999 ∷ pos 0 ∷ [];
     }
 
--- .. with a lent table of so many p
+-- what `extract` leaves with a lent table of so many p
 abbrev leaving : (frm iva items : ℕ) → ExtractLeft
 leaving frm iva items = extractLeft (smallIn 0 [] frm iva) (replicate items 9) (replicate 2 []) (replicate 3 [])
 
 pub record Anchors : Type 0 where
-  -- p of each row at each border, row after row; zeros for the row that is not kept; beyond them the table stays. The one round raises both borders, and each is stopped by its row
+  -- p of each row at each border, row after row; zeros for the row that is not kept; beyond them no change. The one round raises both borders, and each is stopped by its row
   pub accepted : leaving 0 0 7
       ≡ record {
         answer = passed 1;
@@ -49,9 +49,9 @@ pub record Anchors : Type 0 where
         atcs = (pos 0 ∷ pos 1 ∷ pos 0 ∷ []) ∷ (pos 0 ∷ pos 1 ∷ pos 1 ∷ []) ∷ [];
         lefts = (pos 0 ∷ pos 300000 ∷ pos 0 ∷ []) ∷ (pos 0 ∷ pos 300000 ∷ pos 0 ∷ []) ∷ (pos 1 ∷ pos 500000 ∷ minus 1 ∷ []) ∷ [];
       }
-  -- refusal 7 leaves it whole
+  -- refusal 7 does not change the table of p
   pub below : leaving 0 4 7 ≡ record { answer = refused (refusal 7 0 0); p = replicate 7 9; atcs = replicate 2 []; lefts = replicate 3 [] }
-  -- .. and is not given in the intraday profile (02, E12): row 0 has RAM -1 kW, its remainder is below 0 and counts as 0; row 1 has 3 kW and gains 1.5 kW
+  -- refusal 7 is not given in the intraday profile (02, E12): row 0 has RAM -1 kW, its remainder is below 0 and counts as 0; row 1 has 3 kW and gains 1.5 kW
   pub intraday : extractLeft (smallIn 1 (pos 5 ∷ minus 5 ∷ []) 0 4) (replicate 7 9) (replicate 2 []) (replicate 3 [])
       ≡ record {
         answer = passed 1;
@@ -59,7 +59,7 @@ pub record Anchors : Type 0 where
         atcs = (pos 0 ∷ pos 0 ∷ pos 0 ∷ []) ∷ (pos 0 ∷ pos 1 ∷ pos 1 ∷ []) ∷ [];
         lefts = (pos 0 ∷ minus 100000 ∷ pos 0 ∷ []) ∷ (pos 0 ∷ pos 300000 ∷ pos 0 ∷ []) ∷ (pos 1 ∷ pos 500000 ∷ minus 1 ∷ []) ∷ [];
       }
-  -- 8 looks at it before records, of which row 0 is out of range (3, line 6)
+  -- 8 looks at the table of p before records: here row 0 is out of range (3, line 6)
   pub short : leaving 4 0 5 .answer ≡ refused (refusal 8 6 0)
   pub long : leaving 4 0 6 .answer ≡ refused (refusal 3 6 0)
   -- border 1 alone marked (02, E13): border 0 stays, with last round 0 and no stopping row, and row 0 keeps its margin; the table of p is whole
@@ -78,5 +78,5 @@ pub record Anchors : Type 0 where
   pub thirteen-late : extractMarkedLeft (smallIn 0 [] 4 0) [] (replicate 7 9) (replicate 2 []) (replicate 3 []) .answer ≡ refused (refusal 3 6 0)
 
 pub anchors : Anchors
-unfolding resultMarked outcomeMarked outcomeFor extractFor extractMarkedLeft judgeMarks faultyMark markedBy ifZero sum count lesser least orZero table firstFrom given maxℤ minℤ positivePart sameℤ inside sumℤ headerFits allocatedItems zoneFits exists hubsFit borderFits hubsOf borderOf shareOf rowOf rowFits factorFits worth defaultOf then either unless refuseAt refuseFirst need stretch balanced twice roomFor judgeShape sharers raise raises load lowered risen apply next raised counted run extract after raiseIn lastTo lastRound stopRow grains f0coreOf fuafOf baseOf amrOf signedFactor pOf ltaKw sOf ltaMarginOf ramOf ramAt highest lowest spreadOf shifted below stateOf rowsOf kept resultOf atcOf leftOf lastOf stopOf outcomeOf atcRecord rowRecord judgeFor extractLeft gridBy setupWith beginBy judgeBy
+unfolding resultMarked outcomeMarked outcomeFor extractFor extractMarkedLeft judgeMarks faultyMark markedBy ifZero sum count lesser least orZero table firstFrom given maxℤ minℤ positivePart sameℤ inside sumℤ headerFits allocatedItems zoneFits exists hubsFit borderFits hubsOf borderOf shareOf rowOf rowFits factorFits worth defaultOf then either unless refuseAt refuseFirst need stretch balanced twice roomFor judgeShape sharers raise raises load lowered risen apply next raised counted run extract after raiseIn lastTo lastRound stopRow grains f0coreOf fuafOf baseOf amrOf signedFactor pOf ltaKw sOf ltaMarginOf ramOf ramAt highest lowest spreadOf shifted below stateOf standingsOf kept resultOf atcOf leftOf lastOf stopOf outcomeOf atcRecord rowRecord judgeFor extractLeft gridBy setupWith beginBy judgeBy
 anchors = record { accepted = refl; below = refl; intraday = refl; short = refl; long = refl; marked = refl; marked-both = refl; thirteen = refl; thirteen-late = refl }

@@ -10,37 +10,38 @@ use lib.ListN.{length, getD, take, drop, length-take, length-append, take-append
 use lib.Seq.{length-take-le, take-at}
 use Rattle.numbers.specs.Below.{at, table, over}
 use Rattle.numbers.proofs.BelowLaws.{sum-cong, table-long, table-get, table-cong}
-use Rattle.kinds.specs.declared.Header.{Header}
-use Rattle.kinds.specs.declared.Judgement.{Judgement}
-use Rattle.kinds.specs.declared.Judgement.the-variants.{Passed, Refused}
-use Rattle.kinds.specs.declared.Refusal.{Refusal}
-use Rattle.kinds.specs.Answers.{ruled}
-use Rattle.kinds.specs.Limits.{bordersMost}
-use Rattle.kinds.specs.Ranges.{atℤ, isIntraday, borderOf}
-use Rattle.kinds.specs.Refusals.{Judged, passed, refused, then, either, tooShort}
-use Rattle.kinds.proofs.RefusalLaws.{passed-is, then-passed, then-next, then-refused, either-passed, either-refused, need-passed, need-enough, need-short}
+use Rattle.limits.specs.Limits.{bordersMost}
+use Rattle.refusals.specs.declared.Judgement.{Judgement}
+use Rattle.refusals.specs.declared.Judgement.the-variants.{Passed, Refused}
+use Rattle.refusals.specs.declared.Refusal.{Refusal}
+use Rattle.refusals.specs.Answers.{saidJudgement}
+use Rattle.refusals.specs.Refusals.{Judged, passed, refused, then, either, tooShort}
+use Rattle.refusals.proofs.RefusalLaws.{passed-is, then-passed, then-next, then-refused, either-passed, either-refused, need-passed, need-enough, need-short}
+use Rattle.types.specs.declared.Header.{Header}
+use Rattle.types.specs.Ranges.{atℤ, isIntraday, borderOf}
 use Rattle.table.specs.Table.{Table}
 use Rattle.table.specs.Good.{Good}
 use Rattle.rounds.specs.declared.Final.{Final}
 use Rattle.rounds.specs.Rounds.{Grid, State, sharers, load, Outcome, extract}
 use Rattle.rounds.specs.Last.{lastRounds}
 use Rattle.rounds.specs.Stopping.{stopRow, stopRows}
-use Rattle.rounds.specs.Work.{flat, stopBy, Startable, WorkLeft, workLeft, workOf}
+use Rattle.rounds.specs.AllRounds.{flat, stopBy, Startable, WorkLeft, workLeft, workOf}
 use Rattle.rounds.proofs.Rounds.{extracts}
 use Rattle.rounds.proofs.StopLaws.{stop-by, shares-are}
 use Rattle.rounds.proofs.Theorems.{extract-demand3, same-factors, same-lasts, same-stops}
-use Rattle.rounds.proofs.WorkLaws.{rounds-long, work-ended, lasts-below}
-use Rattle.margin.specs.Bounds.{startBits}
+use Rattle.rounds.proofs.AllRoundsLaws.{rounds-long, work-ended, lasts-below}
+use Rattle.margin.specs.Magnitudes.{startBits}
 use Rattle.margin.proofs.JudgedLaws.{good-borders}
 use Rattle.margin.proofs.Small.{named-values-small}
-use Rattle.start.specs.Setup.{gridBy, beginBy}
-use Rattle.states.specs.Rows.{Rows, rowsOf}
-use Rattle.states.proofs.RowsLaws.{rows-in}
+use Rattle.setup.specs.Setup.{gridBy, beginBy}
+use Rattle.states.specs.Standings.{Standings, standingsOf}
+use Rattle.states.proofs.StandingsLaws.{rows-in}
 use Rattle.start.specs.Start.{every, fromBy, gridMarked, tableGrid, tableStart, judgeMarked, setupWith}
 use Rattle.start.specs.Filled.{froms, exchangesOf, cells}
 use Rattle.start.proofs.StartLaws.{cells-at, grid-long, PreparedAs}
-use Rattle.extraction.specs.Extraction.{Result, resultBy, resultMarked, leftOf, lastOf, stopOf, outcomeMarked, borderLeft, leftOfRow, atcRecord, rowRecord, ExtractLeft, leaves, resultRoom, resultStored}
-use Rattle.extraction.specs.Work.{endedAt, gridWith, startWith, outcomeWith, Runnable, Ran, Finishable, resultWith, finished, outcomeLeft}
+use Rattle.outcome.specs.Outcome.{borderLeft, leftOfRow}
+use Rattle.extraction.specs.Extraction.{Result, resultBy, resultMarked, leftOf, lastOf, stopOf, outcomeMarked, atcRecord, rowRecord, ExtractLeft, leaves, resultRoom, resultStored}
+use Rattle.extraction.specs.Inner.{endedAt, gridWith, startWith, outcomeWith, Runnable, Ran, Finishable, resultWith, finished, outcomeLeft}
 use Rattle.extraction.proofs.AcceptedLaws.{accepted, load-le, small-start}
 
 -- ---- the rounds
@@ -80,13 +81,13 @@ module _ {h : Header} {b : List (List ℤ)} {p margins x : List ℕ} (u : Runnab
     unfolding workOf
     run-lasts = ap (λ (l : WorkLeft). l .lasts) w ∙ ap (λ (xs : List ℕ). lastRounds g (record { margins = margins; x = xs })) x-front
 
-    -- with the equal shares of what is left
+    -- the equal shares of the margins left
     pub run-left : {ns shares : List ℕ} → ns ≡ table (h .rows) (sharers g) → length ends ≡ h .rows → shares ≡ table (length ends) (λ i. at ends i / at ns i)
         → Ran h b p margins r ends lasts shares
     run-left n long s = record { ended = run-ended; last-rounds = run-lasts; shared = s ∙ shares-are {left = ends} (record { counts = n; margins = long }) }
 
 -- ---- what is stored, where the rounds of the code ended
-module _ {h : Header} {b : List (List ℤ)} {m : Rows} {p margins : List ℕ} (u : Finishable h b m p margins) (end : Final) {ends lasts shares : List ℕ} (ran : Ran h b p margins end ends lasts shares) where
+module _ {h : Header} {b : List (List ℤ)} {m : Standings} {p margins : List ℕ} (u : Finishable h b m p margins) (end : Final) {ends lasts shares : List ℕ} (ran : Ran h b p margins end ends lasts shares) where
   -- there is an exchange for each border
   pub front-long : length (take (h .borders) (end .x)) ≡ h .borders
   front-long = ap (λ (o : Outcome). length (o .state .x)) (ran .ended) ∙ rounds-long (extracts _ _) (table-long (length b) _ ∙ u .run .borders-long)
@@ -148,13 +149,13 @@ module _ {h : Header} {b : List (List ℤ)} {m : Rows} {p margins : List ℕ} (u
 -- ---- a prepared table
 module _ {marked : ℕ → Bool} {t : Table} {r : Judgement} {rams starts : List ℤ} {states : List ℕ} (q : PreparedAs marked t r rams starts states) where
   pub start-turned : {w : Refusal} → r ≡ Refused w → judgeMarked marked t ≡ refused w
-  start-turned e = sym (q .judged) ∙ ap (λ (j : Judgement). ruled j states) e
+  start-turned e = sym (q .judged) ∙ ap (λ (j : Judgement). saidJudgement j states) e
 
-  pub start-passed : r ≡ Passed → judgeMarked marked t ≡ passed (rowsOf t .states)
-  start-passed e = sym (q .judged) ∙ ap (λ (j : Judgement). ruled j states) e ∙ ap (λ (n : Rows). passed (n .states)) (q .rows)
+  pub start-passed : r ≡ Passed → judgeMarked marked t ≡ passed (standingsOf t .states)
+  start-passed e = sym (q .judged) ∙ ap (λ (j : Judgement). saidJudgement j states) e ∙ ap (λ (n : Standings). passed (n .states)) (q .rows)
 
--- ---- .. whose p at the marked borders and whose margins are laid out
-module _ (marked : ℕ → Bool) {t : Table} (good : Good t) {m : Rows} (rows-are : m ≡ rowsOf t) {p margins : List ℕ} (p-is : p ≡ cells (gridMarked marked t)) (margins-are : margins ≡ tableStart t .margins) where
+-- ---- a prepared table whose p at the marked borders and whose margins are laid out
+module _ (marked : ℕ → Bool) {t : Table} (good : Good t) {m : Standings} (rows-are : m ≡ standingsOf t) {p margins : List ℕ} (p-is : p ≡ cells (gridMarked marked t)) (margins-are : margins ≡ tableStart t .margins) where
   abbrev h : Header
   h = t .header
 
@@ -197,22 +198,22 @@ module _ (marked : ℕ → Bool) {t : Table} (good : Good t) {m : Rows} (rows-ar
         states-in = rows .states-in;
       }
 
-  -- the result, but for its p, which is that of the marked borders
-  result-is : resultWith h (t .borders) m p margins ≡ resultBy h (rowsOf t) p (gridMarked marked t) (tableStart t)
+  -- the result, except that its p is that of the marked borders
+  result-is : resultWith h (t .borders) m p margins ≡ resultBy h (standingsOf t) p (gridMarked marked t) (tableStart t)
   unfolding gridBy setupWith
   result-is =
       let g = gridWith h p in
       let s = tableStart t in
       let made : Outcome → List ℕ → List (Option ℕ) → Result =
-      λ o lasts stops. record { header = h; rows = rowsOf t; p = p; outcome = o; lasts = lasts; stops = stops } in
+      λ o lasts stops. record { header = h; rows = standingsOf t; p = p; outcome = o; lasts = lasts; stops = stops } in
       let ended : extract g s ≡ extract (gridMarked marked t) s = same-factors (h .rows) (h .borders) _ _ p-at s in
-      ap {B = Result} (λ (n : Rows). resultBy h n p g (startWith h (t .borders) margins)) rows-are
-      ∙ ap (resultBy h (rowsOf t) p g) (ap₂ {C = State} (λ (ms xs : List ℕ). record { margins = ms; x = xs }) margins-are froms-are)
+      ap {B = Result} (λ (n : Standings). resultBy h n p g (startWith h (t .borders) margins)) rows-are
+      ∙ ap (resultBy h (standingsOf t) p g) (ap₂ {C = State} (λ (ms xs : List ℕ). record { margins = ms; x = xs }) margins-are froms-are)
       ∙ ap₂ (λ (o : Outcome) (l : List ℕ). made o l (stopRows g (extract g s .state .margins))) ended (same-lasts (h .rows) (h .borders) _ _ p-at s)
       ∙ ap (made (extract (gridMarked marked t) s) (lastRounds (gridMarked marked t) s))
       (ap (λ (o : Outcome). stopRows g (o .state .margins)) ended ∙ same-stops (h .rows) (h .borders) _ _ p-at (extract (gridMarked marked t) s .state .margins))
 
-  -- with p of every border it is the table's; a lent table of p of just that length is filled
+  -- with p of every border the result is the table's; a lent table of p of just that length is filled
   pub stored-is : (ps : List ℕ) → length ps ≡ h .rows * h .borders → (atcs lefts : List (List ℤ)) {atcs′ lefts′ : List (List ℤ)} (k : ℕ)
       → leaves (passed k) p atcs′ lefts′ ≡ finished atcs lefts (resultWith h (t .borders) m p margins)
       → {whole : List ℕ} → whole ≡ cells (tableGrid t) → leaves (passed k) whole atcs′ lefts′ ≡ resultStored ps atcs lefts (resultMarked marked t)
@@ -233,7 +234,7 @@ module _ (marked : ℕ → Bool) (t : Table) (ps : List ℕ) (atcs lefts : List 
   unfolding outcomeLeft outcomeMarked
   start-refused e = sym (either-refused _ _ (then-refused _ (then-refused _ e)))
 
-  module _ (e : judgeMarked marked t ≡ passed (rowsOf t .states)) where
+  module _ (e : judgeMarked marked t ≡ passed (standingsOf t .states)) where
     abbrev result : Result
     result = resultMarked marked t
 
@@ -254,7 +255,7 @@ module _ (marked : ℕ → Bool) (t : Table) (ps : List ℕ) (atcs lefts : List 
       unfolding outcomeLeft resultMarked
       all-stored l = sym (either-passed _ _ (past-start ∙ need-enough _ _ _ hb ∙ need-enough _ _ _ l))
 
--- .. of a lent table of p that is longer than the front that was worked on
+-- a lent table of p that is longer than the front that was worked on
 module _ (marked : ℕ → Bool) (t : Table) (n : ℕ) (is : n ≡ t .header .rows * t .header .borders) (ps : List ℕ) (enough : n ≤ length ps) (atcs lefts : List (List ℤ)) where
   abbrev longer : ExtractLeft → ExtractLeft
   longer l = leaves (l .answer) (l .p ++ drop n ps) (l .atcs) (l .lefts)

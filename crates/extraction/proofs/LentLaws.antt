@@ -8,15 +8,15 @@ use native.Mathlib.Nat.{mul-le-mul}
 use native.Mathlib.Omega.{arith}
 use lib.IntN.{ℤ}
 use lib.ListN.{length, take}
-use Rattle.kinds.specs.declared.Header.{Header}
-use Rattle.kinds.specs.declared.Judgement.{Judgement}
-use Rattle.kinds.specs.declared.Judgement.the-variants.{Passed, Refused}
-use Rattle.kinds.specs.declared.Refusal.{Refusal}
-use Rattle.kinds.specs.Answers.{ruled}
-use Rattle.kinds.specs.Limits.{bordersMost, rowsMost}
-use Rattle.kinds.specs.Refusals.{Judged, passed, refused, then, either, need}
-use Rattle.kinds.proofs.KindLaws.{header-in}
-use Rattle.kinds.proofs.RefusalLaws.{passed-is, answer-passed, then-passed, then-next, then-refused, either-passed, either-refused, need-passed, need-enough}
+use Rattle.limits.specs.Limits.{bordersMost, rowsMost}
+use Rattle.refusals.specs.declared.Judgement.{Judgement}
+use Rattle.refusals.specs.declared.Judgement.the-variants.{Passed, Refused}
+use Rattle.refusals.specs.declared.Refusal.{Refusal}
+use Rattle.refusals.specs.Answers.{saidJudgement}
+use Rattle.refusals.specs.Refusals.{Judged, passed, refused, then, either, need}
+use Rattle.refusals.proofs.RefusalLaws.{passed-is, answer-passed, then-passed, then-next, then-refused, either-passed, either-refused, need-passed, need-enough}
+use Rattle.types.specs.declared.Header.{Header}
+use Rattle.types.proofs.RangeLaws.{header-in}
 use Rattle.marks.specs.Marks.{judgeAsked, mayRise, flagsOf, flagged}
 use Rattle.marks.proofs.MarkLaws.{flags-tell}
 use Rattle.table.specs.declared.Room.the-variants.{P}
@@ -25,7 +25,7 @@ use Rattle.table.specs.Good.{Good}
 use Rattle.table.proofs.JudgeLaws.{shape-front}
 use Rattle.table.proofs.GoodLaws.{judged-front, judged-good, told-judged}
 use Rattle.extraction.specs.Extraction.{Result, resultMarked, outcomeMarked, outcomeFor, judgeExtract, ExtractLeft, leaves, resultRoom, resultStored, extractFor}
-use Rattle.extraction.specs.Work.{outcomeLeft}
+use Rattle.extraction.specs.Inner.{outcomeLeft}
 use Rattle.extraction.proofs.AcceptedLaws.{accepted}
 use Rattle.extraction.proofs.MarkedLaws.{outcome-agree, for-refused, for-passed, for-is}
 
@@ -51,14 +51,14 @@ judged-roomy given n enough = go (judgeShape given) refl
         let h = header-in (front given .header) (s .1 .header) in
         need-enough _ _ _ (subst (λ (u : Table). u .header .rows * u .header .borders ≤ n) (sym (s .0)) (omega (arith, mul-le-mul (h .rows-most) (h .borders-most))))
 
-pub front-room : (given : Table) (n : ℕ) (r : Judgement) → ruled r (front given) ≡ judgeExtract given n → r ≡ Passed → given .header .rows * given .header .borders ≤ n
+pub front-room : (given : Table) (n : ℕ) (r : Judgement) → saidJudgement r (front given) ≡ judgeExtract given n → r ≡ Passed → given .header .rows * given .header .borders ≤ n
 front-room given n r said e = extract-judged given (front given) n (told-judged (P n) given r said e) .1
 
--- ---- which judgement decides: of lent tables ..
-module _ (all : Bool) (marks : List ℕ) (given : Table) (ps : List ℕ) (r : Judgement) (said : ruled r (front given) ≡ judgeExtract given (length ps)) where
+-- ---- which judgement decides, of lent tables
+module _ (all : Bool) (marks : List ℕ) (given : Table) (ps : List ℕ) (r : Judgement) (said : saidJudgement r (front given) ≡ judgeExtract given (length ps)) where
   pub lent-refused : (atcs lefts : List (List ℤ)) (w : Refusal) → r ≡ Refused w → leaves (refused w) ps atcs lefts ≡ extractFor all marks given ps atcs lefts
   unfolding extractFor
-  lent-refused atcs lefts w e = sym (either-refused _ _ (then-refused _ (sym said ∙ ap (λ (j : Judgement). ruled j (front given)) e)))
+  lent-refused atcs lefts w e = sym (either-refused _ _ (then-refused _ (sym said ∙ ap (λ (j : Judgement). saidJudgement j (front given)) e)))
 
   module _ (e : r ≡ Passed) where
     pub lent-outcome : (atcs lefts : List (List ℤ)) → outcomeLeft (outcomeFor all marks (front given)) ps atcs lefts ≡ extractFor all marks given ps atcs lefts
@@ -67,8 +67,8 @@ module _ (all : Bool) (marks : List ℕ) (given : Table) (ps : List ℕ) (r : Ju
         ap (λ (j : Judged Result). either j (resultStored ps atcs lefts) (λ w. leaves (refused w) ps atcs lefts))
         (sym (then-next _ (told-judged (P (length ps)) given r said e)))
 
--- .. and of a table, as it was asked for: the marks, and then the outcome of the borders that the flags tell
-module _ (all : Bool) (marks : List ℕ) (t : Table) (ps : List ℕ) (atcs lefts : List (List ℤ)) (j : Judgement) (told : ruled j marks ≡ judgeAsked all (t .header .borders) marks (passed marks)) where
+-- ---- which judgement decides, of a table as it was asked for: the marks, and then the outcome of the borders whose flags are set
+module _ (all : Bool) (marks : List ℕ) (t : Table) (ps : List ℕ) (atcs lefts : List (List ℤ)) (j : Judgement) (told : saidJudgement j marks ≡ judgeAsked all (t .header .borders) marks (passed marks)) where
   pub marks-refused : (w : Refusal) → j ≡ Refused w → leaves (refused w) ps atcs lefts ≡ outcomeLeft (outcomeFor all marks t) ps atcs lefts
   unfolding outcomeLeft
   marks-refused w q = sym (either-refused _ _ (then-refused _ (for-refused all marks t j told w q)))

@@ -5,12 +5,12 @@ use mathlib.Core.Bool.{Bool}
 use mathlib.Core.List.{List}
 use mathlib.Core.Option.{Option}
 use Prim.Native.Nat.{ℕ, _<_}
-use Rattle.kinds.specs.declared.Judgement.{Judgement}
-use Rattle.kinds.specs.declared.Judgement.the-variants.{Passed, Refused}
-use Rattle.kinds.specs.declared.Refusal.{Refusal}
-use Rattle.kinds.specs.Answers.{ruled}
-use Rattle.kinds.specs.Refusals.{Judged, passed, refused, then}
-use Rattle.kinds.proofs.RefusalLaws.{then-next, then-refused}
+use Rattle.refusals.specs.declared.Judgement.{Judgement}
+use Rattle.refusals.specs.declared.Judgement.the-variants.{Passed, Refused}
+use Rattle.refusals.specs.declared.Refusal.{Refusal}
+use Rattle.refusals.specs.Answers.{saidJudgement}
+use Rattle.refusals.specs.Refusals.{Judged, passed, refused, then}
+use Rattle.refusals.proofs.RefusalLaws.{then-next, then-refused}
 use Rattle.marks.specs.Marks.{judgeAsked, mayRise}
 use Rattle.marks.proofs.MarkLaws.{asked-then, asked-passed}
 use Rattle.table.specs.Table.{Table}
@@ -18,9 +18,10 @@ use Rattle.rounds.specs.Rounds.{State, Outcome, extract}
 use Rattle.rounds.specs.Last.{lastRounds}
 use Rattle.rounds.specs.Stopping.{stopRows}
 use Rattle.rounds.proofs.Theorems.{same-factors, same-lasts, same-stops}
-use Rattle.start.specs.Setup.{Setup, gridBy}
-use Rattle.states.specs.Rows.{rowsOf}
-use Rattle.start.specs.Start.{kept, gridMarked, tableGrid, tableStart, judgeMarked, setupOf, setupWith}
+use Rattle.setup.specs.Setup.{Setup, gridBy}
+use Rattle.states.specs.Standings.{standingsOf}
+use Rattle.states.specs.States.{kept}
+use Rattle.start.specs.Start.{gridMarked, tableGrid, tableStart, judgeMarked, setupOf, setupWith}
 use Rattle.start.specs.Filled.{cells}
 use Rattle.start.proofs.SameMarks.{p-marks, judge-marks}
 use Rattle.extraction.specs.Extraction.{Result, resultMarked, outcomeMarked, outcomeFor}
@@ -36,7 +37,7 @@ module _ (m m′ : ℕ → Bool) (t : Table) (e : (b : ℕ) → b < t .header .b
 
   judge-agree : judgeMarked m t ≡ judgeMarked m′ t
   unfolding setupWith
-  judge-agree = judge-marks s m e (rowsOf t .states)
+  judge-agree = judge-marks s m e (standingsOf t .states)
 
   pub result-agree : resultMarked m t ≡ resultMarked m′ t
   unfolding resultMarked gridBy setupWith
@@ -45,7 +46,7 @@ module _ (m m′ : ℕ → Bool) (t : Table) (e : (b : ℕ) → b < t .header .b
       let g = gridMarked m t in
       let g′ = gridMarked m′ t in
       let made : Outcome → List ℕ → List (Option ℕ) → Result =
-      λ o lasts stops. record { header = t .header; rows = rowsOf t; p = cells (tableGrid t); outcome = o; lasts = lasts; stops = stops } in
+      λ o lasts stops. record { header = t .header; rows = standingsOf t; p = cells (tableGrid t); outcome = o; lasts = lasts; stops = stops } in
       let ended : extract g start ≡ extract g′ start = same-factors (t .header .rows) (t .header .borders) _ _ p-agree start in
       ap₂ (λ (o : Outcome) (l : List ℕ). made o l (stopRows g (extract g start .state .margins))) ended (same-lasts (t .header .rows) (t .header .borders) _ _ p-agree start)
       ∙ ap (made (extract g′ start) (lastRounds g′ start))
@@ -57,16 +58,16 @@ module _ (m m′ : ℕ → Bool) (t : Table) (e : (b : ℕ) → b < t .header .b
 
 -- ---- an outcome that was asked for
 module _ (all : Bool) (marks : List ℕ) (t : Table) where
-  module _ (j : Judgement) (said : ruled j marks ≡ judgeAsked all (t .header .borders) marks (passed marks)) where
+  module _ (j : Judgement) (said : saidJudgement j marks ≡ judgeAsked all (t .header .borders) marks (passed marks)) where
     pub for-refused : (w : Refusal) → j ≡ Refused w → outcomeFor all marks t ≡ refused w
     unfolding outcomeFor
-    for-refused w e = sym (asked-then all (t .header .borders) marks marks _) ∙ then-refused _ (sym said ∙ ap (λ (v : Judgement). ruled v marks) e)
+    for-refused w e = sym (asked-then all (t .header .borders) marks marks _) ∙ then-refused _ (sym said ∙ ap (λ (v : Judgement). saidJudgement v marks) e)
 
     pub for-passed : j ≡ Passed → outcomeFor all marks t ≡ outcomeMarked (mayRise all marks) t
     unfolding outcomeFor
-    for-passed e = sym (asked-then all (t .header .borders) marks marks _) ∙ then-next _ (sym said ∙ ap (λ (v : Judgement). ruled v marks) e)
+    for-passed e = sym (asked-then all (t .header .borders) marks marks _) ∙ then-next _ (sym said ∙ ap (λ (v : Judgement). saidJudgement v marks) e)
 
-  -- one that passed is that of the marked borders
+  -- an outcome that passed is that of the marked borders
   pub for-is : (r : Result) → outcomeFor all marks t ≡ passed r → outcomeMarked (mayRise all marks) t ≡ passed r
   unfolding outcomeFor
   for-is r e = asked-passed all (t .header .borders) marks _ r e

@@ -1,24 +1,23 @@
 -- From a table to its result (01, "Extraction"), with every border free to rise or only those that are marked (02, E13), and what the open calls `extract` and
 -- `extract_marked` leave. What the rounds start from is crate start's.
-use mathlib.Core.Bool.{Bool, true, false, cond}
-use mathlib.Core.List.{List, [], _∷_}
-use mathlib.Core.Option.{Option, none, some}
-use Prim.Native.Nat.{ℕ, _/_}
-use lib.Dec.{eqb}
-use lib.IntN.{ℤ, pos}
+use mathlib.Core.Bool.{Bool, true, false}
+use mathlib.Core.List.{List, []}
+use mathlib.Core.Option.{Option, none}
+use Prim.Native.Nat.{ℕ}
+use lib.IntN.{ℤ}
 use lib.ListN.{length, getD}
-use Rattle.numbers.specs.Ints.{minus}
 use Rattle.numbers.specs.Below.{at, table, over}
-use Rattle.kinds.specs.declared.Header.{Header}
-use Rattle.kinds.specs.Ranges.{atℤ}
-use Rattle.kinds.specs.Refusals.{Judged, passed, refused, then, either, need}
+use Rattle.refusals.specs.Refusals.{Judged, passed, refused, then, either, need}
+use Rattle.types.specs.declared.Header.{Header}
+use Rattle.types.specs.Ranges.{atℤ}
 use Rattle.marks.specs.Marks.{judgeAsked, mayRise}
 use Rattle.table.specs.declared.Room.the-variants.{P}
 use Rattle.table.specs.Table.{Table, judgeFor}
 use Rattle.rounds.specs.Rounds.{Grid, State, Outcome, extract, mostSharers, aloneBits}
 use Rattle.rounds.specs.Last.{lastRounds}
 use Rattle.rounds.specs.Stopping.{stopRows}
-use Rattle.states.specs.Rows.{Rows, rowsOf}
+use Rattle.outcome.specs.Outcome.{inMw, borderLeft, leftOfRow}
+use Rattle.states.specs.Standings.{Standings, standingsOf}
 use Rattle.start.specs.Start.{every, gridMarked, tableGrid, tableStart, judgeMarked}
 use Rattle.start.specs.Filled.{cells}
 
@@ -26,14 +25,14 @@ use Rattle.start.specs.Filled.{cells}
 -- border the last round that raised it and the row that stopped it (02, E7)
 pub record Result : Type 0 where
   pub header : Header
-  pub rows : Rows
+  pub rows : Standings
   pub p : List ℕ
   pub outcome : Outcome
   pub lasts : List ℕ
   pub stops : List (Option ℕ)
 
--- .. of rounds on a grid
-abbrev pub resultBy : Header → Rows → (p : List ℕ) → Grid → State → Result
+-- the result of rounds on a grid
+abbrev pub resultBy : Header → Standings → (p : List ℕ) → Grid → State → Result
 resultBy h m p g s =
     record {
       header = h;
@@ -44,16 +43,12 @@ resultBy h m p g s =
       stops = stopRows g (extract g s .state .margins);
     }
 
--- .. of a table with these borders marked: p is of every border, and the rounds read the grid in which the others have p = 0
+-- the result of a table with these borders marked: p is of every border, and the rounds read the grid in which the others have p = 0
 unfoldable pub resultMarked : (marked : ℕ → Bool) → Table → Result
-resultMarked marked t = resultBy (t .header) (rowsOf t) (cells (tableGrid t)) (gridMarked marked t) (tableStart t)
+resultMarked marked t = resultBy (t .header) (standingsOf t) (cells (tableGrid t)) (gridMarked marked t) (tableStart t)
 
 unfoldable pub resultOf : Table → Result
 resultOf t = resultMarked every t
-
--- ATC = kW value floored to whole MW
-abbrev pub inMw : (kw : ℕ) → ℕ
-inMw kw = kw / 1000
 
 unfoldable pub atcOf : Result → (b : ℕ) → ℕ
 atcOf r b = inMw (at (r .outcome .state .x) b)
@@ -76,7 +71,7 @@ outcomeMarked marked t = then (judgeMarked marked t) (λ states. passed (resultM
 unfoldable pub outcomeOf : Table → Judged Result
 outcomeOf t = outcomeMarked every t
 
--- .. as it was asked for, with a list of marks or for every border: 13 comes first
+-- the outcome as it was asked for, with a list of marks or for every border: 13 is judged first
 unfoldable pub outcomeFor : (all : Bool) → (marks : List ℕ) → Table → Judged Result
 outcomeFor all marks t = judgeAsked all (t .header .borders) marks (outcomeMarked (mayRise all marks) t)
 
@@ -86,21 +81,6 @@ nOf marked t = mostSharers (gridMarked marked t)
 
 unfoldable pub lOf : (marked : ℕ → Bool) → Table → ℕ
 lOf marked t = aloneBits (gridMarked marked t) (tableStart t .margins)
-
--- a border's record: ATC in MW, by its exchange in kW; last round; stopping row, or -1 where there is none
-abbrev pub rowOrDash : Option ℕ → ℤ
-rowOrDash none = minus 1
-rowOrDash (some i) = pos i
-
-abbrev pub borderLeft : (kw last : ℕ) → (stop : Option ℕ) → List ℤ
-borderLeft kw last stop = pos (inMw kw) ∷ pos last ∷ rowOrDash stop ∷ []
-
--- a row's record: state, RAM in grains, margin left in grains or -1 where the state is not 0
-abbrev pub leftOfMargin : (state margin : ℕ) → ℤ
-leftOfMargin state margin = cond (eqb state 0) (pos margin) (minus 1)
-
-abbrev pub leftOfRow : (state : ℕ) → (ram : ℤ) → (margin : ℕ) → List ℤ
-leftOfRow state ram margin = pos state ∷ ram ∷ leftOfMargin state margin ∷ []
 
 -- the records of a result
 unfoldable pub atcRecord : Result → (b : ℕ) → List ℤ

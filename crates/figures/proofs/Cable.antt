@@ -5,22 +5,22 @@ use Prim.Native.Nat.{ℕ}
 use Prim.Native.String.{String}
 use lib.IntN.{pos}
 use Rattle.numbers.specs.Ints.{minus}
-use Rattle.kinds.specs.Refusals.{passed, refused, either, outOfRange}
+use Rattle.refusals.specs.Refusals.{passed, refused, either, outOfRange}
 use Rattle.margin.specs.Margin.{sOf}
 use Rattle.reading.specs.Reading.{readText}
 use Rattle.writing.specs.Writing.{tableText}
 use Rattle.start.specs.Start.{every}
 use Rattle.extraction.specs.Extraction.{outcomeOf, nOf, lOf}
 use Rattle.answer.specs.Result.{answerText}
-use Rattle.figures.specs.Computed.{_is_, Hold}
+use Rattle.numbers.specs.Computed.{_is_, Hold}
 use Rattle.figures.specs.Computing.{computing}
-use Rattle.text.specs.Sheets.{sheet}
+use Rattle.text.specs.Shown.{shown}
 use Rattle.figures.specs.Small.{withBorder, lentHubs}
 use Rattle.figures.specs.Cable.{cableText, cableResult, cableTable}
 
--- the hour's lines up to the C lines, with two borders of one's own; a good text would go on, so what is said of it is that line 8 is missing
+-- the answer to the hour's H and Z lines with these B and C lines
 abbrev borders : String → List ℕ
-borders s = answerText (sheet "H 4 2 3/Z 0 0/Z 1 0/Z 2 0/Z 3 0/" ++ sheet s)
+borders s = answerText (shown "H 4 2 3/Z 0 0/Z 1 0/Z 2 0/Z 3 0/" ++ shown s)
 
 pub cable : Hold (
     -- from text to text, byte for byte
@@ -35,21 +35,21 @@ pub cable : Hold (
     -- border 1 ends at 3,790,999 kW
     ∷ either (outcomeOf cableTable) (λ r. r .outcome .state .x) (λ w. []) is (1560000 ∷ 3790999 ∷ [])
     -- 2: a B line has four fields after the letter, or six
-    ∷ withBorder "B 0 0 1 100 0/" is sheet "E 2 4 0/"
-    ∷ withBorder "B 0 0 1 100 0 1 0/" is sheet "E 2 4 0/"
-    ∷ withBorder "B 0 0 1 100 -1 -1/" is sheet "E 2 4 13/"
+    ∷ withBorder "B 0 0 1 100 0/" is shown "E 2 4 0/"
+    ∷ withBorder "B 0 0 1 100 0 1 0/" is shown "E 2 4 0/"
+    ∷ withBorder "B 0 0 1 100 -1 -1/" is shown "E 2 4 13/"
     -- 3: a hub that does not exist, two equal hubs; a hub may be an end of the border
-    ∷ withBorder "B 0 0 1 100 2 1/" is sheet "E 3 4 13/"
-    ∷ withBorder "B 0 0 1 100 0 2/" is sheet "E 3 4 15/"
-    ∷ withBorder "B 0 0 1 100 1 1/" is sheet "E 3 4 15/"
-    ∷ borders "B 0 0 1 100 1 0/B 1 1 0 100/" is sheet "E 2 8 0/"
-    -- .. lent: one hub alone, and a number below -1
+    ∷ withBorder "B 0 0 1 100 2 1/" is shown "E 3 4 13/"
+    ∷ withBorder "B 0 0 1 100 0 2/" is shown "E 3 4 15/"
+    ∷ withBorder "B 0 0 1 100 1 1/" is shown "E 3 4 15/"
+    ∷ borders "B 0 0 1 100 1 0/B 1 1 0 100/" is shown "E 2 8 0/"
+    -- 3 of a lent border: one hub alone, and a number below -1
     ∷ lentHubs (pos 0) (minus 1) is refused (outOfRange 4)
     ∷ lentHubs (minus 1) (pos 0) is refused (outOfRange 4)
     ∷ lentHubs (minus 2) (minus 2) is refused (outOfRange 4)
     -- 4 compares from, to and hubs, and the order of the hubs counts
-    ∷ borders "B 0 0 1 100 2 3/B 1 0 1 50 2 3/C 0 1 0 0 0 0 0 0 0 0 0 0/C 1 1 0 0 0 0 0 0 0 0 0 0/C 2 1 0 0 0 0 0 0 0 0 0 0/" is sheet "E 4 1 0/"
-    ∷ borders "B 0 0 1 100 2 3/B 1 0 1 50 3 2/C 0 1 0 0 0 0 0 0 0 0 0 0/C 1 1 0 0 0 0 0 0 0 0 0 0/C 2 1 0 0 0 0 0 0 0 0 0 0/" is sheet "E 5 0 0/"
+    ∷ borders "B 0 0 1 100 2 3/B 1 0 1 50 2 3/C 0 1 0 0 0 0 0 0 0 0 0 0/C 1 1 0 0 0 0 0 0 0 0 0 0/C 2 1 0 0 0 0 0 0 0 0 0 0/" is shown "E 4 1 0/"
+    ∷ borders "B 0 0 1 100 2 3/B 1 0 1 50 3 2/C 0 1 0 0 0 0 0 0 0 0 0 0/C 1 1 0 0 0 0 0 0 0 0 0 0/C 2 1 0 0 0 0 0 0 0 0 0 0/" is shown "E 5 0 0/"
     ∷ [])
 unfolding computing
 cable = refl

@@ -5,15 +5,15 @@ use Prim.Native.Nat.{ℕ}
 use lib.IntN.{ℤ, pos}
 use lib.ListN.{replicate, take}
 use Rattle.numbers.specs.Ints.{minus}
-use Rattle.kinds.specs.Refusals.{passed, refused, outOfRange, givenTwice, noCorners, tooShort}
+use Rattle.refusals.specs.Refusals.{passed, refused, outOfRange, givenTwice, noCorners, tooShort}
 use Rattle.table.specs.Table.{Table, lent}
 use Rattle.margin.specs.Margin.{sOf}
 use Rattle.corners.specs.Corners.{judgeCorners, cornersLeft}
 use Rattle.cornertext.specs.CornerText.{cornerTextLeft}
-use Rattle.printing.specs.Printed.{oneSheet, everySheet}
-use Rattle.figures.specs.Computed.{_is_, Hold}
+use Rattle.sheets.specs.Sheets.{oneSheet, everySheet}
+use Rattle.numbers.specs.Computed.{_is_, Hold}
 use Rattle.figures.specs.Computing.{computing}
-use Rattle.text.specs.Sheets.{sheet}
+use Rattle.text.specs.Shown.{shown}
 use Rattle.figures.specs.Borders.{plainBorder}
 use Rattle.figures.specs.Hour.{hourText, hourTable, bTwice, bBack, nines}
 
@@ -37,10 +37,10 @@ many n borders =
 -- the sheets of the hour's rows, one after another
 abbrev everyRow : List ℕ
 everyRow =
-    sheet "K 0 0 0/K 0 1 2000000000/K 0 2 2000000000/K 0 3 4000000000/"
-    ++ sheet "K 1 0 0/K 1 1 0/K 1 2 1000000000/K 1 3 1000000000/"
-    ++ sheet "K 2 0 0/K 2 1 499900000/K 2 2 0/K 2 3 499900000/"
-    ++ sheet "K 3 0 0/K 3 1 2000000000/K 3 2 2000000000/K 3 3 4000000000/"
+    shown "K 0 0 0/K 0 1 2000000000/K 0 2 2000000000/K 0 3 4000000000/"
+    ++ shown "K 1 0 0/K 1 1 0/K 1 2 1000000000/K 1 3 1000000000/"
+    ++ shown "K 2 0 0/K 2 1 499900000/K 2 2 0/K 2 3 499900000/"
+    ++ shown "K 3 0 0/K 3 1 2000000000/K 3 2 2000000000/K 3 3 4000000000/"
 
 pub corners : Hold (
     -- the flows in front, the rest as it was; S of row 0 is 4,000,000,000, which is also the largest flow
@@ -53,18 +53,18 @@ pub corners : Hold (
     ∷ cornersLeft (many 13 borders13) 0 [] is record { answer = refused (noCorners 13); out = [] }
     ∷ cornersLeft (many 13 borders13) 7 [] is record { answer = refused (noCorners 13); out = [] }
     ∷ cornersLeft hourTable 4 [] is record { answer = refused (noCorners 4); out = [] }
-    -- .. after 3 and 4, before room for the flows
+    -- 9 comes after 3 and 4, and before room for the flows
     ∷ cornersLeft (many 13 (plainBorder 0 0 1 ∷ borders13)) 7 [] is record { answer = refused (outOfRange 7); out = [] }
     ∷ cornersLeft (withBorders bTwice) 4 [] is record { answer = refused (givenTwice 1); out = [] }
     ∷ cornersLeft hourTable 0 (nines 3) is record { answer = refused (tooShort 4); out = nines 3 }
     -- the text
-    ∷ cornerTextLeft hourTable 1 (replicate 51 7) is record { answer = passed 50; out = sheet "K 1 0 0/K 1 1 0/K 1 2 1000000000/K 1 3 1000000000/" ++ (7 ∷ []) }
+    ∷ cornerTextLeft hourTable 1 (replicate 51 7) is record { answer = passed 50; out = shown "K 1 0 0/K 1 1 0/K 1 2 1000000000/K 1 3 1000000000/" ++ (7 ∷ []) }
     ∷ cornerTextLeft hourTable 1 (replicate 49 7) is record { answer = refused (tooShort 50); out = replicate 49 7 }
-    ∷ cornerTextLeft (withBorders bBack) 0 (replicate 51 7) is record { answer = passed 51; out = sheet "K 0 0 0/K 0 1 2000000000/K 0 2 -2000000000/K 0 3 0/" }
+    ∷ cornerTextLeft (withBorders bBack) 0 (replicate 51 7) is record { answer = passed 51; out = shown "K 0 0 0/K 0 1 2000000000/K 0 2 -2000000000/K 0 3 0/" }
     -- what the program prints
-    ∷ oneSheet hourText [] 1 is sheet "K 1 0 0/K 1 1 0/K 1 2 1000000000/K 1 3 1000000000/"
-    ∷ oneSheet hourText [] 4 is sheet "E 9 4 0/"
-    ∷ oneSheet [] [] 4 is sheet "E 2 1 0/"
+    ∷ oneSheet hourText [] 1 is shown "K 1 0 0/K 1 1 0/K 1 2 1000000000/K 1 3 1000000000/"
+    ∷ oneSheet hourText [] 4 is shown "E 9 4 0/"
+    ∷ oneSheet [] [] 4 is shown "E 2 1 0/"
     ∷ everySheet hourText [] is everyRow
     ∷ [])
 unfolding computing

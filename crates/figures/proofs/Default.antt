@@ -3,15 +3,15 @@ use mathlib.Core.Path.{refl}
 use mathlib.Core.List.{[], _∷_}
 use lib.IntN.{ℤ, pos}
 use Rattle.numbers.specs.Ints.{minus}
-use Rattle.kinds.specs.Refusals.{passed}
+use Rattle.refusals.specs.Refusals.{passed}
 use Rattle.table.specs.Table.{Table}
 use Rattle.reading.specs.Reading.{readText}
 use Rattle.writing.specs.Writing.{tableText}
 use Rattle.answer.specs.Result.{answerText}
-use Rattle.figures.specs.Computed.{_is_, Hold}
+use Rattle.numbers.specs.Computed.{_is_, Hold}
 use Rattle.figures.specs.Computing.{computing}
 use Rattle.figures.specs.Borders.{plainBorder}
-use Rattle.text.specs.Sheets.{sheet}
+use Rattle.text.specs.Shown.{shown}
 
 -- Fmax 100000, FRM 50000, R as given, one border with p 20000 and LTA 100
 abbrev tableWith : (share r : ℤ) → Table
@@ -27,23 +27,23 @@ tableWith share r =
 
 pub defaults : Hold (
     -- "-" is worth the default, as if it were written; 7000 where there is none
-    answerText (sheet "H 2 1 1 9000/Z 0 0/Z 1 0/B 0 0 1 100/C 0 100000 50000 0 0 - 0 0 20000 0/") is sheet "A 0 450 1 0/M 0 0 9000000000 0/R 1/"
-    ∷ answerText (sheet "H 2 1 1/Z 0 0/Z 1 0/B 0 0 1 100/C 0 100000 50000 0 0 9000 0 0 20000 0/") is sheet "A 0 450 1 0/M 0 0 9000000000 0/R 1/"
-    ∷ answerText (sheet "H 2 1 1/Z 0 0/Z 1 0/B 0 0 1 100/C 0 100000 50000 0 0 - 0 0 20000 0/") is sheet "A 0 350 1 0/M 0 0 7000000000 0/R 1/"
+    answerText (shown "H 2 1 1 9000/Z 0 0/Z 1 0/B 0 0 1 100/C 0 100000 50000 0 0 - 0 0 20000 0/") is shown "A 0 450 1 0/M 0 0 9000000000 0/R 1/"
+    ∷ answerText (shown "H 2 1 1/Z 0 0/Z 1 0/B 0 0 1 100/C 0 100000 50000 0 0 9000 0 0 20000 0/") is shown "A 0 450 1 0/M 0 0 9000000000 0/R 1/"
+    ∷ answerText (shown "H 2 1 1/Z 0 0/Z 1 0/B 0 0 1 100/C 0 100000 50000 0 0 - 0 0 20000 0/") is shown "A 0 350 1 0/M 0 0 7000000000 0/R 1/"
     -- R that is written does not look at it; a default of 0 is one
-    ∷ answerText (sheet "H 2 1 1 0/Z 0 0/Z 1 0/B 0 0 1 100/C 0 100000 50000 0 0 7000 0 0 20000 0/") is sheet "A 0 350 1 0/M 0 0 7000000000 0/R 1/"
-    ∷ answerText (sheet "H 2 1 1 0/Z 0 0/Z 1 0/B 0 0 1 100/C 0 100000 50000 0 0 - 0 0 20000 0/") is sheet "A 0 250 1 0/M 0 0 5000000000 0/R 1/"
+    ∷ answerText (shown "H 2 1 1 0/Z 0 0/Z 1 0/B 0 0 1 100/C 0 100000 50000 0 0 7000 0 0 20000 0/") is shown "A 0 350 1 0/M 0 0 7000000000 0/R 1/"
+    ∷ answerText (shown "H 2 1 1 0/Z 0 0/Z 1 0/B 0 0 1 100/C 0 100000 50000 0 0 - 0 0 20000 0/") is shown "A 0 250 1 0/M 0 0 5000000000 0/R 1/"
     -- a written 7000 is known from none, and each is written again as it was
-    ∷ readText (sheet "H 2 1 1 7000/Z 0 0/Z 1 0/B 0 0 1 100/C 0 100000 50000 0 0 - 0 0 20000 0/") is passed (tableWith (pos 7000) (minus 1))
-    ∷ tableText (tableWith (pos 7000) (minus 1)) is sheet "H 2 1 1 7000/Z 0 0/Z 1 0/B 0 0 1 100/C 0 100000 50000 0 0 - 0 0 20000 0/"
-    ∷ readText (sheet "H 2 1 1/Z 0 0/Z 1 0/B 0 0 1 100/C 0 100000 50000 0 0 - 0 0 20000 0/") is passed (tableWith (minus 1) (minus 1))
-    ∷ tableText (tableWith (minus 1) (minus 1)) is sheet "H 2 1 1/Z 0 0/Z 1 0/B 0 0 1 100/C 0 100000 50000 0 0 - 0 0 20000 0/"
+    ∷ readText (shown "H 2 1 1 7000/Z 0 0/Z 1 0/B 0 0 1 100/C 0 100000 50000 0 0 - 0 0 20000 0/") is passed (tableWith (pos 7000) (minus 1))
+    ∷ tableText (tableWith (pos 7000) (minus 1)) is shown "H 2 1 1 7000/Z 0 0/Z 1 0/B 0 0 1 100/C 0 100000 50000 0 0 - 0 0 20000 0/"
+    ∷ readText (shown "H 2 1 1/Z 0 0/Z 1 0/B 0 0 1 100/C 0 100000 50000 0 0 - 0 0 20000 0/") is passed (tableWith (minus 1) (minus 1))
+    ∷ tableText (tableWith (minus 1) (minus 1)) is shown "H 2 1 1/Z 0 0/Z 1 0/B 0 0 1 100/C 0 100000 50000 0 0 - 0 0 20000 0/"
     -- 10000 is the last value inside (line 2 is missing); 3 for one more, and 2 for "-", an empty field, a fifth field
-    ∷ answerText (sheet "H 2 1 1 10000/") is sheet "E 2 2 0/"
-    ∷ answerText (sheet "H 2 1 1 10001/") is sheet "E 3 1 9/"
-    ∷ answerText (sheet "H 2 1 1 -/") is sheet "E 2 1 9/"
-    ∷ answerText (sheet "H 2 1 1 /") is sheet "E 2 1 9/"
-    ∷ answerText (sheet "H 2 1 1 7000 7000/") is sheet "E 2 1 0/"
+    ∷ answerText (shown "H 2 1 1 10000/") is shown "E 2 2 0/"
+    ∷ answerText (shown "H 2 1 1 10001/") is shown "E 3 1 9/"
+    ∷ answerText (shown "H 2 1 1 -/") is shown "E 2 1 9/"
+    ∷ answerText (shown "H 2 1 1 /") is shown "E 2 1 9/"
+    ∷ answerText (shown "H 2 1 1 7000 7000/") is shown "E 2 1 0/"
     ∷ [])
 unfolding computing
 defaults = refl

@@ -7,7 +7,7 @@ use native.Mathlib.Omega.{arith}
 use lib.Dec.{lit≤, lit<}
 use lib.IntN.{pos, _-ℤ_}
 use lib.Signed.{_≤ℤ_}
-use Rattle.kinds.specs.Refusals.{passed}
+use Rattle.refusals.specs.Refusals.{passed}
 use Rattle.table.specs.Table.{judgeLent}
 use Rattle.table.proofs.GoodLaws.{judged-good}
 use Rattle.rounds.specs.Rounds.{State, next}
@@ -15,11 +15,11 @@ use Rattle.margin.specs.Margin.{ramAt}
 use Rattle.start.specs.Start.{every, tableGrid, tableStart}
 use Rattle.extraction.specs.Extraction.{Result, atcOf, leftOf, outcomeOf}
 use Rattle.promises.specs.Demand.{loadOf, UpTo, WithinAtcs, ResultDemand3}
-use Rattle.promises.proofs.Demand3.{accepted-demand-3, atcs-up-to}
+use Rattle.theorems.proofs.Demand3.{accepted-demand-3, atcs-up-to}
 use Rattle.figures.specs.Computing.{computing}
 use Rattle.figures.specs.Hour.{hourTable}
 
--- the hour's rows, last rounds and stopping rows, with rounds and a state of one's own
+-- the hour's rows, last rounds and stopping rows, with these rounds and this state
 abbrev ended : (rounds : ℕ) → State → Result
 ended rounds s =
     record {
@@ -48,9 +48,9 @@ both f g x y (suc (suc b)) h = absurd (omega arith)
 
 pub record HourDemand : Type 0 where
   pub result : outcomeOf hourTable ≡ passed hourEnd
-  -- demand 3 of it ..
+  -- demand 3 of the hour's result
   pub holds : ResultDemand3 hourTable every hourEnd
-  -- .. and at 2,599,000 and 1,800,000 kW: row 0 carries 69,980,000,000 grains of 70,000,000,000, and row 1 all of its 9,000,000,000
+  -- at 2,599,000 and 1,800,000 kW row 0 carries 69,980,000,000 grains of 70,000,000,000, and row 1 all of its 9,000,000,000
   pub within-0 : loadOf hourTable 0 (2599000 ∷ 1800000 ∷ []) ≤ℤ ramAt hourTable 0
   pub within-1 : loadOf hourTable 1 (2599000 ∷ 1800000 ∷ []) ≤ℤ ramAt hourTable 1
   pub load-0 : loadOf hourTable 0 (2599000 ∷ 1800000 ∷ []) ≡ pos 69980000000

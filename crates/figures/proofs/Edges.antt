@@ -5,14 +5,14 @@ use Prim.Native.Nat.{_+_, _*_, _/_, _%_}
 use lib.IntN.{pos}
 use Rattle.numbers.specs.Ints.{minus}
 use Rattle.numbers.specs.Below.{table}
-use Rattle.kinds.specs.Refusals.{passed}
+use Rattle.refusals.specs.Refusals.{passed}
 use Rattle.table.specs.Table.{Table}
 use Rattle.reading.specs.Reading.{readText}
 use Rattle.writing.specs.Writing.{tableText}
 use Rattle.answer.specs.Result.{answerText}
-use Rattle.figures.specs.Computed.{_is_, Hold}
+use Rattle.numbers.specs.Computed.{_is_, Hold}
 use Rattle.figures.specs.Computing.{computing}
-use Rattle.text.specs.Sheets.{sheet}
+use Rattle.text.specs.Shown.{shown}
 use Rattle.figures.specs.Borders.{plainBorder}
 use Rattle.figures.specs.Small.{withZone, withRow}
 
@@ -30,20 +30,20 @@ full =
 
 pub edges : Hold (
     -- Border 1 to 0 alone and factors 20000, 0: refusal 6
-    answerText (sheet "H 2 1 1/Z 0 0/Z 1 0/B 0 1 0 0/C 0 100000 0 0 0 0 0 0 20000 0/") is sheet "E 6 0 0/"
+    answerText (shown "H 2 1 1/Z 0 0/Z 1 0/B 0 1 0 0/C 0 100000 0 0 0 0 0 0 20000 0/") is shown "E 6 0 0/"
     -- Empty text: 2, line 1. "-0": 2
-    ∷ answerText [] is sheet "E 2 1 0/"
-    ∷ withZone "Z 1 -0/" is sheet "E 2 3 6/"
+    ∷ answerText [] is shown "E 2 1 0/"
+    ∷ withZone "Z 1 -0/" is shown "E 2 3 6/"
     -- Zones 16 pass, 17: 3, line 1. Borders 64 pass, 65: 3 (02, E8)
     ∷ readText (tableText full) is passed full
-    ∷ answerText (sheet "H 17 64 3/") is sheet "E 3 1 3/"
-    ∷ answerText (sheet "H 16 65 3/") is sheet "E 3 1 6/"
+    ∷ answerText (shown "H 17 64 3/") is shown "E 3 1 3/"
+    ∷ answerText (shown "H 16 65 3/") is shown "E 3 1 6/"
     -- "-" in R means 7000: AMR is 1 kW, as in the figures, and RAM 70000 kW
-    ∷ withRow "C 0 100000 30001 0 0 - 0 0 20000 0/" is sheet "A 0 350 1 0/M 0 0 7000000000 0/R 1/"
+    ∷ withRow "C 0 100000 30001 0 0 - 0 0 20000 0/" is shown "A 0 350 1 0/M 0 0 7000000000 0/R 1/"
     -- a relieving (negative) factor is no gain of margin
-    ∷ answerText (sheet "H 2 2 2/Z 0 0/Z 1 0/B 0 0 1 0/B 1 1 0 0/C 0 100000 0 0 0 0 0 0 20000 0/C 1 100000 0 0 0 0 0 0 0 20000/") is sheet "A 0 500 1 0/A 1 500 1 1/M 0 0 10000000000 0/M 1 0 10000000000 0/R 1/"
+    ∷ answerText (shown "H 2 2 2/Z 0 0/Z 1 0/B 0 0 1 0/B 1 1 0 0/C 0 100000 0 0 0 0 0 0 20000 0/C 1 100000 0 0 0 0 0 0 0 20000/") is shown "A 0 500 1 0/A 1 500 1 1/M 0 0 10000000000 0/M 1 0 10000000000 0/R 1/"
     -- border 1 does not rise from margins that border 0 has just lowered
-    ∷ answerText (sheet "H 3 2 1/Z 0 0/Z 1 0/Z 2 0/B 0 0 1 0/B 1 0 2 0/C 0 100000 0 0 0 0 0 0 20000 0 0/") is sheet "A 0 250 1 0/A 1 250 1 0/M 0 0 10000000000 0/R 1/"
+    ∷ answerText (shown "H 3 2 1/Z 0 0/Z 1 0/Z 2 0/B 0 0 1 0/B 1 0 2 0/C 0 100000 0 0 0 0 0 0 20000 0 0/") is shown "A 0 250 1 0/A 1 250 1 0/M 0 0 10000000000 0/R 1/"
     ∷ [])
 unfolding computing
 edges = refl

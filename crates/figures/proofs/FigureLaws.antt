@@ -14,17 +14,17 @@ use Rattle.numbers.specs.Ints.{sameℤ}
 use Rattle.numbers.proofs.IntLaws.{le-ltZ, same-self}
 use Rattle.numbers.proofs.BelowLaws.{table-get}
 use Rattle.numbers.proofs.TestLaws.{some-false}
-use Rattle.kinds.specs.Ranges.{atℤ, rowOf, defaultOf}
-use Rattle.kinds.specs.Refusals.{passed}
+use Rattle.refusals.specs.Refusals.{passed}
+use Rattle.types.specs.Ranges.{atℤ, rowOf, defaultOf}
 use Rattle.rounds.specs.Rounds.{Grid, sharers, raise}
 use Rattle.rounds.proofs.LeastLaws.{div-swap}
 use Rattle.rounds.proofs.Rounds.{extracts}
-use Rattle.rounds.proofs.Theorems as rounds
+use Rattle.theorems.proofs.Rounds as rounds
 use Rattle.table.specs.Table.{Table, factorsAt}
 use Rattle.margin.specs.Margin.{f0coreOf, sOf, ramOf, ramAt, ramsOf}
 use Rattle.states.specs.States.{spreadOf, shifted, below, stateOf}
-use Rattle.states.proofs.ShiftLaws.{shifted-self}
-use Rattle.start.specs.Setup.{gridBy}
+use Rattle.theorems.proofs.ShiftLaws.{shifted-self}
+use Rattle.setup.specs.Setup.{gridBy}
 use Rattle.start.specs.Start.{every, tableGrid, tableStart, setupWith}
 use Rattle.extraction.specs.Extraction.{Result, resultMarked, outcomeOf}
 use Rattle.extraction.proofs.AcceptedLaws.{accepted}

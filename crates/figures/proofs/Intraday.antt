@@ -7,8 +7,8 @@ use lib.IntN.{pos}
 use lib.ListN.{length}
 use Rattle.numbers.specs.Below.{table}
 use Rattle.numbers.specs.Ints.{minus}
-use Rattle.kinds.specs.Refusals.{passed, refused, refusal, either}
-use Rattle.text.specs.Sheets.{sheet}
+use Rattle.refusals.specs.Refusals.{passed, refused, refusal, either}
+use Rattle.text.specs.Shown.{shown}
 use Rattle.text.specs.Written.{decimal}
 use Rattle.table.specs.Table.{Table, judgeLent}
 use Rattle.table.proofs.GoodLaws.{judged-good}
@@ -17,27 +17,27 @@ use Rattle.writing.specs.Writing.{tableText}
 use Rattle.start.specs.Start.{every}
 use Rattle.extraction.specs.Extraction.{outcomeOf, resultOf}
 use Rattle.promises.specs.Demand.{ResultDemand3}
-use Rattle.promises.proofs.Demand3.{accepted-demand-3}
+use Rattle.theorems.proofs.Demand3.{accepted-demand-3}
 use Rattle.answer.specs.Result.{answerText}
-use Rattle.figures.specs.Computed.{_is_, Hold}
+use Rattle.numbers.specs.Computed.{_is_, Hold}
 use Rattle.figures.specs.Computing.{computing}
 use Rattle.figures.specs.Borders.{plainBorder}
 
--- the hour with T lines of one's own
+-- the hour with these T lines
 abbrev withT : String → List ℕ
 withT t =
-    sheet "H 3 3 4/Z 0 400000/Z 1 100000/Z 2 -500000/" ++ sheet t ++ sheet "B 0 0 1 100/B 1 1 2 200/B 2 2 1 50/"
-    ++ sheet "C 0 500000 50000 100000 10000 7000 0 0 20000 0 0/"
-    ++ sheet "C 1 100000 10000 45000 0 7000 0 30000 5000 15000 0/"
-    ++ sheet "C 2 200000 20000 -20000 0 - 0 0 0 0 10000/"
-    ++ sheet "C 3 600000 60000 60000 10000 7000 0 0 10000 0 -10000/"
+    shown "H 3 3 4/Z 0 400000/Z 1 100000/Z 2 -500000/" ++ shown t ++ shown "B 0 0 1 100/B 1 1 2 200/B 2 2 1 50/"
+    ++ shown "C 0 500000 50000 100000 10000 7000 0 0 20000 0 0/"
+    ++ shown "C 1 100000 10000 45000 0 7000 0 30000 5000 15000 0/"
+    ++ shown "C 2 200000 20000 -20000 0 - 0 0 0 0 10000/"
+    ++ shown "C 3 600000 60000 60000 10000 7000 0 0 10000 0 -10000/"
 
 abbrev text : List ℕ
 text = withT "T 0 600000/T 1 200000/T 2 -800000/"
 
 -- remainders of 310, -10, 230 and 430 MW
 abbrev result : List ℕ
-result = sheet "A 0 1550 1 0/A 1 0 0 1/A 2 2300 1 2/M 0 0 43000000000 0/M 1 0 5000000000 0/M 2 0 15000000000 0/M 3 0 57000000000 27500000000/R 1/"
+result = shown "A 0 1550 1 0/A 1 0 0 1/A 2 2300 1 2/M 0 0 43000000000 0/M 1 0 5000000000 0/M 2 0 15000000000 0/M 3 0 57000000000 27500000000/R 1/"
 
 abbrev hour : Table
 hour =

@@ -5,16 +5,16 @@ use Prim.Native.Nat.{ℕ}
 use lib.IntN.{ℤ, pos}
 use lib.ListN.{replicate, take, drop}
 use Rattle.numbers.specs.Ints.{minus}
-use Rattle.kinds.specs.declared.Header.{Header}
-use Rattle.kinds.specs.Refusals.{passed, refused, wrongFormAt, wrongForm, outOfRangeAt, outOfRange, givenTwice, unlimited, belowZero, tooShort, badMark}
+use Rattle.refusals.specs.Refusals.{passed, refused, wrongFormAt, wrongForm, outOfRangeAt, outOfRange, givenTwice, unlimited, belowZero, tooShort, badMark}
+use Rattle.types.specs.declared.Header.{Header}
 use Rattle.table.specs.Table.{lent}
 use Rattle.reading.specs.Reading.{readLeft}
 use Rattle.writing.specs.Writing.{tableText, writeLeft}
 use Rattle.extraction.specs.Extraction.{extractLeft}
 use Rattle.answer.specs.Result.{resultTextLeft, resultTextMarkedLeft, answerLeft}
-use Rattle.figures.specs.Computed.{_is_, Hold}
+use Rattle.numbers.specs.Computed.{_is_, Hold}
 use Rattle.figures.specs.Computing.{computing}
-use Rattle.text.specs.Sheets.{sheet}
+use Rattle.text.specs.Shown.{shown}
 use Rattle.figures.specs.Hour.{hourText, hourResult, markedResult, hourTable, bTwice, bBack, nines}
 
 -- the hour's tables, as they are lent
@@ -63,16 +63,16 @@ frmHigh = take 1 c ++ ((pos 100000 ∷ pos 100001 ∷ pos 15000 ∷ pos 0 ∷ mi
 pub lent-calls : Hold (
     -- read: the table in front, the rest as it was
     readLeft hourText (nines 4) [] (old 3) (old 4) (nines 13) is record { answer = passed h; z = z ++ nines 1; t = []; b = b ++ old 1; c = c; f = f ++ nines 1 }
-    -- .. 8 in the order Z, B, C, factors, and nothing written (T: `Intraday.antt`)
+    -- read: 8 in the order Z, B, C, factors, and nothing written (T: `Intraday.antt`)
     ∷ readLeft hourText (nines 2) [] (old 1) (old 3) [] is record { answer = refused (tooShort 3); z = nines 2; t = []; b = old 1; c = old 3; f = [] }
     ∷ readLeft hourText (nines 4) [] (old 1) (old 3) [] is record { answer = refused (tooShort 2); z = nines 4; t = []; b = old 1; c = old 3; f = [] }
     ∷ readLeft hourText (nines 4) [] (old 2) (old 3) [] is record { answer = refused (tooShort 4); z = nines 4; t = []; b = old 2; c = old 3; f = [] }
     ∷ readLeft hourText z [] b c (take 11 f) is record { answer = refused (tooShort 12); z = z; t = []; b = b; c = c; f = take 11 f }
-    -- .. after 1 to 4
+    -- read: 8 comes after 1 to 4
     ∷ readLeft (take 100 hourText) [] [] [] [] [] is record { answer = refused (wrongForm 7); z = []; t = []; b = []; c = []; f = [] }
-    -- .. with the byte to blame (02, E5)
-    ∷ readLeft (sheet "H 3 2 4/Z 0 +5/") [] [] [] [] [] is record { answer = refused (wrongFormAt 2 5); z = []; t = []; b = []; c = []; f = [] }
-    ∷ readLeft (sheet "H 3 2 4/Z 0 100000001/") [] [] [] [] [] is record { answer = refused (outOfRangeAt 2 5); z = []; t = []; b = []; c = []; f = [] }
+    -- read: the byte to blame (02, E5)
+    ∷ readLeft (shown "H 3 2 4/Z 0 +5/") [] [] [] [] [] is record { answer = refused (wrongFormAt 2 5); z = []; t = []; b = []; c = []; f = [] }
+    ∷ readLeft (shown "H 3 2 4/Z 0 100000001/") [] [] [] [] [] is record { answer = refused (outOfRangeAt 2 5); z = []; t = []; b = []; c = []; f = [] }
     -- write: from tables that may be longer than needed; the rest of the text as it was
     ∷ writeLeft (lent h (z ++ z) [] (b ++ b) (c ++ c) (f ++ f)) (replicate 253 7) is record { answer = passed 252; out = hourText ++ (7 ∷ []) }
     ∷ writeLeft hourTable (replicate 251 7) is record { answer = refused (tooShort 252); out = replicate 251 7 }
@@ -93,18 +93,18 @@ pub lent-calls : Hold (
     ∷ extractLeft hourTable (sevens 9) (old 3) (old 5) is record { answer = passed 21; p = ps ++ sevens 1; atcs = ATCs ++ old 1; lefts = lefts ++ old 1 }
     ∷ extractLeft hourTable (sevens 8) (old 2) (old 3) is record { answer = refused (tooShort 4); p = sevens 8; atcs = old 2; lefts = old 3 }
     ∷ extractLeft hourTable (sevens 8) (old 1) (old 3) is record { answer = refused (tooShort 2); p = sevens 8; atcs = old 1; lefts = old 3 }
-    -- .. room for p is looked at after the factors, and before any record
+    -- extract: room for p is judged after the factors, and before any record
     ∷ extractLeft (lent h z [] b frmHigh f) (sevens 7) [] [] is record { answer = refused (tooShort 8); p = sevens 7; atcs = []; lefts = [] }
-    -- result_text and answer
+    -- result_text
     ∷ resultTextLeft hourTable (replicate 118 7) is record { answer = passed 116; out = hourResult ++ (7 ∷ 7 ∷ []) }
     ∷ resultTextLeft hourTable (replicate 115 7) is record { answer = refused (tooShort 116); out = replicate 115 7 }
     ∷ resultTextLeft (lent h z [] b cvaHigh f) [] is record { answer = refused (belowZero 1); out = [] }
-    -- .. with border 1 marked, and with a mark that is no border
+    -- result_text with border 1 marked, and with a mark that is no border; and then answer
     ∷ resultTextMarkedLeft hourTable (1 ∷ []) (replicate 120 7) is record { answer = passed 119; out = markedResult ++ (7 ∷ []) }
     ∷ resultTextMarkedLeft hourTable (1 ∷ []) (replicate 118 7) is record { answer = refused (tooShort 119); out = replicate 118 7 }
     ∷ resultTextMarkedLeft hourTable (1 ∷ 2 ∷ []) [] is record { answer = refused (badMark 2); out = [] }
     ∷ answerLeft hourText (replicate 117 7) is record { answer = passed 116; out = hourResult ++ (7 ∷ []) }
-    ∷ answerLeft [] (replicate 10 7) is record { answer = passed 8; out = sheet "E 2 1 0/" ++ (7 ∷ 7 ∷ []) }
+    ∷ answerLeft [] (replicate 10 7) is record { answer = passed 8; out = shown "E 2 1 0/" ++ (7 ∷ 7 ∷ []) }
     ∷ answerLeft [] (replicate 7 7) is record { answer = refused (tooShort 8); out = replicate 7 7 }
     ∷ [])
 unfolding computing

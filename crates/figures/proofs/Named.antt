@@ -10,23 +10,23 @@ use lib.IntN.{ℤ, pos, natAbs}
 use lib.ListN.{length, getD, drop}
 use lib.Signed.{ltZ, _≤ℤ_}
 use Rattle.numbers.specs.Ints.{minus}
-use Rattle.kinds.specs.Ranges.{atℤ}
-use Rattle.kinds.specs.Refusals.{passed}
+use Rattle.refusals.specs.Refusals.{passed}
+use Rattle.types.specs.Ranges.{atℤ}
 use Rattle.table.specs.Table.{Table, lent, factorsAt}
 use Rattle.table.specs.Good.{Good}
 use Rattle.table.proofs.GoodLaws.{judged-good}
-use Rattle.margin.specs.LargestCorner.{LargestCorner}
+use Rattle.promises.specs.LargestCorner.{LargestCorner}
 use Rattle.margin.specs.Margin.{cornerSum, ramAt, ramsOf}
-use Rattle.margin.proofs.Corner.{s-largest-corner}
+use Rattle.theorems.proofs.LargestCorner.{s-largest-corner}
 use Rattle.margin.proofs.JudgedLaws.{good-factors}
 use Rattle.margin.proofs.Small.{named-values-small}
 use Rattle.corners.specs.Corners.{flowsOf, bit, Stands}
-use Rattle.corners.proofs.Theorems.{every-corner-stands}
-use Rattle.states.proofs.OneKept.{OneKept, one-kept}
-use Rattle.states.specs.Rows.{Rows, rowsOf}
+use Rattle.theorems.proofs.CornerSheet.{every-corner-stands}
+use Rattle.theorems.proofs.OneKept.{OneKept, one-kept}
+use Rattle.states.specs.Standings.{Standings, standingsOf}
 use Rattle.extraction.specs.Extraction.{outcomeFor}
 use Rattle.promises.specs.Replaced.{replaced, ReplacedSame}
-use Rattle.promises.proofs.ReplacedSame.{replaced-same}
+use Rattle.theorems.proofs.ReplacedSame.{replaced-same}
 use Rattle.figures.specs.Computing.{computing}
 use Rattle.figures.specs.Hour.{hourTable}
 use Rattle.figures.proofs.Demand.{hourEnd, hour-judged}
@@ -65,7 +65,7 @@ pub record HourNamed : Type 0 where
   pub less-s : 66000000000 < 2 ^ 48
   pub remainder : 70000000000 < 2 ^ 49
   pub start : 66000000000 < 2 ^ 49
-  -- of its corners border 0 alone has less than S, and only both borders have S
+  -- the corner of border 0 alone has less than S, and only the corner of both borders has S
   pub one-border : pos 2000000000 ≤ℤ pos 4000000000
   pub largest : (l : LargestCorner f b) → l .corner ≡ 3
   -- border 1 alone stands at number 2 and at no other, and has 2,000,000,000 grains
@@ -73,19 +73,19 @@ pub record HourNamed : Type 0 where
   pub nowhere-else : (c : Stands f b second) → 2 ≡ c .corner
   pub stands-flow : (c : Stands f b second) → atℤ (flowsOf f b) (c .corner) ≡ pos 2000000000
   pub every-stands : Stands f b second
-  -- of row 3 and its like row 0 is kept, and no other; its RAM is the lower
+  -- of rows 0 and 3, which are parallel, row 0 is kept and not row 3; its RAM is the lower
   pub twin : Twin
   pub kept : (k : Twin) → k .kept ≡ 0
   pub no-other : (k : Twin) → 0 ≡ k .kept
   pub lower : (k : Twin) → atℤ (ramsOf hourTable) (k .kept) ≤ℤ pos 100000000000
-  -- the hour with "-" for R 7000, replaced, is the hour, in each thing that is the same
+  -- the hour with "-" for R 7000, once replaced, is the hour in each respect
   pub hour : replaced dashed ≡ hourTable
   pub same : ReplacedSame dashed
   pub written : ltZ (pos 7000) (pos 0) ≡ false
   pub good : Good dashed → Good hourTable
   pub ram-dashed : pos 70000000000 ≡ ramAt dashed 0
   pub rams-dashed : pos 70000000000 ∷ pos 9000000000 ∷ pos 12499500000 ∷ pos 100000000000 ∷ [] ≡ ramsOf dashed
-  pub rows-dashed : hourEnd .rows ≡ rowsOf dashed
+  pub rows-dashed : hourEnd .rows ≡ standingsOf dashed
   pub outcome-dashed : passed hourEnd ≡ outcomeFor true [] dashed
   pub outcome-marked : outcomeFor false (1 ∷ []) hourTable ≡ outcomeFor false (1 ∷ []) dashed
 

@@ -5,50 +5,50 @@ use mathlib.Core.List.{List, [], _∷_, _++_}
 use Prim.Native.Nat.{ℕ}
 use Prim.Native.String.{String}
 use lib.ListN.{replicate}
-use Rattle.kinds.specs.Refusals.{passed, refused, either, wrongForm, wrongCorrection, tooShort}
+use Rattle.refusals.specs.Refusals.{passed, refused, either, wrongForm, wrongCorrection, tooShort}
 use Rattle.reading.specs.Reading.{readCorrected}
 use Rattle.writing.specs.Writing.{tableText, rewriteCorrectedLeft}
 use Rattle.result.specs.Refusal.{refusalText}
 use Rattle.answer.specs.Result.{answerText, answerWith}
-use Rattle.figures.specs.Computed.{_is_, Hold}
+use Rattle.numbers.specs.Computed.{_is_, Hold}
 use Rattle.figures.specs.Computing.{computing}
-use Rattle.text.specs.Sheets.{sheet}
+use Rattle.text.specs.Shown.{shown}
 
 -- one border with p 20000 and LTA 100 on a row of Fmax 10000: with IVA 1 its starting margin is below 0
 abbrev morning : List ℕ
-morning = sheet "H 2 1 1/Z 0 0/Z 1 0/B 0 0 1 100/C 0 10000 0 0 0 7000 0 1 20000 0/"
+morning = shown "H 2 1 1/Z 0 0/Z 1 0/B 0 0 1 100/C 0 10000 0 0 0 7000 0 1 20000 0/"
 
 abbrev evening : List ℕ
-evening = sheet "H 2 1 1/Z 0 0/Z 1 0/B 0 0 1 100/C 0 10000 0 0 0 7000 0 0 20000 0/"
+evening = shown "H 2 1 1/Z 0 0/Z 1 0/B 0 0 1 100/C 0 10000 0 0 0 7000 0 0 20000 0/"
 
 abbrev at-noon : (day : List ℕ) → (corrections : String) → List ℕ
-at-noon day corrections = answerWith true [] day (sheet corrections)
+at-noon day corrections = answerWith true [] day (shown corrections)
 
 abbrev rewritten : (corrections : String) → List ℕ
-rewritten corrections = either (readCorrected morning (sheet corrections)) tableText refusalText
+rewritten corrections = either (readCorrected morning (shown corrections)) tableText refusalText
 
 pub noon : Hold (
-    answerText morning is sheet "E 7 0 0/"
+    answerText morning is shown "E 7 0 0/"
     -- an empty sheet changes nothing
-    ∷ at-noon morning "" is sheet "E 7 0 0/"
+    ∷ at-noon morning "" is shown "E 7 0 0/"
     -- 5, 6 and 7 are of the merged table alone: a sheet that cures 7, one that causes it, and one that causes 6
-    ∷ at-noon morning "C 0 10000 0 0 0 7000 0 0 20000 0/" is sheet "A 0 100 0 0/M 0 0 2000000000 0/R 0/"
-    ∷ at-noon evening "C 0 10000 0 0 0 7000 0 1 20000 0/" is sheet "E 7 0 0/"
-    ∷ at-noon evening "C 0 10000 0 0 0 7000 0 0 0 20000/" is sheet "E 6 0 0/"
+    ∷ at-noon morning "C 0 10000 0 0 0 7000 0 0 20000 0/" is shown "A 0 100 0 0/M 0 0 2000000000 0/R 0/"
+    ∷ at-noon evening "C 0 10000 0 0 0 7000 0 1 20000 0/" is shown "E 7 0 0/"
+    ∷ at-noon evening "C 0 10000 0 0 0 7000 0 0 0 20000/" is shown "E 6 0 0/"
     -- 10 is told with the sheet's line and the byte, before 13
-    ∷ at-noon morning "C 0 10000 0 0 0 7000 0 0 20000 0/C 0 10000 0 0 0 7000 0 0 20000 0/" is sheet "E 10 2 3/"
-    ∷ answerWith false [] morning (sheet "x") is sheet "E 10 1 0/"
-    ∷ answerWith false [] morning (sheet "C 0 10000 0 0 0 7000 0 0 20000 0/") is sheet "E 13 0 0/"
+    ∷ at-noon morning "C 0 10000 0 0 0 7000 0 0 20000 0/C 0 10000 0 0 0 7000 0 0 20000 0/" is shown "E 10 2 3/"
+    ∷ answerWith false [] morning (shown "x") is shown "E 10 1 0/"
+    ∷ answerWith false [] morning (shown "C 0 10000 0 0 0 7000 0 0 20000 0/") is shown "E 13 0 0/"
     -- "-" in a sheet's line is written as "-" again
-    ∷ rewritten "C 0 9000 0 0 0 - 0 0 20000 0/" is sheet "H 2 1 1/Z 0 0/Z 1 0/B 0 0 1 100/C 0 9000 0 0 0 - 0 0 20000 0/"
+    ∷ rewritten "C 0 9000 0 0 0 - 0 0 20000 0/" is shown "H 2 1 1/Z 0 0/Z 1 0/B 0 0 1 100/C 0 9000 0 0 0 - 0 0 20000 0/"
     -- the open call `rewrite_corrected`: the merged table in front, the rest as it was; too little room; the sheet's refusal, and the day's before it
-    ∷ rewriteCorrectedLeft morning (sheet "C 0 9000 0 0 0 - 0 0 20000 0/") (replicate 62 7) is record {
+    ∷ rewriteCorrectedLeft morning (shown "C 0 9000 0 0 0 - 0 0 20000 0/") (replicate 62 7) is record {
       answer = passed 61;
-      out = sheet "H 2 1 1/Z 0 0/Z 1 0/B 0 0 1 100/C 0 9000 0 0 0 - 0 0 20000 0/" ++ (7 ∷ []);
+      out = shown "H 2 1 1/Z 0 0/Z 1 0/B 0 0 1 100/C 0 9000 0 0 0 - 0 0 20000 0/" ++ (7 ∷ []);
     }
-    ∷ rewriteCorrectedLeft morning (sheet "C 0 9000 0 0 0 - 0 0 20000 0/") (replicate 60 7) is record { answer = refused (tooShort 61); out = replicate 60 7 }
-    ∷ rewriteCorrectedLeft morning (sheet "C 1 9000 0 0 0 - 0 0 20000 0/") [] is record { answer = refused (wrongCorrection 1 3); out = [] }
-    ∷ rewriteCorrectedLeft [] (sheet "x") [] is record { answer = refused (wrongForm 1); out = [] }
+    ∷ rewriteCorrectedLeft morning (shown "C 0 9000 0 0 0 - 0 0 20000 0/") (replicate 60 7) is record { answer = refused (tooShort 61); out = replicate 60 7 }
+    ∷ rewriteCorrectedLeft morning (shown "C 1 9000 0 0 0 - 0 0 20000 0/") [] is record { answer = refused (wrongCorrection 1 3); out = [] }
+    ∷ rewriteCorrectedLeft [] (shown "x") [] is record { answer = refused (wrongForm 1); out = [] }
     ∷ [])
 unfolding computing
 noon = refl

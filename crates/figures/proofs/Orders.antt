@@ -5,14 +5,14 @@ use mathlib.Core.List.{List, [], _∷_, _++_}
 use Prim.Native.Nat.{ℕ}
 use lib.IntN.{ℤ, pos}
 use lib.ListN.{replicate, take}
-use Rattle.kinds.specs.Refusals.{Judged, refused, refusal}
+use Rattle.refusals.specs.Refusals.{Judged, refused, refusal}
 use Rattle.table.specs.Table.{Table, lent, judgeLent}
 use Rattle.reading.specs.Reading.{readLeft}
 use Rattle.writing.specs.Writing.{writeLeft}
 use Rattle.extraction.specs.Extraction.{extractLeft}
-use Rattle.figures.specs.Computed.{_is_, Hold}
+use Rattle.numbers.specs.Computed.{_is_, Hold}
 use Rattle.figures.specs.Computing.{computing}
-use Rattle.text.specs.Sheets.{sheet}
+use Rattle.text.specs.Shown.{shown}
 use Rattle.figures.specs.Borders.{plainBorder}
 use Rattle.figures.specs.Hour.{hourText, hourTable, bTwice}
 
@@ -46,7 +46,7 @@ farC = shortC ++ ((pos 0 ∷ pos 0 ∷ pos 130000 ∷ pos 0 ∷ pos 7000 ∷ pos
 -- the hour with its second border as its first
 abbrev twiceText : List ℕ
 twiceText =
-    sheet "H 3 2 1/Z 0 500000/Z 1 -200000/Z 2 -300000/B 0 0 1 100/B 1 0 1 200/C 0 1000000 200000 200000 150000 7000 0 80000 30000 10000 0/"
+    shown "H 3 2 1/Z 0 500000/Z 1 -200000/Z 2 -300000/B 0 0 1 100/B 1 0 1 200/C 0 1000000 200000 200000 150000 7000 0 80000 30000 10000 0/"
 
 pub ordered : Hold (
     -- refusal 8 has the number 8, in reading, on lent tables, and for each result

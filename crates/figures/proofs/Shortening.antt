@@ -3,13 +3,13 @@ use mathlib.Core.Path.{refl}
 use mathlib.Core.Bool.{true}
 use mathlib.Core.List.{List, [], _∷_}
 use Prim.Native.Nat.{ℕ, _-_}
-use Rattle.kinds.specs.Refusals.{Judged, passed, then}
+use Rattle.refusals.specs.Refusals.{Judged, passed, then}
 use Rattle.table.specs.Table.{Table}
 use Rattle.rounds.specs.Rounds.{Outcome}
 use Rattle.extraction.specs.Extraction.{Result, outcomeOf}
-use Rattle.promises.specs.Ways.{outcomeTaking, unshortened}
+use Rattle.promises.specs.Taking.{outcomeTaking, unshortened}
 use Rattle.promises.specs.Order.{reorder}
-use Rattle.figures.specs.Computed.{_is_, Hold}
+use Rattle.numbers.specs.Computed.{_is_, Hold}
 use Rattle.figures.specs.Computing.{computing}
 use Rattle.figures.specs.Hour.{hourTable}
 
@@ -27,7 +27,7 @@ turned = reorder (λ i. 3 - i) hourTable
 pub hour-shortened : Hold (
     -- rows 0, 1 and 3 take part, where 01 has rows 0 and 1 (`hour-demand`'s `result`): the same rounds and exchanges, and row 3 keeps 30,000,020,000 grains
     ends (outcomeTaking unshortened true [] hourTable) is end (20000 ∷ 0 ∷ 0 ∷ 30000020000 ∷ [])
-    -- the same rows, the last first
+    -- the hour's rows in the other order, the last first
     ∷ ends (outcomeOf turned) is end (0 ∷ 0 ∷ 0 ∷ 20000 ∷ [])
     ∷ [])
 unfolding computing

@@ -13,11 +13,11 @@ use lib.ListN.{length, getD, drop}
 use lib.Signed.{ltZ-yes, clashℤ}
 use Rattle.numbers.specs.Below.{at, table}
 use Rattle.numbers.proofs.BelowLaws.{table-long, table-get}
-use Rattle.kinds.specs.Refusals.{passed}
-use Rattle.kinds.proofs.RefusalLaws.{passed-is}
+use Rattle.refusals.specs.Refusals.{passed}
+use Rattle.refusals.proofs.RefusalLaws.{passed-is}
 use Rattle.marks.specs.Marks.{mayRise}
 use Rattle.text.specs.Fields.{tab, digits, value}
-use Rattle.text.specs.Sheets.{sheet}
+use Rattle.text.specs.Shown.{shown}
 use Rattle.text.specs.Written.{textOf, decimal, decimalℤ, lineText, linesText}
 use Rattle.columns.specs.ColumnText.{fieldText, fieldsEnded, indexText, headText, columnsText}
 use Rattle.text.proofs.NumberTrip.{under-pow, digits-app, decimal-digits, text-value}
@@ -28,7 +28,7 @@ use Rattle.promises.specs.Demand.{ResultDemand3}
 use Rattle.promises.specs.Stopped.{StoppedBy}
 use Rattle.result.specs.Records.{atcAt, marginAt, recordsText}
 use Rattle.answer.specs.Result.{resultText}
-use Rattle.answer.proofs.Demand.{TextDemand3, answer-demand-3}
+use Rattle.theorems.proofs.TextDemand.{TextDemand3, answer-demand-3}
 use Rattle.figures.specs.Computing.{computing}
 use Rattle.figures.specs.Hour.{hourText, hourResult, markedResult, hourTable}
 use Rattle.figures.proofs.Demand.{hourEnd, both}
@@ -42,10 +42,10 @@ AnswersMarked answered = TextDemand3 (mayRise false (1 ∷ [])) (readCorrected h
 
 -- the hour's result with another ATC of border 0: one MW more, and one that row 0 cannot carry
 abbrev oneMore : List ℕ
-oneMore = sheet "A 0 2600 21 0/" ++ drop 14 hourResult
+oneMore = shown "A 0 2600 21 0/" ++ drop 14 hourResult
 
 abbrev beyond : List ℕ
-beyond = sheet "A 0 3501 21 0/" ++ drop 14 hourResult
+beyond = shown "A 0 3501 21 0/" ++ drop 14 hourResult
 
 pub record HourAnswered : Type 0 where
   pub answered : Answers hourResult

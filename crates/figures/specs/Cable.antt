@@ -5,15 +5,15 @@ use Prim.Native.Nat.{ℕ}
 use lib.IntN.{pos}
 use Rattle.numbers.specs.Ints.{minus}
 use Rattle.table.specs.Table.{Table}
-use Rattle.text.specs.Sheets.{sheet}
+use Rattle.text.specs.Shown.{shown}
 use Rattle.figures.specs.Borders.{plainBorder}
 
 abbrev pub cableText : List ℕ
 cableText =
-    sheet "H 4 2 3/Z 0 200000/Z 1 -200000/Z 2 -50000/Z 3 50000/B 0 0 1 100 2 3/B 1 0 1 50/"
-    ++ sheet "C 0 1000000 50000 100000 20000 7000 0 1000 30000 10000 24000 12000/"
-    ++ sheet "C 1 200000 10000 30000 0 - 0 0 0 6000 4000 20000/"
-    ++ sheet "C 2 50000 0 0 0 7000 0 0 1000 0 6000 0/"
+    shown "H 4 2 3/Z 0 200000/Z 1 -200000/Z 2 -50000/Z 3 50000/B 0 0 1 100 2 3/B 1 0 1 50/"
+    ++ shown "C 0 1000000 50000 100000 20000 7000 0 1000 30000 10000 24000 12000/"
+    ++ shown "C 1 200000 10000 30000 0 - 0 0 0 6000 4000 20000/"
+    ++ shown "C 2 50000 0 0 0 7000 0 0 1000 0 6000 0/"
 
 -- Row 0: the cable's factor is 30000 - 24000 + 12000 - 10000 = 8000, border 1's 20000. S = 8000 x 100000 + 20000 x 50000 = 1800000000 grains.
 -- F0core = 10000000000 - 3400000000, RAM = 100000000000 - 5000000000 - 6600000000 - 100000000.
@@ -22,8 +22,8 @@ cableText =
 -- From then on border 1 rises by half of what row 0 has left for it, 21 times.
 abbrev pub cableResult : List ℕ
 cableResult =
-    sheet "A 0 1560 1 1/A 1 3790 22 0/"
-    ++ sheet "M 0 0 88300000000 20000/M 1 0 15600000000 0/M 2 0 4900000000 1109001000/R 22/"
+    shown "A 0 1560 1 1/A 1 3790 22 0/"
+    ++ shown "M 0 0 88300000000 20000/M 1 0 15600000000 0/M 2 0 4900000000 1109001000/R 22/"
 
 abbrev pub cableTable : Table
 cableTable =

@@ -1,23 +1,23 @@
 -- `unfolding computing` opens every definition of the crates below: for theorems by computation.
-use Rattle.runs.specs.Block.{linesAt}
+use Rattle.sections.specs.Section.{linesAt}
 use Rattle.promises.specs.Demand.{loadOf}
 use Rattle.promises.specs.Order.{reorder}
-use Rattle.promises.specs.Ways.{resultIn, outcomeIn, outcomeTaking, unshortened}
+use Rattle.promises.specs.Taking.{resultIn, outcomeIn, outcomeTaking, unshortened}
 use Rattle.marks.specs.Marks.{markedBy, faultyMark, judgeMarks}
-use Rattle.states.specs.Rows.{rowsOf}
-use Rattle.start.specs.Setup.{gridBy, beginBy, judgeBy, endBy}
-use Rattle.start.specs.Start.{kept, gridOf, startOf, judgeStart, setupWith}
+use Rattle.states.specs.Standings.{standingsOf}
+use Rattle.setup.specs.Setup.{gridBy, beginBy, judgeBy, endBy}
+use Rattle.start.specs.Start.{gridOf, startOf, judgeStart, setupWith}
 use Rattle.extraction.specs.Extraction.{resultOf, atcOf, leftOf, lastOf, stopOf, outcomeOf, nOf, lOf, atcRecord, rowRecord, extractFor, extractLeft, extractMarkedLeft, outcomeFor, outcomeMarked, resultMarked}
 use Rattle.corners.specs.Corners.{raisedBy, cornerFlows, judgeCorners, sheetLeft, cornersLeft}
 use Rattle.cornertext.specs.CornerText.{cornersText, cornerTextLeft}
-use Rattle.kinds.specs.Ranges.{headerFits, allocatedItems, zoneFits, exists, hubsFit, hubsOf, borderFits, borderOf, shareOf, rowOf, rowFits, factorFits, worth, defaultOf}
-use Rattle.kinds.specs.Refusals.{then, either, unless, refuseAt, refuseFirst, need}
+use Rattle.refusals.specs.Refusals.{then, either, unless, refuseAt, refuseFirst, need}
+use Rattle.types.specs.Ranges.{headerFits, allocatedItems, zoneFits, exists, hubsFit, hubsOf, borderFits, borderOf, shareOf, rowOf, rowFits, factorFits, worth, defaultOf}
 use Rattle.margin.specs.Margin.{grains, f0coreOf, fuafOf, baseOf, amrOf, signedFactor, pOf, ltaKw, cornerPart, cornerSum, sOf, ltaMarginOf, ramOf, ramAt}
-use Rattle.states.specs.States.{highest, lowest, spreadOf, shifted, below, stateOf}
+use Rattle.states.specs.States.{highest, lowest, spreadOf, shifted, below, stateOf, kept}
 use Rattle.numbers.specs.Below.{ifZero, sum, count, largest, lesser, least, orZero, table, firstFrom, given}
 use Rattle.numbers.specs.Ints.{maxℤ, minℤ, positivePart, sameℤ, inside, sumℤ}
 use Rattle.lines.specs.Lines.{headerLine, positionLine, borderLine, rowLine}
-use Rattle.printing.specs.Printed.{oneSheet, everySheet}
+use Rattle.sheets.specs.Sheets.{oneSheet, everySheet}
 use Rattle.corrections.specs.Corrections.{ofRow, endedIndex, givenIndex, dueIndex}
 use Rattle.reading.specs.Reading.{linesBy, readText, readCorrected, tablesLeft}
 use Rattle.answer.specs.Result.{resultText, answerFor, answerText, resultTextFor, resultTextLeft, resultTextMarkedLeft, answerForLeft, answerLeft, answerMarkedLeft, answerWith, answerWithLeft, answerCorrectedLeft}
@@ -39,5 +39,5 @@ use Rattle.text.specs.Written.{textOf, decimal, decimalℤ, fieldsText, lineTex
 use Rattle.writing.specs.Writing.{tableText, writeLeft, rewriteCorrectedLeft}
 
 unfoldable pub computing : Unit {0}
-unfolding markedBy faultyMark judgeMarks extractMarkedLeft answerFor resultTextFor resultTextMarkedLeft answerForLeft answerMarkedLeft linesAt loadOf reorder resultIn outcomeIn outcomeTaking unshortened endBy rowsOf kept gridOf startOf resultOf atcOf leftOf lastOf stopOf judgeStart outcomeOf nOf lOf atcRecord rowRecord extractLeft raisedBy cornerFlows judgeCorners sheetLeft cornersLeft cornersText cornerTextLeft headerFits allocatedItems zoneFits exists hubsFit hubsOf borderFits borderOf shareOf rowOf rowFits factorFits worth defaultOf then either unless refuseAt refuseFirst need grains f0coreOf fuafOf baseOf amrOf signedFactor pOf ltaKw cornerPart cornerSum sOf ltaMarginOf ramOf ramAt highest lowest spreadOf shifted below stateOf ifZero sum count largest lesser least orZero table firstFrom given maxℤ minℤ positivePart sameℤ inside sumℤ headerLine positionLine borderLine rowLine oneSheet everySheet ofRow endedIndex givenIndex dueIndex linesBy readText readCorrected tablesLeft recordsText resultText refusalText answerText resultTextLeft answerLeft answerWith answerWithLeft answerCorrectedLeft sharers raise alone raises load lowered risen apply next raised counted run extract after raiseIn lastTo lastRound stopRow mostSharers bitsTo bits aloneBits stretch balanced twice roomFor judgeShape judgeFor numberAt signedAt shareAt textOf decimal decimalℤ fieldsText lineText linesText tableText textLeft writeLeft rewriteCorrectedLeft fieldAt fieldsAt headAt restAt columnsLine optionalLine fieldText fieldsEnded indexText columnsText headText gridBy setupWith beginBy judgeBy goodAt byteAt fieldsByte lineByte pastSeps rangeByte resultMarked outcomeMarked extractFor outcomeFor
+unfolding markedBy faultyMark judgeMarks extractMarkedLeft answerFor resultTextFor resultTextMarkedLeft answerForLeft answerMarkedLeft linesAt loadOf reorder resultIn outcomeIn outcomeTaking unshortened endBy standingsOf kept gridOf startOf resultOf atcOf leftOf lastOf stopOf judgeStart outcomeOf nOf lOf atcRecord rowRecord extractLeft raisedBy cornerFlows judgeCorners sheetLeft cornersLeft cornersText cornerTextLeft headerFits allocatedItems zoneFits exists hubsFit hubsOf borderFits borderOf shareOf rowOf rowFits factorFits worth defaultOf then either unless refuseAt refuseFirst need grains f0coreOf fuafOf baseOf amrOf signedFactor pOf ltaKw cornerPart cornerSum sOf ltaMarginOf ramOf ramAt highest lowest spreadOf shifted below stateOf ifZero sum count largest lesser least orZero table firstFrom given maxℤ minℤ positivePart sameℤ inside sumℤ headerLine positionLine borderLine rowLine oneSheet everySheet ofRow endedIndex givenIndex dueIndex linesBy readText readCorrected tablesLeft recordsText resultText refusalText answerText resultTextLeft answerLeft answerWith answerWithLeft answerCorrectedLeft sharers raise alone raises load lowered risen apply next raised counted run extract after raiseIn lastTo lastRound stopRow mostSharers bitsTo bits aloneBits stretch balanced twice roomFor judgeShape judgeFor numberAt signedAt shareAt textOf decimal decimalℤ fieldsText lineText linesText tableText textLeft writeLeft rewriteCorrectedLeft fieldAt fieldsAt headAt restAt columnsLine optionalLine fieldText fieldsEnded indexText columnsText headText gridBy setupWith beginBy judgeBy goodAt byteAt fieldsByte lineByte pastSeps rangeByte resultMarked outcomeMarked extractFor outcomeFor
 computing = tt

@@ -7,17 +7,17 @@ use lib.IntN.{ℤ, pos}
 use lib.ListN.{getD}
 use Rattle.numbers.specs.Below.{at, table}
 use Rattle.numbers.specs.Ints.{minus}
-use Rattle.kinds.specs.declared.Row.{Row}
-use Rattle.kinds.specs.declared.Share.the-variants.{Written}
-use Rattle.kinds.specs.Refusals.{passed}
+use Rattle.refusals.specs.Refusals.{passed}
+use Rattle.types.specs.declared.Row.{Row}
+use Rattle.types.specs.declared.Share.the-variants.{Written}
 use Rattle.rounds.specs.Rounds.{Grid, sharers, raise}
 use Rattle.table.specs.Table.{Table, factorsAt}
 use Rattle.margin.specs.Margin.{grains, baseOf, amrOf, ramAt, ramsOf}
 use Rattle.states.specs.States.{spreadOf, stateOf}
-use Rattle.states.specs.Rows.{rowsOf}
+use Rattle.states.specs.Standings.{standingsOf}
 use Rattle.extraction.specs.Extraction.{Result, outcomeOf}
 use Rattle.answer.specs.Result.{answerText}
-use Rattle.text.specs.Sheets.{sheet}
+use Rattle.text.specs.Shown.{shown}
 use Rattle.figures.specs.Borders.{plainBorder}
 use Rattle.figures.specs.Small.{smallTable}
 
@@ -50,18 +50,18 @@ pub record Figures : Type 0 where
   pub amr-10000 : (default fref cva iva : ℤ) → amrOf default (rowOf 100000 90000 0 fref cva iva) (pos 0) ≡ grains (pos 10000)
   -- Fmax 10000, other row values and net positions 0, one border with p 20000 and LTA 100: RAM 20000 kW, rounds 0, ATC 100. IVA 1 on it: refusal 7, row 0
   pub ram-20000 : ramAt (smallTable (plainBorder 0 1 100) (pos 10000 ∷ pos 0 ∷ pos 0 ∷ pos 0 ∷ pos 0 ∷ pos 0 ∷ pos 0 ∷ [])) 0 ≡ grains (pos 20000)
-  pub at-lta : answerText (sheet "H 2 1 1/Z 0 0/Z 1 0/B 0 0 1 100/C 0 10000 0 0 0 0 0 0 20000 0/") ≡ sheet "A 0 100 0 0/M 0 0 2000000000 0/R 0/"
-  pub iva-1 : answerText (sheet "H 2 1 1/Z 0 0/Z 1 0/B 0 0 1 100/C 0 10000 0 0 0 0 0 1 20000 0/") ≡ sheet "E 7 0 0/"
+  pub at-lta : answerText (shown "H 2 1 1/Z 0 0/Z 1 0/B 0 0 1 100/C 0 10000 0 0 0 0 0 0 20000 0/") ≡ shown "A 0 100 0 0/M 0 0 2000000000 0/R 0/"
+  pub iva-1 : answerText (shown "H 2 1 1/Z 0 0/Z 1 0/B 0 0 1 100/C 0 10000 0 0 0 0 0 1 20000 0/") ≡ shown "E 7 0 0/"
   -- One border, one kept row (any number of rows, indeed): rounds 0 (as just above) or 1
   pub one-border : (t : Table) (r : Result) → outcomeOf t ≡ passed r → t .header .borders ≡ 1 → r .outcome .rounds ≤ 1
-  pub one-round : answerText (sheet "H 2 1 1/Z 0 0/Z 1 0/B 0 0 1 100/C 0 100000 0 0 0 0 0 0 20000 0/") ≡ sheet "A 0 500 1 0/M 0 0 10000000000 0/R 1/"
+  pub one-round : answerText (shown "H 2 1 1/Z 0 0/Z 1 0/B 0 0 1 100/C 0 100000 0 0 0 0 0 0 20000 0/") ≡ shown "A 0 500 1 0/M 0 0 10000000000 0/R 1/"
   -- Two equal rows of spread 5000: the second is state 2 (of any table; and of two such rows alone the first is kept)
   pub second-equal : (t : Table) (i j : ℕ) → i < j → j < t .header .rows → getD (t .rows) i [] ≡ getD (t .rows) j [] → factorsAt t i ≡ factorsAt t j
       → spreadOf (factorsAt t j) ≡ pos 5000 → stateOf (t .header) (t .factors) (ramsOf t) j ≡ 2
-  pub two-equal : rowsOf twoEqual .states ≡ 0 ∷ 2 ∷ []
+  pub two-equal : standingsOf twoEqual .states ≡ 0 ∷ 2 ∷ []
   -- Margin 3 p, n 2: raise 1 kW
   pub half-again : (g : Grid) (margins : List ℕ) (b p : ℕ) → g .rows ≡ 1 → sharers g 0 ≡ 2 → g .p 0 b ≡ p → 0 < p → at margins 0 ≡ 3 * p → raise g margins b ≡ 1
   -- Border 0 to 1 given twice: 4, place 1. With 1 to 0 as the second: not 4
-  pub given-twice : answerText (sheet "H 2 2 2/Z 0 0/Z 1 0/B 0 0 1 100/B 1 0 1 200/C 0 100000 0 0 0 0 0 0 20000 0/C 1 100000 0 0 0 0 0 0 0 20000/") ≡ sheet "E 4 1 0/"
-  pub turned-round : answerText (sheet "H 2 2 2/Z 0 0/Z 1 0/B 0 0 1 100/B 1 1 0 200/C 0 100000 0 0 0 0 0 0 20000 0/C 1 100000 0 0 0 0 0 0 0 20000/")
-      ≡ sheet "A 0 500 1 0/A 1 500 1 1/M 0 0 10000000000 0/M 1 0 10000000000 0/R 1/"
+  pub given-twice : answerText (shown "H 2 2 2/Z 0 0/Z 1 0/B 0 0 1 100/B 1 0 1 200/C 0 100000 0 0 0 0 0 0 20000 0/C 1 100000 0 0 0 0 0 0 0 20000/") ≡ shown "E 4 1 0/"
+  pub turned-round : answerText (shown "H 2 2 2/Z 0 0/Z 1 0/B 0 0 1 100/B 1 1 0 200/C 0 100000 0 0 0 0 0 0 20000 0/C 1 100000 0 0 0 0 0 0 0 20000/")
+      ≡ shown "A 0 500 1 0/A 1 500 1 1/M 0 0 10000000000 0/M 1 0 10000000000 0/R 1/"

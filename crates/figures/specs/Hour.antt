@@ -5,27 +5,27 @@ use lib.IntN.{ℤ, pos}
 use lib.ListN.{replicate, take, drop}
 use Rattle.numbers.specs.Ints.{minus}
 use Rattle.table.specs.Table.{Table}
-use Rattle.text.specs.Sheets.{sheet}
+use Rattle.text.specs.Shown.{shown}
 use Rattle.figures.specs.Borders.{plainBorder}
 
 abbrev pub hourText : List ℕ
 hourText =
-    sheet "H 3 2 4/Z 0 500000/Z 1 -200000/Z 2 -300000/B 0 0 1 100/B 1 1 2 200/"
-    ++ sheet "C 0 1000000 200000 200000 150000 7000 0 80000 30000 10000 0/"
-    ++ sheet "C 1 100000 10000 15000 0 7000 0 0 5000 5000 0/"
-    ++ sheet "C 2 100000 0 0 0 0 0 0 4999 0 0/"
-    ++ sheet "C 3 1000000 0 130000 0 7000 0 0 20000 0 -10000/"
+    shown "H 3 2 4/Z 0 500000/Z 1 -200000/Z 2 -300000/B 0 0 1 100/B 1 1 2 200/"
+    ++ shown "C 0 1000000 200000 200000 150000 7000 0 80000 30000 10000 0/"
+    ++ shown "C 1 100000 10000 15000 0 7000 0 0 5000 5000 0/"
+    ++ shown "C 2 100000 0 0 0 0 0 0 4999 0 0/"
+    ++ shown "C 3 1000000 0 130000 0 7000 0 0 20000 0 -10000/"
 
 abbrev pub hourResult : List ℕ
 hourResult =
-    sheet "A 0 2599 21 0/A 1 1800 1 1/"
-    ++ sheet "M 0 0 70000000000 20000/M 1 0 9000000000 0/M 2 1 12499500000 -/M 3 2 100000000000 -/R 21/"
+    shown "A 0 2599 21 0/A 1 1800 1 1/"
+    ++ shown "M 0 0 70000000000 20000/M 1 0 9000000000 0/M 2 1 12499500000 -/M 3 2 100000000000 -/R 21/"
 
--- .. and with border 1 marked (02, E13): border 0 stays at its LTA
+-- the hour's result with border 1 marked (02, E13): border 0 stays at its LTA
 abbrev pub markedResult : List ℕ
 markedResult =
-    sheet "A 0 100 0 -/A 1 1800 1 1/"
-    ++ sheet "M 0 0 70000000000 50000000000/M 1 0 9000000000 0/M 2 1 12499500000 -/M 3 2 100000000000 -/R 1/"
+    shown "A 0 100 0 -/A 1 1800 1 1/"
+    ++ shown "M 0 0 70000000000 50000000000/M 1 0 9000000000 0/M 2 1 12499500000 -/M 3 2 100000000000 -/R 1/"
 
 abbrev pub hourTable : Table
 hourTable =
@@ -44,7 +44,7 @@ hourTable =
           pos 30000 ∷ pos 10000 ∷ pos 0 ∷ pos 5000 ∷ pos 5000 ∷ pos 0 ∷ pos 4999 ∷ pos 0 ∷ pos 0 ∷ pos 20000 ∷ pos 0 ∷ minus 10000 ∷ [];
     }
 
--- borders of which the second is as the first, and one that no kept row limits
+-- borders of which the second has the same ends as the first, and a border that no kept row limits
 abbrev pub bTwice : List (List ℤ)
 bTwice = plainBorder 1 2 0 ∷ drop 1 (hourTable .borders)
 

@@ -1,38 +1,38 @@
--- A small good table, two zones, one border and one row, with a line or a record of one's own in it: for examples that differ from it in one place.
+-- A small good table, two zones, one border and one row, in which a line or a record can be replaced: for examples that differ from it in one place.
 use mathlib.Core.List.{List, [], _∷_, _++_}
 use Prim.Native.Nat.{ℕ}
 use Prim.Native.String.{String}
 use lib.IntN.{ℤ, pos}
 use Rattle.numbers.specs.Ints.{minus}
-use Rattle.kinds.specs.Refusals.{Judged}
+use Rattle.refusals.specs.Refusals.{Judged}
 use Rattle.table.specs.Table.{Table, judgeLent}
 use Rattle.answer.specs.Result.{answerText}
-use Rattle.text.specs.Sheets.{sheet}
+use Rattle.text.specs.Shown.{shown}
 use Rattle.figures.specs.Borders.{plainBorder}
 
 abbrev pub smallText : (zone border row : List ℕ) → List ℕ
-smallText zone border row = sheet "H 2 1 1/Z 0 0/" ++ zone ++ border ++ row
+smallText zone border row = shown "H 2 1 1/Z 0 0/" ++ zone ++ border ++ row
 
 abbrev pub zone : List ℕ
-zone = sheet "Z 1 0/"
+zone = shown "Z 1 0/"
 
 abbrev pub border : List ℕ
-border = sheet "B 0 0 1 100/"
+border = shown "B 0 0 1 100/"
 
 abbrev pub row : List ℕ
-row = sheet "C 0 10000 0 0 0 0 0 0 20000 0/"
+row = shown "C 0 10000 0 0 0 0 0 0 20000 0/"
 
 -- what the program says with another line 3, line 4, and from line 5 on
 abbrev pub withZone : String → List ℕ
-withZone s = answerText (smallText (sheet s) border row)
+withZone s = answerText (smallText (shown s) border row)
 
 abbrev pub withBorder : String → List ℕ
-withBorder s = answerText (smallText zone (sheet s) row)
+withBorder s = answerText (smallText zone (shown s) row)
 
 abbrev pub withRow : String → List ℕ
-withRow s = answerText (smallText zone border (sheet s))
+withRow s = answerText (smallText zone border (shown s))
 
--- the same table lent, with another border record or row record
+-- the small table as lent, with another border record or row record
 abbrev pub smallTable : (border row : List ℤ) → Table
 smallTable border row =
     record {

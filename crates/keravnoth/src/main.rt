@@ -1,24 +1,20 @@
-// The program: a table on standard input, its answer on standard output (01, "Result text"); a word asks for something else (`command::usage`).
+// The program: a table on standard input, its answer on standard output (01, "Result text"); a word asks for something else (`messages::usage`).
 // What a refusal means, and that reading or writing failed, is said on standard error: a table that was not read to its end is not answered.
 // Whoever starts the program gives it two options that are not for people: with `--status-fd N` its last word is its status, on descriptor N;
 // `--proved TEXT` is what `--version` says that it was proved in.
-ghost use Prim.Native.Nat.{_≤_};
-ghost use lib.ListN.{length};
 ghost use Rattle.io.specs.Counts.{Counts};
-ghost use Rattle.printing.specs.Room.{sheetRoom};
-use asked::Asked;
-use command::arguments;
-use command::arguments::Piece;
-use command::arguments::whole;
+use arguments::whole;
+use command::asked;
+use command::asked::Asked;
+use command::asked::Task;
 use command::input;
 use command::input::Text;
 use command::options;
 use command::options::Command;
-use command::usage;
-use command::words;
-use printing::output::Ended;
+use messages::usage;
+use output::Ended;
 use printing::tasks;
-use printing::tasks::Task;
+use reasons::Reasoned;
 
 fn main() {
     let command = options::read_arguments();
@@ -39,10 +35,11 @@ fn obey(command: Command) -> Ended {
     }
     match asked::understand(command.word, command.after) {
         Asked::Task(task) => obey_task(task, command),
+        Asked::Why(border) => obey_why(border, command),
         Asked::Help => about(command, false),
         Asked::Version => about(command, true),
         Asked::Wrong(of, wrong, way) => {
-            words::misuse(of, whole(wrong), way);
+            messages::misuse(of, whole(wrong), way);
             Ended::Failed
         }
     }
@@ -88,7 +85,42 @@ fn obey_task(task: Task, command: Command) -> Ended {
     if table.failed {
         return Ended::Failed;
     }
-    print(task, command.marks, table, sheet, file)
+    let ended = tasks::print(task, command.marks, table, sheet, file);
+    explain(asked::file_of(task, 1) > 0, ended, table, sheet, file.count);
+    ended
+}
+
+// The corrections, and then the table.
+fn obey_why(border: u64, command: Command) -> Ended {
+    if !options::can_correct(command.corrections) {
+        return Ended::Failed;
+    }
+    let sheet = input::named(command.corrections);
+    if sheet.failed {
+        return Ended::Failed;
+    }
+    let table = input::standard();
+    if table.failed {
+        return Ended::Failed;
+    }
+    let reasoned = reasons::print(border, command.marks, table, sheet);
+    explain_why(border, reasoned, table, sheet)
+}
+
+fn explain_why(border: u64, reasoned: Reasoned, table: Text, sheet: Text) -> Ended
+    requires { ⌜ Counts (table .count) (table .bytes) ⌝ }
+    requires { ⌜ Counts (sheet .count) (sheet .bytes) ⌝ }
+{
+    match reasoned {
+        Reasoned::Printed(ended) => {
+            explain(false, ended, table, sheet, 0);
+            ended
+        }
+        Reasoned::NoBorder(borders) => {
+            messages::no_border(border, borders);
+            Ended::Failed
+        }
+    }
 }
 
 // Whether what is given goes with the task.
@@ -98,64 +130,30 @@ fn fits(task: Task, command: Command) -> bool {
         && options::can_read(command.word, whole(asked::file_of(task, command.after)))
 }
 
-fn print(task: Task, list: Piece, table: Text, sheet: Text, file: Text) -> Ended
+// Says on standard error what people need to know, also of a file that goes with the word.
+fn explain(with_file: bool, ended: Ended, table: Text, sheet: Text, file: usize)
     requires { ⌜ Counts (table .count) (table .bytes) ⌝ }
     requires { ⌜ Counts (sheet .count) (sheet .bytes) ⌝ }
-    requires { ⌜ Counts (file .count) (file .bytes) ⌝ }
-{
-    let listed = arguments::list(list);
-    let m = listed.count;
-    let marks = listed.numbers;
-    let n = table.count;
-    let text = table.bytes;
-    let k = sheet.count;
-    let rows = sheet.bytes;
-    let f = file.count;
-    let with = file.bytes;
-    let mut out = asked::room();
-    let ended = tasks::print(
-        task,
-        list.at == 0,
-        &marks[..m],
-        &with[..f],
-        &text[..n],
-        &rows[..k],
-        &mut out,
-    );
-    explain(task, ended, &text[..n], &rows[..k], f, &mut out)
-}
-
-// Says on standard error what people need to know.
-fn explain<'a>(
-    task: Task,
-    ended: Ended,
-    text: &'a [u8],
-    sheet: &'a [u8],
-    file: usize,
-    out: &mut [u8],
-) -> Ended
-    requires { ⌜ sheetRoom ≤ length (now out) ⌝ }
 {
     match ended {
         Ended::Answered => {}
         Ended::Refused(number, place, byte) => {
-            if of_rows(task, number, text, sheet, out) {
-                words::of_rows(number, place, byte)
-            } else {
-                words::refusal(number, place, byte, text, sheet.len(), file)
-            }
+            let rows = of_rows(with_file, number, table, sheet);
+            let n = table.count;
+            let text = table.bytes;
+            messages::refusal(number, place, byte, &text[..n], sheet.count, file, rows)
         }
         Ended::Failed => unwritten(),
     }
-    ended
 }
 
-// The E line does not tell a text from another: where the table itself is good, 2 and 3 mean the sheet of rows after the word.
-fn of_rows<'a>(task: Task, number: u64, text: &'a [u8], sheet: &'a [u8], out: &mut [u8]) -> bool
-    requires { ⌜ sheetRoom ≤ length (now out) ⌝ }
+// The E line does not say which text it is about: where the table itself is good, 2 and 3 are about the sheet of rows after the word.
+fn of_rows(with_file: bool, number: u64, table: Text, sheet: Text) -> bool
+    requires { ⌜ Counts (table .count) (table .bytes) ⌝ }
+    requires { ⌜ Counts (sheet .count) (sheet .bytes) ⌝ }
 {
     if number != 2 && number != 3 {
         return false;
     }
-    asked::file_of(task, 1) > 0 && tasks::table_good(text, sheet, out)
+    with_file && tasks::table_good(table, sheet)
 }

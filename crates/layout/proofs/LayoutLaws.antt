@@ -10,11 +10,11 @@ use mir.Facts.{toZ-ofZ}
 use mir.Syntax.{w64}
 use mir.Val.{toZ, ofZ}
 use Rattle.numbers.proofs.IntLaws.{within-fits}
-use Rattle.kinds.specs.declared.Header.{Header}
-use Rattle.kinds.specs.Ranges.{headerFits}
-use Rattle.kinds.proofs.KindLaws.{header-in, raw-share-in}
+use Rattle.types.specs.declared.Header.{Header}
+use Rattle.types.specs.Ranges.{headerFits}
+use Rattle.types.proofs.RangeLaws.{header-in, raw-share-in}
 use Rattle.text.proofs.FieldLaws.{read-back}
-use Rattle.kinds.specs.LineColumns.{rowColumns, rowItems}
+use Rattle.types.specs.LineColumns.{rowColumns, rowItems}
 use Rattle.columns.specs.ColumnText.{columnsText, lineLength}
 use Rattle.columns.proofs.ColumnPut.{numbers-are, line-long}
 use Rattle.lines.specs.RowKinds.{sepBy, headBy, columnsBy, rowTextBy}

@@ -5,7 +5,7 @@ use Prim.Native.Nat.{ℕ, _+_, _*_, _-_, _≤_, _<_}
 use native.Mathlib.Omega.{arith}
 use lib.ListN.{length}
 use Rattle.numbers.proofs.BelowLaws.{Summed, sum-part, summed-all}
-use Rattle.kinds.specs.Limits.{bytesMost}
+use Rattle.limits.specs.Limits.{bytesMost}
 use Rattle.text.specs.Written.{linesText}
 use Rattle.text.proofs.PutLaws.{lines-length}
 

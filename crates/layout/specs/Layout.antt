@@ -4,8 +4,8 @@ use Prim.Native.Char.{code}
 use Prim.Native.Nat.{ℕ}
 use lib.IntN.{ℤ, pos}
 use lib.ListN.{length, getD}
-use Rattle.kinds.specs.declared.Header.{Header}
-use Rattle.kinds.specs.LineColumns.{headerColumns, defaultColumns, zoneColumns, borderColumns, hubColumns}
+use Rattle.types.specs.declared.Header.{Header}
+use Rattle.types.specs.LineColumns.{headerColumns, defaultColumns, zoneColumns, borderColumns, hubColumns}
 use Rattle.text.specs.Fields.{tab}
 use Rattle.text.specs.Written.{linesText}
 use Rattle.columns.specs.declared.Head.the-variants.{Lettered, Indexed}
@@ -39,6 +39,6 @@ rowText = rowTextBy Table
 abbrev pub rowTextIn : RowKind → (zones : ℕ) → (rows : List (List ℤ)) → (factors : List ℤ) → (i : ℕ) → List ℕ
 rowTextIn kind zones rows factors i = rowTextBy kind i (getD rows i []) (stretch zones factors i)
 
--- .. and all of them
+-- the lines of all rows, by their kind
 abbrev pub rowsTextBy : RowKind → (zones : ℕ) → (rows : List (List ℤ)) → (factors : List ℤ) → List ℕ
 rowsTextBy kind zones rows factors = linesText (length rows) 0 (rowTextIn kind zones rows factors)

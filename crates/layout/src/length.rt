@@ -3,20 +3,20 @@ ghost use mathlib.Core.Path.{_≡_};
 ghost use mathlib.Core.Bool.{true};
 ghost use Prim.Native.Nat.{_*_, _<_, _≤_};
 ghost use lib.ListN.{length};
-ghost use Rattle.kinds.specs.Limits.{zonesMost, bytesMost};
-ghost use Rattle.kinds.specs.Ranges.{headerFits};
+ghost use Rattle.limits.specs.Limits.{zonesMost, bytesMost};
+ghost use Rattle.types.specs.Ranges.{headerFits};
 ghost use Rattle.lines.specs.RowKinds.{rowTextBy};
 ghost use Rattle.layout.specs.Layout.{headerText, zoneText, borderText, rowsTextBy};
 use columns::Head;
-use kinds::Border;
-use kinds::BorderRecord;
-use kinds::Header;
-use kinds::Row;
-use kinds::RowRecord;
-use kinds::Zone;
 use lines::row::RowKind;
 use lines::row::columns_of;
 use lines::row::head_of;
+use types::Border;
+use types::BorderRecord;
+use types::Header;
+use types::Row;
+use types::RowRecord;
+use types::Zone;
 
 pub fn header_length(h: Header) -> usize
     requires { ⌜ (headerFits h ≡ true) × (length (headerText h) ≤ bytesMost) ⌝ }

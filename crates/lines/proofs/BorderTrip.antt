@@ -8,10 +8,10 @@ use native.Mathlib.Omega.{arith}
 use lib.IntN.{ℤ, pos}
 use lib.ListN.{length, getD}
 use lib.Signed.{ltZ}
-use Rattle.kinds.specs.Limits.{zonesMost}
-use Rattle.kinds.specs.LineColumns.{number, borderColumns, hubColumns, borderItems}
-use Rattle.kinds.specs.Ranges.{borderFits, borderOf}
-use Rattle.kinds.proofs.KindLaws.{HubsIn, none, both, BorderIn, border-in}
+use Rattle.limits.specs.Limits.{zonesMost}
+use Rattle.types.specs.LineColumns.{number, borderColumns, hubColumns, borderItems}
+use Rattle.types.specs.Ranges.{borderFits, borderOf}
+use Rattle.types.proofs.RangeLaws.{HubsIn, none, both, BorderIn, border-in}
 use Rattle.text.specs.Fields.{tab}
 use Rattle.text.specs.Line.{lineOf, holds, form, range}
 use Rattle.columns.specs.declared.Head.the-variants.{Indexed}
@@ -66,7 +66,7 @@ module _ (zones : ℕ) (line : List ℕ) (i : ℕ) (raw : List ℤ) where
       subst (λ (y : List ℤ). (line ≡ optionalText tab (Indexed (code "B") i) borderColumns hubColumns y) × BorderHeld zones y) (h .made)
       (h .read .here, record { wide = kept-many borderColumns hubColumns (h .zs) (h .read .kept); fits = h .fit })
 
-  -- by what was read of it
+  -- the B line by what was read of it
   module _ (next : ℕ) (e : values raw next ≡ optionalLine tab (Indexed (code "B") i) borderColumns hubColumns line) where
     pub border-holds : borderFits zones raw ≡ true → holds raw ≡ borderLine zones line i
     unfolding borderLine

@@ -11,11 +11,11 @@ use lib.ListN.{length}
 use lib.Signed.{ltZ}
 use Rattle.numbers.specs.Ints.{minus, inside}
 use Rattle.numbers.proofs.IntLaws.{inside-true}
-use Rattle.kinds.specs.declared.Header.{Header}
-use Rattle.kinds.specs.Limits.{shareMost}
-use Rattle.kinds.specs.LineColumns.{headerColumns, defaultColumns}
-use Rattle.kinds.specs.Ranges.{atℤ, headerFits, profiled}
-use Rattle.kinds.proofs.KindLaws.{HeaderIn, header-in, profiled-fits, raw-share-in}
+use Rattle.types.specs.declared.Header.{Header}
+use Rattle.types.specs.LineLimits.{shareMost}
+use Rattle.types.specs.LineColumns.{headerColumns, defaultColumns}
+use Rattle.types.specs.Ranges.{atℤ, headerFits, profiled}
+use Rattle.types.proofs.RangeLaws.{HeaderIn, header-in, profiled-fits, raw-share-in}
 use Rattle.text.specs.Fields.{tab}
 use Rattle.text.specs.Line.{lineOf, holds, form, range}
 use Rattle.columns.specs.declared.Head.the-variants.{Lettered}

@@ -1,25 +1,26 @@
--- A row's line by what was read of it, as it is judged and as it is filled in, whichever its kind. No contract cites this file.
-use mathlib.Core.Path.{_≡_, refl, sym, ap, _∙_}
-use mathlib.Core.Bool.{Bool, true, false, cond}
+-- A row's line by what was read of it, whichever its kind. No contract cites this file.
+use mathlib.Core.Path.{_≡_, refl, _∙_}
+use mathlib.Core.Bool.{true, false, cond}
 use mathlib.Core.List.{List, _++_}
 use Prim.Native.Nat.{ℕ}
 use lib.IntN.{ℤ}
 use lib.ListN.{length}
 use lib.Seq.{take-at, drop-at}
 use Rattle.numbers.proofs.TestLaws.{zero-one}
-use Rattle.kinds.specs.LineColumns.{rowItems}
+use Rattle.types.specs.LineColumns.{rowItems}
 use Rattle.text.specs.Line.{Line, holds, form, range}
 use Rattle.columns.specs.Columns.{values, wrong}
 use Rattle.table.specs.Table.{rowGood}
 use Rattle.lines.specs.Lines.{RowLine, row, rowBy, rowLine}
 use Rattle.lines.specs.SheetLine.{sheetLine}
 use Rattle.lines.specs.RowKinds.{valuesBy, badBy, outBy}
-use Rattle.lines.specs.SaidRow.{judgedOf, lineBy}
+use Rattle.lines.specs.SaidRow.{judgedOf, saidRow, lineBy}
 use Rattle.lines.specs.declared.row.RowKind.{RowKind}
 use Rattle.lines.specs.declared.row.RowKind.the-variants.{Table, Sheet}
+use Rattle.lines.specs.declared.row.RowJudged.{RowJudged}
 use Rattle.lines.specs.declared.row.RowJudged.the-variants.{Holds, Form, Range}
 
--- ---- by what was read
+-- ---- the line by what was read
 pub by-values : (kind : RowKind) (zones : ℕ) (line : List ℕ) (i : ℕ) → lineBy kind zones line i ≡ rowBy (badBy kind zones line i) (outBy kind line) (valuesBy kind zones line i)
 unfolding rowLine sheetLine
 by-values Table zones line i = refl
@@ -39,23 +40,11 @@ module _ (kind : RowKind) (zones : ℕ) (line : List ℕ) (i : ℕ) where
     pub row-range : rowGood raw f ≡ false → lineBy kind zones line i ≡ range (outBy kind line raw f)
     row-range g = row-by ∙ rw g
 
-    -- .. of a line that was judged good
-    pub row-filled : judgedOf (lineBy kind zones line i) ≡ Holds → lineBy kind zones line i ≡ holds (row raw f)
-    row-filled good = go (rowGood raw f) refl
-      where
-        go : (t : Bool) → rowGood raw f ≡ t → lineBy kind zones line i ≡ holds (row raw f)
-        go true g = row-holds g
-        go false g = absurd (clash (sym (ap judgedOf (row-range g)) ∙ good))
-          where
-            clash : {byte : ℕ} → Range byte ≡ Holds → ⊥
-            clash e = zero-one cc
-
-  -- ---- what an answer says of the line
-  pub row-never : (place : ℕ) → wrong place ≡ valuesBy kind zones line i → judgedOf (lineBy kind zones line i) ≡ Holds → ⊥
-  row-never place e good = go (sym (ap judgedOf (row-form place e)) ∙ good)
-    where
-      go : {byte : ℕ} → Form byte ≡ Holds → ⊥
-      go e = zero-one cc
+-- ---- what an answer says of the line
+pub judged-said : (r : RowJudged) (raw f : List ℤ) → judgedOf (saidRow r raw f) ≡ r
+judged-said Holds raw f = refl
+judged-said (Form byte) raw f = refl
+judged-said (Range byte) raw f = refl
 
 pub record RowHolds (l : Line RowLine) : Type 0 where
   pub it : RowLine

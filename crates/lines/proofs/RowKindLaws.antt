@@ -8,8 +8,8 @@ use native.Mathlib.Omega.{arith}
 use lib.ListN.{length, take, drop}
 use lib.Seq.{take-add, take-at, drop-at}
 use Rattle.numbers.proofs.ListLaws.{part-long}
-use Rattle.kinds.specs.Limits.{zonesMost}
-use Rattle.kinds.specs.LineColumns.{Column, signed, factor, rowItems, columnsOf}
+use Rattle.limits.specs.Limits.{zonesMost}
+use Rattle.types.specs.LineColumns.{Column, signed, factor, rowItems, columnsOf}
 use Rattle.columns.specs.declared.Head.{Head}
 use Rattle.columns.specs.declared.Head.the-variants.{Lettered, Indexed, Bare}
 use Rattle.columns.specs.ColumnText.{headSeps}

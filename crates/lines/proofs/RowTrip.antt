@@ -13,10 +13,10 @@ use Rattle.numbers.specs.Below.{table}
 use Rattle.numbers.specs.Ints.{minus, inside}
 use Rattle.numbers.proofs.BelowLaws.{table-of}
 use Rattle.numbers.proofs.IntLaws.{inside-true}
-use Rattle.kinds.specs.Limits.{shareMost}
-use Rattle.kinds.specs.LineColumns.{Column, rowColumns, rowItems}
-use Rattle.kinds.specs.Ranges.{atℤ, rowOf, factorFits}
-use Rattle.kinds.proofs.KindLaws.{row-in, factor-in}
+use Rattle.types.specs.LineLimits.{shareMost}
+use Rattle.types.specs.LineColumns.{Column, rowColumns, rowItems}
+use Rattle.types.specs.Ranges.{atℤ, rowOf, factorFits}
+use Rattle.types.proofs.RangeLaws.{row-in, factor-in}
 use Rattle.text.specs.Fields.{feed}
 use Rattle.text.specs.Line.{lineOf, holds}
 use Rattle.text.proofs.FieldTrip.{ShareKept}
@@ -46,7 +46,7 @@ pub record RowHeld (zones : ℕ) (c : RowLine) : Type 0 where
   pub long : length (c .factors) ≡ zones
   pub good : rowGood (c .values) (c .factors) ≡ true
 
--- .. whatever its index
+-- what is known of a row, whatever its index
 abbrev pub RowHeldAt : (zones i : ℕ) → RowLine → Type 0
 RowHeldAt zones i c = RowHeld zones c
 
@@ -71,7 +71,7 @@ row-read kind zones line i c e =
     )
 
 -- ---- what is written
--- R in range is kept as it may be: -1, or a share
+-- R in range is one of the values that a column keeps: -1, or a share
 pub share-kept : (r : ℤ) → inside (minus 1) (pos shareMost) r ≡ true → ShareKept r
 share-kept (pos n) e = omega (arith, leb→le n shareMost (inside-true (minus 1) (pos shareMost) (pos n) e .1 .le))
 share-kept (negsuc n) e = omega (arith, leb→le n 0 (inside-true (minus 1) (pos shareMost) (negsuc n) e .0 .le))
@@ -130,7 +130,7 @@ module _ (zones : ℕ) (c : RowLine) (held : RowHeld zones c) where
     pub row-written : lineBy kind zones (textBy kind i c) i ≡ holds c
     row-written = ap (λ (v : List ℤ). lineBy kind zones (fieldsBy kind (columnsBy kind (length (c .factors))) i (v ++ c .factors)) i) (numbers-are rowColumns (c .values) (held .wide)) ∙ by-numbers
 
--- ---- it is one line
+-- ---- what is written is one line
 pub row-one : (kind : RowKind) (i : ℕ) (c : RowLine) (r : List ℕ) → lineOf (textBy kind i c ++ r) ≡ textBy kind i c
 row-one kind i c r =
     line-one (sepBy kind) (other kind) (headBy kind i) (columnsBy kind (length (c .factors))) (numbersOf rowColumns (c .values) ++ c .factors) r (omega (arith, columns-many kind (length (c .factors)))) (plain kind)

@@ -6,9 +6,9 @@ use Prim.Native.Nat.{ℕ, _^_, _<_}
 use native.Mathlib.Omega.{arith}
 use lib.Dec.{eqb}
 use lib.IntN.{ℤ}
-use Rattle.kinds.specs.LineColumns.{zoneColumns}
-use Rattle.kinds.specs.Ranges.{atℤ, zoneFits}
-use Rattle.kinds.proofs.KindLaws.{zone-in}
+use Rattle.types.specs.LineColumns.{zoneColumns}
+use Rattle.types.specs.Ranges.{atℤ, zoneFits}
+use Rattle.types.proofs.RangeLaws.{zone-in}
 use Rattle.text.specs.Fields.{tab, feed}
 use Rattle.text.specs.Line.{lineOf, holds, form, range}
 use Rattle.columns.specs.declared.Head.the-variants.{Indexed}

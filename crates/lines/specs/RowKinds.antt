@@ -6,8 +6,8 @@ use Prim.Native.Char.{code}
 use Prim.Native.Nat.{ℕ}
 use lib.IntN.{ℤ}
 use lib.ListN.{length}
-use Rattle.kinds.specs.LineColumns.{Column, rowColumns, factorColumns, sheetColumns, sheetFactors}
-use Rattle.kinds.specs.Ranges.{rowLineTests}
+use Rattle.types.specs.LineColumns.{Column, rowColumns, factorColumns, sheetColumns, sheetFactors}
+use Rattle.types.specs.Ranges.{rowLineTests}
 use Rattle.text.specs.Fields.{tab}
 use Rattle.columns.specs.declared.Head.{Head}
 use Rattle.columns.specs.declared.Head.the-variants.{Indexed, Bare}
@@ -54,6 +54,6 @@ badBy kind zones line i = lineByte (sepBy kind) (headBy kind i) (columnsBy kind 
 abbrev pub outBy : RowKind → (line : List ℕ) → (values factors : List ℤ) → ℕ
 outBy kind line values factors = rangeByte (sepBy kind) (rowLineTests values factors) (headSeps (headBy kind 0)) line
 
--- as it is written
+-- a row's line as it is written
 abbrev pub rowTextBy : RowKind → (i : ℕ) → (raw factors : List ℤ) → List ℕ
 rowTextBy kind i raw factors = columnsText (sepBy kind) (headBy kind i) (columnsBy kind (length factors)) (numbersOf rowColumns raw ++ factors)

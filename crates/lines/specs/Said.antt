@@ -1,7 +1,7 @@
 -- What the code answers of a line, as `Line` of crate text says it. Promises are stated through these.
 use mathlib.Core.List.{List}
 use lib.IntN.{ℤ}
-use Rattle.kinds.specs.declared.Header.{Header}
+use Rattle.types.specs.declared.Header.{Header}
 use Rattle.text.specs.Line.{Line, holds, form, range}
 use Rattle.lines.specs.declared.HeaderLine.{HeaderLine}
 use Rattle.lines.specs.declared.HeaderLine.the-variants as header

@@ -10,6 +10,6 @@ use Rattle.lines.specs.declared.row.RowKind.the-variants.{Sheet}
 unfoldable pub sheetLine : (zones : ℕ) → (line : List ℕ) → (i : ℕ) → Line RowLine
 sheetLine zones line i = rowBy (badBy Sheet zones line i) (outBy Sheet line) (valuesBy Sheet zones line i)
 
--- as it is written
+-- a line of the sheet as it is written
 abbrev pub sheetText : (i : ℕ) → (raw factors : List ℤ) → List ℕ
 sheetText = rowTextBy Sheet

@@ -2,10 +2,10 @@
 use crate::BorderLine;
 use columns::Fields;
 use columns::Head;
-use kinds::Border;
+use types::Border;
 ghost use mathlib.Core.Path.{_≡_};
 ghost use lib.ListN.{length};
-ghost use Rattle.kinds.specs.LineColumns.{borderItems};
+ghost use Rattle.types.specs.LineColumns.{borderItems};
 ghost use Rattle.lines.specs.Lines.{borderLine};
 ghost use Rattle.lines.specs.Said.{saidBorder};
 

@@ -2,7 +2,7 @@
 use crate::HeaderLine;
 use columns::Fields;
 use columns::Head;
-use kinds::Header;
+use types::Header;
 ghost use mathlib.Core.Path.{_≡_};
 ghost use Rattle.lines.specs.Lines.{headerLine};
 ghost use Rattle.lines.specs.Said.{saidHeader};

@@ -1,21 +1,18 @@
-// A row's line, in two passes: it is judged without being kept, and then its record and its factors are filled in.
+// A row's line: it is parsed once, and what it holds is judged as it stands in the caller's memory.
 // A C line and a line of the planners' sheet (02, E11) differ in the byte that parts the fields, in the head and in the columns.
 use columns::Fields;
 use columns::Head;
-use kinds::Row;
-use kinds::RowRecord;
+use types::Row;
+use types::RowRecord;
 ghost use mathlib.Core.Path.{_≡_};
 ghost use mathlib.Core.List.{_++_};
 ghost use Prim.Native.Nat.{_<_, _≤_};
 ghost use lib.ListN.{length};
-ghost use Rattle.kinds.specs.Limits.{zonesMost};
-ghost use Rattle.kinds.specs.LineColumns.{columnsOf};
-ghost use Rattle.text.specs.Line.{holds};
+ghost use Rattle.limits.specs.Limits.{zonesMost};
+ghost use Rattle.types.specs.LineColumns.{columnsOf};
 ghost use Rattle.columns.specs.Columns.{stored};
-ghost use Rattle.lines.specs.Lines.{row};
 ghost use Rattle.lines.specs.RowKinds.{sepBy, headBy, columnsBy, valuesBy, badBy, outBy};
-ghost use Rattle.lines.specs.SaidRow.{judgedOf, lineBy};
-ghost use Rattle.lines.specs.declared.row.RowJudged.the-variants.{Holds};
+ghost use Rattle.lines.specs.SaidRow.{judgedOf, saidRow, lineBy};
 
 // The kinds of line that hold a row: the table's, which is a C line, and the planners' sheet's.
 pub enum RowKind {
@@ -30,29 +27,45 @@ pub enum RowJudged {
     Range(usize),
 }
 
-// Judges a row's line: the form of all fields, then the ranges.
+// What a row's line was judged, and its raw record, which says nothing where the line is faulty: an enum holds no array.
+pub struct RowRead {
+    pub judged: RowJudged,
+    pub raw: RowRecord,
+}
+
+// Judges a row's line that is not kept.
 pub fn row_judged(kind: RowKind, zones: usize, line: &[u8], i: usize) -> RowJudged
     requires { ⌜ (0 < zones) × (zones ≤ zonesMost) ⌝ }
     ensures { λ r. ⌜ r ≡ judgedOf (lineBy kind zones (now (line .entry)) i) ⌝ }
 {
-    let mut factors = [0i64; kinds::Header::ZONES_MOST];
-    judged_in(kind, line, i, &mut factors[..zones])
+    let mut factors = [0i64; limits::ZONES_MOST];
+    let read = row_read(kind, line, i, &mut factors[..zones]);
+    read.judged
 }
 
-// .. with working memory for its factors.
-fn judged_in(kind: RowKind, line: &[u8], i: usize, f: &mut [i64]) -> RowJudged
+// Reads a row's line, its factors into f: the form of all fields, then the ranges.
+pub fn row_read(kind: RowKind, line: &[u8], i: usize, f: &mut [i64]) -> RowRead
     requires { ⌜ (0 < length (now f)) × (length (now f) ≤ zonesMost) ⌝ }
-    ensures { λ r. ⌜ r ≡ judgedOf (lineBy kind (length (now (f .entry))) (now (line .entry)) i) ⌝ }
+    ensures { λ r. ⌜ saidRow (r .judged) (r .raw) (now (f .exit)) ≡ lineBy kind (length (now (f .entry))) (now (line .entry)) i ⌝ }
 {
     let zones = f.len();
     let mut raw: RowRecord = [0; Row::ITEMS];
     let Fields::End(_) = row_at(kind, line, i, &mut raw, f) else {
-        return RowJudged::Form(row_bad(kind, zones, line, i));
+        return RowRead {
+            judged: RowJudged::Form(row_bad(kind, zones, line, i)),
+            raw: raw,
+        };
     };
     if table::row_good(raw, f) {
-        return RowJudged::Holds;
+        return RowRead {
+            judged: RowJudged::Holds,
+            raw: raw,
+        };
     }
-    RowJudged::Range(row_out(kind, raw, f, line))
+    RowRead {
+        judged: RowJudged::Range(row_out(kind, raw, f, line)),
+        raw: raw,
+    }
 }
 
 // The byte to blame in a line of wrong form.
@@ -64,25 +77,13 @@ fn row_bad(kind: RowKind, zones: usize, line: &[u8], i: usize) -> usize
     blame::line_byte(sep_of(kind), head_of(kind, i), &columns_of(kind)[..n], line)
 }
 
-// .. and where a value is outside its range.
+// The byte to blame in a line with a value outside its range.
 fn row_out(kind: RowKind, raw: RowRecord, f: &[i64], line: &[u8]) -> usize
     requires { ⌜ length (now f) ≤ zonesMost ⌝ }
     ensures { λ r. ⌜ r ≡ outBy kind (now (line .entry)) raw (now (f .entry)) ⌝ }
 {
     let k = columns::write::head_seps(head_of(kind, 0));
     blame::range::row_range(sep_of(kind), k, raw, f, line)
-}
-
-// Fills a row's stretch of the factors from its line, which was judged before, and answers its raw record.
-pub fn row_filled(kind: RowKind, line: &[u8], i: usize, f: &mut [i64]) -> RowRecord
-    requires { ⌜ (0 < length (now f)) × (length (now f) ≤ zonesMost) × (judgedOf (lineBy kind (length (now f)) (now line) i) ≡ Holds) ⌝ }
-    ensures { λ r. ⌜ lineBy kind (length (now (f .entry))) (now (line .entry)) i ≡ holds (row r (now (f .exit))) ⌝ }
-{
-    let mut raw: RowRecord = [0; Row::ITEMS];
-    let Fields::End(_) = row_at(kind, line, i, &mut raw, f) else {
-        return raw;
-    };
-    raw
 }
 
 // The seven values, and one factor for each item of f.
@@ -102,7 +103,7 @@ fn row_at(kind: RowKind, line: &[u8], i: usize, raw: &mut [i64], f: &mut [i64]) 
     )
 }
 
-// What the kinds differ in: the byte that parts the fields,
+// The byte that parts the fields, by the kind of line.
 pub fn sep_of(kind: RowKind) -> u8
     ensures { λ r. ⌜ r ≡ sepBy kind ⌝ }
 {
@@ -112,7 +113,7 @@ pub fn sep_of(kind: RowKind) -> u8
     }
 }
 
-// .. the head of row i's line,
+// The head of row i's line, by the kind of line.
 pub fn head_of(kind: RowKind, i: usize) -> Head
     ensures { λ r. ⌜ r ≡ headBy kind i ⌝ }
 {
@@ -122,8 +123,8 @@ pub fn head_of(kind: RowKind, i: usize) -> Head
     }
 }
 
-// .. and the columns, as many as the most zones ask for.
-pub fn columns_of(kind: RowKind) -> [u8; Row::ITEMS + kinds::Header::ZONES_MOST]
+// The columns of a row's line with the most zones, by the kind of line.
+pub fn columns_of(kind: RowKind) -> [u8; Row::ITEMS + limits::ZONES_MOST]
     ensures { λ r. ⌜ columnsOf r ≡ columnsBy kind zonesMost ⌝ }
 {
     match kind {

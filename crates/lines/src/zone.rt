@@ -2,8 +2,8 @@
 use crate::ZoneLine;
 use columns::Fields;
 use columns::Head;
-use kinds::Zone;
-use kinds::ZoneRead;
+use types::Zone;
+use types::ZoneRead;
 ghost use mathlib.Core.Path.{_≡_};
 ghost use Rattle.lines.specs.Lines.{positionLine};
 ghost use Rattle.lines.specs.Said.{saidZone};

@@ -5,7 +5,7 @@ use Prim.Native.Nat.{ℕ}
 use lib.IntN.{ℤ, pos}
 use Rattle.numbers.specs.Below.{sum, largest}
 use Rattle.numbers.specs.Ints.{minus, maxℤ, positivePart, sumℤ}
-use Rattle.kinds.specs.Ranges.{hubsOf, borderOf, shareOf, rowOf, worth, defaultOf}
+use Rattle.types.specs.Ranges.{hubsOf, borderOf, shareOf, rowOf, worth, defaultOf}
 use Rattle.table.specs.Table.{Table, stretch}
 use Rattle.margin.specs.Margin.{grains, f0coreOf, fuafOf, baseOf, amrOf, signedFactor, pOf, ltaKw, cornerPart, sOf, ltaMarginOf, ramOf, ramAt, marginOf}
 
@@ -37,7 +37,7 @@ pub record Anchors : Type 0 where
   pub cable-turned : pOf (pos 30000 ∷ pos 20000 ∷ pos 8000 ∷ pos 1000 ∷ []) (borderOf (pos 0 ∷ pos 1 ∷ pos 50 ∷ pos 3 ∷ pos 2 ∷ [])) ≡ 17000
   -- a row's margin starts at RAM - S
   pub starts : marginOf (small (minus 1) (pos 0) (pos 0)) 0 ≡ pos 9980000000
-  -- in the intraday profile at RAM less the sum of factor times T, here 20000 x 2000, and S is not taken off; it may be below 0
+  -- in the intraday profile a row's margin starts at RAM less the sum of factor times T, here 20000 x 2000; S is not taken off, and it may be below 0
   pub intraday : marginOf (smallIn 1 (pos 2000 ∷ minus 2000 ∷ []) (minus 1) (pos 0) (pos 0)) 0 ≡ pos 9960000000
   pub remainder : marginOf (smallIn 1 (minus 1000 ∷ pos 1000 ∷ []) (minus 1) (pos 0) (pos 0)) 0 ≡ pos 10020000000
   pub negative : marginOf (smallIn 1 (pos 500001 ∷ minus 500001 ∷ []) (minus 1) (pos 0) (pos 0)) 0 ≡ minus 20000

@@ -1,4 +1,4 @@
--- What a judged record gives to the functions of this crate, its ranges, and the same of a judged table's parts. No contract cites this file.
+-- What a judged record gives to the functions of this crate: its ranges; and the same of a judged table's parts. No contract cites this file.
 use mathlib.Core.Path.{_≡_, sym, ap, subst, _∙_}
 use mathlib.Core.Bool.{Bool, true, false, cond}
 use mathlib.Core.List.{List, []}
@@ -10,19 +10,19 @@ use lib.ListN.{length, getD}
 use lib.Signed.{ltZ}
 use borrow.Author.Tests.{le-ltb}
 use Rattle.numbers.proofs.IntLaws.{within-le, all-part, between-within}
-use Rattle.kinds.specs.declared.Header.{Header}
-use Rattle.kinds.specs.declared.Hubs.the-variants.{Without, Between}
-use Rattle.kinds.specs.declared.Border.{Border}
-use Rattle.kinds.specs.declared.Row.{Row}
-use Rattle.kinds.specs.Limits.{bordersMost}
-use Rattle.kinds.specs.Ranges.{atℤ, hubsOf, borderFits, borderOf, rowFits, rowOf}
-use Rattle.kinds.proofs.KindLaws.{header-in, allocated-most, zone-in, HubsIn, none, both, border-in, row-in, share-in, factor-in}
+use Rattle.limits.specs.Limits.{bordersMost}
+use Rattle.types.specs.declared.Header.{Header}
+use Rattle.types.specs.declared.Hubs.the-variants.{Without, Between}
+use Rattle.types.specs.declared.Border.{Border}
+use Rattle.types.specs.declared.Row.{Row}
+use Rattle.types.specs.Ranges.{atℤ, hubsOf, borderFits, borderOf, rowFits, rowOf}
+use Rattle.types.proofs.RangeLaws.{header-in, allocated-most, zone-in, HubsIn, none, both, border-in, row-in, share-in, factor-in}
 use Rattle.table.specs.Table.{Table, stretch}
 use Rattle.table.specs.Good.{Good}
 use Rattle.table.proofs.GoodLaws as good
 use Rattle.margin.specs.Margin.{sOf}
-use Rattle.margin.specs.Bounds.{RowBound, FactorsBound, TableFactorsBound, NetsBound, HubsWithin, BorderBound, BordersBound, sMost}
-use Rattle.margin.proofs.BoundLaws.{s-most}
+use Rattle.margin.specs.Magnitudes.{RowInRange, FactorsInRange, TableFactorsInRange, NetsInRange, HubsWithin, BorderInRange, BordersInRange, sMost}
+use Rattle.margin.proofs.MagnitudeLaws.{s-most}
 
 -- ---- hubs that fit are zones, where there are any
 hubs-within : (zones : ℕ) (sending receiving : ℤ) → HubsIn zones sending receiving → HubsWithin zones (hubsOf sending receiving)
@@ -34,20 +34,20 @@ hubs-within zones sending receiving (both s r apart) =
 
 -- ---- a border that fits, and a value that is this border
 module _ (zones : ℕ) (raw : List ℤ) (fits : borderFits zones raw ≡ true) where
-  pub border-bound : BorderBound zones (borderOf raw)
+  pub border-ranges : BorderInRange zones (borderOf raw)
   unfolding borderOf
-  border-bound =
+  border-ranges =
       let b = border-in zones raw fits in
       record { from-in = b .from-below; to-in = b .to-below; lta-in = b .lta-most; hubs-in = hubs-within zones (atℤ raw 3) (atℤ raw 4) (b .hubs) }
 
-  pub border-judged : {border : Border} → border ≡ borderOf raw → BorderBound zones border
-  border-judged e = rw e border-bound
+  pub border-judged : {border : Border} → border ≡ borderOf raw → BorderInRange zones border
+  border-judged e = rw e border-ranges
 
--- ---- a row likewise
+-- ---- a row that fits
 module _ (raw : List ℤ) (fits : rowFits raw ≡ true) where
-  pub row-bound : RowBound (rowOf raw)
+  pub row-ranges : RowInRange (rowOf raw)
   unfolding rowOf
-  row-bound =
+  row-ranges =
       let r = row-in raw fits in
       record {
         fmax-in = between-within (r .fmax);
@@ -59,41 +59,41 @@ module _ (raw : List ℤ) (fits : rowFits raw ≡ true) where
         iva-in = between-within (r .iva);
       }
 
-  pub row-judged : {row : Row} → row ≡ rowOf raw → RowBound row
-  row-judged e = rw e row-bound
+  pub row-judged : {row : Row} → row ≡ rowOf raw → RowInRange row
+  row-judged e = rw e row-ranges
 
 -- ---- a row's stretch of the factors
-module _ {h : Header} {f : List ℤ} (bound : TableFactorsBound h f) (i : ℕ) (below : i < h .rows) where
+module _ {h : Header} {f : List ℤ} (bound : TableFactorsInRange h f) (i : ℕ) (below : i < h .rows) where
   pub stretch-ends : i * h .zones + h .zones ≤ length f
   stretch-ends = omega (arith, bound .long, mul-le-mul below (le-refl (h .zones)), suc-mul i (h .zones))
 
   pub stretch-long : length (stretch (h .zones) f i) ≡ h .zones
   stretch-long = good.stretch-long (h .zones) (h .rows) f (bound .long) i below
 
-  pub stretch-bound : FactorsBound (stretch (h .zones) f i)
+  pub stretch-ranges : FactorsInRange (stretch (h .zones) f i)
   unfolding stretch
-  stretch-bound =
+  stretch-ranges =
       record {
         some = omega (arith, stretch-long, bound .some);
         few = omega (arith, stretch-long, bound .few);
         each = all-part f (i * h .zones) (h .zones) stretch-ends (bound .each);
       }
 
-  -- the same of a part that is this stretch
+  -- a part of the factors that is this stretch
   pub part-long : {part : List ℤ} → part ≡ stretch (h .zones) f i → length part ≡ h .zones
   part-long e = ap length e ∙ stretch-long
 
-  pub part-bound : {part : List ℤ} → part ≡ stretch (h .zones) f i → FactorsBound part
-  part-bound e = rw e stretch-bound
+  pub part-ranges : {part : List ℤ} → part ≡ stretch (h .zones) f i → FactorsInRange part
+  part-ranges e = rw e stretch-ranges
 
 -- ---- S of judged borders
-pub s-bound : {factors : List ℤ} {borders : List (List ℤ)} {s : ℕ} → FactorsBound factors → BordersBound (length factors) borders → s ≡ sOf factors borders → s ≤ sMost
+pub s-bound : {factors : List ℤ} {borders : List (List ℤ)} {s : ℕ} → FactorsInRange factors → BordersInRange (length factors) borders → s ≡ sOf factors borders → s ≤ sMost
 s-bound {factors} {borders} f b e =
-    omega (arith, e, s-most (f .each) borders (λ k l. border-bound (length factors) (getD borders k []) (b .each k l)) bordersMost (b .few))
+    omega (arith, e, s-most (f .each) borders (λ k l. border-ranges (length factors) (getD borders k []) (b .each k l)) bordersMost (b .few))
 
 -- ---- a judged table
 module _ {t : Table} (good : Good t) where
-  pub good-factors : TableFactorsBound (t .header) (t .factors)
+  pub good-factors : TableFactorsInRange (t .header) (t .factors)
   good-factors =
       let h = header-in (t .header) (good .exact .header) in
       record {
@@ -103,7 +103,7 @@ module _ {t : Table} (good : Good t) where
         each = record { at = λ k l. factor-in _ (good .factors-fit k (omega (arith, good .exact .factors-long))) };
       }
 
-  pub good-borders : BordersBound (t .header .zones) (t .borders)
+  pub good-borders : BordersInRange (t .header .zones) (t .borders)
   good-borders =
       let h = header-in (t .header) (good .exact .header) in
       record {
@@ -111,10 +111,10 @@ module _ {t : Table} (good : Good t) where
         each = λ b l. good .borders-fit b (omega (arith, good .exact .borders-long));
       }
 
-  pub good-nets : NetsBound (t .header .zones) (t .nets)
+  pub good-nets : NetsInRange (t .header .zones) (t .nets)
   good-nets = record { few = omega (arith, good .exact .nets-long); each = record { at = λ z l. zone-in _ (good .nets-fit z (omega (arith, good .exact .nets-long))) } }
 
-  pub good-allocated : NetsBound (t .header .zones) (t .allocated)
+  pub good-allocated : NetsInRange (t .header .zones) (t .allocated)
   good-allocated =
       record {
         few = omega (arith, good .exact .allocated-long, allocated-most (t .header));

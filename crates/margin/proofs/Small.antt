@@ -1,5 +1,5 @@
 -- 01, "Margin of a row": each value named in the list stays under 2^48 in magnitude, for every judged table, and RAM less a flow under 2^49 (`specs/Small.antt`). No contract cites this file.
--- The bounds are laws with the limits as variables (`BoundLaws.antt`); here stand 01's limits.
+-- The bounds are laws with the limits as variables (`MagnitudeLaws.antt`); here stand 01's limits.
 use Prim.Native.Nat.{ℕ, _≤_, _<_}
 use native.Mathlib.Omega.{arith}
 use lib.IntN.{ℤ, pos, _-ℤ_}
@@ -10,24 +10,25 @@ use mathlib.Core.Path.{_≡_, refl, sym, subst}
 use mathlib.Core.Bool.{Bool, true, false, cond}
 use Rattle.numbers.specs.Ints.{Within}
 use Rattle.numbers.proofs.IntLaws.{Between, diffs, zarith, within-le}
-use Rattle.kinds.specs.Limits.{zonesMost, shareMost}
-use Rattle.kinds.specs.Ranges.{isIntraday, borderFits, defaultOf}
-use Rattle.kinds.proofs.KindLaws.{row-in, default-in}
+use Rattle.limits.specs.Limits.{zonesMost}
+use Rattle.types.specs.LineLimits.{shareMost}
+use Rattle.types.specs.Ranges.{isIntraday, borderFits, defaultOf}
+use Rattle.types.proofs.RangeLaws.{row-in, default-in}
 use Rattle.table.specs.Table.{Table, rowAt, borderAt, factorsAt}
 use Rattle.table.specs.Good.{Good}
 use Rattle.margin.specs.Margin.{flowOf, pOf, sAt, ramAt, marginOf}
-use Rattle.margin.specs.Bounds.{RowBound, BordersBound, pMost, f0coreMost, sMost, ramMost, startMost}
+use Rattle.margin.specs.Magnitudes.{RowInRange, BordersInRange, pMost, f0coreMost, sMost, ramMost, startMost}
 use Rattle.margin.specs.Small.{f0coreAt, NamedSmall}
-use Rattle.margin.proofs.BoundLaws.{within-flow, within-f0core, within-fuaf, within-base, within-amr, p-most, lta-margin-most, within-ram, within-start}
-use Rattle.margin.proofs.JudgedLaws.{border-bound, row-bound, stretch-long, stretch-bound, s-bound, good-factors, good-borders, good-nets, good-allocated}
+use Rattle.margin.proofs.MagnitudeLaws.{within-flow, within-f0core, within-fuaf, within-base, within-amr, p-most, lta-margin-most, within-ram, within-start}
+use Rattle.margin.proofs.JudgedLaws.{border-ranges, row-ranges, stretch-long, stretch-ranges, s-bound, good-factors, good-borders, good-nets, good-allocated}
 
 between-low : {m n : ℕ} {z : ℤ} → Between m n z → pos 0 ≤ℤ z
 between-low {z} h = rw (h .is) (simp diffs (omega zarith))
 
 module _ {t : Table} (good : Good t) (i : ℕ) (below : i < t .header .rows) where
   -- the row's values, the default in force, the row's F0core and its S
-  row-in-range : RowBound (rowAt t i)
-  row-in-range = row-bound (getD (t .rows) i []) (good .rows-fit i below)
+  row-in-range : RowInRange (rowAt t i)
+  row-in-range = row-ranges (getD (t .rows) i []) (good .rows-fit i below)
 
   default-in-range : Within shareMost (defaultOf (t .header))
   default-in-range = default-in (t .header) (good .exact .header)
@@ -40,7 +41,7 @@ module _ {t : Table} (good : Good t) (i : ℕ) (below : i < t .header .rows) whe
       let f = good-factors good in
       let n = good-nets good in
       let long = stretch-long f i below in
-      within-f0core (rowAt t i) (row-in-range .fref-in) (factorsAt t i) (t .nets) (omega (arith, long, n .few)) (stretch-bound f i below .each) (n .each) zonesMost
+      within-f0core (rowAt t i) (row-in-range .fref-in) (factorsAt t i) (t .nets) (omega (arith, long, n .few)) (stretch-ranges f i below .each) (n .each) zonesMost
       (omega (arith, n .few, f .few))
 
   abbrev s : ℕ
@@ -48,15 +49,15 @@ module _ {t : Table} (good : Good t) (i : ℕ) (below : i < t .header .rows) whe
 
   pub s-in : s ≤ sMost
   s-in =
-      s-bound (stretch-bound (good-factors good) i below)
-      (subst (λ (n : ℕ). BordersBound n (t .borders)) (sym (stretch-long (good-factors good) i below)) (good-borders good)) refl
+      s-bound (stretch-ranges (good-factors good) i below)
+      (subst (λ (n : ℕ). BordersInRange n (t .borders)) (sym (stretch-long (good-factors good) i below)) (good-borders good)) refl
 
   pub p-in : (b : ℕ) → b < t .header .borders → pOf (factorsAt t i) (borderAt t b) ≤ pMost
   p-in b h =
       let f = good-factors good in
       let raw = getD (t .borders) b [] in
-      p-most (stretch-bound f i below .each)
-      (border-bound (length (factorsAt t i)) raw (subst (λ (n : ℕ). borderFits n raw ≡ true) (sym (stretch-long f i below)) (good .borders-fit b h)))
+      p-most (stretch-ranges f i below .each)
+      (border-ranges (length (factorsAt t i)) raw (subst (λ (n : ℕ). borderFits n raw ≡ true) (sym (stretch-long f i below)) (good .borders-fit b h)))
 
   -- over S, R x Fmax / 10000 - Fuaf, Fmax / 5 and Base
   abbrev top : ℕ
@@ -75,7 +76,7 @@ module _ {t : Table} (good : Good t) (i : ℕ) (below : i < t .header .rows) whe
       let f = good-factors good in
       let n = good-allocated good in
       let long = stretch-long f i below in
-      within-flow ram-in (factorsAt t i) (t .allocated) (omega (arith, long, n .few)) (stretch-bound f i below .each) (n .each) zonesMost (omega (arith, n .few, f .few))
+      within-flow ram-in (factorsAt t i) (t .allocated) (omega (arith, long, n .few)) (stretch-ranges f i below .each) (n .each) zonesMost (omega (arith, n .few, f .few))
 
   pub start-in : Within startMost (marginOf t i)
   start-in = go (isIntraday (t .header))

@@ -2,10 +2,10 @@
 -- That it does, of every judged table, is `named-values-small` of `proofs/Small.antt`.
 use Prim.Native.Nat.{ℕ, _^_, _<_}
 use lib.IntN.{ℤ, pos, natAbs, _-ℤ_}
-use Rattle.kinds.specs.Ranges.{defaultOf}
+use Rattle.types.specs.Ranges.{defaultOf}
 use Rattle.table.specs.Table.{Table, rowAt, borderAt, factorsAt}
 use Rattle.margin.specs.Margin.{flowOf, f0coreOf, fuafOf, baseOf, amrOf, pOf, ltaMarginOf, sAt, ramAt, marginOf}
-use Rattle.margin.specs.Bounds.{namedBits, startBits}
+use Rattle.margin.specs.Magnitudes.{namedBits, startBits}
 
 -- F0core of row i of a table
 abbrev pub f0coreAt : Table → (i : ℕ) → ℤ
@@ -22,5 +22,5 @@ pub record NamedSmall (t : Table) (i : ℕ) : Type 0 where
   pub ram : natAbs (ramAt t i) < 2 ^ namedBits
   pub less-s : natAbs (ramAt t i -ℤ pos (sAt (t .header) (t .borders) (t .factors) i)) < 2 ^ namedBits
   pub remainder : natAbs (ramAt t i -ℤ flowOf (factorsAt t i) (t .allocated)) < 2 ^ startBits
-  -- whichever of the two the profile takes
+  -- the starting margin, whichever of the two the profile takes
   pub start : natAbs (marginOf t i) < 2 ^ startBits

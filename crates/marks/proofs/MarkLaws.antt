@@ -11,8 +11,8 @@ use lib.ListN.{length, take}
 use lib.Seq.{getD-take}
 use Rattle.numbers.specs.Below.{at, firstFrom}
 use Rattle.numbers.proofs.BelowLaws.{table-get}
-use Rattle.kinds.specs.Refusals.{Judged, passed, refused, then, unless, refuseAt, refuseFirst, badMark}
-use Rattle.kinds.proofs.RefusalLaws.{unless-passed, unless-ok, unless-refused, first-found, first-none-next, none-passed}
+use Rattle.refusals.specs.Refusals.{Judged, passed, refused, then, unless, refuseAt, refuseFirst, badMark}
+use Rattle.refusals.proofs.RefusalLaws.{unless-passed, unless-ok, unless-refused, first-found, first-none-next, none-passed}
 use Rattle.marks.specs.Marks.{faultyMark, judgeMarks, judgeAsked, mayRise, flagOf, flagsOf, flagged}
 
 -- ---- what comes next, after marks that were judged
@@ -58,7 +58,7 @@ flag-told : (m : Bool) → not (eqb (cond m 1 0) 0) ≡ m
 flag-told true = refl
 flag-told false = refl
 
--- the front of the flags of the most borders
+-- the flags of the first borders, out of the flags of the most borders
 pub flags-tell : (all : Bool) (marks : List ℕ) {flags : List ℕ} {most : ℕ} (borders : ℕ) → flags ≡ flagsOf most all marks → borders ≤ most → (b : ℕ) → b < borders → flagged (take borders flags) b ≡ mayRise all marks b
 unfolding flagged
 flags-tell all marks {flags} {most} borders e h b l =

@@ -6,7 +6,7 @@ use Prim.Native.Nat.{ℕ, _+_}
 use lib.Dec.{ltb, eqb}
 use lib.ListN.{length}
 use Rattle.numbers.specs.Below.{at, table, someBelow}
-use Rattle.kinds.specs.Refusals.{Judged, unless, refuseFirst, badMark}
+use Rattle.refusals.specs.Refusals.{Judged, unless, refuseFirst, badMark}
 
 -- some mark is border b
 unfoldable pub markedBy : (marks : List ℕ) → (b : ℕ) → Bool
@@ -23,7 +23,7 @@ judgeMarks borders marks next =
     (refuseFirst (length marks) (faultyMark borders marks) (λ k. badMark (k + 1))
     next)
 
--- the same where marks were asked for, and which borders may rise
+-- 13 is judged only where marks were asked for; and which borders may rise
 abbrev pub judgeAsked : {A : Type 0} → (all : Bool) → (borders : ℕ) → (marks : List ℕ) → Judged A → Judged A
 judgeAsked all borders marks next = cond all next (judgeMarks borders marks next)
 

@@ -5,14 +5,13 @@ ghost use lib.Dec.{eqb};
 ghost use lib.ListN.{length};
 ghost use Rattle.numbers.specs.Below.{at, firstFrom, someBelow};
 ghost use Rattle.numbers.specs.First.{found};
-ghost use Rattle.kinds.specs.Answers.{ruled};
-ghost use Rattle.kinds.specs.Limits.{bordersMost};
-ghost use Rattle.kinds.specs.Refusals.{passed};
+ghost use Rattle.limits.specs.Limits.{bordersMost};
+ghost use Rattle.refusals.specs.Answers.{saidJudgement};
+ghost use Rattle.refusals.specs.Refusals.{passed};
 ghost use Rattle.marks.specs.Marks.{faultyMark, judgeMarks, judgeAsked, flagOf, flagsOf};
-use kinds::Header;
-use kinds::Judgement;
-use kinds::Refusal;
 use numbers::First;
+use refusals::Judgement;
+use refusals::Refusal;
 
 // Whether one of the first n marks is border b.
 fn is_among(marks: &[u64], n: usize, b: u64) -> bool
@@ -53,7 +52,7 @@ fn first_faulty(borders: usize, marks: &[u64]) -> First
 
 // 13: no mark, or the first faulty one, counted from 1.
 pub fn judge(borders: usize, marks: &[u64]) -> Judgement
-    ensures { λ r. ⌜ ruled r (now (marks .entry)) ≡ judgeMarks borders (now (marks .entry)) (passed (now (marks .entry))) ⌝ }
+    ensures { λ r. ⌜ saidJudgement r (now (marks .entry)) ≡ judgeMarks borders (now (marks .entry)) (passed (now (marks .entry))) ⌝ }
 {
     if marks.len() == 0 {
         return Judgement::Refused(Refusal::bad_mark(0));
@@ -64,9 +63,9 @@ pub fn judge(borders: usize, marks: &[u64]) -> Judgement
     Judgement::Passed
 }
 
-// The same where marks were asked for.
+// 13, unless `all` borders may rise: the marks are then not looked at.
 pub fn judge_asked(all: bool, borders: usize, marks: &[u64]) -> Judgement
-    ensures { λ r. ⌜ ruled r (now (marks .entry)) ≡ judgeAsked all borders (now (marks .entry)) (passed (now (marks .entry))) ⌝ }
+    ensures { λ r. ⌜ saidJudgement r (now (marks .entry)) ≡ judgeAsked all borders (now (marks .entry)) (passed (now (marks .entry))) ⌝ }
 {
     if all {
         return Judgement::Passed;
@@ -97,10 +96,10 @@ fn choose(all: bool, marks: &[u64], flags: &mut [u64])
 }
 
 // A flag for each border: 1 where it may rise, else 0.
-pub fn chosen(all: bool, marks: &[u64]) -> [u64; Header::BORDERS_MOST]
+pub fn chosen(all: bool, marks: &[u64]) -> [u64; limits::BORDERS_MOST]
     ensures { λ r. ⌜ r ≡ flagsOf bordersMost all (now (marks .entry)) ⌝ }
 {
-    let mut flags: [u64; Header::BORDERS_MOST] = [0; Header::BORDERS_MOST];
+    let mut flags: [u64; limits::BORDERS_MOST] = [0; limits::BORDERS_MOST];
     choose(all, marks, &mut flags);
     flags
 }

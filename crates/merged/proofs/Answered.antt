@@ -7,20 +7,20 @@ use Prim.Native.Char.{code}
 use Prim.Native.Nat.{ℕ}
 use lib.ListN.{take}
 use Rattle.numbers.specs.Below.{at}
-use Rattle.kinds.specs.Refusals.{Judged, passed, refused, then, either}
-use Rattle.kinds.proofs.RefusalLaws.{not-passed, then-refused}
+use Rattle.refusals.specs.Refusals.{Judged, passed, refused, then, either}
+use Rattle.refusals.proofs.RefusalLaws.{not-passed, then-refused}
 use Rattle.marks.specs.Marks.{mayRise}
 use Rattle.text.specs.Left.{TextLeft, textLeft}
 use Rattle.text.proofs.LeftLaws.{text-refused}
 use Rattle.table.specs.Table.{Table}
 use Rattle.reading.specs.Reading.{readText, readCorrected}
 use Rattle.writing.specs.Writing.{rewriteCorrectedLeft}
-use Rattle.writing.proofs.RoundTrip.{read-write}
-use Rattle.writing.proofs.Corrected.{rewritten-reads-back}
+use Rattle.trips.proofs.RoundTrip.{read-write}
+use Rattle.trips.proofs.Corrected.{rewritten-reads-back}
 use Rattle.extraction.specs.Extraction.{outcomeFor}
 use Rattle.result.specs.Refusal.{refusalText}
 use Rattle.answer.specs.Result.{resultText, answerFor, answerWith, answerForLeft, answerWithLeft}
-use Rattle.answer.proofs.Demand.{TextDemand3, answer-demand-3}
+use Rattle.theorems.proofs.TextDemand.{TextDemand3, answer-demand-3}
 use Rattle.merged.specs.Merged.{mergedText}
 use Rattle.merged.proofs.MergedText.{merged-text, merged-reads}
 
@@ -57,7 +57,7 @@ module _ (text sheet out : List ℕ) (n : ℕ) (done : rewriteCorrectedLeft text
   pub rewritten-answer : (all : Bool) (marks : List ℕ) → answerFor all marks left ≡ answerWith all marks text sheet
   rewritten-answer all marks = same-answer all marks left text sheet (rewritten-reads-back text sheet out n done)
 
-  -- .. and of the calls
+  -- the calls leave the same for it as for both texts
   pub rewritten-answer-left : (all : Bool) (marks room : List ℕ) → answerForLeft all marks left room ≡ answerWithLeft all marks text sheet room
   unfolding answerForLeft answerWithLeft
   rewritten-answer-left all marks room = ap (λ (l : List ℕ). textLeft (passed l) room) (rewritten-answer all marks)

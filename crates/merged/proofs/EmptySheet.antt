@@ -13,7 +13,7 @@ flat : List (List ℕ) → List ℕ
 flat [] = []
 flat (line ∷ rest) = line ++ flat rest
 
--- with no sheet each line stands as it was ..
+-- with an empty sheet each line stays
 flat-merged : (i : ℕ) (day : List (List ℕ)) → mergedFrom [] i day ≡ flat day
 unfolding flat
 flat-merged i [] = refl
@@ -23,7 +23,7 @@ flat-merged i (line ∷ rest) = go (isRow line) (flat-merged (i + 1) rest) (flat
     go true a b = ap (λ (l : List ℕ). line ++ l) a
     go false a b = ap (λ (l : List ℕ). line ++ l) b
 
--- .. and the lines are all of the text
+-- the lines of a text, one after another, are the text
 flat-pieces : (text : List ℕ) → flat (pieces text) ≡ text
 unfolding flat
 flat-pieces [] = refl

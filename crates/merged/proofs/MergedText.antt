@@ -5,27 +5,27 @@ use mathlib.Core.List.{List, _++_}
 use Prim.Native.Nat.{ℕ}
 use native.Mathlib.Omega.{arith}
 use lib.IntN.{ℤ}
-use Rattle.kinds.specs.Ranges.{allocatedItems, profiled}
-use Rattle.kinds.specs.Refusals.{passed}
+use Rattle.refusals.specs.Refusals.{passed}
+use Rattle.types.specs.Ranges.{allocatedItems, profiled}
 use Rattle.text.specs.Line.{lineAt, after}
 use Rattle.columns.specs.ColumnText.{columnsText, headText}
-use Rattle.runs.specs.Block.{linesAt}
-use Rattle.runs.proofs.BlockLaws.{blockText}
-use Rattle.runs.proofs.RunLaws.{lines-then}
+use Rattle.sections.specs.Section.{linesAt}
+use Rattle.sections.proofs.SectionLaws.{sectionText}
+use Rattle.sections.proofs.SectionRecords.{lines-then}
 use Rattle.table.specs.Table.{Table, zoneLineNo, allocatedLineNo, borderLineNo, rowLineNo}
 use Rattle.lines.specs.Lines.{zoneLine, allocatedLine, borderLine, rowLine}
 use Rattle.lines.proofs.HeaderTrip.{header-read}
 use Rattle.lines.proofs.ZoneTrip.{zone-read}
 use Rattle.lines.proofs.BorderTrip.{border-read}
 use Rattle.corrections.specs.Corrections.{pieces, handedOn}
-use Rattle.runs.specs.Rows.{asGiven}
+use Rattle.sections.specs.Rows.{asGiven}
 use Rattle.reading.specs.Reading.{linesOf, readText, readCorrected}
 use Rattle.reading.proofs.ReadLaws.{Opened, reading, nets-held, allocated-held, borders-held, rows-held}
 use Rattle.reading.proofs.CorrectedLaws.{corrected}
 use Rattle.layout.specs.Layout.{headerText, zoneText, allocatedText, borderText}
 use Rattle.writing.specs.Writing.{tableText}
-use Rattle.writing.proofs.BlockTrip.{rowLineOf, Lined, blocks, text-blocks}
-use Rattle.writing.proofs.Corrected.{merged-reads-back}
+use Rattle.trips.proofs.SectionTrip.{rowLineOf, Lined, sections, text-sections}
+use Rattle.trips.proofs.Corrected.{merged-reads-back}
 use Rattle.merged.specs.Merged.{mergedText}
 use Rattle.merged.proofs.MergedLaws.{Other, mergedAt, other-line, others-stay, rows-handed}
 
@@ -59,23 +59,23 @@ module _ (text sheet : List ℕ) (t day : Table) (o : Opened (handedOn (pieces s
     held = rows-held _ text t o .1;
   }
 
-  rows-merged : mergedAt (pieces sheet) text (o .q) 0 ≡ blockText rowLineOf 0 (o .lines)
+  rows-merged : mergedAt (pieces sheet) text (o .q) 0 ≡ sectionText rowLineOf 0 (o .lines)
   rows-merged =
       lines-then day (linesAt (rowLine (t .header .zones)) (rowLineNo (t .header)) (t .header .rows) text (o .q) 0) _ (sym (o .left asGiven) ∙ days) (λ own e own-are rest.
       rows-handed (pieces sheet) text (t .header .zones) (rowLineNo (t .header)) (t .header .rows) (o .q) 0 own e (o .lines) (o .e) own-are (o .rows-are) (o .whole))
 
-  merged-blocks : mergedText text sheet ≡ blocks t (o .lines)
+  merged-sections : mergedText text sheet ≡ sections t (o .lines)
   unfolding mergedText
-  merged-blocks =
+  merged-sections =
       let s = pieces sheet in
       let h = other-line s text 0 0 (headerText (t .header)) (header-read (lineAt text 0) (profiled (t .header) false) (o .header-is) .0) (header-other t) in
       let z = others-stay s text zoneLine zoneLineNo zoneText (λ line i net e. zone-read _ line i net e .0) zone-other 0 (t .header .zones) (after text 0) 0 (t .nets) (o .p) (o .nets-are) in
       let a = others-stay s text allocatedLine (allocatedLineNo (t .header)) allocatedText (λ line i net e. zone-read _ line i net e .0) allocated-other 0 (allocatedItems (t .header)) (o .p) 0 (t .allocated) (o .o) (o .allocated-are) in
       let b = others-stay s text (borderLine (t .header .zones)) (borderLineNo (t .header)) borderText (λ line i raw e. border-read (t .header .zones) line i raw e .0) border-other 0 (t .header .borders) (o .o) 0 (t .borders) (o .q) (o .borders-are) in
       h ∙ ap (λ (l : List ℕ). headerText (t .header) ++ l)
-      (z ∙ ap (λ (l : List ℕ). blockText zoneText 0 (t .nets) ++ l)
-      (a ∙ ap (λ (l : List ℕ). blockText allocatedText 0 (t .allocated) ++ l)
-      (b ∙ ap (λ (l : List ℕ). blockText borderText 0 (t .borders) ++ l) rows-merged)))
+      (z ∙ ap (λ (l : List ℕ). sectionText zoneText 0 (t .nets) ++ l)
+      (a ∙ ap (λ (l : List ℕ). sectionText allocatedText 0 (t .allocated) ++ l)
+      (b ∙ ap (λ (l : List ℕ). sectionText borderText 0 (t .borders) ++ l) rows-merged)))
 
 -- ---- the theorem
 -- the table that two texts give, written, is the merged text, byte for byte
@@ -84,8 +84,8 @@ merged-text text sheet t e =
     let c = corrected text sheet t e in
     let o = c .opened in
     let days = reading text (c .day) (c .read) .lines in
-    text-blocks t (o .lines) (corrected-lined text sheet t (c .day) o days) ∙ sym (merged-blocks text sheet t (c .day) o days)
+    text-sections t (o .lines) (corrected-lined text sheet t (c .day) o days) ∙ sym (merged-sections text sheet t (c .day) o days)
 
--- .. and so reading both texts is reading the merged one
+-- reading both texts is reading the merged one
 pub merged-reads : (text sheet : List ℕ) (t : Table) → readCorrected text sheet ≡ passed t → readText (mergedText text sheet) ≡ passed t
 merged-reads text sheet t e = ap readText (sym (merged-text text sheet t e)) ∙ merged-reads-back text sheet t e

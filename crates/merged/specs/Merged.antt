@@ -12,7 +12,7 @@ use Rattle.corrections.specs.Corrections.{pieces, handedOn}
 abbrev pub isRow : (line : List ℕ) → Bool
 isRow line = eqb (at line 0) (code "C")
 
--- lines of the day's text, of which the first C line is row i's: each C line as it is handed on for its row, and each other line as it stands
+-- lines of the day's text, where the first C line is row i's: each C line is replaced by the line handed on for its row, and each other line stays
 abbrev pub mergedFrom : (sheet : List (List ℕ)) → (i : ℕ) → (day : List (List ℕ)) → List ℕ
 mergedFrom sheet i [] = []
 mergedFrom sheet i (line ∷ rest) = cond (isRow line) (handedOn sheet line i ++ mergedFrom sheet (i + 1) rest) (line ++ mergedFrom sheet i rest)

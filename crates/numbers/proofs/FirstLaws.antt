@@ -33,7 +33,7 @@ find-holds (suc left) i test k e = go (test i) refl (find-holds left (i + 1) tes
     go true q ih e = ap test (some-is k i e) ∙ q
     go false q ih e = ih e
 
--- .. the test holds of it ..
+-- the test holds of what was found
 pub first-holds : (n : ℕ) (test : ℕ → Bool) {k : ℕ} → some k ≡ firstFrom n 0 test → test k ≡ true
 first-holds n test {k} e = find-holds n 0 test k e
 
@@ -47,11 +47,11 @@ find-before (suc left) i test k e j l h = go (test i) refl (find-before left (i 
     go true q ih e = let z : ⊥ = omega (arith, some-is k i e) in absurd z
     go false q ih e = ⊎-elim (λ m. subst (λ (v : ℕ). test v ≡ false) (omega arith) q) (λ m. ih e j (omega arith) h) (le-or-lt j i)
 
--- .. and of none before it
+-- the test holds of no index before what was found
 pub first-before : (n : ℕ) (test : ℕ → Bool) {k : ℕ} → some k ≡ firstFrom n 0 test → (j : ℕ) → j < k → test j ≡ false
 first-before n test {k} e j h = find-before n 0 test k e j (omega arith) h
 
--- a test that holds of some index has one
+-- an index that the test holds of, where `someBelow` says that there is one
 pub some-has : (n : ℕ) (test : ℕ → Bool) → someBelow n test ≡ true → (k : ℕ) × (k < n) × (test k ≡ true)
 unfolding given
 some-has n test e = go (firstFrom n 0 test) refl e

@@ -34,7 +34,7 @@ module _ {A : Type 0} where
       ∙ ap₂ (λ (l m : List A). take a xs ++ (l ++ m)) (sym (take-all n ys (omega arith))) (drop-drop n a xs)
       ∙ sym (append-assoc (take a xs) (take n ys) (drop (a + n) xs))
 
-  -- .. and how many items such a part has
+  -- how many items the part `&mut xs[a..a + n]` has
   pub part-long : (xs : List A) (a n : ℕ) → a + n ≤ length xs → length (take (a + n - a) (drop a xs)) ≡ n
   part-long xs a n room = length-take-le (a + n - a) (drop a xs) (simp length-drop (omega arith)) ∙ omega arith
 
@@ -61,7 +61,7 @@ module _ {A : Type 0} where
 
 -- ---- fills
 
--- a buffer that a loop fills from the front: its first i items, of n, are f's, and the rest is as it was
+-- a buffer that a loop fills from the front: its first i items, of n, are f's, and the rest is not changed
 pub record Filled {A : Type 0} (f : ℕ → A) (n : ℕ) (old out : List A) (i : ℕ) : Type 0 where
   pub high : i ≤ n
   pub so-far : out ≡ table i f ++ drop i old
@@ -72,7 +72,7 @@ unfolding table
 filled-none f n old = record { high = omega arith; so-far = refl; as-long = refl }
 
 module _ {A : Type 0} {f : ℕ → A} {n : ℕ} {old out : List A} {i : ℕ} (u : Filled f n old out i) where
-  -- what is still to be filled is as it was
+  -- what is still to be filled is not changed
   pub filled-rest : (d : A) → i < length old → getD out i d ≡ getD old i d
   filled-rest d h = rw (u .so-far, drop-cons old i d) (getD-at (table i f) (getD old i d) (drop (suc i) old) d i (table-long i f))
 
@@ -92,8 +92,12 @@ module _ {A : Type 0} {f : ℕ → A} {n : ℕ} {old out : List A} {i : ℕ} (u 
       let e : i ≡ n = omega (arith, u .high) in
       u .so-far ∙ ap (λ (j : ℕ). table j f ++ drop j old) e ∙ ap (λ (j : ℕ). table n f ++ drop j old) (sym (table-long n f))
 
-  -- .. and where the buffer has no more than n items, that is all of it
+  -- a buffer of just n items is filled whole
   pub filled-all : n ≤ i → length old ≡ n → out ≡ table n f
   filled-all h l =
       let z : length old ≤ length (table n f) = omega (arith, table-long n f) in
       filled-over h ∙ ap (λ (t : List A). table n f ++ t) (drop-of-length-le old z) ∙ append-nil (table n f)
+
+-- what fills the front of a list, of which the code drops as many items
+pub over-front : {A : Type 0} (xs new old : List A) (n : ℕ) → xs ≡ new → length new ≡ n → xs ++ drop n old ≡ over new old
+over-front xs new old n e l = rw (e, ← l)

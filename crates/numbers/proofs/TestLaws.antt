@@ -1,7 +1,7 @@
 -- What tests tell: of two that hold together, and of a test that holds of every index below a bound. No contract cites this file.
 -- `zero-one` ends a case that cannot be: `cc` has two constructors that are equal give any equation, this one too.
-use mathlib.Core.Path.{_≡_, refl, sym, ap}
-use mathlib.Core.Bool.{Bool, true, false, not, _&&_, false≢true}
+use mathlib.Core.Path.{_≡_, refl, sym, ap, _∙_}
+use mathlib.Core.Bool.{Bool, true, false, not, _&&_, _||_, false≢true}
 use mathlib.Core.Option.{Option, none, some}
 use Prim.Native.Nat.{ℕ, _<_}
 use native.Mathlib.Omega.{arith}
@@ -18,6 +18,13 @@ and-both false u e = absurd (false≢true e)
 
 pub both-and : (t u : Bool) → t ≡ true → u ≡ true → (t && u) ≡ true
 both-and t u a b = rw (a, b)
+
+pub or-neither : (t u : Bool) → (t || u) ≡ false → (t ≡ false) × (u ≡ false)
+or-neither true u e = absurd (false≢true (sym e))
+or-neither false u e = (refl, e)
+
+pub true-false : {A : Type 0} {t : Bool} → t ≡ true → t ≡ false → A
+true-false e q = absurd (false≢true (sym q ∙ e))
 
 -- ---- someBelow
 given-not : (o : Option ℕ) → given o ≡ false → o ≡ none

@@ -11,13 +11,13 @@ use lib.Dec.{leb, ltb, lit≤}
 use lib.IntN.{ℤ}
 use lib.ListN.{length}
 use Rattle.numbers.proofs.TestLaws.{zero-one}
-use Rattle.kinds.specs.declared.Header.{Header}
-use Rattle.kinds.specs.LineColumns.{headerColumns, defaultColumns}
-use Rattle.kinds.specs.Limits.{bordersLeast, bordersMost, bytesMost}
-use Rattle.kinds.specs.Ranges.{headerTestsBy, headerFits}
-use Rattle.kinds.specs.Refusals.{Judged, passed, refused, then, either, tooLong, wrongFormAt, outOfRangeAt}
-use Rattle.kinds.proofs.AllLaws.{all-at}
-use Rattle.kinds.proofs.RefusalLaws.{not-passed, then-passed, then-next}
+use Rattle.limits.specs.Limits.{bordersLeast, bordersMost, bytesMost}
+use Rattle.refusals.specs.Refusals.{Judged, passed, refused, then, either, tooLong, wrongFormAt, outOfRangeAt}
+use Rattle.refusals.proofs.RefusalLaws.{not-passed, then-passed, then-next}
+use Rattle.types.specs.declared.Header.{Header}
+use Rattle.types.specs.LineColumns.{headerColumns, defaultColumns}
+use Rattle.types.specs.Ranges.{headerTestsBy, headerFits}
+use Rattle.types.proofs.AllLaws.{all-at}
 use Rattle.text.specs.Fields.{tab}
 use Rattle.text.specs.Line.{lineAt, Line, holds, form, range}
 use Rattle.columns.specs.Columns.{Values, values, wrong}
@@ -81,11 +81,11 @@ module _ (limit larger : ℕ) (more : limit ≤ larger) where
           then-next notTwice (lines-more text (l .it) (l .first)) ∙ l .second
 
 -- ---- texts of before E8
--- they stay valid, and are the same table
+-- texts of before E8 stay valid, and are read as the same table
 pub old-text : (text : List ℕ) (t : Table) → readWithin bordersBefore text ≡ passed t → readText text ≡ passed t
 old-text text t e = sym (read-now text) ∙ read-more bordersBefore bordersMost (lit≤ {m = bordersBefore} {n = bordersMost} tt) text t e
 
--- .. with the same answer, of every border or with marks
+-- texts of before E8 have the same answer, of every border or with marks
 pub old-answer : (all : Bool) (marks text : List ℕ) (t : Table) → readWithin bordersBefore text ≡ passed t → answerFor all marks text ≡ answerWithin bordersBefore all marks text
 unfolding answerFor answerWithin
 old-answer all marks text t e = ap (λ (j : Judged Table). either (then j (outcomeFor all marks)) resultText refusalText) (old-text text t e ∙ sym e)

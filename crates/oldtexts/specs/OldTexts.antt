@@ -8,21 +8,21 @@ use Prim.Native.Nat.{ℕ}
 use lib.Dec.{ltb}
 use lib.IntN.{ℤ}
 use lib.ListN.{length}
-use Rattle.kinds.specs.declared.Header.{Header}
-use Rattle.kinds.specs.LineColumns.{headerColumns, defaultColumns}
-use Rattle.kinds.specs.Limits.{bytesMost}
-use Rattle.kinds.specs.Ranges.{allTrue, headerTestsBy, profiled}
-use Rattle.kinds.specs.Refusals.{Judged, refused, then, either, tooLong}
+use Rattle.limits.specs.Limits.{bytesMost}
+use Rattle.refusals.specs.Refusals.{Judged, refused, then, either, tooLong}
+use Rattle.types.specs.declared.Header.{Header}
+use Rattle.types.specs.LineColumns.{headerColumns, defaultColumns}
+use Rattle.types.specs.Ranges.{allTrue, headerTestsBy, profiled}
 use Rattle.text.specs.Fields.{tab}
 use Rattle.text.specs.Line.{lineAt, after, Line}
 use Rattle.columns.specs.ColumnLine.{judged}
 use Rattle.columns.specs.declared.Head.the-variants.{Lettered}
 use Rattle.columns.specs.Optional.{optionalLine}
 use Rattle.blame.specs.RangeBlame.{rangeByte}
-use Rattle.runs.specs.Block.{linesAt, withLines}
+use Rattle.sections.specs.Section.{linesAt, withLines}
 use Rattle.table.specs.Table.{Table, notTwice, zoneLineNo}
 use Rattle.lines.specs.Lines.{headerOf, headerBad, zoneLine}
-use Rattle.runs.specs.Rows.{asGiven}
+use Rattle.sections.specs.Rows.{asGiven}
 use Rattle.reading.specs.Reading.{withHeader, intradayAt, allocatedFrom}
 use Rattle.extraction.specs.Extraction.{outcomeFor}
 use Rattle.result.specs.Refusal.{refusalText}
@@ -32,7 +32,7 @@ use Rattle.answer.specs.Result.{resultText}
 abbrev pub bordersBefore : ℕ
 bordersBefore = 40
 
--- a header in range (kinds: `headerFits`)
+-- a header in range (types: `headerFits`)
 abbrev pub fitsBy : (limit : ℕ) → Header → Bool
 fitsBy limit h = allTrue (headerTestsBy limit h)
 

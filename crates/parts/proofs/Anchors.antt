@@ -5,7 +5,7 @@ use Prim.Native.Nat.{ℕ}
 use lib.IntN.{ℤ, pos}
 use Rattle.numbers.specs.Below.{ifZero, sum, count, table, firstFrom, given}
 use Rattle.numbers.specs.Ints.{minus, maxℤ, minℤ, positivePart, sameℤ, sumℤ}
-use Rattle.kinds.specs.Ranges.{hubsOf, borderOf, shareOf, rowOf, worth, defaultOf}
+use Rattle.types.specs.Ranges.{hubsOf, borderOf, shareOf, rowOf, worth, defaultOf}
 use Rattle.table.specs.Table.{Table, stretch}
 use Rattle.margin.specs.Margin.{grains, f0coreOf, fuafOf, baseOf, amrOf, signedFactor, pOf, ltaKw, sOf, ltaMarginOf, ramOf, ramAt}
 use Rattle.states.specs.States.{highest, lowest, spreadOf, shifted, below, stateOf}
@@ -55,7 +55,7 @@ pub record Anchors : Type 0 where
   -- row 3, of state 2
   pub stood-for : recordOf (partsOf hour 3)
       ≡ pos 2 ∷ pos 2 ∷ pos 0 ∷ pos 0 ∷ pos 100000000000 ∷ pos 0 ∷ pos 4000000000 ∷ pos 0 ∷ pos 0 ∷ pos 0 ∷ pos 100000000000 ∷ pos 96000000000 ∷ []
-  -- the LTA margin lifts RAM to S; CVA 2 and IVA 1 are 200000 and 100000 grains, and RAM - S is then below 0: the extraction refuses (7), and this does not
+  -- the LTA margin lifts RAM to S; CVA 2 and IVA 1 are 200000 and 100000 grains, and RAM - S is then below 0: the extraction refuses (7), and `margins` does not
   pub lifted : recordOf (partsOf (small 0 [] (pos 2) (pos 1)) 0)
       ≡ pos 0 ∷ pos 1 ∷ pos 0 ∷ pos 0 ∷ pos 1000000000 ∷ pos 0 ∷ pos 2000000000 ∷ pos 1000000000 ∷ pos 200000 ∷ pos 100000 ∷ pos 1999700000 ∷ minus 300000 ∷ []
   -- intraday: RAM 2e9 less 20000 x 60000, and less 20000 x 110000, which is taken as 0

@@ -1,5 +1,2 @@
 pub mod Anchors
 pub mod PartsLaws
-pub mod Theorems
-pub mod OfTheRounds
-pub mod Unique

@@ -8,31 +8,31 @@ use lib.IntN.{ℤ}
 use lib.ListN.{length, getD}
 use Rattle.numbers.specs.Below.{at, table, over}
 use Rattle.numbers.proofs.BelowLaws.{count-le, table-get, table-cong}
-use Rattle.kinds.specs.declared.Header.{Header}
-use Rattle.kinds.specs.declared.Judgement.{Judgement}
-use Rattle.kinds.specs.declared.Judgement.the-variants.{Passed, Refused}
-use Rattle.kinds.specs.declared.Refusal.{Refusal}
-use Rattle.kinds.specs.declared.Row.{Row}
-use Rattle.kinds.specs.Answers.{ruled}
-use Rattle.kinds.specs.Limits.{bordersMost}
-use Rattle.kinds.specs.Ranges.{atℤ, isIntraday, borderOf, rowOf, defaultOf}
-use Rattle.kinds.specs.Refusals.{passed, refused, tooShort}
-use Rattle.kinds.proofs.RefusalLaws.{then-next, then-refused, either-passed, either-refused, need-enough, need-short}
+use Rattle.limits.specs.Limits.{bordersMost}
+use Rattle.refusals.specs.declared.Judgement.{Judgement}
+use Rattle.refusals.specs.declared.Judgement.the-variants.{Passed, Refused}
+use Rattle.refusals.specs.declared.Refusal.{Refusal}
+use Rattle.refusals.specs.Answers.{saidJudgement}
+use Rattle.refusals.specs.Refusals.{passed, refused, tooShort}
+use Rattle.refusals.proofs.RefusalLaws.{then-next, then-refused, either-passed, either-refused, need-enough, need-short}
+use Rattle.types.specs.declared.Header.{Header}
+use Rattle.types.specs.declared.Row.{Row}
+use Rattle.types.specs.Ranges.{atℤ, isIntraday, borderOf, rowOf, defaultOf}
 use Rattle.table.specs.declared.Room.the-variants.{None}
 use Rattle.table.specs.Table.{Table, front, stretch, judgeLent}
 use Rattle.table.specs.Good.{Good}
 use Rattle.table.proofs.GoodLaws.{told-judged}
-use Rattle.margin.specs.Bounds.{BordersBound}
+use Rattle.margin.specs.Magnitudes.{BordersInRange}
 use Rattle.margin.specs.Margin.{pOf, f0coreOf, sOf, ramAt, marginOf, ramsOf, startsOf}
 use Rattle.margin.proofs.JudgedLaws.{good-factors, good-borders, good-nets}
 use Rattle.states.specs.States.{stateOf}
-use Rattle.states.specs.Rows.{Rows, rowsOf, rowsWith}
-use Rattle.states.proofs.RowsLaws.{rows-in}
+use Rattle.states.specs.Standings.{Standings, standingsOf, standingsWith}
+use Rattle.states.proofs.StandingsLaws.{rows-in}
 use Rattle.parts.specs.Parts.{nOf, startFrom, partsOf, recordOf, recordsOf, leaves, marginsLeft}
 use Rattle.parts.specs.Stored.{partsBy, partsAt, Storable}
 
 -- ---- n
-pub n-few : (factors : List ℤ) {borders : List (List ℤ)} {n zones : ℕ} → BordersBound zones borders → n ≡ nOf factors borders → n ≤ bordersMost
+pub n-few : (factors : List ℤ) {borders : List (List ℤ)} {n zones : ℕ} → BordersInRange zones borders → n ≡ nOf factors borders → n ≤ bordersMost
 unfolding nOf
 n-few factors {borders} h e = omega (arith, e, count-le (length borders) (λ b. pOf factors (borderOf (getD borders b []))), h .few)
 
@@ -49,15 +49,15 @@ module _ (h : Header) (nets : List ℤ) (borders rows : List (List ℤ)) (factor
   stored-at d u e s = cc
 
 -- ---- each row, by the lists that were filled in
-module _ (t : Table) {rams starts : List ℤ} {states : List ℕ} (r : rowsWith rams states ≡ rowsOf t) (s : starts ≡ startsOf t) where
+module _ (t : Table) {rams starts : List ℤ} {states : List ℕ} (r : standingsWith rams states ≡ standingsOf t) (s : starts ≡ startsOf t) where
   state-at : (i : ℕ) → i < t .header .rows → at states i ≡ stateOf (t .header) (t .factors) (ramsOf t) i
-  unfolding rowsOf
-  state-at i h = ap (λ (m : Rows). at (m .states) i) r ∙ table-get (t .header .rows) (stateOf (t .header) (t .factors) (ramsOf t)) i 0 h
+  unfolding standingsOf
+  state-at i h = ap (λ (m : Standings). at (m .states) i) r ∙ table-get (t .header .rows) (stateOf (t .header) (t .factors) (ramsOf t)) i 0 h
 
   row-is : (i : ℕ) → i < t .header .rows → recordOf (partsAt (t .header) (t .nets) (t .borders) (t .rows) (t .factors) rams starts states i) ≡ recordOf (partsOf t i)
-  unfolding partsOf rowsOf
+  unfolding partsOf standingsOf
   row-is i h =
-      let ram : atℤ rams i ≡ ramAt t i = ap (λ (m : Rows). atℤ (m .rams) i) r ∙ table-get (t .header .rows) (ramAt t) i _ h in
+      let ram : atℤ rams i ≡ ramAt t i = ap (λ (m : Standings). atℤ (m .rams) i) r ∙ table-get (t .header .rows) (ramAt t) i _ h in
       let start : atℤ starts i ≡ marginOf t i = ap (λ (l : List ℤ). atℤ l i) s ∙ table-get (t .header .rows) (marginOf t) i _ h in
       rw (state-at i h, ram, start)
 
@@ -73,16 +73,16 @@ module _ (t : Table) {rams starts : List ℤ} {states : List ℕ} (r : rowsWith 
         rows-long = good .exact .rows-long;
         rows-in = good .rows-fit;
         factors-in = good-factors good;
-        states-in = rows-in t (rowsWith rams states) r .states-in;
+        states-in = rows-in t (standingsWith rams states) r .states-in;
       }
 
 -- ---- what is left
-module _ (given : Table) (r : Judgement) (said : ruled r (front given) ≡ judgeLent given) (out : List (List ℤ)) where
-  pub margins-refused : (w : Refusal) → r ≡ Refused w → leaves (ruled r tt) out ≡ marginsLeft given out
+module _ (given : Table) (r : Judgement) (said : saidJudgement r (front given) ≡ judgeLent given) (out : List (List ℤ)) where
+  pub margins-refused : (w : Refusal) → r ≡ Refused w → leaves (saidJudgement r tt) out ≡ marginsLeft given out
   unfolding marginsLeft
   margins-refused w e =
-      ap (λ (j : Judgement). leaves (ruled j tt) out) e
-      ∙ sym (either-refused _ _ (then-refused _ (sym said ∙ ap (λ (j : Judgement). ruled j (front given)) e)))
+      ap (λ (j : Judgement). leaves (saidJudgement j tt) out) e
+      ∙ sym (either-refused _ _ (then-refused _ (sym said ∙ ap (λ (j : Judgement). saidJudgement j (front given)) e)))
 
   module _ (e : r ≡ Passed) where
     pub margins-short : length out < given .header .rows → leaves (refused (tooShort (given .header .rows))) out ≡ marginsLeft given out

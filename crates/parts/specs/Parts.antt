@@ -7,14 +7,14 @@ use lib.IntN.{ℤ, pos}
 use lib.ListN.{length, getD}
 use Rattle.numbers.specs.Ints.{maxℤ}
 use Rattle.numbers.specs.Below.{count, table, over}
-use Rattle.kinds.specs.Ranges.{isIntraday, borderOf, defaultOf}
-use Rattle.kinds.specs.Refusals.{Judged, passed, refused, then, either, need}
+use Rattle.refusals.specs.Refusals.{Judged, passed, refused, then, either, need}
+use Rattle.types.specs.Ranges.{isIntraday, borderOf, defaultOf}
 use Rattle.table.specs.Table.{Table, rowAt, factorsAt, judgeLent}
 use Rattle.margin.specs.Margin.{grains, fuafOf, baseOf, amrOf, pOf, ltaMarginOf, sAt, ramAt, ramsOf, marginOf}
 use Rattle.margin.specs.Small.{f0coreAt}
 use Rattle.states.specs.States.{stateOf}
 
--- under 01's names, in the order of a record; state and n are plain numbers, the others grains
+-- the parts of a row's margin under 01's names, in the order of a record; state and n are plain numbers, the others grains
 pub record Parts : Type 0 where
   pub state : ℕ
   pub n : ℕ
@@ -64,7 +64,7 @@ abbrev pub recordOf : Parts → List ℤ
 recordOf m =
     pos (m .state) ∷ pos (m .n) ∷ m .f0core ∷ m .fuaf ∷ m .base ∷ m .amr ∷ pos (m .s) ∷ m .lta-margin ∷ m .cva ∷ m .iva ∷ m .ram ∷ m .start ∷ []
 
--- .. and of each row
+-- the records of all rows
 abbrev pub recordsOf : Table → List (List ℤ)
 recordsOf t = table (t .header .rows) (λ i. recordOf (partsOf t i))
 

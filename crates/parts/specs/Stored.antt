@@ -6,12 +6,12 @@ use Prim.Native.Nat.{ℕ, _<_, _≤_}
 use lib.IntN.{ℤ}
 use lib.ListN.{length, getD}
 use Rattle.numbers.specs.Below.{at}
-use Rattle.kinds.specs.declared.Header.{Header}
-use Rattle.kinds.specs.declared.Row.{Row}
-use Rattle.kinds.specs.Ranges.{atℤ, headerFits, isIntraday, rowFits, rowOf, defaultOf}
+use Rattle.types.specs.declared.Header.{Header}
+use Rattle.types.specs.declared.Row.{Row}
+use Rattle.types.specs.Ranges.{atℤ, headerFits, isIntraday, rowFits, rowOf, defaultOf}
 use Rattle.table.specs.Table.{stretch}
 use Rattle.margin.specs.Margin.{grains, f0coreOf, fuafOf, baseOf, amrOf, sOf, ltaMarginOf}
-use Rattle.margin.specs.Bounds.{TableFactorsBound, NetsBound, BordersBound}
+use Rattle.margin.specs.Magnitudes.{TableFactorsInRange, NetsInRange, BordersInRange}
 use Rattle.parts.specs.Parts.{Parts, nOf, startFrom}
 
 abbrev pub partsBy : (default : ℤ) → Row → (f0core : ℤ) → (s n state : ℕ) → (ram start : ℤ) → Parts
@@ -40,9 +40,9 @@ partsAt h nets borders rows factors rams starts states i =
 -- what storing the records of all rows asks
 pub record Storable (h : Header) (nets : List ℤ) (borders rows : List (List ℤ)) (factors : List ℤ) (states : List ℕ) : Type 0 where
   pub header : headerFits h ≡ true
-  pub nets-in : NetsBound (h .zones) nets
-  pub borders-in : BordersBound (h .zones) borders
+  pub nets-in : NetsInRange (h .zones) nets
+  pub borders-in : BordersInRange (h .zones) borders
   pub rows-long : length rows ≡ h .rows
   pub rows-in : (i : ℕ) → i < h .rows → rowFits (getD rows i []) ≡ true
-  pub factors-in : TableFactorsBound h factors
+  pub factors-in : TableFactorsInRange h factors
   pub states-in : (i : ℕ) → i < h .rows → at states i ≤ 2

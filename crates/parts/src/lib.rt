@@ -6,16 +6,16 @@ ghost use mathlib.Core.Path.{_≡_};
 ghost use Prim.Native.Nat.{_≤_};
 ghost use lib.ListN.{length};
 ghost use Rattle.numbers.specs.Below.{table, over};
-ghost use Rattle.kinds.specs.Answers.{ruled};
+ghost use Rattle.refusals.specs.Answers.{saidJudgement};
 ghost use Rattle.table.specs.Table.{lent, front};
 ghost use Rattle.table.specs.Good.{Good};
 ghost use Rattle.parts.specs.Parts.{recordOf, recordsOf, leaves, marginsLeft};
 ghost use Rattle.parts.specs.Stored.{partsAt, Storable};
-use kinds::BorderRecord;
-use kinds::Header;
-use kinds::Judgement;
-use kinds::Refusal;
-use kinds::RowRecord;
+use refusals::Judgement;
+use refusals::Refusal;
+use types::BorderRecord;
+use types::Header;
+use types::RowRecord;
 
 // State, n, F0core, Fuaf, Base, AMR, S, LTA margin, CVA, IVA, RAM, starting margin; grains, but for state and n.
 pub const ITEMS: usize = 12;
@@ -32,7 +32,7 @@ pub fn margins(
     f: &[i64],
     out: &mut [PartsRecord],
 ) -> Judgement
-    ensures { λ r. ⌜ leaves (ruled r tt) (now (out .exit)) ≡ marginsLeft (lent h (now (z .entry)) (now (t .entry)) (now (b .entry)) (now (c .entry)) (now (f .entry))) (now (out .entry)) ⌝ }
+    ensures { λ r. ⌜ leaves (saidJudgement r tt) (now (out .exit)) ≡ marginsLeft (lent h (now (z .entry)) (now (t .entry)) (now (b .entry)) (now (c .entry)) (now (f .entry))) (now (out .entry)) ⌝ }
 {
     let judged = table::judge(h, z, t, b, c, f, table::Room::None);
     let Judgement::Passed = judged else {
@@ -46,7 +46,7 @@ pub fn margins(
     Judgement::Passed
 }
 
-// .. of a good table. The room to work in is made here, and not in `fill_parts`, whose goals would spell it out.
+// The records of a good table's rows. Allocates the arrays here so that the proof goals of `fill_parts` do not contain them.
 pub fn margins_good(
     h: Header,
     z: &[i64],
@@ -61,9 +61,9 @@ pub fn margins_good(
     ensures { λ _. ⌜ now (out .exit) ≡ over (recordsOf (front (lent h (now (z .entry)) (now (t .entry)) (now (b .entry)) (now (c .entry)) (now (f .entry))))) (now (out .entry)) ⌝ }
 {
     let rows = h.rows;
-    let mut rams: [i64; Header::ROWS_MOST] = [0; Header::ROWS_MOST];
-    let mut starts: [i64; Header::ROWS_MOST] = [0; Header::ROWS_MOST];
-    let mut states: [u64; Header::ROWS_MOST] = [0; Header::ROWS_MOST];
+    let mut rams: [i64; limits::ROWS_MOST] = [0; limits::ROWS_MOST];
+    let mut starts: [i64; limits::ROWS_MOST] = [0; limits::ROWS_MOST];
+    let mut states: [u64; limits::ROWS_MOST] = [0; limits::ROWS_MOST];
     fill_parts(
         h,
         z,

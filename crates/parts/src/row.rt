@@ -1,16 +1,17 @@
 // What one row's margin is made of, in grains: each value by the function of crate margin that computes it for the extraction.
 use crate::PartsRecord;
-use kinds::BorderRecord;
-use kinds::Row;
-use kinds::RowRecord;
+use types::BorderRecord;
+use types::Row;
+use types::RowRecord;
 ghost use mathlib.Core.Path.{_≡_};
 ghost use mathlib.Core.Bool.{true};
 ghost use Prim.Native.Nat.{_≤_};
 ghost use lib.ListN.{length};
 ghost use Rattle.numbers.specs.Ints.{Within};
-ghost use Rattle.kinds.specs.Limits.{shareMost, bordersMost};
-ghost use Rattle.kinds.specs.Ranges.{borderFits, borderOf, rowFits, rowOf};
-ghost use Rattle.margin.specs.Bounds.{RowBound, FactorsBound, NetsBound, BordersBound, f0coreMost, sMost};
+ghost use Rattle.limits.specs.Limits.{bordersMost};
+ghost use Rattle.types.specs.LineLimits.{shareMost};
+ghost use Rattle.types.specs.Ranges.{borderFits, borderOf, rowFits, rowOf};
+ghost use Rattle.margin.specs.Magnitudes.{RowInRange, FactorsInRange, NetsInRange, BordersInRange, f0coreMost, sMost};
 ghost use Rattle.margin.specs.Margin.{pOf, f0coreOf, sOf};
 ghost use Rattle.parts.specs.Parts.{nOf, startFrom, recordOf};
 ghost use Rattle.parts.specs.Stored.{partsBy};
@@ -28,20 +29,20 @@ pub fn row_parts(
 ) -> PartsRecord
     requires { ⌜ Within shareMost default ⌝ }
     requires { ⌜ rowFits raw ≡ true ⌝ }
-    requires { ⌜ FactorsBound (now factors) ⌝ }
-    requires { ⌜ NetsBound (length (now factors)) (now z) ⌝ }
-    requires { ⌜ BordersBound (length (now factors)) (now b) ⌝ }
+    requires { ⌜ FactorsInRange (now factors) ⌝ }
+    requires { ⌜ NetsInRange (length (now factors)) (now z) ⌝ }
+    requires { ⌜ BordersInRange (length (now factors)) (now b) ⌝ }
     requires { ⌜ state ≤ 2 ⌝ }
     ensures { λ r. ⌜ r ≡ recordOf (partsBy default (rowOf raw) (f0coreOf (rowOf raw) (now (factors .entry)) (now (z .entry))) (sOf (now (factors .entry)) (now (b .entry))) (nOf (now (factors .entry)) (now (b .entry))) state ram start) ⌝ }
 {
-    let row = Row::judged(raw);
+    let row = Row::of_good(raw);
     let f0core = margin::f0core(row, factors, z);
     let s = margin::s(factors, b);
     let n = count_loading(factors, b);
     as_record(default, row, f0core, s, n, state, ram, start)
 }
 
-// What F0core and S give besides, and all of it as a record.
+// The record: the given values, and those that are computed from F0core and S.
 fn as_record(
     default: i64,
     row: Row,
@@ -53,7 +54,7 @@ fn as_record(
     start: i64,
 ) -> PartsRecord
     requires { ⌜ Within shareMost default ⌝ }
-    requires { ⌜ RowBound row ⌝ }
+    requires { ⌜ RowInRange row ⌝ }
     requires { ⌜ Within f0coreMost f0core ⌝ }
     requires { ⌜ (s ≤ sMost) × (n ≤ bordersMost) × (state ≤ 2) ⌝ }
     ensures { λ r. ⌜ r ≡ recordOf (partsBy default row f0core s n state ram start) ⌝ }
@@ -82,8 +83,8 @@ fn as_record(
 
 // n: how many borders have p > 0 on the row.
 fn count_loading(factors: &[i64], b: &[BorderRecord]) -> u64
-    requires { ⌜ FactorsBound (now factors) ⌝ }
-    requires { ⌜ BordersBound (length (now factors)) (now b) ⌝ }
+    requires { ⌜ FactorsInRange (now factors) ⌝ }
+    requires { ⌜ BordersInRange (length (now factors)) (now b) ⌝ }
     ensures { λ r. ⌜ r ≡ nOf (now (factors .entry)) (now (b .entry)) ⌝ }
 {
     let mut n: u64 = 0;
@@ -97,11 +98,11 @@ fn count_loading(factors: &[i64], b: &[BorderRecord]) -> u64
 
 // p of the row at a judged border.
 fn p_at(factors: &[i64], raw: BorderRecord) -> u64
-    requires { ⌜ FactorsBound (now factors) ⌝ }
+    requires { ⌜ FactorsInRange (now factors) ⌝ }
     requires { ⌜ borderFits (length (now factors)) raw ≡ true ⌝ }
     ensures { λ r. ⌜ r ≡ pOf (now (factors .entry)) (borderOf raw) ⌝ }
 {
-    margin::p(factors, kinds::Border::judged(factors.len(), raw))
+    margin::p(factors, types::Border::of_good(factors.len(), raw))
 }
 
 // The starting margin, from where the margin starts: in the intraday profile a remainder below 0 counts as 0.

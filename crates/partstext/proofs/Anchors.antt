@@ -3,14 +3,14 @@ use mathlib.Core.Path.{_≡_, refl}
 use mathlib.Core.List.{[], _∷_}
 use lib.IntN.{pos}
 use Rattle.numbers.specs.Ints.{minus}
-use Rattle.text.specs.Sheets.{sheet}
+use Rattle.text.specs.Shown.{shown}
 use Rattle.text.specs.Written.{textOf, decimal, decimalℤ, linesText}
 use Rattle.columns.specs.ColumnText.{fieldText, fieldsEnded, indexText, headText, columnsText}
 use Rattle.partstext.specs.PartsText.{partsText, partsMost}
 
 pub record Anchors : Type 0 where
   -- a row with a Fuaf and a starting margin below 0
-  pub line : partsText ((pos 1 ∷ pos 2 ∷ pos 3 ∷ minus 4 ∷ pos 5 ∷ pos 6 ∷ pos 7 ∷ pos 8 ∷ pos 9 ∷ pos 10 ∷ pos 11 ∷ minus 12 ∷ []) ∷ []) ≡ sheet "V 0 1 2 3 -4 5 6 7 8 9 10 11 -12/"
+  pub line : partsText ((pos 1 ∷ pos 2 ∷ pos 3 ∷ minus 4 ∷ pos 5 ∷ pos 6 ∷ pos 7 ∷ pos 8 ∷ pos 9 ∷ pos 10 ∷ pos 11 ∷ minus 12 ∷ []) ∷ []) ≡ shown "V 0 1 2 3 -4 5 6 7 8 9 10 11 -12/"
   -- the code's `TEXT_MOST`
   pub most : partsMost ≡ 42000
 

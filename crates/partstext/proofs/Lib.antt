@@ -1,3 +1,2 @@
 pub mod Anchors
 pub mod PartsTextLaws
-pub mod Unique

@@ -12,15 +12,15 @@ use Rattle.numbers.specs.Below.{over}
 use Rattle.numbers.specs.Ints.{Within}
 use Rattle.numbers.proofs.BelowLaws.{table-long, table-get}
 use Rattle.numbers.proofs.IntLaws.{within-pos, within-max}
-use Rattle.kinds.specs.declared.Judgement.{Judgement}
-use Rattle.kinds.specs.declared.Judgement.the-variants.{Passed, Refused}
-use Rattle.kinds.specs.declared.Refusal.{Refusal}
-use Rattle.kinds.specs.Answers.{ruled}
-use Rattle.kinds.specs.Limits.{bordersMost, rowsMost}
-use Rattle.kinds.specs.Ranges.{isIntraday}
-use Rattle.kinds.specs.Refusals.{Judged, passed, refused}
-use Rattle.kinds.proofs.KindLaws.{header-in}
-use Rattle.kinds.proofs.RefusalLaws.{then-next, then-refused}
+use Rattle.limits.specs.Limits.{bordersMost, rowsMost}
+use Rattle.refusals.specs.declared.Judgement.{Judgement}
+use Rattle.refusals.specs.declared.Judgement.the-variants.{Passed, Refused}
+use Rattle.refusals.specs.declared.Refusal.{Refusal}
+use Rattle.refusals.specs.Answers.{saidJudgement}
+use Rattle.refusals.specs.Refusals.{Judged, passed, refused}
+use Rattle.refusals.proofs.RefusalLaws.{then-next, then-refused}
+use Rattle.types.specs.Ranges.{isIntraday}
+use Rattle.types.proofs.RangeLaws.{header-in}
 use Rattle.text.specs.Fields.{tab}
 use Rattle.text.specs.Left.{TextLeft, textLeft}
 use Rattle.text.proofs.LeftLaws.{text-refused}
@@ -33,10 +33,10 @@ use Rattle.table.specs.declared.Room.the-variants.{None}
 use Rattle.table.specs.Table.{Table, front, factorsAt, judgeLent}
 use Rattle.table.specs.Good.{Good}
 use Rattle.table.proofs.GoodLaws.{told-judged}
-use Rattle.margin.specs.Bounds.{startBits}
+use Rattle.margin.specs.Magnitudes.{startBits}
 use Rattle.margin.specs.Margin.{ramsOf}
-use Rattle.margin.proofs.BoundLaws.{within-grains}
-use Rattle.margin.proofs.JudgedLaws.{row-bound, good-borders}
+use Rattle.margin.proofs.MagnitudeLaws.{within-grains}
+use Rattle.margin.proofs.JudgedLaws.{row-ranges, good-borders}
 use Rattle.margin.proofs.Small.{start-in, named-values-small}
 use Rattle.states.proofs.StateLaws.{state-most}
 use Rattle.parts.specs.Parts.{Parts, nOf, startFrom, partsOf, recordOf, recordsOf}
@@ -67,7 +67,7 @@ pub parts-small : {t : Table} → Good t → (i : ℕ) → i < t .header .rows �
 unfolding partsOf
 parts-small {t} good i h =
     let v = named-values-small good i h in
-    let row = row-bound (getD (t .rows) i []) (good .rows-fit i h) in
+    let row = row-ranges (getD (t .rows) i []) (good .rows-fit i h) in
     let few : nOf (factorsAt t i) (t .borders) ≤ bordersMost = n-few (factorsAt t i) (good-borders good) refl in
     record {
       state = omega (arith, state-most (t .header) (t .factors) (ramsOf t) i);
@@ -115,7 +115,7 @@ module _ {t : Table} (good : Good t) where
       let below : i < t .header .rows = omega (arith, table-long (t .header .rows) (λ i. recordOf (partsOf t i))) in
       rw (table-get (t .header .rows) (λ i. recordOf (partsOf t i)) i [] below) (line-most i (partsOf t i) (omega (arith, records-few)) (parts-small good i below))
 
-  -- so many bytes are always enough
+  -- the text is never longer than `partsMost`
   pub parts-text-most : length (partsText (recordsOf t)) ≤ partsMost
   parts-text-most = omega (arith, lines-most (partsLineAt (recordsOf t)) (length (recordsOf t)) lines-short, records-few)
 
@@ -134,10 +134,10 @@ module _ {t : Table} (good : Good t) where
     records-short = subst (λ (rs : List (List ℤ)). (length rs ≤ rowsMost) × ((i : ℕ) → i < length rs → length (partsLineAt rs i) ≤ partsLineMost)) (sym records-first) (records-few, lines-short)
 
 -- ---- what is left
-module _ (given : Table) (r : Judgement) (said : ruled r (front given) ≡ judgeLent given) (out : List ℕ) where
+module _ (given : Table) (r : Judgement) (said : saidJudgement r (front given) ≡ judgeLent given) (out : List ℕ) where
   pub text-judged-not : (w : Refusal) → r ≡ Refused w → _≡_ {A = TextLeft} (record { answer = refused w; out = out }) (marginsTextLeft given out)
   unfolding marginsTextLeft
-  text-judged-not w e = text-refused out (then-refused _ (sym said ∙ ap (λ (j : Judgement). ruled j (front given)) e))
+  text-judged-not w e = text-refused out (then-refused _ (sym said ∙ ap (λ (j : Judgement). saidJudgement j (front given)) e))
 
   pub text-judged : r ≡ Passed → textLeft (passed (partsText (recordsOf (front given)))) out ≡ marginsTextLeft given out
   unfolding marginsTextLeft

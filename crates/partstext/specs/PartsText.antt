@@ -4,9 +4,9 @@ use Prim.Native.Char.{code}
 use Prim.Native.Nat.{ℕ, _+_, _*_}
 use lib.IntN.{ℤ}
 use lib.ListN.{length, getD}
-use Rattle.kinds.specs.Limits.{rowsMost}
-use Rattle.kinds.specs.LineColumns.{Column, number, signed}
-use Rattle.kinds.specs.Refusals.{passed, then}
+use Rattle.limits.specs.Limits.{rowsMost}
+use Rattle.refusals.specs.Refusals.{passed, then}
+use Rattle.types.specs.LineColumns.{Column, number, signed}
 use Rattle.text.specs.Fields.{tab}
 use Rattle.text.specs.Left.{TextLeft, textLeft}
 use Rattle.text.specs.Written.{linesText}
@@ -39,7 +39,7 @@ partsLine i raw = columnsText tab (Indexed (code "V") i) partsColumns raw
 abbrev pub partsLineAt : (records : List (List ℤ)) → (i : ℕ) → List ℕ
 partsLineAt records i = partsLine i (getD records i [])
 
--- .. for each row
+-- a V line for each row
 abbrev pub partsText : (records : List (List ℤ)) → List ℕ
 partsText records = linesText (length records) 0 (partsLineAt records)
 
@@ -47,10 +47,10 @@ partsText records = linesText (length records) 0 (partsLineAt records)
 abbrev pub partsLineMost : ℕ
 partsLineMost = 2 + 4 + 12 * 17
 
--- .. and no text: so many bytes are always enough
+-- no text is longer: so many bytes are always enough
 abbrev pub partsMost : ℕ
 partsMost = rowsMost * partsLineMost
 
--- refusals as for the records, whose room is never short here, and then room for the bytes of the text
+-- refusals as for the records, except that room for records is never short here; and then room for the bytes of the text
 unfoldable pub marginsTextLeft : (given : Table) → (out : List ℕ) → TextLeft
 marginsTextLeft given out = textLeft (then (judgeLent given) (λ t. passed (partsText (recordsOf t)))) out

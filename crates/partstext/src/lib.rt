@@ -3,8 +3,8 @@
 ghost use mathlib.Core.Path.{_≡_};
 ghost use Prim.Native.Nat.{ℕ, _+_, _<_, _≤_};
 ghost use lib.ListN.{length};
-ghost use Rattle.kinds.specs.Limits.{rowsMost};
-ghost use Rattle.kinds.specs.Refusals.{passed};
+ghost use Rattle.limits.specs.Limits.{rowsMost};
+ghost use Rattle.refusals.specs.Refusals.{passed};
 ghost use Rattle.text.specs.Left.{textLeft, textSaid};
 ghost use Rattle.text.specs.Put.{Put};
 ghost use Rattle.table.specs.Table.{lent, front};
@@ -12,13 +12,13 @@ ghost use Rattle.table.specs.Good.{Good};
 ghost use Rattle.parts.specs.Parts.{recordsOf};
 ghost use Rattle.partstext.specs.PartsText.{partsLine, partsLineAt, partsLineMost, partsText, marginsTextLeft};
 use columns::Head;
-use kinds::BorderRecord;
-use kinds::Header;
-use kinds::Judgement;
-use kinds::Refusal;
-use kinds::RowRecord;
-use kinds::Written;
 use parts::PartsRecord;
+use refusals::Judgement;
+use refusals::Refusal;
+use refusals::Written;
+use types::BorderRecord;
+use types::Header;
+use types::RowRecord;
 
 // The columns of a V line after its index: n a number, s a signed number.
 pub const COLUMNS: [u8; parts::ITEMS] = *b"nnsssnnnnnss";
@@ -26,10 +26,10 @@ pub const COLUMNS: [u8; parts::ITEMS] = *b"nnsssnnnnnss";
 // No line has more bytes: a letter, an index of up to 3 digits, numbers of up to 15 digits and a minus, and a tab or the LF after each.
 const LINE_MOST: usize = 2 + 4 + parts::ITEMS * 17;
 
-// No text has more bytes: so many suffice a caller that lends room for any.
-pub const TEXT_MOST: usize = Header::ROWS_MOST * LINE_MOST;
+// No text has more bytes: a caller that lends so many has room for any.
+pub const TEXT_MOST: usize = limits::ROWS_MOST * LINE_MOST;
 
-// Any input has an answer: there is no `requires`.
+// What the margins of a lent table's rows are made of, as text. Any input has an answer: there is no `requires`.
 pub fn margins_text(
     h: Header,
     z: &[i64],
@@ -47,7 +47,7 @@ pub fn margins_text(
     margins_text_good(h, z, t, b, c, f, out)
 }
 
-// .. of a good table. The records stand in working memory, which has room for every table.
+// What the margins of a good table's rows are made of, as text. The records stand in working memory, which has room for every table.
 pub fn margins_text_good(
     h: Header,
     z: &[i64],
@@ -60,13 +60,13 @@ pub fn margins_text_good(
     requires { ⌜ Good (front (lent h (now z) (now t) (now b) (now c) (now f))) ⌝ }
     ensures { λ r. ⌜ textSaid r (now (out .exit)) ≡ textLeft (passed (partsText (recordsOf (front (lent h (now (z .entry)) (now (t .entry)) (now (b .entry)) (now (c .entry)) (now (f .entry))))))) (now (out .entry)) ⌝ }
 {
-    let mut records = [[0i64; parts::ITEMS]; Header::ROWS_MOST];
+    let mut records = [[0i64; parts::ITEMS]; limits::ROWS_MOST];
     parts::margins_good(h, z, t, b, c, f, &mut records);
     let rows = h.rows;
     write_parts(&records[..rows], out)
 }
 
-// What is left to judge is the room for the text.
+// Only the room for the text is left to judge.
 fn write_parts(records: &[PartsRecord], out: &mut [u8]) -> Written
     requires { ⌜ length (now records) ≤ rowsMost ⌝ }
     requires { ⌜ ((i : ℕ) → i < length (now records) → length (partsLineAt (now records) i) ≤ partsLineMost) ⌝ }

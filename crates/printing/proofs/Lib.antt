@@ -1,6 +1,5 @@
 pub mod PrintedLaws
-pub mod KnownLaws
+pub mod BoundFits
 pub mod RowsLaws
 pub mod WordLaws
-pub mod SheetLaws
-pub mod HeardLaws
+pub mod HeardTexts

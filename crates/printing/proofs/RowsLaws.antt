@@ -1,6 +1,6 @@
 -- That what the calls on rows (02, E11) leave is what a program is to print (specs/Printed.antt). No contract cites this file.
--- In order: a table with the rows of a sheet is good; what is printed of rows as a sheet; lent tables that hold a good one: their rows are judged good, and what is
--- printed where a sheet fills them.
+-- In order: a table with the rows of a sheet is good; no rows as a sheet are too long; lent tables that hold a good one: their rows are judged good, and what is
+-- said where a sheet fills them.
 use mathlib.Core.Path.{_≡_, refl, sym, subst, ap, _∙_}
 use mathlib.Core.Bool.{true, not}
 use mathlib.Core.List.{List, []}
@@ -10,27 +10,28 @@ use lib.IntN.{ℤ}
 use lib.ListN.{length, getD, take, drop, length-append, take-append-drop}
 use lib.Seq.{take-at}
 use Rattle.numbers.specs.Below.{over}
-use Rattle.kinds.specs.declared.Header.{Header}
-use Rattle.kinds.specs.declared.Judgement.{Judgement}
-use Rattle.kinds.specs.declared.Judgement.the-variants as judgement
-use Rattle.kinds.specs.declared.Refusal.{Refusal}
-use Rattle.kinds.specs.declared.Written.{Written}
-use Rattle.kinds.specs.Answers.{ruled}
-use Rattle.kinds.specs.Limits.{bytesMost}
-use Rattle.kinds.specs.Refusals.{Judged, passed, refused}
-use Rattle.kinds.proofs.KindLaws.{header-in}
-use Rattle.kinds.proofs.RefusalLaws.{passed-is, refused-is, not-passed, then-passed, then-next, then-refused, either-passed, either-refused, unless-ok, none-next}
-use Rattle.text.specs.Left.{textSaid}
+use Rattle.limits.specs.Limits.{bytesMost}
+use Rattle.refusals.specs.declared.Judgement.{Judgement}
+use Rattle.refusals.specs.declared.Judgement.the-variants as judgement
+use Rattle.refusals.specs.declared.Refusal.{Refusal}
+use Rattle.refusals.specs.declared.Written.{Written}
+use Rattle.refusals.specs.declared.Written.the-variants as written
+use Rattle.refusals.specs.Answers.{saidJudgement}
+use Rattle.refusals.specs.Refusals.{Judged, passed, refused}
+use Rattle.refusals.proofs.RefusalLaws.{passed-is, refused-is, not-passed, then-passed, then-next, then-refused, either-passed, either-refused, unless-ok, none-next}
+use Rattle.types.specs.declared.Header.{Header}
+use Rattle.types.proofs.RangeLaws.{header-in}
+use Rattle.text.specs.Left.{textLeft, textSaid}
 use Rattle.table.specs.Table.{Table, lent, stretch, factorsAt, rowGood, front}
 use Rattle.table.specs.Good.{Good}
 use Rattle.table.proofs.GoodLaws.{stretch-long, row-good, good-row, flat-fit, row-fit}
 use Rattle.writing.specs.Writing.{tableText}
-use Rattle.rowsheet.specs.RowSheet.{Rows, RowsLeft, readSheet, judgeRows, rowsInRange, rowsSaid, readRowsLeft, writeRowsLeft}
-use Rattle.rowsheet.proofs.SheetLaws.{sheet-run, rows-many, factors-many, room-enough}
-use Rattle.rowsheet.proofs.SheetTrip as sheet
-use Rattle.result.specs.Refusal.{refusalText}
-use Rattle.printing.specs.Printed.{Printed, toldText, Told, rowsIn, sheetSaid, withRows, filledBy}
-use Rattle.printing.proofs.PrintedLaws.{printed-as, told-as, told-printed}
+use Rattle.writing.proofs.LengthLaws.{never-too-long}
+use Rattle.rowsheet.specs.RowSheet.{Rows, RowsLeft, readSheet, judgeRows, rowsInRange, rowsSaid, readRowsLeft}
+use Rattle.rowsheet.proofs.SheetLaws.{sheet-section, rows-many, factors-many, room-enough}
+use Rattle.rowsheet.proofs.JudgedLaws as sheet
+use Rattle.printing.specs.Printed.{Said, rowsIn, sheetSaid, withRows, filledBy}
+use Rattle.printing.proofs.PrintedLaws.{said-as, said-refused}
 
 -- ---- a table with the rows of a sheet is good
 rows-good : {t : Table} (g : Good t) (i : ℕ) → i < t .header .rows → rowGood (getD (t .rows) i []) (factorsAt t i) ≡ true
@@ -44,7 +45,7 @@ rows-good {t} g i l =
 filled-good : {t : Table} (g : Good t) (file : List ℕ) (r : Rows) → readSheet (t .header) file ≡ passed r → Good (withRows t r)
 filled-good {t} g file r e =
     let h = t .header in
-    let u = sheet-run h file r e in
+    let u = sheet-section h file r e in
     let some : 0 < h .zones = omega (arith, header-in h (g .exact .header) .zones-least) in
     let rows : (i : ℕ) → i < h .rows → rowGood (getD (r .rows) i []) (stretch (h .zones) (r .factors) i) ≡ true = sheet.read-good h file r e in
     record {
@@ -65,17 +66,13 @@ filled-good {t} g file r e =
       once = g .once;
     }
 
--- ---- the rows as a sheet, with room for the longest
+-- ---- the rows as a sheet
 module _ (h : Header) (c : List (List ℤ)) (f : List ℤ) where
-  sheet-fits : (text : List ℕ) → sheetSaid h c f ≡ passed text → length text ≤ bytesMost
+  pub sheet-fits : (text : List ℕ) → sheetSaid h c f ≡ passed text → length text ≤ bytesMost
   sheet-fits text e =
       let d = then-passed (judgeRows h c f) _ text e in
       let j = sheet.rows-judged h c f (d .it) (d .first) in
       subst (λ (s : List ℕ). length s ≤ bytesMost) (passed-is _ _ (d .second)) (sheet.never-too-long h (d .it) (j .fits) (j .rows-long) (j .factors-long) (j .good))
-
-  pub sheet-printed : (out : List ℕ) {out′ out″ : List ℕ} (r : Written) {n : ℕ} → bytesMost ≤ length out → textSaid r out′ ≡ writeRowsLeft h c f out → Told r out′ n out″ → Printed n (toldText (sheetSaid h c f)) out″
-  unfolding writeRowsLeft
-  sheet-printed out r room said told = told-printed (sheetSaid h c f) out r (λ text e. omega (arith, sheet-fits text e, room)) said told
 
 -- ---- lent tables whose front is good are as long as it
 front-long : {A : Type 0} (n : ℕ) (xs : List A) → length (take n xs) ≡ n → n ≤ length xs
@@ -91,7 +88,7 @@ module _ (given : Table) (good : Good (front given)) where
   factors-enough : h .rows * h .zones ≤ length (given .factors)
   factors-enough = front-long (h .rows * h .zones) (given .factors) (good .exact .factors-long)
 
-  -- ---- their rows are judged good
+  -- ---- the rows of such tables are judged good
   pub rows-pass : judgeRows h (given .rows) (given .factors) ≡ passed (rowsIn (front given))
   unfolding judgeRows rowsInRange
   rows-pass =
@@ -104,7 +101,7 @@ module _ (given : Table) (good : Good (front given)) where
     abbrev left : Table
     left = lent h (given .nets) (given .allocated) (given .borders) c′ f′
 
-    -- .. that was read: its front is the table with those rows
+    -- a sheet that was read: the front of the tables is the table with its rows
     record Filled : Type 0 where
       rows : Rows
       read : readSheet h file ≡ passed rows
@@ -116,7 +113,7 @@ module _ (given : Table) (good : Good (front given)) where
           let l : readRowsLeft h file (given .rows) (given .factors) ≡ rowsSaid judgement.Passed c′ f′ = sym said ∙ ap (λ (j : Judgement). rowsSaid j c′ f′) passes in
           let d = sheet.rows-taken h file (given .rows) (given .factors) (ap (λ (x : RowsLeft). x .answer) l) in
           let same : rowsSaid judgement.Passed c′ f′ ≡ record { answer = passed tt; c = over (d .it .rows) (given .rows); f = over (d .it .factors) (given .factors) } = sym l ∙ d .left in
-          let u = sheet-run h file (d .it) (d .read) in
+          let u = sheet-section h file (d .it) (d .read) in
           record {
             rows = d .it;
             read = d .read;
@@ -128,16 +125,19 @@ module _ (given : Table) (good : Good (front given)) where
       pub filled-front : Good (front left)
       filled-front = subst Good (sym (filled .is)) (filled-good good file (filled .rows) (filled .read))
 
-      pub filled-printed : {n : ℕ} {out : List ℕ} → Printed n (toldText (passed (tableText (front left)))) out → Printed n (toldText (filledBy file (front given))) out
+      pub filled-said : (out : List ℕ) → bytesMost ≤ length out → (x : Written) {out′ : List ℕ} → textSaid x out′ ≡ textLeft (passed (tableText (front left))) out
+          → Said x (filledBy file (front given)) out out′
       unfolding filledBy
-      filled-printed p = told-as (ap (λ (t : Table). passed (tableText t)) (filled .is) ∙ sym (then-next _ (filled .read))) p
+      filled-said out room x l =
+          said-as (ap (λ (t : Table). passed (tableText t)) (filled .is) ∙ sym (then-next _ (filled .read)))
+          (record { left = l; fits = λ text e. subst (λ (s : List ℕ). length s ≤ length out) (passed-is _ _ e) (omega (arith, never-too-long (front left) filled-front, room)) })
 
-    pub unfilled-printed : {n : ℕ} {out : List ℕ} (w : Refusal) → r ≡ judgement.Refused w → Printed n (refusalText w) out → Printed n (toldText (filledBy file (front given))) out
+    pub unfilled-said : (w : Refusal) → r ≡ judgement.Refused w → (out : List ℕ) → Said (written.Refused w) (filledBy file (front given)) out out
     unfolding filledBy readRowsLeft
-    unfilled-printed w is p = printed-as (sym (either-refused _ _ (then-refused _ (go (readSheet h file) refl)))) p
+    unfilled-said w is out = said-refused _ w out (then-refused _ (go (readSheet h file) refl))
       where
         told : (x : RowsLeft) → readRowsLeft h file (given .rows) (given .factors) ≡ x → refused w ≡ x .answer
-        told x q = ap (λ (j : Judgement). ruled j tt) (sym is) ∙ ap (λ (l : RowsLeft). l .answer) (said ∙ q)
+        told x q = ap (λ (j : Judgement). saidJudgement j tt) (sym is) ∙ ap (λ (l : RowsLeft). l .answer) (said ∙ q)
 
         go : (j : Judged Rows) → readSheet h file ≡ j → readSheet h file ≡ refused w
         go (passed t) q = absurd (not-passed w tt (told _ (either-passed _ _ (then-next _ q ∙ sym (room-enough h (length (given .rows)) (length (given .factors)) (passed t) rows-enough factors-enough)))))

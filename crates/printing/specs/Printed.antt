@@ -1,74 +1,57 @@
--- What a program prints for a table's text and a correction sheet (01, "Result text"; 02, E1, E2).
--- Without one the sheet is empty, and an empty sheet changes nothing. No contract can speak of standard output, so these speak of the buffer that goes there.
+-- What a program prints for a table's text and a correction sheet (01, "Result text"; 02, E2).
+-- Without one the sheet is empty, and an empty sheet changes nothing. What a buffer holds that is printed stands in output (specs/Buffer).
 use mathlib.Core.Path.{_≡_}
 use mathlib.Core.Bool.{Bool, cond}
 use mathlib.Core.List.{List}
 use Prim.Native.Nat.{ℕ, _≤_}
-use lib.Dec.{leb, ltb}
+use lib.Dec.{ltb}
 use lib.IntN.{ℤ}
-use lib.ListN.{length, take}
-use Rattle.kinds.specs.declared.Header.{Header}
-use Rattle.kinds.specs.declared.Written.{Written}
-use Rattle.kinds.specs.declared.Written.the-variants as written
-use Rattle.kinds.specs.Limits.{bytesMost}
-use Rattle.kinds.specs.Refusals.{Judged, passed, then, either, tooLong}
-use Rattle.text.specs.Written.{linesText}
+use lib.ListN.{length}
+use Rattle.limits.specs.Limits.{bytesMost}
+use Rattle.refusals.specs.declared.Written.{Written}
+use Rattle.refusals.specs.Refusals.{Judged, passed, then, tooLong}
+use Rattle.types.specs.declared.Header.{Header}
+use Rattle.text.specs.Left.{textLeft, textSaid}
 use Rattle.table.specs.Table.{Table, lent}
 use Rattle.reading.specs.Reading.{readCorrected}
 use Rattle.writing.specs.Writing.{tableText}
 use Rattle.rowsheet.specs.RowSheet as rowsheet
 use Rattle.rowsheet.specs.RowSheet.{readSheet, judgeRows, sheetOf}
-use Rattle.corners.specs.Corners.{sheetBordersMost, judgeSheet}
-use Rattle.cornertext.specs.CornerText.{sheetText, sheetTextOf}
 use Rattle.parts.specs.Parts.{recordsOf}
 use Rattle.partstext.specs.PartsText.{partsText}
 use Rattle.bound.specs.Bound.{boundAsked}
 use Rattle.boundtext.specs.BoundText.{boundTextOf}
-use Rattle.claimtext.specs.ClaimText.{claimsIn}
+use Rattle.claimline.specs.ClaimText.{claimsIn}
 use Rattle.claimtext.specs.Published.{publishedOf}
 use Rattle.extraction.specs.Extraction.{outcomeFor}
 use Rattle.result.specs.Refusal.{refusalText}
 use Rattle.answer.specs.Result.{resultText}
-use Rattle.printing.specs.declared.texts.Word.{Word}
-use Rattle.printing.specs.declared.texts.Word.the-variants.{Answer, Rewrite, Claims, Bound, Margins, Rows, Filled}
+use Rattle.output.specs.Buffer.{toldText}
+use Rattle.command.specs.declared.asked.Word.{Word}
+use Rattle.command.specs.declared.asked.Word.the-variants.{Answer, Rewrite, Claims, Bound, Margins, Rows, Filled}
 
--- the first n bytes of the buffer are the text to print; that there are so many follows, and is said for the caller's `&out[..n]`
-pub record Printed (n : ℕ) (text out : List ℕ) : Type 0 where
-  pub within : n ≤ length out
-  pub long : n ≡ length (take n out)
-  pub whole : take n out ≡ text
-
--- how much of the buffer to print
-abbrev pub bytesOf : Written → ℕ
-bytesOf (written.Bytes n) = n
-bytesOf (written.Refused w) = 0
-
--- what a call that tells its refusal comes to on paper: its text, or one line E, number, place, byte
-abbrev pub toldText : Judged (List ℕ) → List ℕ
-toldText said = either said (λ text. text) refusalText
-
--- .. and in the buffer: what the call left there, or that line
-abbrev pub Told : Written → (before : List ℕ) → (n : ℕ) → (after : List ℕ) → Type 0
-Told (written.Bytes m) before n after = (n ≡ m) × (after ≡ before)
-Told (written.Refused w) before n after = Printed n (refusalText w) after
+-- what a call answers and leaves in a buffer that was `before`, where no text that it may have to write is too long for it
+pub record Said (r : Written) (said : Judged (List ℕ)) (before after : List ℕ) : Type 0 where
+  pub left : textSaid r after ≡ textLeft said before
+  pub fits : (text : List ℕ) → said ≡ passed text → length text ≤ length before
 
 -- the rows of a table, as the planners' sheet has them (02, E11)
 abbrev pub rowsIn : Table → rowsheet.Rows
 rowsIn t = record { rows = t .rows; factors = t .factors }
 
--- .. as lent rows are written
+-- the sheet of lent rows as `write_rows` writes it
 abbrev pub sheetSaid : Header → (c : List (List ℤ)) → (f : List ℤ) → Judged (List ℕ)
 sheetSaid h c f = then (judgeRows h c f) (λ r. passed (sheetOf (h .zones) r))
 
--- .. and a table with others in their place
+-- a table with other rows in place of its own
 abbrev pub withRows : Table → rowsheet.Rows → Table
 withRows t r = lent (t .header) (t .nets) (t .allocated) (t .borders) (r .rows) (r .factors)
 
--- .. those of a sheet: the sheet is judged (1, 2, 3), and the table is written
+-- a table with the rows of a sheet in place of its own: the sheet is judged (1, 2, 3), and the table is written
 unfoldable pub filledBy : (sheet : List ℕ) → Table → Judged (List ℕ)
 filledBy sheet t = then (readSheet (t .header) sheet) (λ r. passed (tableText (withRows t r)))
 
--- what a word says of a table; which borders may rise is asked of it by marks, or `all` of them (02, E13); a file goes with some words: the list of claims (02, E10),
+-- what a word says of a table. The marks say which borders may rise, or `all` that every one may (02, E13). A file goes with some words: the list of claims (02, E10),
 -- the sheet of rows (02, E11)
 unfoldable pub saidOf : Word → (all : Bool) → (marks file : List ℕ) → Table → Judged (List ℕ)
 saidOf Answer all marks file t = then (outcomeFor all marks t) (λ r. passed (resultText r))
@@ -79,26 +62,10 @@ saidOf Margins all marks file t = passed (partsText (recordsOf t))
 saidOf Rows all marks file t = passed (sheetOf (t .header .zones) (rowsIn t))
 saidOf Filled all marks file t = filledBy file t
 
--- .. of the table of a text
-unfoldable pub wordOf : Word → (all : Bool) → (marks file text sheet : List ℕ) → List ℕ
-wordOf word all marks file text sheet = toldText (then (readCorrected text sheet) (saidOf word all marks file))
+-- what is printed for a word, of the table of a text
+unfoldable pub wordSaid : Word → (all : Bool) → (marks file text sheet : List ℕ) → Judged (List ℕ)
+wordSaid word all marks file text sheet = then (readCorrected text sheet) (saidOf word all marks file)
 
--- what a program prints: 1 of any text goes before all else
+-- what a program prints for a word: 1 of any text is judged before all else
 unfoldable pub wordText : Word → (all : Bool) → (marks file text sheet : List ℕ) → List ℕ
-wordText word all marks file text sheet = cond (ltb bytesMost (length file)) (refusalText tooLong) (wordOf word all marks file text sheet)
-
--- what is printed at once: a row's corner sheet, or one line E
-unfoldable pub sheetAt : Table → (row : ℕ) → List ℕ
-sheetAt t row = toldText (sheetTextOf (judgeSheet t row) row)
-
--- .. for so many rows: where the table has no sheet, the line E stands for all
-abbrev pub sheetRows : Header → ℕ
-sheetRows h = cond (leb (h .borders) sheetBordersMost) (h .rows) 1
-
--- what `corners` prints for a row of the table of a text
-unfoldable pub oneSheet : (text sheet : List ℕ) → (row : ℕ) → List ℕ
-oneSheet text sheet row = toldText (then (readCorrected text sheet) (λ t. sheetTextOf (judgeSheet t row) row))
-
--- .. and for all rows, one after another: each table has a row 0, so that only its borders can be refused
-unfoldable pub everySheet : (text sheet : List ℕ) → List ℕ
-everySheet text sheet = toldText (then (readCorrected text sheet) (λ t. then (judgeSheet t 0) (λ t. passed (linesText (t .header .rows) 0 (sheetText t)))))
+wordText word all marks file text sheet = cond (ltb bytesMost (length file)) (refusalText tooLong) (toldText (wordSaid word all marks file text sheet))

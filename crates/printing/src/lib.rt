@@ -1,5 +1,3 @@
-// What a program prints: for each word its text, of a table's text, corner sheets row by row, and what came of printing.
-pub mod output;
-pub mod sheets;
+// What a program prints for a task: for each word its text, of a table's text.
 pub mod tasks;
 pub mod texts;

@@ -13,18 +13,19 @@ use lib.ListN.{take}
 use lib.Signed.{ltZ-yes, clashℤ}
 use Rattle.numbers.specs.Below.{at, ifZero, sum, count, largest, lesser, least, orZero, table, firstFrom, given}
 use Rattle.numbers.specs.Ints.{minus, maxℤ, minℤ, positivePart, sameℤ, sumℤ}
-use Rattle.kinds.specs.Ranges.{hubsOf, borderOf, shareOf, rowOf, worth, defaultOf}
-use Rattle.kinds.specs.Refusals.{passed, refused, refusal, then, unless, refuseAt, refuseFirst}
+use Rattle.refusals.specs.Refusals.{passed, refused, refusal, then, unless, refuseAt, refuseFirst}
+use Rattle.types.specs.Ranges.{hubsOf, borderOf, shareOf, rowOf, worth, defaultOf}
 use Rattle.table.specs.Table.{Table, rowAt, stretch}
 use Rattle.rounds.specs.Rounds.{sharers, raise, alone, raises, load, lowered, risen, apply, next, raised, counted, run, extract, mostSharers, bitsTo, bits, aloneBits}
 use Rattle.rounds.specs.Last.{after, raiseIn, lastTo, lastRound}
 use Rattle.rounds.specs.Stopping.{stopRow}
 use Rattle.margin.specs.Margin.{grains, f0coreOf, fuafOf, baseOf, amrOf, signedFactor, pOf, ltaKw, sOf, ltaMarginOf, ramOf, ramAt}
-use Rattle.states.specs.States.{highest, lowest, spreadOf, shifted, below, stateOf}
-use Rattle.states.specs.Rows.{rowsOf}
-use Rattle.start.specs.Setup.{gridBy, beginBy, judgeBy}
-use Rattle.start.specs.Start.{kept, every, setupWith}
-use Rattle.extraction.specs.Extraction.{Result, atcOf, leftOf, lastOf, stopOf, rowOrDash, nOf, lOf, outcomeMarked, resultMarked}
+use Rattle.states.specs.States.{highest, lowest, spreadOf, shifted, below, stateOf, kept}
+use Rattle.states.specs.Standings.{standingsOf}
+use Rattle.setup.specs.Setup.{gridBy, beginBy, judgeBy}
+use Rattle.start.specs.Start.{every, setupWith}
+use Rattle.outcome.specs.Outcome.{rowOrDash}
+use Rattle.extraction.specs.Extraction.{Result, atcOf, leftOf, lastOf, stopOf, nOf, lOf, outcomeMarked, resultMarked}
 use Rattle.promises.specs.Demand.{loadOf, WithinAtcs, ResultDemand3}
 use Rattle.promises.specs.DemandLeft.{LeftDemand3}
 use Rattle.promises.specs.Seven.{NotSeven, NoReductions}
@@ -45,7 +46,7 @@ small =
       factors = pos 10000 ∷ pos 0 ∷ pos 0 ∷ pos 0 ∷ pos 5000 ∷ minus 5000 ∷ [];
     }
 
--- the same with row 0 once more, which is its state 2
+-- the hour with row 0 once more: the second one has state 2
 abbrev doubled : Table
 doubled =
     record {
@@ -61,7 +62,7 @@ doubled =
 abbrev second : (b : ℕ) → Bool
 second b = eqb b 1
 
--- its rows, with last rounds, stopping rows, rounds, margins left and exchanges in kW of one's own
+-- the hour's rows, with other last rounds, stopping rows, rounds, margins left and exchanges in kW
 abbrev endedBy : (lasts : List ℕ) → (stops : List (Option ℕ)) → (rounds : ℕ) → (margins x : List ℕ) → Result
 endedBy lasts stops rounds margins x =
     record {
@@ -86,22 +87,22 @@ atcsLeft mw = (pos mw ∷ pos 9 ∷ pos 0 ∷ []) ∷ (pos 0 ∷ pos 1 ∷ pos 0
 abbrev leftsLeft : (margin : ℕ) → List (List ℤ)
 leftsLeft margin = (pos 0 ∷ pos 24000000 ∷ pos margin ∷ []) ∷ (pos 0 ∷ pos 100000 ∷ pos 0 ∷ []) ∷ []
 
--- .. border 1's ATC, with border 0 at its LTA, and the margins of both rows where they start
+-- records that a call could have left with border 1 marked: border 1's ATC, with border 0 at its LTA; and the margins of both rows where they start
 abbrev secondLeft : (mw : ℕ) → List (List ℤ)
 secondLeft mw = (pos 2 ∷ pos 0 ∷ minus 1 ∷ []) ∷ (pos mw ∷ pos 1 ∷ pos 0 ∷ []) ∷ []
 
 abbrev startLeft : List (List ℤ)
 startLeft = (pos 0 ∷ pos 24000000 ∷ pos 4000000 ∷ []) ∷ (pos 0 ∷ pos 100000 ∷ pos 100000 ∷ []) ∷ []
 
--- .. and border 0's last round and stopping row
+-- records that a call could have left: border 0's last round and stopping row
 abbrev stopLeft : (last : ℕ) → (row : ℤ) → List (List ℤ)
 stopLeft last row = (pos 2 ∷ pos last ∷ row ∷ []) ∷ []
 
--- the hour told with other last rounds and stopping rows
+-- the hour's result with other last rounds and stopping rows
 abbrev told : (lasts : List ℕ) → (stops : List (Option ℕ)) → Result
 told lasts stops = endedBy lasts stops 9 (10000 ∷ 0 ∷ []) (2379 ∷ 20 ∷ [])
 
--- what is 0 of both rows, and what holds of both borders
+-- what is 0 at both rows is 0 at every row, and what holds of both borders holds of every border
 zeros : (f : ℕ → ℤ) → f 0 ≡ pos 0 → f 1 ≡ pos 0 → (i : ℕ) → i < 2 → f i ≡ pos 0
 zeros f x y zero h = x
 zeros f x y (suc zero) h = y
@@ -112,7 +113,7 @@ both f g x y zero h = x
 both f g x y (suc zero) h = y
 both f g x y (suc (suc b)) h = absurd (omega arith)
 
--- an exchange whose whole MW are so many is that at least, and less than the next
+-- an exchange whose whole MW are so many is at least that, and less than the next MW
 at-least : (kw mw : ℕ) → pos mw ≡ pos (kw / 1000) → mw * 1000 ≤ kw
 at-least kw mw e = subst (λ (v : ℕ). v * 1000 ≤ kw) (sym (ap natAbs e)) (div-mul-le-self kw 1000)
 
@@ -124,19 +125,19 @@ pub record Anchors : Type 0 where
   pub outcome : outcomeMarked every small ≡ passed hour
   pub n : nOf every small ≡ 2
   pub l : lOf every small ≡ 9
-  -- of border 1 alone
+  -- N with border 1 alone marked
   pub n-marked : nOf second small ≡ 1
   pub l-marked : lOf second small ≡ 5
   -- 2,379 kW are 2 MW, rounded down
   pub atc : atcOf hour 0 ≡ 2
   pub atc-full : atcOf (ended 9 (10000 ∷ 0 ∷ []) (2999 ∷ 20 ∷ [])) 0 ≡ 2
-  -- .. so that 2,000 kW are within the ATC, and 2,001 are not
+  -- 2,000 kW are within the ATC, and 2,001 are not
   pub atcs : WithinAtcs small (atcOf hour) (2000 ∷ 0 ∷ [])
   pub beyond-atcs : WithinAtcs small (atcOf hour) (2001 ∷ 0 ∷ []) → ⊥
-  -- a load is in grains, of exchanges in kW; a relieving border counts as such
+  -- a load is in grains, of exchanges in kW; a relieving border lowers it
   pub load-0 : loadOf small 0 (2379 ∷ 20 ∷ []) ≡ pos 23990000
   pub load-1 : loadOf small 1 (1000 ∷ 20 ∷ []) ≡ minus 4900000
-  -- border 0 at 2,401 kW, of which the ATC would be the same: they load row 0 beyond its RAM
+  -- border 0 at 2,401 kW, for which the ATC would be the same: this loads row 0 beyond its RAM
   pub beyond : ResultDemand3 small every (ended 9 (10000 ∷ 0 ∷ []) (2401 ∷ 20 ∷ [])) → ⊥
   -- border 0 below its LTA; border 0 above it, and not marked
   pub fell : ResultDemand3 small every (ended 9 (10000 ∷ 0 ∷ []) (1999 ∷ 20 ∷ [])) → ⊥
@@ -156,7 +157,7 @@ pub record Anchors : Type 0 where
   pub fell-marked : ResultDemand3 small second (ended 1 (3800000 ∷ 0 ∷ []) (1999 ∷ 20 ∷ [])) → ⊥
   pub lost-marked : ResultDemand3 small second (ended 1 (3799999 ∷ 0 ∷ []) (2000 ∷ 20 ∷ [])) → ⊥
   pub most-marked : ResultDemand3 small second (ended 6145 (3800000 ∷ 0 ∷ []) (2000 ∷ 20 ∷ [])) → ⊥
-  -- the same of records that a call could have left: an ATC of 3 MW, which loads row 0 beyond its RAM; of 1 MW, below the LTA; of 3 MW on a border that is not marked
+  -- records that a call could have left: an ATC of 3 MW, which loads row 0 beyond its RAM; of 1 MW, below the LTA; of 3 MW on a border that is not marked
   pub left-beyond : LeftDemand3 small every 9 (atcsLeft 3) (leftsLeft 10000) → ⊥
   pub left-fell : LeftDemand3 small every 9 (atcsLeft 1) (leftsLeft 10000) → ⊥
   pub left-stayed : LeftDemand3 small second 1 (atcsLeft 3) (leftsLeft 3800000) → ⊥
@@ -166,7 +167,7 @@ pub record Anchors : Type 0 where
   pub left-many-marked : LeftDemand3 small second 11 (atcsLeft 2) (leftsLeft 3800000) → ⊥
   pub left-most : LeftDemand3 small every 6145 (atcsLeft 2) (leftsLeft 10000) → ⊥
   pub left-early : LeftDemand3 small every 1 (atcsLeft 2) (leftsLeft 1800000) → ⊥
-  -- .. and with border 1 alone marked
+  -- records that a call could have left, with border 1 alone marked
   pub left-beyond-marked : LeftDemand3 small second 1 (secondLeft 1) (leftsLeft 3800000) → ⊥
   pub left-fell-marked : LeftDemand3 small second 1 (atcsLeft 1) (leftsLeft 3800000) → ⊥
   pub left-lost-marked : LeftDemand3 small second 1 (secondLeft 0) (leftsLeft 3799999) → ⊥
@@ -178,18 +179,18 @@ pub record Anchors : Type 0 where
   pub not-under : StoppedBy small every (ended 9 (20000 ∷ 0 ∷ []) (2379 ∷ 20 ∷ [])) 0 0 → ⊥
   pub not-shared : StoppedBy small second (ended 1 (15000 ∷ 0 ∷ []) (2000 ∷ 20 ∷ [])) 1 0 → ⊥
   pub no-row : StoppedBy small every hour 0 2 → ⊥
-  -- .. nor does a row that takes no part, though its share is none and row 0 leaves border 0 two kW
-  pub states : rowsOf doubled .states ≡ 0 ∷ 0 ∷ 2 ∷ []
+  -- E7: a row that takes no part stops nobody, though its share is 0 and row 0 leaves border 0 two kW
+  pub states : standingsOf doubled .states ≡ 0 ∷ 0 ∷ 2 ∷ []
   pub not-kept : StoppedBy doubled every (ended 9 (40000 ∷ 0 ∷ 0 ∷ []) (2379 ∷ 20 ∷ [])) 0 2 → ⊥
-  -- .. border 0 rose in round 9, and border 1 did not in round 2; no row told, and another than the first
+  -- E7: border 0 rose in round 9, and border 1 did not in round 2; no row given, and another row than the first
   pub later : BorderStopped small every (told (8 ∷ 1 ∷ []) (some 0 ∷ some 0 ∷ [])) 0 → ⊥
   pub earlier : BorderStopped small every (told (9 ∷ 2 ∷ []) (some 0 ∷ some 0 ∷ [])) 1 → ⊥
   pub not-told : BorderStopped small every (told (9 ∷ 1 ∷ []) (none ∷ none ∷ [])) 0 → ⊥
   pub other-told : BorderStopped small every (told (9 ∷ 1 ∷ []) (some 0 ∷ some 1 ∷ [])) 1 → ⊥
-  -- .. a border that is not marked has no last round and no row
+  -- E7: a border that is not marked has no last round and no row
   pub raised-unmarked : Unmarked (told (9 ∷ 1 ∷ []) (none ∷ none ∷ [])) 0 → ⊥
   pub stopped-unmarked : Unmarked (told (0 ∷ 1 ∷ []) (some 0 ∷ none ∷ [])) 0 → ⊥
-  -- .. the same of records: another row than border 0's, another round; of a border that is not marked a row, a round
+  -- E7 of records: another row than border 0's, another round; a row and a round of a border that is not marked
   pub left-row : LeftStopped small every (stopLeft 9 (pos 1)) 0 → ⊥
   pub left-last : LeftStopped small every (stopLeft 8 (pos 0)) 0 → ⊥
   pub left-row-unmarked : LeftUnmarked (stopLeft 0 (pos 0)) 0 → ⊥
@@ -200,7 +201,7 @@ pub record Anchors : Type 0 where
   pub six : NotSeven {A = ℕ} (refused (refusal 6 0 0))
 
 pub anchors : Anchors
-unfolding ifZero sum count largest lesser least orZero table firstFrom given maxℤ minℤ positivePart sameℤ sumℤ hubsOf borderOf shareOf rowOf worth defaultOf then unless refuseAt refuseFirst stretch sharers raise alone raises load lowered risen apply next raised counted run extract after raiseIn lastTo lastRound stopRow mostSharers bitsTo bits aloneBits grains f0coreOf fuafOf baseOf amrOf signedFactor pOf ltaKw sOf ltaMarginOf ramOf ramAt highest lowest spreadOf shifted below stateOf rowsOf kept atcOf leftOf lastOf stopOf nOf lOf loadOf gridBy setupWith beginBy judgeBy resultMarked outcomeMarked
+unfolding ifZero sum count largest lesser least orZero table firstFrom given maxℤ minℤ positivePart sameℤ sumℤ hubsOf borderOf shareOf rowOf worth defaultOf then unless refuseAt refuseFirst stretch sharers raise alone raises load lowered risen apply next raised counted run extract after raiseIn lastTo lastRound stopRow mostSharers bitsTo bits aloneBits grains f0coreOf fuafOf baseOf amrOf signedFactor pOf ltaKw sOf ltaMarginOf ramOf ramAt highest lowest spreadOf shifted below stateOf standingsOf kept atcOf leftOf lastOf stopOf nOf lOf loadOf gridBy setupWith beginBy judgeBy resultMarked outcomeMarked
 anchors =
     record {
       outcome = refl;

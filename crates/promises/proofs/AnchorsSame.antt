@@ -1,4 +1,5 @@
--- What E6, E13 and E14 (02) take for replaced, for all borders and for the same, by examples: an R replaced, a list that marks both of two borders, and results and refusals that are not the same.
+-- What E6, E13 and E14 (02) mean by replaced, all borders and the same, by examples: an R replaced, a list that marks both of two borders, and results and refusals that
+-- are not the same.
 -- Nobody cites it: it refuses a statement that slipped.
 use mathlib.Core.Path.{_≡_, refl, ap, subst}
 use mathlib.Core.Bool.{Bool, true, false, false≢true}
@@ -9,20 +10,20 @@ use lib.Dec.{lit<}
 use lib.IntN.{pos}
 use Rattle.numbers.specs.Below.{firstFrom, given}
 use Rattle.numbers.specs.Ints.{minus}
-use Rattle.kinds.specs.declared.Refusal.{Refusal}
-use Rattle.kinds.specs.Refusals.{Judged, passed, refused, refusal, unless, refuseAt, refuseFirst}
+use Rattle.refusals.specs.declared.Refusal.{Refusal}
+use Rattle.refusals.specs.Refusals.{Judged, passed, refused, refusal, unless, refuseAt, refuseFirst}
 use Rattle.marks.specs.Marks.{faultyMark, judgeMarks}
 use Rattle.table.specs.Table.{Table}
 use Rattle.table.specs.Good.{Good}
 use Rattle.extraction.specs.Extraction.{Result, atcOf, outcomeFor}
 use Rattle.promises.specs.Marked.{AllMarked}
 use Rattle.promises.specs.Same.{SameEnd, SameResult, SameRefusal, Both}
-use Rattle.promises.specs.Ways.{outcomeTaking, unshortened}
+use Rattle.promises.specs.Taking.{outcomeTaking, unshortened}
 use Rattle.promises.specs.Order.{Reordered}
 use Rattle.promises.specs.Replaced.{replacedRow}
 use Rattle.promises.specs.Shortening.{CostsNothing, AnyOrder, AcceptedToo, AcceptedInAnyOrder}
 
--- a result of one border, with rounds and an exchange in kW of one's own
+-- a result of one border, with these rounds and this exchange in kW
 abbrev ended : (rounds kw : ℕ) → Result
 ended rounds kw =
     record {
@@ -48,20 +49,20 @@ pub record Anchors : Type 0 where
   pub all-marked : AllMarked 2 (1 ∷ 0 ∷ [])
   pub one-missing : AllMarked 2 (1 ∷ []) → ⊥
   pub one-twice : AllMarked 2 (1 ∷ 1 ∷ []) → ⊥
-  -- the ATCs are the same where the whole MW are; the rounds count, and in kW the exchanges
+  -- the ATCs are the same where the whole MW are; of two ends the rounds count, and the exchanges in kW
   pub same-mw : SameResult 1 (ended 3 2000) (ended 3 2999)
   pub other-atc : SameResult 1 (ended 3 2000) (ended 3 3000) → ⊥
   pub other-rounds : SameResult 1 (ended 3 2000) (ended 4 2000) → ⊥
   pub other-kw : SameEnd 1 (ended 3 2000 .outcome) (ended 3 2001 .outcome) → ⊥
   pub other-end : SameEnd 1 (ended 3 2000 .outcome) (ended 4 2000 .outcome) → ⊥
-  -- one number, and one place but for 7
+  -- one number, and one place except for 7
   pub other-number : SameRefusal (refusal 6 0 0) (refusal 7 0 0) → ⊥
   pub other-place : SameRefusal (refusal 6 0 0) (refusal 6 1 0) → ⊥
   pub place-of-7 : SameRefusal (refusal 7 0 0) (refusal 7 1 0)
   -- one passed and the other refused
   pub refused-passed : Both (SameResult 1) (refused (refusal 7 0 0)) (passed (ended 3 2000)) → ⊥
   pub passed-refused : Both (SameResult 1) (passed (ended 3 2000)) (refused (refusal 7 0 0)) → ⊥
-  -- a table's own order is one (E14)
+  -- a table's own order is an order (E14)
   pub same-order : (t : Table) → Reordered t t
   -- "-" becomes the default, and an R that was written stays, 0 too (E6)
   pub dash : replacedRow (pos 6000) (pos 9 ∷ pos 1 ∷ pos 2 ∷ pos 3 ∷ minus 1 ∷ pos 5 ∷ pos 6 ∷ []) ≡ (pos 9 ∷ pos 1 ∷ pos 2 ∷ pos 3 ∷ pos 6000 ∷ pos 5 ∷ pos 6 ∷ [])
@@ -108,8 +109,8 @@ anchors =
     both zero h = refl
     both (suc b) h = absurd (omega arith)
 
--- E14's statements ask nothing of the second outcome: that it is no refusal, or of which number it is one, comes from the first. A statement that took it for granted would not
--- give this
+-- E14's statements ask nothing of the second outcome: whether it is a refusal, and with which number, follows from the first. From a statement that assumed it, this could
+-- not be proved
 pub record Asks : Type 0 where
   pub long-refused : CostsNothing → (t : Table) → Good t → (all : Bool) (marks : List ℕ) (w : Refusal) → outcomeFor all marks t ≡ refused w → numberOf (outcomeTaking unshortened all marks t) ≡ w .number
   pub long-passed : CostsNothing → (t : Table) → Good t → (all : Bool) (marks : List ℕ) (r : Result) → outcomeFor all marks t ≡ passed r → isPassed (outcomeTaking unshortened all marks t) ≡ true

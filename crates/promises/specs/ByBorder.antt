@@ -1,5 +1,5 @@
 -- 02, E9: the lent table of p, which the rounds read, against the zone factors, with any borders marked (02, E13). The statement, proved of every accepted table
--- (`proofs/ByBorder.antt`).
+-- (crate theorems, proofs/ByBorder).
 use mathlib.Core.Path.{_≡_}
 use mathlib.Core.Bool.{Bool, cond}
 use mathlib.Core.List.{List}
@@ -8,8 +8,9 @@ use Rattle.numbers.specs.Below.{at}
 use Rattle.table.specs.Table.{Table, borderAt, factorsAt}
 use Rattle.rounds.specs.Rounds.{Grid, State, raise, next, extract}
 use Rattle.margin.specs.Margin.{pOf}
-use Rattle.states.specs.Rows.{rowsOf}
-use Rattle.start.specs.Start.{kept, gridMarked, tableStart}
+use Rattle.states.specs.Standings.{standingsOf}
+use Rattle.states.specs.States.{kept}
+use Rattle.start.specs.Start.{gridMarked, tableStart}
 use Rattle.extraction.specs.Extraction.{resultMarked}
 
 -- the grid that a list of p lays out: row i's factors begin at item i x borders, border after border. The rounds take those of the marked borders
@@ -24,11 +25,11 @@ laidOut t marked p =
 pub record ByBorder (t : Table) (marked : ℕ → Bool) (p : List ℕ) : Type 0 where
   -- at every row and border, marked or not, the p that the zone factors give, and 0 where the row is not kept
   pub same : (i b : ℕ) → i < t .header .rows → b < t .header .borders
-      → at p (i * t .header .borders + b) ≡ cond (kept (rowsOf t .states) i) (pOf (factorsAt t i) (borderAt t b)) 0
-  -- and so equal raises at any margins,
+      → at p (i * t .header .borders + b) ≡ cond (kept (standingsOf t .states) i) (pOf (factorsAt t i) (borderAt t b)) 0
+  -- raises are equal at any margins
   pub raises : (margins : List ℕ) (b : ℕ) → b < t .header .borders → raise (laidOut t marked p) margins b ≡ raise (gridMarked marked t) margins b
-  -- equal margins and exchanges after a round,
+  -- margins and exchanges are equal after a round
   pub round : (s : State) → next (laidOut t marked p) s ≡ next (gridMarked marked t) s
-  -- and equal rounds, from any start; from the table's own they end where its result does
+  -- rounds are equal, from any start; from the table's own start they end where its result does
   pub rounds : (s : State) → extract (laidOut t marked p) s ≡ extract (gridMarked marked t) s
   pub ends : extract (laidOut t marked p) (tableStart t) ≡ resultMarked marked t .outcome

@@ -1,6 +1,6 @@
 -- Demand 3 of a table, in the words of its own profile (01, "Extraction"; 02, E12) and with any borders marked (02, E13): of final exchanges in kW, of the margin left on
--- each row in grains, and of rounds. It is said here once: proved of the result of every accepted table (`proofs/Demand3.antt`), of what the calls leave in lent memory
--- (`specs/DemandLeft.antt`) and of the texts that they answer (answer: proofs/Demand.antt).
+-- each row in grains, and of rounds. It is said here once: proved of the result of every accepted table (crate theorems, proofs/Demand3), of what the calls leave in lent memory
+-- (`specs/DemandLeft.antt`) and of the texts that they answer (crate theorems, proofs/TextDemand).
 -- Rows, RAM, S and remainders are the table's own, so that no wrong state or RAM among the results makes the statement weaker.
 use mathlib.Core.Path.{_≡_}
 use mathlib.Core.Bool.{Bool, true, false, cond}
@@ -10,14 +10,15 @@ use lib.IntN.{ℤ, pos, _+ℤ_, _-ℤ_, _*ℤ_}
 use lib.Signed.{_≤ℤ_, _<ℤ_}
 use Rattle.numbers.specs.Ints.{positivePart, sumℤ}
 use Rattle.numbers.specs.Below.{at, sum, table}
-use Rattle.kinds.specs.Limits.{bordersMost}
-use Rattle.kinds.specs.Ranges.{isIntraday}
+use Rattle.limits.specs.Limits.{bordersMost}
+use Rattle.types.specs.Ranges.{isIntraday}
 use Rattle.table.specs.Table.{Table, borderAt, factorsAt}
 use Rattle.rounds.specs.Rounds.{raise}
 use Rattle.margin.specs.Margin.{flowOf, signedFactor, pOf, ltaKw, sAt, ramAt}
-use Rattle.margin.specs.Bounds.{namedBits, startBits}
-use Rattle.states.specs.Rows.{rowsOf}
-use Rattle.start.specs.Start.{kept, gridMarked}
+use Rattle.margin.specs.Magnitudes.{namedBits, startBits}
+use Rattle.states.specs.Standings.{standingsOf}
+use Rattle.states.specs.States.{kept}
+use Rattle.start.specs.Start.{gridMarked}
 use Rattle.extraction.specs.Extraction.{Result, leftOf, nOf, lOf}
 
 -- row i's load from exchanges in whole kW: the sum of (from factor less to factor) times exchange
@@ -58,25 +59,25 @@ roundsMost intraday = 2 * bordersMost * cond intraday startBits namedBits
 pub record Demand3 (t : Table) (marked : ℕ → Bool) (kw : List ℕ) (left : ℕ → ℤ) (rounds : ℕ) : Type 0 where
   -- day-ahead: exchanges up to the final ones load no kept row beyond its RAM
   pub within : isIntraday (t .header) ≡ false → (exchanges : List ℕ) → UpTo t kw exchanges
-      → (i : ℕ) → i < t .header .rows → kept (rowsOf t .states) i ≡ true → loadOf t i exchanges ≤ℤ ramAt t i
-  -- intraday: on top of the allocated positions they bring no kept row with a remainder above or at 0 over RAM ..
+      → (i : ℕ) → i < t .header .rows → kept (standingsOf t .states) i ≡ true → loadOf t i exchanges ≤ℤ ramAt t i
+  -- intraday: on top of the allocated positions, exchanges up to the final ones bring no kept row whose remainder is 0 or more over its RAM
   pub on-top : isIntraday (t .header) ≡ true → (exchanges : List ℕ) → UpTo t kw exchanges
-      → (i : ℕ) → i < t .header .rows → kept (rowsOf t .states) i ≡ true → pos 0 ≤ℤ remainderOf t i
+      → (i : ℕ) → i < t .header .rows → kept (standingsOf t .states) i ≡ true → pos 0 ≤ℤ remainderOf t i
       → (flowOf (factorsAt t i) (t .allocated) +ℤ loadOf t i exchanges) ≤ℤ ramAt t i
-  -- .. and add no load to any kept row whose remainder was negative
+  -- intraday: they add no load to a kept row whose remainder was negative
   pub idle : isIntraday (t .header) ≡ true → (exchanges : List ℕ) → UpTo t kw exchanges
-      → (i : ℕ) → i < t .header .rows → kept (rowsOf t .states) i ≡ true → remainderOf t i <ℤ pos 0 → loadOf t i exchanges ≤ℤ pos 0
+      → (i : ℕ) → i < t .header .rows → kept (standingsOf t .states) i ≡ true → remainderOf t i <ℤ pos 0 → loadOf t i exchanges ≤ℤ pos 0
   -- no border fell below where it starts, and one that is not marked stays there
   pub rose : (b : ℕ) → b < t .header .borders → startKw t b ≤ at kw b
   pub stayed : (b : ℕ) → b < t .header .borders → marked b ≡ false → at kw b ≡ startKw t b
-  -- what a kept row lost of the margin that it starts with is the sum of p times what each border rose by
-  pub lost : (i : ℕ) → i < t .header .rows → kept (rowsOf t .states) i ≡ true → startMargin t i ≡ left i +ℤ pos (lossOf t kw i)
+  -- what a kept row lost of its starting margin is the sum of p times what each border rose by
+  pub lost : (i : ℕ) → i < t .header .rows → kept (standingsOf t .states) i ≡ true → startMargin t i ≡ left i +ℤ pos (lossOf t kw i)
   -- rounds are at most 2 x N x L, over the marked borders, so at most 6,144, or 6,272 intraday
   pub few : rounds ≤ 2 * nOf marked t * lOf marked t
   pub most : rounds ≤ roundsMost (isIntraday (t .header))
   -- from the margins left one further round would raise nothing
   pub still : (b : ℕ) → b < t .header .borders → raise (gridMarked marked t) (table (t .header .rows) (λ i. positivePart (left i))) b ≡ 0
 
--- .. of a result
+-- demand 3 of a result
 abbrev pub ResultDemand3 : Table → (marked : ℕ → Bool) → Result → Type 0
 ResultDemand3 t marked r = Demand3 t marked (r .outcome .state .x) (λ i. pos (leftOf r i)) (r .outcome .rounds)

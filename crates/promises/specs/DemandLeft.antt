@@ -1,5 +1,5 @@
 -- Demand 3 of what the calls `extract` and `extract_marked` leave: of the records in lent memory and of the rounds that they answer, as a caller finds them
--- (`proofs/DemandLeft.antt`).
+-- (crate theorems, proofs/DemandLeft).
 use mathlib.Core.Path.{_≡_}
 use mathlib.Core.Bool.{Bool}
 use mathlib.Core.List.{List, []}
@@ -7,7 +7,7 @@ use Prim.Native.Nat.{ℕ, _/_, _<_}
 use lib.IntN.{ℤ, pos}
 use lib.ListN.{getD}
 use Rattle.numbers.specs.Below.{at}
-use Rattle.kinds.specs.Ranges.{atℤ}
+use Rattle.types.specs.Ranges.{atℤ}
 use Rattle.table.specs.Table.{Table}
 use Rattle.promises.specs.Demand.{Demand3}
 

@@ -1,6 +1,6 @@
 pub mod Demand
 pub mod DemandLeft
-pub mod Ways
+pub mod Taking
 pub mod Same
 pub mod Order
 pub mod Shortening
@@ -9,3 +9,5 @@ pub mod Marked
 pub mod Stopped
 pub mod ByBorder
 pub mod Replaced
+pub mod LargestCorner
+pub mod Allowed

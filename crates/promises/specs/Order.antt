@@ -1,10 +1,10 @@
--- A table with its rows in another order, numbered anew (02, E14): row i of the second is row `row i` of the first, record and factors together.
+-- A table with its rows in another order and numbered again (02, E14): row i of the second is row `row i` of the first, record and factors together.
 use mathlib.Core.Path.{_≡_}
 use mathlib.Core.List.{[]}
 use Prim.Native.Nat.{ℕ, _+_, _*_, _/_, _%_, _<_}
 use lib.ListN.{length, getD}
 use Rattle.numbers.specs.Below.{table}
-use Rattle.kinds.specs.Ranges.{atℤ}
+use Rattle.types.specs.Ranges.{atℤ}
 use Rattle.table.specs.Table.{Table, factorsAt}
 
 pub record Reordered (t t′ : Table) : Type 0 where
@@ -16,14 +16,14 @@ pub record Reordered (t t′ : Table) : Type 0 where
   pub factors-long : length (t′ .factors) ≡ length (t .factors)
   pub row : ℕ → ℕ
   pub place : ℕ → ℕ
-  -- each row of the first stands somewhere in the second, and so, the rows being as many, just once
+  -- each row of the first stands somewhere in the second; since both have as many rows, it stands there just once
   pub row-below : (i : ℕ) → i < t .header .rows → row i < t .header .rows
   pub place-below : (i : ℕ) → i < t .header .rows → place i < t .header .rows
   pub there : (i : ℕ) → i < t .header .rows → row (place i) ≡ i
   pub records : (i : ℕ) → i < t .header .rows → getD (t′ .rows) i [] ≡ getD (t .rows) (row i) []
   pub factors : (i : ℕ) → i < t .header .rows → factorsAt t′ i ≡ factorsAt t (row i)
 
--- the table with its rows so ordered
+-- the table with its rows in this order
 unfoldable pub reorder : (row : ℕ → ℕ) → Table → Table
 reorder row t =
     let zones = t .header .zones in

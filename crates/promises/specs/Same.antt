@@ -2,27 +2,27 @@
 use mathlib.Core.Path.{_≡_}
 use Prim.Native.Nat.{ℕ, _<_}
 use Rattle.numbers.specs.Below.{at}
-use Rattle.kinds.specs.declared.Refusal.{Refusal}
-use Rattle.kinds.specs.Refusals.{Judged, passed, refused}
+use Rattle.refusals.specs.declared.Refusal.{Refusal}
+use Rattle.refusals.specs.Refusals.{Judged, passed, refused}
 use Rattle.rounds.specs.Rounds.{Outcome}
 use Rattle.extraction.specs.Extraction.{Result, atcOf}
 
--- of two ends: the same rounds, and each exchange the same to the kW
+-- two ends come to the same: the same rounds, and each exchange the same to the kW
 pub record SameEnd (borders : ℕ) (o o′ : Outcome) : Type 0 where
   pub rounds : o′ .rounds ≡ o .rounds
   pub exchanges : (b : ℕ) → b < borders → at (o′ .state .x) b ≡ at (o .state .x) b
 
--- of two results: the same rounds and ATCs
+-- two results come to the same: the same rounds and ATCs
 pub record SameResult (borders : ℕ) (r r′ : Result) : Type 0 where
   pub rounds : r′ .outcome .rounds ≡ r .outcome .rounds
   pub atcs : (b : ℕ) → b < borders → atcOf r′ b ≡ atcOf r b
 
--- of two refusals: one number, and one place but for 7
+-- two refusals come to the same: one number, and one place except for 7
 pub record SameRefusal (w w′ : Refusal) : Type 0 where
   pub number : w′ .number ≡ w .number
   pub place : (w .number ≡ 7 → ⊥) → w′ .place ≡ w .place
 
--- of two judgements: both passed and so related, or both refused alike
+-- two judgements come to the same: both passed, with values alike, or both were refused, with refusals alike
 abbrev pub Both : {A : Type 0} → (A → A → Type 0) → Judged A → Judged A → Type 0
 Both like (passed a) (passed a′) = like a a′
 Both like (passed a) (refused w′) = ⊥

@@ -1,8 +1,8 @@
--- 01: if CVA and IVA are 0 in every row, refusal 7 isn't given. What is 0, and what is not given; `proofs/Seven.antt` has the theorems.
+-- 01: if CVA and IVA are 0 in every row, refusal 7 isn't given. What is 0, and what is not given; crate theorems has the proofs (proofs/Seven).
 use mathlib.Core.Path.{_≡_}
 use Prim.Native.Nat.{ℕ, _<_}
 use lib.IntN.{pos}
-use Rattle.kinds.specs.Refusals.{Judged, passed, refused}
+use Rattle.refusals.specs.Refusals.{Judged, passed, refused}
 use Rattle.table.specs.Table.{Table, rowAt}
 
 -- CVA and IVA are 0 in every row

@@ -1,14 +1,14 @@
 -- 02, E14: does shortening the list cost capacity? The statements, of the calls' own outcome, of every border or with marks; each table is of its own profile. They are
--- proved in `proofs/Shortening.antt`.
+-- proved in crate theorems (proofs/Shortening).
 use mathlib.Core.Path.{_≡_}
 use mathlib.Core.Bool.{Bool}
 use mathlib.Core.List.{List}
 use Prim.Native.Nat.{ℕ}
-use Rattle.kinds.specs.Refusals.{passed}
+use Rattle.refusals.specs.Refusals.{passed}
 use Rattle.table.specs.Table.{Table}
 use Rattle.table.specs.Good.{Good}
 use Rattle.extraction.specs.Extraction.{Result, outcomeFor}
-use Rattle.promises.specs.Ways.{outcomeTaking, unshortened}
+use Rattle.promises.specs.Taking.{outcomeTaking, unshortened}
 use Rattle.promises.specs.Same.{SameResult, Both}
 use Rattle.promises.specs.Order.{Reordered}
 
@@ -17,7 +17,7 @@ use Rattle.promises.specs.Order.{Reordered}
 abbrev pub CostsNothing : Type 0
 CostsNothing = (t : Table) → Good t → (all : Bool) (marks : List ℕ) → Both (SameResult (t .header .borders)) (outcomeFor all marks t) (outcomeTaking unshortened all marks t)
 
--- Any order of the rows, numbered anew, gives the same ATCs and rounds; and where the table is refused, the same number.
+-- Any order of the rows, numbered again, gives the same ATCs and rounds; and where the table is refused, the same number.
 abbrev pub AnyOrder : Type 0
 AnyOrder = (t t′ : Table) → Good t → Reordered t t′ → (all : Bool) (marks : List ℕ) → Both (SameResult (t .header .borders)) (outcomeFor all marks t) (outcomeFor all marks t′)
 

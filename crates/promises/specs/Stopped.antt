@@ -1,5 +1,5 @@
 -- 02, E7: which row stopped a border, and which round raised it last, in the words of the table and of its result, with any borders marked (02, E13). The statements,
--- proved of every accepted table (`proofs/Stopped.antt`). Rows, states and factors are the table's own.
+-- proved of every accepted table (crate theorems, proofs/Stopped). Rows, states and factors are the table's own.
 use mathlib.Core.Path.{_≡_}
 use mathlib.Core.Bool.{Bool, true}
 use mathlib.Core.List.{List, []}
@@ -8,13 +8,14 @@ use Prim.Native.Nat.{ℕ, _/_, _≤_, _<_}
 use lib.IntN.{ℤ, pos}
 use lib.ListN.{getD}
 use Rattle.numbers.specs.Ints.{minus}
-use Rattle.kinds.specs.Ranges.{atℤ}
+use Rattle.types.specs.Ranges.{atℤ}
 use Rattle.table.specs.Table.{Table, borderAt, factorsAt}
 use Rattle.rounds.specs.Rounds.{sharers}
 use Rattle.rounds.specs.Last.{LastRaise}
 use Rattle.margin.specs.Margin.{pOf}
-use Rattle.states.specs.Rows.{rowsOf}
-use Rattle.start.specs.Start.{kept, gridMarked, tableStart}
+use Rattle.states.specs.Standings.{standingsOf}
+use Rattle.states.specs.States.{kept}
+use Rattle.start.specs.Start.{gridMarked, tableStart}
 use Rattle.extraction.specs.Extraction.{Result, resultMarked, leftOf, lastOf, stopOf}
 
 -- what border b could rise by from row i's equal share of its margin left, whole kW: shared among the marked borders
@@ -24,14 +25,14 @@ shareKw t marked r b i = leftOf r i / sharers (gridMarked marked t) i / pOf (fac
 -- row i is the first kept row with p > 0 whose equal share at the end is under one kW for border b
 pub record StoppedBy (t : Table) (marked : ℕ → Bool) (r : Result) (b i : ℕ) : Type 0 where
   pub row : i < t .header .rows
-  pub takes : kept (rowsOf t .states) i ≡ true
+  pub takes : kept (standingsOf t .states) i ≡ true
   pub loads : 0 < pOf (factorsAt t i) (borderAt t b)
   pub under : shareKw t marked r b i < 1
-  pub first : (j : ℕ) → j < i → kept (rowsOf t .states) j ≡ true → 0 < pOf (factorsAt t j) (borderAt t b) → 1 ≤ shareKw t marked r b j
+  pub first : (j : ℕ) → j < i → kept (standingsOf t .states) j ≡ true → 0 < pOf (factorsAt t j) (borderAt t b) → 1 ≤ shareKw t marked r b j
 
--- of a marked border
+-- what is known of a marked border
 pub record BorderStopped (t : Table) (marked : ℕ → Bool) (r : Result) (b : ℕ) : Type 0 where
-  -- there is such a row, and the result has it
+  -- some row stopped it, and the result has this row
   pub row : ℕ
   pub found : stopOf r b ≡ some row
   pub stopped : StoppedBy t marked r b row
@@ -50,13 +51,13 @@ lastIn atcs b = atℤ (getD atcs b []) 1
 abbrev pub rowIn : (atcs : List (List ℤ)) → (b : ℕ) → ℤ
 rowIn atcs b = atℤ (getD atcs b []) 2
 
--- .. of a marked border
+-- a marked border's last round and row, as the lent results hold them
 pub record LeftStopped (t : Table) (marked : ℕ → Bool) (atcs : List (List ℤ)) (b : ℕ) : Type 0 where
   pub of-result : BorderStopped t marked (resultMarked marked t) b
   pub row-left : rowIn atcs b ≡ pos (of-result .row)
   pub last-left : lastIn atcs b ≡ pos (lastOf (resultMarked marked t) b)
 
--- .. and of one that is not marked: 0, and -1 for "-"
+-- a border that is not marked, in the lent results: last round 0, and row -1 for "-"
 pub record LeftUnmarked (atcs : List (List ℤ)) (b : ℕ) : Type 0 where
   pub row-left : rowIn atcs b ≡ minus 1
   pub last-left : lastIn atcs b ≡ pos 0

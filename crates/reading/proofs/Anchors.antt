@@ -1,23 +1,24 @@
 -- Reading with a correction sheet, computed on a small day (02, E2). Nobody cites it: it refuses a definition that slipped.
 -- A blank stands for a tab, / for an LF. The day has 2 zones, one border and 2 rows, of which a sheet corrects the second.
-use mathlib.Core.Path.{_≡_, refl}
+use mathlib.Core.Path.{refl}
 use mathlib.Core.List.{List, [], _∷_, _++_}
 use Prim.Native.Nat.{ℕ}
 use Prim.Native.String.{String}
 use lib.IntN.{ℤ, pos}
 use Rattle.numbers.specs.Below.{firstFrom, given}
 use Rattle.numbers.specs.Ints.{minus, inside, sameℤ, sumℤ}
-use Rattle.kinds.specs.declared.Header.{Header}
-use Rattle.kinds.specs.Ranges.{headerFits, allocatedItems, zoneFits, exists, hubsFit, borderFits, shareOf, rowOf, rowFits, factorFits}
-use Rattle.kinds.specs.Refusals.{Judged, passed, refused, refusal, then, either, unless, refuseAt, refuseFirst, need}
+use Rattle.numbers.specs.Computed.{_is_, Hold}
+use Rattle.refusals.specs.Refusals.{Judged, passed, refused, refusal, then, either, unless, refuseAt, refuseFirst, need}
+use Rattle.types.specs.declared.Header.{Header}
+use Rattle.types.specs.Ranges.{headerFits, allocatedItems, zoneFits, exists, hubsFit, borderFits, shareOf, rowOf, rowFits, factorFits}
 use Rattle.text.specs.Fields.{numberAt, signedAt, shareAt}
-use Rattle.text.specs.Sheets.{sheet}
+use Rattle.text.specs.Shown.{shown}
 use Rattle.columns.specs.Columns.{fieldAt, fieldsAt}
 use Rattle.columns.specs.ColumnLine.{headAt, restAt, columnsLine}
 use Rattle.columns.specs.Optional.{optionalLine}
 use Rattle.blame.specs.Blame.{goodAt, byteAt, fieldsByte, lineByte}
 use Rattle.blame.specs.RangeBlame.{pastSeps, rangeByte}
-use Rattle.runs.specs.Block.{linesAt}
+use Rattle.sections.specs.Section.{linesAt}
 use Rattle.table.specs.Table.{Table, lent, balanced, twice, roomFor}
 use Rattle.lines.specs.Lines.{headerLine, positionLine, borderLine, rowLine}
 use Rattle.corrections.specs.Corrections.{ofRow, endedIndex, givenIndex, dueIndex}
@@ -31,14 +32,14 @@ abbrev rows : String
 rows = "C 0 100 0 0 0 7000 0 0 20000 0/C 1 100 0 0 0 7000 0 0 0 5000/"
 
 abbrev day : (lines : String) → List ℕ
-day lines = sheet lines ++ sheet rows
+day lines = shown lines ++ shown rows
 
 abbrev plain : List ℕ
 plain = day "H 2 1 2/Z 0 5/Z 1 -5/B 0 0 1 100/"
 
--- row 1 is another, with "-" for R
+-- row 1 with other values, and "-" for R
 abbrev noon : List ℕ
-noon = sheet "C 1 90 1 2 3 - 4 5 -6 7/"
+noon = shown "C 1 90 1 2 3 - 4 5 -6 7/"
 
 abbrev merged : (share : ℤ) → (intraday : ℕ) → (allocated : List ℤ) → Table
 merged share intraday allocated =
@@ -52,32 +53,20 @@ bad number place byte = refused (refusal number place byte)
 abbrev answered : (text corrections : List ℕ) → Judged Header
 answered text corrections = readCorrectedLeft text corrections [] [] [] [] [] .answer
 
-pub record Noon : Type 0 where
-  -- the sheet's row where it has one, and else the day's
-  pub one : readCorrected plain noon ≡ passed (merged (minus 1) 0 [])
-  -- all but the rows is the day's: the default of R, and the profile
-  pub default : readCorrected (day "H 2 1 2 6000/Z 0 5/Z 1 -5/B 0 0 1 100/") noon ≡ passed (merged (pos 6000) 0 [])
-  pub intraday : readCorrected (day "H 2 1 2/Z 0 5/Z 1 -5/T 0 3/T 1 -3/B 0 0 1 100/") noon ≡ passed (merged (minus 1) 1 (pos 3 ∷ minus 3 ∷ []))
-  -- 10, the sheet's line and its byte
-  pub faulty : readCorrected plain (sheet "C 1 90 1 2 3 - 4 5 -6 7/C 1 90 1 2 3 - 4 5 -6 7/") ≡ bad 10 2 3
-  -- after 2, 3 and 4 of the day's text, and before 8
-  pub after-2 : readCorrected (day "H 2 1 2/Z 0 5/Z 1 -5/B 0 0 1 +1/") (sheet "x") ≡ bad 2 4 9
-  pub after-3 : readCorrected (day "H 2 1 2/Z 0 5/Z 1 -5/B 0 0 0 100/") (sheet "x") ≡ bad 3 4 7
-  pub after-4 : readCorrected (day "H 2 2 2/Z 0 5/Z 1 -5/B 0 0 1 100/B 1 0 1 100/") (sheet "x") ≡ bad 4 1 0
-  pub before-8 : answered plain (sheet "x") ≡ refused (refusal 10 1 0)
-  pub then-8 : answered plain noon ≡ refused (refusal 8 2 0)
-
-pub noons : Noon
+pub noons : Hold (
+    -- the sheet's row where it has one, and else the day's
+    readCorrected plain noon is passed (merged (minus 1) 0 [])  -- one
+    -- all but the rows is the day's: the default of R, and the profile
+    ∷ readCorrected (day "H 2 1 2 6000/Z 0 5/Z 1 -5/B 0 0 1 100/") noon is passed (merged (pos 6000) 0 [])  -- default
+    ∷ readCorrected (day "H 2 1 2/Z 0 5/Z 1 -5/T 0 3/T 1 -3/B 0 0 1 100/") noon is passed (merged (minus 1) 1 (pos 3 ∷ minus 3 ∷ []))  -- intraday
+    -- 10, the sheet's line and its byte
+    ∷ readCorrected plain (shown "C 1 90 1 2 3 - 4 5 -6 7/C 1 90 1 2 3 - 4 5 -6 7/") is bad 10 2 3  -- faulty
+    -- after 2, 3 and 4 of the day's text, and before 8
+    ∷ readCorrected (day "H 2 1 2/Z 0 5/Z 1 -5/B 0 0 1 +1/") (shown "x") is bad 2 4 9  -- after-2
+    ∷ readCorrected (day "H 2 1 2/Z 0 5/Z 1 -5/B 0 0 0 100/") (shown "x") is bad 3 4 7  -- after-3
+    ∷ readCorrected (day "H 2 2 2/Z 0 5/Z 1 -5/B 0 0 1 100/B 1 0 1 100/") (shown "x") is bad 4 1 0  -- after-4
+    ∷ answered plain (shown "x") is refused (refusal 10 1 0)  -- before-8
+    ∷ answered plain noon is refused (refusal 8 2 0)  -- then-8
+    ∷ [])
 unfolding computing
-noons =
-    record {
-      one = refl;
-      default = refl;
-      intraday = refl;
-      faulty = refl;
-      after-2 = refl;
-      after-3 = refl;
-      after-4 = refl;
-      before-8 = refl;
-      then-8 = refl;
-    }
+noons = refl

@@ -1,10 +1,10 @@
--- 02, E2: an empty correction sheet changes nothing. The call with it is the call without it.
+-- 02, E2: an empty correction sheet changes nothing. The call with an empty sheet is the call without a sheet.
 use mathlib.Core.Path.{_≡_, refl, sym, ap, _∙_}
 use mathlib.Core.List.{List, []}
 use Prim.Native.Nat.{ℕ}
 use native.Mathlib.Omega.{arith}
 use lib.IntN.{ℤ}
-use Rattle.kinds.specs.Refusals.{Judged, passed, refused}
+use Rattle.refusals.specs.Refusals.{Judged, passed, refused}
 use Rattle.table.specs.Table.{Table}
 use Rattle.reading.specs.Reading.{readText, readCorrected, tablesLeft, readLeft, readCorrectedLeft}
 use Rattle.reading.proofs.ReadLaws.{reading}

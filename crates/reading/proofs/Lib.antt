@@ -1,10 +1,8 @@
 pub mod Anchors
+pub mod AnswerLaws
 pub mod ReadLaws
 pub mod JudgedTextLaws
-pub mod FilledLaws
-pub mod Unique
 pub mod LeftLaws
 pub mod CorrectedLaws
 pub mod EmptySheet
-pub mod OwnLines
 pub mod IntoLaws

@@ -1,4 +1,4 @@
--- What is known of a table that was read: its header and runs of lines (`opened`), and that it is good (`read-good`, `read-shaped`). No contract cites this file.
+-- What is known of a table that was read: its header and sections of lines (`opened`), and that it is good (`read-good`, `read-shaped`). No contract cites this file.
 use mathlib.Core.Path.{_≡_, refl, sym, ap, subst, _∙_}
 use mathlib.Core.Bool.{Bool, true, false, cond}
 use mathlib.Core.List.{List, []}
@@ -8,23 +8,23 @@ use lib.Dec.{ltb}
 use lib.IntN.{ℤ, pos}
 use lib.ListN.{length, getD}
 use borrow.Author.Tests.{ltb-false}
-use Rattle.kinds.specs.declared.Header.{Header}
-use Rattle.kinds.specs.Limits.{bytesMost}
-use Rattle.kinds.specs.Ranges.{headerFits, isIntraday, allocatedItems, profiled, zoneFits, rowFits, factorFits, atℤ}
-use Rattle.kinds.specs.declared.Refusal.{Refusal}
-use Rattle.kinds.specs.Refusals.{Judged, passed, refused, unless, tooLong, wrongFormAt, wrongForm, outOfRangeAt}
-use Rattle.kinds.proofs.RefusalLaws.{passed-is, not-passed, unless-passed, none-passed, then-passed}
-use Rattle.kinds.proofs.KindLaws.{header-in, profiled-fits}
+use Rattle.limits.specs.Limits.{bytesMost}
+use Rattle.refusals.specs.declared.Refusal.{Refusal}
+use Rattle.refusals.specs.Refusals.{Judged, passed, refused, unless, tooLong, wrongFormAt, wrongForm, outOfRangeAt}
+use Rattle.refusals.proofs.RefusalLaws.{passed-is, not-passed, unless-passed, none-passed, then-passed}
+use Rattle.types.specs.declared.Header.{Header}
+use Rattle.types.specs.Ranges.{headerFits, isIntraday, allocatedItems, profiled, zoneFits, rowFits, factorFits, atℤ}
+use Rattle.types.proofs.RangeLaws.{header-in, profiled-fits}
 use Rattle.text.specs.Line.{lineAt, after, Line, holds, form, range}
-use Rattle.runs.specs.Block.{read, linesAt}
-use Rattle.runs.proofs.BlockLaws.{allFit}
-use Rattle.runs.proofs.RunLaws.{run-fits, fits-at, lines-then}
+use Rattle.sections.specs.Section.{read, linesAt}
+use Rattle.sections.proofs.SectionLaws.{allFit}
+use Rattle.sections.proofs.SectionRecords.{section-fits, fits-at, lines-then}
 use Rattle.table.specs.Table.{Table, stretch, balanced, twice, notTwice, headerLineNo, zoneLineNo, allocatedLineNo, borderLineNo, rowLineNo, pastLineNo}
 use Rattle.table.specs.Good.{Good, Shaped}
 use Rattle.table.proofs.GoodLaws.{row-good, flat-fit}
 use Rattle.lines.specs.Lines.{RowLine, headerLine, zoneLine, allocatedLine, borderLine}
-use Rattle.runs.specs.Rows.{valuesOf, factorsOf, asGiven, pickedRow}
-use Rattle.runs.proofs.RowLaws.{emptyRow, values-long, values-at, factors-long, stretch-of}
+use Rattle.sections.specs.Rows.{valuesOf, factorsOf, asGiven, pickedRow}
+use Rattle.sections.proofs.RowLaws.{emptyRow, values-long, values-at, factors-long, stretch-of}
 use Rattle.reading.specs.Reading.{withHeader, intradayAt, rowsFrom, linesBy, linesOf, readText}
 use Rattle.lines.proofs.HeaderTrip.{header-read, header-plain}
 use Rattle.lines.proofs.ZoneTrip.{zone-read}
@@ -136,21 +136,21 @@ module _ (pick : List ℕ → ℕ → List ℕ) (text : List ℕ) (t : Table) (o
   some = omega (arith, header-in (t .header) fits .zones-least)
 
   pub nets-held : (length (t .nets) ≡ t .header .zones) × allFit (λ i net. zoneFits net ≡ true) 0 (t .nets)
-  nets-held = run-fits zoneLine zoneLineNo (λ i net. zoneFits net ≡ true) (λ line i net e. zone-read _ line i net e .1) (t .header .zones) text (after text 0) 0 (t .nets) (o .p) (o .nets-are)
+  nets-held = section-fits zoneLine zoneLineNo (λ i net. zoneFits net ≡ true) (λ line i net e. zone-read _ line i net e .1) (t .header .zones) text (after text 0) 0 (t .nets) (o .p) (o .nets-are)
 
   pub allocated-held : (length (t .allocated) ≡ allocatedItems (t .header)) × allFit (λ i net. zoneFits net ≡ true) 0 (t .allocated)
   allocated-held =
-      run-fits allocatedLine (allocatedLineNo (t .header)) (λ i net. zoneFits net ≡ true) (λ line i net e. zone-read _ line i net e .1)
+      section-fits allocatedLine (allocatedLineNo (t .header)) (λ i net. zoneFits net ≡ true) (λ line i net e. zone-read _ line i net e .1)
       (allocatedItems (t .header)) text (o .p) 0 (t .allocated) (o .o) (o .allocated-are)
 
   pub borders-held : (length (t .borders) ≡ t .header .borders) × allFit (λ i raw. BorderHeld (t .header .zones) raw) 0 (t .borders)
   borders-held =
-      run-fits (borderLine (t .header .zones)) (borderLineNo (t .header)) (λ i raw. BorderHeld (t .header .zones) raw) (λ line i raw e. border-read (t .header .zones) line i raw e .1)
+      section-fits (borderLine (t .header .zones)) (borderLineNo (t .header)) (λ i raw. BorderHeld (t .header .zones) raw) (λ line i raw e. border-read (t .header .zones) line i raw e .1)
       (t .header .borders) text (o .o) 0 (t .borders) (o .q) (o .borders-are)
 
   pub rows-held : (length (o .lines) ≡ t .header .rows) × allFit (RowHeldAt (t .header .zones)) 0 (o .lines)
   rows-held =
-      run-fits (pickedRow (t .header .zones) pick) (rowLineNo (t .header)) (RowHeldAt (t .header .zones)) (λ line i c e. row-read rowKind.Table (t .header .zones) (pick line i) i c e .1)
+      section-fits (pickedRow (t .header .zones) pick) (rowLineNo (t .header)) (RowHeldAt (t .header .zones)) (λ line i c e. row-read rowKind.Table (t .header .zones) (pick line i) i c e .1)
       (t .header .rows) text (o .q) 0 (o .lines) (o .e) (o .rows-are)
 
   border-at : (b : ℕ) → b < t .header .borders → BorderHeld (t .header .zones) (getD (t .borders) b [])

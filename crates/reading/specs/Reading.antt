@@ -8,18 +8,18 @@ use lib.Dec.{ltb, leb, eqb}
 use lib.IntN.{ℤ}
 use lib.ListN.{length}
 use Rattle.numbers.specs.Below.{at, over}
-use Rattle.kinds.specs.declared.Header.{Header}
-use Rattle.kinds.specs.declared.Read.{Read}
-use Rattle.kinds.specs.declared.Read.the-variants as read
-use Rattle.kinds.specs.Limits.{bytesMost}
-use Rattle.kinds.specs.Ranges.{allocatedItems, profiled}
-use Rattle.kinds.specs.Refusals.{Judged, passed, refused, then, either, unless, tooLong, wrongFormAt, wrongForm, outOfRangeAt}
+use Rattle.limits.specs.Limits.{bytesMost}
+use Rattle.refusals.specs.Refusals.{Judged, passed, refused, then, either, unless, tooLong, wrongFormAt, wrongForm, outOfRangeAt}
+use Rattle.types.specs.declared.Header.{Header}
+use Rattle.types.specs.Ranges.{allocatedItems, profiled}
 use Rattle.text.specs.Line.{lineAt, after, Line, holds, form, range}
-use Rattle.runs.specs.Block.{linesAt, withLines}
+use Rattle.sections.specs.Section.{linesAt, withLines}
 use Rattle.table.specs.Table.{Table, lent, front, balanced, notTwice, tableRoom, headerLineNo, zoneLineNo, allocatedLineNo, lastAllocatedLineNo, borderLineNo, rowLineNo, pastLineNo}
 use Rattle.lines.specs.Lines.{headerLine, zoneLine, allocatedLine, borderLine}
-use Rattle.corrections.specs.Corrections.{pieces, handedOn, judgeSheet}
-use Rattle.runs.specs.Rows.{valuesOf, factorsOf, asGiven, pickedRow}
+use Rattle.corrections.specs.Corrections.{pieces, handedOn, judgeCorrections}
+use Rattle.sections.specs.Rows.{valuesOf, factorsOf, asGiven, pickedRow}
+use Rattle.reading.specs.declared.TableRead.{TableRead}
+use Rattle.reading.specs.declared.TableRead.the-variants as read
 
 abbrev pub withHeader : {A : Type 0} → Line Header → (Header → Judged A) → Judged A
 withHeader (holds h) next = next h
@@ -27,8 +27,8 @@ withHeader (form byte) next = refused (wrongFormAt headerLineNo byte)
 withHeader (range byte) next = refused (outOfRangeAt headerLineNo byte)
 
 -- which of the two profiles a text is of is seen from the letter of the line after the last Z line: T means the intraday one (02, E12)
-abbrev pub intradayAt : (text : List ℕ) → (p : ℕ) → Bool
-intradayAt text p = eqb (at text p) (code "T")
+abbrev pub intradayAt : (text : List ℕ) → (place : ℕ) → Bool
+intradayAt text place = eqb (at text place) (code "T")
 
 -- the first byte of the last T line's position: before it stand T, a tab, the line's index (one digit up to ten zones, and then two) and a tab
 abbrev pub balanceByte : (zones : ℕ) → ℕ
@@ -41,25 +41,25 @@ rowsFrom pick text h nets allocated borders q =
     cond (ltb e (length text)) (refused (wrongForm (pastLineNo h)))
     (passed (record { header = h; nets = nets; allocated = allocated; borders = borders; rows = valuesOf rows; factors = factorsOf rows })))
 
--- .. and before them all B lines, from place o on
+-- all B lines, from place o on, and then all C lines
 abbrev pub bordersFrom : (pick : List ℕ → ℕ → List ℕ) → (text : List ℕ) → Header → (nets allocated : List ℤ) → (o : ℕ) → Judged Table
 bordersFrom pick text h nets allocated o =
     withLines (linesAt (borderLine (h .zones)) (borderLineNo h) (h .borders) text o 0) (λ borders q.
     rowsFrom pick text h nets allocated borders q)
 
--- .. and before them, from place p on, no T line or one for each zone, whose positions sum to zero: this is judged at the last T line
-abbrev pub allocatedFrom : (pick : List ℕ → ℕ → List ℕ) → (text : List ℕ) → Header → (nets : List ℤ) → (p : ℕ) → Judged Table
-allocatedFrom pick text h nets p =
-    withLines (linesAt allocatedLine (allocatedLineNo h) (allocatedItems h) text p 0) (λ allocated o.
+-- from `place` on no T line, or one for each zone, whose positions sum to zero (judged at the last T line); and then all B and C lines
+abbrev pub allocatedFrom : (pick : List ℕ → ℕ → List ℕ) → (text : List ℕ) → Header → (nets : List ℤ) → (place : ℕ) → Judged Table
+allocatedFrom pick text h nets place =
+    withLines (linesAt allocatedLine (allocatedLineNo h) (allocatedItems h) text place 0) (λ allocated o.
     unless (balanced allocated) (outOfRangeAt (lastAllocatedLineNo h) (balanceByte (h .zones)))
     (bordersFrom pick text h nets allocated o))
 
--- one H line, then all Z, T (where they are there), B, C lines, each kind by index from 0; nothing follows
+-- one H line, then all Z, T (where the table has them), B, C lines, each kind by index from 0; nothing follows
 unfoldable pub linesBy : (pick : List ℕ → ℕ → List ℕ) → (text : List ℕ) → Judged Table
 linesBy pick text =
     withHeader (headerLine (lineAt text 0)) (λ counts.
-    withLines (linesAt zoneLine zoneLineNo (counts .zones) text (after text 0) 0) (λ nets p.
-    allocatedFrom pick text (profiled counts (intradayAt text p)) nets p))
+    withLines (linesAt zoneLine zoneLineNo (counts .zones) text (after text 0) 0) (λ nets place.
+    allocatedFrom pick text (profiled counts (intradayAt text place)) nets place))
 
 abbrev pub linesOf : (text : List ℕ) → Judged Table
 linesOf text = linesBy asGiven text
@@ -68,13 +68,13 @@ linesOf text = linesBy asGiven text
 unfoldable pub readText : (text : List ℕ) → Judged Table
 readText text = cond (ltb bytesMost (length text)) (refused tooLong) (then (linesOf text) notTwice)
 
--- with a correction sheet: 1 of either text, then 2 to 4 of the day's, then 10; and then each row's line is the piece of the sheet that holds it, or else the
+-- reading with a correction sheet judges 1 of either text, then 2 to 4 of the day's, then 10; and then each row's line is the piece of the sheet that holds it, or else the
 -- piece of the day's text
 unfoldable pub readCorrected : (text sheet : List ℕ) → Judged Table
 readCorrected text sheet =
     cond (ltb bytesMost (length sheet)) (refused tooLong)
     (then (readText text) (λ day.
-    then (judgeSheet (day .header .zones) (day .header .rows) sheet) (λ _.
+    then (judgeCorrections (day .header .zones) (day .header .rows) sheet) (λ _.
     linesBy (handedOn (pieces sheet)) text)))
 
 -- what reading leaves: its answer, and each lent table
@@ -86,7 +86,7 @@ pub record ReadLeft : Type 0 where
   pub c : List (List ℤ)
   pub f : List ℤ
 
--- .. and then 8. A refusal writes nothing; else the table stands in front, and the rest stays as it was
+-- room for the table is judged last (8). A refusal writes nothing; else the table stands in front, and the rest of each buffer is not changed
 unfoldable pub tablesLeft : Judged Table → (z t : List ℤ) → (b c : List (List ℤ)) → (f : List ℤ) → ReadLeft
 tablesLeft judged z t b c f =
     either (then judged (λ u. tableRoom (u .header) (lent (u .header) z t b c f) (passed u)))
@@ -100,7 +100,7 @@ readLeft text z t b c f = tablesLeft (readText text) z t b c f
 abbrev pub readCorrectedLeft : (text sheet : List ℕ) → (z t : List ℤ) → (b c : List (List ℤ)) → (f : List ℤ) → ReadLeft
 readCorrectedLeft text sheet z t b c f = tablesLeft (readCorrected text sheet) z t b c f
 
--- what a read into room for the largest table comes to: the table stands in front; where it is refused, what the lent tables hold says nothing
-abbrev pub readInto : Read → (z t : List ℤ) → (b c : List (List ℤ)) → (f : List ℤ) → Judged Table
+-- what a read into room for the largest table comes to: the table stands in front; where it is refused, nothing is said of the lent tables
+abbrev pub readInto : TableRead → (z t : List ℤ) → (b c : List (List ℤ)) → (f : List ℤ) → Judged Table
 readInto (read.Table h) z t b c f = passed (front (lent h z t b c f))
 readInto (read.Refused w) z t b c f = refused w

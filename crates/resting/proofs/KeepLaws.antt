@@ -1,22 +1,18 @@
--- The list of the borders that still rise: keeping those above 0, in the list itself (`Keeping` is that loop's invariant), and whether there is one (`Still`). No contract cites this file.
-use mathlib.Core.Path.{_≡_, refl, sym, ap, ap₂, _∙_}
-use mathlib.Core.Bool.{true, false}
+-- The list of the borders that still rise: keeping those above 0, in the list itself (`Keeping` is that loop's invariant). No contract cites this file.
+use mathlib.Core.Path.{_≡_, refl, ap, ap₂, _∙_}
 use mathlib.Core.List.{List}
 use mathlib.Core.Logic.{⊎-elim}
 use Prim.Native.Nat.{ℕ, _+_, _≤_, _<_}
 use native.Mathlib.Nat.{not-suc-le-zero, le-refl}
 use native.Mathlib.Numerals.{add-one}
 use native.Mathlib.Omega.{arith}
-use borrow.Author.Tests.{lt-ltb, le-ltb}
-use lib.Dec.{ltb}
 use lib.ListN.{length, set, length-set}
 use lib.Seq.{getD-set-same, getD-set-other}
-use Rattle.numbers.specs.Below.{at, sum, count}
-use Rattle.numbers.proofs.BelowLaws.{lt-suc-cases, le-or-lt, sum-cong, count-pos, count-some}
+use Rattle.numbers.specs.Below.{at, sum}
+use Rattle.numbers.proofs.BelowLaws.{lt-suc-cases, sum-cong}
 use Rattle.walk.specs.Walk.{Listed}
-use Rattle.walk.proofs.ListedLaws.{listed-has}
 
--- the first j places of the list were looked at, and what they held of borders above 0 stands in the first `kept`
+-- the first j places of the list were looked at; the borders above 0 among them stand in the first `kept` places
 pub record Keeping (borders : ℕ) (v list₀ list : List ℕ) (live j kept : ℕ) : Type 0 where
   pub high : j ≤ live
   pub few : kept ≤ j
@@ -102,33 +98,3 @@ keeping-all {borders} {v} {list₀} {list} {live} {j} {kept} q u h =
       inside = u .inside;
       adds = λ w z. u .adds w z ∙ ap (λ (j′ : ℕ). sum j′ (λ j′. w (at list₀ j′))) e ∙ q .adds w z;
     }
-
--- ---- whether a border rises
-
--- of the first j listed borders none rises
-pub record Still (v list : List ℕ) (live j : ℕ) : Type 0 where
-  pub high : j ≤ live
-  pub none : (j′ : ℕ) → j′ < j → at v (at list j′) ≤ 0
-
-pub still-none : (v list : List ℕ) (live : ℕ) → Still v list live 0
-still-none v list live = record { high = omega arith; none = λ j′ h. absurd (not-suc-le-zero h) }
-
-pub still-more : {v list : List ℕ} {live j : ℕ} → Still v list live j → j < live → at v (at list j) ≤ 0 → Still v list live (j + 1)
-still-more {v} {list} {live} {j} u hj z =
-    record { high = omega arith; none = λ j′ h. ⊎-elim (λ a. u .none j′ a) (λ y. rw y z) (lt-suc-cases j′ j (rw add-one at h)) }
-
-module _ {borders : ℕ} {v list : List ℕ} {live j : ℕ} (q : Listed borders v list live) where
-  pub still-some : j < live → 0 < at v (at list j) → true ≡ ltb 0 (count borders (at v))
-  still-some hj z = sym (lt-ltb 0 (count borders (at v)) (count-pos borders (at v) (at list j) (q .inside j hj) z))
-
-  pub still-all : Still v list live j → live ≤ j → false ≡ ltb 0 (count borders (at v))
-  still-all u h =
-      sym
-      (le-ltb 0 (count borders (at v))
-      (⊎-elim
-      (λ z. z)
-      (λ z.
-      let b = count-some borders (at v) z in
-      let s = listed-has q (b .0) (b .1) (b .2) in
-      omega (arith, u .none (s .0) (omega (arith, s .1)), ap (at v) (s .2), b .2))
-      (le-or-lt (count borders (at v)) 0)))

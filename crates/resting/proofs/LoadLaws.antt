@@ -1,4 +1,4 @@
--- What rows lose, by sums of raises and by lower ones, and what is left to them (`leftTo`). The raises of a round bound those of the next (`raises-bound`). No contract cites this file.
+-- What rows lose, by sums of raises and by lower ones, and what is left to them (`leftTo`). The raises of a round cap those of the next (`raises-cap`). No contract cites this file.
 use mathlib.Core.Path.{_≡_, sym, ap, _∙_, subst}
 use mathlib.Core.List.{List}
 use mathlib.Core.Logic.{⊎-elim}
@@ -11,7 +11,7 @@ use Rattle.numbers.proofs.BelowLaws.{le-or-lt, sum-cong, sum-mono, sum-add, sum
 use Rattle.rounds.specs.Rounds.{Grid, sharers, raise, raises, load, lowered, risen, next, apply}
 use Rattle.rounds.proofs.LeastLaws.{Smallest}
 use Rattle.rounds.proofs.Round.{raises-are, share-fits, load-fits, raiser, raise-falls}
-use Rattle.walk.specs.Walk.{Bounds, part, mostPart}
+use Rattle.walk.specs.Walk.{Caps, part, mostLoad}
 use Rattle.resting.specs.Resting.{leftTo}
 
 -- ---- loads
@@ -39,10 +39,10 @@ module _ (g : Grid) (i : ℕ) where
     unfolding load
     load-less = sum-mono (g .borders) (λ b. g .p i b * at v b) (λ b. g .p i b * at w b) (λ b hb. mul-le-mul-left (g .p i b) (h b hb))
 
-    pub most-less : mostPart g i v ≤ mostPart g i w
-    unfolding mostPart part
+    pub most-less : mostLoad g i v ≤ mostLoad g i w
+    unfolding mostLoad part
     most-less =
-        largest-under (g .borders) (part g i v) (mostPart g i w)
+        largest-under (g .borders) (part g i v) (mostLoad g i w)
         (λ b hb. le-trans (mul-le-mul-left (g .p i b) (h b hb)) (largest-le (g .borders) (part g i w) b hb))
 
 -- ---- what is left
@@ -70,10 +70,10 @@ module _ (g : Grid) (m : List ℕ) {w : List ℕ} (e : w ≡ raises g m) where
   raises-within i hi = rw e (load-fits g m i hi)
 
   -- n times the most part is within the margin
-  pub most-within : (i : ℕ) → i < g .rows → mostPart g i w * sharers g i ≤ at m i
-  unfolding mostPart part
+  pub most-within : (i : ℕ) → i < g .rows → mostLoad g i w * sharers g i ≤ at m i
+  unfolding mostLoad part
   most-within i hi =
-      let t : mostPart g i w ≤ at m i / sharers g i =
+      let t : mostLoad g i w ≤ at m i / sharers g i =
       largest-under (g .borders) (part g i w) (at m i / sharers g i) (λ b hb. rw (raises-are g m e b hb) (share-fits g m i b hi)) in
       le-trans (mul-le-mul-right (sharers g i) t) (div-mul-le-self (at m i) (sharers g i))
 
@@ -86,9 +86,9 @@ module _ (g : Grid) (m : List ℕ) {w : List ℕ} (e : w ≡ raises g m) where
   pub raises-less : {w′ : List ℕ} → w′ ≡ raises g (leftTo g w m) → (b : ℕ) → b < g .borders → at w′ b ≤ at w b
   raises-less e′ b hb = omega (arith, raises-are g m e b hb, raises-are g (leftTo g w m) e′ b hb, fall b)
 
-  -- so they bound the next ones
-  pub raises-bound : Bounds g (leftTo g w m) w
-  raises-bound b hb =
+  -- the raises of a round cap those of the next
+  pub raises-cap : Caps g (leftTo g w m) w
+  raises-cap b hb =
       let is = raises-are g m e b hb in
       let s : 0 < at w b → Smallest (g .rows) (λ i. g .p i b) (λ i. at m i / sharers g i / g .p i b) (raise g m b) = λ z. raiser g m b (omega arith) in
       record { over = omega (arith, fall b); row = λ z. s z .i; inside = λ z. s z .below; loads = λ z. s z .counts }

@@ -13,7 +13,7 @@ use Rattle.numbers.proofs.BelowLaws.{lt-suc-cases, le-or-lt, ifZero-pos}
 use Rattle.rounds.specs.Rounds.{Grid, sharers, raises, load}
 use Rattle.rounds.proofs.Round.{raises-long}
 use Rattle.rounds.proofs.Loops.{ready-at}
-use Rattle.walk.specs.Walk.{mostPart, Partable}
+use Rattle.walk.specs.Walk.{mostLoad, Loadable}
 use Rattle.resting.specs.Resting.{leftTo, nearRow, nearRows, Yields, Placed, Sortable, Sorted, Watched}
 use Rattle.resting.proofs.LoadLaws.{load-none, left-at, raises-within, most-within}
 use Rattle.resting.proofs.YieldLaws.{yields-self}
@@ -52,24 +52,24 @@ sorting-none g s w list live wait near =
     }
 
 module _ {g : Grid} {ns s w list : List ℕ} {live : ℕ} (q : Sortable g ns s w list live) (i : ℕ) (hi : i < g .rows) where
-  pub sort-partable : Partable g i w w list live
-  sort-partable =
+  pub sort-loadable : Loadable g i w w list live
+  sort-loadable =
       record {
         raises = raises-long g s (q .found);
-        bounds = raises-long g s (q .found);
+        caps = raises-long g s (q .found);
         listed = q .listed;
         lower = λ b hb. le-refl (at w b);
         fits = omega (arith, raises-within g s (q .found) i hi, q .fits i hi);
       }
 
-  module _ (most loss : ℕ) (em : most ≡ mostPart g i w) (el : loss ≡ load g i w) where
-    sort-product : most * at ns i ≡ mostPart g i w * sharers g i
+  module _ (most loss : ℕ) (em : most ≡ mostLoad g i w) (el : loss ≡ load g i w) where
+    sort-product : most * at ns i ≡ mostLoad g i w * sharers g i
     sort-product = ap₂ _*_ em (ready-at (q .ready) i hi)
 
     pub sort-most : most * at ns i ≤ at s i
     sort-most = omega (arith, sort-product, most-within g s (q .found) i hi)
 
-    pub far-rests : (wait : ℕ) → 0 < wait → loss ≤ (at s i - most * at ns i) / wait → wait * load g i w + mostPart g i w * sharers g i ≤ at s i
+    pub far-rests : (wait : ℕ) → 0 < wait → loss ≤ (at s i - most * at ns i) / wait → wait * load g i w + mostLoad g i w * sharers g i ≤ at s i
     far-rests wait z h =
         let t : loss * wait ≤ at s i - most * at ns i = le-div-iff-mul-le z .0 h in
         omega (arith, t, sort-most, sort-product, ap (λ (v : ℕ). v * wait) el, mul-comm wait (load g i w))
@@ -79,7 +79,7 @@ either true h k = h refl
 either false h k = k refl
 
 module _ {g : Grid} {s w list : List ℕ} {live wait : ℕ} {near₀ near : List ℕ} {count i : ℕ} (u : Sorting g s w list live wait near₀ near count i) (hi : i < length near₀) where
-  pub sorting-more : {tight : Bool} {near′ : List ℕ} {count′ : ℕ} → Placed g s list live tight near count i near′ count′ → (tight ≡ false → wait * load g i w + mostPart g i w * sharers g i ≤ at s i) → Sorting g s w list live wait near₀ near′ count′ (i + 1)
+  pub sorting-more : {tight : Bool} {near′ : List ℕ} {count′ : ℕ} → Placed g s list live tight near count i near′ count′ → (tight ≡ false → wait * load g i w + mostLoad g i w * sharers g i ≤ at s i) → Sorting g s w list live wait near₀ near′ count′ (i + 1)
   sorting-more {tight} a rests =
       record {
         high = omega arith;

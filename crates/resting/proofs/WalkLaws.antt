@@ -1,4 +1,5 @@
--- The walk over the near rows (`Walking` is its invariant), each of which tightens the bounds for what is left to it, and why the rows that rest would tighten none. What holds between two rounds (`Waiting`): a round keeps it (`waiting-next`), and so does taking the losses and sorting anew (`block-renewed`).
+-- A round visits only the near rows (`Walking` is the walk's invariant); a resting row would lower no cap. `Waiting` holds between two rounds: a round keeps it
+-- (`waiting-next`), and so do lowering the margins and sorting again (`block-renewed`).
 -- No contract cites this file.
 use mathlib.Core.Path.{_≡_, refl, sym, ap, ap₂, _∙_}
 use mathlib.Core.List.{List}
@@ -11,23 +12,23 @@ use Rattle.numbers.specs.Below.{at, table}
 use Rattle.numbers.proofs.BelowLaws.{table-long, table-get}
 use Rattle.numbers.proofs.ListLaws.{Filled, filled-rest, filled-more}
 use Rattle.rounds.specs.Rounds.{Grid, sharers, raises, load, lowered, risen}
-use Rattle.rounds.specs.Work.{Ready}
+use Rattle.rounds.specs.AllRounds.{Ready}
 use Rattle.rounds.proofs.Round.{raises-long}
 use Rattle.rounds.proofs.Loops.{ready-at}
-use Rattle.walk.specs.Walk.{Listed, tightened, mostPart, Partable}
+use Rattle.walk.specs.Walk.{Listed, tightened, mostLoad, Loadable}
 use Rattle.walk.proofs.ListedLaws.{listed-all, listed-zero, listed-less}
-use Rattle.walk.proofs.PartLaws.{slack-part}
-use Rattle.walk.proofs.BoundLaws.{Bounded, bounded-none, bounded-less, bounded-more, bounded-all}
+use Rattle.walk.proofs.LoadLaws.{slack-part}
+use Rattle.walk.proofs.CapLaws.{Capped, capped-none, capped-less, capped-more, capped-all}
 use Rattle.resting.specs.Resting.{leftTo, Yields, Settleable, Sortable, Sorted, nearRow, nearRows, Waiting, Renewed, Walkable}
-use Rattle.resting.proofs.LoadLaws.{load-add, load-none, load-less, most-less, left-at, left-step, left-none, raises-within, most-within, raises-less, raises-bound}
+use Rattle.resting.proofs.LoadLaws.{load-add, load-none, load-less, most-less, left-at, left-step, left-none, raises-within, most-within, raises-less, raises-cap}
 use Rattle.resting.proofs.YieldLaws.{load-yields, most-yields}
 use Rattle.resting.proofs.SortLaws.{near-inside, watched-block, watched-none}
 
 -- ---- the walk
 
--- the first k near rows have tightened the bounds, which were w₀
+-- the first k near rows have tightened the caps, which were w₀
 pub record Walking (g : Grid) (s d near : List ℕ) (count : ℕ) (w₀ w : List ℕ) (k : ℕ) : Type 0 where
-  pub bounded : Bounded g (leftTo g d s) w (nearRow near count) (nearRows g near count) k
+  pub capped : Capped g (leftTo g d s) w (nearRow near count) (nearRows g near count) k
   pub lower : (b : ℕ) → b < g .borders → at w b ≤ at w₀ b
 
 module _ {g : Grid} {ns s d w₀ list : List ℕ} {live : ℕ} {near : List ℕ} {count : ℕ} (q : Walkable g ns s d w₀ list live near count) where
@@ -70,7 +71,7 @@ module _ {g : Grid} {ns s d w₀ list : List ℕ} {live : ℕ} {near : List ℕ}
   pub walking-none : Walking g s d near count w₀ w₀ 0
   walking-none =
       record {
-        bounded = bounded-none g (leftTo g d s) w₀ _ _ walk-long (rw old-left (raises-bound g old old-found));
+        capped = capped-none g (leftTo g d s) w₀ _ _ walk-long (rw old-left (raises-cap g old old-found));
         lower = λ b hb. le-refl (at w₀ b);
       }
 
@@ -85,11 +86,11 @@ module _ {g : Grid} {ns s d w₀ list : List ℕ} {live : ℕ} {near : List ℕ}
       pub walk-row : i < g .rows
       walk-row = omega (arith, near-inside (q .waiting .watched) k hk)
 
-      pub walk-partable : Partable g i d w list live
-      walk-partable =
+      pub walk-loadable : Loadable g i d w list live
+      walk-loadable =
           record {
             raises = gained-long;
-            bounds = u .bounded .long;
+            caps = u .capped .long;
             listed = gained-listed;
             lower = walk-lower;
             fits = omega (arith, gained-within i walk-row, q .waiting .fits i walk-row);
@@ -102,7 +103,7 @@ module _ {g : Grid} {ns s d w₀ list : List ℕ} {live : ℕ} {near : List ℕ}
       walk-n = ready-at (q .waiting .ready) i walk-row
 
       -- n times the most part is within the margin before the round
-      pub walk-most : (most : ℕ) → most ≡ mostPart g i w → most * at ns i < 2 ^ 64
+      pub walk-most : (most : ℕ) → most ≡ mostLoad g i w → most * at ns i < 2 ^ 64
       walk-most most e =
           rw (walk-n, e)
           (omega (
@@ -120,12 +121,12 @@ module _ {g : Grid} {ns s d w₀ list : List ℕ} {live : ℕ} {near : List ℕ}
         pub walking-more : Walking g s d near count w₀ w′ (k + 1)
         walking-more =
             record {
-              bounded = bounded-more (u .bounded) hk i ei walk-row (margin / at ns i) walk-share w′ ew;
-              lower = λ b hb. le-trans (bounded-less (u .bounded) hk i ei walk-row (margin / at ns i) walk-share w′ ew b hb) (u .lower b hb);
+              capped = capped-more (u .capped) hk i ei walk-row (margin / at ns i) walk-share w′ ew;
+              lower = λ b hb. le-trans (capped-less (u .capped) hk i ei walk-row (margin / at ns i) walk-share w′ ew b hb) (u .lower b hb);
             }
 
-    -- a row that rests allows no less
-    rest-slack : (i : ℕ) → i < g .rows → q .wait * load g i w₀ + load g i (q .before) + mostPart g i w₀ * sharers g i ≤ at s i → mostPart g i w * sharers g i ≤ at (leftTo g d s) i
+    -- a resting row allows no less
+    rest-slack : (i : ℕ) → i < g .rows → q .wait * load g i w₀ + load g i (q .before) + mostLoad g i w₀ * sharers g i ≤ at s i → mostLoad g i w * sharers g i ≤ at (leftTo g d s) i
     rest-slack i hi h =
         omega (
           arith,
@@ -136,13 +137,13 @@ module _ {g : Grid} {ns s d w₀ list : List ℕ} {live : ℕ} {near : List ℕ}
           left-at g d s i hi,
         )
 
-    -- nor does one that yields to a row that was looked at
-    led-slack : (i : ℕ) → i < g .rows → (j : ℕ) → j < nearRows g near count → Yields g s list live (nearRow near count j) i → ((b : ℕ) → b < g .borders → at w b * g .p (nearRow near count j) b ≤ at (leftTo g d s) (nearRow near count j) / sharers g (nearRow near count j)) → mostPart g i w * sharers g i ≤ at (leftTo g d s) i
+    -- a row that yields to a row that was looked at allows no less
+    led-slack : (i : ℕ) → i < g .rows → (j : ℕ) → j < nearRows g near count → Yields g s list live (nearRow near count j) i → ((b : ℕ) → b < g .borders → at w b * g .p (nearRow near count j) b ≤ at (leftTo g d s) (nearRow near count j) / sharers g (nearRow near count j)) → mostLoad g i w * sharers g i ≤ at (leftTo g d s) i
     led-slack i hi j hj y h =
         let t : ℕ = nearRow near count j in
         let ht : t < g .rows = near-inside (q .waiting .watched) j hj in
         let share : ℕ = at (leftTo g d s) t / sharers g t in
-        let m : mostPart g i w * sharers g i ≤ share * sharers g t = mul-le-mul (most-yields y walk-listed share h) (y .share) in
+        let m : mostLoad g i w * sharers g i ≤ share * sharers g t = mul-le-mul (most-yields y walk-listed share h) (y .share) in
         omega (
           arith,
           m,
@@ -154,15 +155,15 @@ module _ {g : Grid} {ns s d w₀ list : List ℕ} {live : ℕ} {near : List ℕ}
           y .margin,
         )
 
-    within : (i : ℕ) → mostPart g i w * sharers g i ≤ at (leftTo g d s) i → (b : ℕ) → b < g .borders → at w b * g .p i b ≤ at (leftTo g d s) i / sharers g i
-    within i h b hb = slack-part g i w (u .bounded .long) (sharers g i) (at (leftTo g d s) i) (mostPart g i w) refl refl h b hb
+    within : (i : ℕ) → mostLoad g i w * sharers g i ≤ at (leftTo g d s) i → (b : ℕ) → b < g .borders → at w b * g .p i b ≤ at (leftTo g d s) i / sharers g i
+    within i h b hb = slack-part g i w (u .capped .long) (sharers g i) (at (leftTo g d s) i) (mostLoad g i w) refl refl h b hb
 
     pub walking-all : nearRows g near count ≤ k → w ≡ raises g (leftTo g d s)
     walking-all h =
-        bounded-all (u .bounded)
+        capped-all (u .capped)
         (λ i hi b hb.
         ⊎-elim
-        (λ z. within i (led-slack i hi (z .place) (z .before) (z .yields) (u .bounded .under (z .place) (omega (arith, z .before)))) b hb)
+        (λ z. within i (led-slack i hi (z .place) (z .before) (z .yields) (u .capped .under (z .place) (omega (arith, z .before)))) b hb)
         (λ z. within i (rest-slack i hi z) b hb)
         (q .waiting .watched .each i hi))
 
@@ -172,9 +173,9 @@ module _ {g : Grid} {ns s d w₀ list : List ℕ} {live : ℕ} {near : List ℕ}
     fell : (b : ℕ) → b < g .borders → at w b ≤ at w₀ b
     fell = raises-less g old old-found (e ∙ ap (raises g) old-left)
 
-    rests-on : (wait i : ℕ) → q .wait ≡ wait + 1 → q .wait * load g i w₀ + load g i (q .before) + mostPart g i w₀ * sharers g i ≤ at s i → wait * load g i w + load g i d + mostPart g i w * sharers g i ≤ at s i
+    rests-on : (wait i : ℕ) → q .wait ≡ wait + 1 → q .wait * load g i w₀ + load g i (q .before) + mostLoad g i w₀ * sharers g i ≤ at s i → wait * load g i w + load g i d + mostLoad g i w * sharers g i ≤ at s i
     rests-on wait i y h =
-        let t : (wait + 1) * load g i w₀ + load g i (q .before) + mostPart g i w₀ * sharers g i ≤ at s i = rw y at h in
+        let t : (wait + 1) * load g i w₀ + load g i (q .before) + mostLoad g i w₀ * sharers g i ≤ at s i = rw y at h in
         omega (
           arith,
           mul-le-mul-right (sharers g i) (most-less g i w w₀ fell),
@@ -212,11 +213,11 @@ module _ {g : Grid} {s₀ d list : List ℕ} {live : ℕ} (q : Settleable g s₀
   settle-old : at s i ≡ at s₀ i
   settle-old = filled-rest u 0 (omega (arith, q .margins))
 
-  pub settle-partable : at s i < 2 ^ 64 → Partable g i d d list live
-  settle-partable h =
+  pub settle-loadable : at s i < 2 ^ 64 → Loadable g i d d list live
+  settle-loadable h =
       record {
         raises = q .gained;
-        bounds = q .gained;
+        caps = q .gained;
         listed = q .listed;
         lower = λ b hb. le-refl (at d b);
         fits = omega (arith, settle-old, q .within i hi);
@@ -260,16 +261,16 @@ module _ {g : Grid} {ns s d w list : List ℕ} {live : ℕ} {near : List ℕ} {c
         within = u .within;
       }
 
-  bounds-long : length w ≡ g .borders
-  bounds-long = raises-long g (leftTo g d s) (u .found)
+  caps-long : length w ≡ g .borders
+  caps-long = raises-long g (leftTo g d s) (u .found)
 
-  -- the list holds the borders whose bound is above 0
-  pub waiting-bounds : Listed (length w) w list live
-  waiting-bounds = rw bounds-long (listed-less (u .listed) w (λ b hb. omega (arith, gaining-at b hb)))
+  -- the list holds the borders whose cap is above 0
+  pub waiting-caps : Listed (length w) w list live
+  waiting-caps = rw caps-long (listed-less (u .listed) w (λ b hb. omega (arith, gaining-at b hb)))
 
   module _ {s′ : List ℕ} (es : s′ ≡ leftTo g d s) {list′ : List ℕ} {live′ : ℕ} (k : Listed (length w) w list′ live′) where
-    kept-bounds : Listed (g .borders) w list′ live′
-    kept-bounds = rw bounds-long at k
+    kept-caps : Listed (g .borders) w list′ live′
+    kept-caps = rw caps-long at k
 
     pub block-sortable : Sortable g ns s′ w list′ live′
     block-sortable =
@@ -277,7 +278,7 @@ module _ {g : Grid} {ns s d w list : List ℕ} {live : ℕ} {near : List ℕ} {c
           ready = record { counts = u .ready .counts; margins = ap length es ∙ table-long (g .rows) (lowered g d s) };
           fits = λ i hi. omega (arith, ap (λ (l : List ℕ). at l i) es, left-at g d s i hi, u .fits i hi);
           found = u .found ∙ ap (raises g) (sym es);
-          listed = kept-bounds;
+          listed = kept-caps;
         }
 
     module _ {d′ : List ℕ} (ed : d′ ≡ table (length d) (λ b. 0)) where
@@ -297,7 +298,7 @@ module _ {g : Grid} {ns s d w list : List ℕ} {live : ℕ} {near : List ℕ} {c
             gained = ap length ed ∙ table-long (length d) (λ b. 0) ∙ u .gained;
             within = λ i hi. omega (arith, load-none g i d′ cleared);
             found = u .found ∙ ap (raises g) (sym block-same);
-            listed = listed-less kept-bounds (table (g .borders) (risen w d′)) (λ b hb. omega (arith, table-get (g .borders) (risen w d′) b 0 hb, cleared b hb));
+            listed = listed-less kept-caps (table (g .borders) (risen w d′)) (λ b hb. omega (arith, table-get (g .borders) (risen w d′) b 0 hb, cleared b hb));
             room = l;
             watched = watched-block a l d′ cleared;
           }

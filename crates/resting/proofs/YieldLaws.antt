@@ -1,4 +1,4 @@
--- Rows that yield to others (`Yields`, `Led`): what a row takes and loses beside one that it yields to, and listing a row (`Placed`). No contract cites this file.
+-- Rows that yield to others (`Yields`, `Led`): what a row takes and loses, against the row that it yields to; and listing a row (`Placed`). No contract cites this file.
 use mathlib.Core.Path.{_≡_, refl, sym, _∙_, subst}
 use mathlib.Core.Bool.{Bool, true, false, false≢true}
 use mathlib.Core.List.{List}
@@ -12,9 +12,9 @@ use lib.Seq.{getD-set-same, getD-set-other}
 use Rattle.numbers.specs.Below.{at}
 use Rattle.numbers.proofs.BelowLaws.{le-or-lt, lt-suc-cases, sum-mono, largest-under}
 use Rattle.rounds.specs.Rounds.{Grid, sharers, load}
-use Rattle.rounds.specs.Work.{Ready}
+use Rattle.rounds.specs.AllRounds.{Ready}
 use Rattle.rounds.proofs.Loops.{ready-at}
-use Rattle.walk.specs.Walk.{Listed, part, mostPart}
+use Rattle.walk.specs.Walk.{Listed, part, mostLoad}
 use Rattle.walk.proofs.ListedLaws.{listed-has}
 use Rattle.resting.specs.Resting.{Yields, Led, Placed}
 
@@ -46,15 +46,15 @@ module _ {g : Grid} {s list : List ℕ} {live t i : ℕ} (y : Yields g s list li
   unfolding load
   load-yields = sum-mono (g .borders) (λ b. g .p i b * at v b) (λ b. g .p t b * at v b) part-yields
 
-  -- where no border takes more than `share` of t, none does of i
-  pub most-yields : (share : ℕ) → ((b : ℕ) → b < g .borders → at v b * g .p t b ≤ share) → mostPart g i v ≤ share
-  unfolding mostPart part
+  -- where no border takes more than `share` of row t, none takes more of row i
+  pub most-yields : (share : ℕ) → ((b : ℕ) → b < g .borders → at v b * g .p t b ≤ share) → mostLoad g i v ≤ share
+  unfolding mostLoad part
   most-yields share h =
       largest-under (g .borders) (part g i v) share (λ b hb. le-trans (part-yields b hb) (omega (arith, h b hb, mul-comm (g .p t b) (at v b))))
 
 -- ---- whether row i yields to row t
 
--- at the first j listed borders its factors are no larger
+-- at the first j listed borders row i's factors are no larger than row t's
 pub record Lower (g : Grid) (list : List ℕ) (live t i j : ℕ) : Type 0 where
   pub high : j ≤ live
   pub factors : (j′ : ℕ) → j′ < j → g .p i (at list j′) ≤ g .p t (at list j′)
@@ -89,7 +89,7 @@ module _ {g : Grid} {s list : List ℕ} {live : ℕ} {tight : Bool} {near : List
       }
 
   module _ (some : 0 < count) where
-    -- it yields to the first ..
+    -- the row yields to the first listed one, and the list stays
     pub placed-yields : Yields g s list live (at near 0) i → Placed g s list live tight near count i near count
     placed-yields y =
         record {
@@ -100,7 +100,7 @@ module _ {g : Grid} {s list : List ℕ} {live : ℕ} {tight : Bool} {near : List
           still = λ i′ l. l;
         }
 
-    -- .. or leads it
+    -- the first listed row yields to this one, which takes its place
     pub placed-leads : 0 < length near → Yields g s list live i (at near 0) → Placed g s list live tight near count i (set near 0 i) count
     placed-leads room y =
         let first : at (set near 0 i) 0 ≡ i = getD-set-same near 0 i 0 room in
@@ -146,6 +146,6 @@ module _ {g : Grid} {s list : List ℕ} {live : ℕ} {tight : Bool} {near : List
             };
       }
 
-  -- .. where none is listed yet
+  -- no row is listed yet, and this one becomes the first
   pub placed-first : count ≡ 0 → 0 < length near → Placed g s list live tight near count i (set near 0 i) 1
   placed-first e room = subst (λ (k : ℕ). Placed g s list live tight near count i (set near k i) 1) e (placed-last (omega arith) 1 (omega arith))

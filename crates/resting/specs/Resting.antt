@@ -1,5 +1,5 @@
--- Which rows are looked at in a round, and which rest (02, E4), over a grid g. Margins are lent as they stood where the rows last lost (s), with what each border gained since (d).
--- The margins of the rules are then `leftTo g d s`; bounds (w) are the raises of those. `near` lists rows, in its first `count` places; a row that it has no place for is never listed.
+-- Which rows are looked at in a round, and which rest (02, E4), over a grid g. s holds the margins as they were when the rows last lost, d what each border gained since.
+-- The margins of the rules are then `leftTo g d s`; caps (w) are the raises of those. The first `count` places of `near` list rows; a row without a place there is never listed.
 -- `leftTo`, `Settleable`, `Sortable`, `Yields`, `Placed`, `Sorted`, `nearRow`, `Waiting`, `Renewed` and `Walkable` are what contracts cite, here and in roundloop.
 use mathlib.Core.Path.{_≡_}
 use mathlib.Core.Bool.{Bool, true}
@@ -9,10 +9,10 @@ use Prim.Native.Nat.{ℕ, _+_, _*_, _-_, _^_, _≤_, _<_}
 use lib.ListN.{length}
 use Rattle.numbers.specs.Below.{at, ifZero, table}
 use Rattle.rounds.specs.Rounds.{Grid, sharers, raises, load, lowered, risen}
-use Rattle.rounds.specs.Work.{Ready}
-use Rattle.walk.specs.Walk.{Listed, mostPart}
+use Rattle.rounds.specs.AllRounds.{Ready}
+use Rattle.walk.specs.Walk.{Listed, mostLoad}
 
--- what the rows' margins s come to, where the borders gained d
+-- what the margins s are lowered to, where the borders gained d
 abbrev pub leftTo : Grid → (d s : List ℕ) → List ℕ
 leftTo g d s = table (g .rows) (lowered g d s)
 
@@ -23,30 +23,31 @@ pub record Settleable (g : Grid) (s d list : List ℕ) (live : ℕ) : Type 0 whe
   pub listed : Listed (g .borders) d list live
   pub within : (i : ℕ) → i < g .rows → load g i d ≤ at s i
 
--- row i may rest for `wait` rounds: were each to raise by w, and with what was gained, its margin still holds n times the most part
+-- row i may rest for `wait` rounds: if each raises by w, then after these and after the gain d its margin still holds n times the largest part
 abbrev pub Rests : Grid → (s d w : List ℕ) (wait i : ℕ) → Type 0
-Rests g s d w wait i = wait * load g i w + load g i d + mostPart g i w * sharers g i ≤ at s i
+Rests g s d w wait i = wait * load g i w + load g i d + mostLoad g i w * sharers g i ≤ at s i
 
--- what sorting the rows asks: bounds w that are the raises of the margins s, listed
+-- what sorting the rows asks: caps w that are the raises of the margins s, listed
 pub record Sortable (g : Grid) (ns s w list : List ℕ) (live : ℕ) : Type 0 where
   pub ready : Ready g ns s
   pub fits : (i : ℕ) → i < g .rows → at s i < 2 ^ 64
   pub found : w ≡ raises g s
   pub listed : Listed (g .borders) w list live
 
--- row i yields to row t: t has no more margin and no fewer borders to share it, and no smaller factor at a listed border. So while only listed borders rise, i never tightens a bound below t's
+-- row i yields to row t: t has no more margin, no fewer borders that share it, and no smaller factor at a listed border. So while only listed borders rise, i never tightens
+-- a cap below what t allows
 pub record Yields (g : Grid) (s list : List ℕ) (live t i : ℕ) : Type 0 where
   pub margin : at s t ≤ at s i
   pub share : sharers g i ≤ sharers g t
   pub factors : (j : ℕ) → j < live → g .p i (at list j) ≤ g .p t (at list j)
 
--- row i yields to one of the rows f 0, .., f (k - 1), or is one: a row yields to itself
+-- row i yields to one of the rows f 0, .., f (k - 1). Each of these rows yields to itself
 pub record Led (g : Grid) (s list : List ℕ) (live : ℕ) (f : ℕ → ℕ) (k i : ℕ) : Type 0 where
   pub place : ℕ
   pub before : place < k
   pub yields : Yields g s list live (f place) i
 
--- what listing row i leaves, where `tight` says whether it is to be listed: rows up to i, which lead all that were led before, and i where it is tight
+-- what listing row i leaves, where `tight` says whether it is to be listed: rows up to i. Each row that yielded to a listed one still does, and so does i where it is tight
 pub record Placed (g : Grid) (s list : List ℕ) (live : ℕ) (tight : Bool) (near : List ℕ) (count i : ℕ) (near′ : List ℕ) (count′ : ℕ) : Type 0 where
   pub long : length near′ ≡ length near
   pub few : count′ ≤ count + 1
@@ -54,27 +55,27 @@ pub record Placed (g : Grid) (s list : List ℕ) (live : ℕ) (tight : Bool) (ne
   pub here : tight ≡ true → Led g s list live (at near′) count′ i
   pub still : (i′ : ℕ) → Led g s list live (at near) count i′ → Led g s list live (at near′) count′ i′
 
--- what sorting leaves, of the first i rows: each is led by a listed one or may rest for `wait` rounds
+-- what sorting leaves of the first i rows: each yields to a listed one, or may rest for `wait` rounds
 pub record Sorted (g : Grid) (s w list : List ℕ) (live wait : ℕ) (near : List ℕ) (count i : ℕ) : Type 0 where
   pub few : count ≤ i
   pub inside : (j : ℕ) → j < count → at near j < i
-  pub each : (i′ : ℕ) → i′ < i → Led g s list live (at near) count i′ ⊎ (wait * load g i′ w + mostPart g i′ w * sharers g i′ ≤ at s i′)
+  pub each : (i′ : ℕ) → i′ < i → Led g s list live (at near) count i′ ⊎ (wait * load g i′ w + mostLoad g i′ w * sharers g i′ ≤ at s i′)
 
 -- the rows that a round looks at, in order: those listed, and then those that the list has no place for
 unfoldable pub nearRow : (near : List ℕ) (count j : ℕ) → ℕ
 nearRow near count j = ifZero (count - j) (length near + (j - count)) (at near j)
 
--- how many they are
+-- how many rows a round looks at
 abbrev pub nearRows : Grid → (near : List ℕ) (count : ℕ) → ℕ
 nearRows g near count = count + (g .rows - length near)
 
--- each row is led by one of those, or may rest for `wait` rounds
+-- each row yields to one that the round looks at, or may rest for `wait` rounds
 pub record Watched (g : Grid) (s d w list : List ℕ) (live : ℕ) (near : List ℕ) (count wait : ℕ) : Type 0 where
   pub few : count ≤ length near
   pub inside : (j : ℕ) → j < count → at near j < g .rows
   pub each : (i : ℕ) → i < g .rows → Led g s list live (nearRow near count) (nearRows g near count) i ⊎ Rests g s d w wait i
 
--- between two rounds, with `wait` left before all rows are sorted anew
+-- between two rounds, with `wait` rounds left before all rows are sorted again
 pub record Waiting (g : Grid) (ns s d w list : List ℕ) (live : ℕ) (near : List ℕ) (count wait : ℕ) : Type 0 where
   pub ready : Ready g ns s
   pub fits : (i : ℕ) → i < g .rows → at s i < 2 ^ 64
@@ -85,7 +86,8 @@ pub record Waiting (g : Grid) (ns s d w list : List ℕ) (live : ℕ) (near : Li
   pub room : length near ≤ g .rows
   pub watched : Watched g s d w list live near count wait
 
--- a block goes on or is made anew: what was s with d gained is s′ with d′ gained, so the rules' margins are the same, and a round is left to it. The lists are as long as list₀ and near₀ were
+-- a block goes on, or a new one begins: margins s with gain d became s′ with gain d′, so the margins of the rules are the same, and at least one round is left. The lists
+-- are as long as list₀ and near₀ were
 pub record Renewed (g : Grid) (ns s d list₀ near₀ s′ d′ w list : List ℕ) (live : ℕ) (near : List ℕ) (count wait : ℕ) : Type 0 where
   pub waiting : Waiting g ns s′ d′ w list live near count wait
   pub some : 0 < wait
@@ -93,7 +95,7 @@ pub record Renewed (g : Grid) (ns s d list₀ near₀ s′ d′ w list : List �
   pub room : length list ≡ length list₀
   pub places : length near ≡ length near₀
 
--- what the walk asks: the borders have gained the raises w besides what they had before, and w is as yet the bounds
+-- what the walk asks: the borders have gained the raises w besides what they had gained before, and the caps are still w
 pub record Walkable (g : Grid) (ns s d w list : List ℕ) (live : ℕ) (near : List ℕ) (count : ℕ) : Type 0 where
   pub before : List ℕ
   pub wait : ℕ

@@ -1,15 +1,15 @@
-// The rows of a round, of which most may rest (02, E4). A row far from tight need not be looked at in every round: raises never grow, so what it loses in a
-// round now is the most that it loses in each of the next. The rows are sorted once for a block of rounds, and in these only the near ones are walked. Of rows
-// that are near together many need no look either: one that yields to another, with no less margin and no larger n or factor, never tightens a bound below it.
-// So the margins, in grains, stay as they were where the block began, and `gained` holds what each border rose by since, in kW.
+// The rows that a round looks at; most rows may rest (02, E4). Raises never grow, so what a row loses in this round is the most that it loses in each of the next.
+// The rows are sorted once for a block of rounds, and in these only the near ones are walked: a row far from tight rests.
+// Some near rows need no look either: a row that yields to another, with no less margin and no larger n or factor, never tightens a cap below what the other allows.
+// During a block the margins (grains) do not change, and `gained` holds what each border rose by since the block began (kW).
 ghost use mathlib.Core.Path.{_≡_};
 ghost use mathlib.Core.Bool.{true};
 ghost use Prim.Native.Nat.{ℕ, _+_, _*_, _-_, _/_, _^_, _<_, _≤_};
 ghost use lib.Dec.{ltb};
 ghost use lib.ListN.{length};
-ghost use Rattle.numbers.specs.Below.{at, count, table};
+ghost use Rattle.numbers.specs.Below.{at, table};
 ghost use Rattle.rounds.specs.Rounds.{raises};
-ghost use Rattle.rounds.specs.Work.{flat, Ready};
+ghost use Rattle.rounds.specs.AllRounds.{flat, Ready};
 ghost use Rattle.walk.specs.Walk.{Listed};
 ghost use Rattle.resting.specs.Resting.{leftTo, nearRow, Settleable, Sortable, Yields, Placed, Sorted, Waiting, Renewed, Walkable};
 
@@ -20,13 +20,13 @@ pub struct Block {
     pub wait: u64,
 }
 
-// Where the block is over, the next one: all rows lose what was gained, the borders at 0 go from the list, and the rows are sorted anew.
+// Begins the next block where this one is over: all rows lose what was gained, borders whose cap is 0 leave the list, and the rows are sorted again.
 pub fn renew(
     rows: usize,
     borders: usize,
     p: &[u64],
     ns: &[u64],
-    bounds: &[u64],
+    caps: &[u64],
     done: u64,
     live: usize,
     count: usize,
@@ -37,8 +37,8 @@ pub fn renew(
     near: &mut [usize],
 ) -> Block
     requires { ⌜ rows * borders ≤ length (now p) ⌝ }
-    requires { ⌜ Waiting (flat rows borders (now p)) (now ns) (now margins) (now gained) (now bounds) (now rising) live (now near) count wait ⌝ }
-    ensures { λ r. ⌜ Renewed (flat rows borders (now (p .entry))) (now (ns .entry)) (now (margins .entry)) (now (gained .entry)) (now (rising .entry)) (now (near .entry)) (now (margins .exit)) (now (gained .exit)) (now (bounds .entry)) (now (rising .exit)) (r .live) (now (near .exit)) (r .count) (r .wait) ⌝ }
+    requires { ⌜ Waiting (flat rows borders (now p)) (now ns) (now margins) (now gained) (now caps) (now rising) live (now near) count wait ⌝ }
+    ensures { λ r. ⌜ Renewed (flat rows borders (now (p .entry))) (now (ns .entry)) (now (margins .entry)) (now (gained .entry)) (now (rising .entry)) (now (near .entry)) (now (margins .exit)) (now (gained .exit)) (now (caps .entry)) (now (rising .exit)) (r .live) (now (near .exit)) (r .count) (r .wait) ⌝ }
 {
     if wait > 0 {
         return Block {
@@ -49,7 +49,7 @@ pub fn renew(
     }
     settle(rows, borders, p, gained, rising, live, margins);
     clear(gained);
-    let kept = keep_rising(bounds, rising, live);
+    let kept = keep_rising(caps, rising, live);
     let bits = block_bits(done);
     let found = find_near(
         rows,
@@ -57,7 +57,7 @@ pub fn renew(
         p,
         ns,
         margins,
-        bounds,
+        caps,
         rising,
         kept,
         bits,
@@ -70,8 +70,8 @@ pub fn renew(
     }
 }
 
-// The next block has 2^bits rounds: about as many as were done, 4 at least and 128 at most. At first many borders rise and many rows are near, and they soon
-// become few. Powers of 2, so that the division by them is a shift.
+// The next block has 2^bits rounds: about as many as were done, at least 4 and at most 128. At first many borders rise and many rows are near; soon they are few.
+// Powers of 2, so that dividing by them is a shift.
 fn block_bits(done: u64) -> u64
     ensures { λ r. ⌜ r < 64 ⌝ }
 {
@@ -107,12 +107,12 @@ pub fn settle(
     for i in 0..rows {
         // Read here, where it is known to fit.
         let old = margins[i];
-        let parts = walk::row_parts(rows, borders, p, i, gained, gained, rising, live);
+        let parts = walk::row_loads(rows, borders, p, i, gained, gained, rising, live);
         margins[i] = old - parts.loss;
     }
 }
 
-// Nothing is gained.
+// Sets what was gained to 0.
 pub fn clear(gained: &mut [u64])
     ensures { λ _. ⌜ now (gained .exit) ≡ table (length (now (gained .entry))) (λ b. 0) ⌝ }
 {
@@ -121,59 +121,44 @@ pub fn clear(gained: &mut [u64])
     }
 }
 
-// Keeps, of the first `live` of `rising`, the borders whose bound is above 0, in front. Answers how many. A border at 0 never rises again.
-fn keep_rising(bounds: &[u64], rising: &mut [usize], live: usize) -> usize
-    requires { ⌜ Listed (length (now bounds)) (now bounds) (now rising) live ⌝ }
-    ensures { λ kept. ⌜ Listed (length (now (bounds .entry))) (now (bounds .entry)) (now (rising .exit)) kept ⌝ }
+// Moves the borders whose cap is above 0, of the first `live` of `rising`, to the front. Answers how many they are. A border whose cap is 0 never rises again.
+fn keep_rising(caps: &[u64], rising: &mut [usize], live: usize) -> usize
+    requires { ⌜ Listed (length (now caps)) (now caps) (now rising) live ⌝ }
+    ensures { λ kept. ⌜ Listed (length (now (caps .entry))) (now (caps .entry)) (now (rising .exit)) kept ⌝ }
 {
     let mut kept: usize = 0;
     for j in 0..live {
         let b = rising[j];
-        // Written in any case: where the border is at 0, the next one is written over it.
+        // Always written: after a border whose cap is 0, the next one is written over it.
         rising[kept] = b;
-        if bounds[b] > 0 {
+        if caps[b] > 0 {
             kept += 1;
         }
     }
     kept
 }
 
-// Whether the round raises a border.
-pub fn rises(bounds: &[u64], rising: &[usize], live: usize) -> bool
-    requires { ⌜ Listed (length (now bounds)) (now bounds) (now rising) live ⌝ }
-    ensures { λ r. ⌜ r ≡ ltb 0 (count (length (now (bounds .entry))) (at (now (bounds .entry)))) ⌝ }
-{
-    for j in 0..live {
-        let b = rising[j];
-        let raise = bounds[b];
-        if raise > 0 {
-            return true;
-        }
-    }
-    false
-}
-
-// Lists, in front of `near`, the rows that the next block, of 2^bits rounds, is to look at in every round, of those that have a place there. Answers how many.
+// Lists at the front of `near` the rows that each of the next 2^bits rounds looks at. Only rows for which `near` has a place are tried. Answers how many are listed.
 fn find_near(
     rows: usize,
     borders: usize,
     p: &[u64],
     ns: &[u64],
     margins: &[u64],
-    bounds: &[u64],
+    caps: &[u64],
     rising: &[usize],
     live: usize,
     bits: u64,
     near: &mut [usize],
 ) -> usize
     requires { ⌜ rows * borders ≤ length (now p) ⌝ }
-    requires { ⌜ Sortable (flat rows borders (now p)) (now ns) (now margins) (now bounds) (now rising) live ⌝ }
+    requires { ⌜ Sortable (flat rows borders (now p)) (now ns) (now margins) (now caps) (now rising) live ⌝ }
     requires { ⌜ (length (now near) ≤ rows) × (bits < 64) ⌝ }
-    ensures { λ count. ⌜ Sorted (flat rows borders (now (p .entry))) (now (margins .entry)) (now (bounds .entry)) (now (rising .entry)) live (2 ^ bits) (now (near .exit)) count (length (now (near .exit))) ⌝ }
+    ensures { λ count. ⌜ Sorted (flat rows borders (now (p .entry))) (now (margins .entry)) (now (caps .entry)) (now (rising .entry)) live (2 ^ bits) (now (near .exit)) count (length (now (near .exit))) ⌝ }
 {
     let mut count: usize = 0;
     for i in 0..near.len() {
-        let parts = walk::row_parts(rows, borders, p, i, bounds, bounds, rising, live);
+        let parts = walk::row_loads(rows, borders, p, i, caps, caps, rising, live);
         let tight = is_near(margins[i], ns[i], parts.loss, parts.most, bits);
         count = list_row(
             rows,
@@ -192,7 +177,7 @@ fn find_near(
     count
 }
 
-// Whether 2^bits rounds at the loss of this one could leave less than n times the most part, so that the row could tighten a bound.
+// Whether 2^bits rounds, each with this round's loss, could leave less than n times the largest part: the row could then tighten a cap.
 fn is_near(margin: u64, n: u64, loss: u64, most: u64, bits: u64) -> bool
     requires { ⌜ (most * n ≤ margin) × (bits < 64) ⌝ }
     ensures { λ r. ⌜ r ≡ ltb ((margin - most * n) / 2 ^ bits) loss ⌝ }
@@ -201,7 +186,8 @@ fn is_near(margin: u64, n: u64, loss: u64, most: u64, bits: u64) -> bool
     slack >> bits < loss
 }
 
-// Lists row `i` where it is tight, after the first `count` of `near`. Not where it yields to the first of them; and where that yields to it, in its place. Answers how many are listed then.
+// Lists row `i`, if it is tight, after the first `count` of `near`. If it yields to the first of them, it is not listed; if the first yields to it, it takes that place.
+// Answers how many are listed then.
 fn list_row(
     rows: usize,
     borders: usize,
@@ -273,7 +259,7 @@ fn yields(
     true
 }
 
-// The near rows tighten the bounds by what is left to them: the bounds become the raises of the next round. A row that rests would tighten none.
+// The near rows tighten the caps by the margin that is left to them: the caps become the raises of the next round. A resting row would tighten none.
 pub fn walk_near(
     rows: usize,
     borders: usize,
@@ -285,15 +271,15 @@ pub fn walk_near(
     live: usize,
     near: &[usize],
     count: usize,
-    bounds: &mut [u64],
+    caps: &mut [u64],
 )
     requires { ⌜ rows * borders ≤ length (now p) ⌝ }
-    requires { ⌜ Walkable (flat rows borders (now p)) (now ns) (now margins) (now gained) (now bounds) (now rising) live (now near) count ⌝ }
-    ensures { λ _. ⌜ now (bounds .exit) ≡ raises (flat rows borders (now (p .entry))) (leftTo (flat rows borders (now (p .entry))) (now (gained .entry)) (now (margins .entry))) ⌝ }
+    requires { ⌜ Walkable (flat rows borders (now p)) (now ns) (now margins) (now gained) (now caps) (now rising) live (now near) count ⌝ }
+    ensures { λ _. ⌜ now (caps .exit) ≡ raises (flat rows borders (now (p .entry))) (leftTo (flat rows borders (now (p .entry))) (now (gained .entry)) (now (margins .entry))) ⌝ }
 {
     for j in 0..count + (rows - near.len()) {
         let i = near_row(near, count, j);
-        let parts = walk::row_parts(rows, borders, p, i, gained, bounds, rising, live);
+        let parts = walk::row_loads(rows, borders, p, i, gained, caps, rising, live);
         let margin = margins[i] - parts.loss;
         walk::lower_if_tight(
             rows,
@@ -305,12 +291,12 @@ pub fn walk_near(
             parts.most,
             rising,
             live,
-            bounds,
+            caps,
         );
     }
 }
 
-// Near row `j`: one that is listed, or past those one that the list has no place for. (A table of 01 has a place for each of its rows.)
+// Near row `j`: a listed row, or beyond the list a row that has no place in it. (For a table of 01 every row has a place.)
 fn near_row(near: &[usize], count: usize, j: usize) -> usize
     requires { ⌜ (count ≤ length (now near)) × (length (now near) + (j - count) < 2 ^ 64) ⌝ }
     ensures { λ r. ⌜ r ≡ nearRow (now (near .entry)) count j ⌝ }

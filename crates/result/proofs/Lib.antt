@@ -1,3 +1,2 @@
 pub mod Anchors
 pub mod RecordsLaws
-pub mod Said

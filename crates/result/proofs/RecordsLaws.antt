@@ -10,9 +10,9 @@ use lib.ListN.{length, length-append}
 use lib.Signed.{mag}
 use mir.Syntax.{w64}
 use mir.Val.{hbits}
-use Rattle.kinds.specs.declared.Refusal.{Refusal}
-use Rattle.kinds.specs.LineColumns.{Column, number, signed, share}
-use Rattle.kinds.specs.Ranges.{atℤ}
+use Rattle.refusals.specs.declared.Refusal.{Refusal}
+use Rattle.types.specs.LineColumns.{Column, number, signed, share}
+use Rattle.types.specs.Ranges.{atℤ}
 use Rattle.text.specs.Put.{Put}
 use Rattle.text.specs.Written.{decimal, decimalℤ, shareText, lineText}
 use Rattle.text.proofs.DigitLaws.{decimal-u64, decimal-i64}

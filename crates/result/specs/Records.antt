@@ -7,8 +7,8 @@ use Prim.Native.Char.{code}
 use Prim.Native.Nat.{ℕ, _+_, _*_}
 use lib.IntN.{ℤ}
 use lib.ListN.{length, getD}
-use Rattle.kinds.specs.Limits.{bordersMost, rowsMost}
-use Rattle.kinds.specs.LineColumns.{Column, number, signed, share}
+use Rattle.limits.specs.Limits.{bordersMost, rowsMost}
+use Rattle.types.specs.LineColumns.{Column, number, signed, share}
 use Rattle.text.specs.Fields.{tab}
 use Rattle.text.specs.Written.{decimal, lineText, linesText}
 use Rattle.columns.specs.declared.Head.the-variants.{Indexed}
@@ -22,7 +22,7 @@ atcColumns =
     ∷ share  -- the row that stopped it, or "-"
     ∷ []
 
--- .. of an M line after the row's index
+-- the columns of an M line after the row's index
 abbrev pub marginColumns : List Column
 marginColumns =
     number  -- state
@@ -30,7 +30,7 @@ marginColumns =
     ∷ share  -- margin left, grains, or "-" where the state isn't 0
     ∷ []
 
--- .. of one or the other
+-- the columns of an A line or of an M line
 abbrev pub ResultColumns : List Column → Type 0
 ResultColumns columns = (columns ≡ atcColumns) ⊎ (columns ≡ marginColumns)
 
@@ -69,6 +69,6 @@ recordsText atcs lefts rounds = atcLines atcs ++ marginLines lefts ++ roundsLine
 abbrev pub resultLineMost : ℕ
 resultLineMost = 1 + 4 * 21 + 1
 
--- .. and no text of the most records
+-- no text of the most records is longer
 abbrev pub recordsMost : ℕ
 recordsMost = (bordersMost + rowsMost + 1) * resultLineMost

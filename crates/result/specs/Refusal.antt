@@ -2,7 +2,7 @@
 use mathlib.Core.List.{List, [], _∷_}
 use Prim.Native.Char.{code}
 use Prim.Native.Nat.{ℕ, _+_}
-use Rattle.kinds.specs.declared.Refusal.{Refusal}
+use Rattle.refusals.specs.declared.Refusal.{Refusal}
 use Rattle.text.specs.Written.{decimal, lineText}
 
 -- one line E, number, place, and the byte to blame (02, E5)

@@ -6,24 +6,41 @@ ghost use mathlib.Core.List.{[], _∷_};
 ghost use Prim.Native.Nat.{ℕ, _+_, _*_, _≤_};
 ghost use lib.ListN.{length};
 ghost use Rattle.numbers.specs.Below.{over};
-ghost use Rattle.kinds.specs.Limits.{bordersMost, rowsMost};
-ghost use Rattle.kinds.specs.LineColumns.{columnsOf};
+ghost use Rattle.limits.specs.Limits.{bordersMost, rowsMost};
+ghost use Rattle.refusals.specs.Refusals.{passed};
+ghost use Rattle.types.specs.LineColumns.{columnsOf};
 ghost use Rattle.text.specs.Fields.{tab};
+ghost use Rattle.text.specs.Left.{textLeft, textSaid};
 ghost use Rattle.text.specs.Put.{Put};
 ghost use Rattle.columns.specs.declared.Head.the-variants.{Indexed};
 ghost use Rattle.columns.specs.ColumnText.{columnsText};
+ghost use Rattle.result.specs.Asked.{bytesAsked};
 ghost use Rattle.result.specs.Records.{ResultColumns, recordLength, recordLines, roundsLine, recordsText, resultLineMost, recordsMost};
 use columns::Head;
-use extraction::AtcRecord;
-use extraction::BorderResult;
-use extraction::LeftRecord;
-use extraction::RowResult;
+use outcome::AtcRecord;
+use outcome::BorderResult;
+use outcome::LeftRecord;
+use outcome::RowResult;
+use refusals::Refusal;
+use refusals::Written;
 
 // What a border's record and a row's have in common: three numbers.
 type ResultRecord = [i64; 3];
 
+// Judges the room for the result text (8), and only then writes it.
+pub fn write_records(atc: &[AtcRecord], left: &[LeftRecord], rounds: u64, out: &mut [u8]) -> Written
+    requires { ⌜ (length (now atc) ≤ bordersMost) × (length (now left) ≤ rowsMost) ⌝ }
+    ensures { λ r. ⌜ (textSaid r (now (out .exit)) ≡ textLeft (passed (recordsText (now (atc .entry)) (now (left .entry)) rounds)) (now (out .entry))) × (bytesAsked r ≤ recordsMost) ⌝ }
+{
+    let needed = records_length(atc, left, rounds);
+    if out.len() < needed {
+        return Written::Refused(Refusal::too_short(needed));
+    }
+    Written::Bytes(put_records(atc, left, rounds, out))
+}
+
 // How many bytes the result text has.
-pub fn records_length(atc: &[AtcRecord], left: &[LeftRecord], rounds: u64) -> usize
+fn records_length(atc: &[AtcRecord], left: &[LeftRecord], rounds: u64) -> usize
     requires { ⌜ (length (now atc) ≤ bordersMost) × (length (now left) ≤ rowsMost) ⌝ }
     ensures { λ r. ⌜ (r ≡ length (recordsText (now (atc .entry)) (now (left .entry)) rounds)) × (r ≤ recordsMost) ⌝ }
 {
@@ -32,7 +49,7 @@ pub fn records_length(atc: &[AtcRecord], left: &[LeftRecord], rounds: u64) -> us
         + rounds_length(rounds)
 }
 
-// Of the A lines or the M lines: the same for every letter.
+// How many bytes the A lines or the M lines have: the letter does not matter.
 fn lines_length(columns: &[u8], records: &[ResultRecord]) -> usize
     requires { ⌜ ResultColumns (columnsOf (now columns)) × (length (now records) ≤ rowsMost) ⌝ }
     ensures { λ r. ⌜ ((letter : ℕ) → r ≡ length (recordLines letter (columnsOf (now (columns .entry))) (now (records .entry)))) × (r ≤ length (now (records .entry)) * resultLineMost) ⌝ }
@@ -44,7 +61,7 @@ fn lines_length(columns: &[u8], records: &[ResultRecord]) -> usize
     sum
 }
 
-// The numbers of a record come one by one: each is known to fit where it is read, and so no line is long. An M line is as long as the A line of its numbers.
+// The numbers of a record are passed one by one: each is known to fit where it is read, so the line's length is bounded. An M line is as long as an A line of these numbers.
 fn line_length(columns: &[u8], i: usize, first: i64, second: i64, third: i64) -> usize
     requires { ⌜ ResultColumns (columnsOf (now columns)) ⌝ }
     ensures { λ r. ⌜ (r ≡ recordLength (columnsOf (now (columns .entry))) i (first ∷ second ∷ third ∷ [])) × (r ≤ resultLineMost) ⌝ }
@@ -60,7 +77,7 @@ fn rounds_length(rounds: u64) -> usize
 }
 
 // Writes the result text from the start of `out`.
-pub fn put_records(atc: &[AtcRecord], left: &[LeftRecord], rounds: u64, out: &mut [u8]) -> usize
+fn put_records(atc: &[AtcRecord], left: &[LeftRecord], rounds: u64, out: &mut [u8]) -> usize
     requires { ⌜ length (recordsText (now atc) (now left) rounds) ≤ length (now out) ⌝ }
     ensures { λ r. ⌜ (r ≡ length (recordsText (now (atc .entry)) (now (left .entry)) rounds)) × (now (out .exit) ≡ over (recordsText (now (atc .entry)) (now (left .entry)) rounds) (now (out .entry))) ⌝ }
 {

@@ -1,3 +1,2 @@
-pub mod RiseLaws
 pub mod RoundLoop
 pub mod TurnLaws

@@ -13,10 +13,10 @@ use Rattle.numbers.specs.Below.{ifZero, sum, count, table, at, over}
 use Rattle.numbers.proofs.BelowLaws.{sum-cong, sum-term, count-pos, table-long, table-get, table-cong}
 use Rattle.rounds.specs.Rounds.{Grid, State, raise, raises, load, lowered, risen, apply, next, raised, Rounds, done, more}
 use Rattle.rounds.specs.Last.{after, raiseIn, lastTo, lastRound}
-use Rattle.rounds.specs.Work.{Startable, noted, workLeft, stateFrom, leftBy, workOf}
+use Rattle.rounds.specs.AllRounds.{Startable, noted, workLeft, stateFrom, leftBy, workOf}
 use Rattle.rounds.proofs.Round.{raises-at, raises-long, raises-are, raiser, alone-lt, next-sum, next-x}
 use Rattle.rounds.proofs.Rounds.{keeps, extracts, unique, rounds-below}
-use Rattle.roundloop.specs.Loop.{Fits}
+use Rattle.raising.specs.Raising.{Fits}
 
 -- ---- what is reached after d rounds
 
@@ -61,7 +61,7 @@ module _ {g : Grid} {s₀ s : State} {d : ℕ} (q : Reached g s₀ d s) where
   reached-keeps : (i : ℕ) → i < g .rows → at (s .margins) i + load g i (s .x) ≡ at (s₀ .margins) i + load g i (s₀ .x)
   reached-keeps i h = let w = extracts g s in sym (keeps w i h) ∙ keeps (q .on _ _ w) i h
 
-  -- margins under c: so are the rounds
+  -- rounds are fewer than c where all margins are under c
   reached-few : (c : ℕ) → 0 < c → ((i : ℕ) → i < g .rows → at (s₀ .margins) i < c) → d < c
   reached-few c z h = omega (arith, rounds-below (q .on _ _ (extracts g s)) c z (λ b hb. alone-lt g (s₀ .margins) b c z h))
 
@@ -71,7 +71,7 @@ unfolding load
 x-le-load g x i b hb hp =
     le-trans (omega (arith, mul-le-mul-right (at x b) hp, one-mul (at x b))) (sum-term (g .borders) (λ b. g .p i b * at x b) b hb)
 
--- margin and load of each row under c at the start: so is an exchange that has risen
+-- an exchange that has risen is under c where margin and load of each row together are under c at the start
 x-fits : {g : Grid} {s₀ s : State} {d : ℕ} → Reached g s₀ d s → (c : ℕ) → ((i : ℕ) → i < g .rows → at (s₀ .margins) i + load g i (s₀ .x) < c) → (b : ℕ) → b < g .borders → 0 < at (raises g (s .margins)) b → at (s .x) b + at (raises g (s .margins)) b < c
 unfolding raised
 x-fits {g} {s₀} {s} q c h b hb z =

@@ -1,4 +1,5 @@
--- The round loop's head, where the bounds are the raises and the rows wait for the end of their block (`Found`), and what a turn leaves there. `Head` and `Turn` of RoundLoop.antt have the rounds themselves, of the margins that the rows come to.
+-- The round loop's head (`Found`), where the caps are the raises and rows wait for the end of their block, and what a turn leaves there.
+-- `Head` and `Turn` of RoundLoop.antt have the rounds themselves, over the margins of the rules (`leftTo`).
 -- No contract cites this file.
 use mathlib.Core.Path.{_≡_, refl, sym, ap, _∙_, subst}
 use mathlib.Core.Bool.{Bool, true, false, not, false≢true}
@@ -11,13 +12,13 @@ use lib.ListN.{length, take, drop}
 use Rattle.numbers.specs.Below.{at, sum, count, table}
 use Rattle.numbers.proofs.BelowLaws.{count-cong, table-long, table-get}
 use Rattle.rounds.specs.Rounds.{Grid, raise, raises, risen}
-use Rattle.rounds.specs.Work.{Startable, noted, workLeft, workOf}
+use Rattle.rounds.specs.AllRounds.{Startable, noted, workLeft, workOf}
 use Rattle.rounds.proofs.Round.{raises-long, raises-are, raiser}
 use Rattle.walk.specs.Walk.{Listed}
 use Rattle.resting.specs.Resting.{leftTo, Waiting, Renewed, Walkable}
 use Rattle.resting.proofs.LoadLaws.{load-add, left-at, left-step, left-none, raises-within}
-use Rattle.resting.proofs.WalkLaws.{waiting-start, waiting-bounds, waiting-next}
-use Rattle.roundloop.specs.Loop.{Fits, Risable, Rose}
+use Rattle.resting.proofs.WalkLaws.{waiting-start, waiting-caps, waiting-next}
+use Rattle.raising.specs.Raising.{Fits, Risable, Rose}
 use Rattle.roundloop.proofs.RoundLoop.{x-le-load, Head, head-start, Turn, turn-fits, turn-next, turn-sum, turn-end}
 
 -- m₀, x₀ and near₀ where the loop begins; s, x, lasts, d, w, list and near at its head after k rounds
@@ -39,13 +40,13 @@ found-start {g} {ns} {m} {x} {lasts} {d} {w} {list} {near} q l k lk ek n ld ed e
       places = refl;
     }
 
--- past a test that holds wherever r does not, r does
+-- where a test holds whenever r is false, and the test fails, r is true
 pub past : (r test : Bool) → (r ≡ false → test ≡ true) → test ≡ false → r ≡ true
 past true test h t = refl
 past false test h t = absurd (false≢true (sym t ∙ h refl))
 
 module _ {g : Grid} {ns m₀ x₀ near₀ s x lasts d w list : List ℕ} {live : ℕ} {near : List ℕ} {count′ wait k : ℕ} (u : Found g ns m₀ x₀ near₀ s x lasts d w list live near count′ wait k) where
-  -- a block anew, or on
+  -- the block goes on, or a new one begins
   pub found-renewed : {s′ d′ list′ : List ℕ} {live′ : ℕ} {near′ : List ℕ} {count″ wait′ : ℕ} → Renewed g ns s d list near s′ d′ w list′ live′ near′ count″ wait′ → Found g ns m₀ x₀ near₀ s′ x lasts d′ w list′ live′ near′ count″ wait′ k
   found-renewed r =
       record {
@@ -61,9 +62,9 @@ module _ {g : Grid} {ns m₀ x₀ near₀ s x lasts d w list : List ℕ} {live :
   pub found-noted : length lasts ≡ g .borders
   found-noted = ap length (u .head .last-rounds) ∙ table-long (g .borders) _
 
-  -- as keeping those above 0 asks it, and finding one
+  -- the list as `keep_rising` and `rises` ask for it
   pub found-listed : Listed (length w) w list live
-  found-listed = waiting-bounds (u .waiting)
+  found-listed = waiting-caps (u .waiting)
 
   module _ {r : Bool} (e : r ≡ ltb 0 (count (length w) (at w))) where
     pub found-some : r ≡ true → 0 < count (length w) (at w)
@@ -88,7 +89,7 @@ module _ {g : Grid} {ns m₀ x₀ near₀ s x lasts d w list : List ℕ} {live :
     pub found-end : count (length w) (at w) ≤ 0 → (s′ : List ℕ) → s′ ≡ leftTo g d s → workLeft (record { x = x; rounds = k }) s′ lasts ≡ workOf g m₀ x₀
     found-end z s′ e = rw e (turn-end found-turn (omega arith))
 
-  -- what is gained fits, as a loaded row's margin holds it
+  -- what is gained fits a u64, since it is within the margin of a row that the border loads
   found-gains : Fits w d
   unfolding risen
   found-gains =
@@ -143,7 +144,7 @@ module _ {g : Grid} {ns m₀ x₀ near₀ s x lasts d w list : List ℕ} {live :
             places = u .places;
           }
 
-      -- less than what the rows came to before the block was renewed
+      -- the margins' sum is less than before the block was renewed
       pub found-less : {m : List ℕ} → leftTo g d s ≡ m → sum (g .rows) (at (leftTo g d′ s)) < sum (g .rows) (at m)
       found-less e =
           subst (λ (m : List ℕ). sum (g .rows) (at (leftTo g d′ s)) < sum (g .rows) (at m)) e

@@ -1,14 +1,15 @@
 -- Small computed works with the last round and the stopping row of each border (02, E7). Nobody cites them: they refuse a definition that slipped, by the number that comes out.
-use mathlib.Core.Path.{_≡_, refl}
+use mathlib.Core.Path.{refl}
 use mathlib.Core.List.{List, [], _∷_}
 use mathlib.Core.Option.{Option, none, some}
 use Prim.Native.Nat.{ℕ}
 use lib.ListN.{getD}
 use Rattle.numbers.specs.Below.{at, ifZero, sum, count, lesser, least, orZero, table, firstFrom}
+use Rattle.numbers.specs.Computed.{_is_, Hold}
 use Rattle.rounds.specs.Rounds.{Grid, State, sharers, raise, raises, load, lowered, risen, apply, next, raised, counted, run, extract}
 use Rattle.rounds.specs.Last.{after, raiseIn, lastTo, lastRound, lastRounds}
 use Rattle.rounds.specs.Stopping.{stopRow, stopRows}
-use Rattle.rounds.specs.Work.{stopBy}
+use Rattle.rounds.specs.AllRounds.{stopBy}
 
 -- rows of factors p, one list for each row; the margins, each exchange from 0
 abbrev grid : (rows borders : ℕ) → List (List ℕ) → Grid
@@ -35,38 +36,25 @@ three = grid 3 2 ((0 ∷ 1 ∷ []) ∷ (1 ∷ 1 ∷ []) ∷ (1 ∷ 1 ∷ []) ∷
 abbrev lone : Grid
 lone = grid 2 2 ((0 ∷ 0 ∷ []) ∷ (2 ∷ 0 ∷ []) ∷ [])
 
-pub record AnchorsStopped : Type 0 where
-  -- of 40 grains border 0 rises by 20 and border 1 by 6; of the 2 that are left border 0 rises by 1, and border 1 by nothing: rounds 2 and 1, not 2 and 2, nor 3 and 2
-  pub each-its-own : lasts steep (40 ∷ []) ≡ 2 ∷ 1 ∷ []
-  -- no round is counted: 0
-  pub no-round : lasts steep (1 ∷ []) ≡ 0 ∷ 0 ∷ []
-  -- border 1 never rises, though three rounds are counted
-  pub never : lasts three (0 ∷ 8 ∷ 8 ∷ []) ≡ 3 ∷ 0 ∷ []
-  -- at the end rows 0, 1 and 2 hold 0, 1 and 1 grains, shares 0: row 0 is the first for border 1, and row 1 for border 0, which row 0 does not load
-  pub first-rows : stops three (0 ∷ 8 ∷ 8 ∷ []) ≡ some 1 ∷ some 0 ∷ []
-  -- a row whose share holds one kW stops nothing: from row 0's 3 grains border 1 rises by 3, then row 1 has 2, row 2 has 1
-  pub share-of-one : stopRow three (1 ∷ 2 ∷ 1 ∷ []) 1 ≡ some 2
-  -- 1 grain among one border that takes 2 a kW: under one kW, and 2 grains are one kW
-  pub under-one : stopRow lone (9 ∷ 1 ∷ []) 0 ≡ some 1
-  pub one : stopRow lone (9 ∷ 2 ∷ []) 0 ≡ none
-  -- a border that no row loads: never raised, stopped by no row
-  pub unloaded : lasts lone (0 ∷ 7 ∷ []) ≡ 1 ∷ 0 ∷ []
-  pub unstopped : stops lone (0 ∷ 7 ∷ []) ≡ some 1 ∷ none ∷ []
-  -- by the shares alone
-  pub by-shares : stopBy three (1 ∷ 1 ∷ 0 ∷ []) 0 ≡ some 2
-
-pub anchors-stopped : AnchorsStopped
+pub anchors-stopped : Hold (
+    -- of 40 grains border 0 rises by 20 and border 1 by 6; of the 2 that are left border 0 rises by 1, and border 1 by nothing: rounds 2 and 1, not 2 and 2, nor 3 and 2
+    lasts steep (40 ∷ []) is (2 ∷ 1 ∷ [])  -- each-its-own
+    -- no round is counted: 0
+    ∷ lasts steep (1 ∷ []) is (0 ∷ 0 ∷ [])  -- no-round
+    -- border 1 never rises, though three rounds are counted
+    ∷ lasts three (0 ∷ 8 ∷ 8 ∷ []) is (3 ∷ 0 ∷ [])  -- never
+    -- at the end rows 0, 1 and 2 hold 0, 1 and 1 grains, shares 0: row 0 is the first for border 1, and row 1 for border 0, which row 0 does not load
+    ∷ stops three (0 ∷ 8 ∷ 8 ∷ []) is (some 1 ∷ some 0 ∷ [])  -- first-rows
+    -- a row whose share holds one kW stops nothing: from row 0's 3 grains border 1 rises by 3, then row 1 has 2, row 2 has 1
+    ∷ stopRow three (1 ∷ 2 ∷ 1 ∷ []) 1 is some 2  -- share-of-one
+    -- 1 grain among one border that takes 2 a kW: under one kW, and 2 grains are one kW
+    ∷ stopRow lone (9 ∷ 1 ∷ []) 0 is some 1  -- under-one
+    ∷ stopRow lone (9 ∷ 2 ∷ []) 0 is none  -- one
+    -- a border that no row loads: never raised, stopped by no row
+    ∷ lasts lone (0 ∷ 7 ∷ []) is (1 ∷ 0 ∷ [])  -- unloaded
+    ∷ stops lone (0 ∷ 7 ∷ []) is (some 1 ∷ none ∷ [])  -- unstopped
+    -- by the shares alone
+    ∷ stopBy three (1 ∷ 1 ∷ 0 ∷ []) 0 is some 2  -- by-shares
+    ∷ [])
 unfolding ifZero sum count lesser least orZero table firstFrom sharers raise raises load lowered risen apply next raised counted run extract after raiseIn lastTo lastRound stopRow stopBy
-anchors-stopped =
-    record {
-      each-its-own = refl;
-      no-round = refl;
-      never = refl;
-      first-rows = refl;
-      share-of-one = refl;
-      under-one = refl;
-      one = refl;
-      unloaded = refl;
-      unstopped = refl;
-      by-shares = refl;
-    }
+anchors-stopped = refl

@@ -8,7 +8,7 @@ use native.Mathlib.Omega.{arith, min-cases}
 use Rattle.numbers.specs.Below.{ifZero, lesser, least, orZero}
 use Rattle.numbers.proofs.BelowLaws.{lt-suc-cases}
 
--- What `least` finds: nothing counts, or one that counts and that no other is below.
+-- What `least` finds: nothing where nothing counts; else one that counts, with no smaller one that counts.
 pub record Smallest (k : ℕ) (w f : ℕ → ℕ) (u : ℕ) : Type 0 where
   pub i : ℕ
   pub below : i < k
@@ -63,7 +63,7 @@ least-is (suc k) w f = go (least k w f) (least-is k w f) (w k) refl
         }
     go (some u) s (suc v) e = smaller k w f u s (omega arith)
 
--- The two laws that the rest uses: the smallest is at most each that counts ..
+-- The smallest is at most each that counts. (This and `least-some` are the two laws that the rest uses.)
 pub least-le : (k : ℕ) (w f : ℕ → ℕ) (j : ℕ) → j < k → 0 < w j → orZero (least k w f) ≤ f j
 unfolding orZero
 least-le k w f j l m = go (least k w f) (least-is k w f)
@@ -72,7 +72,7 @@ least-le k w f j l m = go (least k w f) (least-is k w f)
     go none n = omega (arith, n j l)
     go (some u) s = s .lowest j l m
 
--- .. and where one counts, it is one that counts.
+-- Where one counts, the smallest is one that counts.
 pub least-some : (k : ℕ) (w f : ℕ → ℕ) (j : ℕ) → j < k → 0 < w j → Smallest k w f (orZero (least k w f))
 unfolding orZero
 least-some k w f j l m = go (least k w f) (least-is k w f)
@@ -109,12 +109,12 @@ pub least-mono : (k : ℕ) (w f f′ : ℕ → ℕ) → ((i : ℕ) → i < k →
 least-mono k w f f′ h = least-below k w f k w f′ (λ j l m. (j, l, m, h j l m)) (λ i l m. (i, l, m))
 
 -- ---- division
--- Division by the same number keeps the order ..
+-- Division by the same number keeps the order.
 pub div-mono : (n : ℕ) {a b : ℕ} → a ≤ b → a / n ≤ b / n
 div-mono zero {a} {b} h = omega (arith, div-zero a)
 div-mono (suc n) {a} {b} h = le-div-iff-mul-le (zero-lt-suc n) .1 (omega (arith, div-mul-le-self a (suc n)))
 
--- .. and by a larger number gives less.
+-- Division by a larger number gives no more.
 pub div-anti : (a : ℕ) {n m : ℕ} → 0 < n → n ≤ m → a / m ≤ a / n
 div-anti a {n} {m} z h = le-div-iff-mul-le z .1 (le-trans (mul-le-mul-left (a / m) h) (div-mul-le-self a m))
 

@@ -10,7 +10,7 @@ use lib.ListN.{length}
 use Rattle.numbers.specs.Below.{ifZero, count, at}
 use Rattle.numbers.proofs.BelowLaws.{ifZero-pos, count-le, table-long, table-get}
 use Rattle.rounds.specs.Rounds.{Grid, sharers}
-use Rattle.rounds.specs.Work.{Ready}
+use Rattle.rounds.specs.AllRounds.{Ready}
 
 -- the place of p of row i at border b is inside a table of rows x borders
 pub place-inside : (rows borders i b n : ℕ) → rows * borders ≤ n → i < rows → b < borders → i * borders + b < n
@@ -18,7 +18,7 @@ place-inside rows borders i b n l hi hb = omega (arith, mul-le-mul-right borders
 
 -- ---- counting
 
--- n of the first i, of k, are above 0
+-- n of the first i items, of k, are above 0
 pub record Counted (f : ℕ → ℕ) (k i n : ℕ) : Type 0 where
   pub high : i ≤ k
   pub number : n ≡ count i f

@@ -1,5 +1,5 @@
 -- The last round that raised a border (02, E7). What a round does, and how many are counted, is Rounds.antt's. Rounds are numbered from 1.
--- `lastRounds` is what contracts cite; `LastRaise` says what the last round is, and is proved of every work (`proofs/Stopped.antt`).
+-- `lastRounds` is what contracts cite; `LastRaise` says what the last round is, and is proved of every work (`last-round` of `proofs/LastLaws.antt`).
 use mathlib.Core.Path.{_≡_}
 use mathlib.Core.List.{List}
 use Prim.Native.Nat.{ℕ, zero, suc, _≤_, _<_}
@@ -21,7 +21,7 @@ unfoldable pub lastTo : Grid → State → (b k : ℕ) → ℕ
 lastTo g s b zero = 0
 lastTo g s b (suc k) = ifZero (raiseIn g s b (suc k)) (lastTo g s b k) (suc k)
 
--- .. of the rounds that are counted
+-- the last of the counted rounds that raises border b, or 0 if none does
 unfoldable pub lastRound : Grid → State → (b : ℕ) → ℕ
 lastRound g s b = lastTo g s b (extract g s .rounds)
 

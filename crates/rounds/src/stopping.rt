@@ -5,16 +5,16 @@ ghost use Prim.Native.Nat.{_*_, _/_, _<_, _≤_};
 ghost use lib.ListN.{length};
 ghost use Rattle.numbers.specs.Below.{at, table};
 ghost use Rattle.numbers.specs.First.{found};
-ghost use Rattle.rounds.specs.Work.{flat, stopBy};
+ghost use Rattle.rounds.specs.AllRounds.{flat, stopBy};
 
-// Each row's equal share of its margin, where its n stood.
+// Each row's equal share of its margin, written over its n.
 pub fn share_out(margins: &[u64], ns: &mut [u64])
     requires { ⌜ length (now ns) ≡ length (now margins) ⌝ }
     ensures { λ _. ⌜ now (ns .exit) ≡ table (length (now (margins .entry))) (λ i. at (now (margins .entry)) i / at (now (ns .entry)) i) ⌝ }
 {
     for i in 0..margins.len() {
         let n = ns[i];
-        ns[i] = crate::share_of(margins[i], n);
+        ns[i] = crate::equal_share(margins[i], n);
     }
 }
 

@@ -9,10 +9,10 @@ use native.Mathlib.Omega.{arith}
 use lib.Dec.{lit≤}
 use lib.IntN.{ℤ, pos, negsuc, natAbs}
 use lib.ListN.{length, getD}
-use Rattle.kinds.specs.Limits.{zonesMost, rowsMost, bytesMost}
-use Rattle.kinds.specs.LineColumns.{sheetColumns, sheetFactors}
-use Rattle.kinds.specs.Ranges.{atℤ, rowOf, rowFits, factorFits}
-use Rattle.kinds.proofs.KindLaws.{row-in, factor-in}
+use Rattle.limits.specs.Limits.{zonesMost, rowsMost, bytesMost}
+use Rattle.types.specs.LineColumns.{sheetColumns, sheetFactors}
+use Rattle.types.specs.Ranges.{atℤ, rowOf, rowFits, factorFits}
+use Rattle.types.proofs.RangeLaws.{row-in, factor-in}
 use Rattle.text.specs.Written.{decimal, shareText}
 use Rattle.text.specs.Point.{pointed, pointedℤ}
 use Rattle.text.proofs.FieldTrip.{ShareKept}
@@ -66,7 +66,7 @@ values-most values e =
       power-most (atℤ values 6) (omega (arith, k .iva .most)),
     )
 
--- a line
+-- the bytes of the longest line
 abbrev pub lineMost : ℕ
 lineMost = 301
 
@@ -76,7 +76,7 @@ line-most i values factors l e few =
     rw (line-long semicolon (Bare i) (sheetColumns ++ sheetFactors (length factors)) (numbersOf sheetColumns values ++ factors))
     (omega (arith, length-parts sheetColumns (sheetFactors (length factors)) (numbersOf sheetColumns values) factors refl, values-most values (g .0), each-most factors (g .1), decimal-long 2 i (omega arith)))
 
--- all of them: 60,200 bytes
+-- the bytes of all lines, each the longest: 60,200
 abbrev pub sheetMost : ℕ
 sheetMost = rowsMost * lineMost
 
@@ -87,6 +87,6 @@ module _ (zones : ℕ) (rows : List (List ℤ)) (factors : List ℤ) (long : len
       let most = lines-most (rowTextIn rowKind.Sheet zones rows factors) (length rows) {q = lineMost} (λ i l. line-most i (getD rows i []) (stretch zones factors i) (omega arith) (good i l) (omega (arith, stretch-long zones (length rows) factors long i l))) in
       le-trans most (mul-le-mul-right {m = length rows} {n = rowsMost} lineMost r)
 
-  -- .. and so refusal 1 is not given of it
+  -- refusal 1 is not given of a sheet
   pub sheet-short : length (rowsTextBy rowKind.Sheet zones rows factors) ≤ bytesMost
   sheet-short = le-trans sheet-most (lit≤ {m = sheetMost} {n = bytesMost} tt)

@@ -2,6 +2,4 @@ pub mod Anchors
 pub mod LengthLaws
 pub mod SheetLaws
 pub mod WriteLaws
-pub mod SheetTrip
-pub mod Unique
-pub mod UniqueSheet
+pub mod JudgedLaws

@@ -9,11 +9,11 @@ use lib.IntN.{ℤ}
 use lib.ListN.{length, getD, take}
 use Rattle.numbers.specs.Below.{firstFrom}
 use Rattle.numbers.proofs.BelowLaws.{first-none}
-use Rattle.kinds.specs.declared.Header.{Header}
-use Rattle.kinds.specs.declared.Refusal.{Refusal}
-use Rattle.kinds.specs.Ranges.{headerFits}
-use Rattle.kinds.specs.Refusals.{Judged, passed, refused, then, outOfRange}
-use Rattle.kinds.proofs.RefusalLaws.{then-next, then-refused, unless-ok, unless-refused, first-none-next, first-found}
+use Rattle.refusals.specs.declared.Refusal.{Refusal}
+use Rattle.refusals.specs.Refusals.{Judged, passed, refused, then, outOfRange}
+use Rattle.refusals.proofs.RefusalLaws.{then-next, then-refused, unless-ok, unless-refused, first-none-next, first-found}
+use Rattle.types.specs.declared.Header.{Header}
+use Rattle.types.specs.Ranges.{headerFits}
 use Rattle.text.specs.Left.{TextLeft, textLeft}
 use Rattle.text.proofs.LeftLaws.{text-refused}
 use Rattle.table.specs.Table.{rowGood, stretch}

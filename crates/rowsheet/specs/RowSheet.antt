@@ -7,17 +7,17 @@ use lib.Dec.{ltb}
 use lib.IntN.{ℤ}
 use lib.ListN.{length, getD, take}
 use Rattle.numbers.specs.Below.{over}
-use Rattle.kinds.specs.declared.Header.{Header}
-use Rattle.kinds.specs.declared.Judgement.{Judgement}
-use Rattle.kinds.specs.Answers.{ruled}
-use Rattle.kinds.specs.Limits.{bytesMost}
-use Rattle.kinds.specs.Ranges.{headerFits}
-use Rattle.kinds.specs.Refusals.{Judged, passed, refused, then, either, unless, refuseFirst, need, tooLong, wrongForm, outOfRange}
+use Rattle.limits.specs.Limits.{bytesMost}
+use Rattle.refusals.specs.declared.Judgement.{Judgement}
+use Rattle.refusals.specs.Answers.{saidJudgement}
+use Rattle.refusals.specs.Refusals.{Judged, passed, refused, then, either, unless, refuseFirst, need, tooLong, wrongForm, outOfRange}
+use Rattle.types.specs.declared.Header.{Header}
+use Rattle.types.specs.Ranges.{headerFits}
 use Rattle.text.specs.Left.{TextLeft, textLeft}
-use Rattle.runs.specs.Block.{Block, linesAt, withLines}
+use Rattle.sections.specs.Section.{Section, linesAt, withLines}
 use Rattle.table.specs.Table.{rowGood, stretch, headerLineNo}
 use Rattle.lines.specs.Lines.{RowLine}
-use Rattle.runs.specs.Rows.{valuesOf, factorsOf}
+use Rattle.sections.specs.Rows.{valuesOf, factorsOf}
 use Rattle.lines.specs.SheetLine.{sheetLine}
 use Rattle.lines.specs.declared.row.RowKind.the-variants as rowKind
 use Rattle.layout.specs.Layout.{rowsTextBy}
@@ -30,12 +30,16 @@ pub record Rows : Type 0 where
 abbrev pub rowsOf : List RowLine → Rows
 rowsOf lines = record { rows = valuesOf lines; factors = factorsOf lines }
 
+-- the rows in front of lent records and factors, which may be more
+abbrev pub frontRows : Header → (c : List (List ℤ)) → (f : List ℤ) → Rows
+frontRows h c f = record { rows = take (h .rows) c; factors = take (h .rows * h .zones) f }
+
 -- ---- reading
 -- the line of row 0
 abbrev pub firstLineNo : ℕ
 firstLineNo = 1
 
-abbrev pub linesIn : Header → (sheet : List ℕ) → Block RowLine
+abbrev pub linesIn : Header → (sheet : List ℕ) → Section RowLine
 linesIn h sheet = linesAt (sheetLine (h .zones)) firstLineNo (h .rows) sheet 0 0
 
 -- as many lines as the header has rows; nothing follows
@@ -63,7 +67,7 @@ readRowsLeft h sheet c f =
     (λ w. record { answer = refused w; c = c; f = f })
 
 abbrev pub rowsSaid : Judgement → (c : List (List ℤ)) → (f : List ℤ) → RowsLeft
-rowsSaid r c f = record { answer = ruled r tt; c = c; f = f }
+rowsSaid r c f = record { answer = saidJudgement r tt; c = c; f = f }
 
 -- ---- writing
 unfoldable pub sheetOf : (zones : ℕ) → Rows → List ℕ
@@ -78,8 +82,8 @@ unfoldable pub judgeRows : Header → (c : List (List ℤ)) → (f : List ℤ) �
 judgeRows h c f =
     unless (headerFits h) (outOfRange headerLineNo)
     (rowRoom h (length c) (length f)
-    (rowsInRange (h .zones) (record { rows = take (h .rows) c; factors = take (h .rows * h .zones) f })))
+    (rowsInRange (h .zones) (frontRows h c f)))
 
--- .. and then room for the text (8)
+-- what `write_rows` leaves: header, lengths and records are judged, and then room for the text (8)
 unfoldable pub writeRowsLeft : Header → (c : List (List ℤ)) → (f : List ℤ) → (out : List ℕ) → TextLeft
 writeRowsLeft h c f out = textLeft (then (judgeRows h c f) (λ t. passed (sheetOf (h .zones) t))) out

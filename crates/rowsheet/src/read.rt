@@ -1,18 +1,22 @@
-// Judging a sheet, before a record is stored.
+// Reading a sheet into room for the most rows: each line is parsed once, and judged as it is parsed.
 use crate::FIRST_LINE_NO;
-use kinds::Header;
-use kinds::Judgement;
-use kinds::Refusal;
 use lines::row::RowKind;
-use runs::End;
+use refusals::Judgement;
+use refusals::Refusal;
+use sections::End;
+use types::Header;
+use types::RowRecord;
 ghost use mathlib.Core.Path.{_≡_};
-ghost use Rattle.kinds.specs.Answers.{ruled};
-ghost use Rattle.runs.specs.Block.{heldBy};
-ghost use Rattle.rowsheet.specs.RowSheet.{rowsOf, linesIn, readSheet};
+ghost use Prim.Native.Nat.{_*_, _≤_};
+ghost use lib.ListN.{length};
+ghost use Rattle.limits.specs.Limits.{zonesMost, rowsMost};
+ghost use Rattle.refusals.specs.Answers.{saidJudgement};
+ghost use Rattle.rowsheet.specs.RowSheet.{frontRows, readSheet};
 
-// Its length, the header, the lines one by one; nothing follows them.
-pub fn judge_sheet(h: Header, sheet: &[u8]) -> Judgement
-    ensures { λ r. ⌜ ruled r (rowsOf (heldBy (linesIn h (now (sheet .entry))))) ≡ readSheet h (now (sheet .entry)) ⌝ }
+// Its length, the header, the lines one by one; nothing follows them. Where it is refused, nothing is said of the records and factors.
+pub fn read_sheet(h: Header, sheet: &[u8], c: &mut [RowRecord], f: &mut [i64]) -> Judgement
+    requires { ⌜ (rowsMost ≤ length (now c)) × (rowsMost * zonesMost ≤ length (now f)) ⌝ }
+    ensures { λ r. ⌜ saidJudgement r (frontRows h (now (c .exit)) (now (f .exit))) ≡ readSheet h (now (sheet .entry)) ⌝ }
 {
     if text::BYTES_MOST < sheet.len() {
         return Judgement::Refused(Refusal::too_long());
@@ -20,8 +24,18 @@ pub fn judge_sheet(h: Header, sheet: &[u8]) -> Judgement
     if !h.fits() {
         return Judgement::Refused(Refusal::out_of_range(table::HEADER_LINE_NO));
     }
+    let zones = h.zones;
     let rows = h.rows;
-    match runs::rows::rows_judged(RowKind::Sheet, sheet, 0, h.zones, FIRST_LINE_NO, rows) {
+    match sections::rows::rows_read(
+        RowKind::Sheet,
+        sheet,
+        b"",
+        0,
+        zones,
+        FIRST_LINE_NO,
+        &mut c[..rows],
+        &mut f[..rows * zones],
+    ) {
         End::At(next) => {
             if next < sheet.len() {
                 return Judgement::Refused(Refusal::wrong_form(FIRST_LINE_NO + rows));

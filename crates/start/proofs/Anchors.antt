@@ -1,18 +1,19 @@
--- A small table, and what the rounds start from with states and starting margins of one's own. Nobody cites it: it refuses a definition that slipped, by the number that comes out.
+-- A small table, and what the rounds start from with any states and starting margins. Nobody cites it: it refuses a definition that slipped, by the number that comes out.
 use mathlib.Core.Path.{_≡_, refl}
 use mathlib.Core.List.{List, [], _∷_}
 use Prim.Native.Nat.{ℕ}
 use lib.IntN.{ℤ, pos}
 use Rattle.numbers.specs.Below.{table, firstFrom, given}
 use Rattle.numbers.specs.Ints.{minus, positivePart}
-use Rattle.kinds.specs.declared.Header.{Header}
-use Rattle.kinds.specs.Ranges.{hubsOf, borderOf}
-use Rattle.kinds.specs.Refusals.{Judged, passed, refused, refusal, unless, refuseAt, refuseFirst}
+use Rattle.refusals.specs.Refusals.{Judged, passed, refused, refusal, unless, refuseAt, refuseFirst}
+use Rattle.types.specs.declared.Header.{Header}
+use Rattle.types.specs.Ranges.{hubsOf, borderOf}
 use Rattle.table.specs.Table.{stretch}
 use Rattle.margin.specs.Margin.{signedFactor, pOf, ltaKw}
 use Rattle.marks.specs.Marks.{flagged}
-use Rattle.start.specs.Setup.{gridBy, beginBy, judgeBy}
-use Rattle.start.specs.Start.{kept, every, gridOf, startOf, judgeStart, setupWith}
+use Rattle.setup.specs.Setup.{gridBy, beginBy, judgeBy}
+use Rattle.states.specs.States.{kept}
+use Rattle.start.specs.Start.{every, gridOf, startOf, judgeStart, setupWith}
 use Rattle.start.specs.Filled.{cells}
 
 abbrev headerIn : (mark rows : ℕ) → Header
@@ -25,11 +26,11 @@ header rows = headerIn 0 rows
 abbrev borders : List (List ℤ)
 borders = (pos 0 ∷ pos 1 ∷ pos 1 ∷ minus 1 ∷ minus 1 ∷ []) ∷ (pos 1 ∷ pos 0 ∷ pos 0 ∷ minus 1 ∷ minus 1 ∷ []) ∷ []
 
--- one row, which loads border 0 alone
+-- judging one row, which loads border 0 alone
 abbrev one : (states : List ℕ) → (starts : List ℤ) → Judged (List ℕ)
 one states starts = judgeStart every (header 1) borders (pos 20000 ∷ pos 0 ∷ []) states starts
 
--- three: row 1 loads border 1, and row 2 is as row 0
+-- three rows: row 1 loads border 1, and row 2 has the factors of row 0
 abbrev factors : List ℤ
 factors = pos 20000 ∷ pos 0 ∷ pos 0 ∷ pos 20000 ∷ pos 20000 ∷ pos 0 ∷ []
 
@@ -53,7 +54,7 @@ pub record Anchors : Type 0 where
   pub six-too : judgeStart every (headerIn 1 3) borders factors (0 ∷ 2 ∷ 0 ∷ []) (pos 0 ∷ minus 1 ∷ minus 1 ∷ []) ≡ refused (refusal 6 1 0)
   -- the table of p, row after row and border after border; a row that takes no part has zeros
   pub laid-out : cells (gridOf every (header 3) borders (pos 20000 ∷ pos 0 ∷ pos 0 ∷ pos 30000 ∷ pos 50000 ∷ pos 10000 ∷ []) (0 ∷ 0 ∷ 2 ∷ [])) ≡ 20000 ∷ 0 ∷ 0 ∷ 30000 ∷ 0 ∷ 0 ∷ []
-  -- with marks (02, E13): p is 0 at a border that is not marked, and 6 does not look at it; 5 and 7 are as they were
+  -- with marks (02, E13): p is 0 at a border that is not marked, and 6 does not look at it; 5 and 7 do not change
   pub marked : cells (gridOf (flagged (1 ∷ 0 ∷ [])) (header 3) borders (pos 20000 ∷ pos 0 ∷ pos 0 ∷ pos 30000 ∷ pos 50000 ∷ pos 10000 ∷ []) (0 ∷ 0 ∷ 0 ∷ [])) ≡ 20000 ∷ 0 ∷ 0 ∷ 0 ∷ 40000 ∷ 0 ∷ []
   pub six-marked : judgeStart (flagged (1 ∷ 0 ∷ [])) (header 1) borders (pos 20000 ∷ pos 0 ∷ []) (0 ∷ []) (pos 0 ∷ []) ≡ passed (0 ∷ [])
   pub six-other : judgeStart (flagged (0 ∷ 1 ∷ [])) (header 1) borders (pos 20000 ∷ pos 0 ∷ []) (0 ∷ []) (pos 0 ∷ []) ≡ refused (refusal 6 1 0)

@@ -1,4 +1,3 @@
 pub mod Anchors
-pub mod AnchorsSetup
 pub mod StartLaws
 pub mod SameMarks

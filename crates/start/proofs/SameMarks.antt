@@ -11,13 +11,14 @@ use lib.ListN.{length, take}
 use Rattle.numbers.specs.Below.{firstFrom, given, someBelow, allBelow}
 use Rattle.numbers.proofs.BelowLaws.{first-cong}
 use Rattle.numbers.proofs.TestLaws.{all-true}
-use Rattle.kinds.specs.declared.Header.{Header}
-use Rattle.kinds.specs.Limits.{bordersMost}
-use Rattle.kinds.specs.Refusals.{passed, unless, refuseAt, refuseFirst, noRow, unlimited, belowZero}
+use Rattle.limits.specs.Limits.{bordersMost}
+use Rattle.refusals.specs.Refusals.{passed, unless, refuseAt, refuseFirst, noRow, unlimited, belowZero}
+use Rattle.types.specs.declared.Header.{Header}
 use Rattle.marks.specs.Marks.{flagsOf, flagged}
 use Rattle.marks.proofs.MarkLaws.{flags-tell}
-use Rattle.start.specs.Setup.{Setup, gridBy, freeBy, lowBy, judgeBy}
-use Rattle.start.specs.Start.{kept, every, gridOf, setupWith}
+use Rattle.setup.specs.Setup.{Setup, gridBy, freeBy, lowBy, judgeBy}
+use Rattle.states.specs.States.{kept}
+use Rattle.start.specs.Start.{every, gridOf, setupWith}
 use Rattle.start.specs.Filled.{cells}
 use Rattle.start.proofs.StartLaws.{cells-cong}
 
@@ -51,11 +52,11 @@ module _ (h : Header) (b : List (List ℤ)) (f : List ℤ) (states : List ℕ) w
   unfolding gridOf setupWith
   cells-agree m m′ e = cells-marks (setupWith (kept states) m′ h b f []) m e
 
-  -- all of which are set
+  -- flags that are all set
   pub cells-all : (flags : List ℕ) → length flags ≡ h .borders → allBelow (length flags) (flagged flags) ≡ true → cells (gridOf (flagged flags) h b f states) ≡ cells (gridOf every h b f states)
   cells-all flags long e = cells-agree (flagged flags) every (λ k l. all-true (length flags) (flagged flags) e k (omega arith))
 
-  -- .. or are made for every border
+  -- flags that are made for every border
   pub cells-every : (marks : List ℕ) {flags : List ℕ} → flags ≡ flagsOf bordersMost true marks → h .borders ≤ bordersMost
       → cells (gridOf (flagged (take (h .borders) flags)) h b f states) ≡ cells (gridOf every h b f states)
   cells-every marks {flags} e few = cells-agree (flagged (take (h .borders) flags)) every (flags-tell true marks (h .borders) e few)

@@ -16,20 +16,21 @@ use lib.Signed.{ltZ}
 use Rattle.numbers.specs.Ints.{positivePart}
 use Rattle.numbers.specs.Below.{at, table, firstFrom, someBelow}
 use Rattle.numbers.proofs.BelowLaws.{lt-suc-cases, table-long, table-get, table-cong, table-of}
-use Rattle.kinds.specs.declared.Header.{Header}
-use Rattle.kinds.specs.declared.Judgement.{Judgement}
-use Rattle.kinds.specs.Answers.{ruled}
-use Rattle.kinds.specs.Limits.{bordersMost}
-use Rattle.kinds.specs.Ranges.{atℤ, isIntraday, borderOf}
-use Rattle.kinds.specs.Refusals.{Judged, passed, refused, refuseFirst, noRow, unlimited, belowZero}
-use Rattle.kinds.proofs.RefusalLaws.{unless-ok, unless-refused, first-found, first-none-next}
+use Rattle.limits.specs.Limits.{bordersMost}
+use Rattle.refusals.specs.declared.Judgement.{Judgement}
+use Rattle.refusals.specs.Answers.{saidJudgement}
+use Rattle.refusals.specs.Refusals.{Judged, passed, refused, refuseFirst, noRow, unlimited, belowZero}
+use Rattle.refusals.proofs.RefusalLaws.{unless-ok, unless-refused, first-found, first-none-next}
+use Rattle.types.specs.declared.Header.{Header}
+use Rattle.types.specs.Ranges.{atℤ, isIntraday, borderOf}
 use Rattle.table.specs.Table.{Table}
 use Rattle.rounds.specs.Rounds.{Grid}
 use Rattle.rounds.proofs.Loops.{place-inside}
 use Rattle.margin.specs.Margin.{startsOf}
-use Rattle.states.specs.Rows.{Rows, rowsOf, rowsWith}
-use Rattle.start.specs.Setup.{gridBy, beginBy, judgeBy}
-use Rattle.start.specs.Start.{kept, fromBy, gridOf, startOf, judgeStart, gridMarked, tableStart, judgeMarked, setupWith}
+use Rattle.states.specs.Standings.{Standings, standingsOf, standingsWith}
+use Rattle.setup.specs.Setup.{gridBy, beginBy, judgeBy}
+use Rattle.states.specs.States.{kept}
+use Rattle.start.specs.Start.{fromBy, gridOf, startOf, judgeStart, gridMarked, tableStart, judgeMarked, setupWith}
 use Rattle.start.specs.Filled.{froms, exchangesOf, freeOf, cells, Prepared, prepared, preparedOf}
 
 -- ---- a grid in one list
@@ -131,20 +132,20 @@ module _ (marked : ℕ → Bool) (h : Header) (borders : List (List ℤ)) (facto
         pub may-start : none ≡ firstFrom (length states) 0 low → passed states ≡ judgeStart marked h borders factors states starts
         may-start e = sym (past-free ∙ first-none-next _ _ _ _ (sym (e ∙ of-rows)))
 
--- ---- what is filled in is what the definitions say
-pub prepared-by : (marked : ℕ → Bool) (t : Table) (r : Judgement) {rams starts : List ℤ} {states : List ℕ} → rowsWith rams states ≡ rowsOf t → starts ≡ startsOf t
-    → ruled r states ≡ judgeStart marked (t .header) (t .borders) (t .factors) states starts → prepared r rams starts states ≡ preparedOf marked t
+-- ---- what was filled in is what the definitions say
+pub prepared-by : (marked : ℕ → Bool) (t : Table) (r : Judgement) {rams starts : List ℤ} {states : List ℕ} → standingsWith rams states ≡ standingsOf t → starts ≡ startsOf t
+    → saidJudgement r states ≡ judgeStart marked (t .header) (t .borders) (t .factors) states starts → prepared r rams starts states ≡ preparedOf marked t
 unfolding preparedOf judgeStart
 prepared-by marked t r {rams} {starts} {states} m s w =
-    let e : states ≡ rowsOf t .states = ap (λ (n : Rows). n .states) m in
-    let judged : ruled r states ≡ judgeMarked marked t = w ∙ ap₂ (λ (ss : List ℕ) (ms : List ℤ). judgeStart marked (t .header) (t .borders) (t .factors) ss ms) e s in
-    ap₂ {C = Prepared} (λ (j : Judged (List ℕ)) (n : Rows). record { judged = j; rows = n; starts = starts }) judged m
-    ∙ ap {B = Prepared} (λ (ms : List ℤ). record { judged = judgeMarked marked t; rows = rowsOf t; starts = ms }) s
+    let e : states ≡ standingsOf t .states = ap (λ (n : Standings). n .states) m in
+    let judged : saidJudgement r states ≡ judgeMarked marked t = w ∙ ap₂ (λ (ss : List ℕ) (ms : List ℤ). judgeStart marked (t .header) (t .borders) (t .factors) ss ms) e s in
+    ap₂ {C = Prepared} (λ (j : Judged (List ℕ)) (n : Standings). record { judged = j; rows = n; starts = starts }) judged m
+    ∙ ap {B = Prepared} (λ (ms : List ℤ). record { judged = judgeMarked marked t; rows = standingsOf t; starts = ms }) s
 
--- .. and back: what the code left is what the definitions say
+-- what `prepare` left is what the definitions say, part by part
 pub record PreparedAs (marked : ℕ → Bool) (t : Table) (r : Judgement) (rams starts : List ℤ) (states : List ℕ) : Type 0 where
-  pub judged : ruled r states ≡ judgeMarked marked t
-  pub rows : rowsWith rams states ≡ rowsOf t
+  pub judged : saidJudgement r states ≡ judgeMarked marked t
+  pub rows : standingsWith rams states ≡ standingsOf t
   pub starts-are : starts ≡ startsOf t
 
 pub prepared-as : {marked : ℕ → Bool} {t : Table} (r : Judgement) {rams starts : List ℤ} {states : List ℕ} → prepared r rams starts states ≡ preparedOf marked t → PreparedAs marked t r rams starts states
@@ -162,14 +163,14 @@ pub margins-are : (h : Header) (b : List (List ℤ)) (states : List ℕ) (starts
 unfolding startOf beginBy setupWith
 margins-are h b states starts long e = e ∙ ap (λ (n : ℕ). table n (λ i. cond (kept states i) (positivePart (atℤ starts i)) 0)) long
 
-pub laid-grid : (marked : ℕ → Bool) (t : Table) {rams : List ℤ} {states p : List ℕ} → rowsWith rams states ≡ rowsOf t → p ≡ cells (gridOf marked (t .header) (t .borders) (t .factors) states) → p ≡ cells (gridMarked marked t)
+pub laid-grid : (marked : ℕ → Bool) (t : Table) {rams : List ℤ} {states p : List ℕ} → standingsWith rams states ≡ standingsOf t → p ≡ cells (gridOf marked (t .header) (t .borders) (t .factors) states) → p ≡ cells (gridMarked marked t)
 unfolding gridOf gridBy setupWith
-laid-grid marked t m e = e ∙ ap (λ (n : Rows). cells (gridOf marked (t .header) (t .borders) (t .factors) (n .states))) m
+laid-grid marked t m e = e ∙ ap (λ (n : Standings). cells (gridOf marked (t .header) (t .borders) (t .factors) (n .states))) m
 
-pub laid-margins : (t : Table) {rams starts : List ℤ} {states margins : List ℕ} → rowsWith rams states ≡ rowsOf t → starts ≡ startsOf t
+pub laid-margins : (t : Table) {rams starts : List ℤ} {states margins : List ℕ} → standingsWith rams states ≡ standingsOf t → starts ≡ startsOf t
     → margins ≡ startOf (t .header) (t .borders) states starts .margins → margins ≡ tableStart t .margins
 unfolding startOf beginBy setupWith
-laid-margins t m s e = e ∙ ap₂ (λ (n : Rows) (ms : List ℤ). startOf (t .header) (t .borders) (n .states) ms .margins) m s
+laid-margins t m s e = e ∙ ap₂ (λ (n : Standings) (ms : List ℤ). startOf (t .header) (t .borders) (n .states) ms .margins) m s
 
 pub filled-long : (marked : ℕ → Bool) (h : Header) (b : List (List ℤ)) (f : List ℤ) (states : List ℕ) {p : List ℕ} → p ≡ cells (gridOf marked h b f states) → length p ≡ h .rows * h .borders
 unfolding gridOf gridBy setupWith

@@ -6,23 +6,23 @@ use lib.Dec.{ltb}
 use lib.IntN.{ℤ}
 use lib.ListN.{length, getD}
 use Rattle.numbers.specs.Below.{table, over, someBelow}
-use Rattle.kinds.specs.declared.Header.{Header}
-use Rattle.kinds.specs.declared.Judgement.{Judgement}
-use Rattle.kinds.specs.Answers.{ruled}
-use Rattle.kinds.specs.Limits.{bordersMost}
-use Rattle.kinds.specs.Ranges.{borderOf}
-use Rattle.kinds.specs.Refusals.{Judged}
+use Rattle.limits.specs.Limits.{bordersMost}
+use Rattle.refusals.specs.declared.Judgement.{Judgement}
+use Rattle.refusals.specs.Answers.{saidJudgement}
+use Rattle.refusals.specs.Refusals.{Judged}
+use Rattle.types.specs.declared.Header.{Header}
+use Rattle.types.specs.Ranges.{borderOf}
 use Rattle.table.specs.Table.{Table}
 use Rattle.rounds.specs.Rounds.{Grid}
 use Rattle.margin.specs.Margin.{startsOf}
-use Rattle.states.specs.Rows.{Rows, rowsOf, rowsWith}
+use Rattle.states.specs.Standings.{Standings, standingsOf, standingsWith}
 use Rattle.start.specs.Start.{fromBy, gridOf, judgeMarked}
 
 -- where each border starts, kW
 abbrev pub froms : (intraday : Bool) → (b : List (List ℤ)) → List ℕ
 froms intraday b = table (length b) (λ k. fromBy intraday (borderOf (getD b k [])))
 
--- .. at the front of an array for the most borders, and 0 beyond them
+-- where each border starts, at the front of an array for the most borders, and 0 beyond them
 abbrev pub exchangesOf : (intraday : Bool) → (b : List (List ℤ)) → List ℕ
 exchangesOf intraday b = over (froms intraday b) (table bordersMost (λ k. 0))
 
@@ -37,11 +37,11 @@ cells g = table (g .rows * g .borders) (λ k. g .p (k / g .borders) (k % g .bord
 -- what preparing leaves: the judgement, the rows, and where the margin of each starts
 pub record Prepared : Type 0 where
   pub judged : Judged (List ℕ)
-  pub rows : Rows
+  pub rows : Standings
   pub starts : List ℤ
 
 abbrev pub prepared : Judgement → (rams starts : List ℤ) → (states : List ℕ) → Prepared
-prepared r rams starts states = record { judged = ruled r states; rows = rowsWith rams states; starts = starts }
+prepared r rams starts states = record { judged = saidJudgement r states; rows = standingsWith rams states; starts = starts }
 
 unfoldable pub preparedOf : (marked : ℕ → Bool) → Table → Prepared
-preparedOf marked t = record { judged = judgeMarked marked t; rows = rowsOf t; starts = startsOf t }
+preparedOf marked t = record { judged = judgeMarked marked t; rows = standingsOf t; starts = startsOf t }

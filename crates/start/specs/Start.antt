@@ -3,23 +3,18 @@
 use mathlib.Core.Bool.{Bool, true, cond, not}
 use mathlib.Core.List.{List, []}
 use Prim.Native.Nat.{ℕ}
-use lib.Dec.{eqb}
 use lib.IntN.{ℤ}
 use lib.ListN.{getD}
-use Rattle.numbers.specs.Below.{at}
-use Rattle.kinds.specs.declared.Header.{Header}
-use Rattle.kinds.specs.declared.Border.{Border}
-use Rattle.kinds.specs.Ranges.{atℤ, isIntraday, borderOf}
-use Rattle.kinds.specs.Refusals.{Judged}
+use Rattle.refusals.specs.Refusals.{Judged}
+use Rattle.types.specs.declared.Header.{Header}
+use Rattle.types.specs.declared.Border.{Border}
+use Rattle.types.specs.Ranges.{atℤ, isIntraday, borderOf}
 use Rattle.table.specs.Table.{Table, stretch}
 use Rattle.rounds.specs.Rounds.{Grid, State}
 use Rattle.margin.specs.Margin.{pOf, ltaKw, startsOf}
-use Rattle.states.specs.Rows.{rowsOf}
-use Rattle.start.specs.Setup.{Setup, gridBy, beginBy, judgeBy}
-
--- only state 0 rows take part
-unfoldable pub kept : (states : List ℕ) → (i : ℕ) → Bool
-kept states i = eqb (at states i) 0
+use Rattle.states.specs.States.{kept}
+use Rattle.states.specs.Standings.{standingsOf}
+use Rattle.setup.specs.Setup.{Setup, gridBy, beginBy, judgeBy}
 
 -- every border may rise
 abbrev pub every : (b : ℕ) → Bool
@@ -55,9 +50,9 @@ startOf h borders states starts = beginBy (setupWith (kept states) every h borde
 unfoldable pub judgeStart : (marked : ℕ → Bool) → Header → (borders : List (List ℤ)) → (factors : List ℤ) → (states : List ℕ) → (starts : List ℤ) → Judged (List ℕ)
 judgeStart marked h borders factors states starts = judgeBy (setupWith (kept states) marked h borders factors starts) states
 
--- the same of a table, which hands on its parts: the rows that take part are told by their states
+-- the setup of a table: which rows take part is decided by their states
 abbrev pub setupOf : (takes : (states : List ℕ) → (i : ℕ) → Bool) → (marked : ℕ → Bool) → Table → Setup
-setupOf takes marked t = setupWith (takes (rowsOf t .states)) marked (t .header) (t .borders) (t .factors) (startsOf t)
+setupOf takes marked t = setupWith (takes (standingsOf t .states)) marked (t .header) (t .borders) (t .factors) (startsOf t)
 
 abbrev pub gridMarked : (marked : ℕ → Bool) → Table → Grid
 gridMarked marked t = gridBy (setupOf kept marked t)
@@ -69,4 +64,4 @@ abbrev pub tableStart : Table → State
 tableStart t = beginBy (setupOf kept every t)
 
 abbrev pub judgeMarked : (marked : ℕ → Bool) → Table → Judged (List ℕ)
-judgeMarked marked t = judgeBy (setupOf kept marked t) (rowsOf t .states)
+judgeMarked marked t = judgeBy (setupOf kept marked t) (standingsOf t .states)

@@ -9,26 +9,27 @@ ghost use lib.Signed.{ltZ};
 ghost use Rattle.numbers.specs.Ints.{positivePart};
 ghost use Rattle.numbers.specs.Below.{table, firstFrom, someBelow, allBelow};
 ghost use Rattle.numbers.specs.First.{found};
-ghost use Rattle.kinds.specs.Answers.{ruled};
-ghost use Rattle.kinds.specs.Limits.{bordersMost};
-ghost use Rattle.kinds.specs.Ranges.{atℤ, isIntraday, borderFits, borderOf};
+ghost use Rattle.limits.specs.Limits.{bordersMost};
+ghost use Rattle.refusals.specs.Answers.{saidJudgement};
+ghost use Rattle.types.specs.Ranges.{atℤ, isIntraday, borderFits, borderOf};
 ghost use Rattle.marks.specs.Marks.{flagged};
 ghost use Rattle.table.specs.Table.{lent, front};
 ghost use Rattle.table.specs.Good.{Good};
-ghost use Rattle.margin.specs.Bounds.{FactorsBound, TableFactorsBound, BordersBound};
+ghost use Rattle.margin.specs.Magnitudes.{FactorsInRange, TableFactorsInRange, BordersInRange};
 ghost use Rattle.margin.specs.Margin.{pOf};
-ghost use Rattle.start.specs.Start.{kept, every, fromBy, gridOf, startOf, judgeStart};
+ghost use Rattle.states.specs.States.{kept};
+ghost use Rattle.start.specs.Start.{every, fromBy, gridOf, startOf, judgeStart};
 ghost use Rattle.start.specs.Filled.{froms, exchangesOf, freeOf, cells, prepared, preparedOf};
-use kinds::BorderRecord;
-use kinds::Header;
-use kinds::Judgement;
-use kinds::Refusal;
-use kinds::RowRecord;
 use numbers::First;
+use refusals::Judgement;
+use refusals::Refusal;
+use types::BorderRecord;
+use types::Header;
+use types::RowRecord;
 
 // p of a row at a border, which is 0 where the border is not marked or the row takes no part.
 fn cell(flag: u64, state: u64, factors: &[i64], raw: BorderRecord) -> u64
-    requires { ⌜ FactorsBound (now factors) ⌝ }
+    requires { ⌜ FactorsInRange (now factors) ⌝ }
     requires { ⌜ borderFits (length (now factors)) raw ≡ true ⌝ }
     ensures { λ r. ⌜ r ≡ cond (not (eqb flag 0) && eqb state 0) (pOf (now (factors .entry)) (borderOf raw)) 0 ⌝ }
 {
@@ -36,7 +37,7 @@ fn cell(flag: u64, state: u64, factors: &[i64], raw: BorderRecord) -> u64
         return 0;
     }
     if state == 0 {
-        margin::p(factors, kinds::Border::judged(factors.len(), raw))
+        margin::p(factors, types::Border::of_good(factors.len(), raw))
     } else {
         0
     }
@@ -44,8 +45,8 @@ fn cell(flag: u64, state: u64, factors: &[i64], raw: BorderRecord) -> u64
 
 // p of each row at each border, row after row. What only the row decides is read once for the row.
 fn fill_grid(h: Header, b: &[BorderRecord], f: &[i64], flags: &[u64], states: &[u64], p: &mut [u64])
-    requires { ⌜ TableFactorsBound h (now f) ⌝ }
-    requires { ⌜ BordersBound (h .zones) (now b) ⌝ }
+    requires { ⌜ TableFactorsInRange h (now f) ⌝ }
+    requires { ⌜ BordersInRange (h .zones) (now b) ⌝ }
     requires { ⌜ (length (now b) ≡ h .borders) × (length (now flags) ≡ h .borders) ⌝ }
     requires { ⌜ length (now states) ≡ h .rows ⌝ }
     requires { ⌜ length (now p) ≡ h .rows * h .borders ⌝ }
@@ -74,7 +75,7 @@ fn some_kept(states: &[u64]) -> bool
     false
 }
 
-// Whether some row has p > 0 at border k. No table of p is asked: it is lent, and 6 leaves it as it was.
+// Whether some row has p > 0 at border k. Computed afresh from the factors: a refusal (6) must not touch the caller's p.
 fn is_limited(
     h: Header,
     b: &[BorderRecord],
@@ -83,8 +84,8 @@ fn is_limited(
     states: &[u64],
     k: usize,
 ) -> bool
-    requires { ⌜ TableFactorsBound h (now f) ⌝ }
-    requires { ⌜ BordersBound (h .zones) (now b) ⌝ }
+    requires { ⌜ TableFactorsInRange h (now f) ⌝ }
+    requires { ⌜ BordersInRange (h .zones) (now b) ⌝ }
     requires { ⌜ length (now states) ≡ h .rows ⌝ }
     requires { ⌜ (k < length (now b)) × (k < length (now flags)) ⌝ }
     ensures { λ r. ⌜ r ≡ someBelow (h .rows) (λ i. ltb 0 (gridOf (flagged (now (flags .entry))) h (now (b .entry)) (now (f .entry)) (now (states .entry)) .p i k)) ⌝ }
@@ -107,8 +108,8 @@ fn is_unlimited(
     states: &[u64],
     k: usize,
 ) -> bool
-    requires { ⌜ TableFactorsBound h (now f) ⌝ }
-    requires { ⌜ BordersBound (h .zones) (now b) ⌝ }
+    requires { ⌜ TableFactorsInRange h (now f) ⌝ }
+    requires { ⌜ BordersInRange (h .zones) (now b) ⌝ }
     requires { ⌜ length (now states) ≡ h .rows ⌝ }
     requires { ⌜ (k < length (now b)) × (k < length (now flags)) ⌝ }
     ensures { λ r. ⌜ r ≡ freeOf (flagged (now (flags .entry))) h (now (b .entry)) (now (f .entry)) (now (states .entry)) k ⌝ }
@@ -121,8 +122,8 @@ fn is_unlimited(
 
 // 6: the first marked border that no row limits.
 fn first_unlimited(h: Header, b: &[BorderRecord], f: &[i64], flags: &[u64], states: &[u64]) -> First
-    requires { ⌜ TableFactorsBound h (now f) ⌝ }
-    requires { ⌜ BordersBound (h .zones) (now b) ⌝ }
+    requires { ⌜ TableFactorsInRange h (now f) ⌝ }
+    requires { ⌜ BordersInRange (h .zones) (now b) ⌝ }
     requires { ⌜ (length (now b) ≡ h .borders) × (length (now flags) ≡ h .borders) ⌝ }
     requires { ⌜ length (now states) ≡ h .rows ⌝ }
     ensures { λ r. ⌜ found r ≡ firstFrom (h .borders) 0 (freeOf (flagged (now (flags .entry))) h (now (b .entry)) (now (f .entry)) (now (states .entry))) ⌝ }
@@ -159,11 +160,11 @@ fn judge_start(
     states: &[u64],
     starts: &[i64],
 ) -> Judgement
-    requires { ⌜ TableFactorsBound h (now f) ⌝ }
-    requires { ⌜ BordersBound (h .zones) (now b) ⌝ }
+    requires { ⌜ TableFactorsInRange h (now f) ⌝ }
+    requires { ⌜ BordersInRange (h .zones) (now b) ⌝ }
     requires { ⌜ (length (now b) ≡ h .borders) × (length (now flags) ≡ h .borders) ⌝ }
     requires { ⌜ (length (now states) ≡ h .rows) × (length (now starts) ≡ h .rows) ⌝ }
-    ensures { λ r. ⌜ ruled r (now (states .entry)) ≡ judgeStart (flagged (now (flags .entry))) h (now (b .entry)) (now (f .entry)) (now (states .entry)) (now (starts .entry)) ⌝ }
+    ensures { λ r. ⌜ saidJudgement r (now (states .entry)) ≡ judgeStart (flagged (now (flags .entry))) h (now (b .entry)) (now (f .entry)) (now (states .entry)) (now (starts .entry)) ⌝ }
 {
     if !some_kept(states) {
         return Judgement::Refused(Refusal::no_row());
@@ -236,8 +237,8 @@ pub fn lay_out(
     p: &mut [u64],
     margins: &mut [u64],
 )
-    requires { ⌜ TableFactorsBound h (now f) ⌝ }
-    requires { ⌜ BordersBound (h .zones) (now b) ⌝ }
+    requires { ⌜ TableFactorsInRange h (now f) ⌝ }
+    requires { ⌜ BordersInRange (h .zones) (now b) ⌝ }
     requires { ⌜ (length (now b) ≡ h .borders) × (length (now flags) ≡ h .borders) ⌝ }
     requires { ⌜ (length (now starts) ≡ h .rows) × (length (now states) ≡ h .rows) ⌝ }
     requires { ⌜ (length (now p) ≡ h .rows * h .borders) × (length (now margins) ≡ h .rows) ⌝ }
@@ -259,7 +260,7 @@ fn all_marked(flags: &[u64]) -> bool
     true
 }
 
-// p of each row at every border, marked or not (02, E9), over what `lay_out` left. Where all are marked it stands there already.
+// p of each row at every border, marked or not (02, E9), written over what `lay_out` left. Where all borders are marked `lay_out` already wrote it.
 pub fn complete(
     h: Header,
     b: &[BorderRecord],
@@ -268,8 +269,8 @@ pub fn complete(
     states: &[u64],
     p: &mut [u64],
 )
-    requires { ⌜ TableFactorsBound h (now f) ⌝ }
-    requires { ⌜ BordersBound (h .zones) (now b) ⌝ }
+    requires { ⌜ TableFactorsInRange h (now f) ⌝ }
+    requires { ⌜ BordersInRange (h .zones) (now b) ⌝ }
     requires { ⌜ (length (now b) ≡ h .borders) × (length (now flags) ≡ h .borders) ⌝ }
     requires { ⌜ length (now states) ≡ h .rows ⌝ }
     requires { ⌜ h .borders ≤ bordersMost ⌝ }
@@ -293,12 +294,12 @@ fn from_of(intraday: bool, zones: usize, raw: BorderRecord) -> u64
     if intraday {
         return 0;
     }
-    margin::lta_kw(kinds::Border::judged(zones, raw))
+    margin::lta_kw(types::Border::of_good(zones, raw))
 }
 
 // Where each border starts, in kW.
 fn fill_froms(intraday: bool, zones: usize, b: &[BorderRecord], x: &mut [u64])
-    requires { ⌜ BordersBound zones (now b) ⌝ }
+    requires { ⌜ BordersInRange zones (now b) ⌝ }
     requires { ⌜ length (now x) ≡ length (now b) ⌝ }
     ensures { λ _. ⌜ now (x .exit) ≡ froms intraday (now (b .entry)) ⌝ }
 {
@@ -308,12 +309,12 @@ fn fill_froms(intraday: bool, zones: usize, b: &[BorderRecord], x: &mut [u64])
 }
 
 // The exchanges that the rounds start from, and 0 beyond the borders.
-pub fn exchanges(h: Header, b: &[BorderRecord]) -> [u64; Header::BORDERS_MOST]
-    requires { ⌜ BordersBound (h .zones) (now b) ⌝ }
+pub fn exchanges(h: Header, b: &[BorderRecord]) -> [u64; limits::BORDERS_MOST]
+    requires { ⌜ BordersInRange (h .zones) (now b) ⌝ }
     ensures { λ r. ⌜ r ≡ exchangesOf (isIntraday h) (now (b .entry)) ⌝ }
 {
     let intraday = h.is_intraday();
-    let mut x: [u64; Header::BORDERS_MOST] = [0; Header::BORDERS_MOST];
+    let mut x: [u64; limits::BORDERS_MOST] = [0; limits::BORDERS_MOST];
     let borders = b.len();
     fill_froms(intraday, h.zones, b, &mut x[..borders]);
     x

@@ -5,7 +5,7 @@ use Prim.Native.Nat.{ℕ}
 use lib.IntN.{ℤ, pos}
 use Rattle.numbers.specs.Below.{sum, table, firstFrom, given}
 use Rattle.numbers.specs.Ints.{minus, maxℤ, minℤ, positivePart, sameℤ, sumℤ}
-use Rattle.kinds.specs.Ranges.{hubsOf, borderOf, shareOf, rowOf, worth, defaultOf}
+use Rattle.types.specs.Ranges.{hubsOf, borderOf, shareOf, rowOf, worth, defaultOf}
 use Rattle.table.specs.Table.{Table, stretch}
 use Rattle.margin.specs.Margin.{grains, f0coreOf, fuafOf, baseOf, amrOf, signedFactor, pOf, ltaKw, sOf, ltaMarginOf, ramOf, ramAt, ramsOf}
 use Rattle.states.specs.States.{highest, lowest, spreadOf, shifted, below, stateOf, statesOf}

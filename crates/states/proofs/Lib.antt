@@ -1,5 +1,3 @@
 pub mod Anchors
 pub mod StateLaws
-pub mod ShiftLaws
-pub mod OneKept
-pub mod RowsLaws
+pub mod StandingsLaws

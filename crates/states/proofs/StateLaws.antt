@@ -13,8 +13,8 @@ use lib.Seq.{drop-cons}
 use lib.Signed.{ltZ}
 use Rattle.numbers.specs.Ints.{maxℤ, minℤ, sameℤ}
 use Rattle.numbers.specs.Below.{someBelow}
-use Rattle.kinds.specs.declared.Header.{Header}
-use Rattle.kinds.specs.Ranges.{atℤ}
+use Rattle.types.specs.declared.Header.{Header}
+use Rattle.types.specs.Ranges.{atℤ}
 use Rattle.table.specs.Table.{stretch}
 use Rattle.states.specs.States.{highest, lowest, spreadOf, spreadLeast, shifted, below, stateOf}
 
@@ -55,8 +55,8 @@ module _ (rams : List ℤ) (j i : ℕ) where
   unfolding below
   below-other e u q = rw (e, sym u ∙ q) q
 
--- ---- both of two tests, the second asked only where the first holds
--- the second of two is tested first
+-- ---- two tests joined, the second made only where the first holds
+-- the second of two tests is made first
 pub late-first : {a b x y : Bool} → b ≡ y → b ≡ true → a ≡ x → a ≡ (x && y)
 late-first {a} {b} {x} {y} e q u = u ∙ sym (ap (λ (t : Bool). x && t) (sym e ∙ q) ∙ and-true x)
 

@@ -1,2 +1,2 @@
 pub mod States
-pub mod Rows
+pub mod Standings

@@ -2,14 +2,14 @@
 use mathlib.Core.Bool.{Bool, cond, _&&_, _||_}
 use mathlib.Core.List.{List, [], _∷_}
 use Prim.Native.Nat.{ℕ}
-use lib.Dec.{ltb}
+use lib.Dec.{ltb, eqb}
 use lib.IntN.{ℤ, pos, _-ℤ_}
 use lib.ListN.{length}
 use lib.Signed.{ltZ}
 use Rattle.numbers.specs.Ints.{maxℤ, minℤ, sameℤ}
-use Rattle.numbers.specs.Below.{table, someBelow, allBelow}
-use Rattle.kinds.specs.declared.Header.{Header}
-use Rattle.kinds.specs.Ranges.{atℤ}
+use Rattle.numbers.specs.Below.{at, table, someBelow, allBelow}
+use Rattle.types.specs.declared.Header.{Header}
+use Rattle.types.specs.Ranges.{atℤ}
 use Rattle.table.specs.Table.{stretch}
 
 -- the largest and the smallest of m and the numbers of a list
@@ -47,3 +47,7 @@ stateOf h factors rams i =
 
 abbrev pub statesOf : Header → (factors rams : List ℤ) → List ℕ
 statesOf h factors rams = table (h .rows) (stateOf h factors rams)
+
+-- only state 0 rows take part
+unfoldable pub kept : (states : List ℕ) → (i : ℕ) → Bool
+kept states i = eqb (at states i) 0

@@ -8,17 +8,17 @@ ghost use lib.Signed.{ltZ};
 ghost use Rattle.numbers.specs.Below.{someBelow};
 ghost use Rattle.table.specs.Table.{lent, front, stretch};
 ghost use Rattle.table.specs.Good.{Good};
-ghost use Rattle.margin.specs.Bounds.{FactorsBound, TableFactorsBound};
+ghost use Rattle.margin.specs.Magnitudes.{FactorsInRange, TableFactorsInRange};
 ghost use Rattle.margin.specs.Margin.{startsOf};
 ghost use Rattle.states.specs.States.{spreadOf, spreadLeast, shifted, below, stateOf, statesOf};
-ghost use Rattle.states.specs.Rows.{rowsOf, rowsWith};
+ghost use Rattle.states.specs.Standings.{standingsOf, standingsWith};
 
 // The 5% test: rows of a smaller spread, in hundred-thousandths, take no part.
 const SPREAD_LEAST: i64 = 5000;
 
 // State 1: the largest zone factor less the smallest is under `SPREAD_LEAST`.
 pub fn spread_small(factors: &[i64]) -> bool
-    requires { ⌜ FactorsBound (now factors) ⌝ }
+    requires { ⌜ FactorsInRange (now factors) ⌝ }
     ensures { λ r. ⌜ r ≡ ltZ (spreadOf (now (factors .entry))) (pos spreadLeast) ⌝ }
 {
     let mut high = factors[0];
@@ -35,8 +35,8 @@ pub fn spread_small(factors: &[i64]) -> bool
 
 // Two rows' factors differ by one and the same number in every zone: each differs as zone 0 does.
 pub fn shifted(fs: &[i64], gs: &[i64]) -> bool
-    requires { ⌜ FactorsBound (now fs) ⌝ }
-    requires { ⌜ FactorsBound (now gs) ⌝ }
+    requires { ⌜ FactorsInRange (now fs) ⌝ }
+    requires { ⌜ FactorsInRange (now gs) ⌝ }
     requires { ⌜ length (now gs) ≡ length (now fs) ⌝ }
     ensures { λ r. ⌜ r ≡ shifted (now (fs .entry)) (now (gs .entry)) ⌝ }
 {
@@ -65,9 +65,10 @@ fn below(rams: &[i64], j: usize, i: usize) -> bool
     a < b || (numbers::same(a, b) && j < i)
 }
 
-// Row j stands for row i: it is below it, and their factors differ by one number. Factors first: rows that pass are few, so this test nearly always goes one way.
-fn stands_for(h: kinds::Header, f: &[i64], rams: &[i64], j: usize, i: usize) -> bool
-    requires { ⌜ TableFactorsBound h (now f) ⌝ }
+// Whether row j stands for row i: its RAM is lower (or equal, with a lower index), and their factors differ by one number. Factors are compared first: few rows pass, so
+// the branch nearly always goes the same way.
+fn stands_for(h: types::Header, f: &[i64], rams: &[i64], j: usize, i: usize) -> bool
+    requires { ⌜ TableFactorsInRange h (now f) ⌝ }
     requires { ⌜ length (now rams) ≡ h .rows ⌝ }
     requires { ⌜ (j < h .rows) × (i < h .rows) ⌝ }
     ensures { λ r. ⌜ r ≡ (below (now (rams .entry)) j i && shifted (stretch (h .zones) (now (f .entry)) j) (stretch (h .zones) (now (f .entry)) i)) ⌝ }
@@ -76,8 +77,8 @@ fn stands_for(h: kinds::Header, f: &[i64], rams: &[i64], j: usize, i: usize) -> 
 }
 
 // State 2, but for state 1: another row stands for row i.
-fn stood_for(h: kinds::Header, f: &[i64], rams: &[i64], i: usize) -> bool
-    requires { ⌜ TableFactorsBound h (now f) ⌝ }
+fn stood_for(h: types::Header, f: &[i64], rams: &[i64], i: usize) -> bool
+    requires { ⌜ TableFactorsInRange h (now f) ⌝ }
     requires { ⌜ length (now rams) ≡ h .rows ⌝ }
     requires { ⌜ i < h .rows ⌝ }
     ensures { λ r. ⌜ r ≡ someBelow (h .rows) (λ j. below (now (rams .entry)) j i && shifted (stretch (h .zones) (now (f .entry)) j) (stretch (h .zones) (now (f .entry)) i)) ⌝ }
@@ -94,8 +95,8 @@ fn stood_for(h: kinds::Header, f: &[i64], rams: &[i64], i: usize) -> bool
 }
 
 // A row's state, by the factors and RAMs of all rows.
-pub fn state_of(h: kinds::Header, f: &[i64], rams: &[i64], i: usize) -> u64
-    requires { ⌜ TableFactorsBound h (now f) ⌝ }
+pub fn state_of(h: types::Header, f: &[i64], rams: &[i64], i: usize) -> u64
+    requires { ⌜ TableFactorsInRange h (now f) ⌝ }
     requires { ⌜ length (now rams) ≡ h .rows ⌝ }
     requires { ⌜ i < h .rows ⌝ }
     ensures { λ r. ⌜ r ≡ stateOf h (now (f .entry)) (now (rams .entry)) i ⌝ }
@@ -110,8 +111,8 @@ pub fn state_of(h: kinds::Header, f: &[i64], rams: &[i64], i: usize) -> u64
 }
 
 // The state of each row.
-pub fn fill_states(h: kinds::Header, f: &[i64], rams: &[i64], states: &mut [u64])
-    requires { ⌜ TableFactorsBound h (now f) ⌝ }
+pub fn fill_states(h: types::Header, f: &[i64], rams: &[i64], states: &mut [u64])
+    requires { ⌜ TableFactorsInRange h (now f) ⌝ }
     requires { ⌜ length (now rams) ≡ h .rows ⌝ }
     requires { ⌜ length (now states) ≡ h .rows ⌝ }
     ensures { λ _. ⌜ now (states .exit) ≡ statesOf h (now (f .entry)) (now (rams .entry)) ⌝ }
@@ -123,11 +124,11 @@ pub fn fill_states(h: kinds::Header, f: &[i64], rams: &[i64], states: &mut [u64]
 
 // RAM of each row, where its margin starts, and its state. The tables may hold more than their header says.
 pub fn fill_rows(
-    h: kinds::Header,
+    h: types::Header,
     z: &[i64],
     t: &[i64],
-    b: &[kinds::BorderRecord],
-    c: &[kinds::RowRecord],
+    b: &[types::BorderRecord],
+    c: &[types::RowRecord],
     f: &[i64],
     rams: &mut [i64],
     starts: &mut [i64],
@@ -136,7 +137,7 @@ pub fn fill_rows(
     requires { ⌜ Good (front (lent h (now z) (now t) (now b) (now c) (now f))) ⌝ }
     requires { ⌜ (length (now rams) ≡ h .rows) × (length (now starts) ≡ h .rows) ⌝ }
     requires { ⌜ length (now states) ≡ h .rows ⌝ }
-    ensures { λ _. ⌜ (rowsWith (now (rams .exit)) (now (states .exit)) ≡ rowsOf (front (lent h (now (z .entry)) (now (t .entry)) (now (b .entry)) (now (c .entry)) (now (f .entry))))) × (now (starts .exit) ≡ startsOf (front (lent h (now (z .entry)) (now (t .entry)) (now (b .entry)) (now (c .entry)) (now (f .entry))))) ⌝ }
+    ensures { λ _. ⌜ (standingsWith (now (rams .exit)) (now (states .exit)) ≡ standingsOf (front (lent h (now (z .entry)) (now (t .entry)) (now (b .entry)) (now (c .entry)) (now (f .entry))))) × (now (starts .exit) ≡ startsOf (front (lent h (now (z .entry)) (now (t .entry)) (now (b .entry)) (now (c .entry)) (now (f .entry))))) ⌝ }
 {
     let zones = h.zones;
     let allocated = h.allocated_items();

@@ -7,8 +7,8 @@ use native.Mathlib.Omega.{arith}
 use lib.IntN.{ℤ, pos}
 use Rattle.numbers.specs.Below.{firstFrom, given}
 use Rattle.numbers.specs.Ints.{minus, sameℤ, sumℤ, inside}
-use Rattle.kinds.specs.Ranges.{headerFits, allocatedItems, zoneFits, exists, hubsFit, borderFits, shareOf, rowOf, rowFits, factorFits}
-use Rattle.kinds.specs.Refusals.{refused, then, unless, refuseAt, refuseFirst, need, outOfRange, tooShort}
+use Rattle.refusals.specs.Refusals.{refused, then, unless, refuseAt, refuseFirst, need, outOfRange, tooShort}
+use Rattle.types.specs.Ranges.{headerFits, allocatedItems, zoneFits, exists, hubsFit, borderFits, shareOf, rowOf, rowFits, factorFits}
 use Rattle.table.specs.Table.{Table, stretch, balanced, sameEnds, twice, roomFor, judgeShape, judgeFor, judgeLent}
 use Rattle.table.specs.Good.{Good}
 
@@ -28,7 +28,7 @@ pub row-line : judgeLent frmAbove ≡ refused (outOfRange 6)
 unfolding firstFrom given sameℤ sumℤ inside headerFits allocatedItems zoneFits exists hubsFit borderFits shareOf rowOf rowFits factorFits then unless refuseAt refuseFirst need stretch balanced roomFor judgeShape judgeFor
 row-line = refl
 
--- the same with T records (02, E12): they have lines 4 and 5, and the C lines come two lines later
+-- the table with T records (02, E12): they have lines 4 and 5, and the C lines come two lines later
 abbrev withT : (mark : ℕ) → (allocated : List ℤ) → Table
 withT mark allocated =
     record {
@@ -42,10 +42,10 @@ withT mark allocated =
 
 pub record Allocated : Type 0 where
   pub later : judgeLent (withT 1 (pos 5 ∷ minus 5 ∷ [])) ≡ refused (outOfRange 8)
-  -- they do not sum to zero: the last T line; one out of range: its own line, and first
+  -- T positions that do not sum to zero: the last T line; one out of range: its own line, and first
   pub sum : judgeLent (withT 1 (pos 5 ∷ minus 4 ∷ [])) ≡ refused (outOfRange 5)
   pub range : judgeLent (withT 1 (pos 100000001 ∷ minus 4 ∷ [])) ≡ refused (outOfRange 4)
-  -- too few of them, which is 8; where the header says that there are none, what is lent is not looked at
+  -- too few T records, which is 8; where the header says that there are none, lent T records are not looked at
   pub few : judgeLent (withT 1 (pos 0 ∷ [])) ≡ refused (tooShort 2)
   pub without : judgeLent (withT 0 (pos 1 ∷ [])) ≡ refused (outOfRange 6)
   -- no text gives another mark than 0 and 1
@@ -55,7 +55,7 @@ pub allocated : Allocated
 unfolding firstFrom given sameℤ sumℤ inside headerFits allocatedItems zoneFits exists hubsFit borderFits shareOf rowOf rowFits factorFits then unless refuseAt refuseFirst need stretch balanced roomFor judgeShape judgeFor
 allocated = record { later = refl; sum = refl; range = refl; few = refl; without = refl; mark = refl }
 
--- border 0 to 1, by hubs 2 and 3: the same again, by the same hubs the other way round, and without hubs
+-- border 0 to 1, by hubs 2 and 3: given again, by the same hubs in the other order, and without hubs
 pub record Ends : Type 0 where
   pub again : sameEnds (pos 0 ∷ pos 1 ∷ pos 5 ∷ pos 2 ∷ pos 3 ∷ []) (pos 0 ∷ pos 1 ∷ pos 6 ∷ pos 2 ∷ pos 3 ∷ []) ≡ true
   pub turned : sameEnds (pos 0 ∷ pos 1 ∷ pos 5 ∷ pos 2 ∷ pos 3 ∷ []) (pos 0 ∷ pos 1 ∷ pos 5 ∷ pos 3 ∷ pos 2 ∷ []) ≡ false

@@ -12,16 +12,16 @@ use lib.ListN.{length, getD, drop, length-append, length-drop}
 use lib.Seq.{length-take-le, take-all, take-at, getD-take, getD-drop}
 use borrow.Author.Tests.{not-false}
 use Rattle.numbers.specs.Below.{over}
-use Rattle.kinds.specs.Ranges.{atℤ, headerFits, allocatedItems, rowTests, rowFits, factorFits, factorTests}
-use Rattle.kinds.specs.Refusals.{passed}
-use Rattle.kinds.specs.declared.Header.{Header}
-use Rattle.kinds.specs.declared.Judgement.{Judgement}
-use Rattle.kinds.specs.declared.Judgement.the-variants.{Passed, Refused}
-use Rattle.kinds.specs.declared.Refusal.{Refusal}
-use Rattle.kinds.specs.Answers.{ruled}
-use Rattle.kinds.proofs.AllLaws.{all-join, factors-each, factors-all}
-use Rattle.kinds.proofs.KindLaws.{header-in}
-use Rattle.kinds.proofs.RefusalLaws.{passed-is, none-passed, then-passed, unless-passed, unless-ok, none-next, then-next}
+use Rattle.refusals.specs.Refusals.{passed}
+use Rattle.refusals.specs.declared.Judgement.{Judgement}
+use Rattle.refusals.specs.declared.Judgement.the-variants.{Passed, Refused}
+use Rattle.refusals.specs.declared.Refusal.{Refusal}
+use Rattle.refusals.specs.Answers.{saidJudgement}
+use Rattle.refusals.proofs.RefusalLaws.{passed-is, none-passed, then-passed, unless-passed, unless-ok, none-next, then-next}
+use Rattle.types.specs.Ranges.{atℤ, headerFits, allocatedItems, rowTests, rowFits, factorFits, factorTests}
+use Rattle.types.specs.declared.Header.{Header}
+use Rattle.types.proofs.AllLaws.{all-join, factors-each, factors-all}
+use Rattle.types.proofs.RangeLaws.{header-in}
 use Rattle.table.specs.declared.Room.{Room}
 use Rattle.table.specs.declared.Room.the-variants.{None}
 use Rattle.table.specs.Table.{Table, lent, stretch, factorsAt, twice, notTwice, rowGood, front, inRange, judgeShape, roomForP, judgeRecords, judgeFor, judgeLent}
@@ -51,7 +51,7 @@ module _ (values factors : List ℤ) where
   unfolding rowFits
   good-row a h = all-join (rowTests values) (factorTests factors) ∙ and-eq-true-iff _ _ .1 (a, factors-all factors h)
 
--- row by row, and all at once
+-- factors in range row by row, and all at once
 module _ (zones rows : ℕ) (factors : List ℤ) (long : length factors ≡ rows * zones) (some : 0 < zones) where
   pub flat-fit : ((i : ℕ) → i < rows → (z : ℕ) → z < length (stretch zones factors i) → factorFits (atℤ (stretch zones factors i) z) ≡ true)
       → (k : ℕ) → k < rows * zones → factorFits (atℤ factors k) ≡ true
@@ -106,18 +106,18 @@ judged-front given t e = judged None given t e .0
 pub judged-good : (given t : Table) → judgeLent given ≡ passed t → Good t
 judged-good given t e = let j = judged None given t e in subst Good (sym (j .0)) (j .1)
 
--- .. as a call that judges them is told
-pub told-judged : (room : Room) (given : Table) (r : Judgement) → ruled r (front given) ≡ judgeFor room given → r ≡ Passed → judgeFor room given ≡ passed (front given)
-told-judged room given r said e = sym said ∙ ap (λ (j : Judgement). ruled j (front given)) e
+-- the front is good, from the answer of a call that judged the tables
+pub told-judged : (room : Room) (given : Table) (r : Judgement) → saidJudgement r (front given) ≡ judgeFor room given → r ≡ Passed → judgeFor room given ≡ passed (front given)
+told-judged room given r said e = sym said ∙ ap (λ (j : Judgement). saidJudgement j (front given)) e
 
 pub told-good : (given : Table) {r : Judgement} → goodIn r given → r ≡ Passed → Good (front given)
 told-good given g e = subst (λ (j : Judgement). goodIn j given) e g
 
--- what the judging itself says of its own answers
+-- what `judge` promises of its own answers
 pub refused-in : (given : Table) {r : Judgement} (w : Refusal) → r ≡ Refused w → goodIn r given
 refused-in given w e = subst (λ (j : Judgement). goodIn j given) (sym e) tt
 
-pub records-in : (given : Table) → Exact (front given) → (r : Judgement) → ruled r (front given) ≡ judgeRecords (front given) → goodIn r given
+pub records-in : (given : Table) → Exact (front given) → (r : Judgement) → saidJudgement r (front given) ≡ judgeRecords (front given) → goodIn r given
 records-in given exact Passed said = records-good (front given) (front given) exact (sym said) .1
 records-in given exact (Refused w) said = tt
 
@@ -149,7 +149,7 @@ module _ (t : Table) (g : Good t) where
       (λ z m. row-fit (t .header .zones) (t .header .rows) (t .factors) (g .exact .factors-long) (omega (arith, h .zones-least)) (g .factors-fit) i l z
       (rw (stretch-long (t .header .zones) (t .header .rows) (t .factors) (g .exact .factors-long) i l) at m))))
 
-  -- .. and so are lent tables whose front it is
+  -- lent tables whose front is a good table are judged to be it
   pub front-judged : (given : Table) → front given ≡ t → Enough (given .header) (length (given .nets)) (length (given .allocated)) (length (given .borders)) (length (given .rows)) (length (given .factors)) → judgeLent given ≡ passed t
   unfolding judgeFor judgeShape
   front-judged given is n =
@@ -171,7 +171,7 @@ module _ (t : Table) (g : Good t) where
         factors = omega (arith, g .exact .factors-long);
       })
 
-  -- .. among them what is written over lent buffers
+  -- a good table written over lent buffers is judged to be itself
   pub over-judged : (z a : List ℤ) (b c : List (List ℤ)) (f : List ℤ) → judgeLent (lent (t .header) (over (t .nets) z) (over (t .allocated) a) (over (t .borders) b) (over (t .rows) c) (over (t .factors) f)) ≡ passed t
   over-judged z a b c f =
       front-judged (lent (t .header) (over (t .nets) z) (over (t .allocated) a) (over (t .borders) b) (over (t .rows) c) (over (t .factors) f))

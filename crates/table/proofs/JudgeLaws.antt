@@ -11,16 +11,17 @@ use lib.Seq.{length-take-le}
 use Rattle.numbers.specs.Below.{firstFrom}
 use Rattle.numbers.specs.Ints.{AllWithin}
 use Rattle.numbers.proofs.BelowLaws.{first-none}
-use Rattle.kinds.specs.Limits.{zonesMost, netMost}
-use Rattle.kinds.specs.declared.Header.{Header}
-use Rattle.kinds.specs.declared.Judgement.{Judgement}
-use Rattle.kinds.specs.declared.Judgement.the-variants.{Passed, Refused}
-use Rattle.kinds.specs.declared.Refusal.{Refusal}
-use Rattle.kinds.specs.Answers.{ruled}
-use Rattle.kinds.specs.Ranges.{atℤ, headerFits, allocatedItems, zoneFits, borderFits}
-use Rattle.kinds.specs.Refusals.{Judged, passed, refused, then, refuseFirst, outOfRange, givenTwice}
-use Rattle.kinds.proofs.KindLaws.{header-in, zone-in, allocated-most}
-use Rattle.kinds.proofs.RefusalLaws.{passed-is, then-next, then-refused, unless-passed, unless-ok, unless-refused, first-found, first-none-next}
+use Rattle.limits.specs.Limits.{zonesMost}
+use Rattle.refusals.specs.declared.Judgement.{Judgement}
+use Rattle.refusals.specs.declared.Judgement.the-variants.{Passed, Refused}
+use Rattle.refusals.specs.declared.Refusal.{Refusal}
+use Rattle.refusals.specs.Answers.{saidJudgement}
+use Rattle.refusals.specs.Refusals.{Judged, passed, refused, then, refuseFirst, outOfRange, givenTwice}
+use Rattle.refusals.proofs.RefusalLaws.{passed-is, then-next, then-refused, unless-passed, unless-ok, unless-refused, first-found, first-none-next}
+use Rattle.types.specs.LineLimits.{netMost}
+use Rattle.types.specs.declared.Header.{Header}
+use Rattle.types.specs.Ranges.{atℤ, headerFits, allocatedItems, zoneFits, borderFits}
+use Rattle.types.proofs.RangeLaws.{header-in, zone-in, allocated-most}
 use Rattle.table.specs.declared.Room.{Room}
 use Rattle.table.specs.Table.{Table, factorsAt, zoneLineNo, allocatedLineNo, lastAllocatedLineNo, borderLineNo, rowLineNo, balanced, rowGood, headerLineNo, twice, inRange, notTwice, tableRoom, front, judgeShape, roomForP, judgeRecords, judgeFor}
 use Rattle.table.specs.Good.{Exact}
@@ -64,7 +65,7 @@ module _ (t : Table) (exact : Exact t) where
       balance-refused e = sym (then-refused notTwice (first-none-next _ _ _ _ past-zones ∙ first-none-next _ _ _ _ past-allocated ∙ unless-refused _ _ e))
 
       module _ (even : balanced (t .allocated) ≡ true) where
-        -- what is left where the positions are good
+        -- what is left to judge where the positions are good
         abbrev left : Judged Table
         left =
             refuseFirst (t .header .borders) borderOut (λ i. outOfRange (borderLineNo (t .header) + i))
@@ -104,7 +105,7 @@ module _ (t : Table) (exact : Exact t) where
                 let e′ = subst (λ (n : ℕ). none ≡ firstFrom n 0 (twice (t .borders))) (exact .borders-long) e in
                 sym (then-next notTwice past-rows ∙ first-none-next _ _ _ _ (sym e′))
 
--- T positions of which none is out of range, as their sum is asked for
+-- T positions that are all in range, as summing them asks for
 pub allocated-within : (t : Table) → Exact t → none ≡ firstFrom (length (t .allocated)) 0 (λ i. not (zoneFits (atℤ (t .allocated) i))) → (length (t .allocated) ≤ zonesMost) × AllWithin netMost (t .allocated)
 allocated-within t exact e = (
   omega (arith, exact .allocated-long, allocated-most (t .header), header-in (t .header) (exact .header) .zones-most),
@@ -116,10 +117,10 @@ pub exact-factors : (t : Table) → Exact t → length (t .factors) ≡ length (
 exact-factors t exact = exact .factors-long ∙ ap (λ (n : ℕ). n * t .header .zones) (sym (exact .rows-long))
 
 -- ---- header and lengths
-ruled-then : {A B : Type 0} (r : Judgement) (a : A) (b : B) → then (ruled r a) (λ _. passed b) ≡ ruled r b
+said-then : {A B : Type 0} (r : Judgement) (a : A) (b : B) → then (saidJudgement r a) (λ _. passed b) ≡ saidJudgement r b
 unfolding then
-ruled-then Passed a b = refl
-ruled-then (Refused w) a b = refl
+said-then Passed a b = refl
+said-then (Refused w) a b = refl
 
 module _ (given : Table) where
   abbrev h : Header
@@ -129,9 +130,9 @@ module _ (given : Table) where
   unfolding judgeShape
   header-refused e = sym (unless-refused _ _ e)
 
-  pub shape-ruled : headerFits h ≡ true → (r : Judgement) → ruled r h ≡ tableRoom h given (passed h) → ruled r (front given) ≡ judgeShape given
+  pub shape-said : headerFits h ≡ true → (r : Judgement) → saidJudgement r h ≡ tableRoom h given (passed h) → saidJudgement r (front given) ≡ judgeShape given
   unfolding judgeShape
-  shape-ruled fits r said = sym (unless-ok _ _ fits ∙ sym (room-of h _ _ _ _ _ h r said (passed (front given))) ∙ ruled-then r h (front given))
+  shape-said fits r said = sym (unless-ok _ _ fits ∙ sym (room-of h _ _ _ _ _ h r said (passed (front given))) ∙ said-then r h (front given))
 
   -- what passes is the front, as long as its header says
   pub shape-front : (t : Table) → judgeShape given ≡ passed t → (t ≡ front given) × Exact (front given)
@@ -151,12 +152,12 @@ module _ (given : Table) where
         },
       )
 
-  -- ---- .. and then room for p, and the records of the front
-  module _ (r : Judgement) (said : ruled r (front given) ≡ judgeShape given) where
-    told-shape : (q : Judgement) → r ≡ q → judgeShape given ≡ ruled q (front given)
-    told-shape q e = sym said ∙ ap (λ (j : Judgement). ruled j (front given)) e
+  -- ---- after header and lengths, room for p and the records of the front
+  module _ (r : Judgement) (said : saidJudgement r (front given) ≡ judgeShape given) where
+    told-shape : (q : Judgement) → r ≡ q → judgeShape given ≡ saidJudgement q (front given)
+    told-shape q e = sym said ∙ ap (λ (j : Judgement). saidJudgement j (front given)) e
 
-    pub lent-refused : (room : Room) (w : Refusal) → r ≡ Refused w → ruled r (front given) ≡ judgeFor room given
+    pub lent-refused : (room : Room) (w : Refusal) → r ≡ Refused w → saidJudgement r (front given) ≡ judgeFor room given
     unfolding judgeFor
     lent-refused room w e = said ∙ told-shape (Refused w) e ∙ sym (then-refused _ (told-shape (Refused w) e))
 
@@ -164,15 +165,15 @@ module _ (given : Table) where
       pub front-exact : Exact (front given)
       front-exact = shape-front (front given) (told-shape Passed ok) .1
 
-      module _ (room : Room) (q : Judgement) (fits : ruled q h ≡ roomForP room h (passed h)) where
-        past-shape : judgeFor room given ≡ then (ruled q h) (λ _. judgeRecords (front given))
+      module _ (room : Room) (q : Judgement) (fits : saidJudgement q h ≡ roomForP room h (passed h)) where
+        past-shape : judgeFor room given ≡ then (saidJudgement q h) (λ _. judgeRecords (front given))
         unfolding judgeFor
         past-shape = then-next _ (told-shape Passed ok) ∙ sym (p-room-of room h h q fits (judgeRecords (front given)))
 
-        pub p-refused : (w : Refusal) → q ≡ Refused w → ruled q (front given) ≡ judgeFor room given
+        pub p-refused : (w : Refusal) → q ≡ Refused w → saidJudgement q (front given) ≡ judgeFor room given
         p-refused w e =
-            ap (λ (j : Judgement). ruled j (front given)) e
-            ∙ sym (past-shape ∙ then-refused _ (ap (λ (j : Judgement). ruled j h) e))
+            ap (λ (j : Judgement). saidJudgement j (front given)) e
+            ∙ sym (past-shape ∙ then-refused _ (ap (λ (j : Judgement). saidJudgement j h) e))
 
         pub records-left : q ≡ Passed → judgeFor room given ≡ judgeRecords (front given)
-        records-left e = past-shape ∙ then-next _ (ap (λ (j : Judgement). ruled j h) e)
+        records-left e = past-shape ∙ then-next _ (ap (λ (j : Judgement). saidJudgement j h) e)

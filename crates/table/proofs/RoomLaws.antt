@@ -4,14 +4,14 @@ use mathlib.Core.Bool.{Bool, true, false, cond}
 use Prim.Native.Nat.{ℕ, _*_, _≤_, _<_}
 use lib.Dec.{ltb}
 use native.Mathlib.Nat.{mul-le-mul}
-use Rattle.kinds.specs.declared.Header.{Header}
-use Rattle.kinds.specs.declared.Judgement.{Judgement}
-use Rattle.kinds.specs.Limits.{zonesMost, rowsMost}
-use Rattle.kinds.specs.Ranges.{headerFits, allocatedItems}
-use Rattle.kinds.specs.Refusals.{Judged, passed, refused, then, need, tooShort}
-use Rattle.kinds.specs.Answers.{ruled}
-use Rattle.kinds.proofs.KindLaws.{header-in}
-use Rattle.kinds.proofs.RefusalLaws.{need-passed, need-enough, need-short}
+use Rattle.limits.specs.Limits.{zonesMost, rowsMost}
+use Rattle.refusals.specs.declared.Judgement.{Judgement}
+use Rattle.refusals.specs.Refusals.{Judged, passed, refused, then, need, tooShort}
+use Rattle.refusals.specs.Answers.{saidJudgement}
+use Rattle.refusals.proofs.RefusalLaws.{need-passed, need-enough, need-short}
+use Rattle.types.specs.declared.Header.{Header}
+use Rattle.types.specs.Ranges.{headerFits, allocatedItems}
+use Rattle.types.proofs.RangeLaws.{header-in}
 use Rattle.table.specs.declared.Room.{Room}
 use Rattle.table.specs.declared.Room.the-variants.{None, P}
 use Rattle.table.specs.Table.{roomFor, roomForP}
@@ -66,7 +66,7 @@ room-passed h z t b c f next a e =
     let s = need-passed a _ _ _ (r .1) in
     (record { zones = p .0; allocated = u .0; borders = q .0; rows = r .0; factors = s .0 }, s .1)
 
--- lengths are judged alike whatever comes next
+-- lengths are judged the same way whatever comes next
 need-then : {A B : Type 0} (n has : ℕ) (j : Judged A) (f : A → Judged B) → then (need n has j) f ≡ need n has (then j f)
 unfolding then need
 need-then n has j f = go (ltb has n)
@@ -82,8 +82,8 @@ room-then h z t b c f j g =
     ∙ ap (need (h .zones) z) (need-then _ _ _ g ∙ ap (need (allocatedItems h) t)
     (need-then _ _ _ g ∙ ap (need (h .borders) b) (need-then _ _ _ g ∙ ap (need (h .rows) c) (need-then _ _ _ g))))
 
-pub room-of : {A B : Type 0} (h : Header) (z t b c f : ℕ) (x : A) (r : Judgement) → ruled r x ≡ roomFor h z t b c f (passed x) → (next : Judged B)
-    → then (ruled r x) (λ y. next) ≡ roomFor h z t b c f next
+pub room-of : {A B : Type 0} (h : Header) (z t b c f : ℕ) (x : A) (r : Judgement) → saidJudgement r x ≡ roomFor h z t b c f (passed x) → (next : Judged B)
+    → then (saidJudgement r x) (λ y. next) ≡ roomFor h z t b c f next
 unfolding then
 room-of h z t b c f x r e next = ap (λ j. then j (λ y. next)) e ∙ room-then h z t b c f (passed x) (λ y. next)
 
@@ -95,8 +95,8 @@ module _ {A : Type 0} (h : Header) {room : Room} {items : ℕ} (is : room ≡ P 
   pub p-enough : h .rows * h .borders ≤ items → next ≡ roomForP room h next
   p-enough l = sym (ap (λ (o : Room). roomForP o h next) is ∙ need-enough _ _ _ l)
 
-pub p-room-of : {A B : Type 0} (room : Room) (h : Header) (x : A) (r : Judgement) → ruled r x ≡ roomForP room h (passed x) → (next : Judged B)
-    → then (ruled r x) (λ y. next) ≡ roomForP room h next
+pub p-room-of : {A B : Type 0} (room : Room) (h : Header) (x : A) (r : Judgement) → saidJudgement r x ≡ roomForP room h (passed x) → (next : Judged B)
+    → then (saidJudgement r x) (λ y. next) ≡ roomForP room h next
 unfolding then
 p-room-of None h x r e next = ap (λ j. then j (λ y. next)) e
 p-room-of (P items) h x r e next = ap (λ j. then j (λ y. next)) e ∙ need-then (h .rows * h .borders) items (passed x) (λ y. next)

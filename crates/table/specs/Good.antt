@@ -5,10 +5,10 @@ use mathlib.Core.Bool.{true, false}
 use mathlib.Core.List.{[]}
 use Prim.Native.Nat.{ℕ, _*_, _<_}
 use lib.ListN.{length, getD}
-use Rattle.kinds.specs.LineColumns.{borderItems, rowItems}
-use Rattle.kinds.specs.declared.Judgement.{Judgement}
-use Rattle.kinds.specs.declared.Judgement.the-variants.{Passed, Refused}
-use Rattle.kinds.specs.Ranges.{atℤ, headerFits, allocatedItems, zoneFits, borderFits, rowFits, factorFits}
+use Rattle.refusals.specs.declared.Judgement.{Judgement}
+use Rattle.refusals.specs.declared.Judgement.the-variants.{Passed, Refused}
+use Rattle.types.specs.LineColumns.{borderItems, rowItems}
+use Rattle.types.specs.Ranges.{atℤ, headerFits, allocatedItems, zoneFits, borderFits, rowFits, factorFits}
 use Rattle.table.specs.Table.{Table, balanced, twice, front}
 
 -- lengths as the header says, and a header in range

@@ -7,11 +7,11 @@ use lib.IntN.{ℤ, pos}
 use lib.ListN.{length, getD, take, drop}
 use Rattle.numbers.specs.Below.{someBelow}
 use Rattle.numbers.specs.Ints.{sameℤ, sumℤ}
-use Rattle.kinds.specs.declared.Header.{Header}
-use Rattle.kinds.specs.declared.Border.{Border}
-use Rattle.kinds.specs.declared.Row.{Row}
-use Rattle.kinds.specs.Ranges.{atℤ, allTrue, headerFits, allocatedItems, zoneFits, borderFits, borderOf, rowOf, rowLineTests}
-use Rattle.kinds.specs.Refusals.{Judged, passed, then, unless, refuseFirst, need, outOfRange, givenTwice}
+use Rattle.refusals.specs.Refusals.{Judged, passed, then, unless, refuseFirst, need, outOfRange, givenTwice}
+use Rattle.types.specs.declared.Header.{Header}
+use Rattle.types.specs.declared.Border.{Border}
+use Rattle.types.specs.declared.Row.{Row}
+use Rattle.types.specs.Ranges.{atℤ, allTrue, headerFits, allocatedItems, zoneFits, borderFits, borderOf, rowOf, rowLineTests}
 use Rattle.table.specs.declared.Room.{Room}
 use Rattle.table.specs.declared.Room.the-variants.{None, P}
 
@@ -42,7 +42,7 @@ rowAt t i = rowOf (getD (t .rows) i [])
 abbrev pub factorsAt : Table → (i : ℕ) → List ℤ
 factorsAt t i = stretch (t .header .zones) (t .factors) i
 
--- the line that a record has in the text: the H line is line 1, and then come all Z, T (where they are there), B, C lines
+-- the number of a record's line in the text: the H line is line 1; then come all Z lines, all T lines (if the table has them), all B lines, all C lines
 abbrev pub headerLineNo : ℕ
 headerLineNo = 1
 
@@ -58,15 +58,15 @@ borderLineNo h = allocatedLineNo h + allocatedItems h
 abbrev pub rowLineNo : Header → ℕ
 rowLineNo h = borderLineNo h + h .borders
 
--- .. the last T line, where T lines are there: as many lines as H, Z and T have together
+-- the last T line, where the table has T lines: as many lines as H, Z and T have together
 abbrev pub lastAllocatedLineNo : Header → ℕ
 lastAllocatedLineNo h = headerLineNo + h .zones + allocatedItems h
 
--- .. and the line after the last
+-- the line after the last C line
 abbrev pub pastLineNo : Header → ℕ
 pastLineNo h = rowLineNo h + h .rows
 
--- the T positions sum to zero; where there are none they do
+-- the T positions sum to zero; so do none at all
 unfoldable pub balanced : (allocated : List ℤ) → Bool
 balanced allocated = sameℤ (sumℤ (length allocated) (atℤ allocated)) (pos 0)
 
@@ -124,18 +124,18 @@ judgeShape given =
     (tableRoom (given .header) given
     (passed (front given)))
 
--- .. then, where it is lent a table of p too, room in it for each row at each border (8)
+-- where a call is lent a table of p too, room in it for each row at each border (8)
 abbrev pub roomForP : {A : Type 0} → Room → Header → Judged A → Judged A
 roomForP None h next = next
 roomForP (P items) h next = need (h .rows * h .borders) items next
 
--- .. and only then the records, 3 and 4
+-- the records: ranges (3), and then borders given twice (4). They are judged after all lengths
 abbrev pub judgeRecords : Table → Judged Table
 judgeRecords t = then (inRange t) notTwice
 
 unfoldable pub judgeFor : Room → (given : Table) → Judged Table
 judgeFor room given = then (judgeShape given) (λ t. roomForP room (t .header) (judgeRecords t))
 
--- the judging of lent tables alone
+-- lent tables, for a call that is lent no table of p
 abbrev pub judgeLent : (given : Table) → Judged Table
 judgeLent given = judgeFor None given

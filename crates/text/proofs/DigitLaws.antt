@@ -39,7 +39,7 @@ decimal-longer n h = ap length (decimal-more n h) ∙ length-append (decimal (n 
 pub decimal-u64 : (n : ℕ) → n < 2 ^ 64 → length (decimal n) ≤ 20
 decimal-u64 n h = decimal-long 19 n (lt-of-lt-of-le h (lit≤ tt))
 
--- counting the digits, the last first: what is left has the digits not counted yet, the first of which is counted at the start
+-- counting the digits from the last: `left` has the digits not counted yet; one digit is counted at the start
 pub record DigitsCounted (n left count : ℕ) : Type 0 where
   pub so-far : length (decimal left) + count ≡ length (decimal n) + 1
 

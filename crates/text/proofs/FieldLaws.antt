@@ -21,7 +21,7 @@ use Rattle.text.specs.declared.Signed.the-variants.{Whole, Wrong}
 use Rattle.text.specs.Fields.{positive, withNumber, numberAt, shareAt}
 use Rattle.text.proofs.NumberTrip.{number-read}
 
--- a byte that is not 0 stands in the line, not past its end ..
+-- a byte that is not 0 stands in the line, not past its end
 pub some-within : (line : List ℕ) (at : ℕ) → 0 < getD line at 0 → at < length line
 some-within line at e =
     ⊎-elim
@@ -29,7 +29,7 @@ some-within line at e =
     (λ (h : at < length line). h)
     (le-or-lt (length line) at)
 
--- .. such as a minus
+-- a minus stands in the line, not past its end
 pub dash-within : (line : List ℕ) (at : ℕ) → eqb (getD line at 0) 45 ≡ true → at < length line
 dash-within line at e = some-within line at (omega (arith, eqb-true (getD line at 0) 45 e))
 
@@ -39,7 +39,7 @@ module _ (line : List ℕ) (at stop : ℕ) where
     pub number-lt : v < 10 ^ 10
     number-lt = number-read line at stop v next (sym is) .small
 
-  -- whatever stands there
+  -- the bound on a number's value, whatever stands at the place
   pub value-lt : withNumber (numberAt line at stop) 0 (λ v next. v) < 10 ^ 10
   value-lt = go (numberAt line at stop) refl
     where

@@ -5,11 +5,11 @@ use Prim.Native.Nat.{ℕ, _≤_, _<_}
 use native.Mathlib.Omega.{arith}
 use lib.ListN.{length}
 use Rattle.numbers.specs.Below.{over}
-use Rattle.kinds.specs.declared.Written.{Written}
-use Rattle.kinds.specs.declared.Refusal.{Refusal}
-use Rattle.kinds.specs.Refusals.{Judged, passed, refused, tooShort}
-use Rattle.kinds.proofs.AnswerLaws.{saidWritten-injective}
-use Rattle.kinds.proofs.RefusalLaws.{then-next, then-refused, either-passed, either-refused, need-enough, need-short}
+use Rattle.refusals.specs.declared.Written.{Written}
+use Rattle.refusals.specs.declared.Refusal.{Refusal}
+use Rattle.refusals.specs.Refusals.{Judged, passed, refused, tooShort}
+use Rattle.refusals.proofs.AnswerLaws.{saidWritten-injective}
+use Rattle.refusals.proofs.RefusalLaws.{then-next, then-refused, either-passed, either-refused, need-enough, need-short}
 use Rattle.text.specs.Left.{TextLeft, textLeft, textSaid}
 use Rattle.text.specs.Put.{Put}
 use Rattle.text.proofs.PutLaws.{put-whole}

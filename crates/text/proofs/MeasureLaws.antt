@@ -10,7 +10,7 @@ use Rattle.numbers.proofs.BelowLaws.{Summed, summed-none, summed-more, summed-a
 use Rattle.text.specs.Written.{linesText}
 use Rattle.text.proofs.PutLaws.{lines-length}
 
--- of n lines the first i
+-- the lengths of the first i of n lines, added up
 pub record Measured (line : ℕ → List ℕ) (q n i total : ℕ) : Type 0 where
   pub summed : Summed (λ k. length (line k)) n i total
   pub few : total ≤ i * q

@@ -2,7 +2,7 @@
 -- In order: `digits` from a place on; `plain` and `firstBad`; when no digit may follow; `Upto`, what a reader has after some digits, and what it answers.
 use Prim.Native.Nat.{ℕ, suc, _+_, _*_, _-_, _^_, _≤_, _<_, min}
 use mathlib.Core.Path.{_≡_, refl, sym, ap, ap₂, _∙_}
-use mathlib.Core.Bool.{Bool, true, false, _&&_, _||_, and-false, false≢true}
+use mathlib.Core.Bool.{Bool, true, false, _&&_, _||_, and-false}
 use mathlib.Core.Logic.{_⊎_, inl, inr, ⊎-elim}
 use mathlib.Core.List.{List, [], _∷_}
 use native.Mathlib.Nat.{sub-self, pow-le-pow-right, lt-of-lt-of-le}
@@ -13,6 +13,7 @@ use lib.ListN.{length, getD, drop, drop-of-length-le, length-drop}
 use lib.Seq.{drop-cons, getD-drop}
 use borrow.Author.Tests.{leb-true, leb-false, ltb-true, eqb-true, eqb-false, lt-leb, lt-ltb, le-ltb, eq-eqb, ne-eqb}
 use Rattle.numbers.proofs.BelowLaws.{le-or-lt}
+use Rattle.numbers.proofs.TestLaws.{or-neither}
 use Rattle.text.specs.declared.Number.the-variants.{Value, Bad}
 use Rattle.text.specs.Fields.{isDigit, digits, value, plain, firstBad, numberAt}
 use Rattle.text.proofs.NumberTrip.{and-both, digit-range, more-digits, plain-true}
@@ -30,15 +31,15 @@ module _ (line : List ℕ) (i : ℕ) where
 
 -- ---- plain, firstBad
 module _ (ds : List ℕ) where
-  plain-none : length ds ≤ 0 → plain ds ≡ false
+  pub plain-none : length ds ≤ 0 → plain ds ≡ false
   plain-none h = rw (le-ltb 0 (length ds) h)
 
-  plain-long : 10 < length ds → plain ds ≡ false
+  pub plain-long : 10 < length ds → plain ds ≡ false
   plain-long h =
       let p : 0 < length ds = omega arith in
       rw (lt-ltb 0 (length ds) p, lt-leb (length ds) 10 h)
 
-  plain-zero : 1 < length ds → getD ds 0 0 ≡ 48 → plain ds ≡ false
+  pub plain-zero : 1 < length ds → getD ds 0 0 ≡ 48 → plain ds ≡ false
   plain-zero h e =
       let p : 0 < length ds = omega arith in
       rw (lt-ltb 0 (length ds) p, lt-leb (length ds) 1 h, e) (and-false (leb (length ds) 10))
@@ -85,10 +86,6 @@ full-is n v e = go (leb 10 n) refl e
     go true q e = inl (leb-true 10 n q)
     go false q e = let b = and-both (ltb 0 n) (eqb v 0) e in inr (ltb-true 0 n (b .0), eqb-true v 0 (b .1))
 
-pub or-neither : (t u : Bool) → (t || u) ≡ false → (t ≡ false) × (u ≡ false)
-or-neither true u e = absurd (false≢true (sym e))
-or-neither false u e = (refl, e)
-
 full-not : (n v : ℕ) → (leb 10 n || (ltb 0 n && eqb v 0)) ≡ false → (n < 10) × ((n ≤ 0) ⊎ (0 < v))
 full-not n v e =
     let o = or-neither (leb 10 n) (ltb 0 n && eqb v 0) e in
@@ -120,7 +117,7 @@ module _ (line : List ℕ) (at : ℕ) where
   }
 
   module _ (i v : ℕ) (u : Upto line at i v) where
-    -- one digit more, and what was read before fits nine digits
+    -- where one digit more may follow, what was read before fits nine digits
     pub upto-small : (leb 10 (i - at) || (ltb 0 (i - at) && eqb v 0)) ≡ false → v < 10 ^ 9
     upto-small q =
         let k : i - at ≤ 9 = omega (arith, full-not (i - at) v q .0) in

@@ -310,6 +310,12 @@ pub record ReadZ (line : List ℕ) (at stop : ℕ) (z : ℤ) (next : ℕ) : Type
   pub small : natAbs z < 10 ^ 10
   pub within : next ≤ length line
 
+pub value-is : (v w m n : ℕ) → _≡_ {A = Number} (Value v m) (Value w n) → (v ≡ w) × (m ≡ n)
+value-is v w m n e = (cc, cc)
+
+pub no-value : (place v n : ℕ) → _≡_ {A = Number} (Bad place) (Value v n) → ⊥
+no-value place v n e = let x : _≡_ {A = ℕ} 0 1 = cc in zero-one x
+
 pub whole-is : (z w : ℤ) (m n : ℕ) → Whole w m ≡ Whole z n → (w ≡ z) × (m ≡ n)
 whole-is z w m n e = (cc, cc)
 

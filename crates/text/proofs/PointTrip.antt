@@ -19,17 +19,11 @@ use Rattle.text.specs.declared.Signed.the-variants.{Whole}
 use Rattle.text.specs.Fields.{isDigit, numberAt, positive}
 use Rattle.text.specs.Written.{decimal}
 use Rattle.text.specs.Point.{point, decimalsAt, wholeMost, afterWhole, pointAt, negated, signedPointAt, lastDigits, pointed, pointedℤ}
-use Rattle.text.proofs.NumberTrip.{zero-one, digit-range, number-read, number-written, number-rest, whole-is, no-whole, first-digit, first-at, decimal-digits, decimal-some, is-digit}
+use Rattle.text.proofs.NumberTrip.{zero-one, digit-range, number-read, number-written, number-rest, value-is, no-value, whole-is, no-whole, first-digit, first-at, decimal-digits, decimal-some, is-digit}
 use Rattle.text.proofs.FieldLaws.{some-within}
 use Rattle.text.proofs.LineLaws.{noFeed}
 use Rattle.text.proofs.WrittenLaws.{decimal-no-feed, decimal-long}
 use Rattle.text.proofs.PointLaws.{decimals-lt, whole-small, point-goes, signed-point-plus, signed-point-minus, shift-none, shift-one, pointed-long}
-
-value-is : (v w m n : ℕ) → _≡_ {A = Number} (Value v m) (Value w n) → (v ≡ w) × (m ≡ n)
-value-is v w m n e = (cc, cc)
-
-no-value : (place v n : ℕ) → _≡_ {A = Number} (Bad place) (Value v n) → ⊥
-no-value place v n e = let x : _≡_ {A = ℕ} 0 1 = cc in zero-one x
 
 -- ---- the decimals
 -- k decimals that were read after digits worth w
@@ -147,7 +141,7 @@ module _ (minus : Bool) (k : ℕ) (few : k < 10) (line : List ℕ) (at stop : �
       go (Bad place) q e = absurd (no-value _ v next e)
       go (Value w m) q e = by w m q (leb (m - at) (wholeMost k + 1)) refl e
 
--- as many digits before the point as there may be
+-- a number has no more digits before the point than there may be
 whole-few : (k n : ℕ) → k < 10 → n < 10 ^ 10 → length (decimal (n / 10 ^ k)) ≤ wholeMost k
 whole-few k n few small =
     let ten : 10 ^ 10 ≡ 10 ^ wholeMost k * 10 ^ k = ap (λ (j : ℕ). 10 ^ j) split ∙ pow-add 10 (wholeMost k) k in

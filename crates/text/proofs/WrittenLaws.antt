@@ -40,7 +40,7 @@ ended-text line next e = le-leb (length line) next (omega (arith, length-drop ne
 pub decimal-long : (f n : ℕ) → n < 10 ^ suc f → length (decimal n) ≤ suc f
 decimal-long f n h = rw (decimal-of f n h) (text-le (suc f) n)
 
--- .. and a minus before it
+-- a signed number has one byte more, for the minus
 pub decimalℤ-long : (f : ℕ) (z : ℤ) → natAbs z < 10 ^ suc f → length (decimalℤ z) ≤ suc (suc f)
 unfolding decimalℤ
 decimalℤ-long f (pos n) h = omega (arith, decimal-long f n h)

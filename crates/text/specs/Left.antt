@@ -3,9 +3,9 @@ use mathlib.Core.List.{List}
 use Prim.Native.Nat.{ℕ}
 use lib.ListN.{length}
 use Rattle.numbers.specs.Below.{over}
-use Rattle.kinds.specs.declared.Written.{Written}
-use Rattle.kinds.specs.Refusals.{Judged, passed, refused, then, either, need}
-use Rattle.kinds.specs.Answers.{saidWritten}
+use Rattle.refusals.specs.declared.Written.{Written}
+use Rattle.refusals.specs.Refusals.{Judged, passed, refused, then, either, need}
+use Rattle.refusals.specs.Answers.{saidWritten}
 
 pub record TextLeft : Type 0 where
   pub answer : Judged ℕ

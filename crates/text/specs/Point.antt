@@ -28,7 +28,7 @@ decimalsAt minus (suc k) line at v stop = cond (isDigit (getD line at 0)) (decim
 abbrev pub wholeMost : (k : ℕ) → ℕ
 wholeMost k = digitsMost - k
 
--- by the number before the point, which begins at place `at`: the first digit too many is bad
+-- the rest of a number, by its part before the point, which begins at place `at`: the first digit too many is bad
 abbrev pub afterWhole : (minus : Bool) → (k : ℕ) → (line : List ℕ) → (at stop : ℕ) → Number → Number
 afterWhole minus k line at stop (Value v next) = cond (leb (next - at) (wholeMost k + 1)) (decimalsAt minus k line next v stop) (Bad (at + wholeMost k))
 afterWhole minus k line at stop (Bad place) = Bad (min place (at + wholeMost k))

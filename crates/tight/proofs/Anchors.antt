@@ -5,8 +5,9 @@ use mathlib.Core.List.{List, [], _∷_}
 use Prim.Native.Nat.{ℕ}
 use lib.ListN.{getD}
 use Rattle.numbers.specs.Below.{at, ifZero, sum, count, largest, lesser, least, orZero, table}
+use Rattle.numbers.specs.Computed.{_is_, Hold}
 use Rattle.rounds.specs.Rounds.{Grid, sharers, raise, alone, raises, load, lowered, risen, apply, next, raised, counted, run, extract, mostSharers, bitsTo, bits, aloneBits}
-use Rattle.tight.specs.Tight.{shareUp, cut, stepsWithin, steps, rowReach, reach, farthest, tightBound}
+use Rattle.tight.specs.Tight.{equalShareUp, cut, stepsWithin, steps, rowReach, reach, farthest, tightBound}
 use Rattle.tight.specs.Measure.{boundBy}
 
 -- rows of factors p, one list for each row
@@ -46,38 +47,13 @@ steep = grid 1 2 ((1 ∷ 3 ∷ []) ∷ [])
 abbrev stopped : Grid
 stopped = grid 2 2 ((1 ∷ 1 ∷ []) ∷ (0 ∷ 1 ∷ []) ∷ [])
 
--- .. and border 2, so that border 0 is one of three sharers and rises alone
+-- row 1 stops borders 1 and 2, so that border 0 is one of three sharers and rises alone
 abbrev third : Grid
 third = grid 2 3 ((1 ∷ 1 ∷ 1 ∷ []) ∷ (0 ∷ 1 ∷ 1 ∷ []) ∷ [])
 
 -- row 1 stops border 0, and border 1 rises alone
 abbrev turned : Grid
 turned = grid 2 2 ((1 ∷ 1 ∷ []) ∷ (1 ∷ 0 ∷ []) ∷ [])
-
-pub record Anchors : Type 0 where
-  -- the equal share is rounded up
-  pub shared : shareUp 3 7 ≡ 3
-  pub shared-whole : shareUp 3 6 ≡ 2
-  pub left : cut 3 7 ≡ 4
-  -- one border and one row: 1, or 0 where nothing can rise
-  pub once : from lone (7 ∷ []) ≡ found 1 1 1 2
-  pub never : from lone (2 ∷ []) ≡ found 0 0 1 0
-  -- the other sharer's 1 kW is taken off: of 1 grain among two nothing rises. 2 N L is 4
-  pub other-sharer : from alike (1 ∷ []) ≡ found 0 0 2 0
-  -- all rise at once, and the bound does not know it
-  pub at-once : from alike (4 ∷ []) ≡ found 1 2 2 3
-  -- attained: 3, 1
-  pub two : from steep (4 ∷ []) ≡ found 2 2 2 3
-  -- .. 7, 3, 1: a share of what is left, rounded up
-  pub three : from stopped (8 ∷ 0 ∷ []) ≡ found 3 3 2 7
-  -- .. the same of the last border
-  pub three-turned : from turned (8 ∷ 0 ∷ []) ≡ found 3 3 2 7
-  -- .. 3000, 1500, 750 and so on, where 2 N L is 48
-  pub twelve : from stopped (3001 ∷ 0 ∷ []) ≡ found 12 12 2 3000
-  -- .. and of three sharers 998, 665, 443 and so on
-  pub thirds : from third (1000 ∷ 0 ∷ []) ≡ found 16 16 3 998
-  -- the row that leaves less decides: 5 of row 0, 3 of row 1
-  pub least-row : reach stopped (6 ∷ 3 ∷ []) 1 ≡ 3
 
 -- the kept rows of 01's hour
 abbrev hour : Grid
@@ -87,32 +63,41 @@ abbrev hourMargins : List ℕ
 hourMargins = 66000000000 ∷ 8000000000 ∷ []
 
 pub record Hour : Type 0 where
-  -- 01: N = 2, L = 22, bound 88; and at most 22, of the 21 rounds that it takes
+  -- 01: N = 2, L = 22, bound 88; the sharper bound is 22, and it takes 21 rounds
   pub worked : from hour hourMargins ≡ found 21 22 2 3299999
   pub measured : boundBy hour hourMargins ≡ record { sharers = 2; bits = 22; rounds = 88; sharp = 22 }
-  -- 40 and 64 borders from the largest start without T lines, 165,000,000,000,000 grains: hours/worst.tsv and hours/worst64.tsv take as many rounds
+  -- steps of 40 and of 64 borders from the largest start without T lines, 165,000,000,000,000 grains: hours/worst.tsv and hours/worst64.tsv take as many rounds
   pub worst-40 : steps 40 165000000000000 ≡ 1171
   pub worst-64 : steps 64 165000000000000 ≡ 1852
 
-pub anchors : Anchors
-unfolding ifZero sum count largest lesser least orZero table sharers raise alone raises load lowered risen apply next raised counted run extract mostSharers bitsTo bits aloneBits shareUp cut stepsWithin steps rowReach reach farthest tightBound
-anchors =
-    record {
-      shared = refl;
-      shared-whole = refl;
-      left = refl;
-      once = refl;
-      never = refl;
-      other-sharer = refl;
-      at-once = refl;
-      two = refl;
-      three = refl;
-      three-turned = refl;
-      twelve = refl;
-      thirds = refl;
-      least-row = refl;
-    }
+pub anchors : Hold (
+    -- the equal share is rounded up
+    equalShareUp 3 7 is 3  -- shared
+    ∷ equalShareUp 3 6 is 2  -- shared-whole
+    ∷ cut 3 7 is 4  -- left
+    -- one border and one row: 1, or 0 where nothing can rise
+    ∷ from lone (7 ∷ []) is found 1 1 1 2  -- once
+    ∷ from lone (2 ∷ []) is found 0 0 1 0  -- never
+    -- the other sharer's 1 kW is taken off: of 1 grain among two nothing rises. 2 N L is 4
+    ∷ from alike (1 ∷ []) is found 0 0 2 0  -- other-sharer
+    -- all rise at once, and the bound does not know it
+    ∷ from alike (4 ∷ []) is found 1 2 2 3  -- at-once
+    -- attained: 3, 1
+    ∷ from steep (4 ∷ []) is found 2 2 2 3  -- two
+    -- attained by the raises 7, 3, 1: each is a share of what is left, rounded up
+    ∷ from stopped (8 ∷ 0 ∷ []) is found 3 3 2 7  -- three
+    -- attained by the same raises of the last border
+    ∷ from turned (8 ∷ 0 ∷ []) is found 3 3 2 7  -- three-turned
+    -- attained by the raises 3000, 1500, 750 and so on, where 2 N L is 48
+    ∷ from stopped (3001 ∷ 0 ∷ []) is found 12 12 2 3000  -- twelve
+    -- attained among three sharers by the raises 998, 665, 443 and so on
+    ∷ from third (1000 ∷ 0 ∷ []) is found 16 16 3 998  -- thirds
+    -- the row that leaves less decides: 5 of row 0, 3 of row 1
+    ∷ reach stopped (6 ∷ 3 ∷ []) 1 is 3  -- least-row
+    ∷ [])
+unfolding ifZero sum count largest lesser least orZero table sharers raise alone raises load lowered risen apply next raised counted run extract mostSharers bitsTo bits aloneBits equalShareUp cut stepsWithin steps rowReach reach farthest tightBound
+anchors = refl
 
 pub of-hour : Hour
-unfolding ifZero sum count largest lesser least orZero table sharers raise alone raises load lowered risen apply next raised counted run extract mostSharers bitsTo bits aloneBits shareUp cut stepsWithin steps rowReach reach farthest tightBound boundBy
+unfolding ifZero sum count largest lesser least orZero table sharers raise alone raises load lowered risen apply next raised counted run extract mostSharers bitsTo bits aloneBits equalShareUp cut stepsWithin steps rowReach reach farthest tightBound boundBy
 of-hour = record { worked = refl; measured = refl; worst-40 = refl; worst-64 = refl }

@@ -44,7 +44,7 @@ module _ {v rest n : ℕ} (u : Halved v rest n) where
   pub halved-more : 0 < rest → Halved v (rest / 2) (n + 1)
   halved-more h = record { sum = omega (arith, u .sum, bits-half rest h) }
 
-  -- there are fewer than v
+  -- there are fewer halvings than v
   pub halved-few : 0 < rest → n < v
   halved-few h = omega (arith, u .sum, bits-half rest h, bits-le v)
 

@@ -1,6 +1,6 @@
 pub mod Anchors
 pub mod BitsLaws
 pub mod StepLaws
-pub mod FewRounds
+pub mod SharperLaws
 pub mod PassLaws
 pub mod SameLaws

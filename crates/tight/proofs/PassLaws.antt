@@ -9,7 +9,7 @@ use native.Mathlib.Omega.{arith, min-cases}
 use lib.ListN.{length}
 use Rattle.numbers.specs.Below.{at, ifZero, largest, least, orZero, table}
 use Rattle.numbers.proofs.BelowLaws.{lt-suc-cases, le-or-lt, table-get, table-long, largest-le, largest-under}
-use Rattle.kinds.specs.Limits.{bordersMost}
+use Rattle.limits.specs.Limits.{bordersMost}
 use Rattle.rounds.specs.Rounds.{Grid, sharers, alone, mostSharers, bits, aloneBits}
 use Rattle.rounds.proofs.LeastLaws.{least-le, least-some}
 use Rattle.rounds.proofs.Round.{alone-le}
@@ -21,7 +21,7 @@ use Rattle.tight.specs.Tight.{steps, rowReach, reach, farthest, tightBou
 use Rattle.tight.specs.Measure.{boundBy}
 use Rattle.tight.specs.Pass.{Small, Highest, Higher, Lowered}
 use Rattle.tight.proofs.BitsLaws.{sharers-few}
-use Rattle.tight.proofs.FewRounds.{reach-alone}
+use Rattle.tight.proofs.SharperLaws.{reach-alone}
 
 -- ---- the largest of the first i, of n
 pub record UpTo (f : ℕ → ℕ) (n i v : ℕ) : Type 0 where
@@ -46,7 +46,7 @@ largest-cong k f g e =
     (largest-under k f (largest k g) (λ i h. omega (arith, e i h, largest-le k g i h)))
     (largest-under k g (largest k f) (λ i h. omega (arith, e i h, largest-le k f i h)))
 
--- .. of both numbers of a border
+-- the largest so far of both values of a border
 pub record Both (g : Grid) (m : List ℕ) (b : ℕ) (r : Kws) : Type 0 where
   pub alone : UpTo (alone g m) (g .borders) b (r .alone)
   pub reach : UpTo (reach g m) (g .borders) b (r .reach)
@@ -63,7 +63,7 @@ module _ {g : Grid} {m : List ℕ} {b : ℕ} {r : Kws} (u : Both g m b r) where
 
 -- ---- one row
 
--- a row lets both be where it has room for more than either ..
+-- a row does not lower the values where it has room for more than either
 pub lowered-same : {f n most margin : ℕ} {low : Kws} → n ≤ most → low .reach ≤ low .alone → low .alone + most ≡ tight f margin (low .alone + most) → Lowered f n margin low low
 lowered-same {f} {n} {most} {margin} {low} h l e =
     let fits : (low .alone + most) * f ≤ margin = rw e (tight-share f margin (low .alone + most)) in
@@ -73,7 +73,7 @@ lowered-same {f} {n} {most} {margin} {low} h l e =
       reach = omega (arith, stays);
     }
 
--- .. and else its quotient is found
+-- a row that lacks this room lowers the values to its quotient
 tight-min : (f margin v : ℕ) → 0 < f → tight f margin v ≡ min v (margin / f)
 unfolding tight ifZero
 tight-min zero margin v z = absurd (not-suc-le-zero z)
@@ -102,7 +102,7 @@ lowered-fell {f} {n} {margin} {room} {low} {taken} {others} {left} t h p e d q =
           ∙ ap (λ (k : ℕ). k - (n - 1)) (sym (tight-min f margin (low .reach + (n - 1)) (w .0)));
     }
 
--- neither is above what the row allows, nor below what all allow
+-- neither value is above what the row allows
 tight-under : (f margin v : ℕ) → 0 < f → tight f margin v ≤ margin / f
 tight-under f margin v z = le-div-iff-mul-le z .1 (tight-share f margin v)
 
@@ -118,7 +118,7 @@ reach-over f margin v others u h k =
     (λ y. omega (arith, tight-over f margin (v + others) (u + others) (omega arith) (λ z. omega (arith, k z))))
     (le-or-lt u 0)
 
--- ---- a walk over the rows: v is not below the smallest that counts, nor above that of the first i
+-- ---- a walk over the rows: v is at least the smallest that counts, and at most the smallest of the first i rows
 pub record Lowest (k : ℕ) (w f : ℕ → ℕ) (i v : ℕ) : Type 0 where
   pub high : i ≤ k
   pub over : orZero (least k w f) ≤ v
@@ -126,7 +126,7 @@ pub record Lowest (k : ℕ) (w f : ℕ → ℕ) (i v : ℕ) : Type 0 where
   pub under : (j : ℕ) → j < i → 0 < w j → v ≤ f j
 
 module _ {k : ℕ} {w f : ℕ → ℕ} {i v : ℕ} (u : Lowest k w f i v) where
-  -- one row more lets v fall, not below the smallest and to what the row allows
+  -- after one row more v has fallen to what the row allows at most, but not below the smallest
   lowest-more : i < k → (v′ : ℕ) → v′ ≤ v → orZero (least k w f) ≤ v′ → (0 < w i → v′ ≤ f i) → Lowest k w f (i + 1) v′
   lowest-more h v′ less over under =
       record {
@@ -140,7 +140,7 @@ module _ {k : ℕ} {w f : ℕ → ℕ} {i v : ℕ} (u : Lowest k w f i v) where
             (lt-suc-cases j i (rw add-one at hj));
       }
 
-  -- what is not above `most` adds nothing to it
+  -- a value that is not above `most` adds nothing to it
   lowest-under : (most : ℕ) → v ≤ most → most ≡ max most (orZero (least k w f))
   lowest-under most h = le-antisymm (le-max-left most _) (max-le (le-refl most) (le-trans (u .over) h))
 
@@ -154,7 +154,7 @@ module _ {k : ℕ} {w f : ℕ → ℕ} {i v : ℕ} (u : Lowest k w f i v) where
       omega (arith, u .over, u .under (s .i) (omega (arith, s .below)) (s .counts), s .is))
       (le-or-lt v 0)
 
--- .. for both numbers of border b
+-- the walk over the rows, for both values of border b
 pub record Walked (g : Grid) (m : List ℕ) (b i : ℕ) (low : Kws) : Type 0 where
   pub alone : Lowest (g .rows) (λ i. g .p i b) (λ i. at m i / g .p i b) i (low .alone)
   pub reach : Lowest (g .rows) (λ i. g .p i b) (rowReach g m b) i (low .reach)

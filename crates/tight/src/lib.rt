@@ -4,9 +4,9 @@ mod pass;
 ghost use mathlib.Core.Path.{_≡_};
 ghost use Prim.Native.Nat.{_*_, _≤_};
 ghost use lib.ListN.{length};
-ghost use Rattle.kinds.specs.Limits.{bordersMost};
+ghost use Rattle.limits.specs.Limits.{bordersMost};
 ghost use Rattle.rounds.specs.Rounds.{bits};
-ghost use Rattle.rounds.specs.Work.{flat};
+ghost use Rattle.rounds.specs.AllRounds.{flat};
 ghost use Rattle.tight.specs.Tight.{steps};
 ghost use Rattle.tight.specs.Measure.{boundBy};
 ghost use Rattle.tight.specs.Pass.{Small};
@@ -25,7 +25,7 @@ pub struct Kws {
     pub reach: u64,
 }
 
-// Of a flat table of factors p and the margins that the rounds start from; `ns` is room to work in.
+// Measures a flat table of factors p and the margins that the rounds start from; `ns` is working memory.
 pub fn measure(
     rows: usize,
     borders: usize,
@@ -64,7 +64,7 @@ fn bits(v: u64) -> u64
     count
 }
 
-// How often `u` is cut until it is 0. Where n is 0 a cut takes nothing, and the fuel decides.
+// How often `u` is cut until it is 0. Where n is 0 a cut takes nothing away, and the definition stops after u cuts.
 fn steps(n: u64, u: u64) -> u64
     ensures { λ r. ⌜ r ≡ steps n u ⌝ }
 {

@@ -4,9 +4,9 @@ ghost use mathlib.Core.Path.{_≡_};
 ghost use Prim.Native.Nat.{_+_, _*_, _-_, _^_, _<_, _≤_, min};
 ghost use lib.ListN.{length};
 ghost use Rattle.numbers.specs.Below.{at, largest, table};
-ghost use Rattle.kinds.specs.Limits.{bordersMost};
+ghost use Rattle.limits.specs.Limits.{bordersMost};
 ghost use Rattle.rounds.specs.Rounds.{sharers, mostSharers};
-ghost use Rattle.rounds.specs.Work.{flat};
+ghost use Rattle.rounds.specs.AllRounds.{flat};
 ghost use Rattle.tight.specs.Pass.{Small, Highest, Higher, Lowered};
 
 // The largest of a list, 0 where it is empty.
@@ -20,7 +20,7 @@ pub fn most(list: &[u64]) -> u64
     most
 }
 
-// Of all borders the most that one could take alone, and U. `n` is N.
+// The most that any border could take alone, and U, the largest reach of any border. `n` is N.
 pub fn highest(rows: usize, borders: usize, p: &[u64], margins: &[u64], ns: &[u64], n: u64) -> Kws
     requires { ⌜ (rows * borders ≤ length (now p)) × (length (now margins) ≡ rows) × (borders ≤ bordersMost) ⌝ }
     requires { ⌜ (now ns ≡ table rows (sharers (flat rows borders (now p)))) × (n ≡ mostSharers (flat rows borders (now p))) ⌝ }
@@ -34,7 +34,7 @@ pub fn highest(rows: usize, borders: usize, p: &[u64], margins: &[u64], ns: &[u6
     most
 }
 
-// `most`, raised to what border `b` has. Both of `low` are not below that, and fall; once neither is above `most`, the other rows are not looked at.
+// `most`, raised to the values of border `b`. Both values of `low` start at or above the border's and fall row by row; where neither exceeds `most`, no further row is tried.
 fn higher(
     rows: usize,
     borders: usize,
@@ -50,7 +50,7 @@ fn higher(
     requires { ⌜ Small (now margins) ⌝ }
     ensures { λ r. ⌜ Higher (flat rows borders (now (p .entry))) (now (margins .entry)) b most r ⌝ }
 {
-    let first = walk::first_bound(rows, borders, p, margins, b);
+    let first = walk::first_cap(rows, borders, p, margins, b);
     let mut low = Kws {
         alone: first,
         reach: first,
@@ -70,8 +70,8 @@ fn higher(
     }
 }
 
-// `low`, once a row's margin, its `n` and its factor `f` at the border are known. A row that has room for what the border takes alone and a kW for each of the most
-// sharers lets both be: so most rows take one product. Where it has not, its quotient is known.
+// `low`, lowered by a row with this margin, this `n`, and factor `f` at the border. Where the row has room for `low.alone` and one kW more for each of the `most` sharers,
+// neither value falls: so most rows need one product only. Else the quotient is computed.
 fn lower(f: u64, n: u64, most: u64, margin: u64, low: Kws) -> Kws
     requires { ⌜ (n ≤ most) × (low .reach ≤ low .alone) × (low .alone + most < 2 ^ 64) ⌝ }
     ensures { λ r. ⌜ Lowered f n margin low r ⌝ }

@@ -1,4 +1,4 @@
 pub mod ListedLaws
 pub mod TightLaws
-pub mod PartLaws
-pub mod BoundLaws
+pub mod LoadLaws
+pub mod CapLaws

@@ -1,4 +1,4 @@
--- The laws of `Listed` (specs/Walk.antt), the list of the borders that still rise: the list of all, what it holds, and that it serves bounds that fell.
+-- The laws of `Listed` (specs/Walk.antt), the list of the borders that still rise: the list of all, what it holds, and that it serves caps that fell.
 -- To raise the listed borders is to raise all (`taken-all`).
 -- Proofs cite it here and in roundloop. No contract cites this file.
 use mathlib.Core.Path.{_≡_, refl, sym, ap, _∙_}
@@ -57,7 +57,7 @@ module _ {borders : ℕ} {v list : List ℕ} {live : ℕ} (q : Listed borders v 
       let s = sum-some live (λ j. w (at list j)) (omega (arith, only-here (at v b) b)) in
       (s .0, s .1, only-pos (at v b) b (at list (s .0)) (s .2))
 
-  -- the list serves what is 0 where v is
+  -- the list also serves caps that are 0 wherever v is
   pub listed-zero : (v′ : List ℕ) → ((b : ℕ) → b < borders → at v b ≡ 0 → at v′ b ≡ 0) → Listed borders v′ list live
   listed-zero v′ h = record { room = q .room; inside = q .inside; adds = λ w z. q .adds w (λ b hb e. z b hb (h b hb e)) }
 
@@ -93,21 +93,21 @@ taken-next : (v list : List ℕ) (j b : ℕ) → taken v list (j + 1) b ≡ take
 unfolding taken sum
 taken-next v list j b = rw (add-one j) refl
 
--- the next one listed takes v there
+-- a border that is listed next takes v there
 pub taken-here : (v list : List ℕ) (j b : ℕ) → at list j ≡ b → taken v list (j + 1) b ≡ taken v list j b + at v b
 taken-here v list j b e = taken-next v list j b ∙ ap (λ (k : ℕ). taken v list j b + k) (ap (only (at v b) b) e ∙ only-here (at v b) b)
 
--- .. and another none
+-- a border that is not listed next takes nothing there
 pub taken-there : (v list : List ℕ) (j b : ℕ) → (b ≡ at list j → ⊥) → taken v list (j + 1) b ≡ taken v list j b
 taken-there v list j b other = omega (arith, taken-next v list j b, only-zero (at v b) b (at list j) (λ e. absurd (other e)))
 
 module _ {borders : ℕ} {v list : List ℕ} {live : ℕ} (q : Listed borders v list live) (b : ℕ) (hb : b < borders) where
-  -- in the end each has taken v
+  -- at the end of the list each border has taken v
   pub taken-all : taken v list live b ≡ at v b
   unfolding taken
   taken-all = q .adds (only (at v b) b) (λ c hc z. only-zero (at v b) b c (λ y. ap (at v) y ∙ z)) ∙ sum-only borders (at v b) b hb
 
-  -- .. and before that no more
+  -- no border takes more than v on the way
   pub taken-under : (j : ℕ) → j < live → taken v list (j + 1) b ≤ at v b
   unfolding taken
   taken-under j hj = omega (arith, taken-all, taken-next v list j b, sum-part live (λ j′. only (at v b) b (at list j′)) j hj)

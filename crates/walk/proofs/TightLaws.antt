@@ -1,4 +1,4 @@
--- A bound and a row's share (`tight`), and the loop over the listed borders that tightens their bounds (`Lowering` is its invariant). No contract cites this file.
+-- A cap and a row's share (`tight`), and the loop over the listed borders that tightens their caps (`Lowering` is its invariant). No contract cites this file.
 use mathlib.Core.Path.{_≡_, refl, sym, ap, _∙_}
 use mathlib.Core.List.{List}
 use mathlib.Core.Logic.{⊎-elim}
@@ -31,11 +31,11 @@ unfolding tight ifZero
 tight-over zero share a u h k = h
 tight-over (suc f) share a u h k = le-min h (k (zero-lt-suc f))
 
--- a product tells whether the bound stays ..
+-- where the product of cap and factor is within the share, the cap stays
 pub tight-same : (f share a : ℕ) → a * f ≤ share → a ≡ tight f share a
 tight-same f share a h = le-antisymm (tight-over f share a a (le-refl a) (λ z. le-div-iff-mul-le z .1 h)) (tight-le f share a)
 
--- .. or falls
+-- where the product is above the share, the cap falls to the quotient
 pub tight-less : (f share a : ℕ) → share < a * f → (0 < f) × (share / f ≡ tight f share a)
 unfolding tight ifZero
 tight-less zero share a h = let z : ⊥ = omega (arith, mul-zero a) in absurd z
@@ -47,7 +47,7 @@ pub tight-zero : (f share a : ℕ) → f ≡ 0 → a ≡ tight f share a
 unfolding tight ifZero
 tight-zero f share a e = rw e refl
 
--- .. as a quotient does
+-- whether the cap stays or falls, by the quotient
 module _ (f share a : ℕ) (z : 0 < f) where
   pub tight-low : share / f < a → share / f ≡ tight f share a
   tight-low l = tight-less f share a (div-lt-iff-lt-mul z .0 l) .1
@@ -55,14 +55,14 @@ module _ (f share a : ℕ) (z : 0 < f) where
   pub tight-high : a ≤ share / f → a ≡ tight f share a
   tight-high l = tight-same f share a (le-div-iff-mul-le z .0 l)
 
--- to tighten what is tightened changes nothing
+-- to tighten again changes nothing
 tight-again : (f share a u : ℕ) → tight f share a ≤ u → u ≤ a → tight f share u ≡ tight f share a
 tight-again f share a u l h =
     le-antisymm
     (tight-over f share a (tight f share u) (le-trans (tight-le f share u) h) (λ z. le-div-iff-mul-le z .1 (tight-share f share u)))
     (tight-over f share u (tight f share a) l (λ z. le-div-iff-mul-le z .1 (tight-share f share a)))
 
--- the product is made where it fits
+-- the product is computed only where it fits
 pub product-fits : (f a : ℕ) → a < 2 ^ 44 → f < 2 ^ 20 → a * f < 2 ^ 64
 product-fits f a ha hf =
     let d : a * f ≤ (2 ^ 44 - 1) * 2 ^ 20 = mul-le-mul {n₂ = 2 ^ 44 - 1} {m₂ = 2 ^ 20} (omega arith) (omega arith) in
@@ -70,7 +70,7 @@ product-fits f a ha hf =
 
 -- ---- the loop over the listed borders
 
--- each bound is between what it was and what it comes to, and the first j listed have come to that
+-- each cap lies between its old and its final value, and the first j listed caps are final
 pub record Lowering (g : Grid) (i share : ℕ) (list : List ℕ) (live : ℕ) (v₀ v : List ℕ) (j : ℕ) : Type 0 where
   pub high : j ≤ live
   pub long : length v ≡ length v₀

@@ -1,5 +1,5 @@
--- One row's work in a round (02, E4), over a grid g: what its functions ask and leave. A border's bound is what it may rise by at most: its last raise, or at first a row's margin.
--- `Listed`, `First`, `Bounds`, `tightened`, `mostPart` and `Partable` are what contracts cite, here, in resting, roundloop and tight.
+-- One row's work in a round (02, E4), over a grid g: what its functions ask and leave. A border's cap is what it may rise by at most: its last raise, or at first a row's margin.
+-- `Listed`, `First`, `Caps`, `tightened`, `mostLoad` and `Loadable` are what contracts cite, here, in resting, roundloop and tight.
 -- Left to others: the raises themselves and what a round does (`Rounds.antt` of rounds), which rows are looked at in a round (resting), the loop of rounds (roundloop).
 use mathlib.Core.Path.{_≡_}
 use mathlib.Core.List.{List}
@@ -20,22 +20,22 @@ pub record First (g : Grid) (m : List ℕ) (b v : ℕ) : Type 0 where
   pub over : alone g m b ≤ v
   pub some : 0 < v → (i : ℕ) × (i < g .rows) × (0 < g .p i b) × (v ≤ at m i)
 
--- v bounds border b's raise: it is not below the raise, and where it is above 0 some row loads b
-pub record Bound (g : Grid) (m : List ℕ) (b v : ℕ) : Type 0 where
+-- v caps border b's raise: it is not below the raise, and where it is above 0 some row loads b
+pub record Cap (g : Grid) (m : List ℕ) (b v : ℕ) : Type 0 where
   pub over : raise g m b ≤ v
   pub row : 0 < v → ℕ
   pub inside : (z : 0 < v) → row z < g .rows
   pub loads : (z : 0 < v) → 0 < g .p (row z) b
 
--- .. for every border
-abbrev pub Bounds : Grid → (m v : List ℕ) → Type 0
-Bounds g m v = (b : ℕ) → b < g .borders → Bound g m b (at v b)
+-- v caps the raise of every border
+abbrev pub Caps : Grid → (m v : List ℕ) → Type 0
+Caps g m v = (b : ℕ) → b < g .borders → Cap g m b (at v b)
 
--- a bound, once a row's equal share is known, where the border's factor p is f: a factor of 0 lets it be
-unfoldable pub tight : (f share bound : ℕ) → ℕ
-tight f share bound = ifZero f bound (min bound (share / f))
+-- a cap that a row with this equal share tightens, where the border's factor p is f; a factor of 0 does not change it
+unfoldable pub tight : (f share cap : ℕ) → ℕ
+tight f share cap = ifZero f cap (min cap (share / f))
 
--- .. of border b, by row i
+-- the cap of border b, tightened by row i
 unfoldable pub tightened : Grid → (i share : ℕ) (v : List ℕ) (b : ℕ) → ℕ
 tightened g i share v b = tight (g .p i b) share (at v b)
 
@@ -43,14 +43,14 @@ tightened g i share v b = tight (g .p i b) share (at v b)
 unfoldable pub part : Grid → (i : ℕ) (v : List ℕ) (b : ℕ) → ℕ
 part g i v b = g .p i b * at v b
 
--- the most that one border takes
-unfoldable pub mostPart : Grid → (i : ℕ) (v : List ℕ) → ℕ
-mostPart g i v = largest (g .borders) (part g i v)
+-- the most that one border takes from row i
+unfoldable pub mostLoad : Grid → (i : ℕ) (v : List ℕ) → ℕ
+mostLoad g i v = largest (g .borders) (part g i v)
 
--- what finding row i's parts asks: raises v, of one round or of several, that the list holds, bounds w that are not above them, and that what the row loses fits a u64
-pub record Partable (g : Grid) (i : ℕ) (v w list : List ℕ) (live : ℕ) : Type 0 where
+-- what finding row i's loads asks: the list holds the borders with raises v (of one round or of several), the caps w are not above v, and the row's loss fits a u64
+pub record Loadable (g : Grid) (i : ℕ) (v w list : List ℕ) (live : ℕ) : Type 0 where
   pub raises : length v ≡ g .borders
-  pub bounds : length w ≡ g .borders
+  pub caps : length w ≡ g .borders
   pub listed : Listed (g .borders) v list live
   pub lower : (b : ℕ) → b < g .borders → at w b ≤ at v b
   pub fits : load g i v < 2 ^ 64

@@ -1,19 +1,19 @@
-// The raises of the first round, and one row's work in the others, which divides little (02, E4). Margins are in grains, bounds and raises in kW.
-// A border's bound is what it may rise by at most. Raises never grow from round to round, so the last raise bounds the next one, and a border at 0 is
-// done with: `rising` lists the others in its first `live` places. A row is tried by products with the bounds, and divides its margin by n, once, only
-// where a bound is too high. A factor of 0 makes a product of 0 and so never divides.
+// The raises of the first round, and one row's work in the others, which divides little (02, E4). Margins are in grains, caps and raises in kW.
+// A border's cap is what it may rise by at most. Raises never grow from round to round, so the last raise caps the next one, and a border at 0 is
+// done with: `rising` lists the others in its first `live` places. A row is tried by products with the caps, and divides its margin by n, once, only
+// where a cap is too high. A factor of 0 makes a product of 0 and so never divides.
 ghost use mathlib.Core.Path.{_≡_};
 ghost use Prim.Native.Nat.{_*_, _/_, _^_, _<_, _≤_, max};
 ghost use lib.ListN.{length};
 ghost use Rattle.numbers.specs.Below.{table};
 ghost use Rattle.rounds.specs.Rounds.{sharers, raises, load};
-ghost use Rattle.rounds.specs.Work.{flat, Ready};
-ghost use Rattle.walk.specs.Walk.{Listed, First, Bounds, tight, tightened, mostPart, Partable};
+ghost use Rattle.rounds.specs.AllRounds.{flat, Ready};
+ghost use Rattle.walk.specs.Walk.{Listed, First, Caps, tight, tightened, mostLoad, Loadable};
 
-// Where a bound, in kW, is below this, and a factor p below the next, their product is below 2^64 and is made.
-const BOUND_BELOW: u64 = 1 << 44;
+// Where a cap (kW) is below `CAP_BELOW` and a factor p below `FACTOR_BELOW`, their product is below 2^64 and can be computed.
+const CAP_BELOW: u64 = 1 << 44;
 
-// Of factors, in hundred-thousandths. No table of 01 reaches it.
+// Hundred-thousandths. No table of 01 has so large a factor.
 const FACTOR_BELOW: u64 = 1 << 20;
 
 // The list of all borders, and the raises of the first round.
@@ -24,16 +24,16 @@ pub fn begin(
     ns: &[u64],
     margins: &[u64],
     rising: &mut [usize],
-    bounds: &mut [u64],
+    caps: &mut [u64],
 )
     requires { ⌜ rows * borders ≤ length (now p) ⌝ }
     requires { ⌜ Ready (flat rows borders (now p)) (now ns) (now margins) ⌝ }
-    requires { ⌜ (length (now rising) ≡ borders) × (length (now bounds) ≡ borders) ⌝ }
-    ensures { λ _. ⌜ (now (rising .exit) ≡ table borders (λ b. b)) × (now (bounds .exit) ≡ raises (flat rows borders (now (p .entry))) (now (margins .entry))) ⌝ }
+    requires { ⌜ (length (now rising) ≡ borders) × (length (now caps) ≡ borders) ⌝ }
+    ensures { λ _. ⌜ (now (rising .exit) ≡ table borders (λ b. b)) × (now (caps .exit) ≡ raises (flat rows borders (now (p .entry))) (now (margins .entry))) ⌝ }
 {
     list_all(rising);
-    first_bounds(rows, borders, p, margins, bounds);
-    first_raises(rows, borders, p, ns, margins, rising, bounds);
+    first_caps(rows, borders, p, margins, caps);
+    first_raises(rows, borders, p, ns, margins, rising, caps);
 }
 
 // Every border is listed.
@@ -45,20 +45,20 @@ fn list_all(rising: &mut [usize])
     }
 }
 
-// A first bound for each border.
-fn first_bounds(rows: usize, borders: usize, p: &[u64], margins: &[u64], bounds: &mut [u64])
+// A first cap for each border.
+fn first_caps(rows: usize, borders: usize, p: &[u64], margins: &[u64], caps: &mut [u64])
     requires { ⌜ rows * borders ≤ length (now p) ⌝ }
     requires { ⌜ length (now margins) ≡ rows ⌝ }
-    requires { ⌜ length (now bounds) ≡ borders ⌝ }
-    ensures { λ _. ⌜ Bounds (flat rows borders (now (p .entry))) (now (margins .entry)) (now (bounds .exit)) ⌝ }
+    requires { ⌜ length (now caps) ≡ borders ⌝ }
+    ensures { λ _. ⌜ Caps (flat rows borders (now (p .entry))) (now (margins .entry)) (now (caps .exit)) ⌝ }
 {
     for b in 0..borders {
-        bounds[b] = first_bound(rows, borders, p, margins, b);
+        caps[b] = first_cap(rows, borders, p, margins, b);
     }
 }
 
-// .. for border `b`: the margin of the first row that loads it, or 0. No row allows more than its margin, not even to a border alone, and this takes no division.
-pub fn first_bound(rows: usize, borders: usize, p: &[u64], margins: &[u64], b: usize) -> u64
+// The first cap of border `b`: the margin of the first row that loads it, or 0. No row allows more than its margin, even to a border alone. This needs no division.
+pub fn first_cap(rows: usize, borders: usize, p: &[u64], margins: &[u64], b: usize) -> u64
     requires { ⌜ (rows * borders ≤ length (now p)) × (b < borders) ⌝ }
     requires { ⌜ length (now margins) ≡ rows ⌝ }
     ensures { λ v. ⌜ First (flat rows borders (now (p .entry))) (now (margins .entry)) b v ⌝ }
@@ -71,7 +71,7 @@ pub fn first_bound(rows: usize, borders: usize, p: &[u64], margins: &[u64], b: u
     0
 }
 
-// The raises of the first round: each row in turn divides its margin by n, once, and tightens all bounds.
+// The raises of the first round: each row in turn divides its margin by n, once, and tightens all caps.
 fn first_raises(
     rows: usize,
     borders: usize,
@@ -79,23 +79,23 @@ fn first_raises(
     ns: &[u64],
     margins: &[u64],
     rising: &[usize],
-    bounds: &mut [u64],
+    caps: &mut [u64],
 )
     requires { ⌜ rows * borders ≤ length (now p) ⌝ }
     requires { ⌜ Ready (flat rows borders (now p)) (now ns) (now margins) ⌝ }
     requires { ⌜ now rising ≡ table borders (λ b. b) ⌝ }
-    requires { ⌜ length (now bounds) ≡ borders ⌝ }
-    requires { ⌜ Bounds (flat rows borders (now p)) (now margins) (now bounds) ⌝ }
-    ensures { λ _. ⌜ now (bounds .exit) ≡ raises (flat rows borders (now (p .entry))) (now (margins .entry)) ⌝ }
+    requires { ⌜ length (now caps) ≡ borders ⌝ }
+    requires { ⌜ Caps (flat rows borders (now p)) (now margins) (now caps) ⌝ }
+    ensures { λ _. ⌜ now (caps .exit) ≡ raises (flat rows borders (now (p .entry))) (now (margins .entry)) ⌝ }
 {
     for i in 0..rows {
-        let share = rounds::share_of(margins[i], ns[i]);
-        lower_bounds(rows, borders, p, i, share, rising, borders, bounds);
+        let share = rounds::equal_share(margins[i], ns[i]);
+        lower_caps(rows, borders, p, i, share, rising, borders, caps);
     }
 }
 
-// Row `i`, whose equal share is `share`, tightens the bound of each border that still rises.
-fn lower_bounds(
+// Row `i`, whose equal share is `share`, tightens the cap of each border that still rises.
+fn lower_caps(
     rows: usize,
     borders: usize,
     p: &[u64],
@@ -103,57 +103,57 @@ fn lower_bounds(
     share: u64,
     rising: &[usize],
     live: usize,
-    bounds: &mut [u64],
+    caps: &mut [u64],
 )
     requires { ⌜ (rows * borders ≤ length (now p)) × (i < rows) ⌝ }
-    requires { ⌜ Listed borders (now bounds) (now rising) live ⌝ }
-    requires { ⌜ length (now bounds) ≡ borders ⌝ }
-    ensures { λ _. ⌜ now (bounds .exit) ≡ table borders (tightened (flat rows borders (now (p .entry))) i share (now (bounds .entry))) ⌝ }
+    requires { ⌜ Listed borders (now caps) (now rising) live ⌝ }
+    requires { ⌜ length (now caps) ≡ borders ⌝ }
+    ensures { λ _. ⌜ now (caps .exit) ≡ table borders (tightened (flat rows borders (now (p .entry))) i share (now (caps .entry))) ⌝ }
 {
     for j in 0..live {
         let b = rising[j];
         let f = rounds::factor(rows, borders, p, i, b);
-        let bound = bounds[b];
-        bounds[b] = tighten(f, share, bound);
+        let cap = caps[b];
+        caps[b] = tighten(f, share, cap);
     }
 }
 
-// A border's bound, once a row's share is known and its factor `f` there. Tried by a product where that fits, and divided only where the bound is too high.
-pub fn tighten(f: u64, share: u64, bound: u64) -> u64
-    ensures { λ r. ⌜ r ≡ tight f share bound ⌝ }
+// A border's cap, given a row's share and its factor `f` there. Tried by a product where that fits; divides only where the cap is too high.
+pub fn tighten(f: u64, share: u64, cap: u64) -> u64
+    ensures { λ r. ⌜ r ≡ tight f share cap ⌝ }
 {
-    if bound < BOUND_BELOW && f < FACTOR_BELOW {
-        if bound * f <= share {
-            return bound;
+    if cap < CAP_BELOW && f < FACTOR_BELOW {
+        if cap * f <= share {
+            return cap;
         }
         return share / f;
     }
     if f == 0 {
-        return bound;
+        return cap;
     }
     let allowed = share / f;
-    if allowed < bound { allowed } else { bound }
+    if allowed < cap { allowed } else { cap }
 }
 
-// What a row loses by the raises, and the most that one border would take of it by its bound. Grains.
-pub struct Parts {
+// What a row loses by the raises, and the most that one border would take of it by its cap. Grains.
+pub struct Loads {
     pub loss: u64,
     pub most: u64,
 }
 
-pub fn row_parts(
+pub fn row_loads(
     rows: usize,
     borders: usize,
     p: &[u64],
     i: usize,
     raises: &[u64],
-    bounds: &[u64],
+    caps: &[u64],
     rising: &[usize],
     live: usize,
-) -> Parts
+) -> Loads
     requires { ⌜ (rows * borders ≤ length (now p)) × (i < rows) ⌝ }
-    requires { ⌜ Partable (flat rows borders (now p)) i (now raises) (now bounds) (now rising) live ⌝ }
-    ensures { λ q. ⌜ (q .loss ≡ load (flat rows borders (now (p .entry))) i (now (raises .entry))) × (q .most ≡ mostPart (flat rows borders (now (p .entry))) i (now (bounds .entry))) ⌝ }
+    requires { ⌜ Loadable (flat rows borders (now p)) i (now raises) (now caps) (now rising) live ⌝ }
+    ensures { λ q. ⌜ (q .loss ≡ load (flat rows borders (now (p .entry))) i (now (raises .entry))) × (q .most ≡ mostLoad (flat rows borders (now (p .entry))) i (now (caps .entry))) ⌝ }
 {
     let mut loss: u64 = 0;
     let mut most: u64 = 0;
@@ -161,9 +161,9 @@ pub fn row_parts(
         let b = rising[j];
         let f = rounds::factor(rows, borders, p, i, b);
         loss += f * raises[b];
-        most = larger(most, f * bounds[b]);
+        most = larger(most, f * caps[b]);
     }
-    Parts {
+    Loads {
         loss: loss,
         most: most,
     }
@@ -176,7 +176,7 @@ pub fn larger(a: u64, b: u64) -> u64
     if a < b { b } else { a }
 }
 
-// Row `i` tightens the bounds where one of them asks for more than its equal share: most > margin / n, tried as most x n > margin. The product fits, since
+// Row `i` tightens the caps where one of them asks for more than its equal share: most > margin / n, tried as most x n > margin. The product fits, since
 // n times the most part is within the margin before the loss. Only where the row is tight its margin is divided.
 pub fn lower_if_tight(
     rows: usize,
@@ -188,16 +188,16 @@ pub fn lower_if_tight(
     most: u64,
     rising: &[usize],
     live: usize,
-    bounds: &mut [u64],
+    caps: &mut [u64],
 )
     requires { ⌜ (rows * borders ≤ length (now p)) × (i < rows) ⌝ }
-    requires { ⌜ Listed borders (now bounds) (now rising) live ⌝ }
-    requires { ⌜ length (now bounds) ≡ borders ⌝ }
+    requires { ⌜ Listed borders (now caps) (now rising) live ⌝ }
+    requires { ⌜ length (now caps) ≡ borders ⌝ }
     requires { ⌜ n ≡ sharers (flat rows borders (now p)) i ⌝ }
-    requires { ⌜ (most ≡ mostPart (flat rows borders (now p)) i (now bounds)) × (most * n < 2 ^ 64) ⌝ }
-    ensures { λ _. ⌜ now (bounds .exit) ≡ table borders (tightened (flat rows borders (now (p .entry))) i (margin / n) (now (bounds .entry))) ⌝ }
+    requires { ⌜ (most ≡ mostLoad (flat rows borders (now p)) i (now caps)) × (most * n < 2 ^ 64) ⌝ }
+    ensures { λ _. ⌜ now (caps .exit) ≡ table borders (tightened (flat rows borders (now (p .entry))) i (margin / n) (now (caps .entry))) ⌝ }
 {
     if margin < most * n {
-        lower_bounds(rows, borders, p, i, margin / n, rising, live, bounds);
+        lower_caps(rows, borders, p, i, margin / n, rising, live, caps);
     }
 }

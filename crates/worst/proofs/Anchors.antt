@@ -9,20 +9,20 @@ use lib.Dec.{eqb}
 use lib.IntN.{pos}
 use Rattle.numbers.specs.Below.{ifZero, sum, count, largest, lesser, least, orZero, table, firstFrom, given}
 use Rattle.numbers.specs.Ints.{minus, maxℤ, minℤ, positivePart, sumℤ, sameℤ}
-use Rattle.kinds.specs.Limits.{bordersMost}
-use Rattle.kinds.specs.Ranges.{hubsOf, borderOf, shareOf, rowOf, worth, defaultOf}
+use Rattle.limits.specs.Limits.{bordersMost}
+use Rattle.types.specs.Ranges.{hubsOf, borderOf, shareOf, rowOf, worth, defaultOf}
 use Rattle.table.specs.Table.{Table, stretch}
 use Rattle.rounds.specs.Rounds.{sharers, alone, mostSharers, bitsTo, bits, aloneBits}
 use Rattle.margin.specs.Margin.{grains, f0coreOf, fuafOf, baseOf, amrOf, signedFactor, pOf, ltaKw, sOf, ltaMarginOf, ramOf, ramAt}
-use Rattle.states.specs.States.{highest, lowest, spreadOf, shifted, below, stateOf}
-use Rattle.states.specs.Rows.{rowsOf}
-use Rattle.start.specs.Setup.{gridBy, beginBy}
-use Rattle.start.specs.Start.{kept, every, setupWith}
-use Rattle.tight.specs.Tight.{shareUp, cut, stepsWithin, steps, rowReach, reach, farthest, tightBound}
+use Rattle.states.specs.States.{highest, lowest, spreadOf, shifted, below, stateOf, kept}
+use Rattle.states.specs.Standings.{standingsOf}
+use Rattle.setup.specs.Setup.{gridBy, beginBy}
+use Rattle.start.specs.Start.{every, setupWith}
+use Rattle.tight.specs.Tight.{equalShareUp, cut, stepsWithin, steps, rowReach, reach, farthest, tightBound}
 use Rattle.tight.specs.Measure.{boundBy}
 use Rattle.worst.specs.Worst.{startTop, ltaTop, lateTop, roundsWorst, Known}
 
--- the hour of 01, and the same with another profile in its header
+-- the hour of 01, and the same hour with another profile in its header
 abbrev hour : (intraday : ℕ) → Table
 hour intraday =
     record {
@@ -57,7 +57,7 @@ pub record Tops : Type 0 where
   pub late : roundsWorst true ≡ steps bordersMost (lateTop + ltaTop)
 
 pub tops : Tops
-unfolding shareUp cut stepsWithin steps
+unfolding equalShareUp cut stepsWithin steps
 tops = record { start = refl; late-start = refl; day = refl; late = refl }
 
 pub record Statement : Type 0 where
@@ -65,14 +65,14 @@ pub record Statement : Type 0 where
   pub sharper : Known every (hour 0) 21 → 22 ≤ 88
   pub worst : Known every (hour 0) 21 → 22 ≤ 1852
   pub many : Known every (hour 0) 23 → ⊥
-  -- of the second border alone 1
+  -- with the second border alone marked there is at most 1 round
   pub many-marked : Known second (hour 0) 2 → ⊥
-  -- more than any table has
+  -- more rounds than any table has
   pub most : Known every (hour 0) 1853 → ⊥
   pub late-most : Known every (hour 1) 1911 → ⊥
 
 pub statement : Statement
-unfolding ifZero sum count largest lesser least orZero table firstFrom given maxℤ minℤ positivePart sumℤ sameℤ hubsOf borderOf shareOf rowOf worth defaultOf stretch sharers alone mostSharers bitsTo bits aloneBits grains f0coreOf fuafOf baseOf amrOf signedFactor pOf ltaKw sOf ltaMarginOf ramOf ramAt highest lowest spreadOf shifted below stateOf gridBy beginBy rowsOf kept setupWith shareUp cut stepsWithin steps rowReach reach farthest tightBound boundBy
+unfolding ifZero sum count largest lesser least orZero table firstFrom given maxℤ minℤ positivePart sumℤ sameℤ hubsOf borderOf shareOf rowOf worth defaultOf stretch sharers alone mostSharers bitsTo bits aloneBits grains f0coreOf fuafOf baseOf amrOf signedFactor pOf ltaKw sOf ltaMarginOf ramOf ramAt highest lowest spreadOf shifted below stateOf gridBy beginBy standingsOf kept setupWith equalShareUp cut stepsWithin steps rowReach reach farthest tightBound boundBy
 statement =
     record {
       sharper = λ d. d .sharper;

@@ -1,5 +1,5 @@
--- The rounds that a call answers are known beforehand (`specs/Worst.antt`), in both profiles, of every border or with marks: of `extract` and its kin in lent memory, and of
--- the texts of `answer` and `result_text` and their kin.
+-- The rounds that a call answers are known beforehand (`specs/Worst.antt`), in both profiles, of every border or with marks: of `extract` and `extract_marked` in lent memory,
+-- and of the texts of the `answer` and `result_text` calls.
 use mathlib.Core.Path.{_≡_, subst}
 use mathlib.Core.Bool.{Bool}
 use mathlib.Core.List.{List}
@@ -8,7 +8,7 @@ use Prim.Native.Nat.{ℕ}
 use lib.IntN.{ℤ}
 use lib.ListN.{take}
 use Rattle.numbers.specs.Below.{at}
-use Rattle.kinds.specs.Refusals.{Judged, passed}
+use Rattle.refusals.specs.Refusals.{Judged, passed}
 use Rattle.marks.specs.Marks.{mayRise}
 use Rattle.table.specs.Table.{Table, front, judgeLent}
 use Rattle.table.specs.Good.{Good}
@@ -18,7 +18,7 @@ use Rattle.reading.proofs.CorrectedLaws.{corrected-good}
 use Rattle.extraction.specs.Extraction.{extractFor}
 use Rattle.extraction.proofs.LentLaws.{accepted-for}
 use Rattle.answer.specs.Result.{resultTextFor, answerWith}
-use Rattle.answer.proofs.Demand.{TextDemand3, answer-demand-3, result-text-demand-3}
+use Rattle.theorems.proofs.TextDemand.{TextDemand3, answer-demand-3, result-text-demand-3}
 use Rattle.worst.specs.Worst.{Known, TextKnown}
 use Rattle.worst.proofs.Worst.{table-known, accepted-known}
 
@@ -29,7 +29,7 @@ extract-known all marks given ps atcs lefts k e =
     let a = accepted-for all marks given ps atcs lefts k e in
     subst (Known (mayRise all marks) (front given)) (a .rounds) (table-known (mayRise all marks) (judged-good given (front given) (a .judged)))
 
--- a text that demand 3 is true of
+-- a text for which demand 3 holds
 text-known : {marked : ℕ → Bool} {read : Judged Table} {answered : List ℕ} → ((t : Table) → read ≡ passed t → Good t) → TextDemand3 marked read answered → TextKnown marked read answered
 text-known {marked} good d =
     record {
@@ -45,7 +45,7 @@ pub answer-known : (all : Bool) (marks text sheet : List ℕ) → (at (answerWit
     → TextKnown (mayRise all marks) (readCorrected text sheet) (answerWith all marks text sheet)
 answer-known all marks text sheet h = text-known (corrected-good text sheet) (answer-demand-3 all marks text sheet h)
 
--- .. and every text that `result_text` and `result_text_marked` leave of lent tables
+-- every text that `result_text` and `result_text_marked` leave of lent tables
 pub result-text-known : (all : Bool) (marks : List ℕ) (given : Table) (out : List ℕ) (n : ℕ) → let left = resultTextFor all marks given out in
     left .answer ≡ passed n → TextKnown (mayRise all marks) (judgeLent given) (take n (left .out))
 result-text-known all marks given out n e = text-known (judged-good given) (result-text-demand-3 all marks given out n e)

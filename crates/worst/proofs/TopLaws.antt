@@ -15,17 +15,18 @@ use Rattle.numbers.specs.Ints.{Within, maxℤ, positivePart}
 use Rattle.numbers.proofs.BelowLaws.{lt-suc-cases}
 use Rattle.numbers.proofs.SumLaws.{sum-most}
 use Rattle.numbers.proofs.IntLaws.{diff, diffs, zarith, Between, within-le, within-mul, within-sum, within-max, within-pos, max-or}
-use Rattle.kinds.specs.Limits.{bordersMost, shareMost}
-use Rattle.kinds.specs.Ranges.{borderFits, borderOf, defaultOf}
-use Rattle.kinds.proofs.KindLaws.{row-in, default-in}
+use Rattle.limits.specs.Limits.{bordersMost}
+use Rattle.types.specs.LineLimits.{shareMost}
+use Rattle.types.specs.Ranges.{borderFits, borderOf, defaultOf}
+use Rattle.types.proofs.RangeLaws.{row-in, default-in}
 use Rattle.table.specs.Table.{Table, rowAt, borderAt, factorsAt}
 use Rattle.table.specs.Good.{Good}
 use Rattle.margin.specs.Margin.{grains, flowOf, baseOf, pOf, ltaKw, sOf, sAt, ramAt}
-use Rattle.margin.specs.Bounds.{RowBound, BorderBound, pMost, netFlowMost}
+use Rattle.margin.specs.Magnitudes.{RowInRange, BorderInRange, pMost, netFlowMost}
 use Rattle.margin.specs.Small.{f0coreAt}
 use Rattle.margin.proofs.MarginLaws.{shareLess, fifth, ram-largest}
-use Rattle.margin.proofs.BoundLaws.{within-sub, within-share, within-fifth, within-fuaf, within-base, products, load-most, loads}
-use Rattle.margin.proofs.JudgedLaws.{border-bound, row-bound, stretch-long, stretch-bound, good-factors, good-borders, good-allocated}
+use Rattle.margin.proofs.MagnitudeLaws.{within-sub, within-share, within-fifth, within-fuaf, within-base, products, load-most, loads}
+use Rattle.margin.proofs.JudgedLaws.{border-ranges, row-ranges, stretch-long, stretch-ranges, good-factors, good-borders, good-allocated}
 use Rattle.margin.proofs.Small.{f0core-in}
 use Rattle.worst.specs.Worst.{startTop, ltaTop, lateTop}
 
@@ -61,7 +62,7 @@ less-flow {m} {c} {i} {f} h p q l =
     let q′ = simp diffs at (rw (diff i) at q) in
     rw (diff m, diff c, diff i, diff f) (simp diffs (omega (zarith, p′, q′)))
 
--- ---- a sum whose terms are at most q, with one of them spared
+-- ---- a sum whose terms are at most q, with one term counted exactly
 sum-spare : (k : ℕ) (f : ℕ → ℕ) (q b : ℕ) → b < k → ((j : ℕ) → j < k → f j ≤ q) → sum k f + q ≤ k * q + f b
 unfolding sum
 sum-spare zero f q b h most = absurd (not-suc-le-zero h)
@@ -73,8 +74,8 @@ sum-spare (suc k) f q b h most =
 
 -- ---- a row of a judged table
 module _ {t : Table} (good : Good t) (i : ℕ) (below : i < t .header .rows) where
-  row-in-range : RowBound (rowAt t i)
-  row-in-range = row-bound (getD (t .rows) i []) (good .rows-fit i below)
+  row-in-range : RowInRange (rowAt t i)
+  row-in-range = row-ranges (getD (t .rows) i []) (good .rows-fit i below)
 
   default-in-range : Within shareMost (defaultOf (t .header))
   default-in-range = default-in (t .header) (good .exact .header)
@@ -82,7 +83,7 @@ module _ {t : Table} (good : Good t) (i : ℕ) (below : i < t .header .rows) whe
   abbrev s : ℕ
   s = sAt (t .header) (t .borders) (t .factors) i
 
-  -- RAM's values but S
+  -- RAM's values except S
   abbrev others : ℤ
   others = maxℤ (maxℤ (shareLess (defaultOf (t .header)) (rowAt t i) (f0coreAt t i)) (fifth (defaultOf (t .header)) (rowAt t i) (f0coreAt t i))) (baseOf (rowAt t i) (f0coreAt t i))
 
@@ -112,9 +113,9 @@ module _ {t : Table} (good : Good t) (i : ℕ) (below : i < t .header .rows) whe
     abbrev p : ℕ
     p = pOf (factorsAt t i) (borderAt t b)
 
-    borders-in : (j : ℕ) → j < length (t .borders) → BorderBound (length (factorsAt t i)) (borderOf (getD (t .borders) j []))
+    borders-in : (j : ℕ) → j < length (t .borders) → BorderInRange (length (factorsAt t i)) (borderOf (getD (t .borders) j []))
     borders-in j l =
-        border-bound (length (factorsAt t i)) (getD (t .borders) j [])
+        border-ranges (length (factorsAt t i)) (getD (t .borders) j [])
         (subst (λ (n : ℕ). borderFits n (getD (t .borders) j []) ≡ true) (sym (stretch-long (good-factors good) i below)) (good .borders-fit j (omega (arith, good .exact .borders-long))))
 
     s-spare : s ≤ (bordersMost - 1) * (pMost * ltaTop) + p * ltaTop
@@ -123,7 +124,7 @@ module _ {t : Table} (good : Good t) (i : ℕ) (below : i < t .header .rows) whe
         let l : b < length (t .borders) = omega (arith, good .exact .borders-long) in
         let q : ℕ = pMost * ltaTop in
         let own : loads (factorsAt t i) (t .borders) b ≤ p * ltaTop = mul-le-mul-left p (omega (arith, borders-in b l .lta-in)) in
-        let all = sum-spare (length (t .borders)) (loads (factorsAt t i) (t .borders)) q b l (λ j h. load-most (stretch-bound (good-factors good) i below .each) (borders-in j h)) in
+        let all = sum-spare (length (t .borders)) (loads (factorsAt t i) (t .borders)) q b l (λ j h. load-most (stretch-ranges (good-factors good) i below .each) (borders-in j h)) in
         omega (arith, all, own, mul-le-mul-right q (good-borders good .few))
 
     flow-in : Within netFlowMost (flowOf (factorsAt t i) (t .allocated))
@@ -132,7 +133,7 @@ module _ {t : Table} (good : Good t) (i : ℕ) (below : i < t .header .rows) whe
         let n = good-allocated good in
         within-le
         (within-sum (length (t .allocated)) (products (factorsAt t i) (t .allocated)) (λ z l.
-        within-mul (stretch-bound f i below .each .at z (omega (arith, stretch-long f i below, n .few))) (n .each .at z l)))
+        within-mul (stretch-ranges f i below .each .at z (omega (arith, stretch-long f i below, n .few))) (n .each .at z l)))
         (omega (arith, n .few, f .few))
 
     pub late-top : positivePart (ramAt t i -ℤ flowOf (factorsAt t i) (t .allocated)) ≤ lateTop + p * ltaTop

@@ -10,24 +10,25 @@ use lib.IntN.{ℤ, pos}
 use Rattle.numbers.specs.Below.{at}
 use Rattle.numbers.specs.Ints.{positivePart}
 use Rattle.numbers.proofs.BelowLaws.{table-get}
-use Rattle.kinds.specs.Limits.{bordersMost}
-use Rattle.kinds.specs.Ranges.{atℤ, isIntraday}
-use Rattle.kinds.specs.Refusals.{passed}
-use Rattle.kinds.proofs.KindLaws.{header-in}
+use Rattle.limits.specs.Limits.{bordersMost}
+use Rattle.refusals.specs.Refusals.{passed}
+use Rattle.types.specs.Ranges.{atℤ, isIntraday}
+use Rattle.types.proofs.RangeLaws.{header-in}
 use Rattle.table.specs.Table.{Table, borderAt, factorsAt}
 use Rattle.table.specs.Good.{Good}
-use Rattle.tight.specs.Tight.{shareUp, cut, stepsWithin, steps}
+use Rattle.tight.specs.Tight.{equalShareUp, cut, stepsWithin, steps}
 use Rattle.tight.specs.Measure.{boundBy}
-use Rattle.tight.proofs.FewRounds.{reach-under, tight-within}
 use Rattle.margin.specs.Margin.{pOf, marginOf, startsOf}
-use Rattle.states.specs.Rows.{rowsOf}
-use Rattle.start.specs.Setup.{gridBy, beginBy}
-use Rattle.start.specs.Start.{kept, gridMarked, tableStart, setupWith}
+use Rattle.states.specs.Standings.{standingsOf}
+use Rattle.setup.specs.Setup.{gridBy, beginBy}
+use Rattle.states.specs.States.{kept}
+use Rattle.start.specs.Start.{gridMarked, tableStart, setupWith}
 use Rattle.extraction.specs.Extraction.{Result, resultMarked, outcomeMarked}
 use Rattle.extraction.proofs.AcceptedLaws.{part-le-whole, accepted}
 use Rattle.bound.specs.Bound.{boundOf}
-use Rattle.bound.proofs.FewRounds.{table-sharp, table-sharper}
+use Rattle.worst.proofs.TableRounds.{table-sharp, table-sharper}
 use Rattle.worst.specs.Worst.{startTop, ltaTop, lateTop, roundsWorst, Known}
+use Rattle.worst.proofs.FewRounds.{reach-under, tight-within}
 use Rattle.worst.proofs.TopLaws.{day-top, late-top}
 
 module _ (marked : ℕ → Bool) {t : Table} (good : Good t) where
@@ -38,8 +39,8 @@ module _ (marked : ℕ → Bool) {t : Table} (good : Good t) where
       let m : List ℤ = startsOf t in
       omega (
         arith,
-        table-get (t .header .rows) (λ i. cond (kept (rowsOf t .states) i) (positivePart (atℤ m i)) 0) i 0 h,
-        part-le-whole (kept (rowsOf t .states) i) (positivePart (atℤ m i)),
+        table-get (t .header .rows) (λ i. cond (kept (standingsOf t .states) i) (positivePart (atℤ m i)) 0) i 0 h,
+        part-le-whole (kept (standingsOf t .states) i) (positivePart (atℤ m i)),
         ap positivePart (table-get (t .header .rows) (marginOf t) i (pos 0) h),
       )
 
@@ -48,7 +49,7 @@ module _ (marked : ℕ → Bool) {t : Table} (good : Good t) where
 
   -- without T lines
   day : isIntraday (t .header) ≡ false → boundOf marked t .sharp ≤ roundsWorst false
-  unfolding boundBy gridBy setupWith steps stepsWithin cut shareUp
+  unfolding boundBy gridBy setupWith steps stepsWithin cut equalShareUp
   day e =
       tight-within (gridMarked marked t) (tableStart t .margins) bordersMost startTop borders-few
       (λ b hb.
@@ -64,17 +65,17 @@ module _ (marked : ℕ → Bool) {t : Table} (good : Good t) where
   unfolding gridBy setupWith
   late-quotient late b hb i h z =
       let p : ℕ = gridMarked marked t .p i b in
-      let e : p ≡ pOf (factorsAt t i) (borderAt t b) = own-factor (marked b && kept (rowsOf t .states) i) (pOf (factorsAt t i) (borderAt t b)) z in
+      let e : p ≡ pOf (factorsAt t i) (borderAt t b) = own-factor (marked b && kept (standingsOf t .states) i) (pOf (factorsAt t i) (borderAt t b)) z in
       let u : positivePart (marginOf t i) ≤ lateTop + pOf (factorsAt t i) (borderAt t b) * ltaTop = rw late (late-top good i h b hb) in
       div-le-of-le-mul p (omega (arith, start-under i h, u, e, mul-add p lateTop ltaTop, mul-le-mul-right lateTop z))
 
   late : isIntraday (t .header) ≡ true → boundOf marked t .sharp ≤ roundsWorst true
-  unfolding boundBy gridBy setupWith steps stepsWithin cut shareUp
+  unfolding boundBy gridBy setupWith steps stepsWithin cut equalShareUp
   late e =
       tight-within (gridMarked marked t) (tableStart t .margins) bordersMost (lateTop + ltaTop) borders-few
       (λ b hb. reach-under (gridMarked marked t) (tableStart t .margins) b (lateTop + ltaTop) (late-quotient e b hb))
 
-  -- what `bound` answers
+  -- the bound that `bound` answers
   pub worst-bound : boundOf marked t .sharp ≤ roundsWorst (isIntraday (t .header))
   worst-bound = go (isIntraday (t .header)) refl
     where
@@ -82,7 +83,7 @@ module _ (marked : ℕ → Bool) {t : Table} (good : Good t) where
       go true e = late e
       go false e = day e
 
-  -- .. and so the rounds
+  -- the rounds of the result
   pub worst-rounds : resultMarked marked t .outcome .rounds ≤ roundsWorst (isIntraday (t .header))
   worst-rounds = le-trans (table-sharp marked t) worst-bound
 

@@ -4,11 +4,12 @@ use mathlib.Core.Path.{_≡_}
 use mathlib.Core.Bool.{Bool, cond}
 use mathlib.Core.List.{List}
 use Prim.Native.Nat.{ℕ, _+_, _*_, _-_, _≤_}
-use Rattle.kinds.specs.Limits.{bordersMost, fmaxMost, flowMost, shareMost, ltaMost}
-use Rattle.kinds.specs.Ranges.{isIntraday}
-use Rattle.kinds.specs.Refusals.{Judged, passed}
+use Rattle.limits.specs.Limits.{bordersMost}
+use Rattle.refusals.specs.Refusals.{Judged, passed}
+use Rattle.types.specs.LineLimits.{fmaxMost, flowMost, shareMost, ltaMost}
+use Rattle.types.specs.Ranges.{isIntraday}
 use Rattle.table.specs.Table.{Table}
-use Rattle.margin.specs.Bounds.{f0coreMost, pMost, netFlowMost}
+use Rattle.margin.specs.Magnitudes.{f0coreMost, pMost, netFlowMost}
 use Rattle.extraction.specs.Extraction.{Result}
 use Rattle.bound.specs.Bound.{boundOf}
 use Rattle.answer.specs.Result.{resultText}
@@ -17,11 +18,12 @@ use Rattle.answer.specs.Result.{resultText}
 abbrev pub startTop : ℕ
 startTop = shareMost * fmaxMost * 10 + (f0coreMost + flowMost * 100000)
 
--- one border's part of S at the highest LTA, for each of its factor: kW
+-- one border's part of S at the highest LTA, per unit of its factor: kW
 abbrev pub ltaTop : ℕ
 ltaTop = ltaMost * 1000
 
--- RAM less a flow, in the intraday profile: here S is not taken off, and can be larger than that. Without one border's part of it, 412,000,000,000,000
+-- RAM less a flow, in the intraday profile: S is not taken off here, and can be larger than the other values of RAM. All of S but one border's part,
+-- and the largest flow: 412,000,000,000,000
 abbrev pub lateTop : ℕ
 lateTop = (bordersMost - 1) * (pMost * ltaTop) + netFlowMost
 
@@ -36,7 +38,7 @@ pub record Known (marked : ℕ → Bool) (t : Table) (k : ℕ) : Type 0 where
   pub worst : boundOf marked t .sharp ≤ roundsWorst (isIntraday (t .header))
   pub most : k ≤ roundsWorst (isIntraday (t .header))
 
--- .. of a text: what was read is a table, and what is printed the text of a result of such rounds
+-- what is known of an answered text: what was read is a table, and what is printed is the text of a result of such rounds
 pub record TextKnown (marked : ℕ → Bool) (read : Judged Table) (answered : List ℕ) : Type 0 where
   pub table : Table
   pub result : Result

@@ -5,9 +5,9 @@ use Prim.Native.Nat.{ℕ, _≤_}
 use native.Mathlib.Omega.{arith}
 use lib.ListN.{length}
 use Rattle.numbers.specs.Below.{over}
-use Rattle.kinds.specs.declared.Refusal.{Refusal}
-use Rattle.kinds.specs.Refusals.{Judged, passed, refused}
-use Rattle.kinds.proofs.RefusalLaws.{passed-is, then-passed, then-next, then-refused, answer-passed, need-passed}
+use Rattle.refusals.specs.declared.Refusal.{Refusal}
+use Rattle.refusals.specs.Refusals.{Judged, passed, refused}
+use Rattle.refusals.proofs.RefusalLaws.{passed-is, then-passed, then-next, then-refused, answer-passed, need-passed}
 use Rattle.text.specs.Left.{TextLeft, textLeft}
 use Rattle.text.proofs.LeftLaws.{text-refused, text-left}
 use Rattle.table.specs.Table.{Table, front, judgeLent}

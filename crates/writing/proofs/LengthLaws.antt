@@ -1,30 +1,32 @@
 -- How long the text of a good table gets (specs/Writing.antt): each line, and by the longest line all lines. No contract cites this file.
--- The bound is rough: only that it is no more than 65,536 bytes is asked (`never-too-long` in RoundTrip.antt).
+-- The bound is rough: only that it is no more than 65,536 bytes is asked (`never-too-long`).
 use mathlib.Core.Path.{_≡_, refl, ap, _∙_}
 use mathlib.Core.Bool.{Bool, true, false, cond}
 use mathlib.Core.List.{List, [], _∷_, _++_}
 use Prim.Native.Char.{code}
 use Prim.Native.Nat.{ℕ, suc, _+_, _*_, _≤_, _<_}
+use native.Mathlib.Nat.{le-trans}
 use native.Mathlib.Omega.{arith}
 use borrow.Author.Tests.{le-ltb}
-use lib.Dec.{leb→le}
+use lib.Dec.{leb→le, lit≤}
 use lib.IntN.{ℤ, pos, negsuc, natAbs}
 use lib.ListN.{length, getD, drop, length-append}
 use lib.Seq.{getD-drop}
 use lib.Signed.{ltZ}
 use Rattle.numbers.specs.Ints.{minus, inside}
 use Rattle.numbers.proofs.IntLaws.{inside-true}
-use Rattle.kinds.specs.declared.Header.{Header}
-use Rattle.kinds.specs.Limits.{zonesMost, bordersMost, rowsMost, shareMost}
-use Rattle.kinds.specs.Ranges.{atℤ, headerFits, allocatedItems, zoneFits, borderFits, borderOf, rowOf, rowFits, factorFits}
-use Rattle.kinds.proofs.KindLaws.{HeaderIn, header-in, allocated-most, raw-share-in, zone-in, HubsIn, none, both, border-in, row-in, factor-in}
+use Rattle.limits.specs.Limits.{zonesMost, bordersMost, rowsMost, bytesMost}
+use Rattle.types.specs.declared.Header.{Header}
+use Rattle.types.specs.LineLimits.{shareMost}
+use Rattle.types.specs.Ranges.{atℤ, headerFits, allocatedItems, zoneFits, borderFits, borderOf, rowOf, rowFits, factorFits}
+use Rattle.types.proofs.RangeLaws.{HeaderIn, header-in, allocated-most, raw-share-in, zone-in, HubsIn, none, both, border-in, row-in, factor-in}
 use Rattle.text.specs.Written.{decimal, decimalℤ, shareText, linesText}
 use Rattle.text.proofs.PutLaws.{lines-most}
 use Rattle.text.proofs.WrittenLaws.{decimal-long, decimalℤ-long, pos-long}
 use Rattle.table.specs.Table.{Table, factorsAt}
 use Rattle.table.specs.Good.{Good}
 use Rattle.table.proofs.GoodLaws.{stretch-long, row-fit}
-use Rattle.kinds.specs.LineColumns.{headerColumns, defaultColumns, zoneColumns, borderColumns, hubColumns, rowColumns, factorColumns}
+use Rattle.types.specs.LineColumns.{headerColumns, defaultColumns, zoneColumns, borderColumns, hubColumns, rowColumns, factorColumns}
 use Rattle.text.specs.Fields.{tab}
 use Rattle.columns.specs.declared.Head.the-variants.{Lettered, Indexed}
 use Rattle.columns.specs.ColumnText.{fieldText, fieldsLength, numbersOf}
@@ -132,8 +134,8 @@ border-most zones i raw few e =
         let h = hubs-small zones (atℤ raw 3) (atℤ raw 4) few (border-in zones raw e .hubs) in
         omega (arith, ends-most zones raw few e, hub-fields raw, decimalℤ-long 1 (atℤ raw 3) (h .0), decimalℤ-long 1 (atℤ raw 4) (h .1))
 
--- ---- all lines: none is longer than a C line of the most zones, which has its letter, an index of 3 digits, values of 62 bytes and factors of 8,
--- the tabs before them among these, and its LF
+-- ---- all lines: none is longer than a C line of the most zones, which has its letter, an index of 3 digits, values of 62 bytes and factors of 8 bytes each,
+-- tabs included, and its LF
 abbrev tableLineMost : ℕ
 tableLineMost = 1 + 4 + 62 + zonesMost * 8 + 1
 
@@ -188,3 +190,7 @@ module _ (t : Table) (g : Good t) where
         within .borders-most,
         within .rows-most,
       ))
+
+-- refusal 1 is never given of a good table that was written
+pub never-too-long : (t : Table) → Good t → length (tableText t) ≤ bytesMost
+never-too-long t g = le-trans (text-most t g) (lit≤ {m = tableMost} {n = bytesMost} tt)

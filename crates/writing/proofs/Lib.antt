@@ -1,9 +1,4 @@
-pub mod BlockTrip
-pub mod TableTrip
 pub mod LengthLaws
 pub mod LeftLaws
-pub mod RoundTrip
 pub mod TextLaws
-pub mod Unique
 pub mod RewriteLaws
-pub mod Corrected

@@ -3,24 +3,24 @@ use mathlib.Core.Path.{_≡_, sym, ap, _∙_}
 use mathlib.Core.List.{List}
 use Prim.Native.Nat.{ℕ}
 use lib.IntN.{ℤ}
-use Rattle.kinds.specs.declared.Header.{Header}
-use Rattle.kinds.specs.declared.Read.{Read}
-use Rattle.kinds.specs.declared.Read.the-variants as read
-use Rattle.kinds.specs.declared.Refusal.{Refusal}
-use Rattle.kinds.specs.Refusals.{Judged, passed, refused}
-use Rattle.kinds.proofs.RefusalLaws.{then-next, then-refused}
+use Rattle.refusals.specs.declared.Refusal.{Refusal}
+use Rattle.refusals.specs.Refusals.{Judged, passed, refused}
+use Rattle.refusals.proofs.RefusalLaws.{then-next, then-refused}
+use Rattle.types.specs.declared.Header.{Header}
 use Rattle.text.specs.Left.{TextLeft, textLeft}
 use Rattle.text.proofs.LeftLaws.{text-refused}
 use Rattle.table.specs.Table.{Table, lent, front}
 use Rattle.table.specs.Good.{Good}
+use Rattle.reading.specs.declared.TableRead.{TableRead}
+use Rattle.reading.specs.declared.TableRead.the-variants as read
 use Rattle.reading.specs.Reading.{readCorrected, readInto}
 use Rattle.reading.proofs.CorrectedLaws.{corrected-good}
 use Rattle.writing.specs.Writing.{tableText, rewriteCorrectedLeft}
 
-module _ (text sheet : List ℕ) (r : Read) (z a : List ℤ) (b c : List (List ℤ)) (f : List ℤ) (said : readInto r z a b c f ≡ readCorrected text sheet) where
+module _ (text sheet : List ℕ) (r : TableRead) (z a : List ℤ) (b c : List (List ℤ)) (f : List ℤ) (said : readInto r z a b c f ≡ readCorrected text sheet) where
   module _ (h : Header) (is : r ≡ read.Table h) where
     was-read : readCorrected text sheet ≡ passed (front (lent h z a b c f))
-    was-read = sym said ∙ ap (λ (x : Read). readInto x z a b c f) is
+    was-read = sym said ∙ ap (λ (x : TableRead). readInto x z a b c f) is
 
     pub rewrite-good : Good (front (lent h z a b c f))
     rewrite-good = corrected-good text sheet _ was-read
@@ -31,4 +31,4 @@ module _ (text sheet : List ℕ) (r : Read) (z a : List ℤ) (b c : List (List �
 
   pub rewrite-refused : (out : List ℕ) (w : Refusal) → r ≡ read.Refused w → _≡_ {A = TextLeft} (record { answer = refused w; out = out }) (rewriteCorrectedLeft text sheet out)
   unfolding rewriteCorrectedLeft
-  rewrite-refused out w is = text-refused out (then-refused _ (sym said ∙ ap (λ (x : Read). readInto x z a b c f) is))
+  rewrite-refused out w is = text-refused out (then-refused _ (sym said ∙ ap (λ (x : TableRead). readInto x z a b c f) is))

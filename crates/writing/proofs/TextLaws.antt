@@ -7,9 +7,9 @@ use native.Mathlib.Omega.{arith}
 use lib.IntN.{ℤ}
 use lib.ListN.{length, length-append}
 use Rattle.numbers.proofs.BelowLaws.{sum-cong}
-use Rattle.kinds.specs.Limits.{bytesMost}
-use Rattle.kinds.specs.LineColumns.{zoneColumns}
-use Rattle.kinds.specs.Ranges.{atℤ}
+use Rattle.limits.specs.Limits.{bytesMost}
+use Rattle.types.specs.LineColumns.{zoneColumns}
+use Rattle.types.specs.Ranges.{atℤ}
 use Rattle.text.specs.Fields.{tab}
 use Rattle.text.specs.Put.{Put}
 use Rattle.text.proofs.PutLaws.{put-more, put-room, lines-length}
@@ -20,7 +20,7 @@ use Rattle.table.specs.Good.{Good}
 use Rattle.table.proofs.JudgeLaws.{exact-factors}
 use Rattle.layout.specs.Layout.{headerText}
 use Rattle.writing.specs.Writing.{tableText, positionTextAt, positionsText, zonesText, allocatedsText, bordersText, rowsText}
-use Rattle.writing.proofs.RoundTrip.{never-too-long}
+use Rattle.writing.proofs.LengthLaws.{never-too-long}
 
 -- ---- the parts of the text
 module _ (t : Table) (g : Good t) where
@@ -74,7 +74,7 @@ module _ (t : Table) (g : Good t) where
   pub factors-all : length (t .factors) ≡ length (t .rows) * t .header .zones
   factors-all = exact-factors t (g .exact)
 
-  -- each part is counted without a carry
+  -- adding the lengths of the parts does not overflow
   pub text-within : length h + length z + length a + length b + length c ≤ bytesMost
   text-within = omega (arith, text-length, never-too-long t g)
 

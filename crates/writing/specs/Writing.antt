@@ -4,8 +4,8 @@ use Prim.Native.Char.{code}
 use Prim.Native.Nat.{ℕ}
 use lib.IntN.{ℤ}
 use lib.ListN.{length, getD}
-use Rattle.kinds.specs.Ranges.{atℤ, allocatedItems}
-use Rattle.kinds.specs.Refusals.{passed, then}
+use Rattle.refusals.specs.Refusals.{passed, then}
+use Rattle.types.specs.Ranges.{atℤ, allocatedItems}
 use Rattle.text.specs.Left.{TextLeft, textLeft}
 use Rattle.text.specs.Written.{linesText}
 use Rattle.table.specs.Table.{Table, factorsAt, judgeLent}
@@ -29,7 +29,7 @@ writeLeft lent out = textLeft (then (judgeLent lent) (λ t. passed (tableText t)
 unfoldable pub rewriteCorrectedLeft : (text sheet out : List ℕ) → TextLeft
 rewriteCorrectedLeft text sheet out = textLeft (then (readCorrected text sheet) (λ t. passed (tableText t))) out
 
--- the lines of each kind, by the lent records
+-- one line of each kind, by the lent records
 abbrev pub positionTextAt : (letter : ℕ) → (nets : List ℤ) → (i : ℕ) → List ℕ
 positionTextAt letter nets i = positionText letter i (atℤ nets i)
 
@@ -39,7 +39,7 @@ borderTextAt borders i = borderText i (getD borders i [])
 abbrev pub rowTextAt : (zones : ℕ) → (rows : List (List ℤ)) → (factors : List ℤ) → (i : ℕ) → List ℕ
 rowTextAt = rowTextIn rowKind.Table
 
--- .. and all of them
+-- all lines of each kind
 abbrev pub positionsText : (letter : ℕ) → List ℤ → List ℕ
 positionsText letter nets = linesText (length nets) 0 (positionTextAt letter nets)
 

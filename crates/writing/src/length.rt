@@ -2,14 +2,14 @@
 ghost use mathlib.Core.Path.{_≡_};
 ghost use Prim.Native.Nat.{_≤_};
 ghost use lib.ListN.{length};
-ghost use Rattle.kinds.specs.Limits.{bytesMost};
+ghost use Rattle.limits.specs.Limits.{bytesMost};
 ghost use Rattle.table.specs.Table.{lent};
 ghost use Rattle.table.specs.Good.{Good};
 ghost use Rattle.writing.specs.Writing.{tableText, zonesText, bordersText};
-use kinds::BorderRecord;
-use kinds::Header;
-use kinds::RowRecord;
 use lines::row::RowKind;
+use types::BorderRecord;
+use types::Header;
+use types::RowRecord;
 
 // The Z lines; T lines of the same positions are as long.
 fn zones_length(z: &[i64]) -> usize

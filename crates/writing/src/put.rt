@@ -5,10 +5,10 @@ ghost use Rattle.text.specs.Put.{Put};
 ghost use Rattle.table.specs.Table.{lent};
 ghost use Rattle.table.specs.Good.{Good};
 ghost use Rattle.writing.specs.Writing.{tableText, positionsText, bordersText};
-use kinds::BorderRecord;
-use kinds::Header;
-use kinds::RowRecord;
 use lines::row::RowKind;
+use types::BorderRecord;
+use types::Header;
+use types::RowRecord;
 
 // The Z lines, or the T lines, by their letter.
 fn put_zones(letter: u8, z: &[i64], out: &mut [u8], at: usize) -> usize

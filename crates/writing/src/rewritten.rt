@@ -1,16 +1,16 @@
-// Reading with a correction sheet into tables that take the largest, and writing what was read.
+// Reads a text with a correction sheet into tables with room for the largest, and writes what was read.
 ghost use mathlib.Core.Path.{_≡_};
 ghost use Prim.Native.Nat.{_*_, _≤_};
 ghost use lib.ListN.{length};
-ghost use Rattle.kinds.specs.Limits.{zonesMost, bordersMost, rowsMost};
+ghost use Rattle.limits.specs.Limits.{zonesMost, bordersMost, rowsMost};
 ghost use Rattle.text.specs.Left.{textSaid};
 ghost use Rattle.writing.specs.Writing.{rewriteCorrectedLeft};
-use kinds::BorderRecord;
-use kinds::Read;
-use kinds::RowRecord;
-use kinds::Written;
+use reading::TableRead;
+use refusals::Written;
+use types::BorderRecord;
+use types::RowRecord;
 
-// The tables are made in `rewrite_corrected`, and not here, where goals would spell them out.
+// The tables are allocated in `rewrite_corrected` so that the proof goals here do not contain them.
 pub fn rewrite_in<'a>(
     text: &'a [u8],
     sheet: &'a [u8],
@@ -25,7 +25,7 @@ pub fn rewrite_in<'a>(
     ensures { λ r. ⌜ textSaid r (now (out .exit)) ≡ rewriteCorrectedLeft (now (text .entry)) (now (sheet .entry)) (now (out .entry)) ⌝ }
 {
     match reading::read_into(text, sheet, z, t, b, c, f) {
-        Read::Table(h) => crate::write_good(h, z, t, b, c, f, out),
-        Read::Refused(w) => Written::Refused(w),
+        TableRead::Table(h) => crate::write_good(h, z, t, b, c, f, out),
+        TableRead::Refused(w) => Written::Refused(w),
     }
 }

@@ -12,5 +12,4 @@ unfolding answerLeft answerText answerForLeft answerFor outcomeFor
 returns c = c .before .before .answer-with .ensures ∙ empty-answer-left _ _ _ _
 
 pub answer-spec : {M : Type 1} → statement M
-answer-spec =
-    tie.close (tie.spec (λ c. search needs) (λ c. search needs) (λ c κs. search needs) (λ c. search needs) returns)
+answer-spec = tie.close (tie.spec (λ c. search needs) (λ c. search needs) (λ c κs. search needs) (λ c. search needs) returns)

@@ -10,5 +10,4 @@ unfolding answerCorrectedLeft answerWithLeft answerWith outcomeFor
 returns c = c .before .before .answer-with .ensures
 
 pub answer-corrected-spec : {M : Type 1} → statement M
-answer-corrected-spec =
-    tie.close (tie.spec (λ c. search needs) (λ c κs. search needs) (λ c. search needs) returns)
+answer-corrected-spec = tie.close (tie.spec (λ c. search needs) (λ c κs. search needs) (λ c. search needs) returns)

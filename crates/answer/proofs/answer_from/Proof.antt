@@ -1,14 +1,13 @@
 -- `answer::answer_from` meets its contract: `extract_good` answers with the outcome, since there is room for every result (`outcome-told`, `outcome-refused`).
 use mathlib.Core.Path.{sym, _∙_}
-use mathlib.Core.Bool.{true≢false}
 use native.Mathlib.Nat.{le-trans, mul-le-mul}
 use native.Mathlib.Omega.{arith}
 use lib.Seq.{length-take-le}
 use borrow.Author.Needs.{needs}
-use Rattle.kinds.proofs.KindLaws.{HeaderIn, header-in}
+use Rattle.types.proofs.RangeLaws.{HeaderIn, header-in}
 use Rattle.table.specs.Table.{Table, lent, front}
 use Rattle.extraction.specs.Extraction.{outcomeFor}
-use Rattle.answer.proofs.OutcomeLaws.{outcome-refused, outcome-told, line-written, refusal-told}
+use Rattle.answer.proofs.OutcomeLaws.{outcome-refused, outcome-told, line-written, refusal-told, no-text}
 use Rattle.answer.proofs.answer_from.Statement.{statement}
 use Rattle.answer.proofs.answer_from.Tie as tie
 
@@ -20,11 +19,6 @@ within s = header-in _ (s .pre .0 .exact .header)
 
 abbrev entry : tie.After-extract-good → tie.Start
 entry c = c .before .before .before .before .before .before .before
-
-extract-good-requires : tie.Need-extract-good-requires
-extract-good-requires c κs =
-    let s = c .before .before .before .before .before .before in
-    (s .pre .0, le-trans (mul-le-mul (within s .rows-most) (within s .borders-most)) (s .pre .1 .0))
 
 slice-reshare-prefix-write-records : tie.Need-slice-reshare-prefix-write-records
 slice-reshare-prefix-write-records c =
@@ -53,7 +47,7 @@ returns c =
     let s = entry called in
     let a = s .args in
     let text = c .before .before .write-records .ensures in
-    (text .0 ∙ outcome-told (a .all) (a .marks .now) (given s) (s .pre .0) (a .p .now) (a .atc .now) (a .left .now) (s .pre .1 .1) (s .pre .1 .2) _ (called .extract-good .ensures) (a .line) (a .out .now) _ (c .before .before .before .before .before .before .before .rounds .given .1), λ k. text .1)
+    (text .0 ∙ outcome-told (a .all) (a .marks .now) (given s) (s .pre .0) (a .p .now) (a .atc .now) (a .left .now) (s .pre .1 .1) (s .pre .1 .2) _ (called .extract-good .ensures) (a .line) (a .out .now) _ (c .before .before .before .before .before .before .before .rounds .given .1), λ said e. text .1)
 
 returns-2 : tie.Need-returns-2
 returns-2 c =
@@ -64,43 +58,22 @@ returns-2 c =
       answered .0
           ∙ line-written (a .line) (outcomeFor (a .all) (a .marks .now) (given s)) (a .out .now) _
           (outcome-refused (a .all) (a .marks .now) (given s) (s .pre .0) (a .p .now) (a .atc .now) (a .left .now) (s .pre .1 .1) (s .pre .1 .2) _ (called .extract-good .ensures) _ (c .before .before .before .before .before .before .w .given .1)) (c .before .before .before .before .if1 .taken),
-      λ k. omega (arith, answered .1),
+      λ said e. omega (arith, answered .1),
     )
 
 returns-3 : tie.Need-returns-3
 returns-3 c =
     let called = c .before .before .before .before .before .before .before .before in
     let s = entry called in
-    let a = s .args in (
-      refusal-told (a .line) (outcomeFor (a .all) (a .marks .now) (given s)) (a .out .now) _
-          (outcome-refused (a .all) (a .marks .now) (given s) (s .pre .0) (a .p .now) (a .atc .now) (a .left .now) (s .pre .1 .1) (s .pre .1 .2) _ (called .extract-good .ensures) _ (c .before .before .w .given .1)) (c .if1 .left),
-      λ k. absurd (true≢false (sym k ∙ c .if1 .left)),
-    )
+    let a = s .args in
+    let o = outcomeFor (a .all) (a .marks .now) (given s) in
+    let is = outcome-refused (a .all) (a .marks .now) (given s) (s .pre .0) (a .p .now) (a .atc .now) (a .left .now) (s .pre .1 .1) (s .pre .1 .2) _ (called .extract-good .ensures) _ (c .before .before .w .given .1) in
+    (refusal-told (a .line) o (a .out .now) _ is (c .if1 .left), λ said e. absurd (no-text (a .line) o (a .out .now) _ is (c .if1 .left) said e))
 
 pub answer-from-spec : {M : Type 1} → statement M
-answer-from-spec =
-    tie.close
-    (tie.spec
-    extract-good-requires
-    (λ c. search needs)
-    slice-reshare-prefix-write-records
-    slice-aggregate-write-records
-    slice-reshare-prefix-write-records-2
-    slice-aggregate-write-records-2
-    write-records-requires
-    (λ c. search needs)
-    (λ c κs. search needs)
-    (λ c. search needs)
-    (λ c. search needs)
-    (λ c. search needs)
-    (λ c. search needs)
-    returns
-    (λ c. search needs)
-    (λ c. search needs)
-    (λ c. search needs)
-    (λ c. search needs)
-    returns-2
-    (λ c. search needs)
-    (λ c. search needs)
-    (λ c. search needs)
+answer-from-spec = tie.close (tie.spec
+    (λ c κs. let s = c .before .before .before .before .before .before in (s .pre .0, le-trans (mul-le-mul (within s .rows-most) (within s .borders-most)) (s .pre .1 .0)))
+    (λ c. search needs) slice-reshare-prefix-write-records slice-aggregate-write-records slice-reshare-prefix-write-records-2 slice-aggregate-write-records-2
+    write-records-requires (λ c. search needs) (λ c κs. search needs) (λ c. search needs) (λ c. search needs) (λ c. search needs) (λ c. search needs) returns
+    (λ c. search needs) (λ c. search needs) (λ c. search needs) (λ c. search needs) returns-2 (λ c. search needs) (λ c. search needs) (λ c. search needs)
     returns-3)

@@ -11,5 +11,4 @@ unfolding answerMarkedLeft
 returns c = c .before .before .answer-with .ensures ∙ empty-answer-left _ _ _ _
 
 pub answer-marked-spec : {M : Type 1} → statement M
-answer-marked-spec =
-    tie.close (tie.spec (λ c. search needs) (λ c κs. search needs) (λ c. search needs) returns)
+answer-marked-spec = tie.close (tie.spec (λ c. search needs) (λ c κs. search needs) (λ c. search needs) returns)

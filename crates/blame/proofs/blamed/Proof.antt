@@ -1,7 +1,7 @@
 -- `blame::blamed` meets its contract.
 use mathlib.Core.Path.{sym, ap, _∙_}
 use borrow.Author.Needs.{needs}
-use Rattle.kinds.specs.LineColumns.{columnOf}
+use Rattle.types.specs.LineColumns.{columnOf}
 use Rattle.blame.specs.Blame.{blamed}
 use Rattle.blame.proofs.blamed.Statement.{statement}
 use Rattle.blame.proofs.blamed.Tie as tie

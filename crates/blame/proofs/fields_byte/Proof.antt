@@ -4,7 +4,7 @@ use mathlib.Core.Path.{sym, ap, _∙_}
 use Prim.Native.Nat.{_-_}
 use borrow.Author.Needs.{needs}
 use lib.ListN.{getD}
-use Rattle.kinds.specs.LineColumns.{columnOf}
+use Rattle.types.specs.LineColumns.{columnOf}
 use Rattle.columns.specs.Columns.{fieldAt}
 use Rattle.blame.specs.Blame.{blamed}
 use Rattle.blame.proofs.BlameLaws.{Blaming, blaming-none, blaming-more, blaming-here, blaming-all}
@@ -16,9 +16,6 @@ Inv-loop sep columns line at n p₀ k₀ p k = Blaming sep columns line at p k
 
 abbrev μ-loop : tie.MeasureT-loop
 μ-loop sep columns line at n p₀ k₀ p k = n - k
-
-loop-holds : tie.Need-loop-holds Inv-loop μ-loop
-loop-holds c = blaming-none _ _ _ _
 
 returns : tie.Need-returns Inv-loop μ-loop
 returns c =
@@ -43,26 +40,7 @@ loop-again c =
     blaming-more _ _ _ _ _ _ (l .inv) (at-test .loop-test .taken) _ _
     (ap (fieldAt _ (a .line .now) (l .p)) (sym (at-stop .stop-of .ensures)) ∙ sym (at-field .field-at .ensures) ∙ c .before .found .given .1)
 
-returns-2 : tie.Need-returns-2 Inv-loop μ-loop
-returns-2 c = blaming-all _ _ _ _ _ _ (c .before .loop .inv) (c .loop-test .left)
-
 pub fields-byte-spec : {M : Type 1} → statement M
-fields-byte-spec =
-    tie.close
-    (tie.spec
-    Inv-loop
-    μ-loop
-    loop-holds
-    (λ c. search needs)
-    (λ c. search needs)
-    (λ c κs. search needs)
-    (λ c κs. search needs)
-    (λ c. search needs)
-    (λ c. search needs)
-    (λ c. search needs)
-    (λ c κs. search needs)
-    returns
-    (λ c. search needs)
-    (λ c. search needs)
-    loop-again
-    returns-2)
+fields-byte-spec = tie.close (tie.spec Inv-loop μ-loop (λ c. blaming-none _ _ _ _) (λ c. search needs) (λ c. search needs) (λ c κs. search needs)
+    (λ c κs. search needs) (λ c. search needs) (λ c. search needs) (λ c. search needs) (λ c κs. search needs) returns (λ c. search needs) (λ c. search needs)
+    loop-again (λ c. blaming-all _ _ _ _ _ _ (c .before .loop .inv) (c .loop-test .left)))

@@ -12,12 +12,6 @@ returns c =
     let at-number = at-index .before .before in
     c .fields-byte .ensures ∙ index-fields _ _ _ _ _ _ _ (sym (at-number .number-at .ensures) ∙ at-index .index .given .1) (c .before .if1 .taken)
 
-returns-2 : tie.Need-returns-2
-returns-2 c =
-    let at-index = c .before .before in
-    let at-number = at-index .before .before in
-    index-other _ _ _ _ _ _ _ (sym (at-number .number-at .ensures) ∙ at-index .index .given .1) (c .if1 .left)
-
 returns-3 : tie.Need-returns-3
 returns-3 c =
     let at-place = c .before .before in
@@ -25,15 +19,7 @@ returns-3 c =
     c .ended-byte .ensures ∙ index-ended _ _ _ _ _ _ (sym (at-number .number-at .ensures) ∙ at-place .place .given .1)
 
 pub index-byte-spec : {M : Type 1} → statement M
-index-byte-spec =
-    tie.close
-    (tie.spec
-    (λ c κs. search needs)
-    (λ c. search needs)
-    (λ c κs. search needs)
-    returns
-    (λ c. omega (arith, c .before .before .before .before .before .before .before .pre))
-    (λ c. search needs)
-    (λ c κs. search needs)
-    returns-2
+index-byte-spec = tie.close (tie.spec (λ c κs. search needs) (λ c. search needs) (λ c κs. search needs) returns
+    (λ c. omega (arith, c .before .before .before .before .before .before .before .pre)) (λ c. search needs) (λ c κs. search needs)
+    (λ c. let at-index = c .before .before in let at-number = at-index .before .before in index-other _ _ _ _ _ _ _ (sym (at-number .number-at .ensures) ∙ at-index .index .given .1) (c .if1 .left))
     returns-3)

@@ -4,13 +4,13 @@ use native.Mathlib.Omega.{arith}
 use borrow.Author.Needs.{needs}
 use lib.ListN.{length}
 use Rattle.numbers.proofs.BelowLaws.{table-long}
-use Rattle.kinds.specs.Refusals.{passed}
-use Rattle.kinds.proofs.KindLaws.{header-in}
+use Rattle.refusals.specs.Refusals.{passed}
+use Rattle.types.proofs.RangeLaws.{header-in}
 use Rattle.marks.specs.Marks.{flagged}
 use Rattle.table.specs.Table.{Table, lent, front}
 use Rattle.table.proofs.RoomLaws.{factors-most}
 use Rattle.margin.proofs.JudgedLaws.{good-factors, good-borders}
-use Rattle.states.proofs.RowsLaws.{rows-in}
+use Rattle.states.proofs.StandingsLaws.{rows-in}
 use Rattle.start.proofs.StartLaws.{PreparedAs, prepared-as, laid-grid, laid-margins, grid-long}
 use Rattle.bound.proofs.BoundLaws.{start-refused, start-passed, laid-bound, start-long, start-small}
 use Rattle.bound.proofs.bound_in.Statement.{statement}
@@ -26,23 +26,12 @@ entry c = c .before .before .before .before .before .before .before .before .bef
 as-said : (c : tie.After-prepare) → let l = c .prepare .last .1 .1 .1 .1 .1 .1 .1 in PreparedAs (flagged (entry c .args .flags .now)) (whole (entry c)) (c .prepare .result) (l .0) (l .1 .0) (l .1 .1 .0)
 as-said c = prepared-as (c .prepare .result) (c .prepare .ensures)
 
--- .. from where it passed, and from where p and margins are laid out
+-- places in the code: where preparing is done and where it passed, each seen from a later place
 abbrev prepared-at : tie.After-enum-told → tie.After-prepare
 prepared-at c = c .before .before .before .before .before .before
 
 abbrev passed-at : tie.After-lay-out → tie.After-enum-told
 passed-at c = c .before .before .before .before .before .before .before .before
-
-prepare-requires : tie.Need-prepare-requires
-prepare-requires c κs =
-    let q = c .before .before .before .before .before .before .before .before .pre in
-    (q .0, (q .1 .0, (q .1 .1 .0, q .1 .1 .1 .0 .0)))
-
-returns : tie.Need-returns
-returns c = start-refused (as-said (c .before .before .before .before .before .before .before)) _ (c .before .w .given .1)
-
-mul-factors : tie.Need-mul-factors
-mul-factors c = omega (arith, factors-most _ (entry (prepared-at (c .before .before)) .pre .0 .exact .header))
 
 lay-out-requires : tie.Need-lay-out-requires
 lay-out-requires c κs =
@@ -85,25 +74,10 @@ returns-2 c =
     ∙ start-passed said (told .enum-told .given .1)
 
 pub bound-in-spec : {M : Type 1} → statement M
-bound-in-spec =
-    tie.close
-    (tie.spec
-    prepare-requires
-    (λ c. search needs)
-    (λ c. search needs)
-    (λ c. search needs)
-    (λ c. search needs)
-    returns
-    (λ c. search needs)
-    (λ c. search needs)
-    mul-factors
-    (λ c. search needs)
-    lay-out-requires
-    measure-requires
-    (λ c. search needs)
-    (λ c. search needs)
-    (λ c. search needs)
-    (λ c. search needs)
-    (λ c. search needs)
-    (λ c. search needs)
+bound-in-spec = tie.close (tie.spec
+    (λ c κs. let q = c .before .before .before .before .before .before .before .before .pre in (q .0, (q .1 .0, (q .1 .1 .0, q .1 .1 .1 .0 .0))))
+    (λ c. search needs) (λ c. search needs) (λ c. search needs) (λ c. search needs)
+    (λ c. start-refused (as-said (c .before .before .before .before .before .before .before)) _ (c .before .w .given .1)) (λ c. search needs)
+    (λ c. search needs) (λ c. omega (arith, factors-most _ (entry (prepared-at (c .before .before)) .pre .0 .exact .header))) (λ c. search needs)
+    lay-out-requires measure-requires (λ c. search needs) (λ c. search needs) (λ c. search needs) (λ c. search needs) (λ c. search needs) (λ c. search needs)
     returns-2)

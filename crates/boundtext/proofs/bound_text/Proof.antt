@@ -7,9 +7,6 @@ use Rattle.boundtext.proofs.BoundTextLaws.{text-judged-not, text-judged
 use Rattle.boundtext.proofs.bound_text.Statement.{statement}
 use Rattle.boundtext.proofs.bound_text.Tie as tie
 
-returns : tie.Need-returns
-returns c = text-judged-not _ _ _ _ (c .before .before .before .judge .ensures .0) _ _ (c .before .w .given .1)
-
 bound-text-good-requires : tie.Need-bound-text-good-requires
 bound-text-good-requires c κs =
     let told = c .before in
@@ -24,13 +21,6 @@ returns-2 c =
     ∙ text-judged (a .all) (a .marks .now) (lent (a .h) (a .z .now) (a .t .now) (a .b .now) (a .c .now) (a .f .now)) _ (told .before .before .judge .ensures .0) _ (told .enum-told .given .1)
 
 pub bound-text-spec : {M : Type 1} → statement M
-bound-text-spec =
-    tie.close
-    (tie.spec
-    (λ c κs. search needs)
-    (λ c. search needs)
-    returns
-    (λ c. search needs)
-    bound-text-good-requires
-    (λ c. search needs)
-    returns-2)
+bound-text-spec = tie.close (tie.spec (λ c κs. search needs) (λ c. search needs)
+    (λ c. text-judged-not _ _ _ _ (c .before .before .before .judge .ensures .0) _ _ (c .before .w .given .1)) (λ c. search needs) bound-text-good-requires
+    (λ c. search needs) returns-2)

@@ -5,20 +5,7 @@ use Rattle.boundtext.proofs.BoundTextLaws.{told-refused, told-rounds}
 use Rattle.boundtext.proofs.bound_text_good.Statement.{statement}
 use Rattle.boundtext.proofs.bound_text_good.Tie as tie
 
-returns : tie.Need-returns
-returns c = told-refused _ _ _ (c .before .before .before .bound-good .ensures) _ (c .before .bounded .given .1)
-
-returns-2 : tie.Need-returns-2
-returns-2 c = c .before .before .write-bound .ensures ∙ told-rounds _ _ _ (c .before .before .before .before .before .before .before .bound-good .ensures) _ (c .before .before .before .before .before .bounded2 .given .1)
-
 pub bound-text-good-spec : {M : Type 1} → statement M
-bound-text-good-spec =
-    tie.close
-    (tie.spec
-    (λ c κs. search needs)
-    (λ c. search needs)
-    (λ c. search needs)
-    (λ c κs. search needs)
-    returns
-    (λ c. search needs)
-    returns-2)
+bound-text-good-spec = tie.close (tie.spec (λ c κs. search needs) (λ c. search needs) (λ c. search needs) (λ c κs. search needs)
+    (λ c. told-refused _ _ _ (c .before .before .before .bound-good .ensures) _ (c .before .bounded .given .1)) (λ c. search needs)
+    (λ c. c .before .before .write-bound .ensures ∙ told-rounds _ _ _ (c .before .before .before .before .before .before .before .bound-good .ensures) _ (c .before .before .before .before .before .bounded2 .given .1)))

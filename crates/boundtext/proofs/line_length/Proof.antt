@@ -35,15 +35,7 @@ returns c =
     )
 
 pub line-length-spec : {M : Type 1} → statement M
-line-length-spec =
-    tie.close
-    (tie.spec
-    (λ c κs. search needs)
-    (λ c κs. search needs)
-    (λ c κs. search needs)
-    (λ c. omega (arith, n-short (c .before .before)))
+line-length-spec = tie.close (tie.spec (λ c κs. search needs) (λ c κs. search needs) (λ c κs. search needs) (λ c. omega (arith, n-short (c .before .before)))
     (λ c. omega (arith, n-short (c .before .before), l-short (c .before)))
-    (λ c. omega (arith, n-short (c .before .before), l-short (c .before), rounds-short (c)))
-    (λ c κs. search needs)
-    (λ c. omega (arith, n-short (c .before .before .before), l-short (c .before .before), rounds-short (c .before), sharp-short (c)))
-    returns)
+    (λ c. omega (arith, n-short (c .before .before), l-short (c .before), rounds-short (c))) (λ c κs. search needs)
+    (λ c. omega (arith, n-short (c .before .before .before), l-short (c .before .before), rounds-short (c .before), sharp-short (c))) returns)

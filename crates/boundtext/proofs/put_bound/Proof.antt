@@ -69,24 +69,8 @@ put-number-field-requires-4 c κs =
     let s = c .before .before .before .before .before .before .before .before .before .before .before .before .before .before .before .before .before .before in
     room-more (rounds-put (c .before .before .before)) (decimal (s .args .sharp)) [] (omega (arith, s .pre))
 
-put-byte-requires-2 : tie.Need-put-byte-requires-2
-put-byte-requires-2 c κs = room-last (sharp-put (c .before .before .before)) (omega (arith, c .before .before .before .before .before .before .before .before .before .before .before .before .before .before .before .before .before .before .before .before .before .before .pre))
-
-same-length : tie.Need-same-length
-same-length c = search needs
-
-returns : tie.Need-returns
-returns c = line-all (omega arith) (sharp-put (c .before .before .before .before .before .before)) (c .before .before .put-byte2 .ensures)
-
 pub put-bound-spec : {M : Type 1} → statement M
-put-bound-spec =
-    tie.close
-    (tie.spec
-    put-byte-requires
-    put-number-field-requires
-    put-number-field-requires-2
-    put-number-field-requires-3
+put-bound-spec = tie.close (tie.spec put-byte-requires put-number-field-requires put-number-field-requires-2 put-number-field-requires-3
     put-number-field-requires-4
-    put-byte-requires-2
-    same-length
-    returns)
+    (λ c κs. room-last (sharp-put (c .before .before .before)) (omega (arith, c .before .before .before .before .before .before .before .before .before .before .before .before .before .before .before .before .before .before .before .before .before .before .pre)))
+    (λ c. search needs) (λ c. line-all (omega arith) (sharp-put (c .before .before .before .before .before .before)) (c .before .before .put-byte2 .ensures)))

@@ -7,11 +7,7 @@ use Rattle.cabi.specs.Coded.{codedBounded}
 use Rattle.cabi.proofs.code_bounded.Statement.{statement}
 use Rattle.cabi.proofs.code_bounded.Tie as tie
 
-returns : tie.Need-returns
-returns c = sym (ap (λ (r : Bounded). codedBounded (saidBounded r)) (c .before .said .given .1))
-
-returns-2 : tie.Need-returns-2
-returns-2 c = sym (ap (λ (r : Bounded). codedBounded (saidBounded r)) (c .before .said2 .given .1))
-
 pub code-bounded-spec : {M : Type 1} → statement M
-code-bounded-spec = tie.close (tie.spec (λ c. search needs) (λ c. search needs) returns returns-2)
+code-bounded-spec = tie.close (tie.spec (λ c. search needs) (λ c. search needs)
+    (λ c. sym (ap (λ (r : Bounded). codedBounded (saidBounded r)) (c .before .said .given .1)))
+    (λ c. sym (ap (λ (r : Bounded). codedBounded (saidBounded r)) (c .before .said2 .given .1))))

@@ -1,17 +1,13 @@
 -- `cabi::code_flows` meets its contract.
 use mathlib.Core.Path.{sym, ap}
 use borrow.Author.Needs.{needs}
-use Rattle.kinds.specs.declared.Flows.{Flows}
-use Rattle.kinds.specs.Answers.{saidFlows}
+use Rattle.corners.specs.declared.Flows.{Flows}
+use Rattle.corners.specs.Answers.{saidFlows}
 use Rattle.cabi.specs.Coded.{codedFlows}
 use Rattle.cabi.proofs.code_flows.Statement.{statement}
 use Rattle.cabi.proofs.code_flows.Tie as tie
 
-returns : tie.Need-returns
-returns c = sym (ap (λ (r : Flows). codedFlows (saidFlows r)) (c .before .said .given .1))
-
-returns-2 : tie.Need-returns-2
-returns-2 c = sym (ap (λ (r : Flows). codedFlows (saidFlows r)) (c .before .said2 .given .1))
-
 pub code-flows-spec : {M : Type 1} → statement M
-code-flows-spec = tie.close (tie.spec (λ c. search needs) (λ c. search needs) returns returns-2)
+code-flows-spec = tie.close (tie.spec (λ c. search needs) (λ c. search needs)
+    (λ c. sym (ap (λ (r : Flows). codedFlows (saidFlows r)) (c .before .said .given .1)))
+    (λ c. sym (ap (λ (r : Flows). codedFlows (saidFlows r)) (c .before .said2 .given .1))))

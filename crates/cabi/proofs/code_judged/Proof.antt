@@ -1,16 +1,11 @@
 -- `cabi::code_judged` meets its contract.
 use mathlib.Core.Path.{sym, ap}
 use borrow.Author.Needs.{needs}
-use Rattle.kinds.specs.declared.Judgement.{Judgement}
+use Rattle.refusals.specs.declared.Judgement.{Judgement}
 use Rattle.cabi.specs.Coded.{codedRuling}
 use Rattle.cabi.proofs.code_judged.Statement.{statement}
 use Rattle.cabi.proofs.code_judged.Tie as tie
 
-returns : tie.Need-returns
-returns c = sym (ap (λ (r : Judgement). codedRuling r) (c .enum-told .given .1))
-
-returns-2 : tie.Need-returns-2
-returns-2 c = sym (ap (λ (r : Judgement). codedRuling r) (c .before .said .given .1))
-
 pub code-judged-spec : {M : Type 1} → statement M
-code-judged-spec = tie.close (tie.spec (λ c. search needs) (λ c. search needs) returns returns-2)
+code-judged-spec = tie.close (tie.spec (λ c. search needs) (λ c. search needs) (λ c. sym (ap (λ (r : Judgement). codedRuling r) (c .enum-told .given .1)))
+    (λ c. sym (ap (λ (r : Judgement). codedRuling r) (c .before .said .given .1))))

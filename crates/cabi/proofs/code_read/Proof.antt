@@ -3,9 +3,9 @@ use mathlib.Core.Path.{sym, ap, _∙_}
 use borrow.Author.Needs.{needs}
 use lib.IntN.{ℤ}
 use Rattle.numbers.proofs.IntLaws.{plain}
-use Rattle.kinds.specs.declared.Header.{Header}
-use Rattle.kinds.specs.declared.Read.{Read}
-use Rattle.kinds.specs.Answers.{saidRead}
+use Rattle.types.specs.declared.Header.{Header}
+use Rattle.reading.specs.declared.TableRead.{TableRead}
+use Rattle.reading.specs.Answers.{saidRead}
 use Rattle.cabi.specs.declared.KeravnothRead.{KeravnothRead}
 use Rattle.cabi.specs.Coded.{codedRead}
 use Rattle.cabi.proofs.code_read.Statement.{statement}
@@ -18,10 +18,8 @@ coded h share = record { number = 0; place = 0; byte = 0; zones = h .zones; bord
 returns : tie.Need-returns
 returns c =
     let h = c .before .before .said .given .0 .0 in
-    ap (coded h) (plain (h .share) (c .struct-told .given .1 .1 .1 .0 .1)) ∙ sym (ap (λ (r : Read). codedRead (saidRead r)) (c .before .before .said .given .1))
-
-returns-2 : tie.Need-returns-2
-returns-2 c = sym (ap (λ (r : Read). codedRead (saidRead r)) (c .before .said2 .given .1))
+    ap (coded h) (plain (h .share) (c .struct-told .given .1 .1 .1 .0 .1)) ∙ sym (ap (λ (r : TableRead). codedRead (saidRead r)) (c .before .before .said .given .1))
 
 pub code-read-spec : {M : Type 1} → statement M
-code-read-spec = tie.close (tie.spec (λ c. search needs) (λ c. search needs) returns returns-2)
+code-read-spec = tie.close (tie.spec (λ c. search needs) (λ c. search needs) returns
+    (λ c. sym (ap (λ (r : TableRead). codedRead (saidRead r)) (c .before .said2 .given .1))))

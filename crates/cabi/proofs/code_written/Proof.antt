@@ -1,17 +1,13 @@
 -- `cabi::code_written` meets its contract.
 use mathlib.Core.Path.{sym, ap}
 use borrow.Author.Needs.{needs}
-use Rattle.kinds.specs.declared.Written.{Written}
-use Rattle.kinds.specs.Answers.{saidWritten}
+use Rattle.refusals.specs.declared.Written.{Written}
+use Rattle.refusals.specs.Answers.{saidWritten}
 use Rattle.cabi.specs.Coded.{codedWritten}
 use Rattle.cabi.proofs.code_written.Statement.{statement}
 use Rattle.cabi.proofs.code_written.Tie as tie
 
-returns : tie.Need-returns
-returns c = sym (ap (λ (r : Written). codedWritten (saidWritten r)) (c .before .said .given .1))
-
-returns-2 : tie.Need-returns-2
-returns-2 c = sym (ap (λ (r : Written). codedWritten (saidWritten r)) (c .before .said2 .given .1))
-
 pub code-written-spec : {M : Type 1} → statement M
-code-written-spec = tie.close (tie.spec (λ c. search needs) (λ c. search needs) returns returns-2)
+code-written-spec = tie.close (tie.spec (λ c. search needs) (λ c. search needs)
+    (λ c. sym (ap (λ (r : Written). codedWritten (saidWritten r)) (c .before .said .given .1)))
+    (λ c. sym (ap (λ (r : Written). codedWritten (saidWritten r)) (c .before .said2 .given .1))))

@@ -5,9 +5,6 @@ use Rattle.cabi.specs.Coded.{textCoded}
 use Rattle.cabi.proofs.keravnoth_answer.Statement.{statement}
 use Rattle.cabi.proofs.keravnoth_answer.Tie as tie
 
-returns : tie.Need-returns
-returns c = rw (c .code-written .ensures) (ap textCoded (c .before .before .before .answer .ensures))
-
 pub keravnoth-answer-spec : {M : Type 1} → statement M
-keravnoth-answer-spec =
-    tie.close (tie.spec (λ c κs. search needs) (λ c κs. search needs) (λ c. search needs) returns)
+keravnoth-answer-spec = tie.close (tie.spec (λ c κs. search needs) (λ c κs. search needs) (λ c. search needs)
+    (λ c. rw (c .code-written .ensures) (ap textCoded (c .before .before .before .answer .ensures))))

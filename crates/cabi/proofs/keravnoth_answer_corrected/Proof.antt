@@ -5,9 +5,6 @@ use Rattle.cabi.specs.Coded.{textCoded}
 use Rattle.cabi.proofs.keravnoth_answer_corrected.Statement.{statement}
 use Rattle.cabi.proofs.keravnoth_answer_corrected.Tie as tie
 
-returns : tie.Need-returns
-returns c = rw (c .code-written .ensures) (ap textCoded (c .before .before .before .answer-corrected .ensures))
-
 pub keravnoth-answer-corrected-spec : {M : Type 1} → statement M
-keravnoth-answer-corrected-spec =
-    tie.close (tie.spec (λ c κs. search needs) (λ c κs. search needs) (λ c. search needs) returns)
+keravnoth-answer-corrected-spec = tie.close (tie.spec (λ c κs. search needs) (λ c κs. search needs) (λ c. search needs)
+    (λ c. rw (c .code-written .ensures) (ap textCoded (c .before .before .before .answer-corrected .ensures))))

@@ -5,8 +5,6 @@ use Rattle.cabi.specs.Coded.{codedBounded}
 use Rattle.cabi.proofs.keravnoth_bound_marked.Statement.{statement}
 use Rattle.cabi.proofs.keravnoth_bound_marked.Tie as tie
 
-returns : tie.Need-returns
-returns c = c .code-bounded .ensures ∙ ap codedBounded (c .before .bound-marked .ensures)
-
 pub keravnoth-bound-marked-spec : {M : Type 1} → statement M
-keravnoth-bound-marked-spec = tie.close (tie.spec (λ c κs. search needs) (λ c κs. search needs) returns)
+keravnoth-bound-marked-spec = tie.close (tie.spec (λ c κs. search needs) (λ c κs. search needs)
+    (λ c. c .code-bounded .ensures ∙ ap codedBounded (c .before .bound-marked .ensures)))

@@ -5,10 +5,6 @@ use Rattle.cabi.proofs.JudgedLaws.{judged-coded}
 use Rattle.cabi.proofs.keravnoth_claims.Statement.{statement}
 use Rattle.cabi.proofs.keravnoth_claims.Tie as tie
 
-returns : tie.Need-returns
-returns c =
-    let said = c .before .judge-claims in
-    c .code-judged .ensures ∙ judged-coded (said .result) _ _ (said .ensures)
-
 pub keravnoth-claims-spec : {M : Type 1} → statement M
-keravnoth-claims-spec = tie.close (tie.spec (λ c κs. search needs) (λ c κs. search needs) returns)
+keravnoth-claims-spec = tie.close (tie.spec (λ c κs. search needs) (λ c κs. search needs)
+    (λ c. let said = c .before .judge-claims in c .code-judged .ensures ∙ judged-coded (said .result) _ _ (said .ensures)))

@@ -5,9 +5,6 @@ use Rattle.cabi.specs.Coded.{flowsCoded}
 use Rattle.cabi.proofs.keravnoth_corner_flows.Statement.{statement}
 use Rattle.cabi.proofs.keravnoth_corner_flows.Tie as tie
 
-returns : tie.Need-returns
-returns c = rw (c .code-flows .ensures) (ap flowsCoded (c .before .before .corner-flows .ensures))
-
 pub keravnoth-corner-flows-spec : {M : Type 1} → statement M
-keravnoth-corner-flows-spec =
-    tie.close (tie.spec (λ c κs. search needs) (λ c κs. search needs) (λ c. search needs) returns)
+keravnoth-corner-flows-spec = tie.close (tie.spec (λ c κs. search needs) (λ c κs. search needs) (λ c. search needs)
+    (λ c. rw (c .code-flows .ensures) (ap flowsCoded (c .before .before .corner-flows .ensures))))

@@ -5,9 +5,6 @@ use Rattle.cabi.specs.Coded.{textCoded}
 use Rattle.cabi.proofs.keravnoth_corner_text.Statement.{statement}
 use Rattle.cabi.proofs.keravnoth_corner_text.Tie as tie
 
-returns : tie.Need-returns
-returns c = rw (c .code-written .ensures) (ap textCoded (c .before .before .before .corner-text .ensures))
-
 pub keravnoth-corner-text-spec : {M : Type 1} → statement M
-keravnoth-corner-text-spec =
-    tie.close (tie.spec (λ c κs. search needs) (λ c κs. search needs) (λ c. search needs) returns)
+keravnoth-corner-text-spec = tie.close (tie.spec (λ c κs. search needs) (λ c κs. search needs) (λ c. search needs)
+    (λ c. rw (c .code-written .ensures) (ap textCoded (c .before .before .before .corner-text .ensures))))

@@ -5,9 +5,6 @@ use Rattle.cabi.specs.Coded.{extractCoded}
 use Rattle.cabi.proofs.keravnoth_extract.Statement.{statement}
 use Rattle.cabi.proofs.keravnoth_extract.Tie as tie
 
-returns : tie.Need-returns
-returns c = rw (c .code-extracted .ensures) (ap extractCoded (c .before .before .before .before .before .extract .ensures))
-
 pub keravnoth-extract-spec : {M : Type 1} → statement M
-keravnoth-extract-spec =
-    tie.close (tie.spec (λ c κs. search needs) (λ c κs. search needs) (λ c. search needs) (λ c. search needs) (λ c. search needs) returns)
+keravnoth-extract-spec = tie.close (tie.spec (λ c κs. search needs) (λ c κs. search needs) (λ c. search needs) (λ c. search needs) (λ c. search needs)
+    (λ c. rw (c .code-extracted .ensures) (ap extractCoded (c .before .before .before .before .before .extract .ensures))))

@@ -5,9 +5,6 @@ use Rattle.cabi.specs.Coded.{extractCoded}
 use Rattle.cabi.proofs.keravnoth_extract_marked.Statement.{statement}
 use Rattle.cabi.proofs.keravnoth_extract_marked.Tie as tie
 
-returns : tie.Need-returns
-returns c = rw (c .code-extracted .ensures) (ap extractCoded (c .before .before .before .before .before .extract-marked .ensures))
-
 pub keravnoth-extract-marked-spec : {M : Type 1} → statement M
-keravnoth-extract-marked-spec =
-    tie.close (tie.spec (λ c κs. search needs) (λ c κs. search needs) (λ c. search needs) (λ c. search needs) (λ c. search needs) returns)
+keravnoth-extract-marked-spec = tie.close (tie.spec (λ c κs. search needs) (λ c κs. search needs) (λ c. search needs) (λ c. search needs) (λ c. search needs)
+    (λ c. rw (c .code-extracted .ensures) (ap extractCoded (c .before .before .before .before .before .extract-marked .ensures))))

@@ -5,18 +5,6 @@ use Rattle.cabi.specs.Coded.{readCoded}
 use Rattle.cabi.proofs.keravnoth_read.Statement.{statement}
 use Rattle.cabi.proofs.keravnoth_read.Tie as tie
 
-returns : tie.Need-returns
-returns c = rw (c .code-read .ensures) (ap readCoded (c .before .before .before .before .before .before .read .ensures))
-
 pub keravnoth-read-spec : {M : Type 1} → statement M
-keravnoth-read-spec =
-    tie.close
-    (tie.spec
-    (λ c κs. search needs)
-    (λ c κs. search needs)
-    (λ c. search needs)
-    (λ c. search needs)
-    (λ c. search needs)
-    (λ c. search needs)
-    (λ c. search needs)
-    returns)
+keravnoth-read-spec = tie.close (tie.spec (λ c κs. search needs) (λ c κs. search needs) (λ c. search needs) (λ c. search needs) (λ c. search needs)
+    (λ c. search needs) (λ c. search needs) (λ c. rw (c .code-read .ensures) (ap readCoded (c .before .before .before .before .before .before .read .ensures))))

@@ -5,9 +5,7 @@ use Rattle.cabi.specs.Coded.{readCoded}
 use Rattle.cabi.proofs.keravnoth_read_corrected.Statement.{statement}
 use Rattle.cabi.proofs.keravnoth_read_corrected.Tie as tie
 
-returns : tie.Need-returns
-returns c = rw (c .code-read .ensures) (ap readCoded (c .before .before .before .before .before .before .read-corrected .ensures))
-
 pub keravnoth-read-corrected-spec : {M : Type 1} → statement M
-keravnoth-read-corrected-spec =
-    tie.close (tie.spec (λ c κs. search needs) (λ c κs. search needs) (λ c. search needs) (λ c. search needs) (λ c. search needs) (λ c. search needs) (λ c. search needs) returns)
+keravnoth-read-corrected-spec = tie.close (tie.spec (λ c κs. search needs) (λ c κs. search needs) (λ c. search needs) (λ c. search needs) (λ c. search needs)
+    (λ c. search needs) (λ c. search needs)
+    (λ c. rw (c .code-read .ensures) (ap readCoded (c .before .before .before .before .before .before .read-corrected .ensures))))

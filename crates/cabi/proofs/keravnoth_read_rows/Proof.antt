@@ -4,10 +4,6 @@ use Rattle.cabi.proofs.JudgedLaws.{rows-judged}
 use Rattle.cabi.proofs.keravnoth_read_rows.Statement.{statement}
 use Rattle.cabi.proofs.keravnoth_read_rows.Tie as tie
 
-returns : tie.Need-returns
-returns c =
-    let said = c .before .before .before .read-rows in
-    rw (c .code-judged .ensures) (rows-judged (said .result) _ _ (said .ensures))
-
 pub keravnoth-read-rows-spec : {M : Type 1} → statement M
-keravnoth-read-rows-spec = tie.close (tie.spec (λ c κs. search needs) (λ c κs. search needs) (λ c. search needs) (λ c. search needs) returns)
+keravnoth-read-rows-spec = tie.close (tie.spec (λ c κs. search needs) (λ c κs. search needs) (λ c. search needs) (λ c. search needs)
+    (λ c. let said = c .before .before .before .read-rows in rw (c .code-judged .ensures) (rows-judged (said .result) _ _ (said .ensures))))

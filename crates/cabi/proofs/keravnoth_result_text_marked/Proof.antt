@@ -5,9 +5,6 @@ use Rattle.cabi.specs.Coded.{textCoded}
 use Rattle.cabi.proofs.keravnoth_result_text_marked.Statement.{statement}
 use Rattle.cabi.proofs.keravnoth_result_text_marked.Tie as tie
 
-returns : tie.Need-returns
-returns c = rw (c .code-written .ensures) (ap textCoded (c .before .before .before .result-text-marked .ensures))
-
 pub keravnoth-result-text-marked-spec : {M : Type 1} → statement M
-keravnoth-result-text-marked-spec =
-    tie.close (tie.spec (λ c κs. search needs) (λ c κs. search needs) (λ c. search needs) returns)
+keravnoth-result-text-marked-spec = tie.close (tie.spec (λ c κs. search needs) (λ c κs. search needs) (λ c. search needs)
+    (λ c. rw (c .code-written .ensures) (ap textCoded (c .before .before .before .result-text-marked .ensures))))

@@ -5,8 +5,6 @@ use Rattle.cabi.specs.Coded.{textCoded}
 use Rattle.cabi.proofs.keravnoth_write_rows.Statement.{statement}
 use Rattle.cabi.proofs.keravnoth_write_rows.Tie as tie
 
-returns : tie.Need-returns
-returns c = rw (c .code-written .ensures) (ap textCoded (c .before .before .before .write-rows .ensures))
-
 pub keravnoth-write-rows-spec : {M : Type 1} → statement M
-keravnoth-write-rows-spec = tie.close (tie.spec (λ c κs. search needs) (λ c κs. search needs) (λ c. search needs) returns)
+keravnoth-write-rows-spec = tie.close (tie.spec (λ c κs. search needs) (λ c κs. search needs) (λ c. search needs)
+    (λ c. rw (c .code-written .ensures) (ap textCoded (c .before .before .before .write-rows .ensures))))

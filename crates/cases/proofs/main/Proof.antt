@@ -10,23 +10,5 @@ Inv-loop count setting₀ i₀ setting i = Unit {0}
 abbrev μ-loop : tie.MeasureT-loop
 μ-loop count setting₀ i₀ setting i = count - i
 
-arg-count-requires : tie.Need-arg-count-requires Inv-loop μ-loop
-arg-count-requires c κs = tt
-
-word-at-requires : tie.Need-word-at-requires Inv-loop μ-loop
-word-at-requires c κs = tt
-
-loop-holds : tie.Need-loop-holds Inv-loop μ-loop
-loop-holds c = tt
-
-take-requires : tie.Need-take-requires Inv-loop μ-loop
-take-requires c κs = tt
-
-loop-again : tie.Need-loop-again Inv-loop μ-loop
-loop-again c = tt
-
-returns : tie.Need-returns Inv-loop μ-loop
-returns c = tt
-
 pub main-spec : {M : Type 1} → statement M
-main-spec = tie.close (tie.spec Inv-loop μ-loop arg-count-requires word-at-requires loop-holds take-requires (λ c. omega arith) (λ c. omega arith) loop-again returns)
+main-spec = tie.close (tie.spec Inv-loop μ-loop (λ c κs. tt) (λ c κs. tt) (λ c. tt) (λ c κs. tt) (λ c. omega arith) (λ c. omega arith) (λ c. tt) (λ c. tt))

@@ -10,7 +10,7 @@ use mir.Val.{SFits, toZ, ofZ}
 use mir.Syntax.{w64}
 use Rattle.numbers.specs.Ints.{sumℤ}
 use Rattle.numbers.proofs.IntLaws.{plain, natural-cast, inside-pos, within-fits}
-use Rattle.claims.specs.Claims.{pairs, pairsMost, citedSum}
+use Rattle.claimrules.specs.Claims.{pairs, pairsMost, citedSum}
 use Rattle.claims.proofs.FormLaws.{terms, few-pairs, sum-in, sum-next}
 use Rattle.claims.proofs.cited_sum.Statement.{statement}
 use Rattle.claims.proofs.cited_sum.Tie as tie
@@ -27,12 +27,6 @@ Inv-loop rows xs stride at claim pairs₀ n sum₀ j₀ sum j = Head claim xs st
 abbrev μ-loop : tie.MeasureT-loop
 μ-loop rows xs stride at claim pairs₀ n sum₀ j₀ sum j = n - j
 
-array-copy-out-pairs : tie.Need-array-copy-out-pairs Inv-loop μ-loop
-array-copy-out-pairs c = omega arith
-
-cast-n : tie.Need-cast-n Inv-loop μ-loop
-cast-n c = natural-cast _ _ (c .pairs .given) (inside-pos 0 pairsMost _ (c .before .pre .1 .pairs-in) .is)
-
 loop-holds : tie.Need-loop-holds Inv-loop μ-loop
 unfolding sumℤ
 loop-holds c = record { count = ap natAbs (plain (pairs (c .before .args .t5)) (c .pairs .given)); high = omega arith; so-far = refl }
@@ -41,10 +35,7 @@ loop-holds c = record { count = ap natAbs (plain (pairs (c .before .args .t5)) (
 below : (c : tie.In-loop Inv-loop μ-loop) → c .before .loop .j < natAbs (pairs (c .before .before .before .args .t5))
 below c = omega (arith, c .before .loop .inv .count)
 
-multiplied-requires : tie.Need-multiplied-requires Inv-loop μ-loop
-multiplied-requires c κs = let s = c .before .before .before in (s .pre .0, (s .pre .1, below c))
-
--- in a turn
+-- in a turn of the loop
 module _ (c : tie.After-multiplied Inv-loop μ-loop) where
   abbrev start : tie.Start Inv-loop μ-loop
   start = c .before .before .before .before
@@ -61,20 +52,6 @@ module _ (c : tie.After-multiplied Inv-loop μ-loop) where
   next-fits : SFits w64 next
   next-fits = subst (SFits w64) (sym turned) (within-fits (sum-in (start .pre .1) (start .pre .0) (j + 1) (omega (arith, below (c .before)))) tt)
 
-add-sum : tie.Need-add-sum Inv-loop μ-loop
-add-sum c = next-fits c
-
-add-j : tie.Need-add-j Inv-loop μ-loop
-add-j c = omega (arith, below (c .before), few-pairs (c .before .before .before .before .pre .1))
-
-loop-less : tie.Need-loop-less Inv-loop μ-loop
-loop-less c = omega arith
-
-loop-again : tie.Need-loop-again Inv-loop μ-loop
-loop-again c =
-    let inv = c .before .before .loop .inv in
-    record { count = inv .count; high = omega arith; so-far = toZ-ofZ (next-fits c) ∙ turned c }
-
 returns : tie.Need-returns Inv-loop μ-loop
 unfolding citedSum
 returns c =
@@ -84,17 +61,8 @@ returns c =
     inv .so-far ∙ ap (λ (k : ℕ). sumℤ k (terms (a .t5) (a .xs .now) (a .stride) (a .at))) all
 
 pub cited-sum-spec : {M : Type 1} → statement M
-cited-sum-spec =
-    tie.close
-    (tie.spec
-    Inv-loop
-    μ-loop
-    array-copy-out-pairs
-    cast-n
-    loop-holds
-    multiplied-requires
-    add-sum
-    add-j
-    loop-less
-    loop-again
-    returns)
+cited-sum-spec = tie.close (tie.spec Inv-loop μ-loop (λ c. omega arith)
+    (λ c. natural-cast _ _ (c .pairs .given) (inside-pos 0 pairsMost _ (c .before .pre .1 .pairs-in) .is)) loop-holds
+    (λ c κs. let s = c .before .before .before in (s .pre .0, (s .pre .1, below c))) (λ c. next-fits c)
+    (λ c. omega (arith, below (c .before), few-pairs (c .before .before .before .before .pre .1))) (λ c. omega arith)
+    (λ c. let inv = c .before .before .loop .inv in record { count = inv .count; high = omega arith; so-far = toZ-ofZ (next-fits c) ∙ turned c }) returns)

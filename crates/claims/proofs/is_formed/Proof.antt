@@ -11,22 +11,10 @@ use mir.Syntax.{w64}
 use Rattle.numbers.specs.Ints.{inside}
 use Rattle.numbers.specs.Below.{allBelow}
 use Rattle.numbers.proofs.IntLaws.{plain, natural-cast, inside-pos}
-use Rattle.claims.specs.Claims.{timesMost, pairsMost, claimedRow, denominator, pairs, keptRow, pairGood, formedBy}
+use Rattle.claimrules.specs.Claims.{timesMost, pairsMost, claimedRow, denominator, pairs, keptRow, pairGood, formedBy}
 use Rattle.claims.specs.Named.{flagged}
 use Rattle.claims.proofs.is_formed.Statement.{statement}
 use Rattle.claims.proofs.is_formed.Tie as tie
-
-array-copy-out-row : tie.Need-array-copy-out-row
-array-copy-out-row c = omega arith
-
-array-copy-out-denominator : tie.Need-array-copy-out-denominator
-array-copy-out-denominator c = omega arith
-
-array-copy-out-pairs : tie.Need-array-copy-out-pairs
-array-copy-out-pairs c = omega arith
-
-kept-row-requires : tie.Need-kept-row-requires
-kept-row-requires c κs = tt
 
 -- the claim, once its numbers are read
 module _ (c : tie.After-pairs) where
@@ -55,9 +43,6 @@ returns : tie.Need-returns
 unfolding formedBy
 returns c = simp (sym (kept-is (c .before)) ∙ not-true _ (c .if1 .taken))
 
-is-flagged-requires : tie.Need-is-flagged-requires
-is-flagged-requires c κs = tt
-
 before-is : (c : tie.After-is-flagged) → let p = c .before .before .before in c .is-flagged .result ≡ flagged (earlier p) (claimedRow (claim p))
 before-is c = let p = c .before .before .before in c .is-flagged .ensures ∙ ap (flagged (earlier p)) (row-is p)
 
@@ -66,9 +51,6 @@ unfolding formedBy
 returns-2 c = let at-before = c .before in let at-kept = at-before .before .before in
     simp (sym (kept-is at-kept) ∙ not-false _ (at-before .before .if1 .left), sym (before-is at-before) ∙ c .if2 .taken)
 
-inside-requires : tie.Need-inside-requires
-inside-requires c κs = tt
-
 times-is : (c : tie.After-inside) → let p = c .before .before .before .before .before in c .inside .result ≡ inside (pos 1) (pos timesMost) (denominator (claim p))
 times-is c = let p = c .before .before .before .before .before in c .inside .ensures ∙ ap (inside (pos 1) (pos timesMost)) (plain (denominator (claim p)) (p .before .denominator .given))
 
@@ -76,9 +58,6 @@ returns-3 : tie.Need-returns-3
 unfolding formedBy
 returns-3 c = let at-times = c .before in let at-before = at-times .before .before in let at-kept = at-before .before .before in
     simp (sym (kept-is at-kept) ∙ not-false _ (at-before .before .if1 .left), sym (before-is at-before) ∙ at-times .before .if2 .left, sym (times-is at-times) ∙ not-true _ (c .if3 .taken))
-
-inside-requires-2 : tie.Need-inside-requires-2
-inside-requires-2 c κs = tt
 
 pairs-is : (c : tie.After-inside2) → let p = c .before .before .before .before .before .before .before in c .inside2 .result ≡ inside (pos 0) (pos pairsMost) (pairs (claim p))
 pairs-is c = let p = c .before .before .before .before .before .before .before in c .inside2 .ensures ∙ ap (inside (pos 0) (pos pairsMost)) (plain (pairs (claim p)) (p .pairs .given))
@@ -90,9 +69,6 @@ returns-4 c = let at-pairs = c .before in let at-times = at-pairs .before .befor
 
 pairs-in : (c : tie.Else4) → inside (pos 0) (pos pairsMost) (pairs (claim (c .before .before .before .before .before .before .before .before))) ≡ true
 pairs-in c = sym (pairs-is (c .before)) ∙ not-false _ (c .if4 .left)
-
-cast-pairs-good : tie.Need-cast-pairs-good
-cast-pairs-good c = let p = c .before .before .before .before .before .before .before .before in natural-cast _ _ (c .before .before .before .before .before .before .before .before .pairs .given) (inside-pos 0 pairsMost _ (pairs-in c) .is)
 
 pairs-good-requires : tie.Need-pairs-good-requires
 pairs-good-requires c κs =
@@ -116,20 +92,7 @@ returns-5 c =
     (c .pairs-good .ensures ∙ ap (λ (z : ℤ). allBelow (natAbs z) (pairGood (states p) (flagged (named p)) (claim p))) (plain (pairs (claim p)) (p .pairs .given)))
 
 pub is-formed-spec : {M : Type 1} → statement M
-is-formed-spec =
-    tie.close
-    (tie.spec
-    array-copy-out-row
-    array-copy-out-denominator
-    array-copy-out-pairs
-    kept-row-requires
-    returns
-    is-flagged-requires
-    returns-2
-    inside-requires
-    returns-3
-    inside-requires-2
-    returns-4
-    cast-pairs-good
-    pairs-good-requires
-    returns-5)
+is-formed-spec = tie.close (tie.spec (λ c. omega arith) (λ c. omega arith) (λ c. omega arith) (λ c κs. tt) returns (λ c κs. tt) returns-2 (λ c κs. tt) returns-3
+    (λ c κs. tt) returns-4
+    (λ c. let p = c .before .before .before .before .before .before .before .before in natural-cast _ _ (c .before .before .before .before .before .before .before .before .pairs .given) (inside-pos 0 pairsMost _ (pairs-in c) .is))
+    pairs-good-requires returns-5)

@@ -9,7 +9,7 @@ use mir.Facts.{toZ-ofZ}
 use Rattle.numbers.specs.Ints.{sameℤ}
 use Rattle.numbers.specs.Below.{given}
 use Rattle.numbers.proofs.BelowLaws.{Looked, looked-none, looked-all, looked-here, looked-more}
-use Rattle.claims.specs.Claims.{excess, factorAt, level}
+use Rattle.claimrules.specs.Claims.{excess, factorAt, level}
 use Rattle.claims.proofs.FormLaws.{lent-at, excess-factor}
 use Rattle.claims.proofs.is_level.Statement.{statement}
 use Rattle.claims.proofs.is_level.Tie as tie
@@ -19,18 +19,6 @@ Inv-loop rows zones f claim first z₀ z = Looked zones (λ z. not (sameℤ (exc
 
 abbrev μ-loop : tie.MeasureT-loop
 μ-loop rows zones f claim first z₀ z = zones - z
-
-excess-requires : tie.Need-excess-requires Inv-loop μ-loop
-excess-requires c κs = (c .pre .0, c .pre .1)
-
-loop-holds : tie.Need-loop-holds Inv-loop μ-loop
-loop-holds c = looked-none _ _
-
-excess-requires-2 : tie.Need-excess-requires-2 Inv-loop μ-loop
-excess-requires-2 c κs = let s = c .before .before .before in (lent-at (s .pre .0) (c .before .loop .z) (c .loop-test .taken), s .pre .1)
-
-same-requires : tie.Need-same-requires Inv-loop μ-loop
-same-requires c κs = tt
 
 fact : (c : tie.After-same Inv-loop μ-loop) → let a = c .before .before .before .before .before .args in
     c .same .result ≡ sameℤ (excess (a .claim) (factorAt (a .zones) (a .f .now) (c .before .before .before .loop .z))) (excess (a .claim) (factorAt (a .zones) (a .f .now) 0))
@@ -49,31 +37,12 @@ returns : tie.Need-returns Inv-loop μ-loop
 unfolding level given
 returns c = ap (λ (o : Option ℕ). not (given o)) (looked-here _ _ _ (c .before .before .before .before .loop .inv) (omega arith) (sym (ap not (fact (c .before))) ∙ c .if1 .taken))
 
-add-z : tie.Need-add-z Inv-loop μ-loop
-add-z c = omega arith
-
-loop-less : tie.Need-loop-less Inv-loop μ-loop
-loop-less c = omega arith
-
-loop-again : tie.Need-loop-again Inv-loop μ-loop
-loop-again c = looked-more _ _ _ (c .before .before .before .before .loop .inv) (omega arith) (sym (ap not (fact (c .before))) ∙ c .if1 .left)
-
 returns-2 : tie.Need-returns-2 Inv-loop μ-loop
 unfolding level given
 returns-2 c = ap (λ (o : Option ℕ). not (given o)) (looked-all _ _ _ (c .before .loop .inv) (omega arith))
 
 pub is-level-spec : {M : Type 1} → statement M
-is-level-spec =
-    tie.close
-    (tie.spec
-    Inv-loop
-    μ-loop
-    excess-requires
-    loop-holds
-    excess-requires-2
-    same-requires
-    returns
-    add-z
-    loop-less
-    loop-again
-    returns-2)
+is-level-spec = tie.close (tie.spec Inv-loop μ-loop (λ c κs. (c .pre .0, c .pre .1)) (λ c. looked-none _ _)
+    (λ c κs. let s = c .before .before .before in (lent-at (s .pre .0) (c .before .loop .z) (c .loop-test .taken), s .pre .1)) (λ c κs. tt) returns
+    (λ c. omega arith) (λ c. omega arith)
+    (λ c. looked-more _ _ _ (c .before .before .before .before .loop .inv) (omega arith) (sym (ap not (fact (c .before))) ∙ c .if1 .left)) returns-2)

@@ -4,12 +4,12 @@ use mathlib.Core.Bool.{true}
 use Prim.Native.Nat.{ℕ}
 use borrow.Author.Needs.{needs}
 use borrow.Author.Tests.{not-true, not-false}
-use Rattle.kinds.specs.Refusals.{refused}
-use Rattle.kinds.proofs.RefusalLaws.{unless-ok, unless-refused}
-use Rattle.claims.specs.Claims.{formedBy}
+use Rattle.refusals.specs.Refusals.{refused}
+use Rattle.refusals.proofs.RefusalLaws.{unless-ok, unless-refused}
+use Rattle.claimrules.specs.Claims.{formedBy}
 use Rattle.claims.specs.Named.{flagged, judgeClaim}
-use Rattle.claims.specs.Bounds.{ClaimBound}
-use Rattle.claims.proofs.FormLaws.{claim-formed, formed-bound}
+use Rattle.claims.specs.Magnitudes.{ClaimInRange}
+use Rattle.claims.proofs.FormLaws.{claim-formed, formed-ranges}
 use Rattle.claims.proofs.judge_claim.Statement.{statement}
 use Rattle.claims.proofs.judge_claim.Tie as tie
 
@@ -21,7 +21,7 @@ returns : tie.Need-returns
 unfolding judgeClaim
 returns c = ap refused (c .malformed-claim .ensures) ∙ sym (unless-refused _ _ (sym (c .before .before .is-formed .ensures) ∙ not-true _ (c .before .if1 .taken)))
 
--- .. and is right
+-- the claim is of right form
 yes : (c : tie.Else1) → let a = start (c .before) .args in formedBy (a .states .now) (flagged (a .named .now)) (flagged (a .earlier .now)) (a .claim) ≡ true
 yes c = sym (c .before .is-formed .ensures) ∙ not-false _ (c .if1 .left)
 
@@ -29,7 +29,7 @@ is-borne-out-requires : tie.Need-is-borne-out-requires
 is-borne-out-requires c κs =
     let s = start (c .before) in
     let a = s .args in
-    (s .pre .0, (s .pre .1 .0, subst (λ (n : ℕ). ClaimBound n (a .claim)) (s .pre .1 .1) (formed-bound (a .states .now) (flagged (a .named .now)) (claim-formed (a .states .now) (flagged (a .named .now)) (flagged (a .earlier .now)) (a .claim) (yes c)))))
+    (s .pre .0, (s .pre .1 .0, subst (λ (n : ℕ). ClaimInRange n (a .claim)) (s .pre .1 .1) (formed-ranges (a .states .now) (flagged (a .named .now)) (claim-formed (a .states .now) (flagged (a .named .now)) (flagged (a .earlier .now)) (a .claim) (yes c)))))
 
 returns-2 : tie.Need-returns-2
 unfolding judgeClaim
@@ -45,13 +45,4 @@ returns-3 c =
     sym (unless-ok _ _ (yes e) ∙ unless-ok _ _ (sym (c .before .is-borne-out .ensures) ∙ not-false _ (c .if2 .left)))
 
 pub judge-claim-spec : {M : Type 1} → statement M
-judge-claim-spec =
-    tie.close
-    (tie.spec
-    (λ c κs. search needs)
-    (λ c κs. search needs)
-    returns
-    is-borne-out-requires
-    (λ c κs. search needs)
-    returns-2
-    returns-3)
+judge-claim-spec = tie.close (tie.spec (λ c κs. search needs) (λ c κs. search needs) returns is-borne-out-requires (λ c κs. search needs) returns-2 returns-3)

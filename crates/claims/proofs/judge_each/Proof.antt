@@ -6,7 +6,7 @@ use native.Mathlib.Omega.{arith}
 use borrow.Author.Needs.{needs}
 use lib.ListN.{length}
 use Rattle.numbers.proofs.IntLaws.{plain}
-use Rattle.kinds.specs.Limits.{rowsMost}
+use Rattle.limits.specs.Limits.{rowsMost}
 use Rattle.claims.specs.Named.{nameRow}
 use Rattle.claims.proofs.NameLaws.{none-long}
 use Rattle.claims.proofs.JudgeLaws.{Judging, judging-none, judging-long, judging-all, judging-refused, judging-more}
@@ -22,15 +22,6 @@ abbrev μ-loop : tie.MeasureT-loop
 few : (s : tie.Start Inv-loop μ-loop) → length (s .args .states .now) ≤ rowsMost
 few s = omega (arith, s .pre .1 .1 .0 .0, s .pre .1 .1 .0 .1)
 
-loop-holds : tie.Need-loop-holds Inv-loop μ-loop
-loop-holds c = judging-none _ _ _ _ _ (c .before .before .before .pre .1 .1 .1 .1)
-
-judge-claim-requires : tie.Need-judge-claim-requires Inv-loop μ-loop
-judge-claim-requires c κs = let p = c .before .before .before .before .before .before .before .pre in (p .0, (p .1 .0, p .1 .1 .0 .0))
-
-same-length : tie.Need-same-length Inv-loop μ-loop
-same-length c = omega (arith, judging-long _ _ _ _ _ (c .before .before .before .before .before .before .loop .inv), ap length (c .before .before .before .before .before .before .before .before .before .before .pre .1 .1 .1 .1), none-long)
-
 returns : tie.Need-returns Inv-loop μ-loop
 returns c =
     let s = c .before .before .before .before .before .before .before .before .before .before in
@@ -41,30 +32,11 @@ loop-again c =
     let s = c .before .before .before .before .before .before .before .before .before .before .before .before .before .before .before in
     judging-more _ _ _ _ _ (c .before .before .before .before .before .before .before .before .before .before .before .loop .inv) (omega arith) (few s) (s .pre .1 .1 .1 .0) refl _ (c .before .before .before .before .before .before .before .judge-claim .ensures) (c .before .before .before .before .before .enum-told .given .1) (plain _ (c .before .before .before .before .name-row-arg .given)) (c .before .before .name-row .ensures)
 
-same-length-2 : tie.Need-same-length-2 Inv-loop μ-loop
-same-length-2 c = omega (arith, judging-long _ _ _ _ _ (c .before .loop .inv), ap length (c .before .before .before .before .before .pre .1 .1 .1 .1), none-long)
-
-returns-2 : tie.Need-returns-2 Inv-loop μ-loop
-returns-2 c = judging-all _ _ _ _ _ (c .before .loop .inv) (omega arith)
-
 pub judge-each-spec : {M : Type 1} → statement M
-judge-each-spec =
-    tie.close
-    (tie.spec
-    Inv-loop
-    μ-loop
-    loop-holds
-    (λ c. omega arith)
-    (λ c. omega arith)
-    judge-claim-requires
+judge-each-spec = tie.close (tie.spec Inv-loop μ-loop (λ c. judging-none _ _ _ _ _ (c .before .before .before .pre .1 .1 .1 .1)) (λ c. omega arith)
+    (λ c. omega arith) (λ c κs. let p = c .before .before .before .before .before .before .before .pre in (p .0, (p .1 .0, p .1 .1 .0 .0))) (λ c. search needs)
     (λ c. search needs)
-    (λ c. search needs)
-    same-length
-    returns
-    (λ c. omega arith)
-    (λ c κs. tt)
-    (λ c. omega arith)
-    (λ c. omega arith)
-    loop-again
-    same-length-2
-    returns-2)
+    (λ c. omega (arith, judging-long _ _ _ _ _ (c .before .before .before .before .before .before .loop .inv), ap length (c .before .before .before .before .before .before .before .before .before .before .pre .1 .1 .1 .1), none-long))
+    returns (λ c. omega arith) (λ c κs. tt) (λ c. omega arith) (λ c. omega arith) loop-again
+    (λ c. omega (arith, judging-long _ _ _ _ _ (c .before .loop .inv), ap length (c .before .before .before .before .before .pre .1 .1 .1 .1), none-long))
+    (λ c. judging-all _ _ _ _ _ (c .before .loop .inv) (omega arith)))

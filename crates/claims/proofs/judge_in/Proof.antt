@@ -1,7 +1,7 @@
 -- `claims::judge_in` meets its contract: a good table and its flags give what `judge_each` asks, and the rows that were filled in are the table's (`known-claims`).
 use native.Mathlib.Omega.{arith}
 use borrow.Author.Needs.{needs}
-use Rattle.kinds.proofs.KindLaws.{header-in}
+use Rattle.types.proofs.RangeLaws.{header-in}
 use Rattle.table.proofs.RoomLaws.{factors-most}
 use Rattle.claims.proofs.JudgeLaws.{factors-lent, rams-lent, states-lent, known-claims}
 use Rattle.claims.proofs.judge_in.Statement.{statement}
@@ -15,9 +15,6 @@ filled c = named c .before .before .before .before .before .before
 
 abbrev entry : tie.After-struct-known → tie.Start
 entry c = filled c .before .before .before .before .before .before .before
-
-mul-factors : tie.Need-mul-factors
-mul-factors c = omega (arith, factors-most _ (entry c .pre .0 .exact .header))
 
 judge-each-requires : tie.Need-judge-each-requires
 judge-each-requires c κs =
@@ -33,17 +30,5 @@ returns c =
     known-claims (entry cut .pre .0) _ (filled cut .fill-rows .ensures .0) (entry cut .args .claims .now) (judged .result) (judged .ensures)
 
 pub judge-in-spec : {M : Type 1} → statement M
-judge-in-spec =
-    tie.close
-    (tie.spec
-    (λ c κs. search needs)
-    (λ c κs. search needs)
-    mul-factors
-    (λ c. search needs)
-    judge-each-requires
-    (λ c. search needs)
-    (λ c. search needs)
-    (λ c. search needs)
-    (λ c. search needs)
-    (λ c. search needs)
-    returns)
+judge-in-spec = tie.close (tie.spec (λ c κs. search needs) (λ c κs. search needs) (λ c. omega (arith, factors-most _ (entry c .pre .0 .exact .header)))
+    (λ c. search needs) judge-each-requires (λ c. search needs) (λ c. search needs) (λ c. search needs) (λ c. search needs) (λ c. search needs) returns)

@@ -1,7 +1,7 @@
 -- `claims::multiplied` meets its contract: the row exists, and the product of a multiplier and a value fits.
 use mathlib.Core.Path.{_≡_, sym, ap, ap₂, subst, _∙_}
 use mathlib.Core.Bool.{true}
-use Rattle.kinds.specs.Ranges.{exists}
+use Rattle.types.specs.Ranges.{exists}
 use native.Mathlib.Omega.{arith}
 use borrow.Author.Needs.{sfits-of}
 use lib.IntN.{ℤ, natAbs, _*ℤ_}
@@ -9,35 +9,11 @@ use mir.Facts.{toZ-ofZ}
 use mir.Val.{SFits, toZ, ofZ}
 use mir.Syntax.{w64}
 use Rattle.numbers.proofs.IntLaws.{plain, within-fits}
-use Rattle.claims.specs.Claims.{citedRow, multiplier}
-use Rattle.claims.specs.Bounds.{valueOf}
+use Rattle.claimrules.specs.Claims.{citedRow, multiplier}
+use Rattle.claims.specs.Magnitudes.{valueOf}
 use Rattle.claims.proofs.FormLaws.{few-pairs, terms, term-in}
 use Rattle.claims.proofs.multiplied.Statement.{statement}
 use Rattle.claims.proofs.multiplied.Tie as tie
-
-mul-row : tie.Need-mul-row
-mul-row c = omega (arith, few-pairs (c .pre .1 .0))
-
-add-row : tie.Need-add-row
-add-row c = omega (arith, few-pairs (c .pre .1 .0))
-
-mul-row-2 : tie.Need-mul-row-2
-mul-row-2 c = omega (arith, few-pairs (c .pre .1 .0))
-
-array-copy-out-row : tie.Need-array-copy-out-row
-array-copy-out-row c = omega (arith, few-pairs (c .pre .1 .0))
-
-mul-times : tie.Need-mul-times
-mul-times c = omega (arith, few-pairs (c .before .pre .1 .0))
-
-add-times : tie.Need-add-times
-add-times c = omega (arith, few-pairs (c .before .pre .1 .0))
-
-mul-times-2 : tie.Need-mul-times-2
-mul-times-2 c = omega (arith, few-pairs (c .before .pre .1 .0))
-
-array-copy-out-times : tie.Need-array-copy-out-times
-array-copy-out-times c = omega (arith, few-pairs (c .before .pre .1 .0))
 
 value-of-requires : tie.Need-value-of-requires
 value-of-requires c κs = (
@@ -59,24 +35,9 @@ module _ (c : tie.After-value-of) where
   product-fits : SFits w64 (terms (start .args .t5) (start .args .xs .now) (start .args .stride) (start .args .at) (start .args .j))
   product-fits = within-fits (term-in (start .pre .1 .0) (start .args .j) (start .pre .1 .1) (start .pre .0)) tt
 
-mul-result : tie.Need-mul-result
-mul-result c = subst (SFits w64) (sym (product-is c)) (product-fits c)
-
-returns : tie.Need-returns
-returns c = ap (λ (z : ℤ). toZ w64 (ofZ w64 z)) (product-is c) ∙ toZ-ofZ (product-fits c)
-
 pub multiplied-spec : {M : Type 1} → statement M
-multiplied-spec =
-    tie.close
-    (tie.spec
-    mul-row
-    add-row
-    mul-row-2
-    array-copy-out-row
-    mul-times
-    add-times
-    mul-times-2
-    array-copy-out-times
-    value-of-requires
-    mul-result
-    returns)
+multiplied-spec = tie.close (tie.spec (λ c. omega (arith, few-pairs (c .pre .1 .0))) (λ c. omega (arith, few-pairs (c .pre .1 .0)))
+    (λ c. omega (arith, few-pairs (c .pre .1 .0))) (λ c. omega (arith, few-pairs (c .pre .1 .0))) (λ c. omega (arith, few-pairs (c .before .pre .1 .0)))
+    (λ c. omega (arith, few-pairs (c .before .pre .1 .0))) (λ c. omega (arith, few-pairs (c .before .pre .1 .0)))
+    (λ c. omega (arith, few-pairs (c .before .pre .1 .0))) value-of-requires (λ c. subst (SFits w64) (sym (product-is c)) (product-fits c))
+    (λ c. ap (λ (z : ℤ). toZ w64 (ofZ w64 z)) (product-is c) ∙ toZ-ofZ (product-fits c)))

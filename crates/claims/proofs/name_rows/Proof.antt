@@ -17,9 +17,6 @@ Inv-loop claims named₀ k₀ k-end named k = (k ≤ length claims) × (named �
 abbrev μ-loop : tie.MeasureT-loop
 μ-loop claims named₀ k₀ k-end named k = length claims - k
 
-loop-holds : tie.Need-loop-holds Inv-loop μ-loop
-loop-holds c = (omega arith, c .before .pre ∙ named-none _)
-
 loop-again : tie.Need-loop-again Inv-loop μ-loop
 loop-again c =
     let at-arg = c .before .before .before .before in
@@ -37,18 +34,5 @@ returns c =
     c .before .loop .inv .1 ∙ ap (namedRows claims) all
 
 pub name-rows-spec : {M : Type 1} → statement M
-name-rows-spec =
-    tie.close
-    (tie.spec
-    Inv-loop
-    μ-loop
-    loop-holds
-    (λ c. omega arith)
-    (λ c. omega arith)
-    (λ c. omega arith)
-    (λ c κs. tt)
-    (λ c. omega arith)
-    (λ c. omega arith)
-    loop-again
-    same-length
-    returns)
+name-rows-spec = tie.close (tie.spec Inv-loop μ-loop (λ c. (omega arith, c .before .pre ∙ named-none _)) (λ c. omega arith) (λ c. omega arith)
+    (λ c. omega arith) (λ c κs. tt) (λ c. omega arith) (λ c. omega arith) loop-again same-length returns)

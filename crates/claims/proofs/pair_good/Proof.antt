@@ -5,38 +5,11 @@ use borrow.Author.Tests.{not-true, not-false}
 use lib.IntN.{pos}
 use Rattle.numbers.specs.Ints.{inside}
 use Rattle.numbers.proofs.IntLaws.{plain}
-use Rattle.claims.specs.Claims.{timesMost, citedRow, keptRow, pairGood}
+use Rattle.claimrules.specs.Claims.{timesMost, citedRow, keptRow, pairGood}
 use Rattle.claims.specs.Named.{flagged}
 use borrow.Author.Needs.{needs}
 use Rattle.claims.proofs.pair_good.Statement.{statement}
 use Rattle.claims.proofs.pair_good.Tie as tie
-
-mul-row : tie.Need-mul-row
-mul-row c = search needs
-
-add-row : tie.Need-add-row
-add-row c = search needs
-
-mul-row-2 : tie.Need-mul-row-2
-mul-row-2 c = search needs
-
-array-copy-out-row : tie.Need-array-copy-out-row
-array-copy-out-row c = omega arith
-
-mul-times : tie.Need-mul-times
-mul-times c = search needs
-
-add-times : tie.Need-add-times
-add-times c = search needs
-
-mul-times-2 : tie.Need-mul-times-2
-mul-times-2 c = search needs
-
-array-copy-out-times : tie.Need-array-copy-out-times
-array-copy-out-times c = omega arith
-
-kept-row-requires : tie.Need-kept-row-requires
-kept-row-requires c κs = tt
 
 kept-is : (c : tie.After-kept-row) → let a = c .before .before .before .before .before .args in c .kept-row .result ≡ keptRow (a .states .now) (citedRow (a .t3) (a .j))
 kept-is c = let a = c .before .before .before .before .before .args in c .kept-row .ensures ∙ ap (keptRow (a .states .now)) (plain _ (c .before .before .row .given))
@@ -45,9 +18,6 @@ returns : tie.Need-returns
 unfolding pairGood
 returns c = simp (sym (kept-is (c .before)) ∙ not-true _ (c .if1 .taken))
 
-is-flagged-requires : tie.Need-is-flagged-requires
-is-flagged-requires c κs = tt
-
 named-is : (c : tie.After-is-flagged) → let a = c .before .before .before .before .before .before .before .args in c .is-flagged .result ≡ flagged (a .named .now) (citedRow (a .t3) (a .j))
 named-is c = let a = c .before .before .before .before .before .before .before .args in c .is-flagged .ensures ∙ ap (flagged (a .named .now)) (plain _ (c .before .before .before .before .row .given))
 
@@ -55,15 +25,9 @@ returns-2 : tie.Need-returns-2
 unfolding pairGood
 returns-2 c = simp (sym (kept-is (c .before .before .before)) ∙ not-false _ (c .before .before .if1 .left), sym (named-is (c .before)) ∙ c .if2 .taken)
 
-cited-before-requires : tie.Need-cited-before-requires
-cited-before-requires c κs = c .before .before .before .before .before .before .before .before .pre
-
 returns-3 : tie.Need-returns-3
 unfolding pairGood
 returns-3 c = simp (sym (kept-is (c .before .before .before .before .before)) ∙ not-false _ (c .before .before .before .before .if1 .left), sym (named-is (c .before .before .before)) ∙ c .before .before .if2 .left, sym (c .before .cited-before .ensures) ∙ c .if3 .taken)
-
-inside-requires : tie.Need-inside-requires
-inside-requires c κs = tt
 
 returns-4 : tie.Need-returns-4
 unfolding pairGood
@@ -75,22 +39,6 @@ returns-4 c =
     (c .inside .ensures ∙ ap (inside (pos 1) (pos timesMost)) (plain _ (at-kept .before .times .given)))
 
 pub pair-good-spec : {M : Type 1} → statement M
-pair-good-spec =
-    tie.close
-    (tie.spec
-    mul-row
-    add-row
-    mul-row-2
-    array-copy-out-row
-    mul-times
-    add-times
-    mul-times-2
-    array-copy-out-times
-    kept-row-requires
-    returns
-    is-flagged-requires
-    returns-2
-    cited-before-requires
-    returns-3
-    inside-requires
-    returns-4)
+pair-good-spec = tie.close (tie.spec (λ c. search needs) (λ c. search needs) (λ c. search needs) (λ c. omega arith) (λ c. search needs) (λ c. search needs)
+    (λ c. search needs) (λ c. omega arith) (λ c κs. tt) returns (λ c κs. tt) returns-2
+    (λ c κs. c .before .before .before .before .before .before .before .before .pre) returns-3 (λ c κs. tt) returns-4)

@@ -6,7 +6,7 @@ use Prim.Native.Nat.{ℕ, _-_}
 use native.Mathlib.Omega.{arith}
 use Rattle.numbers.specs.Below.{given}
 use Rattle.numbers.proofs.BelowLaws.{Looked, looked-none, looked-all, looked-here, looked-more}
-use Rattle.claims.specs.Claims.{pairGood}
+use Rattle.claimrules.specs.Claims.{pairGood}
 use Rattle.claims.specs.Named.{flagged}
 use Rattle.claims.proofs.pairs_good.Statement.{statement}
 use Rattle.claims.proofs.pairs_good.Tie as tie
@@ -17,39 +17,14 @@ Inv-loop states named claim n j₀ j = Looked n (λ j. not (pairGood states (fla
 abbrev μ-loop : tie.MeasureT-loop
 μ-loop states named claim n j₀ j = n - j
 
-loop-holds : tie.Need-loop-holds Inv-loop μ-loop
-loop-holds c = looked-none _ _
-
-pair-good-requires : tie.Need-pair-good-requires Inv-loop μ-loop
-pair-good-requires c κs = omega arith
-
 returns : tie.Need-returns Inv-loop μ-loop
 unfolding given
 returns c = ap (λ (o : Option ℕ). not (given o)) (looked-here _ _ _ (c .before .before .before .loop .inv) (omega arith) (sym (ap not (c .before .pair-good .ensures)) ∙ c .if1 .taken))
-
-add-j : tie.Need-add-j Inv-loop μ-loop
-add-j c = omega arith
-
-loop-less : tie.Need-loop-less Inv-loop μ-loop
-loop-less c = omega arith
-
-loop-again : tie.Need-loop-again Inv-loop μ-loop
-loop-again c = looked-more _ _ _ (c .before .before .before .loop .inv) (omega arith) (sym (ap not (c .before .pair-good .ensures)) ∙ c .if1 .left)
 
 returns-2 : tie.Need-returns-2 Inv-loop μ-loop
 unfolding given
 returns-2 c = ap (λ (o : Option ℕ). not (given o)) (looked-all _ _ _ (c .before .loop .inv) (omega arith))
 
 pub pairs-good-spec : {M : Type 1} → statement M
-pairs-good-spec =
-    tie.close
-    (tie.spec
-    Inv-loop
-    μ-loop
-    loop-holds
-    pair-good-requires
-    returns
-    add-j
-    loop-less
-    loop-again
-    returns-2)
+pairs-good-spec = tie.close (tie.spec Inv-loop μ-loop (λ c. looked-none _ _) (λ c κs. omega arith) returns (λ c. omega arith) (λ c. omega arith)
+    (λ c. looked-more _ _ _ (c .before .before .before .loop .inv) (omega arith) (sym (ap not (c .before .pair-good .ensures)) ∙ c .if1 .left)) returns-2)

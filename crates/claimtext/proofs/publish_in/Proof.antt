@@ -3,9 +3,9 @@
 use mathlib.Core.Path.{sym, _∙_}
 use native.Mathlib.Omega.{arith}
 use borrow.Author.Needs.{needs}
-use Rattle.kinds.proofs.KindLaws.{header-in}
+use Rattle.types.proofs.RangeLaws.{header-in}
 use Rattle.table.proofs.RoomLaws.{factors-most}
-use Rattle.states.proofs.RowsLaws.{rows-in}
+use Rattle.states.proofs.StandingsLaws.{rows-in}
 use Rattle.claims.proofs.JudgeLaws.{factors-lent, rams-lent, states-lent}
 use Rattle.claimtext.proofs.PublishedLaws.{claims-refused, claims-accepted}
 use Rattle.claimtext.proofs.publish_in.Statement.{statement}
@@ -19,9 +19,6 @@ filled c = named c .before .before .before .before .before .before
 
 abbrev entry : tie.After-struct-known → tie.Start
 entry c = filled c .before .before .before .before .before .before .before .before .before
-
-mul-factors : tie.Need-mul-factors
-mul-factors c = omega (arith, factors-most _ (entry c .pre .0 .exact .header))
 
 judge-lines-requires : tie.Need-judge-lines-requires
 judge-lines-requires c κs =
@@ -55,27 +52,7 @@ returns-2 c =
     ∙ claims-accepted (entry cut .pre .0) _ (filled cut .fill-rows .ensures .0) _ _ _ (judged .judge-lines .ensures) (told .enum-told .given .1) (named cut .name-lines .ensures)
 
 pub publish-in-spec : {M : Type 1} → statement M
-publish-in-spec =
-    tie.close
-    (tie.spec
-    (λ c κs. search needs)
-    (λ c κs. search needs)
-    mul-factors
-    (λ c. search needs)
-    judge-lines-requires
-    (λ c. search needs)
-    (λ c. search needs)
-    (λ c. search needs)
-    (λ c. search needs)
-    (λ c. search needs)
-    (λ c. search needs)
-    returns
-    (λ c. search needs)
-    write-rows-requires
-    (λ c. search needs)
-    (λ c. search needs)
-    (λ c. search needs)
-    (λ c. search needs)
-    (λ c. search needs)
-    (λ c. search needs)
-    returns-2)
+publish-in-spec = tie.close (tie.spec (λ c κs. search needs) (λ c κs. search needs) (λ c. omega (arith, factors-most _ (entry c .pre .0 .exact .header)))
+    (λ c. search needs) judge-lines-requires (λ c. search needs) (λ c. search needs) (λ c. search needs) (λ c. search needs) (λ c. search needs)
+    (λ c. search needs) returns (λ c. search needs) write-rows-requires (λ c. search needs) (λ c. search needs) (λ c. search needs) (λ c. search needs)
+    (λ c. search needs) (λ c. search needs) returns-2)

@@ -7,14 +7,6 @@ use Rattle.claimtext.proofs.PublishedLaws.{list-long, table-refused, ta
 use Rattle.claimtext.proofs.published_text.Statement.{statement}
 use Rattle.claimtext.proofs.published_text.Tie as tie
 
-returns : tie.Need-returns
-returns c = rw (c .too-long .ensures) (list-long _ _ _ (c .before .if1 .taken))
-
-returns-2 : tie.Need-returns-2
-returns-2 c =
-    let judged = c .before .before .before in
-    table-refused _ _ _ (judged .before .if1 .left) _ (judged .judge .ensures .0) _ (c .before .w .given .1)
-
 published-text-good-requires : tie.Need-published-text-good-requires
 published-text-good-requires c κs =
     let told = c .before in
@@ -28,15 +20,7 @@ returns-3 c =
     c .before .before .published-text-good .ensures ∙ table-judged _ _ _ (judged .before .if1 .left) _ (judged .judge .ensures .0) (told .enum-told .given .1)
 
 pub published-text-spec : {M : Type 1} → statement M
-published-text-spec =
-    tie.close
-    (tie.spec
-    (λ c κs. search needs)
-    returns
-    (λ c κs. search needs)
-    (λ c. search needs)
-    returns-2
-    (λ c. search needs)
-    published-text-good-requires
-    (λ c. search needs)
-    returns-3)
+published-text-spec = tie.close (tie.spec (λ c κs. search needs) (λ c. rw (c .too-long .ensures) (list-long _ _ _ (c .before .if1 .taken)))
+    (λ c κs. search needs) (λ c. search needs)
+    (λ c. let judged = c .before .before .before in table-refused _ _ _ (judged .before .if1 .left) _ (judged .judge .ensures .0) _ (c .before .w .given .1))
+    (λ c. search needs) published-text-good-requires (λ c. search needs) returns-3)

@@ -4,8 +4,8 @@ use Prim.Native.Nat.{_≤_}
 use borrow.Author.Needs.{needs}
 use lib.Seq.{length-take-le}
 use Rattle.numbers.specs.Below.{table}
-use Rattle.kinds.specs.Limits.{rowsMost}
-use Rattle.kinds.proofs.KindLaws.{header-in}
+use Rattle.limits.specs.Limits.{rowsMost}
+use Rattle.types.proofs.RangeLaws.{header-in}
 use Rattle.claimtext.proofs.published_text_good.Statement.{statement}
 use Rattle.claimtext.proofs.published_text_good.Tie as tie
 
@@ -19,17 +19,7 @@ publish-in-requires c κs =
     (s .pre, ((length-take-le _ _ (few s), length-take-le _ _ (few s)), (length-take-le _ _ (few s), (refl, refl))))
 
 pub published-text-good-spec : {M : Type 1} → statement M
-published-text-good-spec =
-    tie.close
-    (tie.spec
-    (λ c. few (c .before .before))
-    (λ c. sym (length-take-le _ _ (few (c .before .before .before))))
-    (λ c. few (c .before .before .before))
-    (λ c. sym (length-take-le _ _ (few (c .before .before .before .before))))
-    (λ c. few (c .before .before .before .before))
-    (λ c. sym (length-take-le _ _ (few (c .before .before .before .before .before))))
-    (λ c. search needs)
-    (λ c. search needs)
-    publish-in-requires
-    (λ c. search needs)
-    (λ c. search needs))
+published-text-good-spec = tie.close (tie.spec (λ c. few (c .before .before)) (λ c. sym (length-take-le _ _ (few (c .before .before .before))))
+    (λ c. few (c .before .before .before)) (λ c. sym (length-take-le _ _ (few (c .before .before .before .before))))
+    (λ c. few (c .before .before .before .before)) (λ c. sym (length-take-le _ _ (few (c .before .before .before .before .before)))) (λ c. search needs)
+    (λ c. search needs) publish-in-requires (λ c. search needs) (λ c. search needs))

@@ -1,5 +1,5 @@
 -- `corners::list_corners` calls itself with the borders but the last: the measure is the number of borders that remain.
--- No border: one corner of flow 0. Else the shorter list's corners, and after them the same with the last border used (`list-more`).
+-- No border: one corner of flow 0. Else the corners of the shorter list, and after them the same with the last border used (`list-more`).
 use mathlib.Core.Path.{_≡_, sym, _∙_}
 use Prim.Native.Nat.{ℕ, _<_}
 use native.Mathlib.Omega.{arith}
@@ -14,7 +14,7 @@ use borrow.Fn.PlainCycle.{Measures, is, falls, and}
 use Rattle.numbers.specs.Ints.{Within}
 use Rattle.numbers.proofs.IntLaws.{within-fits}
 use Rattle.corners.specs.Listed.{partMost}
-use Rattle.corners.proofs.ListedLaws.{list-none, part-of-within, shorter-long, shorter-bound, shorter-room, room-used, within-used, list-more}
+use Rattle.corners.proofs.ListedLaws.{list-none, part-of-within, shorter-long, shorter-ranges, shorter-room, room-used, within-used, list-more}
 use Rattle.corners.proofs.list_corners.Reads as reads
 use Rattle.corners.proofs.list_corners.Kinds as kinds
 use Rattle.corners.proofs.+list_corners.Lts-list_corners as lts
@@ -76,10 +76,10 @@ module _ (t : ℕ) where
       let bs = s .args .borders .now in
       let long = shorter-long fs bs some in (
         omega (arith, s .pre .0),
-        (s .pre .1 .0, (shorter-bound fs bs some (s .pre .1 .1 .0), (omega (arith, s .pre .1 .1 .1 .0), shorter-room fs bs some (s .pre .1 .1 .1 .1)))),
+        (s .pre .1 .0, (shorter-ranges fs bs some (s .pre .1 .1 .0), (omega (arith, s .pre .1 .1 .1 .0), shorter-room fs bs some (s .pre .1 .1 .1 .1)))),
       )
 
-  -- ---- and the same with the last border used
+  -- ---- the corners with the last border used
   module _ (c : lts.After-list-corners callees (given t) reads.Post) where
     abbrev start : lts.Start callees (given t) reads.Post
     start = c .before .before .before .before .before .before

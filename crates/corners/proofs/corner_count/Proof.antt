@@ -7,8 +7,5 @@ use borrow.Author.Needs.{needs}
 use Rattle.corners.proofs.corner_count.Statement.{statement}
 use Rattle.corners.proofs.corner_count.Tie as tie
 
-returns : tie.Need-returns
-returns c = shl-exact {a = 1} 1 (c .args .borders) 64 (omega arith) (omega (arith, c .pre)) ∙ one-mul _
-
 pub corner-count-spec : {M : Type 1} → statement M
-corner-count-spec = tie.close (tie.spec (λ c. search needs) returns)
+corner-count-spec = tie.close (tie.spec (λ c. search needs) (λ c. shl-exact {a = 1} 1 (c .args .borders) 64 (omega arith) (omega (arith, c .pre)) ∙ one-mul _))

@@ -13,11 +13,6 @@ use Rattle.corners.proofs.corner_flows_good.Tie as tie
 abbrev whole : tie.Start → Table
 whole s = front (lent (s .args .h) (s .args .z .now) (s .args .t .now) (s .args .b .now) (s .args .c .now) (s .args .f .now))
 
-returns : tie.Need-returns
-returns c =
-    let s = c .before .before in
-    rw (c .no-corners .ensures) (sym (sheet-refused _ (s .args .row) (s .args .out .now) _ (borders-refused (whole s) (s .args .row) (omega arith))))
-
 returns-2 : tie.Need-returns-2
 returns-2 c =
     let s = c .before .before .before .before in
@@ -37,9 +32,6 @@ returns-3 c =
     let sheet = has-sheet d in
     rw (c .too-short .ensures) (sym (sheet-short _ (s .args .row) (s .args .out .now) (whole s) (sheet-passed (whole s) (s .args .row) sheet) sheet _ (d .corner-count .ensures) (omega arith)))
 
-mul-factors : tie.Need-mul-factors
-mul-factors c = omega (arith, factors-most _ (start (c .before .before) .pre .exact .header))
-
 list-row-requires : tie.Need-list-row-requires
 list-row-requires c κs =
     let d = c .before .before .before .before .before in
@@ -56,19 +48,8 @@ returns-4 c =
     sheet-listed _ (s .args .row) (s .args .out .now) (whole s) (sheet-passed (whole s) (s .args .row) sheet) sheet (omega (arith, d .corner-count .ensures)) (c .before .list-row .ensures)
 
 pub corner-flows-good-spec : {M : Type 1} → statement M
-corner-flows-good-spec =
-    tie.close
-    (tie.spec
-    (λ c κs. search needs)
-    returns
-    (λ c κs. search needs)
-    returns-2
-    (λ c κs. search needs)
-    (λ c κs. search needs)
-    returns-3
-    mul-factors
-    (λ c. search needs)
-    (λ c. search needs)
-    list-row-requires
-    (λ c. search needs)
-    returns-4)
+corner-flows-good-spec = tie.close (tie.spec (λ c κs. search needs)
+    (λ c. let s = c .before .before in rw (c .no-corners .ensures) (sym (sheet-refused _ (s .args .row) (s .args .out .now) _ (borders-refused (whole s) (s .args .row) (omega arith)))))
+    (λ c κs. search needs) returns-2 (λ c κs. search needs) (λ c κs. search needs) returns-3
+    (λ c. omega (arith, factors-most _ (start (c .before .before) .pre .exact .header))) (λ c. search needs) (λ c. search needs) list-row-requires
+    (λ c. search needs) returns-4)

@@ -8,29 +8,20 @@ use mir.Facts.{toZ-ofZ}
 use mir.Syntax.{w64}
 use mir.Val.{SFits}
 use Rattle.numbers.proofs.IntLaws.{within-fits, within-pos, read-pos}
-use Rattle.kinds.specs.Limits.{ltaMost}
+use Rattle.types.specs.LineLimits.{ltaMost}
 use Rattle.margin.specs.Margin.{cornerPart}
-use Rattle.margin.specs.Bounds.{BorderBound}
+use Rattle.margin.specs.Magnitudes.{BorderInRange}
 use Rattle.margin.proofs.JudgedLaws.{border-judged}
 use Rattle.corners.proofs.ListedLaws.{kw-most, factor-within, part-within}
 use Rattle.corners.proofs.corner_part.Statement.{statement}
 use Rattle.corners.proofs.corner_part.Tie as tie
 
-judged-requires : tie.Need-judged-requires
-judged-requires c κs = c .pre .1
-
-bound : (c : tie.After-judged) → BorderBound (length (c .before .args .factors .now)) (c .judged .result)
-bound c = border-judged _ _ (c .before .pre .1) (c .judged .ensures)
-
-lta-kw-requires : tie.Need-lta-kw-requires
-lta-kw-requires c κs = bound c .lta-in
-
-signed-factor-requires : tie.Need-signed-factor-requires
-signed-factor-requires c κs = (c .before .before .pre .0, bound (c .before))
+bound : (c : tie.After-of-good) → BorderInRange (length (c .before .args .factors .now)) (c .of-good .result)
+bound c = border-judged _ _ (c .before .pre .1) (c .of-good .ensures)
 
 -- the two results, plain, and their product
 module _ (c : tie.After-signed-factor) where
-  abbrev read : tie.After-judged
+  abbrev read : tie.After-of-good
   read = c .before .before
 
   abbrev kw : ℕ
@@ -45,23 +36,14 @@ module _ (c : tie.After-signed-factor) where
   factor-fits : SFits w64 factor
   factor-fits = rw (c .signed-factor .ensures) (within-fits (factor-within (read .before .pre .0) (bound read)) tt)
 
-  product-is : factor *ℤ pos kw ≡ cornerPart (read .before .args .factors .now) (read .judged .result)
+  product-is : factor *ℤ pos kw ≡ cornerPart (read .before .args .factors .now) (read .of-good .result)
   unfolding cornerPart
   product-is = ap₂ (λ (z : ℤ) (k : ℕ). z *ℤ pos k) (c .signed-factor .ensures) (c .before .lta-kw .ensures)
 
   product-fits : SFits w64 (factor *ℤ pos kw)
   product-fits = rw product-is (within-fits (part-within (read .before .pre .0) (bound read)) tt)
 
-cast-result : tie.Need-cast-result
-cast-result c = within-fits (within-pos (kw-in c)) tt
-
-mul-result : tie.Need-mul-result
-mul-result c = simp (toZ-ofZ, factor-fits c, read-pos (kw-in c) tt) (product-fits c)
-
-returns : tie.Need-returns
-returns c = simp (toZ-ofZ, factor-fits c, read-pos (kw-in c) tt, product-fits c) (product-is c ∙ ap (cornerPart _) (read c .judged .ensures))
-
 pub corner-part-spec : {M : Type 1} → statement M
-corner-part-spec =
-    tie.close
-    (tie.spec judged-requires lta-kw-requires signed-factor-requires cast-result mul-result returns)
+corner-part-spec = tie.close (tie.spec (λ c κs. c .pre .1) (λ c κs. bound c .lta-in) (λ c κs. (c .before .before .pre .0, bound (c .before)))
+    (λ c. within-fits (within-pos (kw-in c)) tt) (λ c. simp (toZ-ofZ, factor-fits c, read-pos (kw-in c) tt) (product-fits c))
+    (λ c. simp (toZ-ofZ, factor-fits c, read-pos (kw-in c) tt, product-fits c) (product-is c ∙ ap (cornerPart _) (read c .of-good .ensures))))

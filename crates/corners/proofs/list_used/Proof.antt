@@ -1,4 +1,4 @@
--- `corners::list_used` meets its contract. The loop's invariant: the flows up to k are listed, those from k on are as they were.
+-- `corners::list_used` meets its contract. The loop's invariant: the flows up to k are listed, and those from k on are not changed.
 -- The measure is what is left to list.
 use mathlib.Core.Path.{refl}
 use Prim.Native.Nat.{_-_}
@@ -9,7 +9,7 @@ use mir.Syntax.{w64}
 use mir.Val.{SFits, toZ}
 use Rattle.numbers.specs.Ints.{Within}
 use Rattle.numbers.proofs.IntLaws.{within-fits, within-add}
-use Rattle.kinds.specs.Ranges.{atℤ}
+use Rattle.types.specs.Ranges.{atℤ}
 use Rattle.corners.specs.Listed.{cornerFlowMost}
 use Rattle.corners.proofs.ListedLaws.{Using, using-none, using-within, using-more, using-all}
 use Rattle.corners.proofs.list_used.Statement.{statement}
@@ -38,56 +38,11 @@ module _ (c : tie.After-out Inv-loop μ-loop) where
   sum-fits : SFits w64 (read +ℤ start .args .part)
   sum-fits = within-fits (within-add read-in (start .pre .0)) tt
 
-loop-holds : tie.Need-loop-holds Inv-loop μ-loop
-loop-holds c = using-none _ _ _ (c .pre .1 .1)
-
-sub-out : tie.Need-sub-out Inv-loop μ-loop
-sub-out c = c .before .loop .inv .low
-
-mul-out : tie.Need-mul-out Inv-loop μ-loop
-mul-out c = omega (arith, c .before .loop .inv .so-far .as-long)
-
-slice-copy-out-out : tie.Need-slice-copy-out-out Inv-loop μ-loop
-slice-copy-out-out c = omega (arith, c .before .loop .inv .so-far .as-long, c .before .before .pre .1 .1)
-
-add-out : tie.Need-add-out Inv-loop μ-loop
-add-out c = simp (toZ-ofZ, read-fits c, c .before .before .before .fits .part) (sum-fits c)
-
-mul-t12 : tie.Need-mul-t12 Inv-loop μ-loop
-mul-t12 c = omega (arith, c .before .before .loop .inv .so-far .as-long)
-
-slice-set-from-out : tie.Need-slice-set-from-out Inv-loop μ-loop
-slice-set-from-out c = omega (arith, c .before .before .loop .inv .so-far .as-long, c .before .before .before .pre .1 .1)
-
-loop-again : tie.Need-loop-again Inv-loop μ-loop
-loop-again c =
-    let s = c .before .before .before in
-    using-more _ _ _ (s .pre .1 .1) (c .before .before .loop .inv) _ (omega arith) (simp (toZ-ofZ, read-fits c, s .fits .part, sum-fits c))
-
-same-length : tie.Need-same-length Inv-loop μ-loop
-same-length c = c .before .loop .inv .so-far .as-long
-
-returns : tie.Need-returns Inv-loop μ-loop
-returns c =
-    let s = c .before .before in
-    simp (toZ-ofZ, s .fits .part) at (using-all _ _ _ (s .pre .1 .1) (c .before .loop .inv) (omega arith) _ refl)
-
 pub list-used-spec : {M : Type 1} → statement M
-list-used-spec =
-    tie.close
-    (tie.spec
-    Inv-loop
-    μ-loop
-    (λ c. omega arith)
-    loop-holds
-    sub-out
-    mul-out
-    slice-copy-out-out
-    add-out
-    mul-t12
-    slice-set-from-out
-    (λ c. omega arith)
-    (λ c. omega arith)
-    loop-again
-    same-length
-    returns)
+list-used-spec = tie.close (tie.spec Inv-loop μ-loop (λ c. omega arith) (λ c. using-none _ _ _ (c .pre .1 .1)) (λ c. c .before .loop .inv .low)
+    (λ c. omega (arith, c .before .loop .inv .so-far .as-long)) (λ c. omega (arith, c .before .loop .inv .so-far .as-long, c .before .before .pre .1 .1))
+    (λ c. simp (toZ-ofZ, read-fits c, c .before .before .before .fits .part) (sum-fits c)) (λ c. omega (arith, c .before .before .loop .inv .so-far .as-long))
+    (λ c. omega (arith, c .before .before .loop .inv .so-far .as-long, c .before .before .before .pre .1 .1)) (λ c. omega arith) (λ c. omega arith)
+    (λ c. let s = c .before .before .before in using-more _ _ _ (s .pre .1 .1) (c .before .before .loop .inv) _ (omega arith) (simp (toZ-ofZ, read-fits c, s .fits .part, sum-fits c)))
+    (λ c. c .before .loop .inv .so-far .as-long)
+    (λ c. let s = c .before .before in simp (toZ-ofZ, s .fits .part) at (using-all _ _ _ (s .pre .1 .1) (c .before .loop .inv) (omega arith) _ refl)))

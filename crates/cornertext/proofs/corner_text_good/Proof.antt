@@ -28,40 +28,14 @@ module _ (c : tie.After-filled2) where
   told : FlowsTold (whole start) (start .args .row) count (filled .corner-flows-good .last .1 .1 .1 .1 .1 .1 .1 .0)
   told = told-passed (whole start) (start .args .row) (start .pre) _ _ (filled .corner-flows-good .ensures) (le-refl sheetMost) count (c .filled2 .given .1)
 
-array-share-prefix-flows : tie.Need-array-share-prefix-flows
-array-share-prefix-flows c = told (c .before) .long
-
-slice-aggregate-write-corners : tie.Need-slice-aggregate-write-corners
-slice-aggregate-write-corners c = sym (length-take-le _ _ (told (c .before .before) .long))
-
-write-corners-requires : tie.Need-write-corners-requires
-write-corners-requires c κs =
-    let d = c .before .before .before in
-    rw (length-take-le (count d) _ (told d .long)) (told d .few)
-
 returns : tie.Need-returns
 returns c =
     let f = c .before .before .before .before in
     let s = f .before .before .before in
     told-refused (whole s) (s .args .row) (s .pre) _ _ (f .corner-flows-good .ensures) (le-refl sheetMost) (s .args .out .now) _ (c .before .filled .given .1)
 
-returns-2 : tie.Need-returns-2
-returns-2 c =
-    let d = c .before .before .before .before .before .before in
-    let s = start d in
-    c .before .before .write-corners .ensures ∙ text-on (whole s) (s .args .row) (s .args .out .now) (told d)
-
 pub corner-text-good-spec : {M : Type 1} → statement M
-corner-text-good-spec =
-    tie.close
-    (tie.spec
-    (λ c. search needs)
-    (λ c κs. search needs)
-    (λ c. search needs)
-    (λ c. search needs)
-    array-share-prefix-flows
-    slice-aggregate-write-corners
-    write-corners-requires
-    returns
-    (λ c. search needs)
-    returns-2)
+corner-text-good-spec = tie.close (tie.spec (λ c. search needs) (λ c κs. search needs) (λ c. search needs) (λ c. search needs) (λ c. told (c .before) .long)
+    (λ c. sym (length-take-le _ _ (told (c .before .before) .long)))
+    (λ c κs. let d = c .before .before .before in rw (length-take-le (count d) _ (told d .long)) (told d .few)) returns (λ c. search needs)
+    (λ c. let d = c .before .before .before .before .before .before in let s = start d in c .before .before .write-corners .ensures ∙ text-on (whole s) (s .args .row) (s .args .out .now) (told d)))

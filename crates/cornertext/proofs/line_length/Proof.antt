@@ -24,11 +24,4 @@ returns c =
     (said ∙ sym is, omega (arith, said, is, most))
 
 pub line-length-spec : {M : Type 1} → statement M
-line-length-spec =
-    tie.close
-    (tie.spec
-    (λ c. search needs)
-    (λ c. search needs)
-    (λ c. search needs)
-    line-length-requires
-    returns)
+line-length-spec = tie.close (tie.spec (λ c. search needs) (λ c. search needs) (λ c. search needs) line-length-requires returns)

@@ -17,9 +17,6 @@ Inv-loop row flows out₀ next₀ k₀ k-end out next k = (k ≤ length flows) �
 abbrev μ-loop : tie.MeasureT-loop
 μ-loop row flows out₀ next₀ k₀ k-end out next k = length flows - k
 
-loop-holds : tie.Need-loop-holds Inv-loop μ-loop
-loop-holds c = (omega arith, lines-none _ _ _)
-
 put-corner-requires : tie.Need-put-corner-requires Inv-loop μ-loop
 unfolding cornersText
 put-corner-requires c κs =
@@ -39,24 +36,6 @@ all : (c : tie.After-loop Inv-loop μ-loop) → let s = c .before .before .befor
 unfolding cornersText
 all c = let s = c .before .before .before in lines-all (cornerLineAt (s .args .row) (s .args .flows .now)) (c .before .loop .inv .0) (omega arith) (c .before .loop .inv .1)
 
-same-length : tie.Need-same-length Inv-loop μ-loop
-same-length c = put-kept (all c) (rw zero-add (c .before .before .before .pre .1))
-
-returns : tie.Need-returns Inv-loop μ-loop
-returns c = all c
-
 pub put-corners-spec : {M : Type 1} → statement M
-put-corners-spec =
-    tie.close
-    (tie.spec
-    Inv-loop
-    μ-loop
-    loop-holds
-    (λ c. omega arith)
-    (λ c. omega arith)
-    put-corner-requires
-    (λ c. omega arith)
-    (λ c. omega arith)
-    loop-again
-    same-length
-    returns)
+put-corners-spec = tie.close (tie.spec Inv-loop μ-loop (λ c. (omega arith, lines-none _ _ _)) (λ c. omega arith) (λ c. omega arith) put-corner-requires
+    (λ c. omega arith) (λ c. omega arith) loop-again (λ c. put-kept (all c) (rw zero-add (c .before .before .before .pre .1))) (λ c. all c))

@@ -17,9 +17,6 @@ Inv-loop row flows sum₀ k₀ k-end sum k = Measured (cornerLineAt row flows) l
 abbrev μ-loop : tie.MeasureT-loop
 μ-loop row flows sum₀ k₀ k-end sum k = length flows - k
 
-loop-holds : tie.Need-loop-holds Inv-loop μ-loop
-loop-holds c = measured-none _ _ _
-
 -- the length of line k
 module _ (c : tie.After-line-length Inv-loop μ-loop) where
   abbrev start : tie.Start Inv-loop μ-loop
@@ -28,28 +25,11 @@ module _ (c : tie.After-line-length Inv-loop μ-loop) where
   counted : c .line-length .result ≡ length (cornerLineAt (start .args .row) (start .args .flows .now) (c .before .before .before .loop .k))
   counted = simp (plain, c .before .line-length-arg .given) at (c .line-length .ensures .0)
 
-add-sum : tie.Need-add-sum Inv-loop μ-loop
-add-sum c = omega (arith, c .before .before .before .loop .inv .few, start c .pre, c .line-length .ensures .1)
-
-loop-again : tie.Need-loop-again Inv-loop μ-loop
-loop-again c = measured-more (c .before .before .before .loop .inv) _ (omega arith) (counted c) (omega (arith, counted c, c .line-length .ensures .1))
-
 returns : tie.Need-returns Inv-loop μ-loop
 unfolding cornersText
 returns c = measured-all (c .before .loop .inv) (omega arith)
 
 pub text-length-spec : {M : Type 1} → statement M
-text-length-spec =
-    tie.close
-    (tie.spec
-    Inv-loop
-    μ-loop
-    loop-holds
-    (λ c. omega arith)
-    (λ c. omega arith)
-    (λ c κs. search needs)
-    add-sum
-    (λ c. omega arith)
-    (λ c. omega arith)
-    loop-again
-    returns)
+text-length-spec = tie.close (tie.spec Inv-loop μ-loop (λ c. measured-none _ _ _) (λ c. omega arith) (λ c. omega arith) (λ c κs. search needs)
+    (λ c. omega (arith, c .before .before .before .loop .inv .few, start c .pre, c .line-length .ensures .1)) (λ c. omega arith) (λ c. omega arith)
+    (λ c. measured-more (c .before .before .before .loop .inv) _ (omega arith) (counted c) (omega (arith, counted c, c .line-length .ensures .1))) returns)

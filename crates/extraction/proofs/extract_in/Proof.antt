@@ -6,22 +6,19 @@ use native.Mathlib.Omega.{arith}
 use lib.ListN.{length}
 use borrow.Author.Needs.{needs}
 use Rattle.numbers.proofs.BelowLaws.{table-long}
-use Rattle.kinds.specs.Refusals.{passed}
-use Rattle.kinds.proofs.KindLaws.{header-in}
+use Rattle.refusals.specs.Refusals.{passed}
+use Rattle.types.proofs.RangeLaws.{header-in}
 use Rattle.marks.specs.Marks.{flagged}
 use Rattle.table.specs.Table.{Table, lent, front}
 use Rattle.table.proofs.RoomLaws.{factors-most}
 use Rattle.margin.proofs.JudgedLaws.{good-factors, good-borders}
-use Rattle.states.specs.Rows.{rowsOf}
-use Rattle.states.proofs.RowsLaws.{rows-in}
+use Rattle.states.specs.Standings.{standingsOf}
+use Rattle.states.proofs.StandingsLaws.{rows-in}
 use Rattle.start.specs.Start.{every, judgeMarked}
 use Rattle.start.proofs.StartLaws.{PreparedAs, prepared-as, laid-grid, laid-margins}
 use Rattle.extraction.proofs.ExtractLaws.{start-turned, start-passed, finishable, stored-is, start-refused, short-borders, short-rows, all-stored}
 use Rattle.extraction.proofs.extract_in.Statement.{statement}
 use Rattle.extraction.proofs.extract_in.Tie as tie
-
-prepare-requires : tie.Need-prepare-requires
-prepare-requires c κs = let q = c .before .before .before .before .before .before .before .before .before .pre in (q .0, (q .1 .0, (q .1 .1 .0, q .1 .1 .1 .0 .0)))
 
 -- the function's entry, its table and its marked borders, and what preparing said, from where it is done
 abbrev entry : tie.After-prepare → tie.Start
@@ -36,30 +33,12 @@ marked s = flagged (s .args .flags .now)
 as-said : (c : tie.After-prepare) → let l = c .prepare .last .1 .1 .1 .1 .1 .1 .1 in PreparedAs (marked (entry c)) (given (entry c)) (c .prepare .result) (l .0) (l .1 .0) (l .1 .1 .0)
 as-said c = prepared-as (c .prepare .result) (c .prepare .ensures)
 
--- .. and where it passed
+-- places in the code: where preparing is done, seen from where it passed
 abbrev prepared-at : tie.After-enum-told → tie.After-prepare
 prepared-at c = c .before .before .before .before .before .before
 
-passes : (c : tie.After-enum-told) → let s = entry (prepared-at c) in judgeMarked (marked s) (given s) ≡ passed (rowsOf (given s) .states)
+passes : (c : tie.After-enum-told) → let s = entry (prepared-at c) in judgeMarked (marked s) (given s) ≡ passed (standingsOf (given s) .states)
 passes c = start-passed (as-said (prepared-at c)) (c .enum-told .given .1)
-
-returns : tie.Need-returns
-returns c = start-refused _ _ _ _ _ (start-turned (as-said (c .before .before .before .before .before .before .before)) (c .before .w .given .1))
-
-returns-2 : tie.Need-returns-2
-returns-2 c = rw (c .too-short .ensures) (short-borders _ _ _ _ _ (passes (c .before .before)) (c .before .if1 .taken))
-
-returns-3 : tie.Need-returns-3
-returns-3 c = rw (c .too-short2 .ensures) (short-rows _ _ _ _ _ (passes (c .before .before .before)) (c .before .before .if1 .left) (c .before .if2 .taken))
-
-slice-aggregate-ends : tie.Need-slice-aggregate-ends
-slice-aggregate-ends c = sym (entry (prepared-at (c .before .before .before)) .pre .0 .exact .borders-long)
-
-mul-factors : tie.Need-mul-factors
-mul-factors c = omega (arith, factors-most _ (entry (prepared-at (c .before .before .before .before)) .pre .0 .exact .header))
-
-slice-aggregate-factors : tie.Need-slice-aggregate-factors
-slice-aggregate-factors c = sym (entry (prepared-at (c .before .before .before .before .before)) .pre .0 .exact .factors-long)
 
 lay-out-requires : tie.Need-lay-out-requires
 lay-out-requires c κs =
@@ -113,33 +92,6 @@ finished-at c = c .before .before .before .before .before .before .before .befor
 abbrev laid-at : tie.After-slice-known12 → tie.After-lay-out
 laid-at c = finished-at c .before .before .before .before .before .before .before .before .before .before .before .before .before
 
-same-length-10 : tie.Need-same-length-10
-same-length-10 c = prepared-at (passed-at (laid-at c)) .prepare .kept .1 .1 .1 .1 .1 .1 .1 .0
-
-same-length-11 : tie.Need-same-length-11
-same-length-11 c = prepared-at (passed-at (laid-at c)) .prepare .kept .1 .1 .1 .1 .1 .1 .1 .1 .0
-
-same-length-12 : tie.Need-same-length-12
-same-length-12 c = prepared-at (passed-at (laid-at c)) .prepare .kept .1 .1 .1 .1 .1 .1 .1 .1 .1 .0
-
-same-length-13 : tie.Need-same-length-13
-same-length-13 c = finished-at c .finish .kept .1 .1 .1 .1 .1 .1 .1 .0 ∙ laid-at c .lay-out .kept .1 .1 .1 .1 .1 .1 .1 .0
-
-same-length-14 : tie.Need-same-length-14
-same-length-14 c = finished-at c .finish .kept .1 .1 .1 .1 .1 .0
-
-same-length-15 : tie.Need-same-length-15
-same-length-15 c = finished-at c .finish .kept .1 .1 .1 .1 .1 .1 .0
-
-same-length-16 : tie.Need-same-length-16
-same-length-16 c = c .before .before .complete .kept .1 .1 .1 .1 .1 .0 ∙ laid-at c .lay-out .kept .1 .1 .1 .1 .1 .1 .0
-
-same-length-17 : tie.Need-same-length-17
-same-length-17 c = finished-at c .finish .kept .1 .1 .1 .1 .1 .1 .1 .1 .0
-
-same-length-18 : tie.Need-same-length-18
-same-length-18 c = finished-at c .finish .kept .1 .1 .1 .1 .1 .1 .1 .1 .1 .0
-
 returns-4 : tie.Need-returns-4
 returns-4 c =
     let laid = laid-at c in
@@ -153,39 +105,21 @@ returns-4 c =
     ∙ all-stored (marked s) t (s .args .p .now) _ _ (passes at-told) (laid .before .before .before .before .before .before .before .before .before .if1 .left) (laid .before .before .before .before .before .before .before .before .if2 .left)
 
 pub extract-in-spec : {M : Type 1} → statement M
-extract-in-spec =
-    tie.close
-    (tie.spec
-    prepare-requires
-    (λ c. search needs)
-    (λ c. search needs)
-    (λ c. search needs)
-    (λ c. search needs)
-    returns
-    (λ c. search needs)
-    (λ c κs. search needs)
-    (λ c. search needs)
-    (λ c. search needs)
-    (λ c. search needs)
-    returns-2
-    (λ c κs. search needs)
-    (λ c. search needs)
-    (λ c. search needs)
-    (λ c. search needs)
-    returns-3
-    slice-aggregate-ends
-    mul-factors
-    slice-aggregate-factors
-    lay-out-requires
-    finish-requires
-    complete-requires
-    same-length-10
-    same-length-11
-    same-length-12
-    same-length-13
-    same-length-14
-    same-length-15
-    same-length-16
-    same-length-17
-    same-length-18
-    returns-4)
+extract-in-spec = tie.close (tie.spec
+    (λ c κs. let q = c .before .before .before .before .before .before .before .before .before .pre in (q .0, (q .1 .0, (q .1 .1 .0, q .1 .1 .1 .0 .0))))
+    (λ c. search needs) (λ c. search needs) (λ c. search needs) (λ c. search needs)
+    (λ c. start-refused _ _ _ _ _ (start-turned (as-said (c .before .before .before .before .before .before .before)) (c .before .w .given .1)))
+    (λ c. search needs) (λ c κs. search needs) (λ c. search needs) (λ c. search needs) (λ c. search needs)
+    (λ c. rw (c .too-short .ensures) (short-borders _ _ _ _ _ (passes (c .before .before)) (c .before .if1 .taken))) (λ c κs. search needs) (λ c. search needs)
+    (λ c. search needs) (λ c. search needs)
+    (λ c. rw (c .too-short2 .ensures) (short-rows _ _ _ _ _ (passes (c .before .before .before)) (c .before .before .if1 .left) (c .before .if2 .taken)))
+    (λ c. sym (entry (prepared-at (c .before .before .before)) .pre .0 .exact .borders-long))
+    (λ c. omega (arith, factors-most _ (entry (prepared-at (c .before .before .before .before)) .pre .0 .exact .header)))
+    (λ c. sym (entry (prepared-at (c .before .before .before .before .before)) .pre .0 .exact .factors-long)) lay-out-requires finish-requires complete-requires
+    (λ c. prepared-at (passed-at (laid-at c)) .prepare .kept .1 .1 .1 .1 .1 .1 .1 .0)
+    (λ c. prepared-at (passed-at (laid-at c)) .prepare .kept .1 .1 .1 .1 .1 .1 .1 .1 .0)
+    (λ c. prepared-at (passed-at (laid-at c)) .prepare .kept .1 .1 .1 .1 .1 .1 .1 .1 .1 .0)
+    (λ c. finished-at c .finish .kept .1 .1 .1 .1 .1 .1 .1 .0 ∙ laid-at c .lay-out .kept .1 .1 .1 .1 .1 .1 .1 .0)
+    (λ c. finished-at c .finish .kept .1 .1 .1 .1 .1 .0) (λ c. finished-at c .finish .kept .1 .1 .1 .1 .1 .1 .0)
+    (λ c. c .before .before .complete .kept .1 .1 .1 .1 .1 .0 ∙ laid-at c .lay-out .kept .1 .1 .1 .1 .1 .1 .0)
+    (λ c. finished-at c .finish .kept .1 .1 .1 .1 .1 .1 .1 .1 .0) (λ c. finished-at c .finish .kept .1 .1 .1 .1 .1 .1 .1 .1 .1 .0) returns-4)

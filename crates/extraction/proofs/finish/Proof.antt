@@ -3,7 +3,7 @@ use mathlib.Core.Path.{_≡_, sym, _∙_}
 use native.Mathlib.Omega.{arith}
 use borrow.Author.Needs.{needs}
 use lib.ListN.{length, take}
-use Rattle.kinds.proofs.KindLaws.{header-in}
+use Rattle.types.proofs.RangeLaws.{header-in}
 use Rattle.extraction.proofs.ExtractLaws.{front-long, front-within, lasts-long, shares-long, lasts-fit, lefts-fit, finished-is}
 use Rattle.extraction.proofs.finish.Statement.{statement}
 use Rattle.extraction.proofs.finish.Tie as tie
@@ -20,15 +20,6 @@ at-run-from-x c = c .before .before .before .before .before .before .before
 
 abbrev at-run-from-store-atcs : tie.After-store-atcs → tie.After-run
 at-run-from-store-atcs c = at-run-from-x (c .before .before .before .before .before)
-
-run-requires : tie.Need-run-requires
-run-requires c κs = let q = c .before .before .before .before .before .before .before .before .pre in (q .0 .run, q .1 .0)
-
-array-share-prefix-x : tie.Need-array-share-prefix-x
-array-share-prefix-x c = let at-run = at-run-from-x c in front-within (entry at-run .pre .0) (at-run .run .result) (at-run .run .ensures)
-
-slice-aggregate-store-atcs : tie.Need-slice-aggregate-store-atcs
-slice-aggregate-store-atcs c = sym (front (at-run-from-x (c .before)))
 
 store-atcs-requires : tie.Need-store-atcs-requires
 store-atcs-requires c κs =
@@ -60,17 +51,7 @@ returns c =
     finished-is (entry at-run .pre .0) (at-run .run .result) (at-run .run .ensures) _ _ (at-store-atcs .store-atcs .ensures) (c .before .store-lefts .ensures)
 
 pub finish-spec : {M : Type 1} → statement M
-finish-spec =
-    tie.close
-    (tie.spec
-    run-requires
-    array-share-prefix-x
-    slice-aggregate-store-atcs
-    store-atcs-requires
-    store-lefts-requires
-    (λ c. search needs)
-    (λ c. search needs)
-    (λ c. search needs)
-    (λ c. search needs)
-    (λ c. search needs)
-    returns)
+finish-spec = tie.close (tie.spec (λ c κs. let q = c .before .before .before .before .before .before .before .before .pre in (q .0 .run, q .1 .0))
+    (λ c. let at-run = at-run-from-x c in front-within (entry at-run .pre .0) (at-run .run .result) (at-run .run .ensures))
+    (λ c. sym (front (at-run-from-x (c .before)))) store-atcs-requires store-lefts-requires (λ c. search needs) (λ c. search needs) (λ c. search needs)
+    (λ c. search needs) (λ c. search needs) returns)

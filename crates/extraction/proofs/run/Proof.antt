@@ -1,4 +1,4 @@
--- `extraction::run` meets its contract: the rounds start at LTA, with n of each row, and the shares are of the margins that they leave.
+-- `extraction::run` meets its contract: the rounds begin where the borders start, with n of each row, and the shares are of the margins that the rounds leave.
 use mathlib.Core.Path.{_∙_}
 use native.Mathlib.Omega.{arith}
 use borrow.Author.Needs.{needs}
@@ -28,14 +28,5 @@ returns c =
     (at-rounds .extract-rounds .kept .1 .1 .1 .1 .0 ∙ q .0 .margins-long) (at-share-out .share-out .ensures)
 
 pub run-spec : {M : Type 1} → statement M
-run-spec =
-    tie.close
-    (tie.spec
-    (λ c κs. search needs)
-    (λ c κs. search needs)
-    extract-rounds-requires
-    (λ c κs. search needs)
-    (λ c. search needs)
-    (λ c. search needs)
-    (λ c. search needs)
-    returns)
+run-spec = tie.close (tie.spec (λ c κs. search needs) (λ c κs. search needs) extract-rounds-requires (λ c κs. search needs) (λ c. search needs)
+    (λ c. search needs) (λ c. search needs) returns)

@@ -9,11 +9,11 @@ use mir.Syntax.{w64}
 use mir.Val.{SFits}
 use Rattle.numbers.specs.Ints.{Within, maxℤ}
 use Rattle.numbers.proofs.IntLaws.{within-fits, within-mul, within-pos}
-use Rattle.kinds.specs.Limits.{fmaxMost, flowMost, shareMost}
-use Rattle.kinds.specs.Ranges.{worth}
+use Rattle.types.specs.LineLimits.{fmaxMost, flowMost, shareMost}
+use Rattle.types.specs.Ranges.{worth}
 use Rattle.margin.specs.Margin.{fuafOf, baseOf, amrOf}
-use Rattle.margin.specs.Bounds.{f0coreMost}
-use Rattle.margin.proofs.BoundLaws.{within-is, within-sub, within-fifth, within-fuaf, within-base}
+use Rattle.margin.specs.Magnitudes.{f0coreMost}
+use Rattle.margin.proofs.MagnitudeLaws.{within-is, within-sub, within-fifth, within-fuaf, within-base}
 use Rattle.margin.proofs.amr.Statement.{statement}
 use Rattle.margin.proofs.amr.Tie as tie
 
@@ -86,26 +86,8 @@ module _ (c : tie.After-base) where
   second-fits : SFits w64 (fmax *ℤ pos 20000 -ℤ b)
   second-fits = within-fits (within-sub (within-fifth (start .pre .1 .0)) b-in) tt
 
-mul-larger : tie.Need-mul-larger
-mul-larger c = let d = c .before .before in simp (toZ-ofZ, r-fits d, fmax-fits d) (product-fits d)
-
-mul-larger-2 : tie.Need-mul-larger-2
-mul-larger-2 c = let d = c .before .before in simp (toZ-ofZ, r-fits d, fmax-fits d, product-fits d) (share-fits d)
-
-sub-larger : tie.Need-sub-larger
-sub-larger c = let d = c .before .before in simp (toZ-ofZ, r-fits d, fmax-fits d, u-fits d, product-fits d, share-fits d) (less-fits d)
-
-sub-larger-2 : tie.Need-sub-larger-2
-sub-larger-2 c = let d = c .before .before in simp (toZ-ofZ, r-fits d, fmax-fits d, u-fits d, b-fits d, product-fits d, share-fits d, less-fits d) (first-fits d)
-
 abbrev at-base : tie.After-struct-told2 → tie.After-base
 at-base c = c .before .before .before .before
-
-mul-larger-3 : tie.Need-mul-larger-3
-mul-larger-3 c = let d = at-base c in simp (toZ-ofZ, fmax-fits d) (fifth-fits d)
-
-sub-larger-3 : tie.Need-sub-larger-3
-sub-larger-3 c = let d = at-base c in simp (toZ-ofZ, fmax-fits d, b-fits d, fifth-fits d) (second-fits d)
 
 returns : tie.Need-returns
 unfolding amrOf
@@ -119,18 +101,10 @@ returns c =
     toZ-ofZ k2 ∙ cc (r-is d, u-is d, b-is d)
 
 pub amr-spec : {M : Type 1} → statement M
-amr-spec =
-    tie.close
-    (tie.spec
-    (λ c κs. search needs)
-    (λ c κs. search needs)
-    (λ c κs. search needs)
-    mul-larger
-    mul-larger-2
-    sub-larger
-    sub-larger-2
-    mul-larger-3
-    sub-larger-3
-    (λ c κs. search needs)
-    (λ c κs. search needs)
-    returns)
+amr-spec = tie.close (tie.spec (λ c κs. search needs) (λ c κs. search needs) (λ c κs. search needs)
+    (λ c. let d = c .before .before in simp (toZ-ofZ, r-fits d, fmax-fits d) (product-fits d))
+    (λ c. let d = c .before .before in simp (toZ-ofZ, r-fits d, fmax-fits d, product-fits d) (share-fits d))
+    (λ c. let d = c .before .before in simp (toZ-ofZ, r-fits d, fmax-fits d, u-fits d, product-fits d, share-fits d) (less-fits d))
+    (λ c. let d = c .before .before in simp (toZ-ofZ, r-fits d, fmax-fits d, u-fits d, b-fits d, product-fits d, share-fits d, less-fits d) (first-fits d))
+    (λ c. let d = at-base c in simp (toZ-ofZ, fmax-fits d) (fifth-fits d))
+    (λ c. let d = at-base c in simp (toZ-ofZ, fmax-fits d, b-fits d, fifth-fits d) (second-fits d)) (λ c κs. search needs) (λ c κs. search needs) returns)

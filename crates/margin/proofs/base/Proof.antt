@@ -8,19 +8,9 @@ use mir.Syntax.{w64}
 use mir.Val.{SFits}
 use Rattle.numbers.proofs.IntLaws.{within-fits, within-le}
 use Rattle.margin.specs.Margin.{grains, baseOf}
-use Rattle.margin.proofs.BoundLaws.{within-is, within-sub, within-grains}
+use Rattle.margin.proofs.MagnitudeLaws.{within-is, within-sub, within-grains}
 use Rattle.margin.proofs.base.Statement.{statement}
 use Rattle.margin.proofs.base.Tie as tie
-
-grains-requires : tie.Need-grains-requires
-grains-requires c κs =
-    let row = c .before .pre .0 in
-    simp (toZ-ofZ, within-fits (row .fmax-in) tt) (within-le (row .fmax-in) (omega arith))
-
-grains-requires-2 : tie.Need-grains-requires-2
-grains-requires-2 c κs =
-    let row = c .before .before .before .pre .0 in
-    simp (toZ-ofZ, within-fits (row .frm-in) tt) (within-le (row .frm-in) (omega arith))
 
 -- Fmax and FRM in grains, and the differences
 module _ (c : tie.After-grains2) where
@@ -49,15 +39,12 @@ module _ (c : tie.After-grains2) where
       let row = start .pre .0 in
       within-fits (within-sub (within-sub (within-is fmax-is (within-grains (row .fmax-in))) (within-is frm-is (within-grains (row .frm-in)))) (start .pre .1)) tt
 
-sub-result : tie.Need-sub-result
-sub-result c = simp (toZ-ofZ, fmax-fits c, frm-fits c) (first-fits c)
-
-sub-result-2 : tie.Need-sub-result-2
-sub-result-2 c = simp (toZ-ofZ, start c .fits .f0core, fmax-fits c, frm-fits c, first-fits c) (base-fits c)
-
 returns : tie.Need-returns
 unfolding baseOf
 returns c = simp (toZ-ofZ, start c .fits .f0core, fmax-fits c, frm-fits c, first-fits c, base-fits c) (cc (fmax-is c, frm-is c))
 
 pub base-spec : {M : Type 1} → statement M
-base-spec = tie.close (tie.spec grains-requires grains-requires-2 sub-result sub-result-2 returns)
+base-spec = tie.close (tie.spec (λ c κs. let row = c .before .pre .0 in simp (toZ-ofZ, within-fits (row .fmax-in) tt) (within-le (row .fmax-in) (omega arith)))
+    (λ c κs. let row = c .before .before .before .pre .0 in simp (toZ-ofZ, within-fits (row .frm-in) tt) (within-le (row .frm-in) (omega arith)))
+    (λ c. simp (toZ-ofZ, fmax-fits c, frm-fits c) (first-fits c))
+    (λ c. simp (toZ-ofZ, start c .fits .f0core, fmax-fits c, frm-fits c, first-fits c) (base-fits c)) returns)

@@ -8,7 +8,7 @@ use mir.Syntax.{w64}
 use mir.Val.{toZ, ofZ}
 use Rattle.numbers.proofs.IntLaws.{within-fits, within-le}
 use Rattle.margin.specs.Margin.{grains, flowOf, f0coreOf}
-use Rattle.margin.proofs.BoundLaws.{within-is, within-grains}
+use Rattle.margin.proofs.MagnitudeLaws.{within-is, within-grains}
 use Rattle.margin.proofs.f0core.Statement.{statement}
 use Rattle.margin.proofs.f0core.Tie as tie
 
@@ -20,9 +20,6 @@ module _ (c : tie.After-grains) where
   g-is : toZ w64 (ofZ w64 (c .grains .result)) ≡ grains (start .args .row .fref)
   g-is = toZ-ofZ (sfits-of (c .grains .ok)) ∙ (simp (toZ-ofZ, within-fits (start .pre .0 .fref-in) tt) at (c .grains .ensures))
 
-less-flow-requires : tie.Need-less-flow-requires
-less-flow-requires c κs = (within-is (g-is c) (within-le (within-grains (start c .pre .0 .fref-in)) (omega arith)), start c .pre .1)
-
 returns : tie.Need-returns
 unfolding f0coreOf
 returns c =
@@ -30,4 +27,5 @@ returns c =
     toZ-ofZ (sfits-of (c .less-flow .ok)) ∙ c .less-flow .ensures ∙ ap (λ (g : ℤ). g -ℤ flowOf (start d .args .factors .now) (start d .args .nets .now)) (g-is d)
 
 pub f0core-spec : {M : Type 1} → statement M
-f0core-spec = tie.close (tie.spec (λ c κs. search needs) less-flow-requires returns)
+f0core-spec = tie.close (tie.spec (λ c κs. search needs)
+    (λ c κs. (within-is (g-is c) (within-le (within-grains (start c .pre .0 .fref-in)) (omega arith)), start c .pre .1)) returns)

@@ -11,13 +11,13 @@ use mir.Facts.{toZ-ofZ}
 use mir.Syntax.{w64}
 use mir.Val.{SFits}
 use Rattle.numbers.proofs.ListLaws.{Filled, filled-none, filled-more, filled-all}
-use Rattle.kinds.specs.Ranges.{isIntraday, rowOf, defaultOf}
-use Rattle.kinds.proofs.KindLaws.{default-in}
+use Rattle.types.specs.Ranges.{isIntraday, rowOf, defaultOf}
+use Rattle.types.proofs.RangeLaws.{default-in}
 use Rattle.table.specs.Table.{Table, lent, stretch}
 use Rattle.margin.specs.Margin.{f0coreOf, sOf, ramOf, ramAt, startBy, marginOf}
-use Rattle.margin.specs.Bounds.{NetsBound, BordersBound}
-use Rattle.margin.proofs.BoundLaws.{within-is}
-use Rattle.margin.proofs.JudgedLaws.{part-long, part-bound, s-bound, good-factors, good-borders, good-nets, good-allocated}
+use Rattle.margin.specs.Magnitudes.{NetsInRange, BordersInRange}
+use Rattle.margin.proofs.MagnitudeLaws.{within-is}
+use Rattle.margin.proofs.JudgedLaws.{part-long, part-ranges, s-bound, good-factors, good-borders, good-nets, good-allocated}
 use Rattle.margin.proofs.Small.{ram-in}
 use Rattle.margin.proofs.fill_rams.Statement.{statement}
 use Rattle.margin.proofs.fill_rams.Tie as tie
@@ -43,12 +43,6 @@ module _ (t : Table) (i : ℕ) {factors : List ℤ} {s : ℕ} {ram : ℤ} (e : f
   start-is : (intraday : Bool) → intraday ≡ isIntraday (t .header) → startBy intraday ram s factors (t .allocated) ≡ marginOf t i
   start-is intraday w = cc (ram-is)
 
-loop-holds : tie.Need-loop-holds Inv-loop μ-loop
-loop-holds c = record { rams-filled = filled-none _ _ _; starts-filled = filled-none _ _ _ }
-
-row-factors-requires : tie.Need-row-factors-requires Inv-loop μ-loop
-row-factors-requires c κs = (good-factors (c .before .before .before .before .pre .0), omega arith)
-
 -- the row's factors
 module _ (c : tie.After-row-factors Inv-loop μ-loop) where
   abbrev start : tie.Start Inv-loop μ-loop
@@ -66,29 +60,23 @@ module _ (c : tie.After-row-factors Inv-loop μ-loop) where
 
 s-requires : tie.Need-s-requires Inv-loop μ-loop
 s-requires c κs = (
-  part-bound (good-factors (start c .pre .0)) (c .before .before .loop .i) (below c) (c .row-factors .ensures),
-  subst (λ (n : ℕ). BordersBound n (start c .args .b .now)) (sym (long c)) (good-borders (start c .pre .0)),
+  part-ranges (good-factors (start c .pre .0)) (c .before .before .loop .i) (below c) (c .row-factors .ensures),
+  subst (λ (n : ℕ). BordersInRange n (start c .args .b .now)) (sym (long c)) (good-borders (start c .pre .0)),
 )
-
-mul-row-ram : tie.Need-mul-row-ram Inv-loop μ-loop
-mul-row-ram c = omega (arith, start (c .before) .pre .0 .exact .rows-long, below (c .before))
-
-shared-slice-copy-out-row-ram : tie.Need-shared-slice-copy-out-row-ram Inv-loop μ-loop
-shared-slice-copy-out-row-ram c = omega (arith, start (c .before) .pre .0 .exact .rows-long, below (c .before))
 
 row-ram-requires : tie.Need-row-ram-requires Inv-loop μ-loop
 row-ram-requires c κs =
     let d = c .before .before in
     let good = start d .pre .0 in
-    let factors = part-bound (good-factors good) (d .before .before .loop .i) (below d) (d .row-factors .ensures) in (
+    let factors = part-ranges (good-factors good) (d .before .before .loop .i) (below d) (d .row-factors .ensures) in (
       simp (toZ-ofZ, default-fits d) (within-is (d .before .before .before .before .default-share .ensures) (default-in _ (good .exact .header))),
       (
         good .rows-fit (d .before .before .loop .i) (below d),
         (
           factors,
           (
-            subst (λ (n : ℕ). NetsBound n (start d .args .z .now)) (sym (long d)) (good-nets good),
-            s-bound factors (subst (λ (n : ℕ). BordersBound n (start d .args .b .now)) (sym (long d)) (good-borders good)) (c .before .s .ensures),
+            subst (λ (n : ℕ). NetsInRange n (start d .args .z .now)) (sym (long d)) (good-nets good),
+            s-bound factors (subst (λ (n : ℕ). BordersInRange n (start d .args .b .now)) (sym (long d)) (good-borders good)) (c .before .s .ensures),
           ),
         ),
       ),
@@ -121,34 +109,19 @@ module _ (c : tie.After-row-ram Inv-loop μ-loop) where
   ram-at : c .row-ram .result ≡ ramAt t i
   ram-at = ram-is t i (at-factors .row-factors .ensures) (c .before .before .s .ensures) ram-given
 
-mul-ram : tie.Need-mul-ram Inv-loop μ-loop
-mul-ram c = omega (arith, head c .rams-filled .as-long, start (at-factors c) .pre .1 .0)
-
-slice-set-from-ram : tie.Need-slice-set-from-ram Inv-loop μ-loop
-slice-set-from-ram c = omega (arith, head c .rams-filled .as-long, start (at-factors c) .pre .1 .0)
-
 start-requires : tie.Need-start-requires Inv-loop μ-loop
 start-requires c κs =
     let d = at-factors c in
     let good = start d .pre .0 in (
       simp (toZ-ofZ, ram-fits c) (within-is (ram-at c) (ram-in good (i c) (below d))),
       (
-        s-bound (part-bound (good-factors good) (i c) (below d) (d .row-factors .ensures)) (subst (λ (n : ℕ). BordersBound n (start d .args .b .now)) (sym (long d)) (good-borders good)) (c .before .before .s .ensures),
+        s-bound (part-ranges (good-factors good) (i c) (below d) (d .row-factors .ensures)) (subst (λ (n : ℕ). BordersInRange n (start d .args .b .now)) (sym (long d)) (good-borders good)) (c .before .before .s .ensures),
         (
-          part-bound (good-factors good) (i c) (below d) (d .row-factors .ensures),
-          subst (λ (n : ℕ). NetsBound n (start d .args .t .now)) (sym (long d)) (good-allocated good),
+          part-ranges (good-factors good) (i c) (below d) (d .row-factors .ensures),
+          subst (λ (n : ℕ). NetsInRange n (start d .args .t .now)) (sym (long d)) (good-allocated good),
         ),
       ),
     )
-
-mul-t17 : tie.Need-mul-t17 Inv-loop μ-loop
-mul-t17 c = omega (arith, head (c .before) .starts-filled .as-long, start (at-factors (c .before)) .pre .1 .1)
-
-slice-set-from-starts : tie.Need-slice-set-from-starts Inv-loop μ-loop
-slice-set-from-starts c = omega (arith, head (c .before) .starts-filled .as-long, start (at-factors (c .before)) .pre .1 .1)
-
-add-i : tie.Need-add-i Inv-loop μ-loop
-add-i c = omega (arith, head (c .before) .starts-filled .as-long, start (at-factors (c .before)) .pre .1 .1)
 
 loop-again : tie.Need-loop-again Inv-loop μ-loop
 loop-again c =
@@ -161,39 +134,20 @@ loop-again c =
           (toZ-ofZ k ∙ (simp (toZ-ofZ, ram-fits d) at (c .start .ensures)) ∙ start-is (t d) (i d) (f .row-factors .ensures) (d .before .before .s .ensures) (ram-given d) _ (f .before .before .before .is-intraday .ensures));
     }
 
-same-length : tie.Need-same-length Inv-loop μ-loop
-same-length c = c .before .loop .inv .rams-filled .as-long
-
-same-length-2 : tie.Need-same-length-2 Inv-loop μ-loop
-same-length-2 c = c .before .loop .inv .starts-filled .as-long
-
 returns : tie.Need-returns Inv-loop μ-loop
 returns c =
     let q = c .before .before .before .before .pre .1 in
     (filled-all (c .before .loop .inv .rams-filled) (omega arith) (q .0), filled-all (c .before .loop .inv .starts-filled) (omega arith) (q .1))
 
 pub fill-rams-spec : {M : Type 1} → statement M
-fill-rams-spec =
-    tie.close
-    (tie.spec
-    Inv-loop
-    μ-loop
-    (λ c κs. search needs)
-    (λ c κs. search needs)
-    loop-holds
-    row-factors-requires
-    s-requires
-    mul-row-ram
-    shared-slice-copy-out-row-ram
-    row-ram-requires
-    mul-ram
-    slice-set-from-ram
-    start-requires
-    mul-t17
-    slice-set-from-starts
-    add-i
-    (λ c. omega arith)
-    loop-again
-    same-length
-    same-length-2
-    returns)
+fill-rams-spec = tie.close (tie.spec Inv-loop μ-loop (λ c κs. search needs) (λ c κs. search needs)
+    (λ c. record { rams-filled = filled-none _ _ _; starts-filled = filled-none _ _ _ })
+    (λ c κs. (good-factors (c .before .before .before .before .pre .0), omega arith)) s-requires
+    (λ c. omega (arith, start (c .before) .pre .0 .exact .rows-long, below (c .before)))
+    (λ c. omega (arith, start (c .before) .pre .0 .exact .rows-long, below (c .before))) row-ram-requires
+    (λ c. omega (arith, head c .rams-filled .as-long, start (at-factors c) .pre .1 .0))
+    (λ c. omega (arith, head c .rams-filled .as-long, start (at-factors c) .pre .1 .0)) start-requires
+    (λ c. omega (arith, head (c .before) .starts-filled .as-long, start (at-factors (c .before)) .pre .1 .1))
+    (λ c. omega (arith, head (c .before) .starts-filled .as-long, start (at-factors (c .before)) .pre .1 .1))
+    (λ c. omega (arith, head (c .before) .starts-filled .as-long, start (at-factors (c .before)) .pre .1 .1)) (λ c. omega arith) loop-again
+    (λ c. c .before .loop .inv .rams-filled .as-long) (λ c. c .before .loop .inv .starts-filled .as-long) returns)

@@ -7,7 +7,7 @@ use mir.Syntax.{w64}
 use mir.Val.{SFits}
 use Rattle.numbers.proofs.IntLaws.{within-fits}
 use Rattle.margin.specs.Margin.{grains, fuafOf}
-use Rattle.margin.proofs.BoundLaws.{within-is, within-sub, within-grains}
+use Rattle.margin.proofs.MagnitudeLaws.{within-is, within-sub, within-grains}
 use Rattle.margin.proofs.fuaf.Statement.{statement}
 use Rattle.margin.proofs.fuaf.Tie as tie
 
@@ -25,12 +25,9 @@ module _ (c : tie.After-grains) where
   fuaf-fits : SFits w64 (start .args .f0core -ℤ c .grains .result)
   fuaf-fits = within-fits (within-sub (start .pre .1) (within-is f0all-is (within-grains (start .pre .0 .f0all-in)))) tt
 
-sub-result : tie.Need-sub-result
-sub-result c = simp (toZ-ofZ, start c .fits .f0core, f0all-fits c) (fuaf-fits c)
-
 returns : tie.Need-returns
 unfolding fuafOf
 returns c = simp (toZ-ofZ, start c .fits .f0core, f0all-fits c, fuaf-fits c) (cc (f0all-is c))
 
 pub fuaf-spec : {M : Type 1} → statement M
-fuaf-spec = tie.close (tie.spec (λ c κs. search needs) sub-result returns)
+fuaf-spec = tie.close (tie.spec (λ c κs. search needs) (λ c. simp (toZ-ofZ, start c .fits .f0core, f0all-fits c) (fuaf-fits c)) returns)

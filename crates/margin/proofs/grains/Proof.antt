@@ -2,7 +2,7 @@
 use mir.Facts.{toZ-ofZ}
 use Rattle.numbers.proofs.IntLaws.{within-fits}
 use Rattle.margin.specs.Margin.{grains}
-use Rattle.margin.proofs.BoundLaws.{within-grains}
+use Rattle.margin.proofs.MagnitudeLaws.{within-grains}
 use Rattle.margin.proofs.grains.Statement.{statement}
 use Rattle.margin.proofs.grains.Tie as tie
 

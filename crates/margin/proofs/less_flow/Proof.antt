@@ -10,11 +10,11 @@ use mir.Syntax.{w64}
 use mir.Val.{SFits, toZ, ofZ}
 use Rattle.numbers.specs.Ints.{Within, sumℤ}
 use Rattle.numbers.proofs.IntLaws.{within-fits, within-le, within-mul}
-use Rattle.kinds.specs.Limits.{factorMost, netMost}
-use Rattle.kinds.specs.Ranges.{atℤ}
+use Rattle.types.specs.LineLimits.{factorMost, netMost}
+use Rattle.types.specs.Ranges.{atℤ}
 use Rattle.margin.specs.Margin.{flowOf}
-use Rattle.margin.specs.Bounds.{startMost}
-use Rattle.margin.proofs.BoundLaws.{within-is, products, flow-upto, flow-none, flow-more, flow-all}
+use Rattle.margin.specs.Magnitudes.{startMost}
+use Rattle.margin.proofs.MagnitudeLaws.{within-is, products, flow-upto, flow-none, flow-more, flow-all}
 use Rattle.margin.proofs.less_flow.Statement.{statement}
 use Rattle.margin.proofs.less_flow.Tie as tie
 
@@ -32,13 +32,7 @@ module _ (c : tie.Start Inv-loop μ-loop) where
   g-is : g ≡ c .args .value
   g-is = toZ-ofZ (c .fits .value)
 
-loop-holds : tie.Need-loop-holds Inv-loop μ-loop
-loop-holds c = (omega arith, flow-none (g c) (c .args .factors .now) (c .args .nets .now))
-
-shared-slice-copy-out-factor : tie.Need-shared-slice-copy-out-factor Inv-loop μ-loop
-shared-slice-copy-out-factor c = omega (arith, c .before .before .pre .1 .1 .few)
-
--- in a turn
+-- in a turn of the loop
 module _ (c : tie.After-net Inv-loop μ-loop) where
   abbrev start : tie.Start Inv-loop μ-loop
   start = c .before .before .before .before
@@ -80,17 +74,6 @@ module _ (c : tie.After-net Inv-loop μ-loop) where
       (omega (arith, n .few, f .few, below)))
       tt
 
-mul-left : tie.Need-mul-left Inv-loop μ-loop
-mul-left c = simp (toZ-ofZ, within-fits (factor-in c) tt, within-fits (net-in c) tt) (product-fits c)
-
-sub-left : tie.Need-sub-left Inv-loop μ-loop
-sub-left c = simp (toZ-ofZ, within-fits (factor-in c) tt, within-fits (net-in c) tt, product-fits c) (next-fits c)
-
-loop-again : tie.Need-loop-again Inv-loop μ-loop
-loop-again c =
-    simp (toZ-ofZ, within-fits (factor-in c) tt, within-fits (net-in c) tt, product-fits c, next-fits c)
-    (omega (arith, below c), turned c)
-
 returns : tie.Need-returns Inv-loop μ-loop
 returns c =
     let l = c .before .loop in
@@ -98,19 +81,8 @@ returns c =
     l .inv .1 ∙ flow-all (g start) (start .args .factors .now) (start .args .nets .now) (l .z) (omega arith) ∙ ap (λ (x : ℤ). x -ℤ flowOf (start .args .factors .now) (start .args .nets .now)) (g-is start)
 
 pub less-flow-spec : {M : Type 1} → statement M
-less-flow-spec =
-    tie.close
-    (tie.spec
-    Inv-loop
-    μ-loop
-    loop-holds
-    (λ c. omega arith)
-    shared-slice-copy-out-factor
-    (λ c. omega arith)
-    (λ c. omega arith)
-    mul-left
-    sub-left
-    (λ c. omega arith)
-    (λ c. omega arith)
-    loop-again
-    returns)
+less-flow-spec = tie.close (tie.spec Inv-loop μ-loop (λ c. (omega arith, flow-none (g c) (c .args .factors .now) (c .args .nets .now))) (λ c. omega arith)
+    (λ c. omega (arith, c .before .before .pre .1 .1 .few)) (λ c. omega arith) (λ c. omega arith)
+    (λ c. simp (toZ-ofZ, within-fits (factor-in c) tt, within-fits (net-in c) tt) (product-fits c))
+    (λ c. simp (toZ-ofZ, within-fits (factor-in c) tt, within-fits (net-in c) tt, product-fits c) (next-fits c)) (λ c. omega arith) (λ c. omega arith)
+    (λ c. simp (toZ-ofZ, within-fits (factor-in c) tt, within-fits (net-in c) tt, product-fits c, next-fits c) (omega (arith, below c), turned c)) returns)

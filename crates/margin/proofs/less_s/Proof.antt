@@ -5,7 +5,7 @@ use mir.Facts.{toZ-ofZ}
 use mir.Syntax.{w64}
 use mir.Val.{SFits, toZ}
 use Rattle.numbers.proofs.IntLaws.{within-fits, within-pos, read-pos}
-use Rattle.margin.proofs.BoundLaws.{within-sub}
+use Rattle.margin.proofs.MagnitudeLaws.{within-sub}
 use Rattle.margin.proofs.less_s.Statement.{statement}
 use Rattle.margin.proofs.less_s.Tie as tie
 
@@ -16,14 +16,6 @@ module _ (c : tie.Start) where
   less-fits : SFits w64 (c .args .ram -ℤ pos (c .args .s))
   less-fits = within-fits (within-sub (c .pre .0) (within-pos (c .pre .1))) tt
 
-cast-result : tie.Need-cast-result
-cast-result c = within-fits (within-pos (c .pre .1)) tt
-
-sub-result : tie.Need-sub-result
-sub-result c = simp (toZ-ofZ, c .fits .ram, s-is c) (less-fits c)
-
-returns : tie.Need-returns
-returns c = simp (toZ-ofZ, c .fits .ram, s-is c, less-fits c)
-
 pub less-s-spec : {M : Type 1} → statement M
-less-s-spec = tie.close (tie.spec cast-result sub-result returns)
+less-s-spec = tie.close (tie.spec (λ c. within-fits (within-pos (c .pre .1)) tt) (λ c. simp (toZ-ofZ, c .fits .ram, s-is c) (less-fits c))
+    (λ c. simp (toZ-ofZ, c .fits .ram, s-is c, less-fits c)))

@@ -9,20 +9,10 @@ use mir.Val.{SFits, toZ}
 use Rattle.numbers.specs.Ints.{Within, maxℤ}
 use Rattle.numbers.proofs.IntLaws.{within-fits, within-le, within-pos, read-pos, within-add}
 use Rattle.margin.specs.Margin.{grains, ltaMarginOf}
-use Rattle.margin.specs.Bounds.{sMost}
-use Rattle.margin.proofs.BoundLaws.{within-is, within-sub, within-grains}
+use Rattle.margin.specs.Magnitudes.{sMost}
+use Rattle.margin.proofs.MagnitudeLaws.{within-is, within-sub, within-grains}
 use Rattle.margin.proofs.lta_margin.Statement.{statement}
 use Rattle.margin.proofs.lta_margin.Tie as tie
-
-grains-requires : tie.Need-grains-requires
-grains-requires c κs =
-    let row = c .before .pre .0 in
-    simp (toZ-ofZ, within-fits (row .frm-in) tt) (within-le (row .frm-in) (omega arith))
-
-grains-requires-2 : tie.Need-grains-requires-2
-grains-requires-2 c κs =
-    let row = c .before .before .before .pre .0 in
-    simp (toZ-ofZ, within-fits (row .fmax-in) tt) (within-le (row .fmax-in) (omega arith))
 
 -- FRM and Fmax in grains, and each value on the way
 module _ (c : tie.After-grains2) where
@@ -77,18 +67,6 @@ module _ (c : tie.After-grains2) where
       (within-is fmax-is (within-grains (row .fmax-in))))
       tt
 
-add-larger : tie.Need-add-larger
-add-larger c = simp (toZ-ofZ, s-is c, start c .fits .f0core) (with-s c)
-
-add-larger-2 : tie.Need-add-larger-2
-add-larger-2 c = simp (toZ-ofZ, s-is c, start c .fits .f0core, frm-fits c, with-s c) (with-frm c)
-
-sub-larger : tie.Need-sub-larger
-sub-larger c = simp (toZ-ofZ, s-is c, start c .fits .f0core, start c .fits .amr, frm-fits c, with-s c, with-frm c) (less-amr c)
-
-sub-larger-2 : tie.Need-sub-larger-2
-sub-larger-2 c = simp (toZ-ofZ, s-is c, start c .fits .f0core, start c .fits .amr, frm-fits c, fmax-fits c, with-s c, with-frm c, less-amr c) (less-fmax c)
-
 returns : tie.Need-returns
 unfolding ltaMarginOf
 returns c =
@@ -99,15 +77,11 @@ returns c =
     toZ-ofZ k ∙ cc (frm-is d, fmax-is d)
 
 pub lta-margin-spec : {M : Type 1} → statement M
-lta-margin-spec =
-    tie.close
-    (tie.spec
-    grains-requires
-    grains-requires-2
-    (λ c. search needs)
-    add-larger
-    add-larger-2
-    sub-larger
-    sub-larger-2
-    (λ c κs. search needs)
-    returns)
+lta-margin-spec = tie.close (tie.spec
+    (λ c κs. let row = c .before .pre .0 in simp (toZ-ofZ, within-fits (row .frm-in) tt) (within-le (row .frm-in) (omega arith)))
+    (λ c κs. let row = c .before .before .before .pre .0 in simp (toZ-ofZ, within-fits (row .fmax-in) tt) (within-le (row .fmax-in) (omega arith)))
+    (λ c. search needs) (λ c. simp (toZ-ofZ, s-is c, start c .fits .f0core) (with-s c))
+    (λ c. simp (toZ-ofZ, s-is c, start c .fits .f0core, frm-fits c, with-s c) (with-frm c))
+    (λ c. simp (toZ-ofZ, s-is c, start c .fits .f0core, start c .fits .amr, frm-fits c, with-s c, with-frm c) (less-amr c))
+    (λ c. simp (toZ-ofZ, s-is c, start c .fits .f0core, start c .fits .amr, frm-fits c, fmax-fits c, with-s c, with-frm c, less-amr c) (less-fmax c))
+    (λ c κs. search needs) returns)

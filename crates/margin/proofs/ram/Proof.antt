@@ -9,10 +9,10 @@ use mir.Syntax.{w64}
 use mir.Val.{SFits}
 use Rattle.numbers.specs.Ints.{Within}
 use Rattle.numbers.proofs.IntLaws.{within-fits, within-le, within-add}
-use Rattle.kinds.specs.Limits.{fmaxMost}
+use Rattle.types.specs.LineLimits.{fmaxMost}
 use Rattle.margin.specs.Margin.{grains, baseOf, amrOf, ltaMarginOf, ramOf}
-use Rattle.margin.specs.Bounds.{f0coreMost, amrMost, sMost}
-use Rattle.margin.proofs.BoundLaws.{within-is, within-sub, within-grains, within-base, within-amr, within-lta-margin}
+use Rattle.margin.specs.Magnitudes.{f0coreMost, amrMost, sMost}
+use Rattle.margin.proofs.MagnitudeLaws.{within-is, within-sub, within-grains, within-base, within-amr, within-lta-margin}
 use Rattle.margin.proofs.ram.Statement.{statement}
 use Rattle.margin.proofs.ram.Tie as tie
 
@@ -52,21 +52,6 @@ module _ (c : tie.After-lta-margin) where
 
   l-fits : SFits w64 (c .lta-margin .result)
   l-fits = sfits-of (c .lta-margin .ok)
-
-lta-margin-requires : tie.Need-lta-margin-requires
-lta-margin-requires c κs =
-    let s = start₁ c in
-    simp (toZ-ofZ, s .fits .f0core, a-fits c) (s .pre .1 .0, (s .pre .1 .1 .0, (a-in c, s .pre .1 .1 .1)))
-
-grains-requires : tie.Need-grains-requires
-grains-requires c κs =
-    let row = start₂ (c .before) .pre .1 .0 in
-    simp (toZ-ofZ, within-fits (row .cva-in) tt) (within-le (row .cva-in) (omega arith))
-
-grains-requires-2 : tie.Need-grains-requires-2
-grains-requires-2 c κs =
-    let row = start₂ (c .before .before .before) .pre .1 .0 in
-    simp (toZ-ofZ, within-fits (row .iva-in) tt) (within-le (row .iva-in) (omega arith))
 
 -- CVA and IVA in grains, and each value on the way
 module _ (c : tie.After-grains2) where
@@ -120,20 +105,6 @@ module _ (c : tie.After-grains2) where
       (within-is iva-is (within-grains (start₂ d .pre .1 .0 .iva-in))))
       tt
 
-add-result : tie.Need-add-result
-add-result c = simp (toZ-ofZ, b-fits (d c .before), a-fits (d c .before)) (with-amr c)
-
-add-result-2 : tie.Need-add-result-2
-add-result-2 c = simp (toZ-ofZ, b-fits (d c .before), a-fits (d c .before), l-fits (d c), with-amr c) (with-lta c)
-
-sub-result : tie.Need-sub-result
-sub-result c = simp (toZ-ofZ, b-fits (d c .before), a-fits (d c .before), l-fits (d c), cva-fits c, with-amr c, with-lta c) (less-cva c)
-
-sub-result-2 : tie.Need-sub-result-2
-sub-result-2 c =
-    simp (toZ-ofZ, b-fits (d c .before), a-fits (d c .before), l-fits (d c), cva-fits c, iva-fits c, with-amr c, with-lta c, less-cva c)
-    (less-iva c)
-
 returns : tie.Need-returns
 unfolding ramOf
 returns c =
@@ -141,16 +112,12 @@ returns c =
     (cc (b-is (d c .before), a-is (d c .before), l-is (d c), cva-is c, iva-is c))
 
 pub ram-spec : {M : Type 1} → statement M
-ram-spec =
-    tie.close
-    (tie.spec
-    (λ c κs. search needs)
-    (λ c κs. search needs)
-    lta-margin-requires
-    grains-requires
-    grains-requires-2
-    add-result
-    add-result-2
-    sub-result
-    sub-result-2
+ram-spec = tie.close (tie.spec (λ c κs. search needs) (λ c κs. search needs)
+    (λ c κs. let s = start₁ c in simp (toZ-ofZ, s .fits .f0core, a-fits c) (s .pre .1 .0, (s .pre .1 .1 .0, (a-in c, s .pre .1 .1 .1))))
+    (λ c κs. let row = start₂ (c .before) .pre .1 .0 in simp (toZ-ofZ, within-fits (row .cva-in) tt) (within-le (row .cva-in) (omega arith)))
+    (λ c κs. let row = start₂ (c .before .before .before) .pre .1 .0 in simp (toZ-ofZ, within-fits (row .iva-in) tt) (within-le (row .iva-in) (omega arith)))
+    (λ c. simp (toZ-ofZ, b-fits (d c .before), a-fits (d c .before)) (with-amr c))
+    (λ c. simp (toZ-ofZ, b-fits (d c .before), a-fits (d c .before), l-fits (d c), with-amr c) (with-lta c))
+    (λ c. simp (toZ-ofZ, b-fits (d c .before), a-fits (d c .before), l-fits (d c), cva-fits c, with-amr c, with-lta c) (less-cva c))
+    (λ c. simp (toZ-ofZ, b-fits (d c .before), a-fits (d c .before), l-fits (d c), cva-fits c, iva-fits c, with-amr c, with-lta c, less-cva c) (less-iva c))
     returns)

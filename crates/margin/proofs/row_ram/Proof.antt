@@ -6,19 +6,16 @@ use mir.Facts.{toZ-ofZ}
 use mir.Syntax.{w64}
 use mir.Val.{SFits}
 use Rattle.numbers.specs.Ints.{Within}
-use Rattle.kinds.specs.Limits.{zonesMost}
+use Rattle.limits.specs.Limits.{zonesMost}
 use Rattle.margin.specs.Margin.{ramOf}
-use Rattle.margin.specs.Bounds.{RowBound, f0coreMost}
-use Rattle.margin.proofs.BoundLaws.{within-is, within-f0core}
+use Rattle.margin.specs.Magnitudes.{RowInRange, f0coreMost}
+use Rattle.margin.proofs.MagnitudeLaws.{within-is, within-f0core}
 use Rattle.margin.proofs.JudgedLaws.{row-judged}
 use Rattle.margin.proofs.row_ram.Statement.{statement}
 use Rattle.margin.proofs.row_ram.Tie as tie
 
-judged-requires : tie.Need-judged-requires
-judged-requires c κs = c .pre .1 .0
-
-bound : (c : tie.After-judged) → RowBound (c .judged .result)
-bound c = row-judged _ (c .before .pre .1 .0) (c .judged .ensures)
+bound : (c : tie.After-of-good) → RowInRange (c .of-good .result)
+bound c = row-judged _ (c .before .pre .1 .0) (c .of-good .ensures)
 
 -- the row's F0core
 module _ (c : tie.After-f0core) where
@@ -32,18 +29,14 @@ module _ (c : tie.After-f0core) where
       let n = s .pre .1 .1 .1 .0 in
       within-is (c .f0core .ensures) (within-f0core _ (bound (c .before) .fref-in) _ _ (n .few) (f .each) (n .each) zonesMost (omega (arith, n .few, f .few)))
 
-f0core-requires : tie.Need-f0core-requires
-f0core-requires c κs = (bound c, (c .before .pre .1 .1 .0, c .before .pre .1 .1 .1 .0))
-
-ram-requires : tie.Need-ram-requires
-ram-requires c κs = simp (toZ-ofZ, f0core-fits c, c .before .before .fits .default) (c .before .before .pre .0, (bound (c .before), (f0core-in c, c .before .before .pre .1 .1 .1 .1)))
-
 returns : tie.Need-returns
 returns c =
     let d = c .before in
-    let e : c .ram .result ≡ ramOf (d .before .before .args .default) (d .before .judged .result) (d .f0core .result) (d .before .before .args .s) = simp (toZ-ofZ, f0core-fits d, d .before .before .fits .default) at (c .ram .ensures) in
+    let e : c .ram .result ≡ ramOf (d .before .before .args .default) (d .before .of-good .result) (d .f0core .result) (d .before .before .args .s) = simp (toZ-ofZ, f0core-fits d, d .before .before .fits .default) at (c .ram .ensures) in
     let k : SFits w64 (c .ram .result) = sfits-of (c .ram .ok) in
-    toZ-ofZ k ∙ cc (d .f0core .ensures, d .before .judged .ensures)
+    toZ-ofZ k ∙ cc (d .f0core .ensures, d .before .of-good .ensures)
 
 pub row-ram-spec : {M : Type 1} → statement M
-row-ram-spec = tie.close (tie.spec judged-requires f0core-requires ram-requires returns)
+row-ram-spec = tie.close (tie.spec (λ c κs. c .pre .1 .0) (λ c κs. (bound c, (c .before .pre .1 .1 .0, c .before .pre .1 .1 .1 .0)))
+    (λ c κs. simp (toZ-ofZ, f0core-fits c, c .before .before .fits .default) (c .before .before .pre .0, (bound (c .before), (f0core-in c, c .before .before .pre .1 .1 .1 .1))))
+    returns)

@@ -10,10 +10,10 @@ use mir.Syntax.{w64}
 use mir.Val.{SFits}
 use Rattle.numbers.specs.Ints.{Within}
 use Rattle.numbers.proofs.IntLaws.{within-fits, within-add}
-use Rattle.kinds.specs.Limits.{factorMost}
-use Rattle.kinds.specs.Ranges.{atℤ}
-use Rattle.margin.specs.Bounds.{HubsWithin}
-use Rattle.margin.proofs.BoundLaws.{within-sub, signed-without, signed-between}
+use Rattle.types.specs.LineLimits.{factorMost}
+use Rattle.types.specs.Ranges.{atℤ}
+use Rattle.margin.specs.Magnitudes.{HubsWithin}
+use Rattle.margin.proofs.MagnitudeLaws.{within-sub, signed-without, signed-between}
 use Rattle.margin.proofs.signed_factor.Statement.{statement}
 use Rattle.margin.proofs.signed_factor.Tie as tie
 
@@ -36,14 +36,6 @@ module _ (s : tie.Start) where
 
 abbrev entry : tie.After-enum-told → tie.Start
 entry c = c .before .before .before .before
-
-sub-result : tie.Need-sub-result
-sub-result c = let s = entry c in simp (toZ-ofZ, within-fits (from-in s) tt, within-fits (to-in s) tt) (apart s)
-
-returns : tie.Need-returns
-returns c =
-    let s = entry c in
-    simp (toZ-ofZ, within-fits (from-in s) tt, within-fits (to-in s) tt, apart s) (signed-without _ _ (c .enum-told .given .1))
 
 -- the two hubs' factors, and the sum up to each
 module _ (h : tie.After-hubs) where
@@ -80,28 +72,6 @@ module _ (h : tie.After-hubs) where
   third : SFits w64 (from start -ℤ sent +ℤ received -ℤ to start)
   third = within-fits (within-sub (within-add (within-sub (from-in start) sent-in) received-in) (to-in start)) tt
 
-mul-sending-factor : tie.Need-mul-sending-factor
-mul-sending-factor c = omega (arith, zones (c .before) .0, start (c .before) .pre .0 .few)
-
-shared-slice-copy-out-sending-factor : tie.Need-shared-slice-copy-out-sending-factor
-shared-slice-copy-out-sending-factor c = zones (c .before) .0
-
-mul-receiving-factor : tie.Need-mul-receiving-factor
-mul-receiving-factor c = omega (arith, zones (c .before .before) .1, start (c .before .before) .pre .0 .few)
-
-shared-slice-copy-out-receiving-factor : tie.Need-shared-slice-copy-out-receiving-factor
-shared-slice-copy-out-receiving-factor c = zones (c .before .before) .1
-
-sub-result-2 : tie.Need-sub-result-2
-sub-result-2 c =
-    let h = c .before .before .before in
-    simp (toZ-ofZ, within-fits (from-in (start h)) tt, within-fits (sent-in h) tt) (first h)
-
-add-result : tie.Need-add-result
-add-result c =
-    let h = c .before .before .before in
-    simp (toZ-ofZ, within-fits (from-in (start h)) tt, within-fits (sent-in h) tt, within-fits (received-in h) tt, first h) (second h)
-
 sub-result-3 : tie.Need-sub-result-3
 sub-result-3 c =
     let h = c .before .before .before in
@@ -114,22 +84,12 @@ returns-2 c =
     (signed-between _ _ _ _ (h .hubs .given .1))
 
 pub signed-factor-spec : {M : Type 1} → statement M
-signed-factor-spec =
-    tie.close
-    (tie.spec
-    (λ c. search needs)
-    (λ c. search needs)
-    (λ c. search needs)
-    (λ c. search needs)
-    (λ c. search needs)
-    sub-result
-    (λ c. search needs)
-    mul-sending-factor
-    shared-slice-copy-out-sending-factor
-    mul-receiving-factor
-    shared-slice-copy-out-receiving-factor
-    sub-result-2
-    add-result
+signed-factor-spec = tie.close (tie.spec (λ c. search needs) (λ c. search needs) (λ c. search needs) (λ c. search needs) (λ c. search needs)
+    (λ c. let s = entry c in simp (toZ-ofZ, within-fits (from-in s) tt, within-fits (to-in s) tt) (apart s)) (λ c. search needs)
+    (λ c. omega (arith, zones (c .before) .0, start (c .before) .pre .0 .few)) (λ c. zones (c .before) .0)
+    (λ c. omega (arith, zones (c .before .before) .1, start (c .before .before) .pre .0 .few)) (λ c. zones (c .before .before) .1)
+    (λ c. let h = c .before .before .before in simp (toZ-ofZ, within-fits (from-in (start h)) tt, within-fits (sent-in h) tt) (first h))
+    (λ c. let h = c .before .before .before in simp (toZ-ofZ, within-fits (from-in (start h)) tt, within-fits (sent-in h) tt, within-fits (received-in h) tt, first h) (second h))
     sub-result-3
-    returns
+    (λ c. let s = entry c in simp (toZ-ofZ, within-fits (from-in s) tt, within-fits (to-in s) tt, apart s) (signed-without _ _ (c .enum-told .given .1)))
     returns-2)

@@ -15,36 +15,8 @@ Inv-loop all marks flags₀ b₀ b-end flags b = Filled (flagOf all marks) (leng
 abbrev μ-loop : tie.MeasureT-loop
 μ-loop all marks flags₀ b₀ b-end flags b = length flags₀ - b
 
-loop-holds : tie.Need-loop-holds Inv-loop μ-loop
-loop-holds c = filled-none _ _ _
-
-mul-flags : tie.Need-mul-flags Inv-loop μ-loop
-mul-flags c = omega (arith, c .before .before .loop .inv .as-long)
-
-slice-write-flags : tie.Need-slice-write-flags Inv-loop μ-loop
-slice-write-flags c = omega (arith, c .before .before .loop .inv .as-long)
-
-loop-again : tie.Need-loop-again Inv-loop μ-loop
-loop-again c = filled-more (c .before .before .loop .inv) _ (omega arith) (omega arith) (c .flag .ensures)
-
-same-length : tie.Need-same-length Inv-loop μ-loop
-same-length c = c .before .loop .inv .as-long
-
-returns : tie.Need-returns Inv-loop μ-loop
-returns c = filled-all (c .before .loop .inv) (omega arith) refl
-
 pub choose-spec : {M : Type 1} → statement M
-choose-spec =
-    tie.close
-    (tie.spec
-    Inv-loop
-    μ-loop
-    loop-holds
-    (λ c κs. search needs)
-    mul-flags
-    slice-write-flags
-    (λ c. omega arith)
-    (λ c. omega arith)
-    loop-again
-    same-length
-    returns)
+choose-spec = tie.close (tie.spec Inv-loop μ-loop (λ c. filled-none _ _ _) (λ c κs. search needs) (λ c. omega (arith, c .before .before .loop .inv .as-long))
+    (λ c. omega (arith, c .before .before .loop .inv .as-long)) (λ c. omega arith) (λ c. omega arith)
+    (λ c. filled-more (c .before .before .loop .inv) _ (omega arith) (omega arith) (c .flag .ensures)) (λ c. c .before .loop .inv .as-long)
+    (λ c. filled-all (c .before .loop .inv) (omega arith) refl))

@@ -3,8 +3,5 @@ use borrow.Author.Needs.{needs}
 use Rattle.marks.proofs.chosen.Statement.{statement}
 use Rattle.marks.proofs.chosen.Tie as tie
 
-returns : tie.Need-returns
-returns c = c .before .choose .ensures
-
 pub chosen-spec : {M : Type 1} → statement M
-chosen-spec = tie.close (tie.spec (λ c. search needs) (λ c κs. search needs) returns)
+chosen-spec = tie.close (tie.spec (λ c. search needs) (λ c κs. search needs) (λ c. c .before .choose .ensures))

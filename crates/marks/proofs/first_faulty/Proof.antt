@@ -15,17 +15,8 @@ Inv-loop borders marks k₀ k-end k = Looked (length marks) (faultyMark borders 
 abbrev μ-loop : tie.MeasureT-loop
 μ-loop borders marks k₀ k-end k = length marks - k
 
-loop-holds : tie.Need-loop-holds Inv-loop μ-loop
-loop-holds c = looked-none _ _
-
-returns : tie.Need-returns Inv-loop μ-loop
-returns c = looked-here _ _ _ (c .before .before .before .loop .inv) (omega arith) (sym (c .before .is-faulty .ensures) ∙ c .if1 .taken)
-
-loop-again : tie.Need-loop-again Inv-loop μ-loop
-loop-again c = looked-more _ _ _ (c .before .before .before .loop .inv) (omega arith) (sym (c .before .is-faulty .ensures) ∙ c .if1 .left)
-
-returns-2 : tie.Need-returns-2 Inv-loop μ-loop
-returns-2 c = looked-all _ _ _ (c .before .loop .inv) (omega arith)
-
 pub first-faulty-spec : {M : Type 1} → statement M
-first-faulty-spec = tie.close (tie.spec Inv-loop μ-loop loop-holds (λ c κs. search needs) returns (λ c. search needs) (λ c. search needs) loop-again returns-2)
+first-faulty-spec = tie.close (tie.spec Inv-loop μ-loop (λ c. looked-none _ _) (λ c κs. search needs)
+    (λ c. looked-here _ _ _ (c .before .before .before .loop .inv) (omega arith) (sym (c .before .is-faulty .ensures) ∙ c .if1 .taken)) (λ c. search needs)
+    (λ c. search needs) (λ c. looked-more _ _ _ (c .before .before .before .loop .inv) (omega arith) (sym (c .before .is-faulty .ensures) ∙ c .if1 .left))
+    (λ c. looked-all _ _ _ (c .before .loop .inv) (omega arith)))

@@ -5,9 +5,6 @@ use Rattle.marks.specs.Marks.{markedBy}
 use Rattle.marks.proofs.flag.Statement.{statement}
 use Rattle.marks.proofs.flag.Tie as tie
 
-returns : tie.Need-returns
-returns c = rw (c .if1 .taken)
-
 returns-2 : tie.Need-returns-2
 unfolding markedBy
 returns-2 c = rw (c .before .before .if1 .left, sym (c .before .is-among .ensures) ∙ c .if2 .taken)
@@ -17,4 +14,4 @@ unfolding markedBy
 returns-3 c = rw (c .before .before .if1 .left, sym (c .before .is-among .ensures) ∙ c .if2 .left)
 
 pub flag-spec : {M : Type 1} → statement M
-flag-spec = tie.close (tie.spec returns (λ c κs. search needs) returns-2 returns-3)
+flag-spec = tie.close (tie.spec (λ c. rw (c .if1 .taken)) (λ c κs. search needs) returns-2 returns-3)

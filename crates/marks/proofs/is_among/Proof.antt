@@ -15,37 +15,15 @@ Inv-loop marks n b e₀ e = Looked n (λ e. eqb (at marks e) b) e
 abbrev μ-loop : tie.MeasureT-loop
 μ-loop marks n b e₀ e = n - e
 
-loop-holds : tie.Need-loop-holds Inv-loop μ-loop
-loop-holds c = looked-none _ _
-
-mul-if1 : tie.Need-mul-if1 Inv-loop μ-loop
-mul-if1 c = omega (arith, c .before .before .pre)
-
-shared-slice-read-if1 : tie.Need-shared-slice-read-if1 Inv-loop μ-loop
-shared-slice-read-if1 c = omega (arith, c .before .before .before .pre)
-
 returns : tie.Need-returns Inv-loop μ-loop
 unfolding given
 returns c = ap given (looked-here _ _ _ (c .before .before .before .loop .inv) (omega arith) (eq-eqb _ _ (c .if1 .taken)))
-
-loop-again : tie.Need-loop-again Inv-loop μ-loop
-loop-again c = looked-more _ _ _ (c .before .before .before .loop .inv) (omega arith) (ne-eqb _ _ (c .if1 .left))
 
 returns-2 : tie.Need-returns-2 Inv-loop μ-loop
 unfolding given
 returns-2 c = ap given (looked-all _ _ _ (c .before .loop .inv) (omega arith))
 
 pub is-among-spec : {M : Type 1} → statement M
-is-among-spec =
-    tie.close
-    (tie.spec
-    Inv-loop
-    μ-loop
-    loop-holds
-    mul-if1
-    shared-slice-read-if1
-    returns
-    (λ c. omega arith)
-    (λ c. omega arith)
-    loop-again
-    returns-2)
+is-among-spec = tie.close (tie.spec Inv-loop μ-loop (λ c. looked-none _ _) (λ c. omega (arith, c .before .before .pre))
+    (λ c. omega (arith, c .before .before .before .pre)) returns (λ c. omega arith) (λ c. omega arith)
+    (λ c. looked-more _ _ _ (c .before .before .before .loop .inv) (omega arith) (ne-eqb _ _ (c .if1 .left))) returns-2)

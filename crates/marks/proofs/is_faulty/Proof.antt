@@ -15,5 +15,4 @@ unfolding faultyMark
 returns-2 c = rw (lt-ltb _ _ (c .before .if1 .left)) (c .is-among .ensures)
 
 pub is-faulty-spec : {M : Type 1} → statement M
-is-faulty-spec =
-    tie.close (tie.spec (λ c. search needs) (λ c. search needs) returns (λ c κs. omega (arith, c .before .before .before .pre)) returns-2)
+is-faulty-spec = tie.close (tie.spec (λ c. search needs) (λ c. search needs) returns (λ c κs. omega (arith, c .before .before .before .pre)) returns-2)

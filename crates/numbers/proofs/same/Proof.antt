@@ -3,8 +3,5 @@ use Rattle.numbers.proofs.IntLaws.{same-test}
 use Rattle.numbers.proofs.same.Statement.{statement}
 use Rattle.numbers.proofs.same.Tie as tie
 
-returns : tie.Need-returns
-returns c = same-test (c .fits .a) (c .fits .b)
-
 pub same-spec : {M : Type 1} → statement M
-same-spec = tie.close (tie.spec returns)
+same-spec = tie.close (tie.spec (λ c. same-test (c .fits .a) (c .fits .b)))

@@ -5,7 +5,7 @@ use borrow.Author.Needs.{needs}
 use lib.ListN.{length}
 use Rattle.numbers.proofs.BelowLaws.{table-long}
 use Rattle.table.proofs.RoomLaws.{factors-most}
-use Rattle.states.proofs.RowsLaws.{rows-in}
+use Rattle.states.proofs.StandingsLaws.{rows-in}
 use Rattle.parts.proofs.PartsLaws.{stored-are, storable}
 use Rattle.parts.proofs.fill_parts.Statement.{statement}
 use Rattle.parts.proofs.fill_parts.Tie as tie
@@ -16,9 +16,6 @@ filled c = c .before .before .before .before .before .before .before
 abbrev entry : tie.After-store-parts-arg3 → tie.Start
 entry c = filled c .before .before .before .before .before
 
-mul-store-parts : tie.Need-mul-store-parts
-mul-store-parts c = omega (arith, factors-most _ (entry c .pre .0 .exact .header))
-
 store-parts-requires : tie.Need-store-parts-requires
 store-parts-requires c κs =
     let cut = c .before .before .before .before .before in
@@ -27,24 +24,8 @@ store-parts-requires c κs =
     let m = rows-in _ _ (said .0) in
     (storable _ (said .0) (said .1) (pre .0), ((m .rams-long, ap length (said .1) ∙ table-long _ _), (m .states-long, pre .1 .1 .1)))
 
-returns : tie.Need-returns
-returns c =
-    let said = filled (c .before .before .before .before .before .before .before) .fill-rows .ensures in
-    c .before .store-parts .ensures ∙ stored-are _ (said .0) (said .1) _
-
 pub fill-parts-spec : {M : Type 1} → statement M
-fill-parts-spec =
-    tie.close
-    (tie.spec
-    (λ c κs. search needs)
-    (λ c. search needs)
-    (λ c. search needs)
-    (λ c. search needs)
-    mul-store-parts
-    (λ c. search needs)
-    store-parts-requires
-    (λ c. search needs)
-    (λ c. search needs)
-    (λ c. search needs)
-    (λ c. search needs)
-    returns)
+fill-parts-spec = tie.close (tie.spec (λ c κs. search needs) (λ c. search needs) (λ c. search needs) (λ c. search needs)
+    (λ c. omega (arith, factors-most _ (entry c .pre .0 .exact .header))) (λ c. search needs) store-parts-requires (λ c. search needs) (λ c. search needs)
+    (λ c. search needs) (λ c. search needs)
+    (λ c. let said = filled (c .before .before .before .before .before .before .before) .fill-rows .ensures in c .before .store-parts .ensures ∙ stored-are _ (said .0) (said .1) _))

@@ -7,12 +7,6 @@ use Rattle.parts.proofs.PartsLaws.{margins-refused, margins-short, marg
 use Rattle.parts.proofs.margins.Statement.{statement}
 use Rattle.parts.proofs.margins.Tie as tie
 
-returns : tie.Need-returns
-returns c = margins-refused _ _ (c .before .before .judge .ensures .0) _ _ (c .enum-told2 .given .1)
-
-returns-2 : tie.Need-returns-2
-returns-2 c = rw (c .too-short .ensures) (margins-short _ _ (c .before .before .before .before .judge .ensures .0) _ (c .before .before .enum-told .given .1) (omega arith))
-
 margins-good-requires : tie.Need-margins-good-requires
 margins-good-requires c κs =
     let told = c .before .before in
@@ -25,15 +19,7 @@ returns-3 c =
     margins-stored _ _ (told .before .before .judge .ensures .0) _ (told .enum-told .given .1) (omega arith) (c .before .margins-good .ensures)
 
 pub margins-spec : {M : Type 1} → statement M
-margins-spec =
-    tie.close
-    (tie.spec
-    (λ c κs. search needs)
-    (λ c. search needs)
-    (λ c. search needs)
-    returns
-    (λ c κs. search needs)
-    returns-2
-    margins-good-requires
-    (λ c. search needs)
-    returns-3)
+margins-spec = tie.close (tie.spec (λ c κs. search needs) (λ c. search needs) (λ c. search needs)
+    (λ c. margins-refused _ _ (c .before .before .judge .ensures .0) _ _ (c .enum-told2 .given .1)) (λ c κs. search needs)
+    (λ c. rw (c .too-short .ensures) (margins-short _ _ (c .before .before .before .before .judge .ensures .0) _ (c .before .before .enum-told .given .1) (omega arith)))
+    margins-good-requires (λ c. search needs) returns-3)

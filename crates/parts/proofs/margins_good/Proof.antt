@@ -3,29 +3,16 @@ use mathlib.Core.Path.{sym}
 use Prim.Native.Nat.{_≤_}
 use borrow.Author.Needs.{needs}
 use lib.Seq.{length-take-le}
-use Rattle.kinds.specs.Limits.{rowsMost}
-use Rattle.kinds.proofs.KindLaws.{header-in}
+use Rattle.limits.specs.Limits.{rowsMost}
+use Rattle.types.proofs.RangeLaws.{header-in}
 use Rattle.parts.proofs.margins_good.Statement.{statement}
 use Rattle.parts.proofs.margins_good.Tie as tie
 
 few : (s : tie.Start) → s .args .h .rows ≤ rowsMost
 few s = header-in _ (s .pre .0 .exact .header) .rows-most
 
-fill-parts-requires : tie.Need-fill-parts-requires
-fill-parts-requires c κs =
-    let s = c .before .before .before .before in
-    (s .pre .0, ((length-take-le _ _ (few s), length-take-le _ _ (few s)), (length-take-le _ _ (few s), s .pre .1)))
-
 pub margins-good-spec : {M : Type 1} → statement M
-margins-good-spec =
-    tie.close
-    (tie.spec
-    few
-    (λ c. sym (length-take-le _ _ (few (c .before))))
-    (λ c. few (c .before))
-    (λ c. sym (length-take-le _ _ (few (c .before .before))))
-    (λ c. few (c .before .before))
-    (λ c. sym (length-take-le _ _ (few (c .before .before .before))))
-    fill-parts-requires
-    (λ c. search needs)
-    (λ c. search needs))
+margins-good-spec = tie.close (tie.spec few (λ c. sym (length-take-le _ _ (few (c .before)))) (λ c. few (c .before))
+    (λ c. sym (length-take-le _ _ (few (c .before .before)))) (λ c. few (c .before .before)) (λ c. sym (length-take-le _ _ (few (c .before .before .before))))
+    (λ c κs. let s = c .before .before .before .before in (s .pre .0, ((length-take-le _ _ (few s), length-take-le _ _ (few s)), (length-take-le _ _ (few s), s .pre .1))))
+    (λ c. search needs) (λ c. search needs))

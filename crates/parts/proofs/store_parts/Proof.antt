@@ -1,4 +1,4 @@
--- `parts::store_parts` meets its contract. The invariant: the first i records are stored, and the rest is as it was. The measure is the rows that are left.
+-- `parts::store_parts` meets its contract. The invariant: the first i records are stored, and the rest is not changed. The measure is the rows that are left.
 use mathlib.Core.Path.{sym, subst, _∙_}
 use Prim.Native.Nat.{ℕ, _-_}
 use native.Mathlib.Omega.{arith}
@@ -8,10 +8,10 @@ use mir.Syntax.{w64}
 use mir.Val.{SFits}
 use Rattle.numbers.proofs.ListLaws.{Filled, filled-none, filled-more, filled-over}
 use Rattle.numbers.proofs.IntLaws.{plain}
-use Rattle.kinds.proofs.KindLaws.{default-in}
-use Rattle.margin.specs.Bounds.{NetsBound, BordersBound}
-use Rattle.margin.proofs.BoundLaws.{within-is}
-use Rattle.margin.proofs.JudgedLaws.{part-long, part-bound}
+use Rattle.types.proofs.RangeLaws.{default-in}
+use Rattle.margin.specs.Magnitudes.{NetsInRange, BordersInRange}
+use Rattle.margin.proofs.MagnitudeLaws.{within-is}
+use Rattle.margin.proofs.JudgedLaws.{part-long, part-ranges}
 use Rattle.parts.specs.Parts.{recordOf}
 use Rattle.parts.specs.Stored.{partsAt}
 use Rattle.parts.proofs.PartsLaws.{stored-at}
@@ -34,10 +34,10 @@ row-parts-requires c κs =
       (
         q .rows-in (c .before .before .before .before .before .before .before .loop .i) (omega arith),
         (
-          part-bound (q .factors-in) (c .before .before .before .before .before .before .before .loop .i) (omega arith) (c .before .before .before .before .before .row-factors .ensures),
+          part-ranges (q .factors-in) (c .before .before .before .before .before .before .before .loop .i) (omega arith) (c .before .before .before .before .before .row-factors .ensures),
           (
-            subst (λ (n : ℕ). NetsBound n (s .args .z .now)) (sym long) (q .nets-in),
-            (subst (λ (n : ℕ). BordersBound n (s .args .b .now)) (sym long) (q .borders-in), q .states-in (c .before .before .before .before .before .before .before .loop .i) (omega arith)),
+            subst (λ (n : ℕ). NetsInRange n (s .args .z .now)) (sym long) (q .nets-in),
+            (subst (λ (n : ℕ). BordersInRange n (s .args .b .now)) (sym long) (q .borders-in), q .states-in (c .before .before .before .before .before .before .before .loop .i) (omega arith)),
           ),
         ),
       ),
@@ -54,29 +54,17 @@ loop-again c =
     (row ∙ stored-at (s .args .h) (s .args .z .now) (s .args .b .now) (s .args .c .now) (s .args .f .now) (s .args .rams .now) (s .args .starts .now) (s .args .states .now) (c .before .before .before .before .before .before .before .before .loop .i) (c .before .before .before .before .before .before .before .before .before .before .default-share .ensures) (c .before .before .before .before .before .before .before .before .before .is-intraday .ensures) (c .before .before .before .before .before .before .row-factors .ensures) start)
 
 pub store-parts-spec : {M : Type 1} → statement M
-store-parts-spec =
-    tie.close
-    (tie.spec
-    Inv-loop
-    μ-loop
-    (λ c κs. search needs)
-    (λ c κs. search needs)
-    (λ c. filled-none _ _ _)
+store-parts-spec = tie.close (tie.spec Inv-loop μ-loop (λ c κs. search needs) (λ c κs. search needs) (λ c. filled-none _ _ _)
     (λ c κs. (c .before .before .before .before .before .pre .0 .factors-in, omega arith))
     (λ c. omega (arith, c .before .before .before .before .before .before .pre .1 .1 .0))
     (λ c. omega (arith, c .before .before .before .before .before .before .before .pre .1 .1 .0))
     (λ c. omega (arith, c .before .before .before .before .before .before .before .pre .1 .0 .0))
     (λ c. omega (arith, c .before .before .before .before .before .before .before .pre .1 .0 .0))
     (λ c. omega (arith, c .before .before .before .before .before .before .before .before .pre .1 .0 .1))
-    (λ c. omega (arith, c .before .before .before .before .before .before .before .before .pre .1 .0 .1))
-    (λ c κs. search needs)
+    (λ c. omega (arith, c .before .before .before .before .before .before .before .before .pre .1 .0 .1)) (λ c κs. search needs)
     (λ c. omega (arith, c .before .before .before .before .before .before .before .before .before .before .pre .0 .rows-long))
-    (λ c. omega (arith, c .before .before .before .before .before .before .before .before .before .before .pre .0 .rows-long))
-    row-parts-requires
+    (λ c. omega (arith, c .before .before .before .before .before .before .before .before .before .before .pre .0 .rows-long)) row-parts-requires
     (λ c. omega (arith, c .before .before .before .before .before .before .before .before .loop .inv .as-long, c .before .before .before .before .before .before .before .before .before .before .before .before .pre .1 .1 .1))
     (λ c. omega (arith, c .before .before .before .before .before .before .before .before .loop .inv .as-long, c .before .before .before .before .before .before .before .before .before .before .before .before .pre .1 .1 .1))
     (λ c. omega (arith, c .before .before .before .before .before .before .before .before .loop .inv .as-long, c .before .before .before .before .before .before .before .before .before .before .before .before .pre .1 .1 .1))
-    (λ c. omega arith)
-    loop-again
-    (λ c. c .before .loop .inv .as-long)
-    (λ c. filled-over (c .before .loop .inv) (omega arith)))
+    (λ c. omega arith) loop-again (λ c. c .before .loop .inv .as-long) (λ c. filled-over (c .before .loop .inv) (omega arith)))

@@ -10,22 +10,7 @@ use Rattle.partstext.specs.PartsText.{partsColumns}
 use Rattle.partstext.proofs.line_length.Statement.{statement}
 use Rattle.partstext.proofs.line_length.Tie as tie
 
-slice-aggregate-line-length : tie.Need-slice-aggregate-line-length
-slice-aggregate-line-length c = search needs
-
-slice-aggregate-line-length-2 : tie.Need-slice-aggregate-line-length-2
-slice-aggregate-line-length-2 c = search needs
-
-line-length-requires : tie.Need-line-length-requires
-line-length-requires c κs =
-    let s = c .before .before in
-    (search needs, omega (arith, line-long tab (Indexed (code "V") (s .args .i)) partsColumns (s .args .t2), s .pre))
-
-returns : tie.Need-returns
-returns c =
-    let s = c .before .before .before in
-    c .line-length .ensures ∙ sym (line-long tab (Indexed (code "V") (s .args .i)) partsColumns (s .args .t2))
-
 pub line-length-spec : {M : Type 1} → statement M
-line-length-spec =
-    tie.close (tie.spec slice-aggregate-line-length slice-aggregate-line-length-2 line-length-requires returns)
+line-length-spec = tie.close (tie.spec (λ c. search needs) (λ c. search needs)
+    (λ c κs. let s = c .before .before in (search needs, omega (arith, line-long tab (Indexed (code "V") (s .args .i)) partsColumns (s .args .t2), s .pre)))
+    (λ c. let s = c .before .before .before in c .line-length .ensures ∙ sym (line-long tab (Indexed (code "V") (s .args .i)) partsColumns (s .args .t2))))

@@ -4,8 +4,8 @@ use mathlib.Core.List.{List}
 use borrow.Author.Needs.{needs}
 use lib.IntN.{ℤ}
 use lib.Seq.{length-take-le}
-use Rattle.kinds.specs.Refusals.{passed}
-use Rattle.kinds.proofs.KindLaws.{header-in}
+use Rattle.refusals.specs.Refusals.{passed}
+use Rattle.types.proofs.RangeLaws.{header-in}
 use Rattle.text.specs.Left.{textLeft}
 use Rattle.partstext.specs.PartsText.{partsText}
 use Rattle.partstext.proofs.PartsTextLaws.{records-first, records-long, records-short}
@@ -15,16 +15,8 @@ use Rattle.partstext.proofs.margins_text_good.Tie as tie
 abbrev entry : tie.After-margins-good → tie.Start
 entry c = c .before .before .before
 
-margins-good-requires : tie.Need-margins-good-requires
-margins-good-requires c κs = let good = c .before .before .pre in (good, header-in _ (good .exact .header) .rows-most)
-
 array-share-prefix-records : tie.Need-array-share-prefix-records
 array-share-prefix-records c = records-long (entry (c .before) .pre) _ (c .before .margins-good .ensures)
-
-write-parts-requires : tie.Need-write-parts-requires
-write-parts-requires c κs =
-    let filled = c .before .before .before in
-    records-short (entry filled .pre) _ (filled .margins-good .ensures)
 
 returns : tie.Need-returns
 returns c =
@@ -33,13 +25,7 @@ returns c =
     ∙ ap (λ (rs : List (List ℤ)). textLeft (passed (partsText rs)) (entry filled .args .out .now)) (records-first (entry filled .pre) _ (filled .margins-good .ensures))
 
 pub margins-text-good-spec : {M : Type 1} → statement M
-margins-text-good-spec =
-    tie.close
-    (tie.spec
-    (λ c. search needs)
-    margins-good-requires
-    array-share-prefix-records
+margins-text-good-spec = tie.close (tie.spec (λ c. search needs)
+    (λ c κs. let good = c .before .before .pre in (good, header-in _ (good .exact .header) .rows-most)) array-share-prefix-records
     (λ c. sym (length-take-le _ _ (array-share-prefix-records (c .before))))
-    write-parts-requires
-    (λ c. search needs)
-    returns)
+    (λ c κs. let filled = c .before .before .before in records-short (entry filled .pre) _ (filled .margins-good .ensures)) (λ c. search needs) returns)

@@ -1,46 +1,44 @@
--- `reading::read_with` meets its contract: a refused text or sheet leaves all as it was (`text-refused`), and good ones go on.
-use mathlib.Core.Path.{sym, ap, subst, _∙_}
-use Rattle.reading.specs.declared.judged.TextJudged.{TextJudged}
-use Rattle.reading.specs.Places.{tableIn, placedIn}
-use Rattle.reading.proofs.FilledLaws.{text-refused}
+-- `reading::read_with` meets its contract: refused texts leave all as it was (`text-refused`), and a table that was read goes on.
+use mathlib.Core.Path.{sym, ap, _∙_}
+use native.Mathlib.Omega.{arith}
+use Rattle.refusals.specs.Refusals.{Judged}
+use Rattle.table.specs.Table.{Table}
+use Rattle.reading.specs.Reading.{tablesLeft}
+use Rattle.reading.proofs.IntoLaws.{into-refused, into-read, into-good}
+use Rattle.reading.proofs.LeftLaws.{text-refused}
 use borrow.Author.Needs.{needs}
 use Rattle.reading.proofs.read_with.Statement.{statement}
 use Rattle.reading.proofs.read_with.Tie as tie
 
-read-judged-requires : tie.Need-read-judged-requires
-read-judged-requires c κs =
-    let start = c .before .before .before .before .before .before .before .before .before .before .before .before .before .before in
-    let called = c .before .before .before .before .before .before .before .before .before .before in
-    let text = start .args .text .now in
-    let sheet = start .args .sheet .now in
-    let good = c .before .before .before .before .before .before .before .places .given .1 in (
-      subst (λ (r : TextJudged). placedIn r text sheet (called .judge-texts .last .1 .1 .0)) good (called .judge-texts .ensures .1),
-      (
-        called .judge-texts .kept .1 .1 .0 ∙ start .pre,
-        sym (ap (λ (r : TextJudged). tableIn r text sheet (called .judge-texts .last .1 .1 .0)) good) ∙ called .judge-texts .ensures .0,
-      ),
+put-table-requires : tie.Need-put-table-requires
+put-table-requires c κs =
+    let a = c .before .before .before .before .before .before .before .before .before .before .before .before .before .before .before .before .before .before .before .before .before .before .before .before .before .before .args in
+    let p = c .before .before .before .before .before .before .before .before .before .before .before .before .before .before .before .before .before .before .before .before .before .before .before .before .before .before .pre in
+    let got = c .before .before .before .before .before .before .before .before .before .before .before .before .before .before .before .before .before .before .read-into in (
+      into-good (a .text .now) (a .sheet .now) (got .result) _ _ _ _ _ (got .ensures) (c .before .before .before .before .before .before .before .before .before .before .before .h .given .1) .exact .header,
+      record {
+        zones = omega (arith, p .0, got .kept .1 .1 .0);
+        allocated = omega (arith, p .1, got .kept .1 .1 .1 .0);
+        borders = omega (arith, p .2, got .kept .1 .1 .1 .1 .0);
+        rows = omega (arith, p .3, got .kept .1 .1 .1 .1 .1 .0);
+        factors = omega (arith, p .4, got .kept .1 .1 .1 .1 .1 .1 .0);
+      },
     )
+
+returns : tie.Need-returns
+returns c =
+    let a = c .before .before .before .before .before .before .before .before .before .before .before .before .before .before .before .before .before .before .before .before .before .before .before .before .before .before .before .before .before .before .before .before .args in
+    let got = c .before .before .before .before .before .before .before .before .before .before .before .before .before .before .before .before .before .before .before .before .before .before .before .before .read-into in
+    c .before .before .before .before .before .put-table .ensures
+    ∙ ap (λ (j : Judged Table). tablesLeft j (a .z .now) (a .t .now) (a .b .now) (a .c .now) (a .f .now)) (sym (into-read (a .text .now) (a .sheet .now) (got .result) _ _ _ _ _ (got .ensures) (c .before .before .before .before .before .before .before .before .before .before .before .before .before .before .before .before .before .h .given .1)))
 
 returns-2 : tie.Need-returns-2
 returns-2 c =
-    let called = c .before .before .before .before in
-    let a = called .before .before .before .before .args in
-    text-refused _ _ _ _ _ _ (c .before .w .given .0 .0) (sym (ap (λ (r : TextJudged). tableIn r (a .text .now) (a .sheet .now) (called .judge-texts .last .1 .1 .0)) (c .before .w .given .1)) ∙ called .judge-texts .ensures .0)
+    let a = c .before .before .before .before .before .before .before .before .before .before .before .before .before .before .before .before .args in
+    let got = c .before .before .before .before .before .before .before .before .read-into in
+    text-refused _ (a .z .now) (a .t .now) (a .b .now) (a .c .now) (a .f .now) _ (sym (into-refused (a .text .now) (a .sheet .now) (got .result) _ _ _ _ _ (got .ensures) (c .before .w .given .1)))
 
 pub read-with-spec : {M : Type 1} → statement M
-read-with-spec =
-    tie.close
-    (tie.spec
-    (λ c κs. search needs)
-    (λ c. search needs)
-    read-judged-requires
-    (λ c. search needs)
-    (λ c. search needs)
-    (λ c. search needs)
-    (λ c. search needs)
-    (λ c. search needs)
-    (λ c. search needs)
-    (λ c. search needs)
-    (λ c. search needs)
-    (λ c. search needs)
-    returns-2)
+read-with-spec = tie.close (tie.spec (λ c κs. search needs) (λ c. search needs) put-table-requires (λ c. search needs) (λ c. search needs) (λ c. search needs)
+    (λ c. search needs) (λ c. search needs) (λ c. search needs) (λ c. search needs) (λ c. search needs) (λ c. search needs) (λ c. search needs)
+    (λ c. search needs) returns (λ c. search needs) (λ c. search needs) (λ c. search needs) (λ c. search needs) (λ c. search needs) returns-2)

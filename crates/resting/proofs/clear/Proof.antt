@@ -12,21 +12,7 @@ Inv-loop gained₀ b₀ b-end gained b = Filled (λ (b : ℕ). 0) b-end gained�
 abbrev μ-loop : tie.MeasureT-loop
 μ-loop gained₀ b₀ b-end gained b = b-end - b
 
-loop-holds : tie.Need-loop-holds Inv-loop μ-loop
-loop-holds c = filled-none _ _ _
-
-slice-write-gained : tie.Need-slice-write-gained Inv-loop μ-loop
-slice-write-gained c = omega (arith, c .before .loop .inv .as-long)
-
-loop-again : tie.Need-loop-again Inv-loop μ-loop
-loop-again c = filled-more (c .before .loop .inv) _ (omega arith) (omega arith) refl
-
-same-length : tie.Need-same-length Inv-loop μ-loop
-same-length c = c .before .loop .inv .as-long
-
-returns : tie.Need-returns Inv-loop μ-loop
-returns c = filled-all (c .before .loop .inv) (omega arith) refl
-
 pub clear-spec : {M : Type 1} → statement M
-clear-spec =
-    tie.close (tie.spec Inv-loop μ-loop loop-holds (λ c. omega arith) slice-write-gained (λ c. omega arith) (λ c. omega arith) loop-again same-length returns)
+clear-spec = tie.close (tie.spec Inv-loop μ-loop (λ c. filled-none _ _ _) (λ c. omega arith) (λ c. omega (arith, c .before .loop .inv .as-long))
+    (λ c. omega arith) (λ c. omega arith) (λ c. filled-more (c .before .loop .inv) _ (omega arith) (omega arith) refl) (λ c. c .before .loop .inv .as-long)
+    (λ c. filled-all (c .before .loop .inv) (omega arith) refl))

@@ -7,25 +7,6 @@ use borrow.Author.Needs.{needs}
 use Rattle.resting.proofs.list_row.Statement.{statement}
 use Rattle.resting.proofs.list_row.Tie as tie
 
-returns : tie.Need-returns
-returns c =
-    let entry = c .before .before .before .before .before .before in
-    placed-not (entry .pre .1 .1 .1 .2) (not-true _ (c .if1 .taken))
-
-slice-write-near : tie.Need-slice-write-near
-slice-write-near c = search needs
-
-same-length : tie.Need-same-length
-same-length c = search needs
-
-returns-2 : tie.Need-returns-2
-returns-2 c =
-    let entry = c .before .before .before .before .before .before .before in
-    placed-first (entry .pre .1 .1 .1 .2) (omega arith) (omega arith)
-
-slice-read-first : tie.Need-slice-read-first
-slice-read-first c = search needs
-
 yields-requires : tie.Need-yields-requires
 yields-requires c κs =
     let entry = c .before .before .before .before .before .before .before .before in
@@ -42,52 +23,17 @@ yields-requires-2 c κs =
     let entry = c .before .before .before .before .before .before .before .before .before .before in
     ((entry .pre .0 .0, entry .pre .0 .1, omega (arith, entry .pre .0 .1, entry .pre .1 .1 .1 .2 0 (omega arith))), (entry .pre .1 .0, entry .pre .1 .1 .0))
 
-slice-write-near-2 : tie.Need-slice-write-near-2
-slice-write-near-2 c = search needs
-
-same-length-2 : tie.Need-same-length-2
-same-length-2 c = search needs
-
 returns-4 : tie.Need-returns-4
 returns-4 c =
     let at-yields2 = c .before in
     let entry = at-yields2 .before .before .before .before .before .before .before .before .before .before .before in
     placed-leads (entry .pre .1 .1 .1 .2) (omega arith) (omega arith) (at-yields2 .yields2 .ensures (c .if4 .taken))
 
-mul-near : tie.Need-mul-near
-mul-near c = search needs
-
-slice-write-near-3 : tie.Need-slice-write-near-3
-slice-write-near-3 c = search needs
-
-add-result : tie.Need-add-result
-add-result c = search needs
-
-same-length-3 : tie.Need-same-length-3
-same-length-3 c = search needs
-
-returns-5 : tie.Need-returns-5
-returns-5 c =
-    let entry = c .before .before .before .before .before .before .before .before .before .before .before .before in
-    placed-last (entry .pre .1 .1 .1 .2) (omega arith) _ refl
-
 pub list-row-spec : {M : Type 1} → statement M
-list-row-spec =
-    tie.close
-    (tie.spec
-    returns
-    slice-write-near
-    same-length
-    returns-2
-    slice-read-first
-    yields-requires
-    returns-3
-    yields-requires-2
-    slice-write-near-2
-    same-length-2
-    returns-4
-    mul-near
-    slice-write-near-3
-    add-result
-    same-length-3
-    returns-5)
+list-row-spec = tie.close (tie.spec
+    (λ c. let entry = c .before .before .before .before .before .before in placed-not (entry .pre .1 .1 .1 .2) (not-true _ (c .if1 .taken))) (λ c. search needs)
+    (λ c. search needs)
+    (λ c. let entry = c .before .before .before .before .before .before .before in placed-first (entry .pre .1 .1 .1 .2) (omega arith) (omega arith))
+    (λ c. search needs) yields-requires returns-3 yields-requires-2 (λ c. search needs) (λ c. search needs) returns-4 (λ c. search needs) (λ c. search needs)
+    (λ c. search needs) (λ c. search needs)
+    (λ c. let entry = c .before .before .before .before .before .before .before .before .before .before .before .before in placed-last (entry .pre .1 .1 .1 .2) (omega arith) _ refl))

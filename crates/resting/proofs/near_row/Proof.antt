@@ -5,12 +5,6 @@ use Rattle.resting.proofs.SortLaws.{near-listed, near-past}
 use Rattle.resting.proofs.near_row.Statement.{statement}
 use Rattle.resting.proofs.near_row.Tie as tie
 
-returns : tie.Need-returns
-returns c = sym (near-listed _ _ _ (c .before .if1 .taken))
-
-returns-2 : tie.Need-returns-2
-returns-2 c = sym (near-past _ _ _ (c .if1 .left))
-
 pub near-row-spec : {M : Type 1} → statement M
-near-row-spec =
-    tie.close (tie.spec (λ c. omega arith) (λ c. omega arith) returns (λ c. omega arith) returns-2)
+near-row-spec = tie.close (tie.spec (λ c. omega arith) (λ c. omega arith) (λ c. sym (near-listed _ _ _ (c .before .if1 .taken))) (λ c. omega arith)
+    (λ c. sym (near-past _ _ _ (c .if1 .left))))

@@ -1,18 +1,19 @@
--- `resting::walk_near` meets its contract: the first j near rows have tightened the bounds (`Walking`); the others rest, and would tighten none. n times the most part is within the margin before the round, and so fits.
+-- `resting::walk_near` meets its contract: the first j near rows have tightened the caps (`Walking`); the other rows rest, and would tighten none.
+-- n times the largest part is within the margin before the round, and so fits.
 use mathlib.Core.Path.{refl, sym, _∙_}
 use Prim.Native.Nat.{_-_}
 use native.Mathlib.Omega.{arith}
-use Rattle.rounds.specs.Work.{flat}
+use Rattle.rounds.specs.AllRounds.{flat}
 use Rattle.rounds.proofs.Loops.{ready-long}
-use Rattle.resting.proofs.WalkLaws.{Walking, walking-none, walk-long, walk-listed, walk-row, walk-partable, walk-loss, walk-n, walk-most, walking-more, walking-all}
+use Rattle.resting.proofs.WalkLaws.{Walking, walking-none, walk-long, walk-listed, walk-row, walk-loadable, walk-loss, walk-n, walk-most, walking-more, walking-all}
 use Rattle.resting.proofs.walk_near.Statement.{statement}
 use Rattle.resting.proofs.walk_near.Tie as tie
 
 abbrev Inv-loop : tie.InvT-loop
-Inv-loop rows borders p ns margins gained rising live near count bounds₀ j₀ j-end bounds j = Walking (flat rows borders p) margins gained near count bounds₀ bounds j
+Inv-loop rows borders p ns margins gained rising live near count caps₀ j₀ j-end caps j = Walking (flat rows borders p) margins gained near count caps₀ caps j
 
 abbrev μ-loop : tie.MeasureT-loop
-μ-loop rows borders p ns margins gained rising live near count bounds₀ j₀ j-end bounds j = j-end - j
+μ-loop rows borders p ns margins gained rising live near count caps₀ j₀ j-end caps j = j-end - j
 
 abbrev entry-from-slice-known : tie.After-slice-known Inv-loop μ-loop → tie.Start Inv-loop μ-loop
 entry-from-slice-known c = c .before .before .before .before .before .before .before
@@ -20,36 +21,15 @@ entry-from-slice-known c = c .before .before .before .before .before .before .be
 abbrev entry-from-loop : tie.At-loop Inv-loop μ-loop → tie.Start Inv-loop μ-loop
 entry-from-loop c = entry-from-slice-known (c .before)
 
-sub-j-end : tie.Need-sub-j-end Inv-loop μ-loop
-sub-j-end c =
-    let entry = entry-from-slice-known c in
-    omega (arith, entry .pre .1 .waiting .room)
-
-add-j-end : tie.Need-add-j-end Inv-loop μ-loop
-add-j-end c =
-    let entry = entry-from-slice-known c in
-    omega (arith, entry .pre .1 .waiting .room, entry .pre .1 .waiting .watched .few)
-
-loop-holds : tie.Need-loop-holds Inv-loop μ-loop
-loop-holds c =
-    let entry = entry-from-slice-known c in
-    walking-none (entry .pre .1)
-
-near-row-requires : tie.Need-near-row-requires Inv-loop μ-loop
-near-row-requires c κs =
-    let entry = entry-from-loop (c .before) in
-    let q = entry .pre .1 .waiting in
-    (q .watched .few, omega (arith, q .room, q .watched .few))
-
-row-parts-requires : tie.Need-row-parts-requires Inv-loop μ-loop
-row-parts-requires c κs =
+row-loads-requires : tie.Need-row-loads-requires Inv-loop μ-loop
+row-loads-requires c κs =
     let at-near-row = c .before in
     let at-loop = at-near-row .before .before in
     let entry = entry-from-loop at-loop in
     let q = entry .pre in
     let u = at-loop .loop .inv in
     let e = at-near-row .near-row .ensures in
-    ((q .0, walk-row (q .1) u (omega arith) _ e), walk-partable (q .1) u (omega arith) _ e)
+    ((q .0, walk-row (q .1) u (omega arith) _ e), walk-loadable (q .1) u (omega arith) _ e)
 
 mul-margin : tie.Need-mul-margin Inv-loop μ-loop
 mul-margin c =
@@ -67,11 +47,11 @@ shared-slice-read-margin c =
 
 sub-margin : tie.Need-sub-margin Inv-loop μ-loop
 sub-margin c =
-    let at-row-parts = c .before .before in
-    let at-near-row = at-row-parts .before .before in
+    let at-row-loads = c .before .before in
+    let at-near-row = at-row-loads .before .before in
     let at-loop = at-near-row .before .before in
     let entry = entry-from-loop at-loop in
-    omega (arith, walk-loss (entry .pre .1) (at-loop .loop .inv) (omega arith) _ (at-near-row .near-row .ensures) _ (at-row-parts .row-parts .ensures .0))
+    omega (arith, walk-loss (entry .pre .1) (at-loop .loop .inv) (omega arith) _ (at-near-row .near-row .ensures) _ (at-row-loads .row-loads .ensures .0))
 
 mul-lower-if-tight : tie.Need-mul-lower-if-tight Inv-loop μ-loop
 mul-lower-if-tight c =
@@ -89,15 +69,15 @@ shared-slice-read-lower-if-tight c =
 
 lower-if-tight-requires : tie.Need-lower-if-tight-requires Inv-loop μ-loop
 lower-if-tight-requires c κs =
-    let at-row-parts = c .before .before .before .before in
-    let at-near-row = at-row-parts .before .before in
+    let at-row-loads = c .before .before .before .before in
+    let at-near-row = at-row-loads .before .before in
     let at-loop = at-near-row .before .before in
     let entry = entry-from-loop at-loop in
     let q = entry .pre in
     let u = at-loop .loop .inv in
     let e = at-near-row .near-row .ensures in
-    let em = at-row-parts .row-parts .ensures .1 in
-    ((q .0, walk-row (q .1) u (omega arith) _ e), (walk-listed (q .1) u, (u .bounded .long, (walk-n (q .1) u (omega arith) _ e, (em, walk-most (q .1) u (omega arith) _ e _ em)))))
+    let em = at-row-loads .row-loads .ensures .1 in
+    ((q .0, walk-row (q .1) u (omega arith) _ e), (walk-listed (q .1) u, (u .capped .long, (walk-n (q .1) u (omega arith) _ e, (em, walk-most (q .1) u (omega arith) _ e _ em)))))
 
 add-j : tie.Need-add-j Inv-loop μ-loop
 add-j c =
@@ -107,43 +87,18 @@ add-j c =
 loop-again : tie.Need-loop-again Inv-loop μ-loop
 loop-again c =
     let at-lower-if-tight = c .before .before in
-    let at-row-parts = at-lower-if-tight .before .before .before .before .before in
-    let at-near-row = at-row-parts .before .before in
+    let at-row-loads = at-lower-if-tight .before .before .before .before .before in
+    let at-near-row = at-row-loads .before .before in
     let at-loop = at-near-row .before .before in
     let entry = entry-from-loop at-loop in
-    walking-more (entry .pre .1) (at-loop .loop .inv) (omega arith) _ (at-near-row .near-row .ensures) _ _ refl (at-row-parts .row-parts .ensures .0) _ (at-lower-if-tight .lower-if-tight .ensures)
-
-same-length : tie.Need-same-length Inv-loop μ-loop
-same-length c =
-    let at-loop = c .before in
-    let entry = entry-from-loop at-loop in
-    at-loop .loop .inv .bounded .long ∙ sym (walk-long (entry .pre .1))
-
-returns : tie.Need-returns Inv-loop μ-loop
-returns c =
-    let at-loop = c .before in
-    let entry = entry-from-loop at-loop in
-    walking-all (entry .pre .1) (at-loop .loop .inv) (omega arith)
+    walking-more (entry .pre .1) (at-loop .loop .inv) (omega arith) _ (at-near-row .near-row .ensures) _ _ refl (at-row-loads .row-loads .ensures .0) _ (at-lower-if-tight .lower-if-tight .ensures)
 
 pub walk-near-spec : {M : Type 1} → statement M
-walk-near-spec =
-    tie.close
-    (tie.spec
-    Inv-loop
-    μ-loop
-    sub-j-end
-    add-j-end
-    loop-holds
-    near-row-requires
-    row-parts-requires
-    mul-margin
-    shared-slice-read-margin
-    sub-margin
-    mul-lower-if-tight
-    shared-slice-read-lower-if-tight
-    lower-if-tight-requires
-    add-j
-    (λ c. omega arith)
-    loop-again
-    same-length
-    returns)
+walk-near-spec = tie.close (tie.spec Inv-loop μ-loop (λ c. let entry = entry-from-slice-known c in omega (arith, entry .pre .1 .waiting .room))
+    (λ c. let entry = entry-from-slice-known c in omega (arith, entry .pre .1 .waiting .room, entry .pre .1 .waiting .watched .few))
+    (λ c. let entry = entry-from-slice-known c in walking-none (entry .pre .1))
+    (λ c κs. let entry = entry-from-loop (c .before) in let q = entry .pre .1 .waiting in (q .watched .few, omega (arith, q .room, q .watched .few)))
+    row-loads-requires mul-margin shared-slice-read-margin sub-margin mul-lower-if-tight shared-slice-read-lower-if-tight lower-if-tight-requires add-j
+    (λ c. omega arith) loop-again
+    (λ c. let at-loop = c .before in let entry = entry-from-loop at-loop in at-loop .loop .inv .capped .long ∙ sym (walk-long (entry .pre .1)))
+    (λ c. let at-loop = c .before in let entry = entry-from-loop at-loop in walking-all (entry .pre .1) (at-loop .loop .inv) (omega arith)))

@@ -2,7 +2,7 @@
 use mathlib.Core.Bool.{false≢true}
 use Prim.Native.Nat.{_-_}
 use native.Mathlib.Omega.{arith}
-use Rattle.rounds.specs.Work.{flat}
+use Rattle.rounds.specs.AllRounds.{flat}
 use Rattle.rounds.proofs.Loops.{ready-long}
 use Rattle.resting.proofs.YieldLaws.{Lower, lower-none, lower-more, lower-all}
 use Rattle.resting.proofs.yields.Statement.{statement}
@@ -14,65 +14,6 @@ Inv-loop rows borders p ns margins rising live t i j₀ j = Lower (flat rows bor
 abbrev μ-loop : tie.MeasureT-loop
 μ-loop rows borders p ns margins rising live t i j₀ j = live - j
 
-mul-if1 : tie.Need-mul-if1 Inv-loop μ-loop
-mul-if1 c =
-    let entry = c .before .before .before .before in
-    omega (arith, entry .pre .1 .0 .margins, entry .pre .0 .2)
-
-shared-slice-read-if1 : tie.Need-shared-slice-read-if1 Inv-loop μ-loop
-shared-slice-read-if1 c =
-    let entry = c .before .before .before .before .before in
-    omega (arith, entry .pre .1 .0 .margins, entry .pre .0 .2)
-
-mul-if1-2 : tie.Need-mul-if1-2 Inv-loop μ-loop
-mul-if1-2 c =
-    let entry = c .before .before .before .before .before in
-    omega (arith, entry .pre .1 .0 .margins, entry .pre .0 .1)
-
-shared-slice-read-if1-2 : tie.Need-shared-slice-read-if1-2 Inv-loop μ-loop
-shared-slice-read-if1-2 c =
-    let entry = c .before .before .before .before .before .before in
-    omega (arith, entry .pre .1 .0 .margins, entry .pre .0 .1)
-
-returns : tie.Need-returns Inv-loop μ-loop
-returns c = λ z. absurd (false≢true z)
-
-mul-if2 : tie.Need-mul-if2 Inv-loop μ-loop
-mul-if2 c =
-    let entry = c .before .before .before .before .before .before .before in
-    omega (arith, ready-long (entry .pre .1 .0), entry .pre .0 .1)
-
-shared-slice-read-if2 : tie.Need-shared-slice-read-if2 Inv-loop μ-loop
-shared-slice-read-if2 c =
-    let entry = c .before .before .before .before .before .before .before .before in
-    omega (arith, ready-long (entry .pre .1 .0), entry .pre .0 .1)
-
-mul-if2-2 : tie.Need-mul-if2-2 Inv-loop μ-loop
-mul-if2-2 c =
-    let entry = c .before .before .before .before .before .before .before .before in
-    omega (arith, ready-long (entry .pre .1 .0), entry .pre .0 .2)
-
-shared-slice-read-if2-2 : tie.Need-shared-slice-read-if2-2 Inv-loop μ-loop
-shared-slice-read-if2-2 c =
-    let entry = c .before .before .before .before .before .before .before .before .before in
-    omega (arith, ready-long (entry .pre .1 .0), entry .pre .0 .2)
-
-returns-2 : tie.Need-returns-2 Inv-loop μ-loop
-returns-2 c = λ z. absurd (false≢true z)
-
-loop-holds : tie.Need-loop-holds Inv-loop μ-loop
-loop-holds c = lower-none _ _ _ _ _
-
-mul-b : tie.Need-mul-b Inv-loop μ-loop
-mul-b c =
-    let entry = c .before .before .before .before .before .before .before .before .before .before .before .before in
-    omega (arith, entry .pre .1 .1 .0)
-
-shared-slice-read-b : tie.Need-shared-slice-read-b Inv-loop μ-loop
-shared-slice-read-b c =
-    let entry = c .before .before .before .before .before .before .before .before .before .before .before .before .before in
-    omega (arith, entry .pre .1 .1 .0)
-
 factor-requires : tie.Need-factor-requires Inv-loop μ-loop
 factor-requires c κs =
     let entry = c .before .before .before .before .before .before .before .before .before .before .before .before .before in
@@ -82,15 +23,6 @@ factor-requires-2 : tie.Need-factor-requires-2 Inv-loop μ-loop
 factor-requires-2 c κs =
     let entry = c .before .before .before .before .before .before .before .before .before .before .before .before .before .before in
     (entry .pre .0 .0, entry .pre .0 .2, entry .pre .1 .1 .1 _ (omega arith))
-
-returns-3 : tie.Need-returns-3 Inv-loop μ-loop
-returns-3 c = λ z. absurd (false≢true z)
-
-add-j : tie.Need-add-j Inv-loop μ-loop
-add-j c = omega arith
-
-loop-less : tie.Need-loop-less Inv-loop μ-loop
-loop-less c = omega arith
 
 loop-again : tie.Need-loop-again Inv-loop μ-loop
 loop-again c =
@@ -106,28 +38,17 @@ returns-4 c =
     λ z. lower-all (at-loop .loop .inv) (entry .pre .1 .0) (entry .pre .0 .1) (entry .pre .0 .2) (omega arith) (omega arith) (omega arith)
 
 pub yields-spec : {M : Type 1} → statement M
-yields-spec =
-    tie.close
-    (tie.spec
-    Inv-loop
-    μ-loop
-    mul-if1
-    shared-slice-read-if1
-    mul-if1-2
-    shared-slice-read-if1-2
-    returns
-    mul-if2
-    shared-slice-read-if2
-    mul-if2-2
-    shared-slice-read-if2-2
-    returns-2
-    loop-holds
-    mul-b
-    shared-slice-read-b
-    factor-requires
-    factor-requires-2
-    returns-3
-    add-j
-    loop-less
-    loop-again
-    returns-4)
+yields-spec = tie.close (tie.spec Inv-loop μ-loop
+    (λ c. let entry = c .before .before .before .before in omega (arith, entry .pre .1 .0 .margins, entry .pre .0 .2))
+    (λ c. let entry = c .before .before .before .before .before in omega (arith, entry .pre .1 .0 .margins, entry .pre .0 .2))
+    (λ c. let entry = c .before .before .before .before .before in omega (arith, entry .pre .1 .0 .margins, entry .pre .0 .1))
+    (λ c. let entry = c .before .before .before .before .before .before in omega (arith, entry .pre .1 .0 .margins, entry .pre .0 .1))
+    (λ c. λ z. absurd (false≢true z))
+    (λ c. let entry = c .before .before .before .before .before .before .before in omega (arith, ready-long (entry .pre .1 .0), entry .pre .0 .1))
+    (λ c. let entry = c .before .before .before .before .before .before .before .before in omega (arith, ready-long (entry .pre .1 .0), entry .pre .0 .1))
+    (λ c. let entry = c .before .before .before .before .before .before .before .before in omega (arith, ready-long (entry .pre .1 .0), entry .pre .0 .2))
+    (λ c. let entry = c .before .before .before .before .before .before .before .before .before in omega (arith, ready-long (entry .pre .1 .0), entry .pre .0 .2))
+    (λ c. λ z. absurd (false≢true z)) (λ c. lower-none _ _ _ _ _)
+    (λ c. let entry = c .before .before .before .before .before .before .before .before .before .before .before .before in omega (arith, entry .pre .1 .1 .0))
+    (λ c. let entry = c .before .before .before .before .before .before .before .before .before .before .before .before .before in omega (arith, entry .pre .1 .1 .0))
+    factor-requires factor-requires-2 (λ c. λ z. absurd (false≢true z)) (λ c. omega arith) (λ c. omega arith) loop-again returns-4)

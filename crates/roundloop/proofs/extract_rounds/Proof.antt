@@ -1,4 +1,4 @@
--- `roundloop::extract_rounds` meets its contract: its promise is that of `do_rounds`: the room holds as many as there are borders, and no more places for rows than there are rows.
+-- `roundloop::extract_rounds` meets its contract, which is that of `do_rounds`: the arrays have an item for each border, and `near` has no more places than there are rows.
 use mathlib.Core.Path.{sym}
 use borrow.Author.Needs.{needs}
 use native.Mathlib.Nat.{min-le-left, min-le-right}
@@ -7,20 +7,17 @@ use lib.Seq.{length-take-le}
 use Rattle.roundloop.proofs.extract_rounds.Statement.{statement}
 use Rattle.roundloop.proofs.extract_rounds.Tie as tie
 
-smaller-requires : tie.Need-smaller-requires
-smaller-requires c κs = tt
-
 array-borrow-prefix-gained : tie.Need-array-borrow-prefix-gained
 array-borrow-prefix-gained c = search needs
 
 slice-aggregate-do-rounds : tie.Need-slice-aggregate-do-rounds
 slice-aggregate-do-rounds c = sym (length-take-le _ _ (array-borrow-prefix-gained (c .before)))
 
-array-borrow-prefix-bounds : tie.Need-array-borrow-prefix-bounds
-array-borrow-prefix-bounds c = search needs
+array-borrow-prefix-caps : tie.Need-array-borrow-prefix-caps
+array-borrow-prefix-caps c = search needs
 
 slice-aggregate-do-rounds-2 : tie.Need-slice-aggregate-do-rounds-2
-slice-aggregate-do-rounds-2 c = sym (length-take-le _ _ (array-borrow-prefix-bounds (c .before)))
+slice-aggregate-do-rounds-2 c = sym (length-take-le _ _ (array-borrow-prefix-caps (c .before)))
 
 array-borrow-prefix-rising : tie.Need-array-borrow-prefix-rising
 array-borrow-prefix-rising c = search needs
@@ -45,19 +42,6 @@ do-rounds-requires c κs =
     (q .0, (q .1 .0, (q .1 .1, ((sym (slice-aggregate-do-rounds (c .before .before .before)), sym (slice-aggregate-do-rounds-2 (c .before .before))), (sym (slice-aggregate-do-rounds-3 (c .before)), omega (arith, at-smaller .smaller .ensures, min-le-left (entry .args .rows) 200, slice-aggregate-do-rounds-4 c))))))
 
 pub extract-rounds-spec : {M : Type 1} → statement M
-extract-rounds-spec =
-    tie.close
-    (tie.spec
-    smaller-requires
-    array-borrow-prefix-gained
-    slice-aggregate-do-rounds
-    array-borrow-prefix-bounds
-    slice-aggregate-do-rounds-2
-    array-borrow-prefix-rising
-    slice-aggregate-do-rounds-3
-    array-borrow-prefix-near
-    slice-aggregate-do-rounds-4
-    do-rounds-requires
-    (λ c. search needs)
-    (λ c. search needs)
-    (λ c. search needs))
+extract-rounds-spec = tie.close (tie.spec (λ c κs. tt) array-borrow-prefix-gained slice-aggregate-do-rounds array-borrow-prefix-caps slice-aggregate-do-rounds-2
+    array-borrow-prefix-rising slice-aggregate-do-rounds-3 array-borrow-prefix-near slice-aggregate-do-rounds-4 do-rounds-requires (λ c. search needs)
+    (λ c. search needs) (λ c. search needs))

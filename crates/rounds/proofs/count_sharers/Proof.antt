@@ -4,7 +4,7 @@ use Prim.Native.Nat.{_-_}
 use native.Mathlib.Omega.{arith}
 use Rattle.numbers.proofs.ListLaws.{Filled, filled-none, filled-more, filled-all}
 use Rattle.rounds.specs.Rounds.{sharers}
-use Rattle.rounds.specs.Work.{flat}
+use Rattle.rounds.specs.AllRounds.{flat}
 use Rattle.rounds.proofs.Loops.{Counted, counted-none, counted-up, counted-on, counted-le, counted-all}
 use Rattle.rounds.proofs.count_sharers.Statement.{statement}
 use Rattle.rounds.proofs.count_sharers.Tie as tie
@@ -21,20 +21,6 @@ Inv-loop rows borders p ns₀ i₀ ns i = Filled (sharers (flat rows borders p))
 abbrev μ-loop : tie.MeasureT-loop
 μ-loop rows borders p ns₀ i₀ ns i = rows - i
 
-loop-holds : tie.Need-loop-holds Inv-loop2 μ-loop2 Inv-loop μ-loop
-loop-holds c = filled-none _ _ _
-
-loop2-holds : tie.Need-loop2-holds Inv-loop2 μ-loop2 Inv-loop μ-loop
-loop2-holds c = counted-none _ _
-
-factor-requires : tie.Need-factor-requires Inv-loop2 μ-loop2 Inv-loop μ-loop
-factor-requires c κs =
-    let entry = c .before .before .before .before .before .before in
-    (entry .pre .0, omega arith, omega arith)
-
-add-n : tie.Need-add-n Inv-loop2 μ-loop2 Inv-loop μ-loop
-add-n c = let at-loop2 = c .before .before .before in omega (arith, counted-le (at-loop2 .loop2 .inv))
-
 loop2-again : tie.Need-loop2-again Inv-loop2 μ-loop2 Inv-loop μ-loop
 loop2-again c =
     let u = c .before .before .before .loop2 .inv in
@@ -48,33 +34,9 @@ loop-again : tie.Need-loop-again Inv-loop2 μ-loop2 Inv-loop μ-loop
 unfolding sharers
 loop-again c = filled-more (c .before .before .before .loop .inv) _ (omega arith) (omega arith) (counted-all (c .before .loop2 .inv) (c .loop2-test .left))
 
-same-length : tie.Need-same-length Inv-loop2 μ-loop2 Inv-loop μ-loop
-same-length c = c .before .loop .inv .as-long
-
-returns : tie.Need-returns Inv-loop2 μ-loop2 Inv-loop μ-loop
-returns c =
-    let entry = c .before .before .before .before in
-    filled-all (c .before .loop .inv) (c .loop-test .left) (entry .pre .1)
-
 pub count-sharers-spec : {M : Type 1} → statement M
-count-sharers-spec =
-    tie.close
-    (tie.spec
-    Inv-loop2
-    μ-loop2
-    Inv-loop
-    μ-loop
-    loop-holds
-    loop2-holds
-    factor-requires
-    add-n
-    (λ c. omega arith)
-    (λ c. omega arith)
-    loop2-again
-    (λ c. omega arith)
-    (λ c. omega arith)
-    (λ c. omega arith)
-    (λ c. omega arith)
-    loop-again
-    same-length
-    returns)
+count-sharers-spec = tie.close (tie.spec Inv-loop2 μ-loop2 Inv-loop μ-loop (λ c. filled-none _ _ _) (λ c. counted-none _ _)
+    (λ c κs. let entry = c .before .before .before .before .before .before in (entry .pre .0, omega arith, omega arith))
+    (λ c. let at-loop2 = c .before .before .before in omega (arith, counted-le (at-loop2 .loop2 .inv))) (λ c. omega arith) (λ c. omega arith) loop2-again
+    (λ c. omega arith) (λ c. omega arith) (λ c. omega arith) (λ c. omega arith) loop-again (λ c. c .before .loop .inv .as-long)
+    (λ c. let entry = c .before .before .before .before in filled-all (c .before .loop .inv) (c .loop-test .left) (entry .pre .1)))

@@ -10,17 +10,6 @@ use Rattle.rounds.proofs.factor.Tie as tie
 inside : (c : tie.Start) → c .args .i * c .args .borders + c .args .b < length (c .args .p .now)
 inside c = place-inside (c .args .rows) _ _ _ _ (c .pre .0) (c .pre .1) (c .pre .2)
 
-mul-result : tie.Need-mul-result
-mul-result c = omega (arith, inside c)
-
-add-result : tie.Need-add-result
-add-result c = omega (arith, inside c)
-
-mul-result-2 : tie.Need-mul-result-2
-mul-result-2 c = omega (arith, inside c)
-
-shared-slice-read-result : tie.Need-shared-slice-read-result
-shared-slice-read-result c = inside (c .before)
-
 pub factor-spec : {M : Type 1} → statement M
-factor-spec = tie.close (tie.spec mul-result add-result mul-result-2 shared-slice-read-result (λ c. search needs))
+factor-spec = tie.close (tie.spec (λ c. omega (arith, inside c)) (λ c. omega (arith, inside c)) (λ c. omega (arith, inside c)) (λ c. inside (c .before))
+    (λ c. search needs))

@@ -7,11 +7,11 @@ use borrow.Author.Needs.{needs}
 use borrow.Author.Tests.{not-true, not-false}
 use lib.ListN.{length}
 use lib.Seq.{length-take-le}
-use Rattle.kinds.specs.declared.Judgement.{Judgement}
-use Rattle.kinds.specs.Answers.{ruled}
-use Rattle.kinds.specs.Ranges.{headerFits}
-use Rattle.kinds.specs.Refusals.{passed}
-use Rattle.kinds.proofs.KindLaws.{header-in}
+use Rattle.refusals.specs.declared.Judgement.{Judgement}
+use Rattle.refusals.specs.Answers.{saidJudgement}
+use Rattle.refusals.specs.Refusals.{passed}
+use Rattle.types.specs.Ranges.{headerFits}
+use Rattle.types.proofs.RangeLaws.{header-in}
 use Rattle.table.proofs.RoomLaws.{factors-most}
 use Rattle.rowsheet.specs.RowSheet.{rowRoom}
 use Rattle.rowsheet.proofs.SheetLaws.{room-passed}
@@ -30,7 +30,7 @@ entry c = past-fits c .before .before .before
 
 -- past the lengths
 room : (c : tie.After-enum-told) → let a = entry c .args in passed (a .h) ≡ rowRoom (a .h) (length (a .c .now)) (length (a .f .now)) (passed (a .h))
-room c = sym (ap (λ (j : Judgement). ruled j (entry c .args .h)) (c .enum-told .given .1)) ∙ c .before .before .judge-room .ensures
+room c = sym (ap (λ (j : Judgement). saidJudgement j (entry c .args .h)) (c .enum-told .given .1)) ∙ c .before .before .judge-room .ensures
 
 enough : (c : tie.After-enum-told) → let a = entry c .args in (a .h .rows ≤ length (a .c .now)) × (a .h .rows * a .h .zones ≤ length (a .f .now))
 enough c =
@@ -43,23 +43,11 @@ returns c =
     let a = c .before .before .before .before .args in
     rw (c .out-of-range .ensures) (header-out (a .h) (a .c .now) (a .f .now) (a .out .now) (sym (c .before .before .fits2 .ensures) ∙ not-true _ (c .before .if1 .taken)))
 
-judge-room-requires : tie.Need-judge-room-requires
-judge-room-requires c κs = fit c
-
 returns-2 : tie.Need-returns-2
 returns-2 c =
     let judged = c .before .before .before in
     let a = judged .before .before .before .before .args in
-    room-out (a .h) (a .c .now) (a .f .now) (a .out .now) (fit (judged .before)) _ (sym (ap (λ (j : Judgement). ruled j (a .h)) (c .before .w .given .1)) ∙ judged .judge-room .ensures)
-
-slice-aggregate-write-front : tie.Need-slice-aggregate-write-front
-slice-aggregate-write-front c = sym (length-take-le _ _ (enough (c .before) .0))
-
-mul-write-front : tie.Need-mul-write-front
-mul-write-front c = omega (arith, factors-most _ (fit (past-fits (c .before))))
-
-slice-aggregate-write-front-2 : tie.Need-slice-aggregate-write-front-2
-slice-aggregate-write-front-2 c = sym (length-take-le _ _ (enough (c .before .before) .1))
+    room-out (a .h) (a .c .now) (a .f .now) (a .out .now) (fit (judged .before)) _ (sym (ap (λ (j : Judgement). saidJudgement j (a .h)) (c .before .w .given .1)) ∙ judged .judge-room .ensures)
 
 write-front-requires : tie.Need-write-front-requires
 write-front-requires c κs =
@@ -77,19 +65,6 @@ returns-3 c =
     c .before .before .write-front .ensures ∙ front-on (a .h) (a .c .now) (a .f .now) (a .out .now) (fit (past-fits told)) (room told)
 
 pub write-rows-spec : {M : Type 1} → statement M
-write-rows-spec =
-    tie.close
-    (tie.spec
-    (λ c κs. search needs)
-    (λ c κs. search needs)
-    returns
-    judge-room-requires
-    (λ c. search needs)
-    returns-2
-    (λ c. search needs)
-    slice-aggregate-write-front
-    mul-write-front
-    slice-aggregate-write-front-2
-    write-front-requires
-    (λ c. search needs)
-    returns-3)
+write-rows-spec = tie.close (tie.spec (λ c κs. search needs) (λ c κs. search needs) returns (λ c κs. fit c) (λ c. search needs) returns-2 (λ c. search needs)
+    (λ c. sym (length-take-le _ _ (enough (c .before) .0))) (λ c. omega (arith, factors-most _ (fit (past-fits (c .before)))))
+    (λ c. sym (length-take-le _ _ (enough (c .before .before) .1))) write-front-requires (λ c. search needs) returns-3)

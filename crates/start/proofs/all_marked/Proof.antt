@@ -18,9 +18,6 @@ Inv-loop flags k₀ k-end k = Looked (length flags) (λ k. not (flagged flags k)
 abbrev μ-loop : tie.MeasureT-loop
 μ-loop flags k₀ k-end k = length flags - k
 
-loop-holds : tie.Need-loop-holds Inv-loop μ-loop
-loop-holds c = looked-none _ _
-
 returns : tie.Need-returns Inv-loop μ-loop
 unfolding given flagged
 returns c = ap (λ (o : Option ℕ). not (given o)) (looked-here _ _ _ (c .before .before .before .loop .inv) (omega arith) (ap (λ (t : Bool). not (not t)) (eq-eqb _ _ (c .if1 .taken))))
@@ -34,16 +31,5 @@ unfolding given
 returns-2 c = ap (λ (o : Option ℕ). not (given o)) (looked-all _ _ _ (c .before .loop .inv) (omega arith))
 
 pub all-marked-spec : {M : Type 1} → statement M
-all-marked-spec =
-    tie.close
-    (tie.spec
-    Inv-loop
-    μ-loop
-    loop-holds
-    (λ c. omega arith)
-    (λ c. omega arith)
-    returns
-    (λ c. omega arith)
-    (λ c. omega arith)
-    loop-again
-    returns-2)
+all-marked-spec = tie.close (tie.spec Inv-loop μ-loop (λ c. looked-none _ _) (λ c. omega arith) (λ c. omega arith) returns (λ c. omega arith) (λ c. omega arith)
+    loop-again returns-2)

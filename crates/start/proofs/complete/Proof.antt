@@ -8,11 +8,6 @@ use Rattle.start.proofs.StartLaws.{filled-long}
 use Rattle.start.proofs.complete.Statement.{statement}
 use Rattle.start.proofs.complete.Tie as tie
 
-returns : tie.Need-returns
-returns c =
-    let s = c .before .before .before .before .before in
-    s .pre .1 .1 .1 .1 .1 ∙ cells-all _ _ _ _ _ (s .pre .1 .1 .0 .1) (sym (c .before .all-marked .ensures) ∙ c .if1 .taken)
-
 array-share-prefix-every : tie.Need-array-share-prefix-every
 array-share-prefix-every c =
     let s = c .before .before .before .before .before .before in
@@ -34,14 +29,6 @@ returns-2 c =
     c .before .before .fill-grid .ensures ∙ cells-every _ _ _ _ (s .args .flags .now) (at-chosen .chosen .ensures) (s .pre .1 .1 .1 .1 .0)
 
 pub complete-spec : {M : Type 1} → statement M
-complete-spec =
-    tie.close
-    (tie.spec
-    (λ c κs. search needs)
-    returns
-    (λ c κs. search needs)
-    array-share-prefix-every
-    slice-aggregate-fill-grid
-    fill-grid-requires
-    (λ c. search needs)
-    returns-2)
+complete-spec = tie.close (tie.spec (λ c κs. search needs)
+    (λ c. let s = c .before .before .before .before .before in s .pre .1 .1 .1 .1 .1 ∙ cells-all _ _ _ _ _ (s .pre .1 .1 .0 .1) (sym (c .before .all-marked .ensures) ∙ c .if1 .taken))
+    (λ c κs. search needs) array-share-prefix-every slice-aggregate-fill-grid fill-grid-requires (λ c. search needs) returns-2)

@@ -6,12 +6,13 @@ use Prim.Native.Nat.{ℕ, _-_}
 use native.Mathlib.Omega.{arith}
 use lib.IntN.{ℤ}
 use lib.ListN.{getD}
-use Rattle.kinds.specs.Ranges.{borderFits, borderOf}
+use Rattle.types.specs.Ranges.{borderFits, borderOf}
 use Rattle.marks.specs.Marks.{flagged}
 use Rattle.margin.specs.Margin.{pOf}
-use Rattle.margin.proofs.JudgedLaws.{part-long, part-bound}
-use Rattle.start.specs.Setup.{gridBy}
-use Rattle.start.specs.Start.{kept, gridOf, setupWith}
+use Rattle.margin.proofs.JudgedLaws.{part-long, part-ranges}
+use Rattle.setup.specs.Setup.{gridBy}
+use Rattle.states.specs.States.{kept}
+use Rattle.start.specs.Start.{gridOf, setupWith}
 use Rattle.start.proofs.StartLaws.{FilledTo, filled-to-none, filled-to-place, filled-to-more, filled-to-row, filled-to-all}
 use Rattle.start.proofs.fill_grid.Statement.{statement}
 use Rattle.start.proofs.fill_grid.Tie as tie
@@ -32,15 +33,6 @@ loop-holds : tie.Need-loop-holds Inv-loop2 μ-loop2 Inv-loop μ-loop
 unfolding gridOf gridBy setupWith
 loop-holds c = filled-to-none _ _ (c .before .before .before .pre .1 .1 .1 .1)
 
-shared-slice-read-state : tie.Need-shared-slice-read-state Inv-loop2 μ-loop2 Inv-loop μ-loop
-shared-slice-read-state c = omega (arith, c .before .before .before .before .before .before .pre .1 .1 .1 .0)
-
-row-factors-requires : tie.Need-row-factors-requires Inv-loop2 μ-loop2 Inv-loop μ-loop
-row-factors-requires c κs = (c .before .before .before .before .before .before .pre .0, omega arith)
-
-loop2-holds : tie.Need-loop2-holds Inv-loop2 μ-loop2 Inv-loop μ-loop
-loop2-holds c = c .before .before .before .loop .inv
-
 -- the row's index, and the function's entry, from where the row's factors are read
 module _ (c : tie.After-row-factors Inv-loop2 μ-loop2 Inv-loop μ-loop) where
   abbrev row : ℕ
@@ -49,25 +41,13 @@ module _ (c : tie.After-row-factors Inv-loop2 μ-loop2 Inv-loop μ-loop) where
   abbrev entry : tie.Start Inv-loop2 μ-loop2 Inv-loop μ-loop
   entry = c .before .before .before .before .before .before .before
 
-mul-cell : tie.Need-mul-cell Inv-loop2 μ-loop2 Inv-loop μ-loop
-mul-cell c = omega (arith, entry (c .before .before) .pre .1 .1 .0 .1)
-
-shared-slice-read-cell : tie.Need-shared-slice-read-cell Inv-loop2 μ-loop2 Inv-loop μ-loop
-shared-slice-read-cell c = omega (arith, entry (c .before .before .before) .pre .1 .1 .0 .1)
-
-mul-cell-2 : tie.Need-mul-cell-2 Inv-loop2 μ-loop2 Inv-loop μ-loop
-mul-cell-2 c = omega (arith, entry (c .before .before .before) .pre .1 .1 .0 .0)
-
-shared-slice-copy-out-cell : tie.Need-shared-slice-copy-out-cell Inv-loop2 μ-loop2 Inv-loop μ-loop
-shared-slice-copy-out-cell c = omega (arith, entry (c .before .before .before) .pre .1 .1 .0 .0)
-
 cell-requires : tie.Need-cell-requires Inv-loop2 μ-loop2 Inv-loop μ-loop
 cell-requires c κs =
     let at-row = c .before .before .before .before in
     let q = entry at-row .pre in
     let k = c .before .before .before .loop2 .k in
     let e = at-row .row-factors .ensures in (
-      part-bound (q .0) (row at-row) (omega arith) e,
+      part-ranges (q .0) (row at-row) (omega arith) e,
       subst (λ (n : ℕ). borderFits n (getD (entry at-row .args .b .now) k []) ≡ true) (sym (part-long (q .0) (row at-row) (omega arith) e)) (q .1 .0 .each k (omega (arith, q .1 .1 .0 .0))),
     )
 
@@ -109,32 +89,10 @@ unfolding gridOf gridBy setupWith
 returns c = filled-to-all (c .before .loop .inv) (omega arith)
 
 pub fill-grid-spec : {M : Type 1} → statement M
-fill-grid-spec =
-    tie.close
-    (tie.spec
-    Inv-loop2
-    μ-loop2
-    Inv-loop
-    μ-loop
-    loop-holds
-    (λ c. omega arith)
-    shared-slice-read-state
-    row-factors-requires
-    loop2-holds
-    mul-cell
-    shared-slice-read-cell
-    mul-cell-2
-    shared-slice-copy-out-cell
-    cell-requires
-    mul-p
-    add-p
-    mul-p-2
-    slice-write-p
-    (λ c. omega arith)
-    (λ c. omega arith)
-    loop2-again
-    (λ c. omega arith)
-    (λ c. omega arith)
-    loop-again
-    same-length
-    returns)
+fill-grid-spec = tie.close (tie.spec Inv-loop2 μ-loop2 Inv-loop μ-loop loop-holds (λ c. omega arith)
+    (λ c. omega (arith, c .before .before .before .before .before .before .pre .1 .1 .1 .0))
+    (λ c κs. (c .before .before .before .before .before .before .pre .0, omega arith)) (λ c. c .before .before .before .loop .inv)
+    (λ c. omega (arith, entry (c .before .before) .pre .1 .1 .0 .1)) (λ c. omega (arith, entry (c .before .before .before) .pre .1 .1 .0 .1))
+    (λ c. omega (arith, entry (c .before .before .before) .pre .1 .1 .0 .0)) (λ c. omega (arith, entry (c .before .before .before) .pre .1 .1 .0 .0))
+    cell-requires mul-p add-p mul-p-2 slice-write-p (λ c. omega arith) (λ c. omega arith) loop2-again (λ c. omega arith) (λ c. omega arith) loop-again
+    same-length returns)

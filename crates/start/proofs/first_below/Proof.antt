@@ -7,8 +7,8 @@ use lib.ListN.{length}
 use lib.Signed.{ltZ}
 use Rattle.numbers.proofs.IntLaws.{plain}
 use Rattle.numbers.proofs.BelowLaws.{Looked, looked-none, looked-all, looked-here, looked-more}
-use Rattle.kinds.specs.Ranges.{atℤ}
-use Rattle.start.specs.Start.{kept}
+use Rattle.types.specs.Ranges.{atℤ}
+use Rattle.states.specs.States.{kept}
 use Rattle.start.proofs.first_below.Statement.{statement}
 use Rattle.start.proofs.first_below.Tie as tie
 
@@ -18,15 +18,6 @@ Inv-loop strict states starts i₀ i-end i = Looked (length states) (λ i. kept 
 abbrev μ-loop : tie.MeasureT-loop
 μ-loop strict states starts i₀ i-end i = length states - i
 
-loop-holds : tie.Need-loop-holds Inv-loop μ-loop
-loop-holds c = looked-none _ _
-
-mul-start : tie.Need-mul-start Inv-loop μ-loop
-mul-start c = omega (arith, c .before .before .before .pre)
-
-shared-slice-copy-out-start : tie.Need-shared-slice-copy-out-start Inv-loop μ-loop
-shared-slice-copy-out-start c = omega (arith, c .before .before .before .pre)
-
 returns : tie.Need-returns Inv-loop μ-loop
 unfolding kept
 returns c = looked-here _ _ _ (c .before .before .before .before .loop .inv) (omega arith) (rw (plain _ (c .before .start .given)) at (c .if1 .taken))
@@ -35,22 +26,7 @@ loop-again : tie.Need-loop-again Inv-loop μ-loop
 unfolding kept
 loop-again c = looked-more _ _ _ (c .before .before .before .before .loop .inv) (omega arith) (rw (plain _ (c .before .start .given)) at (c .if1 .left))
 
-returns-2 : tie.Need-returns-2 Inv-loop μ-loop
-returns-2 c = looked-all _ _ _ (c .before .loop .inv) (omega arith)
-
 pub first-below-spec : {M : Type 1} → statement M
-first-below-spec =
-    tie.close
-    (tie.spec
-    Inv-loop
-    μ-loop
-    loop-holds
-    (λ c. omega arith)
-    (λ c. omega arith)
-    mul-start
-    shared-slice-copy-out-start
-    returns
-    (λ c. omega arith)
-    (λ c. omega arith)
-    loop-again
-    returns-2)
+first-below-spec = tie.close (tie.spec Inv-loop μ-loop (λ c. looked-none _ _) (λ c. omega arith) (λ c. omega arith)
+    (λ c. omega (arith, c .before .before .before .pre)) (λ c. omega (arith, c .before .before .before .pre)) returns (λ c. omega arith) (λ c. omega arith)
+    loop-again (λ c. looked-all _ _ _ (c .before .loop .inv) (omega arith)))

@@ -14,33 +14,9 @@ Inv-loop h b f flags states k₀ k-end k = Looked (h .borders) (freeOf (flagged 
 abbrev μ-loop : tie.MeasureT-loop
 μ-loop h b f flags states k₀ k-end k = h .borders - k
 
-loop-holds : tie.Need-loop-holds Inv-loop μ-loop
-loop-holds c = looked-none _ _
-
-is-unlimited-requires : tie.Need-is-unlimited-requires Inv-loop μ-loop
-is-unlimited-requires c κs =
-    let q = c .before .before .before .before .pre in
-    (q .0, (q .1 .0, (q .1 .1 .1, (omega (arith, q .1 .1 .0 .0), omega (arith, q .1 .1 .0 .1)))))
-
-returns : tie.Need-returns Inv-loop μ-loop
-returns c = looked-here _ _ _ (c .before .before .before .loop .inv) (omega arith) (sym (c .before .is-unlimited .ensures) ∙ c .if1 .taken)
-
-loop-again : tie.Need-loop-again Inv-loop μ-loop
-loop-again c = looked-more _ _ _ (c .before .before .before .loop .inv) (omega arith) (sym (c .before .is-unlimited .ensures) ∙ c .if1 .left)
-
-returns-2 : tie.Need-returns-2 Inv-loop μ-loop
-returns-2 c = looked-all _ _ _ (c .before .loop .inv) (omega arith)
-
 pub first-unlimited-spec : {M : Type 1} → statement M
-first-unlimited-spec =
-    tie.close
-    (tie.spec
-    Inv-loop
-    μ-loop
-    loop-holds
-    is-unlimited-requires
-    returns
-    (λ c. omega arith)
-    (λ c. omega arith)
-    loop-again
-    returns-2)
+first-unlimited-spec = tie.close (tie.spec Inv-loop μ-loop (λ c. looked-none _ _)
+    (λ c κs. let q = c .before .before .before .before .pre in (q .0, (q .1 .0, (q .1 .1 .1, (omega (arith, q .1 .1 .0 .0), omega (arith, q .1 .1 .0 .1))))))
+    (λ c. looked-here _ _ _ (c .before .before .before .loop .inv) (omega arith) (sym (c .before .is-unlimited .ensures) ∙ c .if1 .taken)) (λ c. omega arith)
+    (λ c. omega arith) (λ c. looked-more _ _ _ (c .before .before .before .loop .inv) (omega arith) (sym (c .before .is-unlimited .ensures) ∙ c .if1 .left))
+    (λ c. looked-all _ _ _ (c .before .loop .inv) (omega arith)))

@@ -10,12 +10,13 @@ use lib.IntN.{ℤ}
 use lib.ListN.{getD}
 use Rattle.numbers.specs.Below.{given}
 use Rattle.numbers.proofs.BelowLaws.{Looked, looked-none, looked-all, looked-here, looked-more}
-use Rattle.kinds.specs.Ranges.{borderFits, borderOf}
+use Rattle.types.specs.Ranges.{borderFits, borderOf}
 use Rattle.marks.specs.Marks.{flagged}
 use Rattle.margin.specs.Margin.{pOf}
-use Rattle.margin.proofs.JudgedLaws.{part-long, part-bound}
-use Rattle.start.specs.Setup.{gridBy}
-use Rattle.start.specs.Start.{kept, gridOf, setupWith}
+use Rattle.margin.proofs.JudgedLaws.{part-long, part-ranges}
+use Rattle.setup.specs.Setup.{gridBy}
+use Rattle.states.specs.States.{kept}
+use Rattle.start.specs.Start.{gridOf, setupWith}
 use Rattle.start.proofs.is_limited.Statement.{statement}
 use Rattle.start.proofs.is_limited.Tie as tie
 
@@ -24,30 +25,6 @@ Inv-loop h b f flags states k i₀ i-end i = Looked (h .rows) (λ i. ltb 0 (grid
 
 abbrev μ-loop : tie.MeasureT-loop
 μ-loop h b f flags states k i₀ i-end i = h .rows - i
-
-loop-holds : tie.Need-loop-holds Inv-loop μ-loop
-loop-holds c = looked-none _ _
-
-row-factors-requires : tie.Need-row-factors-requires Inv-loop μ-loop
-row-factors-requires c κs = (c .before .before .before .before .pre .0, omega arith)
-
-mul-cell : tie.Need-mul-cell Inv-loop μ-loop
-mul-cell c = omega (arith, c .before .before .before .before .before .pre .1 .1 .1 .1)
-
-shared-slice-read-cell : tie.Need-shared-slice-read-cell Inv-loop μ-loop
-shared-slice-read-cell c = omega (arith, c .before .before .before .before .before .before .pre .1 .1 .1 .1)
-
-mul-cell-2 : tie.Need-mul-cell-2 Inv-loop μ-loop
-mul-cell-2 c = omega (arith, c .before .before .before .before .before .before .pre .1 .1 .0)
-
-shared-slice-read-cell-2 : tie.Need-shared-slice-read-cell-2 Inv-loop μ-loop
-shared-slice-read-cell-2 c = omega (arith, c .before .before .before .before .before .before .before .pre .1 .1 .0)
-
-mul-cell-3 : tie.Need-mul-cell-3 Inv-loop μ-loop
-mul-cell-3 c = omega (arith, c .before .before .before .before .before .before .before .pre .1 .1 .1 .0)
-
-shared-slice-copy-out-cell : tie.Need-shared-slice-copy-out-cell Inv-loop μ-loop
-shared-slice-copy-out-cell c = omega (arith, c .before .before .before .before .before .before .before .pre .1 .1 .1 .0)
 
 -- the row's index, and the function's entry, from where the row's factors are read
 module _ (c : tie.After-row-factors Inv-loop μ-loop) where
@@ -63,7 +40,7 @@ cell-requires c κs =
     let q = entry at-row .pre in
     let a = entry at-row .args in
     let e = at-row .row-factors .ensures in (
-      part-bound (q .0) (row at-row) (omega arith) e,
+      part-ranges (q .0) (row at-row) (omega arith) e,
       subst (λ (n : ℕ). borderFits n (getD (a .b .now) (a .k) []) ≡ true) (sym (part-long (q .0) (row at-row) (omega arith) e)) (q .1 .0 .each (a .k) (q .1 .1 .1 .0)),
     )
 
@@ -82,30 +59,17 @@ returns : tie.Need-returns Inv-loop μ-loop
 unfolding given
 returns c = ap given (looked-here _ _ _ (c .before .before .before .before .before .before .before .loop .inv) (omega arith) (lt-ltb _ _ (subst (λ (v : ℕ). 0 < v) (cell-is (c .before)) (c .if1 .taken))))
 
-loop-again : tie.Need-loop-again Inv-loop μ-loop
-loop-again c = looked-more _ _ _ (c .before .before .before .before .before .before .before .loop .inv) (omega arith) (le-ltb _ _ (subst (λ (v : ℕ). v ≤ 0) (cell-is (c .before)) (c .if1 .left)))
-
 returns-2 : tie.Need-returns-2 Inv-loop μ-loop
 unfolding given
 returns-2 c = ap given (looked-all _ _ _ (c .before .loop .inv) (omega arith))
 
 pub is-limited-spec : {M : Type 1} → statement M
-is-limited-spec =
-    tie.close
-    (tie.spec
-    Inv-loop
-    μ-loop
-    loop-holds
-    row-factors-requires
-    mul-cell
-    shared-slice-read-cell
-    mul-cell-2
-    shared-slice-read-cell-2
-    mul-cell-3
-    shared-slice-copy-out-cell
-    cell-requires
-    returns
-    (λ c. omega arith)
-    (λ c. omega arith)
-    loop-again
+is-limited-spec = tie.close (tie.spec Inv-loop μ-loop (λ c. looked-none _ _) (λ c κs. (c .before .before .before .before .pre .0, omega arith))
+    (λ c. omega (arith, c .before .before .before .before .before .pre .1 .1 .1 .1))
+    (λ c. omega (arith, c .before .before .before .before .before .before .pre .1 .1 .1 .1))
+    (λ c. omega (arith, c .before .before .before .before .before .before .pre .1 .1 .0))
+    (λ c. omega (arith, c .before .before .before .before .before .before .before .pre .1 .1 .0))
+    (λ c. omega (arith, c .before .before .before .before .before .before .before .pre .1 .1 .1 .0))
+    (λ c. omega (arith, c .before .before .before .before .before .before .before .pre .1 .1 .1 .0)) cell-requires returns (λ c. omega arith) (λ c. omega arith)
+    (λ c. looked-more _ _ _ (c .before .before .before .before .before .before .before .loop .inv) (omega arith) (le-ltb _ _ (subst (λ (v : ℕ). v ≤ 0) (cell-is (c .before)) (c .if1 .left))))
     returns-2)

@@ -7,22 +7,14 @@ use Rattle.marks.specs.Marks.{flagged}
 use Rattle.start.proofs.is_unlimited.Statement.{statement}
 use Rattle.start.proofs.is_unlimited.Tie as tie
 
-mul-if1 : tie.Need-mul-if1
-mul-if1 c = omega (arith, c .before .before .pre .1 .1 .1 .1)
-
-shared-slice-read-if1 : tie.Need-shared-slice-read-if1
-shared-slice-read-if1 c = c .before .before .before .pre .1 .1 .1 .1
-
 returns : tie.Need-returns
 unfolding flagged
 returns c = rw (eq-eqb _ _ (c .if1 .taken))
-
-is-limited-requires : tie.Need-is-limited-requires
-is-limited-requires c κs = c .before .before .before .before .pre
 
 returns-2 : tie.Need-returns-2
 unfolding flagged
 returns-2 c = rw (ne-eqb _ _ (c .before .if1 .left)) (ap not (c .is-limited .ensures))
 
 pub is-unlimited-spec : {M : Type 1} → statement M
-is-unlimited-spec = tie.close (tie.spec mul-if1 shared-slice-read-if1 returns is-limited-requires returns-2)
+is-unlimited-spec = tie.close (tie.spec (λ c. omega (arith, c .before .before .pre .1 .1 .1 .1)) (λ c. c .before .before .before .pre .1 .1 .1 .1) returns
+    (λ c κs. c .before .before .before .before .pre) returns-2)

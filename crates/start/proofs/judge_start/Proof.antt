@@ -6,9 +6,10 @@ use borrow.Author.Needs.{needs}
 use lib.ListN.{length}
 use Rattle.numbers.specs.Below.{someBelow}
 use Rattle.numbers.specs.First.{found}
-use Rattle.kinds.specs.Refusals.{refused}
-use Rattle.start.specs.Setup.{gridBy}
-use Rattle.start.specs.Start.{kept, gridOf, setupWith}
+use Rattle.refusals.specs.Refusals.{refused}
+use Rattle.setup.specs.Setup.{gridBy}
+use Rattle.states.specs.States.{kept}
+use Rattle.start.specs.Start.{gridOf, setupWith}
 use Rattle.start.proofs.StartLaws.{none-kept, border-free, row-below, may-start}
 use Rattle.start.proofs.judge_start.Statement.{statement}
 use Rattle.start.proofs.judge_start.Tie as tie
@@ -26,17 +27,11 @@ some-row : (c : tie.Else1)
     someBelow (length states) (kept states) ≡ true
 some-row c = sym (c .before .some-kept .ensures) ∙ not-false _ (c .if1 .left)
 
-first-unlimited-requires : tie.Need-first-unlimited-requires
-first-unlimited-requires c κs = let q = entry c .pre in (q .0, (q .1 .0, (q .1 .1 .0, q .1 .1 .1 .0)))
-
 returns-2 : tie.Need-returns-2
 unfolding gridOf gridBy setupWith
 returns-2 c =
     let past-5 = c .before .before .before .before .before in
     ap refused (c .unlimited .ensures) ∙ border-free _ _ _ _ _ _ (entry past-5 .pre .1 .1 .1 .0) (some-row past-5) _ (sym (ap found (c .before .before .b .given .1)) ∙ c .before .before .before .before .first-unlimited .ensures)
-
-first-below-requires : tie.Need-first-below-requires
-first-below-requires c κs = let q = entry (c .before .before .before .before) .pre in q .1 .1 .1 .1 ∙ sym (q .1 .1 .1 .0)
 
 returns-3 : tie.Need-returns-3
 unfolding gridOf gridBy setupWith
@@ -57,21 +52,7 @@ returns-4 c =
     (sym (ap found (c .enum-told2 .given .1)) ∙ (rw (profile .is-intraday .ensures) at (c .before .before .first-below .ensures)))
 
 pub judge-start-spec : {M : Type 1} → statement M
-judge-start-spec =
-    tie.close
-    (tie.spec
-    (λ c κs. search needs)
-    (λ c κs. search needs)
-    returns
-    first-unlimited-requires
-    (λ c. search needs)
-    (λ c κs. search needs)
-    returns-2
-    (λ c. search needs)
-    (λ c κs. search needs)
-    first-below-requires
-    (λ c. search needs)
-    (λ c κs. search needs)
-    returns-3
-    (λ c. search needs)
-    returns-4)
+judge-start-spec = tie.close (tie.spec (λ c κs. search needs) (λ c κs. search needs) returns
+    (λ c κs. let q = entry c .pre in (q .0, (q .1 .0, (q .1 .1 .0, q .1 .1 .1 .0)))) (λ c. search needs) (λ c κs. search needs) returns-2 (λ c. search needs)
+    (λ c κs. search needs) (λ c κs. let q = entry (c .before .before .before .before) .pre in q .1 .1 .1 .1 ∙ sym (q .1 .1 .1 .0)) (λ c. search needs)
+    (λ c κs. search needs) returns-3 (λ c. search needs) returns-4)

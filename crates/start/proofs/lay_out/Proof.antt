@@ -4,11 +4,6 @@ use Rattle.start.proofs.StartLaws.{margins-are}
 use Rattle.start.proofs.lay_out.Statement.{statement}
 use Rattle.start.proofs.lay_out.Tie as tie
 
-fill-grid-requires : tie.Need-fill-grid-requires
-fill-grid-requires c κs =
-    let q = c .before .before .before .before .before .pre in
-    (q .0, (q .1 .0, (q .1 .1 .0, (q .1 .1 .1 .0 .1, q .1 .1 .1 .1 .0))))
-
 returns : tie.Need-returns
 returns c =
     let at-grid = c .before .before .before .before .before .before in
@@ -16,5 +11,6 @@ returns c =
     (at-grid .fill-grid .ensures, margins-are _ _ _ _ (q .1 .1 .1 .0 .1) (c .before .before .fill-margins .ensures))
 
 pub lay-out-spec : {M : Type 1} → statement M
-lay-out-spec =
-    tie.close (tie.spec fill-grid-requires (λ c κs. search needs) (λ c. search needs) (λ c. search needs) returns)
+lay-out-spec = tie.close (tie.spec
+    (λ c κs. let q = c .before .before .before .before .before .pre in (q .0, (q .1 .0, (q .1 .1 .0, (q .1 .1 .1 .0 .1, q .1 .1 .1 .1 .0)))))
+    (λ c κs. search needs) (λ c. search needs) (λ c. search needs) returns)

@@ -6,7 +6,7 @@ use lib.ListN.{length}
 use Rattle.numbers.proofs.BelowLaws.{table-long}
 use Rattle.table.proofs.RoomLaws.{factors-most}
 use Rattle.margin.proofs.JudgedLaws.{good-factors, good-borders}
-use Rattle.states.proofs.RowsLaws.{rows-in}
+use Rattle.states.proofs.StandingsLaws.{rows-in}
 use Rattle.start.proofs.StartLaws.{prepared-by}
 use Rattle.start.proofs.prepare.Statement.{statement}
 use Rattle.start.proofs.prepare.Tie as tie
@@ -17,9 +17,6 @@ filled c = c .before .before .before .before .before
 abbrev entry : tie.After-struct-known → tie.Start
 entry c = filled c .before .before .before .before .before .before
 
-mul-factors : tie.Need-mul-factors
-mul-factors c = omega (arith, factors-most _ (entry c .pre .0 .exact .header))
-
 judge-start-requires : tie.Need-judge-start-requires
 judge-start-requires c κs =
     let known = c .before .before .before .before in
@@ -27,21 +24,7 @@ judge-start-requires c κs =
     let q = entry known .pre in
     (good-factors (q .0), (good-borders (q .0), ((q .0 .exact .borders-long, q .1 .0), (rows-in _ _ (said .0) .states-long, ap length (said .1) ∙ table-long _ _))))
 
-returns : tie.Need-returns
-returns c =
-    let said = filled (c .before .before .before .before .before) .fill-rows .ensures in
-    prepared-by _ _ (c .judge-start .result) (said .0) (said .1) (c .judge-start .ensures)
-
 pub prepare-spec : {M : Type 1} → statement M
-prepare-spec =
-    tie.close
-    (tie.spec
-    (λ c κs. search needs)
-    mul-factors
-    (λ c. search needs)
-    (λ c. search needs)
-    judge-start-requires
-    (λ c. search needs)
-    (λ c. search needs)
-    (λ c. search needs)
-    returns)
+prepare-spec = tie.close (tie.spec (λ c κs. search needs) (λ c. omega (arith, factors-most _ (entry c .pre .0 .exact .header))) (λ c. search needs)
+    (λ c. search needs) judge-start-requires (λ c. search needs) (λ c. search needs) (λ c. search needs)
+    (λ c. let said = filled (c .before .before .before .before .before) .fill-rows .ensures in prepared-by _ _ (c .judge-start .result) (said .0) (said .1) (c .judge-start .ensures)))

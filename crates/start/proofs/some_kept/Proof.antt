@@ -6,7 +6,7 @@ use borrow.Author.Tests.{eq-eqb, ne-eqb}
 use lib.ListN.{length}
 use Rattle.numbers.specs.Below.{given}
 use Rattle.numbers.proofs.BelowLaws.{Looked, looked-none, looked-all, looked-here, looked-more}
-use Rattle.start.specs.Start.{kept}
+use Rattle.states.specs.States.{kept}
 use Rattle.start.proofs.some_kept.Statement.{statement}
 use Rattle.start.proofs.some_kept.Tie as tie
 
@@ -15,9 +15,6 @@ Inv-loop states i₀ i-end i = Looked (length states) (kept states) i
 
 abbrev μ-loop : tie.MeasureT-loop
 μ-loop states i₀ i-end i = length states - i
-
-loop-holds : tie.Need-loop-holds Inv-loop μ-loop
-loop-holds c = looked-none _ _
 
 returns : tie.Need-returns Inv-loop μ-loop
 unfolding given kept
@@ -32,16 +29,5 @@ unfolding given
 returns-2 c = ap given (looked-all _ _ _ (c .before .loop .inv) (omega arith))
 
 pub some-kept-spec : {M : Type 1} → statement M
-some-kept-spec =
-    tie.close
-    (tie.spec
-    Inv-loop
-    μ-loop
-    loop-holds
-    (λ c. omega arith)
-    (λ c. omega arith)
-    returns
-    (λ c. omega arith)
-    (λ c. omega arith)
-    loop-again
-    returns-2)
+some-kept-spec = tie.close (tie.spec Inv-loop μ-loop (λ c. looked-none _ _) (λ c. omega arith) (λ c. omega arith) returns (λ c. omega arith) (λ c. omega arith)
+    loop-again returns-2)

@@ -4,39 +4,21 @@ use native.Mathlib.Omega.{arith}
 use borrow.Author.Needs.{needs}
 use lib.ListN.{length}
 use Rattle.numbers.proofs.BelowLaws.{table-long}
-use Rattle.kinds.specs.Ranges.{allocatedItems}
+use Rattle.types.specs.Ranges.{allocatedItems}
 use Rattle.table.proofs.RoomLaws.{factors-most}
 use Rattle.margin.proofs.JudgedLaws.{good-factors}
-use Rattle.states.proofs.RowsLaws.{rows-are}
+use Rattle.states.proofs.StandingsLaws.{rows-are}
 use Rattle.states.proofs.fill_rows.Statement.{statement}
 use Rattle.states.proofs.fill_rows.Tie as tie
-
-mul-factors : tie.Need-mul-factors
-mul-factors c = omega (arith, factors-most _ (c .before .before .pre .0 .exact .header))
 
 items-are : (c : tie.After-allocated-items) → c .allocated-items .result ≡ allocatedItems (c .before .before .args .h)
 items-are c = c .allocated-items .ensures
 
-slice-aggregate-fill-rams-2 : tie.Need-slice-aggregate-fill-rams-2
-slice-aggregate-fill-rams-2 c =
-    let at-items = c .before .before .before in
-    rw (items-are at-items) (sym (at-items .before .before .pre .0 .exact .allocated-long))
-
 abbrev items : tie.After-fill-rams-arg6 → tie.After-allocated-items
 items c = c .before .before .before .before .before .before .before
 
-fill-rams-requires : tie.Need-fill-rams-requires
-fill-rams-requires c κs =
-    let pre = items c .before .before .pre in
-    (rw (items-are (items c)) (pre .0), pre .1 .0)
-
 abbrev rammed : tie.After-fill-states-arg2 → tie.After-fill-rams
 rammed c = c .before .before .before .before
-
-fill-states-requires : tie.Need-fill-states-requires
-fill-states-requires c κs =
-    let pre = items (rammed c .before) .before .before .pre in
-    (good-factors (pre .0), (ap length (rammed c .fill-rams .ensures .0) ∙ table-long _ _, pre .1 .1))
 
 returns : tie.Need-returns
 returns c =
@@ -45,19 +27,9 @@ returns c =
     rows-are _ _ (items-are (items (at-rams .before))) (said .0) (said .1) (c .before .before .fill-states .ensures)
 
 pub fill-rows-spec : {M : Type 1} → statement M
-fill-rows-spec =
-    tie.close
-    (tie.spec
-    (λ c κs. search needs)
-    mul-factors
+fill-rows-spec = tie.close (tie.spec (λ c κs. search needs) (λ c. omega (arith, factors-most _ (c .before .before .pre .0 .exact .header))) (λ c. search needs)
     (λ c. search needs)
-    (λ c. search needs)
-    slice-aggregate-fill-rams-2
-    (λ c. search needs)
-    (λ c. search needs)
-    fill-rams-requires
-    fill-states-requires
-    (λ c. search needs)
-    (λ c. search needs)
-    (λ c. search needs)
-    returns)
+    (λ c. let at-items = c .before .before .before in rw (items-are at-items) (sym (at-items .before .before .pre .0 .exact .allocated-long)))
+    (λ c. search needs) (λ c. search needs) (λ c κs. let pre = items c .before .before .pre in (rw (items-are (items c)) (pre .0), pre .1 .0))
+    (λ c κs. let pre = items (rammed c .before) .before .before .pre in (good-factors (pre .0), (ap length (rammed c .fill-rams .ensures .0) ∙ table-long _ _, pre .1 .1)))
+    (λ c. search needs) (λ c. search needs) (λ c. search needs) returns)

@@ -12,47 +12,14 @@ Inv-loop h f rams states₀ i₀ i-end states i = Filled (stateOf h f rams) (h .
 abbrev μ-loop : tie.MeasureT-loop
 μ-loop h f rams states₀ i₀ i-end states i = h .rows - i
 
-loop-holds : tie.Need-loop-holds Inv-loop μ-loop
-loop-holds c = filled-none _ _ _
-
-state-of-requires : tie.Need-state-of-requires Inv-loop μ-loop
-state-of-requires c κs =
-    let start = c .before .before .before in
-    (start .pre .0, (start .pre .1 .0, omega arith))
-
 abbrev entry : tie.After-state-of Inv-loop μ-loop → tie.Start Inv-loop μ-loop
 entry c = c .before .before .before .before
 
-mul-states : tie.Need-mul-states Inv-loop μ-loop
-mul-states c = omega (arith, c .before .before .loop .inv .as-long, entry c .pre .1 .1)
-
-slice-write-states : tie.Need-slice-write-states Inv-loop μ-loop
-slice-write-states c = omega (arith, c .before .before .loop .inv .as-long, entry c .pre .1 .1)
-
-add-i : tie.Need-add-i Inv-loop μ-loop
-add-i c = omega (arith, c .before .before .loop .inv .as-long, entry c .pre .1 .1)
-
-loop-again : tie.Need-loop-again Inv-loop μ-loop
-loop-again c = filled-more (c .before .before .loop .inv) _ (omega arith) (omega (arith, entry c .pre .1 .1)) (c .state-of .ensures)
-
-same-length : tie.Need-same-length Inv-loop μ-loop
-same-length c = c .before .loop .inv .as-long
-
-returns : tie.Need-returns Inv-loop μ-loop
-returns c = filled-all (c .before .loop .inv) (omega arith) (c .before .before .before .pre .1 .1)
-
 pub fill-states-spec : {M : Type 1} → statement M
-fill-states-spec =
-    tie.close
-    (tie.spec
-    Inv-loop
-    μ-loop
-    loop-holds
-    state-of-requires
-    mul-states
-    slice-write-states
-    add-i
-    (λ c. omega arith)
-    loop-again
-    same-length
-    returns)
+fill-states-spec = tie.close (tie.spec Inv-loop μ-loop (λ c. filled-none _ _ _)
+    (λ c κs. let start = c .before .before .before in (start .pre .0, (start .pre .1 .0, omega arith)))
+    (λ c. omega (arith, c .before .before .loop .inv .as-long, entry c .pre .1 .1))
+    (λ c. omega (arith, c .before .before .loop .inv .as-long, entry c .pre .1 .1))
+    (λ c. omega (arith, c .before .before .loop .inv .as-long, entry c .pre .1 .1)) (λ c. omega arith)
+    (λ c. filled-more (c .before .before .loop .inv) _ (omega arith) (omega (arith, entry c .pre .1 .1)) (c .state-of .ensures))
+    (λ c. c .before .loop .inv .as-long) (λ c. filled-all (c .before .loop .inv) (omega arith) (c .before .before .before .pre .1 .1)))

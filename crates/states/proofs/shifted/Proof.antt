@@ -1,4 +1,4 @@
--- `states::shifted` meets its contract. The loop's invariant: what is left to look at from zone z on comes to what the whole comes to. Zone 0 differs as itself.
+-- `states::shifted` meets its contract. The loop's invariant: searching from zone z on finds what the whole search finds. Zone 0 differs as itself.
 -- The measure is the zones that are left.
 use mathlib.Core.Path.{_≡_, sym, ap, _∙_}
 use mathlib.Core.Bool.{Bool, not}
@@ -15,9 +15,9 @@ use Rattle.numbers.specs.Ints.{sameℤ}
 use Rattle.numbers.specs.Below.{given}
 use Rattle.numbers.proofs.IntLaws.{within-fits, same-self}
 use Rattle.numbers.proofs.BelowLaws.{Looked, looked-none, looked-all, looked-here, looked-more}
-use Rattle.kinds.specs.Ranges.{atℤ}
+use Rattle.types.specs.Ranges.{atℤ}
 use Rattle.states.specs.States.{shifted}
-use Rattle.margin.proofs.BoundLaws.{within-sub}
+use Rattle.margin.proofs.MagnitudeLaws.{within-sub}
 use Rattle.states.proofs.shifted.Statement.{statement}
 use Rattle.states.proofs.shifted.Tie as tie
 
@@ -42,24 +42,6 @@ module _ (s : tie.Start Inv-loop μ-loop) (z : ℕ) (h : z < length (s .args .fs
   d-fits : SFits w64 (atℤ (s .args .fs .now) z -ℤ atℤ (s .args .gs .now) z)
   d-fits = within-fits (within-sub (s .pre .0 .each .at z h) (s .pre .1 .0 .each .at z (omega (arith, s .pre .1 .1)))) tt
 
-shared-slice-copy-out-f0 : tie.Need-shared-slice-copy-out-f0 Inv-loop μ-loop
-shared-slice-copy-out-f0 c = c .pre .0 .some
-
-shared-slice-copy-out-g0 : tie.Need-shared-slice-copy-out-g0 Inv-loop μ-loop
-shared-slice-copy-out-g0 c = c .before .pre .1 .0 .some
-
-sub-d : tie.Need-sub-d Inv-loop μ-loop
-sub-d c =
-    let s = c .before .before in
-    let h = s .pre .0 .some in
-    simp (toZ-ofZ, f-fits s 0 h, g-fits s 0 h) (d-fits s 0 h)
-
-loop-holds : tie.Need-loop-holds Inv-loop μ-loop
-loop-holds c = looked-more _ _ 0 (looked-none _ _) (c .before .before .pre .0 .some) (ap not (same-self _))
-
-shared-slice-copy-out-g : tie.Need-shared-slice-copy-out-g Inv-loop μ-loop
-shared-slice-copy-out-g c = omega (arith, c .before .before .before .before .before .pre .1 .1)
-
 -- what the test asked
 module _ (c : tie.After-g Inv-loop μ-loop) where
   abbrev start : tie.Start Inv-loop μ-loop
@@ -70,12 +52,6 @@ module _ (c : tie.After-g Inv-loop μ-loop) where
 
   below : z < length (start .args .fs .now)
   below = omega arith
-
-sub-same : tie.Need-sub-same Inv-loop μ-loop
-sub-same c = let s = start c in simp (toZ-ofZ, f-fits s (z c) (below c), g-fits s (z c) (below c)) (d-fits s (z c) (below c))
-
-same-requires : tie.Need-same-requires Inv-loop μ-loop
-same-requires c κs = tt
 
 fact : (c : tie.After-same Inv-loop μ-loop) → not (c .same .result) ≡ other (start (c .before) .args .fs .now) (start (c .before) .args .gs .now) (z (c .before))
 fact c =
@@ -90,33 +66,15 @@ returns c =
     let d = c .before .before in
     ap (λ (o : Option ℕ). not (given o)) (looked-here _ _ _ (d .before .before .before .loop .inv) (below d) (sym (fact (c .before)) ∙ c .if1 .taken))
 
-loop-again : tie.Need-loop-again Inv-loop μ-loop
-loop-again c =
-    let d = c .before .before in
-    looked-more _ _ _ (d .before .before .before .loop .inv) (below d) (sym (fact (c .before)) ∙ c .if1 .left)
-
 returns-2 : tie.Need-returns-2 Inv-loop μ-loop
 unfolding shifted given
 returns-2 c = ap (λ (o : Option ℕ). not (given o)) (looked-all _ _ _ (c .before .loop .inv) (omega arith))
 
 pub shifted-spec : {M : Type 1} → statement M
-shifted-spec =
-    tie.close
-    (tie.spec
-    Inv-loop
-    μ-loop
-    shared-slice-copy-out-f0
-    shared-slice-copy-out-g0
-    sub-d
-    loop-holds
-    (λ c. omega arith)
-    (λ c. omega arith)
-    (λ c. omega arith)
-    shared-slice-copy-out-g
-    sub-same
-    same-requires
-    returns
-    (λ c. omega arith)
-    (λ c. omega arith)
-    loop-again
-    returns-2)
+shifted-spec = tie.close (tie.spec Inv-loop μ-loop (λ c. c .pre .0 .some) (λ c. c .before .pre .1 .0 .some)
+    (λ c. let s = c .before .before in let h = s .pre .0 .some in simp (toZ-ofZ, f-fits s 0 h, g-fits s 0 h) (d-fits s 0 h))
+    (λ c. looked-more _ _ 0 (looked-none _ _) (c .before .before .pre .0 .some) (ap not (same-self _))) (λ c. omega arith) (λ c. omega arith) (λ c. omega arith)
+    (λ c. omega (arith, c .before .before .before .before .before .pre .1 .1))
+    (λ c. let s = start c in simp (toZ-ofZ, f-fits s (z c) (below c), g-fits s (z c) (below c)) (d-fits s (z c) (below c))) (λ c κs. tt) returns
+    (λ c. omega arith) (λ c. omega arith)
+    (λ c. let d = c .before .before in looked-more _ _ _ (d .before .before .before .loop .inv) (below d) (sym (fact (c .before)) ∙ c .if1 .left)) returns-2)

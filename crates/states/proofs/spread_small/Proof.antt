@@ -1,5 +1,5 @@
--- `states::spread_small` meets its contract. The loop's invariant: the largest of `high` and the factors from z on is the largest of all;
--- so for `low` and the smallest. The measure is the factors that are left.
+-- `states::spread_small` meets its contract. The loop's invariant: the largest of `high` and the factors from z on is the largest of all; the smallest of `low` and
+-- the factors from z on is the smallest of all. The measure is the factors that are left.
 use mathlib.Core.Path.{_≡_, refl}
 use Prim.Native.Nat.{ℕ, _≤_, _<_, _-_}
 use native.Mathlib.Omega.{arith}
@@ -12,10 +12,10 @@ use mir.Syntax.{w64}
 use mir.Val.{SFits, toZ}
 use Rattle.numbers.specs.Ints.{Within, maxℤ, minℤ}
 use Rattle.numbers.proofs.IntLaws.{within-fits, within-max, within-min}
-use Rattle.kinds.specs.Limits.{factorMost}
-use Rattle.kinds.specs.Ranges.{atℤ}
+use Rattle.types.specs.LineLimits.{factorMost}
+use Rattle.types.specs.Ranges.{atℤ}
 use Rattle.states.specs.States.{highest, lowest}
-use Rattle.margin.proofs.BoundLaws.{within-sub}
+use Rattle.margin.proofs.MagnitudeLaws.{within-sub}
 use Rattle.states.proofs.StateLaws.{highest-more, highest-all, lowest-more, lowest-all, spread-is}
 use Rattle.states.proofs.spread_small.Statement.{statement}
 use Rattle.states.proofs.spread_small.Tie as tie
@@ -33,9 +33,6 @@ Inv-loop factors high₀ low₀ z₀ high low z = Head factors (toZ w64 high) (t
 abbrev μ-loop : tie.MeasureT-loop
 μ-loop factors high₀ low₀ z₀ high low z = length factors - z
 
-shared-slice-copy-out-high : tie.Need-shared-slice-copy-out-high Inv-loop μ-loop
-shared-slice-copy-out-high c = c .pre .some
-
 -- the factor of zone z
 module _ (s : tie.Start Inv-loop μ-loop) (z : ℕ) (h : z < length (s .args .factors .now)) where
   f-in : Within factorMost (atℤ (s .args .factors .now) z)
@@ -49,12 +46,6 @@ loop-holds c =
     let s = c .before in
     let small = f-in s 0 (s .pre .some) in
     simp (toZ-ofZ, f-fits s 0 (s .pre .some)) (record { below = s .pre .some; high-in = small; low-in = small; high-is = refl; low-is = refl })
-
-larger-requires : tie.Need-larger-requires Inv-loop μ-loop
-larger-requires c κs = tt
-
-smaller-requires : tie.Need-smaller-requires Inv-loop μ-loop
-smaller-requires c κs = tt
 
 loop-again : tie.Need-loop-again Inv-loop μ-loop
 loop-again c =
@@ -89,19 +80,5 @@ returns c =
     simp (toZ-ofZ, sub-result c, spread-is fs (l .before .before .pre .some)) (rw (high, low))
 
 pub spread-small-spec : {M : Type 1} → statement M
-spread-small-spec =
-    tie.close
-    (tie.spec
-    Inv-loop
-    μ-loop
-    shared-slice-copy-out-high
-    loop-holds
-    (λ c. omega arith)
-    (λ c. omega arith)
-    larger-requires
-    smaller-requires
-    (λ c. omega arith)
-    (λ c. omega arith)
-    loop-again
-    sub-result
-    returns)
+spread-small-spec = tie.close (tie.spec Inv-loop μ-loop (λ c. c .pre .some) loop-holds (λ c. omega arith) (λ c. omega arith) (λ c κs. tt) (λ c κs. tt)
+    (λ c. omega arith) (λ c. omega arith) loop-again sub-result returns)

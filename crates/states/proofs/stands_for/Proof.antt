@@ -4,7 +4,7 @@ use borrow.Author.Needs.{needs}
 use lib.IntN.{ℤ}
 use mathlib.Core.List.{List}
 use Rattle.states.specs.States.{shifted, below}
-use Rattle.margin.proofs.JudgedLaws.{part-long, part-bound}
+use Rattle.margin.proofs.JudgedLaws.{part-long, part-ranges}
 use Rattle.states.proofs.StateLaws.{late-first, late-second}
 use Rattle.states.proofs.stands_for.Statement.{statement}
 use Rattle.states.proofs.stands_for.Tie as tie
@@ -15,9 +15,9 @@ shifted-requires c κs =
     let t = start .pre .0 in
     let j = start .pre .1 .1 .0 in
     let i = start .pre .1 .1 .1 in (
-      part-bound t (start .args .j) j (c .before .row-factors .ensures),
+      part-ranges t (start .args .j) j (c .before .row-factors .ensures),
       (
-        part-bound t (start .args .i) i (c .row-factors2 .ensures),
+        part-ranges t (start .args .i) i (c .row-factors2 .ensures),
         part-long t (start .args .i) i (c .row-factors2 .ensures) ∙ sym (part-long t (start .args .j) j (c .before .row-factors .ensures)),
       ),
     )
@@ -36,5 +36,4 @@ returns-2 c =
     (c .if1 .left)
 
 pub stands-for-spec : {M : Type 1} → statement M
-stands-for-spec =
-    tie.close (tie.spec (λ c κs. search needs) (λ c. search needs) shifted-requires (λ c κs. search needs) returns returns-2)
+stands-for-spec = tie.close (tie.spec (λ c κs. search needs) (λ c. search needs) shifted-requires (λ c κs. search needs) returns returns-2)

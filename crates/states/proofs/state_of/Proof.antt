@@ -6,24 +6,14 @@ use lib.IntN.{ℤ, pos}
 use lib.Signed.{ltZ}
 use Rattle.table.specs.Table.{stretch}
 use Rattle.states.specs.States.{spreadOf, spreadLeast}
-use Rattle.margin.proofs.JudgedLaws.{part-bound}
+use Rattle.margin.proofs.JudgedLaws.{part-ranges}
 use Rattle.states.proofs.StateLaws.{state-spread, state-stood, state-kept}
 use Rattle.states.proofs.state_of.Statement.{statement}
 use Rattle.states.proofs.state_of.Tie as tie
 
-spread-small-requires : tie.Need-spread-small-requires
-spread-small-requires c κs =
-    let start = c .before in
-    part-bound (start .pre .0) (start .args .i) (start .pre .1 .1) (c .row-factors .ensures)
-
 -- the test of state 1
 small : (c : tie.After-spread-small) → c .spread-small .result ≡ ltZ (spreadOf (stretch (c .before .before .args .h .zones) (c .before .before .args .f .now) (c .before .before .args .i))) (pos spreadLeast)
 small c = c .spread-small .ensures ∙ ap (λ (fs : List ℤ). ltZ (spreadOf fs) (pos spreadLeast)) (c .before .row-factors .ensures)
-
-returns : tie.Need-returns
-returns c =
-    let a = c .before .before .before .args in
-    state-spread (a .h) (a .f .now) (a .rams .now) (a .i) (sym (small (c .before)) ∙ c .if1 .taken)
 
 returns-2 : tie.Need-returns-2
 returns-2 c =
@@ -36,6 +26,7 @@ returns-3 c =
     state-kept (a .h) (a .f .now) (a .rams .now) (a .i) (sym (small (c .before .before .before)) ∙ c .before .before .if1 .left) (sym (c .before .stood-for .ensures) ∙ c .if2 .left)
 
 pub state-of-spec : {M : Type 1} → statement M
-state-of-spec =
-    tie.close
-    (tie.spec (λ c κs. search needs) spread-small-requires returns (λ c κs. search needs) returns-2 returns-3)
+state-of-spec = tie.close (tie.spec (λ c κs. search needs)
+    (λ c κs. let start = c .before in part-ranges (start .pre .0) (start .args .i) (start .pre .1 .1) (c .row-factors .ensures))
+    (λ c. let a = c .before .before .before .args in state-spread (a .h) (a .f .now) (a .rams .now) (a .i) (sym (small (c .before)) ∙ c .if1 .taken))
+    (λ c κs. search needs) returns-2 returns-3)

@@ -1,4 +1,4 @@
--- `states::stood_for` meets its contract. The loop's invariant: what is left to look at from row j on comes to what the whole comes to.
+-- `states::stood_for` meets its contract. The loop's invariant: searching from row j on finds what the whole search finds.
 -- The measure is the rows that are left.
 use mathlib.Core.Path.{sym, ap, _∙_}
 use mathlib.Core.Bool.{_&&_}
@@ -18,37 +18,18 @@ Inv-loop h f rams i rows j₀ j = Looked (h .rows) (λ j. below rams j i && shif
 abbrev μ-loop : tie.MeasureT-loop
 μ-loop h f rams i rows j₀ j = h .rows - j
 
-loop-holds : tie.Need-loop-holds Inv-loop μ-loop
-loop-holds c = looked-none _ _
-
-stands-for-requires : tie.Need-stands-for-requires Inv-loop μ-loop
-stands-for-requires c κs =
-    let start = c .before .before in
-    (start .pre .0, (start .pre .1 .0, (omega arith, start .pre .1 .1)))
-
 returns : tie.Need-returns Inv-loop μ-loop
 unfolding given
 returns c =
     ap (λ (o : Option ℕ). given o)
     (looked-here _ _ _ (c .before .before .before .loop .inv) (omega arith) (sym (c .before .stands-for .ensures) ∙ c .if1 .taken))
 
-loop-again : tie.Need-loop-again Inv-loop μ-loop
-loop-again c = looked-more _ _ _ (c .before .before .before .loop .inv) (omega arith) (sym (c .before .stands-for .ensures) ∙ c .if1 .left)
-
 returns-2 : tie.Need-returns-2 Inv-loop μ-loop
 unfolding given
 returns-2 c = ap (λ (o : Option ℕ). given o) (looked-all _ _ _ (c .before .loop .inv) (omega arith))
 
 pub stood-for-spec : {M : Type 1} → statement M
-stood-for-spec =
-    tie.close
-    (tie.spec
-    Inv-loop
-    μ-loop
-    loop-holds
-    stands-for-requires
-    returns
-    (λ c. omega arith)
-    (λ c. omega arith)
-    loop-again
+stood-for-spec = tie.close (tie.spec Inv-loop μ-loop (λ c. looked-none _ _)
+    (λ c κs. let start = c .before .before in (start .pre .0, (start .pre .1 .0, (omega arith, start .pre .1 .1)))) returns (λ c. omega arith)
+    (λ c. omega arith) (λ c. looked-more _ _ _ (c .before .before .before .loop .inv) (omega arith) (sym (c .before .stands-for .ensures) ∙ c .if1 .left))
     returns-2)

@@ -12,8 +12,9 @@ use mir.Syntax.{w64}
 use mir.Val.{SFits, toZ}
 use Rattle.numbers.specs.Ints.{Within, sumℤ, sameℤ}
 use Rattle.numbers.proofs.IntLaws.{within-fits, within-le, within-sum}
-use Rattle.kinds.specs.Limits.{zonesMost, netMost}
-use Rattle.kinds.specs.Ranges.{atℤ}
+use Rattle.limits.specs.Limits.{zonesMost}
+use Rattle.types.specs.LineLimits.{netMost}
+use Rattle.types.specs.Ranges.{atℤ}
 use Rattle.table.specs.Table.{balanced}
 use Rattle.table.proofs.balanced.Statement.{statement}
 use Rattle.table.proofs.balanced.Tie as tie
@@ -32,7 +33,7 @@ sum-more : (f : ℕ → ℤ) (i : ℕ) (s : ℤ) → s ≡ sumℤ i f → s +ℤ
 unfolding sumℤ
 sum-more f i s e = rw (add-one i) (ap (λ (x : ℤ). x +ℤ f i) e)
 
--- in a turn
+-- in a turn of the loop
 module _ (c : tie.After-position Inv-loop μ-loop) where
   abbrev start : tie.Start Inv-loop μ-loop
   start = c .before .before .before
@@ -61,12 +62,6 @@ module _ (c : tie.After-position Inv-loop μ-loop) where
       (rw turned (within-le (within-sum (i + 1) (atℤ (start .args .t .now)) (λ k l. start .pre .1 .at k (omega (arith, below)))) (mul-le-mul-right {m = i + 1} {n = zonesMost} netMost (omega (arith, start .pre .0, below)))))
       tt
 
-add-sum : tie.Need-add-sum Inv-loop μ-loop
-add-sum c = simp (toZ-ofZ, within-fits (position-in c) tt) (next-fits c)
-
-loop-again : tie.Need-loop-again Inv-loop μ-loop
-loop-again c = simp (toZ-ofZ, within-fits (position-in c) tt, next-fits c) (omega (arith, below c), turned c)
-
 returns : tie.Need-returns Inv-loop μ-loop
 unfolding balanced
 returns c =
@@ -76,17 +71,6 @@ returns c =
     c .same .ensures ∙ ap (λ (x : ℤ). sameℤ x (pos 0)) (l .inv .1 ∙ ap (λ (k : ℕ). sumℤ k (atℤ t)) e)
 
 pub balanced-spec : {M : Type 1} → statement M
-balanced-spec =
-    tie.close
-    (tie.spec
-    Inv-loop
-    μ-loop
-    loop-holds
-    (λ c. omega arith)
-    (λ c. omega arith)
-    add-sum
-    (λ c. omega arith)
-    (λ c. omega arith)
-    loop-again
-    (λ c κs. search needs)
-    returns)
+balanced-spec = tie.close (tie.spec Inv-loop μ-loop loop-holds (λ c. omega arith) (λ c. omega arith)
+    (λ c. simp (toZ-ofZ, within-fits (position-in c) tt) (next-fits c)) (λ c. omega arith) (λ c. omega arith)
+    (λ c. simp (toZ-ofZ, within-fits (position-in c) tt, next-fits c) (omega (arith, below c), turned c)) (λ c κs. search needs) returns)

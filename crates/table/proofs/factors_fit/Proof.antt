@@ -7,8 +7,8 @@ use native.Mathlib.Omega.{arith}
 use borrow.Author.Needs.{needs}
 use lib.ListN.{length}
 use Rattle.numbers.proofs.IntLaws.{plain}
-use Rattle.kinds.specs.Ranges.{factorFits, factorTests}
-use Rattle.kinds.proofs.AllLaws.{tests-length, test-at, Joined, joined-none, joined-more, joined-all}
+use Rattle.types.specs.Ranges.{factorFits, factorTests}
+use Rattle.types.proofs.AllLaws.{tests-length, test-at, Joined, joined-none, joined-more, joined-all}
 use Rattle.table.proofs.factors_fit.Statement.{statement}
 use Rattle.table.proofs.factors_fit.Tie as tie
 
@@ -18,9 +18,6 @@ Inv-loop f held₀ z₀ z-end held z = Joined (factorTests f) held z
 abbrev μ-loop : tie.MeasureT-loop
 μ-loop f held₀ z₀ z-end held z = length f - z
 
-loop-holds : tie.Need-loop-holds Inv-loop μ-loop
-loop-holds c = joined-none _
-
 loop-again : tie.Need-loop-again Inv-loop μ-loop
 loop-again c =
     let l = c .before .before .before .loop in
@@ -29,20 +26,6 @@ loop-again c =
     subst (λ (t : Bool). Joined (factorTests f) (l .held && t) (l .z + 1)) (test-at f (l .z) (c .before .before .loop-test .taken) true ∙ sym fits)
     (joined-more _ _ _ (l .inv) true (omega (arith, tests-length f)))
 
-returns : tie.Need-returns Inv-loop μ-loop
-returns c = joined-all _ _ _ (c .before .loop .inv) (omega (arith, tests-length (c .before .before .args .f .now)))
-
 pub factors-fit-spec : {M : Type 1} → statement M
-factors-fit-spec =
-    tie.close
-    (tie.spec
-    Inv-loop
-    μ-loop
-    loop-holds
-    (λ c. search needs)
-    (λ c. search needs)
-    (λ c κs. search needs)
-    (λ c. search needs)
-    (λ c. search needs)
-    loop-again
-    returns)
+factors-fit-spec = tie.close (tie.spec Inv-loop μ-loop (λ c. joined-none _) (λ c. search needs) (λ c. search needs) (λ c κs. search needs) (λ c. search needs)
+    (λ c. search needs) loop-again (λ c. joined-all _ _ _ (c .before .loop .inv) (omega (arith, tests-length (c .before .before .args .f .now)))))

@@ -7,8 +7,8 @@ use borrow.Author.Needs.{needs}
 use mathlib.Core.List.{[]}
 use lib.ListN.{length, getD}
 use Rattle.numbers.proofs.BelowLaws.{Looked, looked-none, looked-all, looked-here, looked-more}
-use Rattle.kinds.specs.Ranges.{borderFits}
-use Rattle.kinds.proofs.ReadLaws.{border-good, border-out}
+use Rattle.types.specs.Ranges.{borderFits}
+use Rattle.types.proofs.ConstructorLaws.{border-good, border-out}
 use Rattle.table.proofs.first_border_out.Statement.{statement}
 use Rattle.table.proofs.first_border_out.Tie as tie
 
@@ -18,32 +18,10 @@ Inv-loop zones b i₀ i-end i = Looked (length b) (λ i. not (borderFits zones (
 abbrev μ-loop : tie.MeasureT-loop
 μ-loop zones b i₀ i-end i = length b - i
 
-loop-holds : tie.Need-loop-holds Inv-loop μ-loop
-loop-holds c = looked-none _ _
-
-returns : tie.Need-returns Inv-loop μ-loop
-returns c = looked-here _ _ _ (c .before .before .before .before .before .loop .inv) (omega arith) (ap not (border-out _ _ (sym (c .before .before .of .ensures) ∙ c .enum-told2 .given .1)))
-
-loop-again : tie.Need-loop-again Inv-loop μ-loop
-loop-again c = looked-more _ _ _ (c .before .before .before .before .before .loop .inv) (omega arith) (ap not (border-good _ _ _ (sym (c .before .before .of .ensures) ∙ c .enum-told .given .1) .0))
-
-returns-2 : tie.Need-returns-2 Inv-loop μ-loop
-returns-2 c = looked-all _ _ _ (c .before .loop .inv) (omega arith)
-
 pub first-border-out-spec : {M : Type 1} → statement M
-first-border-out-spec =
-    tie.close
-    (tie.spec
-    Inv-loop
-    μ-loop
-    loop-holds
-    (λ c. search needs)
-    (λ c. search needs)
-    (λ c κs. search needs)
-    (λ c. search needs)
-    (λ c. search needs)
-    returns
-    (λ c. search needs)
-    (λ c. search needs)
-    loop-again
-    returns-2)
+first-border-out-spec = tie.close (tie.spec Inv-loop μ-loop (λ c. looked-none _ _) (λ c. search needs) (λ c. search needs) (λ c κs. search needs)
+    (λ c. search needs) (λ c. search needs)
+    (λ c. looked-here _ _ _ (c .before .before .before .before .before .loop .inv) (omega arith) (ap not (border-out _ _ (sym (c .before .before .of .ensures) ∙ c .enum-told2 .given .1))))
+    (λ c. search needs) (λ c. search needs)
+    (λ c. looked-more _ _ _ (c .before .before .before .before .before .loop .inv) (omega arith) (ap not (border-good _ _ _ (sym (c .before .before .of .ensures) ∙ c .enum-told .given .1) .0)))
+    (λ c. looked-all _ _ _ (c .before .loop .inv) (omega arith)))

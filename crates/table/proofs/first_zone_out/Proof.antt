@@ -7,9 +7,9 @@ use borrow.Author.Needs.{needs}
 use lib.ListN.{length}
 use Rattle.numbers.proofs.BelowLaws.{Looked, looked-none, looked-all, looked-here, looked-more}
 use Rattle.numbers.proofs.IntLaws.{plain}
-use Rattle.kinds.specs.Ranges.{atℤ, zoneFits}
-use Rattle.kinds.specs.Kinds.{zoneRead}
-use Rattle.kinds.proofs.ReadLaws.{zone-good, zone-out}
+use Rattle.types.specs.Ranges.{atℤ, zoneFits}
+use Rattle.types.specs.Constructors.{zoneRead}
+use Rattle.types.proofs.ConstructorLaws.{zone-good, zone-out}
 use Rattle.table.proofs.first_zone_out.Statement.{statement}
 use Rattle.table.proofs.first_zone_out.Tie as tie
 
@@ -19,36 +19,14 @@ Inv-loop z i₀ i-end i = Looked (length z) (λ i. not (zoneFits (atℤ z i))) i
 abbrev μ-loop : tie.MeasureT-loop
 μ-loop z i₀ i-end i = length z - i
 
-loop-holds : tie.Need-loop-holds Inv-loop μ-loop
-loop-holds c = looked-none _ _
-
 -- what the constructor said of the item
 judged : (c : tie.After-of Inv-loop μ-loop) → c .of .result ≡ zoneRead (atℤ (c .before .before .before .before .args .z .now) (c .before .before .before .loop .i))
 judged c = c .of .ensures ∙ ap zoneRead (plain _ (c .before .of-arg .given))
 
-returns : tie.Need-returns Inv-loop μ-loop
-returns c = looked-here _ _ _ (c .before .before .before .before .before .loop .inv) (omega arith) (ap not (zone-out _ (sym (judged (c .before .before)) ∙ c .enum-told2 .given .1)))
-
-loop-again : tie.Need-loop-again Inv-loop μ-loop
-loop-again c = looked-more _ _ _ (c .before .before .before .before .before .loop .inv) (omega arith) (ap not (zone-good _ _ (sym (judged (c .before .before)) ∙ c .enum-told .given .1)))
-
-returns-2 : tie.Need-returns-2 Inv-loop μ-loop
-returns-2 c = looked-all _ _ _ (c .before .loop .inv) (omega arith)
-
 pub first-zone-out-spec : {M : Type 1} → statement M
-first-zone-out-spec =
-    tie.close
-    (tie.spec
-    Inv-loop
-    μ-loop
-    loop-holds
-    (λ c. search needs)
-    (λ c. search needs)
-    (λ c κs. search needs)
-    (λ c. search needs)
-    (λ c. search needs)
-    returns
-    (λ c. search needs)
-    (λ c. search needs)
-    loop-again
-    returns-2)
+first-zone-out-spec = tie.close (tie.spec Inv-loop μ-loop (λ c. looked-none _ _) (λ c. search needs) (λ c. search needs) (λ c κs. search needs)
+    (λ c. search needs) (λ c. search needs)
+    (λ c. looked-here _ _ _ (c .before .before .before .before .before .loop .inv) (omega arith) (ap not (zone-out _ (sym (judged (c .before .before)) ∙ c .enum-told2 .given .1))))
+    (λ c. search needs) (λ c. search needs)
+    (λ c. looked-more _ _ _ (c .before .before .before .before .before .loop .inv) (omega arith) (ap not (zone-good _ _ (sym (judged (c .before .before)) ∙ c .enum-told .given .1))))
+    (λ c. looked-all _ _ _ (c .before .loop .inv) (omega arith)))

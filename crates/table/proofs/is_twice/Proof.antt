@@ -17,9 +17,6 @@ Inv-loop b i e₀ e = Looked i (λ e. sameEnds (getD b e []) (getD b i [])) e
 abbrev μ-loop : tie.MeasureT-loop
 μ-loop b i e₀ e = i - e
 
-loop-holds : tie.Need-loop-holds Inv-loop μ-loop
-loop-holds c = looked-none _ _
-
 returns : tie.Need-returns Inv-loop μ-loop
 unfolding twice given
 returns c =
@@ -38,19 +35,5 @@ unfolding twice given
 returns-2 c = ap given (looked-all _ _ _ (c .before .loop .inv) (omega arith))
 
 pub is-twice-spec : {M : Type 1} → statement M
-is-twice-spec =
-    tie.close
-    (tie.spec
-    Inv-loop
-    μ-loop
-    loop-holds
-    (λ c. search needs)
-    (λ c. search needs)
-    (λ c. search needs)
-    (λ c. search needs)
-    (λ c κs. search needs)
-    returns
-    (λ c. search needs)
-    (λ c. search needs)
-    loop-again
-    returns-2)
+is-twice-spec = tie.close (tie.spec Inv-loop μ-loop (λ c. looked-none _ _) (λ c. search needs) (λ c. search needs) (λ c. search needs) (λ c. search needs)
+    (λ c κs. search needs) returns (λ c. search needs) (λ c. search needs) loop-again returns-2)

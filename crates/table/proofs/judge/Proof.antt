@@ -2,7 +2,7 @@
 use mathlib.Core.Path.{_≡_, sym, _∙_}
 use native.Mathlib.Omega.{arith}
 use borrow.Author.Needs.{needs}
-use Rattle.kinds.specs.Ranges.{allocatedItems}
+use Rattle.types.specs.Ranges.{allocatedItems}
 use Rattle.table.specs.Table.{Table, lent, front}
 use Rattle.table.specs.Good.{Exact}
 use Rattle.table.proofs.RoomLaws.{factors-most}
@@ -11,20 +11,12 @@ use Rattle.table.proofs.GoodLaws.{refused-in, records-in}
 use Rattle.table.proofs.judge.Statement.{statement}
 use Rattle.table.proofs.judge.Tie as tie
 
-returns : tie.Need-returns
-returns c =
-    let told = c .enum-told2 .given .1 in
-    (lent-refused _ _ (c .before .before .judge-shape .ensures) _ _ told, refused-in _ _ told)
-
 abbrev given : tie.Start → Table
 given s = let a = s .args in lent (a .h) (a .z .now) (a .t .now) (a .b .now) (a .c .now) (a .f .now)
 
 -- header and lengths passed
 exact : (c : tie.After-enum-told) → Exact (front (given (c .before .before .before)))
 exact c = front-exact _ _ (c .before .before .judge-shape .ensures) (c .enum-told .given .1)
-
-judge-p-requires : tie.Need-judge-p-requires
-judge-p-requires c κs = exact c .header
 
 returns-2 : tie.Need-returns-2
 returns-2 c =
@@ -38,29 +30,8 @@ shaped c = c .before .before .before .before
 items-are : (c : tie.After-allocated-items) → c .allocated-items .result ≡ allocatedItems (shaped c .before .before .before .args .h)
 items-are c = c .allocated-items .ensures
 
-slice-aggregate-judge-records : tie.Need-slice-aggregate-judge-records
-slice-aggregate-judge-records c = sym (exact (shaped (c .before)) .nets-long)
-
-slice-aggregate-judge-records-2 : tie.Need-slice-aggregate-judge-records-2
-slice-aggregate-judge-records-2 c = rw (items-are (c .before .before)) (sym (exact (shaped (c .before .before)) .allocated-long))
-
-slice-aggregate-judge-records-3 : tie.Need-slice-aggregate-judge-records-3
-slice-aggregate-judge-records-3 c = sym (exact (shaped (c .before .before .before)) .borders-long)
-
-slice-aggregate-judge-records-4 : tie.Need-slice-aggregate-judge-records-4
-slice-aggregate-judge-records-4 c = sym (exact (shaped (c .before .before .before .before)) .rows-long)
-
-mul-judge-records : tie.Need-mul-judge-records
-mul-judge-records c = omega (arith, factors-most _ (exact (shaped (c .before .before .before .before)) .header))
-
 abbrev at-items : tie.After-judge-records-arg5 → tie.After-allocated-items
 at-items c = c .before .before .before .before .before
-
-slice-aggregate-judge-records-5 : tie.Need-slice-aggregate-judge-records-5
-slice-aggregate-judge-records-5 c = sym (exact (shaped (at-items c)) .factors-long)
-
-judge-records-requires : tie.Need-judge-records-requires
-judge-records-requires c κs = rw (items-are (at-items c)) (exact (shaped (at-items c)))
 
 returns-3 : tie.Need-returns-3
 returns-3 c =
@@ -72,23 +43,10 @@ returns-3 c =
     )
 
 pub judge-spec : {M : Type 1} → statement M
-judge-spec =
-    tie.close
-    (tie.spec
-    (λ c κs. search needs)
-    (λ c. search needs)
-    (λ c. search needs)
-    returns
-    judge-p-requires
-    (λ c. search needs)
-    (λ c. search needs)
-    returns-2
-    (λ c κs. search needs)
-    slice-aggregate-judge-records
-    slice-aggregate-judge-records-2
-    slice-aggregate-judge-records-3
-    slice-aggregate-judge-records-4
-    mul-judge-records
-    slice-aggregate-judge-records-5
-    judge-records-requires
-    returns-3)
+judge-spec = tie.close (tie.spec (λ c κs. search needs) (λ c. search needs) (λ c. search needs)
+    (λ c. let told = c .enum-told2 .given .1 in (lent-refused _ _ (c .before .before .judge-shape .ensures) _ _ told, refused-in _ _ told))
+    (λ c κs. exact c .header) (λ c. search needs) (λ c. search needs) returns-2 (λ c κs. search needs) (λ c. sym (exact (shaped (c .before)) .nets-long))
+    (λ c. rw (items-are (c .before .before)) (sym (exact (shaped (c .before .before)) .allocated-long)))
+    (λ c. sym (exact (shaped (c .before .before .before)) .borders-long)) (λ c. sym (exact (shaped (c .before .before .before .before)) .rows-long))
+    (λ c. omega (arith, factors-most _ (exact (shaped (c .before .before .before .before)) .header))) (λ c. sym (exact (shaped (at-items c)) .factors-long))
+    (λ c κs. rw (items-are (at-items c)) (exact (shaped (at-items c)))) returns-3)

@@ -11,9 +11,9 @@ use borrow.Author.Tests.{not-true, not-false}
 use Rattle.numbers.specs.Below.{firstFrom}
 use Rattle.numbers.specs.First.{found}
 use Rattle.numbers.proofs.FirstLaws.{first-within}
-use Rattle.kinds.specs.Ranges.{atℤ, allocatedItems, zoneFits, borderFits}
-use Rattle.kinds.specs.Refusals.{refused, outOfRange}
-use Rattle.kinds.proofs.KindLaws.{header-in, allocated-most}
+use Rattle.refusals.specs.Refusals.{refused, outOfRange}
+use Rattle.types.specs.Ranges.{atℤ, allocatedItems, zoneFits, borderFits}
+use Rattle.types.proofs.RangeLaws.{header-in, allocated-most}
 use Rattle.table.specs.Table.{headerLineNo, zoneLineNo, balanced}
 use Rattle.table.proofs.JudgeLaws.{exact-factors, allocated-within, zone-refused, allocated-refused, balance-refused, border-refused, row-refused, twice-refused, records-pass}
 use Rattle.table.proofs.judge_records.Statement.{statement}
@@ -23,21 +23,9 @@ use Rattle.table.proofs.judge_records.Tie as tie
 items-is : (c : tie.After-allocated-items) → c .allocated-items .result ≡ allocatedItems (c .before .args .h)
 items-is c = c .allocated-items .ensures
 
-add-first-allocated : tie.Need-add-first-allocated
-add-first-allocated c = omega (arith, header-in _ (c .before .pre .header))
-
-add-first-border : tie.Need-add-first-border
-add-first-border c = omega (arith, items-is c, allocated-most (c .before .args .h), header-in _ (c .before .pre .header))
-
-add-first-row : tie.Need-add-first-row
-add-first-row c = omega (arith, items-is (c .before), allocated-most (c .before .before .args .h), header-in _ (c .before .before .pre .header))
-
 -- ---- a Z record
 add-out-of-range : tie.Need-add-out-of-range
 add-out-of-range c = omega (arith, first-within _ _ (sym (ap found (c .before .i .given .1)) ∙ c .before .before .before .first-zone-out .ensures))
-
-returns : tie.Need-returns
-returns c = ap refused (c .out-of-range .ensures) ∙ zone-refused _ (c .before .before .before .before .before .before .before .pre) _ (sym (ap found (c .before .before .i .given .1)) ∙ c .before .before .before .before .first-zone-out .ensures)
 
 -- ---- a T record
 module _ (c : tie.After-enum-told) where
@@ -64,12 +52,6 @@ module _ (c : tie.After-enum-told2) where
 
   allocated-good : none ≡ firstFrom (length (entry-zones told .args .t .now)) 0 (λ i. not (zoneFits (atℤ (entry-zones told .args .t .now) i)))
   allocated-good = sym (ap found (c .enum-told2 .given .1)) ∙ c .before .before .first-zone-out2 .ensures
-
-balanced-requires : tie.Need-balanced-requires
-balanced-requires c κs = allocated-within _ (entry-zones (told c) .pre) (allocated-good c)
-
-add-out-of-range-3 : tie.Need-add-out-of-range-3
-add-out-of-range-3 c = omega (arith, header-in _ (entry-zones (told (c .before .before)) .pre .header))
 
 add-out-of-range-4 : tie.Need-add-out-of-range-4
 add-out-of-range-4 c =
@@ -117,9 +99,6 @@ module _ (c : tie.After-enum-told3) where
   borders-good : none ≡ firstFrom (length (entry at-else .args .b .now)) 0 (λ i. not (borderFits (entry at-else .args .h .zones) (getD (entry at-else .args .b .now) i [])))
   borders-good = sym (ap found (c .enum-told3 .given .1)) ∙ c .before .before .first-border-out .ensures
 
-first-row-out-requires : tie.Need-first-row-out-requires
-first-row-out-requires c κs = exact-factors _ (entry (at-else c) .pre)
-
 add-out-of-range-6 : tie.Need-add-out-of-range-6
 add-out-of-range-6 c =
     let start = entry (at-else (c .before .before .before .before)) in
@@ -145,45 +124,14 @@ returns-7 c =
     records-pass _ (entry (at-else d) .pre) (zones-good (told (seen (at-else d)))) (allocated-good (seen (at-else d))) (even (at-else d)) (borders-good d) (sym (ap found (c .before .before .before .enum-told4 .given .1)) ∙ c .before .before .before .before .before .first-row-out .ensures) (sym (ap found (c .enum-told5 .given .1)) ∙ c .before .before .first-twice .ensures)
 
 pub judge-records-spec : {M : Type 1} → statement M
-judge-records-spec =
-    tie.close
-    (tie.spec
-    (λ c κs. search needs)
-    add-first-allocated
-    add-first-border
-    add-first-row
-    (λ c κs. search needs)
-    (λ c. search needs)
-    add-out-of-range
-    (λ c κs. search needs)
-    returns
-    (λ c. search needs)
-    (λ c κs. search needs)
-    (λ c. search needs)
-    add-out-of-range-2
-    (λ c κs. search needs)
-    returns-2
-    (λ c. search needs)
-    balanced-requires
-    add-out-of-range-3
-    add-out-of-range-4
-    (λ c κs. search needs)
-    returns-3
-    (λ c κs. search needs)
-    (λ c. search needs)
-    add-out-of-range-5
-    (λ c κs. search needs)
-    returns-4
-    (λ c. search needs)
-    first-row-out-requires
-    (λ c. search needs)
-    add-out-of-range-6
-    (λ c κs. search needs)
-    returns-5
-    (λ c. search needs)
-    (λ c κs. search needs)
-    (λ c. search needs)
-    (λ c κs. search needs)
-    returns-6
-    (λ c. search needs)
-    returns-7)
+judge-records-spec = tie.close (tie.spec (λ c κs. search needs) (λ c. omega (arith, header-in _ (c .before .pre .header)))
+    (λ c. omega (arith, items-is c, allocated-most (c .before .args .h), header-in _ (c .before .pre .header)))
+    (λ c. omega (arith, items-is (c .before), allocated-most (c .before .before .args .h), header-in _ (c .before .before .pre .header))) (λ c κs. search needs)
+    (λ c. search needs) add-out-of-range (λ c κs. search needs)
+    (λ c. ap refused (c .out-of-range .ensures) ∙ zone-refused _ (c .before .before .before .before .before .before .before .pre) _ (sym (ap found (c .before .before .i .given .1)) ∙ c .before .before .before .before .first-zone-out .ensures))
+    (λ c. search needs) (λ c κs. search needs) (λ c. search needs) add-out-of-range-2 (λ c κs. search needs) returns-2 (λ c. search needs)
+    (λ c κs. allocated-within _ (entry-zones (told c) .pre) (allocated-good c))
+    (λ c. omega (arith, header-in _ (entry-zones (told (c .before .before)) .pre .header))) add-out-of-range-4 (λ c κs. search needs) returns-3
+    (λ c κs. search needs) (λ c. search needs) add-out-of-range-5 (λ c κs. search needs) returns-4 (λ c. search needs)
+    (λ c κs. exact-factors _ (entry (at-else c) .pre)) (λ c. search needs) add-out-of-range-6 (λ c κs. search needs) returns-5 (λ c. search needs)
+    (λ c κs. search needs) (λ c. search needs) (λ c κs. search needs) returns-6 (λ c. search needs) returns-7)

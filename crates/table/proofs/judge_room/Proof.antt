@@ -1,32 +1,16 @@
 -- `table::judge_room` meets its contract: the first short buffer is named.
 use mathlib.Core.Path.{ap, _∙_}
 use native.Mathlib.Omega.{arith}
-use Rattle.kinds.specs.Refusals.{refused, tooShort}
+use Rattle.refusals.specs.Refusals.{refused, tooShort}
 use borrow.Author.Needs.{needs}
 use Rattle.table.proofs.RoomLaws.{factors-most, room-short-z, room-short-t, room-short-b, room-short-c, room-short-f, room-enough}
 use Rattle.table.proofs.judge_room.Statement.{statement}
 use Rattle.table.proofs.judge_room.Tie as tie
 
-returns : tie.Need-returns
-returns c = ap refused (c .too-short .ensures) ∙ room-short-z _ _ _ _ _ _ _ (omega arith)
-
-returns-2 : tie.Need-returns-2
-returns-2 c =
-    let n = c .before .before .allocated-items .ensures in
-    ap refused (c .too-short2 .ensures ∙ ap tooShort n) ∙ room-short-t _ _ _ _ _ _ _ (omega arith) (omega (arith, n))
-
-returns-3 : tie.Need-returns-3
-returns-3 c =
-    let n = c .before .before .before .before .allocated-items .ensures in
-    ap refused (c .too-short3 .ensures) ∙ room-short-b _ _ _ _ _ _ _ (omega arith) (omega (arith, n)) (omega arith)
-
 returns-4 : tie.Need-returns-4
 returns-4 c =
     let n = c .before .before .before .before .before .before .allocated-items .ensures in
     ap refused (c .too-short4 .ensures) ∙ room-short-c _ _ _ _ _ _ _ (omega arith) (omega (arith, n)) (omega arith) (omega arith)
-
-mul-factors : tie.Need-mul-factors
-mul-factors c = omega (arith, factors-most _ (c .before .before .before .before .before .before .before .before .before .pre))
 
 returns-5 : tie.Need-returns-5
 returns-5 c =
@@ -39,19 +23,10 @@ returns-6 c =
     room-enough _ _ _ _ _ _ _ (omega arith) (omega (arith, n)) (omega arith) (omega arith) (omega arith)
 
 pub judge-room-spec : {M : Type 1} → statement M
-judge-room-spec =
-    tie.close
-    (tie.spec
+judge-room-spec = tie.close (tie.spec (λ c κs. search needs) (λ c. ap refused (c .too-short .ensures) ∙ room-short-z _ _ _ _ _ _ _ (omega arith))
+    (λ c κs. search needs) (λ c κs. search needs)
+    (λ c. let n = c .before .before .allocated-items .ensures in ap refused (c .too-short2 .ensures ∙ ap tooShort n) ∙ room-short-t _ _ _ _ _ _ _ (omega arith) (omega (arith, n)))
     (λ c κs. search needs)
-    returns
-    (λ c κs. search needs)
-    (λ c κs. search needs)
-    returns-2
-    (λ c κs. search needs)
-    returns-3
-    (λ c κs. search needs)
-    returns-4
-    mul-factors
-    (λ c κs. search needs)
-    returns-5
-    returns-6)
+    (λ c. let n = c .before .before .before .before .allocated-items .ensures in ap refused (c .too-short3 .ensures) ∙ room-short-b _ _ _ _ _ _ _ (omega arith) (omega (arith, n)) (omega arith))
+    (λ c κs. search needs) returns-4 (λ c. omega (arith, factors-most _ (c .before .before .before .before .before .before .before .before .before .pre)))
+    (λ c κs. search needs) returns-5 returns-6)

@@ -2,9 +2,9 @@
 use mathlib.Core.Path.{sym, ap, _∙_}
 use mathlib.Core.Bool.{Bool, _&&_}
 use borrow.Author.Needs.{needs}
-use Rattle.kinds.specs.Ranges.{allTrue, rowTests, rowFits, factorTests}
-use Rattle.kinds.proofs.AllLaws.{all-join}
-use Rattle.kinds.proofs.ReadLaws.{row-good, row-out}
+use Rattle.types.specs.Ranges.{allTrue, rowTests, rowFits, factorTests}
+use Rattle.types.proofs.AllLaws.{all-join}
+use Rattle.types.proofs.ConstructorLaws.{row-good, row-out}
 use Rattle.table.proofs.row_good.Statement.{statement}
 use Rattle.table.proofs.row_good.Tie as tie
 
@@ -24,5 +24,4 @@ returns-2 c =
     ∙ sym (all-join (rowTests (a .raw)) factors ∙ ap (λ (t : Bool). t && allTrue factors) (row-good _ _ (sym (c .before .before .before .of .ensures) ∙ c .before .enum-told .given .1) .0))
 
 pub row-good-spec : {M : Type 1} → statement M
-row-good-spec =
-    tie.close (tie.spec (λ c κs. search needs) (λ c. search needs) (λ c. search needs) returns (λ c κs. search needs) returns-2)
+row-good-spec = tie.close (tie.spec (λ c κs. search needs) (λ c. search needs) (λ c. search needs) returns (λ c κs. search needs) returns-2)

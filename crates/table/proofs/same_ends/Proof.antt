@@ -1,7 +1,7 @@
 -- `table::same_ends` meets its contract.
 use borrow.Author.Needs.{needs}
 use Rattle.numbers.proofs.IntLaws.{plain}
-use Rattle.kinds.specs.Ranges.{atℤ}
+use Rattle.types.specs.Ranges.{atℤ}
 use Rattle.table.proofs.same_ends.Statement.{statement}
 use Rattle.table.proofs.same_ends.Tie as tie
 
@@ -35,19 +35,6 @@ returns c =
     )
 
 pub same-ends-spec : {M : Type 1} → statement M
-same-ends-spec =
-    tie.close
-    (tie.spec
-    (λ c. search needs)
-    (λ c. search needs)
-    (λ c κs. search needs)
-    (λ c. search needs)
-    (λ c. search needs)
-    (λ c κs. search needs)
-    (λ c. search needs)
-    (λ c. search needs)
-    (λ c κs. search needs)
-    (λ c. search needs)
-    (λ c. search needs)
-    (λ c κs. search needs)
+same-ends-spec = tie.close (tie.spec (λ c. search needs) (λ c. search needs) (λ c κs. search needs) (λ c. search needs) (λ c. search needs)
+    (λ c κs. search needs) (λ c. search needs) (λ c. search needs) (λ c κs. search needs) (λ c. search needs) (λ c. search needs) (λ c κs. search needs)
     returns)

@@ -5,7 +5,7 @@ use native.Mathlib.Nat.{mul-le-mul}
 use native.Mathlib.Omega.{arith}
 use borrow.Author.Needs.{needs}
 use Rattle.rounds.specs.Rounds.{Grid, mostSharers}
-use Rattle.rounds.specs.Work.{flat}
+use Rattle.rounds.specs.AllRounds.{flat}
 use Rattle.tight.proofs.BitsLaws.{sharers-few, bits-few}
 use Rattle.tight.proofs.PassLaws.{counted-most, measured}
 use Rattle.tight.proofs.measure.Statement.{statement}
@@ -28,9 +28,6 @@ module _ (c : tie.After-steps) where
   l-few : c .before .bits .result ≤ 64
   l-few = omega (arith, c .before .bits .ensures, bits-few (c .before .before .highest .result .alone) (omega arith))
 
-count-sharers-requires : tie.Need-count-sharers-requires
-count-sharers-requires c κs = let q = c .before .before .before .before .pre in (q .0 .0, q .1 .0 .1)
-
 highest-requires : tie.Need-highest-requires
 highest-requires c κs =
     let entry = c .before .before .before .before .before .before .before .before .before .before in
@@ -38,19 +35,7 @@ highest-requires c κs =
     let counted = c .before .before .before .before .before .count-sharers .ensures in
     ((q .0 .0, q .1 .0 .0, q .0 .1), ((counted, counted-most (flat (entry .args .rows) (entry .args .borders) (entry .args .p .now)) counted (c .before .most .ensures)), q .1 .1))
 
-returns : tie.Need-returns
-returns c = measured (g c) (n-is c) (c .before .before .highest .ensures) (c .before .bits .ensures) (c .steps .ensures)
-
 pub measure-spec : {M : Type 1} → statement M
-measure-spec =
-    tie.close
-    (tie.spec
-    count-sharers-requires
-    (λ c κs. search needs)
-    highest-requires
-    (λ c κs. search needs)
-    (λ c κs. search needs)
-    (λ c. omega (arith, n-few c))
-    (λ c. omega (arith, n-few c, l-few c, mul-le-mul (n-few c) (l-few c)))
-    (λ c. search needs)
-    returns)
+measure-spec = tie.close (tie.spec (λ c κs. let q = c .before .before .before .before .pre in (q .0 .0, q .1 .0 .1)) (λ c κs. search needs) highest-requires
+    (λ c κs. search needs) (λ c κs. search needs) (λ c. omega (arith, n-few c)) (λ c. omega (arith, n-few c, l-few c, mul-le-mul (n-few c) (l-few c)))
+    (λ c. search needs) (λ c. measured (g c) (n-is c) (c .before .before .highest .ensures) (c .before .bits .ensures) (c .steps .ensures)))

@@ -1,4 +1,4 @@
--- `walk::tighten` meets its contract: a product tells whether the bound stays (`tight-same`) or falls (`tight-less`), and a quotient where the product may not fit.
+-- `walk::tighten` meets its contract: a product tells whether the cap stays (`tight-same`) or falls (`tight-less`), and a quotient where the product may not fit.
 use native.Mathlib.Omega.{arith}
 use borrow.Author.Needs.{needs}
 use borrow.Author.Tests.{ltb-true}
@@ -6,27 +6,12 @@ use Rattle.walk.proofs.TightLaws.{tight-same, tight-less, tight-zero, t
 use Rattle.walk.proofs.tighten.Statement.{statement}
 use Rattle.walk.proofs.tighten.Tie as tie
 
-mul-if3 : tie.Need-mul-if3
-mul-if3 c = let a = c .before .before .args in omega (arith, product-fits (a .f) (a .bound) (c .before .if1 .taken) (ltb-true _ _ (c .if2 .taken)))
-
-returns : tie.Need-returns
-returns c = let a = c .before .before .before .args in tight-same (a .f) (a .share) (a .bound) (c .if3 .taken)
-
-div-result : tie.Need-div-result
-div-result c = let a = c .before .before .before .args in tight-less (a .f) (a .share) (a .bound) (c .if3 .left) .0
-
-returns-2 : tie.Need-returns-2
-returns-2 c = let a = c .before .before .before .args in tight-less (a .f) (a .share) (a .bound) (c .if3 .left) .1
-
-returns-3 : tie.Need-returns-3
-returns-3 c = let a = c .before .before .args in tight-zero (a .f) (a .share) (a .bound) (c .if4 .taken)
-
-returns-4 : tie.Need-returns-4
-returns-4 c = let a = c .before .before .before .args in tight-low (a .f) (a .share) (a .bound) (omega arith) (c .if5 .taken)
-
-returns-5 : tie.Need-returns-5
-returns-5 c = let a = c .before .before .before .args in tight-high (a .f) (a .share) (a .bound) (omega arith) (c .if5 .left)
-
 pub tighten-spec : {M : Type 1} → statement M
-tighten-spec =
-    tie.close (tie.spec mul-if3 returns div-result returns-2 returns-3 (λ c. search needs) returns-4 returns-5)
+tighten-spec = tie.close (tie.spec
+    (λ c. let a = c .before .before .args in omega (arith, product-fits (a .f) (a .cap) (c .before .if1 .taken) (ltb-true _ _ (c .if2 .taken))))
+    (λ c. let a = c .before .before .before .args in tight-same (a .f) (a .share) (a .cap) (c .if3 .taken))
+    (λ c. let a = c .before .before .before .args in tight-less (a .f) (a .share) (a .cap) (c .if3 .left) .0)
+    (λ c. let a = c .before .before .before .args in tight-less (a .f) (a .share) (a .cap) (c .if3 .left) .1)
+    (λ c. let a = c .before .before .args in tight-zero (a .f) (a .share) (a .cap) (c .if4 .taken)) (λ c. search needs)
+    (λ c. let a = c .before .before .before .args in tight-low (a .f) (a .share) (a .cap) (omega arith) (c .if5 .taken))
+    (λ c. let a = c .before .before .before .args in tight-high (a .f) (a .share) (a .cap) (omega arith) (c .if5 .left)))

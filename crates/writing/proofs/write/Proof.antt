@@ -1,8 +1,8 @@
 -- `writing::write` meets its contract: what judging refuses is refused (`write-refused`), and else the front of the lent tables is written (`write-on`).
 use mathlib.Core.Path.{_≡_, sym, ap, _∙_}
 use borrow.Author.Needs.{needs}
-use Rattle.kinds.specs.declared.Judgement.{Judgement}
-use Rattle.kinds.specs.Answers.{ruled}
+use Rattle.refusals.specs.declared.Judgement.{Judgement}
+use Rattle.refusals.specs.Answers.{saidJudgement}
 use Rattle.table.specs.Table.{Table, lent, front}
 use Rattle.table.specs.declared.Room.the-variants.{None}
 use Rattle.table.proofs.GoodLaws.{told-judged, told-good}
@@ -17,13 +17,7 @@ returns : tie.Need-returns
 returns c =
     let told = c .before in
     let judge = told .before .before in
-    write-refused (given judge) _ _ (sym (ap (λ (j : Judgement). ruled j (front (given judge))) (told .w .given .1)) ∙ judge .judge .ensures .0)
-
-write-good-requires : tie.Need-write-good-requires
-write-good-requires c κs =
-    let told = c .before in
-    let judge = told .before .before in
-    told-good (given judge) (judge .judge .ensures .1) (told .enum-told .given .1)
+    write-refused (given judge) _ _ (sym (ap (λ (j : Judgement). saidJudgement j (front (given judge))) (told .w .given .1)) ∙ judge .judge .ensures .0)
 
 returns-2 : tie.Need-returns-2
 returns-2 c =
@@ -33,13 +27,6 @@ returns-2 c =
     called .write-good .ensures ∙ write-on (given judge) _ (front (given judge)) (sym (told-judged None (given judge) _ (judge .judge .ensures .0) (told .enum-told .given .1)))
 
 pub write-spec : {M : Type 1} → statement M
-write-spec =
-    tie.close
-    (tie.spec
-    (λ c κs. search needs)
-    (λ c. search needs)
-    returns
-    (λ c. search needs)
-    write-good-requires
-    (λ c. search needs)
-    returns-2)
+write-spec = tie.close (tie.spec (λ c κs. search needs) (λ c. search needs) returns (λ c. search needs)
+    (λ c κs. let told = c .before in let judge = told .before .before in told-good (given judge) (judge .judge .ensures .1) (told .enum-told .given .1))
+    (λ c. search needs) returns-2)

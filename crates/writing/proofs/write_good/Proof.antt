@@ -4,7 +4,7 @@ use mathlib.Core.Path.{_≡_, sym}
 use native.Mathlib.Omega.{arith}
 use borrow.Author.Needs.{needs}
 use lib.ListN.{length}
-use Rattle.kinds.specs.Ranges.{allocatedItems}
+use Rattle.types.specs.Ranges.{allocatedItems}
 use Rattle.text.proofs.LeftLaws.{text-short, text-written}
 use Rattle.table.specs.Table.{Table, lent, front}
 use Rattle.table.specs.Good.{Good}
@@ -22,29 +22,14 @@ good c = c .before .before .pre
 items : (c : tie.After-allocated-items) → c .allocated-items .result ≡ allocatedItems (c .before .before .args .h)
 items c = c .allocated-items .ensures
 
-slice-aggregate-t : tie.Need-slice-aggregate-t
-slice-aggregate-t c = let i = c .before .before in rw (items i) (sym (good i .exact .allocated-long))
-
-mul-f : tie.Need-mul-f
-mul-f c = omega (arith, factors-most _ (good (c .before .before .before .before) .exact .header))
-
 abbrev counted : tie.After-f → tie.After-allocated-items
 counted c = c .before .before .before .before .before
-
-text-length-requires : tie.Need-text-length-requires
-text-length-requires c κs = let i = counted c in rw (items i) (good i)
 
 returns : tie.Need-returns
 returns c =
     let measured = c .before .before in
     let i = counted (measured .before) in
     rw (c .too-short .ensures) (text-short (tableText (front (given i))) _ _ (rw (items i) at (measured .text-length .ensures)) (omega arith))
-
-put-table-requires : tie.Need-put-table-requires
-put-table-requires c κs =
-    let measured = c .before .before in
-    let i = counted (measured .before) in
-    (rw (items i) (good i), omega (arith, measured .text-length .ensures))
 
 returns-2 : tie.Need-returns-2
 returns-2 c =
@@ -55,19 +40,9 @@ returns-2 c =
     text-written (tableText (front (given i))) _ (omega (arith, long)) (rw (items i) at (put .put-table .ensures))
 
 pub write-good-spec : {M : Type 1} → statement M
-write-good-spec =
-    tie.close
-    (tie.spec
-    (λ c κs. search needs)
-    (λ c. search needs)
-    slice-aggregate-t
-    (λ c. search needs)
-    (λ c. search needs)
-    mul-f
-    (λ c. search needs)
-    text-length-requires
-    (λ c κs. search needs)
-    returns
-    put-table-requires
-    (λ c. search needs)
-    returns-2)
+write-good-spec = tie.close (tie.spec (λ c κs. search needs) (λ c. search needs)
+    (λ c. let i = c .before .before in rw (items i) (sym (good i .exact .allocated-long))) (λ c. search needs) (λ c. search needs)
+    (λ c. omega (arith, factors-most _ (good (c .before .before .before .before) .exact .header))) (λ c. search needs)
+    (λ c κs. let i = counted c in rw (items i) (good i)) (λ c κs. search needs) returns
+    (λ c κs. let measured = c .before .before in let i = counted (measured .before) in (rw (items i) (good i), omega (arith, measured .text-length .ensures)))
+    (λ c. search needs) returns-2)

@@ -8,8 +8,8 @@ use borrow.Author.Needs.{needs}
 use borrow.Author.Tests.{not-true, not-false}
 use lib.ListN.{length}
 use Rattle.numbers.proofs.IntLaws.{plain}
-use Rattle.kinds.specs.Ranges.{factorFits, factorTests}
-use Rattle.kinds.proofs.AllLaws.{tests-length, test-at}
+use Rattle.types.specs.Ranges.{factorFits, factorTests}
+use Rattle.types.proofs.AllLaws.{tests-length, test-at}
 use Rattle.blame.proofs.RangeLaws.{Tested, tested-none, tested-here, tested-more, tested-all}
 use Rattle.blame.proofs.range.factors_range.Statement.{statement}
 use Rattle.blame.proofs.range.factors_range.Tie as tie
@@ -19,12 +19,6 @@ Inv-loop sep f k line j₀ j-end j = Tested sep (factorTests f) k line j
 
 abbrev μ-loop : tie.MeasureT-loop
 μ-loop sep f k line j₀ j-end j = length f - j
-
-loop-holds : tie.Need-loop-holds Inv-loop μ-loop
-loop-holds c = tested-none _ _ _ _
-
-add-field-first : tie.Need-add-field-first Inv-loop μ-loop
-add-field-first c = omega (arith, c .before .before .before .before .before .before .pre)
 
 returns : tie.Need-returns Inv-loop μ-loop
 returns c =
@@ -45,23 +39,7 @@ loop-again c =
     let fits = at-fits .factor-fits .ensures ∙ ap factorFits (plain _ (at-fits .before .factor-fits-arg .given)) in
     tested-more _ _ _ _ _ (l .inv) false (omega (arith, tests-length f)) (test-at f (l .j) (at-test .loop-test .taken) false ∙ sym fits ∙ not-false _ (c .if1 .left))
 
-returns-2 : tie.Need-returns-2 Inv-loop μ-loop
-returns-2 c = tested-all _ _ _ _ _ (c .before .loop .inv) (omega (arith, tests-length (c .before .before .before .args .f .now)))
-
 pub factors-range-spec : {M : Type 1} → statement M
-factors-range-spec =
-    tie.close
-    (tie.spec
-    Inv-loop
-    μ-loop
-    loop-holds
-    (λ c. search needs)
-    (λ c. search needs)
-    (λ c κs. search needs)
-    add-field-first
-    (λ c κs. search needs)
-    returns
-    (λ c. search needs)
-    (λ c. search needs)
-    loop-again
-    returns-2)
+factors-range-spec = tie.close (tie.spec Inv-loop μ-loop (λ c. tested-none _ _ _ _) (λ c. search needs) (λ c. search needs) (λ c κs. search needs)
+    (λ c. omega (arith, c .before .before .before .before .before .before .pre)) (λ c κs. search needs) returns (λ c. search needs) (λ c. search needs)
+    loop-again (λ c. tested-all _ _ _ _ _ (c .before .loop .inv) (omega (arith, tests-length (c .before .before .before .args .f .now)))))

@@ -14,37 +14,9 @@ Inv-loop sep k line left₀ i₀ left i = Passing sep k line left i
 abbrev μ-loop : tie.MeasureT-loop
 μ-loop sep k line left₀ i₀ left i = length line - i
 
-loop-holds : tie.Need-loop-holds Inv-loop μ-loop
-loop-holds c = passing-none _ _ _
-
-returns : tie.Need-returns Inv-loop μ-loop
-returns c = passing-here _ _ _ _ _ (c .before .before .loop .inv) (c .if1 .taken)
-
-less-requires : tie.Need-less-requires Inv-loop μ-loop
-less-requires c κs = omega arith
-
-loop-again : tie.Need-loop-again Inv-loop μ-loop
-loop-again c =
-    let at-if = c .before .before in
-    let at-test = at-if .before in
-    passing-more _ _ _ _ _ (at-test .before .loop .inv) _ (at-test .loop-test .taken) (at-if .if1 .left) (c .less .ensures)
-
-returns-2 : tie.Need-returns-2 Inv-loop μ-loop
-returns-2 c = passing-all _ _ _ _ _ (c .before .loop .inv) (c .loop-test .left)
-
 pub field-first-spec : {M : Type 1} → statement M
-field-first-spec =
-    tie.close
-    (tie.spec
-    Inv-loop
-    μ-loop
-    loop-holds
+field-first-spec = tie.close (tie.spec Inv-loop μ-loop (λ c. passing-none _ _ _) (λ c. search needs)
+    (λ c. passing-here _ _ _ _ _ (c .before .before .loop .inv) (c .if1 .taken)) (λ c. search needs) (λ c κs. omega arith) (λ c. search needs)
     (λ c. search needs)
-    returns
-    (λ c. search needs)
-    less-requires
-    (λ c. search needs)
-    (λ c. search needs)
-    loop-again
-    (λ c. search needs)
-    returns-2)
+    (λ c. let at-if = c .before .before in let at-test = at-if .before in passing-more _ _ _ _ _ (at-test .before .loop .inv) _ (at-test .loop-test .taken) (at-if .if1 .left) (c .less .ensures))
+    (λ c. search needs) (λ c. passing-all _ _ _ _ _ (c .before .loop .inv) (c .loop-test .left)))

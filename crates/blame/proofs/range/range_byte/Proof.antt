@@ -16,37 +16,10 @@ Inv-loop sep tests k line j₀ j-end j = Tested sep tests k line j
 abbrev μ-loop : tie.MeasureT-loop
 μ-loop sep tests k line j₀ j-end j = length tests - j
 
-loop-holds : tie.Need-loop-holds Inv-loop μ-loop
-loop-holds c = tested-none _ _ _ _
-
-add-field-first : tie.Need-add-field-first Inv-loop μ-loop
-add-field-first c = omega (arith, c .before .before .before .before .before .before .pre)
-
-returns : tie.Need-returns Inv-loop μ-loop
-returns c =
-    let at-test = c .before .before .before in
-    c .field-first .ensures ∙ tested-here _ _ _ _ _ (at-test .before .loop .inv) _ (at-test .loop-test .taken) (not-true _ (c .before .if1 .taken))
-
-loop-again : tie.Need-loop-again Inv-loop μ-loop
-loop-again c =
-    let at-test = c .before .before in
-    tested-more _ _ _ _ _ (at-test .before .loop .inv) _ (at-test .loop-test .taken) (not-false _ (c .if1 .left))
-
-returns-2 : tie.Need-returns-2 Inv-loop μ-loop
-returns-2 c = tested-all _ _ _ _ _ (c .before .loop .inv) (c .loop-test .left)
-
 pub range-byte-spec : {M : Type 1} → statement M
-range-byte-spec =
-    tie.close
-    (tie.spec
-    Inv-loop
-    μ-loop
-    loop-holds
-    (λ c. search needs)
-    add-field-first
-    (λ c κs. search needs)
-    returns
-    (λ c. search needs)
-    (λ c. search needs)
-    loop-again
-    returns-2)
+range-byte-spec = tie.close (tie.spec Inv-loop μ-loop (λ c. tested-none _ _ _ _) (λ c. search needs)
+    (λ c. omega (arith, c .before .before .before .before .before .before .pre)) (λ c κs. search needs)
+    (λ c. let at-test = c .before .before .before in c .field-first .ensures ∙ tested-here _ _ _ _ _ (at-test .before .loop .inv) _ (at-test .loop-test .taken) (not-true _ (c .before .if1 .taken)))
+    (λ c. search needs) (λ c. search needs)
+    (λ c. let at-test = c .before .before in tested-more _ _ _ _ _ (at-test .before .loop .inv) _ (at-test .loop-test .taken) (not-false _ (c .if1 .left)))
+    (λ c. tested-all _ _ _ _ _ (c .before .loop .inv) (c .loop-test .left)))

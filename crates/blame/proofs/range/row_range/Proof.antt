@@ -3,7 +3,7 @@ use mathlib.Core.Path.{_≡_, sym, ap, _∙_}
 use mathlib.Core.Bool.{Bool}
 use mathlib.Core.List.{List}
 use borrow.Author.Needs.{needs}
-use Rattle.kinds.specs.Ranges.{rowTests, factorTests}
+use Rattle.types.specs.Ranges.{rowTests, factorTests}
 use Rattle.blame.specs.RangeBlame.{rangeByte}
 use Rattle.blame.proofs.RangeLaws.{range-later, range-first}
 use Rattle.blame.proofs.range.row_range.Statement.{statement}
@@ -30,14 +30,5 @@ returns-2 c =
     q ∙ range-first (a .sep) (factorTests (a .f .now)) (a .line .now) (rowTests (a .t3)) (a .k) (λ z. c .if1 .left (q ∙ z))
 
 pub row-range-spec : {M : Type 1} → statement M
-row-range-spec =
-    tie.close
-    (tie.spec
-    (λ c. search needs)
-    (λ c κs. search needs)
-    (λ c. search needs)
-    (λ c κs. search needs)
-    (λ c. search needs)
-    (λ c κs. search needs)
-    returns
-    returns-2)
+row-range-spec = tie.close (tie.spec (λ c. search needs) (λ c κs. search needs) (λ c. search needs) (λ c κs. search needs) (λ c. search needs)
+    (λ c κs. search needs) returns returns-2)

@@ -9,20 +9,13 @@ use Rattle.claimtext.proofs.PublishedLaws.{unflagged-kept, unflagged-no
 use Rattle.claimtext.proofs.published.is_published.Statement.{statement}
 use Rattle.claimtext.proofs.published.is_published.Tie as tie
 
-shared-slice-read-if1 : tie.Need-shared-slice-read-if1
-shared-slice-read-if1 c = c .before .before .before .pre .1
-
-cast-is-flagged : tie.Need-cast-is-flagged
-cast-is-flagged c = omega (arith, c .before .before .before .before .pre .0, c .before .before .before .before .pre .1)
-
 returns : tie.Need-returns
 returns c =
     let s = c .before .before .before .before .before in
     ap not (c .is-flagged .ensures ∙ ap (flagged (s .args .named .now)) (read-pos {n = 200} (omega (arith, s .pre .0, s .pre .1)) tt))
     ∙ unflagged-kept (s .args .states .now) (s .args .named .now) (s .args .row) (c .before .if1 .taken)
 
-returns-2 : tie.Need-returns-2
-returns-2 c = let a = c .before .before .before .before .args in unflagged-not (a .states .now) (a .named .now) (a .row) (c .if1 .left)
-
 pub is-published-spec : {M : Type 1} → statement M
-is-published-spec = tie.close (tie.spec (λ c. search needs) shared-slice-read-if1 cast-is-flagged (λ c κs. search needs) returns returns-2)
+is-published-spec = tie.close (tie.spec (λ c. search needs) (λ c. c .before .before .before .pre .1)
+    (λ c. omega (arith, c .before .before .before .before .pre .0, c .before .before .before .before .pre .1)) (λ c κs. search needs) returns
+    (λ c. let a = c .before .before .before .before .args in unflagged-not (a .states .now) (a .named .now) (a .row) (c .if1 .left)))

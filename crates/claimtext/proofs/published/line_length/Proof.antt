@@ -4,39 +4,24 @@ use native.Mathlib.Omega.{arith}
 use borrow.Author.Needs.{needs}
 use lib.ListN.{length}
 use Rattle.numbers.proofs.IntLaws.{plain}
-use Rattle.states.specs.Rows.{rowsWith}
-use Rattle.claimtext.specs.Read.{unflagged}
+use Rattle.states.specs.Standings.{standingsWith}
+use Rattle.claimtext.specs.Unflagged.{unflagged}
 use Rattle.claimtext.proofs.PublishedLaws.{published-here, published-not}
 use Rattle.claimtext.proofs.published.line_length.Statement.{statement}
 use Rattle.claimtext.proofs.published.line_length.Tie as tie
-
-is-published-requires : tie.Need-is-published-requires
-is-published-requires c κs = (c .before .before .pre .1, c .before .before .pre .2)
-
-mul-row-length : tie.Need-mul-row-length
-mul-row-length c = omega (arith, c .before .before .before .before .pre .1, c .before .before .before .before .pre .2)
-
-shared-slice-copy-out-row-length : tie.Need-shared-slice-copy-out-row-length
-shared-slice-copy-out-row-length c = omega (arith, c .before .before .before .before .pre .0, c .before .before .before .before .pre .2)
 
 returns : tie.Need-returns
 returns c =
     let a = c .before .before .before .before .before .before .args in
     let said = simp (plain, c .before .row-length-arg .given) at (c .row-length .ensures) in
-    (said .0 ∙ sym (ap length (published-here (rowsWith (a .rams .now) (a .states .now)) (unflagged (a .states .now) (a .named .now)) (a .row) (sym (c .before .before .before .is-published .ensures) ∙ c .before .before .if1 .taken))), said .1)
+    (said .0 ∙ sym (ap length (published-here (standingsWith (a .rams .now) (a .states .now)) (unflagged (a .states .now) (a .named .now)) (a .row) (sym (c .before .before .before .is-published .ensures) ∙ c .before .before .if1 .taken))), said .1)
 
 returns-2 : tie.Need-returns-2
 returns-2 c =
     let a = c .before .before .before .before .args in
-    (sym (ap length (published-not (rowsWith (a .rams .now) (a .states .now)) (unflagged (a .states .now) (a .named .now)) (a .row) (sym (c .before .is-published .ensures) ∙ c .if1 .left))), omega arith)
+    (sym (ap length (published-not (standingsWith (a .rams .now) (a .states .now)) (unflagged (a .states .now) (a .named .now)) (a .row) (sym (c .before .is-published .ensures) ∙ c .if1 .left))), omega arith)
 
 pub line-length-spec : {M : Type 1} → statement M
-line-length-spec =
-    tie.close
-    (tie.spec
-    is-published-requires
-    mul-row-length
-    shared-slice-copy-out-row-length
-    (λ c κs. search needs)
-    returns
-    returns-2)
+line-length-spec = tie.close (tie.spec (λ c κs. (c .before .before .pre .1, c .before .before .pre .2))
+    (λ c. omega (arith, c .before .before .before .before .pre .1, c .before .before .before .before .pre .2))
+    (λ c. omega (arith, c .before .before .before .before .pre .0, c .before .before .before .before .pre .2)) (λ c κs. search needs) returns returns-2)

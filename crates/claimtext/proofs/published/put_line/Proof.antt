@@ -8,26 +8,17 @@ use lib.ListN.{length}
 use Rattle.numbers.proofs.IntLaws.{plain}
 use Rattle.text.specs.Put.{Put}
 use Rattle.text.proofs.PutLaws.{put-none}
-use Rattle.states.specs.Rows.{rowsWith}
-use Rattle.kinds.specs.Ranges.{atℤ}
+use Rattle.states.specs.Standings.{standingsWith}
+use Rattle.types.specs.Ranges.{atℤ}
 use Rattle.claimtext.specs.Published.{rowLine, publishedLine}
-use Rattle.claimtext.specs.Read.{unflagged}
+use Rattle.claimtext.specs.Unflagged.{unflagged}
 use Rattle.claimtext.proofs.PublishedLaws.{published-here, published-not}
 use Rattle.claimtext.proofs.published.put_line.Statement.{statement}
 use Rattle.claimtext.proofs.published.put_line.Tie as tie
 
-is-published-requires : tie.Need-is-published-requires
-is-published-requires c κs = (c .before .before .before .pre .0 .1, c .before .before .before .pre .0 .2)
-
-mul-put-row : tie.Need-mul-put-row
-mul-put-row c = omega (arith, c .before .before .before .before .before .pre .0 .1, c .before .before .before .before .before .pre .0 .2)
-
-shared-slice-copy-out-put-row : tie.Need-shared-slice-copy-out-put-row
-shared-slice-copy-out-put-row c = omega (arith, c .before .before .before .before .before .pre .0 .0, c .before .before .before .before .before .pre .0 .2)
-
 -- the row's line
-here : (c : tie.Then1) → let a = c .before .before .before .before .before .args in publishedLine (rowsWith (a .rams .now) (a .states .now)) (unflagged (a .states .now) (a .named .now)) (a .row) ≡ rowLine (a .row) (atℤ (a .rams .now) (a .row))
-here c = let a = c .before .before .before .before .before .args in published-here (rowsWith (a .rams .now) (a .states .now)) (unflagged (a .states .now) (a .named .now)) (a .row) (sym (c .before .is-published .ensures) ∙ c .if1 .taken)
+here : (c : tie.Then1) → let a = c .before .before .before .before .before .args in publishedLine (standingsWith (a .rams .now) (a .states .now)) (unflagged (a .states .now) (a .named .now)) (a .row) ≡ rowLine (a .row) (atℤ (a .rams .now) (a .row))
+here c = let a = c .before .before .before .before .before .args in published-here (standingsWith (a .rams .now) (a .states .now)) (unflagged (a .states .now) (a .named .now)) (a .row) (sym (c .before .is-published .ensures) ∙ c .if1 .taken)
 
 put-row-requires : tie.Need-put-row-requires
 put-row-requires c κs =
@@ -44,17 +35,11 @@ returns-2 : tie.Need-returns-2
 returns-2 c =
     let a = c .before .before .before .before .before .args in
     subst (λ (l : List ℕ). Put l (a .at) (a .out .now) (a .at) (a .out .now))
-    (sym (published-not (rowsWith (a .rams .now) (a .states .now)) (unflagged (a .states .now) (a .named .now)) (a .row) (sym (c .before .is-published .ensures) ∙ c .if1 .left)))
+    (sym (published-not (standingsWith (a .rams .now) (a .states .now)) (unflagged (a .states .now) (a .named .now)) (a .row) (sym (c .before .is-published .ensures) ∙ c .if1 .left)))
     (put-none (a .at) (a .out .now))
 
 pub put-line-spec : {M : Type 1} → statement M
-put-line-spec =
-    tie.close
-    (tie.spec
-    is-published-requires
-    mul-put-row
-    shared-slice-copy-out-put-row
-    put-row-requires
-    (λ c. search needs)
-    returns
-    returns-2)
+put-line-spec = tie.close (tie.spec (λ c κs. (c .before .before .before .pre .0 .1, c .before .before .before .pre .0 .2))
+    (λ c. omega (arith, c .before .before .before .before .before .pre .0 .1, c .before .before .before .before .before .pre .0 .2))
+    (λ c. omega (arith, c .before .before .before .before .before .pre .0 .0, c .before .before .before .before .before .pre .0 .2)) put-row-requires
+    (λ c. search needs) returns returns-2)

@@ -7,11 +7,6 @@ use Rattle.claimtext.proofs.PublishedLaws.{row-line-long, row-line-most
 use Rattle.claimtext.proofs.published.row_length.Statement.{statement}
 use Rattle.claimtext.proofs.published.row_length.Tie as tie
 
-line-length-requires : tie.Need-line-length-requires
-line-length-requires c κs =
-    let s = c .before .before in
-    simp (toZ-ofZ, s .fits .ram) (refl, omega (arith, row-line-most (s .args .row) (s .args .ram) (s .fits .row .fits) (s .fits .ram .sfits)))
-
 returns : tie.Need-returns
 returns c =
     let s = c .before .before .before in
@@ -19,10 +14,6 @@ returns c =
     (said ∙ sym (row-line-long (s .args .row) (s .args .ram)), omega (arith, said, row-line-most (s .args .row) (s .args .ram) (s .fits .row .fits) (s .fits .ram .sfits)))
 
 pub row-length-spec : {M : Type 1} → statement M
-row-length-spec =
-    tie.close
-    (tie.spec
-    (λ c. search needs)
-    (λ c. search needs)
-    line-length-requires
+row-length-spec = tie.close (tie.spec (λ c. search needs) (λ c. search needs)
+    (λ c κs. let s = c .before .before in simp (toZ-ofZ, s .fits .ram) (refl, omega (arith, row-line-most (s .args .row) (s .args .ram) (s .fits .row .fits) (s .fits .ram .sfits))))
     returns)

@@ -5,11 +5,7 @@ use Rattle.text.proofs.LeftLaws.{text-short, text-written}
 use Rattle.claimtext.proofs.published.write_rows.Statement.{statement}
 use Rattle.claimtext.proofs.published.write_rows.Tie as tie
 
-returns : tie.Need-returns
-returns c = rw (c .too-short .ensures) (text-short _ _ _ (c .before .before .text-length .ensures) (omega arith))
-
-returns-2 : tie.Need-returns-2
-returns-2 c = text-written _ _ (omega (arith, c .before .before .before .before .before .text-length .ensures)) (c .before .before .put-rows .ensures)
-
 pub write-rows-spec : {M : Type 1} → statement M
-write-rows-spec = tie.close (tie.spec (λ c κs. search needs) (λ c κs. search needs) returns (λ c κs. search needs) (λ c. search needs) returns-2)
+write-rows-spec = tie.close (tie.spec (λ c κs. search needs) (λ c κs. search needs)
+    (λ c. rw (c .too-short .ensures) (text-short _ _ _ (c .before .before .text-length .ensures) (omega arith))) (λ c κs. search needs) (λ c. search needs)
+    (λ c. text-written _ _ (omega (arith, c .before .before .before .before .before .text-length .ensures)) (c .before .before .put-rows .ensures)))

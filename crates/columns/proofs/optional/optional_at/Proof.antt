@@ -4,7 +4,7 @@ use mathlib.Core.List.{List}
 use native.Mathlib.Omega.{arith}
 use lib.ListN.{length, take, drop, length-drop}
 use lib.Seq.{length-take-le}
-use Rattle.kinds.specs.LineColumns.{Column, columnsOf}
+use Rattle.types.specs.LineColumns.{Column, columnsOf}
 use Rattle.columns.specs.declared.Fields.{Fields}
 use Rattle.columns.specs.Columns.{stored}
 use Rattle.columns.specs.ColumnLine.{columnsLine}
@@ -14,14 +14,8 @@ use borrow.Author.Needs.{needs}
 use Rattle.columns.proofs.optional.optional_at.Statement.{statement}
 use Rattle.columns.proofs.optional.optional_at.Tie as tie
 
-slice-aggregate-line-at : tie.Need-slice-aggregate-line-at
-slice-aggregate-line-at c = let s = c .before .before .before in sym (length-take-le _ _ (omega (arith, s .pre .0)))
-
 abbrev entry : tie.After-line-at-arg2 → tie.Start
 entry c = c .before .before .before .before
-
-slice-aggregate-line-at-2 : tie.Need-slice-aggregate-line-at-2
-slice-aggregate-line-at-2 c = let s = entry c in sym (length-take-le _ _ (omega (arith, s .pre .0, s .pre .1)))
 
 line-at-requires : tie.Need-line-at-requires
 line-at-requires c κs =
@@ -53,18 +47,6 @@ returns-2 c =
     (c .before .line-at2 .ensures ∙ ap (λ (l : List Column). columnsLine (a .sep) (a .head) l (a .line .now)) (sym (columns-split (a .n) (a .columns .now))))
 
 pub optional-at-spec : {M : Type 1} → statement M
-optional-at-spec =
-    tie.close
-    (tie.spec
-    slice-aggregate-line-at
-    (λ c. search needs)
-    slice-aggregate-line-at-2
-    line-at-requires
-    (λ c. search needs)
-    (λ c κs. search needs)
-    (λ c. search needs)
-    (λ c κs. search needs)
-    (λ c. search needs)
-    returns
-    (λ c. search needs)
-    returns-2)
+optional-at-spec = tie.close (tie.spec (λ c. let s = c .before .before .before in sym (length-take-le _ _ (omega (arith, s .pre .0)))) (λ c. search needs)
+    (λ c. let s = entry c in sym (length-take-le _ _ (omega (arith, s .pre .0, s .pre .1)))) line-at-requires (λ c. search needs) (λ c κs. search needs)
+    (λ c. search needs) (λ c κs. search needs) (λ c. search needs) returns (λ c. search needs) returns-2)

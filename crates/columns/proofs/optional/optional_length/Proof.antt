@@ -38,5 +38,4 @@ returns c =
     c .line-length .ensures ∙ length-by (a .columns .now) (a .n) (a .values .now) (s .pre .0) (s .pre .1) (m .written .result) (m .written .ensures) (a .head)
 
 pub optional-length-spec : {M : Type 1} → statement M
-optional-length-spec =
-    tie.close (tie.spec (λ c κs. search needs) slice-aggregate-line-length slice-aggregate-line-length-2 line-length-requires returns)
+optional-length-spec = tie.close (tie.spec (λ c κs. search needs) slice-aggregate-line-length slice-aggregate-line-length-2 line-length-requires returns)

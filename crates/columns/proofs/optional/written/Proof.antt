@@ -4,11 +4,6 @@ use Rattle.numbers.proofs.IntLaws.{plain}
 use Rattle.columns.proofs.optional.written.Statement.{statement}
 use Rattle.columns.proofs.optional.written.Tie as tie
 
-returns : tie.Need-returns
-returns c = rw (rw (plain _ (c .before .if12 .given)) at (c .if1 .taken))
-
-returns-2 : tie.Need-returns-2
-returns-2 c = rw (rw (plain _ (c .before .if12 .given)) at (c .if1 .left))
-
 pub written-spec : {M : Type 1} → statement M
-written-spec = tie.close (tie.spec (λ c. search needs) (λ c. search needs) returns returns-2)
+written-spec = tie.close (tie.spec (λ c. search needs) (λ c. search needs) (λ c. rw (rw (plain _ (c .before .if12 .given)) at (c .if1 .taken)))
+    (λ c. rw (rw (plain _ (c .before .if12 .given)) at (c .if1 .left))))

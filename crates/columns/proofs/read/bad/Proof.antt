@@ -5,11 +5,6 @@ use Rattle.columns.specs.Columns.{badOf}
 use Rattle.columns.proofs.read.bad.Statement.{statement}
 use Rattle.columns.proofs.read.bad.Tie as tie
 
-returns : tie.Need-returns
-returns c = ap badOf (sym (c .before .found .given .1))
-
-returns-2 : tie.Need-returns-2
-returns-2 c = ap badOf (sym (c .before .found2 .given .1))
-
 pub bad-spec : {M : Type 1} → statement M
-bad-spec = tie.close (tie.spec (λ c. search needs) (λ c. search needs) returns returns-2)
+bad-spec = tie.close (tie.spec (λ c. search needs) (λ c. search needs) (λ c. ap badOf (sym (c .before .found .given .1)))
+    (λ c. ap badOf (sym (c .before .found2 .given .1))))

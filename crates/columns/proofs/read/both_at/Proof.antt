@@ -1,7 +1,7 @@
 -- `columns::read::both_at` meets its contract.
 use mathlib.Core.Path.{sym, ap, _∙_}
 use Rattle.columns.specs.declared.Fields.{Fields}
-use Rattle.kinds.specs.LineColumns.{columnsOf}
+use Rattle.types.specs.LineColumns.{columnsOf}
 use Rattle.columns.specs.Columns.{stored}
 use Rattle.columns.proofs.ColumnLaws.{part-bad, part-more}
 use borrow.Author.Needs.{needs}
@@ -26,15 +26,5 @@ returns-2 c =
     (ap (λ (f : Fields). stored f (m .fields-at .last .1 .1 .1 .1 .1 .0)) (sym (c .before .place .given .1)) ∙ m .fields-at .ensures)
 
 pub both-at-spec : {M : Type 1} → statement M
-both-at-spec =
-    tie.close
-    (tie.spec
-    (λ c κs. search needs)
-    (λ c. search needs)
-    (λ c κs. search needs)
-    (λ c. search needs)
-    (λ c. search needs)
-    (λ c. search needs)
-    returns
-    (λ c. search needs)
-    returns-2)
+both-at-spec = tie.close (tie.spec (λ c κs. search needs) (λ c. search needs) (λ c κs. search needs) (λ c. search needs) (λ c. search needs) (λ c. search needs)
+    returns (λ c. search needs) returns-2)

@@ -11,12 +11,6 @@ use Rattle.columns.specs.Columns.{fieldAt}
 use Rattle.columns.proofs.read.field_at.Statement.{statement}
 use Rattle.columns.proofs.read.field_at.Tie as tie
 
-plus-requires : tie.Need-plus-requires
-plus-requires c κs = rw (c .point-at .ensures) (point-lt false 3 _ _ _ (lit< tt))
-
-plus-requires-2 : tie.Need-plus-requires-2
-plus-requires-2 c κs = rw (c .number-at .ensures) (value-lt _ _ _)
-
 returns : tie.Need-returns
 unfolding fieldAt
 returns c = rw (c .before .match .keys1) (c .share-at .ensures)
@@ -46,20 +40,6 @@ returns-6 c =
     (c .plus2 .ensures ∙ ap positive (c .before .number-at .ensures))
 
 pub field-at-spec : {M : Type 1} → statement M
-field-at-spec =
-    tie.close
-    (tie.spec
-    (λ c κs. search needs)
-    (λ c κs. search needs)
-    (λ c κs. lit< tt)
-    plus-requires
-    (λ c κs. lit< tt)
-    (λ c κs. lit< tt)
-    (λ c κs. search needs)
-    plus-requires-2
-    returns
-    returns-2
-    returns-3
-    returns-4
-    returns-5
-    returns-6)
+field-at-spec = tie.close (tie.spec (λ c κs. search needs) (λ c κs. search needs) (λ c κs. lit< tt)
+    (λ c κs. rw (c .point-at .ensures) (point-lt false 3 _ _ _ (lit< tt))) (λ c κs. lit< tt) (λ c κs. lit< tt) (λ c κs. search needs)
+    (λ c κs. rw (c .number-at .ensures) (value-lt _ _ _)) returns returns-2 returns-3 returns-4 returns-5 returns-6)

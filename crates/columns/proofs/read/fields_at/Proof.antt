@@ -18,35 +18,17 @@ Inv-loop columns sep last line at out₀ n p₀ k₀ out p k = FieldsFilled colu
 abbrev μ-loop : tie.MeasureT-loop
 μ-loop columns sep last line at out₀ n p₀ k₀ out p k = n - k
 
-loop-holds : tie.Need-loop-holds Inv-loop μ-loop
-loop-holds c =
-    let a = c .before .before .args in
-    fields-filled-none (a .columns .now) (a .sep) (a .last) (a .line .now) (a .at) (a .out .now) (c .before .before .pre)
-
 abbrev entry : tie.After-field-at Inv-loop μ-loop → tie.Start Inv-loop μ-loop
 entry c = c .before .before .before .before .before .before .before
 
 abbrev at-loop : tie.After-known-told Inv-loop μ-loop → tie.At-loop Inv-loop μ-loop
 at-loop c = c .before .before .before .before .before .before .before
 
-same-length : tie.Need-same-length Inv-loop μ-loop
-same-length c = sym (c .before .before .before .before .before .before .before .loop .inv .as-long) ∙ entry (c .before .before .before) .pre
-
 returns : tie.Need-returns Inv-loop μ-loop
 returns c =
     let a = entry (c .before .before .before) .args in
     let l = c .before .before .before .before .before .before .before .loop in
     ap (λ (f : Fields). stored f (l .out)) (c .bad .ensures ∙ ap badOf (c .before .enum-told .given .1)) ∙ fields-filled-bad (a .columns .now) (a .sep) (a .last) (a .line .now) (a .at) (l .out) (l .p) (l .k) (l .inv) (c .before .before .before .before .before .before .loop-test .taken) _ (ap (fieldAt _ (a .line .now) (l .p)) (sym (c .before .before .before .before .stop-of .ensures)) ∙ sym (c .before .before .before .field-at .ensures) ∙ c .before .enum-told .given .1)
-
-mul-z : tie.Need-mul-z Inv-loop μ-loop
-mul-z c =
-    let l = at-loop c .loop in
-    omega (arith, l .inv, l .inv .as-long, entry (c .before .before .before) .good)
-
-slice-set-from-z : tie.Need-slice-set-from-z Inv-loop μ-loop
-slice-set-from-z c =
-    let l = at-loop c .loop in
-    omega (arith, l .inv, l .inv .as-long)
 
 loop-again : tie.Need-loop-again Inv-loop μ-loop
 loop-again c =
@@ -56,9 +38,6 @@ loop-again c =
     let e : toZ w64 (ofZ w64 z) ≡ z = search needs in
     rw e (fields-filled-more (a .columns .now) (a .sep) (a .last) (a .line .now) (a .at) (l .out) (l .p) (l .k) (l .inv) (c .before .before .before .before .before .before .loop-test .taken) z (c .before .found .given .0 .1 .0) (ap (fieldAt _ (a .line .now) (l .p)) (sym (c .before .before .before .before .stop-of .ensures)) ∙ sym (c .before .before .before .field-at .ensures) ∙ c .before .found .given .1))
 
-same-length-2 : tie.Need-same-length-2 Inv-loop μ-loop
-same-length-2 c = sym (c .before .loop .inv .as-long) ∙ c .before .before .before .before .pre
-
 returns-2 : tie.Need-returns-2 Inv-loop μ-loop
 returns-2 c =
     let a = c .before .before .before .before .args in
@@ -66,25 +45,10 @@ returns-2 c =
     fields-filled-all (a .columns .now) (a .sep) (a .last) (a .line .now) (a .at) (l .out) (l .p) (l .k) (l .inv) (c .loop-test .left)
 
 pub fields-at-spec : {M : Type 1} → statement M
-fields-at-spec =
-    tie.close
-    (tie.spec
-    Inv-loop
-    μ-loop
-    loop-holds
-    (λ c. search needs)
-    (λ c. search needs)
-    (λ c κs. search needs)
-    (λ c κs. search needs)
-    (λ c. search needs)
-    (λ c. search needs)
-    (λ c κs. search needs)
-    same-length
-    returns
-    mul-z
-    slice-set-from-z
-    (λ c. search needs)
-    (λ c. search needs)
-    loop-again
-    same-length-2
-    returns-2)
+fields-at-spec = tie.close (tie.spec Inv-loop μ-loop
+    (λ c. let a = c .before .before .args in fields-filled-none (a .columns .now) (a .sep) (a .last) (a .line .now) (a .at) (a .out .now) (c .before .before .pre))
+    (λ c. search needs) (λ c. search needs) (λ c κs. search needs) (λ c κs. search needs) (λ c. search needs) (λ c. search needs) (λ c κs. search needs)
+    (λ c. sym (c .before .before .before .before .before .before .before .loop .inv .as-long) ∙ entry (c .before .before .before) .pre) returns
+    (λ c. let l = at-loop c .loop in omega (arith, l .inv, l .inv .as-long, entry (c .before .before .before) .good))
+    (λ c. let l = at-loop c .loop in omega (arith, l .inv, l .inv .as-long)) (λ c. search needs) (λ c. search needs) loop-again
+    (λ c. sym (c .before .loop .inv .as-long) ∙ c .before .before .before .before .pre) returns-2)

@@ -8,24 +8,9 @@ use Rattle.columns.proofs.ColumnLaws.{head-bad, head-goes}
 use Rattle.columns.proofs.read.head_at.Statement.{statement}
 use Rattle.columns.proofs.read.head_at.Tie as tie
 
--- by the head, as the match tells it
+-- the definition by the head that the match found
 told : (s : tie.Start) (h : Head) → s .args .head ≡ h → headAt (s .args .sep) h (s .args .line .now) ≡ headAt (s .args .sep) (s .args .head) (s .args .line .now)
 told s h e = ap (λ (x : Head). headAt (s .args .sep) x (s .args .line .now)) (sym e)
-
-returns : tie.Need-returns
-returns c =
-    let m = c .before .before .before in
-    head-bad _ _ _ (sym (c .before .headed .ensures) ∙ not-true _ (c .if1 .taken)) ∙ told (m .before .before .before) _ (m .head .given .1)
-
-returns-2 : tie.Need-returns-2
-returns-2 c =
-    let m = c .before .before .before in
-    head-bad _ _ _ (sym (c .before .headed2 .ensures) ∙ not-true _ (c .if2 .taken)) ∙ told (m .before .before .before) _ (m .head2 .given .1)
-
-returns-3 : tie.Need-returns-3
-returns-3 c =
-    let m = c .before .before .before in
-    head-goes _ _ _ (sym (c .before .headed .ensures) ∙ not-false _ (c .if1 .left)) ∙ told (m .before .before .before) _ (m .head .given .1)
 
 returns-4 : tie.Need-returns-4
 returns-4 c =
@@ -33,24 +18,11 @@ returns-4 c =
     let m = t .before .before .before in
     c .index-at .ensures ∙ head-goes _ _ _ (sym (t .before .headed2 .ensures) ∙ not-false _ (t .if2 .left)) ∙ told (m .before .before .before) _ (m .head2 .given .1)
 
-returns-5 : tie.Need-returns-5
-returns-5 c =
-    let m = c .before .before in
-    c .index-at2 .ensures ∙ head-goes _ _ _ refl ∙ told (m .before .before .before) _ (m .head3 .given .1)
-
 pub head-at-spec : {M : Type 1} → statement M
-head-at-spec =
-    tie.close
-    (tie.spec
-    (λ c. search needs)
-    (λ c κs. search needs)
-    returns
-    (λ c. search needs)
-    (λ c κs. search needs)
-    returns-2
-    (λ c κs. search needs)
-    (λ c. search needs)
-    (λ c κs. search needs)
-    returns-3
-    returns-4
-    returns-5)
+head-at-spec = tie.close (tie.spec (λ c. search needs) (λ c κs. search needs)
+    (λ c. let m = c .before .before .before in head-bad _ _ _ (sym (c .before .headed .ensures) ∙ not-true _ (c .if1 .taken)) ∙ told (m .before .before .before) _ (m .head .given .1))
+    (λ c. search needs) (λ c κs. search needs)
+    (λ c. let m = c .before .before .before in head-bad _ _ _ (sym (c .before .headed2 .ensures) ∙ not-true _ (c .if2 .taken)) ∙ told (m .before .before .before) _ (m .head2 .given .1))
+    (λ c κs. search needs) (λ c. search needs) (λ c κs. search needs)
+    (λ c. let m = c .before .before .before in head-goes _ _ _ (sym (c .before .headed .ensures) ∙ not-false _ (c .if1 .left)) ∙ told (m .before .before .before) _ (m .head .given .1))
+    returns-4 (λ c. let m = c .before .before in c .index-at2 .ensures ∙ head-goes _ _ _ refl ∙ told (m .before .before .before) _ (m .head3 .given .1)))

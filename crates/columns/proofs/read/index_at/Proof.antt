@@ -6,14 +6,8 @@ use Rattle.columns.proofs.ColumnLaws.{index-own, index-other}
 use Rattle.columns.proofs.read.index_at.Statement.{statement}
 use Rattle.columns.proofs.read.index_at.Tie as tie
 
-returns : tie.Need-returns
-returns c = c .enum-told .given .1 ∙ ap (ownIndex _ _) (sym (c .enum-told .given .1) ∙ c .before .before .number-at .ensures)
-
-returns-2 : tie.Need-returns-2
-returns-2 c = index-own _ _ _ _ (c .if1 .taken) ∙ ap (ownIndex _ _) (sym (c .before .before .found .given .1) ∙ c .before .before .before .before .number-at .ensures)
-
-returns-3 : tie.Need-returns-3
-returns-3 c = index-other _ _ _ _ (c .if1 .left) ∙ ap (ownIndex _ _) (sym (c .before .before .found .given .1) ∙ c .before .before .before .before .number-at .ensures)
-
 pub index-at-spec : {M : Type 1} → statement M
-index-at-spec = tie.close (tie.spec (λ c κs. search needs) (λ c. search needs) (λ c. search needs) returns returns-2 returns-3)
+index-at-spec = tie.close (tie.spec (λ c κs. search needs) (λ c. search needs) (λ c. search needs)
+    (λ c. c .enum-told .given .1 ∙ ap (ownIndex _ _) (sym (c .enum-told .given .1) ∙ c .before .before .number-at .ensures))
+    (λ c. index-own _ _ _ _ (c .if1 .taken) ∙ ap (ownIndex _ _) (sym (c .before .before .found .given .1) ∙ c .before .before .before .before .number-at .ensures))
+    (λ c. index-other _ _ _ _ (c .if1 .left) ∙ ap (ownIndex _ _) (sym (c .before .before .found .given .1) ∙ c .before .before .before .before .number-at .ensures)))

@@ -10,25 +10,10 @@ use Rattle.columns.proofs.read.rest_at.Tie as tie
 abbrev at-fields-at : tie.After-known-told → tie.After-fields-at
 at-fields-at c = c .before .before .before .before
 
-returns : tie.Need-returns
-returns c = rest-more _ _ _ _ (at-fields-at (c .before) .fields-at .last .1 .1 .1 .1 .1 .0) _ (ap (λ (f : Fields). stored f (at-fields-at (c .before) .fields-at .last .1 .1 .1 .1 .1 .0)) (sym (c .before .before .next .given .1)) ∙ at-fields-at (c .before) .fields-at .ensures) (c .if1 .taken)
-
-returns-2 : tie.Need-returns-2
-returns-2 c = rest-end _ _ _ _ (at-fields-at (c .before) .fields-at .last .1 .1 .1 .1 .1 .0) _ (ap (λ (f : Fields). stored f (at-fields-at (c .before) .fields-at .last .1 .1 .1 .1 .1 .0)) (sym (c .before .before .next .given .1)) ∙ at-fields-at (c .before) .fields-at .ensures) (c .if1 .left)
-
-returns-3 : tie.Need-returns-3
-returns-3 c = rest-bad _ _ _ _ _ (ap (λ (f : Fields). stored f (c .before .before .before .before .fields-at .last .1 .1 .1 .1 .1 .0)) (sym (c .before .place .given .1)) ∙ c .before .before .before .before .fields-at .ensures)
-
 pub rest-at-spec : {M : Type 1} → statement M
-rest-at-spec =
-    tie.close
-    (tie.spec
-    (λ c κs. search needs)
+rest-at-spec = tie.close (tie.spec (λ c κs. search needs) (λ c. search needs) (λ c. search needs)
+    (λ c. rest-more _ _ _ _ (at-fields-at (c .before) .fields-at .last .1 .1 .1 .1 .1 .0) _ (ap (λ (f : Fields). stored f (at-fields-at (c .before) .fields-at .last .1 .1 .1 .1 .1 .0)) (sym (c .before .before .next .given .1)) ∙ at-fields-at (c .before) .fields-at .ensures) (c .if1 .taken))
+    (λ c. search needs) (λ c. search needs)
+    (λ c. rest-end _ _ _ _ (at-fields-at (c .before) .fields-at .last .1 .1 .1 .1 .1 .0) _ (ap (λ (f : Fields). stored f (at-fields-at (c .before) .fields-at .last .1 .1 .1 .1 .1 .0)) (sym (c .before .before .next .given .1)) ∙ at-fields-at (c .before) .fields-at .ensures) (c .if1 .left))
     (λ c. search needs)
-    (λ c. search needs)
-    returns
-    (λ c. search needs)
-    (λ c. search needs)
-    returns-2
-    (λ c. search needs)
-    returns-3)
+    (λ c. rest-bad _ _ _ _ _ (ap (λ (f : Fields). stored f (c .before .before .before .before .fields-at .last .1 .1 .1 .1 .1 .0)) (sym (c .before .place .given .1)) ∙ c .before .before .before .before .fields-at .ensures)))

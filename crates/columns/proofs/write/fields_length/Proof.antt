@@ -5,7 +5,7 @@ use native.Mathlib.Omega.{arith}
 use borrow.Author.Needs.{needs}
 use lib.ListN.{length}
 use Rattle.numbers.proofs.IntLaws.{plain}
-use Rattle.kinds.specs.Limits.{bytesMost}
+use Rattle.limits.specs.Limits.{bytesMost}
 use Rattle.columns.proofs.ColumnPut.{textAt, Counting, counting-none, counting-within, counting-more, counting-all}
 use Rattle.columns.proofs.write.fields_length.Statement.{statement}
 use Rattle.columns.proofs.write.fields_length.Tie as tie
@@ -31,34 +31,14 @@ within c =
     let l = at-loop c .loop in
     omega (arith, counting-within (s .args .columns .now) (s .args .values .now) (l .inv) (s .pre .0) (c .before .before .before .loop-test .taken) _ (counted c), s .pre .1)
 
-loop-holds : tie.Need-loop-holds Inv-loop μ-loop
-loop-holds c = counting-none _ _
-
-shared-slice-read-field-length : tie.Need-shared-slice-read-field-length Inv-loop μ-loop
-shared-slice-read-field-length c = omega (arith, c .before .before .loop .inv)
-
-mul-field-length : tie.Need-mul-field-length Inv-loop μ-loop
-mul-field-length c = let s = entry c in omega (arith, s .pre .0)
-
-shared-slice-copy-out-field-length : tie.Need-shared-slice-copy-out-field-length Inv-loop μ-loop
-shared-slice-copy-out-field-length c = let s = entry c in omega (arith, s .pre .0)
-
-add-sum : tie.Need-add-sum Inv-loop μ-loop
-add-sum c = omega (arith, within c)
-
-add-sum-2 : tie.Need-add-sum-2 Inv-loop μ-loop
-add-sum-2 c = omega (arith, within c)
-
 loop-again : tie.Need-loop-again Inv-loop μ-loop
 loop-again c =
     let s = entry (c .before .before) in
     let l = at-loop c .loop in
     counting-more (s .args .columns .now) (s .args .values .now) (l .inv) (s .pre .0) (c .before .before .before .loop-test .taken) _ (counted c)
 
-returns : tie.Need-returns Inv-loop μ-loop
-returns c =
-    let s = c .before .before .before in
-    counting-all (s .args .columns .now) (s .args .values .now) (c .before .loop .inv) (omega arith)
-
 pub fields-length-spec : {M : Type 1} → statement M
-fields-length-spec = tie.close (tie.spec Inv-loop μ-loop loop-holds shared-slice-read-field-length mul-field-length shared-slice-copy-out-field-length (λ c κs. search needs) add-sum add-sum-2 (λ c. omega arith) (λ c. omega arith) loop-again returns)
+fields-length-spec = tie.close (tie.spec Inv-loop μ-loop (λ c. counting-none _ _) (λ c. omega (arith, c .before .before .loop .inv))
+    (λ c. let s = entry c in omega (arith, s .pre .0)) (λ c. let s = entry c in omega (arith, s .pre .0)) (λ c κs. search needs) (λ c. omega (arith, within c))
+    (λ c. omega (arith, within c)) (λ c. omega arith) (λ c. omega arith) loop-again
+    (λ c. let s = c .before .before .before in counting-all (s .args .columns .now) (s .args .values .now) (c .before .loop .inv) (omega arith)))

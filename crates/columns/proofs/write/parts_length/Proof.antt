@@ -3,7 +3,7 @@ use mathlib.Core.Path.{_≡_, sym, _∙_}
 use mathlib.Core.List.{_++_}
 use Prim.Native.Nat.{_+_}
 use native.Mathlib.Omega.{arith}
-use Rattle.kinds.specs.LineColumns.{columnsOf}
+use Rattle.types.specs.LineColumns.{columnsOf}
 use Rattle.columns.specs.ColumnText.{fieldsLength}
 use Rattle.columns.proofs.ColumnPut.{columns-long, length-parts}
 use Rattle.columns.proofs.write.parts_length.Statement.{statement}
@@ -13,20 +13,11 @@ parts : (s : tie.Start) → let a = s .args in
     fieldsLength (columnsOf (a .first .now) ++ columnsOf (a .second .now)) (a .values .now ++ a .more .now) ≡ fieldsLength (columnsOf (a .first .now)) (a .values .now) + fieldsLength (columnsOf (a .second .now)) (a .more .now)
 parts s = let a = s .args in length-parts (columnsOf (a .first .now)) (columnsOf (a .second .now)) (a .values .now) (a .more .now) (sym (columns-long (a .first .now) ∙ s .pre .0))
 
-line-length-requires : tie.Need-line-length-requires
-line-length-requires c κs = let s = c .before .before in (s .pre .0, omega (arith, s .pre .2, parts s))
-
-fields-length-requires : tie.Need-fields-length-requires
-fields-length-requires c κs = let s = c .before .before .before in (s .pre .1, omega (arith, s .pre .2, parts s))
-
 abbrev entry : tie.After-fields-length → tie.Start
 entry c = c .before .before .before .before
 
-add-result : tie.Need-add-result
-add-result c = let s = entry c in omega (arith, s .pre .2, parts s, c .before .line-length .ensures, c .fields-length .ensures)
-
-returns : tie.Need-returns
-returns c = let s = entry c in omega (arith, parts s, c .before .line-length .ensures, c .fields-length .ensures)
-
 pub parts-length-spec : {M : Type 1} → statement M
-parts-length-spec = tie.close (tie.spec line-length-requires fields-length-requires add-result returns)
+parts-length-spec = tie.close (tie.spec (λ c κs. let s = c .before .before in (s .pre .0, omega (arith, s .pre .2, parts s)))
+    (λ c κs. let s = c .before .before .before in (s .pre .1, omega (arith, s .pre .2, parts s)))
+    (λ c. let s = entry c in omega (arith, s .pre .2, parts s, c .before .line-length .ensures, c .fields-length .ensures))
+    (λ c. let s = entry c in omega (arith, parts s, c .before .line-length .ensures, c .fields-length .ensures)))

@@ -5,15 +5,10 @@ use borrow.Author.Needs.{needs}
 use lib.ListN.{length-append}
 use mir.Facts.{toZ-ofZ}
 use Rattle.text.proofs.PutLaws.{put-more, put-room}
-use Rattle.kinds.specs.LineColumns.{columnOf}
+use Rattle.types.specs.LineColumns.{columnOf}
 use Rattle.columns.specs.ColumnText.{fieldText}
 use Rattle.columns.proofs.write.put_field.Statement.{statement}
 use Rattle.columns.proofs.write.put_field.Tie as tie
-
-put-value-requires : tie.Need-put-value-requires
-put-value-requires c κs =
-    let s = c .before .before in
-    simp (toZ-ofZ, s .fits .z) (omega (arith, s .pre, length-append (fieldText (columnOf (s .args .column)) (s .args .z)) (s .args .stop ∷ [])))
 
 put-byte-requires : tie.Need-put-byte-requires
 put-byte-requires c κs =
@@ -27,4 +22,6 @@ returns c =
     put-more (simp (toZ-ofZ, s .fits .z) at (m .put-value .ensures)) (omega (arith, s .pre)) (c .before .before .put-byte .ensures)
 
 pub put-field-spec : {M : Type 1} → statement M
-put-field-spec = tie.close (tie.spec put-value-requires put-byte-requires (λ c. search needs) returns)
+put-field-spec = tie.close (tie.spec
+    (λ c κs. let s = c .before .before in simp (toZ-ofZ, s .fits .z) (omega (arith, s .pre, length-append (fieldText (columnOf (s .args .column)) (s .args .z)) (s .args .stop ∷ []))))
+    put-byte-requires (λ c. search needs) returns)

@@ -5,7 +5,7 @@ use borrow.Author.Needs.{needs}
 use Rattle.numbers.proofs.IntLaws.{plain}
 use Rattle.text.specs.Put.{Put}
 use Rattle.text.proofs.PutLaws.{put-kept}
-use Rattle.kinds.specs.LineColumns.{columnsOf}
+use Rattle.types.specs.LineColumns.{columnsOf}
 use Rattle.columns.specs.ColumnText.{fieldsEnded}
 use Rattle.columns.proofs.ColumnPut.{Writing, writing-none, writing-room, writing-more, writing-all}
 use Rattle.columns.proofs.write.put_fields.Statement.{statement}
@@ -29,17 +29,6 @@ all c =
     let a = entry (c .before) .args in
     writing-all (a .columns .now) (a .values .now) (a .sep) (a .last) (a .at) (a .out .now) _ _ _ (c .before .loop .inv) (omega arith)
 
-loop-holds : tie.Need-loop-holds Inv-loop μ-loop
-loop-holds c = writing-none _ _ _ _ _ _
-
-mul-put-field : tie.Need-mul-put-field Inv-loop μ-loop
-mul-put-field c = let s = entry (c .before .before) in omega (arith, s .pre .0)
-
-shared-slice-copy-out-put-field : tie.Need-shared-slice-copy-out-put-field Inv-loop μ-loop
-shared-slice-copy-out-put-field c =
-    let s = entry (c .before .before) in
-    omega (arith, s .pre .0)
-
 put-field-requires : tie.Need-put-field-requires Inv-loop μ-loop
 put-field-requires c κs =
     let s = entry (at-loop c) in
@@ -54,11 +43,7 @@ loop-again c =
     let a = s .args in
     writing-more (a .columns .now) (a .values .now) (a .sep) (a .last) (a .at) (a .out .now) (l .out) (l .next) (l .k) (l .inv) (s .pre .0) (c .before .before .before .before .before .before .before .loop-test .taken) (s .pre .1) _ (c .before .before .before .before .stop-of .ensures) (simp (plain, c .before .before .before .before .before .put-field-arg .given) at (c .before .before .put-field .ensures))
 
-same-length : tie.Need-same-length Inv-loop μ-loop
-same-length c = put-kept (all c) (entry (c .before) .pre .1)
-
-returns : tie.Need-returns Inv-loop μ-loop
-returns c = all c
-
 pub put-fields-spec : {M : Type 1} → statement M
-put-fields-spec = tie.close (tie.spec Inv-loop μ-loop loop-holds (λ c. omega arith) mul-put-field shared-slice-copy-out-put-field (λ c. omega arith) (λ c κs. search needs) put-field-requires (λ c. omega arith) (λ c. omega arith) loop-again same-length returns)
+put-fields-spec = tie.close (tie.spec Inv-loop μ-loop (λ c. writing-none _ _ _ _ _ _) (λ c. omega arith)
+    (λ c. let s = entry (c .before .before) in omega (arith, s .pre .0)) (λ c. let s = entry (c .before .before) in omega (arith, s .pre .0)) (λ c. omega arith)
+    (λ c κs. search needs) put-field-requires (λ c. omega arith) (λ c. omega arith) loop-again (λ c. put-kept (all c) (entry (c .before) .pre .1)) (λ c. all c))

@@ -12,7 +12,7 @@ use Rattle.columns.specs.ColumnText.{indexText, headText}
 use Rattle.columns.proofs.write.put_head.Statement.{statement}
 use Rattle.columns.proofs.write.put_head.Tie as tie
 
--- by the head, as the match tells it
+-- the definition by the head that the match found
 room : (s : tie.Start) (h : Head) → s .args .head ≡ h → s .args .at + length (headText (s .args .sep) h) ≤ length (s .args .out .now)
 room s h e = subst (λ (x : Head). s .args .at + length (headText (s .args .sep) x) ≤ length (s .args .out .now)) e (s .pre)
 
@@ -59,19 +59,5 @@ returns-3 c =
     told (m .before .before .before) _ (m .head3 .given .1) _ _ (c .before .before .put-index2 .ensures)
 
 pub put-head-spec : {M : Type 1} → statement M
-put-head-spec =
-    tie.close
-    (tie.spec
-    (λ c. search needs)
-    put-letter-requires
-    (λ c. search needs)
-    put-letter-requires-2
-    put-index-requires
-    (λ c. search needs)
-    put-index-requires-2
-    (λ c. search needs)
-    returns
-    (λ c. search needs)
-    returns-2
-    (λ c. search needs)
-    returns-3)
+put-head-spec = tie.close (tie.spec (λ c. search needs) put-letter-requires (λ c. search needs) put-letter-requires-2 put-index-requires (λ c. search needs)
+    put-index-requires-2 (λ c. search needs) returns (λ c. search needs) returns-2 (λ c. search needs) returns-3)

@@ -7,11 +7,6 @@ use Rattle.columns.proofs.ColumnPut.{index-long}
 use Rattle.columns.proofs.write.put_index.Statement.{statement}
 use Rattle.columns.proofs.write.put_index.Tie as tie
 
-put-number-requires : tie.Need-put-number-requires
-put-number-requires c κs =
-    let s = c .before .before in
-    omega (arith, s .pre, index-long (s .args .sep) (s .args .i))
-
 put-byte-requires : tie.Need-put-byte-requires
 put-byte-requires c κs =
     let m = c .before .before .before in
@@ -27,4 +22,5 @@ returns c =
     put-more (m .put-number .ensures) (omega (arith, s .pre)) (n .put-byte .ensures)
 
 pub put-index-spec : {M : Type 1} → statement M
-put-index-spec = tie.close (tie.spec put-number-requires put-byte-requires (λ c. search needs) returns)
+put-index-spec = tie.close (tie.spec (λ c κs. let s = c .before .before in omega (arith, s .pre, index-long (s .args .sep) (s .args .i))) put-byte-requires
+    (λ c. search needs) returns)

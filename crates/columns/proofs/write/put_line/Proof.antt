@@ -4,7 +4,7 @@ use borrow.Author.Needs.{needs}
 use lib.ListN.{length}
 use Rattle.text.specs.Fields.{feed}
 use Rattle.text.proofs.PutLaws.{put-more, put-room}
-use Rattle.kinds.specs.LineColumns.{columnsOf}
+use Rattle.types.specs.LineColumns.{columnsOf}
 use Rattle.columns.specs.ColumnText.{fieldsEnded, columnsText}
 use Rattle.columns.proofs.ColumnPut.{line-sum}
 use Rattle.columns.proofs.write.put_line.Statement.{statement}
@@ -12,12 +12,6 @@ use Rattle.columns.proofs.write.put_line.Tie as tie
 
 abbrev entry : tie.After-put-head-arg → tie.Start
 entry c = c .before .before .before
-
-put-head-requires : tie.Need-put-head-requires
-put-head-requires c κs =
-    let s = entry c in
-    let a = s .args in
-    omega (arith, s .pre .1, line-sum (a .sep) (a .head) (columnsOf (a .columns .now)) (a .values .now))
 
 put-fields-requires : tie.Need-put-fields-requires
 put-fields-requires c κs =
@@ -34,4 +28,6 @@ returns c =
     put-more (m .put-head .ensures) (omega (arith, s .pre .1)) (c .before .before .put-fields .ensures)
 
 pub put-line-spec : {M : Type 1} → statement M
-put-line-spec = tie.close (tie.spec put-head-requires put-fields-requires (λ c. search needs) returns)
+put-line-spec = tie.close (tie.spec
+    (λ c κs. let s = entry c in let a = s .args in omega (arith, s .pre .1, line-sum (a .sep) (a .head) (columnsOf (a .columns .now)) (a .values .now)))
+    put-fields-requires (λ c. search needs) returns)

@@ -5,7 +5,7 @@ use borrow.Author.Needs.{needs}
 use lib.ListN.{length, length-append}
 use Rattle.text.specs.Fields.{feed}
 use Rattle.text.proofs.PutLaws.{put-more, put-room}
-use Rattle.kinds.specs.LineColumns.{columnsOf}
+use Rattle.types.specs.LineColumns.{columnsOf}
 use Rattle.columns.specs.ColumnText.{fieldsEnded, headText}
 use Rattle.columns.proofs.ColumnPut.{parts-text, parts-sum, columns-long}
 use Rattle.columns.proofs.write.put_parts.Statement.{statement}

@@ -8,11 +8,6 @@ use Rattle.columns.proofs.ColumnPut.{share-dash, share-number}
 use Rattle.columns.proofs.write.put_share.Statement.{statement}
 use Rattle.columns.proofs.write.put_share.Tie as tie
 
-put-byte-requires : tie.Need-put-byte-requires
-put-byte-requires c κs =
-    let s = c .before .before .before in
-    omega (arith, s .pre, ap length (share-dash (s .args .z) (simp (toZ-ofZ, s .fits .z) at (c .before .if1 .taken))))
-
 returns : tie.Need-returns
 returns c =
     let s = c .before .before .before .before .before .before in
@@ -29,4 +24,6 @@ returns-2 c =
     rw (share-number (s .args .z) (simp (toZ-ofZ, s .fits .z) at (c .before .before .before .before .if1 .left))) (simp (toZ-ofZ, s .fits .z) at (c .before .before .put-signed .ensures))
 
 pub put-share-spec : {M : Type 1} → statement M
-put-share-spec = tie.close (tie.spec put-byte-requires (λ c. search needs) returns put-signed-requires (λ c. search needs) returns-2)
+put-share-spec = tie.close (tie.spec
+    (λ c κs. let s = c .before .before .before in omega (arith, s .pre, ap length (share-dash (s .args .z) (simp (toZ-ofZ, s .fits .z) at (c .before .if1 .taken)))))
+    (λ c. search needs) returns put-signed-requires (λ c. search needs) returns-2)

@@ -4,7 +4,7 @@ use native.Mathlib.Omega.{arith}
 use borrow.Author.Needs.{needs}
 use lib.ListN.{length}
 use mir.Facts.{toZ-ofZ}
-use Rattle.kinds.specs.LineColumns.{columnOf}
+use Rattle.types.specs.LineColumns.{columnOf}
 use Rattle.text.specs.Written.{decimalℤ}
 use Rattle.columns.specs.ColumnText.{fieldText}
 use Rattle.columns.proofs.ColumnPut.{value-share, value-power, value-flow, value-factor, value-plain}
@@ -16,11 +16,6 @@ plain c =
     let a = c .before .before .args in
     let none = c .match .rest in
     value-plain (a .column) (a .z) (none .0 .0 .0 .1) (none .0 .0 .1) (none .0 .1) (none .1)
-
-put-share-requires : tie.Need-put-share-requires
-put-share-requires c κs =
-    let s = c .before .before .before in
-    simp (toZ-ofZ, s .fits .z) (omega (arith, s .pre, ap length (value-share (s .args .column) (s .args .z) (c .before .match .keys1))))
 
 put-signed-point-requires : tie.Need-put-signed-point-requires
 put-signed-point-requires c κs =
@@ -36,11 +31,6 @@ put-signed-point-requires-3 : tie.Need-put-signed-point-requires-3
 put-signed-point-requires-3 c κs =
     let s = c .before .before .before in
     simp (toZ-ofZ, s .fits .z) (omega (arith, s .pre, ap length (value-factor (s .args .column) (s .args .z) (c .before .match .keys4))))
-
-put-signed-requires : tie.Need-put-signed-requires
-put-signed-requires c κs =
-    let s = c .before .before .before in
-    simp (toZ-ofZ, s .fits .z) (omega (arith, s .pre, ap length (plain (c .before))))
 
 returns : tie.Need-returns
 returns c =
@@ -62,27 +52,10 @@ returns-4 c =
     let s = c .before .before .before .before .before .before in
     rw (value-factor (s .args .column) (s .args .z) (c .before .before .before .before .match .keys4)) (simp (toZ-ofZ, s .fits .z) at (c .before .before .put-signed-point3 .ensures))
 
-returns-5 : tie.Need-returns-5
-returns-5 c =
-    let s = c .before .before .before .before .before .before in
-    rw (plain (c .before .before .before .before)) (simp (toZ-ofZ, s .fits .z) at (c .before .before .put-signed .ensures))
-
 pub put-value-spec : {M : Type 1} → statement M
-put-value-spec =
-    tie.close
-    (tie.spec
-    put-share-requires
-    put-signed-point-requires
-    put-signed-point-requires-2
-    put-signed-point-requires-3
-    put-signed-requires
-    (λ c. search needs)
-    returns
-    (λ c. search needs)
-    returns-2
-    (λ c. search needs)
-    returns-3
-    (λ c. search needs)
-    returns-4
-    (λ c. search needs)
-    returns-5)
+put-value-spec = tie.close (tie.spec
+    (λ c κs. let s = c .before .before .before in simp (toZ-ofZ, s .fits .z) (omega (arith, s .pre, ap length (value-share (s .args .column) (s .args .z) (c .before .match .keys1)))))
+    put-signed-point-requires put-signed-point-requires-2 put-signed-point-requires-3
+    (λ c κs. let s = c .before .before .before in simp (toZ-ofZ, s .fits .z) (omega (arith, s .pre, ap length (plain (c .before))))) (λ c. search needs) returns
+    (λ c. search needs) returns-2 (λ c. search needs) returns-3 (λ c. search needs) returns-4 (λ c. search needs)
+    (λ c. let s = c .before .before .before .before .before .before in rw (plain (c .before .before .before .before)) (simp (toZ-ofZ, s .fits .z) at (c .before .before .put-signed .ensures))))

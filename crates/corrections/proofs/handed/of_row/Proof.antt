@@ -14,5 +14,4 @@ unfolding ofRow
 returns-2 c = rw (sym (c .before .before .before .number-at .ensures) ∙ c .before .index .given .1)
 
 pub of-row-spec : {M : Type 1} → statement M
-of-row-spec =
-    tie.close (tie.spec (λ c κs. search needs) (λ c. search needs) (λ c. search needs) returns returns-2)
+of-row-spec = tie.close (tie.spec (λ c κs. search needs) (λ c. search needs) (λ c. search needs) returns returns-2)

@@ -14,5 +14,4 @@ unfolding endedIndex
 returns-2 c = rw (sym (c .before .before .number-at .ensures) ∙ c .enum-told .given .1)
 
 pub ended-index-spec : {M : Type 1} → statement M
-ended-index-spec =
-    tie.close (tie.spec (λ c κs. search needs) (λ c. search needs) (λ c. search needs) returns returns-2)
+ended-index-spec = tie.close (tie.spec (λ c κs. search needs) (λ c. search needs) (λ c. search needs) returns returns-2)

@@ -14,12 +14,4 @@ unfolding givenIndex
 returns-2 c = rw (sym (c .before .before .before .number-at .ensures) ∙ c .before .enum-told .given .1) (c .ended-index .ensures)
 
 pub given-index-spec : {M : Type 1} → statement M
-given-index-spec =
-    tie.close
-    (tie.spec
-    (λ c κs. search needs)
-    (λ c. search needs)
-    (λ c. search needs)
-    (λ c κs. search needs)
-    returns
-    returns-2)
+given-index-spec = tie.close (tie.spec (λ c κs. search needs) (λ c. search needs) (λ c. search needs) (λ c κs. search needs) returns returns-2)

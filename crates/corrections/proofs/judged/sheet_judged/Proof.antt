@@ -4,7 +4,7 @@ use mathlib.Core.Path.{sym, ap, _∙_}
 use Prim.Native.Nat.{_+_, _-_}
 use native.Mathlib.Omega.{arith}
 use lib.ListN.{length}
-use Rattle.kinds.specs.Refusals.{refused}
+use Rattle.refusals.specs.Refusals.{refused}
 use Rattle.lines.proofs.RowJudge.{said-holds, said-form, said-range}
 use Rattle.corrections.proofs.PieceLaws.{line-some}
 use Rattle.corrections.proofs.SheetLaws.{due-small}
@@ -24,9 +24,6 @@ in-loop c = c .before .before .before
 
 abbrev entry : tie.After-row-judged Inv-loop μ-loop → tie.Start Inv-loop μ-loop
 entry c = in-loop c .before .before .before
-
-loop-holds : tie.Need-loop-holds Inv-loop μ-loop
-loop-holds c = left-start _ _ _
 
 -- after a good line
 next : (c : tie.After-enum-told Inv-loop μ-loop)
@@ -57,49 +54,14 @@ returns-2 c =
     ap refused (c .wrong-correction2 .ensures)
     ∙ left-range (a .zones) (a .rows) (a .sheet .now) (l .s) (l .least) (l .number) (l .inv) (in-loop r .loop-test .taken) _ (r .before .before .line-at .ensures) _ (r .before .due-index .ensures) _ (said-range _ _ (sym (r .row-judged .ensures) ∙ c .before .before .byte2 .given .1))
 
-add-least : tie.Need-add-least Inv-loop μ-loop
-add-least c = let r = c .before .before in omega (arith, r .before .due-index .ensures, due-small (entry r .args .rows) (in-loop r .before .loop .least) (r .before .before .line-at .result .now))
-
-add-number : tie.Need-add-number Inv-loop μ-loop
-add-number c = omega (arith, in-loop (c .before .before) .before .loop .inv .few)
-
-add-s : tie.Need-add-s Inv-loop μ-loop
-add-s c = omega (arith, next c .within)
-
 loop-less : tie.Need-loop-less Inv-loop μ-loop
 loop-less c =
     let r = c .before .before in
     omega (arith, next c .within, line-some (entry r .args .sheet .now) (in-loop r .before .loop .s) (in-loop r .loop-test .taken), ap length (r .before .before .line-at .ensures))
 
-loop-again : tie.Need-loop-again Inv-loop μ-loop
-loop-again c = next c
-
-returns-3 : tie.Need-returns-3 Inv-loop μ-loop
-returns-3 c =
-    let a = c .before .before .before .args in
-    let l = c .before .loop in
-    left-all (a .zones) (a .rows) (a .sheet .now) (l .s) (l .least) (l .number) (l .inv) (c .loop-test .left)
-
 pub sheet-judged-spec : {M : Type 1} → statement M
-sheet-judged-spec =
-    tie.close
-    (tie.spec
-    Inv-loop
-    μ-loop
-    loop-holds
-    (λ c κs. omega arith)
-    (λ c κs. search needs)
-    (λ c κs. search needs)
-    (λ c. search needs)
-    (λ c. search needs)
-    (λ c κs. search needs)
-    returns
-    (λ c. search needs)
-    (λ c κs. search needs)
-    returns-2
-    add-least
-    add-number
-    add-s
-    loop-less
-    loop-again
-    returns-3)
+sheet-judged-spec = tie.close (tie.spec Inv-loop μ-loop (λ c. left-start _ _ _) (λ c κs. omega arith) (λ c κs. search needs) (λ c κs. search needs)
+    (λ c. search needs) (λ c. search needs) (λ c κs. search needs) returns (λ c. search needs) (λ c κs. search needs) returns-2
+    (λ c. let r = c .before .before in omega (arith, r .before .due-index .ensures, due-small (entry r .args .rows) (in-loop r .before .loop .least) (r .before .before .line-at .result .now)))
+    (λ c. omega (arith, in-loop (c .before .before) .before .loop .inv .few)) (λ c. omega (arith, next c .within)) loop-less (λ c. next c)
+    (λ c. let a = c .before .before .before .args in let l = c .before .loop in left-all (a .zones) (a .rows) (a .sheet .now) (l .s) (l .least) (l .number) (l .inv) (c .loop-test .left)))

@@ -7,10 +7,10 @@ use native.Mathlib.Omega.{arith}
 use borrow.Author.Needs.{needs}
 use lib.IntN.{ℤ, pos}
 use lib.ListN.{length}
-use Rattle.kinds.specs.declared.Header.{Header}
-use Rattle.kinds.specs.Limits.{bytesMost}
-use Rattle.kinds.specs.LineColumns.{headerColumns, defaultColumns}
-use Rattle.kinds.proofs.KindLaws.{header-in}
+use Rattle.limits.specs.Limits.{bytesMost}
+use Rattle.types.specs.declared.Header.{Header}
+use Rattle.types.specs.LineColumns.{headerColumns, defaultColumns}
+use Rattle.types.proofs.RangeLaws.{header-in}
 use Rattle.text.specs.Fields.{tab}
 use Rattle.text.proofs.FieldLaws.{fits-pos}
 use Rattle.columns.specs.declared.Head.the-variants.{Lettered}
@@ -38,33 +38,14 @@ entry-from-struct-known2 c = c .before .before .before
 abbrev entry : tie.After-raw → tie.Start
 entry c = entry-from-struct-known2 (c .before .before .before)
 
-cast-t5 : tie.Need-cast-t5
-cast-t5 c = fits-pos _ (omega (arith, header-in (c .before .before .args .h) (c .before .before .pre .0) .zones-most))
-
-cast-t6 : tie.Need-cast-t6
-cast-t6 c = fits-pos _ (omega (arith, header-in (c .before .before .before .args .h) (c .before .before .before .pre .0) .borders-most))
-
-cast-t7 : tie.Need-cast-t7
-cast-t7 c = fits-pos _ (omega (arith, header-in (entry-from-struct-known2 (c .before) .args .h) (entry-from-struct-known2 (c .before) .pre .0) .rows-most))
-
 optional-length-requires : tie.Need-optional-length-requires
 optional-length-requires c κs =
     let s = entry c in
     (omega arith, refl, subst (λ (zs : List ℤ). bytes zs ≤ bytesMost) (sym (header-raw (s .args .h) (s .pre .0))) (omega (arith, long (s .args .h), s .pre .1)))
 
-returns : tie.Need-returns
-returns c =
-    let s = entry (c .before) in
-    c .optional-length .ensures ∙ ap bytes (header-raw (s .args .h) (s .pre .0)) ∙ sym (long (s .args .h))
-
 pub header-length-spec : {M : Type 1} → statement M
-header-length-spec =
-    tie.close
-    (tie.spec
-    cast-t5
-    cast-t6
-    cast-t7
-    (λ c. search needs)
-    (λ c. search needs)
-    optional-length-requires
-    returns)
+header-length-spec = tie.close (tie.spec (λ c. fits-pos _ (omega (arith, header-in (c .before .before .args .h) (c .before .before .pre .0) .zones-most)))
+    (λ c. fits-pos _ (omega (arith, header-in (c .before .before .before .args .h) (c .before .before .before .pre .0) .borders-most)))
+    (λ c. fits-pos _ (omega (arith, header-in (entry-from-struct-known2 (c .before) .args .h) (entry-from-struct-known2 (c .before) .pre .0) .rows-most)))
+    (λ c. search needs) (λ c. search needs) optional-length-requires
+    (λ c. let s = entry (c .before) in c .optional-length .ensures ∙ ap bytes (header-raw (s .args .h) (s .pre .0)) ∙ sym (long (s .args .h))))

@@ -5,7 +5,7 @@ use Prim.Native.Nat.{_+_, _-_}
 use native.Mathlib.Omega.{arith}
 use lib.ListN.{length, take, drop}
 use lib.Seq.{length-take-le}
-use Rattle.kinds.specs.LineColumns.{columnsOf}
+use Rattle.types.specs.LineColumns.{columnsOf}
 use Rattle.columns.specs.ColumnText.{lineLength}
 use Rattle.lines.specs.RowKinds.{rowTextBy}
 use Rattle.lines.proofs.RowKindLaws.{letters-long, letters-many, parts-by}
@@ -34,9 +34,6 @@ total n =
     parts-by (λ sep head columns. lineLength head columns (a .t3 ++ a .f .now)) (a .kind) (a .i) (length (a .f .now)) (entry n .pre .1) refl (m .before .head-of .ensures) (m .columns-of .result) (m .columns-of .ensures) (n .columns-of2 .result) (n .columns-of2 .ensures)
     ∙ sym (row-total (a .kind) (a .i) (a .t3) (a .f .now) (sym wide))
 
-slice-aggregate-parts-length : tie.Need-slice-aggregate-parts-length
-slice-aggregate-parts-length c = sym (first-long (c .before))
-
 parts-length-requires : tie.Need-parts-length-requires
 parts-length-requires c κs =
     let n = c .before .before .before in
@@ -45,22 +42,7 @@ parts-length-requires c κs =
     let wide : 7 ≡ length (a .t3) = search needs in
     (first-long (at-first n) ∙ wide, letters-many (a .kind) (n .columns-of2 .result) (n .columns-of2 .ensures) (length (a .f .now)) (s .pre .1), omega (arith, s .pre .2, total n))
 
-returns : tie.Need-returns
-returns c = c .parts-length .ensures ∙ total (c .before .before .before .before)
-
 pub row-length-spec : {M : Type 1} → statement M
-row-length-spec =
-    tie.close
-    (tie.spec
-    (λ c. search needs)
-    (λ c κs. search needs)
-    (λ c κs. search needs)
-    (λ c. search needs)
-    slice-aggregate-parts-length
-    (λ c κs. search needs)
-    (λ c. search needs)
-    (λ c. search needs)
-    (λ c. search needs)
-    (λ c. search needs)
-    parts-length-requires
-    returns)
+row-length-spec = tie.close (tie.spec (λ c. search needs) (λ c κs. search needs) (λ c κs. search needs) (λ c. search needs) (λ c. sym (first-long (c .before)))
+    (λ c κs. search needs) (λ c. search needs) (λ c. search needs) (λ c. search needs) (λ c. search needs) parts-length-requires
+    (λ c. c .parts-length .ensures ∙ total (c .before .before .before .before)))

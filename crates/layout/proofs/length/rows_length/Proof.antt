@@ -1,4 +1,4 @@
--- `layout::length::rows_length` meets its contract: the sum over the lines (`Summed`), within that of all.
+-- `layout::length::rows_length` meets its contract: the sum over the lines (`Summed`), at most that of all lines.
 use mathlib.Core.Path.{_≡_}
 use Prim.Native.Nat.{_*_, _≤_, _+_, _-_}
 use native.Mathlib.Omega.{arith}
@@ -9,7 +9,7 @@ use Rattle.table.specs.Table.{stretch}
 use Rattle.table.proofs.StretchLaws.{stretch-end}
 use Rattle.layout.specs.Layout.{rowTextIn}
 use Rattle.layout.proofs.SumLaws.{part-count, sum-within, sum-lines}
-use Rattle.kinds.specs.Limits.{bytesMost}
+use Rattle.limits.specs.Limits.{bytesMost}
 use Rattle.layout.proofs.length.rows_length.Statement.{statement}
 use Rattle.layout.proofs.length.rows_length.Tie as tie
 
@@ -19,7 +19,7 @@ Inv-loop kind zones c f sum₀ i₀ i-end sum i = Summed (λ i. length (rowTextI
 abbrev μ-loop : tie.MeasureT-loop
 μ-loop kind zones c f sum₀ i₀ i-end sum i = length c - i
 
--- line i is counted without a carry
+-- adding line i does not overflow
 within : (c : tie.In-loop Inv-loop μ-loop) → let s = c .before .before in c .before .loop .sum + length (rowTextIn (s .args .kind) (s .args .zones) (s .args .c .now) (s .args .f .now) (c .before .loop .i)) ≤ bytesMost
 within c = let s = c .before .before in sum-within (rowTextIn (s .args .kind) (s .args .zones) (s .args .c .now) (s .args .f .now)) (length (s .args .c .now)) (s .pre .3) (c .before .loop .inv) (omega arith)
 
@@ -30,24 +30,6 @@ counted : (c : tie.After-row-length Inv-loop μ-loop) → let s = entry (c .befo
 unfolding stretch
 counted c = rw (part-count (c .before .before .before .before .loop .i) (entry (c .before .before) .args .zones)) at (c .row-length .ensures)
 
-loop-holds : tie.Need-loop-holds Inv-loop μ-loop
-loop-holds c = summed-none _ _
-
-mul-start : tie.Need-mul-start Inv-loop μ-loop
-mul-start c = omega (arith, stretch-end (c .before .before .args .zones) (length (c .before .before .args .c .now)) (c .before .loop .i) (omega arith), c .before .before .pre .0)
-
-add-row-length : tie.Need-add-row-length Inv-loop μ-loop
-add-row-length c = omega (arith, stretch-end (entry c .args .zones) (length (entry c .args .c .now)) (c .before .before .loop .i) (omega arith), entry c .pre .0)
-
-mul-row-length-2 : tie.Need-mul-row-length-2 Inv-loop μ-loop
-mul-row-length-2 c = omega (arith, stretch-end (entry c .args .zones) (length (entry c .args .c .now)) (c .before .before .loop .i) (omega arith), entry c .pre .0)
-
-part-row-length-start : tie.Need-part-row-length-start Inv-loop μ-loop
-part-row-length-start c = omega (arith, stretch-end (entry c .args .zones) (length (entry c .args .c .now)) (c .before .before .loop .i) (omega arith), entry c .pre .0)
-
-part-row-length-end : tie.Need-part-row-length-end Inv-loop μ-loop
-part-row-length-end c = omega (arith, stretch-end (entry c .args .zones) (length (entry c .args .c .now)) (c .before .before .loop .i) (omega arith), entry c .pre .0)
-
 row-length-requires : tie.Need-row-length-requires Inv-loop μ-loop
 unfolding stretch
 row-length-requires c κs =
@@ -56,14 +38,15 @@ row-length-requires c κs =
     let n = part-long (s .args .f .now) (i * s .args .zones) (s .args .zones) (omega (arith, stretch-end (s .args .zones) (length (s .args .c .now)) i (omega arith), s .pre .0)) in
     (omega (arith, n, s .pre .1), omega (arith, n, s .pre .2), rw (part-count (c .before .before .before .loop .i) (s .args .zones)) (omega (arith, within (c .before .before))))
 
-add-sum : tie.Need-add-sum Inv-loop μ-loop
-add-sum c = omega (arith, within (c .before .before .before), counted c)
-
-loop-again : tie.Need-loop-again Inv-loop μ-loop
-loop-again c = summed-more (c .before .before .before .before .loop .inv) _ (omega arith) (counted c)
-
-returns : tie.Need-returns Inv-loop μ-loop
-returns c = let s = c .before .before in sum-lines (rowTextIn (s .args .kind) (s .args .zones) (s .args .c .now) (s .args .f .now)) (length (s .args .c .now)) (s .pre .3) (c .before .loop .inv) (omega arith)
-
 pub rows-length-spec : {M : Type 1} → statement M
-rows-length-spec = tie.close (tie.spec Inv-loop μ-loop loop-holds mul-start (λ c. omega arith) (λ c. omega arith) add-row-length mul-row-length-2 (λ c. omega arith) part-row-length-start part-row-length-end row-length-requires add-sum (λ c. omega arith) (λ c. omega arith) loop-again returns)
+rows-length-spec = tie.close (tie.spec Inv-loop μ-loop (λ c. summed-none _ _)
+    (λ c. omega (arith, stretch-end (c .before .before .args .zones) (length (c .before .before .args .c .now)) (c .before .loop .i) (omega arith), c .before .before .pre .0))
+    (λ c. omega arith) (λ c. omega arith)
+    (λ c. omega (arith, stretch-end (entry c .args .zones) (length (entry c .args .c .now)) (c .before .before .loop .i) (omega arith), entry c .pre .0))
+    (λ c. omega (arith, stretch-end (entry c .args .zones) (length (entry c .args .c .now)) (c .before .before .loop .i) (omega arith), entry c .pre .0))
+    (λ c. omega arith)
+    (λ c. omega (arith, stretch-end (entry c .args .zones) (length (entry c .args .c .now)) (c .before .before .loop .i) (omega arith), entry c .pre .0))
+    (λ c. omega (arith, stretch-end (entry c .args .zones) (length (entry c .args .c .now)) (c .before .before .loop .i) (omega arith), entry c .pre .0))
+    row-length-requires (λ c. omega (arith, within (c .before .before .before), counted c)) (λ c. omega arith) (λ c. omega arith)
+    (λ c. summed-more (c .before .before .before .before .loop .inv) _ (omega arith) (counted c))
+    (λ c. let s = c .before .before in sum-lines (rowTextIn (s .args .kind) (s .args .zones) (s .args .c .now) (s .args .f .now)) (length (s .args .c .now)) (s .pre .3) (c .before .loop .inv) (omega arith)))

@@ -4,7 +4,7 @@ use mathlib.Core.List.{[], _∷_}
 use Prim.Native.Char.{code}
 use native.Mathlib.Omega.{arith}
 use mir.Facts.{toZ-ofZ}
-use Rattle.kinds.specs.LineColumns.{zoneColumns}
+use Rattle.types.specs.LineColumns.{zoneColumns}
 use Rattle.text.specs.Fields.{tab}
 use Rattle.columns.specs.declared.Head.the-variants.{Indexed}
 use Rattle.columns.proofs.ColumnPut.{line-long}
@@ -12,21 +12,7 @@ use borrow.Author.Needs.{needs}
 use Rattle.layout.proofs.length.zone_length.Statement.{statement}
 use Rattle.layout.proofs.length.zone_length.Tie as tie
 
-line-length-requires : tie.Need-line-length-requires
-line-length-requires c κs =
-    let s = c .before .before in
-    simp (toZ-ofZ, s .fits .net) (refl, omega (arith, line-long tab (Indexed (code "Z") (s .args .i)) zoneColumns (s .args .net ∷ []), s .pre))
-
-returns : tie.Need-returns
-returns c =
-    let s = c .before .before .before in
-    simp (toZ-ofZ, s .fits .net) at (c .line-length .ensures) ∙ sym (line-long tab (Indexed (code "Z") (s .args .i)) zoneColumns (s .args .net ∷ []))
-
 pub zone-length-spec : {M : Type 1} → statement M
-zone-length-spec =
-    tie.close
-    (tie.spec
-    (λ c. search needs)
-    (λ c. search needs)
-    line-length-requires
-    returns)
+zone-length-spec = tie.close (tie.spec (λ c. search needs) (λ c. search needs)
+    (λ c κs. let s = c .before .before in simp (toZ-ofZ, s .fits .net) (refl, omega (arith, line-long tab (Indexed (code "Z") (s .args .i)) zoneColumns (s .args .net ∷ []), s .pre)))
+    (λ c. let s = c .before .before .before in simp (toZ-ofZ, s .fits .net) at (c .line-length .ensures) ∙ sym (line-long tab (Indexed (code "Z") (s .args .i)) zoneColumns (s .args .net ∷ []))))

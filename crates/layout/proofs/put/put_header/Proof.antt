@@ -7,8 +7,8 @@ use native.Mathlib.Omega.{arith}
 use borrow.Author.Needs.{needs}
 use lib.IntN.{ℤ}
 use lib.ListN.{length}
-use Rattle.kinds.specs.LineColumns.{headerColumns, defaultColumns}
-use Rattle.kinds.proofs.KindLaws.{header-in}
+use Rattle.types.specs.LineColumns.{headerColumns, defaultColumns}
+use Rattle.types.proofs.RangeLaws.{header-in}
 use Rattle.text.specs.Fields.{tab}
 use Rattle.text.specs.Put.{Put}
 use Rattle.text.proofs.FieldLaws.{fits-pos}
@@ -24,15 +24,6 @@ text raw = optionalText tab (Lettered (code "H")) headerColumns defaultColumns r
 abbrev entry : tie.After-struct-known → tie.Start
 entry c = c .before .before .before
 
-cast-t7 : tie.Need-cast-t7
-cast-t7 c = fits-pos _ (omega (arith, header-in (entry c .args .h) (entry c .pre .0) .zones-most))
-
-cast-t8 : tie.Need-cast-t8
-cast-t8 c = fits-pos _ (omega (arith, header-in (entry (c .before) .args .h) (entry (c .before) .pre .0) .borders-most))
-
-cast-t9 : tie.Need-cast-t9
-cast-t9 c = fits-pos _ (omega (arith, header-in (entry (c .before .before) .args .h) (entry (c .before .before) .pre .0) .rows-most))
-
 put-optional-requires : tie.Need-put-optional-requires
 put-optional-requires c κs =
     let s = c .before .before .before .before .before .before .before .before in
@@ -45,14 +36,7 @@ returns c =
     subst (λ (raw : List ℤ). Put (text raw) (s .args .at) (s .args .out .now) (put .result) (put .last .1 .1 .1 .1 .1 .0)) (header-raw (s .args .h) (s .pre .0)) (put .ensures)
 
 pub put-header-spec : {M : Type 1} → statement M
-put-header-spec =
-    tie.close
-    (tie.spec
-    cast-t7
-    cast-t8
-    cast-t9
-    (λ c. search needs)
-    (λ c. search needs)
-    put-optional-requires
-    (λ c. search needs)
-    returns)
+put-header-spec = tie.close (tie.spec (λ c. fits-pos _ (omega (arith, header-in (entry c .args .h) (entry c .pre .0) .zones-most)))
+    (λ c. fits-pos _ (omega (arith, header-in (entry (c .before) .args .h) (entry (c .before) .pre .0) .borders-most)))
+    (λ c. fits-pos _ (omega (arith, header-in (entry (c .before .before) .args .h) (entry (c .before .before) .pre .0) .rows-most))) (λ c. search needs)
+    (λ c. search needs) put-optional-requires (λ c. search needs) returns)

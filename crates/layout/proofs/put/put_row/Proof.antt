@@ -5,7 +5,7 @@ use Prim.Native.Nat.{ℕ, _+_, _-_}
 use native.Mathlib.Omega.{arith}
 use lib.ListN.{length, take, drop}
 use lib.Seq.{length-take-le}
-use Rattle.kinds.specs.LineColumns.{columnsOf}
+use Rattle.types.specs.LineColumns.{columnsOf}
 use Rattle.text.specs.Put.{Put}
 use Rattle.columns.specs.ColumnText.{columnsText}
 use Rattle.lines.specs.RowKinds.{rowTextBy}
@@ -35,9 +35,6 @@ text n =
     parts-by (λ sep head columns. columnsText sep head columns (a .t3 ++ a .f .now)) (a .kind) (a .i) (length (a .f .now)) (entry n .pre .1) (m .before .before .sep-of .ensures) (m .before .head-of .ensures) (m .columns-of .result) (m .columns-of .ensures) (n .columns-of2 .result) (n .columns-of2 .ensures)
     ∙ sym (row-is (a .kind) (a .i) (a .t3) (a .f .now) (sym wide))
 
-slice-aggregate-put-parts : tie.Need-slice-aggregate-put-parts
-slice-aggregate-put-parts c = sym (first-long (c .before))
-
 put-parts-requires : tie.Need-put-parts-requires
 put-parts-requires c κs =
     let n = c .before .before .before .before in
@@ -55,20 +52,6 @@ returns c =
     subst (λ (t : List ℕ). Put t (a .at) (a .out .now) (put .result) (put .last .1 .1 .1 .1 .1 .1 .0)) (text n) (put .ensures)
 
 pub put-row-spec : {M : Type 1} → statement M
-put-row-spec =
-    tie.close
-    (tie.spec
-    (λ c. search needs)
-    (λ c κs. search needs)
-    (λ c κs. search needs)
-    (λ c κs. search needs)
-    (λ c. search needs)
-    slice-aggregate-put-parts
-    (λ c κs. search needs)
-    (λ c. search needs)
-    (λ c. search needs)
-    (λ c. search needs)
-    (λ c. search needs)
-    put-parts-requires
-    (λ c. search needs)
-    returns)
+put-row-spec = tie.close (tie.spec (λ c. search needs) (λ c κs. search needs) (λ c κs. search needs) (λ c κs. search needs) (λ c. search needs)
+    (λ c. sym (first-long (c .before))) (λ c κs. search needs) (λ c. search needs) (λ c. search needs) (λ c. search needs) (λ c. search needs)
+    put-parts-requires (λ c. search needs) returns)

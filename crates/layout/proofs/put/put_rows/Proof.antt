@@ -19,29 +19,11 @@ Inv-loop kind zones c f out₀ at next₀ i₀ i-end out next i = (i ≤ length 
 abbrev μ-loop : tie.MeasureT-loop
 μ-loop kind zones c f out₀ at next₀ i₀ i-end out next i = length c - i
 
-loop-holds : tie.Need-loop-holds Inv-loop μ-loop
-loop-holds c = (omega arith, lines-none _ _ _)
-
 abbrev entry : tie.At-loop Inv-loop μ-loop → tie.Start Inv-loop μ-loop
 entry c = c .before .before
 
 abbrev entry-from-loop : tie.After-put-row-arg Inv-loop μ-loop → tie.Start Inv-loop μ-loop
 entry-from-loop c = entry (c .before .before)
-
-mul-start : tie.Need-mul-start Inv-loop μ-loop
-mul-start c = omega (arith, stretch-end (entry (c .before) .args .zones) (length (entry (c .before) .args .c .now)) (c .before .loop .i) (omega arith), entry (c .before) .pre .0)
-
-add-put-row : tie.Need-add-put-row Inv-loop μ-loop
-add-put-row c = omega (arith, stretch-end (entry-from-loop c .args .zones) (length (entry-from-loop c .args .c .now)) (c .before .before .loop .i) (omega arith), entry-from-loop c .pre .0)
-
-mul-put-row-2 : tie.Need-mul-put-row-2 Inv-loop μ-loop
-mul-put-row-2 c = omega (arith, stretch-end (entry-from-loop c .args .zones) (length (entry-from-loop c .args .c .now)) (c .before .before .loop .i) (omega arith), entry-from-loop c .pre .0)
-
-part-put-row-start : tie.Need-part-put-row-start Inv-loop μ-loop
-part-put-row-start c = omega (arith, stretch-end (entry-from-loop c .args .zones) (length (entry-from-loop c .args .c .now)) (c .before .before .loop .i) (omega arith), entry-from-loop c .pre .0)
-
-part-put-row-end : tie.Need-part-put-row-end Inv-loop μ-loop
-part-put-row-end c = omega (arith, stretch-end (entry-from-loop c .args .zones) (length (entry-from-loop c .args .c .now)) (c .before .before .loop .i) (omega arith), entry-from-loop c .pre .0)
 
 put-row-requires : tie.Need-put-row-requires Inv-loop μ-loop
 unfolding stretch
@@ -62,11 +44,13 @@ loop-again c =
 all : (c : tie.After-loop Inv-loop μ-loop) → let s = entry (c .before) in Put (rowsTextBy (s .args .kind) (s .args .zones) (s .args .c .now) (s .args .f .now)) (s .args .at) (s .args .out .now) (c .before .loop .next) (c .before .loop .out)
 all c = lines-all (rowTextIn (entry (c .before) .args .kind) (entry (c .before) .args .zones) (entry (c .before) .args .c .now) (entry (c .before) .args .f .now)) (c .before .loop .inv .0) (omega arith) (c .before .loop .inv .1)
 
-same-length : tie.Need-same-length Inv-loop μ-loop
-same-length c = put-kept (all c) (entry (c .before) .pre .3)
-
-returns : tie.Need-returns Inv-loop μ-loop
-returns c = all c
-
 pub put-rows-spec : {M : Type 1} → statement M
-put-rows-spec = tie.close (tie.spec Inv-loop μ-loop loop-holds mul-start (λ c. omega arith) (λ c. omega arith) add-put-row mul-put-row-2 (λ c. omega arith) part-put-row-start part-put-row-end put-row-requires (λ c. omega arith) (λ c. omega arith) loop-again same-length returns)
+put-rows-spec = tie.close (tie.spec Inv-loop μ-loop (λ c. (omega arith, lines-none _ _ _))
+    (λ c. omega (arith, stretch-end (entry (c .before) .args .zones) (length (entry (c .before) .args .c .now)) (c .before .loop .i) (omega arith), entry (c .before) .pre .0))
+    (λ c. omega arith) (λ c. omega arith)
+    (λ c. omega (arith, stretch-end (entry-from-loop c .args .zones) (length (entry-from-loop c .args .c .now)) (c .before .before .loop .i) (omega arith), entry-from-loop c .pre .0))
+    (λ c. omega (arith, stretch-end (entry-from-loop c .args .zones) (length (entry-from-loop c .args .c .now)) (c .before .before .loop .i) (omega arith), entry-from-loop c .pre .0))
+    (λ c. omega arith)
+    (λ c. omega (arith, stretch-end (entry-from-loop c .args .zones) (length (entry-from-loop c .args .c .now)) (c .before .before .loop .i) (omega arith), entry-from-loop c .pre .0))
+    (λ c. omega (arith, stretch-end (entry-from-loop c .args .zones) (length (entry-from-loop c .args .c .now)) (c .before .before .loop .i) (omega arith), entry-from-loop c .pre .0))
+    put-row-requires (λ c. omega arith) (λ c. omega arith) loop-again (λ c. put-kept (all c) (entry (c .before) .pre .3)) (λ c. all c))

@@ -34,22 +34,6 @@ returns-3 c =
     ∙ border-range _ _ _ (o .optional-at .last .1 .1 .1 .1 .1 .0) _ (ap (λ (f : Fields). stored f (o .optional-at .last .1 .1 .1 .1 .1 .0)) (sym (at-told judged .enum-told .given .1)) ∙ o .optional-at .ensures) (sym (judged .fits2 .ensures) ∙ at-else .if1 .left)
 
 pub border-line-spec : {M : Type 1} → statement M
-border-line-spec =
-    tie.close
-    (tie.spec
-    (λ c. search needs)
-    (λ c κs. search needs)
-    (λ c. search needs)
-    (λ c. search needs)
-    (λ c. search needs)
-    (λ c κs. search needs)
-    (λ c. search needs)
-    returns
-    (λ c κs. search needs)
-    (λ c. search needs)
-    returns-2
-    (λ c κs. search needs)
-    (λ c. search needs)
-    (λ c κs. search needs)
-    (λ c. search needs)
-    returns-3)
+border-line-spec = tie.close (tie.spec (λ c. search needs) (λ c κs. search needs) (λ c. search needs) (λ c. search needs) (λ c. search needs)
+    (λ c κs. search needs) (λ c. search needs) returns (λ c κs. search needs) (λ c. search needs) returns-2 (λ c κs. search needs) (λ c. search needs)
+    (λ c κs. search needs) (λ c. search needs) returns-3)

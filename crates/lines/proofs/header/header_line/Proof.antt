@@ -59,27 +59,6 @@ returns-3 c =
     ∙ header-range _ _ _ read (sym (simp (plain, borders .before .zones .given, borders .borders .given, rows .rows .given, share .share .given) at (judged .fits2 .ensures)) ∙ tests .before .if1 .left)
 
 pub header-line-spec : {M : Type 1} → statement M
-header-line-spec =
-    tie.close
-    (tie.spec
-    (λ c. search needs)
-    (λ c. search needs)
-    (λ c κs. search needs)
-    (λ c. search needs)
-    (λ c. search needs)
-    (λ c. search needs)
-    (λ c κs. search needs)
-    returns
-    (λ c. search needs)
-    cast-zones
-    (λ c. search needs)
-    cast-borders
-    (λ c. search needs)
-    cast-rows
-    (λ c. search needs)
-    (λ c κs. search needs)
-    returns-2
-    (λ c κs. search needs)
-    (λ c. search needs)
-    (λ c κs. search needs)
-    returns-3)
+header-line-spec = tie.close (tie.spec (λ c. search needs) (λ c. search needs) (λ c κs. search needs) (λ c. search needs) (λ c. search needs)
+    (λ c. search needs) (λ c κs. search needs) returns (λ c. search needs) cast-zones (λ c. search needs) cast-borders (λ c. search needs) cast-rows
+    (λ c. search needs) (λ c κs. search needs) returns-2 (λ c κs. search needs) (λ c. search needs) (λ c κs. search needs) returns-3)

@@ -6,11 +6,7 @@ use Rattle.lines.specs.declared.row.RowKind.{RowKind}
 use Rattle.lines.proofs.row.head_of.Statement.{statement}
 use Rattle.lines.proofs.row.head_of.Tie as tie
 
-returns : tie.Need-returns
-returns c = ap (λ (k : RowKind). headBy k (c .before .before .args .i)) (sym (c .enum-told .given .1))
-
-returns-2 : tie.Need-returns-2
-returns-2 c = ap (λ (k : RowKind). headBy k (c .before .before .args .i)) (sym (c .enum-told2 .given .1))
-
 pub head-of-spec : {M : Type 1} → statement M
-head-of-spec = tie.close (tie.spec (λ c. search needs) (λ c. search needs) returns returns-2)
+head-of-spec = tie.close (tie.spec (λ c. search needs) (λ c. search needs)
+    (λ c. ap (λ (k : RowKind). headBy k (c .before .before .args .i)) (sym (c .enum-told .given .1)))
+    (λ c. ap (λ (k : RowKind). headBy k (c .before .before .args .i)) (sym (c .enum-told2 .given .1))))

@@ -12,11 +12,6 @@ use Rattle.lines.proofs.row.row_at.Tie as tie
 abbrev entry : tie.After-columns-of → tie.Start
 entry m = m .before .before .before .before
 
-slice-aggregate-parts-at : tie.Need-slice-aggregate-parts-at
-slice-aggregate-parts-at c =
-    let m = c .before in
-    sym (length-take-le 7 (m .columns-of .result) (omega (arith, letters-long (entry m .args .kind) (m .columns-of .result) (m .columns-of .ensures))))
-
 parts-at-requires : tie.Need-parts-at-requires
 parts-at-requires c κs =
     let n = c .before .before .before .before in
@@ -36,20 +31,6 @@ returns c =
     ∙ parts-by (λ sep head columns. columnsLine sep head columns (a .line .now)) (a .kind) (a .i) (length (a .f .now)) (s .pre .2) (m .before .before .sep-of .ensures) (m .before .head-of .ensures) (m .columns-of .result) (m .columns-of .ensures) (n .columns-of2 .result) (n .columns-of2 .ensures)
 
 pub row-at-spec : {M : Type 1} → statement M
-row-at-spec =
-    tie.close
-    (tie.spec
-    (λ c. search needs)
-    (λ c κs. search needs)
-    (λ c κs. search needs)
-    (λ c κs. search needs)
-    (λ c. search needs)
-    slice-aggregate-parts-at
-    (λ c κs. search needs)
-    (λ c. search needs)
-    (λ c. search needs)
-    (λ c. search needs)
-    parts-at-requires
-    (λ c. search needs)
-    (λ c. search needs)
-    returns)
+row-at-spec = tie.close (tie.spec (λ c. search needs) (λ c κs. search needs) (λ c κs. search needs) (λ c κs. search needs) (λ c. search needs)
+    (λ c. let m = c .before in sym (length-take-le 7 (m .columns-of .result) (omega (arith, letters-long (entry m .args .kind) (m .columns-of .result) (m .columns-of .ensures)))))
+    (λ c κs. search needs) (λ c. search needs) (λ c. search needs) (λ c. search needs) parts-at-requires (λ c. search needs) (λ c. search needs) returns)

@@ -23,14 +23,5 @@ returns c =
     ∙ whole-by (λ sep head columns. lineByte sep head columns (a .line .now)) (a .kind) (a .i) (a .zones) (s .pre) (m .before .before .sep-of .ensures) (m .before .head-of .ensures) (m .columns-of .result) (m .columns-of .ensures)
 
 pub row-bad-spec : {M : Type 1} → statement M
-row-bad-spec =
-    tie.close
-    (tie.spec
-    (λ c. search needs)
-    (λ c κs. search needs)
-    (λ c κs. search needs)
-    (λ c κs. search needs)
-    (λ c. search needs)
-    slice-aggregate-line-byte
-    (λ c κs. search needs)
-    returns)
+row-bad-spec = tie.close (tie.spec (λ c. search needs) (λ c κs. search needs) (λ c κs. search needs) (λ c κs. search needs) (λ c. search needs)
+    slice-aggregate-line-byte (λ c κs. search needs) returns)

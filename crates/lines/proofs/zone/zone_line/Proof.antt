@@ -1,7 +1,7 @@
 -- `lines::zone::zone_line` meets its contract: what the column holds is judged.
 use mathlib.Core.Path.{sym, ap, _∙_}
 use Rattle.numbers.proofs.IntLaws.{plain}
-use Rattle.kinds.proofs.ReadLaws.{zone-good, zone-out}
+use Rattle.types.proofs.ConstructorLaws.{zone-good, zone-out}
 use Rattle.text.specs.Line.{form, range}
 use Rattle.columns.specs.declared.Fields.{Fields}
 use Rattle.columns.specs.Columns.{stored}
@@ -26,27 +26,8 @@ returns-2 c =
     ap range (simp (tests .tests .ensures, plain, judged .before .net .given) at (c .range-byte .ensures))
     ∙ zone-range _ _ _ (o .line-at .last .1 .1 .1 .1 .0) _ (ap (λ (f : Fields). stored f (o .line-at .last .1 .1 .1 .1 .0)) (sym (judged .before .before .enum-told .given .1)) ∙ o .line-at .ensures) (zone-out _ (simp (plain, judged .before .net .given) at (sym (judged .of .ensures) ∙ tests .before .enum-told4 .given .1)))
 
-returns-3 : tie.Need-returns-3
-returns-3 c = simp (plain, c .before .before .before .net .given) (zone-holds _ _ _ (at-line-at (c .before .before) .line-at .last .1 .1 .1 .1 .0) _ (ap (λ (f : Fields). stored f (at-line-at (c .before .before) .line-at .last .1 .1 .1 .1 .0)) (sym (c .before .before .before .before .enum-told .given .1)) ∙ at-line-at (c .before .before) .line-at .ensures) (zone-good _ _ (simp (plain, c .before .before .before .net .given) at (sym (c .before .before .of .ensures) ∙ c .enum-told3 .given .1))))
-
 pub zone-line-spec : {M : Type 1} → statement M
-zone-line-spec =
-    tie.close
-    (tie.spec
-    (λ c. search needs)
-    (λ c. search needs)
-    (λ c κs. search needs)
-    (λ c. search needs)
-    (λ c. search needs)
-    (λ c. search needs)
-    (λ c κs. search needs)
-    returns
-    (λ c. search needs)
-    (λ c κs. search needs)
-    (λ c. search needs)
-    (λ c. search needs)
-    (λ c κs. search needs)
-    (λ c. search needs)
-    (λ c κs. search needs)
-    returns-2
-    returns-3)
+zone-line-spec = tie.close (tie.spec (λ c. search needs) (λ c. search needs) (λ c κs. search needs) (λ c. search needs) (λ c. search needs) (λ c. search needs)
+    (λ c κs. search needs) returns (λ c. search needs) (λ c κs. search needs) (λ c. search needs) (λ c. search needs) (λ c κs. search needs) (λ c. search needs)
+    (λ c κs. search needs) returns-2
+    (λ c. simp (plain, c .before .before .before .net .given) (zone-holds _ _ _ (at-line-at (c .before .before) .line-at .last .1 .1 .1 .1 .0) _ (ap (λ (f : Fields). stored f (at-line-at (c .before .before) .line-at .last .1 .1 .1 .1 .0)) (sym (c .before .before .before .before .enum-told .given .1)) ∙ at-line-at (c .before .before) .line-at .ensures) (zone-good _ _ (simp (plain, c .before .before .before .net .given) at (sym (c .before .before .of .ensures) ∙ c .enum-told3 .given .1))))))

@@ -7,18 +7,9 @@ use mir.Syntax.{w64}
 use mir.Val.{SFits}
 use Rattle.numbers.proofs.IntLaws.{within-fits, within-le}
 use Rattle.margin.specs.Margin.{amrOf}
-use Rattle.margin.proofs.BoundLaws.{within-is, within-amr}
+use Rattle.margin.proofs.MagnitudeLaws.{within-is, within-amr}
 use Rattle.parts.proofs.row.as_record.Statement.{statement}
 use Rattle.parts.proofs.row.as_record.Tie as tie
-
-fuaf-requires : tie.Need-fuaf-requires
-fuaf-requires c κs = search needs
-
-base-requires : tie.Need-base-requires
-base-requires c κs = search needs
-
-amr-requires : tie.Need-amr-requires
-amr-requires c κs = search needs
 
 lta-margin-requires : tie.Need-lta-margin-requires
 lta-margin-requires c κs =
@@ -26,16 +17,6 @@ lta-margin-requires c κs =
     let is : c .amr .result ≡ amrOf (s .args .default) (s .args .row) (s .args .f0core) = simp (toZ-ofZ, s .fits .default, s .fits .f0core) at (c .amr .ensures) in
     let fits : SFits w64 (c .amr .result) = sfits-of (c .amr .ok) in
     simp (toZ-ofZ, s .fits .f0core, fits) (s .pre .1 .0, (s .pre .1 .1 .0, (within-is is (within-amr (s .pre .1 .0) (s .pre .1 .1 .0) (s .pre .0)), s .pre .1 .1 .1 .0)))
-
-grains-requires : tie.Need-grains-requires
-grains-requires c κs =
-    let row = c .before .before .before .before .before .pre .1 .0 in
-    simp (toZ-ofZ, within-fits (row .cva-in) tt) (within-le (row .cva-in) (omega arith))
-
-grains-requires-2 : tie.Need-grains-requires-2
-grains-requires-2 c κs =
-    let row = c .before .before .before .before .before .before .before .pre .1 .0 in
-    simp (toZ-ofZ, within-fits (row .iva-in) tt) (within-le (row .iva-in) (omega arith))
 
 cast-t15 : tie.Need-cast-t15
 cast-t15 c = record { sfits = omega (arith, c .before .before .before .before .before .before .before .before .pre .1 .1 .1 .2) }
@@ -83,16 +64,7 @@ returns c =
     )
 
 pub as-record-spec : {M : Type 1} → statement M
-as-record-spec =
-    tie.close
-    (tie.spec
-    fuaf-requires
-    base-requires
-    amr-requires
-    lta-margin-requires
-    grains-requires
-    grains-requires-2
-    cast-t15
-    cast-t16
-    cast-t17
-    returns)
+as-record-spec = tie.close (tie.spec (λ c κs. search needs) (λ c κs. search needs) (λ c κs. search needs) lta-margin-requires
+    (λ c κs. let row = c .before .before .before .before .before .pre .1 .0 in simp (toZ-ofZ, within-fits (row .cva-in) tt) (within-le (row .cva-in) (omega arith)))
+    (λ c κs. let row = c .before .before .before .before .before .before .before .pre .1 .0 in simp (toZ-ofZ, within-fits (row .iva-in) tt) (within-le (row .iva-in) (omega arith)))
+    cast-t15 cast-t16 cast-t17 returns)

@@ -4,7 +4,7 @@ use mathlib.Core.Logic.{⊎-elim}
 use Prim.Native.Nat.{_-_}
 use native.Mathlib.Omega.{arith}
 use lib.ListN.{length, getD}
-use Rattle.kinds.specs.Ranges.{borderOf}
+use Rattle.types.specs.Ranges.{borderOf}
 use Rattle.rounds.proofs.Loops.{Counted, counted-none, counted-up, counted-on, counted-le, counted-all}
 use Rattle.margin.specs.Margin.{pOf}
 use Rattle.parts.specs.Parts.{nOf}
@@ -16,27 +16,6 @@ Inv-loop factors b n₀ k₀ k-end n k = Counted (λ k. pOf factors (borderOf (g
 
 abbrev μ-loop : tie.MeasureT-loop
 μ-loop factors b n₀ k₀ k-end n k = length b - k
-
-loop-holds : tie.Need-loop-holds Inv-loop μ-loop
-loop-holds c = counted-none _ _
-
-mul-p-at : tie.Need-mul-p-at Inv-loop μ-loop
-mul-p-at c = omega arith
-
-shared-slice-copy-out-p-at : tie.Need-shared-slice-copy-out-p-at Inv-loop μ-loop
-shared-slice-copy-out-p-at c = omega arith
-
-p-at-requires : tie.Need-p-at-requires Inv-loop μ-loop
-p-at-requires c κs = (c .before .before .before .pre .0, c .before .before .before .pre .1 .each _ (omega arith))
-
-add-n : tie.Need-add-n Inv-loop μ-loop
-add-n c = omega (arith, counted-le (c .before .before .before .before .loop .inv))
-
-add-k : tie.Need-add-k Inv-loop μ-loop
-add-k c = omega arith
-
-loop-less : tie.Need-loop-less Inv-loop μ-loop
-loop-less c = omega arith
 
 loop-again : tie.Need-loop-again Inv-loop μ-loop
 loop-again c =
@@ -52,17 +31,6 @@ unfolding nOf
 returns c = counted-all (c .before .loop .inv) (omega arith)
 
 pub count-loading-spec : {M : Type 1} → statement M
-count-loading-spec =
-    tie.close
-    (tie.spec
-    Inv-loop
-    μ-loop
-    loop-holds
-    mul-p-at
-    shared-slice-copy-out-p-at
-    p-at-requires
-    add-n
-    add-k
-    loop-less
-    loop-again
-    returns)
+count-loading-spec = tie.close (tie.spec Inv-loop μ-loop (λ c. counted-none _ _) (λ c. omega arith) (λ c. omega arith)
+    (λ c κs. (c .before .before .before .pre .0, c .before .before .before .pre .1 .each _ (omega arith)))
+    (λ c. omega (arith, counted-le (c .before .before .before .before .loop .inv))) (λ c. omega arith) (λ c. omega arith) loop-again returns)

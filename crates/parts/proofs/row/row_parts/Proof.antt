@@ -5,24 +5,12 @@ use borrow.Author.Needs.{sfits-of}
 use mir.Facts.{toZ-ofZ}
 use mir.Syntax.{w64}
 use mir.Val.{SFits}
-use Rattle.kinds.specs.Limits.{zonesMost}
-use Rattle.margin.proofs.BoundLaws.{within-is, within-f0core}
+use Rattle.limits.specs.Limits.{zonesMost}
+use Rattle.margin.proofs.MagnitudeLaws.{within-is, within-f0core}
 use Rattle.margin.proofs.JudgedLaws.{row-judged, s-bound}
 use Rattle.parts.proofs.PartsLaws.{n-few, made-of}
 use Rattle.parts.proofs.row.row_parts.Statement.{statement}
 use Rattle.parts.proofs.row.row_parts.Tie as tie
-
-judged-requires : tie.Need-judged-requires
-judged-requires c κs = c .pre .1 .0
-
-f0core-requires : tie.Need-f0core-requires
-f0core-requires c κs = (row-judged _ (c .before .pre .1 .0) (c .judged .ensures), (c .before .pre .1 .1 .0, c .before .pre .1 .1 .1 .0))
-
-s-requires : tie.Need-s-requires
-s-requires c κs = (c .before .before .pre .1 .1 .0, c .before .before .pre .1 .1 .1 .1 .0)
-
-count-loading-requires : tie.Need-count-loading-requires
-count-loading-requires c κs = (c .before .before .before .pre .1 .1 .0, c .before .before .before .pre .1 .1 .1 .1 .0)
 
 as-record-requires : tie.Need-as-record-requires
 as-record-requires c κs =
@@ -30,7 +18,7 @@ as-record-requires c κs =
     let f = s .pre .1 .1 .0 in
     let n = s .pre .1 .1 .1 .0 in
     let b = s .pre .1 .1 .1 .1 .0 in
-    let row = row-judged _ (s .pre .1 .0) (c .before .before .before .judged .ensures) in
+    let row = row-judged _ (s .pre .1 .0) (c .before .before .before .of-good .ensures) in
     let f0core = within-is (c .before .before .f0core .ensures) (within-f0core _ (row .fref-in) _ _ (n .few) (f .each) (n .each) zonesMost (omega (arith, n .few, f .few))) in
     let fits : SFits w64 (c .before .before .f0core .result) = sfits-of (c .before .before .f0core .ok) in
     simp (toZ-ofZ, fits, s .fits .default)
@@ -40,8 +28,10 @@ returns : tie.Need-returns
 returns c =
     let s = c .before .before .before .before .before in
     let fits : SFits w64 (c .before .before .before .f0core .result) = sfits-of (c .before .before .before .f0core .ok) in
-    (simp (toZ-ofZ, fits, s .fits .default, s .fits .ram, s .fits .start) at (c .as-record .ensures)) ∙ made-of _ _ _ _ _ _ _ _ (c .before .before .before .before .judged .ensures) (c .before .before .before .f0core .ensures) (c .before .before .s .ensures) (c .before .count-loading .ensures)
+    (simp (toZ-ofZ, fits, s .fits .default, s .fits .ram, s .fits .start) at (c .as-record .ensures)) ∙ made-of _ _ _ _ _ _ _ _ (c .before .before .before .before .of-good .ensures) (c .before .before .before .f0core .ensures) (c .before .before .s .ensures) (c .before .count-loading .ensures)
 
 pub row-parts-spec : {M : Type 1} → statement M
-row-parts-spec =
-    tie.close (tie.spec judged-requires f0core-requires s-requires count-loading-requires as-record-requires returns)
+row-parts-spec = tie.close (tie.spec (λ c κs. c .pre .1 .0)
+    (λ c κs. (row-judged _ (c .before .pre .1 .0) (c .of-good .ensures), (c .before .pre .1 .1 .0, c .before .pre .1 .1 .1 .0)))
+    (λ c κs. (c .before .before .pre .1 .1 .0, c .before .before .pre .1 .1 .1 .1 .0))
+    (λ c κs. (c .before .before .before .pre .1 .1 .0, c .before .before .before .pre .1 .1 .1 .1 .0)) as-record-requires returns)

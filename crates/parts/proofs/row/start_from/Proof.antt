@@ -6,9 +6,6 @@ use Rattle.parts.specs.Parts.{startFrom}
 use Rattle.parts.proofs.row.start_from.Statement.{statement}
 use Rattle.parts.proofs.row.start_from.Tie as tie
 
-larger-requires : tie.Need-larger-requires
-larger-requires c κs = search needs
-
 returns : tie.Need-returns
 unfolding startFrom
 returns c = rw (c .before .if1 .taken) (toZ-ofZ (sfits-of (c .larger .ok)) ∙ (simp (toZ-ofZ, c .before .before .fits .margin) at (c .larger .ensures)))
@@ -18,5 +15,4 @@ unfolding startFrom
 returns-2 c = rw (c .if1 .left) (toZ-ofZ (c .before .fits .margin))
 
 pub start-from-spec : {M : Type 1} → statement M
-start-from-spec =
-    tie.close (tie.spec larger-requires returns returns-2)
+start-from-spec = tie.close (tie.spec (λ c κs. search needs) returns returns-2)

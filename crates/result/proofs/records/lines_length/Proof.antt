@@ -6,7 +6,7 @@ use native.Mathlib.Omega.{arith}
 use borrow.Author.Needs.{needs}
 use lib.ListN.{length, getD}
 use Rattle.numbers.proofs.IntLaws.{plain}
-use Rattle.kinds.specs.LineColumns.{columnsOf}
+use Rattle.types.specs.LineColumns.{columnsOf}
 use Rattle.text.specs.Fields.{tab}
 use Rattle.text.proofs.MeasureLaws.{Measured, measured-none, measured-more, measured-all}
 use Rattle.columns.specs.declared.Head.the-variants.{Indexed}
@@ -21,12 +21,6 @@ Inv-loop columns records sum₀ i₀ i-end sum i = (letter : ℕ) → Measured (
 
 abbrev μ-loop : tie.MeasureT-loop
 μ-loop columns records sum₀ i₀ i-end sum i = length records - i
-
-loop-holds : tie.Need-loop-holds Inv-loop μ-loop
-loop-holds c letter = measured-none _ _ _
-
-line-length-requires : tie.Need-line-length-requires Inv-loop μ-loop
-line-length-requires c κs = c .before .before .before .before .before .before .pre .0
 
 add-sum : tie.Need-add-sum Inv-loop μ-loop
 add-sum c =
@@ -43,30 +37,8 @@ loop-again c letter =
     let line = said .0 ∙ record-three (s .pre .0) (Indexed letter (head .i)) raw ∙ sym (line-long tab (Indexed letter (head .i)) (columnsOf (s .args .columns .now)) raw) in
     measured-more (head .inv letter) _ (omega arith) line (omega (arith, line, said .1))
 
-returns : tie.Need-returns Inv-loop μ-loop
-returns c =
-    let head = c .before .loop in
-    (λ letter. measured-all (head .inv letter) (omega arith), omega (arith, c .before .before .before .pre .1, head .inv 0 .few, head .inv 0 .summed .high))
-
 pub lines-length-spec : {M : Type 1} → statement M
-lines-length-spec =
-    tie.close
-    (tie.spec
-    Inv-loop
-    μ-loop
-    loop-holds
-    (λ c. omega arith)
-    (λ c. omega arith)
-    (λ c. search needs)
-    (λ c. omega arith)
-    (λ c. omega arith)
-    (λ c. search needs)
-    (λ c. omega arith)
-    (λ c. omega arith)
-    (λ c. search needs)
-    line-length-requires
-    add-sum
-    (λ c. omega arith)
-    (λ c. omega arith)
-    loop-again
-    returns)
+lines-length-spec = tie.close (tie.spec Inv-loop μ-loop (λ c letter. measured-none _ _ _) (λ c. omega arith) (λ c. omega arith) (λ c. search needs)
+    (λ c. omega arith) (λ c. omega arith) (λ c. search needs) (λ c. omega arith) (λ c. omega arith) (λ c. search needs)
+    (λ c κs. c .before .before .before .before .before .before .pre .0) add-sum (λ c. omega arith) (λ c. omega arith) loop-again
+    (λ c. let head = c .before .loop in (λ letter. measured-all (head .inv letter) (omega arith), omega (arith, c .before .before .before .pre .1, head .inv 0 .few, head .inv 0 .summed .high))))

@@ -10,11 +10,6 @@ use Rattle.result.proofs.RecordsLaws.{text-length, text-put}
 use Rattle.result.proofs.records.put_records.Statement.{statement}
 use Rattle.result.proofs.records.put_records.Tie as tie
 
-put-lines-requires : tie.Need-put-lines-requires
-put-lines-requires c κs =
-    let start = c .before .before .before in
-    (refl, omega (arith, start .pre, text-length (start .args .atc .now) (start .args .left .now) (start .args .rounds)))
-
 put-lines-requires-2 : tie.Need-put-lines-requires-2
 put-lines-requires-2 c κs =
     let start = c .before .before .before .before .before .before .before .before in
@@ -37,13 +32,6 @@ returns c =
     put-whole (text-put (s .atc .now) (s .left .now) (s .rounds) (c .before .before .before .before .before .before .before .before .before .before .before .put-lines .ensures) (c .before .before .before .before .before .before .put-lines2 .ensures) (c .before .before .put-rounds .ensures))
 
 pub put-records-spec : {M : Type 1} → statement M
-put-records-spec =
-    tie.close
-    (tie.spec
-    (λ c. search needs)
-    put-lines-requires
-    (λ c. search needs)
-    put-lines-requires-2
-    put-rounds-requires
-    (λ c. search needs)
-    returns)
+put-records-spec = tie.close (tie.spec (λ c. search needs)
+    (λ c κs. let start = c .before .before .before in (refl, omega (arith, start .pre, text-length (start .args .atc .now) (start .args .left .now) (start .args .rounds))))
+    (λ c. search needs) put-lines-requires-2 put-rounds-requires (λ c. search needs) returns)

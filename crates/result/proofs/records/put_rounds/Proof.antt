@@ -7,16 +7,6 @@ use borrow.Author.Needs.{needs}
 use Rattle.result.proofs.records.put_rounds.Statement.{statement}
 use Rattle.result.proofs.records.put_rounds.Tie as tie
 
-put-byte-requires : tie.Need-put-byte-requires
-put-byte-requires c κs =
-    let start = c .before .before in
-    room-first 82 (decimal (start .args .rounds) ∷ []) (start .pre)
-
-put-number-field-requires : tie.Need-put-number-field-requires
-put-number-field-requires c κs =
-    let start = c .before .before .before .before .before .before in
-    room-more (line-none (c .before .before .before .put-byte .ensures)) _ [] (start .pre)
-
 abbrev entry : tie.After-put-byte-arg2 → tie.Start
 entry c = c .before .before .before .before .before .before .before .before .before .before
 
@@ -34,6 +24,6 @@ returns c =
     line-all (omega (arith, start .pre)) number (c .before .before .put-byte2 .ensures)
 
 pub put-rounds-spec : {M : Type 1} → statement M
-put-rounds-spec =
-    tie.close
-    (tie.spec put-byte-requires put-number-field-requires put-byte-requires-2 (λ c. search needs) returns)
+put-rounds-spec = tie.close (tie.spec (λ c κs. let start = c .before .before in room-first 82 (decimal (start .args .rounds) ∷ []) (start .pre))
+    (λ c κs. let start = c .before .before .before .before .before .before in room-more (line-none (c .before .before .before .put-byte .ensures)) _ [] (start .pre))
+    put-byte-requires-2 (λ c. search needs) returns)

@@ -9,15 +9,6 @@ use borrow.Author.Needs.{needs}
 use Rattle.result.proofs.records.records_length.Statement.{statement}
 use Rattle.result.proofs.records.records_length.Tie as tie
 
-lines-length-requires : tie.Need-lines-length-requires
-lines-length-requires c κs = (inl refl, omega (arith, c .before .pre .0))
-
-lines-length-requires-2 : tie.Need-lines-length-requires-2
-lines-length-requires-2 c κs = (inr refl, c .before .before .before .pre .1)
-
-add-result : tie.Need-add-result
-add-result c = omega (arith, c .before .before .before .before .pre .0, c .before .before .before .before .pre .1, c .before .before .lines-length .ensures .1, c .lines-length2 .ensures .1)
-
 add-result-2 : tie.Need-add-result-2
 add-result-2 c =
     let start = c .before .before .before .before .before in
@@ -44,14 +35,7 @@ returns c =
     )
 
 pub records-length-spec : {M : Type 1} → statement M
-records-length-spec =
-    tie.close
-    (tie.spec
-    (λ c. search needs)
-    lines-length-requires
-    (λ c. search needs)
-    lines-length-requires-2
-    add-result
-    (λ c κs. search needs)
-    add-result-2
-    returns)
+records-length-spec = tie.close (tie.spec (λ c. search needs) (λ c κs. (inl refl, omega (arith, c .before .pre .0))) (λ c. search needs)
+    (λ c κs. (inr refl, c .before .before .before .pre .1))
+    (λ c. omega (arith, c .before .before .before .before .pre .0, c .before .before .before .before .pre .1, c .before .before .lines-length .ensures .1, c .lines-length2 .ensures .1))
+    (λ c κs. search needs) add-result-2 returns)

@@ -6,11 +6,7 @@ use borrow.Author.Needs.{needs}
 use Rattle.result.proofs.records.rounds_length.Statement.{statement}
 use Rattle.result.proofs.records.rounds_length.Tie as tie
 
-add-result : tie.Need-add-result
-add-result c = omega (arith, c .digit-count .ensures, decimal-u64 (c .before .args .rounds) (omega arith))
-
-returns : tie.Need-returns
-returns c = omega (arith, c .digit-count .ensures, rounds-length (c .before .args .rounds))
-
 pub rounds-length-spec : {M : Type 1} → statement M
-rounds-length-spec = tie.close (tie.spec (λ c κs. search needs) add-result returns)
+rounds-length-spec = tie.close (tie.spec (λ c κs. search needs)
+    (λ c. omega (arith, c .digit-count .ensures, decimal-u64 (c .before .args .rounds) (omega arith)))
+    (λ c. omega (arith, c .digit-count .ensures, rounds-length (c .before .args .rounds))))

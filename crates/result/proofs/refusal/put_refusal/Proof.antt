@@ -60,14 +60,5 @@ returns c =
     put-whole (line-all (omega arith) byte (c .before .before .put-byte2 .ensures))
 
 pub put-refusal-spec : {M : Type 1} → statement M
-put-refusal-spec =
-    tie.close
-    (tie.spec
-    put-byte-requires
-    (λ c. search needs)
-    put-number-field-requires
-    put-number-field-requires-2
-    put-number-field-requires-3
-    put-byte-requires-2
-    (λ c. search needs)
-    returns)
+put-refusal-spec = tie.close (tie.spec put-byte-requires (λ c. search needs) put-number-field-requires put-number-field-requires-2 put-number-field-requires-3
+    put-byte-requires-2 (λ c. search needs) returns)

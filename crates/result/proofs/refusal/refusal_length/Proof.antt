@@ -10,9 +10,6 @@ use Rattle.result.proofs.RecordsLaws.{refusal-length, refusal-most}
 use Rattle.result.proofs.refusal.refusal_length.Statement.{statement}
 use Rattle.result.proofs.refusal.refusal_length.Tie as tie
 
-add-result : tie.Need-add-result
-add-result c = omega (arith, c .digit-count .ensures, decimal-u64 (c .before .before .args .w .number) (omega (arith, c .before .struct-known .given)))
-
 add-result-2 : tie.Need-add-result-2
 add-result-2 c =
     let known = c .before .before in
@@ -46,14 +43,6 @@ returns c =
     (sum, omega (arith, sum, refusal-most w (omega (arith, known .struct-known .given)) (omega (arith, known .struct-known .given)) (omega (arith, known .struct-known .given))))
 
 pub refusal-length-spec : {M : Type 1} → statement M
-refusal-length-spec =
-    tie.close
-    (tie.spec
-    (λ c. search needs)
-    (λ c κs. search needs)
-    add-result
-    (λ c κs. search needs)
-    add-result-2
-    (λ c κs. search needs)
-    add-result-3
-    returns)
+refusal-length-spec = tie.close (tie.spec (λ c. search needs) (λ c κs. search needs)
+    (λ c. omega (arith, c .digit-count .ensures, decimal-u64 (c .before .before .args .w .number) (omega (arith, c .before .struct-known .given))))
+    (λ c κs. search needs) add-result-2 (λ c κs. search needs) add-result-3 returns)

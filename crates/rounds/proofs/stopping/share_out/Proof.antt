@@ -14,17 +14,11 @@ Inv-loop margins ns₀ i₀ i-end ns i = Filled (λ i. at margins i / at ns₀ i
 abbrev μ-loop : tie.MeasureT-loop
 μ-loop margins ns₀ i₀ i-end ns i = length margins - i
 
-loop-holds : tie.Need-loop-holds Inv-loop μ-loop
-loop-holds c = filled-none _ _ _
-
 abbrev entry-from-loop : tie.At-loop Inv-loop μ-loop → tie.Start Inv-loop μ-loop
 entry-from-loop c = c .before .before .before
 
 slice-read-n : tie.Need-slice-read-n Inv-loop μ-loop
 slice-read-n c = let at-loop = c .before .before in omega (arith, at-loop .loop .inv .as-long, entry-from-loop at-loop .pre)
-
-slice-write-ns : tie.Need-slice-write-ns Inv-loop μ-loop
-slice-write-ns c = slice-read-n (c .before .before)
 
 loop-again : tie.Need-loop-again Inv-loop μ-loop
 loop-again c =
@@ -32,30 +26,9 @@ loop-again c =
     let entry = entry-from-loop at-loop in
     let margin = at (entry .args .margins .now) (at-loop .loop .i) in
     filled-more (at-loop .loop .inv) _ (omega arith) (omega (arith, entry .pre))
-    (c .share-of .ensures ∙ ap (λ (n : ℕ). margin / n) (filled-rest (at-loop .loop .inv) 0 (omega (arith, entry .pre))))
-
-same-length : tie.Need-same-length Inv-loop μ-loop
-same-length c = c .before .loop .inv .as-long
-
-returns : tie.Need-returns Inv-loop μ-loop
-returns c = filled-all (c .before .loop .inv) (omega arith) (entry-from-loop (c .before) .pre)
+    (c .equal-share .ensures ∙ ap (λ (n : ℕ). margin / n) (filled-rest (at-loop .loop .inv) 0 (omega (arith, entry .pre))))
 
 pub share-out-spec : {M : Type 1} → statement M
-share-out-spec =
-    tie.close
-    (tie.spec
-    Inv-loop
-    μ-loop
-    loop-holds
-    (λ c. omega arith)
-    slice-read-n
-    (λ c. omega arith)
-    (λ c. omega arith)
-    (λ c κs. tt)
-    (λ c. omega arith)
-    slice-write-ns
-    (λ c. omega arith)
-    (λ c. omega arith)
-    loop-again
-    same-length
-    returns)
+share-out-spec = tie.close (tie.spec Inv-loop μ-loop (λ c. filled-none _ _ _) (λ c. omega arith) slice-read-n (λ c. omega arith) (λ c. omega arith) (λ c κs. tt)
+    (λ c. omega arith) (λ c. slice-read-n (c .before .before)) (λ c. omega arith) (λ c. omega arith) loop-again (λ c. c .before .loop .inv .as-long)
+    (λ c. filled-all (c .before .loop .inv) (omega arith) (entry-from-loop (c .before) .pre)))

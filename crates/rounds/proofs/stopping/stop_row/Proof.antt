@@ -5,7 +5,7 @@ use borrow.Author.Tests.{lt-ltb, le-ltb}
 use lib.Dec.{ltb}
 use Rattle.numbers.specs.Below.{at}
 use Rattle.numbers.proofs.BelowLaws.{Looked, looked-none, looked-all, looked-here, looked-more}
-use Rattle.rounds.specs.Work.{flat, stopBy}
+use Rattle.rounds.specs.AllRounds.{flat, stopBy}
 use Rattle.rounds.proofs.stopping.stop_row.Statement.{statement}
 use Rattle.rounds.proofs.stopping.stop_row.Tie as tie
 
@@ -15,17 +15,8 @@ Inv-loop rows borders p shares b i₀ i = Looked rows (λ i. ltb (at shares i) (
 abbrev μ-loop : tie.MeasureT-loop
 μ-loop rows borders p shares b i₀ i = rows - i
 
-loop-holds : tie.Need-loop-holds Inv-loop μ-loop
-loop-holds c = looked-none _ _
-
 abbrev entry-from-loop : tie.At-loop Inv-loop μ-loop → tie.Start Inv-loop μ-loop
 entry-from-loop c = c .before .before .before
-
-factor-requires : tie.Need-factor-requires Inv-loop μ-loop
-factor-requires c κs = let q = entry-from-loop (c .before) .pre in (q .0 .0, omega arith, q .0 .1)
-
-shared-slice-read-if1 : tie.Need-shared-slice-read-if1 Inv-loop μ-loop
-shared-slice-read-if1 c = omega (arith, entry-from-loop (c .before .before .before) .pre .1)
 
 returns : tie.Need-returns Inv-loop μ-loop
 unfolding stopBy
@@ -49,17 +40,6 @@ unfolding stopBy
 returns-2 c = looked-all _ _ _ (c .before .loop .inv) (omega arith)
 
 pub stop-row-spec : {M : Type 1} → statement M
-stop-row-spec =
-    tie.close
-    (tie.spec
-    Inv-loop
-    μ-loop
-    loop-holds
-    factor-requires
-    (λ c. omega arith)
-    shared-slice-read-if1
-    returns
-    (λ c. omega arith)
-    (λ c. omega arith)
-    loop-again
+stop-row-spec = tie.close (tie.spec Inv-loop μ-loop (λ c. looked-none _ _) (λ c κs. let q = entry-from-loop (c .before) .pre in (q .0 .0, omega arith, q .0 .1))
+    (λ c. omega arith) (λ c. omega (arith, entry-from-loop (c .before .before .before) .pre .1)) returns (λ c. omega arith) (λ c. omega arith) loop-again
     returns-2)

@@ -33,15 +33,5 @@ returns-2 c =
     c .before .before .write-good .ensures ∙ rows-on (a .zones) (a .c .now) (a .f .now) (sym (ap found (told .enum-told .given .1)) ∙ told .before .before .first-row-out .ensures) (a .out .now)
 
 pub write-front-spec : {M : Type 1} → statement M
-write-front-spec =
-    tie.close
-    (tie.spec
-    (λ c κs. c .before .pre .0)
-    (λ c. search needs)
-    add-out-of-range
-    (λ c κs. search needs)
-    returns
-    (λ c. search needs)
-    write-good-requires
-    (λ c. search needs)
-    returns-2)
+write-front-spec = tie.close (tie.spec (λ c κs. c .before .pre .0) (λ c. search needs) add-out-of-range (λ c κs. search needs) returns (λ c. search needs)
+    write-good-requires (λ c. search needs) returns-2)

@@ -10,21 +10,11 @@ use Rattle.rowsheet.proofs.write.write_good.Tie as tie
 abbrev rows : tie.Start → Rows
 rows s = record { rows = s .args .c .now; factors = s .args .f .now }
 
-rows-length-requires : tie.Need-rows-length-requires
-rows-length-requires c κs =
-    let s = c .before in
-    (s .pre .0, s .pre .1, s .pre .2, sheet-short (s .args .zones) (s .args .c .now) (s .args .f .now) (s .pre .0) (s .pre .2) (s .pre .3) (s .pre .4))
-
 returns : tie.Need-returns
 unfolding sheetOf
 returns c =
     let s = c .before .before .before .before in
     rw (c .too-short .ensures) (text-short (sheetOf (s .args .zones) (rows s)) (s .args .out .now) _ (c .before .before .rows-length .ensures) (omega arith))
-
-put-rows-requires : tie.Need-put-rows-requires
-put-rows-requires c κs =
-    let s = c .before .before .before .before in
-    (s .pre .0, s .pre .1, s .pre .2, omega (arith, c .before .before .rows-length .ensures))
 
 returns-2 : tie.Need-returns-2
 unfolding sheetOf
@@ -33,4 +23,8 @@ returns-2 c =
     text-written (sheetOf (s .args .zones) (rows s)) (s .args .out .now) (omega (arith, c .before .before .before .before .before .rows-length .ensures)) (c .before .before .put-rows .ensures)
 
 pub write-good-spec : {M : Type 1} → statement M
-write-good-spec = tie.close (tie.spec rows-length-requires (λ c κs. search needs) returns put-rows-requires (λ c. search needs) returns-2)
+write-good-spec = tie.close (tie.spec
+    (λ c κs. let s = c .before in (s .pre .0, s .pre .1, s .pre .2, sheet-short (s .args .zones) (s .args .c .now) (s .args .f .now) (s .pre .0) (s .pre .2) (s .pre .3) (s .pre .4)))
+    (λ c κs. search needs) returns
+    (λ c κs. let s = c .before .before .before .before in (s .pre .0, s .pre .1, s .pre .2, omega (arith, c .before .before .rows-length .ensures)))
+    (λ c. search needs) returns-2)

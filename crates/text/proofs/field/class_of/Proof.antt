@@ -5,20 +5,6 @@ use borrow.Author.Tests.{le-ltb, lt-ltb, le-leb, lt-leb, ne-eqb}
 use Rattle.text.proofs.field.class_of.Statement.{statement}
 use Rattle.text.proofs.field.class_of.Tie as tie
 
-returns : tie.Need-returns
-returns c = rw (c .match .keys1)
-
-returns-2 : tie.Need-returns-2
-returns-2 c = rw (c .match .keys2)
-
-returns-3 : tie.Need-returns-3
-returns-3 c = rw (c .match .keys3)
-
-returns-4 : tie.Need-returns-4
-returns-4 c =
-    let b = c .before .before .before .args .byte in
-    rw (le-leb 48 b (c .before .if1 .left), lt-ltb b 58 (c .if2 .taken))
-
 returns-5 : tie.Need-returns-5
 returns-5 c =
     let b = c .before .before .args .byte in
@@ -32,5 +18,5 @@ returns-6 c =
     rw (le-leb 48 b (c .before .if1 .left), le-ltb b 58 (c .if2 .left), ne-eqb b 45 (none .0 .0 .1), ne-eqb b 9 (none .0 .1), ne-eqb b 10 (none .1))
 
 pub class-of-spec : {M : Type 1} → statement M
-class-of-spec =
-    tie.close (tie.spec (λ c. search needs) returns returns-2 returns-3 returns-4 returns-5 returns-6)
+class-of-spec = tie.close (tie.spec (λ c. search needs) (λ c. rw (c .match .keys1)) (λ c. rw (c .match .keys2)) (λ c. rw (c .match .keys3))
+    (λ c. let b = c .before .before .before .args .byte in rw (le-leb 48 b (c .before .if1 .left), lt-ltb b 58 (c .if2 .taken))) returns-5 returns-6)

@@ -4,18 +4,7 @@ use borrow.Author.Tests.{le-leb, lt-leb, lt-ltb, le-ltb}
 use Rattle.text.proofs.field.full.Statement.{statement}
 use Rattle.text.proofs.field.full.Tie as tie
 
-returns : tie.Need-returns
-returns c = rw (le-leb 10 (c .before .args .read) (omega arith))
-
-returns-2 : tie.Need-returns-2
-returns-2 c =
-    let read = c .before .before .args .read in
-    rw (lt-leb 10 read (omega arith), lt-ltb 0 read (omega arith))
-
-returns-3 : tie.Need-returns-3
-returns-3 c =
-    let read = c .before .before .args .read in
-    rw (lt-leb 10 read (omega arith), le-ltb 0 read (omega arith))
-
 pub full-spec : {M : Type 1} → statement M
-full-spec = tie.close (tie.spec returns returns-2 returns-3)
+full-spec = tie.close (tie.spec (λ c. rw (le-leb 10 (c .before .args .read) (omega arith)))
+    (λ c. let read = c .before .before .args .read in rw (lt-leb 10 read (omega arith), lt-ltb 0 read (omega arith)))
+    (λ c. let read = c .before .before .args .read in rw (lt-leb 10 read (omega arith), le-ltb 0 read (omega arith))))

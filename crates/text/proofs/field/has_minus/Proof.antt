@@ -23,5 +23,4 @@ returns-2 c =
     (c .enum-told .given .1))
 
 pub has-minus-spec : {M : Type 1} → statement M
-has-minus-spec =
-    tie.close (tie.spec (λ c κs. search needs) (λ c κs. search needs) (λ c. search needs) returns returns-2)
+has-minus-spec = tie.close (tie.spec (λ c κs. search needs) (λ c κs. search needs) (λ c. search needs) returns returns-2)

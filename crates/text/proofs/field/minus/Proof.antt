@@ -11,37 +11,14 @@ use Rattle.text.proofs.field.minus.Tie as tie
 small : (c : tie.Else1) → c .before .before .number .given .0 .0 < 10 ^ 10
 small c = rw (c .before .before .number .given .1) at (c .before .before .before .before .pre)
 
-returns : tie.Need-returns
-returns c = rw (c .before .before .number .given .1, c .if1 .taken)
-
-cast-t9 : tie.Need-cast-t9
-cast-t9 c = fits-pos (c .before .before .number .given .0 .0) (small c)
-
-sub-t10 : tie.Need-sub-t10
-sub-t10 c =
-    let v = c .before .before .number .given .0 .0 in
-    rw (read-back v (small c), +ℤ-idl (negℤ (pos v))) (fits-neg v (small c))
-
-returns-2 : tie.Need-returns-2
-returns-2 c = rw (c .before .before .number2 .given .1, c .if2 .taken)
-
 returns-3 : tie.Need-returns-3
 returns-3 c =
     let v = c .before .before .number .given .0 .0 in
     rw (read-back v (small c), +ℤ-idl (negℤ (pos v)), toZ-ofZ (fits-neg v (small c)), c .before .before .number .given .1, ne-eqb v 0 (c .if1 .left))
 
-returns-4 : tie.Need-returns-4
-returns-4 c = rw (c .before .before .number2 .given .1, ne-eqb (c .before .before .before .before .args .first) 48 (c .if2 .left))
-
 pub minus-spec : {M : Type 1} → statement M
-minus-spec =
-    tie.close
-    (tie.spec
-    (λ c. search needs)
-    returns
-    cast-t9
-    sub-t10
-    (λ c. search needs)
-    returns-2
-    returns-3
-    returns-4)
+minus-spec = tie.close (tie.spec (λ c. search needs) (λ c. rw (c .before .before .number .given .1, c .if1 .taken))
+    (λ c. fits-pos (c .before .before .number .given .0 .0) (small c))
+    (λ c. let v = c .before .before .number .given .0 .0 in rw (read-back v (small c), +ℤ-idl (negℤ (pos v))) (fits-neg v (small c))) (λ c. search needs)
+    (λ c. rw (c .before .before .number2 .given .1, c .if2 .taken)) returns-3
+    (λ c. rw (c .before .before .number2 .given .1, ne-eqb (c .before .before .before .before .args .first) 48 (c .if2 .left))))

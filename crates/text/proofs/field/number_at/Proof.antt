@@ -50,9 +50,6 @@ small c =
     let l = at-loop .loop in
     upto-small (a .line .now) (a .at) (l .i) (l .v) (l .inv) (sym (c .before .full .ensures) ∙ c .if3 .left)
 
-loop-holds : tie.Need-loop-holds Inv-loop μ-loop
-loop-holds c = upto-none (c .before .args .line .now) (c .before .args .at)
-
 returns : tie.Need-returns Inv-loop μ-loop
 returns c =
     let at-loop = c .before .before .before .before .before .before .before in
@@ -76,9 +73,6 @@ returns-3 c =
     let l = at-loop .loop in
     upto-empty (a .line .now) (a .at) (l .i) (l .v) (l .inv) (no-digit (c .before)) (a .stop) (c .if1 .left)
 
-sub-full : tie.Need-sub-full Inv-loop μ-loop
-sub-full c = omega (arith, at-loop-from-loop c .loop .inv .low)
-
 returns-4 : tie.Need-returns-4 Inv-loop μ-loop
 returns-4 c =
     let at-loop = at-loop-from-loop (c .before .before) in
@@ -86,9 +80,6 @@ returns-4 c =
     let l = at-loop .loop in
     upto-full (a .line .now) (a .at) (l .i) (l .v) (l .inv) (c .before .before .before .before .before .before .before .loop-test .taken) (digit (c .before .before) .0) (a .stop)
     (sym (c .before .full .ensures) ∙ c .if3 .taken)
-
-mul-v : tie.Need-mul-v Inv-loop μ-loop
-mul-v c = omega (arith, small c)
 
 add-v : tie.Need-add-v Inv-loop μ-loop
 add-v c =
@@ -112,26 +103,7 @@ returns-5 c =
     upto-cut (a .line .now) (a .at) (l .i) (l .v) (l .inv) (digits-end (a .line .now) (l .i) (c .loop-test .left)) (a .stop) (c .loop-test .left)
 
 pub number-at-spec : {M : Type 1} → statement M
-number-at-spec =
-    tie.close
-    (tie.spec
-    Inv-loop
-    μ-loop
-    loop-holds
-    (λ c. search needs)
-    (λ c κs. search needs)
-    (λ c. search needs)
-    (λ c. search needs)
-    (λ c. search needs)
-    returns
-    returns-2
-    returns-3
-    sub-full
-    (λ c κs. search needs)
-    returns-4
-    mul-v
-    add-v
-    (λ c. search needs)
-    (λ c. search needs)
-    loop-again
-    returns-5)
+number-at-spec = tie.close (tie.spec Inv-loop μ-loop (λ c. upto-none (c .before .args .line .now) (c .before .args .at)) (λ c. search needs)
+    (λ c κs. search needs) (λ c. search needs) (λ c. search needs) (λ c. search needs) returns returns-2 returns-3
+    (λ c. omega (arith, at-loop-from-loop c .loop .inv .low)) (λ c κs. search needs) returns-4 (λ c. omega (arith, small c)) add-v (λ c. search needs)
+    (λ c. search needs) loop-again returns-5)

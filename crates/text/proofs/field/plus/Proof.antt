@@ -10,14 +10,7 @@ use Rattle.text.proofs.field.plus.Tie as tie
 small : (c : tie.After-known-told) → c .before .number .given .0 .0 < 10 ^ 10
 small c = rw (c .before .number .given .1) at (c .before .before .before .pre)
 
-cast-t6 : tie.Need-cast-t6
-cast-t6 c = fits-pos (c .before .number .given .0 .0) (small c)
-
-returns : tie.Need-returns
-returns c = rw (read-back (c .before .number .given .0 .0) (small c)) (ap positive (sym (c .before .number .given .1)))
-
-returns-2 : tie.Need-returns-2
-returns-2 c = ap positive (sym (c .before .number2 .given .1))
-
 pub plus-spec : {M : Type 1} → statement M
-plus-spec = tie.close (tie.spec (λ c. search needs) cast-t6 (λ c. search needs) returns returns-2)
+plus-spec = tie.close (tie.spec (λ c. search needs) (λ c. fits-pos (c .before .number .given .0 .0) (small c)) (λ c. search needs)
+    (λ c. rw (read-back (c .before .number .given .0 .0) (small c)) (ap positive (sym (c .before .number .given .1))))
+    (λ c. ap positive (sym (c .before .number2 .given .1))))

@@ -16,36 +16,6 @@ entry c = c .before .before .before
 dash : (c : tie.Then1) → let a = entry c .args in eqb (getD (a .line .now) (a .at) 0) 45 ≡ true
 dash c = sym (c .before .has-minus .ensures) ∙ c .if1 .taken
 
-add-byte-at : tie.Need-add-byte-at
-add-byte-at c =
-    let a = entry c .args in
-    omega (arith, dash-within (a .line .now) (a .at) (dash c))
-
-add-t8 : tie.Need-add-t8
-add-t8 c =
-    let a = entry (c .before .before) .args in
-    omega (arith, dash-within (a .line .now) (a .at) (dash (c .before .before)))
-
-returns : tie.Need-returns
-returns c =
-    let a = entry (c .before .before) .args in
-    share-alone (a .line .now) (a .at) (a .stop) (dash (c .before .before)) (sym (c .before .byte-at .ensures) ∙ c .if2 .taken)
-
-add-t6 : tie.Need-add-t6
-add-t6 c =
-    let a = entry (c .before .before) .args in
-    omega (arith, dash-within (a .line .now) (a .at) (dash (c .before .before)))
-
-returns-2 : tie.Need-returns-2
-returns-2 c =
-    let a = entry (c .before .before) .args in
-    share-other (a .line .now) (a .at) (a .stop) (dash (c .before .before)) (λ e. c .if2 .left (c .before .byte-at .ensures ∙ e))
-
-plus-requires : tie.Need-plus-requires
-plus-requires c κs =
-    let a = c .before .before .before .before .args in
-    rw (c .number-at .ensures) (value-lt (a .line .now) (a .at) (a .stop))
-
 returns-3 : tie.Need-returns-3
 returns-3 c =
     let a = c .before .before .before .before .before .args in
@@ -53,16 +23,10 @@ returns-3 c =
     c .plus .ensures ∙ ap positive (c .before .number-at .ensures) ∙ share-plus (a .line .now) (a .at) (a .stop) (sym (at-else .before .has-minus .ensures) ∙ at-else .if1 .left)
 
 pub share-at-spec : {M : Type 1} → statement M
-share-at-spec =
-    tie.close
-    (tie.spec
-    (λ c κs. search needs)
-    add-byte-at
-    (λ c κs. search needs)
-    add-t8
-    returns
-    add-t6
-    returns-2
-    (λ c κs. search needs)
-    plus-requires
+share-at-spec = tie.close (tie.spec (λ c κs. search needs) (λ c. let a = entry c .args in omega (arith, dash-within (a .line .now) (a .at) (dash c)))
+    (λ c κs. search needs) (λ c. let a = entry (c .before .before) .args in omega (arith, dash-within (a .line .now) (a .at) (dash (c .before .before))))
+    (λ c. let a = entry (c .before .before) .args in share-alone (a .line .now) (a .at) (a .stop) (dash (c .before .before)) (sym (c .before .byte-at .ensures) ∙ c .if2 .taken))
+    (λ c. let a = entry (c .before .before) .args in omega (arith, dash-within (a .line .now) (a .at) (dash (c .before .before))))
+    (λ c. let a = entry (c .before .before) .args in share-other (a .line .now) (a .at) (a .stop) (dash (c .before .before)) (λ e. c .if2 .left (c .before .byte-at .ensures ∙ e)))
+    (λ c κs. search needs) (λ c κs. let a = c .before .before .before .before .args in rw (c .number-at .ensures) (value-lt (a .line .now) (a .at) (a .stop)))
     returns-3)

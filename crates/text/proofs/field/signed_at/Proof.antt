@@ -20,37 +20,12 @@ entry c = c .before .before .before
 dash : (c : tie.Then1) → let a = entry c .args in eqb (getD (a .line .now) (a .at) 0) 45 ≡ true
 dash c = sym (c .before .has-minus .ensures) ∙ c .if1 .taken
 
-add-byte-at : tie.Need-add-byte-at
-add-byte-at c =
-    let a = entry c .args in
-    omega (arith, dash-within (a .line .now) (a .at) (dash c))
-
-add-minus : tie.Need-add-minus
-add-minus c =
-    let a = entry (c .before) .args in
-    omega (arith, dash-within (a .line .now) (a .at) (dash (c .before)))
-
-add-number-at : tie.Need-add-number-at
-add-number-at c =
-    let a = entry (c .before) .args in
-    omega (arith, dash-within (a .line .now) (a .at) (dash (c .before)))
-
-minus-requires : tie.Need-minus-requires
-minus-requires c κs =
-    let a = entry (c .before .before) .args in
-    rw (c .number-at .ensures) (value-lt (a .line .now) (a .at + 1) (a .stop))
-
 returns : tie.Need-returns
 returns c =
     let a = entry (c .before .before .before) .args in
     c .minus .ensures
     ∙ ap₂ (λ (first : ℕ) (n : Number). negative first (a .at + 1) n) (c .before .before .byte-at .ensures) (c .before .number-at .ensures)
     ∙ signed-minus (a .line .now) (a .at) (a .stop) (dash (c .before .before .before))
-
-plus-requires : tie.Need-plus-requires
-plus-requires c κs =
-    let a = c .before .before .before .before .args in
-    rw (c .number-at2 .ensures) (value-lt (a .line .now) (a .at) (a .stop))
 
 returns-2 : tie.Need-returns-2
 returns-2 c =
@@ -59,17 +34,9 @@ returns-2 c =
     c .plus .ensures ∙ ap positive (c .before .number-at2 .ensures) ∙ signed-plus (a .line .now) (a .at) (a .stop) (sym (at-else .before .has-minus .ensures) ∙ at-else .if1 .left)
 
 pub signed-at-spec : {M : Type 1} → statement M
-signed-at-spec =
-    tie.close
-    (tie.spec
-    (λ c κs. search needs)
-    add-byte-at
-    (λ c κs. search needs)
-    add-minus
-    add-number-at
-    (λ c κs. search needs)
-    minus-requires
-    returns
-    (λ c κs. search needs)
-    plus-requires
+signed-at-spec = tie.close (tie.spec (λ c κs. search needs) (λ c. let a = entry c .args in omega (arith, dash-within (a .line .now) (a .at) (dash c)))
+    (λ c κs. search needs) (λ c. let a = entry (c .before) .args in omega (arith, dash-within (a .line .now) (a .at) (dash (c .before))))
+    (λ c. let a = entry (c .before) .args in omega (arith, dash-within (a .line .now) (a .at) (dash (c .before)))) (λ c κs. search needs)
+    (λ c κs. let a = entry (c .before .before) .args in rw (c .number-at .ensures) (value-lt (a .line .now) (a .at + 1) (a .stop))) returns
+    (λ c κs. search needs) (λ c κs. let a = c .before .before .before .before .args in rw (c .number-at2 .ensures) (value-lt (a .line .now) (a .at) (a .stop)))
     returns-2)

@@ -9,11 +9,6 @@ use borrow.Author.Needs.{needs}
 use Rattle.text.proofs.line.line_at.Statement.{statement}
 use Rattle.text.proofs.line.line_at.Tie as tie
 
-part-result-end : tie.Need-part-result-end
-part-result-end c =
-    let a = c .before .before .args in
-    omega (arith, line-le-length (drop (a .p) (a .text .now)), length-drop (a .p) (a .text .now))
-
 returns : tie.Need-returns
 returns c =
     let a = c .before .before .before .args in
@@ -22,5 +17,5 @@ returns c =
     ap (λ (n : ℕ). take n s) k ∙ line-take s
 
 pub line-at-spec : {M : Type 1} → statement M
-line-at-spec =
-    tie.close (tie.spec (λ c κs. search needs) (λ c. search needs) (λ c. search needs) part-result-end returns)
+line-at-spec = tie.close (tie.spec (λ c κs. search needs) (λ c. search needs) (λ c. search needs)
+    (λ c. let a = c .before .before .args in omega (arith, line-le-length (drop (a .p) (a .text .now)), length-drop (a .p) (a .text .now))) returns)

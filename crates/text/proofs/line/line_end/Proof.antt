@@ -26,22 +26,6 @@ loop-again c =
     let l = c .before .before .before .loop in
     omega (arith, ap length (line-step (c .before .before .before .before .args .text .now) (l .i) (c .before .before .loop-test .taken) (c .if1 .left)))
 
-returns-2 : tie.Need-returns-2 Inv-loop μ-loop
-returns-2 c =
-    let l = c .before .loop in
-    omega (arith, ap length (line-end (c .before .before .args .text .now) (l .i) (c .loop-test .left)))
-
 pub line-end-spec : {M : Type 1} → statement M
-line-end-spec =
-    tie.close
-    (tie.spec
-    Inv-loop
-    μ-loop
-    (λ c. search needs)
-    (λ c. search needs)
-    (λ c. search needs)
-    returns
-    (λ c. search needs)
-    (λ c. search needs)
-    loop-again
-    returns-2)
+line-end-spec = tie.close (tie.spec Inv-loop μ-loop (λ c. search needs) (λ c. search needs) (λ c. search needs) returns (λ c. search needs) (λ c. search needs)
+    loop-again (λ c. let l = c .before .loop in omega (arith, ap length (line-end (c .before .before .args .text .now) (l .i) (c .loop-test .left)))))

@@ -20,11 +20,6 @@ Inv-loop minus k line at v stop p₀ worth₀ left₀ p worth left = Decimals mi
 abbrev μ-loop : tie.MeasureT-loop
 μ-loop minus k line at v stop p₀ worth₀ left₀ p worth left = left
 
-loop-holds : tie.Need-loop-holds Inv-loop μ-loop
-loop-holds c =
-    let p = c .before .pre in
-    decimals-start _ _ _ _ _ _ (p .2) (p .3) (p .0) (p .1)
-
 -- the byte at p is no digit; it is the digit d
 abbrev at-loop : tie.After-class-of Inv-loop μ-loop → tie.At-loop Inv-loop μ-loop
 at-loop c = c .before .before .before
@@ -46,16 +41,8 @@ digit c =
     let l = at-loop k in
     class-digit (getD (l .before .before .args .line .now) (l .loop .p) 0) (k .class-of .result) (k .class-of .ensures ∙ ap classOf (k .before .byte-at .ensures)) (c .before .d .given .0 .0) (c .before .d .given .1)
 
-returns : tie.Need-returns Inv-loop μ-loop
-returns c =
-    let l = at-loop (c .before) in
-    decimals-bad _ _ _ _ _ _ _ _ _ (l .loop .inv) (c .before .before .before .loop-test .taken) (no-digit c)
-
 abbrev test : tie.After-known-told Inv-loop μ-loop → tie.In-loop Inv-loop μ-loop
 test c = c .before .before .before .before .before
-
-mul-worth : tie.Need-mul-worth Inv-loop μ-loop
-mul-worth c = omega (arith, decimals-small _ _ _ _ _ _ _ _ _ (test c .before .loop .inv) (test c .loop-test .taken))
 
 add-worth : tie.Need-add-worth Inv-loop μ-loop
 add-worth c =
@@ -63,36 +50,12 @@ add-worth c =
     let l = test c .before in
     omega (arith, decimals-small _ _ _ _ _ _ _ _ _ (l .loop .inv) (test c .loop-test .taken), d .1, digit-range (getD (l .before .before .args .line .now) (l .loop .p) 0) (d .0))
 
-add-p : tie.Need-add-p Inv-loop μ-loop
-add-p c = omega (arith, decimals-within _ _ _ _ _ _ _ _ _ (test c .before .loop .inv) (test c .loop-test .taken) (digit c .0))
-
-loop-again : tie.Need-loop-again Inv-loop μ-loop
-loop-again c =
-    let d = digit c in
-    decimals-more _ _ _ _ _ _ _ _ _ (test c .before .loop .inv) (test c .loop-test .taken) (d .0) _ (d .1)
-
-ended-requires : tie.Need-ended-requires Inv-loop μ-loop
-ended-requires c κs = let u = c .before .loop .inv in (u .some, u .within)
-
-returns-2 : tie.Need-returns-2 Inv-loop μ-loop
-returns-2 c = c .ended .ensures ∙ decimals-all _ _ _ _ _ _ _ _ _ (c .before .before .loop .inv) (c .before .loop-test .left)
-
 pub decimals-at-spec : {M : Type 1} → statement M
-decimals-at-spec =
-    tie.close
-    (tie.spec
-    Inv-loop
-    μ-loop
-    loop-holds
-    (λ c κs. search needs)
-    (λ c κs. search needs)
-    (λ c. search needs)
-    returns
-    mul-worth
-    add-worth
-    add-p
-    (λ c. omega arith)
-    (λ c. omega arith)
-    loop-again
-    ended-requires
-    returns-2)
+decimals-at-spec = tie.close (tie.spec Inv-loop μ-loop (λ c. let p = c .before .pre in decimals-start _ _ _ _ _ _ (p .2) (p .3) (p .0) (p .1))
+    (λ c κs. search needs) (λ c κs. search needs) (λ c. search needs)
+    (λ c. let l = at-loop (c .before) in decimals-bad _ _ _ _ _ _ _ _ _ (l .loop .inv) (c .before .before .before .loop-test .taken) (no-digit c))
+    (λ c. omega (arith, decimals-small _ _ _ _ _ _ _ _ _ (test c .before .loop .inv) (test c .loop-test .taken))) add-worth
+    (λ c. omega (arith, decimals-within _ _ _ _ _ _ _ _ _ (test c .before .loop .inv) (test c .loop-test .taken) (digit c .0))) (λ c. omega arith)
+    (λ c. omega arith) (λ c. let d = digit c in decimals-more _ _ _ _ _ _ _ _ _ (test c .before .loop .inv) (test c .loop-test .taken) (d .0) _ (d .1))
+    (λ c κs. let u = c .before .loop .inv in (u .some, u .within))
+    (λ c. c .ended .ensures ∙ decimals-all _ _ _ _ _ _ _ _ _ (c .before .before .loop .inv) (c .before .loop-test .left)))

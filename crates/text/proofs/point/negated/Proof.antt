@@ -12,21 +12,8 @@ use Rattle.text.proofs.point.negated.Tie as tie
 small : (c : tie.After-known-told) → c .before .number .given .0 .0 < 10 ^ 10
 small c = rw (c .before .number .given .1) at (c .before .before .before .pre)
 
-cast-t6 : tie.Need-cast-t6
-cast-t6 c = fits-pos (c .before .number .given .0 .0) (small c)
-
-sub-t7 : tie.Need-sub-t7
-sub-t7 c =
-    let v = c .before .number .given .0 .0 in
-    rw (read-back v (small c), +ℤ-idl (negℤ (pos v))) (fits-neg v (small c))
-
-returns : tie.Need-returns
-returns c =
-    let v = c .before .number .given .0 .0 in
-    rw (read-back v (small c), +ℤ-idl (negℤ (pos v)), toZ-ofZ (fits-neg v (small c))) (ap negated (sym (c .before .number .given .1)))
-
-returns-2 : tie.Need-returns-2
-returns-2 c = ap negated (sym (c .before .number2 .given .1))
-
 pub negated-spec : {M : Type 1} → statement M
-negated-spec = tie.close (tie.spec (λ c. search needs) cast-t6 sub-t7 (λ c. search needs) returns returns-2)
+negated-spec = tie.close (tie.spec (λ c. search needs) (λ c. fits-pos (c .before .number .given .0 .0) (small c))
+    (λ c. let v = c .before .number .given .0 .0 in rw (read-back v (small c), +ℤ-idl (negℤ (pos v))) (fits-neg v (small c))) (λ c. search needs)
+    (λ c. let v = c .before .number .given .0 .0 in rw (read-back v (small c), +ℤ-idl (negℤ (pos v)), toZ-ofZ (fits-neg v (small c))) (ap negated (sym (c .before .number .given .1))))
+    (λ c. ap negated (sym (c .before .number2 .given .1))))

@@ -20,11 +20,6 @@ whole c = sym (c .before .before .before .number-at .ensures) ∙ c .before .v .
 none : (c : tie.After-known-told2) → let a = entry (c .before .before .before) .args in numberAt (a .line .now) (a .at) point ≡ Bad (c .before .place .given .0 .0)
 none c = sym (c .before .before .before .number-at .ensures) ∙ c .before .place .given .1
 
-sub-if1 : tie.Need-sub-if1
-sub-if1 c =
-    let s = entry (c .before .before .before) in
-    omega (arith, whole-after (s .args .minus) (s .args .k) (s .args .line .now) (s .args .at) (s .args .stop) _ _ (whole c) .0)
-
 decimals-at-requires : tie.Need-decimals-at-requires
 decimals-at-requires c κs =
     let t = c .before in
@@ -44,15 +39,6 @@ add-t12 c =
     let s = entry (t .before .before .before) in
     omega (arith, whole-after (s .args .minus) (s .args .k) (s .args .line .now) (s .args .at) (s .args .stop) _ _ (whole t) .1)
 
-capped-requires : tie.Need-capped-requires
-capped-requires c κs = let a = entry (c .before .before .before) .args in bad-after (a .line .now) (a .at) point _ (none c)
-
-returns-2 : tie.Need-returns-2
-returns-2 c =
-    let t = c .before in
-    let s = entry (t .before .before .before) in
-    point-long (s .args .minus) (s .args .k) (s .args .line .now) (s .args .at) (s .args .stop) _ _ (whole t) (c .if1 .left)
-
 returns-3 : tie.Need-returns-3
 returns-3 c =
     let t = c .before in
@@ -60,18 +46,9 @@ returns-3 c =
     ap Bad (c .capped .ensures) ∙ point-bad (s .args .minus) (s .args .k) (s .args .line .now) (s .args .at) (s .args .stop) _ (none t)
 
 pub point-at-spec : {M : Type 1} → statement M
-point-at-spec =
-    tie.close
-    (tie.spec
-    (λ c. omega (arith, c .before .pre))
-    (λ c κs. search needs)
-    (λ c. search needs)
-    sub-if1
-    (λ c. omega arith)
-    decimals-at-requires
-    returns
-    add-t12
-    (λ c. search needs)
-    capped-requires
-    returns-2
+point-at-spec = tie.close (tie.spec (λ c. omega (arith, c .before .pre)) (λ c κs. search needs) (λ c. search needs)
+    (λ c. let s = entry (c .before .before .before) in omega (arith, whole-after (s .args .minus) (s .args .k) (s .args .line .now) (s .args .at) (s .args .stop) _ _ (whole c) .0))
+    (λ c. omega arith) decimals-at-requires returns add-t12 (λ c. search needs)
+    (λ c κs. let a = entry (c .before .before .before) .args in bad-after (a .line .now) (a .at) point _ (none c))
+    (λ c. let t = c .before in let s = entry (t .before .before .before) in point-long (s .args .minus) (s .args .k) (s .args .line .now) (s .args .at) (s .args .stop) _ _ (whole t) (c .if1 .left))
     returns-3)

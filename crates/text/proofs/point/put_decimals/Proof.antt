@@ -19,14 +19,6 @@ abbrev μ-loop : tie.MeasureT-loop
 all : (c : tie.After-loop Inv-loop μ-loop) → let a = c .before .before .before .args in Put (lastDigits (a .k) (a .n)) (a .at) (a .out .now) (c .before .loop .next) (c .before .loop .out)
 all c = decimals-put-all (c .before .loop .inv) (c .loop-test .left)
 
-loop-holds : tie.Need-loop-holds Inv-loop μ-loop
-loop-holds c = decimals-put-none _ _ _ _
-
-put-byte-requires : tie.Need-put-byte-requires Inv-loop μ-loop
-put-byte-requires c κs =
-    let t = c .before .before .before in
-    decimals-put-room (t .before .loop .inv) (t .loop-test .taken) (t .before .before .before .pre)
-
 loop-again : tie.Need-loop-again Inv-loop μ-loop
 loop-again c =
     let p = c .before .before in
@@ -35,24 +27,7 @@ loop-again c =
     decimals-put-more (t .before .loop .inv) (t .loop-test .taken) (t .before .before .before .pre)
     (d .digit .ensures ∙ ap (λ (m : ℕ). 48 + m % 10) (d .before .shifted .ensures)) (p .put-byte .ensures)
 
-same-length : tie.Need-same-length Inv-loop μ-loop
-same-length c = put-kept (all c) (c .before .before .before .pre)
-
-returns : tie.Need-returns Inv-loop μ-loop
-returns c = all c
-
 pub put-decimals-spec : {M : Type 1} → statement M
-put-decimals-spec =
-    tie.close
-    (tie.spec
-    Inv-loop
-    μ-loop
-    loop-holds
-    (λ c. omega arith)
-    (λ c κs. tt)
-    (λ c κs. omega arith)
-    put-byte-requires
-    (λ c. omega arith)
-    loop-again
-    same-length
-    returns)
+put-decimals-spec = tie.close (tie.spec Inv-loop μ-loop (λ c. decimals-put-none _ _ _ _) (λ c. omega arith) (λ c κs. tt) (λ c κs. omega arith)
+    (λ c κs. let t = c .before .before .before in decimals-put-room (t .before .loop .inv) (t .loop-test .taken) (t .before .before .before .pre))
+    (λ c. omega arith) loop-again (λ c. put-kept (all c) (c .before .before .before .pre)) (λ c. all c))

@@ -12,15 +12,9 @@ use Rattle.text.proofs.PointLaws.{last-long, pointed-long, pointed-put}
 use Rattle.text.proofs.point.put_point.Statement.{statement}
 use Rattle.text.proofs.point.put_point.Tie as tie
 
--- as many digits before the point as were counted
+-- the digits before the point are as many as were counted
 whole : (c : tie.After-shifted) → length (decimal (c .shifted .result)) ≡ length (decimal (c .before .before .args .n / 10 ^ c .before .before .args .k))
 whole c = ap (λ (m : ℕ). length (decimal m)) (c .shifted .ensures)
-
-put-number-requires : tie.Need-put-number-requires
-put-number-requires c κs =
-    let w = c .before in
-    let s = w .before .before in
-    omega (arith, s .pre, whole w, pointed-long (s .args .k) (s .args .n))
 
 put-byte-requires : tie.Need-put-byte-requires
 put-byte-requires c κs =
@@ -48,5 +42,6 @@ returns c =
     pointed-put (s .args .k) (s .args .n) (w .shifted .ensures) (omega (arith, s .pre)) (a .put-number .ensures) (b .put-byte .ensures) (d .put-decimals .ensures)
 
 pub put-point-spec : {M : Type 1} → statement M
-put-point-spec =
-    tie.close (tie.spec (λ c κs. search needs) put-number-requires put-byte-requires put-decimals-requires (λ c. search needs) returns)
+put-point-spec = tie.close (tie.spec (λ c κs. search needs)
+    (λ c κs. let w = c .before in let s = w .before .before in omega (arith, s .pre, whole w, pointed-long (s .args .k) (s .args .n))) put-byte-requires
+    put-decimals-requires (λ c. search needs) returns)

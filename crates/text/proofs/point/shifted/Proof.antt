@@ -16,18 +16,7 @@ Inv-loop n k rest₀ -j₀ rest -j = Shifted n k rest -j
 abbrev μ-loop : tie.MeasureT-loop
 μ-loop n k rest₀ -j₀ rest -j = k - -j
 
-loop-holds : tie.Need-loop-holds Inv-loop μ-loop
-loop-holds c = record { is = shift-none _; high = omega arith }
-
-loop-again : tie.Need-loop-again Inv-loop μ-loop
-loop-again c = record { is = shift-more _ _ _ (c .before .loop .inv .is); high = omega arith }
-
-returns : tie.Need-returns Inv-loop μ-loop
-returns c =
-    let l = c .before .loop in
-    let a = c .before .before .args in
-    let e : l .-j ≡ a .k = omega (arith, l .inv .high) in
-    l .inv .is ∙ ap (λ (j : ℕ). a .n / 10 ^ j) e
-
 pub shifted-spec : {M : Type 1} → statement M
-shifted-spec = tie.close (tie.spec Inv-loop μ-loop loop-holds (λ c. omega arith) (λ c. omega arith) loop-again returns)
+shifted-spec = tie.close (tie.spec Inv-loop μ-loop (λ c. record { is = shift-none _; high = omega arith }) (λ c. omega arith) (λ c. omega arith)
+    (λ c. record { is = shift-more _ _ _ (c .before .loop .inv .is); high = omega arith })
+    (λ c. let l = c .before .loop in let a = c .before .before .args in let e : l .-j ≡ a .k = omega (arith, l .inv .high) in l .inv .is ∙ ap (λ (j : ℕ). a .n / 10 ^ j) e))

@@ -15,26 +15,11 @@ use Rattle.text.proofs.point.signed_point_at.Tie as tie
 dash : (c : tie.Then1) → let a = c .before .before .before .args in eqb (getD (a .line .now) (a .at) 0) 45 ≡ true
 dash c = sym (c .before .has-minus .ensures) ∙ c .if1 .taken
 
-add-point-at : tie.Need-add-point-at
-add-point-at c =
-    let a = c .before .before .before .args in
-    omega (arith, dash-within (a .line .now) (a .at) (dash c))
-
-negated-requires : tie.Need-negated-requires
-negated-requires c κs =
-    let s = c .before .before .before .before in
-    rw (c .point-at .ensures) (point-lt true (s .args .k) (s .args .line .now) _ (s .args .stop) (s .pre))
-
 returns : tie.Need-returns
 returns c =
     let t = c .before .before in
     let a = t .before .before .before .args in
     c .negated .ensures ∙ ap negated (c .before .point-at .ensures) ∙ signed-point-minus (a .k) (a .line .now) (a .at) (a .stop) (dash t)
-
-plus-requires : tie.Need-plus-requires
-plus-requires c κs =
-    let s = c .before .before .before .before in
-    rw (c .point-at2 .ensures) (point-lt false (s .args .k) (s .args .line .now) (s .args .at) (s .args .stop) (s .pre))
 
 returns-2 : tie.Need-returns-2
 returns-2 c =
@@ -43,14 +28,9 @@ returns-2 c =
     c .plus .ensures ∙ ap positive (c .before .point-at2 .ensures) ∙ signed-point-plus (a .k) (a .line .now) (a .at) (a .stop) (sym (t .before .has-minus .ensures) ∙ t .if1 .left)
 
 pub signed-point-at-spec : {M : Type 1} → statement M
-signed-point-at-spec =
-    tie.close
-    (tie.spec
-    (λ c κs. search needs)
-    add-point-at
-    (λ c κs. search needs)
-    negated-requires
-    returns
-    (λ c κs. search needs)
-    plus-requires
+signed-point-at-spec = tie.close (tie.spec (λ c κs. search needs)
+    (λ c. let a = c .before .before .before .args in omega (arith, dash-within (a .line .now) (a .at) (dash c))) (λ c κs. search needs)
+    (λ c κs. let s = c .before .before .before .before in rw (c .point-at .ensures) (point-lt true (s .args .k) (s .args .line .now) _ (s .args .stop) (s .pre)))
+    returns (λ c κs. search needs)
+    (λ c κs. let s = c .before .before .before .before in rw (c .point-at2 .ensures) (point-lt false (s .args .k) (s .args .line .now) (s .args .at) (s .args .stop) (s .pre)))
     returns-2)

@@ -18,15 +18,6 @@ few c = omega (arith, c .digit-count .ensures, decimal-u64 (c .before .shifted .
 counted : (c : tie.After-digit-count) → c .digit-count .result ≡ length (decimal (c .before .before .magnitude .result / 10 ^ c .before .before .before .args .k))
 counted c = c .digit-count .ensures ∙ ap (λ (n : ℕ). length (decimal n)) (c .before .shifted .ensures)
 
-add-count : tie.Need-add-count
-add-count c = omega (arith, few c)
-
-add-count-2 : tie.Need-add-count-2
-add-count-2 c = omega (arith, few c, c .before .before .before .pre)
-
-add-result : tie.Need-add-result
-add-result c = omega (arith, few (c .before), c .before .before .before .before .pre)
-
 returns : tie.Need-returns
 returns c =
     let s = c .before .before .before .before in
@@ -42,14 +33,5 @@ returns-2 c =
     omega (arith, counted (c .before), pointed-long (s .args .k) (c .before .before .before .magnitude .result), above-point-length (s .args .k) (s .args .z) q e)
 
 pub signed-point-length-spec : {M : Type 1} → statement M
-signed-point-length-spec =
-    tie.close
-    (tie.spec
-    (λ c κs. search needs)
-    (λ c κs. search needs)
-    (λ c κs. search needs)
-    add-count
-    add-count-2
-    add-result
-    returns
-    returns-2)
+signed-point-length-spec = tie.close (tie.spec (λ c κs. search needs) (λ c κs. search needs) (λ c κs. search needs) (λ c. omega (arith, few c))
+    (λ c. omega (arith, few c, c .before .before .before .pre)) (λ c. omega (arith, few (c .before), c .before .before .before .before .pre)) returns returns-2)

@@ -11,17 +11,7 @@ Inv-loop n rest₀ count₀ rest count = DigitsCounted n rest count
 abbrev μ-loop : tie.MeasureT-loop
 μ-loop n rest₀ count₀ rest count = rest
 
-loop-holds : tie.Need-loop-holds Inv-loop μ-loop
-loop-holds c = digits-counted-none _
-
-add-count : tie.Need-add-count Inv-loop μ-loop
-add-count c = omega (arith, digits-counted-few (c .before .loop .inv) (omega (arith, c .before .before .fits .n)))
-
-loop-again : tie.Need-loop-again Inv-loop μ-loop
-loop-again c = digits-counted-more (c .before .loop .inv) (omega arith)
-
-returns : tie.Need-returns Inv-loop μ-loop
-returns c = digits-counted-all (c .before .loop .inv) (omega arith)
-
 pub digit-count-spec : {M : Type 1} → statement M
-digit-count-spec = tie.close (tie.spec Inv-loop μ-loop loop-holds add-count (λ c. omega arith) loop-again returns)
+digit-count-spec = tie.close (tie.spec Inv-loop μ-loop (λ c. digits-counted-none _)
+    (λ c. omega (arith, digits-counted-few (c .before .loop .inv) (omega (arith, c .before .before .fits .n)))) (λ c. omega arith)
+    (λ c. digits-counted-more (c .before .loop .inv) (omega arith)) (λ c. digits-counted-all (c .before .loop .inv) (omega arith)))

@@ -37,29 +37,10 @@ not-below (negsuc n) e = subst T e tt
 steps : (c : tie.Then1) → Turned (c .before .args .z)
 steps c = turned-of (c .before .args .z) (c .before .fits .z) (simp (toZ-ofZ, c .before .fits .z) at (c .if1 .taken))
 
-add-less-one : tie.Need-add-less-one
-add-less-one c = simp (toZ-ofZ, c .before .fits .z) (steps c .one-more)
-
-sub-less-one : tie.Need-sub-less-one
-sub-less-one c = simp (toZ-ofZ, c .before .fits .z, steps c .one-more) (steps c .turned)
-
-cast-result : tie.Need-cast-result
-cast-result c = simp (toZ-ofZ, c .before .fits .z, steps c .one-more, steps c .turned) (steps c .above, record { fits = omega (arith, steps c .small) })
-
-add-result : tie.Need-add-result
-add-result c = simp (toZ-ofZ, c .before .fits .z, steps c .one-more, steps c .turned) (record { fits = omega (arith, steps c .small) })
-
-cast-result-2 : tie.Need-cast-result-2
-cast-result-2 c =
-    let z = c .before .args .z in
-    let f = c .before .fits .z in
-    simp (toZ-ofZ, f) (not-below z (simp (toZ-ofZ, f) at (c .if1 .left)), fits-natAbs tt f)
-
-returns : tie.Need-returns
-returns c = simp (toZ-ofZ, c .before .fits .z, steps c .one-more, steps c .turned) (steps c .whole)
-
-returns-2 : tie.Need-returns-2
-returns-2 c = simp (toZ-ofZ, c .before .fits .z)
-
 pub magnitude-spec : {M : Type 1} → statement M
-magnitude-spec = tie.close (tie.spec add-less-one sub-less-one cast-result add-result cast-result-2 returns returns-2)
+magnitude-spec = tie.close (tie.spec (λ c. simp (toZ-ofZ, c .before .fits .z) (steps c .one-more))
+    (λ c. simp (toZ-ofZ, c .before .fits .z, steps c .one-more) (steps c .turned))
+    (λ c. simp (toZ-ofZ, c .before .fits .z, steps c .one-more, steps c .turned) (steps c .above, record { fits = omega (arith, steps c .small) }))
+    (λ c. simp (toZ-ofZ, c .before .fits .z, steps c .one-more, steps c .turned) (record { fits = omega (arith, steps c .small) }))
+    (λ c. let z = c .before .args .z in let f = c .before .fits .z in simp (toZ-ofZ, f) (not-below z (simp (toZ-ofZ, f) at (c .if1 .left)), fits-natAbs tt f))
+    (λ c. simp (toZ-ofZ, c .before .fits .z, steps c .one-more, steps c .turned) (steps c .whole)) (λ c. simp (toZ-ofZ, c .before .fits .z)))

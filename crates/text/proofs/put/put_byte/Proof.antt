@@ -5,8 +5,5 @@ use Rattle.text.proofs.PutLaws.{put-byte}
 use Rattle.text.proofs.put.put_byte.Statement.{statement}
 use Rattle.text.proofs.put.put_byte.Tie as tie
 
-returns : tie.Need-returns
-returns c = record { after = refl; wrote = put-byte _ _ _ (c .pre) }
-
 pub put-byte-spec : {M : Type 1} → statement M
-put-byte-spec = tie.close (tie.spec (λ c. search needs) (λ c. search needs) (λ c. search needs) returns)
+put-byte-spec = tie.close (tie.spec (λ c. search needs) (λ c. search needs) (λ c. search needs) (λ c. record { after = refl; wrote = put-byte _ _ _ (c .pre) }))

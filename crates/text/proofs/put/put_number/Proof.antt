@@ -14,54 +14,16 @@ Inv-loop n out₀ at next left₀ i₀ out left i = DigitsPut n at out₀ out le
 abbrev μ-loop : tie.MeasureT-loop
 μ-loop n out₀ at next left₀ i₀ out left i = left
 
-digit-count-requires : tie.Need-digit-count-requires Inv-loop μ-loop
-digit-count-requires c κs = tt
-
-add-next : tie.Need-add-next Inv-loop μ-loop
-add-next c = omega (arith, c .digit-count .ensures)
-
-loop-holds : tie.Need-loop-holds Inv-loop μ-loop
-loop-holds c = digits-put-none _ _ _ _ (ap (λ (k : ℕ). c .before .before .args .at + k) (c .digit-count .ensures)) (c .before .before .pre)
-
-sub-i : tie.Need-sub-i Inv-loop μ-loop
-sub-i c = omega (arith, digits-put-some (c .before .loop .inv))
-
-slice-write-out : tie.Need-slice-write-out Inv-loop μ-loop
-slice-write-out c =
-    let u = c .before .before .loop .inv in
-    omega (arith, digits-put-some u, u .place, u .room)
-
-loop-again : tie.Need-loop-again Inv-loop μ-loop
-loop-again c = digits-put-more (c .before .before .loop .inv) _ (c .digit .ensures) (omega arith)
-
-slice-write-out-2 : tie.Need-slice-write-out-2 Inv-loop μ-loop
-slice-write-out-2 c =
-    let u = c .before .before .loop .inv in
-    omega (arith, digits-put-some u, u .place, u .room)
-
-same-length : tie.Need-same-length Inv-loop μ-loop
-same-length c = simp length-set (c .before .before .loop .inv .kept)
-
 returns : tie.Need-returns Inv-loop μ-loop
 returns c =
     let counted = c .before .before .before in
     digits-put-all (c .before .before .loop .inv) _ _ (c .digit2 .ensures) (omega arith) (ap (λ (k : ℕ). counted .before .before .args .at + k) (counted .digit-count .ensures))
 
 pub put-number-spec : {M : Type 1} → statement M
-put-number-spec =
-    tie.close
-    (tie.spec
-    Inv-loop
-    μ-loop
-    digit-count-requires
-    add-next
-    loop-holds
-    sub-i
-    (λ c κs. omega arith)
-    slice-write-out
-    (λ c. omega arith)
-    loop-again
-    (λ c κs. omega arith)
-    slice-write-out-2
-    same-length
-    returns)
+put-number-spec = tie.close (tie.spec Inv-loop μ-loop (λ c κs. tt) (λ c. omega (arith, c .digit-count .ensures))
+    (λ c. digits-put-none _ _ _ _ (ap (λ (k : ℕ). c .before .before .args .at + k) (c .digit-count .ensures)) (c .before .before .pre))
+    (λ c. omega (arith, digits-put-some (c .before .loop .inv))) (λ c κs. omega arith)
+    (λ c. let u = c .before .before .loop .inv in omega (arith, digits-put-some u, u .place, u .room)) (λ c. omega arith)
+    (λ c. digits-put-more (c .before .before .loop .inv) _ (c .digit .ensures) (omega arith)) (λ c κs. omega arith)
+    (λ c. let u = c .before .before .loop .inv in omega (arith, digits-put-some u, u .place, u .room))
+    (λ c. simp length-set (c .before .before .loop .inv .kept)) returns)

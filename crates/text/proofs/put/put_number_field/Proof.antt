@@ -12,5 +12,4 @@ returns c =
     put-more (tabbed .put-byte .ensures) (omega (arith, tabbed .before .before .before .pre)) (number .put-number .ensures)
 
 pub put-number-field-spec : {M : Type 1} → statement M
-put-number-field-spec =
-    tie.close (tie.spec (λ c κs. search needs) (λ c κs. search needs) (λ c. search needs) returns)
+put-number-field-spec = tie.close (tie.spec (λ c κs. search needs) (λ c κs. search needs) (λ c. search needs) returns)

@@ -21,12 +21,6 @@ above t =
     let f = t .before .before .before .fits .z in
     (simp (toZ-ofZ, f) at (t .before .magnitude .ensures), simp (toZ-ofZ, f) at (t .if1 .left))
 
-put-byte-requires : tie.Need-put-byte-requires
-put-byte-requires c κs =
-    let test = c .before in
-    let start = test .before .before .before in
-    omega (arith, start .pre, below-length (start .args .z) (below test .0) (below test .1))
-
 put-number-requires : tie.Need-put-number-requires
 put-number-requires c κs =
     let minus = c .before .before .before in
@@ -42,12 +36,6 @@ returns c =
     let start = test .before .before .before in
     below-put (start .args .z) (below test .0) (below test .1) (omega (arith, start .pre)) (minus .put-byte .ensures) (digits .put-number .ensures)
 
-put-number-requires-2 : tie.Need-put-number-requires-2
-put-number-requires-2 c κs =
-    let test = c .before in
-    let start = test .before .before .before in
-    omega (arith, start .pre, above-length (start .args .z) (above test .0) (above test .1))
-
 returns-2 : tie.Need-returns-2
 returns-2 c =
     let digits = c .before .before in
@@ -56,4 +44,8 @@ returns-2 c =
     above-put (start .args .z) (above test .0) (above test .1) (digits .put-number2 .ensures)
 
 pub put-signed-spec : {M : Type 1} → statement M
-put-signed-spec = tie.close (tie.spec (λ c κs. search needs) put-byte-requires put-number-requires (λ c. search needs) returns put-number-requires-2 (λ c. search needs) returns-2)
+put-signed-spec = tie.close (tie.spec (λ c κs. search needs)
+    (λ c κs. let test = c .before in let start = test .before .before .before in omega (arith, start .pre, below-length (start .args .z) (below test .0) (below test .1)))
+    put-number-requires (λ c. search needs) returns
+    (λ c κs. let test = c .before in let start = test .before .before .before in omega (arith, start .pre, above-length (start .args .z) (above test .0) (above test .1)))
+    (λ c. search needs) returns-2)

@@ -7,11 +7,6 @@ use Rattle.text.proofs.DigitLaws.{decimal-u64, below-length, above-leng
 use Rattle.text.proofs.put.signed_length.Statement.{statement}
 use Rattle.text.proofs.put.signed_length.Tie as tie
 
-add-result : tie.Need-add-result
-add-result c =
-    let digits = c .before .before .magnitude in
-    omega (arith, c .before .digit-count .ensures, decimal-u64 (digits .result) (omega (arith, digits .ok)))
-
 returns : tie.Need-returns
 returns c =
     let start = c .before .before .before in
@@ -27,5 +22,6 @@ returns-2 c =
     c .before .digit-count .ensures ∙ above-length (start .args .z) q e
 
 pub signed-length-spec : {M : Type 1} → statement M
-signed-length-spec =
-    tie.close (tie.spec (λ c κs. search needs) (λ c κs. search needs) add-result returns returns-2)
+signed-length-spec = tie.close (tie.spec (λ c κs. search needs) (λ c κs. search needs)
+    (λ c. let digits = c .before .before .magnitude in omega (arith, c .before .digit-count .ensures, decimal-u64 (digits .result) (omega (arith, digits .ok))))
+    returns returns-2)

@@ -1,4 +1,4 @@
--- `tight::pass::higher` meets its contract. The invariant: neither number of `low` is below the border's, and the first i rows allow no less (`Walked`).
+-- `tight::pass::higher` meets its contract. The invariant: neither value of `low` is below the border's, and the first i rows allow no less (`Walked`).
 use mathlib.Core.Path.{ap, _∙_}
 use Prim.Native.Nat.{_-_}
 use native.Mathlib.Omega.{arith}
@@ -6,7 +6,7 @@ use borrow.Author.Needs.{needs}
 use borrow.Author.Tests.{leb-true}
 use lib.ListN.{length}
 use Rattle.numbers.proofs.BelowLaws.{table-long}
-use Rattle.rounds.specs.Work.{flat}
+use Rattle.rounds.specs.AllRounds.{flat}
 use Rattle.tight.proofs.PassLaws.{Walked, walked-none, walked-fits, walked-more, walked-under, walked-all, counted-at, counted-few}
 use Rattle.tight.proofs.pass.higher.Statement.{statement}
 use Rattle.tight.proofs.pass.higher.Tie as tie
@@ -17,26 +17,11 @@ Inv-loop rows borders p margins ns n b most first low₀ i₀ low i = Walked (fl
 abbrev μ-loop : tie.MeasureT-loop
 μ-loop rows borders p margins ns n b most first low₀ i₀ low i = rows - i
 
-first-bound-requires : tie.Need-first-bound-requires Inv-loop μ-loop
-first-bound-requires c κs = let q = c .before .before .before .pre .0 in ((q .0, q .3), q .1)
-
-loop-holds : tie.Need-loop-holds Inv-loop μ-loop
-loop-holds c = let q = c .before .before .before .before .pre in walked-none (q .0 .1) (q .1 .1) (c .first-bound .ensures)
-
-returns : tie.Need-returns Inv-loop μ-loop
-returns c = walked-under (c .before .before .before .before .before .before .before .loop .inv) (c .before .before .before .if1 .taken) (leb-true _ _ (c .if2 .taken))
-
-factor-requires : tie.Need-factor-requires Inv-loop μ-loop
-factor-requires c κs = let q = c .before .before .before .before .before .before .before .before .before .pre .0 in (q .0, omega arith, q .3)
-
 -- a number for each row
 shared-slice-read-lower : tie.Need-shared-slice-read-lower Inv-loop μ-loop
 shared-slice-read-lower c =
     let q = c .before .before .before .before .before .before .before .before .before .before .before .pre in
     omega (arith, ap length (q .1 .0 .0) ∙ table-long _ _)
-
-shared-slice-read-lower-2 : tie.Need-shared-slice-read-lower-2 Inv-loop μ-loop
-shared-slice-read-lower-2 c = omega (arith, c .before .before .before .before .before .before .before .before .before .before .before .before .pre .0 .1)
 
 lower-requires : tie.Need-lower-requires Inv-loop μ-loop
 lower-requires c κs =
@@ -51,27 +36,12 @@ loop-again c =
     walked-more (c .before .before .before .before .before .before .before .before .loop .inv) (omega arith) (c .before .before .before .factor .ensures)
     (counted-at (flat (entry .args .rows) (entry .args .borders) (entry .args .p .now)) (entry .pre .1 .0 .0) _ (omega arith)) (c .lower .ensures)
 
-returns-2 : tie.Need-returns-2 Inv-loop μ-loop
-returns-2 c = walked-all (c .before .before .before .loop .inv) (omega arith) (c .before .larger .ensures) (c .larger2 .ensures)
-
 pub higher-spec : {M : Type 1} → statement M
-higher-spec =
-    tie.close
-    (tie.spec
-    Inv-loop
-    μ-loop
-    first-bound-requires
-    loop-holds
-    returns
-    factor-requires
-    (λ c. omega arith)
-    shared-slice-read-lower
-    (λ c. omega arith)
-    shared-slice-read-lower-2
-    lower-requires
-    (λ c. omega arith)
-    (λ c. omega arith)
-    loop-again
-    (λ c κs. search needs)
-    (λ c κs. search needs)
-    returns-2)
+higher-spec = tie.close (tie.spec Inv-loop μ-loop (λ c κs. let q = c .before .before .before .pre .0 in ((q .0, q .3), q .1))
+    (λ c. let q = c .before .before .before .before .pre in walked-none (q .0 .1) (q .1 .1) (c .first-cap .ensures))
+    (λ c. walked-under (c .before .before .before .before .before .before .before .loop .inv) (c .before .before .before .if1 .taken) (leb-true _ _ (c .if2 .taken)))
+    (λ c κs. let q = c .before .before .before .before .before .before .before .before .before .pre .0 in (q .0, omega arith, q .3)) (λ c. omega arith)
+    shared-slice-read-lower (λ c. omega arith)
+    (λ c. omega (arith, c .before .before .before .before .before .before .before .before .before .before .before .before .pre .0 .1)) lower-requires
+    (λ c. omega arith) (λ c. omega arith) loop-again (λ c κs. search needs) (λ c κs. search needs)
+    (λ c. walked-all (c .before .before .before .loop .inv) (omega arith) (c .before .larger .ensures) (c .larger2 .ensures)))

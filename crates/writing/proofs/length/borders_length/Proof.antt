@@ -1,4 +1,4 @@
--- `writing::length::borders_length` meets its contract: the sum over the lines (`Summed`), within that of all.
+-- `writing::length::borders_length` meets its contract: the sum over the lines (`Summed`), at most that of all lines.
 use mathlib.Core.Path.{_≡_}
 use Prim.Native.Nat.{_≤_, _+_, _-_}
 use native.Mathlib.Omega.{arith}
@@ -6,7 +6,7 @@ use lib.ListN.{length}
 use Rattle.numbers.proofs.BelowLaws.{Summed, summed-none, summed-more}
 use Rattle.writing.specs.Writing.{borderTextAt}
 use Rattle.layout.proofs.SumLaws.{sum-within, sum-lines}
-use Rattle.kinds.specs.Limits.{bytesMost}
+use Rattle.limits.specs.Limits.{bytesMost}
 use Rattle.writing.proofs.length.borders_length.Statement.{statement}
 use Rattle.writing.proofs.length.borders_length.Tie as tie
 
@@ -16,27 +16,15 @@ Inv-loop b sum₀ i₀ i-end sum i = Summed (λ i. length (borderTextAt b i)) (l
 abbrev μ-loop : tie.MeasureT-loop
 μ-loop b sum₀ i₀ i-end sum i = length b - i
 
--- line i is counted without a carry
+-- adding line i does not overflow
 within : (c : tie.In-loop Inv-loop μ-loop) → let s = c .before .before in c .before .loop .sum + length (borderTextAt (s .args .b .now) (c .before .loop .i)) ≤ bytesMost
 within c = let s = c .before .before in sum-within (borderTextAt (s .args .b .now)) (length (s .args .b .now)) (s .pre) (c .before .loop .inv) (omega arith)
 
 counted : (c : tie.After-border-length Inv-loop μ-loop) → let s = c .before .before .before .before in c .border-length .result ≡ length (borderTextAt (s .args .b .now) (c .before .before .before .loop .i))
 counted c = c .border-length .ensures
 
-loop-holds : tie.Need-loop-holds Inv-loop μ-loop
-loop-holds c = summed-none _ _
-
-border-length-requires : tie.Need-border-length-requires Inv-loop μ-loop
-border-length-requires c κs = omega (arith, within (c .before))
-
-add-sum : tie.Need-add-sum Inv-loop μ-loop
-add-sum c = omega (arith, within (c .before .before), counted c)
-
-loop-again : tie.Need-loop-again Inv-loop μ-loop
-loop-again c = summed-more (c .before .before .before .loop .inv) _ (omega arith) (counted c)
-
-returns : tie.Need-returns Inv-loop μ-loop
-returns c = let s = c .before .before in sum-lines (borderTextAt (s .args .b .now)) (length (s .args .b .now)) (s .pre) (c .before .loop .inv) (omega arith)
-
 pub borders-length-spec : {M : Type 1} → statement M
-borders-length-spec = tie.close (tie.spec Inv-loop μ-loop loop-holds (λ c. omega arith) (λ c. omega arith) border-length-requires add-sum (λ c. omega arith) (λ c. omega arith) loop-again returns)
+borders-length-spec = tie.close (tie.spec Inv-loop μ-loop (λ c. summed-none _ _) (λ c. omega arith) (λ c. omega arith)
+    (λ c κs. omega (arith, within (c .before))) (λ c. omega (arith, within (c .before .before), counted c)) (λ c. omega arith) (λ c. omega arith)
+    (λ c. summed-more (c .before .before .before .loop .inv) _ (omega arith) (counted c))
+    (λ c. let s = c .before .before in sum-lines (borderTextAt (s .args .b .now)) (length (s .args .b .now)) (s .pre) (c .before .loop .inv) (omega arith)))

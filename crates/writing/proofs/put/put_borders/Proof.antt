@@ -15,9 +15,6 @@ Inv-loop b out₀ at next₀ i₀ i-end out next i = (i ≤ length b) × Put (li
 abbrev μ-loop : tie.MeasureT-loop
 μ-loop b out₀ at next₀ i₀ i-end out next i = length b - i
 
-loop-holds : tie.Need-loop-holds Inv-loop μ-loop
-loop-holds c = (omega arith, lines-none _ _ _)
-
 put-border-requires : tie.Need-put-border-requires Inv-loop μ-loop
 put-border-requires c κs =
     let s = c .before .before .before .before .before in
@@ -34,11 +31,6 @@ loop-again c =
 all : (c : tie.After-loop Inv-loop μ-loop) → let s = c .before .before .before in Put (bordersText (s .args .b .now)) (s .args .at) (s .args .out .now) (c .before .loop .next) (c .before .loop .out)
 all c = lines-all (borderTextAt (c .before .before .before .args .b .now)) (c .before .loop .inv .0) (omega arith) (c .before .loop .inv .1)
 
-same-length : tie.Need-same-length Inv-loop μ-loop
-same-length c = put-kept (all c) (c .before .before .before .pre)
-
-returns : tie.Need-returns Inv-loop μ-loop
-returns c = all c
-
 pub put-borders-spec : {M : Type 1} → statement M
-put-borders-spec = tie.close (tie.spec Inv-loop μ-loop loop-holds (λ c. omega arith) (λ c. omega arith) put-border-requires (λ c. omega arith) (λ c. omega arith) loop-again same-length returns)
+put-borders-spec = tie.close (tie.spec Inv-loop μ-loop (λ c. (omega arith, lines-none _ _ _)) (λ c. omega arith) (λ c. omega arith) put-border-requires
+    (λ c. omega arith) (λ c. omega arith) loop-again (λ c. put-kept (all c) (c .before .before .before .pre)) (λ c. all c))

@@ -1,7 +1,7 @@
 -- `writing::put::put_table` meets its contract: the parts of the text, one after another (`text-put`).
 use native.Mathlib.Omega.{arith}
 use borrow.Author.Needs.{needs}
-use Rattle.kinds.proofs.KindLaws.{header-in}
+use Rattle.types.proofs.RangeLaws.{header-in}
 use Rattle.table.specs.Table.{Table, lent}
 use Rattle.writing.proofs.TextLaws.{text-length, zones-room, allocated-room, borders-room, rows-room, text-put, factors-all}
 use Rattle.writing.proofs.put.put_table.Statement.{statement}
@@ -9,18 +9,6 @@ use Rattle.writing.proofs.put.put_table.Tie as tie
 
 abbrev table : tie.Start → Table
 table s = lent (s .args .h) (s .args .z .now) (s .args .t .now) (s .args .b .now) (s .args .c .now) (s .args .f .now)
-
-put-header-requires : tie.Need-put-header-requires
-put-header-requires c κs = let s = c .before .before in (s .pre .0 .exact .header, omega (arith, s .pre .1, text-length (table s) (s .pre .0)))
-
-put-zones-requires : tie.Need-put-zones-requires
-put-zones-requires c κs = let s = c .before .before .before .before .before .before in zones-room (table s) (s .pre .0) (c .before .before .before .put-header .ensures) (s .pre .1)
-
-put-zones-requires-2 : tie.Need-put-zones-requires-2
-put-zones-requires-2 c κs = let s = c .before .before .before .before .before .before .before .before .before .before in allocated-room (table s) (s .pre .0) (c .before .before .before .before .before .before .before .put-header .ensures) (c .before .before .before .put-zones .ensures) (s .pre .1)
-
-put-borders-requires : tie.Need-put-borders-requires
-put-borders-requires c κs = let s = c .before .before .before .before .before .before .before .before .before .before .before .before .before .before in borders-room (table s) (s .pre .0) (c .before .before .before .before .before .before .before .before .before .before .before .put-header .ensures) (c .before .before .before .before .before .before .before .put-zones .ensures) (c .before .before .before .put-zones2 .ensures) (s .pre .1)
 
 abbrev entry : tie.After-put-rows-arg → tie.Start
 entry c = c .before .before .before .before .before .before .before .before .before .before .before .before .before .before .before .before .before .before
@@ -36,4 +24,9 @@ returns c =
     text-put (table s) (s .pre .0) (c .before .before .before .before .before .before .before .before .before .before .before .before .before .before .before .before .before .before .put-header .ensures) (c .before .before .before .before .before .before .before .before .before .before .before .before .before .before .put-zones .ensures) (c .before .before .before .before .before .before .before .before .before .before .put-zones2 .ensures) (c .before .before .before .before .before .before .put-borders .ensures) (c .before .before .put-rows .ensures)
 
 pub put-table-spec : {M : Type 1} → statement M
-put-table-spec = tie.close (tie.spec put-header-requires put-zones-requires put-zones-requires-2 put-borders-requires put-rows-requires (λ c. search needs) returns)
+put-table-spec = tie.close (tie.spec
+    (λ c κs. let s = c .before .before in (s .pre .0 .exact .header, omega (arith, s .pre .1, text-length (table s) (s .pre .0))))
+    (λ c κs. let s = c .before .before .before .before .before .before in zones-room (table s) (s .pre .0) (c .before .before .before .put-header .ensures) (s .pre .1))
+    (λ c κs. let s = c .before .before .before .before .before .before .before .before .before .before in allocated-room (table s) (s .pre .0) (c .before .before .before .before .before .before .before .put-header .ensures) (c .before .before .before .put-zones .ensures) (s .pre .1))
+    (λ c κs. let s = c .before .before .before .before .before .before .before .before .before .before .before .before .before .before in borders-room (table s) (s .pre .0) (c .before .before .before .before .before .before .before .before .before .before .before .put-header .ensures) (c .before .before .before .before .before .before .before .put-zones .ensures) (c .before .before .before .put-zones2 .ensures) (s .pre .1))
+    put-rows-requires (λ c. search needs) returns)

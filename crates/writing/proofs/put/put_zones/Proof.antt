@@ -16,9 +16,6 @@ Inv-loop letter z out₀ at next₀ i₀ i-end out next i = (i ≤ length z) × 
 abbrev μ-loop : tie.MeasureT-loop
 μ-loop letter z out₀ at next₀ i₀ i-end out next i = length z - i
 
-loop-holds : tie.Need-loop-holds Inv-loop μ-loop
-loop-holds c = (omega arith, lines-none _ _ _)
-
 put-zone-requires : tie.Need-put-zone-requires Inv-loop μ-loop
 put-zone-requires c κs =
     let s = c .before .before .before .before .before in
@@ -35,11 +32,6 @@ loop-again c =
 all : (c : tie.After-loop Inv-loop μ-loop) → let s = c .before .before .before in Put (positionsText (s .args .letter) (s .args .z .now)) (s .args .at) (s .args .out .now) (c .before .loop .next) (c .before .loop .out)
 all c = lines-all (positionTextAt (c .before .before .before .args .letter) (c .before .before .before .args .z .now)) (c .before .loop .inv .0) (omega arith) (c .before .loop .inv .1)
 
-same-length : tie.Need-same-length Inv-loop μ-loop
-same-length c = put-kept (all c) (c .before .before .before .pre)
-
-returns : tie.Need-returns Inv-loop μ-loop
-returns c = all c
-
 pub put-zones-spec : {M : Type 1} → statement M
-put-zones-spec = tie.close (tie.spec Inv-loop μ-loop loop-holds (λ c. omega arith) (λ c. omega arith) put-zone-requires (λ c. omega arith) (λ c. omega arith) loop-again same-length returns)
+put-zones-spec = tie.close (tie.spec Inv-loop μ-loop (λ c. (omega arith, lines-none _ _ _)) (λ c. omega arith) (λ c. omega arith) put-zone-requires
+    (λ c. omega arith) (λ c. omega arith) loop-again (λ c. put-kept (all c) (c .before .before .before .pre)) (λ c. all c))

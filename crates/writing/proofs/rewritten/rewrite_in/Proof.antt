@@ -9,40 +9,15 @@ use Rattle.writing.proofs.rewritten.rewrite_in.Tie as tie
 abbrev called : tie.After-h → tie.After-read-into
 called c = c .before .before .before .before .before .before .before
 
-write-good-requires : tie.Need-write-good-requires
-write-good-requires c κs =
-    let told = c .before .before .before .before .before .before .before in
-    rewrite-good _ _ _ _ _ _ _ _ (called told .read-into .ensures) _ (told .h .given .1)
-
 returns : tie.Need-returns
 returns c =
     let written = c .before .before in
     let told = written .before .before .before .before .before .before .before .before in
     written .write-good .ensures ∙ rewrite-read _ _ _ _ _ _ _ _ (called told .read-into .ensures) _ (told .h .given .1) _
 
-returns-2 : tie.Need-returns-2
-returns-2 c =
-    let told = c .before in
-    rewrite-refused _ _ _ _ _ _ _ _ (told .before .before .before .before .before .before .before .read-into .ensures) _ _ (told .w .given .1)
-
 pub rewrite-in-spec : {M : Type 1} → statement M
-rewrite-in-spec =
-    tie.close
-    (tie.spec
-    (λ c κs. search needs)
-    (λ c. search needs)
-    write-good-requires
-    (λ c. search needs)
-    (λ c. search needs)
-    (λ c. search needs)
-    (λ c. search needs)
-    (λ c. search needs)
-    (λ c. search needs)
-    (λ c. search needs)
-    returns
-    (λ c. search needs)
-    (λ c. search needs)
-    (λ c. search needs)
-    (λ c. search needs)
-    (λ c. search needs)
-    returns-2)
+rewrite-in-spec = tie.close (tie.spec (λ c κs. search needs) (λ c. search needs)
+    (λ c κs. let told = c .before .before .before .before .before .before .before in rewrite-good _ _ _ _ _ _ _ _ (called told .read-into .ensures) _ (told .h .given .1))
+    (λ c. search needs) (λ c. search needs) (λ c. search needs) (λ c. search needs) (λ c. search needs) (λ c. search needs) (λ c. search needs) returns
+    (λ c. search needs) (λ c. search needs) (λ c. search needs) (λ c. search needs) (λ c. search needs)
+    (λ c. let told = c .before in rewrite-refused _ _ _ _ _ _ _ _ (told .before .before .before .before .before .before .before .read-into .ensures) _ _ (told .w .given .1)))

@@ -1,0 +1,2 @@
+pub mod ClaimText
+pub mod Good

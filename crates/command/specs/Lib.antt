@@ -1,0 +1,1 @@
+-- The words that can be asked for stand in src/asked.rt; what each prints is defined in printing (specs/Printed).

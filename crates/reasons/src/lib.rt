@@ -1,0 +1,60 @@
+// Prints why a border got no more, for the texts that were read: apart from the other words, whose crates it needs none of.
+ghost use Rattle.io.specs.Counts.{Counts};
+use arguments::Piece;
+use command::input::Text;
+use output::Ended;
+use whytext::Told;
+
+// What came of it.
+pub enum Reasoned {
+    Printed(Ended),
+    // Nothing is printed: the table has so many borders, and not the one that is asked for.
+    NoBorder(usize),
+}
+
+// Room for the words: ten lines of fewer than 400 bytes each.
+const ROOM: usize = 4096;
+
+// Prints the words of a border of the table as the sheet corrects it; where one of them is refused, the E line. Where no list of marks is given, all borders may rise.
+pub fn print(border: u64, list: Piece, table: Text, sheet: Text) -> Reasoned
+    requires { ⌜ Counts (table .count) (table .bytes) ⌝ }
+    requires { ⌜ Counts (sheet .count) (sheet .bytes) ⌝ }
+{
+    let listed = arguments::list(list);
+    let m = listed.count;
+    let marks = listed.numbers;
+    let n = table.count;
+    let text = table.bytes;
+    let k = sheet.count;
+    let rows = sheet.bytes;
+    let mut out = [0u8; ROOM];
+    print_lent(
+        border,
+        list.at == 0,
+        &marks[..m],
+        &text[..n],
+        &rows[..k],
+        &mut out,
+    )
+}
+
+fn print_lent<'a>(
+    border: u64,
+    all: bool,
+    marks: &[u64],
+    text: &'a [u8],
+    sheet: &'a [u8],
+    out: &mut [u8],
+) -> Reasoned {
+    match whytext::put(border, all, marks, text, sheet, out) {
+        Told::Bytes(n) => Reasoned::Printed(put_front(out, n)),
+        Told::NoBorder(borders) => Reasoned::NoBorder(borders),
+    }
+}
+
+fn put_front(out: &[u8], n: usize) -> Ended {
+    if n <= out.len() {
+        return output::put(&out[..n]);
+    }
+    output::put(out)
+}

@@ -1,6 +1,0 @@
-pub mod BlockLaws
-pub mod RunLaws
-pub mod StoredLaws
-pub mod RowLaws
-pub mod RowPasses
-pub mod PickedLaws

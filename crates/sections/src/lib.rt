@@ -1,0 +1,13 @@
+// Sections of lines: each kind of line from a place of the text on, in the order of the indices.
+pub mod borders;
+pub mod put;
+pub mod rows;
+pub mod zones;
+
+use refusals::Refusal;
+
+// Where a section of lines ends in the text, or why its first faulty line is turned away.
+pub enum End {
+    At(usize),
+    Refused(Refusal),
+}

@@ -1,0 +1,4 @@
+pub mod Anchors
+pub mod AllLaws
+pub mod RangeLaws
+pub mod ConstructorLaws

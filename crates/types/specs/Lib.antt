@@ -1,0 +1,4 @@
+pub mod LineLimits
+pub mod LineColumns
+pub mod Ranges
+pub mod Constructors

@@ -1,0 +1,4 @@
+pub mod Anchors
+pub mod GridLaws
+pub mod TellLaws
+pub mod WhyLaws
