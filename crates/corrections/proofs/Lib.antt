@@ -2,4 +2,4 @@ pub mod Anchors
 pub mod PieceLaws
 pub mod SheetLaws
 pub mod JudgedLaws
-pub mod AlongsideLaws
+pub mod SheetAlongside

@@ -29,7 +29,7 @@ use Rattle.rounds.specs.AllRounds.{flat, stopBy, Startable, WorkLeft, workLeft,
 use Rattle.rounds.proofs.Rounds.{extracts}
 use Rattle.rounds.proofs.StopLaws.{stop-by, shares-are}
 use Rattle.rounds.proofs.Theorems.{extract-demand3, same-factors, same-lasts, same-stops}
-use Rattle.rounds.proofs.AllRoundsLaws.{rounds-long, work-ended, lasts-below}
+use Rattle.rounds.proofs.EveryRoundLaws.{rounds-long, work-ended, lasts-below}
 use Rattle.margin.specs.Magnitudes.{startBits}
 use Rattle.margin.proofs.JudgedLaws.{good-borders}
 use Rattle.margin.proofs.Small.{named-values-small}

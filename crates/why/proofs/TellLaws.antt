@@ -28,7 +28,7 @@ use Rattle.rounds.proofs.Loops.{ready-at}
 use Rattle.rounds.proofs.Rounds.{extracts}
 use Rattle.rounds.proofs.StopLaws.{stop-by}
 use Rattle.rounds.proofs.Theorems.{extract-demand3}
-use Rattle.rounds.proofs.AllRoundsLaws.{rounds-long}
+use Rattle.rounds.proofs.EveryRoundLaws.{rounds-long}
 use Rattle.margin.specs.Margin.{ltaKw}
 use Rattle.margin.proofs.JudgedLaws.{border-judged}
 use Rattle.start.specs.Start.{fromBy}

@@ -15,7 +15,7 @@ use Rattle.lines.specs.declared.row.RowKind.{RowKind}
 use Rattle.lines.specs.declared.row.RowJudged.{RowJudged}
 use Rattle.corrections.specs.Corrections.{pieces, handedOn}
 use Rattle.corrections.specs.Alongside.{lineFor, sheetAfter}
-use Rattle.corrections.proofs.AlongsideLaws.{Walked, walked-start, walked-line, walked-more}
+use Rattle.corrections.proofs.SheetAlongside.{Walked, walked-start, walked-line, walked-more}
 use Rattle.sections.specs.Section.{fault}
 use Rattle.sections.specs.Rows.{instead, correctedBy}
 use Rattle.sections.proofs.StoredLaws.{after-within}
