@@ -1,4 +1,4 @@
-//! The calls of include/keravnoth.h that the bench measures, linked.
+//! The calls of include/keravnoth.h that the bench measures, linked: their symbols bear the interface's major number.
 
 use crate::second::{self, Tables};
 
@@ -29,6 +29,17 @@ pub struct Written {
     pub place: usize,
     pub byte: usize,
     pub bytes: usize,
+}
+
+#[repr(C)]
+pub struct Answered {
+    pub number: u32,
+    pub place: usize,
+    pub byte: usize,
+    pub bytes: usize,
+    pub told_number: u32,
+    pub told_place: usize,
+    pub told_byte: usize,
 }
 
 #[repr(C)]
@@ -74,27 +85,27 @@ macro_rules! linked {
 }
 
 linked! {
-    fn keravnoth_read(
+    fn keravnoth_1_read(
         text: *const u8, n: usize,
         z: *mut i64, nz: usize, t: *mut i64, nt: usize, b: *mut [i64; 5], nb: usize, c: *mut [i64; 7], nc: usize, f: *mut i64, nf: usize
     ) -> Read;
-    fn keravnoth_write(
+    fn keravnoth_1_write(
         header: Header,
         z: *const i64, nz: usize, t: *const i64, nt: usize, b: *const [i64; 5], nb: usize, c: *const [i64; 7], nc: usize, f: *const i64, nf: usize,
         out: *mut u8, nout: usize
     ) -> Written;
-    fn keravnoth_extract(
+    fn keravnoth_1_extract(
         header: Header,
         z: *const i64, nz: usize, t: *const i64, nt: usize, b: *const [i64; 5], nb: usize, c: *const [i64; 7], nc: usize, f: *const i64, nf: usize,
         p: *mut u64, np: usize, atc: *mut [i64; 3], natc: usize, left: *mut [i64; 3], nleft: usize
     ) -> Extracted;
-    fn keravnoth_result_text(
+    fn keravnoth_1_result_text(
         header: Header,
         z: *const i64, nz: usize, t: *const i64, nt: usize, b: *const [i64; 5], nb: usize, c: *const [i64; 7], nc: usize, f: *const i64, nf: usize,
         out: *mut u8, nout: usize
     ) -> Written;
-    fn keravnoth_answer(text: *const u8, n: usize, out: *mut u8, nout: usize) -> Written;
-    fn keravnoth_bound(
+    fn keravnoth_1_answer(text: *const u8, n: usize, out: *mut u8, nout: usize) -> Answered;
+    fn keravnoth_1_bound(
         header: Header,
         z: *const i64, nz: usize, t: *const i64, nt: usize, b: *const [i64; 5], nb: usize, c: *const [i64; 7], nc: usize, f: *const i64, nf: usize
     ) -> Bounded;
@@ -116,7 +127,7 @@ macro_rules! on_lent {
 pub fn read(text: &[u8], into: &mut Tables) -> Read {
     let Tables { z, t, b, c, f, .. } = into;
     unsafe {
-        keravnoth_read(
+        keravnoth_1_read(
             text.as_ptr(), text.len(),
             z.as_mut_ptr(), z.len(), t.as_mut_ptr(), t.len(), b.as_mut_ptr(), b.len(), c.as_mut_ptr(), c.len(), f.as_mut_ptr(), f.len(),
         )
@@ -124,21 +135,21 @@ pub fn read(text: &[u8], into: &mut Tables) -> Read {
 }
 
 pub fn write(t: &Tables, out: &mut [u8]) -> Written {
-    unsafe { on_lent!(keravnoth_write(t, out)) }
+    unsafe { on_lent!(keravnoth_1_write(t, out)) }
 }
 
 pub fn extract(t: &Tables, p: &mut [u64], atc: &mut [[i64; 3]], left: &mut [[i64; 3]]) -> Extracted {
-    unsafe { on_lent!(keravnoth_extract(t, p, atc, left)) }
+    unsafe { on_lent!(keravnoth_1_extract(t, p, atc, left)) }
 }
 
 pub fn result_text(t: &Tables, out: &mut [u8]) -> Written {
-    unsafe { on_lent!(keravnoth_result_text(t, out)) }
+    unsafe { on_lent!(keravnoth_1_result_text(t, out)) }
 }
 
-pub fn answer(text: &[u8], out: &mut [u8]) -> Written {
-    unsafe { keravnoth_answer(text.as_ptr(), text.len(), out.as_mut_ptr(), out.len()) }
+pub fn answer(text: &[u8], out: &mut [u8]) -> Answered {
+    unsafe { keravnoth_1_answer(text.as_ptr(), text.len(), out.as_mut_ptr(), out.len()) }
 }
 
 pub fn bound(t: &Tables) -> Bounded {
-    unsafe { on_lent!(keravnoth_bound(t)) }
+    unsafe { on_lent!(keravnoth_1_bound(t)) }
 }

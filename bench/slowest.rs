@@ -31,8 +31,8 @@ struct Guide {
 }
 
 impl Told for Guide {
-    /// As compiled for x86-64: what a stretch costs by itself, and for each border that it looks at. On the hours that this program finds the sum is within
-    /// 1% of what is counted; on the others it leaves out what the table's size alone costs.
+    /// As compiled for x86-64: what a stretch costs by itself, and for each border that it looks at. On the hour that this program found the sum is within
+    /// 3% of what is counted; on the others it leaves out what the table's size alone costs.
     fn step(&mut self, step: Step, borders: usize) {
         let (own, each) = match step {
             Step::Begun => (20, 15),

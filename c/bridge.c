@@ -157,12 +157,12 @@ static size_t make(const struct request *r, unsigned char *const *at, uint64_t *
         if (r->call == EXTRACT)
             said = keravnoth_extract(
                 HEADER(r),
-                z, nz, t, nt, (const border_record *)b, nb, (const row_record *)c, nc, f, nf,
+                z, nz, t, nt, b, nb, c, nc, f, nf,
                 p, np, atc, natc, left, nleft);
         else
             said = keravnoth_extract_marked(
                 HEADER(r),
-                z, nz, t, nt, (const border_record *)b, nb, (const row_record *)c, nc, f, nf,
+                z, nz, t, nt, b, nb, c, nc, f, nf,
                 p, np, marks, r->count[MARKS], atc, natc, left, nleft);
         answer[0] = said.number;
         answer[1] = said.place;
@@ -175,11 +175,11 @@ static size_t make(const struct request *r, unsigned char *const *at, uint64_t *
         if (r->call == BOUND)
             said = keravnoth_bound(
                 HEADER(r),
-                z, nz, t, nt, (const border_record *)b, nb, (const row_record *)c, nc, f, nf);
+                z, nz, t, nt, b, nb, c, nc, f, nf);
         else
             said = keravnoth_bound_marked(
                 HEADER(r),
-                z, nz, t, nt, (const border_record *)b, nb, (const row_record *)c, nc, f, nf,
+                z, nz, t, nt, b, nb, c, nc, f, nf,
                 marks, r->count[MARKS]);
         answer[0] = said.number;
         answer[1] = said.place;
@@ -193,7 +193,7 @@ static size_t make(const struct request *r, unsigned char *const *at, uint64_t *
     if (r->call == MARGINS) {
         struct KeravnothJudged said = keravnoth_margins(
             HEADER(r),
-            z, nz, t, nt, (const border_record *)b, nb, (const row_record *)c, nc, f, nf,
+            z, nz, t, nt, b, nb, c, nc, f, nf,
             (parts_record *)at[PARTS], r->count[PARTS]);
         answer[0] = said.number;
         answer[1] = said.place;
@@ -209,12 +209,12 @@ static size_t make(const struct request *r, unsigned char *const *at, uint64_t *
         if (r->call == WHY)
             said = keravnoth_why(
                 HEADER(r),
-                z, nz, t, nt, (const border_record *)b, nb, (const row_record *)c, nc, f, nf,
+                z, nz, t, nt, b, nb, c, nc, f, nf,
                 r->row, p, np, ends, nends, rows, nrows);
         else
             said = keravnoth_why_marked(
                 HEADER(r),
-                z, nz, t, nt, (const border_record *)b, nb, (const row_record *)c, nc, f, nf,
+                z, nz, t, nt, b, nb, c, nc, f, nf,
                 marks, r->count[MARKS], r->row, p, np, ends, nends, rows, nrows);
         answer[0] = said.number;
         answer[1] = said.place;
@@ -228,7 +228,7 @@ static size_t make(const struct request *r, unsigned char *const *at, uint64_t *
     if (r->call == CORNER_FLOWS) {
         struct KeravnothFlows said = keravnoth_corner_flows(
             HEADER(r),
-            z, nz, t, nt, (const border_record *)b, nb, (const row_record *)c, nc, f, nf,
+            z, nz, t, nt, b, nb, c, nc, f, nf,
             r->row, (int64_t *)at[FLOWS], r->count[FLOWS]);
         answer[0] = said.number;
         answer[1] = said.place;
@@ -241,8 +241,8 @@ static size_t make(const struct request *r, unsigned char *const *at, uint64_t *
         if (r->call == JUDGE_CLAIMS)
             said = keravnoth_claims(
                 HEADER(r),
-                z, nz, t, nt, (const border_record *)b, nb, (const row_record *)c, nc, f, nf,
-                (const claim_record *)at[CLAIMS], r->count[CLAIMS]);
+                z, nz, t, nt, b, nb, c, nc, f, nf,
+                (claim_record *)at[CLAIMS], r->count[CLAIMS]);
         else
             said = keravnoth_read_rows(
                 HEADER(r), at[SHEET], r->count[SHEET], c, nc, f, nf);
@@ -251,46 +251,57 @@ static size_t make(const struct request *r, unsigned char *const *at, uint64_t *
         answer[2] = said.byte;
         return 3;
     }
+    if (r->call == ANSWER || r->call == ANSWER_MARKED || r->call == ANSWER_CORRECTED) {
+        struct KeravnothAnswered said;
+        if (r->call == ANSWER)
+            said = keravnoth_answer(at[TEXT], r->count[TEXT], at[OUT], r->count[OUT]);
+        else if (r->call == ANSWER_MARKED)
+            said = keravnoth_answer_marked(
+                at[TEXT], r->count[TEXT], marks, r->count[MARKS], at[OUT], r->count[OUT]);
+        else
+            said = keravnoth_answer_corrected(
+                at[TEXT], r->count[TEXT], at[SHEET], r->count[SHEET], at[OUT], r->count[OUT]);
+        answer[0] = said.number;
+        answer[1] = said.place;
+        answer[2] = said.byte;
+        answer[3] = said.bytes;
+        answer[4] = said.told_number;
+        answer[5] = said.told_place;
+        answer[6] = said.told_byte;
+        return 7;
+    }
     struct KeravnothWritten said;
     if (r->call == WRITE)
         said = keravnoth_write(
             HEADER(r),
-            z, nz, t, nt, (const border_record *)b, nb, (const row_record *)c, nc, f, nf,
+            z, nz, t, nt, b, nb, c, nc, f, nf,
             at[OUT], r->count[OUT]);
     else if (r->call == RESULT_TEXT)
         said = keravnoth_result_text(
             HEADER(r),
-            z, nz, t, nt, (const border_record *)b, nb, (const row_record *)c, nc, f, nf,
+            z, nz, t, nt, b, nb, c, nc, f, nf,
             at[OUT], r->count[OUT]);
     else if (r->call == CORNER_TEXT)
         said = keravnoth_corner_text(
             HEADER(r),
-            z, nz, t, nt, (const border_record *)b, nb, (const row_record *)c, nc, f, nf,
+            z, nz, t, nt, b, nb, c, nc, f, nf,
             r->row, at[OUT], r->count[OUT]);
     else if (r->call == RESULT_TEXT_MARKED)
         said = keravnoth_result_text_marked(
             HEADER(r),
-            z, nz, t, nt, (const border_record *)b, nb, (const row_record *)c, nc, f, nf,
+            z, nz, t, nt, b, nb, c, nc, f, nf,
             marks, r->count[MARKS], at[OUT], r->count[OUT]);
-    else if (r->call == ANSWER_MARKED)
-        said = keravnoth_answer_marked(
-            at[TEXT], r->count[TEXT], marks, r->count[MARKS], at[OUT], r->count[OUT]);
-    else if (r->call == ANSWER_CORRECTED)
-        said = keravnoth_answer_corrected(
-            at[TEXT], r->count[TEXT], at[SHEET], r->count[SHEET], at[OUT], r->count[OUT]);
     else if (r->call == REWRITE_CORRECTED)
         said = keravnoth_rewrite_corrected(
             at[TEXT], r->count[TEXT], at[SHEET], r->count[SHEET], at[OUT], r->count[OUT]);
     else if (r->call == PUBLISHED_TEXT)
         said = keravnoth_published_text(
             HEADER(r),
-            z, nz, t, nt, (const border_record *)b, nb, (const row_record *)c, nc, f, nf,
+            z, nz, t, nt, b, nb, c, nc, f, nf,
             at[SHEET], r->count[SHEET], at[OUT], r->count[OUT]);
-    else if (r->call == WRITE_ROWS)
-        said = keravnoth_write_rows(
-            HEADER(r), (const row_record *)c, nc, f, nf, at[OUT], r->count[OUT]);
     else
-        said = keravnoth_answer(at[TEXT], r->count[TEXT], at[OUT], r->count[OUT]);
+        said = keravnoth_write_rows(
+            HEADER(r), c, nc, f, nf, at[OUT], r->count[OUT]);
     answer[0] = said.number;
     answer[1] = said.place;
     answer[2] = said.byte;

@@ -16,6 +16,12 @@
  *                           leaves their table whole
  *   check why TABLE         the reasons of every border bear out the extraction and each
  *                           other, and a refusal leaves every lent buffer whole
+ *   check told TABLE..      what an answer in text tells is what its text says, of these
+ *                           tables, whole and cut short at each of many bytes, with a
+ *                           sheet and with marks, and with room that is too short
+ *   check words             each refusal has words, no other number has, and the version
+ *                           of the library is the header's
+ *   check easy TABLE        the calls of keravnoth_easy.h answer as those of keravnoth.h
  *
  * c/build makes it and c/run runs it, on the code for x86-64.
  *
@@ -23,7 +29,7 @@
  * read.
  */
 #define _DEFAULT_SOURCE /* fork, mmap */
-#include "keravnoth.h"
+#include "keravnoth_easy.h"
 
 #include <ctype.h>
 #include <pthread.h>
@@ -34,13 +40,13 @@
 #include <sys/wait.h>
 #include <unistd.h>
 
-enum { CALLS = 22, THREADS = 4, TURNS = 8, KIB = 1024, SPARE = 256 };
+enum { CALLS = 24, THREADS = 4, TURNS = 8, KIB = 1024, SPARE = 256 };
 
 /* Everything that the calls are lent, once a thread, and `said`, the header that reading
    answered.  No call changes what another is lent: reading gives the same table. */
 struct room {
     struct KeravnothHeader table, said;
-    size_t n, row, corrected, marked, claimed, listed, sheeted;
+    size_t n, row, corrected, marked, claimed, listed, sheeted, version;
     int64_t z[KERAVNOTH_ZONES_MOST];
     int64_t t[KERAVNOTH_ZONES_MOST];
     int64_t b[KERAVNOTH_BORDERS_MOST][KERAVNOTH_B_ITEMS];
@@ -64,13 +70,11 @@ struct room {
 
 static struct room rooms[THREADS];
 
-#define B(r) ((const int64_t (*)[KERAVNOTH_B_ITEMS])(r)->b)
-#define C(r) ((const int64_t (*)[KERAVNOTH_C_ITEMS])(r)->c)
 #define TABLE(r) \
     (r)->table, \
     (r)->z, KERAVNOTH_ZONES_MOST, (r)->t, KERAVNOTH_ZONES_MOST, \
-    B(r), KERAVNOTH_BORDERS_MOST, \
-    C(r), KERAVNOTH_ROWS_MOST, (r)->f, KERAVNOTH_FACTORS_MOST
+    (r)->b, KERAVNOTH_BORDERS_MOST, \
+    (r)->c, KERAVNOTH_ROWS_MOST, (r)->f, KERAVNOTH_FACTORS_MOST
 
 static struct KeravnothHeader header(struct KeravnothRead said)
 {
@@ -159,7 +163,7 @@ static void corner_text(struct room *r)
 static void claims(struct room *r)
 {
     keravnoth_claims(
-        TABLE(r), (const int64_t (*)[KERAVNOTH_CLAIM_ITEMS])r->claims, r->claimed);
+        TABLE(r), r->claims, r->claimed);
 }
 
 static void published_text(struct room *r)
@@ -191,7 +195,7 @@ static void read_rows(struct room *r)
 static void write_rows(struct room *r)
 {
     keravnoth_write_rows(
-        r->table, C(r), KERAVNOTH_ROWS_MOST, r->f, KERAVNOTH_FACTORS_MOST,
+        r->table, r->c, KERAVNOTH_ROWS_MOST, r->f, KERAVNOTH_FACTORS_MOST,
         r->out, KERAVNOTH_WRITE_ROWS_MOST);
 }
 
@@ -207,6 +211,17 @@ static void why(struct room *r)
 static void why_marked(struct room *r)
 {
     keravnoth_why_marked(TABLE(r), r->marks, r->marked, 0, REASONS(r));
+}
+
+/* The longest words. */
+static void refusal_text(struct room *r)
+{
+    keravnoth_refusal_text(KERAVNOTH_MALFORMED_CLAIM, r->out, KERAVNOTH_REFUSAL_TEXT_MOST);
+}
+
+static void version(struct room *r)
+{
+    r->version = keravnoth_version();
 }
 
 /* The calls of the header, in the order of its figures. */
@@ -237,6 +252,8 @@ static const struct {
     {"write_rows", write_rows, KERAVNOTH_WRITE_ROWS_STACK},
     {"why", why, KERAVNOTH_WHY_STACK},
     {"why_marked", why_marked, KERAVNOTH_WHY_MARKED_STACK},
+    {"refusal_text", refusal_text, KERAVNOTH_REFUSAL_TEXT_STACK},
+    {"version", version, KERAVNOTH_VERSION_STACK},
 };
 
 static int load(struct room *r, const char *name)
@@ -317,7 +334,7 @@ static void claim(struct room *r)
 static void keep_sheet(struct room *r)
 {
     r->sheeted = keravnoth_write_rows(
-        r->table, C(r), KERAVNOTH_ROWS_MOST, r->f, KERAVNOTH_FACTORS_MOST,
+        r->table, r->c, KERAVNOTH_ROWS_MOST, r->f, KERAVNOTH_FACTORS_MOST,
         r->sheet, KERAVNOTH_WRITE_ROWS_MOST).bytes;
 }
 
@@ -356,10 +373,10 @@ static void make_sums(struct room *r)
     r->n = keravnoth_write(TABLE(r), r->text, KERAVNOTH_WRITE_MOST).bytes;
 }
 
-static int borne_out(const struct room *r)
+static int borne_out(struct room *r)
 {
     struct KeravnothJudged said = keravnoth_claims(
-        TABLE(r), (const int64_t (*)[KERAVNOTH_CLAIM_ITEMS])r->claims, r->claimed);
+        TABLE(r), r->claims, r->claimed);
     return said.number == KERAVNOTH_ACCEPTED
         && r->claimed == KERAVNOTH_ROWS_MOST - KERAVNOTH_CLAIM_PAIRS_MOST;
 }
@@ -590,7 +607,7 @@ static int judged_alike(struct room *r, int64_t row, int pairs, uint32_t number,
         n += sprintf((char *)r->text + n, "\t0\t1");
     }
     n += sprintf((char *)r->text + n, "\n");
-    struct KeravnothJudged lent = keravnoth_claims(TABLE(r), (const int64_t (*)[KERAVNOTH_CLAIM_ITEMS])list, 2);
+    struct KeravnothJudged lent = keravnoth_claims(TABLE(r), list, 2);
     struct KeravnothWritten text = keravnoth_published_text(TABLE(r), r->text, (size_t)n, r->out, sizeof r->out);
     return SAME(lent, text) && lent.number == number && lent.place == place;
 }
@@ -643,7 +660,7 @@ static int check_null(const char *name)
         keravnoth_answer_marked(r->text, r->n, NULL, 0, r->out, KERAVNOTH_ANSWER_MOST),
         keravnoth_answer_marked(r->text, r->n, r->marks, 0, r->out, KERAVNOTH_ANSWER_MOST));
 #define NONE NULL, 0, NULL, 0, NULL, 0, NULL, 0, NULL, 0
-#define SOME r->z, 0, r->t, 0, B(r), 0, C(r), 0, r->f, 0
+#define SOME r->z, 0, r->t, 0, r->b, 0, r->c, 0, r->f, 0
     same &= SAME(
         keravnoth_write(r->table, NONE, NULL, 0),
         keravnoth_write(r->table, SOME, r->out, 0));
@@ -673,7 +690,7 @@ static int check_null(const char *name)
         keravnoth_corner_text(TABLE(r), 0, r->out, 0));
     same &= SAME(
         keravnoth_claims(TABLE(r), NULL, 0),
-        keravnoth_claims(TABLE(r), (const int64_t (*)[KERAVNOTH_CLAIM_ITEMS])r->claims, 0));
+        keravnoth_claims(TABLE(r), r->claims, 0));
     same &= SAME(
         keravnoth_published_text(TABLE(r), NULL, 0, NULL, 0),
         keravnoth_published_text(TABLE(r), r->text, 0, r->out, 0));
@@ -691,7 +708,7 @@ static int check_null(const char *name)
         keravnoth_read_rows(r->table, r->text, 0, r->c, 0, r->f, 0));
     same &= SAME(
         keravnoth_write_rows(r->table, NULL, 0, NULL, 0, NULL, 0),
-        keravnoth_write_rows(r->table, C(r), 0, r->f, 0, r->out, 0));
+        keravnoth_write_rows(r->table, r->c, 0, r->f, 0, r->out, 0));
     same &= SAME(
         keravnoth_why(r->table, NONE, 0, NULL, 0, NULL, 0, NULL, 0),
         keravnoth_why(r->table, SOME, 0, r->p, 0, r->ends, 0, r->holds, 0));
@@ -701,6 +718,9 @@ static int check_null(const char *name)
     same &= SAME(
         keravnoth_why_marked(TABLE(r), NULL, 0, 0, r->p, KERAVNOTH_P_MOST, NULL, 0, NULL, 0),
         keravnoth_why_marked(TABLE(r), r->marks, 0, 0, r->p, KERAVNOTH_P_MOST, r->ends, 0, r->holds, 0));
+    same &= SAME(
+        keravnoth_refusal_text(1, NULL, 0),
+        keravnoth_refusal_text(1, r->out, 0));
     puts(same ? "NULL with count 0 answers as count 0" : "NULL with count 0 answers otherwise");
     return same ? 0 : 1;
 }
@@ -887,6 +907,121 @@ static int check_why(const char *name)
     return same ? 0 : 1;
 }
 
+/* What the first bytes of a text tell: three numbers of an E line, or none. */
+static int tells(const uint8_t *text, struct KeravnothAnswered said)
+{
+    char line[64];
+    if (said.number != KERAVNOTH_ACCEPTED || said.bytes == 0 || text[0] != 'E')
+        return said.told_number == 0 && said.told_place == 0 && said.told_byte == 0;
+    int n = sprintf(line, "E\t%u\t%zu\t%zu\n", (unsigned)said.told_number, said.told_place, said.told_byte);
+    return said.told_number != 0 && said.bytes == (size_t)n && memcmp(text, line, said.bytes) == 0;
+}
+
+/* The answers to the first n bytes of a table: whole, with every second border marked, with a
+   border that is none, with the table's own rows as a sheet, with a spoiled sheet, and with too
+   little room, which refuses the call and tells nothing. */
+static int told_of(struct room *r, size_t n, int *results, int *lines)
+{
+    uint64_t none = KERAVNOTH_BORDERS_MOST;
+    struct KeravnothAnswered said = keravnoth_answer(r->text, n, r->out, KERAVNOTH_ANSWER_MOST);
+    *results += said.told_number == 0;
+    *lines += said.told_number != 0;
+    int same = said.number == KERAVNOTH_ACCEPTED && tells(r->out, said);
+    size_t bytes = said.bytes;
+    said = keravnoth_answer_marked(r->text, n, r->marks, r->marked, r->out, KERAVNOTH_ANSWER_MOST);
+    same &= said.number == KERAVNOTH_ACCEPTED && tells(r->out, said);
+    said = keravnoth_answer_marked(r->text, n, &none, 1, r->out, KERAVNOTH_ANSWER_MOST);
+    same &= said.number == KERAVNOTH_ACCEPTED && said.told_number != 0 && tells(r->out, said);
+    said = keravnoth_answer_corrected(r->text, n, r->corrections, r->corrected, r->out, KERAVNOTH_ANSWER_MOST);
+    same &= said.number == KERAVNOTH_ACCEPTED && tells(r->out, said);
+    said = keravnoth_answer_corrected(r->text, n, r->corrections, r->corrected / 2, r->out, KERAVNOTH_ANSWER_MOST);
+    same &= said.number == KERAVNOTH_ACCEPTED && tells(r->out, said);
+    said = keravnoth_answer(r->text, n, r->out, bytes - 1);
+    return same && said.number == KERAVNOTH_BUFFER_TOO_SHORT && said.place == bytes && said.bytes == 0
+        && tells(r->out, said);
+}
+
+static int check_told(int count, char **names)
+{
+    struct room *r = &rooms[0];
+    int same = 1, results = 0, lines = 0;
+    for (int i = 0; i < count; i++) {
+        if (load(r, names[i]) != 0)
+            return 2;
+        read_table(r);
+        mark(r);
+        correct(r);
+        same &= told_of(r, r->n, &results, &lines);
+        for (size_t n = 0; n < r->n; n += 1 + r->n / 50)
+            same &= told_of(r, n, &results, &lines);
+    }
+    printf("%d results and %d E lines: %s\n", results, lines, same ? "each is told" : "not each is told");
+    return same && results > 0 && lines > 0 ? 0 : 1;
+}
+
+/* Words for each number that a refusal has, and others for none; 0 is no refusal. */
+static int check_words(void)
+{
+    uint8_t words[KERAVNOTH_REFUSAL_TEXT_MOST], none[KERAVNOTH_REFUSAL_TEXT_MOST];
+    struct KeravnothWritten other = keravnoth_refusal_text(UINT64_MAX, none, sizeof none);
+    int same = other.number == KERAVNOTH_ACCEPTED && keravnoth_version() == KERAVNOTH_VERSION;
+    for (uint64_t number = 0; number < 100; number++) {
+        struct KeravnothWritten said = keravnoth_refusal_text(number, words, sizeof words);
+        int known = said.bytes != other.bytes || memcmp(words, none, said.bytes) != 0;
+        same &= said.number == KERAVNOTH_ACCEPTED && said.bytes > 0 && known == (number <= KERAVNOTH_NO_SUCH_BORDER);
+        if (known)
+            printf("%d\t%.*s\n", (int)number, (int)said.bytes, (const char *)words);
+        said = keravnoth_refusal_text(number, words, said.bytes - 1);
+        same &= said.number == KERAVNOTH_BUFFER_TOO_SHORT && said.bytes == 0;
+    }
+    return same ? 0 : 1;
+}
+
+_Static_assert(sizeof(struct KeravnothHour) == KERAVNOTH_HOUR_BYTES, "the memory of an hour");
+
+static int check_easy(const char *name)
+{
+    static struct KeravnothHour hour;
+    struct room *r = &rooms[0];
+    if (load(r, name) != 0)
+        return 2;
+    read_table(r);
+    mark(r);
+    correct(r);
+    int same = keravnoth_hour_read(&hour, r->text, r->n, NULL, 0).number == KERAVNOTH_ACCEPTED;
+    same &= keravnoth_hour_read(&hour, r->text, r->n, r->corrections, r->corrected).number == KERAVNOTH_ACCEPTED;
+    same &= memcmp(&hour.table, &r->table, sizeof r->table) == 0 && memcmp(hour.f, r->f, sizeof r->f) == 0;
+    for (int all = 0; all < 2; all++) {
+        const uint64_t *marks = all ? NULL : r->marks;
+        if (all)
+            extract(r);
+        else
+            extract_marked(r);
+        struct KeravnothExtracted work = keravnoth_hour_extract(&hour, marks, r->marked);
+        same &= work.number == KERAVNOTH_ACCEPTED && memcmp(hour.p, r->p, sizeof r->p) == 0
+            && memcmp(hour.atc, r->atc, sizeof r->atc) == 0 && memcmp(hour.left, r->left, sizeof r->left) == 0;
+        same &= keravnoth_hour_bound(&hour, marks, r->marked).sharp >= work.rounds;
+        struct KeravnothWritten text = keravnoth_hour_result(&hour, marks, r->marked);
+        same &= text.number == KERAVNOTH_ACCEPTED && hour.out[0] == 'A' && hour.out[text.bytes - 1] == '\n';
+        same &= keravnoth_hour_why(&hour, 0, marks, r->marked).rounds == work.rounds;
+        same &= hour.ends[0][KERAVNOTH_ENDS_END] / KERAVNOTH_KW_PER_MW == hour.atc[0][KERAVNOTH_ATC_MW];
+    }
+    margins(r);
+    same &= keravnoth_hour_margins(&hour).number == KERAVNOTH_ACCEPTED && memcmp(hour.parts, r->parts, sizeof r->parts) == 0;
+    corner_flows(r);
+    same &= keravnoth_hour_corners(&hour, 0).number == KERAVNOTH_ACCEPTED && memcmp(hour.flows, r->flows, sizeof r->flows) == 0;
+    same &= strcmp(keravnoth_hour_words(&hour, KERAVNOTH_GIVEN_TWICE, 63, 0),
+        "border 63 has the same from, to and hubs as an earlier border: leave one of the two out") == 0;
+    same &= strncmp(keravnoth_hour_words(&hour, KERAVNOTH_OUT_OF_RANGE, 10, 100), "line 10, byte 100, has a value", 30) == 0;
+    same &= strlen(keravnoth_hour_words(&hour, KERAVNOTH_MALFORMED_CLAIM, UINT64_MAX, UINT64_MAX)) < sizeof hour.words;
+    /* An hour that was refused has no table. */
+    same &= keravnoth_hour_read(&hour, r->text, 0, NULL, 0).number == KERAVNOTH_WRONG_FORM;
+    struct KeravnothExtracted work = keravnoth_hour_extract(&hour, NULL, 0);
+    same &= work.number == KERAVNOTH_OUT_OF_RANGE && work.place == 1;
+    puts(same ? "an hour in one struct answers as the calls do" : "an hour in one struct answers otherwise");
+    return same ? 0 : 1;
+}
+
 static void *turns(void *lent)
 {
     struct room *r = lent;
@@ -937,6 +1072,12 @@ int main(int argc, char **argv)
         return check_factors(argv[2]);
     if (argc == 3 && strcmp(argv[1], "why") == 0)
         return check_why(argv[2]);
-    fprintf(stderr, "usage: %s stack TABLE.. | figures TABLE.. | claims TABLE | null TABLE | threads TABLE | factors TABLE | why TABLE\n", argv[0]);
+    if (argc > 2 && strcmp(argv[1], "told") == 0)
+        return check_told(argc - 2, argv + 2);
+    if (argc == 2 && strcmp(argv[1], "words") == 0)
+        return check_words();
+    if (argc == 3 && strcmp(argv[1], "easy") == 0)
+        return check_easy(argv[2]);
+    fprintf(stderr, "usage: %s stack TABLE.. | figures TABLE.. | claims TABLE | null TABLE | threads TABLE | factors TABLE | why TABLE | told TABLE.. | words | easy TABLE\n", argv[0]);
     return 2;
 }

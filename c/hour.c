@@ -11,13 +11,13 @@
  *
  * on every machine; on x86-64, after ./install PREFIX, also
  *
- *   cc -std=c11 c/hour.c -IPREFIX/include -LPREFIX/lib -lkeravnoth -o hour
+ *   cc -std=c11 c/hour.c -IPREFIX/include PREFIX/lib/libkeravnoth.a -o hour
  *   ./hour hours/worked.tsv
  *
  * Exit code: 0 all printed, 1 the table is refused, 2 the file cannot be read or
  * the lines cannot be printed.
  */
-#include "keravnoth.h"
+#include "keravnoth_easy.h"
 
 #include <inttypes.h>
 #include <stdio.h>
@@ -25,81 +25,37 @@
 
 /* One byte more than is ever taken, so that a longer file is seen as such. */
 static uint8_t text[KERAVNOTH_TEXT_MOST + 1];
-static int64_t z[KERAVNOTH_ZONES_MOST];
-static int64_t t[KERAVNOTH_ZONES_MOST];
-static int64_t b[KERAVNOTH_BORDERS_MOST][KERAVNOTH_B_ITEMS];
-static int64_t c[KERAVNOTH_ROWS_MOST][KERAVNOTH_C_ITEMS];
-static int64_t f[KERAVNOTH_FACTORS_MOST];
-static uint64_t p[KERAVNOTH_P_MOST];
-static int64_t atc[KERAVNOTH_BORDERS_MOST][KERAVNOTH_ATC_ITEMS];
-static int64_t left[KERAVNOTH_ROWS_MOST][KERAVNOTH_LEFT_ITEMS];
-static int64_t flows[KERAVNOTH_CORNERS_MOST];
-
-static const char *meaning(uint32_t number)
-{
-    switch (number) {
-    case KERAVNOTH_TOO_LONG: return "more than 65,536 bytes";
-    case KERAVNOTH_WRONG_FORM: return "form, kind, index or field count of a line";
-    case KERAVNOTH_OUT_OF_RANGE: return "a value outside its range, line";
-    case KERAVNOTH_GIVEN_TWICE: return "same from, to and hubs as an earlier border, border";
-    case KERAVNOTH_NO_ROW_KEPT: return "no row is kept";
-    case KERAVNOTH_BORDER_UNLIMITED: return "no kept row limits border";
-    case KERAVNOTH_MARGIN_BELOW_0: return "starting margin below 0, row";
-    case KERAVNOTH_BUFFER_TOO_SHORT: return "lent buffer too short, items needed";
-    case KERAVNOTH_NO_CORNER_SHEET: return "no corner sheet: over 12 borders, or no such row";
-    default: return "unknown";
-    }
-}
+static struct KeravnothHour hour;
 
 static int refused(uint32_t number, size_t place, size_t byte)
 {
-    fprintf(stderr, "E\t%" PRIu32 "\t%zu\t%zu\t(%s)\n", number, place, byte, meaning(number));
+    fprintf(
+        stderr, "E\t%" PRIu32 "\t%zu\t%zu\t(%s)\n",
+        number, place, byte, keravnoth_hour_words(&hour, number, place, byte));
     return 1;
 }
 
-static struct KeravnothHeader header_of(const struct KeravnothRead *table)
+static int print_capacities(void)
 {
-    return (struct KeravnothHeader){table->zones, table->borders, table->rows, table->share, table->intraday};
-}
-
-/* C before C23 does not turn a pointer to a record into one to a const record by
-   itself, so the casts say it. */
-static int print_capacities(const struct KeravnothRead *table)
-{
-    struct KeravnothExtracted work = keravnoth_extract(
-        header_of(table),
-        z, KERAVNOTH_ZONES_MOST,
-        t, KERAVNOTH_ZONES_MOST,
-        (const int64_t (*)[KERAVNOTH_B_ITEMS])b, KERAVNOTH_BORDERS_MOST,
-        (const int64_t (*)[KERAVNOTH_C_ITEMS])c, KERAVNOTH_ROWS_MOST,
-        f, KERAVNOTH_FACTORS_MOST,
-        p, KERAVNOTH_P_MOST,
-        atc, KERAVNOTH_BORDERS_MOST, left, KERAVNOTH_ROWS_MOST);
+    struct KeravnothExtracted work = keravnoth_hour_extract(&hour, NULL, 0);
     if (work.number != KERAVNOTH_ACCEPTED)
         return refused(work.number, work.place, work.byte);
-    for (size_t border = 0; border < table->borders; border++)
-        printf("A\t%zu\t%" PRId64 "\n", border, atc[border][KERAVNOTH_ATC_MW]);
+    for (size_t border = 0; border < hour.table.borders; border++)
+        printf("A\t%zu\t%" PRId64 "\n", border, hour.atc[border][KERAVNOTH_ATC_MW]);
     return 0;
 }
 
-static int print_heaviest_corners(const struct KeravnothRead *table)
+static int print_heaviest_corners(void)
 {
-    for (size_t row = 0; row < table->rows; row++) {
-        struct KeravnothFlows sheet = keravnoth_corner_flows(
-            header_of(table),
-            z, KERAVNOTH_ZONES_MOST,
-            t, KERAVNOTH_ZONES_MOST,
-            (const int64_t (*)[KERAVNOTH_B_ITEMS])b, KERAVNOTH_BORDERS_MOST,
-            (const int64_t (*)[KERAVNOTH_C_ITEMS])c, KERAVNOTH_ROWS_MOST,
-            f, KERAVNOTH_FACTORS_MOST,
-            row, flows, KERAVNOTH_CORNERS_MOST);
+    for (size_t row = 0; row < hour.table.rows; row++) {
+        struct KeravnothFlows sheet = keravnoth_hour_corners(&hour, row);
         if (sheet.number != KERAVNOTH_ACCEPTED)
             return refused(sheet.number, sheet.place, sheet.byte);
         size_t most = 0;
         for (size_t corner = 1; corner < sheet.corners; corner++)
-            if (flows[corner] > flows[most])
+            if (hour.flows[corner] > hour.flows[most])
                 most = corner;
-        printf("K\t%zu\t%zu\t%" PRId64 "\n", row, most, flows[most]);
+        printf("K\t%zu\t%zu\t%" PRId64 "\n", row, most, hour.flows[most]);
     }
     return 0;
 }
@@ -125,14 +81,11 @@ int main(int argc, char **argv)
     if (file != stdin)
         fclose(file);
 
-    struct KeravnothRead table = keravnoth_read(
-        text, n,
-        z, KERAVNOTH_ZONES_MOST, t, KERAVNOTH_ZONES_MOST, b, KERAVNOTH_BORDERS_MOST,
-        c, KERAVNOTH_ROWS_MOST, f, KERAVNOTH_FACTORS_MOST);
+    struct KeravnothJudged table = keravnoth_hour_read(&hour, text, n, NULL, 0);
     if (table.number != KERAVNOTH_ACCEPTED)
         return refused(table.number, table.place, table.byte);
 
-    int status = corners ? print_heaviest_corners(&table) : print_capacities(&table);
+    int status = corners ? print_heaviest_corners() : print_capacities();
     if (fflush(stdout) != 0) {
         perror("writing");
         return 2;

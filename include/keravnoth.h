@@ -1,6 +1,7 @@
 /*
  * keravnoth: fallback electricity capacities (ATCs) from one hour's table.
- * The rules are those of document 01 (docs/RULES.md has them in short).
+ * The rules are those of document 01 (docs/RULES.md has them whole).
+ * keravnoth_easy.h, beside this file, holds every buffer in one struct.
  *
  * UNITS
  *   kW               net positions, Fmax, FRM, Fref, F0all, CVA, IVA
@@ -152,28 +153,55 @@
  *   header says; what lies beyond is not looked at.
  *   On refusal the fields after byte are 0; without a refusal place and byte are 0.
  *
- * THREADS
- *   Calls may run in several threads at once, as long as nothing that one call
- *   writes to is lent to another at the same time.  The library has no state: no
- *   static variable, no heap, no file; a call touches what it is lent and its own
- *   stack, and calls nothing but memcpy and memset.
+ * ANSWERS IN TEXT
+ *   The calls that answer a text with a text (keravnoth_answer, keravnoth_answer_marked,
+ *   keravnoth_answer_corrected) tell a refused table by an E line in out: the call itself
+ *   is not refused, and number is 0.  told_number, told_place and told_byte are the E
+ *   line's own; all three are 0 where out has a result (proved, crates/interface:
+ *   proofs/Told).  So file out where number and told_number are both 0.
  *
- * STACK
- *   Working memory is on the stack.  KERAVNOTH_READ_STACK and so on are the bytes
- *   that a call takes at most below its caller's frame; a thread that calls needs so
- *   much beyond its own frames.  They are measured, not proved: c/check.c makes each
- *   call first and alone in a process of its own, over every example hour, the largest
- *   stored cases, the fullest claims and texts that are refused, and looks how much of
- *   a painted stack is gone, on the x86-64 code of the library.  A figure is the most
- *   that was measured, arguments included, and 256 bytes more for another compiler of
- *   the caller and another memcpy, rounded up to whole KiB.
- *   The figures are of a program that is bound at once (-z now, LD_BIND_NOW).  One that
- *   is bound lazily needs KERAVNOTH_BINDING_STACK beyond them: the call that first
- *   reaches memcpy or memset has the linker's work on its stack, which saves the
- *   processor's registers there (measured by the same rule, with those of AVX-512).
+ * REAL TIME
+ *   Blocking   no call ever blocks, waits, allocates, locks, calls the system or fails
+ *              otherwise than by a refusal; each ends for every input (proved).  It
+ *              calls nothing but memcpy and memset.
+ *   Rounds     an extraction, and each call that makes one (result_text, answer, why),
+ *              takes at most KERAVNOTH_ROUNDS_MOST rounds for any table, with T lines
+ *              KERAVNOTH_ROUNDS_INTRADAY_MOST (proved); for the table at hand at most
+ *              `sharp` of keravnoth_bound, which makes no round.  A round costs in the
+ *              order of rows x borders (docs/BENCH.md has times).
+ *   Memory     what is lent, and the stack; nothing is kept between calls.  All buffers
+ *              of an hour, of the largest table too, are sizeof (struct KeravnothHour)
+ *              of keravnoth_easy.h: KERAVNOTH_HOUR_BYTES.
+ *   Threads    calls may run in several threads at once, as long as nothing that one call
+ *              writes to is lent to another at the same time.  The library has no state:
+ *              no static variable, no heap, no file; a call touches what it is lent and
+ *              its own stack.
+ *   Stack      KERAVNOTH_READ_STACK and so on are the bytes that a call takes at most
+ *              below its caller's frame; a thread that calls needs so much beyond its own
+ *              frames.  They are measured, not proved: c/check.c makes each call first and
+ *              alone in a process of its own, over every example hour, the largest stored
+ *              cases, the fullest claims and texts that are refused, and looks how much of
+ *              a painted stack is gone, on the x86-64 code of the library.  A figure is the
+ *              most that was measured, arguments included, and 256 bytes more for another
+ *              compiler of the caller and another memcpy, rounded up to whole KiB.
+ *              The figures are of a program that is bound at once (-z now, LD_BIND_NOW).
+ *              One that is bound lazily needs KERAVNOTH_BINDING_STACK beyond them: the call
+ *              that first reaches memcpy or memset has the linker's work on its stack,
+ *              which saves the processor's registers there (measured by the same rule, with
+ *              those of AVX-512).  The shared library is bound at once.
+ *   Signals    a call may be interrupted and never resumed: it holds nothing.  What it was
+ *              lent to write to then holds a part of the answer.
  *
  * VERSION
- *   KERAVNOTH_VERSION rises with every change of this file that a caller can see.
+ *   MAJOR.MINOR.PATCH.  Major rises where a caller has to be changed or compiled again,
+ *   minor where something is added, patch where nothing that a caller can see changed.
+ *   KERAVNOTH_VERSION and keravnoth_version give 10000 * major + 100 * minor + patch, of
+ *   the header that was compiled and of the library that was linked.  A call's symbol
+ *   bears the major number (keravnoth_read is keravnoth_1_read), so that an object that
+ *   was compiled against a header of another one does not link, and a binding that names
+ *   the symbols itself does not load.  keravnoth_version has no number in its symbol: it
+ *   can be asked of every library.  (Before 1.0.0 KERAVNOTH_VERSION was a running number,
+ *   15 at last, so it still rises; symbols bore no number, so no such object links.)
  */
 #ifndef KERAVNOTH_H
 #define KERAVNOTH_H
@@ -181,11 +209,53 @@
 #include <stddef.h>
 #include <stdint.h>
 
+#if SIZE_MAX != 0xffffffffffffffff
+#error "keravnoth.h: the library is x86-64 code, where size_t has 64 bits"
+#endif
+
 #ifdef __cplusplus
 extern "C" {
 #endif
 
-#define KERAVNOTH_VERSION 15
+#define KERAVNOTH_VERSION_MAJOR 1
+#define KERAVNOTH_VERSION_MINOR 0
+#define KERAVNOTH_VERSION_PATCH 0
+#define KERAVNOTH_VERSION \
+    (10000 * KERAVNOTH_VERSION_MAJOR + 100 * KERAVNOTH_VERSION_MINOR + KERAVNOTH_VERSION_PATCH)
+
+/* The symbols of the calls: see VERSION above. */
+#define keravnoth_read keravnoth_1_read
+#define keravnoth_read_corrected keravnoth_1_read_corrected
+#define keravnoth_write keravnoth_1_write
+#define keravnoth_rewrite_corrected keravnoth_1_rewrite_corrected
+#define keravnoth_extract keravnoth_1_extract
+#define keravnoth_extract_marked keravnoth_1_extract_marked
+#define keravnoth_result_text keravnoth_1_result_text
+#define keravnoth_result_text_marked keravnoth_1_result_text_marked
+#define keravnoth_answer keravnoth_1_answer
+#define keravnoth_answer_marked keravnoth_1_answer_marked
+#define keravnoth_answer_corrected keravnoth_1_answer_corrected
+#define keravnoth_corner_flows keravnoth_1_corner_flows
+#define keravnoth_corner_text keravnoth_1_corner_text
+#define keravnoth_claims keravnoth_1_claims
+#define keravnoth_published_text keravnoth_1_published_text
+#define keravnoth_bound keravnoth_1_bound
+#define keravnoth_bound_marked keravnoth_1_bound_marked
+#define keravnoth_margins keravnoth_1_margins
+#define keravnoth_read_rows keravnoth_1_read_rows
+#define keravnoth_write_rows keravnoth_1_write_rows
+#define keravnoth_why keravnoth_1_why
+#define keravnoth_why_marked keravnoth_1_why_marked
+#define keravnoth_refusal_text keravnoth_1_refusal_text
+
+/* Before C23 a pointer to an array is no pointer to a const array, and passing one is a
+   warning: there the calls do not say const of records that they only read, and a table
+   that is const itself is cast. */
+#if defined(__cplusplus) || (defined(__STDC_VERSION__) && __STDC_VERSION__ > 201710L)
+#define KERAVNOTH_READS const
+#else
+#define KERAVNOTH_READS
+#endif
 
 /* The largest table, in items. */
 enum {
@@ -208,7 +278,14 @@ enum {
     KERAVNOTH_ANSWER_MOST = 22790,
     KERAVNOTH_CORNER_TEXT_MOST = 110592,
     KERAVNOTH_PUBLISHED_TEXT_MOST = 8800,
-    KERAVNOTH_WRITE_ROWS_MOST = 60200
+    KERAVNOTH_WRITE_ROWS_MOST = 60200,
+    KERAVNOTH_REFUSAL_TEXT_MOST = 215
+};
+
+/* The most rounds of any table, and of one with T lines; each is proved. */
+enum {
+    KERAVNOTH_ROUNDS_MOST = 1852,
+    KERAVNOTH_ROUNDS_INTRADAY_MOST = 1910
 };
 
 /* Refusals. */
@@ -331,7 +408,8 @@ enum {
     KERAVNOTH_KW_PER_MW = 1000
 };
 
-/* The stack that each call needs, in bytes, and what lazy binding adds: see STACK above. */
+/* The stack that each call needs, in bytes, and what lazy binding adds: see REAL TIME
+   above. */
 enum {
     KERAVNOTH_READ_STACK = 43008,
     KERAVNOTH_READ_CORRECTED_STACK = 43008,
@@ -355,6 +433,8 @@ enum {
     KERAVNOTH_WRITE_ROWS_STACK = 1024,
     KERAVNOTH_WHY_STACK = 19456,
     KERAVNOTH_WHY_MARKED_STACK = 19456,
+    KERAVNOTH_REFUSAL_TEXT_STACK = 2048,
+    KERAVNOTH_VERSION_STACK = 1024,
     KERAVNOTH_BINDING_STACK = 4096
 };
 
@@ -392,6 +472,18 @@ struct KeravnothWritten {
     size_t place;
     size_t byte;
     size_t bytes;
+};
+
+/* An answer in text: its bytes, and what the text tells, the number, place and byte of
+   its E line, all 0 where it is a result. */
+struct KeravnothAnswered {
+    uint32_t number;
+    size_t place;
+    size_t byte;
+    size_t bytes;
+    uint32_t told_number;
+    size_t told_place;
+    size_t told_byte;
 };
 
 /* The extraction: rounds that raised something. */
@@ -447,6 +539,15 @@ struct KeravnothExplained {
     int64_t ended;
 };
 
+/* The version of the library that is linked, as KERAVNOTH_VERSION is the header's. */
+uint32_t keravnoth_version(void);
+
+/* What a refusal's number means, in words and without a NUL; a # stands where the
+   refusal's place belongs.  Any number has words, 0 too.  Refusal 8. */
+struct KeravnothWritten keravnoth_refusal_text(
+    uint64_t number,
+    uint8_t *out, size_t nout);
+
 /* Reads a table's text into z, t, b, c and f.  Refusals 1, 2, 3, 4, 8. */
 struct KeravnothRead keravnoth_read(
     const uint8_t *text, size_t n,
@@ -473,8 +574,8 @@ struct KeravnothWritten keravnoth_write(
     struct KeravnothHeader header,
     const int64_t *z, size_t nz,
     const int64_t *t, size_t nt,
-    const int64_t (*b)[KERAVNOTH_B_ITEMS], size_t nb,
-    const int64_t (*c)[KERAVNOTH_C_ITEMS], size_t nc,
+    KERAVNOTH_READS int64_t (*b)[KERAVNOTH_B_ITEMS], size_t nb,
+    KERAVNOTH_READS int64_t (*c)[KERAVNOTH_C_ITEMS], size_t nc,
     const int64_t *f, size_t nf,
     uint8_t *out, size_t nout);
 
@@ -491,8 +592,8 @@ struct KeravnothExtracted keravnoth_extract(
     struct KeravnothHeader header,
     const int64_t *z, size_t nz,
     const int64_t *t, size_t nt,
-    const int64_t (*b)[KERAVNOTH_B_ITEMS], size_t nb,
-    const int64_t (*c)[KERAVNOTH_C_ITEMS], size_t nc,
+    KERAVNOTH_READS int64_t (*b)[KERAVNOTH_B_ITEMS], size_t nb,
+    KERAVNOTH_READS int64_t (*c)[KERAVNOTH_C_ITEMS], size_t nc,
     const int64_t *f, size_t nf,
     uint64_t *p, size_t np,
     int64_t (*atc)[KERAVNOTH_ATC_ITEMS], size_t natc,
@@ -504,8 +605,8 @@ struct KeravnothExtracted keravnoth_extract_marked(
     struct KeravnothHeader header,
     const int64_t *z, size_t nz,
     const int64_t *t, size_t nt,
-    const int64_t (*b)[KERAVNOTH_B_ITEMS], size_t nb,
-    const int64_t (*c)[KERAVNOTH_C_ITEMS], size_t nc,
+    KERAVNOTH_READS int64_t (*b)[KERAVNOTH_B_ITEMS], size_t nb,
+    KERAVNOTH_READS int64_t (*c)[KERAVNOTH_C_ITEMS], size_t nc,
     const int64_t *f, size_t nf,
     uint64_t *p, size_t np,
     const uint64_t *marks, size_t nmarks,
@@ -518,8 +619,8 @@ struct KeravnothWritten keravnoth_result_text(
     struct KeravnothHeader header,
     const int64_t *z, size_t nz,
     const int64_t *t, size_t nt,
-    const int64_t (*b)[KERAVNOTH_B_ITEMS], size_t nb,
-    const int64_t (*c)[KERAVNOTH_C_ITEMS], size_t nc,
+    KERAVNOTH_READS int64_t (*b)[KERAVNOTH_B_ITEMS], size_t nb,
+    KERAVNOTH_READS int64_t (*c)[KERAVNOTH_C_ITEMS], size_t nc,
     const int64_t *f, size_t nf,
     uint8_t *out, size_t nout);
 
@@ -529,31 +630,31 @@ struct KeravnothWritten keravnoth_result_text_marked(
     struct KeravnothHeader header,
     const int64_t *z, size_t nz,
     const int64_t *t, size_t nt,
-    const int64_t (*b)[KERAVNOTH_B_ITEMS], size_t nb,
-    const int64_t (*c)[KERAVNOTH_C_ITEMS], size_t nc,
+    KERAVNOTH_READS int64_t (*b)[KERAVNOTH_B_ITEMS], size_t nb,
+    KERAVNOTH_READS int64_t (*c)[KERAVNOTH_C_ITEMS], size_t nc,
     const int64_t *f, size_t nf,
     const uint64_t *marks, size_t nmarks,
     uint8_t *out, size_t nout);
 
 /* From text to text: the result text, or one line E, number, place,
    byte.  Refused only where out is too short (8, bytes needed).
-   Number 0 may stand beside an E line in out: its first byte tells, A or E. */
-struct KeravnothWritten keravnoth_answer(
+   A refused table has number 0 and an E line in out: look at told_number too. */
+struct KeravnothAnswered keravnoth_answer(
     const uint8_t *text, size_t n,
     uint8_t *out, size_t nout);
 
 /* From text to text, where only the marked borders may rise.  Refused as
    keravnoth_answer is.
-   Number 0 may stand beside an E line in out: its first byte tells, A or E. */
-struct KeravnothWritten keravnoth_answer_marked(
+   A refused table has number 0 and an E line in out: look at told_number too. */
+struct KeravnothAnswered keravnoth_answer_marked(
     const uint8_t *text, size_t n,
     const uint64_t *marks, size_t nmarks,
     uint8_t *out, size_t nout);
 
 /* From text to text, of the table as a sheet corrects it.  Refused as
    keravnoth_answer is.
-   Number 0 may stand beside an E line in out: its first byte tells, A or E. */
-struct KeravnothWritten keravnoth_answer_corrected(
+   A refused table has number 0 and an E line in out: look at told_number too. */
+struct KeravnothAnswered keravnoth_answer_corrected(
     const uint8_t *text, size_t n,
     const uint8_t *sheet, size_t nsheet,
     uint8_t *out, size_t nout);
@@ -564,8 +665,8 @@ struct KeravnothFlows keravnoth_corner_flows(
     struct KeravnothHeader header,
     const int64_t *z, size_t nz,
     const int64_t *t, size_t nt,
-    const int64_t (*b)[KERAVNOTH_B_ITEMS], size_t nb,
-    const int64_t (*c)[KERAVNOTH_C_ITEMS], size_t nc,
+    KERAVNOTH_READS int64_t (*b)[KERAVNOTH_B_ITEMS], size_t nb,
+    KERAVNOTH_READS int64_t (*c)[KERAVNOTH_C_ITEMS], size_t nc,
     const int64_t *f, size_t nf,
     size_t row,
     int64_t *out, size_t nout);
@@ -577,8 +678,8 @@ struct KeravnothWritten keravnoth_corner_text(
     struct KeravnothHeader header,
     const int64_t *z, size_t nz,
     const int64_t *t, size_t nt,
-    const int64_t (*b)[KERAVNOTH_B_ITEMS], size_t nb,
-    const int64_t (*c)[KERAVNOTH_C_ITEMS], size_t nc,
+    KERAVNOTH_READS int64_t (*b)[KERAVNOTH_B_ITEMS], size_t nb,
+    KERAVNOTH_READS int64_t (*c)[KERAVNOTH_C_ITEMS], size_t nc,
     const int64_t *f, size_t nf,
     size_t row,
     uint8_t *out, size_t nout);
@@ -590,10 +691,10 @@ struct KeravnothJudged keravnoth_claims(
     struct KeravnothHeader header,
     const int64_t *z, size_t nz,
     const int64_t *t, size_t nt,
-    const int64_t (*b)[KERAVNOTH_B_ITEMS], size_t nb,
-    const int64_t (*c)[KERAVNOTH_C_ITEMS], size_t nc,
+    KERAVNOTH_READS int64_t (*b)[KERAVNOTH_B_ITEMS], size_t nb,
+    KERAVNOTH_READS int64_t (*c)[KERAVNOTH_C_ITEMS], size_t nc,
     const int64_t *f, size_t nf,
-    const int64_t (*claims)[KERAVNOTH_CLAIM_ITEMS], size_t nclaims);
+    KERAVNOTH_READS int64_t (*claims)[KERAVNOTH_CLAIM_ITEMS], size_t nclaims);
 
 /* The published list of the claims that a text holds: a D line (row, RAM) for each kept
    row that is not claimed.  Refusals 1, 3, 4, 8, 11, 12. */
@@ -601,8 +702,8 @@ struct KeravnothWritten keravnoth_published_text(
     struct KeravnothHeader header,
     const int64_t *z, size_t nz,
     const int64_t *t, size_t nt,
-    const int64_t (*b)[KERAVNOTH_B_ITEMS], size_t nb,
-    const int64_t (*c)[KERAVNOTH_C_ITEMS], size_t nc,
+    KERAVNOTH_READS int64_t (*b)[KERAVNOTH_B_ITEMS], size_t nb,
+    KERAVNOTH_READS int64_t (*c)[KERAVNOTH_C_ITEMS], size_t nc,
     const int64_t *f, size_t nf,
     const uint8_t *list, size_t nlist,
     uint8_t *out, size_t nout);
@@ -614,8 +715,8 @@ struct KeravnothBounded keravnoth_bound(
     struct KeravnothHeader header,
     const int64_t *z, size_t nz,
     const int64_t *t, size_t nt,
-    const int64_t (*b)[KERAVNOTH_B_ITEMS], size_t nb,
-    const int64_t (*c)[KERAVNOTH_C_ITEMS], size_t nc,
+    KERAVNOTH_READS int64_t (*b)[KERAVNOTH_B_ITEMS], size_t nb,
+    KERAVNOTH_READS int64_t (*c)[KERAVNOTH_C_ITEMS], size_t nc,
     const int64_t *f, size_t nf);
 
 /* How many rounds the extraction can take at most where only the marked borders may
@@ -624,8 +725,8 @@ struct KeravnothBounded keravnoth_bound_marked(
     struct KeravnothHeader header,
     const int64_t *z, size_t nz,
     const int64_t *t, size_t nt,
-    const int64_t (*b)[KERAVNOTH_B_ITEMS], size_t nb,
-    const int64_t (*c)[KERAVNOTH_C_ITEMS], size_t nc,
+    KERAVNOTH_READS int64_t (*b)[KERAVNOTH_B_ITEMS], size_t nb,
+    KERAVNOTH_READS int64_t (*c)[KERAVNOTH_C_ITEMS], size_t nc,
     const int64_t *f, size_t nf,
     const uint64_t *marks, size_t nmarks);
 
@@ -635,8 +736,8 @@ struct KeravnothJudged keravnoth_margins(
     struct KeravnothHeader header,
     const int64_t *z, size_t nz,
     const int64_t *t, size_t nt,
-    const int64_t (*b)[KERAVNOTH_B_ITEMS], size_t nb,
-    const int64_t (*c)[KERAVNOTH_C_ITEMS], size_t nc,
+    KERAVNOTH_READS int64_t (*b)[KERAVNOTH_B_ITEMS], size_t nb,
+    KERAVNOTH_READS int64_t (*c)[KERAVNOTH_C_ITEMS], size_t nc,
     const int64_t *f, size_t nf,
     int64_t (*out)[KERAVNOTH_PARTS_ITEMS], size_t nout);
 
@@ -653,7 +754,7 @@ struct KeravnothJudged keravnoth_read_rows(
    Refusals 3, 8; place is the header's line 1 or the sheet's line. */
 struct KeravnothWritten keravnoth_write_rows(
     struct KeravnothHeader header,
-    const int64_t (*c)[KERAVNOTH_C_ITEMS], size_t nc,
+    KERAVNOTH_READS int64_t (*c)[KERAVNOTH_C_ITEMS], size_t nc,
     const int64_t *f, size_t nf,
     uint8_t *out, size_t nout);
 
@@ -664,8 +765,8 @@ struct KeravnothExplained keravnoth_why(
     struct KeravnothHeader header,
     const int64_t *z, size_t nz,
     const int64_t *t, size_t nt,
-    const int64_t (*b)[KERAVNOTH_B_ITEMS], size_t nb,
-    const int64_t (*c)[KERAVNOTH_C_ITEMS], size_t nc,
+    KERAVNOTH_READS int64_t (*b)[KERAVNOTH_B_ITEMS], size_t nb,
+    KERAVNOTH_READS int64_t (*c)[KERAVNOTH_C_ITEMS], size_t nc,
     const int64_t *f, size_t nf,
     uint64_t border,
     uint64_t *p, size_t np,
@@ -678,8 +779,8 @@ struct KeravnothExplained keravnoth_why_marked(
     struct KeravnothHeader header,
     const int64_t *z, size_t nz,
     const int64_t *t, size_t nt,
-    const int64_t (*b)[KERAVNOTH_B_ITEMS], size_t nb,
-    const int64_t (*c)[KERAVNOTH_C_ITEMS], size_t nc,
+    KERAVNOTH_READS int64_t (*b)[KERAVNOTH_B_ITEMS], size_t nb,
+    KERAVNOTH_READS int64_t (*c)[KERAVNOTH_C_ITEMS], size_t nc,
     const int64_t *f, size_t nf,
     const uint64_t *marks, size_t nmarks,
     uint64_t border,

@@ -85,7 +85,7 @@ pub struct Judged {
     pub byte: usize,
 }
 
-/// The bridge ended within a call: how.
+/// The bridge ended within a call, or told what its own text does not say: how.
 #[derive(Debug)]
 pub struct Ended(pub String);
 
@@ -296,16 +296,29 @@ impl Bridge {
         Ok(Written { number, place: place as usize, byte: byte as usize, bytes: bytes as usize })
     }
 
+    /// What an answer tells is held against the text that it wrote, and the comparer holds
+    /// that against the reference.
+    fn told(&self, fields: [u64; 7], out: &[u8]) -> Result<Written, Ended> {
+        let [number, place, byte, bytes, told @ ..] = fields;
+        let [place, byte, bytes] = [place, byte, bytes].map(|field| field as usize);
+        let lent = &out[wire::BEFORE..out.len() - wire::AFTER];
+        let text = if number == 0 { &lent[..bytes.min(lent.len())] } else { &[] };
+        if told != wire::told_by(text) {
+            return Err(Ended(format!("it tells {told:?} of the text {}", text.escape_ascii())));
+        }
+        Ok(Written { number, place, byte, bytes })
+    }
+
     pub fn answer_marked(&mut self, text: &mut [u8], marks: &mut [u64], out: &mut [u8]) -> Result<Written, Ended> {
         self.begin(wire::ANSWER_MARKED, [0; wire::HEADER_WORDS]);
         self.lend(wire::MARKS, marks);
         self.lend(wire::TEXT, text);
         self.lend(wire::OUT, out);
-        let [number, place, byte, bytes] = self.ask()?;
+        let fields = self.ask()?;
         self.back(marks);
         self.back(text);
         self.back(out);
-        Ok(Written { number, place: place as usize, byte: byte as usize, bytes: bytes as usize })
+        self.told(fields, out)
     }
 
     /// With a list of marks: the call that takes one.
@@ -378,23 +391,25 @@ impl Bridge {
     }
 
     pub fn answer_corrected(&mut self, text: &mut [u8], sheet: &mut [u8], out: &mut [u8]) -> Result<Written, Ended> {
-        self.two_texts(wire::ANSWER_CORRECTED, text, sheet, out)
+        let fields = self.two_texts(wire::ANSWER_CORRECTED, text, sheet, out)?;
+        self.told(fields, out)
     }
 
     pub fn rewrite_corrected(&mut self, text: &mut [u8], sheet: &mut [u8], out: &mut [u8]) -> Result<Written, Ended> {
-        self.two_texts(wire::REWRITE_CORRECTED, text, sheet, out)
+        let [number, place, byte, bytes] = self.two_texts(wire::REWRITE_CORRECTED, text, sheet, out)?;
+        Ok(Written { number, place: place as usize, byte: byte as usize, bytes: bytes as usize })
     }
 
-    fn two_texts(&mut self, call: u64, text: &mut [u8], sheet: &mut [u8], out: &mut [u8]) -> Result<Written, Ended> {
+    fn two_texts<const FIELDS: usize>(&mut self, call: u64, text: &mut [u8], sheet: &mut [u8], out: &mut [u8]) -> Result<[u64; FIELDS], Ended> {
         self.begin(call, [0; wire::HEADER_WORDS]);
         self.lend(wire::TEXT, text);
         self.lend(wire::SHEET, sheet);
         self.lend(wire::OUT, out);
-        let [number, place, byte, bytes] = self.ask()?;
+        let fields = self.ask()?;
         self.back(text);
         self.back(sheet);
         self.back(out);
-        Ok(Written { number, place: place as usize, byte: byte as usize, bytes: bytes as usize })
+        Ok(fields)
     }
 
     pub fn claims(&mut self, mut l: Lent, claims: &mut [[i64; 35]]) -> Result<Judged, Ended> {
@@ -459,9 +474,9 @@ impl Bridge {
         self.begin(wire::ANSWER, [0; wire::HEADER_WORDS]);
         self.lend(wire::TEXT, text);
         self.lend(wire::OUT, out);
-        let [number, place, byte, bytes] = self.ask()?;
+        let fields = self.ask()?;
         self.back(text);
         self.back(out);
-        Ok(Written { number, place: place as usize, byte: byte as usize, bytes: bytes as usize })
+        self.told(fields, out)
     }
 }

@@ -33,6 +33,10 @@ mod lent;
 mod make;
 #[path = "marks.rs"]
 mod marks;
+#[path = "noon_cases.rs"]
+mod noon_cases;
+#[path = "noon_sheets.rs"]
+mod noon_sheets;
 #[path = "promises.rs"]
 mod promises;
 #[path = "row_cases.rs"]
@@ -78,6 +82,8 @@ const T_EVERY: u64 = 8;
 const MARKS_EVERY: u64 = 8;
 /// One table in so many has, beside it, a bad correction sheet.
 const BAD_SHEETS_EVERY: u64 = 8;
+/// .. a bad correction sheet of semicolon rows.
+const NOON_EVERY: u64 = 8;
 /// One table in so many has, beside it, a table made for claims.
 const CLAIMS_EVERY: u64 = 4;
 /// One table in so many has, beside it, a table made for sheets of rows.
@@ -99,6 +105,8 @@ struct Comparison {
     places: Vec<damage::Place>,
     /// where the small correction sheet is damaged
     sheet_places: Vec<damage::Place>,
+    /// where the small correction sheet of semicolon rows is damaged
+    noon_places: Vec<damage::Place>,
     /// small lists of claims, and where each is damaged
     list_places: Vec<(Vec<u8>, damage::Place)>,
     /// where the small sheets of rows are damaged
@@ -518,6 +526,7 @@ fn main() {
         bridge,
         places: damage::places(),
         sheet_places: damage::sheet_places(),
+        noon_places: noon_sheets::places(),
         list_places: claim_cases::list_places(),
         row_places: row_cases::row_places(),
         seed,
@@ -559,6 +568,9 @@ fn main() {
             if number % BAD_SHEETS_EVERY == 0 {
                 c.bad_sheets(number / BAD_SHEETS_EVERY);
             }
+            if number % NOON_EVERY == 0 {
+                c.noon_tables(number / NOON_EVERY);
+            }
             if number % CLAIMS_EVERY == 0 {
                 c.claim_tables(number / CLAIMS_EVERY);
             }
@@ -585,6 +597,9 @@ fn main() {
         if (number as usize) < c.sheet_places.len() {
             c.each_sheet_damage(number as usize);
         }
+        if (number as usize) < c.noon_places.len() {
+            c.each_noon_damage(number as usize);
+        }
         if (number as usize) < c.list_places.len() {
             c.each_list_damage(number as usize);
         }
@@ -598,6 +613,9 @@ fn main() {
     }
     for number in tables.max(texts) as usize..c.sheet_places.len() {
         c.each_sheet_damage(number);
+    }
+    for number in tables.max(texts) as usize..c.noon_places.len() {
+        c.each_noon_damage(number);
     }
     for number in tables.max(texts) as usize..c.list_places.len() {
         c.each_list_damage(number);

@@ -234,17 +234,17 @@ fn write_rows(header: Header, c: &mut Lent<[i64; 7]>, f: &mut Lent<i64>, out: &m
     text_to(text, out)
 }
 
-fn answer(text: &Lent<u8>, out: &mut Lent<u8>) -> [u64; 4] {
+fn answer(text: &Lent<u8>, out: &mut Lent<u8>) -> [u64; 7] {
     let answer = second::answer(text);
     whole_or_8(answer, out)
 }
 
-fn answer_marked(text: &Lent<u8>, marks: &Lent<u64>, out: &mut Lent<u8>) -> [u64; 4] {
+fn answer_marked(text: &Lent<u8>, marks: &Lent<u64>, out: &mut Lent<u8>) -> [u64; 7] {
     let answer = second::answer_marked(text, marks);
     whole_or_8(answer, out)
 }
 
-fn answer_corrected(text: &Lent<u8>, sheet: &Lent<u8>, out: &mut Lent<u8>) -> [u64; 4] {
+fn answer_corrected(text: &Lent<u8>, sheet: &Lent<u8>, out: &mut Lent<u8>) -> [u64; 7] {
     let answer = second::answer_corrected(text, sheet);
     whole_or_8(answer, out)
 }
@@ -254,11 +254,14 @@ fn rewrite_corrected(text: &Lent<u8>, sheet: &Lent<u8>, out: &mut Lent<u8>) -> [
     text_to(merged, out)
 }
 
-fn whole_or_8(answer: Vec<u8>, out: &mut Lent<u8>) -> [u64; 4] {
+fn whole_or_8(answer: Vec<u8>, out: &mut Lent<u8>) -> [u64; 7] {
     if out.len() < answer.len() {
-        return refused(Refusal { number: 8, place: answer.len(), byte: second::NO_BYTE });
+        let [number, place, byte] = why(Refusal { number: 8, place: answer.len(), byte: second::NO_BYTE });
+        return [number, place, byte, 0, 0, 0, 0];
     }
-    text_to(Ok(answer), out)
+    let [told_number, told_place, told_byte] = wire::told_by(&answer);
+    let [number, place, byte, bytes] = text_to(Ok(answer), out);
+    [number, place, byte, bytes, told_number, told_place, told_byte]
 }
 
 // ------------------------------------------------------------------ the bridge
@@ -353,8 +356,11 @@ fn serve<R: Read>(request: &mut Request<R>, to: &mut Vec<u8>) -> std::io::Result
             let text = request.lent(wire::TEXT)?;
             let sheet = request.lent(wire::SHEET)?;
             let mut out = request.lent(wire::OUT)?;
-            let work = if call == wire::ANSWER_CORRECTED { answer_corrected } else { rewrite_corrected };
-            put_fields(&work(&text, &sheet, &mut out), to);
+            if call == wire::ANSWER_CORRECTED {
+                put_fields(&answer_corrected(&text, &sheet, &mut out), to);
+            } else {
+                put_fields(&rewrite_corrected(&text, &sheet, &mut out), to);
+            }
             wire::put_all(&text.whole, to);
             wire::put_all(&sheet.whole, to);
             wire::put_all(&out.whole, to);

@@ -33,18 +33,18 @@ pub fn sheet(t: &Tables) -> Vec<u8> {
     sheet.into_bytes()
 }
 
-fn fields_of(line: &[u8]) -> Vec<Vec<u8>> {
+pub fn fields_of(line: &[u8]) -> Vec<Vec<u8>> {
     parts_of(line, b';')
 }
 
-fn line_from(fields: &[Vec<u8>]) -> Vec<u8> {
+pub fn line_from(fields: &[Vec<u8>]) -> Vec<u8> {
     let mut line = fields.join(&b';');
     line.push(b'\n');
     line
 }
 
 /// The byte of the line, from 1, at which a field starts.
-fn start_of(fields: &[Vec<u8>], place: usize) -> usize {
+pub fn start_of(fields: &[Vec<u8>], place: usize) -> usize {
     1 + fields[..place].iter().map(|field| field.len() + 1).sum::<usize>()
 }
 

@@ -68,9 +68,9 @@ fn value_of(field: &Field, cell: &Cell, cut: bool) -> Result<i64, usize> {
 
 /// "Field order is that of the C line without the letter; R stays in
 /// ten-thousandths."
-fn cells(index: usize, zones: usize) -> Vec<Cell> {
+fn cells(index: Column, zones: usize) -> Vec<Cell> {
     let power = |signed: bool| Cell::Decimal { signed, decimals: POWER_DECIMALS };
-    let mut cells = vec![Cell::Plain(Column::Index(index))];
+    let mut cells = vec![Cell::Plain(index)];
     cells.extend([power(false), power(false), power(true), power(true)]);
     cells.extend([Cell::Plain(Column::DashOrUnsigned), power(false), power(false)]);
     cells.extend((0..zones).map(|_| Cell::Decimal { signed: true, decimals: FACTOR_DECIMALS }));
@@ -78,13 +78,15 @@ fn cells(index: usize, zones: usize) -> Vec<Cell> {
 }
 
 /// "fields parted by semicolons", "one LF after each" row; "2 and 3 as for a C line".
-fn form_row(line: &[u8], index: usize, zones: usize) -> Result<Form, usize> {
+/// The row, and the form without its index.
+fn form_row(line: &[u8], index: Column, zones: usize) -> Result<(usize, Form), usize> {
     let (body, ended) = match line.split_last() {
         Some((b'\n', body)) => (body, true),
         _ => (line, false),
     };
     let cells = cells(index, zones);
     let fields: Vec<&[u8]> = body.split(|byte| *byte == b';').collect();
+    let mut row = 0;
     let mut form = Form { values: Vec::new(), starts: Vec::new() };
     let mut start = 1;
     for (place, bytes) in fields.iter().enumerate() {
@@ -97,6 +99,8 @@ fn form_row(line: &[u8], index: usize, zones: usize) -> Result<Form, usize> {
         if place > 0 {
             form.values.push(value);
             form.starts.push(start);
+        } else {
+            row = value as usize;
         }
         start += bytes.len() + 1;
     }
@@ -104,7 +108,19 @@ fn form_row(line: &[u8], index: usize, zones: usize) -> Result<Form, usize> {
     if !ended || fields.len() != cells.len() {
         return Err(NO_BYTE);
     }
-    Ok(form)
+    Ok((row, form))
+}
+
+/// "Which one it is is seen from the sheet's first byte: a digit (48..57) means semicolon
+/// rows; any other byte, or an empty sheet, means C lines".
+pub(super) fn begins(sheet: &[u8]) -> bool {
+    matches!(sheet, [48..=57, ..])
+}
+
+/// A line of a correction sheet of semicolon rows: "not all rows need stand there: indices
+/// rise, each is below the table's rows".  Its index is one of the rows from `from` on.
+pub(super) fn form_correction(line: &[u8], from: usize, header: Header) -> Result<(usize, Form), usize> {
+    form_row(line, Column::OneOf { from, below: header.rows }, header.zones)
 }
 
 /// "The sheet holds all rows of the table's header, in index order, one LF after
@@ -114,7 +130,8 @@ fn sheet_rows(sheet: &[u8], header: Header) -> Result<(Vec<[i64; 7]>, Vec<i64>),
     let (mut c, mut f) = (Vec::new(), Vec::new());
     for index in 0..header.rows {
         let (number, line) = lines.next()?;
-        let values = judged(number, form_row(line, index, header.zones), |v| fault_c(&row_of(v), &v[7..]))?;
+        let form = form_row(line, Column::Index(index), header.zones).map(|(_, form)| form);
+        let values = judged(number, form, |v| fault_c(&row_of(v), &v[7..]))?;
         c.push(row_of(&values));
         f.extend(&values[7..]);
     }

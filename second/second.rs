@@ -625,16 +625,18 @@ fn read_lines(text: &[u8]) -> Result<Tables, Refusal> {
 /// piece of the sheet that holds it, or else the piece of the day's text."  "The sheet
 /// has C lines with rising indices, nothing else."  "10, a sheet line of wrong form or
 /// value, or with an index not above the one before or not in the table, place the
-/// sheet line".
+/// sheet line".  "All lines of one sheet are of one kind": C lines, or the planners'
+/// semicolon rows.
 fn correct(tables: &mut Tables, sheet: &[u8]) -> Result<(), Refusal> {
     let header = tables.header;
     let mut lines = Lines { text: sheet, start: 0, number: 1 };
+    let form_of_line = if rows::begins(sheet) { rows::form_correction } else { form_correction };
     // the least index that the next line may have
     let mut from = 0;
     while lines.more() {
         let (number, line) = lines.next()?;
         let refused = |byte| Refusal { number: 10, place: number, byte };
-        let (row, form) = form_correction(line, from, header).map_err(refused)?;
+        let (row, form) = form_of_line(line, from, header).map_err(refused)?;
         let (record, factors) = (row_of(&form.values), &form.values[7..]);
         if let Some(place) = fault_c(&record, factors) {
             return Err(refused(form.starts[place]));

@@ -4,7 +4,7 @@ use crate::dice::Dice;
 use crate::lent::{needed, Counts, LentTables, KINDS};
 use crate::second::{self, Border, Header, Outcome, Refusal, Tables};
 use crate::second::{INTRADAY, LTA, MOST_BORDERS, MOST_ROWS, MOST_ZONES, NO_BYTE, NO_HUB, NO_SHARE, RECEIVING, SENDING};
-use crate::{claim_cases, damage, extracted, make, marks, row_cases, sheets, why_cases, Comparison, TABLES, TEXTS};
+use crate::{claim_cases, damage, extracted, make, marks, noon_cases, row_cases, sheets, why_cases, Comparison, TABLES, TEXTS};
 
 impl Comparison {
     /// A refusal has left p as it was (the call has compared it).  Which one it
@@ -656,6 +656,7 @@ pub fn wanted() -> Vec<(String, u64)> {
     }
     list.extend(claim_cases::wanted());
     list.extend(row_cases::wanted());
+    list.extend(noon_cases::wanted());
     list.extend(why_cases::wanted());
     list
 }

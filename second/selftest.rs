@@ -1,11 +1,25 @@
 //! Tests of the reference calculator: `rustc --edition 2021 --test selftest.rs`.
 
+#[path = "changes.rs"]
+mod changes;
+#[path = "changes_by_hand.rs"]
+mod changes_by_hand;
 #[path = "claims_by_hand.rs"]
 mod claims_by_hand;
+#[path = "day.rs"]
+mod day;
+#[path = "day_by_hand.rs"]
+mod day_by_hand;
+#[path = "noon_by_hand.rs"]
+mod noon_by_hand;
 #[path = "rows_by_hand.rs"]
 mod rows_by_hand;
 #[path = "second.rs"]
 mod second;
+#[path = "tidy.rs"]
+mod tidy;
+#[path = "tidy_by_hand.rs"]
+mod tidy_by_hand;
 #[path = "why_by_hand.rs"]
 mod why_by_hand;
 #[path = "words.rs"]

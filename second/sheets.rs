@@ -6,12 +6,12 @@ use crate::lent::{needed, short, with_extra, Counts, Lent};
 use crate::second::{self, Refusal, Tables, MOST_BYTES, NO_BYTE, R_DASH};
 use crate::{damage, e_number, make, Comparison};
 
-const ALL_ROOM: Counts = [usize::MAX; 5];
+pub const ALL_ROOM: Counts = [usize::MAX; 5];
 
 impl Comparison {
     // ---------------------------------------------------------- the calls
 
-    fn read_corrected(&mut self, d: &mut Dice, text: &[u8], sheet: &[u8], room: Counts) -> Result<Tables, Refusal> {
+    pub fn read_corrected(&mut self, d: &mut Dice, text: &[u8], sheet: &[u8], room: Counts) -> Result<Tables, Refusal> {
         self.read_by(d, text, Some(sheet), room)
     }
 
@@ -43,7 +43,7 @@ impl Comparison {
     }
 
     /// The three calls, with room enough.
-    fn by_sheet(&mut self, d: &mut Dice, text: &[u8], sheet: &[u8]) -> Merged {
+    pub fn by_sheet(&mut self, d: &mut Dice, text: &[u8], sheet: &[u8]) -> Merged {
         let whole = second::read_corrected(text, sheet, ALL_ROOM);
         let room = match &whole {
             Ok(merged) => with_extra(d, needed(merged.header)),
@@ -104,7 +104,7 @@ impl Comparison {
 
     /// By the rules: the merged table, its answer and its text; or, where the day's
     /// text has a border twice, 4.
-    fn is_merged(&mut self, name: &str, t: &Tables, text: &[u8], found: &Merged, merged: &Tables, answer: &[u8]) {
+    pub fn is_merged(&mut self, name: &str, t: &Tables, text: &[u8], found: &Merged, merged: &Tables, answer: &[u8]) {
         let good = match second::read(text, ALL_ROOM) {
             Ok(_) => {
                 found.tables.as_ref() == Ok(merged)
@@ -159,7 +159,7 @@ impl Comparison {
     }
 
     /// Room that is too short, for the tables and for text.
-    fn short_sheet(&mut self, d: &mut Dice, text: &[u8], sheet: &[u8], answer: &[u8]) {
+    pub fn short_sheet(&mut self, d: &mut Dice, text: &[u8], sheet: &[u8], answer: &[u8]) {
         if let Ok(merged) = second::read_corrected(text, sheet, ALL_ROOM) {
             let mut room = needed(merged.header);
             let kind = d.below(room.len());
@@ -293,8 +293,8 @@ impl Comparison {
 }
 
 /// What the three calls gave.
-struct Merged {
-    tables: Result<Tables, Refusal>,
+pub struct Merged {
+    pub tables: Result<Tables, Refusal>,
     answer: Vec<u8>,
     written: Result<Vec<u8>, Refusal>,
 }
@@ -308,21 +308,21 @@ pub fn with_sheet(text: &[u8], sheet: Option<&[u8]>) -> Vec<u8> {
 }
 
 /// Some rows, one at least, rising.
-fn some_rows(d: &mut Dice, rows: usize) -> Vec<usize> {
+pub fn some_rows(d: &mut Dice, rows: usize) -> Vec<usize> {
     let one = d.below(rows);
     let part = d.of(&[1, 2, 3, rows + 1]);
     (0..rows).filter(|row| *row == one || d.one_in(part)).collect()
 }
 
 /// The C lines of these rows.
-fn sheet_of(t: &Tables, rows: &[usize]) -> Vec<u8> {
+pub fn sheet_of(t: &Tables, rows: &[usize]) -> Vec<u8> {
     let lines = damage::lines_of(&damage::plain_text(t));
     let first = lines.len() - t.header.rows;
     rows.iter().flat_map(|row| lines[first + row].clone()).collect()
 }
 
 /// The table with other rows in some places, and which those are.
-fn other_rows(d: &mut Dice, t: &Tables) -> (Tables, Vec<usize>) {
+pub fn other_rows(d: &mut Dice, t: &Tables) -> (Tables, Vec<usize>) {
     let zones = t.header.zones;
     let mut merged = t.clone();
     let kind = d.below(8);
@@ -352,7 +352,7 @@ fn other_rows(d: &mut Dice, t: &Tables) -> (Tables, Vec<usize>) {
 }
 
 /// A day's text that is refused, in turn: its name and refusal.
-fn bad_day(t: &Tables, way: u64) -> (&'static str, Vec<u8>, Refusal) {
+pub fn bad_day(t: &Tables, way: u64) -> (&'static str, Vec<u8>, Refusal) {
     let refused = |number, place, byte| Refusal { number, place, byte };
     let text = damage::plain_text(t);
     let mut lines = damage::lines_of(&text);

@@ -87,6 +87,10 @@ impl Comparison {
         if !heavy && d.one_in(2) || d.one_in(8) {
             self.corrected(d, &t, &answer);
         }
+        // dice of its own, so that the draws of the other cases stay
+        if !heavy && number % 2 == 0 || number % 8 == 0 {
+            self.noon(&t, &answer);
+        }
         if !heavy && d.one_in(2) || d.one_in(8) {
             self.known(d, &t, &outcome);
         }

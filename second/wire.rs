@@ -40,6 +40,17 @@ pub const MARGINS: u64 = 20;
 pub const WHY: u64 = 21;
 pub const WHY_MARKED: u64 = 22;
 
+/// What an answer in text tells: number, place and byte of its E line, or three times 0.
+pub fn told_by(text: &[u8]) -> [u64; 3] {
+    let Some(fields) = text.strip_prefix(b"E\t").and_then(|rest| rest.strip_suffix(b"\n")) else {
+        return [0; 3];
+    };
+    let mut numbers = fields.split(|byte| *byte == b'\t').map(|field| {
+        std::str::from_utf8(field).ok().and_then(|digits| digits.parse().ok()).unwrap_or(u64::MAX)
+    });
+    std::array::from_fn(|_| numbers.next().unwrap_or(u64::MAX))
+}
+
 /// Items before and after the lent part that nobody may touch.
 pub const BEFORE: usize = 2;
 pub const AFTER: usize = 3;

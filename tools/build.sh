@@ -4,9 +4,14 @@
 : "${name:?}" "${here:?}"
 # shellcheck source=tools/kit.sh
 . "$here/tools/kit.sh"
+# shellcheck source=tools/jobs.sh
+. "$here/tools/jobs.sh"
 
 program=$here/target/bin/keravnoth
 library=$here/target/lib/libkeravnoth.a
+shared=$here/target/lib/libkeravnoth.so
+# The shared library's name bears the interface's major number: a program asks the loader for that one.
+soname=libkeravnoth.so.1
 log=$here/target/build.log
 
 say() { echo "$name: $*" >&2; }
@@ -53,6 +58,22 @@ build_program() {
 
 build_library() {
     is_built cabi "$library" || alone cabi "$library" make_library
+    is_linked || link_shared
+}
+
+# Whether the shared library was linked from the static one as it is, and is still what was linked.
+is_linked() {
+    [ -r "$shared.sum" ] && [ -e "$shared" ] && [ "$(cat "$shared.sum")" = "$(file_sum "$library") $(file_sum "$shared")" ]
+}
+
+# The same code as a shared library. The kit's own linker makes it, on every machine.
+link_shared() {
+    find_kit "" || cannot "$(basename "$shared") is not linked, and $no_kit"
+    "$toolchain/bin/ld.lld" -shared -soname "$soname" -z now -z noexecstack --version-script "$here/tools/keravnoth.map" \
+        --whole-archive "$library" --no-whole-archive "$toolchain/lib/libc.so.6" -o "$shared.$$" ||
+        cannot "$(basename "$shared") cannot be linked"
+    mv -f "$shared.$$" "$shared"
+    echo "$(file_sum "$library") $(file_sum "$shared")" >"$shared.sum"
 }
 
 # Makes FILE, one build at a time: who comes second waits, and finds it built.
@@ -67,7 +88,8 @@ alone() { # CRATE FILE MAKE
     }
     if ! is_built "$1" "$2"; then
         sum=$(sum_of "$1")
-        say "proving and building $(basename "$2"), some $(minutes "$(recorded "$(reached_by "$1" | sed 's/:.*//')")") min where nothing is proved yet; the kit's notes go to $log"
+        say "proving and building $(basename "$2"), some $(minutes "$(by_the_clock "$(recorded "$(reached_by "$1" | sed 's/:.*//')")")") min where nothing is proved yet; the kit's notes go to $log"
+        set_jobs
         "$3" || cannot "$(basename "$2") is not proved, so it is not built: see $log"
         # Any kit will do: proved is proved in its logic, which is kept beside what was built.
         "$kit/bin/rt" version >"$2.proved"
@@ -83,7 +105,14 @@ make_program() {
     if [ ! -x "$program" ] || { [ -e "$program.sum" ] && ! grep -q " $(file_sum "$program")\$" "$program.sum"; }; then
         rm -f "$here/target/stamp/keravnoth"
     fi
-    with_progress keravnoth check keravnoth
+    # In the order of crates.txt, where the longest crates of a level come first: rt starts them in the order in which they are named.
+    # shellcheck disable=SC2046 # a crate's name is one word
+    with_progress keravnoth check $(reached_by keravnoth | sed 's/:.*//' | in_order)
+}
+
+# Sorts names of crates as crates.txt lists them.
+in_order() {
+    awk 'NR == FNR { wanted[$1] = 1; next } { sub(/[ \t]*:.*/, "") } $1 in wanted { print $1 }' - "$here/crates.txt"
 }
 
 make_library() {
@@ -106,25 +135,32 @@ recorded() { # CRATES
     echo "$1" | awk 'NR == FNR { took[$1] = $2; next } { all += took[$1] } END { print all + 0 }' "$here/tools/seconds" -
 }
 
-# So many seconds of crates, in minutes by the clock: rt proves two at a time and waits for both, which wins a fifth.
 minutes() { # SECONDS
-    echo $((($1 * 4 / 5 + 59) / 60))
+    echo $((($1 + 59) / 60))
 }
 
-# How long what is left may take: as much more or less than was recorded as the crates before it took, where these tell enough.
+# So many recorded seconds, by the clock of two processors: rt proves level by level, and the last crates of a level leave one idle.
+by_the_clock() { # SECONDS
+    echo $(($1 * 3 / 5))
+}
+
+# How long what is left may take: as much by the clock for each recorded second as the batches before took, where these tell enough.
 time_left() { # SECONDS
-    set -- "$((seen > 60 ? $1 * taken / seen : $1))"
+    if [ "$measured" -gt 60 ]; then set -- "$(($1 * clock / measured))"; else set -- "$(by_the_clock "$1")"; fi
     [ "$1" -eq 0 ] || echo "; some $(minutes "$1") min left"
 }
 
 tell_progress() {
     all=$(echo "$reached" | wc -l) rest=$(recorded "$reached")
-    done=0 seen=0 taken=0 last=$(date +%s) status=1
+    done=0 seen=0 measured=0 clock=0 began=$(date +%s) status=1
+    last=$began
     while IFS= read -r line; do
         echo "$line" >&3
         case $line in
         'rt: '*' proved ('* | 'rt: target/staticlib/lib'*)
             done=$((done + 1)) now=$(date +%s)
+            # rt tells the crates of a batch one after another once all are done: a pause ends the batch before.
+            [ "$now" -le $((last + 1)) ] || measured=$seen clock=$((last - began))
             crate=${line#rt: } took=${line##*\(}
             crate=${crate%% *}
             case $line in
@@ -135,7 +171,7 @@ tell_progress() {
             rest=$((rest - its))
             case $took in
             *before) ;;
-            *) seen=$((seen + its)) taken=$((taken + ${took%% *})) ;;
+            *) seen=$((seen + its)) ;;
             esac
             say "$done of $all, $crate, ${took%\)}$(time_left "$rest")"
             last=$now

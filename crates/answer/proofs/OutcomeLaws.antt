@@ -37,6 +37,7 @@ use Rattle.result.specs.Records.{recordsText}
 use Rattle.result.specs.Refusal.{refusalText}
 use Rattle.answer.specs.Result.{resultText, resultTextFor, answerWith, answerWithLeft}
 use Rattle.answer.specs.Printed.{printed, outcomeSaid}
+use Rattle.answer.specs.Told.{toldOf, toldWith}
 
 -- ---- what `extract_good` answered
 module _ (ps : List ℕ) (atcs lefts : List (List ℤ)) where
@@ -71,6 +72,10 @@ module _ (all : Bool) (marks : List ℕ) (t : Table) (good : Good t) (ps : List 
   pub outcome-refused : (w : Refusal) → e ≡ Refused w → outcomeFor all marks t ≡ refused w
   outcome-refused w k = refused-from ps atcs lefts (outcomeFor all marks t) w (told-by k)
 
+  -- a result tells that it passed
+  pub outcome-passed : (rounds : ℕ) → e ≡ Rounds rounds → judgement.Passed ≡ toldOf (outcomeFor all marks t)
+  outcome-passed rounds k = ap (λ (o : Judged Result). toldOf o) (sym (stored-from ps atcs lefts (outcomeFor all marks t) rounds (told-by k) .is))
+
   -- the records in front give the result's text
   pub outcome-told : (line : Bool) (out : List ℕ) (rounds : ℕ) → e ≡ Rounds rounds
       → textLeft (passed (recordsText (take (t .header .borders) atcs′) (take (t .header .rows) lefts′) rounds)) out ≡ textLeft (outcomeSaid line (outcomeFor all marks t)) out
@@ -91,6 +96,9 @@ module _ (line : Bool) (o : Judged Result) (out : List ℕ) (w : Refusal) (e : o
   pub line-written : line ≡ true → textLeft (passed (refusalText w)) out ≡ textLeft (outcomeSaid line o) out
   unfolding outcomeSaid
   line-written k = ap (λ (j : Judged (List ℕ)). textLeft j out) (sym (either-refused _ _ e ∙ ap (λ (l : Bool). cond l (passed (refusalText w)) (refused w)) k))
+
+  pub refusal-is : judgement.Refused w ≡ toldOf o
+  refusal-is = ap (λ (j : Judged Result). toldOf j) (sym e)
 
   told : line ≡ false → outcomeSaid line o ≡ refused w
   unfolding outcomeSaid
@@ -133,3 +141,12 @@ module _ (all : Bool) (marks text sheet out : List ℕ) where
   read-said t e =
       ap (λ (j : Judged (List ℕ)). textLeft j out)
       (line-said (outcomeFor all marks t) ∙ ap (λ (o : Judged Result). passed (either o resultText refusalText)) (sym (then-next (outcomeFor all marks) e)))
+
+  -- and what it tells
+  pub read-refused-told : (w : Refusal) → readCorrected text sheet ≡ refused w → judgement.Refused w ≡ toldWith all marks text sheet
+  unfolding toldWith
+  read-refused-told w e = ap (λ (o : Judged Result). toldOf o) (sym (then-refused (outcomeFor all marks) e))
+
+  pub read-said-told : (t : Table) → readCorrected text sheet ≡ passed t → toldOf (outcomeFor all marks t) ≡ toldWith all marks text sheet
+  unfolding toldWith
+  read-said-told t e = ap (λ (o : Judged Result). toldOf o) (sym (then-next (outcomeFor all marks) e))

@@ -2,18 +2,22 @@
 // and `answer` with a correction sheet (02, E2).
 // They differ in what becomes of a refusal: `result_text` tells it, and `answer` writes it as the E line.
 ghost use mathlib.Core.Path.{_≡_};
-ghost use mathlib.Core.List.{List};
+ghost use mathlib.Core.Bool.{true, false};
+ghost use mathlib.Core.List.{List, []};
 ghost use Prim.Native.Nat.{ℕ, _*_, _≤_};
 ghost use lib.ListN.{length};
 ghost use Rattle.limits.specs.Limits.{zonesMost, bordersMost, rowsMost};
+ghost use Rattle.refusals.specs.declared.Judgement.the-variants as judgement;
 ghost use Rattle.refusals.specs.Refusals.{passed};
 ghost use Rattle.text.specs.Left.{textLeft, textSaid};
 ghost use Rattle.table.specs.Table.{lent, front};
 ghost use Rattle.table.specs.Good.{Good};
 ghost use Rattle.extraction.specs.Extraction.{outcomeFor};
 ghost use Rattle.result.specs.Asked.{bytesAsked};
+ghost use Rattle.result.specs.Refusal.{refusalText, refusalMost};
 ghost use Rattle.answer.specs.Result.{resultTextFor, resultTextLeft, resultTextMarkedLeft, answerLeft, answerMarkedLeft, answerWithLeft, answerCorrectedLeft};
 ghost use Rattle.answer.specs.Printed.{outcomeSaid, answerMost};
+ghost use Rattle.answer.specs.Told.{toldOf, toldFor, toldWith};
 use extraction::Extracted;
 use outcome::AtcRecord;
 use outcome::BorderResult;
@@ -21,6 +25,7 @@ use outcome::LeftRecord;
 use outcome::RowResult;
 use reading::TableRead;
 use refusals::Judgement;
+use refusals::Refusal;
 use refusals::Written;
 use table::Room;
 use types::Border;
@@ -28,6 +33,12 @@ use types::BorderRecord;
 use types::Header;
 use types::Row;
 use types::RowRecord;
+
+// What an answer in text comes to: the bytes that were written, or that there was no room for them; and what the text tells, a result or why there is none.
+pub struct Answered {
+    pub written: Written,
+    pub told: Judgement,
+}
 
 // The result text of lent tables. Any input has an answer: there is no `requires`.
 pub fn result_text(
@@ -82,8 +93,9 @@ fn result_text_for(
 }
 
 // The answer to a table's text: the result text, or the E line. Any input has an answer: there is no `requires`.
-pub fn answer(text: &[u8], out: &mut [u8]) -> Written
-    ensures { λ r. ⌜ textSaid r (now (out .exit)) ≡ answerLeft (now (text .entry)) (now (out .entry)) ⌝ }
+pub fn answer(text: &[u8], out: &mut [u8]) -> Answered
+    ensures { λ r. ⌜ textSaid (r .written) (now (out .exit)) ≡ answerLeft (now (text .entry)) (now (out .entry)) ⌝ }
+    ensures { λ r. ⌜ r .told ≡ toldFor true [] (now (text .entry)) ⌝ }
 {
     // No marks are looked at.
     let marks: [u64; 1] = [0];
@@ -91,15 +103,17 @@ pub fn answer(text: &[u8], out: &mut [u8]) -> Written
 }
 
 // The answer where only the borders of a list of marks rise (02, E13).
-pub fn answer_marked(text: &[u8], marks: &[u64], out: &mut [u8]) -> Written
-    ensures { λ r. ⌜ textSaid r (now (out .exit)) ≡ answerMarkedLeft (now (text .entry)) (now (marks .entry)) (now (out .entry)) ⌝ }
+pub fn answer_marked(text: &[u8], marks: &[u64], out: &mut [u8]) -> Answered
+    ensures { λ r. ⌜ textSaid (r .written) (now (out .exit)) ≡ answerMarkedLeft (now (text .entry)) (now (marks .entry)) (now (out .entry)) ⌝ }
+    ensures { λ r. ⌜ r .told ≡ toldFor false (now (marks .entry)) (now (text .entry)) ⌝ }
 {
     answer_with(text, b"", false, marks, out)
 }
 
 // The answer to a table's text with a correction sheet (02, E2). An empty sheet changes nothing.
-pub fn answer_corrected<'a>(text: &'a [u8], sheet: &'a [u8], out: &mut [u8]) -> Written
-    ensures { λ r. ⌜ textSaid r (now (out .exit)) ≡ answerCorrectedLeft (now (text .entry)) (now (sheet .entry)) (now (out .entry)) ⌝ }
+pub fn answer_corrected<'a>(text: &'a [u8], sheet: &'a [u8], out: &mut [u8]) -> Answered
+    ensures { λ r. ⌜ textSaid (r .written) (now (out .exit)) ≡ answerCorrectedLeft (now (text .entry)) (now (sheet .entry)) (now (out .entry)) ⌝ }
+    ensures { λ r. ⌜ r .told ≡ toldWith true [] (now (text .entry)) (now (sheet .entry)) ⌝ }
 {
     // No marks are looked at.
     let marks: [u64; 1] = [0];
@@ -113,8 +127,9 @@ fn answer_with<'a>(
     all: bool,
     marks: &[u64],
     out: &mut [u8],
-) -> Written
-    ensures { λ r. ⌜ textSaid r (now (out .exit)) ≡ answerWithLeft all (now (marks .entry)) (now (text .entry)) (now (sheet .entry)) (now (out .entry)) ⌝ }
+) -> Answered
+    ensures { λ r. ⌜ textSaid (r .written) (now (out .exit)) ≡ answerWithLeft all (now (marks .entry)) (now (text .entry)) (now (sheet .entry)) (now (out .entry)) ⌝ }
+    ensures { λ r. ⌜ r .told ≡ toldWith all (now (marks .entry)) (now (text .entry)) (now (sheet .entry)) ⌝ }
 {
     let mut z: [i64; limits::ZONES_MOST] = [0; limits::ZONES_MOST];
     let mut t: [i64; limits::ZONES_MOST] = [0; limits::ZONES_MOST];
@@ -148,13 +163,14 @@ fn answer_in<'a>(
     c: &mut [RowRecord],
     f: &mut [i64],
     out: &mut [u8],
-) -> Written
+) -> Answered
     requires { ⌜ (zonesMost ≤ length (now z)) × (zonesMost ≤ length (now t)) × (bordersMost ≤ length (now b)) × (rowsMost ≤ length (now c)) × (rowsMost * zonesMost ≤ length (now f)) ⌝ }
-    ensures { λ r. ⌜ textSaid r (now (out .exit)) ≡ answerWithLeft all (now (marks .entry)) (now (text .entry)) (now (sheet .entry)) (now (out .entry)) ⌝ }
+    ensures { λ r. ⌜ textSaid (r .written) (now (out .exit)) ≡ answerWithLeft all (now (marks .entry)) (now (text .entry)) (now (sheet .entry)) (now (out .entry)) ⌝ }
+    ensures { λ r. ⌜ r .told ≡ toldWith all (now (marks .entry)) (now (text .entry)) (now (sheet .entry)) ⌝ }
 {
     match reading::read_into(text, sheet, z, t, b, c, f) {
-        TableRead::Table(h) => answer_good(h, z, t, b, c, f, all, marks, true, out),
-        TableRead::Refused(w) => result::refusal::write_refusal(w, out),
+        TableRead::Table(h) => answer_told(h, z, t, b, c, f, all, marks, true, out),
+        TableRead::Refused(w) => tell_refusal(w, out),
     }
 }
 
@@ -174,6 +190,28 @@ pub fn answer_good(
     requires { ⌜ Good (front (lent h (now z) (now t) (now b) (now c) (now f))) ⌝ }
     ensures { λ r. ⌜ textSaid r (now (out .exit)) ≡ textLeft (outcomeSaid line (outcomeFor all (now (marks .entry)) (front (lent h (now (z .entry)) (now (t .entry)) (now (b .entry)) (now (c .entry)) (now (f .entry)))))) (now (out .entry)) ⌝ }
     ensures { λ r. ⌜ ((text : List ℕ) → outcomeSaid line (outcomeFor all (now (marks .entry)) (front (lent h (now (z .entry)) (now (t .entry)) (now (b .entry)) (now (c .entry)) (now (f .entry))))) ≡ passed text → bytesAsked r ≤ answerMost) ⌝ }
+{
+    let answered = answer_told(h, z, t, b, c, f, all, marks, line, out);
+    answered.written
+}
+
+// The answer to a good table, as it was lent, with what it tells.
+fn answer_told(
+    h: Header,
+    z: &[i64],
+    t: &[i64],
+    b: &[BorderRecord],
+    c: &[RowRecord],
+    f: &[i64],
+    all: bool,
+    marks: &[u64],
+    line: bool,
+    out: &mut [u8],
+) -> Answered
+    requires { ⌜ Good (front (lent h (now z) (now t) (now b) (now c) (now f))) ⌝ }
+    ensures { λ r. ⌜ textSaid (r .written) (now (out .exit)) ≡ textLeft (outcomeSaid line (outcomeFor all (now (marks .entry)) (front (lent h (now (z .entry)) (now (t .entry)) (now (b .entry)) (now (c .entry)) (now (f .entry)))))) (now (out .entry)) ⌝ }
+    ensures { λ r. ⌜ ((text : List ℕ) → outcomeSaid line (outcomeFor all (now (marks .entry)) (front (lent h (now (z .entry)) (now (t .entry)) (now (b .entry)) (now (c .entry)) (now (f .entry))))) ≡ passed text → bytesAsked (r .written) ≤ answerMost) ⌝ }
+    ensures { λ r. ⌜ r .told ≡ toldOf (outcomeFor all (now (marks .entry)) (front (lent h (now (z .entry)) (now (t .entry)) (now (b .entry)) (now (c .entry)) (now (f .entry))))) ⌝ }
 {
     let mut p: [u64; limits::ROWS_MOST * limits::BORDERS_MOST] = [0; limits::ROWS_MOST
         * limits::BORDERS_MOST];
@@ -197,7 +235,7 @@ pub fn answer_good(
     )
 }
 
-// The table of p and the records are allocated in `answer_good` so that the proof goals here do not contain them.
+// The table of p and the records are allocated in `answer_told` so that the proof goals here do not contain them.
 fn answer_from(
     h: Header,
     z: &[i64],
@@ -212,24 +250,48 @@ fn answer_from(
     atc: &mut [AtcRecord],
     left: &mut [LeftRecord],
     out: &mut [u8],
-) -> Written
+) -> Answered
     requires { ⌜ Good (front (lent h (now z) (now t) (now b) (now c) (now f))) ⌝ }
     requires { ⌜ (rowsMost * bordersMost ≤ length (now p)) × (bordersMost ≤ length (now atc)) × (rowsMost ≤ length (now left)) ⌝ }
-    ensures { λ r. ⌜ textSaid r (now (out .exit)) ≡ textLeft (outcomeSaid line (outcomeFor all (now (marks .entry)) (front (lent h (now (z .entry)) (now (t .entry)) (now (b .entry)) (now (c .entry)) (now (f .entry)))))) (now (out .entry)) ⌝ }
-    ensures { λ r. ⌜ ((text : List ℕ) → outcomeSaid line (outcomeFor all (now (marks .entry)) (front (lent h (now (z .entry)) (now (t .entry)) (now (b .entry)) (now (c .entry)) (now (f .entry))))) ≡ passed text → bytesAsked r ≤ answerMost) ⌝ }
+    ensures { λ r. ⌜ textSaid (r .written) (now (out .exit)) ≡ textLeft (outcomeSaid line (outcomeFor all (now (marks .entry)) (front (lent h (now (z .entry)) (now (t .entry)) (now (b .entry)) (now (c .entry)) (now (f .entry)))))) (now (out .entry)) ⌝ }
+    ensures { λ r. ⌜ ((text : List ℕ) → outcomeSaid line (outcomeFor all (now (marks .entry)) (front (lent h (now (z .entry)) (now (t .entry)) (now (b .entry)) (now (c .entry)) (now (f .entry))))) ≡ passed text → bytesAsked (r .written) ≤ answerMost) ⌝ }
+    ensures { λ r. ⌜ r .told ≡ toldOf (outcomeFor all (now (marks .entry)) (front (lent h (now (z .entry)) (now (t .entry)) (now (b .entry)) (now (c .entry)) (now (f .entry))))) ⌝ }
 {
     match extraction::extract_good(h, z, t, b, c, f, all, marks, p, atc, left) {
         Extracted::Rounds(rounds) => {
             let borders = h.borders;
             let rows = h.rows;
-            result::records::write_records(&atc[..borders], &left[..rows], rounds, out)
+            Answered {
+                written: result::records::write_records(
+                    &atc[..borders],
+                    &left[..rows],
+                    rounds,
+                    out,
+                ),
+                told: Judgement::Passed,
+            }
         }
         Extracted::Refused(w) => {
             if line {
-                result::refusal::write_refusal(w, out)
+                tell_refusal(w, out)
             } else {
-                Written::Refused(w)
+                let told = Judgement::Refused(w);
+                Answered {
+                    written: Written::Refused(w),
+                    told: told,
+                }
             }
         }
+    }
+}
+
+// The E line, and the refusal that it tells.
+fn tell_refusal(w: Refusal, out: &mut [u8]) -> Answered
+    ensures { λ r. ⌜ textSaid (r .written) (now (out .exit)) ≡ textLeft (passed (refusalText w)) (now (out .entry)) ⌝ }
+    ensures { λ r. ⌜ (bytesAsked (r .written) ≤ refusalMost) × (r .told ≡ judgement.Refused w) ⌝ }
+{
+    Answered {
+        written: result::refusal::write_refusal(w, out),
+        told: Judgement::Refused(w),
     }
 }

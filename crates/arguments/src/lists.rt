@@ -1,8 +1,10 @@
 // Lists of words as one text, a word to a line: which line a word is, and which word a line has.
 // A function with many literals is slow to check; one with a long literal is not.
+ghost use mathlib.Core.Path.{_≡_};
 ghost use Prim.Native.Nat.{_≤_};
 ghost use lib.ListN.{length};
 ghost use Rattle.io.specs.Counts.{Counts};
+ghost use Rattle.arguments.specs.Same.{sameBytes};
 
 // Which line of the list the word is, from 0; as many as there are lines where it is none.
 pub fn line_of(list: &[u8], word: &[u8]) -> usize {
@@ -20,7 +22,10 @@ pub fn line_of(list: &[u8], word: &[u8]) -> usize {
     list.len()
 }
 
-fn same(word: &[u8], other: &[u8]) -> bool {
+// Whether two pieces hold the same bytes.
+pub fn same(word: &[u8], other: &[u8]) -> bool
+    ensures { λ r. ⌜ r ≡ sameBytes (now (word .entry)) (now (other .entry)) ⌝ }
+{
     if word.len() != other.len() {
         return false;
     }
@@ -36,18 +41,24 @@ fn same(word: &[u8], other: &[u8]) -> bool {
 
 // Line k of the list, without its LF; nothing where there is no such line.
 pub fn line<'a>(list: &'a [u8], k: usize) -> &'a [u8] {
-    let from = line_begin(list, k);
-    let end = find(list, from, b'\n');
-    &list[from..end]
+    piece(list, k, b'\n')
 }
 
-fn line_begin(list: &[u8], k: usize) -> usize
-    ensures { λ r. ⌜ r ≤ length (now (list .entry)) ⌝ }
+// Piece k of a text whose pieces end at a byte, without it; nothing where there is no such piece.
+pub fn piece<'a>(text: &'a [u8], k: usize, stop: u8) -> &'a [u8] {
+    let from = begin(text, k, stop);
+    let end = find(text, from, stop);
+    &text[from..end]
+}
+
+// Where piece k begins: the text's end where there is none.
+pub fn begin(text: &[u8], k: usize, stop: u8) -> usize
+    ensures { λ r. ⌜ r ≤ length (now (text .entry)) ⌝ }
 {
     let mut from: usize = 0;
     for _ in 0..k {
-        let end = find(list, from, b'\n');
-        if end == list.len() {
+        let end = find(text, from, stop);
+        if end == text.len() {
             return end;
         }
         from = end + 1;

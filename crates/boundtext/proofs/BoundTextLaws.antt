@@ -1,28 +1,23 @@
 -- The laws of `specs/BoundText.antt`: how long the line is, and what the bound's answer leaves. No contract cites this file.
 use mathlib.Core.Path.{_≡_, sym, ap, _∙_}
-use mathlib.Core.Bool.{Bool}
 use mathlib.Core.List.{List, [], _∷_}
 use Prim.Native.Char.{code}
 use Prim.Native.Nat.{ℕ, _+_}
 use native.Mathlib.Omega.{arith}
 use lib.ListN.{length}
-use Rattle.refusals.specs.declared.Judgement.{Judgement}
-use Rattle.refusals.specs.declared.Judgement.the-variants.{Passed, Refused}
+use Rattle.refusals.specs.declared.Judgement.the-variants.{Refused}
 use Rattle.refusals.specs.declared.Refusal.{Refusal}
-use Rattle.refusals.specs.Answers.{saidJudgement}
 use Rattle.refusals.specs.Refusals.{Judged, passed, refused}
 use Rattle.refusals.proofs.RefusalLaws.{then-next, then-refused}
 use Rattle.text.specs.Left.{TextLeft, textLeft}
 use Rattle.text.specs.Written.{decimal}
 use Rattle.text.proofs.LeftLaws.{text-refused}
 use Rattle.text.proofs.PutLaws.{line-length, tabbed-length, tabbed-empty}
-use Rattle.table.specs.Table.{Table, front, judgeLent}
 use Rattle.tight.specs.declared.RoundsMost.{RoundsMost}
 use Rattle.bound.specs.declared.Bounded.{Bounded}
 use Rattle.bound.specs.declared.Bounded.the-variants as bounded
-use Rattle.bound.specs.Bound.{boundAsked, saidBounded}
-use Rattle.bound.proofs.BoundLaws.{lent-refused, lent-bound}
-use Rattle.boundtext.specs.BoundText.{boundLine, boundText, boundTextOf, boundTextLeft}
+use Rattle.bound.specs.Bound.{saidBounded}
+use Rattle.boundtext.specs.BoundText.{boundLine, boundText, boundTextOf}
 
 pub bound-line-long : (n l rounds sharp : ℕ) → length (boundLine n l rounds sharp) ≡ 6 + length (decimal n) + length (decimal l) + length (decimal rounds) + length (decimal sharp)
 bound-line-long n l rounds sharp =
@@ -43,13 +38,3 @@ module _ (asked : Judged RoundsMost) (out : List ℕ) (r : Bounded) (said : said
 
   pub told-rounds : (m : RoundsMost) → r ≡ bounded.Rounds m → textLeft (passed (boundText m)) out ≡ textLeft (boundTextOf asked) out
   told-rounds m e = ap (λ (j : Judged (List ℕ)). textLeft j out) (sym (then-next _ (sym said ∙ ap saidBounded e)))
-
--- ---- lent tables: what judging refuses is refused, and else the text is that of the front's bound
-module _ (all : Bool) (marks : List ℕ) (given : Table) (r : Judgement) (said : saidJudgement r (front given) ≡ judgeLent given) (out : List ℕ) where
-  pub text-judged-not : (w : Refusal) → r ≡ Refused w → _≡_ {A = TextLeft} (record { answer = refused w; out = out }) (boundTextLeft all marks given out)
-  unfolding boundTextLeft
-  text-judged-not w e = text-refused out (then-refused _ (sym (lent-refused all marks given r said w e)))
-
-  pub text-judged : r ≡ Passed → textLeft (boundTextOf (boundAsked all marks (front given))) out ≡ boundTextLeft all marks given out
-  unfolding boundTextLeft
-  text-judged ok = ap (λ (j : Judged RoundsMost). textLeft (boundTextOf j) out) (lent-bound all marks given r said ok)

@@ -8,9 +8,8 @@ ghost use Rattle.text.specs.Put.{Put};
 ghost use Rattle.table.specs.Table.{lent, front};
 ghost use Rattle.table.specs.Good.{Good};
 ghost use Rattle.bound.specs.Bound.{boundAsked};
-ghost use Rattle.boundtext.specs.BoundText.{boundLine, boundMost, boundTextOf, boundTextLeft};
+ghost use Rattle.boundtext.specs.BoundText.{boundLine, boundMost, boundTextOf};
 use bound::Bounded;
-use refusals::Judgement;
 use refusals::Refusal;
 use refusals::Written;
 use types::BorderRecord;
@@ -23,27 +22,7 @@ const MARKS: usize = 6;
 // No line has more bytes: its marks, and four machine numbers of at most 20 bytes each.
 pub const TEXT_MOST: usize = MARKS + 4 * 20;
 
-// The bound for every border, or with marks. Any input has an answer: there is no `requires`.
-pub fn bound_text(
-    h: Header,
-    z: &[i64],
-    t: &[i64],
-    b: &[BorderRecord],
-    c: &[RowRecord],
-    f: &[i64],
-    all: bool,
-    marks: &[u64],
-    out: &mut [u8],
-) -> Written
-    ensures { λ r. ⌜ textSaid r (now (out .exit)) ≡ boundTextLeft all (now (marks .entry)) (lent h (now (z .entry)) (now (t .entry)) (now (b .entry)) (now (c .entry)) (now (f .entry))) (now (out .entry)) ⌝ }
-{
-    if let Judgement::Refused(w) = table::judge(h, z, t, b, c, f, table::Room::None) {
-        return Written::Refused(w);
-    }
-    bound_text_good(h, z, t, b, c, f, all, marks, out)
-}
-
-// The bound of a good table as text.
+// The bound of a good table as text, for every border or with marks.
 pub fn bound_text_good(
     h: Header,
     z: &[i64],

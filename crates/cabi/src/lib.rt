@@ -1,14 +1,12 @@
 // The open calls for C and everything that speaks C: include/keravnoth.h. Each calls its namesake and codes the answer.
 // C hands a slice over as a pointer and the count of its items, and a header by value. Any input has an answer: there is no `requires`.
+// A call's symbol bears the interface's major number, so that an object that was compiled against another header does not link; the header gives the call
+// its name without it. The version alone can be asked of every library.
 ghost use mathlib.Core.Path.{_≡_};
 ghost use mathlib.Core.Bool.{true, false};
 ghost use mathlib.Core.List.{[]};
-ghost use Rattle.refusals.specs.Answers.{saidWritten};
 ghost use Rattle.table.specs.Table.{lent};
-ghost use Rattle.corners.specs.Answers.{saidFlows};
-ghost use Rattle.extraction.specs.Answers.{saidExtracted};
 ghost use Rattle.reading.specs.Reading.{readLeft, readCorrectedLeft};
-ghost use Rattle.reading.specs.Answers.{saidRead};
 ghost use Rattle.writing.specs.Writing.{writeLeft, rewriteCorrectedLeft};
 ghost use Rattle.extraction.specs.Extraction.{extractLeft, extractMarkedLeft};
 ghost use Rattle.corners.specs.Corners.{cornersLeft};
@@ -16,96 +14,43 @@ ghost use Rattle.cornertext.specs.CornerText.{cornerTextLeft};
 ghost use Rattle.claimrules.specs.Claims.{claimsAnswer};
 ghost use Rattle.claimtext.specs.Published.{publishedLeft};
 ghost use Rattle.rowsheet.specs.RowSheet.{readRowsLeft, writeRowsLeft};
-ghost use Rattle.bound.specs.Bound.{saidBounded, boundFor};
+ghost use Rattle.bound.specs.Bound.{boundFor};
 ghost use Rattle.parts.specs.Parts.{marginsLeft};
-ghost use Rattle.why.specs.Why.{saidExplained, whyLeft, whyMarkedLeft};
+ghost use Rattle.why.specs.Why.{whyLeft, whyMarkedLeft};
 ghost use Rattle.answer.specs.Result.{resultTextLeft, resultTextMarkedLeft, answerLeft, answerMarkedLeft, answerCorrectedLeft};
-ghost use Rattle.cabi.specs.Coded.{codedRead, codedWritten, codedExtracted, codedFlows, codedJudged, codedRuling, codedBounded, readFound, readCoded, textFound, textCoded, extractFound, extractCoded, flowsFound, flowsCoded, rowsFound, rowsCoded, marginsFound, marginsCoded, codedExplained, explainedFound, explainedCoded};
-use bound::Bounded;
+ghost use Rattle.answer.specs.Told.{toldFor, toldWith};
+ghost use Rattle.meanings.specs.Meanings.{meaningLeft};
+ghost use Rattle.coded.specs.Version.{version};
+ghost use Rattle.coded.specs.Coded.{codedJudged, codedBounded, readFound, readCoded, textFound, textCoded, answeredFound, answeredCoded, extractFound, extractCoded, flowsFound, flowsCoded, rowsFound, rowsCoded, marginsFound, marginsCoded, explainedFound, explainedCoded};
 use claims::ClaimRecord;
-use corners::Flows;
-use extraction::Extracted;
+use coded::KeravnothAnswered;
+use coded::KeravnothBounded;
+use coded::KeravnothExplained;
+use coded::KeravnothExtracted;
+use coded::KeravnothFlows;
+use coded::KeravnothJudged;
+use coded::KeravnothRead;
+use coded::KeravnothWritten;
 use outcome::AtcRecord;
 use outcome::LeftRecord;
 use parts::PartsRecord;
-use reading::TableRead;
-use refusals::Judgement;
-use refusals::Written;
 use types::BorderRecord;
 use types::Header;
 use types::RowRecord;
 use why::EndRecord;
-use why::Explained;
 use why::HoldRecord;
 
-#[repr(C)]
-pub struct KeravnothRead {
-    pub number: u32,
-    pub place: usize,
-    pub byte: usize,
-    pub zones: usize,
-    pub borders: usize,
-    pub rows: usize,
-    pub share: i64,
-    pub intraday: usize,
-}
-
-#[repr(C)]
-pub struct KeravnothWritten {
-    pub number: u32,
-    pub place: usize,
-    pub byte: usize,
-    pub bytes: usize,
-}
-
-#[repr(C)]
-pub struct KeravnothExtracted {
-    pub number: u32,
-    pub place: usize,
-    pub byte: usize,
-    pub rounds: u64,
-}
-
-#[repr(C)]
-pub struct KeravnothFlows {
-    pub number: u32,
-    pub place: usize,
-    pub byte: usize,
-    pub corners: usize,
-}
-
-#[repr(C)]
-pub struct KeravnothJudged {
-    pub number: u32,
-    pub place: usize,
-    pub byte: usize,
-}
-
-#[repr(C)]
-pub struct KeravnothBounded {
-    pub number: u32,
-    pub place: usize,
-    pub byte: usize,
-    pub sharers: u64,
-    pub bits: u64,
-    pub rounds: u64,
-    pub sharp: u64,
-}
-
-#[repr(C)]
-pub struct KeravnothExplained {
-    pub number: u32,
-    pub place: usize,
-    pub byte: usize,
-    pub rounds: u64,
-    pub last: u64,
-    pub named: i64,
-    pub ended: i64,
+// The interface's version.
+#[no_mangle]
+pub extern "C" fn keravnoth_version() -> u32
+    ensures { λ r. ⌜ r ≡ version ⌝ }
+{
+    10000
 }
 
 // Reads a table's text into z, t, b, c and f.
 #[no_mangle]
-pub extern "C" fn keravnoth_read(
+pub extern "C" fn keravnoth_1_read(
     text: &[u8],
     z: &mut [i64],
     t: &mut [i64],
@@ -115,12 +60,12 @@ pub extern "C" fn keravnoth_read(
 ) -> KeravnothRead
     ensures { λ r. ⌜ readFound r (now (z .exit)) (now (t .exit)) (now (b .exit)) (now (c .exit)) (now (f .exit)) ≡ readCoded (readLeft (now (text .entry)) (now (z .entry)) (now (t .entry)) (now (b .entry)) (now (c .entry)) (now (f .entry))) ⌝ }
 {
-    code_read(reading::read(text, z, t, b, c, f))
+    coded::code_read(lending::read(text, z, t, b, c, f))
 }
 
 // Reads a table's text, as a sheet of corrected rows corrects it, into z, t, b, c and f.
 #[no_mangle]
-pub extern "C" fn keravnoth_read_corrected<'a>(
+pub extern "C" fn keravnoth_1_read_corrected<'a>(
     text: &'a [u8],
     sheet: &'a [u8],
     z: &mut [i64],
@@ -131,12 +76,12 @@ pub extern "C" fn keravnoth_read_corrected<'a>(
 ) -> KeravnothRead
     ensures { λ r. ⌜ readFound r (now (z .exit)) (now (t .exit)) (now (b .exit)) (now (c .exit)) (now (f .exit)) ≡ readCoded (readCorrectedLeft (now (text .entry)) (now (sheet .entry)) (now (z .entry)) (now (t .entry)) (now (b .entry)) (now (c .entry)) (now (f .entry))) ⌝ }
 {
-    code_read(reading::read_corrected(text, sheet, z, t, b, c, f))
+    coded::code_read(lending::read_corrected(text, sheet, z, t, b, c, f))
 }
 
 // Writes the tables as text.
 #[no_mangle]
-pub extern "C" fn keravnoth_write(
+pub extern "C" fn keravnoth_1_write(
     h: Header,
     z: &[i64],
     t: &[i64],
@@ -147,24 +92,24 @@ pub extern "C" fn keravnoth_write(
 ) -> KeravnothWritten
     ensures { λ r. ⌜ textFound r (now (out .exit)) ≡ textCoded (writeLeft (lent h (now (z .entry)) (now (t .entry)) (now (b .entry)) (now (c .entry)) (now (f .entry))) (now (out .entry))) ⌝ }
 {
-    code_written(writing::write(h, z, t, b, c, f, out))
+    coded::code_written(writing::write(h, z, t, b, c, f, out))
 }
 
 // From text to text: the table as the sheet corrects it, written again.
 #[no_mangle]
-pub extern "C" fn keravnoth_rewrite_corrected<'a>(
+pub extern "C" fn keravnoth_1_rewrite_corrected<'a>(
     text: &'a [u8],
     sheet: &'a [u8],
     out: &mut [u8],
 ) -> KeravnothWritten
     ensures { λ r. ⌜ textFound r (now (out .exit)) ≡ textCoded (rewriteCorrectedLeft (now (text .entry)) (now (sheet .entry)) (now (out .entry))) ⌝ }
 {
-    code_written(writing::rewrite_corrected(text, sheet, out))
+    coded::code_written(writing::rewrite_corrected(text, sheet, out))
 }
 
 // Capacities and margins from the tables, and p of each row at each border.
 #[no_mangle]
-pub extern "C" fn keravnoth_extract(
+pub extern "C" fn keravnoth_1_extract(
     h: Header,
     z: &[i64],
     t: &[i64],
@@ -177,12 +122,12 @@ pub extern "C" fn keravnoth_extract(
 ) -> KeravnothExtracted
     ensures { λ r. ⌜ extractFound r (now (p .exit)) (now (atc .exit)) (now (left .exit)) ≡ extractCoded (extractLeft (lent h (now (z .entry)) (now (t .entry)) (now (b .entry)) (now (c .entry)) (now (f .entry))) (now (p .entry)) (now (atc .entry)) (now (left .entry))) ⌝ }
 {
-    code_extracted(doors::extract(h, z, t, b, c, f, p, atc, left))
+    coded::code_extracted(doors::extract(h, z, t, b, c, f, p, atc, left))
 }
 
 // Capacities and margins where only the marked borders may rise.
 #[no_mangle]
-pub extern "C" fn keravnoth_extract_marked(
+pub extern "C" fn keravnoth_1_extract_marked(
     h: Header,
     z: &[i64],
     t: &[i64],
@@ -196,12 +141,12 @@ pub extern "C" fn keravnoth_extract_marked(
 ) -> KeravnothExtracted
     ensures { λ r. ⌜ extractFound r (now (p .exit)) (now (atc .exit)) (now (left .exit)) ≡ extractCoded (extractMarkedLeft (lent h (now (z .entry)) (now (t .entry)) (now (b .entry)) (now (c .entry)) (now (f .entry))) (now (marks .entry)) (now (p .entry)) (now (atc .entry)) (now (left .entry))) ⌝ }
 {
-    code_extracted(doors::extract_marked(h, z, t, b, c, f, p, marks, atc, left))
+    coded::code_extracted(doors::extract_marked(h, z, t, b, c, f, p, marks, atc, left))
 }
 
 // The extraction as text.
 #[no_mangle]
-pub extern "C" fn keravnoth_result_text(
+pub extern "C" fn keravnoth_1_result_text(
     h: Header,
     z: &[i64],
     t: &[i64],
@@ -212,12 +157,12 @@ pub extern "C" fn keravnoth_result_text(
 ) -> KeravnothWritten
     ensures { λ r. ⌜ textFound r (now (out .exit)) ≡ textCoded (resultTextLeft (lent h (now (z .entry)) (now (t .entry)) (now (b .entry)) (now (c .entry)) (now (f .entry))) (now (out .entry))) ⌝ }
 {
-    code_written(answer::result_text(h, z, t, b, c, f, out))
+    coded::code_written(answer::result_text(h, z, t, b, c, f, out))
 }
 
 // The extraction as text, where only the marked borders may rise.
 #[no_mangle]
-pub extern "C" fn keravnoth_result_text_marked(
+pub extern "C" fn keravnoth_1_result_text_marked(
     h: Header,
     z: &[i64],
     t: &[i64],
@@ -229,44 +174,44 @@ pub extern "C" fn keravnoth_result_text_marked(
 ) -> KeravnothWritten
     ensures { λ r. ⌜ textFound r (now (out .exit)) ≡ textCoded (resultTextMarkedLeft (lent h (now (z .entry)) (now (t .entry)) (now (b .entry)) (now (c .entry)) (now (f .entry))) (now (marks .entry)) (now (out .entry))) ⌝ }
 {
-    code_written(answer::result_text_marked(h, z, t, b, c, f, marks, out))
+    coded::code_written(answer::result_text_marked(h, z, t, b, c, f, marks, out))
 }
 
-// From text to text: the result text, or the E line.
+// From text to text: the result text, or the E line; and which of them it is.
 #[no_mangle]
-pub extern "C" fn keravnoth_answer(text: &[u8], out: &mut [u8]) -> KeravnothWritten
-    ensures { λ r. ⌜ textFound r (now (out .exit)) ≡ textCoded (answerLeft (now (text .entry)) (now (out .entry))) ⌝ }
+pub extern "C" fn keravnoth_1_answer(text: &[u8], out: &mut [u8]) -> KeravnothAnswered
+    ensures { λ r. ⌜ answeredFound r (now (out .exit)) ≡ answeredCoded (answerLeft (now (text .entry)) (now (out .entry))) (toldFor true [] (now (text .entry))) ⌝ }
 {
-    code_written(answer::answer(text, out))
+    coded::code_answered(answer::answer(text, out))
 }
 
 // From text to text, where only the marked borders may rise.
 #[no_mangle]
-pub extern "C" fn keravnoth_answer_marked(
+pub extern "C" fn keravnoth_1_answer_marked(
     text: &[u8],
     marks: &[u64],
     out: &mut [u8],
-) -> KeravnothWritten
-    ensures { λ r. ⌜ textFound r (now (out .exit)) ≡ textCoded (answerMarkedLeft (now (text .entry)) (now (marks .entry)) (now (out .entry))) ⌝ }
+) -> KeravnothAnswered
+    ensures { λ r. ⌜ answeredFound r (now (out .exit)) ≡ answeredCoded (answerMarkedLeft (now (text .entry)) (now (marks .entry)) (now (out .entry))) (toldFor false (now (marks .entry)) (now (text .entry))) ⌝ }
 {
-    code_written(answer::answer_marked(text, marks, out))
+    coded::code_answered(answer::answer_marked(text, marks, out))
 }
 
 // From text to text, of the table as the sheet corrects it.
 #[no_mangle]
-pub extern "C" fn keravnoth_answer_corrected<'a>(
+pub extern "C" fn keravnoth_1_answer_corrected<'a>(
     text: &'a [u8],
     sheet: &'a [u8],
     out: &mut [u8],
-) -> KeravnothWritten
-    ensures { λ r. ⌜ textFound r (now (out .exit)) ≡ textCoded (answerCorrectedLeft (now (text .entry)) (now (sheet .entry)) (now (out .entry))) ⌝ }
+) -> KeravnothAnswered
+    ensures { λ r. ⌜ answeredFound r (now (out .exit)) ≡ answeredCoded (answerCorrectedLeft (now (text .entry)) (now (sheet .entry)) (now (out .entry))) (toldWith true [] (now (text .entry)) (now (sheet .entry))) ⌝ }
 {
-    code_written(answer::answer_corrected(text, sheet, out))
+    coded::code_answered(answer::answer_corrected(text, sheet, out))
 }
 
 // The flows of all corners on one row.
 #[no_mangle]
-pub extern "C" fn keravnoth_corner_flows(
+pub extern "C" fn keravnoth_1_corner_flows(
     h: Header,
     z: &[i64],
     t: &[i64],
@@ -278,12 +223,12 @@ pub extern "C" fn keravnoth_corner_flows(
 ) -> KeravnothFlows
     ensures { λ r. ⌜ flowsFound r (now (out .exit)) ≡ flowsCoded (cornersLeft (lent h (now (z .entry)) (now (t .entry)) (now (b .entry)) (now (c .entry)) (now (f .entry))) row (now (out .entry))) ⌝ }
 {
-    code_flows(corners::corner_flows(h, z, t, b, c, f, row, out))
+    coded::code_flows(corners::corner_flows(h, z, t, b, c, f, row, out))
 }
 
 // The flows of all corners on one row, as text.
 #[no_mangle]
-pub extern "C" fn keravnoth_corner_text(
+pub extern "C" fn keravnoth_1_corner_text(
     h: Header,
     z: &[i64],
     t: &[i64],
@@ -295,12 +240,12 @@ pub extern "C" fn keravnoth_corner_text(
 ) -> KeravnothWritten
     ensures { λ r. ⌜ textFound r (now (out .exit)) ≡ textCoded (cornerTextLeft (lent h (now (z .entry)) (now (t .entry)) (now (b .entry)) (now (c .entry)) (now (f .entry))) row (now (out .entry))) ⌝ }
 {
-    code_written(cornertext::corner_text(h, z, t, b, c, f, row, out))
+    coded::code_written(cornertext::corner_text(h, z, t, b, c, f, row, out))
 }
 
 // Whether each claim is well formed and borne out.
 #[no_mangle]
-pub extern "C" fn keravnoth_claims(
+pub extern "C" fn keravnoth_1_claims(
     h: Header,
     z: &[i64],
     t: &[i64],
@@ -311,12 +256,12 @@ pub extern "C" fn keravnoth_claims(
 ) -> KeravnothJudged
     ensures { λ r. ⌜ r ≡ codedJudged (claimsAnswer (lent h (now (z .entry)) (now (t .entry)) (now (b .entry)) (now (c .entry)) (now (f .entry))) (now (claims .entry))) ⌝ }
 {
-    code_judged(claims::judge_claims(h, z, t, b, c, f, claims))
+    coded::code_judged(claims::judge_claims(h, z, t, b, c, f, claims))
 }
 
 // The published list of the claims that a text holds.
 #[no_mangle]
-pub extern "C" fn keravnoth_published_text(
+pub extern "C" fn keravnoth_1_published_text(
     h: Header,
     z: &[i64],
     t: &[i64],
@@ -328,12 +273,12 @@ pub extern "C" fn keravnoth_published_text(
 ) -> KeravnothWritten
     ensures { λ r. ⌜ textFound r (now (out .exit)) ≡ textCoded (publishedLeft (lent h (now (z .entry)) (now (t .entry)) (now (b .entry)) (now (c .entry)) (now (f .entry))) (now (list .entry)) (now (out .entry))) ⌝ }
 {
-    code_written(claimtext::published_text(h, z, t, b, c, f, list, out))
+    coded::code_written(claimtext::published_text(h, z, t, b, c, f, list, out))
 }
 
 // Reads the rows of the planners' sheet into c and f.
 #[no_mangle]
-pub extern "C" fn keravnoth_read_rows(
+pub extern "C" fn keravnoth_1_read_rows(
     h: Header,
     sheet: &[u8],
     c: &mut [RowRecord],
@@ -341,12 +286,12 @@ pub extern "C" fn keravnoth_read_rows(
 ) -> KeravnothJudged
     ensures { λ r. ⌜ rowsFound r (now (c .exit)) (now (f .exit)) ≡ rowsCoded (readRowsLeft h (now (sheet .entry)) (now (c .entry)) (now (f .entry))) ⌝ }
 {
-    code_judged(rowsheet::read_rows(h, sheet, c, f))
+    coded::code_judged(rowsheet::read_rows(h, sheet, c, f))
 }
 
 // Writes rows as the planners' sheet.
 #[no_mangle]
-pub extern "C" fn keravnoth_write_rows(
+pub extern "C" fn keravnoth_1_write_rows(
     h: Header,
     c: &[RowRecord],
     f: &[i64],
@@ -354,12 +299,12 @@ pub extern "C" fn keravnoth_write_rows(
 ) -> KeravnothWritten
     ensures { λ r. ⌜ textFound r (now (out .exit)) ≡ textCoded (writeRowsLeft h (now (c .entry)) (now (f .entry)) (now (out .entry))) ⌝ }
 {
-    code_written(rowsheet::write_rows(h, c, f, out))
+    coded::code_written(rowsheet::write_rows(h, c, f, out))
 }
 
 // How many rounds the tables can take at most.
 #[no_mangle]
-pub extern "C" fn keravnoth_bound(
+pub extern "C" fn keravnoth_1_bound(
     h: Header,
     z: &[i64],
     t: &[i64],
@@ -369,12 +314,12 @@ pub extern "C" fn keravnoth_bound(
 ) -> KeravnothBounded
     ensures { λ r. ⌜ r ≡ codedBounded (boundFor true [] (lent h (now (z .entry)) (now (t .entry)) (now (b .entry)) (now (c .entry)) (now (f .entry)))) ⌝ }
 {
-    code_bounded(doors::bound(h, z, t, b, c, f))
+    coded::code_bounded(doors::bound(h, z, t, b, c, f))
 }
 
 // How many rounds the tables can take at most where only the marked borders rise.
 #[no_mangle]
-pub extern "C" fn keravnoth_bound_marked(
+pub extern "C" fn keravnoth_1_bound_marked(
     h: Header,
     z: &[i64],
     t: &[i64],
@@ -385,12 +330,12 @@ pub extern "C" fn keravnoth_bound_marked(
 ) -> KeravnothBounded
     ensures { λ r. ⌜ r ≡ codedBounded (boundFor false (now (marks .entry)) (lent h (now (z .entry)) (now (t .entry)) (now (b .entry)) (now (c .entry)) (now (f .entry)))) ⌝ }
 {
-    code_bounded(doors::bound_marked(h, z, t, b, c, f, marks))
+    coded::code_bounded(doors::bound_marked(h, z, t, b, c, f, marks))
 }
 
 // What the margin of each row is made of.
 #[no_mangle]
-pub extern "C" fn keravnoth_margins(
+pub extern "C" fn keravnoth_1_margins(
     h: Header,
     z: &[i64],
     t: &[i64],
@@ -401,12 +346,12 @@ pub extern "C" fn keravnoth_margins(
 ) -> KeravnothJudged
     ensures { λ r. ⌜ marginsFound r (now (out .exit)) ≡ marginsCoded (marginsLeft (lent h (now (z .entry)) (now (t .entry)) (now (b .entry)) (now (c .entry)) (now (f .entry))) (now (out .entry))) ⌝ }
 {
-    code_judged(parts::margins(h, z, t, b, c, f, out))
+    coded::code_judged(parts::margins(h, z, t, b, c, f, out))
 }
 
 // Why a border got no more, and p of each row at each border.
 #[no_mangle]
-pub extern "C" fn keravnoth_why(
+pub extern "C" fn keravnoth_1_why(
     h: Header,
     z: &[i64],
     t: &[i64],
@@ -420,12 +365,12 @@ pub extern "C" fn keravnoth_why(
 ) -> KeravnothExplained
     ensures { λ r. ⌜ explainedFound r (now (p .exit)) (now (ends .exit)) (now (rows .exit)) ≡ explainedCoded (whyLeft (lent h (now (z .entry)) (now (t .entry)) (now (b .entry)) (now (c .entry)) (now (f .entry))) border (now (p .entry)) (now (ends .entry)) (now (rows .entry))) ⌝ }
 {
-    code_explained(why::why(h, z, t, b, c, f, border, p, ends, rows))
+    coded::code_explained(doors::reasons::why(h, z, t, b, c, f, border, p, ends, rows))
 }
 
 // The same where only marked borders rise.
 #[no_mangle]
-pub extern "C" fn keravnoth_why_marked(
+pub extern "C" fn keravnoth_1_why_marked(
     h: Header,
     z: &[i64],
     t: &[i64],
@@ -440,159 +385,25 @@ pub extern "C" fn keravnoth_why_marked(
 ) -> KeravnothExplained
     ensures { λ r. ⌜ explainedFound r (now (p .exit)) (now (ends .exit)) (now (rows .exit)) ≡ explainedCoded (whyMarkedLeft (lent h (now (z .entry)) (now (t .entry)) (now (b .entry)) (now (c .entry)) (now (f .entry))) (now (marks .entry)) border (now (p .entry)) (now (ends .entry)) (now (rows .entry))) ⌝ }
 {
-    code_explained(why::why_marked(h, z, t, b, c, f, marks, border, p, ends, rows))
+    coded::code_explained(doors::reasons::why_marked(
+        h,
+        z,
+        t,
+        b,
+        c,
+        f,
+        marks,
+        border,
+        p,
+        ends,
+        rows,
+    ))
 }
 
-fn code_read(said: TableRead) -> KeravnothRead
-    ensures { λ r. ⌜ r ≡ codedRead (saidRead said) ⌝ }
+// What a refusal's number means, in words.
+#[no_mangle]
+pub extern "C" fn keravnoth_1_refusal_text(number: u64, out: &mut [u8]) -> KeravnothWritten
+    ensures { λ r. ⌜ textFound r (now (out .exit)) ≡ textCoded (meaningLeft number (now (out .entry))) ⌝ }
 {
-    match said {
-        TableRead::Table(h) => {
-            let share = h.share;
-            KeravnothRead {
-                number: 0,
-                place: 0,
-                byte: 0,
-                zones: h.zones,
-                borders: h.borders,
-                rows: h.rows,
-                share: share,
-                intraday: h.intraday,
-            }
-        }
-        TableRead::Refused(w) => KeravnothRead {
-            number: w.number,
-            place: w.place,
-            byte: w.byte,
-            zones: 0,
-            borders: 0,
-            rows: 0,
-            share: 0,
-            intraday: 0,
-        },
-    }
-}
-
-fn code_written(said: Written) -> KeravnothWritten
-    ensures { λ r. ⌜ r ≡ codedWritten (saidWritten said) ⌝ }
-{
-    match said {
-        Written::Bytes(bytes) => KeravnothWritten {
-            number: 0,
-            place: 0,
-            byte: 0,
-            bytes: bytes,
-        },
-        Written::Refused(w) => KeravnothWritten {
-            number: w.number,
-            place: w.place,
-            byte: w.byte,
-            bytes: 0,
-        },
-    }
-}
-
-fn code_extracted(said: Extracted) -> KeravnothExtracted
-    ensures { λ r. ⌜ r ≡ codedExtracted (saidExtracted said) ⌝ }
-{
-    match said {
-        Extracted::Rounds(rounds) => KeravnothExtracted {
-            number: 0,
-            place: 0,
-            byte: 0,
-            rounds: rounds,
-        },
-        Extracted::Refused(w) => KeravnothExtracted {
-            number: w.number,
-            place: w.place,
-            byte: w.byte,
-            rounds: 0,
-        },
-    }
-}
-
-fn code_flows(said: Flows) -> KeravnothFlows
-    ensures { λ r. ⌜ r ≡ codedFlows (saidFlows said) ⌝ }
-{
-    match said {
-        Flows::Corners(corners) => KeravnothFlows {
-            number: 0,
-            place: 0,
-            byte: 0,
-            corners: corners,
-        },
-        Flows::Refused(w) => KeravnothFlows {
-            number: w.number,
-            place: w.place,
-            byte: w.byte,
-            corners: 0,
-        },
-    }
-}
-
-fn code_judged(said: Judgement) -> KeravnothJudged
-    ensures { λ r. ⌜ r ≡ codedRuling said ⌝ }
-{
-    match said {
-        Judgement::Passed => KeravnothJudged {
-            number: 0,
-            place: 0,
-            byte: 0,
-        },
-        Judgement::Refused(w) => KeravnothJudged {
-            number: w.number,
-            place: w.place,
-            byte: w.byte,
-        },
-    }
-}
-
-fn code_bounded(said: Bounded) -> KeravnothBounded
-    ensures { λ r. ⌜ r ≡ codedBounded (saidBounded said) ⌝ }
-{
-    match said {
-        Bounded::Rounds(most) => KeravnothBounded {
-            number: 0,
-            place: 0,
-            byte: 0,
-            sharers: most.sharers,
-            bits: most.bits,
-            rounds: most.rounds,
-            sharp: most.sharp,
-        },
-        Bounded::Refused(w) => KeravnothBounded {
-            number: w.number,
-            place: w.place,
-            byte: w.byte,
-            sharers: 0,
-            bits: 0,
-            rounds: 0,
-            sharp: 0,
-        },
-    }
-}
-
-fn code_explained(said: Explained) -> KeravnothExplained
-    ensures { λ r. ⌜ r ≡ codedExplained (saidExplained said) ⌝ }
-{
-    match said {
-        Explained::Reasons(reasons) => KeravnothExplained {
-            number: 0,
-            place: 0,
-            byte: 0,
-            rounds: reasons.rounds,
-            last: reasons.last,
-            named: reasons.named,
-            ended: reasons.ended,
-        },
-        Explained::Refused(w) => KeravnothExplained {
-            number: w.number,
-            place: w.place,
-            byte: w.byte,
-            rounds: 0,
-            last: 0,
-            named: 0,
-            ended: 0,
-        },
-    }
+    coded::code_written(meanings::refusal_text(number, out))
 }

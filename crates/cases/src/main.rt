@@ -1,11 +1,13 @@
 // Answers every file that the arguments name: the name on a line, and then what the word before it asks for, as the program prints it.
-// After the argument `claims` and a file comes the published list, after `rows`, `with` and a file the table with its rows, after `why` and a border its reasons.
+// After the argument `claims` and a file comes the published list, after `fill` and a file the table with its rows, after `why` and a border its reasons.
 // After the argument `corners` come the corner sheets of every row, after a number those of that row. After `--marks` and a list only those borders
 // rise, after `--corrections` and a file its rows are put in, until the next word; `answer` is the word for the answer.
 use arguments::Held;
 use arguments::whole;
 use command::asked;
 use command::asked::Asked;
+use command::asked::Names;
+use command::asked::Plain;
 use command::asked::Task;
 use command::input;
 use libc::STDOUT_FILENO;
@@ -47,10 +49,10 @@ fn take(i: usize, setting: Setting) -> Setting {
     }
     match arguments::which(
         whole(i),
-        b"--corrections\n--marks\nwith\nclaims\nwhy\nanswer\n",
+        b"--corrections\n--marks\nclaims\nfill\nwhy\nanswer\n",
     ) {
-        0..=2 => awaiting(i, setting),
-        3..=4 => awaiting(i, word_at(i)),
+        0..=1 => awaiting(i, setting),
+        2..=4 => awaiting(i, word_at(i)),
         5 => word_at(0),
         _ => take_word(i, setting),
     }
@@ -71,7 +73,7 @@ fn take_value(i: usize, mut setting: Setting) -> Setting {
 }
 
 fn take_word(i: usize, setting: Setting) -> Setting {
-    if let Asked::Task(_) = asked::understand(i, 0) {
+    if asked::is_word(i) {
         return word_at(i);
     }
     take_rest(i, setting)
@@ -87,24 +89,50 @@ fn take_rest(i: usize, mut setting: Setting) -> Setting {
 }
 
 fn one(i: usize, setting: Setting) {
-    match asked::understand(setting.word, setting.after) {
-        Asked::Task(task) => one_task(task, i, setting),
-        Asked::Why(border) => one_why(border, i, setting),
+    match asked::understand(plain(i, setting)) {
+        Asked::Task(task, names) => one_task(task, names, i, setting),
+        Asked::Why(border, _) => one_why(border, i, setting),
         _ => {}
     }
 }
 
+// The arguments as the program has them, with the table as the last.
+fn plain(i: usize, setting: Setting) -> Plain {
+    if setting.word == 0 {
+        return Plain {
+            word: i,
+            first: 0,
+            second: 0,
+            third: 0,
+        };
+    }
+    if setting.after == 0 {
+        return Plain {
+            word: setting.word,
+            first: i,
+            second: 0,
+            third: 0,
+        };
+    }
+    Plain {
+        word: setting.word,
+        first: setting.after,
+        second: i,
+        third: 0,
+    }
+}
+
 // First the files that options name are read, the corrections and what goes with the word, and then the table.
-fn one_task(task: Task, i: usize, setting: Setting) {
+fn one_task(task: Task, names: Names, i: usize, setting: Setting) {
     let sheet = input::named(whole(setting.corrections));
     if sheet.failed {
         return;
     }
-    let file = input::named(whole(asked::file_of(task, setting.after)));
+    let file = input::named(whole(names.file));
     if file.failed {
         return;
     }
-    let table = input::named(whole(i));
+    let table = input::table(names.table);
     if table.failed {
         return;
     }
@@ -117,7 +145,7 @@ fn one_why(border: u64, i: usize, setting: Setting) {
     if sheet.failed {
         return;
     }
-    let table = input::named(whole(i));
+    let table = input::table(i);
     if table.failed {
         return;
     }

@@ -2,6 +2,14 @@
 use arguments::Held;
 use arguments::whole;
 
+// The first arguments that belong to no option, by their places: the word, and what stands after it (a row, a file, the table); 0 where there is none.
+pub struct Plain {
+    pub word: usize,
+    pub first: usize,
+    pub second: usize,
+    pub third: usize,
+}
+
 // The words whose text is printed at once.
 pub enum Word {
     Answer,
@@ -30,111 +38,137 @@ pub enum Task {
     Corners(Whose),
 }
 
+// Which arguments name what is read: the file that goes with a word, and the table, which is standard input where none names it.
+pub struct Names {
+    pub file: usize,
+    pub table: usize,
+}
+
 pub enum Asked {
-    Task(Task),
-    // why a border got no more
-    Why(u64),
+    Task(Task, Names),
+    // why a border got no more, and which argument names the table
+    Why(u64, usize),
+    // what differs between two tables, and which arguments name them
+    Changes(usize, usize),
+    // a text repaired where that is certain, and which argument names it
+    Tidy(usize),
+    // the page of the table that an argument names
+    Page(usize),
+    // the hours of a day, whose tables the arguments after the word name (`options::next_file`)
+    Day,
     Help,
     Version,
     // a misuse (`messages::misuse`): the word that it is about, the argument that is wrong, and in which way
     Wrong(usize, usize, usize),
 }
 
-// The words' lines begin with those that stand alone. The answer has no word, and stands behind them all.
-const ALONE_LAST: usize = 6;
-
-const CORNERS: usize = 7;
-
-const ROWS: usize = 8;
-
-const CLAIMS: usize = 9;
-
-const WHY: usize = 10;
-
-const ANSWER: usize = 11;
-
-// What the word at an argument asks for, with the argument after it; 0 stands for one that is not there.
-pub fn understand(word: usize, after: usize) -> Asked {
-    if word == 0 {
-        return alone(ANSWER, after);
+// Which word an argument is, by its line here and its arm in `understand`.
+fn word_at(i: usize) -> usize {
+    if i == 0 {
+        return NO_WORD;
     }
-    let line = arguments::which(
-        whole(word),
-        b"rewrite\nbound\nmargins\nhelp\n--help\n-h\n--version\ncorners\nrows\nclaims\nwhy\n",
-    );
-    match line {
-        0..=ALONE_LAST => alone(line, after),
-        CORNERS => corners(word, after),
-        ROWS => sheet_or_file(after),
-        CLAIMS => claims(word, after),
-        WHY => why(word, after),
-        _ => Asked::Wrong(0, word, messages::UNKNOWN),
+    arguments::which(
+        whole(i),
+        b"rewrite\nbound\nmargins\nrows\nclaims\nfill\ncorners\nwhy\nhelp\n--help\n-h\n--version\nchanges\ntidy\npage\nday\n",
+    )
+}
+
+const PAGE: usize = 14;
+
+const NO_WORD: usize = 16;
+
+// Whether an argument is a word.
+pub fn is_word(i: usize) -> bool {
+    word_at(i) < NO_WORD
+}
+
+// Whether an argument is the word that takes a label.
+pub fn is_page(i: usize) -> bool {
+    word_at(i) == PAGE
+}
+
+// What the word asks for, with the arguments after it. One that is no word names a table that is to be answered.
+pub fn understand(plain: Plain) -> Asked {
+    let word = word_at(plain.word);
+    match word {
+        0 => text(Word::Rewrite, 0, plain.first, plain.second),
+        1 => text(Word::Bound, 0, plain.first, plain.second),
+        2 => text(Word::Margins, 0, plain.first, plain.second),
+        3 => text(Word::Rows, 0, plain.first, plain.second),
+        4 => with_file(Word::Claims, plain),
+        5 => with_file(Word::Filled, plain),
+        6 => corners(plain),
+        7 => why(plain),
+        8..=10 => alone(Asked::Help, plain.first),
+        11 => alone(Asked::Version, plain.first),
+        12 => changes(plain),
+        13 => alone(Asked::Tidy(plain.first), plain.second),
+        PAGE => alone(Asked::Page(plain.first), plain.second),
+        15 => Asked::Day,
+        _ => text(Word::Answer, 0, plain.word, plain.first),
     }
 }
 
-// Nothing may stand after the word.
-fn alone(line: usize, after: usize) -> Asked {
-    if after > 0 {
-        return Asked::Wrong(0, after, messages::ONE_TOO_MANY);
+// Nothing more may stand there.
+fn alone(asked: Asked, more: usize) -> Asked {
+    if more > 0 {
+        return Asked::Wrong(0, more, messages::ONE_TOO_MANY);
     }
-    match line {
-        0 => Asked::Task(Task::Text(Word::Rewrite)),
-        1 => Asked::Task(Task::Text(Word::Bound)),
-        2 => Asked::Task(Task::Text(Word::Margins)),
-        3..=5 => Asked::Help,
-        ALONE_LAST => Asked::Version,
-        _ => Asked::Task(Task::Text(Word::Answer)),
-    }
+    asked
 }
 
-// A row may stand after the word, and nothing else.
-fn corners(word: usize, after: usize) -> Asked {
-    if after == 0 {
-        return Asked::Task(Task::Corners(Whose::Every));
+// A file has to stand after the word, and then a table may.
+fn with_file(word: Word, plain: Plain) -> Asked {
+    if plain.first == 0 {
+        return Asked::Wrong(plain.word, 0, messages::FILE_MISSING);
     }
-    if let Held::Number(row) = arguments::number(whole(after)) {
-        return Asked::Task(Task::Corners(Whose::One(row as usize)));
-    }
-    Asked::Wrong(word, after, messages::NO_ROW)
+    text(word, plain.first, plain.second, plain.third)
 }
 
-// A file may stand after the word.
-fn sheet_or_file(after: usize) -> Asked {
-    if after == 0 {
-        return Asked::Task(Task::Text(Word::Rows));
-    }
-    Asked::Task(Task::Text(Word::Filled))
+fn text(word: Word, file: usize, table: usize, more: usize) -> Asked {
+    let names = Names {
+        file: file,
+        table: table,
+    };
+    alone(Asked::Task(Task::Text(word), names), more)
 }
 
-// A file has to stand after the word.
-fn claims(word: usize, after: usize) -> Asked {
-    if after == 0 {
-        return Asked::Wrong(word, 0, messages::FILE_MISSING);
+// A row may stand after the word, and then a table. A file whose name is a number is named with its folder.
+fn corners(plain: Plain) -> Asked {
+    if plain.first == 0 {
+        return sheets(Whose::Every, 0, 0);
     }
-    Asked::Task(Task::Text(Word::Claims))
+    if let Held::Number(row) = arguments::number(whole(plain.first)) {
+        return sheets(Whose::One(row as usize), plain.second, plain.third);
+    }
+    sheets(Whose::Every, plain.first, plain.second)
 }
 
-// A border has to.
-fn why(word: usize, after: usize) -> Asked {
-    if after == 0 {
-        return Asked::Wrong(word, 0, messages::BORDER_MISSING);
-    }
-    if let Held::Number(border) = arguments::number(whole(after)) {
-        return Asked::Why(border);
-    }
-    Asked::Wrong(word, after, messages::NO_BORDER)
+fn sheets(rows: Whose, table: usize, more: usize) -> Asked {
+    let names = Names {
+        file: 0,
+        table: table,
+    };
+    alone(Asked::Task(Task::Corners(rows), names), more)
 }
 
-// Which argument names the file that goes with a task, of what stands after its word; 0 where none goes with it.
-pub fn file_of(task: Task, after: usize) -> usize {
-    match task {
-        Task::Text(word) => match word {
-            Word::Claims => after,
-            Word::Filled => after,
-            _ => 0,
-        },
-        Task::Corners(_) => 0,
+// A border has to stand after the word, and then a table may.
+fn why(plain: Plain) -> Asked {
+    if plain.first == 0 {
+        return Asked::Wrong(plain.word, 0, messages::BORDER_MISSING);
     }
+    if let Held::Number(border) = arguments::number(whole(plain.first)) {
+        return alone(Asked::Why(border, plain.second), plain.third);
+    }
+    Asked::Wrong(plain.word, plain.first, messages::NO_BORDER)
+}
+
+// A table has to stand after the word, and then another may.
+fn changes(plain: Plain) -> Asked {
+    if plain.first == 0 {
+        return Asked::Wrong(plain.word, 0, messages::FILE_MISSING);
+    }
+    alone(Asked::Changes(plain.first, plain.second), plain.third)
 }
 
 // Whether marks go with the task.

@@ -3,6 +3,7 @@ ghost use mathlib.Core.Path.{_≡_};
 ghost use lib.ListN.{length};
 ghost use Rattle.io.specs.Counts.{Counts};
 use arguments::Piece;
+use arguments::whole;
 use libc::STDIN_FILENO;
 
 // Room for a text, one byte more than it may have, so that a longer one is seen.
@@ -16,14 +17,23 @@ pub struct Text {
 }
 
 // The memory for a text. The array is written out only here: each place that has it costs the check a second.
-fn room() -> [u8; ROOM]
+pub fn room() -> [u8; ROOM]
     ensures { λ r. ⌜ 65537 ≡ length r ⌝ }
 {
     [0; ROOM]
 }
 
-// Standard input.
-pub fn standard() -> Text
+// The table: the file that an argument names, or standard input, whose name is -, where none does.
+pub fn table(at: usize) -> Text
+    ensures { λ r. ⌜ Counts (r .count) (r .bytes) ⌝ }
+{
+    if at == 0 || arguments::which(whole(at), b"-\n") == 0 {
+        return standard();
+    }
+    named(whole(at))
+}
+
+fn standard() -> Text
     ensures { λ r. ⌜ Counts (r .count) (r .bytes) ⌝ }
 {
     let mut bytes = room();
@@ -51,9 +61,9 @@ pub fn named(piece: Piece) -> Text
     }
 }
 
-struct Read {
-    count: usize,
-    failed: bool,
+pub struct Read {
+    pub count: usize,
+    pub failed: bool,
 }
 
 fn read_named(piece: Piece, text: &mut [u8]) -> Read
@@ -73,15 +83,22 @@ fn read_named(piece: Piece, text: &mut [u8]) -> Read
 fn read_file(name: &[u8], text: &mut [u8]) -> Read
     ensures { λ r. ⌜ Counts (r .count) (now (text .exit)) ⌝ }
 {
-    let fd = os::open_read(name);
-    if fd < 0 {
-        messages::unread(name);
-        return failed();
-    }
-    let read = read_text(fd, text);
+    let read = read_by_name(name, text);
     if read.failed {
         messages::unread(name);
     }
+    read
+}
+
+// Reads a file, and says nothing where it cannot be read.
+pub fn read_by_name(name: &[u8], text: &mut [u8]) -> Read
+    ensures { λ r. ⌜ Counts (r .count) (now (text .exit)) ⌝ }
+{
+    let fd = os::open_read(name);
+    if fd < 0 {
+        return failed();
+    }
+    let read = read_text(fd, text);
     libc::close(fd);
     read
 }

@@ -1,4 +1,5 @@
 // Judging a correction sheet: its lines one by one, against the table that the day's text has.
+use crate::kind::index_at;
 use lines::row::RowJudged;
 use lines::row::RowKind;
 use refusals::Judgement;
@@ -10,18 +11,19 @@ ghost use Rattle.limits.specs.Limits.{zonesMost};
 ghost use Rattle.refusals.specs.Answers.{saidJudgement};
 ghost use Rattle.corrections.specs.Corrections.{endedIndex, givenIndex, dueIndex, judgeCorrections};
 
-// The first faulty line decides (10), with its byte.
+// The first faulty line decides (10), with its byte. All lines are of the kind that the first byte tells.
 pub fn sheet_judged(sheet: &[u8], zones: usize, rows: usize) -> Judgement
     requires { ⌜ (0 < zones) × (zones ≤ zonesMost) ⌝ }
     ensures { λ r. ⌜ saidJudgement r tt ≡ judgeCorrections zones rows (now (sheet .entry)) ⌝ }
 {
+    let kind = crate::kind::sheet_kind(sheet);
     let mut s = 0;
     let mut least = 0;
     let mut number = 1;
     while s < sheet.len() {
         let line = text::line::line_at(sheet, s);
-        let i = due_index(line, rows, least);
-        match lines::row::row_judged(RowKind::Table, zones, line, i) {
+        let i = due_index(kind, line, rows, least);
+        match lines::row::row_judged(kind, zones, line, i) {
             RowJudged::Holds => {}
             RowJudged::Form(byte) => return Judgement::Refused(Refusal::wrong_correction(
                 number,
@@ -40,10 +42,10 @@ pub fn sheet_judged(sheet: &[u8], zones: usize, rows: usize) -> Judgement
 }
 
 // The index due in a line: its own, if that is in least..rows; else another, so that the line fails by its index.
-fn due_index(line: &[u8], rows: usize, least: usize) -> usize
-    ensures { λ r. ⌜ r ≡ dueIndex rows least (now (line .entry)) ⌝ }
+fn due_index(kind: RowKind, line: &[u8], rows: usize, least: usize) -> usize
+    ensures { λ r. ⌜ r ≡ dueIndex kind rows least (now (line .entry)) ⌝ }
 {
-    let given = given_index(line);
+    let given = given_index(kind, line);
     if given < least {
         return given + 1;
     }
@@ -53,20 +55,20 @@ fn due_index(line: &[u8], rows: usize, least: usize) -> usize
     given + 1
 }
 
-// The index that a line gives itself, before a tab or else before an LF; 0 where it gives none.
-fn given_index(line: &[u8]) -> usize
-    ensures { λ r. ⌜ r ≡ givenIndex (now (line .entry)) ⌝ }
+// The index that a line gives itself, before the byte between fields or else before an LF; 0 where it gives none.
+fn given_index(kind: RowKind, line: &[u8]) -> usize
+    ensures { λ r. ⌜ r ≡ givenIndex kind (now (line .entry)) ⌝ }
 {
-    match text::field::number_at(line, 2, b'\t') {
+    match index_at(kind, line, lines::row::sep_of(kind)) {
         Number::Value(index, _) => index as usize,
-        Number::Bad(_) => ended_index(line),
+        Number::Bad(_) => ended_index(kind, line),
     }
 }
 
-fn ended_index(line: &[u8]) -> usize
-    ensures { λ r. ⌜ r ≡ endedIndex (now (line .entry)) ⌝ }
+fn ended_index(kind: RowKind, line: &[u8]) -> usize
+    ensures { λ r. ⌜ r ≡ endedIndex kind (now (line .entry)) ⌝ }
 {
-    match text::field::number_at(line, 2, b'\n') {
+    match index_at(kind, line, b'\n') {
         Number::Value(index, _) => index as usize,
         Number::Bad(_) => 0,
     }

@@ -1,4 +1,6 @@
-// The open calls `extract` and `bound` on lent tables, each for every border and with marks: what is lent is judged here, once, and all inside works on a good table.
+// The open calls `extract`, `bound` and, in its own file, `why` on lent tables, each for every border and with marks: what is lent is judged here, once, and all inside works on a good table.
+pub mod reasons;
+
 ghost use mathlib.Core.Path.{_≡_};
 ghost use mathlib.Core.Bool.{true, false};
 ghost use mathlib.Core.List.{[]};

@@ -255,16 +255,17 @@ module _ (marked : ℕ → Bool) (t : Table) (ps : List ℕ) (atcs lefts : List 
       unfolding outcomeLeft resultMarked
       all-stored l = sym (either-passed _ _ (past-start ∙ need-enough _ _ _ hb ∙ need-enough _ _ _ l))
 
+-- what is stored over the front of a list that is as long, and then the rest of the list, is stored over the list
+pub over-taken : (n : ℕ) (ps : List ℕ) → n ≤ length ps → (new : List ℕ) → length new ≡ n → over new (take n ps) ++ drop n ps ≡ over new ps
+over-taken n ps enough new e =
+    ap (λ (old : List ℕ). (new ++ old) ++ drop n ps) (drop-of-length-le (take n ps) {i = length new} (omega (arith, e, length-take-le n ps enough)))
+    ∙ ap (λ (v : List ℕ). v ++ drop n ps) (append-nil new)
+    ∙ ap (λ (k : ℕ). new ++ drop k ps) (sym e)
+
 -- a lent table of p that is longer than the front that was worked on
 module _ (marked : ℕ → Bool) (t : Table) (n : ℕ) (is : n ≡ t .header .rows * t .header .borders) (ps : List ℕ) (enough : n ≤ length ps) (atcs lefts : List (List ℤ)) where
   abbrev longer : ExtractLeft → ExtractLeft
   longer l = leaves (l .answer) (l .p ++ drop n ps) (l .atcs) (l .lefts)
-
-  over-front : (new : List ℕ) → length new ≡ n → over new (take n ps) ++ drop n ps ≡ over new ps
-  over-front new e =
-      ap (λ (old : List ℕ). (new ++ old) ++ drop n ps) (drop-of-length-le (take n ps) {i = length new} (omega (arith, e, length-take-le n ps enough)))
-      ∙ ap (λ (v : List ℕ). v ++ drop n ps) (append-nil new)
-      ∙ ap (λ (k : ℕ). new ++ drop k ps) (sym e)
 
   longer-is : (j : Judged Result) → then (outcomeMarked marked t) (resultRoom atcs lefts) ≡ j
       → longer (either j (resultStored (take n ps) atcs lefts) (λ w. leaves (refused w) (take n ps) atcs lefts)) ≡ either j (resultStored ps atcs lefts) (λ w. leaves (refused w) ps atcs lefts)
@@ -276,7 +277,7 @@ module _ (marked : ℕ → Bool) (t : Table) (n : ℕ) (is : n ≡ t .header .ro
       let c = need-passed r _ _ _ (b .1) in
       let k : resultMarked marked t ≡ r = accepted marked t (o .it) (o .first) .is ∙ passed-is _ _ (c .1) in
       ap (λ (v : List ℕ). leaves (passed (r .outcome .rounds)) v (resultStored ps atcs lefts r .atcs) (resultStored ps atcs lefts r .lefts))
-      (over-front (r .p) (sym (ap (λ (v : Result). length (v .p)) k) ∙ grid-long every t refl ∙ sym is))
+      (over-taken n ps enough (r .p) (sym (ap (λ (v : Result). length (v .p)) k) ∙ grid-long every t refl ∙ sym is))
 
   pub front-left : {l : ExtractLeft} → l ≡ outcomeLeft (outcomeMarked marked t) (take n ps) atcs lefts → longer l ≡ outcomeLeft (outcomeMarked marked t) ps atcs lefts
   unfolding outcomeLeft

@@ -35,12 +35,18 @@ pub noon : Hold (
     ∷ at-noon morning "C 0 10000 0 0 0 7000 0 0 20000 0/" is shown "A 0 100 0 0/M 0 0 2000000000 0/R 0/"
     ∷ at-noon evening "C 0 10000 0 0 0 7000 0 1 20000 0/" is shown "E 7 0 0/"
     ∷ at-noon evening "C 0 10000 0 0 0 7000 0 0 0 20000/" is shown "E 6 0 0/"
+    -- the same rows as the planners' sheet has them
+    ∷ at-noon morning "0;10.000;0.000;0.000;0.000;7000;0.000;0.000;0.20000;0.00000/" is shown "A 0 100 0 0/M 0 0 2000000000 0/R 0/"
+    ∷ at-noon evening "0;10.000;0.000;0.000;0.000;7000;0.000;0.001;0.20000;0.00000/" is shown "E 7 0 0/"
     -- 10 is told with the sheet's line and the byte, before 13
     ∷ at-noon morning "C 0 10000 0 0 0 7000 0 0 20000 0/C 0 10000 0 0 0 7000 0 0 20000 0/" is shown "E 10 2 3/"
+    ∷ at-noon morning "0;10.000;0.000;0.000;0.000;7000;0.000;0.000;0.20000;0.00000/C 0 10000 0 0 0 7000 0 0 20000 0/" is shown "E 10 2 1/"
     ∷ answerWith false [] morning (shown "x") is shown "E 10 1 0/"
     ∷ answerWith false [] morning (shown "C 0 10000 0 0 0 7000 0 0 20000 0/") is shown "E 13 0 0/"
     -- "-" in a sheet's line is written as "-" again
     ∷ rewritten "C 0 9000 0 0 0 - 0 0 20000 0/" is shown "H 2 1 1/Z 0 0/Z 1 0/B 0 0 1 100/C 0 9000 0 0 0 - 0 0 20000 0/"
+    -- a row of the planners' sheet is written as a C line, and its "-" as "-"
+    ∷ rewritten "0;9.000;0.000;-0.001;0.000;-;0.000;0.000;0.20000;-0.00001/" is shown "H 2 1 1/Z 0 0/Z 1 0/B 0 0 1 100/C 0 9000 0 -1 0 - 0 0 20000 -1/"
     -- the open call `rewrite_corrected`: the merged table in front, the rest as it was; too little room; the sheet's refusal, and the day's before it
     ∷ rewriteCorrectedLeft morning (shown "C 0 9000 0 0 0 - 0 0 20000 0/") (replicate 62 7) is record {
       answer = passed 61;

@@ -54,7 +54,7 @@ abbrev pub RowIs : (kind : RowKind) → (zones : ℕ) → (line : List ℕ) → 
 RowIs kind zones line i c = (line ≡ textBy kind i c) × RowHeld zones c
 
 -- ---- what was read of a line
-sep-ends : (kind : RowKind) → Ends (sepBy kind)
+pub sep-ends : (kind : RowKind) → Ends (sepBy kind)
 sep-ends Table = tab-ends
 sep-ends Sheet = record { some = omega arith; apart = refl }
 

@@ -5,7 +5,7 @@ use mathlib.Core.List.{List, [], _∷_, _++_}
 use Prim.Native.Nat.{ℕ, _+_}
 use lib.Dec.{eqb}
 use Rattle.text.specs.Fields.{feed}
-use Rattle.corrections.specs.Corrections.{joined, pieces}
+use Rattle.corrections.specs.Corrections.{joined, pieces, handedBy}
 use Rattle.merged.specs.Merged.{isRow, mergedFrom, mergedText}
 
 -- the lines of a text, one after another
@@ -14,12 +14,12 @@ flat [] = []
 flat (line ∷ rest) = line ++ flat rest
 
 -- with an empty sheet each line stays
-flat-merged : (i : ℕ) (day : List (List ℕ)) → mergedFrom [] i day ≡ flat day
+flat-merged : (zones i : ℕ) (day : List (List ℕ)) → mergedFrom zones (handedBy []) i day ≡ flat day
 unfolding flat
-flat-merged i [] = refl
-flat-merged i (line ∷ rest) = go (isRow line) (flat-merged (i + 1) rest) (flat-merged i rest)
+flat-merged zones i [] = refl
+flat-merged zones i (line ∷ rest) = go (isRow line) (flat-merged zones (i + 1) rest) (flat-merged zones i rest)
   where
-    go : (v : Bool) → mergedFrom [] (i + 1) rest ≡ flat rest → mergedFrom [] i rest ≡ flat rest → cond v (line ++ mergedFrom [] (i + 1) rest) (line ++ mergedFrom [] i rest) ≡ line ++ flat rest
+    go : (v : Bool) → mergedFrom zones (handedBy []) (i + 1) rest ≡ flat rest → mergedFrom zones (handedBy []) i rest ≡ flat rest → cond v (line ++ mergedFrom zones (handedBy []) (i + 1) rest) (line ++ mergedFrom zones (handedBy []) i rest) ≡ line ++ flat rest
     go true a b = ap (λ (l : List ℕ). line ++ l) a
     go false a b = ap (λ (l : List ℕ). line ++ l) b
 
@@ -37,4 +37,4 @@ flat-pieces (b ∷ s) = go (eqb b feed) (pieces s) (flat-pieces s)
 -- the merged text of an empty sheet
 pub empty-merged : (text : List ℕ) → mergedText text [] ≡ text
 unfolding mergedText
-empty-merged text = flat-merged 0 (pieces text) ∙ flat-pieces text
+empty-merged text = flat-merged _ 0 (pieces text) ∙ flat-pieces text

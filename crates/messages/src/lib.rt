@@ -1,5 +1,6 @@
 // What the program says to people: what is wrong with the arguments, what a refusal means and what to look at. Each is one line.
 // On a refusal standard output holds the E line alone (01, "Result text"), so its meaning goes to standard error.
+pub mod day;
 pub mod usage;
 
 ghost use Rattle.io.specs.Counts.{Counts};
@@ -21,7 +22,7 @@ pub const NO_DESCRIPTOR: usize = 4;
 
 pub const ONE_TOO_MANY: usize = 5;
 
-pub const NO_ROW: usize = 6;
+pub const NO_NUMBER: usize = 6;
 
 pub const FILE_MISSING: usize = 7;
 
@@ -41,6 +42,12 @@ pub const NO_BORDER: usize = 14;
 
 pub const BORDER_MISSING: usize = 15;
 
+pub const NUMBER_MISSING: usize = 16;
+
+pub const NO_WORD: usize = 17;
+
+pub const TABLE_MISSING: usize = 18;
+
 // A misuse: the option or word that it is about, the piece of an argument that is wrong, 0 for each that there is none of, and in which way.
 pub fn misuse(of: usize, wrong: Piece, way: usize) {
     say(b"keravnoth: ");
@@ -58,16 +65,19 @@ pub fn misuse(of: usize, wrong: Piece, way: usize) {
         is no list of borders, as 0,3,7 is\n\
         is no descriptor\n\
         is one word too many\n\
-        is no row\n\
+        is no number\n\
         the file is missing\n\
         the list is missing\n\
         the descriptor is missing\n\
         the text is missing\n\
         does not go with it\n\
         the file's name is empty\n\
-        is standard input, which has the table\n\
+        is standard input, which is for the table alone\n\
         is no border\n\
-        the border is missing\n",
+        the border is missing\n\
+        the number is missing\n\
+        is no word either\n\
+        the second table is missing, or --corrections\n",
         way,
     ));
     say(b"; see keravnoth --help\n");
@@ -118,93 +128,82 @@ pub fn unread(name: &[u8]) {
     os::fail(name);
 }
 
-// One line for a refusal, by its number, place and byte (01, "When the table is turned away"; 02, E2, E3, E5, E6, E10 and E13), the table's text, how long
-// those are that go with it, and whether the sheet of rows is to blame: 1, 2, 3, 9 and 13 have more than one meaning.
+// One line for a refusal, by its number, place and byte (01, "When the table is turned away"; 02, E2, E3, E5, E6, E10 and E13), the table's text and how long
+// those are that go with it: 1, 9 and 13 have more than one meaning. Before it stands what it is about where that is named.
 pub fn refusal(
+    of: &[u8],
     number: u64,
     place: u64,
     byte: u64,
     text: &[u8],
     sheet: usize,
     file: usize,
-    of_rows: bool,
 ) {
+    begin(of);
+    let k = meaning(number, place, text, sheet, file);
+    if k < MEANINGS {
+        say_line(&meanings::LINES, k, place, byte);
+        return;
+    }
     say_line(
-        b"the table is refused (#): see docs/GUIDE.md\n\
+        b"the table is refused (#): see docs/REFUSALS.md\n\
         the table has more than 65,536 bytes: send one hour alone\n\
-        line # has the wrong form, kind, index or field count, is missing, has no LF, or is extra: look at its letter, index, tabs, LF and stray bytes (a CR, a BOM, a blank)\n\
-        line # has a value outside its range (also a zone or hub that does not exist, or two equal ones; in line 1 a count or the default of R): compare its fields with the ranges in docs/GUIDE.md\n\
-        border # has the same from, to and hubs as an earlier border: leave one of the two out\n\
-        no row is kept: in every row the factors lie less than 5000 apart, so nothing limits the capacities: look at the factors\n\
-        border # loads no kept row, so nothing limits it: leave it out, or add the row that does\n\
-        row # has a starting margin (RAM - S) below 0: look at its CVA and IVA\n\
-        the table is refused (#): see docs/GUIDE.md\n\
-        no corner sheet: the table has no row #: ask for a row that it has, from 0 on\n\
-        the correction sheet: line # has the wrong form or value, an index that is not above the one before, or one that the table has no row for: look at it as at a C line of the table\n\
-        claim # (from 0) is malformed or out of range: look at its line's form, at D and the multipliers (1 to 1000), that its row and those it cites are kept (state 0), and that no row is claimed twice or cited and claimed\n\
-        claim # (from 0) is not borne out: the rows that it cites do not make the claimed row redundant\n\
-        no border is marked, so none may rise: name one at least after --marks, or leave the option out\n\
-        mark # of the list is no border of the table, or was given before: look at what follows --marks\n\
         the file has more than 65,536 bytes: give the rows, or the claims, of one hour alone\n\
         the correction sheet has more than 65,536 bytes: give the changed rows of one hour alone\n\
+        no corner sheet: the table has no row #: ask for a row that it has, from 0 on\n\
         no corner sheet: the table has # borders, and a sheet has 12 at most: take borders out\n\
-        the sheet: line # has the wrong form, index or field count, is missing, has no LF, or is extra: look at its index, semicolons, decimals (three of a power, five of a factor), LF and stray bytes (a CR, a BOM, a blank)\n\
-        the sheet: line # has a value outside its range: compare its fields, in MW, with the ranges of a C line in docs/GUIDE.md\n",
-        meaning(number, place, text, sheet, file, of_rows),
+        no border is marked, so none may rise: name one at least after --marks, or leave the option out\n\
+        mark # of the list is no border of the table, or was given before: look at what follows --marks\n",
+        k - MEANINGS,
         place,
         byte,
     )
 }
 
+// So many numbers have a meaning in the list that C has too (crate meanings); the lines above come after them.
+const MEANINGS: usize = meanings::LAST as usize + 1;
+
 // Which of the lines says what a refusal means: the number's own, or one of those behind them where the number has more than one meaning.
-fn meaning(
-    number: u64,
-    place: u64,
-    text: &[u8],
-    sheet: usize,
-    file: usize,
-    of_rows: bool,
-) -> usize {
+fn meaning(number: u64, place: u64, text: &[u8], sheet: usize, file: usize) -> usize {
     match number {
         1 => too_long(sheet, file),
-        2..=3 => {
-            if of_rows {
-                number as usize + 16
-            } else {
-                number as usize
-            }
-        }
-        4..=7 => number as usize,
+        2..=7 => number as usize,
         9 => no_corners(text),
         10..=12 => number as usize,
-        13 => { if place == 0 { 13 } else { 14 } }
-        _ => 0,
+        13 => {
+            if place == 0 {
+                MEANINGS + 6
+            } else {
+                MEANINGS + 7
+            }
+        }
+        _ => MEANINGS,
     }
 }
 
 // 1: which text is too long, by the bytes of those that go with the table. They are looked at before it.
 fn too_long(sheet: usize, file: usize) -> usize {
     if file > text::BYTES_MOST {
-        return 15;
+        return MEANINGS + 2;
     }
     if sheet > text::BYTES_MOST {
-        return 16;
+        return MEANINGS + 3;
     }
-    1
+    MEANINGS + 1
 }
 
 // 9: which of its two causes it is (02, E1): whether the second number of a good table's first line is too large for a sheet.
 fn no_corners(text: &[u8]) -> usize {
     let Number::Value(_, next) = text::field::number_at(text, 2, b'\t') else {
-        return 9;
+        return MEANINGS + 4;
     };
     let Number::Value(borders, _) = text::field::number_at(text, next, b'\t') else {
-        return 9;
+        return MEANINGS + 4;
     };
     if borders > corners::BORDERS_MOST as u64 {
-        return 17;
+        return MEANINGS + 5;
     }
-    9
+    MEANINGS + 4
 }
 
 // A table has not the border that is asked for, but so many.
@@ -224,13 +223,27 @@ fn last_of(count: usize) -> u64 {
     count as u64 - 1
 }
 
+// Says words as a line, and before them what they are about where that is named.
+pub fn line(of: &[u8], words: &[u8]) {
+    begin(of);
+    say(words);
+    say(b"\n");
+}
+
+fn begin(of: &[u8]) {
+    say(b"keravnoth: ");
+    if of.len() > 0 {
+        say(of);
+        say(b": ");
+    }
+}
+
 fn say(words: &[u8]) {
     io::write_all(STDERR_FILENO, words);
 }
 
 // Line k of a list, with the place where it has a #, and the byte after the place where one is to blame.
 fn say_line(list: &[u8], k: usize, place: u64, byte: u64) {
-    say(b"keravnoth: ");
     let line = lists::line(list, k);
     let n = lists::find(line, 0, b'#');
     say(&line[..n]);

@@ -9,78 +9,84 @@ use denote.Ref.{now}
 use denote.Triple.Clauses.{AtExit}
 use borrow.Fn.World.{ArgsD, ResD}
 use borrow.Fn.Kinds.{endedOf}
-use Rattle.cabi.specs.declared.KeravnothRead.{KeravnothRead}
-use Rattle.cabi.specs.declared.KeravnothExtracted.{KeravnothExtracted}
-use Rattle.cabi.specs.declared.KeravnothJudged.{KeravnothJudged}
-use Rattle.cabi.specs.Coded.{ReadCoded, readFound, OutCoded, outFound, ExtractCoded, extractFound, RowsCoded, rowsFound}
-use Rattle.cabi.proofs.keravnoth_read as read
-use Rattle.cabi.proofs.keravnoth_read.Kinds as read-kinds
-use Rattle.cabi.proofs.keravnoth_read.Reads as read-reads
-use Rattle.cabi.proofs.keravnoth_read_corrected as read-corrected
-use Rattle.cabi.proofs.keravnoth_read_corrected.Kinds as read-corrected-kinds
-use Rattle.cabi.proofs.keravnoth_read_corrected.Reads as read-corrected-reads
-use Rattle.cabi.proofs.keravnoth_write as write
-use Rattle.cabi.proofs.keravnoth_write.Kinds as write-kinds
-use Rattle.cabi.proofs.keravnoth_write.Reads as write-reads
-use Rattle.cabi.proofs.keravnoth_rewrite_corrected as rewrite-corrected
-use Rattle.cabi.proofs.keravnoth_rewrite_corrected.Kinds as rewrite-corrected-kinds
-use Rattle.cabi.proofs.keravnoth_rewrite_corrected.Reads as rewrite-corrected-reads
-use Rattle.cabi.proofs.keravnoth_extract as extract
-use Rattle.cabi.proofs.keravnoth_extract.Kinds as extract-kinds
-use Rattle.cabi.proofs.keravnoth_extract.Reads as extract-reads
-use Rattle.cabi.proofs.keravnoth_extract_marked as extract-marked
-use Rattle.cabi.proofs.keravnoth_extract_marked.Kinds as extract-marked-kinds
-use Rattle.cabi.proofs.keravnoth_extract_marked.Reads as extract-marked-reads
-use Rattle.cabi.proofs.keravnoth_result_text as result-text
-use Rattle.cabi.proofs.keravnoth_result_text.Kinds as result-text-kinds
-use Rattle.cabi.proofs.keravnoth_result_text.Reads as result-text-reads
-use Rattle.cabi.proofs.keravnoth_result_text_marked as result-text-marked
-use Rattle.cabi.proofs.keravnoth_result_text_marked.Kinds as result-text-marked-kinds
-use Rattle.cabi.proofs.keravnoth_result_text_marked.Reads as result-text-marked-reads
-use Rattle.cabi.proofs.keravnoth_answer as answer
-use Rattle.cabi.proofs.keravnoth_answer.Kinds as answer-kinds
-use Rattle.cabi.proofs.keravnoth_answer.Reads as answer-reads
-use Rattle.cabi.proofs.keravnoth_answer_marked as answer-marked
-use Rattle.cabi.proofs.keravnoth_answer_marked.Kinds as answer-marked-kinds
-use Rattle.cabi.proofs.keravnoth_answer_marked.Reads as answer-marked-reads
-use Rattle.cabi.proofs.keravnoth_answer_corrected as answer-corrected
-use Rattle.cabi.proofs.keravnoth_answer_corrected.Kinds as answer-corrected-kinds
-use Rattle.cabi.proofs.keravnoth_answer_corrected.Reads as answer-corrected-reads
-use Rattle.cabi.proofs.keravnoth_corner_flows as corner-flows
-use Rattle.cabi.proofs.keravnoth_corner_flows.Kinds as corner-flows-kinds
-use Rattle.cabi.proofs.keravnoth_corner_flows.Reads as corner-flows-reads
-use Rattle.cabi.proofs.keravnoth_corner_text as corner-text
-use Rattle.cabi.proofs.keravnoth_corner_text.Kinds as corner-text-kinds
-use Rattle.cabi.proofs.keravnoth_corner_text.Reads as corner-text-reads
-use Rattle.cabi.proofs.keravnoth_published_text as published-text
-use Rattle.cabi.proofs.keravnoth_published_text.Kinds as published-text-kinds
-use Rattle.cabi.proofs.keravnoth_published_text.Reads as published-text-reads
-use Rattle.cabi.proofs.keravnoth_claims as claims
-use Rattle.cabi.proofs.keravnoth_claims.Kinds as claims-kinds
-use Rattle.cabi.proofs.keravnoth_claims.Reads as claims-reads
-use Rattle.cabi.proofs.keravnoth_read_rows as read-rows
-use Rattle.cabi.proofs.keravnoth_read_rows.Kinds as read-rows-kinds
-use Rattle.cabi.proofs.keravnoth_read_rows.Reads as read-rows-reads
-use Rattle.cabi.proofs.keravnoth_write_rows as write-rows
-use Rattle.cabi.proofs.keravnoth_write_rows.Kinds as write-rows-kinds
-use Rattle.cabi.proofs.keravnoth_write_rows.Reads as write-rows-reads
-use Rattle.cabi.proofs.keravnoth_bound as bound
-use Rattle.cabi.proofs.keravnoth_bound.Kinds as bound-kinds
-use Rattle.cabi.proofs.keravnoth_bound.Reads as bound-reads
-use Rattle.cabi.proofs.keravnoth_bound_marked as bound-marked
-use Rattle.cabi.proofs.keravnoth_bound_marked.Kinds as bound-marked-kinds
-use Rattle.cabi.proofs.keravnoth_bound_marked.Reads as bound-marked-reads
-use Rattle.cabi.proofs.keravnoth_margins as margins
-use Rattle.cabi.proofs.keravnoth_margins.Kinds as margins-kinds
-use Rattle.cabi.proofs.keravnoth_margins.Reads as margins-reads
-use Rattle.cabi.specs.declared.KeravnothExplained.{KeravnothExplained}
-use Rattle.cabi.specs.Coded.{ExplainedCoded, explainedFound}
-use Rattle.cabi.proofs.keravnoth_why as why
-use Rattle.cabi.proofs.keravnoth_why.Kinds as why-kinds
-use Rattle.cabi.proofs.keravnoth_why.Reads as why-reads
-use Rattle.cabi.proofs.keravnoth_why_marked as why-marked
-use Rattle.cabi.proofs.keravnoth_why_marked.Kinds as why-marked-kinds
-use Rattle.cabi.proofs.keravnoth_why_marked.Reads as why-marked-reads
+use Rattle.coded.specs.declared.KeravnothRead.{KeravnothRead}
+use Rattle.coded.specs.declared.KeravnothExtracted.{KeravnothExtracted}
+use Rattle.coded.specs.declared.KeravnothJudged.{KeravnothJudged}
+use Rattle.coded.specs.Coded.{ReadCoded, readFound, OutCoded, outFound, ExtractCoded, extractFound, RowsCoded, rowsFound}
+use Rattle.cabi.proofs.keravnoth_1_read as read
+use Rattle.cabi.proofs.keravnoth_1_read.Kinds as read-kinds
+use Rattle.cabi.proofs.keravnoth_1_read.Reads as read-reads
+use Rattle.cabi.proofs.keravnoth_1_read_corrected as read-corrected
+use Rattle.cabi.proofs.keravnoth_1_read_corrected.Kinds as read-corrected-kinds
+use Rattle.cabi.proofs.keravnoth_1_read_corrected.Reads as read-corrected-reads
+use Rattle.cabi.proofs.keravnoth_1_write as write
+use Rattle.cabi.proofs.keravnoth_1_write.Kinds as write-kinds
+use Rattle.cabi.proofs.keravnoth_1_write.Reads as write-reads
+use Rattle.cabi.proofs.keravnoth_1_rewrite_corrected as rewrite-corrected
+use Rattle.cabi.proofs.keravnoth_1_rewrite_corrected.Kinds as rewrite-corrected-kinds
+use Rattle.cabi.proofs.keravnoth_1_rewrite_corrected.Reads as rewrite-corrected-reads
+use Rattle.cabi.proofs.keravnoth_1_extract as extract
+use Rattle.cabi.proofs.keravnoth_1_extract.Kinds as extract-kinds
+use Rattle.cabi.proofs.keravnoth_1_extract.Reads as extract-reads
+use Rattle.cabi.proofs.keravnoth_1_extract_marked as extract-marked
+use Rattle.cabi.proofs.keravnoth_1_extract_marked.Kinds as extract-marked-kinds
+use Rattle.cabi.proofs.keravnoth_1_extract_marked.Reads as extract-marked-reads
+use Rattle.cabi.proofs.keravnoth_1_result_text as result-text
+use Rattle.cabi.proofs.keravnoth_1_result_text.Kinds as result-text-kinds
+use Rattle.cabi.proofs.keravnoth_1_result_text.Reads as result-text-reads
+use Rattle.cabi.proofs.keravnoth_1_result_text_marked as result-text-marked
+use Rattle.cabi.proofs.keravnoth_1_result_text_marked.Kinds as result-text-marked-kinds
+use Rattle.cabi.proofs.keravnoth_1_result_text_marked.Reads as result-text-marked-reads
+use Rattle.cabi.proofs.keravnoth_1_answer as answer
+use Rattle.cabi.proofs.keravnoth_1_answer.Kinds as answer-kinds
+use Rattle.cabi.proofs.keravnoth_1_answer.Reads as answer-reads
+use Rattle.cabi.proofs.keravnoth_1_answer_marked as answer-marked
+use Rattle.cabi.proofs.keravnoth_1_answer_marked.Kinds as answer-marked-kinds
+use Rattle.cabi.proofs.keravnoth_1_answer_marked.Reads as answer-marked-reads
+use Rattle.cabi.proofs.keravnoth_1_answer_corrected as answer-corrected
+use Rattle.cabi.proofs.keravnoth_1_answer_corrected.Kinds as answer-corrected-kinds
+use Rattle.cabi.proofs.keravnoth_1_answer_corrected.Reads as answer-corrected-reads
+use Rattle.cabi.proofs.keravnoth_1_corner_flows as corner-flows
+use Rattle.cabi.proofs.keravnoth_1_corner_flows.Kinds as corner-flows-kinds
+use Rattle.cabi.proofs.keravnoth_1_corner_flows.Reads as corner-flows-reads
+use Rattle.cabi.proofs.keravnoth_1_corner_text as corner-text
+use Rattle.cabi.proofs.keravnoth_1_corner_text.Kinds as corner-text-kinds
+use Rattle.cabi.proofs.keravnoth_1_corner_text.Reads as corner-text-reads
+use Rattle.cabi.proofs.keravnoth_1_published_text as published-text
+use Rattle.cabi.proofs.keravnoth_1_published_text.Kinds as published-text-kinds
+use Rattle.cabi.proofs.keravnoth_1_published_text.Reads as published-text-reads
+use Rattle.cabi.proofs.keravnoth_1_claims as claims
+use Rattle.cabi.proofs.keravnoth_1_claims.Kinds as claims-kinds
+use Rattle.cabi.proofs.keravnoth_1_claims.Reads as claims-reads
+use Rattle.cabi.proofs.keravnoth_1_read_rows as read-rows
+use Rattle.cabi.proofs.keravnoth_1_read_rows.Kinds as read-rows-kinds
+use Rattle.cabi.proofs.keravnoth_1_read_rows.Reads as read-rows-reads
+use Rattle.cabi.proofs.keravnoth_1_write_rows as write-rows
+use Rattle.cabi.proofs.keravnoth_1_write_rows.Kinds as write-rows-kinds
+use Rattle.cabi.proofs.keravnoth_1_write_rows.Reads as write-rows-reads
+use Rattle.cabi.proofs.keravnoth_1_bound as bound
+use Rattle.cabi.proofs.keravnoth_1_bound.Kinds as bound-kinds
+use Rattle.cabi.proofs.keravnoth_1_bound.Reads as bound-reads
+use Rattle.cabi.proofs.keravnoth_1_bound_marked as bound-marked
+use Rattle.cabi.proofs.keravnoth_1_bound_marked.Kinds as bound-marked-kinds
+use Rattle.cabi.proofs.keravnoth_1_bound_marked.Reads as bound-marked-reads
+use Rattle.cabi.proofs.keravnoth_1_margins as margins
+use Rattle.cabi.proofs.keravnoth_1_margins.Kinds as margins-kinds
+use Rattle.cabi.proofs.keravnoth_1_margins.Reads as margins-reads
+use Rattle.coded.specs.declared.KeravnothExplained.{KeravnothExplained}
+use Rattle.coded.specs.Coded.{ExplainedCoded, explainedFound}
+use Rattle.cabi.proofs.keravnoth_1_refusal_text as refusal-text
+use Rattle.cabi.proofs.keravnoth_1_refusal_text.Kinds as refusal-text-kinds
+use Rattle.cabi.proofs.keravnoth_1_refusal_text.Reads as refusal-text-reads
+use Rattle.cabi.proofs.keravnoth_version as the-version
+use Rattle.cabi.proofs.keravnoth_version.Kinds as version-kinds
+use Rattle.cabi.proofs.keravnoth_version.Reads as version-reads
+use Rattle.cabi.proofs.keravnoth_1_why as why
+use Rattle.cabi.proofs.keravnoth_1_why.Kinds as why-kinds
+use Rattle.cabi.proofs.keravnoth_1_why.Reads as why-reads
+use Rattle.cabi.proofs.keravnoth_1_why_marked as why-marked
+use Rattle.cabi.proofs.keravnoth_1_why_marked.Kinds as why-marked-kinds
+use Rattle.cabi.proofs.keravnoth_1_why_marked.Reads as why-marked-reads
 
 -- ---- whatever the contract allows a call to leave, it is one thing
 read-one : (may : ReadCoded) (r r′ : KeravnothRead) (z z′ t t′ : List ℤ) (b b′ c c′ : List (List ℤ)) (f f′ : List ℤ) → readFound r z t b c f ≡ may → readFound r′ z′ t′ b′ c′ f′ ≡ may
@@ -213,6 +219,16 @@ keravnoth-bound-marked-once κs x r r′ s s′ p q = p ∙ sym q
 pub keravnoth-margins-once : (κs : Lfts 6) (x : ArgsD margins.signature κs) (r r′ : ResD margins.signature κs) (s s′ : AtExit (endedOf 6 margins-kinds.ps margins-kinds.r) κs)
     → margins-reads.Post κs x r s → margins-reads.Post κs x r′ s′ → (r ≡ r′) × (now (s .1 .1 .1 .1 .1 .1 .0) ≡ now (s′ .1 .1 .1 .1 .1 .1 .0))
 keravnoth-margins-once κs x r r′ s s′ p q = out-one _ _ _ _ _ p q
+
+-- `out` is the second argument
+pub keravnoth-refusal-text-once : (κs : Lfts 1) (x : ArgsD refusal-text.signature κs) (r r′ : ResD refusal-text.signature κs) (s s′ : AtExit (endedOf 1 refusal-text-kinds.ps refusal-text-kinds.r) κs)
+    → refusal-text-reads.Post κs x r s → refusal-text-reads.Post κs x r′ s′ → (r ≡ r′) × (now (s .1 .0) ≡ now (s′ .1 .0))
+keravnoth-refusal-text-once κs x r r′ s s′ p q = out-one _ _ _ _ _ p q
+
+-- nothing is lent
+pub keravnoth-version-once : (κs : Lfts 0) (x : ArgsD the-version.signature κs) (r r′ : ResD the-version.signature κs) (s s′ : AtExit (endedOf 0 version-kinds.ps version-kinds.r) κs)
+    → version-reads.Post κs x r s → version-reads.Post κs x r′ s′ → r ≡ r′
+keravnoth-version-once κs x r r′ s s′ p q = p ∙ sym q
 
 -- ---- why a border got no more
 explained-one : (may : ExplainedCoded) (r r′ : KeravnothExplained) (ps ps′ : List ℕ) (ends ends′ rows rows′ : List (List ℤ)) → explainedFound r ps ends rows ≡ may → explainedFound r′ ps′ ends′ rows′ ≡ may

@@ -1,14 +1,13 @@
 pub mod Answer
 pub mod Bound
-pub mod BoundText
 pub mod Cabi
 pub mod Claims
 pub mod ClaimText
 pub mod Corners
 pub mod CornerText
 pub mod Extraction
+pub mod Meanings
 pub mod Parts
-pub mod PartsText
 pub mod Reading
 pub mod Refusal
 pub mod RowSheet

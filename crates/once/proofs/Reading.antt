@@ -11,12 +11,12 @@ use borrow.Fn.Kinds.{endedOf}
 use Rattle.reading.specs.declared.TableRead.{TableRead}
 use Rattle.reading.specs.Reading.{ReadLeft}
 use Rattle.reading.specs.Places.{readSaid}
-use Rattle.reading.proofs.read.{signature}
-use Rattle.reading.proofs.read.Kinds as kinds
-use Rattle.reading.proofs.read.Reads as reads
-use Rattle.reading.proofs.read_corrected as corrected
-use Rattle.reading.proofs.read_corrected.Kinds as corrected-kinds
-use Rattle.reading.proofs.read_corrected.Reads as corrected-reads
+use Rattle.lending.proofs.read.{signature}
+use Rattle.lending.proofs.read.Kinds as kinds
+use Rattle.lending.proofs.read.Reads as reads
+use Rattle.lending.proofs.read_corrected as corrected
+use Rattle.lending.proofs.read_corrected.Kinds as corrected-kinds
+use Rattle.lending.proofs.read_corrected.Reads as corrected-reads
 use Rattle.reading.proofs.AnswerLaws.{saidRead-injective}
 
 -- what is left tells the answer and each table

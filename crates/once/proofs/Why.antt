@@ -14,15 +14,15 @@ use Rattle.why.specs.declared.Reasons.{Reasons}
 use Rattle.why.specs.declared.Explained.{Explained}
 use Rattle.why.specs.declared.Explained.the-variants as explained
 use Rattle.why.specs.Why.{saidExplained, WhyLeft, leaves}
-use Rattle.why.proofs.why as every
-use Rattle.why.proofs.why.Kinds as every-kinds
-use Rattle.why.proofs.why.Reads as every-reads
-use Rattle.why.proofs.why_marked as some
-use Rattle.why.proofs.why_marked.Kinds as some-kinds
-use Rattle.why.proofs.why_marked.Reads as some-reads
-use Rattle.why.proofs.why_for as asked
-use Rattle.why.proofs.why_for.Kinds as asked-kinds
-use Rattle.why.proofs.why_for.Reads as asked-reads
+use Rattle.doors.proofs.reasons.why as every
+use Rattle.doors.proofs.reasons.why.Kinds as every-kinds
+use Rattle.doors.proofs.reasons.why.Reads as every-reads
+use Rattle.doors.proofs.reasons.why_marked as some
+use Rattle.doors.proofs.reasons.why_marked.Kinds as some-kinds
+use Rattle.doors.proofs.reasons.why_marked.Reads as some-reads
+use Rattle.doors.proofs.reasons.why_for as asked
+use Rattle.doors.proofs.reasons.why_for.Kinds as asked-kinds
+use Rattle.doors.proofs.reasons.why_for.Reads as asked-reads
 
 -- an answer can be read back from what it says
 explainedOf : Judged Reasons → Explained

@@ -13,26 +13,16 @@ use Rattle.numbers.specs.Ints.{Within}
 use Rattle.numbers.proofs.BelowLaws.{table-long, table-get}
 use Rattle.numbers.proofs.IntLaws.{within-pos, within-max}
 use Rattle.limits.specs.Limits.{bordersMost, rowsMost}
-use Rattle.refusals.specs.declared.Judgement.{Judgement}
-use Rattle.refusals.specs.declared.Judgement.the-variants.{Passed, Refused}
-use Rattle.refusals.specs.declared.Refusal.{Refusal}
-use Rattle.refusals.specs.Answers.{saidJudgement}
-use Rattle.refusals.specs.Refusals.{Judged, passed, refused}
-use Rattle.refusals.proofs.RefusalLaws.{then-next, then-refused}
 use Rattle.types.specs.Ranges.{isIntraday}
 use Rattle.types.proofs.RangeLaws.{header-in}
 use Rattle.text.specs.Fields.{tab}
-use Rattle.text.specs.Left.{TextLeft, textLeft}
-use Rattle.text.proofs.LeftLaws.{text-refused}
 use Rattle.text.proofs.PutLaws.{lines-most}
 use Rattle.text.proofs.WrittenLaws.{decimal-long, decimalℤ-long}
 use Rattle.columns.specs.ColumnText.{fieldText, fieldsLength}
 use Rattle.columns.specs.declared.Head.the-variants.{Indexed}
 use Rattle.columns.proofs.ColumnPut.{line-long}
-use Rattle.table.specs.declared.Room.the-variants.{None}
-use Rattle.table.specs.Table.{Table, front, factorsAt, judgeLent}
+use Rattle.table.specs.Table.{Table, factorsAt}
 use Rattle.table.specs.Good.{Good}
-use Rattle.table.proofs.GoodLaws.{told-judged}
 use Rattle.margin.specs.Magnitudes.{startBits}
 use Rattle.margin.specs.Margin.{ramsOf}
 use Rattle.margin.proofs.MagnitudeLaws.{within-grains}
@@ -41,7 +31,7 @@ use Rattle.margin.proofs.Small.{start-in, named-values-small}
 use Rattle.states.proofs.StateLaws.{state-most}
 use Rattle.parts.specs.Parts.{Parts, nOf, startFrom, partsOf, recordOf, recordsOf}
 use Rattle.parts.proofs.PartsLaws.{n-few}
-use Rattle.partstext.specs.PartsText.{partsColumns, partsLine, partsLineAt, partsText, partsLineMost, partsMost, marginsTextLeft}
+use Rattle.partstext.specs.PartsText.{partsColumns, partsLine, partsLineAt, partsText, partsLineMost, partsMost}
 
 -- ---- a row's values are small
 pub record Small (m : Parts) : Type 0 where
@@ -132,13 +122,3 @@ module _ {t : Table} (good : Good t) where
 
     pub records-short : let rs = take (t .header .rows) o in (length rs ≤ rowsMost) × ((i : ℕ) → i < length rs → length (partsLineAt rs i) ≤ partsLineMost)
     records-short = subst (λ (rs : List (List ℤ)). (length rs ≤ rowsMost) × ((i : ℕ) → i < length rs → length (partsLineAt rs i) ≤ partsLineMost)) (sym records-first) (records-few, lines-short)
-
--- ---- what is left
-module _ (given : Table) (r : Judgement) (said : saidJudgement r (front given) ≡ judgeLent given) (out : List ℕ) where
-  pub text-judged-not : (w : Refusal) → r ≡ Refused w → _≡_ {A = TextLeft} (record { answer = refused w; out = out }) (marginsTextLeft given out)
-  unfolding marginsTextLeft
-  text-judged-not w e = text-refused out (then-refused _ (sym said ∙ ap (λ (j : Judgement). saidJudgement j (front given)) e))
-
-  pub text-judged : r ≡ Passed → textLeft (passed (partsText (recordsOf (front given)))) out ≡ marginsTextLeft given out
-  unfolding marginsTextLeft
-  text-judged e = ap (λ (j : Judged (List ℕ)). textLeft j out) (sym (then-next _ (told-judged None given r said e)))

@@ -1,19 +1,15 @@
--- What each row's margin is made of, as text: a `V` line for each row, and what the open call `margins_text` leaves.
+-- What each row's margin is made of, as text: a `V` line for each row.
 use mathlib.Core.List.{List, [], _∷_}
 use Prim.Native.Char.{code}
 use Prim.Native.Nat.{ℕ, _+_, _*_}
 use lib.IntN.{ℤ}
 use lib.ListN.{length, getD}
 use Rattle.limits.specs.Limits.{rowsMost}
-use Rattle.refusals.specs.Refusals.{passed, then}
 use Rattle.types.specs.LineColumns.{Column, number, signed}
 use Rattle.text.specs.Fields.{tab}
-use Rattle.text.specs.Left.{TextLeft, textLeft}
 use Rattle.text.specs.Written.{linesText}
 use Rattle.columns.specs.declared.Head.the-variants.{Indexed}
 use Rattle.columns.specs.ColumnText.{columnsText}
-use Rattle.table.specs.Table.{judgeLent, Table}
-use Rattle.parts.specs.Parts.{recordsOf}
 
 -- the columns of a V line after the index, in the order of a record
 abbrev pub partsColumns : List Column
@@ -50,7 +46,3 @@ partsLineMost = 2 + 4 + 12 * 17
 -- no text is longer: so many bytes are always enough
 abbrev pub partsMost : ℕ
 partsMost = rowsMost * partsLineMost
-
--- refusals as for the records, except that room for records is never short here; and then room for the bytes of the text
-unfoldable pub marginsTextLeft : (given : Table) → (out : List ℕ) → TextLeft
-marginsTextLeft given out = textLeft (then (judgeLent given) (λ t. passed (partsText (recordsOf t)))) out

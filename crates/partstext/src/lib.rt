@@ -10,10 +10,9 @@ ghost use Rattle.text.specs.Put.{Put};
 ghost use Rattle.table.specs.Table.{lent, front};
 ghost use Rattle.table.specs.Good.{Good};
 ghost use Rattle.parts.specs.Parts.{recordsOf};
-ghost use Rattle.partstext.specs.PartsText.{partsLine, partsLineAt, partsLineMost, partsText, marginsTextLeft};
+ghost use Rattle.partstext.specs.PartsText.{partsLine, partsLineAt, partsLineMost, partsText};
 use columns::Head;
 use parts::PartsRecord;
-use refusals::Judgement;
 use refusals::Refusal;
 use refusals::Written;
 use types::BorderRecord;
@@ -28,24 +27,6 @@ const LINE_MOST: usize = 2 + 4 + parts::ITEMS * 17;
 
 // No text has more bytes: a caller that lends so many has room for any.
 pub const TEXT_MOST: usize = limits::ROWS_MOST * LINE_MOST;
-
-// What the margins of a lent table's rows are made of, as text. Any input has an answer: there is no `requires`.
-pub fn margins_text(
-    h: Header,
-    z: &[i64],
-    t: &[i64],
-    b: &[BorderRecord],
-    c: &[RowRecord],
-    f: &[i64],
-    out: &mut [u8],
-) -> Written
-    ensures { λ r. ⌜ textSaid r (now (out .exit)) ≡ marginsTextLeft (lent h (now (z .entry)) (now (t .entry)) (now (b .entry)) (now (c .entry)) (now (f .entry))) (now (out .entry)) ⌝ }
-{
-    if let Judgement::Refused(w) = table::judge(h, z, t, b, c, f, table::Room::None) {
-        return Written::Refused(w);
-    }
-    margins_text_good(h, z, t, b, c, f, out)
-}
 
 // What the margins of a good table's rows are made of, as text. The records stand in working memory, which has room for every table.
 pub fn margins_text_good(

@@ -12,6 +12,7 @@ use Rattle.refusals.specs.Refusals.{Judged, passed, refused, refusal, then, eit
 use Rattle.types.specs.declared.Header.{Header}
 use Rattle.types.specs.Ranges.{headerFits, allocatedItems, zoneFits, exists, hubsFit, borderFits, shareOf, rowOf, rowFits, factorFits}
 use Rattle.text.specs.Fields.{numberAt, signedAt, shareAt}
+use Rattle.text.specs.Point.{decimalsAt, pointAt, signedPointAt}
 use Rattle.text.specs.Shown.{shown}
 use Rattle.columns.specs.Columns.{fieldAt, fieldsAt}
 use Rattle.columns.specs.ColumnLine.{headAt, restAt, columnsLine}
@@ -21,11 +22,12 @@ use Rattle.blame.specs.RangeBlame.{pastSeps, rangeByte}
 use Rattle.sections.specs.Section.{linesAt}
 use Rattle.table.specs.Table.{Table, lent, balanced, twice, roomFor}
 use Rattle.lines.specs.Lines.{headerLine, positionLine, borderLine, rowLine}
-use Rattle.corrections.specs.Corrections.{ofRow, endedIndex, givenIndex, dueIndex}
+use Rattle.lines.specs.SheetLine.{sheetLine}
+use Rattle.corrections.specs.Corrections.{sheetKind, ofRow, endedIndex, givenIndex, dueIndex}
 use Rattle.reading.specs.Reading.{linesBy, readText, readCorrected, tablesLeft, readCorrectedLeft}
 
 unfoldable computing : Unit {0}
-unfolding firstFrom given inside sameℤ sumℤ headerFits allocatedItems zoneFits exists hubsFit borderFits shareOf rowOf rowFits factorFits then either unless refuseAt refuseFirst need numberAt signedAt shareAt fieldAt fieldsAt headAt restAt columnsLine optionalLine goodAt byteAt fieldsByte lineByte pastSeps rangeByte linesAt balanced twice roomFor headerLine positionLine borderLine rowLine ofRow endedIndex givenIndex dueIndex linesBy readText readCorrected tablesLeft
+unfolding firstFrom given inside sameℤ sumℤ headerFits allocatedItems zoneFits exists hubsFit borderFits shareOf rowOf rowFits factorFits then either unless refuseAt refuseFirst need numberAt signedAt shareAt decimalsAt pointAt signedPointAt fieldAt fieldsAt headAt restAt columnsLine optionalLine goodAt byteAt fieldsByte lineByte pastSeps rangeByte linesAt balanced twice roomFor headerLine positionLine borderLine rowLine sheetLine sheetKind ofRow endedIndex givenIndex dueIndex linesBy readText readCorrected tablesLeft
 computing = tt
 
 abbrev rows : String
@@ -40,6 +42,10 @@ plain = day "H 2 1 2/Z 0 5/Z 1 -5/B 0 0 1 100/"
 -- row 1 with other values, and "-" for R
 abbrev noon : List ℕ
 noon = shown "C 1 90 1 2 3 - 4 5 -6 7/"
+
+-- the same row as the planners' sheet has it
+abbrev semicolons : List ℕ
+semicolons = shown "1;0.090;0.001;0.002;0.003;-;0.004;0.005;-0.00006;0.00007/"
 
 abbrev merged : (share : ℤ) → (intraday : ℕ) → (allocated : List ℤ) → Table
 merged share intraday allocated =
@@ -56,11 +62,13 @@ answered text corrections = readCorrectedLeft text corrections [] [] [] [] [] .a
 pub noons : Hold (
     -- the sheet's row where it has one, and else the day's
     readCorrected plain noon is passed (merged (minus 1) 0 [])  -- one
+    ∷ readCorrected plain semicolons is passed (merged (minus 1) 0 [])  -- semicolons
     -- all but the rows is the day's: the default of R, and the profile
     ∷ readCorrected (day "H 2 1 2 6000/Z 0 5/Z 1 -5/B 0 0 1 100/") noon is passed (merged (pos 6000) 0 [])  -- default
     ∷ readCorrected (day "H 2 1 2/Z 0 5/Z 1 -5/T 0 3/T 1 -3/B 0 0 1 100/") noon is passed (merged (minus 1) 1 (pos 3 ∷ minus 3 ∷ []))  -- intraday
     -- 10, the sheet's line and its byte
     ∷ readCorrected plain (shown "C 1 90 1 2 3 - 4 5 -6 7/C 1 90 1 2 3 - 4 5 -6 7/") is bad 10 2 3  -- faulty
+    ∷ readCorrected plain (semicolons ++ noon) is bad 10 2 1  -- another-kind
     -- after 2, 3 and 4 of the day's text, and before 8
     ∷ readCorrected (day "H 2 1 2/Z 0 5/Z 1 -5/B 0 0 1 +1/") (shown "x") is bad 2 4 9  -- after-2
     ∷ readCorrected (day "H 2 1 2/Z 0 5/Z 1 -5/B 0 0 0 100/") (shown "x") is bad 3 4 7  -- after-3

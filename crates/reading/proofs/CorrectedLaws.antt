@@ -18,7 +18,7 @@ use Rattle.sections.proofs.SectionRecords.{lines-then}
 use Rattle.table.specs.Table.{Table, lent, twice, rowLineNo, pastLineNo}
 use Rattle.table.specs.Good.{Good, Shaped}
 use Rattle.lines.specs.Lines.{RowLine, rowLine}
-use Rattle.corrections.specs.Corrections.{pieces, handedOn, judgeCorrections}
+use Rattle.corrections.specs.Corrections.{Piece, handedBy, judgeCorrections}
 use Rattle.sections.specs.Rows.{valuesOf, factorsOf, asGiven}
 use Rattle.sections.proofs.PickedLaws.{picked-read}
 use Rattle.reading.specs.Reading.{rowsFrom, linesBy, linesOf, readText, readCorrected}
@@ -28,10 +28,10 @@ use Rattle.reading.proofs.JudgedTextLaws.{with-read}
 
 -- ---- the rows as a good sheet corrects them, where the day's lines are good
 module _ (text sheet : List ℕ) (h : Header) (nets allocated : List ℤ) (borders : List (List ℤ)) (q : ℕ)
-    (left : (pick : List ℕ → ℕ → List ℕ) → linesBy pick text ≡ rowsFrom pick text h nets allocated borders q) where
+    (left : (pick : Piece → ℕ → Piece) → linesBy pick text ≡ rowsFrom pick text h nets allocated borders q) where
   pub record Merged : Type 0 where
     pub lines : List RowLine
-    pub is : linesBy (handedOn (pieces sheet)) text ≡ passed (lent h nets allocated borders (valuesOf lines) (factorsOf lines))
+    pub is : linesBy (handedBy sheet) text ≡ passed (lent h nets allocated borders (valuesOf lines) (factorsOf lines))
 
   abbrev afterRows : List RowLine → ℕ → Judged Table
   afterRows rows e = cond (ltb e (length text)) (refused (wrongForm (pastLineNo h))) (passed (lent h nets allocated borders (valuesOf rows) (factorsOf rows)))
@@ -41,7 +41,7 @@ module _ (text sheet : List ℕ) (h : Header) (nets allocated : List ℤ) (borde
       lines-then t (linesAt (rowLine (h .zones)) (rowLineNo h) (h .rows) text q 0) afterRows (sym (left asGiven) ∙ day) (λ lines e rows-are rest.
       let l = cond-passed e (length text) (wrongForm (pastLineNo h)) _ t rest in
       let c = picked-read (h .zones) (h .rows) sheet good (rowLineNo h) text (h .rows) q 0 lines e rows-are in
-      record { lines = c .held; is = left (handedOn (pieces sheet)) ∙ with-read _ afterRows (c .held) e (c .is) ∙ rw (le-ltb e (length text) (l .0)) })
+      record { lines = c .held; is = left (handedBy sheet) ∙ with-read _ afterRows (c .held) e (c .is) ∙ rw (le-ltb e (length text) (l .0)) })
 
 -- ---- which judgement decides
 module _ (text sheet : List ℕ) where
@@ -51,7 +51,7 @@ module _ (text sheet : List ℕ) where
 
   module _ (short : length sheet ≤ bytesMost) where
     abbrev afterDay : Table → Judged Table
-    afterDay day = then (judgeCorrections (day .header .zones) (day .header .rows) sheet) (λ _. linesBy (handedOn (pieces sheet)) text)
+    afterDay day = then (judgeCorrections (day .header .zones) (day .header .rows) sheet) (λ _. linesBy (handedBy sheet) text)
 
     past-length : readCorrected text sheet ≡ then (readText text) afterDay
     unfolding readCorrected
@@ -64,7 +64,7 @@ module _ (text sheet : List ℕ) where
       past-day : readCorrected text sheet ≡ afterDay t
       past-day = past-length ∙ then-next afterDay (sym day)
 
-      pub sheet-passes : passed tt ≡ judgeCorrections (t .header .zones) (t .header .rows) sheet → readCorrected text sheet ≡ linesBy (handedOn (pieces sheet)) text
+      pub sheet-passes : passed tt ≡ judgeCorrections (t .header .zones) (t .header .rows) sheet → readCorrected text sheet ≡ linesBy (handedBy sheet) text
       sheet-passes e = past-day ∙ then-next _ (sym e)
 
     -- ---- the day's length, and then the lines of both
@@ -83,7 +83,7 @@ pub record Corrected (text sheet : List ℕ) (t : Table) : Type 0 where
   pub short : length sheet ≤ bytesMost
   pub good : judgeCorrections (day .header .zones) (day .header .rows) sheet ≡ passed tt
   pub others : t ≡ lent (day .header) (day .nets) (day .allocated) (day .borders) (t .rows) (t .factors)
-  pub opened : Opened (handedOn (pieces sheet)) text t
+  pub opened : Opened (handedBy sheet) text t
 
 days-others : (day t : Table) (v : List (List ℤ)) (f : List ℤ) → let made = lent (day .header) (day .nets) (day .allocated) (day .borders) in passed (made v f) ≡ passed t → t ≡ made (t .rows) (t .factors)
 days-others day t v f e =
@@ -106,14 +106,14 @@ corrected text sheet t e =
       short = a .0;
       good = s .first;
       others = days-others day t _ _ (sym (m .is) ∙ s .second);
-      opened = opened (handedOn (pieces sheet)) text t (s .second);
+      opened = opened (handedBy sheet) text t (s .second);
     }
 
 pub corrected-good : (text sheet : List ℕ) (t : Table) → readCorrected text sheet ≡ passed t → Good t
 corrected-good text sheet t e =
     let c = corrected text sheet t e in
-    opened-good (handedOn (pieces sheet)) text t (c .opened)
+    opened-good (handedBy sheet) text t (c .opened)
     (subst (λ (u : Table). (b : ℕ) → b < u .header .borders → twice (u .borders) b ≡ false) (sym (c .others)) (reading text (c .day) (c .read) .once))
 
 pub corrected-shaped : (text sheet : List ℕ) (t : Table) → readCorrected text sheet ≡ passed t → Shaped t
-corrected-shaped text sheet t e = opened-shaped (handedOn (pieces sheet)) text t (corrected text sheet t e .opened)
+corrected-shaped text sheet t e = opened-shaped (handedBy sheet) text t (corrected text sheet t e .opened)

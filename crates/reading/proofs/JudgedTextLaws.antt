@@ -34,7 +34,7 @@ use Rattle.lines.specs.Lines.{RowLine, headerLine, zoneLine, allocatedLine, bor
 use Rattle.lines.specs.declared.row.RowKind.the-variants as rowKind
 use Rattle.lines.proofs.HeaderTrip.{header-read}
 use Rattle.lines.proofs.ZoneTrip.{zone-read}
-use Rattle.corrections.specs.Corrections.{pieces, handedOn, judgeCorrections}
+use Rattle.corrections.specs.Corrections.{Piece, handedBy, judgeCorrections}
 use Rattle.sections.specs.Rows.{valuesOf, factorsOf, cut, asGiven, pickedRow, correctedBy}
 use Rattle.sections.proofs.RowLaws.{cut-long, cut-values, cut-factors}
 use Rattle.sections.proofs.PickedLaws.{SectionRead, both-fault, both-read}
@@ -118,10 +118,10 @@ module _ {text : List ℕ} {counts : Header} {at : ℕ} (u : Headed text counts 
   pub at-within : at ≤ length text
   at-within = omega (arith, u .at-is, after-within text 0 (omega arith))
 
-  abbrev afterNets : (pick : List ℕ → ℕ → List ℕ) → List ℤ → ℕ → Judged Table
+  abbrev afterNets : (pick : Piece → ℕ → Piece) → List ℤ → ℕ → Judged Table
   afterNets pick nets p = allocatedFrom pick text (profiled counts (intradayAt text p)) nets p
 
-  past-header : (pick : List ℕ → ℕ → List ℕ) → linesBy pick text ≡ withLines (netsSection text counts at) (afterNets pick)
+  past-header : (pick : Piece → ℕ → Piece) → linesBy pick text ≡ withLines (netsSection text counts at) (afterNets pick)
   unfolding linesBy
   past-header pick = rw (u .header-is, u .at-is)
 
@@ -143,7 +143,7 @@ module _ {text : List ℕ} {h : Header} {z : List ℤ} {at : ℕ} (u : Netted te
   pub netted : HeaderIn h
   netted = header-in h (u .fits)
 
-  abbrev afterSum : (pick : List ℕ → ℕ → List ℕ) → List ℤ → ℕ → Judged Table
+  abbrev afterSum : (pick : Piece → ℕ → Piece) → List ℤ → ℕ → Judged Table
   afterSum pick allocated o = unless (balanced allocated) (outOfRangeAt (lastAllocatedLineNo h) (balanceByte (h .zones))) (bordersFrom pick text h (take (h .zones) z) allocated o)
 
   pub allocated-refused : (sheet : List ℕ) (w : Refusal) → fault w ≡ allocatedSection text h at → refused w ≡ readShort text sheet
@@ -156,7 +156,7 @@ module _ {text : List ℕ} {h : Header} {z : List ℤ} {at : ℕ} (u : Netted te
         let f = section-fits allocatedLine (allocatedLineNo h) (λ i net. zoneFits net ≡ true) (λ line i net e. zone-read _ line i net e .1) (allocatedItems h) text at 0 t o (sym section) in
         (f .0, record { at = λ i l. zone-in _ (fits-at (λ i net. zoneFits net ≡ true) (pos 0) t 0 (f .1) i l) })
 
-    past-allocated : (pick : List ℕ → ℕ → List ℕ) → linesBy pick text ≡ afterSum pick t o
+    past-allocated : (pick : Piece → ℕ → Piece) → linesBy pick text ≡ afterSum pick t o
     past-allocated pick = u .left pick ∙ with-read _ (afterSum pick) t o (sym section)
 
     pub unbalanced : (sheet : List ℕ) → balanced t ≡ false → refused (outOfRangeAt (lastAllocatedLineNo h) (balanceByte (h .zones))) ≡ readShort text sheet
@@ -176,7 +176,7 @@ module _ {text : List ℕ} {h : Header} {z t : List ℤ} {at : ℕ} (u : Allocat
   pub bounds : HeaderIn h
   bounds = header-in h (u .fits)
 
-  abbrev afterBorders : (pick : List ℕ → ℕ → List ℕ) → List (List ℤ) → ℕ → Judged Table
+  abbrev afterBorders : (pick : Piece → ℕ → Piece) → List (List ℤ) → ℕ → Judged Table
   afterBorders pick borders q = rowsFrom pick text h (take (h .zones) z) (take (allocatedItems h) t) borders q
 
   pub borders-refused : (sheet : List ℕ) (w : Refusal) → fault w ≡ bordersSection text h at → refused w ≡ readShort text sheet
@@ -227,13 +227,13 @@ module _ {text : List ℕ} {h : Header} {z t : List ℤ} {b : List (List ℤ)} {
   daySection = linesAt (rowLine (h .zones)) (rowLineNo h) (h .rows) text at 0
 
   abbrev pub rowsSection : Section RowLine
-  rowsSection = linesAt (correctedBy rowKind.Table (h .zones) (handedOn (pieces (usedOf held sheet)))) (rowLineNo h) (h .rows) text at 0
+  rowsSection = linesAt (correctedBy rowKind.Table (h .zones) (handedBy (usedOf held sheet))) (rowLineNo h) (h .rows) text at 0
 
   -- the rows' section by the names of the code: its first line, how many lines, and the sheet in use
-  pub rows-lent : (first n : ℕ) (used : List ℕ) → first ≡ rowLineNo h → n ≡ h .rows → used ≡ usedOf held sheet → linesAt (correctedBy rowKind.Table (h .zones) (handedOn (pieces used))) first n text at 0 ≡ rowsSection
+  pub rows-lent : (first n : ℕ) (used : List ℕ) → first ≡ rowLineNo h → n ≡ h .rows → used ≡ usedOf held sheet → linesAt (correctedBy rowKind.Table (h .zones) (handedBy used)) first n text at 0 ≡ rowsSection
   rows-lent first n used ef en eu =
-      ap₂ (λ (k m : ℕ). linesAt (correctedBy rowKind.Table (h .zones) (handedOn (pieces used))) k m text at 0) ef en
-      ∙ ap (λ (s : List ℕ). linesAt (correctedBy rowKind.Table (h .zones) (handedOn (pieces s))) (rowLineNo h) (h .rows) text at 0) eu
+      ap₂ (λ (k m : ℕ). linesAt (correctedBy rowKind.Table (h .zones) (handedBy used)) k m text at 0) ef en
+      ∙ ap (λ (s : List ℕ). linesAt (correctedBy rowKind.Table (h .zones) (handedBy s)) (rowLineNo h) (h .rows) text at 0) eu
 
   good : judgeCorrections (h .zones) (h .rows) (usedOf held sheet) ≡ passed tt
   good = used-good (h .zones) (h .rows) sheet held ruling
@@ -242,7 +242,7 @@ module _ {text : List ℕ} {h : Header} {z t : List ℤ} {b : List (List ℤ)} {
   rows-refused w e = lines-refused text sheet w (sym (u .left asGiven ∙ with-fault _ afterRows w (both-fault (h .zones) (h .rows) (usedOf held sheet) good (rowLineNo h) text (h .rows) at 0 w (sym e))))
 
   module _ (c : List (List ℤ)) (f : List ℤ) (e : ℕ) (section : read (cut (h .zones) c f) e ≡ rowsSection) where
-    readSections : SectionRead daySection e × (linesAt (pickedRow (h .zones) (handedOn (pieces (usedOf held sheet)))) (rowLineNo h) (h .rows) text at 0 ≡ read (cut (h .zones) c f) e)
+    readSections : SectionRead daySection e × (linesAt (pickedRow (h .zones) (handedBy (usedOf held sheet))) (rowLineNo h) (h .rows) text at 0 ≡ read (cut (h .zones) c f) e)
     readSections = both-read (h .zones) (h .rows) (usedOf held sheet) good (rowLineNo h) text (h .rows) at 0 (cut (h .zones) c f) e (sym section)
 
     past-rows : linesOf text ≡ afterRows (readSections .0 .held) e
@@ -262,18 +262,18 @@ module _ {text : List ℕ} {h : Header} {z t : List ℤ} {b : List (List ℤ)} {
       day-is = past-rows ∙ rw (le-ltb e (length text) whole)
 
       abbrev afterDay : Table → Judged Table
-      afterDay d = then (judgeCorrections (d .header .zones) (d .header .rows) sheet) (λ _. linesBy (handedOn (pieces sheet)) text)
+      afterDay d = then (judgeCorrections (d .header .zones) (d .header .rows) sheet) (λ _. linesBy (handedBy sheet) text)
 
       past-lines : readShort text sheet ≡ then (notTwice day) afterDay
       unfolding readShort
       past-lines = ap (λ (j : Judged Table). then j afterDay) (then-next notTwice day-is)
 
       -- with the sheet's own lines
-      merged-is : held ≡ judgement.Passed → linesBy (handedOn (pieces sheet)) text ≡ passed (lent h nets allocated borders c f)
+      merged-is : held ≡ judgement.Passed → linesBy (handedBy sheet) text ≡ passed (lent h nets allocated borders c f)
       merged-is k =
           let own : usedOf held sheet ≡ sheet = ap (λ (j : Judgement). usedOf j sheet) k in
-          let handed = subst (λ (s : List ℕ). linesAt (pickedRow (h .zones) (handedOn (pieces s))) (rowLineNo h) (h .rows) text at 0 ≡ read (cut (h .zones) c f) e) own (readSections .1) in
-          u .left (handedOn (pieces sheet)) ∙ with-read _ afterRows (cut (h .zones) c f) e handed
+          let handed = subst (λ (s : List ℕ). linesAt (pickedRow (h .zones) (handedBy s)) (rowLineNo h) (h .rows) text at 0 ≡ read (cut (h .zones) c f) e) own (readSections .1) in
+          u .left (handedBy sheet) ∙ with-read _ afterRows (cut (h .zones) c f) e handed
           ∙ rw (le-ltb e (length text) whole, cut-values (h .zones) c f, cut-factors (h .zones) c f (long ∙ ap (λ (n : ℕ). n * h .zones) (sym rows-long)))
 
       pub lines-done : (r : TableRead) (c′ : List (List ℤ)) (f′ : List ℤ) → saidRead r ≡ judgedLast h held borders → readInto r z t b (c ++ c′) (f ++ f′) ≡ readShort text sheet

@@ -23,6 +23,7 @@ use Rattle.table.specs.Table.{Table, stretch, balanced, twice, notTwice, header
 use Rattle.table.specs.Good.{Good, Shaped}
 use Rattle.table.proofs.GoodLaws.{row-good, flat-fit}
 use Rattle.lines.specs.Lines.{RowLine, headerLine, zoneLine, allocatedLine, borderLine}
+use Rattle.corrections.specs.Corrections.{Piece, piece}
 use Rattle.sections.specs.Rows.{valuesOf, factorsOf, asGiven, pickedRow}
 use Rattle.sections.proofs.RowLaws.{emptyRow, values-long, values-at, factors-long, stretch-of}
 use Rattle.reading.specs.Reading.{withHeader, intradayAt, rowsFrom, linesBy, linesOf, readText}
@@ -38,7 +39,7 @@ profile-given h true = refl
 profile-given h false = refl
 
 -- ---- the chain of H, Z, T, B, C lines and the end of the text, opened. All but the rows is the same whichever lines are picked for them (`left`)
-pub record Opened (pick : List ℕ → ℕ → List ℕ) (text : List ℕ) (t : Table) : Type 0 where
+pub record Opened (pick : Piece → ℕ → Piece) (text : List ℕ) (t : Table) : Type 0 where
   pub lines : List RowLine
   pub p : ℕ
   pub o : ℕ
@@ -55,7 +56,7 @@ pub record Opened (pick : List ℕ → ℕ → List ℕ) (text : List ℕ) (t : 
   pub whole : length text ≤ e
   pub values-are : valuesOf lines ≡ t .rows
   pub factors-are : factorsOf lines ≡ t .factors
-  pub left : (other : List ℕ → ℕ → List ℕ) → linesBy other text ≡ rowsFrom other text (t .header) (t .nets) (t .allocated) (t .borders) q
+  pub left : (other : Piece → ℕ → Piece) → linesBy other text ≡ rowsFrom other text (t .header) (t .nets) (t .allocated) (t .borders) q
 
 header-then : {P : Type 0} (t : Table) (l : Line Header) (next : Header → Judged Table) → withHeader l next ≡ passed t → ((h : Header) → l ≡ holds h → next h ≡ passed t → P) → P
 header-then t (holds h) next e k = k h refl e
@@ -70,7 +71,7 @@ cond-passed a b w x t e = go (ltb a b) refl e
     go true q e = absurd (not-passed w t e)
     go false q e = (ltb-false a b q, e)
 
-rows-left : (pick : List ℕ → ℕ → List ℕ) (text : List ℕ) (counts : Header) (nets : List ℤ) (p : ℕ) (allocated : List ℤ) (o : ℕ) (borders : List (List ℤ)) (q : ℕ)
+rows-left : (pick : Piece → ℕ → Piece) (text : List ℕ) (counts : Header) (nets : List ℤ) (p : ℕ) (allocated : List ℤ) (o : ℕ) (borders : List (List ℤ)) (q : ℕ)
     → let h = profiled counts (intradayAt text p) in
     headerLine (lineAt text 0) ≡ holds counts
     → linesAt zoneLine zoneLineNo (counts .zones) text (after text 0) 0 ≡ read nets p
@@ -81,7 +82,7 @@ rows-left : (pick : List ℕ → ℕ → List ℕ) (text : List ℕ) (counts : H
 unfolding linesBy unless
 rows-left pick text counts nets p allocated o borders q eh en ea eb ec = rw (eh, en, ea, eb, ec)
 
-pub opened : (pick : List ℕ → ℕ → List ℕ) (text : List ℕ) (t : Table) → linesBy pick text ≡ passed t → Opened pick text t
+pub opened : (pick : Piece → ℕ → Piece) (text : List ℕ) (t : Table) → linesBy pick text ≡ passed t → Opened pick text t
 unfolding linesBy
 opened pick text t e =
     header-then t (headerLine (lineAt text 0)) _ e (λ counts header-is e1.
@@ -128,7 +129,7 @@ reading text t e =
     record { short = a .0; lines = w .first ∙ ap passed u; once = subst (λ (x : Table). (b : ℕ) → b < x .header .borders → twice (x .borders) b ≡ false) u (f .0) }
 
 -- ---- a table that was read is good
-module _ (pick : List ℕ → ℕ → List ℕ) (text : List ℕ) (t : Table) (o : Opened pick text t) where
+module _ (pick : Piece → ℕ → Piece) (text : List ℕ) (t : Table) (o : Opened pick text t) where
   pub fits : headerFits (t .header) ≡ true
   fits = o .header-fits
 
@@ -150,7 +151,7 @@ module _ (pick : List ℕ → ℕ → List ℕ) (text : List ℕ) (t : Table) (o
 
   pub rows-held : (length (o .lines) ≡ t .header .rows) × allFit (RowHeldAt (t .header .zones)) 0 (o .lines)
   rows-held =
-      section-fits (pickedRow (t .header .zones) pick) (rowLineNo (t .header)) (RowHeldAt (t .header .zones)) (λ line i c e. row-read rowKind.Table (t .header .zones) (pick line i) i c e .1)
+      section-fits (pickedRow (t .header .zones) pick) (rowLineNo (t .header)) (RowHeldAt (t .header .zones)) (λ line i c e. let p = pick (piece rowKind.Table line) i in row-read (p .kind) (t .header .zones) (p .line) i c e .1)
       (t .header .rows) text (o .q) 0 (o .lines) (o .e) (o .rows-are)
 
   border-at : (b : ℕ) → b < t .header .borders → BorderHeld (t .header .zones) (getD (t .borders) b [])

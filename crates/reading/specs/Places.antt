@@ -16,7 +16,7 @@ use Rattle.types.specs.Ranges.{headerFits, allocatedItems}
 use Rattle.text.specs.Line.{lineAt, after, holds}
 use Rattle.table.specs.Table.{Table, twice, notTwice}
 use Rattle.lines.specs.Lines.{headerLine}
-use Rattle.corrections.specs.Corrections.{pieces, handedOn, judgeCorrections}
+use Rattle.corrections.specs.Corrections.{Piece, handedBy, judgeCorrections}
 use Rattle.reading.specs.declared.TableRead.{TableRead}
 use Rattle.reading.specs.Reading.{allocatedFrom, bordersFrom, rowsFrom, linesBy, linesOf, ReadLeft}
 use Rattle.reading.specs.Answers.{saidRead}
@@ -38,26 +38,26 @@ pub record Headed (text : List ℕ) (h : Header) (at : ℕ) : Type 0 where
 pub record Netted (text : List ℕ) (h : Header) (z : List ℤ) (at : ℕ) : Type 0 where
   pub fits : headerFits h ≡ true
   pub within : at ≤ length text
-  pub left : (pick : List ℕ → ℕ → List ℕ) → linesBy pick text ≡ allocatedFrom pick text h (take (h .zones) z) at
+  pub left : (pick : Piece → ℕ → Piece) → linesBy pick text ≡ allocatedFrom pick text h (take (h .zones) z) at
 
 -- where the reading stands after the T lines
 pub record Allocated (text : List ℕ) (h : Header) (z t : List ℤ) (at : ℕ) : Type 0 where
   pub fits : headerFits h ≡ true
   pub within : at ≤ length text
-  pub left : (pick : List ℕ → ℕ → List ℕ) → linesBy pick text ≡ bordersFrom pick text h (take (h .zones) z) (take (allocatedItems h) t) at
+  pub left : (pick : Piece → ℕ → Piece) → linesBy pick text ≡ bordersFrom pick text h (take (h .zones) z) (take (allocatedItems h) t) at
 
 -- where the reading stands after the B lines
 pub record Bordered (text : List ℕ) (h : Header) (z t : List ℤ) (b : List (List ℤ)) (at : ℕ) : Type 0 where
   pub fits : headerFits h ≡ true
   pub within : at ≤ length text
-  pub left : (pick : List ℕ → ℕ → List ℕ) → linesBy pick text ≡ rowsFrom pick text h (take (h .zones) z) (take (allocatedItems h) t) (take (h .borders) b) at
+  pub left : (pick : Piece → ℕ → Piece) → linesBy pick text ≡ rowsFrom pick text h (take (h .zones) z) (take (allocatedItems h) t) (take (h .borders) b) at
 
 -- texts that are not too long, read: 2 and 3, then 4, then 10
 unfoldable pub readShort : (text sheet : List ℕ) → Judged Table
 readShort text sheet =
     then (then (linesOf text) notTwice) (λ day.
     then (judgeCorrections (day .header .zones) (day .header .rows) sheet) (λ _.
-    linesBy (handedOn (pieces sheet)) text))
+    linesBy (handedBy sheet) text))
 
 -- the sheet whose lines are handed on while its judgement is held back: where it is refused, none of them is
 abbrev pub usedOf : (held : Judgement) → (sheet : List ℕ) → List ℕ

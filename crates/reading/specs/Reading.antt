@@ -1,5 +1,5 @@
 -- Reading the table (01, "The table as text", "When the table is turned away"), with or without a correction sheet (02, E2), and what the open calls `read` and
--- `read_corrected` leave. Which line is handed on for a row is said by `pick`, of the day's line and the row's index: the day's own (`asGiven`), or by a sheet (`handedOn`).
+-- `read_corrected` (crate lending) leave. Which line is handed on for a row is said by `pick`, of the day's line and the row's index: the day's own (`asGiven`), or by a sheet (`handedBy`).
 use mathlib.Core.Bool.{Bool, cond}
 use mathlib.Core.List.{List}
 use Prim.Native.Char.{code}
@@ -16,7 +16,7 @@ use Rattle.text.specs.Line.{lineAt, after, Line, holds, form, range}
 use Rattle.sections.specs.Section.{linesAt, withLines}
 use Rattle.table.specs.Table.{Table, lent, front, balanced, notTwice, tableRoom, headerLineNo, zoneLineNo, allocatedLineNo, lastAllocatedLineNo, borderLineNo, rowLineNo, pastLineNo}
 use Rattle.lines.specs.Lines.{headerLine, zoneLine, allocatedLine, borderLine}
-use Rattle.corrections.specs.Corrections.{pieces, handedOn, judgeCorrections}
+use Rattle.corrections.specs.Corrections.{Piece, handedBy, judgeCorrections}
 use Rattle.sections.specs.Rows.{valuesOf, factorsOf, asGiven, pickedRow}
 use Rattle.reading.specs.declared.TableRead.{TableRead}
 use Rattle.reading.specs.declared.TableRead.the-variants as read
@@ -35,27 +35,27 @@ abbrev pub balanceByte : (zones : ℕ) → ℕ
 balanceByte zones = cond (leb zones 10) 5 6
 
 -- all C lines, from place q on; nothing follows
-abbrev pub rowsFrom : (pick : List ℕ → ℕ → List ℕ) → (text : List ℕ) → Header → (nets allocated : List ℤ) → (borders : List (List ℤ)) → (q : ℕ) → Judged Table
+abbrev pub rowsFrom : (pick : Piece → ℕ → Piece) → (text : List ℕ) → Header → (nets allocated : List ℤ) → (borders : List (List ℤ)) → (q : ℕ) → Judged Table
 rowsFrom pick text h nets allocated borders q =
     withLines (linesAt (pickedRow (h .zones) pick) (rowLineNo h) (h .rows) text q 0) (λ rows e.
     cond (ltb e (length text)) (refused (wrongForm (pastLineNo h)))
     (passed (record { header = h; nets = nets; allocated = allocated; borders = borders; rows = valuesOf rows; factors = factorsOf rows })))
 
 -- all B lines, from place o on, and then all C lines
-abbrev pub bordersFrom : (pick : List ℕ → ℕ → List ℕ) → (text : List ℕ) → Header → (nets allocated : List ℤ) → (o : ℕ) → Judged Table
+abbrev pub bordersFrom : (pick : Piece → ℕ → Piece) → (text : List ℕ) → Header → (nets allocated : List ℤ) → (o : ℕ) → Judged Table
 bordersFrom pick text h nets allocated o =
     withLines (linesAt (borderLine (h .zones)) (borderLineNo h) (h .borders) text o 0) (λ borders q.
     rowsFrom pick text h nets allocated borders q)
 
 -- from `place` on no T line, or one for each zone, whose positions sum to zero (judged at the last T line); and then all B and C lines
-abbrev pub allocatedFrom : (pick : List ℕ → ℕ → List ℕ) → (text : List ℕ) → Header → (nets : List ℤ) → (place : ℕ) → Judged Table
+abbrev pub allocatedFrom : (pick : Piece → ℕ → Piece) → (text : List ℕ) → Header → (nets : List ℤ) → (place : ℕ) → Judged Table
 allocatedFrom pick text h nets place =
     withLines (linesAt allocatedLine (allocatedLineNo h) (allocatedItems h) text place 0) (λ allocated o.
     unless (balanced allocated) (outOfRangeAt (lastAllocatedLineNo h) (balanceByte (h .zones)))
     (bordersFrom pick text h nets allocated o))
 
 -- one H line, then all Z, T (where the table has them), B, C lines, each kind by index from 0; nothing follows
-unfoldable pub linesBy : (pick : List ℕ → ℕ → List ℕ) → (text : List ℕ) → Judged Table
+unfoldable pub linesBy : (pick : Piece → ℕ → Piece) → (text : List ℕ) → Judged Table
 linesBy pick text =
     withHeader (headerLine (lineAt text 0)) (λ counts.
     withLines (linesAt zoneLine zoneLineNo (counts .zones) text (after text 0) 0) (λ nets place.
@@ -75,7 +75,7 @@ readCorrected text sheet =
     cond (ltb bytesMost (length sheet)) (refused tooLong)
     (then (readText text) (λ day.
     then (judgeCorrections (day .header .zones) (day .header .rows) sheet) (λ _.
-    linesBy (handedOn (pieces sheet)) text)))
+    linesBy (handedBy sheet) text)))
 
 -- what reading leaves: its answer, and each lent table
 pub record ReadLeft : Type 0 where

@@ -1,5 +1,8 @@
 // Prints why a border got no more, for the texts that were read: apart from the other words, whose crates it needs none of.
+ghost use Prim.Native.Nat.{_≤_};
+ghost use lib.ListN.{length};
 ghost use Rattle.io.specs.Counts.{Counts};
+ghost use Rattle.result.specs.Refusal.{refusalMost};
 use arguments::Piece;
 use command::input::Text;
 use output::Ended;
@@ -45,10 +48,16 @@ fn print_lent<'a>(
     text: &'a [u8],
     sheet: &'a [u8],
     out: &mut [u8],
-) -> Reasoned {
+) -> Reasoned
+    requires { ⌜ refusalMost ≤ length (now out) ⌝ }
+{
     match whytext::put(border, all, marks, text, sheet, out) {
         Told::Bytes(n) => Reasoned::Printed(put_front(out, n)),
         Told::NoBorder(borders) => Reasoned::NoBorder(borders),
+        Told::Refused(w) => {
+            let n = output::refusal_line(w, out);
+            Reasoned::Printed(put_front(out, n))
+        }
     }
 }
 

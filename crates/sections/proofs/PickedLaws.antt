@@ -1,4 +1,4 @@
--- C lines with a good correction sheet (02, E2): as the day's text has them, as they are handed on, and as they are read (`correctedBy`): the day's fault, or else
+-- C lines with a good correction sheet of either kind (02, E2): as the day's text has them, as they are handed on, and as they are read (`correctedBy`): the day's fault, or else
 -- what is handed on. No contract cites this file.
 use mathlib.Core.Path.{_≡_, refl, sym, ap, _∙_}
 use mathlib.Core.List.{List, [], _∷_}
@@ -10,7 +10,7 @@ use Rattle.sections.specs.Section.{Section, read, fault, more, onLine, l
 use Rattle.sections.proofs.SectionLaws.{no-read, read-is}
 use Rattle.lines.specs.Lines.{RowLine, rowLine}
 use Rattle.lines.specs.declared.row.RowKind.the-variants.{Table}
-use Rattle.corrections.specs.Corrections.{pieces, handedOn, judgeCorrections}
+use Rattle.corrections.specs.Corrections.{pieces, sheetKind, piece, handedBy, judgeCorrections}
 use Rattle.corrections.proofs.SheetLaws.{handed-good}
 use Rattle.sections.specs.Rows.{pickedRow, instead, correctedBy}
 
@@ -30,7 +30,7 @@ more-follows a b (fault w) y = refl
 
 module _ (zones rows : ℕ) (sheet : List ℕ) (good : judgeCorrections zones rows sheet ≡ passed tt) (first : ℕ) (text : List ℕ) where
   abbrev merged : List ℕ → ℕ → Line RowLine
-  merged = pickedRow zones (handedOn (pieces sheet))
+  merged = pickedRow zones (handedBy sheet)
 
   abbrev day : (n p i : ℕ) → Section RowLine
   day n p i = linesAt (rowLine zones) first n text p i
@@ -39,7 +39,7 @@ module _ (zones rows : ℕ) (sheet : List ℕ) (good : judgeCorrections zones ro
   handed n p i = linesAt merged first n text p i
 
   abbrev both : (n p i : ℕ) → Section RowLine
-  both n p i = linesAt (correctedBy Table zones (handedOn (pieces sheet))) first n text p i
+  both n p i = linesAt (correctedBy Table zones (handedBy sheet)) first n text p i
 
   -- rows that the day's text has are handed on good, and end where they ended
   pub picked-read : (n p i : ℕ) (xs : List RowLine) (e : ℕ) → day n p i ≡ read xs e → SectionRead (handed n p i) e
@@ -50,7 +50,7 @@ module _ (zones rows : ℕ) (sheet : List ℕ) (good : judgeCorrections zones ro
       go : (l : Line RowLine) → rowLine zones (lineAt text p) i ≡ l → (x y : Section RowLine) → ((ys : List RowLine) (d : ℕ) → x ≡ read ys d → SectionRead y d)
           → onLine l (first + i) x ≡ read xs e → SectionRead (onLine (merged (lineAt text p) i) (first + i) y) e
       go (holds a) k (read ys d) y ih q =
-          let h = handed-good zones rows 0 1 (pieces sheet) good (lineAt text p) i (record { it = a; is = k }) in
+          let h = handed-good (sheetKind sheet) zones rows 0 1 (pieces sheet) good (piece Table (lineAt text p)) i (record { it = a; is = k }) in
           let r = ih ys d refl in
           record {
             held = h .it ∷ r .held;
@@ -68,7 +68,7 @@ module _ (zones rows : ℕ) (sheet : List ℕ) (good : judgeCorrections zones ro
       go : (l : Line RowLine) → rowLine zones (lineAt text p) i ≡ l → (b x y : Section RowLine) → b ≡ follows x y
           → onLine (instead l (merged (lineAt text p) i)) (first + i) b ≡ follows (onLine l (first + i) x) (onLine (merged (lineAt text p) i) (first + i) y)
       go (holds a) k b x y ih =
-          let h = handed-good zones rows 0 1 (pieces sheet) good (lineAt text p) i (record { it = a; is = k }) in
+          let h = handed-good (sheetKind sheet) zones rows 0 1 (pieces sheet) good (piece Table (lineAt text p)) i (record { it = a; is = k }) in
           ap (onLine (merged (lineAt text p) i) (first + i)) ih
           ∙ ap (λ (m : Line RowLine). onLine m (first + i) (follows x y)) (h .is)
           ∙ more-follows a (h .it) x y

@@ -1,6 +1,6 @@
 -- The laws of `specs/Rows.antt`: a row's line and the line handed on for it; what rows' lines hold, put together (row after row) and cut up again. No contract cites this file.
 use mathlib.Core.Path.{_≡_, refl, sym, ap, ap₂, _∙_}
-use mathlib.Core.Bool.{false}
+use mathlib.Core.Bool.{true, false}
 use mathlib.Core.List.{List, [], _∷_, _++_, append-assoc}
 use Prim.Native.Nat.{ℕ, zero, suc, _+_, _*_, _<_}
 use native.Mathlib.Nat.{suc-mul, zero-mul, not-suc-le-zero}
@@ -18,8 +18,8 @@ use Rattle.lines.specs.SaidRow.{saidRow, lineBy}
 use Rattle.lines.specs.declared.row.RowKind.{RowKind}
 use Rattle.lines.specs.declared.row.RowJudged.{RowJudged}
 use Rattle.lines.specs.declared.row.RowJudged.the-variants.{Holds, Form, Range}
-use Rattle.corrections.specs.Corrections.{pieces, ofRow, handedOn}
-use Rattle.corrections.specs.Alongside.{lineFor}
+use Rattle.corrections.specs.Corrections.{piece, rowIn, ofRow, handedBy}
+use Rattle.corrections.specs.Alongside.{lineFor, pieceFor}
 use Rattle.sections.specs.Rows.{valuesOf, factorsOf, cut, instead, correctedBy}
 use Rattle.lines.proofs.RowTrip.{RowHeldAt}
 
@@ -33,16 +33,18 @@ own-instead (holds a) = refl
 own-instead (form byte) = refl
 own-instead (range byte) = refl
 
-module _ (kind : RowKind) (n : ℕ) (next day : List ℕ) (i : ℕ) where
+module _ (kind by : RowKind) (n : ℕ) (next day : List ℕ) (i : ℕ) where
   abbrev handed : Line RowLine
-  handed = lineBy kind n (lineFor next day i) i
+  handed = rowIn n (pieceFor by next (piece kind day) i) i
 
-  pub own-handed : ofRow next i ≡ false → handed ≡ instead (lineBy kind n day i) handed
+  -- the sheet has no line of the row
+  pub own-handed : ofRow by next i ≡ false → lineBy kind n (lineFor by next day i) i ≡ instead (lineBy kind n day i) handed
   own-handed q = rw q (own-instead (lineBy kind n day i))
 
   module _ (judged : RowJudged) (raw f : List ℤ) (said : saidRow judged raw f ≡ lineBy kind n day i) where
-    pub handed-holds : judged ≡ Holds → handed ≡ instead (lineBy kind n day i) handed
-    handed-holds e = rw (← said, e)
+    -- it has one, and the day's is good
+    pub handed-holds : ofRow by next i ≡ true → judged ≡ Holds → lineBy by n (lineFor by next day i) i ≡ instead (lineBy kind n day i) handed
+    handed-holds q e = rw (q, ← said, e)
 
     pub handed-form : {byte : ℕ} → judged ≡ Form byte → saidRow judged raw f ≡ instead (lineBy kind n day i) handed
     handed-form e = rw (← said, e)
@@ -51,7 +53,7 @@ module _ (kind : RowKind) (n : ℕ) (next day : List ℕ) (i : ℕ) where
     handed-range e = rw (← said, e)
 
 -- with no sheet's line, rows are read as their own lines
-pub own-section : (kind : RowKind) (zones first n : ℕ) (text : List ℕ) (p i : ℕ) → linesAt (correctedBy kind zones (handedOn (pieces []))) first n text p i ≡ linesAt (lineBy kind zones) first n text p i
+pub own-section : (kind : RowKind) (zones first n : ℕ) (text : List ℕ) (p i : ℕ) → linesAt (correctedBy kind zones (handedBy [])) first n text p i ≡ linesAt (lineBy kind zones) first n text p i
 own-section kind zones first n text p i = section-same _ (lineBy kind zones) (λ line i. sym (own-instead (lineBy kind zones line i))) first n text p i
 
 -- ---- put together

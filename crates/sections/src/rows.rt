@@ -12,8 +12,8 @@ ghost use Rattle.limits.specs.Limits.{zonesMost};
 ghost use Rattle.refusals.specs.Refusals.{passed};
 ghost use Rattle.sections.specs.Section.{linesAt};
 ghost use Rattle.lines.specs.SaidRow.{saidRow, lineBy};
-ghost use Rattle.corrections.specs.Corrections.{pieces, handedOn, judgeCorrections};
-ghost use Rattle.corrections.specs.Alongside.{lineFor};
+ghost use Rattle.corrections.specs.Corrections.{piece, rowIn, handedBy, judgeCorrections};
+ghost use Rattle.corrections.specs.Alongside.{pieceFor};
 ghost use Rattle.sections.specs.Rows.{cut, instead, correctedBy};
 ghost use Rattle.sections.specs.Stored.{storedSection};
 
@@ -32,15 +32,16 @@ pub fn rows_read<'a>(
 ) -> End
     requires { ⌜ (at ≤ length (now text)) × (first + length (now c) < 2 ^ 64) × (length (now f) ≡ length (now c) * zones) × (0 < zones) × (zones ≤ zonesMost) ⌝ }
     requires { ⌜ judgeCorrections zones (length (now c)) (now sheet) ≡ passed tt ⌝ }
-    ensures { λ r. ⌜ storedSection r (cut zones (now (c .exit)) (now (f .exit))) ≡ linesAt (correctedBy kind zones (handedOn (pieces (now (sheet .entry))))) first (length (now (c .entry))) (now (text .entry)) at 0 ⌝ }
+    ensures { λ r. ⌜ storedSection r (cut zones (now (c .exit)) (now (f .exit))) ≡ linesAt (correctedBy kind zones (handedBy (now (sheet .entry)))) first (length (now (c .entry))) (now (text .entry)) at 0 ⌝ }
 {
+    let by = corrections::kind::sheet_kind(sheet);
     let mut p = at;
     let mut s = 0;
     for i in 0..c.len() {
         let given = text::line::line_at(text, p);
         let next = text::line::line_at(sheet, s);
         let start = i * zones;
-        let row = row_corrected(kind, next, given, i, &mut f[start..start + zones]);
+        let row = row_corrected(kind, by, next, given, i, &mut f[start..start + zones]);
         let judged = row.judged;
         match judged {
             RowJudged::Holds => {
@@ -53,31 +54,33 @@ pub fn rows_read<'a>(
                 byte,
             )),
         }
-        s = corrections::handed::sheet_after(next, s, i);
+        s = corrections::handed::sheet_after(by, next, s, i);
         p += given.len();
     }
     End::At(p)
 }
 
-// Reads the line that is handed on for row i. Where that is the sheet's, the day's is judged before: what it holds is written over.
+// Reads the line that is handed on for row i, by its kind: that of the day's text, or `by`, the sheet's. Where it is the sheet's, the day's is judged before:
+// what it holds is written over.
 fn row_corrected<'a>(
     kind: RowKind,
+    by: RowKind,
     next: &'a [u8],
     day: &'a [u8],
     i: usize,
     f: &mut [i64],
 ) -> RowRead
     requires { ⌜ (0 < length (now f)) × (length (now f) ≤ zonesMost) ⌝ }
-    ensures { λ r. ⌜ saidRow (r .judged) (r .raw) (now (f .exit)) ≡ instead (lineBy kind (length (now (f .entry))) (now (day .entry)) i) (lineBy kind (length (now (f .entry))) (lineFor (now (next .entry)) (now (day .entry)) i) i) ⌝ }
+    ensures { λ r. ⌜ saidRow (r .judged) (r .raw) (now (f .exit)) ≡ instead (lineBy kind (length (now (f .entry))) (now (day .entry)) i) (rowIn (length (now (f .entry))) (pieceFor by (now (next .entry)) (piece kind (now (day .entry))) i) i) ⌝ }
 {
-    let line = corrections::handed::row_line(next, day, i);
-    if !corrections::handed::of_row(next, i) {
+    let line = corrections::handed::row_line(by, next, day, i);
+    if !corrections::handed::of_row(by, next, i) {
         return lines::row::row_read(kind, line, i, f);
     }
     let given = lines::row::row_read(kind, day, i, f);
     let judged = given.judged;
     match judged {
-        RowJudged::Holds => lines::row::row_read(kind, line, i, f),
+        RowJudged::Holds => lines::row::row_read(by, line, i, f),
         RowJudged::Form(_) => given,
         RowJudged::Range(_) => given,
     }

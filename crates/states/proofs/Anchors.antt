@@ -1,10 +1,11 @@
 -- Small computed states. Nobody cites them: they refuse a definition that slipped (01, "Slips seen in hand sheets").
-use mathlib.Core.Path.{_≡_, refl}
+use mathlib.Core.Path.{refl}
 use mathlib.Core.List.{List, [], _∷_}
 use Prim.Native.Nat.{ℕ}
 use lib.IntN.{ℤ, pos}
 use Rattle.numbers.specs.Below.{sum, table, firstFrom, given}
 use Rattle.numbers.specs.Ints.{minus, maxℤ, minℤ, positivePart, sameℤ, sumℤ}
+use Rattle.numbers.specs.Computed.{_is_, Hold}
 use Rattle.types.specs.Ranges.{hubsOf, borderOf, shareOf, rowOf, worth, defaultOf}
 use Rattle.table.specs.Table.{Table, stretch}
 use Rattle.margin.specs.Margin.{grains, f0coreOf, fuafOf, baseOf, amrOf, signedFactor, pOf, ltaKw, sOf, ltaMarginOf, ramOf, ramAt, ramsOf}
@@ -25,16 +26,15 @@ rowsWith zones rows factors =
 abbrev statesWith : (zones rows : ℕ) → (factors : List ℤ) → List ℕ
 statesWith zones rows factors = let t = rowsWith zones rows factors in statesOf (t .header) (t .factors) (ramsOf t)
 
-pub record Anchors : Type 0 where
-  -- spread 5000: kept; 4999: state 1
-  pub spread-5000 : statesWith 2 1 (pos 5000 ∷ pos 0 ∷ []) ≡ 0 ∷ []
-  pub spread-4999 : statesWith 2 1 (pos 4999 ∷ pos 0 ∷ []) ≡ 1 ∷ []
-  -- zone 2 is in no border, and its factor counts for the spread (02, E3)
-  pub outside-5000 : statesWith 3 1 (pos 0 ∷ pos 0 ∷ pos 5000 ∷ []) ≡ 0 ∷ []
-  pub outside-4999 : statesWith 3 1 (pos 0 ∷ pos 0 ∷ pos 4999 ∷ []) ≡ 1 ∷ []
-  -- of two rows with equal RAM and equal factors the second is state 2
-  pub tie : statesWith 2 2 (pos 5000 ∷ pos 0 ∷ pos 5000 ∷ pos 0 ∷ []) ≡ 0 ∷ 2 ∷ []
-
-pub anchors : Anchors
+pub anchors : Hold (
+    -- spread 5000: kept; 4999: state 1
+    statesWith 2 1 (pos 5000 ∷ pos 0 ∷ []) is (0 ∷ [])  -- spread-5000
+    ∷ statesWith 2 1 (pos 4999 ∷ pos 0 ∷ []) is (1 ∷ [])  -- spread-4999
+    -- zone 2 is in no border, and its factor counts for the spread (02, E3)
+    ∷ statesWith 3 1 (pos 0 ∷ pos 0 ∷ pos 5000 ∷ []) is (0 ∷ [])  -- outside-5000
+    ∷ statesWith 3 1 (pos 0 ∷ pos 0 ∷ pos 4999 ∷ []) is (1 ∷ [])  -- outside-4999
+    -- of two rows with equal RAM and equal factors the second is state 2
+    ∷ statesWith 2 2 (pos 5000 ∷ pos 0 ∷ pos 5000 ∷ pos 0 ∷ []) is (0 ∷ 2 ∷ [])  -- tie
+    ∷ [])
 unfolding sum table firstFrom given maxℤ minℤ positivePart sameℤ sumℤ hubsOf borderOf shareOf rowOf worth defaultOf stretch grains f0coreOf fuafOf baseOf amrOf signedFactor pOf ltaKw sOf ltaMarginOf ramOf ramAt highest lowest spreadOf shifted below stateOf
-anchors = record { spread-5000 = refl; spread-4999 = refl; outside-5000 = refl; outside-4999 = refl; tie = refl }
+anchors = refl

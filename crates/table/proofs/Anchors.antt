@@ -7,6 +7,7 @@ use native.Mathlib.Omega.{arith}
 use lib.IntN.{ℤ, pos}
 use Rattle.numbers.specs.Below.{firstFrom, given}
 use Rattle.numbers.specs.Ints.{minus, sameℤ, sumℤ, inside}
+use Rattle.numbers.specs.Computed.{_is_, Hold}
 use Rattle.refusals.specs.Refusals.{refused, then, unless, refuseAt, refuseFirst, need, outOfRange, tooShort}
 use Rattle.types.specs.Ranges.{headerFits, allocatedItems, zoneFits, exists, hubsFit, borderFits, shareOf, rowOf, rowFits, factorFits}
 use Rattle.table.specs.Table.{Table, stretch, balanced, sameEnds, twice, roomFor, judgeShape, judgeFor, judgeLent}
@@ -24,10 +25,6 @@ frmAbove =
       factors = pos 0 ∷ pos 0 ∷ pos 0 ∷ pos 0 ∷ [];
     }
 
-pub row-line : judgeLent frmAbove ≡ refused (outOfRange 6)
-unfolding firstFrom given sameℤ sumℤ inside headerFits allocatedItems zoneFits exists hubsFit borderFits shareOf rowOf rowFits factorFits then unless refuseAt refuseFirst need stretch balanced roomFor judgeShape judgeFor
-row-line = refl
-
 -- the table with T records (02, E12): they have lines 4 and 5, and the C lines come two lines later
 abbrev withT : (mark : ℕ) → (allocated : List ℤ) → Table
 withT mark allocated =
@@ -40,30 +37,29 @@ withT mark allocated =
       factors = frmAbove .factors;
     }
 
-pub record Allocated : Type 0 where
-  pub later : judgeLent (withT 1 (pos 5 ∷ minus 5 ∷ [])) ≡ refused (outOfRange 8)
-  -- T positions that do not sum to zero: the last T line; one out of range: its own line, and first
-  pub sum : judgeLent (withT 1 (pos 5 ∷ minus 4 ∷ [])) ≡ refused (outOfRange 5)
-  pub range : judgeLent (withT 1 (pos 100000001 ∷ minus 4 ∷ [])) ≡ refused (outOfRange 4)
-  -- too few T records, which is 8; where the header says that there are none, lent T records are not looked at
-  pub few : judgeLent (withT 1 (pos 0 ∷ [])) ≡ refused (tooShort 2)
-  pub without : judgeLent (withT 0 (pos 1 ∷ [])) ≡ refused (outOfRange 6)
-  -- no text gives another mark than 0 and 1
-  pub mark : judgeLent (withT 2 (pos 0 ∷ pos 0 ∷ [])) ≡ refused (outOfRange 1)
-
-pub allocated : Allocated
+pub allocated : Hold (
+    judgeLent frmAbove is refused (outOfRange 6)  -- row-line
+    ∷ judgeLent (withT 1 (pos 5 ∷ minus 5 ∷ [])) is refused (outOfRange 8)  -- later
+    -- T positions that do not sum to zero: the last T line; one out of range: its own line, and first
+    ∷ judgeLent (withT 1 (pos 5 ∷ minus 4 ∷ [])) is refused (outOfRange 5)  -- sum
+    ∷ judgeLent (withT 1 (pos 100000001 ∷ minus 4 ∷ [])) is refused (outOfRange 4)  -- range
+    -- too few T records, which is 8; where the header says that there are none, lent T records are not looked at
+    ∷ judgeLent (withT 1 (pos 0 ∷ [])) is refused (tooShort 2)  -- few
+    ∷ judgeLent (withT 0 (pos 1 ∷ [])) is refused (outOfRange 6)  -- without
+    -- no text gives another mark than 0 and 1
+    ∷ judgeLent (withT 2 (pos 0 ∷ pos 0 ∷ [])) is refused (outOfRange 1)  -- mark
+    ∷ [])
 unfolding firstFrom given sameℤ sumℤ inside headerFits allocatedItems zoneFits exists hubsFit borderFits shareOf rowOf rowFits factorFits then unless refuseAt refuseFirst need stretch balanced roomFor judgeShape judgeFor
-allocated = record { later = refl; sum = refl; range = refl; few = refl; without = refl; mark = refl }
+allocated = refl
 
 -- border 0 to 1, by hubs 2 and 3: given again, by the same hubs in the other order, and without hubs
-pub record Ends : Type 0 where
-  pub again : sameEnds (pos 0 ∷ pos 1 ∷ pos 5 ∷ pos 2 ∷ pos 3 ∷ []) (pos 0 ∷ pos 1 ∷ pos 6 ∷ pos 2 ∷ pos 3 ∷ []) ≡ true
-  pub turned : sameEnds (pos 0 ∷ pos 1 ∷ pos 5 ∷ pos 2 ∷ pos 3 ∷ []) (pos 0 ∷ pos 1 ∷ pos 5 ∷ pos 3 ∷ pos 2 ∷ []) ≡ false
-  pub without : sameEnds (pos 0 ∷ pos 1 ∷ pos 5 ∷ pos 2 ∷ pos 3 ∷ []) (pos 0 ∷ pos 1 ∷ pos 5 ∷ minus 1 ∷ minus 1 ∷ []) ≡ false
-
-pub ends : Ends
+pub ends : Hold (
+    sameEnds (pos 0 ∷ pos 1 ∷ pos 5 ∷ pos 2 ∷ pos 3 ∷ []) (pos 0 ∷ pos 1 ∷ pos 6 ∷ pos 2 ∷ pos 3 ∷ []) is true  -- again
+    ∷ sameEnds (pos 0 ∷ pos 1 ∷ pos 5 ∷ pos 2 ∷ pos 3 ∷ []) (pos 0 ∷ pos 1 ∷ pos 5 ∷ pos 3 ∷ pos 2 ∷ []) is false  -- turned
+    ∷ sameEnds (pos 0 ∷ pos 1 ∷ pos 5 ∷ pos 2 ∷ pos 3 ∷ []) (pos 0 ∷ pos 1 ∷ pos 5 ∷ minus 1 ∷ minus 1 ∷ []) is false  -- without
+    ∷ [])
 unfolding sameℤ
-ends = record { again = refl; turned = refl; without = refl }
+ends = refl
 
 -- Good tables with a value at both ends of every range, with hubs and without, with "-" and without: what a narrower `Good` would leave out
 abbrev widest : (mark : ℕ) → (share : ℤ) → (allocated : List ℤ) → Table

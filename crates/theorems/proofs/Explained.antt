@@ -1,4 +1,4 @@
--- What a border's reasons say (crate why: specs/Reasoned), of every accepted table: there is a row that ended the rise of each marked border, the explanation adds up to the grain, what each row
+-- What a border's reasons say (crate reasoned), of every accepted table: there is a row that ended the rise of each marked border, the explanation adds up to the grain, what each row
 -- would allow is as said, and the row that the result names holds the border. From the rounds' own theorems, by what p of the grid is.
 use mathlib.Core.Path.{_≡_, refl, sym, ap, subst, _∙_}
 use mathlib.Core.Bool.{Bool, true, false, cond}
@@ -37,8 +37,9 @@ use Rattle.promises.specs.Demand.{startKw, lessSOf, remainderOf, startMargin, l
 use Rattle.theorems.proofs.Demand3.{accepted-demand-3}
 use Rattle.theorems.proofs.SetupLaws.{loads-takes, p-marked, p-unmarked, marked-loaded}
 use Rattle.theorems.proofs.RoundStops.{after-rounds, stop-row-is, stop-row-found, never-raised, never-stopped}
-use Rattle.why.specs.Why.{endRow, allowedBy, Why, whyMarked, reasonsMarked}
-use Rattle.why.specs.Reasoned.{EndedBy, BorderEnded, NotEnded, AsResult, usedOf, AddsUp, Allows, NamedHolds}
+use Rattle.holding.specs.Holding.{endRow, allowedBy}
+use Rattle.why.specs.Why.{Why, whyMarked, reasonsMarked}
+use Rattle.reasoned.specs.Reasoned.{EndedBy, BorderEnded, NotEnded, AsResult, usedOf, AddsUp, Allows, NamedHolds}
 
 -- ---- of rounds on a grid
 -- after its last round the rules raise a border no more

@@ -18,7 +18,7 @@ use Rattle.rounds.specs.Rounds.{Grid, State, raise, next, raised, Rounds, done,
 use Rattle.rounds.specs.Last.{after, raiseIn, lastTo, LastRaise, lastRound}
 use Rattle.rounds.specs.Stopping.{equalShareKw, stopping, stopRow, Stops}
 use Rattle.rounds.proofs.Round.{raiser, raise-falls}
-use Rattle.why.proofs.GridLaws.{unloaded-raise}
+use Rattle.rounds.proofs.Reach.{unloaded-raise}
 use Rattle.theorems.proofs.Rounds.{stopped}
 
 -- ---- after

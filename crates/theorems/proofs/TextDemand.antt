@@ -117,10 +117,10 @@ result-text-not-7 all marks given out none-taken =
 
 -- `answer`, `answer_marked` and `answer_corrected` print a refusal.
 -- The outcome of a table is refused by 5, 6, 7 or 13 alone
-abbrev Late : ℕ → Type 0
+abbrev pub Late : ℕ → Type 0
 Late n = (n ≡ 5) ⊎ ((n ≡ 6) ⊎ ((n ≡ 7) ⊎ (n ≡ 13)))
 
-outcome-late : (all : Bool) (marks : List ℕ) (t : Table) → Told Late (outcomeFor all marks t)
+pub outcome-late : (all : Bool) (marks : List ℕ) (t : Table) → Told Late (outcomeFor all marks t)
 unfolding outcomeFor outcomeMarked judgeBy gridBy setupWith judgeMarks
 outcome-late all marks t = go all
   where

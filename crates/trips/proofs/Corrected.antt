@@ -1,23 +1,31 @@
--- Correction sheets and the table's text (02, E2): demand 2 of the merged table, and that the day's own C lines change nothing.
-use mathlib.Core.Path.{_≡_, refl, sym, ap, _∙_}
+-- Correction sheets and the table's text (02, E2): demand 2 of the merged table, and that the day's own rows change nothing.
+use mathlib.Core.Path.{_≡_, refl, sym, ap, subst, _∙_}
 use mathlib.Core.List.{List}
 use Prim.Native.Nat.{ℕ, _≤_}
 use native.Mathlib.Omega.{arith}
-use lib.ListN.{length, take}
+use lib.ListN.{length, take, length-drop}
 use lib.Seq.{take-at}
 use Rattle.numbers.specs.Below.{over}
+use Rattle.limits.specs.Limits.{bytesMost}
 use Rattle.refusals.specs.Refusals.{Judged, passed}
 use Rattle.refusals.proofs.RefusalLaws.{passed-is, then-passed, then-next, answer-passed, need-passed}
 use Rattle.text.specs.Left.{TextLeft, textLeft}
 use Rattle.text.proofs.LeftLaws.{text-left}
 use Rattle.table.specs.Table.{Table}
+use Rattle.table.specs.Good.{Good}
+use Rattle.lines.specs.declared.row.RowKind.{RowKind}
+use Rattle.lines.specs.declared.row.RowKind.the-variants as rowKind
+use Rattle.layout.specs.Layout.{rowsTextBy}
 use Rattle.sections.specs.Rows.{asGiven}
 use Rattle.reading.specs.Reading.{readText, readCorrected}
-use Rattle.reading.proofs.ReadLaws.{opened, reading}
+use Rattle.reading.proofs.ReadLaws.{Opened, opened, reading, rows-held, read-good}
 use Rattle.reading.proofs.CorrectedLaws.{corrected-good, corrected-shaped}
 use Rattle.trips.proofs.OwnLines.{own-lines}
-use Rattle.writing.specs.Writing.{tableText, rowsText, rewriteCorrectedLeft}
-use Rattle.trips.proofs.TableTrip.{rows-text}
+use Rattle.rowsheet.specs.RowSheet.{sheetOf}
+use Rattle.rowsheet.proofs.JudgedLaws.{never-too-long}
+use Rattle.writing.specs.Writing.{tableText, rewriteCorrectedLeft}
+use Rattle.trips.proofs.SectionTrip.{rows-section}
+use Rattle.trips.proofs.TableTrip.{rows-text, rows-good}
 use Rattle.trips.proofs.RoundTrip.{write-read}
 
 -- the merged table, written, reads back as itself without a sheet
@@ -39,8 +47,21 @@ rewritten-reads-back text sheet out n e =
     let bytes : length (tableText t) ≡ n = ap length whole ∙ passed-is _ _ (a .2) in
     ap readText (ap (take n) left ∙ take-at (tableText t) _ n bytes) ∙ merged-reads-back text sheet t (m .first) ∙ sym (m .first)
 
--- a sheet of all the day's own C lines changes nothing
-pub own-lines-change-nothing : (text : List ℕ) (t : Table) → readText text ≡ passed t → readCorrected text (rowsText (t .header .zones) (t .rows) (t .factors)) ≡ readText text
-own-lines-change-nothing text t e =
-    let o = opened asGiven text t (reading text t e .lines) in
-    ap (readCorrected text) (rows-text text t o) ∙ own-lines text t e o ∙ sym e
+-- a sheet of all the day's own rows changes nothing, of either kind: C lines, or lines of the planners' sheet
+pub own-lines-change-nothing : (kind : RowKind) (text : List ℕ) (t : Table) → readText text ≡ passed t → readCorrected text (rowsTextBy kind (t .header .zones) (t .rows) (t .factors)) ≡ readText text
+unfolding sheetOf
+own-lines-change-nothing kind text t e =
+    let rows = rows-section kind (t .header .zones) (t .rows) (t .factors) (o .lines) (o .values-are) (o .factors-are) (rows-held asGiven text t o .1) in
+    ap (readCorrected text) rows ∙ own-lines kind text t e o (subst (λ (l : List ℕ). length l ≤ bytesMost) rows (short kind)) ∙ sym e
+  where
+    o : Opened asGiven text t
+    o = opened asGiven text t (reading text t e .lines)
+
+    g : Good t
+    g = read-good text t e
+
+    short : (k : RowKind) → length (rowsTextBy k (t .header .zones) (t .rows) (t .factors)) ≤ bytesMost
+    short rowKind.Table = omega (arith, ap length (rows-text text t o), length-drop (o .q) text, reading text t e .short)
+    short rowKind.Sheet =
+        never-too-long (t .header) (record { rows = t .rows; factors = t .factors }) (g .exact .header) (g .exact .rows-long) (g .exact .factors-long)
+        (rows-good t g)

@@ -1,3 +1,4 @@
+pub mod FirstLine
 pub mod OwnLines
 pub mod SectionTrip
 pub mod TableTrip

@@ -12,14 +12,33 @@ use Rattle.sections.proofs.SectionRecords.{lines-section}
 use Rattle.table.specs.Table.{Table, factorsAt, stretch}
 use Rattle.lines.specs.Lines.{RowLine}
 use Rattle.sections.specs.Rows.{valuesOf, factorsOf}
-use Rattle.lines.proofs.RowTrip.{RowHeldAt}
-use Rattle.sections.proofs.RowLaws.{emptyRow, values-at, stretch-of}
-use Rattle.layout.specs.Layout.{headerText, zoneText, allocatedText, borderText, rowText}
+use Rattle.lines.specs.RowKinds.{rowTextBy}
+use Rattle.lines.specs.declared.row.RowKind.{RowKind}
+use Rattle.lines.specs.declared.row.RowKind.the-variants as rowKind
+use Rattle.lines.proofs.RowTrip.{textBy, RowHeldAt}
+use Rattle.sections.proofs.RowLaws.{emptyRow, values-long, values-at, stretch-of}
+use Rattle.layout.specs.Layout.{headerText, zoneText, allocatedText, borderText, rowText, rowTextIn, rowsTextBy}
 use Rattle.writing.specs.Writing.{tableText}
 
 -- a C line by what reading holds of it
 abbrev pub rowLineOf : (i : ℕ) → RowLine → List ℕ
 rowLineOf i c = rowText i (c .values) (c .factors)
+
+-- ---- the lines of rows, by their kind
+module _ (kind : RowKind) (zones : ℕ) (rows : List (List ℤ)) (factors : List ℤ) (lines : List RowLine) (values-are : valuesOf lines ≡ rows) (factors-are : factorsOf lines ≡ factors) (held : allFit (RowHeldAt zones) 0 lines) where
+  rows-many : length lines ≡ length rows
+  rows-many = sym (values-long lines) ∙ ap length values-are
+
+  row-is : (k : ℕ) → k < length lines → rowTextIn kind zones rows factors k ≡ textBy kind k (getD lines k emptyRow)
+  row-is k h =
+      ap₂ (λ (v f : List ℤ). rowTextBy kind k v f)
+      (ap (λ (l : List (List ℤ)). getD l k []) (sym values-are) ∙ values-at lines k)
+      (ap (λ (f : List ℤ). stretch zones f k) (sym factors-are) ∙ stretch-of zones lines 0 held k h)
+
+  pub rows-section : rowsTextBy kind zones rows factors ≡ sectionText (textBy kind) 0 lines
+  rows-section =
+      subst (λ (n : ℕ). linesText n 0 (rowTextIn kind zones rows factors) ≡ sectionText (textBy kind) 0 lines) rows-many
+      (lines-section (textBy kind) emptyRow lines 0 _ (λ k h. rw (zero-add k) (row-is k h)))
 
 -- ---- the whole text
 module _ (t : Table) (lines : List RowLine) where
@@ -46,16 +65,10 @@ module _ (t : Table) (lines : List RowLine) where
     borders-lines : linesText (t .header .borders) 0 (λ i. borderText i (getD (t .borders) i [])) ≡ sectionText borderText 0 (t .borders)
     borders-lines = rw (← l .borders-long) (lines-section borderText [] (t .borders) 0 _ (λ k h. rw (zero-add k)))
 
-    pub rows-lines : linesText (t .header .rows) 0 (λ i. rowText i (getD (t .rows) i []) (factorsAt t i)) ≡ sectionText rowLineOf 0 lines
+    rows-lines : linesText (t .header .rows) 0 (λ i. rowText i (getD (t .rows) i []) (factorsAt t i)) ≡ sectionText rowLineOf 0 lines
     rows-lines =
-        subst (λ (n : ℕ). linesText n 0 (λ i. rowText i (getD (t .rows) i []) (factorsAt t i)) ≡ sectionText rowLineOf 0 lines) (l .lines-long)
-        (lines-section rowLineOf emptyRow lines 0 _ (λ k h. rw (zero-add k) (line k h)))
-      where
-        line : (k : ℕ) → k < length lines → rowText k (getD (t .rows) k []) (factorsAt t k) ≡ rowLineOf k (getD lines k emptyRow)
-        line k h =
-            ap₂ (λ (v f : List ℤ). rowText k v f)
-            (ap (λ (rows : List (List ℤ)). getD rows k []) (sym (l .values-are)) ∙ values-at lines k)
-            (ap (λ (f : List ℤ). stretch (t .header .zones) f k) (sym (l .factors-are)) ∙ stretch-of (t .header .zones) lines 0 (l .held) k h)
+        subst (λ (n : ℕ). linesText n 0 (λ i. rowText i (getD (t .rows) i []) (factorsAt t i)) ≡ sectionText rowLineOf 0 lines) (ap length (sym (l .values-are)) ∙ values-long lines ∙ l .lines-long)
+        (rows-section rowKind.Table (t .header .zones) (t .rows) (t .factors) lines (l .values-are) (l .factors-are) (l .held))
 
     pub text-sections : tableText t ≡ sections
     unfolding tableText

@@ -6,7 +6,6 @@ use mathlib.Core.Bool.{true, not, cond}
 use mathlib.Core.Logic.{⊎-elim}
 use mathlib.Core.List.{List, [], _++_, append-nil}
 use Prim.Native.Nat.{ℕ, _+_, _*_, _^_, _≤_, _<_}
-use native.Mathlib.Nat.{zero-add}
 use native.Mathlib.Omega.{arith}
 use borrow.Author.Tests.{le-ltb}
 use lib.Dec.{ltb}
@@ -23,20 +22,19 @@ use Rattle.types.specs.LineColumns.{rowItems}
 use Rattle.types.specs.Ranges.{headerFits}
 use Rattle.types.proofs.RangeLaws.{header-in}
 use Rattle.text.specs.Left.{TextLeft, textLeft}
-use Rattle.text.specs.Written.{linesText}
 use Rattle.text.proofs.LeftLaws.{text-refused, text-short, text-left}
 use Rattle.sections.specs.Section.{read}
 use Rattle.sections.proofs.SectionLaws.{sectionText, allFit, section-read}
-use Rattle.sections.proofs.SectionRecords.{fits-all, lines-section, lines-goes}
+use Rattle.sections.proofs.SectionRecords.{fits-all, lines-goes}
 use Rattle.table.specs.Table.{rowGood, stretch}
 use Rattle.table.proofs.GoodLaws.{stretch-long}
 use Rattle.lines.specs.Lines.{RowLine}
 use Rattle.lines.specs.declared.row.RowKind.the-variants as rowKind
 use Rattle.lines.proofs.RowTrip.{textBy, RowHeld, RowHeldAt, row-read, row-written, row-one}
-use Rattle.layout.specs.Layout.{rowTextIn}
 use Rattle.sections.specs.Rows.{valuesOf, factorsOf, cut}
-use Rattle.sections.proofs.RowLaws.{emptyRow, values-at, stretch-of, cut-long, cut-values, cut-factors, cut-at}
-use Rattle.lines.specs.SheetLine.{sheetLine, sheetText}
+use Rattle.sections.proofs.RowLaws.{emptyRow, values-at, cut-long, cut-values, cut-factors, cut-at}
+use Rattle.lines.specs.SheetLine.{sheetLine}
+use Rattle.trips.proofs.SectionTrip.{rows-section}
 use Rattle.rowsheet.specs.RowSheet.{Rows, rowsOf, firstLineNo, sheetRows, readSheet, RowsLeft, readRowsLeft, sheetOf, rowsInRange, judgeRows, writeRowsLeft}
 use Rattle.rowsheet.proofs.LengthLaws.{sheetMost}
 use Rattle.rowsheet.proofs.SheetLaws.{sheet-section, rows-many, factors-many, room-enough}
@@ -46,18 +44,9 @@ use Rattle.rowsheet.proofs.JudgedLaws.{rows-judged, sheet-length, never-too-lon
 abbrev lineTextOf : (i : ℕ) → RowLine → List ℕ
 lineTextOf = textBy rowKind.Sheet
 
-module _ (zones : ℕ) (t : Rows) (lines : List RowLine) (values-are : valuesOf lines ≡ t .rows) (factors-are : factorsOf lines ≡ t .factors) (many : length lines ≡ length (t .rows)) (held : allFit (RowHeldAt zones) 0 lines) where
-  sheet-lines : sheetOf zones t ≡ sectionText lineTextOf 0 lines
-  unfolding sheetOf
-  sheet-lines =
-      subst (λ (n : ℕ). linesText n 0 (rowTextIn rowKind.Sheet zones (t .rows) (t .factors)) ≡ sectionText lineTextOf 0 lines) many
-      (lines-section lineTextOf emptyRow lines 0 _ (λ k h. rw (zero-add k) (line k h)))
-    where
-      line : (k : ℕ) → k < length lines → rowTextIn rowKind.Sheet zones (t .rows) (t .factors) k ≡ lineTextOf k (getD lines k emptyRow)
-      line k h =
-          ap₂ (λ (v f : List ℤ). sheetText k v f)
-          (ap (λ (rows : List (List ℤ)). getD rows k []) (sym values-are) ∙ values-at lines k)
-          (ap (λ (f : List ℤ). stretch zones f k) (sym factors-are) ∙ stretch-of zones lines 0 held k h)
+sheet-lines : (zones : ℕ) (t : Rows) (lines : List RowLine) → valuesOf lines ≡ t .rows → factorsOf lines ≡ t .factors → allFit (RowHeldAt zones) 0 lines → sheetOf zones t ≡ sectionText lineTextOf 0 lines
+unfolding sheetOf
+sheet-lines zones t lines values-are factors-are held = rows-section rowKind.Sheet zones (t .rows) (t .factors) lines values-are factors-are held
 
 -- ---- read, and written again
 pub read-write : (h : Header) (sheet : List ℕ) (t : Rows) → readSheet h sheet ≡ passed t → sheetOf (h .zones) t ≡ sheet
@@ -65,7 +54,7 @@ read-write h sheet t e =
     let u = sheet-section h sheet t e in
     let b = section-read (sheetLine (h .zones)) firstLineNo lineTextOf (λ line i c q. row-read rowKind.Sheet (h .zones) line i c q .0) (h .rows) sheet 0 0 (u .lines) (u .end) (u .section) .0 in
     let none : drop (u .end) sheet ≡ [] = drop-of-length-le sheet (u .last) in
-    sheet-lines (h .zones) t (u .lines) (sym (ap (λ (r : Rows). r .rows) (u .is))) (sym (ap (λ (r : Rows). r .factors) (u .is))) (u .many ∙ sym (rows-many u)) (u .held)
+    sheet-lines (h .zones) t (u .lines) (sym (ap (λ (r : Rows). r .rows) (u .is))) (sym (ap (λ (r : Rows). r .factors) (u .is))) (u .held)
     ∙ sym (append-nil (sectionText lineTextOf 0 (u .lines))) ∙ ap (λ (l : List ℕ). sectionText lineTextOf 0 (u .lines) ++ l) (sym none) ∙ sym b
 
 -- ---- written, and read again
@@ -114,7 +103,7 @@ module _ (h : Header) (t : Rows) (fits : headerFits h ≡ true) (rows-long : len
     back : sheetRows h (sheetOf (h .zones) t) ≡ passed t
     back =
         let sheet = sheetOf (h .zones) t in
-        let here : drop 0 sheet ≡ sectionText lineTextOf 0 lines ++ [] = sheet-lines (h .zones) t lines values-are factors-are (lines-long ∙ sym rows-long) held ∙ sym (append-nil (sectionText lineTextOf 0 lines)) in
+        let here : drop 0 sheet ≡ sectionText lineTextOf 0 lines ++ [] = sheet-lines (h .zones) t lines values-are factors-are held ∙ sym (append-nil (sectionText lineTextOf 0 lines)) in
         lines-goes (sheetLine (h .zones)) firstLineNo lineTextOf Fits (λ i c q. row-written (h .zones) c (q .1) rowKind.Sheet i (q .0)) (row-one rowKind.Sheet)
         (λ xs e. cond (ltb e (length sheet)) (refused (wrongForm (firstLineNo + h .rows))) (passed (rowsOf xs))) (passed t) lines (h .rows) sheet 0 [] lines-long here fit (λ next none. ended next none)
       where

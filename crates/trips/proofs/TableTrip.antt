@@ -23,7 +23,7 @@ use Rattle.text.proofs.LineLaws.{line-split}
 use Rattle.columns.specs.ColumnText.{columnsText, headText}
 use Rattle.sections.proofs.SectionLaws.{sectionText, allFit, section-read}
 use Rattle.sections.proofs.SectionRecords.{fits-all, lines-goes}
-use Rattle.table.specs.Table.{Table, stretch, notTwice, zoneLineNo, allocatedLineNo, borderLineNo, rowLineNo, pastLineNo}
+use Rattle.table.specs.Table.{Table, rowGood, stretch, notTwice, zoneLineNo, allocatedLineNo, borderLineNo, rowLineNo, pastLineNo}
 use Rattle.table.specs.Good.{Good, Shaped}
 use Rattle.table.proofs.GoodLaws.{good-row, row-fit, stretch-long}
 use Rattle.table.proofs.JudgeLaws.{exact-factors}
@@ -39,7 +39,7 @@ use Rattle.sections.proofs.RowLaws.{emptyRow, values-long, values-at, cut-long,
 use Rattle.reading.proofs.ReadLaws.{Opened, nets-held, allocated-held, borders-held, rows-held}
 use Rattle.layout.specs.Layout.{headerText, zoneText, allocatedText, borderText}
 use Rattle.writing.specs.Writing.{tableText, rowsText}
-use Rattle.trips.proofs.SectionTrip.{rowLineOf, Lined, sections, rows-lines, text-sections}
+use Rattle.trips.proofs.SectionTrip.{rowLineOf, rows-section, Lined, sections, text-sections}
 
 -- ---- what was read
 module _ (text : List ℕ) (t : Table) (o : Opened asGiven text t) where
@@ -71,10 +71,7 @@ module _ (text : List ℕ) (t : Table) (o : Opened asGiven text t) where
 
   -- its C lines are the text of its rows
   pub rows-text : rowsText (t .header .zones) (t .rows) (t .factors) ≡ drop (o .q) text
-  rows-text = rw (rows-many) (rows-lines t (o .lines) read-lined) ∙ sym read-rows
-    where
-      rows-many : length (t .rows) ≡ t .header .rows
-      rows-many = ap length (sym (o .values-are)) ∙ values-long (o .lines) ∙ rows-held asGiven text t o .0
+  rows-text = rows-section rowKind.Table (t .header .zones) (t .rows) (t .factors) (o .lines) (o .values-are) (o .factors-are) (rows-held asGiven text t o .1) ∙ sym read-rows
 
   pub read-text : tableText t ≡ text
   read-text = text-sections t (o .lines) read-lined ∙ sym read-sections
@@ -126,12 +123,17 @@ module _ (h : Header) (fits : headerFits h ≡ true) where
       go false e = e
   letter-seen [] [] rows text p al bl here = let n : ⊥ = omega (arith, bl, header-in h fits .borders-least) in absurd n
 
+-- a row of a good table
+pub rows-good : (t : Table) → Good t → (i : ℕ) → i < t .header .rows → rowGood (getD (t .rows) i []) (stretch (t .header .zones) (t .factors) i) ≡ true
+rows-good t g i h =
+    let zones = t .header .zones in
+    let l = stretch-long zones (t .header .rows) (t .factors) (g .exact .factors-long) i h in
+    good-row (getD (t .rows) i []) (stretch zones (t .factors) i) (g .rows-fit i h)
+    (λ z k. row-fit zones (t .header .rows) (t .factors) (g .exact .factors-long) (omega (arith, header-in (t .header) (g .exact .header) .zones-least)) (g .factors-fit) i h z (rw l at k))
+
 module _ (t : Table) (g : Good t) (s : Shaped t) where
   abbrev lines : List RowLine
   lines = cut (t .header .zones) (t .rows) (t .factors)
-
-  some-zones : 0 < t .header .zones
-  some-zones = omega (arith, header-in (t .header) (g .exact .header) .zones-least)
 
   lines-long : length lines ≡ t .header .rows
   lines-long = cut-long (t .header .zones) (t .rows) (t .factors) ∙ g .exact .rows-long
@@ -151,8 +153,7 @@ module _ (t : Table) (g : Good t) (s : Shaped t) where
       record {
         wide = ap length (sym v) ∙ s .rows-wide i h;
         long = ap length (sym f) ∙ l;
-        good = rw (← v, ← f) (good-row (getD (t .rows) i []) (stretch zones (t .factors) i) (g .rows-fit i h)
-            (λ z k. row-fit zones (t .header .rows) (t .factors) (g .exact .factors-long) some-zones (g .factors-fit) i h z (rw l at k)));
+        good = rw (← v, ← f) (rows-good t g i h);
       }
 
   written-lined : Lined t lines

@@ -1,18 +1,15 @@
--- The laws behind `tell`: the search for the row that holds a border, and what the rounds of the code come to. No contract cites this file.
+-- The laws behind `tell`: what the rounds of the code come to. No contract cites this file.
 use mathlib.Core.Path.{_≡_, refl, sym, ap, ap₂, _∙_}
 use mathlib.Core.Bool.{Bool, true, false}
 use mathlib.Core.List.{List, []}
 use mathlib.Core.Option.{none}
-use Prim.Native.Nat.{ℕ, _+_, _/_, _^_, _≤_, _<_}
+use Prim.Native.Nat.{ℕ, _/_, _^_, _≤_, _<_}
 use native.Mathlib.Omega.{arith}
-use borrow.Author.Tests.{lt-ltb, le-ltb}
-use lib.Dec.{ltb}
-use lib.IntN.{ℤ, pos}
+use lib.IntN.{ℤ}
 use lib.ListN.{length, getD, take, length-take}
 use lib.Seq.{take-at}
-use Rattle.numbers.specs.Ints.{minus}
-use Rattle.numbers.specs.Below.{at, table, over, firstFrom}
-use Rattle.numbers.proofs.BelowLaws.{Looked, looked-all, looked-here, looked-more, count-le, table-long, table-get, table-cong}
+use Rattle.numbers.specs.Below.{at, table, over}
+use Rattle.numbers.proofs.BelowLaws.{count-le, table-long, table-get, table-cong}
 use Rattle.refusals.specs.Refusals.{passed}
 use Rattle.types.specs.declared.Border.{Border}
 use Rattle.types.specs.declared.Header.{Header}
@@ -22,13 +19,12 @@ use Rattle.types.proofs.RangeLaws.{header-in}
 use Rattle.rounds.specs.declared.Final.{Final}
 use Rattle.rounds.specs.Rounds.{Grid, State, Outcome, sharers, extract}
 use Rattle.rounds.specs.Last.{after, lastRound}
-use Rattle.rounds.specs.Stopping.{equalShare, stopRow}
-use Rattle.rounds.specs.AllRounds.{Ready, Startable, stopBy}
-use Rattle.rounds.proofs.Loops.{ready-at}
+use Rattle.rounds.specs.Stopping.{stopRow}
+use Rattle.rounds.specs.AllRounds.{Startable}
 use Rattle.rounds.proofs.Rounds.{extracts}
-use Rattle.rounds.proofs.StopLaws.{stop-by}
 use Rattle.rounds.proofs.Theorems.{extract-demand3}
 use Rattle.rounds.proofs.EveryRoundLaws.{rounds-long}
+use Rattle.rounds.proofs.Reach.{ends-below}
 use Rattle.margin.specs.Margin.{ltaKw}
 use Rattle.margin.proofs.JudgedLaws.{border-judged}
 use Rattle.start.specs.Start.{fromBy}
@@ -38,41 +34,10 @@ use Rattle.replay.proofs.ReplayLaws.{margins-alone, after-long}
 use Rattle.outcome.specs.Outcome.{rowOrDash}
 use Rattle.extraction.specs.Inner.{gridWith, startWith, Runnable, Ran}
 use Rattle.extraction.proofs.ExtractLaws.{run-startable, run-left}
+use Rattle.holding.specs.Holding.{endRow, allowed, allowedBy, endsLeft, rowLeft, countsOf, Worked}
 use Rattle.why.specs.declared.Reasons.{Reasons}
-use Rattle.why.specs.Why.{endRow, allowed, allowedBy, Why, whyBy, endsLeft, rowLeft, endRecord, rowRecord, reasonsOf, leaves}
-use Rattle.why.specs.Told.{countsOf, Worked, told}
-use Rattle.why.proofs.GridLaws.{ends-below}
-
--- ---- the row that holds a border
--- row i's equal share is less than what one kW of border b takes of it, as the code tests it
-abbrev pub under : Grid → (margins : List ℕ) → (b i : ℕ) → Bool
-under g margins b i = ltb (at (table (g .rows) (equalShare g margins)) i) (g .p i b)
-
-under-first : (g : Grid) (margins : List ℕ) (b : ℕ) → firstFrom (g .rows) 0 (under g margins b) ≡ stopRow g margins b
-unfolding stopBy
-under-first g margins b = stop-by g margins b refl
-
-module _ {g : Grid} {ns margins : List ℕ} (q : Ready g ns margins) {b i share f : ℕ} (u : Looked (g .rows) (under g margins b) i) (h : i < g .rows) (s : share ≡ at margins i / at ns i) (e : f ≡ g .p i b) where
-  share-is : at (table (g .rows) (equalShare g margins)) i ≡ share
-  share-is = table-get (g .rows) (equalShare g margins) i 0 h ∙ ap (λ (n : ℕ). at margins i / n) (sym (ready-at q i h)) ∙ sym s
-
-  pub held-here : share < f → pos i ≡ rowOrDash (stopRow g margins b)
-  held-here l = ap rowOrDash (looked-here _ _ _ u h (lt-ltb (at (table (g .rows) (equalShare g margins)) i) (g .p i b) (omega (arith, share-is))) ∙ under-first g margins b)
-
-  pub held-more : f ≤ share → Looked (g .rows) (under g margins b) (i + 1)
-  held-more l = looked-more _ _ _ u h (le-ltb (at (table (g .rows) (equalShare g margins)) i) (g .p i b) (omega (arith, share-is)))
-
-pub held-none : (g : Grid) (margins : List ℕ) (b : ℕ) {i : ℕ} → Looked (g .rows) (under g margins b) i → g .rows ≤ i → minus 1 ≡ rowOrDash (stopRow g margins b)
-held-none g margins b u l = ap rowOrDash (looked-all _ _ _ u l ∙ under-first g margins b)
-
--- ---- the rounds
-module _ {g : Grid} {m x : List ℕ} (s : Startable g (countsOf g) m x) {ns : List ℕ} (n : ns ≡ countsOf g) where
-  pub work-startable : Startable g ns m x
-  work-startable = record { ready = record { counts = n; margins = s .ready .margins }; borders = s .borders; fits = s .fits }
-
-  -- of margins that are as many
-  pub work-ready : {left : List ℕ} → length left ≡ g .rows → Ready g ns left
-  work-ready l = record { counts = n; margins = l }
+use Rattle.why.specs.Why.{Why, whyBy, endRecord, rowRecord, reasonsOf, leaves}
+use Rattle.why.specs.Told.{told}
 
 -- ---- what is told, where the rounds of the code ended
 module _ {h : Header} {b : List (List ℤ)} {p m x : List ℕ} (u : Runnable h b p m) (e : x ≡ exchangesOf (isIntraday h) b) where

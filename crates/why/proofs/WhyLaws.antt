@@ -8,7 +8,6 @@ use borrow.Author.Tests.{lt-ltb, le-ltb}
 use lib.Dec.{ltb}
 use lib.IntN.{ℤ}
 use lib.ListN.{length, getD, take, drop, take-append-drop, drop-of-length-le}
-use lib.Seq.{length-take-le}
 use Rattle.numbers.specs.Below.{at, table, over}
 use Rattle.limits.specs.Limits.{bordersMost}
 use Rattle.refusals.specs.declared.Judgement.{Judgement}
@@ -36,6 +35,7 @@ use Rattle.start.proofs.StartLaws.{cells-at, grid-long}
 use Rattle.start.proofs.SameMarks.{p-marks, judge-marks}
 use Rattle.extraction.specs.Extraction.{judgeExtract}
 use Rattle.extraction.specs.Inner.{gridWith, startWith}
+use Rattle.extraction.proofs.ExtractLaws.{over-taken}
 use Rattle.why.specs.declared.Reasons.{Reasons}
 use Rattle.why.specs.Why.{Why, whyBy, whyMarked, endRecord, rowRecord, reasonsOf, noBorder, reasonsMarked, reasonsFor, WhyLeft, leaves, whyRoom, whyStored, judgedLeft, whyFor}
 use Rattle.why.specs.Told.{told}
@@ -125,12 +125,6 @@ module _ (marked : ℕ → Bool) (t : Table) (b : ℕ) (n : ℕ) (is : n ≡ t .
   abbrev longer : WhyLeft → WhyLeft
   longer l = leaves (l .answer) (l .p ++ drop n ps) (l .ends) (l .rows)
 
-  over-front : (new : List ℕ) → length new ≡ n → over new (take n ps) ++ drop n ps ≡ over new ps
-  over-front new e =
-      ap (λ (old : List ℕ). (new ++ old) ++ drop n ps) (drop-of-length-le (take n ps) {i = length new} (omega (arith, e, length-take-le n ps enough)))
-      ∙ ap (λ (v : List ℕ). v ++ drop n ps) (append-nil new)
-      ∙ ap (λ (k : ℕ). new ++ drop k ps) (sym e)
-
   longer-is : (j : Judged Why) → then (reasonsMarked marked t b) (whyRoom ends rows) ≡ j
       → longer (either j (whyStored (take n ps) ends rows) (λ w. leaves (refused w) (take n ps) ends rows)) ≡ either j (whyStored ps ends rows) (λ w. leaves (refused w) ps ends rows)
   unfolding either whyMarked reasonsMarked
@@ -140,7 +134,7 @@ module _ (marked : ℕ → Bool) (t : Table) (b : ℕ) (n : ℕ) (is : n ≡ t .
       let c = need-passed r _ _ _ (need-passed r _ _ _ (o .second) .1) in
       let k : whyMarked marked t b ≡ r = passed-is _ _ (then-passed (judgeMarked marked t) (λ states. passed (whyMarked marked t b)) (o .it) (o .first) .second) ∙ passed-is _ _ (c .1) in
       ap (λ (v : List ℕ). leaves (passed (reasonsOf r)) v (whyStored ps ends rows r .ends) (whyStored ps ends rows r .rows))
-      (over-front (r .p) (sym (ap (λ (v : Why). length (v .p)) k) ∙ grid-long every t refl ∙ sym is))
+      (over-taken n ps enough (r .p) (sym (ap (λ (v : Why). length (v .p)) k) ∙ grid-long every t refl ∙ sym is))
 
   pub front-left : {l : WhyLeft} → l ≡ judgedLeft (reasonsMarked marked t b) (take n ps) ends rows → longer l ≡ judgedLeft (reasonsMarked marked t b) ps ends rows
   unfolding judgedLeft

@@ -1,13 +1,12 @@
 -- Why a border got no more: the record of its reasons, a definition over the rules' rounds (01, "Extraction"; 02, E7), with every border free to rise or only those that
--- are marked (02, E13), and what the open calls `why` and `why_marked` leave. What each part of it means in the words of the table: `Reasoned.antt`.
-use mathlib.Core.Bool.{Bool, true, false, cond}
-use mathlib.Core.List.{List, [], _∷_}
-use mathlib.Core.Option.{Option, none, some}
-use Prim.Native.Nat.{ℕ, _/_}
+-- are marked (02, E13), and what the open calls `why` and `why_marked` leave. What each part of it means in the words of the table: crate reasoned.
+use mathlib.Core.Bool.{Bool, true, false}
+use mathlib.Core.List.{List, []}
+use mathlib.Core.Option.{Option, none}
+use Prim.Native.Nat.{ℕ}
 use lib.Dec.{ltb}
-use lib.IntN.{ℤ, pos}
+use lib.IntN.{ℤ}
 use lib.ListN.{length, getD}
-use Rattle.numbers.specs.Ints.{minus}
 use Rattle.numbers.specs.Below.{at, table, over}
 use Rattle.refusals.specs.declared.Refusal.{Refusal}
 use Rattle.refusals.specs.Refusals.{Judged, passed, refused, refusal, then, either, unless, need}
@@ -15,30 +14,19 @@ use Rattle.types.specs.declared.Header.{Header}
 use Rattle.marks.specs.Marks.{judgeAsked, mayRise}
 use Rattle.table.specs.Table.{Table}
 use Rattle.rounds.specs.Rounds.{Grid, State, Outcome, sharers, extract}
-use Rattle.rounds.specs.Last.{after, lastRound}
+use Rattle.rounds.specs.Last.{lastRound}
 use Rattle.rounds.specs.Stopping.{stopRow}
 use Rattle.states.specs.Standings.{standingsOf}
 use Rattle.start.specs.Start.{gridMarked, tableGrid, tableStart, judgeMarked}
 use Rattle.start.specs.Filled.{cells}
-use Rattle.outcome.specs.Outcome.{rowOrDash, leftOfMargin}
+use Rattle.outcome.specs.Outcome.{rowOrDash}
 use Rattle.extraction.specs.Extraction.{judgeExtract}
+use Rattle.holding.specs.Holding.{endRow, allowedBy, endsLeft, rowLeft}
 use Rattle.why.specs.declared.Reasons.{Reasons}
 use Rattle.why.specs.declared.Explained.{Explained}
 use Rattle.why.specs.declared.Explained.the-variants as explained
 
 -- ---- a border's reasons
--- the row that ended border b's rise: the first with p > 0 whose equal share after the border's last round is under one kW for it
-unfoldable pub endRow : Grid → State → (b : ℕ) → Option ℕ
-endRow g s b = stopRow g (after g s (lastRound g s b) .margins) b
-
--- what an equal share of a margin among n would still allow a border of factor p in one round, whole kW; none where p is 0, since the row does not limit it
-abbrev pub allowed : (n margin p : ℕ) → Option ℕ
-allowed n margin p = cond (ltb 0 p) (some (margin / n / p)) none
-
--- what row i would still allow border b, of its margin left
-abbrev pub allowedBy : Grid → (left : List ℕ) → (b i : ℕ) → Option ℕ
-allowedBy g left b i = allowed (sharers g i) (at left i) (g .p i b)
-
 -- p of each row at each border, where the rounds started and ended, of each row its state, n, and what it would still allow border b; b's last round, the row that the
 -- result names for it (stopped it at the end), and the row that ended its rise
 pub record Why : Type 0 where
@@ -74,18 +62,6 @@ unfoldable pub whyMarked : (marked : ℕ → Bool) → Table → (b : ℕ) → W
 whyMarked marked t b = whyBy (t .header) (standingsOf t .states) (cells (tableGrid t)) (gridMarked marked t) (tableStart t) b
 
 -- ---- as records
--- a border's record: where it started and ended, kW
-abbrev pub endsLeft : (from to : ℕ) → List ℤ
-endsLeft from to = pos from ∷ pos to ∷ []
-
--- a row's record: n; margin left, grains, or -1 where the state is not 0; what it would still allow the border, kW, or -1 where it does not limit it
-abbrev pub kwOrDash : Option ℕ → ℤ
-kwOrDash none = minus 1
-kwOrDash (some kw) = pos kw
-
-abbrev pub rowLeft : (n state margin : ℕ) → (allows : Option ℕ) → List ℤ
-rowLeft n state margin allows = pos n ∷ leftOfMargin state margin ∷ kwOrDash allows ∷ []
-
 unfoldable pub endRecord : Why → (c : ℕ) → List ℤ
 endRecord w c = endsLeft (at (w .start .x) c) (at (w .outcome .state .x) c)
 

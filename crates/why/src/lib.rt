@@ -1,4 +1,4 @@
-// Why a border got no more: the open calls `why` and `why_marked`, on a lent table (01, "Extraction"; 02, E7), where with marks only the marked borders rise (02, E13).
+// Why a border of a good table got no more (01, "Extraction"; 02, E7), where with marks only the marked borders rise (02, E13). The open calls `why` and `why_marked` stand in crate doors.
 // The result names the first row that stops a border at the end; this tells besides which row ended its rise, and of every border and row what took part in it.
 pub mod tell;
 
@@ -8,10 +8,9 @@ ghost use lib.ListN.{length};
 ghost use Rattle.marks.specs.Marks.{flagged};
 ghost use Rattle.table.specs.Table.{lent, front};
 ghost use Rattle.table.specs.Good.{Good};
-ghost use Rattle.why.specs.Why.{noBorder, reasonsMarked, reasonsFor, saidExplained, leaves, judgedLeft, whyFor, whyLeft, whyMarkedLeft};
+ghost use Rattle.why.specs.Why.{noBorder, reasonsMarked, reasonsFor, saidExplained, leaves, judgedLeft};
 use refusals::Judgement;
 use refusals::Refusal;
-use table::Room;
 use types::BorderRecord;
 use types::Header;
 use types::RowRecord;
@@ -25,19 +24,14 @@ pub struct Reasons {
 }
 
 impl Reasons {
-    // Stands for a row, a margin or kW where there is none.
-    pub const DASH: i64 = -1;
+    pub const END_ITEMS: usize = holding::END_ITEMS;
 
-    pub const END_ITEMS: usize = 2;
-
-    pub const ROW_ITEMS: usize = 3;
+    pub const ROW_ITEMS: usize = holding::HOLD_ITEMS;
 }
 
-// A border's record: where it started, kW; where it ended.
-pub type EndRecord = [i64; Reasons::END_ITEMS];
+pub type EndRecord = holding::EndRecord;
 
-// A row's record: n, the marked borders that share it; its margin left, grains; what its equal share would still allow the border in one round, kW.
-pub type HoldRecord = [i64; Reasons::ROW_ITEMS];
+pub type HoldRecord = holding::HoldRecord;
 
 pub enum Explained {
     Reasons(Reasons),
@@ -147,66 +141,4 @@ pub fn why_good(
         ends,
         rows,
     )
-}
-
-// Why a border of a lent table got no more, and p of each row at each border. Any input has an answer; where that is a refusal, nothing is written.
-pub fn why(
-    h: Header,
-    z: &[i64],
-    t: &[i64],
-    b: &[BorderRecord],
-    c: &[RowRecord],
-    f: &[i64],
-    border: u64,
-    p: &mut [u64],
-    ends: &mut [EndRecord],
-    rows: &mut [HoldRecord],
-) -> Explained
-    ensures { λ r. ⌜ leaves (saidExplained r) (now (p .exit)) (now (ends .exit)) (now (rows .exit)) ≡ whyLeft (lent h (now (z .entry)) (now (t .entry)) (now (b .entry)) (now (c .entry)) (now (f .entry))) border (now (p .entry)) (now (ends .entry)) (now (rows .entry)) ⌝ }
-{
-    // No marks are looked at.
-    let marks: [u64; 1] = [0];
-    why_for(h, z, t, b, c, f, true, &marks, border, p, ends, rows)
-}
-
-// The same where only the borders of a list of marks rise (02, E13).
-pub fn why_marked(
-    h: Header,
-    z: &[i64],
-    t: &[i64],
-    b: &[BorderRecord],
-    c: &[RowRecord],
-    f: &[i64],
-    marks: &[u64],
-    border: u64,
-    p: &mut [u64],
-    ends: &mut [EndRecord],
-    rows: &mut [HoldRecord],
-) -> Explained
-    ensures { λ r. ⌜ leaves (saidExplained r) (now (p .exit)) (now (ends .exit)) (now (rows .exit)) ≡ whyMarkedLeft (lent h (now (z .entry)) (now (t .entry)) (now (b .entry)) (now (c .entry)) (now (f .entry))) (now (marks .entry)) border (now (p .entry)) (now (ends .entry)) (now (rows .entry)) ⌝ }
-{
-    why_for(h, z, t, b, c, f, false, marks, border, p, ends, rows)
-}
-
-// Both, as asked: for every border, or with marks. Room for p is judged at the door, before any record.
-pub fn why_for(
-    h: Header,
-    z: &[i64],
-    t: &[i64],
-    b: &[BorderRecord],
-    c: &[RowRecord],
-    f: &[i64],
-    all: bool,
-    marks: &[u64],
-    border: u64,
-    p: &mut [u64],
-    ends: &mut [EndRecord],
-    rows: &mut [HoldRecord],
-) -> Explained
-    ensures { λ r. ⌜ leaves (saidExplained r) (now (p .exit)) (now (ends .exit)) (now (rows .exit)) ≡ whyFor all (now (marks .entry)) (lent h (now (z .entry)) (now (t .entry)) (now (b .entry)) (now (c .entry)) (now (f .entry))) border (now (p .entry)) (now (ends .entry)) (now (rows .entry)) ⌝ }
-{
-    if let Judgement::Refused(w) = table::judge(h, z, t, b, c, f, Room::P(p.len())) {
-        return Explained::Refused(w);
-    }
-    why_good(h, z, t, b, c, f, all, marks, border, p, ends, rows)
 }

@@ -9,7 +9,6 @@ ghost use Rattle.table.specs.Good.{Good};
 use parts::PartsRecord;
 use reading::TableRead;
 use refusals::Refusal;
-use refusals::Written;
 use text::put::magnitude;
 use types::Border;
 use types::BorderRecord;
@@ -20,14 +19,13 @@ use why::EndRecord;
 use why::Explained;
 use why::HoldRecord;
 use why::Reasons;
-use whywords::lines;
-use whywords::lines::Rise;
-use whywords::lists;
+use whywords::Rise;
 
-// So many bytes of words, or of an E line; or how many borders the table has, where it has not the one that was asked for.
+// So many bytes of words; how many borders the table has, where it has not the one that was asked for; or why there is no answer.
 pub enum Told {
     Bytes(usize),
     NoBorder(usize),
+    Refused(Refusal),
 }
 
 // Tells of a border of a text's table, as the sheet corrects it. Where `all` borders may rise, the marks are not looked at.
@@ -78,12 +76,12 @@ fn put_in<'a>(
 {
     match reading::read_into(text, sheet, z, t, b, c, f) {
         TableRead::Table(h) => put_good(border, all, marks, h, z, t, b, c, f, out),
-        TableRead::Refused(w) => Told::Bytes(refusal_line(w, out)),
+        TableRead::Refused(w) => Told::Refused(w),
     }
 }
 
-// The good table that was read. Apart from `put_with`, so that proof goals do not contain its arrays.
-fn put_good(
+// Tells of a border of a good table.
+pub fn put_good(
     border: u64,
     all: bool,
     marks: &[u64],
@@ -98,73 +96,6 @@ fn put_good(
     requires { ⌜ Good (front (lent h (now z) (now t) (now b) (now c) (now f))) ⌝ }
 {
     let count = h.rows;
-    let mut rams: [i64; limits::ROWS_MOST] = [0; limits::ROWS_MOST];
-    let mut starts: [i64; limits::ROWS_MOST] = [0; limits::ROWS_MOST];
-    let mut states: [u64; limits::ROWS_MOST] = [0; limits::ROWS_MOST];
-    let mut margins: [PartsRecord; limits::ROWS_MOST] = [[0; parts::ITEMS]; limits::ROWS_MOST];
-    put_with(
-        border,
-        all,
-        marks,
-        h,
-        z,
-        t,
-        b,
-        c,
-        f,
-        &mut rams[..count],
-        &mut starts[..count],
-        &mut states[..count],
-        &mut margins,
-        out,
-    )
-}
-
-// What the margins are made of, and where they start.
-fn put_with(
-    border: u64,
-    all: bool,
-    marks: &[u64],
-    h: Header,
-    z: &[i64],
-    t: &[i64],
-    b: &[BorderRecord],
-    c: &[RowRecord],
-    f: &[i64],
-    rams: &mut [i64],
-    starts: &mut [i64],
-    states: &mut [u64],
-    margins: &mut [PartsRecord],
-    out: &mut [u8],
-) -> Told
-    requires { ⌜ Good (front (lent h (now z) (now t) (now b) (now c) (now f))) ⌝ }
-    requires { ⌜ (length (now rams) ≡ h .rows) × (length (now starts) ≡ h .rows) ⌝ }
-    requires { ⌜ (length (now states) ≡ h .rows) × (h .rows ≤ length (now margins)) ⌝ }
-{
-    states::fill_rows(h, z, t, b, c, f, rams, starts, states);
-    parts::margins_good(h, z, t, b, c, f, margins);
-    put_reasons(border, all, marks, h, z, t, b, c, f, margins, starts, out)
-}
-
-// The reasons, in words.
-fn put_reasons(
-    border: u64,
-    all: bool,
-    marks: &[u64],
-    h: Header,
-    z: &[i64],
-    t: &[i64],
-    b: &[BorderRecord],
-    c: &[RowRecord],
-    f: &[i64],
-    margins: &[PartsRecord],
-    starts: &[i64],
-    out: &mut [u8],
-) -> Told
-    requires { ⌜ Good (front (lent h (now z) (now t) (now b) (now c) (now f))) ⌝ }
-{
-    let count = h.rows;
-    let cells = count * h.borders;
     let mut p: [u64; limits::ROWS_MOST * limits::BORDERS_MOST] = [0; limits::ROWS_MOST
         * limits::BORDERS_MOST];
     let mut ends: [EndRecord; limits::BORDERS_MOST] =
@@ -184,92 +115,80 @@ fn put_reasons(
         &mut ends,
         &mut rows,
     ) {
-        Explained::Reasons(reasons) => Told::Bytes(tell(
-            border as usize,
-            reasons,
-            h,
-            b,
-            margins,
-            starts,
-            &p[..cells],
-            &ends,
-            &rows[..count],
-            out,
-        )),
-        Explained::Refused(w) => refused(w, out),
+        Explained::Reasons(reasons) => {
+            let margin = margin_of(reasons.ended, h, z, t, b, c, f);
+            let rise = Rise {
+                rounds: reasons.rounds,
+                last: reasons.last,
+                named: reasons.named,
+                ended: reasons.ended,
+            };
+            Told::Bytes(whywords::put(
+                border as usize,
+                rise,
+                margin,
+                h,
+                b,
+                &p,
+                &ends,
+                &rows[..count],
+                out,
+            ))
+        }
+        Explained::Refused(w) => refused(w),
     }
 }
 
 // The number of its refusal (crate why).
 const NO_BORDER: u32 = 14;
 
-// A border that is not there is no fault of the table, so there is no E line for it.
-fn refused(w: Refusal, out: &mut [u8]) -> Told {
+// A border that is not there is no fault of the table.
+fn refused(w: Refusal) -> Told {
     if w.number == NO_BORDER {
         return Told::NoBorder(w.place);
     }
-    Told::Bytes(refusal_line(w, out))
+    Told::Refused(w)
 }
 
-// The E line.
-fn refusal_line(w: Refusal, out: &mut [u8]) -> usize {
-    match result::refusal::write_refusal(w, out) {
-        Written::Bytes(n) => n,
-        Written::Refused(_) => 0,
-    }
-}
-
-fn tell(
-    border: usize,
-    reasons: Reasons,
+// What the margin of a row is made of. Where it starts is not taken as 0 where the allocated positions take more than RAM, since the words say how much.
+fn margin_of(
+    row: i64,
     h: Header,
+    z: &[i64],
+    t: &[i64],
     b: &[BorderRecord],
-    margins: &[PartsRecord],
-    starts: &[i64],
-    p: &[u64],
-    ends: &[EndRecord],
-    rows: &[HoldRecord],
-    out: &mut [u8],
-) -> usize
-    requires { ⌜ h .rows * h .borders ≤ length (now p) ⌝ }
+    c: &[RowRecord],
+    f: &[i64],
+) -> PartsRecord
+    requires { ⌜ Good (front (lent h (now z) (now t) (now b) (now c) (now f))) ⌝ }
 {
-    let rise = Rise {
-        start: lists::start_at(ends, border),
-        atc: lists::atc_at(ends, border),
-        last: reasons.last,
-        rounds: reasons.rounds,
-    };
-    let ended = reasons.ended;
-    let intraday = h.is_intraday();
-    let at = lines::put_border(
-        border as u64,
-        lists::border_at(b, border),
-        rise,
-        intraday,
-        0 <= ended,
-        out,
-        0,
-    );
-    if ended < 0 {
-        return at;
-    }
-    let i = magnitude(ended) as usize;
     let count = h.rows;
-    lines::put_row(
-        border,
-        i,
-        magnitude(reasons.named) as usize,
-        reasons.last,
-        intraday,
-        count,
-        h.borders,
+    let mut rams: [i64; limits::ROWS_MOST] = [0; limits::ROWS_MOST];
+    let mut starts: [i64; limits::ROWS_MOST] = [0; limits::ROWS_MOST];
+    let mut states: [u64; limits::ROWS_MOST] = [0; limits::ROWS_MOST];
+    let mut margins: [PartsRecord; limits::ROWS_MOST] = [[0; parts::ITEMS]; limits::ROWS_MOST];
+    states::fill_rows(
+        h,
+        z,
+        t,
         b,
-        p,
-        ends,
-        rows,
-        lists::margin_at(margins, i),
-        lists::start_margin_at(starts, i),
-        out,
-        at,
-    )
+        c,
+        f,
+        &mut rams[..count],
+        &mut starts[..count],
+        &mut states[..count],
+    );
+    parts::margins_good(h, z, t, b, c, f, &mut margins);
+    with_start(magnitude(row) as usize, &margins, &starts)
+}
+
+fn with_start(i: usize, margins: &[PartsRecord], starts: &[i64; limits::ROWS_MOST]) -> PartsRecord {
+    if i < margins.len() {
+        if i < limits::ROWS_MOST {
+            let mut margin = margins[i];
+            margin[parts::ITEMS - 1] = starts[i];
+            return margin;
+        }
+    }
+    [0; parts::ITEMS]
 }

@@ -1,6 +1,6 @@
 -- The most rounds, from the largest starts, and what the statements say of the hour that 01 checks whole, computed. Nobody cites them: they refuse a definition or a
 -- statement that slipped.
-use mathlib.Core.Path.{_≡_, refl}
+use mathlib.Core.Path.{refl}
 use mathlib.Core.Bool.{Bool, true, false}
 use mathlib.Core.List.{[], _∷_}
 use Prim.Native.Nat.{ℕ, _+_, _≤_}
@@ -9,6 +9,7 @@ use lib.Dec.{eqb}
 use lib.IntN.{pos}
 use Rattle.numbers.specs.Below.{ifZero, sum, count, largest, lesser, least, orZero, table, firstFrom, given}
 use Rattle.numbers.specs.Ints.{minus, maxℤ, minℤ, positivePart, sumℤ, sameℤ}
+use Rattle.numbers.specs.Computed.{_is_, Hold}
 use Rattle.limits.specs.Limits.{bordersMost}
 use Rattle.types.specs.Ranges.{hubsOf, borderOf, shareOf, rowOf, worth, defaultOf}
 use Rattle.table.specs.Table.{Table, stretch}
@@ -48,17 +49,16 @@ hour intraday =
 abbrev second : (b : ℕ) → Bool
 second b = eqb b 1
 
-pub record Tops : Type 0 where
-  -- the largest start without T lines, grains, and the largest quotient of a start with them and its factor, kW
-  pub start : startTop ≡ 165000000000000
-  pub late-start : lateTop + ltaTop ≡ 412000010000000
-  -- 64 borders cut these so often
-  pub day : roundsWorst false ≡ steps bordersMost startTop
-  pub late : roundsWorst true ≡ steps bordersMost (lateTop + ltaTop)
-
-pub tops : Tops
+pub tops : Hold (
+    -- the largest start without T lines, grains, and the largest quotient of a start with them and its factor, kW
+    startTop is 165000000000000  -- start
+    ∷ (lateTop + ltaTop) is 412000010000000  -- late-start
+    -- 64 borders cut these so often
+    ∷ roundsWorst false is steps bordersMost startTop  -- day
+    ∷ roundsWorst true is steps bordersMost (lateTop + ltaTop)  -- late
+    ∷ [])
 unfolding equalShareUp cut stepsWithin steps
-tops = record { start = refl; late-start = refl; day = refl; late = refl }
+tops = refl
 
 pub record Statement : Type 0 where
   -- 01's hour has 21 rounds, and can have 22; 88 is 2 N L

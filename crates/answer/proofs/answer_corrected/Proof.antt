@@ -2,11 +2,12 @@
 use borrow.Author.Needs.{needs}
 use Rattle.extraction.specs.Extraction.{outcomeFor}
 use Rattle.answer.specs.Result.{answerWith, answerWithLeft, answerCorrectedLeft}
+use Rattle.answer.specs.Told.{toldWith}
 use Rattle.answer.proofs.answer_corrected.Statement.{statement}
 use Rattle.answer.proofs.answer_corrected.Tie as tie
 
 returns : tie.Need-returns
-unfolding answerCorrectedLeft answerWithLeft answerWith outcomeFor
+unfolding answerCorrectedLeft answerWithLeft answerWith toldWith outcomeFor
 returns c = c .before .before .answer-with .ensures
 
 pub answer-corrected-spec : {M : Type 1} → statement M

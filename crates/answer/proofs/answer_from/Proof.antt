@@ -7,7 +7,7 @@ use borrow.Author.Needs.{needs}
 use Rattle.types.proofs.RangeLaws.{HeaderIn, header-in}
 use Rattle.table.specs.Table.{Table, lent, front}
 use Rattle.extraction.specs.Extraction.{outcomeFor}
-use Rattle.answer.proofs.OutcomeLaws.{outcome-refused, outcome-told, line-written, refusal-told, no-text}
+use Rattle.answer.proofs.OutcomeLaws.{outcome-passed, outcome-refused, outcome-told, line-written, refusal-is, refusal-told, no-text}
 use Rattle.answer.proofs.answer_from.Statement.{statement}
 use Rattle.answer.proofs.answer_from.Tie as tie
 
@@ -47,19 +47,20 @@ returns c =
     let s = entry called in
     let a = s .args in
     let text = c .before .before .write-records .ensures in
-    (text .0 ∙ outcome-told (a .all) (a .marks .now) (given s) (s .pre .0) (a .p .now) (a .atc .now) (a .left .now) (s .pre .1 .1) (s .pre .1 .2) _ (called .extract-good .ensures) (a .line) (a .out .now) _ (c .before .before .before .before .before .before .before .rounds .given .1), λ said e. text .1)
+    let rounds = c .before .before .before .before .before .before .before .rounds .given .1 in (
+      text .0 ∙ outcome-told (a .all) (a .marks .now) (given s) (s .pre .0) (a .p .now) (a .atc .now) (a .left .now) (s .pre .1 .1) (s .pre .1 .2) _ (called .extract-good .ensures) (a .line) (a .out .now) _ rounds,
+      (λ said e. text .1, outcome-passed (a .all) (a .marks .now) (given s) (s .pre .0) (a .p .now) (a .atc .now) (a .left .now) (s .pre .1 .1) (s .pre .1 .2) _ (called .extract-good .ensures) _ rounds),
+    )
 
 returns-2 : tie.Need-returns-2
 returns-2 c =
     let called = c .before .before .before .before .before .before .before .before .before .before .before .before in
     let s = entry called in
     let a = s .args in
-    let answered = c .before .before .write-refusal .ensures in (
-      answered .0
-          ∙ line-written (a .line) (outcomeFor (a .all) (a .marks .now) (given s)) (a .out .now) _
-          (outcome-refused (a .all) (a .marks .now) (given s) (s .pre .0) (a .p .now) (a .atc .now) (a .left .now) (s .pre .1 .1) (s .pre .1 .2) _ (called .extract-good .ensures) _ (c .before .before .before .before .before .before .w .given .1)) (c .before .before .before .before .if1 .taken),
-      λ said e. omega (arith, answered .1),
-    )
+    let o = outcomeFor (a .all) (a .marks .now) (given s) in
+    let is = outcome-refused (a .all) (a .marks .now) (given s) (s .pre .0) (a .p .now) (a .atc .now) (a .left .now) (s .pre .1 .1) (s .pre .1 .2) _ (called .extract-good .ensures) _ (c .before .before .before .before .before .before .w .given .1) in
+    let answered = c .before .before .tell-refusal .ensures in
+    (answered .0 ∙ line-written (a .line) o (a .out .now) _ is (c .before .before .before .before .if1 .taken), (λ said e. omega (arith, answered .1 .0), answered .1 .1 ∙ refusal-is (a .line) o (a .out .now) _ is))
 
 returns-3 : tie.Need-returns-3
 returns-3 c =
@@ -68,7 +69,7 @@ returns-3 c =
     let a = s .args in
     let o = outcomeFor (a .all) (a .marks .now) (given s) in
     let is = outcome-refused (a .all) (a .marks .now) (given s) (s .pre .0) (a .p .now) (a .atc .now) (a .left .now) (s .pre .1 .1) (s .pre .1 .2) _ (called .extract-good .ensures) _ (c .before .before .w .given .1) in
-    (refusal-told (a .line) o (a .out .now) _ is (c .if1 .left), λ said e. absurd (no-text (a .line) o (a .out .now) _ is (c .if1 .left) said e))
+    (refusal-told (a .line) o (a .out .now) _ is (c .if1 .left), (λ said e. absurd (no-text (a .line) o (a .out .now) _ is (c .if1 .left) said e), refusal-is (a .line) o (a .out .now) _ is))
 
 pub answer-from-spec : {M : Type 1} → statement M
 answer-from-spec = tie.close (tie.spec

@@ -12,6 +12,6 @@ put-good-requires c κs =
     into-good (s .args .text .now) (s .args .sheet .now) (called .read-into .result) _ _ _ _ _ (called .read-into .ensures) (told .h .given .1)
 
 pub put-in-spec : {M : Type 1} → statement M
-put-in-spec = tie.close (tie.spec (λ c κs. search needs) (λ c. search needs) put-good-requires (λ c. search needs) (λ c κs. search needs) (λ c. search needs)
+put-in-spec = tie.close (tie.spec (λ c κs. search needs) (λ c. search needs) put-good-requires (λ c. search needs)
     (λ c. search needs) (λ c. search needs) (λ c. search needs) (λ c. search needs) (λ c. search needs) (λ c. search needs) (λ c. search needs)
     (λ c. search needs) (λ c. search needs) (λ c. search needs) (λ c. search needs) (λ c. search needs) (λ c. search needs))

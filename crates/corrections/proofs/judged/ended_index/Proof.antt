@@ -7,11 +7,11 @@ use Rattle.corrections.proofs.judged.ended_index.Tie as tie
 
 returns : tie.Need-returns
 unfolding endedIndex
-returns c = rw (sym (c .before .before .before .number-at .ensures) ∙ c .before .index .given .1)
+returns c = rw (sym (c .before .before .before .index-at .ensures) ∙ c .before .index .given .1)
 
 returns-2 : tie.Need-returns-2
 unfolding endedIndex
-returns-2 c = rw (sym (c .before .before .number-at .ensures) ∙ c .enum-told .given .1)
+returns-2 c = rw (sym (c .before .before .index-at .ensures) ∙ c .enum-told .given .1)
 
 pub ended-index-spec : {M : Type 1} → statement M
 ended-index-spec = tie.close (tie.spec (λ c κs. search needs) (λ c. search needs) (λ c. search needs) returns returns-2)

@@ -4,7 +4,7 @@ use mathlib.Core.List.{List}
 use Prim.Native.Nat.{ℕ}
 use native.Mathlib.Omega.{arith}
 use borrow.Author.Needs.{needs}
-use borrow.Author.Tests.{not-true}
+use borrow.Author.Tests.{not-true, not-false}
 use lib.ListN.{length}
 use Rattle.lines.specs.SaidRow.{lineBy}
 use Rattle.sections.proofs.RowLaws.{own-handed, handed-holds, handed-form, handed-range}
@@ -18,7 +18,7 @@ returns c =
     let a = asked .before .before .before .before .args in
     called .row-read .ensures
     ∙ ap (λ (l : List ℕ). lineBy (a .kind) (length (a .f .now)) l (a .i)) (asked .before .row-line .ensures)
-    ∙ own-handed (a .kind) (length (a .f .now)) (a .next .now) (a .day .now) (a .i) (sym (asked .of-row .ensures) ∙ not-true _ (called .before .before .if1 .taken))
+    ∙ own-handed (a .kind) (a .by) (length (a .f .now)) (a .next .now) (a .day .now) (a .i) (sym (asked .of-row .ensures) ∙ not-true _ (called .before .before .if1 .taken))
 
 row-read-requires-3 : tie.Need-row-read-requires-3
 row-read-requires-3 c κs =
@@ -34,21 +34,21 @@ returns-2 c =
     let asked = first .before .before .before in
     let a = asked .before .before .before .before .args in
     second .row-read3 .ensures
-    ∙ ap (λ (n : ℕ). lineBy (a .kind) n (asked .before .row-line .result .now) (a .i)) (first .row-read2 .kept .1 .1 .1 .0)
-    ∙ ap (λ (l : List ℕ). lineBy (a .kind) (length (a .f .now)) l (a .i)) (asked .before .row-line .ensures)
-    ∙ handed-holds (a .kind) (length (a .f .now)) (a .next .now) (a .day .now) (a .i) _ _ _ (first .row-read2 .ensures) (told .enum-told .given .1)
+    ∙ ap (λ (n : ℕ). lineBy (a .by) n (asked .before .row-line .result .now) (a .i)) (first .row-read2 .kept .1 .1 .1 .0)
+    ∙ ap (λ (l : List ℕ). lineBy (a .by) (length (a .f .now)) l (a .i)) (asked .before .row-line .ensures)
+    ∙ handed-holds (a .kind) (a .by) (length (a .f .now)) (a .next .now) (a .day .now) (a .i) _ _ _ (first .row-read2 .ensures) (sym (asked .of-row .ensures) ∙ not-false _ (first .before .before .if1 .left)) (told .enum-told .given .1)
 
 returns-3 : tie.Need-returns-3
 returns-3 c =
     let first = c .before .before .before in
     let a = first .before .before .before .before .before .before .before .args in
-    handed-form (a .kind) (length (a .f .now)) (a .next .now) (a .day .now) (a .i) _ _ _ (first .row-read2 .ensures) (c .enum-told2 .given .1)
+    handed-form (a .kind) (a .by) (length (a .f .now)) (a .next .now) (a .day .now) (a .i) _ _ _ (first .row-read2 .ensures) (c .enum-told2 .given .1)
 
 returns-4 : tie.Need-returns-4
 returns-4 c =
     let first = c .before .before .before in
     let a = first .before .before .before .before .before .before .before .args in
-    handed-range (a .kind) (length (a .f .now)) (a .next .now) (a .day .now) (a .i) _ _ _ (first .row-read2 .ensures) (c .enum-told3 .given .1)
+    handed-range (a .kind) (a .by) (length (a .f .now)) (a .next .now) (a .day .now) (a .i) _ _ _ (first .row-read2 .ensures) (c .enum-told3 .given .1)
 
 pub row-corrected-spec : {M : Type 1} → statement M
 row-corrected-spec = tie.close (tie.spec (λ c κs. search needs) (λ c κs. search needs) (λ c κs. search needs) (λ c. search needs) returns (λ c κs. search needs)

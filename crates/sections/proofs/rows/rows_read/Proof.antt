@@ -13,8 +13,8 @@ use Rattle.lines.specs.Lines.{RowLine}
 use Rattle.lines.specs.SaidRow.{saidRow, lineBy}
 use Rattle.lines.specs.declared.row.RowKind.{RowKind}
 use Rattle.lines.specs.declared.row.RowJudged.{RowJudged}
-use Rattle.corrections.specs.Corrections.{pieces, handedOn}
-use Rattle.corrections.specs.Alongside.{lineFor, sheetAfter}
+use Rattle.corrections.specs.Corrections.{pieces, Piece, piece, rowIn, handedOn, handedBy}
+use Rattle.corrections.specs.Alongside.{pieceFor, sheetAfter}
 use Rattle.corrections.proofs.SheetAlongside.{Walked, walked-start, walked-line, walked-more}
 use Rattle.sections.specs.Section.{fault}
 use Rattle.sections.specs.Rows.{instead, correctedBy}
@@ -23,24 +23,28 @@ use Rattle.sections.proofs.RowStored.{RowsStored, rows-stored-none, row
 use Rattle.sections.proofs.rows.rows_read.Statement.{statement}
 use Rattle.sections.proofs.rows.rows_read.Tie as tie
 
-record Head (kind : RowKind) (text sheet : List ℕ) (at zones first : ℕ) (c₀ : List (List ℤ)) (f₀ : List ℤ) (c : List (List ℤ)) (f : List ℤ) (p s i : ℕ) : Type 0 where
-  stored : RowsStored (correctedBy kind zones (handedOn (pieces sheet))) first text at zones c₀ f₀ c f i p
-  walked : Walked zones (length c₀) sheet s i
+record Head (kind by : RowKind) (text sheet : List ℕ) (at zones first : ℕ) (c₀ : List (List ℤ)) (f₀ : List ℤ) (c : List (List ℤ)) (f : List ℤ) (p s i : ℕ) : Type 0 where
+  stored : RowsStored (correctedBy kind zones (handedBy sheet)) first text at zones c₀ f₀ c f i p
+  walked : Walked by zones (length c₀) sheet s i
 
 abbrev Inv-loop : tie.InvT-loop
-Inv-loop kind text sheet at zones first c₀ f₀ p₀ s₀ i₀ i-end c f p s i = Head kind text sheet at zones first c₀ f₀ c f p s i
+Inv-loop kind text sheet at zones first c₀ f₀ by p₀ s₀ i₀ i-end c f p s i = Head kind by text sheet at zones first c₀ f₀ c f p s i
 
 abbrev μ-loop : tie.MeasureT-loop
-μ-loop kind text sheet at zones first c₀ f₀ p₀ s₀ i₀ i-end c f p s i = i-end - i
+μ-loop kind text sheet at zones first c₀ f₀ by p₀ s₀ i₀ i-end c f p s i = i-end - i
+
+-- the sheet's kind is told
+abbrev told : tie.In-loop Inv-loop μ-loop → tie.After-sheet-kind Inv-loop μ-loop
+told c = c .before .before
 
 abbrev entry : tie.In-loop Inv-loop μ-loop → tie.Start Inv-loop μ-loop
-entry c = c .before .before .before .before
+entry c = told c .before .before .before
 
 abbrev in-loop : tie.After-row-corrected Inv-loop μ-loop → tie.In-loop Inv-loop μ-loop
 in-loop c = c .before .before .before .before
 
 abbrev judge : tie.In-loop Inv-loop μ-loop → List ℕ → ℕ → Line RowLine
-judge c = let a = entry c .args in correctedBy (a .kind) (a .zones) (handedOn (pieces (a .sheet .now)))
+judge c = let a = entry c .args in correctedBy (a .kind) (a .zones) (handedBy (a .sheet .now))
 
 -- row i's stretch is in the table
 room : (c : tie.In-loop Inv-loop μ-loop)
@@ -61,43 +65,46 @@ lent c = part-long (c .before .loop .f) _ _ (room c)
 -- what was said of row i's line
 row-said : (r : tie.After-row-corrected Inv-loop μ-loop)
     → let c = in-loop r in
-    judge c (lineAt (entry c .args .text .now) (c .before .loop .p)) (c .before .loop .i) ≡ saidRow (r .row-corrected .result .judged) (r .row-corrected .result .raw) (r .row-corrected .last .1 .1 .1 .1 .0)
+    judge c (lineAt (entry c .args .text .now) (c .before .loop .p)) (c .before .loop .i) ≡ saidRow (r .row-corrected .result .judged) (r .row-corrected .result .raw) (r .row-corrected .last .1 .1 .1 .1 .1 .0)
 row-said r =
     let c = in-loop r in
     let l = c .before .loop in
     let a = entry c .args in
     let given = r .before .before .before .line-at in
     let next = r .before .before .line-at2 in
-    let day = given .result .now in
-    let handed : lineFor (next .result .now) day (l .i) ≡ handedOn (pieces (a .sheet .now)) day (l .i) =
-    ap (λ (x : List ℕ). lineFor x day (l .i)) (next .ensures) ∙ walked-line (a .zones) (length (a .c .now)) (a .sheet .now) (l .s) (l .i) (l .inv .walked) day in
+    let by = told c .sheet-kind .result in
+    let line = given .result .now in
+    let day = piece (a .kind) line in
+    let handed : pieceFor by (next .result .now) day (l .i) ≡ handedBy (a .sheet .now) day (l .i) =
+    ap (λ (x : List ℕ). pieceFor by x day (l .i)) (next .ensures) ∙ walked-line by (a .zones) (length (a .c .now)) (a .sheet .now) (l .s) (l .i) (l .inv .walked) day
+    ∙ ap (λ (k : RowKind). handedOn k (pieces (a .sheet .now)) day (l .i)) (told c .sheet-kind .ensures) in
     sym
     (r .row-corrected .ensures
-    ∙ ap (λ (n : ℕ). instead (lineBy (a .kind) n day (l .i)) (lineBy (a .kind) n (lineFor (next .result .now) day (l .i)) (l .i))) (lent c)
-    ∙ ap (λ (x : List ℕ). instead (lineBy (a .kind) (a .zones) day (l .i)) (lineBy (a .kind) (a .zones) x (l .i))) handed
+    ∙ ap (λ (n : ℕ). instead (lineBy (a .kind) n line (l .i)) (rowIn n (pieceFor by (next .result .now) day (l .i)) (l .i))) (lent c)
+    ∙ ap (λ (x : Piece). instead (lineBy (a .kind) (a .zones) line (l .i)) (rowIn (a .zones) x (l .i))) handed
     ∙ ap (λ (x : List ℕ). judge c x (l .i)) (given .ensures))
 
-wide : (r : tie.After-row-corrected Inv-loop μ-loop) → length (r .row-corrected .last .1 .1 .1 .1 .0) ≡ entry (in-loop r) .args .zones
-wide r = r .row-corrected .kept .1 .1 .1 .1 .0 ∙ lent (in-loop r)
+wide : (r : tie.After-row-corrected Inv-loop μ-loop) → length (r .row-corrected .last .1 .1 .1 .1 .1 .0) ≡ entry (in-loop r) .args .zones
+wide r = r .row-corrected .kept .1 .1 .1 .1 .1 .0 ∙ lent (in-loop r)
 
 factors-kept : (r : tie.After-row-corrected Inv-loop μ-loop)
     → let c = in-loop r in
     let start = c .before .loop .i * entry c .args .zones in
     let f = c .before .loop .f in
-    length (take start f ++ (r .row-corrected .last .1 .1 .1 .1 .0 ++ drop (start + entry c .args .zones - start) (drop start f))) ≡ length (entry c .args .f .now)
+    length (take start f ++ (r .row-corrected .last .1 .1 .1 .1 .1 .0 ++ drop (start + entry c .args .zones - start) (drop start f))) ≡ length (entry c .args .f .now)
 factors-kept r =
     let c = in-loop r in
     let l = c .before .loop in
     let a = entry c .args in
-    rows-stored-back (judge c) (a .first) (a .text .now) (a .at) (a .zones) (a .c .now) (a .f .now) (l .c) (l .f) (l .i) (l .p) (l .inv .stored) (c .loop-test .taken) (r .row-corrected .last .1 .1 .1 .1 .0) (wide r) ∙ sym (entry c .pre .0 .2)
+    rows-stored-back (judge c) (a .first) (a .text .now) (a .at) (a .zones) (a .c .now) (a .f .now) (l .c) (l .f) (l .i) (l .p) (l .inv .stored) (c .loop-test .taken) (r .row-corrected .last .1 .1 .1 .1 .1 .0) (wide r) ∙ sym (entry c .pre .0 .2)
 
 loop-holds : tie.Need-loop-holds Inv-loop μ-loop
 loop-holds c =
-    let a = c .before .before .args in
-    let s = c .before .before .pre in
+    let s = c .before .before .before .pre in
+    let a = c .before .before .before .args in
     record {
       stored = rows-stored-none _ (a .first) (a .text .now) (a .at) (a .zones) (a .c .now) (a .f .now) (s .0 .0) (s .0 .2);
-      walked = walked-start (a .zones) (length (a .c .now)) (a .sheet .now) (s .1);
+      walked = walked-start (c .sheet-kind .result) (a .zones) (length (a .c .now)) (a .sheet .now) (c .sheet-kind .ensures) (s .1);
     }
 
 returns : tie.Need-returns Inv-loop μ-loop
@@ -108,7 +115,7 @@ returns c =
     let a = entry here .args in
     ap fault (c .wrong-form-at .ensures)
     ∙ rows-stored-form (judge here) (a .first) (a .text .now) (a .at) (a .zones) (a .c .now) (a .f .now) (l .c) (l .f) (l .i) (l .p) (l .inv .stored) (here .loop-test .taken) _
-    (row-said r ∙ ap (λ (j : RowJudged). saidRow j (r .row-corrected .result .raw) (r .row-corrected .last .1 .1 .1 .1 .0)) (c .before .before .judged .given .1))
+    (row-said r ∙ ap (λ (j : RowJudged). saidRow j (r .row-corrected .result .raw) (r .row-corrected .last .1 .1 .1 .1 .1 .0)) (c .before .before .judged .given .1))
 
 returns-2 : tie.Need-returns-2 Inv-loop μ-loop
 returns-2 c =
@@ -118,7 +125,7 @@ returns-2 c =
     let a = entry here .args in
     ap fault (c .out-of-range-at .ensures)
     ∙ rows-stored-range (judge here) (a .first) (a .text .now) (a .at) (a .zones) (a .c .now) (a .f .now) (l .c) (l .f) (l .i) (l .p) (l .inv .stored) (here .loop-test .taken) _
-    (row-said r ∙ ap (λ (j : RowJudged). saidRow j (r .row-corrected .result .raw) (r .row-corrected .last .1 .1 .1 .1 .0)) (c .before .before .judged2 .given .1))
+    (row-said r ∙ ap (λ (j : RowJudged). saidRow j (r .row-corrected .result .raw) (r .row-corrected .last .1 .1 .1 .1 .1 .0)) (c .before .before .judged2 .given .1))
 
 sheet-after-requires : tie.Need-sheet-after-requires Inv-loop μ-loop
 sheet-after-requires c κs =
@@ -137,28 +144,29 @@ add-p c =
 loop-again : tie.Need-loop-again Inv-loop μ-loop
 loop-again c =
     let r = c .before .before .before .before .before in
-    let told = c .before .before in
+    let good = c .before .before in
     let here = in-loop r in
     let l = here .before .loop in
     let a = entry here .args in
     let given = r .before .before .before .line-at in
     let row = r .row-corrected in
+    let by = told here .sheet-kind .result in
     record {
       stored = rw (given .ensures)
-          (rows-stored-more (judge here) (a .first) (a .text .now) (a .at) (a .zones) (a .c .now) (a .f .now) (l .c) (l .f) (l .i) (l .p) (l .inv .stored) (here .loop-test .taken) (row .result .raw) (row .last .1 .1 .1 .1 .0) (wide r)
-          (row-said r ∙ ap (λ (j : RowJudged). saidRow j (row .result .raw) (row .last .1 .1 .1 .1 .0)) (told .enum-told .given .1)));
-      walked = subst (λ (v : ℕ). Walked (a .zones) (length (a .c .now)) (a .sheet .now) v (l .i + 1)) (sym (c .sheet-after .ensures ∙ ap (λ (next : List ℕ). sheetAfter next (l .s) (l .i)) (r .before .before .line-at2 .ensures)))
-          (walked-more (a .zones) (length (a .c .now)) (a .sheet .now) (l .s) (l .i) (l .inv .walked));
+          (rows-stored-more (judge here) (a .first) (a .text .now) (a .at) (a .zones) (a .c .now) (a .f .now) (l .c) (l .f) (l .i) (l .p) (l .inv .stored) (here .loop-test .taken) (row .result .raw) (row .last .1 .1 .1 .1 .1 .0) (wide r)
+          (row-said r ∙ ap (λ (j : RowJudged). saidRow j (row .result .raw) (row .last .1 .1 .1 .1 .1 .0)) (good .enum-told .given .1)));
+      walked = subst (λ (v : ℕ). Walked by (a .zones) (length (a .c .now)) (a .sheet .now) v (l .i + 1)) (sym (c .sheet-after .ensures ∙ ap (λ (next : List ℕ). sheetAfter by next (l .s) (l .i)) (r .before .before .line-at2 .ensures)))
+          (walked-more by (a .zones) (length (a .c .now)) (a .sheet .now) (l .s) (l .i) (l .inv .walked));
     }
 
 returns-3 : tie.Need-returns-3 Inv-loop μ-loop
 returns-3 c =
-    let a = c .before .before .before .before .args in
+    let a = c .before .before .before .before .before .args in
     let l = c .before .loop in
     rows-stored-all _ (a .first) (a .text .now) (a .at) (a .zones) (a .c .now) (a .f .now) (l .c) (l .f) (l .i) (l .p) (l .inv .stored) (c .loop-test .left)
 
 pub rows-read-spec : {M : Type 1} → statement M
-rows-read-spec = tie.close (tie.spec Inv-loop μ-loop loop-holds (λ c κs. c .before .loop .inv .stored .stored .within)
+rows-read-spec = tie.close (tie.spec Inv-loop μ-loop (λ c κs. search needs) loop-holds (λ c κs. c .before .loop .inv .stored .stored .within)
     (λ c κs. c .before .before .loop .inv .walked .within) (λ c. omega (arith, room (c .before .before))) (λ c. omega (arith, room (c .before .before)))
     (λ c. omega (arith, room (c .before .before))) (λ c. search needs) (λ c. search needs) (λ c. omega (arith, room (c .before .before)))
     (λ c κs. let here = c .before .before .before in (omega (arith, lent here, entry here .pre .0 .3), omega (arith, lent here, entry here .pre .0 .4)))
@@ -169,5 +177,5 @@ rows-read-spec = tie.close (tie.spec Inv-loop μ-loop loop-holds (λ c κs. c .b
     (λ c. let here = in-loop (c .before .before .before .before) in omega (arith, here .loop-test .taken, entry here .pre .0 .1)) (λ c κs. search needs)
     (λ c. in-loop (c .before .before .before .before .before) .before .loop .inv .stored .rows-long)
     (λ c. factors-kept (c .before .before .before .before .before)) returns-2 sheet-after-requires add-p (λ c. search needs) (λ c. search needs) loop-again
-    (λ c. c .before .loop .inv .stored .rows-long) (λ c. c .before .loop .inv .stored .factors-long ∙ sym (c .before .before .before .before .pre .0 .2))
+    (λ c. c .before .loop .inv .stored .rows-long) (λ c. c .before .loop .inv .stored .factors-long ∙ sym (c .before .before .before .before .before .pre .0 .2))
     returns-3)

@@ -4,7 +4,8 @@ use native.Mathlib.Omega.{arith}
 use borrow.Author.Needs.{needs, sfits-of}
 use mir.Facts.{toZ-ofZ}
 use Rattle.types.proofs.RangeLaws.{header-in}
-use Rattle.why.proofs.TellLaws.{work-ready, told-startable, front-long, to-long, to-within, counts-long, lasts-long, stood-long, ends-fit, holds-fit, told-is}
+use Rattle.holding.proofs.HoldLaws.{work-ready}
+use Rattle.why.proofs.TellLaws.{told-startable, front-long, to-long, to-within, counts-long, lasts-long, stood-long, ends-fit, holds-fit, told-is}
 use Rattle.why.proofs.tell.explain_in.Statement.{statement}
 use Rattle.why.proofs.tell.explain_in.Tie as tie
 

@@ -1,8 +1,0 @@
--- `answer::answer_good` meets its contract, which is that of `answer_from`.
-use borrow.Author.Needs.{needs}
-use Rattle.answer.proofs.answer_good.Statement.{statement}
-use Rattle.answer.proofs.answer_good.Tie as tie
-
-pub answer-good-spec : {M : Type 1} → statement M
-answer-good-spec = tie.close (tie.spec (λ c. search needs) (λ c. search needs) (λ c. search needs)
-    (λ c κs. (c .before .before .before .before .before .before .pre, search needs)) (λ c. search needs) (λ c. search needs))

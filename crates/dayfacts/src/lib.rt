@@ -1,0 +1,1 @@
+// Theorems alone: see proofs/.

@@ -1,0 +1,7 @@
+pub mod Anchors
+pub mod LabelLaws
+pub mod LabelledLaws
+pub mod PutLaws
+pub mod FiledLaws
+pub mod AnswerLines
+pub mod DayTheorems

@@ -1,0 +1,4 @@
+pub mod Labelled
+pub mod Label
+pub mod Day
+pub mod Room

@@ -1,0 +1,3 @@
+pub mod ItemLaws
+pub mod HourLaws
+pub mod DayLaws

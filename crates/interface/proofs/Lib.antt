@@ -1,0 +1,3 @@
+pub mod Anchors
+pub mod Figures
+pub mod Told

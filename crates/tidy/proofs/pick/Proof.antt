@@ -1,0 +1,15 @@
+-- `tidy::pick` meets its contract.
+use native.Mathlib.Omega.{arith}
+use Rattle.tidy.proofs.TidyLaws as laws
+use Rattle.tidy.proofs.pick.Statement.{statement}
+use Rattle.tidy.proofs.pick.Tie as tie
+
+returns : tie.Need-returns
+returns c = rw (c .if1 .taken)
+
+returns-2 : tie.Need-returns-2
+returns-2 c = rw (c .if1 .left)
+
+pub pick-spec : {M : Type 1} → statement M
+pick-spec =
+    tie.close (tie.spec returns returns-2)

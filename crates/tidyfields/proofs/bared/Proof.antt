@@ -1,0 +1,51 @@
+-- `tidyfields::bared` meets its contract: the part between the quotes of a field that has them (`unquoted-part`), else the field.
+use mathlib.Core.Path.{sym, ap, _∙_}
+use native.Mathlib.Omega.{arith}
+use borrow.Author.Needs.{needs}
+use Rattle.tidyrules.specs.Fields.{unquoted, bared, quoted}
+use Rattle.tidyfields.proofs.PieceLaws.{quoted-long, unquoted-part, unquoted-not}
+use Rattle.tidyfields.proofs.bared.Statement.{statement}
+use Rattle.tidyfields.proofs.bared.Tie as tie
+
+trimmed-requires : tie.Need-trimmed-requires
+trimmed-requires c κs = search needs
+
+quoted-requires : tie.Need-quoted-requires
+quoted-requires c κs = search needs
+
+sub-trimmed : tie.Need-sub-trimmed
+sub-trimmed c = omega (arith, quoted-long (c .before .before .trimmed .result .now) (sym (c .before .quoted .ensures) ∙ c .if1 .taken))
+
+sub-trimmed-2 : tie.Need-sub-trimmed-2
+sub-trimmed-2 c = omega (arith, quoted-long (c .before .before .trimmed .result .now) (sym (c .before .quoted .ensures) ∙ c .if1 .taken))
+
+part-trimmed-start : tie.Need-part-trimmed-start
+part-trimmed-start c = omega (arith, quoted-long (c .before .before .trimmed .result .now) (sym (c .before .quoted .ensures) ∙ c .if1 .taken))
+
+part-trimmed-end : tie.Need-part-trimmed-end
+part-trimmed-end c = omega arith
+
+trimmed-requires-2 : tie.Need-trimmed-requires-2
+trimmed-requires-2 c = search needs
+
+returns : tie.Need-returns
+unfolding bared
+returns c = c .trimmed2 .ensures ∙ unquoted-part (c .before .before .before .before .before .before .args .last) (c .before .before .before .before .trimmed .result .now) (sym (c .before .before .before .quoted .ensures) ∙ c .before .before .if1 .taken) ∙ ap (unquoted (c .before .before .before .before .before .before .args .last)) (c .before .before .before .before .trimmed .ensures)
+
+returns-2 : tie.Need-returns-2
+unfolding bared
+returns-2 c = unquoted-not (c .before .before .before .before .args .last) (c .before .before .trimmed .result .now) (sym (c .before .quoted .ensures) ∙ c .if1 .left) ∙ ap (unquoted (c .before .before .before .before .args .last)) (c .before .before .trimmed .ensures)
+
+pub bared-spec : {M : Type 1} → statement M
+bared-spec =
+    tie.close
+    (tie.spec
+    trimmed-requires
+    quoted-requires
+    sub-trimmed
+    sub-trimmed-2
+    part-trimmed-start
+    part-trimmed-end
+    trimmed-requires-2
+    returns
+    returns-2)

@@ -1,0 +1,2 @@
+pub mod ColumnStays
+pub mod Accepted
