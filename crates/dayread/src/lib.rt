@@ -17,7 +17,7 @@ use pagefacts::hour;
 use pageform::Figures;
 use pagesheet::facts;
 
-// Numbers the hours from 1 on, and notes which argument names each: how many there are. No more are named than there is room for (`judge`).
+// Numbers the hours from 1 on, and notes which argument names each: how many there are. No more are named than there is room for (crate daylabels).
 pub fn name(command: Command, day: &mut [Figures]) -> usize
     ensures { λ r. ⌜ r ≤ length (now (day .exit)) ⌝ }
 {
