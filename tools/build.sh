@@ -1,13 +1,13 @@
 # shellcheck shell=sh
-# Proves and builds the program and the library where they are not built. Read by ./run, ./build and ./install, which set
+# Proves and builds the two programs and the library where they are not built. Read by ./run, ./build and ./install, which set
 # `name` (their own) and `here` (the repository).
 : "${name:?}" "${here:?}"
 # shellcheck source=tools/kit.sh
 . "$here/tools/kit.sh"
-# shellcheck source=tools/jobs.sh
-. "$here/tools/jobs.sh"
+# shellcheck source=tools/scratch.sh
+. "$here/tools/scratch.sh"
 
-program=$here/target/bin/keravnoth
+programs=$here/target/bin
 library=$here/target/lib/libkeravnoth.a
 shared=$here/target/lib/libkeravnoth.so
 # The shared library's name bears the interface's major number: a program asks the loader for that one.
@@ -52,8 +52,9 @@ is_built() { # CRATE FILE
     [ -e "$2" ] && [ -s "$2.proved" ] && [ -r "$2.sum" ] && [ "$(cat "$2.sum")" = "$(sum_of "$1") $(file_sum "$2")" ]
 }
 
-build_program() {
-    is_built keravnoth "$program" || alone keravnoth "$program" make_program
+# The programs are crates of the same names: keravnoth, which answers, and further, whose words need more than an answer.
+build_program() { # CRATE
+    is_built "$1" "$programs/$1" || alone "$1" "$programs/$1" make_program
 }
 
 build_library() {
@@ -89,8 +90,12 @@ alone() { # CRATE FILE MAKE
     if ! is_built "$1" "$2"; then
         sum=$(sum_of "$1")
         say "proving and building $(basename "$2"), some $(minutes "$(by_the_clock "$(recorded "$(reached_by "$1" | sed 's/:.*//')")")") min where nothing is proved yet; the kit's notes go to $log"
-        set_jobs
-        "$3" || cannot "$(basename "$2") is not proved, so it is not built: see $log"
+        trap remove_scratch EXIT
+        trap 'exit 3' HUP INT TERM
+        make_scratch
+        "$3" "$1" || cannot "$(basename "$2") is not proved, so it is not built: see $log"
+        remove_scratch
+        trap - EXIT HUP INT TERM
         # Any kit will do: proved is proved in its logic, which is kept beside what was built.
         "$kit/bin/rt" version >"$2.proved"
         # The files that were there when the build began: one that was changed meanwhile is built the next time.
@@ -100,14 +105,14 @@ alone() { # CRATE FILE MAKE
     exec 9>&-
 }
 
-make_program() {
+make_program() { # CRATE
     # The kit builds nothing for a crate that it finds stamped as proved: the stamp goes where the program is gone, or is another.
-    if [ ! -x "$program" ] || { [ -e "$program.sum" ] && ! grep -q " $(file_sum "$program")\$" "$program.sum"; }; then
-        rm -f "$here/target/stamp/keravnoth"
+    if [ ! -x "$programs/$1" ] || { [ -e "$programs/$1.sum" ] && ! grep -q " $(file_sum "$programs/$1")\$" "$programs/$1.sum"; }; then
+        rm -f "$here/target/stamp/$1"
     fi
     # In the order of crates.txt, where the longest crates of a level come first: rt starts them in the order in which they are named.
     # shellcheck disable=SC2046 # a crate's name is one word
-    with_progress keravnoth check $(reached_by keravnoth | sed 's/:.*//' | in_order)
+    with_progress "$1" check $(reached_by "$1" | sed 's/:.*//' | in_order)
 }
 
 # Sorts names of crates as crates.txt lists them.
@@ -115,8 +120,8 @@ in_order() {
     awk 'NR == FNR { wanted[$1] = 1; next } { sub(/[ \t]*:.*/, "") } $1 in wanted { print $1 }' - "$here/crates.txt"
 }
 
-make_library() {
-    with_progress cabi staticlib cabi && cp "$here/target/staticlib/libcabi.a" "$library"
+make_library() { # CRATE
+    with_progress "$1" staticlib "$1" && cp "$here/target/staticlib/libcabi.a" "$library"
 }
 
 # Runs rt with its words in the log, and tells each crate as it is done.
@@ -125,7 +130,7 @@ with_progress() { # CRATE WORDS-FOR-RT..
     shift
     # Not on this script's standard input, which is the table.
     {
-        (cd "$here" && "$kit/bin/rt" "$@" </dev/null 2>&1)
+        (cd "$here" && TMPDIR=${scratch:-${TMPDIR:-/tmp}} "$kit/bin/rt" "$@" </dev/null 2>&1)
         echo "rt ended with $?"
     } | tell_progress
 }

@@ -122,35 +122,58 @@ fn plain(i: usize, setting: Setting) -> Plain {
     }
 }
 
-// First the files that options name are read, the corrections and what goes with the word, and then the table.
 fn one_task(task: Task, names: Names, i: usize, setting: Setting) {
-    let sheet = input::named(whole(setting.corrections));
-    if sheet.failed {
+    let mut sheet = input::room();
+    let mut file = input::room();
+    let mut table = input::room();
+    print_task(task, names, i, setting, &mut sheet, &mut file, &mut table);
+}
+
+// First the files that options name are read, the corrections and what goes with the word, and then the table.
+fn print_task(
+    task: Task,
+    names: Names,
+    i: usize,
+    setting: Setting,
+    sheet: &mut [u8],
+    file: &mut [u8],
+    table: &mut [u8],
+) {
+    let corrections = input::named(whole(setting.corrections), sheet);
+    let with = input::named(whole(names.file), file);
+    let read = input::table(names.table, table);
+    if corrections.failed || with.failed || read.failed {
         return;
     }
-    let file = input::named(whole(names.file));
-    if file.failed {
-        return;
-    }
-    let table = input::table(names.table);
-    if table.failed {
-        return;
-    }
+    let k = corrections.count;
+    let m = with.count;
+    let n = read.count;
     name(i);
-    tasks::print(task, whole(setting.marks), table, sheet, file);
+    tasks::print(
+        task,
+        whole(setting.marks),
+        &table[..n],
+        &sheet[..k],
+        &file[..m],
+    );
 }
 
 fn one_why(border: u64, i: usize, setting: Setting) {
-    let sheet = input::named(whole(setting.corrections));
-    if sheet.failed {
+    let mut sheet = input::room();
+    let mut table = input::room();
+    print_why(border, i, setting, &mut sheet, &mut table);
+}
+
+fn print_why(border: u64, i: usize, setting: Setting, sheet: &mut [u8], table: &mut [u8]) {
+    let corrections = input::named(whole(setting.corrections), sheet);
+    let read = input::table(i, table);
+    if corrections.failed || read.failed {
         return;
     }
-    let table = input::table(i);
-    if table.failed {
-        return;
-    }
+    let k = corrections.count;
+    let n = read.count;
     name(i);
-    reasons::print(border, whole(setting.marks), table, sheet);
+    reasons::print(border, whole(setting.marks), &table[..n], &sheet[..k]);
 }
 
 fn name(i: usize) {

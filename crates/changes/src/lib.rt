@@ -1,10 +1,9 @@
 // Tells what differs between two tables, or between a table and the same as a correction sheet corrects it. Both are judged first: a table that is refused has its E line.
 mod fields;
 
-ghost use Rattle.io.specs.Counts.{Counts};
+use arguments::Piece;
 use arguments::whole;
 use command::input;
-use command::input::Text;
 use command::options;
 use command::options::Command;
 use output::Ended;
@@ -27,82 +26,87 @@ pub fn obey(old: usize, new: usize, command: Command) -> Ended {
         messages::misuse(command.plain.word, whole(new), messages::TWICE);
         return Ended::Failed;
     }
-    let sheet = input::named(command.corrections);
-    let before = input::table(old);
-    if sheet.failed || before.failed {
-        return Ended::Failed;
-    }
-    obey_read(new, before, sheet)
+    let mut rows = input::room();
+    let mut before = input::room();
+    let mut after = input::room();
+    obey_in(
+        old,
+        new,
+        command.corrections,
+        &mut rows,
+        &mut before,
+        &mut after,
+    )
 }
 
 fn is_standard_input(i: usize) -> bool {
     arguments::which(whole(i), b"-\n") == 0
 }
 
-fn obey_read(new: usize, before: Text, sheet: Text) -> Ended
-    requires { ⌜ Counts (before .count) (before .bytes) ⌝ }
-    requires { ⌜ Counts (sheet .count) (sheet .bytes) ⌝ }
-{
-    if new == 0 {
-        return compare(b"", b"", before, before, sheet);
-    }
-    let after = input::table(new);
-    if after.failed {
+fn obey_in(
+    old: usize,
+    new: usize,
+    corrections: Piece,
+    rows: &mut [u8],
+    before: &mut [u8],
+    after: &mut [u8],
+) -> Ended {
+    let sheet = input::named(corrections, rows);
+    let first = input::table(old, before);
+    if sheet.failed || first.failed {
         return Ended::Failed;
     }
+    let k = sheet.count;
+    let n = first.count;
+    if new == 0 {
+        return compare_corrected(&before[..n], &rows[..k]);
+    }
+    let second = input::table(new, after);
+    if second.failed {
+        return Ended::Failed;
+    }
+    let m = second.count;
     compare(
         b"the first table",
         b"the second table",
-        before,
-        after,
-        sheet,
+        &before[..n],
+        &after[..m],
+        &rows[..k],
     )
+}
+
+fn compare_corrected<'a>(table: &'a [u8], sheet: &'a [u8]) -> Ended {
+    compare(b"", b"", table, table, sheet)
 }
 
 // Room for a table that is written again.
 const ROOM: usize = text::BYTES_MOST;
 
 // The first table stands as it would be written, where it is good.
-fn compare(first: &[u8], second: &[u8], before: Text, after: Text, sheet: Text) -> Ended
-    requires { ⌜ Counts (before .count) (before .bytes) ⌝ }
-    requires { ⌜ Counts (after .count) (after .bytes) ⌝ }
-    requires { ⌜ Counts (sheet .count) (sheet .bytes) ⌝ }
-{
+fn compare<'a>(
+    first: &[u8],
+    second: &[u8],
+    before: &'a [u8],
+    after: &'a [u8],
+    sheet: &'a [u8],
+) -> Ended {
     let mut out = [0u8; ROOM];
-    let none = input::named(whole(0));
-    match written_again(before, none, &mut out) {
+    match writing::rewrite_corrected(before, b"", &mut out) {
         Written::Bytes(_) => compare_good(second, before, after, sheet),
-        Written::Refused(w) => refused(first, w, before, none),
+        Written::Refused(w) => refused(first, w, before, b""),
     }
 }
 
 // The second table is written again as it is corrected.
-fn compare_good(second: &[u8], before: Text, after: Text, sheet: Text) -> Ended
-    requires { ⌜ Counts (before .count) (before .bytes) ⌝ }
-    requires { ⌜ Counts (after .count) (after .bytes) ⌝ }
-    requires { ⌜ Counts (sheet .count) (sheet .bytes) ⌝ }
-{
+fn compare_good<'a>(second: &[u8], before: &[u8], after: &'a [u8], sheet: &'a [u8]) -> Ended {
     let mut out = [0u8; ROOM];
-    match written_again(after, sheet, &mut out) {
+    match writing::rewrite_corrected(after, sheet, &mut out) {
         Written::Bytes(k) => {
-            let n = before.count;
-            let old = before.bytes;
-            let m = cut(k, &out);
-            told(fields::print(&old[..n], &out[..m]))
+            let m = output::cut(k, &out);
+            told(fields::print(before, &out[..m]))
         }
         Written::Refused(w) => refused(second, w, after, sheet),
     }
-}
-
-fn written_again(table: Text, sheet: Text, out: &mut [u8]) -> Written
-    requires { ⌜ Counts (table .count) (table .bytes) ⌝ }
-    requires { ⌜ Counts (sheet .count) (sheet .bytes) ⌝ }
-{
-    let n = table.count;
-    let text = table.bytes;
-    let k = sheet.count;
-    let rows = sheet.bytes;
-    writing::rewrite_corrected(&text[..n], &rows[..k], out)
 }
 
 fn told(all: bool) -> Ended {
@@ -114,32 +118,13 @@ fn told(all: bool) -> Ended {
 }
 
 // The E line, and what it means: of which table is said where two are named.
-fn refused(of: &[u8], w: Refusal, table: Text, sheet: Text) -> Ended
-    requires { ⌜ Counts (table .count) (table .bytes) ⌝ }
-    requires { ⌜ Counts (sheet .count) (sheet .bytes) ⌝ }
-{
+fn refused<'a>(of: &[u8], w: Refusal, table: &'a [u8], sheet: &'a [u8]) -> Ended {
     let mut out = [0u8; LINE_ROOM];
-    let ended = match result::refusal::write_refusal(w, &mut out) {
-        Written::Bytes(k) => {
-            let m = cut(k, &out);
-            output::put(&out[..m])
-        }
-        Written::Refused(_) => Ended::Failed,
-    };
-    let none = input::named(whole(0));
-    telling::explain(of, false, ended, table, sheet, none);
+    let n = output::refusal_line(w, &mut out);
+    let ended = output::put(&out[..n]);
+    telling::explain(of, false, ended, table, sheet, b"");
     ended
 }
 
 // Room for an E line.
 const LINE_ROOM: usize = 64;
-
-// A call never says that it wrote more than it was lent: asking spares a proof of it.
-fn cut(n: usize, out: &[u8]) -> usize
-    ensures { λ r. ⌜ Counts r (now (out .entry)) ⌝ }
-{
-    if n <= out.len() {
-        return n;
-    }
-    out.len()
-}

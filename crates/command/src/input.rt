@@ -9,13 +9,6 @@ use libc::STDIN_FILENO;
 // Room for a text, one byte more than it may have, so that a longer one is seen.
 const ROOM: usize = text::BYTES_MOST + 1;
 
-// What came of reading: so many bytes at the front, or an error, and then none. No contract can say which bytes are read.
-pub struct Text {
-    pub bytes: [u8; ROOM],
-    pub count: usize,
-    pub failed: bool,
-}
-
 // The memory for a text. The array is written out only here: each place that has it costs the check a second.
 pub fn room() -> [u8; ROOM]
     ensures { λ r. ⌜ 65537 ≡ length r ⌝ }
@@ -23,50 +16,34 @@ pub fn room() -> [u8; ROOM]
     [0; ROOM]
 }
 
-// The table: the file that an argument names, or standard input, whose name is -, where none does.
-pub fn table(at: usize) -> Text
-    ensures { λ r. ⌜ Counts (r .count) (r .bytes) ⌝ }
-{
-    if at == 0 || arguments::which(whole(at), b"-\n") == 0 {
-        return standard();
-    }
-    named(whole(at))
-}
-
-fn standard() -> Text
-    ensures { λ r. ⌜ Counts (r .count) (r .bytes) ⌝ }
-{
-    let mut bytes = room();
-    let read = read_text(STDIN_FILENO, &mut bytes);
-    if read.failed {
-        os::fail(b"keravnoth: reading");
-    }
-    Text {
-        bytes: bytes,
-        count: read.count,
-        failed: read.failed,
-    }
-}
-
-// The file that a piece of an argument names, or nothing where none is given. An argument that cannot be read names none.
-pub fn named(piece: Piece) -> Text
-    ensures { λ r. ⌜ Counts (r .count) (r .bytes) ⌝ }
-{
-    let mut bytes = room();
-    let read = read_named(piece, &mut bytes);
-    Text {
-        bytes: bytes,
-        count: read.count,
-        failed: read.failed,
-    }
-}
-
+// What came of reading: so many bytes at the front, or an error, and then none. No contract can say which bytes are read.
 pub struct Read {
     pub count: usize,
     pub failed: bool,
 }
 
-fn read_named(piece: Piece, text: &mut [u8]) -> Read
+// The table: the file that an argument names, or standard input, whose name is -, where none does.
+pub fn table(at: usize, text: &mut [u8]) -> Read
+    ensures { λ r. ⌜ Counts (r .count) (now (text .exit)) ⌝ }
+{
+    if at == 0 || arguments::which(whole(at), b"-\n") == 0 {
+        return standard(text);
+    }
+    named(whole(at), text)
+}
+
+fn standard(text: &mut [u8]) -> Read
+    ensures { λ r. ⌜ Counts (r .count) (now (text .exit)) ⌝ }
+{
+    let read = read_text(STDIN_FILENO, text);
+    if read.failed {
+        os::fail(b"keravnoth: reading");
+    }
+    read
+}
+
+// The file that a piece of an argument names, or nothing where none is given. An argument that cannot be read names none.
+pub fn named(piece: Piece, text: &mut [u8]) -> Read
     ensures { λ r. ⌜ Counts (r .count) (now (text .exit)) ⌝ }
 {
     if piece.at == 0 {

@@ -3,5 +3,4 @@ pub mod LabelLaws
 pub mod LabelledLaws
 pub mod PutLaws
 pub mod FiledLaws
-pub mod AnswerLines
 pub mod DayTheorems

@@ -1,5 +1,5 @@
 -- That what the code puts, byte by byte, is a labelled text. No contract cites this file.
--- In order: bytes of another text; what stands before a byte; a labelled text, and that there is room for an hour's.
+-- In order: what is left of a text; what stands before a byte; a labelled text, and that there is room for an hour's.
 use mathlib.Core.Path.{_≡_, refl, sym, ap, subst, _∙_}
 use mathlib.Core.Bool.{Bool, true, false}
 use mathlib.Core.List.{List, [], _∷_, _++_, append-assoc, append-nil}
@@ -15,46 +15,12 @@ use Rattle.text.specs.Fields.{tab, feed}
 use Rattle.text.specs.Put.{Put}
 use Rattle.text.proofs.PutLaws.{put-none, put-more, put-room, put-kept, put-whole}
 use Rattle.output.specs.Buffer.{Printed}
-use Rattle.output.proofs.BufferLaws.{over-printed}
+use Rattle.output.proofs.PuttingLaws.{Putting, putting-none, putting-room, putting-kept, putting-more, putting-all, put-printed}
 use Rattle.daylines.specs.Labelled.{heading, labelledFrom, labelled, linesBegun}
 use Rattle.daylines.specs.Room.{labelMost, linesMost, hourRoom}
 use Rattle.daylines.proofs.LabelledLaws.{labelled-length}
 
--- ---- a text of which some is put, and the rest is to be put
-pub record Putting (text rest : List ℕ) (at : ℕ) (out₀ out : List ℕ) (next : ℕ) : Type 0 where
-  pub done : List ℕ
-  pub put : Put done at out₀ next out
-  pub all : done ++ rest ≡ text
-
-module _ {text : List ℕ} {at : ℕ} {out₀ : List ℕ} where
-  pub putting-none : Putting text text at out₀ out₀ at
-  putting-none = record { done = []; put = put-none at out₀; all = refl }
-
-  module _ {rest out : List ℕ} {next : ℕ} (p : Putting text rest at out₀ out next) (room : at + length text ≤ length out₀) where
-    long : length (p .done) + length rest ≡ length text
-    long = sym (length-append (p .done) rest) ∙ ap length (p .all)
-
-    -- there is room for what comes next
-    pub putting-room : next + length rest ≤ length out
-    putting-room = put-room (p .put) (length rest) (omega (arith, long))
-
-    pub putting-kept : length out ≡ length out₀
-    putting-kept = put-kept (p .put) (omega (arith, long))
-
-    pub putting-more : (piece more : List ℕ) {out′ : List ℕ} {next′ : ℕ} → rest ≡ piece ++ more → Put piece next out next′ out′ → Putting text more at out₀ out′ next′
-    putting-more piece more e q = record {
-      done = p .done ++ piece;
-      put = put-more (p .put) (omega arith) q;
-      all = append-assoc (p .done) piece more ∙ ap (λ (l : List ℕ). p .done ++ l) (sym e) ∙ p .all;
-    }
-
-    pub putting-all : rest ≡ [] → Put text at out₀ next out
-    putting-all e = subst (λ (s : List ℕ). Put s at out₀ next out) (sym (append-nil (p .done)) ∙ ap (λ (l : List ℕ). p .done ++ l) (sym e) ∙ p .all) (p .put)
-
 -- ---- what is left from byte k on
-pub drop-next : (text : List ℕ) (k : ℕ) → k < length text → drop k text ≡ (getD text k 0 ∷ []) ++ drop (k + 1) text
-drop-next text k h = rw (add-one, drop-cons text k 0 h)
-
 pub labelled-next : (label : List ℕ) (begins : Bool) (text : List ℕ) (k : ℕ) → k < length text
     → labelledFrom label begins (drop k text) ≡ heading label begins ++ ((getD text k 0 ∷ []) ++ labelledFrom label (eqb (getD text k 0) feed) (drop (k + 1) text))
 unfolding labelledFrom
@@ -63,9 +29,6 @@ labelled-next label begins text k h = rw (add-one, drop-cons text k 0 h)
 pub labelled-past : (label : List ℕ) (begins : Bool) (text : List ℕ) (k : ℕ) → length text ≤ k → labelledFrom label begins (drop k text) ≡ []
 unfolding labelledFrom
 labelled-past label begins text k h = rw (drop-of-length-le text h)
-
-pub put-printed : {text out : List ℕ} {next : ℕ} {out′ : List ℕ} → Put text 0 out next out′ → Printed next text out′
-put-printed {text} {out} {next} {out′} p = let w = put-whole p in over-printed text out out′ next (w .0) (w .1)
 
 -- ---- what stands before a byte
 module _ (label : List ℕ) where

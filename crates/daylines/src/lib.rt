@@ -35,18 +35,6 @@ fn put_heading(label: &[u8], begins: bool, out: &mut [u8], at: usize) -> usize
     if !begins {
         return at;
     }
-    let next = put_bytes(label, out, at);
+    let next = output::put_bytes(label, out, at);
     text::put::put_byte(b'\t', out, next)
-}
-
-// The bytes of another text.
-pub fn put_bytes(bytes: &[u8], out: &mut [u8], at: usize) -> usize
-    requires { ⌜ at + length (now bytes) ≤ length (now out) ⌝ }
-    ensures { λ r. ⌜ Put (now (bytes .entry)) at (now (out .entry)) r (now (out .exit)) ⌝ }
-{
-    let mut next = at;
-    for k in 0..bytes.len() {
-        next = text::put::put_byte(bytes[k], out, next);
-    }
-    next
 }

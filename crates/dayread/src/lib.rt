@@ -143,7 +143,10 @@ fn answered(
 ) -> Came
     requires { ⌜ (k < hoursMost) × (length (now ways) ≡ hoursMost * bordersMost) × (length (now atcs) ≡ hoursMost * bordersMost) ⌝ }
 {
-    let hour = hoursheet::keep_hour(name, all, marks, k, text, ways, atcs);
+    let hour = hourtables::keep(all, marks, text, k, ways, atcs);
+    if hour[0] == daysheet::REFUSED {
+        telling::table_refused(label::label_of(name), hour[1], hour[2], hour[3], text);
+    }
     Came {
         hour: hour,
         bound: bounds::most(all, marks, text),

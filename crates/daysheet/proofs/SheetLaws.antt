@@ -16,7 +16,7 @@ use Rattle.text.specs.Put.{Put}
 use Rattle.text.specs.Written.{decimal}
 use Rattle.text.proofs.PutLaws.{put-more}
 use Rattle.output.specs.Buffer.{Printed}
-use Rattle.daylines.proofs.PutLaws.{put-printed}
+use Rattle.output.proofs.PuttingLaws.{put-printed}
 use Rattle.daysheet.specs.declared.Own.{Own}
 use Rattle.daysheet.specs.declared.Own.the-variants.{Number, DayAhead, Intraday, Absent, Other}
 use Rattle.daysheet.specs.declared.Line.{Line}

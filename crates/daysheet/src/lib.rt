@@ -49,8 +49,8 @@ pub fn put_front(line: Line, name: u64, out: &mut [u8]) -> usize
     ensures { λ r. ⌜ Printed r (frontText line name) (now (out .exit)) ⌝ }
 {
     match line {
-        Line::Rounds => daylines::put_bytes(b"rounds;;;;", out, 0),
-        Line::Profile => daylines::put_bytes(b"profile;;;;", out, 0),
+        Line::Rounds => output::put_bytes(b"rounds;;;;", out, 0),
+        Line::Profile => output::put_bytes(b"profile;;;;", out, 0),
         Line::Border(b) => put_border(b, name, out),
     }
 }
@@ -202,10 +202,10 @@ fn put_own(own: Own, number: u64, out: &mut [u8], at: usize) -> usize
 {
     match own {
         Own::Number => text::put::put_number(number, out, at),
-        Own::DayAhead => daylines::put_bytes(b"day-ahead", out, at),
-        Own::Intraday => daylines::put_bytes(b"intraday", out, at),
-        Own::Absent => daylines::put_bytes(b"-", out, at),
-        Own::Other => daylines::put_bytes(b"other", out, at),
+        Own::DayAhead => output::put_bytes(b"day-ahead", out, at),
+        Own::Intraday => output::put_bytes(b"intraday", out, at),
+        Own::Absent => output::put_bytes(b"-", out, at),
+        Own::Other => output::put_bytes(b"other", out, at),
     }
 }
 

@@ -21,7 +21,7 @@ use Rattle.daylines.specs.Labelled.{labelled, linesBegun}
 use Rattle.daylines.specs.Day.{unreadText}
 use Rattle.daylines.specs.Room.{labelMost, linesMost, hourRoom}
 use Rattle.daylines.proofs.PutLaws.{hour-fits}
-use Rattle.daylines.proofs.AnswerLines.{answer-lines}
+use Rattle.hours.proofs.AnswerLines.{answer-lines}
 
 -- ---- what the word for the answer prints without a sheet is the answer
 told-outcome : (all : Bool) (marks : List ℕ) (j : Judged Table)

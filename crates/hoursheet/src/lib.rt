@@ -120,7 +120,7 @@ fn read_hour(
 }
 
 // What came of hour k, whose table was read. That it is refused is said.
-pub fn keep_hour(
+fn keep_hour(
     name: &[u8],
     all: bool,
     marks: &[u64],

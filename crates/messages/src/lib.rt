@@ -48,6 +48,8 @@ pub const NO_WORD: usize = 17;
 
 pub const TABLE_MISSING: usize = 18;
 
+pub const OTHER_PROGRAM: usize = 19;
+
 // A misuse: the option or word that it is about, the piece of an argument that is wrong, 0 for each that there is none of, and in which way.
 pub fn misuse(of: usize, wrong: Piece, way: usize) {
     say(b"keravnoth: ");
@@ -77,7 +79,8 @@ pub fn misuse(of: usize, wrong: Piece, way: usize) {
         the border is missing\n\
         the number is missing\n\
         is no word either\n\
-        the second table is missing, or --corrections\n",
+        the second table is missing, or --corrections\n\
+        the program beside this one answers that\n",
         way,
     ));
     say(b"; see keravnoth --help\n");

@@ -1,2 +1,3 @@
 pub mod BufferLaws
 pub mod HeardLaws
+pub mod PuttingLaws

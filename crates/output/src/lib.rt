@@ -1,7 +1,9 @@
-// Standard output: a text is printed, and what came of it is heard from the text itself; and a refusal as the text that is printed for it.
+// Standard output: a text is printed, and what came of it is heard from the text itself; a refusal as the text that is printed for it; and bytes put into a text that is.
 ghost use mathlib.Core.Path.{_≡_};
-ghost use Prim.Native.Nat.{_≤_};
+ghost use Prim.Native.Nat.{_+_, _≤_};
 ghost use lib.ListN.{length};
+ghost use Rattle.io.specs.Counts.{Counts};
+ghost use Rattle.text.specs.Put.{Put};
 ghost use Rattle.result.specs.Refusal.{refusalText, refusalMost};
 ghost use Rattle.output.specs.Buffer.{bytesOf, Printed, Told};
 ghost use Rattle.output.specs.Heard.{refusalIn, heardOf};
@@ -81,4 +83,26 @@ fn bytes_of(said: Written) -> usize
         Written::Bytes(n) => n,
         Written::Refused(_) => 0,
     }
+}
+
+// The bytes of another text.
+pub fn put_bytes(bytes: &[u8], out: &mut [u8], at: usize) -> usize
+    requires { ⌜ at + length (now bytes) ≤ length (now out) ⌝ }
+    ensures { λ r. ⌜ Put (now (bytes .entry)) at (now (out .entry)) r (now (out .exit)) ⌝ }
+{
+    let mut next = at;
+    for k in 0..bytes.len() {
+        next = text::put::put_byte(bytes[k], out, next);
+    }
+    next
+}
+
+// How many bytes of a text are printed of which a call says that it wrote so many. It never says more than it was lent: asking spares a proof of it.
+pub fn cut(n: usize, out: &[u8]) -> usize
+    ensures { λ r. ⌜ Counts r (now (out .entry)) ⌝ }
+{
+    if n <= out.len() {
+        return n;
+    }
+    out.len()
 }

@@ -2,22 +2,14 @@
 ghost use Rattle.io.specs.Counts.{Counts};
 use arguments::Piece;
 use arguments::whole;
-use command::input::Text;
 use output::Ended;
 
 // Prints the page of the table as the sheet corrects it, under the label that is given, or else the name of the table, which an argument has. Where no list of marks is given, all borders
 // may rise.
-pub fn print(label: Piece, name: usize, list: Piece, table: Text, sheet: Text) -> Ended
-    requires { ⌜ Counts (table .count) (table .bytes) ⌝ }
-    requires { ⌜ Counts (sheet .count) (sheet .bytes) ⌝ }
-{
+pub fn print<'a>(label: Piece, name: usize, list: Piece, text: &'a [u8], sheet: &'a [u8]) -> Ended {
     let listed = arguments::list(list);
     let m = listed.count;
     let marks = listed.numbers;
-    let n = table.count;
-    let text = table.bytes;
-    let k = sheet.count;
-    let rows = sheet.bytes;
     let given = label_of(label, name);
     let mut own = arguments::room();
     let l = read_label(given.at, &mut own);
@@ -25,8 +17,8 @@ pub fn print(label: Piece, name: usize, list: Piece, table: Text, sheet: Text) -
         shortened(label.at > 0, arguments::tail(&own[..l], given.from)),
         list.at == 0,
         &marks[..m],
-        &text[..n],
-        &rows[..k],
+        text,
+        sheet,
     )
 }
 

@@ -10,11 +10,11 @@ use pagesheet::strip;
 pub fn print(day: &[Figures], hours: &[HourRecord], ways: &[u64], atcs: &[u64]) -> bool
     requires { ⌜ length (now hours) ≤ hoursMost ⌝ }
 {
-    page::plain(page::TITLE)
+    pageframe::plain(pageframe::TITLE)
         && print_name(day)
-        && page::plain(page::STYLE)
+        && pageframe::plain(pageframe::STYLE)
         && plain(0)
-        && page::plain(page::BODY)
+        && pageframe::plain(pageframe::BODY)
         && plain(1)
         && print_name(day)
         && plain(2)

@@ -15,17 +15,6 @@ use pageform::Figures;
 
 const ITEMS: usize = daysheet::HOURS_MOST * limits::BORDERS_MOST;
 
-// A day in the form that is asked for: as a page, as a sheet, or as lines.
-pub fn obey(command: Command) -> Ended {
-    if command.page.at > 0 {
-        return print(command);
-    }
-    if command.sheet.at > 0 {
-        return hoursheet::print(command);
-    }
-    hours::print(command)
-}
-
 pub fn print(command: Command) -> Ended {
     if !daylabels::judged(command) {
         return Ended::Failed;

@@ -96,5 +96,5 @@ fn print_end() -> bool {
     r[hour::ANSWERED] = 1;
     r[hour::KEPT] = 1;
     r[page::hours::DAY] = 1;
-    page::hours::piece(page::hours::FOOT, &r) && page::plain(page::END)
+    page::hours::piece(page::hours::FOOT, &r) && pageframe::plain(pageframe::END)
 }

@@ -1,10 +1,8 @@
 // Prints why a border got no more, for the texts that were read: apart from the other words, whose crates it needs none of.
 ghost use Prim.Native.Nat.{_≤_};
 ghost use lib.ListN.{length};
-ghost use Rattle.io.specs.Counts.{Counts};
 ghost use Rattle.result.specs.Refusal.{refusalMost};
 use arguments::Piece;
-use command::input::Text;
 use output::Ended;
 use whytext::Told;
 
@@ -19,26 +17,12 @@ pub enum Reasoned {
 const ROOM: usize = 4096;
 
 // Prints the words of a border of the table as the sheet corrects it; where one of them is refused, the E line. Where no list of marks is given, all borders may rise.
-pub fn print(border: u64, list: Piece, table: Text, sheet: Text) -> Reasoned
-    requires { ⌜ Counts (table .count) (table .bytes) ⌝ }
-    requires { ⌜ Counts (sheet .count) (sheet .bytes) ⌝ }
-{
+pub fn print<'a>(border: u64, list: Piece, text: &'a [u8], sheet: &'a [u8]) -> Reasoned {
     let listed = arguments::list(list);
     let m = listed.count;
     let marks = listed.numbers;
-    let n = table.count;
-    let text = table.bytes;
-    let k = sheet.count;
-    let rows = sheet.bytes;
     let mut out = [0u8; ROOM];
-    print_lent(
-        border,
-        list.at == 0,
-        &marks[..m],
-        &text[..n],
-        &rows[..k],
-        &mut out,
-    )
+    print_lent(border, list.at == 0, &marks[..m], text, sheet, &mut out)
 }
 
 fn print_lent<'a>(
@@ -62,8 +46,6 @@ fn print_lent<'a>(
 }
 
 fn put_front(out: &[u8], n: usize) -> Ended {
-    if n <= out.len() {
-        return output::put(&out[..n]);
-    }
-    output::put(out)
+    let m = output::cut(n, out);
+    output::put(&out[..m])
 }

@@ -1,16 +1,38 @@
 // What people are told of what came of printing: nothing of an answer, the meaning of a refusal, and that writing failed.
 ghost use Rattle.io.specs.Counts.{Counts};
-use command::input::Text;
+use arguments::whole;
+use command::input;
+use command::options::Command;
 use libc::STDOUT_FILENO;
 use output::Ended;
-use printing::tasks;
+use refusals::Written;
+
+// The status, as a digit.
+pub fn digit(ended: Ended) -> u8 {
+    match ended {
+        Ended::Answered => b'0',
+        Ended::Refused(_, _, _) => b'1',
+        Ended::Failed => b'2',
+    }
+}
+
+// The digit that hands a word on to the other program. Where nobody hears it, that is said.
+pub fn elsewhere(command: Command) -> u8 {
+    if command.status.at == 0 {
+        messages::misuse(command.plain.word, whole(0), messages::OTHER_PROGRAM);
+    }
+    b'3'
+}
 
 // Says on standard error what people need to know, of the texts that were read, also of a file that goes with the word. Before it stands what it is about where that is named.
-pub fn explain(of: &[u8], with_file: bool, ended: Ended, table: Text, sheet: Text, file: Text)
-    requires { ⌜ Counts (table .count) (table .bytes) ⌝ }
-    requires { ⌜ Counts (sheet .count) (sheet .bytes) ⌝ }
-    requires { ⌜ Counts (file .count) (file .bytes) ⌝ }
-{
+pub fn explain<'a>(
+    of: &[u8],
+    with_file: bool,
+    ended: Ended,
+    table: &'a [u8],
+    sheet: &'a [u8],
+    file: &[u8],
+) {
     match ended {
         Ended::Answered => {}
         Ended::Refused(number, place, byte) => {
@@ -59,13 +81,10 @@ pub fn written(text: &[u8]) -> bool {
 const NO_LINE: usize = 4;
 
 // The text whose line is blamed. The E line does not say which text it is about: where the table itself is good, 2 and 3 are about the sheet of rows after the word.
-fn blamed(with_file: bool, number: u64, table: Text, sheet: Text) -> usize
-    requires { ⌜ Counts (table .count) (table .bytes) ⌝ }
-    requires { ⌜ Counts (sheet .count) (sheet .bytes) ⌝ }
-{
+fn blamed<'a>(with_file: bool, number: u64, table: &'a [u8], sheet: &'a [u8]) -> usize {
     match number {
         2..=3 => {
-            if with_file && tasks::table_good(table, sheet) {
+            if with_file && table_good(table, sheet) {
                 faultwords::SHEET
             } else {
                 faultwords::TABLE
@@ -76,10 +95,18 @@ fn blamed(with_file: bool, number: u64, table: Text, sheet: Text) -> usize
     }
 }
 
+// Whether the table is good, as the sheet corrects it.
+fn table_good<'a>(table: &'a [u8], sheet: &'a [u8]) -> bool {
+    let mut out = input::room();
+    match writing::rewrite_corrected(table, sheet, &mut out) {
+        Written::Bytes(_) => true,
+        Written::Refused(_) => false,
+    }
+}
+
 // A correction sheet that begins with a digit has semicolon rows.
-fn of_corrections(sheet: Text) -> usize {
-    let bytes = sheet.bytes;
-    match bytes[0] {
+fn of_corrections(sheet: &[u8]) -> usize {
+    match text::field::byte_at(sheet, 0) {
         b'0'..=b'9' => faultwords::ROWS,
         _ => faultwords::CORRECTIONS,
     }
@@ -94,32 +121,17 @@ fn refused(
     number: u64,
     place: u64,
     byte: u64,
-    table: Text,
-    sheet: Text,
-    file: Text,
-)
-    requires { ⌜ Counts (table .count) (table .bytes) ⌝ }
-    requires { ⌜ Counts (sheet .count) (sheet .bytes) ⌝ }
-    requires { ⌜ Counts (file .count) (file .bytes) ⌝ }
-{
-    let n = table.count;
-    let text = table.bytes;
+    table: &[u8],
+    sheet: &[u8],
+    file: &[u8],
+) {
     if which == NO_LINE {
-        messages::refusal(of, number, place, byte, &text[..n], sheet.count, file.count);
+        messages::refusal(of, number, place, byte, table, sheet.len(), file.len());
         return;
     }
     let mut out = [0u8; ROOM];
-    let m = put_fault(
-        which,
-        number,
-        place,
-        byte,
-        &text[..n],
-        sheet,
-        file,
-        &mut out,
-    );
-    messages::line(of, &out[..m])
+    let n = put_fault(which, number, place, byte, table, sheet, file, &mut out);
+    messages::line(of, &out[..n])
 }
 
 // The words of the text that is blamed.
@@ -129,23 +141,17 @@ fn put_fault(
     place: u64,
     byte: u64,
     table: &[u8],
-    sheet: Text,
-    file: Text,
+    sheet: &[u8],
+    file: &[u8],
     out: &mut [u8],
 ) -> usize
-    requires { ⌜ Counts (sheet .count) (sheet .bytes) ⌝ }
-    requires { ⌜ Counts (file .count) (file .bytes) ⌝ }
     ensures { λ r. ⌜ Counts r (now (out .exit)) ⌝ }
 {
     if which == faultwords::TABLE {
         return faultwords::put(which, number, place, byte, table, table, out);
     }
     if which == faultwords::SHEET {
-        let n = file.count;
-        let rows = file.bytes;
-        return faultwords::put(which, number, place, byte, table, &rows[..n], out);
+        return faultwords::put(which, number, place, byte, table, file, out);
     }
-    let n = sheet.count;
-    let rows = sheet.bytes;
-    faultwords::put(which, number, place, byte, table, &rows[..n], out)
+    faultwords::put(which, number, place, byte, table, sheet, out)
 }

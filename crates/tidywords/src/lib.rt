@@ -23,7 +23,7 @@ pub fn print(text: &[u8]) -> Ended {
 fn print_into(text: &[u8], out: &mut [u8]) -> Ended {
     match tidy::tidy(text, out) {
         Written::Bytes(k) => {
-            let n = cut(k, out);
+            let n = output::cut(k, out);
             if !io::write_all(STDOUT_FILENO, &out[..n]) {
                 return Ended::Failed;
             }
@@ -40,13 +40,6 @@ fn print_into(text: &[u8], out: &mut [u8]) -> Ended {
 
 // Room for an E line.
 const LINE: usize = 64;
-
-// So many bytes, or as many as there are.
-fn cut(k: usize, out: &[u8]) -> usize
-    ensures { λ r. ⌜ Counts r (now (out .entry)) ⌝ }
-{
-    if k < out.len() { k } else { out.len() }
-}
 
 // No text that the calculator takes has more lines, and no line more fields: what follows is not looked at.
 const LINES_MOST: usize = 512;

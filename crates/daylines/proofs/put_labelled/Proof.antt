@@ -3,7 +3,8 @@
 use Prim.Native.Nat.{_-_}
 use native.Mathlib.Omega.{arith}
 use borrow.Author.Needs.{needs}
-use Rattle.daylines.proofs.PutLaws.{putting-none, Labelling, heading-room, byte-room, labelling-more, labelling-kept, labelling-all}
+use Rattle.output.proofs.PuttingLaws.{putting-none}
+use Rattle.daylines.proofs.PutLaws.{Labelling, heading-room, byte-room, labelling-more, labelling-kept, labelling-all}
 use Rattle.daylines.proofs.put_labelled.Statement.{statement}
 use Rattle.daylines.proofs.put_labelled.Tie as tie
 

@@ -16,20 +16,8 @@ abbrev μ-loop : tie.MeasureT-loop
 loop-holds : tie.Need-loop-holds Inv-loop μ-loop
 loop-holds c = looked-none _ _
 
-mul-has-border : tie.Need-mul-has-border Inv-loop μ-loop
-mul-has-border c = omega arith
-
-shared-slice-copy-out-has-border : tie.Need-shared-slice-copy-out-has-border Inv-loop μ-loop
-shared-slice-copy-out-has-border c = omega arith
-
 returns : tie.Need-returns Inv-loop μ-loop
 returns c = looked-here _ _ _ (omega arith) (c .before .before .before .before .loop .inv) (sym (c .before .has-border .ensures) ∙ c .if1 .taken)
-
-add-k : tie.Need-add-k Inv-loop μ-loop
-add-k c = omega arith
-
-loop-less : tie.Need-loop-less Inv-loop μ-loop
-loop-less c = omega arith
 
 loop-again : tie.Need-loop-again Inv-loop μ-loop
 loop-again c = looked-more _ _ _ (omega arith) (c .before .before .before .before .loop .inv) (sym (c .before .has-border .ensures) ∙ c .if1 .left)
@@ -38,4 +26,5 @@ returns-2 : tie.Need-returns-2 Inv-loop μ-loop
 returns-2 c = looked-all _ _ _ (c .before .loop .inv) (omega arith)
 
 pub first-with-spec : {M : Type 1} → statement M
-first-with-spec = tie.close (tie.spec Inv-loop μ-loop loop-holds mul-has-border shared-slice-copy-out-has-border (λ c κs. search needs) returns add-k loop-less loop-again returns-2)
+first-with-spec = tie.close (tie.spec Inv-loop μ-loop loop-holds (λ c. omega arith) (λ c. omega arith) (λ c κs. search needs) returns
+    (λ c. omega arith) (λ c. omega arith) loop-again returns-2)

@@ -1,5 +1,5 @@
 -- `daysheet::put_front` meets its contract: the front of each line.
-use Rattle.daylines.proofs.PutLaws.{put-printed}
+use Rattle.output.proofs.PuttingLaws.{put-printed}
 use Rattle.daysheet.specs.Sheet.{frontText}
 use borrow.Author.Needs.{needs}
 use Rattle.daysheet.proofs.put_front.Statement.{statement}

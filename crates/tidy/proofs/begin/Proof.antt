@@ -16,9 +16,6 @@ Inv-loop text p₀ m₀ p m = Begun text p m
 abbrev μ-loop : tie.MeasureT-loop
 μ-loop text p₀ m₀ p m = length text - p
 
-mark-requires : tie.Need-mark-requires Inv-loop μ-loop
-mark-requires c κs = search needs
-
 loop-holds : tie.Need-loop-holds Inv-loop μ-loop
 loop-holds c = begun-none (c .before .before .args .text .now) (c .mark .result) (c .mark .ensures)
 
@@ -38,5 +35,4 @@ returns : tie.Need-returns Inv-loop μ-loop
 returns c = begun-all (c .before .loop .inv) (omega arith)
 
 pub begin-spec : {M : Type 1} → statement M
-begin-spec =
-    tie.close (tie.spec Inv-loop μ-loop mark-requires loop-holds add-p mark-requires-2 loop-less loop-again returns)
+begin-spec = tie.close (tie.spec Inv-loop μ-loop (λ c κs. search needs) loop-holds add-p mark-requires-2 loop-less loop-again returns)

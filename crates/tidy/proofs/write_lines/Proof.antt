@@ -21,9 +21,6 @@ abbrev μ-loop : tie.MeasureT-loop
 loop-holds : tie.Need-loop-holds Inv-loop μ-loop
 loop-holds c = lines-none (c .before .before .args .text .now) (c .before .before .args .from) (c .before .before .args .out .now)
 
-piece-end-requires : tie.Need-piece-end-requires Inv-loop μ-loop
-piece-end-requires c κs = search needs
-
 sub-write-line : tie.Need-sub-write-line Inv-loop μ-loop
 sub-write-line c = omega (arith, c .piece-end .ensures)
 
@@ -38,9 +35,6 @@ write-line-requires c κs = omega (arith, lines-room (c .before .before .before 
 
 put-requires : tie.Need-put-requires Inv-loop μ-loop
 put-requires c κs = omega (arith, c .before .before .before .write-line .ensures .put .after, lines-room (c .before .before .before .before .before .before .before .before .loop .inv) (c .before .before .before .before .before .before .piece-end .result) (c .before .before .before .before .before .before .before .loop-test .taken) (c .before .before .before .before .before .before .piece-end .ensures) (c .before .before .before .before .before .before .before .before .before .before .before .pre .1))
-
-pick-requires : tie.Need-pick-requires Inv-loop μ-loop
-pick-requires c κs = search needs
 
 add-p : tie.Need-add-p Inv-loop μ-loop
 add-p c = omega (arith, piece-le feed feed (c .before .before .before .before .before .before .before .before .before .before .before .before .before .before .before .args .text .now) (c .before .before .before .before .before .before .before .before .before .before .before .before .loop .p) (c .before .before .before .before .before .before .before .before .before .before .piece-end .result) (omega arith) (c .before .before .before .before .before .before .before .before .before .before .piece-end .ensures))
@@ -58,21 +52,5 @@ returns : tie.Need-returns Inv-loop μ-loop
 returns c = lines-all (c .before .loop .inv) (omega arith)
 
 pub write-lines-spec : {M : Type 1} → statement M
-write-lines-spec =
-    tie.close
-    (tie.spec
-    Inv-loop
-    μ-loop
-    loop-holds
-    piece-end-requires
-    sub-write-line
-    part-write-line-start
-    part-write-line-end
-    write-line-requires
-    put-requires
-    pick-requires
-    add-p
-    loop-less
-    loop-again
-    same-length
-    returns)
+write-lines-spec = tie.close (tie.spec Inv-loop μ-loop loop-holds (λ c κs. search needs) sub-write-line part-write-line-start part-write-line-end
+    write-line-requires put-requires (λ c κs. search needs) add-p loop-less loop-again same-length returns)

@@ -7,12 +7,6 @@ use Rattle.tidyfields.proofs.PieceLaws.{quoted-long, unquoted-part, unq
 use Rattle.tidyfields.proofs.bared.Statement.{statement}
 use Rattle.tidyfields.proofs.bared.Tie as tie
 
-trimmed-requires : tie.Need-trimmed-requires
-trimmed-requires c κs = search needs
-
-quoted-requires : tie.Need-quoted-requires
-quoted-requires c κs = search needs
-
 sub-trimmed : tie.Need-sub-trimmed
 sub-trimmed c = omega (arith, quoted-long (c .before .before .trimmed .result .now) (sym (c .before .quoted .ensures) ∙ c .if1 .taken))
 
@@ -21,12 +15,6 @@ sub-trimmed-2 c = omega (arith, quoted-long (c .before .before .trimmed .result 
 
 part-trimmed-start : tie.Need-part-trimmed-start
 part-trimmed-start c = omega (arith, quoted-long (c .before .before .trimmed .result .now) (sym (c .before .quoted .ensures) ∙ c .if1 .taken))
-
-part-trimmed-end : tie.Need-part-trimmed-end
-part-trimmed-end c = omega arith
-
-trimmed-requires-2 : tie.Need-trimmed-requires-2
-trimmed-requires-2 c = search needs
 
 returns : tie.Need-returns
 unfolding bared
@@ -37,15 +25,5 @@ unfolding bared
 returns-2 c = unquoted-not (c .before .before .before .before .args .last) (c .before .before .trimmed .result .now) (sym (c .before .quoted .ensures) ∙ c .if1 .left) ∙ ap (unquoted (c .before .before .before .before .args .last)) (c .before .before .trimmed .ensures)
 
 pub bared-spec : {M : Type 1} → statement M
-bared-spec =
-    tie.close
-    (tie.spec
-    trimmed-requires
-    quoted-requires
-    sub-trimmed
-    sub-trimmed-2
-    part-trimmed-start
-    part-trimmed-end
-    trimmed-requires-2
-    returns
-    returns-2)
+bared-spec = tie.close (tie.spec (λ c κs. search needs) (λ c κs. search needs) sub-trimmed sub-trimmed-2 part-trimmed-start (λ c. omega arith)
+    (λ c. search needs) returns returns-2)

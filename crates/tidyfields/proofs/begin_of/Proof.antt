@@ -17,17 +17,8 @@ abbrev μ-loop : tie.MeasureT-loop
 loop-holds : tie.Need-loop-holds Inv-loop μ-loop
 loop-holds c = (omega arith, refl)
 
-shared-slice-read-if1 : tie.Need-shared-slice-read-if1 Inv-loop μ-loop
-shared-slice-read-if1 c = omega arith
-
 returns : tie.Need-returns Inv-loop μ-loop
 returns c = (omega arith, sym (unled-here (c .before .before .before .before .args .f .now) (c .before .before .before .loop .i) (c .before .before .loop-test .taken) (c .if1 .taken)) ∙ c .before .before .before .loop .inv .1)
-
-add-i : tie.Need-add-i Inv-loop μ-loop
-add-i c = omega arith
-
-loop-less : tie.Need-loop-less Inv-loop μ-loop
-loop-less c = omega arith
 
 loop-again : tie.Need-loop-again Inv-loop μ-loop
 loop-again c = (omega arith, sym (unled-step (c .before .before .before .before .args .f .now) (c .before .before .before .loop .i) (c .before .before .loop-test .taken) (c .if1 .left)) ∙ c .before .before .before .loop .inv .1)
@@ -36,5 +27,4 @@ returns-2 : tie.Need-returns-2 Inv-loop μ-loop
 returns-2 c = (omega arith, sym (unled-end (c .before .before .args .f .now) (c .before .loop .i) (omega arith)) ∙ c .before .loop .inv .1)
 
 pub begin-of-spec : {M : Type 1} → statement M
-begin-of-spec =
-    tie.close (tie.spec Inv-loop μ-loop loop-holds shared-slice-read-if1 returns add-i loop-less loop-again returns-2)
+begin-of-spec = tie.close (tie.spec Inv-loop μ-loop loop-holds (λ c. omega arith) returns (λ c. omega arith) (λ c. omega arith) loop-again returns-2)

@@ -16,32 +16,11 @@ Inv-loop f at i₀ i = closes (drop i f) ≡ closes (drop at f)
 abbrev μ-loop : tie.MeasureT-loop
 μ-loop f at i₀ i = length f - i
 
-loop-holds : tie.Need-loop-holds Inv-loop μ-loop
-loop-holds c = refl
-
-shared-slice-read-if1 : tie.Need-shared-slice-read-if1 Inv-loop μ-loop
-shared-slice-read-if1 c = omega arith
-
-add-result : tie.Need-add-result Inv-loop μ-loop
-add-result c = omega arith
-
 returns : tie.Need-returns Inv-loop μ-loop
 returns c = closes-here (c .before .before .before .before .before .args .f .now) (c .before .before .before .loop .i) (c .before .before .loop-test .taken) (c .if1 .taken) ∙ c .before .before .before .loop .inv
 
-shared-slice-read-between : tie.Need-shared-slice-read-between Inv-loop μ-loop
-shared-slice-read-between c = omega arith
-
-between-requires : tie.Need-between-requires Inv-loop μ-loop
-between-requires c κs = search needs
-
 returns-2 : tie.Need-returns-2 Inv-loop μ-loop
 returns-2 c = closes-bad (c .before .before .before .before .before .before .before .before .args .f .now) (c .before .before .before .before .before .before .loop .i) (c .before .before .before .before .before .loop-test .taken) (c .before .before .before .if1 .left) (sym (c .before .between .ensures) ∙ not-true (c .before .between .result) (c .if2 .taken)) ∙ c .before .before .before .before .before .before .loop .inv
-
-add-i : tie.Need-add-i Inv-loop μ-loop
-add-i c = omega arith
-
-loop-less : tie.Need-loop-less Inv-loop μ-loop
-loop-less c = omega arith
 
 loop-again : tie.Need-loop-again Inv-loop μ-loop
 loop-again c = sym (closes-step (c .before .before .before .before .before .before .before .before .args .f .now) (c .before .before .before .before .before .before .loop .i) (c .before .before .before .before .before .loop-test .taken) (c .before .before .before .if1 .left) (sym (c .before .between .ensures) ∙ not-false (c .before .between .result) (c .if2 .left))) ∙ c .before .before .before .before .before .before .loop .inv
@@ -50,19 +29,5 @@ returns-3 : tie.Need-returns-3 Inv-loop μ-loop
 returns-3 c = closes-end (c .before .before .before .args .f .now) (c .before .loop .i) (omega arith) ∙ c .before .loop .inv
 
 pub closes-spec : {M : Type 1} → statement M
-closes-spec =
-    tie.close
-    (tie.spec
-    Inv-loop
-    μ-loop
-    loop-holds
-    shared-slice-read-if1
-    add-result
-    returns
-    shared-slice-read-between
-    between-requires
-    returns-2
-    add-i
-    loop-less
-    loop-again
-    returns-3)
+closes-spec = tie.close (tie.spec Inv-loop μ-loop (λ c. refl) (λ c. omega arith) (λ c. omega arith) returns (λ c. omega arith) (λ c κs. search needs)
+    returns-2 (λ c. omega arith) (λ c. omega arith) loop-again returns-3)

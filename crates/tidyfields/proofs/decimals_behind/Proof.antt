@@ -13,24 +13,9 @@ returns : tie.Need-returns
 unfolding decimalsBehind
 returns c = rw (not-true (c .before .before .args .some) (c .if1 .taken))
 
-shared-slice-read-if2 : tie.Need-shared-slice-read-if2
-shared-slice-read-if2 c = omega arith
-
 returns-2 : tie.Need-returns-2
 unfolding decimalsBehind
 returns-2 c = rw (not-false (c .before .before .before .before .args .some) (c .before .before .if1 .left), ne-eqb (getD (c .before .before .before .before .args .f .now) (c .before .before .before .before .args .i) 0) 46 (c .if2 .taken))
-
-add-digits-only : tie.Need-add-digits-only
-add-digits-only c = omega arith
-
-digits-only-requires : tie.Need-digits-only-requires
-digits-only-requires c κs = search needs
-
-add-result : tie.Need-add-result
-add-result c = omega arith
-
-sub-result : tie.Need-sub-result
-sub-result c = omega arith
 
 returns-3 : tie.Need-returns-3
 unfolding decimalsBehind
@@ -41,15 +26,5 @@ unfolding decimalsBehind
 returns-4 c = rw (not-false (c .before .before .before .before .before .before .args .some) (c .before .before .before .before .if1 .left), c .before .before .if2 .left, sym (c .before .digits-only .ensures) ∙ c .if3 .left)
 
 pub decimals-behind-spec : {M : Type 1} → statement M
-decimals-behind-spec =
-    tie.close
-    (tie.spec
-    returns
-    shared-slice-read-if2
-    returns-2
-    add-digits-only
-    digits-only-requires
-    add-result
-    sub-result
-    returns-3
-    returns-4)
+decimals-behind-spec = tie.close (tie.spec returns (λ c. omega arith) returns-2 (λ c. omega arith) (λ c κs. search needs) (λ c. omega arith)
+    (λ c. omega arith) returns-3 returns-4)

@@ -22,23 +22,8 @@ abbrev μ-loop : tie.MeasureT-loop
 loop-holds : tie.Need-loop-holds Inv-loop μ-loop
 loop-holds c = (omega arith, rw (le-ltb (c .before .args .at) (c .before .args .at) (omega arith)))
 
-shared-slice-read-between : tie.Need-shared-slice-read-between Inv-loop μ-loop
-shared-slice-read-between c = omega arith
-
-between-requires : tie.Need-between-requires Inv-loop μ-loop
-between-requires c κs = search needs
-
-decimals-behind-requires : tie.Need-decimals-behind-requires Inv-loop μ-loop
-decimals-behind-requires c κs = search needs
-
 returns : tie.Need-returns Inv-loop μ-loop
 returns c = c .decimals-behind .ensures ∙ past-stop (c .before .before .before .before .before .before .before .args .f .now) (c .before .before .before .before .before .loop .i) (c .before .before .before .before .loop-test .taken) (ltb (c .before .before .before .before .before .before .before .args .at) (c .before .before .before .before .before .loop .i)) (sym (c .before .before .between .ensures) ∙ not-true (c .before .before .between .result) (c .before .if1 .taken)) ∙ c .before .before .before .before .before .loop .inv .1
-
-add-i : tie.Need-add-i Inv-loop μ-loop
-add-i c = omega arith
-
-loop-less : tie.Need-loop-less Inv-loop μ-loop
-loop-less c = omega arith
 
 loop-again : tie.Need-loop-again Inv-loop μ-loop
 loop-again c =
@@ -49,17 +34,5 @@ returns-2 : tie.Need-returns-2 Inv-loop μ-loop
 returns-2 c = past-end (c .before .before .before .args .f .now) (c .before .loop .i) (ltb (c .before .before .before .args .at) (c .before .loop .i)) (omega arith) ∙ c .before .loop .inv .1
 
 pub decimals-past-spec : {M : Type 1} → statement M
-decimals-past-spec =
-    tie.close
-    (tie.spec
-    Inv-loop
-    μ-loop
-    loop-holds
-    shared-slice-read-between
-    between-requires
-    decimals-behind-requires
-    returns
-    add-i
-    loop-less
-    loop-again
-    returns-2)
+decimals-past-spec = tie.close (tie.spec Inv-loop μ-loop loop-holds (λ c. omega arith) (λ c κs. search needs) (λ c κs. search needs) returns
+    (λ c. omega arith) (λ c. omega arith) loop-again returns-2)

@@ -16,23 +16,8 @@ Inv-loop f at i₀ i = digitsOnly (drop i f) ≡ digitsOnly (drop at f)
 abbrev μ-loop : tie.MeasureT-loop
 μ-loop f at i₀ i = length f - i
 
-loop-holds : tie.Need-loop-holds Inv-loop μ-loop
-loop-holds c = refl
-
-shared-slice-read-between : tie.Need-shared-slice-read-between Inv-loop μ-loop
-shared-slice-read-between c = omega arith
-
-between-requires : tie.Need-between-requires Inv-loop μ-loop
-between-requires c κs = search needs
-
 returns : tie.Need-returns Inv-loop μ-loop
 returns c = only-bad (c .before .before .before .before .before .before .args .f .now) (c .before .before .before .before .loop .i) (c .before .before .before .loop-test .taken) (sym (c .before .between .ensures) ∙ not-true (c .before .between .result) (c .if1 .taken)) ∙ c .before .before .before .before .loop .inv
-
-add-i : tie.Need-add-i Inv-loop μ-loop
-add-i c = omega arith
-
-loop-less : tie.Need-loop-less Inv-loop μ-loop
-loop-less c = omega arith
 
 loop-again : tie.Need-loop-again Inv-loop μ-loop
 loop-again c = sym (only-step (c .before .before .before .before .before .before .args .f .now) (c .before .before .before .before .loop .i) (c .before .before .before .loop-test .taken) (sym (c .before .between .ensures) ∙ not-false (c .before .between .result) (c .if1 .left))) ∙ c .before .before .before .before .loop .inv
@@ -41,16 +26,5 @@ returns-2 : tie.Need-returns-2 Inv-loop μ-loop
 returns-2 c = only-end (c .before .before .before .args .f .now) (c .before .loop .i) (omega arith) ∙ c .before .loop .inv
 
 pub digits-only-spec : {M : Type 1} → statement M
-digits-only-spec =
-    tie.close
-    (tie.spec
-    Inv-loop
-    μ-loop
-    loop-holds
-    shared-slice-read-between
-    between-requires
-    returns
-    add-i
-    loop-less
-    loop-again
-    returns-2)
+digits-only-spec = tie.close (tie.spec Inv-loop μ-loop (λ c. refl) (λ c. omega arith) (λ c κs. search needs) returns (λ c. omega arith)
+    (λ c. omega arith) loop-again returns-2)

@@ -20,23 +20,8 @@ abbrev μ-loop : tie.MeasureT-loop
 loop-holds : tie.Need-loop-holds Inv-loop μ-loop
 loop-holds c = (omega arith, ap (untrailed (c .before .args .last)) (take-length (c .before .args .f .now)))
 
-sub-edge : tie.Need-sub-edge Inv-loop μ-loop
-sub-edge c = omega arith
-
-shared-slice-read-edge : tie.Need-shared-slice-read-edge Inv-loop μ-loop
-shared-slice-read-edge c = omega arith
-
-edge-requires : tie.Need-edge-requires Inv-loop μ-loop
-edge-requires c κs = search needs
-
 returns : tie.Need-returns Inv-loop μ-loop
 returns c = let a = c .before .before .before .before .before .before .args in sym (end-keeps (a .last) (a .f .now) (c .before .before .before .before .loop .e) (c .before .before .before .loop-test .taken) (c .before .before .before .before .loop .inv .0) (sym (c .before .edge .ensures) ∙ not-true (c .before .edge .result) (c .if1 .taken))) ∙ ap length (c .before .before .before .before .loop .inv .1)
-
-sub-e : tie.Need-sub-e Inv-loop μ-loop
-sub-e c = omega arith
-
-loop-less : tie.Need-loop-less Inv-loop μ-loop
-loop-less c = omega arith
 
 loop-again : tie.Need-loop-again Inv-loop μ-loop
 loop-again c = let a = c .before .before .before .before .before .before .args in (omega arith, sym (end-drops (a .last) (a .f .now) (c .before .before .before .before .loop .e) (c .before .before .before .loop-test .taken) (c .before .before .before .before .loop .inv .0) (sym (c .before .edge .ensures) ∙ not-false (c .before .edge .result) (c .if1 .left))) ∙ c .before .before .before .before .loop .inv .1)
@@ -45,17 +30,5 @@ returns-2 : tie.Need-returns-2 Inv-loop μ-loop
 returns-2 c = let e = c .before .loop .e in let none : e ≡ 0 = omega arith in none ∙ ap (λ (k : ℕ). length (untrailed (c .before .before .before .args .last) (take k (c .before .before .before .args .f .now)))) (sym none) ∙ ap length (c .before .loop .inv .1)
 
 pub end-of-spec : {M : Type 1} → statement M
-end-of-spec =
-    tie.close
-    (tie.spec
-    Inv-loop
-    μ-loop
-    loop-holds
-    sub-edge
-    shared-slice-read-edge
-    edge-requires
-    returns
-    sub-e
-    loop-less
-    loop-again
-    returns-2)
+end-of-spec = tie.close (tie.spec Inv-loop μ-loop loop-holds (λ c. omega arith) (λ c. omega arith) (λ c κs. search needs) returns (λ c. omega arith)
+    (λ c. omega arith) loop-again returns-2)

@@ -16,23 +16,8 @@ Inv-loop text at stop other i₀ i = at + length (leading stop other (drop at te
 abbrev μ-loop : tie.MeasureT-loop
 μ-loop text at stop other i₀ i = length text - i
 
-loop-holds : tie.Need-loop-holds Inv-loop μ-loop
-loop-holds c = refl
-
-shared-slice-read-one-of : tie.Need-shared-slice-read-one-of Inv-loop μ-loop
-shared-slice-read-one-of c = omega arith
-
-one-of-requires : tie.Need-one-of-requires Inv-loop μ-loop
-one-of-requires c κs = search needs
-
 returns : tie.Need-returns Inv-loop μ-loop
 returns c = let a = c .before .before .before .before .before .before .args in omega (arith, c .before .before .before .before .loop .inv, leading-here (a .stop) (a .other) (a .text .now) (c .before .before .before .before .loop .i) (c .before .before .before .loop-test .taken) (sym (c .before .one-of .ensures) ∙ c .if1 .taken))
-
-add-i : tie.Need-add-i Inv-loop μ-loop
-add-i c = omega arith
-
-loop-less : tie.Need-loop-less Inv-loop μ-loop
-loop-less c = omega arith
 
 loop-again : tie.Need-loop-again Inv-loop μ-loop
 loop-again c = let a = c .before .before .before .before .before .before .args in omega (arith, c .before .before .before .before .loop .inv, leading-step (a .stop) (a .other) (a .text .now) (c .before .before .before .before .loop .i) (c .before .before .before .loop-test .taken) (sym (c .before .one-of .ensures) ∙ c .if1 .left))
@@ -41,16 +26,5 @@ returns-2 : tie.Need-returns-2 Inv-loop μ-loop
 returns-2 c = let a = c .before .before .before .args in omega (arith, c .before .loop .inv, leading-end (a .stop) (a .other) (a .text .now) (c .before .loop .i) (omega arith))
 
 pub piece-end-spec : {M : Type 1} → statement M
-piece-end-spec =
-    tie.close
-    (tie.spec
-    Inv-loop
-    μ-loop
-    loop-holds
-    shared-slice-read-one-of
-    one-of-requires
-    returns
-    add-i
-    loop-less
-    loop-again
-    returns-2)
+piece-end-spec = tie.close (tie.spec Inv-loop μ-loop (λ c. refl) (λ c. omega arith) (λ c κs. search needs) returns (λ c. omega arith)
+    (λ c. omega arith) loop-again returns-2)

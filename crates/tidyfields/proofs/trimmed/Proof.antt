@@ -10,17 +10,11 @@ use Rattle.tidyfields.proofs.PieceLaws.{untrailed-le, part-trimmed}
 use Rattle.tidyfields.proofs.trimmed.Statement.{statement}
 use Rattle.tidyfields.proofs.trimmed.Tie as tie
 
-end-of-requires : tie.Need-end-of-requires
-end-of-requires c κs = search needs
-
 slice-aggregate-begin-of : tie.Need-slice-aggregate-begin-of
 slice-aggregate-begin-of c =
     let a = c .before .before .before .args in
     let is : c .before .end-of .result ≡ length (untrailed (a .last) (a .f .now)) = c .before .end-of .ensures in
     sym (length-take-le (c .before .end-of .result) (a .f .now) (omega (arith, untrailed-le (a .last) (a .f .now))))
-
-begin-of-requires : tie.Need-begin-of-requires
-begin-of-requires c κs = search needs
 
 sub-result : tie.Need-sub-result
 sub-result c = let low : c .begin-of .result ≤ length (take (c .before .before .end-of .result) (c .before .before .before .before .args .f .now)) = c .begin-of .ensures .0 in omega (arith, length-take (c .before .before .end-of .result) (c .before .before .before .before .args .f .now))
@@ -38,13 +32,5 @@ returns : tie.Need-returns
 returns c = let a = c .before .before .before .before .before .args in part-trimmed (a .last) (a .f .now) (c .before .before .before .end-of .result) (c .before .begin-of .result) (c .before .before .before .end-of .ensures) (c .before .begin-of .ensures .0) (c .before .begin-of .ensures .1)
 
 pub trimmed-spec : {M : Type 1} → statement M
-trimmed-spec =
-    tie.close
-    (tie.spec
-    end-of-requires
-    slice-aggregate-begin-of
-    begin-of-requires
-    sub-result
-    part-result-start
-    part-result-end
+trimmed-spec = tie.close (tie.spec (λ c κs. search needs) slice-aggregate-begin-of (λ c κs. search needs) sub-result part-result-start part-result-end
     returns)

@@ -16,37 +16,6 @@ Inv-loop command from count i₀ i = from ≤ i
 abbrev μ-loop : tie.MeasureT-loop
 μ-loop command from count i₀ i = count - i
 
-loop-holds : tie.Need-loop-holds Inv-loop μ-loop
-loop-holds c = omega arith
-
-of-option-requires : tie.Need-of-option-requires Inv-loop μ-loop
-of-option-requires c κs = search needs
-
-returns : tie.Need-returns Inv-loop μ-loop
-returns c = search needs
-
-add-i : tie.Need-add-i Inv-loop μ-loop
-add-i c = omega arith
-
-loop-less : tie.Need-loop-less Inv-loop μ-loop
-loop-less c = omega arith
-
-loop-again : tie.Need-loop-again Inv-loop μ-loop
-loop-again c = search needs
-
-returns-2 : tie.Need-returns-2 Inv-loop μ-loop
-returns-2 c = search needs
-
 pub next-file-spec : {M : Type 1} → statement M
-next-file-spec =
-    tie.close
-    (tie.spec
-    Inv-loop
-    μ-loop
-    loop-holds
-    of-option-requires
-    returns
-    add-i
-    loop-less
-    loop-again
-    returns-2)
+next-file-spec = tie.close (tie.spec Inv-loop μ-loop (λ c. omega arith) (λ c κs. search needs) (λ c. search needs) (λ c. omega arith)
+    (λ c. omega arith) (λ c. search needs) (λ c. search needs))

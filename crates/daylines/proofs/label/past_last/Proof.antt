@@ -15,18 +15,6 @@ abbrev μ-loop : tie.MeasureT-loop
 loop-holds : tie.Need-loop-holds Inv-loop μ-loop
 loop-holds c = looked-none _ _
 
-shared-slice-read-if1 : tie.Need-shared-slice-read-if1 Inv-loop μ-loop
-shared-slice-read-if1 c = omega arith
-
-add-past : tie.Need-add-past Inv-loop μ-loop
-add-past c = omega arith
-
-add-i : tie.Need-add-i Inv-loop μ-loop
-add-i c = omega arith
-
-loop-less : tie.Need-loop-less Inv-loop μ-loop
-loop-less c = omega arith
-
 loop-again : tie.Need-loop-again Inv-loop μ-loop
 loop-again c =
     let at-loop = c .before .before .before in
@@ -41,4 +29,5 @@ returns c =
     (looked-all l (omega arith), omega (arith, l .behind, l .within))
 
 pub past-last-spec : {M : Type 1} → statement M
-past-last-spec = tie.close (tie.spec Inv-loop μ-loop loop-holds shared-slice-read-if1 add-past add-i loop-less loop-again returns)
+past-last-spec = tie.close (tie.spec Inv-loop μ-loop loop-holds (λ c. omega arith) (λ c. omega arith) (λ c. omega arith) (λ c. omega arith) loop-again
+    returns)

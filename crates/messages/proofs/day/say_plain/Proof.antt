@@ -18,61 +18,7 @@ Inv-loop text from₀ from = from ≤ length text
 abbrev μ-loop : tie.MeasureT-loop
 μ-loop text from₀ from = length text - from
 
-loop-holds : tie.Need-loop-holds Inv-loop μ-loop
-loop-holds c = omega arith
-
-next-other-requires : tie.Need-next-other-requires Inv-loop μ-loop
-next-other-requires c κs = search needs
-
-sub-say : tie.Need-sub-say Inv-loop μ-loop
-sub-say c = omega arith
-
-part-say-start : tie.Need-part-say-start Inv-loop μ-loop
-part-say-start c = search needs
-
-part-say-end : tie.Need-part-say-end Inv-loop μ-loop
-part-say-end c = search needs
-
-say-requires : tie.Need-say-requires Inv-loop μ-loop
-say-requires c κs = search needs
-
-returns : tie.Need-returns Inv-loop μ-loop
-returns c = search needs
-
-shared-slice-read-say-hex : tie.Need-shared-slice-read-say-hex Inv-loop μ-loop
-shared-slice-read-say-hex c = omega arith
-
-say-hex-requires : tie.Need-say-hex-requires Inv-loop μ-loop
-say-hex-requires c κs = search needs
-
-add-from : tie.Need-add-from Inv-loop μ-loop
-add-from c = omega arith
-
-loop-less : tie.Need-loop-less Inv-loop μ-loop
-loop-less c = omega arith
-
-loop-again : tie.Need-loop-again Inv-loop μ-loop
-loop-again c = search needs
-
-returns-2 : tie.Need-returns-2 Inv-loop μ-loop
-returns-2 c = search needs
-
 pub say-plain-spec : {M : Type 1} → statement M
-say-plain-spec =
-    tie.close
-    (tie.spec
-    Inv-loop
-    μ-loop
-    loop-holds
-    next-other-requires
-    sub-say
-    part-say-start
-    part-say-end
-    say-requires
-    returns
-    shared-slice-read-say-hex
-    say-hex-requires
-    add-from
-    loop-less
-    loop-again
-    returns-2)
+say-plain-spec = tie.close (tie.spec Inv-loop μ-loop (λ c. omega arith) (λ c κs. search needs) (λ c. omega arith) (λ c. search needs)
+    (λ c. search needs) (λ c κs. search needs) (λ c. search needs) (λ c. omega arith) (λ c κs. search needs) (λ c. omega arith) (λ c. omega arith)
+    (λ c. search needs) (λ c. search needs))

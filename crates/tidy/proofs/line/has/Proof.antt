@@ -15,20 +15,8 @@ Inv-loop line b i₀ i = held b (drop i line) ≡ held b line
 abbrev μ-loop : tie.MeasureT-loop
 μ-loop line b i₀ i = length line - i
 
-loop-holds : tie.Need-loop-holds Inv-loop μ-loop
-loop-holds c = refl
-
-shared-slice-read-if1 : tie.Need-shared-slice-read-if1 Inv-loop μ-loop
-shared-slice-read-if1 c = omega arith
-
 returns : tie.Need-returns Inv-loop μ-loop
 returns c = held-here (c .before .before .before .before .args .b) (c .before .before .before .before .args .line .now) (c .before .before .before .loop .i) (c .before .before .loop-test .taken) (c .if1 .taken) ∙ c .before .before .before .loop .inv
-
-add-i : tie.Need-add-i Inv-loop μ-loop
-add-i c = omega arith
-
-loop-less : tie.Need-loop-less Inv-loop μ-loop
-loop-less c = omega arith
 
 loop-again : tie.Need-loop-again Inv-loop μ-loop
 loop-again c = sym (held-step (c .before .before .before .before .args .b) (c .before .before .before .before .args .line .now) (c .before .before .before .loop .i) (c .before .before .loop-test .taken) (c .if1 .left)) ∙ c .before .before .before .loop .inv
@@ -37,5 +25,4 @@ returns-2 : tie.Need-returns-2 Inv-loop μ-loop
 returns-2 c = held-end (c .before .before .args .b) (c .before .before .args .line .now) (c .before .loop .i) (omega arith) ∙ c .before .loop .inv
 
 pub has-spec : {M : Type 1} → statement M
-has-spec =
-    tie.close (tie.spec Inv-loop μ-loop loop-holds shared-slice-read-if1 returns add-i loop-less loop-again returns-2)
+has-spec = tie.close (tie.spec Inv-loop μ-loop (λ c. refl) (λ c. omega arith) returns (λ c. omega arith) (λ c. omega arith) loop-again returns-2)

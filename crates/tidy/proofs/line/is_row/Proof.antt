@@ -11,18 +11,11 @@ use Rattle.tidy.proofs.TidyLaws as laws
 use Rattle.tidy.proofs.line.is_row.Statement.{statement}
 use Rattle.tidy.proofs.line.is_row.Tie as tie
 
-has-requires : tie.Need-has-requires
-has-requires c κs = search needs
-
 returns : tie.Need-returns
 returns c = rw (held-ended semicolon refl (c .before .before .before .args .line .now), held-ended tab refl (c .before .before .before .args .line .now), sym (c .before .has .ensures) ∙ c .if1 .taken) (and-false (held semicolon (c .before .before .before .args .line .now)))
-
-has-requires-2 : tie.Need-has-requires-2
-has-requires-2 c = search needs
 
 returns-2 : tie.Need-returns-2
 returns-2 c = rw (held-ended semicolon refl (c .before .before .before .before .args .line .now), held-ended tab refl (c .before .before .before .before .args .line .now), sym (c .before .before .has .ensures) ∙ c .before .if1 .left) (c .has2 .ensures ∙ sym (and-true (held semicolon (c .before .before .before .before .args .line .now))))
 
 pub is-row-spec : {M : Type 1} → statement M
-is-row-spec =
-    tie.close (tie.spec has-requires returns has-requires-2 returns-2)
+is-row-spec = tie.close (tie.spec (λ c κs. search needs) returns (λ c. search needs) returns-2)

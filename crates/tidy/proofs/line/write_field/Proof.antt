@@ -12,17 +12,11 @@ use Rattle.tidyrules.proofs.LengthLaws.{repaired-length}
 use Rattle.tidy.proofs.line.write_field.Statement.{statement}
 use Rattle.tidy.proofs.line.write_field.Tie as tie
 
-bared-requires : tie.Need-bared-requires
-bared-requires c κs = search needs
-
 copy-requires : tie.Need-copy-requires
 copy-requires c κs =
     let a = c .before .before .before .before .args in
     let is : c .before .bared .result .now ≡ bared (a .last) (a .f .now) = c .before .bared .ensures in
     omega (arith, c .before .before .before .before .pre, repaired-length (a .last) (a .want) (a .f .now), ap length is)
-
-lacking-requires : tie.Need-lacking-requires
-lacking-requires c κs = search needs
 
 zeros-requires : tie.Need-zeros-requires
 zeros-requires c κs =
@@ -43,5 +37,4 @@ returns c =
     clip-is (ap₂ (λ (g : List ℕ) (n : ℕ). g ++ replicate n 48) is more) (clip-more (c .before .before .before .before .before .before .before .copy .ensures) (c .before .before .zeros .ensures))
 
 pub write-field-spec : {M : Type 1} → statement M
-write-field-spec =
-    tie.close (tie.spec bared-requires copy-requires lacking-requires zeros-requires same-length returns)
+write-field-spec = tie.close (tie.spec (λ c κs. search needs) copy-requires (λ c κs. search needs) zeros-requires same-length returns)

@@ -20,31 +20,16 @@ Inv-loop line out₀ at row₀ p₀ k₀ next₀ e₀ out p k next e = FieldsLef
 abbrev μ-loop : tie.MeasureT-loop
 μ-loop line out₀ at row₀ p₀ k₀ next₀ e₀ out p k next e = length line - p
 
-is-row-requires : tie.Need-is-row-requires Inv-loop μ-loop
-is-row-requires c κs = search needs
-
-piece-end-requires : tie.Need-piece-end-requires Inv-loop μ-loop
-piece-end-requires c κs = search needs
-
 loop-holds : tie.Need-loop-holds Inv-loop μ-loop
 loop-holds c = fields-none (c .before .before .before .before .args .line .now) (c .before .before .before .before .args .at) (c .piece-end .result) (c .before .before .before .before .args .out .now) (c .piece-end .ensures)
-
-wanted-requires : tie.Need-wanted-requires Inv-loop μ-loop
-wanted-requires c κs = search needs
 
 write-piece-requires : tie.Need-write-piece-requires Inv-loop μ-loop
 write-piece-requires c κs =
     let u = c .before .before .before .loop .inv in
     (omega (arith, u .end), c .before .before .loop-test .taken, fields-room u (c .before .before .loop-test .taken) (c .before .before .before .before .before .is-row .result) (c .before .wanted .result) placesMost (c .before .before .before .before .before .is-row .ensures) (c .before .wanted .ensures) (c .before .before .before .before .before .before .before .before .pre))
 
-add-p : tie.Need-add-p Inv-loop μ-loop
-add-p c = omega arith
-
 add-k : tie.Need-add-k Inv-loop μ-loop
 add-k c = omega (arith, c .before .before .before .before .before .before .loop .inv .few, c .before .before .before .before .before .before .loop .inv .end)
-
-piece-end-requires-2 : tie.Need-piece-end-requires-2 Inv-loop μ-loop
-piece-end-requires-2 c = search needs
 
 loop-less : tie.Need-loop-less Inv-loop μ-loop
 loop-less c = omega (arith, c .before .before .before .before .before .before .before .loop .inv .end)
@@ -61,9 +46,6 @@ part-write-field-start c = omega (arith, c .before .loop .inv .end)
 part-write-field-end : tie.Need-part-write-field-end Inv-loop μ-loop
 part-write-field-end c = piece-le tab semicolon (c .before .before .before .before .before .before .args .line .now) (c .before .loop .p) (c .before .loop .e) (c .before .loop .inv .within) (c .before .loop .inv .end)
 
-wanted-requires-2 : tie.Need-wanted-requires-2 Inv-loop μ-loop
-wanted-requires-2 c = search needs
-
 write-field-requires : tie.Need-write-field-requires Inv-loop μ-loop
 write-field-requires c κs = last-room (c .before .before .before .before .loop .inv) (omega arith) (c .before .before .before .before .before .before .is-row .result) (c .before .wanted2 .result) placesMost (c .before .before .before .before .before .before .is-row .ensures) (c .before .wanted2 .ensures) (c .before .before .before .before .before .before .before .before .before .pre)
 
@@ -77,26 +59,6 @@ returns : tie.Need-returns Inv-loop μ-loop
 returns c = fields-all (c .before .before .before .before .before .before .before .loop .inv) (omega arith) (c .before .before .before .before .before .before .before .before .before .is-row .result) (c .before .before .before .before .wanted2 .result) (c .before .before .write-field .result) _ (c .before .before .before .before .before .before .before .before .before .is-row .ensures) (c .before .before .before .before .wanted2 .ensures) (c .before .before .write-field .ensures)
 
 pub write-line-spec : {M : Type 1} → statement M
-write-line-spec =
-    tie.close
-    (tie.spec
-    Inv-loop
-    μ-loop
-    is-row-requires
-    piece-end-requires
-    loop-holds
-    wanted-requires
-    write-piece-requires
-    add-p
-    add-k
-    piece-end-requires-2
-    loop-less
-    loop-again
-    sub-write-field
-    part-write-field-start
-    part-write-field-end
-    wanted-requires-2
-    write-field-requires
-    add-t15
-    same-length
-    returns)
+write-line-spec = tie.close (tie.spec Inv-loop μ-loop (λ c κs. search needs) (λ c κs. search needs) loop-holds (λ c κs. search needs)
+    write-piece-requires (λ c. omega arith) add-k (λ c. search needs) loop-less loop-again sub-write-field part-write-field-start part-write-field-end
+    (λ c. search needs) write-field-requires add-t15 same-length returns)

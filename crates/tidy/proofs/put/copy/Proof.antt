@@ -17,17 +17,8 @@ abbrev μ-loop : tie.MeasureT-loop
 loop-holds : tie.Need-loop-holds Inv-loop μ-loop
 loop-holds c = left-start (c .before .before .args .s .now) (c .before .before .args .at) (c .before .before .args .out .now)
 
-shared-slice-read-put : tie.Need-shared-slice-read-put Inv-loop μ-loop
-shared-slice-read-put c = omega arith
-
 put-requires : tie.Need-put-requires Inv-loop μ-loop
 put-requires c κs = copy-room (c .before .before .before .loop .inv) (c .before .before .loop-test .taken) (c .before .before .before .before .before .before .pre)
-
-add-i : tie.Need-add-i Inv-loop μ-loop
-add-i c = omega arith
-
-loop-less : tie.Need-loop-less Inv-loop μ-loop
-loop-less c = omega arith
 
 loop-again : tie.Need-loop-again Inv-loop μ-loop
 loop-again c = copy-more (c .before .before .before .before .before .before .loop .inv) _ (c .before .before .before .before .before .loop-test .taken) refl (c .before .before .put .ensures)
@@ -39,16 +30,5 @@ returns : tie.Need-returns Inv-loop μ-loop
 returns c = let past : length (c .before .before .before .before .args .s .now) ≤ c .before .loop .i = omega arith in copy-all (c .before .loop .inv) past
 
 pub copy-spec : {M : Type 1} → statement M
-copy-spec =
-    tie.close
-    (tie.spec
-    Inv-loop
-    μ-loop
-    loop-holds
-    shared-slice-read-put
-    put-requires
-    add-i
-    loop-less
-    loop-again
-    same-length
-    returns)
+copy-spec = tie.close (tie.spec Inv-loop μ-loop loop-holds (λ c. omega arith) put-requires (λ c. omega arith) (λ c. omega arith) loop-again
+    same-length returns)

@@ -6,24 +6,14 @@ use Rattle.tidy.proofs.TidyLaws as laws
 use Rattle.tidy.proofs.put.put.Statement.{statement}
 use Rattle.tidy.proofs.put.put.Tie as tie
 
-slice-write-out : tie.Need-slice-write-out
-slice-write-out c = omega arith
-
-add-result : tie.Need-add-result
-add-result c = omega arith
-
 same-length : tie.Need-same-length
 same-length c = length-set (c .before .args .out .now) (c .before .args .at) (c .before .args .b)
 
 returns : tie.Need-returns
 returns c = clip-byte (c .before .args .b) (c .before .args .at) (c .before .args .out .now)
 
-add-result-2 : tie.Need-add-result-2
-add-result-2 c = omega arith
-
 returns-2 : tie.Need-returns-2
 returns-2 c = clip-past (c .before .args .b) (c .before .args .at) (c .before .args .out .now) (omega arith)
 
 pub put-spec : {M : Type 1} → statement M
-put-spec =
-    tie.close (tie.spec slice-write-out add-result same-length returns add-result-2 returns-2)
+put-spec = tie.close (tie.spec (λ c. omega arith) (λ c. omega arith) same-length returns (λ c. omega arith) returns-2)

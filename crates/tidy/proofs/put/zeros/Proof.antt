@@ -18,12 +18,6 @@ loop-holds c = left-start (replicate (c .before .args .n) 48) (c .before .args .
 put-requires : tie.Need-put-requires Inv-loop μ-loop
 put-requires c κs = zeros-room (c .before .before .before .before .args .n) (c .before .before .loop .left) (c .before .before .loop .inv) (c .before .loop-test .taken) (c .before .before .before .before .pre)
 
-sub-left : tie.Need-sub-left Inv-loop μ-loop
-sub-left c = omega arith
-
-loop-less : tie.Need-loop-less Inv-loop μ-loop
-loop-less c = omega arith
-
 loop-again : tie.Need-loop-again Inv-loop μ-loop
 loop-again c = zeros-more (c .before .before .before .before .before .before .before .args .n) (c .before .before .before .before .before .loop .left) (c .before .before .before .before .before .loop .inv) (c .before .before .before .before .loop-test .taken) (c .before .before .put .ensures)
 
@@ -34,5 +28,4 @@ returns : tie.Need-returns Inv-loop μ-loop
 returns c = zeros-all (c .before .before .before .args .n) (c .before .loop .left) (c .before .loop .inv) (omega arith)
 
 pub zeros-spec : {M : Type 1} → statement M
-zeros-spec =
-    tie.close (tie.spec Inv-loop μ-loop loop-holds put-requires sub-left loop-less loop-again same-length returns)
+zeros-spec = tie.close (tie.spec Inv-loop μ-loop loop-holds put-requires (λ c. omega arith) (λ c. omega arith) loop-again same-length returns)

@@ -1,12 +1,12 @@
--- `daylines::put_bytes` meets its contract. The invariant: the bytes before k are put, and the rest is to be put. The measure is the number of bytes left.
+-- `output::put_bytes` meets its contract. The invariant: the bytes before k are put, and the rest is to be put. The measure is the number of bytes left.
 use Prim.Native.Nat.{_≤_, _-_}
 use mathlib.Core.Path.{_≡_}
 use native.Mathlib.Omega.{arith}
 use borrow.Author.Needs.{needs}
 use lib.ListN.{length, drop, length-drop, drop-of-length-le}
-use Rattle.daylines.proofs.PutLaws.{Putting, putting-none, putting-room, putting-kept, putting-more, putting-all, drop-next}
-use Rattle.daylines.proofs.put_bytes.Statement.{statement}
-use Rattle.daylines.proofs.put_bytes.Tie as tie
+use Rattle.output.proofs.PuttingLaws.{Putting, putting-none, putting-room, putting-kept, putting-more, putting-all, drop-next}
+use Rattle.output.proofs.put_bytes.Statement.{statement}
+use Rattle.output.proofs.put_bytes.Tie as tie
 
 abbrev Inv-loop : tie.InvT-loop
 Inv-loop bytes out₀ at next₀ k₀ k-end out next k = (k ≤ length bytes) × Putting bytes (drop k bytes) at out₀ out next
@@ -17,20 +17,11 @@ abbrev μ-loop : tie.MeasureT-loop
 loop-holds : tie.Need-loop-holds Inv-loop μ-loop
 loop-holds c = (omega arith, putting-none)
 
-shared-slice-read-put-byte : tie.Need-shared-slice-read-put-byte Inv-loop μ-loop
-shared-slice-read-put-byte c = omega arith
-
 put-byte-requires : tie.Need-put-byte-requires Inv-loop μ-loop
 put-byte-requires c κs =
     let at-loop = c .before .before .before in
     let s = at-loop .before .before .before in
     omega (arith, putting-room (at-loop .loop .inv .1) (s .pre), length-drop (at-loop .loop .k) (s .args .bytes .now))
-
-add-k : tie.Need-add-k Inv-loop μ-loop
-add-k c = omega arith
-
-loop-less : tie.Need-loop-less Inv-loop μ-loop
-loop-less c = omega arith
 
 loop-again : tie.Need-loop-again Inv-loop μ-loop
 loop-again c =
@@ -48,16 +39,5 @@ returns c =
     putting-all (c .before .loop .inv .1) (s .pre) (drop-of-length-le (s .args .bytes .now) past)
 
 pub put-bytes-spec : {M : Type 1} → statement M
-put-bytes-spec =
-    tie.close
-    (tie.spec
-    Inv-loop
-    μ-loop
-    loop-holds
-    shared-slice-read-put-byte
-    put-byte-requires
-    add-k
-    loop-less
-    loop-again
-    same-length
-    returns)
+put-bytes-spec = tie.close (tie.spec Inv-loop μ-loop loop-holds (λ c. omega arith) put-byte-requires (λ c. omega arith) (λ c. omega arith) loop-again
+    same-length returns)
