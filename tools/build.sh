@@ -110,7 +110,7 @@ make_program() { # CRATE
     if [ ! -x "$programs/$1" ] || { [ -e "$programs/$1.sum" ] && ! grep -q " $(file_sum "$programs/$1")\$" "$programs/$1.sum"; }; then
         rm -f "$here/target/stamp/$1"
     fi
-    # In the order of crates.txt, where the longest crates of a level come first: rt starts them in the order in which they are named.
+    # In the order of crates.txt, where crates of a level that take about the same stand side by side: rt starts them in the order in which they are named.
     # shellcheck disable=SC2046 # a crate's name is one word
     with_progress "$1" check $(reached_by "$1" | sed 's/:.*//' | in_order)
 }
@@ -121,7 +121,7 @@ in_order() {
 }
 
 make_library() { # CRATE
-    with_progress "$1" staticlib "$1" && cp "$here/target/staticlib/libcabi.a" "$library"
+    with_progress "$1" staticlib "$1" && cp "$here/target/staticlib/lib$1.a" "$library"
 }
 
 # Runs rt with its words in the log, and tells each crate as it is done.

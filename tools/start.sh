@@ -10,7 +10,7 @@ true 3>&2 || exec 2>/dev/null
 { true 3>&1; } 2>/dev/null || exec 1</dev/null
 
 # 0 answered, 1 refused (the E line), 2 misuse, or input or output that failed, 3 it cannot be run here.
-# The first program understands every word. Those of the second it hands on, by the digit 3, before it reads or writes anything.
+# keravnoth understands every word. Those of further it hands on, by the digit 3, before it reads or writes anything.
 start() { # NAME REMEMBERED-KIT FOLDER ARGUMENTS..
     name=$1 remembered=$2 folder=$3 parent=''
     shift 3

@@ -1,5 +1,5 @@
-// The second program: the words that need more than an answer. Why a border got no more, what differs between two tables, a text repaired, a page, a day.
-// The first program (crate keravnoth) understands the arguments and hands these words on, with all arguments as they were given.
+// The program of the further words, which need more than an answer. Why a border got no more, what differs between two tables, a text repaired, a page, a day.
+// The program that answers (crate keravnoth) understands the arguments and hands these words on, with all arguments as they were given.
 use arguments::Piece;
 use arguments::whole;
 use command::asked;

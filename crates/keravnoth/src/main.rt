@@ -1,6 +1,6 @@
 // The program: a table by name or on standard input, its answer on standard output (01, "Result text"); a word asks for something else (`messages::usage`).
 // What a refusal means, and that reading or writing failed, is said on standard error: a table that was not read to its end is not answered.
-// Words that need more than an answer are those of a second program (crate further): this one understands them, and hands them on.
+// Words that need more than an answer are those of another program (crate further): this one understands them, and hands them on.
 // Whoever starts the program gives it two options that are not for people: with `--status-fd N` its last word is its status, on descriptor N;
 // `--proved TEXT` is what `--version` says that it was proved in.
 ghost use Rattle.io.specs.Counts.{Counts};
