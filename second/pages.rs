@@ -1,6 +1,6 @@
 // Compares a page with the program's own answers: every figure, every bar, every link. Reads the page as XML, and fails where a figure is left that nothing was compared with.
 // usage: pages PROGRAM PAGE TABLE [MARKS [SHEET]]    the page of a table; SHEET are its corrections, and - stands for no marks
-//        pages day PROGRAM PAGE MARKS TABLE..        the page of a day
+//        pages day PROGRAMS PAGE MARKS TABLE..        the page of a day
 // --spoilt as the first word: that spoilt pages are seen
 use std::collections::{HashMap, HashSet};
 use std::process::{Command, Stdio};
@@ -180,7 +180,10 @@ struct Hour {
     why: Vec<String>,
 }
 
-fn ask(program: &str, words: &[&str], table: &str) -> Told<String> {
+// Of the two programs in the folder, the one whose word it is.
+fn ask(programs: &str, words: &[&str], table: &str) -> Told<String> {
+    let own = if matches!(words.first(), Some(&"why" | &"day")) { "further" } else { "keravnoth" };
+    let program = std::path::Path::new(programs).join(own);
     let file = std::fs::File::open(table).map_err(|e| e.to_string())?;
     let done = Command::new(program).args(words).stdin(file).stderr(Stdio::null()).output().map_err(|e| e.to_string())?;
     String::from_utf8(done.stdout).map_err(|e| e.to_string())
@@ -192,19 +195,19 @@ fn numbers(text: &str, letter: &str) -> Vec<Vec<i64>> {
     text.lines().filter(|l| l.split('\t').next() == Some(letter)).map(of).collect()
 }
 
-fn load(program: &str, name: &str, marks: Option<&str>, sheet: Option<&str>) -> Told<Hour> {
+fn load(programs: &str, name: &str, marks: Option<&str>, sheet: Option<&str>) -> Told<Hour> {
     let corrections: Vec<&str> = sheet.map_or(vec![], |sheet| vec!["--corrections", sheet]);
     let mut option: Vec<&str> = marks.map_or(vec![], |list| vec!["--marks", list]);
     option.extend(&corrections);
     let with = |word: &'static str| -> Vec<&str> { [word].into_iter().chain(corrections.iter().copied()).collect() };
     let table = std::fs::read(name).map_err(|e| e.to_string())?;
-    let answer = ask(program, &option, name)?;
-    let text = ask(program, &with("rewrite"), name)?;
+    let answer = ask(programs, &option, name)?;
+    let text = ask(programs, &with("rewrite"), name)?;
     let mut h = Hour {
         refused: numbers(&answer, "E").pop(), table, zones: 0, intraday: false, borders: vec![], factors: vec![], marked: vec![], marks: marks.is_some(),
         a: numbers(&answer, "A"), left: vec![], rounds: 0, v: vec![], start: vec![], bound: vec![], why: vec![],
     };
-    let v = ask(program, &with("margins"), name)?;
+    let v = ask(programs, &with("margins"), name)?;
     if v.starts_with('E') {
         return Ok(h);
     }
@@ -225,11 +228,11 @@ fn load(program: &str, name: &str, marks: Option<&str>, sheet: Option<&str>) -> 
     h.left = numbers(&answer, "M").iter().map(|m| m[3]).collect();
     h.rounds = numbers(&answer, "R")[0][0];
     let words: Vec<&str> = ["bound"].into_iter().chain(option.iter().copied()).collect();
-    h.bound = numbers(&ask(program, &words, name)?, "U").remove(0);
+    h.bound = numbers(&ask(programs, &words, name)?, "U").remove(0);
     for b in 0..h.borders.len() {
         let b = b.to_string();
         let words: Vec<&str> = ["why", &b].into_iter().chain(option.iter().copied()).collect();
-        h.why.push(ask(program, &words, name)?);
+        h.why.push(ask(programs, &words, name)?);
     }
     Ok(h)
 }
@@ -853,16 +856,16 @@ fn compare_day(text: &str, day: &[Named]) -> Told<()> {
     all_compared(&page, body)
 }
 
-fn load_day(program: &str, marks: Option<&str>, names: &[String]) -> Told<Vec<Named>> {
+fn load_day(programs: &str, marks: Option<&str>, names: &[String]) -> Told<Vec<Named>> {
     let option: Vec<&str> = marks.map_or(vec![], |list| vec!["--marks", list]);
     let words: Vec<&str> = ["day"].into_iter().chain(option).chain(names.iter().map(|n| n.as_str())).collect();
-    let lines = ask(program, &words, "/dev/null")?;
+    let lines = ask(programs, &words, "/dev/null")?;
     let mut day = vec![];
     for name in names {
         let file = name.rsplit('/').next().unwrap();
         let label = file.rfind('.').filter(|&dot| dot > 0).map_or(file, |dot| &file[..dot]).to_string();
         let own: Vec<&str> = lines.lines().filter_map(|l| l.strip_prefix(&label)?.strip_prefix('\t')).collect();
-        let hour = if own == ["X"] { None } else { Some(load(program, name, marks, None)?) };
+        let hour = if own == ["X"] { None } else { Some(load(programs, name, marks, None)?) };
         day.push(Named { label, lines: own.join("\n"), hour });
     }
     Ok(day)
@@ -962,7 +965,7 @@ fn main() {
     };
     let (spoil, day) = (first("--spoilt"), first("day"));
     if words.len() < 3 + day as usize || words.len() > 5 && !day {
-        eprintln!("usage: pages [--spoilt] PROGRAM PAGE TABLE [MARKS [SHEET]]\n       pages [--spoilt] day PROGRAM PAGE MARKS TABLE..");
+        eprintln!("usage: pages [--spoilt] PROGRAMS PAGE TABLE [MARKS [SHEET]]\n       pages [--spoilt] day PROGRAMS PAGE MARKS TABLE..");
         std::process::exit(2);
     }
     let said = if day {
