@@ -9,7 +9,7 @@ use arguments::lists;
 
 // Whether lines have a letter: those of a sheet of semicolons have none.
 fn lettered(of: usize) -> bool {
-    of == crate::TABLE || of == crate::CORRECTIONS
+    (of == crate::TABLE) | (of == crate::CORRECTIONS)
 }
 
 // The byte that parts fields.
@@ -53,16 +53,16 @@ pub fn put(
     let field = if lettered(of) { own } else { own + 1 };
     let byte = text::field::byte_at(row, place);
     let name = fieldnames::name_of(due.letter, field);
-    if line == 1 && first && name == fieldnames::INDEX && is_letter(byte) {
+    if (line == 1) & first & (name == fieldnames::INDEX) & is_letter(byte) {
         return put_words(words::HEADINGS, 1, 0, out, at);
     }
     let next = put_words(words::LINE, line, 0, out, at);
     let next = fieldnames::put(due.letter, field, out, next);
     let next = put_words(words::BYTE, told, 0, out, next);
-    if name == fieldnames::INDEX && first && is_digit(byte) {
+    if (name == fieldnames::INDEX) & first & is_digit(byte) {
         return put_index(of, due.index, out, next);
     }
-    if number == 3 || (first && begins_number(name, byte)) {
+    if (number == 3) | (first & begins_number(name, byte)) {
         let next = put_words(words::RANGE, 0, 0, out, next);
         return words::put_range(name, !lettered(of), out, next);
     }
@@ -72,23 +72,23 @@ pub fn put(
 fn put_index(of: usize, index: u64, out: &mut [u8], at: usize) -> usize
     ensures { λ r. ⌜ Counts r (now (out .exit)) ⌝ }
 {
-    if of == crate::CORRECTIONS || of == crate::ROWS {
+    if (of == crate::CORRECTIONS) | (of == crate::ROWS) {
         return put_words(words::INDEX_RISES, 0, 0, out, at);
     }
     put_words(words::INDEX_DUE, index, 0, out, at)
 }
 
 fn is_digit(byte: u8) -> bool {
-    b'0' <= byte && byte <= b'9'
+    (b'0' <= byte) & (byte <= b'9')
 }
 
 pub fn is_letter(byte: u8) -> bool {
-    (b'A' <= byte && byte <= b'Z') || (b'a' <= byte && byte <= b'z')
+    ((b'A' <= byte) & (byte <= b'Z')) | ((b'a' <= byte) & (byte <= b'z'))
 }
 
 // Whether a good number of the field could begin so: then its value is blamed, and not its form.
 fn begins_number(name: usize, byte: u8) -> bool {
-    is_digit(byte) || (byte == b'-' && is_signed(name))
+    is_digit(byte) | ((byte == b'-') & is_signed(name))
 }
 
 // Net positions, Fref, F0all and factors.

@@ -159,11 +159,14 @@ pub fn put_ram(case: Case, margin: PartsRecord, out: &mut [u8], at: usize) -> us
     let mut figures = [case.row as u64, 0, 0, 0, 0, 0, 0];
     let shown = [10, 4, 5, 7, 8, 9];
     records::pick(&margin, &shown, &mut figures, 1);
-    let amr = if figures[3] == 0 { 5 } else { 1 };
-    let lta = if figures[4] == 0 { 5 } else { 2 };
-    let cva = if figures[5] == 0 { 5 } else { 3 };
-    let iva = if figures[6] == 0 { 5 } else { 4 };
-    let lines = [0, amr, lta, cva, iva, 6];
+    let lines = [
+        0,
+        unless_0(figures[3], 1),
+        unless_0(figures[4], 2),
+        unless_0(figures[5], 3),
+        unless_0(figures[6], 4),
+        6,
+    ];
     let list = b"RAM of row $0 is $m MW = Base $m\n\
         \x20+ AMR $m\n\
         \x20+ LTA margin $m\n\
@@ -172,6 +175,11 @@ pub fn put_ram(case: Case, margin: PartsRecord, out: &mut [u8], at: usize) -> us
         $-\n\
         .|";
     forms::put_all(list, &lines, &figures, out, at)
+}
+
+// The line of a part, or that of nothing where the part is 0.
+fn unless_0(part: u64, line: usize) -> usize {
+    if part == 0 { 5 } else { line }
 }
 
 // What was taken of the row's margin before the rounds: by rights, or by the allocated positions of an intraday table.
