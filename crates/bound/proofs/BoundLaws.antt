@@ -22,8 +22,8 @@ use Rattle.table.specs.Table.{Table, front, judgeLent}
 use Rattle.table.specs.Good.{Good}
 use Rattle.table.proofs.GoodLaws.{told-judged}
 use Rattle.rounds.specs.AllRounds.{flat}
-use Rattle.margin.specs.Magnitudes.{startBits}
-use Rattle.margin.proofs.Small.{named-values-small}
+use Rattle.marginrules.specs.Magnitudes.{startBits}
+use Rattle.marginrules.proofs.Small.{named-values-small}
 use Rattle.states.specs.Standings.{standingsOf}
 use Rattle.setup.specs.Setup.{gridBy, beginBy}
 use Rattle.states.specs.States.{kept}

@@ -16,7 +16,7 @@ use Rattle.numbers.specs.Below.{at, allBelow}
 use Rattle.numbers.proofs.BelowLaws.{sumℤ-cong}
 use Rattle.numbers.proofs.TestLaws.{and-both, all-true}
 use Rattle.numbers.proofs.IntLaws.{diff, diffs, zarith, ltZ-true, ltZ-false, within-le, within-mul, within-sum, inside-pos, between-within}
-use Rattle.margin.proofs.MagnitudeLaws.{within-sub}
+use Rattle.marginrules.proofs.MagnitudeLaws.{within-sub}
 use Rattle.types.specs.Ranges.{atℤ, exists}
 use Rattle.types.proofs.RangeLaws.{exists-test, exists-in}
 use Rattle.table.proofs.GoodLaws.{stretch-at}

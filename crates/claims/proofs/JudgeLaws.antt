@@ -21,9 +21,9 @@ use Rattle.table.specs.declared.Room.the-variants.{None}
 use Rattle.table.specs.Table.{Table, front, judgeLent}
 use Rattle.table.specs.Good.{Good}
 use Rattle.table.proofs.GoodLaws.{told-judged}
-use Rattle.margin.specs.Margin.{ramAt}
-use Rattle.margin.proofs.JudgedLaws.{good-factors}
-use Rattle.margin.proofs.Small as small
+use Rattle.marginrules.specs.Margin.{ramAt}
+use Rattle.marginrules.proofs.JudgedLaws.{good-factors}
+use Rattle.marginrules.proofs.Small as small
 use Rattle.states.specs.Standings.{Standings, standingsOf, standingsWith}
 use Rattle.states.proofs.StandingsLaws.{rows-in}
 use Rattle.claimrules.specs.Claims.{claimedRow, formedBy, formed, borneOut, judgeClaims, claimsOf, claimsAnswer}

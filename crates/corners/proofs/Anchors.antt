@@ -8,7 +8,7 @@ use lib.IntN.{ℤ, pos}
 use lib.Signed.{_≤ℤ_, leZ-yes, ltZ-yes, clashℤ}
 use Rattle.numbers.specs.Ints.{minus}
 use Rattle.types.specs.Ranges.{atℤ, hubsOf, borderOf}
-use Rattle.margin.specs.Margin.{signedFactor, ltaKw, cornerPart}
+use Rattle.marginrules.specs.Margin.{signedFactor, ltaKw, cornerPart}
 use Rattle.corners.specs.Corners.{raisedBy, cornerFlows, flowsOf, Largest}
 
 abbrev flows : List ℤ

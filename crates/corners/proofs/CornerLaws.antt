@@ -14,7 +14,7 @@ use Rattle.numbers.specs.Below.{ifZero}
 use Rattle.numbers.proofs.BelowLaws.{le-or-lt, sumℤ-cong}
 use Rattle.numbers.proofs.IntLaws.{within-sum}
 use Rattle.types.specs.Ranges.{atℤ}
-use Rattle.margin.proofs.Corner.{low-bit, top-bit, same-bit, used}
+use Rattle.marginrules.proofs.Corner.{low-bit, top-bit, same-bit, used}
 use Rattle.corners.specs.Corners.{raisedBy, cornerFlows}
 
 -- ---- raisedBy

@@ -20,10 +20,10 @@ use Rattle.numbers.proofs.ListLaws.{Filled, filled-more, filled-over}
 use Rattle.types.specs.declared.Border.{Border}
 use Rattle.types.specs.LineLimits.{ltaMost}
 use Rattle.types.specs.Ranges.{atℤ, borderOf, borderFits}
-use Rattle.margin.specs.Margin.{signedFactor, ltaKw, cornerPart}
-use Rattle.margin.specs.Magnitudes.{FactorsInRange, BorderInRange, BordersInRange, pMost}
-use Rattle.margin.proofs.MagnitudeLaws.{signed-within}
-use Rattle.margin.proofs.JudgedLaws.{border-ranges}
+use Rattle.marginrules.specs.Margin.{signedFactor, ltaKw, cornerPart}
+use Rattle.marginrules.specs.Magnitudes.{FactorsInRange, BorderInRange, BordersInRange, pMost}
+use Rattle.marginrules.proofs.MagnitudeLaws.{signed-within}
+use Rattle.marginrules.proofs.JudgedLaws.{border-ranges}
 use Rattle.corners.specs.Corners.{sheetBordersMost, raisedBy, cornerFlows, partOf, flowsOf}
 use Rattle.corners.specs.Listed.{partMost, cornerFlowMost, FlowsListed}
 use Rattle.corners.proofs.CornerLaws.{raised-length, raised-at, flows-length, flows-cong, flow-within}

@@ -13,7 +13,7 @@ use Rattle.numbers.specs.Below.{over}
 use Rattle.refusals.specs.Refusals.{Judged, passed, refused, then, either, unless, need, noCorners}
 use Rattle.types.specs.Ranges.{atℤ, borderOf}
 use Rattle.table.specs.Table.{Table, factorsAt, judgeLent}
-use Rattle.margin.specs.Margin.{signedFactor, ltaKw, cornerPart}
+use Rattle.marginrules.specs.Margin.{signedFactor, ltaKw, cornerPart}
 
 -- a sheet is made for at most so many borders
 abbrev pub sheetBordersMost : ℕ

@@ -6,7 +6,7 @@ use lib.IntN.{ℤ}
 use lib.ListN.{length}
 use Rattle.numbers.specs.Below.{over}
 use Rattle.types.specs.LineLimits.{ltaMost}
-use Rattle.margin.specs.Magnitudes.{pMost}
+use Rattle.marginrules.specs.Magnitudes.{pMost}
 use Rattle.corners.specs.Corners.{sheetBordersMost}
 
 -- a border's part, and a sum of parts, in magnitude

@@ -18,7 +18,7 @@ use Rattle.types.specs.declared.Border.{Border}
 use Rattle.types.specs.Ranges.{atℤ, isIntraday}
 use Rattle.table.specs.Table.{Table, borderAt, factorsAt}
 use Rattle.rounds.specs.Rounds.{load}
-use Rattle.margin.specs.Margin.{pOf, ltaKw, sOf, sAt, marginOf, startsOf}
+use Rattle.marginrules.specs.Margin.{pOf, ltaKw, sOf, sAt, marginOf, startsOf}
 use Rattle.setup.specs.Setup.{gridBy, beginBy, judgeBy}
 use Rattle.states.specs.Standings.{standingsOf}
 use Rattle.states.specs.States.{kept}

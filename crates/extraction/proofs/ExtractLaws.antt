@@ -30,9 +30,9 @@ use Rattle.rounds.proofs.Rounds.{extracts}
 use Rattle.rounds.proofs.StopLaws.{stop-by, shares-are}
 use Rattle.rounds.proofs.Theorems.{extract-demand3, same-factors, same-lasts, same-stops}
 use Rattle.rounds.proofs.EveryRoundLaws.{rounds-long, work-ended, lasts-below}
-use Rattle.margin.specs.Magnitudes.{startBits}
-use Rattle.margin.proofs.JudgedLaws.{good-borders}
-use Rattle.margin.proofs.Small.{named-values-small}
+use Rattle.marginrules.specs.Magnitudes.{startBits}
+use Rattle.marginrules.proofs.JudgedLaws.{good-borders}
+use Rattle.marginrules.proofs.Small.{named-values-small}
 use Rattle.setup.specs.Setup.{gridBy, beginBy}
 use Rattle.states.specs.Standings.{Standings, standingsOf}
 use Rattle.states.proofs.StandingsLaws.{rows-in}

@@ -14,7 +14,7 @@ use Rattle.rounds.specs.Rounds.{Grid, State, load, Outcome, extract}
 use Rattle.rounds.specs.Last.{lastRounds}
 use Rattle.rounds.specs.Stopping.{equalShare}
 use Rattle.rounds.specs.AllRounds.{flat}
-use Rattle.margin.specs.Magnitudes.{BordersInRange}
+use Rattle.marginrules.specs.Magnitudes.{BordersInRange}
 use Rattle.states.specs.Standings.{Standings}
 use Rattle.start.specs.Filled.{froms}
 use Rattle.extraction.specs.Extraction.{Result, resultBy, atcRecord, rowRecord, ExtractLeft, leaves, resultRoom, resultStored}

@@ -6,7 +6,7 @@ use Prim.Native.String.{String}
 use lib.IntN.{pos}
 use Rattle.numbers.specs.Ints.{minus}
 use Rattle.refusals.specs.Refusals.{passed, refused, either, outOfRange}
-use Rattle.margin.specs.Margin.{sOf}
+use Rattle.marginrules.specs.Margin.{sOf}
 use Rattle.reading.specs.Reading.{readText}
 use Rattle.writing.specs.Writing.{tableText}
 use Rattle.start.specs.Start.{every}

@@ -9,7 +9,7 @@ use Rattle.numbers.specs.Ints.{minus, maxℤ, minℤ, positivePart, sameℤ, in
 use Rattle.refusals.specs.Refusals.{Judged, passed, refused, refusal, then, unless, refuseAt, refuseFirst, need}
 use Rattle.types.specs.Ranges.{headerFits, allocatedItems, zoneFits, exists, hubsFit, hubsOf, borderFits, borderOf, shareOf, rowOf, rowFits, factorFits, worth, defaultOf}
 use Rattle.table.specs.Table.{Table, stretch, balanced, twice, roomFor, judgeShape, judgeFor}
-use Rattle.margin.specs.Margin.{grains, f0coreOf, fuafOf, baseOf, amrOf, signedFactor, pOf, ltaKw, sOf, ltaMarginOf, ramOf, ramAt}
+use Rattle.marginrules.specs.Margin.{grains, f0coreOf, fuafOf, baseOf, amrOf, signedFactor, pOf, ltaKw, sOf, ltaMarginOf, ramOf, ramAt}
 use Rattle.states.specs.States.{highest, lowest, spreadOf, shifted, below, stateOf, kept}
 use Rattle.states.specs.Standings.{Standings, standingsOf}
 use Rattle.setup.specs.Setup.{gridBy, judgeBy}

@@ -11,7 +11,7 @@ use Rattle.refusals.specs.Refusals.{passed}
 use Rattle.table.specs.Table.{judgeLent}
 use Rattle.table.proofs.GoodLaws.{judged-good}
 use Rattle.rounds.specs.Rounds.{State, next}
-use Rattle.margin.specs.Margin.{ramAt}
+use Rattle.marginrules.specs.Margin.{ramAt}
 use Rattle.start.specs.Start.{every, tableGrid, tableStart}
 use Rattle.extraction.specs.Extraction.{Result, atcOf, leftOf, outcomeOf}
 use Rattle.promises.specs.Demand.{loadOf, UpTo, WithinAtcs, ResultDemand3}

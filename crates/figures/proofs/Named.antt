@@ -16,10 +16,10 @@ use Rattle.table.specs.Table.{Table, lent, factorsAt}
 use Rattle.table.specs.Good.{Good}
 use Rattle.table.proofs.GoodLaws.{judged-good}
 use Rattle.promises.specs.LargestCorner.{LargestCorner}
-use Rattle.margin.specs.Margin.{cornerSum, ramAt, ramsOf}
+use Rattle.marginrules.specs.Margin.{cornerSum, ramAt, ramsOf}
 use Rattle.theorems.proofs.LargestCorner.{s-largest-corner}
-use Rattle.margin.proofs.JudgedLaws.{good-factors}
-use Rattle.margin.proofs.Small.{named-values-small}
+use Rattle.marginrules.proofs.JudgedLaws.{good-factors}
+use Rattle.marginrules.proofs.Small.{named-values-small}
 use Rattle.corners.specs.Corners.{flowsOf, bit, Stands}
 use Rattle.theorems.proofs.CornerSheet.{every-corner-stands}
 use Rattle.theorems.proofs.OneKept.{OneKept, one-kept}

@@ -12,7 +12,7 @@ use Rattle.corners.specs.Corners.{raisedBy, cornerFlows, judgeCorners, sheetLef
 use Rattle.cornertext.specs.CornerText.{cornersText, cornerTextLeft}
 use Rattle.refusals.specs.Refusals.{then, either, unless, refuseAt, refuseFirst, need}
 use Rattle.types.specs.Ranges.{headerFits, allocatedItems, zoneFits, exists, hubsFit, hubsOf, borderFits, borderOf, shareOf, rowOf, rowFits, factorFits, worth, defaultOf}
-use Rattle.margin.specs.Margin.{grains, f0coreOf, fuafOf, baseOf, amrOf, signedFactor, pOf, ltaKw, cornerPart, cornerSum, sOf, ltaMarginOf, ramOf, ramAt}
+use Rattle.marginrules.specs.Margin.{grains, f0coreOf, fuafOf, baseOf, amrOf, signedFactor, pOf, ltaKw, cornerPart, cornerSum, sOf, ltaMarginOf, ramOf, ramAt}
 use Rattle.states.specs.States.{highest, lowest, spreadOf, shifted, below, stateOf, kept}
 use Rattle.numbers.specs.Below.{ifZero, sum, count, largest, lesser, least, orZero, table, firstFrom, given}
 use Rattle.numbers.specs.Ints.{maxℤ, minℤ, positivePart, sameℤ, inside, sumℤ}

@@ -12,7 +12,7 @@ use Rattle.types.specs.declared.Row.{Row}
 use Rattle.types.specs.declared.Share.the-variants.{Written}
 use Rattle.rounds.specs.Rounds.{Grid, sharers, raise}
 use Rattle.table.specs.Table.{Table, factorsAt}
-use Rattle.margin.specs.Margin.{grains, baseOf, amrOf, ramAt, ramsOf}
+use Rattle.marginrules.specs.Margin.{grains, baseOf, amrOf, ramAt, ramsOf}
 use Rattle.states.specs.States.{spreadOf, stateOf}
 use Rattle.states.specs.Standings.{standingsOf}
 use Rattle.extraction.specs.Extraction.{Result, outcomeOf}

@@ -10,7 +10,7 @@ ghost use Rattle.limits.specs.Limits.{zonesMost, bordersMost, rowsMost};
 ghost use Rattle.types.specs.Ranges.{headerFits};
 ghost use Rattle.table.specs.Table.{lent, front};
 ghost use Rattle.table.specs.Good.{Good};
-ghost use Rattle.margin.specs.Magnitudes.{BordersInRange};
+ghost use Rattle.marginrules.specs.Magnitudes.{BordersInRange};
 ghost use Rattle.daysheet.specs.Sheet.{hoursMost};
 ghost use Rattle.hourtables.specs.Hour.{foundFor, foundIn, figures, figuresBy, refusedHour, hourOf, keptOf};
 use daysheet::HourRecord;

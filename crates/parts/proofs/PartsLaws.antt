@@ -22,9 +22,9 @@ use Rattle.table.specs.declared.Room.the-variants.{None}
 use Rattle.table.specs.Table.{Table, front, stretch, judgeLent}
 use Rattle.table.specs.Good.{Good}
 use Rattle.table.proofs.GoodLaws.{told-judged}
-use Rattle.margin.specs.Magnitudes.{BordersInRange}
-use Rattle.margin.specs.Margin.{pOf, f0coreOf, sOf, ramAt, marginOf, ramsOf, startsOf}
-use Rattle.margin.proofs.JudgedLaws.{good-factors, good-borders, good-nets}
+use Rattle.marginrules.specs.Magnitudes.{BordersInRange}
+use Rattle.marginrules.specs.Margin.{pOf, f0coreOf, sOf, ramAt, marginOf, ramsOf, startsOf}
+use Rattle.marginrules.proofs.JudgedLaws.{good-factors, good-borders, good-nets}
 use Rattle.states.specs.States.{stateOf}
 use Rattle.states.specs.Standings.{Standings, standingsOf, standingsWith}
 use Rattle.states.proofs.StandingsLaws.{rows-in}

@@ -11,8 +11,8 @@ ghost use Rattle.numbers.specs.Ints.{Within};
 ghost use Rattle.limits.specs.Limits.{bordersMost};
 ghost use Rattle.types.specs.LineLimits.{shareMost};
 ghost use Rattle.types.specs.Ranges.{borderFits, borderOf, rowFits, rowOf};
-ghost use Rattle.margin.specs.Magnitudes.{RowInRange, FactorsInRange, NetsInRange, BordersInRange, f0coreMost, sMost};
-ghost use Rattle.margin.specs.Margin.{pOf, f0coreOf, sOf};
+ghost use Rattle.marginrules.specs.Magnitudes.{RowInRange, FactorsInRange, NetsInRange, BordersInRange, f0coreMost, sMost};
+ghost use Rattle.marginrules.specs.Margin.{pOf, f0coreOf, sOf};
 ghost use Rattle.parts.specs.Parts.{nOf, startFrom, recordOf};
 ghost use Rattle.parts.specs.Stored.{partsBy};
 

@@ -18,8 +18,8 @@ use Rattle.table.specs.Good.{Good}
 use Rattle.rounds.specs.Rounds.{Grid, mostSharers, aloneBits}
 use Rattle.rounds.proofs.Round.{alone-lt}
 use Rattle.rounds.proofs.Theorems.{alone-least}
-use Rattle.margin.specs.Magnitudes.{startBits}
-use Rattle.margin.proofs.Small.{named-values-small}
+use Rattle.marginrules.specs.Magnitudes.{startBits}
+use Rattle.marginrules.proofs.Small.{named-values-small}
 use Rattle.setup.specs.Setup.{gridBy}
 use Rattle.start.specs.Start.{setupWith, gridMarked, tableStart, judgeMarked}
 use Rattle.extraction.proofs.AcceptedLaws.{small-start}

@@ -16,7 +16,7 @@ use Rattle.types.specs.Ranges.{hubsOf, borderOf, shareOf, rowOf, worth, default
 use Rattle.marks.specs.Marks.{markedBy, faultyMark, judgeMarks}
 use Rattle.table.specs.Table.{Table, factorsAt, stretch}
 use Rattle.rounds.specs.Rounds.{State, Outcome, sharers, raise, alone, raises, load, lowered, risen, apply, next, raised, counted, run, extract, mostSharers, bitsTo, bits, aloneBits}
-use Rattle.margin.specs.Margin.{flowOf, grains, f0coreOf, fuafOf, baseOf, amrOf, signedFactor, pOf, ltaKw, sOf, ltaMarginOf, ramOf, ramAt}
+use Rattle.marginrules.specs.Margin.{flowOf, grains, f0coreOf, fuafOf, baseOf, amrOf, signedFactor, pOf, ltaKw, sOf, ltaMarginOf, ramOf, ramAt}
 use Rattle.states.specs.States.{highest, lowest, spreadOf, shifted, below, stateOf, kept}
 use Rattle.states.specs.Standings.{standingsOf}
 use Rattle.setup.specs.Setup.{gridBy, beginBy, judgeBy}

@@ -9,7 +9,7 @@ use lib.Signed.{_≤ℤ_}
 use Rattle.numbers.specs.Ints.{sumℤ}
 use Rattle.types.specs.Ranges.{atℤ}
 use Rattle.table.specs.Table.{Table, factorsAt}
-use Rattle.margin.specs.Margin.{ramAt}
+use Rattle.marginrules.specs.Margin.{ramAt}
 
 -- Net positions are rational numbers of kW, written over one denominator: q z / k at zone z.
 -- k times their load on row i, in grains

@@ -7,7 +7,7 @@ use Prim.Native.Nat.{ℕ, _+_, _*_, _<_}
 use Rattle.numbers.specs.Below.{at}
 use Rattle.table.specs.Table.{Table, borderAt, factorsAt}
 use Rattle.rounds.specs.Rounds.{Grid, State, raise, next, extract}
-use Rattle.margin.specs.Margin.{pOf}
+use Rattle.marginrules.specs.Margin.{pOf}
 use Rattle.states.specs.Standings.{standingsOf}
 use Rattle.states.specs.States.{kept}
 use Rattle.start.specs.Start.{gridMarked, tableStart}

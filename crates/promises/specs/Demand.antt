@@ -14,8 +14,8 @@ use Rattle.limits.specs.Limits.{bordersMost}
 use Rattle.types.specs.Ranges.{isIntraday}
 use Rattle.table.specs.Table.{Table, borderAt, factorsAt}
 use Rattle.rounds.specs.Rounds.{raise}
-use Rattle.margin.specs.Margin.{flowOf, signedFactor, pOf, ltaKw, sAt, ramAt}
-use Rattle.margin.specs.Magnitudes.{namedBits, startBits}
+use Rattle.marginrules.specs.Margin.{flowOf, signedFactor, pOf, ltaKw, sAt, ramAt}
+use Rattle.marginrules.specs.Magnitudes.{namedBits, startBits}
 use Rattle.states.specs.Standings.{standingsOf}
 use Rattle.states.specs.States.{kept}
 use Rattle.start.specs.Start.{gridMarked}

@@ -11,7 +11,7 @@ use lib.Signed.{ltZ}
 use Rattle.types.specs.Ranges.{atℤ, defaultOf}
 use Rattle.table.specs.Table.{Table}
 use Rattle.table.specs.Good.{Good}
-use Rattle.margin.specs.Margin.{ramAt, ramsOf}
+use Rattle.marginrules.specs.Margin.{ramAt, ramsOf}
 use Rattle.states.specs.Standings.{standingsOf}
 use Rattle.extraction.specs.Extraction.{outcomeFor}
 

@@ -12,7 +12,7 @@ use Rattle.types.specs.Ranges.{atℤ}
 use Rattle.table.specs.Table.{Table, borderAt, factorsAt}
 use Rattle.rounds.specs.Rounds.{sharers}
 use Rattle.rounds.specs.Last.{LastRaise}
-use Rattle.margin.specs.Margin.{pOf}
+use Rattle.marginrules.specs.Margin.{pOf}
 use Rattle.states.specs.Standings.{standingsOf}
 use Rattle.states.specs.States.{kept}
 use Rattle.start.specs.Start.{gridMarked, tableStart}

@@ -12,7 +12,7 @@ use Rattle.types.specs.Ranges.{isIntraday}
 use Rattle.table.specs.Table.{Table, borderAt, factorsAt}
 use Rattle.rounds.specs.Rounds.{sharers}
 use Rattle.rounds.specs.Last.{after, LastRaise}
-use Rattle.margin.specs.Margin.{pOf, sAt, ramAt}
+use Rattle.marginrules.specs.Margin.{pOf, sAt, ramAt}
 use Rattle.states.specs.Standings.{standingsOf}
 use Rattle.states.specs.States.{kept}
 use Rattle.start.specs.Start.{gridMarked, tableStart}

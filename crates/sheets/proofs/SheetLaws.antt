@@ -32,8 +32,8 @@ use Rattle.reading.specs.declared.TableRead.{TableRead}
 use Rattle.reading.specs.declared.TableRead.the-variants as read
 use Rattle.reading.specs.Reading.{readCorrected, readInto}
 use Rattle.reading.proofs.IntoLaws.{into-refused, into-read, into-good}
-use Rattle.margin.specs.Magnitudes.{BordersInRange}
-use Rattle.margin.proofs.JudgedLaws.{stretch-long, stretch-ranges, good-factors, good-borders}
+use Rattle.marginrules.specs.Magnitudes.{BordersInRange}
+use Rattle.marginrules.proofs.JudgedLaws.{stretch-long, stretch-ranges, good-factors, good-borders}
 use Rattle.corners.specs.Corners.{sheetBordersMost, partOf, flowsOf, judgeCornerSheet}
 use Rattle.corners.specs.Listed.{partMost, cornerFlowMost}
 use Rattle.corners.proofs.CornerLaws.{flow-within}

@@ -10,7 +10,7 @@ use Rattle.refusals.specs.Refusals.{Judged, passed, refused, refusal, unless, r
 use Rattle.types.specs.declared.Header.{Header}
 use Rattle.types.specs.Ranges.{hubsOf, borderOf}
 use Rattle.table.specs.Table.{stretch}
-use Rattle.margin.specs.Margin.{signedFactor, pOf, ltaKw}
+use Rattle.marginrules.specs.Margin.{signedFactor, pOf, ltaKw}
 use Rattle.marks.specs.Marks.{flagged}
 use Rattle.setup.specs.Setup.{gridBy, beginBy, judgeBy}
 use Rattle.states.specs.States.{kept}

@@ -26,7 +26,7 @@ use Rattle.types.specs.Ranges.{atℤ, isIntraday, borderOf}
 use Rattle.table.specs.Table.{Table}
 use Rattle.rounds.specs.Rounds.{Grid}
 use Rattle.rounds.proofs.Loops.{place-inside}
-use Rattle.margin.specs.Margin.{startsOf}
+use Rattle.marginrules.specs.Margin.{startsOf}
 use Rattle.states.specs.Standings.{Standings, standingsOf, standingsWith}
 use Rattle.setup.specs.Setup.{gridBy, beginBy, judgeBy}
 use Rattle.states.specs.States.{kept}

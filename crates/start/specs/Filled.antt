@@ -14,7 +14,7 @@ use Rattle.types.specs.declared.Header.{Header}
 use Rattle.types.specs.Ranges.{borderOf}
 use Rattle.table.specs.Table.{Table}
 use Rattle.rounds.specs.Rounds.{Grid}
-use Rattle.margin.specs.Margin.{startsOf}
+use Rattle.marginrules.specs.Margin.{startsOf}
 use Rattle.states.specs.Standings.{Standings, standingsOf, standingsWith}
 use Rattle.start.specs.Start.{fromBy, gridOf, judgeMarked}
 

@@ -11,7 +11,7 @@ use Rattle.types.specs.declared.Border.{Border}
 use Rattle.types.specs.Ranges.{atℤ, isIntraday, borderOf}
 use Rattle.table.specs.Table.{Table, stretch}
 use Rattle.rounds.specs.Rounds.{Grid, State}
-use Rattle.margin.specs.Margin.{pOf, ltaKw, startsOf}
+use Rattle.marginrules.specs.Margin.{pOf, ltaKw, startsOf}
 use Rattle.states.specs.States.{kept}
 use Rattle.states.specs.Standings.{standingsOf}
 use Rattle.setup.specs.Setup.{Setup, gridBy, beginBy, judgeBy}

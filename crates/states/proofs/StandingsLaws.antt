@@ -8,7 +8,7 @@ use Rattle.numbers.specs.Below.{at}
 use Rattle.numbers.proofs.BelowLaws.{table-long, table-get}
 use Rattle.types.specs.Ranges.{allocatedItems}
 use Rattle.table.specs.Table.{Table, lent, front}
-use Rattle.margin.specs.Margin.{ramAt, ramsOf, startsOf}
+use Rattle.marginrules.specs.Margin.{ramAt, ramsOf, startsOf}
 use Rattle.states.specs.States.{stateOf, statesOf}
 use Rattle.states.specs.Standings.{Standings, standingsOf, standingsWith}
 use Rattle.states.proofs.StateLaws.{state-most}

@@ -3,7 +3,7 @@ use mathlib.Core.List.{List}
 use Prim.Native.Nat.{ℕ}
 use lib.IntN.{ℤ}
 use Rattle.table.specs.Table.{Table}
-use Rattle.margin.specs.Margin.{ramsOf}
+use Rattle.marginrules.specs.Margin.{ramsOf}
 use Rattle.states.specs.States.{statesOf}
 
 -- the RAM and the state of each row

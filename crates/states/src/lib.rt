@@ -8,8 +8,8 @@ ghost use lib.Signed.{ltZ};
 ghost use Rattle.numbers.specs.Below.{someBelow};
 ghost use Rattle.table.specs.Table.{lent, front, stretch};
 ghost use Rattle.table.specs.Good.{Good};
-ghost use Rattle.margin.specs.Magnitudes.{FactorsInRange, TableFactorsInRange};
-ghost use Rattle.margin.specs.Margin.{startsOf};
+ghost use Rattle.marginrules.specs.Magnitudes.{FactorsInRange, TableFactorsInRange};
+ghost use Rattle.marginrules.specs.Margin.{startsOf};
 ghost use Rattle.states.specs.States.{spreadOf, spreadLeast, shifted, below, stateOf, statesOf};
 ghost use Rattle.states.specs.Standings.{standingsOf, standingsWith};
 

@@ -14,7 +14,7 @@ use Rattle.table.specs.Table.{Table, borderAt, factorsAt, front}
 use Rattle.rounds.proofs.Laid.{laid-raise, laid-next}
 use Rattle.rounds.proofs.Theorems.{same-factors}
 use Rattle.rounds.proofs.Loops.{place-inside}
-use Rattle.margin.specs.Margin.{pOf}
+use Rattle.marginrules.specs.Margin.{pOf}
 use Rattle.states.specs.Standings.{standingsOf}
 use Rattle.setup.specs.Setup.{gridBy}
 use Rattle.states.specs.States.{kept}

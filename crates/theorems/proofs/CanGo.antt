@@ -23,7 +23,7 @@ use Rattle.types.specs.Ranges.{atℤ, exists}
 use Rattle.types.proofs.RangeLaws.{exists-in}
 use Rattle.table.specs.Table.{Table, front, factorsAt, judgeLent}
 use Rattle.table.proofs.GoodLaws.{judged-front}
-use Rattle.margin.specs.Margin.{ramAt}
+use Rattle.marginrules.specs.Margin.{ramAt}
 use Rattle.states.specs.Standings.{Standings, standingsOf}
 use Rattle.states.proofs.StandingsLaws.{rows-in}
 use Rattle.states.specs.States.{kept}

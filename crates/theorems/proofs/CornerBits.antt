@@ -10,7 +10,7 @@ use lib.IntN.{ℤ, pos}
 use lib.Pow.{pow-pos}
 use Rattle.numbers.specs.Below.{ifZero}
 use Rattle.numbers.proofs.BelowLaws.{le-or-lt, lt-suc-cases}
-use Rattle.margin.proofs.Corner.{low-bit, top-bit, same-bit, used}
+use Rattle.marginrules.proofs.Corner.{low-bit, top-bit, same-bit, used}
 use Rattle.corners.specs.Corners.{bit}
 
 pub low-not : (n k : ℕ) → k < 2 ^ n → bit k n ≡ false

@@ -12,8 +12,8 @@ use Rattle.numbers.proofs.BelowLaws.{sumℤ-cong}
 use Rattle.refusals.specs.Refusals.{passed, refused, tooShort}
 use Rattle.types.specs.Ranges.{atℤ}
 use Rattle.table.specs.Table.{Table, factorsAt}
-use Rattle.margin.specs.Margin.{cornerPart, cornerSum, sOf}
-use Rattle.margin.proofs.Corner.{used}
+use Rattle.marginrules.specs.Margin.{cornerPart, cornerSum, sOf}
+use Rattle.marginrules.proofs.Corner.{used}
 use Rattle.theorems.proofs.LargestCorner.{s-largest-corner}
 use Rattle.corners.specs.Corners.{partOf, flowsOf, judgeCorners, flowsLeft, cornersLeft, Stands, Largest}
 use Rattle.corners.proofs.CornerLaws.{flows-length, flows-at}

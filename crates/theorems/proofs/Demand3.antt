@@ -22,9 +22,9 @@ use Rattle.table.specs.Good.{Good}
 use Rattle.rounds.specs.Rounds.{Grid, Outcome, sharers, raise, alone, mostSharers}
 use Rattle.rounds.proofs.LeastLaws.{least-mono, div-mono}
 use Rattle.rounds.proofs.Theorems.{alone-under, alone-least, extract-demand3}
-use Rattle.margin.specs.Magnitudes.{namedBits, startBits}
-use Rattle.margin.specs.Margin.{flowOf, signedFactor, pOf, ltaKw, sOf, sAt, ramAt, startBy, marginOf}
-use Rattle.margin.proofs.Small.{named-values-small}
+use Rattle.marginrules.specs.Magnitudes.{namedBits, startBits}
+use Rattle.marginrules.specs.Margin.{flowOf, signedFactor, pOf, ltaKw, sOf, sAt, ramAt, startBy, marginOf}
+use Rattle.marginrules.proofs.Small.{named-values-small}
 use Rattle.states.specs.Standings.{standingsOf}
 use Rattle.setup.specs.Setup.{Setup, gridBy, beginBy, endBy}
 use Rattle.states.specs.States.{kept}

@@ -27,7 +27,7 @@ use Rattle.rounds.proofs.LeastLaws.{Smallest, least-some, div-mono}
 use Rattle.rounds.proofs.Round.{next-margin-le}
 use Rattle.rounds.proofs.Rounds.{extracts, ended-at}
 use Rattle.rounds.proofs.LastLaws.{last-round}
-use Rattle.margin.specs.Margin.{pOf, sAt, ramAt}
+use Rattle.marginrules.specs.Margin.{pOf, sAt, ramAt}
 use Rattle.states.specs.Standings.{standingsOf}
 use Rattle.setup.specs.Setup.{Setup, gridBy, beginBy}
 use Rattle.states.specs.States.{kept}

@@ -14,7 +14,7 @@ use Rattle.types.specs.Ranges.{atℤ, isIntraday, borderOf}
 use Rattle.table.specs.Table.{Table, factorsAt}
 use Rattle.table.specs.Good.{Good}
 use Rattle.rounds.specs.Rounds.{sharers}
-use Rattle.margin.specs.Margin.{pOf, marginOf, startsOf}
+use Rattle.marginrules.specs.Margin.{pOf, marginOf, startsOf}
 use Rattle.states.specs.Standings.{standingsOf}
 use Rattle.setup.specs.Setup.{gridBy, beginBy}
 use Rattle.states.specs.States.{kept}

@@ -6,7 +6,7 @@ use lib.IntN.{pos, _+ℤ_, _-ℤ_}
 use Rattle.numbers.specs.Ints.{maxℤ}
 use Rattle.types.specs.Ranges.{isIntraday}
 use Rattle.table.specs.Table.{Table, factorsAt}
-use Rattle.margin.specs.Margin.{flowOf, ramOf, ramAt}
+use Rattle.marginrules.specs.Margin.{flowOf, ramOf, ramAt}
 use Rattle.parts.specs.Parts.{startFrom, partsOf}
 
 module _ (t : Table) (i : ℕ) where

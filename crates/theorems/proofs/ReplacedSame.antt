@@ -18,7 +18,7 @@ use Rattle.types.proofs.RangeLaws.{row-in, default-low, default-fits}
 use Rattle.marks.specs.Marks.{judgeAsked, mayRise}
 use Rattle.table.specs.Table.{Table, factorsAt}
 use Rattle.table.specs.Good.{Good}
-use Rattle.margin.specs.Margin.{f0coreOf, fuafOf, baseOf, amrOf, ltaMarginOf, ramOf, sAt, ramAt, startBy, marginOf, ramsOf, startsOf}
+use Rattle.marginrules.specs.Margin.{f0coreOf, fuafOf, baseOf, amrOf, ltaMarginOf, ramOf, sAt, ramAt, startBy, marginOf, ramsOf, startsOf}
 use Rattle.states.specs.States.{statesOf, kept}
 use Rattle.states.specs.Standings.{Standings, standingsOf}
 use Rattle.setup.specs.Setup.{Setup, gridBy, beginBy, judgeBy}

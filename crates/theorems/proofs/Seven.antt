@@ -17,8 +17,8 @@ use Rattle.types.specs.Ranges.{isIntraday, defaultOf, rowOf}
 use Rattle.marks.specs.Marks.{judgeMarks, judgeAsked, mayRise}
 use Rattle.table.specs.Table.{Table, rowAt, factorsAt, front, roomFor, inRange, notTwice, judgeShape, judgeRecords, judgeFor, judgeLent}
 use Rattle.table.proofs.GoodLaws.{judged-front}
-use Rattle.margin.specs.Margin.{sAt, ramAt, startBy, marginOf}
-use Rattle.margin.proofs.MarginLaws.{start-not-negative}
+use Rattle.marginrules.specs.Margin.{sAt, ramAt, startBy, marginOf}
+use Rattle.marginrules.proofs.MarginLaws.{start-not-negative}
 use Rattle.setup.specs.Setup.{Setup, freeBy, lowBy, judgeBy}
 use Rattle.states.specs.States.{kept}
 use Rattle.start.specs.Start.{judgeMarked, setupOf, setupWith}

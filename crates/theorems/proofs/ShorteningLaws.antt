@@ -19,8 +19,8 @@ use Rattle.types.specs.Ranges.{isIntraday, atℤ}
 use Rattle.marks.specs.Marks.{faultyMark, judgeMarks, judgeAsked, mayRise}
 use Rattle.table.specs.Table.{Table, borderAt, factorsAt}
 use Rattle.table.specs.Good.{Good}
-use Rattle.margin.specs.Margin.{pOf, ramAt, marginOf, ramsOf}
-use Rattle.margin.proofs.JudgedLaws.{good-factors}
+use Rattle.marginrules.specs.Margin.{pOf, ramAt, marginOf, ramsOf}
+use Rattle.marginrules.proofs.JudgedLaws.{good-factors}
 use Rattle.states.specs.States.{spreadOf, spreadLeast, shifted, stateOf, kept}
 use Rattle.theorems.proofs.ShiftLaws.{shifted-self}
 use Rattle.theorems.proofs.OneKept.{one-kept}

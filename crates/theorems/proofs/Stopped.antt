@@ -20,7 +20,7 @@ use Rattle.rounds.specs.Stopping.{stopRow, Stops}
 use Rattle.rounds.proofs.Rounds.{extracts}
 use Rattle.rounds.proofs.LastLaws.{last-round}
 use Rattle.theorems.proofs.RoundStops as rules
-use Rattle.margin.specs.Margin.{pOf}
+use Rattle.marginrules.specs.Margin.{pOf}
 use Rattle.states.specs.Standings.{standingsOf}
 use Rattle.setup.specs.Setup.{Setup, gridBy}
 use Rattle.states.specs.States.{kept}

@@ -25,8 +25,8 @@ use Rattle.rounds.proofs.Rounds.{extracts}
 use Rattle.rounds.proofs.Theorems.{extract-demand3}
 use Rattle.rounds.proofs.EveryRoundLaws.{rounds-long}
 use Rattle.rounds.proofs.Reach.{ends-below}
-use Rattle.margin.specs.Margin.{ltaKw}
-use Rattle.margin.proofs.JudgedLaws.{border-judged}
+use Rattle.marginrules.specs.Margin.{ltaKw}
+use Rattle.marginrules.proofs.JudgedLaws.{border-judged}
 use Rattle.start.specs.Start.{fromBy}
 use Rattle.start.specs.Filled.{froms, exchangesOf}
 use Rattle.replay.specs.Replay.{marginsAfter}

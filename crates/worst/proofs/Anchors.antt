@@ -14,7 +14,7 @@ use Rattle.limits.specs.Limits.{bordersMost}
 use Rattle.types.specs.Ranges.{hubsOf, borderOf, shareOf, rowOf, worth, defaultOf}
 use Rattle.table.specs.Table.{Table, stretch}
 use Rattle.rounds.specs.Rounds.{sharers, alone, mostSharers, bitsTo, bits, aloneBits}
-use Rattle.margin.specs.Margin.{grains, f0coreOf, fuafOf, baseOf, amrOf, signedFactor, pOf, ltaKw, sOf, ltaMarginOf, ramOf, ramAt}
+use Rattle.marginrules.specs.Margin.{grains, f0coreOf, fuafOf, baseOf, amrOf, signedFactor, pOf, ltaKw, sOf, ltaMarginOf, ramOf, ramAt}
 use Rattle.states.specs.States.{highest, lowest, spreadOf, shifted, below, stateOf, kept}
 use Rattle.states.specs.Standings.{standingsOf}
 use Rattle.setup.specs.Setup.{gridBy, beginBy}

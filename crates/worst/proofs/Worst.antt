@@ -18,7 +18,7 @@ use Rattle.table.specs.Table.{Table, borderAt, factorsAt}
 use Rattle.table.specs.Good.{Good}
 use Rattle.tight.specs.Tight.{equalShareUp, cut, stepsWithin, steps}
 use Rattle.tight.specs.Measure.{boundBy}
-use Rattle.margin.specs.Margin.{pOf, marginOf, startsOf}
+use Rattle.marginrules.specs.Margin.{pOf, marginOf, startsOf}
 use Rattle.states.specs.Standings.{standingsOf}
 use Rattle.setup.specs.Setup.{gridBy, beginBy}
 use Rattle.states.specs.States.{kept}

@@ -8,8 +8,8 @@ use lib.IntN.{ℤ}
 use lib.ListN.{getD}
 use Rattle.types.specs.Ranges.{borderFits, borderOf}
 use Rattle.marks.specs.Marks.{flagged}
-use Rattle.margin.specs.Margin.{pOf}
-use Rattle.margin.proofs.JudgedLaws.{part-long, part-ranges}
+use Rattle.marginrules.specs.Margin.{pOf}
+use Rattle.marginrules.proofs.JudgedLaws.{part-long, part-ranges}
 use Rattle.setup.specs.Setup.{gridBy}
 use Rattle.states.specs.States.{kept}
 use Rattle.start.specs.Start.{gridOf, setupWith}

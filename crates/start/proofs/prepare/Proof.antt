@@ -5,7 +5,7 @@ use borrow.Author.Needs.{needs}
 use lib.ListN.{length}
 use Rattle.numbers.proofs.BelowLaws.{table-long}
 use Rattle.table.proofs.RoomLaws.{factors-most}
-use Rattle.margin.proofs.JudgedLaws.{good-factors, good-borders}
+use Rattle.marginrules.proofs.JudgedLaws.{good-factors, good-borders}
 use Rattle.states.proofs.StandingsLaws.{rows-in}
 use Rattle.start.proofs.StartLaws.{prepared-by}
 use Rattle.start.proofs.prepare.Statement.{statement}

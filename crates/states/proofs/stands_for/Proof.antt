@@ -4,7 +4,7 @@ use borrow.Author.Needs.{needs}
 use lib.IntN.{ℤ}
 use mathlib.Core.List.{List}
 use Rattle.states.specs.States.{shifted, below}
-use Rattle.margin.proofs.JudgedLaws.{part-long, part-ranges}
+use Rattle.marginrules.proofs.JudgedLaws.{part-long, part-ranges}
 use Rattle.states.proofs.StateLaws.{late-first, late-second}
 use Rattle.states.proofs.stands_for.Statement.{statement}
 use Rattle.states.proofs.stands_for.Tie as tie

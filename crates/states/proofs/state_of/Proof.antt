@@ -6,7 +6,7 @@ use lib.IntN.{ℤ, pos}
 use lib.Signed.{ltZ}
 use Rattle.table.specs.Table.{stretch}
 use Rattle.states.specs.States.{spreadOf, spreadLeast}
-use Rattle.margin.proofs.JudgedLaws.{part-ranges}
+use Rattle.marginrules.proofs.JudgedLaws.{part-ranges}
 use Rattle.states.proofs.StateLaws.{state-spread, state-stood, state-kept}
 use Rattle.states.proofs.state_of.Statement.{statement}
 use Rattle.states.proofs.state_of.Tie as tie

@@ -19,9 +19,9 @@ use Rattle.types.specs.declared.Hubs.the-variants.{Without, Between}
 use Rattle.types.specs.declared.Border.{Border}
 use Rattle.types.specs.declared.Row.{Row}
 use Rattle.types.specs.Ranges.{atℤ, borderOf, worth}
-use Rattle.margin.specs.Margin.{grains, flowOf, f0coreOf, fuafOf, baseOf, amrOf, byHubs, signedFactor, pOf, ltaKw, sOf, ltaMarginOf, ramOf}
-use Rattle.margin.specs.Magnitudes.{RowWithin, HubsWithin, BorderWithin}
-use Rattle.margin.proofs.MarginLaws.{shareLess, fifth, base-amr, lta-is, ram-largest}
+use Rattle.marginrules.specs.Margin.{grains, flowOf, f0coreOf, fuafOf, baseOf, amrOf, byHubs, signedFactor, pOf, ltaKw, sOf, ltaMarginOf, ramOf}
+use Rattle.marginrules.specs.Magnitudes.{RowWithin, HubsWithin, BorderWithin}
+use Rattle.marginrules.proofs.MarginLaws.{shareLess, fifth, base-amr, lta-is, ram-largest}
 
 -- ---- a value that is another, sums and differences
 pub within-is : {m : ℕ} {x y : ℤ} → x ≡ y → Within m y → Within m x

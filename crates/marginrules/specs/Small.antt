@@ -4,8 +4,8 @@ use Prim.Native.Nat.{ℕ, _^_, _<_}
 use lib.IntN.{ℤ, pos, natAbs, _-ℤ_}
 use Rattle.types.specs.Ranges.{defaultOf}
 use Rattle.table.specs.Table.{Table, rowAt, borderAt, factorsAt}
-use Rattle.margin.specs.Margin.{flowOf, f0coreOf, fuafOf, baseOf, amrOf, pOf, ltaMarginOf, sAt, ramAt, marginOf}
-use Rattle.margin.specs.Magnitudes.{namedBits, startBits}
+use Rattle.marginrules.specs.Margin.{flowOf, f0coreOf, fuafOf, baseOf, amrOf, pOf, ltaMarginOf, sAt, ramAt, marginOf}
+use Rattle.marginrules.specs.Magnitudes.{namedBits, startBits}
 
 -- F0core of row i of a table
 abbrev pub f0coreAt : Table → (i : ℕ) → ℤ

@@ -16,11 +16,11 @@ use Rattle.types.specs.Ranges.{isIntraday, borderFits, defaultOf}
 use Rattle.types.proofs.RangeLaws.{row-in, default-in}
 use Rattle.table.specs.Table.{Table, rowAt, borderAt, factorsAt}
 use Rattle.table.specs.Good.{Good}
-use Rattle.margin.specs.Margin.{flowOf, pOf, sAt, ramAt, marginOf}
-use Rattle.margin.specs.Magnitudes.{RowInRange, BordersInRange, pMost, f0coreMost, sMost, ramMost, startMost}
-use Rattle.margin.specs.Small.{f0coreAt, NamedSmall}
-use Rattle.margin.proofs.MagnitudeLaws.{within-flow, within-f0core, within-fuaf, within-base, within-amr, p-most, lta-margin-most, within-ram, within-start}
-use Rattle.margin.proofs.JudgedLaws.{border-ranges, row-ranges, stretch-long, stretch-ranges, s-bound, good-factors, good-borders, good-nets, good-allocated}
+use Rattle.marginrules.specs.Margin.{flowOf, pOf, sAt, ramAt, marginOf}
+use Rattle.marginrules.specs.Magnitudes.{RowInRange, BordersInRange, pMost, f0coreMost, sMost, ramMost, startMost}
+use Rattle.marginrules.specs.Small.{f0coreAt, NamedSmall}
+use Rattle.marginrules.proofs.MagnitudeLaws.{within-flow, within-f0core, within-fuaf, within-base, within-amr, p-most, lta-margin-most, within-ram, within-start}
+use Rattle.marginrules.proofs.JudgedLaws.{border-ranges, row-ranges, stretch-long, stretch-ranges, s-bound, good-factors, good-borders, good-nets, good-allocated}
 
 between-low : {m n : ℕ} {z : ℤ} → Between m n z → pos 0 ≤ℤ z
 between-low {z} h = rw (h .is) (simp diffs (omega zarith))

@@ -20,9 +20,9 @@ use Rattle.types.proofs.RangeLaws.{header-in, allocated-most, zone-in, HubsIn, 
 use Rattle.table.specs.Table.{Table, stretch}
 use Rattle.table.specs.Good.{Good}
 use Rattle.table.proofs.GoodLaws as good
-use Rattle.margin.specs.Margin.{sOf}
-use Rattle.margin.specs.Magnitudes.{RowInRange, FactorsInRange, TableFactorsInRange, NetsInRange, HubsWithin, BorderInRange, BordersInRange, sMost}
-use Rattle.margin.proofs.MagnitudeLaws.{s-most}
+use Rattle.marginrules.specs.Margin.{sOf}
+use Rattle.marginrules.specs.Magnitudes.{RowInRange, FactorsInRange, TableFactorsInRange, NetsInRange, HubsWithin, BorderInRange, BordersInRange, sMost}
+use Rattle.marginrules.proofs.MagnitudeLaws.{s-most}
 
 -- ---- hubs that fit are zones, where there are any
 hubs-within : (zones : ℕ) (sending receiving : ℤ) → HubsIn zones sending receiving → HubsWithin zones (hubsOf sending receiving)
