@@ -20,10 +20,10 @@ use Rattle.types.specs.declared.Header.{Header}
 use Rattle.text.specs.Left.{TextLeft, textLeft}
 use Rattle.text.proofs.LeftLaws.{text-refused}
 use Rattle.marks.specs.Marks.{mayRise}
-use Rattle.table.specs.declared.Room.the-variants.{None}
-use Rattle.table.specs.Table.{Table, front, judgeLent}
-use Rattle.table.specs.Good.{Good}
-use Rattle.table.proofs.GoodLaws.{told-judged}
+use Rattle.tablerules.specs.declared.Room.the-variants.{None}
+use Rattle.tablerules.specs.Table.{Table, front, judgeLent}
+use Rattle.tablerules.specs.Good.{Good}
+use Rattle.tablerules.proofs.GoodLaws.{told-judged}
 use Rattle.extraction.specs.declared.Extracted.{Extracted}
 use Rattle.extraction.specs.declared.Extracted.the-variants.{Rounds, Refused}
 use Rattle.extraction.specs.Answers.{saidExtracted}

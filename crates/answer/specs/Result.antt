@@ -7,7 +7,7 @@ use Prim.Native.Nat.{ℕ}
 use Rattle.numbers.specs.Below.{table}
 use Rattle.refusals.specs.Refusals.{passed, then, either}
 use Rattle.text.specs.Left.{TextLeft, textLeft}
-use Rattle.table.specs.Table.{Table, judgeLent}
+use Rattle.tablerules.specs.Table.{Table, judgeLent}
 use Rattle.reading.specs.Reading.{readText, readCorrected}
 use Rattle.extraction.specs.Extraction.{Result, outcomeFor, atcRecord, rowRecord}
 use Rattle.result.specs.Records.{recordsText}

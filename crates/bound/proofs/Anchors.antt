@@ -12,11 +12,11 @@ use Rattle.refusals.specs.Refusals.{Judged, passed, refused, then, unless, refu
 use Rattle.refusals.proofs.RefusalLaws.{passed-is}
 use Rattle.types.specs.Ranges.{headerFits, allocatedItems, zoneFits, exists, hubsFit, hubsOf, borderFits, borderOf, shareOf, rowOf, rowFits, factorFits, worth, defaultOf}
 use Rattle.marks.specs.Marks.{markedBy, faultyMark, judgeMarks}
-use Rattle.table.specs.Table.{Table, stretch, balanced, twice, roomFor, judgeShape, judgeFor}
+use Rattle.tablerules.specs.Table.{Table, stretch, balanced, twice, roomFor, judgeShape, judgeFor}
 use Rattle.rounds.specs.Rounds.{sharers, alone, mostSharers, bitsTo, bits, aloneBits}
 use Rattle.marginrules.specs.Margin.{grains, f0coreOf, fuafOf, baseOf, amrOf, signedFactor, pOf, ltaKw, sOf, ltaMarginOf, ramOf, ramAt}
-use Rattle.states.specs.States.{highest, lowest, spreadOf, shifted, below, stateOf, kept}
-use Rattle.states.specs.Standings.{standingsOf}
+use Rattle.staterules.specs.States.{highest, lowest, spreadOf, shifted, below, stateOf, kept}
+use Rattle.staterules.specs.Standings.{standingsOf}
 use Rattle.setup.specs.Setup.{gridBy, beginBy, judgeBy}
 use Rattle.start.specs.Start.{setupWith}
 use Rattle.tight.specs.declared.RoundsMost.{RoundsMost}

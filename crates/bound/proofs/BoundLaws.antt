@@ -17,16 +17,16 @@ use Rattle.refusals.specs.Refusals.{Judged, passed, refused, then}
 use Rattle.refusals.proofs.RefusalLaws.{then-next, then-refused}
 use Rattle.marks.specs.Marks.{judgeAsked, mayRise, flagsOf, flagged}
 use Rattle.marks.proofs.MarkLaws.{asked-then, flags-tell}
-use Rattle.table.specs.declared.Room.the-variants.{None}
-use Rattle.table.specs.Table.{Table, front, judgeLent}
-use Rattle.table.specs.Good.{Good}
-use Rattle.table.proofs.GoodLaws.{told-judged}
+use Rattle.tablerules.specs.declared.Room.the-variants.{None}
+use Rattle.tablerules.specs.Table.{Table, front, judgeLent}
+use Rattle.tablerules.specs.Good.{Good}
+use Rattle.tablerules.proofs.GoodLaws.{told-judged}
 use Rattle.rounds.specs.AllRounds.{flat}
 use Rattle.marginrules.specs.Magnitudes.{startBits}
 use Rattle.marginrules.proofs.Small.{named-values-small}
-use Rattle.states.specs.Standings.{standingsOf}
+use Rattle.staterules.specs.Standings.{standingsOf}
 use Rattle.setup.specs.Setup.{gridBy, beginBy}
-use Rattle.states.specs.States.{kept}
+use Rattle.staterules.specs.States.{kept}
 use Rattle.start.specs.Start.{gridMarked, tableStart, judgeMarked, setupOf, setupWith}
 use Rattle.start.specs.Filled.{cells}
 use Rattle.start.proofs.StartLaws.{cells-at, PreparedAs}

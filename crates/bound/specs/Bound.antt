@@ -6,7 +6,7 @@ use mathlib.Core.List.{List}
 use Prim.Native.Nat.{ℕ, _≤_}
 use Rattle.refusals.specs.Refusals.{Judged, passed, refused, then}
 use Rattle.marks.specs.Marks.{judgeAsked, mayRise}
-use Rattle.table.specs.Table.{Table, judgeLent}
+use Rattle.tablerules.specs.Table.{Table, judgeLent}
 use Rattle.start.specs.Start.{gridMarked, tableStart, judgeMarked}
 use Rattle.tight.specs.declared.RoundsMost.{RoundsMost}
 use Rattle.tight.specs.Measure.{boundBy}

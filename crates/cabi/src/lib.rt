@@ -5,7 +5,7 @@
 ghost use mathlib.Core.Path.{_≡_};
 ghost use mathlib.Core.Bool.{true, false};
 ghost use mathlib.Core.List.{[]};
-ghost use Rattle.table.specs.Table.{lent};
+ghost use Rattle.tablerules.specs.Table.{lent};
 ghost use Rattle.reading.specs.Reading.{readLeft, readCorrectedLeft};
 ghost use Rattle.writing.specs.Writing.{writeLeft, rewriteCorrectedLeft};
 ghost use Rattle.extraction.specs.Extraction.{extractLeft, extractMarkedLeft};

@@ -14,10 +14,10 @@ use Rattle.refusals.specs.declared.Refusal.{Refusal}
 use Rattle.refusals.specs.Answers.{saidJudgement}
 use Rattle.refusals.specs.Refusals.{Judged, passed, refused, tooShort, noCorners}
 use Rattle.refusals.proofs.RefusalLaws.{passed-is, then-passed, then-next, then-refused, either-passed, either-refused, unless-passed, unless-ok, unless-refused, need-enough, need-short}
-use Rattle.table.specs.declared.Room.the-variants.{None}
-use Rattle.table.specs.Table.{Table, front, factorsAt, judgeLent}
-use Rattle.table.specs.Good.{Good}
-use Rattle.table.proofs.GoodLaws.{judged-good, told-judged}
+use Rattle.tablerules.specs.declared.Room.the-variants.{None}
+use Rattle.tablerules.specs.Table.{Table, front, factorsAt, judgeLent}
+use Rattle.tablerules.specs.Good.{Good}
+use Rattle.tablerules.proofs.GoodLaws.{judged-good, told-judged}
 use Rattle.corners.specs.Corners.{sheetBordersMost, partOf, flowsOf, judgeCornerSheet, judgeCorners, flowsLeft, sheetLeft, cornersLeft}
 use Rattle.corners.specs.Listed.{FlowsListed}
 use Rattle.corners.proofs.CornerLaws.{flows-length}

@@ -12,7 +12,7 @@ use Rattle.numbers.specs.Ints.{sumℤ}
 use Rattle.numbers.specs.Below.{over}
 use Rattle.refusals.specs.Refusals.{Judged, passed, refused, then, either, unless, need, noCorners}
 use Rattle.types.specs.Ranges.{atℤ, borderOf}
-use Rattle.table.specs.Table.{Table, factorsAt, judgeLent}
+use Rattle.tablerules.specs.Table.{Table, factorsAt, judgeLent}
 use Rattle.marginrules.specs.Margin.{signedFactor, ltaKw, cornerPart}
 
 -- a sheet is made for at most so many borders

@@ -7,8 +7,8 @@ ghost use Prim.Native.Nat.{_+_, _^_, _<_, _≤_};
 ghost use lib.ListN.{length, take};
 ghost use Rattle.numbers.specs.Ints.{Within, AllWithin};
 ghost use Rattle.types.specs.Ranges.{borderFits, borderOf};
-ghost use Rattle.table.specs.Table.{lent, front, stretch};
-ghost use Rattle.table.specs.Good.{Good};
+ghost use Rattle.tablerules.specs.Table.{lent, front, stretch};
+ghost use Rattle.tablerules.specs.Good.{Good};
 ghost use Rattle.marginrules.specs.Magnitudes.{FactorsInRange, TableFactorsInRange, BordersInRange};
 ghost use Rattle.marginrules.specs.Margin.{cornerPart};
 ghost use Rattle.corners.specs.Corners.{sheetBordersMost, raisedBy, flowsOf, judgeCornerSheet, flowsLeft, sheetLeft, cornersLeft};
@@ -42,7 +42,7 @@ pub fn corner_flows(
 ) -> Flows
     ensures { λ r. ⌜ flowsLeft (saidFlows r) (now (out .exit)) ≡ cornersLeft (lent h (now (z .entry)) (now (t .entry)) (now (b .entry)) (now (c .entry)) (now (f .entry))) row (now (out .entry)) ⌝ }
 {
-    if let Judgement::Refused(w) = table::judge(h, z, t, b, c, f, table::Room::None) {
+    if let Judgement::Refused(w) = table::judge(h, z, t, b, c, f, tablerules::Room::None) {
         return Flows::Refused(w);
     }
     corner_flows_good(h, z, t, b, c, f, row, out)

@@ -26,8 +26,8 @@ use Rattle.text.proofs.LeftLaws.{text-refused}
 use Rattle.columns.specs.declared.Head.the-variants.{Indexed}
 use Rattle.columns.specs.ColumnText.{fieldText, fieldsLength, lineLength}
 use Rattle.columns.proofs.ColumnPut.{line-long}
-use Rattle.table.specs.Table.{Table, front, factorsAt, judgeLent}
-use Rattle.table.specs.Good.{Good}
+use Rattle.tablerules.specs.Table.{Table, front, factorsAt, judgeLent}
+use Rattle.tablerules.specs.Good.{Good}
 use Rattle.corners.specs.declared.Flows.{Flows}
 use Rattle.corners.specs.declared.Flows.the-variants as flows
 use Rattle.corners.specs.Corners.{flowsOf, judgeCornerSheet, judgeCorners, FlowsLeft, flowsLeft, sheetLeft}

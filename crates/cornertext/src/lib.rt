@@ -6,8 +6,8 @@ ghost use lib.ListN.{length};
 ghost use Rattle.refusals.specs.Refusals.{passed};
 ghost use Rattle.text.specs.Left.{textLeft, textSaid};
 ghost use Rattle.text.specs.Put.{Put};
-ghost use Rattle.table.specs.Table.{lent, front};
-ghost use Rattle.table.specs.Good.{Good};
+ghost use Rattle.tablerules.specs.Table.{lent, front};
+ghost use Rattle.tablerules.specs.Good.{Good};
 ghost use Rattle.corners.specs.Corners.{judgeCornerSheet};
 ghost use Rattle.cornertext.specs.CornerText.{sheetMost, lineMost, cornerLine, cornersText, sheetTextOf, cornerTextLeft};
 use columns::Head;
@@ -38,7 +38,7 @@ pub fn corner_text(
 ) -> Written
     ensures { λ r. ⌜ textSaid r (now (out .exit)) ≡ cornerTextLeft (lent h (now (z .entry)) (now (t .entry)) (now (b .entry)) (now (c .entry)) (now (f .entry))) row (now (out .entry)) ⌝ }
 {
-    if let Judgement::Refused(w) = table::judge(h, z, t, b, c, f, table::Room::None) {
+    if let Judgement::Refused(w) = table::judge(h, z, t, b, c, f, tablerules::Room::None) {
         return Written::Refused(w);
     }
     corner_text_good(h, z, t, b, c, f, row, out)

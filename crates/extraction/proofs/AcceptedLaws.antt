@@ -16,12 +16,12 @@ use Rattle.refusals.specs.Refusals.{passed}
 use Rattle.refusals.proofs.RefusalLaws.{passed-is, unless-passed, none-passed, then-passed}
 use Rattle.types.specs.declared.Border.{Border}
 use Rattle.types.specs.Ranges.{atℤ, isIntraday}
-use Rattle.table.specs.Table.{Table, borderAt, factorsAt}
+use Rattle.tablerules.specs.Table.{Table, borderAt, factorsAt}
 use Rattle.rounds.specs.Rounds.{load}
 use Rattle.marginrules.specs.Margin.{pOf, ltaKw, sOf, sAt, marginOf, startsOf}
 use Rattle.setup.specs.Setup.{gridBy, beginBy, judgeBy}
-use Rattle.states.specs.Standings.{standingsOf}
-use Rattle.states.specs.States.{kept}
+use Rattle.staterules.specs.Standings.{standingsOf}
+use Rattle.staterules.specs.States.{kept}
 use Rattle.start.specs.Start.{fromBy, gridMarked, tableStart, judgeMarked, setupWith}
 use Rattle.extraction.specs.Extraction.{Result, resultMarked, outcomeMarked}
 

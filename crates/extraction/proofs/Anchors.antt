@@ -6,11 +6,11 @@ use Rattle.numbers.specs.Below.{ifZero, sum, table, firstFrom, given}
 use Rattle.numbers.specs.Ints.{minus, maxℤ, minℤ, positivePart, sameℤ, sumℤ}
 use Rattle.refusals.specs.Refusals.{refused, then, unless, refuseAt, refuseFirst, unlimited}
 use Rattle.types.specs.Ranges.{hubsOf, borderOf, shareOf, rowOf, worth, defaultOf}
-use Rattle.table.specs.Table.{Table, stretch}
+use Rattle.tablerules.specs.Table.{Table, stretch}
 use Rattle.marginrules.specs.Margin.{grains, f0coreOf, fuafOf, baseOf, amrOf, signedFactor, pOf, ltaKw, sOf, ltaMarginOf, ramOf, ramAt}
-use Rattle.states.specs.States.{highest, lowest, spreadOf, shifted, below, stateOf, kept}
+use Rattle.staterules.specs.States.{highest, lowest, spreadOf, shifted, below, stateOf, kept}
 use Rattle.setup.specs.Setup.{gridBy, judgeBy}
-use Rattle.states.specs.Standings.{standingsOf}
+use Rattle.staterules.specs.Standings.{standingsOf}
 use Rattle.start.specs.Start.{setupWith}
 use Rattle.extraction.specs.Extraction.{outcomeMarked, outcomeOf}
 

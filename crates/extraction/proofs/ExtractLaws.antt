@@ -19,8 +19,8 @@ use Rattle.refusals.specs.Refusals.{Judged, passed, refused, then, either, tooS
 use Rattle.refusals.proofs.RefusalLaws.{passed-is, then-passed, then-next, then-refused, either-passed, either-refused, need-passed, need-enough, need-short}
 use Rattle.types.specs.declared.Header.{Header}
 use Rattle.types.specs.Ranges.{atℤ, isIntraday, borderOf}
-use Rattle.table.specs.Table.{Table}
-use Rattle.table.specs.Good.{Good}
+use Rattle.tablerules.specs.Table.{Table}
+use Rattle.tablerules.specs.Good.{Good}
 use Rattle.rounds.specs.declared.Final.{Final}
 use Rattle.rounds.specs.Rounds.{Grid, State, sharers, load, Outcome, extract}
 use Rattle.rounds.specs.Last.{lastRounds}
@@ -34,8 +34,8 @@ use Rattle.marginrules.specs.Magnitudes.{startBits}
 use Rattle.marginrules.proofs.JudgedLaws.{good-borders}
 use Rattle.marginrules.proofs.Small.{named-values-small}
 use Rattle.setup.specs.Setup.{gridBy, beginBy}
-use Rattle.states.specs.Standings.{Standings, standingsOf}
-use Rattle.states.proofs.StandingsLaws.{rows-in}
+use Rattle.staterules.specs.Standings.{Standings, standingsOf}
+use Rattle.staterules.proofs.StandingsLaws.{rows-in}
 use Rattle.start.specs.Start.{every, fromBy, gridMarked, tableGrid, tableStart, judgeMarked, setupWith}
 use Rattle.start.specs.Filled.{froms, exchangesOf, cells}
 use Rattle.start.proofs.StartLaws.{cells-at, grid-long, PreparedAs}

@@ -19,11 +19,11 @@ use Rattle.types.specs.declared.Header.{Header}
 use Rattle.types.proofs.RangeLaws.{header-in}
 use Rattle.marks.specs.Marks.{judgeAsked, mayRise, flagsOf, flagged}
 use Rattle.marks.proofs.MarkLaws.{flags-tell}
-use Rattle.table.specs.declared.Room.the-variants.{P}
-use Rattle.table.specs.Table.{Table, front, judgeShape, judgeRecords, judgeFor, judgeLent}
-use Rattle.table.specs.Good.{Good}
-use Rattle.table.proofs.JudgeLaws.{shape-front}
-use Rattle.table.proofs.GoodLaws.{judged-front, judged-good, told-judged}
+use Rattle.tablerules.specs.declared.Room.the-variants.{P}
+use Rattle.tablerules.specs.Table.{Table, front, judgeShape, judgeRecords, judgeFor, judgeLent}
+use Rattle.tablerules.specs.Good.{Good}
+use Rattle.tablerules.proofs.JudgeLaws.{shape-front}
+use Rattle.tablerules.proofs.GoodLaws.{judged-front, judged-good, told-judged}
 use Rattle.extraction.specs.Extraction.{Result, resultMarked, outcomeMarked, outcomeFor, judgeExtract, ExtractLeft, leaves, resultRoom, resultStored, extractFor}
 use Rattle.extraction.specs.Inner.{outcomeLeft}
 use Rattle.extraction.proofs.AcceptedLaws.{accepted}

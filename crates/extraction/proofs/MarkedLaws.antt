@@ -13,14 +13,14 @@ use Rattle.refusals.specs.Refusals.{Judged, passed, refused, then}
 use Rattle.refusals.proofs.RefusalLaws.{then-next, then-refused}
 use Rattle.marks.specs.Marks.{judgeAsked, mayRise}
 use Rattle.marks.proofs.MarkLaws.{asked-then, asked-passed}
-use Rattle.table.specs.Table.{Table}
+use Rattle.tablerules.specs.Table.{Table}
 use Rattle.rounds.specs.Rounds.{State, Outcome, extract}
 use Rattle.rounds.specs.Last.{lastRounds}
 use Rattle.rounds.specs.Stopping.{stopRows}
 use Rattle.rounds.proofs.Theorems.{same-factors, same-lasts, same-stops}
 use Rattle.setup.specs.Setup.{Setup, gridBy}
-use Rattle.states.specs.Standings.{standingsOf}
-use Rattle.states.specs.States.{kept}
+use Rattle.staterules.specs.Standings.{standingsOf}
+use Rattle.staterules.specs.States.{kept}
 use Rattle.start.specs.Start.{gridMarked, tableGrid, tableStart, judgeMarked, setupOf, setupWith}
 use Rattle.start.specs.Filled.{cells}
 use Rattle.start.proofs.SameMarks.{p-marks, judge-marks}

@@ -11,13 +11,13 @@ use Rattle.refusals.specs.Refusals.{Judged, passed, refused, then, either, need
 use Rattle.types.specs.declared.Header.{Header}
 use Rattle.types.specs.Ranges.{atℤ}
 use Rattle.marks.specs.Marks.{judgeAsked, mayRise}
-use Rattle.table.specs.declared.Room.the-variants.{P}
-use Rattle.table.specs.Table.{Table, judgeFor}
+use Rattle.tablerules.specs.declared.Room.the-variants.{P}
+use Rattle.tablerules.specs.Table.{Table, judgeFor}
 use Rattle.rounds.specs.Rounds.{Grid, State, Outcome, extract, mostSharers, aloneBits}
 use Rattle.rounds.specs.Last.{lastRounds}
 use Rattle.rounds.specs.Stopping.{stopRows}
 use Rattle.outcome.specs.Outcome.{inMw, borderLeft, leftOfRow}
-use Rattle.states.specs.Standings.{Standings, standingsOf}
+use Rattle.staterules.specs.Standings.{Standings, standingsOf}
 use Rattle.start.specs.Start.{every, gridMarked, tableGrid, tableStart, judgeMarked}
 use Rattle.start.specs.Filled.{cells}
 

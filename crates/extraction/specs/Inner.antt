@@ -15,7 +15,7 @@ use Rattle.rounds.specs.Last.{lastRounds}
 use Rattle.rounds.specs.Stopping.{equalShare}
 use Rattle.rounds.specs.AllRounds.{flat}
 use Rattle.marginrules.specs.Magnitudes.{BordersInRange}
-use Rattle.states.specs.Standings.{Standings}
+use Rattle.staterules.specs.Standings.{Standings}
 use Rattle.start.specs.Filled.{froms}
 use Rattle.extraction.specs.Extraction.{Result, resultBy, atcRecord, rowRecord, ExtractLeft, leaves, resultRoom, resultStored}
 

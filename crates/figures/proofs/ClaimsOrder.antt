@@ -8,10 +8,10 @@ use Rattle.numbers.specs.Below.{ifZero, sum, table, firstFrom, given}
 use Rattle.numbers.specs.Ints.{minus, maxℤ, minℤ, positivePart, sameℤ, inside, sumℤ}
 use Rattle.refusals.specs.Refusals.{Judged, passed, refused, refusal, then, unless, refuseAt, refuseFirst, need}
 use Rattle.types.specs.Ranges.{headerFits, allocatedItems, zoneFits, exists, hubsFit, hubsOf, borderFits, borderOf, shareOf, rowOf, rowFits, factorFits, worth, defaultOf}
-use Rattle.table.specs.Table.{Table, stretch, balanced, twice, roomFor, judgeShape, judgeFor}
+use Rattle.tablerules.specs.Table.{Table, stretch, balanced, twice, roomFor, judgeShape, judgeFor}
 use Rattle.marginrules.specs.Margin.{grains, f0coreOf, fuafOf, baseOf, amrOf, signedFactor, pOf, ltaKw, sOf, ltaMarginOf, ramOf, ramAt}
-use Rattle.states.specs.States.{highest, lowest, spreadOf, shifted, below, stateOf, kept}
-use Rattle.states.specs.Standings.{Standings, standingsOf}
+use Rattle.staterules.specs.States.{highest, lowest, spreadOf, shifted, below, stateOf, kept}
+use Rattle.staterules.specs.Standings.{Standings, standingsOf}
 use Rattle.setup.specs.Setup.{gridBy, judgeBy}
 use Rattle.start.specs.Start.{every, setupWith, judgeMarked}
 use Rattle.claimrules.specs.Claims.{judgeClaims, claimsOf, claimsAnswer}

@@ -8,8 +8,8 @@ use lib.Dec.{lit≤, lit<}
 use lib.IntN.{pos, _-ℤ_}
 use lib.Signed.{_≤ℤ_}
 use Rattle.refusals.specs.Refusals.{passed}
-use Rattle.table.specs.Table.{judgeLent}
-use Rattle.table.proofs.GoodLaws.{judged-good}
+use Rattle.tablerules.specs.Table.{judgeLent}
+use Rattle.tablerules.proofs.GoodLaws.{judged-good}
 use Rattle.rounds.specs.Rounds.{State, next}
 use Rattle.marginrules.specs.Margin.{ramAt}
 use Rattle.start.specs.Start.{every, tableGrid, tableStart}

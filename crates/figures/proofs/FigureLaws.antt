@@ -20,9 +20,9 @@ use Rattle.rounds.specs.Rounds.{Grid, sharers, raise}
 use Rattle.rounds.proofs.LeastLaws.{div-swap}
 use Rattle.rounds.proofs.Rounds.{extracts}
 use Rattle.theorems.proofs.Rounds as rounds
-use Rattle.table.specs.Table.{Table, factorsAt}
+use Rattle.tablerules.specs.Table.{Table, factorsAt}
 use Rattle.marginrules.specs.Margin.{f0coreOf, sOf, ramOf, ramAt, ramsOf}
-use Rattle.states.specs.States.{spreadOf, shifted, below, stateOf}
+use Rattle.staterules.specs.States.{spreadOf, shifted, below, stateOf}
 use Rattle.theorems.proofs.ShiftLaws.{shifted-self}
 use Rattle.setup.specs.Setup.{gridBy}
 use Rattle.start.specs.Start.{every, tableGrid, tableStart, setupWith}

@@ -10,8 +10,8 @@ use Rattle.numbers.specs.Ints.{minus}
 use Rattle.refusals.specs.Refusals.{passed, refused, refusal, either}
 use Rattle.text.specs.Shown.{shown}
 use Rattle.text.specs.Written.{decimal}
-use Rattle.table.specs.Table.{Table, judgeLent}
-use Rattle.table.proofs.GoodLaws.{judged-good}
+use Rattle.tablerules.specs.Table.{Table, judgeLent}
+use Rattle.tablerules.proofs.GoodLaws.{judged-good}
 use Rattle.reading.specs.Reading.{balanceByte, readText}
 use Rattle.writing.specs.Writing.{tableText}
 use Rattle.start.specs.Start.{every}

@@ -4,7 +4,7 @@ use mathlib.Core.Bool.{true}
 use mathlib.Core.List.{List, [], _∷_}
 use Prim.Native.Nat.{ℕ, _-_}
 use Rattle.refusals.specs.Refusals.{Judged, passed, then}
-use Rattle.table.specs.Table.{Table}
+use Rattle.tablerules.specs.Table.{Table}
 use Rattle.rounds.specs.Rounds.{Outcome}
 use Rattle.extraction.specs.Extraction.{Result, outcomeOf}
 use Rattle.promises.specs.Taking.{outcomeTaking, unshortened}

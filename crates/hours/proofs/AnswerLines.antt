@@ -25,8 +25,8 @@ use Rattle.text.proofs.PutLaws.{tabbed, line-tabbed}
 use Rattle.text.proofs.WrittenLaws.{decimal-no-feed}
 use Rattle.columns.specs.declared.Head.the-variants.{Indexed}
 use Rattle.columns.proofs.ColumnTrip.{line-one}
-use Rattle.table.specs.Table.{Table}
-use Rattle.table.specs.Good.{Good}
+use Rattle.tablerules.specs.Table.{Table}
+use Rattle.tablerules.specs.Good.{Good}
 use Rattle.start.specs.Start.{judgeMarked}
 use Rattle.extraction.specs.Extraction.{Result, resultMarked, outcomeMarked, outcomeFor, atcRecord, rowRecord}
 use Rattle.reading.specs.Reading.{readText}

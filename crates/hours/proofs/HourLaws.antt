@@ -7,7 +7,7 @@ use native.Mathlib.Omega.{arith}
 use lib.ListN.{length, take}
 use Rattle.limits.specs.Limits.{bytesMost}
 use Rattle.refusals.specs.Refusals.{Judged, passed, refused, then, either}
-use Rattle.table.specs.Table.{Table}
+use Rattle.tablerules.specs.Table.{Table}
 use Rattle.reading.specs.Reading.{readText, readCorrected}
 use Rattle.reading.proofs.EmptySheet.{empty-sheet}
 use Rattle.extraction.specs.Extraction.{Result, outcomeFor}

@@ -16,8 +16,8 @@ use Rattle.refusals.proofs.RefusalLaws.{passed-is, refused-is, not-passed, eith
 use Rattle.types.specs.declared.Header.{Header}
 use Rattle.types.specs.Ranges.{atℤ}
 use Rattle.marks.specs.Marks.{mayRise}
-use Rattle.table.specs.Table.{Table}
-use Rattle.table.specs.Good.{Good}
+use Rattle.tablerules.specs.Table.{Table}
+use Rattle.tablerules.specs.Good.{Good}
 use Rattle.extraction.specs.declared.Extracted.{Extracted}
 use Rattle.extraction.specs.declared.Extracted.the-variants.{Rounds, Refused}
 use Rattle.extraction.specs.Answers.{saidExtracted}

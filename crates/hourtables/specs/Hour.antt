@@ -16,7 +16,7 @@ use Rattle.types.specs.declared.Hubs.{Hubs}
 use Rattle.types.specs.declared.Hubs.the-variants.{Without, Between}
 use Rattle.types.specs.declared.Border.{Border}
 use Rattle.types.specs.Ranges.{atℤ, borderOf}
-use Rattle.table.specs.Table.{Table}
+use Rattle.tablerules.specs.Table.{Table}
 use Rattle.extraction.specs.declared.Extracted.{Extracted}
 use Rattle.extraction.specs.declared.Extracted.the-variants as extracted
 use Rattle.extraction.specs.Extraction.{Result, outcomeFor, atcOf}

@@ -7,7 +7,7 @@ use Rattle.numbers.specs.Below.{sum, largest}
 use Rattle.numbers.specs.Ints.{minus, maxℤ, positivePart, sumℤ}
 use Rattle.numbers.specs.Computed.{_is_, Hold}
 use Rattle.types.specs.Ranges.{hubsOf, borderOf, shareOf, rowOf, worth, defaultOf}
-use Rattle.table.specs.Table.{Table, stretch}
+use Rattle.tablerules.specs.Table.{Table, stretch}
 use Rattle.marginrules.specs.Margin.{grains, f0coreOf, fuafOf, baseOf, amrOf, signedFactor, pOf, ltaKw, cornerPart, sOf, ltaMarginOf, ramOf, ramAt, marginOf}
 
 -- Fmax 100000 kW and else FRM and R alone, p 20000 on one border of LTA 1 MW

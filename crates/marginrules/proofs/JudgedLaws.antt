@@ -17,9 +17,9 @@ use Rattle.types.specs.declared.Border.{Border}
 use Rattle.types.specs.declared.Row.{Row}
 use Rattle.types.specs.Ranges.{atℤ, hubsOf, borderFits, borderOf, rowFits, rowOf}
 use Rattle.types.proofs.RangeLaws.{header-in, allocated-most, zone-in, HubsIn, none, both, border-in, row-in, share-in, factor-in}
-use Rattle.table.specs.Table.{Table, stretch}
-use Rattle.table.specs.Good.{Good}
-use Rattle.table.proofs.GoodLaws as good
+use Rattle.tablerules.specs.Table.{Table, stretch}
+use Rattle.tablerules.specs.Good.{Good}
+use Rattle.tablerules.proofs.GoodLaws as good
 use Rattle.marginrules.specs.Margin.{sOf}
 use Rattle.marginrules.specs.Magnitudes.{RowInRange, FactorsInRange, TableFactorsInRange, NetsInRange, HubsWithin, BorderInRange, BordersInRange, sMost}
 use Rattle.marginrules.proofs.MagnitudeLaws.{s-most}

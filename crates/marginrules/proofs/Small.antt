@@ -14,8 +14,8 @@ use Rattle.limits.specs.Limits.{zonesMost}
 use Rattle.types.specs.LineLimits.{shareMost}
 use Rattle.types.specs.Ranges.{isIntraday, borderFits, defaultOf}
 use Rattle.types.proofs.RangeLaws.{row-in, default-in}
-use Rattle.table.specs.Table.{Table, rowAt, borderAt, factorsAt}
-use Rattle.table.specs.Good.{Good}
+use Rattle.tablerules.specs.Table.{Table, rowAt, borderAt, factorsAt}
+use Rattle.tablerules.specs.Good.{Good}
 use Rattle.marginrules.specs.Margin.{flowOf, pOf, sAt, ramAt, marginOf}
 use Rattle.marginrules.specs.Magnitudes.{RowInRange, BordersInRange, pMost, f0coreMost, sMost, ramMost, startMost}
 use Rattle.marginrules.specs.Small.{f0coreAt, NamedSmall}

@@ -3,7 +3,7 @@
 use Prim.Native.Nat.{ℕ, _^_, _<_}
 use lib.IntN.{ℤ, pos, natAbs, _-ℤ_}
 use Rattle.types.specs.Ranges.{defaultOf}
-use Rattle.table.specs.Table.{Table, rowAt, borderAt, factorsAt}
+use Rattle.tablerules.specs.Table.{Table, rowAt, borderAt, factorsAt}
 use Rattle.marginrules.specs.Margin.{flowOf, f0coreOf, fuafOf, baseOf, amrOf, pOf, ltaMarginOf, sAt, ramAt, marginOf}
 use Rattle.marginrules.specs.Magnitudes.{namedBits, startBits}
 

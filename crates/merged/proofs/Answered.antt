@@ -12,7 +12,7 @@ use Rattle.refusals.proofs.RefusalLaws.{not-passed, then-refused}
 use Rattle.marks.specs.Marks.{mayRise}
 use Rattle.text.specs.Left.{TextLeft, textLeft}
 use Rattle.text.proofs.LeftLaws.{text-refused}
-use Rattle.table.specs.Table.{Table}
+use Rattle.tablerules.specs.Table.{Table}
 use Rattle.reading.specs.Reading.{readText, readCorrected}
 use Rattle.writing.specs.Writing.{rewriteCorrectedLeft}
 use Rattle.trips.proofs.RoundTrip.{read-write}

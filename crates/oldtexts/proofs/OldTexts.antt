@@ -24,7 +24,7 @@ use Rattle.columns.specs.Columns.{Values, values, wrong}
 use Rattle.columns.specs.ColumnLine.{judged}
 use Rattle.columns.specs.declared.Head.the-variants.{Lettered}
 use Rattle.columns.specs.Optional.{optionalLine}
-use Rattle.table.specs.Table.{Table, notTwice, headerLineNo}
+use Rattle.tablerules.specs.Table.{Table, notTwice, headerLineNo}
 use Rattle.lines.specs.Lines.{headerOf, headerBad, headerLine}
 use Rattle.reading.specs.Reading.{withHeader, linesBy, readText}
 use Rattle.extraction.specs.Extraction.{outcomeFor}

@@ -7,9 +7,9 @@ use Rattle.numbers.specs.Below.{ifZero, sum, count, table, firstFrom, given}
 use Rattle.numbers.specs.Ints.{minus, maxℤ, minℤ, positivePart, sameℤ, sumℤ}
 use Rattle.numbers.specs.Computed.{_is_, Hold}
 use Rattle.types.specs.Ranges.{hubsOf, borderOf, shareOf, rowOf, worth, defaultOf}
-use Rattle.table.specs.Table.{Table, stretch}
+use Rattle.tablerules.specs.Table.{Table, stretch}
 use Rattle.marginrules.specs.Margin.{grains, f0coreOf, fuafOf, baseOf, amrOf, signedFactor, pOf, ltaKw, sOf, ltaMarginOf, ramOf, ramAt}
-use Rattle.states.specs.States.{highest, lowest, spreadOf, shifted, below, stateOf}
+use Rattle.staterules.specs.States.{highest, lowest, spreadOf, shifted, below, stateOf}
 use Rattle.parts.specs.Parts.{nOf, startFrom, partsOf, recordOf}
 
 -- the hour of 01

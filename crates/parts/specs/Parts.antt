@@ -9,10 +9,10 @@ use Rattle.numbers.specs.Ints.{maxℤ}
 use Rattle.numbers.specs.Below.{count, table, over}
 use Rattle.refusals.specs.Refusals.{Judged, passed, refused, then, either, need}
 use Rattle.types.specs.Ranges.{isIntraday, borderOf, defaultOf}
-use Rattle.table.specs.Table.{Table, rowAt, factorsAt, judgeLent}
+use Rattle.tablerules.specs.Table.{Table, rowAt, factorsAt, judgeLent}
 use Rattle.marginrules.specs.Margin.{grains, fuafOf, baseOf, amrOf, pOf, ltaMarginOf, sAt, ramAt, ramsOf, marginOf}
 use Rattle.marginrules.specs.Small.{f0coreAt}
-use Rattle.states.specs.States.{stateOf}
+use Rattle.staterules.specs.States.{stateOf}
 
 -- the parts of a row's margin under 01's names, in the order of a record; state and n are plain numbers, the others grains
 pub record Parts : Type 0 where

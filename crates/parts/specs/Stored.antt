@@ -9,7 +9,7 @@ use Rattle.numbers.specs.Below.{at}
 use Rattle.types.specs.declared.Header.{Header}
 use Rattle.types.specs.declared.Row.{Row}
 use Rattle.types.specs.Ranges.{atℤ, headerFits, isIntraday, rowFits, rowOf, defaultOf}
-use Rattle.table.specs.Table.{stretch}
+use Rattle.tablerules.specs.Table.{stretch}
 use Rattle.marginrules.specs.Margin.{grains, f0coreOf, fuafOf, baseOf, amrOf, sOf, ltaMarginOf}
 use Rattle.marginrules.specs.Magnitudes.{TableFactorsInRange, NetsInRange, BordersInRange}
 use Rattle.parts.specs.Parts.{Parts, nOf, startFrom}

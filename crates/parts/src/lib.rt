@@ -7,8 +7,8 @@ ghost use Prim.Native.Nat.{_≤_};
 ghost use lib.ListN.{length};
 ghost use Rattle.numbers.specs.Below.{table, over};
 ghost use Rattle.refusals.specs.Answers.{saidJudgement};
-ghost use Rattle.table.specs.Table.{lent, front};
-ghost use Rattle.table.specs.Good.{Good};
+ghost use Rattle.tablerules.specs.Table.{lent, front};
+ghost use Rattle.tablerules.specs.Good.{Good};
 ghost use Rattle.parts.specs.Parts.{recordOf, recordsOf, leaves, marginsLeft};
 ghost use Rattle.parts.specs.Stored.{partsAt, Storable};
 use refusals::Judgement;
@@ -34,7 +34,7 @@ pub fn margins(
 ) -> Judgement
     ensures { λ r. ⌜ leaves (saidJudgement r tt) (now (out .exit)) ≡ marginsLeft (lent h (now (z .entry)) (now (t .entry)) (now (b .entry)) (now (c .entry)) (now (f .entry))) (now (out .entry)) ⌝ }
 {
-    let judged = table::judge(h, z, t, b, c, f, table::Room::None);
+    let judged = table::judge(h, z, t, b, c, f, tablerules::Room::None);
     let Judgement::Passed = judged else {
         return judged;
     };

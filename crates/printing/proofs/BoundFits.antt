@@ -13,8 +13,8 @@ use Rattle.types.proofs.RangeLaws.{header-in}
 use Rattle.marks.specs.Marks.{judgeAsked, mayRise}
 use Rattle.marks.proofs.MarkLaws.{asked-then}
 use Rattle.text.proofs.WrittenLaws.{decimal-long}
-use Rattle.table.specs.Table.{Table}
-use Rattle.table.specs.Good.{Good}
+use Rattle.tablerules.specs.Table.{Table}
+use Rattle.tablerules.specs.Good.{Good}
 use Rattle.rounds.specs.Rounds.{Grid, mostSharers, aloneBits}
 use Rattle.rounds.proofs.Round.{alone-lt}
 use Rattle.rounds.proofs.Theorems.{alone-least}

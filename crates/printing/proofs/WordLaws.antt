@@ -11,8 +11,8 @@ use Rattle.refusals.specs.declared.Written.{Written}
 use Rattle.refusals.specs.Refusals.{Judged, passed}
 use Rattle.refusals.proofs.RefusalLaws.{passed-is, then-next}
 use Rattle.text.specs.Left.{textLeft, textSaid}
-use Rattle.table.specs.Table.{Table, front}
-use Rattle.table.specs.Good.{Good}
+use Rattle.tablerules.specs.Table.{Table, front}
+use Rattle.tablerules.specs.Good.{Good}
 use Rattle.writing.specs.Writing.{tableText}
 use Rattle.writing.proofs.LengthLaws.{never-too-long}
 use Rattle.rowsheet.specs.RowSheet.{writeRowsLeft}

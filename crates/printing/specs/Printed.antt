@@ -12,7 +12,7 @@ use Rattle.refusals.specs.declared.Written.{Written}
 use Rattle.refusals.specs.Refusals.{Judged, passed, then, tooLong}
 use Rattle.types.specs.declared.Header.{Header}
 use Rattle.text.specs.Left.{textLeft, textSaid}
-use Rattle.table.specs.Table.{Table, lent}
+use Rattle.tablerules.specs.Table.{Table, lent}
 use Rattle.reading.specs.Reading.{readCorrected}
 use Rattle.writing.specs.Writing.{tableText}
 use Rattle.rowsheet.specs.RowSheet as rowsheet

@@ -15,13 +15,13 @@ use Rattle.numbers.specs.Below.{at, ifZero, sum, count, largest, lesser, least,
 use Rattle.numbers.specs.Ints.{minus, maxℤ, minℤ, positivePart, sameℤ, sumℤ}
 use Rattle.refusals.specs.Refusals.{passed, refused, refusal, then, unless, refuseAt, refuseFirst}
 use Rattle.types.specs.Ranges.{hubsOf, borderOf, shareOf, rowOf, worth, defaultOf}
-use Rattle.table.specs.Table.{Table, rowAt, stretch}
+use Rattle.tablerules.specs.Table.{Table, rowAt, stretch}
 use Rattle.rounds.specs.Rounds.{sharers, raise, alone, raises, load, lowered, risen, apply, next, raised, counted, run, extract, mostSharers, bitsTo, bits, aloneBits}
 use Rattle.rounds.specs.Last.{after, raiseIn, lastTo, lastRound}
 use Rattle.rounds.specs.Stopping.{stopRow}
 use Rattle.marginrules.specs.Margin.{grains, f0coreOf, fuafOf, baseOf, amrOf, signedFactor, pOf, ltaKw, sOf, ltaMarginOf, ramOf, ramAt}
-use Rattle.states.specs.States.{highest, lowest, spreadOf, shifted, below, stateOf, kept}
-use Rattle.states.specs.Standings.{standingsOf}
+use Rattle.staterules.specs.States.{highest, lowest, spreadOf, shifted, below, stateOf, kept}
+use Rattle.staterules.specs.Standings.{standingsOf}
 use Rattle.setup.specs.Setup.{gridBy, beginBy, judgeBy}
 use Rattle.start.specs.Start.{every, setupWith}
 use Rattle.outcome.specs.Outcome.{rowOrDash}

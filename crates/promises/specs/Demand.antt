@@ -12,12 +12,12 @@ use Rattle.numbers.specs.Ints.{positivePart, sumℤ}
 use Rattle.numbers.specs.Below.{at, sum, table}
 use Rattle.limits.specs.Limits.{bordersMost}
 use Rattle.types.specs.Ranges.{isIntraday}
-use Rattle.table.specs.Table.{Table, borderAt, factorsAt}
+use Rattle.tablerules.specs.Table.{Table, borderAt, factorsAt}
 use Rattle.rounds.specs.Rounds.{raise}
 use Rattle.marginrules.specs.Margin.{flowOf, signedFactor, pOf, ltaKw, sAt, ramAt}
 use Rattle.marginrules.specs.Magnitudes.{namedBits, startBits}
-use Rattle.states.specs.Standings.{standingsOf}
-use Rattle.states.specs.States.{kept}
+use Rattle.staterules.specs.Standings.{standingsOf}
+use Rattle.staterules.specs.States.{kept}
 use Rattle.start.specs.Start.{gridMarked}
 use Rattle.extraction.specs.Extraction.{Result, leftOf, nOf, lOf}
 

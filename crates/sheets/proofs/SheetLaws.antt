@@ -26,8 +26,8 @@ use Rattle.text.specs.Left.{textLeft, textSaid}
 use Rattle.text.specs.Written.{linesText}
 use Rattle.text.proofs.WrittenLaws.{decimal-long, decimalℤ-long}
 use Rattle.text.proofs.PutLaws.{lines-most, lines-cong}
-use Rattle.table.specs.Table.{Table, lent, front, factorsAt}
-use Rattle.table.specs.Good.{Good}
+use Rattle.tablerules.specs.Table.{Table, lent, front, factorsAt}
+use Rattle.tablerules.specs.Good.{Good}
 use Rattle.reading.specs.declared.TableRead.{TableRead}
 use Rattle.reading.specs.declared.TableRead.the-variants as read
 use Rattle.reading.specs.Reading.{readCorrected, readInto}

@@ -9,11 +9,11 @@ use Rattle.numbers.specs.Computed.{_is_, Hold}
 use Rattle.refusals.specs.Refusals.{Judged, passed, refused, refusal, unless, refuseAt, refuseFirst}
 use Rattle.types.specs.declared.Header.{Header}
 use Rattle.types.specs.Ranges.{hubsOf, borderOf}
-use Rattle.table.specs.Table.{stretch}
+use Rattle.tablerules.specs.Table.{stretch}
 use Rattle.marginrules.specs.Margin.{signedFactor, pOf, ltaKw}
 use Rattle.marks.specs.Marks.{flagged}
 use Rattle.setup.specs.Setup.{gridBy, beginBy, judgeBy}
-use Rattle.states.specs.States.{kept}
+use Rattle.staterules.specs.States.{kept}
 use Rattle.start.specs.Start.{every, gridOf, startOf, judgeStart, setupWith}
 use Rattle.start.specs.Filled.{cells}
 

@@ -17,7 +17,7 @@ use Rattle.types.specs.declared.Header.{Header}
 use Rattle.marks.specs.Marks.{flagsOf, flagged}
 use Rattle.marks.proofs.MarkLaws.{flags-tell}
 use Rattle.setup.specs.Setup.{Setup, gridBy, freeBy, lowBy, judgeBy}
-use Rattle.states.specs.States.{kept}
+use Rattle.staterules.specs.States.{kept}
 use Rattle.start.specs.Start.{every, gridOf, setupWith}
 use Rattle.start.specs.Filled.{cells}
 use Rattle.start.proofs.StartLaws.{cells-cong}

@@ -23,13 +23,13 @@ use Rattle.refusals.specs.Refusals.{Judged, passed, refused, refuseFirst, noRow
 use Rattle.refusals.proofs.RefusalLaws.{unless-ok, unless-refused, first-found, first-none-next}
 use Rattle.types.specs.declared.Header.{Header}
 use Rattle.types.specs.Ranges.{atℤ, isIntraday, borderOf}
-use Rattle.table.specs.Table.{Table}
+use Rattle.tablerules.specs.Table.{Table}
 use Rattle.rounds.specs.Rounds.{Grid}
 use Rattle.rounds.proofs.Loops.{place-inside}
 use Rattle.marginrules.specs.Margin.{startsOf}
-use Rattle.states.specs.Standings.{Standings, standingsOf, standingsWith}
+use Rattle.staterules.specs.Standings.{Standings, standingsOf, standingsWith}
 use Rattle.setup.specs.Setup.{gridBy, beginBy, judgeBy}
-use Rattle.states.specs.States.{kept}
+use Rattle.staterules.specs.States.{kept}
 use Rattle.start.specs.Start.{fromBy, gridOf, startOf, judgeStart, gridMarked, tableStart, judgeMarked, setupWith}
 use Rattle.start.specs.Filled.{froms, exchangesOf, freeOf, cells, Prepared, prepared, preparedOf}
 

@@ -12,10 +12,10 @@ use Rattle.refusals.specs.Answers.{saidJudgement}
 use Rattle.refusals.specs.Refusals.{Judged}
 use Rattle.types.specs.declared.Header.{Header}
 use Rattle.types.specs.Ranges.{borderOf}
-use Rattle.table.specs.Table.{Table}
+use Rattle.tablerules.specs.Table.{Table}
 use Rattle.rounds.specs.Rounds.{Grid}
 use Rattle.marginrules.specs.Margin.{startsOf}
-use Rattle.states.specs.Standings.{Standings, standingsOf, standingsWith}
+use Rattle.staterules.specs.Standings.{Standings, standingsOf, standingsWith}
 use Rattle.start.specs.Start.{fromBy, gridOf, judgeMarked}
 
 -- where each border starts, kW

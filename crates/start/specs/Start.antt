@@ -9,11 +9,11 @@ use Rattle.refusals.specs.Refusals.{Judged}
 use Rattle.types.specs.declared.Header.{Header}
 use Rattle.types.specs.declared.Border.{Border}
 use Rattle.types.specs.Ranges.{atℤ, isIntraday, borderOf}
-use Rattle.table.specs.Table.{Table, stretch}
+use Rattle.tablerules.specs.Table.{Table, stretch}
 use Rattle.rounds.specs.Rounds.{Grid, State}
 use Rattle.marginrules.specs.Margin.{pOf, ltaKw, startsOf}
-use Rattle.states.specs.States.{kept}
-use Rattle.states.specs.Standings.{standingsOf}
+use Rattle.staterules.specs.States.{kept}
+use Rattle.staterules.specs.Standings.{standingsOf}
 use Rattle.setup.specs.Setup.{Setup, gridBy, beginBy, judgeBy}
 
 -- every border may rise

@@ -11,7 +11,7 @@ use Rattle.numbers.specs.Below.{over}
 use Rattle.numbers.proofs.BelowLaws.{sumℤ-cong}
 use Rattle.refusals.specs.Refusals.{passed, refused, tooShort}
 use Rattle.types.specs.Ranges.{atℤ}
-use Rattle.table.specs.Table.{Table, factorsAt}
+use Rattle.tablerules.specs.Table.{Table, factorsAt}
 use Rattle.marginrules.specs.Margin.{cornerPart, cornerSum, sOf}
 use Rattle.marginrules.proofs.Corner.{used}
 use Rattle.theorems.proofs.LargestCorner.{s-largest-corner}

@@ -12,12 +12,12 @@ use Rattle.numbers.proofs.BelowLaws.{table-long, table-get}
 use Rattle.refusals.specs.Refusals.{passed}
 use Rattle.types.specs.Ranges.{atℤ}
 use Rattle.marks.specs.Marks.{mayRise}
-use Rattle.table.specs.Table.{Table, front}
-use Rattle.table.specs.Good.{Good}
-use Rattle.table.proofs.GoodLaws.{judged-good}
-use Rattle.states.specs.Standings.{standingsOf}
+use Rattle.tablerules.specs.Table.{Table, front}
+use Rattle.tablerules.specs.Good.{Good}
+use Rattle.tablerules.proofs.GoodLaws.{judged-good}
+use Rattle.staterules.specs.Standings.{standingsOf}
 use Rattle.setup.specs.Setup.{beginBy, endBy}
-use Rattle.states.specs.States.{kept}
+use Rattle.staterules.specs.States.{kept}
 use Rattle.start.specs.Start.{setupWith}
 use Rattle.extraction.specs.Extraction.{Result, outcomeMarked, resultMarked, leftOf, atcRecord, rowRecord, ExtractLeft, extractFor}
 use Rattle.extraction.proofs.AcceptedLaws.{accepted}

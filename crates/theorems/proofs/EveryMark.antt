@@ -16,8 +16,8 @@ use Rattle.refusals.specs.Refusals.{Judged, passed, refused, then, either}
 use Rattle.refusals.proofs.RefusalLaws.{then-next}
 use Rattle.marks.specs.Marks.{markedBy, faultyMark}
 use Rattle.marks.proofs.MarkLaws.{asked-then, marks-passed}
-use Rattle.table.specs.Table.{Table}
-use Rattle.table.proofs.GoodLaws.{judged-front}
+use Rattle.tablerules.specs.Table.{Table}
+use Rattle.tablerules.proofs.GoodLaws.{judged-front}
 use Rattle.start.specs.Start.{every}
 use Rattle.extraction.specs.Extraction.{Result, outcomeMarked, outcomeOf, outcomeFor, judgeExtract, leaves, resultRoom, resultStored, extractFor, extractLeft, extractMarkedLeft}
 use Rattle.extraction.proofs.LentLaws.{judged-lent}

@@ -5,7 +5,7 @@ use Prim.Native.Nat.{ℕ}
 use lib.IntN.{pos, _+ℤ_, _-ℤ_}
 use Rattle.numbers.specs.Ints.{maxℤ}
 use Rattle.types.specs.Ranges.{isIntraday}
-use Rattle.table.specs.Table.{Table, factorsAt}
+use Rattle.tablerules.specs.Table.{Table, factorsAt}
 use Rattle.marginrules.specs.Margin.{flowOf, ramOf, ramAt}
 use Rattle.parts.specs.Parts.{startFrom, partsOf}
 

@@ -19,9 +19,9 @@ use Rattle.marks.specs.Marks.{judgeMarks, judgeAsked, mayRise}
 use Rattle.text.specs.Left.{TextLeft, textLeft}
 use Rattle.text.specs.Written.{textOf, decimal, fieldsText, lineText, linesText}
 use Rattle.columns.specs.ColumnText.{indexText, headText, columnsText}
-use Rattle.table.specs.Table.{Table, judgeLent}
-use Rattle.table.specs.Good.{Good}
-use Rattle.table.proofs.GoodLaws.{judged-front, judged-good}
+use Rattle.tablerules.specs.Table.{Table, judgeLent}
+use Rattle.tablerules.specs.Good.{Good}
+use Rattle.tablerules.proofs.GoodLaws.{judged-front, judged-good}
 use Rattle.reading.specs.Reading.{readCorrected}
 use Rattle.reading.proofs.CorrectedLaws.{corrected-good}
 use Rattle.setup.specs.Setup.{gridBy, judgeBy}

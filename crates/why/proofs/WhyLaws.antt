@@ -20,15 +20,15 @@ use Rattle.types.specs.declared.Header.{Header}
 use Rattle.types.specs.Ranges.{isIntraday, borderOf}
 use Rattle.marks.specs.Marks.{judgeAsked, mayRise, flagsOf, flagged}
 use Rattle.marks.proofs.MarkLaws.{asked-then, flags-tell}
-use Rattle.table.specs.declared.Room.the-variants.{P}
-use Rattle.table.specs.Table.{Table, front}
-use Rattle.table.specs.Good.{Good}
-use Rattle.table.proofs.GoodLaws.{told-judged}
+use Rattle.tablerules.specs.declared.Room.the-variants.{P}
+use Rattle.tablerules.specs.Table.{Table, front}
+use Rattle.tablerules.specs.Good.{Good}
+use Rattle.tablerules.proofs.GoodLaws.{told-judged}
 use Rattle.rounds.specs.Rounds.{State}
 use Rattle.rounds.specs.AllRounds.{flat}
-use Rattle.states.specs.Standings.{Standings, standingsOf}
+use Rattle.staterules.specs.Standings.{Standings, standingsOf}
 use Rattle.setup.specs.Setup.{gridBy, beginBy}
-use Rattle.states.specs.States.{kept}
+use Rattle.staterules.specs.States.{kept}
 use Rattle.start.specs.Start.{every, fromBy, gridMarked, tableGrid, tableStart, judgeMarked, setupOf, setupWith}
 use Rattle.start.specs.Filled.{froms, cells}
 use Rattle.start.proofs.StartLaws.{cells-at, grid-long}

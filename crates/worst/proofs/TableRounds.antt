@@ -10,7 +10,7 @@ use Rattle.refusals.specs.Refusals.{passed, then}
 use Rattle.refusals.proofs.RefusalLaws.{passed-is, then-passed, then-next, answer-passed, need-passed}
 use Rattle.marks.specs.Marks.{judgeAsked, mayRise}
 use Rattle.marks.proofs.MarkLaws.{asked-then}
-use Rattle.table.specs.Table.{Table}
+use Rattle.tablerules.specs.Table.{Table}
 use Rattle.rounds.specs.Rounds.{extract}
 use Rattle.rounds.proofs.Theorems.{extract-demand3}
 use Rattle.start.specs.Start.{gridMarked, tableStart, judgeMarked}

@@ -19,8 +19,8 @@ use Rattle.limits.specs.Limits.{bordersMost}
 use Rattle.types.specs.LineLimits.{shareMost}
 use Rattle.types.specs.Ranges.{borderFits, borderOf, defaultOf}
 use Rattle.types.proofs.RangeLaws.{row-in, default-in}
-use Rattle.table.specs.Table.{Table, rowAt, borderAt, factorsAt}
-use Rattle.table.specs.Good.{Good}
+use Rattle.tablerules.specs.Table.{Table, rowAt, borderAt, factorsAt}
+use Rattle.tablerules.specs.Good.{Good}
 use Rattle.marginrules.specs.Margin.{grains, flowOf, baseOf, pOf, ltaKw, sOf, sAt, ramAt}
 use Rattle.marginrules.specs.Magnitudes.{RowInRange, BorderInRange, pMost, netFlowMost}
 use Rattle.marginrules.specs.Small.{f0coreAt}

@@ -14,14 +14,14 @@ use Rattle.limits.specs.Limits.{bordersMost}
 use Rattle.refusals.specs.Refusals.{passed}
 use Rattle.types.specs.Ranges.{atℤ, isIntraday}
 use Rattle.types.proofs.RangeLaws.{header-in}
-use Rattle.table.specs.Table.{Table, borderAt, factorsAt}
-use Rattle.table.specs.Good.{Good}
+use Rattle.tablerules.specs.Table.{Table, borderAt, factorsAt}
+use Rattle.tablerules.specs.Good.{Good}
 use Rattle.tight.specs.Tight.{equalShareUp, cut, stepsWithin, steps}
 use Rattle.tight.specs.Measure.{boundBy}
 use Rattle.marginrules.specs.Margin.{pOf, marginOf, startsOf}
-use Rattle.states.specs.Standings.{standingsOf}
+use Rattle.staterules.specs.Standings.{standingsOf}
 use Rattle.setup.specs.Setup.{gridBy, beginBy}
-use Rattle.states.specs.States.{kept}
+use Rattle.staterules.specs.States.{kept}
 use Rattle.start.specs.Start.{gridMarked, tableStart, setupWith}
 use Rattle.extraction.specs.Extraction.{Result, resultMarked, outcomeMarked}
 use Rattle.extraction.proofs.AcceptedLaws.{part-le-whole, accepted}

@@ -8,7 +8,7 @@ use Rattle.limits.specs.Limits.{bordersMost}
 use Rattle.refusals.specs.Refusals.{Judged, passed}
 use Rattle.types.specs.LineLimits.{fmaxMost, flowMost, shareMost, ltaMost}
 use Rattle.types.specs.Ranges.{isIntraday}
-use Rattle.table.specs.Table.{Table}
+use Rattle.tablerules.specs.Table.{Table}
 use Rattle.marginrules.specs.Magnitudes.{f0coreMost, pMost, netFlowMost}
 use Rattle.extraction.specs.Extraction.{Result}
 use Rattle.bound.specs.Bound.{boundOf}

@@ -13,7 +13,7 @@ use mir.Val.{SFits}
 use Rattle.numbers.proofs.ListLaws.{Filled, filled-none, filled-more, filled-all}
 use Rattle.types.specs.Ranges.{isIntraday, rowOf, defaultOf}
 use Rattle.types.proofs.RangeLaws.{default-in}
-use Rattle.table.specs.Table.{Table, lent, stretch}
+use Rattle.tablerules.specs.Table.{Table, lent, stretch}
 use Rattle.marginrules.specs.Margin.{f0coreOf, sOf, ramOf, ramAt, startBy, marginOf}
 use Rattle.marginrules.specs.Magnitudes.{NetsInRange, BordersInRange}
 use Rattle.marginrules.proofs.MagnitudeLaws.{within-is}

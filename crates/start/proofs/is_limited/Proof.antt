@@ -15,7 +15,7 @@ use Rattle.marks.specs.Marks.{flagged}
 use Rattle.marginrules.specs.Margin.{pOf}
 use Rattle.marginrules.proofs.JudgedLaws.{part-long, part-ranges}
 use Rattle.setup.specs.Setup.{gridBy}
-use Rattle.states.specs.States.{kept}
+use Rattle.staterules.specs.States.{kept}
 use Rattle.start.specs.Start.{gridOf, setupWith}
 use Rattle.start.proofs.is_limited.Statement.{statement}
 use Rattle.start.proofs.is_limited.Tie as tie

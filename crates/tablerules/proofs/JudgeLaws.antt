@@ -22,10 +22,10 @@ use Rattle.types.specs.LineLimits.{netMost}
 use Rattle.types.specs.declared.Header.{Header}
 use Rattle.types.specs.Ranges.{atℤ, headerFits, allocatedItems, zoneFits, borderFits}
 use Rattle.types.proofs.RangeLaws.{header-in, zone-in, allocated-most}
-use Rattle.table.specs.declared.Room.{Room}
-use Rattle.table.specs.Table.{Table, factorsAt, zoneLineNo, allocatedLineNo, lastAllocatedLineNo, borderLineNo, rowLineNo, balanced, rowGood, headerLineNo, twice, inRange, notTwice, tableRoom, front, judgeShape, roomForP, judgeRecords, judgeFor}
-use Rattle.table.specs.Good.{Exact}
-use Rattle.table.proofs.RoomLaws.{room-passed, room-of, p-room-of}
+use Rattle.tablerules.specs.declared.Room.{Room}
+use Rattle.tablerules.specs.Table.{Table, factorsAt, zoneLineNo, allocatedLineNo, lastAllocatedLineNo, borderLineNo, rowLineNo, balanced, rowGood, headerLineNo, twice, inRange, notTwice, tableRoom, front, judgeShape, roomForP, judgeRecords, judgeFor}
+use Rattle.tablerules.specs.Good.{Exact}
+use Rattle.tablerules.proofs.RoomLaws.{room-passed, room-of, p-room-of}
 
 module _ (t : Table) (exact : Exact t) where
   abbrev zoneOut : ℕ → Bool

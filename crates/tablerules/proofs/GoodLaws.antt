@@ -22,12 +22,12 @@ use Rattle.types.specs.Ranges.{atℤ, headerFits, allocatedItems, rowTests, row
 use Rattle.types.specs.declared.Header.{Header}
 use Rattle.types.proofs.AllLaws.{all-join, factors-each, factors-all}
 use Rattle.types.proofs.RangeLaws.{header-in}
-use Rattle.table.specs.declared.Room.{Room}
-use Rattle.table.specs.declared.Room.the-variants.{None}
-use Rattle.table.specs.Table.{Table, lent, stretch, factorsAt, twice, notTwice, rowGood, front, inRange, judgeShape, roomForP, judgeRecords, judgeFor, judgeLent}
-use Rattle.table.specs.Good.{Exact, Good, goodIn}
-use Rattle.table.proofs.RoomLaws.{Enough, room-enough, p-room-left}
-use Rattle.table.proofs.JudgeLaws.{shape-front}
+use Rattle.tablerules.specs.declared.Room.{Room}
+use Rattle.tablerules.specs.declared.Room.the-variants.{None}
+use Rattle.tablerules.specs.Table.{Table, lent, stretch, factorsAt, twice, notTwice, rowGood, front, inRange, judgeShape, roomForP, judgeRecords, judgeFor, judgeLent}
+use Rattle.tablerules.specs.Good.{Exact, Good, goodIn}
+use Rattle.tablerules.proofs.RoomLaws.{Enough, room-enough, p-room-left}
+use Rattle.tablerules.proofs.JudgeLaws.{shape-front}
 
 -- ---- stretches
 module _ (zones rows : ℕ) (factors : List ℤ) (long : length factors ≡ rows * zones) where

@@ -9,7 +9,7 @@ use Rattle.refusals.specs.declared.Judgement.{Judgement}
 use Rattle.refusals.specs.declared.Judgement.the-variants.{Passed, Refused}
 use Rattle.types.specs.LineColumns.{borderItems, rowItems}
 use Rattle.types.specs.Ranges.{atℤ, headerFits, allocatedItems, zoneFits, borderFits, rowFits, factorFits}
-use Rattle.table.specs.Table.{Table, balanced, twice, front}
+use Rattle.tablerules.specs.Table.{Table, balanced, twice, front}
 
 -- lengths as the header says, and a header in range
 pub record Exact (t : Table) : Type 0 where

@@ -12,8 +12,8 @@ use Rattle.types.specs.declared.Header.{Header}
 use Rattle.types.specs.declared.Border.{Border}
 use Rattle.types.specs.declared.Row.{Row}
 use Rattle.types.specs.Ranges.{atℤ, allTrue, headerFits, allocatedItems, zoneFits, borderFits, borderOf, rowOf, rowLineTests}
-use Rattle.table.specs.declared.Room.{Room}
-use Rattle.table.specs.declared.Room.the-variants.{None, P}
+use Rattle.tablerules.specs.declared.Room.{Room}
+use Rattle.tablerules.specs.declared.Room.the-variants.{None, P}
 
 -- the header, and as many items as it says: net positions, allocated net positions (02, E12: one a zone, or none), raw border and row records, and the factors
 -- of all rows (lent tables may hold more)

@@ -10,7 +10,7 @@ use Rattle.numbers.specs.Ints.{maxℤ, minℤ, sameℤ}
 use Rattle.numbers.specs.Below.{at, table, someBelow, allBelow}
 use Rattle.types.specs.declared.Header.{Header}
 use Rattle.types.specs.Ranges.{atℤ}
-use Rattle.table.specs.Table.{stretch}
+use Rattle.tablerules.specs.Table.{stretch}
 
 -- the largest and the smallest of m and the numbers of a list
 unfoldable pub highest : ℤ → List ℤ → ℤ

@@ -12,9 +12,9 @@ use Rattle.refusals.proofs.RefusalLaws.{need-passed, need-enough, need-short}
 use Rattle.types.specs.declared.Header.{Header}
 use Rattle.types.specs.Ranges.{headerFits, allocatedItems}
 use Rattle.types.proofs.RangeLaws.{header-in}
-use Rattle.table.specs.declared.Room.{Room}
-use Rattle.table.specs.declared.Room.the-variants.{None, P}
-use Rattle.table.specs.Table.{roomFor, roomForP}
+use Rattle.tablerules.specs.declared.Room.{Room}
+use Rattle.tablerules.specs.declared.Room.the-variants.{None, P}
+use Rattle.tablerules.specs.Table.{roomFor, roomForP}
 
 -- rows x zones of a header in range
 pub factors-most : (h : Header) → headerFits h ≡ true → h .rows * h .zones ≤ rowsMost * zonesMost

@@ -2,9 +2,9 @@
 use mathlib.Core.List.{List}
 use Prim.Native.Nat.{ℕ}
 use lib.IntN.{ℤ}
-use Rattle.table.specs.Table.{Table}
+use Rattle.tablerules.specs.Table.{Table}
 use Rattle.marginrules.specs.Margin.{ramsOf}
-use Rattle.states.specs.States.{statesOf}
+use Rattle.staterules.specs.States.{statesOf}
 
 -- the RAM and the state of each row
 pub record Standings : Type 0 where

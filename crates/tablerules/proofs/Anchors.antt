@@ -10,8 +10,8 @@ use Rattle.numbers.specs.Ints.{minus, sameℤ, sumℤ, inside}
 use Rattle.numbers.specs.Computed.{_is_, Hold}
 use Rattle.refusals.specs.Refusals.{refused, then, unless, refuseAt, refuseFirst, need, outOfRange, tooShort}
 use Rattle.types.specs.Ranges.{headerFits, allocatedItems, zoneFits, exists, hubsFit, borderFits, shareOf, rowOf, rowFits, factorFits}
-use Rattle.table.specs.Table.{Table, stretch, balanced, sameEnds, twice, roomFor, judgeShape, judgeFor, judgeLent}
-use Rattle.table.specs.Good.{Good}
+use Rattle.tablerules.specs.Table.{Table, stretch, balanced, sameEnds, twice, roomFor, judgeShape, judgeFor, judgeLent}
+use Rattle.tablerules.specs.Good.{Good}
 
 -- row 1 has FRM above Fmax: H is line 1, Z lines 2 and 3, B line 4, C lines 5 and 6
 abbrev frmAbove : Table

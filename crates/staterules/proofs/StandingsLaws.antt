@@ -7,11 +7,11 @@ use lib.ListN.{length, take}
 use Rattle.numbers.specs.Below.{at}
 use Rattle.numbers.proofs.BelowLaws.{table-long, table-get}
 use Rattle.types.specs.Ranges.{allocatedItems}
-use Rattle.table.specs.Table.{Table, lent, front}
+use Rattle.tablerules.specs.Table.{Table, lent, front}
 use Rattle.marginrules.specs.Margin.{ramAt, ramsOf, startsOf}
-use Rattle.states.specs.States.{stateOf, statesOf}
-use Rattle.states.specs.Standings.{Standings, standingsOf, standingsWith}
-use Rattle.states.proofs.StateLaws.{state-most}
+use Rattle.staterules.specs.States.{stateOf, statesOf}
+use Rattle.staterules.specs.Standings.{Standings, standingsOf, standingsWith}
+use Rattle.staterules.proofs.StateLaws.{state-most}
 
 -- n is as many T records as the header says
 module _ (given : Table) (n : ℕ) (is : n ≡ allocatedItems (given .header)) where

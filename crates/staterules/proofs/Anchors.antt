@@ -7,9 +7,9 @@ use Rattle.numbers.specs.Below.{sum, table, firstFrom, given}
 use Rattle.numbers.specs.Ints.{minus, maxℤ, minℤ, positivePart, sameℤ, sumℤ}
 use Rattle.numbers.specs.Computed.{_is_, Hold}
 use Rattle.types.specs.Ranges.{hubsOf, borderOf, shareOf, rowOf, worth, defaultOf}
-use Rattle.table.specs.Table.{Table, stretch}
+use Rattle.tablerules.specs.Table.{Table, stretch}
 use Rattle.marginrules.specs.Margin.{grains, f0coreOf, fuafOf, baseOf, amrOf, signedFactor, pOf, ltaKw, sOf, ltaMarginOf, ramOf, ramAt, ramsOf}
-use Rattle.states.specs.States.{highest, lowest, spreadOf, shifted, below, stateOf, statesOf}
+use Rattle.staterules.specs.States.{highest, lowest, spreadOf, shifted, below, stateOf, statesOf}
 
 -- rows of Fmax 100000 kW, their other values 0, with these factors; the border is from zone 0 to zone 1
 abbrev rowsWith : (zones rows : ℕ) → (factors : List ℤ) → Table

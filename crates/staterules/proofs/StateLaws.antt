@@ -15,8 +15,8 @@ use Rattle.numbers.specs.Ints.{maxℤ, minℤ, sameℤ}
 use Rattle.numbers.specs.Below.{someBelow}
 use Rattle.types.specs.declared.Header.{Header}
 use Rattle.types.specs.Ranges.{atℤ}
-use Rattle.table.specs.Table.{stretch}
-use Rattle.states.specs.States.{highest, lowest, spreadOf, spreadLeast, shifted, below, stateOf}
+use Rattle.tablerules.specs.Table.{stretch}
+use Rattle.staterules.specs.States.{highest, lowest, spreadOf, spreadLeast, shifted, below, stateOf}
 
 -- ---- highest, lowest
 pub highest-more : (m : ℤ) (zs : List ℤ) (i : ℕ) → i < length zs → highest m (drop i zs) ≡ highest (maxℤ m (atℤ zs i)) (drop (i + 1) zs)
