@@ -13,7 +13,7 @@ use Rattle.text.specs.Written.{linesText}
 use Rattle.columns.specs.declared.Head.the-variants.{Indexed}
 use Rattle.columns.specs.ColumnText.{columnsText}
 use Rattle.tablerules.specs.Table.{Table, factorsAt}
-use Rattle.corners.specs.Corners.{sheetBordersMost, flowsOf, judgeCorners}
+use Rattle.cornerrules.specs.Corners.{sheetBordersMost, flowsOf, judgeCorners}
 
 -- a sheet has at most so many corners
 abbrev pub sheetMost : ℕ

@@ -13,7 +13,7 @@ use Rattle.marginrules.specs.Margin.{grains, f0coreOf, fuafOf, baseOf, amrOf, s
 use Rattle.staterules.specs.States.{highest, lowest, spreadOf, shifted, below, stateOf, kept}
 use Rattle.staterules.specs.Standings.{Standings, standingsOf}
 use Rattle.setup.specs.Setup.{gridBy, judgeBy}
-use Rattle.start.specs.Start.{every, setupWith, judgeMarked}
+use Rattle.extractrules.specs.Start.{every, setupWith, judgeMarked}
 use Rattle.claimrules.specs.Claims.{judgeClaims, claimsOf, claimsAnswer}
 
 -- border 0 to 1 with an LTA of 100 MW, so many times, and a row of Fmax 10000 kW with this IVA and factors

@@ -12,8 +12,8 @@ use Rattle.tablerules.specs.Table.{judgeLent}
 use Rattle.tablerules.proofs.GoodLaws.{judged-good}
 use Rattle.rounds.specs.Rounds.{State, next}
 use Rattle.marginrules.specs.Margin.{ramAt}
-use Rattle.start.specs.Start.{every, tableGrid, tableStart}
-use Rattle.extraction.specs.Extraction.{Result, atcOf, leftOf, outcomeOf}
+use Rattle.extractrules.specs.Start.{every, tableGrid, tableStart}
+use Rattle.extractrules.specs.Extraction.{Result, atcOf, leftOf, outcomeOf}
 use Rattle.promises.specs.Demand.{loadOf, UpTo, WithinAtcs, ResultDemand3}
 use Rattle.theorems.proofs.Demand3.{accepted-demand-3, atcs-up-to}
 use Rattle.figures.specs.Computing.{computing}

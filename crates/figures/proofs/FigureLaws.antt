@@ -25,9 +25,9 @@ use Rattle.marginrules.specs.Margin.{f0coreOf, sOf, ramOf, ramAt, ramsOf}
 use Rattle.staterules.specs.States.{spreadOf, shifted, below, stateOf}
 use Rattle.theorems.proofs.ShiftLaws.{shifted-self}
 use Rattle.setup.specs.Setup.{gridBy}
-use Rattle.start.specs.Start.{every, tableGrid, tableStart, setupWith}
-use Rattle.extraction.specs.Extraction.{Result, resultMarked, outcomeOf}
-use Rattle.extraction.proofs.AcceptedLaws.{accepted}
+use Rattle.extractrules.specs.Start.{every, tableGrid, tableStart, setupWith}
+use Rattle.extractrules.specs.Extraction.{Result, resultMarked, outcomeOf}
+use Rattle.extractrules.proofs.AcceptedLaws.{accepted}
 
 -- ---- spread
 -- no row is below itself

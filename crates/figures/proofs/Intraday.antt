@@ -14,8 +14,8 @@ use Rattle.tablerules.specs.Table.{Table, judgeLent}
 use Rattle.tablerules.proofs.GoodLaws.{judged-good}
 use Rattle.reading.specs.Reading.{balanceByte, readText}
 use Rattle.writing.specs.Writing.{tableText}
-use Rattle.start.specs.Start.{every}
-use Rattle.extraction.specs.Extraction.{outcomeOf, resultOf}
+use Rattle.extractrules.specs.Start.{every}
+use Rattle.extractrules.specs.Extraction.{outcomeOf, resultOf}
 use Rattle.promises.specs.Demand.{ResultDemand3}
 use Rattle.theorems.proofs.Demand3.{accepted-demand-3}
 use Rattle.answer.specs.Result.{answerText}

@@ -20,11 +20,11 @@ use Rattle.marginrules.specs.Margin.{cornerSum, ramAt, ramsOf}
 use Rattle.theorems.proofs.LargestCorner.{s-largest-corner}
 use Rattle.marginrules.proofs.JudgedLaws.{good-factors}
 use Rattle.marginrules.proofs.Small.{named-values-small}
-use Rattle.corners.specs.Corners.{flowsOf, bit, Stands}
+use Rattle.cornerrules.specs.Corners.{flowsOf, bit, Stands}
 use Rattle.theorems.proofs.CornerSheet.{every-corner-stands}
 use Rattle.theorems.proofs.OneKept.{OneKept, one-kept}
 use Rattle.staterules.specs.Standings.{Standings, standingsOf}
-use Rattle.extraction.specs.Extraction.{outcomeFor}
+use Rattle.extractrules.specs.Extraction.{outcomeFor}
 use Rattle.promises.specs.Replaced.{replaced, ReplacedSame}
 use Rattle.theorems.proofs.ReplacedSame.{replaced-same}
 use Rattle.figures.specs.Computing.{computing}

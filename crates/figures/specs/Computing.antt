@@ -6,9 +6,9 @@ use Rattle.promises.specs.Taking.{resultIn, outcomeIn, outcomeTaking, unshorten
 use Rattle.marks.specs.Marks.{markedBy, faultyMark, judgeMarks}
 use Rattle.staterules.specs.Standings.{standingsOf}
 use Rattle.setup.specs.Setup.{gridBy, beginBy, judgeBy, endBy}
-use Rattle.start.specs.Start.{gridOf, startOf, judgeStart, setupWith}
-use Rattle.extraction.specs.Extraction.{resultOf, atcOf, leftOf, lastOf, stopOf, outcomeOf, nOf, lOf, atcRecord, rowRecord, extractFor, extractLeft, extractMarkedLeft, outcomeFor, outcomeMarked, resultMarked}
-use Rattle.corners.specs.Corners.{raisedBy, cornerFlows, judgeCorners, sheetLeft, cornersLeft}
+use Rattle.extractrules.specs.Start.{gridOf, startOf, judgeStart, setupWith}
+use Rattle.extractrules.specs.Extraction.{resultOf, atcOf, leftOf, lastOf, stopOf, outcomeOf, nOf, lOf, atcRecord, rowRecord, extractFor, extractLeft, extractMarkedLeft, outcomeFor, outcomeMarked, resultMarked}
+use Rattle.cornerrules.specs.Corners.{raisedBy, cornerFlows, judgeCorners, sheetLeft, cornersLeft}
 use Rattle.cornertext.specs.CornerText.{cornersText, cornerTextLeft}
 use Rattle.refusals.specs.Refusals.{then, either, unless, refuseAt, refuseFirst, need}
 use Rattle.types.specs.Ranges.{headerFits, allocatedItems, zoneFits, exists, hubsFit, hubsOf, borderFits, borderOf, shareOf, rowOf, rowFits, factorFits, worth, defaultOf}

@@ -15,7 +15,7 @@ use Rattle.tablerules.specs.Table.{Table, factorsAt}
 use Rattle.marginrules.specs.Margin.{grains, baseOf, amrOf, ramAt, ramsOf}
 use Rattle.staterules.specs.States.{spreadOf, stateOf}
 use Rattle.staterules.specs.Standings.{standingsOf}
-use Rattle.extraction.specs.Extraction.{Result, outcomeOf}
+use Rattle.extractrules.specs.Extraction.{Result, outcomeOf}
 use Rattle.answer.specs.Result.{answerText}
 use Rattle.text.specs.Shown.{shown}
 use Rattle.figures.specs.Borders.{plainBorder}

@@ -27,8 +27,8 @@ use Rattle.columns.specs.declared.Head.the-variants.{Indexed}
 use Rattle.columns.proofs.ColumnTrip.{line-one}
 use Rattle.tablerules.specs.Table.{Table}
 use Rattle.tablerules.specs.Good.{Good}
-use Rattle.start.specs.Start.{judgeMarked}
-use Rattle.extraction.specs.Extraction.{Result, resultMarked, outcomeMarked, outcomeFor, atcRecord, rowRecord}
+use Rattle.extractrules.specs.Start.{judgeMarked}
+use Rattle.extractrules.specs.Extraction.{Result, resultMarked, outcomeMarked, outcomeFor, atcRecord, rowRecord}
 use Rattle.reading.specs.Reading.{readText}
 use Rattle.reading.proofs.EmptySheet.{empty-sheet}
 use Rattle.reading.proofs.CorrectedLaws.{corrected-good}

@@ -17,9 +17,9 @@ use Rattle.types.specs.declared.Hubs.the-variants.{Without, Between}
 use Rattle.types.specs.declared.Border.{Border}
 use Rattle.types.specs.Ranges.{atℤ, borderOf}
 use Rattle.tablerules.specs.Table.{Table}
-use Rattle.extraction.specs.declared.Extracted.{Extracted}
-use Rattle.extraction.specs.declared.Extracted.the-variants as extracted
-use Rattle.extraction.specs.Extraction.{Result, outcomeFor, atcOf}
+use Rattle.extractrules.specs.declared.Extracted.{Extracted}
+use Rattle.extractrules.specs.declared.Extracted.the-variants as extracted
+use Rattle.extractrules.specs.Extraction.{Result, outcomeFor, atcOf}
 use Rattle.reading.specs.Reading.{readText}
 use Rattle.daysheet.specs.Sheet.{wayOf}
 

@@ -14,7 +14,7 @@ ghost use Rattle.marginrules.specs.Magnitudes.{BordersInRange};
 ghost use Rattle.daysheet.specs.Sheet.{hoursMost};
 ghost use Rattle.hourtables.specs.Hour.{foundFor, foundIn, figures, figuresBy, refusedHour, hourOf, keptOf};
 use daysheet::HourRecord;
-use extraction::Extracted;
+use extractrules::Extracted;
 use outcome::AtcRecord;
 use outcome::BorderResult;
 use outcome::LeftRecord;

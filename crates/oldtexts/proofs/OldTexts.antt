@@ -27,7 +27,7 @@ use Rattle.columns.specs.Optional.{optionalLine}
 use Rattle.tablerules.specs.Table.{Table, notTwice, headerLineNo}
 use Rattle.lines.specs.Lines.{headerOf, headerBad, headerLine}
 use Rattle.reading.specs.Reading.{withHeader, linesBy, readText}
-use Rattle.extraction.specs.Extraction.{outcomeFor}
+use Rattle.extractrules.specs.Extraction.{outcomeFor}
 use Rattle.result.specs.Refusal.{refusalText}
 use Rattle.answer.specs.Result.{resultText, answerFor}
 use Rattle.oldtexts.specs.OldTexts.{bordersBefore, fitsBy, outBy, headerBy, linesWithin, readWithin, answerWithin}

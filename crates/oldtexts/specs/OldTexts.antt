@@ -24,7 +24,7 @@ use Rattle.tablerules.specs.Table.{Table, notTwice, zoneLineNo}
 use Rattle.lines.specs.Lines.{headerOf, headerBad, zoneLine}
 use Rattle.sections.specs.Rows.{asGiven}
 use Rattle.reading.specs.Reading.{withHeader, intradayAt, allocatedFrom}
-use Rattle.extraction.specs.Extraction.{outcomeFor}
+use Rattle.extractrules.specs.Extraction.{outcomeFor}
 use Rattle.result.specs.Refusal.{refusalText}
 use Rattle.answer.specs.Result.{resultText}
 

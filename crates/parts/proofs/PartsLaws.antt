@@ -28,7 +28,7 @@ use Rattle.marginrules.proofs.JudgedLaws.{good-factors, good-borders, good-nets
 use Rattle.staterules.specs.States.{stateOf}
 use Rattle.staterules.specs.Standings.{Standings, standingsOf, standingsWith}
 use Rattle.staterules.proofs.StandingsLaws.{rows-in}
-use Rattle.parts.specs.Parts.{nOf, startFrom, partsOf, recordOf, recordsOf, leaves, marginsLeft}
+use Rattle.partrules.specs.Parts.{nOf, startFrom, partsOf, recordOf, recordsOf, leaves, marginsLeft}
 use Rattle.parts.specs.Stored.{partsBy, partsAt, Storable}
 
 -- ---- n

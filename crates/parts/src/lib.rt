@@ -9,18 +9,14 @@ ghost use Rattle.numbers.specs.Below.{table, over};
 ghost use Rattle.refusals.specs.Answers.{saidJudgement};
 ghost use Rattle.tablerules.specs.Table.{lent, front};
 ghost use Rattle.tablerules.specs.Good.{Good};
-ghost use Rattle.parts.specs.Parts.{recordOf, recordsOf, leaves, marginsLeft};
+ghost use Rattle.partrules.specs.Parts.{recordOf, recordsOf, leaves, marginsLeft};
 ghost use Rattle.parts.specs.Stored.{partsAt, Storable};
+use partrules::PartsRecord;
 use refusals::Judgement;
 use refusals::Refusal;
 use types::BorderRecord;
 use types::Header;
 use types::RowRecord;
-
-// State, n, F0core, Fuaf, Base, AMR, S, LTA margin, CVA, IVA, RAM, starting margin; grains, but for state and n.
-pub const ITEMS: usize = 12;
-
-pub type PartsRecord = [i64; ITEMS];
 
 // The record of each row. Any input has an answer; where that is a refusal, nothing is written.
 pub fn margins(

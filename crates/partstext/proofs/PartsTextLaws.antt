@@ -29,7 +29,7 @@ use Rattle.marginrules.proofs.MagnitudeLaws.{within-grains}
 use Rattle.marginrules.proofs.JudgedLaws.{row-ranges, good-borders}
 use Rattle.marginrules.proofs.Small.{start-in, named-values-small}
 use Rattle.staterules.proofs.StateLaws.{state-most}
-use Rattle.parts.specs.Parts.{Parts, nOf, startFrom, partsOf, recordOf, recordsOf}
+use Rattle.partrules.specs.Parts.{Parts, nOf, startFrom, partsOf, recordOf, recordsOf}
 use Rattle.parts.proofs.PartsLaws.{n-few}
 use Rattle.partstext.specs.PartsText.{partsColumns, partsLine, partsLineAt, partsText, partsLineMost, partsMost}
 

@@ -21,14 +21,14 @@ use Rattle.rounds.proofs.Theorems.{alone-least}
 use Rattle.marginrules.specs.Magnitudes.{startBits}
 use Rattle.marginrules.proofs.Small.{named-values-small}
 use Rattle.setup.specs.Setup.{gridBy}
-use Rattle.start.specs.Start.{setupWith, gridMarked, tableStart, judgeMarked}
-use Rattle.extraction.proofs.AcceptedLaws.{small-start}
-use Rattle.tight.specs.declared.RoundsMost.{RoundsMost}
-use Rattle.tight.specs.Tight.{tightBound}
-use Rattle.tight.specs.Measure.{boundBy}
-use Rattle.tight.proofs.BitsLaws.{sharers-few}
-use Rattle.tight.proofs.SharperLaws.{tight-le}
-use Rattle.bound.specs.Bound.{boundOf, boundMarked, boundAsked}
+use Rattle.extractrules.specs.Start.{setupWith, gridMarked, tableStart, judgeMarked}
+use Rattle.extractrules.proofs.AcceptedLaws.{small-start}
+use Rattle.tightrules.specs.declared.RoundsMost.{RoundsMost}
+use Rattle.tightrules.specs.Tight.{tightBound}
+use Rattle.tightrules.specs.Measure.{boundBy}
+use Rattle.tightrules.proofs.BitsLaws.{sharers-few}
+use Rattle.tightrules.proofs.SharperLaws.{tight-le}
+use Rattle.boundrules.specs.Bound.{boundOf, boundMarked, boundAsked}
 use Rattle.boundtext.specs.BoundText.{boundText, boundTextOf}
 use Rattle.boundtext.proofs.BoundTextLaws.{bound-line-long}
 

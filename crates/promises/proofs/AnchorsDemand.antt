@@ -23,9 +23,9 @@ use Rattle.marginrules.specs.Margin.{grains, f0coreOf, fuafOf, baseOf, amrOf, s
 use Rattle.staterules.specs.States.{highest, lowest, spreadOf, shifted, below, stateOf, kept}
 use Rattle.staterules.specs.Standings.{standingsOf}
 use Rattle.setup.specs.Setup.{gridBy, beginBy, judgeBy}
-use Rattle.start.specs.Start.{every, setupWith}
+use Rattle.extractrules.specs.Start.{every, setupWith}
 use Rattle.outcome.specs.Outcome.{rowOrDash}
-use Rattle.extraction.specs.Extraction.{Result, atcOf, leftOf, lastOf, stopOf, nOf, lOf, outcomeMarked, resultMarked}
+use Rattle.extractrules.specs.Extraction.{Result, atcOf, leftOf, lastOf, stopOf, nOf, lOf, outcomeMarked, resultMarked}
 use Rattle.promises.specs.Demand.{loadOf, WithinAtcs, ResultDemand3}
 use Rattle.promises.specs.DemandLeft.{LeftDemand3}
 use Rattle.promises.specs.Seven.{NotSeven, NoReductions}

@@ -15,7 +15,7 @@ use Rattle.refusals.specs.Refusals.{Judged, passed, refused, refusal, unless, r
 use Rattle.marks.specs.Marks.{faultyMark, judgeMarks}
 use Rattle.tablerules.specs.Table.{Table}
 use Rattle.tablerules.specs.Good.{Good}
-use Rattle.extraction.specs.Extraction.{Result, atcOf, outcomeFor}
+use Rattle.extractrules.specs.Extraction.{Result, atcOf, outcomeFor}
 use Rattle.promises.specs.Marked.{AllMarked}
 use Rattle.promises.specs.Same.{SameEnd, SameResult, SameRefusal, Both}
 use Rattle.promises.specs.Taking.{outcomeTaking, unshortened}

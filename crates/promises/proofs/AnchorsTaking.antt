@@ -20,8 +20,8 @@ use Rattle.marginrules.specs.Margin.{flowOf, grains, f0coreOf, fuafOf, baseOf, 
 use Rattle.staterules.specs.States.{highest, lowest, spreadOf, shifted, below, stateOf, kept}
 use Rattle.staterules.specs.Standings.{standingsOf}
 use Rattle.setup.specs.Setup.{gridBy, beginBy, judgeBy}
-use Rattle.start.specs.Start.{every, setupWith}
-use Rattle.extraction.specs.Extraction.{Result, resultMarked, leftOf, nOf, lOf}
+use Rattle.extractrules.specs.Start.{every, setupWith}
+use Rattle.extractrules.specs.Extraction.{Result, resultMarked, leftOf, nOf, lOf}
 use Rattle.promises.specs.ByBorder.{laidOut, ByBorder}
 use Rattle.promises.specs.Demand.{loadOf, startMargin, startKw, ResultDemand3}
 use Rattle.promises.specs.DemandLeft.{LeftDemand3}

@@ -10,8 +10,8 @@ use Rattle.rounds.specs.Rounds.{Grid, State, raise, next, extract}
 use Rattle.marginrules.specs.Margin.{pOf}
 use Rattle.staterules.specs.Standings.{standingsOf}
 use Rattle.staterules.specs.States.{kept}
-use Rattle.start.specs.Start.{gridMarked, tableStart}
-use Rattle.extraction.specs.Extraction.{resultMarked}
+use Rattle.extractrules.specs.Start.{gridMarked, tableStart}
+use Rattle.extractrules.specs.Extraction.{resultMarked}
 
 -- the grid that a list of p lays out: row i's factors begin at item i x borders, border after border. The rounds take those of the marked borders
 abbrev pub laidOut : Table → (marked : ℕ → Bool) → (p : List ℕ) → Grid

@@ -18,8 +18,8 @@ use Rattle.marginrules.specs.Margin.{flowOf, signedFactor, pOf, ltaKw, sAt, ram
 use Rattle.marginrules.specs.Magnitudes.{namedBits, startBits}
 use Rattle.staterules.specs.Standings.{standingsOf}
 use Rattle.staterules.specs.States.{kept}
-use Rattle.start.specs.Start.{gridMarked}
-use Rattle.extraction.specs.Extraction.{Result, leftOf, nOf, lOf}
+use Rattle.extractrules.specs.Start.{gridMarked}
+use Rattle.extractrules.specs.Extraction.{Result, leftOf, nOf, lOf}
 
 -- row i's load from exchanges in whole kW: the sum of (from factor less to factor) times exchange
 unfoldable pub loadOf : Table → (i : ℕ) → (exchanges : List ℕ) → ℤ

@@ -13,7 +13,7 @@ use Rattle.tablerules.specs.Table.{Table}
 use Rattle.tablerules.specs.Good.{Good}
 use Rattle.marginrules.specs.Margin.{ramAt, ramsOf}
 use Rattle.staterules.specs.Standings.{standingsOf}
-use Rattle.extraction.specs.Extraction.{outcomeFor}
+use Rattle.extractrules.specs.Extraction.{outcomeFor}
 
 -- R as a raw number, the default where it was "-"
 abbrev pub replacedShare : (default r : ℤ) → ℤ

@@ -7,7 +7,7 @@ use Prim.Native.Nat.{ℕ}
 use Rattle.refusals.specs.Refusals.{passed}
 use Rattle.tablerules.specs.Table.{Table}
 use Rattle.tablerules.specs.Good.{Good}
-use Rattle.extraction.specs.Extraction.{Result, outcomeFor}
+use Rattle.extractrules.specs.Extraction.{Result, outcomeFor}
 use Rattle.promises.specs.Taking.{outcomeTaking, unshortened}
 use Rattle.promises.specs.Same.{SameResult, Both}
 use Rattle.promises.specs.Order.{Reordered}

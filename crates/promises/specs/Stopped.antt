@@ -15,8 +15,8 @@ use Rattle.rounds.specs.Last.{LastRaise}
 use Rattle.marginrules.specs.Margin.{pOf}
 use Rattle.staterules.specs.Standings.{standingsOf}
 use Rattle.staterules.specs.States.{kept}
-use Rattle.start.specs.Start.{gridMarked, tableStart}
-use Rattle.extraction.specs.Extraction.{Result, resultMarked, leftOf, lastOf, stopOf}
+use Rattle.extractrules.specs.Start.{gridMarked, tableStart}
+use Rattle.extractrules.specs.Extraction.{Result, resultMarked, leftOf, lastOf, stopOf}
 
 -- what border b could rise by from row i's equal share of its margin left, whole kW: shared among the marked borders
 abbrev pub shareKw : Table → (marked : ℕ → Bool) → Result → (b i : ℕ) → ℕ

@@ -9,7 +9,7 @@ use Rattle.marginrules.specs.Margin.{grains, f0coreOf, fuafOf, baseOf, amrOf, s
 use Rattle.staterules.specs.States.{highest, lowest, spreadOf, shifted, below, stateOf, kept}
 use Rattle.staterules.specs.Standings.{standingsOf}
 use Rattle.setup.specs.Setup.{gridBy, beginBy}
-use Rattle.start.specs.Start.{every, setupWith}
+use Rattle.extractrules.specs.Start.{every, setupWith}
 use Rattle.why.specs.Why.{whyMarked}
 use Rattle.why.proofs.Anchors.{small}
 use Rattle.reasoned.specs.Reasoned.{usedOf}

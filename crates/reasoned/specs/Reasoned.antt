@@ -15,8 +15,8 @@ use Rattle.rounds.specs.Last.{after, LastRaise}
 use Rattle.marginrules.specs.Margin.{pOf, sAt, ramAt}
 use Rattle.staterules.specs.Standings.{standingsOf}
 use Rattle.staterules.specs.States.{kept}
-use Rattle.start.specs.Start.{gridMarked, tableStart}
-use Rattle.extraction.specs.Extraction.{Result, lastOf, stopOf}
+use Rattle.extractrules.specs.Start.{gridMarked, tableStart}
+use Rattle.extractrules.specs.Extraction.{Result, lastOf, stopOf}
 use Rattle.promises.specs.Demand.{remainderOf}
 use Rattle.why.specs.Why.{Why}
 

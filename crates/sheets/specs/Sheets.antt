@@ -8,7 +8,7 @@ use Rattle.types.specs.declared.Header.{Header}
 use Rattle.text.specs.Written.{linesText}
 use Rattle.tablerules.specs.Table.{Table}
 use Rattle.reading.specs.Reading.{readCorrected}
-use Rattle.corners.specs.Corners.{sheetBordersMost, judgeCornerSheet}
+use Rattle.cornerrules.specs.Corners.{sheetBordersMost, judgeCornerSheet}
 use Rattle.cornertext.specs.CornerText.{sheetText, sheetTextOf}
 use Rattle.output.specs.Buffer.{toldText}
 

@@ -46,7 +46,7 @@ pub fn room() -> [u8; ROOM]
 pub fn sheet_rows(h: Header) -> usize
     ensures { λ r. ⌜ r ≡ sheetRows h ⌝ }
 {
-    if h.borders <= corners::BORDERS_MOST {
+    if h.borders <= cornerrules::BORDERS_MOST {
         return h.rows;
     }
     1

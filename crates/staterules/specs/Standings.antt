@@ -1,4 +1,4 @@
--- What every reading of a table's rows begins with: the RAM and the state of each row, beside where its margin starts (`startsOf` of crate margin).
+-- What every reading of a table's rows begins with: the RAM and the state of each row, beside where its margin starts (`startsOf` of crate marginrules).
 use mathlib.Core.List.{List}
 use Prim.Native.Nat.{ℕ}
 use lib.IntN.{ℤ}

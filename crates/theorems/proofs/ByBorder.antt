@@ -18,11 +18,11 @@ use Rattle.marginrules.specs.Margin.{pOf}
 use Rattle.staterules.specs.Standings.{standingsOf}
 use Rattle.setup.specs.Setup.{gridBy}
 use Rattle.staterules.specs.States.{kept}
-use Rattle.start.specs.Start.{every, gridMarked, tableGrid, tableStart, setupWith}
-use Rattle.start.specs.Filled.{cells}
-use Rattle.start.proofs.StartLaws.{cells-at, grid-long}
-use Rattle.extraction.specs.Extraction.{ExtractLeft, extractFor, resultMarked}
-use Rattle.extraction.proofs.LentLaws.{accepted-for}
+use Rattle.extractrules.specs.Start.{every, gridMarked, tableGrid, tableStart, setupWith}
+use Rattle.extractrules.specs.Filled.{cells}
+use Rattle.extractrules.proofs.StartLaws.{cells-at, grid-long}
+use Rattle.extractrules.specs.Extraction.{ExtractLeft, extractFor, resultMarked}
+use Rattle.extractrules.proofs.LentLaws.{accepted-for}
 use Rattle.promises.specs.ByBorder.{laidOut, ByBorder}
 
 -- a table of p in front of lent memory

@@ -28,9 +28,9 @@ use Rattle.marginrules.proofs.Small.{named-values-small}
 use Rattle.staterules.specs.Standings.{standingsOf}
 use Rattle.setup.specs.Setup.{Setup, gridBy, beginBy, endBy}
 use Rattle.staterules.specs.States.{kept}
-use Rattle.start.specs.Start.{gridMarked, tableStart, setupOf, setupWith}
-use Rattle.extraction.specs.Extraction.{Result, resultMarked, outcomeMarked, leftOf, nOf, lOf}
-use Rattle.extraction.proofs.AcceptedLaws.{accepted, part-le-abs}
+use Rattle.extractrules.specs.Start.{gridMarked, tableStart, setupOf, setupWith}
+use Rattle.extractrules.specs.Extraction.{Result, resultMarked, outcomeMarked, leftOf, nOf, lOf}
+use Rattle.extractrules.proofs.AcceptedLaws.{accepted, part-le-abs}
 use Rattle.promises.specs.Demand.{loadOf, lessSOf, remainderOf, startMargin, UpTo, WithinAtcs, roundsMost, Demand3, ResultDemand3}
 use Rattle.theorems.proofs.LoadLaws.{sum-le, le-pos, sum-none, part-is, part-none, and-false, less-is, on-top}
 use Rattle.theorems.proofs.DemandBy.{loadBy, rises, stays, within-all, lost-all, setup-rounds}

@@ -31,8 +31,8 @@ use Rattle.marginrules.specs.Margin.{pOf, sAt, ramAt}
 use Rattle.staterules.specs.Standings.{standingsOf}
 use Rattle.setup.specs.Setup.{Setup, gridBy, beginBy}
 use Rattle.staterules.specs.States.{kept}
-use Rattle.start.specs.Start.{gridMarked, tableStart, judgeMarked, setupOf, setupWith}
-use Rattle.extraction.specs.Extraction.{resultMarked, outcomeMarked, leftOf, lastOf, stopOf}
+use Rattle.extractrules.specs.Start.{gridMarked, tableStart, judgeMarked, setupOf, setupWith}
+use Rattle.extractrules.specs.Extraction.{resultMarked, outcomeMarked, leftOf, lastOf, stopOf}
 use Rattle.promises.specs.Demand.{startKw, lessSOf, remainderOf, startMargin, lossOf}
 use Rattle.theorems.proofs.Demand3.{accepted-demand-3}
 use Rattle.theorems.proofs.SetupLaws.{loads-takes, p-marked, p-unmarked, marked-loaded}

@@ -18,8 +18,8 @@ use Rattle.marginrules.specs.Margin.{pOf, marginOf, startsOf}
 use Rattle.staterules.specs.Standings.{standingsOf}
 use Rattle.setup.specs.Setup.{gridBy, beginBy}
 use Rattle.staterules.specs.States.{kept}
-use Rattle.start.specs.Start.{tableGrid, tableStart, setupWith}
-use Rattle.parts.specs.Parts.{nOf, startFrom, partsOf}
+use Rattle.extractrules.specs.Start.{tableGrid, tableStart, setupWith}
+use Rattle.partrules.specs.Parts.{nOf, startFrom, partsOf}
 
 start-part : (intraday : Bool) (z : ℤ) → positivePart (startFrom intraday z) ≡ positivePart z
 unfolding startFrom maxℤ positivePart

@@ -7,7 +7,7 @@ use Rattle.numbers.specs.Ints.{maxℤ}
 use Rattle.types.specs.Ranges.{isIntraday}
 use Rattle.tablerules.specs.Table.{Table, factorsAt}
 use Rattle.marginrules.specs.Margin.{flowOf, ramOf, ramAt}
-use Rattle.parts.specs.Parts.{startFrom, partsOf}
+use Rattle.partrules.specs.Parts.{startFrom, partsOf}
 
 module _ (t : Table) (i : ℕ) where
   -- RAM = Base + AMR + LTA margin - CVA - IVA

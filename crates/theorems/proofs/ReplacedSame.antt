@@ -22,9 +22,9 @@ use Rattle.marginrules.specs.Margin.{f0coreOf, fuafOf, baseOf, amrOf, ltaMargin
 use Rattle.staterules.specs.States.{statesOf, kept}
 use Rattle.staterules.specs.Standings.{Standings, standingsOf}
 use Rattle.setup.specs.Setup.{Setup, gridBy, beginBy, judgeBy}
-use Rattle.start.specs.Start.{every, setupWith}
-use Rattle.start.specs.Filled.{cells}
-use Rattle.extraction.specs.Extraction.{resultBy, resultMarked, outcomeMarked, outcomeFor}
+use Rattle.extractrules.specs.Start.{every, setupWith}
+use Rattle.extractrules.specs.Filled.{cells}
+use Rattle.extractrules.specs.Extraction.{resultBy, resultMarked, outcomeMarked, outcomeFor}
 use Rattle.promises.specs.Replaced.{replacedShare, replacedRow, replacedRows, replaced, ReplacedSame}
 
 -- ---- one row

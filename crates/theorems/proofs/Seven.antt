@@ -21,9 +21,9 @@ use Rattle.marginrules.specs.Margin.{sAt, ramAt, startBy, marginOf}
 use Rattle.marginrules.proofs.MarginLaws.{start-not-negative}
 use Rattle.setup.specs.Setup.{Setup, freeBy, lowBy, judgeBy}
 use Rattle.staterules.specs.States.{kept}
-use Rattle.start.specs.Start.{judgeMarked, setupOf, setupWith}
-use Rattle.extraction.specs.Extraction.{Result, outcomeMarked, outcomeFor, judgeExtract, leaves, resultRoom, resultStored, extractFor}
-use Rattle.extraction.proofs.LentLaws.{judged-lent}
+use Rattle.extractrules.specs.Start.{judgeMarked, setupOf, setupWith}
+use Rattle.extractrules.specs.Extraction.{Result, outcomeMarked, outcomeFor, judgeExtract, leaves, resultRoom, resultStored, extractFor}
+use Rattle.extractrules.proofs.LentLaws.{judged-lent}
 use Rattle.promises.specs.Seven.{NotSeven, NoReductions}
 use Rattle.promises.specs.Taking.{outcomeIn, resultIn}
 use Rattle.theorems.proofs.ToldLaws.{Told, told-passed, told-then, told-unless, told-first, told-need}

@@ -26,9 +26,9 @@ use Rattle.theorems.proofs.ShiftLaws.{shifted-self}
 use Rattle.theorems.proofs.OneKept.{one-kept}
 use Rattle.staterules.specs.Standings.{standingsOf}
 use Rattle.setup.specs.Setup.{beginBy, endBy}
-use Rattle.start.specs.Start.{setupOf, setupWith}
+use Rattle.extractrules.specs.Start.{setupOf, setupWith}
 use Rattle.outcome.specs.Outcome.{inMw}
-use Rattle.extraction.specs.Extraction.{atcOf, resultMarked, outcomeMarked, outcomeFor}
+use Rattle.extractrules.specs.Extraction.{atcOf, resultMarked, outcomeMarked, outcomeFor}
 use Rattle.promises.specs.Taking.{resultIn, outcomeIn, outcomeTaking, zeroOrTwo, unshortened}
 use Rattle.promises.specs.Same.{SameResult, Both}
 use Rattle.promises.specs.Order.{Reordered}

@@ -24,11 +24,11 @@ use Rattle.marginrules.specs.Margin.{pOf}
 use Rattle.staterules.specs.Standings.{standingsOf}
 use Rattle.setup.specs.Setup.{Setup, gridBy}
 use Rattle.staterules.specs.States.{kept}
-use Rattle.start.specs.Start.{gridMarked, tableStart, judgeMarked, setupOf, setupWith}
+use Rattle.extractrules.specs.Start.{gridMarked, tableStart, judgeMarked, setupOf, setupWith}
 use Rattle.outcome.specs.Outcome.{rowOrDash}
-use Rattle.extraction.specs.Extraction.{Result, resultMarked, outcomeMarked, leftOf, lastOf, stopOf, atcRecord, ExtractLeft, extractFor}
-use Rattle.extraction.proofs.AcceptedLaws.{accepted}
-use Rattle.extraction.proofs.LentLaws.{accepted-for}
+use Rattle.extractrules.specs.Extraction.{Result, resultMarked, outcomeMarked, leftOf, lastOf, stopOf, atcRecord, ExtractLeft, extractFor}
+use Rattle.extractrules.proofs.AcceptedLaws.{accepted}
+use Rattle.extractrules.proofs.LentLaws.{accepted-for}
 use Rattle.promises.specs.Stopped.{StoppedBy, BorderStopped, Unmarked, LeftStopped, LeftUnmarked}
 use Rattle.theorems.proofs.SetupLaws.{loads-takes, p-marked, p-unmarked, marked-loaded}
 use Rattle.theorems.proofs.DemandLeft.{over-get}

@@ -20,7 +20,7 @@ use Rattle.marginrules.specs.Margin.{grains, f0coreOf, fuafOf, baseOf, amrOf, s
 use Rattle.staterules.specs.States.{highest, lowest, spreadOf, shifted, below, stateOf, kept}
 use Rattle.staterules.specs.Standings.{standingsOf}
 use Rattle.setup.specs.Setup.{gridBy, beginBy, judgeBy}
-use Rattle.start.specs.Start.{setupWith}
+use Rattle.extractrules.specs.Start.{setupWith}
 use Rattle.holding.specs.Holding.{endRow}
 use Rattle.holding.proofs.Anchors.{two, from, nested, lone}
 use Rattle.why.specs.declared.Reasons.{Reasons}

@@ -29,13 +29,13 @@ use Rattle.rounds.specs.AllRounds.{flat}
 use Rattle.staterules.specs.Standings.{Standings, standingsOf}
 use Rattle.setup.specs.Setup.{gridBy, beginBy}
 use Rattle.staterules.specs.States.{kept}
-use Rattle.start.specs.Start.{every, fromBy, gridMarked, tableGrid, tableStart, judgeMarked, setupOf, setupWith}
-use Rattle.start.specs.Filled.{froms, cells}
-use Rattle.start.proofs.StartLaws.{cells-at, grid-long}
-use Rattle.start.proofs.SameMarks.{p-marks, judge-marks}
-use Rattle.extraction.specs.Extraction.{judgeExtract}
-use Rattle.extraction.specs.Inner.{gridWith, startWith}
-use Rattle.extraction.proofs.ExtractLaws.{over-taken}
+use Rattle.extractrules.specs.Start.{every, fromBy, gridMarked, tableGrid, tableStart, judgeMarked, setupOf, setupWith}
+use Rattle.extractrules.specs.Filled.{froms, cells}
+use Rattle.extractrules.proofs.StartLaws.{cells-at, grid-long}
+use Rattle.extractrules.proofs.SameMarks.{p-marks, judge-marks}
+use Rattle.extractrules.specs.Extraction.{judgeExtract}
+use Rattle.extractrules.specs.Inner.{gridWith, startWith}
+use Rattle.extractrules.proofs.ExtractLaws.{over-taken}
 use Rattle.why.specs.declared.Reasons.{Reasons}
 use Rattle.why.specs.Why.{Why, whyBy, whyMarked, endRecord, rowRecord, reasonsOf, noBorder, reasonsMarked, reasonsFor, WhyLeft, leaves, whyRoom, whyStored, judgedLeft, whyFor}
 use Rattle.why.specs.Told.{told}

@@ -18,9 +18,9 @@ use Rattle.marginrules.specs.Margin.{grains, f0coreOf, fuafOf, baseOf, amrOf, s
 use Rattle.staterules.specs.States.{highest, lowest, spreadOf, shifted, below, stateOf, kept}
 use Rattle.staterules.specs.Standings.{standingsOf}
 use Rattle.setup.specs.Setup.{gridBy, beginBy}
-use Rattle.start.specs.Start.{every, setupWith}
-use Rattle.tight.specs.Tight.{equalShareUp, cut, stepsWithin, steps, rowReach, reach, farthest, tightBound}
-use Rattle.tight.specs.Measure.{boundBy}
+use Rattle.extractrules.specs.Start.{every, setupWith}
+use Rattle.tightrules.specs.Tight.{equalShareUp, cut, stepsWithin, steps, rowReach, reach, farthest, tightBound}
+use Rattle.tightrules.specs.Measure.{boundBy}
 use Rattle.worst.specs.Worst.{startTop, ltaTop, lateTop, roundsWorst, Known}
 
 -- the hour of 01, and the same hour with another profile in its header

@@ -15,8 +15,8 @@ use Rattle.tablerules.specs.Good.{Good}
 use Rattle.tablerules.proofs.GoodLaws.{judged-good}
 use Rattle.reading.specs.Reading.{readCorrected}
 use Rattle.reading.proofs.CorrectedLaws.{corrected-good}
-use Rattle.extraction.specs.Extraction.{extractFor}
-use Rattle.extraction.proofs.LentLaws.{accepted-for}
+use Rattle.extractrules.specs.Extraction.{extractFor}
+use Rattle.extractrules.proofs.LentLaws.{accepted-for}
 use Rattle.answer.specs.Result.{resultTextFor, answerWith}
 use Rattle.theorems.proofs.TextDemand.{TextDemand3, answer-demand-3, result-text-demand-3}
 use Rattle.worst.specs.Worst.{Known, TextKnown}

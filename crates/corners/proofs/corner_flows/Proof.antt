@@ -3,7 +3,7 @@ use mathlib.Core.Path.{_∙_}
 use borrow.Author.Needs.{needs}
 use Rattle.tablerules.specs.Table.{lent}
 use Rattle.tablerules.proofs.GoodLaws.{told-good}
-use Rattle.corners.proofs.SheetLaws.{corners-refused, corners-left}
+use Rattle.cornerrules.proofs.SheetLaws.{corners-refused, corners-left}
 use Rattle.corners.proofs.corner_flows.Statement.{statement}
 use Rattle.corners.proofs.corner_flows.Tie as tie
 

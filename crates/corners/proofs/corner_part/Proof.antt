@@ -12,7 +12,7 @@ use Rattle.types.specs.LineLimits.{ltaMost}
 use Rattle.marginrules.specs.Margin.{cornerPart}
 use Rattle.marginrules.specs.Magnitudes.{BorderInRange}
 use Rattle.marginrules.proofs.JudgedLaws.{border-judged}
-use Rattle.corners.proofs.ListedLaws.{kw-most, factor-within, part-within}
+use Rattle.cornerrules.proofs.ListedLaws.{kw-most, factor-within, part-within}
 use Rattle.corners.proofs.corner_part.Statement.{statement}
 use Rattle.corners.proofs.corner_part.Tie as tie
 

@@ -3,7 +3,7 @@ use mathlib.Core.Path.{_∙_}
 use borrow.Author.Needs.{needs}
 use Rattle.tablerules.specs.Table.{lent}
 use Rattle.tablerules.proofs.GoodLaws.{told-good}
-use Rattle.bound.proofs.BoundLaws.{lent-refused, lent-bound}
+use Rattle.boundrules.proofs.BoundLaws.{lent-refused, lent-bound}
 use Rattle.doors.proofs.bound_for.Statement.{statement}
 use Rattle.doors.proofs.bound_for.Tie as tie
 

@@ -12,7 +12,7 @@ use Rattle.types.proofs.RangeLaws.{default-in}
 use Rattle.marginrules.specs.Magnitudes.{NetsInRange, BordersInRange}
 use Rattle.marginrules.proofs.MagnitudeLaws.{within-is}
 use Rattle.marginrules.proofs.JudgedLaws.{part-long, part-ranges}
-use Rattle.parts.specs.Parts.{recordOf}
+use Rattle.partrules.specs.Parts.{recordOf}
 use Rattle.parts.specs.Stored.{partsAt}
 use Rattle.parts.proofs.PartsLaws.{stored-at}
 use Rattle.parts.proofs.store_parts.Statement.{statement}

@@ -16,7 +16,7 @@ use Rattle.marginrules.specs.Margin.{pOf}
 use Rattle.marginrules.proofs.JudgedLaws.{part-long, part-ranges}
 use Rattle.setup.specs.Setup.{gridBy}
 use Rattle.staterules.specs.States.{kept}
-use Rattle.start.specs.Start.{gridOf, setupWith}
+use Rattle.extractrules.specs.Start.{gridOf, setupWith}
 use Rattle.start.proofs.is_limited.Statement.{statement}
 use Rattle.start.proofs.is_limited.Tie as tie
 

@@ -7,7 +7,7 @@ use Rattle.numbers.proofs.BelowLaws.{table-long}
 use Rattle.tablerules.proofs.RoomLaws.{factors-most}
 use Rattle.marginrules.proofs.JudgedLaws.{good-factors, good-borders}
 use Rattle.staterules.proofs.StandingsLaws.{rows-in}
-use Rattle.start.proofs.StartLaws.{prepared-by}
+use Rattle.extractrules.proofs.StartLaws.{prepared-by}
 use Rattle.start.proofs.prepare.Statement.{statement}
 use Rattle.start.proofs.prepare.Tie as tie
 

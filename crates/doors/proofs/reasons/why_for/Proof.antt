@@ -2,7 +2,7 @@
 use mathlib.Core.Path.{_∙_}
 use borrow.Author.Needs.{needs}
 use Rattle.tablerules.proofs.GoodLaws.{told-good}
-use Rattle.extraction.proofs.LentLaws.{front-room}
+use Rattle.extractrules.proofs.LentLaws.{front-room}
 use Rattle.why.proofs.WhyLaws.{lent-refused, lent-passed}
 use Rattle.doors.proofs.reasons.why_for.Statement.{statement}
 use Rattle.doors.proofs.reasons.why_for.Tie as tie
