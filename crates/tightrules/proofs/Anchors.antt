@@ -1,6 +1,6 @@
 -- The bound of small grids beside the rounds that they take, and of the hour that 01 checks whole, computed. Nobody cites them: they refuse a definition that slipped.
 -- The small ones come first: a share that takes nothing would keep the hour's steps going for millions.
-use mathlib.Core.Path.{_≡_, refl}
+use mathlib.Core.Path.{refl}
 use mathlib.Core.List.{List, [], _∷_}
 use Prim.Native.Nat.{ℕ}
 use lib.ListN.{getD}
@@ -62,14 +62,6 @@ hour = grid 2 2 ((20000 ∷ 10000 ∷ []) ∷ (0 ∷ 5000 ∷ []) ∷ [])
 abbrev hourMargins : List ℕ
 hourMargins = 66000000000 ∷ 8000000000 ∷ []
 
-pub record Hour : Type 0 where
-  -- 01: N = 2, L = 22, bound 88; the sharper bound is 22, and it takes 21 rounds
-  pub worked : from hour hourMargins ≡ found 21 22 2 3299999
-  pub measured : boundBy hour hourMargins ≡ record { sharers = 2; bits = 22; rounds = 88; sharp = 22 }
-  -- steps of 40 and of 64 borders from the largest start without T lines, 165,000,000,000,000 grains: hours/worst.tsv and hours/worst64.tsv take as many rounds
-  pub worst-40 : steps 40 165000000000000 ≡ 1171
-  pub worst-64 : steps 64 165000000000000 ≡ 1852
-
 pub anchors : Hold (
     -- the equal share is rounded up
     equalShareUp 3 7 is 3  -- shared
@@ -94,10 +86,12 @@ pub anchors : Hold (
     ∷ from third (1000 ∷ 0 ∷ []) is found 16 16 3 998  -- thirds
     -- the row that leaves less decides: 5 of row 0, 3 of row 1
     ∷ reach stopped (6 ∷ 3 ∷ []) 1 is 3  -- least-row
+    -- 01: N = 2, L = 22, bound 88; the sharper bound is 22, and it takes 21 rounds
+    ∷ from hour hourMargins is found 21 22 2 3299999  -- worked
+    ∷ boundBy hour hourMargins is (record { sharers = 2; bits = 22; rounds = 88; sharp = 22 })  -- measured
+    -- steps of 40 and of 64 borders from the largest start without T lines, 165,000,000,000,000 grains: hours/worst.tsv and hours/worst64.tsv take as many rounds
+    ∷ steps 40 165000000000000 is 1171  -- worst-40
+    ∷ steps 64 165000000000000 is 1852  -- worst-64
     ∷ [])
-unfolding ifZero sum count largest lesser least orZero table sharers raise alone raises load lowered risen apply next raised counted run extract mostSharers bitsTo bits aloneBits equalShareUp cut stepsWithin steps rowReach reach farthest tightBound
-anchors = refl
-
-pub of-hour : Hour
 unfolding ifZero sum count largest lesser least orZero table sharers raise alone raises load lowered risen apply next raised counted run extract mostSharers bitsTo bits aloneBits equalShareUp cut stepsWithin steps rowReach reach farthest tightBound boundBy
-of-hour = record { worked = refl; measured = refl; worst-40 = refl; worst-64 = refl }
+anchors = refl
