@@ -5,8 +5,8 @@ use mathlib.Core.List.{List, []}
 use Prim.Native.Nat.{ℕ}
 use Rattle.refusals.specs.Refusals.{Judged, passed, then, either}
 use Rattle.text.specs.Left.{textLeft}
-use Rattle.table.specs.Table.{Table}
-use Rattle.extraction.specs.Extraction.{outcomeFor}
+use Rattle.tablerules.specs.Table.{Table}
+use Rattle.extractrules.specs.Extraction.{outcomeFor}
 use Rattle.reading.proofs.EmptySheet.{empty-sheet}
 use Rattle.result.specs.Refusal.{refusalText}
 use Rattle.answer.specs.Told.{toldOf, toldFor, toldWith}

@@ -20,19 +20,19 @@ use Rattle.types.specs.declared.Header.{Header}
 use Rattle.text.specs.Left.{TextLeft, textLeft}
 use Rattle.text.proofs.LeftLaws.{text-refused}
 use Rattle.marks.specs.Marks.{mayRise}
-use Rattle.table.specs.declared.Room.the-variants.{None}
-use Rattle.table.specs.Table.{Table, front, judgeLent}
-use Rattle.table.specs.Good.{Good}
-use Rattle.table.proofs.GoodLaws.{told-judged}
-use Rattle.extraction.specs.declared.Extracted.{Extracted}
-use Rattle.extraction.specs.declared.Extracted.the-variants.{Rounds, Refused}
-use Rattle.extraction.specs.Answers.{saidExtracted}
+use Rattle.tablerules.specs.declared.Room.the-variants.{None}
+use Rattle.tablerules.specs.Table.{Table, front, judgeLent}
+use Rattle.tablerules.specs.Good.{Good}
+use Rattle.tablerules.proofs.GoodLaws.{told-judged}
+use Rattle.extractrules.specs.declared.Extracted.{Extracted}
+use Rattle.extractrules.specs.declared.Extracted.the-variants.{Rounds, Refused}
+use Rattle.extractrules.specs.Answers.{saidExtracted}
 use Rattle.reading.specs.Reading.{readCorrected}
-use Rattle.extraction.specs.Extraction.{Result, resultMarked, outcomeFor, atcRecord, rowRecord, ExtractLeft, leaves, resultStored}
-use Rattle.extraction.specs.Inner.{outcomeLeft}
-use Rattle.extraction.proofs.AcceptedLaws.{accepted}
-use Rattle.extraction.proofs.LentLaws.{outcome-roomy}
-use Rattle.extraction.proofs.MarkedLaws.{for-is}
+use Rattle.extractrules.specs.Extraction.{Result, resultMarked, outcomeFor, atcRecord, rowRecord, ExtractLeft, leaves, resultStored}
+use Rattle.extractrules.specs.Inner.{outcomeLeft}
+use Rattle.extractrules.proofs.AcceptedLaws.{accepted}
+use Rattle.extractrules.proofs.LentLaws.{outcome-roomy}
+use Rattle.extractrules.proofs.MarkedLaws.{for-is}
 use Rattle.result.specs.Records.{recordsText}
 use Rattle.result.specs.Refusal.{refusalText}
 use Rattle.answer.specs.Result.{resultText, resultTextFor, answerWith, answerWithLeft}

@@ -3,7 +3,7 @@ use mathlib.Core.Bool.{Bool, cond}
 use mathlib.Core.List.{List}
 use Prim.Native.Nat.{ℕ}
 use Rattle.refusals.specs.Refusals.{Judged, passed, refused, either}
-use Rattle.extraction.specs.Extraction.{Result}
+use Rattle.extractrules.specs.Extraction.{Result}
 use Rattle.result.specs.Records.{recordsMost}
 use Rattle.result.specs.Refusal.{refusalText}
 use Rattle.answer.specs.Result.{resultText}

@@ -7,9 +7,9 @@ use Prim.Native.Nat.{ℕ}
 use Rattle.numbers.specs.Below.{table}
 use Rattle.refusals.specs.Refusals.{passed, then, either}
 use Rattle.text.specs.Left.{TextLeft, textLeft}
-use Rattle.table.specs.Table.{Table, judgeLent}
+use Rattle.tablerules.specs.Table.{Table, judgeLent}
 use Rattle.reading.specs.Reading.{readText, readCorrected}
-use Rattle.extraction.specs.Extraction.{Result, outcomeFor, atcRecord, rowRecord}
+use Rattle.extractrules.specs.Extraction.{Result, outcomeFor, atcRecord, rowRecord}
 use Rattle.result.specs.Records.{recordsText}
 use Rattle.result.specs.Refusal.{refusalText}
 

@@ -6,7 +6,7 @@ use Rattle.refusals.specs.declared.Judgement.{Judgement}
 use Rattle.refusals.specs.declared.Judgement.the-variants as judgement
 use Rattle.refusals.specs.Refusals.{Judged, passed, refused, then}
 use Rattle.reading.specs.Reading.{readText, readCorrected}
-use Rattle.extraction.specs.Extraction.{outcomeFor}
+use Rattle.extractrules.specs.Extraction.{outcomeFor}
 
 -- of what was judged, whether it passed or why it did not
 abbrev pub toldOf : {A : Type 0} → Judged A → Judgement

@@ -4,20 +4,15 @@ ghost use mathlib.Core.Path.{_≡_};
 ghost use Prim.Native.Nat.{_*_};
 ghost use lib.ListN.{length};
 ghost use Rattle.marks.specs.Marks.{flagged};
-ghost use Rattle.table.specs.Table.{lent, front};
-ghost use Rattle.table.specs.Good.{Good};
-ghost use Rattle.bound.specs.Bound.{boundMarked, boundAsked, saidBounded};
+ghost use Rattle.tablerules.specs.Table.{lent, front};
+ghost use Rattle.tablerules.specs.Good.{Good};
+ghost use Rattle.boundrules.specs.Bound.{boundMarked, boundAsked, saidBounded};
+use boundrules::Bounded;
 use refusals::Judgement;
 use refusals::Refusal;
-use tight::RoundsMost;
 use types::BorderRecord;
 use types::Header;
 use types::RowRecord;
-
-pub enum Bounded {
-    Rounds(RoundsMost),
-    Refused(Refusal),
-}
 
 // The bound of a good table: 13, and then the bound. The room to work in is made here, and not in `bound_in`, whose goals would spell it out.
 pub fn bound_good(

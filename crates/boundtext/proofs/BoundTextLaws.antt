@@ -13,10 +13,10 @@ use Rattle.text.specs.Left.{TextLeft, textLeft}
 use Rattle.text.specs.Written.{decimal}
 use Rattle.text.proofs.LeftLaws.{text-refused}
 use Rattle.text.proofs.PutLaws.{line-length, tabbed-length, tabbed-empty}
-use Rattle.tight.specs.declared.RoundsMost.{RoundsMost}
-use Rattle.bound.specs.declared.Bounded.{Bounded}
-use Rattle.bound.specs.declared.Bounded.the-variants as bounded
-use Rattle.bound.specs.Bound.{saidBounded}
+use Rattle.tightrules.specs.declared.RoundsMost.{RoundsMost}
+use Rattle.boundrules.specs.declared.Bounded.{Bounded}
+use Rattle.boundrules.specs.declared.Bounded.the-variants as bounded
+use Rattle.boundrules.specs.Bound.{saidBounded}
 use Rattle.boundtext.specs.BoundText.{boundLine, boundText, boundTextOf}
 
 pub bound-line-long : (n l rounds sharp : ℕ) → length (boundLine n l rounds sharp) ≡ 6 + length (decimal n) + length (decimal l) + length (decimal rounds) + length (decimal sharp)

@@ -4,7 +4,7 @@ use Prim.Native.Char.{code}
 use Prim.Native.Nat.{ℕ, _+_, _*_}
 use Rattle.refusals.specs.Refusals.{Judged, passed, then}
 use Rattle.text.specs.Written.{decimal, lineText}
-use Rattle.tight.specs.declared.RoundsMost.{RoundsMost}
+use Rattle.tightrules.specs.declared.RoundsMost.{RoundsMost}
 
 -- `U`, N, L, 2 N L, and the sharper bound
 abbrev pub boundLine : (n l rounds sharp : ℕ) → List ℕ

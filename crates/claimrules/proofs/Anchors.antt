@@ -7,9 +7,9 @@ use Rattle.numbers.specs.Ints.{sameℤ, inside, sumℤ}
 use Rattle.numbers.specs.Computed.{_is_, Hold}
 use Rattle.refusals.specs.Refusals.{passed, refused, refuseAt, refuseFirst, malformedClaim, notBorneOut}
 use Rattle.types.specs.Ranges.{exists}
-use Rattle.table.specs.Table.{stretch}
-use Rattle.states.specs.Standings.{Standings}
-use Rattle.states.specs.States.{kept}
+use Rattle.tablerules.specs.Table.{stretch}
+use Rattle.staterules.specs.Standings.{Standings}
+use Rattle.staterules.specs.States.{kept}
 use Rattle.claimrules.specs.Claims.{keptRow, claimedIn, citedBefore, pairGood, formedBy, formed, citedSum, ownSum, excess, level, borneOut, judgeClaims}
 
 -- two zones, four kept rows and one that is not. Row 2's factors are the sum of those of rows 0 and 1 and 7000 in each zone, row 3's twice those of row 0

@@ -11,9 +11,9 @@ use Rattle.numbers.specs.Ints.{sameℤ, inside, sumℤ}
 use Rattle.numbers.specs.Below.{someBelow, allBelow}
 use Rattle.refusals.specs.Refusals.{Judged, passed, then, refuseFirst, malformedClaim, notBorneOut}
 use Rattle.types.specs.Ranges.{atℤ, exists}
-use Rattle.table.specs.Table.{Table, stretch, judgeLent}
-use Rattle.states.specs.Standings.{Standings, standingsOf}
-use Rattle.states.specs.States.{kept}
+use Rattle.tablerules.specs.Table.{Table, stretch, judgeLent}
+use Rattle.staterules.specs.Standings.{Standings, standingsOf}
+use Rattle.staterules.specs.States.{kept}
 
 -- the most that D and a multiplier can be, and the most pairs
 abbrev pub timesMost : ℕ

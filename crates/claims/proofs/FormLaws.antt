@@ -16,11 +16,11 @@ use Rattle.numbers.specs.Below.{at, allBelow}
 use Rattle.numbers.proofs.BelowLaws.{sumℤ-cong}
 use Rattle.numbers.proofs.TestLaws.{and-both, all-true}
 use Rattle.numbers.proofs.IntLaws.{diff, diffs, zarith, ltZ-true, ltZ-false, within-le, within-mul, within-sum, inside-pos, between-within}
-use Rattle.margin.proofs.MagnitudeLaws.{within-sub}
+use Rattle.marginrules.proofs.MagnitudeLaws.{within-sub}
 use Rattle.types.specs.Ranges.{atℤ, exists}
 use Rattle.types.proofs.RangeLaws.{exists-test, exists-in}
-use Rattle.table.proofs.GoodLaws.{stretch-at}
-use Rattle.states.specs.States.{kept}
+use Rattle.tablerules.proofs.GoodLaws.{stretch-at}
+use Rattle.staterules.specs.States.{kept}
 use Rattle.claimrules.specs.Claims.{timesMost, pairsMost, claimedRow, denominator, pairs, citedRow, multiplier, keptRow, citedBefore, pairGood, formedBy, citedSum, ownSum, excess, factorAt}
 use Rattle.claims.specs.Magnitudes.{ClaimInRange, Lent, valueOf, valueMost}
 

@@ -17,15 +17,15 @@ use Rattle.refusals.specs.Answers.{saidJudgement}
 use Rattle.refusals.specs.Refusals.{passed, refused, unless, refuseFirst, malformedClaim, notBorneOut}
 use Rattle.refusals.proofs.RefusalLaws.{not-passed, first-found, first-none-next, then-refused, then-next}
 use Rattle.types.specs.Ranges.{atℤ}
-use Rattle.table.specs.declared.Room.the-variants.{None}
-use Rattle.table.specs.Table.{Table, front, judgeLent}
-use Rattle.table.specs.Good.{Good}
-use Rattle.table.proofs.GoodLaws.{told-judged}
-use Rattle.margin.specs.Margin.{ramAt}
-use Rattle.margin.proofs.JudgedLaws.{good-factors}
-use Rattle.margin.proofs.Small as small
-use Rattle.states.specs.Standings.{Standings, standingsOf, standingsWith}
-use Rattle.states.proofs.StandingsLaws.{rows-in}
+use Rattle.tablerules.specs.declared.Room.the-variants.{None}
+use Rattle.tablerules.specs.Table.{Table, front, judgeLent}
+use Rattle.tablerules.specs.Good.{Good}
+use Rattle.tablerules.proofs.GoodLaws.{told-judged}
+use Rattle.marginrules.specs.Margin.{ramAt}
+use Rattle.marginrules.proofs.JudgedLaws.{good-factors}
+use Rattle.marginrules.proofs.Small as small
+use Rattle.staterules.specs.Standings.{Standings, standingsOf, standingsWith}
+use Rattle.staterules.proofs.StandingsLaws.{rows-in}
 use Rattle.claimrules.specs.Claims.{claimedRow, formedBy, formed, borneOut, judgeClaims, claimsOf, claimsAnswer}
 use Rattle.claims.specs.Named.{namedRows, noneNamed, flagged, nameRow, judgeClaim}
 use Rattle.claims.specs.Magnitudes.{Lent, valueMost}

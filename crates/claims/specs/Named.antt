@@ -9,7 +9,7 @@ use Rattle.numbers.specs.Below.{table}
 use Rattle.limits.specs.Limits.{rowsMost}
 use Rattle.refusals.specs.Refusals.{Judged, passed, unless, malformedClaim, notBorneOut}
 use Rattle.types.specs.Ranges.{exists}
-use Rattle.states.specs.Standings.{Standings}
+use Rattle.staterules.specs.Standings.{Standings}
 use Rattle.claimrules.specs.Claims.{claimedIn, formedBy, borneOut}
 
 -- the rows that the first n claims name

@@ -8,9 +8,9 @@ ghost use Rattle.numbers.specs.Below.{allBelow};
 ghost use Rattle.limits.specs.Limits.{rowsMost};
 ghost use Rattle.refusals.specs.Answers.{saidJudgement};
 ghost use Rattle.types.specs.Ranges.{exists};
-ghost use Rattle.table.specs.Table.{lent, front};
-ghost use Rattle.table.specs.Good.{Good};
-ghost use Rattle.states.specs.Standings.{standingsOf, standingsWith};
+ghost use Rattle.tablerules.specs.Table.{lent, front};
+ghost use Rattle.tablerules.specs.Good.{Good};
+ghost use Rattle.staterules.specs.Standings.{standingsOf, standingsWith};
 ghost use Rattle.claimrules.specs.Claims.{pairsMost, citedRow, multiplier, pairs, keptRow, citedBefore, pairGood, formedBy, citedSum, excess, level, borneOut, judgeClaims, claimsOf, claimsAnswer};
 ghost use Rattle.claims.specs.Named.{namedRows, noneNamed, flagged, nameRow, judgeClaim};
 ghost use Rattle.claims.specs.Magnitudes.{ClaimInRange, Lent, valueOf};
@@ -326,7 +326,7 @@ pub fn judge_claims(
 ) -> Judgement
     ensures { λ r. ⌜ saidJudgement r (standingsOf (front (lent h (now (z .entry)) (now (t .entry)) (now (b .entry)) (now (c .entry)) (now (f .entry))))) ≡ claimsAnswer (lent h (now (z .entry)) (now (t .entry)) (now (b .entry)) (now (c .entry)) (now (f .entry))) (now (claims .entry)) ⌝ }
 {
-    let judged = table::judge(h, z, t, b, c, f, table::Room::None);
+    let judged = table::judge(h, z, t, b, c, f, tablerules::Room::None);
     let Judgement::Passed = judged else {
         return judged;
     };

@@ -9,8 +9,8 @@ use Rattle.numbers.specs.Computed.{_is_, Hold}
 use Rattle.text.specs.Shown.{shown}
 use Rattle.text.specs.Written.{textOf, decimal, decimalℤ, linesText}
 use Rattle.columns.specs.ColumnText.{fieldText, fieldsEnded, indexText, headText, columnsText}
-use Rattle.states.specs.Standings.{Standings}
-use Rattle.states.specs.States.{kept}
+use Rattle.staterules.specs.Standings.{Standings}
+use Rattle.staterules.specs.States.{kept}
 use Rattle.claimrules.specs.Claims.{claimedIn, remaining}
 use Rattle.claimline.specs.ClaimText.{claimItems}
 use Rattle.claimtext.specs.Published.{publishedLine, publishedText}

@@ -33,12 +33,12 @@ use Rattle.text.proofs.PutLaws.{lines-most, lines-cong}
 use Rattle.columns.specs.declared.Head.the-variants.{Indexed}
 use Rattle.columns.specs.ColumnText.{fieldText, fieldsLength, lineLength}
 use Rattle.columns.proofs.ColumnPut.{line-long}
-use Rattle.table.specs.declared.Room.the-variants.{None}
-use Rattle.table.specs.Table.{Table, front, judgeLent}
-use Rattle.table.specs.Good.{Good}
-use Rattle.table.proofs.GoodLaws.{judged-front, told-judged}
-use Rattle.states.specs.Standings.{Standings, standingsOf}
-use Rattle.states.specs.States.{kept}
+use Rattle.tablerules.specs.declared.Room.the-variants.{None}
+use Rattle.tablerules.specs.Table.{Table, front, judgeLent}
+use Rattle.tablerules.specs.Good.{Good}
+use Rattle.tablerules.proofs.GoodLaws.{judged-front, told-judged}
+use Rattle.staterules.specs.Standings.{Standings, standingsOf}
+use Rattle.staterules.specs.States.{kept}
 use Rattle.claimrules.specs.Claims.{claimedIn, judgeClaims, claimsOf, remaining}
 use Rattle.claims.specs.Named.{namedRows, flagged}
 use Rattle.claims.proofs.NameLaws.{exists-pos, flagged-named}

@@ -15,8 +15,8 @@ use Rattle.text.specs.Left.{TextLeft, textLeft}
 use Rattle.text.specs.Written.{linesText}
 use Rattle.columns.specs.declared.Head.the-variants.{Indexed}
 use Rattle.columns.specs.ColumnText.{columnsText}
-use Rattle.table.specs.Table.{Table, judgeLent}
-use Rattle.states.specs.Standings.{Standings}
+use Rattle.tablerules.specs.Table.{Table, judgeLent}
+use Rattle.staterules.specs.Standings.{Standings}
 use Rattle.claimrules.specs.Claims.{claimsOf, remaining}
 use Rattle.claimline.specs.ClaimText.{claimsIn}
 

@@ -3,7 +3,7 @@ use mathlib.Core.Bool.{Bool, not, _&&_}
 use mathlib.Core.List.{List}
 use Prim.Native.Nat.{ℕ}
 use lib.IntN.{pos}
-use Rattle.states.specs.States.{kept}
+use Rattle.staterules.specs.States.{kept}
 use Rattle.claims.specs.Named.{flagged}
 
 -- the kept rows whose flag is not set

@@ -6,7 +6,7 @@ ghost use Prim.Native.Nat.{_≤_};
 ghost use lib.ListN.{length};
 ghost use Rattle.limits.specs.Limits.{rowsMost};
 ghost use Rattle.refusals.specs.Answers.{saidJudgement};
-ghost use Rattle.states.specs.Standings.{standingsWith};
+ghost use Rattle.staterules.specs.Standings.{standingsWith};
 ghost use Rattle.claimrules.specs.Claims.{judgeClaims};
 ghost use Rattle.claims.specs.Named.{namedRows, noneNamed};
 ghost use Rattle.claims.specs.Magnitudes.{Lent};

@@ -5,8 +5,8 @@ mod published;
 ghost use mathlib.Core.Path.{_≡_};
 ghost use lib.ListN.{length};
 ghost use Rattle.text.specs.Left.{textLeft, textSaid};
-ghost use Rattle.table.specs.Table.{lent, front};
-ghost use Rattle.table.specs.Good.{Good};
+ghost use Rattle.tablerules.specs.Table.{lent, front};
+ghost use Rattle.tablerules.specs.Good.{Good};
 ghost use Rattle.claims.specs.Named.{noneNamed};
 ghost use Rattle.claimline.specs.ClaimText.{claimsIn};
 ghost use Rattle.claimtext.specs.Published.{publishedOf, publishedLeft};
@@ -36,7 +36,7 @@ pub fn published_text(
     if text::BYTES_MOST < list.len() {
         return Written::Refused(Refusal::too_long());
     }
-    if let Judgement::Refused(w) = table::judge(h, z, t, b, c, f, table::Room::None) {
+    if let Judgement::Refused(w) = table::judge(h, z, t, b, c, f, tablerules::Room::None) {
         return Written::Refused(w);
     }
     published_text_good(h, z, t, b, c, f, list, out)

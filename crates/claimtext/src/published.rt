@@ -6,7 +6,7 @@ ghost use Rattle.limits.specs.Limits.{rowsMost};
 ghost use Rattle.refusals.specs.Refusals.{passed};
 ghost use Rattle.text.specs.Left.{textLeft, textSaid};
 ghost use Rattle.text.specs.Put.{Put};
-ghost use Rattle.states.specs.Standings.{standingsWith};
+ghost use Rattle.staterules.specs.Standings.{standingsWith};
 ghost use Rattle.claimtext.specs.Published.{rowLine, lineMost, publishedLine, publishedText};
 ghost use Rattle.claimtext.specs.Unflagged.{unflagged};
 use columns::Head;

@@ -7,7 +7,7 @@ use Rattle.refusals.specs.declared.Judgement.the-variants as judgement
 use Rattle.refusals.specs.Answers.{saidJudgement}
 use Rattle.refusals.specs.Refusals.{Judged}
 use Rattle.rowsheet.specs.RowSheet.{RowsLeft, rowsSaid}
-use Rattle.parts.specs.Parts.{MarginsLeft, leaves}
+use Rattle.partrules.specs.Parts.{MarginsLeft, leaves}
 use Rattle.coded.specs.declared.KeravnothJudged.{KeravnothJudged}
 use Rattle.coded.specs.Coded.{codedJudged, codedRuling, rowsFound, rowsCoded, marginsFound, marginsCoded}
 

@@ -1,16 +1,16 @@
 // What the calls for C answer (include/keravnoth.h): an answer as numbers, the refusal's first, all 0 where there is none.
 ghost use mathlib.Core.Path.{_≡_};
 ghost use Rattle.refusals.specs.Answers.{saidWritten};
-ghost use Rattle.corners.specs.Answers.{saidFlows};
-ghost use Rattle.extraction.specs.Answers.{saidExtracted};
+ghost use Rattle.cornerrules.specs.Answers.{saidFlows};
+ghost use Rattle.extractrules.specs.Answers.{saidExtracted};
 ghost use Rattle.reading.specs.Answers.{saidRead};
-ghost use Rattle.bound.specs.Bound.{saidBounded};
+ghost use Rattle.boundrules.specs.Bound.{saidBounded};
 ghost use Rattle.why.specs.Why.{saidExplained};
 ghost use Rattle.coded.specs.Coded.{codedRead, codedWritten, codedAnswered, codedExtracted, codedFlows, codedRuling, codedBounded, codedExplained};
 use answer::Answered;
-use bound::Bounded;
-use corners::Flows;
-use extraction::Extracted;
+use boundrules::Bounded;
+use cornerrules::Flows;
+use extractrules::Extracted;
 use reading::TableRead;
 use refusals::Judgement;
 use refusals::Written;

@@ -7,27 +7,19 @@ ghost use Prim.Native.Nat.{_+_, _^_, _<_, _≤_};
 ghost use lib.ListN.{length, take};
 ghost use Rattle.numbers.specs.Ints.{Within, AllWithin};
 ghost use Rattle.types.specs.Ranges.{borderFits, borderOf};
-ghost use Rattle.table.specs.Table.{lent, front, stretch};
-ghost use Rattle.table.specs.Good.{Good};
-ghost use Rattle.margin.specs.Magnitudes.{FactorsInRange, TableFactorsInRange, BordersInRange};
-ghost use Rattle.margin.specs.Margin.{cornerPart};
-ghost use Rattle.corners.specs.Corners.{sheetBordersMost, raisedBy, flowsOf, judgeCornerSheet, flowsLeft, sheetLeft, cornersLeft};
-ghost use Rattle.corners.specs.Listed.{partMost, cornerFlowMost, FlowsListed};
-ghost use Rattle.corners.specs.Answers.{saidFlows};
+ghost use Rattle.tablerules.specs.Table.{lent, front, stretch};
+ghost use Rattle.tablerules.specs.Good.{Good};
+ghost use Rattle.marginrules.specs.Magnitudes.{FactorsInRange, TableFactorsInRange, BordersInRange};
+ghost use Rattle.marginrules.specs.Margin.{cornerPart};
+ghost use Rattle.cornerrules.specs.Corners.{sheetBordersMost, raisedBy, flowsOf, judgeCornerSheet, flowsLeft, sheetLeft, cornersLeft};
+ghost use Rattle.cornerrules.specs.Listed.{partMost, cornerFlowMost, FlowsListed};
+ghost use Rattle.cornerrules.specs.Answers.{saidFlows};
+use cornerrules::Flows;
 use refusals::Judgement;
 use refusals::Refusal;
 use types::BorderRecord;
 use types::Header;
 use types::RowRecord;
-
-// What `corner_flows` answers: the corners whose flows were filled in, or why there is no sheet.
-pub enum Flows {
-    Corners(usize),
-    Refused(Refusal),
-}
-
-// A sheet is made for at most so many borders.
-pub const BORDERS_MOST: usize = 12;
 
 // The flows of all corners on one row, by the corner's number. Any input has an answer: there is no `requires`.
 pub fn corner_flows(
@@ -42,7 +34,7 @@ pub fn corner_flows(
 ) -> Flows
     ensures { λ r. ⌜ flowsLeft (saidFlows r) (now (out .exit)) ≡ cornersLeft (lent h (now (z .entry)) (now (t .entry)) (now (b .entry)) (now (c .entry)) (now (f .entry))) row (now (out .entry)) ⌝ }
 {
-    if let Judgement::Refused(w) = table::judge(h, z, t, b, c, f, table::Room::None) {
+    if let Judgement::Refused(w) = table::judge(h, z, t, b, c, f, tablerules::Room::None) {
         return Flows::Refused(w);
     }
     corner_flows_good(h, z, t, b, c, f, row, out)
@@ -63,7 +55,7 @@ pub fn corner_flows_good(
     ensures { λ r. ⌜ flowsLeft (saidFlows r) (now (out .exit)) ≡ sheetLeft (judgeCornerSheet (front (lent h (now (z .entry)) (now (t .entry)) (now (b .entry)) (now (c .entry)) (now (f .entry)))) row) row (now (out .entry)) ⌝ }
 {
     let borders = h.borders;
-    if BORDERS_MOST < borders {
+    if cornerrules::BORDERS_MOST < borders {
         return Flows::Refused(Refusal::no_corners(borders));
     }
     if h.rows <= row {

@@ -26,13 +26,13 @@ use Rattle.text.proofs.LeftLaws.{text-refused}
 use Rattle.columns.specs.declared.Head.the-variants.{Indexed}
 use Rattle.columns.specs.ColumnText.{fieldText, fieldsLength, lineLength}
 use Rattle.columns.proofs.ColumnPut.{line-long}
-use Rattle.table.specs.Table.{Table, front, factorsAt, judgeLent}
-use Rattle.table.specs.Good.{Good}
-use Rattle.corners.specs.declared.Flows.{Flows}
-use Rattle.corners.specs.declared.Flows.the-variants as flows
-use Rattle.corners.specs.Corners.{flowsOf, judgeCornerSheet, judgeCorners, FlowsLeft, flowsLeft, sheetLeft}
-use Rattle.corners.specs.Answers.{saidFlows}
-use Rattle.corners.proofs.SheetLaws.{flows-long, passed-sheet, sheet-refused, sheet-all, corners-passed}
+use Rattle.tablerules.specs.Table.{Table, front, factorsAt, judgeLent}
+use Rattle.tablerules.specs.Good.{Good}
+use Rattle.cornerrules.specs.declared.Flows.{Flows}
+use Rattle.cornerrules.specs.declared.Flows.the-variants as flows
+use Rattle.cornerrules.specs.Corners.{flowsOf, judgeCornerSheet, judgeCorners, FlowsLeft, flowsLeft, sheetLeft}
+use Rattle.cornerrules.specs.Answers.{saidFlows}
+use Rattle.cornerrules.proofs.SheetLaws.{flows-long, passed-sheet, sheet-refused, sheet-all, corners-passed}
 use Rattle.cornertext.specs.CornerText.{sheetMost, cornerColumns, cornerLine, lineMost, cornersText, sheetTextOf, cornerTextLeft}
 
 -- ---- a line's length

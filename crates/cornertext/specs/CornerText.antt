@@ -12,8 +12,8 @@ use Rattle.text.specs.Left.{TextLeft, textLeft}
 use Rattle.text.specs.Written.{linesText}
 use Rattle.columns.specs.declared.Head.the-variants.{Indexed}
 use Rattle.columns.specs.ColumnText.{columnsText}
-use Rattle.table.specs.Table.{Table, factorsAt}
-use Rattle.corners.specs.Corners.{sheetBordersMost, flowsOf, judgeCorners}
+use Rattle.tablerules.specs.Table.{Table, factorsAt}
+use Rattle.cornerrules.specs.Corners.{sheetBordersMost, flowsOf, judgeCorners}
 
 -- a sheet has at most so many corners
 abbrev pub sheetMost : ℕ

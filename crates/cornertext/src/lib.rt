@@ -6,12 +6,12 @@ ghost use lib.ListN.{length};
 ghost use Rattle.refusals.specs.Refusals.{passed};
 ghost use Rattle.text.specs.Left.{textLeft, textSaid};
 ghost use Rattle.text.specs.Put.{Put};
-ghost use Rattle.table.specs.Table.{lent, front};
-ghost use Rattle.table.specs.Good.{Good};
-ghost use Rattle.corners.specs.Corners.{judgeCornerSheet};
+ghost use Rattle.tablerules.specs.Table.{lent, front};
+ghost use Rattle.tablerules.specs.Good.{Good};
+ghost use Rattle.cornerrules.specs.Corners.{judgeCornerSheet};
 ghost use Rattle.cornertext.specs.CornerText.{sheetMost, lineMost, cornerLine, cornersText, sheetTextOf, cornerTextLeft};
 use columns::Head;
-use corners::Flows;
+use cornerrules::Flows;
 use refusals::Judgement;
 use refusals::Refusal;
 use refusals::Written;
@@ -23,7 +23,7 @@ use types::RowRecord;
 const COLUMNS: [u8; 2] = *b"ns";
 
 // The corners of twelve borders.
-pub const SHEET_MOST: usize = 1 << corners::BORDERS_MOST;
+pub const SHEET_MOST: usize = 1 << cornerrules::BORDERS_MOST;
 
 // The corner sheet of a row of a lent table, as text. Any input has an answer: there is no `requires`.
 pub fn corner_text(
@@ -38,7 +38,7 @@ pub fn corner_text(
 ) -> Written
     ensures { λ r. ⌜ textSaid r (now (out .exit)) ≡ cornerTextLeft (lent h (now (z .entry)) (now (t .entry)) (now (b .entry)) (now (c .entry)) (now (f .entry))) row (now (out .entry)) ⌝ }
 {
-    if let Judgement::Refused(w) = table::judge(h, z, t, b, c, f, table::Room::None) {
+    if let Judgement::Refused(w) = table::judge(h, z, t, b, c, f, tablerules::Room::None) {
         return Written::Refused(w);
     }
     corner_text_good(h, z, t, b, c, f, row, out)

@@ -22,7 +22,7 @@ use Rattle.text.specs.Written.{decimal}
 use Rattle.text.proofs.NumberTrip.{number-read, number-written}
 use Rattle.columns.specs.ColumnText.{fieldsEnded, indexText, headText, columnsText}
 use Rattle.columns.proofs.ColumnTrip.{LineRead, judged-read}
-use Rattle.table.specs.Table.{rowGood}
+use Rattle.tablerules.specs.Table.{rowGood}
 use Rattle.lines.specs.RowKinds.{semicolon, sepBy, headBy, columnsBy, badBy, outBy}
 use Rattle.lines.specs.Lines.{RowLine, row}
 use Rattle.lines.specs.SaidRow.{lineBy}

@@ -15,10 +15,10 @@ use Rattle.refusals.specs.Refusals.{Judged, passed, refused, then, either}
 use Rattle.types.specs.declared.Header.{Header}
 use Rattle.types.proofs.RangeLaws.{header-in}
 use Rattle.marks.specs.Marks.{mayRise}
-use Rattle.table.specs.Table.{Table}
-use Rattle.extraction.specs.Extraction.{Result, resultMarked, outcomeFor, atcOf}
-use Rattle.extraction.proofs.AcceptedLaws.{accepted}
-use Rattle.extraction.proofs.MarkedLaws.{for-is}
+use Rattle.tablerules.specs.Table.{Table}
+use Rattle.extractrules.specs.Extraction.{Result, resultMarked, outcomeFor, atcOf}
+use Rattle.extractrules.proofs.AcceptedLaws.{accepted}
+use Rattle.extractrules.proofs.MarkedLaws.{for-is}
 use Rattle.reading.specs.Reading.{readText}
 use Rattle.reading.proofs.EmptySheet.{empty-sheet}
 use Rattle.reading.proofs.CorrectedLaws.{corrected-good}

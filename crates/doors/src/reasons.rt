@@ -1,9 +1,9 @@
 // The open call `why` on a lent table, for every border and with marks (02, E13).
 ghost use mathlib.Core.Path.{_≡_};
-ghost use Rattle.table.specs.Table.{lent};
+ghost use Rattle.tablerules.specs.Table.{lent};
 ghost use Rattle.why.specs.Why.{saidExplained, leaves, whyFor, whyLeft, whyMarkedLeft};
 use refusals::Judgement;
-use table::Room;
+use tablerules::Room;
 use types::BorderRecord;
 use types::Header;
 use types::RowRecord;

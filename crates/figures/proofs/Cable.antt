@@ -6,11 +6,11 @@ use Prim.Native.String.{String}
 use lib.IntN.{pos}
 use Rattle.numbers.specs.Ints.{minus}
 use Rattle.refusals.specs.Refusals.{passed, refused, either, outOfRange}
-use Rattle.margin.specs.Margin.{sOf}
+use Rattle.marginrules.specs.Margin.{sOf}
 use Rattle.reading.specs.Reading.{readText}
 use Rattle.writing.specs.Writing.{tableText}
-use Rattle.start.specs.Start.{every}
-use Rattle.extraction.specs.Extraction.{outcomeOf, nOf, lOf}
+use Rattle.extractrules.specs.Start.{every}
+use Rattle.extractrules.specs.Extraction.{outcomeOf, nOf, lOf}
 use Rattle.answer.specs.Result.{answerText}
 use Rattle.numbers.specs.Computed.{_is_, Hold}
 use Rattle.figures.specs.Computing.{computing}

@@ -8,12 +8,12 @@ use Rattle.numbers.specs.Below.{ifZero, sum, table, firstFrom, given}
 use Rattle.numbers.specs.Ints.{minus, maxℤ, minℤ, positivePart, sameℤ, inside, sumℤ}
 use Rattle.refusals.specs.Refusals.{Judged, passed, refused, refusal, then, unless, refuseAt, refuseFirst, need}
 use Rattle.types.specs.Ranges.{headerFits, allocatedItems, zoneFits, exists, hubsFit, hubsOf, borderFits, borderOf, shareOf, rowOf, rowFits, factorFits, worth, defaultOf}
-use Rattle.table.specs.Table.{Table, stretch, balanced, twice, roomFor, judgeShape, judgeFor}
-use Rattle.margin.specs.Margin.{grains, f0coreOf, fuafOf, baseOf, amrOf, signedFactor, pOf, ltaKw, sOf, ltaMarginOf, ramOf, ramAt}
-use Rattle.states.specs.States.{highest, lowest, spreadOf, shifted, below, stateOf, kept}
-use Rattle.states.specs.Standings.{Standings, standingsOf}
+use Rattle.tablerules.specs.Table.{Table, stretch, balanced, twice, roomFor, judgeShape, judgeFor}
+use Rattle.marginrules.specs.Margin.{grains, f0coreOf, fuafOf, baseOf, amrOf, signedFactor, pOf, ltaKw, sOf, ltaMarginOf, ramOf, ramAt}
+use Rattle.staterules.specs.States.{highest, lowest, spreadOf, shifted, below, stateOf, kept}
+use Rattle.staterules.specs.Standings.{Standings, standingsOf}
 use Rattle.setup.specs.Setup.{gridBy, judgeBy}
-use Rattle.start.specs.Start.{every, setupWith, judgeMarked}
+use Rattle.extractrules.specs.Start.{every, setupWith, judgeMarked}
 use Rattle.claimrules.specs.Claims.{judgeClaims, claimsOf, claimsAnswer}
 
 -- border 0 to 1 with an LTA of 100 MW, so many times, and a row of Fmax 10000 kW with this IVA and factors

@@ -6,9 +6,9 @@ use lib.IntN.{ℤ, pos}
 use lib.ListN.{replicate, take}
 use Rattle.numbers.specs.Ints.{minus}
 use Rattle.refusals.specs.Refusals.{passed, refused, outOfRange, givenTwice, noCorners, tooShort}
-use Rattle.table.specs.Table.{Table, lent}
-use Rattle.margin.specs.Margin.{sOf}
-use Rattle.corners.specs.Corners.{judgeCorners, cornersLeft}
+use Rattle.tablerules.specs.Table.{Table, lent}
+use Rattle.marginrules.specs.Margin.{sOf}
+use Rattle.cornerrules.specs.Corners.{judgeCorners, cornersLeft}
 use Rattle.cornertext.specs.CornerText.{cornerTextLeft}
 use Rattle.sheets.specs.Sheets.{oneSheet, everySheet}
 use Rattle.numbers.specs.Computed.{_is_, Hold}

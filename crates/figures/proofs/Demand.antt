@@ -8,12 +8,12 @@ use lib.Dec.{lit≤, lit<}
 use lib.IntN.{pos, _-ℤ_}
 use lib.Signed.{_≤ℤ_}
 use Rattle.refusals.specs.Refusals.{passed}
-use Rattle.table.specs.Table.{judgeLent}
-use Rattle.table.proofs.GoodLaws.{judged-good}
+use Rattle.tablerules.specs.Table.{judgeLent}
+use Rattle.tablerules.proofs.GoodLaws.{judged-good}
 use Rattle.rounds.specs.Rounds.{State, next}
-use Rattle.margin.specs.Margin.{ramAt}
-use Rattle.start.specs.Start.{every, tableGrid, tableStart}
-use Rattle.extraction.specs.Extraction.{Result, atcOf, leftOf, outcomeOf}
+use Rattle.marginrules.specs.Margin.{ramAt}
+use Rattle.extractrules.specs.Start.{every, tableGrid, tableStart}
+use Rattle.extractrules.specs.Extraction.{Result, atcOf, leftOf, outcomeOf}
 use Rattle.promises.specs.Demand.{loadOf, UpTo, WithinAtcs, ResultDemand3}
 use Rattle.theorems.proofs.Demand3.{accepted-demand-3, atcs-up-to}
 use Rattle.figures.specs.Computing.{computing}

@@ -20,14 +20,14 @@ use Rattle.rounds.specs.Rounds.{Grid, sharers, raise}
 use Rattle.rounds.proofs.LeastLaws.{div-swap}
 use Rattle.rounds.proofs.Rounds.{extracts}
 use Rattle.theorems.proofs.Rounds as rounds
-use Rattle.table.specs.Table.{Table, factorsAt}
-use Rattle.margin.specs.Margin.{f0coreOf, sOf, ramOf, ramAt, ramsOf}
-use Rattle.states.specs.States.{spreadOf, shifted, below, stateOf}
+use Rattle.tablerules.specs.Table.{Table, factorsAt}
+use Rattle.marginrules.specs.Margin.{f0coreOf, sOf, ramOf, ramAt, ramsOf}
+use Rattle.staterules.specs.States.{spreadOf, shifted, below, stateOf}
 use Rattle.theorems.proofs.ShiftLaws.{shifted-self}
 use Rattle.setup.specs.Setup.{gridBy}
-use Rattle.start.specs.Start.{every, tableGrid, tableStart, setupWith}
-use Rattle.extraction.specs.Extraction.{Result, resultMarked, outcomeOf}
-use Rattle.extraction.proofs.AcceptedLaws.{accepted}
+use Rattle.extractrules.specs.Start.{every, tableGrid, tableStart, setupWith}
+use Rattle.extractrules.specs.Extraction.{Result, resultMarked, outcomeOf}
+use Rattle.extractrules.proofs.AcceptedLaws.{accepted}
 
 -- ---- spread
 -- no row is below itself

@@ -5,8 +5,8 @@ use Prim.Native.Nat.{_*_}
 use Rattle.refusals.specs.Refusals.{passed, either}
 use Rattle.reading.specs.Reading.{readText}
 use Rattle.writing.specs.Writing.{tableText}
-use Rattle.start.specs.Start.{every}
-use Rattle.extraction.specs.Extraction.{outcomeOf, nOf, lOf}
+use Rattle.extractrules.specs.Start.{every}
+use Rattle.extractrules.specs.Extraction.{outcomeOf, nOf, lOf}
 use Rattle.answer.specs.Result.{answerText}
 use Rattle.numbers.specs.Computed.{_is_, Hold}
 use Rattle.figures.specs.Computing.{computing}

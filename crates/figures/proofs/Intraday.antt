@@ -10,12 +10,12 @@ use Rattle.numbers.specs.Ints.{minus}
 use Rattle.refusals.specs.Refusals.{passed, refused, refusal, either}
 use Rattle.text.specs.Shown.{shown}
 use Rattle.text.specs.Written.{decimal}
-use Rattle.table.specs.Table.{Table, judgeLent}
-use Rattle.table.proofs.GoodLaws.{judged-good}
+use Rattle.tablerules.specs.Table.{Table, judgeLent}
+use Rattle.tablerules.proofs.GoodLaws.{judged-good}
 use Rattle.reading.specs.Reading.{balanceByte, readText}
 use Rattle.writing.specs.Writing.{tableText}
-use Rattle.start.specs.Start.{every}
-use Rattle.extraction.specs.Extraction.{outcomeOf, resultOf}
+use Rattle.extractrules.specs.Start.{every}
+use Rattle.extractrules.specs.Extraction.{outcomeOf, resultOf}
 use Rattle.promises.specs.Demand.{ResultDemand3}
 use Rattle.theorems.proofs.Demand3.{accepted-demand-3}
 use Rattle.answer.specs.Result.{answerText}

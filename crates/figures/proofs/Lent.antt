@@ -7,10 +7,10 @@ use lib.ListN.{replicate, take, drop}
 use Rattle.numbers.specs.Ints.{minus}
 use Rattle.refusals.specs.Refusals.{passed, refused, wrongFormAt, wrongForm, outOfRangeAt, outOfRange, givenTwice, unlimited, belowZero, tooShort, badMark}
 use Rattle.types.specs.declared.Header.{Header}
-use Rattle.table.specs.Table.{lent}
+use Rattle.tablerules.specs.Table.{lent}
 use Rattle.reading.specs.Reading.{readLeft}
 use Rattle.writing.specs.Writing.{tableText, writeLeft}
-use Rattle.extraction.specs.Extraction.{extractLeft}
+use Rattle.extractrules.specs.Extraction.{extractLeft}
 use Rattle.answer.specs.Result.{resultTextLeft, resultTextMarkedLeft, answerLeft}
 use Rattle.numbers.specs.Computed.{_is_, Hold}
 use Rattle.figures.specs.Computing.{computing}

@@ -12,19 +12,19 @@ use lib.Signed.{ltZ, _≤ℤ_}
 use Rattle.numbers.specs.Ints.{minus}
 use Rattle.refusals.specs.Refusals.{passed}
 use Rattle.types.specs.Ranges.{atℤ}
-use Rattle.table.specs.Table.{Table, lent, factorsAt}
-use Rattle.table.specs.Good.{Good}
-use Rattle.table.proofs.GoodLaws.{judged-good}
+use Rattle.tablerules.specs.Table.{Table, lent, factorsAt}
+use Rattle.tablerules.specs.Good.{Good}
+use Rattle.tablerules.proofs.GoodLaws.{judged-good}
 use Rattle.promises.specs.LargestCorner.{LargestCorner}
-use Rattle.margin.specs.Margin.{cornerSum, ramAt, ramsOf}
+use Rattle.marginrules.specs.Margin.{cornerSum, ramAt, ramsOf}
 use Rattle.theorems.proofs.LargestCorner.{s-largest-corner}
-use Rattle.margin.proofs.JudgedLaws.{good-factors}
-use Rattle.margin.proofs.Small.{named-values-small}
-use Rattle.corners.specs.Corners.{flowsOf, bit, Stands}
+use Rattle.marginrules.proofs.JudgedLaws.{good-factors}
+use Rattle.marginrules.proofs.Small.{named-values-small}
+use Rattle.cornerrules.specs.Corners.{flowsOf, bit, Stands}
 use Rattle.theorems.proofs.CornerSheet.{every-corner-stands}
 use Rattle.theorems.proofs.OneKept.{OneKept, one-kept}
-use Rattle.states.specs.Standings.{Standings, standingsOf}
-use Rattle.extraction.specs.Extraction.{outcomeFor}
+use Rattle.staterules.specs.Standings.{Standings, standingsOf}
+use Rattle.extractrules.specs.Extraction.{outcomeFor}
 use Rattle.promises.specs.Replaced.{replaced, ReplacedSame}
 use Rattle.theorems.proofs.ReplacedSame.{replaced-same}
 use Rattle.figures.specs.Computing.{computing}

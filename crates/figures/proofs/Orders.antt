@@ -6,10 +6,10 @@ use Prim.Native.Nat.{ℕ}
 use lib.IntN.{ℤ, pos}
 use lib.ListN.{replicate, take}
 use Rattle.refusals.specs.Refusals.{Judged, refused, refusal}
-use Rattle.table.specs.Table.{Table, lent, judgeLent}
+use Rattle.tablerules.specs.Table.{Table, lent, judgeLent}
 use Rattle.reading.specs.Reading.{readLeft}
 use Rattle.writing.specs.Writing.{writeLeft}
-use Rattle.extraction.specs.Extraction.{extractLeft}
+use Rattle.extractrules.specs.Extraction.{extractLeft}
 use Rattle.numbers.specs.Computed.{_is_, Hold}
 use Rattle.figures.specs.Computing.{computing}
 use Rattle.text.specs.Shown.{shown}

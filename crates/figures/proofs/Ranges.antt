@@ -6,7 +6,7 @@ use Prim.Native.Nat.{ℕ}
 use lib.IntN.{pos}
 use Rattle.numbers.specs.Ints.{minus}
 use Rattle.refusals.specs.Refusals.{passed, refused, outOfRange}
-use Rattle.table.specs.Table.{Table}
+use Rattle.tablerules.specs.Table.{Table}
 use Rattle.reading.specs.Reading.{readText}
 use Rattle.writing.specs.Writing.{tableText}
 use Rattle.answer.specs.Result.{answerText}

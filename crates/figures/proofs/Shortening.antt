@@ -4,9 +4,9 @@ use mathlib.Core.Bool.{true}
 use mathlib.Core.List.{List, [], _∷_}
 use Prim.Native.Nat.{ℕ, _-_}
 use Rattle.refusals.specs.Refusals.{Judged, passed, then}
-use Rattle.table.specs.Table.{Table}
+use Rattle.tablerules.specs.Table.{Table}
 use Rattle.rounds.specs.Rounds.{Outcome}
-use Rattle.extraction.specs.Extraction.{Result, outcomeOf}
+use Rattle.extractrules.specs.Extraction.{Result, outcomeOf}
 use Rattle.promises.specs.Taking.{outcomeTaking, unshortened}
 use Rattle.promises.specs.Order.{reorder}
 use Rattle.numbers.specs.Computed.{_is_, Hold}

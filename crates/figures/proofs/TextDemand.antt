@@ -21,9 +21,9 @@ use Rattle.text.specs.Shown.{shown}
 use Rattle.text.specs.Written.{textOf, decimal, decimalℤ, lineText, linesText}
 use Rattle.columns.specs.ColumnText.{fieldText, fieldsEnded, indexText, headText, columnsText}
 use Rattle.text.proofs.NumberTrip.{under-pow, digits-app, decimal-digits, text-value}
-use Rattle.table.specs.Table.{Table}
+use Rattle.tablerules.specs.Table.{Table}
 use Rattle.reading.specs.Reading.{readCorrected}
-use Rattle.extraction.specs.Extraction.{Result, nOf, lOf, atcOf, lastOf, stopOf, atcRecord, rowRecord}
+use Rattle.extractrules.specs.Extraction.{Result, nOf, lOf, atcOf, lastOf, stopOf, atcRecord, rowRecord}
 use Rattle.promises.specs.Demand.{ResultDemand3}
 use Rattle.promises.specs.Stopped.{StoppedBy}
 use Rattle.result.specs.Records.{atcAt, marginAt, recordsText}

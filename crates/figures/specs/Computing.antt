@@ -4,16 +4,16 @@ use Rattle.promises.specs.Demand.{loadOf}
 use Rattle.promises.specs.Order.{reorder}
 use Rattle.promises.specs.Taking.{resultIn, outcomeIn, outcomeTaking, unshortened}
 use Rattle.marks.specs.Marks.{markedBy, faultyMark, judgeMarks}
-use Rattle.states.specs.Standings.{standingsOf}
+use Rattle.staterules.specs.Standings.{standingsOf}
 use Rattle.setup.specs.Setup.{gridBy, beginBy, judgeBy, endBy}
-use Rattle.start.specs.Start.{gridOf, startOf, judgeStart, setupWith}
-use Rattle.extraction.specs.Extraction.{resultOf, atcOf, leftOf, lastOf, stopOf, outcomeOf, nOf, lOf, atcRecord, rowRecord, extractFor, extractLeft, extractMarkedLeft, outcomeFor, outcomeMarked, resultMarked}
-use Rattle.corners.specs.Corners.{raisedBy, cornerFlows, judgeCorners, sheetLeft, cornersLeft}
+use Rattle.extractrules.specs.Start.{gridOf, startOf, judgeStart, setupWith}
+use Rattle.extractrules.specs.Extraction.{resultOf, atcOf, leftOf, lastOf, stopOf, outcomeOf, nOf, lOf, atcRecord, rowRecord, extractFor, extractLeft, extractMarkedLeft, outcomeFor, outcomeMarked, resultMarked}
+use Rattle.cornerrules.specs.Corners.{raisedBy, cornerFlows, judgeCorners, sheetLeft, cornersLeft}
 use Rattle.cornertext.specs.CornerText.{cornersText, cornerTextLeft}
 use Rattle.refusals.specs.Refusals.{then, either, unless, refuseAt, refuseFirst, need}
 use Rattle.types.specs.Ranges.{headerFits, allocatedItems, zoneFits, exists, hubsFit, hubsOf, borderFits, borderOf, shareOf, rowOf, rowFits, factorFits, worth, defaultOf}
-use Rattle.margin.specs.Margin.{grains, f0coreOf, fuafOf, baseOf, amrOf, signedFactor, pOf, ltaKw, cornerPart, cornerSum, sOf, ltaMarginOf, ramOf, ramAt}
-use Rattle.states.specs.States.{highest, lowest, spreadOf, shifted, below, stateOf, kept}
+use Rattle.marginrules.specs.Margin.{grains, f0coreOf, fuafOf, baseOf, amrOf, signedFactor, pOf, ltaKw, cornerPart, cornerSum, sOf, ltaMarginOf, ramOf, ramAt}
+use Rattle.staterules.specs.States.{highest, lowest, spreadOf, shifted, below, stateOf, kept}
 use Rattle.numbers.specs.Below.{ifZero, sum, count, largest, lesser, least, orZero, table, firstFrom, given}
 use Rattle.numbers.specs.Ints.{maxℤ, minℤ, positivePart, sameℤ, inside, sumℤ}
 use Rattle.lines.specs.Lines.{headerLine, positionLine, borderLine, rowLine}
@@ -25,7 +25,7 @@ use Rattle.answer.specs.Result.{resultText, answerFor, answerText, resultTextFo
 use Rattle.result.specs.Records.{recordsText}
 use Rattle.result.specs.Refusal.{refusalText}
 use Rattle.rounds.specs.Rounds.{sharers, raise, alone, raises, load, lowered, risen, apply, next, raised, counted, run, extract, mostSharers, bitsTo, bits, aloneBits}
-use Rattle.table.specs.Table.{stretch, balanced, twice, roomFor, judgeShape, judgeFor}
+use Rattle.tablerules.specs.Table.{stretch, balanced, twice, roomFor, judgeShape, judgeFor}
 use Rattle.rounds.specs.Last.{after, raiseIn, lastTo, lastRound}
 use Rattle.rounds.specs.Stopping.{stopRow}
 use Rattle.columns.specs.Columns.{fieldAt, fieldsAt}

@@ -11,11 +11,11 @@ use Rattle.refusals.specs.Refusals.{passed}
 use Rattle.types.specs.declared.Row.{Row}
 use Rattle.types.specs.declared.Share.the-variants.{Written}
 use Rattle.rounds.specs.Rounds.{Grid, sharers, raise}
-use Rattle.table.specs.Table.{Table, factorsAt}
-use Rattle.margin.specs.Margin.{grains, baseOf, amrOf, ramAt, ramsOf}
-use Rattle.states.specs.States.{spreadOf, stateOf}
-use Rattle.states.specs.Standings.{standingsOf}
-use Rattle.extraction.specs.Extraction.{Result, outcomeOf}
+use Rattle.tablerules.specs.Table.{Table, factorsAt}
+use Rattle.marginrules.specs.Margin.{grains, baseOf, amrOf, ramAt, ramsOf}
+use Rattle.staterules.specs.States.{spreadOf, stateOf}
+use Rattle.staterules.specs.Standings.{standingsOf}
+use Rattle.extractrules.specs.Extraction.{Result, outcomeOf}
 use Rattle.answer.specs.Result.{answerText}
 use Rattle.text.specs.Shown.{shown}
 use Rattle.figures.specs.Borders.{plainBorder}

@@ -5,7 +5,7 @@ use Prim.Native.String.{String}
 use lib.IntN.{ℤ, pos}
 use Rattle.numbers.specs.Ints.{minus}
 use Rattle.refusals.specs.Refusals.{Judged}
-use Rattle.table.specs.Table.{Table, judgeLent}
+use Rattle.tablerules.specs.Table.{Table, judgeLent}
 use Rattle.answer.specs.Result.{answerText}
 use Rattle.text.specs.Shown.{shown}
 use Rattle.figures.specs.Borders.{plainBorder}

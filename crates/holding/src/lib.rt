@@ -31,8 +31,8 @@ pub fn holder(rows: usize, borders: usize, p: &[u64], ns: &[u64], margins: &[u64
     ensures { λ r. ⌜ r ≡ rowOrDash (stopRow (flat rows borders (now (p .entry))) (now (margins .entry)) b) ⌝ }
 {
     for i in 0..rows {
-        let share = rounds::equal_share(margins[i], ns[i]);
-        let f = rounds::factor(rows, borders, p, i, b);
+        let share = grid::equal_share(margins[i], ns[i]);
+        let f = grid::factor(rows, borders, p, i, b);
         if share < f {
             return i as i64;
         }
@@ -48,7 +48,7 @@ fn allow(n: u64, margin: u64, f: u64) -> i64
     if f == 0 {
         return DASH;
     }
-    (rounds::equal_share(margin, n) / f) as i64
+    (grid::equal_share(margin, n) / f) as i64
 }
 
 // The margin left, or `DASH` where the row took no part.
@@ -84,7 +84,7 @@ pub fn store_holds(
     ensures { λ _. ⌜ now (out .exit) ≡ over (table rows (λ i. rowLeft (at (now (ns .entry)) i) (at (now (states .entry)) i) (at (now (margins .entry)) i) (allowed (at (now (ns .entry)) i) (at (now (margins .entry)) i) (flat rows borders (now (p .entry)) .p i b)))) (now (out .entry)) ⌝ }
 {
     for i in 0..rows {
-        let f = rounds::factor(rows, borders, p, i, b);
+        let f = grid::factor(rows, borders, p, i, b);
         out[i] = hold(ns[i], states[i], margins[i], f);
     }
 }
@@ -127,7 +127,7 @@ pub fn work(
     ensures { λ r. ⌜ Worked (flat rows borders (now (p .entry))) (now (margins .entry)) from b r (now (margins .exit)) (now (lasts .exit)) (now (ns .exit)) (now (stood .exit)) ⌝ }
 {
     copy(margins, stood);
-    rounds::count_sharers(rows, borders, p, ns);
+    grid::count_sharers(rows, borders, p, ns);
     let end = roundloop::extract_rounds(rows, borders, p, ns, margins, from, lasts);
     replay::replay(rows, borders, p, ns, lasts[b], stood);
     end

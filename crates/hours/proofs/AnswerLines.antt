@@ -25,10 +25,10 @@ use Rattle.text.proofs.PutLaws.{tabbed, line-tabbed}
 use Rattle.text.proofs.WrittenLaws.{decimal-no-feed}
 use Rattle.columns.specs.declared.Head.the-variants.{Indexed}
 use Rattle.columns.proofs.ColumnTrip.{line-one}
-use Rattle.table.specs.Table.{Table}
-use Rattle.table.specs.Good.{Good}
-use Rattle.start.specs.Start.{judgeMarked}
-use Rattle.extraction.specs.Extraction.{Result, resultMarked, outcomeMarked, outcomeFor, atcRecord, rowRecord}
+use Rattle.tablerules.specs.Table.{Table}
+use Rattle.tablerules.specs.Good.{Good}
+use Rattle.extractrules.specs.Start.{judgeMarked}
+use Rattle.extractrules.specs.Extraction.{Result, resultMarked, outcomeMarked, outcomeFor, atcRecord, rowRecord}
 use Rattle.reading.specs.Reading.{readText}
 use Rattle.reading.proofs.EmptySheet.{empty-sheet}
 use Rattle.reading.proofs.CorrectedLaws.{corrected-good}

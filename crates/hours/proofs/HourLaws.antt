@@ -7,10 +7,10 @@ use native.Mathlib.Omega.{arith}
 use lib.ListN.{length, take}
 use Rattle.limits.specs.Limits.{bytesMost}
 use Rattle.refusals.specs.Refusals.{Judged, passed, refused, then, either}
-use Rattle.table.specs.Table.{Table}
+use Rattle.tablerules.specs.Table.{Table}
 use Rattle.reading.specs.Reading.{readText, readCorrected}
 use Rattle.reading.proofs.EmptySheet.{empty-sheet}
-use Rattle.extraction.specs.Extraction.{Result, outcomeFor}
+use Rattle.extractrules.specs.Extraction.{Result, outcomeFor}
 use Rattle.result.specs.Refusal.{refusalText}
 use Rattle.answer.specs.Result.{resultText, answerFor}
 use Rattle.command.specs.declared.asked.Word.the-variants.{Answer}

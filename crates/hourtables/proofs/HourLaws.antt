@@ -16,16 +16,16 @@ use Rattle.refusals.proofs.RefusalLaws.{passed-is, refused-is, not-passed, eith
 use Rattle.types.specs.declared.Header.{Header}
 use Rattle.types.specs.Ranges.{atℤ}
 use Rattle.marks.specs.Marks.{mayRise}
-use Rattle.table.specs.Table.{Table}
-use Rattle.table.specs.Good.{Good}
-use Rattle.extraction.specs.declared.Extracted.{Extracted}
-use Rattle.extraction.specs.declared.Extracted.the-variants.{Rounds, Refused}
-use Rattle.extraction.specs.Answers.{saidExtracted}
-use Rattle.extraction.specs.Extraction.{Result, resultMarked, outcomeFor, atcOf, atcRecord, ExtractLeft, leaves, resultStored}
-use Rattle.extraction.specs.Inner.{outcomeLeft}
-use Rattle.extraction.proofs.AcceptedLaws.{accepted}
-use Rattle.extraction.proofs.LentLaws.{outcome-roomy}
-use Rattle.extraction.proofs.MarkedLaws.{for-is}
+use Rattle.tablerules.specs.Table.{Table}
+use Rattle.tablerules.specs.Good.{Good}
+use Rattle.extractrules.specs.declared.Extracted.{Extracted}
+use Rattle.extractrules.specs.declared.Extracted.the-variants.{Rounds, Refused}
+use Rattle.extractrules.specs.Answers.{saidExtracted}
+use Rattle.extractrules.specs.Extraction.{Result, resultMarked, outcomeFor, atcOf, atcRecord, ExtractLeft, leaves, resultStored}
+use Rattle.extractrules.specs.Inner.{outcomeLeft}
+use Rattle.extractrules.proofs.AcceptedLaws.{accepted}
+use Rattle.extractrules.proofs.LentLaws.{outcome-roomy}
+use Rattle.extractrules.proofs.MarkedLaws.{for-is}
 use Rattle.reading.specs.Reading.{readText, readCorrected}
 use Rattle.reading.proofs.EmptySheet.{empty-sheet}
 use Rattle.hourtables.specs.Hour.{waysOf, atcsOf, Found, foundOf, foundFor, foundIn, Figures, figures, answeredHour, refusedHour, figuresBy, hourOf, pasted, keptOf}

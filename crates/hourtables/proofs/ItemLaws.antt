@@ -15,8 +15,8 @@ use Rattle.types.specs.declared.Hubs.{Hubs}
 use Rattle.types.specs.declared.Hubs.the-variants.{Without, Between}
 use Rattle.types.specs.declared.Border.{Border}
 use Rattle.types.specs.Ranges.{atℤ, borderFits, borderOf}
-use Rattle.margin.specs.Magnitudes.{HubsWithin}
-use Rattle.margin.proofs.JudgedLaws.{border-judged}
+use Rattle.marginrules.specs.Magnitudes.{HubsWithin}
+use Rattle.marginrules.proofs.JudgedLaws.{border-judged}
 use Rattle.daysheet.specs.Sheet.{wayOf}
 use Rattle.hourtables.specs.Hour.{sendingOf, receivingOf, borderWay, waysOf, atcsOf, pasted}
 

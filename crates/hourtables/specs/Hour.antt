@@ -16,10 +16,10 @@ use Rattle.types.specs.declared.Hubs.{Hubs}
 use Rattle.types.specs.declared.Hubs.the-variants.{Without, Between}
 use Rattle.types.specs.declared.Border.{Border}
 use Rattle.types.specs.Ranges.{atℤ, borderOf}
-use Rattle.table.specs.Table.{Table}
-use Rattle.extraction.specs.declared.Extracted.{Extracted}
-use Rattle.extraction.specs.declared.Extracted.the-variants as extracted
-use Rattle.extraction.specs.Extraction.{Result, outcomeFor, atcOf}
+use Rattle.tablerules.specs.Table.{Table}
+use Rattle.extractrules.specs.declared.Extracted.{Extracted}
+use Rattle.extractrules.specs.declared.Extracted.the-variants as extracted
+use Rattle.extractrules.specs.Extraction.{Result, outcomeFor, atcOf}
 use Rattle.reading.specs.Reading.{readText}
 use Rattle.daysheet.specs.Sheet.{wayOf}
 

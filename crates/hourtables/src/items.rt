@@ -5,7 +5,7 @@ ghost use Prim.Native.Nat.{_+_, _≤_};
 ghost use lib.ListN.{length};
 ghost use Rattle.limits.specs.Limits.{zonesMost, bordersMost};
 ghost use Rattle.types.specs.Ranges.{borderFits, borderOf};
-ghost use Rattle.margin.specs.Magnitudes.{BordersInRange};
+ghost use Rattle.marginrules.specs.Magnitudes.{BordersInRange};
 ghost use Rattle.daysheet.specs.Sheet.{wayOf};
 ghost use Rattle.hourtables.specs.Hour.{borderWay, waysOf, atcsOf, pasted};
 use outcome::AtcRecord;

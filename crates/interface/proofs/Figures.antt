@@ -6,7 +6,7 @@ use Prim.Native.Nat.{_*_}
 use Rattle.numbers.specs.Computed.{_is_, Hold}
 use Rattle.limits.specs.Limits.{zonesMost, bordersMost, rowsMost, bytesMost}
 use Rattle.meanings.proofs.Room.{meaningMost}
-use Rattle.corners.specs.Corners.{sheetBordersMost}
+use Rattle.cornerrules.specs.Corners.{sheetBordersMost}
 use Rattle.cornertext.specs.CornerText.{sheetMost}
 use Rattle.claimrules.specs.Claims.{pairsMost}
 use Rattle.claimtext.specs.Published.{publishedMost}

@@ -27,9 +27,9 @@ use Rattle.lines.specs.declared.row.RowKind.{RowKind}
 use Rattle.sections.specs.Section.{Section, read, fault, more, onLine, linesAt, withLines}
 use Rattle.sections.specs.Rows.{valuesOf, factorsOf, asGiven, pickedRow}
 use Rattle.corrections.specs.Corrections.{Piece, sheetKind, pieces, handedBy, judgeFrom, judgeCorrections, onCorrection, dueIndex}
-use Rattle.table.specs.Table.{Table, balanced, notTwice, zoneLineNo, allocatedLineNo, lastAllocatedLineNo, borderLineNo, rowLineNo, pastLineNo}
+use Rattle.tablerules.specs.Table.{Table, balanced, notTwice, zoneLineNo, allocatedLineNo, lastAllocatedLineNo, borderLineNo, rowLineNo, pastLineNo}
 use Rattle.reading.specs.Reading.{withHeader, intradayAt, balanceByte, rowsFrom, bordersFrom, allocatedFrom, linesBy, linesOf, readText, readCorrected}
-use Rattle.extraction.specs.Extraction.{Result, outcomeFor}
+use Rattle.extractrules.specs.Extraction.{Result, outcomeFor}
 use Rattle.result.specs.Refusal.{refusalText}
 use Rattle.answer.specs.Result.{resultText, answerWith, answerWithLeft}
 use Rattle.answer.specs.Told.{toldOf, toldWith}

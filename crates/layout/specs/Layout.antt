@@ -11,7 +11,7 @@ use Rattle.text.specs.Written.{linesText}
 use Rattle.columns.specs.declared.Head.the-variants.{Lettered, Indexed}
 use Rattle.columns.specs.ColumnText.{columnsText}
 use Rattle.columns.specs.Optional.{optionalText}
-use Rattle.table.specs.Table.{stretch}
+use Rattle.tablerules.specs.Table.{stretch}
 use Rattle.lines.specs.RowKinds.{rowTextBy}
 use Rattle.lines.specs.declared.row.RowKind.{RowKind}
 use Rattle.lines.specs.declared.row.RowKind.the-variants.{Table}

@@ -7,7 +7,7 @@ ghost use lib.ListN.{length};
 ghost use Rattle.limits.specs.Limits.{zonesMost, bordersMost, rowsMost};
 ghost use Rattle.refusals.specs.Refusals.{passed};
 ghost use Rattle.types.specs.Ranges.{headerFits};
-ghost use Rattle.table.specs.Table.{lent, front};
+ghost use Rattle.tablerules.specs.Table.{lent, front};
 ghost use Rattle.reading.specs.Places.{Roomy, readSaid};
 ghost use Rattle.reading.specs.Reading.{tablesLeft, readLeft, readCorrectedLeft};
 use reading::TableRead;

@@ -10,7 +10,7 @@ use Rattle.numbers.proofs.TestLaws.{zero-one}
 use Rattle.types.specs.LineColumns.{rowItems}
 use Rattle.text.specs.Line.{Line, holds, form, range}
 use Rattle.columns.specs.Columns.{values, wrong}
-use Rattle.table.specs.Table.{rowGood}
+use Rattle.tablerules.specs.Table.{rowGood}
 use Rattle.lines.specs.Lines.{RowLine, row, rowBy, rowLine}
 use Rattle.lines.specs.SheetLine.{sheetLine}
 use Rattle.lines.specs.RowKinds.{valuesBy, badBy, outBy}

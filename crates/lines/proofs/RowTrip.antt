@@ -23,8 +23,8 @@ use Rattle.text.proofs.FieldTrip.{ShareKept}
 use Rattle.columns.specs.ColumnText.{columnsText, numbersOf}
 use Rattle.columns.proofs.ColumnPut.{numbers-are}
 use Rattle.columns.proofs.ColumnTrip.{Ends, tab-ends, AllKept, kept-long, kept-append, Small, line-read, line-written, NoFeed, line-one, judged-is}
-use Rattle.table.specs.Table.{rowGood}
-use Rattle.table.proofs.GoodLaws.{row-good}
+use Rattle.tablerules.specs.Table.{rowGood}
+use Rattle.tablerules.proofs.GoodLaws.{row-good}
 use Rattle.lines.specs.Lines.{RowLine, row, rowBy}
 use Rattle.lines.specs.RowKinds.{sepBy, headBy, firstBy, factorsBy, columnsBy, valuesBy, badBy, outBy, rowTextBy}
 use Rattle.lines.specs.SaidRow.{lineBy}

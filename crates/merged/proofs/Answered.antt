@@ -12,12 +12,12 @@ use Rattle.refusals.proofs.RefusalLaws.{not-passed, then-refused}
 use Rattle.marks.specs.Marks.{mayRise}
 use Rattle.text.specs.Left.{TextLeft, textLeft}
 use Rattle.text.proofs.LeftLaws.{text-refused}
-use Rattle.table.specs.Table.{Table}
+use Rattle.tablerules.specs.Table.{Table}
 use Rattle.reading.specs.Reading.{readText, readCorrected}
 use Rattle.writing.specs.Writing.{rewriteCorrectedLeft}
 use Rattle.trips.proofs.RoundTrip.{read-write}
 use Rattle.trips.proofs.Corrected.{rewritten-reads-back}
-use Rattle.extraction.specs.Extraction.{outcomeFor}
+use Rattle.extractrules.specs.Extraction.{outcomeFor}
 use Rattle.result.specs.Refusal.{refusalText}
 use Rattle.answer.specs.Result.{resultText, answerFor, answerWith, answerForLeft, answerWithLeft}
 use Rattle.theorems.proofs.TextDemand.{TextDemand3, answer-demand-3}

@@ -13,7 +13,7 @@ use Rattle.columns.specs.ColumnText.{columnsText, headText}
 use Rattle.sections.specs.Section.{linesAt}
 use Rattle.sections.proofs.SectionLaws.{sectionText}
 use Rattle.sections.proofs.SectionRecords.{lines-then}
-use Rattle.table.specs.Table.{Table, zoneLineNo, allocatedLineNo, borderLineNo, rowLineNo}
+use Rattle.tablerules.specs.Table.{Table, zoneLineNo, allocatedLineNo, borderLineNo, rowLineNo}
 use Rattle.lines.specs.Lines.{zoneLine, allocatedLine, borderLine, rowLine}
 use Rattle.lines.proofs.HeaderTrip.{header-read}
 use Rattle.lines.proofs.ZoneTrip.{zone-read}

@@ -203,7 +203,7 @@ fn no_corners(text: &[u8]) -> usize {
     let Number::Value(borders, _) = text::field::number_at(text, next, b'\t') else {
         return MEANINGS + 4;
     };
-    if borders > corners::BORDERS_MOST as u64 {
+    if borders > cornerrules::BORDERS_MOST as u64 {
         return MEANINGS + 5;
     }
     MEANINGS + 4

@@ -24,10 +24,10 @@ use Rattle.columns.specs.Columns.{Values, values, wrong}
 use Rattle.columns.specs.ColumnLine.{judged}
 use Rattle.columns.specs.declared.Head.the-variants.{Lettered}
 use Rattle.columns.specs.Optional.{optionalLine}
-use Rattle.table.specs.Table.{Table, notTwice, headerLineNo}
+use Rattle.tablerules.specs.Table.{Table, notTwice, headerLineNo}
 use Rattle.lines.specs.Lines.{headerOf, headerBad, headerLine}
 use Rattle.reading.specs.Reading.{withHeader, linesBy, readText}
-use Rattle.extraction.specs.Extraction.{outcomeFor}
+use Rattle.extractrules.specs.Extraction.{outcomeFor}
 use Rattle.result.specs.Refusal.{refusalText}
 use Rattle.answer.specs.Result.{resultText, answerFor}
 use Rattle.oldtexts.specs.OldTexts.{bordersBefore, fitsBy, outBy, headerBy, linesWithin, readWithin, answerWithin}

@@ -20,11 +20,11 @@ use Rattle.columns.specs.declared.Head.the-variants.{Lettered}
 use Rattle.columns.specs.Optional.{optionalLine}
 use Rattle.blame.specs.RangeBlame.{rangeByte}
 use Rattle.sections.specs.Section.{linesAt, withLines}
-use Rattle.table.specs.Table.{Table, notTwice, zoneLineNo}
+use Rattle.tablerules.specs.Table.{Table, notTwice, zoneLineNo}
 use Rattle.lines.specs.Lines.{headerOf, headerBad, zoneLine}
 use Rattle.sections.specs.Rows.{asGiven}
 use Rattle.reading.specs.Reading.{withHeader, intradayAt, allocatedFrom}
-use Rattle.extraction.specs.Extraction.{outcomeFor}
+use Rattle.extractrules.specs.Extraction.{outcomeFor}
 use Rattle.result.specs.Refusal.{refusalText}
 use Rattle.answer.specs.Result.{resultText}
 

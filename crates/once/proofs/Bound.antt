@@ -6,10 +6,10 @@ use denote.Triple.Clauses.{AtExit}
 use borrow.Fn.World.{ArgsD, ResD}
 use borrow.Fn.Kinds.{endedOf}
 use Rattle.refusals.specs.Refusals.{Judged, passed, refused}
-use Rattle.tight.specs.declared.RoundsMost.{RoundsMost}
-use Rattle.bound.specs.declared.Bounded.{Bounded}
-use Rattle.bound.specs.declared.Bounded.the-variants as bounded
-use Rattle.bound.specs.Bound.{saidBounded}
+use Rattle.tightrules.specs.declared.RoundsMost.{RoundsMost}
+use Rattle.boundrules.specs.declared.Bounded.{Bounded}
+use Rattle.boundrules.specs.declared.Bounded.the-variants as bounded
+use Rattle.boundrules.specs.Bound.{saidBounded}
 use Rattle.doors.proofs.bound as every
 use Rattle.doors.proofs.bound.Kinds as every-kinds
 use Rattle.doors.proofs.bound.Reads as every-reads

@@ -8,13 +8,13 @@ use denote.Ref.{now}
 use denote.Triple.Clauses.{AtExit}
 use borrow.Fn.World.{ArgsD, ResD}
 use borrow.Fn.Kinds.{endedOf}
-use Rattle.corners.specs.declared.Flows.{Flows}
-use Rattle.corners.specs.Corners.{FlowsLeft, flowsLeft}
-use Rattle.corners.specs.Answers.{saidFlows}
+use Rattle.cornerrules.specs.declared.Flows.{Flows}
+use Rattle.cornerrules.specs.Corners.{FlowsLeft, flowsLeft}
+use Rattle.cornerrules.specs.Answers.{saidFlows}
 use Rattle.corners.proofs.corner_flows.{signature}
 use Rattle.corners.proofs.corner_flows.Kinds as kinds
 use Rattle.corners.proofs.corner_flows.Reads as reads
-use Rattle.corners.proofs.AnswerLaws.{saidFlows-injective}
+use Rattle.cornerrules.proofs.AnswerLaws.{saidFlows-injective}
 
 one : (r r′ : Flows) (o o′ : List ℤ) (left : FlowsLeft) → flowsLeft (saidFlows r) o ≡ left → flowsLeft (saidFlows r′) o′ ≡ left → (r ≡ r′) × (o ≡ o′)
 one r r′ o o′ left p q =

@@ -9,10 +9,10 @@ use denote.Ref.{now}
 use denote.Triple.Clauses.{AtExit}
 use borrow.Fn.World.{ArgsD, ResD}
 use borrow.Fn.Kinds.{endedOf}
-use Rattle.extraction.specs.declared.Extracted.{Extracted}
-use Rattle.extraction.specs.Extraction.{ExtractLeft, leaves}
-use Rattle.extraction.specs.Answers.{saidExtracted}
-use Rattle.extraction.proofs.AnswerLaws.{saidExtracted-injective}
+use Rattle.extractrules.specs.declared.Extracted.{Extracted}
+use Rattle.extractrules.specs.Extraction.{ExtractLeft, leaves}
+use Rattle.extractrules.specs.Answers.{saidExtracted}
+use Rattle.extractrules.proofs.AnswerLaws.{saidExtracted-injective}
 use Rattle.doors.proofs.extract.{signature}
 use Rattle.doors.proofs.extract.Kinds as kinds
 use Rattle.doors.proofs.extract.Reads as reads

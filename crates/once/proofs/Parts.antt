@@ -11,7 +11,7 @@ use borrow.Fn.Kinds.{endedOf}
 use Rattle.refusals.specs.declared.Judgement.{Judgement}
 use Rattle.refusals.specs.Answers.{saidJudgement}
 use Rattle.refusals.proofs.AnswerLaws.{saidJudgement-injective}
-use Rattle.parts.specs.Parts.{MarginsLeft, leaves}
+use Rattle.partrules.specs.Parts.{MarginsLeft, leaves}
 use Rattle.parts.proofs.margins.{signature}
 use Rattle.parts.proofs.margins.Kinds as kinds
 use Rattle.parts.proofs.margins.Reads as reads

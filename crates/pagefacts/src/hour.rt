@@ -4,7 +4,7 @@ use pageform::Figures;
 use refusals::Refusal;
 use std::num::wrapping_add_u64;
 use std::num::wrapping_sub_u64;
-use tight::RoundsMost;
+use tightrules::RoundsMost;
 use types::Header;
 
 // H: its number on a page of several, 0 on its own page

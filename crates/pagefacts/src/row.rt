@@ -5,7 +5,7 @@ use pagebars::larger;
 use pagebars::positive;
 use pagebars::smaller;
 use pageform::Figures;
-use parts::PartsRecord;
+use partrules::PartsRecord;
 use std::num::wrapping_add_u64;
 use std::num::wrapping_sub_u64;
 use why::HoldRecord;

@@ -2,13 +2,13 @@
 ghost use mathlib.Core.Path.{_≡_};
 ghost use Prim.Native.Nat.{_*_, _≤_};
 ghost use lib.ListN.{length};
-ghost use Rattle.table.specs.Table.{lent, front};
-ghost use Rattle.table.specs.Good.{Good};
+ghost use Rattle.tablerules.specs.Table.{lent, front};
+ghost use Rattle.tablerules.specs.Good.{Good};
 use pagefacts::ROWS;
 use pagefacts::border;
 use pagefacts::row;
 use pageform::Figures;
-use parts::PartsRecord;
+use partrules::PartsRecord;
 use text::put::magnitude;
 use types::BorderRecord;
 use types::Header;
@@ -159,11 +159,11 @@ fn margin_of(row: i64, margins: &[PartsRecord], starts: &[i64]) -> PartsRecord {
             return begun(margins[i], starts[i]);
         }
     }
-    [0; parts::ITEMS]
+    [0; partrules::ITEMS]
 }
 
 fn begun(mut margin: PartsRecord, start: i64) -> PartsRecord {
-    margin[parts::ITEMS - 1] = start;
+    margin[partrules::ITEMS - 1] = start;
     margin
 }
 

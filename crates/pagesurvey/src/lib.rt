@@ -3,11 +3,11 @@
 ghost use mathlib.Core.Path.{_≡_};
 ghost use Prim.Native.Nat.{_≤_};
 ghost use lib.ListN.{length};
-ghost use Rattle.table.specs.Table.{lent, front};
-ghost use Rattle.table.specs.Good.{Good};
+ghost use Rattle.tablerules.specs.Table.{lent, front};
+ghost use Rattle.tablerules.specs.Good.{Good};
 use pageform::Figures;
 use pagelook::Seen;
-use parts::PartsRecord;
+use partrules::PartsRecord;
 use types::BorderRecord;
 use types::Header;
 use types::RowRecord;
@@ -32,7 +32,7 @@ pub fn survey(
     let mut rams: [i64; limits::ROWS_MOST] = [0; limits::ROWS_MOST];
     let mut starts: [i64; limits::ROWS_MOST] = [0; limits::ROWS_MOST];
     let mut states: [u64; limits::ROWS_MOST] = [0; limits::ROWS_MOST];
-    let mut margins: [PartsRecord; limits::ROWS_MOST] = [[0; parts::ITEMS]; limits::ROWS_MOST];
+    let mut margins: [PartsRecord; limits::ROWS_MOST] = [[0; partrules::ITEMS]; limits::ROWS_MOST];
     survey_with(
         all,
         marks,

@@ -18,17 +18,17 @@ use Rattle.refusals.proofs.RefusalLaws.{then-next, then-refused, either-passed,
 use Rattle.types.specs.declared.Header.{Header}
 use Rattle.types.specs.declared.Row.{Row}
 use Rattle.types.specs.Ranges.{atℤ, isIntraday, borderOf, rowOf, defaultOf}
-use Rattle.table.specs.declared.Room.the-variants.{None}
-use Rattle.table.specs.Table.{Table, front, stretch, judgeLent}
-use Rattle.table.specs.Good.{Good}
-use Rattle.table.proofs.GoodLaws.{told-judged}
-use Rattle.margin.specs.Magnitudes.{BordersInRange}
-use Rattle.margin.specs.Margin.{pOf, f0coreOf, sOf, ramAt, marginOf, ramsOf, startsOf}
-use Rattle.margin.proofs.JudgedLaws.{good-factors, good-borders, good-nets}
-use Rattle.states.specs.States.{stateOf}
-use Rattle.states.specs.Standings.{Standings, standingsOf, standingsWith}
-use Rattle.states.proofs.StandingsLaws.{rows-in}
-use Rattle.parts.specs.Parts.{nOf, startFrom, partsOf, recordOf, recordsOf, leaves, marginsLeft}
+use Rattle.tablerules.specs.declared.Room.the-variants.{None}
+use Rattle.tablerules.specs.Table.{Table, front, stretch, judgeLent}
+use Rattle.tablerules.specs.Good.{Good}
+use Rattle.tablerules.proofs.GoodLaws.{told-judged}
+use Rattle.marginrules.specs.Magnitudes.{BordersInRange}
+use Rattle.marginrules.specs.Margin.{pOf, f0coreOf, sOf, ramAt, marginOf, ramsOf, startsOf}
+use Rattle.marginrules.proofs.JudgedLaws.{good-factors, good-borders, good-nets}
+use Rattle.staterules.specs.States.{stateOf}
+use Rattle.staterules.specs.Standings.{Standings, standingsOf, standingsWith}
+use Rattle.staterules.proofs.StandingsLaws.{rows-in}
+use Rattle.partrules.specs.Parts.{nOf, startFrom, partsOf, recordOf, recordsOf, leaves, marginsLeft}
 use Rattle.parts.specs.Stored.{partsBy, partsAt, Storable}
 
 -- ---- n

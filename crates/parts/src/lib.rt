@@ -7,20 +7,16 @@ ghost use Prim.Native.Nat.{_≤_};
 ghost use lib.ListN.{length};
 ghost use Rattle.numbers.specs.Below.{table, over};
 ghost use Rattle.refusals.specs.Answers.{saidJudgement};
-ghost use Rattle.table.specs.Table.{lent, front};
-ghost use Rattle.table.specs.Good.{Good};
-ghost use Rattle.parts.specs.Parts.{recordOf, recordsOf, leaves, marginsLeft};
+ghost use Rattle.tablerules.specs.Table.{lent, front};
+ghost use Rattle.tablerules.specs.Good.{Good};
+ghost use Rattle.partrules.specs.Parts.{recordOf, recordsOf, leaves, marginsLeft};
 ghost use Rattle.parts.specs.Stored.{partsAt, Storable};
+use partrules::PartsRecord;
 use refusals::Judgement;
 use refusals::Refusal;
 use types::BorderRecord;
 use types::Header;
 use types::RowRecord;
-
-// State, n, F0core, Fuaf, Base, AMR, S, LTA margin, CVA, IVA, RAM, starting margin; grains, but for state and n.
-pub const ITEMS: usize = 12;
-
-pub type PartsRecord = [i64; ITEMS];
 
 // The record of each row. Any input has an answer; where that is a refusal, nothing is written.
 pub fn margins(
@@ -34,7 +30,7 @@ pub fn margins(
 ) -> Judgement
     ensures { λ r. ⌜ leaves (saidJudgement r tt) (now (out .exit)) ≡ marginsLeft (lent h (now (z .entry)) (now (t .entry)) (now (b .entry)) (now (c .entry)) (now (f .entry))) (now (out .entry)) ⌝ }
 {
-    let judged = table::judge(h, z, t, b, c, f, table::Room::None);
+    let judged = table::judge(h, z, t, b, c, f, tablerules::Room::None);
     let Judgement::Passed = judged else {
         return judged;
     };

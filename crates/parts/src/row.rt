@@ -1,5 +1,5 @@
 // What one row's margin is made of, in grains: each value by the function of crate margin that computes it for the extraction.
-use crate::PartsRecord;
+use partrules::PartsRecord;
 use types::BorderRecord;
 use types::Row;
 use types::RowRecord;
@@ -11,9 +11,9 @@ ghost use Rattle.numbers.specs.Ints.{Within};
 ghost use Rattle.limits.specs.Limits.{bordersMost};
 ghost use Rattle.types.specs.LineLimits.{shareMost};
 ghost use Rattle.types.specs.Ranges.{borderFits, borderOf, rowFits, rowOf};
-ghost use Rattle.margin.specs.Magnitudes.{RowInRange, FactorsInRange, NetsInRange, BordersInRange, f0coreMost, sMost};
-ghost use Rattle.margin.specs.Margin.{pOf, f0coreOf, sOf};
-ghost use Rattle.parts.specs.Parts.{nOf, startFrom, recordOf};
+ghost use Rattle.marginrules.specs.Magnitudes.{RowInRange, FactorsInRange, NetsInRange, BordersInRange, f0coreMost, sMost};
+ghost use Rattle.marginrules.specs.Margin.{pOf, f0coreOf, sOf};
+ghost use Rattle.partrules.specs.Parts.{nOf, startFrom, recordOf};
 ghost use Rattle.parts.specs.Stored.{partsBy};
 
 // The record of a judged row, whose state, RAM and starting margin are at hand.

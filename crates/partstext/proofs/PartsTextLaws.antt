@@ -21,15 +21,15 @@ use Rattle.text.proofs.WrittenLaws.{decimal-long, decimalℤ-long}
 use Rattle.columns.specs.ColumnText.{fieldText, fieldsLength}
 use Rattle.columns.specs.declared.Head.the-variants.{Indexed}
 use Rattle.columns.proofs.ColumnPut.{line-long}
-use Rattle.table.specs.Table.{Table, factorsAt}
-use Rattle.table.specs.Good.{Good}
-use Rattle.margin.specs.Magnitudes.{startBits}
-use Rattle.margin.specs.Margin.{ramsOf}
-use Rattle.margin.proofs.MagnitudeLaws.{within-grains}
-use Rattle.margin.proofs.JudgedLaws.{row-ranges, good-borders}
-use Rattle.margin.proofs.Small.{start-in, named-values-small}
-use Rattle.states.proofs.StateLaws.{state-most}
-use Rattle.parts.specs.Parts.{Parts, nOf, startFrom, partsOf, recordOf, recordsOf}
+use Rattle.tablerules.specs.Table.{Table, factorsAt}
+use Rattle.tablerules.specs.Good.{Good}
+use Rattle.marginrules.specs.Magnitudes.{startBits}
+use Rattle.marginrules.specs.Margin.{ramsOf}
+use Rattle.marginrules.proofs.MagnitudeLaws.{within-grains}
+use Rattle.marginrules.proofs.JudgedLaws.{row-ranges, good-borders}
+use Rattle.marginrules.proofs.Small.{start-in, named-values-small}
+use Rattle.staterules.proofs.StateLaws.{state-most}
+use Rattle.partrules.specs.Parts.{Parts, nOf, startFrom, partsOf, recordOf, recordsOf}
 use Rattle.parts.proofs.PartsLaws.{n-few}
 use Rattle.partstext.specs.PartsText.{partsColumns, partsLine, partsLineAt, partsText, partsLineMost, partsMost}
 

@@ -7,12 +7,12 @@ ghost use Rattle.limits.specs.Limits.{rowsMost};
 ghost use Rattle.refusals.specs.Refusals.{passed};
 ghost use Rattle.text.specs.Left.{textLeft, textSaid};
 ghost use Rattle.text.specs.Put.{Put};
-ghost use Rattle.table.specs.Table.{lent, front};
-ghost use Rattle.table.specs.Good.{Good};
-ghost use Rattle.parts.specs.Parts.{recordsOf};
+ghost use Rattle.tablerules.specs.Table.{lent, front};
+ghost use Rattle.tablerules.specs.Good.{Good};
+ghost use Rattle.partrules.specs.Parts.{recordsOf};
 ghost use Rattle.partstext.specs.PartsText.{partsLine, partsLineAt, partsLineMost, partsText};
 use columns::Head;
-use parts::PartsRecord;
+use partrules::PartsRecord;
 use refusals::Refusal;
 use refusals::Written;
 use types::BorderRecord;
@@ -20,10 +20,10 @@ use types::Header;
 use types::RowRecord;
 
 // The columns of a V line after its index: n a number, s a signed number.
-pub const COLUMNS: [u8; parts::ITEMS] = *b"nnsssnnnnnss";
+pub const COLUMNS: [u8; partrules::ITEMS] = *b"nnsssnnnnnss";
 
 // No line has more bytes: a letter, an index of up to 3 digits, numbers of up to 15 digits and a minus, and a tab or the LF after each.
-const LINE_MOST: usize = 2 + 4 + parts::ITEMS * 17;
+const LINE_MOST: usize = 2 + 4 + partrules::ITEMS * 17;
 
 // No text has more bytes: a caller that lends so many has room for any.
 pub const TEXT_MOST: usize = limits::ROWS_MOST * LINE_MOST;
@@ -41,7 +41,7 @@ pub fn margins_text_good(
     requires { ⌜ Good (front (lent h (now z) (now t) (now b) (now c) (now f))) ⌝ }
     ensures { λ r. ⌜ textSaid r (now (out .exit)) ≡ textLeft (passed (partsText (recordsOf (front (lent h (now (z .entry)) (now (t .entry)) (now (b .entry)) (now (c .entry)) (now (f .entry))))))) (now (out .entry)) ⌝ }
 {
-    let mut records = [[0i64; parts::ITEMS]; limits::ROWS_MOST];
+    let mut records = [[0i64; partrules::ITEMS]; limits::ROWS_MOST];
     parts::margins_good(h, z, t, b, c, f, &mut records);
     let rows = h.rows;
     write_parts(&records[..rows], out)

@@ -13,22 +13,22 @@ use Rattle.types.proofs.RangeLaws.{header-in}
 use Rattle.marks.specs.Marks.{judgeAsked, mayRise}
 use Rattle.marks.proofs.MarkLaws.{asked-then}
 use Rattle.text.proofs.WrittenLaws.{decimal-long}
-use Rattle.table.specs.Table.{Table}
-use Rattle.table.specs.Good.{Good}
+use Rattle.tablerules.specs.Table.{Table}
+use Rattle.tablerules.specs.Good.{Good}
 use Rattle.rounds.specs.Rounds.{Grid, mostSharers, aloneBits}
 use Rattle.rounds.proofs.Round.{alone-lt}
 use Rattle.rounds.proofs.Theorems.{alone-least}
-use Rattle.margin.specs.Magnitudes.{startBits}
-use Rattle.margin.proofs.Small.{named-values-small}
+use Rattle.marginrules.specs.Magnitudes.{startBits}
+use Rattle.marginrules.proofs.Small.{named-values-small}
 use Rattle.setup.specs.Setup.{gridBy}
-use Rattle.start.specs.Start.{setupWith, gridMarked, tableStart, judgeMarked}
-use Rattle.extraction.proofs.AcceptedLaws.{small-start}
-use Rattle.tight.specs.declared.RoundsMost.{RoundsMost}
-use Rattle.tight.specs.Tight.{tightBound}
-use Rattle.tight.specs.Measure.{boundBy}
-use Rattle.tight.proofs.BitsLaws.{sharers-few}
-use Rattle.tight.proofs.SharperLaws.{tight-le}
-use Rattle.bound.specs.Bound.{boundOf, boundMarked, boundAsked}
+use Rattle.extractrules.specs.Start.{setupWith, gridMarked, tableStart, judgeMarked}
+use Rattle.extractrules.proofs.AcceptedLaws.{small-start}
+use Rattle.tightrules.specs.declared.RoundsMost.{RoundsMost}
+use Rattle.tightrules.specs.Tight.{tightBound}
+use Rattle.tightrules.specs.Measure.{boundBy}
+use Rattle.tightrules.proofs.BitsLaws.{sharers-few}
+use Rattle.tightrules.proofs.SharperLaws.{tight-le}
+use Rattle.boundrules.specs.Bound.{boundOf, boundMarked, boundAsked}
 use Rattle.boundtext.specs.BoundText.{boundText, boundTextOf}
 use Rattle.boundtext.proofs.BoundTextLaws.{bound-line-long}
 

@@ -19,21 +19,21 @@ use Rattle.text.proofs.NumberTrip.{number-written, number-rest, digits-cons, de
 use Rattle.types.specs.LineColumns.{Column}
 use Rattle.columns.specs.declared.Head.the-variants.{Bare}
 use Rattle.columns.specs.ColumnText.{indexText, headText, columnsText, fieldsEnded}
-use Rattle.table.specs.Table.{Table, factorsAt}
+use Rattle.tablerules.specs.Table.{Table, factorsAt}
 use Rattle.writing.specs.Writing.{tableText}
 use Rattle.lines.specs.RowKinds.{semicolon}
 use Rattle.lines.specs.declared.row.RowKind.the-variants as rowKind
 use Rattle.layout.specs.Layout.{rowTextIn}
 use Rattle.rowsheet.specs.RowSheet as rowsheet
 use Rattle.rowsheet.specs.RowSheet.{sheetOf}
-use Rattle.corners.specs.Corners.{flowsOf}
+use Rattle.cornerrules.specs.Corners.{flowsOf}
 use Rattle.cornertext.specs.CornerText.{cornerLineAt, cornersText, sheetText}
-use Rattle.states.specs.Standings.{Standings}
+use Rattle.staterules.specs.Standings.{Standings}
 use Rattle.claimtext.specs.Published.{rowLine, publishedLine, publishedText}
-use Rattle.tight.specs.declared.RoundsMost.{RoundsMost}
+use Rattle.tightrules.specs.declared.RoundsMost.{RoundsMost}
 use Rattle.boundtext.specs.BoundText.{boundText}
 use Rattle.partstext.specs.PartsText.{partsLineAt, partsText}
-use Rattle.extraction.specs.Extraction.{Result, atcRecord, rowRecord}
+use Rattle.extractrules.specs.Extraction.{Result, atcRecord, rowRecord}
 use Rattle.result.specs.Records.{atcAt, marginAt, roundsLine, recordsText}
 use Rattle.result.specs.Refusal.{refusalText}
 use Rattle.answer.specs.Result.{resultText}

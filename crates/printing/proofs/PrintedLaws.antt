@@ -14,7 +14,7 @@ use Rattle.refusals.specs.declared.Written.the-variants as written
 use Rattle.refusals.specs.Refusals.{Judged, passed, refused, tooLong}
 use Rattle.refusals.proofs.RefusalLaws.{not-passed, then-next, then-refused}
 use Rattle.text.proofs.LeftLaws.{text-refused}
-use Rattle.table.specs.Table.{Table}
+use Rattle.tablerules.specs.Table.{Table}
 use Rattle.reading.specs.Reading.{readCorrected}
 use Rattle.result.specs.Refusal.{refusalText}
 use Rattle.output.specs.Buffer.{Printed, toldText}

@@ -22,9 +22,9 @@ use Rattle.refusals.proofs.RefusalLaws.{passed-is, refused-is, not-passed, then
 use Rattle.types.specs.declared.Header.{Header}
 use Rattle.types.proofs.RangeLaws.{header-in}
 use Rattle.text.specs.Left.{textLeft, textSaid}
-use Rattle.table.specs.Table.{Table, lent, stretch, factorsAt, rowGood, front}
-use Rattle.table.specs.Good.{Good}
-use Rattle.table.proofs.GoodLaws.{stretch-long, row-good, good-row, flat-fit, row-fit}
+use Rattle.tablerules.specs.Table.{Table, lent, stretch, factorsAt, rowGood, front}
+use Rattle.tablerules.specs.Good.{Good}
+use Rattle.tablerules.proofs.GoodLaws.{stretch-long, row-good, good-row, flat-fit, row-fit}
 use Rattle.writing.specs.Writing.{tableText}
 use Rattle.writing.proofs.LengthLaws.{never-too-long}
 use Rattle.rowsheet.specs.RowSheet.{Rows, RowsLeft, readSheet, judgeRows, rowsInRange, rowsSaid, readRowsLeft}

@@ -11,20 +11,20 @@ use Rattle.refusals.specs.declared.Written.{Written}
 use Rattle.refusals.specs.Refusals.{Judged, passed}
 use Rattle.refusals.proofs.RefusalLaws.{passed-is, then-next}
 use Rattle.text.specs.Left.{textLeft, textSaid}
-use Rattle.table.specs.Table.{Table, front}
-use Rattle.table.specs.Good.{Good}
+use Rattle.tablerules.specs.Table.{Table, front}
+use Rattle.tablerules.specs.Good.{Good}
 use Rattle.writing.specs.Writing.{tableText}
 use Rattle.writing.proofs.LengthLaws.{never-too-long}
 use Rattle.rowsheet.specs.RowSheet.{writeRowsLeft}
-use Rattle.parts.specs.Parts.{recordsOf}
+use Rattle.partrules.specs.Parts.{recordsOf}
 use Rattle.partstext.specs.PartsText.{partsText}
 use Rattle.partstext.proofs.PartsTextLaws.{parts-text-most}
-use Rattle.bound.specs.Bound.{boundAsked}
+use Rattle.boundrules.specs.Bound.{boundAsked}
 use Rattle.boundtext.specs.BoundText.{boundTextOf}
 use Rattle.claimline.specs.ClaimText.{claimsIn}
 use Rattle.claimtext.specs.Published.{publishedOf}
 use Rattle.claimtext.proofs.PublishedLaws.{published-fits}
-use Rattle.extraction.specs.Extraction.{outcomeFor}
+use Rattle.extractrules.specs.Extraction.{outcomeFor}
 use Rattle.result.specs.Asked.{bytesAsked}
 use Rattle.answer.specs.Printed.{outcomeSaid, answerMost}
 use Rattle.answer.proofs.OutcomeLaws.{told-said}

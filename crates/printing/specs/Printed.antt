@@ -12,18 +12,18 @@ use Rattle.refusals.specs.declared.Written.{Written}
 use Rattle.refusals.specs.Refusals.{Judged, passed, then, tooLong}
 use Rattle.types.specs.declared.Header.{Header}
 use Rattle.text.specs.Left.{textLeft, textSaid}
-use Rattle.table.specs.Table.{Table, lent}
+use Rattle.tablerules.specs.Table.{Table, lent}
 use Rattle.reading.specs.Reading.{readCorrected}
 use Rattle.writing.specs.Writing.{tableText}
 use Rattle.rowsheet.specs.RowSheet as rowsheet
 use Rattle.rowsheet.specs.RowSheet.{readSheet, judgeRows, sheetOf}
-use Rattle.parts.specs.Parts.{recordsOf}
+use Rattle.partrules.specs.Parts.{recordsOf}
 use Rattle.partstext.specs.PartsText.{partsText}
-use Rattle.bound.specs.Bound.{boundAsked}
+use Rattle.boundrules.specs.Bound.{boundAsked}
 use Rattle.boundtext.specs.BoundText.{boundTextOf}
 use Rattle.claimline.specs.ClaimText.{claimsIn}
 use Rattle.claimtext.specs.Published.{publishedOf}
-use Rattle.extraction.specs.Extraction.{outcomeFor}
+use Rattle.extractrules.specs.Extraction.{outcomeFor}
 use Rattle.result.specs.Refusal.{refusalText}
 use Rattle.answer.specs.Result.{resultText}
 use Rattle.output.specs.Buffer.{toldText}

@@ -3,8 +3,8 @@
 ghost use Prim.Native.Nat.{_*_, _≤_};
 ghost use lib.ListN.{length};
 ghost use Rattle.limits.specs.Limits.{zonesMost, bordersMost, rowsMost, bytesMost};
-ghost use Rattle.table.specs.Table.{lent, front};
-ghost use Rattle.table.specs.Good.{Good};
+ghost use Rattle.tablerules.specs.Table.{lent, front};
+ghost use Rattle.tablerules.specs.Good.{Good};
 ghost use Rattle.output.specs.Buffer.{Printed};
 ghost use Rattle.printing.specs.Printed.{Said, filledBy, saidOf, wordSaid, wordText};
 use command::asked::Word;

@@ -11,8 +11,8 @@ use lib.Signed.{_≤ℤ_}
 use Rattle.numbers.specs.Below.{sum}
 use Rattle.numbers.specs.Ints.{minus, maxℤ, positivePart, sumℤ}
 use Rattle.types.specs.Ranges.{atℤ, hubsOf, borderOf, shareOf, rowOf, worth, defaultOf}
-use Rattle.table.specs.Table.{Table, lent, stretch}
-use Rattle.margin.specs.Margin.{grains, f0coreOf, fuafOf, baseOf, amrOf, signedFactor, pOf, ltaKw, sOf, ltaMarginOf, ramOf, ramAt}
+use Rattle.tablerules.specs.Table.{Table, lent, stretch}
+use Rattle.marginrules.specs.Margin.{grains, f0coreOf, fuafOf, baseOf, amrOf, signedFactor, pOf, ltaKw, sOf, ltaMarginOf, ramOf, ramAt}
 use Rattle.promises.specs.Allowed.{netLoad, Allowed, Same}
 
 -- two zones; two rows with the factors 33333 and -33333, row 0 with a RAM of 100000 grains and row 1 with one of 70000

@@ -13,9 +13,9 @@ use Rattle.numbers.specs.Ints.{minus}
 use Rattle.refusals.specs.declared.Refusal.{Refusal}
 use Rattle.refusals.specs.Refusals.{Judged, passed, refused, refusal, unless, refuseAt, refuseFirst}
 use Rattle.marks.specs.Marks.{faultyMark, judgeMarks}
-use Rattle.table.specs.Table.{Table}
-use Rattle.table.specs.Good.{Good}
-use Rattle.extraction.specs.Extraction.{Result, atcOf, outcomeFor}
+use Rattle.tablerules.specs.Table.{Table}
+use Rattle.tablerules.specs.Good.{Good}
+use Rattle.extractrules.specs.Extraction.{Result, atcOf, outcomeFor}
 use Rattle.promises.specs.Marked.{AllMarked}
 use Rattle.promises.specs.Same.{SameEnd, SameResult, SameRefusal, Both}
 use Rattle.promises.specs.Taking.{outcomeTaking, unshortened}

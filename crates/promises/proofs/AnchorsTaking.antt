@@ -14,14 +14,14 @@ use Rattle.numbers.specs.Ints.{minus, maxℤ, minℤ, positivePart, sameℤ, su
 use Rattle.refusals.specs.Refusals.{Judged, passed, refused, refusal, then, unless, refuseAt, refuseFirst}
 use Rattle.types.specs.Ranges.{hubsOf, borderOf, shareOf, rowOf, worth, defaultOf}
 use Rattle.marks.specs.Marks.{markedBy, faultyMark, judgeMarks}
-use Rattle.table.specs.Table.{Table, factorsAt, stretch}
+use Rattle.tablerules.specs.Table.{Table, factorsAt, stretch}
 use Rattle.rounds.specs.Rounds.{State, Outcome, sharers, raise, alone, raises, load, lowered, risen, apply, next, raised, counted, run, extract, mostSharers, bitsTo, bits, aloneBits}
-use Rattle.margin.specs.Margin.{flowOf, grains, f0coreOf, fuafOf, baseOf, amrOf, signedFactor, pOf, ltaKw, sOf, ltaMarginOf, ramOf, ramAt}
-use Rattle.states.specs.States.{highest, lowest, spreadOf, shifted, below, stateOf, kept}
-use Rattle.states.specs.Standings.{standingsOf}
+use Rattle.marginrules.specs.Margin.{flowOf, grains, f0coreOf, fuafOf, baseOf, amrOf, signedFactor, pOf, ltaKw, sOf, ltaMarginOf, ramOf, ramAt}
+use Rattle.staterules.specs.States.{highest, lowest, spreadOf, shifted, below, stateOf, kept}
+use Rattle.staterules.specs.Standings.{standingsOf}
 use Rattle.setup.specs.Setup.{gridBy, beginBy, judgeBy}
-use Rattle.start.specs.Start.{every, setupWith}
-use Rattle.extraction.specs.Extraction.{Result, resultMarked, leftOf, nOf, lOf}
+use Rattle.extractrules.specs.Start.{every, setupWith}
+use Rattle.extractrules.specs.Extraction.{Result, resultMarked, leftOf, nOf, lOf}
 use Rattle.promises.specs.ByBorder.{laidOut, ByBorder}
 use Rattle.promises.specs.Demand.{loadOf, startMargin, startKw, ResultDemand3}
 use Rattle.promises.specs.DemandLeft.{LeftDemand3}

@@ -8,8 +8,8 @@ use lib.IntN.{ℤ, pos, _*ℤ_}
 use lib.Signed.{_≤ℤ_}
 use Rattle.numbers.specs.Ints.{sumℤ}
 use Rattle.types.specs.Ranges.{atℤ}
-use Rattle.table.specs.Table.{Table, factorsAt}
-use Rattle.margin.specs.Margin.{ramAt}
+use Rattle.tablerules.specs.Table.{Table, factorsAt}
+use Rattle.marginrules.specs.Margin.{ramAt}
 
 -- Net positions are rational numbers of kW, written over one denominator: q z / k at zone z.
 -- k times their load on row i, in grains

@@ -5,13 +5,13 @@ use mathlib.Core.Bool.{Bool, cond}
 use mathlib.Core.List.{List}
 use Prim.Native.Nat.{ℕ, _+_, _*_, _<_}
 use Rattle.numbers.specs.Below.{at}
-use Rattle.table.specs.Table.{Table, borderAt, factorsAt}
+use Rattle.tablerules.specs.Table.{Table, borderAt, factorsAt}
 use Rattle.rounds.specs.Rounds.{Grid, State, raise, next, extract}
-use Rattle.margin.specs.Margin.{pOf}
-use Rattle.states.specs.Standings.{standingsOf}
-use Rattle.states.specs.States.{kept}
-use Rattle.start.specs.Start.{gridMarked, tableStart}
-use Rattle.extraction.specs.Extraction.{resultMarked}
+use Rattle.marginrules.specs.Margin.{pOf}
+use Rattle.staterules.specs.Standings.{standingsOf}
+use Rattle.staterules.specs.States.{kept}
+use Rattle.extractrules.specs.Start.{gridMarked, tableStart}
+use Rattle.extractrules.specs.Extraction.{resultMarked}
 
 -- the grid that a list of p lays out: row i's factors begin at item i x borders, border after border. The rounds take those of the marked borders
 abbrev pub laidOut : Table → (marked : ℕ → Bool) → (p : List ℕ) → Grid

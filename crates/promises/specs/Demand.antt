@@ -12,14 +12,14 @@ use Rattle.numbers.specs.Ints.{positivePart, sumℤ}
 use Rattle.numbers.specs.Below.{at, sum, table}
 use Rattle.limits.specs.Limits.{bordersMost}
 use Rattle.types.specs.Ranges.{isIntraday}
-use Rattle.table.specs.Table.{Table, borderAt, factorsAt}
+use Rattle.tablerules.specs.Table.{Table, borderAt, factorsAt}
 use Rattle.rounds.specs.Rounds.{raise}
-use Rattle.margin.specs.Margin.{flowOf, signedFactor, pOf, ltaKw, sAt, ramAt}
-use Rattle.margin.specs.Magnitudes.{namedBits, startBits}
-use Rattle.states.specs.Standings.{standingsOf}
-use Rattle.states.specs.States.{kept}
-use Rattle.start.specs.Start.{gridMarked}
-use Rattle.extraction.specs.Extraction.{Result, leftOf, nOf, lOf}
+use Rattle.marginrules.specs.Margin.{flowOf, signedFactor, pOf, ltaKw, sAt, ramAt}
+use Rattle.marginrules.specs.Magnitudes.{namedBits, startBits}
+use Rattle.staterules.specs.Standings.{standingsOf}
+use Rattle.staterules.specs.States.{kept}
+use Rattle.extractrules.specs.Start.{gridMarked}
+use Rattle.extractrules.specs.Extraction.{Result, leftOf, nOf, lOf}
 
 -- row i's load from exchanges in whole kW: the sum of (from factor less to factor) times exchange
 unfoldable pub loadOf : Table → (i : ℕ) → (exchanges : List ℕ) → ℤ

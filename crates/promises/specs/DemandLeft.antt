@@ -8,7 +8,7 @@ use lib.IntN.{ℤ, pos}
 use lib.ListN.{getD}
 use Rattle.numbers.specs.Below.{at}
 use Rattle.types.specs.Ranges.{atℤ}
-use Rattle.table.specs.Table.{Table}
+use Rattle.tablerules.specs.Table.{Table}
 use Rattle.promises.specs.Demand.{Demand3}
 
 -- border b's ATC, MW, and row i's margin left, grains, as the lent results hold them

@@ -5,7 +5,7 @@ use Prim.Native.Nat.{ℕ, _^_, _<_}
 use lib.IntN.{ℤ, pos}
 use lib.ListN.{length}
 use lib.Signed.{_≤ℤ_}
-use Rattle.margin.specs.Margin.{cornerSum, sOf}
+use Rattle.marginrules.specs.Margin.{cornerSum, sOf}
 
 pub record LargestCorner (factors : List ℤ) (borders : List (List ℤ)) : Type 0 where
   -- no corner is over S

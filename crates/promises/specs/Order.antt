@@ -5,7 +5,7 @@ use Prim.Native.Nat.{ℕ, _+_, _*_, _/_, _%_, _<_}
 use lib.ListN.{length, getD}
 use Rattle.numbers.specs.Below.{table}
 use Rattle.types.specs.Ranges.{atℤ}
-use Rattle.table.specs.Table.{Table, factorsAt}
+use Rattle.tablerules.specs.Table.{Table, factorsAt}
 
 pub record Reordered (t t′ : Table) : Type 0 where
   pub header : t′ .header ≡ t .header

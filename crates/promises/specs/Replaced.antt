@@ -9,11 +9,11 @@ use lib.IntN.{ℤ, pos}
 use lib.ListN.{getD}
 use lib.Signed.{ltZ}
 use Rattle.types.specs.Ranges.{atℤ, defaultOf}
-use Rattle.table.specs.Table.{Table}
-use Rattle.table.specs.Good.{Good}
-use Rattle.margin.specs.Margin.{ramAt, ramsOf}
-use Rattle.states.specs.Standings.{standingsOf}
-use Rattle.extraction.specs.Extraction.{outcomeFor}
+use Rattle.tablerules.specs.Table.{Table}
+use Rattle.tablerules.specs.Good.{Good}
+use Rattle.marginrules.specs.Margin.{ramAt, ramsOf}
+use Rattle.staterules.specs.Standings.{standingsOf}
+use Rattle.extractrules.specs.Extraction.{outcomeFor}
 
 -- R as a raw number, the default where it was "-"
 abbrev pub replacedShare : (default r : ℤ) → ℤ

@@ -5,7 +5,7 @@ use Rattle.numbers.specs.Below.{at}
 use Rattle.refusals.specs.declared.Refusal.{Refusal}
 use Rattle.refusals.specs.Refusals.{Judged, passed, refused}
 use Rattle.rounds.specs.Rounds.{Outcome}
-use Rattle.extraction.specs.Extraction.{Result, atcOf}
+use Rattle.extractrules.specs.Extraction.{Result, atcOf}
 
 -- two ends come to the same: the same rounds, and each exchange the same to the kW
 pub record SameEnd (borders : ℕ) (o o′ : Outcome) : Type 0 where

@@ -3,7 +3,7 @@ use mathlib.Core.Path.{_≡_}
 use Prim.Native.Nat.{ℕ, _<_}
 use lib.IntN.{pos}
 use Rattle.refusals.specs.Refusals.{Judged, passed, refused}
-use Rattle.table.specs.Table.{Table, rowAt}
+use Rattle.tablerules.specs.Table.{Table, rowAt}
 
 -- CVA and IVA are 0 in every row
 pub record NoReductions (t : Table) : Type 0 where

@@ -5,9 +5,9 @@ use mathlib.Core.Bool.{Bool}
 use mathlib.Core.List.{List}
 use Prim.Native.Nat.{ℕ}
 use Rattle.refusals.specs.Refusals.{passed}
-use Rattle.table.specs.Table.{Table}
-use Rattle.table.specs.Good.{Good}
-use Rattle.extraction.specs.Extraction.{Result, outcomeFor}
+use Rattle.tablerules.specs.Table.{Table}
+use Rattle.tablerules.specs.Good.{Good}
+use Rattle.extractrules.specs.Extraction.{Result, outcomeFor}
 use Rattle.promises.specs.Taking.{outcomeTaking, unshortened}
 use Rattle.promises.specs.Same.{SameResult, Both}
 use Rattle.promises.specs.Order.{Reordered}

@@ -9,14 +9,14 @@ use lib.IntN.{ℤ, pos}
 use lib.ListN.{getD}
 use Rattle.numbers.specs.Ints.{minus}
 use Rattle.types.specs.Ranges.{atℤ}
-use Rattle.table.specs.Table.{Table, borderAt, factorsAt}
+use Rattle.tablerules.specs.Table.{Table, borderAt, factorsAt}
 use Rattle.rounds.specs.Rounds.{sharers}
 use Rattle.rounds.specs.Last.{LastRaise}
-use Rattle.margin.specs.Margin.{pOf}
-use Rattle.states.specs.Standings.{standingsOf}
-use Rattle.states.specs.States.{kept}
-use Rattle.start.specs.Start.{gridMarked, tableStart}
-use Rattle.extraction.specs.Extraction.{Result, resultMarked, leftOf, lastOf, stopOf}
+use Rattle.marginrules.specs.Margin.{pOf}
+use Rattle.staterules.specs.Standings.{standingsOf}
+use Rattle.staterules.specs.States.{kept}
+use Rattle.extractrules.specs.Start.{gridMarked, tableStart}
+use Rattle.extractrules.specs.Extraction.{Result, resultMarked, leftOf, lastOf, stopOf}
 
 -- what border b could rise by from row i's equal share of its margin left, whole kW: shared among the marked borders
 abbrev pub shareKw : Table → (marked : ℕ → Bool) → Result → (b i : ℕ) → ℕ

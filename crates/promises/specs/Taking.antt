@@ -6,12 +6,12 @@ use lib.Dec.{eqb}
 use Rattle.numbers.specs.Below.{at}
 use Rattle.refusals.specs.Refusals.{Judged}
 use Rattle.marks.specs.Marks.{judgeAsked, mayRise}
-use Rattle.table.specs.Table.{Table}
-use Rattle.states.specs.Standings.{standingsOf}
+use Rattle.tablerules.specs.Table.{Table}
+use Rattle.staterules.specs.Standings.{standingsOf}
 use Rattle.setup.specs.Setup.{gridBy, beginBy, judgeBy}
-use Rattle.start.specs.Start.{tableGrid, setupOf}
-use Rattle.start.specs.Filled.{cells}
-use Rattle.extraction.specs.Extraction.{Result, resultBy}
+use Rattle.extractrules.specs.Start.{tableGrid, setupOf}
+use Rattle.extractrules.specs.Filled.{cells}
+use Rattle.extractrules.specs.Extraction.{Result, resultBy}
 
 unfoldable pub resultIn : (takes : (states : List ℕ) → (i : ℕ) → Bool) → (marked : ℕ → Bool) → Table → Result
 resultIn takes marked t =

@@ -20,7 +20,7 @@ use Rattle.columns.specs.Optional.{optionalLine}
 use Rattle.blame.specs.Blame.{goodAt, byteAt, fieldsByte, lineByte}
 use Rattle.blame.specs.RangeBlame.{pastSeps, rangeByte}
 use Rattle.sections.specs.Section.{linesAt}
-use Rattle.table.specs.Table.{Table, lent, balanced, twice, roomFor}
+use Rattle.tablerules.specs.Table.{Table, lent, balanced, twice, roomFor}
 use Rattle.lines.specs.Lines.{headerLine, positionLine, borderLine, rowLine}
 use Rattle.lines.specs.SheetLine.{sheetLine}
 use Rattle.corrections.specs.Corrections.{sheetKind, ofRow, endedIndex, givenIndex, dueIndex}

@@ -15,8 +15,8 @@ use Rattle.refusals.proofs.RefusalLaws.{passed-is, then-passed, then-next, then
 use Rattle.types.specs.declared.Header.{Header}
 use Rattle.sections.specs.Section.{linesAt}
 use Rattle.sections.proofs.SectionRecords.{lines-then}
-use Rattle.table.specs.Table.{Table, lent, twice, rowLineNo, pastLineNo}
-use Rattle.table.specs.Good.{Good, Shaped}
+use Rattle.tablerules.specs.Table.{Table, lent, twice, rowLineNo, pastLineNo}
+use Rattle.tablerules.specs.Good.{Good, Shaped}
 use Rattle.lines.specs.Lines.{RowLine, rowLine}
 use Rattle.corrections.specs.Corrections.{Piece, handedBy, judgeCorrections}
 use Rattle.sections.specs.Rows.{valuesOf, factorsOf, asGiven}

@@ -5,7 +5,7 @@ use Prim.Native.Nat.{ℕ}
 use native.Mathlib.Omega.{arith}
 use lib.IntN.{ℤ}
 use Rattle.refusals.specs.Refusals.{Judged, passed, refused}
-use Rattle.table.specs.Table.{Table}
+use Rattle.tablerules.specs.Table.{Table}
 use Rattle.reading.specs.Reading.{readText, readCorrected, tablesLeft, readLeft, readCorrectedLeft}
 use Rattle.reading.proofs.ReadLaws.{reading}
 use Rattle.reading.proofs.CorrectedLaws.{day-refused, sheet-passes}

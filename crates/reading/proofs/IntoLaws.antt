@@ -6,8 +6,8 @@ use lib.IntN.{ℤ}
 use Rattle.refusals.specs.declared.Refusal.{Refusal}
 use Rattle.refusals.specs.Refusals.{passed, refused}
 use Rattle.types.specs.declared.Header.{Header}
-use Rattle.table.specs.Table.{lent, front}
-use Rattle.table.specs.Good.{Good}
+use Rattle.tablerules.specs.Table.{lent, front}
+use Rattle.tablerules.specs.Good.{Good}
 use Rattle.reading.specs.declared.TableRead.{TableRead}
 use Rattle.reading.specs.declared.TableRead.the-variants as read
 use Rattle.reading.specs.Reading.{readCorrected, readInto}

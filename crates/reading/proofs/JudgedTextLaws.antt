@@ -29,7 +29,7 @@ use Rattle.text.specs.Line.{Line, lineAt, form, range}
 use Rattle.sections.specs.Section.{Section, read, fault, linesAt, withLines}
 use Rattle.sections.proofs.SectionRecords.{section-fits, section-long, section-within, fits-at}
 use Rattle.sections.proofs.StoredLaws.{after-within}
-use Rattle.table.specs.Table.{Table, lent, front, balanced, twice, notTwice, headerLineNo, zoneLineNo, allocatedLineNo, lastAllocatedLineNo, borderLineNo, rowLineNo, pastLineNo}
+use Rattle.tablerules.specs.Table.{Table, lent, front, balanced, twice, notTwice, headerLineNo, zoneLineNo, allocatedLineNo, lastAllocatedLineNo, borderLineNo, rowLineNo, pastLineNo}
 use Rattle.lines.specs.Lines.{RowLine, headerLine, zoneLine, allocatedLine, borderLine, rowLine}
 use Rattle.lines.specs.declared.row.RowKind.the-variants as rowKind
 use Rattle.lines.proofs.HeaderTrip.{header-read}

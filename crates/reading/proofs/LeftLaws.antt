@@ -12,8 +12,8 @@ use Rattle.refusals.specs.Answers.{saidJudgement}
 use Rattle.refusals.specs.Refusals.{Judged, passed, refused}
 use Rattle.refusals.proofs.RefusalLaws.{passed-is, then-passed, then-next, then-refused, either-passed, either-refused, answer-passed}
 use Rattle.types.specs.declared.Header.{Header}
-use Rattle.table.specs.Table.{Table, lent, tableRoom}
-use Rattle.table.proofs.RoomLaws.{Enough, room-enough, room-passed, room-of}
+use Rattle.tablerules.specs.Table.{Table, lent, tableRoom}
+use Rattle.tablerules.proofs.RoomLaws.{Enough, room-enough, room-passed, room-of}
 use Rattle.reading.specs.declared.TableRead.{TableRead}
 use Rattle.reading.specs.declared.TableRead.the-variants as read
 use Rattle.reading.specs.Places.{readSaid}

@@ -19,9 +19,9 @@ use Rattle.text.specs.Line.{lineAt, after, Line, holds, form, range}
 use Rattle.sections.specs.Section.{read, linesAt}
 use Rattle.sections.proofs.SectionLaws.{allFit}
 use Rattle.sections.proofs.SectionRecords.{section-fits, fits-at, lines-then}
-use Rattle.table.specs.Table.{Table, stretch, balanced, twice, notTwice, headerLineNo, zoneLineNo, allocatedLineNo, borderLineNo, rowLineNo, pastLineNo}
-use Rattle.table.specs.Good.{Good, Shaped}
-use Rattle.table.proofs.GoodLaws.{row-good, flat-fit}
+use Rattle.tablerules.specs.Table.{Table, stretch, balanced, twice, notTwice, headerLineNo, zoneLineNo, allocatedLineNo, borderLineNo, rowLineNo, pastLineNo}
+use Rattle.tablerules.specs.Good.{Good, Shaped}
+use Rattle.tablerules.proofs.GoodLaws.{row-good, flat-fit}
 use Rattle.lines.specs.Lines.{RowLine, headerLine, zoneLine, allocatedLine, borderLine}
 use Rattle.corrections.specs.Corrections.{Piece, piece}
 use Rattle.sections.specs.Rows.{valuesOf, factorsOf, asGiven, pickedRow}

@@ -14,7 +14,7 @@ use Rattle.refusals.specs.Refusals.{Judged, then, refuseFirst, givenTwice}
 use Rattle.types.specs.declared.Header.{Header}
 use Rattle.types.specs.Ranges.{headerFits, allocatedItems}
 use Rattle.text.specs.Line.{lineAt, after, holds}
-use Rattle.table.specs.Table.{Table, twice, notTwice}
+use Rattle.tablerules.specs.Table.{Table, twice, notTwice}
 use Rattle.lines.specs.Lines.{headerLine}
 use Rattle.corrections.specs.Corrections.{Piece, handedBy, judgeCorrections}
 use Rattle.reading.specs.declared.TableRead.{TableRead}

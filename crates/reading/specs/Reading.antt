@@ -14,7 +14,7 @@ use Rattle.types.specs.declared.Header.{Header}
 use Rattle.types.specs.Ranges.{allocatedItems, profiled}
 use Rattle.text.specs.Line.{lineAt, after, Line, holds, form, range}
 use Rattle.sections.specs.Section.{linesAt, withLines}
-use Rattle.table.specs.Table.{Table, lent, front, balanced, notTwice, tableRoom, headerLineNo, zoneLineNo, allocatedLineNo, lastAllocatedLineNo, borderLineNo, rowLineNo, pastLineNo}
+use Rattle.tablerules.specs.Table.{Table, lent, front, balanced, notTwice, tableRoom, headerLineNo, zoneLineNo, allocatedLineNo, lastAllocatedLineNo, borderLineNo, rowLineNo, pastLineNo}
 use Rattle.lines.specs.Lines.{headerLine, zoneLine, allocatedLine, borderLine}
 use Rattle.corrections.specs.Corrections.{Piece, handedBy, judgeCorrections}
 use Rattle.sections.specs.Rows.{valuesOf, factorsOf, asGiven, pickedRow}

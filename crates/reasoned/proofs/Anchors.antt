@@ -3,13 +3,13 @@ use mathlib.Core.Path.{_≡_, refl}
 use Rattle.numbers.specs.Below.{ifZero, sum, count, lesser, least, orZero, table, firstFrom, given}
 use Rattle.numbers.specs.Ints.{maxℤ, minℤ, positivePart, sameℤ, sumℤ}
 use Rattle.types.specs.Ranges.{hubsOf, borderOf, shareOf, rowOf, worth, defaultOf}
-use Rattle.table.specs.Table.{stretch}
+use Rattle.tablerules.specs.Table.{stretch}
 use Rattle.rounds.specs.Rounds.{sharers, raise, raises, load, lowered, risen, apply, next, raised, counted, run, extract}
-use Rattle.margin.specs.Margin.{grains, f0coreOf, fuafOf, baseOf, amrOf, signedFactor, pOf, ltaKw, sOf, ltaMarginOf, ramOf, ramAt}
-use Rattle.states.specs.States.{highest, lowest, spreadOf, shifted, below, stateOf, kept}
-use Rattle.states.specs.Standings.{standingsOf}
+use Rattle.marginrules.specs.Margin.{grains, f0coreOf, fuafOf, baseOf, amrOf, signedFactor, pOf, ltaKw, sOf, ltaMarginOf, ramOf, ramAt}
+use Rattle.staterules.specs.States.{highest, lowest, spreadOf, shifted, below, stateOf, kept}
+use Rattle.staterules.specs.Standings.{standingsOf}
 use Rattle.setup.specs.Setup.{gridBy, beginBy}
-use Rattle.start.specs.Start.{every, setupWith}
+use Rattle.extractrules.specs.Start.{every, setupWith}
 use Rattle.why.specs.Why.{whyMarked}
 use Rattle.why.proofs.Anchors.{small}
 use Rattle.reasoned.specs.Reasoned.{usedOf}

@@ -9,14 +9,14 @@ use lib.ListN.{getD}
 use Rattle.numbers.specs.Ints.{positivePart}
 use Rattle.numbers.specs.Below.{at, sum}
 use Rattle.types.specs.Ranges.{isIntraday}
-use Rattle.table.specs.Table.{Table, borderAt, factorsAt}
+use Rattle.tablerules.specs.Table.{Table, borderAt, factorsAt}
 use Rattle.rounds.specs.Rounds.{sharers}
 use Rattle.rounds.specs.Last.{after, LastRaise}
-use Rattle.margin.specs.Margin.{pOf, sAt, ramAt}
-use Rattle.states.specs.Standings.{standingsOf}
-use Rattle.states.specs.States.{kept}
-use Rattle.start.specs.Start.{gridMarked, tableStart}
-use Rattle.extraction.specs.Extraction.{Result, lastOf, stopOf}
+use Rattle.marginrules.specs.Margin.{pOf, sAt, ramAt}
+use Rattle.staterules.specs.Standings.{standingsOf}
+use Rattle.staterules.specs.States.{kept}
+use Rattle.extractrules.specs.Start.{gridMarked, tableStart}
+use Rattle.extractrules.specs.Extraction.{Result, lastOf, stopOf}
 use Rattle.promises.specs.Demand.{remainderOf}
 use Rattle.why.specs.Why.{Why}
 

@@ -251,8 +251,8 @@ fn yields(
     }
     for j in 0..live {
         let b = rising[j];
-        let f = rounds::factor(rows, borders, p, t, b);
-        if f < rounds::factor(rows, borders, p, i, b) {
+        let f = grid::factor(rows, borders, p, t, b);
+        if f < grid::factor(rows, borders, p, i, b) {
             return false;
         }
     }

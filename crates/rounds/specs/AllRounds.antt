@@ -1,4 +1,4 @@
--- What the functions of src/ ask, and what the whole work (`roundloop::extract_rounds`) asks and leaves, over a grid g. What it leaves is `workOf`, by `extract` of Rounds.antt.
+-- What the functions of crate grid ask, and what the whole work (`roundloop::extract_rounds`) asks and leaves, over a grid g. What it leaves is `workOf`, by `extract` of Rounds.antt.
 use mathlib.Core.Path.{_≡_}
 use mathlib.Core.List.{List}
 use mathlib.Core.Option.{Option}

@@ -22,7 +22,7 @@ use Rattle.columns.specs.ColumnText.{fieldText, fieldsEnded, indexText, headTex
 use Rattle.blame.specs.Blame.{goodAt, byteAt, fieldsByte, lineByte}
 use Rattle.blame.specs.RangeBlame.{pastSeps, rangeByte}
 use Rattle.sections.specs.Section.{linesAt}
-use Rattle.table.specs.Table.{stretch}
+use Rattle.tablerules.specs.Table.{stretch}
 use Rattle.lines.specs.SheetLine.{sheetLine}
 use Rattle.rowsheet.specs.RowSheet.{Rows, readSheet, rowRoom, sheetOf, rowsInRange, judgeRows, writeRowsLeft}
 use Rattle.rowsheet.proofs.LengthLaws.{sheetMost}

@@ -18,7 +18,7 @@ use Rattle.types.specs.declared.Header.{Header}
 use Rattle.types.specs.Ranges.{headerFits}
 use Rattle.types.proofs.RangeLaws.{header-in}
 use Rattle.sections.proofs.SectionRecords.{fits-at}
-use Rattle.table.specs.Table.{rowGood, stretch}
+use Rattle.tablerules.specs.Table.{rowGood, stretch}
 use Rattle.lines.proofs.RowTrip.{RowHeldAt}
 use Rattle.sections.proofs.RowLaws.{emptyRow, values-at, stretch-of}
 use Rattle.rowsheet.specs.RowSheet.{Rows, readSheet, RowsLeft, readRowsLeft, sheetOf, rowsInRange, judgeRows}

@@ -22,8 +22,8 @@ use Rattle.text.proofs.PointLaws.{pointed-long}
 use Rattle.columns.specs.declared.Head.the-variants.{Bare}
 use Rattle.columns.specs.ColumnText.{fieldText, fieldsLength, numbersOf}
 use Rattle.columns.proofs.ColumnPut.{line-long, length-parts}
-use Rattle.table.specs.Table.{rowGood, stretch}
-use Rattle.table.proofs.GoodLaws.{row-good, stretch-long}
+use Rattle.tablerules.specs.Table.{rowGood, stretch}
+use Rattle.tablerules.proofs.GoodLaws.{row-good, stretch-long}
 use Rattle.lines.specs.declared.row.RowKind.the-variants as rowKind
 use Rattle.lines.proofs.RowTrip.{share-kept}
 use Rattle.lines.specs.RowKinds.{semicolon}

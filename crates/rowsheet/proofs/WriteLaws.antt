@@ -16,7 +16,7 @@ use Rattle.types.specs.declared.Header.{Header}
 use Rattle.types.specs.Ranges.{headerFits}
 use Rattle.text.specs.Left.{TextLeft, textLeft}
 use Rattle.text.proofs.LeftLaws.{text-refused}
-use Rattle.table.specs.Table.{rowGood, stretch}
+use Rattle.tablerules.specs.Table.{rowGood, stretch}
 use Rattle.rowsheet.specs.RowSheet.{Rows, rowRoom, sheetOf, rowsInRange, judgeRows, writeRowsLeft}
 use Rattle.rowsheet.proofs.SheetLaws.{room-passed, room-enough, room-refused}
 

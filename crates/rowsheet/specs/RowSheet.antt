@@ -15,7 +15,7 @@ use Rattle.types.specs.declared.Header.{Header}
 use Rattle.types.specs.Ranges.{headerFits}
 use Rattle.text.specs.Left.{TextLeft, textLeft}
 use Rattle.sections.specs.Section.{Section, linesAt, withLines}
-use Rattle.table.specs.Table.{rowGood, stretch, headerLineNo}
+use Rattle.tablerules.specs.Table.{rowGood, stretch, headerLineNo}
 use Rattle.lines.specs.Lines.{RowLine}
 use Rattle.sections.specs.Rows.{valuesOf, factorsOf}
 use Rattle.lines.specs.SheetLine.{sheetLine}

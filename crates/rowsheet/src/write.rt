@@ -13,7 +13,7 @@ ghost use lib.ListN.{length, getD};
 ghost use Rattle.limits.specs.Limits.{zonesMost, rowsMost};
 ghost use Rattle.refusals.specs.Refusals.{then, passed};
 ghost use Rattle.text.specs.Left.{textLeft, textSaid};
-ghost use Rattle.table.specs.Table.{rowGood, stretch};
+ghost use Rattle.tablerules.specs.Table.{rowGood, stretch};
 ghost use Rattle.rowsheet.specs.RowSheet.{sheetOf, rowsInRange};
 
 pub fn write_front(zones: usize, c: &[RowRecord], f: &[i64], out: &mut [u8]) -> Written

@@ -12,7 +12,7 @@ use Rattle.text.specs.Line.{Line, holds, form, range}
 use Rattle.sections.specs.Section.{linesAt}
 use Rattle.sections.proofs.SectionLaws.{allFit}
 use Rattle.sections.proofs.SectionRecords.{section-same}
-use Rattle.table.specs.Table.{stretch}
+use Rattle.tablerules.specs.Table.{stretch}
 use Rattle.lines.specs.Lines.{RowLine, row}
 use Rattle.lines.specs.SaidRow.{saidRow, lineBy}
 use Rattle.lines.specs.declared.row.RowKind.{RowKind}

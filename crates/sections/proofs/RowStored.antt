@@ -9,7 +9,7 @@ use lib.Seq.{length-paste}
 use Rattle.numbers.proofs.ListLaws.{stretch-left}
 use Rattle.refusals.specs.Refusals.{wrongFormAt, outOfRangeAt}
 use Rattle.text.specs.Line.{lineAt, after, Line, holds, form, range}
-use Rattle.table.proofs.StretchLaws.{stretch-end}
+use Rattle.tablerules.proofs.StretchLaws.{stretch-end}
 use Rattle.lines.specs.Lines.{RowLine, row}
 use Rattle.sections.specs.Section.{Section, read, fault, linesAt}
 use Rattle.sections.specs.Rows.{cut}

@@ -1,5 +1,5 @@
 -- What an extraction is of, without its table: which rows take part, which borders may rise, the factors p, each row's margin and each border's exchange at the start.
--- The grid, the start, refusals 5, 6, 7 and where the rounds end are said here once, for any choice of rows and borders and for margins of any kind. How a table becomes one is crate start's.
+-- The grid, the start, refusals 5, 6, 7 and where the rounds end are said here once, for any choice of rows and borders and for margins of any kind. How a table becomes one is crate extractrules'.
 use mathlib.Core.Bool.{Bool, cond, not, _&&_}
 use Prim.Native.Nat.{ℕ}
 use lib.Dec.{ltb}

@@ -26,19 +26,19 @@ use Rattle.text.specs.Left.{textLeft, textSaid}
 use Rattle.text.specs.Written.{linesText}
 use Rattle.text.proofs.WrittenLaws.{decimal-long, decimalℤ-long}
 use Rattle.text.proofs.PutLaws.{lines-most, lines-cong}
-use Rattle.table.specs.Table.{Table, lent, front, factorsAt}
-use Rattle.table.specs.Good.{Good}
+use Rattle.tablerules.specs.Table.{Table, lent, front, factorsAt}
+use Rattle.tablerules.specs.Good.{Good}
 use Rattle.reading.specs.declared.TableRead.{TableRead}
 use Rattle.reading.specs.declared.TableRead.the-variants as read
 use Rattle.reading.specs.Reading.{readCorrected, readInto}
 use Rattle.reading.proofs.IntoLaws.{into-refused, into-read, into-good}
-use Rattle.margin.specs.Magnitudes.{BordersInRange}
-use Rattle.margin.proofs.JudgedLaws.{stretch-long, stretch-ranges, good-factors, good-borders}
-use Rattle.corners.specs.Corners.{sheetBordersMost, partOf, flowsOf, judgeCornerSheet}
-use Rattle.corners.specs.Listed.{partMost, cornerFlowMost}
-use Rattle.corners.proofs.CornerLaws.{flow-within}
-use Rattle.corners.proofs.ListedLaws.{part-of-within}
-use Rattle.corners.proofs.SheetLaws.{Sheet, flows-long, passed-sheet}
+use Rattle.marginrules.specs.Magnitudes.{BordersInRange}
+use Rattle.marginrules.proofs.JudgedLaws.{stretch-long, stretch-ranges, good-factors, good-borders}
+use Rattle.cornerrules.specs.Corners.{sheetBordersMost, partOf, flowsOf, judgeCornerSheet}
+use Rattle.cornerrules.specs.Listed.{partMost, cornerFlowMost}
+use Rattle.cornerrules.proofs.CornerLaws.{flow-within}
+use Rattle.cornerrules.proofs.ListedLaws.{part-of-within}
+use Rattle.cornerrules.proofs.SheetLaws.{Sheet, flows-long, passed-sheet}
 use Rattle.cornertext.specs.CornerText.{sheetMost, cornerLineAt, cornersText, sheetText, sheetTextOf}
 use Rattle.cornertext.proofs.CornerTextLaws.{corner-line-long}
 use Rattle.result.specs.Refusal.{refusalText}

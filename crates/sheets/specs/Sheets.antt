@@ -6,9 +6,9 @@ use lib.Dec.{leb}
 use Rattle.refusals.specs.Refusals.{passed, then}
 use Rattle.types.specs.declared.Header.{Header}
 use Rattle.text.specs.Written.{linesText}
-use Rattle.table.specs.Table.{Table}
+use Rattle.tablerules.specs.Table.{Table}
 use Rattle.reading.specs.Reading.{readCorrected}
-use Rattle.corners.specs.Corners.{sheetBordersMost, judgeCornerSheet}
+use Rattle.cornerrules.specs.Corners.{sheetBordersMost, judgeCornerSheet}
 use Rattle.cornertext.specs.CornerText.{sheetText, sheetTextOf}
 use Rattle.output.specs.Buffer.{toldText}
 

@@ -4,8 +4,8 @@ ghost use mathlib.Core.Path.{_≡_};
 ghost use Prim.Native.Nat.{_*_, _≤_};
 ghost use lib.ListN.{length};
 ghost use Rattle.limits.specs.Limits.{zonesMost, bordersMost, rowsMost};
-ghost use Rattle.table.specs.Table.{lent, front};
-ghost use Rattle.table.specs.Good.{Good};
+ghost use Rattle.tablerules.specs.Table.{lent, front};
+ghost use Rattle.tablerules.specs.Good.{Good};
 ghost use Rattle.output.specs.Buffer.{Printed};
 ghost use Rattle.sheets.specs.Sheets.{sheetAt, sheetRows};
 ghost use Rattle.sheets.specs.Room.{sheetRoom};
@@ -46,7 +46,7 @@ pub fn room() -> [u8; ROOM]
 pub fn sheet_rows(h: Header) -> usize
     ensures { λ r. ⌜ r ≡ sheetRows h ⌝ }
 {
-    if h.borders <= corners::BORDERS_MOST {
+    if h.borders <= cornerrules::BORDERS_MOST {
         return h.rows;
     }
     1

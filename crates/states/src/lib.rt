@@ -6,12 +6,12 @@ ghost use lib.IntN.{pos};
 ghost use lib.ListN.{length};
 ghost use lib.Signed.{ltZ};
 ghost use Rattle.numbers.specs.Below.{someBelow};
-ghost use Rattle.table.specs.Table.{lent, front, stretch};
-ghost use Rattle.table.specs.Good.{Good};
-ghost use Rattle.margin.specs.Magnitudes.{FactorsInRange, TableFactorsInRange};
-ghost use Rattle.margin.specs.Margin.{startsOf};
-ghost use Rattle.states.specs.States.{spreadOf, spreadLeast, shifted, below, stateOf, statesOf};
-ghost use Rattle.states.specs.Standings.{standingsOf, standingsWith};
+ghost use Rattle.tablerules.specs.Table.{lent, front, stretch};
+ghost use Rattle.tablerules.specs.Good.{Good};
+ghost use Rattle.marginrules.specs.Magnitudes.{FactorsInRange, TableFactorsInRange};
+ghost use Rattle.marginrules.specs.Margin.{startsOf};
+ghost use Rattle.staterules.specs.States.{spreadOf, spreadLeast, shifted, below, stateOf, statesOf};
+ghost use Rattle.staterules.specs.Standings.{standingsOf, standingsWith};
 
 // The 5% test: rows of a smaller spread, in hundred-thousandths, take no part.
 const SPREAD_LEAST: i64 = 5000;

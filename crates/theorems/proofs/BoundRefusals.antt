@@ -11,11 +11,11 @@ use Rattle.refusals.specs.Refusals.{Judged, passed, refused, then}
 use Rattle.refusals.proofs.RefusalLaws.{refused-is, not-passed, either-passed, either-refused}
 use Rattle.marks.specs.Marks.{judgeAsked, mayRise}
 use Rattle.marks.proofs.MarkLaws.{asked-then}
-use Rattle.table.specs.Table.{Table, judgeLent}
-use Rattle.start.specs.Start.{judgeMarked}
-use Rattle.extraction.specs.Extraction.{Result, outcomeMarked, outcomeFor, ExtractLeft, extractFor}
-use Rattle.extraction.proofs.LentLaws.{extract-roomy}
-use Rattle.bound.specs.Bound.{boundMarked, boundFor}
+use Rattle.tablerules.specs.Table.{Table, judgeLent}
+use Rattle.extractrules.specs.Start.{judgeMarked}
+use Rattle.extractrules.specs.Extraction.{Result, outcomeMarked, outcomeFor, ExtractLeft, extractFor}
+use Rattle.extractrules.proofs.LentLaws.{extract-roomy}
+use Rattle.boundrules.specs.Bound.{boundMarked, boundFor}
 
 -- a judgement without what passed
 forget : {A : Type 0} → Judged A → Judged (Unit {0})

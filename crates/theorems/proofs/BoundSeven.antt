@@ -4,13 +4,13 @@ use mathlib.Core.Bool.{Bool}
 use mathlib.Core.List.{List}
 use Prim.Native.Nat.{ℕ}
 use Rattle.marks.specs.Marks.{mayRise}
-use Rattle.table.specs.Table.{Table, judgeLent}
-use Rattle.table.proofs.GoodLaws.{judged-front}
-use Rattle.start.specs.Start.{judgeMarked}
+use Rattle.tablerules.specs.Table.{Table, judgeLent}
+use Rattle.tablerules.proofs.GoodLaws.{judged-front}
+use Rattle.extractrules.specs.Start.{judgeMarked}
 use Rattle.promises.specs.Seven.{NotSeven, NoReductions}
 use Rattle.theorems.proofs.Seven.{not-seven, judged-not-7, asked-not-7, lent-not-7, front-reductions}
 use Rattle.theorems.proofs.ToldLaws.{told-passed, told-then}
-use Rattle.bound.specs.Bound.{boundMarked, boundFor}
+use Rattle.boundrules.specs.Bound.{boundMarked, boundFor}
 
 pub bound-not-7 : (all : Bool) (marks : List ℕ) (given : Table) → NoReductions given → NotSeven (boundFor all marks given)
 unfolding boundFor boundMarked

@@ -10,19 +10,19 @@ use lib.ListN.{List·getD-append}
 use Rattle.numbers.specs.Below.{at, over}
 use Rattle.refusals.specs.Refusals.{passed}
 use Rattle.marks.specs.Marks.{mayRise}
-use Rattle.table.specs.Table.{Table, borderAt, factorsAt, front}
+use Rattle.tablerules.specs.Table.{Table, borderAt, factorsAt, front}
 use Rattle.rounds.proofs.Laid.{laid-raise, laid-next}
 use Rattle.rounds.proofs.Theorems.{same-factors}
 use Rattle.rounds.proofs.Loops.{place-inside}
-use Rattle.margin.specs.Margin.{pOf}
-use Rattle.states.specs.Standings.{standingsOf}
+use Rattle.marginrules.specs.Margin.{pOf}
+use Rattle.staterules.specs.Standings.{standingsOf}
 use Rattle.setup.specs.Setup.{gridBy}
-use Rattle.states.specs.States.{kept}
-use Rattle.start.specs.Start.{every, gridMarked, tableGrid, tableStart, setupWith}
-use Rattle.start.specs.Filled.{cells}
-use Rattle.start.proofs.StartLaws.{cells-at, grid-long}
-use Rattle.extraction.specs.Extraction.{ExtractLeft, extractFor, resultMarked}
-use Rattle.extraction.proofs.LentLaws.{accepted-for}
+use Rattle.staterules.specs.States.{kept}
+use Rattle.extractrules.specs.Start.{every, gridMarked, tableGrid, tableStart, setupWith}
+use Rattle.extractrules.specs.Filled.{cells}
+use Rattle.extractrules.proofs.StartLaws.{cells-at, grid-long}
+use Rattle.extractrules.specs.Extraction.{ExtractLeft, extractFor, resultMarked}
+use Rattle.extractrules.proofs.LentLaws.{accepted-for}
 use Rattle.promises.specs.ByBorder.{laidOut, ByBorder}
 
 -- a table of p in front of lent memory

@@ -21,12 +21,12 @@ use Rattle.refusals.specs.Refusals.{passed}
 use Rattle.refusals.proofs.RefusalLaws.{none-passed, then-passed}
 use Rattle.types.specs.Ranges.{atℤ, exists}
 use Rattle.types.proofs.RangeLaws.{exists-in}
-use Rattle.table.specs.Table.{Table, front, factorsAt, judgeLent}
-use Rattle.table.proofs.GoodLaws.{judged-front}
-use Rattle.margin.specs.Margin.{ramAt}
-use Rattle.states.specs.Standings.{Standings, standingsOf}
-use Rattle.states.proofs.StandingsLaws.{rows-in}
-use Rattle.states.specs.States.{kept}
+use Rattle.tablerules.specs.Table.{Table, front, factorsAt, judgeLent}
+use Rattle.tablerules.proofs.GoodLaws.{judged-front}
+use Rattle.marginrules.specs.Margin.{ramAt}
+use Rattle.staterules.specs.Standings.{Standings, standingsOf}
+use Rattle.staterules.proofs.StandingsLaws.{rows-in}
+use Rattle.staterules.specs.States.{kept}
 use Rattle.claimrules.specs.Claims.{timesMost, claimedRow, denominator, pairs, citedRow, multiplier, keptRow, claimedIn, formed, citedSum, ownSum, excess, factorAt, level, borneOut, judgeClaims, claimsOf, claimsAnswer, remaining}
 use Rattle.promises.specs.Allowed.{netLoad, Allowed, Same, WholeAllowed}
 use Rattle.theorems.proofs.Outweighed.{outweighed}

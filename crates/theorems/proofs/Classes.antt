@@ -18,12 +18,12 @@ use Rattle.types.specs.declared.Hubs.the-variants.{Without, Between}
 use Rattle.types.specs.declared.Border.{Border}
 use Rattle.types.specs.Ranges.{isIntraday, atℤ}
 use Rattle.types.proofs.RangeLaws.{allocated-most}
-use Rattle.table.specs.Table.{Table, balanced, borderAt, factorsAt}
-use Rattle.table.specs.Good.{Good}
-use Rattle.margin.specs.Margin.{flowOf, byHubs, signedFactor, pOf, ltaKw, sOf, sAt, ramAt, marginOf}
-use Rattle.margin.specs.Magnitudes.{HubsWithin, BorderInRange}
-use Rattle.margin.proofs.JudgedLaws.{border-ranges, good-factors, stretch-long}
-use Rattle.states.specs.States.{spreadOf, spreadLeast, shifted, below, stateOf}
+use Rattle.tablerules.specs.Table.{Table, balanced, borderAt, factorsAt}
+use Rattle.tablerules.specs.Good.{Good}
+use Rattle.marginrules.specs.Margin.{flowOf, byHubs, signedFactor, pOf, ltaKw, sOf, sAt, ramAt, marginOf}
+use Rattle.marginrules.specs.Magnitudes.{HubsWithin, BorderInRange}
+use Rattle.marginrules.proofs.JudgedLaws.{border-ranges, good-factors, stretch-long}
+use Rattle.staterules.specs.States.{spreadOf, spreadLeast, shifted, below, stateOf}
 use Rattle.theorems.proofs.ShiftLaws.{shifted-alike}
 use Rattle.promises.specs.Demand.{lessSOf, remainderOf}
 use Rattle.promises.specs.Taking.{zeroOrTwo}

@@ -10,8 +10,8 @@ use lib.IntN.{ℤ, pos}
 use lib.Pow.{pow-pos}
 use Rattle.numbers.specs.Below.{ifZero}
 use Rattle.numbers.proofs.BelowLaws.{le-or-lt, lt-suc-cases}
-use Rattle.margin.proofs.Corner.{low-bit, top-bit, same-bit, used}
-use Rattle.corners.specs.Corners.{bit}
+use Rattle.marginrules.proofs.Corner.{low-bit, top-bit, same-bit, used}
+use Rattle.cornerrules.specs.Corners.{bit}
 
 pub low-not : (n k : ℕ) → k < 2 ^ n → bit k n ≡ false
 low-not n k h = ap (λ (v : ℕ). eqb v 1) (low-bit n k h)

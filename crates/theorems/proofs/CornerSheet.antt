@@ -11,13 +11,13 @@ use Rattle.numbers.specs.Below.{over}
 use Rattle.numbers.proofs.BelowLaws.{sumℤ-cong}
 use Rattle.refusals.specs.Refusals.{passed, refused, tooShort}
 use Rattle.types.specs.Ranges.{atℤ}
-use Rattle.table.specs.Table.{Table, factorsAt}
-use Rattle.margin.specs.Margin.{cornerPart, cornerSum, sOf}
-use Rattle.margin.proofs.Corner.{used}
+use Rattle.tablerules.specs.Table.{Table, factorsAt}
+use Rattle.marginrules.specs.Margin.{cornerPart, cornerSum, sOf}
+use Rattle.marginrules.proofs.Corner.{used}
 use Rattle.theorems.proofs.LargestCorner.{s-largest-corner}
-use Rattle.corners.specs.Corners.{partOf, flowsOf, judgeCorners, flowsLeft, cornersLeft, Stands, Largest}
-use Rattle.corners.proofs.CornerLaws.{flows-length, flows-at}
-use Rattle.corners.proofs.SheetLaws.{flows-long, sheet-short, sheet-all, judged-sheet}
+use Rattle.cornerrules.specs.Corners.{partOf, flowsOf, judgeCorners, flowsLeft, cornersLeft, Stands, Largest}
+use Rattle.cornerrules.proofs.CornerLaws.{flows-length, flows-at}
+use Rattle.cornerrules.proofs.SheetLaws.{flows-long, sheet-short, sheet-all, judged-sheet}
 use Rattle.theorems.proofs.CornerBits.{cornerOf, number-below, number-bits, number-only, part-chosen}
 
 module _ (factors : List ℤ) (borders : List (List ℤ)) where

@@ -17,20 +17,20 @@ use Rattle.limits.specs.Limits.{bordersMost}
 use Rattle.refusals.specs.Refusals.{passed}
 use Rattle.types.specs.Ranges.{isIntraday}
 use Rattle.types.proofs.RangeLaws.{header-in}
-use Rattle.table.specs.Table.{Table, borderAt, factorsAt}
-use Rattle.table.specs.Good.{Good}
+use Rattle.tablerules.specs.Table.{Table, borderAt, factorsAt}
+use Rattle.tablerules.specs.Good.{Good}
 use Rattle.rounds.specs.Rounds.{Grid, Outcome, sharers, raise, alone, mostSharers}
 use Rattle.rounds.proofs.LeastLaws.{least-mono, div-mono}
 use Rattle.rounds.proofs.Theorems.{alone-under, alone-least, extract-demand3}
-use Rattle.margin.specs.Magnitudes.{namedBits, startBits}
-use Rattle.margin.specs.Margin.{flowOf, signedFactor, pOf, ltaKw, sOf, sAt, ramAt, startBy, marginOf}
-use Rattle.margin.proofs.Small.{named-values-small}
-use Rattle.states.specs.Standings.{standingsOf}
+use Rattle.marginrules.specs.Magnitudes.{namedBits, startBits}
+use Rattle.marginrules.specs.Margin.{flowOf, signedFactor, pOf, ltaKw, sOf, sAt, ramAt, startBy, marginOf}
+use Rattle.marginrules.proofs.Small.{named-values-small}
+use Rattle.staterules.specs.Standings.{standingsOf}
 use Rattle.setup.specs.Setup.{Setup, gridBy, beginBy, endBy}
-use Rattle.states.specs.States.{kept}
-use Rattle.start.specs.Start.{gridMarked, tableStart, setupOf, setupWith}
-use Rattle.extraction.specs.Extraction.{Result, resultMarked, outcomeMarked, leftOf, nOf, lOf}
-use Rattle.extraction.proofs.AcceptedLaws.{accepted, part-le-abs}
+use Rattle.staterules.specs.States.{kept}
+use Rattle.extractrules.specs.Start.{gridMarked, tableStart, setupOf, setupWith}
+use Rattle.extractrules.specs.Extraction.{Result, resultMarked, outcomeMarked, leftOf, nOf, lOf}
+use Rattle.extractrules.proofs.AcceptedLaws.{accepted, part-le-abs}
 use Rattle.promises.specs.Demand.{loadOf, lessSOf, remainderOf, startMargin, UpTo, WithinAtcs, roundsMost, Demand3, ResultDemand3}
 use Rattle.theorems.proofs.LoadLaws.{sum-le, le-pos, sum-none, part-is, part-none, and-false, less-is, on-top}
 use Rattle.theorems.proofs.DemandBy.{loadBy, rises, stays, within-all, lost-all, setup-rounds}

@@ -15,7 +15,7 @@ use Rattle.rounds.proofs.Rounds.{extracts}
 use Rattle.rounds.proofs.Theorems.{extract-demand3}
 use Rattle.theorems.proofs.Rounds.{most-rounds}
 use Rattle.setup.specs.Setup.{Setup, gridBy, beginBy, endBy}
-use Rattle.extraction.proofs.AcceptedLaws.{part-le-whole}
+use Rattle.extractrules.proofs.AcceptedLaws.{part-le-whole}
 use Rattle.theorems.proofs.SetupLaws.{margin-at, from-at, p-marked, p-unmarked, unloaded-stays}
 
 -- row i's load from exchanges v, over all borders, marked or not

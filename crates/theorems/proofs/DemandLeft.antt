@@ -12,16 +12,16 @@ use Rattle.numbers.proofs.BelowLaws.{table-long, table-get}
 use Rattle.refusals.specs.Refusals.{passed}
 use Rattle.types.specs.Ranges.{atℤ}
 use Rattle.marks.specs.Marks.{mayRise}
-use Rattle.table.specs.Table.{Table, front}
-use Rattle.table.specs.Good.{Good}
-use Rattle.table.proofs.GoodLaws.{judged-good}
-use Rattle.states.specs.Standings.{standingsOf}
+use Rattle.tablerules.specs.Table.{Table, front}
+use Rattle.tablerules.specs.Good.{Good}
+use Rattle.tablerules.proofs.GoodLaws.{judged-good}
+use Rattle.staterules.specs.Standings.{standingsOf}
 use Rattle.setup.specs.Setup.{beginBy, endBy}
-use Rattle.states.specs.States.{kept}
-use Rattle.start.specs.Start.{setupWith}
-use Rattle.extraction.specs.Extraction.{Result, outcomeMarked, resultMarked, leftOf, atcRecord, rowRecord, ExtractLeft, extractFor}
-use Rattle.extraction.proofs.AcceptedLaws.{accepted}
-use Rattle.extraction.proofs.LentLaws.{accepted-for}
+use Rattle.staterules.specs.States.{kept}
+use Rattle.extractrules.specs.Start.{setupWith}
+use Rattle.extractrules.specs.Extraction.{Result, outcomeMarked, resultMarked, leftOf, atcRecord, rowRecord, ExtractLeft, extractFor}
+use Rattle.extractrules.proofs.AcceptedLaws.{accepted}
+use Rattle.extractrules.proofs.LentLaws.{accepted-for}
 use Rattle.promises.specs.Demand.{UpTo, WithinAtcs}
 use Rattle.promises.specs.DemandLeft.{atcIn, leftIn, LeftDemand3}
 use Rattle.theorems.proofs.Demand3.{atcs-up-to, demand-of}

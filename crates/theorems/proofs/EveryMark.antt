@@ -16,12 +16,12 @@ use Rattle.refusals.specs.Refusals.{Judged, passed, refused, then, either}
 use Rattle.refusals.proofs.RefusalLaws.{then-next}
 use Rattle.marks.specs.Marks.{markedBy, faultyMark}
 use Rattle.marks.proofs.MarkLaws.{asked-then, marks-passed}
-use Rattle.table.specs.Table.{Table}
-use Rattle.table.proofs.GoodLaws.{judged-front}
-use Rattle.start.specs.Start.{every}
-use Rattle.extraction.specs.Extraction.{Result, outcomeMarked, outcomeOf, outcomeFor, judgeExtract, leaves, resultRoom, resultStored, extractFor, extractLeft, extractMarkedLeft}
-use Rattle.extraction.proofs.LentLaws.{judged-lent}
-use Rattle.extraction.proofs.MarkedLaws.{outcome-agree}
+use Rattle.tablerules.specs.Table.{Table}
+use Rattle.tablerules.proofs.GoodLaws.{judged-front}
+use Rattle.extractrules.specs.Start.{every}
+use Rattle.extractrules.specs.Extraction.{Result, outcomeMarked, outcomeOf, outcomeFor, judgeExtract, leaves, resultRoom, resultStored, extractFor, extractLeft, extractMarkedLeft}
+use Rattle.extractrules.proofs.LentLaws.{judged-lent}
+use Rattle.extractrules.proofs.MarkedLaws.{outcome-agree}
 use Rattle.promises.specs.Marked.{AllMarked}
 use Rattle.theorems.proofs.PlaceLaws.{sum-places}
 

@@ -18,8 +18,8 @@ use Rattle.numbers.proofs.BelowLaws.{some-none, lt-suc-cases, le-or-lt, sum-con
 use Rattle.numbers.proofs.IntLaws.{diff, diffs, zarith}
 use Rattle.refusals.specs.Refusals.{passed}
 use Rattle.refusals.proofs.RefusalLaws.{passed-is, then-passed, then-next}
-use Rattle.table.specs.Table.{Table, borderAt, factorsAt}
-use Rattle.table.specs.Good.{Good}
+use Rattle.tablerules.specs.Table.{Table, borderAt, factorsAt}
+use Rattle.tablerules.specs.Good.{Good}
 use Rattle.rounds.specs.Rounds.{Grid, State, sharers, raise, Rounds, extract}
 use Rattle.rounds.specs.Last.{after, raiseIn, lastRound}
 use Rattle.rounds.specs.Stopping.{equalShareKw, stopRow, Stops}
@@ -27,12 +27,12 @@ use Rattle.rounds.proofs.LeastLaws.{Smallest, least-some, div-mono}
 use Rattle.rounds.proofs.Round.{next-margin-le}
 use Rattle.rounds.proofs.Rounds.{extracts, ended-at}
 use Rattle.rounds.proofs.LastLaws.{last-round}
-use Rattle.margin.specs.Margin.{pOf, sAt, ramAt}
-use Rattle.states.specs.Standings.{standingsOf}
+use Rattle.marginrules.specs.Margin.{pOf, sAt, ramAt}
+use Rattle.staterules.specs.Standings.{standingsOf}
 use Rattle.setup.specs.Setup.{Setup, gridBy, beginBy}
-use Rattle.states.specs.States.{kept}
-use Rattle.start.specs.Start.{gridMarked, tableStart, judgeMarked, setupOf, setupWith}
-use Rattle.extraction.specs.Extraction.{resultMarked, outcomeMarked, leftOf, lastOf, stopOf}
+use Rattle.staterules.specs.States.{kept}
+use Rattle.extractrules.specs.Start.{gridMarked, tableStart, judgeMarked, setupOf, setupWith}
+use Rattle.extractrules.specs.Extraction.{resultMarked, outcomeMarked, leftOf, lastOf, stopOf}
 use Rattle.promises.specs.Demand.{startKw, lessSOf, remainderOf, startMargin, lossOf}
 use Rattle.theorems.proofs.Demand3.{accepted-demand-3}
 use Rattle.theorems.proofs.SetupLaws.{loads-takes, p-marked, p-unmarked, marked-loaded}

@@ -14,8 +14,8 @@ use Rattle.numbers.specs.Below.{sum, ifZero}
 use Rattle.numbers.proofs.IntLaws.{diffs, zarith, add-le-pos}
 use Rattle.numbers.proofs.BelowLaws.{sum-cong, sumℤ-cong}
 use Rattle.types.specs.Ranges.{borderOf}
-use Rattle.margin.specs.Margin.{signedFactor, pOf, ltaKw, cornerPart, cornerSum, sOf}
-use Rattle.margin.proofs.Corner.{low-bit, top-bit, same-bit, used}
+use Rattle.marginrules.specs.Margin.{signedFactor, pOf, ltaKw, cornerPart, cornerSum, sOf}
+use Rattle.marginrules.proofs.Corner.{low-bit, top-bit, same-bit, used}
 use Rattle.promises.specs.LargestCorner.{LargestCorner}
 
 -- ---- corners of any parts

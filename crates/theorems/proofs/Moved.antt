@@ -13,10 +13,10 @@ use Rattle.numbers.proofs.BelowLaws.{table-long, table-get}
 use Rattle.types.specs.declared.Header.{Header}
 use Rattle.types.specs.Ranges.{atℤ, headerFits, allocatedItems, zoneFits, rowFits, factorFits}
 use Rattle.types.proofs.RangeLaws.{header-in}
-use Rattle.table.specs.Table.{Table, balanced, stretch, factorsAt, twice}
-use Rattle.table.specs.Good.{Good}
-use Rattle.table.proofs.GoodLaws.{stretch-long, stretch-at, flat-fit, row-fit}
-use Rattle.table.proofs.StretchLaws.{stretch-end}
+use Rattle.tablerules.specs.Table.{Table, balanced, stretch, factorsAt, twice}
+use Rattle.tablerules.specs.Good.{Good}
+use Rattle.tablerules.proofs.GoodLaws.{stretch-long, stretch-at, flat-fit, row-fit}
+use Rattle.tablerules.proofs.StretchLaws.{stretch-end}
 use Rattle.promises.specs.Order.{Reordered, reorder}
 
 module _ {t t′ : Table} (o : Reordered t t′) (good : Good t) where

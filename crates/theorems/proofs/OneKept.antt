@@ -19,10 +19,10 @@ use Rattle.numbers.proofs.IntLaws.{diff, diffs, zarith, ltZ-true, ltZ-false, lt
 use Rattle.numbers.proofs.TestLaws.{true-false, some-false, false-some}
 use Rattle.types.specs.declared.Header.{Header}
 use Rattle.types.specs.Ranges.{atℤ}
-use Rattle.table.specs.Table.{stretch}
-use Rattle.margin.specs.Magnitudes.{TableFactorsInRange}
-use Rattle.margin.proofs.JudgedLaws.{stretch-long}
-use Rattle.states.specs.States.{spreadOf, spreadLeast, shifted, below, stateOf}
+use Rattle.tablerules.specs.Table.{stretch}
+use Rattle.marginrules.specs.Magnitudes.{TableFactorsInRange}
+use Rattle.marginrules.proofs.JudgedLaws.{stretch-long}
+use Rattle.staterules.specs.States.{spreadOf, spreadLeast, shifted, below, stateOf}
 use Rattle.theorems.proofs.ShiftLaws.{shifted-self, shifted-back, shifted-on, shifted-spread}
 
 -- ---- the order: RAM, then index

@@ -11,15 +11,15 @@ use Rattle.numbers.specs.Ints.{maxℤ, positivePart}
 use Rattle.numbers.specs.Below.{at, count}
 use Rattle.numbers.proofs.BelowLaws.{count-cong, table-get}
 use Rattle.types.specs.Ranges.{atℤ, isIntraday, borderOf}
-use Rattle.table.specs.Table.{Table, factorsAt}
-use Rattle.table.specs.Good.{Good}
+use Rattle.tablerules.specs.Table.{Table, factorsAt}
+use Rattle.tablerules.specs.Good.{Good}
 use Rattle.rounds.specs.Rounds.{sharers}
-use Rattle.margin.specs.Margin.{pOf, marginOf, startsOf}
-use Rattle.states.specs.Standings.{standingsOf}
+use Rattle.marginrules.specs.Margin.{pOf, marginOf, startsOf}
+use Rattle.staterules.specs.Standings.{standingsOf}
 use Rattle.setup.specs.Setup.{gridBy, beginBy}
-use Rattle.states.specs.States.{kept}
-use Rattle.start.specs.Start.{tableGrid, tableStart, setupWith}
-use Rattle.parts.specs.Parts.{nOf, startFrom, partsOf}
+use Rattle.staterules.specs.States.{kept}
+use Rattle.extractrules.specs.Start.{tableGrid, tableStart, setupWith}
+use Rattle.partrules.specs.Parts.{nOf, startFrom, partsOf}
 
 start-part : (intraday : Bool) (z : ℤ) → positivePart (startFrom intraday z) ≡ positivePart z
 unfolding startFrom maxℤ positivePart

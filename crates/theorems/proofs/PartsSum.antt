@@ -5,9 +5,9 @@ use Prim.Native.Nat.{ℕ}
 use lib.IntN.{pos, _+ℤ_, _-ℤ_}
 use Rattle.numbers.specs.Ints.{maxℤ}
 use Rattle.types.specs.Ranges.{isIntraday}
-use Rattle.table.specs.Table.{Table, factorsAt}
-use Rattle.margin.specs.Margin.{flowOf, ramOf, ramAt}
-use Rattle.parts.specs.Parts.{startFrom, partsOf}
+use Rattle.tablerules.specs.Table.{Table, factorsAt}
+use Rattle.marginrules.specs.Margin.{flowOf, ramOf, ramAt}
+use Rattle.partrules.specs.Parts.{startFrom, partsOf}
 
 module _ (t : Table) (i : ℕ) where
   -- RAM = Base + AMR + LTA margin - CVA - IVA

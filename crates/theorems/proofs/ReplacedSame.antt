@@ -16,15 +16,15 @@ use Rattle.types.specs.LineLimits.{shareMost}
 use Rattle.types.specs.Ranges.{isIntraday, atℤ, shareOf, rowOf, rowFits, worth, defaultOf}
 use Rattle.types.proofs.RangeLaws.{row-in, default-low, default-fits}
 use Rattle.marks.specs.Marks.{judgeAsked, mayRise}
-use Rattle.table.specs.Table.{Table, factorsAt}
-use Rattle.table.specs.Good.{Good}
-use Rattle.margin.specs.Margin.{f0coreOf, fuafOf, baseOf, amrOf, ltaMarginOf, ramOf, sAt, ramAt, startBy, marginOf, ramsOf, startsOf}
-use Rattle.states.specs.States.{statesOf, kept}
-use Rattle.states.specs.Standings.{Standings, standingsOf}
+use Rattle.tablerules.specs.Table.{Table, factorsAt}
+use Rattle.tablerules.specs.Good.{Good}
+use Rattle.marginrules.specs.Margin.{f0coreOf, fuafOf, baseOf, amrOf, ltaMarginOf, ramOf, sAt, ramAt, startBy, marginOf, ramsOf, startsOf}
+use Rattle.staterules.specs.States.{statesOf, kept}
+use Rattle.staterules.specs.Standings.{Standings, standingsOf}
 use Rattle.setup.specs.Setup.{Setup, gridBy, beginBy, judgeBy}
-use Rattle.start.specs.Start.{every, setupWith}
-use Rattle.start.specs.Filled.{cells}
-use Rattle.extraction.specs.Extraction.{resultBy, resultMarked, outcomeMarked, outcomeFor}
+use Rattle.extractrules.specs.Start.{every, setupWith}
+use Rattle.extractrules.specs.Filled.{cells}
+use Rattle.extractrules.specs.Extraction.{resultBy, resultMarked, outcomeMarked, outcomeFor}
 use Rattle.promises.specs.Replaced.{replacedShare, replacedRow, replacedRows, replaced, ReplacedSame}
 
 -- ---- one row

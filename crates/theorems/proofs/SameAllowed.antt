@@ -3,9 +3,9 @@ use mathlib.Core.Path.{_≡_}
 use mathlib.Core.List.{List}
 use Prim.Native.Nat.{ℕ}
 use Rattle.refusals.specs.Refusals.{passed}
-use Rattle.table.specs.Table.{Table, front}
-use Rattle.states.specs.Standings.{standingsOf}
-use Rattle.states.specs.States.{kept}
+use Rattle.tablerules.specs.Table.{Table, front}
+use Rattle.staterules.specs.Standings.{standingsOf}
+use Rattle.staterules.specs.States.{kept}
 use Rattle.claimrules.specs.Claims.{remaining}
 use Rattle.promises.specs.Allowed.{Same}
 use Rattle.theorems.proofs.CanGo.{claimed-rows-can-go}

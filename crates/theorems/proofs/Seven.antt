@@ -15,15 +15,15 @@ use Rattle.numbers.proofs.BelowLaws.{first-nothing, table-get}
 use Rattle.refusals.specs.Refusals.{Judged, passed, refused, then, either, unless, refuseAt, refuseFirst, noRow, unlimited, belowZero}
 use Rattle.types.specs.Ranges.{isIntraday, defaultOf, rowOf}
 use Rattle.marks.specs.Marks.{judgeMarks, judgeAsked, mayRise}
-use Rattle.table.specs.Table.{Table, rowAt, factorsAt, front, roomFor, inRange, notTwice, judgeShape, judgeRecords, judgeFor, judgeLent}
-use Rattle.table.proofs.GoodLaws.{judged-front}
-use Rattle.margin.specs.Margin.{sAt, ramAt, startBy, marginOf}
-use Rattle.margin.proofs.MarginLaws.{start-not-negative}
+use Rattle.tablerules.specs.Table.{Table, rowAt, factorsAt, front, roomFor, inRange, notTwice, judgeShape, judgeRecords, judgeFor, judgeLent}
+use Rattle.tablerules.proofs.GoodLaws.{judged-front}
+use Rattle.marginrules.specs.Margin.{sAt, ramAt, startBy, marginOf}
+use Rattle.marginrules.proofs.MarginLaws.{start-not-negative}
 use Rattle.setup.specs.Setup.{Setup, freeBy, lowBy, judgeBy}
-use Rattle.states.specs.States.{kept}
-use Rattle.start.specs.Start.{judgeMarked, setupOf, setupWith}
-use Rattle.extraction.specs.Extraction.{Result, outcomeMarked, outcomeFor, judgeExtract, leaves, resultRoom, resultStored, extractFor}
-use Rattle.extraction.proofs.LentLaws.{judged-lent}
+use Rattle.staterules.specs.States.{kept}
+use Rattle.extractrules.specs.Start.{judgeMarked, setupOf, setupWith}
+use Rattle.extractrules.specs.Extraction.{Result, outcomeMarked, outcomeFor, judgeExtract, leaves, resultRoom, resultStored, extractFor}
+use Rattle.extractrules.proofs.LentLaws.{judged-lent}
 use Rattle.promises.specs.Seven.{NotSeven, NoReductions}
 use Rattle.promises.specs.Taking.{outcomeIn, resultIn}
 use Rattle.theorems.proofs.ToldLaws.{Told, told-passed, told-then, told-unless, told-first, told-need}

@@ -11,8 +11,8 @@ use Rattle.numbers.specs.Ints.{maxℤ, minℤ, sameℤ}
 use Rattle.numbers.proofs.IntLaws.{diff, diffs, zarith, same-true, same-self, ltZ-true, ltZ-false, lt-ltZ, le-ltZ}
 use Rattle.numbers.proofs.TestLaws.{all-true, true-all}
 use Rattle.types.specs.Ranges.{atℤ}
-use Rattle.margin.proofs.MarginLaws.{max-less, lt-less, le-less}
-use Rattle.states.specs.States.{highest, lowest, spreadOf, shifted}
+use Rattle.marginrules.proofs.MarginLaws.{max-less, lt-less, le-less}
+use Rattle.staterules.specs.States.{highest, lowest, spreadOf, shifted}
 
 -- ---- shifted: each zone differs as zone 0 does
 abbrev pub Alike : (fs gs : List ℤ) → Type 0

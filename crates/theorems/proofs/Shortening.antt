@@ -6,9 +6,9 @@ use Prim.Native.Nat.{ℕ}
 use Rattle.refusals.specs.Refusals.{Judged, passed, refused}
 use Rattle.types.specs.declared.Header.{Header}
 use Rattle.marks.specs.Marks.{mayRise}
-use Rattle.table.specs.Table.{Table}
-use Rattle.states.specs.States.{kept}
-use Rattle.extraction.specs.Extraction.{Result, outcomeFor}
+use Rattle.tablerules.specs.Table.{Table}
+use Rattle.staterules.specs.States.{kept}
+use Rattle.extractrules.specs.Extraction.{Result, outcomeFor}
 use Rattle.promises.specs.Taking.{outcomeTaking, unshortened}
 use Rattle.promises.specs.Same.{SameResult, Both}
 use Rattle.promises.specs.Shortening.{CostsNothing, AnyOrder, AcceptedToo, AcceptedInAnyOrder}

@@ -17,18 +17,18 @@ use Rattle.refusals.specs.Refusals.{Judged, unless, refuseAt, refuseFirst, badM
 use Rattle.types.specs.declared.Header.{Header}
 use Rattle.types.specs.Ranges.{isIntraday, atℤ}
 use Rattle.marks.specs.Marks.{faultyMark, judgeMarks, judgeAsked, mayRise}
-use Rattle.table.specs.Table.{Table, borderAt, factorsAt}
-use Rattle.table.specs.Good.{Good}
-use Rattle.margin.specs.Margin.{pOf, ramAt, marginOf, ramsOf}
-use Rattle.margin.proofs.JudgedLaws.{good-factors}
-use Rattle.states.specs.States.{spreadOf, spreadLeast, shifted, stateOf, kept}
+use Rattle.tablerules.specs.Table.{Table, borderAt, factorsAt}
+use Rattle.tablerules.specs.Good.{Good}
+use Rattle.marginrules.specs.Margin.{pOf, ramAt, marginOf, ramsOf}
+use Rattle.marginrules.proofs.JudgedLaws.{good-factors}
+use Rattle.staterules.specs.States.{spreadOf, spreadLeast, shifted, stateOf, kept}
 use Rattle.theorems.proofs.ShiftLaws.{shifted-self}
 use Rattle.theorems.proofs.OneKept.{one-kept}
-use Rattle.states.specs.Standings.{standingsOf}
+use Rattle.staterules.specs.Standings.{standingsOf}
 use Rattle.setup.specs.Setup.{beginBy, endBy}
-use Rattle.start.specs.Start.{setupOf, setupWith}
+use Rattle.extractrules.specs.Start.{setupOf, setupWith}
 use Rattle.outcome.specs.Outcome.{inMw}
-use Rattle.extraction.specs.Extraction.{atcOf, resultMarked, outcomeMarked, outcomeFor}
+use Rattle.extractrules.specs.Extraction.{atcOf, resultMarked, outcomeMarked, outcomeFor}
 use Rattle.promises.specs.Taking.{resultIn, outcomeIn, outcomeTaking, zeroOrTwo, unshortened}
 use Rattle.promises.specs.Same.{SameResult, Both}
 use Rattle.promises.specs.Order.{Reordered}

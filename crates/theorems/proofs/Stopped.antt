@@ -13,22 +13,22 @@ use Rattle.refusals.specs.Refusals.{passed}
 use Rattle.refusals.proofs.RefusalLaws.{then-passed}
 use Rattle.types.specs.Ranges.{atℤ}
 use Rattle.marks.specs.Marks.{mayRise}
-use Rattle.table.specs.Table.{Table, borderAt, factorsAt, front}
+use Rattle.tablerules.specs.Table.{Table, borderAt, factorsAt, front}
 use Rattle.rounds.specs.Rounds.{Grid, sharers, extract}
 use Rattle.rounds.specs.Last.{lastRound, LastRaise}
 use Rattle.rounds.specs.Stopping.{stopRow, Stops}
 use Rattle.rounds.proofs.Rounds.{extracts}
 use Rattle.rounds.proofs.LastLaws.{last-round}
 use Rattle.theorems.proofs.RoundStops as rules
-use Rattle.margin.specs.Margin.{pOf}
-use Rattle.states.specs.Standings.{standingsOf}
+use Rattle.marginrules.specs.Margin.{pOf}
+use Rattle.staterules.specs.Standings.{standingsOf}
 use Rattle.setup.specs.Setup.{Setup, gridBy}
-use Rattle.states.specs.States.{kept}
-use Rattle.start.specs.Start.{gridMarked, tableStart, judgeMarked, setupOf, setupWith}
+use Rattle.staterules.specs.States.{kept}
+use Rattle.extractrules.specs.Start.{gridMarked, tableStart, judgeMarked, setupOf, setupWith}
 use Rattle.outcome.specs.Outcome.{rowOrDash}
-use Rattle.extraction.specs.Extraction.{Result, resultMarked, outcomeMarked, leftOf, lastOf, stopOf, atcRecord, ExtractLeft, extractFor}
-use Rattle.extraction.proofs.AcceptedLaws.{accepted}
-use Rattle.extraction.proofs.LentLaws.{accepted-for}
+use Rattle.extractrules.specs.Extraction.{Result, resultMarked, outcomeMarked, leftOf, lastOf, stopOf, atcRecord, ExtractLeft, extractFor}
+use Rattle.extractrules.proofs.AcceptedLaws.{accepted}
+use Rattle.extractrules.proofs.LentLaws.{accepted-for}
 use Rattle.promises.specs.Stopped.{StoppedBy, BorderStopped, Unmarked, LeftStopped, LeftUnmarked}
 use Rattle.theorems.proofs.SetupLaws.{loads-takes, p-marked, p-unmarked, marked-loaded}
 use Rattle.theorems.proofs.DemandLeft.{over-get}

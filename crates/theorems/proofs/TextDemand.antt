@@ -19,15 +19,15 @@ use Rattle.marks.specs.Marks.{judgeMarks, judgeAsked, mayRise}
 use Rattle.text.specs.Left.{TextLeft, textLeft}
 use Rattle.text.specs.Written.{textOf, decimal, fieldsText, lineText, linesText}
 use Rattle.columns.specs.ColumnText.{indexText, headText, columnsText}
-use Rattle.table.specs.Table.{Table, judgeLent}
-use Rattle.table.specs.Good.{Good}
-use Rattle.table.proofs.GoodLaws.{judged-front, judged-good}
+use Rattle.tablerules.specs.Table.{Table, judgeLent}
+use Rattle.tablerules.specs.Good.{Good}
+use Rattle.tablerules.proofs.GoodLaws.{judged-front, judged-good}
 use Rattle.reading.specs.Reading.{readCorrected}
 use Rattle.reading.proofs.CorrectedLaws.{corrected-good}
 use Rattle.setup.specs.Setup.{gridBy, judgeBy}
-use Rattle.start.specs.Start.{judgeMarked, setupWith}
-use Rattle.extraction.specs.Extraction.{Result, outcomeMarked, outcomeFor, atcRecord, rowRecord}
-use Rattle.extraction.proofs.MarkedLaws.{for-is}
+use Rattle.extractrules.specs.Start.{judgeMarked, setupWith}
+use Rattle.extractrules.specs.Extraction.{Result, outcomeMarked, outcomeFor, atcRecord, rowRecord}
+use Rattle.extractrules.proofs.MarkedLaws.{for-is}
 use Rattle.promises.specs.Demand.{ResultDemand3}
 use Rattle.promises.specs.Seven.{NotSeven, NoReductions}
 use Rattle.promises.specs.Stopped.{BorderStopped, Unmarked}

@@ -5,10 +5,10 @@ use mathlib.Core.List.{List, []}
 use Prim.Native.Nat.{ℕ}
 use Rattle.refusals.specs.Refusals.{Judged, passed, refused, then, either}
 use Rattle.text.specs.Left.{textLeft}
-use Rattle.table.specs.Table.{Table, judgeLent}
-use Rattle.table.proofs.GoodLaws.{judged-front}
+use Rattle.tablerules.specs.Table.{Table, judgeLent}
+use Rattle.tablerules.proofs.GoodLaws.{judged-front}
 use Rattle.reading.specs.Reading.{readText}
-use Rattle.extraction.specs.Extraction.{Result, outcomeFor}
+use Rattle.extractrules.specs.Extraction.{Result, outcomeFor}
 use Rattle.promises.specs.Marked.{AllMarked}
 use Rattle.theorems.proofs.EveryMark.{all-marked-outcome, ordinary-outcome}
 use Rattle.result.specs.Refusal.{refusalText}

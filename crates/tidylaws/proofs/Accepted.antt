@@ -23,7 +23,7 @@ use Rattle.text.specs.Written.{linesText}
 use Rattle.columns.specs.declared.Head.{Head}
 use Rattle.columns.specs.declared.Head.the-variants.{Lettered, Indexed, Bare}
 use Rattle.columns.specs.ColumnText.{columnsText, numbersOf}
-use Rattle.table.specs.Table.{Table, stretch, factorsAt}
+use Rattle.tablerules.specs.Table.{Table, stretch, factorsAt}
 use Rattle.lines.specs.Lines.{RowLine}
 use Rattle.lines.specs.RowKinds.{rowTextBy}
 use Rattle.lines.specs.SaidRow.{lineBy}

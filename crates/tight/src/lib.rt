@@ -1,4 +1,4 @@
-// How many rounds a grid can take at most, measured before the first: N, L and 2 x N x L of 01's demand 3, and the sharper bound, the steps of U by N (specs/Tight.antt).
+// How many rounds a grid can take at most, measured before the first: N, L and 2 x N x L of 01's demand 3, and the sharper bound, the steps of U by N (`Tight.antt` of crate tightrules).
 mod pass;
 
 ghost use mathlib.Core.Path.{_≡_};
@@ -7,23 +7,10 @@ ghost use lib.ListN.{length};
 ghost use Rattle.limits.specs.Limits.{bordersMost};
 ghost use Rattle.rounds.specs.Rounds.{bits};
 ghost use Rattle.rounds.specs.AllRounds.{flat};
-ghost use Rattle.tight.specs.Tight.{steps};
-ghost use Rattle.tight.specs.Measure.{boundBy};
-ghost use Rattle.tight.specs.Pass.{Small};
-
-// N, L and 2 x N x L of 01's demand 3; and the sharper bound.
-pub struct RoundsMost {
-    pub sharers: u64,
-    pub bits: u64,
-    pub rounds: u64,
-    pub sharp: u64,
-}
-
-// What a border could take alone, and its reach, kW; or the largest of each.
-pub struct Kws {
-    pub alone: u64,
-    pub reach: u64,
-}
+ghost use Rattle.tightrules.specs.Tight.{steps};
+ghost use Rattle.tightrules.specs.Measure.{boundBy};
+ghost use Rattle.tightrules.specs.Pass.{Small};
+use tightrules::RoundsMost;
 
 // Measures a flat table of factors p and the margins that the rounds start from; `ns` is working memory.
 pub fn measure(
@@ -38,7 +25,7 @@ pub fn measure(
     requires { ⌜ Small (now margins) ⌝ }
     ensures { λ r. ⌜ r ≡ boundBy (flat rows borders (now (p .entry))) (now (margins .entry)) ⌝ }
 {
-    rounds::count_sharers(rows, borders, p, ns);
+    grid::count_sharers(rows, borders, p, ns);
     let n = pass::most(ns);
     let kws = pass::highest(rows, borders, p, margins, ns, n);
     let l = bits(kws.alone);

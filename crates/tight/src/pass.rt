@@ -1,5 +1,5 @@
 // What each border could take alone, and its reach, found in one pass: the smallest floor(margin / p), and the smallest of that less n - 1.
-use crate::Kws;
+use tightrules::Kws;
 ghost use mathlib.Core.Path.{_≡_};
 ghost use Prim.Native.Nat.{_+_, _*_, _-_, _^_, _<_, _≤_, min};
 ghost use lib.ListN.{length};
@@ -7,7 +7,7 @@ ghost use Rattle.numbers.specs.Below.{at, largest, table};
 ghost use Rattle.limits.specs.Limits.{bordersMost};
 ghost use Rattle.rounds.specs.Rounds.{sharers, mostSharers};
 ghost use Rattle.rounds.specs.AllRounds.{flat};
-ghost use Rattle.tight.specs.Pass.{Small, Highest, Higher, Lowered};
+ghost use Rattle.tightrules.specs.Pass.{Small, Highest, Higher, Lowered};
 
 // The largest of a list, 0 where it is empty.
 pub fn most(list: &[u64]) -> u64
@@ -59,7 +59,7 @@ fn higher(
         if low.alone <= most.alone && low.reach <= most.reach {
             return most;
         }
-        let f = rounds::factor(rows, borders, p, i, b);
+        let f = grid::factor(rows, borders, p, i, b);
         low = lower(f, ns[i], n, margins[i], low);
     }
     let alone = walk::larger(most.alone, low.alone);

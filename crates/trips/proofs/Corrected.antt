@@ -11,8 +11,8 @@ use Rattle.refusals.specs.Refusals.{Judged, passed}
 use Rattle.refusals.proofs.RefusalLaws.{passed-is, then-passed, then-next, answer-passed, need-passed}
 use Rattle.text.specs.Left.{TextLeft, textLeft}
 use Rattle.text.proofs.LeftLaws.{text-left}
-use Rattle.table.specs.Table.{Table}
-use Rattle.table.specs.Good.{Good}
+use Rattle.tablerules.specs.Table.{Table}
+use Rattle.tablerules.specs.Good.{Good}
 use Rattle.lines.specs.declared.row.RowKind.{RowKind}
 use Rattle.lines.specs.declared.row.RowKind.the-variants as rowKind
 use Rattle.layout.specs.Layout.{rowsTextBy}

@@ -23,7 +23,7 @@ use Rattle.columns.specs.ColumnText.{indexText, headText, columnsText}
 use Rattle.sections.specs.Section.{read, more, onLine, linesAt}
 use Rattle.sections.proofs.SectionLaws.{sectionText, allFit}
 use Rattle.sections.proofs.SectionRecords.{fits-at, fits-all}
-use Rattle.table.specs.Table.{Table, lent, rowLineNo, pastLineNo}
+use Rattle.tablerules.specs.Table.{Table, lent, rowLineNo, pastLineNo}
 use Rattle.lines.specs.Lines.{RowLine, rowLine}
 use Rattle.lines.specs.RowKinds.{sepBy}
 use Rattle.lines.specs.SaidRow.{lineBy}

@@ -13,9 +13,9 @@ use Rattle.types.specs.declared.Header.{Header}
 use Rattle.types.specs.Ranges.{allocatedItems}
 use Rattle.text.specs.Left.{textLeft}
 use Rattle.text.proofs.LeftLaws.{text-left}
-use Rattle.table.specs.Table.{Table, lent, front}
-use Rattle.table.specs.Good.{Good, Shaped}
-use Rattle.table.proofs.GoodLaws.{judged-good, over-judged}
+use Rattle.tablerules.specs.Table.{Table, lent, front}
+use Rattle.tablerules.specs.Good.{Good, Shaped}
+use Rattle.tablerules.proofs.GoodLaws.{judged-good, over-judged}
 use Rattle.sections.specs.Rows.{asGiven}
 use Rattle.reading.specs.Reading.{readText, ReadLeft, readLeft}
 use Rattle.reading.proofs.ReadLaws.{opened, reading, read-good}

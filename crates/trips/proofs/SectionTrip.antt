@@ -9,7 +9,7 @@ use Rattle.types.specs.Ranges.{atℤ, allocatedItems}
 use Rattle.text.specs.Written.{linesText}
 use Rattle.sections.proofs.SectionLaws.{sectionText, allFit}
 use Rattle.sections.proofs.SectionRecords.{lines-section}
-use Rattle.table.specs.Table.{Table, factorsAt, stretch}
+use Rattle.tablerules.specs.Table.{Table, factorsAt, stretch}
 use Rattle.lines.specs.Lines.{RowLine}
 use Rattle.sections.specs.Rows.{valuesOf, factorsOf}
 use Rattle.lines.specs.RowKinds.{rowTextBy}

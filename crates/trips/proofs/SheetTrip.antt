@@ -26,8 +26,8 @@ use Rattle.text.proofs.LeftLaws.{text-refused, text-short, text-left}
 use Rattle.sections.specs.Section.{read}
 use Rattle.sections.proofs.SectionLaws.{sectionText, allFit, section-read}
 use Rattle.sections.proofs.SectionRecords.{fits-all, lines-goes}
-use Rattle.table.specs.Table.{rowGood, stretch}
-use Rattle.table.proofs.GoodLaws.{stretch-long}
+use Rattle.tablerules.specs.Table.{rowGood, stretch}
+use Rattle.tablerules.proofs.GoodLaws.{stretch-long}
 use Rattle.lines.specs.Lines.{RowLine}
 use Rattle.lines.specs.declared.row.RowKind.the-variants as rowKind
 use Rattle.lines.proofs.RowTrip.{textBy, RowHeld, RowHeldAt, row-read, row-written, row-one}

@@ -23,10 +23,10 @@ use Rattle.text.proofs.LineLaws.{line-split}
 use Rattle.columns.specs.ColumnText.{columnsText, headText}
 use Rattle.sections.proofs.SectionLaws.{sectionText, allFit, section-read}
 use Rattle.sections.proofs.SectionRecords.{fits-all, lines-goes}
-use Rattle.table.specs.Table.{Table, rowGood, stretch, notTwice, zoneLineNo, allocatedLineNo, borderLineNo, rowLineNo, pastLineNo}
-use Rattle.table.specs.Good.{Good, Shaped}
-use Rattle.table.proofs.GoodLaws.{good-row, row-fit, stretch-long}
-use Rattle.table.proofs.JudgeLaws.{exact-factors}
+use Rattle.tablerules.specs.Table.{Table, rowGood, stretch, notTwice, zoneLineNo, allocatedLineNo, borderLineNo, rowLineNo, pastLineNo}
+use Rattle.tablerules.specs.Good.{Good, Shaped}
+use Rattle.tablerules.proofs.GoodLaws.{good-row, row-fit, stretch-long}
+use Rattle.tablerules.proofs.JudgeLaws.{exact-factors}
 use Rattle.lines.specs.Lines.{RowLine, headerLine, zoneLine, allocatedLine, borderLine, rowLine}
 use Rattle.sections.specs.Rows.{valuesOf, factorsOf, asGiven, cut}
 use Rattle.reading.specs.Reading.{intradayAt, allocatedFrom, linesBy, linesOf, readText}

@@ -64,7 +64,7 @@ pub fn first_cap(rows: usize, borders: usize, p: &[u64], margins: &[u64], b: usi
     ensures { λ v. ⌜ First (flat rows borders (now (p .entry))) (now (margins .entry)) b v ⌝ }
 {
     for i in 0..rows {
-        if rounds::factor(rows, borders, p, i, b) > 0 {
+        if grid::factor(rows, borders, p, i, b) > 0 {
             return margins[i];
         }
     }
@@ -89,7 +89,7 @@ fn first_raises(
     ensures { λ _. ⌜ now (caps .exit) ≡ raises (flat rows borders (now (p .entry))) (now (margins .entry)) ⌝ }
 {
     for i in 0..rows {
-        let share = rounds::equal_share(margins[i], ns[i]);
+        let share = grid::equal_share(margins[i], ns[i]);
         lower_caps(rows, borders, p, i, share, rising, borders, caps);
     }
 }
@@ -112,7 +112,7 @@ fn lower_caps(
 {
     for j in 0..live {
         let b = rising[j];
-        let f = rounds::factor(rows, borders, p, i, b);
+        let f = grid::factor(rows, borders, p, i, b);
         let cap = caps[b];
         caps[b] = tighten(f, share, cap);
     }
@@ -159,7 +159,7 @@ pub fn row_loads(
     let mut most: u64 = 0;
     for j in 0..live {
         let b = rising[j];
-        let f = rounds::factor(rows, borders, p, i, b);
+        let f = grid::factor(rows, borders, p, i, b);
         loss += f * raises[b];
         most = larger(most, f * caps[b]);
     }

@@ -12,15 +12,15 @@ use Rattle.refusals.specs.Refusals.{passed, refused, refusal, then, either, unl
 use Rattle.types.specs.declared.Header.{Header}
 use Rattle.types.specs.Ranges.{headerFits, allocatedItems, zoneFits, exists, hubsFit, borderFits, hubsOf, borderOf, shareOf, rowOf, rowFits, factorFits, worth, defaultOf}
 use Rattle.marks.specs.Marks.{markedBy, faultyMark, judgeMarks}
-use Rattle.table.specs.Table.{Table, stretch, balanced, twice, roomFor, judgeShape, judgeFor}
+use Rattle.tablerules.specs.Table.{Table, stretch, balanced, twice, roomFor, judgeShape, judgeFor}
 use Rattle.rounds.specs.Rounds.{sharers, raise, raises, load, lowered, risen, apply, next, raised, counted, run, extract}
 use Rattle.rounds.specs.Last.{after, raiseIn, lastTo, lastRound}
 use Rattle.rounds.specs.Stopping.{stopRow}
-use Rattle.margin.specs.Margin.{grains, f0coreOf, fuafOf, baseOf, amrOf, signedFactor, pOf, ltaKw, sOf, ltaMarginOf, ramOf, ramAt}
-use Rattle.states.specs.States.{highest, lowest, spreadOf, shifted, below, stateOf, kept}
-use Rattle.states.specs.Standings.{standingsOf}
+use Rattle.marginrules.specs.Margin.{grains, f0coreOf, fuafOf, baseOf, amrOf, signedFactor, pOf, ltaKw, sOf, ltaMarginOf, ramOf, ramAt}
+use Rattle.staterules.specs.States.{highest, lowest, spreadOf, shifted, below, stateOf, kept}
+use Rattle.staterules.specs.Standings.{standingsOf}
 use Rattle.setup.specs.Setup.{gridBy, beginBy, judgeBy}
-use Rattle.start.specs.Start.{setupWith}
+use Rattle.extractrules.specs.Start.{setupWith}
 use Rattle.holding.specs.Holding.{endRow}
 use Rattle.holding.proofs.Anchors.{two, from, nested, lone}
 use Rattle.why.specs.declared.Reasons.{Reasons}

@@ -25,15 +25,15 @@ use Rattle.rounds.proofs.Rounds.{extracts}
 use Rattle.rounds.proofs.Theorems.{extract-demand3}
 use Rattle.rounds.proofs.EveryRoundLaws.{rounds-long}
 use Rattle.rounds.proofs.Reach.{ends-below}
-use Rattle.margin.specs.Margin.{ltaKw}
-use Rattle.margin.proofs.JudgedLaws.{border-judged}
-use Rattle.start.specs.Start.{fromBy}
-use Rattle.start.specs.Filled.{froms, exchangesOf}
+use Rattle.marginrules.specs.Margin.{ltaKw}
+use Rattle.marginrules.proofs.JudgedLaws.{border-judged}
+use Rattle.extractrules.specs.Start.{fromBy}
+use Rattle.extractrules.specs.Filled.{froms, exchangesOf}
 use Rattle.replay.specs.Replay.{marginsAfter}
 use Rattle.replay.proofs.ReplayLaws.{margins-alone, after-long}
 use Rattle.outcome.specs.Outcome.{rowOrDash}
-use Rattle.extraction.specs.Inner.{gridWith, startWith, Runnable, Ran}
-use Rattle.extraction.proofs.ExtractLaws.{run-startable, run-left}
+use Rattle.extractrules.specs.Inner.{gridWith, startWith, Runnable, Ran}
+use Rattle.extractrules.proofs.ExtractLaws.{run-startable, run-left}
 use Rattle.holding.specs.Holding.{endRow, allowed, allowedBy, endsLeft, rowLeft, countsOf, Worked}
 use Rattle.why.specs.declared.Reasons.{Reasons}
 use Rattle.why.specs.Why.{Why, whyBy, endRecord, rowRecord, reasonsOf, leaves}

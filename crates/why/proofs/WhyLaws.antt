@@ -20,22 +20,22 @@ use Rattle.types.specs.declared.Header.{Header}
 use Rattle.types.specs.Ranges.{isIntraday, borderOf}
 use Rattle.marks.specs.Marks.{judgeAsked, mayRise, flagsOf, flagged}
 use Rattle.marks.proofs.MarkLaws.{asked-then, flags-tell}
-use Rattle.table.specs.declared.Room.the-variants.{P}
-use Rattle.table.specs.Table.{Table, front}
-use Rattle.table.specs.Good.{Good}
-use Rattle.table.proofs.GoodLaws.{told-judged}
+use Rattle.tablerules.specs.declared.Room.the-variants.{P}
+use Rattle.tablerules.specs.Table.{Table, front}
+use Rattle.tablerules.specs.Good.{Good}
+use Rattle.tablerules.proofs.GoodLaws.{told-judged}
 use Rattle.rounds.specs.Rounds.{State}
 use Rattle.rounds.specs.AllRounds.{flat}
-use Rattle.states.specs.Standings.{Standings, standingsOf}
+use Rattle.staterules.specs.Standings.{Standings, standingsOf}
 use Rattle.setup.specs.Setup.{gridBy, beginBy}
-use Rattle.states.specs.States.{kept}
-use Rattle.start.specs.Start.{every, fromBy, gridMarked, tableGrid, tableStart, judgeMarked, setupOf, setupWith}
-use Rattle.start.specs.Filled.{froms, cells}
-use Rattle.start.proofs.StartLaws.{cells-at, grid-long}
-use Rattle.start.proofs.SameMarks.{p-marks, judge-marks}
-use Rattle.extraction.specs.Extraction.{judgeExtract}
-use Rattle.extraction.specs.Inner.{gridWith, startWith}
-use Rattle.extraction.proofs.ExtractLaws.{over-taken}
+use Rattle.staterules.specs.States.{kept}
+use Rattle.extractrules.specs.Start.{every, fromBy, gridMarked, tableGrid, tableStart, judgeMarked, setupOf, setupWith}
+use Rattle.extractrules.specs.Filled.{froms, cells}
+use Rattle.extractrules.proofs.StartLaws.{cells-at, grid-long}
+use Rattle.extractrules.proofs.SameMarks.{p-marks, judge-marks}
+use Rattle.extractrules.specs.Extraction.{judgeExtract}
+use Rattle.extractrules.specs.Inner.{gridWith, startWith}
+use Rattle.extractrules.proofs.ExtractLaws.{over-taken}
 use Rattle.why.specs.declared.Reasons.{Reasons}
 use Rattle.why.specs.Why.{Why, whyBy, whyMarked, endRecord, rowRecord, reasonsOf, noBorder, reasonsMarked, reasonsFor, WhyLeft, leaves, whyRoom, whyStored, judgedLeft, whyFor}
 use Rattle.why.specs.Told.{told}

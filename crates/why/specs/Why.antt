@@ -12,15 +12,15 @@ use Rattle.refusals.specs.declared.Refusal.{Refusal}
 use Rattle.refusals.specs.Refusals.{Judged, passed, refused, refusal, then, either, unless, need}
 use Rattle.types.specs.declared.Header.{Header}
 use Rattle.marks.specs.Marks.{judgeAsked, mayRise}
-use Rattle.table.specs.Table.{Table}
+use Rattle.tablerules.specs.Table.{Table}
 use Rattle.rounds.specs.Rounds.{Grid, State, Outcome, sharers, extract}
 use Rattle.rounds.specs.Last.{lastRound}
 use Rattle.rounds.specs.Stopping.{stopRow}
-use Rattle.states.specs.Standings.{standingsOf}
-use Rattle.start.specs.Start.{gridMarked, tableGrid, tableStart, judgeMarked}
-use Rattle.start.specs.Filled.{cells}
+use Rattle.staterules.specs.Standings.{standingsOf}
+use Rattle.extractrules.specs.Start.{gridMarked, tableGrid, tableStart, judgeMarked}
+use Rattle.extractrules.specs.Filled.{cells}
 use Rattle.outcome.specs.Outcome.{rowOrDash}
-use Rattle.extraction.specs.Extraction.{judgeExtract}
+use Rattle.extractrules.specs.Extraction.{judgeExtract}
 use Rattle.holding.specs.Holding.{endRow, allowedBy, endsLeft, rowLeft}
 use Rattle.why.specs.declared.Reasons.{Reasons}
 use Rattle.why.specs.declared.Explained.{Explained}

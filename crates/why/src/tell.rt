@@ -6,7 +6,7 @@ ghost use mathlib.Core.Path.{_≡_};
 ghost use Prim.Native.Nat.{_<_, _≤_};
 ghost use lib.ListN.{length};
 ghost use Rattle.refusals.specs.Refusals.{passed};
-ghost use Rattle.extraction.specs.Inner.{Runnable, gridWith, startWith};
+ghost use Rattle.extractrules.specs.Inner.{Runnable, gridWith, startWith};
 ghost use Rattle.why.specs.Why.{whyBy, leaves};
 ghost use Rattle.why.specs.Told.{told};
 use types::BorderRecord;

@@ -4,9 +4,9 @@ ghost use mathlib.Core.Path.{_≡_};
 ghost use Prim.Native.Nat.{_*_, _≤_};
 ghost use lib.ListN.{length};
 ghost use Rattle.limits.specs.Limits.{zonesMost, bordersMost, rowsMost};
-ghost use Rattle.table.specs.Table.{lent, front};
-ghost use Rattle.table.specs.Good.{Good};
-use parts::PartsRecord;
+ghost use Rattle.tablerules.specs.Table.{lent, front};
+ghost use Rattle.tablerules.specs.Good.{Good};
+use partrules::PartsRecord;
 use reading::TableRead;
 use refusals::Refusal;
 use text::put::magnitude;
@@ -166,7 +166,7 @@ fn margin_of(
     let mut rams: [i64; limits::ROWS_MOST] = [0; limits::ROWS_MOST];
     let mut starts: [i64; limits::ROWS_MOST] = [0; limits::ROWS_MOST];
     let mut states: [u64; limits::ROWS_MOST] = [0; limits::ROWS_MOST];
-    let mut margins: [PartsRecord; limits::ROWS_MOST] = [[0; parts::ITEMS]; limits::ROWS_MOST];
+    let mut margins: [PartsRecord; limits::ROWS_MOST] = [[0; partrules::ITEMS]; limits::ROWS_MOST];
     states::fill_rows(
         h,
         z,
@@ -186,9 +186,9 @@ fn with_start(i: usize, margins: &[PartsRecord], starts: &[i64; limits::ROWS_MOS
     if i < margins.len() {
         if i < limits::ROWS_MOST {
             let mut margin = margins[i];
-            margin[parts::ITEMS - 1] = starts[i];
+            margin[partrules::ITEMS - 1] = starts[i];
             return margin;
         }
     }
-    [0; parts::ITEMS]
+    [0; partrules::ITEMS]
 }

@@ -9,7 +9,7 @@ ghost use Prim.Native.Nat.{_*_, _≤_};
 ghost use lib.ListN.{length};
 ghost use Rattle.io.specs.Counts.{Counts};
 use crate::users::Users;
-use parts::PartsRecord;
+use partrules::PartsRecord;
 use text::put::magnitude;
 use types::BorderRecord;
 use types::Header;

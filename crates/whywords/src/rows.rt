@@ -4,7 +4,7 @@ use crate::Case;
 use crate::HoldRecord;
 use crate::Rise;
 use crate::records;
-use parts::PartsRecord;
+use partrules::PartsRecord;
 use text::put::magnitude;
 
 // The first three rows that allow the border no kW more, and how many there are.

@@ -12,15 +12,15 @@ use Rattle.numbers.specs.Ints.{minus, maxℤ, minℤ, positivePart, sumℤ, sam
 use Rattle.numbers.specs.Computed.{_is_, Hold}
 use Rattle.limits.specs.Limits.{bordersMost}
 use Rattle.types.specs.Ranges.{hubsOf, borderOf, shareOf, rowOf, worth, defaultOf}
-use Rattle.table.specs.Table.{Table, stretch}
+use Rattle.tablerules.specs.Table.{Table, stretch}
 use Rattle.rounds.specs.Rounds.{sharers, alone, mostSharers, bitsTo, bits, aloneBits}
-use Rattle.margin.specs.Margin.{grains, f0coreOf, fuafOf, baseOf, amrOf, signedFactor, pOf, ltaKw, sOf, ltaMarginOf, ramOf, ramAt}
-use Rattle.states.specs.States.{highest, lowest, spreadOf, shifted, below, stateOf, kept}
-use Rattle.states.specs.Standings.{standingsOf}
+use Rattle.marginrules.specs.Margin.{grains, f0coreOf, fuafOf, baseOf, amrOf, signedFactor, pOf, ltaKw, sOf, ltaMarginOf, ramOf, ramAt}
+use Rattle.staterules.specs.States.{highest, lowest, spreadOf, shifted, below, stateOf, kept}
+use Rattle.staterules.specs.Standings.{standingsOf}
 use Rattle.setup.specs.Setup.{gridBy, beginBy}
-use Rattle.start.specs.Start.{every, setupWith}
-use Rattle.tight.specs.Tight.{equalShareUp, cut, stepsWithin, steps, rowReach, reach, farthest, tightBound}
-use Rattle.tight.specs.Measure.{boundBy}
+use Rattle.extractrules.specs.Start.{every, setupWith}
+use Rattle.tightrules.specs.Tight.{equalShareUp, cut, stepsWithin, steps, rowReach, reach, farthest, tightBound}
+use Rattle.tightrules.specs.Measure.{boundBy}
 use Rattle.worst.specs.Worst.{startTop, ltaTop, lateTop, roundsWorst, Known}
 
 -- the hour of 01, and the same hour with another profile in its header

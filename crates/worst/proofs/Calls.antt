@@ -10,13 +10,13 @@ use lib.ListN.{take}
 use Rattle.numbers.specs.Below.{at}
 use Rattle.refusals.specs.Refusals.{Judged, passed}
 use Rattle.marks.specs.Marks.{mayRise}
-use Rattle.table.specs.Table.{Table, front, judgeLent}
-use Rattle.table.specs.Good.{Good}
-use Rattle.table.proofs.GoodLaws.{judged-good}
+use Rattle.tablerules.specs.Table.{Table, front, judgeLent}
+use Rattle.tablerules.specs.Good.{Good}
+use Rattle.tablerules.proofs.GoodLaws.{judged-good}
 use Rattle.reading.specs.Reading.{readCorrected}
 use Rattle.reading.proofs.CorrectedLaws.{corrected-good}
-use Rattle.extraction.specs.Extraction.{extractFor}
-use Rattle.extraction.proofs.LentLaws.{accepted-for}
+use Rattle.extractrules.specs.Extraction.{extractFor}
+use Rattle.extractrules.proofs.LentLaws.{accepted-for}
 use Rattle.answer.specs.Result.{resultTextFor, answerWith}
 use Rattle.theorems.proofs.TextDemand.{TextDemand3, answer-demand-3, result-text-demand-3}
 use Rattle.worst.specs.Worst.{Known, TextKnown}

@@ -1,4 +1,4 @@
--- The rounds are at most `tightBound`, for any grid and any start; and how large it can be. That it is never above 2 N L is `tight-le` in crate tight.
+-- The rounds are at most `tightBound`, for any grid and any start; and how large it can be. That it is never above 2 N L is `tight-le` in crate tightrules.
 -- A border that rises in the last counted round rises in each, for raises never grow. What it still rises by, and 1 kW for each of a row's other sharers, is within the row's
 -- quotient of margin and p. So the row that sets its raise gives it an equal share, rounded up, of what it still rises by, and what is left is within the cut (`Remains`).
 use mathlib.Core.Path.{_≡_, refl}
@@ -13,9 +13,9 @@ use Rattle.rounds.specs.Rounds.{Grid, State, sharers, raise, next, raised, most
 use Rattle.rounds.proofs.LeastLaws.{least-some, least-one, div-mono, div-swap}
 use Rattle.rounds.proofs.Round.{raise-le, raiser, sharers-pos, raise-falls, quotient-falls}
 use Rattle.rounds.proofs.Theorems.{extracts}
-use Rattle.tight.specs.Tight.{equalShareUp, steps, rowReach, reach, farthest, tightBound}
-use Rattle.tight.proofs.BitsLaws.{sharers-few}
-use Rattle.tight.proofs.SharperLaws.{no-sharers}
+use Rattle.tightrules.specs.Tight.{equalShareUp, steps, rowReach, reach, farthest, tightBound}
+use Rattle.tightrules.proofs.BitsLaws.{sharers-few}
+use Rattle.tightrules.proofs.SharperLaws.{no-sharers}
 use Rattle.worst.proofs.StepOrder.{equalShareUp-anti, cut-over, steps-mono, steps-more}
 
 -- every row that loads border b has room for u, and for 1 kW for each of its other sharers

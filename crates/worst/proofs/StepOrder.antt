@@ -1,11 +1,11 @@
--- A share among more is less, and cuts and steps (`equalShareUp`, `cut`, `steps` of crate tight) keep the order.
+-- A share among more is less, and cuts and steps (`equalShareUp`, `cut`, `steps` of crate tightrules) keep the order.
 use mathlib.Core.Path.{_≡_}
 use Prim.Native.Nat.{ℕ, zero, suc, _+_, _*_, _-_, _/_, _≤_, _<_}
 use native.Mathlib.Nat.{zero-lt-suc, le-refl, suc-mul, div-zero, div-eq-of-lt, add-mul-div-left}
 use native.Mathlib.Omega.{arith}
 use Rattle.rounds.proofs.LeastLaws.{div-mono, div-anti}
-use Rattle.tight.specs.Tight.{equalShareUp, cut, stepsWithin, steps}
-use Rattle.tight.proofs.StepLaws.{equalShareUp-suc, cut-suc}
+use Rattle.tightrules.specs.Tight.{equalShareUp, cut, stepsWithin, steps}
+use Rattle.tightrules.proofs.StepLaws.{equalShareUp-suc, cut-suc}
 
 -- ---- equalShareUp
 equalShareUp-zero : {n : ℕ} → 0 < n → equalShareUp n 0 ≡ 0

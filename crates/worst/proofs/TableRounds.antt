@@ -10,15 +10,15 @@ use Rattle.refusals.specs.Refusals.{passed, then}
 use Rattle.refusals.proofs.RefusalLaws.{passed-is, then-passed, then-next, answer-passed, need-passed}
 use Rattle.marks.specs.Marks.{judgeAsked, mayRise}
 use Rattle.marks.proofs.MarkLaws.{asked-then}
-use Rattle.table.specs.Table.{Table}
+use Rattle.tablerules.specs.Table.{Table}
 use Rattle.rounds.specs.Rounds.{extract}
 use Rattle.rounds.proofs.Theorems.{extract-demand3}
-use Rattle.start.specs.Start.{gridMarked, tableStart, judgeMarked}
-use Rattle.extraction.specs.Extraction.{Result, resultMarked, outcomeMarked, outcomeFor, judgeExtract, ExtractLeft, resultRoom, extractFor, extractLeft, extractMarkedLeft}
-use Rattle.extraction.proofs.LentLaws.{judged-lent}
-use Rattle.tight.specs.Measure.{boundBy}
-use Rattle.tight.proofs.SharperLaws.{tight-le}
-use Rattle.bound.specs.Bound.{boundOf, boundMarked, boundFor, AtMost}
+use Rattle.extractrules.specs.Start.{gridMarked, tableStart, judgeMarked}
+use Rattle.extractrules.specs.Extraction.{Result, resultMarked, outcomeMarked, outcomeFor, judgeExtract, ExtractLeft, resultRoom, extractFor, extractLeft, extractMarkedLeft}
+use Rattle.extractrules.proofs.LentLaws.{judged-lent}
+use Rattle.tightrules.specs.Measure.{boundBy}
+use Rattle.tightrules.proofs.SharperLaws.{tight-le}
+use Rattle.boundrules.specs.Bound.{boundOf, boundMarked, boundFor, AtMost}
 use Rattle.worst.proofs.FewRounds.{extract-few}
 
 -- ---- a judged table

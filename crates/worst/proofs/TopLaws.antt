@@ -19,15 +19,15 @@ use Rattle.limits.specs.Limits.{bordersMost}
 use Rattle.types.specs.LineLimits.{shareMost}
 use Rattle.types.specs.Ranges.{borderFits, borderOf, defaultOf}
 use Rattle.types.proofs.RangeLaws.{row-in, default-in}
-use Rattle.table.specs.Table.{Table, rowAt, borderAt, factorsAt}
-use Rattle.table.specs.Good.{Good}
-use Rattle.margin.specs.Margin.{grains, flowOf, baseOf, pOf, ltaKw, sOf, sAt, ramAt}
-use Rattle.margin.specs.Magnitudes.{RowInRange, BorderInRange, pMost, netFlowMost}
-use Rattle.margin.specs.Small.{f0coreAt}
-use Rattle.margin.proofs.MarginLaws.{shareLess, fifth, ram-largest}
-use Rattle.margin.proofs.MagnitudeLaws.{within-sub, within-share, within-fifth, within-fuaf, within-base, products, load-most, loads}
-use Rattle.margin.proofs.JudgedLaws.{border-ranges, row-ranges, stretch-long, stretch-ranges, good-factors, good-borders, good-allocated}
-use Rattle.margin.proofs.Small.{f0core-in}
+use Rattle.tablerules.specs.Table.{Table, rowAt, borderAt, factorsAt}
+use Rattle.tablerules.specs.Good.{Good}
+use Rattle.marginrules.specs.Margin.{grains, flowOf, baseOf, pOf, ltaKw, sOf, sAt, ramAt}
+use Rattle.marginrules.specs.Magnitudes.{RowInRange, BorderInRange, pMost, netFlowMost}
+use Rattle.marginrules.specs.Small.{f0coreAt}
+use Rattle.marginrules.proofs.MarginLaws.{shareLess, fifth, ram-largest}
+use Rattle.marginrules.proofs.MagnitudeLaws.{within-sub, within-share, within-fifth, within-fuaf, within-base, products, load-most, loads}
+use Rattle.marginrules.proofs.JudgedLaws.{border-ranges, row-ranges, stretch-long, stretch-ranges, good-factors, good-borders, good-allocated}
+use Rattle.marginrules.proofs.Small.{f0core-in}
 use Rattle.worst.specs.Worst.{startTop, ltaTop, lateTop}
 
 -- ---- whole numbers

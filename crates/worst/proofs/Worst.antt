@@ -1,5 +1,5 @@
 -- No judged table has more than 1,852 rounds, or more than 1,910 where it has T lines, whatever is marked; 01's demand 3 has 6,144 and 6,272 there. By the sharper bound of
--- crate tight, which is never above these, from the largest margin that a row can start with.
+-- crate tightrules, which is never above these, from the largest margin that a row can start with.
 use mathlib.Core.Path.{_≡_, refl, ap, subst}
 use mathlib.Core.Bool.{Bool, true, false, cond, _&&_}
 use mathlib.Core.List.{List}
@@ -14,18 +14,18 @@ use Rattle.limits.specs.Limits.{bordersMost}
 use Rattle.refusals.specs.Refusals.{passed}
 use Rattle.types.specs.Ranges.{atℤ, isIntraday}
 use Rattle.types.proofs.RangeLaws.{header-in}
-use Rattle.table.specs.Table.{Table, borderAt, factorsAt}
-use Rattle.table.specs.Good.{Good}
-use Rattle.tight.specs.Tight.{equalShareUp, cut, stepsWithin, steps}
-use Rattle.tight.specs.Measure.{boundBy}
-use Rattle.margin.specs.Margin.{pOf, marginOf, startsOf}
-use Rattle.states.specs.Standings.{standingsOf}
+use Rattle.tablerules.specs.Table.{Table, borderAt, factorsAt}
+use Rattle.tablerules.specs.Good.{Good}
+use Rattle.tightrules.specs.Tight.{equalShareUp, cut, stepsWithin, steps}
+use Rattle.tightrules.specs.Measure.{boundBy}
+use Rattle.marginrules.specs.Margin.{pOf, marginOf, startsOf}
+use Rattle.staterules.specs.Standings.{standingsOf}
 use Rattle.setup.specs.Setup.{gridBy, beginBy}
-use Rattle.states.specs.States.{kept}
-use Rattle.start.specs.Start.{gridMarked, tableStart, setupWith}
-use Rattle.extraction.specs.Extraction.{Result, resultMarked, outcomeMarked}
-use Rattle.extraction.proofs.AcceptedLaws.{part-le-whole, accepted}
-use Rattle.bound.specs.Bound.{boundOf}
+use Rattle.staterules.specs.States.{kept}
+use Rattle.extractrules.specs.Start.{gridMarked, tableStart, setupWith}
+use Rattle.extractrules.specs.Extraction.{Result, resultMarked, outcomeMarked}
+use Rattle.extractrules.proofs.AcceptedLaws.{part-le-whole, accepted}
+use Rattle.boundrules.specs.Bound.{boundOf}
 use Rattle.worst.proofs.TableRounds.{table-sharp, table-sharper}
 use Rattle.worst.specs.Worst.{startTop, ltaTop, lateTop, roundsWorst, Known}
 use Rattle.worst.proofs.FewRounds.{reach-under, tight-within}

@@ -8,10 +8,10 @@ use Rattle.limits.specs.Limits.{bordersMost}
 use Rattle.refusals.specs.Refusals.{Judged, passed}
 use Rattle.types.specs.LineLimits.{fmaxMost, flowMost, shareMost, ltaMost}
 use Rattle.types.specs.Ranges.{isIntraday}
-use Rattle.table.specs.Table.{Table}
-use Rattle.margin.specs.Magnitudes.{f0coreMost, pMost, netFlowMost}
-use Rattle.extraction.specs.Extraction.{Result}
-use Rattle.bound.specs.Bound.{boundOf}
+use Rattle.tablerules.specs.Table.{Table}
+use Rattle.marginrules.specs.Magnitudes.{f0coreMost, pMost, netFlowMost}
+use Rattle.extractrules.specs.Extraction.{Result}
+use Rattle.boundrules.specs.Bound.{boundOf}
 use Rattle.answer.specs.Result.{resultText}
 
 -- RAM - S, grains: R x Fmax / 10000 - Fuaf can be the largest of RAM's values, 165,000,000,000,000; S, where it is larger, is taken off

@@ -10,8 +10,8 @@ use Rattle.refusals.specs.Refusals.{Judged, passed, refused}
 use Rattle.refusals.proofs.RefusalLaws.{passed-is, then-passed, then-next, then-refused, answer-passed, need-passed}
 use Rattle.text.specs.Left.{TextLeft, textLeft}
 use Rattle.text.proofs.LeftLaws.{text-refused, text-left}
-use Rattle.table.specs.Table.{Table, front, judgeLent}
-use Rattle.table.proofs.GoodLaws.{judged-front}
+use Rattle.tablerules.specs.Table.{Table, front, judgeLent}
+use Rattle.tablerules.proofs.GoodLaws.{judged-front}
 use Rattle.writing.specs.Writing.{tableText, writeLeft}
 
 module _ (given : Table) (out : List ℕ) where

@@ -23,9 +23,9 @@ use Rattle.types.proofs.RangeLaws.{HeaderIn, header-in, allocated-most, raw-sha
 use Rattle.text.specs.Written.{decimal, decimalℤ, shareText, linesText}
 use Rattle.text.proofs.PutLaws.{lines-most}
 use Rattle.text.proofs.WrittenLaws.{decimal-long, decimalℤ-long, pos-long}
-use Rattle.table.specs.Table.{Table, factorsAt}
-use Rattle.table.specs.Good.{Good}
-use Rattle.table.proofs.GoodLaws.{stretch-long, row-fit}
+use Rattle.tablerules.specs.Table.{Table, factorsAt}
+use Rattle.tablerules.specs.Good.{Good}
+use Rattle.tablerules.proofs.GoodLaws.{stretch-long, row-fit}
 use Rattle.types.specs.LineColumns.{headerColumns, defaultColumns, zoneColumns, borderColumns, hubColumns, rowColumns, factorColumns}
 use Rattle.text.specs.Fields.{tab}
 use Rattle.columns.specs.declared.Head.the-variants.{Lettered, Indexed}

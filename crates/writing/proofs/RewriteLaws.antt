@@ -9,8 +9,8 @@ use Rattle.refusals.proofs.RefusalLaws.{then-next, then-refused}
 use Rattle.types.specs.declared.Header.{Header}
 use Rattle.text.specs.Left.{TextLeft, textLeft}
 use Rattle.text.proofs.LeftLaws.{text-refused}
-use Rattle.table.specs.Table.{Table, lent, front}
-use Rattle.table.specs.Good.{Good}
+use Rattle.tablerules.specs.Table.{Table, lent, front}
+use Rattle.tablerules.specs.Good.{Good}
 use Rattle.reading.specs.declared.TableRead.{TableRead}
 use Rattle.reading.specs.declared.TableRead.the-variants as read
 use Rattle.reading.specs.Reading.{readCorrected, readInto}

@@ -15,9 +15,9 @@ use Rattle.text.specs.Put.{Put}
 use Rattle.text.proofs.PutLaws.{put-more, put-room, lines-length}
 use Rattle.columns.specs.declared.Head.the-variants.{Indexed}
 use Rattle.columns.proofs.ColumnPut.{line-long}
-use Rattle.table.specs.Table.{Table}
-use Rattle.table.specs.Good.{Good}
-use Rattle.table.proofs.JudgeLaws.{exact-factors}
+use Rattle.tablerules.specs.Table.{Table}
+use Rattle.tablerules.specs.Good.{Good}
+use Rattle.tablerules.proofs.JudgeLaws.{exact-factors}
 use Rattle.layout.specs.Layout.{headerText}
 use Rattle.writing.specs.Writing.{tableText, positionTextAt, positionsText, zonesText, allocatedsText, bordersText, rowsText}
 use Rattle.writing.proofs.LengthLaws.{never-too-long}

@@ -8,7 +8,7 @@ use Rattle.refusals.specs.Refusals.{passed, then}
 use Rattle.types.specs.Ranges.{atℤ, allocatedItems}
 use Rattle.text.specs.Left.{TextLeft, textLeft}
 use Rattle.text.specs.Written.{linesText}
-use Rattle.table.specs.Table.{Table, factorsAt, judgeLent}
+use Rattle.tablerules.specs.Table.{Table, factorsAt, judgeLent}
 use Rattle.lines.specs.declared.row.RowKind.the-variants as rowKind
 use Rattle.reading.specs.Reading.{readCorrected}
 use Rattle.layout.specs.Layout.{headerText, positionText, zoneText, allocatedText, borderText, rowText, rowTextIn, rowsTextBy}

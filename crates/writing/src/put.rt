@@ -2,8 +2,8 @@
 ghost use Prim.Native.Nat.{_+_, _≤_};
 ghost use lib.ListN.{length};
 ghost use Rattle.text.specs.Put.{Put};
-ghost use Rattle.table.specs.Table.{lent};
-ghost use Rattle.table.specs.Good.{Good};
+ghost use Rattle.tablerules.specs.Table.{lent};
+ghost use Rattle.tablerules.specs.Good.{Good};
 ghost use Rattle.writing.specs.Writing.{tableText, positionsText, bordersText};
 use lines::row::RowKind;
 use types::BorderRecord;

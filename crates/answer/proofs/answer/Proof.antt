@@ -1,7 +1,7 @@
 -- `answer::answer` meets its contract: for every border, whatever the marks, and an empty sheet changes nothing (`empty-answer-left`, `empty-told`).
 use mathlib.Core.Path.{_∙_}
 use borrow.Author.Needs.{needs}
-use Rattle.extraction.specs.Extraction.{outcomeFor}
+use Rattle.extractrules.specs.Extraction.{outcomeFor}
 use Rattle.answer.specs.Result.{answerFor, answerText, answerForLeft, answerLeft}
 use Rattle.answer.specs.Told.{toldFor}
 use Rattle.answer.proofs.EmptySheet.{empty-answer-left, empty-told}

@@ -1,6 +1,6 @@
 -- `answer::answer_corrected` meets its contract: for every border, whatever the marks.
 use borrow.Author.Needs.{needs}
-use Rattle.extraction.specs.Extraction.{outcomeFor}
+use Rattle.extractrules.specs.Extraction.{outcomeFor}
 use Rattle.answer.specs.Result.{answerWith, answerWithLeft, answerCorrectedLeft}
 use Rattle.answer.specs.Told.{toldWith}
 use Rattle.answer.proofs.answer_corrected.Statement.{statement}

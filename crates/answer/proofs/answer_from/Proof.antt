@@ -5,8 +5,8 @@ use native.Mathlib.Omega.{arith}
 use lib.Seq.{length-take-le}
 use borrow.Author.Needs.{needs}
 use Rattle.types.proofs.RangeLaws.{HeaderIn, header-in}
-use Rattle.table.specs.Table.{Table, lent, front}
-use Rattle.extraction.specs.Extraction.{outcomeFor}
+use Rattle.tablerules.specs.Table.{Table, lent, front}
+use Rattle.extractrules.specs.Extraction.{outcomeFor}
 use Rattle.answer.proofs.OutcomeLaws.{outcome-passed, outcome-refused, outcome-told, line-written, refusal-is, refusal-told, no-text}
 use Rattle.answer.proofs.answer_from.Statement.{statement}
 use Rattle.answer.proofs.answer_from.Tie as tie

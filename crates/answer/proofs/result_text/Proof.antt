@@ -1,6 +1,6 @@
 -- `answer::result_text` meets its contract: for every border, whatever the marks.
 use borrow.Author.Needs.{needs}
-use Rattle.extraction.specs.Extraction.{outcomeFor}
+use Rattle.extractrules.specs.Extraction.{outcomeFor}
 use Rattle.answer.specs.Result.{resultTextFor, resultTextLeft}
 use Rattle.answer.proofs.result_text.Statement.{statement}
 use Rattle.answer.proofs.result_text.Tie as tie

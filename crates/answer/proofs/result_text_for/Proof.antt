@@ -1,7 +1,7 @@
 -- `answer::result_text_for` meets its contract: lent tables that were judged good are answered with the text of their outcome (`lent-said`).
 use mathlib.Core.Path.{_∙_}
 use borrow.Author.Needs.{needs}
-use Rattle.table.proofs.GoodLaws.{told-good}
+use Rattle.tablerules.proofs.GoodLaws.{told-good}
 use Rattle.answer.proofs.OutcomeLaws.{lent-refused, lent-said}
 use Rattle.answer.proofs.result_text_for.Statement.{statement}
 use Rattle.answer.proofs.result_text_for.Tie as tie

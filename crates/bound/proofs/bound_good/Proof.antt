@@ -7,8 +7,8 @@ use borrow.Author.Needs.{needs}
 use lib.Seq.{length-take-le}
 use Rattle.limits.specs.Limits.{rowsMost, bordersMost}
 use Rattle.types.proofs.RangeLaws.{HeaderIn, header-in}
-use Rattle.table.specs.Table.{Table, lent, front}
-use Rattle.bound.proofs.BoundLaws.{marks-refused, marks-passed}
+use Rattle.tablerules.specs.Table.{Table, lent, front}
+use Rattle.boundrules.proofs.BoundLaws.{marks-refused, marks-passed}
 use Rattle.bound.proofs.bound_good.Statement.{statement}
 use Rattle.bound.proofs.bound_good.Tie as tie
 

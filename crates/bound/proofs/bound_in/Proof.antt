@@ -7,12 +7,12 @@ use Rattle.numbers.proofs.BelowLaws.{table-long}
 use Rattle.refusals.specs.Refusals.{passed}
 use Rattle.types.proofs.RangeLaws.{header-in}
 use Rattle.marks.specs.Marks.{flagged}
-use Rattle.table.specs.Table.{Table, lent, front}
-use Rattle.table.proofs.RoomLaws.{factors-most}
-use Rattle.margin.proofs.JudgedLaws.{good-factors, good-borders}
-use Rattle.states.proofs.StandingsLaws.{rows-in}
-use Rattle.start.proofs.StartLaws.{PreparedAs, prepared-as, laid-grid, laid-margins, grid-long}
-use Rattle.bound.proofs.BoundLaws.{start-refused, start-passed, laid-bound, start-long, start-small}
+use Rattle.tablerules.specs.Table.{Table, lent, front}
+use Rattle.tablerules.proofs.RoomLaws.{factors-most}
+use Rattle.marginrules.proofs.JudgedLaws.{good-factors, good-borders}
+use Rattle.staterules.proofs.StandingsLaws.{rows-in}
+use Rattle.extractrules.proofs.StartLaws.{PreparedAs, prepared-as, laid-grid, laid-margins, grid-long}
+use Rattle.boundrules.proofs.BoundLaws.{start-refused, start-passed, laid-bound, start-long, start-small}
 use Rattle.bound.proofs.bound_in.Statement.{statement}
 use Rattle.bound.proofs.bound_in.Tie as tie
 

@@ -1,8 +1,8 @@
 -- `claims::judge_claims` meets its contract: what judging refuses is refused, and else the front of the lent tables is a good table.
 use mathlib.Core.Path.{_∙_}
 use borrow.Author.Needs.{needs}
-use Rattle.table.specs.Table.{lent}
-use Rattle.table.proofs.GoodLaws.{told-good}
+use Rattle.tablerules.specs.Table.{lent}
+use Rattle.tablerules.proofs.GoodLaws.{told-good}
 use Rattle.claims.proofs.JudgeLaws.{answer-refused, answer-judged}
 use Rattle.claims.proofs.judge_claims.Statement.{statement}
 use Rattle.claims.proofs.judge_claims.Tie as tie

@@ -2,7 +2,7 @@
 use native.Mathlib.Omega.{arith}
 use borrow.Author.Needs.{needs}
 use Rattle.types.proofs.RangeLaws.{header-in}
-use Rattle.table.proofs.RoomLaws.{factors-most}
+use Rattle.tablerules.proofs.RoomLaws.{factors-most}
 use Rattle.claims.proofs.JudgeLaws.{factors-lent, rams-lent, states-lent, known-claims}
 use Rattle.claims.proofs.judge_in.Statement.{statement}
 use Rattle.claims.proofs.judge_in.Tie as tie

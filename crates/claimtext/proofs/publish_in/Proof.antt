@@ -4,8 +4,8 @@ use mathlib.Core.Path.{sym, _∙_}
 use native.Mathlib.Omega.{arith}
 use borrow.Author.Needs.{needs}
 use Rattle.types.proofs.RangeLaws.{header-in}
-use Rattle.table.proofs.RoomLaws.{factors-most}
-use Rattle.states.proofs.StandingsLaws.{rows-in}
+use Rattle.tablerules.proofs.RoomLaws.{factors-most}
+use Rattle.staterules.proofs.StandingsLaws.{rows-in}
 use Rattle.claims.proofs.JudgeLaws.{factors-lent, rams-lent, states-lent}
 use Rattle.claimtext.proofs.PublishedLaws.{claims-refused, claims-accepted}
 use Rattle.claimtext.proofs.publish_in.Statement.{statement}

@@ -1,8 +1,8 @@
 -- `claimtext::published_text` meets its contract: the list's length, then what judging refuses is refused, and else the front of the lent tables is a good table.
 use mathlib.Core.Path.{_∙_}
 use borrow.Author.Needs.{needs}
-use Rattle.table.specs.Table.{lent}
-use Rattle.table.proofs.GoodLaws.{told-good}
+use Rattle.tablerules.specs.Table.{lent}
+use Rattle.tablerules.proofs.GoodLaws.{told-good}
 use Rattle.claimtext.proofs.PublishedLaws.{list-long, table-refused, table-judged}
 use Rattle.claimtext.proofs.published_text.Statement.{statement}
 use Rattle.claimtext.proofs.published_text.Tie as tie

@@ -1,8 +1,8 @@
 -- `coded::code_bounded` meets its contract.
 use mathlib.Core.Path.{sym, ap}
 use borrow.Author.Needs.{needs}
-use Rattle.bound.specs.declared.Bounded.{Bounded}
-use Rattle.bound.specs.Bound.{saidBounded}
+use Rattle.boundrules.specs.declared.Bounded.{Bounded}
+use Rattle.boundrules.specs.Bound.{saidBounded}
 use Rattle.coded.specs.Coded.{codedBounded}
 use Rattle.coded.proofs.code_bounded.Statement.{statement}
 use Rattle.coded.proofs.code_bounded.Tie as tie

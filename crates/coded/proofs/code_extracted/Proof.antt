@@ -1,8 +1,8 @@
 -- `coded::code_extracted` meets its contract.
 use mathlib.Core.Path.{sym, ap}
 use borrow.Author.Needs.{needs}
-use Rattle.extraction.specs.declared.Extracted.{Extracted}
-use Rattle.extraction.specs.Answers.{saidExtracted}
+use Rattle.extractrules.specs.declared.Extracted.{Extracted}
+use Rattle.extractrules.specs.Answers.{saidExtracted}
 use Rattle.coded.specs.Coded.{codedExtracted}
 use Rattle.coded.proofs.code_extracted.Statement.{statement}
 use Rattle.coded.proofs.code_extracted.Tie as tie

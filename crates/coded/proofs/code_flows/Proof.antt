@@ -1,8 +1,8 @@
 -- `coded::code_flows` meets its contract.
 use mathlib.Core.Path.{sym, ap}
 use borrow.Author.Needs.{needs}
-use Rattle.corners.specs.declared.Flows.{Flows}
-use Rattle.corners.specs.Answers.{saidFlows}
+use Rattle.cornerrules.specs.declared.Flows.{Flows}
+use Rattle.cornerrules.specs.Answers.{saidFlows}
 use Rattle.coded.specs.Coded.{codedFlows}
 use Rattle.coded.proofs.code_flows.Statement.{statement}
 use Rattle.coded.proofs.code_flows.Tie as tie

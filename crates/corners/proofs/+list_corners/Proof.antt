@@ -13,8 +13,8 @@ use borrow.Fn.Kinds.{In}
 use borrow.Fn.PlainCycle.{Measures, is, falls, and}
 use Rattle.numbers.specs.Ints.{Within}
 use Rattle.numbers.proofs.IntLaws.{within-fits}
-use Rattle.corners.specs.Listed.{partMost}
-use Rattle.corners.proofs.ListedLaws.{list-none, part-of-within, shorter-long, shorter-ranges, shorter-room, room-used, within-used, list-more}
+use Rattle.cornerrules.specs.Listed.{partMost}
+use Rattle.cornerrules.proofs.ListedLaws.{list-none, part-of-within, shorter-long, shorter-ranges, shorter-room, room-used, within-used, list-more}
 use Rattle.corners.proofs.list_corners.Reads as reads
 use Rattle.corners.proofs.list_corners.Kinds as kinds
 use Rattle.corners.proofs.+list_corners.Lts-list_corners as lts

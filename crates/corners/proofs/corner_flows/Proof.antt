@@ -1,9 +1,9 @@
 -- `corners::corner_flows` meets its contract: what judging refuses is refused, and else the front of the lent tables is a good table.
 use mathlib.Core.Path.{_∙_}
 use borrow.Author.Needs.{needs}
-use Rattle.table.specs.Table.{lent}
-use Rattle.table.proofs.GoodLaws.{told-good}
-use Rattle.corners.proofs.SheetLaws.{corners-refused, corners-left}
+use Rattle.tablerules.specs.Table.{lent}
+use Rattle.tablerules.proofs.GoodLaws.{told-good}
+use Rattle.cornerrules.proofs.SheetLaws.{corners-refused, corners-left}
 use Rattle.corners.proofs.corner_flows.Statement.{statement}
 use Rattle.corners.proofs.corner_flows.Tie as tie
 

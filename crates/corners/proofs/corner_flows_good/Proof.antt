@@ -2,10 +2,10 @@
 use mathlib.Core.Path.{sym}
 use native.Mathlib.Omega.{arith}
 use borrow.Author.Needs.{needs}
-use Rattle.table.specs.Table.{Table, lent, front}
-use Rattle.table.proofs.RoomLaws.{factors-most}
-use Rattle.margin.proofs.JudgedLaws.{good-factors, good-borders}
-use Rattle.corners.proofs.SheetLaws.{Sheet, borders-refused, row-refused, sheet-passed, sheet-refused, sheet-short, sheet-listed}
+use Rattle.tablerules.specs.Table.{Table, lent, front}
+use Rattle.tablerules.proofs.RoomLaws.{factors-most}
+use Rattle.marginrules.proofs.JudgedLaws.{good-factors, good-borders}
+use Rattle.cornerrules.proofs.SheetLaws.{Sheet, borders-refused, row-refused, sheet-passed, sheet-refused, sheet-short, sheet-listed}
 use Rattle.corners.proofs.corner_flows_good.Statement.{statement}
 use Rattle.corners.proofs.corner_flows_good.Tie as tie
 

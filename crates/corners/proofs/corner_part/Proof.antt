@@ -9,10 +9,10 @@ use mir.Syntax.{w64}
 use mir.Val.{SFits}
 use Rattle.numbers.proofs.IntLaws.{within-fits, within-pos, read-pos}
 use Rattle.types.specs.LineLimits.{ltaMost}
-use Rattle.margin.specs.Margin.{cornerPart}
-use Rattle.margin.specs.Magnitudes.{BorderInRange}
-use Rattle.margin.proofs.JudgedLaws.{border-judged}
-use Rattle.corners.proofs.ListedLaws.{kw-most, factor-within, part-within}
+use Rattle.marginrules.specs.Margin.{cornerPart}
+use Rattle.marginrules.specs.Magnitudes.{BorderInRange}
+use Rattle.marginrules.proofs.JudgedLaws.{border-judged}
+use Rattle.cornerrules.proofs.ListedLaws.{kw-most, factor-within, part-within}
 use Rattle.corners.proofs.corner_part.Statement.{statement}
 use Rattle.corners.proofs.corner_part.Tie as tie
 

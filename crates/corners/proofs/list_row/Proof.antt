@@ -2,8 +2,8 @@
 use mathlib.Core.Path.{sym, subst}
 use Prim.Native.Nat.{ℕ}
 use borrow.Author.Needs.{needs}
-use Rattle.margin.specs.Magnitudes.{BordersInRange}
-use Rattle.margin.proofs.JudgedLaws.{part-ranges, part-long}
+use Rattle.marginrules.specs.Magnitudes.{BordersInRange}
+use Rattle.marginrules.proofs.JudgedLaws.{part-ranges, part-long}
 use Rattle.corners.proofs.list_row.Statement.{statement}
 use Rattle.corners.proofs.list_row.Tie as tie
 

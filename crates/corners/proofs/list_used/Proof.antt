@@ -10,8 +10,8 @@ use mir.Val.{SFits, toZ}
 use Rattle.numbers.specs.Ints.{Within}
 use Rattle.numbers.proofs.IntLaws.{within-fits, within-add}
 use Rattle.types.specs.Ranges.{atℤ}
-use Rattle.corners.specs.Listed.{cornerFlowMost}
-use Rattle.corners.proofs.ListedLaws.{Using, using-none, using-within, using-more, using-all}
+use Rattle.cornerrules.specs.Listed.{cornerFlowMost}
+use Rattle.cornerrules.proofs.ListedLaws.{Using, using-none, using-within, using-more, using-all}
 use Rattle.corners.proofs.list_used.Statement.{statement}
 use Rattle.corners.proofs.list_used.Tie as tie
 

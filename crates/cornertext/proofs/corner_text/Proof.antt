@@ -1,8 +1,8 @@
 -- `cornertext::corner_text` meets its contract: what judging refuses is refused, and else the front of the lent tables is a good table.
 use mathlib.Core.Path.{_∙_}
 use borrow.Author.Needs.{needs}
-use Rattle.table.specs.Table.{lent}
-use Rattle.table.proofs.GoodLaws.{told-good}
+use Rattle.tablerules.specs.Table.{lent}
+use Rattle.tablerules.proofs.GoodLaws.{told-good}
 use Rattle.cornertext.proofs.CornerTextLaws.{text-judged-not, text-judged}
 use Rattle.cornertext.proofs.corner_text.Statement.{statement}
 use Rattle.cornertext.proofs.corner_text.Tie as tie

@@ -4,7 +4,7 @@ use Prim.Native.Nat.{ℕ}
 use native.Mathlib.Nat.{le-refl}
 use borrow.Author.Needs.{needs}
 use lib.Seq.{length-take-le}
-use Rattle.table.specs.Table.{Table, lent, front}
+use Rattle.tablerules.specs.Table.{Table, lent, front}
 use Rattle.cornertext.specs.CornerText.{sheetMost}
 use Rattle.cornertext.proofs.CornerTextLaws.{FlowsTold, told-refused, told-passed, text-on}
 use Rattle.cornertext.proofs.corner_text_good.Statement.{statement}

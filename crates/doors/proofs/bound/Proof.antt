@@ -1,7 +1,7 @@
 -- `doors::bound` meets its contract: no marks are looked at.
 use mathlib.Core.Path.{_∙_}
 use borrow.Author.Needs.{needs}
-use Rattle.bound.proofs.BoundLaws.{none-looked-at}
+use Rattle.boundrules.proofs.BoundLaws.{none-looked-at}
 use Rattle.doors.proofs.bound.Statement.{statement}
 use Rattle.doors.proofs.bound.Tie as tie
 

@@ -1,9 +1,9 @@
 -- `doors::bound_for` meets its contract: what judging refuses is refused, and else the front of the lent tables is a good table.
 use mathlib.Core.Path.{_∙_}
 use borrow.Author.Needs.{needs}
-use Rattle.table.specs.Table.{lent}
-use Rattle.table.proofs.GoodLaws.{told-good}
-use Rattle.bound.proofs.BoundLaws.{lent-refused, lent-bound}
+use Rattle.tablerules.specs.Table.{lent}
+use Rattle.tablerules.proofs.GoodLaws.{told-good}
+use Rattle.boundrules.proofs.BoundLaws.{lent-refused, lent-bound}
 use Rattle.doors.proofs.bound_for.Statement.{statement}
 use Rattle.doors.proofs.bound_for.Tie as tie
 

@@ -1,6 +1,6 @@
 -- `doors::extract` meets its contract: for every border, whatever the marks.
 use borrow.Author.Needs.{needs}
-use Rattle.extraction.specs.Extraction.{outcomeFor, extractFor, extractLeft}
+use Rattle.extractrules.specs.Extraction.{outcomeFor, extractFor, extractLeft}
 use Rattle.doors.proofs.extract.Statement.{statement}
 use Rattle.doors.proofs.extract.Tie as tie
 

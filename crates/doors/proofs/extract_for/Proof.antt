@@ -2,9 +2,9 @@
 use mathlib.Core.Path.{_∙_}
 use borrow.Author.Needs.{needs}
 use lib.ListN.{length}
-use Rattle.table.specs.Table.{Table, lent}
-use Rattle.table.proofs.GoodLaws.{told-good}
-use Rattle.extraction.proofs.LentLaws.{lent-refused, front-room, lent-outcome}
+use Rattle.tablerules.specs.Table.{Table, lent}
+use Rattle.tablerules.proofs.GoodLaws.{told-good}
+use Rattle.extractrules.proofs.LentLaws.{lent-refused, front-room, lent-outcome}
 use Rattle.doors.proofs.extract_for.Statement.{statement}
 use Rattle.doors.proofs.extract_for.Tie as tie
 

@@ -1,6 +1,6 @@
 -- `doors::extract_marked` meets its contract.
 use borrow.Author.Needs.{needs}
-use Rattle.extraction.specs.Extraction.{extractMarkedLeft}
+use Rattle.extractrules.specs.Extraction.{extractMarkedLeft}
 use Rattle.doors.proofs.extract_marked.Statement.{statement}
 use Rattle.doors.proofs.extract_marked.Tie as tie
 

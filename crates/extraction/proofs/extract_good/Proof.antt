@@ -8,9 +8,9 @@ use lib.ListN.{take}
 use lib.Seq.{length-take-le}
 use Rattle.types.proofs.RangeLaws.{HeaderIn, header-in}
 use Rattle.marks.specs.Marks.{flagged}
-use Rattle.table.specs.Table.{Table, lent, front}
-use Rattle.extraction.proofs.ExtractLaws.{front-left}
-use Rattle.extraction.proofs.LentLaws.{marks-refused, marks-passed}
+use Rattle.tablerules.specs.Table.{Table, lent, front}
+use Rattle.extractrules.proofs.ExtractLaws.{front-left}
+use Rattle.extractrules.proofs.LentLaws.{marks-refused, marks-passed}
 use Rattle.extraction.proofs.extract_good.Statement.{statement}
 use Rattle.extraction.proofs.extract_good.Tie as tie
 

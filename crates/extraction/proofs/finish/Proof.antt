@@ -4,7 +4,7 @@ use native.Mathlib.Omega.{arith}
 use borrow.Author.Needs.{needs}
 use lib.ListN.{length, take}
 use Rattle.types.proofs.RangeLaws.{header-in}
-use Rattle.extraction.proofs.ExtractLaws.{front-long, front-within, lasts-long, shares-long, lasts-fit, lefts-fit, finished-is}
+use Rattle.extractrules.proofs.ExtractLaws.{front-long, front-within, lasts-long, shares-long, lasts-fit, lefts-fit, finished-is}
 use Rattle.extraction.proofs.finish.Statement.{statement}
 use Rattle.extraction.proofs.finish.Tie as tie
 

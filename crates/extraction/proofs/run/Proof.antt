@@ -2,7 +2,7 @@
 use mathlib.Core.Path.{_∙_}
 use native.Mathlib.Omega.{arith}
 use borrow.Author.Needs.{needs}
-use Rattle.extraction.proofs.ExtractLaws.{run-startable, run-left}
+use Rattle.extractrules.proofs.ExtractLaws.{run-startable, run-left}
 use Rattle.extraction.proofs.run.Statement.{statement}
 use Rattle.extraction.proofs.run.Tie as tie
 

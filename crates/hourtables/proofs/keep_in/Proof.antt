@@ -2,7 +2,7 @@
 use mathlib.Core.List.{[]}
 use native.Mathlib.Omega.{arith}
 use Rattle.reading.proofs.IntoLaws.{into-refused, into-read, into-good}
-use Rattle.margin.proofs.JudgedLaws.{good-borders}
+use Rattle.marginrules.proofs.JudgedLaws.{good-borders}
 use Rattle.hourtables.proofs.HourLaws.{read-kept, read-refused}
 use borrow.Author.Needs.{needs}
 use Rattle.hourtables.proofs.keep_in.Statement.{statement}

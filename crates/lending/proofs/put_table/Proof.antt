@@ -8,8 +8,8 @@ use Rattle.refusals.specs.declared.Judgement.{Judgement}
 use Rattle.refusals.specs.Answers.{saidJudgement}
 use Rattle.refusals.specs.Refusals.{passed}
 use Rattle.types.proofs.RangeLaws.{header-in, allocated-most}
-use Rattle.table.specs.Table.{Table, lent, front}
-use Rattle.table.proofs.RoomLaws.{Enough, factors-most, room-passed}
+use Rattle.tablerules.specs.Table.{Table, lent, front}
+use Rattle.tablerules.proofs.RoomLaws.{Enough, factors-most, room-passed}
 use Rattle.reading.specs.declared.TableRead.the-variants as answer
 use Rattle.reading.proofs.LeftLaws.{read-left, left-is, room-refused}
 use borrow.Author.Needs.{needs}

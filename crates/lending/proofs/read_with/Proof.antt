@@ -2,7 +2,7 @@
 use mathlib.Core.Path.{sym, ap, _∙_}
 use native.Mathlib.Omega.{arith}
 use Rattle.refusals.specs.Refusals.{Judged}
-use Rattle.table.specs.Table.{Table}
+use Rattle.tablerules.specs.Table.{Table}
 use Rattle.reading.specs.Reading.{tablesLeft}
 use Rattle.reading.proofs.IntoLaws.{into-refused, into-read, into-good}
 use Rattle.reading.proofs.LeftLaws.{text-refused}

@@ -11,9 +11,9 @@ use Rattle.numbers.specs.Ints.{Within, maxℤ}
 use Rattle.numbers.proofs.IntLaws.{within-fits, within-mul, within-pos}
 use Rattle.types.specs.LineLimits.{fmaxMost, flowMost, shareMost}
 use Rattle.types.specs.Ranges.{worth}
-use Rattle.margin.specs.Margin.{fuafOf, baseOf, amrOf}
-use Rattle.margin.specs.Magnitudes.{f0coreMost}
-use Rattle.margin.proofs.MagnitudeLaws.{within-is, within-sub, within-fifth, within-fuaf, within-base}
+use Rattle.marginrules.specs.Margin.{fuafOf, baseOf, amrOf}
+use Rattle.marginrules.specs.Magnitudes.{f0coreMost}
+use Rattle.marginrules.proofs.MagnitudeLaws.{within-is, within-sub, within-fifth, within-fuaf, within-base}
 use Rattle.margin.proofs.amr.Statement.{statement}
 use Rattle.margin.proofs.amr.Tie as tie
 

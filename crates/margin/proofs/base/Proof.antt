@@ -7,8 +7,8 @@ use mir.Facts.{toZ-ofZ}
 use mir.Syntax.{w64}
 use mir.Val.{SFits}
 use Rattle.numbers.proofs.IntLaws.{within-fits, within-le}
-use Rattle.margin.specs.Margin.{grains, baseOf}
-use Rattle.margin.proofs.MagnitudeLaws.{within-is, within-sub, within-grains}
+use Rattle.marginrules.specs.Margin.{grains, baseOf}
+use Rattle.marginrules.proofs.MagnitudeLaws.{within-is, within-sub, within-grains}
 use Rattle.margin.proofs.base.Statement.{statement}
 use Rattle.margin.proofs.base.Tie as tie
 

@@ -7,8 +7,8 @@ use mir.Facts.{toZ-ofZ}
 use mir.Syntax.{w64}
 use mir.Val.{toZ, ofZ}
 use Rattle.numbers.proofs.IntLaws.{within-fits, within-le}
-use Rattle.margin.specs.Margin.{grains, flowOf, f0coreOf}
-use Rattle.margin.proofs.MagnitudeLaws.{within-is, within-grains}
+use Rattle.marginrules.specs.Margin.{grains, flowOf, f0coreOf}
+use Rattle.marginrules.proofs.MagnitudeLaws.{within-is, within-grains}
 use Rattle.margin.proofs.f0core.Statement.{statement}
 use Rattle.margin.proofs.f0core.Tie as tie
 

@@ -13,12 +13,12 @@ use mir.Val.{SFits}
 use Rattle.numbers.proofs.ListLaws.{Filled, filled-none, filled-more, filled-all}
 use Rattle.types.specs.Ranges.{isIntraday, rowOf, defaultOf}
 use Rattle.types.proofs.RangeLaws.{default-in}
-use Rattle.table.specs.Table.{Table, lent, stretch}
-use Rattle.margin.specs.Margin.{f0coreOf, sOf, ramOf, ramAt, startBy, marginOf}
-use Rattle.margin.specs.Magnitudes.{NetsInRange, BordersInRange}
-use Rattle.margin.proofs.MagnitudeLaws.{within-is}
-use Rattle.margin.proofs.JudgedLaws.{part-long, part-ranges, s-bound, good-factors, good-borders, good-nets, good-allocated}
-use Rattle.margin.proofs.Small.{ram-in}
+use Rattle.tablerules.specs.Table.{Table, lent, stretch}
+use Rattle.marginrules.specs.Margin.{f0coreOf, sOf, ramOf, ramAt, startBy, marginOf}
+use Rattle.marginrules.specs.Magnitudes.{NetsInRange, BordersInRange}
+use Rattle.marginrules.proofs.MagnitudeLaws.{within-is}
+use Rattle.marginrules.proofs.JudgedLaws.{part-long, part-ranges, s-bound, good-factors, good-borders, good-nets, good-allocated}
+use Rattle.marginrules.proofs.Small.{ram-in}
 use Rattle.margin.proofs.fill_rams.Statement.{statement}
 use Rattle.margin.proofs.fill_rams.Tie as tie
 

@@ -6,8 +6,8 @@ use mir.Facts.{toZ-ofZ}
 use mir.Syntax.{w64}
 use mir.Val.{SFits}
 use Rattle.numbers.proofs.IntLaws.{within-fits}
-use Rattle.margin.specs.Margin.{grains, fuafOf}
-use Rattle.margin.proofs.MagnitudeLaws.{within-is, within-sub, within-grains}
+use Rattle.marginrules.specs.Margin.{grains, fuafOf}
+use Rattle.marginrules.proofs.MagnitudeLaws.{within-is, within-sub, within-grains}
 use Rattle.margin.proofs.fuaf.Statement.{statement}
 use Rattle.margin.proofs.fuaf.Tie as tie
 

@@ -1,8 +1,8 @@
 -- `margin::grains` meets its contract.
 use mir.Facts.{toZ-ofZ}
 use Rattle.numbers.proofs.IntLaws.{within-fits}
-use Rattle.margin.specs.Margin.{grains}
-use Rattle.margin.proofs.MagnitudeLaws.{within-grains}
+use Rattle.marginrules.specs.Margin.{grains}
+use Rattle.marginrules.proofs.MagnitudeLaws.{within-grains}
 use Rattle.margin.proofs.grains.Statement.{statement}
 use Rattle.margin.proofs.grains.Tie as tie
 

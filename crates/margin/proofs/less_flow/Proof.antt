@@ -12,9 +12,9 @@ use Rattle.numbers.specs.Ints.{Within, sumℤ}
 use Rattle.numbers.proofs.IntLaws.{within-fits, within-le, within-mul}
 use Rattle.types.specs.LineLimits.{factorMost, netMost}
 use Rattle.types.specs.Ranges.{atℤ}
-use Rattle.margin.specs.Margin.{flowOf}
-use Rattle.margin.specs.Magnitudes.{startMost}
-use Rattle.margin.proofs.MagnitudeLaws.{within-is, products, flow-upto, flow-none, flow-more, flow-all}
+use Rattle.marginrules.specs.Margin.{flowOf}
+use Rattle.marginrules.specs.Magnitudes.{startMost}
+use Rattle.marginrules.proofs.MagnitudeLaws.{within-is, products, flow-upto, flow-none, flow-more, flow-all}
 use Rattle.margin.proofs.less_flow.Statement.{statement}
 use Rattle.margin.proofs.less_flow.Tie as tie
 

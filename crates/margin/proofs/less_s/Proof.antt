@@ -5,7 +5,7 @@ use mir.Facts.{toZ-ofZ}
 use mir.Syntax.{w64}
 use mir.Val.{SFits, toZ}
 use Rattle.numbers.proofs.IntLaws.{within-fits, within-pos, read-pos}
-use Rattle.margin.proofs.MagnitudeLaws.{within-sub}
+use Rattle.marginrules.proofs.MagnitudeLaws.{within-sub}
 use Rattle.margin.proofs.less_s.Statement.{statement}
 use Rattle.margin.proofs.less_s.Tie as tie
 

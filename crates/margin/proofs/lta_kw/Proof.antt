@@ -1,7 +1,7 @@
 -- `margin::lta_kw` meets its contract.
 use mathlib.Core.Path.{refl}
 use native.Mathlib.Omega.{arith}
-use Rattle.margin.specs.Margin.{ltaKw}
+use Rattle.marginrules.specs.Margin.{ltaKw}
 use Rattle.margin.proofs.lta_kw.Statement.{statement}
 use Rattle.margin.proofs.lta_kw.Tie as tie
 

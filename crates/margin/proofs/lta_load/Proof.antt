@@ -3,10 +3,10 @@ use mathlib.Core.Path.{_≡_}
 use Prim.Native.Nat.{_*_}
 use native.Mathlib.Omega.{arith}
 use lib.ListN.{length}
-use Rattle.margin.specs.Margin.{pOf, ltaKw}
-use Rattle.margin.specs.Magnitudes.{BorderInRange}
-use Rattle.margin.proofs.MagnitudeLaws.{load-most}
-use Rattle.margin.proofs.JudgedLaws.{border-judged}
+use Rattle.marginrules.specs.Margin.{pOf, ltaKw}
+use Rattle.marginrules.specs.Magnitudes.{BorderInRange}
+use Rattle.marginrules.proofs.MagnitudeLaws.{load-most}
+use Rattle.marginrules.proofs.JudgedLaws.{border-judged}
 use Rattle.margin.proofs.lta_load.Statement.{statement}
 use Rattle.margin.proofs.lta_load.Tie as tie
 

@@ -8,9 +8,9 @@ use mir.Syntax.{w64}
 use mir.Val.{SFits, toZ}
 use Rattle.numbers.specs.Ints.{Within, maxℤ}
 use Rattle.numbers.proofs.IntLaws.{within-fits, within-le, within-pos, read-pos, within-add}
-use Rattle.margin.specs.Margin.{grains, ltaMarginOf}
-use Rattle.margin.specs.Magnitudes.{sMost}
-use Rattle.margin.proofs.MagnitudeLaws.{within-is, within-sub, within-grains}
+use Rattle.marginrules.specs.Margin.{grains, ltaMarginOf}
+use Rattle.marginrules.specs.Magnitudes.{sMost}
+use Rattle.marginrules.proofs.MagnitudeLaws.{within-is, within-sub, within-grains}
 use Rattle.margin.proofs.lta_margin.Statement.{statement}
 use Rattle.margin.proofs.lta_margin.Tie as tie
 

@@ -1,7 +1,7 @@
 -- `margin::p` meets its contract: the positive part of the signed factor.
 use mir.Facts.{toZ-ofZ}
 use borrow.Author.Needs.{needs, sfits-of}
-use Rattle.margin.specs.Margin.{pOf}
+use Rattle.marginrules.specs.Margin.{pOf}
 use Rattle.margin.proofs.p.Statement.{statement}
 use Rattle.margin.proofs.p.Tie as tie
 

@@ -10,9 +10,9 @@ use mir.Val.{SFits}
 use Rattle.numbers.specs.Ints.{Within}
 use Rattle.numbers.proofs.IntLaws.{within-fits, within-le, within-add}
 use Rattle.types.specs.LineLimits.{fmaxMost}
-use Rattle.margin.specs.Margin.{grains, baseOf, amrOf, ltaMarginOf, ramOf}
-use Rattle.margin.specs.Magnitudes.{f0coreMost, amrMost, sMost}
-use Rattle.margin.proofs.MagnitudeLaws.{within-is, within-sub, within-grains, within-base, within-amr, within-lta-margin}
+use Rattle.marginrules.specs.Margin.{grains, baseOf, amrOf, ltaMarginOf, ramOf}
+use Rattle.marginrules.specs.Magnitudes.{f0coreMost, amrMost, sMost}
+use Rattle.marginrules.proofs.MagnitudeLaws.{within-is, within-sub, within-grains, within-base, within-amr, within-lta-margin}
 use Rattle.margin.proofs.ram.Statement.{statement}
 use Rattle.margin.proofs.ram.Tie as tie
 

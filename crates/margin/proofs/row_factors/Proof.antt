@@ -4,8 +4,8 @@ use Prim.Native.Nat.{ℕ, _+_, _*_, _-_}
 use native.Mathlib.Omega.{arith}
 use borrow.Author.Needs.{needs}
 use lib.ListN.{take, drop}
-use Rattle.table.specs.Table.{stretch}
-use Rattle.margin.proofs.JudgedLaws.{stretch-ends}
+use Rattle.tablerules.specs.Table.{stretch}
+use Rattle.marginrules.proofs.JudgedLaws.{stretch-ends}
 use Rattle.margin.proofs.row_factors.Statement.{statement}
 use Rattle.margin.proofs.row_factors.Tie as tie
 

@@ -7,10 +7,10 @@ use mir.Syntax.{w64}
 use mir.Val.{SFits}
 use Rattle.numbers.specs.Ints.{Within}
 use Rattle.limits.specs.Limits.{zonesMost}
-use Rattle.margin.specs.Margin.{ramOf}
-use Rattle.margin.specs.Magnitudes.{RowInRange, f0coreMost}
-use Rattle.margin.proofs.MagnitudeLaws.{within-is, within-f0core}
-use Rattle.margin.proofs.JudgedLaws.{row-judged}
+use Rattle.marginrules.specs.Margin.{ramOf}
+use Rattle.marginrules.specs.Magnitudes.{RowInRange, f0coreMost}
+use Rattle.marginrules.proofs.MagnitudeLaws.{within-is, within-f0core}
+use Rattle.marginrules.proofs.JudgedLaws.{row-judged}
 use Rattle.margin.proofs.row_ram.Statement.{statement}
 use Rattle.margin.proofs.row_ram.Tie as tie
 

@@ -6,9 +6,9 @@ use lib.ListN.{length, getD}
 use mathlib.Core.List.{[]}
 use Rattle.numbers.specs.Below.{sum}
 use Rattle.types.specs.Ranges.{borderOf}
-use Rattle.margin.specs.Magnitudes.{BorderInRange}
-use Rattle.margin.proofs.MagnitudeLaws.{loads, s-upto, s-none, s-more, s-all}
-use Rattle.margin.proofs.JudgedLaws.{border-ranges}
+use Rattle.marginrules.specs.Magnitudes.{BorderInRange}
+use Rattle.marginrules.proofs.MagnitudeLaws.{loads, s-upto, s-none, s-more, s-all}
+use Rattle.marginrules.proofs.JudgedLaws.{border-ranges}
 use Rattle.margin.proofs.s.Statement.{statement}
 use Rattle.margin.proofs.s.Tie as tie
 

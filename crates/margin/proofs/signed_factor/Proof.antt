@@ -12,8 +12,8 @@ use Rattle.numbers.specs.Ints.{Within}
 use Rattle.numbers.proofs.IntLaws.{within-fits, within-add}
 use Rattle.types.specs.LineLimits.{factorMost}
 use Rattle.types.specs.Ranges.{atℤ}
-use Rattle.margin.specs.Magnitudes.{HubsWithin}
-use Rattle.margin.proofs.MagnitudeLaws.{within-sub, signed-without, signed-between}
+use Rattle.marginrules.specs.Magnitudes.{HubsWithin}
+use Rattle.marginrules.proofs.MagnitudeLaws.{within-sub, signed-without, signed-between}
 use Rattle.margin.proofs.signed_factor.Statement.{statement}
 use Rattle.margin.proofs.signed_factor.Tie as tie
 

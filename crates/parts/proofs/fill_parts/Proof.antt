@@ -4,8 +4,8 @@ use native.Mathlib.Omega.{arith}
 use borrow.Author.Needs.{needs}
 use lib.ListN.{length}
 use Rattle.numbers.proofs.BelowLaws.{table-long}
-use Rattle.table.proofs.RoomLaws.{factors-most}
-use Rattle.states.proofs.StandingsLaws.{rows-in}
+use Rattle.tablerules.proofs.RoomLaws.{factors-most}
+use Rattle.staterules.proofs.StandingsLaws.{rows-in}
 use Rattle.parts.proofs.PartsLaws.{stored-are, storable}
 use Rattle.parts.proofs.fill_parts.Statement.{statement}
 use Rattle.parts.proofs.fill_parts.Tie as tie

@@ -1,8 +1,8 @@
 -- `parts::margins` meets its contract: what judging refuses is refused, then room that is too short, and else the front of the lent tables is a good table.
 use native.Mathlib.Omega.{arith}
 use borrow.Author.Needs.{needs}
-use Rattle.table.specs.Table.{lent}
-use Rattle.table.proofs.GoodLaws.{told-good}
+use Rattle.tablerules.specs.Table.{lent}
+use Rattle.tablerules.proofs.GoodLaws.{told-good}
 use Rattle.parts.proofs.PartsLaws.{margins-refused, margins-short, margins-stored}
 use Rattle.parts.proofs.margins.Statement.{statement}
 use Rattle.parts.proofs.margins.Tie as tie

@@ -9,10 +9,10 @@ use mir.Val.{SFits}
 use Rattle.numbers.proofs.ListLaws.{Filled, filled-none, filled-more, filled-over}
 use Rattle.numbers.proofs.IntLaws.{plain}
 use Rattle.types.proofs.RangeLaws.{default-in}
-use Rattle.margin.specs.Magnitudes.{NetsInRange, BordersInRange}
-use Rattle.margin.proofs.MagnitudeLaws.{within-is}
-use Rattle.margin.proofs.JudgedLaws.{part-long, part-ranges}
-use Rattle.parts.specs.Parts.{recordOf}
+use Rattle.marginrules.specs.Magnitudes.{NetsInRange, BordersInRange}
+use Rattle.marginrules.proofs.MagnitudeLaws.{within-is}
+use Rattle.marginrules.proofs.JudgedLaws.{part-long, part-ranges}
+use Rattle.partrules.specs.Parts.{recordOf}
 use Rattle.parts.specs.Stored.{partsAt}
 use Rattle.parts.proofs.PartsLaws.{stored-at}
 use Rattle.parts.proofs.store_parts.Statement.{statement}

@@ -3,7 +3,7 @@ use mathlib.Core.Path.{ap, _∙_}
 use native.Mathlib.Omega.{arith}
 use borrow.Author.Needs.{needs}
 use Rattle.refusals.specs.Refusals.{refused}
-use Rattle.table.proofs.RoomLaws.{factors-most}
+use Rattle.tablerules.proofs.RoomLaws.{factors-most}
 use Rattle.rowsheet.proofs.SheetLaws.{room-short-c, room-short-f, room-enough}
 use Rattle.rowsheet.proofs.judge_room.Statement.{statement}
 use Rattle.rowsheet.proofs.judge_room.Tie as tie

@@ -9,7 +9,7 @@ use Rattle.refusals.specs.declared.Judgement.the-variants as judgement
 use Rattle.refusals.specs.Answers.{saidJudgement}
 use Rattle.refusals.specs.Refusals.{passed}
 use Rattle.types.proofs.RangeLaws.{header-in}
-use Rattle.table.proofs.RoomLaws.{factors-most}
+use Rattle.tablerules.proofs.RoomLaws.{factors-most}
 use Rattle.rowsheet.specs.RowSheet.{Rows, frontRows, readSheet, rowRoom, rowsSaid}
 use Rattle.rowsheet.proofs.SheetLaws.{sheet-refused, SheetSection, sheet-section, left-short, left-filled, room-passed}
 use borrow.Author.Needs.{needs}

@@ -12,7 +12,7 @@ use Rattle.refusals.specs.Answers.{saidJudgement}
 use Rattle.refusals.specs.Refusals.{passed}
 use Rattle.types.specs.Ranges.{headerFits}
 use Rattle.types.proofs.RangeLaws.{header-in}
-use Rattle.table.proofs.RoomLaws.{factors-most}
+use Rattle.tablerules.proofs.RoomLaws.{factors-most}
 use Rattle.rowsheet.specs.RowSheet.{rowRoom}
 use Rattle.rowsheet.proofs.SheetLaws.{room-passed}
 use Rattle.rowsheet.proofs.WriteLaws.{header-out, room-out, front-on}

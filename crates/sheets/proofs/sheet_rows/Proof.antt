@@ -1,7 +1,7 @@
 -- `sheets::sheet_rows` meets its contract: what its test showed, as the definition's test (`le-leb`, `lt-leb`).
 use native.Mathlib.Omega.{arith}
 use borrow.Author.Tests.{le-leb, lt-leb}
-use Rattle.corners.specs.Corners.{sheetBordersMost}
+use Rattle.cornerrules.specs.Corners.{sheetBordersMost}
 use Rattle.sheets.proofs.sheet_rows.Statement.{statement}
 use Rattle.sheets.proofs.sheet_rows.Tie as tie
 

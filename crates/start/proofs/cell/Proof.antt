@@ -1,8 +1,8 @@
 -- `start::cell` meets its contract.
 use mathlib.Core.Path.{ap, _∙_}
 use borrow.Author.Tests.{eq-eqb, ne-eqb}
-use Rattle.margin.specs.Margin.{pOf}
-use Rattle.margin.proofs.JudgedLaws.{border-judged}
+use Rattle.marginrules.specs.Margin.{pOf}
+use Rattle.marginrules.proofs.JudgedLaws.{border-judged}
 use Rattle.start.proofs.cell.Statement.{statement}
 use Rattle.start.proofs.cell.Tie as tie
 

@@ -3,8 +3,8 @@ use mathlib.Core.Path.{sym, _∙_}
 use native.Mathlib.Omega.{arith}
 use borrow.Author.Needs.{needs}
 use lib.Seq.{length-take-le}
-use Rattle.start.proofs.SameMarks.{cells-all, cells-every}
-use Rattle.start.proofs.StartLaws.{filled-long}
+use Rattle.extractrules.proofs.SameMarks.{cells-all, cells-every}
+use Rattle.extractrules.proofs.StartLaws.{filled-long}
 use Rattle.start.proofs.complete.Statement.{statement}
 use Rattle.start.proofs.complete.Tie as tie
 

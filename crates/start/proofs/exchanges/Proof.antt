@@ -4,7 +4,7 @@ use borrow.Author.Needs.{needs}
 use lib.Seq.{length-take-le}
 use Rattle.numbers.specs.Below.{table}
 use Rattle.types.specs.Ranges.{isIntraday}
-use Rattle.start.proofs.StartLaws.{exchanges-are}
+use Rattle.extractrules.proofs.StartLaws.{exchanges-are}
 use Rattle.start.proofs.exchanges.Statement.{statement}
 use Rattle.start.proofs.exchanges.Tie as tie
 

@@ -5,7 +5,7 @@ use native.Mathlib.Omega.{arith}
 use lib.ListN.{length, getD}
 use Rattle.numbers.proofs.ListLaws.{Filled, filled-none, filled-more, filled-all}
 use Rattle.types.specs.Ranges.{borderOf}
-use Rattle.start.specs.Start.{fromBy}
+use Rattle.extractrules.specs.Start.{fromBy}
 use Rattle.start.proofs.fill_froms.Statement.{statement}
 use Rattle.start.proofs.fill_froms.Tie as tie
 

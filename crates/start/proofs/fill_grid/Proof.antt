@@ -8,12 +8,12 @@ use lib.IntN.{ℤ}
 use lib.ListN.{getD}
 use Rattle.types.specs.Ranges.{borderFits, borderOf}
 use Rattle.marks.specs.Marks.{flagged}
-use Rattle.margin.specs.Margin.{pOf}
-use Rattle.margin.proofs.JudgedLaws.{part-long, part-ranges}
+use Rattle.marginrules.specs.Margin.{pOf}
+use Rattle.marginrules.proofs.JudgedLaws.{part-long, part-ranges}
 use Rattle.setup.specs.Setup.{gridBy}
-use Rattle.states.specs.States.{kept}
-use Rattle.start.specs.Start.{gridOf, setupWith}
-use Rattle.start.proofs.StartLaws.{FilledTo, filled-to-none, filled-to-place, filled-to-more, filled-to-row, filled-to-all}
+use Rattle.staterules.specs.States.{kept}
+use Rattle.extractrules.specs.Start.{gridOf, setupWith}
+use Rattle.extractrules.proofs.StartLaws.{FilledTo, filled-to-none, filled-to-place, filled-to-more, filled-to-row, filled-to-all}
 use Rattle.start.proofs.fill_grid.Statement.{statement}
 use Rattle.start.proofs.fill_grid.Tie as tie
 

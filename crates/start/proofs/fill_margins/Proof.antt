@@ -8,7 +8,7 @@ use Rattle.numbers.specs.Ints.{positivePart}
 use Rattle.numbers.proofs.IntLaws.{plain}
 use Rattle.numbers.proofs.ListLaws.{Filled, filled-none, filled-more, filled-all}
 use Rattle.types.specs.Ranges.{atℤ}
-use Rattle.states.specs.States.{kept}
+use Rattle.staterules.specs.States.{kept}
 use Rattle.start.proofs.fill_margins.Statement.{statement}
 use Rattle.start.proofs.fill_margins.Tie as tie
 

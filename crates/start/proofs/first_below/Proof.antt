@@ -8,7 +8,7 @@ use lib.Signed.{ltZ}
 use Rattle.numbers.proofs.IntLaws.{plain}
 use Rattle.numbers.proofs.BelowLaws.{Looked, looked-none, looked-all, looked-here, looked-more}
 use Rattle.types.specs.Ranges.{atℤ}
-use Rattle.states.specs.States.{kept}
+use Rattle.staterules.specs.States.{kept}
 use Rattle.start.proofs.first_below.Statement.{statement}
 use Rattle.start.proofs.first_below.Tie as tie
 

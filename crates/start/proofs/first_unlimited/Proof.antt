@@ -4,7 +4,7 @@ use Prim.Native.Nat.{_-_}
 use native.Mathlib.Omega.{arith}
 use Rattle.numbers.proofs.BelowLaws.{Looked, looked-none, looked-all, looked-here, looked-more}
 use Rattle.marks.specs.Marks.{flagged}
-use Rattle.start.specs.Filled.{freeOf}
+use Rattle.extractrules.specs.Filled.{freeOf}
 use Rattle.start.proofs.first_unlimited.Statement.{statement}
 use Rattle.start.proofs.first_unlimited.Tie as tie
 

@@ -1,7 +1,7 @@
 -- `start::from_of` meets its contract.
 use mathlib.Core.Path.{ap, _∙_}
-use Rattle.margin.specs.Margin.{ltaKw}
-use Rattle.margin.proofs.JudgedLaws.{border-judged}
+use Rattle.marginrules.specs.Margin.{ltaKw}
+use Rattle.marginrules.proofs.JudgedLaws.{border-judged}
 use Rattle.start.proofs.from_of.Statement.{statement}
 use Rattle.start.proofs.from_of.Tie as tie
 

@@ -12,11 +12,11 @@ use Rattle.numbers.specs.Below.{given}
 use Rattle.numbers.proofs.BelowLaws.{Looked, looked-none, looked-all, looked-here, looked-more}
 use Rattle.types.specs.Ranges.{borderFits, borderOf}
 use Rattle.marks.specs.Marks.{flagged}
-use Rattle.margin.specs.Margin.{pOf}
-use Rattle.margin.proofs.JudgedLaws.{part-long, part-ranges}
+use Rattle.marginrules.specs.Margin.{pOf}
+use Rattle.marginrules.proofs.JudgedLaws.{part-long, part-ranges}
 use Rattle.setup.specs.Setup.{gridBy}
-use Rattle.states.specs.States.{kept}
-use Rattle.start.specs.Start.{gridOf, setupWith}
+use Rattle.staterules.specs.States.{kept}
+use Rattle.extractrules.specs.Start.{gridOf, setupWith}
 use Rattle.start.proofs.is_limited.Statement.{statement}
 use Rattle.start.proofs.is_limited.Tie as tie
 

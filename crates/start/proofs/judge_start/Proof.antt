@@ -8,9 +8,9 @@ use Rattle.numbers.specs.Below.{someBelow}
 use Rattle.numbers.specs.First.{found}
 use Rattle.refusals.specs.Refusals.{refused}
 use Rattle.setup.specs.Setup.{gridBy}
-use Rattle.states.specs.States.{kept}
-use Rattle.start.specs.Start.{gridOf, setupWith}
-use Rattle.start.proofs.StartLaws.{none-kept, border-free, row-below, may-start}
+use Rattle.staterules.specs.States.{kept}
+use Rattle.extractrules.specs.Start.{gridOf, setupWith}
+use Rattle.extractrules.proofs.StartLaws.{none-kept, border-free, row-below, may-start}
 use Rattle.start.proofs.judge_start.Statement.{statement}
 use Rattle.start.proofs.judge_start.Tie as tie
 

@@ -1,6 +1,6 @@
 -- `start::lay_out` meets its contract: the cells are the grid's, and the margins those of the start.
 use borrow.Author.Needs.{needs}
-use Rattle.start.proofs.StartLaws.{margins-are}
+use Rattle.extractrules.proofs.StartLaws.{margins-are}
 use Rattle.start.proofs.lay_out.Statement.{statement}
 use Rattle.start.proofs.lay_out.Tie as tie
 

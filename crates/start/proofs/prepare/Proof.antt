@@ -4,10 +4,10 @@ use native.Mathlib.Omega.{arith}
 use borrow.Author.Needs.{needs}
 use lib.ListN.{length}
 use Rattle.numbers.proofs.BelowLaws.{table-long}
-use Rattle.table.proofs.RoomLaws.{factors-most}
-use Rattle.margin.proofs.JudgedLaws.{good-factors, good-borders}
-use Rattle.states.proofs.StandingsLaws.{rows-in}
-use Rattle.start.proofs.StartLaws.{prepared-by}
+use Rattle.tablerules.proofs.RoomLaws.{factors-most}
+use Rattle.marginrules.proofs.JudgedLaws.{good-factors, good-borders}
+use Rattle.staterules.proofs.StandingsLaws.{rows-in}
+use Rattle.extractrules.proofs.StartLaws.{prepared-by}
 use Rattle.start.proofs.prepare.Statement.{statement}
 use Rattle.start.proofs.prepare.Tie as tie
 

@@ -9,7 +9,7 @@ use mir.Syntax.{w64}
 use mir.Val.{SFits}
 use Rattle.numbers.specs.Ints.{sameℤ}
 use Rattle.types.specs.Ranges.{atℤ}
-use Rattle.states.proofs.StateLaws.{below-lower, below-index, below-other}
+use Rattle.staterules.proofs.StateLaws.{below-lower, below-index, below-other}
 use Rattle.states.proofs.below.Statement.{statement}
 use Rattle.states.proofs.below.Tie as tie
 

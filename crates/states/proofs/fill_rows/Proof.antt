@@ -5,9 +5,9 @@ use borrow.Author.Needs.{needs}
 use lib.ListN.{length}
 use Rattle.numbers.proofs.BelowLaws.{table-long}
 use Rattle.types.specs.Ranges.{allocatedItems}
-use Rattle.table.proofs.RoomLaws.{factors-most}
-use Rattle.margin.proofs.JudgedLaws.{good-factors}
-use Rattle.states.proofs.StandingsLaws.{rows-are}
+use Rattle.tablerules.proofs.RoomLaws.{factors-most}
+use Rattle.marginrules.proofs.JudgedLaws.{good-factors}
+use Rattle.staterules.proofs.StandingsLaws.{rows-are}
 use Rattle.states.proofs.fill_rows.Statement.{statement}
 use Rattle.states.proofs.fill_rows.Tie as tie
 

@@ -2,7 +2,7 @@
 use Prim.Native.Nat.{_-_}
 use native.Mathlib.Omega.{arith}
 use Rattle.numbers.proofs.ListLaws.{Filled, filled-none, filled-more, filled-all}
-use Rattle.states.specs.States.{stateOf}
+use Rattle.staterules.specs.States.{stateOf}
 use Rattle.states.proofs.fill_states.Statement.{statement}
 use Rattle.states.proofs.fill_states.Tie as tie
 

@@ -16,8 +16,8 @@ use Rattle.numbers.specs.Below.{given}
 use Rattle.numbers.proofs.IntLaws.{within-fits, same-self}
 use Rattle.numbers.proofs.BelowLaws.{Looked, looked-none, looked-all, looked-here, looked-more}
 use Rattle.types.specs.Ranges.{atℤ}
-use Rattle.states.specs.States.{shifted}
-use Rattle.margin.proofs.MagnitudeLaws.{within-sub}
+use Rattle.staterules.specs.States.{shifted}
+use Rattle.marginrules.proofs.MagnitudeLaws.{within-sub}
 use Rattle.states.proofs.shifted.Statement.{statement}
 use Rattle.states.proofs.shifted.Tie as tie
 

@@ -14,9 +14,9 @@ use Rattle.numbers.specs.Ints.{Within, maxℤ, minℤ}
 use Rattle.numbers.proofs.IntLaws.{within-fits, within-max, within-min}
 use Rattle.types.specs.LineLimits.{factorMost}
 use Rattle.types.specs.Ranges.{atℤ}
-use Rattle.states.specs.States.{highest, lowest}
-use Rattle.margin.proofs.MagnitudeLaws.{within-sub}
-use Rattle.states.proofs.StateLaws.{highest-more, highest-all, lowest-more, lowest-all, spread-is}
+use Rattle.staterules.specs.States.{highest, lowest}
+use Rattle.marginrules.proofs.MagnitudeLaws.{within-sub}
+use Rattle.staterules.proofs.StateLaws.{highest-more, highest-all, lowest-more, lowest-all, spread-is}
 use Rattle.states.proofs.spread_small.Statement.{statement}
 use Rattle.states.proofs.spread_small.Tie as tie
 

@@ -3,9 +3,9 @@ use mathlib.Core.Path.{sym, ap₂, _∙_}
 use borrow.Author.Needs.{needs}
 use lib.IntN.{ℤ}
 use mathlib.Core.List.{List}
-use Rattle.states.specs.States.{shifted, below}
-use Rattle.margin.proofs.JudgedLaws.{part-long, part-ranges}
-use Rattle.states.proofs.StateLaws.{late-first, late-second}
+use Rattle.staterules.specs.States.{shifted, below}
+use Rattle.marginrules.proofs.JudgedLaws.{part-long, part-ranges}
+use Rattle.staterules.proofs.StateLaws.{late-first, late-second}
 use Rattle.states.proofs.stands_for.Statement.{statement}
 use Rattle.states.proofs.stands_for.Tie as tie
 

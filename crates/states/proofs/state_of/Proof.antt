@@ -4,10 +4,10 @@ use mathlib.Core.List.{List}
 use borrow.Author.Needs.{needs}
 use lib.IntN.{ℤ, pos}
 use lib.Signed.{ltZ}
-use Rattle.table.specs.Table.{stretch}
-use Rattle.states.specs.States.{spreadOf, spreadLeast}
-use Rattle.margin.proofs.JudgedLaws.{part-ranges}
-use Rattle.states.proofs.StateLaws.{state-spread, state-stood, state-kept}
+use Rattle.tablerules.specs.Table.{stretch}
+use Rattle.staterules.specs.States.{spreadOf, spreadLeast}
+use Rattle.marginrules.proofs.JudgedLaws.{part-ranges}
+use Rattle.staterules.proofs.StateLaws.{state-spread, state-stood, state-kept}
 use Rattle.states.proofs.state_of.Statement.{statement}
 use Rattle.states.proofs.state_of.Tie as tie
 

@@ -7,8 +7,8 @@ use Prim.Native.Nat.{ℕ, _-_}
 use native.Mathlib.Omega.{arith}
 use Rattle.numbers.specs.Below.{given}
 use Rattle.numbers.proofs.BelowLaws.{Looked, looked-none, looked-all, looked-here, looked-more}
-use Rattle.table.specs.Table.{stretch}
-use Rattle.states.specs.States.{below, shifted}
+use Rattle.tablerules.specs.Table.{stretch}
+use Rattle.staterules.specs.States.{below, shifted}
 use Rattle.states.proofs.stood_for.Statement.{statement}
 use Rattle.states.proofs.stood_for.Tie as tie
 

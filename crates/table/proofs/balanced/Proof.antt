@@ -15,7 +15,7 @@ use Rattle.numbers.proofs.IntLaws.{within-fits, within-le, within-sum}
 use Rattle.limits.specs.Limits.{zonesMost}
 use Rattle.types.specs.LineLimits.{netMost}
 use Rattle.types.specs.Ranges.{atℤ}
-use Rattle.table.specs.Table.{balanced}
+use Rattle.tablerules.specs.Table.{balanced}
 use Rattle.table.proofs.balanced.Statement.{statement}
 use Rattle.table.proofs.balanced.Tie as tie
 

@@ -7,8 +7,8 @@ use native.Mathlib.Omega.{arith}
 use borrow.Author.Needs.{needs}
 use lib.ListN.{length, getD, take, drop}
 use Rattle.numbers.proofs.BelowLaws.{Looked, looked-none, looked-all, looked-here, looked-more}
-use Rattle.table.specs.Table.{rowGood, stretch}
-use Rattle.table.proofs.StretchLaws.{stretch-end}
+use Rattle.tablerules.specs.Table.{rowGood, stretch}
+use Rattle.tablerules.proofs.StretchLaws.{stretch-end}
 use Rattle.table.proofs.first_row_out.Statement.{statement}
 use Rattle.table.proofs.first_row_out.Tie as tie
 

@@ -5,7 +5,7 @@ use native.Mathlib.Omega.{arith}
 use borrow.Author.Needs.{needs}
 use lib.ListN.{length}
 use Rattle.numbers.proofs.BelowLaws.{Looked, looked-none, looked-all, looked-here, looked-more}
-use Rattle.table.specs.Table.{twice}
+use Rattle.tablerules.specs.Table.{twice}
 use Rattle.table.proofs.first_twice.Statement.{statement}
 use Rattle.table.proofs.first_twice.Tie as tie
 

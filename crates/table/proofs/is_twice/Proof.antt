@@ -7,7 +7,7 @@ use borrow.Author.Needs.{needs}
 use lib.ListN.{getD}
 use Rattle.numbers.specs.Below.{given}
 use Rattle.numbers.proofs.BelowLaws.{Looked, looked-none, looked-all, looked-here, looked-more}
-use Rattle.table.specs.Table.{sameEnds, twice}
+use Rattle.tablerules.specs.Table.{sameEnds, twice}
 use Rattle.table.proofs.is_twice.Statement.{statement}
 use Rattle.table.proofs.is_twice.Tie as tie
 

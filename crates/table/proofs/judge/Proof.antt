@@ -3,11 +3,11 @@ use mathlib.Core.Path.{_≡_, sym, _∙_}
 use native.Mathlib.Omega.{arith}
 use borrow.Author.Needs.{needs}
 use Rattle.types.specs.Ranges.{allocatedItems}
-use Rattle.table.specs.Table.{Table, lent, front}
-use Rattle.table.specs.Good.{Exact}
-use Rattle.table.proofs.RoomLaws.{factors-most}
-use Rattle.table.proofs.JudgeLaws.{lent-refused, front-exact, p-refused, records-left}
-use Rattle.table.proofs.GoodLaws.{refused-in, records-in}
+use Rattle.tablerules.specs.Table.{Table, lent, front}
+use Rattle.tablerules.specs.Good.{Exact}
+use Rattle.tablerules.proofs.RoomLaws.{factors-most}
+use Rattle.tablerules.proofs.JudgeLaws.{lent-refused, front-exact, p-refused, records-left}
+use Rattle.tablerules.proofs.GoodLaws.{refused-in, records-in}
 use Rattle.table.proofs.judge.Statement.{statement}
 use Rattle.table.proofs.judge.Tie as tie
 

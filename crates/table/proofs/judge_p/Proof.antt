@@ -5,7 +5,7 @@ use native.Mathlib.Omega.{arith}
 use borrow.Author.Needs.{needs}
 use Rattle.refusals.specs.Refusals.{refused}
 use Rattle.types.proofs.RangeLaws.{header-in}
-use Rattle.table.proofs.RoomLaws.{p-short, p-enough}
+use Rattle.tablerules.proofs.RoomLaws.{p-short, p-enough}
 use Rattle.table.proofs.judge_p.Statement.{statement}
 use Rattle.table.proofs.judge_p.Tie as tie
 

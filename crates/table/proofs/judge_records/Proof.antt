@@ -14,8 +14,8 @@ use Rattle.numbers.proofs.FirstLaws.{first-within}
 use Rattle.refusals.specs.Refusals.{refused, outOfRange}
 use Rattle.types.specs.Ranges.{atℤ, allocatedItems, zoneFits, borderFits}
 use Rattle.types.proofs.RangeLaws.{header-in, allocated-most}
-use Rattle.table.specs.Table.{headerLineNo, zoneLineNo, balanced}
-use Rattle.table.proofs.JudgeLaws.{exact-factors, allocated-within, zone-refused, allocated-refused, balance-refused, border-refused, row-refused, twice-refused, records-pass}
+use Rattle.tablerules.specs.Table.{headerLineNo, zoneLineNo, balanced}
+use Rattle.tablerules.proofs.JudgeLaws.{exact-factors, allocated-within, zone-refused, allocated-refused, balance-refused, border-refused, row-refused, twice-refused, records-pass}
 use Rattle.table.proofs.judge_records.Statement.{statement}
 use Rattle.table.proofs.judge_records.Tie as tie
 

@@ -3,7 +3,7 @@ use mathlib.Core.Path.{ap, _∙_}
 use native.Mathlib.Omega.{arith}
 use Rattle.refusals.specs.Refusals.{refused, tooShort}
 use borrow.Author.Needs.{needs}
-use Rattle.table.proofs.RoomLaws.{factors-most, room-short-z, room-short-t, room-short-b, room-short-c, room-short-f, room-enough}
+use Rattle.tablerules.proofs.RoomLaws.{factors-most, room-short-z, room-short-t, room-short-b, room-short-c, room-short-f, room-enough}
 use Rattle.table.proofs.judge_room.Statement.{statement}
 use Rattle.table.proofs.judge_room.Tie as tie
 

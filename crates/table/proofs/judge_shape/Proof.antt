@@ -3,7 +3,7 @@ use mathlib.Core.Path.{sym, ap, _∙_}
 use borrow.Author.Needs.{needs}
 use borrow.Author.Tests.{not-true, not-false}
 use Rattle.refusals.specs.Refusals.{refused}
-use Rattle.table.proofs.JudgeLaws.{header-refused, shape-said}
+use Rattle.tablerules.proofs.JudgeLaws.{header-refused, shape-said}
 use Rattle.table.proofs.judge_shape.Statement.{statement}
 use Rattle.table.proofs.judge_shape.Tie as tie
 

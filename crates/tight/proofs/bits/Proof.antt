@@ -1,6 +1,6 @@
 -- `tight::bits` meets its contract. The invariant: `half` is v halved `count` times. The measure is `half`.
 use native.Mathlib.Omega.{arith}
-use Rattle.tight.proofs.BitsLaws.{Halved, halved-none, halved-more, halved-few, halved-all}
+use Rattle.tightrules.proofs.BitsLaws.{Halved, halved-none, halved-more, halved-few, halved-all}
 use Rattle.tight.proofs.bits.Statement.{statement}
 use Rattle.tight.proofs.bits.Tie as tie
 

@@ -6,8 +6,8 @@ use native.Mathlib.Omega.{arith}
 use borrow.Author.Needs.{needs}
 use Rattle.rounds.specs.Rounds.{Grid, mostSharers}
 use Rattle.rounds.specs.AllRounds.{flat}
-use Rattle.tight.proofs.BitsLaws.{sharers-few, bits-few}
-use Rattle.tight.proofs.PassLaws.{counted-most, measured}
+use Rattle.tightrules.proofs.BitsLaws.{sharers-few, bits-few}
+use Rattle.tightrules.proofs.PassLaws.{counted-most, measured}
 use Rattle.tight.proofs.measure.Statement.{statement}
 use Rattle.tight.proofs.measure.Tie as tie
 

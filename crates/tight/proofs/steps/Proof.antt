@@ -3,8 +3,8 @@ use mathlib.Core.Path.{sym, ap, _∙_}
 use Prim.Native.Nat.{ℕ}
 use native.Mathlib.Nat.{div-le-self}
 use native.Mathlib.Omega.{arith}
-use Rattle.tight.specs.Tight.{steps}
-use Rattle.tight.proofs.StepLaws.{steps-idle, Stepped, stepped-none, stepped-more, stepped-few, stepped-all}
+use Rattle.tightrules.specs.Tight.{steps}
+use Rattle.tightrules.proofs.StepLaws.{steps-idle, Stepped, stepped-none, stepped-more, stepped-few, stepped-all}
 use Rattle.tight.proofs.steps.Statement.{statement}
 use Rattle.tight.proofs.steps.Tie as tie
 

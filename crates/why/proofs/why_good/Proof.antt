@@ -7,7 +7,7 @@ use borrow.Author.Needs.{needs}
 use lib.Seq.{length-take-le}
 use Rattle.refusals.specs.Refusals.{Judged}
 use Rattle.types.proofs.RangeLaws.{HeaderIn, header-in}
-use Rattle.table.specs.Table.{Table, lent, front}
+use Rattle.tablerules.specs.Table.{Table, lent, front}
 use Rattle.why.specs.Why.{Why, judgedLeft}
 use Rattle.why.proofs.WhyLaws.{left-refused, for-refused, for-no-border, for-passed, front-left}
 use Rattle.why.proofs.why_good.Statement.{statement}

@@ -9,15 +9,15 @@ use Rattle.numbers.proofs.BelowLaws.{table-long}
 use Rattle.refusals.specs.Refusals.{passed}
 use Rattle.types.proofs.RangeLaws.{header-in}
 use Rattle.marks.specs.Marks.{flagged}
-use Rattle.table.specs.Table.{Table, lent, front}
-use Rattle.table.proofs.RoomLaws.{factors-most}
-use Rattle.margin.proofs.JudgedLaws.{good-factors, good-borders}
-use Rattle.states.specs.Standings.{standingsOf}
-use Rattle.states.proofs.StandingsLaws.{rows-in}
-use Rattle.start.specs.Start.{every, judgeMarked}
-use Rattle.start.proofs.StartLaws.{PreparedAs, prepared-as, laid-grid, laid-margins}
-use Rattle.extraction.proofs.ExtractLaws.{finishable}
-use Rattle.extraction.proofs.ExtractLaws as extraction
+use Rattle.tablerules.specs.Table.{Table, lent, front}
+use Rattle.tablerules.proofs.RoomLaws.{factors-most}
+use Rattle.marginrules.proofs.JudgedLaws.{good-factors, good-borders}
+use Rattle.staterules.specs.Standings.{standingsOf}
+use Rattle.staterules.proofs.StandingsLaws.{rows-in}
+use Rattle.extractrules.specs.Start.{every, judgeMarked}
+use Rattle.extractrules.proofs.StartLaws.{PreparedAs, prepared-as, laid-grid, laid-margins}
+use Rattle.extractrules.proofs.ExtractLaws.{finishable}
+use Rattle.extractrules.proofs.ExtractLaws as extraction
 use Rattle.why.proofs.WhyLaws.{stored-is, left-refused, start-refused, short-ends, short-rows, all-stored}
 use Rattle.why.proofs.why_in.Statement.{statement}
 use Rattle.why.proofs.why_in.Tie as tie

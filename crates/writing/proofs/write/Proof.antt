@@ -3,9 +3,9 @@ use mathlib.Core.Path.{_≡_, sym, ap, _∙_}
 use borrow.Author.Needs.{needs}
 use Rattle.refusals.specs.declared.Judgement.{Judgement}
 use Rattle.refusals.specs.Answers.{saidJudgement}
-use Rattle.table.specs.Table.{Table, lent, front}
-use Rattle.table.specs.declared.Room.the-variants.{None}
-use Rattle.table.proofs.GoodLaws.{told-judged, told-good}
+use Rattle.tablerules.specs.Table.{Table, lent, front}
+use Rattle.tablerules.specs.declared.Room.the-variants.{None}
+use Rattle.tablerules.proofs.GoodLaws.{told-judged, told-good}
 use Rattle.writing.proofs.LeftLaws.{write-refused, write-on}
 use Rattle.writing.proofs.write.Statement.{statement}
 use Rattle.writing.proofs.write.Tie as tie

@@ -6,9 +6,9 @@ use borrow.Author.Needs.{needs}
 use lib.ListN.{length}
 use Rattle.types.specs.Ranges.{allocatedItems}
 use Rattle.text.proofs.LeftLaws.{text-short, text-written}
-use Rattle.table.specs.Table.{Table, lent, front}
-use Rattle.table.specs.Good.{Good}
-use Rattle.table.proofs.RoomLaws.{factors-most}
+use Rattle.tablerules.specs.Table.{Table, lent, front}
+use Rattle.tablerules.specs.Good.{Good}
+use Rattle.tablerules.proofs.RoomLaws.{factors-most}
 use Rattle.writing.specs.Writing.{tableText}
 use Rattle.writing.proofs.write_good.Statement.{statement}
 use Rattle.writing.proofs.write_good.Tie as tie

@@ -4,7 +4,7 @@ use native.Mathlib.Omega.{arith}
 use borrow.Author.Needs.{needs}
 use lib.ListN.{length}
 use Rattle.numbers.proofs.IntLaws.{plain}
-use Rattle.states.specs.Standings.{standingsWith}
+use Rattle.staterules.specs.Standings.{standingsWith}
 use Rattle.claimtext.specs.Unflagged.{unflagged}
 use Rattle.claimtext.proofs.PublishedLaws.{published-here, published-not}
 use Rattle.claimtext.proofs.published.line_length.Statement.{statement}

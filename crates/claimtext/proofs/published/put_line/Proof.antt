@@ -8,7 +8,7 @@ use lib.ListN.{length}
 use Rattle.numbers.proofs.IntLaws.{plain}
 use Rattle.text.specs.Put.{Put}
 use Rattle.text.proofs.PutLaws.{put-none}
-use Rattle.states.specs.Standings.{standingsWith}
+use Rattle.staterules.specs.Standings.{standingsWith}
 use Rattle.types.specs.Ranges.{atℤ}
 use Rattle.claimtext.specs.Published.{rowLine, publishedLine}
 use Rattle.claimtext.specs.Unflagged.{unflagged}

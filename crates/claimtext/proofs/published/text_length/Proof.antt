@@ -4,7 +4,7 @@ use Prim.Native.Nat.{_-_}
 use native.Mathlib.Omega.{arith}
 use lib.ListN.{length}
 use Rattle.text.proofs.MeasureLaws.{Measured, measured-none, measured-more, measured-all}
-use Rattle.states.specs.Standings.{standingsWith}
+use Rattle.staterules.specs.Standings.{standingsWith}
 use Rattle.claimtext.specs.Published.{lineMost, publishedLine, publishedText}
 use Rattle.claimtext.specs.Unflagged.{unflagged}
 use Rattle.claimtext.proofs.published.text_length.Statement.{statement}

@@ -1,8 +1,8 @@
 -- `doors::reasons::why_for` meets its contract: what passed the door is good, and has room for p.
 use mathlib.Core.Path.{_∙_}
 use borrow.Author.Needs.{needs}
-use Rattle.table.proofs.GoodLaws.{told-good}
-use Rattle.extraction.proofs.LentLaws.{front-room}
+use Rattle.tablerules.proofs.GoodLaws.{told-good}
+use Rattle.extractrules.proofs.LentLaws.{front-room}
 use Rattle.why.proofs.WhyLaws.{lent-refused, lent-passed}
 use Rattle.doors.proofs.reasons.why_for.Statement.{statement}
 use Rattle.doors.proofs.reasons.why_for.Tie as tie

@@ -5,8 +5,8 @@ use native.Mathlib.Omega.{arith}
 use lib.ListN.{length}
 use Rattle.numbers.proofs.ListLaws.{part-long}
 use Rattle.numbers.proofs.BelowLaws.{Summed, summed-none, summed-more}
-use Rattle.table.specs.Table.{stretch}
-use Rattle.table.proofs.StretchLaws.{stretch-end}
+use Rattle.tablerules.specs.Table.{stretch}
+use Rattle.tablerules.proofs.StretchLaws.{stretch-end}
 use Rattle.layout.specs.Layout.{rowTextIn}
 use Rattle.layout.proofs.SumLaws.{part-count, sum-within, sum-lines}
 use Rattle.limits.specs.Limits.{bytesMost}

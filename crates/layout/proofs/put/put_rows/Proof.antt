@@ -3,8 +3,8 @@ use Prim.Native.Nat.{_*_, _≤_, _-_}
 use native.Mathlib.Omega.{arith}
 use lib.ListN.{length}
 use Rattle.numbers.proofs.ListLaws.{part-long}
-use Rattle.table.specs.Table.{stretch}
-use Rattle.table.proofs.StretchLaws.{stretch-end}
+use Rattle.tablerules.specs.Table.{stretch}
+use Rattle.tablerules.proofs.StretchLaws.{stretch-end}
 use Rattle.layout.specs.Layout.{rowTextIn, rowsTextBy}
 use Rattle.layout.proofs.SumLaws.{part-count}
 use Rattle.text.specs.Written.{linesText}

@@ -6,8 +6,8 @@ use mir.Facts.{toZ-pos, toZ-ofZ}
 use mir.Syntax.{w64}
 use mir.Val.{SFits}
 use Rattle.numbers.proofs.IntLaws.{within-fits, within-le}
-use Rattle.margin.specs.Margin.{amrOf}
-use Rattle.margin.proofs.MagnitudeLaws.{within-is, within-amr}
+use Rattle.marginrules.specs.Margin.{amrOf}
+use Rattle.marginrules.proofs.MagnitudeLaws.{within-is, within-amr}
 use Rattle.parts.proofs.row.as_record.Statement.{statement}
 use Rattle.parts.proofs.row.as_record.Tie as tie
 

@@ -6,8 +6,8 @@ use native.Mathlib.Omega.{arith}
 use lib.ListN.{length, getD}
 use Rattle.types.specs.Ranges.{borderOf}
 use Rattle.rounds.proofs.Loops.{Counted, counted-none, counted-up, counted-on, counted-le, counted-all}
-use Rattle.margin.specs.Margin.{pOf}
-use Rattle.parts.specs.Parts.{nOf}
+use Rattle.marginrules.specs.Margin.{pOf}
+use Rattle.partrules.specs.Parts.{nOf}
 use Rattle.parts.proofs.row.count_loading.Statement.{statement}
 use Rattle.parts.proofs.row.count_loading.Tie as tie
 

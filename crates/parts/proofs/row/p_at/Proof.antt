@@ -1,7 +1,7 @@
 -- `parts::row::p_at` meets its contract.
 use mathlib.Core.Path.{ap, _∙_}
-use Rattle.margin.specs.Margin.{pOf}
-use Rattle.margin.proofs.JudgedLaws.{border-judged}
+use Rattle.marginrules.specs.Margin.{pOf}
+use Rattle.marginrules.proofs.JudgedLaws.{border-judged}
 use Rattle.parts.proofs.row.p_at.Statement.{statement}
 use Rattle.parts.proofs.row.p_at.Tie as tie
 

@@ -6,8 +6,8 @@ use mir.Facts.{toZ-ofZ}
 use mir.Syntax.{w64}
 use mir.Val.{SFits}
 use Rattle.limits.specs.Limits.{zonesMost}
-use Rattle.margin.proofs.MagnitudeLaws.{within-is, within-f0core}
-use Rattle.margin.proofs.JudgedLaws.{row-judged, s-bound}
+use Rattle.marginrules.proofs.MagnitudeLaws.{within-is, within-f0core}
+use Rattle.marginrules.proofs.JudgedLaws.{row-judged, s-bound}
 use Rattle.parts.proofs.PartsLaws.{n-few, made-of}
 use Rattle.parts.proofs.row.row_parts.Statement.{statement}
 use Rattle.parts.proofs.row.row_parts.Tie as tie

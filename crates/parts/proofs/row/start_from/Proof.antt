@@ -2,7 +2,7 @@
 use mathlib.Core.Path.{_∙_}
 use borrow.Author.Needs.{needs, sfits-of}
 use mir.Facts.{toZ-ofZ}
-use Rattle.parts.specs.Parts.{startFrom}
+use Rattle.partrules.specs.Parts.{startFrom}
 use Rattle.parts.proofs.row.start_from.Statement.{statement}
 use Rattle.parts.proofs.row.start_from.Tie as tie
 

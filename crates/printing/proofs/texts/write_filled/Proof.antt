@@ -1,6 +1,6 @@
 -- `printing::texts::write_filled` meets its contract: the laws `filled-said` and `unfilled-said`.
 use borrow.Author.Needs.{needs}
-use Rattle.table.specs.Table.{Table, lent}
+use Rattle.tablerules.specs.Table.{Table, lent}
 use Rattle.printing.proofs.RowsLaws.{filled-front, filled-said, unfilled-said}
 use Rattle.printing.proofs.texts.write_filled.Statement.{statement}
 use Rattle.printing.proofs.texts.write_filled.Tie as tie

@@ -1,6 +1,6 @@
 -- `printing::texts::write_word` meets its contract: what each call tells is what its word says, by the law of each word.
 use borrow.Author.Needs.{needs}
-use Rattle.table.specs.Table.{lent}
+use Rattle.tablerules.specs.Table.{lent}
 use Rattle.printing.proofs.PrintedLaws.{said-as}
 use Rattle.printing.proofs.WordLaws.{answer-said, rewrite-said, claims-said, bound-said, margins-said, rows-said, filled-told}
 use Rattle.printing.proofs.texts.write_word.Statement.{statement}

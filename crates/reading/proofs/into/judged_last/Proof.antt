@@ -11,7 +11,7 @@ use Rattle.refusals.specs.Answers.{saidJudgement}
 use Rattle.refusals.specs.Refusals.{refused, givenTwice}
 use Rattle.refusals.proofs.RefusalLaws.{first-found, first-none-next}
 use Rattle.types.proofs.RangeLaws.{header-in}
-use Rattle.table.specs.Table.{twice}
+use Rattle.tablerules.specs.Table.{twice}
 use borrow.Author.Needs.{needs}
 use Rattle.reading.proofs.into.judged_last.Statement.{statement}
 use Rattle.reading.proofs.into.judged_last.Tie as tie

@@ -15,7 +15,7 @@ use Rattle.lines.specs.Lines.{allocatedLine}
 use Rattle.sections.specs.declared.End.{End}
 use Rattle.sections.specs.Section.{read, linesAt}
 use Rattle.sections.specs.Stored.{storedSection}
-use Rattle.table.specs.Table.{balanced, headerLineNo, allocatedLineNo}
+use Rattle.tablerules.specs.Table.{balanced, headerLineNo, allocatedLineNo}
 use Rattle.reading.proofs.JudgedTextLaws.{section-lent, room-t, netted, allocatedSection, allocated-refused, allocated-held, unbalanced, allocated-passed}
 use borrow.Author.Needs.{needs}
 use Rattle.reading.proofs.into.read_allocated.Statement.{statement}

@@ -9,7 +9,7 @@ use Rattle.lines.specs.Lines.{borderLine}
 use Rattle.sections.specs.declared.End.{End}
 use Rattle.sections.specs.Section.{linesAt}
 use Rattle.sections.specs.Stored.{storedSection}
-use Rattle.table.specs.Table.{zoneLineNo}
+use Rattle.tablerules.specs.Table.{zoneLineNo}
 use Rattle.reading.proofs.JudgedTextLaws.{section-lent, room-b, bounds, bordersSection, borders-refused, borders-passed}
 use borrow.Author.Needs.{needs}
 use Rattle.reading.proofs.into.read_borders.Statement.{statement}

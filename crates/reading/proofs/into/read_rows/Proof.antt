@@ -11,8 +11,8 @@ use Rattle.corrections.specs.Corrections.{judgeCorrections}
 use Rattle.sections.specs.declared.End.{End}
 use Rattle.sections.specs.Rows.{cut}
 use Rattle.sections.specs.Stored.{storedSection}
-use Rattle.table.specs.Table.{zoneLineNo}
-use Rattle.table.proofs.RoomLaws.{factors-most}
+use Rattle.tablerules.specs.Table.{zoneLineNo}
+use Rattle.tablerules.proofs.RoomLaws.{factors-most}
 use Rattle.reading.proofs.JudgedTextLaws.{used-good, rowsSection, rows-lent, rows-refused, more-follows, lines-done}
 use borrow.Author.Needs.{needs}
 use Rattle.reading.proofs.into.read_rows.Statement.{statement}

@@ -10,7 +10,7 @@ use Rattle.types.specs.Ranges.{profiled}
 use Rattle.lines.specs.Lines.{zoneLine}
 use Rattle.sections.specs.declared.End.{End}
 use Rattle.sections.specs.Stored.{storedSection}
-use Rattle.table.specs.Table.{zoneLineNo}
+use Rattle.tablerules.specs.Table.{zoneLineNo}
 use Rattle.reading.specs.Places.{Netted}
 use Rattle.reading.proofs.JudgedTextLaws.{section-lent, room-z, counted, at-within, nets-refused, nets-passed}
 use borrow.Author.Needs.{needs}

@@ -16,7 +16,7 @@ use Rattle.sections.specs.Section.{linesAt}
 use Rattle.sections.specs.Rows.{cut}
 use Rattle.sections.specs.Stored.{storedSection}
 use Rattle.sections.proofs.RowLaws.{own-section}
-use Rattle.table.proofs.RoomLaws.{factors-most}
+use Rattle.tablerules.proofs.RoomLaws.{factors-most}
 use Rattle.rowsheet.specs.RowSheet.{firstLineNo, linesIn}
 use Rattle.rowsheet.proofs.SheetLaws.{sheet-long, sheet-header, sheet-fault, sheet-more, sheet-good}
 use borrow.Author.Needs.{needs}

@@ -7,7 +7,7 @@ use borrow.Author.Tests.{leb-true}
 use lib.ListN.{length}
 use Rattle.numbers.proofs.BelowLaws.{table-long}
 use Rattle.rounds.specs.AllRounds.{flat}
-use Rattle.tight.proofs.PassLaws.{Walked, walked-none, walked-fits, walked-more, walked-under, walked-all, counted-at, counted-few}
+use Rattle.tightrules.proofs.PassLaws.{Walked, walked-none, walked-fits, walked-more, walked-under, walked-all, counted-at, counted-few}
 use Rattle.tight.proofs.pass.higher.Statement.{statement}
 use Rattle.tight.proofs.pass.higher.Tie as tie
 

@@ -2,7 +2,7 @@
 use Prim.Native.Nat.{_-_}
 use native.Mathlib.Omega.{arith}
 use Rattle.rounds.specs.AllRounds.{flat}
-use Rattle.tight.proofs.PassLaws.{Both, both-none, both-more, both-all}
+use Rattle.tightrules.proofs.PassLaws.{Both, both-none, both-more, both-all}
 use Rattle.tight.proofs.pass.highest.Statement.{statement}
 use Rattle.tight.proofs.pass.highest.Tie as tie
 

@@ -2,7 +2,7 @@
 use mathlib.Core.Path.{sym, _∙_}
 use native.Mathlib.Omega.{arith}
 use borrow.Author.Needs.{needs}
-use Rattle.tight.proofs.PassLaws.{lowered-same, lowered-fell}
+use Rattle.tightrules.proofs.PassLaws.{lowered-same, lowered-fell}
 use Rattle.tight.proofs.pass.lower.Statement.{statement}
 use Rattle.tight.proofs.pass.lower.Tie as tie
 

@@ -5,7 +5,7 @@ use native.Mathlib.Omega.{arith}
 use borrow.Author.Needs.{needs}
 use lib.ListN.{length}
 use Rattle.numbers.specs.Below.{at}
-use Rattle.tight.proofs.PassLaws.{UpTo, upTo-none, upTo-more, upTo-all}
+use Rattle.tightrules.proofs.PassLaws.{UpTo, upTo-none, upTo-more, upTo-all}
 use Rattle.tight.proofs.pass.most.Statement.{statement}
 use Rattle.tight.proofs.pass.most.Tie as tie
 

@@ -5,7 +5,7 @@ use Prim.Native.Nat.{_+_}
 use native.Mathlib.Omega.{arith}
 use lib.ListN.{length}
 use Rattle.types.proofs.RangeLaws.{header-in}
-use Rattle.table.specs.Table.{Table, lent}
+use Rattle.tablerules.specs.Table.{Table, lent}
 use Rattle.writing.specs.Writing.{tableText}
 use Rattle.writing.proofs.LengthLaws.{never-too-long}
 use Rattle.writing.proofs.TextLaws.{text-length, text-within, letters-alike, factors-all}

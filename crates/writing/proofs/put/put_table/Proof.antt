@@ -2,7 +2,7 @@
 use native.Mathlib.Omega.{arith}
 use borrow.Author.Needs.{needs}
 use Rattle.types.proofs.RangeLaws.{header-in}
-use Rattle.table.specs.Table.{Table, lent}
+use Rattle.tablerules.specs.Table.{Table, lent}
 use Rattle.writing.proofs.TextLaws.{text-length, zones-room, allocated-room, borders-room, rows-room, text-put, factors-all}
 use Rattle.writing.proofs.put.put_table.Statement.{statement}
 use Rattle.writing.proofs.put.put_table.Tie as tie

@@ -1,0 +1,10 @@
+pub mod AnchorsStart
+pub mod StartLaws
+pub mod SameMarks
+pub mod Anchors
+pub mod AnchorsLent
+pub mod AnswerLaws
+pub mod AcceptedLaws
+pub mod MarkedLaws
+pub mod ExtractLaws
+pub mod LentLaws

@@ -1,3 +1,0 @@
-pub mod Anchors
-pub mod StartLaws
-pub mod SameMarks
