@@ -1,9 +1,9 @@
--- `pageform::safe::shown` meets its contract: each test is one of the definition's.
+-- `pagesafe::shown_as` meets its contract: each test is one of the definition's.
 use mathlib.Core.Path.{sym, _∙_}
 use borrow.Author.Needs.{needs}
 use borrow.Author.Tests.{lt-ltb, le-ltb, ne-eqb}
-use Rattle.pageform.proofs.safe.shown.Statement.{statement}
-use Rattle.pageform.proofs.safe.shown.Tie as tie
+use Rattle.pagesafe.proofs.shown_as.Statement.{statement}
+use Rattle.pagesafe.proofs.shown_as.Tie as tie
 
 returns : tie.Need-returns
 returns c = rw (sym (c .before .is-sign .ensures) ∙ c .if1 .taken)
@@ -39,5 +39,5 @@ returns-5 c =
       le-ltb 126 b (c .if4 .left),
     )
 
-pub shown-spec : {M : Type 1} → statement M
-shown-spec = tie.close (tie.spec (λ c κs. search needs) returns returns-2 returns-3 returns-4 returns-5)
+pub shown-as-spec : {M : Type 1} → statement M
+shown-as-spec = tie.close (tie.spec (λ c κs. search needs) returns returns-2 returns-3 returns-4 returns-5)

@@ -1,7 +1,7 @@
--- `pageform::safe::is_sign` meets its contract: each test is one of the definition's.
+-- `pagesafe::is_sign` meets its contract: each test is one of the definition's.
 use borrow.Author.Tests.{ne-eqb}
-use Rattle.pageform.proofs.safe.is_sign.Statement.{statement}
-use Rattle.pageform.proofs.safe.is_sign.Tie as tie
+use Rattle.pagesafe.proofs.is_sign.Statement.{statement}
+use Rattle.pagesafe.proofs.is_sign.Tie as tie
 
 returns-5 : tie.Need-returns-5
 returns-5 c =

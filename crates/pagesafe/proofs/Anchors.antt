@@ -3,8 +3,8 @@ use mathlib.Core.Path.{refl}
 use mathlib.Core.List.{List, [], _∷_, map}
 use Prim.Native.Nat.{ℕ}
 use Rattle.numbers.specs.Computed.{_is_, Hold}
-use Rattle.pageform.specs.declared.Shown.the-variants.{AsItIs, Numbered, Blank, Strange}
-use Rattle.pageform.specs.Shown.{shownAs}
+use Rattle.pagesafe.specs.declared.Shown.the-variants.{AsItIs, Numbered, Blank, Strange}
+use Rattle.pagesafe.specs.Shown.{shownAs}
 
 -- ! " # % & ' ( ; < = > ?, LF and its neighbours, blank and ~ and theirs, the last byte
 pub anchors : Hold (
