@@ -7,7 +7,7 @@ ghost use Rattle.limits.specs.Limits.{zonesMost, bordersMost};
 ghost use Rattle.types.specs.Ranges.{borderFits, borderOf};
 ghost use Rattle.margin.specs.Magnitudes.{BordersInRange};
 ghost use Rattle.daysheet.specs.Sheet.{wayOf};
-ghost use Rattle.hourtables.specs.Hour.{borderWay, waysOf, atcsOf, pasted};
+ghost use Rattle.hourfigures.specs.Items.{borderWay, waysOf, atcsOf, pasted};
 use outcome::AtcRecord;
 use types::Border;
 use types::BorderRecord;

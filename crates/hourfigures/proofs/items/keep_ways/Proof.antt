@@ -1,12 +1,12 @@
--- `hourtables::items::keep_ways` meets its contract. The invariant: the first i ways are stored. The measure is the number of borders left.
+-- `hourfigures::items::keep_ways` meets its contract. The invariant: the first i ways are stored. The measure is the number of borders left.
 use mathlib.Core.Path.{sym, _∙_}
 use Prim.Native.Nat.{_-_}
 use native.Mathlib.Omega.{arith}
 use lib.ListN.{length}
-use Rattle.hourtables.specs.Hour.{waysOf}
-use Rattle.hourtables.proofs.ItemLaws.{Storing, storing-none, storing-more, storing-all, ways-long, way-at}
-use Rattle.hourtables.proofs.items.keep_ways.Statement.{statement}
-use Rattle.hourtables.proofs.items.keep_ways.Tie as tie
+use Rattle.hourfigures.specs.Items.{waysOf}
+use Rattle.hourfigures.proofs.ItemLaws.{Storing, storing-none, storing-more, storing-all, ways-long, way-at}
+use Rattle.hourfigures.proofs.items.keep_ways.Statement.{statement}
+use Rattle.hourfigures.proofs.items.keep_ways.Tie as tie
 
 abbrev Inv-loop : tie.InvT-loop
 Inv-loop zones b place ways₀ i₀ i-end ways i = Storing place (waysOf b) ways₀ ways i

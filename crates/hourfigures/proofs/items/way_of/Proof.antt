@@ -1,9 +1,9 @@
--- `hourtables::items::way_of` meets its contract: no zone of a judged border is large, and the number is its way (`way-by`).
+-- `hourfigures::items::way_of` meets its contract: no zone of a judged border is large, and the number is its way (`way-by`).
 use native.Mathlib.Omega.{arith}
-use Rattle.hourtables.proofs.ItemLaws.{ends-few, hubs-few, way-by}
+use Rattle.hourfigures.proofs.ItemLaws.{ends-few, hubs-few, way-by}
 use borrow.Author.Needs.{needs}
-use Rattle.hourtables.proofs.items.way_of.Statement.{statement}
-use Rattle.hourtables.proofs.items.way_of.Tie as tie
+use Rattle.hourfigures.proofs.items.way_of.Statement.{statement}
+use Rattle.hourfigures.proofs.items.way_of.Tie as tie
 
 numbered-requires : tie.Need-numbered-requires
 numbered-requires c κs =

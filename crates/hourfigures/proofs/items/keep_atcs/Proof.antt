@@ -1,14 +1,14 @@
--- `hourtables::items::keep_atcs` meets its contract. The invariant: the first i ATCs are stored. The measure is the number of records left.
+-- `hourfigures::items::keep_atcs` meets its contract. The invariant: the first i ATCs are stored. The measure is the number of records left.
 use mathlib.Core.Path.{sym, _∙_}
 use Prim.Native.Nat.{_-_}
 use native.Mathlib.Omega.{arith}
 use lib.ListN.{length}
 use borrow.Author.Needs.{needs}
 use Rattle.numbers.proofs.IntLaws.{plain}
-use Rattle.hourtables.specs.Hour.{atcsOf}
-use Rattle.hourtables.proofs.ItemLaws.{Storing, storing-none, storing-more, storing-all, atcs-long, atc-at}
-use Rattle.hourtables.proofs.items.keep_atcs.Statement.{statement}
-use Rattle.hourtables.proofs.items.keep_atcs.Tie as tie
+use Rattle.hourfigures.specs.Items.{atcsOf}
+use Rattle.hourfigures.proofs.ItemLaws.{Storing, storing-none, storing-more, storing-all, atcs-long, atc-at}
+use Rattle.hourfigures.proofs.items.keep_atcs.Statement.{statement}
+use Rattle.hourfigures.proofs.items.keep_atcs.Tie as tie
 
 abbrev Inv-loop : tie.InvT-loop
 Inv-loop atc place atcs₀ i₀ i-end atcs i = Storing place (atcsOf atc) atcs₀ atcs i

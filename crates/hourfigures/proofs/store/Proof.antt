@@ -1,14 +1,14 @@
--- `hourtables::store` meets its contract: the laws `store-answered` and `store-refused`.
+-- `hourfigures::store` meets its contract: the laws `store-answered` and `store-refused`.
 use mathlib.Core.Path.{sym}
 use Prim.Native.Nat.{_≤_}
 use native.Mathlib.Omega.{arith}
 use lib.ListN.{length}
 use lib.Seq.{length-take-le}
 use Rattle.types.proofs.RangeLaws.{header-in}
-use Rattle.hourtables.proofs.HourLaws.{store-answered, store-refused}
+use Rattle.hourfigures.proofs.KeptLaws.{store-answered, store-refused}
 use borrow.Author.Needs.{needs}
-use Rattle.hourtables.proofs.store.Statement.{statement}
-use Rattle.hourtables.proofs.store.Tie as tie
+use Rattle.hourfigures.proofs.store.Statement.{statement}
+use Rattle.hourfigures.proofs.store.Tie as tie
 
 slice-aggregate-keep-ways : tie.Need-slice-aggregate-keep-ways
 slice-aggregate-keep-ways c =

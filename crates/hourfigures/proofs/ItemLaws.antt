@@ -18,7 +18,7 @@ use Rattle.types.specs.Ranges.{atℤ, borderFits, borderOf}
 use Rattle.margin.specs.Magnitudes.{HubsWithin}
 use Rattle.margin.proofs.JudgedLaws.{border-judged}
 use Rattle.daysheet.specs.Sheet.{wayOf}
-use Rattle.hourtables.specs.Hour.{sendingOf, receivingOf, borderWay, waysOf, atcsOf, pasted}
+use Rattle.hourfigures.specs.Items.{sendingOf, receivingOf, borderWay, waysOf, atcsOf, pasted}
 
 -- ---- items that a loop stores one after another: the first i are stored
 pub record Storing (place : ℕ) (items old out : List ℕ) (i : ℕ) : Type 0 where
