@@ -16,7 +16,7 @@ use Rattle.table.specs.Good.{Good}
 use Rattle.lines.specs.declared.row.RowKind.{RowKind}
 use Rattle.lines.specs.declared.row.RowKind.the-variants as rowKind
 use Rattle.layout.specs.Layout.{rowsTextBy}
-use Rattle.sections.specs.Rows.{asGiven}
+use Rattle.rowlines.specs.Rows.{asGiven}
 use Rattle.reading.specs.Reading.{readText, readCorrected}
 use Rattle.reading.proofs.ReadLaws.{Opened, opened, reading, rows-held, read-good}
 use Rattle.reading.proofs.CorrectedLaws.{corrected-good, corrected-shaped}

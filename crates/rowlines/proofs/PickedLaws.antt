@@ -6,13 +6,13 @@ use Prim.Native.Nat.{ℕ, zero, suc, _+_}
 use Rattle.refusals.specs.declared.Refusal.{Refusal}
 use Rattle.refusals.specs.Refusals.{passed, wrongFormAt, outOfRangeAt}
 use Rattle.text.specs.Line.{lineAt, after, Line, holds, form, range}
 use Rattle.sections.specs.Section.{Section, read, fault, more, onLine, linesAt}
 use Rattle.sections.proofs.SectionLaws.{no-read, read-is}
 use Rattle.lines.specs.Lines.{RowLine, rowLine}
 use Rattle.lines.specs.declared.row.RowKind.the-variants.{Table}
 use Rattle.corrections.specs.Corrections.{pieces, sheetKind, piece, handedBy, judgeCorrections}
 use Rattle.corrections.proofs.SheetLaws.{handed-good}
-use Rattle.sections.specs.Rows.{pickedRow, instead, correctedBy}
+use Rattle.rowlines.specs.Rows.{pickedRow, instead, correctedBy}
 
 -- a section that was read, and ended at place e
 pub record SectionRead {A : Type 0} (b : Section A) (e : ℕ) : Type 0 where

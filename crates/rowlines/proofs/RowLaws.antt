@@ -20,7 +20,7 @@ use Rattle.lines.specs.declared.row.RowJudged.{RowJudged}
 use Rattle.lines.specs.declared.row.RowJudged.the-variants.{Holds, Form, Range}
 use Rattle.corrections.specs.Corrections.{piece, rowIn, ofRow, handedBy}
 use Rattle.corrections.specs.Alongside.{lineFor, pieceFor}
-use Rattle.sections.specs.Rows.{valuesOf, factorsOf, cut, instead, correctedBy}
+use Rattle.rowlines.specs.Rows.{valuesOf, factorsOf, cut, instead, correctedBy}
 use Rattle.lines.proofs.RowTrip.{RowHeldAt}
 
 -- no row

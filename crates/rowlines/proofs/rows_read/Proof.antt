@@ -1,4 +1,4 @@
--- `sections::rows::rows_read` meets its contract. The invariant: the first i rows are in their places, each with its stretch of the factors (`RowsStored`), and the sheet's
+-- `rowlines::rows_read` meets its contract. The invariant: the first i rows are in their places, each with its stretch of the factors (`RowsStored`), and the sheet's
 -- lines before its place are of earlier rows (`Walked`). The measure is the number of rows left. A turn is the laws `rows-stored-more` and `walked-more`.
 use mathlib.Core.Path.{_≡_, sym, ap, subst, _∙_}
 use mathlib.Core.List.{List, _++_}
@@ -16,12 +16,12 @@ use Rattle.lines.specs.declared.row.RowJudged.{RowJudged}
 use Rattle.corrections.specs.Corrections.{pieces, Piece, piece, rowIn, handedOn, handedBy}
 use Rattle.corrections.specs.Alongside.{pieceFor, sheetAfter}
 use Rattle.corrections.proofs.SheetAlongside.{Walked, walked-start, walked-line, walked-more}
 use Rattle.sections.specs.Section.{fault}
-use Rattle.sections.specs.Rows.{instead, correctedBy}
+use Rattle.rowlines.specs.Rows.{instead, correctedBy}
 use Rattle.sections.proofs.StoredLaws.{after-within}
-use Rattle.sections.proofs.RowStored.{RowsStored, rows-stored-none, rows-stored-all, rows-stored-room, rows-stored-back, rows-stored-form, rows-stored-range, rows-stored-more}
-use Rattle.sections.proofs.rows.rows_read.Statement.{statement}
-use Rattle.sections.proofs.rows.rows_read.Tie as tie
+use Rattle.rowlines.proofs.RowStored.{RowsStored, rows-stored-none, rows-stored-all, rows-stored-room, rows-stored-back, rows-stored-form, rows-stored-range, rows-stored-more}
+use Rattle.rowlines.proofs.rows_read.Statement.{statement}
+use Rattle.rowlines.proofs.rows_read.Tie as tie
 
 record Head (kind by : RowKind) (text sheet : List ℕ) (at zones first : ℕ) (c₀ : List (List ℤ)) (f₀ : List ℤ) (c : List (List ℤ)) (f : List ℤ) (p s i : ℕ) : Type 0 where
   stored : RowsStored (correctedBy kind zones (handedBy sheet)) first text at zones c₀ f₀ c f i p

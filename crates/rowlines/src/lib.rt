@@ -1,21 +1,21 @@
 // The rows' lines of a text, read into records and factors.
-use crate::End;
 use lines::row::RowJudged;
 use lines::row::RowKind;
 use lines::row::RowRead;
 use refusals::Refusal;
+use sections::End;
 use types::RowRecord;
 ghost use mathlib.Core.Path.{_≡_};
 ghost use Prim.Native.Nat.{_+_, _*_, _^_, _≤_, _<_};
 ghost use lib.ListN.{length};
 ghost use Rattle.limits.specs.Limits.{zonesMost};
 ghost use Rattle.refusals.specs.Refusals.{passed};
 ghost use Rattle.sections.specs.Section.{linesAt};
 ghost use Rattle.lines.specs.SaidRow.{saidRow, lineBy};
 ghost use Rattle.corrections.specs.Corrections.{piece, rowIn, handedBy, judgeCorrections};
 ghost use Rattle.corrections.specs.Alongside.{pieceFor};
-ghost use Rattle.sections.specs.Rows.{cut, instead, correctedBy};
+ghost use Rattle.rowlines.specs.Rows.{cut, instead, correctedBy};
 ghost use Rattle.sections.specs.Stored.{storedSection};
 
 // Reads the rows' lines from place `at` on, one for each item of c, of which the first is line `first` of the text: the first faulty line decides. What is
 // stored for a row is what the sheet's line holds where the sheet has one (02, E2), its factors at the row's own stretch of f. Both texts are walked once,

@@ -1,4 +1,4 @@
--- `sections::rows::row_corrected` meets its contract: the sheet has no line for the row, or the day's line is faulty, or the sheet's is read; one law of `RowLaws` for each.
+-- `rowlines::row_corrected` meets its contract: the sheet has no line for the row, or the day's line is faulty, or the sheet's is read; one law of `RowLaws` for each.
 use mathlib.Core.Path.{sym, ap, _∙_}
 use mathlib.Core.List.{List}
 use Prim.Native.Nat.{ℕ}
@@ -7,9 +7,9 @@ use borrow.Author.Needs.{needs}
 use borrow.Author.Tests.{not-true, not-false}
 use lib.ListN.{length}
 use Rattle.lines.specs.SaidRow.{lineBy}
-use Rattle.sections.proofs.RowLaws.{own-handed, handed-holds, handed-form, handed-range}
-use Rattle.sections.proofs.rows.row_corrected.Statement.{statement}
-use Rattle.sections.proofs.rows.row_corrected.Tie as tie
+use Rattle.rowlines.proofs.RowLaws.{own-handed, handed-holds, handed-form, handed-range}
+use Rattle.rowlines.proofs.row_corrected.Statement.{statement}
+use Rattle.rowlines.proofs.row_corrected.Tie as tie
 
 returns : tie.Need-returns
 returns c =

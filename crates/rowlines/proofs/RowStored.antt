@@ -11,10 +11,10 @@ use Rattle.refusals.specs.Refusals.{wrongFormAt, outOfRangeAt}
 use Rattle.text.specs.Line.{lineAt, after, Line, holds, form, range}
 use Rattle.table.proofs.StretchLaws.{stretch-end}
 use Rattle.lines.specs.Lines.{RowLine, row}
 use Rattle.sections.specs.Section.{Section, read, fault, linesAt}
-use Rattle.sections.specs.Rows.{cut}
-use Rattle.sections.proofs.RowLaws.{cut-long, cut-set}
+use Rattle.rowlines.specs.Rows.{cut}
+use Rattle.rowlines.proofs.RowLaws.{cut-long, cut-set}
 use Rattle.sections.proofs.StoredLaws.{Stored, stored-none, stored-all, stored-form, stored-range, stored-more}
 
 -- n items of f from s on are lent, and come back as ys
 abbrev back : (f ys : List ℤ) (s n : ℕ) → List ℤ
