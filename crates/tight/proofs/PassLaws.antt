@@ -13,8 +13,9 @@ use Rattle.limits.specs.Limits.{bordersMost}
 use Rattle.rounds.specs.Rounds.{Grid, sharers, alone, mostSharers, bits, aloneBits}
 use Rattle.rounds.proofs.LeastLaws.{least-le, least-some}
 use Rattle.rounds.proofs.Round.{alone-le}
-use Rattle.walk.specs.Walk.{First, tight}
-use Rattle.walk.proofs.TightLaws.{tight-le, tight-share, tight-over, tight-same, tight-less}
+use Rattle.caps.specs.Tight.{tight}
+use Rattle.walk.specs.Walk.{First}
+use Rattle.caps.proofs.TightLaws.{tight-le, tight-share, tight-over, tight-same, tight-less}
 use Rattle.tight.specs.declared.Kws.{Kws}
 use Rattle.tight.specs.declared.RoundsMost.{RoundsMost}
 use Rattle.tight.specs.Tight.{steps, rowReach, reach, farthest, tightBound}

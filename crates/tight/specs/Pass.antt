@@ -5,7 +5,7 @@ use Prim.Native.Nat.{ℕ, _+_, _-_, _^_, _<_, max}
 use lib.ListN.{length}
 use Rattle.numbers.specs.Below.{at, largest}
 use Rattle.rounds.specs.Rounds.{Grid, alone}
-use Rattle.walk.specs.Walk.{tight}
+use Rattle.caps.specs.Tight.{tight}
 use Rattle.tight.specs.declared.Kws.{Kws}
 use Rattle.tight.specs.Tight.{reach}
 

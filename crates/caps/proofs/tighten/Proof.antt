@@ -1,10 +1,10 @@
--- `walk::tighten` meets its contract: a product tells whether the cap stays (`tight-same`) or falls (`tight-less`), and a quotient where the product may not fit.
+-- `caps::tighten` meets its contract: a product tells whether the cap stays (`tight-same`) or falls (`tight-less`), and a quotient where the product may not fit.
 use native.Mathlib.Omega.{arith}
 use borrow.Author.Needs.{needs}
 use borrow.Author.Tests.{ltb-true}
-use Rattle.walk.proofs.TightLaws.{tight-same, tight-less, tight-zero, tight-low, tight-high, product-fits}
-use Rattle.walk.proofs.tighten.Statement.{statement}
-use Rattle.walk.proofs.tighten.Tie as tie
+use Rattle.caps.proofs.TightLaws.{tight-same, tight-less, tight-zero, tight-low, tight-high, product-fits}
+use Rattle.caps.proofs.tighten.Statement.{statement}
+use Rattle.caps.proofs.tighten.Tie as tie
 
 pub tighten-spec : {M : Type 1} → statement M
 tighten-spec = tie.close (tie.spec
