@@ -1,11 +1,11 @@
--- `resting::list_row` meets its contract, a law for each way out (`placed-not`, `placed-first`, `placed-yields`, `placed-leads`, `placed-last`).
+-- `nearness::list_row` meets its contract, a law for each way out (`placed-not`, `placed-first`, `placed-yields`, `placed-leads`, `placed-last`).
 use mathlib.Core.Path.{refl}
 use borrow.Author.Tests.{not-true}
 use native.Mathlib.Omega.{arith}
-use Rattle.resting.proofs.YieldLaws.{placed-not, placed-first, placed-yields, placed-leads, placed-last}
+use Rattle.nearness.proofs.YieldLaws.{placed-not, placed-first, placed-yields, placed-leads, placed-last}
 use borrow.Author.Needs.{needs}
-use Rattle.resting.proofs.list_row.Statement.{statement}
-use Rattle.resting.proofs.list_row.Tie as tie
+use Rattle.nearness.proofs.list_row.Statement.{statement}
+use Rattle.nearness.proofs.list_row.Tie as tie
 
 yields-requires : tie.Need-yields-requires
 yields-requires c κs =

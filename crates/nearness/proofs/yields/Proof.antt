@@ -1,12 +1,12 @@
--- `resting::yields` meets its contract: at the first j listed borders row i has no larger factor than row t (`Lower`).
+-- `nearness::yields` meets its contract: at the first j listed borders row i has no larger factor than row t (`Lower`).
 use mathlib.Core.Bool.{false≢true}
 use Prim.Native.Nat.{_-_}
 use native.Mathlib.Omega.{arith}
 use Rattle.rounds.specs.AllRounds.{flat}
 use Rattle.rounds.proofs.Loops.{ready-long}
-use Rattle.resting.proofs.YieldLaws.{Lower, lower-none, lower-more, lower-all}
-use Rattle.resting.proofs.yields.Statement.{statement}
-use Rattle.resting.proofs.yields.Tie as tie
+use Rattle.nearness.proofs.YieldLaws.{Lower, lower-none, lower-more, lower-all}
+use Rattle.nearness.proofs.yields.Statement.{statement}
+use Rattle.nearness.proofs.yields.Tie as tie
 
 abbrev Inv-loop : tie.InvT-loop
 Inv-loop rows borders p ns margins rising live t i j₀ j = Lower (flat rows borders p) rising live t i j

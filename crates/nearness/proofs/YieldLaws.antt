@@ -16,7 +16,7 @@ use Rattle.rounds.specs.AllRounds.{Ready}
 use Rattle.rounds.proofs.Loops.{ready-at}
 use Rattle.walk.specs.Walk.{Listed, part, mostLoad}
 use Rattle.walk.proofs.ListedLaws.{listed-has}
-use Rattle.resting.specs.Resting.{Yields, Led, Placed}
+use Rattle.nearness.specs.Near.{Yields, Led, Placed}
 
 pub yields-self : (g : Grid) (s list : List ℕ) (live i : ℕ) → Yields g s list live i i
 yields-self g s list live i =

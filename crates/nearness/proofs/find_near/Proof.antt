@@ -1,4 +1,4 @@
--- `resting::find_near` meets its contract: each of the first i rows yields to a listed one or may rest (`Sorting`). The caps are the raises of the margins, so n times the
+-- `nearness::find_near` meets its contract: each of the first i rows yields to a listed one or may rest (`Sorting`). The caps are the raises of the margins, so n times the
 -- largest part is within the margin.
 use mathlib.Core.Path.{sym, _∙_}
 use Prim.Native.Nat.{_-_, _^_}
@@ -7,9 +7,9 @@ use borrow.Author.Tests.{ltb-false}
 use lib.Pow.{pow-pos}
 use Rattle.rounds.specs.AllRounds.{flat}
 use Rattle.rounds.proofs.Loops.{ready-long}
-use Rattle.resting.proofs.SortLaws.{Sorting, sorting-none, sort-loadable, sort-most, far-rests, sorting-more, sorting-all}
-use Rattle.resting.proofs.find_near.Statement.{statement}
-use Rattle.resting.proofs.find_near.Tie as tie
+use Rattle.nearness.proofs.SortLaws.{Sorting, sorting-none, sort-loadable, sort-most, far-rests, sorting-more, sorting-all}
+use Rattle.nearness.proofs.find_near.Statement.{statement}
+use Rattle.nearness.proofs.find_near.Tie as tie
 
 abbrev Inv-loop : tie.InvT-loop
 Inv-loop rows borders p ns margins caps rising live bits near₀ count₀ i₀ i-end near count i = Sorting (flat rows borders p) margins caps rising live (2 ^ bits) near₀ near count i
