@@ -23,7 +23,8 @@ use Rattle.reading.proofs.CorrectedLaws.{corrected-good, corrected-shaped}
 use Rattle.trips.proofs.OwnLines.{own-lines}
 use Rattle.rowsheet.specs.RowSheet.{sheetOf}
 use Rattle.rowsheet.proofs.JudgedLaws.{never-too-long}
-use Rattle.writing.specs.Writing.{tableText, rewriteCorrectedLeft}
+use Rattle.writing.specs.Writing.{tableText}
+use Rattle.rewriting.specs.Rewriting.{rewriteCorrectedLeft}
 use Rattle.trips.proofs.SectionTrip.{rows-section}
 use Rattle.trips.proofs.TableTrip.{rows-text, rows-good}
 use Rattle.trips.proofs.RoundTrip.{write-read}

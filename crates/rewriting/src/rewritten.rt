@@ -4,7 +4,7 @@ ghost use Prim.Native.Nat.{_*_, _≤_};
 ghost use lib.ListN.{length};
 ghost use Rattle.limits.specs.Limits.{zonesMost, bordersMost, rowsMost};
 ghost use Rattle.text.specs.Left.{textSaid};
-ghost use Rattle.writing.specs.Writing.{rewriteCorrectedLeft};
+ghost use Rattle.rewriting.specs.Rewriting.{rewriteCorrectedLeft};
 use reading::TableRead;
 use refusals::Written;
 use types::BorderRecord;
@@ -25,7 +25,7 @@ pub fn rewrite_in<'a>(
     ensures { λ r. ⌜ textSaid r (now (out .exit)) ≡ rewriteCorrectedLeft (now (text .entry)) (now (sheet .entry)) (now (out .entry)) ⌝ }
 {
     match reading::read_into(text, sheet, z, t, b, c, f) {
-        TableRead::Table(h) => crate::write_good(h, z, t, b, c, f, out),
+        TableRead::Table(h) => writing::write_good(h, z, t, b, c, f, out),
         TableRead::Refused(w) => Written::Refused(w),
     }
 }

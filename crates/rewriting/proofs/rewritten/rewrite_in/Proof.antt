@@ -1,9 +1,9 @@
--- `writing::rewritten::rewrite_in` meets its contract: a table that was read is good and is written (`rewrite-read`), and a refusal told (`rewrite-refused`).
+-- `rewriting::rewritten::rewrite_in` meets its contract: a table that was read is good and is written (`rewrite-read`), and a refusal told (`rewrite-refused`).
 use mathlib.Core.Path.{_∙_}
 use borrow.Author.Needs.{needs}
-use Rattle.writing.proofs.RewriteLaws.{rewrite-good, rewrite-read, rewrite-refused}
-use Rattle.writing.proofs.rewritten.rewrite_in.Statement.{statement}
-use Rattle.writing.proofs.rewritten.rewrite_in.Tie as tie
+use Rattle.rewriting.proofs.RewriteLaws.{rewrite-good, rewrite-read, rewrite-refused}
+use Rattle.rewriting.proofs.rewritten.rewrite_in.Statement.{statement}
+use Rattle.rewriting.proofs.rewritten.rewrite_in.Tie as tie
 
 -- the table that was read
 abbrev called : tie.After-h → tie.After-read-into

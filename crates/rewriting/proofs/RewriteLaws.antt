@@ -15,7 +15,8 @@ use Rattle.reading.specs.declared.TableRead.{TableRead}
 use Rattle.reading.specs.declared.TableRead.the-variants as read
 use Rattle.reading.specs.Reading.{readCorrected, readInto}
 use Rattle.reading.proofs.CorrectedLaws.{corrected-good}
-use Rattle.writing.specs.Writing.{tableText, rewriteCorrectedLeft}
+use Rattle.writing.specs.Writing.{tableText}
+use Rattle.rewriting.specs.Rewriting.{rewriteCorrectedLeft}
 
 module _ (text sheet : List ℕ) (r : TableRead) (z a : List ℤ) (b c : List (List ℤ)) (f : List ℤ) (said : readInto r z a b c f ≡ readCorrected text sheet) where
   module _ (h : Header) (is : r ≡ read.Table h) where
