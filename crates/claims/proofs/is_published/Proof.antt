@@ -1,13 +1,13 @@
--- `claimtext::published::is_published` meets its contract: each test is the definition's.
+-- `claims::is_published` meets its contract: each test is the definition's.
 use mathlib.Core.Path.{ap, _∙_}
 use mathlib.Core.Bool.{not}
 use native.Mathlib.Omega.{arith}
 use borrow.Author.Needs.{needs}
 use Rattle.numbers.proofs.IntLaws.{read-pos}
 use Rattle.claims.specs.Named.{flagged}
-use Rattle.claimtext.proofs.PublishedLaws.{unflagged-kept, unflagged-not}
-use Rattle.claimtext.proofs.published.is_published.Statement.{statement}
-use Rattle.claimtext.proofs.published.is_published.Tie as tie
+use Rattle.claims.proofs.UnflaggedLaws.{unflagged-kept, unflagged-not}
+use Rattle.claims.proofs.is_published.Statement.{statement}
+use Rattle.claims.proofs.is_published.Tie as tie
 
 returns : tie.Need-returns
 returns c =

@@ -1,10 +1,8 @@
--- `tidy::line::wanted` meets its contract: its tests are those of the contract.
+-- `tidyfields::wanted` meets its contract: its tests are those of the contract.
 use native.Mathlib.Omega.{arith}
 use borrow.Author.Tests.{ne-eqb, lt-ltb, le-ltb, not-true, not-false}
-use Rattle.tidyrules.specs.Tidied.{wanted}
-use Rattle.tidy.proofs.TidyLaws as laws
-use Rattle.tidy.proofs.line.wanted.Statement.{statement}
-use Rattle.tidy.proofs.line.wanted.Tie as tie
+use Rattle.tidyfields.proofs.wanted.Statement.{statement}
+use Rattle.tidyfields.proofs.wanted.Tie as tie
 
 returns : tie.Need-returns
 returns c = rw (not-true (c .before .args .row) (c .if1 .taken))
