@@ -9,7 +9,7 @@ use Rattle.text.specs.Shown.{shown}
 use Rattle.arguments.specs.Same.{sameBytes}
 use Rattle.daylines.specs.Label.{pastLast, withoutEnding, labelOf}
 use Rattle.daylines.specs.Day.{Hour}
-use Rattle.daylabels.specs.Labels.{labelByte, labelBytes, labelText, isLabel, nameGood, labelsGood, labelsApart}
+use Rattle.labels.specs.Labels.{labelByte, labelBytes, labelText, isLabel, nameGood, labelsGood, labelsApart}
 
 abbrev hour : List ℕ → Hour
 hour label = record { label = label; came = none }

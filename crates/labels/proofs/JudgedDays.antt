@@ -11,8 +11,8 @@ use Rattle.daylines.specs.Room.{labelMost}
 use Rattle.daylines.specs.Labelled.{Ended, filed}
 use Rattle.daylines.specs.Day.{Hour, hourText, dayText}
 use Rattle.daylines.proofs.DayTheorems.{Plain, Others, hour-filed}
-use Rattle.daylabels.specs.Labels.{labelBytes, labelText, isLabel, labelsGood, noneSame, labelsApart}
-use Rattle.daylabels.proofs.LabelLaws.{both, plain-bytes}
+use Rattle.labels.specs.Labels.{labelBytes, labelText, isLabel, labelsGood, noneSame, labelsApart}
+use Rattle.labels.proofs.LabelLaws.{both, plain-bytes}
 
 -- ---- labels that are good have neither a tab nor an LF
 good-plain : (sheet : Bool) (hours : List Hour) → labelsGood sheet hours ≡ true → Plain hours

@@ -16,7 +16,7 @@ use Rattle.arguments.specs.Same.{sameBytes}
 use Rattle.daylines.specs.Room.{labelMost}
 use Rattle.daylines.specs.Label.{labelOf}
 use Rattle.daylines.proofs.FiledLaws.{noTab}
-use Rattle.daylabels.specs.Labels.{labelByte, labelBytes, labelText, nameGood}
+use Rattle.labels.specs.Labels.{labelByte, labelBytes, labelText, nameGood}
 
 -- ---- both of two tests
 pub both : (a b : Bool) → (a && b) ≡ true → (a ≡ true) × (b ≡ true)

@@ -1,8 +1,8 @@
--- `daylabels::fits` meets its contract by its definition.
+-- `labels::fits` meets its contract by its definition.
 use mathlib.Core.Path.{refl}
-use Rattle.daylabels.specs.Labels.{labelByte}
-use Rattle.daylabels.proofs.fits.Statement.{statement}
-use Rattle.daylabels.proofs.fits.Tie as tie
+use Rattle.labels.specs.Labels.{labelByte}
+use Rattle.labels.proofs.fits.Statement.{statement}
+use Rattle.labels.proofs.fits.Tie as tie
 
 returns : tie.Need-returns
 unfolding labelByte

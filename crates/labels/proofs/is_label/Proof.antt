@@ -1,13 +1,13 @@
--- `daylabels::is_label` meets its contract. The invariant: the first i bytes may stand in a label (`Judging`). The measure is what is left of it.
+-- `labels::is_label` meets its contract. The invariant: the first i bytes may stand in a label (`Judging`). The measure is what is left of it.
 use mathlib.Core.Path.{sym, _∙_}
 use borrow.Author.Tests.{not-true, not-false}
-use Rattle.daylabels.proofs.LabelLaws.{Judging, judging-none, judging-more, judging-bad, judging-all}
+use Rattle.labels.proofs.LabelLaws.{Judging, judging-none, judging-more, judging-bad, judging-all}
 use Prim.Native.Nat.{_-_}
 use native.Mathlib.Omega.{arith}
 use lib.ListN.{length}
 use borrow.Author.Needs.{needs}
-use Rattle.daylabels.proofs.is_label.Statement.{statement}
-use Rattle.daylabels.proofs.is_label.Tie as tie
+use Rattle.labels.proofs.is_label.Statement.{statement}
+use Rattle.labels.proofs.is_label.Tie as tie
 
 abbrev Inv-loop : tie.InvT-loop
 Inv-loop label sheet i₀ i = Judging sheet label i
