@@ -7,7 +7,8 @@ ghost use mathlib.Core.Bool.{true, false};
 ghost use mathlib.Core.List.{[]};
 ghost use Rattle.tablerules.specs.Table.{lent};
 ghost use Rattle.reading.specs.Reading.{readLeft, readCorrectedLeft};
-ghost use Rattle.writing.specs.Writing.{writeLeft, rewriteCorrectedLeft};
+ghost use Rattle.writing.specs.Writing.{writeLeft};
+ghost use Rattle.rewriting.specs.Rewriting.{rewriteCorrectedLeft};
 ghost use Rattle.extractrules.specs.Extraction.{extractLeft, extractMarkedLeft};
 ghost use Rattle.cornerrules.specs.Corners.{cornersLeft};
 ghost use Rattle.cornertext.specs.CornerText.{cornerTextLeft};
@@ -104,7 +105,7 @@ pub extern "C" fn keravnoth_1_rewrite_corrected<'a>(
 ) -> KeravnothWritten
     ensures { λ r. ⌜ textFound r (now (out .exit)) ≡ textCoded (rewriteCorrectedLeft (now (text .entry)) (now (sheet .entry)) (now (out .entry))) ⌝ }
 {
-    coded::code_written(writing::rewrite_corrected(text, sheet, out))
+    coded::code_written(rewriting::rewrite_corrected(text, sheet, out))
 }
 
 // Capacities and margins from the tables, and p of each row at each border.

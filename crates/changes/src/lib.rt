@@ -91,7 +91,7 @@ fn compare<'a>(
     sheet: &'a [u8],
 ) -> Ended {
     let mut out = [0u8; ROOM];
-    match writing::rewrite_corrected(before, b"", &mut out) {
+    match rewriting::rewrite_corrected(before, b"", &mut out) {
         Written::Bytes(_) => compare_good(second, before, after, sheet),
         Written::Refused(w) => refused(first, w, before, b""),
     }
@@ -100,7 +100,7 @@ fn compare<'a>(
 // The second table is written again as it is corrected.
 fn compare_good<'a>(second: &[u8], before: &[u8], after: &'a [u8], sheet: &'a [u8]) -> Ended {
     let mut out = [0u8; ROOM];
-    match writing::rewrite_corrected(after, sheet, &mut out) {
+    match rewriting::rewrite_corrected(after, sheet, &mut out) {
         Written::Bytes(k) => {
             let m = output::cut(k, &out);
             told(fields::print(before, &out[..m]))

@@ -1,3 +1,4 @@
 pub mod FormLaws
 pub mod NameLaws
+pub mod UnflaggedLaws
 pub mod JudgeLaws

@@ -13,6 +13,7 @@ ghost use Rattle.tablerules.specs.Good.{Good};
 ghost use Rattle.staterules.specs.Standings.{standingsOf, standingsWith};
 ghost use Rattle.claimrules.specs.Claims.{pairsMost, citedRow, multiplier, pairs, keptRow, citedBefore, pairGood, formedBy, citedSum, excess, level, borneOut, judgeClaims, claimsOf, claimsAnswer};
 ghost use Rattle.claims.specs.Named.{namedRows, noneNamed, flagged, nameRow, judgeClaim};
+ghost use Rattle.claims.specs.Unflagged.{unflagged};
 ghost use Rattle.claims.specs.Magnitudes.{ClaimInRange, Lent, valueOf};
 use refusals::Judgement;
 use refusals::Refusal;
@@ -55,6 +56,17 @@ pub fn is_flagged(flags: &[bool], row: i64) -> bool
     let i = row as usize;
     if i < flags.len() {
         return flags[i];
+    }
+    false
+}
+
+// Whether a row is kept and its flag is not set.
+pub fn is_published(states: &[u64], named: &[bool], row: usize) -> bool
+    requires { ⌜ (length (now states) ≤ rowsMost) × (row < length (now states)) ⌝ }
+    ensures { λ r. ⌜ r ≡ unflagged (now (states .entry)) (now (named .entry)) row ⌝ }
+{
+    if states[row] == 0 {
+        return !is_flagged(named, row as i64);
     }
     false
 }

@@ -7,14 +7,13 @@ use Prim.Native.Char.{code}
 use Prim.Native.Nat.{ℕ, _^_, _≤_, _<_}
 use native.Mathlib.Nat.{mul-le-mul-right}
 use native.Mathlib.Omega.{arith}
-use borrow.Author.Tests.{lt-ltb, le-ltb, ne-eqb}
+use borrow.Author.Tests.{lt-ltb, le-ltb}
 use lib.Dec.{ltb}
 use lib.IntN.{ℤ, pos}
 use lib.ListN.{length}
 use lib.Signed.{mag}
 use mir.Syntax.{w64}
 use mir.Val.{hbits}
-use Rattle.numbers.specs.Below.{at}
 use Rattle.numbers.proofs.IntLaws.{within-fits}
 use Rattle.limits.specs.Limits.{rowsMost, bytesMost}
 use Rattle.refusals.specs.declared.Judgement.{Judgement}
@@ -45,7 +44,7 @@ use Rattle.claims.proofs.NameLaws.{exists-pos, flagged-named}
 use Rattle.claims.proofs.JudgeLaws.{rams-lent, states-lent, known-claims}
 use Rattle.claimline.specs.ClaimText.{claimsIn}
 use Rattle.claimtext.specs.Published.{publishedColumns, rowLine, lineMost, publishedLine, publishedText, publishedMost, publishedOf, publishedAnswer, publishedLeft}
-use Rattle.claimtext.specs.Unflagged.{unflagged}
+use Rattle.claims.specs.Unflagged.{unflagged}
 
 -- ---- a row's line
 module _ (row : ℕ) (ram : ℤ) where
@@ -65,15 +64,6 @@ module _ (m : Standings) (listed : ℕ → Bool) (row : ℕ) where
   pub published-not : listed row ≡ false → publishedLine m listed row ≡ []
   unfolding publishedLine
   published-not e = rw e
-
-module _ (states : List ℕ) (flags : List Bool) (row : ℕ) where
-  pub unflagged-kept : at states row ≡ 0 → not (flagged flags (pos row)) ≡ unflagged states flags row
-  unfolding unflagged kept
-  unflagged-kept e = rw e
-
-  pub unflagged-not : (at states row ≡ 0 → ⊥) → false ≡ unflagged states flags row
-  unfolding unflagged kept
-  unflagged-not e = rw (ne-eqb (at states row) 0 e)
 
 -- the rows whose flag is not set are those that remain
 pub unflagged-text : (m : Standings) (claims : List (List ℤ)) {flags : List Bool} → length (m .states) ≤ rowsMost → flags ≡ namedRows claims (length claims)

@@ -8,7 +8,7 @@ ghost use Rattle.text.specs.Left.{textLeft, textSaid};
 ghost use Rattle.text.specs.Put.{Put};
 ghost use Rattle.staterules.specs.Standings.{standingsWith};
 ghost use Rattle.claimtext.specs.Published.{rowLine, lineMost, publishedLine, publishedText};
-ghost use Rattle.claimtext.specs.Unflagged.{unflagged};
+ghost use Rattle.claims.specs.Unflagged.{unflagged};
 use columns::Head;
 use refusals::Refusal;
 use refusals::Written;
@@ -46,7 +46,7 @@ fn line_length(rams: &[i64], states: &[u64], named: &[bool], row: usize) -> usiz
     requires { ⌜ (length (now rams) ≡ length (now states)) × (length (now states) ≤ rowsMost) × (row < length (now states)) ⌝ }
     ensures { λ r. ⌜ (r ≡ length (publishedLine (standingsWith (now (rams .entry)) (now (states .entry))) (unflagged (now (states .entry)) (now (named .entry))) row)) × (r ≤ lineMost) ⌝ }
 {
-    if is_published(states, named, row) {
+    if claims::is_published(states, named, row) {
         return row_length(row, rams[row]);
     }
     0
@@ -57,17 +57,6 @@ fn row_length(row: usize, ram: i64) -> usize
 {
     let raw = [ram];
     columns::write::line_length(Head::Indexed(b'D', row), &COLUMNS, &raw)
-}
-
-// Whether a row is kept and its flag is not set.
-fn is_published(states: &[u64], named: &[bool], row: usize) -> bool
-    requires { ⌜ (length (now states) ≤ rowsMost) × (row < length (now states)) ⌝ }
-    ensures { λ r. ⌜ r ≡ unflagged (now (states .entry)) (now (named .entry)) row ⌝ }
-{
-    if states[row] == 0 {
-        return !claims::is_flagged(named, row as i64);
-    }
-    false
 }
 
 fn put_rows(rams: &[i64], states: &[u64], named: &[bool], out: &mut [u8]) -> usize
@@ -94,7 +83,7 @@ fn put_line(
     requires { ⌜ at + length (publishedLine (standingsWith (now rams) (now states)) (unflagged (now states) (now named)) row) ≤ length (now out) ⌝ }
     ensures { λ r. ⌜ Put (publishedLine (standingsWith (now (rams .entry)) (now (states .entry))) (unflagged (now (states .entry)) (now (named .entry))) row) at (now (out .entry)) r (now (out .exit)) ⌝ }
 {
-    if is_published(states, named, row) {
+    if claims::is_published(states, named, row) {
         return put_row(row, rams[row], out, at);
     }
     at

@@ -11,7 +11,9 @@ use Rattle.daysheet.specs.Cell.{bytes, cellText}
 use Rattle.daysheet.specs.Sheet.{wayOf, lineCell, firstWith, cellAt, frontText, lineOf, mostBorders, sheetText}
 use Rattle.figures.specs.Computing.{computing}
 use Rattle.figures.specs.Hour.{hourText}
-use Rattle.hourtables.specs.Hour.{borderWay, waysOf, atcsOf, figures, figuresBy, hourOf}
+use Rattle.hourfigures.specs.Items.{borderWay, waysOf, atcsOf}
+use Rattle.hourfigures.specs.Figures.{figures, figuresBy}
+use Rattle.hourtables.specs.Hour.{hourOf}
 use Rattle.hourtables.specs.Day.{filledBy, daySheet}
 
 abbrev line : List ℕ → List ℕ

@@ -23,9 +23,11 @@ use Rattle.reading.specs.Reading.{readText}
 use Rattle.reading.proofs.EmptySheet.{empty-sheet}
 use Rattle.reading.proofs.CorrectedLaws.{corrected-good}
 use Rattle.daysheet.specs.Sheet.{place}
-use Rattle.hourtables.specs.Hour.{foundOf, Figures, refusedHour, unreadHour, figuresBy, hourOf, pasted}
+use Rattle.hourfigures.specs.Items.{pasted}
+use Rattle.hourfigures.specs.Figures.{Figures, refusedHour, unreadHour, figuresBy}
+use Rattle.hourfigures.proofs.ItemLaws.{ways-long}
+use Rattle.hourtables.specs.Hour.{foundOf, hourOf}
 use Rattle.hourtables.specs.Day.{cameOf, filledBy}
-use Rattle.hourtables.proofs.ItemLaws.{ways-long}
 use Rattle.hourtables.proofs.DayLaws.{map-long}
 
 -- ---- items at a place: there they are, and before it all is as it was

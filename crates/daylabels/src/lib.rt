@@ -1,8 +1,8 @@
 // Judges the files of a day before anything is printed: how many there are, and that each has a label of its own. A misuse is told where it is seen.
-// What a good name is, and when two labels are the same, is promised; of which names the arguments are no contract can speak.
+// What a good name is (labels), and when two labels are the same, is promised; of which names the arguments are no contract can speak.
 ghost use mathlib.Core.Path.{_≡_};
 ghost use Prim.Native.Nat.{_<_};
-ghost use Rattle.daylabels.specs.Labels.{labelByte, labelText, nameGood};
+ghost use Rattle.labels.specs.Labels.{nameGood};
 use arguments::Held;
 use arguments::lists;
 use command::options;
@@ -98,7 +98,7 @@ fn label_good(name: &[u8], sheet: bool) -> bool
         return false;
     }
     let label = label::label_of(name);
-    if !is_label(label, sheet) {
+    if !labels::is_label(label, sheet) {
         let way = if sheet { day::NO_COLUMN } else { day::NO_LABEL };
         day::misuse(name, way);
         return false;
@@ -108,26 +108,6 @@ fn label_good(name: &[u8], sheet: bool) -> bool
         return false;
     }
     true
-}
-
-// Whether it can be a label: not empty, no control byte, and in a sheet neither a semicolon nor a quote.
-fn is_label(label: &[u8], sheet: bool) -> bool
-    ensures { λ r. ⌜ r ≡ labelText sheet (now (label .entry)) ⌝ }
-{
-    let mut i: usize = 0;
-    while i < label.len() {
-        if !fits(label[i], sheet) {
-            return false;
-        }
-        i += 1;
-    }
-    i > 0
-}
-
-fn fits(byte: u8, sheet: bool) -> bool
-    ensures { λ r. ⌜ r ≡ labelByte sheet byte ⌝ }
-{
-    (b' ' <= byte) & (byte != 127) & !(sheet & ((byte == b';') | (byte == b'"')))
 }
 
 // Whether no file after that of argument i has its label.

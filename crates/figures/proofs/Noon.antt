@@ -7,7 +7,8 @@ use Prim.Native.String.{String}
 use lib.ListN.{replicate}
 use Rattle.refusals.specs.Refusals.{passed, refused, either, wrongForm, wrongCorrection, tooShort}
 use Rattle.reading.specs.Reading.{readCorrected}
-use Rattle.writing.specs.Writing.{tableText, rewriteCorrectedLeft}
+use Rattle.writing.specs.Writing.{tableText}
+use Rattle.rewriting.specs.Rewriting.{rewriteCorrectedLeft}
 use Rattle.result.specs.Refusal.{refusalText}
 use Rattle.answer.specs.Result.{answerText, answerWith}
 use Rattle.numbers.specs.Computed.{_is_, Hold}

@@ -38,7 +38,8 @@ use Rattle.text.specs.Fields.{numberAt, signedAt, shareAt}
 use Rattle.text.specs.Left.{textLeft}
 use Rattle.text.specs.Point.{decimalsAt, pointAt, signedPointAt}
 use Rattle.text.specs.Written.{textOf, decimal, decimalℤ, fieldsText, lineText, linesText}
-use Rattle.writing.specs.Writing.{tableText, writeLeft, rewriteCorrectedLeft}
+use Rattle.writing.specs.Writing.{tableText, writeLeft}
+use Rattle.rewriting.specs.Rewriting.{rewriteCorrectedLeft}
 
 unfoldable pub computing : Unit {0}
 unfolding markedBy faultyMark judgeMarks extractMarkedLeft answerFor resultTextFor resultTextMarkedLeft answerForLeft answerMarkedLeft linesAt loadOf reorder resultIn outcomeIn outcomeTaking unshortened endBy standingsOf kept gridOf startOf resultOf atcOf leftOf lastOf stopOf judgeStart outcomeOf nOf lOf atcRecord rowRecord extractLeft raisedBy cornerFlows judgeCorners sheetLeft cornersLeft cornersText cornerTextLeft headerFits allocatedItems zoneFits exists hubsFit hubsOf borderFits borderOf shareOf rowOf rowFits factorFits worth defaultOf then either unless refuseAt refuseFirst need grains f0coreOf fuafOf baseOf amrOf signedFactor pOf ltaKw cornerPart cornerSum sOf ltaMarginOf ramOf ramAt highest lowest spreadOf shifted below stateOf ifZero sum count largest lesser least orZero table firstFrom given maxℤ minℤ positivePart sameℤ inside sumℤ headerLine positionLine borderLine rowLine sheetLine oneSheet everySheet sheetKind ofRow endedIndex givenIndex dueIndex linesBy readText readCorrected tablesLeft recordsText resultText refusalText answerText resultTextLeft answerLeft answerWith answerWithLeft answerCorrectedLeft sharers raise alone raises load lowered risen apply next raised counted run extract after raiseIn lastTo lastRound stopRow mostSharers bitsTo bits aloneBits stretch balanced twice roomFor judgeShape judgeFor numberAt signedAt shareAt decimalsAt pointAt signedPointAt textOf decimal decimalℤ fieldsText lineText linesText tableText textLeft writeLeft rewriteCorrectedLeft fieldAt fieldsAt headAt restAt columnsLine optionalLine fieldText fieldsEnded indexText columnsText headText gridBy setupWith beginBy judgeBy goodAt byteAt fieldsByte lineByte pastSeps rangeByte resultMarked outcomeMarked extractFor outcomeFor

@@ -25,7 +25,7 @@ pub const HOLD_ITEMS: usize = 3;
 pub type HoldRecord = [i64; HOLD_ITEMS];
 
 // The first row whose equal share of these margins is less than p of border `b`, which is what one kW takes of it; or `DASH`.
-pub fn holder(rows: usize, borders: usize, p: &[u64], ns: &[u64], margins: &[u64], b: usize) -> i64
+fn holder(rows: usize, borders: usize, p: &[u64], ns: &[u64], margins: &[u64], b: usize) -> i64
     requires { ⌜ (rows * borders ≤ length (now p)) × (b < borders) × (rows < 2 ^ 63) ⌝ }
     requires { ⌜ Ready (flat rows borders (now p)) (now ns) (now margins) ⌝ }
     ensures { λ r. ⌜ r ≡ rowOrDash (stopRow (flat rows borders (now (p .entry))) (now (margins .entry)) b) ⌝ }
@@ -38,6 +38,33 @@ pub fn holder(rows: usize, borders: usize, p: &[u64], ns: &[u64], margins: &[u64
         }
     }
     DASH
+}
+
+// The row that holds a border by the margins at the end, which the result names, and the row that ended its rise, by those after its last round.
+pub struct Held {
+    pub named: i64,
+    pub ended: i64,
+}
+
+pub fn holders(
+    rows: usize,
+    borders: usize,
+    p: &[u64],
+    ns: &[u64],
+    margins: &[u64],
+    stood: &[u64],
+    b: usize,
+) -> Held
+    requires { ⌜ (rows * borders ≤ length (now p)) × (b < borders) × (rows < 2 ^ 63) ⌝ }
+    requires { ⌜ Ready (flat rows borders (now p)) (now ns) (now margins) × Ready (flat rows borders (now p)) (now ns) (now stood) ⌝ }
+    ensures { λ r. ⌜ (r .named ≡ rowOrDash (stopRow (flat rows borders (now (p .entry))) (now (margins .entry)) b)) × (r .ended ≡ rowOrDash (stopRow (flat rows borders (now (p .entry))) (now (stood .entry)) b)) ⌝ }
+{
+    let named = holder(rows, borders, p, ns, margins, b);
+    let ended = holder(rows, borders, p, ns, stood, b);
+    Held {
+        named: named,
+        ended: ended,
+    }
 }
 
 // What an equal share of the margin would still allow a border of factor `f` in one round, kW, or `DASH` where the row does not limit it.

@@ -10,7 +10,9 @@ use native.Mathlib.Omega.{arith}
 use lib.ListN.{length, set, take, length-append}
 use lib.Seq.{paste-zero, take-suc-set}
 use Rattle.limits.specs.Limits.{bordersMost}
-use Rattle.hourtables.specs.Hour.{Figures, figures, unreadHour, hourOf, pasted, keptOf}
+use Rattle.hourfigures.specs.Items.{pasted}
+use Rattle.hourfigures.specs.Figures.{Figures, figures, unreadHour, keptOf}
+use Rattle.hourtables.specs.Hour.{hourOf}
 use Rattle.hourtables.specs.Day.{cameOf, filledBy, Came, Day}
 
 -- ---- one more hour

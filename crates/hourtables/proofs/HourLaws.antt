@@ -1,12 +1,12 @@
--- From what the calls answer to an hour's figures: the extraction (`found-is`), what is stored of it, and the text. No contract cites this file.
+-- From what the calls answer to an hour's figures: the extraction (`found-is`), and the text. No contract cites this file.
 use mathlib.Core.Path.{_≡_, refl, sym, ap, ap₂, _∙_}
 use mathlib.Core.Bool.{Bool}
-use mathlib.Core.List.{List, [], _∷_}
-use Prim.Native.Nat.{ℕ, _*_, _≤_}
+use mathlib.Core.List.{List, []}
+use Prim.Native.Nat.{ℕ, _≤_}
 use native.Mathlib.Omega.{arith}
 use lib.IntN.{ℤ, natAbs}
 use lib.ListN.{length, getD, take}
-use lib.Seq.{paste-zero, take-at}
+use lib.Seq.{take-at}
 use Rattle.limits.specs.Limits.{bordersMost, rowsMost}
 use Rattle.numbers.specs.Below.{table, over}
 use Rattle.numbers.proofs.BelowLaws.{table-long, table-get, table-cong}
@@ -28,7 +28,10 @@ use Rattle.extractrules.proofs.LentLaws.{outcome-roomy}
 use Rattle.extractrules.proofs.MarkedLaws.{for-is}
 use Rattle.reading.specs.Reading.{readText, readCorrected}
 use Rattle.reading.proofs.EmptySheet.{empty-sheet}
-use Rattle.hourtables.specs.Hour.{waysOf, atcsOf, Found, foundOf, foundFor, foundIn, Figures, figures, answeredHour, refusedHour, figuresBy, hourOf, pasted, keptOf}
+use Rattle.hourfigures.specs.Items.{atcsOf}
+use Rattle.hourfigures.specs.Figures.{Found, foundIn, Figures, figures, refusedHour, figuresBy, keptOf}
+use Rattle.hourfigures.proofs.KeptLaws.{refused-kept}
+use Rattle.hourtables.specs.Hour.{foundOf, foundFor, hourOf}
 
 -- ---- the ATCs of the records that were stored
 stored-atcs : (r : Result) (n : ℕ) (new old : List (List ℤ)) → r .header .borders ≡ n → new ≡ over (table (r .header .borders) (atcRecord r)) old → atcsOf (take n new) ≡ table (r .header .borders) (atcOf r)
@@ -62,30 +65,15 @@ module _ (all : Bool) (marks : List ℕ) (t : Table) (good : Good t) (ps : List 
       go (Refused w) (passed r) is l = absurd (not-passed w (r .outcome .rounds) (ap (λ (x : ExtractLeft). x .answer) l))
       go (Refused w) (refused v) is l = ap refused (refused-is {A = ℕ} w v (ap (λ (x : ExtractLeft). x .answer) l))
 
--- ---- what is kept of it
-module _ (k : ℕ) (ways atcs : List ℕ) where
-  pub refused-kept : (w : Refusal) {hour : List ℕ} → hour ≡ refusedHour w .hour → figures hour ways atcs ≡ keptOf (refusedHour w) k ways atcs
-  refused-kept w e = ap₂ (λ (h : List ℕ) (x : List ℕ). figures h x atcs) e (paste-zero ways (k * bordersMost) []) ∙ ap (λ (x : List ℕ). figures (refusedHour w .hour) _ x) (paste-zero atcs (k * bordersMost) [])
+-- ---- of a text that was read
+module _ (k : ℕ) (ways atcs : List ℕ) (all : Bool) (marks text : List ℕ) where
+  pub read-kept : (t : Table) → readCorrected text [] ≡ passed t → {found : Judged Found} → found ≡ foundFor all marks t → {left : Figures}
+      → left ≡ keptOf (figuresBy (t .header) (t .borders) found) k ways atcs → left ≡ keptOf (hourOf all marks text) k ways atcs
+  unfolding hourOf
+  read-kept t e f l =
+      l ∙ ap (λ (x : Judged Found). keptOf (figuresBy (t .header) (t .borders) x) k ways atcs) f
+      ∙ ap (λ (x : Figures). keptOf x k ways atcs) (sym (either-passed _ _ (sym (empty-sheet text) ∙ e)))
 
-  module _ (h : Header) (borders : List (List ℤ)) (e : Extracted) (records : List (List ℤ)) where
-    pub store-answered : (n : ℕ) → e ≡ Rounds n → {ways′ atcs′ : List ℕ} → ways′ ≡ pasted (k * bordersMost) (waysOf borders) ways → atcs′ ≡ pasted (k * bordersMost) (atcsOf (take (h .borders) records)) atcs
-        → figures (0 ∷ n ∷ h .borders ∷ h .intraday ∷ []) ways′ atcs′ ≡ keptOf (figuresBy h borders (foundIn (h .borders) e records)) k ways atcs
-    unfolding figuresBy either
-    store-answered n is w a = rw (is, w, a)
-
-    pub store-refused : (w : Refusal) → e ≡ Refused w → {hour : List ℕ} → hour ≡ refusedHour w .hour → figures hour ways atcs ≡ keptOf (figuresBy h borders (foundIn (h .borders) e records)) k ways atcs
-    unfolding figuresBy either
-    store-refused w is said = refused-kept w said ∙ ap (λ (x : Extracted). keptOf (figuresBy h borders (foundIn (h .borders) x records)) k ways atcs) (sym is)
-
-  -- ---- of a text that was read
-  module _ (all : Bool) (marks text : List ℕ) where
-    pub read-kept : (t : Table) → readCorrected text [] ≡ passed t → {found : Judged Found} → found ≡ foundFor all marks t → {left : Figures}
-        → left ≡ keptOf (figuresBy (t .header) (t .borders) found) k ways atcs → left ≡ keptOf (hourOf all marks text) k ways atcs
-    unfolding hourOf
-    read-kept t e f l =
-        l ∙ ap (λ (x : Judged Found). keptOf (figuresBy (t .header) (t .borders) x) k ways atcs) f
-        ∙ ap (λ (x : Figures). keptOf x k ways atcs) (sym (either-passed _ _ (sym (empty-sheet text) ∙ e)))
-
-    pub read-refused : (w : Refusal) → readCorrected text [] ≡ refused w → {hour : List ℕ} → hour ≡ refusedHour w .hour → figures hour ways atcs ≡ keptOf (hourOf all marks text) k ways atcs
-    unfolding hourOf
-    read-refused w e said = refused-kept w said ∙ ap (λ (x : Figures). keptOf x k ways atcs) (sym (either-refused _ _ (sym (empty-sheet text) ∙ e)))
+  pub read-refused : (w : Refusal) → readCorrected text [] ≡ refused w → {hour : List ℕ} → hour ≡ refusedHour w .hour → figures hour ways atcs ≡ keptOf (hourOf all marks text) k ways atcs
+  unfolding hourOf
+  read-refused w e said = refused-kept k ways atcs w said ∙ ap (λ (x : Figures). keptOf x k ways atcs) (sym (either-refused _ _ (sym (empty-sheet text) ∙ e)))

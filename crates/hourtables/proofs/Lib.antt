@@ -1,3 +1,2 @@
-pub mod ItemLaws
 pub mod HourLaws
 pub mod DayLaws

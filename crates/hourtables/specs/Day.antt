@@ -8,7 +8,9 @@ use Prim.Native.Nat.{ℕ, _+_, _*_}
 use lib.ListN.{length, take}
 use Rattle.limits.specs.Limits.{bordersMost}
 use Rattle.daysheet.specs.Sheet.{sheetText}
-use Rattle.hourtables.specs.Hour.{Figures, figures, unreadHour, hourOf, pasted, keptOf}
+use Rattle.hourfigures.specs.Items.{pasted}
+use Rattle.hourfigures.specs.Figures.{Figures, figures, unreadHour, keptOf}
+use Rattle.hourtables.specs.Hour.{hourOf}
 
 -- the figures of an hour whose table came, or did not
 abbrev pub cameOf : (all : Bool) → (marks : List ℕ) → Option (List ℕ) → Figures

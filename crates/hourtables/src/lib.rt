@@ -1,18 +1,13 @@
-// The figures of an hour for a day's sheet: its record, where each border goes, and each ATC, from the hour's own table and its own result. They are kept in tables
-// that hold all hours, each hour's items at its own place.
-mod items;
-
+// The figures of an hour for a day's sheet, from the text of the hour's own table.
 ghost use mathlib.Core.Path.{_≡_};
-ghost use mathlib.Core.Bool.{true};
 ghost use Prim.Native.Nat.{_*_, _<_, _≤_};
-ghost use lib.ListN.{length, take};
+ghost use lib.ListN.{length};
 ghost use Rattle.limits.specs.Limits.{zonesMost, bordersMost, rowsMost};
-ghost use Rattle.types.specs.Ranges.{headerFits};
 ghost use Rattle.tablerules.specs.Table.{lent, front};
 ghost use Rattle.tablerules.specs.Good.{Good};
-ghost use Rattle.marginrules.specs.Magnitudes.{BordersInRange};
 ghost use Rattle.daysheet.specs.Sheet.{hoursMost};
-ghost use Rattle.hourtables.specs.Hour.{foundFor, foundIn, figures, figuresBy, refusedHour, hourOf, keptOf};
+ghost use Rattle.hourfigures.specs.Figures.{foundIn, figures, keptOf};
+ghost use Rattle.hourtables.specs.Hour.{foundFor, hourOf};
 use daysheet::HourRecord;
 use extractrules::Extracted;
 use outcome::AtcRecord;
@@ -20,7 +15,6 @@ use outcome::BorderResult;
 use outcome::LeftRecord;
 use outcome::RowResult;
 use reading::TableRead;
-use refusals::Refusal;
 use types::Border;
 use types::BorderRecord;
 use types::Header;
@@ -86,9 +80,9 @@ fn keep_in(
     match reading::read_into(text, b"", z, t, b, c, f) {
         TableRead::Table(h) => {
             let extracted = extract(h, z, t, b, c, f, all, marks, atc);
-            store(h, b, extracted, atc, k, ways, atcs)
+            hourfigures::store(h, b, extracted, atc, k, ways, atcs)
         }
-        TableRead::Refused(w) => refused(w),
+        TableRead::Refused(w) => hourfigures::refused(w),
     }
 }
 
@@ -112,47 +106,4 @@ fn extract(
         * limits::BORDERS_MOST];
     let mut left: [LeftRecord; limits::ROWS_MOST] = [[0; RowResult::ITEMS]; limits::ROWS_MOST];
     extraction::extract_good(h, z, t, b, c, f, all, marks, &mut p, atc, &mut left)
-}
-
-// Stores what was found of hour k.
-fn store(
-    h: Header,
-    b: &[BorderRecord],
-    extracted: Extracted,
-    atc: &[AtcRecord],
-    k: usize,
-    ways: &mut [u64],
-    atcs: &mut [u64],
-) -> HourRecord
-    requires { ⌜ (headerFits h ≡ true) × BordersInRange (h .zones) (take (h .borders) (now b)) ⌝ }
-    requires { ⌜ (bordersMost ≤ length (now b)) × (bordersMost ≤ length (now atc)) ⌝ }
-    requires { ⌜ (k < hoursMost) × (length (now ways) ≡ hoursMost * bordersMost) × (length (now atcs) ≡ hoursMost * bordersMost) ⌝ }
-    ensures { λ r. ⌜ figures r (now (ways .exit)) (now (atcs .exit)) ≡ keptOf (figuresBy h (take (h .borders) (now (b .entry))) (foundIn (h .borders) extracted (now (atc .entry)))) k (now (ways .entry)) (now (atcs .entry)) ⌝ }
-{
-    match extracted {
-        Extracted::Rounds(rounds) => {
-            let borders = h.borders;
-            let place = k * limits::BORDERS_MOST;
-            items::keep_ways(h.zones, &b[..borders], place, ways);
-            items::keep_atcs(&atc[..borders], place, atcs);
-            [
-                daysheet::ANSWERED,
-                rounds,
-                borders as u64,
-                h.intraday as u64,
-            ]
-        }
-        Extracted::Refused(w) => refused(w),
-    }
-}
-
-fn refused(w: Refusal) -> HourRecord
-    ensures { λ r. ⌜ r ≡ refusedHour w .hour ⌝ }
-{
-    [
-        daysheet::REFUSED,
-        w.number as u64,
-        w.place as u64,
-        w.byte as u64,
-    ]
 }

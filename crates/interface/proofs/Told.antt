@@ -25,7 +25,7 @@ use Rattle.lines.specs.Lines.{RowLine, headerLine, zoneLine, allocatedLine, bor
 use Rattle.lines.specs.SaidRow.{lineBy}
 use Rattle.lines.specs.declared.row.RowKind.{RowKind}
 use Rattle.sections.specs.Section.{Section, read, fault, more, onLine, linesAt, withLines}
-use Rattle.sections.specs.Rows.{valuesOf, factorsOf, asGiven, pickedRow}
+use Rattle.rowlines.specs.Rows.{valuesOf, factorsOf, asGiven, pickedRow}
 use Rattle.corrections.specs.Corrections.{Piece, sheetKind, pieces, handedBy, judgeFrom, judgeCorrections, onCorrection, dueIndex}
 use Rattle.tablerules.specs.Table.{Table, balanced, notTwice, zoneLineNo, allocatedLineNo, lastAllocatedLineNo, borderLineNo, rowLineNo, pastLineNo}
 use Rattle.reading.specs.Reading.{withHeader, intradayAt, balanceByte, rowsFrom, bordersFrom, allocatedFrom, linesBy, linesOf, readText, readCorrected}

@@ -14,7 +14,7 @@ use Rattle.text.specs.Left.{TextLeft, textLeft}
 use Rattle.text.proofs.LeftLaws.{text-refused}
 use Rattle.tablerules.specs.Table.{Table}
 use Rattle.reading.specs.Reading.{readText, readCorrected}
-use Rattle.writing.specs.Writing.{rewriteCorrectedLeft}
+use Rattle.rewriting.specs.Rewriting.{rewriteCorrectedLeft}
 use Rattle.trips.proofs.RoundTrip.{read-write}
 use Rattle.trips.proofs.Corrected.{rewritten-reads-back}
 use Rattle.extractrules.specs.Extraction.{outcomeFor}

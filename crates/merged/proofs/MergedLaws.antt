@@ -18,7 +18,7 @@ use Rattle.lines.specs.declared.row.RowKind.the-variants as rowKind
 use Rattle.lines.proofs.RowTrip.{row-read}
 use Rattle.corrections.specs.Corrections.{pieces, Piece, piece}
 use Rattle.corrections.proofs.PieceLaws.{pieces-at}
-use Rattle.sections.specs.Rows.{pickedRow}
+use Rattle.rowlines.specs.Rows.{pickedRow}
 use Rattle.trips.proofs.FirstLine.{first-line}
 use Rattle.trips.proofs.SectionTrip.{rowLineOf}
 use Rattle.merged.specs.Merged.{isRow, asRow, mergedFrom}

@@ -19,7 +19,7 @@ use Rattle.lines.proofs.HeaderTrip.{header-read}
 use Rattle.lines.proofs.ZoneTrip.{zone-read}
 use Rattle.lines.proofs.BorderTrip.{border-read}
 use Rattle.corrections.specs.Corrections.{pieces, handedBy}
-use Rattle.sections.specs.Rows.{asGiven}
+use Rattle.rowlines.specs.Rows.{asGiven}
 use Rattle.reading.specs.Reading.{linesOf, readText, readCorrected}
 use Rattle.reading.proofs.ReadLaws.{Opened, reading, nets-held, allocated-held, borders-held, rows-held}
 use Rattle.reading.proofs.CorrectedLaws.{corrected}

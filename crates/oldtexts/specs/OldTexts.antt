@@ -22,7 +22,7 @@ use Rattle.blame.specs.RangeBlame.{rangeByte}
 use Rattle.sections.specs.Section.{linesAt, withLines}
 use Rattle.tablerules.specs.Table.{Table, notTwice, zoneLineNo}
 use Rattle.lines.specs.Lines.{headerOf, headerBad, zoneLine}
-use Rattle.sections.specs.Rows.{asGiven}
+use Rattle.rowlines.specs.Rows.{asGiven}
 use Rattle.reading.specs.Reading.{withHeader, intradayAt, allocatedFrom}
 use Rattle.extractrules.specs.Extraction.{outcomeFor}
 use Rattle.result.specs.Refusal.{refusalText}

@@ -10,9 +10,9 @@ use Rattle.text.proofs.LeftLaws.{said-once}
 use Rattle.writing.proofs.write.{signature}
 use Rattle.writing.proofs.write.Kinds as kinds
 use Rattle.writing.proofs.write.Reads as reads
-use Rattle.writing.proofs.rewrite_corrected as rewrite
-use Rattle.writing.proofs.rewrite_corrected.Kinds as rewrite-kinds
-use Rattle.writing.proofs.rewrite_corrected.Reads as rewrite-reads
+use Rattle.rewriting.proofs.rewrite_corrected as rewrite
+use Rattle.rewriting.proofs.rewrite_corrected.Kinds as rewrite-kinds
+use Rattle.rewriting.proofs.rewrite_corrected.Reads as rewrite-reads
 
 -- `out` is the call's seventh argument
 pub write-once : (κs : Lfts 6) (x : ArgsD signature κs) (r r′ : ResD signature κs) (s s′ : AtExit (endedOf 6 kinds.ps kinds.r) κs)

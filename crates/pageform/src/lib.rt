@@ -12,14 +12,6 @@ ghost use Rattle.io.specs.Counts.{Counts};
 use libc::STDOUT_FILENO;
 use step::State;
 
-// How a byte of a text from outside is shown: as it is, by its number, as a blank, or in hexadecimal digits.
-pub enum Shown {
-    AsItIs,
-    Numbered,
-    Blank,
-    Strange,
-}
-
 // The figures of a piece.
 pub const NAMES: usize = 52;
 

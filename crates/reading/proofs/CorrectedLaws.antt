@@ -19,8 +19,8 @@ use Rattle.tablerules.specs.Table.{Table, lent, twice, rowLineNo, pastLineNo}
 use Rattle.tablerules.specs.Good.{Good, Shaped}
 use Rattle.lines.specs.Lines.{RowLine, rowLine}
 use Rattle.corrections.specs.Corrections.{Piece, handedBy, judgeCorrections}
-use Rattle.sections.specs.Rows.{valuesOf, factorsOf, asGiven}
-use Rattle.sections.proofs.PickedLaws.{picked-read}
+use Rattle.rowlines.specs.Rows.{valuesOf, factorsOf, asGiven}
+use Rattle.rowlines.proofs.PickedLaws.{picked-read}
 use Rattle.reading.specs.Reading.{rowsFrom, linesBy, linesOf, readText, readCorrected}
 use Rattle.reading.specs.Places.{readShort}
 use Rattle.reading.proofs.ReadLaws.{cond-passed, Opened, opened, reading, opened-good, opened-shaped}

@@ -35,9 +35,9 @@ use Rattle.lines.specs.declared.row.RowKind.the-variants as rowKind
 use Rattle.lines.proofs.HeaderTrip.{header-read}
 use Rattle.lines.proofs.ZoneTrip.{zone-read}
 use Rattle.corrections.specs.Corrections.{Piece, handedBy, judgeCorrections}
-use Rattle.sections.specs.Rows.{valuesOf, factorsOf, cut, asGiven, pickedRow, correctedBy}
-use Rattle.sections.proofs.RowLaws.{cut-long, cut-values, cut-factors}
-use Rattle.sections.proofs.PickedLaws.{SectionRead, both-fault, both-read}
+use Rattle.rowlines.specs.Rows.{valuesOf, factorsOf, cut, asGiven, pickedRow, correctedBy}
+use Rattle.rowlines.proofs.RowLaws.{cut-long, cut-values, cut-factors}
+use Rattle.rowlines.proofs.PickedLaws.{SectionRead, both-fault, both-read}
 use Rattle.reading.specs.declared.TableRead.{TableRead}
 use Rattle.reading.specs.declared.TableRead.the-variants as answer
 use Rattle.reading.specs.Reading.{intradayAt, balanceByte, rowsFrom, bordersFrom, allocatedFrom, linesBy, linesOf, readInto}

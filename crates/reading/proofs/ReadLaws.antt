@@ -24,8 +24,8 @@ use Rattle.tablerules.specs.Good.{Good, Shaped}
 use Rattle.tablerules.proofs.GoodLaws.{row-good, flat-fit}
 use Rattle.lines.specs.Lines.{RowLine, headerLine, zoneLine, allocatedLine, borderLine}
 use Rattle.corrections.specs.Corrections.{Piece, piece}
-use Rattle.sections.specs.Rows.{valuesOf, factorsOf, asGiven, pickedRow}
-use Rattle.sections.proofs.RowLaws.{emptyRow, values-long, values-at, factors-long, stretch-of}
+use Rattle.rowlines.specs.Rows.{valuesOf, factorsOf, asGiven, pickedRow}
+use Rattle.rowlines.proofs.RowLaws.{emptyRow, values-long, values-at, factors-long, stretch-of}
 use Rattle.reading.specs.Reading.{withHeader, intradayAt, rowsFrom, linesBy, linesOf, readText}
 use Rattle.lines.proofs.HeaderTrip.{header-read, header-plain}
 use Rattle.lines.proofs.ZoneTrip.{zone-read}

@@ -17,7 +17,7 @@ use Rattle.sections.specs.Section.{linesAt, withLines}
 use Rattle.tablerules.specs.Table.{Table, lent, front, balanced, notTwice, tableRoom, headerLineNo, zoneLineNo, allocatedLineNo, lastAllocatedLineNo, borderLineNo, rowLineNo, pastLineNo}
 use Rattle.lines.specs.Lines.{headerLine, zoneLine, allocatedLine, borderLine}
 use Rattle.corrections.specs.Corrections.{Piece, handedBy, judgeCorrections}
-use Rattle.sections.specs.Rows.{valuesOf, factorsOf, asGiven, pickedRow}
+use Rattle.rowlines.specs.Rows.{valuesOf, factorsOf, asGiven, pickedRow}
 use Rattle.reading.specs.declared.TableRead.{TableRead}
 use Rattle.reading.specs.declared.TableRead.the-variants as read
 

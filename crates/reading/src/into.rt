@@ -164,7 +164,7 @@ fn read_rows<'a>(
     let first = table::ZONE_LINE_NO + zones + h.allocated_items() + h.borders;
     let held = corrections::judged::sheet_judged(sheet, zones, rows);
     let used = used_of(sheet, held);
-    match sections::rows::rows_read(
+    match rowlines::rows_read(
         RowKind::Table,
         text,
         used,

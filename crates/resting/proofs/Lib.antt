@@ -1,5 +1,4 @@
 pub mod KeepLaws
 pub mod LoadLaws
-pub mod SortLaws
+pub mod WatchLaws
 pub mod WalkLaws
-pub mod YieldLaws

@@ -3,14 +3,14 @@ use mathlib.Core.Path.{_≡_, sym, ap, _∙_, subst}
 use mathlib.Core.List.{List}
 use mathlib.Core.Logic.{⊎-elim}
 use Prim.Native.Nat.{ℕ, _+_, _*_, _-_, _/_, _≤_, _<_}
-use native.Mathlib.Nat.{le-trans, mul-zero, mul-add, mul-le-mul-left, mul-le-mul-right, div-mul-le-self}
+use native.Mathlib.Nat.{le-trans, mul-zero, mul-add, mul-le-mul-left}
 use native.Mathlib.Omega.{arith}
 use lib.ListN.{length}
 use Rattle.numbers.specs.Below.{at, table}
 use Rattle.numbers.proofs.BelowLaws.{le-or-lt, sum-cong, sum-mono, sum-add, sum-some, largest-le, largest-under, table-get, table-cong, table-of}
 use Rattle.rounds.specs.Rounds.{Grid, sharers, raise, raises, load, lowered, risen, next, apply}
 use Rattle.rounds.proofs.LeastLaws.{Smallest}
-use Rattle.rounds.proofs.Round.{raises-are, share-fits, load-fits, raiser, raise-falls}
+use Rattle.rounds.proofs.Round.{raises-are, raiser, raise-falls}
 use Rattle.walk.specs.Walk.{Caps, part, mostLoad}
 use Rattle.resting.specs.Resting.{leftTo}
 
@@ -66,17 +66,6 @@ module _ (g : Grid) (d s : List ℕ) where
 -- ---- the raises of the margins m
 
 module _ (g : Grid) (m : List ℕ) {w : List ℕ} (e : w ≡ raises g m) where
-  pub raises-within : (i : ℕ) → i < g .rows → load g i w ≤ at m i
-  raises-within i hi = rw e (load-fits g m i hi)
-
-  -- n times the most part is within the margin
-  pub most-within : (i : ℕ) → i < g .rows → mostLoad g i w * sharers g i ≤ at m i
-  unfolding mostLoad part
-  most-within i hi =
-      let t : mostLoad g i w ≤ at m i / sharers g i =
-      largest-under (g .borders) (part g i w) (at m i / sharers g i) (λ b hb. rw (raises-are g m e b hb) (share-fits g m i b hi)) in
-      le-trans (mul-le-mul-right (sharers g i) t) (div-mul-le-self (at m i) (sharers g i))
-
   -- raises never grow
   fall : (b : ℕ) → raise g (leftTo g w m) b ≤ raise g m b
   unfolding next apply

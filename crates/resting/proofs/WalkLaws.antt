@@ -19,10 +19,12 @@ use Rattle.walk.specs.Walk.{Listed, tightened, mostLoad, Loadable}
 use Rattle.walk.proofs.ListedLaws.{listed-all, listed-zero, listed-less}
 use Rattle.walk.proofs.LoadLaws.{slack-part}
 use Rattle.walk.proofs.CapLaws.{Capped, capped-none, capped-less, capped-more, capped-all}
-use Rattle.resting.specs.Resting.{leftTo, Yields, Settleable, Sortable, Sorted, nearRow, nearRows, Waiting, Renewed, Walkable}
-use Rattle.resting.proofs.LoadLaws.{load-add, load-none, load-less, most-less, left-at, left-step, left-none, raises-within, most-within, raises-less, raises-cap}
-use Rattle.resting.proofs.YieldLaws.{load-yields, most-yields}
-use Rattle.resting.proofs.SortLaws.{near-inside, watched-block, watched-none}
+use Rattle.nearness.specs.Near.{Yields, Sortable, Sorted}
+use Rattle.nearness.proofs.RaiseLaws.{raises-within, most-within}
+use Rattle.nearness.proofs.YieldLaws.{load-yields, most-yields}
+use Rattle.resting.specs.Resting.{leftTo, Settleable, nearRow, nearRows, Waiting, Renewed, Walkable}
+use Rattle.resting.proofs.LoadLaws.{load-add, load-none, load-less, most-less, left-at, left-step, left-none, raises-less, raises-cap}
+use Rattle.resting.proofs.WatchLaws.{near-inside, watched-block, watched-none}
 
 -- ---- the walk
 

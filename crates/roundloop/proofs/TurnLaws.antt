@@ -16,7 +16,8 @@ use Rattle.rounds.specs.AllRounds.{Startable, noted, workLeft, workOf}
 use Rattle.rounds.proofs.Round.{raises-long, raises-are, raiser}
 use Rattle.walk.specs.Walk.{Listed}
 use Rattle.resting.specs.Resting.{leftTo, Waiting, Renewed, Walkable}
-use Rattle.resting.proofs.LoadLaws.{load-add, left-at, left-step, left-none, raises-within}
+use Rattle.nearness.proofs.RaiseLaws.{raises-within}
+use Rattle.resting.proofs.LoadLaws.{load-add, left-at, left-step, left-none}
 use Rattle.resting.proofs.WalkLaws.{waiting-start, waiting-caps, waiting-next}
 use Rattle.raising.specs.Raising.{Fits, Risable, Rose}
 use Rattle.roundloop.proofs.RoundLoop.{x-le-load, Head, head-start, Turn, turn-fits, turn-next, turn-sum, turn-end}

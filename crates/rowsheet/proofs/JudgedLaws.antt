@@ -20,7 +20,7 @@ use Rattle.types.proofs.RangeLaws.{header-in}
 use Rattle.sections.proofs.SectionRecords.{fits-at}
 use Rattle.tablerules.specs.Table.{rowGood, stretch}
 use Rattle.lines.proofs.RowTrip.{RowHeldAt}
-use Rattle.sections.proofs.RowLaws.{emptyRow, values-at, stretch-of}
+use Rattle.rowlines.proofs.RowLaws.{emptyRow, values-at, stretch-of}
 use Rattle.rowsheet.specs.RowSheet.{Rows, readSheet, RowsLeft, readRowsLeft, sheetOf, rowsInRange, judgeRows}
 use Rattle.rowsheet.proofs.LengthLaws.{sheetMost, sheet-most}
 use Rattle.rowsheet.proofs.SheetLaws.{sheet-section, room-passed, room-enough}

@@ -24,8 +24,8 @@ use Rattle.sections.proofs.SectionRecords.{section-fits, section-long}
 use Rattle.lines.specs.Lines.{RowLine}
 use Rattle.lines.specs.declared.row.RowKind.the-variants as rowKind
 use Rattle.lines.proofs.RowTrip.{RowHeldAt, row-read}
-use Rattle.sections.specs.Rows.{cut}
-use Rattle.sections.proofs.RowLaws.{values-long, factors-long, cut-long, cut-values, cut-factors}
+use Rattle.rowlines.specs.Rows.{cut}
+use Rattle.rowlines.proofs.RowLaws.{values-long, factors-long, cut-long, cut-values, cut-factors}
 use Rattle.lines.specs.SheetLine.{sheetLine}
 use Rattle.rowsheet.specs.RowSheet.{Rows, rowsOf, frontRows, firstLineNo, linesIn, sheetRows, readSheet, rowRoom, RowsLeft, readRowsLeft, rowsSaid}
 

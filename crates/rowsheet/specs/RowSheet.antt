@@ -17,7 +17,7 @@ use Rattle.text.specs.Left.{TextLeft, textLeft}
 use Rattle.sections.specs.Section.{Section, linesAt, withLines}
 use Rattle.tablerules.specs.Table.{rowGood, stretch, headerLineNo}
 use Rattle.lines.specs.Lines.{RowLine}
-use Rattle.sections.specs.Rows.{valuesOf, factorsOf}
+use Rattle.rowlines.specs.Rows.{valuesOf, factorsOf}
 use Rattle.lines.specs.SheetLine.{sheetLine}
 use Rattle.lines.specs.declared.row.RowKind.the-variants as rowKind
 use Rattle.layout.specs.Layout.{rowsTextBy}

@@ -26,7 +26,7 @@ pub fn read_sheet(h: Header, sheet: &[u8], c: &mut [RowRecord], f: &mut [i64]) -
     }
     let zones = h.zones;
     let rows = h.rows;
-    match sections::rows::rows_read(
+    match rowlines::rows_read(
         RowKind::Sheet,
         sheet,
         b"",

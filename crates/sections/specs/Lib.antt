@@ -1,3 +1,2 @@
 pub mod Section
 pub mod Stored
-pub mod Rows

@@ -1,7 +1,6 @@
-// Sections of lines: each kind of line from a place of the text on, in the order of the indices.
+// Sections of lines: each kind of line from a place of the text on, in the order of the indices. The lines of rows stand in rowlines.
 pub mod borders;
 pub mod put;
-pub mod rows;
 pub mod zones;
 
 use refusals::Refusal;

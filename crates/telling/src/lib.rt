@@ -98,7 +98,7 @@ fn blamed<'a>(with_file: bool, number: u64, table: &'a [u8], sheet: &'a [u8]) ->
 // Whether the table is good, as the sheet corrects it.
 fn table_good<'a>(table: &'a [u8], sheet: &'a [u8]) -> bool {
     let mut out = input::room();
-    match writing::rewrite_corrected(table, sheet, &mut out) {
+    match rewriting::rewrite_corrected(table, sheet, &mut out) {
         Written::Bytes(_) => true,
         Written::Refused(_) => false,
     }

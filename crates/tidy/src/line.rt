@@ -5,6 +5,7 @@ use crate::put::zeros;
 use tidyfields::bared;
 use tidyfields::lacking;
 use tidyfields::piece_end;
+use tidyfields::wanted;
 ghost use mathlib.Core.Path.{_≡_};
 ghost use mathlib.Core.Bool.{false};
 ghost use mathlib.Core.List.{[], _∷_, _++_};
@@ -13,7 +14,7 @@ ghost use lib.ListN.{length, getD, take, drop};
 ghost use Rattle.text.specs.Fields.{tab};
 ghost use Rattle.tidyrules.specs.Cut.{cut};
 ghost use Rattle.tidyrules.specs.Fields.{repaired};
-ghost use Rattle.tidyrules.specs.Tidied.{semicolon, isRow, wanted, lineTidied};
+ghost use Rattle.tidyrules.specs.Tidied.{semicolon, isRow, lineTidied};
 ghost use Rattle.tidy.specs.Clip.{placesMost, Clip, LinePut};
 ghost use Rattle.tidy.specs.Lines.{held};
 
@@ -67,25 +68,6 @@ fn has(line: &[u8], b: u8) -> bool
         i += 1;
     }
     false
-}
-
-// How many decimals field k wants: a power three, a factor five; index and R none.
-pub fn wanted(row: bool, k: usize) -> usize
-    ensures { λ r. ⌜ r ≡ wanted row k ⌝ }
-{
-    if !row {
-        return 0;
-    }
-    if k == 0 {
-        return 0;
-    }
-    if k == 5 {
-        return 0;
-    }
-    if k < 8 {
-        return 3;
-    }
-    5
 }
 
 // The field at p, and the byte at e that ends it.

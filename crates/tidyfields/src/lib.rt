@@ -1,4 +1,4 @@
-// One field as `tidy` repairs it: where it ends, what is left of it when its ends and its quotes are off, and how many decimals it lacks.
+// One field as `tidy` repairs it: where it ends, what is left of it when its ends and its quotes are off, how many decimals it wants, and how many it lacks.
 ghost use mathlib.Core.Path.{_≡_};
 ghost use mathlib.Core.Bool.{false, _&&_};
 ghost use Prim.Native.Nat.{_+_, _≤_, _<_};
@@ -7,6 +7,7 @@ ghost use lib.ListN.{length, drop};
 ghost use Rattle.text.specs.Fields.{isDigit};
 ghost use Rattle.tidyrules.specs.Cut.{oneOf};
 ghost use Rattle.tidyrules.specs.Fields.{edge, unled, untrailed, trimmed, closes, quoted, digitsOnly, decimalsPast, decimalsOf, short, lacking, bared};
+ghost use Rattle.tidyrules.specs.Tidied.{wanted};
 ghost use Rattle.tidyfields.specs.Pieces.{leading, decimalsBehind};
 
 // Where the piece ends that begins at place `at`: at the first of two bytes, or at the text's end.
@@ -202,4 +203,23 @@ fn digits_only(f: &[u8], at: usize) -> bool
         i += 1;
     }
     true
+}
+
+// How many decimals field k wants: a power three, a factor five; index and R none.
+pub fn wanted(row: bool, k: usize) -> usize
+    ensures { λ r. ⌜ r ≡ wanted row k ⌝ }
+{
+    if !row {
+        return 0;
+    }
+    if k == 0 {
+        return 0;
+    }
+    if k == 5 {
+        return 0;
+    }
+    if k < 8 {
+        return 3;
+    }
+    5
 }

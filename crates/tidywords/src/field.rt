@@ -7,6 +7,7 @@ use tidyfields::bared;
 use tidyfields::lacking;
 use tidyfields::quoted;
 use tidyfields::trimmed;
+use tidyfields::wanted;
 
 // Where a field stands: its line and its number, each from 0; the letter of its line (C for a row of the planners' sheet, 0 for a line that is none of the table's);
 // whether the line is such a row; and whether the text has commas or quotes, so that points may part thousands.
@@ -39,7 +40,7 @@ pub fn tell(f: &[u8], last: bool, at: At, told: usize) -> usize {
     if quoted(t) {
         n = tell_change(at, words::QUOTES, n);
     }
-    let zeros = lacking(tidy::line::wanted(at.row, at.field), g);
+    let zeros = lacking(wanted(at.row, at.field), g);
     if 0 < zeros {
         n = tell_decimals(at, g, zeros, n);
     }
@@ -108,7 +109,7 @@ fn doubtful_figure(at: At, g: &[u8]) -> usize {
         return words::POINTS;
     }
     // Exactly three decimals: of four wanted one is lacking.
-    if at.doubt && tidy::line::wanted(at.row, at.field) == 3 && lacking(4, g) == 1 {
+    if at.doubt && wanted(at.row, at.field) == 3 && lacking(4, g) == 1 {
         return words::THOUSANDS;
     }
     0

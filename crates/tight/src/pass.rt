@@ -77,7 +77,7 @@ fn lower(f: u64, n: u64, most: u64, margin: u64, low: Kws) -> Kws
     ensures { λ r. ⌜ Lowered f n margin low r ⌝ }
 {
     let room = low.alone + most;
-    let taken = walk::tighten(f, margin, room);
+    let taken = caps::tighten(f, margin, room);
     if taken == room {
         return low;
     }

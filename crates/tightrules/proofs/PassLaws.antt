@@ -1,4 +1,4 @@
--- What the loops of tight::pass need: the largest so far, and the smallest that a walk over the rows has left; and what `measure` puts together. No contract cites this file.
+-- What the loops of src/pass.rt need: the largest so far, and the smallest that a walk over the rows has left; and what `measure` puts together. No contract cites this file.
 use mathlib.Core.Path.{_≡_, refl, sym, ap, ap₂, _∙_}
 use mathlib.Core.List.{List}
 use mathlib.Core.Logic.{⊎-elim}
@@ -13,8 +13,9 @@ use Rattle.limits.specs.Limits.{bordersMost}
 use Rattle.rounds.specs.Rounds.{Grid, sharers, alone, mostSharers, bits, aloneBits}
 use Rattle.rounds.proofs.LeastLaws.{least-le, least-some}
 use Rattle.rounds.proofs.Round.{alone-le}
-use Rattle.walk.specs.Walk.{First, tight}
-use Rattle.walk.proofs.TightLaws.{tight-le, tight-share, tight-over, tight-same, tight-less}
+use Rattle.caps.specs.Tight.{tight}
+use Rattle.walk.specs.Walk.{First}
+use Rattle.caps.proofs.TightLaws.{tight-le, tight-share, tight-over, tight-same, tight-less}
 use Rattle.tightrules.specs.declared.Kws.{Kws}
 use Rattle.tightrules.specs.declared.RoundsMost.{RoundsMost}
 use Rattle.tightrules.specs.Tight.{steps, rowReach, reach, farthest, tightBound}

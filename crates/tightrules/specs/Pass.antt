@@ -1,11 +1,11 @@
--- What the functions of tight::pass ask and leave, over a grid g and the margins m at the start: of a border, of all borders, and of a walk over the rows.
+-- What the functions of src/pass.rt ask and leave, over a grid g and the margins m at the start: of a border, of all borders, and of a walk over the rows.
 use mathlib.Core.Path.{_≡_}
 use mathlib.Core.List.{List}
 use Prim.Native.Nat.{ℕ, _+_, _-_, _^_, _<_, max}
 use lib.ListN.{length}
 use Rattle.numbers.specs.Below.{at, largest}
 use Rattle.rounds.specs.Rounds.{Grid, alone}
-use Rattle.walk.specs.Walk.{tight}
+use Rattle.caps.specs.Tight.{tight}
 use Rattle.tightrules.specs.declared.Kws.{Kws}
 use Rattle.tightrules.specs.Tight.{reach}
 

@@ -16,14 +16,15 @@ use Rattle.tablerules.specs.Good.{Good}
 use Rattle.lines.specs.declared.row.RowKind.{RowKind}
 use Rattle.lines.specs.declared.row.RowKind.the-variants as rowKind
 use Rattle.layout.specs.Layout.{rowsTextBy}
-use Rattle.sections.specs.Rows.{asGiven}
+use Rattle.rowlines.specs.Rows.{asGiven}
 use Rattle.reading.specs.Reading.{readText, readCorrected}
 use Rattle.reading.proofs.ReadLaws.{Opened, opened, reading, rows-held, read-good}
 use Rattle.reading.proofs.CorrectedLaws.{corrected-good, corrected-shaped}
 use Rattle.trips.proofs.OwnLines.{own-lines}
 use Rattle.rowsheet.specs.RowSheet.{sheetOf}
 use Rattle.rowsheet.proofs.JudgedLaws.{never-too-long}
-use Rattle.writing.specs.Writing.{tableText, rewriteCorrectedLeft}
+use Rattle.writing.specs.Writing.{tableText}
+use Rattle.rewriting.specs.Rewriting.{rewriteCorrectedLeft}
 use Rattle.trips.proofs.SectionTrip.{rows-section}
 use Rattle.trips.proofs.TableTrip.{rows-text, rows-good}
 use Rattle.trips.proofs.RoundTrip.{write-read}

@@ -33,8 +33,8 @@ use Rattle.lines.proofs.RowTrip.{textBy, RowHeld, RowHeldAt, row-written, row-o
 use Rattle.corrections.specs.Corrections.{pieces, sheetKind, indexPlace, Piece, piece, rowIn, ofRow, handedOn, handedBy, givenIndex, dueIndex, judgeFrom, judgeCorrections}
 use Rattle.corrections.proofs.PieceLaws.{pieces-at}
 use Rattle.corrections.proofs.SheetLaws.{row-index, due-own}
-use Rattle.sections.specs.Rows.{valuesOf, factorsOf, asGiven, pickedRow}
-use Rattle.sections.proofs.RowLaws.{emptyRow}
+use Rattle.rowlines.specs.Rows.{valuesOf, factorsOf, asGiven, pickedRow}
+use Rattle.rowlines.proofs.RowLaws.{emptyRow}
 use Rattle.reading.specs.Reading.{readText, readCorrected}
 use Rattle.reading.proofs.ReadLaws.{Opened, rows-held}
 use Rattle.reading.proofs.JudgedTextLaws.{with-read}

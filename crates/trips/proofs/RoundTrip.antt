@@ -16,7 +16,7 @@ use Rattle.text.proofs.LeftLaws.{text-left}
 use Rattle.tablerules.specs.Table.{Table, lent, front}
 use Rattle.tablerules.specs.Good.{Good, Shaped}
 use Rattle.tablerules.proofs.GoodLaws.{judged-good, over-judged}
-use Rattle.sections.specs.Rows.{asGiven}
+use Rattle.rowlines.specs.Rows.{asGiven}
 use Rattle.reading.specs.Reading.{readText, ReadLeft, readLeft}
 use Rattle.reading.proofs.ReadLaws.{opened, reading, read-good}
 use Rattle.reading.proofs.LeftLaws.{read-left, read-taken}

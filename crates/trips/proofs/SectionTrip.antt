@@ -11,12 +11,12 @@ use Rattle.sections.proofs.SectionLaws.{sectionText, allFit}
 use Rattle.sections.proofs.SectionRecords.{lines-section}
 use Rattle.tablerules.specs.Table.{Table, factorsAt, stretch}
 use Rattle.lines.specs.Lines.{RowLine}
-use Rattle.sections.specs.Rows.{valuesOf, factorsOf}
+use Rattle.rowlines.specs.Rows.{valuesOf, factorsOf}
 use Rattle.lines.specs.RowKinds.{rowTextBy}
 use Rattle.lines.specs.declared.row.RowKind.{RowKind}
 use Rattle.lines.specs.declared.row.RowKind.the-variants as rowKind
 use Rattle.lines.proofs.RowTrip.{textBy, RowHeldAt}
-use Rattle.sections.proofs.RowLaws.{emptyRow, values-long, values-at, stretch-of}
+use Rattle.rowlines.proofs.RowLaws.{emptyRow, values-long, values-at, stretch-of}
 use Rattle.layout.specs.Layout.{headerText, zoneText, allocatedText, borderText, rowText, rowTextIn, rowsTextBy}
 use Rattle.writing.specs.Writing.{tableText}
 

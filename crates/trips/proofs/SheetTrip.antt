@@ -31,8 +31,8 @@ use Rattle.tablerules.proofs.GoodLaws.{stretch-long}
 use Rattle.lines.specs.Lines.{RowLine}
 use Rattle.lines.specs.declared.row.RowKind.the-variants as rowKind
 use Rattle.lines.proofs.RowTrip.{textBy, RowHeld, RowHeldAt, row-read, row-written, row-one}
-use Rattle.sections.specs.Rows.{valuesOf, factorsOf, cut}
-use Rattle.sections.proofs.RowLaws.{emptyRow, values-at, cut-long, cut-values, cut-factors, cut-at}
+use Rattle.rowlines.specs.Rows.{valuesOf, factorsOf, cut}
+use Rattle.rowlines.proofs.RowLaws.{emptyRow, values-at, cut-long, cut-values, cut-factors, cut-at}
 use Rattle.lines.specs.SheetLine.{sheetLine}
 use Rattle.trips.proofs.SectionTrip.{rows-section}
 use Rattle.rowsheet.specs.RowSheet.{Rows, rowsOf, firstLineNo, sheetRows, readSheet, RowsLeft, readRowsLeft, sheetOf, rowsInRange, judgeRows, writeRowsLeft}

@@ -28,14 +28,14 @@ use Rattle.tablerules.specs.Good.{Good, Shaped}
 use Rattle.tablerules.proofs.GoodLaws.{good-row, row-fit, stretch-long}
 use Rattle.tablerules.proofs.JudgeLaws.{exact-factors}
 use Rattle.lines.specs.Lines.{RowLine, headerLine, zoneLine, allocatedLine, borderLine, rowLine}
-use Rattle.sections.specs.Rows.{valuesOf, factorsOf, asGiven, cut}
+use Rattle.rowlines.specs.Rows.{valuesOf, factorsOf, asGiven, cut}
 use Rattle.reading.specs.Reading.{intradayAt, allocatedFrom, linesBy, linesOf, readText}
 use Rattle.lines.proofs.HeaderTrip.{header-read, header-written, header-one}
 use Rattle.lines.proofs.ZoneTrip.{zone-read, zone-written, zone-one}
 use Rattle.lines.proofs.BorderTrip.{BorderHeld, border-read, border-written, border-one}
 use Rattle.lines.specs.declared.row.RowKind.the-variants as rowKind
 use Rattle.lines.proofs.RowTrip.{RowHeld, RowHeldAt, row-read, row-written, row-one}
-use Rattle.sections.proofs.RowLaws.{emptyRow, values-long, values-at, cut-long, cut-values, cut-factors, cut-at}
+use Rattle.rowlines.proofs.RowLaws.{emptyRow, values-long, values-at, cut-long, cut-values, cut-factors, cut-at}
 use Rattle.reading.proofs.ReadLaws.{Opened, nets-held, allocated-held, borders-held, rows-held}
 use Rattle.layout.specs.Layout.{headerText, zoneText, allocatedText, borderText}
 use Rattle.writing.specs.Writing.{tableText, rowsText}

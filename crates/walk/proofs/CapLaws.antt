@@ -16,8 +16,9 @@ use Rattle.rounds.specs.AllRounds.{Ready}
 use Rattle.rounds.proofs.LeastLaws.{least-some, least-one, least-mono, div-mono}
 use Rattle.rounds.proofs.Round.{raise-le, alone-le}
 use Rattle.rounds.proofs.Loops.{ready-at}
-use Rattle.walk.specs.Walk.{First, Cap, Caps, tight, tightened}
-use Rattle.walk.proofs.TightLaws.{tight-le, tight-share, tight-over}
+use Rattle.walk.specs.Walk.{First, Cap, Caps, tightened}
+use Rattle.caps.specs.Tight.{tight}
+use Rattle.caps.proofs.TightLaws.{tight-le, tight-share, tight-over}
 
 -- ---- row by row
 

@@ -1,4 +1,4 @@
 pub mod ListedLaws
-pub mod TightLaws
+pub mod LoweringLaws
 pub mod LoadLaws
 pub mod CapLaws

@@ -13,7 +13,7 @@ use Rattle.numbers.proofs.BelowLaws.{lt-suc-cases, le-or-lt, sum-part, Summed, 
 use Rattle.rounds.specs.Rounds.{Grid, sharers, load}
 use Rattle.walk.specs.Walk.{tightened, part, mostLoad, Loadable}
 use Rattle.walk.proofs.ListedLaws.{listed-has}
-use Rattle.walk.proofs.TightLaws.{tight-same}
+use Rattle.caps.proofs.TightLaws.{tight-same}
 
 -- ---- a row's parts
 

@@ -3,9 +3,10 @@
 -- Left to others: the raises themselves and what a round does (`Rounds.antt` of rounds), which rows are looked at in a round (resting), the loop of rounds (roundloop).
 use mathlib.Core.Path.{_≡_}
 use mathlib.Core.List.{List}
-use Prim.Native.Nat.{ℕ, _*_, _/_, _^_, _≤_, _<_, min}
+use Prim.Native.Nat.{ℕ, _*_, _^_, _≤_, _<_}
 use lib.ListN.{length}
-use Rattle.numbers.specs.Below.{at, ifZero, sum, largest}
+use Rattle.numbers.specs.Below.{at, sum, largest}
+use Rattle.caps.specs.Tight.{tight}
 use Rattle.rounds.specs.Rounds.{Grid, raise, alone, load}
 
 -- The first `live` of the list are borders, and they hold each border where v is above 0, once. Said by sums: what is 0 where v is 0 sums over
@@ -30,10 +31,6 @@ pub record Cap (g : Grid) (m : List ℕ) (b v : ℕ) : Type 0 where
 -- v caps the raise of every border
 abbrev pub Caps : Grid → (m v : List ℕ) → Type 0
 Caps g m v = (b : ℕ) → b < g .borders → Cap g m b (at v b)
-
--- a cap that a row with this equal share tightens, where the border's factor p is f; a factor of 0 does not change it
-unfoldable pub tight : (f share cap : ℕ) → ℕ
-tight f share cap = ifZero f cap (min cap (share / f))
 
 -- the cap of border b, tightened by row i
 unfoldable pub tightened : Grid → (i share : ℕ) (v : List ℕ) (b : ℕ) → ℕ

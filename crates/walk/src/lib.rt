@@ -8,13 +8,7 @@ ghost use lib.ListN.{length};
 ghost use Rattle.numbers.specs.Below.{table};
 ghost use Rattle.rounds.specs.Rounds.{sharers, raises, load};
 ghost use Rattle.rounds.specs.AllRounds.{flat, Ready};
-ghost use Rattle.walk.specs.Walk.{Listed, First, Caps, tight, tightened, mostLoad, Loadable};
-
-// Where a cap (kW) is below `CAP_BELOW` and a factor p below `FACTOR_BELOW`, their product is below 2^64 and can be computed.
-const CAP_BELOW: u64 = 1 << 44;
-
-// Hundred-thousandths. No table of 01 has so large a factor.
-const FACTOR_BELOW: u64 = 1 << 20;
+ghost use Rattle.walk.specs.Walk.{Listed, First, Caps, tightened, mostLoad, Loadable};
 
 // The list of all borders, and the raises of the first round.
 pub fn begin(
@@ -114,25 +108,8 @@ fn lower_caps(
         let b = rising[j];
         let f = grid::factor(rows, borders, p, i, b);
         let cap = caps[b];
-        caps[b] = tighten(f, share, cap);
+        caps[b] = caps::tighten(f, share, cap);
     }
-}
-
-// A border's cap, given a row's share and its factor `f` there. Tried by a product where that fits; divides only where the cap is too high.
-pub fn tighten(f: u64, share: u64, cap: u64) -> u64
-    ensures { λ r. ⌜ r ≡ tight f share cap ⌝ }
-{
-    if cap < CAP_BELOW && f < FACTOR_BELOW {
-        if cap * f <= share {
-            return cap;
-        }
-        return share / f;
-    }
-    if f == 0 {
-        return cap;
-    }
-    let allowed = share / f;
-    if allowed < cap { allowed } else { cap }
 }
 
 // What a row loses by the raises, and the most that one border would take of it by its cap. Grains.

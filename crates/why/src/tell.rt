@@ -74,12 +74,11 @@ fn explain_in(
     let to = end.x;
     holding::store_ends(&from[..borders], &to[..borders], ends);
     holding::store_holds(rows, borders, p, states, ns, margins, border, out);
-    let named = holding::holder(rows, borders, p, ns, margins, border);
-    let ended = holding::holder(rows, borders, p, ns, stood, border);
+    let held = holding::holders(rows, borders, p, ns, margins, stood, border);
     Reasons {
         rounds: end.rounds,
         last: lasts[border],
-        named: named,
-        ended: ended,
+        named: held.named,
+        ended: held.ended,
     }
 }

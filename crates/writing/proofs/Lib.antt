@@ -1,4 +1,3 @@
 pub mod LengthLaws
 pub mod LeftLaws
 pub mod TextLaws
-pub mod RewriteLaws

@@ -1,4 +1,4 @@
--- Writing the table (01, "The table as text"), and what the open calls `write` and `rewrite_corrected` leave.
+-- Writing the table (01, "The table as text"), and what the open call `write` leaves.
 use mathlib.Core.List.{List, [], _++_}
 use Prim.Native.Char.{code}
 use Prim.Native.Nat.{ℕ}
@@ -10,7 +10,6 @@ use Rattle.text.specs.Left.{TextLeft, textLeft}
 use Rattle.text.specs.Written.{linesText}
 use Rattle.tablerules.specs.Table.{Table, factorsAt, judgeLent}
 use Rattle.lines.specs.declared.row.RowKind.the-variants as rowKind
-use Rattle.reading.specs.Reading.{readCorrected}
 use Rattle.layout.specs.Layout.{headerText, positionText, zoneText, allocatedText, borderText, rowText, rowTextIn, rowsTextBy}
 
 unfoldable pub tableText : Table → List ℕ
@@ -24,10 +23,6 @@ tableText t =
 -- the open call `write`
 unfoldable pub writeLeft : (lent : Table) → (out : List ℕ) → TextLeft
 writeLeft lent out = textLeft (then (judgeLent lent) (λ t. passed (tableText t))) out
-
--- the open call `rewrite_corrected` (02, E2): the merged table's text
-unfoldable pub rewriteCorrectedLeft : (text sheet out : List ℕ) → TextLeft
-rewriteCorrectedLeft text sheet out = textLeft (then (readCorrected text sheet) (λ t. passed (tableText t))) out
 
 -- one line of each kind, by the lent records
 abbrev pub positionTextAt : (letter : ℕ) → (nets : List ℤ) → (i : ℕ) → List ℕ

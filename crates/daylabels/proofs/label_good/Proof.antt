@@ -2,7 +2,7 @@
 use mathlib.Core.Path.{sym, _∙_}
 use native.Mathlib.Omega.{arith}
 use borrow.Author.Tests.{not-true, not-false}
-use Rattle.daylabels.proofs.LabelLaws.{name-input, name-unfit, name-long, name-good}
+use Rattle.labels.proofs.LabelLaws.{name-input, name-unfit, name-long, name-good}
 use borrow.Author.Needs.{needs}
 use Rattle.daylabels.proofs.label_good.Statement.{statement}
 use Rattle.daylabels.proofs.label_good.Tie as tie

@@ -1,7 +1,7 @@
 -- `resting::near_row` meets its contract: the two cases of `nearRow`.
 use mathlib.Core.Path.{sym}
 use native.Mathlib.Omega.{arith}
-use Rattle.resting.proofs.SortLaws.{near-listed, near-past}
+use Rattle.resting.proofs.WatchLaws.{near-listed, near-past}
 use Rattle.resting.proofs.near_row.Statement.{statement}
 use Rattle.resting.proofs.near_row.Tie as tie
 

@@ -2,7 +2,7 @@
 use Prim.Native.Nat.{_-_}
 use native.Mathlib.Omega.{arith}
 use Rattle.rounds.specs.AllRounds.{flat}
-use Rattle.walk.proofs.TightLaws.{Lowering, lowering-none, lowering-here, lowering-more, lowering-all}
+use Rattle.walk.proofs.LoweringLaws.{Lowering, lowering-none, lowering-here, lowering-more, lowering-all}
 use Rattle.walk.proofs.lower_caps.Statement.{statement}
 use Rattle.walk.proofs.lower_caps.Tie as tie
 

@@ -5,7 +5,7 @@ use borrow.Author.Needs.{needs}
 use lib.ListN.{length}
 use Rattle.numbers.proofs.IntLaws.{plain}
 use Rattle.staterules.specs.Standings.{standingsWith}
-use Rattle.claimtext.specs.Unflagged.{unflagged}
+use Rattle.claims.specs.Unflagged.{unflagged}
 use Rattle.claimtext.proofs.PublishedLaws.{published-here, published-not}
 use Rattle.claimtext.proofs.published.line_length.Statement.{statement}
 use Rattle.claimtext.proofs.published.line_length.Tie as tie

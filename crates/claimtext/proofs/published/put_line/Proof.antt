@@ -11,7 +11,7 @@ use Rattle.text.proofs.PutLaws.{put-none}
 use Rattle.staterules.specs.Standings.{standingsWith}
 use Rattle.types.specs.Ranges.{atℤ}
 use Rattle.claimtext.specs.Published.{rowLine, publishedLine}
-use Rattle.claimtext.specs.Unflagged.{unflagged}
+use Rattle.claims.specs.Unflagged.{unflagged}
 use Rattle.claimtext.proofs.PublishedLaws.{published-here, published-not}
 use Rattle.claimtext.proofs.published.put_line.Statement.{statement}
 use Rattle.claimtext.proofs.published.put_line.Tie as tie

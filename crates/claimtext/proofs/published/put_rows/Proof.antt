@@ -9,7 +9,7 @@ use Rattle.text.specs.Written.{linesText}
 use Rattle.text.proofs.PutLaws.{lines-none, lines-more, lines-all, lines-room, put-kept}
 use Rattle.staterules.specs.Standings.{standingsWith}
 use Rattle.claimtext.specs.Published.{publishedLine, publishedText}
-use Rattle.claimtext.specs.Unflagged.{unflagged}
+use Rattle.claims.specs.Unflagged.{unflagged}
 use Rattle.claimtext.proofs.published.put_rows.Statement.{statement}
 use Rattle.claimtext.proofs.published.put_rows.Tie as tie
 

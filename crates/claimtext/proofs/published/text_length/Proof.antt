@@ -6,7 +6,7 @@ use lib.ListN.{length}
 use Rattle.text.proofs.MeasureLaws.{Measured, measured-none, measured-more, measured-all}
 use Rattle.staterules.specs.Standings.{standingsWith}
 use Rattle.claimtext.specs.Published.{lineMost, publishedLine, publishedText}
-use Rattle.claimtext.specs.Unflagged.{unflagged}
+use Rattle.claims.specs.Unflagged.{unflagged}
 use Rattle.claimtext.proofs.published.text_length.Statement.{statement}
 use Rattle.claimtext.proofs.published.text_length.Tie as tie
 

@@ -9,7 +9,7 @@ use Rattle.refusals.specs.Refusals.{refused, wrongForm}
 use Rattle.types.proofs.RangeLaws.{header-in, allocated-most}
 use Rattle.corrections.specs.Corrections.{judgeCorrections}
 use Rattle.sections.specs.declared.End.{End}
-use Rattle.sections.specs.Rows.{cut}
+use Rattle.rowlines.specs.Rows.{cut}
 use Rattle.sections.specs.Stored.{storedSection}
 use Rattle.tablerules.specs.Table.{zoneLineNo}
 use Rattle.tablerules.proofs.RoomLaws.{factors-most}

@@ -13,9 +13,9 @@ use Rattle.sections.specs.declared.End.{End}
 use Rattle.lines.specs.SheetLine.{sheetLine}
 use Rattle.lines.specs.declared.row.RowKind.the-variants as rowKind
 use Rattle.sections.specs.Section.{linesAt}
-use Rattle.sections.specs.Rows.{cut}
+use Rattle.rowlines.specs.Rows.{cut}
 use Rattle.sections.specs.Stored.{storedSection}
-use Rattle.sections.proofs.RowLaws.{own-section}
+use Rattle.rowlines.proofs.RowLaws.{own-section}
 use Rattle.tablerules.proofs.RoomLaws.{factors-most}
 use Rattle.rowsheet.specs.RowSheet.{firstLineNo, linesIn}
 use Rattle.rowsheet.proofs.SheetLaws.{sheet-long, sheet-header, sheet-fault, sheet-more, sheet-good}

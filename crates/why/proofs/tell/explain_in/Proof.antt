@@ -1,8 +1,8 @@
 -- `why::tell::explain_in` meets its contract: the rounds run, and what they leave is told (`told-is`).
 use mathlib.Core.Path.{sym, _∙_}
 use native.Mathlib.Omega.{arith}
-use borrow.Author.Needs.{needs, sfits-of}
-use mir.Facts.{toZ-ofZ}
+use borrow.Author.Needs.{needs}
+use Rattle.numbers.proofs.IntLaws.{plain}
 use Rattle.types.proofs.RangeLaws.{header-in}
 use Rattle.holding.proofs.HoldLaws.{work-ready}
 use Rattle.why.proofs.TellLaws.{told-startable, front-long, to-long, to-within, counts-long, lasts-long, stood-long, ends-fit, holds-fit, told-is}
@@ -57,36 +57,25 @@ store-holds-requires c κs =
     let long = at-work .work .kept .1 .1 .1 .1 .1 .1 .1 .0 ∙ q .0 .margins-long in
     ((omega (arith, q .0 .p-long), q .1 .0 .1, q .1 .1 .1 .1), ((q .1 .0 .0, counts-long (q .0) x w long, long), holds-fit (q .0) x w long))
 
-holder-requires : tie.Need-holder-requires
-holder-requires c κs =
-    let at-work = c .before .before .before .before .before .before .before .before .before .before .before .before .before .before .before .before .before .before .before .before .before in
+holders-requires : tie.Need-holders-requires
+holders-requires c κs =
+    let at-work = c .before .before .before .before .before .before .before .before .before .before .before .before .before .before .before .before .before .before .before .before .before .before in
     let at-exchanges = at-work .before .before .before .before .before in
     let entry = at-exchanges .before .before .before .before .before .before .before in
     let q = entry .pre in
     let x = at-exchanges .exchanges .ensures in
     let w = at-work .work .ensures in
     let long = at-work .work .kept .1 .1 .1 .1 .1 .1 .1 .0 ∙ q .0 .margins-long in
-    ((omega (arith, q .0 .p-long), q .1 .0 .1, omega (arith, header-in _ (q .0 .header) .rows-most)), work-ready (told-startable (q .0) x) (w .counts) long)
+    ((omega (arith, q .0 .p-long), q .1 .0 .1, omega (arith, header-in _ (q .0 .header) .rows-most)), (work-ready (told-startable (q .0) x) (w .counts) long, work-ready (told-startable (q .0) x) (w .counts) (stood-long (q .0) x w long)))
 
-holder-requires-2 : tie.Need-holder-requires-2
-holder-requires-2 c κs =
-    let at-work = c .before .before .before .before .before .before .before .before .before .before .before .before .before .before .before .before .before .before .before .before .before .before .before .before in
-    let at-exchanges = at-work .before .before .before .before .before in
-    let entry = at-exchanges .before .before .before .before .before .before .before in
-    let q = entry .pre in
-    let x = at-exchanges .exchanges .ensures in
-    let w = at-work .work .ensures in
-    let long = at-work .work .kept .1 .1 .1 .1 .1 .1 .1 .0 ∙ q .0 .margins-long in
-    ((omega (arith, q .0 .p-long), omega (arith, q .1 .0 .1), omega (arith, header-in _ (q .0 .header) .rows-most)), work-ready (told-startable (q .0) x) (w .counts) (stood-long (q .0) x w long))
-
-mul-t49 : tie.Need-mul-t49
-mul-t49 c =
-    let entry = c .before .before .before .before .before .before .before .before .before .before .before .before .before .before .before .before .before .before .before .before .before .before .before .before .before .before .before .before .before .before .before .before .before .before .before .before .before in
+mul-t46 : tie.Need-mul-t46
+mul-t46 c =
+    let entry = c .before .before .before .before .before .before .before .before .before .before .before .before .before .before .before .before .before .before .before .before .before .before .before .before .before .before .before .before .before .before .before .before .before .before .before in
     omega (arith, entry .pre .1 .0 .1, header-in _ (entry .pre .0 .header) .borders-most)
 
-slice-read-t51 : tie.Need-slice-read-t51
-slice-read-t51 c =
-    let at-work = c .before .before .before .before .before .before .before .before .before .before .before .before .before .before .before .before .before .before .before .before .before .before .before .before .before .before in
+slice-read-t48 : tie.Need-slice-read-t48
+slice-read-t48 c =
+    let at-work = c .before .before .before .before .before .before .before .before .before .before .before .before .before .before .before .before .before .before .before .before .before .before .before .before in
     let at-exchanges = at-work .before .before .before .before .before in
     let entry = at-exchanges .before .before .before .before .before .before .before in
     let q = entry .pre in
@@ -94,8 +83,8 @@ slice-read-t51 c =
 
 returns : tie.Need-returns
 returns c =
-    let at-holder = c .before .before .before .before in
-    let at-store-holds = at-holder .before .before .before .before in
+    let at-holders = c .before .before in
+    let at-store-holds = at-holders .before .before .before .before .before in
     let at-store-ends = at-store-holds .before .before .before .before .before in
     let at-work = at-store-ends .before .before .before .before .before .before .before .before .before .before .before .before .before in
     let at-exchanges = at-work .before .before .before .before .before in
@@ -104,9 +93,10 @@ returns c =
     let x = at-exchanges .exchanges .ensures in
     let w = at-work .work .ensures in
     let long = at-work .work .kept .1 .1 .1 .1 .1 .1 .1 .0 ∙ q .0 .margins-long in
-    told-is (q .0) x w long (q .1 .0 .1) _ _ _ (toZ-ofZ (sfits-of (at-holder .holder .ok)) ∙ at-holder .holder .ensures) (toZ-ofZ (sfits-of (c .before .holder2 .ok)) ∙ c .before .holder2 .ensures) (at-store-ends .store-ends .ensures) (at-store-holds .store-holds .ensures)
+    let held = at-holders .holders .ensures in
+    told-is (q .0) x w long (q .1 .0 .1) _ _ _ (plain _ (c .struct-told .given .0 .1) ∙ held .0) (plain _ (c .struct-told .given .1 .0 .1) ∙ held .1) (at-store-ends .store-ends .ensures) (at-store-holds .store-holds .ensures)
 
 pub explain-in-spec : {M : Type 1} → statement M
 explain-in-spec = tie.close (tie.spec (λ c κs. search needs) work-requires (λ c. search needs) slice-aggregate-store-ends array-share-prefix-to
-    slice-aggregate-store-ends-2 store-ends-requires store-holds-requires holder-requires holder-requires-2 mul-t49 slice-read-t51 (λ c. search needs)
+    slice-aggregate-store-ends-2 store-ends-requires store-holds-requires holders-requires mul-t46 slice-read-t48 (λ c. search needs)
     (λ c. search needs) (λ c. search needs) (λ c. search needs) (λ c. search needs) (λ c. search needs) returns)

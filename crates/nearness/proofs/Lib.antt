@@ -1,0 +1,3 @@
+pub mod RaiseLaws
+pub mod YieldLaws
+pub mod SortLaws
