@@ -120,8 +120,8 @@ pub fn answer_corrected<'a>(text: &'a [u8], sheet: &'a [u8], out: &mut [u8]) -> 
     answer_with(text, sheet, true, &marks, out)
 }
 
-// The general call: with a correction sheet, which may be empty; every border, or the marked ones.
-fn answer_with<'a>(
+// The general call: with a correction sheet, which may be empty; every border, or the marked ones. It says besides how many bytes it asks for at most.
+pub fn answer_with<'a>(
     text: &'a [u8],
     sheet: &'a [u8],
     all: bool,
@@ -129,7 +129,7 @@ fn answer_with<'a>(
     out: &mut [u8],
 ) -> Answered
     ensures { λ r. ⌜ textSaid (r .written) (now (out .exit)) ≡ answerWithLeft all (now (marks .entry)) (now (text .entry)) (now (sheet .entry)) (now (out .entry)) ⌝ }
-    ensures { λ r. ⌜ r .told ≡ toldWith all (now (marks .entry)) (now (text .entry)) (now (sheet .entry)) ⌝ }
+    ensures { λ r. ⌜ (bytesAsked (r .written) ≤ answerMost) × (r .told ≡ toldWith all (now (marks .entry)) (now (text .entry)) (now (sheet .entry))) ⌝ }
 {
     let mut z: [i64; limits::ZONES_MOST] = [0; limits::ZONES_MOST];
     let mut t: [i64; limits::ZONES_MOST] = [0; limits::ZONES_MOST];
@@ -166,7 +166,7 @@ fn answer_in<'a>(
 ) -> Answered
     requires { ⌜ (zonesMost ≤ length (now z)) × (zonesMost ≤ length (now t)) × (bordersMost ≤ length (now b)) × (rowsMost ≤ length (now c)) × (rowsMost * zonesMost ≤ length (now f)) ⌝ }
     ensures { λ r. ⌜ textSaid (r .written) (now (out .exit)) ≡ answerWithLeft all (now (marks .entry)) (now (text .entry)) (now (sheet .entry)) (now (out .entry)) ⌝ }
-    ensures { λ r. ⌜ r .told ≡ toldWith all (now (marks .entry)) (now (text .entry)) (now (sheet .entry)) ⌝ }
+    ensures { λ r. ⌜ (bytesAsked (r .written) ≤ answerMost) × (r .told ≡ toldWith all (now (marks .entry)) (now (text .entry)) (now (sheet .entry))) ⌝ }
 {
     match reading::read_into(text, sheet, z, t, b, c, f) {
         TableRead::Table(h) => answer_told(h, z, t, b, c, f, all, marks, true, out),

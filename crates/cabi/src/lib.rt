@@ -32,14 +32,14 @@ use coded::KeravnothFlows;
 use coded::KeravnothJudged;
 use coded::KeravnothRead;
 use coded::KeravnothWritten;
+use holding::EndRecord;
+use holding::HoldRecord;
 use outcome::AtcRecord;
 use outcome::LeftRecord;
 use partrules::PartsRecord;
 use types::BorderRecord;
 use types::Header;
 use types::RowRecord;
-use why::EndRecord;
-use why::HoldRecord;
 
 // The interface's version.
 #[no_mangle]

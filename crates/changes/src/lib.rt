@@ -7,7 +7,6 @@ use command::input;
 use command::options;
 use command::options::Command;
 use output::Ended;
-use refusals::Refusal;
 use refusals::Written;
 
 // The tables that two arguments name; where the second is not there, the first as it is corrected.
@@ -75,6 +74,7 @@ fn obey_in(
     )
 }
 
+// Apart, since a part of a slice cannot be lent twice in one call.
 fn compare_corrected<'a>(table: &'a [u8], sheet: &'a [u8]) -> Ended {
     compare(b"", b"", table, table, sheet)
 }
@@ -82,7 +82,7 @@ fn compare_corrected<'a>(table: &'a [u8], sheet: &'a [u8]) -> Ended {
 // Room for a table that is written again.
 const ROOM: usize = text::BYTES_MOST;
 
-// The first table stands as it would be written, where it is good.
+// The first table stands as it would be written, where it is good. Of which table a refusal is said where two are named.
 fn compare<'a>(
     first: &[u8],
     second: &[u8],
@@ -93,7 +93,7 @@ fn compare<'a>(
     let mut out = [0u8; ROOM];
     match rewriting::rewrite_corrected(before, b"", &mut out) {
         Written::Bytes(_) => compare_good(second, before, after, sheet),
-        Written::Refused(w) => refused(first, w, before, b""),
+        Written::Refused(w) => telling::refuse(first, w, before, b""),
     }
 }
 
@@ -103,28 +103,8 @@ fn compare_good<'a>(second: &[u8], before: &[u8], after: &'a [u8], sheet: &'a [u
     match rewriting::rewrite_corrected(after, sheet, &mut out) {
         Written::Bytes(k) => {
             let m = output::cut(k, &out);
-            told(fields::print(before, &out[..m]))
+            telling::told(fields::print(before, &out[..m]), Ended::Answered)
         }
-        Written::Refused(w) => refused(second, w, after, sheet),
+        Written::Refused(w) => telling::refuse(second, w, after, sheet),
     }
 }
-
-fn told(all: bool) -> Ended {
-    if all {
-        return Ended::Answered;
-    }
-    telling::unwritten();
-    Ended::Failed
-}
-
-// The E line, and what it means: of which table is said where two are named.
-fn refused<'a>(of: &[u8], w: Refusal, table: &'a [u8], sheet: &'a [u8]) -> Ended {
-    let mut out = [0u8; LINE_ROOM];
-    let n = output::refusal_line(w, &mut out);
-    let ended = output::put(&out[..n]);
-    telling::explain(of, false, ended, table, sheet, b"");
-    ended
-}
-
-// Room for an E line.
-const LINE_ROOM: usize = 64;

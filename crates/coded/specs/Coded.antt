@@ -21,7 +21,7 @@ use Rattle.tightrules.specs.declared.RoundsMost.{RoundsMost}
 use Rattle.partrules.specs.Parts.{MarginsLeft}
 use Rattle.coded.specs.declared.KeravnothJudged.{KeravnothJudged}
 use Rattle.coded.specs.declared.KeravnothBounded.{KeravnothBounded}
-use Rattle.why.specs.declared.Reasons.{Reasons}
+use Rattle.holding.specs.declared.Reasons.{Reasons}
 use Rattle.why.specs.Why.{WhyLeft}
 use Rattle.coded.specs.declared.KeravnothExplained.{KeravnothExplained}
 

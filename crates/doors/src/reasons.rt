@@ -2,14 +2,14 @@
 ghost use mathlib.Core.Path.{_≡_};
 ghost use Rattle.tablerules.specs.Table.{lent};
 ghost use Rattle.why.specs.Why.{saidExplained, leaves, whyFor, whyLeft, whyMarkedLeft};
+use holding::EndRecord;
+use holding::HoldRecord;
 use refusals::Judgement;
 use tablerules::Room;
 use types::BorderRecord;
 use types::Header;
 use types::RowRecord;
-use why::EndRecord;
 use why::Explained;
-use why::HoldRecord;
 
 // Why a border of a lent table got no more, and p of each row at each border. Any input has an answer; where that is a refusal, nothing is written.
 pub fn why(

@@ -1,14 +1,12 @@
 // The program of the further words, which need more than an answer. Why a border got no more, what differs between two tables, a text repaired, a page, a day.
 // The program that answers (crate keravnoth) understands the arguments and hands these words on, with all arguments as they were given.
-use arguments::Piece;
-use arguments::whole;
 use command::asked;
 use command::asked::Asked;
 use command::input;
 use command::options;
 use command::options::Command;
 use output::Ended;
-use reasons::Reasoned;
+use pageform::Figures;
 
 fn main() {
     let command = options::read_arguments();
@@ -21,65 +19,63 @@ fn obey(command: Command) -> u8 {
         return telling::digit(Ended::Failed);
     }
     match asked::understand(command.plain) {
-        Asked::Why(border, table) => telling::digit(obey_read(border, false, table, command)),
-        Asked::Page(table) => telling::digit(obey_read(0, true, table, command)),
+        Asked::Why(border, table) => telling::digit(obey_read(Of::Border(border), table, command)),
+        Asked::Page(table) => telling::digit(obey_read(Of::Table, table, command)),
         Asked::Changes(old, new) => telling::digit(changes::obey(old, new, command)),
-        Asked::Tidy(at) => telling::digit(obey_tidy(at, command)),
+        Asked::Tidy(at) => telling::digit(tidywords::obey(at, command)),
         Asked::Day => telling::digit(obey_day(command)),
         _ => telling::elsewhere(command),
     }
 }
 
-// A day in the form that is asked for: as a page, as a sheet, or as lines.
 fn obey_day(command: Command) -> Ended {
+    if !daylabels::judged(command) {
+        return Ended::Failed;
+    }
+    let listed = arguments::list(command.marks);
+    let m = listed.count;
+    let marks = listed.numbers;
+    print_day(command, &marks[..m])
+}
+
+// In the form that is asked for: as a page, as a sheet, or as lines.
+fn print_day(command: Command, marks: &[u64]) -> Ended {
     if command.page.at > 0 {
-        return pageday::print(command);
+        return draw_day(command, marks);
     }
     if command.sheet.at > 0 {
-        return hoursheet::print(command);
+        return hoursheet::print(command, marks);
     }
-    hours::print(command)
+    hours::print(command, marks)
 }
 
-// The text that an argument names: no table has to stand there.
-fn obey_tidy(at: usize, command: Command) -> Ended {
-    if !options::only(command, false, false, false) || !options::can_read(command, 0, at) {
+// The page of a day: its front, and from the records of the hours their parts.
+fn draw_day(command: Command, marks: &[u64]) -> Ended {
+    let mut day: [Figures; daysheet::HOURS_MOST] = [pagefacts::blank(); daysheet::HOURS_MOST];
+    let n = dayfront::print(command, marks, &mut day);
+    if n == 0 {
         return Ended::Failed;
     }
-    let mut text = input::room();
-    tidy(at, &mut text)
+    dayparts::print(command.marks.at == 0, marks, &day[..n])
 }
 
-fn tidy(at: usize, text: &mut [u8]) -> Ended {
-    let read = input::table(at, text);
-    if read.failed {
-        return Ended::Failed;
-    }
-    let n = read.count;
-    let ended = tidywords::print(&text[..n]);
-    telling::explain(b"", false, ended, &text[..n], b"", b"");
-    ended
+// What a table is read for, as a sheet corrects it: why a border of it got no more, or its page.
+enum Of {
+    Border(u64),
+    Table,
 }
 
-// A table as a sheet corrects it: why a border of it got no more, or its page.
-fn obey_read(border: u64, page: bool, at: usize, command: Command) -> Ended {
+fn obey_read(of: Of, at: usize, command: Command) -> Ended {
     if !options::only(command, true, true, false) || !options::can_read(command, 0, at) {
         return Ended::Failed;
     }
     let mut sheet = input::room();
     let mut table = input::room();
-    read_both(border, page, at, command, &mut sheet, &mut table)
+    read_both(of, at, command, &mut sheet, &mut table)
 }
 
-// The corrections, and then the table.
-fn read_both(
-    border: u64,
-    page: bool,
-    at: usize,
-    command: Command,
-    sheet: &mut [u8],
-    table: &mut [u8],
-) -> Ended {
+// The corrections, and then the table. The label of a page is the one that is given, or the table's name.
+fn read_both(of: Of, at: usize, command: Command, sheet: &mut [u8], table: &mut [u8]) -> Ended {
     let corrections = input::named(command.corrections, sheet);
     if corrections.failed {
         return Ended::Failed;
@@ -90,28 +86,8 @@ fn read_both(
     }
     let k = corrections.count;
     let n = read.count;
-    if page {
-        return draw(command.label, at, command.marks, &table[..n], &sheet[..k]);
-    }
-    reason(border, command.marks, &table[..n], &sheet[..k])
-}
-
-// The page. Its label is the one that is given, or the table's name.
-fn draw<'a>(label: Piece, at: usize, marks: Piece, table: &'a [u8], sheet: &'a [u8]) -> Ended {
-    let ended = page::word::print(label, at, marks, table, sheet);
-    telling::explain(b"", false, ended, table, sheet, b"");
-    ended
-}
-
-fn reason<'a>(border: u64, marks: Piece, table: &'a [u8], sheet: &'a [u8]) -> Ended {
-    match reasons::print(border, marks, table, sheet) {
-        Reasoned::Printed(ended) => {
-            telling::explain(b"", false, ended, table, sheet, b"");
-            ended
-        }
-        Reasoned::NoBorder(borders) => {
-            messages::no_border(border, borders);
-            Ended::Failed
-        }
+    match of {
+        Of::Border(border) => whytext::print(border, command.marks, &table[..n], &sheet[..k]),
+        Of::Table => page::word::print(command.label, at, command.marks, &table[..n], &sheet[..k]),
     }
 }

@@ -24,6 +24,15 @@ pub const HOLD_ITEMS: usize = 3;
 // A row's record: n, the marked borders that share it; its margin left, grains; what its equal share would still allow the border in one round, kW.
 pub type HoldRecord = [i64; HOLD_ITEMS];
 
+// A border's reasons: how many rounds there were, the last that raised it (0 if none did), the row that the result names for it, and the row that ended its rise; `DASH` where
+// no row did.
+pub struct Reasons {
+    pub rounds: u64,
+    pub last: u64,
+    pub named: i64,
+    pub ended: i64,
+}
+
 // The first row whose equal share of these margins is less than p of border `b`, which is what one kW takes of it; or `DASH`.
 fn holder(rows: usize, borders: usize, p: &[u64], ns: &[u64], margins: &[u64], b: usize) -> i64
     requires { ⌜ (rows * borders ≤ length (now p)) × (b < borders) × (rows < 2 ^ 63) ⌝ }

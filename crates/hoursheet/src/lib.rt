@@ -19,18 +19,8 @@ use output::Ended;
 
 const ITEMS: usize = daysheet::HOURS_MOST * limits::BORDERS_MOST;
 
-pub fn print(command: Command) -> Ended {
-    if !daylabels::judged(command) {
-        return Ended::Failed;
-    }
-    print_judged(command)
-}
-
-// The tables are made here, and not where goals would spell them out.
-fn print_judged(command: Command) -> Ended {
-    let listed = arguments::list(command.marks);
-    let m = listed.count;
-    let marks = listed.numbers;
+// Prints the sheet of the files that the command names. The tables are made here, and not where goals would spell them out.
+pub fn print(command: Command, marks: &[u64]) -> Ended {
     let mut name = arguments::room();
     let mut text = input::room();
     let mut hours: [HourRecord; daysheet::HOURS_MOST] = [[0; 4]; daysheet::HOURS_MOST];
@@ -38,7 +28,7 @@ fn print_judged(command: Command) -> Ended {
     let mut atcs: [u64; ITEMS] = [0; ITEMS];
     print_in(
         command,
-        &marks[..m],
+        marks,
         &mut name,
         &mut text,
         &mut hours,
@@ -135,7 +125,8 @@ fn keep_hour(
 {
     let hour = hourtables::keep(all, marks, text, k, ways, atcs);
     if hour[0] == daysheet::REFUSED {
-        telling::table_refused(label::label_of(name), hour[1], hour[2], hour[3], text);
+        let ended = Ended::Refused(hour[1], hour[2], hour[3]);
+        telling::explain(label::label_of(name), ended, text, b"");
     }
     hour
 }

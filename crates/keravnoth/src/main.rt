@@ -17,6 +17,7 @@ use command::options::Command;
 use messages::usage;
 use output::Ended;
 use printing::tasks;
+use refusals::Written;
 
 fn main() {
     let command = options::read_arguments();
@@ -45,17 +46,9 @@ fn about(command: Command, version: bool) -> Ended {
         return Ended::Failed;
     }
     if version {
-        return written(usage::version(command.proved));
+        return telling::told(usage::version(command.proved), Ended::Answered);
     }
-    written(usage::usage())
-}
-
-fn written(all: bool) -> Ended {
-    if all {
-        return Ended::Answered;
-    }
-    telling::unwritten();
-    Ended::Failed
+    telling::told(usage::usage(), Ended::Answered)
 }
 
 fn obey_task(task: Task, names: Names, command: Command) -> Ended {
@@ -121,9 +114,22 @@ fn answer<'a>(
     marks: Piece,
     table: &'a [u8],
     sheet: &'a [u8],
-    file: &[u8],
+    file: &'a [u8],
 ) -> Ended {
     let ended = tasks::print(task, marks, table, sheet, file);
-    telling::explain(b"", with_file, ended, table, sheet, file);
+    let of_file = with_file && blames_file(ended, table, sheet);
+    telling::explain_with(b"", of_file, ended, table, sheet, file);
     ended
+}
+
+// Whether a refusal is about the file after the word. The E line does not say so: it is where the table itself is good, as the sheet corrects it.
+fn blames_file<'a>(ended: Ended, table: &'a [u8], sheet: &'a [u8]) -> bool {
+    let Ended::Refused(_, _, _) = ended else {
+        return false;
+    };
+    let mut out = input::room();
+    match rewriting::rewrite_corrected(table, sheet, &mut out) {
+        Written::Bytes(_) => true,
+        Written::Refused(_) => false,
+    }
 }

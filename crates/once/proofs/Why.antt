@@ -10,7 +10,7 @@ use denote.Triple.Clauses.{AtExit}
 use borrow.Fn.World.{ArgsD, ResD}
 use borrow.Fn.Kinds.{endedOf}
 use Rattle.refusals.specs.Refusals.{Judged, passed, refused}
-use Rattle.why.specs.declared.Reasons.{Reasons}
+use Rattle.holding.specs.declared.Reasons.{Reasons}
 use Rattle.why.specs.declared.Explained.{Explained}
 use Rattle.why.specs.declared.Explained.the-variants as explained
 use Rattle.why.specs.Why.{saidExplained, WhyLeft, leaves}

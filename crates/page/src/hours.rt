@@ -134,7 +134,7 @@ fn measure(
     requires { ⌜ Good (front (lent h (now z) (now t) (now b) (now c) (now f))) ⌝ }
 {
     let r = hour::headed(first_of(records), h, all);
-    let seen = pagesurvey::survey(all, marks, h, z, t, b, c, f, records, whys);
+    let seen = pagelook::survey(all, marks, h, z, t, b, c, f, records, whys);
     match bound::bound_good(h, z, t, b, c, f, all, marks) {
         Bounded::Rounds(most) => hour::bounded(r, seen.rounds, most, seen.at),
         Bounded::Refused(w) => hour::refused(r, w),

@@ -1,4 +1,4 @@
-// The word `page`: the page of the texts that were read.
+// The word `page`: the page of the texts that were read, and what people are told of it.
 ghost use Rattle.io.specs.Counts.{Counts};
 use arguments::Piece;
 use arguments::whole;
@@ -13,13 +13,15 @@ pub fn print<'a>(label: Piece, name: usize, list: Piece, text: &'a [u8], sheet: 
     let given = label_of(label, name);
     let mut own = arguments::room();
     let l = read_label(given.at, &mut own);
-    crate::print(
+    let ended = crate::print(
         shortened(label.at > 0, arguments::tail(&own[..l], given.from)),
         list.at == 0,
         &marks[..m],
         text,
         sheet,
-    )
+    );
+    telling::explain(b"", ended, text, sheet);
+    ended
 }
 
 fn label_of(label: Piece, name: usize) -> Piece {

@@ -1,11 +1,11 @@
 // A border's record.
 use crate::one_if;
 use forms::signed;
+use holding::EndRecord;
+use holding::Reasons;
 use pageform::Figures;
 use text::put::magnitude;
 use types::BorderRecord;
-use why::EndRecord;
-use why::Reasons;
 
 // a
 pub const INDEX: usize = 0;
@@ -82,13 +82,7 @@ pub fn placed(mut r: Figures, index: usize, raw: BorderRecord) -> Figures {
 }
 
 // Its rise, from kW, and the rows that stopped it.
-pub fn risen(
-    mut r: Figures,
-    end: EndRecord,
-    reasons: Reasons,
-    others: usize,
-    other: usize,
-) -> Figures {
+pub fn risen(mut r: Figures, end: EndRecord, reasons: Reasons, others: u64, other: u64) -> Figures {
     let from = end[0];
     let to = end[1];
     let start = magnitude(from) / KW;
@@ -103,7 +97,7 @@ pub fn risen(
     r[NAMED] = named;
     r[ENDED] = ended;
     r[SOONER] = one_if(named < ended);
-    r[OTHERS] = others as u64;
-    r[OTHER] = other as u64;
+    r[OTHERS] = others;
+    r[OTHER] = other;
     r
 }

@@ -1,6 +1,7 @@
 // A row's record. Powers in grains.
 use crate::one_if;
 use forms::signed;
+use holding::HoldRecord;
 use pagebars::larger;
 use pagebars::positive;
 use pagebars::smaller;
@@ -8,7 +9,6 @@ use pageform::Figures;
 use partrules::PartsRecord;
 use std::num::wrapping_add_u64;
 use std::num::wrapping_sub_u64;
-use why::HoldRecord;
 
 // a
 pub const INDEX: usize = 0;

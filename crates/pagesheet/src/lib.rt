@@ -4,6 +4,7 @@ pub mod facts;
 mod line;
 mod sheet;
 pub mod strip;
+pub mod sums;
 
 ghost use Prim.Native.Nat.{_≤_};
 ghost use lib.ListN.{length};

@@ -1,11 +1,9 @@
 // What people are told of what came of printing: nothing of an answer, the meaning of a refusal, and that writing failed.
-ghost use Rattle.io.specs.Counts.{Counts};
 use arguments::whole;
-use command::input;
 use command::options::Command;
 use libc::STDOUT_FILENO;
 use output::Ended;
-use refusals::Written;
+use refusals::Refusal;
 
 // The status, as a digit.
 pub fn digit(ended: Ended) -> u8 {
@@ -24,48 +22,54 @@ pub fn elsewhere(command: Command) -> u8 {
     b'3'
 }
 
-// Says on standard error what people need to know, of the texts that were read, also of a file that goes with the word. Before it stands what it is about where that is named.
-pub fn explain<'a>(
+// Says on standard error what people need to know, of a table as a sheet corrects it. Before it stands what it is about where that is named.
+pub fn explain<'a>(of: &[u8], ended: Ended, table: &'a [u8], sheet: &'a [u8]) {
+    explain_with(of, false, ended, table, sheet, b"")
+}
+
+// The same where a file went with the word, which is blamed where the caller says so.
+pub fn explain_with<'a>(
     of: &[u8],
-    with_file: bool,
+    of_file: bool,
     ended: Ended,
     table: &'a [u8],
     sheet: &'a [u8],
-    file: &[u8],
+    file: &'a [u8],
 ) {
     match ended {
         Ended::Answered => {}
         Ended::Refused(number, place, byte) => {
-            let which = blamed(with_file, number, table, sheet);
+            let which = blamed(of_file, number, sheet);
             refused(of, which, number, place, byte, table, sheet, file)
         }
         Ended::Failed => unwritten(),
     }
 }
 
-// The same of a table alone.
-pub fn table_refused(of: &[u8], number: u64, place: u64, byte: u64, table: &[u8]) {
-    match number {
-        2..=3 => {
-            let mut out = [0u8; ROOM];
-            let n = faultwords::put(
-                faultwords::TABLE,
-                number,
-                place,
-                byte,
-                table,
-                table,
-                &mut out,
-            );
-            messages::line(of, &out[..n])
-        }
-        _ => messages::refusal(of, number, place, byte, table, 0, 0),
-    }
+// Room for an E line.
+const LINE: usize = 64;
+
+// Prints the E line of a refusal, and says what it means.
+pub fn refuse<'a>(of: &[u8], w: Refusal, table: &'a [u8], sheet: &'a [u8]) -> Ended {
+    let mut line = [0u8; LINE];
+    let n = output::refusal_line(w, &mut line);
+    let ended = output::put(&line[..n]);
+    explain(of, ended, table, sheet);
+    ended
 }
 
 // What was written before an error stays written: the message is all that can be said.
 pub fn unwritten() {
     os::fail(b"keravnoth: writing");
+}
+
+// What came of it where all was written. That it was not is said.
+pub fn told(all: bool, ended: Ended) -> Ended {
+    if all {
+        return ended;
+    }
+    unwritten();
+    Ended::Failed
 }
 
 // Whether a text was written to its end. That it was not is said.
@@ -80,11 +84,11 @@ pub fn written(text: &[u8]) -> bool {
 // No line of a text is blamed.
 const NO_LINE: usize = 4;
 
-// The text whose line is blamed. The E line does not say which text it is about: where the table itself is good, 2 and 3 are about the sheet of rows after the word.
-fn blamed<'a>(with_file: bool, number: u64, table: &'a [u8], sheet: &'a [u8]) -> usize {
+// The text whose line is blamed.
+fn blamed(of_file: bool, number: u64, sheet: &[u8]) -> usize {
     match number {
         2..=3 => {
-            if with_file && table_good(table, sheet) {
+            if of_file {
                 faultwords::SHEET
             } else {
                 faultwords::TABLE
@@ -92,15 +96,6 @@ fn blamed<'a>(with_file: bool, number: u64, table: &'a [u8], sheet: &'a [u8]) ->
         }
         10 => of_corrections(sheet),
         _ => NO_LINE,
-    }
-}
-
-// Whether the table is good, as the sheet corrects it.
-fn table_good<'a>(table: &'a [u8], sheet: &'a [u8]) -> bool {
-    let mut out = input::room();
-    match rewriting::rewrite_corrected(table, sheet, &mut out) {
-        Written::Bytes(_) => true,
-        Written::Refused(_) => false,
     }
 }
 
@@ -115,43 +110,32 @@ fn of_corrections(sheet: &[u8]) -> usize {
 // Room for the words of a line that is blamed: none has half as many bytes.
 const ROOM: usize = 512;
 
-fn refused(
+fn refused<'a>(
     of: &[u8],
     which: usize,
     number: u64,
     place: u64,
     byte: u64,
-    table: &[u8],
-    sheet: &[u8],
-    file: &[u8],
+    table: &'a [u8],
+    sheet: &'a [u8],
+    file: &'a [u8],
 ) {
     if which == NO_LINE {
         messages::refusal(of, number, place, byte, table, sheet.len(), file.len());
         return;
     }
     let mut out = [0u8; ROOM];
-    let n = put_fault(which, number, place, byte, table, sheet, file, &mut out);
+    let text = text_of(which, table, sheet, file);
+    let n = faultwords::put(which, number, place, byte, table, text, &mut out);
     messages::line(of, &out[..n])
 }
 
-// The words of the text that is blamed.
-fn put_fault(
-    which: usize,
-    number: u64,
-    place: u64,
-    byte: u64,
-    table: &[u8],
-    sheet: &[u8],
-    file: &[u8],
-    out: &mut [u8],
-) -> usize
-    ensures { λ r. ⌜ Counts r (now (out .exit)) ⌝ }
-{
+fn text_of<'a>(which: usize, table: &'a [u8], sheet: &'a [u8], file: &'a [u8]) -> &'a [u8] {
     if which == faultwords::TABLE {
-        return faultwords::put(which, number, place, byte, table, table, out);
+        return table;
     }
     if which == faultwords::SHEET {
-        return faultwords::put(which, number, place, byte, table, file, out);
+        return file;
     }
-    faultwords::put(which, number, place, byte, table, sheet, out)
+    sheet
 }

@@ -7,7 +7,9 @@ ghost use Rattle.io.specs.Counts.{Counts};
 use crate::words::next;
 use crate::words::tell_text;
 use arguments::lists;
-use libc::STDOUT_FILENO;
+use command::input;
+use command::options;
+use command::options::Command;
 use output::Ended;
 use refusals::Written;
 use tidyfields::trimmed;
@@ -15,31 +17,38 @@ use tidyfields::trimmed;
 // Room for the longest text that `tidy` writes.
 const ROOM: usize = tidy::BYTES_MOST;
 
-pub fn print(text: &[u8]) -> Ended {
+// Obeys the word `tidy`: the text that an argument names, where no table has to stand.
+pub fn obey(at: usize, command: Command) -> Ended {
+    if !options::only(command, false, false, false) || !options::can_read(command, 0, at) {
+        return Ended::Failed;
+    }
+    let mut text = input::room();
     let mut out = [0u8; ROOM];
-    print_into(text, &mut out)
+    print(at, &mut text, &mut out)
 }
 
-fn print_into(text: &[u8], out: &mut [u8]) -> Ended {
+fn print(at: usize, text: &mut [u8], out: &mut [u8]) -> Ended {
+    let read = input::table(at, text);
+    if read.failed {
+        return Ended::Failed;
+    }
+    let n = read.count;
+    print_tidy(&text[..n], out)
+}
+
+fn print_tidy(text: &[u8], out: &mut [u8]) -> Ended {
     match tidy::tidy(text, out) {
         Written::Bytes(k) => {
             let n = output::cut(k, out);
-            if !io::write_all(STDOUT_FILENO, &out[..n]) {
+            if !telling::written(&out[..n]) {
                 return Ended::Failed;
             }
             tell(text, &out[..n]);
             Ended::Answered
         }
-        Written::Refused(w) => {
-            let mut line = [0u8; LINE];
-            let n = output::refusal_line(w, &mut line);
-            output::put(&line[..n])
-        }
+        Written::Refused(w) => telling::refuse(b"", w, text, b""),
     }
 }
-
-// Room for an E line.
-const LINE: usize = 64;
 
 // No text that the calculator takes has more lines, and no line more fields: what follows is not looked at.
 const LINES_MOST: usize = 512;

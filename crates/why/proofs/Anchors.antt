@@ -23,7 +23,7 @@ use Rattle.setup.specs.Setup.{gridBy, beginBy, judgeBy}
 use Rattle.extractrules.specs.Start.{setupWith}
 use Rattle.holding.specs.Holding.{endRow}
 use Rattle.holding.proofs.Anchors.{two, from, nested, lone}
-use Rattle.why.specs.declared.Reasons.{Reasons}
+use Rattle.holding.specs.declared.Reasons.{Reasons}
 use Rattle.why.specs.Why.{Why, whyBy, whyMarked, endRecord, rowRecord, reasonsOf, reasonsMarked, reasonsFor, WhyLeft, judgedLeft, whyFor, whyLeft, whyMarkedLeft}
 
 -- ---- works on two rows

@@ -35,7 +35,7 @@ use Rattle.outcome.specs.Outcome.{rowOrDash}
 use Rattle.extractrules.specs.Inner.{gridWith, startWith, Runnable, Ran}
 use Rattle.extractrules.proofs.ExtractLaws.{run-startable, run-left}
 use Rattle.holding.specs.Holding.{endRow, allowed, allowedBy, endsLeft, rowLeft, countsOf, Worked}
-use Rattle.why.specs.declared.Reasons.{Reasons}
+use Rattle.holding.specs.declared.Reasons.{Reasons}
 use Rattle.why.specs.Why.{Why, whyBy, endRecord, rowRecord, reasonsOf, leaves}
 use Rattle.why.specs.Told.{told}
 

@@ -36,7 +36,7 @@ use Rattle.extractrules.proofs.SameMarks.{p-marks, judge-marks}
 use Rattle.extractrules.specs.Extraction.{judgeExtract}
 use Rattle.extractrules.specs.Inner.{gridWith, startWith}
 use Rattle.extractrules.proofs.ExtractLaws.{over-taken}
-use Rattle.why.specs.declared.Reasons.{Reasons}
+use Rattle.holding.specs.declared.Reasons.{Reasons}
 use Rattle.why.specs.Why.{Why, whyBy, whyMarked, endRecord, rowRecord, reasonsOf, noBorder, reasonsMarked, reasonsFor, WhyLeft, leaves, whyRoom, whyStored, judgedLeft, whyFor}
 use Rattle.why.specs.Told.{told}
 use Rattle.why.proofs.GridLaws.{same-why}

@@ -22,7 +22,7 @@ use Rattle.extractrules.specs.Filled.{cells}
 use Rattle.outcome.specs.Outcome.{rowOrDash}
 use Rattle.extractrules.specs.Extraction.{judgeExtract}
 use Rattle.holding.specs.Holding.{endRow, allowedBy, endsLeft, rowLeft}
-use Rattle.why.specs.declared.Reasons.{Reasons}
+use Rattle.holding.specs.declared.Reasons.{Reasons}
 use Rattle.why.specs.declared.Explained.{Explained}
 use Rattle.why.specs.declared.Explained.the-variants as explained
 

@@ -9,29 +9,14 @@ ghost use Rattle.marks.specs.Marks.{flagged};
 ghost use Rattle.tablerules.specs.Table.{lent, front};
 ghost use Rattle.tablerules.specs.Good.{Good};
 ghost use Rattle.why.specs.Why.{noBorder, reasonsMarked, reasonsFor, saidExplained, leaves, judgedLeft};
+use holding::EndRecord;
+use holding::HoldRecord;
+use holding::Reasons;
 use refusals::Judgement;
 use refusals::Refusal;
 use types::BorderRecord;
 use types::Header;
 use types::RowRecord;
-
-// A border's reasons: how many rounds there were, the last that raised it (0 if none did), the row that the result names for it, and the row that ended its rise.
-pub struct Reasons {
-    pub rounds: u64,
-    pub last: u64,
-    pub named: i64,
-    pub ended: i64,
-}
-
-impl Reasons {
-    pub const END_ITEMS: usize = holding::END_ITEMS;
-
-    pub const ROW_ITEMS: usize = holding::HOLD_ITEMS;
-}
-
-pub type EndRecord = holding::EndRecord;
-
-pub type HoldRecord = holding::HoldRecord;
 
 pub enum Explained {
     Reasons(Reasons),

@@ -1,7 +1,4 @@
 // The rounds of a table that may start, and what they tell of one border.
-use crate::EndRecord;
-use crate::HoldRecord;
-use crate::Reasons;
 ghost use mathlib.Core.Path.{_≡_};
 ghost use Prim.Native.Nat.{_<_, _≤_};
 ghost use lib.ListN.{length};
@@ -9,6 +6,9 @@ ghost use Rattle.refusals.specs.Refusals.{passed};
 ghost use Rattle.extractrules.specs.Inner.{Runnable, gridWith, startWith};
 ghost use Rattle.why.specs.Why.{whyBy, leaves};
 ghost use Rattle.why.specs.Told.{told};
+use holding::EndRecord;
+use holding::HoldRecord;
+use holding::Reasons;
 use types::BorderRecord;
 use types::Header;
 

@@ -1,194 +1,49 @@
-// Why a border got no more, in words: at most ten lines, from the record of its reasons (crate why) and from what the margins of the rows are made of (crates parts
-// and states). The figures are those of proved calls; the words are held by stored texts and by the second program.
-ghost use mathlib.Core.Path.{_≡_};
-ghost use Prim.Native.Nat.{_*_, _≤_};
+// The word `why`: prints why a border got no more, for the texts that were read, and says what people are told of it.
+mod words;
+
+ghost use Prim.Native.Nat.{_≤_};
 ghost use lib.ListN.{length};
-ghost use Rattle.limits.specs.Limits.{zonesMost, bordersMost, rowsMost};
-ghost use Rattle.tablerules.specs.Table.{lent, front};
-ghost use Rattle.tablerules.specs.Good.{Good};
-use partrules::PartsRecord;
-use reading::TableRead;
-use refusals::Refusal;
-use text::put::magnitude;
-use types::Border;
-use types::BorderRecord;
-use types::Header;
-use types::Row;
-use types::RowRecord;
-use why::EndRecord;
-use why::Explained;
-use why::HoldRecord;
-use why::Reasons;
-use whywords::Rise;
+ghost use Rattle.result.specs.Refusal.{refusalMost};
+use arguments::Piece;
+use output::Ended;
+use refusals::Written;
 
-// So many bytes of words; how many borders the table has, where it has not the one that was asked for; or why there is no answer.
-pub enum Told {
-    Bytes(usize),
-    NoBorder(usize),
-    Refused(Refusal),
+// Room for the words: ten lines of fewer than 400 bytes each.
+const ROOM: usize = 4096;
+
+// Prints the words of a border of the table as the sheet corrects it; where one of them is refused, the E line. That the table has no such border is said. Where no list of marks
+// is given, all borders may rise.
+pub fn print<'a>(border: u64, list: Piece, text: &'a [u8], sheet: &'a [u8]) -> Ended {
+    let listed = arguments::list(list);
+    let m = listed.count;
+    let marks = listed.numbers;
+    let mut out = [0u8; ROOM];
+    print_lent(border, list.at == 0, &marks[..m], text, sheet, &mut out)
 }
 
-// Tells of a border of a text's table, as the sheet corrects it. Where `all` borders may rise, the marks are not looked at.
-pub fn put<'a>(
-    border: u64,
-    all: bool,
-    marks: &[u64],
-    text: &'a [u8],
-    sheet: &'a [u8],
-    out: &mut [u8],
-) -> Told {
-    let mut z: [i64; limits::ZONES_MOST] = [0; limits::ZONES_MOST];
-    let mut t: [i64; limits::ZONES_MOST] = [0; limits::ZONES_MOST];
-    let mut b: [BorderRecord; limits::BORDERS_MOST] = [[0; Border::ITEMS]; limits::BORDERS_MOST];
-    let mut c: [RowRecord; limits::ROWS_MOST] = [[0; Row::ITEMS]; limits::ROWS_MOST];
-    let mut f: [i64; limits::ROWS_MOST * limits::ZONES_MOST] = [0; limits::ROWS_MOST
-        * limits::ZONES_MOST];
-    put_in(
-        border,
-        all,
-        marks,
-        text,
-        sheet,
-        &mut z,
-        &mut t,
-        &mut b,
-        &mut c,
-        &mut f,
-        out,
-    )
-}
-
-// Apart from `put`, so that proof goals do not contain its arrays.
-fn put_in<'a>(
-    border: u64,
-    all: bool,
-    marks: &[u64],
-    text: &'a [u8],
-    sheet: &'a [u8],
-    z: &mut [i64],
-    t: &mut [i64],
-    b: &mut [BorderRecord],
-    c: &mut [RowRecord],
-    f: &mut [i64],
-    out: &mut [u8],
-) -> Told
-    requires { ⌜ (zonesMost ≤ length (now z)) × (zonesMost ≤ length (now t)) × (bordersMost ≤ length (now b)) × (rowsMost ≤ length (now c)) × (rowsMost * zonesMost ≤ length (now f)) ⌝ }
-{
-    match reading::read_into(text, sheet, z, t, b, c, f) {
-        TableRead::Table(h) => put_good(border, all, marks, h, z, t, b, c, f, out),
-        TableRead::Refused(w) => Told::Refused(w),
-    }
-}
-
-// Tells of a border of a good table.
-pub fn put_good(
-    border: u64,
-    all: bool,
-    marks: &[u64],
-    h: Header,
-    z: &[i64],
-    t: &[i64],
-    b: &[BorderRecord],
-    c: &[RowRecord],
-    f: &[i64],
-    out: &mut [u8],
-) -> Told
-    requires { ⌜ Good (front (lent h (now z) (now t) (now b) (now c) (now f))) ⌝ }
-{
-    let count = h.rows;
-    let mut p: [u64; limits::ROWS_MOST * limits::BORDERS_MOST] = [0; limits::ROWS_MOST
-        * limits::BORDERS_MOST];
-    let mut ends: [EndRecord; limits::BORDERS_MOST] =
-        [[0; Reasons::END_ITEMS]; limits::BORDERS_MOST];
-    let mut rows: [HoldRecord; limits::ROWS_MOST] = [[0; Reasons::ROW_ITEMS]; limits::ROWS_MOST];
-    match why::why_good(
-        h,
-        z,
-        t,
-        b,
-        c,
-        f,
-        all,
-        marks,
-        border,
-        &mut p,
-        &mut ends,
-        &mut rows,
-    ) {
-        Explained::Reasons(reasons) => {
-            let margin = margin_of(reasons.ended, h, z, t, b, c, f);
-            let rise = Rise {
-                rounds: reasons.rounds,
-                last: reasons.last,
-                named: reasons.named,
-                ended: reasons.ended,
-            };
-            Told::Bytes(whywords::put(
-                border as usize,
-                rise,
-                margin,
-                h,
-                b,
-                &p,
-                &ends,
-                &rows[..count],
-                out,
-            ))
-        }
-        Explained::Refused(w) => refused(w),
-    }
-}
-
-// The number of its refusal (crate why).
+// The number of the refusal of a border that is not there (crate why), which is no fault of the table.
 const NO_BORDER: u32 = 14;
 
-// A border that is not there is no fault of the table.
-fn refused(w: Refusal) -> Told {
-    if w.number == NO_BORDER {
-        return Told::NoBorder(w.place);
-    }
-    Told::Refused(w)
-}
-
-// What the margin of a row is made of. Where it starts is not taken as 0 where the allocated positions take more than RAM, since the words say how much.
-fn margin_of(
-    row: i64,
-    h: Header,
-    z: &[i64],
-    t: &[i64],
-    b: &[BorderRecord],
-    c: &[RowRecord],
-    f: &[i64],
-) -> PartsRecord
-    requires { ⌜ Good (front (lent h (now z) (now t) (now b) (now c) (now f))) ⌝ }
+fn print_lent<'a>(
+    border: u64,
+    all: bool,
+    marks: &[u64],
+    text: &'a [u8],
+    sheet: &'a [u8],
+    out: &mut [u8],
+) -> Ended
+    requires { ⌜ refusalMost ≤ length (now out) ⌝ }
 {
-    let count = h.rows;
-    let mut rams: [i64; limits::ROWS_MOST] = [0; limits::ROWS_MOST];
-    let mut starts: [i64; limits::ROWS_MOST] = [0; limits::ROWS_MOST];
-    let mut states: [u64; limits::ROWS_MOST] = [0; limits::ROWS_MOST];
-    let mut margins: [PartsRecord; limits::ROWS_MOST] = [[0; partrules::ITEMS]; limits::ROWS_MOST];
-    states::fill_rows(
-        h,
-        z,
-        t,
-        b,
-        c,
-        f,
-        &mut rams[..count],
-        &mut starts[..count],
-        &mut states[..count],
-    );
-    parts::margins_good(h, z, t, b, c, f, &mut margins);
-    with_start(magnitude(row) as usize, &margins, &starts)
-}
-
-fn with_start(i: usize, margins: &[PartsRecord], starts: &[i64; limits::ROWS_MOST]) -> PartsRecord {
-    if i < margins.len() {
-        if i < limits::ROWS_MOST {
-            let mut margin = margins[i];
-            margin[partrules::ITEMS - 1] = starts[i];
-            return margin;
+    let said = words::put(border, all, marks, text, sheet, out);
+    if let Written::Refused(w) = said {
+        if w.number == NO_BORDER {
+            messages::no_border(border, w.place);
+            return Ended::Failed;
         }
     }
-    [0; partrules::ITEMS]
+    let n = output::told(said, out);
+    let m = output::cut(n, out);
+    let ended = output::put(&out[..m]);
+    telling::explain(b"", ended, text, sheet);
+    ended
 }

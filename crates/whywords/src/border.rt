@@ -1,8 +1,8 @@
 // The first two lines: the border, and how far it rose.
 ghost use Rattle.io.specs.Counts.{Counts};
-use crate::EndRecord;
-use crate::Rise;
 use crate::records;
+use holding::EndRecord;
+use holding::Reasons;
 use text::put::magnitude;
 use types::BorderRecord;
 
@@ -10,7 +10,7 @@ pub fn put(
     border: u64,
     raw: BorderRecord,
     end: EndRecord,
-    rise: Rise,
+    reasons: Reasons,
     intraday: bool,
     out: &mut [u8],
 ) -> usize
@@ -19,7 +19,7 @@ pub fn put(
     let start = magnitude(end[0]) / 1000;
     let atc = magnitude(end[1]) / 1000;
     let raised = if start < atc { atc - start } else { 0 };
-    let lines = lines(raw[3] < 0, intraday, start == 0, rose(rise, raised));
+    let lines = lines(raw[3] < 0, intraday, start == 0, rose(reasons, raised));
     let mut figures = [
         border,
         0,
@@ -29,8 +29,8 @@ pub fn put(
         atc,
         start,
         raised,
-        rise.last,
-        rise.rounds,
+        reasons.last,
+        reasons.rounds,
     ];
     let ends = [0, 1, 3, 4];
     records::pick(&raw, &ends, &mut figures, 1);
@@ -54,14 +54,14 @@ pub fn put(
 const UNMARKED: usize = 9;
 
 // Which form says what the rounds raised it by, MW.
-fn rose(rise: Rise, raised: u64) -> usize {
-    if rise.ended < 0 {
+fn rose(reasons: Reasons, raised: u64) -> usize {
+    if reasons.ended < 0 {
         return UNMARKED;
     }
-    if rise.rounds == 0 {
+    if reasons.rounds == 0 {
         return 10;
     }
-    if rise.last == 0 {
+    if reasons.last == 0 {
         return 11;
     }
     if raised == 0 { 12 } else { 13 }

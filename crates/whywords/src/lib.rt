@@ -2,36 +2,25 @@
 // Every list of forms has a line for what is left out, and each line of a choice takes as many figures as the others (`$-` passes over one).
 mod border;
 mod records;
-mod rows;
+pub mod rows;
 mod users;
 
 ghost use Prim.Native.Nat.{_*_, _≤_};
 ghost use lib.ListN.{length};
 ghost use Rattle.io.specs.Counts.{Counts};
 use crate::users::Users;
+use holding::EndRecord;
+use holding::HoldRecord;
+use holding::Reasons;
 use partrules::PartsRecord;
 use text::put::magnitude;
 use types::BorderRecord;
 use types::Header;
 
-// A border's record and a row's, as crate why fills them. They are named here again, so that the words need not wait for that crate.
-pub type EndRecord = [i64; 2];
-
-pub type HoldRecord = [i64; 3];
-
-// A border's rise: how many rounds there were, the last that raised it, the row that the result names, and the row that ended its rise; both below 0 where no row did.
-pub struct Rise {
-    pub rounds: u64,
-    pub last: u64,
-    pub named: i64,
-    pub ended: i64,
-}
-
-// All sentences about a border, one after the other. `margin` is what the margin of the row that ended its rise is made of; its starting margin is
-// below 0 where the allocated positions take more than RAM.
+// All sentences about a border, one after the other. `margin` is what the margin of the row that ended its rise is made of (`margin_of`).
 pub fn put(
     border: usize,
-    rise: Rise,
+    reasons: Reasons,
     margin: PartsRecord,
     h: Header,
     b: &[BorderRecord],
@@ -50,11 +39,11 @@ pub fn put(
         return 0;
     }
     let end = ends[border];
-    let next = border::put(border as u64, b[border], end, rise, h.is_intraday(), out);
-    if rise.ended < 0 {
+    let next = border::put(border as u64, b[border], end, reasons, h.is_intraday(), out);
+    if reasons.ended < 0 {
         return next;
     }
-    let i = magnitude(rise.ended) as usize;
+    let i = magnitude(reasons.ended) as usize;
     let case = Case {
         border: border as u64,
         row: i,
@@ -63,7 +52,20 @@ pub fn put(
         atc: users::atc_at(ends, border),
     };
     let users = users::users_of(h, p, ends, i);
-    put_row(case, rise, margin, users, b, rows, out, next)
+    put_row(case, reasons, margin, users, b, rows, out, next)
+}
+
+// What the margin of a row is made of. Where it starts is not taken as 0 where the allocated positions take more than RAM, since the words say how much.
+pub fn margin_of(row: i64, margins: &[PartsRecord], starts: &[i64]) -> PartsRecord {
+    let i = magnitude(row) as usize;
+    if i < margins.len() {
+        if i < starts.len() {
+            let mut margin = margins[i];
+            margin[partrules::ITEMS - 1] = starts[i];
+            return margin;
+        }
+    }
+    [0; partrules::ITEMS]
 }
 
 // A border, the row that ended its rise, p of it there, and its capacity, MW.
@@ -77,7 +79,7 @@ pub struct Case {
 
 fn put_row(
     case: Case,
-    rise: Rise,
+    reasons: Reasons,
     margin: PartsRecord,
     users: Users,
     b: &[BorderRecord],
@@ -92,7 +94,7 @@ fn put_row(
         return rows::put_next(case.border, rows, out, at);
     }
     let hold = rows[i];
-    let next = rows::put_stop(case, rise, rows, out, at);
+    let next = rows::put_stop(case, reasons, rows, out, at);
     let next = rows::put_ram(case, margin, out, next);
     let next = rows::put_taken(case, margin, out, next);
     let next = rows::put_left(case, margin[11], hold, out, next);

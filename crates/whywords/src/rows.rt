@@ -1,22 +1,22 @@
-// The sentences about the rows that hold a border at the end, and about the margin of the one that ended its rise.
+// The sentences about the rows that hold a border at the end, and about the margin of the one that ended its reasons.
 ghost use Rattle.io.specs.Counts.{Counts};
 use crate::Case;
-use crate::HoldRecord;
-use crate::Rise;
 use crate::records;
+use holding::HoldRecord;
+use holding::Reasons;
 use partrules::PartsRecord;
 use text::put::magnitude;
 
 // The first three rows that allow the border no kW more, and how many there are.
-struct Held {
-    first: u64,
-    second: u64,
-    third: u64,
-    count: u64,
+pub struct Held {
+    pub first: u64,
+    pub second: u64,
+    pub third: u64,
+    pub count: u64,
 }
 
 // Those of all rows but one.
-fn holders(rows: &[HoldRecord], but: usize) -> Held {
+pub fn holders(rows: &[HoldRecord], but: usize) -> Held {
     let mut found = Held {
         first: 0,
         second: 0,
@@ -49,17 +49,23 @@ fn more(count: u64) -> u64 {
 }
 
 // Which row stopped the border. At the end others may stop it too, and the result names the first of all by its number.
-pub fn put_stop(case: Case, rise: Rise, rows: &[HoldRecord], out: &mut [u8], at: usize) -> usize
+pub fn put_stop(
+    case: Case,
+    reasons: Reasons,
+    rows: &[HoldRecord],
+    out: &mut [u8],
+    at: usize,
+) -> usize
     ensures { λ r. ⌜ Counts r (now (out .exit)) ⌝ }
 {
     let row = case.row;
-    let named = magnitude(rise.named);
+    let named = magnitude(reasons.named);
     let is_named = row as u64 == named;
     let others = holders(rows, row);
     let count = others.count;
     let figures = [
         row as u64,
-        std::num::wrapping_add_u64(rise.last, 1),
+        std::num::wrapping_add_u64(reasons.last, 1),
         others.first,
         others.second,
         others.third,

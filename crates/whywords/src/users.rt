@@ -3,7 +3,7 @@ ghost use Prim.Native.Nat.{_*_, _≤_};
 ghost use lib.ListN.{length};
 ghost use Rattle.io.specs.Counts.{Counts};
 use crate::Case;
-use crate::EndRecord;
+use holding::EndRecord;
 use text::put::magnitude;
 use types::BorderRecord;
 use types::Header;

@@ -12,7 +12,7 @@ returns : tie.Need-returns
 unfolding answerLeft answerText answerForLeft answerFor toldFor outcomeFor
 returns c =
     let answered = c .before .before .answer-with .ensures in
-    (answered .0 ∙ empty-answer-left _ _ _ _, answered .1 ∙ empty-told _ _ _)
+    (answered .0 ∙ empty-answer-left _ _ _ _, answered .1 .1 ∙ empty-told _ _ _)
 
 pub answer-spec : {M : Type 1} → statement M
 answer-spec = tie.close (tie.spec (λ c. search needs) (λ c. search needs) (λ c κs. search needs) (λ c. search needs) returns)

@@ -8,7 +8,9 @@ use Rattle.answer.proofs.answer_corrected.Tie as tie
 
 returns : tie.Need-returns
 unfolding answerCorrectedLeft answerWithLeft answerWith toldWith outcomeFor
-returns c = c .before .before .answer-with .ensures
+returns c =
+    let answered = c .before .before .answer-with .ensures in
+    (answered .0, answered .1 .1)
 
 pub answer-corrected-spec : {M : Type 1} → statement M
 answer-corrected-spec = tie.close (tie.spec (λ c. search needs) (λ c κs. search needs) (λ c. search needs) returns)

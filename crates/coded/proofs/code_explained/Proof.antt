@@ -4,7 +4,7 @@ use borrow.Author.Needs.{needs}
 use lib.IntN.{ℤ}
 use Rattle.numbers.proofs.IntLaws.{plain}
 use Rattle.why.specs.declared.Explained.{Explained}
-use Rattle.why.specs.declared.Reasons.{Reasons}
+use Rattle.holding.specs.declared.Reasons.{Reasons}
 use Rattle.why.specs.Why.{saidExplained}
 use Rattle.coded.specs.declared.KeravnothExplained.{KeravnothExplained}
 use Rattle.coded.specs.Coded.{codedExplained}
