@@ -50,12 +50,12 @@ fn holder(rows: usize, borders: usize, p: &[u64], ns: &[u64], margins: &[u64], b
 }
 
 // The row that holds a border by the margins at the end, which the result names, and the row that ended its rise, by those after its last round.
-pub struct Held {
+pub struct Stops {
     pub named: i64,
     pub ended: i64,
 }
 
-pub fn holders(
+pub fn find_stops(
     rows: usize,
     borders: usize,
     p: &[u64],
@@ -63,14 +63,14 @@ pub fn holders(
     margins: &[u64],
     stood: &[u64],
     b: usize,
-) -> Held
+) -> Stops
     requires { ⌜ (rows * borders ≤ length (now p)) × (b < borders) × (rows < 2 ^ 63) ⌝ }
     requires { ⌜ Ready (flat rows borders (now p)) (now ns) (now margins) × Ready (flat rows borders (now p)) (now ns) (now stood) ⌝ }
     ensures { λ r. ⌜ (r .named ≡ rowOrDash (stopRow (flat rows borders (now (p .entry))) (now (margins .entry)) b)) × (r .ended ≡ rowOrDash (stopRow (flat rows borders (now (p .entry))) (now (stood .entry)) b)) ⌝ }
 {
     let named = holder(rows, borders, p, ns, margins, b);
     let ended = holder(rows, borders, p, ns, stood, b);
-    Held {
+    Stops {
         named: named,
         ended: ended,
     }

@@ -74,11 +74,11 @@ fn explain_in(
     let to = end.x;
     holding::store_ends(&from[..borders], &to[..borders], ends);
     holding::store_holds(rows, borders, p, states, ns, margins, border, out);
-    let held = holding::holders(rows, borders, p, ns, margins, stood, border);
+    let stops = holding::find_stops(rows, borders, p, ns, margins, stood, border);
     Reasons {
         rounds: end.rounds,
         last: lasts[border],
-        named: held.named,
-        ended: held.ended,
+        named: stops.named,
+        ended: stops.ended,
     }
 }

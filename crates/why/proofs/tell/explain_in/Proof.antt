@@ -57,8 +57,8 @@ store-holds-requires c κs =
     let long = at-work .work .kept .1 .1 .1 .1 .1 .1 .1 .0 ∙ q .0 .margins-long in
     ((omega (arith, q .0 .p-long), q .1 .0 .1, q .1 .1 .1 .1), ((q .1 .0 .0, counts-long (q .0) x w long, long), holds-fit (q .0) x w long))
 
-holders-requires : tie.Need-holders-requires
-holders-requires c κs =
+find-stops-requires : tie.Need-find-stops-requires
+find-stops-requires c κs =
     let at-work = c .before .before .before .before .before .before .before .before .before .before .before .before .before .before .before .before .before .before .before .before .before .before in
     let at-exchanges = at-work .before .before .before .before .before in
     let entry = at-exchanges .before .before .before .before .before .before .before in
@@ -83,8 +83,8 @@ slice-read-t48 c =
 
 returns : tie.Need-returns
 returns c =
-    let at-holders = c .before .before in
-    let at-store-holds = at-holders .before .before .before .before .before in
+    let at-stops = c .before .before in
+    let at-store-holds = at-stops .before .before .before .before .before in
     let at-store-ends = at-store-holds .before .before .before .before .before in
     let at-work = at-store-ends .before .before .before .before .before .before .before .before .before .before .before .before .before in
     let at-exchanges = at-work .before .before .before .before .before in
@@ -93,10 +93,10 @@ returns c =
     let x = at-exchanges .exchanges .ensures in
     let w = at-work .work .ensures in
     let long = at-work .work .kept .1 .1 .1 .1 .1 .1 .1 .0 ∙ q .0 .margins-long in
-    let held = at-holders .holders .ensures in
+    let held = at-stops .find-stops .ensures in
     told-is (q .0) x w long (q .1 .0 .1) _ _ _ (plain _ (c .struct-told .given .0 .1) ∙ held .0) (plain _ (c .struct-told .given .1 .0 .1) ∙ held .1) (at-store-ends .store-ends .ensures) (at-store-holds .store-holds .ensures)
 
 pub explain-in-spec : {M : Type 1} → statement M
 explain-in-spec = tie.close (tie.spec (λ c κs. search needs) work-requires (λ c. search needs) slice-aggregate-store-ends array-share-prefix-to
-    slice-aggregate-store-ends-2 store-ends-requires store-holds-requires holders-requires mul-t46 slice-read-t48 (λ c. search needs)
+    slice-aggregate-store-ends-2 store-ends-requires store-holds-requires find-stops-requires mul-t46 slice-read-t48 (λ c. search needs)
     (λ c. search needs) (λ c. search needs) (λ c. search needs) (λ c. search needs) (λ c. search needs) returns)
