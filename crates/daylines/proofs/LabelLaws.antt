@@ -47,7 +47,7 @@ module _ (file : List ℕ) {dot : ℕ} (d : dot ≡ pastLast (code ".") file) wh
   unfolding withoutEnding
   ending-off h = rw (sym d, lt-leb dot 1 h)
 
--- .. and without the folder
+-- the name without its folder, and then without its ending, is the label
 pub folder-off : (name : List ℕ) {base : ℕ} → base ≡ pastLast (code "/") name → withoutEnding (take (length name - base) (drop base name)) ≡ labelOf name
 unfolding labelOf
 folder-off name {base} b = ap withoutEnding (take-all (length name - base) (drop base name) (omega (arith, length-drop base name)) ∙ ap (λ (k : ℕ). drop k name) b)

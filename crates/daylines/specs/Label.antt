@@ -19,6 +19,6 @@ pastLast byte text = pastLastFrom byte 0 0 text
 unfoldable pub withoutEnding : (file : List ℕ) → List ℕ
 withoutEnding file = cond (leb (pastLast (code ".") file) 1) file (take (pastLast (code ".") file - 1) file)
 
--- .. and without its folder
+-- the label of an hour: the name of its file without folder and ending
 unfoldable pub labelOf : (name : List ℕ) → List ℕ
 labelOf name = withoutEnding (drop (pastLast (code "/") name) name)
