@@ -40,8 +40,8 @@ fn holder(rows: usize, borders: usize, p: &[u64], ns: &[u64], margins: &[u64], b
     ensures { λ r. ⌜ r ≡ rowOrDash (stopRow (flat rows borders (now (p .entry))) (now (margins .entry)) b) ⌝ }
 {
     for i in 0..rows {
-        let share = grid::equal_share(margins[i], ns[i]);
-        let f = grid::factor(rows, borders, p, i, b);
+        let share = walk::grid::equal_share(margins[i], ns[i]);
+        let f = walk::grid::factor(rows, borders, p, i, b);
         if share < f {
             return i as i64;
         }
@@ -84,7 +84,7 @@ fn allow(n: u64, margin: u64, f: u64) -> i64
     if f == 0 {
         return DASH;
     }
-    (grid::equal_share(margin, n) / f) as i64
+    (walk::grid::equal_share(margin, n) / f) as i64
 }
 
 // The margin left, or `DASH` where the row took no part.
@@ -120,7 +120,7 @@ pub fn store_holds(
     ensures { λ _. ⌜ now (out .exit) ≡ over (table rows (λ i. rowLeft (at (now (ns .entry)) i) (at (now (states .entry)) i) (at (now (margins .entry)) i) (allowed (at (now (ns .entry)) i) (at (now (margins .entry)) i) (flat rows borders (now (p .entry)) .p i b)))) (now (out .entry)) ⌝ }
 {
     for i in 0..rows {
-        let f = grid::factor(rows, borders, p, i, b);
+        let f = walk::grid::factor(rows, borders, p, i, b);
         out[i] = hold(ns[i], states[i], margins[i], f);
     }
 }
@@ -163,7 +163,7 @@ pub fn work(
     ensures { λ r. ⌜ Worked (flat rows borders (now (p .entry))) (now (margins .entry)) from b r (now (margins .exit)) (now (lasts .exit)) (now (ns .exit)) (now (stood .exit)) ⌝ }
 {
     copy(margins, stood);
-    grid::count_sharers(rows, borders, p, ns);
+    walk::grid::count_sharers(rows, borders, p, ns);
     let end = roundloop::extract_rounds(rows, borders, p, ns, margins, from, lasts);
     replay::replay(rows, borders, p, ns, lasts[b], stood);
     end

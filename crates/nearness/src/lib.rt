@@ -123,8 +123,8 @@ fn yields(
     }
     for j in 0..live {
         let b = rising[j];
-        let f = grid::factor(rows, borders, p, t, b);
-        if f < grid::factor(rows, borders, p, i, b) {
+        let f = walk::grid::factor(rows, borders, p, t, b);
+        if f < walk::grid::factor(rows, borders, p, i, b) {
             return false;
         }
     }

@@ -106,7 +106,7 @@ pub fn store_atcs(
     ensures { λ _. ⌜ now (atc .exit) ≡ over (table borders (λ b. borderLeft (at (now (x .entry)) b) (at (now (lasts .entry)) b) (stopBy (flat rows borders (now (p .entry))) (now (shares .entry)) b))) (now (atc .entry)) ⌝ }
 {
     for b in 0..borders {
-        let stop = grid::stopping::stop_row(rows, borders, p, shares, b);
+        let stop = walk::stopping::stop_row(rows, borders, p, shares, b);
         let result = BorderResult {
             kw: x[b],
             last: lasts[b],

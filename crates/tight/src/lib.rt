@@ -25,7 +25,7 @@ pub fn measure(
     requires { ⌜ Small (now margins) ⌝ }
     ensures { λ r. ⌜ r ≡ boundBy (flat rows borders (now (p .entry))) (now (margins .entry)) ⌝ }
 {
-    grid::count_sharers(rows, borders, p, ns);
+    walk::grid::count_sharers(rows, borders, p, ns);
     let n = pass::most(ns);
     let kws = pass::highest(rows, borders, p, margins, ns, n);
     let l = bits(kws.alone);

@@ -59,7 +59,7 @@ fn higher(
         if low.alone <= most.alone && low.reach <= most.reach {
             return most;
         }
-        let f = grid::factor(rows, borders, p, i, b);
+        let f = walk::grid::factor(rows, borders, p, i, b);
         low = lower(f, ns[i], n, margins[i], low);
     }
     let alone = walk::larger(most.alone, low.alone);

@@ -2,6 +2,9 @@
 // A border's cap is what it may rise by at most. Raises never grow from round to round, so the last raise caps the next one, and a border at 0 is
 // done with: `rising` lists the others in its first `live` places. A row is tried by products with the caps, and divides its margin by n, once, only
 // where a cap is too high. A factor of 0 makes a product of 0 and so never divides.
+pub mod grid;
+pub mod stopping;
+
 ghost use mathlib.Core.Path.{_≡_};
 ghost use Prim.Native.Nat.{_*_, _/_, _^_, _<_, _≤_, max};
 ghost use lib.ListN.{length};

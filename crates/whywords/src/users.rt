@@ -14,7 +14,7 @@ pub fn factor_at(h: Header, p: &[u64], i: usize, b: usize) -> u64
 {
     if i < h.rows {
         if b < h.borders {
-            return grid::factor(h.rows, h.borders, p, i, b);
+            return walk::grid::factor(h.rows, h.borders, p, i, b);
         }
     }
     0

@@ -14,7 +14,7 @@ pub fn share_out(margins: &[u64], ns: &mut [u64])
 {
     for i in 0..margins.len() {
         let n = ns[i];
-        ns[i] = crate::equal_share(margins[i], n);
+        ns[i] = crate::grid::equal_share(margins[i], n);
     }
 }
 
@@ -25,7 +25,7 @@ pub fn stop_row(rows: usize, borders: usize, p: &[u64], shares: &[u64], b: usize
     ensures { λ r. ⌜ found r ≡ stopBy (flat rows borders (now (p .entry))) (now (shares .entry)) b ⌝ }
 {
     for i in 0..rows {
-        let f = crate::factor(rows, borders, p, i, b);
+        let f = crate::grid::factor(rows, borders, p, i, b);
         if shares[i] < f {
             return First::At(i);
         }

@@ -1,4 +1,4 @@
--- `grid::count_sharers` meets its contract. The outer loop fills n row by row (`Filled`), the inner one counts the borders with p > 0 (`Counted`).
+-- `walk::grid::count_sharers` meets its contract. The outer loop fills n row by row (`Filled`), the inner one counts the borders with p > 0 (`Counted`).
 use mathlib.Core.Logic.{⊎-elim}
 use Prim.Native.Nat.{_-_}
 use native.Mathlib.Omega.{arith}
@@ -6,8 +6,8 @@ use Rattle.numbers.proofs.ListLaws.{Filled, filled-none, filled-more, filled-al
 use Rattle.rounds.specs.Rounds.{sharers}
 use Rattle.rounds.specs.AllRounds.{flat}
 use Rattle.rounds.proofs.Loops.{Counted, counted-none, counted-up, counted-on, counted-le, counted-all}
-use Rattle.grid.proofs.count_sharers.Statement.{statement}
-use Rattle.grid.proofs.count_sharers.Tie as tie
+use Rattle.walk.proofs.grid.count_sharers.Statement.{statement}
+use Rattle.walk.proofs.grid.count_sharers.Tie as tie
 
 abbrev Inv-loop2 : tie.InvT-loop2
 Inv-loop2 rows borders p ns i n₀ b₀ n b = Counted (flat rows borders p .p i) borders b n

@@ -1,12 +1,12 @@
--- `grid::stopping::share_out` meets its contract: the loop fills the shares where n stood (`Filled`), and a row's n still stands when its turn comes.
+-- `walk::stopping::share_out` meets its contract: the loop fills the shares where n stood (`Filled`), and a row's n still stands when its turn comes.
 use mathlib.Core.Path.{ap, _∙_}
 use Prim.Native.Nat.{ℕ, _-_, _/_}
 use native.Mathlib.Omega.{arith}
 use lib.ListN.{length}
 use Rattle.numbers.specs.Below.{at}
 use Rattle.numbers.proofs.ListLaws.{Filled, filled-none, filled-rest, filled-more, filled-all}
-use Rattle.grid.proofs.stopping.share_out.Statement.{statement}
-use Rattle.grid.proofs.stopping.share_out.Tie as tie
+use Rattle.walk.proofs.stopping.share_out.Statement.{statement}
+use Rattle.walk.proofs.stopping.share_out.Tie as tie
 
 abbrev Inv-loop : tie.InvT-loop
 Inv-loop margins ns₀ i₀ i-end ns i = Filled (λ i. at margins i / at ns₀ i) (length margins) ns₀ ns i

@@ -1,7 +1,5 @@
 // What the rounds of the extraction read (01, "Extraction"): factors p in a flat table, and n of each row. The rounds themselves are
 // `roundloop::extract_rounds`. Rows that take no part have p = 0 at every border. p stands row after row, and only `factor` reads it.
-pub mod stopping;
-
 ghost use mathlib.Core.Path.{_≡_};
 ghost use Prim.Native.Nat.{_*_, _/_, _<_, _≤_};
 ghost use lib.ListN.{length};

@@ -1,4 +1,4 @@
--- `grid::stopping::stop_row` meets its contract. The invariant: no row before i has a share below its factor at b. A turn is `looked-more`.
+-- `walk::stopping::stop_row` meets its contract. The invariant: no row before i has a share below its factor at b. A turn is `looked-more`.
 use Prim.Native.Nat.{_-_}
 use native.Mathlib.Omega.{arith}
 use borrow.Author.Tests.{lt-ltb, le-ltb}
@@ -6,8 +6,8 @@ use lib.Dec.{ltb}
 use Rattle.numbers.specs.Below.{at}
 use Rattle.numbers.proofs.BelowLaws.{Looked, looked-none, looked-all, looked-here, looked-more}
 use Rattle.rounds.specs.AllRounds.{flat, stopBy}
-use Rattle.grid.proofs.stopping.stop_row.Statement.{statement}
-use Rattle.grid.proofs.stopping.stop_row.Tie as tie
+use Rattle.walk.proofs.stopping.stop_row.Statement.{statement}
+use Rattle.walk.proofs.stopping.stop_row.Tie as tie
 
 abbrev Inv-loop : tie.InvT-loop
 Inv-loop rows borders p shares b i₀ i = Looked rows (λ i. ltb (at shares i) (flat rows borders p .p i b)) i
