@@ -1,6 +1,8 @@
 // The open calls that answer in text (01, "Result text"): `result_text` of lent tables, and `answer` of a table's text; each with marks too (02, E13),
 // and `answer` with a correction sheet (02, E2).
 // They differ in what becomes of a refusal: `result_text` tells it, and `answer` writes it as the E line.
+#![tactic(auto)]
+
 ghost use Rattle.std.specs.Prelude.{◌≡◌, true, false, List, [], ℕ, ◌*◌, ◌≤◌, length};
 ghost use Rattle.limits.specs.Limits.{zones_most, borders_most, rows_most};
 ghost use Rattle.refusals.specs.declared.Judgement.TheVariants as judgement;
@@ -23,7 +25,7 @@ use tablerules::Room;
 use types::{Border, BorderRecord, Header, Row, RowRecord};
 
 // What an answer in text comes to: the bytes that were written, or that there was no room for them; and what the text tells, a result or why there is none.
-#[derive(Drop)]
+#[derive(Clone, Copy)]
 pub struct Answered {
     pub written: Written,
     pub told: Judgement,

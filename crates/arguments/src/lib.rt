@@ -1,5 +1,7 @@
 // The arguments that a program was started with: which word a piece of one is, or which number or list of numbers it holds.
 // Each is read into memory that is all zeros, so one stands behind it.
+#![tactic(auto)]
+
 pub mod lists;
 
 ghost use Rattle.std.specs.Prelude.{◌≡◌, length};
@@ -18,7 +20,7 @@ pub fn room() -> [u8; ROOM]
 }
 
 // What stands in argument `at` from byte `from` on; `at` is 0 where nothing is given.
-#[derive(Drop)]
+#[derive(Clone, Copy)]
 pub struct Piece {
     pub at: usize,
     pub from: usize,
@@ -44,7 +46,7 @@ pub fn which(piece: Piece, list: &[u8]) -> usize {
     lists::line_of(list, tail(&own[..n], piece.from))
 }
 
-#[derive(Drop)]
+#[derive(Clone, Copy)]
 pub enum Held {
     Number(u64),
     Other,
@@ -75,7 +77,7 @@ pub fn descriptor(piece: Piece) -> i32 {
 const LIST_ROOM: usize = limits::BORDERS_MOST + 1;
 
 // What came of reading a list: so many of its numbers at the front, and whether it is a list at all.
-#[derive(Drop)]
+#[derive(Clone, Copy)]
 pub struct Listed {
     pub numbers: [u64; LIST_ROOM],
     pub count: usize,
@@ -98,7 +100,7 @@ pub fn list(piece: Piece) -> Listed
     }
 }
 
-#[derive(Drop)]
+#[derive(Clone, Copy)]
 struct Kept {
     count: usize,
     good: bool,

@@ -1,5 +1,7 @@
 // The byte to blame in a faulty line (02, E5), from 1; 0 where none is. A line is asked for it only where it was refused, so a good line costs nothing.
 // The byte that parts the fields is an argument, `sep`; a line ends in an LF.
+#![tactic(auto)]
+
 pub mod range;
 
 ghost use Rattle.std.specs.Prelude.{◌≡◌, ◌≤◌};

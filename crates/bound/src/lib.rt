@@ -1,5 +1,7 @@
 // How many rounds the hour of a good table can take at most, known before the first round. What is done beyond starting the margins (tight::measure) costs less than one
 // round (docs/BENCH.md). What judges lent tables first is crate doors'.
+#![tactic(auto)]
+
 ghost use Rattle.std.specs.Prelude.{◌≡◌, ◌*◌, length};
 ghost use Rattle.marks.specs.Marks.{flagged};
 ghost use Rattle.tablerules.specs.Table.{lent, front};

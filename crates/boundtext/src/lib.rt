@@ -1,4 +1,6 @@
 // The hour's own bound as text: the `U` line. Its length is counted before the first byte is stored.
+#![tactic(auto)]
+
 ghost use Rattle.std.specs.Prelude.{◌≡◌, ◌≤◌, length};
 ghost use Rattle.refusals.specs.Refusals.{passed};
 ghost use Rattle.text.specs.Left.{text_left, text_said};

@@ -2,6 +2,8 @@
 // C hands a slice over as a pointer and the count of its items, and a header by value. Any input has an answer: there is no `requires`.
 // A call's symbol bears the interface's major number, so that an object that was compiled against another header does not link; the header gives the call
 // its name without it. The version alone can be asked of every library.
+#![tactic(auto)]
+
 ghost use Rattle.std.specs.Prelude.{◌≡◌, true, false, []};
 ghost use Rattle.tablerules.specs.Table.{lent};
 ghost use Rattle.reading.specs.Reading.{read_left, read_corrected_left};

@@ -1,4 +1,6 @@
 // A border's cap (kW) is what it may rise by at most. How a row's equal share (grains) tightens one, which divides little (02, E4).
+#![tactic(auto)]
+
 ghost use Rattle.std.specs.Prelude.{◌≡◌};
 ghost use Rattle.caps.specs.Tight.{tight};
 

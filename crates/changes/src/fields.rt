@@ -28,7 +28,7 @@ const NONE: usize = 5;
 const HUBS: usize = 5;
 
 // Where the next line of each text begins, and its number; whether all could be written so far.
-#[derive(Drop)]
+#[derive(Clone, Copy)]
 struct Places {
     old: usize,
     new: usize,

@@ -1,4 +1,6 @@
 // Tells what differs between two tables, or between a table and the same as a correction sheet corrects it. Both are judged first: a table that is refused has its E line.
+#![tactic(auto)]
+
 mod fields;
 
 use arguments::{Piece, whole};

@@ -1,4 +1,6 @@
 // The claim of a line, as its record. A line of wrong form becomes a claim on no row, which judging finds.
+#![tactic(auto)]
+
 ghost use Rattle.std.specs.Prelude.{◌≡◌, cond, suc, ◌+◌, ◌*◌, ◌<◌, ◌≤◌, eqb, length};
 ghost use Rattle.numbers.specs.Below.{sum};
 ghost use Rattle.types.specs.Ranges.{at_ℤ};

@@ -1,4 +1,6 @@
 // Judging claims of an outside solver on kept rows (02, E10): the form of a claim, then whether it is borne out.
+#![tactic(auto)]
+
 ghost use Rattle.std.specs.Prelude.{◌≡◌, true, ◌<◌, ◌≤◌, nat_abs, ◌*ℤ◌, length};
 ghost use Rattle.numbers.specs.Below.{all_below};
 ghost use Rattle.limits.specs.Limits.{rows_most};

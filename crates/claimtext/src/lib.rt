@@ -1,4 +1,6 @@
 // Claims as text, and the published list as text (02, E10). The text's length is counted before the first byte is stored.
+#![tactic(auto)]
+
 mod judge;
 mod published;
 

@@ -1,4 +1,6 @@
 // What the calls for C answer (include/keravnoth.h): an answer as numbers, the refusal's first, all 0 where there is none.
+#![tactic(auto)]
+
 ghost use Rattle.std.specs.Prelude.{◌≡◌};
 ghost use Rattle.refusals.specs.Answers.{said_written};
 ghost use Rattle.cornerrules.specs.Answers.{said_flows};
@@ -17,7 +19,7 @@ use refusals::{Judgement, Written};
 use why::Explained;
 
 #[repr(C)]
-#[derive(Drop)]
+#[derive(Clone, Copy)]
 pub struct KeravnothRead {
     pub number: u32,
     pub place: usize,
@@ -30,7 +32,7 @@ pub struct KeravnothRead {
 }
 
 #[repr(C)]
-#[derive(Drop)]
+#[derive(Clone, Copy)]
 pub struct KeravnothWritten {
     pub number: u32,
     pub place: usize,
@@ -40,7 +42,7 @@ pub struct KeravnothWritten {
 
 // An answer in text, and what the text tells: the number, place and byte of its E line, all 0 where it is a result.
 #[repr(C)]
-#[derive(Drop)]
+#[derive(Clone, Copy)]
 pub struct KeravnothAnswered {
     pub number: u32,
     pub place: usize,
@@ -52,7 +54,7 @@ pub struct KeravnothAnswered {
 }
 
 #[repr(C)]
-#[derive(Drop)]
+#[derive(Clone, Copy)]
 pub struct KeravnothExtracted {
     pub number: u32,
     pub place: usize,
@@ -61,7 +63,7 @@ pub struct KeravnothExtracted {
 }
 
 #[repr(C)]
-#[derive(Drop)]
+#[derive(Clone, Copy)]
 pub struct KeravnothFlows {
     pub number: u32,
     pub place: usize,
@@ -70,7 +72,7 @@ pub struct KeravnothFlows {
 }
 
 #[repr(C)]
-#[derive(Drop)]
+#[derive(Clone, Copy)]
 pub struct KeravnothJudged {
     pub number: u32,
     pub place: usize,
@@ -78,7 +80,7 @@ pub struct KeravnothJudged {
 }
 
 #[repr(C)]
-#[derive(Drop)]
+#[derive(Clone, Copy)]
 pub struct KeravnothBounded {
     pub number: u32,
     pub place: usize,
@@ -90,7 +92,7 @@ pub struct KeravnothBounded {
 }
 
 #[repr(C)]
-#[derive(Drop)]
+#[derive(Clone, Copy)]
 pub struct KeravnothExplained {
     pub number: u32,
     pub place: usize,

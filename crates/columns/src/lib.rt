@@ -2,19 +2,21 @@
 // The lists are `COLUMNS` of the types that carry the values (crate types), one byte for each field: n a number, s a signed number, r R, which is a number or "-";
 // p a power in MW with three decimals, q one that may be below 0, f a factor with five decimals.
 // The byte that parts the fields is an argument, `sep`; a line ends in an LF.
+#![tactic(auto)]
+
 pub mod optional;
 pub mod read;
 pub mod write;
 
 // What fields come to: the place after them, or the first place that no good line could have.
-#[derive(Drop)]
+#[derive(Clone, Copy)]
 pub enum Fields {
     End(usize),
     Bad(usize),
 }
 
 // What stands before a line's columns: its letter, its letter and its index, or its index alone.
-#[derive(Drop)]
+#[derive(Clone, Copy)]
 pub enum Head {
     Lettered(u8),
     Indexed(u8, usize),

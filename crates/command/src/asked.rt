@@ -2,7 +2,7 @@
 use arguments::{Held, whole};
 
 // The first arguments that belong to no option, by their places: the word, and what stands after it (a row, a file, the table); 0 where there is none.
-#[derive(Drop)]
+#[derive(Clone, Copy)]
 pub struct Plain {
     pub word: usize,
     pub first: usize,
@@ -11,7 +11,7 @@ pub struct Plain {
 }
 
 // The words whose text is printed at once.
-#[derive(Drop)]
+#[derive(Clone, Copy)]
 pub enum Word {
     Answer,
     Rewrite,
@@ -28,13 +28,13 @@ pub enum Word {
 }
 
 // The rows whose corner sheets are printed.
-#[derive(Drop)]
+#[derive(Clone, Copy)]
 pub enum Whose {
     Every,
     One(usize),
 }
 
-#[derive(Drop)]
+#[derive(Clone, Copy)]
 pub enum Task {
     Text(Word),
     // printed row by row
@@ -42,13 +42,13 @@ pub enum Task {
 }
 
 // Which arguments name what is read: the file that goes with a word, and the table, which is standard input where none names it.
-#[derive(Drop)]
+#[derive(Clone, Copy)]
 pub struct Names {
     pub file: usize,
     pub table: usize,
 }
 
-#[derive(Drop)]
+#[derive(Clone, Copy)]
 pub enum Asked {
     Task(Task, Names),
     // why a border got no more, and which argument names the table

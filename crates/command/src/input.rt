@@ -16,7 +16,7 @@ pub fn room() -> [u8; ROOM]
 }
 
 // What came of reading: so many bytes at the front, or an error, and then none. No contract can say which bytes are read.
-#[derive(Drop)]
+#[derive(Clone, Copy)]
 pub struct Read {
     pub count: usize,
     pub failed: bool,

@@ -6,7 +6,7 @@ use crate::asked::Plain;
 use arguments::{Held, Piece, lists, whole};
 
 // Where each thing stands among the arguments, 0 where it does not.
-#[derive(Drop)]
+#[derive(Clone, Copy)]
 pub struct Command {
     pub plain: Plain,
     // the file of corrections

@@ -1,5 +1,7 @@
 // The corner sheet (02, E1): every corner's flow on one row, in grains, as summed for S.
 // A corner uses border b at its whole LTA where bit b of the corner's number is set, and else at 0.
+#![tactic(auto)]
+
 ghost use Rattle.std.specs.Prelude.{◌≡◌, true, ◌++◌, ◌+◌, ◌^◌, ◌<◌, ◌≤◌, length, take};
 ghost use Rattle.numbers.specs.Ints.{Within, AllWithin};
 ghost use Rattle.types.specs.Ranges.{border_fits, border_of};

@@ -1,5 +1,7 @@
 // One row's corner sheet as text (02, E1): a `K` line for each corner.
 // The text's length is counted before the first byte is stored. A sheet may pass 65,536 bytes: that limit is for input.
+#![tactic(auto)]
+
 ghost use Rattle.std.specs.Prelude.{◌≡◌, ◌+◌, ◌<◌, ◌≤◌, length};
 ghost use Rattle.refusals.specs.Refusals.{passed};
 ghost use Rattle.text.specs.Left.{text_left, text_said};

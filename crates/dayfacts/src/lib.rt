@@ -1,1 +1,2 @@
 // Theorems alone: see proofs/.
+#![tactic(auto)]

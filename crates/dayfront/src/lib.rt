@@ -1,4 +1,6 @@
 // The front of a day's page: its hours are read and answered, for the records of the strip and the tables of the sheet, and the front is printed, which tells of all of them.
+#![tactic(auto)]
+
 mod bounds;
 mod front;
 
@@ -126,7 +128,7 @@ fn read_hour(
 }
 
 // What came of an hour, the bound of its rounds, and the check sum of its text.
-#[derive(Drop)]
+#[derive(Clone, Copy)]
 struct Came {
     hour: HourRecord,
     bound: u64,

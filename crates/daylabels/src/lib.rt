@@ -1,5 +1,7 @@
 // Judges the files of a day before anything is printed: how many there are, and that each has a label of its own. A misuse is told where it is seen.
 // What a good name is (labels), and when two labels are the same, is promised; of which names the arguments are no contract can speak.
+#![tactic(auto)]
+
 ghost use Rattle.std.specs.Prelude.{◌≡◌, ◌<◌};
 ghost use Rattle.labels.specs.Labels.{name_good};
 

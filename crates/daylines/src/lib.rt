@@ -1,4 +1,6 @@
 // The lines of an hour behind its label, as a day has them.
+#![tactic(auto)]
+
 pub mod label;
 
 ghost use Rattle.std.specs.Prelude.{true, [], ◌∷◌, ◌++◌, ◌+◌, ◌≤◌, length};

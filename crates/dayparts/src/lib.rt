@@ -1,4 +1,6 @@
 // The parts of the hours of a day's page, one after another, and its foot. Each table was read for the front (crate dayfront) and is read again for its part, and has to be the same.
+#![tactic(auto)]
+
 use command::input;
 use daylines::label;
 use messages::day;

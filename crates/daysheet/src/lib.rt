@@ -1,5 +1,7 @@
 // A day as one sheet: borders down, hours across, whole MW between semicolons. Here it is promised what each line's front and each cell are; together they are
 // the sheet (`sheet_text`).
+#![tactic(auto)]
+
 ghost use Rattle.std.specs.Prelude.{◌≡◌, ◌∷◌, ◌+◌, ◌<◌, ◌≤◌, length};
 ghost use Rattle.limits.specs.Limits.{borders_most};
 ghost use Rattle.numbers.specs.Below.{at};
@@ -22,7 +24,7 @@ pub const UNREAD: u64 = 2;
 pub const HOURS_MOST: usize = 100;
 
 // The lines below the labels.
-#[derive(Drop)]
+#[derive(Clone, Copy)]
 pub enum Line {
     Rounds,
     Profile,
@@ -30,7 +32,7 @@ pub enum Line {
 }
 
 // What an hour that is answered has in a line.
-#[derive(Drop)]
+#[derive(Clone, Copy)]
 pub enum Own {
     Number,
     DayAhead,

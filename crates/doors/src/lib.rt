@@ -1,4 +1,6 @@
 // The open calls `extract`, `bound` and, in its own file, `why` on lent tables, each for every border and with marks: what is lent is judged here, once, and all inside works on a good table.
+#![tactic(auto)]
+
 pub mod reasons;
 
 ghost use Rattle.std.specs.Prelude.{◌≡◌, true, false, []};

@@ -8,7 +8,7 @@ use arguments::lists;
 use text::Number;
 
 // The letter of the line that is due, 0 where none is; the index it has; how many lines there are.
-#[derive(Drop)]
+#[derive(Clone, Copy)]
 pub struct Due {
     pub letter: u8,
     pub index: u64,

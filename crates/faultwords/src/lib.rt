@@ -1,5 +1,7 @@
 // What a refused text has at the place that is blamed, in words: the line, the field by its name, what stands there and what is wanted. Which place is blamed is proved; these are
 // words over the text, and stored ones hold them.
+#![tactic(auto)]
+
 mod due;
 mod found;
 mod words;

@@ -1,5 +1,7 @@
 // The names of a line's fields, of a table and of the planners' sheet: one list for everything that speaks of a field.
 // Field 0 is the letter. A row of the planners' sheet has no letter: its index is field 1, as in a C line.
+#![tactic(auto)]
+
 ghost use Rattle.io.specs.Counts.{IsPrefixLen};
 
 // A field that no line of the kind has.

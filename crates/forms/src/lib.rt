@@ -3,11 +3,13 @@
 //   $-         a figure that is passed over
 //   $t, $m     grains as MW with one decimal, with three: cut, never rounded, and "<0.1" or "<0.001" for a power that would be shown as 0
 // Forms stand in one long byte string, a form to a line: a function with many literals is slow to check, one with a long literal is not.
+#![tactic(auto)]
+
 ghost use Rattle.std.specs.Prelude.{◌<◌, ◌≤◌};
 ghost use Rattle.io.specs.Counts.{IsPrefixLen};
 
 // Where the next byte goes, and which figure is next.
-#[derive(Drop)]
+#[derive(Clone, Copy)]
 struct Spot {
     at: usize,
     figure: usize,

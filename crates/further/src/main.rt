@@ -1,5 +1,7 @@
 // The program of the further words, which need more than an answer. Why a border got no more, what differs between two tables, a text repaired, a page, a day.
 // The program that answers (crate keravnoth) understands the arguments and hands these words on, with all arguments as they were given.
+#![tactic(auto)]
+
 use command::asked::Asked;
 use command::options::Command;
 use command::{asked, input, options};
@@ -58,7 +60,7 @@ fn draw_day(command: Command, marks: &[u64]) -> Ended {
 }
 
 // What a table is read for, as a sheet corrects it: why a border of it got no more, or its page.
-#[derive(Drop)]
+#[derive(Clone, Copy)]
 enum Of {
     Border(u64),
     Table,

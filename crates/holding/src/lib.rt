@@ -1,5 +1,7 @@
 // What the rounds of a grid tell of one border: the rounds themselves, the row that holds it, what each row would still allow it, and where each border started and ended
 // (01, "Extraction"; 02, E7). It knows p, margins and exchanges, and no table. Margins are in grains, exchanges in kW.
+#![tactic(auto)]
+
 ghost use Rattle.std.specs.Prelude.{◌≡◌, ℕ, ◌*◌, ◌^◌, ◌<◌, ◌≤◌, length};
 ghost use Rattle.numbers.specs.Below.{at, table, over};
 ghost use Rattle.limits.specs.Limits.{borders_most};
@@ -25,7 +27,7 @@ pub type HoldRecord = [i64; HOLD_ITEMS];
 
 // A border's reasons: how many rounds there were, the last that raised it (0 if none did), the row that the result names for it, and the row that ended its rise; `DASH` where
 // no row did.
-#[derive(Drop)]
+#[derive(Clone, Copy)]
 pub struct Reasons {
     pub rounds: u64,
     pub last: u64,
@@ -50,7 +52,7 @@ fn holder(rows: usize, borders: usize, p: &[u64], ns: &[u64], margins: &[u64], b
 }
 
 // The row that holds a border by the margins at the end, which the result names, and the row that ended its rise, by those after its last round.
-#[derive(Drop)]
+#[derive(Clone, Copy)]
 pub struct Stops {
     pub named: i64,
     pub ended: i64,

@@ -1,5 +1,7 @@
 // The figures of an hour for a day's sheet, from its table and its result: its record, where each border goes, and each ATC. They are kept in tables that hold
 // all hours, each hour's items at its own place.
+#![tactic(auto)]
+
 mod items;
 
 ghost use Rattle.std.specs.Prelude.{◌≡◌, true, ◌*◌, ◌<◌, ◌≤◌, length, take};

@@ -1,4 +1,6 @@
 // A day as lines (`keravnoth day`): every line of every hour's answer behind the hour's label. An hour that is refused or cannot be read says so itself. What an hour's lines are is promised; that a day is its hours one after another is `day_text`.
+#![tactic(auto)]
+
 ghost use Rattle.std.specs.Prelude.{◌≡◌, ◌≤◌, length};
 ghost use Rattle.limits.specs.Limits.{bytes_most};
 ghost use Rattle.answer.specs.Result.{answer_for};

@@ -1,5 +1,7 @@
 // A day as one sheet (`keravnoth day --sheet`): each hour is read and answered, and its figures are kept; then the lines are printed. What is kept is promised of the
 // texts that came (`Day`), and what a cell holds in daysheet.
+#![tactic(auto)]
+
 ghost use Rattle.std.specs.Prelude.{◌≡◌, ◌*◌, ◌<◌, ◌≤◌, length};
 ghost use Rattle.limits.specs.Limits.{borders_most};
 ghost use Rattle.daysheet.specs.Sheet.{hours_most, border_of};

@@ -1,4 +1,6 @@
 // The figures of an hour for a day's sheet, from the text of the hour's own table.
+#![tactic(auto)]
+
 ghost use Rattle.std.specs.Prelude.{◌≡◌, ◌*◌, ◌<◌, ◌≤◌, length};
 ghost use Rattle.limits.specs.Limits.{zones_most, borders_most, rows_most};
 ghost use Rattle.tablerules.specs.Table.{lent, front};

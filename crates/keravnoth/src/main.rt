@@ -3,6 +3,8 @@
 // Words that need more than an answer are those of another program (crate further): this one understands them, and hands them on.
 // Whoever starts the program gives it two options that are not for people: with `--status-fd N` its last word is its status, on descriptor N;
 // `--proved TEXT` is what `--version` says that it was proved in.
+#![tactic(auto)]
+
 ghost use Rattle.io.specs.Counts.{IsPrefixLen};
 
 use arguments::{Piece, whole};

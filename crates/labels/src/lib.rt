@@ -1,4 +1,6 @@
 // What can be the label of an hour: its bytes.
+#![tactic(auto)]
+
 ghost use Rattle.std.specs.Prelude.{◌≡◌};
 ghost use Rattle.labels.specs.Labels.{label_byte, label_text};
 

@@ -1,5 +1,7 @@
 // The open calls `read` and `read_corrected`: the texts are read into room for the largest table, then the lengths of the lent tables are judged, and only then is
 // anything written to them.
+#![tactic(auto)]
+
 ghost use Rattle.std.specs.Prelude.{◌≡◌, true, ◌*◌, ◌≤◌, length};
 ghost use Rattle.limits.specs.Limits.{zones_most, borders_most, rows_most};
 ghost use Rattle.refusals.specs.Refusals.{passed};

@@ -11,14 +11,14 @@ use columns::{Fields, Head};
 use types::{Row, RowRecord};
 
 // The kinds of line that hold a row: the table's, which is a C line, and the planners' sheet's.
-#[derive(Drop)]
+#[derive(Clone, Copy)]
 pub enum RowKind {
     Table,
     Sheet,
 }
 
 // What a row's line comes to.
-#[derive(Drop)]
+#[derive(Clone, Copy)]
 pub enum RowJudged {
     Holds,
     Form(usize),
@@ -26,7 +26,7 @@ pub enum RowJudged {
 }
 
 // What a row's line was judged, and its raw record, which says nothing where the line is faulty: an enum holds no array.
-#[derive(Drop)]
+#[derive(Clone, Copy)]
 pub struct RowRead {
     pub judged: RowJudged,
     pub raw: RowRecord,

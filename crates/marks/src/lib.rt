@@ -1,4 +1,6 @@
 // Marked borders (02, E13): judging a list of marks (13), and which borders may rise: those of the list, or every one where none was asked for.
+#![tactic(auto)]
+
 ghost use Rattle.std.specs.Prelude.{◌≡◌, ◌<◌, ◌≤◌, eqb, length};
 ghost use Rattle.numbers.specs.Below.{at, first_from, some_below};
 ghost use Rattle.numbers.specs.First.{found};

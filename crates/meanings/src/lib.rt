@@ -1,5 +1,7 @@
 // What each refusal means, in words (01, "When the table is turned away"; 02): one list, for the program and for C.
 // A # stands where the refusal's place belongs.
+#![tactic(auto)]
+
 ghost use Rattle.std.specs.Prelude.{◌≡◌, ◌≤◌, ◌-◌, length, take};
 ghost use Rattle.numbers.specs.Below.{over};
 ghost use Rattle.refusals.specs.Refusals.{passed};

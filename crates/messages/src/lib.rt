@@ -1,5 +1,7 @@
 // What the program says to people: what is wrong with the arguments, what a refusal means and what to look at. Each is one line.
 // On a refusal standard output holds the E line alone (01, "Result text"), so its meaning goes to standard error.
+#![tactic(auto)]
+
 pub mod day;
 pub mod usage;
 

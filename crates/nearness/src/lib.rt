@@ -1,6 +1,8 @@
 // The rows that the rounds of a block look at; most rows may rest (02, E4). Raises never grow, so what a row loses in this round is the most that it loses in each
 // of the next: a row far from tight rests. Some near rows need no look either: a row that yields to another, with no less margin and no larger n or factor, never
 // tightens a cap below what the other allows. Margins and losses are in grains, caps in kW.
+#![tactic(auto)]
+
 ghost use Rattle.std.specs.Prelude.{◌≡◌, true, ℕ, ◌*◌, ◌-◌, ◌/◌, ◌^◌, ◌<◌, ◌≤◌, ltb, length};
 ghost use Rattle.numbers.specs.Below.{at};
 ghost use Rattle.rounds.specs.AllRounds.{flat, Ready};

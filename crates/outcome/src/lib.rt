@@ -1,4 +1,6 @@
 // What is left of a border and of a row at the end of the rounds, and the records that the open calls store of them (01, "Extraction"; 02, E7).
+#![tactic(auto)]
+
 ghost use Rattle.std.specs.Prelude.{◌≡◌, ℕ, ◌*◌, ◌^◌, ◌<◌, ◌≤◌, length};
 ghost use Rattle.numbers.specs.Below.{at, table, over};
 ghost use Rattle.numbers.specs.First.{found};
@@ -9,7 +11,7 @@ ghost use Rattle.outcome.specs.Outcome.{StopFits, row_or_dash, border_left, left
 use numbers::First;
 
 // A border at the end of the rounds: its exchange, kW, the last round that raised it, and the row that stopped it.
-#[derive(Drop)]
+#[derive(Clone, Copy)]
 pub struct BorderResult {
     pub kw: u64,
     pub last: u64,
@@ -51,7 +53,7 @@ impl BorderResult {
 }
 
 // A row at the end of the rounds: its state, its RAM and the margin left, grains.
-#[derive(Drop)]
+#[derive(Clone, Copy)]
 pub struct RowResult {
     pub state: u64,
     pub ram: i64,

@@ -1,4 +1,6 @@
 // Standard output: a text is printed, and what came of it is heard from the text itself; a refusal as the text that is printed for it; and bytes put into a text that is.
+#![tactic(auto)]
+
 ghost use Rattle.std.specs.Prelude.{◌≡◌, ◌+◌, ◌≤◌, length};
 ghost use Rattle.io.specs.Counts.{IsPrefixLen};
 ghost use Rattle.text.specs.Put.{Put};
@@ -11,7 +13,7 @@ use refusals::{Refusal, Written};
 use text::Number;
 
 // What came of printing.
-#[derive(Drop)]
+#[derive(Clone, Copy)]
 pub enum Ended {
     Answered,
     // A line E stands there: its number, place and byte.

@@ -1,5 +1,7 @@
 // The page of an hour: one HTML file that shows it all, with no script and nothing from outside. Its figures are those of proved calls; the words and the drawing are
 // held by stored pages and by a test that takes every figure out of a page again (second/pages.rs). It is written piece by piece to standard output.
+#![tactic(auto)]
+
 pub mod hours;
 pub mod word;
 

@@ -1,4 +1,6 @@
 // Scales and the places of values on them, in whole numbers (docs/DECISIONS.md has the formulas). A value is a figure: from 2^63 on it is below 0.
+#![tactic(auto)]
+
 pub mod scale;
 
 ghost use Rattle.std.specs.Prelude.{◌<◌, ◌≤◌};

@@ -1,4 +1,6 @@
 // Draws the records of an hour: the sums of the rows' bars, how many rows there are of each kind, both scales, and where everything stands on them.
+#![tactic(auto)]
+
 use pagebars::{place, scale};
 use pagefacts::{RECORDS, ROWS, border, hour, one_if, row};
 use pageform::Figures;

@@ -1,5 +1,7 @@
 // What a page shows of an hour, as records of figures that its pieces print: one for each border, behind them one for each row, and one for the hour. The comment at each place gives
 // the letter by which pieces name it (crate pageform); a figure from 2^63 on is below 0.
+#![tactic(auto)]
+
 pub mod border;
 pub mod hour;
 pub mod row;

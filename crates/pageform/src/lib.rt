@@ -5,6 +5,8 @@
 //   ?xy .. | .. }  the first part where figure x is less than figure y
 //   `              an LF
 // A figure is never HTML, and text from outside goes by `put_safe`: what the page is made of stands in the lists alone.
+#![tactic(auto)]
+
 pub mod safe;
 mod step;
 

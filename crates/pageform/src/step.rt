@@ -2,7 +2,7 @@
 use crate::safe;
 
 // The place to write at; how many open parts are left out, the byte's own among them; the sign whose names come next, and the first of two names.
-#[derive(Drop)]
+#[derive(Clone, Copy)]
 pub struct State {
     pub at: usize,
     pub skip: usize,

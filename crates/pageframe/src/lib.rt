@@ -1,4 +1,6 @@
 // The frame of every page. A change of looks checks this crate, and what prints pages.
+#![tactic(auto)]
+
 use arguments::lists;
 use libc::STDOUT_FILENO;
 

@@ -3,6 +3,8 @@
 //   b  each border                   k  each other kept row            d  each row that says the same as another
 //   w  the reasons, and no piece
 // A part that does not belong on a page is left out by the conditions of its piece. Every id begins with the hour, so that a page can have several.
+#![tactic(auto)]
+
 use libc::STDOUT_FILENO;
 use pagefacts::{ROWS, hour, row};
 use pageform::Figures;

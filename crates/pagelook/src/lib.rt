@@ -1,5 +1,7 @@
 // What the proved calls answer about an hour, gathered in the records of its page: for each border why it got no more (crate why), which also tells every row what it stops,
 // and for each row what its margin is made of (crates states and parts).
+#![tactic(auto)]
+
 mod look;
 
 ghost use Rattle.std.specs.Prelude.{◌≡◌, ◌≤◌, length};
@@ -11,7 +13,7 @@ use partrules::PartsRecord;
 use types::{BorderRecord, Header, RowRecord};
 
 // Where the next words go, how many rounds there were, and whether the hour is refused.
-#[derive(Drop)]
+#[derive(Clone, Copy)]
 pub struct Seen {
     pub at: usize,
     pub rounds: u64,

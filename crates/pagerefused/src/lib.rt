@@ -1,4 +1,6 @@
 // The part of a page that says why an hour is refused: the words, the line, the byte that is blamed, and the program's own answer.
+#![tactic(auto)]
+
 mod line;
 
 use pagefacts::hour;

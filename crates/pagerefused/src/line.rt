@@ -5,7 +5,7 @@ use arguments::lists;
 use libc::STDOUT_FILENO;
 
 // Where a line stands: its number from 1 on, and its first byte.
-#[derive(Drop)]
+#[derive(Clone, Copy)]
 struct Place {
     number: u64,
     from: usize,

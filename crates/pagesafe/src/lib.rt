@@ -1,9 +1,11 @@
 // How a byte of a text from outside stands on a page, so that it is never taken for HTML. Apart from the code that writes it, since this is what is promised.
+#![tactic(auto)]
+
 ghost use Rattle.std.specs.Prelude.{◌≡◌};
 ghost use Rattle.pagesafe.specs.Shown.{is_sign, shown_as};
 
 // As it is, by its number, as a blank, or in hexadecimal digits.
-#[derive(Drop)]
+#[derive(Clone, Copy)]
 pub enum Shown {
     AsItIs,
     Numbered,

@@ -1,4 +1,6 @@
 // For each row that says the same as a kept one: which one that is, and its RAM (01, "Row states": the factors of the two differ by one and the same number).
+#![tactic(auto)]
+
 ghost use Rattle.std.specs.Prelude.{◌≤◌};
 
 use pagefacts::{ROWS, row};

@@ -1,5 +1,7 @@
 // The front of a day's page: a strip with a box for each hour, and the sheet of capacities, with a small line for each border over the day. What a cell of the sheet says is
 // promised in crate daysheet; the drawing is held by a stored page and by a test that takes every figure out of a page again (second/pages.rs).
+#![tactic(auto)]
+
 pub mod facts;
 mod line;
 mod sheet;

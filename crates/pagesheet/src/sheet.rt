@@ -14,7 +14,7 @@ const BLOCK_MOST: usize = 25;
 
 const BLOCKS_MOST: usize = 4;
 
-#[derive(Drop)]
+#[derive(Clone, Copy)]
 struct Block {
     from: usize,
     size: usize,

@@ -1,5 +1,7 @@
 // What each row's margin is made of (01, "Margin of a row"), for those who set the margins and publish them: the open call `margins`.
 // It asks no more of a table than writing does, so it answers for tables that the extraction refuses.
+#![tactic(auto)]
+
 mod row;
 
 ghost use Rattle.std.specs.Prelude.{◌≡◌, ◌≤◌, length};

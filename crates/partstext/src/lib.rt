@@ -1,5 +1,7 @@
 // What each row's margin is made of, as text: a `V` line for each row.
 // The text's length is counted before the first byte is stored.
+#![tactic(auto)]
+
 ghost use Rattle.std.specs.Prelude.{◌≡◌, ℕ, ◌+◌, ◌<◌, ◌≤◌, length};
 ghost use Rattle.limits.specs.Limits.{rows_most};
 ghost use Rattle.refusals.specs.Refusals.{passed};

@@ -1,5 +1,7 @@
 // What a round does to the borders: whether it raises one, and the raises themselves (01, "Extraction"; 02, E7), of the borders that `rising` lists in its first
 // `live` places. A border's cap is its raise, in kW.
+#![tactic(auto)]
+
 ghost use Rattle.std.specs.Prelude.{◌≡◌, ltb, length};
 ghost use Rattle.numbers.specs.Below.{at, if_zero, count};
 ghost use Rattle.walk.specs.Walk.{Listed};

@@ -1,10 +1,12 @@
 // Why a table is turned away, and what a judgement and a call that writes text answer.
+#![tactic(auto)]
+
 ghost use Rattle.std.specs.Prelude.{◌≡◌};
 ghost use Rattle.refusals.specs.Refusals.{refusal, too_long, wrong_form_at, wrong_form, out_of_range_at, out_of_range, given_twice, no_row, unlimited, below_zero, too_short, no_corners, wrong_correction, malformed_claim, not_borne_out, bad_mark};
 
 // Why a table is turned away, as 01 tells it: number and place (0 where there is no place), and the byte to blame in the line that the place names (02, E5),
 // counted from 1 (0 where no byte is to blame). Only the functions below make one: one for each line of 01's table.
-#[derive(Drop)]
+#[derive(Clone, Copy)]
 pub struct Refusal {
     pub number: u32,
     pub place: usize,
@@ -113,14 +115,14 @@ impl Refusal {
     }
 }
 
-#[derive(Drop)]
+#[derive(Clone, Copy)]
 pub enum Judgement {
     Passed,
     Refused(Refusal),
 }
 
 // What a call that writes text answers: the bytes written, or why nothing was. Calls of several crates do, so it stands here, below them all.
-#[derive(Drop)]
+#[derive(Clone, Copy)]
 pub enum Written {
     Bytes(usize),
     Refused(Refusal),

@@ -1,5 +1,7 @@
 // The rules' rounds by the letter, a given number of them, over a flat table of factors p (01, "Extraction"): what the margins were in the midst of the work, which the fast
 // loop (roundloop) does not keep. Margins are in grains.
+#![tactic(auto)]
+
 ghost use Rattle.std.specs.Prelude.{◌≡◌, ◌*◌, ◌≤◌, length};
 ghost use Rattle.limits.specs.Limits.{borders_most};
 ghost use Rattle.rounds.specs.AllRounds.{flat, Ready};

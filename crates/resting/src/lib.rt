@@ -1,5 +1,7 @@
 // Blocks of rounds, in which most rows rest (02, E4). The rows are sorted once for a block (nearness), and in its rounds only the near ones are walked.
 // During a block the margins (grains) do not change, and `gained` holds what each border rose by since the block began (kW).
+#![tactic(auto)]
+
 ghost use Rattle.std.specs.Prelude.{◌≡◌, ◌+◌, ◌*◌, ◌-◌, ◌^◌, ◌<◌, ◌≤◌, length};
 ghost use Rattle.numbers.specs.Below.{table};
 ghost use Rattle.rounds.specs.Rounds.{raises};
@@ -8,7 +10,7 @@ ghost use Rattle.walk.specs.Walk.{Listed};
 ghost use Rattle.resting.specs.Resting.{left_to, near_row, Settleable, Waiting, Renewed, Walkable};
 
 // A block of rounds: the borders and the rows that its rounds look at, and the rounds that are left of it.
-#[derive(Drop)]
+#[derive(Clone, Copy)]
 pub struct Block {
     pub live: usize,
     pub count: usize,

@@ -1,4 +1,6 @@
 // Writing a table that stands in a text again: the open call `rewrite_corrected`, of a text with a correction sheet (02, E2).
+#![tactic(auto)]
+
 mod rewritten;
 
 ghost use Rattle.std.specs.Prelude.{◌≡◌};

@@ -1,5 +1,7 @@
 // The rounds of the extraction, one after the other (01, "Extraction"), over a flat table of factors p. Margins are in grains, exchanges and raises in kW.
 // A round's raises are the caps that the walk of the round before left, and a round is a walk over the rows that do not rest (02, E4).
+#![tactic(auto)]
+
 ghost use Rattle.std.specs.Prelude.{◌≡◌, ◌*◌, ◌≤◌, min, length};
 ghost use Rattle.rounds.specs.AllRounds.{flat, Startable, work_left, work_of};
 

@@ -1,4 +1,6 @@
 // The rows' lines of a text, read into records and factors.
+#![tactic(auto)]
+
 ghost use Rattle.std.specs.Prelude.{◌≡◌, ◌+◌, ◌*◌, ◌^◌, ◌≤◌, ◌<◌, length};
 ghost use Rattle.limits.specs.Limits.{zones_most};
 ghost use Rattle.refusals.specs.Refusals.{passed};

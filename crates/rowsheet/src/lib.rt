@@ -1,5 +1,7 @@
 // The planners' semicolon sheet (02, E11): the open calls `read_rows` and `write_rows`.
 // All is judged before the first record or byte is stored.
+#![tactic(auto)]
+
 mod read;
 mod write;
 

@@ -1,5 +1,7 @@
 // Corner sheets (02, E1), row by row, so that no buffer holds more than one row's sheet.
 // Here it is promised what each row's bytes are; that together they are the sheet of the text is proved in proofs/SheetLaws.
+#![tactic(auto)]
+
 ghost use Rattle.std.specs.Prelude.{◌≡◌, ◌*◌, ◌≤◌, length};
 ghost use Rattle.limits.specs.Limits.{zones_most, borders_most, rows_most};
 ghost use Rattle.tablerules.specs.Table.{lent, front};

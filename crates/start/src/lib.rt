@@ -1,4 +1,6 @@
 // What the rounds start from, and refusals 5, 6, 7. Margins are in grains, exchanges in kW.
+#![tactic(auto)]
+
 ghost use Rattle.std.specs.Prelude.{◌≡◌, true, cond, not, ◌&&◌, ◌*◌, ◌<◌, ◌≤◌, ltb, eqb, pos, length};
 ghost use Rattle.std.specs.Int.Signed.{lt_z};
 ghost use Rattle.numbers.specs.Ints.{positive_part};

@@ -1,1 +1,2 @@
 // Definitions alone: see specs/ and proofs/.
+#![tactic(auto)]

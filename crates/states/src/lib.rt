@@ -1,4 +1,6 @@
 // Row states: which rows take part in the extraction, and what every reading of a table's rows begins with: RAM, starting margin and state of each.
+#![tactic(auto)]
+
 ghost use Rattle.std.specs.Prelude.{◌≡◌, ◌&&◌, ◌<◌, pos, length};
 ghost use Rattle.std.specs.Int.Signed.{lt_z};
 ghost use Rattle.numbers.specs.Below.{some_below};

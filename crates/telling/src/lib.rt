@@ -1,4 +1,6 @@
 // What people are told of what came of printing: nothing of an answer, the meaning of a refusal, and that writing failed.
+#![tactic(auto)]
+
 use arguments::whole;
 use command::options::Command;
 use libc::STDOUT_FILENO;

@@ -1,4 +1,6 @@
 // One line of text: its bytes, its fields, where it ends, and how it is written.
+#![tactic(auto)]
+
 pub mod field;
 pub mod line;
 pub mod point;
@@ -8,7 +10,7 @@ pub mod put;
 pub const BYTES_MOST: usize = 65536;
 
 // What a byte of a field is; a digit with its value.
-#[derive(Drop)]
+#[derive(Clone, Copy)]
 pub enum Class {
     Digit(u64),
     Minus,
@@ -18,13 +20,13 @@ pub enum Class {
 }
 
 // What a field comes to: its value and the place after the byte that ends it, or the place in the line of the first byte that no good field could have.
-#[derive(Drop)]
+#[derive(Clone, Copy)]
 pub enum Number {
     Value(u64, usize),
     Bad(usize),
 }
 
-#[derive(Drop)]
+#[derive(Clone, Copy)]
 pub enum Signed {
     Whole(i64, usize),
     Wrong(usize),

@@ -1,4 +1,6 @@
 // `tidy`: a text repaired where that is certain (tidyrules: specs/Tidied.antt). All that is not certain stays as it is.
+#![tactic(auto)]
+
 pub mod line;
 mod put;
 

@@ -11,7 +11,7 @@ use crate::put::{copy, put, zeros};
 use tidyfields::{bared, lacking, piece_end, wanted};
 
 // What a line was written as: the place after it, and whether it has a byte but tabs and semicolons.
-#[derive(Drop)]
+#[derive(Clone, Copy)]
 pub struct Placed {
     pub next: usize,
     pub some: bool,

@@ -1,4 +1,6 @@
 // One field as `tidy` repairs it: where it ends, what is left of it when its ends and its quotes are off, how many decimals it wants, and how many it lacks.
+#![tactic(auto)]
+
 ghost use Rattle.std.specs.Prelude.{◌≡◌, false, ◌&&◌, ◌+◌, ◌≤◌, ◌<◌, leb, ltb, length, drop};
 ghost use Rattle.text.specs.Fields.{is_digit};
 ghost use Rattle.tidyrules.specs.Cut.{one_of};

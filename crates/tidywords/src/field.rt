@@ -7,7 +7,7 @@ use tidyfields::{bared, lacking, quoted, trimmed, wanted};
 
 // Where a field stands: its line and its number, each from 0; the letter of its line (C for a row of the planners' sheet, 0 for a line that is none of the table's);
 // whether the line is such a row; and whether the text has commas or quotes, so that points may part thousands.
-#[derive(Drop)]
+#[derive(Clone, Copy)]
 pub struct At {
     pub line: usize,
     pub letter: u8,

@@ -1,5 +1,7 @@
 // Prints a text as `tidy` repairs it, and tells on standard error what was changed and what is left to people because it is not certain.
 // Of the words nothing is promised. Lines are counted as in the text that was given.
+#![tactic(auto)]
+
 mod field;
 mod words;
 

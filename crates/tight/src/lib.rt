@@ -1,4 +1,6 @@
 // How many rounds a grid can take at most, measured before the first: N, L and 2 x N x L of 01's demand 3, and the sharper bound, the steps of U by N (`Tight.antt` of crate tightrules).
+#![tactic(auto)]
+
 mod pass;
 
 ghost use Rattle.std.specs.Prelude.{◌≡◌, ◌*◌, ◌≤◌, length};

@@ -1,7 +1,8 @@
 // Definitions alone, and the types that they name: see specs/ and proofs/.
+#![tactic(auto)]
 
 // N, L and 2 x N x L of 01's demand 3; and the sharper bound.
-#[derive(Drop)]
+#[derive(Clone, Copy)]
 pub struct RoundsMost {
     pub sharers: u64,
     pub bits: u64,
@@ -10,7 +11,7 @@ pub struct RoundsMost {
 }
 
 // What a border could take alone, and its reach, kW; or the largest of each.
-#[derive(Drop)]
+#[derive(Clone, Copy)]
 pub struct Kws {
     pub alone: u64,
     pub reach: u64,

@@ -4,6 +4,8 @@
 // The columns of a line are given there too, in 01's order and without the index, one byte for each field: n a number, s a signed number, r a number or "-",
 // and in the planners' sheet (02, E11) p a power in MW, q one that may be below 0, f a factor.
 // All tests are made and joined by `&`, so judging has no branch.
+#![tactic(auto)]
+
 ghost use Rattle.std.specs.Prelude.{◌≡◌, true, length};
 ghost use Rattle.types.specs.LineColumns.{border_items, row_items};
 ghost use Rattle.types.specs.Ranges.{all_true, header_tests, header_fits, is_intraday, allocated_items, profiled, default_of, zone_tests, zone_fits, exists, hubs_fit, hubs_of, no_hubs, border_tests, border_fits, border_of, share_of, row_tests, row_fits, row_of, factor_fits, worth};
@@ -15,7 +17,7 @@ pub const NOT_WRITTEN: i64 = -1;
 // The counts of the H line, the default of R as it was written (ten-thousandths, or NOT_WRITTEN), and whether T records are there (02, E12).
 // C passes it as it lies in memory. Whether T records are there is a number and no bool, so that a header that no text could give can be refused.
 #[repr(C)]
-#[derive(Drop)]
+#[derive(Clone, Copy)]
 pub struct Header {
     pub zones: usize,
     pub borders: usize,
@@ -105,12 +107,12 @@ impl Header {
 }
 
 // A zone's net position, kW: the reference one of a Z line, or the allocated one of a T line.
-#[derive(Drop)]
+#[derive(Clone, Copy)]
 pub struct Zone {
     pub net: i64,
 }
 
-#[derive(Drop)]
+#[derive(Clone, Copy)]
 pub enum ZoneRead {
     Good(Zone),
     Out,
@@ -150,7 +152,7 @@ impl Zone {
 
 // The hubs of a cable that is modelled by two (02, E3): sending and receiving, both zones. The exchange goes from the from zone to the sending hub,
 // and from the receiving hub to the to zone.
-#[derive(Drop)]
+#[derive(Clone, Copy)]
 pub enum Hubs {
     Without,
     Between(usize, usize),
@@ -177,7 +179,7 @@ impl Hubs {
 }
 
 // From zone, to zone, LTA in MW, hubs.
-#[derive(Drop)]
+#[derive(Clone, Copy)]
 pub struct Border {
     pub from: usize,
     pub to: usize,
@@ -188,7 +190,7 @@ pub struct Border {
 // A lent border: from, to, LTA, sending hub, receiving hub.
 pub type BorderRecord = [i64; Border::ITEMS];
 
-#[derive(Drop)]
+#[derive(Clone, Copy)]
 pub enum BorderRead {
     Good(Border),
     Out,
@@ -274,7 +276,7 @@ pub fn exists(zones: usize, z: i64) -> bool
 }
 
 // R as it was written: "-", or ten-thousandths.
-#[derive(Drop)]
+#[derive(Clone, Copy)]
 pub enum Share {
     Standard,
     Written(i64),
@@ -307,7 +309,7 @@ impl Share {
 }
 
 // Powers in kW.
-#[derive(Drop)]
+#[derive(Clone, Copy)]
 pub struct Row {
     pub fmax: i64,
     pub frm: i64,
@@ -321,7 +323,7 @@ pub struct Row {
 // A lent row: Fmax, FRM, Fref, F0all, R, CVA, IVA.
 pub type RowRecord = [i64; Row::ITEMS];
 
-#[derive(Drop)]
+#[derive(Clone, Copy)]
 pub enum RowRead {
     Good(Row),
     Out,

@@ -2,6 +2,8 @@
 // A border's cap is what it may rise by at most. Raises never grow from round to round, so the last raise caps the next one, and a border at 0 is
 // done with: `rising` lists the others in its first `live` places. A row is tried by products with the caps, and divides its margin by n, once, only
 // where a cap is too high. A factor of 0 makes a product of 0 and so never divides.
+#![tactic(auto)]
+
 pub mod grid;
 pub mod stopping;
 
@@ -114,7 +116,7 @@ fn lower_caps(
 }
 
 // What a row loses by the raises, and the most that one border would take of it by its cap. Grains.
-#[derive(Drop)]
+#[derive(Clone, Copy)]
 pub struct Loads {
     pub loss: u64,
     pub most: u64,

@@ -1,5 +1,7 @@
 // Why a border of a good table got no more (01, "Extraction"; 02, E7), where with marks only the marked borders rise (02, E13). The open calls `why` and `why_marked` stand in crate doors.
 // The result names the first row that stops a border at the end; this tells besides which row ended its rise, and of every border and row what took part in it.
+#![tactic(auto)]
+
 pub mod tell;
 
 ghost use Rattle.std.specs.Prelude.{◌≡◌, ◌*◌, ◌<◌, ◌≤◌, length};
@@ -12,7 +14,7 @@ use holding::{EndRecord, HoldRecord, Reasons};
 use refusals::{Judgement, Refusal};
 use types::{BorderRecord, Header, RowRecord};
 
-#[derive(Drop)]
+#[derive(Clone, Copy)]
 pub enum Explained {
     Reasons(Reasons),
     Refused(Refusal),

@@ -1,4 +1,6 @@
 // The word `why`: prints why a border got no more, for the texts that were read, and says what people are told of it.
+#![tactic(auto)]
+
 mod words;
 
 ghost use Rattle.std.specs.Prelude.{◌≤◌, length};

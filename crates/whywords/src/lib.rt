@@ -1,5 +1,7 @@
 // The sentences that say why a border got no more: numbers come in, words go out. What the numbers are is crate why's.
 // Every list of forms has a line for what is left out, and each line of a choice takes as many figures as the others (`$-` passes over one).
+#![tactic(auto)]
+
 mod border;
 mod records;
 pub mod rows;
@@ -66,7 +68,7 @@ pub fn margin_of(row: i64, margins: &[PartsRecord], starts: &[i64]) -> PartsReco
 }
 
 // A border, the row that ended its rise, p of it there, and its capacity, MW.
-#[derive(Drop)]
+#[derive(Clone, Copy)]
 pub struct Case {
     pub border: u64,
     pub row: usize,

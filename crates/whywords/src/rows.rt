@@ -7,7 +7,7 @@ use partrules::PartsRecord;
 use text::put::magnitude;
 
 // The first three rows that allow the border no kW more, and how many there are.
-#[derive(Drop)]
+#[derive(Clone, Copy)]
 pub struct Held {
     pub first: u64,
     pub second: u64,

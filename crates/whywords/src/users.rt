@@ -44,7 +44,7 @@ fn load(factor: u64, mw: u64) -> u64 {
 const MOST: u64 = 18446744073709551615;
 
 // The three borders that use a row most, and what each uses, grains: 0 where there are fewer, and `MOST` for the border.
-#[derive(Drop)]
+#[derive(Clone, Copy)]
 pub struct Users {
     pub first: u64,
     pub first_use: u64,
