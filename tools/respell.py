@@ -120,8 +120,10 @@ def new_names(kinds, kit):
     for new, names in groups.items():
         if len(names) > 1:
             print("look: one name for", *sorted(names))
+            # The definition keeps it: first one with a capital, then one that was spelled so already.
+            keeps = min(names, key=lambda n: (not re.search(r"[a-z][A-Zℤℕ]", n), n != new))
             for name in names:
-                if not re.search(r"[a-z][A-Zℤℕ]", name) and name not in APART:
+                if name != keeps and name not in APART:
                     turned[name] = new + "_lem"
     return {k: v for k, v in turned.items() if k != v}
 
@@ -150,6 +152,8 @@ def camelled(turned):
 
 def turn_rt(text, turned):
     out, shown = [], camelled(turned)
+    # A word that could be a function's of src/ is left.
+    turned = {k: v for k, v in turned.items() if re.search(r"[A-Zℤℕ-]", k)}
     for line in text.split("\n"):
         if line.lstrip().startswith("//"):
             out.append(replace_words(line, shown))
