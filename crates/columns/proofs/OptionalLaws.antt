@@ -17,7 +17,7 @@ use Rattle.columns.specs.declared.Head.{Head}
 use Rattle.columns.specs.Columns.{Values, values, wrong, stop_of}
 use Rattle.columns.specs.ColumnLine.{columns_line}
 use Rattle.columns.specs.ColumnText.{field_text, fields_ended, fields_length, head_text, head_length, columns_text, line_length}
-use Rattle.columns.specs.Optional.{left_out, optional_line, written_by_lem}
+use Rattle.columns.specs.Optional.{left_out, optional_line, written_by}
 use Rattle.columns.proofs.ColumnPut.{columns_long}
 
 -- ---- the marks of what was left out
@@ -105,7 +105,7 @@ length_front (c ∷ cs) (z ∷ zs) = ap (λ (l : ℕ). length (field_text c z) +
 -- ---- the columns by which values are written, where the code takes k of them
 module _ (columns : List ℕ) (n : ℕ) (zs : List ℤ) (h : n < length columns) (long : length columns ≡ length zs) (k : ℕ) (is : k ≡ cond (lt_z (get_or zs n (pos 0)) (pos 0)) n (length zs)) where
   abbrev by : List Column
-  by = written_by_lem (columns_of (take n columns)) (columns_of (drop n columns)) zs
+  by = written_by (columns_of (take n columns)) (columns_of (drop n columns)) zs
 
   written_most : k ≤ length columns
   written_most = go (lt_z (get_or zs n (pos 0)) (pos 0)) is

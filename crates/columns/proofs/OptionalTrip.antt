@@ -19,7 +19,7 @@ use Rattle.columns.specs.declared.Head.{Head}
 use Rattle.columns.specs.Columns.{Values, values, wrong}
 use Rattle.columns.specs.ColumnText.{fields_ended, head_text, columns_text}
 use Rattle.columns.specs.ColumnLine.{columns_line, judged}
-use Rattle.columns.specs.Optional.{left_out, or_longer, optional_line, written_by_lem, optional_text}
+use Rattle.columns.specs.Optional.{left_out, or_longer, optional_line, written_by, optional_text}
 use Rattle.columns.proofs.ColumnTrip.{AllKept, kept_long, Ends, Small, line_read, line_written, judged_is}
 use Rattle.columns.proofs.OptionalLaws.{left_out_long, text_front}
 use Rattle.columns.proofs.FieldEnd.{line_shorter}
@@ -45,10 +45,10 @@ module _ (cs es : List Column) where
   first-given (b ∷ bs) [] k = absurd k
   first-given (b ∷ bs) (z ∷ zs) k = first-given bs zs k.1
 
-  by_all : (zs : List ℤ) → AllKept (cs ++ (number ∷ es)) zs → written_by_lem cs (number ∷ es) zs ≡ cs ++ (number ∷ es)
+  by_all : (zs : List ℤ) → AllKept (cs ++ (number ∷ es)) zs → written_by cs (number ∷ es) zs ≡ cs ++ (number ∷ es)
   by_all zs k = ap (λ (t : Bool). cond t cs (cs ++ (number ∷ es))) (ap (λ (z : ℤ). lt_z z (pos 0)) (first-given cs zs k) ∙ le-ltb (nat_abs (get_or zs (length cs) (pos 0))) 0 (omega arith))
 
-  by-few : (zs ys : List ℤ) → zs ≡ ys ++ left_out (length (number ∷ es)) → length ys ≡ length cs → written_by_lem cs (number ∷ es) zs ≡ cs
+  by-few : (zs ys : List ℤ) → zs ≡ ys ++ left_out (length (number ∷ es)) → length ys ≡ length cs → written_by cs (number ∷ es) zs ≡ cs
   by-few zs ys e long =
       ap (λ (z : ℤ). cond (lt_z z (pos 0)) cs (cs ++ (number ∷ es)))
       (ap (λ (l : List ℤ). get_or l (length cs) (pos 0)) e ∙ get_or_at ys (minus 1) (left_out (length es)) (pos 0) (length cs) long)
@@ -64,7 +64,7 @@ module _ (sep : ℕ) (ends : Ends sep) (other : eqb sep feed ≡ false) (head : 
   abbrev texts : List Column → List ℤ → List ℕ
   texts bs zs = columns_text sep head bs zs
 
-  few-text : (zs ys : List ℤ) → zs ≡ ys ++ left_out (length ds) → length ys ≡ length cs → texts cs ys ≡ texts (written_by_lem cs ds zs) zs
+  few-text : (zs ys : List ℤ) → zs ≡ ys ++ left_out (length ds) → length ys ≡ length cs → texts cs ys ≡ texts (written_by cs ds zs) zs
   unfolding columns_text
   few-text zs ys e long =
       ap (λ (l : List ℤ). head_text sep head ++ fields_ended sep feed cs l) (sym (ap (take (length cs)) e ∙ take_at ys (left_out (length ds)) (length cs) long))
@@ -95,12 +95,12 @@ module _ (sep : ℕ) (ends : Ends sep) (other : eqb sep feed ≡ false) (head : 
   again : Small head → (zs : List ℤ) → OptionalKept cs ds zs → OptionalWritten zs
   unfolding optional_line
   again small zs (left ys e k) =
-      let line = texts (written_by_lem cs ds zs) zs in
+      let line = texts (written_by cs ds zs) zs in
       let w = line_written sep ends head cs ys small k in
       let r : reads cs line ≡ values ys w.next = ap (reads cs) (sym (few-text zs ys e (kept_long cs ys k))) ∙ w.is in
       record { next = w.next; is = ap (λ (v : Values). or_longer (length ds) v (reads (cs ++ ds) line)) r ∙ ap (λ (l : List ℤ). values l w.next) (sym e) }
   again small zs (given k) =
-      let line = texts (written_by_lem cs ds zs) zs in
+      let line = texts (written_by cs ds zs) zs in
       let w = line_written sep ends head (cs ++ ds) zs small k in
       let r : reads (cs ++ ds) line ≡ values zs w.next = ap (λ (l : List Column). reads (cs ++ ds) (texts l zs)) (by_all cs es zs k) ∙ w.is in
       record { next = w.next; is = go w.next line r (reads cs line) refl }

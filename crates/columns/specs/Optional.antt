@@ -25,9 +25,9 @@ unfoldable pub optional_line : (sep : ℕ) → Head → (columns more : List Col
 optional_line sep head columns more line = or_longer (length more) (columns_line sep head columns line) (columns_line sep head (columns ++ more) line)
 
 -- the columns by which values are written: a value below 0 for the first of `more` says that these were left out
-abbrev pub written_by_lem : (columns more : List Column) → (zs : List ℤ) → List Column
-written_by_lem columns more zs = cond (lt_z (get_or zs (length columns) (pos 0)) (pos 0)) columns (columns ++ more)
+abbrev pub written_by : (columns more : List Column) → (zs : List ℤ) → List Column
+written_by columns more zs = cond (lt_z (get_or zs (length columns) (pos 0)) (pos 0)) columns (columns ++ more)
 
 -- a line as it is written
 abbrev pub optional_text : (sep : ℕ) → Head → (columns more : List Column) → List ℤ → List ℕ
-optional_text sep head columns more zs = columns_text sep head (written_by_lem columns more zs) zs
+optional_text sep head columns more zs = columns_text sep head (written_by columns more zs) zs

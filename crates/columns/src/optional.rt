@@ -7,7 +7,7 @@ ghost use Rattle.types.specs.LineColumns.{columns_of};
 ghost use Rattle.text.specs.Put.{Put};
 ghost use Rattle.columns.specs.Columns.{stored};
 ghost use Rattle.columns.specs.ColumnText.{line_length};
-ghost use Rattle.columns.specs.Optional.{left_out, optional_line, written_by_lem, optional_text};
+ghost use Rattle.columns.specs.Optional.{left_out, optional_line, written_by, optional_text};
 
 use crate::read::line_at;
 use crate::write::{line_length, put_line};
@@ -64,8 +64,8 @@ pub fn put_optional(
 
 // How many bytes a line has.
 pub fn optional_length(head: Head, columns: &[u8], n: usize, values: &[i64]) -> usize
-    requires { (n < length columns.now) × (length columns.now ≡ length values.now) × (line_length head (written_by_lem (columns_of (take n columns.now)) (columns_of (drop n columns.now)) values.now) values.now ≤ bytes_most) }
-    ensures { result ≡ line_length head (written_by_lem (columns_of (take n columns.now)) (columns_of (drop n columns.now)) values.now) values.now }
+    requires { (n < length columns.now) × (length columns.now ≡ length values.now) × (line_length head (written_by (columns_of (take n columns.now)) (columns_of (drop n columns.now)) values.now) values.now ≤ bytes_most) }
+    ensures { result ≡ line_length head (written_by (columns_of (take n columns.now)) (columns_of (drop n columns.now)) values.now) values.now }
 {
     let k = written(n, values);
     line_length(head, &columns[..k], &values[..k])

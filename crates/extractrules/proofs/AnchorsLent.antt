@@ -12,7 +12,7 @@ use Rattle.types.specs.Ranges.{header_fits, allocated_items, zone_fits, exists, 
 use Rattle.marks.specs.Marks.{marked_by, faulty_mark, judge_marks}
 use Rattle.tablerules.specs.Table.{Table, stretch, balanced, twice, room_for, judge_shape, judge_for}
 use Rattle.rounds.specs.Rounds.{sharers, raise, raises, load, lowered, risen, apply, next, raised, counted, run, extract}
-use Rattle.rounds.specs.Last.{after, raise_in, last_to_lem, last_round}
+use Rattle.rounds.specs.Last.{after, raise_in, last_to, last_round}
 use Rattle.rounds.specs.Stopping.{stop_row}
 use Rattle.marginrules.specs.Margin.{grains, f0core_of, fuaf_of, base_of, amr_of, signed_factor, p_of, lta_kw, s_of, lta_margin_of, ram_of, ram_at}
 use Rattle.staterules.specs.States.{highest, lowest, spread_of, shifted, below, state_of, kept}
@@ -74,5 +74,5 @@ pub anchors : Hold (
     ∷ extract_marked_left (small_in 0 [] 0 4) (0 ∷ 0 ∷ []) (replicate 7 9) (replicate 2 []) (replicate 3 []) is (record { answer = refused (refusal 13 2 0); p = replicate 7 9; atcs = replicate 2 []; lefts = replicate 3 [] })  -- thirteen
     ∷ (extract_marked_left (small_in 0 [] 4 0) [] (replicate 7 9) (replicate 2 []) (replicate 3 [])).answer is refused (refusal 3 6 0)  -- thirteen-late
     ∷ [])
-unfolding result_marked outcome_marked outcome_for extract_for extract_marked_left judge_marks faulty_mark marked_by if_zero sum count lesser least or_zero table first_from given max_ℤ min_ℤ positive_part same_ℤ inside sum_ℤ header_fits allocated_items zone_fits exists hubs_fit border_fits hubs_of border_of share_of row_of row_fits factor_fits worth default_of then either unless refuse_at refuse_first need stretch balanced twice room_for judge_shape sharers raise raises load lowered risen apply next raised counted run extract after raise_in last_to_lem last_round stop_row grains f0core_of fuaf_of base_of amr_of signed_factor p_of lta_kw s_of lta_margin_of ram_of ram_at highest lowest spread_of shifted below state_of standings_of kept result_of atc_of left_of last_of stop_of outcome_of atc_record row_record judge_for extract_left grid_by setup_with begin_by judge_by
+unfolding result_marked outcome_marked outcome_for extract_for extract_marked_left judge_marks faulty_mark marked_by if_zero sum count lesser least or_zero table first_from given max_ℤ min_ℤ positive_part same_ℤ inside sum_ℤ header_fits allocated_items zone_fits exists hubs_fit border_fits hubs_of border_of share_of row_of row_fits factor_fits worth default_of then either unless refuse_at refuse_first need stretch balanced twice room_for judge_shape sharers raise raises load lowered risen apply next raised counted run extract after raise_in last_to last_round stop_row grains f0core_of fuaf_of base_of amr_of signed_factor p_of lta_kw s_of lta_margin_of ram_of ram_at highest lowest spread_of shifted below state_of standings_of kept result_of atc_of left_of last_of stop_of outcome_of atc_record row_record judge_for extract_left grid_by setup_with begin_by judge_by
 anchors = refl

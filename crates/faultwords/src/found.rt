@@ -59,7 +59,7 @@ pub fn put(
     let next = put_words(words::LINE, line, 0, out, at);
     let next = fieldnames::put(due.letter, field, out, next);
     let next = put_words(words::BYTE, told, 0, out, next);
-    if (name == fieldnames::INDEX) & first & is_digit_lem(byte) {
+    if (name == fieldnames::INDEX) & first & is_digit(byte) {
         return put_index(of, due.index, out, next);
     }
     if (number == 3) | (first & begins_number(name, byte)) {
@@ -78,7 +78,7 @@ fn put_index(of: usize, index: u64, out: &mut [u8], at: usize) -> usize
     put_words(words::INDEX_DUE, index, 0, out, at)
 }
 
-fn is_digit_lem(byte: u8) -> bool {
+fn is_digit(byte: u8) -> bool {
     (b'0' <= byte) & (byte <= b'9')
 }
 
@@ -88,7 +88,7 @@ pub fn is_letter(byte: u8) -> bool {
 
 // Whether a good number of the field could begin so: then its value is blamed, and not its form.
 fn begins_number(name: usize, byte: u8) -> bool {
-    is_digit_lem(byte) | ((byte == b'-') & is_signed(name))
+    is_digit(byte) | ((byte == b'-') & is_signed(name))
 }
 
 // Net positions, Fref, F0all and factors.

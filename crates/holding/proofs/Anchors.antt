@@ -9,7 +9,7 @@ use Rattle.numbers.specs.Ints.{minus}
 use Rattle.numbers.specs.Below.{at, if_zero, sum, count, lesser, least, or_zero, table, first_from}
 use Rattle.numbers.specs.Computed.{◌is◌, Hold}
 use Rattle.rounds.specs.Rounds.{Grid, State, sharers, raise, raises, load, lowered, risen, apply, next, raised, counted, run, extract}
-use Rattle.rounds.specs.Last.{after, raise_in, last_to_lem, last_round}
+use Rattle.rounds.specs.Last.{after, raise_in, last_to, last_round}
 use Rattle.rounds.specs.Stopping.{stop_row}
 use Rattle.holding.specs.Holding.{end_row, allowed, ends_left, row_left}
 
@@ -42,5 +42,5 @@ pub anchors : Hold (
     ∷ row_left 1 2 0 (allowed 1 0 0) is (pos 1 ∷ minus 1 ∷ minus 1 ∷ [])  -- takes-no-part
     ∷ ends_left 5 41 is (pos 5 ∷ pos 41 ∷ [])  -- from-and-to
     ∷ [])
-unfolding if_zero sum count lesser least or_zero table first_from sharers raise raises load lowered risen apply next raised counted run extract after raise_in last_to_lem last_round stop_row end_row
+unfolding if_zero sum count lesser least or_zero table first_from sharers raise raises load lowered risen apply next raised counted run extract after raise_in last_to last_round stop_row end_row
 anchors = refl

@@ -16,7 +16,7 @@ use Rattle.text.specs.Fields.{tab}
 use Rattle.text.specs.Line.{line_of, holds, form, range}
 use Rattle.columns.specs.declared.Head.TheVariants.{Indexed}
 use Rattle.columns.specs.Columns.{values, wrong}
-use Rattle.columns.specs.Optional.{optional_line, written_by_lem, optional_text}
+use Rattle.columns.specs.Optional.{optional_line, written_by, optional_text}
 use Rattle.columns.proofs.ColumnTrip.{tab_ends, line_one}
 use Rattle.columns.proofs.OptionalTrip.{OptionalKept, left, given, kept_many, optional_judged, optional_written}
 use Rattle.lines.specs.Lines.{border_bad, border_out, border_line}
@@ -88,7 +88,7 @@ module _ (zones i : ℕ) (raw : List ℤ) where
       optional_written tab tab_ends refl (Indexed (code "B") i) border_columns (number ∷ []) (border_fits zones) (λ raw. raw) (border_bad line i) (border_out zones line) raw small (border_kept zones raw held few) held.fits
 
   pub border_one : (r : List ℕ) → line_of (optional_text tab (Indexed (code "B") i) border_columns hub_columns raw ++ r) ≡ optional_text tab (Indexed (code "B") i) border_columns hub_columns raw
-  border_one r = line_one tab refl (Indexed (code "B") i) (written_by_lem border_columns hub_columns raw) raw r (some (lt_z (get_or raw 3 (pos 0)) (pos 0))) refl
+  border_one r = line_one tab refl (Indexed (code "B") i) (written_by border_columns hub_columns raw) raw r (some (lt_z (get_or raw 3 (pos 0)) (pos 0))) refl
     where
       some : (t : Bool) → 0 < length (cond t border_columns (border_columns ++ hub_columns))
       some true = omega arith

@@ -20,7 +20,7 @@ use Rattle.text.specs.Fields.{tab}
 use Rattle.text.specs.Line.{line_of, holds, form, range}
 use Rattle.columns.specs.declared.Head.TheVariants.{Lettered}
 use Rattle.columns.specs.Columns.{values, wrong}
-use Rattle.columns.specs.Optional.{left_out, optional_line, written_by_lem, optional_text}
+use Rattle.columns.specs.Optional.{left_out, optional_line, written_by, optional_text}
 use Rattle.columns.proofs.ColumnTrip.{tab_ends, AllKept, line_one}
 use Rattle.columns.proofs.OptionalTrip.{OptionalKept, left, given, optional_read, optional_judged, optional_written}
 use Rattle.lines.specs.Lines.{header_of, header_bad, header_out, header_line}
@@ -114,4 +114,4 @@ module _ (h : Header) where
   some false = omega arith
 
   pub header_one : (r : List ℕ) → line_of (header_text_of h ++ r) ≡ header_text_of h
-  header_one r = line_one tab refl (Lettered (code "H")) (written_by_lem header_columns default_columns (header_raw h)) (header_raw h) r (some (lt_z h.share (pos 0))) refl
+  header_one r = line_one tab refl (Lettered (code "H")) (written_by header_columns default_columns (header_raw h)) (header_raw h) r (some (lt_z h.share (pos 0))) refl

@@ -38,12 +38,12 @@ pub fn row_judged(kind: RowKind, zones: usize, line: &[u8], i: usize) -> RowJudg
     ensures { result ≡ judged_of (line_by kind zones line.now i) }
 {
     let mut factors = [0i64; limits::ZONES_MOST];
-    let read = row_read_lem(kind, line, i, &mut factors[..zones]);
+    let read = row_read(kind, line, i, &mut factors[..zones]);
     read.judged
 }
 
 // Reads a row's line, its factors into f: the form of all fields, then the ranges.
-pub fn row_read_lem(kind: RowKind, line: &[u8], i: usize, f: &mut [i64]) -> RowRead
+pub fn row_read(kind: RowKind, line: &[u8], i: usize, f: &mut [i64]) -> RowRead
     requires { (0 < length f.old) × (length f.old ≤ zones_most) }
     ensures { said_row result.judged result.raw f.new ≡ line_by kind (length f.old) line.now i }
 {
@@ -62,7 +62,7 @@ pub fn row_read_lem(kind: RowKind, line: &[u8], i: usize, f: &mut [i64]) -> RowR
         };
     }
     RowRead {
-        judged: RowJudged::Range(row_out_lem(kind, raw, f, line)),
+        judged: RowJudged::Range(row_out(kind, raw, f, line)),
         raw: raw,
     }
 }
@@ -77,7 +77,7 @@ fn row_bad(kind: RowKind, zones: usize, line: &[u8], i: usize) -> usize
 }
 
 // The byte to blame in a line with a value outside its range.
-fn row_out_lem(kind: RowKind, raw: RowRecord, f: &[i64], line: &[u8]) -> usize
+fn row_out(kind: RowKind, raw: RowRecord, f: &[i64], line: &[u8]) -> usize
     requires { length f.now ≤ zones_most }
     ensures { result ≡ out_by kind line.now raw f.now }
 {

@@ -21,7 +21,7 @@ use Rattle.corrections.proofs.PieceLaws.{pieces_at}
 use Rattle.rowlines.specs.Rows.{picked_row}
 use Rattle.trips.proofs.FirstLine.{first_line}
 use Rattle.trips.proofs.SectionTrip.{row_line_of}
-use Rattle.merged.specs.Merged.{is_row, as_row_lem, merged_from}
+use Rattle.merged.specs.Merged.{is_row, as_row, merged_from}
 
 -- a line that is not empty and no C line, and one that is
 abbrev pub Other : (line : List ℕ) → Type 0
@@ -35,7 +35,7 @@ unfolding columns_text head_text
 own_line i c = (omega arith, refl)
 
 -- ---- a row's line, whichever its kind, is the C line of what it holds
-as_row_lem : (kind : RowKind) (zones : ℕ) (line : List ℕ) (i : ℕ) (c : RowLine) → line_by kind zones line i ≡ holds c → as_row_lem kind zones line i ≡ row_line_of i c
+as_row_lem : (kind : RowKind) (zones : ℕ) (line : List ℕ) (i : ℕ) (c : RowLine) → line_by kind zones line i ≡ holds c → as_row kind zones line i ≡ row_line_of i c
 as_row_lem row_kind.Table zones line i c e = (row_read_lem row_kind.Table zones line i c e).0
 as_row_lem row_kind.Sheet zones line i c e = rw e
 
@@ -52,7 +52,7 @@ module _ (zones : ℕ) (pick : Piece → ℕ → Piece) (text : List ℕ) where
     pub other_line : (line : List ℕ) → line_at text p ≡ line → Other line → merged_at p i ≡ line ++ merged_at (after text p) i
     other_line line is o = line-here (rw is o.0) ∙ rw (is, o.1)
 
-    pub handed_line : (line : List ℕ) → line_at text p ≡ line → Own line → let handed = pick (piece row_kind.Table line) i in merged_at p i ≡ as_row_lem handed.kind zones handed.line i ++ merged_at (after text p) (i + 1)
+    pub handed_line : (line : List ℕ) → line_at text p ≡ line → Own line → let handed = pick (piece row_kind.Table line) i in merged_at p i ≡ as_row handed.kind zones handed.line i ++ merged_at (after text p) (i + 1)
     handed_line line is o = line-here (rw is o.0) ∙ rw (is, o.1)
 
   -- ---- lines other than C lines are not changed
@@ -83,7 +83,7 @@ module _ (zones : ℕ) (pick : Piece → ℕ → Piece) (text : List ℕ) where
         let f = first_line text (picked_row zones pick) first n p i xs e q in
         let line : line_at text p ≡ row_line_of i day.it = (row_read_lem row_kind.Table zones (line_at text p) i day.it day.held).0 in
         let own = pick (piece row_kind.Table (line_at text p)) i in
-        let handed = ap (λ (l : List ℕ). let h = pick (piece row_kind.Table l) i in as_row_lem h.kind zones h.line i) (sym line) ∙ as_row_lem own.kind zones own.line i f.it f.held in
+        let handed = ap (λ (l : List ℕ). let h = pick (piece row_kind.Table l) i in as_row h.kind zones h.line i) (sym line) ∙ as_row_lem own.kind zones own.line i f.it f.held in
         subst (λ (l : List RowLine). merged_at p i ≡ section_text row_line_of i l) f.is
         (handed_line p i (row_line_of i day.it) line (own_line i day.it)
         ∙ ap₂ (λ (x y : List ℕ). x ++ y) handed (rows_handed n (after text p) (i + 1) day.others d f.others e day.rest f.rest whole))

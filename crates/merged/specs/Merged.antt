@@ -24,16 +24,16 @@ held_text (form byte) line i = line
 held_text (range byte) line i = line
 
 -- row i's line as a C line, by its kind
-abbrev pub as_row_lem : RowKind → (zones : ℕ) → (line : List ℕ) → (i : ℕ) → List ℕ
-as_row_lem Table zones line i = line
-as_row_lem Sheet zones line i = held_text (sheet_line zones line i) line i
+abbrev pub as_row : RowKind → (zones : ℕ) → (line : List ℕ) → (i : ℕ) → List ℕ
+as_row Table zones line i = line
+as_row Sheet zones line i = held_text (sheet_line zones line i) line i
 
 -- lines of the day's text, where the first C line is row i's: each C line is replaced by the line handed on for its row, and each other line stays
 abbrev pub merged_from : (zones : ℕ) → (pick : Piece → ℕ → Piece) → (i : ℕ) → (day : List (List ℕ)) → List ℕ
 merged_from zones pick i [] = []
 merged_from zones pick i (line ∷ rest) =
     let handed = pick (piece Table line) i in
-    cond (is_row line) (as_row_lem handed.kind zones handed.line i ++ merged_from zones pick (i + 1) rest) (line ++ merged_from zones pick i rest)
+    cond (is_row line) (as_row handed.kind zones handed.line i ++ merged_from zones pick (i + 1) rest) (line ++ merged_from zones pick i rest)
 
 -- how many zones an H line says
 abbrev pub zones_in : Line Header → ℕ

@@ -17,7 +17,7 @@ use Rattle.refusals.specs.Refusals.{passed, refused, refusal, then, unless, refu
 use Rattle.types.specs.Ranges.{hubs_of, border_of, share_of, row_of, worth, default_of}
 use Rattle.tablerules.specs.Table.{Table, row_at, stretch}
 use Rattle.rounds.specs.Rounds.{sharers, raise, alone, raises, load, lowered, risen, apply, next, raised, counted, run, extract, most_sharers, bits_to, bits, alone_bits}
-use Rattle.rounds.specs.Last.{after, raise_in, last_to_lem, last_round}
+use Rattle.rounds.specs.Last.{after, raise_in, last_to, last_round}
 use Rattle.rounds.specs.Stopping.{stop_row}
 use Rattle.marginrules.specs.Margin.{grains, f0core_of, fuaf_of, base_of, amr_of, signed_factor, p_of, lta_kw, s_of, lta_margin_of, ram_of, ram_at}
 use Rattle.staterules.specs.States.{highest, lowest, spread_of, shifted, below, state_of, kept}
@@ -201,7 +201,7 @@ pub record Anchors : Type 0 where
   pub six : NotSeven {A = ℕ} (refused (refusal 6 0 0))
 
 pub anchors : Anchors
-unfolding if_zero sum count largest lesser least or_zero table first_from given max_ℤ min_ℤ positive_part same_ℤ sum_ℤ hubs_of border_of share_of row_of worth default_of then unless refuse_at refuse_first stretch sharers raise alone raises load lowered risen apply next raised counted run extract after raise_in last_to_lem last_round stop_row most_sharers bits_to bits alone_bits grains f0core_of fuaf_of base_of amr_of signed_factor p_of lta_kw s_of lta_margin_of ram_of ram_at highest lowest spread_of shifted below state_of standings_of kept atc_of left_of last_of stop_of n_of l_of load_of grid_by setup_with begin_by judge_by result_marked outcome_marked
+unfolding if_zero sum count largest lesser least or_zero table first_from given max_ℤ min_ℤ positive_part same_ℤ sum_ℤ hubs_of border_of share_of row_of worth default_of then unless refuse_at refuse_first stretch sharers raise alone raises load lowered risen apply next raised counted run extract after raise_in last_to last_round stop_row most_sharers bits_to bits alone_bits grains f0core_of fuaf_of base_of amr_of signed_factor p_of lta_kw s_of lta_margin_of ram_of ram_at highest lowest spread_of shifted below state_of standings_of kept atc_of left_of last_of stop_of n_of l_of load_of grid_by setup_with begin_by judge_by result_marked outcome_marked
 anchors =
     record {
       outcome = refl;

@@ -12,7 +12,7 @@ use lib.Seq.{length-take-le, length_front, take_at, drop_at, get_or-take}
 use Rattle.numbers.specs.Below.{if_zero, sum, count, table, at, over}
 use Rattle.numbers.proofs.BelowLaws.{sum_cong, sum_term, count_pos, table_long, table_get, table_cong}
 use Rattle.rounds.specs.Rounds.{Grid, State, raise, raises, load, lowered, risen, apply, next, raised, Rounds, done, more}
-use Rattle.rounds.specs.Last.{after, raise_in, last_to_lem, last_round}
+use Rattle.rounds.specs.Last.{after, raise_in, last_to, last_round}
 use Rattle.rounds.specs.AllRounds.{Startable, noted, work_left, state_from, left_by, work_of}
 use Rattle.rounds.proofs.Round.{raises_at, raises_long, raises_are, raiser, alone_lt, next_sum, next_x}
 use Rattle.rounds.proofs.Rounds.{keeps, extracts, unique, rounds_below}
@@ -22,7 +22,7 @@ use Rattle.raising.specs.Raising.{Fits}
 
 -- each border's last of the first k rounds
 abbrev lasts_to : Grid → State → (k : ℕ) → List ℕ
-lasts_to g s k = table g.borders (λ b. last_to_lem g s b k)
+lasts_to g s k = table g.borders (λ b. last_to g s b k)
 
 -- d rounds that raised something lead from s₀ to s: whatever is done from s is done from s₀ with d more, and s is where the rules stand after d rounds
 pub record Reached (g : Grid) (s₀ : State) (d : ℕ) (s : State) : Type 0 where
@@ -46,14 +46,14 @@ module _ {g : Grid} {s₀ s : State} {d : ℕ} (q : Reached g s₀ d s) where
 
   -- the last rounds to d, with the raises of the next noted, are those to d + 1
   noted_more : {v lasts : List ℕ} → v ≡ raises g s.margins → lasts ≡ lasts_to g s₀ d → table g.borders (noted (d + 1) v lasts) ≡ lasts_to g s₀ (d + 1)
-  unfolding noted last_to_lem raise_in
+  unfolding noted last_to raise_in
   noted_more {v} {lasts} ev el =
       rw (add-one d)
       (table_cong g.borders _ _
       (λ b hb.
       ap₂ (λ (r l : ℕ). if_zero r l (suc d))
       (raises_are g s.margins ev b hb ∙ ap (λ (t : State). raise g t.margins b) (sym q.stands))
-      (ap (λ (l : List ℕ). at l b) el ∙ table_get g.borders (λ b. last_to_lem g s₀ b d) b 0 hb)))
+      (ap (λ (l : List ℕ). at l b) el ∙ table_get g.borders (λ b. last_to g s₀ b d) b 0 hb)))
 
   reached-end : raised g s ≡ 0 → Rounds g s₀ d s
   reached-end z = subst (λ (j : ℕ). Rounds g s₀ j s) (add-zero d) (q.on 0 s (done z))
@@ -91,7 +91,7 @@ pub record Head (g : Grid) (m₀ x₀ m x lasts : List ℕ) (d : ℕ) : Type 0 w
   pub last_rounds_lem : lasts ≡ lasts_to g (state_from g m₀ x₀) d
 
 pub head_start : (g : Grid) (ns m x lasts : List ℕ) → Startable g ns m x → lasts ≡ table g.borders (λ b. 0) → Head g m x m x lasts 0
-unfolding last_to_lem
+unfolding last_to
 head_start g ns m x lasts q e =
     record {
       margins = q.ready.margins;

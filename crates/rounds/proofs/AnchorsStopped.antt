@@ -7,7 +7,7 @@ use lib.ListN.{get_or}
 use Rattle.numbers.specs.Below.{at, if_zero, sum, count, lesser, least, or_zero, table, first_from}
 use Rattle.numbers.specs.Computed.{◌is◌, Hold}
 use Rattle.rounds.specs.Rounds.{Grid, State, sharers, raise, raises, load, lowered, risen, apply, next, raised, counted, run, extract}
-use Rattle.rounds.specs.Last.{after, raise_in, last_to_lem, last_round, last_rounds}
+use Rattle.rounds.specs.Last.{after, raise_in, last_to, last_round, last_rounds}
 use Rattle.rounds.specs.Stopping.{stop_row, stop_rows}
 use Rattle.rounds.specs.AllRounds.{stop_by}
 
@@ -56,5 +56,5 @@ pub anchors_stopped : Hold (
     -- by the shares alone
     ∷ stop_by three (1 ∷ 1 ∷ 0 ∷ []) 0 is some 2  -- by-shares
     ∷ [])
-unfolding if_zero sum count lesser least or_zero table first_from sharers raise raises load lowered risen apply next raised counted run extract after raise_in last_to_lem last_round stop_row stop_by
+unfolding if_zero sum count lesser least or_zero table first_from sharers raise raises load lowered risen apply next raised counted run extract after raise_in last_to last_round stop_row stop_by
 anchors_stopped = refl

@@ -15,13 +15,13 @@ raise_in g s b zero = 0
 raise_in g s b (suc k) = raise g (after g s k).margins b
 
 -- the last of the first k rounds that raises border b, or 0 if none does
-unfoldable pub last_to_lem : Grid → State → (b k : ℕ) → ℕ
-last_to_lem g s b zero = 0
-last_to_lem g s b (suc k) = if_zero (raise_in g s b (suc k)) (last_to_lem g s b k) (suc k)
+unfoldable pub last_to : Grid → State → (b k : ℕ) → ℕ
+last_to g s b zero = 0
+last_to g s b (suc k) = if_zero (raise_in g s b (suc k)) (last_to g s b k) (suc k)
 
 -- the last of the counted rounds that raises border b, or 0 if none does
 unfoldable pub last_round : Grid → State → (b : ℕ) → ℕ
-last_round g s b = last_to_lem g s b (extract g s).rounds
+last_round g s b = last_to g s b (extract g s).rounds
 
 -- for each border
 abbrev pub last_rounds : Grid → State → List ℕ

@@ -74,12 +74,12 @@ fn row_corrected<'a>(
 {
     let line = corrections::handed::row_line(by, next, day, i);
     if !corrections::handed::of_row(by, next, i) {
-        return lines::row::row_read_lem(kind, line, i, f);
+        return lines::row::row_read(kind, line, i, f);
     }
-    let given = lines::row::row_read_lem(kind, day, i, f);
+    let given = lines::row::row_read(kind, day, i, f);
     let judged = given.judged;
     match judged {
-        RowJudged::Holds => lines::row::row_read_lem(by, line, i, f),
+        RowJudged::Holds => lines::row::row_read(by, line, i, f),
         RowJudged::Form(_) => given,
         RowJudged::Range(_) => given,
     }

@@ -24,7 +24,7 @@ use Rattle.types.proofs.AllLaws.{all_join, factors_each, factors_all}
 use Rattle.types.proofs.RangeLaws.{header_in_lem}
 use Rattle.tablerules.specs.declared.Room.{Room}
 use Rattle.tablerules.specs.declared.Room.TheVariants.{None}
-use Rattle.tablerules.specs.Table.{Table, lent, stretch, factors_at, twice, not_twice, row_good, front, in_range_lem, judge_shape, room_for_p, judge_records, judge_for, judge_lent}
+use Rattle.tablerules.specs.Table.{Table, lent, stretch, factors_at, twice, not_twice, row_good, front, in_range, judge_shape, room_for_p, judge_records, judge_for, judge_lent}
 use Rattle.tablerules.specs.Good.{Exact, Good, GoodIn}
 use Rattle.tablerules.proofs.RoomLaws.{Enough, room_enough, p_room_left}
 use Rattle.tablerules.proofs.JudgeLaws.{shape_front}
@@ -69,7 +69,7 @@ module _ (zones rows : ℕ) (factors : List ℤ) (long : length factors ≡ rows
 -- ---- judging gives a good table, the front of what was lent
 pub records_good : (u t : Table) → Exact u → judge_records u ≡ passed t → (t ≡ u) × Good u
 records_good u t exact e =
-    let w = then_passed (in_range_lem u) not_twice t e in
+    let w = then_passed (in_range u) not_twice t e in
     let z = none_passed _ _ _ _ w.it w.first in
     let a = none_passed _ _ _ _ w.it z.1 in
     let s = unless_passed w.it _ _ _ a.1 in
@@ -138,7 +138,7 @@ module _ (t : Table) (g : Good t) where
       (take_all t.header.rows t.rows (omega (arith, g.exact.rows_long)))
       (take_all (t.header.rows * t.header.zones) t.factors (omega (arith, g.exact.factors_long)))
 
-  in_range_lem : in_range_lem t ≡ passed t
+  in_range_lem : in_range t ≡ passed t
   in_range_lem =
       let h = header_in_lem t.header g.exact.header in
       none_next _ _ _ _ (λ i l. ap not (g.nets_fit i l))

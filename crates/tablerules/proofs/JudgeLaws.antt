@@ -23,7 +23,7 @@ use Rattle.types.specs.declared.Header.{Header}
 use Rattle.types.specs.Ranges.{at_ℤ, header_fits, allocated_items, zone_fits, border_fits}
 use Rattle.types.proofs.RangeLaws.{header_in_lem, zone_in, allocated_most}
 use Rattle.tablerules.specs.declared.Room.{Room}
-use Rattle.tablerules.specs.Table.{Table, factors_at, zone_line_no, allocated_line_no, last_allocated_line_no, border_line_no, row_line_no, balanced, row_good, header_line_no, twice, in_range_lem, not_twice, table_room, front, judge_shape, room_for_p, judge_records, judge_for}
+use Rattle.tablerules.specs.Table.{Table, factors_at, zone_line_no, allocated_line_no, last_allocated_line_no, border_line_no, row_line_no, balanced, row_good, header_line_no, twice, in_range, not_twice, table_room, front, judge_shape, room_for_p, judge_records, judge_for}
 use Rattle.tablerules.specs.Good.{Exact}
 use Rattle.tablerules.proofs.RoomLaws.{room_passed, room_of, p_room_of}
 
@@ -72,7 +72,7 @@ module _ (t : Table) (exact : Exact t) where
             (refuse_first t.header.rows row_out (λ i. out_of_range (row_line_no t.header + i))
             (passed t))
 
-        past-positions : in_range_lem t ≡ left
+        past-positions : in_range t ≡ left
         past-positions = first_none_next _ _ _ _ past-zones ∙ first_none_next _ _ _ _ past-allocated ∙ unless_ok _ _ even
 
         pub border_refused : (i : ℕ) → some i ≡ first_from (length t.borders) 0 border_out → refused (out_of_range (border_line_no t.header + i)) ≡ judged
@@ -90,7 +90,7 @@ module _ (t : Table) (exact : Exact t) where
               sym (then_refused not_twice (past-positions ∙ first_none_next _ _ _ _ past-borders ∙ first_found _ _ _ _ (sym e')))
 
           module _ (c : none ≡ first_from (length t.rows) 0 row_out) where
-            past-rows : in_range_lem t ≡ passed t
+            past-rows : in_range t ≡ passed t
             past-rows =
                 past-positions ∙ first_none_next _ _ _ _ past-borders
                 ∙ first_none_next _ _ _ _ (sym (subst (λ (n : ℕ). none ≡ first_from n 0 row_out) exact.rows_long c))

@@ -103,8 +103,8 @@ front given =
     }
 
 -- each record in range, with the line it would have; the sum of T is judged at the last T line, after that line's own range
-abbrev pub in_range_lem : Table → Judged Table
-in_range_lem t =
+abbrev pub in_range : Table → Judged Table
+in_range t =
     let h = t.header in
     refuse_first h.zones (λ i. not (zone_fits (at_ℤ t.nets i))) (λ i. out_of_range (zone_line_no + i))
     (refuse_first (allocated_items h) (λ i. not (zone_fits (at_ℤ t.allocated i))) (λ i. out_of_range (allocated_line_no h + i))
@@ -127,7 +127,7 @@ room_for_p (P items) h next = need (h.rows * h.borders) items next
 
 -- the records: ranges (3), and then borders given twice (4). They are judged after all lengths
 abbrev pub judge_records : Table → Judged Table
-judge_records t = then (in_range_lem t) not_twice
+judge_records t = then (in_range t) not_twice
 
 unfoldable pub judge_for : Room → (given : Table) → Judged Table
 judge_for room given = then (judge_shape given) (λ t. room_for_p room t.header (judge_records t))

@@ -15,7 +15,7 @@ use Rattle.numbers.proofs.BelowLaws.{lt_suc_cases, le_or_lt, first_none, first_n
 use Rattle.numbers.proofs.FirstLaws.{first_within, first_holds, first_before}
 use Rattle.numbers.proofs.TestLaws.{and_both, both_and}
 use Rattle.rounds.specs.Rounds.{Grid, State, raise, next, raised, Rounds, done, more, extract}
-use Rattle.rounds.specs.Last.{after, raise_in, last_to_lem, LastRaise, last_round}
+use Rattle.rounds.specs.Last.{after, raise_in, last_to, LastRaise, last_round}
 use Rattle.rounds.specs.Stopping.{equal_share_kw, stopping, stop_row, Stops}
 use Rattle.rounds.proofs.Round.{raiser, raise_falls}
 use Rattle.rounds.proofs.Reach.{unloaded_raise}
@@ -64,8 +64,8 @@ module _ (g : Grid) (s : State) (b : ℕ) where
       earlier (suc k) h z = le_trans h (raise_falls g (after g s k) b)
 
   -- a border with p = 0 at every row is raised in no round
-  pub unloaded_last : ((i : ℕ) → i < g.rows → g.p i b ≡ 0) → (k : ℕ) → last_to_lem g s b k ≡ 0
-  unfolding last_to_lem raise_in if_zero
+  pub unloaded_last : ((i : ℕ) → i < g.rows → g.p i b ≡ 0) → (k : ℕ) → last_to g s b k ≡ 0
+  unfolding last_to raise_in if_zero
   unloaded_last h zero = refl
   unloaded_last h (suc k) = rw (unloaded_raise g (after g s k).margins b h) (unloaded_last h k)
 

@@ -15,7 +15,7 @@ use Rattle.numbers.proofs.BelowLaws.{first_nothing, table_get}
 use Rattle.refusals.specs.Refusals.{Judged, passed, refused, then, either, unless, refuse_at, refuse_first, no_row, unlimited, below_zero}
 use Rattle.types.specs.Ranges.{is_intraday, default_of, row_of}
 use Rattle.marks.specs.Marks.{judge_marks, judge_asked, may_rise}
-use Rattle.tablerules.specs.Table.{Table, row_at, factors_at, front, room_for, in_range_lem, not_twice, judge_shape, judge_records, judge_for, judge_lent}
+use Rattle.tablerules.specs.Table.{Table, row_at, factors_at, front, room_for, in_range, not_twice, judge_shape, judge_records, judge_for, judge_lent}
 use Rattle.tablerules.proofs.GoodLaws.{judged_front}
 use Rattle.marginrules.specs.Margin.{s_at, ram_at, start_by, margin_of}
 use Rattle.marginrules.proofs.MarginLaws.{start_not_negative}
@@ -106,7 +106,7 @@ shape_not_7 given =
 
 records_not_7 : (t : Table) → Told Other (judge_records t)
 records_not_7 t =
-    told_then (in_range_lem t) not_twice
+    told_then (in_range t) not_twice
     (told_first _ _ _ _ (λ i e. omega arith) (told_first _ _ _ _ (λ i e. omega arith) (told_unless _ _ _ (λ e. omega arith) (told_first _ _ _ _ (λ i e. omega arith) (told_first _ _ _ _ (λ i e. omega arith) (told_passed _))))))
     (λ u v. told_first _ _ _ _ (λ i e. omega arith) (told_passed _))
 

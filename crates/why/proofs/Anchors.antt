@@ -14,7 +14,7 @@ use Rattle.types.specs.Ranges.{header_fits, allocated_items, zone_fits, exists, 
 use Rattle.marks.specs.Marks.{marked_by, faulty_mark, judge_marks}
 use Rattle.tablerules.specs.Table.{Table, stretch, balanced, twice, room_for, judge_shape, judge_for}
 use Rattle.rounds.specs.Rounds.{sharers, raise, raises, load, lowered, risen, apply, next, raised, counted, run, extract}
-use Rattle.rounds.specs.Last.{after, raise_in, last_to_lem, last_round}
+use Rattle.rounds.specs.Last.{after, raise_in, last_to, last_round}
 use Rattle.rounds.specs.Stopping.{stop_row}
 use Rattle.marginrules.specs.Margin.{grains, f0core_of, fuaf_of, base_of, amr_of, signed_factor, p_of, lta_kw, s_of, lta_margin_of, ram_of, ram_at}
 use Rattle.staterules.specs.States.{highest, lowest, spread_of, shifted, below, state_of, kept}
@@ -53,7 +53,7 @@ pub anchors_grid : Hold (
     -- a border that no row loads
     ∷ reasons_of (of lone (0 ∷ 7 ∷ []) 1) is told 1 0 (minus 1) (minus 1)  -- unloaded
     ∷ [])
-unfolding if_zero sum count lesser least or_zero table first_from sharers raise raises load lowered risen apply next raised counted run extract after raise_in last_to_lem last_round stop_row end_row end_record row_record reasons_of
+unfolding if_zero sum count lesser least or_zero table first_from sharers raise raises load lowered risen apply next raised counted run extract after raise_in last_to last_round stop_row end_row end_record row_record reasons_of
 anchors_grid = refl
 
 -- ---- a small hour: rows 0 and 1 limit a border each, 15 kW and 10 kW, row 2 is under 5%; IVA of row 0 is one's own
@@ -106,5 +106,5 @@ pub anchors_lent : Hold (
     ∷ asking 0 1 1 1 is turned 8 2 1 1  -- short-ends
     ∷ asking 0 1 2 2 is turned 8 3 2 2  -- short-rows
     ∷ [])
-unfolding judge_marks faulty_mark marked_by if_zero sum count lesser least or_zero table first_from given max_ℤ min_ℤ positive_part same_ℤ inside sum_ℤ header_fits allocated_items zone_fits exists hubs_fit border_fits hubs_of border_of share_of row_of row_fits factor_fits worth default_of then either unless refuse_at refuse_first need stretch balanced twice room_for judge_shape sharers raise raises load lowered risen apply next raised counted run extract after raise_in last_to_lem last_round stop_row grains f0core_of fuaf_of base_of amr_of signed_factor p_of lta_kw s_of lta_margin_of ram_of ram_at highest lowest spread_of shifted below state_of standings_of kept judge_for grid_by setup_with begin_by judge_by end_row end_record row_record reasons_of why_marked reasons_marked reasons_for judged_left why_for why_left why_marked_left
+unfolding judge_marks faulty_mark marked_by if_zero sum count lesser least or_zero table first_from given max_ℤ min_ℤ positive_part same_ℤ inside sum_ℤ header_fits allocated_items zone_fits exists hubs_fit border_fits hubs_of border_of share_of row_of row_fits factor_fits worth default_of then either unless refuse_at refuse_first need stretch balanced twice room_for judge_shape sharers raise raises load lowered risen apply next raised counted run extract after raise_in last_to last_round stop_row grains f0core_of fuaf_of base_of amr_of signed_factor p_of lta_kw s_of lta_margin_of ram_of ram_at highest lowest spread_of shifted below state_of standings_of kept judge_for grid_by setup_with begin_by judge_by end_row end_record row_record reasons_of why_marked reasons_marked reasons_for judged_left why_for why_left why_marked_left
 anchors_lent = refl

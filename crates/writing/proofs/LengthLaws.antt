@@ -30,7 +30,7 @@ use Rattle.types.specs.LineColumns.{header_columns, default_columns, zone_column
 use Rattle.text.specs.Fields.{tab}
 use Rattle.columns.specs.declared.Head.TheVariants.{Lettered, Indexed}
 use Rattle.columns.specs.ColumnText.{field_text, fields_length, numbers_of}
-use Rattle.columns.specs.Optional.{written_by_lem}
+use Rattle.columns.specs.Optional.{written_by}
 use Rattle.columns.proofs.ColumnPut.{line_long, length_parts}
 use Rattle.layout.specs.Layout.{header_text, position_text, zone_text, allocated_text, border_text, row_text}
 use Rattle.writing.specs.Writing.{table_text}
@@ -42,7 +42,7 @@ digits_of i = length (decimal i)
 -- ---- the lines
 -- zones and borders of 2 digits, rows of 3, and a default of 5
 counts_most : (h : Header) → HeaderIn h → (r : ℤ) → inside (minus 1) (pos share_most) r ≡ true
-    → fields_length (written_by_lem header_columns default_columns (pos h.zones ∷ pos h.borders ∷ pos h.rows ∷ r ∷ [])) (pos h.zones ∷ pos h.borders ∷ pos h.rows ∷ r ∷ []) ≤ 16
+    → fields_length (written_by header_columns default_columns (pos h.zones ∷ pos h.borders ∷ pos h.rows ∷ r ∷ [])) (pos h.zones ∷ pos h.borders ∷ pos h.rows ∷ r ∷ []) ≤ 16
 unfolding fields_length field_text decimal_ℤ
 counts_most h i (pos n) e =
     rw (le-ltb n 0 (omega arith))
@@ -54,7 +54,7 @@ pub header_most : (h : Header) → header_fits h ≡ true → length (header_tex
 header_most h e =
     let i = header_in_lem h e in
     let raw = pos h.zones ∷ pos h.borders ∷ pos h.rows ∷ h.share ∷ [] in
-    omega (arith, line_long tab (Lettered (code "H")) (written_by_lem header_columns default_columns raw) raw, counts_most h i h.share i.share)
+    omega (arith, line_long tab (Lettered (code "H")) (written_by header_columns default_columns raw) raw, counts_most h i h.share i.share)
 
 pub zone_most : (letter i : ℕ) (net : ℤ) → zone_fits net ≡ true → length (position_text letter i net) ≤ 14 + digits_of i
 unfolding fields_length field_text
@@ -126,7 +126,7 @@ hub_fields raw =
 
 border_most : (zones i : ℕ) (raw : List ℤ) → zones ≤ zones_most → border_fits zones raw ≡ true → length (border_text i raw) ≤ 23 + digits_of i
 border_most zones i raw few e =
-    rw (line_long tab (Indexed (code "B") i) (written_by_lem border_columns hub_columns raw) raw) (omega (arith, go (lt_z (at_ℤ raw 3) (pos 0))))
+    rw (line_long tab (Indexed (code "B") i) (written_by border_columns hub_columns raw) raw) (omega (arith, go (lt_z (at_ℤ raw 3) (pos 0))))
   where
     go : (t : Bool) → fields_length (cond t border_columns (border_columns ++ hub_columns)) raw ≤ 20
     go true = omega (arith, ends_most zones raw few e)

@@ -15,7 +15,7 @@ use Rattle.text.specs.Fields.{tab}
 use Rattle.text.proofs.FieldLaws.{fits_pos}
 use Rattle.columns.specs.declared.Head.TheVariants.{Lettered}
 use Rattle.columns.specs.ColumnText.{line_length}
-use Rattle.columns.specs.Optional.{written_by_lem}
+use Rattle.columns.specs.Optional.{written_by}
 use Rattle.columns.proofs.ColumnPut.{line_long}
 use Rattle.layout.specs.Layout.{header_text}
 use Rattle.layout.proofs.LayoutLaws.{header_raw_lem}
@@ -27,10 +27,10 @@ abbrev raw : Header → List ℤ
 raw h = pos h.zones ∷ pos h.borders ∷ pos h.rows ∷ h.share ∷ []
 
 abbrev bytes : List ℤ → ℕ
-bytes zs = line_length (Lettered (code "H")) (written_by_lem header_columns default_columns zs) zs
+bytes zs = line_length (Lettered (code "H")) (written_by header_columns default_columns zs) zs
 
 long : (h : Header) → length (header_text h) ≡ bytes (raw h)
-long h = line_long tab (Lettered (code "H")) (written_by_lem header_columns default_columns (raw h)) (raw h)
+long h = line_long tab (Lettered (code "H")) (written_by header_columns default_columns (raw h)) (raw h)
 
 abbrev entry-from-struct-known2 : tie.After-struct-known2 → tie.Start
 entry-from-struct-known2 c = c.before.before.before
