@@ -1,0 +1,57 @@
+-- `claimline::claim_in` meets its contract: the columns are as many as the pairs say (`number-letters`), and what they hold is the claim (`with-fields`).
+use mathlib.Core.Path.{sym, ap, ◌∙◌}
+use Prim.Native.Nat.{◌≤◌}
+use native.Mathlib.Omega.{arith}
+use lib.ListN.{length, drop, length-append}
+use lib.Seq.{length-take-le, take_at}
+use Rattle.claimline.specs.ClaimText.{fields_of, claim_record}
+use Rattle.claimline.proofs.ReadLaws.{number_letters, with_bad, with_fields}
+use Rattle.claimline.proofs.claim_in.Goals as goal
+
+few : (s : goal.Start) → fields_of s.args.pairs ≤ length s.args.fields.now
+few s = omega (arith, s.requires.0, s.requires.1)
+
+array-share-prefix-line-at : goal.Need-array-share-prefix-line-at
+array-share-prefix-line-at c = omega (arith, c.before.requires.0)
+
+slice-aggregate-line-at : goal.slice_bounds-line_at-end-3
+slice-aggregate-line-at c = sym (length-take-le _ _ (array-share-prefix-line-at c.before))
+
+slice-aggregate-line-at-2 : goal.Need-slice-aggregate-line-at-2
+slice-aggregate-line-at-2 c = sym (length-take-le _ _ (few c.before.before.before))
+
+slice-reshare-prefix-claim-record : goal.slice_bounds-claim_record-end
+slice-reshare-prefix-claim-record c = omega (arith, values_long c.before.before, length-append (values c.before.before) (drop (fields_of c.args.pairs) c.args.fields.now))
+
+pub overflow_mul-n : goal.overflow_mul-n
+overflow_mul-n c = omega (arith, c.requires.0)
+
+pub overflow_add-n : goal.overflow_add-n
+overflow_add-n c = omega (arith, c.requires.0)
+
+pub shared_ref_as_front-line_at : goal.shared_ref_as_front-line_at
+shared_ref_as_front-line_at c = omega (arith, c.requires.0)
+
+pub slice_bounds-line_at-end-2 : goal.slice_bounds-line_at-end-2
+slice_bounds-line_at-end-2 c = sym (length-take-le _ _ (array-share-prefix-line-at c.before))
+
+pub slice_bounds-line_at-end-3 : goal.slice_bounds-line_at-end-3
+slice_bounds-line_at-end-3 c = few c.before.before
+
+pub line_at-found-requires : goal.line_at-found-requires
+line_at-found-requires c = sym (slice-aggregate-line-at c.before) ∙ slice-aggregate-line-at-2 c
+
+pub returns-in_default : goal.returns-in_default
+returns-in_default c = c.no_claim.ensures
+    ∙ with_bad c.args.line.now c.args.pairs (number_letters (fields_of c.args.pairs) 34 (omega (arith, c.requires.0))) _ _ c.line_at-found.ensures _ c.in_default.is
+
+pub slice_bounds-claim_record-end : goal.slice_bounds-claim_record-end
+slice_bounds-claim_record-end c = omega (arith, values_long c.before.before, length-append (values c.before.before) (drop (fields_of c.args.pairs) c.args.fields.now))
+
+pub slice_bounds-claim_record-end-2 : goal.slice_bounds-claim_record-end-2
+slice_bounds-claim_record-end-2 c = sym (length-take-le _ _ (slice-reshare-prefix-claim-record c))
+
+pub returns : goal.returns
+returns c = c.claim_record.ensures
+    ∙ ap (claim_record c.args.pairs) (take_at (values c.before.before.before.before) (drop (fields_of c.args.pairs) c.args.fields.now) (fields_of c.args.pairs) (values_long c.before.before.before.before))
+    ∙ with_fields c.args.line.now c.args.pairs (number_letters (fields_of c.args.pairs) 34 (omega (arith, c.requires.0))) _ _ c.line_at-found.ensures c.requires.0 _ c.in-End.is

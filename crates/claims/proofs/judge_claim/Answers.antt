@@ -1,0 +1,31 @@
+-- `claims::judge_claim` meets its contract: form, and then truth.
+use mathlib.Core.Path.{◌≡◌, sym, ap, subst, ◌∙◌}
+use mathlib.Core.Bool.{true}
+use Prim.Native.Nat.{ℕ}
+use borrow.Author.Tests.{not-true, not-false}
+use Rattle.refusals.specs.Refusals.{refused}
+use Rattle.refusals.proofs.RefusalLaws.{unless_ok, unless_refused}
+use Rattle.claimrules.specs.Claims.{formed_by}
+use Rattle.claims.specs.Named.{flagged, judge_claim}
+use Rattle.claims.specs.Magnitudes.{ClaimInRange}
+use Rattle.claims.proofs.FormLaws.{claim_formed, formed_ranges}
+use Rattle.claims.proofs.judge_claim.Goals as goal
+
+yes : (c : goal.Else-not-is_formed) → formed_by c.args.states.now (flagged c.args.named.now) (flagged c.args.earlier.now) c.args.claim ≡ true
+yes c = sym c.is_formed.ensures ∙ not-false _ c.if-not-is_formed.false-raw
+
+pub returns-then-not-is_formed : goal.returns-then-not-is_formed
+unfolding judge_claim
+returns-then-not-is_formed c = ap refused c.malformed_claim.ensures ∙ sym (unless_refused _ _ (sym c.is_formed.ensures ∙ not-true _ c.if-not-is_formed.true))
+
+pub is_borne_out-requires : goal.is_borne_out-requires
+is_borne_out-requires c = record { lent = c.requires.lent; lent_2 = c.requires.lent_2; claim_in_range = subst (λ (n : ℕ). ClaimInRange n c.args.claim) c.requires.states_len (formed_ranges c.args.states.now (flagged c.args.named.now) (claim_formed c.args.states.now (flagged c.args.named.now) (flagged c.args.earlier.now) c.args.claim (yes c))) }
+
+pub returns-then-not-is_borne_out : goal.returns-then-not-is_borne_out
+unfolding judge_claim
+returns-then-not-is_borne_out c = ap refused c.not_borne_out.ensures
+    ∙ sym (unless_ok _ _ (yes c.before.before.before) ∙ unless_refused _ _ (sym c.is_borne_out.ensures ∙ not-true _ c.if-not-is_borne_out.true))
+
+pub returns : goal.returns
+unfolding judge_claim
+returns c = sym (unless_ok _ _ (yes c.before.before) ∙ unless_ok _ _ (sym c.is_borne_out.ensures ∙ not-false _ c.if-not-is_borne_out.false-raw))

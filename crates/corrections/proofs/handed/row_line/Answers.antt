@@ -1,0 +1,9 @@
+-- `corrections::handed::row_line` meets its contract: the test is the definition's.
+use mathlib.Core.Path.{refl, sym, ◌∙◌}
+use Rattle.corrections.proofs.handed.row_line.Goals as goal
+
+pub returns-then-of_row : goal.returns-then-of_row
+returns-then-of_row c = rw (sym c.of_row.ensures ∙ c.if-of_row.true) refl
+
+pub returns : goal.returns
+returns c = rw (sym c.of_row.ensures ∙ c.if-of_row.false) refl

@@ -1,0 +1,11 @@
+-- `holding::hold` meets its contract: each number fits.
+use borrow.Author.Rules.{rules, sfits_of}
+use mir.Facts.{to_z_pos, to_z-of_z}
+use mir.Syntax.{w64}
+use Rattle.holding.proofs.hold.Goals as goal
+
+cast-t7 : goal.Need-overflow-cast-t7
+cast-t7 c = search rules
+
+pub returns : goal.returns
+returns c = rw (to_z_pos w64 (cast-t7 c).sfits, to_z-of_z (sfits_of c.margin_left-left.type-inv), c.margin_left-left.ensures, to_z-of_z (sfits_of c.allow-kw.type-inv), c.allow-kw.ensures)

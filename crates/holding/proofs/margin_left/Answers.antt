@@ -1,0 +1,15 @@
+-- `holding::margin_left` meets its contract.
+use borrow.Author.Rules.{rules}
+use borrow.Author.Tests.{eq-eqb, ne_eqb}
+use mir.Facts.{to_z_pos}
+use mir.Syntax.{w64}
+use Rattle.holding.proofs.margin_left.Goals as goal
+
+cast-result : goal.Need-overflow-cast-result
+cast-result c = search rules
+
+pub returns-then-state-eq0 : goal.returns-then-state-eq0
+returns-then-state-eq0 c = rw (eq-eqb _ _ c.if-state-eq0.true) (to_z_pos w64 (cast-result c).sfits)
+
+pub returns-else-state-eq0 : goal.returns-else-state-eq0
+returns-else-state-eq0 c = rw (ne_eqb _ _ c.if-state-eq0.false)

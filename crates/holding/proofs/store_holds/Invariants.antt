@@ -1,0 +1,13 @@
+-- `holding::store_holds` meets its contract. The invariant: the first i records are stored, and the rest is as it was.
+use Prim.Native.Nat.{◌-◌}
+use Rattle.numbers.specs.Below.{at}
+use Rattle.numbers.proofs.ListLaws.{Filled}
+use Rattle.rounds.specs.AllRounds.{flat}
+use Rattle.holding.specs.Holding.{allowed, row_left}
+use Rattle.holding.proofs.store_holds.Given as goal
+
+abbrev pub invariant-loop-i : goal.invariant-loop-i
+invariant-loop-i l = Filled (λ i. row_left (at l.ns i) (at l.states i) (at l.margins i) (allowed (at l.ns i) (at l.margins i) ((flat l.rows l.borders l.p).p i l.b))) l.rows l.initial.out l.out l.i
+
+abbrev pub decreases-loop-i : goal.decreases-loop-i
+decreases-loop-i l = l.rows - l.i

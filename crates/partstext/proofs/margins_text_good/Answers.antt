@@ -1,0 +1,30 @@
+-- `partstext::margins_text_good` meets its contract: the records stand in front of the working memory, which has room for every table, and then their text.
+use mathlib.Core.Path.{sym, ap, ◌∙◌}
+use mathlib.Core.List.{List}
+use lib.IntN.{ℤ}
+use lib.Seq.{length-take-le}
+use Rattle.refusals.specs.Refusals.{passed}
+use Rattle.types.proofs.RangeLaws.{header_in_lem}
+use Rattle.text.specs.Left.{text_left}
+use Rattle.partstext.specs.PartsText.{parts_text}
+use Rattle.partstext.proofs.PartsTextLaws.{records_first, records_long, records_short}
+use Rattle.partstext.proofs.margins_text_good.Goals as goal
+
+array-share-prefix-records : goal.slice_bounds-records-end
+array-share-prefix-records c = records_long c.requires _ c.margins_good.ensures
+
+pub margins_good-requires : goal.margins_good-requires
+margins_good-requires c = record { good = c.requires; rows_in_bounds = (header_in_lem _ c.requires.exact.header).rows_most_lem }
+
+pub slice_bounds-records-end : goal.slice_bounds-records-end
+slice_bounds-records-end c = records_long c.requires _ c.margins_good.ensures
+
+pub slice_bounds-write_parts-end : goal.slice_bounds-write_parts-end
+slice_bounds-write_parts-end c = sym (length-take-le _ _ (array-share-prefix-records c.before))
+
+pub write_parts-requires : goal.write_parts-requires
+write_parts-requires c = records_short c.requires _ c.margins_good.ensures
+
+pub returns : goal.returns
+returns c = c.write_parts.ensures
+    ∙ ap (λ (rs : List (List ℤ)). text_left (passed (parts_text rs)) c.args.out.now) (records_first c.requires _ c.margins_good.ensures)

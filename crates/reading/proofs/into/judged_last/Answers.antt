@@ -1,0 +1,34 @@
+-- `reading::into::judged_last` meets its contract: the first border given twice, or else what was held back.
+use mathlib.Core.Path.{◌≡◌, sym, ap, ◌∙◌}
+use Prim.Native.Nat.{ℕ, ◌≤◌}
+use native.Mathlib.Omega.{arith}
+use lib.ListN.{length, take}
+use lib.Seq.{length-take-le}
+use Rattle.numbers.specs.Below.{first_from}
+use Rattle.numbers.specs.First.{found}
+use Rattle.refusals.specs.declared.Judgement.{Judgement}
+use Rattle.refusals.specs.Answers.{said_judgement}
+use Rattle.refusals.specs.Refusals.{refused, given_twice}
+use Rattle.refusals.proofs.RefusalLaws.{first_found, first_none_next}
+use Rattle.types.proofs.RangeLaws.{header_in_lem}
+use Rattle.tablerules.specs.Table.{twice}
+use Rattle.reading.proofs.into.judged_last.Goals as goal
+
+room : (s : goal.Start) → s.args.h.borders ≤ length s.args.b.now
+room s = omega (arith, (header_in_lem _ s.requires.0).borders_most_lem, s.requires.1)
+
+searched : (c : goal.After-first_twice)
+    → first_from c.args.h.borders 0 (twice (take c.args.h.borders c.args.b.now)) ≡ found c.first_twice.result
+searched c = ap (λ (n : ℕ). first_from n 0 (twice (take c.args.h.borders c.args.b.now))) (sym (length-take-le _ _ (room c))) ∙ sym c.first_twice.ensures
+
+pub slice_bounds-first_twice-end : goal.slice_bounds-first_twice-end
+slice_bounds-first_twice-end c = sym (length-take-le _ _ (room c))
+
+pub returns-in-At : goal.returns-in-At
+returns-in-At c = ap refused c.given_twice.ensures ∙ sym (first_found (said_judgement c.args.held c.args.h) c.args.h.borders _ given_twice (searched c.before.before.before ∙ ap found c.in-At.is))
+
+pub returns-in-Passed : goal.returns-in-Passed
+returns-in-Passed c = sym (first_none_next (said_judgement c.args.held c.args.h) c.args.h.borders _ given_twice (searched c.before.before ∙ ap found c.in_default.is) ∙ ap (λ (j : Judgement). said_judgement j c.args.h) c.in-Passed.is)
+
+pub returns-in-Refused : goal.returns-in-Refused
+returns-in-Refused c = sym (first_none_next (said_judgement c.args.held c.args.h) c.args.h.borders _ given_twice (searched c.before.before.before ∙ ap found c.in_default.is) ∙ ap (λ (j : Judgement). said_judgement j c.args.h) c.in-Refused.is)

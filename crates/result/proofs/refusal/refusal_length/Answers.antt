@@ -1,0 +1,37 @@
+-- `result::refusal::refusal_length` meets its contract (`refusal-length`): a number has at most 20 digits, so the sums fit.
+use mathlib.Core.Path.{◌≡◌}
+use Prim.Native.Nat.{◌+◌}
+use native.Mathlib.Omega.{arith}
+use lib.ListN.{length}
+use Rattle.text.proofs.DigitLaws.{decimal_u64}
+use Rattle.result.specs.Refusal.{refusal_text}
+use Rattle.result.proofs.RecordsLaws.{refusal_length, refusal_most_lem}
+use Rattle.result.proofs.refusal.refusal_length.Goals as goal
+
+pub overflow_add-result : goal.overflow_add-result
+overflow_add-result c = omega (arith, c.digit_count.ensures, decimal_u64 c.args.w.number (omega (arith, c.struct_known-1.given)))
+
+pub overflow_add-result-2 : goal.overflow_add-result-2
+overflow_add-result-2 c = omega (
+      arith,
+      c.digit_count.ensures,
+      c.digit_count-2.ensures,
+      decimal_u64 c.args.w.number (omega (arith, c.struct_known-1.given)),
+      decimal_u64 c.args.w.place (omega (arith, c.struct_known-1.given)),
+    )
+
+pub overflow_add-result-3 : goal.overflow_add-result-3
+overflow_add-result-3 c = omega (
+      arith,
+      c.digit_count.ensures,
+      c.digit_count-2.ensures,
+      c.digit_count-3.ensures,
+      decimal_u64 c.args.w.number (omega (arith, c.struct_known-1.given)),
+      decimal_u64 c.args.w.place (omega (arith, c.struct_known-1.given)),
+      decimal_u64 c.args.w.byte (omega (arith, c.struct_known-1.given)),
+    )
+
+pub returns : goal.returns
+returns c = let sum : 5 + c.digit_count.result + c.digit_count-2.result + c.digit_count-3.result ≡ length (refusal_text c.args.w) =
+    omega (arith, c.digit_count.ensures, c.digit_count-2.ensures, c.digit_count-3.ensures, refusal_length c.args.w) in
+    (sum, omega (arith, sum, refusal_most_lem c.args.w (omega (arith, c.struct_known-1.given)) (omega (arith, c.struct_known-1.given)) (omega (arith, c.struct_known-1.given))))

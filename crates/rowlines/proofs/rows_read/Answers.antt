@@ -1,0 +1,133 @@
+use mathlib.Core.Path.{◌≡◌, sym, ap, subst, ◌∙◌}
+use mathlib.Core.List.{List, ◌++◌}
+use Prim.Native.Nat.{ℕ, ◌+◌, ◌*◌, ◌-◌, ◌≤◌}
+use native.Mathlib.Omega.{arith}
+use lib.ListN.{length, take, drop}
+use Rattle.numbers.proofs.ListLaws.{part_long}
+use Rattle.text.specs.Line.{Line, line_at}
+use Rattle.lines.specs.Lines.{RowLine}
+use Rattle.lines.specs.SaidRow.{said_row, line_by}
+use Rattle.lines.specs.declared.row.RowKind.{RowKind}
+use Rattle.lines.specs.declared.row.RowJudged.{RowJudged}
+use Rattle.corrections.specs.Corrections.{pieces, Piece, piece, row_in, handed_on, handed_by}
+use Rattle.corrections.specs.Alongside.{piece_for, sheet_after}
+use Rattle.corrections.proofs.SheetAlongside.{Walked, walked_start, walked_line, walked_more}
+use Rattle.sections.specs.Section.{fault}
+use Rattle.rowlines.specs.Rows.{instead, corrected_by}
+use Rattle.sections.proofs.StoredLaws.{after_within}
+use Rattle.rowlines.proofs.RowStored.{rows_stored_none, rows_stored_all, rows_stored_room, rows_stored_back, rows_stored_form, rows_stored_range, rows_stored_more}
+use Rattle.rowlines.proofs.rows_read.Goals as goal
+
+abbrev judge : goal.In-loop-i → List ℕ → ℕ → Line RowLine
+judge c = corrected_by c.args.kind c.args.zones (handed_by c.args.sheet.now)
+
+room : (c : goal.In-loop-i)
+    → c.loop-i.i * c.args.zones + c.args.zones ≤ length c.loop-i.f
+room c = rows_stored_room (judge c) c.args.first c.args.text.now c.args.at c.args.zones c.args.c.now c.args.f.now c.loop-i.c c.loop-i.f c.loop-i.i c.loop-i.p c.loop-i.invariant.stored c.loop-i-test.true
+
+lent : (c : goal.In-loop-i)
+    → let start = c.loop-i.i * c.args.zones in
+    length (take (start + c.args.zones - start) (drop start c.loop-i.f)) ≡ c.args.zones
+lent c = part_long c.loop-i.f _ _ (room c)
+
+row-said : (r : goal.After-row_corrected-row)
+    → judge r.before.before.before.before (line_at r.args.text.now r.loop-i.p) r.loop-i.i ≡ said_row r.row_corrected-row.result.judged r.row_corrected-row.result.raw r.row_corrected-row.new.f
+row-said r = let day = piece r.args.kind r.line_at-given.result.now in
+    let handed : piece_for r.sheet_kind-by.result r.line_at-next.result.now day r.loop-i.i ≡ handed_by r.args.sheet.now day r.loop-i.i =
+    ap (λ (x : List ℕ). piece_for r.sheet_kind-by.result x day r.loop-i.i) r.line_at-next.ensures ∙ walked_line r.sheet_kind-by.result r.args.zones (length r.args.c.now) r.args.sheet.now r.loop-i.s r.loop-i.i r.loop-i.invariant.walked day
+    ∙ ap (λ (k : RowKind). handed_on k (pieces r.args.sheet.now) day r.loop-i.i) r.sheet_kind-by.ensures in
+    sym
+    (r.row_corrected-row.ensures
+    ∙ ap (λ (n : ℕ). instead (line_by r.args.kind n r.line_at-given.result.now r.loop-i.i) (row_in n (piece_for r.sheet_kind-by.result r.line_at-next.result.now day r.loop-i.i) r.loop-i.i)) (lent r.before.before.before.before)
+    ∙ ap (λ (x : Piece). instead (line_by r.args.kind r.args.zones r.line_at-given.result.now r.loop-i.i) (row_in r.args.zones x r.loop-i.i)) handed
+    ∙ ap (λ (x : List ℕ). judge r.before.before.before.before x r.loop-i.i) r.line_at-given.ensures)
+
+wide : (r : goal.After-row_corrected-row) → length r.row_corrected-row.new.f ≡ r.args.zones
+wide r = r.row_corrected-row.auto.f ∙ lent r.before.before.before.before
+
+factors_kept : (r : goal.After-row_corrected-row)
+    → let start = r.loop-i.i * r.args.zones in
+    length (take start r.loop-i.f ++ (r.row_corrected-row.new.f ++ drop (start + r.args.zones - start) (drop start r.loop-i.f))) ≡ length r.args.f.now
+factors_kept r = rows_stored_back (judge r.before.before.before.before) r.args.first r.args.text.now r.args.at r.args.zones r.args.c.now r.args.f.now r.loop-i.c r.loop-i.f r.loop-i.i r.loop-i.p r.loop-i.invariant.stored r.loop-i-test.true r.row_corrected-row.new.f (wide r) ∙ sym r.requires.at_in_bounds.2
+
+pub loop-i-init : goal.loop-i-init
+loop-i-init c = record {
+      stored = rows_stored_none _ c.args.first c.args.text.now c.args.at c.args.zones c.args.c.now c.args.f.now c.requires.at_in_bounds.0 c.requires.at_in_bounds.2;
+      walked = walked_start c.sheet_kind-by.result c.args.zones (length c.args.c.now) c.args.sheet.now c.sheet_kind-by.ensures c.requires.sheet_value;
+    }
+
+pub line_at-given-requires : goal.line_at-given-requires
+line_at-given-requires c = c.loop-i.invariant.stored.stored.within
+
+pub line_at-next-requires : goal.line_at-next-requires
+line_at-next-requires c = c.loop-i.invariant.walked.within
+
+pub overflow_mul-start : goal.overflow_mul-start
+overflow_mul-start c = omega (arith, room c.before.before)
+
+pub overflow_add-start : goal.overflow_add-start
+overflow_add-start c = omega (arith, room c.before.before)
+
+pub offset_bounds-f-start : goal.offset_bounds-f-start
+offset_bounds-f-start c = omega (arith, room c.before.before)
+
+pub slice_bounds-row_corrected-end : goal.slice_bounds-row_corrected-end
+slice_bounds-row_corrected-end c = omega (arith, room c.before.before)
+
+pub row_corrected-row-requires : goal.row_corrected-row-requires
+row_corrected-row-requires c = (omega (arith, lent c.before.before.before, c.requires.at_in_bounds.3), omega (arith, lent c.before.before.before, c.requires.at_in_bounds.4))
+
+pub bounds-c-i : goal.bounds-c-i
+bounds-c-i c = omega (arith, c.loop-i.invariant.stored.rows_long)
+
+pub overflow_add-first : goal.overflow_add-first
+overflow_add-first c = omega (arith, c.loop-i-test.true, c.requires.at_in_bounds.1)
+
+pub shape_of-c-in-Form : goal.shape_of-c-in-Form
+shape_of-c-in-Form c = c.loop-i.invariant.stored.rows_long
+
+pub shape_of-f-in-Form : goal.shape_of-f-in-Form
+shape_of-f-in-Form c = factors_kept c.before.before.before.before
+
+pub returns-in-Form : goal.returns-in-Form
+returns-in-Form c = ap fault c.wrong_form_at.ensures
+    ∙ rows_stored_form (judge c.before.before.before.before.before.before.before.before) c.args.first c.args.text.now c.args.at c.args.zones c.args.c.now c.args.f.now c.loop-i.c c.loop-i.f c.loop-i.i c.loop-i.p c.loop-i.invariant.stored c.loop-i-test.true _
+    (row-said c.before.before.before.before ∙ ap (λ (j : RowJudged). said_row j c.row_corrected-row.result.raw c.row_corrected-row.new.f) c.in-Form.is)
+
+pub overflow_add-first-in-Range : goal.overflow_add-first-in-Range
+overflow_add-first-in-Range c = omega (arith, c.loop-i-test.true, c.requires.at_in_bounds.1)
+
+pub shape_of-c-in-Range : goal.shape_of-c-in-Range
+shape_of-c-in-Range c = c.loop-i.invariant.stored.rows_long
+
+pub shape_of-f-in-Range : goal.shape_of-f-in-Range
+shape_of-f-in-Range c = factors_kept c.before.before.before.before
+
+pub returns-in-Range : goal.returns-in-Range
+returns-in-Range c = ap fault c.out_of_range_at.ensures
+    ∙ rows_stored_range (judge c.before.before.before.before.before.before.before.before) c.args.first c.args.text.now c.args.at c.args.zones c.args.c.now c.args.f.now c.loop-i.c c.loop-i.f c.loop-i.i c.loop-i.p c.loop-i.invariant.stored c.loop-i-test.true _
+    (row-said c.before.before.before.before ∙ ap (λ (j : RowJudged). said_row j c.row_corrected-row.result.raw c.row_corrected-row.new.f) c.in-Range.is)
+
+pub sheet_after-s-requires : goal.sheet_after-s-requires
+sheet_after-s-requires c = rw c.line_at-next.ensures (omega (arith, after_within c.args.sheet.now c.loop-i.s c.loop-i.invariant.walked.within, c.well_formed))
+
+pub overflow_add-p : goal.overflow_add-p
+overflow_add-p c = rw c.line_at-given.ensures (omega (arith, after_within c.args.text.now c.loop-i.p c.loop-i.invariant.stored.stored.within, c.well_formed))
+
+pub loop-i-preserved : goal.loop-i-preserved
+loop-i-preserved c = record {
+      stored = rw c.line_at-given.ensures
+          (rows_stored_more (judge c.before.before.before.before.before.before.before.before) c.args.first c.args.text.now c.args.at c.args.zones c.args.c.now c.args.f.now c.loop-i.c c.loop-i.f c.loop-i.i c.loop-i.p c.loop-i.invariant.stored c.loop-i-test.true c.row_corrected-row.result.raw c.row_corrected-row.new.f (wide c.before.before.before.before)
+          (row-said c.before.before.before.before ∙ ap (λ (j : RowJudged). said_row j c.row_corrected-row.result.raw c.row_corrected-row.new.f) c.in-Holds.is));
+      walked = subst (λ (v : ℕ). Walked c.sheet_kind-by.result c.args.zones (length c.args.c.now) c.args.sheet.now v (c.loop-i.i + 1)) (sym (c.sheet_after-s.ensures ∙ ap (λ (next : List ℕ). sheet_after c.sheet_kind-by.result next c.loop-i.s c.loop-i.i) c.line_at-next.ensures))
+          (walked_more c.sheet_kind-by.result c.args.zones (length c.args.c.now) c.args.sheet.now c.loop-i.s c.loop-i.i c.loop-i.invariant.walked);
+    }
+
+pub shape_of-c : goal.shape_of-c
+shape_of-c c = c.loop-i.invariant.stored.rows_long
+
+pub shape_of-f : goal.shape_of-f
+shape_of-f c = c.loop-i.invariant.stored.factors_long ∙ sym c.requires.at_in_bounds.2
+
+pub returns : goal.returns
+returns c = rows_stored_all _ c.args.first c.args.text.now c.args.at c.args.zones c.args.c.now c.args.f.now c.loop-i.c c.loop-i.f c.loop-i.i c.loop-i.p c.loop-i.invariant.stored c.loop-i-test.false

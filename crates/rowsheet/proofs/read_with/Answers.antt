@@ -1,0 +1,51 @@
+-- `rowsheet::read_with` meets its contract: what is refused writes nothing (`sheet-refused`, `left-short`), and else the rows stand in front (`left-filled`).
+use mathlib.Core.Path.{◌≡◌, sym, ap, ap₂, ◌∙◌}
+use mathlib.Core.List.{List}
+use native.Mathlib.Omega.{arith}
+use lib.IntN.{ℤ}
+use lib.ListN.{length}
+use Rattle.refusals.specs.declared.Judgement.{Judgement}
+use Rattle.refusals.specs.declared.Judgement.TheVariants as judgement
+use Rattle.refusals.specs.Answers.{said_judgement}
+use Rattle.refusals.specs.Refusals.{passed}
+use Rattle.types.proofs.RangeLaws.{header_in_lem}
+use Rattle.tablerules.proofs.RoomLaws.{factors_most}
+use Rattle.rowsheet.specs.RowSheet.{Rows, front_rows, read_sheet, row_room, rows_said}
+use Rattle.rowsheet.proofs.SheetLaws.{sheet_refused, SheetSection, sheet_section, left_short, left_filled, room_passed}
+use Rattle.rowsheet.proofs.read_with.Goals as goal
+
+abbrev rows : goal.After-read_sheet → Rows
+rows c = front_rows c.args.h c.read_sheet.new.c c.read_sheet.new.f
+
+good : (c : goal.In_default) → passed (rows c.before.before.before) ≡ read_sheet c.args.h c.args.sheet.now
+good c = sym (ap (λ (j : Judgement). said_judgement j (rows c.before.before.before)) c.in_default.is) ∙ c.read_sheet.ensures
+
+section : (c : goal.In_default) → SheetSection c.args.h c.args.sheet.now (rows c.before.before.before)
+section c = sheet_section _ _ _ (sym (good c))
+
+room : (c : goal.In_default-judge_room) → passed c.args.h ≡ row_room c.args.h (length c.args.c.now) (length c.args.f.now) (passed c.args.h)
+room c = sym (ap (λ (j : Judgement). said_judgement j c.args.h) c.in_default-judge_room.is) ∙ c.judge_room.ensures
+
+pub returns-in-Refused : goal.returns-in-Refused
+returns-in-Refused c = sheet_refused c.args.h c.args.sheet.now c.args.c.now c.args.f.now _ (sym (ap (λ (j : Judgement). said_judgement j (rows c.before.before.before.before)) c.in-Refused.is) ∙ c.read_sheet.ensures)
+
+pub judge_room-requires : goal.judge_room-requires
+judge_room-requires c = (section c).fits
+
+pub returns-in-Refused-judge_room : goal.returns-in-Refused-judge_room
+returns-in-Refused-judge_room c = left_short c.args.h c.args.sheet.now c.args.c.now c.args.f.now (rows c.before.before.before.before.before.before) (good c.before.before.before) _ (sym (ap (λ (j : Judgement). said_judgement j c.args.h) c.in-Refused-judge_room.is) ∙ c.judge_room.ensures)
+
+pub put_rows-requires : goal.put_rows-requires
+put_rows-requires c = let n = room_passed _ _ _ _ _ (sym (room c)) in
+    (omega (arith, (header_in_lem _ (section c).fits).rows_most_lem, c.requires.0, c.read_sheet.auto.c), n.0)
+
+pub overflow_mul-h : goal.overflow_mul-h
+overflow_mul-h c = omega (arith, factors_most _ (section c).fits)
+
+pub put_numbers-requires : goal.put_numbers-requires
+put_numbers-requires c = let n = room_passed _ _ _ _ _ (sym (room c.before.before.before.before.before.before)) in
+    (omega (arith, factors_most _ (section c.before.before.before.before.before.before.before.before).fits, c.requires.1, c.read_sheet.auto.f), n.1)
+
+pub returns : goal.returns
+returns c = ap₂ (λ (x : List (List ℤ)) (y : List ℤ). rows_said judgement.Passed x y) c.put_rows.ensures c.put_numbers.ensures
+    ∙ left_filled c.args.h c.args.sheet.now c.args.c.now c.args.f.now (rows c.before.before.before.before.before.before.before.before.before.before.before.before.before.before) (good c.before.before.before.before.before.before.before.before.before.before) (room c.before.before.before.before.before.before.before.before)

@@ -1,0 +1,12 @@
+-- `tidyfields::closes` meets its contract. The invariant: the answer is that of the text from i on. The measure is what is left of the text.
+use Prim.Native.Nat.{◌-◌}
+use mathlib.Core.Path.{◌≡◌}
+use lib.ListN.{length, drop}
+use Rattle.tidyrules.specs.Fields.{closes}
+use Rattle.tidyfields.proofs.closes.Given as goal
+
+abbrev pub invariant-loop-i : goal.invariant-loop-i
+invariant-loop-i l = closes (drop l.i l.f) ≡ closes (drop l.at l.f)
+
+abbrev pub decreases-loop-i : goal.decreases-loop-i
+decreases-loop-i l = length l.f - l.i

@@ -1,0 +1,21 @@
+-- `tight::measure` meets its contract: what its functions find is put together (`measured`). There are at most 64 borders and 64 bits, so the products fit.
+use native.Mathlib.Nat.{mul-le-mul}
+use native.Mathlib.Omega.{arith}
+use Rattle.rounds.specs.AllRounds.{flat}
+use Rattle.tightrules.proofs.PassLaws.{counted_most, measured}
+use Rattle.tight.proofs.measure.Goals as goal
+
+pub count_sharers-requires : goal.count_sharers-requires
+count_sharers-requires c = (c.requires.borders_in_bounds.0, c.requires.margins_len.1)
+
+pub highest-kws-requires : goal.highest-kws-requires
+highest-kws-requires c = record { borders_in_bounds = (c.requires.borders_in_bounds.0, c.requires.margins_len.0, c.requires.borders_in_bounds.1); ns_value = (c.count_sharers.ensures, counted_most (flat c.args.rows c.args.borders c.args.p.now) c.count_sharers.ensures c.most-n.ensures); small = c.requires.small }
+
+pub overflow_mul-result : goal.overflow_mul-result
+overflow_mul-result c = omega (arith, n_few c)
+
+pub overflow_mul-result-2 : goal.overflow_mul-result-2
+overflow_mul-result-2 c = omega (arith, n_few c, l-few c, mul-le-mul (n_few c) (l-few c))
+
+pub returns : goal.returns
+returns c = measured (g c) (n-is c) c.highest-kws.ensures c.bits-l.ensures c.steps-sharp.ensures

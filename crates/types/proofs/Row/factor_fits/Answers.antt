@@ -1,0 +1,8 @@
+-- `types::Row::factor_fits` meets its contract.
+use mir.Facts.{to_z-of_z}
+use Rattle.types.specs.Ranges.{factor_fits}
+use Rattle.types.proofs.Row.factor_fits.Goals as goal
+
+pub returns : goal.returns
+unfolding factor_fits
+returns c = simp (to_z-of_z c.ranges.factor) at c.inside.ensures

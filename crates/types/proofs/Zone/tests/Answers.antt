@@ -1,0 +1,6 @@
+-- `types::Zone::tests` meets its contract.
+use mir.Facts.{to_z-of_z}
+use Rattle.types.proofs.Zone.tests.Goals as goal
+
+pub returns : goal.returns
+returns c = simp (c.inside.ensures, to_z-of_z c.ranges.raw)

@@ -1,0 +1,7 @@
+-- `walk::list_all` meets its contract: the first b items are their own place (`Filled`).
+use Prim.Native.Nat.{ℕ}
+use Rattle.numbers.proofs.ListLaws.{Filled}
+use Rattle.walk.proofs.list_all.Given as goal
+
+abbrev pub invariant-loop-b : goal.invariant-loop-b
+invariant-loop-b l = Filled (λ (b : ℕ). b) l.b-end l.initial.rising l.rising l.b

@@ -1,0 +1,92 @@
+-- `why::why_in` meets its contract: a return for each judgement that may decide, and the last for what is told.
+use mathlib.Core.Path.{◌≡◌, sym, ap, ◌∙◌}
+use mathlib.Core.Bool.{Bool}
+use Prim.Native.Nat.{ℕ}
+use native.Mathlib.Omega.{arith}
+use lib.ListN.{length}
+use Rattle.numbers.proofs.BelowLaws.{table_long}
+use Rattle.refusals.specs.Refusals.{passed}
+use Rattle.types.proofs.RangeLaws.{header_in_lem}
+use Rattle.marks.specs.Marks.{flagged}
+use Rattle.tablerules.specs.Table.{Table, lent, front}
+use Rattle.tablerules.proofs.RoomLaws.{factors_most}
+use Rattle.marginrules.proofs.JudgedLaws.{good_factors, good_borders}
+use Rattle.staterules.specs.Standings.{standings_of}
+use Rattle.staterules.proofs.StandingsLaws.{rows_in_lem}
+use Rattle.extractrules.specs.Start.{every, judge_marked}
+use Rattle.extractrules.proofs.StartLaws.{PreparedAs, prepared_as, laid_grid, laid_margins}
+use Rattle.extractrules.proofs.ExtractLaws.{finishable}
+use Rattle.extractrules.proofs.ExtractLaws as extraction
+use Rattle.why.proofs.WhyLaws.{stored_is, left_refused, start_refused, short_ends, short_rows, all_stored}
+use Rattle.why.proofs.why_in.Goals as goal
+
+abbrev whole : goal.Start → Table
+whole s = front (lent s.args.h s.args.z.now s.args.t.now s.args.b.now s.args.c.now s.args.f.now)
+
+abbrev marked : goal.Start → ℕ → Bool
+marked s = flagged s.args.flags.now
+
+as_said : (c : goal.After-prepare) → PreparedAs (marked c.before.before.before.before.before.before.before.before) (whole c.before.before.before.before.before.before.before.before) c.prepare.result c.prepare.new.rams c.prepare.new.starts c.prepare.new.states
+as_said c = prepared_as c.prepare.result c.prepare.ensures
+
+passes : (c : goal.In_default) → judge_marked (marked c.before.before.before.before.before.before.before.before.before.before.before.before.before) (whole c.before.before.before.before.before.before.before.before.before.before.before.before.before) ≡ passed (standings_of (whole c.before.before.before.before.before.before.before.before.before.before.before.before.before)).states
+passes c = extraction.start_passed (as_said c.before.before.before.before.before) c.in_default.is
+
+pub prepare-requires : goal.prepare-requires
+prepare-requires c = record { good = c.requires.good; flags_len = c.requires.flags_len.0; rams_len = c.requires.rams_len; states_len = c.requires.states_len.0 }
+
+pub returns-in-Refused : goal.returns-in-Refused
+returns-in-Refused c = left_refused _ _ _ (start_refused (marked c.before.before.before.before.before.before.before.before.before.before.before.before.before.before) (whole c.before.before.before.before.before.before.before.before.before.before.before.before.before.before) c.args.border (extraction.start_turned (as_said c.before.before.before.before.before.before) c.in-Refused.is))
+
+pub returns-then-ends-h : goal.returns-then-ends-h
+returns-then-ends-h c = rw c.too_short.ensures (short_ends (marked c.before.before.before.before.before.before.before.before.before.before.before.before.before.before.before.before) (whole c.before.before.before.before.before.before.before.before.before.before.before.before.before.before.before.before) c.args.border _ _ _ (passes c.before.before.before) c.if-ends-h.true)
+
+pub returns-then-rows-h : goal.returns-then-rows-h
+returns-then-rows-h c = rw c.too_short-then-rows-h.ensures (short_rows (marked c.before.before.before.before.before.before.before.before.before.before.before.before.before.before.before.before.before.before) (whole c.before.before.before.before.before.before.before.before.before.before.before.before.before.before.before.before.before.before) c.args.border _ _ _ (passes c.before.before.before.before.before) c.if-ends-h.false c.if-rows-h.true)
+
+pub slice_bounds-given-end : goal.slice_bounds-given-end
+slice_bounds-given-end c = sym c.requires.good.exact.borders_long
+
+pub overflow_mul-factors : goal.overflow_mul-factors
+overflow_mul-factors c = omega (arith, factors_most _ c.requires.good.exact.header)
+
+pub slice_bounds-factors-end : goal.slice_bounds-factors-end
+slice_bounds-factors-end c = sym c.requires.good.exact.factors_long
+
+pub lay_out-requires : goal.lay_out-requires
+lay_out-requires c = let said = as_said c.before.before.before.before.before.before.before.before.before.before.before.before.before.before.before.before in record { table_factors_in_range = good_factors c.requires.good; borders_in_range = good_borders c.requires.good; b_len = (c.requires.good.exact.borders_long, c.requires.flags_len.0); starts_len = (ap length said.starts_are ∙ table_long _ _, (rows_in_lem _ _ said.rows).states_long); p_len = (c.requires.p_len, c.requires.states_len.1) }
+
+pub explain-reasons-requires : goal.explain-reasons-requires
+explain-reasons-requires c = let said = as_said c.before.before.before.before.before.before.before.before.before.before.before.before.before.before.before.before.before.before.before.before.before.before.before.before.before.before in
+    let t = whole c in record { runnable = (finishable (marked c) c.requires.good said.rows (laid_grid (marked c) t said.rows c.lay_out.ensures.0) (laid_margins t said.rows said.starts_are c.lay_out.ensures.1)).run; states_len = ((rows_in_lem _ _ said.rows).states_long, c.requires.flags_len.1); borders_in_bounds = (c.if-ends-h.false, c.if-rows-h.false) }
+
+pub complete-requires : goal.complete-requires
+complete-requires c = record { table_factors_in_range = good_factors c.requires.good; borders_in_range = good_borders c.requires.good; b_len = (c.requires.good.exact.borders_long, c.requires.flags_len.0); states_len = (rows_in_lem _ _ (as_said c.before.before.before.before.before.before.before.before.before.before.before.before.before.before.before.before.before.before.before.before.before.before.before.before.before.before.before.before.before.before.before.before.before).rows).states_long; borders_le_borders_most = (header_in_lem _ c.requires.good.exact.header).borders_most_lem; p_value = c.lay_out.ensures.0 }
+
+pub shape_of-rams : goal.shape_of-rams
+shape_of-rams c = c.prepare.auto.rams
+
+pub shape_of-starts : goal.shape_of-starts
+shape_of-starts c = c.prepare.auto.starts
+
+pub shape_of-states : goal.shape_of-states
+shape_of-states c = c.prepare.auto.states
+
+pub shape_of-margins : goal.shape_of-margins
+shape_of-margins c = c.explain-reasons.auto.margins ∙ c.lay_out.auto.margins
+
+pub shape_of-p : goal.shape_of-p
+shape_of-p c = c.complete.auto.p ∙ c.lay_out.auto.p
+
+pub shape_of-ends : goal.shape_of-ends
+shape_of-ends c = c.explain-reasons.auto.ends
+
+pub shape_of-rows : goal.shape_of-rows
+shape_of-rows c = c.explain-reasons.auto.out
+
+pub returns : goal.returns
+returns c = let said = as_said c.before.before.before.before.before.before.before.before.before.before.before.before.before.before.before.before.before.before.before.before.before.before.before.before.before.before.before.before.before.before.before.before.before.before.before.before in
+    let t = whole c in
+    stored_is (marked c) c.requires.good said.rows (laid_grid (marked c) t said.rows c.lay_out.ensures.0) (laid_margins t said.rows said.starts_are c.lay_out.ensures.1) c.args.border c.requires.flags_len.1
+    c.args.p.now c.requires.p_len _ _ _ c.explain-reasons.ensures (laid_grid every t said.rows c.complete.ensures)
+    ∙ all_stored (marked c) t c.args.border c.args.p.now _ _ (passes c.before.before.before.before.before.before.before.before.before.before.before.before.before.before.before.before.before.before.before.before.before.before.before.before.before.before.before.before.before.before) c.if-ends-h.false c.if-rows-h.false

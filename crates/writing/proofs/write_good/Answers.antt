@@ -1,0 +1,39 @@
+-- `writing::write_good` meets its contract: each front part is as long as the header says; too short (`text-short`), or the text and then what stood there
+-- (`text-written`).
+use mathlib.Core.Path.{◌≡◌, sym}
+use native.Mathlib.Omega.{arith}
+use Rattle.types.specs.Ranges.{allocated_items}
+use Rattle.text.proofs.LeftLaws.{text_short, text_written}
+use Rattle.tablerules.specs.Table.{Table, lent, front}
+use Rattle.tablerules.specs.Good.{Good}
+use Rattle.tablerules.proofs.RoomLaws.{factors_most}
+use Rattle.writing.specs.Writing.{table_text}
+use Rattle.writing.proofs.write_good.Goals as goal
+
+abbrev given : goal.After-allocated_items-allocated → Table
+given c = lent c.args.h c.args.z.now c.args.t.now c.args.b.now c.args.c.now c.args.f.now
+
+good : (c : goal.After-allocated_items-allocated) → Good (front (given c))
+good c = c.requires
+
+items : (c : goal.After-allocated_items-allocated) → c.allocated_items-allocated.result ≡ allocated_items c.args.h
+items c = c.allocated_items-allocated.ensures
+
+pub slice_bounds-t-end : goal.slice_bounds-t-end
+slice_bounds-t-end c = rw (items c.before.before) (sym (good c.before.before).exact.allocated_long)
+
+pub overflow_mul-f : goal.overflow_mul-f
+overflow_mul-f c = omega (arith, factors_most _ (good c).exact.header)
+
+pub text_length-needed-requires : goal.text_length-needed-requires
+text_length-needed-requires c = rw (items c) (good c)
+
+pub returns-then-out-needed : goal.returns-then-out-needed
+returns-then-out-needed c = rw c.too_short.ensures (text_short (table_text (front (given c.before.before.before))) _ _ (rw (items c.before.before.before) at c.text_length-needed.ensures) (omega arith))
+
+pub put_table-requires : goal.put_table-requires
+put_table-requires c = (rw (items c.before.before.before) (good c.before.before.before), omega (arith, c.text_length-needed.ensures))
+
+pub returns : goal.returns
+returns c = let long = rw (items c.before.before.before.before.before.before) at c.text_length-needed.ensures in
+    text_written (table_text (front (given c.before.before.before.before.before.before))) _ (omega (arith, long)) (rw (items c.before.before.before.before.before.before) at c.put_table.ensures)
