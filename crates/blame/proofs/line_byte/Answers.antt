@@ -12,10 +12,10 @@ told : (s : goal.Start) (h : Head) → s.args.head ≡ h → line_byte s.args.se
 told s h e = ap (λ (x : Head). line_byte s.args.sep x (columns_of s.args.columns.now) s.args.line.now) (sym e)
 
 pub returns-then-not-headed : goal.returns-then-not-headed
-returns-then-not-headed c = line_other _ _ _ _ (sym c.headed.ensures ∙ not-true _ c.if-not-headed.true) ∙ told c.before.before.before.before.before.before _ c.in-Lettered.is
+returns-then-not-headed c = line_other _ _ _ _ (sym c.headed.ensures ∙ not-true _ c.if-not-headed.true-raw) ∙ told c.before.before.before.before.before.before _ c.in-Lettered.is
 
 pub returns-then-not-headed-2 : goal.returns-then-not-headed-2
-returns-then-not-headed-2 c = line_other _ _ _ _ (sym c.headed-in-Indexed.ensures ∙ not-true _ c.if-not-headed-2.true) ∙ told c.before.before.before.before.before.before _ c.in-Indexed.is
+returns-then-not-headed-2 c = line_other _ _ _ _ (sym c.headed-in-Indexed.ensures ∙ not-true _ c.if-not-headed-2.true-raw) ∙ told c.before.before.before.before.before.before _ c.in-Indexed.is
 
 pub index_byte-requires : goal.index_byte-requires
 index_byte-requires c = lit≤ tt

@@ -10,9 +10,6 @@ use Rattle.tablerules.specs.Table.{Table, lent, front}
 use Rattle.boundrules.proofs.BoundLaws.{marks_refused, marks_passed}
 use Rattle.bound.proofs.bound_good.Goals as goal
 
-abbrev whole : goal.Start → Table
-whole s = front (lent s.args.h s.args.z.now s.args.t.now s.args.b.now s.args.c.now s.args.f.now)
-
 within : (c : goal.After-chosen-flags) → HeaderIn c.args.h
 within c = header_in_lem _ c.requires.exact.header
 
@@ -23,7 +20,8 @@ cells_fit : (c : goal.After-chosen-flags) → c.args.h.rows * c.args.h.borders �
 cells_fit c = mul-le-mul (within c).rows_most_lem (within c).borders_most_lem
 
 pub returns-in-Refused : goal.returns-in-Refused
-returns-in-Refused c = marks_refused c.args.all c.args.marks.now (whole c.before.before.before.before) _ c.judge_asked.ensures _ c.in-Refused.is
+returns-in-Refused c = let whole : Table = front (lent c.args.h c.args.z.now c.args.t.now c.args.b.now c.args.c.now c.args.f.now) in
+    marks_refused c.args.all c.args.marks.now (whole) _ c.judge_asked.ensures _ c.in-Refused.is
 
 pub overflow_mul-cells : goal.overflow_mul-cells
 overflow_mul-cells c = omega (arith, mul-le-mul (within c).rows_most_lem (within c).borders_most_lem)
@@ -74,5 +72,6 @@ pub bound_in-requires : goal.bound_in-requires
 bound_in-requires c = let rows = (within c.before.before.before.before.before.before.before).rows_most_lem in record { good = c.requires; flags_len = length-take-le _ _ (flags-fit c.before.before.before.before.before.before.before); rams_len = (length-take-le _ _ rows, length-take-le _ _ rows); states_len = (length-take-le _ _ rows, length-take-le _ _ rows); ns_len = (length-take-le _ _ rows, length-take-le _ _ (cells_fit c.before.before.before.before.before.before.before)) }
 
 pub returns : goal.returns
-returns c = c.bound_in.ensures
-    ∙ marks_passed c.args.all c.args.marks.now (whole c.before.before.before.before.before.before.before.before.before.before.before.before.before.before.before.before.before.before) _ c.judge_asked.ensures c.in_default.is (within c.before.before.before.before.before.before.before.before.before.before.before.before.before.before).borders_most_lem c.chosen-flags.ensures
+returns c = let whole : Table = front (lent c.args.h c.args.z.now c.args.t.now c.args.b.now c.args.c.now c.args.f.now) in
+    c.bound_in.ensures
+    ∙ marks_passed c.args.all c.args.marks.now (whole) _ c.judge_asked.ensures c.in_default.is (within c.before.before.before.before.before.before.before.before.before.before.before.before.before.before).borders_most_lem c.chosen-flags.ensures

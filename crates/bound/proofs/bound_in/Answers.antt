@@ -14,31 +14,33 @@ use Rattle.extractrules.proofs.StartLaws.{PreparedAs, prepared_as, laid_grid, la
 use Rattle.boundrules.proofs.BoundLaws.{start_refused, start_passed, laid_bound, start_long, start_small}
 use Rattle.bound.proofs.bound_in.Goals as goal
 
-abbrev whole : goal.Start → Table
-whole s = front (lent s.args.h s.args.z.now s.args.t.now s.args.b.now s.args.c.now s.args.f.now)
-
-as_said : (c : goal.After-prepare) → PreparedAs (flagged c.args.flags.now) (whole c.before.before.before.before.before.before.before.before.before) c.prepare.result c.prepare.new.rams c.prepare.new.starts c.prepare.new.states
-as_said c = prepared_as c.prepare.result c.prepare.ensures
-
 pub prepare-requires : goal.prepare-requires
 prepare-requires c = record { good = c.requires.good; flags_len = c.requires.flags_len; rams_len = c.requires.rams_len; states_len = c.requires.states_len.0 }
 
 pub returns-in-Refused : goal.returns-in-Refused
-returns-in-Refused c = start_refused (as_said c.before.before.before.before.before.before) _ c.in-Refused.is
+returns-in-Refused c = let whole : Table = front (lent c.args.h c.args.z.now c.args.t.now c.args.b.now c.args.c.now c.args.f.now) in
+    let as_said : PreparedAs (flagged c.args.flags.now) (whole) c.prepare.result c.prepare.new.rams c.prepare.new.starts c.prepare.new.states = prepared_as c.prepare.result c.prepare.ensures in
+    start_refused (as_said) _ c.in-Refused.is
 
 pub overflow_mul-factors : goal.overflow_mul-factors
 overflow_mul-factors c = omega (arith, factors_most _ c.requires.good.exact.header)
 
 pub lay_out-requires : goal.lay_out-requires
-lay_out-requires c = let said = as_said c.before.before.before.before.before.before.before.before in record { table_factors_in_range = good_factors c.requires.good; borders_in_range = good_borders c.requires.good; b_len = (c.requires.good.exact.borders_long, c.requires.flags_len); starts_len = (ap length said.starts_are ∙ table_long _ _, (rows_in_lem _ _ said.rows).states_long); p_len = (c.requires.ns_len.1, c.requires.states_len.1) }
+lay_out-requires c = let whole : Table = front (lent c.args.h c.args.z.now c.args.t.now c.args.b.now c.args.c.now c.args.f.now) in
+    let as_said : PreparedAs (flagged c.args.flags.now) (whole) c.prepare.result c.prepare.new.rams c.prepare.new.starts c.prepare.new.states = prepared_as c.prepare.result c.prepare.ensures in
+    let said = as_said in record { table_factors_in_range = good_factors c.requires.good; borders_in_range = good_borders c.requires.good; b_len = (c.requires.good.exact.borders_long, c.requires.flags_len); starts_len = (ap length said.starts_are ∙ table_long _ _, (rows_in_lem _ _ said.rows).states_long); p_len = (c.requires.ns_len.1, c.requires.states_len.1) }
 
 pub measure-requires : goal.measure-requires
-measure-requires c = let said = as_said c.before.before.before.before.before.before.before.before.before.before.before.before.before.before in
-    let t = whole c.before.before.before.before.before.before.before.before.before.before.before.before.before.before.before.before.before.before.before.before.before.before.before in
+measure-requires c = let whole : Table = front (lent c.args.h c.args.z.now c.args.t.now c.args.b.now c.args.c.now c.args.f.now) in
+    let as_said : PreparedAs (flagged c.args.flags.now) (whole) c.prepare.result c.prepare.new.rams c.prepare.new.starts c.prepare.new.states = prepared_as c.prepare.result c.prepare.ensures in
+    let said = as_said in
+    let t = whole in
     let margins = laid_margins t said.rows said.starts_are c.lay_out.ensures.1 in record { borders_in_bounds = (omega (arith, grid_long _ t (laid_grid _ t said.rows c.lay_out.ensures.0)), (header_in_lem _ c.requires.good.exact.header).borders_most_lem); margins_len = (ap length margins ∙ start_long t, c.requires.ns_len.0); small = start_small c.requires.good margins }
 
 pub returns : goal.returns
-returns c = let said = as_said c.before.before.before.before.before.before.before.before.before.before.before.before.before.before.before.before.before in
-    let t = whole c.before.before.before.before.before.before.before.before.before.before.before.before.before.before.before.before.before.before.before.before.before.before.before.before.before.before in
+returns c = let whole : Table = front (lent c.args.h c.args.z.now c.args.t.now c.args.b.now c.args.c.now c.args.f.now) in
+    let as_said : PreparedAs (flagged c.args.flags.now) (whole) c.prepare.result c.prepare.new.rams c.prepare.new.starts c.prepare.new.states = prepared_as c.prepare.result c.prepare.ensures in
+    let said = as_said in
+    let t = whole in
     ap passed (c.measure.ensures ∙ laid_bound _ t (laid_grid _ t said.rows c.lay_out.ensures.0) (laid_margins t said.rows said.starts_are c.lay_out.ensures.1))
     ∙ start_passed said c.in_default.is

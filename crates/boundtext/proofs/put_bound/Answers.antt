@@ -1,5 +1,5 @@
 -- `boundtext::put_bound` meets its contract: letter, fields and LF are a chain of writes (`Begun`).
-use mathlib.Core.List.{◌∷◌}
+use mathlib.Core.List.{[], ◌∷◌}
 use Prim.Native.Char.{code}
 use native.Mathlib.Omega.{arith}
 use Rattle.text.specs.Written.{decimal}

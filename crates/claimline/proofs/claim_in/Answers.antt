@@ -8,9 +8,6 @@ use Rattle.claimline.specs.ClaimText.{fields_of, claim_record}
 use Rattle.claimline.proofs.ReadLaws.{number_letters, with_bad, with_fields}
 use Rattle.claimline.proofs.claim_in.Goals as goal
 
-few : (s : goal.Start) → fields_of s.args.pairs ≤ length s.args.fields.now
-few s = omega (arith, s.requires.0, s.requires.1)
-
 array-share-prefix-line-at : goal.Need-array-share-prefix-line-at
 array-share-prefix-line-at c = omega (arith, c.before.requires.0)
 
@@ -18,7 +15,7 @@ slice-aggregate-line-at : goal.slice_bounds-line_at-end-3
 slice-aggregate-line-at c = sym (length-take-le _ _ (array-share-prefix-line-at c.before))
 
 slice-aggregate-line-at-2 : goal.Need-slice-aggregate-line-at-2
-slice-aggregate-line-at-2 c = sym (length-take-le _ _ (few c.before.before.before))
+slice-aggregate-line-at-2 c = sym (length-take-le _ _ (few))
 
 slice-reshare-prefix-claim-record : goal.slice_bounds-claim_record-end
 slice-reshare-prefix-claim-record c = omega (arith, values_long c.before.before, length-append (values c.before.before) (drop (fields_of c.args.pairs) c.args.fields.now))
@@ -36,7 +33,8 @@ pub slice_bounds-line_at-end-2 : goal.slice_bounds-line_at-end-2
 slice_bounds-line_at-end-2 c = sym (length-take-le _ _ (array-share-prefix-line-at c.before))
 
 pub slice_bounds-line_at-end-3 : goal.slice_bounds-line_at-end-3
-slice_bounds-line_at-end-3 c = few c.before.before
+slice_bounds-line_at-end-3 c = let few : fields_of c.args.pairs ≤ length c.args.fields.now = omega (arith, c.requires.0, c.requires.1) in
+    few
 
 pub line_at-found-requires : goal.line_at-found-requires
 line_at-found-requires c = sym (slice-aggregate-line-at c.before) ∙ slice-aggregate-line-at-2 c

@@ -10,7 +10,7 @@ use Rattle.claimline.proofs.ReadLaws.{crowded_unheaded, crowded_rowless, crowded
 use Rattle.claimline.proofs.crowded_line.Goals as goal
 
 pub returns-then-not-headed : goal.returns-then-not-headed
-returns-then-not-headed c = c.no_claim.ensures ∙ crowded_unheaded _ _ c.requires.0 (sym c.headed.ensures ∙ not-true _ c.if-not-headed.true)
+returns-then-not-headed c = c.no_claim.ensures ∙ crowded_unheaded _ _ c.requires.0 (sym c.headed.ensures ∙ not-true _ c.if-not-headed.true-raw)
 
 pub returns-in_default : goal.returns-in_default
 returns-in_default c = c.no_claim-in_default.ensures ∙ crowded_rowless _ _ c.requires.0 (sym c.headed.ensures ∙ not-false _ c.if-not-headed.false-raw) _ c.field_at.ensures _ c.in_default.is
@@ -23,7 +23,7 @@ overflow_add-pairs c = omega (arith, c.requires.1)
 
 pub returns-then-not-are_numbers : goal.returns-then-not-are_numbers
 returns-then-not-are_numbers c = c.no_claim-then-not-are_numbers.ensures
-    ∙ crowded_bad _ _ c.requires.0 (sym c.headed.ensures ∙ not-false _ c.if-not-headed.false-raw) _ c.field_at.ensures _ _ c.in-Whole.is c.are_numbers.ensures (not-true _ c.if-not-are_numbers.true)
+    ∙ crowded_bad _ _ c.requires.0 (sym c.headed.ensures ∙ not-false _ c.if-not-headed.false-raw) _ c.field_at.ensures _ _ c.in-Whole.is c.are_numbers.ensures (not-true _ c.if-not-are_numbers.true-raw)
 
 pub returns : goal.returns
 returns c = let e : to_z w64 (of_z w64 c.in-Whole.row) ≡ c.in-Whole.row = search rules in

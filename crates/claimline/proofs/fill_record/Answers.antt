@@ -1,3 +1,4 @@
+use mir.Syntax.{w64}
 use mathlib.Core.Path.{◌∙◌}
 use native.Mathlib.Omega.{arith}
 use borrow.Author.Rules.{sfits_of}
@@ -16,7 +17,7 @@ pub bounds-claim-k : goal.bounds-claim-k
 bounds-claim-k c = omega (arith, c.loop-k.invariant.as_long, c.requires.1)
 
 pub loop-k-preserved : goal.loop-k-preserved
-loop-k-preserved c = filled_more c.loop-k.invariant _ (omega arith) (omega (arith, c.requires.1)) (to_z-of_z (sfits_of c.claim_item.type-inv) ∙ c.claim_item.ensures)
+loop-k-preserved c = filled_more c.loop-k.invariant _ (omega arith) (omega (arith, c.requires.1)) (to_z-of_z {w = w64} (sfits_of c.claim_item.type_inv) ∙ c.claim_item.ensures)
 
 pub shape_of-claim : goal.shape_of-claim
 shape_of-claim c = c.loop-k.invariant.as_long

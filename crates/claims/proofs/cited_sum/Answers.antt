@@ -1,3 +1,4 @@
+use mir.Syntax.{w64}
 use mathlib.Core.Path.{◌≡◌, refl, ap, ◌∙◌}
 use Prim.Native.Nat.{ℕ, ◌<◌}
 use native.Mathlib.Omega.{arith}
@@ -9,7 +10,7 @@ use Rattle.claimrules.specs.Claims.{pairs, pairs_most, cited_sum}
 use Rattle.claims.proofs.FormLaws.{terms, few_pairs}
 use Rattle.claims.proofs.cited_sum.Goals as goal
 
-below : (c : goal.In-loop-j) → c.loop-j.j < nat_abs (pairs c.args.t5)
+below : (c : goal.In-loop-j) → c.loop-j.j < nat_abs (pairs c.args.claim)
 below c = omega (arith, c.loop-j.invariant.count)
 
 pub overflow_cast-n : goal.overflow_cast-n
@@ -17,7 +18,7 @@ overflow_cast-n c = natural_cast _ _ c.pairs-1.given (inside_pos 0 pairs_most _ 
 
 pub loop-j-init : goal.loop-j-init
 unfolding sum_ℤ
-loop-j-init c = record { count = ap nat_abs (plain (pairs c.args.t5) c.pairs-1.given); high = omega arith; so_far = refl }
+loop-j-init c = record { count = ap nat_abs (plain (pairs c.args.claim) c.pairs-1.given); high = omega arith; so_far = refl }
 
 pub multiplied-sum-requires : goal.multiplied-sum-requires
 multiplied-sum-requires c = record { lent = c.requires.lent; claim_in_range = c.requires.claim_in_range; j_bound = below c }
@@ -29,9 +30,9 @@ pub overflow_step-j : goal.overflow_step-j
 overflow_step-j c = omega (arith, below c.before, few_pairs c.requires.claim_in_range)
 
 pub loop-j-preserved : goal.loop-j-preserved
-loop-j-preserved c = record { count = c.loop-j.invariant.count; high = omega arith; so_far = to_z-of_z (next_fits c) ∙ turned c }
+loop-j-preserved c = record { count = c.loop-j.invariant.count; high = omega arith; so_far = to_z-of_z {w = w64} (next_fits c) ∙ turned c }
 
 pub returns : goal.returns
 unfolding cited_sum
-returns c = let all : c.loop-j.j ≡ nat_abs (pairs c.args.t5) = omega (arith, c.loop-j.invariant.count, c.loop-j.invariant.high) in
-    c.loop-j.invariant.so_far ∙ ap (λ (k : ℕ). sum_ℤ k (terms c.args.t5 c.args.xs.now c.args.stride c.args.at)) all
+returns c = let all : c.loop-j.j ≡ nat_abs (pairs c.args.claim) = omega (arith, c.loop-j.invariant.count, c.loop-j.invariant.high) in
+    c.loop-j.invariant.so_far ∙ ap (λ (k : ℕ). sum_ℤ k (terms c.args.claim c.args.xs.now c.args.stride c.args.at)) all

@@ -24,4 +24,4 @@ overflow_sub-result c = subst (SFits w64) (sym (left_is c)) (left-fits c)
 
 pub returns : goal.returns
 unfolding excess
-returns c = ap (λ (z : ℤ). to_z w64 (of_z w64 z)) (left_is c) ∙ to_z-of_z (left-fits c)
+returns c = ap (λ (z : ℤ). to_z w64 (of_z w64 z)) (left_is c) ∙ to_z-of_z {w = w64} (left-fits c)

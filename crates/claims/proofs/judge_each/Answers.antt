@@ -9,9 +9,6 @@ use Rattle.claims.proofs.NameLaws.{none_long}
 use Rattle.claims.proofs.JudgeLaws.{judging_none, judging_long, judging_all, judging_refused, judging_more}
 use Rattle.claims.proofs.judge_each.Goals as goal
 
-few : (s : goal.Start) → length s.args.states.now ≤ rows_most
-few s = omega (arith, s.requires.states_len.0, s.requires.states_len.1)
-
 pub loop-k-init : goal.loop-k-init
 loop-k-init c = judging_none _ _ _ _ _ c.requires.named_value.1
 
@@ -22,10 +19,12 @@ pub shape_of-earlier-in_default : goal.shape_of-earlier-in_default
 shape_of-earlier-in_default c = omega (arith, judging_long _ _ _ _ _ c.loop-k.invariant, ap length c.requires.named_value.1, none_long)
 
 pub returns-in_default : goal.returns-in_default
-returns-in_default c = judging_refused _ _ _ _ _ c.loop-k.invariant (omega arith) (few c) c.requires.named_value.0 refl _ c.judge_claim-judged.ensures _ c.in_default.is
+returns-in_default c = let few : length c.args.states.now ≤ rows_most = omega (arith, c.requires.states_len.0, c.requires.states_len.1) in
+    judging_refused _ _ _ _ _ c.loop-k.invariant (omega arith) (few) c.requires.named_value.0 refl _ c.judge_claim-judged.ensures _ c.in_default.is
 
 pub loop-k-preserved : goal.loop-k-preserved
-loop-k-preserved c = judging_more _ _ _ _ _ c.loop-k.invariant (omega arith) (few c) c.requires.named_value.0 refl _ c.judge_claim-judged.ensures c.in-Passed.is (plain _ c.name_row-arg-1.given) c.name_row.ensures
+loop-k-preserved c = let few : length c.args.states.now ≤ rows_most = omega (arith, c.requires.states_len.0, c.requires.states_len.1) in
+    judging_more _ _ _ _ _ c.loop-k.invariant (omega arith) (few) c.requires.named_value.0 refl _ c.judge_claim-judged.ensures c.in-Passed.is (plain _ c.name_row-arg-1.given) c.name_row.ensures
 
 pub shape_of-earlier : goal.shape_of-earlier
 shape_of-earlier c = omega (arith, judging_long _ _ _ _ _ c.loop-k.invariant, ap length c.requires.named_value.1, none_long)

@@ -42,4 +42,4 @@ pub overflow_mul-result : goal.overflow_mul-result
 overflow_mul-result c = subst (SFits w64) (sym (product_is c)) (product_fits c)
 
 pub returns : goal.returns
-returns c = ap (λ (z : ℤ). to_z w64 (of_z w64 z)) (product_is c) ∙ to_z-of_z (product_fits c)
+returns c = ap (λ (z : ℤ). to_z w64 (of_z w64 z)) (product_is c) ∙ to_z-of_z {w = w64} (product_fits c)

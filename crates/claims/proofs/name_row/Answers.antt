@@ -1,4 +1,5 @@
 -- `claims::name_row` meets its contract: the cast is made only where the number is not below 0.
+use mir.Syntax.{w64}
 use mathlib.Core.Path.{ap}
 use mathlib.Core.Bool.{not}
 use mir.Facts.{to_z-of_z, Fits-nat_abs}
@@ -7,13 +8,13 @@ use Rattle.claims.proofs.NameLaws.{name_negative, name_here, name_beyond}
 use Rattle.claims.proofs.name_row.Goals as goal
 
 pub returns-then-row-lt0 : goal.returns-then-row-lt0
-returns-then-row-lt0 c = let z = to_z-of_z c.ranges.row in name_negative _ _ (simp z at c.if-row-lt0.true)
+returns-then-row-lt0 c = let z = to_z-of_z {w = w64} c.ranges.row in name_negative _ _ (simp z at c.if-row-lt0.true)
 
 pub overflow_cast-i : goal.overflow_cast-i
-overflow_cast-i c = simp (to_z-of_z c.ranges.row) (not_below c.args.row (ap not (simp (to_z-of_z c.ranges.row) at c.if-row-lt0.false)), Fits-nat_abs tt c.ranges.row)
+overflow_cast-i c = simp (to_z-of_z {w = w64} c.ranges.row) (not_below c.args.row (ap not (simp (to_z-of_z {w = w64} c.ranges.row) at c.if-row-lt0.false)), Fits-nat_abs tt c.ranges.row)
 
 pub returns-then-i-flags : goal.returns-then-i-flags
-returns-then-i-flags c = let z = to_z-of_z c.ranges.row in simp z (name_here c.args.flags.now c.args.row (simp z at c.if-row-lt0.false) (simp z at c.if-i-flags.true))
+returns-then-i-flags c = let z = to_z-of_z {w = w64} c.ranges.row in simp z (name_here c.args.flags.now c.args.row (simp z at c.if-row-lt0.false) (simp z at c.if-i-flags.true))
 
 pub returns-else-i-flags : goal.returns-else-i-flags
-returns-else-i-flags c = let z = to_z-of_z c.ranges.row in name_beyond c.args.flags.now c.args.row (simp z at c.if-row-lt0.false) (simp z at c.if-i-flags.false)
+returns-else-i-flags c = let z = to_z-of_z {w = w64} c.ranges.row in name_beyond c.args.flags.now c.args.row (simp z at c.if-row-lt0.false) (simp z at c.if-i-flags.false)

@@ -13,7 +13,7 @@ loop-j-init c = looked_none _ _
 
 pub returns-then-not-pair_good : goal.returns-then-not-pair_good
 unfolding given
-returns-then-not-pair_good c = ap (λ (o : Option ℕ). not (given o)) (looked_here _ _ _ c.loop-j.invariant (omega arith) (sym (ap not c.pair_good.ensures) ∙ c.if-not-pair_good.true))
+returns-then-not-pair_good c = ap (λ (o : Option ℕ). not (given o)) (looked_here _ _ _ c.loop-j.invariant (omega arith) (sym (ap not c.pair_good.ensures) ∙ c.if-not-pair_good.true-raw))
 
 pub loop-j-preserved : goal.loop-j-preserved
 loop-j-preserved c = looked_more _ _ _ c.loop-j.invariant (omega arith) (sym (ap not c.pair_good.ensures) ∙ c.if-not-pair_good.false-raw)

@@ -9,7 +9,7 @@ pub returns-then-same : goal.returns-then-same
 returns-then-same c = name_input _ _ (sym c.same.ensures ∙ c.if-same.true)
 
 pub returns-then-not-is_label : goal.returns-then-not-is_label
-returns-then-not-is_label c = name_unfit _ _ c.label_of-label.ensures c.is_label.ensures (not-true _ c.if-not-is_label.true)
+returns-then-not-is_label c = name_unfit _ _ c.label_of-label.ensures c.is_label.ensures (not-true _ c.if-not-is_label.true-raw)
 
 pub returns-then-label-gt-LABEL_MOST : goal.returns-then-label-gt-LABEL_MOST
 returns-then-label-gt-LABEL_MOST c = name_long _ _ c.label_of-label.ensures (omega (arith, c.if-label-gt-LABEL_MOST.true))

@@ -6,7 +6,7 @@ use Rattle.daylines.proofs.PutLaws.{heading_none, heading_long, heading_some}
 use Rattle.daylines.proofs.put_heading.Goals as goal
 
 pub returns-then-not-begins : goal.returns-then-not-begins
-returns-then-not-begins c = heading_none c.args.label.now c.args.begins _ _ (not-true _ c.if-not-begins.true)
+returns-then-not-begins c = heading_none c.args.label.now c.args.begins _ _ (not-true _ c.if-not-begins.true-raw)
 
 pub put_bytes-next-requires : goal.put_bytes-next-requires
 put_bytes-next-requires c = omega (arith, c.requires, heading_long c.args.label.now c.args.begins (not-false _ c.if-not-begins.false-raw))

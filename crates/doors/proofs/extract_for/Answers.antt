@@ -6,15 +6,14 @@ use Rattle.tablerules.proofs.GoodLaws.{told_good}
 use Rattle.extractrules.proofs.LentLaws.{lent_refused, front_room, lent_outcome}
 use Rattle.doors.proofs.extract_for.Goals as goal
 
-abbrev given : goal.Start → Table
-given s = lent s.args.h s.args.z.now s.args.t.now s.args.b.now s.args.c.now s.args.f.now
-
 pub returns-in-Refused : goal.returns-in-Refused
 returns-in-Refused c = lent_refused _ _ _ _ _ c.judge.ensures.f_value _ _ _ c.in-Refused.is
 
 pub extract_good-requires : goal.extract_good-requires
-extract_good-requires c = record { good = told_good (given c.before.before.before.before.before.before.before) c.judge.ensures.good_in c.in_default.is; borders_in_bounds = front_room (given c.before.before.before.before.before.before.before) (length c.args.p.now) _ c.judge.ensures.f_value c.in_default.is }
+extract_good-requires c = let given : Table = lent c.args.h c.args.z.now c.args.t.now c.args.b.now c.args.c.now c.args.f.now in
+    record { good = told_good (given) c.judge.ensures.good_in c.in_default.is; borders_in_bounds = front_room (given) (length c.args.p.now) _ c.judge.ensures.f_value c.in_default.is }
 
 pub returns : goal.returns
-returns c = c.extract_good.ensures
-    ∙ lent_outcome c.args.all c.args.marks.now (given c.before.before.before.before.before.before.before.before.before.before.before.before) c.args.p.now _ c.judge.ensures.f_value c.in_default.is c.args.atc.now c.args.left.now
+returns c = let given : Table = lent c.args.h c.args.z.now c.args.t.now c.args.b.now c.args.c.now c.args.f.now in
+    c.extract_good.ensures
+    ∙ lent_outcome c.args.all c.args.marks.now (given) c.args.p.now _ c.judge.ensures.f_value c.in_default.is c.args.atc.now c.args.left.now

@@ -12,9 +12,6 @@ use Rattle.extractrules.proofs.ExtractLaws.{front_left}
 use Rattle.extractrules.proofs.LentLaws.{marks_refused, marks_passed}
 use Rattle.extraction.proofs.extract_good.Goals as goal
 
-abbrev whole : goal.Start → Table
-whole s = front (lent s.args.h s.args.z.now s.args.t.now s.args.b.now s.args.c.now s.args.f.now)
-
 within : (c : goal.After-chosen-flags) → HeaderIn c.args.h
 within c = header_in_lem _ c.requires.good.exact.header
 
@@ -22,7 +19,8 @@ flags-fit : goal.slice_bounds-flags-end
 flags-fit c = omega (arith, (within c).borders_most_lem)
 
 pub returns-in-Refused : goal.returns-in-Refused
-returns-in-Refused c = marks_refused c.args.all c.args.marks.now (whole c.before.before.before.before.before) c.args.p.now c.args.atc.now c.args.left.now _ c.judge_asked.ensures _ c.in-Refused.is
+returns-in-Refused c = let whole : Table = front (lent c.args.h c.args.z.now c.args.t.now c.args.b.now c.args.c.now c.args.f.now) in
+    marks_refused c.args.all c.args.marks.now (whole) c.args.p.now c.args.atc.now c.args.left.now _ c.judge_asked.ensures _ c.in-Refused.is
 
 pub slice_bounds-flags-end : goal.slice_bounds-flags-end
 slice_bounds-flags-end c = omega (arith, (within c).borders_most_lem)
@@ -76,5 +74,6 @@ pub extract_in-requires : goal.extract_in-requires
 extract_in-requires c = let rows = (within c.before.before.before.before.before.before.before.before.before.before).rows_most_lem in record { good = c.requires.good; flags_len = length-take-le _ _ (flags-fit c.before.before.before.before.before.before.before.before.before.before); rams_len = (length-take-le _ _ rows, length-take-le _ _ rows); states_len = (length-take-le _ _ rows, length-take-le _ _ rows); ns_len = (length-take-le _ _ rows, length-take-le _ _ (within c.before.before.before.before.before.before.before.before.before.before).borders_most_lem); p_len = length-take-le _ _ c.requires.borders_in_bounds }
 
 pub returns : goal.returns
-returns c = front_left (flagged (take c.args.h.borders c.chosen-flags.result)) (whole c.before.before.before.before.before.before.before.before.before.before.before.before.before.before.before.before.before.before.before.before.before.before.before.before.before.before) (c.args.h.rows * c.args.h.borders) refl c.args.p.now c.requires.borders_in_bounds c.args.atc.now c.args.left.now c.extract_in.ensures
-    ∙ marks_passed c.args.all c.args.marks.now (whole c.before.before.before.before.before.before.before.before.before.before.before.before.before.before.before.before.before.before.before.before.before.before.before.before.before.before) c.args.p.now c.args.atc.now c.args.left.now _ c.judge_asked.ensures c.in_default.is (within c.before.before.before.before.before.before.before.before.before.before.before.before.before.before.before.before.before.before.before.before.before).borders_most_lem c.chosen-flags.ensures
+returns c = let whole : Table = front (lent c.args.h c.args.z.now c.args.t.now c.args.b.now c.args.c.now c.args.f.now) in
+    front_left (flagged (take c.args.h.borders c.chosen-flags.result)) (whole) (c.args.h.rows * c.args.h.borders) refl c.args.p.now c.requires.borders_in_bounds c.args.atc.now c.args.left.now c.extract_in.ensures
+    ∙ marks_passed c.args.all c.args.marks.now (whole) c.args.p.now c.args.atc.now c.args.left.now _ c.judge_asked.ensures c.in_default.is (within c.before.before.before.before.before.before.before.before.before.before.before.before.before.before.before.before.before.before.before.before.before).borders_most_lem c.chosen-flags.ensures

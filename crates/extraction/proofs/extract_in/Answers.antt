@@ -18,29 +18,28 @@ use Rattle.extractrules.proofs.StartLaws.{PreparedAs, prepared_as, laid_grid, la
 use Rattle.extractrules.proofs.ExtractLaws.{start_turned, start_passed, finishable, stored_is, start_refused, short_borders, short_rows, all_stored}
 use Rattle.extraction.proofs.extract_in.Goals as goal
 
-abbrev given : goal.Start → Table
-given s = front (lent s.args.h s.args.z.now s.args.t.now s.args.b.now s.args.c.now s.args.f.now)
-
-abbrev marked : goal.Start → ℕ → Bool
-marked s = flagged s.args.flags.now
-
-as_said : (c : goal.After-prepare) → PreparedAs (marked c.before.before.before.before.before.before.before.before.before.before) (given c.before.before.before.before.before.before.before.before.before.before) c.prepare.result c.prepare.new.rams c.prepare.new.starts c.prepare.new.states
-as_said c = prepared_as c.prepare.result c.prepare.ensures
-
-passes : (c : goal.In_default) → judge_marked (marked c.before.before.before.before.before.before.before.before.before.before.before.before.before.before.before) (given c.before.before.before.before.before.before.before.before.before.before.before.before.before.before.before) ≡ passed (standings_of (given c.before.before.before.before.before.before.before.before.before.before.before.before.before.before.before)).states
-passes c = start_passed (as_said c.before.before.before.before.before) c.in_default.is
-
 pub prepare-requires : goal.prepare-requires
 prepare-requires c = record { good = c.requires.good; flags_len = c.requires.flags_len; rams_len = c.requires.rams_len; states_len = c.requires.states_len.0 }
 
 pub returns-in-Refused : goal.returns-in-Refused
-returns-in-Refused c = start_refused _ _ _ _ _ (start_turned (as_said c.before.before.before.before.before.before) c.in-Refused.is)
+returns-in-Refused c = let given : Table = front (lent c.args.h c.args.z.now c.args.t.now c.args.b.now c.args.c.now c.args.f.now) in
+    let marked : ℕ → Bool = flagged c.args.flags.now in
+    let as_said : PreparedAs (marked) (given) c.prepare.result c.prepare.new.rams c.prepare.new.starts c.prepare.new.states = prepared_as c.prepare.result c.prepare.ensures in
+    start_refused _ _ _ _ _ (start_turned (as_said) c.in-Refused.is)
 
 pub returns-then-atc-borders : goal.returns-then-atc-borders
-returns-then-atc-borders c = rw c.too_short.ensures (short_borders _ _ _ _ _ (passes c.before.before) c.if-atc-borders.true)
+returns-then-atc-borders c = let given : Table = front (lent c.args.h c.args.z.now c.args.t.now c.args.b.now c.args.c.now c.args.f.now) in
+    let marked : ℕ → Bool = flagged c.args.flags.now in
+    let as_said : PreparedAs (marked) (given) c.prepare.result c.prepare.new.rams c.prepare.new.starts c.prepare.new.states = prepared_as c.prepare.result c.prepare.ensures in
+    let passes : judge_marked (marked) (given) ≡ passed (standings_of (given)).states = start_passed (as_said) c.in_default.is in
+    rw c.too_short.ensures (short_borders _ _ _ _ _ (passes) c.if-atc-borders.true)
 
 pub returns-then-left-rows : goal.returns-then-left-rows
-returns-then-left-rows c = rw c.too_short-then-left-rows.ensures (short_rows _ _ _ _ _ (passes c.before.before.before) c.if-atc-borders.false c.if-left-rows.true)
+returns-then-left-rows c = let given : Table = front (lent c.args.h c.args.z.now c.args.t.now c.args.b.now c.args.c.now c.args.f.now) in
+    let marked : ℕ → Bool = flagged c.args.flags.now in
+    let as_said : PreparedAs (marked) (given) c.prepare.result c.prepare.new.rams c.prepare.new.starts c.prepare.new.states = prepared_as c.prepare.result c.prepare.ensures in
+    let passes : judge_marked (marked) (given) ≡ passed (standings_of (given)).states = start_passed (as_said) c.in_default.is in
+    rw c.too_short-then-left-rows.ensures (short_rows _ _ _ _ _ (passes) c.if-atc-borders.false c.if-left-rows.true)
 
 pub slice_bounds-ends-end : goal.slice_bounds-ends-end
 slice_bounds-ends-end c = sym c.requires.good.exact.borders_long
@@ -52,14 +51,23 @@ pub slice_bounds-factors-end : goal.slice_bounds-factors-end
 slice_bounds-factors-end c = sym c.requires.good.exact.factors_long
 
 pub lay_out-requires : goal.lay_out-requires
-lay_out-requires c = let said = as_said c.before.before.before.before.before.before.before.before.before.before in record { table_factors_in_range = good_factors c.requires.good; borders_in_range = good_borders c.requires.good; b_len = (c.requires.good.exact.borders_long, c.requires.flags_len); starts_len = (ap length said.starts_are ∙ table_long _ _, (rows_in_lem _ _ said.rows).states_long); p_len = (c.requires.p_len, c.requires.states_len.1) }
+lay_out-requires c = let given : Table = front (lent c.args.h c.args.z.now c.args.t.now c.args.b.now c.args.c.now c.args.f.now) in
+    let marked : ℕ → Bool = flagged c.args.flags.now in
+    let as_said : PreparedAs (marked) (given) c.prepare.result c.prepare.new.rams c.prepare.new.starts c.prepare.new.states = prepared_as c.prepare.result c.prepare.ensures in
+    let said = as_said in record { table_factors_in_range = good_factors c.requires.good; borders_in_range = good_borders c.requires.good; b_len = (c.requires.good.exact.borders_long, c.requires.flags_len); starts_len = (ap length said.starts_are ∙ table_long _ _, (rows_in_lem _ _ said.rows).states_long); p_len = (c.requires.p_len, c.requires.states_len.1) }
 
 pub finish-rounds-requires : goal.finish-rounds-requires
-finish-rounds-requires c = let said = as_said c.before.before.before.before.before.before.before.before.before.before.before.before.before.before.before.before.before.before.before.before in
-    let t = given c.before.before.before.before.before.before.before.before.before.before.before.before.before.before.before.before.before.before.before.before.before.before.before.before.before.before.before.before.before.before in record { finishable = finishable (marked c.before.before.before.before.before.before.before.before.before.before.before.before.before.before.before.before.before.before.before.before.before.before.before.before.before.before.before.before.before.before) c.requires.good said.rows (laid_grid (marked c.before.before.before.before.before.before.before.before.before.before.before.before.before.before.before.before.before.before.before.before.before.before.before.before.before.before.before.before.before.before) t said.rows c.lay_out.ensures.0) (laid_margins t said.rows said.starts_are c.lay_out.ensures.1); ns_len = c.requires.ns_len; borders_in_bounds = (c.if-atc-borders.false, c.if-left-rows.false) }
+finish-rounds-requires c = let given : Table = front (lent c.args.h c.args.z.now c.args.t.now c.args.b.now c.args.c.now c.args.f.now) in
+    let marked : ℕ → Bool = flagged c.args.flags.now in
+    let as_said : PreparedAs (marked) (given) c.prepare.result c.prepare.new.rams c.prepare.new.starts c.prepare.new.states = prepared_as c.prepare.result c.prepare.ensures in
+    let said = as_said in
+    let t = given in record { finishable = finishable (marked) c.requires.good said.rows (laid_grid (marked) t said.rows c.lay_out.ensures.0) (laid_margins t said.rows said.starts_are c.lay_out.ensures.1); ns_len = c.requires.ns_len; borders_in_bounds = (c.if-atc-borders.false, c.if-left-rows.false) }
 
 pub complete-requires : goal.complete-requires
-complete-requires c = record { table_factors_in_range = good_factors c.requires.good; borders_in_range = good_borders c.requires.good; b_len = (c.requires.good.exact.borders_long, c.requires.flags_len); states_len = (rows_in_lem _ _ (as_said c.before.before.before.before.before.before.before.before.before.before.before.before.before.before.before.before.before.before.before.before.before.before.before.before.before.before.before.before.before.before).rows).states_long; borders_le_borders_most = (header_in_lem _ c.requires.good.exact.header).borders_most_lem; p_value = c.lay_out.ensures.0 }
+complete-requires c = let given : Table = front (lent c.args.h c.args.z.now c.args.t.now c.args.b.now c.args.c.now c.args.f.now) in
+    let marked : ℕ → Bool = flagged c.args.flags.now in
+    let as_said : PreparedAs (marked) (given) c.prepare.result c.prepare.new.rams c.prepare.new.starts c.prepare.new.states = prepared_as c.prepare.result c.prepare.ensures in
+    record { table_factors_in_range = good_factors c.requires.good; borders_in_range = good_borders c.requires.good; b_len = (c.requires.good.exact.borders_long, c.requires.flags_len); states_len = (rows_in_lem _ _ (as_said).rows).states_long; borders_le_borders_most = (header_in_lem _ c.requires.good.exact.header).borders_most_lem; p_value = c.lay_out.ensures.0 }
 
 pub shape_of-rams : goal.shape_of-rams
 shape_of-rams c = c.prepare.auto.rams
@@ -89,8 +97,12 @@ pub shape_of-left : goal.shape_of-left
 shape_of-left c = c.finish-rounds.auto.left
 
 pub returns : goal.returns
-returns c = let said = as_said c.before.before.before.before.before.before.before.before.before.before.before.before.before.before.before.before.before.before.before.before.before.before.before.before.before.before.before.before.before.before.before.before.before in
-    let t = given c.before.before.before.before.before.before.before.before.before.before.before.before.before.before.before.before.before.before.before.before.before.before.before.before.before.before.before.before.before.before.before.before.before.before.before.before.before.before.before.before.before.before.before in
-    stored_is (marked c.before.before.before.before.before.before.before.before.before.before.before.before.before.before.before.before.before.before.before.before.before.before.before.before.before.before.before.before.before.before.before.before.before.before.before.before.before.before.before.before.before.before.before) c.requires.good said.rows (laid_grid (marked c.before.before.before.before.before.before.before.before.before.before.before.before.before.before.before.before.before.before.before.before.before.before.before.before.before.before.before.before.before.before.before.before.before.before.before.before.before.before.before.before.before.before.before) t said.rows c.lay_out.ensures.0) (laid_margins t said.rows said.starts_are c.lay_out.ensures.1) c.args.p.now c.requires.p_len _ _ _
+returns c = let given : Table = front (lent c.args.h c.args.z.now c.args.t.now c.args.b.now c.args.c.now c.args.f.now) in
+    let marked : ℕ → Bool = flagged c.args.flags.now in
+    let as_said : PreparedAs (marked) (given) c.prepare.result c.prepare.new.rams c.prepare.new.starts c.prepare.new.states = prepared_as c.prepare.result c.prepare.ensures in
+    let passes : judge_marked (marked) (given) ≡ passed (standings_of (given)).states = start_passed (as_said) c.in_default.is in
+    let said = as_said in
+    let t = given in
+    stored_is (marked) c.requires.good said.rows (laid_grid (marked) t said.rows c.lay_out.ensures.0) (laid_margins t said.rows said.starts_are c.lay_out.ensures.1) c.args.p.now c.requires.p_len _ _ _
     c.finish-rounds.ensures (laid_grid every t said.rows c.complete.ensures)
-    ∙ all_stored (marked c.before.before.before.before.before.before.before.before.before.before.before.before.before.before.before.before.before.before.before.before.before.before.before.before.before.before.before.before.before.before.before.before.before.before.before.before.before.before.before.before.before.before.before) t c.args.p.now _ _ (passes c.before.before.before.before.before.before.before.before.before.before.before.before.before.before.before.before.before.before.before.before.before.before.before.before.before.before.before.before) c.if-atc-borders.false c.if-left-rows.false
+    ∙ all_stored (marked) t c.args.p.now _ _ (passes) c.if-atc-borders.false c.if-left-rows.false

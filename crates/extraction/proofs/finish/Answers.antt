@@ -6,9 +6,6 @@ use Rattle.types.proofs.RangeLaws.{header_in_lem}
 use Rattle.extractrules.proofs.ExtractLaws.{front_long, front_within, lasts_long, shares_long, lasts_fit, lefts_fit, finished_is}
 use Rattle.extraction.proofs.finish.Goals as goal
 
-front : (c : goal.After-run-end) → length (take c.args.h.borders c.run-end.result.x) ≡ c.args.h.borders
-front c = front_long c.requires.finishable c.run-end.result c.run-end.ensures
-
 pub run-end-requires : goal.run-end-requires
 run-end-requires c = record { runnable = c.requires.finishable.run; ns_len = c.requires.ns_len }
 
@@ -16,10 +13,12 @@ pub slice_bounds-x-end : goal.slice_bounds-x-end
 slice_bounds-x-end c = front_within c.requires.finishable c.run-end.result c.run-end.ensures
 
 pub slice_bounds-store_atcs-end : goal.slice_bounds-store_atcs-end
-slice_bounds-store_atcs-end c = sym (front c.before.before.before.before.before.before.before.before)
+slice_bounds-store_atcs-end c = let front : length (take c.args.h.borders c.run-end.result.x) ≡ c.args.h.borders = front_long c.requires.finishable c.run-end.result c.run-end.ensures in
+    sym (front)
 
 pub store_atcs-requires : goal.store_atcs-requires
-store_atcs-requires c = record { borders_in_bounds = (omega (arith, c.requires.finishable.run.p_long), shares_long c.requires.finishable c.run-end.result c.run-end.ensures, omega (arith, (header_in_lem _ c.requires.finishable.run.header).rows_most_lem)); x_len = (front c.before.before.before.before.before.before.before.before.before, lasts_long c.requires.finishable c.run-end.result c.run-end.ensures, c.requires.borders_in_bounds.0); by_index = lasts_fit c.requires.finishable c.run-end.result c.run-end.ensures }
+store_atcs-requires c = let front : length (take c.args.h.borders c.run-end.result.x) ≡ c.args.h.borders = front_long c.requires.finishable c.run-end.result c.run-end.ensures in
+    record { borders_in_bounds = (omega (arith, c.requires.finishable.run.p_long), shares_long c.requires.finishable c.run-end.result c.run-end.ensures, omega (arith, (header_in_lem _ c.requires.finishable.run.header).rows_most_lem)); x_len = (front, lasts_long c.requires.finishable c.run-end.result c.run-end.ensures, c.requires.borders_in_bounds.0); by_index = lasts_fit c.requires.finishable c.run-end.result c.run-end.ensures }
 
 pub store_lefts-requires : goal.store_lefts-requires
 store_lefts-requires c = record { rams_len = (

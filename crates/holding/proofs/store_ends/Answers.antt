@@ -1,7 +1,7 @@
 use mathlib.Core.Path.{ap₂}
 use native.Mathlib.Omega.{arith}
 use lib.IntN.{ℤ}
-use mathlib.Core.List.{◌∷◌}
+use mathlib.Core.List.{[], ◌∷◌}
 use mir.Facts.{to_z_pos}
 use mir.Syntax.{w64}
 use Rattle.numbers.proofs.ListLaws.{filled_none, filled_more, filled_over}

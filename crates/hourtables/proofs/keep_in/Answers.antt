@@ -1,4 +1,5 @@
 -- `hourtables::keep_in` meets its contract: what was read is good (`into-good`), and what is stored of it is the hour's (`read_kept`, `read-refused`).
+use mathlib.Core.List.{[]}
 use native.Mathlib.Omega.{arith}
 use Rattle.reading.proofs.IntoLaws.{into_refused, into_read, into_good}
 use Rattle.marginrules.proofs.JudgedLaws.{good_borders}

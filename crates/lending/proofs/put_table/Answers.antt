@@ -17,10 +17,6 @@ use Rattle.lending.proofs.put_table.Goals as goal
 abbrev table : goal.Start → Table
 table s = front (lent s.args.h s.args.nets.now s.args.allocated.now s.args.borders.now s.args.rows.now s.args.factors.now)
 
-room : (c : goal.In_default)
-    → Enough c.args.h (length c.args.z.now) (length c.args.t.now) (length c.args.b.now) (length c.args.c.now) (length c.args.f.now)
-room c = (room_passed c.args.h _ _ _ _ _ (passed c.args.h) c.args.h (sym c.judge_room.ensures ∙ ap (λ (j : Judgement). said_judgement j c.args.h) c.in_default.is)).0
-
 pub judge_room-requires : goal.judge_room-requires
 judge_room-requires c = c.requires.0
 
@@ -28,23 +24,29 @@ pub returns-in-Refused : goal.returns-in-Refused
 returns-in-Refused c = room_refused _ c.args.z.now c.args.t.now c.args.b.now c.args.c.now c.args.f.now (table c.before.before.before) refl _ c.judge_room.ensures _ c.in-Refused.is
 
 pub put_numbers-requires : goal.put_numbers-requires
-put_numbers-requires c = (omega (arith, (header_in_lem _ c.requires.0).zones_most_lem, c.requires.1.zones), (room c.before).zones)
+put_numbers-requires c = let room : Enough c.args.h (length c.args.z.now) (length c.args.t.now) (length c.args.b.now) (length c.args.c.now) (length c.args.f.now) = (room_passed c.args.h _ _ _ _ _ (passed c.args.h) c.args.h (sym c.judge_room.ensures ∙ ap (λ (j : Judgement). said_judgement j c.args.h) c.in_default.is)).0 in
+    (omega (arith, (header_in_lem _ c.requires.0).zones_most_lem, c.requires.1.zones), (room).zones)
 
 pub put_numbers-requires-2 : goal.put_numbers-requires-2
-put_numbers-requires-2 c = (omega (arith, c.allocated_items.ensures, allocated_most c.args.h, (header_in_lem _ c.requires.0).zones_most_lem, c.requires.1.allocated), omega (arith, c.allocated_items.ensures, (room c.before.before.before.before.before).allocated))
+put_numbers-requires-2 c = let room : Enough c.args.h (length c.args.z.now) (length c.args.t.now) (length c.args.b.now) (length c.args.c.now) (length c.args.f.now) = (room_passed c.args.h _ _ _ _ _ (passed c.args.h) c.args.h (sym c.judge_room.ensures ∙ ap (λ (j : Judgement). said_judgement j c.args.h) c.in_default.is)).0 in
+    (omega (arith, c.allocated_items.ensures, allocated_most c.args.h, (header_in_lem _ c.requires.0).zones_most_lem, c.requires.1.allocated), omega (arith, c.allocated_items.ensures, (room).allocated))
 
 pub put_borders-requires : goal.put_borders-requires
-put_borders-requires c = (omega (arith, (header_in_lem _ c.requires.0).borders_most_lem, c.requires.1.borders), (room c.before.before.before.before.before.before.before.before).borders)
+put_borders-requires c = let room : Enough c.args.h (length c.args.z.now) (length c.args.t.now) (length c.args.b.now) (length c.args.c.now) (length c.args.f.now) = (room_passed c.args.h _ _ _ _ _ (passed c.args.h) c.args.h (sym c.judge_room.ensures ∙ ap (λ (j : Judgement). said_judgement j c.args.h) c.in_default.is)).0 in
+    (omega (arith, (header_in_lem _ c.requires.0).borders_most_lem, c.requires.1.borders), (room).borders)
 
 pub put_rows-requires : goal.put_rows-requires
-put_rows-requires c = (omega (arith, (header_in_lem _ c.requires.0).rows_most_lem, c.requires.1.rows), (room c.before.before.before.before.before.before.before.before.before.before.before).rows)
+put_rows-requires c = let room : Enough c.args.h (length c.args.z.now) (length c.args.t.now) (length c.args.b.now) (length c.args.c.now) (length c.args.f.now) = (room_passed c.args.h _ _ _ _ _ (passed c.args.h) c.args.h (sym c.judge_room.ensures ∙ ap (λ (j : Judgement). said_judgement j c.args.h) c.in_default.is)).0 in
+    (omega (arith, (header_in_lem _ c.requires.0).rows_most_lem, c.requires.1.rows), (room).rows)
 
 pub overflow_mul-h : goal.overflow_mul-h
 overflow_mul-h c = omega (arith, factors_most _ c.requires.0)
 
 pub put_numbers-requires-3 : goal.put_numbers-requires-3
-put_numbers-requires-3 c = (omega (arith, factors_most _ c.requires.0, c.requires.1.factors), (room c.before.before.before.before.before.before.before.before.before.before.before.before.before.before.before).factors)
+put_numbers-requires-3 c = let room : Enough c.args.h (length c.args.z.now) (length c.args.t.now) (length c.args.b.now) (length c.args.c.now) (length c.args.f.now) = (room_passed c.args.h _ _ _ _ _ (passed c.args.h) c.args.h (sym c.judge_room.ensures ∙ ap (λ (j : Judgement). said_judgement j c.args.h) c.in_default.is)).0 in
+    (omega (arith, factors_most _ c.requires.0, c.requires.1.factors), (room).factors)
 
 pub returns : goal.returns
-returns c = left_is (answer.Table c.args.h) c.put_numbers.ensures (c.put_numbers-2.ensures ∙ ap (λ (n : ℕ). over (take n c.args.allocated.now) c.args.t.now) c.allocated_items.ensures) c.put_borders.ensures c.put_rows.ensures c.put_numbers-3.ensures
-    ∙ sym (read_left_lem _ c.args.z.now c.args.t.now c.args.b.now c.args.c.now c.args.f.now (table c.before.before.before.before.before.before.before.before.before.before.before.before.before.before.before.before.before.before.before) refl (room c.before.before.before.before.before.before.before.before.before.before.before.before.before.before.before.before.before))
+returns c = let room : Enough c.args.h (length c.args.z.now) (length c.args.t.now) (length c.args.b.now) (length c.args.c.now) (length c.args.f.now) = (room_passed c.args.h _ _ _ _ _ (passed c.args.h) c.args.h (sym c.judge_room.ensures ∙ ap (λ (j : Judgement). said_judgement j c.args.h) c.in_default.is)).0 in
+    left_is (answer.Table c.args.h) c.put_numbers.ensures (c.put_numbers-2.ensures ∙ ap (λ (n : ℕ). over (take n c.args.allocated.now) c.args.t.now) c.allocated_items.ensures) c.put_borders.ensures c.put_rows.ensures c.put_numbers-3.ensures
+    ∙ sym (read_left_lem _ c.args.z.now c.args.t.now c.args.b.now c.args.c.now c.args.f.now (table c.before.before.before.before.before.before.before.before.before.before.before.before.before.before.before.before.before.before.before) refl (room))

@@ -29,8 +29,8 @@ overflow_sub-row c = simp (to_z-of_z, fmax-fits c.before.before.before.before, b
 
 pub returns : goal.returns
 unfolding amr_of
-returns c = let k1 : SFits w64 c.larger.result = sfits_of c.larger.type-inv in
-    let k2 : SFits w64 c.larger-2.result = sfits_of c.larger-2.type-inv in
+returns c = let k1 : SFits w64 c.larger.result = sfits_of c.larger.type_inv in
+    let k2 : SFits w64 c.larger-2.result = sfits_of c.larger-2.type_inv in
     let e1 : c.larger.result ≡ max_ℤ (r c.before.before.before.before.before.before *ℤ fmax c.before.before.before.before.before.before *ℤ pos 10 -ℤ u c.before.before.before.before.before.before -ℤ b c.before.before.before.before.before.before) (fmax c.before.before.before.before.before.before *ℤ pos 20000 -ℤ b c.before.before.before.before.before.before) =
     simp (to_z-of_z, r-fits c.before.before.before.before.before.before, fmax-fits c.before.before.before.before.before.before, u-fits c.before.before.before.before.before.before, b-fits c.before.before.before.before.before.before, product_fits c.before.before.before.before.before.before, share_fits c.before.before.before.before.before.before, less-fits c.before.before.before.before.before.before, first_fits c.before.before.before.before.before.before, fifth-fits c.before.before.before.before.before.before, second_fits c.before.before.before.before.before.before) at c.larger.ensures in
     let e2 : c.larger-2.result ≡ max_ℤ c.larger.result (pos 0) = simp (to_z-of_z, k1) at c.larger-2.ensures in

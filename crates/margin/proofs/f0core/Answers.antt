@@ -1,4 +1,5 @@
 -- `margin::f0core` meets its contract: Fref in grains, less the flow of the net positions.
+use mir.Syntax.{w64}
 use mathlib.Core.Path.{ap, ◌∙◌}
 use native.Mathlib.Omega.{arith}
 use borrow.Author.Rules.{sfits_of}
@@ -14,4 +15,4 @@ less_flow-requires c = (within_is (g-is c) (within_le (within_grains (start c).r
 
 pub returns : goal.returns
 unfolding f0core_of
-returns c = to_z-of_z (sfits_of c.less_flow.type-inv) ∙ c.less_flow.ensures ∙ ap (λ (g : ℤ). g -ℤ flow_of (start c.before).args.factors.now (start c.before).args.nets.now) (g-is c.before)
+returns c = to_z-of_z {w = w64} (sfits_of c.less_flow.type_inv) ∙ c.less_flow.ensures ∙ ap (λ (g : ℤ). g -ℤ flow_of (start c.before).args.factors.now (start c.before).args.nets.now) (g-is c.before)

@@ -53,9 +53,9 @@ overflow_step-i c = omega (arith, (head c.before).starts-filled.as_long, (start 
 
 pub loop-i-preserved : goal.loop-i-preserved
 loop-i-preserved c = let f = at-factors c.before in
-    let k : SFits w64 c.start.result = sfits_of c.start.type-inv in
+    let k : SFits w64 c.start.result = sfits_of c.start.type_inv in
     record {
-      rams-filled = filled_more (head c.before).rams-filled _ (below f) (omega (arith, (start f).pre.1.0)) (to_z-of_z (ram-fits c.before) ∙ ram_at_lem c.before);
+      rams-filled = filled_more (head c.before).rams-filled _ (below f) (omega (arith, (start f).pre.1.0)) (to_z-of_z {w = w64} (ram-fits c.before) ∙ ram_at_lem c.before);
       starts-filled = filled_more (head c.before).starts-filled _ (below f) (omega (arith, (start f).pre.1.1))
           (to_z-of_z k ∙ (simp (to_z-of_z, ram-fits c.before) at c.start.ensures) ∙ start_is (t c.before) (i c.before) f.row-factors.ensures c.s-s.ensures (ram-given c.before) _ f.before.before.before.is-intraday.ensures);
     }

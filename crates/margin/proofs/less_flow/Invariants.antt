@@ -4,14 +4,12 @@ use mathlib.Core.Path.{◌≡◌}
 use Prim.Native.Nat.{◌-◌, ◌≤◌}
 use lib.IntN.{◌-ℤ◌}
 use lib.ListN.{length}
-use mir.Syntax.{w64}
-use mir.Val.{to_z}
 use Rattle.numbers.specs.Ints.{sum_ℤ}
 use Rattle.marginrules.proofs.MagnitudeLaws.{products}
 use Rattle.margin.proofs.less_flow.Given as goal
 
 abbrev pub invariant-loop-z : goal.invariant-loop-z
-invariant-loop-z l = (l.z ≤ length l.nets) × (to_z w64 l.left ≡ to_z w64 l.initial.left -ℤ sum_ℤ l.z (products l.factors l.nets))
+invariant-loop-z l = (l.z ≤ length l.nets) × (l.left ≡ l.initial.left -ℤ sum_ℤ l.z (products l.factors l.nets))
 
 abbrev pub decreases-loop-z : goal.decreases-loop-z
 decreases-loop-z l = length l.nets - l.z

@@ -31,7 +31,7 @@ overflow_sub-f0core-2 c = simp (to_z-of_z, s-is c, (start c).ranges.f0core, (sta
 
 pub returns : goal.returns
 unfolding lta_margin_of
-returns c = let k : SFits w64 c.larger.result = sfits_of c.larger.type-inv in
+returns c = let k : SFits w64 c.larger.result = sfits_of c.larger.type_inv in
     let e : c.larger.result ≡ max_ℤ (f0core c.before +ℤ s c.before +ℤ frm c.before -ℤ (start c.before).args.amr -ℤ fmax c.before) (pos 0) =
     simp (to_z-of_z, s-is c.before, (start c.before).ranges.f0core, (start c.before).ranges.amr, frm-fits c.before, fmax-fits c.before, with-s c.before, with-frm c.before, less-amr c.before, less-fmax c.before) at c.larger.ensures in
     to_z-of_z k ∙ cc (frm-is c.before, fmax-is c.before)

@@ -23,5 +23,5 @@ ram-requires c = simp (to_z-of_z, f0core-fits c, c.ranges.default) (c.requires.w
 
 pub returns : goal.returns
 returns c = let e : c.ram.result ≡ ram_of c.args.default c.of_good-row.result c.f0core-f0core.result c.args.s = simp (to_z-of_z, f0core-fits c.before, c.ranges.default) at c.ram.ensures in
-    let k : SFits w64 c.ram.result = sfits_of c.ram.type-inv in
+    let k : SFits w64 c.ram.result = sfits_of c.ram.type_inv in
     to_z-of_z k ∙ cc (c.f0core-f0core.ensures, c.of_good-row.ensures)

@@ -6,7 +6,7 @@ use Rattle.nearness.proofs.YieldLaws.{placed_not, placed_first, placed_yields, p
 use Rattle.nearness.proofs.list_row.Goals as goal
 
 pub returns-then-not-tight : goal.returns-then-not-tight
-returns-then-not-tight c = placed_not c.requires.count_le_i.2 (not-true _ c.if-not-tight.true)
+returns-then-not-tight c = placed_not c.requires.count_le_i.2 (not-true _ c.if-not-tight.true-raw)
 
 pub returns-then-count-eq0 : goal.returns-then-count-eq0
 returns-then-count-eq0 c = placed_first c.requires.count_le_i.2 (omega arith) (omega arith)

@@ -46,7 +46,7 @@ bounds-c-i c = omega (arith, c.requires.storable.rows_long)
 
 pub row_parts-requires : goal.row_parts-requires
 row_parts-requires c = let long = part_long c.requires.storable.factors_in c.loop-i.i (omega arith) c.row_factors-factors.ensures in
-    let default_fits : SFits w64 c.default_share-default.result = sfits_of c.default_share-default.type-inv in record { within = simp (to_z-of_z, default_fits) (within_is c.default_share-default.ensures (default_in _ c.requires.storable.header)); raw_value = c.requires.storable.rows_in_lem c.loop-i.i (omega arith); factors_in_range = part_ranges c.requires.storable.factors_in c.loop-i.i (omega arith) c.row_factors-factors.ensures; nets_in_range = subst (λ (n : ℕ). NetsInRange n c.args.z.now) (sym long) c.requires.storable.nets_in; borders_in_range = subst (λ (n : ℕ). BordersInRange n c.args.b.now) (sym long) c.requires.storable.borders_in; state_bound = c.requires.storable.states_in c.loop-i.i (omega arith) }
+    let default_fits : SFits w64 c.default_share-default.result = sfits_of c.default_share-default.type_inv in record { within = simp (to_z-of_z, default_fits) (within_is c.default_share-default.ensures (default_in _ c.requires.storable.header)); raw_value = c.requires.storable.rows_in_lem c.loop-i.i (omega arith); factors_in_range = part_ranges c.requires.storable.factors_in c.loop-i.i (omega arith) c.row_factors-factors.ensures; nets_in_range = subst (λ (n : ℕ). NetsInRange n c.args.z.now) (sym long) c.requires.storable.nets_in; borders_in_range = subst (λ (n : ℕ). BordersInRange n c.args.b.now) (sym long) c.requires.storable.borders_in; state_bound = c.requires.storable.states_in c.loop-i.i (omega arith) }
 
 pub offset_bounds-out-i : goal.offset_bounds-out-i
 offset_bounds-out-i c = omega (arith, c.loop-i.invariant.as_long, c.requires.states_len.1)
@@ -58,8 +58,8 @@ pub overflow_step-i : goal.overflow_step-i
 overflow_step-i c = omega (arith, c.loop-i.invariant.as_long, c.requires.states_len.1)
 
 pub loop-i-preserved : goal.loop-i-preserved
-loop-i-preserved c = let default_fits : SFits w64 c.default_share-default.result = sfits_of c.default_share-default.type-inv in
-    let start_fits : SFits w64 c.start_from-start.result = sfits_of c.start_from-start.type-inv in
+loop-i-preserved c = let default_fits : SFits w64 c.default_share-default.result = sfits_of c.default_share-default.type_inv in
+    let start_fits : SFits w64 c.start_from-start.result = sfits_of c.start_from-start.type_inv in
     let start = simp (plain, c.start_from-arg-1.given) at c.start_from-start.ensures in
     let row = simp (to_z-of_z, plain, default_fits, c.ram-1.given, start_fits) at c.row_parts.ensures in
     filled_more c.loop-i.invariant _ (omega arith) (omega (arith, c.requires.states_len.1))

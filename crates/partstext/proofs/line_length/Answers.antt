@@ -10,7 +10,7 @@ use Rattle.partstext.specs.PartsText.{parts_columns}
 use Rattle.partstext.proofs.line_length.Goals as goal
 
 pub line_length-requires : goal.line_length-requires
-line_length-requires c = (search rules, omega (arith, line_long tab (Indexed (code "V") c.args.i) parts_columns c.args.t2, c.requires))
+line_length-requires c = (search rules, omega (arith, line_long tab (Indexed (code "V") c.args.i) parts_columns c.args.raw, c.requires))
 
 pub returns : goal.returns
-returns c = c.line_length.ensures ∙ sym (line_long tab (Indexed (code "V") c.args.i) parts_columns c.args.t2)
+returns c = c.line_length.ensures ∙ sym (line_long tab (Indexed (code "V") c.args.i) parts_columns c.args.raw)

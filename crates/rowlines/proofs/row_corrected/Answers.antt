@@ -12,7 +12,7 @@ use Rattle.rowlines.proofs.row_corrected.Goals as goal
 pub returns-then-not-of_row : goal.returns-then-not-of_row
 returns-then-not-of_row c = c.row_read.ensures
     ∙ ap (λ (l : List ℕ). line_by c.args.kind (length c.args.f.now) l c.args.i) c.row_Line.ensures
-    ∙ own_handed c.args.kind c.args.by (length c.args.f.now) c.args.next.now c.args.day.now c.args.i (sym c.of_row.ensures ∙ not-true _ c.if-not-of_row.true)
+    ∙ own_handed c.args.kind c.args.by (length c.args.f.now) c.args.next.now c.args.day.now c.args.i (sym c.of_row.ensures ∙ not-true _ c.if-not-of_row.true-raw)
 
 pub row_read-requires-in-Holds : goal.row_read-requires-in-Holds
 row_read-requires-in-Holds c = (omega (arith, c.requires, c.row_read-given.auto.f), omega (arith, c.requires, c.row_read-given.auto.f))

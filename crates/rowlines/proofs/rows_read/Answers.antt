@@ -30,26 +30,6 @@ lent : (c : goal.In-loop-i)
     length (take (start + c.args.zones - start) (drop start c.loop-i.f)) ≡ c.args.zones
 lent c = part_long c.loop-i.f _ _ (room c)
 
-row-said : (r : goal.After-row_corrected-row)
-    → judge r.before.before.before.before (line_at r.args.text.now r.loop-i.p) r.loop-i.i ≡ said_row r.row_corrected-row.result.judged r.row_corrected-row.result.raw r.row_corrected-row.new.f
-row-said r = let day = piece r.args.kind r.line_at-given.result.now in
-    let handed : piece_for r.sheet_kind-by.result r.line_at-next.result.now day r.loop-i.i ≡ handed_by r.args.sheet.now day r.loop-i.i =
-    ap (λ (x : List ℕ). piece_for r.sheet_kind-by.result x day r.loop-i.i) r.line_at-next.ensures ∙ walked_line r.sheet_kind-by.result r.args.zones (length r.args.c.now) r.args.sheet.now r.loop-i.s r.loop-i.i r.loop-i.invariant.walked day
-    ∙ ap (λ (k : RowKind). handed_on k (pieces r.args.sheet.now) day r.loop-i.i) r.sheet_kind-by.ensures in
-    sym
-    (r.row_corrected-row.ensures
-    ∙ ap (λ (n : ℕ). instead (line_by r.args.kind n r.line_at-given.result.now r.loop-i.i) (row_in n (piece_for r.sheet_kind-by.result r.line_at-next.result.now day r.loop-i.i) r.loop-i.i)) (lent r.before.before.before.before)
-    ∙ ap (λ (x : Piece). instead (line_by r.args.kind r.args.zones r.line_at-given.result.now r.loop-i.i) (row_in r.args.zones x r.loop-i.i)) handed
-    ∙ ap (λ (x : List ℕ). judge r.before.before.before.before x r.loop-i.i) r.line_at-given.ensures)
-
-wide : (r : goal.After-row_corrected-row) → length r.row_corrected-row.new.f ≡ r.args.zones
-wide r = r.row_corrected-row.auto.f ∙ lent r.before.before.before.before
-
-factors_kept : (r : goal.After-row_corrected-row)
-    → let start = r.loop-i.i * r.args.zones in
-    length (take start r.loop-i.f ++ (r.row_corrected-row.new.f ++ drop (start + r.args.zones - start) (drop start r.loop-i.f))) ≡ length r.args.f.now
-factors_kept r = rows_stored_back (judge r.before.before.before.before) r.args.first r.args.text.now r.args.at r.args.zones r.args.c.now r.args.f.now r.loop-i.c r.loop-i.f r.loop-i.i r.loop-i.p r.loop-i.invariant.stored r.loop-i-test.true r.row_corrected-row.new.f (wide r) ∙ sym r.requires.at_in_bounds.2
-
 pub loop-i-init : goal.loop-i-init
 loop-i-init c = record {
       stored = rows_stored_none _ c.args.first c.args.text.now c.args.at c.args.zones c.args.c.now c.args.f.now c.requires.at_in_bounds.0 c.requires.at_in_bounds.2;
@@ -87,12 +67,24 @@ pub shape_of-c-in-Form : goal.shape_of-c-in-Form
 shape_of-c-in-Form c = c.loop-i.invariant.stored.rows_long
 
 pub shape_of-f-in-Form : goal.shape_of-f-in-Form
-shape_of-f-in-Form c = factors_kept c.before.before.before.before
+shape_of-f-in-Form c = let wide : length c.row_corrected-row.new.f ≡ c.args.zones = c.row_corrected-row.auto.f ∙ lent c.before.before.before.before in
+    let factors_kept : let start = c.loop-i.i * c.args.zones in
+    length (take start c.loop-i.f ++ (c.row_corrected-row.new.f ++ drop (start + c.args.zones - start) (drop start c.loop-i.f))) ≡ length c.args.f.now = rows_stored_back (judge c.before.before.before.before) c.args.first c.args.text.now c.args.at c.args.zones c.args.c.now c.args.f.now c.loop-i.c c.loop-i.f c.loop-i.i c.loop-i.p c.loop-i.invariant.stored c.loop-i-test.true c.row_corrected-row.new.f (wide) ∙ sym c.requires.at_in_bounds.2 in
+    factors_kept
 
 pub returns-in-Form : goal.returns-in-Form
-returns-in-Form c = ap fault c.wrong_form_at.ensures
+returns-in-Form c = let row-said : judge c.before.before.before.before (line_at c.args.text.now c.loop-i.p) c.loop-i.i ≡ said_row c.row_corrected-row.result.judged c.row_corrected-row.result.raw c.row_corrected-row.new.f = let day = piece c.args.kind c.line_at-given.result.now in
+    let handed : piece_for c.sheet_kind-by.result c.line_at-next.result.now day c.loop-i.i ≡ handed_by c.args.sheet.now day c.loop-i.i =
+    ap (λ (x : List ℕ). piece_for c.sheet_kind-by.result x day c.loop-i.i) c.line_at-next.ensures ∙ walked_line c.sheet_kind-by.result c.args.zones (length c.args.c.now) c.args.sheet.now c.loop-i.s c.loop-i.i c.loop-i.invariant.walked day
+    ∙ ap (λ (k : RowKind). handed_on k (pieces c.args.sheet.now) day c.loop-i.i) c.sheet_kind-by.ensures in
+    sym
+    (c.row_corrected-row.ensures
+    ∙ ap (λ (n : ℕ). instead (line_by c.args.kind n c.line_at-given.result.now c.loop-i.i) (row_in n (piece_for c.sheet_kind-by.result c.line_at-next.result.now day c.loop-i.i) c.loop-i.i)) (lent c.before.before.before.before)
+    ∙ ap (λ (x : Piece). instead (line_by c.args.kind c.args.zones c.line_at-given.result.now c.loop-i.i) (row_in c.args.zones x c.loop-i.i)) handed
+    ∙ ap (λ (x : List ℕ). judge c.before.before.before.before x c.loop-i.i) c.line_at-given.ensures) in
+    ap fault c.wrong_form_at.ensures
     ∙ rows_stored_form (judge c.before.before.before.before.before.before.before.before) c.args.first c.args.text.now c.args.at c.args.zones c.args.c.now c.args.f.now c.loop-i.c c.loop-i.f c.loop-i.i c.loop-i.p c.loop-i.invariant.stored c.loop-i-test.true _
-    (row-said c.before.before.before.before ∙ ap (λ (j : RowJudged). said_row j c.row_corrected-row.result.raw c.row_corrected-row.new.f) c.in-Form.is)
+    (row-said ∙ ap (λ (j : RowJudged). said_row j c.row_corrected-row.result.raw c.row_corrected-row.new.f) c.in-Form.is)
 
 pub overflow_add-first-in-Range : goal.overflow_add-first-in-Range
 overflow_add-first-in-Range c = omega (arith, c.loop-i-test.true, c.requires.at_in_bounds.1)
@@ -101,12 +93,24 @@ pub shape_of-c-in-Range : goal.shape_of-c-in-Range
 shape_of-c-in-Range c = c.loop-i.invariant.stored.rows_long
 
 pub shape_of-f-in-Range : goal.shape_of-f-in-Range
-shape_of-f-in-Range c = factors_kept c.before.before.before.before
+shape_of-f-in-Range c = let wide : length c.row_corrected-row.new.f ≡ c.args.zones = c.row_corrected-row.auto.f ∙ lent c.before.before.before.before in
+    let factors_kept : let start = c.loop-i.i * c.args.zones in
+    length (take start c.loop-i.f ++ (c.row_corrected-row.new.f ++ drop (start + c.args.zones - start) (drop start c.loop-i.f))) ≡ length c.args.f.now = rows_stored_back (judge c.before.before.before.before) c.args.first c.args.text.now c.args.at c.args.zones c.args.c.now c.args.f.now c.loop-i.c c.loop-i.f c.loop-i.i c.loop-i.p c.loop-i.invariant.stored c.loop-i-test.true c.row_corrected-row.new.f (wide) ∙ sym c.requires.at_in_bounds.2 in
+    factors_kept
 
 pub returns-in-Range : goal.returns-in-Range
-returns-in-Range c = ap fault c.out_of_range_at.ensures
+returns-in-Range c = let row-said : judge c.before.before.before.before (line_at c.args.text.now c.loop-i.p) c.loop-i.i ≡ said_row c.row_corrected-row.result.judged c.row_corrected-row.result.raw c.row_corrected-row.new.f = let day = piece c.args.kind c.line_at-given.result.now in
+    let handed : piece_for c.sheet_kind-by.result c.line_at-next.result.now day c.loop-i.i ≡ handed_by c.args.sheet.now day c.loop-i.i =
+    ap (λ (x : List ℕ). piece_for c.sheet_kind-by.result x day c.loop-i.i) c.line_at-next.ensures ∙ walked_line c.sheet_kind-by.result c.args.zones (length c.args.c.now) c.args.sheet.now c.loop-i.s c.loop-i.i c.loop-i.invariant.walked day
+    ∙ ap (λ (k : RowKind). handed_on k (pieces c.args.sheet.now) day c.loop-i.i) c.sheet_kind-by.ensures in
+    sym
+    (c.row_corrected-row.ensures
+    ∙ ap (λ (n : ℕ). instead (line_by c.args.kind n c.line_at-given.result.now c.loop-i.i) (row_in n (piece_for c.sheet_kind-by.result c.line_at-next.result.now day c.loop-i.i) c.loop-i.i)) (lent c.before.before.before.before)
+    ∙ ap (λ (x : Piece). instead (line_by c.args.kind c.args.zones c.line_at-given.result.now c.loop-i.i) (row_in c.args.zones x c.loop-i.i)) handed
+    ∙ ap (λ (x : List ℕ). judge c.before.before.before.before x c.loop-i.i) c.line_at-given.ensures) in
+    ap fault c.out_of_range_at.ensures
     ∙ rows_stored_range (judge c.before.before.before.before.before.before.before.before) c.args.first c.args.text.now c.args.at c.args.zones c.args.c.now c.args.f.now c.loop-i.c c.loop-i.f c.loop-i.i c.loop-i.p c.loop-i.invariant.stored c.loop-i-test.true _
-    (row-said c.before.before.before.before ∙ ap (λ (j : RowJudged). said_row j c.row_corrected-row.result.raw c.row_corrected-row.new.f) c.in-Range.is)
+    (row-said ∙ ap (λ (j : RowJudged). said_row j c.row_corrected-row.result.raw c.row_corrected-row.new.f) c.in-Range.is)
 
 pub sheet_after-s-requires : goal.sheet_after-s-requires
 sheet_after-s-requires c = rw c.line_at-next.ensures (omega (arith, after_within c.args.sheet.now c.loop-i.s c.loop-i.invariant.walked.within, c.well_formed))
@@ -115,10 +119,20 @@ pub overflow_add-p : goal.overflow_add-p
 overflow_add-p c = rw c.line_at-given.ensures (omega (arith, after_within c.args.text.now c.loop-i.p c.loop-i.invariant.stored.stored.within, c.well_formed))
 
 pub loop-i-preserved : goal.loop-i-preserved
-loop-i-preserved c = record {
+loop-i-preserved c = let row-said : judge c.before.before.before.before (line_at c.args.text.now c.loop-i.p) c.loop-i.i ≡ said_row c.row_corrected-row.result.judged c.row_corrected-row.result.raw c.row_corrected-row.new.f = let day = piece c.args.kind c.line_at-given.result.now in
+    let handed : piece_for c.sheet_kind-by.result c.line_at-next.result.now day c.loop-i.i ≡ handed_by c.args.sheet.now day c.loop-i.i =
+    ap (λ (x : List ℕ). piece_for c.sheet_kind-by.result x day c.loop-i.i) c.line_at-next.ensures ∙ walked_line c.sheet_kind-by.result c.args.zones (length c.args.c.now) c.args.sheet.now c.loop-i.s c.loop-i.i c.loop-i.invariant.walked day
+    ∙ ap (λ (k : RowKind). handed_on k (pieces c.args.sheet.now) day c.loop-i.i) c.sheet_kind-by.ensures in
+    sym
+    (c.row_corrected-row.ensures
+    ∙ ap (λ (n : ℕ). instead (line_by c.args.kind n c.line_at-given.result.now c.loop-i.i) (row_in n (piece_for c.sheet_kind-by.result c.line_at-next.result.now day c.loop-i.i) c.loop-i.i)) (lent c.before.before.before.before)
+    ∙ ap (λ (x : Piece). instead (line_by c.args.kind c.args.zones c.line_at-given.result.now c.loop-i.i) (row_in c.args.zones x c.loop-i.i)) handed
+    ∙ ap (λ (x : List ℕ). judge c.before.before.before.before x c.loop-i.i) c.line_at-given.ensures) in
+    let wide : length c.row_corrected-row.new.f ≡ c.args.zones = c.row_corrected-row.auto.f ∙ lent c.before.before.before.before in
+    record {
       stored = rw c.line_at-given.ensures
-          (rows_stored_more (judge c.before.before.before.before.before.before.before.before) c.args.first c.args.text.now c.args.at c.args.zones c.args.c.now c.args.f.now c.loop-i.c c.loop-i.f c.loop-i.i c.loop-i.p c.loop-i.invariant.stored c.loop-i-test.true c.row_corrected-row.result.raw c.row_corrected-row.new.f (wide c.before.before.before.before)
-          (row-said c.before.before.before.before ∙ ap (λ (j : RowJudged). said_row j c.row_corrected-row.result.raw c.row_corrected-row.new.f) c.in-Holds.is));
+          (rows_stored_more (judge c.before.before.before.before.before.before.before.before) c.args.first c.args.text.now c.args.at c.args.zones c.args.c.now c.args.f.now c.loop-i.c c.loop-i.f c.loop-i.i c.loop-i.p c.loop-i.invariant.stored c.loop-i-test.true c.row_corrected-row.result.raw c.row_corrected-row.new.f (wide)
+          (row-said ∙ ap (λ (j : RowJudged). said_row j c.row_corrected-row.result.raw c.row_corrected-row.new.f) c.in-Holds.is));
       walked = subst (λ (v : ℕ). Walked c.sheet_kind-by.result c.args.zones (length c.args.c.now) c.args.sheet.now v (c.loop-i.i + 1)) (sym (c.sheet_after-s.ensures ∙ ap (λ (next : List ℕ). sheet_after c.sheet_kind-by.result next c.loop-i.s c.loop-i.i) c.line_at-next.ensures))
           (walked_more c.sheet_kind-by.result c.args.zones (length c.args.c.now) c.args.sheet.now c.loop-i.s c.loop-i.i c.loop-i.invariant.walked);
     }

@@ -28,7 +28,7 @@ enough c = let n = room_passed c.args.h (length c.args.c.now) (length c.args.f.n
     (n.0, n.1)
 
 pub returns-then-not-fits : goal.returns-then-not-fits
-returns-then-not-fits c = rw c.out_of_range.ensures (header_out_lem c.args.h c.args.c.now c.args.f.now c.args.out.now (sym c.fits.ensures ∙ not-true _ c.if-not-fits.true))
+returns-then-not-fits c = rw c.out_of_range.ensures (header_out_lem c.args.h c.args.c.now c.args.f.now c.args.out.now (sym c.fits.ensures ∙ not-true _ c.if-not-fits.true-raw))
 
 pub judge_room-requires : goal.judge_room-requires
 judge_room-requires c = fit c

@@ -1,4 +1,5 @@
 -- `start::fill_froms` meets its contract. The invariant: the first i exchanges are where the profile says.
+use mathlib.Core.List.{[]}
 use lib.ListN.{length, get_or}
 use Rattle.numbers.proofs.ListLaws.{Filled}
 use Rattle.types.specs.Ranges.{border_of}

@@ -1,6 +1,6 @@
 use mathlib.Core.Path.{◌≡◌, sym, ap, subst, ◌∙◌}
 use mathlib.Core.Bool.{true, cond, ◌&&◌}
-use mathlib.Core.List.{List}
+use mathlib.Core.List.{List, []}
 use Prim.Native.Nat.{ℕ, ◌<◌, ◌≤◌}
 use native.Mathlib.Omega.{arith}
 use borrow.Author.Tests.{lt-ltb, le-ltb}
@@ -16,13 +16,6 @@ use Rattle.setup.specs.Setup.{grid_by}
 use Rattle.staterules.specs.States.{kept}
 use Rattle.extractrules.specs.Start.{grid_of, setup_with}
 use Rattle.start.proofs.is_limited.Goals as goal
-
-cell_is : (c : goal.After-cell)
-    → let a = (entry c.before.before.before.before).args in
-    c.cell.result ≡ (grid_of (flagged a.flags.now) a.h a.b.now a.f.now a.states.now).p (row c.before.before.before.before) a.k
-unfolding grid_of kept grid_by setup_with flagged
-cell_is c = let a = (entry c.before.before.before.before).args in
-    c.cell.ensures ∙ ap (λ (fs : List ℤ). cond (flagged a.flags.now a.k && kept a.states.now (row c.before.before.before.before)) (p_of fs (border_of (get_or a.b.now a.k []))) 0) c.row_factors-factors.ensures
 
 pub loop-i-init : goal.loop-i-init
 loop-i-init c = looked_none _ _
@@ -53,11 +46,18 @@ cell-requires c = let q = (entry c.before.before.before).requires in
     let a = (entry c.before.before.before).args in record { factors_in_range = part_ranges q.0 (row c.before.before.before) (omega arith) c.row_factors-factors.ensures; raw_value = subst (λ (n : ℕ). border_fits n (get_or a.b.now a.k []) ≡ true) (sym (part_long q.0 (row c.before.before.before) (omega arith) c.row_factors-factors.ensures)) (q.1.0.each a.k q.1.1.1.0) }
 
 pub returns-then-cell-gt0 : goal.returns-then-cell-gt0
-unfolding given
-returns-then-cell-gt0 c = ap given (looked_here _ _ _ c.loop-i.invariant (omega arith) (lt-ltb _ _ (subst (λ (v : ℕ). 0 < v) (cell_is c.before) c.if-cell-gt0.true)))
+unfolding given grid_of kept grid_by setup_with flagged
+returns-then-cell-gt0 c = let cell_is : let a = (entry c.before.before.before.before).args in
+    c.cell.result ≡ (grid_of (flagged a.flags.now) a.h a.b.now a.f.now a.states.now).p (row c.before.before.before.before) a.k = let a = (entry c.before.before.before.before).args in
+    c.cell.ensures ∙ ap (λ (fs : List ℤ). cond (flagged a.flags.now a.k && kept a.states.now (row c.before.before.before.before)) (p_of fs (border_of (get_or a.b.now a.k []))) 0) c.row_factors-factors.ensures in
+    ap given (looked_here _ _ _ c.loop-i.invariant (omega arith) (lt-ltb _ _ (subst (λ (v : ℕ). 0 < v) (cell_is) c.if-cell-gt0.true)))
 
 pub loop-i-preserved : goal.loop-i-preserved
-loop-i-preserved c = looked_more _ _ _ c.loop-i.invariant (omega arith) (le-ltb _ _ (subst (λ (v : ℕ). v ≤ 0) (cell_is c.before) c.if-cell-gt0.false))
+unfolding grid_of kept grid_by setup_with flagged
+loop-i-preserved c = let cell_is : let a = (entry c.before.before.before.before).args in
+    c.cell.result ≡ (grid_of (flagged a.flags.now) a.h a.b.now a.f.now a.states.now).p (row c.before.before.before.before) a.k = let a = (entry c.before.before.before.before).args in
+    c.cell.ensures ∙ ap (λ (fs : List ℤ). cond (flagged a.flags.now a.k && kept a.states.now (row c.before.before.before.before)) (p_of fs (border_of (get_or a.b.now a.k []))) 0) c.row_factors-factors.ensures in
+    looked_more _ _ _ c.loop-i.invariant (omega arith) (le-ltb _ _ (subst (λ (v : ℕ). v ≤ 0) (cell_is) c.if-cell-gt0.false))
 
 pub returns : goal.returns
 unfolding given

@@ -18,7 +18,7 @@ some-row c = sym c.some_kept.ensures ∙ not-false _ c.if-not-some_kept.false-ra
 
 pub returns-then-not-some_kept : goal.returns-then-not-some_kept
 unfolding grid_of grid_by setup_with
-returns-then-not-some_kept c = ap refused c.no_row.ensures ∙ none_kept _ _ _ _ _ _ c.requires.states_len.0 (sym c.some_kept.ensures ∙ not-true _ c.if-not-some_kept.true)
+returns-then-not-some_kept c = ap refused c.no_row.ensures ∙ none_kept _ _ _ _ _ _ c.requires.states_len.0 (sym c.some_kept.ensures ∙ not-true _ c.if-not-some_kept.true-raw)
 
 pub first_unlimited-requires : goal.first_unlimited-requires
 first_unlimited-requires c = record { table_factors_in_range = c.requires.table_factors_in_range; borders_in_range = c.requires.borders_in_range; b_len = c.requires.b_len; states_len = c.requires.states_len.0 }

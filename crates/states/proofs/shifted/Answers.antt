@@ -17,11 +17,6 @@ use Rattle.states.proofs.shifted.Goals as goal
 abbrev other : (fs gs : List ℤ) → (z : ℕ) → Bool
 other fs gs z = not (same_ℤ (at_ℤ fs z -ℤ at_ℤ gs z) (at_ℤ fs 0 -ℤ at_ℤ gs 0))
 
-fact : (c : goal.After-same) → not c.same.result ≡ other (start c.before).args.fs.now (start c.before).args.gs.now (z c.before)
-fact c = let s = start c.before in
-    let h = s.pre.0.some in
-    ap not (simp (to_z-of_z, f-fits s (z c.before) (below c.before), g-fits s (z c.before) (below c.before), d-fits s (z c.before) (below c.before), f-fits s 0 h, g-fits s 0 h, d-fits s 0 h) at c.same.ensures)
-
 pub bounds-fs-0 : goal.bounds-fs-0
 bounds-fs-0 c = c.requires.factors_in_range.some
 
@@ -42,10 +37,16 @@ overflow_sub-f c = let s = start c in simp (to_z-of_z, f-fits s (z c) (below c),
 
 pub returns-then-not-same : goal.returns-then-not-same
 unfolding shifted given
-returns-then-not-same c = ap (λ (o : Option ℕ). not (given o)) (looked_here _ _ _ c.loop-z.invariant (below c.before.before) (sym (fact c.before) ∙ c.if-not-same.true))
+returns-then-not-same c = let fact : not c.same.result ≡ other (start c.before).args.fs.now (start c.before).args.gs.now (z c.before) = let s = start c.before in
+    let h = s.pre.0.some in
+    ap not (simp (to_z-of_z, f-fits s (z c.before) (below c.before), g-fits s (z c.before) (below c.before), d-fits s (z c.before) (below c.before), f-fits s 0 h, g-fits s 0 h, d-fits s 0 h) at c.same.ensures) in
+    ap (λ (o : Option ℕ). not (given o)) (looked_here _ _ _ c.loop-z.invariant (below c.before.before) (sym (fact) ∙ c.if-not-same.true-raw))
 
 pub loop-z-preserved : goal.loop-z-preserved
-loop-z-preserved c = looked_more _ _ _ c.loop-z.invariant (below c.before.before) (sym (fact c.before) ∙ c.if-not-same.false-raw)
+loop-z-preserved c = let fact : not c.same.result ≡ other (start c.before).args.fs.now (start c.before).args.gs.now (z c.before) = let s = start c.before in
+    let h = s.pre.0.some in
+    ap not (simp (to_z-of_z, f-fits s (z c.before) (below c.before), g-fits s (z c.before) (below c.before), d-fits s (z c.before) (below c.before), f-fits s 0 h, g-fits s 0 h, d-fits s 0 h) at c.same.ensures) in
+    looked_more _ _ _ c.loop-z.invariant (below c.before.before) (sym (fact) ∙ c.if-not-same.false-raw)
 
 pub returns : goal.returns
 unfolding shifted given

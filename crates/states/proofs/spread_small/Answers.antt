@@ -26,8 +26,8 @@ loop-z-init c = let small = f-in c.before 0 c.requires.some in
 
 pub loop-z-preserved : goal.loop-z-preserved
 loop-z-preserved c = let h : c.loop-z.z < length c.args.factors.now = omega arith in
-    let k : SFits w64 c.larger-high.result = sfits_of c.larger-high.type-inv in
-    let k2 : SFits w64 c.smaller-low.result = sfits_of c.smaller-low.type-inv in
+    let k : SFits w64 c.larger-high.result = sfits_of c.larger-high.type_inv in
+    let k2 : SFits w64 c.smaller-low.result = sfits_of c.smaller-low.type_inv in
     let e : c.larger-high.result ≡ max_ℤ (to_z w64 c.loop-z.high-bits) (at_ℤ c.args.factors.now c.loop-z.z) = simp (to_z-of_z, f-fits c.before.before.before.before.before.before c.loop-z.z h) at c.larger-high.ensures in
     let e2 : c.smaller-low.result ≡ min_ℤ (to_z w64 c.loop-z.low-bits) (at_ℤ c.args.factors.now c.loop-z.z) = simp (to_z-of_z, f-fits c.before.before.before.before.before.before c.loop-z.z h) at c.smaller-low.ensures in
     simp (to_z-of_z, k, k2)

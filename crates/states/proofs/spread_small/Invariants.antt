@@ -2,12 +2,10 @@
 -- the factors from z on is the smallest of all. The measure is the factors that are left.
 use Prim.Native.Nat.{◌-◌}
 use lib.ListN.{length}
-use mir.Syntax.{w64}
-use mir.Val.{to_z}
 use Rattle.states.proofs.spread_small.Given as goal
 
 abbrev pub invariant-loop-z : goal.invariant-loop-z
-invariant-loop-z l = Head l.factors (to_z w64 l.high) (to_z w64 l.low) l.z
+invariant-loop-z l = Head l.factors (l.high) (l.low) l.z
 
 abbrev pub decreases-loop-z : goal.decreases-loop-z
 decreases-loop-z l = length l.factors - l.z

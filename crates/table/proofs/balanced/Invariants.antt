@@ -2,14 +2,12 @@
 use mathlib.Core.Path.{◌≡◌}
 use Prim.Native.Nat.{◌-◌, ◌≤◌}
 use lib.ListN.{length}
-use mir.Syntax.{w64}
-use mir.Val.{to_z}
 use Rattle.numbers.specs.Ints.{sum_ℤ}
 use Rattle.types.specs.Ranges.{at_ℤ}
 use Rattle.table.proofs.balanced.Given as goal
 
 abbrev pub invariant-loop-i : goal.invariant-loop-i
-invariant-loop-i l = (l.i ≤ length l.t) × (to_z w64 l.sum ≡ sum_ℤ l.i (at_ℤ l.t))
+invariant-loop-i l = (l.i ≤ length l.t) × (l.sum ≡ sum_ℤ l.i (at_ℤ l.t))
 
 abbrev pub decreases-loop-i : goal.decreases-loop-i
 decreases-loop-i l = length l.t - l.i

@@ -1,5 +1,6 @@
 -- `table::first_border_out` meets its contract: no border before i is out of range.
 use mathlib.Core.Bool.{not}
+use mathlib.Core.List.{[]}
 use lib.ListN.{length, get_or}
 use Rattle.numbers.proofs.BelowLaws.{Looked}
 use Rattle.types.specs.Ranges.{border_fits}

@@ -1,5 +1,6 @@
 -- `table::first_row_out` meets its contract: no row before i is out of range.
 use mathlib.Core.Bool.{not}
+use mathlib.Core.List.{[]}
 use lib.ListN.{length, get_or}
 use Rattle.numbers.proofs.BelowLaws.{Looked}
 use Rattle.tablerules.specs.Table.{row_good, stretch}

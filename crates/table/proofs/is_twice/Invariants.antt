@@ -1,5 +1,6 @@
 -- `table::is_twice` meets its contract. The invariant: no border before e has the same ends. A turn is `looked-more`.
 use Prim.Native.Nat.{◌-◌}
+use mathlib.Core.List.{[]}
 use lib.ListN.{get_or}
 use Rattle.numbers.proofs.BelowLaws.{Looked}
 use Rattle.tablerules.specs.Table.{same_ends}

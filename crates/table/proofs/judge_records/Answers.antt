@@ -1,6 +1,5 @@
 -- `table::judge_records` meets its contract: each search is a link of the definition's chain, and the first that found something decides.
 use mathlib.Core.Path.{◌≡◌, sym, ap, ◌∙◌}
-use mathlib.Core.Bool.{true}
 use Prim.Native.Nat.{ℕ, ◌+◌}
 use native.Mathlib.Omega.{arith}
 use borrow.Author.Tests.{not-true}
@@ -52,7 +51,7 @@ overflow_add-zones-then-not-balanced c = let start = entry-zones (told c.before.
 pub returns-then-not-balanced : goal.returns-then-not-balanced
 returns-then-not-balanced c = let start = entry-zones (told c.before.before.before) in
     ap refused (c.out_of_range-then-not-balanced.ensures ∙ ap (λ (n : ℕ). out_of_range (header_line_no + start.args.h.zones + n)) (items-is (told c.before.before.before).before.before.before.before))
-    ∙ balance_refused _ start.pre (zones-good (told c.before.before.before)) (allocated-good c.before.before.before) (sym c.balanced.ensures ∙ not-true _ c.if-not-balanced.true)
+    ∙ balance_refused _ start.pre (zones-good (told c.before.before.before)) (allocated-good c.before.before.before) (sym c.balanced.ensures ∙ not-true _ c.if-not-balanced.true-raw)
 
 pub overflow_add-first_border-in-At-first_border_out : goal.overflow_add-first_border-in-At-first_border_out
 overflow_add-first_border-in-At-first_border_out c = let start = entry c.before.before.before in

@@ -6,7 +6,7 @@ use Rattle.tablerules.proofs.JudgeLaws.{header_refused, shape_said}
 use Rattle.table.proofs.judge_shape.Goals as goal
 
 pub returns-then-not-fits : goal.returns-then-not-fits
-returns-then-not-fits c = ap refused c.out_of_range.ensures ∙ header_refused _ (sym c.fits.ensures ∙ not-true _ c.if-not-fits.true)
+returns-then-not-fits c = ap refused c.out_of_range.ensures ∙ header_refused _ (sym c.fits.ensures ∙ not-true _ c.if-not-fits.true-raw)
 
 pub judge_room-requires : goal.judge_room-requires
 judge_room-requires c = sym c.fits.ensures ∙ not-false _ c.if-not-fits.false-raw

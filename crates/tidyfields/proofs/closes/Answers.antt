@@ -8,7 +8,7 @@ pub returns-then-f-i-eq34 : goal.returns-then-f-i-eq34
 returns-then-f-i-eq34 c = closes_here c.args.f.now c.loop-i.i c.loop-i-test.true c.if-f-i-eq34.true ∙ c.loop-i.invariant
 
 pub returns-then-not-between : goal.returns-then-not-between
-returns-then-not-between c = closes_bad c.args.f.now c.loop-i.i c.loop-i-test.true c.if-f-i-eq34.false (sym c.between.ensures ∙ not-true c.between.result c.if-not-between.true) ∙ c.loop-i.invariant
+returns-then-not-between c = closes_bad c.args.f.now c.loop-i.i c.loop-i-test.true c.if-f-i-eq34.false (sym c.between.ensures ∙ not-true c.between.result c.if-not-between.true-raw) ∙ c.loop-i.invariant
 
 pub loop-i-preserved : goal.loop-i-preserved
 loop-i-preserved c = sym (closes_step c.args.f.now c.loop-i.i c.loop-i-test.true c.if-f-i-eq34.false (sym c.between.ensures ∙ not-false c.between.result c.if-not-between.false-raw)) ∙ c.loop-i.invariant

@@ -8,7 +8,7 @@ use Rattle.tidyfields.proofs.decimals_behind.Goals as goal
 
 pub returns-then-not-some : goal.returns-then-not-some
 unfolding decimals_behind
-returns-then-not-some c = rw (not-true c.args.some c.if-not-some.true)
+returns-then-not-some c = rw (not-true c.args.some c.if-not-some.true-raw)
 
 pub returns-then-f-i-ne46 : goal.returns-then-f-i-ne46
 unfolding decimals_behind

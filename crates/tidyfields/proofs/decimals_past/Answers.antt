@@ -10,7 +10,7 @@ pub loop-i-init : goal.loop-i-init
 loop-i-init c = (omega arith, rw (le-ltb c.args.at c.args.at (omega arith)))
 
 pub returns-then-not-between : goal.returns-then-not-between
-returns-then-not-between c = c.decimals_behind.ensures ∙ past_stop c.args.f.now c.loop-i.i c.loop-i-test.true (ltb c.args.at c.loop-i.i) (sym c.between.ensures ∙ not-true c.between.result c.if-not-between.true) ∙ c.loop-i.invariant.1
+returns-then-not-between c = c.decimals_behind.ensures ∙ past_stop c.args.f.now c.loop-i.i c.loop-i-test.true (ltb c.args.at c.loop-i.i) (sym c.between.ensures ∙ not-true c.between.result c.if-not-between.true-raw) ∙ c.loop-i.invariant.1
 
 pub loop-i-preserved : goal.loop-i-preserved
 loop-i-preserved c = (omega arith, rw (lt-ltb c.args.at (c.loop-i.i + 1) (omega arith)) (sym (past_step c.args.f.now c.loop-i.i c.loop-i-test.true (ltb c.args.at c.loop-i.i) (sym c.between.ensures ∙ not-false c.between.result c.if-not-between.false-raw)) ∙ c.loop-i.invariant.1))

@@ -12,7 +12,7 @@ pub loop-e-init : goal.loop-e-init
 loop-e-init c = (omega arith, ap (untrailed c.args.last) (take-length c.args.f.now))
 
 pub returns-then-not-edge : goal.returns-then-not-edge
-returns-then-not-edge c = sym (end_keeps c.args.last c.args.f.now c.loop-e.e c.loop-e-test.true c.loop-e.invariant.0 (sym c.edge.ensures ∙ not-true c.edge.result c.if-not-edge.true)) ∙ ap length c.loop-e.invariant.1
+returns-then-not-edge c = sym (end_keeps c.args.last c.args.f.now c.loop-e.e c.loop-e-test.true c.loop-e.invariant.0 (sym c.edge.ensures ∙ not-true c.edge.result c.if-not-edge.true-raw)) ∙ ap length c.loop-e.invariant.1
 
 pub loop-e-preserved : goal.loop-e-preserved
 loop-e-preserved c = (omega arith, sym (end_drops c.args.last c.args.f.now c.loop-e.e c.loop-e-test.true c.loop-e.invariant.0 (sym c.edge.ensures ∙ not-false c.edge.result c.if-not-edge.false-raw)) ∙ c.loop-e.invariant.1)

@@ -4,7 +4,7 @@ use borrow.Author.Tests.{ne_eqb, lt-ltb, le-ltb, not-true, not-false}
 use Rattle.tidyfields.proofs.wanted.Goals as goal
 
 pub returns-then-not-row : goal.returns-then-not-row
-returns-then-not-row c = rw (not-true c.args.row c.if-not-row.true)
+returns-then-not-row c = rw (not-true c.args.row c.if-not-row.true-raw)
 
 pub returns-then-k-eq0 : goal.returns-then-k-eq0
 returns-then-k-eq0 c = rw (not-false c.args.row c.if-not-row.false-raw, c.if-k-eq0.true)

@@ -11,9 +11,6 @@ use Rattle.why.specs.Why.{Why, judged_left}
 use Rattle.why.proofs.WhyLaws.{left_refused, for_refused, for_no_border, for_passed, front_left}
 use Rattle.why.proofs.why_good.Goals as goal
 
-abbrev whole : goal.Start → Table
-whole s = front (lent s.args.h s.args.z.now s.args.t.now s.args.b.now s.args.c.now s.args.f.now)
-
 within : (c : goal.After-chosen-flags) → HeaderIn c.args.h
 within c = header_in_lem _ c.requires.good.exact.header
 
@@ -54,10 +51,12 @@ slice-aggregate-why-in-6 : goal.slice_bounds-why_in-end-7
 slice-aggregate-why-in-6 c = sym (length-take-le _ _ (slice-relend-prefix-why-in c.before))
 
 pub returns-in-Refused : goal.returns-in-Refused
-returns-in-Refused c = left_refused _ _ _ (for_refused c.args.all c.args.marks.now (whole c.before.before.before.before.before) c.args.border _ c.judge_asked.ensures c.in-Refused.is)
+returns-in-Refused c = let whole : Table = front (lent c.args.h c.args.z.now c.args.t.now c.args.b.now c.args.c.now c.args.f.now) in
+    left_refused _ _ _ (for_refused c.args.all c.args.marks.now (whole) c.args.border _ c.judge_asked.ensures c.in-Refused.is)
 
 pub returns-then-borders-border : goal.returns-then-borders-border
-returns-then-borders-border c = rw c.no_border.ensures (left_refused _ _ _ (for_no_border c.args.all c.args.marks.now (whole c.before.before.before.before.before.before) c.args.border _ c.judge_asked.ensures c.in_default.is c.if-borders-border.true))
+returns-then-borders-border c = let whole : Table = front (lent c.args.h c.args.z.now c.args.t.now c.args.b.now c.args.c.now c.args.f.now) in
+    rw c.no_border.ensures (left_refused _ _ _ (for_no_border c.args.all c.args.marks.now (whole) c.args.border _ c.judge_asked.ensures c.in_default.is c.if-borders-border.true))
 
 pub overflow_mul-cells : goal.overflow_mul-cells
 overflow_mul-cells c = omega (arith, mul-le-mul (within c).rows_most_lem (within c).borders_most_lem)
@@ -102,6 +101,7 @@ pub why_in-requires : goal.why_in-requires
 why_in-requires c = record { good = c.requires.good; flags_len = (sym (slice-aggregate-why-in c.before.before.before.before.before.before.before), c.if-borders-border.false); rams_len = (sym (slice-aggregate-why-in-2 c.before.before.before.before.before.before), sym (slice-aggregate-why-in-3 c.before.before.before.before.before)); states_len = (sym (slice-aggregate-why-in-4 c.before.before.before.before), sym (slice-aggregate-why-in-5 c.before.before.before)); p_len = sym (slice-aggregate-why-in-6 c.before.before) }
 
 pub returns : goal.returns
-returns c = front_left _ _ _ _ refl c.args.p.now c.requires.borders_in_bounds _ _ c.why_in.ensures
+returns c = let whole : Table = front (lent c.args.h c.args.z.now c.args.t.now c.args.b.now c.args.c.now c.args.f.now) in
+    front_left _ _ _ _ refl c.args.p.now c.requires.borders_in_bounds _ _ c.why_in.ensures
     ∙ ap (λ (j : Judged Why). judged_left j c.args.p.now c.args.ends.now c.args.rows.now)
-    (for_passed c.args.all c.args.marks.now (whole c.before.before.before.before.before.before.before.before.before.before.before.before.before.before.before.before.before.before.before.before.before.before.before) c.args.border _ c.judge_asked.ensures c.in_default.is c.if-borders-border.false (within c.before.before.before.before.before.before.before.before.before.before.before.before.before.before.before.before.before).borders_most_lem c.chosen-flags.ensures)
+    (for_passed c.args.all c.args.marks.now (whole) c.args.border _ c.judge_asked.ensures c.in_default.is c.if-borders-border.false (within c.before.before.before.before.before.before.before.before.before.before.before.before.before.before.before.before.before).borders_most_lem c.chosen-flags.ensures)

@@ -20,29 +20,28 @@ use Rattle.extractrules.proofs.ExtractLaws as extraction
 use Rattle.why.proofs.WhyLaws.{stored_is, left_refused, start_refused, short_ends, short_rows, all_stored}
 use Rattle.why.proofs.why_in.Goals as goal
 
-abbrev whole : goal.Start → Table
-whole s = front (lent s.args.h s.args.z.now s.args.t.now s.args.b.now s.args.c.now s.args.f.now)
-
-abbrev marked : goal.Start → ℕ → Bool
-marked s = flagged s.args.flags.now
-
-as_said : (c : goal.After-prepare) → PreparedAs (marked c.before.before.before.before.before.before.before.before) (whole c.before.before.before.before.before.before.before.before) c.prepare.result c.prepare.new.rams c.prepare.new.starts c.prepare.new.states
-as_said c = prepared_as c.prepare.result c.prepare.ensures
-
-passes : (c : goal.In_default) → judge_marked (marked c.before.before.before.before.before.before.before.before.before.before.before.before.before) (whole c.before.before.before.before.before.before.before.before.before.before.before.before.before) ≡ passed (standings_of (whole c.before.before.before.before.before.before.before.before.before.before.before.before.before)).states
-passes c = extraction.start_passed (as_said c.before.before.before.before.before) c.in_default.is
-
 pub prepare-requires : goal.prepare-requires
 prepare-requires c = record { good = c.requires.good; flags_len = c.requires.flags_len.0; rams_len = c.requires.rams_len; states_len = c.requires.states_len.0 }
 
 pub returns-in-Refused : goal.returns-in-Refused
-returns-in-Refused c = left_refused _ _ _ (start_refused (marked c.before.before.before.before.before.before.before.before.before.before.before.before.before.before) (whole c.before.before.before.before.before.before.before.before.before.before.before.before.before.before) c.args.border (extraction.start_turned (as_said c.before.before.before.before.before.before) c.in-Refused.is))
+returns-in-Refused c = let whole : Table = front (lent c.args.h c.args.z.now c.args.t.now c.args.b.now c.args.c.now c.args.f.now) in
+    let marked : ℕ → Bool = flagged c.args.flags.now in
+    let as_said : PreparedAs (marked) (whole) c.prepare.result c.prepare.new.rams c.prepare.new.starts c.prepare.new.states = prepared_as c.prepare.result c.prepare.ensures in
+    left_refused _ _ _ (start_refused (marked) (whole) c.args.border (extraction.start_turned (as_said) c.in-Refused.is))
 
 pub returns-then-ends-h : goal.returns-then-ends-h
-returns-then-ends-h c = rw c.too_short.ensures (short_ends (marked c.before.before.before.before.before.before.before.before.before.before.before.before.before.before.before.before) (whole c.before.before.before.before.before.before.before.before.before.before.before.before.before.before.before.before) c.args.border _ _ _ (passes c.before.before.before) c.if-ends-h.true)
+returns-then-ends-h c = let whole : Table = front (lent c.args.h c.args.z.now c.args.t.now c.args.b.now c.args.c.now c.args.f.now) in
+    let marked : ℕ → Bool = flagged c.args.flags.now in
+    let as_said : PreparedAs (marked) (whole) c.prepare.result c.prepare.new.rams c.prepare.new.starts c.prepare.new.states = prepared_as c.prepare.result c.prepare.ensures in
+    let passes : judge_marked (marked) (whole) ≡ passed (standings_of (whole)).states = extraction.start_passed (as_said) c.in_default.is in
+    rw c.too_short.ensures (short_ends (marked) (whole) c.args.border _ _ _ (passes) c.if-ends-h.true)
 
 pub returns-then-rows-h : goal.returns-then-rows-h
-returns-then-rows-h c = rw c.too_short-then-rows-h.ensures (short_rows (marked c.before.before.before.before.before.before.before.before.before.before.before.before.before.before.before.before.before.before) (whole c.before.before.before.before.before.before.before.before.before.before.before.before.before.before.before.before.before.before) c.args.border _ _ _ (passes c.before.before.before.before.before) c.if-ends-h.false c.if-rows-h.true)
+returns-then-rows-h c = let whole : Table = front (lent c.args.h c.args.z.now c.args.t.now c.args.b.now c.args.c.now c.args.f.now) in
+    let marked : ℕ → Bool = flagged c.args.flags.now in
+    let as_said : PreparedAs (marked) (whole) c.prepare.result c.prepare.new.rams c.prepare.new.starts c.prepare.new.states = prepared_as c.prepare.result c.prepare.ensures in
+    let passes : judge_marked (marked) (whole) ≡ passed (standings_of (whole)).states = extraction.start_passed (as_said) c.in_default.is in
+    rw c.too_short-then-rows-h.ensures (short_rows (marked) (whole) c.args.border _ _ _ (passes) c.if-ends-h.false c.if-rows-h.true)
 
 pub slice_bounds-given-end : goal.slice_bounds-given-end
 slice_bounds-given-end c = sym c.requires.good.exact.borders_long
@@ -54,14 +53,23 @@ pub slice_bounds-factors-end : goal.slice_bounds-factors-end
 slice_bounds-factors-end c = sym c.requires.good.exact.factors_long
 
 pub lay_out-requires : goal.lay_out-requires
-lay_out-requires c = let said = as_said c.before.before.before.before.before.before.before.before.before.before.before.before.before.before.before.before in record { table_factors_in_range = good_factors c.requires.good; borders_in_range = good_borders c.requires.good; b_len = (c.requires.good.exact.borders_long, c.requires.flags_len.0); starts_len = (ap length said.starts_are ∙ table_long _ _, (rows_in_lem _ _ said.rows).states_long); p_len = (c.requires.p_len, c.requires.states_len.1) }
+lay_out-requires c = let whole : Table = front (lent c.args.h c.args.z.now c.args.t.now c.args.b.now c.args.c.now c.args.f.now) in
+    let marked : ℕ → Bool = flagged c.args.flags.now in
+    let as_said : PreparedAs (marked) (whole) c.prepare.result c.prepare.new.rams c.prepare.new.starts c.prepare.new.states = prepared_as c.prepare.result c.prepare.ensures in
+    let said = as_said in record { table_factors_in_range = good_factors c.requires.good; borders_in_range = good_borders c.requires.good; b_len = (c.requires.good.exact.borders_long, c.requires.flags_len.0); starts_len = (ap length said.starts_are ∙ table_long _ _, (rows_in_lem _ _ said.rows).states_long); p_len = (c.requires.p_len, c.requires.states_len.1) }
 
 pub explain-reasons-requires : goal.explain-reasons-requires
-explain-reasons-requires c = let said = as_said c.before.before.before.before.before.before.before.before.before.before.before.before.before.before.before.before.before.before.before.before.before.before.before.before.before.before in
-    let t = whole c in record { runnable = (finishable (marked c) c.requires.good said.rows (laid_grid (marked c) t said.rows c.lay_out.ensures.0) (laid_margins t said.rows said.starts_are c.lay_out.ensures.1)).run; states_len = ((rows_in_lem _ _ said.rows).states_long, c.requires.flags_len.1); borders_in_bounds = (c.if-ends-h.false, c.if-rows-h.false) }
+explain-reasons-requires c = let whole : Table = front (lent c.args.h c.args.z.now c.args.t.now c.args.b.now c.args.c.now c.args.f.now) in
+    let marked : ℕ → Bool = flagged c.args.flags.now in
+    let as_said : PreparedAs (marked) (whole) c.prepare.result c.prepare.new.rams c.prepare.new.starts c.prepare.new.states = prepared_as c.prepare.result c.prepare.ensures in
+    let said = as_said in
+    let t = whole in record { runnable = (finishable (marked) c.requires.good said.rows (laid_grid (marked) t said.rows c.lay_out.ensures.0) (laid_margins t said.rows said.starts_are c.lay_out.ensures.1)).run; states_len = ((rows_in_lem _ _ said.rows).states_long, c.requires.flags_len.1); borders_in_bounds = (c.if-ends-h.false, c.if-rows-h.false) }
 
 pub complete-requires : goal.complete-requires
-complete-requires c = record { table_factors_in_range = good_factors c.requires.good; borders_in_range = good_borders c.requires.good; b_len = (c.requires.good.exact.borders_long, c.requires.flags_len.0); states_len = (rows_in_lem _ _ (as_said c.before.before.before.before.before.before.before.before.before.before.before.before.before.before.before.before.before.before.before.before.before.before.before.before.before.before.before.before.before.before.before.before.before).rows).states_long; borders_le_borders_most = (header_in_lem _ c.requires.good.exact.header).borders_most_lem; p_value = c.lay_out.ensures.0 }
+complete-requires c = let whole : Table = front (lent c.args.h c.args.z.now c.args.t.now c.args.b.now c.args.c.now c.args.f.now) in
+    let marked : ℕ → Bool = flagged c.args.flags.now in
+    let as_said : PreparedAs (marked) (whole) c.prepare.result c.prepare.new.rams c.prepare.new.starts c.prepare.new.states = prepared_as c.prepare.result c.prepare.ensures in
+    record { table_factors_in_range = good_factors c.requires.good; borders_in_range = good_borders c.requires.good; b_len = (c.requires.good.exact.borders_long, c.requires.flags_len.0); states_len = (rows_in_lem _ _ (as_said).rows).states_long; borders_le_borders_most = (header_in_lem _ c.requires.good.exact.header).borders_most_lem; p_value = c.lay_out.ensures.0 }
 
 pub shape_of-rams : goal.shape_of-rams
 shape_of-rams c = c.prepare.auto.rams
@@ -85,8 +93,12 @@ pub shape_of-rows : goal.shape_of-rows
 shape_of-rows c = c.explain-reasons.auto.out
 
 pub returns : goal.returns
-returns c = let said = as_said c.before.before.before.before.before.before.before.before.before.before.before.before.before.before.before.before.before.before.before.before.before.before.before.before.before.before.before.before.before.before.before.before.before.before.before.before in
-    let t = whole c in
-    stored_is (marked c) c.requires.good said.rows (laid_grid (marked c) t said.rows c.lay_out.ensures.0) (laid_margins t said.rows said.starts_are c.lay_out.ensures.1) c.args.border c.requires.flags_len.1
+returns c = let whole : Table = front (lent c.args.h c.args.z.now c.args.t.now c.args.b.now c.args.c.now c.args.f.now) in
+    let marked : ℕ → Bool = flagged c.args.flags.now in
+    let as_said : PreparedAs (marked) (whole) c.prepare.result c.prepare.new.rams c.prepare.new.starts c.prepare.new.states = prepared_as c.prepare.result c.prepare.ensures in
+    let passes : judge_marked (marked) (whole) ≡ passed (standings_of (whole)).states = extraction.start_passed (as_said) c.in_default.is in
+    let said = as_said in
+    let t = whole in
+    stored_is (marked) c.requires.good said.rows (laid_grid (marked) t said.rows c.lay_out.ensures.0) (laid_margins t said.rows said.starts_are c.lay_out.ensures.1) c.args.border c.requires.flags_len.1
     c.args.p.now c.requires.p_len _ _ _ c.explain-reasons.ensures (laid_grid every t said.rows c.complete.ensures)
-    ∙ all_stored (marked c) t c.args.border c.args.p.now _ _ (passes c.before.before.before.before.before.before.before.before.before.before.before.before.before.before.before.before.before.before.before.before.before.before.before.before.before.before.before.before.before.before) c.if-ends-h.false c.if-rows-h.false
+    ∙ all_stored (marked) t c.args.border c.args.p.now _ _ (passes) c.if-ends-h.false c.if-rows-h.false

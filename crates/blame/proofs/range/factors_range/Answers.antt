@@ -17,7 +17,7 @@ overflow_add-k c = omega (arith, c.requires)
 pub returns-then-not-factor_fits : goal.returns-then-not-factor_fits
 returns-then-not-factor_fits c = let fits = c.factor_fits.ensures ∙ ap factor_fits (plain _ c.factor_fits-arg-1.given) in
     c.field_first.ensures
-    ∙ tested_here _ _ _ _ _ c.loop-j.invariant false (omega (arith, tests_length c.args.f.now)) (test_at c.args.f.now c.loop-j.j c.loop-j-test.true false ∙ sym fits ∙ not-true _ c.if-not-factor_fits.true)
+    ∙ tested_here _ _ _ _ _ c.loop-j.invariant false (omega (arith, tests_length c.args.f.now)) (test_at c.args.f.now c.loop-j.j c.loop-j-test.true false ∙ sym fits ∙ not-true _ c.if-not-factor_fits.true-raw)
 
 pub loop-j-preserved : goal.loop-j-preserved
 loop-j-preserved c = let fits = c.factor_fits.ensures ∙ ap factor_fits (plain _ c.factor_fits-arg-1.given) in

@@ -11,7 +11,7 @@ pub overflow_add-k : goal.overflow_add-k
 overflow_add-k c = omega (arith, c.requires)
 
 pub returns-then-not-tests-j : goal.returns-then-not-tests-j
-returns-then-not-tests-j c = c.field_first.ensures ∙ tested_here _ _ _ _ _ c.loop-j.invariant _ c.loop-j-test.true (not-true _ c.if-not-tests-j.true)
+returns-then-not-tests-j c = c.field_first.ensures ∙ tested_here _ _ _ _ _ c.loop-j.invariant _ c.loop-j-test.true (not-true _ c.if-not-tests-j.true-raw)
 
 pub loop-j-preserved : goal.loop-j-preserved
 loop-j-preserved c = tested_more _ _ _ _ _ c.loop-j.invariant _ c.loop-j-test.true (not-false _ c.if-not-tests-j.false-raw)

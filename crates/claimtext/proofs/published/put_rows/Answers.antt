@@ -10,22 +10,21 @@ use Rattle.claimtext.specs.Published.{published_line, published_text}
 use Rattle.claims.specs.Unflagged.{unflagged}
 use Rattle.claimtext.proofs.published.put_rows.Goals as goal
 
-abbrev line : goal.Start → (row : ℕ) → List ℕ
-line s = published_line (standings_with s.args.rams.now s.args.states.now) (unflagged s.args.states.now s.args.named.now)
-
 all : (c : goal.After-loop-i) → Put (published_text (standings_with c.args.rams.now c.args.states.now) (unflagged c.args.states.now c.args.named.now)) 0 c.args.out.now c.loop-i.next c.loop-i.new
 unfolding published_text
-all c = lines_all_lem (line c.before.before.before.before.before) c.loop-i.invariant.0 (omega arith) c.loop-i.invariant.1
+all c = lines_all_lem (line) c.loop-i.invariant.0 (omega arith) c.loop-i.invariant.1
 
 pub loop-i-init : goal.loop-i-init
 loop-i-init c = (omega arith, lines_none _ _ _)
 
 pub put_line-next-requires : goal.put_line-next-requires
 unfolding published_text
-put_line-next-requires c = record { rams_len = (c.requires.rams_len.0, c.requires.rams_len.1, omega arith); row_in_bounds = lines_room (line c.before.before.before.before.before.before) c.loop-i.i (length c.args.states.now) {at = 0} {out = c.args.out.now} (omega arith) (rw zero-add c.requires.named_in_bounds) c.loop-i.invariant.1 }
+put_line-next-requires c = let line : (row : ℕ) → List ℕ = published_line (standings_with c.args.rams.now c.args.states.now) (unflagged c.args.states.now c.args.named.now) in
+    record { rams_len = (c.requires.rams_len.0, c.requires.rams_len.1, omega arith); row_in_bounds = lines_room (line) c.loop-i.i (length c.args.states.now) {at = 0} {out = c.args.out.now} (omega arith) (rw zero-add c.requires.named_in_bounds) c.loop-i.invariant.1 }
 
 pub loop-i-preserved : goal.loop-i-preserved
-loop-i-preserved c = (omega arith, lines_more (line c.before.before.before.before.before.before.before.before.before) (omega arith) c.loop-i.invariant.1 c.put_line-next.ensures)
+loop-i-preserved c = let line : (row : ℕ) → List ℕ = published_line (standings_with c.args.rams.now c.args.states.now) (unflagged c.args.states.now c.args.named.now) in
+    (omega arith, lines_more (line) (omega arith) c.loop-i.invariant.1 c.put_line-next.ensures)
 
 pub shape_of-out : goal.shape_of-out
 shape_of-out c = put_kept (all c) (rw zero-add c.requires.named_in_bounds)

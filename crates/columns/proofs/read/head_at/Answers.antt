@@ -10,10 +10,10 @@ told : (s : goal.Start) (h : Head) → s.args.head ≡ h → head_at s.args.sep 
 told s h e = ap (λ (x : Head). head_at s.args.sep x s.args.line.now) (sym e)
 
 pub returns-then-not-headed : goal.returns-then-not-headed
-returns-then-not-headed c = head_bad _ _ _ (sym c.headed.ensures ∙ not-true _ c.if-not-headed.true) ∙ told c.before.before.before.before.before _ c.in-Lettered.is
+returns-then-not-headed c = head_bad _ _ _ (sym c.headed.ensures ∙ not-true _ c.if-not-headed.true-raw) ∙ told c.before.before.before.before.before _ c.in-Lettered.is
 
 pub returns-then-not-headed-2 : goal.returns-then-not-headed-2
-returns-then-not-headed-2 c = head_bad _ _ _ (sym c.headed-in-Indexed.ensures ∙ not-true _ c.if-not-headed-2.true) ∙ told c.before.before.before.before.before _ c.in-Indexed.is
+returns-then-not-headed-2 c = head_bad _ _ _ (sym c.headed-in-Indexed.ensures ∙ not-true _ c.if-not-headed-2.true-raw) ∙ told c.before.before.before.before.before _ c.in-Indexed.is
 
 pub returns-else-not-headed : goal.returns-else-not-headed
 returns-else-not-headed c = head_goes _ _ _ (sym c.headed.ensures ∙ not-false _ c.if-not-headed.false-raw) ∙ told c.before.before.before.before.before _ c.in-Lettered.is

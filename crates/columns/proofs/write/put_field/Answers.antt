@@ -1,5 +1,5 @@
 -- `columns::write::put_field` meets its contract.
-use mathlib.Core.List.{◌∷◌}
+use mathlib.Core.List.{[], ◌∷◌}
 use native.Mathlib.Omega.{arith}
 use lib.ListN.{length-append}
 use mir.Facts.{to_z-of_z}

@@ -9,9 +9,6 @@ use Rattle.columns.specs.ColumnText.{field_text}
 use Rattle.columns.proofs.ColumnPut.{value_share, value_power, value_flow, value_factor, value_plain}
 use Rattle.columns.proofs.write.put_value.Goals as goal
 
-plain : (c : goal.In_default) → field_text (column_of c.args.column) c.args.z ≡ decimal_ℤ c.args.z
-plain c = value_plain c.args.column c.args.z c.in_default.in_default-own.rest.0.0.0.1 c.in_default.in_default-own.rest.0.0.1 c.in_default.in_default-own.rest.0.1 c.in_default.in_default-own.rest.1
-
 pub put_share-requires : goal.put_share-requires
 put_share-requires c = simp (to_z-of_z, c.ranges.z) (omega (arith, c.requires, ap length (value_share c.args.column c.args.z c.in-114.is)))
 
@@ -25,7 +22,8 @@ pub put_signed_point-requires-in-102 : goal.put_signed_point-requires-in-102
 put_signed_point-requires-in-102 c = simp (to_z-of_z, c.ranges.z) (omega (arith, c.requires, ap length (value_factor c.args.column c.args.z c.in-102.is)))
 
 pub put_signed-requires : goal.put_signed-requires
-put_signed-requires c = simp (to_z-of_z, c.ranges.z) (omega (arith, c.requires, ap length (plain c.before)))
+put_signed-requires c = let plain : field_text (column_of c.args.column) c.args.z ≡ decimal_ℤ c.args.z = value_plain c.args.column c.args.z c.in_default.in_default-own.rest.0.0.0.1 c.in_default.in_default-own.rest.0.0.1 c.in_default.in_default-own.rest.0.1 c.in_default.in_default-own.rest.1 in
+    simp (to_z-of_z, c.ranges.z) (omega (arith, c.requires, ap length (plain)))
 
 pub returns-in-114 : goal.returns-in-114
 returns-in-114 c = rw (value_share c.args.column c.args.z c.in-114.is) (simp (to_z-of_z, c.ranges.z) at c.put_share.ensures)
@@ -40,4 +38,5 @@ pub returns-in-102 : goal.returns-in-102
 returns-in-102 c = rw (value_factor c.args.column c.args.z c.in-102.is) (simp (to_z-of_z, c.ranges.z) at c.put_signed_point-in-102.ensures)
 
 pub returns-in_default : goal.returns-in_default
-returns-in_default c = rw (plain c.before.before.before.before) (simp (to_z-of_z, c.ranges.z) at c.put_signed.ensures)
+returns-in_default c = let plain : field_text (column_of c.args.column) c.args.z ≡ decimal_ℤ c.args.z = value_plain c.args.column c.args.z c.in_default.in_default-own.rest.0.0.0.1 c.in_default.in_default-own.rest.0.0.1 c.in_default.in_default-own.rest.0.1 c.in_default.in_default-own.rest.1 in
+    rw (plain) (simp (to_z-of_z, c.ranges.z) at c.put_signed.ensures)

@@ -6,13 +6,12 @@ use Rattle.corrections.specs.Corrections.{index_place, given_index}
 use Rattle.corrections.proofs.judged.given_index.Given as x
 use Rattle.corrections.proofs.judged.given_index.Goals as goal
 
-field : (c : goal.After-index_at) → c.index_at.result ≡ number_at c.args.line.now (index_place c.args.kind) (sep_by c.args.kind)
-field c = c.index_at.ensures ∙ ap (number_at c.args.line.now (index_place c.args.kind)) c.sep_of.ensures
-
 pub returns-in-Value : goal.returns-in-Value
 unfolding given_index
-returns-in-Value c = rw (sym (field c.before.before) ∙ c.in-Value.is)
+returns-in-Value c = let field : c.index_at.result ≡ number_at c.args.line.now (index_place c.args.kind) (sep_by c.args.kind) = c.index_at.ensures ∙ ap (number_at c.args.line.now (index_place c.args.kind)) c.sep_of.ensures in
+    rw (sym (field) ∙ c.in-Value.is)
 
 pub returns-in-Bad : goal.returns-in-Bad
 unfolding given_index
-returns-in-Bad c = rw (sym (field c.before.before) ∙ c.in-Bad.is) c.ended_index.ensures
+returns-in-Bad c = let field : c.index_at.result ≡ number_at c.args.line.now (index_place c.args.kind) (sep_by c.args.kind) = c.index_at.ensures ∙ ap (number_at c.args.line.now (index_place c.args.kind)) c.sep_of.ensures in
+    rw (sym (field) ∙ c.in-Bad.is) c.ended_index.ensures

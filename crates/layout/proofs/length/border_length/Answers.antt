@@ -11,7 +11,7 @@ use borrow.Author.Rules.{rules}
 use Rattle.layout.proofs.length.border_length.Goals as goal
 
 pub optional_length-requires : goal.optional_length-requires
-optional_length-requires c = (omega arith, search rules, omega (arith, line_long tab (Indexed (code "B") c.args.i) (written_by border_columns hub_columns c.args.t2) c.args.t2, c.requires))
+optional_length-requires c = (omega arith, search rules, omega (arith, line_long tab (Indexed (code "B") c.args.i) (written_by border_columns hub_columns c.args.raw) c.args.raw, c.requires))
 
 pub returns : goal.returns
-returns c = c.optional_length.ensures ∙ sym (line_long tab (Indexed (code "B") c.args.i) (written_by border_columns hub_columns c.args.t2) c.args.t2)
+returns c = c.optional_length.ensures ∙ sym (line_long tab (Indexed (code "B") c.args.i) (written_by border_columns hub_columns c.args.raw) c.args.raw)

@@ -1,6 +1,6 @@
 -- `layout::length::zone_length` meets its contract.
 use mathlib.Core.Path.{refl, sym, ◌∙◌}
-use mathlib.Core.List.{◌∷◌}
+use mathlib.Core.List.{[], ◌∷◌}
 use Prim.Native.Char.{code}
 use native.Mathlib.Omega.{arith}
 use mir.Facts.{to_z-of_z}

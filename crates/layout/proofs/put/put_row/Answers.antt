@@ -17,17 +17,17 @@ use Rattle.layout.proofs.put.put_row.Goals as goal
 first-long : (m : goal.After-columns_of) → length (take 7 m.columns_of.result) ≡ 7
 first-long m = length-take-le 7 m.columns_of.result (omega (arith, letters_long m.args.kind m.columns_of.result m.columns_of.ensures))
 
-text : (n : goal.After-columns_of-2) → columns_text n.sep_of.result n.head_of.result (columns_of (take 7 n.columns_of.result) ++ columns_of (take (7 + length n.args.f.now - 7) (drop 7 n.columns_of-2.result))) (n.args.t3 ++ n.args.f.now)
-    ≡ row_text_by n.args.kind n.args.i n.args.t3 n.args.f.now
-text n = let wide : 7 ≡ length n.args.t3 = search rules in
-    parts_by_lem (λ sep head columns. columns_text sep head columns (n.args.t3 ++ n.args.f.now)) n.args.kind n.args.i (length n.args.f.now) n.requires.1 n.sep_of.ensures n.head_of.ensures n.columns_of.result n.columns_of.ensures n.columns_of-2.result n.columns_of-2.ensures
-    ∙ sym (row_is n.args.kind n.args.i n.args.t3 n.args.f.now (sym wide))
+text : (n : goal.After-columns_of-2) → columns_text n.sep_of.result n.head_of.result (columns_of (take 7 n.columns_of.result) ++ columns_of (take (7 + length n.args.f.now - 7) (drop 7 n.columns_of-2.result))) (n.args.raw ++ n.args.f.now)
+    ≡ row_text_by n.args.kind n.args.i n.args.raw n.args.f.now
+text n = let wide : 7 ≡ length n.args.raw = search rules in
+    parts_by_lem (λ sep head columns. columns_text sep head columns (n.args.raw ++ n.args.f.now)) n.args.kind n.args.i (length n.args.f.now) n.requires.1 n.sep_of.ensures n.head_of.ensures n.columns_of.result n.columns_of.ensures n.columns_of-2.result n.columns_of-2.ensures
+    ∙ sym (row_is n.args.kind n.args.i n.args.raw n.args.f.now (sym wide))
 
 pub slice_bounds-put_parts-end-2 : goal.slice_bounds-put_parts-end-2
 slice_bounds-put_parts-end-2 c = sym (first-long c.before)
 
 pub put_parts-requires : goal.put_parts-requires
-put_parts-requires c = let wide : 7 ≡ length c.args.t3 = search rules in
+put_parts-requires c = let wide : 7 ≡ length c.args.raw = search rules in
     let long = letters_many c.args.kind c.columns_of-2.result c.columns_of-2.ensures (length c.args.f.now) c.requires.1 in
     (first-long c.before.before.before.before.before ∙ wide, rw long c.requires.0, long, omega (arith, c.requires.2, ap length (text c.before.before.before.before)))
 

@@ -14,4 +14,4 @@ pub stop_row-row-requires : goal.stop_row-row-requires
 stop_row-row-requires c = c.requires.1
 
 pub returns : goal.returns
-returns c = rw (to_z_pos w64 (cast-t4 c.before).sfits, to_z_pos w64 (cast-t5 c).sfits, to_z-of_z (sfits_of c.stop_row-row.type-inv), c.stop_row-row.ensures)
+returns c = rw (to_z_pos w64 (cast-t4 c.before).sfits, to_z_pos w64 (cast-t5 c).sfits, to_z-of_z {w = w64} (sfits_of c.stop_row-row.type_inv), c.stop_row-row.ensures)

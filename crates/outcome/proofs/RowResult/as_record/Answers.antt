@@ -16,4 +16,4 @@ pub overflow_cast-result : goal.overflow_cast-result
 overflow_cast-result c = record { sfits = omega (arith, c.requires.0) }
 
 pub returns : goal.returns
-returns c = rw (to_z_pos w64 (cast-t3 c.before).sfits, plain c.args.self.ram c.struct_told-1.given.1.0.1, to_z-of_z (sfits_of c.margin_left-left.type-inv), c.margin_left-left.ensures)
+returns c = rw (to_z_pos w64 (cast-t3 c.before).sfits, plain c.args.self.ram c.struct_told-1.given.1.0.1, to_z-of_z {w = w64} (sfits_of c.margin_left-left.type_inv), c.margin_left-left.ensures)

@@ -21,7 +21,7 @@ cast-t17 c = record { sfits = omega (arith, c.before.before.before.before.before
 
 pub lta_margin-lta_margin-requires : goal.lta_margin-lta_margin-requires
 lta_margin-lta_margin-requires c = let is : c.amr-amr.result ≡ amr_of c.args.default c.args.row c.args.f0core = simp (to_z-of_z, c.ranges.default, c.ranges.f0core) at c.amr-amr.ensures in
-    let fits : SFits w64 c.amr-amr.result = sfits_of c.amr-amr.type-inv in
+    let fits : SFits w64 c.amr-amr.result = sfits_of c.amr-amr.type_inv in
     simp (to_z-of_z, c.ranges.f0core, fits) (c.requires.row_in_range, (c.requires.within_2, (within_is is (within_amr c.requires.row_in_range c.requires.within_2 c.requires.within), c.requires.s_le_s_most.0)))
 
 pub grains-cva-requires : goal.grains-cva-requires
@@ -40,12 +40,12 @@ pub overflow_cast-result-3 : goal.overflow_cast-result-3
 overflow_cast-result-3 c = record { sfits = omega (arith, c.requires.s_le_s_most.0) }
 
 pub returns : goal.returns
-returns c = let fuaf-fits : SFits w64 c.fuaf-fuaf.result = sfits_of c.fuaf-fuaf.type-inv in
-    let base-fits : SFits w64 c.base-base.result = sfits_of c.base-base.type-inv in
-    let amr-fits : SFits w64 c.amr-amr.result = sfits_of c.amr-amr.type-inv in
-    let lta-fits : SFits w64 c.lta_margin-lta_margin.result = sfits_of c.lta_margin-lta_margin.type-inv in
-    let cva-fits : SFits w64 c.grains-cva.result = sfits_of c.grains-cva.type-inv in
-    let iva-fits : SFits w64 c.grains-iva.result = sfits_of c.grains-iva.type-inv in
+returns c = let fuaf-fits : SFits w64 c.fuaf-fuaf.result = sfits_of c.fuaf-fuaf.type_inv in
+    let base-fits : SFits w64 c.base-base.result = sfits_of c.base-base.type_inv in
+    let amr-fits : SFits w64 c.amr-amr.result = sfits_of c.amr-amr.type_inv in
+    let lta-fits : SFits w64 c.lta_margin-lta_margin.result = sfits_of c.lta_margin-lta_margin.type_inv in
+    let cva-fits : SFits w64 c.grains-cva.result = sfits_of c.grains-cva.type_inv in
+    let iva-fits : SFits w64 c.grains-iva.result = sfits_of c.grains-iva.type_inv in
     let fuaf = simp (to_z-of_z, c.ranges.f0core) at c.fuaf-fuaf.ensures in
     let base = simp (to_z-of_z, c.ranges.f0core) at c.base-base.ensures in
     let amr = simp (to_z-of_z, c.ranges.default, c.ranges.f0core) at c.amr-amr.ensures in
@@ -56,15 +56,15 @@ returns c = let fuaf-fits : SFits w64 c.fuaf-fuaf.result = sfits_of c.fuaf-fuaf.
       to_z_pos w64 (cast-t15 c).sfits,
       to_z_pos w64 (cast-t16 c).sfits,
       to_z_pos w64 (cast-t17 c).sfits,
-      to_z-of_z c.ranges.f0core,
+      to_z-of_z {w = w64} c.ranges.f0core,
       to_z-of_z fuaf-fits,
       to_z-of_z base-fits,
       to_z-of_z amr-fits,
       to_z-of_z lta-fits,
-      to_z-of_z cva-fits,
+      to_z-of_z {w = w64} cva-fits,
       to_z-of_z iva-fits,
-      to_z-of_z c.ranges.ram,
-      to_z-of_z c.ranges.start,
+      to_z-of_z {w = w64} c.ranges.ram,
+      to_z-of_z {w = w64} c.ranges.start,
       fuaf,
       base,
       lta,

@@ -1,4 +1,5 @@
 -- `parts::row::count_loading` meets its contract. The invariant: n of the first k borders have p > 0 (`Counted`).
+use mathlib.Core.List.{[]}
 use lib.ListN.{length, get_or}
 use Rattle.types.specs.Ranges.{border_of}
 use Rattle.rounds.proofs.Loops.{Counted}

@@ -23,15 +23,9 @@ few : (c : goal.After-allocated_items-items) → (c.allocated_items-items.result
 few c = let h = netted c.requires.netted in
     (omega (arith, c.allocated_items-items.ensures, allocated_most c.args.h), h.zones_most_lem, omega (arith, c.allocated_items-items.ensures, allocated_most c.args.h, h.zones_most_lem, c.requires.roomy.allocated))
 
-section : (c : goal.After-zones_read)
-    → stored_section c.zones_read.result c.zones_read.new.z ≡ allocated_section c.args.text.now c.args.h c.args.at
-section c = c.zones_read.ensures
-    ∙ section_lent allocated_line (allocated_line_no c.args.h) c.allocated_items-items.result c.args.text.now c.args.at c.args.t.now (few c.before.before).2
-    ∙ ap (λ (k : ℕ). lines_at allocated_line (allocated_line_no c.args.h) k c.args.text.now c.args.at 0) c.allocated_items-items.ensures
-
 read-section : (c : goal.In-At)
     → read c.zones_read.new.z c.in-At.p ≡ allocated_section c.args.text.now c.args.h c.args.at
-read-section c = sym (ap (λ (r : End). stored_section r c.zones_read.new.z) c.in-At.is) ∙ section c.before.before.before
+read-section c = sym (ap (λ (r : End). stored_section r c.zones_read.new.z) c.in-At.is) ∙ section
 
 front-is : (c : goal.In-At)
     → take c.allocated_items-items.result (c.zones_read.new.z ++ drop c.allocated_items-items.result c.args.t.now) ≡ c.zones_read.new.z
@@ -68,10 +62,13 @@ overflow_add-last-then-not-balanced c = let n = few c.before.before.before.befor
 
 pub returns-then-not-balanced : goal.returns-then-not-balanced
 returns-then-not-balanced c = ap refused (c.out_of_range_at.ensures ∙ ap₂ (λ (n byte : ℕ). out_of_range_at (header_line_no + c.args.h.zones + n) byte) c.allocated_items-items.ensures c.balance_byte.ensures)
-    ∙ unbalanced c.requires.netted _ _ (read-section c.before.before.before.before.before) c.args.sheet.now (sym (c.balanced.ensures ∙ ap balanced (front-is c.before.before.before.before.before)) ∙ not-true _ c.if-not-balanced.true)
+    ∙ unbalanced c.requires.netted _ _ (read-section c.before.before.before.before.before) c.args.sheet.now (sym (c.balanced.ensures ∙ ap balanced (front-is c.before.before.before.before.before)) ∙ not-true _ c.if-not-balanced.true-raw)
 
 pub read_borders-requires : goal.read_borders-requires
 read_borders-requires c = record { allocated = allocated_passed c.requires.netted _ _ (read-section c.before.before.before.before.before.before.before.before) (drop c.allocated_items-items.result c.args.t.now) (sym (c.balanced.ensures ∙ ap balanced (front-is c.before.before.before.before.before.before.before.before)) ∙ not-false _ c.if-not-balanced.false-raw); roomy = room_t c.requires.roomy c.allocated_items-items.result c.zones_read.new.z c.zones_read.auto.z }
 
 pub returns-in-Refused : goal.returns-in-Refused
-returns-in-Refused c = allocated_refused c.requires.netted c.args.sheet.now _ (sym (ap (λ (r : End). stored_section r c.zones_read.new.z) c.in-Refused.is) ∙ section c.before.before.before)
+returns-in-Refused c = let section : stored_section c.zones_read.result c.zones_read.new.z ≡ allocated_section c.args.text.now c.args.h c.args.at = c.zones_read.ensures
+    ∙ section_lent allocated_line (allocated_line_no c.args.h) c.allocated_items-items.result c.args.text.now c.args.at c.args.t.now (few c.before.before).2
+    ∙ ap (λ (k : ℕ). lines_at allocated_line (allocated_line_no c.args.h) k c.args.text.now c.args.at 0) c.allocated_items-items.ensures in
+    allocated_refused c.requires.netted c.args.sheet.now _ (sym (ap (λ (r : End). stored_section r c.zones_read.new.z) c.in-Refused.is) ∙ section)

@@ -16,18 +16,6 @@ use Rattle.tablerules.proofs.RoomLaws.{factors_most}
 use Rattle.reading.proofs.JudgedTextLaws.{used_good, rows_section, rows_lent, rows_refused, more_follows, lines_done}
 use Rattle.reading.proofs.into.read_rows.Goals as goal
 
-room-c : (s : goal.Start) → s.args.h.rows ≤ length s.args.c.now
-room-c s = omega (arith, (header_in_lem _ s.requires.bordered.fits).rows_most_lem, s.requires.roomy.rows)
-
-room-f : (s : goal.Start) → s.args.h.rows * s.args.h.zones ≤ length s.args.f.now
-room-f s = omega (arith, factors_most _ s.requires.bordered.fits, s.requires.roomy.factors)
-
-section : (c : goal.After-rows_read)
-    → stored_section c.rows_read.result (cut c.args.h.zones c.rows_read.new.c c.rows_read.new.f) ≡ rows_section c.requires.bordered c.args.sheet.now c.sheet_judged-held.result c.sheet_judged-held.ensures
-section c = c.rows_read.ensures
-    ∙ rows_lent c.requires.bordered c.args.sheet.now c.sheet_judged-held.result c.sheet_judged-held.ensures _ _ _
-    (ap (λ (n : ℕ). zone_line_no + c.args.h.zones + n + c.args.h.borders) c.allocated_items.ensures) (length-take-le c.args.h.rows c.args.c.now (room-c c.before.before.before.before.before.before.before.before.before)) c.used_of-used.ensures
-
 pub overflow_add-first : goal.overflow_add-first
 overflow_add-first c = omega (arith, header_in_lem _ c.requires.bordered.fits)
 
@@ -41,40 +29,59 @@ pub sheet_judged-held-requires : goal.sheet_judged-held-requires
 sheet_judged-held-requires c = let h = header_in_lem _ c.requires.bordered.fits in (omega (arith, h.zones_least_lem), h.zones_most_lem)
 
 pub slice_bounds-rows_read-end : goal.slice_bounds-rows_read-end
-slice_bounds-rows_read-end c = room-c c.before.before.before.before.before.before
+slice_bounds-rows_read-end c = let room-c : c.args.h.rows ≤ length c.args.c.now = omega (arith, (header_in_lem _ c.requires.bordered.fits).rows_most_lem, c.requires.roomy.rows) in
+    room-c
 
 pub slice_bounds-rows_read-end-2 : goal.slice_bounds-rows_read-end-2
-slice_bounds-rows_read-end-2 c = sym (length-take-le _ _ (room-c c.before.before.before.before.before.before.before))
+slice_bounds-rows_read-end-2 c = let room-c : c.args.h.rows ≤ length c.args.c.now = omega (arith, (header_in_lem _ c.requires.bordered.fits).rows_most_lem, c.requires.roomy.rows) in
+    sym (length-take-le _ _ (room-c))
 
 pub overflow_mul-rows : goal.overflow_mul-rows
 overflow_mul-rows c = omega (arith, factors_most _ c.requires.bordered.fits)
 
 pub slice_bounds-rows_read-end-3 : goal.slice_bounds-rows_read-end-3
-slice_bounds-rows_read-end-3 c = room-f c.before.before.before.before.before.before.before
+slice_bounds-rows_read-end-3 c = let room-f : c.args.h.rows * c.args.h.zones ≤ length c.args.f.now = omega (arith, factors_most _ c.requires.bordered.fits, c.requires.roomy.factors) in
+    room-f
 
 pub slice_bounds-rows_read-end-4 : goal.slice_bounds-rows_read-end-4
-slice_bounds-rows_read-end-4 c = sym (length-take-le _ _ (room-f c.before.before.before.before.before.before.before.before))
+slice_bounds-rows_read-end-4 c = let room-f : c.args.h.rows * c.args.h.zones ≤ length c.args.f.now = omega (arith, factors_most _ c.requires.bordered.fits, c.requires.roomy.factors) in
+    sym (length-take-le _ _ (room-f))
 
 pub rows_read-requires : goal.rows_read-requires
-rows_read-requires c = let h = header_in_lem _ c.requires.bordered.fits in
-    let long = length-take-le c.args.h.rows c.args.c.now (room-c c.before.before.before.before.before.before.before.before) in record { at_in_bounds = (c.requires.bordered.within, omega (arith, h, c.allocated_items.ensures, allocated_most c.args.h, long), length-take-le _ c.args.f.now (room-f c.before.before.before.before.before.before.before.before) ∙ ap (λ (n : ℕ). n * c.args.h.zones) (sym long), omega (arith, h.zones_least_lem), h.zones_most_lem); sheet_value = ap₂ (λ (n : ℕ) (l : List ℕ). judge_corrections c.args.h.zones n l) long c.used_of-used.ensures ∙ used_good c.args.h.zones c.args.h.rows c.args.sheet.now c.sheet_judged-held.result c.sheet_judged-held.ensures }
+rows_read-requires c = let room-c : c.args.h.rows ≤ length c.args.c.now = omega (arith, (header_in_lem _ c.requires.bordered.fits).rows_most_lem, c.requires.roomy.rows) in
+    let room-f : c.args.h.rows * c.args.h.zones ≤ length c.args.f.now = omega (arith, factors_most _ c.requires.bordered.fits, c.requires.roomy.factors) in
+    let h = header_in_lem _ c.requires.bordered.fits in
+    let long = length-take-le c.args.h.rows c.args.c.now (room-c) in record { at_in_bounds = (c.requires.bordered.within, omega (arith, h, c.allocated_items.ensures, allocated_most c.args.h, long), length-take-le _ c.args.f.now (room-f) ∙ ap (λ (n : ℕ). n * c.args.h.zones) (sym long), omega (arith, h.zones_least_lem), h.zones_most_lem); sheet_value = ap₂ (λ (n : ℕ) (l : List ℕ). judge_corrections c.args.h.zones n l) long c.used_of-used.ensures ∙ used_good c.args.h.zones c.args.h.rows c.args.sheet.now c.sheet_judged-held.result c.sheet_judged-held.ensures }
 
 pub overflow_add-first-then-end-text : goal.overflow_add-first-then-end-text
 overflow_add-first-then-end-text c = omega (arith, header_in_lem _ c.requires.bordered.fits, c.allocated_items.ensures, allocated_most c.args.h)
 
 pub returns-then-end-text : goal.returns-then-end-text
-returns-then-end-text c = ap refused (c.wrong_form.ensures ∙ ap (λ (n : ℕ). wrong_form (zone_line_no + c.args.h.zones + n + c.args.h.borders + c.args.h.rows)) c.allocated_items.ensures)
+returns-then-end-text c = let room-c : c.args.h.rows ≤ length c.args.c.now = omega (arith, (header_in_lem _ c.requires.bordered.fits).rows_most_lem, c.requires.roomy.rows) in
+    let section : stored_section c.rows_read.result (cut c.args.h.zones c.rows_read.new.c c.rows_read.new.f) ≡ rows_section c.requires.bordered c.args.sheet.now c.sheet_judged-held.result c.sheet_judged-held.ensures = c.rows_read.ensures
+    ∙ rows_lent c.requires.bordered c.args.sheet.now c.sheet_judged-held.result c.sheet_judged-held.ensures _ _ _
+    (ap (λ (n : ℕ). zone_line_no + c.args.h.zones + n + c.args.h.borders) c.allocated_items.ensures) (length-take-le c.args.h.rows c.args.c.now (room-c)) c.used_of-used.ensures in
+    ap refused (c.wrong_form.ensures ∙ ap (λ (n : ℕ). wrong_form (zone_line_no + c.args.h.zones + n + c.args.h.borders + c.args.h.rows)) c.allocated_items.ensures)
     ∙ more_follows c.requires.bordered c.args.sheet.now c.sheet_judged-held.result c.sheet_judged-held.ensures c.rows_read.new.c c.rows_read.new.f _
-    (sym (ap (λ (r : End). stored_section r (cut c.args.h.zones c.rows_read.new.c c.rows_read.new.f)) c.in-At.is) ∙ section c.before.before.before.before.before.before) c.if-end-text.true
+    (sym (ap (λ (r : End). stored_section r (cut c.args.h.zones c.rows_read.new.c c.rows_read.new.f)) c.in-At.is) ∙ section) c.if-end-text.true
 
 pub judged_last-requires : goal.judged_last-requires
 judged_last-requires c = (c.requires.bordered.fits, c.requires.roomy.borders)
 
 pub returns-else-end-text : goal.returns-else-end-text
-returns-else-end-text c = lines_done c.requires.bordered c.args.sheet.now c.sheet_judged-held.result c.sheet_judged-held.ensures c.rows_read.new.c c.rows_read.new.f _
-    (sym (ap (λ (r : End). stored_section r (cut c.args.h.zones c.rows_read.new.c c.rows_read.new.f)) c.in-At.is) ∙ section c.before.before.before.before.before.before.before) c.if-end-text.false
-    (c.rows_read.auto.f ∙ length-take-le _ c.args.f.now (room-f c)) c.judged_last.result (drop c.args.h.rows c.args.c.now) (drop (c.args.h.rows * c.args.h.zones) c.args.f.now) c.judged_last.ensures
+returns-else-end-text c = let room-f : c.args.h.rows * c.args.h.zones ≤ length c.args.f.now = omega (arith, factors_most _ c.requires.bordered.fits, c.requires.roomy.factors) in
+    let room-c : c.args.h.rows ≤ length c.args.c.now = omega (arith, (header_in_lem _ c.requires.bordered.fits).rows_most_lem, c.requires.roomy.rows) in
+    let section : stored_section c.rows_read.result (cut c.args.h.zones c.rows_read.new.c c.rows_read.new.f) ≡ rows_section c.requires.bordered c.args.sheet.now c.sheet_judged-held.result c.sheet_judged-held.ensures = c.rows_read.ensures
+    ∙ rows_lent c.requires.bordered c.args.sheet.now c.sheet_judged-held.result c.sheet_judged-held.ensures _ _ _
+    (ap (λ (n : ℕ). zone_line_no + c.args.h.zones + n + c.args.h.borders) c.allocated_items.ensures) (length-take-le c.args.h.rows c.args.c.now (room-c)) c.used_of-used.ensures in
+    lines_done c.requires.bordered c.args.sheet.now c.sheet_judged-held.result c.sheet_judged-held.ensures c.rows_read.new.c c.rows_read.new.f _
+    (sym (ap (λ (r : End). stored_section r (cut c.args.h.zones c.rows_read.new.c c.rows_read.new.f)) c.in-At.is) ∙ section) c.if-end-text.false
+    (c.rows_read.auto.f ∙ length-take-le _ c.args.f.now (room-f)) c.judged_last.result (drop c.args.h.rows c.args.c.now) (drop (c.args.h.rows * c.args.h.zones) c.args.f.now) c.judged_last.ensures
 
 pub returns-in-Refused : goal.returns-in-Refused
-returns-in-Refused c = rows_refused c.requires.bordered c.args.sheet.now c.sheet_judged-held.result c.sheet_judged-held.ensures _
-    (sym (ap (λ (r : End). stored_section r (cut c.args.h.zones c.rows_read.new.c c.rows_read.new.f)) c.in-Refused.is) ∙ section c.before.before.before.before)
+returns-in-Refused c = let room-c : c.args.h.rows ≤ length c.args.c.now = omega (arith, (header_in_lem _ c.requires.bordered.fits).rows_most_lem, c.requires.roomy.rows) in
+    let section : stored_section c.rows_read.result (cut c.args.h.zones c.rows_read.new.c c.rows_read.new.f) ≡ rows_section c.requires.bordered c.args.sheet.now c.sheet_judged-held.result c.sheet_judged-held.ensures = c.rows_read.ensures
+    ∙ rows_lent c.requires.bordered c.args.sheet.now c.sheet_judged-held.result c.sheet_judged-held.ensures _ _ _
+    (ap (λ (n : ℕ). zone_line_no + c.args.h.zones + n + c.args.h.borders) c.allocated_items.ensures) (length-take-le c.args.h.rows c.args.c.now (room-c)) c.used_of-used.ensures in
+    rows_refused c.requires.bordered c.args.sheet.now c.sheet_judged-held.result c.sheet_judged-held.ensures _
+    (sym (ap (λ (r : End). stored_section r (cut c.args.h.zones c.rows_read.new.c c.rows_read.new.f)) c.in-Refused.is) ∙ section)

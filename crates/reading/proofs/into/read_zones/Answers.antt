@@ -15,22 +15,24 @@ use Rattle.reading.specs.Places.{Netted}
 use Rattle.reading.proofs.JudgedTextLaws.{section_lent, room_z, counted, at_within, nets_refused, nets_passed}
 use Rattle.reading.proofs.into.read_zones.Goals as goal
 
-room : (s : goal.Start) → s.args.counts.zones ≤ length s.args.z.now
-room s = omega (arith, (counted s.requires.headed).zones_most_lem, s.requires.roomy.zones)
-
 pub slice_bounds-zones_read-end : goal.slice_bounds-zones_read-end
-slice_bounds-zones_read-end c = room c.before.before
+slice_bounds-zones_read-end c = let room : c.args.counts.zones ≤ length c.args.z.now = omega (arith, (counted c.requires.headed).zones_most_lem, c.requires.roomy.zones) in
+    room
 
 pub slice_bounds-zones_read-end-2 : goal.slice_bounds-zones_read-end-2
-slice_bounds-zones_read-end-2 c = sym (length-take-le _ _ (room c.before.before.before))
+slice_bounds-zones_read-end-2 c = let room : c.args.counts.zones ≤ length c.args.z.now = omega (arith, (counted c.requires.headed).zones_most_lem, c.requires.roomy.zones) in
+    sym (length-take-le _ _ (room))
 
 pub zones_read-requires : goal.zones_read-requires
-zones_read-requires c = (at_within c.requires.headed, omega (arith, (counted c.requires.headed).zones_most_lem, length-take-le c.args.counts.zones c.args.z.now (room c.before.before.before)))
+zones_read-requires c = let room : c.args.counts.zones ≤ length c.args.z.now = omega (arith, (counted c.requires.headed).zones_most_lem, c.requires.roomy.zones) in
+    (at_within c.requires.headed, omega (arith, (counted c.requires.headed).zones_most_lem, length-take-le c.args.counts.zones c.args.z.now (room)))
 
 pub read_allocated-requires : goal.read_allocated-requires
-read_allocated-requires c = let rest = drop c.args.counts.zones c.args.z.now in
+read_allocated-requires c = let room : c.args.counts.zones ≤ length c.args.z.now = omega (arith, (counted c.requires.headed).zones_most_lem, c.requires.roomy.zones) in
+    let rest = drop c.args.counts.zones c.args.z.now in
     let profile = c.profiled-h.ensures ∙ ap (profiled c.args.counts) c.is_allocated.ensures in
-    let section = sym (ap (λ (r : End). stored_section r c.zones_read.new.z) c.in-At.is) ∙ c.zones_read.ensures ∙ section_lent zone_line zone_line_no c.args.counts.zones c.args.text.now c.args.at c.args.z.now (room c.before.before.before.before.before.before.before.before.before.before.before.before.before.before) in record { netted = subst (λ (h : Header). Netted c.args.text.now h (c.zones_read.new.z ++ rest) c.in-At.p) (sym profile) (nets_passed c.requires.headed c.zones_read.new.z rest c.in-At.p section); roomy = room_z c.requires.roomy c.args.counts.zones c.zones_read.new.z c.zones_read.auto.z }
+    let section = sym (ap (λ (r : End). stored_section r c.zones_read.new.z) c.in-At.is) ∙ c.zones_read.ensures ∙ section_lent zone_line zone_line_no c.args.counts.zones c.args.text.now c.args.at c.args.z.now (room) in record { netted = subst (λ (h : Header). Netted c.args.text.now h (c.zones_read.new.z ++ rest) c.in-At.p) (sym profile) (nets_passed c.requires.headed c.zones_read.new.z rest c.in-At.p section); roomy = room_z c.requires.roomy c.args.counts.zones c.zones_read.new.z c.zones_read.auto.z }
 
 pub returns-in-Refused : goal.returns-in-Refused
-returns-in-Refused c = nets_refused c.requires.headed c.args.sheet.now _ (sym (ap (λ (r : End). stored_section r c.zones_read.new.z) c.in-Refused.is) ∙ c.zones_read.ensures ∙ section_lent zone_line zone_line_no c.args.counts.zones c.args.text.now c.args.at c.args.z.now (room c.before.before.before.before.before.before.before))
+returns-in-Refused c = let room : c.args.counts.zones ≤ length c.args.z.now = omega (arith, (counted c.requires.headed).zones_most_lem, c.requires.roomy.zones) in
+    nets_refused c.requires.headed c.args.sheet.now _ (sym (ap (λ (r : End). stored_section r c.zones_read.new.z) c.in-Refused.is) ∙ c.zones_read.ensures ∙ section_lent zone_line zone_line_no c.args.counts.zones c.args.text.now c.args.at c.args.z.now (room))

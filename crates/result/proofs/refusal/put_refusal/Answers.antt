@@ -1,5 +1,5 @@
 -- `result::refusal::put_refusal` meets its contract: the letter, the three fields and the LF, one after another (`line-none`, `line-more`, `line-all`).
-use mathlib.Core.List.{◌∷◌}
+use mathlib.Core.List.{[], ◌∷◌}
 use native.Mathlib.Omega.{arith}
 use Rattle.text.specs.Written.{decimal}
 use Rattle.text.proofs.PutLaws.{put_whole, line_none, line_more, line_all, room_first, room_more, room_last}

@@ -21,59 +21,73 @@ use Rattle.rowsheet.specs.RowSheet.{first_line_no, lines_in}
 use Rattle.rowsheet.proofs.SheetLaws.{sheet_long, sheet_header, sheet_fault, sheet_more, sheet_good}
 use Rattle.rowsheet.proofs.read.read_sheet.Goals as goal
 
-fit : (c : goal.Else-not-fits) → header_fits c.args.h ≡ true
-fit c = sym c.fits.ensures ∙ not-false _ c.if-not-fits.false-raw
-
-room-c : (c : goal.Else-not-fits) → c.args.h.rows ≤ length c.args.c.now
-room-c c = omega (arith, (header_in_lem _ (fit c)).rows_most_lem, c.requires.0)
-
-room-f : (c : goal.Else-not-fits) → c.args.h.rows * c.args.h.zones ≤ length c.args.f.now
-room-f c = omega (arith, factors_most _ (fit c), c.requires.1)
-
-section : (c : goal.After-rows_read)
-    → stored_section c.rows_read.result (cut c.args.h.zones c.rows_read.new.c c.rows_read.new.f) ≡ lines_in c.args.h c.args.sheet.now
-section c = c.rows_read.ensures
-    ∙ own_section row_kind.Sheet c.args.h.zones first_line_no _ c.args.sheet.now 0 0
-    ∙ ap (λ (n : ℕ). lines_at (sheet_line c.args.h.zones) first_line_no n c.args.sheet.now 0 0) (length-take-le c.args.h.rows c.args.c.now (room-c c.before.before.before.before))
-
 pub returns-then-sheet-gt-BYTES_MOST : goal.returns-then-sheet-gt-BYTES_MOST
 returns-then-sheet-gt-BYTES_MOST c = ap refused c.too_long.ensures ∙ sheet_long _ _ c.if-sheet-gt-BYTES_MOST.true
 
 pub returns-then-not-fits : goal.returns-then-not-fits
-returns-then-not-fits c = ap refused c.out_of_range.ensures ∙ sheet_header _ _ c.if-sheet-gt-BYTES_MOST.false (sym c.fits.ensures ∙ not-true _ c.if-not-fits.true)
+returns-then-not-fits c = ap refused c.out_of_range.ensures ∙ sheet_header _ _ c.if-sheet-gt-BYTES_MOST.false (sym c.fits.ensures ∙ not-true _ c.if-not-fits.true-raw)
 
 pub slice_bounds-rows_read-end-2 : goal.slice_bounds-rows_read-end-2
-slice_bounds-rows_read-end-2 c = room-c c.before
+slice_bounds-rows_read-end-2 c = let fit : header_fits c.args.h ≡ true = sym c.fits.ensures ∙ not-false _ c.if-not-fits.false-raw in
+    let room-c : c.args.h.rows ≤ length c.args.c.now = omega (arith, (header_in_lem _ (fit)).rows_most_lem, c.requires.0) in
+    room-c
 
 pub slice_bounds-rows_read-end-3 : goal.slice_bounds-rows_read-end-3
-slice_bounds-rows_read-end-3 c = sym (length-take-le _ _ (room-c c.before.before))
+slice_bounds-rows_read-end-3 c = let fit : header_fits c.args.h ≡ true = sym c.fits.ensures ∙ not-false _ c.if-not-fits.false-raw in
+    let room-c : c.args.h.rows ≤ length c.args.c.now = omega (arith, (header_in_lem _ (fit)).rows_most_lem, c.requires.0) in
+    sym (length-take-le _ _ (room-c))
 
 pub overflow_mul-rows : goal.overflow_mul-rows
-overflow_mul-rows c = omega (arith, factors_most _ (fit c.before.before))
+overflow_mul-rows c = let fit : header_fits c.args.h ≡ true = sym c.fits.ensures ∙ not-false _ c.if-not-fits.false-raw in
+    omega (arith, factors_most _ (fit))
 
 pub slice_bounds-rows_read-end-4 : goal.slice_bounds-rows_read-end-4
-slice_bounds-rows_read-end-4 c = room-f c.before.before
+slice_bounds-rows_read-end-4 c = let fit : header_fits c.args.h ≡ true = sym c.fits.ensures ∙ not-false _ c.if-not-fits.false-raw in
+    let room-f : c.args.h.rows * c.args.h.zones ≤ length c.args.f.now = omega (arith, factors_most _ (fit), c.requires.1) in
+    room-f
 
 pub slice_bounds-rows_read-end-5 : goal.slice_bounds-rows_read-end-5
-slice_bounds-rows_read-end-5 c = sym (length-take-le _ _ (room-f c.before.before.before))
+slice_bounds-rows_read-end-5 c = let fit : header_fits c.args.h ≡ true = sym c.fits.ensures ∙ not-false _ c.if-not-fits.false-raw in
+    let room-f : c.args.h.rows * c.args.h.zones ≤ length c.args.f.now = omega (arith, factors_most _ (fit), c.requires.1) in
+    sym (length-take-le _ _ (room-f))
 
 pub rows_read-requires : goal.rows_read-requires
-rows_read-requires c = let k = header_in_lem _ (fit c.before.before.before) in
-    let long = length-take-le c.args.h.rows c.args.c.now (room-c c.before.before.before) in record { at_in_bounds = (omega arith, omega (arith, k.rows_most_lem, long), length-take-le _ c.args.f.now (room-f c.before.before.before) ∙ ap (λ (n : ℕ). n * c.args.h.zones) (sym long), omega (arith, k.zones_least_lem), k.zones_most_lem); sheet_value = refl }
+rows_read-requires c = let fit : header_fits c.args.h ≡ true = sym c.fits.ensures ∙ not-false _ c.if-not-fits.false-raw in
+    let room-c : c.args.h.rows ≤ length c.args.c.now = omega (arith, (header_in_lem _ (fit)).rows_most_lem, c.requires.0) in
+    let room-f : c.args.h.rows * c.args.h.zones ≤ length c.args.f.now = omega (arith, factors_most _ (fit), c.requires.1) in
+    let k = header_in_lem _ (fit) in
+    let long = length-take-le c.args.h.rows c.args.c.now (room-c) in record { at_in_bounds = (omega arith, omega (arith, k.rows_most_lem, long), length-take-le _ c.args.f.now (room-f) ∙ ap (λ (n : ℕ). n * c.args.h.zones) (sym long), omega (arith, k.zones_least_lem), k.zones_most_lem); sheet_value = refl }
 
 pub overflow_add-rows : goal.overflow_add-rows
-overflow_add-rows c = omega (arith, (header_in_lem _ (fit c.before.before.before.before.before.before.before.before.before)).rows_most_lem)
+overflow_add-rows c = let fit : header_fits c.args.h ≡ true = sym c.fits.ensures ∙ not-false _ c.if-not-fits.false-raw in
+    omega (arith, (header_in_lem _ (fit)).rows_most_lem)
 
 pub returns-then-next-sheet : goal.returns-then-next-sheet
-returns-then-next-sheet c = ap refused c.wrong_form.ensures
-    ∙ sheet_more c.args.h c.args.sheet.now c.if-sheet-gt-BYTES_MOST.false (fit c.before.before.before.before.before.before.before.before.before.before) c.rows_read.new.c c.rows_read.new.f _
-    (sym (ap (λ (r : End). stored_section r (cut c.args.h.zones c.rows_read.new.c c.rows_read.new.f)) c.in-At.is) ∙ section c.before.before.before.before.before.before) c.if-next-sheet.true
+returns-then-next-sheet c = let fit : header_fits c.args.h ≡ true = sym c.fits.ensures ∙ not-false _ c.if-not-fits.false-raw in
+    let room-c : c.args.h.rows ≤ length c.args.c.now = omega (arith, (header_in_lem _ (fit)).rows_most_lem, c.requires.0) in
+    let section : stored_section c.rows_read.result (cut c.args.h.zones c.rows_read.new.c c.rows_read.new.f) ≡ lines_in c.args.h c.args.sheet.now = c.rows_read.ensures
+    ∙ own_section row_kind.Sheet c.args.h.zones first_line_no _ c.args.sheet.now 0 0
+    ∙ ap (λ (n : ℕ). lines_at (sheet_line c.args.h.zones) first_line_no n c.args.sheet.now 0 0) (length-take-le c.args.h.rows c.args.c.now (room-c)) in
+    ap refused c.wrong_form.ensures
+    ∙ sheet_more c.args.h c.args.sheet.now c.if-sheet-gt-BYTES_MOST.false (fit) c.rows_read.new.c c.rows_read.new.f _
+    (sym (ap (λ (r : End). stored_section r (cut c.args.h.zones c.rows_read.new.c c.rows_read.new.f)) c.in-At.is) ∙ section) c.if-next-sheet.true
 
 pub returns-else-next-sheet : goal.returns-else-next-sheet
-returns-else-next-sheet c = sheet_good c.args.h c.args.sheet.now c.if-sheet-gt-BYTES_MOST.false (fit c.before.before.before.before.before.before.before.before.before) c.rows_read.new.c c.rows_read.new.f _
-    (sym (ap (λ (r : End). stored_section r (cut c.args.h.zones c.rows_read.new.c c.rows_read.new.f)) c.in-At.is) ∙ section c.before.before.before.before.before)
-    (drop c.args.h.rows c.args.c.now) (drop (c.args.h.rows * c.args.h.zones) c.args.f.now) (c.rows_read.auto.f ∙ length-take-le _ c.args.f.now (room-f c.before.before.before.before.before.before.before.before.before)) c.if-next-sheet.false
+returns-else-next-sheet c = let fit : header_fits c.args.h ≡ true = sym c.fits.ensures ∙ not-false _ c.if-not-fits.false-raw in
+    let room-f : c.args.h.rows * c.args.h.zones ≤ length c.args.f.now = omega (arith, factors_most _ (fit), c.requires.1) in
+    let room-c : c.args.h.rows ≤ length c.args.c.now = omega (arith, (header_in_lem _ (fit)).rows_most_lem, c.requires.0) in
+    let section : stored_section c.rows_read.result (cut c.args.h.zones c.rows_read.new.c c.rows_read.new.f) ≡ lines_in c.args.h c.args.sheet.now = c.rows_read.ensures
+    ∙ own_section row_kind.Sheet c.args.h.zones first_line_no _ c.args.sheet.now 0 0
+    ∙ ap (λ (n : ℕ). lines_at (sheet_line c.args.h.zones) first_line_no n c.args.sheet.now 0 0) (length-take-le c.args.h.rows c.args.c.now (room-c)) in
+    sheet_good c.args.h c.args.sheet.now c.if-sheet-gt-BYTES_MOST.false (fit) c.rows_read.new.c c.rows_read.new.f _
+    (sym (ap (λ (r : End). stored_section r (cut c.args.h.zones c.rows_read.new.c c.rows_read.new.f)) c.in-At.is) ∙ section)
+    (drop c.args.h.rows c.args.c.now) (drop (c.args.h.rows * c.args.h.zones) c.args.f.now) (c.rows_read.auto.f ∙ length-take-le _ c.args.f.now (room-f)) c.if-next-sheet.false
 
 pub returns-in-Refused : goal.returns-in-Refused
-returns-in-Refused c = sheet_fault c.args.h c.args.sheet.now c.if-sheet-gt-BYTES_MOST.false (fit c.before.before.before.before.before.before.before.before) _
-    (sym (ap (λ (r : End). stored_section r (cut c.args.h.zones c.rows_read.new.c c.rows_read.new.f)) c.in-Refused.is) ∙ section c.before.before.before.before)
+returns-in-Refused c = let fit : header_fits c.args.h ≡ true = sym c.fits.ensures ∙ not-false _ c.if-not-fits.false-raw in
+    let room-c : c.args.h.rows ≤ length c.args.c.now = omega (arith, (header_in_lem _ (fit)).rows_most_lem, c.requires.0) in
+    let section : stored_section c.rows_read.result (cut c.args.h.zones c.rows_read.new.c c.rows_read.new.f) ≡ lines_in c.args.h c.args.sheet.now = c.rows_read.ensures
+    ∙ own_section row_kind.Sheet c.args.h.zones first_line_no _ c.args.sheet.now 0 0
+    ∙ ap (λ (n : ℕ). lines_at (sheet_line c.args.h.zones) first_line_no n c.args.sheet.now 0 0) (length-take-le c.args.h.rows c.args.c.now (room-c)) in
+    sheet_fault c.args.h c.args.sheet.now c.if-sheet-gt-BYTES_MOST.false (fit) _
+    (sym (ap (λ (r : End). stored_section r (cut c.args.h.zones c.rows_read.new.c c.rows_read.new.f)) c.in-Refused.is) ∙ section)

@@ -10,10 +10,6 @@ use Rattle.lines.specs.Said.{said_border}
 use Rattle.sections.proofs.StoredLaws.{after_within, stored_none, stored_all, stored_form, stored_range, stored_more}
 use Rattle.sections.proofs.borders.borders_read.Goals as goal
 
-line_said : (c : goal.After-border_line)
-    → border_line c.args.zones (line_at c.args.text.now c.loop-i.p) c.loop-i.i ≡ said_border c.border_line.result c.border_line.new.raw
-line_said c = ap (λ (line : List ℕ). border_line c.args.zones line c.loop-i.i) (sym c.line_at-line.ensures) ∙ sym c.border_line.ensures
-
 pub loop-i-init : goal.loop-i-init
 loop-i-init c = stored_none (border_line c.args.zones) _ _ _ _ c.requires.0
 
@@ -33,7 +29,8 @@ pub shape_of-b-in-Form : goal.shape_of-b-in-Form
 shape_of-b-in-Form c = c.loop-i.invariant.as_long
 
 pub returns-in-Form : goal.returns-in-Form
-returns-in-Form c = ap fault c.wrong_form_at.ensures ∙ stored_form (border_line c.args.zones) _ _ _ _ _ _ _ _ c.loop-i.invariant c.loop-i-test.true _ (line_said c.before.before.before.before ∙ ap (λ (r : BorderLine). said_border r c.border_line.new.raw) c.in-Form.is)
+returns-in-Form c = let line_said : border_line c.args.zones (line_at c.args.text.now c.loop-i.p) c.loop-i.i ≡ said_border c.border_line.result c.border_line.new.raw = ap (λ (line : List ℕ). border_line c.args.zones line c.loop-i.i) (sym c.line_at-line.ensures) ∙ sym c.border_line.ensures in
+    ap fault c.wrong_form_at.ensures ∙ stored_form (border_line c.args.zones) _ _ _ _ _ _ _ _ c.loop-i.invariant c.loop-i-test.true _ (line_said ∙ ap (λ (r : BorderLine). said_border r c.border_line.new.raw) c.in-Form.is)
 
 pub overflow_add-first-in-Range : goal.overflow_add-first-in-Range
 overflow_add-first-in-Range c = omega (arith, c.loop-i.invariant.high, c.loop-i.invariant.all, c.requires.1)
@@ -42,14 +39,16 @@ pub shape_of-b-in-Range : goal.shape_of-b-in-Range
 shape_of-b-in-Range c = c.loop-i.invariant.as_long
 
 pub returns-in-Range : goal.returns-in-Range
-returns-in-Range c = ap fault c.out_of_range_at.ensures ∙ stored_range (border_line c.args.zones) _ _ _ _ _ _ _ _ c.loop-i.invariant c.loop-i-test.true _ (line_said c.before.before.before.before ∙ ap (λ (r : BorderLine). said_border r c.border_line.new.raw) c.in-Range.is)
+returns-in-Range c = let line_said : border_line c.args.zones (line_at c.args.text.now c.loop-i.p) c.loop-i.i ≡ said_border c.border_line.result c.border_line.new.raw = ap (λ (line : List ℕ). border_line c.args.zones line c.loop-i.i) (sym c.line_at-line.ensures) ∙ sym c.border_line.ensures in
+    ap fault c.out_of_range_at.ensures ∙ stored_range (border_line c.args.zones) _ _ _ _ _ _ _ _ c.loop-i.invariant c.loop-i-test.true _ (line_said ∙ ap (λ (r : BorderLine). said_border r c.border_line.new.raw) c.in-Range.is)
 
 pub overflow_add-p : goal.overflow_add-p
 overflow_add-p c = rw c.line_at-line.ensures (omega (arith, after_within c.args.text.now c.loop-i.p c.loop-i.invariant.within))
 
 pub loop-i-preserved : goal.loop-i-preserved
-loop-i-preserved c = rw c.line_at-line.ensures
-    (stored_more (border_line c.args.zones) _ _ _ _ _ _ _ _ c.loop-i.invariant c.loop-i-test.true _ (line_said c.before.before ∙ ap (λ (r : BorderLine). said_border r c.border_line.new.raw) c.in-Holds.is))
+loop-i-preserved c = let line_said : border_line c.args.zones (line_at c.args.text.now c.loop-i.p) c.loop-i.i ≡ said_border c.border_line.result c.border_line.new.raw = ap (λ (line : List ℕ). border_line c.args.zones line c.loop-i.i) (sym c.line_at-line.ensures) ∙ sym c.border_line.ensures in
+    rw c.line_at-line.ensures
+    (stored_more (border_line c.args.zones) _ _ _ _ _ _ _ _ c.loop-i.invariant c.loop-i-test.true _ (line_said ∙ ap (λ (r : BorderLine). said_border r c.border_line.new.raw) c.in-Holds.is))
 
 pub shape_of-b : goal.shape_of-b
 shape_of-b c = c.loop-i.invariant.as_long

@@ -1,5 +1,6 @@
 use native.Mathlib.Omega.{arith}
 use mathlib.Core.Path.{refl}
+use mathlib.Core.List.{[]}
 use Rattle.numbers.proofs.ListLaws.{copied_none, copied_more}
 use Rattle.sections.proofs.PutLaws.{put_all}
 use Rattle.sections.proofs.put.put_rows.Goals as goal

@@ -12,10 +12,6 @@ use Rattle.lines.specs.Said.{said_zone}
 use Rattle.sections.proofs.StoredLaws.{after_within, stored_none, stored_all, stored_form, stored_range, stored_more}
 use Rattle.sections.proofs.zones.zones_read.Goals as goal
 
-line_said : (c : goal.After-zone_line)
-    → position_line c.args.letter (line_at c.args.text.now c.loop-i.p) c.loop-i.i ≡ said_zone c.zone_line.result
-line_said c = ap (λ (line : List ℕ). position_line c.args.letter line c.loop-i.i) (sym c.line_at-line.ensures) ∙ sym c.zone_line.ensures
-
 pub loop-i-init : goal.loop-i-init
 loop-i-init c = stored_none (position_line _) _ _ _ _ c.requires.0
 
@@ -35,7 +31,8 @@ pub shape_of-z-in-Form : goal.shape_of-z-in-Form
 shape_of-z-in-Form c = c.loop-i.invariant.as_long
 
 pub returns-in-Form : goal.returns-in-Form
-returns-in-Form c = ap fault c.wrong_form_at.ensures ∙ stored_form (position_line _) _ _ _ _ _ _ _ _ c.loop-i.invariant c.loop-i-test.true _ (line_said c.before.before.before ∙ ap said_zone c.in-Form.is)
+returns-in-Form c = let line_said : position_line c.args.letter (line_at c.args.text.now c.loop-i.p) c.loop-i.i ≡ said_zone c.zone_line.result = ap (λ (line : List ℕ). position_line c.args.letter line c.loop-i.i) (sym c.line_at-line.ensures) ∙ sym c.zone_line.ensures in
+    ap fault c.wrong_form_at.ensures ∙ stored_form (position_line _) _ _ _ _ _ _ _ _ c.loop-i.invariant c.loop-i-test.true _ (line_said ∙ ap said_zone c.in-Form.is)
 
 pub overflow_add-first-in-Range : goal.overflow_add-first-in-Range
 overflow_add-first-in-Range c = omega (arith, c.loop-i.invariant.high, c.loop-i.invariant.all, c.requires.1)
@@ -44,15 +41,17 @@ pub shape_of-z-in-Range : goal.shape_of-z-in-Range
 shape_of-z-in-Range c = c.loop-i.invariant.as_long
 
 pub returns-in-Range : goal.returns-in-Range
-returns-in-Range c = ap fault c.out_of_range_at.ensures ∙ stored_range (position_line _) _ _ _ _ _ _ _ _ c.loop-i.invariant c.loop-i-test.true _ (line_said c.before.before.before ∙ ap said_zone c.in-Range.is)
+returns-in-Range c = let line_said : position_line c.args.letter (line_at c.args.text.now c.loop-i.p) c.loop-i.i ≡ said_zone c.zone_line.result = ap (λ (line : List ℕ). position_line c.args.letter line c.loop-i.i) (sym c.line_at-line.ensures) ∙ sym c.zone_line.ensures in
+    ap fault c.out_of_range_at.ensures ∙ stored_range (position_line _) _ _ _ _ _ _ _ _ c.loop-i.invariant c.loop-i-test.true _ (line_said ∙ ap said_zone c.in-Range.is)
 
 pub overflow_add-p : goal.overflow_add-p
 overflow_add-p c = rw c.line_at-line.ensures (omega (arith, after_within c.args.text.now c.loop-i.p c.loop-i.invariant.within))
 
 pub loop-i-preserved : goal.loop-i-preserved
-loop-i-preserved c = let plain-net : to_z w64 (of_z w64 c.in-Holds.net) ≡ c.in-Holds.net = search rules in
+loop-i-preserved c = let line_said : position_line c.args.letter (line_at c.args.text.now c.loop-i.p) c.loop-i.i ≡ said_zone c.zone_line.result = ap (λ (line : List ℕ). position_line c.args.letter line c.loop-i.i) (sym c.line_at-line.ensures) ∙ sym c.zone_line.ensures in
+    let plain-net : to_z w64 (of_z w64 c.in-Holds.net) ≡ c.in-Holds.net = search rules in
     rw (plain-net, c.line_at-line.ensures)
-    (stored_more (position_line _) _ _ _ _ _ _ _ _ c.loop-i.invariant c.loop-i-test.true c.in-Holds.net (line_said c.before.before ∙ ap said_zone c.in-Holds.is))
+    (stored_more (position_line _) _ _ _ _ _ _ _ _ c.loop-i.invariant c.loop-i-test.true c.in-Holds.net (line_said ∙ ap said_zone c.in-Holds.is))
 
 pub shape_of-z : goal.shape_of-z
 shape_of-z c = c.loop-i.invariant.as_long

@@ -1,4 +1,5 @@
 -- `text::field::minus` meets its contract: by the number after the minus, each return is one case of `negative`.
+use mir.Syntax.{w64}
 use Prim.Native.Nat.{◌<◌, ◌^◌}
 use borrow.Author.Tests.{ne_eqb}
 use lib.IntN.{pos, neg_ℤ, +ℤ_idl}
@@ -22,7 +23,7 @@ pub returns-then-first-eq48 : goal.returns-then-first-eq48
 returns-then-first-eq48 c = rw (c.in-Bad.is, c.if-first-eq48.true)
 
 pub returns-else-v-eq0 : goal.returns-else-v-eq0
-returns-else-v-eq0 c = rw (read_back c.in-Value.v (small c), +ℤ_idl (neg_ℤ (pos c.in-Value.v)), to_z-of_z (fits_neg c.in-Value.v (small c)), c.in-Value.is, ne_eqb c.in-Value.v 0 c.if-v-eq0.false)
+returns-else-v-eq0 c = rw (read_back c.in-Value.v (small c), +ℤ_idl (neg_ℤ (pos c.in-Value.v)), to_z-of_z {w = w64} (fits_neg c.in-Value.v (small c)), c.in-Value.is, ne_eqb c.in-Value.v 0 c.if-v-eq0.false)
 
 pub returns-else-first-eq48 : goal.returns-else-first-eq48
 returns-else-first-eq48 c = rw (c.in-Bad.is, ne_eqb c.args.first 48 c.if-first-eq48.false)

@@ -1,6 +1,7 @@
 use Prim.Native.Nat.{◌-◌, ◌<◌, ◌^◌}
 use mathlib.Core.Path.{◌≡◌, sym, ◌∙◌}
 use mathlib.Core.Bool.{true}
+use mathlib.Core.List.{[]}
 use native.Mathlib.Omega.{arith}
 use lib.ListN.{get_or, drop}
 use Rattle.text.specs.Fields.{is_digit, digits}
@@ -8,10 +9,6 @@ use Rattle.text.proofs.NumberTrip.{digit_range}
 use Rattle.text.proofs.ClassLaws.{class_digit, class_not_digit}
 use Rattle.text.proofs.NumberLaws.{upto_none, upto_small, upto_more, upto_full, upto_empty, upto_other, upto_stop, upto_cut, digits_none, digits_end}
 use Rattle.text.proofs.field.number_at.Goals as goal
-
-no_digit : (c : goal.In_default) →
-    digits (drop c.loop-i.i c.args.line.now) ≡ []
-no_digit c = digits_none c.args.line.now c.loop-i.i c.loop-i-test.true (class_not_digit (get_or c.args.line.now c.loop-i.i 0) c.class_of.result c.class_of.ensures c.in-Digit.in-Digit-own.keys2)
 
 digit : (c : goal.In-Digit) →
     let b = get_or c.args.line.now c.loop-i.i 0 in
@@ -25,15 +22,18 @@ pub loop-i-init : goal.loop-i-init
 loop-i-init c = upto_none c.args.line.now c.args.at
 
 pub returns-then-line-i : goal.returns-then-line-i
-returns-then-line-i c = upto_stop c.args.line.now c.args.at c.loop-i.i c.loop-i.v c.loop-i.invariant (no_digit c.before.before.before) c.if-at-i.true c.args.stop
+returns-then-line-i c = let no_digit : digits (drop c.loop-i.i c.args.line.now) ≡ [] = digits_none c.args.line.now c.loop-i.i c.loop-i-test.true (class_not_digit (get_or c.args.line.now c.loop-i.i 0) c.class_of.result c.class_of.ensures c.in-Digit.in-Digit-own.keys2) in
+    upto_stop c.args.line.now c.args.at c.loop-i.i c.loop-i.v c.loop-i.invariant (no_digit) c.if-at-i.true c.args.stop
     c.loop-i-test.true c.if-line-i.true
 
 pub returns-else-line-i : goal.returns-else-line-i
-returns-else-line-i c = upto_other c.args.line.now c.args.at c.loop-i.i c.loop-i.v c.loop-i.invariant (no_digit c.before.before.before) c.if-at-i.true c.args.stop
+returns-else-line-i c = let no_digit : digits (drop c.loop-i.i c.args.line.now) ≡ [] = digits_none c.args.line.now c.loop-i.i c.loop-i-test.true (class_not_digit (get_or c.args.line.now c.loop-i.i 0) c.class_of.result c.class_of.ensures c.in-Digit.in-Digit-own.keys2) in
+    upto_other c.args.line.now c.args.at c.loop-i.i c.loop-i.v c.loop-i.invariant (no_digit) c.if-at-i.true c.args.stop
     c.loop-i-test.true c.if-line-i.false
 
 pub returns-else-at-i : goal.returns-else-at-i
-returns-else-at-i c = upto_empty c.args.line.now c.args.at c.loop-i.i c.loop-i.v c.loop-i.invariant (no_digit c.before) c.args.stop c.if-at-i.false
+returns-else-at-i c = let no_digit : digits (drop c.loop-i.i c.args.line.now) ≡ [] = digits_none c.args.line.now c.loop-i.i c.loop-i-test.true (class_not_digit (get_or c.args.line.now c.loop-i.i 0) c.class_of.result c.class_of.ensures c.in-Digit.in-Digit-own.keys2) in
+    upto_empty c.args.line.now c.args.at c.loop-i.i c.loop-i.v c.loop-i.invariant (no_digit) c.args.stop c.if-at-i.false
 
 pub overflow_sub-i : goal.overflow_sub-i
 overflow_sub-i c = omega (arith, c.loop-i.invariant.low)

@@ -1,4 +1,5 @@
 -- `text::point::negated` meets its contract. A number below 10^10 has its opposite in an i64.
+use mir.Syntax.{w64}
 use Prim.Native.Nat.{◌<◌, ◌^◌}
 use mathlib.Core.Path.{sym, ap}
 use lib.IntN.{pos, neg_ℤ, +ℤ_idl}
@@ -17,7 +18,7 @@ pub overflow_sub-result : goal.overflow_sub-result
 overflow_sub-result c = rw (read_back c.in-Value.v (small c), +ℤ_idl (neg_ℤ (pos c.in-Value.v))) (fits_neg c.in-Value.v (small c))
 
 pub returns-in-Value : goal.returns-in-Value
-returns-in-Value c = rw (read_back c.in-Value.v (small c), +ℤ_idl (neg_ℤ (pos c.in-Value.v)), to_z-of_z (fits_neg c.in-Value.v (small c))) (ap negated (sym c.in-Value.is))
+returns-in-Value c = rw (read_back c.in-Value.v (small c), +ℤ_idl (neg_ℤ (pos c.in-Value.v)), to_z-of_z {w = w64} (fits_neg c.in-Value.v (small c))) (ap negated (sym c.in-Value.is))
 
 pub returns-in-Bad : goal.returns-in-Bad
 returns-in-Bad c = ap negated (sym c.in-Bad.is)

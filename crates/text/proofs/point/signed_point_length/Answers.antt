@@ -10,7 +10,7 @@ use Rattle.text.proofs.PointLaws.{pointed_long, below_point_length, above_point_
 use Rattle.text.proofs.point.signed_point_length.Goals as goal
 
 few : (c : goal.After-digit_count) → c.digit_count.result ≤ 20
-few c = omega (arith, c.digit_count.ensures, decimal_u64 c.shifted.result (omega (arith, c.shifted.type-inv)))
+few c = omega (arith, c.digit_count.ensures, decimal_u64 c.shifted.result (omega (arith, c.shifted.type_inv)))
 
 counted : (c : goal.After-digit_count) → c.digit_count.result ≡ length (decimal (c.magnitude.result / 10 ^ c.args.k))
 counted c = c.digit_count.ensures ∙ ap (λ (n : ℕ). length (decimal n)) c.shifted.ensures

@@ -8,23 +8,22 @@ use mir.Facts.{to_z-of_z}
 use Rattle.text.proofs.DigitLaws.{below_length, above_length, below_put, above_put}
 use Rattle.text.proofs.put.put_signed.Goals as goal
 
-below : (t : goal.Then-z-lt0) → (t.magnitude-digits.result ≡ nat_abs t.args.z) × (lt_z t.args.z (pos 0) ≡ true)
-below t = (simp (to_z-of_z, t.ranges.z) at t.magnitude-digits.ensures, simp (to_z-of_z, t.ranges.z) at t.if-z-lt0.true)
-
-above : (t : goal.Else-z-lt0) → (t.magnitude-digits.result ≡ nat_abs t.args.z) × (lt_z t.args.z (pos 0) ≡ false)
-above t = (simp (to_z-of_z, t.ranges.z) at t.magnitude-digits.ensures, simp (to_z-of_z, t.ranges.z) at t.if-z-lt0.false)
-
 pub put_byte-first-requires : goal.put_byte-first-requires
-put_byte-first-requires c = omega (arith, c.requires, below_length c.args.z (below c.before).0 (below c.before).1)
+put_byte-first-requires c = let below : (c.magnitude-digits.result ≡ nat_abs c.args.z) × (lt_z c.args.z (pos 0) ≡ true) = (simp (to_z-of_z, c.ranges.z) at c.magnitude-digits.ensures, simp (to_z-of_z, c.ranges.z) at c.if-z-lt0.true) in
+    omega (arith, c.requires, below_length c.args.z (below).0 (below).1)
 
 pub put_number-requires : goal.put_number-requires
-put_number-requires c = omega (arith, c.requires, c.put_byte-first.ensures.after, c.put_byte-first.auto.out, below_length c.args.z (below c.before.before.before.before.before).0 (below c.before.before.before.before.before).1)
+put_number-requires c = let below : (c.magnitude-digits.result ≡ nat_abs c.args.z) × (lt_z c.args.z (pos 0) ≡ true) = (simp (to_z-of_z, c.ranges.z) at c.magnitude-digits.ensures, simp (to_z-of_z, c.ranges.z) at c.if-z-lt0.true) in
+    omega (arith, c.requires, c.put_byte-first.ensures.after, c.put_byte-first.auto.out, below_length c.args.z (below).0 (below).1)
 
 pub returns-then-z-lt0 : goal.returns-then-z-lt0
-returns-then-z-lt0 c = below_put c.args.z (below c.before.before.before.before.before.before.before.before).0 (below c.before.before.before.before.before.before.before.before).1 (omega (arith, c.requires)) c.put_byte-first.ensures c.put_number.ensures
+returns-then-z-lt0 c = let below : (c.magnitude-digits.result ≡ nat_abs c.args.z) × (lt_z c.args.z (pos 0) ≡ true) = (simp (to_z-of_z, c.ranges.z) at c.magnitude-digits.ensures, simp (to_z-of_z, c.ranges.z) at c.if-z-lt0.true) in
+    below_put c.args.z (below).0 (below).1 (omega (arith, c.requires)) c.put_byte-first.ensures c.put_number.ensures
 
 pub put_number-requires-2 : goal.put_number-requires-2
-put_number-requires-2 c = omega (arith, c.requires, above_length c.args.z (above c.before).0 (above c.before).1)
+put_number-requires-2 c = let above : (c.magnitude-digits.result ≡ nat_abs c.args.z) × (lt_z c.args.z (pos 0) ≡ false) = (simp (to_z-of_z, c.ranges.z) at c.magnitude-digits.ensures, simp (to_z-of_z, c.ranges.z) at c.if-z-lt0.false) in
+    omega (arith, c.requires, above_length c.args.z (above).0 (above).1)
 
 pub returns : goal.returns
-returns c = above_put c.args.z (above c.before.before.before.before).0 (above c.before.before.before.before).1 c.put_number-2.ensures
+returns c = let above : (c.magnitude-digits.result ≡ nat_abs c.args.z) × (lt_z c.args.z (pos 0) ≡ false) = (simp (to_z-of_z, c.ranges.z) at c.magnitude-digits.ensures, simp (to_z-of_z, c.ranges.z) at c.if-z-lt0.false) in
+    above_put c.args.z (above).0 (above).1 c.put_number-2.ensures

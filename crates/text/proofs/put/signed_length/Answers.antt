@@ -6,7 +6,7 @@ use Rattle.text.proofs.DigitLaws.{decimal_u64, below_length, above_length}
 use Rattle.text.proofs.put.signed_length.Goals as goal
 
 pub overflow_add-result : goal.overflow_add-result
-overflow_add-result c = omega (arith, c.digit_count-count.ensures, decimal_u64 c.magnitude.result (omega (arith, c.magnitude.type-inv)))
+overflow_add-result c = omega (arith, c.digit_count-count.ensures, decimal_u64 c.magnitude.result (omega (arith, c.magnitude.type_inv)))
 
 pub returns-then-z-lt0 : goal.returns-then-z-lt0
 returns-then-z-lt0 c = let q = simp (to_z-of_z, c.ranges.z) at c.magnitude.ensures in

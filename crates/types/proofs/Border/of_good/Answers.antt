@@ -4,11 +4,11 @@ use Rattle.types.specs.Ranges.{border_of}
 use Rattle.types.proofs.RangeLaws.{BorderIn, border_in}
 use Rattle.types.proofs.Border.of_good.Goals as goal
 
-natural : (c : goal.After-of_good-hubs) → BorderIn c.args.zones c.args.t2
+natural : (c : goal.After-of_good-hubs) → BorderIn c.args.zones c.args.raw
 natural c = border_in _ _ c.requires
 
 pub of_good-hubs-requires : goal.of_good-hubs-requires
-of_good-hubs-requires c = simp (plain, c.sending-1.given, c.receiving-1.given) (border_in c.args.zones c.args.t2 c.requires).hubs_fit_lem
+of_good-hubs-requires c = simp (plain, c.sending-1.given, c.receiving-1.given) (border_in c.args.zones c.args.raw c.requires).hubs_fit_lem
 
 pub overflow_cast-result : goal.overflow_cast-result
 overflow_cast-result c = natural_cast _ _ c.from-1.given (natural c).from

@@ -1,4 +1,5 @@
 -- `types::Header::default_share` meets its contract.
+use mir.Syntax.{w64}
 use mathlib.Core.Path.{ap, ◌∙◌}
 use borrow.Author.Rules.{sfits_of}
 use lib.IntN.{pos}
@@ -10,4 +11,4 @@ use Rattle.types.proofs.Header.default_share.Goals as goal
 
 pub returns : goal.returns
 unfolding default_of
-returns c = to_z-of_z (sfits_of c.worth.type-inv) ∙ c.worth.ensures ∙ ap (worth (pos share_standard)) (c.of-written.ensures ∙ ap share_of (plain _ c.struct_told-1.given.1.1.1.0.1))
+returns c = to_z-of_z {w = w64} (sfits_of c.worth.type_inv) ∙ c.worth.ensures ∙ ap (worth (pos share_standard)) (c.of-written.ensures ∙ ap share_of (plain _ c.struct_told-1.given.1.1.1.0.1))

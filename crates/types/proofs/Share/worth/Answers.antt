@@ -1,4 +1,5 @@
 -- `types::Share::worth` meets its contract.
+use mir.Syntax.{w64}
 use mathlib.Core.Path.{sym, ap, ◌∙◌}
 use mir.Facts.{to_z-of_z}
 use Rattle.numbers.proofs.IntLaws.{plain}
@@ -7,7 +8,7 @@ use Rattle.types.proofs.Share.worth.Goals as goal
 
 pub returns-in-Standard : goal.returns-in-Standard
 unfolding worth
-returns-in-Standard c = to_z-of_z c.ranges.default ∙ sym (ap (worth _) c.in-Standard.is)
+returns-in-Standard c = to_z-of_z {w = w64} c.ranges.default ∙ sym (ap (worth _) c.in-Standard.is)
 
 pub returns-in-Written : goal.returns-in-Written
 unfolding worth

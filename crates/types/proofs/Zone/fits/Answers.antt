@@ -1,4 +1,5 @@
 -- `types::Zone::fits` meets its contract: all tests hold.
+use mir.Syntax.{w64}
 use mathlib.Core.Path.{ap, ◌∙◌}
 use mir.Facts.{to_z-of_z}
 use Rattle.types.specs.Ranges.{all_true, zone_fits}
@@ -6,4 +7,4 @@ use Rattle.types.proofs.Zone.fits.Goals as goal
 
 pub returns : goal.returns
 unfolding zone_fits
-returns c = c.all.ensures ∙ ap all_true (simp (to_z-of_z c.ranges.raw) at c.tests-tests.ensures)
+returns c = c.all.ensures ∙ ap all_true (simp (to_z-of_z {w = w64} c.ranges.raw) at c.tests-tests.ensures)

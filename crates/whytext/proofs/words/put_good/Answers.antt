@@ -7,23 +7,22 @@ use Rattle.limits.specs.Limits.{borders_most, rows_most}
 use Rattle.types.proofs.RangeLaws.{HeaderIn, header_in_lem}
 use Rattle.whytext.proofs.words.put_good.Goals as goal
 
-within : (s : goal.Start) → HeaderIn s.args.h
-within s = header_in_lem _ s.requires.exact.header
-
-cells-most : (s : goal.Start) → s.args.h.rows * s.args.h.borders ≤ rows_most * borders_most
-cells-most s = mul-le-mul (within s).rows_most_lem (within s).borders_most_lem
-
 array-share-prefix-rows : goal.slice_bounds-rows-end
-array-share-prefix-rows c = le_trans (within c.before.before.before.before.before.before.before.before.before.before.before.before.before.before.before).rows_most_lem (le_of_eq (sym c.why_good.auto.rows))
+array-share-prefix-rows c = le_trans (within).rows_most_lem (le_of_eq (sym c.why_good.auto.rows))
 
 pub why_good-requires : goal.why_good-requires
-why_good-requires c = record { good = c.requires; borders_in_bounds = cells-most c.before.before.before.before.before }
+why_good-requires c = let within : HeaderIn c.args.h = header_in_lem _ c.requires.exact.header in
+    let cells-most : c.args.h.rows * c.args.h.borders ≤ rows_most * borders_most = mul-le-mul (within).rows_most_lem (within).borders_most_lem in
+    record { good = c.requires; borders_in_bounds = cells-most }
 
 pub slice_bounds-rows-end : goal.slice_bounds-rows-end
-slice_bounds-rows-end c = le_trans (within c.before.before.before.before.before.before.before.before.before.before.before.before.before.before.before).rows_most_lem (le_of_eq (sym c.why_good.auto.rows))
+slice_bounds-rows-end c = let within : HeaderIn c.args.h = header_in_lem _ c.requires.exact.header in
+    le_trans (within).rows_most_lem (le_of_eq (sym c.why_good.auto.rows))
 
 pub slice_bounds-put-end-in-Reasons-2 : goal.slice_bounds-put-end-in-Reasons-2
 slice_bounds-put-end-in-Reasons-2 c = sym (length-take-le _ _ (array-share-prefix-rows c.before))
 
 pub put-requires : goal.put-requires
-put-requires c = le_trans (cells-most c.before.before.before.before.before.before.before.before.before.before.before.before.before.before.before.before.before) (le_of_eq (sym c.why_good.auto.p))
+put-requires c = let within : HeaderIn c.args.h = header_in_lem _ c.requires.exact.header in
+    let cells-most : c.args.h.rows * c.args.h.borders ≤ rows_most * borders_most = mul-le-mul (within).rows_most_lem (within).borders_most_lem in
+    le_trans (cells-most) (le_of_eq (sym c.why_good.auto.p))
