@@ -1,18 +1,13 @@
--- The laws of `specs/Class.antt`'s `class_of`: what a reader learns of a byte from its class. A class that is not the one asked for is known by its tag,
--- its place among the variants. No contract cites this file.
-use mathlib.Core.Path.{◌≡◌, refl, subst, ◌∙◌, ap}
+-- The laws of `specs/Class.antt`'s `class_of`: what a reader learns of a byte from its class. No contract cites this file.
+use mathlib.Core.Path.{◌≡◌, refl, ◌∙◌, ap}
 use mathlib.Core.Bool.{Bool, true, false, cond}
-use mathlib.Core.List.{[], ◌∷◌}
 use Prim.Native.Nat.{ℕ, ◌-◌}
-use types.Run.{OneOf, miss}
-use denote.Enum.Declared.{tag_of, declared}
 use lib.Dec.{eqb}
 use borrow.Author.Tests.{eqb-true}
 use Rattle.text.specs.declared.Class.{Class}
 use Rattle.text.specs.declared.Class.TheVariants.{Digit, Minus, Tab, Feed, Other}
 use Rattle.text.specs.Fields.{is_digit}
 use Rattle.text.specs.Class.{class_of}
-use Rattle.text.specs.contracts.Class.{enum}
 use Rattle.text.proofs.NumberTrip.{zero_one}
 
 module _ (b : ℕ) (r : Class) (is : r ≡ class_of b) where
@@ -26,11 +21,11 @@ module _ (b : ℕ) (r : Class) (is : r ≡ class_of b) where
       go false false false true q = let z : ◌≡◌ {A = ℕ} 0 1 = cc in absurd (zero_one z)
       go false false false false q = let z : ◌≡◌ {A = ℕ} 0 1 = cc in absurd (zero_one z)
 
-  pub class_not_digit : OneOf (1 ∷ 2 ∷ 3 ∷ 4 ∷ []) (tag_of (declared enum) r) → is_digit b ≡ false
+  pub class_not_digit : ((d : ℕ) → r ≡ Digit d → ⊥) → is_digit b ≡ false
   class_not_digit h = go (is_digit b) refl
     where
       go : (t : Bool) → is_digit b ≡ t → is_digit b ≡ false
-      go true e = let q : class_of b ≡ Digit (b - 48) = rw e in absurd (miss (1 ∷ 2 ∷ 3 ∷ 4 ∷ []) 0 tt (subst (λ (k : Class). OneOf (1 ∷ 2 ∷ 3 ∷ 4 ∷ []) (tag_of (declared enum) k)) (is ∙ q) h))
+      go true e = let q : class_of b ≡ Digit (b - 48) = rw e in absurd (h (b - 48) (is ∙ q))
       go false e = e
 
   pub class_minus : r ≡ Minus → eqb b 45 ≡ true
@@ -43,9 +38,9 @@ module _ (b : ℕ) (r : Class) (is : r ≡ class_of b) where
       go false false false true q = let z : ◌≡◌ {A = ℕ} 0 1 = cc in absurd (zero_one z)
       go false false false false q = let z : ◌≡◌ {A = ℕ} 0 1 = cc in absurd (zero_one z)
 
-  pub class_not_minus : OneOf (0 ∷ 2 ∷ 3 ∷ 4 ∷ []) (tag_of (declared enum) r) → eqb b 45 ≡ false
+  pub class_not_minus : (r ≡ Minus → ⊥) → eqb b 45 ≡ false
   class_not_minus h = go (eqb b 45) refl
     where
       go : (t : Bool) → eqb b 45 ≡ t → eqb b 45 ≡ false
-      go true e = absurd (miss (0 ∷ 2 ∷ 3 ∷ 4 ∷ []) 1 tt (subst (λ (k : Class). OneOf (0 ∷ 2 ∷ 3 ∷ 4 ∷ []) (tag_of (declared enum) k)) (is ∙ ap class_of (eqb-true b 45 e)) h))
+      go true e = absurd (h (is ∙ ap class_of (eqb-true b 45 e)))
       go false e = e

@@ -28,8 +28,10 @@ pub judge_room-requires : goal.judge_room-requires
 judge_room-requires c = (section c).fits
 
 pub returns-in-Refused-judge_room : goal.returns-in-Refused-judge_room
-returns-in-Refused-judge_room c = let rows : Rows = front_rows c.args.h c.read_sheet.new.c c.read_sheet.new.f in
-    left_short c.args.h c.args.sheet.now c.args.c.now c.args.f.now (rows) (good c.before.before.before) _ (sym (ap (λ (j : Judgement). said_judgement j c.args.h) c.in-Refused-judge_room.is) ∙ c.judge_room.ensures)
+returns-in-Refused-judge_room c =
+    let good : passed (rows) ≡ read_sheet c.args.h c.args.sheet.now = sym (ap (λ (j : Judgement). said_judgement j (rows)) c.in_default.is) ∙ c.read_sheet.ensures in
+    let rows : Rows = front_rows c.args.h c.read_sheet.new.c c.read_sheet.new.f in
+    left_short c.args.h c.args.sheet.now c.args.c.now c.args.f.now (rows) (good) _ (sym (ap (λ (j : Judgement). said_judgement j c.args.h) c.in-Refused-judge_room.is) ∙ c.judge_room.ensures)
 
 pub put_rows-requires : goal.put_rows-requires
 put_rows-requires c = let room : passed c.args.h ≡ row_room c.args.h (length c.args.c.now) (length c.args.f.now) (passed c.args.h) = sym (ap (λ (j : Judgement). said_judgement j c.args.h) c.in_default-judge_room.is) ∙ c.judge_room.ensures in
@@ -40,12 +42,17 @@ pub overflow_mul-h : goal.overflow_mul-h
 overflow_mul-h c = omega (arith, factors_most _ (section c).fits)
 
 pub put_numbers-requires : goal.put_numbers-requires
-put_numbers-requires c = let room : passed c.args.h ≡ row_room c.args.h (length c.args.c.now) (length c.args.f.now) (passed c.args.h) = sym (ap (λ (j : Judgement). said_judgement j c.args.h) c.in_default-judge_room.is) ∙ c.judge_room.ensures in
+put_numbers-requires c =
+    let good : passed (rows) ≡ read_sheet c.args.h c.args.sheet.now = sym (ap (λ (j : Judgement). said_judgement j (rows)) c.in_default.is) ∙ c.read_sheet.ensures in
+    let section : SheetSection c.args.h c.args.sheet.now (rows) = sheet_section _ _ _ (sym (good)) in
+    let room : passed c.args.h ≡ row_room c.args.h (length c.args.c.now) (length c.args.f.now) (passed c.args.h) = sym (ap (λ (j : Judgement). said_judgement j c.args.h) c.in_default-judge_room.is) ∙ c.judge_room.ensures in
     let n = room_passed _ _ _ _ _ (sym (room)) in
-    (omega (arith, factors_most _ (section c.before.before.before.before.before.before.before.before).fits, c.requires.1, c.read_sheet.auto.f), n.1)
+    (omega (arith, factors_most _ (section).fits, c.requires.1, c.read_sheet.auto.f), n.1)
 
 pub returns : goal.returns
-returns c = let rows : Rows = front_rows c.args.h c.read_sheet.new.c c.read_sheet.new.f in
+returns c =
+    let good : passed (rows) ≡ read_sheet c.args.h c.args.sheet.now = sym (ap (λ (j : Judgement). said_judgement j (rows)) c.in_default.is) ∙ c.read_sheet.ensures in
+    let rows : Rows = front_rows c.args.h c.read_sheet.new.c c.read_sheet.new.f in
     let room : passed c.args.h ≡ row_room c.args.h (length c.args.c.now) (length c.args.f.now) (passed c.args.h) = sym (ap (λ (j : Judgement). said_judgement j c.args.h) c.in_default-judge_room.is) ∙ c.judge_room.ensures in
     ap₂ (λ (x : List (List ℤ)) (y : List ℤ). rows_said judgement.Passed x y) c.put_rows.ensures c.put_numbers.ensures
-    ∙ left_filled c.args.h c.args.sheet.now c.args.c.now c.args.f.now (rows) (good c.before.before.before.before.before.before.before.before.before.before) (room)
+    ∙ left_filled c.args.h c.args.sheet.now c.args.c.now c.args.f.now (rows) (good) (room)

@@ -34,22 +34,36 @@ pub judge_room-requires : goal.judge_room-requires
 judge_room-requires c = fit c
 
 pub returns-in-Refused : goal.returns-in-Refused
-returns-in-Refused c = room_out c.args.h c.args.c.now c.args.f.now c.args.out.now (fit c.before.before.before) _ (sym (ap (λ (j : Judgement). said_judgement j c.args.h) c.in-Refused.is) ∙ c.judge_room.ensures)
+returns-in-Refused c =
+    let fit : header_fits c.args.h ≡ true = sym c.fits.ensures ∙ not-false _ c.if-not-fits.false-raw in
+    room_out c.args.h c.args.c.now c.args.f.now c.args.out.now (fit) _ (sym (ap (λ (j : Judgement). said_judgement j c.args.h) c.in-Refused.is) ∙ c.judge_room.ensures)
 
 pub slice_bounds-write_front-end : goal.slice_bounds-write_front-end
 slice_bounds-write_front-end c = sym (length-take-le _ _ (enough c).0)
 
 pub overflow_mul-rows : goal.overflow_mul-rows
-overflow_mul-rows c = omega (arith, factors_most _ (fit c.before.before))
+overflow_mul-rows c =
+    let fit : header_fits c.args.h ≡ true = sym c.fits.ensures ∙ not-false _ c.if-not-fits.false-raw in
+    omega (arith, factors_most _ (fit))
 
 pub slice_bounds-write_front-end-2 : goal.slice_bounds-write_front-end-2
-slice_bounds-write_front-end-2 c = sym (length-take-le _ _ (enough c.before).1)
+slice_bounds-write_front-end-2 c =
+    let room : passed c.args.h ≡ row_room c.args.h (length c.args.c.now) (length c.args.f.now) (passed c.args.h) = sym (ap (λ (j : Judgement). said_judgement j c.args.h) c.in_default.is) ∙ c.judge_room.ensures in
+    let enough : (c.args.h.rows ≤ length c.args.c.now) × (c.args.h.rows * c.args.h.zones ≤ length c.args.f.now) = let n = room_passed c.args.h (length c.args.c.now) (length c.args.f.now) (passed c.args.h) c.args.h (sym (room)) in (n.0, n.1) in
+    sym (length-take-le _ _ (enough).1)
 
 pub write_front-requires : goal.write_front-requires
-write_front-requires c = let n = enough c.before.before in
-    let k = header_in_lem c.args.h (fit c.before.before.before) in
+write_front-requires c =
+    let fit : header_fits c.args.h ≡ true = sym c.fits.ensures ∙ not-false _ c.if-not-fits.false-raw in
+    let room : passed c.args.h ≡ row_room c.args.h (length c.args.c.now) (length c.args.f.now) (passed c.args.h) = sym (ap (λ (j : Judgement). said_judgement j c.args.h) c.in_default.is) ∙ c.judge_room.ensures in
+    let enough : (c.args.h.rows ≤ length c.args.c.now) × (c.args.h.rows * c.args.h.zones ≤ length c.args.f.now) = let n = room_passed c.args.h (length c.args.c.now) (length c.args.f.now) (passed c.args.h) c.args.h (sym (room)) in (n.0, n.1) in
+    let n = enough in
+    let k = header_in_lem c.args.h (fit) in
     let rows = length-take-le c.args.h.rows c.args.c.now n.0 in
     (length-take-le (c.args.h.rows * c.args.h.zones) c.args.f.now n.1 ∙ ap (λ (m : ℕ). m * c.args.h.zones) (sym rows), omega (arith, k.zones_least_lem), k.zones_most_lem, omega (arith, rows, k.rows_most_lem))
 
 pub returns : goal.returns
-returns c = c.write_front.ensures ∙ front_on c.args.h c.args.c.now c.args.f.now c.args.out.now (fit c.before.before.before.before.before.before) (room c.before.before.before.before.before)
+returns c =
+    let fit : header_fits c.args.h ≡ true = sym c.fits.ensures ∙ not-false _ c.if-not-fits.false-raw in
+    let room : passed c.args.h ≡ row_room c.args.h (length c.args.c.now) (length c.args.f.now) (passed c.args.h) = sym (ap (λ (j : Judgement). said_judgement j c.args.h) c.in_default.is) ∙ c.judge_room.ensures in
+    c.write_front.ensures ∙ front_on c.args.h c.args.c.now c.args.f.now c.args.out.now (fit) (room)

@@ -20,7 +20,10 @@ items : (c : goal.After-allocated_items-allocated) → c.allocated_items-allocat
 items c = c.allocated_items-allocated.ensures
 
 pub slice_bounds-t-end : goal.slice_bounds-t-end
-slice_bounds-t-end c = rw (items c.before.before) (sym (good c.before.before).exact.allocated_long)
+slice_bounds-t-end c =
+    let good : Good (front (given c)) = c.requires in
+    let items : c.allocated_items-allocated.result ≡ allocated_items c.args.h = c.allocated_items-allocated.ensures in
+    rw (items) (sym (good).exact.allocated_long)
 
 pub overflow_mul-f : goal.overflow_mul-f
 overflow_mul-f c = omega (arith, factors_most _ (good c).exact.header)
@@ -29,11 +32,18 @@ pub text_length-needed-requires : goal.text_length-needed-requires
 text_length-needed-requires c = rw (items c) (good c)
 
 pub returns-then-out-needed : goal.returns-then-out-needed
-returns-then-out-needed c = rw c.too_short.ensures (text_short (table_text (front (given c.before.before.before))) _ _ (rw (items c.before.before.before) at c.text_length-needed.ensures) (omega arith))
+returns-then-out-needed c =
+    let items : c.allocated_items-allocated.result ≡ allocated_items c.args.h = c.allocated_items-allocated.ensures in
+    rw c.too_short.ensures (text_short (table_text (front (given c.before.before.before))) _ _ (rw (items) at c.text_length-needed.ensures) (omega arith))
 
 pub put_table-requires : goal.put_table-requires
-put_table-requires c = (rw (items c.before.before.before) (good c.before.before.before), omega (arith, c.text_length-needed.ensures))
+put_table-requires c =
+    let good : Good (front (given c)) = c.requires in
+    let items : c.allocated_items-allocated.result ≡ allocated_items c.args.h = c.allocated_items-allocated.ensures in
+    (rw (items) (good), omega (arith, c.text_length-needed.ensures))
 
 pub returns : goal.returns
-returns c = let long = rw (items c.before.before.before.before.before.before) at c.text_length-needed.ensures in
-    text_written (table_text (front (given c.before.before.before.before.before.before))) _ (omega (arith, long)) (rw (items c.before.before.before.before.before.before) at c.put_table.ensures)
+returns c =
+    let items : c.allocated_items-allocated.result ≡ allocated_items c.args.h = c.allocated_items-allocated.ensures in
+    let long = rw (items) at c.text_length-needed.ensures in
+    text_written (table_text (front (given c.before.before.before.before.before.before))) _ (omega (arith, long)) (rw (items) at c.put_table.ensures)

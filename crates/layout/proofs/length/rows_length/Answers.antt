@@ -11,9 +11,6 @@ use Rattle.layout.proofs.SumLaws.{part_count, sum_within, sum_lines}
 use Rattle.limits.specs.Limits.{bytes_most}
 use Rattle.layout.proofs.length.rows_length.Goals as goal
 
-within : (c : goal.In-loop-i) → c.loop-i.sum + length (row_text_in c.args.kind c.args.zones c.args.c.now c.args.f.now c.loop-i.i) ≤ bytes_most
-within c = sum_within (row_text_in c.args.kind c.args.zones c.args.c.now c.args.f.now) (length c.args.c.now) c.requires.3 c.loop-i.invariant (omega arith)
-
 counted : (c : goal.After-row_length-sum) → c.row_length-sum.result ≡ length (row_text_in c.args.kind c.args.zones c.args.c.now c.args.f.now c.loop-i.i)
 unfolding stretch
 counted c = rw (part_count c.loop-i.i c.args.zones) at c.row_length-sum.ensures
@@ -38,11 +35,15 @@ slice_bounds-row_length-end c = omega (arith, stretch_end c.args.zones (length c
 
 pub row_length-sum-requires : goal.row_length-sum-requires
 unfolding stretch
-row_length-sum-requires c = let n = part_long c.args.f.now (c.loop-i.i * c.args.zones) c.args.zones (omega (arith, stretch_end c.args.zones (length c.args.c.now) c.loop-i.i (omega arith), c.requires.0)) in
-    (omega (arith, n, c.requires.1), omega (arith, n, c.requires.2), rw (part_count c.loop-i.i c.args.zones) (omega (arith, within c.before.before)))
+row_length-sum-requires c =
+    let within : c.loop-i.sum + length (row_text_in c.args.kind c.args.zones c.args.c.now c.args.f.now c.loop-i.i) ≤ bytes_most = sum_within (row_text_in c.args.kind c.args.zones c.args.c.now c.args.f.now) (length c.args.c.now) c.requires.3 c.loop-i.invariant (omega arith) in
+    let n = part_long c.args.f.now (c.loop-i.i * c.args.zones) c.args.zones (omega (arith, stretch_end c.args.zones (length c.args.c.now) c.loop-i.i (omega arith), c.requires.0)) in
+    (omega (arith, n, c.requires.1), omega (arith, n, c.requires.2), rw (part_count c.loop-i.i c.args.zones) (omega (arith, within)))
 
 pub overflow_add-sum : goal.overflow_add-sum
-overflow_add-sum c = omega (arith, within c.before.before.before, counted c)
+overflow_add-sum c =
+    let within : c.loop-i.sum + length (row_text_in c.args.kind c.args.zones c.args.c.now c.args.f.now c.loop-i.i) ≤ bytes_most = sum_within (row_text_in c.args.kind c.args.zones c.args.c.now c.args.f.now) (length c.args.c.now) c.requires.3 c.loop-i.invariant (omega arith) in
+    omega (arith, within, counted c)
 
 pub loop-i-preserved : goal.loop-i-preserved
 loop-i-preserved c = summed_more c.loop-i.invariant _ (omega arith) (counted c)

@@ -29,7 +29,9 @@ read-section c = sym (ap (λ (r : End). stored_section r c.zones_read.new.z) c.i
 
 front-is : (c : goal.In-At)
     → take c.allocated_items-items.result (c.zones_read.new.z ++ drop c.allocated_items-items.result c.args.t.now) ≡ c.zones_read.new.z
-front-is c = take_at _ _ c.allocated_items-items.result (c.zones_read.auto.z ∙ length-take-le c.allocated_items-items.result _ (few c.before.before.before.before.before).2)
+front-is c =
+    let few : (c.allocated_items-items.result ≤ c.args.h.zones) × (c.args.h.zones ≤ zones_most) × (c.allocated_items-items.result ≤ length c.args.t.now) = let h = netted c.requires.netted in (omega (arith, c.allocated_items-items.ensures, allocated_most c.args.h), h.zones_most_lem, omega (arith, c.allocated_items-items.ensures, allocated_most c.args.h, h.zones_most_lem, c.requires.roomy.allocated)) in
+    take_at _ _ c.allocated_items-items.result (c.zones_read.auto.z ∙ length-take-le c.allocated_items-items.result _ (few).2)
 
 pub overflow_add-first : goal.overflow_add-first
 overflow_add-first c = let h = netted c.requires.netted in omega (arith, h.zones_most_lem)
@@ -38,27 +40,41 @@ pub slice_bounds-zones_read-end : goal.slice_bounds-zones_read-end
 slice_bounds-zones_read-end c = (few c).2
 
 pub slice_bounds-zones_read-end-2 : goal.slice_bounds-zones_read-end-2
-slice_bounds-zones_read-end-2 c = sym (length-take-le _ _ (few c.before).2)
+slice_bounds-zones_read-end-2 c =
+    let few : (c.allocated_items-items.result ≤ c.args.h.zones) × (c.args.h.zones ≤ zones_most) × (c.allocated_items-items.result ≤ length c.args.t.now) = let h = netted c.requires.netted in (omega (arith, c.allocated_items-items.ensures, allocated_most c.args.h), h.zones_most_lem, omega (arith, c.allocated_items-items.ensures, allocated_most c.args.h, h.zones_most_lem, c.requires.roomy.allocated)) in
+    sym (length-take-le _ _ (few).2)
 
 pub zones_read-requires : goal.zones_read-requires
-zones_read-requires c = let n = few c.before in (c.requires.netted.within, omega (arith, n, length-take-le _ c.args.t.now n.2))
+zones_read-requires c =
+    let few : (c.allocated_items-items.result ≤ c.args.h.zones) × (c.args.h.zones ≤ zones_most) × (c.allocated_items-items.result ≤ length c.args.t.now) = let h = netted c.requires.netted in (omega (arith, c.allocated_items-items.ensures, allocated_most c.args.h), h.zones_most_lem, omega (arith, c.allocated_items-items.ensures, allocated_most c.args.h, h.zones_most_lem, c.requires.roomy.allocated)) in
+    let n = few in (c.requires.netted.within, omega (arith, n, length-take-le _ c.args.t.now n.2))
 
 pub slice_bounds-balanced-end : goal.slice_bounds-balanced-end
-slice_bounds-balanced-end c = omega (arith, (few c.before.before.before.before.before).2, length_front c.args.t.now c.zones_read.new.z c.allocated_items-items.result c.zones_read.auto.z)
+slice_bounds-balanced-end c =
+    let few : (c.allocated_items-items.result ≤ c.args.h.zones) × (c.args.h.zones ≤ zones_most) × (c.allocated_items-items.result ≤ length c.args.t.now) = let h = netted c.requires.netted in (omega (arith, c.allocated_items-items.ensures, allocated_most c.args.h), h.zones_most_lem, omega (arith, c.allocated_items-items.ensures, allocated_most c.args.h, h.zones_most_lem, c.requires.roomy.allocated)) in
+    omega (arith, (few).2, length_front c.args.t.now c.zones_read.new.z c.allocated_items-items.result c.zones_read.auto.z)
 
 pub slice_bounds-balanced-end-in-At : goal.slice_bounds-balanced-end-in-At
-slice_bounds-balanced-end-in-At c = sym (ap length (front-is c.before) ∙ c.zones_read.auto.z ∙ length-take-le c.allocated_items-items.result _ (few c.before.before.before.before.before.before).2)
+slice_bounds-balanced-end-in-At c =
+    let few : (c.allocated_items-items.result ≤ c.args.h.zones) × (c.args.h.zones ≤ zones_most) × (c.allocated_items-items.result ≤ length c.args.t.now) = let h = netted c.requires.netted in (omega (arith, c.allocated_items-items.ensures, allocated_most c.args.h), h.zones_most_lem, omega (arith, c.allocated_items-items.ensures, allocated_most c.args.h, h.zones_most_lem, c.requires.roomy.allocated)) in
+    sym (ap length (front-is c.before) ∙ c.zones_read.auto.z ∙ length-take-le c.allocated_items-items.result _ (few).2)
 
 pub balanced-requires : goal.balanced-requires
-balanced-requires c = let held = allocated_held c.requires.netted _ _ (read-section c.before) in
-    let n = few c.before.before.before.before.before.before in
+balanced-requires c =
+    let few : (c.allocated_items-items.result ≤ c.args.h.zones) × (c.args.h.zones ≤ zones_most) × (c.allocated_items-items.result ≤ length c.args.t.now) = let h = netted c.requires.netted in (omega (arith, c.allocated_items-items.ensures, allocated_most c.args.h), h.zones_most_lem, omega (arith, c.allocated_items-items.ensures, allocated_most c.args.h, h.zones_most_lem, c.requires.roomy.allocated)) in
+    let held = allocated_held c.requires.netted _ _ (read-section c.before) in
+    let n = few in
     (omega (arith, ap length (front-is c.before), held.0, allocated_most c.args.h, n), subst (AllWithin net_most) (sym (front-is c.before)) held.1)
 
 pub overflow_add-last : goal.overflow_add-last
-overflow_add-last c = let n = few c.before.before.before.before.before.before.before.before in omega (arith, n)
+overflow_add-last c =
+    let few : (c.allocated_items-items.result ≤ c.args.h.zones) × (c.args.h.zones ≤ zones_most) × (c.allocated_items-items.result ≤ length c.args.t.now) = let h = netted c.requires.netted in (omega (arith, c.allocated_items-items.ensures, allocated_most c.args.h), h.zones_most_lem, omega (arith, c.allocated_items-items.ensures, allocated_most c.args.h, h.zones_most_lem, c.requires.roomy.allocated)) in
+    let n = few in omega (arith, n)
 
 pub overflow_add-last-then-not-balanced : goal.overflow_add-last-then-not-balanced
-overflow_add-last-then-not-balanced c = let n = few c.before.before.before.before.before.before.before.before in omega (arith, n)
+overflow_add-last-then-not-balanced c =
+    let few : (c.allocated_items-items.result ≤ c.args.h.zones) × (c.args.h.zones ≤ zones_most) × (c.allocated_items-items.result ≤ length c.args.t.now) = let h = netted c.requires.netted in (omega (arith, c.allocated_items-items.ensures, allocated_most c.args.h), h.zones_most_lem, omega (arith, c.allocated_items-items.ensures, allocated_most c.args.h, h.zones_most_lem, c.requires.roomy.allocated)) in
+    let n = few in omega (arith, n)
 
 pub returns-then-not-balanced : goal.returns-then-not-balanced
 returns-then-not-balanced c = ap refused (c.out_of_range_at.ensures ∙ ap₂ (λ (n byte : ℕ). out_of_range_at (header_line_no + c.args.h.zones + n) byte) c.allocated_items-items.ensures c.balance_byte.ensures)
@@ -68,7 +84,9 @@ pub read_borders-requires : goal.read_borders-requires
 read_borders-requires c = record { allocated = allocated_passed c.requires.netted _ _ (read-section c.before.before.before.before.before.before.before.before) (drop c.allocated_items-items.result c.args.t.now) (sym (c.balanced.ensures ∙ ap balanced (front-is c.before.before.before.before.before.before.before.before)) ∙ not-false _ c.if-not-balanced.false-raw); roomy = room_t c.requires.roomy c.allocated_items-items.result c.zones_read.new.z c.zones_read.auto.z }
 
 pub returns-in-Refused : goal.returns-in-Refused
-returns-in-Refused c = let section : stored_section c.zones_read.result c.zones_read.new.z ≡ allocated_section c.args.text.now c.args.h c.args.at = c.zones_read.ensures
-    ∙ section_lent allocated_line (allocated_line_no c.args.h) c.allocated_items-items.result c.args.text.now c.args.at c.args.t.now (few c.before.before).2
+returns-in-Refused c =
+    let few : (c.allocated_items-items.result ≤ c.args.h.zones) × (c.args.h.zones ≤ zones_most) × (c.allocated_items-items.result ≤ length c.args.t.now) = let h = netted c.requires.netted in (omega (arith, c.allocated_items-items.ensures, allocated_most c.args.h), h.zones_most_lem, omega (arith, c.allocated_items-items.ensures, allocated_most c.args.h, h.zones_most_lem, c.requires.roomy.allocated)) in
+    let section : stored_section c.zones_read.result c.zones_read.new.z ≡ allocated_section c.args.text.now c.args.h c.args.at = c.zones_read.ensures
+    ∙ section_lent allocated_line (allocated_line_no c.args.h) c.allocated_items-items.result c.args.text.now c.args.at c.args.t.now (few).2
     ∙ ap (λ (k : ℕ). lines_at allocated_line (allocated_line_no c.args.h) k c.args.text.now c.args.at 0) c.allocated_items-items.ensures in
     allocated_refused c.requires.netted c.args.sheet.now _ (sym (ap (λ (r : End). stored_section r c.zones_read.new.z) c.in-Refused.is) ∙ section)

@@ -8,7 +8,7 @@ use Rattle.text.proofs.field.has_minus.Goals as goal
 pub returns-in_default : goal.returns-in_default
 returns-in_default c = sym
     (class_not_minus (get_or c.args.line.now c.args.at 0) c.class_of.result (c.class_of.ensures ∙ ap class_of c.byte_at.ensures)
-    c.in-Minus.in-Minus-own.keys2)
+    c.in_default.not-Minus)
 
 pub returns : goal.returns
 returns c = sym

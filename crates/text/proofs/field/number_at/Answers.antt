@@ -10,11 +10,6 @@ use Rattle.text.proofs.ClassLaws.{class_digit, class_not_digit}
 use Rattle.text.proofs.NumberLaws.{upto_none, upto_small, upto_more, upto_full, upto_empty, upto_other, upto_stop, upto_cut, digits_none, digits_end}
 use Rattle.text.proofs.field.number_at.Goals as goal
 
-digit : (c : goal.In-Digit) →
-    let b = get_or c.args.line.now c.loop-i.i 0 in
-    (is_digit b ≡ true) × (c.in-Digit.d ≡ b - 48)
-digit c = class_digit (get_or c.args.line.now c.loop-i.i 0) c.class_of.result c.class_of.ensures c.in-Digit.d c.in-Digit.is
-
 small : (c : goal.Else-full) → c.loop-i.v < 10 ^ 9
 small c = upto_small c.args.line.now c.args.at c.loop-i.i c.loop-i.v c.loop-i.invariant (sym c.full.ensures ∙ c.if-full.false)
 
@@ -22,35 +17,41 @@ pub loop-i-init : goal.loop-i-init
 loop-i-init c = upto_none c.args.line.now c.args.at
 
 pub returns-then-line-i : goal.returns-then-line-i
-returns-then-line-i c = let no_digit : digits (drop c.loop-i.i c.args.line.now) ≡ [] = digits_none c.args.line.now c.loop-i.i c.loop-i-test.true (class_not_digit (get_or c.args.line.now c.loop-i.i 0) c.class_of.result c.class_of.ensures c.in-Digit.in-Digit-own.keys2) in
+returns-then-line-i c = let no_digit : digits (drop c.loop-i.i c.args.line.now) ≡ [] = digits_none c.args.line.now c.loop-i.i c.loop-i-test.true (class_not_digit (get_or c.args.line.now c.loop-i.i 0) c.class_of.result c.class_of.ensures c.in_default.not-Digit) in
     upto_stop c.args.line.now c.args.at c.loop-i.i c.loop-i.v c.loop-i.invariant (no_digit) c.if-at-i.true c.args.stop
     c.loop-i-test.true c.if-line-i.true
 
 pub returns-else-line-i : goal.returns-else-line-i
-returns-else-line-i c = let no_digit : digits (drop c.loop-i.i c.args.line.now) ≡ [] = digits_none c.args.line.now c.loop-i.i c.loop-i-test.true (class_not_digit (get_or c.args.line.now c.loop-i.i 0) c.class_of.result c.class_of.ensures c.in-Digit.in-Digit-own.keys2) in
+returns-else-line-i c = let no_digit : digits (drop c.loop-i.i c.args.line.now) ≡ [] = digits_none c.args.line.now c.loop-i.i c.loop-i-test.true (class_not_digit (get_or c.args.line.now c.loop-i.i 0) c.class_of.result c.class_of.ensures c.in_default.not-Digit) in
     upto_other c.args.line.now c.args.at c.loop-i.i c.loop-i.v c.loop-i.invariant (no_digit) c.if-at-i.true c.args.stop
     c.loop-i-test.true c.if-line-i.false
 
 pub returns-else-at-i : goal.returns-else-at-i
-returns-else-at-i c = let no_digit : digits (drop c.loop-i.i c.args.line.now) ≡ [] = digits_none c.args.line.now c.loop-i.i c.loop-i-test.true (class_not_digit (get_or c.args.line.now c.loop-i.i 0) c.class_of.result c.class_of.ensures c.in-Digit.in-Digit-own.keys2) in
+returns-else-at-i c = let no_digit : digits (drop c.loop-i.i c.args.line.now) ≡ [] = digits_none c.args.line.now c.loop-i.i c.loop-i-test.true (class_not_digit (get_or c.args.line.now c.loop-i.i 0) c.class_of.result c.class_of.ensures c.in_default.not-Digit) in
     upto_empty c.args.line.now c.args.at c.loop-i.i c.loop-i.v c.loop-i.invariant (no_digit) c.args.stop c.if-at-i.false
 
 pub overflow_sub-i : goal.overflow_sub-i
 overflow_sub-i c = omega (arith, c.loop-i.invariant.low)
 
 pub returns-then-full : goal.returns-then-full
-returns-then-full c = upto_full c.args.line.now c.args.at c.loop-i.i c.loop-i.v c.loop-i.invariant c.loop-i-test.true (digit c.before.before).0 c.args.stop
+returns-then-full c =
+    let digit : let b = get_or c.args.line.now c.loop-i.i 0 in (is_digit b ≡ true) × (c.in-Digit.d ≡ b - 48) = class_digit (get_or c.args.line.now c.loop-i.i 0) c.class_of.result c.class_of.ensures c.in-Digit.d c.in-Digit.is in
+    upto_full c.args.line.now c.args.at c.loop-i.i c.loop-i.v c.loop-i.invariant c.loop-i-test.true (digit).0 c.args.stop
     (sym c.full.ensures ∙ c.if-full.true)
 
 pub overflow_mul-v : goal.overflow_mul-v
 overflow_mul-v c = omega (arith, small c)
 
 pub overflow_add-v : goal.overflow_add-v
-overflow_add-v c = let d = digit c.before.before in
+overflow_add-v c =
+    let digit : let b = get_or c.args.line.now c.loop-i.i 0 in (is_digit b ≡ true) × (c.in-Digit.d ≡ b - 48) = class_digit (get_or c.args.line.now c.loop-i.i 0) c.class_of.result c.class_of.ensures c.in-Digit.d c.in-Digit.is in
+    let d = digit in
     omega (arith, small c, digit_range (get_or c.args.line.now c.loop-i.i 0) d.0)
 
 pub loop-i-preserved : goal.loop-i-preserved
-loop-i-preserved c = let d = digit c.before.before in
+loop-i-preserved c =
+    let digit : let b = get_or c.args.line.now c.loop-i.i 0 in (is_digit b ≡ true) × (c.in-Digit.d ≡ b - 48) = class_digit (get_or c.args.line.now c.loop-i.i 0) c.class_of.result c.class_of.ensures c.in-Digit.d c.in-Digit.is in
+    let d = digit in
     upto_more c.args.line.now c.args.at c.loop-i.i c.loop-i.v c.loop-i.invariant c.loop-i-test.true d.0
     c.in-Digit.d d.1 (sym c.full.ensures ∙ c.if-full.false)
 

@@ -15,16 +15,24 @@ pub overflow_add-at : goal.overflow_add-at
 overflow_add-at c = omega (arith, dash_within c.args.line.now c.args.at (dash c))
 
 pub overflow_add-result : goal.overflow_add-result
-overflow_add-result c = omega (arith, dash_within c.args.line.now c.args.at (dash c.before.before))
+overflow_add-result c =
+    let dash : eqb (get_or c.args.line.now c.args.at 0) 45 ≡ true = sym c.has_minus.ensures ∙ c.if-has_minus.true in
+    omega (arith, dash_within c.args.line.now c.args.at (dash))
 
 pub returns-then-byte_at-stop : goal.returns-then-byte_at-stop
-returns-then-byte_at-stop c = share_alone c.args.line.now c.args.at c.args.stop (dash c.before.before) (sym c.byte_at.ensures ∙ c.if-byte_at-stop.true)
+returns-then-byte_at-stop c =
+    let dash : eqb (get_or c.args.line.now c.args.at 0) 45 ≡ true = sym c.has_minus.ensures ∙ c.if-has_minus.true in
+    share_alone c.args.line.now c.args.at c.args.stop (dash) (sym c.byte_at.ensures ∙ c.if-byte_at-stop.true)
 
 pub overflow_add-result-then-has_minus : goal.overflow_add-result-then-has_minus
-overflow_add-result-then-has_minus c = omega (arith, dash_within c.args.line.now c.args.at (dash c.before.before))
+overflow_add-result-then-has_minus c =
+    let dash : eqb (get_or c.args.line.now c.args.at 0) 45 ≡ true = sym c.has_minus.ensures ∙ c.if-has_minus.true in
+    omega (arith, dash_within c.args.line.now c.args.at (dash))
 
 pub returns-then-has_minus : goal.returns-then-has_minus
-returns-then-has_minus c = share_other c.args.line.now c.args.at c.args.stop (dash c.before.before) (λ e. c.if-byte_at-stop.false (c.byte_at.ensures ∙ e))
+returns-then-has_minus c =
+    let dash : eqb (get_or c.args.line.now c.args.at 0) 45 ≡ true = sym c.has_minus.ensures ∙ c.if-has_minus.true in
+    share_other c.args.line.now c.args.at c.args.stop (dash) (λ e. c.if-byte_at-stop.false (c.byte_at.ensures ∙ e))
 
 pub plus-requires : goal.plus-requires
 plus-requires c = rw c.number_at.ensures (value_lt c.args.line.now c.args.at c.args.stop)

@@ -19,18 +19,24 @@ pub overflow_add-at : goal.overflow_add-at
 overflow_add-at c = omega (arith, dash_within c.args.line.now c.args.at (dash c))
 
 pub overflow_add-at-then-has_minus : goal.overflow_add-at-then-has_minus
-overflow_add-at-then-has_minus c = omega (arith, dash_within c.args.line.now c.args.at (dash c.before))
+overflow_add-at-then-has_minus c =
+    let dash : eqb (get_or c.args.line.now c.args.at 0) 45 ≡ true = sym c.has_minus.ensures ∙ c.if-has_minus.true in
+    omega (arith, dash_within c.args.line.now c.args.at (dash))
 
 pub overflow_add-at-then-has_minus-2 : goal.overflow_add-at-then-has_minus-2
-overflow_add-at-then-has_minus-2 c = omega (arith, dash_within c.args.line.now c.args.at (dash c.before))
+overflow_add-at-then-has_minus-2 c =
+    let dash : eqb (get_or c.args.line.now c.args.at 0) 45 ≡ true = sym c.has_minus.ensures ∙ c.if-has_minus.true in
+    omega (arith, dash_within c.args.line.now c.args.at (dash))
 
 pub minus-requires : goal.minus-requires
 minus-requires c = rw c.number_at.ensures (value_lt c.args.line.now (c.args.at + 1) c.args.stop)
 
 pub returns-then-has_minus : goal.returns-then-has_minus
-returns-then-has_minus c = c.minus.ensures
+returns-then-has_minus c =
+    let dash : eqb (get_or c.args.line.now c.args.at 0) 45 ≡ true = sym c.has_minus.ensures ∙ c.if-has_minus.true in
+    c.minus.ensures
     ∙ ap₂ (λ (first : ℕ) (n : Number). negative first (c.args.at + 1) n) c.byte_at.ensures c.number_at.ensures
-    ∙ signed_minus c.args.line.now c.args.at c.args.stop (dash c.before.before.before)
+    ∙ signed_minus c.args.line.now c.args.at c.args.stop (dash)
 
 pub plus-requires : goal.plus-requires
 plus-requires c = rw c.number_at-2.ensures (value_lt c.args.line.now c.args.at c.args.stop)

@@ -12,7 +12,7 @@ use Rattle.text.proofs.point.decimals_at.Goals as goal
 
 no_digit : (c : goal.In_default) →
     is_digit (get_or c.args.line.now c.loop-left.p 0) ≡ false
-no_digit c = class_not_digit (get_or c.args.line.now c.loop-left.p 0) c.class_of.result (c.class_of.ensures ∙ ap class_of c.byte_at.ensures) c.in-Digit.in-Digit-own.keys2
+no_digit c = class_not_digit (get_or c.args.line.now c.loop-left.p 0) c.class_of.result (c.class_of.ensures ∙ ap class_of c.byte_at.ensures) c.in_default.not-Digit
 
 digit : (c : goal.In-Digit) →
     let b = get_or c.args.line.now c.loop-left.p 0 in

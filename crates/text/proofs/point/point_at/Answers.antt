@@ -21,20 +21,30 @@ pub overflow_sub-next : goal.overflow_sub-next
 overflow_sub-next c = omega (arith, (whole_after c.args.minus c.args.k c.args.line.now c.args.at c.args.stop _ _ (whole c)).0)
 
 pub decimals_at-requires : goal.decimals_at-requires
-decimals_at-requires c = let w = whole_after c.args.minus c.args.k c.args.line.now c.args.at c.args.stop _ _ (whole c.before) in
-    (c.requires, whole_small c.args.minus c.args.k c.args.line.now c.args.at c.args.stop _ _ (whole c.before) c.if-next-at.true, omega (arith, w.0), w.1)
+decimals_at-requires c =
+    let whole : number_at c.args.line.now c.args.at point ≡ Value c.in-Value.v c.in-Value.next = sym c.number_at.ensures ∙ c.in-Value.is in
+    let w = whole_after c.args.minus c.args.k c.args.line.now c.args.at c.args.stop _ _ (whole) in
+    (c.requires, whole_small c.args.minus c.args.k c.args.line.now c.args.at c.args.stop _ _ (whole) c.if-next-at.true, omega (arith, w.0), w.1)
 
 pub returns-then-next-at : goal.returns-then-next-at
-returns-then-next-at c = c.decimals_at.ensures ∙ point_goes c.args.minus c.args.k c.args.line.now c.args.at c.args.stop _ _ (whole c.before.before) c.if-next-at.true
+returns-then-next-at c =
+    let whole : number_at c.args.line.now c.args.at point ≡ Value c.in-Value.v c.in-Value.next = sym c.number_at.ensures ∙ c.in-Value.is in
+    c.decimals_at.ensures ∙ point_goes c.args.minus c.args.k c.args.line.now c.args.at c.args.stop _ _ (whole) c.if-next-at.true
 
 pub overflow_add-result : goal.overflow_add-result
-overflow_add-result c = omega (arith, (whole_after c.args.minus c.args.k c.args.line.now c.args.at c.args.stop _ _ (whole c.before)).1)
+overflow_add-result c =
+    let whole : number_at c.args.line.now c.args.at point ≡ Value c.in-Value.v c.in-Value.next = sym c.number_at.ensures ∙ c.in-Value.is in
+    omega (arith, (whole_after c.args.minus c.args.k c.args.line.now c.args.at c.args.stop _ _ (whole)).1)
 
 pub capped-requires : goal.capped-requires
 capped-requires c = bad_after c.args.line.now c.args.at point _ (none c)
 
 pub returns-else-next-at : goal.returns-else-next-at
-returns-else-next-at c = point_long c.args.minus c.args.k c.args.line.now c.args.at c.args.stop _ _ (whole c.before) c.if-next-at.false
+returns-else-next-at c =
+    let whole : number_at c.args.line.now c.args.at point ≡ Value c.in-Value.v c.in-Value.next = sym c.number_at.ensures ∙ c.in-Value.is in
+    point_long c.args.minus c.args.k c.args.line.now c.args.at c.args.stop _ _ (whole) c.if-next-at.false
 
 pub returns-in-Bad : goal.returns-in-Bad
-returns-in-Bad c = ap Bad c.capped.ensures ∙ point_bad c.args.minus c.args.k c.args.line.now c.args.at c.args.stop _ (none c.before)
+returns-in-Bad c =
+    let none : number_at c.args.line.now c.args.at point ≡ Bad c.in-Bad.place = sym c.number_at.ensures ∙ c.in-Bad.is in
+    ap Bad c.capped.ensures ∙ point_bad c.args.minus c.args.k c.args.line.now c.args.at c.args.stop _ (none)

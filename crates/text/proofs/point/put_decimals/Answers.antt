@@ -6,7 +6,7 @@ use Rattle.text.proofs.PutLaws.{put_kept}
 use Rattle.text.proofs.PointLaws.{decimals_put_none, decimals_put_all, decimals_put_room, decimals_put_more}
 use Rattle.text.proofs.point.put_decimals.Goals as goal
 
-all : (c : goal.After-loop-after) → Put (last_digits c.args.k c.args.n) c.args.at c.args.out.now c.loop-after.next c.loop-after.new
+all : (c : goal.After-loop-after) → Put (last_digits c.args.k c.args.n) c.args.at c.args.out.now c.loop-after.next c.loop-after.out
 all c = decimals_put_all c.loop-after.invariant c.loop-after-test.false
 
 pub loop-after-init : goal.loop-after-init

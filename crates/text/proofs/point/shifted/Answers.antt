@@ -11,4 +11,4 @@ pub loop-j-preserved : goal.loop-j-preserved
 loop-j-preserved c = record { is = shift_more _ _ _ c.loop-j.invariant.is; high = omega arith }
 
 pub returns : goal.returns
-returns c = let e : c.loop-j.-j ≡ c.args.k = omega (arith, c.loop-j.invariant.high) in c.loop-j.invariant.is ∙ ap (λ (j : ℕ). c.args.n / 10 ^ j) e
+returns c = let e : c.loop-j._j ≡ c.args.k = omega (arith, c.loop-j.invariant.high) in c.loop-j.invariant.is ∙ ap (λ (j : ℕ). c.args.n / 10 ^ j) e

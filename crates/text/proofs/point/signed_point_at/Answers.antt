@@ -20,7 +20,9 @@ pub negated-requires : goal.negated-requires
 negated-requires c = rw c.point_at.ensures (point_lt true c.args.k c.args.line.now _ c.args.stop c.requires)
 
 pub returns-then-has_minus : goal.returns-then-has_minus
-returns-then-has_minus c = c.negated.ensures ∙ ap negated c.point_at.ensures ∙ signed_point_minus c.args.k c.args.line.now c.args.at c.args.stop (dash c.before.before)
+returns-then-has_minus c =
+    let dash : eqb (get_or c.args.line.now c.args.at 0) 45 ≡ true = sym c.has_minus.ensures ∙ c.if-has_minus.true in
+    c.negated.ensures ∙ ap negated c.point_at.ensures ∙ signed_point_minus c.args.k c.args.line.now c.args.at c.args.stop (dash)
 
 pub plus-requires : goal.plus-requires
 plus-requires c = rw c.point_at-2.ensures (point_lt false c.args.k c.args.line.now c.args.at c.args.stop c.requires)

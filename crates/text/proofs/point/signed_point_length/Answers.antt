@@ -12,9 +12,6 @@ use Rattle.text.proofs.point.signed_point_length.Goals as goal
 few : (c : goal.After-digit_count) → c.digit_count.result ≤ 20
 few c = omega (arith, c.digit_count.ensures, decimal_u64 c.shifted.result (omega (arith, c.shifted.type_inv)))
 
-counted : (c : goal.After-digit_count) → c.digit_count.result ≡ length (decimal (c.magnitude.result / 10 ^ c.args.k))
-counted c = c.digit_count.ensures ∙ ap (λ (n : ℕ). length (decimal n)) c.shifted.ensures
-
 pub overflow_add-count : goal.overflow_add-count
 overflow_add-count c = omega (arith, few c)
 
@@ -22,14 +19,20 @@ pub overflow_add-count-2 : goal.overflow_add-count-2
 overflow_add-count-2 c = omega (arith, few c, c.requires)
 
 pub overflow_add-result : goal.overflow_add-result
-overflow_add-result c = omega (arith, few c.before, c.requires)
+overflow_add-result c =
+    let few : c.digit_count.result ≤ 20 = omega (arith, c.digit_count.ensures, decimal_u64 c.shifted.result (omega (arith, c.shifted.type_inv))) in
+    omega (arith, few, c.requires)
 
 pub returns-then-z-lt0 : goal.returns-then-z-lt0
-returns-then-z-lt0 c = let q = simp (to_z-of_z, c.ranges.z) at c.magnitude.ensures in
+returns-then-z-lt0 c =
+    let counted : c.digit_count.result ≡ length (decimal (c.magnitude.result / 10 ^ c.args.k)) = c.digit_count.ensures ∙ ap (λ (n : ℕ). length (decimal n)) c.shifted.ensures in
+    let q = simp (to_z-of_z, c.ranges.z) at c.magnitude.ensures in
     let e = simp (to_z-of_z, c.ranges.z) at c.if-z-lt0.true in
-    omega (arith, counted c.before, pointed_long c.args.k c.magnitude.result, below_point_length c.args.k c.args.z q e)
+    omega (arith, counted, pointed_long c.args.k c.magnitude.result, below_point_length c.args.k c.args.z q e)
 
 pub returns-else-z-lt0 : goal.returns-else-z-lt0
-returns-else-z-lt0 c = let q = simp (to_z-of_z, c.ranges.z) at c.magnitude.ensures in
+returns-else-z-lt0 c =
+    let counted : c.digit_count.result ≡ length (decimal (c.magnitude.result / 10 ^ c.args.k)) = c.digit_count.ensures ∙ ap (λ (n : ℕ). length (decimal n)) c.shifted.ensures in
+    let q = simp (to_z-of_z, c.ranges.z) at c.magnitude.ensures in
     let e = simp (to_z-of_z, c.ranges.z) at c.if-z-lt0.false in
-    omega (arith, counted c.before, pointed_long c.args.k c.magnitude.result, above_point_length c.args.k c.args.z q e)
+    omega (arith, counted, pointed_long c.args.k c.magnitude.result, above_point_length c.args.k c.args.z q e)

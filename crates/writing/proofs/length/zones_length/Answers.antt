@@ -10,9 +10,6 @@ use Rattle.layout.proofs.SumLaws.{sum_within, sum_lines}
 use Rattle.limits.specs.Limits.{bytes_most}
 use Rattle.writing.proofs.length.zones_length.Goals as goal
 
-within : (c : goal.In-loop-i) → c.loop-i.sum + length (position_text_at (code "Z") c.args.z.now c.loop-i.i) ≤ bytes_most
-within c = sum_within (position_text_at (code "Z") c.args.z.now) (length c.args.z.now) c.requires c.loop-i.invariant (omega arith)
-
 counted : (c : goal.After-zone_length-sum) → c.zone_length-sum.result ≡ length (position_text_at (code "Z") c.args.z.now c.loop-i.i)
 counted c = simp (plain, c.zone_length-arg-1.given) at c.zone_length-sum.ensures
 
@@ -20,10 +17,14 @@ pub loop-i-init : goal.loop-i-init
 loop-i-init c = summed_none _ _
 
 pub zone_length-sum-requires : goal.zone_length-sum-requires
-zone_length-sum-requires c = simp (plain, c.zone_length-arg-1.given) (omega (arith, within c.before))
+zone_length-sum-requires c =
+    let within : c.loop-i.sum + length (position_text_at (code "Z") c.args.z.now c.loop-i.i) ≤ bytes_most = sum_within (position_text_at (code "Z") c.args.z.now) (length c.args.z.now) c.requires c.loop-i.invariant (omega arith) in
+    simp (plain, c.zone_length-arg-1.given) (omega (arith, within))
 
 pub overflow_add-sum : goal.overflow_add-sum
-overflow_add-sum c = omega (arith, within c.before.before, counted c)
+overflow_add-sum c =
+    let within : c.loop-i.sum + length (position_text_at (code "Z") c.args.z.now c.loop-i.i) ≤ bytes_most = sum_within (position_text_at (code "Z") c.args.z.now) (length c.args.z.now) c.requires c.loop-i.invariant (omega arith) in
+    omega (arith, within, counted c)
 
 pub loop-i-preserved : goal.loop-i-preserved
 loop-i-preserved c = summed_more c.loop-i.invariant _ (omega arith) (counted c)
