@@ -5,7 +5,7 @@ use Rattle.caps.proofs.TightLaws.{tight_same, tight_less, tight_zero, tight_low,
 use Rattle.caps.proofs.tighten.Goals as goal
 
 pub overflow_mul-cap : goal.overflow_mul-cap
-overflow_mul-cap c = omega (arith, product_fits c.args.f c.args.cap c.else-cap-lt-CAP_BELOW.true (ltb-true _ _ c.if-f-lt-FACTOR_BELOW.true-raw))
+overflow_mul-cap c = omega (arith, product_fits c.args.f c.args.cap c.if-cap-lt-CAP_BELOW.true (ltb-true _ _ c.if-f-lt-FACTOR_BELOW.true-raw))
 
 pub returns-then-cap-f : goal.returns-then-cap-f
 returns-then-cap-f c = tight_same c.args.f c.args.share c.args.cap c.if-cap-f.true

@@ -1,7 +1,7 @@
-use mathlib.Core.Logic.{⊎_elim}
 use native.Mathlib.Omega.{arith}
 use Rattle.resting.proofs.KeepLaws.{keeping_none, keeping_here, keeping_up, keeping_on, keeping_all}
 use Rattle.resting.proofs.keep_rising.Goals as goal
+use Rattle.resting.proofs.keep_rising.Goals.{then-caps-b-gt0, else-caps-b-gt0}
 
 pub loop-j-init : goal.loop-j-init
 loop-j-init c = keeping_none _ _ _ _
@@ -22,10 +22,9 @@ pub overflow_add-kept : goal.overflow_add-kept
 overflow_add-kept c = omega (arith, c.loop-j.invariant.few)
 
 pub loop-j-preserved : goal.loop-j-preserved
-loop-j-preserved c = ⊎_elim
-    (λ w. keeping_up c.requires c.loop-j.invariant (omega arith) _ w.0.taken w.1)
-    (λ w. keeping_on c.requires c.loop-j.invariant (omega arith) _ w.0.left w.1)
-    c.if-caps-b-gt0.branch
+loop-j-preserved c = elim c.if-caps-b-gt0.branch
+    [ then-caps-b-gt0 w ↦ keeping_up c.requires c.loop-j.invariant (omega arith) _ w.if-caps-b-gt0.true w.kept-is
+    | else-caps-b-gt0 w ↦ keeping_on c.requires c.loop-j.invariant (omega arith) _ w.if-caps-b-gt0.false w.kept-is ]
 
 pub shape_of-rising : goal.shape_of-rising
 shape_of-rising c = c.loop-j.invariant.long

@@ -1,9 +1,9 @@
-use mathlib.Core.Logic.{⊎_elim}
 use native.Mathlib.Omega.{arith}
 use Rattle.numbers.proofs.ListLaws.{filled_none, filled_more, filled_all}
 use Rattle.rounds.specs.Rounds.{sharers}
 use Rattle.rounds.proofs.Loops.{counted_none, counted_up, counted_on, counted_le, counted_all}
 use Rattle.walk.proofs.grid.count_sharers.Goals as goal
+use Rattle.walk.proofs.grid.count_sharers.Goals.{then-factor-gt0, else-factor-gt0}
 
 pub loop-i-init : goal.loop-i-init
 loop-i-init c = filled_none _ _ _
@@ -18,10 +18,10 @@ pub overflow_add-n : goal.overflow_add-n
 overflow_add-n c = omega (arith, counted_le c.loop-b.invariant)
 
 pub loop-b-preserved : goal.loop-b-preserved
-loop-b-preserved c = ⊎_elim
-    (λ w. counted_up c.loop-b.invariant _ _ (omega arith) c.factor.ensures w.0.taken w.1)
-    (λ w. counted_on c.loop-b.invariant _ _ (omega arith) c.factor.ensures w.0.left w.1)
-    c.if-factor-gt0.branch
+loop-b-preserved c = elim c.if-factor-gt0.branch [
+  | then-factor-gt0 w ↦ counted_up c.loop-b.invariant _ _ (omega arith) c.factor.ensures w.if-factor-gt0.true w.n-is
+  | else-factor-gt0 w ↦ counted_on c.loop-b.invariant _ _ (omega arith) c.factor.ensures w.if-factor-gt0.false w.n-is
+]
 
 pub loop-i-preserved : goal.loop-i-preserved
 unfolding sharers

@@ -5,9 +5,6 @@ use Rattle.numbers.specs.Below.{at}
 use Rattle.numbers.proofs.ListLaws.{filled_none, filled_rest, filled_more, filled_all}
 use Rattle.walk.proofs.stopping.share_out.Goals as goal
 
-slice-read-n : goal.bounds-ns-i
-slice-read-n c = omega (arith, c.loop-i.invariant.as_long, c.requires)
-
 pub loop-i-init : goal.loop-i-init
 loop-i-init c = filled_none _ _ _
 
@@ -15,7 +12,7 @@ pub bounds-ns-i : goal.bounds-ns-i
 bounds-ns-i c = omega (arith, c.loop-i.invariant.as_long, c.requires)
 
 pub bounds-ns-i-in-loop-i : goal.bounds-ns-i-in-loop-i
-bounds-ns-i-in-loop-i c = slice-read-n c.before.before
+bounds-ns-i-in-loop-i c = omega (arith, c.loop-i.invariant.as_long, c.requires)
 
 pub loop-i-preserved : goal.loop-i-preserved
 loop-i-preserved c = let margin = at c.args.margins.now c.loop-i.i in
