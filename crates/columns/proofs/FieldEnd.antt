@@ -178,9 +178,9 @@ module _ (sep : ℕ) (ends : Ends sep) (other : eqb sep feed ≡ false) (line : 
       shorter (e ∷ cs) f.at f.zs n f.then g.zs m (ap (λ (p : ℕ). fields_at sep feed (e ∷ cs) line p) same ∙ g.then) last
 
   -- ---- lines
-  to_end : (v : Values) (zs : List ℤ) (n : ℕ) → to_end line v ≡ values zs n → (v ≡ values zs n) × (ended line n ≡ true)
-  to_end (wrong place) zs n e = absurd (no_values place zs n e)
-  to_end (values ys m) zs n e = go (ended line m) refl e
+  ends_whole : (v : Values) (zs : List ℤ) (n : ℕ) → to_end line v ≡ values zs n → (v ≡ values zs n) × (ended line n ≡ true)
+  ends_whole (wrong place) zs n e = absurd (no_values place zs n e)
+  ends_whole (values ys m) zs n e = go (ended line m) refl e
     where
       go : (t : Bool) → ended line m ≡ t → cond t (values ys m) (wrong m) ≡ values zs n → (values ys m ≡ values zs n) × (ended line n ≡ true)
       go false q e = absurd (no_values m zs n e)
@@ -190,8 +190,8 @@ module _ (sep : ℕ) (ends : Ends sep) (other : eqb sep feed ≡ false) (line : 
     rest-shorter : (at : ℕ) → rest_at sep (cs ++ (d ∷ ds)) line at ≡ values zs n → rest_at sep cs line at ≡ values ys m → ⊥
     unfolding rest_at
     rest-shorter at long short =
-        let l = to_end (fields_at sep feed (cs ++ (d ∷ ds)) line at) zs n long in
-        let s = to_end (fields_at sep feed cs line at) ys m short in
+        let l = ends_whole (fields_at sep feed (cs ++ (d ∷ ds)) line at) zs n long in
+        let s = ends_whole (fields_at sep feed cs line at) ys m short in
         shorter cs at zs n l.0 ys m s.0 s.1
 
     pub line_shorter : (head : Head) → columns_line sep head (cs ++ (d ∷ ds)) line ≡ values zs n → columns_line sep head cs line ≡ values ys m → ⊥

@@ -14,14 +14,11 @@ use Rattle.reading.specs.declared.TableRead.TheVariants as answer
 use Rattle.reading.proofs.LeftLaws.{read_left_lem, left_is, room_refused}
 use Rattle.lending.proofs.put_table.Goals as goal
 
-abbrev table : goal.Start → Table
-table s = front (lent s.args.h s.args.nets.now s.args.allocated.now s.args.borders.now s.args.rows.now s.args.factors.now)
-
 pub judge_room-requires : goal.judge_room-requires
 judge_room-requires c = c.requires.0
 
 pub returns-in-Refused : goal.returns-in-Refused
-returns-in-Refused c = room_refused _ c.args.z.now c.args.t.now c.args.b.now c.args.c.now c.args.f.now (table c.before.before.before) refl _ c.judge_room.ensures _ c.in-Refused.is
+returns-in-Refused c = room_refused _ c.args.z.now c.args.t.now c.args.b.now c.args.c.now c.args.f.now (front (lent c.args.h c.args.nets.now c.args.allocated.now c.args.borders.now c.args.rows.now c.args.factors.now)) refl _ c.judge_room.ensures _ c.in-Refused.is
 
 pub put_numbers-requires : goal.put_numbers-requires
 put_numbers-requires c = let room : Enough c.args.h (length c.args.z.now) (length c.args.t.now) (length c.args.b.now) (length c.args.c.now) (length c.args.f.now) = (room_passed c.args.h _ _ _ _ _ (passed c.args.h) c.args.h (sym c.judge_room.ensures ∙ ap (λ (j : Judgement). said_judgement j c.args.h) c.in_default.is)).0 in
@@ -49,4 +46,4 @@ put_numbers-requires-3 c = let room : Enough c.args.h (length c.args.z.now) (len
 pub returns : goal.returns
 returns c = let room : Enough c.args.h (length c.args.z.now) (length c.args.t.now) (length c.args.b.now) (length c.args.c.now) (length c.args.f.now) = (room_passed c.args.h _ _ _ _ _ (passed c.args.h) c.args.h (sym c.judge_room.ensures ∙ ap (λ (j : Judgement). said_judgement j c.args.h) c.in_default.is)).0 in
     left_is (answer.Table c.args.h) c.put_numbers.ensures (c.put_numbers-2.ensures ∙ ap (λ (n : ℕ). over (take n c.args.allocated.now) c.args.t.now) c.allocated_items.ensures) c.put_borders.ensures c.put_rows.ensures c.put_numbers-3.ensures
-    ∙ sym (read_left_lem _ c.args.z.now c.args.t.now c.args.b.now c.args.c.now c.args.f.now (table c.before.before.before.before.before.before.before.before.before.before.before.before.before.before.before.before.before.before.before) refl (room))
+    ∙ sym (read_left_lem _ c.args.z.now c.args.t.now c.args.b.now c.args.c.now c.args.f.now (front (lent c.args.h c.args.nets.now c.args.allocated.now c.args.borders.now c.args.rows.now c.args.factors.now)) refl (room))

@@ -12,11 +12,11 @@ use Rattle.meanings.proofs.line_begin.Goals as goal
 within-list : (list : List ℕ) (at : ℕ) → at ≤ length list → after list at ≤ length list
 within-list list at h = omega (arith, line_le_length (drop at list), length-drop at list)
 
-begun_more : (list line : List ℕ) (k at i : ℕ) → Begun list k at i → line ≡ line_at list at → i + 1 ≤ k → Begun list k (at + length line) (i + 1)
+begun_more : (list line : List ℕ) (k at i : ℕ) → record { high : i ≤ k; here : at ≡ line_begin list i; within : at ≤ length list } → line ≡ line_at list at → i + 1 ≤ k → record { high : i + 1 ≤ k; here : at + length line ≡ line_begin list (i + 1); within : at + length line ≤ length list }
 begun_more list line k at i u e h = let next : at + length line ≡ after list at = ap (λ (l : List ℕ). at + length l) e in
     record { high = h; here = next ∙ ap (after list) u.here ∙ ap (line_begin list) (sym (add-one i)); within = omega (arith, next, within-list list at u.within) }
 
-begun_all : (list : List ℕ) (k at i : ℕ) → Begun list k at i → k ≤ i → (at ≡ line_begin list k) × (at ≤ length list)
+begun_all : (list : List ℕ) (k at i : ℕ) → record { high : i ≤ k; here : at ≡ line_begin list i; within : at ≤ length list } → k ≤ i → (at ≡ line_begin list k) × (at ≤ length list)
 begun_all list k at i u h = let e : i ≡ k = omega (arith, u.high) in (u.here ∙ ap (line_begin list) e, u.within)
 
 pub loop-init : goal.loop-init

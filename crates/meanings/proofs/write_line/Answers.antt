@@ -1,12 +1,26 @@
 -- `meanings::write_line` meets its contract: too short (`text-short`), or the words and then what stood there (`text_out`).
-use mathlib.Core.Path.{ap, ◌∙◌}
+use mathlib.Core.Path.{◌≡◌, sym, ap, ◌∙◌}
 use mathlib.Core.List.{List}
-use Prim.Native.Nat.{ℕ}
+use Prim.Native.Nat.{ℕ, ◌-◌}
 use native.Mathlib.Omega.{arith}
+use lib.ListN.{length, take}
+use lib.Seq.{length-take-le}
+use Rattle.text.specs.Line.{line_at}
 use Rattle.numbers.specs.Below.{over}
 use Rattle.text.proofs.LeftLaws.{text_short, text_out}
 use Rattle.meanings.specs.Meanings.{line_begin, words_at}
 use Rattle.meanings.proofs.write_line.Goals as goal
+
+-- the words of a line are all but its last byte
+module _ (list line : List ℕ) (k at n : ℕ) (begin : at ≡ line_begin list k) (is : line ≡ line_at list at) (less : n ≡ length line - 1) where
+  same : line ≡ line_at list (line_begin list k)
+  same = is ∙ ap (line_at list) begin
+
+  words : take n line ≡ words_at list k
+  words = ap (λ (j : ℕ). take j line) less ∙ ap (λ (l : List ℕ). take (length l - 1) l) same
+
+  long : n ≡ length (words_at list k)
+  long = sym (length-take-le n line (omega arith)) ∙ ap length words
 
 pub line_at-line-requires : goal.line_at-line-requires
 line_at-line-requires c = c.line_begin.ensures.1

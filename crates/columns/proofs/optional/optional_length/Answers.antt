@@ -12,9 +12,9 @@ slice_bounds-line_length-end-2 c = front_values c.args.columns.now c.args.n c.ar
 
 pub line_length-requires : goal.line_length-requires
 line_length-requires c = (
-      sym (front_columns c.args.columns.now c.args.n c.args.values.now c.requires.0 c.requires.1 c.written-k.result c.written-k.ensures) ∙ front_values c.args.columns.now c.args.n c.args.values.now c.requires.0 c.requires.1 c.written-k.result c.written-k.ensures,
-      omega (arith, c.requires.2, length_by c.args.columns.now c.args.n c.args.values.now c.requires.0 c.requires.1 c.written-k.result c.written-k.ensures c.args.head),
-    )
+  sym (front_columns c.args.columns.now c.args.n c.args.values.now c.requires.0 c.requires.1 c.written-k.result c.written-k.ensures) ∙ front_values c.args.columns.now c.args.n c.args.values.now c.requires.0 c.requires.1 c.written-k.result c.written-k.ensures,
+  omega (arith, c.requires.2, length_by c.args.columns.now c.args.n c.args.values.now c.requires.0 c.requires.1 c.written-k.result c.written-k.ensures c.args.head),
+)
 
 pub returns : goal.returns
 returns c = c.line_length.ensures ∙ length_by c.args.columns.now c.args.n c.args.values.now c.requires.0 c.requires.1 c.written-k.result c.written-k.ensures c.args.head

@@ -11,36 +11,45 @@ use Rattle.columns.specs.ColumnText.{index_text, head_text}
 use Rattle.columns.proofs.write.put_head.Given as x
 use Rattle.columns.proofs.write.put_head.Goals as goal
 
-room : (s : goal.Start) (h : Head) → s.args.head ≡ h → s.args.at + length (head_text s.args.sep h) ≤ length s.args.out.now
-room s h e = subst (λ (x : Head). s.args.at + length (head_text s.args.sep x) ≤ length s.args.out.now) e s.requires
-
-told : (s : goal.Start) (h : Head) → s.args.head ≡ h → (next : ℕ) (out : List ℕ) → Put (head_text s.args.sep h) s.args.at s.args.out.now next out → Put (head_text s.args.sep s.args.head) s.args.at s.args.out.now next out
-told s h e next out p = subst (λ (x : Head). Put (head_text s.args.sep x) s.args.at s.args.out.now next out) (sym e) p
-
 pub put_letter-requires : goal.put_letter-requires
 unfolding head_text
-put_letter-requires c = room c.before.before.before.before _ c.in-Lettered.is
+put_letter-requires c =
+    let room : (h : Head) → c.args.head ≡ h → c.args.at + length (head_text c.args.sep h) ≤ length c.args.out.now = λ h e. subst (λ (x : Head). c.args.at + length (head_text c.args.sep x) ≤ length c.args.out.now) e c.requires in
+    room _ c.in-Lettered.is
 
 pub put_letter-next-requires : goal.put_letter-next-requires
 unfolding head_text
-put_letter-next-requires c = omega (arith, room c.before.before.before.before _ c.in-Indexed.is)
+put_letter-next-requires c =
+    let room : (h : Head) → c.args.head ≡ h → c.args.at + length (head_text c.args.sep h) ≤ length c.args.out.now = λ h e. subst (λ (x : Head). c.args.at + length (head_text c.args.sep x) ≤ length c.args.out.now) e c.requires in
+    omega (arith, room _ c.in-Indexed.is)
 
 pub put_index-requires : goal.put_index-requires
 unfolding head_text
-put_index-requires c = put_room c.put_letter-next.ensures (length (index_text _ _)) (omega (arith, room c.before.before.before.before.before.before.before.before _ c.in-Indexed.is))
+put_index-requires c =
+    let room : (h : Head) → c.args.head ≡ h → c.args.at + length (head_text c.args.sep h) ≤ length c.args.out.now = λ h e. subst (λ (x : Head). c.args.at + length (head_text c.args.sep x) ≤ length c.args.out.now) e c.requires in
+    put_room c.put_letter-next.ensures (length (index_text _ _)) (omega (arith, room _ c.in-Indexed.is))
 
 pub put_index-requires-in-Bare : goal.put_index-requires-in-Bare
 unfolding head_text
-put_index-requires-in-Bare c = room c.before.before.before.before _ c.in-Bare.is
+put_index-requires-in-Bare c =
+    let room : (h : Head) → c.args.head ≡ h → c.args.at + length (head_text c.args.sep h) ≤ length c.args.out.now = λ h e. subst (λ (x : Head). c.args.at + length (head_text c.args.sep x) ≤ length c.args.out.now) e c.requires in
+    room _ c.in-Bare.is
 
 pub returns-in-Lettered : goal.returns-in-Lettered
 unfolding head_text
-returns-in-Lettered c = told c.before.before.before.before.before.before.before _ c.in-Lettered.is _ _ c.put_letter.ensures
+returns-in-Lettered c =
+    let told : (h : Head) → c.args.head ≡ h → (next : ℕ) (out : List ℕ) → Put (head_text c.args.sep h) c.args.at c.args.out.now next out → Put (head_text c.args.sep c.args.head) c.args.at c.args.out.now next out = λ h e next out p. subst (λ (x : Head). Put (head_text c.args.sep x) c.args.at c.args.out.now next out) (sym e) p in
+    told _ c.in-Lettered.is _ _ c.put_letter.ensures
 
 pub returns-in-Indexed : goal.returns-in-Indexed
 unfolding head_text
-returns-in-Indexed c = told c.before.before.before.before.before.before.before.before.before.before.before _ c.in-Indexed.is _ _ (put_more c.put_letter-next.ensures (omega (arith, room c.before.before.before.before.before.before.before.before.before.before.before _ c.in-Indexed.is)) c.put_index.ensures)
+returns-in-Indexed c =
+    let room : (h : Head) → c.args.head ≡ h → c.args.at + length (head_text c.args.sep h) ≤ length c.args.out.now = λ h e. subst (λ (x : Head). c.args.at + length (head_text c.args.sep x) ≤ length c.args.out.now) e c.requires in
+    let told : (h : Head) → c.args.head ≡ h → (next : ℕ) (out : List ℕ) → Put (head_text c.args.sep h) c.args.at c.args.out.now next out → Put (head_text c.args.sep c.args.head) c.args.at c.args.out.now next out = λ h e next out p. subst (λ (x : Head). Put (head_text c.args.sep x) c.args.at c.args.out.now next out) (sym e) p in
+    told _ c.in-Indexed.is _ _ (put_more c.put_letter-next.ensures (omega (arith, room _ c.in-Indexed.is)) c.put_index.ensures)
 
 pub returns-in-Bare : goal.returns-in-Bare
 unfolding head_text
-returns-in-Bare c = told c.before.before.before.before.before.before.before _ c.in-Bare.is _ _ c.put_index-in-Bare.ensures
+returns-in-Bare c =
+    let told : (h : Head) → c.args.head ≡ h → (next : ℕ) (out : List ℕ) → Put (head_text c.args.sep h) c.args.at c.args.out.now next out → Put (head_text c.args.sep c.args.head) c.args.at c.args.out.now next out = λ h e next out p. subst (λ (x : Head). Put (head_text c.args.sep x) c.args.at c.args.out.now next out) (sym e) p in
+    told _ c.in-Bare.is _ _ c.put_index-in-Bare.ensures

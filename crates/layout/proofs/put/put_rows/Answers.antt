@@ -10,7 +10,7 @@ use Rattle.text.specs.Put.{Put}
 use Rattle.text.proofs.PutLaws.{lines_none, lines_more, lines_all_lem, lines_room, put_kept}
 use Rattle.layout.proofs.put.put_rows.Goals as goal
 
-all : (c : goal.After-loop-i) → Put (rows_text_by c.args.kind c.args.zones c.args.c.now c.args.f.now) c.args.at c.args.out.now c.loop-i.next c.loop-i.new
+all : (c : goal.After-loop-i) → Put (rows_text_by c.args.kind c.args.zones c.args.c.now c.args.f.now) c.args.at c.args.out.now c.loop-i.next c.loop-i.out
 all c = lines_all_lem (row_text_in c.args.kind c.args.zones c.args.c.now c.args.f.now) c.loop-i.invariant.0 (omega arith) c.loop-i.invariant.1
 
 pub loop-i-init : goal.loop-i-init

@@ -14,20 +14,25 @@ use Rattle.types.proofs.RangeLaws.{header_in_lem}
 use Rattle.tablerules.specs.Table.{twice}
 use Rattle.reading.proofs.into.judged_last.Goals as goal
 
-room : (s : goal.Start) → s.args.h.borders ≤ length s.args.b.now
-room s = omega (arith, (header_in_lem _ s.requires.0).borders_most_lem, s.requires.1)
-
 pub slice_bounds-first_twice-end : goal.slice_bounds-first_twice-end
-slice_bounds-first_twice-end c = sym (length-take-le _ _ (room c))
+slice_bounds-first_twice-end c =
+    let room : c.args.h.borders ≤ length c.args.b.now = omega (arith, (header_in_lem _ c.requires.0).borders_most_lem, c.requires.1) in
+    sym (length-take-le _ _ (room))
 
 pub returns-in-At : goal.returns-in-At
-returns-in-At c = let searched : first_from c.args.h.borders 0 (twice (take c.args.h.borders c.args.b.now)) ≡ found c.first_twice.result = ap (λ (n : ℕ). first_from n 0 (twice (take c.args.h.borders c.args.b.now))) (sym (length-take-le _ _ (room c))) ∙ sym c.first_twice.ensures in
+returns-in-At c =
+    let room : c.args.h.borders ≤ length c.args.b.now = omega (arith, (header_in_lem _ c.requires.0).borders_most_lem, c.requires.1) in
+    let searched : first_from c.args.h.borders 0 (twice (take c.args.h.borders c.args.b.now)) ≡ found c.first_twice.result = ap (λ (n : ℕ). first_from n 0 (twice (take c.args.h.borders c.args.b.now))) (sym (length-take-le _ _ (room))) ∙ sym c.first_twice.ensures in
     ap refused c.given_twice.ensures ∙ sym (first_found (said_judgement c.args.held c.args.h) c.args.h.borders _ given_twice (searched ∙ ap found c.in-At.is))
 
 pub returns-in-Passed : goal.returns-in-Passed
-returns-in-Passed c = let searched : first_from c.args.h.borders 0 (twice (take c.args.h.borders c.args.b.now)) ≡ found c.first_twice.result = ap (λ (n : ℕ). first_from n 0 (twice (take c.args.h.borders c.args.b.now))) (sym (length-take-le _ _ (room c))) ∙ sym c.first_twice.ensures in
+returns-in-Passed c =
+    let room : c.args.h.borders ≤ length c.args.b.now = omega (arith, (header_in_lem _ c.requires.0).borders_most_lem, c.requires.1) in
+    let searched : first_from c.args.h.borders 0 (twice (take c.args.h.borders c.args.b.now)) ≡ found c.first_twice.result = ap (λ (n : ℕ). first_from n 0 (twice (take c.args.h.borders c.args.b.now))) (sym (length-take-le _ _ (room))) ∙ sym c.first_twice.ensures in
     sym (first_none_next (said_judgement c.args.held c.args.h) c.args.h.borders _ given_twice (searched ∙ ap found c.in_default.is) ∙ ap (λ (j : Judgement). said_judgement j c.args.h) c.in-Passed.is)
 
 pub returns-in-Refused : goal.returns-in-Refused
-returns-in-Refused c = let searched : first_from c.args.h.borders 0 (twice (take c.args.h.borders c.args.b.now)) ≡ found c.first_twice.result = ap (λ (n : ℕ). first_from n 0 (twice (take c.args.h.borders c.args.b.now))) (sym (length-take-le _ _ (room c))) ∙ sym c.first_twice.ensures in
+returns-in-Refused c =
+    let room : c.args.h.borders ≤ length c.args.b.now = omega (arith, (header_in_lem _ c.requires.0).borders_most_lem, c.requires.1) in
+    let searched : first_from c.args.h.borders 0 (twice (take c.args.h.borders c.args.b.now)) ≡ found c.first_twice.result = ap (λ (n : ℕ). first_from n 0 (twice (take c.args.h.borders c.args.b.now))) (sym (length-take-le _ _ (room))) ∙ sym c.first_twice.ensures in
     sym (first_none_next (said_judgement c.args.held c.args.h) c.args.h.borders _ given_twice (searched ∙ ap found c.in_default.is) ∙ ap (λ (j : Judgement). said_judgement j c.args.h) c.in-Refused.is)

@@ -5,7 +5,7 @@ use Rattle.text.specs.Put.{Put}
 use Rattle.text.proofs.PutLaws.{lines_none, lines_more, lines_all_lem, lines_room, put_kept}
 use Rattle.writing.proofs.put.put_borders.Goals as goal
 
-all : (c : goal.After-loop-i) → Put (borders_text c.args.b.now) c.args.at c.args.out.now c.loop-i.next c.loop-i.new
+all : (c : goal.After-loop-i) → Put (borders_text c.args.b.now) c.args.at c.args.out.now c.loop-i.next c.loop-i.out
 all c = lines_all_lem (border_text_at c.args.b.now) c.loop-i.invariant.0 (omega arith) c.loop-i.invariant.1
 
 pub loop-i-init : goal.loop-i-init

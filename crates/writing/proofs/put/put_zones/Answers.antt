@@ -6,7 +6,7 @@ use Rattle.text.specs.Put.{Put}
 use Rattle.text.proofs.PutLaws.{lines_none, lines_more, lines_all_lem, lines_room, put_kept}
 use Rattle.writing.proofs.put.put_zones.Goals as goal
 
-all : (c : goal.After-loop-i) → Put (positions_text c.args.letter c.args.z.now) c.args.at c.args.out.now c.loop-i.next c.loop-i.new
+all : (c : goal.After-loop-i) → Put (positions_text c.args.letter c.args.z.now) c.args.at c.args.out.now c.loop-i.next c.loop-i.out
 all c = lines_all_lem (position_text_at c.args.letter c.args.z.now) c.loop-i.invariant.0 (omega arith) c.loop-i.invariant.1
 
 pub loop-i-init : goal.loop-i-init
