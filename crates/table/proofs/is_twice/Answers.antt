@@ -2,7 +2,7 @@ use mathlib.Core.Path.{sym, ap, ◌∙◌}
 use native.Mathlib.Omega.{arith}
 use Rattle.numbers.specs.Below.{given}
 use Rattle.numbers.proofs.BelowLaws.{looked_none, looked_all, looked_here, looked_more}
-use Rattle.tablerules.specs.Table.{same_ends, twice}
+use Rattle.tablerules.specs.Table.{twice}
 use Rattle.table.proofs.is_twice.Goals as goal
 
 pub loop-e-init : goal.loop-e-init
