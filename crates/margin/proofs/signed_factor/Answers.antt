@@ -1,37 +1,116 @@
 -- `margin::signed_factor` meets its contract. Each factor is of the row, and so is each sum of them small.
+use mathlib.Core.Path.{subst}
+use Prim.Native.Nat.{ℕ, ◌<◌}
 use native.Mathlib.Omega.{arith}
+use lib.IntN.{ℤ, ◌+ℤ◌, ◌-ℤ◌}
+use lib.ListN.{length}
 use mir.Facts.{to_z-of_z}
-use Rattle.numbers.proofs.IntLaws.{within_fits}
-use Rattle.marginrules.proofs.MagnitudeLaws.{signed_without, signed_between}
+use mir.Syntax.{w64}
+use mir.Val.{SFits}
+use Rattle.numbers.specs.Ints.{Within}
+use Rattle.numbers.proofs.IntLaws.{within_fits, within_add}
+use Rattle.types.specs.LineLimits.{factor_most}
+use Rattle.types.specs.Ranges.{at_ℤ}
+use Rattle.marginrules.specs.Magnitudes.{HubsWithin}
+use Rattle.marginrules.proofs.MagnitudeLaws.{within_sub, signed_without, signed_between}
 use Rattle.margin.proofs.signed_factor.Goals as goal
 
 pub overflow_sub-result : goal.overflow_sub-result
-overflow_sub-result c = simp (to_z-of_z, within_fits (from_in c.before.before.before) tt, within_fits (to_in c.before.before.before) tt) (apart c.before.before.before)
+overflow_sub-result c = let from : ℤ = at_ℤ c.args.factors.now c.args.border.from in
+    let from_in : Within factor_most from = c.requires.factors_in_range.each.at c.args.border.from c.requires.border_in_range.from_in in
+    let to : ℤ = at_ℤ c.args.factors.now c.args.border.to in
+    let to_in : Within factor_most to = c.requires.factors_in_range.each.at c.args.border.to c.requires.border_in_range.to_in in
+    let apart : SFits w64 (from -ℤ to) = within_fits (within_sub from_in to_in) tt in
+    simp (to_z-of_z, within_fits from_in tt, within_fits to_in tt) apart
 
 pub offset_bounds-factors-sending : goal.offset_bounds-factors-sending
-offset_bounds-factors-sending c = omega (arith, (zones c.before).0, (start c.before).pre.0.few)
+offset_bounds-factors-sending c = let sending : ℕ = c.in-Between.sending in
+    let receiving : ℕ = c.in-Between.receiving in
+    let zones : (sending < length c.args.factors.now) × (receiving < length c.args.factors.now) = subst (HubsWithin (length c.args.factors.now)) c.in-Between.is c.requires.border_in_range.hubs_in in
+    omega (arith, zones.0, c.requires.factors_in_range.few)
 
 pub bounds-factors-sending : goal.bounds-factors-sending
-bounds-factors-sending c = (zones c.before).0
+bounds-factors-sending c = let sending : ℕ = c.in-Between.sending in
+    let receiving : ℕ = c.in-Between.receiving in
+    let zones : (sending < length c.args.factors.now) × (receiving < length c.args.factors.now) = subst (HubsWithin (length c.args.factors.now)) c.in-Between.is c.requires.border_in_range.hubs_in in
+    zones.0
 
 pub offset_bounds-factors-receiving : goal.offset_bounds-factors-receiving
-offset_bounds-factors-receiving c = omega (arith, (zones c.before.before).1, (start c.before.before).pre.0.few)
+offset_bounds-factors-receiving c = let sending : ℕ = c.in-Between.sending in
+    let receiving : ℕ = c.in-Between.receiving in
+    let zones : (sending < length c.args.factors.now) × (receiving < length c.args.factors.now) = subst (HubsWithin (length c.args.factors.now)) c.in-Between.is c.requires.border_in_range.hubs_in in
+    omega (arith, zones.1, c.requires.factors_in_range.few)
 
 pub bounds-factors-receiving : goal.bounds-factors-receiving
-bounds-factors-receiving c = (zones c.before.before).1
+bounds-factors-receiving c = let sending : ℕ = c.in-Between.sending in
+    let receiving : ℕ = c.in-Between.receiving in
+    let zones : (sending < length c.args.factors.now) × (receiving < length c.args.factors.now) = subst (HubsWithin (length c.args.factors.now)) c.in-Between.is c.requires.border_in_range.hubs_in in
+    zones.1
 
 pub overflow_sub-result-in-Between : goal.overflow_sub-result-in-Between
-overflow_sub-result-in-Between c = simp (to_z-of_z, within_fits (from_in (start c.before.before.before)) tt, within_fits (sent-in c.before.before.before) tt) (first c.before.before.before)
+overflow_sub-result-in-Between c = let from : ℤ = at_ℤ c.args.factors.now c.args.border.from in
+    let from_in : Within factor_most from = c.requires.factors_in_range.each.at c.args.border.from c.requires.border_in_range.from_in in
+    let sending : ℕ = c.in-Between.sending in
+    let receiving : ℕ = c.in-Between.receiving in
+    let zones : (sending < length c.args.factors.now) × (receiving < length c.args.factors.now) = subst (HubsWithin (length c.args.factors.now)) c.in-Between.is c.requires.border_in_range.hubs_in in
+    let sent : ℤ = at_ℤ c.args.factors.now sending in
+    let sent-in : Within factor_most sent = c.requires.factors_in_range.each.at sending zones.0 in
+    let first : SFits w64 (from -ℤ sent) = within_fits (within_sub from_in sent-in) tt in
+    simp (to_z-of_z, within_fits from_in tt, within_fits sent-in tt) first
 
 pub overflow_add-result : goal.overflow_add-result
-overflow_add-result c = simp (to_z-of_z, within_fits (from_in (start c.before.before.before)) tt, within_fits (sent-in c.before.before.before) tt, within_fits (received-in c.before.before.before) tt, first c.before.before.before) (second c.before.before.before)
+overflow_add-result c = let from : ℤ = at_ℤ c.args.factors.now c.args.border.from in
+    let from_in : Within factor_most from = c.requires.factors_in_range.each.at c.args.border.from c.requires.border_in_range.from_in in
+    let sending : ℕ = c.in-Between.sending in
+    let receiving : ℕ = c.in-Between.receiving in
+    let zones : (sending < length c.args.factors.now) × (receiving < length c.args.factors.now) = subst (HubsWithin (length c.args.factors.now)) c.in-Between.is c.requires.border_in_range.hubs_in in
+    let sent : ℤ = at_ℤ c.args.factors.now sending in
+    let sent-in : Within factor_most sent = c.requires.factors_in_range.each.at sending zones.0 in
+    let received : ℤ = at_ℤ c.args.factors.now receiving in
+    let received-in : Within factor_most received = c.requires.factors_in_range.each.at receiving zones.1 in
+    let first : SFits w64 (from -ℤ sent) = within_fits (within_sub from_in sent-in) tt in
+    let second : SFits w64 (from -ℤ sent +ℤ received) = within_fits (within_add (within_sub from_in sent-in) received-in) tt in
+    simp (to_z-of_z, within_fits from_in tt, within_fits sent-in tt, within_fits received-in tt, first) second
 
 pub overflow_sub-result-in-Between-2 : goal.overflow_sub-result-in-Between-2
-overflow_sub-result-in-Between-2 c = simp (to_z-of_z, within_fits (from_in (start c.before.before.before)) tt, within_fits (sent-in c.before.before.before) tt, within_fits (received-in c.before.before.before) tt, within_fits (to_in (start c.before.before.before)) tt, first c.before.before.before, second c.before.before.before) (third c.before.before.before)
+overflow_sub-result-in-Between-2 c = let from : ℤ = at_ℤ c.args.factors.now c.args.border.from in
+    let from_in : Within factor_most from = c.requires.factors_in_range.each.at c.args.border.from c.requires.border_in_range.from_in in
+    let to : ℤ = at_ℤ c.args.factors.now c.args.border.to in
+    let to_in : Within factor_most to = c.requires.factors_in_range.each.at c.args.border.to c.requires.border_in_range.to_in in
+    let sending : ℕ = c.in-Between.sending in
+    let receiving : ℕ = c.in-Between.receiving in
+    let zones : (sending < length c.args.factors.now) × (receiving < length c.args.factors.now) = subst (HubsWithin (length c.args.factors.now)) c.in-Between.is c.requires.border_in_range.hubs_in in
+    let sent : ℤ = at_ℤ c.args.factors.now sending in
+    let sent-in : Within factor_most sent = c.requires.factors_in_range.each.at sending zones.0 in
+    let received : ℤ = at_ℤ c.args.factors.now receiving in
+    let received-in : Within factor_most received = c.requires.factors_in_range.each.at receiving zones.1 in
+    let first : SFits w64 (from -ℤ sent) = within_fits (within_sub from_in sent-in) tt in
+    let second : SFits w64 (from -ℤ sent +ℤ received) = within_fits (within_add (within_sub from_in sent-in) received-in) tt in
+    let third : SFits w64 (from -ℤ sent +ℤ received -ℤ to) = within_fits (within_sub (within_add (within_sub from_in sent-in) received-in) to_in) tt in
+    simp (to_z-of_z, within_fits from_in tt, within_fits sent-in tt, within_fits received-in tt, within_fits to_in tt, first, second) third
 
 pub returns-in-Without : goal.returns-in-Without
-returns-in-Without c = simp (to_z-of_z, within_fits (from_in c.before.before.before) tt, within_fits (to_in c.before.before.before) tt, apart c.before.before.before) (signed_without _ _ c.in-Without.is)
+returns-in-Without c = let from : ℤ = at_ℤ c.args.factors.now c.args.border.from in
+    let from_in : Within factor_most from = c.requires.factors_in_range.each.at c.args.border.from c.requires.border_in_range.from_in in
+    let to : ℤ = at_ℤ c.args.factors.now c.args.border.to in
+    let to_in : Within factor_most to = c.requires.factors_in_range.each.at c.args.border.to c.requires.border_in_range.to_in in
+    let apart : SFits w64 (from -ℤ to) = within_fits (within_sub from_in to_in) tt in
+    simp (to_z-of_z, within_fits from_in tt, within_fits to_in tt, apart) (signed_without _ _ c.in-Without.is)
 
 pub returns-in-Between : goal.returns-in-Between
-returns-in-Between c = simp (to_z-of_z, within_fits (from_in (start c.before.before.before)) tt, within_fits (sent-in c.before.before.before) tt, within_fits (received-in c.before.before.before) tt, within_fits (to_in (start c.before.before.before)) tt, first c.before.before.before, second c.before.before.before, third c.before.before.before)
+returns-in-Between c = let from : ℤ = at_ℤ c.args.factors.now c.args.border.from in
+    let from_in : Within factor_most from = c.requires.factors_in_range.each.at c.args.border.from c.requires.border_in_range.from_in in
+    let to : ℤ = at_ℤ c.args.factors.now c.args.border.to in
+    let to_in : Within factor_most to = c.requires.factors_in_range.each.at c.args.border.to c.requires.border_in_range.to_in in
+    let sending : ℕ = c.in-Between.sending in
+    let receiving : ℕ = c.in-Between.receiving in
+    let zones : (sending < length c.args.factors.now) × (receiving < length c.args.factors.now) = subst (HubsWithin (length c.args.factors.now)) c.in-Between.is c.requires.border_in_range.hubs_in in
+    let sent : ℤ = at_ℤ c.args.factors.now sending in
+    let sent-in : Within factor_most sent = c.requires.factors_in_range.each.at sending zones.0 in
+    let received : ℤ = at_ℤ c.args.factors.now receiving in
+    let received-in : Within factor_most received = c.requires.factors_in_range.each.at receiving zones.1 in
+    let first : SFits w64 (from -ℤ sent) = within_fits (within_sub from_in sent-in) tt in
+    let second : SFits w64 (from -ℤ sent +ℤ received) = within_fits (within_add (within_sub from_in sent-in) received-in) tt in
+    let third : SFits w64 (from -ℤ sent +ℤ received -ℤ to) = within_fits (within_sub (within_add (within_sub from_in sent-in) received-in) to_in) tt in
+    simp (to_z-of_z, within_fits from_in tt, within_fits sent-in tt, within_fits received-in tt, within_fits to_in tt, first, second, third)
     (signed_between _ _ _ _ c.in-Between.is)
