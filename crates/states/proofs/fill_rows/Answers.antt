@@ -9,20 +9,17 @@ use Rattle.marginrules.proofs.JudgedLaws.{good_factors}
 use Rattle.staterules.proofs.StandingsLaws.{rows_are}
 use Rattle.states.proofs.fill_rows.Goals as goal
 
-items-are : (c : goal.After-allocated_items-allocated) → c.allocated_items-allocated.result ≡ allocated_items c.args.h
-items-are c = c.allocated_items-allocated.ensures
-
 pub overflow_mul-factors : goal.overflow_mul-factors
 overflow_mul-factors c = omega (arith, factors_most _ c.requires.good.exact.header)
 
 pub slice_bounds-fill_rams-end-2 : goal.slice_bounds-fill_rams-end-2
-slice_bounds-fill_rams-end-2 c = rw (items-are c) (sym c.requires.good.exact.allocated_long)
+slice_bounds-fill_rams-end-2 c = rw c.allocated_items-allocated.ensures (sym c.requires.good.exact.allocated_long)
 
 pub fill_rams-requires : goal.fill_rams-requires
-fill_rams-requires c = record { good = rw (items-are c.before.before) c.requires.good; rams_len = c.requires.rams_len }
+fill_rams-requires c = record { good = rw c.allocated_items-allocated.ensures c.requires.good; rams_len = c.requires.rams_len }
 
 pub fill_states-requires : goal.fill_states-requires
 fill_states-requires c = record { table_factors_in_range = good_factors c.requires.good; rams_len = ap length c.fill_rams.ensures.0 ∙ table_long _ _; states_len = c.requires.states_len }
 
 pub returns : goal.returns
-returns c = rows_are _ _ (items-are c.before.before.before.before.before.before.before.before.before) c.fill_rams.ensures.0 c.fill_rams.ensures.1 c.fill_states.ensures
+returns c = rows_are _ _ c.allocated_items-allocated.ensures c.fill_rams.ensures.0 c.fill_rams.ensures.1 c.fill_states.ensures
