@@ -14,7 +14,7 @@ pub loop-i-init : goal.loop-i-init
 loop-i-init c = walked_none c.requires.borders_in_bounds.1 c.requires.small c.first_cap-first.ensures
 
 pub returns-then-low-most-2 : goal.returns-then-low-most-2
-returns-then-low-most-2 c = walked_under c.loop-i.invariant c.else-low-most.true (leb-true _ _ c.if-low-most-2.true-raw)
+returns-then-low-most-2 c = walked_under c.loop-i.invariant c.if-low-most.true (leb-true _ _ c.if-low-most-2.true-raw)
 
 pub factor-f-requires : goal.factor-f-requires
 factor-f-requires c = (c.requires.borders_in_bounds.0, omega arith, c.requires.borders_in_bounds.3)
