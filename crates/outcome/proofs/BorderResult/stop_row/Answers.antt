@@ -7,14 +7,11 @@ use Rattle.numbers.specs.declared.First.{First}
 use Rattle.outcome.specs.Outcome.{row_or_dash}
 use Rattle.outcome.proofs.BorderResult.stop_row.Goals as goal
 
-cast-result : goal.Need-overflow-cast-result
-cast-result c = record { sfits = c.before.before.before.requires _ (sym (ap found c.before.stop.given.1)) }
-
 pub overflow_cast-result : goal.overflow_cast-result
 overflow_cast-result c = record { sfits = c.requires _ (sym (ap found c.in-At.is)) }
 
 pub returns-in-At : goal.returns-in-At
-returns-in-At c = to_z_pos w64 (cast-result c).sfits ∙ sym (ap (λ (s : First). row_or_dash (found s)) c.in-At.is)
+returns-in-At c = to_z_pos w64 (c.requires _ (sym (ap found c.in-At.is))) ∙ sym (ap (λ (s : First). row_or_dash (found s)) c.in-At.is)
 
 pub returns-in-Nothing : goal.returns-in-Nothing
 returns-in-Nothing c = sym (ap (λ (s : First). row_or_dash (found s)) c.in-Nothing.is)
