@@ -9,9 +9,6 @@ use mir.Facts.{to_z_pos}
 use mir.Syntax.{w64}
 use Rattle.holding.proofs.allow.Goals as goal
 
-cast-result : goal.Need-overflow-cast-result
-cast-result c = record { sfits = let a = c.before.before.args in omega (arith, c.before.before.requires, c.equal-share.ensures, div-le_self a.margin a.n, div-le_self c.equal-share.result a.f) }
-
 pub returns-then-f-eq0 : goal.returns-then-f-eq0
 returns-then-f-eq0 c = rw (le-ltb 0 c.args.f (omega arith)) refl
 
@@ -19,4 +16,4 @@ pub overflow_cast-result : goal.overflow_cast-result
 overflow_cast-result c = record { sfits = omega (arith, c.requires, c.equal_share.ensures, div-le_self c.args.margin c.args.n, div-le_self c.equal_share.result c.args.f) }
 
 pub returns : goal.returns
-returns c = rw (lt-ltb 0 c.args.f (omega arith)) (to_z_pos w64 (cast-result c).sfits ∙ ap (λ (s : ℕ). pos (s / c.args.f)) c.equal_share.ensures)
+returns c = rw (lt-ltb 0 c.args.f (omega arith)) (to_z_pos w64 (omega (arith, c.requires, c.equal_share.ensures, div-le_self c.args.margin c.args.n, div-le_self c.equal_share.result c.args.f)) ∙ ap (λ (s : ℕ). pos (s / c.args.f)) c.equal_share.ensures)

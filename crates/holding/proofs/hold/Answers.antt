@@ -4,8 +4,5 @@ use mir.Facts.{to_z_pos, to_z-of_z}
 use mir.Syntax.{w64}
 use Rattle.holding.proofs.hold.Goals as goal
 
-cast-t7 : goal.Need-overflow-cast-t7
-cast-t7 c = search rules
-
 pub returns : goal.returns
-returns c = rw (to_z_pos w64 (cast-t7 c).sfits, to_z-of_z {w = w64} (sfits_of c.margin_left-left.type_inv), c.margin_left-left.ensures, to_z-of_z {w = w64} (sfits_of c.allow-kw.type_inv), c.allow-kw.ensures)
+returns c = rw (to_z_pos w64 c.requires.0, to_z-of_z {w = w64} (sfits_of c.margin_left-left.type_inv), c.margin_left-left.ensures, to_z-of_z {w = w64} (sfits_of c.allow-kw.type_inv), c.allow-kw.ensures)

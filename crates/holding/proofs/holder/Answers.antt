@@ -7,9 +7,6 @@ use Rattle.rounds.proofs.Loops.{ready_long}
 use Rattle.holding.proofs.HoldLaws.{held_here, held_more, held_none}
 use Rattle.holding.proofs.holder.Goals as goal
 
-cast-result : goal.Need-overflow-cast-result
-cast-result c = record { sfits = omega (arith, c.before.before.before.before.before.before.before.before.before.before.requires.0.2) }
-
 pub loop-i-init : goal.loop-i-init
 loop-i-init c = looked_none _ _
 
@@ -26,7 +23,7 @@ pub overflow_cast-result : goal.overflow_cast-result
 overflow_cast-result c = record { sfits = omega (arith, c.requires.borders_in_bounds.2) }
 
 pub returns-then-share-f : goal.returns-then-share-f
-returns-then-share-f c = to_z_pos w64 (cast-result c).sfits ∙ held_here c.requires.ready c.loop-i.invariant (omega arith) c.equal_share-share.ensures c.factor-f.ensures c.if-share-f.true
+returns-then-share-f c = to_z_pos w64 (omega (arith, c.requires.borders_in_bounds.2)) ∙ held_here c.requires.ready c.loop-i.invariant (omega arith) c.equal_share-share.ensures c.factor-f.ensures c.if-share-f.true
 
 pub loop-i-preserved : goal.loop-i-preserved
 loop-i-preserved c = held_more c.requires.ready c.loop-i.invariant (omega arith) c.equal_share-share.ensures c.factor-f.ensures c.if-share-f.false

@@ -7,14 +7,6 @@ use mir.Syntax.{w64}
 use Rattle.numbers.proofs.ListLaws.{filled_none, filled_more, filled_over}
 use Rattle.holding.proofs.store_ends.Goals as goal
 
-cast-t10 : goal.Need-overflow-cast-t10
-cast-t10 c = record { sfits = (c.before.before.before.requires.1 c.before.before.loop.c (omega arith)).0 }
-
-cast-t14 : goal.Need-overflow-cast-t14
-cast-t14 c = let at-loop = c.before.before.before in
-    let entry = at-loop.before in
-    record { sfits = (entry.requires.1 at-loop.loop.c (omega arith)).1 }
-
 pub loop-c-init : goal.loop-c-init
 loop-c-init c = filled_none _ _ _
 
@@ -37,7 +29,7 @@ pub bounds-out-c : goal.bounds-out-c
 bounds-out-c c = omega (arith, c.loop-c.invariant.as_long, c.requires.to_len)
 
 pub loop-c-preserved : goal.loop-c-preserved
-loop-c-preserved c = filled_more c.loop-c.invariant _ (omega arith) (omega (arith, c.requires.to_len)) (ap₂ (λ (x y : ℤ). x ∷ y ∷ []) (to_z_pos w64 (cast-t10 c.before).sfits) (to_z_pos w64 (cast-t14 c).sfits))
+loop-c-preserved c = filled_more c.loop-c.invariant _ (omega arith) (omega (arith, c.requires.to_len)) (ap₂ (λ (x y : ℤ). x ∷ y ∷ []) (to_z_pos w64 (c.requires.by_index c.loop-c.c (omega arith)).0) (to_z_pos w64 (c.requires.by_index c.loop-c.c (omega arith)).1))
 
 pub shape_of-out : goal.shape_of-out
 shape_of-out c = c.loop-c.invariant.as_long

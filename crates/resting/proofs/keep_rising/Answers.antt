@@ -22,9 +22,10 @@ pub overflow_add-kept : goal.overflow_add-kept
 overflow_add-kept c = omega (arith, c.loop-j.invariant.few)
 
 pub loop-j-preserved : goal.loop-j-preserved
-loop-j-preserved c = elim c.if-caps-b-gt0.branch
-    [ then-caps-b-gt0 w ↦ keeping_up c.requires c.loop-j.invariant (omega arith) _ w.if-caps-b-gt0.true w.kept-is
-    | else-caps-b-gt0 w ↦ keeping_on c.requires c.loop-j.invariant (omega arith) _ w.if-caps-b-gt0.false w.kept-is ]
+loop-j-preserved c = elim c.if-caps-b-gt0.branch [
+  | then-caps-b-gt0 w ↦ keeping_up c.requires c.loop-j.invariant (omega arith) _ w.if-caps-b-gt0.true w.kept-is
+  | else-caps-b-gt0 w ↦ keeping_on c.requires c.loop-j.invariant (omega arith) _ w.if-caps-b-gt0.false w.kept-is
+]
 
 pub shape_of-rising : goal.shape_of-rising
 shape_of-rising c = c.loop-j.invariant.long

@@ -25,12 +25,13 @@ pub slice_bounds-do_rounds-end-4 : goal.slice_bounds-do_rounds-end-4
 slice_bounds-do_rounds-end-4 c = sym (length-take-le _ _ (omega (arith, c.smaller-places.ensures, min-le_right c.args.rows 200)))
 
 pub do_rounds-requires : goal.do_rounds-requires
-do_rounds-requires c = record
-    { borders_in_bounds = c.requires.borders_in_bounds
-    ; startable = c.requires.startable
-    ; lasts_len = c.requires.lasts_len
-    ; gained_len = (length-take-le _ _ (omega (arith, c.requires.startable.borders)), length-take-le _ _ (omega (arith, c.requires.startable.borders)))
-    ; rising_len =
-        ( length-take-le _ _ (omega (arith, c.requires.startable.borders))
-        , le_by (length-take-le _ _ (omega (arith, c.smaller-places.ensures, min-le_right c.args.rows 200))) (omega (arith, c.smaller-places.ensures, min-le_left c.args.rows 200)))
-    }
+do_rounds-requires c = record {
+  borders_in_bounds = c.requires.borders_in_bounds;
+  startable = c.requires.startable;
+  lasts_len = c.requires.lasts_len;
+  gained_len = (length-take-le _ _ (omega (arith, c.requires.startable.borders)), length-take-le _ _ (omega (arith, c.requires.startable.borders)));
+  rising_len = (
+    length-take-le _ _ (omega (arith, c.requires.startable.borders)),
+    le_by (length-take-le _ _ (omega (arith, c.smaller-places.ensures, min-le_right c.args.rows 200))) (omega (arith, c.smaller-places.ensures, min-le_left c.args.rows 200)),
+  );
+}

@@ -13,4 +13,4 @@ pub overflow_cast-result : goal.overflow_cast-result
 overflow_cast-result c = record { sfits = omega (arith, c.requires.0) }
 
 pub returns : goal.returns
-returns c = rw (to_z_pos w64 {c.args.self.state} (omega (arith, c.requires.0)), plain c.args.self.ram c.struct_told-1.given.1.0.1, to_z-of_z {w = w64} (sfits_of c.margin_left-left.type_inv), c.margin_left-left.ensures)
+returns c = rw (to_z_pos w64 {n = c.args.self.state} (omega (arith, c.requires.0)), plain c.args.self.ram c.struct_told-1.given.1.0.1, to_z-of_z {w = w64} (sfits_of c.margin_left-left.type_inv), c.margin_left-left.ensures)
