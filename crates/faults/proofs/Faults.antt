@@ -128,6 +128,7 @@ module _ (sep : ℕ) (some : 0 < sep) where
   -- the first field with a bad byte: the fields before it are good
   found-fields : (columns : List Column) (line : List ℕ) (at place : ℕ) → at ≤ length line → Found sep line columns at place → fields_byte sep columns line at ≡ place + 1
   unfolding fields_byte
+  found-fields [] line at place l f = elim f [ ]
   found-fields (c ∷ cs) line at place l (here f) = go (field_at c line at (stop_of sep feed cs)) (bad-named c cs line at place l f)
     where
       go : (r : Signed) → blamed sep c line at r ≡ place + 1 → or_later r (blamed sep c line at r) (λ (next : ℕ). fields_byte sep cs line next) ≡ place + 1

@@ -12,7 +12,7 @@ use Rattle.result.proofs.RecordsLaws.{record_three}
 use Rattle.result.proofs.records.lines_length.Goals as goal
 
 pub loop-i-init : goal.loop-i-init
-loop-i-init c = measured_none _ _ _
+loop-i-init c letter = measured_none _ _ _
 
 pub line_length-sum-requires : goal.line_length-sum-requires
 line_length-sum-requires c = c.requires.0
@@ -21,12 +21,11 @@ pub overflow_add-sum : goal.overflow_add-sum
 overflow_add-sum c = omega (arith, (c.loop-i.invariant 0).few, (c.loop-i.invariant 0).summed.high, c.requires.1, c.line_length-sum.ensures.1)
 
 pub loop-i-preserved : goal.loop-i-preserved
-loop-i-preserved c = let s = c.before.before.before.before.before.before.before in
-    let head = c.before.before.before.before.before.loop in
-    let raw = get_or s.args.records.now head.i [] in
-    let said = simp (plain, c.before.before.before.line-length-arg.given, c.before.before.line-length-arg2.given, c.before.line-length-arg3.given) at c.line_length_lem.ensures in
-    let line = said.0 ∙ record_three s.requires.0 (Indexed c head.i) raw ∙ sym (line_long tab (Indexed c head.i) (columns_of s.args.columns.now) raw) in
-    measured_more (head.invariant c) _ (omega arith) line (omega (arith, line, said.1))
+loop-i-preserved c letter =
+    let raw = get_or c.args.records.now c.loop-i.i [] in
+    let said = simp plain at c.line_length-sum.ensures in
+    let line = said.0 ∙ record_three c.requires.0 (Indexed letter c.loop-i.i) raw ∙ sym (line_long tab (Indexed letter c.loop-i.i) (columns_of c.args.columns.now) raw) in
+    measured_more (c.loop-i.invariant letter) _ (omega arith) line (omega (arith, line, said.1))
 
 pub returns : goal.returns
 returns c = (λ letter. measured_all (c.loop-i.invariant letter) (omega arith), omega (arith, c.requires.1, (c.loop-i.invariant 0).few, (c.loop-i.invariant 0).summed.high))
