@@ -11,21 +11,21 @@ use Rattle.claims.specs.Magnitudes.{ClaimInRange}
 use Rattle.claims.proofs.FormLaws.{claim_formed, formed_ranges}
 use Rattle.claims.proofs.judge_claim.Goals as goal
 
-yes : (c : goal.Else-not-is_formed) → formed_by c.args.states.now (flagged c.args.named.now) (flagged c.args.earlier.now) c.args.claim ≡ true
-yes c = sym c.is_formed.ensures ∙ not-false _ c.if-not-is_formed.false-raw
-
 pub returns-then-not-is_formed : goal.returns-then-not-is_formed
 unfolding judge_claim
 returns-then-not-is_formed c = ap refused c.malformed_claim.ensures ∙ sym (unless_refused _ _ (sym c.is_formed.ensures ∙ not-true _ c.if-not-is_formed.true-raw))
 
 pub is_borne_out-requires : goal.is_borne_out-requires
-is_borne_out-requires c = record { lent = c.requires.lent; lent_2 = c.requires.lent_2; claim_in_range = subst (λ (n : ℕ). ClaimInRange n c.args.claim) c.requires.states_len (formed_ranges c.args.states.now (flagged c.args.named.now) (claim_formed c.args.states.now (flagged c.args.named.now) (flagged c.args.earlier.now) c.args.claim (yes c))) }
+is_borne_out-requires c = let yes : formed_by c.args.states.now (flagged c.args.named.now) (flagged c.args.earlier.now) c.args.claim ≡ true = sym c.is_formed.ensures ∙ not-false _ c.if-not-is_formed.false-raw in
+    record { lent = c.requires.lent; lent_2 = c.requires.lent_2; claim_in_range = subst (λ (n : ℕ). ClaimInRange n c.args.claim) c.requires.states_len (formed_ranges c.args.states.now (flagged c.args.named.now) (claim_formed c.args.states.now (flagged c.args.named.now) (flagged c.args.earlier.now) c.args.claim yes)) }
 
 pub returns-then-not-is_borne_out : goal.returns-then-not-is_borne_out
 unfolding judge_claim
-returns-then-not-is_borne_out c = ap refused c.not_borne_out.ensures
-    ∙ sym (unless_ok _ _ (yes c.before.before.before) ∙ unless_refused _ _ (sym c.is_borne_out.ensures ∙ not-true _ c.if-not-is_borne_out.true-raw))
+returns-then-not-is_borne_out c = let yes : formed_by c.args.states.now (flagged c.args.named.now) (flagged c.args.earlier.now) c.args.claim ≡ true = sym c.is_formed.ensures ∙ not-false _ c.if-not-is_formed.false-raw in
+    ap refused c.not_borne_out.ensures
+    ∙ sym (unless_ok _ _ yes ∙ unless_refused _ _ (sym c.is_borne_out.ensures ∙ not-true _ c.if-not-is_borne_out.true-raw))
 
 pub returns : goal.returns
 unfolding judge_claim
-returns c = sym (unless_ok _ _ (yes c.before.before) ∙ unless_ok _ _ (sym c.is_borne_out.ensures ∙ not-false _ c.if-not-is_borne_out.false-raw))
+returns c = let yes : formed_by c.args.states.now (flagged c.args.named.now) (flagged c.args.earlier.now) c.args.claim ≡ true = sym c.is_formed.ensures ∙ not-false _ c.if-not-is_formed.false-raw in
+    sym (unless_ok _ _ yes ∙ unless_ok _ _ (sym c.is_borne_out.ensures ∙ not-false _ c.if-not-is_borne_out.false-raw))
