@@ -6,26 +6,23 @@ use Rattle.limits.specs.Limits.{rows_most}
 use Rattle.types.proofs.RangeLaws.{header_in_lem}
 use Rattle.parts.proofs.margins_good.Goals as goal
 
-few : (s : goal.Start) → s.args.h.rows ≤ rows_most
-few s = (header_in_lem _ s.requires.good.exact.header).rows_most_lem
-
 pub slice_bounds-rams-end : goal.slice_bounds-rams-end
 slice_bounds-rams-end c = (header_in_lem _ c.requires.good.exact.header).rows_most_lem
 
 pub slice_bounds-fill_parts-end : goal.slice_bounds-fill_parts-end
-slice_bounds-fill_parts-end c = sym (length-take-le _ _ (few c.before))
+slice_bounds-fill_parts-end c = sym (length-take-le _ _ (header_in_lem _ c.requires.good.exact.header).rows_most_lem)
 
 pub slice_bounds-starts-end : goal.slice_bounds-starts-end
-slice_bounds-starts-end c = few c.before
+slice_bounds-starts-end c = (header_in_lem _ c.requires.good.exact.header).rows_most_lem
 
 pub slice_bounds-fill_parts-end-2 : goal.slice_bounds-fill_parts-end-2
-slice_bounds-fill_parts-end-2 c = sym (length-take-le _ _ (few c.before.before))
+slice_bounds-fill_parts-end-2 c = sym (length-take-le _ _ (header_in_lem _ c.requires.good.exact.header).rows_most_lem)
 
 pub slice_bounds-states-end : goal.slice_bounds-states-end
-slice_bounds-states-end c = few c.before.before
+slice_bounds-states-end c = (header_in_lem _ c.requires.good.exact.header).rows_most_lem
 
 pub slice_bounds-fill_parts-end-3 : goal.slice_bounds-fill_parts-end-3
-slice_bounds-fill_parts-end-3 c = sym (length-take-le _ _ (few c.before.before.before))
+slice_bounds-fill_parts-end-3 c = sym (length-take-le _ _ (header_in_lem _ c.requires.good.exact.header).rows_most_lem)
 
 pub fill_parts-requires : goal.fill_parts-requires
-fill_parts-requires c = record { good = c.requires.good; rams_len = (length-take-le _ _ (few c.before.before.before.before), length-take-le _ _ (few c.before.before.before.before)); states_len = (length-take-le _ _ (few c.before.before.before.before), c.requires.rows_in_bounds) }
+fill_parts-requires c = record { good = c.requires.good; rams_len = (length-take-le _ _ (header_in_lem _ c.requires.good.exact.header).rows_most_lem, length-take-le _ _ (header_in_lem _ c.requires.good.exact.header).rows_most_lem); states_len = (length-take-le _ _ (header_in_lem _ c.requires.good.exact.header).rows_most_lem, c.requires.rows_in_bounds) }

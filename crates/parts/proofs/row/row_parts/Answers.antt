@@ -28,7 +28,7 @@ as_record-requires c = let row = row_judged _ c.requires.raw_value c.of_good-row
     let f0core = within_is c.f0core-f0core.ensures (within_f0core _ row.fref_in _ _ c.requires.nets_in_range.few c.requires.factors_in_range.each c.requires.nets_in_range.each zones_most (omega (arith, c.requires.nets_in_range.few, c.requires.factors_in_range.few))) in
     let fits : SFits w64 c.f0core-f0core.result = sfits_of c.f0core-f0core.type_inv in
     simp (to_z-of_z, fits, c.ranges.default)
-    (c.requires.within, (row, (f0core, (s_bound c.requires.factors_in_range c.requires.borders_in_range c.s-s.ensures, n_few _ c.requires.borders_in_range c.count_loading-n.ensures, c.requires.state_bound))))
+    record { within = c.requires.within; row_in_range = row; within_2 = f0core; s_le_s_most = (s_bound c.requires.factors_in_range c.requires.borders_in_range c.s-s.ensures, n_few _ c.requires.borders_in_range c.count_loading-n.ensures, c.requires.state_bound) }
 
 pub returns : goal.returns
 returns c = let fits : SFits w64 c.f0core-f0core.result = sfits_of c.f0core-f0core.type_inv in
