@@ -7,10 +7,6 @@ use Rattle.text.proofs.PutLaws.{lines_none, lines_more, lines_all_lem, lines_roo
 use Rattle.cornertext.specs.CornerText.{corner_line_at, corners_text}
 use Rattle.cornertext.proofs.put_corners.Goals as goal
 
-all : (c : goal.After-loop-k) → Put (corners_text c.args.row c.args.flows.now) 0 c.args.out.now c.loop-k.next c.loop-k.new
-unfolding corners_text
-all c = lines_all_lem (corner_line_at c.args.row c.args.flows.now) c.loop-k.invariant.0 (omega arith) c.loop-k.invariant.1
-
 pub loop-k-init : goal.loop-k-init
 loop-k-init c = (omega arith, lines_none _ _ _)
 
@@ -23,7 +19,11 @@ pub loop-k-preserved : goal.loop-k-preserved
 loop-k-preserved c = (omega arith, lines_more (corner_line_at c.args.row c.args.flows.now) (omega arith) c.loop-k.invariant.1 (simp (plain, c.put_corner-arg-1.given) at c.put_corner-next.ensures))
 
 pub shape_of-out : goal.shape_of-out
-shape_of-out c = put_kept (all c) (rw zero-add c.requires.1)
+unfolding corners_text
+shape_of-out c = let all : Put (corners_text c.args.row c.args.flows.now) 0 c.args.out.now c.loop-k.next c.loop-k.out = lines_all_lem (corner_line_at c.args.row c.args.flows.now) c.loop-k.invariant.0 (omega arith) c.loop-k.invariant.1 in
+    put_kept all (rw zero-add c.requires.1)
 
 pub returns : goal.returns
-returns c = all c
+unfolding corners_text
+returns c = let all : Put (corners_text c.args.row c.args.flows.now) 0 c.args.out.now c.loop-k.next c.loop-k.out = lines_all_lem (corner_line_at c.args.row c.args.flows.now) c.loop-k.invariant.0 (omega arith) c.loop-k.invariant.1 in
+    all
