@@ -9,7 +9,7 @@ pub overflow_add-p : goal.overflow_add-p
 overflow_add-p c = omega (arith, begun_fits c.loop-m.invariant)
 
 pub mark-m-requires-in-loop-m : goal.mark-m-requires-in-loop-m
-mark-m-requires-in-loop-m c = λ κs. begun_fits c.loop-m.invariant
+mark-m-requires-in-loop-m c = begun_fits c.loop-m.invariant
 
 pub loop-m-smaller : goal.loop-m-smaller
 loop-m-smaller c = omega (arith, begun_fits c.loop-m.invariant)

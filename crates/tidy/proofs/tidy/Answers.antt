@@ -23,7 +23,7 @@ pub slice_bounds-write_lines-end-3 : goal.slice_bounds-write_lines-end-3
 slice_bounds-write_lines-end-3 c = sym (length-take-le c.write_lines-needed.result c.args.out.now (omega arith))
 
 pub write_lines-requires : goal.write_lines-requires
-write_lines-requires c = λ κs. (c.begin-from.ensures.0, omega arith)
+write_lines-requires c = (c.begin-from.ensures.0, omega arith)
 
 pub returns : goal.returns
 returns c = let room : c.write_lines-needed.result ≤ length c.args.out.now = omega arith in

@@ -7,13 +7,13 @@ pub loop-left-init : goal.loop-left-init
 loop-left-init c = left_start (replicate c.args.n 48) c.args.at c.args.out.now
 
 pub put-next-requires : goal.put-next-requires
-put-next-requires c = zeros_room c.args.n c.loop-left.false c.loop-left.invariant c.loop-left-test.true c.requires
+put-next-requires c = zeros_room c.args.n c.loop-left.left c.loop-left.invariant c.loop-left-test.true c.requires
 
 pub loop-left-preserved : goal.loop-left-preserved
-loop-left-preserved c = zeros_more c.args.n c.loop-left.false c.loop-left.invariant c.loop-left-test.true c.put-next.ensures
+loop-left-preserved c = zeros_more c.args.n c.loop-left.left c.loop-left.invariant c.loop-left-test.true c.put-next.ensures
 
 pub shape_of-out : goal.shape_of-out
 shape_of-out c = left_long c.loop-left.invariant
 
 pub returns : goal.returns
-returns c = zeros_all c.args.n c.loop-left.false c.loop-left.invariant (omega arith)
+returns c = zeros_all c.args.n c.loop-left.left c.loop-left.invariant (omega arith)
