@@ -10,9 +10,6 @@ use Rattle.partstext.specs.PartsText.{parts_text}
 use Rattle.partstext.proofs.PartsTextLaws.{records_first, records_long, records_short}
 use Rattle.partstext.proofs.margins_text_good.Goals as goal
 
-array-share-prefix-records : goal.slice_bounds-records-end
-array-share-prefix-records c = records_long c.requires _ c.margins_good.ensures
-
 pub margins_good-requires : goal.margins_good-requires
 margins_good-requires c = record { good = c.requires; rows_in_bounds = (header_in_lem _ c.requires.exact.header).rows_most_lem }
 
@@ -20,10 +17,10 @@ pub slice_bounds-records-end : goal.slice_bounds-records-end
 slice_bounds-records-end c = records_long c.requires _ c.margins_good.ensures
 
 pub slice_bounds-write_parts-end : goal.slice_bounds-write_parts-end
-slice_bounds-write_parts-end c = sym (length-take-le _ _ (array-share-prefix-records c.before))
+slice_bounds-write_parts-end c = sym (length-take-le _ _ (records_long c.requires _ c.margins_good.ensures))
 
 pub write_parts-requires : goal.write_parts-requires
-write_parts-requires c = records_short c.requires _ c.margins_good.ensures
+write_parts-requires c = let short = records_short c.requires _ c.margins_good.ensures in record { records_len_bound = short.0; by_index = short.1 }
 
 pub returns : goal.returns
 returns c = c.write_parts.ensures
