@@ -7,9 +7,10 @@ pub mod lists;
 ghost use Rattle.std.specs.Prelude.{◌≡◌, length};
 ghost use Rattle.io.specs.Counts.{IsPrefixLen};
 
+use system::System;
 use text::Number;
 
-// Room for an argument: Linux lets one have 131,071 bytes, where a page of memory has 4,096. Whether all of it is here, `os::errno` tells.
+// Room for an argument: Linux lets one have 131,071 bytes, where a page of memory has 4,096. Whether all of it is here, `System::has_failed` tells.
 const ROOM: usize = 131072;
 
 // The memory for an argument. The array is written out only here: each place that has it costs the check a second.
@@ -40,9 +41,9 @@ pub fn tail<'a>(text: &'a [u8], from: usize) -> &'a [u8] {
 }
 
 // Which line of a list of words the piece is, from 0; as many as there are lines where it is none.
-pub fn which(piece: Piece, list: &[u8]) -> usize {
+pub fn which(sys: &System, piece: Piece, list: &[u8]) -> usize {
     let mut own = room();
-    let n = os::arg(piece.at, &mut own);
+    let n = sys.arg(piece.at, &mut own);
     lists::line_of(list, tail(&own[..n], piece.from))
 }
 
@@ -53,9 +54,9 @@ pub enum Held {
 }
 
 // The number that a piece holds, written as numbers are in a table.
-pub fn number(piece: Piece) -> Held {
+pub fn number(sys: &System, piece: Piece) -> Held {
     let mut own = room();
-    os::arg(piece.at, &mut own);
+    sys.arg(piece.at, &mut own);
     match text::field::number_at(&own, piece.from, 0) {
         Number::Value(v, _) => Held::Number(v),
         Number::Bad(_) => Held::Other,
@@ -63,8 +64,8 @@ pub fn number(piece: Piece) -> Held {
 }
 
 // The descriptor that a piece holds, -1 where it holds none.
-pub fn descriptor(piece: Piece) -> i32 {
-    let Held::Number(v) = number(piece) else {
+pub fn descriptor(sys: &System, piece: Piece) -> i32 {
+    let Held::Number(v) = number(sys, piece) else {
         return -1;
     };
     if v > 2147483647 {
@@ -86,11 +87,11 @@ pub struct Listed {
 
 // The numbers that a piece holds, written as they are in a table, with commas between: an empty one holds none.
 // The whole piece is looked at, but only as many are kept as there is room for.
-pub fn list(piece: Piece) -> Listed
+pub fn list(sys: &System, piece: Piece) -> Listed
     ensures { IsPrefixLen result.count result.numbers }
 {
     let mut own = room();
-    os::arg(piece.at, &mut own);
+    sys.arg(piece.at, &mut own);
     let mut numbers = [0u64; LIST_ROOM];
     let kept = numbers_in(&own, piece.from, &mut numbers);
     Listed {

@@ -4,7 +4,7 @@ ghost use Rattle.std.specs.Prelude.{◌≤◌};
 ghost use Rattle.io.specs.Counts.{IsPrefixLen};
 
 use arguments::lists;
-use libc::STDOUT_FILENO;
+use system::System;
 use text::Number;
 
 // No table has more lines than these.
@@ -40,7 +40,7 @@ struct Places {
 }
 
 // Prints what differs between two good tables: false where not all could be written.
-pub fn print(old: &[u8], new: &[u8]) -> bool {
+pub fn print(sys: &System, old: &[u8], new: &[u8]) -> bool {
     let mut at = Places {
         old: 0,
         new: 0,
@@ -50,32 +50,32 @@ pub fn print(old: &[u8], new: &[u8]) -> bool {
         written: true,
     };
     for _ in 0..2 * LINES_MOST {
-        at = step(old, new, at);
+        at = step(sys, old, new, at);
     }
     at.written
 }
 
 // Lines of one kind are compared in their order, so those of one index meet. A line whose kind comes first stands in its own text alone.
-fn step(old: &[u8], new: &[u8], at: Places) -> Places {
+fn step(sys: &System, old: &[u8], new: &[u8], at: Places) -> Places {
     let i = at.old;
     let k = at.new;
     let was = line_from(old, i);
     let is = line_from(new, k);
     let first = kind(was);
     let second = kind(is);
-    let told = tell(was, is, first, second, at);
+    let told = tell(sys, was, is, first, second, at);
     passed(old, new, told, first <= second, second <= first)
 }
 
-fn tell(was: &[u8], is: &[u8], first: usize, second: usize, mut at: Places) -> Places
+fn tell(sys: &System, was: &[u8], is: &[u8], first: usize, second: usize, mut at: Places) -> Places
     requires { (first ≤ 5) × (second ≤ 5) }
 {
     let good = if first == second {
-        compare(was, is, first, at.line)
+        compare(sys, was, is, first, at.line)
     } else if second < first {
-        alone(is, second, ADDED, at.line, at.allocated)
+        alone(sys, is, second, ADDED, at.line, at.allocated)
     } else {
-        alone(was, first, GONE, at.before, at.allocated)
+        alone(sys, was, first, GONE, at.before, at.allocated)
     };
     at.written = good && at.written;
     let added = second < first && begins_allocated(is);
@@ -139,7 +139,7 @@ const GONE: usize = 9;
 const ALL_ALLOCATED: usize = 5;
 
 // Where one table alone has T lines, they are told once.
-fn alone(line: &[u8], of: usize, form: usize, number: u64, told: bool) -> bool
+fn alone(sys: &System, line: &[u8], of: usize, form: usize, number: u64, told: bool) -> bool
     requires { (of ≤ 5) × (form ≤ 9) }
 {
     let index = index_of(line);
@@ -153,20 +153,20 @@ fn alone(line: &[u8], of: usize, form: usize, number: u64, told: bool) -> bool
     };
     let mut out = [0u8; ROOM];
     let n = put_words(words, number, index, &mut out, 0);
-    io::write_all(STDOUT_FILENO, &out[..n])
+    sys.print(&out[..n])
 }
 
-fn compare(was: &[u8], is: &[u8], of: usize, line: u64) -> bool {
+fn compare(sys: &System, was: &[u8], is: &[u8], of: usize, line: u64) -> bool {
     let mut good = true;
     for j in 1..FIELDS_MOST {
-        let told = compare_field(was, is, of, j, line);
+        let told = compare_field(sys, was, is, of, j, line);
         good = told && good;
     }
     good
 }
 
 // Where one table has more zones, its rows have more factors: the first line tells that.
-fn compare_field(was: &[u8], is: &[u8], of: usize, j: usize, line: u64) -> bool {
+fn compare_field(sys: &System, was: &[u8], is: &[u8], of: usize, j: usize, line: u64) -> bool {
     if of == BORDER && HUBS < j {
         return true;
     }
@@ -179,7 +179,7 @@ fn compare_field(was: &[u8], is: &[u8], of: usize, j: usize, line: u64) -> bool 
     if of == ROW && (a.len() == 0 || b.len() == 0) {
         return true;
     }
-    print_field(is, a, b, of, j, line)
+    print_field(sys, is, a, b, of, j, line)
 }
 
 // The field, or all that is left of the line from it on.
@@ -193,7 +193,15 @@ fn field<'a>(line: &'a [u8], j: usize, rest: bool) -> &'a [u8] {
 // Room for a line of words: none has half as many bytes.
 const ROOM: usize = 256;
 
-fn print_field(is: &[u8], a: &[u8], b: &[u8], of: usize, j: usize, line: u64) -> bool {
+fn print_field(
+    sys: &System,
+    is: &[u8],
+    a: &[u8],
+    b: &[u8],
+    of: usize,
+    j: usize,
+    line: u64,
+) -> bool {
     let mut out = [0u8; ROOM];
     let n = put_words(of, line, index_of(is), &mut out, 0);
     let n = put_name(is, of == BORDER && j == HUBS, j, &mut out, n);
@@ -202,7 +210,7 @@ fn print_field(is: &[u8], a: &[u8], b: &[u8], of: usize, j: usize, line: u64) ->
     let n = put_words(BECOMES, 0, 0, &mut out, n);
     let n = put_value(b, &mut out, n);
     let n = put_words(END, 0, 0, &mut out, n);
-    io::write_all(STDOUT_FILENO, &out[..n])
+    sys.print(&out[..n])
 }
 
 fn put_name(line: &[u8], hubs: bool, j: usize, out: &mut [u8], at: usize) -> usize

@@ -8,27 +8,29 @@ use command::options::Command;
 use command::{input, options};
 use output::Ended;
 use refusals::Written;
+use system::System;
 
 // The tables that two arguments name; where the second is not there, the first as it is corrected.
-pub fn obey(old: usize, new: usize, command: Command) -> Ended {
-    if !options::only(command, true, false, false)
-        || !options::can_read(command, 0, old)
-        || !options::can_read(command, 0, new)
+pub fn obey(sys: &System, old: usize, new: usize, command: Command) -> Ended {
+    if !options::only(sys, command, true, false, false)
+        || !options::can_read(sys, command, 0, old)
+        || !options::can_read(sys, command, 0, new)
     {
         return Ended::Failed;
     }
     if new == 0 && command.corrections.at == 0 {
-        messages::misuse(command.plain.word, whole(0), messages::TABLE_MISSING);
+        messages::misuse(sys, command.plain.word, whole(0), messages::TABLE_MISSING);
         return Ended::Failed;
     }
-    if new > 0 && is_standard_input(old) && is_standard_input(new) {
-        messages::misuse(command.plain.word, whole(new), messages::TWICE);
+    if new > 0 && is_standard_input(sys, old) && is_standard_input(sys, new) {
+        messages::misuse(sys, command.plain.word, whole(new), messages::TWICE);
         return Ended::Failed;
     }
     let mut rows = input::room();
     let mut before = input::room();
     let mut after = input::room();
     obey_in(
+        sys,
         old,
         new,
         command.corrections,
@@ -38,11 +40,12 @@ pub fn obey(old: usize, new: usize, command: Command) -> Ended {
     )
 }
 
-fn is_standard_input(i: usize) -> bool {
-    arguments::which(whole(i), b"-\n") == 0
+fn is_standard_input(sys: &System, i: usize) -> bool {
+    arguments::which(sys, whole(i), b"-\n") == 0
 }
 
 fn obey_in(
+    sys: &System,
     old: usize,
     new: usize,
     corrections: Piece,
@@ -50,22 +53,23 @@ fn obey_in(
     before: &mut [u8],
     after: &mut [u8],
 ) -> Ended {
-    let sheet = input::named(corrections, rows);
-    let first = input::table(old, before);
+    let sheet = input::named(sys, corrections, rows);
+    let first = input::table(sys, old, before);
     if sheet.failed || first.failed {
         return Ended::Failed;
     }
     let k = sheet.count;
     let n = first.count;
     if new == 0 {
-        return compare_corrected(&before[..n], &rows[..k]);
+        return compare_corrected(sys, &before[..n], &rows[..k]);
     }
-    let second = input::table(new, after);
+    let second = input::table(sys, new, after);
     if second.failed {
         return Ended::Failed;
     }
     let m = second.count;
     compare(
+        sys,
         b"the first table",
         b"the second table",
         &before[..n],
@@ -75,8 +79,8 @@ fn obey_in(
 }
 
 // Apart, since a part of a slice cannot be lent twice in one call.
-fn compare_corrected<'a>(table: &'a [u8], sheet: &'a [u8]) -> Ended {
-    compare(b"", b"", table, table, sheet)
+fn compare_corrected<'a>(sys: &System, table: &'a [u8], sheet: &'a [u8]) -> Ended {
+    compare(sys, b"", b"", table, table, sheet)
 }
 
 // Room for a table that is written again.
@@ -84,6 +88,7 @@ const ROOM: usize = text::BYTES_MOST;
 
 // The first table stands as it would be written, where it is good. Of which table a refusal is said where two are named.
 fn compare<'a>(
+    sys: &System,
     first: &[u8],
     second: &[u8],
     before: &'a [u8],
@@ -92,19 +97,25 @@ fn compare<'a>(
 ) -> Ended {
     let mut out = [0u8; ROOM];
     match rewriting::rewrite_corrected(before, b"", &mut out) {
-        Written::Bytes(_) => compare_good(second, before, after, sheet),
-        Written::Refused(w) => telling::refuse(first, w, before, b""),
+        Written::Bytes(_) => compare_good(sys, second, before, after, sheet),
+        Written::Refused(w) => telling::refuse(sys, first, w, before, b""),
     }
 }
 
 // The second table is written again as it is corrected.
-fn compare_good<'a>(second: &[u8], before: &[u8], after: &'a [u8], sheet: &'a [u8]) -> Ended {
+fn compare_good<'a>(
+    sys: &System,
+    second: &[u8],
+    before: &[u8],
+    after: &'a [u8],
+    sheet: &'a [u8],
+) -> Ended {
     let mut out = [0u8; ROOM];
     match rewriting::rewrite_corrected(after, sheet, &mut out) {
         Written::Bytes(k) => {
             let m = output::cut(k, &out);
-            telling::told(fields::print(before, &out[..m]), Ended::Answered)
+            telling::told(sys, fields::print(sys, before, &out[..m]), Ended::Answered)
         }
-        Written::Refused(w) => telling::refuse(second, w, after, sheet),
+        Written::Refused(w) => telling::refuse(sys, second, w, after, sheet),
     }
 }

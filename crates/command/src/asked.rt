@@ -1,5 +1,6 @@
 // What the arguments ask for: the words, with what may stand after each and what goes with it.
 use arguments::{Held, whole};
+use system::System;
 
 // The first arguments that belong to no option, by their places: the word, and what stands after it (a row, a file, the table); 0 where there is none.
 #[derive(Clone, Copy)]
@@ -68,11 +69,12 @@ pub enum Asked {
 }
 
 // Which word an argument is, by its line here and its arm in `understand`.
-fn word_at(i: usize) -> usize {
+fn word_at(sys: &System, i: usize) -> usize {
     if i == 0 {
         return NO_WORD;
     }
     arguments::which(
+        sys,
         whole(i),
         b"rewrite\nbound\nmargins\nrows\nclaims\nfill\ncorners\nwhy\nhelp\n--help\n-h\n--version\nchanges\ntidy\npage\nday\n",
     )
@@ -83,18 +85,18 @@ const PAGE: usize = 14;
 const NO_WORD: usize = 16;
 
 // Whether an argument is a word.
-pub fn is_word(i: usize) -> bool {
-    word_at(i) < NO_WORD
+pub fn is_word(sys: &System, i: usize) -> bool {
+    word_at(sys, i) < NO_WORD
 }
 
 // Whether an argument is the word that takes a label.
-pub fn is_page(i: usize) -> bool {
-    word_at(i) == PAGE
+pub fn is_page(sys: &System, i: usize) -> bool {
+    word_at(sys, i) == PAGE
 }
 
 // What the word asks for, with the arguments after it. One that is no word names a table that is to be answered.
-pub fn understand(plain: Plain) -> Asked {
-    let word = word_at(plain.word);
+pub fn understand(sys: &System, plain: Plain) -> Asked {
+    let word = word_at(sys, plain.word);
     match word {
         0 => text(Word::Rewrite, 0, plain.first, plain.second),
         1 => text(Word::Bound, 0, plain.first, plain.second),
@@ -102,8 +104,8 @@ pub fn understand(plain: Plain) -> Asked {
         3 => text(Word::Rows, 0, plain.first, plain.second),
         4 => with_file(Word::Claims, plain),
         5 => with_file(Word::Filled, plain),
-        6 => corners(plain),
-        7 => why(plain),
+        6 => corners(sys, plain),
+        7 => why(sys, plain),
         8..=10 => alone(Asked::Help, plain.first),
         11 => alone(Asked::Version, plain.first),
         12 => changes(plain),
@@ -139,11 +141,11 @@ fn text(word: Word, file: usize, table: usize, more: usize) -> Asked {
 }
 
 // A row may stand after the word, and then a table. A file whose name is a number is named with its folder.
-fn corners(plain: Plain) -> Asked {
+fn corners(sys: &System, plain: Plain) -> Asked {
     if plain.first == 0 {
         return sheets(Whose::Every, 0, 0);
     }
-    if let Held::Number(row) = arguments::number(whole(plain.first)) {
+    if let Held::Number(row) = arguments::number(sys, whole(plain.first)) {
         return sheets(Whose::One(row as usize), plain.second, plain.third);
     }
     sheets(Whose::Every, plain.first, plain.second)
@@ -158,11 +160,11 @@ fn sheets(rows: Whose, table: usize, more: usize) -> Asked {
 }
 
 // A border has to stand after the word, and then a table may.
-fn why(plain: Plain) -> Asked {
+fn why(sys: &System, plain: Plain) -> Asked {
     if plain.first == 0 {
         return Asked::Wrong(plain.word, 0, messages::BORDER_MISSING);
     }
-    if let Held::Number(border) = arguments::number(whole(plain.first)) {
+    if let Held::Number(border) = arguments::number(sys, whole(plain.first)) {
         return alone(Asked::Why(border, plain.second), plain.third);
     }
     Asked::Wrong(plain.word, plain.first, messages::NO_BORDER)

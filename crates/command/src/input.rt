@@ -3,7 +3,7 @@ ghost use Rattle.std.specs.Prelude.{◌≡◌, length};
 ghost use Rattle.io.specs.Counts.{IsPrefixLen};
 
 use arguments::{Piece, whole};
-use libc::STDIN_FILENO;
+use system::System;
 
 // Room for a text, one byte more than it may have, so that a longer one is seen.
 const ROOM: usize = text::BYTES_MOST + 1;
@@ -23,27 +23,28 @@ pub struct Read {
 }
 
 // The table: the file that an argument names, or standard input, whose name is -, where none does.
-pub fn table(at: usize, text: &mut [u8]) -> Read
+pub fn table(sys: &System, at: usize, text: &mut [u8]) -> Read
     ensures { IsPrefixLen result.count text.new }
 {
-    if at == 0 || arguments::which(whole(at), b"-\n") == 0 {
-        return standard(text);
+    if at == 0 || arguments::which(sys, whole(at), b"-\n") == 0 {
+        return standard(sys, text);
     }
-    named(whole(at), text)
+    named(sys, whole(at), text)
 }
 
-fn standard(text: &mut [u8]) -> Read
+fn standard(sys: &System, text: &mut [u8]) -> Read
     ensures { IsPrefixLen result.count text.new }
 {
-    let read = read_text(STDIN_FILENO, text);
+    let mut input = sys.stdin();
+    let read = read_text(sys, &mut input, text);
     if read.failed {
-        os::fail(b"keravnoth: reading");
+        sys.fail(b"keravnoth: reading");
     }
     read
 }
 
 // The file that a piece of an argument names, or nothing where none is given. An argument that cannot be read names none.
-pub fn named(piece: Piece, text: &mut [u8]) -> Read
+pub fn named(sys: &System, piece: Piece, text: &mut [u8]) -> Read
     ensures { IsPrefixLen result.count text.new }
 {
     if piece.at == 0 {
@@ -53,40 +54,40 @@ pub fn named(piece: Piece, text: &mut [u8]) -> Read
         };
     }
     let mut name = arguments::room();
-    let n = os::arg(piece.at, &mut name);
-    read_file(arguments::tail(&name[..n], piece.from), text)
+    let n = sys.arg(piece.at, &mut name);
+    read_file(sys, arguments::tail(&name[..n], piece.from), text)
 }
 
-fn read_file(name: &[u8], text: &mut [u8]) -> Read
+fn read_file(sys: &System, name: &[u8], text: &mut [u8]) -> Read
     ensures { IsPrefixLen result.count text.new }
 {
-    let read = read_by_name(name, text);
+    let read = read_by_name(sys, name, text);
     if read.failed {
-        messages::unread(name);
+        messages::unread(sys, name);
     }
     read
 }
 
 // Reads a file, and says nothing where it cannot be read.
-pub fn read_by_name(name: &[u8], text: &mut [u8]) -> Read
+pub fn read_by_name(sys: &System, name: &[u8], text: &mut [u8]) -> Read
     ensures { IsPrefixLen result.count text.new }
 {
-    let fd = os::open_read(name);
-    if fd < 0 {
-        return failed();
+    match sys.open(name) {
+        Some(file) => {
+            let mut file = file;
+            read_text(sys, &mut file, text)
+        }
+        None => failed(),
     }
-    let read = read_text(fd, text);
-    libc::close(fd);
-    read
 }
 
 // Reads until the input ends or the text is full.
-fn read_text(fd: i32, text: &mut [u8]) -> Read
+fn read_text<R: std::io::Read>(sys: &System, from: &mut R, text: &mut [u8]) -> Read
     ensures { IsPrefixLen result.count text.new }
 {
     let mut done: usize = 0;
     while done < text.len() {
-        let more = read_some(fd, &mut text[done..]);
+        let more = read_some(sys, from, &mut text[done..]);
         if more.failed {
             return failed();
         }
@@ -102,16 +103,15 @@ fn read_text(fd: i32, text: &mut [u8]) -> Read
 }
 
 // Reads once: no bytes at the end of the input.
-fn read_some(fd: i32, text: &mut [u8]) -> Read
+fn read_some<R: std::io::Read>(sys: &System, from: &mut R, text: &mut [u8]) -> Read
     ensures { IsPrefixLen result.count text.new }
 {
-    let got = libc::read(fd, text);
-    if got < 0 {
-        return failed();
-    }
-    Read {
-        count: io::count(got, text),
-        failed: false,
+    match sys.read(from, text) {
+        Some(count) => Read {
+            count: count,
+            failed: false,
+        },
+        None => failed(),
     }
 }
 

@@ -4,6 +4,7 @@ ghost use Rattle.std.specs.Prelude.{◌≤◌};
 use crate::asked;
 use crate::asked::Plain;
 use arguments::{Held, Piece, lists, whole};
+use system::System;
 
 // Where each thing stands among the arguments, 0 where it does not.
 #[derive(Clone, Copy)]
@@ -68,19 +69,19 @@ fn nothing() -> Command {
 }
 
 // All arguments are looked at, also after a wrong one: the status has to be told.
-pub fn read_arguments() -> Command {
-    let count = os::arg_count();
+pub fn read_arguments(sys: &System) -> Command {
+    let count = sys.arg_count();
     let mut command = nothing();
     let mut i: usize = 1;
     while i < count {
-        command = take(command, i);
+        command = take(sys, command, i);
         i += 1;
     }
-    complete(command)
+    complete(sys, command)
 }
 
 // The last option may lack its value.
-fn complete(command: Command) -> Command {
+fn complete(sys: &System, command: Command) -> Command {
     if command.due == 0 {
         return command;
     }
@@ -92,31 +93,31 @@ fn complete(command: Command) -> Command {
         STATUS => messages::DESCRIPTOR_MISSING,
         _ => messages::TEXT_MISSING,
     };
-    misuse(command, command.due, whole(0), way)
+    misuse(sys, command, command.due, whole(0), way)
 }
 
 // Only the first misuse is told.
-fn misuse(mut command: Command, of: usize, wrong: Piece, way: usize) -> Command {
+fn misuse(sys: &System, mut command: Command, of: usize, wrong: Piece, way: usize) -> Command {
     if !command.wrong {
-        messages::misuse(of, wrong, way);
+        messages::misuse(sys, of, wrong, way);
     }
     command.wrong = true;
     command
 }
 
-fn take(mut command: Command, i: usize) -> Command {
+fn take(sys: &System, mut command: Command, i: usize) -> Command {
     let mut own = arguments::room();
-    let n = os::arg(i, &mut own);
-    if os::errno() != 0 {
+    let n = sys.arg(i, &mut own);
+    if sys.has_failed() {
         command.due = 0;
-        return misuse(command, 0, whole(i), messages::TOO_LONG);
+        return misuse(sys, command, 0, whole(i), messages::TOO_LONG);
     }
-    take_read(command, i, &own[..n])
+    take_read(sys, command, i, &own[..n])
 }
 
-fn take_read(command: Command, i: usize, word: &[u8]) -> Command {
+fn take_read(sys: &System, command: Command, i: usize, word: &[u8]) -> Command {
     if command.due > 0 {
-        return take_value(command, command.option, whole(i));
+        return take_value(sys, command, command.option, whole(i));
     }
     let end = lists::find(word, 0, b'=');
     let option = lists::line_of(
@@ -124,28 +125,35 @@ fn take_read(command: Command, i: usize, word: &[u8]) -> Command {
         &word[..end],
     );
     if option <= PROVED {
-        return take_option(command, option, i, end, word.len());
+        return take_option(sys, command, option, i, end, word.len());
     }
     if option <= VERSION && end == word.len() {
-        return take_flag(command, option, i, end);
+        return take_flag(sys, command, option, i, end);
     }
     if text::line::headed(word, b'-', b'-') {
-        return misuse(command, 0, whole(i), messages::UNKNOWN);
+        return misuse(sys, command, 0, whole(i), messages::UNKNOWN);
     }
     take_plain(command, i)
 }
 
 // The value of an option stands behind a = at `end`, or comes next.
-fn take_option(mut command: Command, option: usize, i: usize, end: usize, len: usize) -> Command {
+fn take_option(
+    sys: &System,
+    mut command: Command,
+    option: usize,
+    i: usize,
+    end: usize,
+    len: usize,
+) -> Command {
     if given(command, option) {
-        return misuse(command, i, whole(0), messages::TWICE);
+        return misuse(sys, command, i, whole(0), messages::TWICE);
     }
     if end < len {
         let value = Piece {
             at: i,
             from: end + 1,
         };
-        return take_value(command, option, value);
+        return take_value(sys, command, option, value);
     }
     command.due = i;
     command.option = option;
@@ -166,39 +174,45 @@ fn given(command: Command, option: usize) -> bool {
 }
 
 // A value that cannot be taken leaves its option without one.
-fn take_value(mut command: Command, option: usize, value: Piece) -> Command {
+fn take_value(sys: &System, mut command: Command, option: usize, value: Piece) -> Command {
     command.due = 0;
     match option {
         CORRECTIONS => command.corrections = value,
-        MARKS => return take_marks(command, value),
-        EXPECT => return take_expect(command, value),
+        MARKS => return take_marks(sys, command, value),
+        EXPECT => return take_expect(sys, command, value),
         LABEL => command.label = value,
-        STATUS => return take_status(command, value),
+        STATUS => return take_status(sys, command, value),
         _ => command.proved = value,
     }
     command
 }
 
-fn take_marks(mut command: Command, value: Piece) -> Command {
-    let listed = arguments::list(value);
+fn take_marks(sys: &System, mut command: Command, value: Piece) -> Command {
+    let listed = arguments::list(sys, value);
     if !listed.good {
-        return misuse(command, option_at(value), value, messages::NO_LIST);
+        return misuse(sys, command, option_at(value), value, messages::NO_LIST);
     }
     command.marks = value;
     command
 }
 
-fn take_expect(mut command: Command, value: Piece) -> Command {
-    let Held::Number(_) = arguments::number(value) else {
-        return misuse(command, option_at(value), value, messages::NO_NUMBER);
+fn take_expect(sys: &System, mut command: Command, value: Piece) -> Command {
+    let Held::Number(_) = arguments::number(sys, value) else {
+        return misuse(sys, command, option_at(value), value, messages::NO_NUMBER);
     };
     command.expect = value;
     command
 }
 
-fn take_status(mut command: Command, value: Piece) -> Command {
-    if arguments::descriptor(value) < 0 {
-        return misuse(command, option_at(value), value, messages::NO_DESCRIPTOR);
+fn take_status(sys: &System, mut command: Command, value: Piece) -> Command {
+    if arguments::descriptor(sys, value) < 0 {
+        return misuse(
+            sys,
+            command,
+            option_at(value),
+            value,
+            messages::NO_DESCRIPTOR,
+        );
     }
     command.status = value;
     command
@@ -213,9 +227,9 @@ fn option_at(value: Piece) -> usize {
 }
 
 // An option without a value. Help or version, asked for by an option, replaces the word and what stood after it.
-fn take_flag(mut command: Command, option: usize, i: usize, end: usize) -> Command {
+fn take_flag(sys: &System, mut command: Command, option: usize, i: usize, end: usize) -> Command {
     if option <= PAGE && given(command, option) {
-        return misuse(command, i, whole(0), messages::TWICE);
+        return misuse(sys, command, i, whole(0), messages::TWICE);
     }
     let flag = Piece { at: i, from: end };
     let plain = word_alone(i);
@@ -257,32 +271,32 @@ fn behind(mut plain: Plain, i: usize) -> Plain {
 }
 
 // Whether each option that is given goes with what is asked for.
-pub fn only(command: Command, corrections: bool, marks: bool, day: bool) -> bool {
-    let word = word_of(command);
-    (corrections || without(word, command.corrections))
-        && (marks || without(word, command.marks))
-        && (asked::is_page(word) || without(word, command.label))
+pub fn only(sys: &System, command: Command, corrections: bool, marks: bool, day: bool) -> bool {
+    let word = word_of(sys, command);
+    (corrections || without(sys, word, command.corrections))
+        && (marks || without(sys, word, command.marks))
+        && (asked::is_page(sys, word) || without(sys, word, command.label))
         && (day
-            || without(word, command.expect)
-                && without(word, command.sheet)
-                && without(word, command.page))
-        && (command.sheet.at == 0 || without(command.sheet.at, command.page))
+            || without(sys, word, command.expect)
+                && without(sys, word, command.sheet)
+                && without(sys, word, command.page))
+        && (command.sheet.at == 0 || without(sys, command.sheet.at, command.page))
 }
 
 // The word that a misuse is about. A table in its place is none.
-fn word_of(command: Command) -> usize {
-    if asked::is_word(command.plain.word) {
+fn word_of(sys: &System, command: Command) -> usize {
+    if asked::is_word(sys, command.plain.word) {
         return command.plain.word;
     }
     0
 }
 
 // The option that has the value does not go with a word: whether it is not given.
-fn without(word: usize, value: Piece) -> bool {
+fn without(sys: &System, word: usize, value: Piece) -> bool {
     if value.at == 0 {
         return true;
     }
-    messages::misuse(word, whole(option_at(value)), messages::NOT_WITH);
+    messages::misuse(sys, word, whole(option_at(value)), messages::NOT_WITH);
     false
 }
 
@@ -317,24 +331,28 @@ fn holds(value: Piece, i: usize) -> bool {
 
 // Whether every file that is named has a name that can be read by: the corrections, the one that goes with the word, the table. Standard input is for the table
 // alone, and is known by its names: another file that leads there by another name is read when the table is due, and is empty then.
-pub fn can_read(command: Command, file: usize, table: usize) -> bool {
+pub fn can_read(sys: &System, command: Command, file: usize, table: usize) -> bool {
     let word = command.plain.word;
-    has_name(option_at(command.corrections), command.corrections, false)
-        && has_name(word, whole(file), false)
-        && has_name(0, whole(table), true)
+    has_name(
+        sys,
+        option_at(command.corrections),
+        command.corrections,
+        false,
+    ) && has_name(sys, word, whole(file), false)
+        && has_name(sys, 0, whole(table), true)
 }
 
-fn has_name(of: usize, name: Piece, table: bool) -> bool {
+fn has_name(sys: &System, of: usize, name: Piece, table: bool) -> bool {
     if name.at == 0 {
         return true;
     }
-    match arguments::which(name, b"\n-\n/dev/stdin\n/dev/fd/0\n/proc/self/fd/0\n") {
-        0 => messages::misuse(of, whole(0), messages::NAME_EMPTY),
+    match arguments::which(sys, name, b"\n-\n/dev/stdin\n/dev/fd/0\n/proc/self/fd/0\n") {
+        0 => messages::misuse(sys, of, whole(0), messages::NAME_EMPTY),
         1..=4 => {
             if table {
                 return true;
             }
-            messages::misuse(of, name, messages::STANDARD_INPUT)
+            messages::misuse(sys, of, name, messages::STANDARD_INPUT)
         }
         _ => return true,
     }
@@ -343,12 +361,12 @@ fn has_name(of: usize, name: Piece, table: bool) -> bool {
 
 // Writes the status, a digit on a line, to the descriptor that is given: a program of this language has no exit status, so whoever starts it
 // hands this on.
-pub fn tell(given: Piece, digit: u8) {
+pub fn tell(sys: &System, given: Piece, digit: u8) {
     if given.at == 0 {
         return;
     }
     let line = [digit, b'\n'];
-    if !io::write_all(arguments::descriptor(given), &line) {
-        os::fail(b"keravnoth: status");
+    if !sys.write(arguments::descriptor(sys, given), &line) {
+        sys.fail(b"keravnoth: status");
     }
 }

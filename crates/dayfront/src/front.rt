@@ -3,43 +3,47 @@ ghost use Rattle.std.specs.Prelude.{◌≤◌, length};
 ghost use Rattle.daysheet.specs.Sheet.{hours_most};
 
 use daysheet::HourRecord;
-use libc::STDOUT_FILENO;
 use pageform::Figures;
 use pagesheet::strip;
+use system::System;
 
-pub fn print(day: &[Figures], hours: &[HourRecord], ways: &[u64], atcs: &[u64]) -> bool
+pub fn print(
+    sys: &System,
+    day: &[Figures],
+    hours: &[HourRecord],
+    ways: &[u64],
+    atcs: &[u64],
+) -> bool
     requires { length hours.now ≤ hours_most }
 {
-    pageframe::plain(pageframe::TITLE)
-        && print_name(day)
-        && pageframe::plain(pageframe::STYLE)
-        && plain(0)
-        && pageframe::plain(pageframe::BODY)
-        && plain(1)
-        && print_name(day)
-        && plain(2)
-        && pagesheet::print(day, hours, ways, atcs)
-        && plain(3)
+    pageframe::plain(sys, pageframe::TITLE)
+        && print_name(sys, day)
+        && pageframe::plain(sys, pageframe::STYLE)
+        && plain(sys, 0)
+        && pageframe::plain(sys, pageframe::BODY)
+        && plain(sys, 1)
+        && print_name(sys, day)
+        && plain(sys, 2)
+        && pagesheet::print(sys, day, hours, ways, atcs)
+        && plain(sys, 3)
 }
 
 // A day is called by the labels of its first and its last hour.
-fn print_name(day: &[Figures]) -> bool {
+fn print_name(sys: &System, day: &[Figures]) -> bool {
     let n = day.len();
     if n == 0 {
         return true;
     }
-    if !strip::say_label(day[0]) {
+    if !strip::say_label(sys, day[0]) {
         return false;
     }
-    n == 1 || plain(4) && strip::say_label(day[n - 1])
+    n == 1 || plain(sys, 4) && strip::say_label(sys, day[n - 1])
 }
 
 // Prints a line of what every day has.
-fn plain(k: usize) -> bool {
-    io::write_all(
-        STDOUT_FILENO,
-        arguments::lists::line(
-            b"h1,.hr{overflow-wrap:anywhere}.strip{display:flex;flex-wrap:wrap;gap:6px;margin:8px 0}\
+fn plain(sys: &System, k: usize) -> bool {
+    sys.print(arguments::lists::line(
+        b"h1,.hr{overflow-wrap:anywhere}.strip{display:flex;flex-wrap:wrap;gap:6px;margin:8px 0}\
         .hb{display:block;width:104px;border:1px solid #b8c0c8;border-radius:4px;padding:2px 6px 3px;color:#1b1b1b;text-decoration:none;overflow-wrap:anywhere}\
         .hb b{display:block;line-height:1.3}.hb svg{margin:2px 0}.hb span{display:block;font-size:11px;line-height:1.25;color:#444}.hb.x{border:1px dashed #1b1b1b}.hb.x span{color:#1b1b1b}\
         .wide{overflow-x:auto;margin:0 0 14px}.sh{width:auto}.sh td,.sh th{font-size:11px;padding:0 2px;height:20px}.sh th{white-space:nowrap}.sh td:nth-child(2),.sh th:nth-child(2){padding:0 6px}.sh svg{width:72px;height:18px;margin:0 3px}\
@@ -54,7 +58,6 @@ fn plain(k: usize) -> bool {
         </h1>\n\
         </div>\n\
         \x20to \n",
-            k,
-        ),
-    )
+        k,
+    ))
 }

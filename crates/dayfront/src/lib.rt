@@ -17,22 +17,24 @@ use output::Ended;
 use pagefacts::hour;
 use pageform::Figures;
 use pagesheet::{facts, sums};
+use system::System;
 
 const ITEMS: usize = daysheet::HOURS_MOST * limits::BORDERS_MOST;
 
 // Prints the front of the page of the files that the command names, and leaves the records of the hours: how many there are, or 0 where not all could be written, which is said.
 // The tables are made here, and not where goals would spell them out.
-pub fn print(command: Command, marks: &[u64], day: &mut [Figures]) -> usize
+pub fn print(sys: &System, command: Command, marks: &[u64], day: &mut [Figures]) -> usize
     requires { length day.old ≡ hours_most }
     ensures { result ≤ length day.new }
 {
     let mut hours: [HourRecord; daysheet::HOURS_MOST] = [[0; 4]; daysheet::HOURS_MOST];
     let mut ways: [u64; ITEMS] = [0; ITEMS];
     let mut atcs: [u64; ITEMS] = [0; ITEMS];
-    print_in(command, marks, day, &mut hours, &mut ways, &mut atcs)
+    print_in(sys, command, marks, day, &mut hours, &mut ways, &mut atcs)
 }
 
 fn print_in(
+    sys: &System,
     command: Command,
     marks: &[u64],
     day: &mut [Figures],
@@ -43,26 +45,33 @@ fn print_in(
     requires { (length day.old ≡ hours_most) × (length hours.old ≡ hours_most) × (length ways.old ≡ hours_most * borders_most) × (length atcs.old ≡ hours_most * borders_most) }
     ensures { result ≤ length day.new }
 {
-    let n = name(command, day);
-    read(n, command.marks.at == 0, marks, day, hours, ways, atcs);
-    if print_read(n, day, hours, ways, atcs) {
+    let n = name(sys, command, day);
+    read(sys, n, command.marks.at == 0, marks, day, hours, ways, atcs);
+    if print_read(sys, n, day, hours, ways, atcs) {
         return n;
     }
-    telling::unwritten();
+    telling::unwritten(sys);
     0
 }
 
-fn print_read(n: usize, day: &[Figures], hours: &[HourRecord], ways: &[u64], atcs: &[u64]) -> bool
+fn print_read(
+    sys: &System,
+    n: usize,
+    day: &[Figures],
+    hours: &[HourRecord],
+    ways: &[u64],
+    atcs: &[u64],
+) -> bool
     requires { (n ≤ length day.now) × (n ≤ length hours.now) × (n ≤ hours_most) }
 {
-    front::print(&day[..n], &hours[..n], ways, atcs)
+    front::print(sys, &day[..n], &hours[..n], ways, atcs)
 }
 
 // Numbers the hours from 1 on, and notes which argument names each: how many there are. No more are named than there is room for (crate daylabels).
-fn name(command: Command, day: &mut [Figures]) -> usize
+fn name(sys: &System, command: Command, day: &mut [Figures]) -> usize
     ensures { result ≤ length day.new }
 {
-    let count = os::arg_count();
+    let count = sys.arg_count();
     let mut i = options::next_file(command, 1, count);
     for k in 0..day.len() {
         if count <= i {
@@ -88,6 +97,7 @@ fn name_hour(k: usize, argument: usize, day: &mut [Figures]) {
 }
 
 fn read(
+    sys: &System,
     n: usize,
     all: bool,
     marks: &[u64],
@@ -102,11 +112,12 @@ fn read(
         if n <= k {
             return;
         }
-        read_hour(k, all, marks, day, hours, ways, atcs);
+        read_hour(sys, k, all, marks, day, hours, ways, atcs);
     }
 }
 
 fn read_hour(
+    sys: &System,
     k: usize,
     all: bool,
     marks: &[u64],
@@ -121,7 +132,7 @@ fn read_hour(
         return;
     }
     let r = day[k];
-    let came = came_of(r[facts::ARGUMENT] as usize, k, all, marks, ways, atcs);
+    let came = came_of(sys, r[facts::ARGUMENT] as usize, k, all, marks, ways, atcs);
     let hour = came.hour;
     hours[k] = hour;
     day[k] = noted(r, came);
@@ -144,6 +155,7 @@ fn noted(r: Figures, came: Came) -> Figures {
 
 // What came of hour k, which is said where it is not answered.
 fn came_of(
+    sys: &System,
     argument: usize,
     k: usize,
     all: bool,
@@ -154,14 +166,14 @@ fn came_of(
     requires { (k < hours_most) × (length ways.old ≡ hours_most * borders_most) × (length atcs.old ≡ hours_most * borders_most) }
 {
     let mut name = arguments::room();
-    let n = os::arg(argument, &mut name);
+    let n = sys.arg(argument, &mut name);
     let mut text = input::room();
-    let read = input::read_by_name(&name[..n], &mut text);
+    let read = input::read_by_name(sys, &name[..n], &mut text);
     if read.failed {
         return unread(&name[..n]);
     }
     let m = read.count;
-    answered(&name[..n], k, all, marks, &text[..m], ways, atcs)
+    answered(sys, &name[..n], k, all, marks, &text[..m], ways, atcs)
 }
 
 fn unread(name: &[u8]) -> Came {
@@ -175,6 +187,7 @@ fn unread(name: &[u8]) -> Came {
 }
 
 fn answered(
+    sys: &System,
     name: &[u8],
     k: usize,
     all: bool,
@@ -188,7 +201,7 @@ fn answered(
     let hour = hourtables::keep(all, marks, text, k, ways, atcs);
     if hour[0] == daysheet::REFUSED {
         let ended = Ended::Refused(hour[1], hour[2], hour[3]);
-        telling::explain(label::label_of(name), ended, text, b"");
+        telling::explain(sys, label::label_of(name), ended, text, b"");
     }
     Came {
         hour: hour,

@@ -10,35 +10,36 @@ use command::options;
 use command::options::Command;
 use daylines::label;
 use messages::day;
+use system::System;
 
 // A sheet or a page has no more hours: a day has at most 100 quarter-hours.
 const SHEET_MOST: usize = 100;
 
-pub fn judged(command: Command) -> bool {
-    if !options::only(command, false, true, true) {
+pub fn judged(sys: &System, command: Command) -> bool {
+    if !options::only(sys, command, false, true, true) {
         return false;
     }
-    let count = os::arg_count();
+    let count = sys.arg_count();
     let named = files(command, count);
     if named == 0 {
         day::misuse(b"", day::NO_FILE);
         return false;
     }
-    if !expected(command, named as u64) {
+    if !expected(sys, command, named as u64) {
         return false;
     }
     if (command.sheet.at > 0 || command.page.at > 0) && SHEET_MOST < named {
         day::misuse(b"", day::TOO_MANY);
         return false;
     }
-    labels_judged(command, count)
+    labels_judged(sys, command, count)
 }
 
 // The memory for two names is made here, and not where goals would spell it out.
-fn labels_judged(command: Command, count: usize) -> bool {
+fn labels_judged(sys: &System, command: Command, count: usize) -> bool {
     let mut name = arguments::room();
     let mut other = arguments::room();
-    labels_good(command, count, &mut name, &mut other)
+    labels_good(sys, command, count, &mut name, &mut other)
 }
 
 // How many files are named. Argument 0 is the name of the program.
@@ -53,11 +54,11 @@ fn files(command: Command, count: usize) -> usize {
 }
 
 // Whether just so many are named as were expected.
-fn expected(command: Command, named: u64) -> bool {
+fn expected(sys: &System, command: Command, named: u64) -> bool {
     if command.expect.at == 0 {
         return true;
     }
-    let Held::Number(n) = arguments::number(command.expect) else {
+    let Held::Number(n) = arguments::number(sys, command.expect) else {
         return false;
     };
     if n == named {
@@ -68,9 +69,15 @@ fn expected(command: Command, named: u64) -> bool {
 }
 
 // Whether each file has a label, and no other file the same.
-fn labels_good(command: Command, count: usize, name: &mut [u8], other: &mut [u8]) -> bool {
+fn labels_good(
+    sys: &System,
+    command: Command,
+    count: usize,
+    name: &mut [u8],
+    other: &mut [u8],
+) -> bool {
     for i in 1..count {
-        if !label_at(command, i, count, name, other) {
+        if !label_at(sys, command, i, count, name, other) {
             return false;
         }
     }
@@ -78,17 +85,24 @@ fn labels_good(command: Command, count: usize, name: &mut [u8], other: &mut [u8]
 }
 
 // Whether argument i is no file, or a file whose label is good and its own.
-fn label_at(command: Command, i: usize, count: usize, name: &mut [u8], other: &mut [u8]) -> bool
+fn label_at(
+    sys: &System,
+    command: Command,
+    i: usize,
+    count: usize,
+    name: &mut [u8],
+    other: &mut [u8],
+) -> bool
     requires { i < count }
 {
     if options::next_file(command, i, count) != i {
         return true;
     }
-    let n = os::arg(i, name);
+    let n = sys.arg(i, name);
     if !label_good(&name[..n], command.sheet.at > 0) {
         return false;
     }
-    alone(command, i, count, &name[..n], other)
+    alone(sys, command, i, count, &name[..n], other)
 }
 
 fn label_good(name: &[u8], sheet: bool) -> bool
@@ -112,13 +126,20 @@ fn label_good(name: &[u8], sheet: bool) -> bool
 }
 
 // Whether no file after that of argument i has its label.
-fn alone(command: Command, i: usize, count: usize, name: &[u8], other: &mut [u8]) -> bool
+fn alone(
+    sys: &System,
+    command: Command,
+    i: usize,
+    count: usize,
+    name: &[u8],
+    other: &mut [u8],
+) -> bool
     requires { i < count }
 {
     let label = label::label_of(name);
     let mut j = options::next_file(command, i + 1, count);
     while j < count {
-        let n = os::arg(j, other);
+        let n = sys.arg(j, other);
         if lists::same(label, label::label_of(&other[..n])) {
             day::doubled(label, name, &other[..n]);
             return false;

@@ -7,56 +7,63 @@ use command::options::Command;
 use command::{asked, input, options};
 use output::Ended;
 use pageform::Figures;
+use system::System;
 
-fn main() {
-    let command = options::read_arguments();
-    options::tell(command.status, obey(command))
+fn main(rt: HostRuntime) {
+    let sys = System::new(rt);
+    let command = options::read_arguments(&sys);
+    options::tell(&sys, command.status, obey(&sys, command))
 }
 
 // The status, as a digit.
-fn obey(command: Command) -> u8 {
+fn obey(sys: &System, command: Command) -> u8 {
     if command.wrong {
         return telling::digit(Ended::Failed);
     }
-    match asked::understand(command.plain) {
-        Asked::Why(border, table) => telling::digit(obey_read(Of::Border(border), table, command)),
-        Asked::Page(table) => telling::digit(obey_read(Of::Table, table, command)),
-        Asked::Changes(old, new) => telling::digit(changes::obey(old, new, command)),
-        Asked::Tidy(at) => telling::digit(tidywords::obey(at, command)),
-        Asked::Day => telling::digit(obey_day(command)),
-        _ => telling::elsewhere(command),
+    match asked::understand(sys, command.plain) {
+        Asked::Why(border, table) => telling::digit(obey_read(
+            sys,
+            Of::Border(border),
+            table,
+            command,
+        )),
+        Asked::Page(table) => telling::digit(obey_read(sys, Of::Table, table, command)),
+        Asked::Changes(old, new) => telling::digit(changes::obey(sys, old, new, command)),
+        Asked::Tidy(at) => telling::digit(tidywords::obey(sys, at, command)),
+        Asked::Day => telling::digit(obey_day(sys, command)),
+        _ => telling::elsewhere(sys, command),
     }
 }
 
-fn obey_day(command: Command) -> Ended {
-    if !daylabels::judged(command) {
+fn obey_day(sys: &System, command: Command) -> Ended {
+    if !daylabels::judged(sys, command) {
         return Ended::Failed;
     }
-    let listed = arguments::list(command.marks);
+    let listed = arguments::list(sys, command.marks);
     let m = listed.count;
     let marks = listed.numbers;
-    print_day(command, &marks[..m])
+    print_day(sys, command, &marks[..m])
 }
 
 // In the form that is asked for: as a page, as a sheet, or as lines.
-fn print_day(command: Command, marks: &[u64]) -> Ended {
+fn print_day(sys: &System, command: Command, marks: &[u64]) -> Ended {
     if command.page.at > 0 {
-        return draw_day(command, marks);
+        return draw_day(sys, command, marks);
     }
     if command.sheet.at > 0 {
-        return hoursheet::print(command, marks);
+        return hoursheet::print(sys, command, marks);
     }
-    hours::print(command, marks)
+    hours::print(sys, command, marks)
 }
 
 // The page of a day: its front, and from the records of the hours their parts.
-fn draw_day(command: Command, marks: &[u64]) -> Ended {
+fn draw_day(sys: &System, command: Command, marks: &[u64]) -> Ended {
     let mut day: [Figures; daysheet::HOURS_MOST] = [pagefacts::blank(); daysheet::HOURS_MOST];
-    let n = dayfront::print(command, marks, &mut day);
+    let n = dayfront::print(sys, command, marks, &mut day);
     if n == 0 {
         return Ended::Failed;
     }
-    dayparts::print(command.marks.at == 0, marks, &day[..n])
+    dayparts::print(sys, command.marks.at == 0, marks, &day[..n])
 }
 
 // What a table is read for, as a sheet corrects it: why a border of it got no more, or its page.
@@ -66,29 +73,43 @@ enum Of {
     Table,
 }
 
-fn obey_read(of: Of, at: usize, command: Command) -> Ended {
-    if !options::only(command, true, true, false) || !options::can_read(command, 0, at) {
+fn obey_read(sys: &System, of: Of, at: usize, command: Command) -> Ended {
+    if !options::only(sys, command, true, true, false) || !options::can_read(sys, command, 0, at) {
         return Ended::Failed;
     }
     let mut sheet = input::room();
     let mut table = input::room();
-    read_both(of, at, command, &mut sheet, &mut table)
+    read_both(sys, of, at, command, &mut sheet, &mut table)
 }
 
 // The corrections, and then the table. The label of a page is the one that is given, or the table's name.
-fn read_both(of: Of, at: usize, command: Command, sheet: &mut [u8], table: &mut [u8]) -> Ended {
-    let corrections = input::named(command.corrections, sheet);
+fn read_both(
+    sys: &System,
+    of: Of,
+    at: usize,
+    command: Command,
+    sheet: &mut [u8],
+    table: &mut [u8],
+) -> Ended {
+    let corrections = input::named(sys, command.corrections, sheet);
     if corrections.failed {
         return Ended::Failed;
     }
-    let read = input::table(at, table);
+    let read = input::table(sys, at, table);
     if read.failed {
         return Ended::Failed;
     }
     let k = corrections.count;
     let n = read.count;
     match of {
-        Of::Border(border) => whytext::print(border, command.marks, &table[..n], &sheet[..k]),
-        Of::Table => page::word::print(command.label, at, command.marks, &table[..n], &sheet[..k]),
+        Of::Border(border) => whytext::print(sys, border, command.marks, &table[..n], &sheet[..k]),
+        Of::Table => page::word::print(
+            sys,
+            command.label,
+            at,
+            command.marks,
+            &table[..n],
+            &sheet[..k],
+        ),
     }
 }

@@ -15,6 +15,7 @@ use command::{input, options};
 use daylines::label;
 use messages::day;
 use output::Ended;
+use system::System;
 
 // No hour's lines are longer.
 const ROOM: usize = text::BYTES_MOST
@@ -34,16 +35,25 @@ fn lines_room() -> [u8; ROOM]
 }
 
 // Prints the lines of the files that the command names.
-pub fn print(command: Command, marks: &[u64]) -> Ended {
+pub fn print(sys: &System, command: Command, marks: &[u64]) -> Ended {
     let mut name = arguments::room();
     let mut text = input::room();
     let mut answer = answer_room();
     let mut out = lines_room();
-    print_hours(command, marks, &mut name, &mut text, &mut answer, &mut out)
+    print_hours(
+        sys,
+        command,
+        marks,
+        &mut name,
+        &mut text,
+        &mut answer,
+        &mut out,
+    )
 }
 
 // One hour after another. What was printed before an error stays printed.
 fn print_hours(
+    sys: &System,
     command: Command,
     marks: &[u64],
     name: &mut [u8],
@@ -54,12 +64,12 @@ fn print_hours(
     requires { (length answer.old ≡ bytes_most) × (hour_room ≤ length out.old) }
 {
     let all = command.marks.at == 0;
-    let count = os::arg_count();
+    let count = sys.arg_count();
     let mut refused = false;
     let mut i = options::next_file(command, 1, count);
     while i < count {
-        let n = os::arg(i, name);
-        let ended = print_hour(&name[..n], all, marks, text, answer, out);
+        let n = sys.arg(i, name);
+        let ended = print_hour(sys, &name[..n], all, marks, text, answer, out);
         match ended {
             Ended::Answered => {}
             Ended::Refused(_, _, _) => refused = true,
@@ -75,6 +85,7 @@ fn print_hours(
 
 // The table is read whole before any line is written. A label that is too long was told before (crate daylabels).
 fn print_hour(
+    sys: &System,
     name: &[u8],
     all: bool,
     marks: &[u64],
@@ -88,19 +99,19 @@ fn print_hour(
     if daylines::LABEL_MOST < label.len() {
         return Ended::Failed;
     }
-    let read = input::read_by_name(name, text);
+    let read = input::read_by_name(sys, name, text);
     if read.failed {
-        return print_unread(name, out);
+        return print_unread(sys, name, out);
     }
     let n = read.count;
-    print_answer(name, all, marks, &text[..n], answer, out)
+    print_answer(sys, name, all, marks, &text[..n], answer, out)
 }
 
-fn print_unread(name: &[u8], out: &mut [u8]) -> Ended
+fn print_unread(sys: &System, name: &[u8], out: &mut [u8]) -> Ended
     requires { (length (label_of name.now) ≤ label_most) × (hour_room ≤ length out.old) }
 {
     let n = unread_line(name, out);
-    if !telling::written(&out[..n]) {
+    if !telling::written(sys, &out[..n]) {
         return Ended::Failed;
     }
     day::unread(label::label_of(name), name);
@@ -108,6 +119,7 @@ fn print_unread(name: &[u8], out: &mut [u8]) -> Ended
 }
 
 fn print_answer(
+    sys: &System,
     name: &[u8],
     all: bool,
     marks: &[u64],
@@ -118,20 +130,20 @@ fn print_answer(
     requires { (length (label_of name.now) ≤ label_most) × (length answer.old ≡ bytes_most) × (hour_room ≤ length out.old) }
 {
     let n = hour_lines(name, all, marks, text, answer, out);
-    if !telling::written(&out[..n]) {
+    if !telling::written(sys, &out[..n]) {
         return Ended::Failed;
     }
-    heard(label::label_of(name), &out[..n], text)
+    heard(sys, label::label_of(name), &out[..n], text)
 }
 
 // What the lines of an hour say of it: its answer begins behind the first label and a tab.
-fn heard(label: &[u8], lines: &[u8], text: &[u8]) -> Ended {
+fn heard(sys: &System, label: &[u8], lines: &[u8], text: &[u8]) -> Ended {
     let n = label.len();
     if lines.len() <= n {
         return Ended::Failed;
     }
     let ended = output::heard(arguments::tail(lines, n + 1));
-    telling::explain(label, ended, text, b"");
+    telling::explain(sys, label, ended, text, b"");
     ended
 }
 

@@ -15,22 +15,24 @@ use daylines::label;
 use daysheet::{HourRecord, Line};
 use messages::day;
 use output::Ended;
+use system::System;
 
 const ITEMS: usize = daysheet::HOURS_MOST * limits::BORDERS_MOST;
 
 // Prints the sheet of the files that the command names. The tables are made here, and not where goals would spell them out.
-pub fn print(command: Command, marks: &[u64]) -> Ended {
+pub fn print(sys: &System, command: Command, marks: &[u64]) -> Ended {
     let mut name = arguments::room();
     let mut text = input::room();
     let mut hours: [HourRecord; daysheet::HOURS_MOST] = [[0; 4]; daysheet::HOURS_MOST];
     let mut ways: [u64; ITEMS] = [0; ITEMS];
     let mut atcs: [u64; ITEMS] = [0; ITEMS];
     print_in(
-        command, marks, &mut name, &mut text, &mut hours, &mut ways, &mut atcs,
+        sys, command, marks, &mut name, &mut text, &mut hours, &mut ways, &mut atcs,
     )
 }
 
 fn print_in(
+    sys: &System,
     command: Command,
     marks: &[u64],
     name: &mut [u8],
@@ -41,17 +43,20 @@ fn print_in(
 ) -> Ended
     requires { (length hours.old ≡ hours_most) × (length ways.old ≡ hours_most * borders_most) × (length atcs.old ≡ hours_most * borders_most) }
 {
-    let count = os::arg_count();
+    let count = sys.arg_count();
     let all = command.marks.at == 0;
-    let n = read_hours(command, count, all, marks, name, text, hours, ways, atcs);
-    if !print_labels(command, count, name) {
+    let n = read_hours(
+        sys, command, count, all, marks, name, text, hours, ways, atcs,
+    );
+    if !print_labels(sys, command, count, name) {
         return Ended::Failed;
     }
-    print_lines(&hours[..n], ways, atcs)
+    print_lines(sys, &hours[..n], ways, atcs)
 }
 
 // Hour after hour; no more are named than a sheet may have (crate daylabels).
 fn read_hours(
+    sys: &System,
     command: Command,
     count: usize,
     all: bool,
@@ -72,8 +77,8 @@ fn read_hours(
         if daysheet::HOURS_MOST <= k {
             return k;
         }
-        let n = os::arg(i, name);
-        let hour = read_hour(&name[..n], all, marks, k, text, ways, atcs);
+        let n = sys.arg(i, name);
+        let hour = read_hour(sys, &name[..n], all, marks, k, text, ways, atcs);
         hours[k] = hour;
         k += 1;
         i = options::next_file(command, i + 1, count);
@@ -83,6 +88,7 @@ fn read_hours(
 
 // What came of hour k, which is said where it is not answered.
 fn read_hour(
+    sys: &System,
     name: &[u8],
     all: bool,
     marks: &[u64],
@@ -94,17 +100,18 @@ fn read_hour(
     requires { (k < hours_most) × (length ways.old ≡ hours_most * borders_most) × (length atcs.old ≡ hours_most * borders_most) }
     ensures { Came all marks.now k result ways.old atcs.old ways.new atcs.new }
 {
-    let read = input::read_by_name(name, text);
+    let read = input::read_by_name(sys, name, text);
     if read.failed {
         day::unread(label::label_of(name), name);
         return [daysheet::UNREAD, 0, 0, 0];
     }
     let n = read.count;
-    keep_hour(name, all, marks, k, &text[..n], ways, atcs)
+    keep_hour(sys, name, all, marks, k, &text[..n], ways, atcs)
 }
 
 // What came of hour k, whose table was read. That it is refused is said.
 fn keep_hour(
+    sys: &System,
     name: &[u8],
     all: bool,
     marks: &[u64],
@@ -119,36 +126,36 @@ fn keep_hour(
     let hour = hourtables::keep(all, marks, text, k, ways, atcs);
     if hour[0] == daysheet::REFUSED {
         let ended = Ended::Refused(hour[1], hour[2], hour[3]);
-        telling::explain(label::label_of(name), ended, text, b"");
+        telling::explain(sys, label::label_of(name), ended, text, b"");
     }
     hour
 }
 
 // The first line: each label behind a semicolon.
-fn print_labels(command: Command, count: usize, name: &mut [u8]) -> bool {
-    if !telling::written(b"border;from;to;sending hub;receiving hub") {
+fn print_labels(sys: &System, command: Command, count: usize, name: &mut [u8]) -> bool {
+    if !telling::written(sys, b"border;from;to;sending hub;receiving hub") {
         return false;
     }
     let mut i = options::next_file(command, 1, count);
     while i < count {
-        let n = os::arg(i, name);
-        if !print_label(label::label_of(&name[..n])) {
+        let n = sys.arg(i, name);
+        if !print_label(sys, label::label_of(&name[..n])) {
             return false;
         }
         i = options::next_file(command, i + 1, count);
     }
-    telling::written(b"\n")
+    telling::written(sys, b"\n")
 }
 
-fn print_label(label: &[u8]) -> bool {
-    telling::written(b";") && telling::written(label)
+fn print_label(sys: &System, label: &[u8]) -> bool {
+    telling::written(sys, b";") && telling::written(sys, label)
 }
 
-fn print_lines(hours: &[HourRecord], ways: &[u64], atcs: &[u64]) -> Ended
+fn print_lines(sys: &System, hours: &[HourRecord], ways: &[u64], atcs: &[u64]) -> Ended
     requires { length hours.now ≤ hours_most }
 {
     let mut out = [0u8; daysheet::ROOM];
-    if !print_lines_in(hours, ways, atcs, &mut out) {
+    if !print_lines_in(sys, hours, ways, atcs, &mut out) {
         return Ended::Failed;
     }
     if all_answered(hours) {
@@ -158,41 +165,54 @@ fn print_lines(hours: &[HourRecord], ways: &[u64], atcs: &[u64]) -> Ended
 }
 
 // The rounds, the profiles, and a line for each border that any hour has: an hour has every border before one that it has.
-fn print_lines_in(hours: &[HourRecord], ways: &[u64], atcs: &[u64], out: &mut [u8]) -> bool
+fn print_lines_in(
+    sys: &System,
+    hours: &[HourRecord],
+    ways: &[u64],
+    atcs: &[u64],
+    out: &mut [u8],
+) -> bool
     requires { (length hours.now ≤ hours_most) × (128 ≤ length out.old) }
 {
-    if !print_line(Line::Rounds, hours, ways, atcs, out) {
+    if !print_line(sys, Line::Rounds, hours, ways, atcs, out) {
         return false;
     }
-    if !print_line(Line::Profile, hours, ways, atcs, out) {
+    if !print_line(sys, Line::Profile, hours, ways, atcs, out) {
         return false;
     }
     for b in 0..limits::BORDERS_MOST {
         if daysheet::first_with(b, hours) == hours.len() {
             return true;
         }
-        if !print_line(Line::Border(b), hours, ways, atcs, out) {
+        if !print_line(sys, Line::Border(b), hours, ways, atcs, out) {
             return false;
         }
     }
     true
 }
 
-fn print_line(line: Line, hours: &[HourRecord], ways: &[u64], atcs: &[u64], out: &mut [u8]) -> bool
+fn print_line(
+    sys: &System,
+    line: Line,
+    hours: &[HourRecord],
+    ways: &[u64],
+    atcs: &[u64],
+    out: &mut [u8],
+) -> bool
     requires { (length hours.now ≤ hours_most) × (border_of line < borders_most) × (128 ≤ length out.old) }
 {
     let name = daysheet::name_of(daysheet::border_of(line), hours, ways);
     let n = daysheet::put_front(line, name, out);
-    if !telling::written(&out[..n]) {
+    if !telling::written(sys, &out[..n]) {
         return false;
     }
     for k in 0..hours.len() {
         let m = daysheet::cell_at(line, k, hours, ways, atcs, out);
-        if !telling::written(&out[..m]) {
+        if !telling::written(sys, &out[..m]) {
             return false;
         }
     }
-    telling::written(b"\n")
+    telling::written(sys, b"\n")
 }
 
 fn all_answered(hours: &[HourRecord]) -> bool {

@@ -16,53 +16,56 @@ use messages::usage;
 use output::Ended;
 use printing::tasks;
 use refusals::Written;
+use system::System;
 
-fn main() {
-    let command = options::read_arguments();
-    options::tell(command.status, obey(command))
+fn main(rt: HostRuntime) {
+    let sys = System::new(rt);
+    let command = options::read_arguments(&sys);
+    options::tell(&sys, command.status, obey(&sys, command))
 }
 
 // The status, as a digit.
-fn obey(command: Command) -> u8 {
+fn obey(sys: &System, command: Command) -> u8 {
     if command.wrong {
         return telling::digit(Ended::Failed);
     }
-    match asked::understand(command.plain) {
-        Asked::Task(task, names) => telling::digit(obey_task(task, names, command)),
-        Asked::Help => telling::digit(about(command, false)),
-        Asked::Version => telling::digit(about(command, true)),
+    match asked::understand(sys, command.plain) {
+        Asked::Task(task, names) => telling::digit(obey_task(sys, task, names, command)),
+        Asked::Help => telling::digit(about(sys, command, false)),
+        Asked::Version => telling::digit(about(sys, command, true)),
         Asked::Wrong(of, wrong, way) => {
-            messages::misuse(of, whole(wrong), way);
+            messages::misuse(sys, of, whole(wrong), way);
             telling::digit(Ended::Failed)
         }
-        _ => telling::elsewhere(command),
+        _ => telling::elsewhere(sys, command),
     }
 }
 
-fn about(command: Command, version: bool) -> Ended {
-    if !options::only(command, false, false, false) {
+fn about(sys: &System, command: Command, version: bool) -> Ended {
+    if !options::only(sys, command, false, false, false) {
         return Ended::Failed;
     }
     if version {
-        return telling::told(usage::version(command.proved), Ended::Answered);
+        return telling::told(sys, usage::version(sys, command.proved), Ended::Answered);
     }
-    telling::told(usage::usage(), Ended::Answered)
+    telling::told(sys, usage::usage(sys), Ended::Answered)
 }
 
-fn obey_task(task: Task, names: Names, command: Command) -> Ended {
-    if !options::only(command, true, asked::takes_marks(task), false)
-        || !options::can_read(command, names.file, names.table)
+fn obey_task(sys: &System, task: Task, names: Names, command: Command) -> Ended {
+    if !options::only(sys, command, true, asked::takes_marks(task), false)
+        || !options::can_read(sys, command, names.file, names.table)
     {
         return Ended::Failed;
     }
     let mut sheet = input::room();
     let mut file = input::room();
     let mut table = input::room();
-    read_all(task, names, command, &mut sheet, &mut file, &mut table)
+    read_all(sys, task, names, command, &mut sheet, &mut file, &mut table)
 }
 
 // First the files that arguments name are read, the corrections and what goes with the word, and then the table.
 fn read_all(
+    sys: &System,
     task: Task,
     names: Names,
     command: Command,
@@ -70,15 +73,15 @@ fn read_all(
     file: &mut [u8],
     table: &mut [u8],
 ) -> Ended {
-    let corrections = input::named(command.corrections, sheet);
+    let corrections = input::named(sys, command.corrections, sheet);
     if corrections.failed {
         return Ended::Failed;
     }
-    let with = input::named(whole(names.file), file);
+    let with = input::named(sys, whole(names.file), file);
     if with.failed {
         return Ended::Failed;
     }
-    let read = read_table(names.table, command, table);
+    let read = read_table(sys, names.table, command, table);
     if read.failed {
         return Ended::Failed;
     }
@@ -86,6 +89,7 @@ fn read_all(
     let m = with.count;
     let n = read.count;
     answer(
+        sys,
         task,
         names.file > 0,
         command.marks,
@@ -96,17 +100,18 @@ fn read_all(
 }
 
 // The table. What stands in a word's place and cannot be read may have been meant as a word.
-fn read_table(at: usize, command: Command, table: &mut [u8]) -> Read
+fn read_table(sys: &System, at: usize, command: Command, table: &mut [u8]) -> Read
     ensures { IsPrefixLen result.count table.new }
 {
-    let read = input::table(at, table);
+    let read = input::table(sys, at, table);
     if read.failed && at > 0 && at == command.plain.word {
-        messages::misuse(0, whole(at), messages::NO_WORD);
+        messages::misuse(sys, 0, whole(at), messages::NO_WORD);
     }
     read
 }
 
 fn answer<'a>(
+    sys: &System,
     task: Task,
     with_file: bool,
     marks: Piece,
@@ -114,9 +119,9 @@ fn answer<'a>(
     sheet: &'a [u8],
     file: &'a [u8],
 ) -> Ended {
-    let ended = tasks::print(task, marks, table, sheet, file);
+    let ended = tasks::print(sys, task, marks, table, sheet, file);
     let of_file = with_file && blames_file(ended, table, sheet);
-    telling::explain_with(b"", of_file, ended, table, sheet, file);
+    telling::explain_with(sys, b"", of_file, ended, table, sheet, file);
     ended
 }
 

@@ -4,7 +4,7 @@ ghost use Rattle.io.specs.Counts.{IsPrefixLen};
 
 use crate::say;
 use arguments::lists;
-use libc::STDERR_FILENO;
+use system::STDERR;
 
 // The ways in which the files can be wrong, by their lines in `misuse`.
 pub const NO_FILE: usize = 0;
@@ -40,9 +40,9 @@ pub fn misuse(name: &[u8], way: usize) {
 // Another number of files is named than was expected.
 pub fn counted(expected: u64, named: u64) {
     say(b"keravnoth: day: ");
-    io::print_decimal(STDERR_FILENO, expected);
+    io::print_decimal(STDERR, expected);
     say(b" tables were expected, and ");
-    io::print_decimal(STDERR_FILENO, named);
+    io::print_decimal(STDERR, named);
     say(b" are named\n");
 }
 

@@ -8,7 +8,7 @@ pub mod usage;
 ghost use Rattle.io.specs.Counts.{IsPrefixLen};
 
 use arguments::{Piece, lists};
-use libc::STDERR_FILENO;
+use system::{STDERR, System};
 use text::Number;
 
 // The ways in which arguments can be wrong, by their lines in `misuse`.
@@ -53,14 +53,14 @@ pub const TABLE_MISSING: usize = 18;
 pub const OTHER_PROGRAM: usize = 19;
 
 // A misuse: the option or word that it is about, the piece of an argument that is wrong, 0 for each that there is none of, and in which way.
-pub fn misuse(of: usize, wrong: Piece, way: usize) {
+pub fn misuse(sys: &System, of: usize, wrong: Piece, way: usize) {
     say(b"keravnoth: ");
     if of > 0 {
-        show(arguments::whole(of), b'=');
+        show(sys, arguments::whole(of), b'=');
         say(b": ");
     }
     if wrong.at > 0 {
-        quote(wrong);
+        quote(sys, wrong);
     }
     say(lists::line(
         b"is too long to be read\n\
@@ -88,9 +88,9 @@ pub fn misuse(of: usize, wrong: Piece, way: usize) {
     say(b"; see keravnoth --help\n");
 }
 
-fn quote(piece: Piece) {
+fn quote(sys: &System, piece: Piece) {
     say(b"'");
-    show(piece, 0);
+    show(sys, piece, 0);
     say(b"' ");
 }
 
@@ -98,9 +98,9 @@ fn quote(piece: Piece) {
 const SHOWN_MOST: usize = 64;
 
 // The piece up to a byte that ends it. One that is long, or that would not stay on the line, is cut.
-fn show(piece: Piece, stop: u8) {
+fn show(sys: &System, piece: Piece, stop: u8) {
     let mut own = arguments::room();
-    os::arg(piece.at, &mut own);
+    sys.arg(piece.at, &mut own);
     show_text(arguments::tail(&own, piece.from), stop);
 }
 
@@ -128,9 +128,9 @@ fn shown(text: &[u8], stop: u8) -> usize
 }
 
 // Says that a file cannot be read, and why.
-pub fn unread(name: &[u8]) {
+pub fn unread(sys: &System, name: &[u8]) {
     say(b"keravnoth: ");
-    os::fail(name);
+    sys.fail(name);
 }
 
 // One line for a refusal, by its number, place and byte (01, "When the table is turned away"; 02, E2, E3, E5, E6, E10 and E13), the table's text and how long
@@ -214,9 +214,9 @@ fn no_corners(text: &[u8]) -> usize {
 // A table has not the border that is asked for, but so many.
 pub fn no_border(border: u64, borders: usize) {
     say(b"keravnoth: there is no border ");
-    io::print_decimal(STDERR_FILENO, border);
+    io::print_decimal(STDERR, border);
     say(b": the table has borders 0 to ");
-    io::print_decimal(STDERR_FILENO, last_of(borders));
+    io::print_decimal(STDERR, last_of(borders));
     say(b"\n");
 }
 
@@ -244,7 +244,7 @@ fn begin(of: &[u8]) {
 }
 
 fn say(words: &[u8]) {
-    io::write_all(STDERR_FILENO, words);
+    io::write_all(STDERR, words);
 }
 
 // Line k of a list, with the place where it has a #, and the byte after the place where one is to blame.
@@ -260,10 +260,10 @@ fn say_line(list: &[u8], k: usize, place: u64, byte: u64) {
 }
 
 fn say_place(place: u64, byte: u64) {
-    io::print_decimal(STDERR_FILENO, place);
+    io::print_decimal(STDERR, place);
     if byte > 0 {
         say(b", byte ");
-        io::print_decimal(STDERR_FILENO, byte);
+        io::print_decimal(STDERR, byte);
         say(b",");
     }
 }

@@ -1,11 +1,10 @@
 // How the program is used, and which build it is. Each function is false where not all could be written.
 use arguments::Piece;
-use libc::STDOUT_FILENO;
+use system::System;
 
 // Options that are not for people stand in no line: those that whoever starts the program gives it (options.rt).
-pub fn usage() -> bool {
-    io::write_all(
-        STDOUT_FILENO,
+pub fn usage(sys: &System) -> bool {
+    sys.print(
         b"usage: keravnoth [TABLE]              the result, or a line E, number, place, byte\n\
         \x20      keravnoth rewrite [TABLE]      the table, written again\n\
         \x20      keravnoth corners [ROW] [TABLE]  every corner's flow on each row, or on one\n\
@@ -36,27 +35,24 @@ pub fn usage() -> bool {
 
 // The gate holds the first line to the notes of what was built and to the C header. The second says what whoever starts the program knows of its
 // proof: the program cannot know it itself, since it is built only when it is proved.
-pub fn version(proved: Piece) -> bool {
-    io::write_all(
-        STDOUT_FILENO,
+pub fn version(sys: &System, proved: Piece) -> bool {
+    sys.print(
         b"keravnoth: rules: document 01; requests of document 02: E1, E2, E3, E4, E5, E6, E7, E8, E9, E10, E11, E12, E13, E14; C interface: 1.0.0\nproved in",
-    ) && logic(proved)
+    ) && logic(sys, proved)
 }
 
-fn logic(proved: Piece) -> bool {
+fn logic(sys: &System, proved: Piece) -> bool {
     if proved.at == 0 {
-        return named(b"");
+        return named(sys, b"");
     }
     let mut own = arguments::room();
-    let n = os::arg(proved.at, &mut own);
-    named(arguments::tail(&own[..n], proved.from))
+    let n = sys.arg(proved.at, &mut own);
+    named(sys, arguments::tail(&own[..n], proved.from))
 }
 
-fn named(text: &[u8]) -> bool {
+fn named(sys: &System, text: &[u8]) -> bool {
     if text.len() == 0 {
-        return io::write_all(STDOUT_FILENO, b": not named by what started the program\n");
+        return sys.print(b": not named by what started the program\n");
     }
-    io::write_all(STDOUT_FILENO, b" ")
-        && io::write_all(STDOUT_FILENO, text)
-        && io::write_all(STDOUT_FILENO, b"\n")
+    sys.print(b" ") && sys.print(text) && sys.print(b"\n")
 }

@@ -8,8 +8,8 @@ ghost use Rattle.result.specs.Refusal.{refusal_text, refusal_most};
 ghost use Rattle.output.specs.Buffer.{bytes_of, Printed, Told};
 ghost use Rattle.output.specs.Heard.{refusal_in, heard_of};
 
-use libc::STDOUT_FILENO;
 use refusals::{Refusal, Written};
+use system::System;
 use text::Number;
 
 // What came of printing.
@@ -23,8 +23,8 @@ pub enum Ended {
 }
 
 // Prints a text.
-pub fn put(printed: &[u8]) -> Ended {
-    if !io::write_all(STDOUT_FILENO, printed) {
+pub fn put(sys: &System, printed: &[u8]) -> Ended {
+    if !sys.print(printed) {
         return Ended::Failed;
     }
     heard(printed)

@@ -9,6 +9,7 @@ use output::Ended;
 use pagefacts::{RECORDS, hour};
 use pageform::Figures;
 use reading::TableRead;
+use system::System;
 use types::{Border, BorderRecord, Header, Row, RowRecord};
 
 // Room for the reasons of 64 borders, each of fewer than 4,096 bytes.
@@ -16,6 +17,7 @@ const WHYS: usize = 262144;
 
 // Prints hour `number` of a page of several, or the only one, which is 0.
 pub fn print<'a>(
+    sys: &System,
     number: u64,
     label: &[u8],
     all: bool,
@@ -23,7 +25,7 @@ pub fn print<'a>(
     text: &'a [u8],
     sheet: &'a [u8],
 ) -> Ended {
-    if !print_heading(number, label) {
+    if !print_heading(sys, number, label) {
         return Ended::Failed;
     }
     let mut z: [i64; limits::ZONES_MOST] = [0; limits::ZONES_MOST];
@@ -36,6 +38,7 @@ pub fn print<'a>(
     let mut records: [Figures; RECORDS] = [blank; RECORDS];
     let mut whys: [u8; WHYS] = [0; WHYS];
     print_in(
+        sys,
         all,
         marks,
         text,
@@ -50,13 +53,14 @@ pub fn print<'a>(
     )
 }
 
-pub fn print_heading(number: u64, label: &[u8]) -> bool {
+pub fn print_heading(sys: &System, number: u64, label: &[u8]) -> bool {
     let r = hour::numbered(pagefacts::blank(), number);
-    piece(0, &r) && pageform::say_safe(label) && piece(1, &r)
+    piece(sys, 0, &r) && pageform::say_safe(sys, label) && piece(sys, 1, &r)
 }
 
 // Apart from `print`, so that proof goals do not contain its arrays.
 fn print_in<'a>(
+    sys: &System,
     all: bool,
     marks: &[u64],
     text: &'a [u8],
@@ -73,13 +77,19 @@ fn print_in<'a>(
 {
     match reading::read_into(text, sheet, z, t, b, c, f) {
         TableRead::Table(h) => print_table(
-            all, marks, h, z, t, b, c, f, text, sheet, records, whys,
+            sys, all, marks, h, z, t, b, c, f, text, sheet, records, whys,
         ),
-        TableRead::Refused(w) => print_unread(hour::refused(first_of(records), w), text, sheet),
+        TableRead::Refused(w) => print_unread(
+            sys,
+            hour::refused(first_of(records), w),
+            text,
+            sheet,
+        ),
     }
 }
 
 fn print_table<'a>(
+    sys: &System,
     all: bool,
     marks: &[u64],
     h: Header,
@@ -98,7 +108,7 @@ fn print_table<'a>(
     let measured = measure(all, marks, h, z, t, b, c, f, records, whys);
     pagesame::note(h.zones, f, records);
     let r = pagedraw::draw(measured, records);
-    print_hour(r, text, sheet, records, whys)
+    print_hour(sys, r, text, sheet, records, whys)
 }
 
 // The hour's record, with that of its borders and rows: what was surveyed, and the bound of the rounds.
@@ -134,6 +144,7 @@ fn first_of(records: &[Figures]) -> Figures {
 
 // A table that was read: its capacities and reasons, or why it is refused; and its rows.
 fn print_hour<'a>(
+    sys: &System,
     r: Figures,
     text: &'a [u8],
     sheet: &'a [u8],
@@ -143,26 +154,26 @@ fn print_hour<'a>(
     if r[hour::ANSWERED] != 0 {
         let n = r[hour::WHYS] as usize;
         return written(
-            pagehour::print_head(r)
-                && pagehour::print(r, records, front(whys, n))
-                && print_foot(r, text),
+            pagehour::print_head(sys, r)
+                && pagehour::print(sys, r, records, front(whys, n))
+                && print_foot(sys, r, text),
             Ended::Answered,
         );
     }
     let row = row_at(r[hour::PLACE] as usize, records);
     written(
-        pagehour::print_head(r)
-            && pagerefused::print(r, row, text, sheet)
-            && pagehour::print_rows(r, records)
-            && print_foot(r, text),
+        pagehour::print_head(sys, r)
+            && pagerefused::print(sys, r, row, text, sheet)
+            && pagehour::print_rows(sys, r, records)
+            && print_foot(sys, r, text),
         refusal(r),
     )
 }
 
 // A text that is no table.
-fn print_unread<'a>(r: Figures, text: &'a [u8], sheet: &'a [u8]) -> Ended {
+fn print_unread<'a>(sys: &System, r: Figures, text: &'a [u8], sheet: &'a [u8]) -> Ended {
     written(
-        piece(2, &r) && pagerefused::print(r, r, text, sheet) && print_foot(r, text),
+        piece(sys, 2, &r) && pagerefused::print(sys, r, r, text, sheet) && print_foot(sys, r, text),
         refusal(r),
     )
 }
@@ -191,9 +202,9 @@ fn front<'a>(text: &'a [u8], n: usize) -> &'a [u8] {
     &text[0..n]
 }
 
-fn print_foot(r: Figures, text: &[u8]) -> bool {
+fn print_foot(sys: &System, r: Figures, text: &[u8]) -> bool {
     let foot = sized(r, text.len());
-    piece(FOOT, &foot)
+    piece(sys, FOOT, &foot)
 }
 
 // A longer text is not read to its end, so its length is not known.
@@ -210,8 +221,9 @@ pub const FOOT: usize = 3;
 // W: the foot is that of a day
 pub const DAY: usize = 48;
 
-pub fn piece(line: usize, figures: &[u64]) -> bool {
+pub fn piece(sys: &System, line: usize, figures: &[u64]) -> bool {
     pageform::say(
+        sys,
         b"{H<h2 class=\"hr\" id=\"h$H\">|<h1>}\n\
         {H</h2>`<p class=\"screen\"><a href=\"#strip\">All hours</a></p>|</h1>}`\n\
         <p class=\"sub\">Capacities (ATCs) of one hour</p>`\n\

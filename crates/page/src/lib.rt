@@ -7,19 +7,27 @@ pub mod word;
 
 use output::Ended;
 use pageframe::{BODY, END, STYLE, TITLE, plain};
+use system::System;
 
 // Prints the page of the table that the text holds, as the sheet corrects it. Where `all` borders may rise, the marks are not looked at.
-pub fn print<'a>(label: &[u8], all: bool, marks: &[u64], text: &'a [u8], sheet: &'a [u8]) -> Ended {
-    if !begin(label) {
+pub fn print<'a>(
+    sys: &System,
+    label: &[u8],
+    all: bool,
+    marks: &[u64],
+    text: &'a [u8],
+    sheet: &'a [u8],
+) -> Ended {
+    if !begin(sys, label) {
         return Ended::Failed;
     }
-    let ended = hours::print(0, label, all, marks, text, sheet);
-    if !plain(END) {
+    let ended = hours::print(sys, 0, label, all, marks, text, sheet);
+    if !plain(sys, END) {
         return Ended::Failed;
     }
     ended
 }
 
-fn begin(label: &[u8]) -> bool {
-    plain(TITLE) && pageform::say_safe(label) && plain(STYLE) && plain(BODY)
+fn begin(sys: &System, label: &[u8]) -> bool {
+    plain(sys, TITLE) && pageform::say_safe(sys, label) && plain(sys, STYLE) && plain(sys, BODY)
 }

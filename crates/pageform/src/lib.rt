@@ -12,8 +12,8 @@ mod step;
 
 ghost use Rattle.io.specs.Counts.{IsPrefixLen};
 
-use libc::STDOUT_FILENO;
 use step::State;
+use system::System;
 
 // The figures of a piece.
 pub const NAMES: usize = 52;
@@ -24,10 +24,10 @@ pub type Figures = [u64; NAMES];
 const ROOM: usize = 8192;
 
 // Prints line k of the list with its figures. False where not all could be written.
-pub fn say(list: &[u8], k: usize, figures: &[u64]) -> bool {
+pub fn say(sys: &System, list: &[u8], k: usize, figures: &[u64]) -> bool {
     let mut out = [0u8; ROOM];
     let n = put(list, k, figures, &mut out, 0);
-    io::write_all(STDOUT_FILENO, &out[..n])
+    sys.print(&out[..n])
 }
 
 // Writes line k of the list with its figures.
@@ -59,10 +59,10 @@ fn put_piece(piece: &[u8], figures: &[u64], out: &mut [u8], at: usize) -> usize 
 }
 
 // Prints a text from outside.
-pub fn say_safe(text: &[u8]) -> bool {
+pub fn say_safe(sys: &System, text: &[u8]) -> bool {
     let mut out = [0u8; ROOM];
     let n = put_safe(text, &mut out, 0);
-    io::write_all(STDOUT_FILENO, &out[..n])
+    sys.print(&out[..n])
 }
 
 // Writes a text from outside.

@@ -2,7 +2,7 @@
 #![tactic(auto)]
 
 use arguments::lists;
-use libc::STDOUT_FILENO;
+use system::System;
 
 // What every page has: up to its title, up to the end of its styles, up to the first hour, behind the last.
 pub const TITLE: usize = 0;
@@ -14,11 +14,9 @@ pub const BODY: usize = 2;
 pub const END: usize = 3;
 
 // Prints such a part.
-pub fn plain(k: usize) -> bool {
-    io::write_all(
-        STDOUT_FILENO,
-        lists::line(
-            b"<!DOCTYPE html><html lang=\"en\"><head><meta charset=\"utf-8\"/><meta name=\"viewport\" content=\"width=device-width\"/><title>\n\
+pub fn plain(sys: &System, k: usize) -> bool {
+    sys.print(lists::line(
+        b"<!DOCTYPE html><html lang=\"en\"><head><meta charset=\"utf-8\"/><meta name=\"viewport\" content=\"width=device-width\"/><title>\n\
         : ATCs</title><style>body{font:14px/1.45 \"Segoe UI\",Arial,\"Liberation Sans\",sans-serif;color:#1b1b1b;background:#fff;max-width:1120px;margin:20px auto;padding:0 16px}\
         h1{font-size:26px;line-height:1.2;margin:0}h2{font-size:18px;margin:26px 0 4px;padding-top:8px;border-top:2px solid #16324f}h3{font-size:14px;margin:14px 0 4px}\
         p{margin:4px 0}.sub{color:#444}.tiles{display:flex;flex-wrap:wrap;gap:8px;margin:12px 0}.tiles div{border:1px solid #b8c0c8;border-radius:4px;padding:4px 14px 5px 10px}\
@@ -47,7 +45,6 @@ pub fn plain(k: usize) -> bool {
         </style></head><body>\
         <svg width=\"0\" height=\"0\" style=\"position:absolute\"><defs><path id=\"bg\" class=\"g\" d=\"M.5 0v22M115.5 0v22M230.5 0v22M345.5 0v22M460.5 0v22\"/><path id=\"rg\" class=\"g\" d=\"M.5 0v22M80.5 0v22M160.5 0v22M240.5 0v22M320.5 0v22\"/><path id=\"bx\" class=\"c\" d=\"M434 20l6 -18M440 20l6 -18\"/><path id=\"rx\" class=\"c\" d=\"M296 14l4 -12M302 14l4 -12\"/><pattern id=\"over\" width=\"5\" height=\"5\" patternUnits=\"userSpaceOnUse\" patternTransform=\"rotate(45)\"><rect width=\"5\" height=\"5\" fill=\"#fff\"/><rect width=\"3\" height=\"5\" fill=\"#1b1b1b\"/></pattern></defs></svg>\n\
         </body></html>\n",
-            k,
-        ),
-    )
+        k,
+    ))
 }

@@ -5,42 +5,42 @@
 // A part that does not belong on a page is left out by the conditions of its piece. Every id begins with the hour, so that a page can have several.
 #![tactic(auto)]
 
-use libc::STDOUT_FILENO;
 use pagefacts::{ROWS, hour, row};
 use pageform::Figures;
+use system::System;
 
 // An hour that is answered.
-pub fn print(r: Figures, records: &[Figures], whys: &[u8]) -> bool {
-    play(b"BhCsDhEhFbGhHhIhJhKhMhNsGh", r, records, whys)
-        && print_others(r, records)
-        && play(b"QhRuShTdUhVhZwWh", r, records, whys)
+pub fn print(sys: &System, r: Figures, records: &[Figures], whys: &[u8]) -> bool {
+    play(sys, b"BhCsDhEhFbGhHhIhJhKhMhNsGh", r, records, whys)
+        && print_others(sys, r, records)
+        && play(sys, b"QhRuShTdUhVhZwWh", r, records, whys)
 }
 
-fn print_others(r: Figures, records: &[Figures]) -> bool {
+fn print_others(sys: &System, r: Figures, records: &[Figures]) -> bool {
     if r[hour::OTHER] == 0 {
         return true;
     }
-    play(b"OhJhLhMhNkGhPh", r, records, b"")
+    play(sys, b"OhJhLhMhNkGhPh", r, records, b"")
 }
 
 // What is known of an hour that is refused, its rows: no capacity.
-pub fn print_rows(r: Figures, records: &[Figures]) -> bool {
-    play(b"HhJhMhNkGhQhRuShTdUh", r, records, b"")
+pub fn print_rows(sys: &System, r: Figures, records: &[Figures]) -> bool {
+    play(sys, b"HhJhMhNkGhQhRuShTdUh", r, records, b"")
 }
 
 // Its headline.
-pub fn print_head(r: Figures) -> bool {
-    piece(0, &r)
+pub fn print_head(sys: &System, r: Figures) -> bool {
+    piece(sys, 0, &r)
 }
 
-fn play(script: &[u8], r: Figures, records: &[Figures], whys: &[u8]) -> bool {
+fn play(sys: &System, script: &[u8], r: Figures, records: &[Figures], whys: &[u8]) -> bool {
     let mut line: u8 = 0;
     for k in 0..script.len() {
         let byte = script[k];
         match byte {
             b'A'..=b'Z' => line = byte - b'A',
             _ => {
-                if !print_for(byte, line, r, records, whys) {
+                if !print_for(sys, byte, line, r, records, whys) {
                     return false;
                 }
             }
@@ -49,55 +49,63 @@ fn play(script: &[u8], r: Figures, records: &[Figures], whys: &[u8]) -> bool {
     true
 }
 
-fn print_for(whom: u8, letter: u8, r: Figures, records: &[Figures], whys: &[u8]) -> bool {
+fn print_for(
+    sys: &System,
+    whom: u8,
+    letter: u8,
+    r: Figures,
+    records: &[Figures],
+    whys: &[u8],
+) -> bool {
     let line = letter as usize;
     match whom {
-        b'h' => piece(line, &r),
-        b'b' => each_border(line, r[hour::BORDERS], records),
-        b's' => each_row(line, row::STOPS, records),
-        b'k' => each_row(line, row::KEPT, records),
-        b'u' => each_row(line, row::SMALL, records),
-        b'd' => each_row(line, row::SAYS_THE_SAME, records),
-        _ => io::write_all(STDOUT_FILENO, whys),
+        b'h' => piece(sys, line, &r),
+        b'b' => each_border(sys, line, r[hour::BORDERS], records),
+        b's' => each_row(sys, line, row::STOPS, records),
+        b'k' => each_row(sys, line, row::KEPT, records),
+        b'u' => each_row(sys, line, row::SMALL, records),
+        b'd' => each_row(sys, line, row::SAYS_THE_SAME, records),
+        _ => sys.print(whys),
     }
 }
 
-fn each_border(line: usize, borders: u64, records: &[Figures]) -> bool {
+fn each_border(sys: &System, line: usize, borders: u64, records: &[Figures]) -> bool {
     for k in 0..records.len() {
         if borders <= k as u64 {
             return true;
         }
-        if !one_border(line, records[k]) {
+        if !one_border(sys, line, records[k]) {
             return false;
         }
     }
     true
 }
 
-fn one_border(line: usize, r: Figures) -> bool {
-    piece(line, &r)
+fn one_border(sys: &System, line: usize, r: Figures) -> bool {
+    piece(sys, line, &r)
 }
 
 // Rows of one kind.
-fn each_row(line: usize, kind: u64, records: &[Figures]) -> bool {
+fn each_row(sys: &System, line: usize, kind: u64, records: &[Figures]) -> bool {
     for k in ROWS..records.len() {
-        if !one_row(line, kind, records[k]) {
+        if !one_row(sys, line, kind, records[k]) {
             return false;
         }
     }
     true
 }
 
-fn one_row(line: usize, kind: u64, r: Figures) -> bool {
+fn one_row(sys: &System, line: usize, kind: u64, r: Figures) -> bool {
     if r[row::KIND] != kind {
         return true;
     }
-    piece(line, &r)
+    piece(sys, line, &r)
 }
 
 // Prints a piece with its figures. One literal has them all: a function with many is slow to check.
-fn piece(line: usize, figures: &[u64]) -> bool {
+fn piece(sys: &System, line: usize, figures: &[u64]) -> bool {
     pageform::say(
+        sys,
         b"<p class=\"sub\">Capacities (ATCs) of one hour, {Iintraday: what may be sold in addition to the allocated positions|day_ahead}</p>`<div class=\"tiles\"><div><b>$z</b><span>zones</span></div><div><b>$b</b><span>borders</span></div>{A{m<div><b>$n</b><span>of them marked</span></div>}}<div><b>$r</b><span>rows, $k kept</span></div>{A<div><b>$R</b><span>?R2{Rround|rounds}|rounds}</span></div><div><b>$S</b><span>rounds at most (2 &#215; $N &#215; $L gives $B)</span></div>}</div>`{A<p class=\"screen\"><a href=\"#{Hh$H}borders\">Borders</a> &#183; <a href=\"#{Hh$H}rows\">Rows</a> &#183; <a href=\"#{Hh$H}why\">Why a border got no more</a></p>`}\n\
         <p>Of $k kept ?k2row|rows} $p ?p2stops|stop} the borders: \n\
         ?O9?1O, }<a href=\"#{Hh$H}r$a\">row $a</a> stops $s}\n\

@@ -5,6 +5,7 @@ mod line;
 
 use pagefacts::hour;
 use pageform::Figures;
+use system::System;
 
 // What a refused text is blamed for stands in the words of crate faultwords: 2, 3 and 10.
 const FORM: u64 = 2;
@@ -14,20 +15,21 @@ const RANGE: u64 = 3;
 const CORRECTION: u64 = 10;
 
 // The record of the hour; that of the row that is blamed, where one is; both texts.
-pub fn print(r: Figures, row: Figures, table: &[u8], sheet: &[u8]) -> bool {
-    piece(0, &r)
-        && print_words(r, row, table, sheet)
-        && piece(16, &r)
-        && print_line(r, table, sheet)
-        && piece(15, &r)
+pub fn print(sys: &System, r: Figures, row: Figures, table: &[u8], sheet: &[u8]) -> bool {
+    piece(sys, 0, &r)
+        && print_words(sys, r, row, table, sheet)
+        && piece(sys, 16, &r)
+        && print_line(sys, r, table, sheet)
+        && piece(sys, 15, &r)
 }
 
-fn print_words(r: Figures, row: Figures, table: &[u8], sheet: &[u8]) -> bool {
+fn print_words(sys: &System, r: Figures, row: Figures, table: &[u8], sheet: &[u8]) -> bool {
     let number = r[hour::NUMBER];
     match number {
-        FORM | RANGE => print_fault(faultwords::TABLE, r, table, table),
-        CORRECTION => print_fault(faultwords::CORRECTIONS, r, table, sheet),
+        FORM | RANGE => print_fault(sys, faultwords::TABLE, r, table, table),
+        CORRECTION => print_fault(sys, faultwords::CORRECTIONS, r, table, sheet),
         1 => piece(
+            sys,
             if text::BYTES_MOST < sheet.len() {
                 14
             } else {
@@ -35,12 +37,12 @@ fn print_words(r: Figures, row: Figures, table: &[u8], sheet: &[u8]) -> bool {
             },
             &r,
         ),
-        7 => piece(7, &row),
-        _ => piece(number as usize, &r),
+        7 => piece(sys, 7, &row),
+        _ => piece(sys, number as usize, &r),
     }
 }
 
-fn print_fault(of: usize, r: Figures, table: &[u8], text: &[u8]) -> bool {
+fn print_fault(sys: &System, of: usize, r: Figures, table: &[u8], text: &[u8]) -> bool {
     let mut out = io::buffer();
     let n = faultwords::put(
         of,
@@ -51,25 +53,26 @@ fn print_fault(of: usize, r: Figures, table: &[u8], text: &[u8]) -> bool {
         text,
         &mut out,
     );
-    pageform::say_safe(&out[..n])
+    pageform::say_safe(sys, &out[..n])
 }
 
 // The line that the words are about.
-fn print_line(r: Figures, table: &[u8], sheet: &[u8]) -> bool {
+fn print_line(sys: &System, r: Figures, table: &[u8], sheet: &[u8]) -> bool {
     let place = r[hour::PLACE];
     let number = r[hour::NUMBER];
     match number {
-        FORM | RANGE => line::print(0, line::before(place), r[hour::BYTE], table),
-        CORRECTION => line::print(0, line::before(place), r[hour::BYTE], sheet),
-        4 | 6 => line::print(b'B', place, 0, table),
-        7 => line::print(b'C', place, 0, table),
+        FORM | RANGE => line::print(sys, 0, line::before(place), r[hour::BYTE], table),
+        CORRECTION => line::print(sys, 0, line::before(place), r[hour::BYTE], sheet),
+        4 | 6 => line::print(sys, b'B', place, 0, table),
+        7 => line::print(sys, b'C', place, 0, table),
         _ => true,
     }
 }
 
 // The pieces, by the number of the refusal where it has one.
-fn piece(line: usize, figures: &[u64]) -> bool {
+fn piece(sys: &System, line: usize, figures: &[u64]) -> bool {
     pageform::say(
+        sys,
         b"<div class=\"no\"><h{H3|2}>Refused: this hour has no ATCs</h{H3|2}>`<p>\n\
         The text has more than 65536 bytes, and a table has no more: send one hour at a time.\n\
         .\n\

@@ -2,7 +2,7 @@
 ghost use Rattle.std.specs.Prelude.{◌≤◌, length};
 
 use arguments::lists;
-use libc::STDOUT_FILENO;
+use system::System;
 
 // Where a line stands: its number from 1 on, and its first byte.
 #[derive(Clone, Copy)]
@@ -22,16 +22,17 @@ pub fn before(n: u64) -> u64 {
 }
 
 // Prints line `index`, from 0, of those that begin with the letter, or of all where it is 0; byte `bad`, from 1, is marked.
-pub fn print(letter: u8, index: u64, bad: u64, text: &[u8]) -> bool {
+pub fn print(sys: &System, letter: u8, index: u64, bad: u64, text: &[u8]) -> bool {
     let place = place_of(letter, index, text);
     let from = within(place.from, text);
     let end = after(lists::find(text, from, b'\n'), text);
     let first = first_shown(from, before(bad) as usize, end);
     let last = smaller(end, std::num::wrapping_add_usize(first, SHOWN));
-    print_shown(place.number, from, first, last, end, bad, text)
+    print_shown(sys, place.number, from, first, last, end, bad, text)
 }
 
 fn print_shown(
+    sys: &System,
     number: u64,
     from: usize,
     first: usize,
@@ -53,7 +54,7 @@ fn print_shown(
     let n = pageform::put(list, 0, &figures, &mut out, 0);
     let n = put_bytes(first, last, marked(from, bad), text, &mut out, n);
     let n = pageform::put(list, 1, &figures, &mut out, n);
-    io::write_all(STDOUT_FILENO, &out[..n])
+    sys.print(&out[..n])
 }
 
 // The place of the marked byte, from 1 on, 0 where none is.

@@ -13,11 +13,18 @@ ghost use Rattle.daysheet.specs.Sheet.{hours_most};
 
 use daysheet::HourRecord;
 use pageform::Figures;
+use system::System;
 
 // Prints the front of a day from the records of its hours, and the tables of its sheet.
-pub fn print(day: &[Figures], hours: &[HourRecord], ways: &[u64], atcs: &[u64]) -> bool
+pub fn print(
+    sys: &System,
+    day: &[Figures],
+    hours: &[HourRecord],
+    ways: &[u64],
+    atcs: &[u64],
+) -> bool
     requires { length hours.now ≤ hours_most }
 {
     let all = sheet::with_hubs(facts::counted(day), ways);
-    strip::print(all, day) && sheet::print(all, day, hours, ways, atcs)
+    strip::print(sys, all, day) && sheet::print(sys, all, day, hours, ways, atcs)
 }

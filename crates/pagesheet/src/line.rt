@@ -7,6 +7,7 @@ use daysheet::HourRecord;
 use pagebars::{larger, place};
 use pagefacts::one_if;
 use std::num::{wrapping_add_u64, wrapping_sub_u64};
+use system::System;
 
 // Units of the line's length, of its height, and where 0 stands.
 const LENGTH: u64 = 120;
@@ -50,13 +51,13 @@ fn cell_of(b: usize, k: usize, name: u64, came: HourRecord, ways: &[u64], atcs: 
 }
 
 // Prints the line of so many hours, and the border's most, where they are wanted.
-pub fn print(wanted: bool, hours: usize, cells: &[u64]) -> bool {
+pub fn print(sys: &System, wanted: bool, hours: usize, cells: &[u64]) -> bool {
     if !wanted {
         return true;
     }
     let mut r = pagefacts::blank();
     r[MOST] = most_of(cells);
-    piece(0, &r) && print_steps(hours, r[MOST], cells) && piece(2, &r)
+    piece(sys, 0, &r) && print_steps(sys, hours, r[MOST], cells) && piece(sys, 2, &r)
 }
 
 fn most_of(cells: &[u64]) -> u64 {
@@ -67,10 +68,10 @@ fn most_of(cells: &[u64]) -> u64 {
     wrapping_sub_u64(most, 1)
 }
 
-fn print_steps(hours: usize, most: u64, cells: &[u64]) -> bool {
+fn print_steps(sys: &System, hours: usize, most: u64, cells: &[u64]) -> bool {
     let mut before: u64 = 0;
     for k in 0..cells.len() {
-        if !print_step(k as u64, hours as u64, most, before, cells[k]) {
+        if !print_step(sys, k as u64, hours as u64, most, before, cells[k]) {
             return false;
         }
         before = cells[k];
@@ -89,7 +90,7 @@ const ALONE: usize = 12;
 
 const MOST: usize = 38;
 
-fn print_step(k: u64, hours: u64, most: u64, before: u64, cell: u64) -> bool {
+fn print_step(sys: &System, k: u64, hours: u64, most: u64, before: u64, cell: u64) -> bool {
     if cell == 0 {
         return true;
     }
@@ -101,11 +102,12 @@ fn print_step(k: u64, hours: u64, most: u64, before: u64, cell: u64) -> bool {
         place(wrapping_sub_u64(cell, 1), larger(most, 1), HEIGHT),
     );
     r[ALONE] = one_if(before == 0);
-    piece(1, &r)
+    piece(sys, 1, &r)
 }
 
-fn piece(line: usize, figures: &[u64]) -> bool {
+fn piece(sys: &System, line: usize, figures: &[u64]) -> bool {
     pageform::say(
+        sys,
         b"<td><svg width=\"120\" height=\"18\" viewBox=\"0 0 120 18\"><path class=\"g\" d=\"M0 17.5H120\"/><path class=\"y\" d=\"\n\
         {mM$x $y|V$y}H$z\n\
         \"/></svg></td><td class=\"n\">$M</td>\n",

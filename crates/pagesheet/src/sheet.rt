@@ -8,6 +8,7 @@ use daysheet::{HourRecord, Line};
 use pagefacts::{border, hour, one_if};
 use pageform::Figures;
 use std::num::{wrapping_add_usize, wrapping_sub_u64};
+use system::System;
 
 // Hours of a block at most: a day of 24 or 25 hours is one, and 100 quarter-hours are four.
 const BLOCK_MOST: usize = 25;
@@ -31,6 +32,7 @@ pub fn with_hubs(mut all: Figures, ways: &[u64]) -> Figures {
 }
 
 pub fn print(
+    sys: &System,
     all: Figures,
     day: &[Figures],
     hours: &[HourRecord],
@@ -39,10 +41,11 @@ pub fn print(
 ) -> bool
     requires { length hours.now ≤ hours_most }
 {
-    piece(0, &all) && print_blocks(all, day, hours, ways, atcs) && piece(1, &all)
+    piece(sys, 0, &all) && print_blocks(sys, all, day, hours, ways, atcs) && piece(sys, 1, &all)
 }
 
 fn print_blocks(
+    sys: &System,
     all: Figures,
     day: &[Figures],
     hours: &[HourRecord],
@@ -58,6 +61,7 @@ fn print_blocks(
             return true;
         }
         if !print_block(
+            sys,
             Block {
                 from: from,
                 size: size,
@@ -85,6 +89,7 @@ fn size_of(hours: usize) -> usize {
 }
 
 fn print_block(
+    sys: &System,
     block: Block,
     all: Figures,
     day: &[Figures],
@@ -95,11 +100,11 @@ fn print_block(
     requires { length hours.now ≤ hours_most }
 {
     let head = begun(all, block);
-    piece(2, &head)
-        && print_labels(block, day)
-        && piece(3, &head)
-        && print_borders(block, head, day, hours, ways, atcs)
-        && piece(4, &head)
+    piece(sys, 2, &head)
+        && print_labels(sys, block, day)
+        && piece(sys, 3, &head)
+        && print_borders(sys, block, head, day, hours, ways, atcs)
+        && piece(sys, 4, &head)
 }
 
 // d: the block is the first, which has the lines.
@@ -114,24 +119,25 @@ fn is_in(block: Block, k: usize) -> bool {
     block.from <= k && k < wrapping_add_usize(block.from, block.size)
 }
 
-fn print_labels(block: Block, day: &[Figures]) -> bool {
+fn print_labels(sys: &System, block: Block, day: &[Figures]) -> bool {
     for k in 0..day.len() {
-        if !print_label(is_in(block, k), day[k]) {
+        if !print_label(sys, is_in(block, k), day[k]) {
             return false;
         }
     }
     true
 }
 
-fn print_label(wanted: bool, r: Figures) -> bool {
+fn print_label(sys: &System, wanted: bool, r: Figures) -> bool {
     if !wanted {
         return true;
     }
-    piece(5, &r) && strip::say_label(r) && piece(6, &r)
+    piece(sys, 5, &r) && strip::say_label(sys, r) && piece(sys, 6, &r)
 }
 
 // A line for each border that any hour has: an hour has every border before one that it has.
 fn print_borders(
+    sys: &System,
     block: Block,
     head: Figures,
     day: &[Figures],
@@ -145,7 +151,7 @@ fn print_borders(
         if head[hour::BORDERS] <= b as u64 {
             return true;
         }
-        if !print_border(b, block, head, day, hours, ways, atcs) {
+        if !print_border(sys, b, block, head, day, hours, ways, atcs) {
             return false;
         }
     }
@@ -154,6 +160,7 @@ fn print_borders(
 
 // The room to work in is made here, and not in `print_border_in`, whose goals would spell it out.
 fn print_border(
+    sys: &System,
     b: usize,
     block: Block,
     head: Figures,
@@ -165,10 +172,11 @@ fn print_border(
     requires { (length hours.now ≤ hours_most) × (b < borders_most) }
 {
     let mut cells = [0u64; daysheet::HOURS_MOST];
-    print_border_in(b, block, head, day, hours, ways, atcs, &mut cells)
+    print_border_in(sys, b, block, head, day, hours, ways, atcs, &mut cells)
 }
 
 fn print_border_in(
+    sys: &System,
     b: usize,
     block: Block,
     head: Figures,
@@ -183,10 +191,10 @@ fn print_border_in(
     let name = daysheet::name_of(b, hours, ways);
     line::fill(b, name, hours, ways, atcs, cells);
     let r = named(head, b, name);
-    piece(7, &r)
-        && line::print(r[FIRST] != 0, hours.len(), cells)
-        && print_cells(b, block, day, hours, ways, atcs, cells)
-        && piece(8, &r)
+    piece(sys, 7, &r)
+        && line::print(sys, r[FIRST] != 0, hours.len(), cells)
+        && print_cells(sys, b, block, day, hours, ways, atcs, cells)
+        && piece(sys, 8, &r)
 }
 
 // Where the border goes, as its way tells: a hub's number is one less than what stands there.
@@ -201,6 +209,7 @@ fn named(mut r: Figures, b: usize, name: u64) -> Figures {
 }
 
 fn print_cells(
+    sys: &System,
     b: usize,
     block: Block,
     day: &[Figures],
@@ -212,7 +221,7 @@ fn print_cells(
     requires { (length hours.now ≤ hours_most) × (b < borders_most) }
 {
     for k in 0..hours.len() {
-        if is_in(block, k) && !print_cell(b, k, linked(b, k, day, cells), hours, ways, atcs) {
+        if is_in(block, k) && !print_cell(sys, b, k, linked(b, k, day, cells), hours, ways, atcs) {
             return false;
         }
     }
@@ -236,6 +245,7 @@ fn linked(b: usize, k: usize, day: &[Figures], cells: &[u64]) -> Figures {
 }
 
 fn print_cell(
+    sys: &System,
     b: usize,
     k: usize,
     r: Figures,
@@ -246,15 +256,18 @@ fn print_cell(
     requires { (k < length hours.now) × (length hours.now ≤ hours_most) × (b < borders_most) }
 {
     if r[hour::ANSWERED] == 0 {
-        return piece(11, &r);
+        return piece(sys, 11, &r);
     }
     let mut out = [0u8; daysheet::ROOM];
     let n = daysheet::cell_at(Line::Border(b), k, hours, ways, atcs, &mut out);
-    piece(9, &r) && pageform::say_safe(arguments::tail(&out[..n], 1)) && piece(10, &r)
+    piece(sys, 9, &r)
+        && pageform::say_safe(sys, arguments::tail(&out[..n], 1))
+        && piece(sys, 10, &r)
 }
 
-fn piece(line: usize, figures: &[u64]) -> bool {
+fn piece(sys: &System, line: usize, figures: &[u64]) -> bool {
     pageform::say(
+        sys,
         b"<h2 id=\"sheet\">Capacities (ATCs) in MW</h2>`{b<div class=\"key\"><span>A figure leads to its border in the part of its hour.</span><span>Line: the border over the day, 0 at the bottom and its most at the top; no line where an hour has no figure.</span>{e<span>E 7: the hour is refused, and the number says why.</span>}{q<span>X: its table is not read.</span>}<span>-: the hour has no such border.</span><span>other: its border of that number goes elsewhere.</span></div>|<p>No hour is answered: there are no capacities.</p>}`\n\
         \n\
         <div class=\"wide\"><table class=\"sh\"><thead><tr><th class=\"n\">border</th><th>from &#8594; to</th>{C<th>hubs</th>}{d<th>the day</th><th class=\"n\">most</th>}\n\

@@ -2,33 +2,35 @@
 use crate::facts;
 use daylines::label;
 use pageform::Figures;
+use system::System;
 
-pub fn print(all: Figures, day: &[Figures]) -> bool {
-    piece(0, &all) && print_boxes(day) && piece(1, &all)
+pub fn print(sys: &System, all: Figures, day: &[Figures]) -> bool {
+    piece(sys, 0, &all) && print_boxes(sys, day) && piece(sys, 1, &all)
 }
 
-fn print_boxes(day: &[Figures]) -> bool {
+fn print_boxes(sys: &System, day: &[Figures]) -> bool {
     for k in 0..day.len() {
-        if !print_box(day[k]) {
+        if !print_box(sys, day[k]) {
             return false;
         }
     }
     true
 }
 
-fn print_box(r: Figures) -> bool {
-    piece(2, &r) && say_label(r) && piece(3, &r)
+fn print_box(sys: &System, r: Figures) -> bool {
+    piece(sys, 2, &r) && say_label(sys, r) && piece(sys, 3, &r)
 }
 
 // Prints the label of an hour.
-pub fn say_label(r: Figures) -> bool {
+pub fn say_label(sys: &System, r: Figures) -> bool {
     let mut name = arguments::room();
-    let n = os::arg(r[facts::ARGUMENT] as usize, &mut name);
-    pageform::say_safe(label::label_of(&name[..n]))
+    let n = sys.arg(r[facts::ARGUMENT] as usize, &mut name);
+    pageform::say_safe(sys, label::label_of(&name[..n]))
 }
 
-fn piece(line: usize, figures: &[u64]) -> bool {
+fn piece(sys: &System, line: usize, figures: &[u64]) -> bool {
     pageform::say(
+        sys,
         b"<p class=\"sub\">Capacities (ATCs) of ?n2one hour|$n hours}</p>`<div class=\"tiles\"><div><b>$n</b><span>?n2hour|hours}</span></div><div><b>$a</b><span>answered</span></div>{e<div><b>$e</b><span>refused</span></div>}{q<div><b>$q</b><span>not read</span></div>}{b<div><b>$b</b><span>?b2border|borders}</span></div>}</div>`<h2 id=\"strip\">Hours</h2>`<div class=\"key\">{a<span><svg width=\"18\" height=\"12\"><rect class=\"w\" x=\".5\" y=\".5\" width=\"17\" height=\"11\"/><rect class=\"l\" width=\"9\" height=\"12\"/></svg>rounds, of those that there can be at most</span>}{e<span><svg width=\"18\" height=\"12\"><rect class=\"o\" x=\".5\" y=\".5\" width=\"17\" height=\"11\"/></svg>refused, with the answer of the program</span>|{q<span><svg width=\"18\" height=\"12\"><rect class=\"o\" x=\".5\" y=\".5\" width=\"17\" height=\"11\"/></svg>not read</span>}}</div>`<div class=\"strip\">`\n\
         </div>`\n\
         <a class=\"hb{A| x}\" href=\"#h$H\"><b>\n\

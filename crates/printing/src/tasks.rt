@@ -3,18 +3,26 @@ use crate::texts;
 use arguments::Piece;
 use command::asked::Task;
 use output::Ended;
+use system::System;
 
 // Prints what the task is for this table as the sheet corrects it; where one of them is refused, the E line. Where no list of marks is given, all borders may rise.
-pub fn print<'a>(task: Task, list: Piece, text: &'a [u8], sheet: &'a [u8], file: &[u8]) -> Ended {
-    let listed = arguments::list(list);
+pub fn print<'a>(
+    sys: &System,
+    task: Task,
+    list: Piece,
+    text: &'a [u8],
+    sheet: &'a [u8],
+    file: &[u8],
+) -> Ended {
+    let listed = arguments::list(sys, list);
     let m = listed.count;
     let marks = listed.numbers;
     let mut out = sheets::room();
     match task {
         Task::Text(word) => {
             let n = texts::put(word, list.at == 0, &marks[..m], file, text, sheet, &mut out);
-            output::put(&out[..n])
+            output::put(sys, &out[..n])
         }
-        Task::Corners(rows) => sheets::print(text, sheet, rows, &mut out),
+        Task::Corners(rows) => sheets::print(sys, text, sheet, rows, &mut out),
     }
 }

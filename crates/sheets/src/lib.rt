@@ -13,6 +13,7 @@ ghost use Rattle.sheets.specs.Room.{sheet_room};
 use command::asked::Whose;
 use output::Ended;
 use reading::TableRead;
+use system::System;
 use types::{Border, BorderRecord, Header, Row, RowRecord};
 
 // The letter, the three tabs and the LF of a sheet's line.
@@ -70,7 +71,13 @@ pub fn sheet_row(
 }
 
 // The sheets of the table that the text holds, as the correction sheet corrects it, or the E line.
-pub fn print<'a>(text: &'a [u8], sheet: &'a [u8], rows: Whose, out: &mut [u8]) -> Ended
+pub fn print<'a>(
+    sys: &System,
+    text: &'a [u8],
+    sheet: &'a [u8],
+    rows: Whose,
+    out: &mut [u8],
+) -> Ended
     requires { sheet_room ≤ length out.old }
 {
     let mut z: [i64; limits::ZONES_MOST] = [0; limits::ZONES_MOST];
@@ -80,12 +87,13 @@ pub fn print<'a>(text: &'a [u8], sheet: &'a [u8], rows: Whose, out: &mut [u8]) -
     let mut f: [i64; limits::ROWS_MOST * limits::ZONES_MOST] = [0; limits::ROWS_MOST
         * limits::ZONES_MOST];
     print_in(
-        text, sheet, rows, &mut z, &mut t, &mut b, &mut c, &mut f, out,
+        sys, text, sheet, rows, &mut z, &mut t, &mut b, &mut c, &mut f, out,
     )
 }
 
 // Reads into tables that were made in `print`, and not here, where goals would spell them out.
 fn print_in<'a>(
+    sys: &System,
     text: &'a [u8],
     sheet: &'a [u8],
     rows: Whose,
@@ -99,10 +107,10 @@ fn print_in<'a>(
     requires { (zones_most ≤ length z.old) × (zones_most ≤ length t.old) × (borders_most ≤ length b.old) × (rows_most ≤ length c.old) × (rows_most * zones_most ≤ length f.old) × (sheet_room ≤ length out.old) }
 {
     match reading::read_into(text, sheet, z, t, b, c, f) {
-        TableRead::Table(h) => print_rows(h, z, t, b, c, f, rows, out),
+        TableRead::Table(h) => print_rows(sys, h, z, t, b, c, f, rows, out),
         TableRead::Refused(w) => {
             let n = output::refusal_line(w, out);
-            output::put(&out[..n])
+            output::put(sys, &out[..n])
         }
     }
 }
@@ -116,6 +124,7 @@ fn rows_asked(h: Header, rows: Whose) -> usize {
 
 // From row 0 on, or the row that is asked for.
 fn print_rows(
+    sys: &System,
     h: Header,
     z: &[i64],
     t: &[i64],
@@ -133,7 +142,7 @@ fn print_rows(
             Whose::One(row) => row,
         };
         let n = sheet_row(h, z, t, b, c, f, row, out);
-        let ended = output::put(&out[..n]);
+        let ended = output::put(sys, &out[..n]);
         let Ended::Answered = ended else {
             return ended;
         };

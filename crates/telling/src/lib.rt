@@ -3,9 +3,9 @@
 
 use arguments::whole;
 use command::options::Command;
-use libc::STDOUT_FILENO;
 use output::Ended;
 use refusals::Refusal;
+use system::System;
 
 // The status, as a digit.
 pub fn digit(ended: Ended) -> u8 {
@@ -17,20 +17,21 @@ pub fn digit(ended: Ended) -> u8 {
 }
 
 // The digit that hands a word on to the other program. Where nobody hears it, that is said.
-pub fn elsewhere(command: Command) -> u8 {
+pub fn elsewhere(sys: &System, command: Command) -> u8 {
     if command.status.at == 0 {
-        messages::misuse(command.plain.word, whole(0), messages::OTHER_PROGRAM);
+        messages::misuse(sys, command.plain.word, whole(0), messages::OTHER_PROGRAM);
     }
     b'3'
 }
 
 // Says on standard error what people need to know, of a table as a sheet corrects it. Before it stands what it is about where that is named.
-pub fn explain<'a>(of: &[u8], ended: Ended, table: &'a [u8], sheet: &'a [u8]) {
-    explain_with(of, false, ended, table, sheet, b"")
+pub fn explain<'a>(sys: &System, of: &[u8], ended: Ended, table: &'a [u8], sheet: &'a [u8]) {
+    explain_with(sys, of, false, ended, table, sheet, b"")
 }
 
 // The same where a file went with the word, which is blamed where the caller says so.
 pub fn explain_with<'a>(
+    sys: &System,
     of: &[u8],
     of_file: bool,
     ended: Ended,
@@ -44,7 +45,7 @@ pub fn explain_with<'a>(
             let which = blamed(of_file, number, sheet);
             refused(of, which, number, place, byte, table, sheet, file)
         }
-        Ended::Failed => unwritten(),
+        Ended::Failed => unwritten(sys),
     }
 }
 
@@ -52,34 +53,34 @@ pub fn explain_with<'a>(
 const LINE: usize = 64;
 
 // Prints the E line of a refusal, and says what it means.
-pub fn refuse<'a>(of: &[u8], w: Refusal, table: &'a [u8], sheet: &'a [u8]) -> Ended {
+pub fn refuse<'a>(sys: &System, of: &[u8], w: Refusal, table: &'a [u8], sheet: &'a [u8]) -> Ended {
     let mut line = [0u8; LINE];
     let n = output::refusal_line(w, &mut line);
-    let ended = output::put(&line[..n]);
-    explain(of, ended, table, sheet);
+    let ended = output::put(sys, &line[..n]);
+    explain(sys, of, ended, table, sheet);
     ended
 }
 
 // What was written before an error stays written: the message is all that can be said.
-pub fn unwritten() {
-    os::fail(b"keravnoth: writing");
+pub fn unwritten(sys: &System) {
+    sys.fail(b"keravnoth: writing");
 }
 
 // What came of it where all was written. That it was not is said.
-pub fn told(all: bool, ended: Ended) -> Ended {
+pub fn told(sys: &System, all: bool, ended: Ended) -> Ended {
     if all {
         return ended;
     }
-    unwritten();
+    unwritten(sys);
     Ended::Failed
 }
 
 // Whether a text was written to its end. That it was not is said.
-pub fn written(text: &[u8]) -> bool {
-    if io::write_all(STDOUT_FILENO, text) {
+pub fn written(sys: &System, text: &[u8]) -> bool {
+    if sys.print(text) {
         return true;
     }
-    unwritten();
+    unwritten(sys);
     false
 }
 

@@ -13,41 +13,44 @@ use command::options::Command;
 use command::{input, options};
 use output::Ended;
 use refusals::Written;
+use system::System;
 use tidyfields::trimmed;
 
 // Room for the longest text that `tidy` writes.
 const ROOM: usize = tidy::BYTES_MOST;
 
 // Obeys the word `tidy`: the text that an argument names, where no table has to stand.
-pub fn obey(at: usize, command: Command) -> Ended {
-    if !options::only(command, false, false, false) || !options::can_read(command, 0, at) {
+pub fn obey(sys: &System, at: usize, command: Command) -> Ended {
+    if !options::only(sys, command, false, false, false)
+        || !options::can_read(sys, command, 0, at)
+    {
         return Ended::Failed;
     }
     let mut text = input::room();
     let mut out = [0u8; ROOM];
-    print(at, &mut text, &mut out)
+    print(sys, at, &mut text, &mut out)
 }
 
-fn print(at: usize, text: &mut [u8], out: &mut [u8]) -> Ended {
-    let read = input::table(at, text);
+fn print(sys: &System, at: usize, text: &mut [u8], out: &mut [u8]) -> Ended {
+    let read = input::table(sys, at, text);
     if read.failed {
         return Ended::Failed;
     }
     let n = read.count;
-    print_tidy(&text[..n], out)
+    print_tidy(sys, &text[..n], out)
 }
 
-fn print_tidy(text: &[u8], out: &mut [u8]) -> Ended {
+fn print_tidy(sys: &System, text: &[u8], out: &mut [u8]) -> Ended {
     match tidy::tidy(text, out) {
         Written::Bytes(k) => {
             let n = output::cut(k, out);
-            if !telling::written(&out[..n]) {
+            if !telling::written(sys, &out[..n]) {
                 return Ended::Failed;
             }
             tell(text, &out[..n]);
             Ended::Answered
         }
-        Written::Refused(w) => telling::refuse(b"", w, text, b""),
+        Written::Refused(w) => telling::refuse(sys, b"", w, text, b""),
     }
 }
 

@@ -1,7 +1,7 @@
 // The words, one form to a line, and how many are told.
 ghost use Rattle.io.specs.Counts.{IsPrefixLen};
 
-use libc::STDERR_FILENO;
+use system::STDERR;
 
 // The forms, by their lines in `put`.
 pub const UTF16: usize = 0;
@@ -84,7 +84,7 @@ const TOLD_MOST: usize = 200;
 // Tells a line where not too many were told. The answer counts it.
 pub fn tell(words: &[u8], told: usize) -> usize {
     if told < TOLD_MOST {
-        io::write_all(STDERR_FILENO, words);
+        io::write_all(STDERR, words);
     }
     next(told)
 }

@@ -39,14 +39,14 @@ overflow_add-k c = omega (arith, c.if-k-ge-HOURS_MOST.false)
 
 pub loop-i-preserved : goal.loop-i-preserved
 loop-i-preserved c = record {
-      few = omega (arith, c.if-k-ge-HOURS_MOST.false);
-      name_long = c.arg-n.auto.buf ∙ c.loop-i.invariant.name_long;
-      text-long = c.read_hour-hour.auto.text ∙ c.loop-i.invariant.text-long;
-      hours-long = simp length-set c.loop-i.invariant.hours-long;
-      ways_long = c.read_hour-hour.auto.ways ∙ c.loop-i.invariant.ways_long;
-      atcs_long = c.read_hour-hour.auto.atcs ∙ c.loop-i.invariant.atcs_long;
-      day = day_more c.args.all c.args.marks.now c.loop-i.invariant.day (omega (arith, c.loop-i.invariant.hours-long, c.requires.0, c.if-k-ge-HOURS_MOST.false)) c.read_hour-hour.ensures;
-    }
+  few = omega (arith, c.if-k-ge-HOURS_MOST.false);
+  name_long = c.arg-n.auto.buf ∙ c.loop-i.invariant.name_long;
+  text-long = c.read_hour-hour.auto.text ∙ c.loop-i.invariant.text-long;
+  hours-long = simp length-set c.loop-i.invariant.hours-long;
+  ways_long = c.read_hour-hour.auto.ways ∙ c.loop-i.invariant.ways_long;
+  atcs_long = c.read_hour-hour.auto.atcs ∙ c.loop-i.invariant.atcs_long;
+  day = day_more c.args.all c.args.marks.now c.loop-i.invariant.day (omega (arith, c.loop-i.invariant.hours-long, c.requires.0, c.if-k-ge-HOURS_MOST.false)) c.read_hour-hour.ensures;
+}
 
 pub shape_of-name : goal.shape_of-name
 shape_of-name c = c.loop-i.invariant.name_long
