@@ -20,11 +20,11 @@ pub overflow_cast-rows : goal.overflow_cast-rows
 overflow_cast-rows c = natural_cast _ _ c.rows-1.given (header_numbers _ _ _ (ap (λ (f : Fields). stored f c.optional_at.new.out) (sym c.in-End.is) ∙ c.optional_at.ensures)).rows
 
 pub returns-then-fits : goal.returns-then-fits
-returns-then-fits c = let read = ap (λ (f : Fields). stored f c.optional_at.last.1.1.1.1.1.0) (sym c.in-End.is) ∙ c.optional_at.ensures in
+returns-then-fits c = let read = ap (λ (f : Fields). stored f c.optional_at.new.out) (sym c.in-End.is) ∙ c.optional_at.ensures in
     simp (plain, c.zones-1.given, c.borders-1.given, c.rows-1.given, c.share-1.given)
     (header_holds _ _ _ read (sym (simp (plain, c.zones-1.given, c.borders-1.given, c.rows-1.given, c.share-1.given) at c.fits.ensures) ∙ c.if-fits.true))
 
 pub returns : goal.returns
-returns c = let read = ap (λ (f : Fields). stored f c.optional_at.last.1.1.1.1.1.0) (sym c.in-End.is) ∙ c.optional_at.ensures in
+returns c = let read = ap (λ (f : Fields). stored f c.optional_at.new.out) (sym c.in-End.is) ∙ c.optional_at.ensures in
     ap range (simp (c.tests-tests.ensures, plain, c.zones-1.given, c.borders-1.given, c.rows-1.given, c.share-1.given) at c.range_byte.ensures)
     ∙ header_range _ _ _ read (sym (simp (plain, c.zones-1.given, c.borders-1.given, c.rows-1.given, c.share-1.given) at c.fits.ensures) ∙ c.if-fits.false)

@@ -10,21 +10,24 @@ use Rattle.text.specs.Line.{form, range}
 use Rattle.lines.proofs.RowJudge.{row_form, row_holds, row_range}
 use Rattle.lines.proofs.row.row_read.Goals as goal
 
-read : (o : goal.After-row_at) (r : Fields) → o.row_at.result ≡ r → stored r (o.row_at.new.raw ++ o.row_at.new.f) ≡ values_by o.args.kind (length o.args.f.now) o.args.line.now o.args.i
-read o r e = sym (ap (λ (f : Fields). stored f (o.row_at.new.raw ++ o.row_at.new.f)) e) ∙ o.row_at.ensures
-
 pub row_bad-requires : goal.row_bad-requires
 row_bad-requires c = c.requires.1
 
 pub returns-in_default : goal.returns-in_default
-returns-in_default c = ap form c.row_bad.ensures ∙ sym (row_form c.args.kind (length c.args.f.now) c.args.line.now c.args.i _ (read c.before.before.before.before _ c.in_default.is))
+returns-in_default c =
+    let read : (r : Fields) → c.row_at.result ≡ r → stored r (c.row_at.new.raw ++ c.row_at.new.f) ≡ values_by c.args.kind (length c.args.f.now) c.args.line.now c.args.i = λ r e. sym (ap (λ (f : Fields). stored f (c.row_at.new.raw ++ c.row_at.new.f)) e) ∙ c.row_at.ensures in
+    ap form c.row_bad.ensures ∙ sym (row_form c.args.kind (length c.args.f.now) c.args.line.now c.args.i _ (read _ c.in_default.is))
 
 pub returns-then-row_good : goal.returns-then-row_good
-returns-then-row_good c = sym (row_holds c.args.kind (length c.args.f.now) c.args.line.now c.args.i c.row_at.last.1.1.1.0 c.row_at.last.1.1.1.1.0 c.row_at.auto.raw _ (read c.before.before.before.before.before _ c.in-End.is) (sym c.row_good.ensures ∙ c.if-row_good.true))
+returns-then-row_good c =
+    let read : (r : Fields) → c.row_at.result ≡ r → stored r (c.row_at.new.raw ++ c.row_at.new.f) ≡ values_by c.args.kind (length c.args.f.now) c.args.line.now c.args.i = λ r e. sym (ap (λ (f : Fields). stored f (c.row_at.new.raw ++ c.row_at.new.f)) e) ∙ c.row_at.ensures in
+    sym (row_holds c.args.kind (length c.args.f.now) c.args.line.now c.args.i c.row_at.new.raw c.row_at.new.f c.row_at.auto.raw _ (read _ c.in-End.is) (sym c.row_good.ensures ∙ c.if-row_good.true))
 
 pub row_out-requires : goal.row_out-requires
 row_out-requires c = omega (arith, c.row_at.auto.f, c.requires.1)
 
 pub returns : goal.returns
-returns c = ap range c.row_out.ensures
-    ∙ sym (row_range c.args.kind (length c.args.f.now) c.args.line.now c.args.i c.row_at.last.1.1.1.0 c.row_at.last.1.1.1.1.0 c.row_at.auto.raw _ (read c.before.before.before.before.before.before _ c.in-End.is) (sym c.row_good.ensures ∙ c.if-row_good.false))
+returns c =
+    let read : (r : Fields) → c.row_at.result ≡ r → stored r (c.row_at.new.raw ++ c.row_at.new.f) ≡ values_by c.args.kind (length c.args.f.now) c.args.line.now c.args.i = λ r e. sym (ap (λ (f : Fields). stored f (c.row_at.new.raw ++ c.row_at.new.f)) e) ∙ c.row_at.ensures in
+    ap range c.row_out.ensures
+    ∙ sym (row_range c.args.kind (length c.args.f.now) c.args.line.now c.args.i c.row_at.new.raw c.row_at.new.f c.row_at.auto.raw _ (read _ c.in-End.is) (sym c.row_good.ensures ∙ c.if-row_good.false))

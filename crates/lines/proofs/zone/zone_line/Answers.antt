@@ -13,7 +13,7 @@ returns-in_default c = ap form c.line_byte.ensures ∙ zone_form _ _ _ _ (ap (λ
 
 pub returns-in_default-of : goal.returns-in_default-of
 returns-in_default-of c = ap range (simp (c.tests-tests.ensures, plain, c.net-1.given) at c.range_byte.ensures)
-    ∙ zone_range _ _ _ c.line_at.last.1.1.1.1.0 _ (ap (λ (f : Fields). stored f c.line_at.last.1.1.1.1.0) (sym c.in-End.is) ∙ c.line_at.ensures) (zone_out_lem _ (simp (plain, c.net-1.given) at (sym c.of.ensures ∙ c.in_default-of.is)))
+    ∙ zone_range _ _ _ c.line_at.new.out _ (ap (λ (f : Fields). stored f c.line_at.new.out) (sym c.in-End.is) ∙ c.line_at.ensures) (zone_out_lem _ (simp (plain, c.net-1.given) at (sym c.of.ensures ∙ c.in_default-of.is)))
 
 pub returns : goal.returns
 returns c = simp (plain, c.net-1.given) (zone_holds _ _ _ c.line_at.new.out _ (ap (λ (f : Fields). stored f c.line_at.new.out) (sym c.in-End.is) ∙ c.line_at.ensures) (zone_good _ _ (simp (plain, c.net-1.given) at (sym c.of.ensures ∙ c.in-Good.is))))
