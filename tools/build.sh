@@ -4,10 +4,10 @@
 : "${name:?}" "${here:?}"
 # shellcheck source=tools/kit.sh
 . "$here/tools/kit.sh"
-# shellcheck source=tools/scratch.sh
-. "$here/tools/scratch.sh"
 
 programs=$here/target/bin
+# The static library of the calls for C is a crate of its own, over crate cabi.
+library_crate=cabi_c
 library=$here/target/lib/libkeravnoth.a
 shared=$here/target/lib/libkeravnoth.so
 # The shared library's name bears the interface's major number: a program asks the loader for that one.
@@ -31,7 +31,7 @@ reached_by() { # CRATE
             print crate ":" named[crate]
         }
         { sub(/#.*/, ""); gsub(/[ \t]+/, " ") }
-        split($0, part, / ?: ?/) == 2 { named[part[1]] = part[2] }
+        split($0, part, / ?: ?/) == 2 { sub(/ .*/, "", part[1]); named[part[1]] = part[2] }
         END { visit(wanted) }' "$here/crates.txt"
 }
 
@@ -41,7 +41,7 @@ sum_of() { # CRATE
     {
         echo "$reached"
         # shellcheck disable=SC2046 # a crate's name is one word
-        (cd "$here/crates" && find $(echo "$reached" | sed 's/:.*//') -type f ! -name '.*' \
+        (cd "$here/crates" && find $(echo "$reached" | sed 's/:.*//') -name out -prune -o -type f ! -name '.*' \
             \( -path '*/src/*.rt' -o -path '*/specs/*.antt' -o -path '*/proofs/*.antt' \) -exec sha256sum {} +) | LC_ALL=C sort
     } | sha256sum | cut -d ' ' -f 1
 }
@@ -58,7 +58,7 @@ build_program() { # CRATE
 }
 
 build_library() {
-    is_built cabi "$library" || alone cabi "$library" make_library
+    is_built $library_crate "$library" || alone $library_crate "$library" make_library
     is_linked || link_shared
 }
 
@@ -89,13 +89,8 @@ alone() { # CRATE FILE MAKE
     }
     if ! is_built "$1" "$2"; then
         sum=$(sum_of "$1")
-        say "proving and building $(basename "$2"), some $(minutes "$(by_the_clock "$(recorded "$(reached_by "$1" | sed 's/:.*//')")")") min where nothing is proved yet; the kit's notes go to $log"
-        trap remove_scratch EXIT
-        trap 'exit 3' HUP INT TERM
-        make_scratch
-        "$3" "$1" || cannot "$(basename "$2") is not proved, so it is not built: see $log"
-        remove_scratch
-        trap - EXIT HUP INT TERM
+        say "proving and building $(basename "$2"), some $(minutes "$(recorded "$(reached_by "$1" | sed 's/:.*//')")") min where nothing is proved yet; the kit's notes go to $log"
+        "$3" "$1" "$2" || cannot "$(basename "$2") is not proved, so it is not built: see $log"
         # Any kit will do: proved is proved in its logic, which is kept beside what was built.
         "$kit/bin/rt" version >"$2.proved"
         # The files that were there when the build began: one that was changed meanwhile is built the next time.
@@ -105,33 +100,62 @@ alone() { # CRATE FILE MAKE
     exec 9>&-
 }
 
-make_program() { # CRATE
-    # The kit builds nothing for a crate that it finds stamped as proved: the stamp goes where the program is gone, or is another.
-    if [ ! -x "$programs/$1" ] || { [ -e "$programs/$1.sum" ] && ! grep -q " $(file_sum "$programs/$1")\$" "$programs/$1.sum"; }; then
-        rm -f "$here/target/stamp/$1"
+# Puts a file that was built in the place of another, whole or not at all.
+put_built() { # FROM TO
+    cp "$1" "$2.$$" && mv -f "$2.$$" "$2"
+}
+
+make_program() { # CRATE FILE
+    # Where `rt ci` has just passed, as .ci/run says, it has proved this program, and built it from what stands here.
+    if [ -z "${OVER_RT_CI:-}" ] || [ ! -x "$here/crates/$1/out/$1" ]; then
+        # rt starts what it has built: this asks for its version.
+        with_progress "$1" "$kit/bin/rt" run -- --version || return
     fi
-    # In the order of crates.txt, where crates of a level that take about the same stand side by side: rt starts them in the order in which they are named.
-    # shellcheck disable=SC2046 # a crate's name is one word
-    with_progress "$1" check $(reached_by "$1" | sed 's/:.*//' | in_order)
+    put_built "$here/crates/$1/out/$1" "$2"
 }
 
-# Sorts names of crates as crates.txt lists them.
-in_order() {
-    awk 'NR == FNR { wanted[$1] = 1; next } { sub(/[ \t]*:.*/, "") } $1 in wanted { print $1 }' - "$here/crates.txt"
+make_library() { # CRATE FILE
+    # `rt ci` proves a static library and compiles none. Those below it stand where it built them, but rt itself would prove them once more.
+    if [ -n "${OVER_RT_CI:-}" ] && built_by_rt_ci "$1"; then
+        with_progress "$1" over_libraries "$1" "$toolchain" "out/lib$1.a" || return
+    else
+        with_progress "$1" "$kit/bin/rt" lib || return
+    fi
+    put_built "$here/crates/$1/out/lib$1.a" "$2"
 }
 
-make_library() { # CRATE
-    with_progress "$1" staticlib "$1" && cp "$here/target/staticlib/lib$1.a" "$library"
+# Whether the libraries below a crate are all those of `rt ci`: rt's other commands leave a stamp beside each that they build.
+built_by_rt_ci() { # CRATE
+    for one in $(reached_by "$1" | sed 's/:.*//'); do
+        [ "$one" = "$1" ] || { [ -e "$here/crates/$one/out/rlib/$one.rlib/format" ] && [ ! -e "$here/crates/$one/out/rlib/stamp" ]; } || return
+    done
 }
 
-# Runs rt with its words in the log, and tells each crate as it is done.
-with_progress() { # CRATE WORDS-FOR-RT..
+# Proves a static library over the libraries that stand built below it, and compiles it, as `rt lib` does that builds those first. In the crate's folder.
+over_libraries() { # CRATE TOOLCHAIN OUT
+    reached=$(reached_by "$1")
+    crate=$1 tools=$2 out=$3
+    set -- --crate-name "$crate" src/lib.rt --crate-type staticlib --links "$crate=" --extern "std=$kit/rlibs/std.rlib" -L "dependency=$kit/rlibs"
+    for one in $(echo "$reached" | sed -n "s/^$crate://p"); do
+        set -- "$@" --extern "$one=$here/crates/$one/out/rlib/$one.rlib"
+    done
+    for one in $(echo "$reached" | sed 's/:.*//'); do
+        [ "$one" = "$crate" ] || set -- "$@" -L "dependency=$here/crates/$one/out/rlib"
+    done
+    mkdir -p out
+    "$kit/bin/rattle" build "$@" --antt-project "$kit/rattle/logic/antt-project.json" --logic-built "$kit/logic_built" --jobs 2 \
+        --backend llvm --toolchain "$tools" -o "$out"
+}
+
+# Runs a command that proves in the crate's folder, with its words in the log, and tells each crate as it is done.
+with_progress() { # CRATE COMMAND..
     reached=$(reached_by "$1" | sed 's/:.*//')
+    folder=$here/crates/$1
     shift
     # Not on this script's standard input, which is the table.
     {
-        (cd "$here" && TMPDIR=${scratch:-${TMPDIR:-/tmp}} "$kit/bin/rt" "$@" </dev/null 2>&1)
-        echo "rt ended with $?"
+        (cd "$folder" && "$@" </dev/null 2>&1)
+        echo "the kit ended with $?"
     } | tell_progress
 }
 
@@ -144,45 +168,39 @@ minutes() { # SECONDS
     echo $((($1 + 59) / 60))
 }
 
-# So many recorded seconds, by the clock of two processors: rt proves level by level, and the last crates of a level leave one idle.
-by_the_clock() { # SECONDS
-    echo $(($1 * 3 / 5))
-}
-
-# How long what is left may take: as much by the clock for each recorded second as the batches before took, where these tell enough.
+# How long what is left may take: as much by the clock for each recorded second as the crates before took, where these tell enough.
 time_left() { # SECONDS
-    if [ "$measured" -gt 60 ]; then set -- "$(($1 * clock / measured))"; else set -- "$(by_the_clock "$1")"; fi
+    if [ "$measured" -gt 60 ]; then set -- "$(($1 * clock / measured))"; fi
     [ "$1" -eq 0 ] || echo "; some $(minutes "$1") min left"
 }
 
 tell_progress() {
     all=$(echo "$reached" | wc -l) rest=$(recorded "$reached")
-    done=0 seen=0 measured=0 clock=0 began=$(date +%s) status=1
-    last=$began
+    done=0 measured=0 clock=0 kept=' ' status=1
+    last=$(date +%s)
     while IFS= read -r line; do
         echo "$line" >&3
         case $line in
-        'rt: '*' proved ('* | 'rt: target/staticlib/lib'*)
-            done=$((done + 1)) now=$(date +%s)
-            # rt tells the crates of a batch one after another once all are done: a pause ends the batch before.
-            [ "$now" -le $((last + 1)) ] || measured=$seen clock=$((last - began))
-            crate=${line#rt: } took=${line##*\(}
-            crate=${crate%% *}
-            case $line in
-            *' (unchanged '*) took='0 s, proved before' ;;
-            *staticlib*) crate=cabi took="$((now - last)) s" ;;
-            esac
+        # The check of another copy of the repository is begun with, which is nearly all of the work.
+        'rt: '*': begins with what a check kept in '*)
+            crate=${line#rt: } crate=${crate%%:*}
+            kept="$kept$crate " done=$((done + 1)) last=$(date +%s)
             its=$(recorded "$crate")
             rest=$((rest - its))
-            case $took in
-            *before) ;;
-            *) seen=$((seen + its)) ;;
+            say "$done of $all, $crate, proved before$(time_left "$rest")"
+            ;;
+        'crate '*': modules loaded='*)
+            crate=${line#crate } crate=${crate%%:*} now=$(date +%s)
+            case $kept in
+            *" $crate "*) last=$now && continue ;;
             esac
-            say "$done of $all, $crate, ${took%\)}$(time_left "$rest")"
+            done=$((done + 1)) its=$(recorded "$crate")
+            rest=$((rest - its)) measured=$((measured + its)) clock=$((clock + now - last))
+            say "$done of $all, $crate, $((now - last)) s$(time_left "$rest")"
             last=$now
             ;;
-        'rt: '*'NOT PROVED'* | 'rt: FAILED'*) say "${line#rt: }" ;;
-        'rt ended with '*) status=${line##* } ;;
+        'fn '*': not proved'* | 'fn '*': no proof'* | 'rt: the library '*' did not build'*) say "${line#rt: }" ;;
+        'the kit ended with '*) status=${line##* } ;;
         esac
     done 3>"$log"
     return "$status"

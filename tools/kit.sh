@@ -4,7 +4,7 @@
 kit='' toolchain=''
 no_kit='the Rattle kit is not found: put its rt on the path, or set RATTLE_HOME to its folder'
 
-# Sets kit, the kit's folder, and toolchain, its programs and libraries for this machine; false where there is none.
+# Sets kit, the kit's folder, and toolchain, its compiler, its linker and the C library that it links with; false where there is none.
 # The kit is RATTLE_HOME where that is set, else that of the `rt` on the path, else the one that a build left in the file named.
 find_kit() { # FILE
     if [ -n "${RATTLE_HOME:-}" ]; then
@@ -16,7 +16,7 @@ find_kit() { # FILE
     else
         return 1
     fi
-    toolchain=$kit/on/$(uname -m)/toolchain
+    toolchain=$kit/toolchain
     [ -x "$kit/bin/rt" ] && [ -d "$toolchain" ]
 }
 
@@ -28,12 +28,15 @@ need_kit() { # SCRIPT
     }
 }
 
-# Starts a program of x86-64 code by `how` (exec, or a function that ends so): in the kit's emulator where this machine is another.
+# The name of a program that runs x86-64 code on another machine; false where there is none. The kit has none.
+emulator() { command -v qemu-x86_64 || command -v qemu-x86_64-static; }
+
+# Starts a program of x86-64 code by `how` (exec, or a function that ends so): in an emulator where this machine is another.
 # The kit's loader by name: the C library that the program was linked with is the kit's, not one of this machine.
 on_x86_64() { # HOW PROGRAM ARGUMENTS..
     how=$1
     shift
     set -- "$toolchain/lib/ld-linux-x86-64.so.2" --library-path "$toolchain/lib" "$@"
-    if [ -x "$toolchain/bin/qemu-x86_64" ]; then set -- "$toolchain/bin/qemu-x86_64" "$@"; fi
+    if [ "$(uname -m)" != x86_64 ]; then set -- "$(emulator)" "$@"; fi
     "$how" "$@"
 }

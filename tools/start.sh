@@ -19,7 +19,11 @@ start() { # NAME REMEMBERED-KIT FOLDER ARGUMENTS..
     for one in keravnoth further; do
         ready "$one"
         if [ ! -d "${toolchain:-}" ] && ! find_kit "$remembered" && [ "$(uname -m)" != x86_64 ]; then
-            echo "$name: the program is for x86-64, and this machine runs it in the kit's emulator: ${no_kit:?}" >&2
+            echo "$name: the program is for x86-64, and this machine runs it with the kit's C library: ${no_kit:?}" >&2
+            exit 3
+        fi
+        if [ "$(uname -m)" != x86_64 ] && ! emulator >/dev/null; then
+            echo "$name: the program is for x86-64, and this machine runs it in an emulator: qemu-x86_64 is not on the path" >&2
             exit 3
         fi
         start_one "$folder/$one" "$@"

@@ -1,7 +1,5 @@
-// The open calls for C and everything that speaks C: include/keravnoth.h. Each calls its namesake and codes the answer.
-// C hands a slice over as a pointer and the count of its items, and a header by value. Any input has an answer: there is no `requires`.
-// A call's symbol bears the interface's major number, so that an object that was compiled against another header does not link; the header gives the call
-// its name without it. The version alone can be asked of every library.
+// The open calls for C and everything that speaks C: include/keravnoth.h. Each calls its namesake and codes the answer. Crate cabi_c gives them out as symbols,
+// each with the clauses that stand here. Any input has an answer: there is no `requires`.
 #![tactic(auto)]
 
 ghost use Rattle.std.specs.Prelude.{◌≡◌, true, false, []};
@@ -35,16 +33,14 @@ use partrules::PartsRecord;
 use types::{BorderRecord, Header, RowRecord};
 
 // The interface's version.
-#[unsafe(no_mangle)]
-pub extern "C" fn keravnoth_version() -> u32
+pub fn keravnoth_version() -> u32
     ensures { result ≡ version }
 {
     10000
 }
 
 // Reads a table's text into z, t, b, c and f.
-#[unsafe(no_mangle)]
-pub extern "C" fn keravnoth_1_read(
+pub fn keravnoth_1_read(
     text: &[u8],
     z: &mut [i64],
     t: &mut [i64],
@@ -58,8 +54,7 @@ pub extern "C" fn keravnoth_1_read(
 }
 
 // Reads a table's text, as a sheet of corrected rows corrects it, into z, t, b, c and f.
-#[unsafe(no_mangle)]
-pub extern "C" fn keravnoth_1_read_corrected<'a>(
+pub fn keravnoth_1_read_corrected<'a>(
     text: &'a [u8],
     sheet: &'a [u8],
     z: &mut [i64],
@@ -74,8 +69,7 @@ pub extern "C" fn keravnoth_1_read_corrected<'a>(
 }
 
 // Writes the tables as text.
-#[unsafe(no_mangle)]
-pub extern "C" fn keravnoth_1_write(
+pub fn keravnoth_1_write(
     h: Header,
     z: &[i64],
     t: &[i64],
@@ -90,8 +84,7 @@ pub extern "C" fn keravnoth_1_write(
 }
 
 // From text to text: the table as the sheet corrects it, written again.
-#[unsafe(no_mangle)]
-pub extern "C" fn keravnoth_1_rewrite_corrected<'a>(
+pub fn keravnoth_1_rewrite_corrected<'a>(
     text: &'a [u8],
     sheet: &'a [u8],
     out: &mut [u8],
@@ -102,8 +95,7 @@ pub extern "C" fn keravnoth_1_rewrite_corrected<'a>(
 }
 
 // Capacities and margins from the tables, and p of each row at each border.
-#[unsafe(no_mangle)]
-pub extern "C" fn keravnoth_1_extract(
+pub fn keravnoth_1_extract(
     h: Header,
     z: &[i64],
     t: &[i64],
@@ -120,8 +112,7 @@ pub extern "C" fn keravnoth_1_extract(
 }
 
 // Capacities and margins where only the marked borders may rise.
-#[unsafe(no_mangle)]
-pub extern "C" fn keravnoth_1_extract_marked(
+pub fn keravnoth_1_extract_marked(
     h: Header,
     z: &[i64],
     t: &[i64],
@@ -139,8 +130,7 @@ pub extern "C" fn keravnoth_1_extract_marked(
 }
 
 // The extraction as text.
-#[unsafe(no_mangle)]
-pub extern "C" fn keravnoth_1_result_text(
+pub fn keravnoth_1_result_text(
     h: Header,
     z: &[i64],
     t: &[i64],
@@ -155,8 +145,7 @@ pub extern "C" fn keravnoth_1_result_text(
 }
 
 // The extraction as text, where only the marked borders may rise.
-#[unsafe(no_mangle)]
-pub extern "C" fn keravnoth_1_result_text_marked(
+pub fn keravnoth_1_result_text_marked(
     h: Header,
     z: &[i64],
     t: &[i64],
@@ -172,28 +161,21 @@ pub extern "C" fn keravnoth_1_result_text_marked(
 }
 
 // From text to text: the result text, or the E line; and which of them it is.
-#[unsafe(no_mangle)]
-pub extern "C" fn keravnoth_1_answer(text: &[u8], out: &mut [u8]) -> KeravnothAnswered
+pub fn keravnoth_1_answer(text: &[u8], out: &mut [u8]) -> KeravnothAnswered
     ensures { answered_found result out.new ≡ answered_coded (answer_left text.now out.old) (told_for true [] text.now) }
 {
     coded::code_answered(answer::answer(text, out))
 }
 
 // From text to text, where only the marked borders may rise.
-#[unsafe(no_mangle)]
-pub extern "C" fn keravnoth_1_answer_marked(
-    text: &[u8],
-    marks: &[u64],
-    out: &mut [u8],
-) -> KeravnothAnswered
+pub fn keravnoth_1_answer_marked(text: &[u8], marks: &[u64], out: &mut [u8]) -> KeravnothAnswered
     ensures { answered_found result out.new ≡ answered_coded (answer_marked_left text.now marks.now out.old) (told_for false marks.now text.now) }
 {
     coded::code_answered(answer::answer_marked(text, marks, out))
 }
 
 // From text to text, of the table as the sheet corrects it.
-#[unsafe(no_mangle)]
-pub extern "C" fn keravnoth_1_answer_corrected<'a>(
+pub fn keravnoth_1_answer_corrected<'a>(
     text: &'a [u8],
     sheet: &'a [u8],
     out: &mut [u8],
@@ -204,8 +186,7 @@ pub extern "C" fn keravnoth_1_answer_corrected<'a>(
 }
 
 // The flows of all corners on one row.
-#[unsafe(no_mangle)]
-pub extern "C" fn keravnoth_1_corner_flows(
+pub fn keravnoth_1_corner_flows(
     h: Header,
     z: &[i64],
     t: &[i64],
@@ -221,8 +202,7 @@ pub extern "C" fn keravnoth_1_corner_flows(
 }
 
 // The flows of all corners on one row, as text.
-#[unsafe(no_mangle)]
-pub extern "C" fn keravnoth_1_corner_text(
+pub fn keravnoth_1_corner_text(
     h: Header,
     z: &[i64],
     t: &[i64],
@@ -238,8 +218,7 @@ pub extern "C" fn keravnoth_1_corner_text(
 }
 
 // Whether each claim is well formed and borne out.
-#[unsafe(no_mangle)]
-pub extern "C" fn keravnoth_1_claims(
+pub fn keravnoth_1_claims(
     h: Header,
     z: &[i64],
     t: &[i64],
@@ -254,8 +233,7 @@ pub extern "C" fn keravnoth_1_claims(
 }
 
 // The published list of the claims that a text holds.
-#[unsafe(no_mangle)]
-pub extern "C" fn keravnoth_1_published_text(
+pub fn keravnoth_1_published_text(
     h: Header,
     z: &[i64],
     t: &[i64],
@@ -271,8 +249,7 @@ pub extern "C" fn keravnoth_1_published_text(
 }
 
 // Reads the rows of the planners' sheet into c and f.
-#[unsafe(no_mangle)]
-pub extern "C" fn keravnoth_1_read_rows(
+pub fn keravnoth_1_read_rows(
     h: Header,
     sheet: &[u8],
     c: &mut [RowRecord],
@@ -284,8 +261,7 @@ pub extern "C" fn keravnoth_1_read_rows(
 }
 
 // Writes rows as the planners' sheet.
-#[unsafe(no_mangle)]
-pub extern "C" fn keravnoth_1_write_rows(
+pub fn keravnoth_1_write_rows(
     h: Header,
     c: &[RowRecord],
     f: &[i64],
@@ -297,8 +273,7 @@ pub extern "C" fn keravnoth_1_write_rows(
 }
 
 // How many rounds the tables can take at most.
-#[unsafe(no_mangle)]
-pub extern "C" fn keravnoth_1_bound(
+pub fn keravnoth_1_bound(
     h: Header,
     z: &[i64],
     t: &[i64],
@@ -312,8 +287,7 @@ pub extern "C" fn keravnoth_1_bound(
 }
 
 // How many rounds the tables can take at most where only the marked borders rise.
-#[unsafe(no_mangle)]
-pub extern "C" fn keravnoth_1_bound_marked(
+pub fn keravnoth_1_bound_marked(
     h: Header,
     z: &[i64],
     t: &[i64],
@@ -328,8 +302,7 @@ pub extern "C" fn keravnoth_1_bound_marked(
 }
 
 // What the margin of each row is made of.
-#[unsafe(no_mangle)]
-pub extern "C" fn keravnoth_1_margins(
+pub fn keravnoth_1_margins(
     h: Header,
     z: &[i64],
     t: &[i64],
@@ -344,8 +317,7 @@ pub extern "C" fn keravnoth_1_margins(
 }
 
 // Why a border got no more, and p of each row at each border.
-#[unsafe(no_mangle)]
-pub extern "C" fn keravnoth_1_why(
+pub fn keravnoth_1_why(
     h: Header,
     z: &[i64],
     t: &[i64],
@@ -363,8 +335,7 @@ pub extern "C" fn keravnoth_1_why(
 }
 
 // The same where only marked borders rise.
-#[unsafe(no_mangle)]
-pub extern "C" fn keravnoth_1_why_marked(
+pub fn keravnoth_1_why_marked(
     h: Header,
     z: &[i64],
     t: &[i64],
@@ -385,8 +356,7 @@ pub extern "C" fn keravnoth_1_why_marked(
 }
 
 // What a refusal's number means, in words.
-#[unsafe(no_mangle)]
-pub extern "C" fn keravnoth_1_refusal_text(number: u64, out: &mut [u8]) -> KeravnothWritten
+pub fn keravnoth_1_refusal_text(number: u64, out: &mut [u8]) -> KeravnothWritten
     ensures { text_found result out.new ≡ text_coded (meaning_left number out.old) }
 {
     coded::code_written(meanings::refusal_text(number, out))
