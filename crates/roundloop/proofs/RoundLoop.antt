@@ -7,7 +7,7 @@ use Prim.Native.Nat.{ℕ, suc, ◌+◌, ◌*◌, ◌^◌, ◌≤◌, ◌<◌}
 use native.Mathlib.Nat.{le_trans, zero-add, add-zero, mul-le-mul_right, one-mul}
 use native.Mathlib.Numerals.{add-one}
 use native.Mathlib.Omega.{arith}
-use lib.ListN.{length, take, drop, set, take-append-drop}
+use lib.ListN.{length, take, drop, take-append-drop}
 use lib.Seq.{length-take-le, length_front, take_at, drop_at, get_or-take}
 use Rattle.numbers.specs.Below.{if_zero, sum, count, table, at, over}
 use Rattle.numbers.proofs.BelowLaws.{sum_cong, sum_term, count_pos, table_long, table_get, table_cong}

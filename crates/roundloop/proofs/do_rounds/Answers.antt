@@ -1,15 +1,16 @@
 use mathlib.Core.Path.{◌≡◌, sym, ap, ◌∙◌}
-use mathlib.Core.Bool.{Bool, true, false, not}
+use mathlib.Core.Bool.{Bool, true, not}
 use native.Mathlib.Omega.{arith}
 use Rattle.rounds.specs.AllRounds.{flat}
 use Rattle.resting.proofs.WalkLaws.{waiting_settleable}
 use Rattle.roundloop.proofs.RoundLoop.{front_long, turn_few}
 use Rattle.roundloop.proofs.TurnLaws.{past, Found, found_start, found_renewed, found_long, found_noted, found_listed, found_some, found_none, found_turn, found_end, found_risable, found_walkable, found_next, found_less}
 use Rattle.roundloop.proofs.do_rounds.Goals as goal
+use Rattle.roundloop.proofs.do_rounds.Goals.{Else-not-rises}
 
 -- past the test the round raises a border
-past_test : {r : Bool} → not r ≡ false → r ≡ true
-past_test = past _ _ (λ e. ap (λ (r : Bool). not r) e)
+past_test : (c : Else-not-rises) → c.rises.result ≡ true
+past_test c = past _ _ (λ e. ap (λ (r : Bool). not r) e) c.if-not-rises.false-raw
 
 pub begin-requires : goal.begin-requires
 begin-requires c = record { borders_in_bounds = c.requires.borders_in_bounds; ready = c.requires.startable.ready; rising_len = (c.requires.rising_len.0, c.requires.gained_len.1) }
@@ -30,7 +31,7 @@ settle-requires c = record { borders_in_bounds = c.requires.borders_in_bounds; s
 pub overflow_add-done : goal.overflow_add-done
 overflow_add-done c = let renewed : Found (flat c.args.rows c.args.borders c.args.p.now) c.args.ns.now c.args.margins.now c.args.start c.args.near.now c.renew-block.new.margins c.loop-block.x c.loop-block.lasts c.renew-block.new.gained c.loop-block.caps c.renew-block.new.rising c.renew-block.result.live c.renew-block.new.near c.renew-block.result.count c.renew-block.result.wait c.loop-block.done = found_renewed c.loop-block.invariant c.renew-block.ensures in
     let u = renewed in
-    let h = found_some u c.rises.ensures (past_test c.if-not-rises.false-raw) in
+    let h = found_some u c.rises.ensures (past_test (goal.at.overflow_add-done c).Else-not-rises) in
     omega (arith, turn_few (found_turn u c.requires.startable) (λ z. omega arith))
 
 pub slice_bounds-x-end : goal.slice_bounds-x-end
@@ -54,13 +55,13 @@ overflow_sub-wait c = omega (arith, c.renew-block.ensures.some)
 pub loop-block-smaller : goal.loop-block-smaller
 loop-block-smaller c = let renewed : Found (flat c.args.rows c.args.borders c.args.p.now) c.args.ns.now c.args.margins.now c.args.start c.args.near.now c.renew-block.new.margins c.loop-block.x c.loop-block.lasts c.renew-block.new.gained c.loop-block.caps c.renew-block.new.rising c.renew-block.result.live c.renew-block.new.near c.renew-block.result.count c.renew-block.result.wait c.loop-block.done = found_renewed c.loop-block.invariant c.renew-block.ensures in
     let u = renewed in
-    let h = found_some u c.rises.ensures (past_test c.if-not-rises.false-raw) in
+    let h = found_some u c.rises.ensures (past_test (goal.at.loop-block-smaller c).Else-not-rises) in
     found_less u c.renew-block.ensures.some c.rise.ensures c.requires.startable h c.renew-block.ensures.same
 
 pub loop-block-preserved : goal.loop-block-preserved
 loop-block-preserved c = let renewed : Found (flat c.args.rows c.args.borders c.args.p.now) c.args.ns.now c.args.margins.now c.args.start c.args.near.now c.renew-block.new.margins c.loop-block.x c.loop-block.lasts c.renew-block.new.gained c.loop-block.caps c.renew-block.new.rising c.renew-block.result.live c.renew-block.new.near c.renew-block.result.count c.renew-block.result.wait c.loop-block.done = found_renewed c.loop-block.invariant c.renew-block.ensures in
     let u = renewed in
-    let h = found_some u c.rises.ensures (past_test c.if-not-rises.false-raw) in
+    let h = found_some u c.rises.ensures (past_test (goal.at.loop-block-preserved c).Else-not-rises) in
     found_next u c.renew-block.ensures.some c.rise.ensures c.requires.startable h c.walk_near.ensures _ (omega (arith, c.renew-block.ensures.some))
 
 pub shape_of-margins : goal.shape_of-margins
