@@ -6,12 +6,6 @@ use Rattle.extractrules.proofs.SameMarks.{cells_all, cells_every}
 use Rattle.extractrules.proofs.StartLaws.{filled_long}
 use Rattle.start.proofs.complete.Goals as goal
 
-array-share-prefix-every : goal.slice_bounds-every-end
-array-share-prefix-every c = omega (arith, c.requires.borders_le_borders_most)
-
-slice-aggregate-fill-grid : goal.slice_bounds-fill_grid-end
-slice-aggregate-fill-grid c = sym (length-take-le _ _ (array-share-prefix-every c.before))
-
 pub returns-then-all_marked : goal.returns-then-all_marked
 returns-then-all_marked c = c.requires.p_value ∙ cells_all _ _ _ _ _ c.requires.b_len.1 (sym c.all_marked.ensures ∙ c.if-all_marked.true)
 
@@ -19,10 +13,10 @@ pub slice_bounds-every-end : goal.slice_bounds-every-end
 slice_bounds-every-end c = omega (arith, c.requires.borders_le_borders_most)
 
 pub slice_bounds-fill_grid-end : goal.slice_bounds-fill_grid-end
-slice_bounds-fill_grid-end c = sym (length-take-le _ _ (array-share-prefix-every c.before))
+slice_bounds-fill_grid-end c = sym (length-take-le _ _ (omega (arith, c.requires.borders_le_borders_most)))
 
 pub fill_grid-requires : goal.fill_grid-requires
-fill_grid-requires c = record { table_factors_in_range = c.requires.table_factors_in_range; borders_in_range = c.requires.borders_in_range; b_len = (c.requires.b_len.0, sym (slice-aggregate-fill-grid c.before)); states_len = c.requires.states_len; p_len = filled_long _ _ _ _ _ c.requires.p_value }
+fill_grid-requires c = record { table_factors_in_range = c.requires.table_factors_in_range; borders_in_range = c.requires.borders_in_range; b_len = (c.requires.b_len.0, length-take-le _ _ (omega (arith, c.requires.borders_le_borders_most))); states_len = c.requires.states_len; p_len = filled_long _ _ _ _ _ c.requires.p_value }
 
 pub returns : goal.returns
 returns c = c.fill_grid.ensures ∙ cells_every _ _ _ _ c.args.flags.now c.chosen-every.ensures c.requires.borders_le_borders_most

@@ -7,17 +7,11 @@ use Rattle.types.specs.Ranges.{is_intraday}
 use Rattle.extractrules.proofs.StartLaws.{exchanges_are}
 use Rattle.start.proofs.exchanges.Goals as goal
 
-array-borrow-prefix-x : goal.slice_bounds-x-end
-array-borrow-prefix-x c = search rules
-
-slice-aggregate-fill-froms : goal.slice_bounds-fill_froms-end
-slice-aggregate-fill-froms c = sym (length-take-le _ _ (array-borrow-prefix-x c.before))
-
 pub slice_bounds-fill_froms-end : goal.slice_bounds-fill_froms-end
-slice_bounds-fill_froms-end c = sym (length-take-le _ _ (array-borrow-prefix-x c.before))
+slice_bounds-fill_froms-end c = sym (length-take-le _ _ (search rules))
 
 pub fill_froms-requires : goal.fill_froms-requires
-fill_froms-requires c = record { borders_in_range = c.requires; x_len = sym (slice-aggregate-fill-froms c) }
+fill_froms-requires c = record { borders_in_range = c.requires; x_len = length-take-le _ _ (search rules) }
 
 pub returns : goal.returns
 unfolding table

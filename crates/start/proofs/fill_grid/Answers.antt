@@ -29,19 +29,24 @@ pub loop-k-init : goal.loop-k-init
 loop-k-init c = c.loop-i.invariant
 
 pub offset_bounds-flags-k : goal.offset_bounds-flags-k
-offset_bounds-flags-k c = omega (arith, (entry c.before.before).pre.1.1.0.1)
+offset_bounds-flags-k c = omega (arith, c.requires.b_len.1)
 
 pub bounds-flags-k : goal.bounds-flags-k
-bounds-flags-k c = omega (arith, (entry c.before.before.before).pre.1.1.0.1)
+bounds-flags-k c = omega (arith, c.requires.b_len.1)
 
 pub offset_bounds-b-k : goal.offset_bounds-b-k
-offset_bounds-b-k c = omega (arith, (entry c.before.before.before).pre.1.1.0.0)
+offset_bounds-b-k c = omega (arith, c.requires.b_len.0)
 
 pub bounds-b-k : goal.bounds-b-k
-bounds-b-k c = omega (arith, (entry c.before.before.before).pre.1.1.0.0)
+bounds-b-k c = omega (arith, c.requires.b_len.0)
 
 pub cell-requires : goal.cell-requires
-cell-requires c = let q = (entry c.before.before.before.before).requires in record { factors_in_range = part_ranges q.0 (row c.before.before.before.before) (omega arith) c.row_factors-factors.ensures; raw_value = subst (λ (n : ℕ). border_fits n (get_or (entry c.before.before.before.before).args.b.now c.loop-k.k []) ≡ true) (sym (part_long q.0 (row c.before.before.before.before) (omega arith) c.row_factors-factors.ensures)) (q.1.0.each c.loop-k.k (omega (arith, q.1.1.0.0))) }
+cell-requires c =
+    let h = c.requires.table_factors_in_range in
+    let e = c.row_factors-factors.ensures in record
+    { factors_in_range = part_ranges h c.loop-i.i (omega arith) e
+    ; raw_value = subst (λ (n : ℕ). border_fits n (get_or c.args.b.now c.loop-k.k []) ≡ true) (sym (part_long h c.loop-i.i (omega arith) e)) (c.requires.borders_in_range.each c.loop-k.k (omega (arith, c.requires.b_len.0)))
+    }
 
 pub overflow_mul-p : goal.overflow_mul-p
 unfolding grid_of grid_by setup_with
@@ -61,9 +66,9 @@ bounds-p-i c = filled_to_place c.loop-k.invariant (omega arith) (omega arith)
 
 pub loop-k-preserved : goal.loop-k-preserved
 unfolding grid_of kept grid_by setup_with flagged
-loop-k-preserved c = let a = (entry c.before.before.before.before.before).args in
+loop-k-preserved c = let a = c.args in
     filled_to_more c.loop-k.invariant (omega arith) (omega arith) _
-    (c.cell.ensures ∙ ap (λ (fs : List ℤ). cond (flagged a.flags.now c.loop-k.k && kept a.states.now (row c.before.before.before.before.before)) (p_of fs (border_of (get_or a.b.now c.loop-k.k []))) 0) c.row_factors-factors.ensures)
+    (c.cell.ensures ∙ ap (λ (fs : List ℤ). cond (flagged a.flags.now c.loop-k.k && kept a.states.now c.loop-i.i) (p_of fs (border_of (get_or a.b.now c.loop-k.k []))) 0) c.row_factors-factors.ensures)
 
 pub loop-i-preserved : goal.loop-i-preserved
 unfolding grid_of grid_by setup_with

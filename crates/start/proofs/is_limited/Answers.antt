@@ -42,21 +42,25 @@ pub bounds-b-k : goal.bounds-b-k
 bounds-b-k c = omega (arith, c.requires.k_in_bounds.0)
 
 pub cell-requires : goal.cell-requires
-cell-requires c = let q = (entry c.before.before.before).requires in
-    let a = (entry c.before.before.before).args in record { factors_in_range = part_ranges q.0 (row c.before.before.before) (omega arith) c.row_factors-factors.ensures; raw_value = subst (λ (n : ℕ). border_fits n (get_or a.b.now a.k []) ≡ true) (sym (part_long q.0 (row c.before.before.before) (omega arith) c.row_factors-factors.ensures)) (q.1.0.each a.k q.1.1.1.0) }
+cell-requires c =
+    let h = c.requires.table_factors_in_range in
+    let e = c.row_factors-factors.ensures in record
+    { factors_in_range = part_ranges h c.loop-i.i (omega arith) e
+    ; raw_value = subst (λ (n : ℕ). border_fits n (get_or c.args.b.now c.args.k []) ≡ true) (sym (part_long h c.loop-i.i (omega arith) e)) (c.requires.borders_in_range.each c.args.k c.requires.k_in_bounds.0)
+    }
 
 pub returns-then-cell-gt0 : goal.returns-then-cell-gt0
 unfolding given grid_of kept grid_by setup_with flagged
-returns-then-cell-gt0 c = let cell_is : let a = (entry c.before.before.before.before).args in
-    c.cell.result ≡ (grid_of (flagged a.flags.now) a.h a.b.now a.f.now a.states.now).p (row c.before.before.before.before) a.k = let a = (entry c.before.before.before.before).args in
-    c.cell.ensures ∙ ap (λ (fs : List ℤ). cond (flagged a.flags.now a.k && kept a.states.now (row c.before.before.before.before)) (p_of fs (border_of (get_or a.b.now a.k []))) 0) c.row_factors-factors.ensures in
+returns-then-cell-gt0 c = let a = c.args in
+    let cell_is : c.cell.result ≡ (grid_of (flagged a.flags.now) a.h a.b.now a.f.now a.states.now).p c.loop-i.i a.k =
+    c.cell.ensures ∙ ap (λ (fs : List ℤ). cond (flagged a.flags.now a.k && kept a.states.now c.loop-i.i) (p_of fs (border_of (get_or a.b.now a.k []))) 0) c.row_factors-factors.ensures in
     ap given (looked_here _ _ _ c.loop-i.invariant (omega arith) (lt-ltb _ _ (subst (λ (v : ℕ). 0 < v) (cell_is) c.if-cell-gt0.true)))
 
 pub loop-i-preserved : goal.loop-i-preserved
 unfolding grid_of kept grid_by setup_with flagged
-loop-i-preserved c = let cell_is : let a = (entry c.before.before.before.before).args in
-    c.cell.result ≡ (grid_of (flagged a.flags.now) a.h a.b.now a.f.now a.states.now).p (row c.before.before.before.before) a.k = let a = (entry c.before.before.before.before).args in
-    c.cell.ensures ∙ ap (λ (fs : List ℤ). cond (flagged a.flags.now a.k && kept a.states.now (row c.before.before.before.before)) (p_of fs (border_of (get_or a.b.now a.k []))) 0) c.row_factors-factors.ensures in
+loop-i-preserved c = let a = c.args in
+    let cell_is : c.cell.result ≡ (grid_of (flagged a.flags.now) a.h a.b.now a.f.now a.states.now).p c.loop-i.i a.k =
+    c.cell.ensures ∙ ap (λ (fs : List ℤ). cond (flagged a.flags.now a.k && kept a.states.now c.loop-i.i) (p_of fs (border_of (get_or a.b.now a.k []))) 0) c.row_factors-factors.ensures in
     looked_more _ _ _ c.loop-i.invariant (omega arith) (le-ltb _ _ (subst (λ (v : ℕ). v ≤ 0) (cell_is) c.if-cell-gt0.false))
 
 pub returns : goal.returns

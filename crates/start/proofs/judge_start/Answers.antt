@@ -12,10 +12,6 @@ use Rattle.extractrules.specs.Start.{grid_of, setup_with}
 use Rattle.extractrules.proofs.StartLaws.{none_kept, border_free, row_below, may_start}
 use Rattle.start.proofs.judge_start.Goals as goal
 
-some-row : (c : goal.Else-not-some_kept)
-    → some_below (length c.args.states.now) (kept c.args.states.now) ≡ true
-some-row c = sym c.some_kept.ensures ∙ not-false _ c.if-not-some_kept.false-raw
-
 pub returns-then-not-some_kept : goal.returns-then-not-some_kept
 unfolding grid_of grid_by setup_with
 returns-then-not-some_kept c = ap refused c.no_row.ensures ∙ none_kept _ _ _ _ _ _ c.requires.states_len.0 (sym c.some_kept.ensures ∙ not-true _ c.if-not-some_kept.true-raw)
@@ -25,17 +21,17 @@ first_unlimited-requires c = record { table_factors_in_range = c.requires.table_
 
 pub returns-in-At : goal.returns-in-At
 unfolding grid_of grid_by setup_with
-returns-in-At c = ap refused c.unlimited.ensures ∙ border_free _ _ _ _ _ _ c.requires.states_len.0 (some-row c.before.before.before.before) _ (sym (ap found c.in-At.is) ∙ c.first_unlimited.ensures)
+returns-in-At c = ap refused c.unlimited.ensures ∙ border_free _ _ _ _ _ _ c.requires.states_len.0 (sym c.some_kept.ensures ∙ not-false _ c.if-not-some_kept.false-raw) _ (sym (ap found c.in-At.is) ∙ c.first_unlimited.ensures)
 
 pub first_below-requires : goal.first_below-requires
 first_below-requires c = c.requires.states_len.1 ∙ sym c.requires.states_len.0
 
 pub returns-in-At-first_below : goal.returns-in-At-first_below
 unfolding grid_of grid_by setup_with
-returns-in-At-first_below c = ap refused c.below_zero.ensures ∙ row_below _ _ _ _ _ _ c.requires.states_len.0 (some-row c.before.before.before.before.before.before.before) (sym (ap found c.in_default.is) ∙ c.first_unlimited.ensures) _
+returns-in-At-first_below c = ap refused c.below_zero.ensures ∙ row_below _ _ _ _ _ _ c.requires.states_len.0 (sym c.some_kept.ensures ∙ not-false _ c.if-not-some_kept.false-raw) (sym (ap found c.in_default.is) ∙ c.first_unlimited.ensures) _
     (sym (ap found c.in-At-first_below.is) ∙ (rw c.is_intraday.ensures at c.first_below.ensures))
 
 pub returns : goal.returns
 unfolding grid_of grid_by setup_with
-returns c = may_start _ _ _ _ _ _ c.requires.states_len.0 (some-row c.before.before.before.before.before) (sym (ap found c.in_default.is) ∙ c.first_unlimited.ensures)
+returns c = may_start _ _ _ _ _ _ c.requires.states_len.0 (sym c.some_kept.ensures ∙ not-false _ c.if-not-some_kept.false-raw) (sym (ap found c.in_default.is) ∙ c.first_unlimited.ensures)
     (sym (ap found c.in_default-first_below.is) ∙ (rw c.is_intraday.ensures at c.first_below.ensures))
