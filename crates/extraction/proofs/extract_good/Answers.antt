@@ -5,64 +5,58 @@ use Prim.Native.Nat.{◌*◌}
 use native.Mathlib.Omega.{arith}
 use lib.ListN.{take}
 use lib.Seq.{length-take-le}
-use Rattle.types.proofs.RangeLaws.{HeaderIn, header_in_lem}
+use Rattle.types.proofs.RangeLaws.{header_in_lem}
 use Rattle.marks.specs.Marks.{flagged}
 use Rattle.tablerules.specs.Table.{Table, lent, front}
 use Rattle.extractrules.proofs.ExtractLaws.{front_left}
 use Rattle.extractrules.proofs.LentLaws.{marks_refused, marks_passed}
 use Rattle.extraction.proofs.extract_good.Goals as goal
 
-within : (c : goal.After-chosen-flags) → HeaderIn c.args.h
-within c = header_in_lem _ c.requires.good.exact.header
-
-flags-fit : goal.slice_bounds-flags-end
-flags-fit c = omega (arith, (within c).borders_most_lem)
-
 pub returns-in-Refused : goal.returns-in-Refused
 returns-in-Refused c = let whole : Table = front (lent c.args.h c.args.z.now c.args.t.now c.args.b.now c.args.c.now c.args.f.now) in
     marks_refused c.args.all c.args.marks.now (whole) c.args.p.now c.args.atc.now c.args.left.now _ c.judge_asked.ensures _ c.in-Refused.is
 
 pub slice_bounds-flags-end : goal.slice_bounds-flags-end
-slice_bounds-flags-end c = omega (arith, (within c).borders_most_lem)
+slice_bounds-flags-end c = omega (arith, (header_in_lem _ c.requires.good.exact.header).borders_most_lem)
 
 pub slice_bounds-extract_in-end : goal.slice_bounds-extract_in-end
-slice_bounds-extract_in-end c = sym (length-take-le _ _ (flags-fit c.before))
+slice_bounds-extract_in-end c = sym (length-take-le _ _ (omega (arith, (header_in_lem _ c.requires.good.exact.header).borders_most_lem)))
 
 pub slice_bounds-rams-end : goal.slice_bounds-rams-end
-slice_bounds-rams-end c = (within c.before).rows_most_lem
+slice_bounds-rams-end c = (header_in_lem _ c.requires.good.exact.header).rows_most_lem
 
 pub slice_bounds-extract_in-end-2 : goal.slice_bounds-extract_in-end-2
-slice_bounds-extract_in-end-2 c = sym (length-take-le _ _ (within c.before.before).rows_most_lem)
+slice_bounds-extract_in-end-2 c = sym (length-take-le _ _ (header_in_lem _ c.requires.good.exact.header).rows_most_lem)
 
 pub slice_bounds-starts-end : goal.slice_bounds-starts-end
-slice_bounds-starts-end c = (within c.before.before).rows_most_lem
+slice_bounds-starts-end c = (header_in_lem _ c.requires.good.exact.header).rows_most_lem
 
 pub slice_bounds-extract_in-end-3 : goal.slice_bounds-extract_in-end-3
-slice_bounds-extract_in-end-3 c = sym (length-take-le _ _ (within c.before.before.before).rows_most_lem)
+slice_bounds-extract_in-end-3 c = sym (length-take-le _ _ (header_in_lem _ c.requires.good.exact.header).rows_most_lem)
 
 pub slice_bounds-states-end : goal.slice_bounds-states-end
-slice_bounds-states-end c = (within c.before.before.before).rows_most_lem
+slice_bounds-states-end c = (header_in_lem _ c.requires.good.exact.header).rows_most_lem
 
 pub slice_bounds-extract_in-end-4 : goal.slice_bounds-extract_in-end-4
-slice_bounds-extract_in-end-4 c = sym (length-take-le _ _ (within c.before.before.before.before).rows_most_lem)
+slice_bounds-extract_in-end-4 c = sym (length-take-le _ _ (header_in_lem _ c.requires.good.exact.header).rows_most_lem)
 
 pub slice_bounds-margins-end : goal.slice_bounds-margins-end
-slice_bounds-margins-end c = (within c.before.before.before.before).rows_most_lem
+slice_bounds-margins-end c = (header_in_lem _ c.requires.good.exact.header).rows_most_lem
 
 pub slice_bounds-extract_in-end-5 : goal.slice_bounds-extract_in-end-5
-slice_bounds-extract_in-end-5 c = sym (length-take-le _ _ (within c.before.before.before.before.before).rows_most_lem)
+slice_bounds-extract_in-end-5 c = sym (length-take-le _ _ (header_in_lem _ c.requires.good.exact.header).rows_most_lem)
 
 pub slice_bounds-ns-end : goal.slice_bounds-ns-end
-slice_bounds-ns-end c = (within c.before.before.before.before.before).rows_most_lem
+slice_bounds-ns-end c = (header_in_lem _ c.requires.good.exact.header).rows_most_lem
 
 pub slice_bounds-extract_in-end-6 : goal.slice_bounds-extract_in-end-6
-slice_bounds-extract_in-end-6 c = sym (length-take-le _ _ (within c.before.before.before.before.before.before).rows_most_lem)
+slice_bounds-extract_in-end-6 c = sym (length-take-le _ _ (header_in_lem _ c.requires.good.exact.header).rows_most_lem)
 
 pub slice_bounds-lasts-end : goal.slice_bounds-lasts-end
-slice_bounds-lasts-end c = (within c.before.before.before.before.before.before).borders_most_lem
+slice_bounds-lasts-end c = (header_in_lem _ c.requires.good.exact.header).borders_most_lem
 
 pub slice_bounds-extract_in-end-7 : goal.slice_bounds-extract_in-end-7
-slice_bounds-extract_in-end-7 c = sym (length-take-le _ _ (within c.before.before.before.before.before.before.before).borders_most_lem)
+slice_bounds-extract_in-end-7 c = sym (length-take-le _ _ (header_in_lem _ c.requires.good.exact.header).borders_most_lem)
 
 pub slice_bounds-extract_in-end-8 : goal.slice_bounds-extract_in-end-8
 slice_bounds-extract_in-end-8 c = c.requires.borders_in_bounds
@@ -71,9 +65,9 @@ pub slice_bounds-extract_in-end-9 : goal.slice_bounds-extract_in-end-9
 slice_bounds-extract_in-end-9 c = sym (length-take-le _ _ c.requires.borders_in_bounds)
 
 pub extract_in-requires : goal.extract_in-requires
-extract_in-requires c = let rows = (within c.before.before.before.before.before.before.before.before.before.before).rows_most_lem in record { good = c.requires.good; flags_len = length-take-le _ _ (flags-fit c.before.before.before.before.before.before.before.before.before.before); rams_len = (length-take-le _ _ rows, length-take-le _ _ rows); states_len = (length-take-le _ _ rows, length-take-le _ _ rows); ns_len = (length-take-le _ _ rows, length-take-le _ _ (within c.before.before.before.before.before.before.before.before.before.before).borders_most_lem); p_len = length-take-le _ _ c.requires.borders_in_bounds }
+extract_in-requires c = let rows = (header_in_lem _ c.requires.good.exact.header).rows_most_lem in record { good = c.requires.good; flags_len = length-take-le _ _ (omega (arith, (header_in_lem _ c.requires.good.exact.header).borders_most_lem)); rams_len = (length-take-le _ _ rows, length-take-le _ _ rows); states_len = (length-take-le _ _ rows, length-take-le _ _ rows); ns_len = (length-take-le _ _ rows, length-take-le _ _ (header_in_lem _ c.requires.good.exact.header).borders_most_lem); p_len = length-take-le _ _ c.requires.borders_in_bounds }
 
 pub returns : goal.returns
 returns c = let whole : Table = front (lent c.args.h c.args.z.now c.args.t.now c.args.b.now c.args.c.now c.args.f.now) in
     front_left (flagged (take c.args.h.borders c.chosen-flags.result)) (whole) (c.args.h.rows * c.args.h.borders) refl c.args.p.now c.requires.borders_in_bounds c.args.atc.now c.args.left.now c.extract_in.ensures
-    ∙ marks_passed c.args.all c.args.marks.now (whole) c.args.p.now c.args.atc.now c.args.left.now _ c.judge_asked.ensures c.in_default.is (within c.before.before.before.before.before.before.before.before.before.before.before.before.before.before.before.before.before.before.before.before.before).borders_most_lem c.chosen-flags.ensures
+    ∙ marks_passed c.args.all c.args.marks.now (whole) c.args.p.now c.args.atc.now c.args.left.now _ c.judge_asked.ensures c.in_default.is (header_in_lem _ c.requires.good.exact.header).borders_most_lem c.chosen-flags.ensures
