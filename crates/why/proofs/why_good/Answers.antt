@@ -5,50 +5,11 @@ use native.Mathlib.Nat.{mul-le-mul}
 use native.Mathlib.Omega.{arith}
 use lib.Seq.{length-take-le}
 use Rattle.refusals.specs.Refusals.{Judged}
-use Rattle.types.proofs.RangeLaws.{HeaderIn, header_in_lem}
+use Rattle.types.proofs.RangeLaws.{header_in_lem}
 use Rattle.tablerules.specs.Table.{Table, lent, front}
 use Rattle.why.specs.Why.{Why, judged_left}
 use Rattle.why.proofs.WhyLaws.{left_refused, for_refused, for_no_border, for_passed, front_left}
 use Rattle.why.proofs.why_good.Goals as goal
-
-within : (c : goal.After-chosen-flags) → HeaderIn c.args.h
-within c = header_in_lem _ c.requires.good.exact.header
-
-array-share-prefix-flags : goal.slice_bounds-flags-end
-array-share-prefix-flags c = omega (arith, (within c).borders_most_lem)
-
-slice-aggregate-why-in : goal.slice_bounds-why_in-end
-slice-aggregate-why-in c = sym (length-take-le _ _ (array-share-prefix-flags c.before))
-
-array-borrow-prefix-rams : goal.slice_bounds-rams-end
-array-borrow-prefix-rams c = (within c.before).rows_most_lem
-
-slice-aggregate-why-in-2 : goal.slice_bounds-why_in-end-2
-slice-aggregate-why-in-2 c = sym (length-take-le _ _ (array-borrow-prefix-rams c.before))
-
-array-borrow-prefix-starts : goal.slice_bounds-starts-end
-array-borrow-prefix-starts c = (within c.before.before).rows_most_lem
-
-slice-aggregate-why-in-3 : goal.slice_bounds-why_in-end-3
-slice-aggregate-why-in-3 c = sym (length-take-le _ _ (array-borrow-prefix-starts c.before))
-
-array-borrow-prefix-states : goal.slice_bounds-states-end
-array-borrow-prefix-states c = (within c.before.before.before).rows_most_lem
-
-slice-aggregate-why-in-4 : goal.slice_bounds-why_in-end-4
-slice-aggregate-why-in-4 c = sym (length-take-le _ _ (array-borrow-prefix-states c.before))
-
-array-borrow-prefix-margins : goal.slice_bounds-margins-end
-array-borrow-prefix-margins c = (within c.before.before.before.before).rows_most_lem
-
-slice-aggregate-why-in-5 : goal.slice_bounds-why_in-end-5
-slice-aggregate-why-in-5 c = sym (length-take-le _ _ (array-borrow-prefix-margins c.before))
-
-slice-relend-prefix-why-in : goal.slice_bounds-why_in-end-6
-slice-relend-prefix-why-in c = c.requires.borders_in_bounds
-
-slice-aggregate-why-in-6 : goal.slice_bounds-why_in-end-7
-slice-aggregate-why-in-6 c = sym (length-take-le _ _ (slice-relend-prefix-why-in c.before))
 
 pub returns-in-Refused : goal.returns-in-Refused
 returns-in-Refused c = let whole : Table = front (lent c.args.h c.args.z.now c.args.t.now c.args.b.now c.args.c.now c.args.f.now) in
@@ -59,49 +20,49 @@ returns-then-borders-border c = let whole : Table = front (lent c.args.h c.args.
     rw c.no_border.ensures (left_refused _ _ _ (for_no_border c.args.all c.args.marks.now (whole) c.args.border _ c.judge_asked.ensures c.in_default.is c.if-borders-border.true))
 
 pub overflow_mul-cells : goal.overflow_mul-cells
-overflow_mul-cells c = omega (arith, mul-le-mul (within c).rows_most_lem (within c).borders_most_lem)
+overflow_mul-cells c = omega (arith, mul-le-mul (header_in_lem _ c.requires.good.exact.header).rows_most_lem (header_in_lem _ c.requires.good.exact.header).borders_most_lem)
 
 pub slice_bounds-flags-end : goal.slice_bounds-flags-end
-slice_bounds-flags-end c = omega (arith, (within c).borders_most_lem)
+slice_bounds-flags-end c = omega (arith, (header_in_lem _ c.requires.good.exact.header).borders_most_lem)
 
 pub slice_bounds-why_in-end : goal.slice_bounds-why_in-end
-slice_bounds-why_in-end c = sym (length-take-le _ _ (array-share-prefix-flags c.before))
+slice_bounds-why_in-end c = sym (length-take-le _ _ (omega (arith, (header_in_lem _ c.requires.good.exact.header).borders_most_lem)))
 
 pub slice_bounds-rams-end : goal.slice_bounds-rams-end
-slice_bounds-rams-end c = (within c.before).rows_most_lem
+slice_bounds-rams-end c = (header_in_lem _ c.requires.good.exact.header).rows_most_lem
 
 pub slice_bounds-why_in-end-2 : goal.slice_bounds-why_in-end-2
-slice_bounds-why_in-end-2 c = sym (length-take-le _ _ (array-borrow-prefix-rams c.before))
+slice_bounds-why_in-end-2 c = sym (length-take-le _ _ (header_in_lem _ c.requires.good.exact.header).rows_most_lem)
 
 pub slice_bounds-starts-end : goal.slice_bounds-starts-end
-slice_bounds-starts-end c = (within c.before.before).rows_most_lem
+slice_bounds-starts-end c = (header_in_lem _ c.requires.good.exact.header).rows_most_lem
 
 pub slice_bounds-why_in-end-3 : goal.slice_bounds-why_in-end-3
-slice_bounds-why_in-end-3 c = sym (length-take-le _ _ (array-borrow-prefix-starts c.before))
+slice_bounds-why_in-end-3 c = sym (length-take-le _ _ (header_in_lem _ c.requires.good.exact.header).rows_most_lem)
 
 pub slice_bounds-states-end : goal.slice_bounds-states-end
-slice_bounds-states-end c = (within c.before.before.before).rows_most_lem
+slice_bounds-states-end c = (header_in_lem _ c.requires.good.exact.header).rows_most_lem
 
 pub slice_bounds-why_in-end-4 : goal.slice_bounds-why_in-end-4
-slice_bounds-why_in-end-4 c = sym (length-take-le _ _ (array-borrow-prefix-states c.before))
+slice_bounds-why_in-end-4 c = sym (length-take-le _ _ (header_in_lem _ c.requires.good.exact.header).rows_most_lem)
 
 pub slice_bounds-margins-end : goal.slice_bounds-margins-end
-slice_bounds-margins-end c = (within c.before.before.before.before).rows_most_lem
+slice_bounds-margins-end c = (header_in_lem _ c.requires.good.exact.header).rows_most_lem
 
 pub slice_bounds-why_in-end-5 : goal.slice_bounds-why_in-end-5
-slice_bounds-why_in-end-5 c = sym (length-take-le _ _ (array-borrow-prefix-margins c.before))
+slice_bounds-why_in-end-5 c = sym (length-take-le _ _ (header_in_lem _ c.requires.good.exact.header).rows_most_lem)
 
 pub slice_bounds-why_in-end-6 : goal.slice_bounds-why_in-end-6
 slice_bounds-why_in-end-6 c = c.requires.borders_in_bounds
 
 pub slice_bounds-why_in-end-7 : goal.slice_bounds-why_in-end-7
-slice_bounds-why_in-end-7 c = sym (length-take-le _ _ (slice-relend-prefix-why-in c.before))
+slice_bounds-why_in-end-7 c = sym (length-take-le _ _ c.requires.borders_in_bounds)
 
 pub why_in-requires : goal.why_in-requires
-why_in-requires c = record { good = c.requires.good; flags_len = (sym (slice-aggregate-why-in c.before.before.before.before.before.before.before), c.if-borders-border.false); rams_len = (sym (slice-aggregate-why-in-2 c.before.before.before.before.before.before), sym (slice-aggregate-why-in-3 c.before.before.before.before.before)); states_len = (sym (slice-aggregate-why-in-4 c.before.before.before.before), sym (slice-aggregate-why-in-5 c.before.before.before)); p_len = sym (slice-aggregate-why-in-6 c.before.before) }
+why_in-requires c = record { good = c.requires.good; flags_len = (length-take-le _ _ (omega (arith, (header_in_lem _ c.requires.good.exact.header).borders_most_lem)), c.if-borders-border.false); rams_len = (length-take-le _ _ (header_in_lem _ c.requires.good.exact.header).rows_most_lem, length-take-le _ _ (header_in_lem _ c.requires.good.exact.header).rows_most_lem); states_len = (length-take-le _ _ (header_in_lem _ c.requires.good.exact.header).rows_most_lem, length-take-le _ _ (header_in_lem _ c.requires.good.exact.header).rows_most_lem); p_len = length-take-le _ _ c.requires.borders_in_bounds }
 
 pub returns : goal.returns
 returns c = let whole : Table = front (lent c.args.h c.args.z.now c.args.t.now c.args.b.now c.args.c.now c.args.f.now) in
     front_left _ _ _ _ refl c.args.p.now c.requires.borders_in_bounds _ _ c.why_in.ensures
     ∙ ap (λ (j : Judged Why). judged_left j c.args.p.now c.args.ends.now c.args.rows.now)
-    (for_passed c.args.all c.args.marks.now (whole) c.args.border _ c.judge_asked.ensures c.in_default.is c.if-borders-border.false (within c.before.before.before.before.before.before.before.before.before.before.before.before.before.before.before.before.before).borders_most_lem c.chosen-flags.ensures)
+    (for_passed c.args.all c.args.marks.now (whole) c.args.border _ c.judge_asked.ensures c.in_default.is c.if-borders-border.false (header_in_lem _ c.requires.good.exact.header).borders_most_lem c.chosen-flags.ensures)
