@@ -18,13 +18,13 @@ overflow_add-result-4 c = omega (arith, c.digit_count-n_digits.ensures, decimal_
 
 pub returns : goal.returns
 returns c = (
-      omega (
-        arith,
-        bound_line_long c.args.n c.args.l c.args.rounds c.args.sharp,
-        c.digit_count-n_digits.ensures,
-        c.digit_count-l_digits.ensures,
-        c.digit_count-rounds_digits.ensures,
-        c.digit_count.ensures,
-      ),
-      omega (arith, c.digit_count-n_digits.ensures, decimal_u64 c.args.n c.ranges.n.fits, c.digit_count-l_digits.ensures, decimal_u64 c.args.l c.ranges.l.fits, c.digit_count-rounds_digits.ensures, decimal_u64 c.args.rounds c.ranges.rounds.fits, c.digit_count.ensures, decimal_u64 c.args.sharp c.ranges.sharp.fits),
-    )
+  omega (
+    arith,
+    bound_line_long c.args.n c.args.l c.args.rounds c.args.sharp,
+    c.digit_count-n_digits.ensures,
+    c.digit_count-l_digits.ensures,
+    c.digit_count-rounds_digits.ensures,
+    c.digit_count.ensures,
+  ),
+  omega (arith, c.digit_count-n_digits.ensures, decimal_u64 c.args.n c.ranges.n.fits, c.digit_count-l_digits.ensures, decimal_u64 c.args.l c.ranges.l.fits, c.digit_count-rounds_digits.ensures, decimal_u64 c.args.rounds c.ranges.rounds.fits, c.digit_count.ensures, decimal_u64 c.args.sharp c.ranges.sharp.fits),
+)

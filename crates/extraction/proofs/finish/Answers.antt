@@ -21,11 +21,14 @@ store_atcs-requires c = let front : length (take c.args.h.borders c.run-end.resu
     record { borders_in_bounds = (omega (arith, c.requires.finishable.run.p_long), shares_long c.requires.finishable c.run-end.result c.run-end.ensures, omega (arith, (header_in_lem _ c.requires.finishable.run.header).rows_most_lem)); x_len = (front, lasts_long c.requires.finishable c.run-end.result c.run-end.ensures, c.requires.borders_in_bounds.0); by_index = lasts_fit c.requires.finishable c.run-end.result c.run-end.ensures }
 
 pub store_lefts-requires : goal.store_lefts-requires
-store_lefts-requires c = record { rams_len = (
-        c.requires.finishable.rams_long ∙ sym c.requires.finishable.states_long,
-        c.run-end.auto.margins ∙ c.requires.finishable.run.margins_long ∙ sym c.requires.finishable.states_long,
-        omega (arith, c.requires.finishable.states_long, c.requires.borders_in_bounds.1),
-      ); by_index = lefts_fit c.requires.finishable c.run-end.result c.run-end.ensures }
+store_lefts-requires c = record {
+  rams_len = (
+    c.requires.finishable.rams_long ∙ sym c.requires.finishable.states_long,
+    c.run-end.auto.margins ∙ c.requires.finishable.run.margins_long ∙ sym c.requires.finishable.states_long,
+    omega (arith, c.requires.finishable.states_long, c.requires.borders_in_bounds.1),
+  );
+  by_index = lefts_fit c.requires.finishable c.run-end.result c.run-end.ensures;
+}
 
 pub returns : goal.returns
 returns c = finished_is c.requires.finishable c.run-end.result c.run-end.ensures _ _ c.store_atcs.ensures c.store_lefts.ensures

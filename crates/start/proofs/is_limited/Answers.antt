@@ -44,9 +44,9 @@ bounds-b-k c = omega (arith, c.requires.k_in_bounds.0)
 pub cell-requires : goal.cell-requires
 cell-requires c =
     let h = c.requires.table_factors_in_range in
-    let e = c.row_factors-factors.ensures in record
-    { factors_in_range = part_ranges h c.loop-i.i (omega arith) e
-    ; raw_value = subst (λ (n : ℕ). border_fits n (get_or c.args.b.now c.args.k []) ≡ true) (sym (part_long h c.loop-i.i (omega arith) e)) (c.requires.borders_in_range.each c.args.k c.requires.k_in_bounds.0)
+    let e = c.row_factors-factors.ensures in record {
+      factors_in_range = part_ranges h c.loop-i.i (omega arith) e;
+      raw_value = subst (λ (n : ℕ). border_fits n (get_or c.args.b.now c.args.k []) ≡ true) (sym (part_long h c.loop-i.i (omega arith) e)) (c.requires.borders_in_range.each c.args.k c.requires.k_in_bounds.0);
     }
 
 pub returns-then-cell-gt0 : goal.returns-then-cell-gt0
