@@ -23,7 +23,7 @@ overflow_add-sum c = omega (arith, (c.loop-i.invariant 0).few, (c.loop-i.invaria
 pub loop-i-preserved : goal.loop-i-preserved
 loop-i-preserved c letter =
     let raw = get_or c.args.records.now c.loop-i.i [] in
-    let said = simp plain at c.line_length-sum.ensures in
+    let said = simp (plain, c.line_length-arg-1.given, c.line_length-arg-in-loop-i-1.given, c.line_length-arg-in-loop-i-2-1.given) at c.line_length-sum.ensures in
     let line = said.0 ∙ record_three c.requires.0 (Indexed letter c.loop-i.i) raw ∙ sym (line_long tab (Indexed letter c.loop-i.i) (columns_of c.args.columns.now) raw) in
     measured_more (c.loop-i.invariant letter) _ (omega arith) line (omega (arith, line, said.1))
 

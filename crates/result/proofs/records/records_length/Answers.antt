@@ -18,18 +18,18 @@ overflow_add-result c = omega (arith, c.requires.0, c.requires.1, c.lines_length
 
 pub overflow_add-result-2 : goal.overflow_add-result-2
 overflow_add-result-2 c = omega (
-      arith,
-      c.requires.0,
-      c.requires.1,
-      c.lines_length.ensures.1,
-      c.lines_length-2.ensures.1,
-      c.rounds_length.ensures,
-      rounds_length c.args.rounds,
-      decimal_u64 c.args.rounds (omega arith),
-    )
+  arith,
+  c.requires.0,
+  c.requires.1,
+  c.lines_length.ensures.1,
+  c.lines_length-2.ensures.1,
+  c.rounds_length.ensures,
+  rounds_length c.args.rounds,
+  decimal_u64 c.args.rounds (omega arith),
+)
 
 pub returns : goal.returns
 returns c = (
-      omega (arith, c.lines_length.ensures.0 (code "A"), c.lines_length-2.ensures.0 (code "M"), c.rounds_length.ensures, text_length c.args.atc.now c.args.left.now c.args.rounds),
-      omega (arith, c.requires.0, c.requires.1, c.lines_length.ensures.1, c.lines_length-2.ensures.1, c.rounds_length.ensures, rounds_length c.args.rounds, decimal_u64 c.args.rounds (omega arith)),
-    )
+  omega (arith, c.lines_length.ensures.0 (code "A"), c.lines_length-2.ensures.0 (code "M"), c.rounds_length.ensures, text_length c.args.atc.now c.args.left.now c.args.rounds),
+  omega (arith, c.requires.0, c.requires.1, c.lines_length.ensures.1, c.lines_length-2.ensures.1, c.rounds_length.ensures, rounds_length c.args.rounds, decimal_u64 c.args.rounds (omega arith)),
+)

@@ -13,23 +13,23 @@ overflow_add-result c = omega (arith, c.digit_count.ensures, decimal_u64 c.args.
 
 pub overflow_add-result-2 : goal.overflow_add-result-2
 overflow_add-result-2 c = omega (
-      arith,
-      c.digit_count.ensures,
-      c.digit_count-2.ensures,
-      decimal_u64 c.args.w.number (omega (arith, c.struct_known-1.given)),
-      decimal_u64 c.args.w.place (omega (arith, c.struct_known-1.given)),
-    )
+  arith,
+  c.digit_count.ensures,
+  c.digit_count-2.ensures,
+  decimal_u64 c.args.w.number (omega (arith, c.struct_known-1.given)),
+  decimal_u64 c.args.w.place (omega (arith, c.struct_known-1.given)),
+)
 
 pub overflow_add-result-3 : goal.overflow_add-result-3
 overflow_add-result-3 c = omega (
-      arith,
-      c.digit_count.ensures,
-      c.digit_count-2.ensures,
-      c.digit_count-3.ensures,
-      decimal_u64 c.args.w.number (omega (arith, c.struct_known-1.given)),
-      decimal_u64 c.args.w.place (omega (arith, c.struct_known-1.given)),
-      decimal_u64 c.args.w.byte (omega (arith, c.struct_known-1.given)),
-    )
+  arith,
+  c.digit_count.ensures,
+  c.digit_count-2.ensures,
+  c.digit_count-3.ensures,
+  decimal_u64 c.args.w.number (omega (arith, c.struct_known-1.given)),
+  decimal_u64 c.args.w.place (omega (arith, c.struct_known-1.given)),
+  decimal_u64 c.args.w.byte (omega (arith, c.struct_known-1.given)),
+)
 
 pub returns : goal.returns
 returns c = let sum : 5 + c.digit_count.result + c.digit_count-2.result + c.digit_count-3.result ≡ length (refusal_text c.args.w) =
