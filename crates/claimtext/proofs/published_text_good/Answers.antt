@@ -13,7 +13,7 @@ slice_bounds-rams-end c = let few : c.args.h.rows ≤ rows_most = (header_in_lem
 
 pub slice_bounds-publish_in-end : goal.slice_bounds-publish_in-end
 slice_bounds-publish_in-end c = let few : c.args.h.rows ≤ rows_most = (header_in_lem _ c.requires.exact.header).rows_most_lem in
-    sym (length-take-le _ _ (few))
+    sym (length-take-le _ _ few)
 
 pub slice_bounds-starts-end : goal.slice_bounds-starts-end
 slice_bounds-starts-end c = let few : c.args.h.rows ≤ rows_most = (header_in_lem _ c.requires.exact.header).rows_most_lem in
@@ -21,7 +21,7 @@ slice_bounds-starts-end c = let few : c.args.h.rows ≤ rows_most = (header_in_l
 
 pub slice_bounds-publish_in-end-2 : goal.slice_bounds-publish_in-end-2
 slice_bounds-publish_in-end-2 c = let few : c.args.h.rows ≤ rows_most = (header_in_lem _ c.requires.exact.header).rows_most_lem in
-    sym (length-take-le _ _ (few))
+    sym (length-take-le _ _ few)
 
 pub slice_bounds-states-end : goal.slice_bounds-states-end
 slice_bounds-states-end c = let few : c.args.h.rows ≤ rows_most = (header_in_lem _ c.requires.exact.header).rows_most_lem in
@@ -29,9 +29,9 @@ slice_bounds-states-end c = let few : c.args.h.rows ≤ rows_most = (header_in_l
 
 pub slice_bounds-publish_in-end-3 : goal.slice_bounds-publish_in-end-3
 slice_bounds-publish_in-end-3 c = let few : c.args.h.rows ≤ rows_most = (header_in_lem _ c.requires.exact.header).rows_most_lem in
-    sym (length-take-le _ _ (few))
+    sym (length-take-le _ _ few)
 
 pub publish_in-requires : goal.publish_in-requires
 unfolding table
 publish_in-requires c = let few : c.args.h.rows ≤ rows_most = (header_in_lem _ c.requires.exact.header).rows_most_lem in
-    record { good = c.requires; rams_len = (length-take-le _ _ (few), length-take-le _ _ (few)); states_len = length-take-le _ _ (few); named_value = (refl, refl) }
+    record { good = c.requires; rams_len = (length-take-le _ _ few, length-take-le _ _ few); states_len = length-take-le _ _ few; named_value = (refl, refl) }

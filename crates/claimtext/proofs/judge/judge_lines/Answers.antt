@@ -11,9 +11,6 @@ use Rattle.claimline.specs.ClaimText.{claim_line, claims_in}
 use Rattle.claimline.proofs.ReadLaws.{lines_first, after_within, after_further, lines_all_lem, lines_some, lines_here, lines_more}
 use Rattle.claimtext.proofs.judge.judge_lines.Goals as goal
 
-claim-is : (c : goal.After-claim_line-claim) → c.claim_line-claim.result ≡ get_or (claims_in c.args.list.now) c.loop-p.k []
-claim-is c = c.claim_line-claim.ensures ∙ ap claim_line c.line_at-line.ensures ∙ lines_here c.loop-p.invariant.0 c.loop-p-test.true
-
 pub loop-p-init : goal.loop-p-init
 loop-p-init c = (lines_first _, judging_none _ _ _ _ _ c.requires.named_value.1)
 
@@ -27,8 +24,9 @@ pub shape_of-earlier-in_default : goal.shape_of-earlier-in_default
 shape_of-earlier-in_default c = omega (arith, judging_long _ _ _ _ _ c.loop-p.invariant.1, ap length c.requires.named_value.1, none_long)
 
 pub returns-in_default : goal.returns-in_default
-returns-in_default c = let few : length c.args.states.now ≤ rows_most = omega (arith, c.requires.states_len.0, c.requires.states_len.1) in
-    judging_refused _ _ _ _ _ c.loop-p.invariant.1 (lines_some c.loop-p.invariant.0 c.loop-p-test.true) (few) c.requires.named_value.0 (claim-is c.before.before.before) _ c.judge_claim-judged.ensures _ c.in_default.is
+returns-in_default c = let claim-is : c.claim_line-claim.result ≡ get_or (claims_in c.args.list.now) c.loop-p.k [] = c.claim_line-claim.ensures ∙ ap claim_line c.line_at-line.ensures ∙ lines_here c.loop-p.invariant.0 c.loop-p-test.true in
+    let few : length c.args.states.now ≤ rows_most = omega (arith, c.requires.states_len.0, c.requires.states_len.1) in
+    judging_refused _ _ _ _ _ c.loop-p.invariant.1 (lines_some c.loop-p.invariant.0 c.loop-p-test.true) few c.requires.named_value.0 claim-is _ c.judge_claim-judged.ensures _ c.in_default.is
 
 pub overflow_add-p : goal.overflow_add-p
 overflow_add-p c = rw c.line_at-line.ensures (omega (arith, after_within c.loop-p.invariant.0, c.well_formed))
@@ -40,10 +38,11 @@ pub loop-p-smaller : goal.loop-p-smaller
 loop-p-smaller c = rw c.line_at-line.ensures (omega (arith, after_within c.loop-p.invariant.0, after_further c.loop-p.invariant.0 c.loop-p-test.true))
 
 pub loop-p-preserved : goal.loop-p-preserved
-loop-p-preserved c = let few : length c.args.states.now ≤ rows_most = omega (arith, c.requires.states_len.0, c.requires.states_len.1) in
+loop-p-preserved c = let claim-is : c.claim_line-claim.result ≡ get_or (claims_in c.args.list.now) c.loop-p.k [] = c.claim_line-claim.ensures ∙ ap claim_line c.line_at-line.ensures ∙ lines_here c.loop-p.invariant.0 c.loop-p-test.true in
+    let few : length c.args.states.now ≤ rows_most = omega (arith, c.requires.states_len.0, c.requires.states_len.1) in
     (
       rw c.line_at-line.ensures (lines_more c.loop-p.invariant.0 c.loop-p-test.true),
-      judging_more _ _ _ _ _ c.loop-p.invariant.1 (lines_some c.loop-p.invariant.0 c.loop-p-test.true) (few) c.requires.named_value.0 (claim-is c.before.before.before.before.before.before.before.before) _ c.judge_claim-judged.ensures c.in-Passed.is (plain _ c.name_row-arg-1.given) c.name_row.ensures,
+      judging_more _ _ _ _ _ c.loop-p.invariant.1 (lines_some c.loop-p.invariant.0 c.loop-p-test.true) few c.requires.named_value.0 claim-is _ c.judge_claim-judged.ensures c.in-Passed.is (plain _ c.name_row-arg-1.given) c.name_row.ensures,
     )
 
 pub shape_of-earlier : goal.shape_of-earlier
