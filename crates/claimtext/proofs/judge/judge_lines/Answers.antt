@@ -39,8 +39,7 @@ loop-p-smaller c = rw c.line_at-line.ensures (omega (arith, after_within c.loop-
 
 pub loop-p-preserved : goal.loop-p-preserved
 loop-p-preserved c = let claim-is : c.claim_line-claim.result ≡ get_or (claims_in c.args.list.now) c.loop-p.k [] = c.claim_line-claim.ensures ∙ ap claim_line c.line_at-line.ensures ∙ lines_here c.loop-p.invariant.0 c.loop-p-test.true in
-    let few : length c.args.states.now ≤ rows_most = omega (arith, c.requires.states_len.0, c.requires.states_len.1) in
-    (
+    let few : length c.args.states.now ≤ rows_most = omega (arith, c.requires.states_len.0, c.requires.states_len.1) in (
       rw c.line_at-line.ensures (lines_more c.loop-p.invariant.0 c.loop-p-test.true),
       judging_more _ _ _ _ _ c.loop-p.invariant.1 (lines_some c.loop-p.invariant.0 c.loop-p-test.true) few c.requires.named_value.0 claim-is _ c.judge_claim-judged.ensures c.in-Passed.is (plain _ c.name_row-arg-1.given) c.name_row.ensures,
     )
