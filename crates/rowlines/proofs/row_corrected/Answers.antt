@@ -11,7 +11,7 @@ use Rattle.rowlines.proofs.row_corrected.Goals as goal
 
 pub returns-then-not-of_row : goal.returns-then-not-of_row
 returns-then-not-of_row c = c.row_read.ensures
-    ∙ ap (λ (l : List ℕ). line_by c.args.kind (length c.args.f.now) l c.args.i) c.row_Line.ensures
+    ∙ ap (λ (l : List ℕ). line_by c.args.kind (length c.args.f.now) l c.args.i) c.row_line-line.ensures
     ∙ own_handed c.args.kind c.args.by (length c.args.f.now) c.args.next.now c.args.day.now c.args.i (sym c.of_row.ensures ∙ not-true _ c.if-not-of_row.true-raw)
 
 pub row_read-requires-in-Holds : goal.row_read-requires-in-Holds
@@ -22,8 +22,8 @@ shape_of-f-in-Holds c = c.row_read-in-Holds.auto.f ∙ c.row_read-given.auto.f
 
 pub returns-in-Holds : goal.returns-in-Holds
 returns-in-Holds c = c.row_read-in-Holds.ensures
-    ∙ ap (λ (n : ℕ). line_by c.args.by n c.row_Line.result.now c.args.i) c.row_read-given.auto.f
-    ∙ ap (λ (l : List ℕ). line_by c.args.by (length c.args.f.now) l c.args.i) c.row_Line.ensures
+    ∙ ap (λ (n : ℕ). line_by c.args.by n c.row_line-line.result.now c.args.i) c.row_read-given.auto.f
+    ∙ ap (λ (l : List ℕ). line_by c.args.by (length c.args.f.now) l c.args.i) c.row_line-line.ensures
     ∙ handed_holds c.args.kind c.args.by (length c.args.f.now) c.args.next.now c.args.day.now c.args.i _ _ _ c.row_read-given.ensures (sym c.of_row.ensures ∙ not-false _ c.if-not-of_row.false-raw) c.in-Holds.is
 
 pub returns-in-Form : goal.returns-in-Form

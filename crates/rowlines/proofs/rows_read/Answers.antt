@@ -18,23 +18,11 @@ use Rattle.sections.proofs.StoredLaws.{after_within}
 use Rattle.rowlines.proofs.RowStored.{rows_stored_none, rows_stored_all, rows_stored_room, rows_stored_back, rows_stored_form, rows_stored_range, rows_stored_more}
 use Rattle.rowlines.proofs.rows_read.Goals as goal
 
-abbrev judge : goal.In-loop-i → List ℕ → ℕ → Line RowLine
-judge c = corrected_by c.args.kind c.args.zones (handed_by c.args.sheet.now)
-
-room : (c : goal.In-loop-i)
-    → c.loop-i.i * c.args.zones + c.args.zones ≤ length c.loop-i.f
-room c = rows_stored_room (judge c) c.args.first c.args.text.now c.args.at c.args.zones c.args.c.now c.args.f.now c.loop-i.c c.loop-i.f c.loop-i.i c.loop-i.p c.loop-i.invariant.stored c.loop-i-test.true
-
-lent : (c : goal.In-loop-i)
-    → let start = c.loop-i.i * c.args.zones in
-    length (take (start + c.args.zones - start) (drop start c.loop-i.f)) ≡ c.args.zones
-lent c = part_long c.loop-i.f _ _ (room c)
-
 pub loop-i-init : goal.loop-i-init
 loop-i-init c = record {
-      stored = rows_stored_none _ c.args.first c.args.text.now c.args.at c.args.zones c.args.c.now c.args.f.now c.requires.at_in_bounds.0 c.requires.at_in_bounds.2;
-      walked = walked_start c.sheet_kind-by.result c.args.zones (length c.args.c.now) c.args.sheet.now c.sheet_kind-by.ensures c.requires.sheet_value;
-    }
+  stored = rows_stored_none _ c.args.first c.args.text.now c.args.at c.args.zones c.args.c.now c.args.f.now c.requires.at_in_bounds.0 c.requires.at_in_bounds.2;
+  walked = walked_start c.sheet_kind-by.result c.args.zones (length c.args.c.now) c.args.sheet.now c.sheet_kind-by.ensures c.requires.sheet_value;
+}
 
 pub line_at-given-requires : goal.line_at-given-requires
 line_at-given-requires c = c.loop-i.invariant.stored.stored.within
@@ -43,19 +31,30 @@ pub line_at-next-requires : goal.line_at-next-requires
 line_at-next-requires c = c.loop-i.invariant.walked.within
 
 pub overflow_mul-start : goal.overflow_mul-start
-overflow_mul-start c = omega (arith, room c.before.before)
+overflow_mul-start c =
+    let room : c.loop-i.i * c.args.zones + c.args.zones ≤ length c.loop-i.f = rows_stored_room (corrected_by c.args.kind c.args.zones (handed_by c.args.sheet.now)) c.args.first c.args.text.now c.args.at c.args.zones c.args.c.now c.args.f.now c.loop-i.c c.loop-i.f c.loop-i.i c.loop-i.p c.loop-i.invariant.stored c.loop-i-test.true in
+    omega (arith, room)
 
 pub overflow_add-start : goal.overflow_add-start
-overflow_add-start c = omega (arith, room c.before.before)
+overflow_add-start c =
+    let room : c.loop-i.i * c.args.zones + c.args.zones ≤ length c.loop-i.f = rows_stored_room (corrected_by c.args.kind c.args.zones (handed_by c.args.sheet.now)) c.args.first c.args.text.now c.args.at c.args.zones c.args.c.now c.args.f.now c.loop-i.c c.loop-i.f c.loop-i.i c.loop-i.p c.loop-i.invariant.stored c.loop-i-test.true in
+    omega (arith, room)
 
 pub offset_bounds-f-start : goal.offset_bounds-f-start
-offset_bounds-f-start c = omega (arith, room c.before.before)
+offset_bounds-f-start c =
+    let room : c.loop-i.i * c.args.zones + c.args.zones ≤ length c.loop-i.f = rows_stored_room (corrected_by c.args.kind c.args.zones (handed_by c.args.sheet.now)) c.args.first c.args.text.now c.args.at c.args.zones c.args.c.now c.args.f.now c.loop-i.c c.loop-i.f c.loop-i.i c.loop-i.p c.loop-i.invariant.stored c.loop-i-test.true in
+    omega (arith, room)
 
 pub slice_bounds-row_corrected-end : goal.slice_bounds-row_corrected-end
-slice_bounds-row_corrected-end c = omega (arith, room c.before.before)
+slice_bounds-row_corrected-end c =
+    let room : c.loop-i.i * c.args.zones + c.args.zones ≤ length c.loop-i.f = rows_stored_room (corrected_by c.args.kind c.args.zones (handed_by c.args.sheet.now)) c.args.first c.args.text.now c.args.at c.args.zones c.args.c.now c.args.f.now c.loop-i.c c.loop-i.f c.loop-i.i c.loop-i.p c.loop-i.invariant.stored c.loop-i-test.true in
+    omega (arith, room)
 
 pub row_corrected-row-requires : goal.row_corrected-row-requires
-row_corrected-row-requires c = (omega (arith, lent c.before.before.before, c.requires.at_in_bounds.3), omega (arith, lent c.before.before.before, c.requires.at_in_bounds.4))
+row_corrected-row-requires c =
+    let room : c.loop-i.i * c.args.zones + c.args.zones ≤ length c.loop-i.f = rows_stored_room (corrected_by c.args.kind c.args.zones (handed_by c.args.sheet.now)) c.args.first c.args.text.now c.args.at c.args.zones c.args.c.now c.args.f.now c.loop-i.c c.loop-i.f c.loop-i.i c.loop-i.p c.loop-i.invariant.stored c.loop-i-test.true in
+    let lent : let start = c.loop-i.i * c.args.zones in length (take (start + c.args.zones - start) (drop start c.loop-i.f)) ≡ c.args.zones = part_long c.loop-i.f _ _ (room) in
+    (omega (arith, lent, c.requires.at_in_bounds.3), omega (arith, lent, c.requires.at_in_bounds.4))
 
 pub bounds-c-i : goal.bounds-c-i
 bounds-c-i c = omega (arith, c.loop-i.invariant.stored.rows_long)
@@ -67,23 +66,29 @@ pub shape_of-c-in-Form : goal.shape_of-c-in-Form
 shape_of-c-in-Form c = c.loop-i.invariant.stored.rows_long
 
 pub shape_of-f-in-Form : goal.shape_of-f-in-Form
-shape_of-f-in-Form c = let wide : length c.row_corrected-row.new.f ≡ c.args.zones = c.row_corrected-row.auto.f ∙ lent c.before.before.before.before in
+shape_of-f-in-Form c =
+    let room : c.loop-i.i * c.args.zones + c.args.zones ≤ length c.loop-i.f = rows_stored_room (corrected_by c.args.kind c.args.zones (handed_by c.args.sheet.now)) c.args.first c.args.text.now c.args.at c.args.zones c.args.c.now c.args.f.now c.loop-i.c c.loop-i.f c.loop-i.i c.loop-i.p c.loop-i.invariant.stored c.loop-i-test.true in
+    let lent : let start = c.loop-i.i * c.args.zones in length (take (start + c.args.zones - start) (drop start c.loop-i.f)) ≡ c.args.zones = part_long c.loop-i.f _ _ (room) in
+    let wide : length c.row_corrected-row.new.f ≡ c.args.zones = c.row_corrected-row.auto.f ∙ lent in
     let factors_kept : let start = c.loop-i.i * c.args.zones in
-    length (take start c.loop-i.f ++ (c.row_corrected-row.new.f ++ drop (start + c.args.zones - start) (drop start c.loop-i.f))) ≡ length c.args.f.now = rows_stored_back (judge c.before.before.before.before) c.args.first c.args.text.now c.args.at c.args.zones c.args.c.now c.args.f.now c.loop-i.c c.loop-i.f c.loop-i.i c.loop-i.p c.loop-i.invariant.stored c.loop-i-test.true c.row_corrected-row.new.f (wide) ∙ sym c.requires.at_in_bounds.2 in
+    length (take start c.loop-i.f ++ (c.row_corrected-row.new.f ++ drop (start + c.args.zones - start) (drop start c.loop-i.f))) ≡ length c.args.f.now = rows_stored_back (corrected_by c.args.kind c.args.zones (handed_by c.args.sheet.now)) c.args.first c.args.text.now c.args.at c.args.zones c.args.c.now c.args.f.now c.loop-i.c c.loop-i.f c.loop-i.i c.loop-i.p c.loop-i.invariant.stored c.loop-i-test.true c.row_corrected-row.new.f (wide) ∙ sym c.requires.at_in_bounds.2 in
     factors_kept
 
 pub returns-in-Form : goal.returns-in-Form
-returns-in-Form c = let row-said : judge c.before.before.before.before (line_at c.args.text.now c.loop-i.p) c.loop-i.i ≡ said_row c.row_corrected-row.result.judged c.row_corrected-row.result.raw c.row_corrected-row.new.f = let day = piece c.args.kind c.line_at-given.result.now in
+returns-in-Form c =
+    let room : c.loop-i.i * c.args.zones + c.args.zones ≤ length c.loop-i.f = rows_stored_room (corrected_by c.args.kind c.args.zones (handed_by c.args.sheet.now)) c.args.first c.args.text.now c.args.at c.args.zones c.args.c.now c.args.f.now c.loop-i.c c.loop-i.f c.loop-i.i c.loop-i.p c.loop-i.invariant.stored c.loop-i-test.true in
+    let lent : let start = c.loop-i.i * c.args.zones in length (take (start + c.args.zones - start) (drop start c.loop-i.f)) ≡ c.args.zones = part_long c.loop-i.f _ _ (room) in
+    let row-said : (corrected_by c.args.kind c.args.zones (handed_by c.args.sheet.now)) (line_at c.args.text.now c.loop-i.p) c.loop-i.i ≡ said_row c.row_corrected-row.result.judged c.row_corrected-row.result.raw c.row_corrected-row.new.f = let day = piece c.args.kind c.line_at-given.result.now in
     let handed : piece_for c.sheet_kind-by.result c.line_at-next.result.now day c.loop-i.i ≡ handed_by c.args.sheet.now day c.loop-i.i =
     ap (λ (x : List ℕ). piece_for c.sheet_kind-by.result x day c.loop-i.i) c.line_at-next.ensures ∙ walked_line c.sheet_kind-by.result c.args.zones (length c.args.c.now) c.args.sheet.now c.loop-i.s c.loop-i.i c.loop-i.invariant.walked day
     ∙ ap (λ (k : RowKind). handed_on k (pieces c.args.sheet.now) day c.loop-i.i) c.sheet_kind-by.ensures in
     sym
     (c.row_corrected-row.ensures
-    ∙ ap (λ (n : ℕ). instead (line_by c.args.kind n c.line_at-given.result.now c.loop-i.i) (row_in n (piece_for c.sheet_kind-by.result c.line_at-next.result.now day c.loop-i.i) c.loop-i.i)) (lent c.before.before.before.before)
+    ∙ ap (λ (n : ℕ). instead (line_by c.args.kind n c.line_at-given.result.now c.loop-i.i) (row_in n (piece_for c.sheet_kind-by.result c.line_at-next.result.now day c.loop-i.i) c.loop-i.i)) (lent)
     ∙ ap (λ (x : Piece). instead (line_by c.args.kind c.args.zones c.line_at-given.result.now c.loop-i.i) (row_in c.args.zones x c.loop-i.i)) handed
-    ∙ ap (λ (x : List ℕ). judge c.before.before.before.before x c.loop-i.i) c.line_at-given.ensures) in
+    ∙ ap (λ (x : List ℕ). (corrected_by c.args.kind c.args.zones (handed_by c.args.sheet.now)) x c.loop-i.i) c.line_at-given.ensures) in
     ap fault c.wrong_form_at.ensures
-    ∙ rows_stored_form (judge c.before.before.before.before.before.before.before.before) c.args.first c.args.text.now c.args.at c.args.zones c.args.c.now c.args.f.now c.loop-i.c c.loop-i.f c.loop-i.i c.loop-i.p c.loop-i.invariant.stored c.loop-i-test.true _
+    ∙ rows_stored_form (corrected_by c.args.kind c.args.zones (handed_by c.args.sheet.now)) c.args.first c.args.text.now c.args.at c.args.zones c.args.c.now c.args.f.now c.loop-i.c c.loop-i.f c.loop-i.i c.loop-i.p c.loop-i.invariant.stored c.loop-i-test.true _
     (row-said ∙ ap (λ (j : RowJudged). said_row j c.row_corrected-row.result.raw c.row_corrected-row.new.f) c.in-Form.is)
 
 pub overflow_add-first-in-Range : goal.overflow_add-first-in-Range
@@ -93,23 +98,29 @@ pub shape_of-c-in-Range : goal.shape_of-c-in-Range
 shape_of-c-in-Range c = c.loop-i.invariant.stored.rows_long
 
 pub shape_of-f-in-Range : goal.shape_of-f-in-Range
-shape_of-f-in-Range c = let wide : length c.row_corrected-row.new.f ≡ c.args.zones = c.row_corrected-row.auto.f ∙ lent c.before.before.before.before in
+shape_of-f-in-Range c =
+    let room : c.loop-i.i * c.args.zones + c.args.zones ≤ length c.loop-i.f = rows_stored_room (corrected_by c.args.kind c.args.zones (handed_by c.args.sheet.now)) c.args.first c.args.text.now c.args.at c.args.zones c.args.c.now c.args.f.now c.loop-i.c c.loop-i.f c.loop-i.i c.loop-i.p c.loop-i.invariant.stored c.loop-i-test.true in
+    let lent : let start = c.loop-i.i * c.args.zones in length (take (start + c.args.zones - start) (drop start c.loop-i.f)) ≡ c.args.zones = part_long c.loop-i.f _ _ (room) in
+    let wide : length c.row_corrected-row.new.f ≡ c.args.zones = c.row_corrected-row.auto.f ∙ lent in
     let factors_kept : let start = c.loop-i.i * c.args.zones in
-    length (take start c.loop-i.f ++ (c.row_corrected-row.new.f ++ drop (start + c.args.zones - start) (drop start c.loop-i.f))) ≡ length c.args.f.now = rows_stored_back (judge c.before.before.before.before) c.args.first c.args.text.now c.args.at c.args.zones c.args.c.now c.args.f.now c.loop-i.c c.loop-i.f c.loop-i.i c.loop-i.p c.loop-i.invariant.stored c.loop-i-test.true c.row_corrected-row.new.f (wide) ∙ sym c.requires.at_in_bounds.2 in
+    length (take start c.loop-i.f ++ (c.row_corrected-row.new.f ++ drop (start + c.args.zones - start) (drop start c.loop-i.f))) ≡ length c.args.f.now = rows_stored_back (corrected_by c.args.kind c.args.zones (handed_by c.args.sheet.now)) c.args.first c.args.text.now c.args.at c.args.zones c.args.c.now c.args.f.now c.loop-i.c c.loop-i.f c.loop-i.i c.loop-i.p c.loop-i.invariant.stored c.loop-i-test.true c.row_corrected-row.new.f (wide) ∙ sym c.requires.at_in_bounds.2 in
     factors_kept
 
 pub returns-in-Range : goal.returns-in-Range
-returns-in-Range c = let row-said : judge c.before.before.before.before (line_at c.args.text.now c.loop-i.p) c.loop-i.i ≡ said_row c.row_corrected-row.result.judged c.row_corrected-row.result.raw c.row_corrected-row.new.f = let day = piece c.args.kind c.line_at-given.result.now in
+returns-in-Range c =
+    let room : c.loop-i.i * c.args.zones + c.args.zones ≤ length c.loop-i.f = rows_stored_room (corrected_by c.args.kind c.args.zones (handed_by c.args.sheet.now)) c.args.first c.args.text.now c.args.at c.args.zones c.args.c.now c.args.f.now c.loop-i.c c.loop-i.f c.loop-i.i c.loop-i.p c.loop-i.invariant.stored c.loop-i-test.true in
+    let lent : let start = c.loop-i.i * c.args.zones in length (take (start + c.args.zones - start) (drop start c.loop-i.f)) ≡ c.args.zones = part_long c.loop-i.f _ _ (room) in
+    let row-said : (corrected_by c.args.kind c.args.zones (handed_by c.args.sheet.now)) (line_at c.args.text.now c.loop-i.p) c.loop-i.i ≡ said_row c.row_corrected-row.result.judged c.row_corrected-row.result.raw c.row_corrected-row.new.f = let day = piece c.args.kind c.line_at-given.result.now in
     let handed : piece_for c.sheet_kind-by.result c.line_at-next.result.now day c.loop-i.i ≡ handed_by c.args.sheet.now day c.loop-i.i =
     ap (λ (x : List ℕ). piece_for c.sheet_kind-by.result x day c.loop-i.i) c.line_at-next.ensures ∙ walked_line c.sheet_kind-by.result c.args.zones (length c.args.c.now) c.args.sheet.now c.loop-i.s c.loop-i.i c.loop-i.invariant.walked day
     ∙ ap (λ (k : RowKind). handed_on k (pieces c.args.sheet.now) day c.loop-i.i) c.sheet_kind-by.ensures in
     sym
     (c.row_corrected-row.ensures
-    ∙ ap (λ (n : ℕ). instead (line_by c.args.kind n c.line_at-given.result.now c.loop-i.i) (row_in n (piece_for c.sheet_kind-by.result c.line_at-next.result.now day c.loop-i.i) c.loop-i.i)) (lent c.before.before.before.before)
+    ∙ ap (λ (n : ℕ). instead (line_by c.args.kind n c.line_at-given.result.now c.loop-i.i) (row_in n (piece_for c.sheet_kind-by.result c.line_at-next.result.now day c.loop-i.i) c.loop-i.i)) (lent)
     ∙ ap (λ (x : Piece). instead (line_by c.args.kind c.args.zones c.line_at-given.result.now c.loop-i.i) (row_in c.args.zones x c.loop-i.i)) handed
-    ∙ ap (λ (x : List ℕ). judge c.before.before.before.before x c.loop-i.i) c.line_at-given.ensures) in
+    ∙ ap (λ (x : List ℕ). (corrected_by c.args.kind c.args.zones (handed_by c.args.sheet.now)) x c.loop-i.i) c.line_at-given.ensures) in
     ap fault c.out_of_range_at.ensures
-    ∙ rows_stored_range (judge c.before.before.before.before.before.before.before.before) c.args.first c.args.text.now c.args.at c.args.zones c.args.c.now c.args.f.now c.loop-i.c c.loop-i.f c.loop-i.i c.loop-i.p c.loop-i.invariant.stored c.loop-i-test.true _
+    ∙ rows_stored_range (corrected_by c.args.kind c.args.zones (handed_by c.args.sheet.now)) c.args.first c.args.text.now c.args.at c.args.zones c.args.c.now c.args.f.now c.loop-i.c c.loop-i.f c.loop-i.i c.loop-i.p c.loop-i.invariant.stored c.loop-i-test.true _
     (row-said ∙ ap (λ (j : RowJudged). said_row j c.row_corrected-row.result.raw c.row_corrected-row.new.f) c.in-Range.is)
 
 pub sheet_after-s-requires : goal.sheet_after-s-requires
@@ -119,19 +130,22 @@ pub overflow_add-p : goal.overflow_add-p
 overflow_add-p c = rw c.line_at-given.ensures (omega (arith, after_within c.args.text.now c.loop-i.p c.loop-i.invariant.stored.stored.within, c.well_formed))
 
 pub loop-i-preserved : goal.loop-i-preserved
-loop-i-preserved c = let row-said : judge c.before.before.before.before (line_at c.args.text.now c.loop-i.p) c.loop-i.i ≡ said_row c.row_corrected-row.result.judged c.row_corrected-row.result.raw c.row_corrected-row.new.f = let day = piece c.args.kind c.line_at-given.result.now in
+loop-i-preserved c =
+    let room : c.loop-i.i * c.args.zones + c.args.zones ≤ length c.loop-i.f = rows_stored_room (corrected_by c.args.kind c.args.zones (handed_by c.args.sheet.now)) c.args.first c.args.text.now c.args.at c.args.zones c.args.c.now c.args.f.now c.loop-i.c c.loop-i.f c.loop-i.i c.loop-i.p c.loop-i.invariant.stored c.loop-i-test.true in
+    let lent : let start = c.loop-i.i * c.args.zones in length (take (start + c.args.zones - start) (drop start c.loop-i.f)) ≡ c.args.zones = part_long c.loop-i.f _ _ (room) in
+    let row-said : (corrected_by c.args.kind c.args.zones (handed_by c.args.sheet.now)) (line_at c.args.text.now c.loop-i.p) c.loop-i.i ≡ said_row c.row_corrected-row.result.judged c.row_corrected-row.result.raw c.row_corrected-row.new.f = let day = piece c.args.kind c.line_at-given.result.now in
     let handed : piece_for c.sheet_kind-by.result c.line_at-next.result.now day c.loop-i.i ≡ handed_by c.args.sheet.now day c.loop-i.i =
     ap (λ (x : List ℕ). piece_for c.sheet_kind-by.result x day c.loop-i.i) c.line_at-next.ensures ∙ walked_line c.sheet_kind-by.result c.args.zones (length c.args.c.now) c.args.sheet.now c.loop-i.s c.loop-i.i c.loop-i.invariant.walked day
     ∙ ap (λ (k : RowKind). handed_on k (pieces c.args.sheet.now) day c.loop-i.i) c.sheet_kind-by.ensures in
     sym
     (c.row_corrected-row.ensures
-    ∙ ap (λ (n : ℕ). instead (line_by c.args.kind n c.line_at-given.result.now c.loop-i.i) (row_in n (piece_for c.sheet_kind-by.result c.line_at-next.result.now day c.loop-i.i) c.loop-i.i)) (lent c.before.before.before.before)
+    ∙ ap (λ (n : ℕ). instead (line_by c.args.kind n c.line_at-given.result.now c.loop-i.i) (row_in n (piece_for c.sheet_kind-by.result c.line_at-next.result.now day c.loop-i.i) c.loop-i.i)) (lent)
     ∙ ap (λ (x : Piece). instead (line_by c.args.kind c.args.zones c.line_at-given.result.now c.loop-i.i) (row_in c.args.zones x c.loop-i.i)) handed
-    ∙ ap (λ (x : List ℕ). judge c.before.before.before.before x c.loop-i.i) c.line_at-given.ensures) in
-    let wide : length c.row_corrected-row.new.f ≡ c.args.zones = c.row_corrected-row.auto.f ∙ lent c.before.before.before.before in
+    ∙ ap (λ (x : List ℕ). (corrected_by c.args.kind c.args.zones (handed_by c.args.sheet.now)) x c.loop-i.i) c.line_at-given.ensures) in
+    let wide : length c.row_corrected-row.new.f ≡ c.args.zones = c.row_corrected-row.auto.f ∙ lent in
     record {
       stored = rw c.line_at-given.ensures
-          (rows_stored_more (judge c.before.before.before.before.before.before.before.before) c.args.first c.args.text.now c.args.at c.args.zones c.args.c.now c.args.f.now c.loop-i.c c.loop-i.f c.loop-i.i c.loop-i.p c.loop-i.invariant.stored c.loop-i-test.true c.row_corrected-row.result.raw c.row_corrected-row.new.f (wide)
+          (rows_stored_more (corrected_by c.args.kind c.args.zones (handed_by c.args.sheet.now)) c.args.first c.args.text.now c.args.at c.args.zones c.args.c.now c.args.f.now c.loop-i.c c.loop-i.f c.loop-i.i c.loop-i.p c.loop-i.invariant.stored c.loop-i-test.true c.row_corrected-row.result.raw c.row_corrected-row.new.f (wide)
           (row-said ∙ ap (λ (j : RowJudged). said_row j c.row_corrected-row.result.raw c.row_corrected-row.new.f) c.in-Holds.is));
       walked = subst (λ (v : ℕ). Walked c.sheet_kind-by.result c.args.zones (length c.args.c.now) c.args.sheet.now v (c.loop-i.i + 1)) (sym (c.sheet_after-s.ensures ∙ ap (λ (next : List ℕ). sheet_after c.sheet_kind-by.result next c.loop-i.s c.loop-i.i) c.line_at-next.ensures))
           (walked_more c.sheet_kind-by.result c.args.zones (length c.args.c.now) c.args.sheet.now c.loop-i.s c.loop-i.i c.loop-i.invariant.walked);
