@@ -35,7 +35,7 @@ pub anchors : Hold (
     ∷ hour_of false [] hour_text is figures (1 ∷ 13 ∷ 0 ∷ 0 ∷ []) [] []
     ∷ hour_of true [] cable is figures (0 ∷ 1 ∷ 2 ∷ 1 ∷ []) (way_of 0 1 2 1 ∷ way_of 0 1 0 0 ∷ []) (1250 ∷ 2500 ∷ [])
     ∷ day_sheet true [] (replicate 192 7) labels cames is
-    (line (bytes "border;from;to;sending hub;receiving hub;h1;h2;h3") ++ line (bytes "rounds;;;;;X;21;E 2 1 0") ++ line (bytes "profile;;;;;X;day_ahead;E 2 1 0")
+    (line (bytes "border;from;to;sending hub;receiving hub;h1;h2;h3") ++ line (bytes "rounds;;;;;X;21;E 2 1 0") ++ line (bytes "profile;;;;;X;day-ahead;E 2 1 0")
     ++ line (bytes "0;0;1;;;X;2599;E 2 1 0") ++ line (bytes "1;1;2;;;X;1800;E 2 1 0"))
     ∷ []
     )

@@ -46,7 +46,7 @@ others = filled 64 (1560 ∷ 3790 ∷ []) ++ (filled 64 (1550 ∷ 900 ∷ 800 �
 
 pub anchors : Hold (
     sheet_text (bytes "T24" ∷ bytes "T09" ∷ bytes "T06" ∷ []) (unread ∷ unread ∷ h06 ∷ []) (filled 64 [] ++ (filled 64 [] ++ ways)) (filled 64 [] ++ (filled 64 [] ++ atcs)) is
-    (line (bytes "border;from;to;sending hub;receiving hub;T24;T09;T06") ++ line (bytes "rounds;;;;;X;X;27") ++ line (bytes "profile;;;;;X;X;day_ahead")
+    (line (bytes "border;from;to;sending hub;receiving hub;T24;T09;T06") ++ line (bytes "rounds;;;;;X;X;27") ++ line (bytes "profile;;;;;X;X;day-ahead")
     ++ line (bytes "0;0;1;;;X;X;3233") ++ line (bytes "1;1;0;;;X;X;1424") ++ line (bytes "2;1;2;;;X;X;2007") ++ line (bytes "3;2;3;;;X;X;4088") ++ line (bytes "4;3;0;;;X;X;1629"))
     ∷ []
     )

@@ -26,7 +26,7 @@ refused_cell number place byte = (code "E" then spaced number) ++ spaced place +
 -- what an hour that is answered has there: a number, its profile, no such border, or a border between other zones or hubs
 abbrev pub own_text : Own → (number : ℕ) → List ℕ
 own_text Number number = decimal number
-own_text DayAhead number = bytes "day_ahead"
+own_text DayAhead number = bytes "day-ahead"
 own_text Intraday number = bytes "intraday"
 own_text Absent number = bytes "-"
 own_text Other number = bytes "other"

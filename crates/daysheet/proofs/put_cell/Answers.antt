@@ -6,7 +6,7 @@ pub returns-then-hour-eq-ANSWERED : goal.returns-then-hour-eq-ANSWERED
 returns-then-hour-eq-ANSWERED c = cell_answered _ _ _ c.put_byte-at.ensures c.if-hour-eq-ANSWERED.true c.put_own.ensures
 
 pub returns-then-hour-eq-REFUSED : goal.returns-then-hour-eq-REFUSED
-returns-then-hour-eq-REFUSED c = cell_refused _ _ _ c.put_byte-at.ensures c.if-hour-eq-ANSWERED.false c.if-hour-eq-REFUSED.true c.Put-refused.ensures
+returns-then-hour-eq-REFUSED c = cell_refused _ _ _ c.put_byte-at.ensures c.if-hour-eq-ANSWERED.false c.if-hour-eq-REFUSED.true c.put_refused.ensures
 
 pub returns : goal.returns
 returns c = cell_unread _ _ _ c.put_byte-at.ensures c.if-hour-eq-ANSWERED.false c.if-hour-eq-REFUSED.false c.put_byte.ensures
