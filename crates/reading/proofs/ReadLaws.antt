@@ -169,8 +169,8 @@ module _ (pick : Piece → ℕ → Piece) (text : List ℕ) (t : Table) (o : Ope
   factors_all : length t.factors ≡ t.header.rows * t.header.zones
   factors_all = rw (← o.factors_are, ← rows_held.0) (factors_long t.header.zones o.lines 0 rows_held.1)
 
-  row_fits : (i : ℕ) → i < t.header.rows → row_fits (get_or t.rows i []) ≡ true
-  row_fits i h = let c = get_or o.lines i empty_row in rw (values_is i) (row_good_lem c.values c.factors (row_at i h).good).0
+  rows_all_fit : (i : ℕ) → i < t.header.rows → row_fits (get_or t.rows i []) ≡ true
+  rows_all_fit i h = let c = get_or o.lines i empty_row in rw (values_is i) (row_good_lem c.values c.factors (row_at i h).good).0
 
   pub opened_good : ((b : ℕ) → b < t.header.borders → twice t.borders b ≡ false) → Good t
   opened_good once = record {
@@ -186,7 +186,7 @@ module _ (pick : Piece → ℕ → Piece) (text : List ℕ) (t : Table) (o : Ope
     allocated_fit = λ i h. fits_at (λ i net. zone_fits net ≡ true) (pos 0) t.allocated 0 allocated_held.1 i (omega (arith, allocated_held.0));
     in_balance = o.in_balance;
     borders_fit = λ b h. (border-at b h).fits;
-    rows_fit = row_fits;
+    rows_fit = rows_all_fit;
     factors_fit = flat_fit t.header.zones t.header.rows t.factors factors_all some (λ i h.
         subst (λ (f : List ℤ). (z : ℕ) → z < length f → factor_fits (at_ℤ f z) ≡ true) (sym (stretch-is i h))
         (row_good_lem (get_or o.lines i empty_row).values (get_or o.lines i empty_row).factors (row_at i h).good).1);

@@ -23,16 +23,6 @@ few : (c : goal.After-allocated_items-items) → (c.allocated_items-items.result
 few c = let h = netted c.requires.netted in
     (omega (arith, c.allocated_items-items.ensures, allocated_most c.args.h), h.zones_most_lem, omega (arith, c.allocated_items-items.ensures, allocated_most c.args.h, h.zones_most_lem, c.requires.roomy.allocated))
 
-read-section : (c : goal.In-At)
-    → read c.zones_read.new.z c.in-At.p ≡ allocated_section c.args.text.now c.args.h c.args.at
-read-section c = sym (ap (λ (r : End). stored_section r c.zones_read.new.z) c.in-At.is) ∙ section
-
-front-is : (c : goal.In-At)
-    → take c.allocated_items-items.result (c.zones_read.new.z ++ drop c.allocated_items-items.result c.args.t.now) ≡ c.zones_read.new.z
-front-is c =
-    let few : (c.allocated_items-items.result ≤ c.args.h.zones) × (c.args.h.zones ≤ zones_most) × (c.allocated_items-items.result ≤ length c.args.t.now) = let h = netted c.requires.netted in (omega (arith, c.allocated_items-items.ensures, allocated_most c.args.h), h.zones_most_lem, omega (arith, c.allocated_items-items.ensures, allocated_most c.args.h, h.zones_most_lem, c.requires.roomy.allocated)) in
-    take_at _ _ c.allocated_items-items.result (c.zones_read.auto.z ∙ length-take-le c.allocated_items-items.result _ (few).2)
-
 pub overflow_add-first : goal.overflow_add-first
 overflow_add-first c = let h = netted c.requires.netted in omega (arith, h.zones_most_lem)
 
@@ -56,15 +46,18 @@ slice_bounds-balanced-end c =
 
 pub slice_bounds-balanced-end-in-At : goal.slice_bounds-balanced-end-in-At
 slice_bounds-balanced-end-in-At c =
+    let front-is : take c.allocated_items-items.result (c.zones_read.new.z ++ drop c.allocated_items-items.result c.args.t.now) ≡ c.zones_read.new.z = let few : (c.allocated_items-items.result ≤ c.args.h.zones) × (c.args.h.zones ≤ zones_most) × (c.allocated_items-items.result ≤ length c.args.t.now) = let h = netted c.requires.netted in (omega (arith, c.allocated_items-items.ensures, allocated_most c.args.h), h.zones_most_lem, omega (arith, c.allocated_items-items.ensures, allocated_most c.args.h, h.zones_most_lem, c.requires.roomy.allocated)) in take_at _ _ c.allocated_items-items.result (c.zones_read.auto.z ∙ length-take-le c.allocated_items-items.result _ (few).2) in
     let few : (c.allocated_items-items.result ≤ c.args.h.zones) × (c.args.h.zones ≤ zones_most) × (c.allocated_items-items.result ≤ length c.args.t.now) = let h = netted c.requires.netted in (omega (arith, c.allocated_items-items.ensures, allocated_most c.args.h), h.zones_most_lem, omega (arith, c.allocated_items-items.ensures, allocated_most c.args.h, h.zones_most_lem, c.requires.roomy.allocated)) in
-    sym (ap length (front-is c.before) ∙ c.zones_read.auto.z ∙ length-take-le c.allocated_items-items.result _ (few).2)
+    sym (ap length (front-is) ∙ c.zones_read.auto.z ∙ length-take-le c.allocated_items-items.result _ (few).2)
 
 pub balanced-requires : goal.balanced-requires
 balanced-requires c =
+    let read-section : read c.zones_read.new.z c.in-At.p ≡ allocated_section c.args.text.now c.args.h c.args.at = let few : (c.allocated_items-items.result ≤ c.args.h.zones) × (c.args.h.zones ≤ zones_most) × (c.allocated_items-items.result ≤ length c.args.t.now) = let h = netted c.requires.netted in (omega (arith, c.allocated_items-items.ensures, allocated_most c.args.h), h.zones_most_lem, omega (arith, c.allocated_items-items.ensures, allocated_most c.args.h, h.zones_most_lem, c.requires.roomy.allocated)) in let section : stored_section c.zones_read.result c.zones_read.new.z ≡ allocated_section c.args.text.now c.args.h c.args.at = c.zones_read.ensures ∙ section_lent allocated_line (allocated_line_no c.args.h) c.allocated_items-items.result c.args.text.now c.args.at c.args.t.now (few).2 ∙ ap (λ (k : ℕ). lines_at allocated_line (allocated_line_no c.args.h) k c.args.text.now c.args.at 0) c.allocated_items-items.ensures in sym (ap (λ (r : End). stored_section r c.zones_read.new.z) c.in-At.is) ∙ section in
+    let front-is : take c.allocated_items-items.result (c.zones_read.new.z ++ drop c.allocated_items-items.result c.args.t.now) ≡ c.zones_read.new.z = let few : (c.allocated_items-items.result ≤ c.args.h.zones) × (c.args.h.zones ≤ zones_most) × (c.allocated_items-items.result ≤ length c.args.t.now) = let h = netted c.requires.netted in (omega (arith, c.allocated_items-items.ensures, allocated_most c.args.h), h.zones_most_lem, omega (arith, c.allocated_items-items.ensures, allocated_most c.args.h, h.zones_most_lem, c.requires.roomy.allocated)) in take_at _ _ c.allocated_items-items.result (c.zones_read.auto.z ∙ length-take-le c.allocated_items-items.result _ (few).2) in
     let few : (c.allocated_items-items.result ≤ c.args.h.zones) × (c.args.h.zones ≤ zones_most) × (c.allocated_items-items.result ≤ length c.args.t.now) = let h = netted c.requires.netted in (omega (arith, c.allocated_items-items.ensures, allocated_most c.args.h), h.zones_most_lem, omega (arith, c.allocated_items-items.ensures, allocated_most c.args.h, h.zones_most_lem, c.requires.roomy.allocated)) in
-    let held = allocated_held c.requires.netted _ _ (read-section c.before) in
+    let held = allocated_held c.requires.netted _ _ (read-section) in
     let n = few in
-    (omega (arith, ap length (front-is c.before), held.0, allocated_most c.args.h, n), subst (AllWithin net_most) (sym (front-is c.before)) held.1)
+    (omega (arith, ap length (front-is), held.0, allocated_most c.args.h, n), subst (AllWithin net_most) (sym (front-is)) held.1)
 
 pub overflow_add-last : goal.overflow_add-last
 overflow_add-last c =
@@ -77,11 +70,17 @@ overflow_add-last-then-not-balanced c =
     let n = few in omega (arith, n)
 
 pub returns-then-not-balanced : goal.returns-then-not-balanced
-returns-then-not-balanced c = ap refused (c.out_of_range_at.ensures ∙ ap₂ (λ (n byte : ℕ). out_of_range_at (header_line_no + c.args.h.zones + n) byte) c.allocated_items-items.ensures c.balance_byte.ensures)
-    ∙ unbalanced c.requires.netted _ _ (read-section c.before.before.before.before.before) c.args.sheet.now (sym (c.balanced.ensures ∙ ap balanced (front-is c.before.before.before.before.before)) ∙ not-true _ c.if-not-balanced.true-raw)
+returns-then-not-balanced c =
+    let read-section : read c.zones_read.new.z c.in-At.p ≡ allocated_section c.args.text.now c.args.h c.args.at = let few : (c.allocated_items-items.result ≤ c.args.h.zones) × (c.args.h.zones ≤ zones_most) × (c.allocated_items-items.result ≤ length c.args.t.now) = let h = netted c.requires.netted in (omega (arith, c.allocated_items-items.ensures, allocated_most c.args.h), h.zones_most_lem, omega (arith, c.allocated_items-items.ensures, allocated_most c.args.h, h.zones_most_lem, c.requires.roomy.allocated)) in let section : stored_section c.zones_read.result c.zones_read.new.z ≡ allocated_section c.args.text.now c.args.h c.args.at = c.zones_read.ensures ∙ section_lent allocated_line (allocated_line_no c.args.h) c.allocated_items-items.result c.args.text.now c.args.at c.args.t.now (few).2 ∙ ap (λ (k : ℕ). lines_at allocated_line (allocated_line_no c.args.h) k c.args.text.now c.args.at 0) c.allocated_items-items.ensures in sym (ap (λ (r : End). stored_section r c.zones_read.new.z) c.in-At.is) ∙ section in
+    let front-is : take c.allocated_items-items.result (c.zones_read.new.z ++ drop c.allocated_items-items.result c.args.t.now) ≡ c.zones_read.new.z = let few : (c.allocated_items-items.result ≤ c.args.h.zones) × (c.args.h.zones ≤ zones_most) × (c.allocated_items-items.result ≤ length c.args.t.now) = let h = netted c.requires.netted in (omega (arith, c.allocated_items-items.ensures, allocated_most c.args.h), h.zones_most_lem, omega (arith, c.allocated_items-items.ensures, allocated_most c.args.h, h.zones_most_lem, c.requires.roomy.allocated)) in take_at _ _ c.allocated_items-items.result (c.zones_read.auto.z ∙ length-take-le c.allocated_items-items.result _ (few).2) in
+    ap refused (c.out_of_range_at.ensures ∙ ap₂ (λ (n byte : ℕ). out_of_range_at (header_line_no + c.args.h.zones + n) byte) c.allocated_items-items.ensures c.balance_byte.ensures)
+    ∙ unbalanced c.requires.netted _ _ (read-section) c.args.sheet.now (sym (c.balanced.ensures ∙ ap balanced (front-is)) ∙ not-true _ c.if-not-balanced.true-raw)
 
 pub read_borders-requires : goal.read_borders-requires
-read_borders-requires c = record { allocated = allocated_passed c.requires.netted _ _ (read-section c.before.before.before.before.before.before.before.before) (drop c.allocated_items-items.result c.args.t.now) (sym (c.balanced.ensures ∙ ap balanced (front-is c.before.before.before.before.before.before.before.before)) ∙ not-false _ c.if-not-balanced.false-raw); roomy = room_t c.requires.roomy c.allocated_items-items.result c.zones_read.new.z c.zones_read.auto.z }
+read_borders-requires c =
+    let read-section : read c.zones_read.new.z c.in-At.p ≡ allocated_section c.args.text.now c.args.h c.args.at = let few : (c.allocated_items-items.result ≤ c.args.h.zones) × (c.args.h.zones ≤ zones_most) × (c.allocated_items-items.result ≤ length c.args.t.now) = let h = netted c.requires.netted in (omega (arith, c.allocated_items-items.ensures, allocated_most c.args.h), h.zones_most_lem, omega (arith, c.allocated_items-items.ensures, allocated_most c.args.h, h.zones_most_lem, c.requires.roomy.allocated)) in let section : stored_section c.zones_read.result c.zones_read.new.z ≡ allocated_section c.args.text.now c.args.h c.args.at = c.zones_read.ensures ∙ section_lent allocated_line (allocated_line_no c.args.h) c.allocated_items-items.result c.args.text.now c.args.at c.args.t.now (few).2 ∙ ap (λ (k : ℕ). lines_at allocated_line (allocated_line_no c.args.h) k c.args.text.now c.args.at 0) c.allocated_items-items.ensures in sym (ap (λ (r : End). stored_section r c.zones_read.new.z) c.in-At.is) ∙ section in
+    let front-is : take c.allocated_items-items.result (c.zones_read.new.z ++ drop c.allocated_items-items.result c.args.t.now) ≡ c.zones_read.new.z = let few : (c.allocated_items-items.result ≤ c.args.h.zones) × (c.args.h.zones ≤ zones_most) × (c.allocated_items-items.result ≤ length c.args.t.now) = let h = netted c.requires.netted in (omega (arith, c.allocated_items-items.ensures, allocated_most c.args.h), h.zones_most_lem, omega (arith, c.allocated_items-items.ensures, allocated_most c.args.h, h.zones_most_lem, c.requires.roomy.allocated)) in take_at _ _ c.allocated_items-items.result (c.zones_read.auto.z ∙ length-take-le c.allocated_items-items.result _ (few).2) in
+    record { allocated = allocated_passed c.requires.netted _ _ (read-section) (drop c.allocated_items-items.result c.args.t.now) (sym (c.balanced.ensures ∙ ap balanced (front-is)) ∙ not-false _ c.if-not-balanced.false-raw); roomy = room_t c.requires.roomy c.allocated_items-items.result c.zones_read.new.z c.zones_read.auto.z }
 
 pub returns-in-Refused : goal.returns-in-Refused
 returns-in-Refused c =
