@@ -20,7 +20,7 @@ bounds-ways-place c = omega (arith, c.requires.zones_le_zones_most.1.few, c.requ
 
 pub loop-i-preserved : goal.loop-i-preserved
 loop-i-preserved c = storing_more c.loop-i.invariant _ (omega (arith, ways_long c.args.b.now, c.requires.zones_le_zones_most.1.few, c.requires.borders_most_in_bounds))
-    (omega (arith, ways_long c.args.b.now)) (c.Way-of.ensures ∙ sym (way_at c.args.b.now _ (omega arith)))
+    (omega (arith, ways_long c.args.b.now)) (c.way_of-way.ensures ∙ sym (way_at c.args.b.now _ (omega arith)))
 
 pub shape_of-ways : goal.shape_of-ways
 shape_of-ways c = c.loop-i.invariant.as_long
