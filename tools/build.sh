@@ -126,8 +126,8 @@ make_library() { # CRATE FILE
 
 # Whether the libraries below a crate are all those of `rt ci`: rt's other commands leave a stamp beside each that they build.
 built_by_rt_ci() { # CRATE
-    for one in $(reached_by "$1" | sed 's/:.*//'); do
-        [ "$one" = "$1" ] || { [ -e "$here/crates/$one/out/rlib/$one.rlib/format" ] && [ ! -e "$here/crates/$one/out/rlib/stamp" ]; } || return
+    for below in $(reached_by "$1" | sed 's/:.*//'); do
+        [ "$below" = "$1" ] || { [ -e "$here/crates/$below/out/rlib/$below.rlib/format" ] && [ ! -e "$here/crates/$below/out/rlib/stamp" ]; } || return
     done
 }
 
@@ -136,11 +136,11 @@ over_libraries() { # CRATE TOOLCHAIN OUT
     reached=$(reached_by "$1")
     crate=$1 tools=$2 out=$3
     set -- --crate-name "$crate" src/lib.rt --crate-type staticlib --links "$crate=" --extern "std=$kit/rlibs/std.rlib" -L "dependency=$kit/rlibs"
-    for one in $(echo "$reached" | sed -n "s/^$crate://p"); do
-        set -- "$@" --extern "$one=$here/crates/$one/out/rlib/$one.rlib"
+    for below in $(echo "$reached" | sed -n "s/^$crate://p"); do
+        set -- "$@" --extern "$below=$here/crates/$below/out/rlib/$below.rlib"
     done
-    for one in $(echo "$reached" | sed 's/:.*//'); do
-        [ "$one" = "$crate" ] || set -- "$@" -L "dependency=$here/crates/$one/out/rlib"
+    for below in $(echo "$reached" | sed 's/:.*//'); do
+        [ "$below" = "$crate" ] || set -- "$@" -L "dependency=$here/crates/$below/out/rlib"
     done
     mkdir -p out
     "$kit/bin/rattle" build "$@" --antt-project "$kit/rattle/logic/antt-project.json" --logic-built "$kit/logic_built" --jobs 2 \
@@ -150,11 +150,11 @@ over_libraries() { # CRATE TOOLCHAIN OUT
 # Runs a command that proves in the crate's folder, with its words in the log, and tells each crate as it is done.
 with_progress() { # CRATE COMMAND..
     reached=$(reached_by "$1" | sed 's/:.*//')
-    folder=$here/crates/$1
+    place=$here/crates/$1
     shift
     # Not on this script's standard input, which is the table.
     {
-        (cd "$folder" && "$@" </dev/null 2>&1)
+        (cd "$place" && "$@" </dev/null 2>&1)
         echo "the kit ended with $?"
     } | tell_progress
 }
