@@ -10,15 +10,15 @@ use Rattle.lending.proofs.read_with.Goals as goal
 
 pub put_table-requires : goal.put_table-requires
 put_table-requires c = (
-      (into_good c.args.text.now c.args.sheet.now c.read_into.result _ _ _ _ _ c.read_into.ensures c.in-Table.is).exact.header,
-      record {
-        zones = omega (arith, c.requires.0, c.read_into.auto.z);
-        allocated = omega (arith, c.requires.1, c.read_into.auto.t);
-        borders = omega (arith, c.requires.2, c.read_into.auto.b);
-        rows = omega (arith, c.requires.3, c.read_into.auto.c);
-        factors = omega (arith, c.requires.4, c.read_into.auto.f);
-      },
-    )
+  (into_good c.args.text.now c.args.sheet.now c.read_into.result _ _ _ _ _ c.read_into.ensures c.in-Table.is).exact.header,
+  record {
+    zones = omega (arith, c.requires.0, c.read_into.auto.z);
+    allocated = omega (arith, c.requires.1, c.read_into.auto.t);
+    borders = omega (arith, c.requires.2, c.read_into.auto.b);
+    rows = omega (arith, c.requires.3, c.read_into.auto.c);
+    factors = omega (arith, c.requires.4, c.read_into.auto.f);
+  },
+)
 
 pub returns-in-Table : goal.returns-in-Table
 returns-in-Table c = c.put_table.ensures
