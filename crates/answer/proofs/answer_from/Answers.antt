@@ -2,24 +2,14 @@
 use mathlib.Core.Path.{sym, ◌∙◌}
 use native.Mathlib.Nat.{le_trans, mul-le-mul}
 use native.Mathlib.Omega.{arith}
+use Prim.Native.Nat.{◌≤◌}
+use lib.ListN.{length}
 use lib.Seq.{length-take-le}
 use Rattle.types.proofs.RangeLaws.{HeaderIn, header_in_lem}
 use Rattle.tablerules.specs.Table.{Table, lent, front}
 use Rattle.extractrules.specs.Extraction.{outcome_for}
 use Rattle.answer.proofs.OutcomeLaws.{outcome_passed, outcome_refused, outcome_told, line_written, refusal_is, refusal_told, no_text}
 use Rattle.answer.proofs.answer_from.Goals as goal
-
-slice-reshare-prefix-write-records : goal.slice_bounds-write_records-end
-slice-reshare-prefix-write-records c = omega (arith, (within).borders_most_lem, c.requires.borders_most_in_bounds.1, c.extract_good.auto.atc)
-
-slice-aggregate-write-records : goal.slice_bounds-write_records-end-in-Rounds
-slice-aggregate-write-records c = sym (length-take-le _ _ (slice-reshare-prefix-write-records c.before))
-
-slice-reshare-prefix-write-records-2 : goal.slice_bounds-write_records-end-in-Rounds-2
-slice-reshare-prefix-write-records-2 c = omega (arith, (within).rows_most_lem, c.requires.borders_most_in_bounds.2, c.extract_good.auto.left)
-
-slice-aggregate-write-records-2 : goal.slice_bounds-write_records-end-in-Rounds-3
-slice-aggregate-write-records-2 c = sym (length-take-le _ _ (slice-reshare-prefix-write-records-2 c.before))
 
 pub extract_good-requires : goal.extract_good-requires
 extract_good-requires c = let within : HeaderIn c.args.h = header_in_lem _ c.requires.good.exact.header in
@@ -30,18 +20,27 @@ slice_bounds-write_records-end c = let within : HeaderIn c.args.h = header_in_le
     omega (arith, (within).borders_most_lem, c.requires.borders_most_in_bounds.1, c.extract_good.auto.atc)
 
 pub slice_bounds-write_records-end-in-Rounds : goal.slice_bounds-write_records-end-in-Rounds
-slice_bounds-write_records-end-in-Rounds c = sym (length-take-le _ _ (slice-reshare-prefix-write-records c.before))
+slice_bounds-write_records-end-in-Rounds c =
+    let within : HeaderIn c.args.h = header_in_lem _ c.requires.good.exact.header in
+    let atc_room : c.args.h.borders ≤ length c.extract_good.new.atc = omega (arith, within.borders_most_lem, c.requires.borders_most_in_bounds.1, c.extract_good.auto.atc) in
+    sym (length-take-le _ _ atc_room)
 
 pub slice_bounds-write_records-end-in-Rounds-2 : goal.slice_bounds-write_records-end-in-Rounds-2
 slice_bounds-write_records-end-in-Rounds-2 c = let within : HeaderIn c.args.h = header_in_lem _ c.requires.good.exact.header in
     omega (arith, (within).rows_most_lem, c.requires.borders_most_in_bounds.2, c.extract_good.auto.left)
 
 pub slice_bounds-write_records-end-in-Rounds-3 : goal.slice_bounds-write_records-end-in-Rounds-3
-slice_bounds-write_records-end-in-Rounds-3 c = sym (length-take-le _ _ (slice-reshare-prefix-write-records-2 c.before))
+slice_bounds-write_records-end-in-Rounds-3 c =
+    let within : HeaderIn c.args.h = header_in_lem _ c.requires.good.exact.header in
+    let left_room : c.args.h.rows ≤ length c.extract_good.new.left = omega (arith, within.rows_most_lem, c.requires.borders_most_in_bounds.2, c.extract_good.auto.left) in
+    sym (length-take-le _ _ left_room)
 
 pub write_records-requires : goal.write_records-requires
-write_records-requires c = let within : HeaderIn c.args.h = header_in_lem _ c.requires.good.exact.header in
-    (omega (arith, (within).borders_most_lem, slice-aggregate-write-records c.before.before), omega (arith, (within).rows_most_lem, slice-aggregate-write-records-2 c.before))
+write_records-requires c =
+    let within : HeaderIn c.args.h = header_in_lem _ c.requires.good.exact.header in
+    let atc_room : c.args.h.borders ≤ length c.extract_good.new.atc = omega (arith, within.borders_most_lem, c.requires.borders_most_in_bounds.1, c.extract_good.auto.atc) in
+    let left_room : c.args.h.rows ≤ length c.extract_good.new.left = omega (arith, within.rows_most_lem, c.requires.borders_most_in_bounds.2, c.extract_good.auto.left) in
+    (omega (arith, within.borders_most_lem, length-take-le _ _ atc_room), omega (arith, within.rows_most_lem, length-take-le _ _ left_room))
 
 pub returns-in-Rounds : goal.returns-in-Rounds
 returns-in-Rounds c = let given : Table = front (lent c.args.h c.args.z.now c.args.t.now c.args.b.now c.args.c.now c.args.f.now) in
