@@ -38,16 +38,16 @@ module _ (marked : ℕ → Bool) (t : Table) (atcs lefts : List (List ℤ)) wher
   abbrev lefts_left : List (List ℤ)
   lefts_left = over (table t.header.rows (row_record its)) lefts
 
-  left_in : (i : ℕ) → i < t.header.rows → left_in lefts_left i ≡ cond (kept (standings_of t).states i) (pos (left_of its i)) (minus 1)
+  left_in_lem : (i : ℕ) → i < t.header.rows → left_in lefts_left i ≡ cond (kept (standings_of t).states i) (pos (left_of its i)) (minus 1)
   unfolding row_record kept result_marked
-  left_in i h = ap (λ (x : List ℤ). at_ℤ x 2) (over_get t.header.rows (row_record its) lefts i [] h)
+  left_in_lem i h = ap (λ (x : List ℤ). at_ℤ x 2) (over_get t.header.rows (row_record its) lefts i [] h)
 
   left-kept : (i : ℕ) → i < t.header.rows → kept (standings_of t).states i ≡ true → left_in lefts_left i ≡ pos (left_of its i)
-  left-kept i h k = left_in i h ∙ ap (λ (c : Bool). cond c (pos (left_of its i)) (minus 1)) k
+  left-kept i h k = left_in_lem i h ∙ ap (λ (c : Bool). cond c (pos (left_of its i)) (minus 1)) k
 
   left_le : (i : ℕ) → i < t.header.rows → positive_part (left_in lefts_left i) ≤ left_of its i
   unfolding positive_part
-  left_le i h = subst (λ (z : ℤ). positive_part z ≤ left_of its i) (sym (left_in i h)) (go (kept (standings_of t).states i))
+  left_le i h = subst (λ (z : ℤ). positive_part z ≤ left_of its i) (sym (left_in_lem i h)) (go (kept (standings_of t).states i))
     where
       go : (k : Bool) → positive_part (cond k (pos (left_of its i)) (minus 1)) ≤ left_of its i
       go true = omega arith

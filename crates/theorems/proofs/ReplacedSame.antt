@@ -50,9 +50,9 @@ module _ (default : ℤ) (low : lt_z default (pos 0) ≡ false) where
   unfolding row_of f0core_of fuaf_of base_of amr_of lta_margin_of ram_of
   row-ram raw factors nets s = rw (share-worth (at_ℤ raw 4))
 
-  row_fits : inside (minus 1) (pos share_most) default ≡ true → (raw : List ℤ) → row_fits raw ≡ true → row_fits (replaced_row default raw) ≡ true
+  row_fits_lem : inside (minus 1) (pos share_most) default ≡ true → (raw : List ℤ) → row_fits raw ≡ true → row_fits (replaced_row default raw) ≡ true
   unfolding row_fits row_of
-  row_fits d raw e = rw (go (lt_z (at_ℤ raw 4) (pos 0)) ∙ sym (row_in raw e).share) e
+  row_fits_lem d raw e = rw (go (lt_z (at_ℤ raw 4) (pos 0)) ∙ sym (row_in raw e).share) e
     where
       go : (t : Bool) → inside (minus 1) (pos share_most) (cond t default (at_ℤ raw 4)) ≡ true
       go true = d
@@ -77,7 +77,7 @@ module _ (default : ℤ) (low : lt_z default (pos 0) ≡ false) where
 
   rows_fit : inside (minus 1) (pos share_most) default ≡ true → (rows : List (List ℤ)) (i : ℕ) → i < length rows → row_fits (get_or rows i []) ≡ true → row_fits (get_or (replaced_rows default rows) i []) ≡ true
   rows_fit d [] i h e = e
-  rows_fit d (raw ∷ rows) zero h e = row_fits d raw e
+  rows_fit d (raw ∷ rows) zero h e = row_fits_lem d raw e
   rows_fit d (raw ∷ rows) (suc i) h e = rows_fit d rows i (omega arith) e
 
 -- ---- the table
