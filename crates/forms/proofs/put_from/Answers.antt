@@ -2,12 +2,6 @@ use Rattle.std.proofs.Common.{ℕ, ◌≤◌, List, length, refl, ⊎_elim, arit
 use Rattle.io.specs.Counts.{IsPrefixLen}
 use Rattle.forms.proofs.put_from.Goals as goal
 
-counts : (n : ℕ) (xs : List ℕ) → n ≤ length xs → IsPrefixLen n xs
-counts n xs h = (h, simp length-take (omega arith))
-
-pub loop-k-init : goal.loop-k-init
-loop-k-init c = (refl, counts _ _ (⊎_elim (λ w. omega arith) (λ w. omega arith) c.if-out-next.branch))
-
 pub loop-k-preserved : goal.loop-k-preserved
 loop-k-preserved c = (search rules, search rules)
 
