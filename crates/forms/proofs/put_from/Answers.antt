@@ -1,5 +1,4 @@
-use Rattle.std.proofs.Common.{ℕ, ◌≤◌, List, length, refl, ⊎_elim, arith, length-take, rules}
-use Rattle.io.specs.Counts.{IsPrefixLen}
+use Rattle.std.proofs.Common.{rules}
 use Rattle.forms.proofs.put_from.Goals as goal
 
 pub loop-k-preserved : goal.loop-k-preserved

@@ -6,7 +6,7 @@ use lib.ListN.{length}
 use Rattle.command.proofs.input.read_text.Given as goal
 
 abbrev pub invariant-loop-done : goal.invariant-loop-done
-invariant-loop-done l = (l.done ≤ length l.text) × (length l.text ≡ length l.initial.text)
+invariant-loop-done g l = (l.done ≤ length l.text) × (length l.text ≡ length l.initial.text)
 
 abbrev pub decreases-loop-done : goal.decreases-loop-done
-decreases-loop-done l = length l.text - l.done
+decreases-loop-done g l = length l.text - l.done
