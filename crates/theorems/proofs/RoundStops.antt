@@ -14,10 +14,10 @@ use Rattle.numbers.specs.Below.{if_zero, first_from}
 use Rattle.numbers.proofs.BelowLaws.{lt_suc_cases, le_or_lt, first_none, first_nothing}
 use Rattle.numbers.proofs.FirstLaws.{first_within, first_holds, first_before}
 use Rattle.numbers.proofs.TestLaws.{and_both, both_and}
-use Rattle.rounds.specs.Rounds.{Grid, State, raise, next, raised, Rounds, done, more, extract}
+use Rattle.rounds.specs.Rounds.{Grid, State, next, raised, Rounds, done, more, extract}
 use Rattle.rounds.specs.Last.{after, raise_in, last_to, LastRaise, last_round}
 use Rattle.rounds.specs.Stopping.{equal_share_kw, stopping, stop_row, Stops}
-use Rattle.rounds.proofs.Round.{raiser, raise_falls}
+use Rattle.rounds.proofs.Round.{raise_falls}
 use Rattle.rounds.proofs.Reach.{unloaded_raise}
 use Rattle.theorems.proofs.Rounds.{stopped}
 

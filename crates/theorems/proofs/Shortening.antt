@@ -1,12 +1,8 @@
 -- 02, E14: does shortening the list cost capacity? It does not (promises: specs/Shortening).
 use mathlib.Core.Path.{◌≡◌, refl, ap, subst}
-use mathlib.Core.Bool.{Bool}
-use mathlib.Core.List.{List}
-use Prim.Native.Nat.{ℕ}
 use Rattle.refusals.specs.Refusals.{Judged, passed, refused}
 use Rattle.types.specs.declared.Header.{Header}
 use Rattle.marks.specs.Marks.{may_rise}
-use Rattle.tablerules.specs.Table.{Table}
 use Rattle.staterules.specs.States.{kept}
 use Rattle.extractrules.specs.Extraction.{Result, outcome_for}
 use Rattle.promises.specs.Taking.{outcome_taking, unshortened}

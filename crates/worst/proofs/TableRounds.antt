@@ -6,12 +6,11 @@ use mathlib.Core.List.{List, []}
 use Prim.Native.Nat.{ℕ, ◌≤◌}
 use lib.IntN.{ℤ}
 use lib.ListN.{length}
-use Rattle.refusals.specs.Refusals.{passed, then}
+use Rattle.refusals.specs.Refusals.{passed}
 use Rattle.refusals.proofs.RefusalLaws.{passed_is, then_passed, then_next, answer_passed, need_passed}
 use Rattle.marks.specs.Marks.{judge_asked, may_rise}
 use Rattle.marks.proofs.MarkLaws.{asked_then}
 use Rattle.tablerules.specs.Table.{Table}
-use Rattle.rounds.specs.Rounds.{extract}
 use Rattle.rounds.proofs.Theorems.{extract_demand3}
 use Rattle.extractrules.specs.Start.{grid_marked, table_start, judge_marked}
 use Rattle.extractrules.specs.Extraction.{Result, result_marked, outcome_marked, outcome_for, judge_extract, ExtractLeft, result_room, extract_for, extract_left, extract_marked_left}
