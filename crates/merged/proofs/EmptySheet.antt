@@ -6,7 +6,9 @@ use Prim.Native.Nat.{ℕ, ◌+◌}
 use lib.Dec.{eqb}
 use Rattle.text.specs.Fields.{feed}
 use Rattle.corrections.specs.Corrections.{joined, pieces, handed_by}
-use Rattle.merged.specs.Merged.{is_row, merged_from, merged_text}
+use Rattle.lines.specs.Lines.{header_line}
+use Rattle.text.specs.Line.{line_at}
+use Rattle.merged.specs.Merged.{is_row, merged_from, merged_text, zones_in}
 
 -- the lines of a text, one after another
 flat : List (List ℕ) → List ℕ
@@ -37,4 +39,4 @@ flat_pieces (b ∷ s) = go (eqb b feed) (pieces s) (flat_pieces s)
 -- the merged text of an empty sheet
 pub empty_merged : (text : List ℕ) → merged_text text [] ≡ text
 unfolding merged_text
-empty_merged text = flat_merged _ 0 (pieces text) ∙ flat_pieces text
+empty_merged text = flat_merged (zones_in (header_line (line_at text 0))) 0 (pieces text) ∙ flat_pieces text
