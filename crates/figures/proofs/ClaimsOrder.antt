@@ -3,7 +3,6 @@ use mathlib.Core.Path.{◌≡◌, refl}
 use mathlib.Core.List.{List, [], ◌∷◌}
 use Prim.Native.Nat.{ℕ}
 use lib.IntN.{ℤ, pos}
-use lib.ListN.{length}
 use Rattle.numbers.specs.Below.{if_zero, sum, table, first_from, given}
 use Rattle.numbers.specs.Ints.{minus, max_ℤ, min_ℤ, positive_part, same_ℤ, inside, sum_ℤ}
 use Rattle.refusals.specs.Refusals.{Judged, passed, refused, refusal, then, unless, refuse_at, refuse_first, need}

@@ -1,13 +1,13 @@
 -- Theorems of the crates below, applied to the worked hour (01), each sentence of them at a number: the values named in 01 ("Margin of a row"), S and its corners (02, E1),
 -- the row kept of two alike, and "-" replaced by the default (02, E6). It refuses a theorem that says less.
-use mathlib.Core.Path.{◌≡◌, refl, sym, ap, subst, ◌∙◌}
+use mathlib.Core.Path.{◌≡◌, refl, sym, ap}
 use mathlib.Core.Bool.{Bool, true, false, false≢true}
 use mathlib.Core.List.{List, [], ◌∷◌}
 use Prim.Native.Nat.{ℕ, zero, suc, ◌^◌, ◌<◌}
 use native.Mathlib.Omega.{arith}
 use lib.Dec.{eqb, lit<}
 use lib.IntN.{ℤ, pos, nat_abs}
-use lib.ListN.{length, get_or, drop}
+use lib.ListN.{drop}
 use lib.Signed.{lt_z, ◌≤ℤ◌}
 use Rattle.numbers.specs.Ints.{minus}
 use Rattle.refusals.specs.Refusals.{passed}
@@ -23,7 +23,7 @@ use Rattle.marginrules.proofs.Small.{named_values_small}
 use Rattle.cornerrules.specs.Corners.{flows_of, bit, Stands}
 use Rattle.theorems.proofs.CornerSheet.{every_corner_stands}
 use Rattle.theorems.proofs.OneKept.{OneKept, one_kept}
-use Rattle.staterules.specs.Standings.{Standings, standings_of}
+use Rattle.staterules.specs.Standings.{standings_of}
 use Rattle.extractrules.specs.Extraction.{outcome_for}
 use Rattle.promises.specs.Replaced.{replaced, ReplacedSame}
 use Rattle.theorems.proofs.ReplacedSame.{replaced_same}

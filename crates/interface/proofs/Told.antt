@@ -33,7 +33,7 @@ use Rattle.extractrules.specs.Extraction.{Result, outcome_for}
 use Rattle.result.specs.Refusal.{refusal_text}
 use Rattle.answer.specs.Result.{result_text, answer_with, answer_with_left}
 use Rattle.answer.specs.Told.{told_of, told_with}
-use Rattle.theorems.proofs.ToldLaws.{Says, Told, told_passed, told_then, told_unless, told_first}
+use Rattle.theorems.proofs.ToldLaws.{Told, told_passed, told_then, told_unless, told_first}
 use Rattle.theorems.proofs.TextDemand.{Late, outcome_late}
 use Rattle.coded.specs.declared.KeravnothAnswered.{KeravnothAnswered}
 use Rattle.coded.specs.Coded.{OutCoded, coded_answered, answered_found, answered_coded}
