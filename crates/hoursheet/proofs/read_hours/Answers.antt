@@ -5,16 +5,16 @@ use Rattle.hourtables.proofs.DayLaws.{day_none, day_more}
 use Rattle.hoursheet.proofs.read_hours.Goals as goal
 
 pub loop-i-init : goal.loop-i-init
-loop-i-init c = record { few = omega arith; name_long = refl; text-long = refl; hours-long = refl; ways_long = refl; atcs_long = refl; day = day_none _ _ _ _ _ }
+loop-i-init c = record { few = omega arith; name_long = refl; text_long = refl; hours_long = refl; ways_long = refl; atcs_long = refl; day = day_none _ _ _ _ _ }
 
 pub shape_of-name-then-k-ge-HOURS_MOST : goal.shape_of-name-then-k-ge-HOURS_MOST
 shape_of-name-then-k-ge-HOURS_MOST c = c.loop-i.invariant.name_long
 
 pub shape_of-text-then-k-ge-HOURS_MOST : goal.shape_of-text-then-k-ge-HOURS_MOST
-shape_of-text-then-k-ge-HOURS_MOST c = c.loop-i.invariant.text-long
+shape_of-text-then-k-ge-HOURS_MOST c = c.loop-i.invariant.text_long
 
 pub shape_of-hours-then-k-ge-HOURS_MOST : goal.shape_of-hours-then-k-ge-HOURS_MOST
-shape_of-hours-then-k-ge-HOURS_MOST c = c.loop-i.invariant.hours-long
+shape_of-hours-then-k-ge-HOURS_MOST c = c.loop-i.invariant.hours_long
 
 pub shape_of-ways-then-k-ge-HOURS_MOST : goal.shape_of-ways-then-k-ge-HOURS_MOST
 shape_of-ways-then-k-ge-HOURS_MOST c = c.loop-i.invariant.ways_long
@@ -32,7 +32,7 @@ pub offset_bounds-hours-k : goal.offset_bounds-hours-k
 offset_bounds-hours-k c = omega (arith, c.if-k-ge-HOURS_MOST.false)
 
 pub bounds-hours-k : goal.bounds-hours-k
-bounds-hours-k c = omega (arith, c.loop-i.invariant.hours-long, c.requires.0, c.if-k-ge-HOURS_MOST.false)
+bounds-hours-k c = omega (arith, c.loop-i.invariant.hours_long, c.requires.0, c.if-k-ge-HOURS_MOST.false)
 
 pub overflow_add-k : goal.overflow_add-k
 overflow_add-k c = omega (arith, c.if-k-ge-HOURS_MOST.false)
@@ -41,21 +41,21 @@ pub loop-i-preserved : goal.loop-i-preserved
 loop-i-preserved c = record {
   few = omega (arith, c.if-k-ge-HOURS_MOST.false);
   name_long = c.arg-n.auto.buf ∙ c.loop-i.invariant.name_long;
-  text-long = c.read_hour-hour.auto.text ∙ c.loop-i.invariant.text-long;
-  hours-long = simp length-set c.loop-i.invariant.hours-long;
+  text_long = c.read_hour-hour.auto.text ∙ c.loop-i.invariant.text_long;
+  hours_long = simp length-set c.loop-i.invariant.hours_long;
   ways_long = c.read_hour-hour.auto.ways ∙ c.loop-i.invariant.ways_long;
   atcs_long = c.read_hour-hour.auto.atcs ∙ c.loop-i.invariant.atcs_long;
-  day = day_more c.args.all c.args.marks.now c.loop-i.invariant.day (omega (arith, c.loop-i.invariant.hours-long, c.requires.0, c.if-k-ge-HOURS_MOST.false)) c.read_hour-hour.ensures;
+  day = day_more c.args.all c.args.marks.now c.loop-i.invariant.day (omega (arith, c.loop-i.invariant.hours_long, c.requires.0, c.if-k-ge-HOURS_MOST.false)) c.read_hour-hour.ensures;
 }
 
 pub shape_of-name : goal.shape_of-name
 shape_of-name c = c.loop-i.invariant.name_long
 
 pub shape_of-text : goal.shape_of-text
-shape_of-text c = c.loop-i.invariant.text-long
+shape_of-text c = c.loop-i.invariant.text_long
 
 pub shape_of-hours : goal.shape_of-hours
-shape_of-hours c = c.loop-i.invariant.hours-long
+shape_of-hours c = c.loop-i.invariant.hours_long
 
 pub shape_of-ways : goal.shape_of-ways
 shape_of-ways c = c.loop-i.invariant.ways_long
