@@ -136,7 +136,8 @@ def turn_antt(text, turned):
     out, shown = [], camelled(turned)
     for line in text.split("\n"):
         code, mark, note = line.partition("-- ") if re.search(r"(^|\s)-- ", line) else (line, "", "")
-        out.append(replace_words(code, turned) + mark + replace_words(note, shown))
+        parts = re.split(r'("[^"]*")', code)
+        out.append("".join(p if i % 2 else replace_words(p, turned) for i, p in enumerate(parts)) + mark + replace_words(note, shown))
     return "\n".join(out)
 
 
