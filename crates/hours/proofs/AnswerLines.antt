@@ -18,9 +18,8 @@ use Rattle.types.specs.declared.Header.{Header}
 use Rattle.types.proofs.RangeLaws.{header_in_lem}
 use Rattle.marks.specs.Marks.{judge_asked, may_rise}
 use Rattle.marks.proofs.MarkLaws.{asked_then}
-use Rattle.text.specs.Fields.{tab, feed}
-use Rattle.text.specs.Written.{decimal, line_text}
-use Rattle.text.proofs.LineLaws.{HasNoFeed}
+use Rattle.text.specs.Fields.{tab}
+use Rattle.text.specs.Written.{decimal}
 use Rattle.text.proofs.PutLaws.{tabbed, line_tabbed}
 use Rattle.text.proofs.WrittenLaws.{decimal_no_feed}
 use Rattle.columns.specs.declared.Head.TheVariants.{Indexed}
