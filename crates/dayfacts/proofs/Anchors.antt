@@ -1,5 +1,5 @@
 -- A day's sheet, computed from texts: an hour that did not come, 01's hour, and a text that is refused. Nobody cites it: it refuses a definition that slipped.
-use mathlib.Core.Path.{◌≡◌, refl}
+use mathlib.Core.Path.{refl}
 use mathlib.Core.Bool.{true, false}
 use mathlib.Core.List.{List, [], ◌∷◌, ◌++◌}
 use mathlib.Core.Option.{Option, none, some}
