@@ -14,16 +14,16 @@ returns-then-byte-lt32 c = rw (sym c.is_sign.ensures ∙ c.if-is_sign.false, ne_
 
 pub returns-then-byte-gt126 : goal.returns-then-byte-gt126
 returns-then-byte-gt126 c = rw (
-      sym c.is_sign.ensures ∙ c.if-is_sign.false,
-      ne_eqb c.args.byte 10 c.if-byte-eq10.false,
-      le-ltb c.args.byte 32 c.if-byte-lt32.false,
-      lt-ltb 126 c.args.byte c.if-byte-gt126.true,
-    )
+  sym c.is_sign.ensures ∙ c.if-is_sign.false,
+  ne_eqb c.args.byte 10 c.if-byte-eq10.false,
+  le-ltb c.args.byte 32 c.if-byte-lt32.false,
+  lt-ltb 126 c.args.byte c.if-byte-gt126.true,
+)
 
 pub returns : goal.returns
 returns c = rw (
-      sym c.is_sign.ensures ∙ c.if-is_sign.false,
-      ne_eqb c.args.byte 10 c.if-byte-eq10.false,
-      le-ltb c.args.byte 32 c.if-byte-lt32.false,
-      le-ltb 126 c.args.byte c.if-byte-gt126.false,
-    )
+  sym c.is_sign.ensures ∙ c.if-is_sign.false,
+  ne_eqb c.args.byte 10 c.if-byte-eq10.false,
+  le-ltb c.args.byte 32 c.if-byte-lt32.false,
+  le-ltb 126 c.args.byte c.if-byte-gt126.false,
+)
