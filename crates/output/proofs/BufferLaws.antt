@@ -17,6 +17,7 @@ use Rattle.refusals.proofs.RefusalLaws.{either_passed, either_refused}
 use Rattle.text.specs.Left.{TextLeft, text_left, text_said}
 use Rattle.text.proofs.LeftLaws.{text_left_lem, text_short, text_refused}
 use Rattle.result.specs.Asked.{bytes_asked}
+use Rattle.result.specs.Refusal.{refusal_text}
 use Rattle.output.specs.Buffer.{Printed, bytes_of, told_text, Told}
 
 -- ---- a buffer that begins with the text
