@@ -106,7 +106,7 @@ fn one_row(sys: &System, line: usize, kind: u64, r: Figures) -> bool {
 fn piece(sys: &System, line: usize, figures: &[u64]) -> bool {
     pageform::say(
         sys,
-        b"<p class=\"sub\">Capacities (ATCs) of one hour, {Iintraday: what may be sold in addition to the allocated positions|day_ahead}</p>`<div class=\"tiles\"><div><b>$z</b><span>zones</span></div><div><b>$b</b><span>borders</span></div>{A{m<div><b>$n</b><span>of them marked</span></div>}}<div><b>$r</b><span>rows, $k kept</span></div>{A<div><b>$R</b><span>?R2{Rround|rounds}|rounds}</span></div><div><b>$S</b><span>rounds at most (2 &#215; $N &#215; $L gives $B)</span></div>}</div>`{A<p class=\"screen\"><a href=\"#{Hh$H}borders\">Borders</a> &#183; <a href=\"#{Hh$H}rows\">Rows</a> &#183; <a href=\"#{Hh$H}why\">Why a border got no more</a></p>`}\n\
+        b"<p class=\"sub\">Capacities (ATCs) of one hour, {Iintraday: what may be sold in addition to the allocated positions|day-ahead}</p>`<div class=\"tiles\"><div><b>$z</b><span>zones</span></div><div><b>$b</b><span>borders</span></div>{A{m<div><b>$n</b><span>of them marked</span></div>}}<div><b>$r</b><span>rows, $k kept</span></div>{A<div><b>$R</b><span>?R2{Rround|rounds}|rounds}</span></div><div><b>$S</b><span>rounds at most (2 &#215; $N &#215; $L gives $B)</span></div>}</div>`{A<p class=\"screen\"><a href=\"#{Hh$H}borders\">Borders</a> &#183; <a href=\"#{Hh$H}rows\">Rows</a> &#183; <a href=\"#{Hh$H}why\">Why a border got no more</a></p>`}\n\
         <p>Of $k kept ?k2row|rows} $p ?p2stops|stop} the borders: \n\
         ?O9?1O, }<a href=\"#{Hh$H}r$a\">row $a</a> stops $s}\n\
         ?8p and $P more}{d. $d ?d2border is|borders are} stopped by more than one row}.</p>`\n\
