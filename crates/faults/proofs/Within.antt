@@ -1,5 +1,5 @@
 -- The byte named lies in the line (02, E5): of a line of wrong form (`line-byte-le`), and of one of right form whose value is outside its range
--- (`line-range-le`: a line of right form is its columns' text, by `Line-read` of crate columns). Tests of fields
+-- (`line-range-le`: a line of right form is its columns' text, by `line_read` of crate columns). Tests of fields
 -- that were left out pass and change nothing (`range-left-out`); whatever the line, a byte is at most one past its end (`range-le`).
 use mathlib.Core.Path.{◌≡◌, refl, sym, subst}
 use mathlib.Core.Bool.{Bool, true, false, cond, false≢true}
