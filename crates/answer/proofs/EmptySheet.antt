@@ -1,9 +1,10 @@
 -- 02, E2: an empty correction sheet changes no answer and nothing that it tells, of every border or with marks.
+use Rattle.std.specs.Prelude.{Ok}
 use mathlib.Core.Path.{◌≡◌, ap}
 use mathlib.Core.Bool.{Bool, true}
 use mathlib.Core.List.{List, []}
 use Prim.Native.Nat.{ℕ}
-use Rattle.refusals.specs.Refusals.{Judged, passed, then, either}
+use Rattle.refusals.specs.Refusals.{Judged, then, either}
 use Rattle.text.specs.Left.{text_left}
 use Rattle.tablerules.specs.Table.{Table}
 use Rattle.extractrules.specs.Extraction.{outcome_for}
@@ -22,9 +23,9 @@ empty_told all marks text = ap (λ (j : Judged Table). told_of (then j (outcome_
 
 pub empty_answer_left : (all : Bool) (marks text out : List ℕ) → answer_with_left all marks text [] out ≡ answer_for_left all marks text out
 unfolding answer_with_left answer_for_left
-empty_answer_left all marks text out = ap (λ (l : List ℕ). text_left (passed l) out) (empty_answer all marks text)
+empty_answer_left all marks text out = ap (λ (l : List ℕ). text_left (Ok l) out) (empty_answer all marks text)
 
 -- the call with an empty sheet is the call without a sheet
 pub empty_corrected : (text out : List ℕ) → answer_corrected_left text [] out ≡ answer_left text out
 unfolding answer_corrected_left answer_with_left answer_left answer_text
-empty_corrected text out = ap (λ (l : List ℕ). text_left (passed l) out) (empty_answer true [] text)
+empty_corrected text out = ap (λ (l : List ℕ). text_left (Ok l) out) (empty_answer true [] text)

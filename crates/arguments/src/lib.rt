@@ -1,143 +1,117 @@
-// The arguments that a program was started with: which word a piece of one is, or which number or list of numbers it holds.
-// Each is read into memory that is all zeros, so one stands behind it.
+// The arguments that a program was started with: which bytes a piece of one has, or which number or list of numbers it holds.
 #![tactic(auto)]
 
 pub mod lists;
 
-ghost use Rattle.std.specs.Prelude.{◌≡◌, length};
+ghost use Rattle.std.specs.Prelude.{◌≡◌, ◌≤◌, length, IfSome};
 ghost use Rattle.io.specs.Counts.{IsPrefixLen};
 
 use system::System;
-use text::Number;
 
-// Room for an argument: Linux lets one have 131,071 bytes, where a page of memory has 4,096. Whether all of it is here, `System::has_failed` tells.
+// Room for an argument: Linux lets one have 131,071 bytes, where a page of memory has 4,096. Whether all of it is here, `System::try_arg` tells.
 const ROOM: usize = 131072;
 
-// The memory for an argument. The array is written out only here: each place that has it costs the check a second.
+// The memory for an argument, all zeros, so that one stands behind it. The array is written out only here: each place that has it costs the check a second.
 pub fn room() -> [u8; ROOM]
     ensures { 131072 ≡ length result }
 {
     [0; ROOM]
 }
 
-// What stands in argument `at` from byte `from` on; `at` is 0 where nothing is given.
+// A text from a place on.
+pub fn tail<'a>(text: &'a [u8], from: usize) -> &'a [u8] {
+    &text[from.min(text.len())..]
+}
+
+// What stands in argument `at` from byte `from` on.
 #[derive(Clone, Copy)]
 pub struct Piece {
     pub at: usize,
     pub from: usize,
 }
 
-// All of argument i.
-pub fn whole(i: usize) -> Piece {
-    Piece { at: i, from: 0 }
-}
-
-// A text from a place on.
-pub fn tail<'a>(text: &'a [u8], from: usize) -> &'a [u8] {
-    if from < text.len() {
-        return &text[from..];
+impl Piece {
+    // All of an argument.
+    pub fn whole(at: usize) -> Piece {
+        Piece { at, from: 0 }
     }
-    &text[..0]
-}
 
-// Which line of a list of words the piece is, from 0; as many as there are lines where it is none.
-pub fn which(sys: &System, piece: Piece, list: &[u8]) -> usize {
-    let mut own = room();
-    let n = sys.arg(piece.at, &mut own);
-    lists::line_of(list, tail(&own[..n], piece.from))
-}
-
-#[derive(Clone, Copy)]
-pub enum Held {
-    Number(u64),
-    Other,
-}
-
-// The number that a piece holds, written as numbers are in a table.
-pub fn number(sys: &System, piece: Piece) -> Held {
-    let mut own = room();
-    sys.arg(piece.at, &mut own);
-    match text::field::number_at(&own, piece.from, 0) {
-        Number::Value(v, _) => Held::Number(v),
-        Number::Bad(_) => Held::Other,
+    // Its bytes, which are put in the room that is lent. There are none of an argument that is missing or too long.
+    pub fn read<'a>(self, sys: &System, room: &'a mut [u8]) -> &'a [u8] {
+        let n = sys.arg(self.at, room);
+        tail(&room[..n], self.from)
     }
-}
 
-// The descriptor that a piece holds, -1 where it holds none.
-pub fn descriptor(sys: &System, piece: Piece) -> i32 {
-    let Held::Number(v) = number(sys, piece) else {
-        return -1;
-    };
-    if v > 2147483647 {
-        return -1;
+    // Whether it is the name of standard input.
+    pub fn is_standard_input(self, sys: &System) -> bool {
+        let mut own = room();
+        matches!(self.read(sys, &mut own), b"-")
     }
-    v as i32
+
+    // The number that it holds, written as numbers are in a table.
+    pub fn number(self, sys: &System) -> Option<u64> {
+        let mut own = room();
+        sys.arg(self.at, &mut own);
+        let (number, _) = text::field::number_at(&own, self.from, 0).ok()?;
+        Some(number)
+    }
+
+    // The descriptor that it holds.
+    pub fn descriptor(self, sys: &System) -> Option<i32> {
+        i32::try_from(self.number(sys)?).ok()
+    }
+
+    // The numbers that it holds, written as they are in a table, with commas between: an empty one holds none.
+    // All of it is looked at, but only as many are kept as there is room for.
+    pub fn list(self, sys: &System) -> Option<List> {
+        let mut own = room();
+        sys.arg(self.at, &mut own);
+        let mut numbers = [0; LIST_ROOM];
+        let count = numbers_in(&own, self.from, &mut numbers)?;
+        Some(List { numbers, count })
+    }
 }
 
 // Room for a list, one more than a table may have borders: of a longer one the first faulty mark is among these.
 const LIST_ROOM: usize = limits::BORDERS_MOST + 1;
 
-// What came of reading a list: so many of its numbers at the front, and whether it is a list at all.
+// The numbers of a list.
 #[derive(Clone, Copy)]
-pub struct Listed {
-    pub numbers: [u64; LIST_ROOM],
-    pub count: usize,
-    pub good: bool,
+pub struct List {
+    numbers: [u64; LIST_ROOM],
+    count: usize,
+    ghost kept: { IsPrefixLen count numbers },
 }
 
-// The numbers that a piece holds, written as they are in a table, with commas between: an empty one holds none.
-// The whole piece is looked at, but only as many are kept as there is room for.
-pub fn list(sys: &System, piece: Piece) -> Listed
-    ensures { IsPrefixLen result.count result.numbers }
-{
-    let mut own = room();
-    sys.arg(piece.at, &mut own);
-    let mut numbers = [0u64; LIST_ROOM];
-    let kept = numbers_in(&own, piece.from, &mut numbers);
-    Listed {
-        numbers: numbers,
-        count: kept.count,
-        good: kept.good,
+impl List {
+    pub fn as_slice(&self) -> &[u64] {
+        &self.numbers[..self.count]
     }
 }
 
-#[derive(Clone, Copy)]
-struct Kept {
-    count: usize,
-    good: bool,
-}
-
 // A number takes two bytes at least, with what ends it, so there are fewer than bytes.
-fn numbers_in(word: &[u8], from: usize, list: &mut [u64]) -> Kept
-    ensures { IsPrefixLen result.count list.new }
+fn numbers_in(word: &[u8], from: usize, list: &mut [u64]) -> Option<usize>
+    ensures { IfSome result (λ n. IsPrefixLen n list.new) }
 {
     let mut at = from;
     for k in 0..word.len() {
-        let Number::Value(v, next) = text::field::number_at(word, at, b',') else {
+        let Ok((v, next)) = text::field::number_at(word, at, b',') else {
             return last(word, at, k, list);
         };
         keep(list, k, v);
         at = next;
     }
-    Kept {
-        count: 0,
-        good: false,
-    }
+    None
 }
 
 // The last number ends where the zeros behind the word begin. Only an empty list has no last number.
-fn last(word: &[u8], at: usize, k: usize, list: &mut [u64]) -> Kept
-    ensures { IsPrefixLen result.count list.new }
+fn last(word: &[u8], at: usize, k: usize, list: &mut [u64]) -> Option<usize>
+    ensures { IfSome result (λ n. IsPrefixLen n list.new) }
 {
-    let Number::Value(v, _) = text::field::number_at(word, at, 0) else {
-        return Kept {
-            count: 0,
-            good: k == 0 && text::field::byte_at(word, at) == 0,
-        };
-    };
-    Kept {
-        count: keep(list, k, v),
-        good: true,
+    match text::field::number_at(word, at, 0) {
+        Ok((v, _)) => Some(keep(list, k, v)),
+        Err(_) if k == 0 && text::field::byte_at(word, at) == 0 => Some(0),
+        Err(_) => None,
     }
 }
 

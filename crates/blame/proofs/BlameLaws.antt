@@ -11,23 +11,21 @@ use lib.ListN.{length, get_or, drop, length-drop, drop_of_length-le}
 use lib.Seq.{drop-cons}
 use borrow.Author.Tests.{le-leb, lt-leb, eq-eqb, ne_eqb}
 use Rattle.types.specs.LineColumns.{Column, number, column_of, columns_of}
-use Rattle.text.specs.declared.Number.TheVariants.{Value, Bad}
-use Rattle.text.specs.declared.Signed.{Signed}
-use Rattle.text.specs.declared.Signed.TheVariants.{Whole, Wrong}
-use Rattle.text.specs.Fields.{feed, number_at}
+use Rattle.text.specs.Fields.{Parsed, feed, number_at}
 use Rattle.columns.specs.declared.Head.{Head}
 use Rattle.columns.specs.Columns.{field_at, stop_of}
 use Rattle.columns.specs.ColumnLine.{begun}
 use Rattle.columns.proofs.ColumnLaws.{stop_by_left, stop_is}
-use Rattle.blame.specs.Blame.{is_whole, good_at, byte_at, blamed, or_later, fields_byte, other_index, ended_byte, index_byte, byte_after, line_byte}
+use Rattle.blame.specs.Blame.{good_at, byte_at, blamed, or_later, fields_byte, other_index, ended_byte, index_byte, byte_after, line_byte}
+use Rattle.std.specs.Prelude.{Ok, Err, is_ok}
 
 -- ---- one field
 module _ (sep : ℕ) (c : Column) (line : List ℕ) (at : ℕ) where
-  pub good_sep : is_whole (field_at c line at sep) ≡ true → true ≡ good_at sep c line at
+  pub good_sep : is_ok (field_at c line at sep) ≡ true → true ≡ good_at sep c line at
   unfolding good_at
   good_sep e = rw e
 
-  pub good_feed : is_whole (field_at c line at sep) ≡ false → is_whole (field_at c line at feed) ≡ good_at sep c line at
+  pub good_feed : is_ok (field_at c line at sep) ≡ false → is_ok (field_at c line at feed) ≡ good_at sep c line at
   unfolding good_at
   good_feed e = rw e
 
@@ -51,11 +49,11 @@ module _ (sep : ℕ) (columns line : List ℕ) where
     pub so_far : fields_byte sep (columns_of (drop k columns)) line p ≡ fields_byte sep (columns_of columns) line at
 
   -- the field of the first column left
-  abbrev pub field_left : (k p : ℕ) → Signed
+  abbrev pub field_left : (k p : ℕ) → Parsed ℤ
   field_left k p = field_at (column_of (get_or columns k 0)) line p (stop_by_left sep feed (length columns - k))
 
   module _ (k p : ℕ) (h : k < length columns) where
-    first : (s : Signed) → field_left k p ≡ s
+    first : (s : Parsed ℤ) → field_left k p ≡ s
         → fields_byte sep (columns_of (drop k columns)) line p ≡ or_later s (blamed sep (column_of (get_or columns k 0)) line p s) (λ next. fields_byte sep (columns_of (drop (k + 1) columns)) line next)
     unfolding fields_byte
     first s q =
@@ -65,7 +63,7 @@ module _ (sep : ℕ) (columns line : List ℕ) where
         let cut : drop k columns ≡ get_or columns k 0 ∷ bs = drop-cons columns k 0 h ∙ ap (λ (j : ℕ). get_or columns k 0 ∷ drop j columns) (sym (add-one k)) in
         let e : field_at c line p (stop_of sep feed (columns_of bs)) ≡ s = ap (field_at c line p) (stop_is sep feed _ bs long) ∙ q in
         ap (λ (l : List ℕ). fields_byte sep (columns_of l) line p) cut
-        ∙ ap (λ (f : Signed). or_later f (blamed sep c line p f) (λ next. fields_byte sep (columns_of bs) line next)) e
+        ∙ ap (λ (f : Parsed ℤ). or_later f (blamed sep c line p f) (λ next. fields_byte sep (columns_of bs) line next)) e
 
   pub blaming_none : (at : ℕ) → Blaming at at 0
   blaming_none at = record { high = omega arith; so_far = refl }
@@ -76,11 +74,11 @@ module _ (sep : ℕ) (columns line : List ℕ) where
     blaming_all h = sym (ap (λ (l : List ℕ). fields_byte sep (columns_of l) line p) (drop_of_length-le columns h)) ∙ u.so_far
 
     module _ (h : k < length columns) where
-      pub blaming_more : (z : ℤ) (next : ℕ) → field_left k p ≡ Whole z next → Blaming at next (k + 1)
-      blaming_more z next q = record { high = omega arith; so_far = sym (first k p h (Whole z next) q) ∙ u.so_far }
+      pub blaming_more : (z : ℤ) (next : ℕ) → field_left k p ≡ Ok (z, next) → Blaming at next (k + 1)
+      blaming_more z next q = record { high = omega arith; so_far = sym (first k p h (Ok (z, next)) q) ∙ u.so_far }
 
-      pub blaming_here : (place : ℕ) → field_left k p ≡ Wrong place → blamed sep (column_of (get_or columns k 0)) line p (Wrong place) ≡ fields_byte sep (columns_of columns) line at
-      blaming_here place q = sym (first k p h (Wrong place) q) ∙ u.so_far
+      pub blaming_here : (place : ℕ) → field_left k p ≡ Err place → blamed sep (column_of (get_or columns k 0)) line p (Err place) ≡ fields_byte sep (columns_of columns) line at
+      blaming_here place q = sym (first k p h (Err place) q) ∙ u.so_far
 
 -- ---- an index that `sep` does not end
 module _ (sep at : ℕ) (line : List ℕ) (i place : ℕ) where
@@ -92,10 +90,10 @@ module _ (sep at : ℕ) (line : List ℕ) (i place : ℕ) where
 
 -- ---- an index, by what was read of it
 module _ (sep at : ℕ) (columns : List Column) (line : List ℕ) (i : ℕ) where
-  pub index_ended : (place : ℕ) → number_at line at sep ≡ Bad place → ended_byte sep at line i place ≡ index_byte sep at columns line i (number_at line at sep)
+  pub index_ended : (place : ℕ) → number_at line at sep ≡ Err place → ended_byte sep at line i place ≡ index_byte sep at columns line i (number_at line at sep)
   index_ended place q = rw q
 
-  module _ (index next : ℕ) (q : number_at line at sep ≡ Value index next) where
+  module _ (index next : ℕ) (q : number_at line at sep ≡ Ok (index, next)) where
     pub index_other : (index ≡ i → ⊥) → at + 1 ≡ index_byte sep at columns line i (number_at line at sep)
     index_other h = rw (q, ne_eqb index i h)
 

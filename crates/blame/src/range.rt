@@ -1,6 +1,6 @@
 // The byte to blame for a value outside its range: the first byte of the first field that fails its test, 0 where all are within. The tests are those that
 // the value is judged by (`tests` of its type, crate types). Fields are found by counting the bytes that part them, so nothing is read again.
-ghost use Rattle.std.specs.Prelude.{◌≡◌, cond, ◌+◌, ◌-◌, ◌<◌, ◌^◌, eqb, length};
+ghost use Rattle.std.specs.Prelude.{◌≡◌, ◌+◌, ◌<◌, ◌^◌, length};
 ghost use Rattle.types.specs.LineColumns.{row_items};
 ghost use Rattle.types.specs.Ranges.{factor_tests, row_line_tests};
 ghost use Rattle.blame.specs.RangeBlame.{field_first, range_byte};
@@ -25,8 +25,7 @@ pub fn row_range(sep: u8, k: usize, raw: RowRecord, f: &[i64], line: &[u8]) -> u
     requires { k + row_items + length f.now < 2 ^ 64 }
     ensures { result ≡ range_byte sep (row_line_tests raw f.now) k line.now }
 {
-    let tests = Row::tests(&raw);
-    let byte = range_byte(sep, &tests, k, line);
+    let byte = range_byte(sep, &Row::tests(&raw), k, line);
     if byte == 0 {
         factors_range(sep, f, k + Row::ITEMS, line)
     } else {
@@ -52,21 +51,13 @@ fn field_first(sep: u8, k: usize, line: &[u8]) -> usize
     ensures { result ≡ field_first sep k line.now }
 {
     let mut left = k;
-    let mut i = 0;
-    while i < line.len() {
+    for i in 0..line.len() {
         if left == 0 {
             return i + 1;
         }
-        left = less(sep, left, line[i]);
-        i += 1;
+        if line[i] == sep {
+            left -= 1;
+        }
     }
-    i + 1
-}
-
-// How many `sep` are still to pass after a byte.
-fn less(sep: u8, left: usize, byte: u8) -> usize
-    requires { 0 < left }
-    ensures { result ≡ cond (eqb byte sep) (left - 1) left }
-{
-    if byte == sep { left - 1 } else { left }
+    line.len() + 1
 }

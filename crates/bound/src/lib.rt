@@ -3,35 +3,25 @@
 #![tactic(auto)]
 
 ghost use Rattle.std.specs.Prelude.{◌≡◌, ◌*◌, length};
-ghost use Rattle.marks.specs.Marks.{flagged};
-ghost use Rattle.tablerules.specs.Table.{lent, front};
+ghost use Rattle.marks.specs.Marks.{flagged, every, listed};
+ghost use Rattle.tablerules.specs.Table.{front, lent_view};
 ghost use Rattle.tablerules.specs.Good.{Good};
-ghost use Rattle.boundrules.specs.Bound.{bound_marked, bound_asked, said_bounded};
+ghost use Rattle.boundrules.specs.Bound.{bound_marked, bound_asked};
 
-use boundrules::Bounded;
-use refusals::{Judgement, Refusal};
-use types::{BorderRecord, Header, RowRecord};
+use refusals::Refusal;
+use tablerules::TableView;
+use tightrules::RoundsMost;
+use walk::grid::Grid;
 
 // The bound of a good table: 13, and then the bound. The room to work in is made here, and not in `bound_in`, whose goals would spell it out.
-pub fn bound_good(
-    h: Header,
-    z: &[i64],
-    t: &[i64],
-    b: &[BorderRecord],
-    c: &[RowRecord],
-    f: &[i64],
-    all: bool,
-    marks: &[u64],
-) -> Bounded
-    requires { Good (front (lent h z.now t.now b.now c.now f.now)) }
-    ensures { said_bounded result ≡ bound_asked all marks.now (front (lent h z.now t.now b.now c.now f.now)) }
+pub fn bound_good(view: &TableView, marks: Option<&[u64]>) -> Result<RoundsMost, Refusal>
+    requires { Good (front (lent_view view.now)) }
+    ensures { result ≡ bound_asked (every marks.entry) (listed marks.entry) (front (lent_view view.now)) }
 {
-    let borders = h.borders;
-    if let Judgement::Refused(w) = marks::judge_asked(all, borders, marks) {
-        return Bounded::Refused(w);
-    }
-    let flags = marks::chosen(all, marks);
-    let rows = h.rows;
+    let borders = view.header.borders;
+    marks::judge_asked(borders, marks)?;
+    let flags = marks::chosen(marks);
+    let rows = view.header.rows;
     let cells = rows * borders;
     let mut rams: [i64; limits::ROWS_MOST] = [0; limits::ROWS_MOST];
     let mut starts: [i64; limits::ROWS_MOST] = [0; limits::ROWS_MOST];
@@ -41,12 +31,7 @@ pub fn bound_good(
     let mut p: [u64; limits::ROWS_MOST * limits::BORDERS_MOST] = [0; limits::ROWS_MOST
         * limits::BORDERS_MOST];
     bound_in(
-        h,
-        z,
-        t,
-        b,
-        c,
-        f,
+        view,
         &flags[..borders],
         &mut rams[..rows],
         &mut starts[..rows],
@@ -59,12 +44,7 @@ pub fn bound_good(
 
 // 5, 6, 7, and only then p, the margins that the rounds would start from, and the bound that both give.
 fn bound_in(
-    h: Header,
-    z: &[i64],
-    t: &[i64],
-    b: &[BorderRecord],
-    c: &[RowRecord],
-    f: &[i64],
+    view: &TableView,
     flags: &[u64],
     rams: &mut [i64],
     starts: &mut [i64],
@@ -72,21 +52,28 @@ fn bound_in(
     margins: &mut [u64],
     ns: &mut [u64],
     p: &mut [u64],
-) -> Bounded
-    requires good { Good (front (lent h z.now t.now b.now c.now f.now)) }
-    requires flags_len { length flags.now ≡ h.borders }
-    requires rams_len { (length rams.old ≡ h.rows) × (length starts.old ≡ h.rows) }
-    requires states_len { (length states.old ≡ h.rows) × (length margins.old ≡ h.rows) }
-    requires ns_len { (length ns.old ≡ h.rows) × (length p.old ≡ h.rows * h.borders) }
-    ensures { said_bounded result ≡ bound_marked (flagged flags.now) (front (lent h z.now t.now b.now c.now f.now)) }
+) -> Result<RoundsMost, Refusal>
+    requires good { Good (front (lent_view view.now)) }
+    requires flags_len { length flags.now ≡ view.now.header.borders }
+    requires rams_len { (length rams.old ≡ view.now.header.rows) × (length starts.old ≡ view.now.header.rows) }
+    requires states_len { (length states.old ≡ view.now.header.rows) × (length margins.old ≡ view.now.header.rows) }
+    requires ns_len { (length ns.old ≡ view.now.header.rows) × (length p.old ≡ view.now.header.rows * view.now.header.borders) }
+    ensures { result ≡ bound_marked (flagged flags.now) (front (lent_view view.now)) }
 {
-    if let Judgement::Refused(w) = start::prepare(h, z, t, b, c, f, flags, rams, starts, states) {
-        return Bounded::Refused(w);
-    }
-    let borders = h.borders;
-    let rows = h.rows;
-    let ends = &b[..borders];
-    let factors = &f[..rows * h.zones];
-    start::lay_out(h, ends, factors, flags, starts, states, p, margins);
-    Bounded::Rounds(tight::measure(rows, borders, p, margins, ns))
+    start::prepare(view, flags, rams, starts, states)?;
+    let borders = view.header.borders;
+    let rows = view.header.rows;
+    let ends = &view.borders[..borders];
+    let factors = &view.factors[..rows * view.header.zones];
+    start::lay_out(
+        view.header,
+        ends,
+        factors,
+        flags,
+        starts,
+        states,
+        p,
+        margins,
+    );
+    Ok(tight::measure(&Grid { rows, borders, p }, margins, ns))
 }

@@ -1,5 +1,6 @@
 -- The bound of the hour that 01 checks whole, computed, with every border and with one marked; and tables that the rounds do not start from. Nobody cites them: they
 -- refuse a definition that slipped.
+use Rattle.std.specs.Prelude.{Err, Ok}
 use mathlib.Core.Path.{◌≡◌, refl, sym, subst, ◌∙◌}
 use mathlib.Core.Bool.{true, false}
 use mathlib.Core.List.{[], ◌∷◌}
@@ -8,7 +9,7 @@ use native.Mathlib.Omega.{arith}
 use lib.IntN.{ℤ, pos}
 use Rattle.numbers.specs.Below.{if_zero, sum, count, largest, lesser, least, or_zero, table, first_from, given}
 use Rattle.numbers.specs.Ints.{minus, max_ℤ, min_ℤ, positive_part, same_ℤ, sum_ℤ, inside}
-use Rattle.refusals.specs.Refusals.{Judged, passed, refused, then, unless, refuse_at, refuse_first, need, bad_mark, unlimited, below_zero}
+use Rattle.refusals.specs.Refusals.{Judged, then, unless, refuse_at, refuse_first, need, bad_mark, unlimited, below_zero}
 use Rattle.refusals.proofs.RefusalLaws.{passed_is}
 use Rattle.types.specs.Ranges.{header_fits, allocated_items, zone_fits, exists, hubs_fit, hubs_of, border_fits, border_of, share_of, row_of, row_fits, factor_fits, worth, default_of}
 use Rattle.marks.specs.Marks.{marked_by, faulty_mark, judge_marks}
@@ -59,7 +60,7 @@ small iva =
     }
 
 abbrev most : (n l rounds sharp : ℕ) → Judged RoundsMost
-most n l rounds sharp = passed (record { sharers = n; bits = l; rounds = rounds; sharp = sharp })
+most n l rounds sharp = Ok (record { sharers = n; bits = l; rounds = rounds; sharp = sharp })
 
 pub record Anchors : Type 0 where
   -- 01: N = 2, L = 22, bound 88. Border 0 can rise by 3,299,999 kW in all, which a cut by half, rounded up, takes to 0 in 22 steps
@@ -67,10 +68,10 @@ pub record Anchors : Type 0 where
   -- border 1 alone is marked: no row shares, and it could take 1,600,000 kW, under 2^21, at once
   pub marked : bound_for false (1 ∷ []) hour ≡ most 1 21 42 1
   -- 13 comes before 6, and 6 looks at marked borders only; then 7
-  pub no_mark : bound_for false [] (small (pos 1)) ≡ refused (bad_mark 0)
-  pub no_border_lem : bound_for false (0 ∷ 2 ∷ []) (small (pos 1)) ≡ refused (bad_mark 2)
-  pub free : bound_for true [] (small (pos 1)) ≡ refused (unlimited 1)
-  pub low : bound_for false (0 ∷ []) (small (pos 1)) ≡ refused (below_zero 0)
+  pub no_mark : bound_for false [] (small (pos 1)) ≡ Err (bad_mark 0)
+  pub no_border_lem : bound_for false (0 ∷ 2 ∷ []) (small (pos 1)) ≡ Err (bad_mark 2)
+  pub free : bound_for true [] (small (pos 1)) ≡ Err (unlimited 1)
+  pub low : bound_for false (0 ∷ []) (small (pos 1)) ≡ Err (below_zero 0)
   -- a margin of 0: L is 0, and so are the rounds
   pub no_room : bound_for false (0 ∷ []) (small (pos 0)) ≡ most 1 0 0 0
 

@@ -1,4 +1,5 @@
 -- The laws of `specs/Bound.antt`: which judgement decides, what was laid out is the table's, with small margins, and that flags say what marks do. No contract cites this file.
+use Rattle.std.specs.Prelude.{Err, Ok, None}
 use mathlib.Core.Path.{◌≡◌, refl, sym, ap, ap₂, ◌∙◌}
 use mathlib.Core.Bool.{Bool, true}
 use mathlib.Core.List.{List, []}
@@ -9,15 +10,12 @@ use lib.ListN.{length, take}
 use Rattle.numbers.specs.Below.{at}
 use Rattle.numbers.proofs.BelowLaws.{table_long}
 use Rattle.limits.specs.Limits.{borders_most}
-use Rattle.refusals.specs.declared.Judgement.{Judgement}
-use Rattle.refusals.specs.declared.Judgement.TheVariants.{Passed, Refused}
 use Rattle.refusals.specs.declared.Refusal.{Refusal}
 use Rattle.refusals.specs.Answers.{said_judgement}
-use Rattle.refusals.specs.Refusals.{Judged, passed, refused, then}
+use Rattle.refusals.specs.Refusals.{Judged, then, Ruling}
 use Rattle.refusals.proofs.RefusalLaws.{then_next, then_refused}
 use Rattle.marks.specs.Marks.{judge_asked, may_rise, flags_of, flagged}
 use Rattle.marks.proofs.MarkLaws.{asked_then, flags_tell}
-use Rattle.tablerules.specs.declared.Room.TheVariants.{None}
 use Rattle.tablerules.specs.Table.{Table, front, judge_lent}
 use Rattle.tablerules.specs.Good.{Good}
 use Rattle.tablerules.proofs.GoodLaws.{told_judged}
@@ -39,14 +37,14 @@ use Rattle.tightrules.proofs.SameLaws.{same_bound}
 use Rattle.boundrules.specs.Bound.{bound_of, bound_marked, bound_asked, bound_for}
 
 -- ---- a judged table
-module _ {marked : ℕ → Bool} {t : Table} {r : Judgement} {rams starts : List ℤ} {states : List ℕ} (said : PreparedAs marked t r rams starts states) where
-  pub start_refused : (w : Refusal) → r ≡ Refused w → refused w ≡ bound_marked marked t
+module _ {marked : ℕ → Bool} {t : Table} {r : Ruling} {rams starts : List ℤ} {states : List ℕ} (said : PreparedAs marked t r rams starts states) where
+  pub start_refused : (w : Refusal) → r ≡ Err w → Err w ≡ bound_marked marked t
   unfolding bound_marked
-  start_refused w e = sym (then_refused _ (sym said.judged ∙ ap (λ (j : Judgement). said_judgement j states) e))
+  start_refused w e = sym (then_refused _ (sym said.judged ∙ ap (λ (j : Ruling). said_judgement j states) e))
 
-  pub start_passed : r ≡ Passed → passed (bound_of marked t) ≡ bound_marked marked t
+  pub start_passed : r ≡ (Ok tt) → Ok (bound_of marked t) ≡ bound_marked marked t
   unfolding bound_marked
-  start_passed e = sym (then_next _ (sym said.judged ∙ ap (λ (j : Judgement). said_judgement j states) e))
+  start_passed e = sym (then_next _ (sym said.judged ∙ ap (λ (j : Ruling). said_judgement j states) e))
 
 -- a starting margin for each row
 pub start_long : (t : Table) → length (table_start t).margins ≡ t.header.rows
@@ -83,27 +81,27 @@ module _ (m m' : ℕ → Bool) (t : Table) (e : (b : ℕ) → b < t.header.borde
 
   pub marked_agree : bound_marked m t ≡ bound_marked m' t
   unfolding bound_marked
-  marked_agree = ap₂ (λ (j : Judged (List ℕ)) (b : RoundsMost). then j (λ states. passed b)) judge-agree bound-agree
+  marked_agree = ap₂ (λ (j : Judged (List ℕ)) (b : RoundsMost). then j (λ states. Ok b)) judge-agree bound-agree
 
 -- ---- which judgement decides, of lent tables
-module _ (all : Bool) (marks : List ℕ) (given : Table) (r : Judgement) (said : said_judgement r (front given) ≡ judge_lent given) where
-  pub lent_refused : (w : Refusal) → r ≡ Refused w → refused w ≡ bound_for all marks given
+module _ (all : Bool) (marks : List ℕ) (given : Table) (r : Ruling) (said : said_judgement r (front given) ≡ judge_lent given) where
+  pub lent_refused : (w : Refusal) → r ≡ Err w → Err w ≡ bound_for all marks given
   unfolding bound_for
-  lent_refused w e = sym (then_refused _ (sym said ∙ ap (λ (j : Judgement). said_judgement j (front given)) e))
+  lent_refused w e = sym (then_refused _ (sym said ∙ ap (λ (j : Ruling). said_judgement j (front given)) e))
 
-  pub lent_bound : r ≡ Passed → bound_asked all marks (front given) ≡ bound_for all marks given
+  pub lent_bound : r ≡ (Ok tt) → bound_asked all marks (front given) ≡ bound_for all marks given
   unfolding bound_for
   lent_bound e = sym (then_next _ (told_judged None given r said e))
 
 -- ---- which judgement decides, of a table as it was asked for: the marks, and then the bound of the borders whose flags are set
-module _ (all : Bool) (marks : List ℕ) (t : Table) (j : Judgement) (told : said_judgement j marks ≡ judge_asked all t.header.borders marks (passed marks)) where
-  pub marks_refused : (w : Refusal) → j ≡ Refused w → refused w ≡ bound_asked all marks t
-  marks_refused w e = sym (sym (asked_then all t.header.borders marks marks _) ∙ then_refused _ (sym told ∙ ap (λ (v : Judgement). said_judgement v marks) e))
+module _ (all : Bool) (marks : List ℕ) (t : Table) (j : Ruling) (told : said_judgement j marks ≡ judge_asked all t.header.borders marks (Ok marks)) where
+  pub marks_refused : (w : Refusal) → j ≡ Err w → Err w ≡ bound_asked all marks t
+  marks_refused w e = sym (sym (asked_then all t.header.borders marks marks _) ∙ then_refused _ (sym told ∙ ap (λ (v : Ruling). said_judgement v marks) e))
 
-  pub marks_passed : j ≡ Passed → t.header.borders ≤ borders_most → {flags : List ℕ} → flags ≡ flags_of borders_most all marks → bound_marked (flagged (take t.header.borders flags)) t ≡ bound_asked all marks t
+  pub marks_passed : j ≡ (Ok tt) → t.header.borders ≤ borders_most → {flags : List ℕ} → flags ≡ flags_of borders_most all marks → bound_marked (flagged (take t.header.borders flags)) t ≡ bound_asked all marks t
   marks_passed e few {flags} f =
       marked_agree (flagged (take t.header.borders flags)) (may_rise all marks) t (flags_tell all marks t.header.borders f few)
-      ∙ sym (sym (asked_then all t.header.borders marks marks _) ∙ then_next _ (sym told ∙ ap (λ (v : Judgement). said_judgement v marks) e))
+      ∙ sym (sym (asked_then all t.header.borders marks marks _) ∙ then_next _ (sym told ∙ ap (λ (v : Ruling). said_judgement v marks) e))
 
 -- with no list, no marks are looked at
 pub none_looked_at : (marks : List ℕ) (given : Table) → bound_for true marks given ≡ bound_for true [] given

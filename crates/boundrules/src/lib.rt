@@ -3,10 +3,3 @@
 
 use refusals::Refusal;
 use tightrules::RoundsMost;
-
-// What `bound` answers: the most rounds, or why the table is turned away.
-#[derive(Clone, Copy)]
-pub enum Bounded {
-    Rounds(RoundsMost),
-    Refused(Refusal),
-}

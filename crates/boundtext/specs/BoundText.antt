@@ -1,7 +1,7 @@
 -- The hour's own bound as text: the `U` line.
-use Rattle.std.specs.Prelude.{List, [], ◌∷◌, ℕ, ◌+◌, ◌*◌}
+use Rattle.std.specs.Prelude.{List, [], ◌∷◌, ℕ, ◌+◌, ◌*◌, Ok}
 use Prim.Native.Char.{code}
-use Rattle.refusals.specs.Refusals.{Judged, passed, then}
+use Rattle.refusals.specs.Refusals.{Judged, then}
 use Rattle.text.specs.Written.{decimal, line_text}
 use Rattle.tightrules.specs.declared.RoundsMost.{RoundsMost}
 
@@ -18,4 +18,4 @@ bound_most = 6 + 4 * 20
 
 -- the text of a bound, where it is answered
 abbrev pub bound_text_of : Judged RoundsMost → Judged (List ℕ)
-bound_text_of bounded = then bounded (λ m. passed (bound_text m))
+bound_text_of bounded = then bounded (λ m. Ok (bound_text m))

@@ -1,18 +1,17 @@
 // The hour's own bound as text: the `U` line. Its length is counted before the first byte is stored.
 #![tactic(auto)]
 
-ghost use Rattle.std.specs.Prelude.{◌≡◌, ◌≤◌, length};
-ghost use Rattle.refusals.specs.Refusals.{passed};
+ghost use Rattle.std.specs.Prelude.{◌≡◌, ◌≤◌, length, Ok};
+ghost use Rattle.marks.specs.Marks.{every, listed};
 ghost use Rattle.text.specs.Left.{text_left, text_said};
 ghost use Rattle.text.specs.Put.{Put};
-ghost use Rattle.tablerules.specs.Table.{lent, front};
+ghost use Rattle.tablerules.specs.Table.{front, lent_view};
 ghost use Rattle.tablerules.specs.Good.{Good};
 ghost use Rattle.boundrules.specs.Bound.{bound_asked};
 ghost use Rattle.boundtext.specs.BoundText.{bound_line, bound_most, bound_text_of};
 
-use boundrules::Bounded;
-use refusals::{Refusal, Written};
-use types::{BorderRecord, Header, RowRecord};
+use refusals::Refusal;
+use tablerules::TableView;
 
 // A line's letter, tabs and LF.
 const MARKS: usize = 6;
@@ -22,37 +21,26 @@ pub const TEXT_MOST: usize = MARKS + 4 * 20;
 
 // The bound of a good table as text, for every border or with marks.
 pub fn bound_text_good(
-    h: Header,
-    z: &[i64],
-    t: &[i64],
-    b: &[BorderRecord],
-    c: &[RowRecord],
-    f: &[i64],
-    all: bool,
-    marks: &[u64],
+    view: &TableView,
+    marks: Option<&[u64]>,
     out: &mut [u8],
-) -> Written
-    requires { Good (front (lent h z.now t.now b.now c.now f.now)) }
-    ensures { text_said result out.new ≡ text_left (bound_text_of (bound_asked all marks.now (front (lent h z.now t.now b.now c.now f.now)))) out.old }
+) -> Result<usize, Refusal>
+    requires { Good (front (lent_view view.now)) }
+    ensures { text_said result out.new ≡ text_left (bound_text_of (bound_asked (every marks.entry) (listed marks.entry) (front (lent_view view.now)))) out.old }
 {
-    let bounded = bound::bound_good(h, z, t, b, c, f, all, marks);
-    match bounded {
-        Bounded::Refused(w) => Written::Refused(w),
-        Bounded::Rounds(most) => {
-            write_bound(most.sharers, most.bits, most.rounds, most.sharp, out)
-        }
-    }
+    let most = bound::bound_good(view, marks)?;
+    write_bound(most.sharers, most.bits, most.rounds, most.sharp, out)
 }
 
 // Only the room for the text is left to judge.
-fn write_bound(n: u64, l: u64, rounds: u64, sharp: u64, out: &mut [u8]) -> Written
-    ensures { text_said result out.new ≡ text_left (passed (bound_line n l rounds sharp)) out.old }
+fn write_bound(n: u64, l: u64, rounds: u64, sharp: u64, out: &mut [u8]) -> Result<usize, Refusal>
+    ensures { text_said result out.new ≡ text_left (Ok (bound_line n l rounds sharp)) out.old }
 {
     let needed = line_length(n, l, rounds, sharp);
     if out.len() < needed {
-        return Written::Refused(Refusal::too_short(needed));
+        return Err(Refusal::TooShort(needed));
     }
-    Written::Bytes(put_bound(n, l, rounds, sharp, out))
+    Ok(put_bound(n, l, rounds, sharp, out))
 }
 
 // The letter, a tab before each field, the LF; and the fields.

@@ -30,6 +30,7 @@ use coded::{
 use holding::{EndRecord, HoldRecord};
 use outcome::{AtcRecord, LeftRecord};
 use partrules::PartsRecord;
+use tablerules::TableView;
 use types::{BorderRecord, Header, RowRecord};
 
 // The interface's version.
@@ -80,7 +81,15 @@ pub fn keravnoth_1_write(
 ) -> KeravnothWritten
     ensures { text_found result out.new ≡ text_coded (write_left (lent h z.now t.now b.now c.now f.now) out.old) }
 {
-    coded::code_written(writing::write(h, z, t, b, c, f, out))
+    let view = TableView {
+        header: h,
+        nets: z,
+        allocated: t,
+        borders: b,
+        rows: c,
+        factors: f,
+    };
+    coded::code_written(writing::write(&view, out))
 }
 
 // From text to text: the table as the sheet corrects it, written again.
@@ -108,7 +117,15 @@ pub fn keravnoth_1_extract(
 ) -> KeravnothExtracted
     ensures { extract_found result p.new atc.new left.new ≡ extract_coded (extract_left (lent h z.now t.now b.now c.now f.now) p.old atc.old left.old) }
 {
-    coded::code_extracted(doors::extract(h, z, t, b, c, f, p, atc, left))
+    let view = TableView {
+        header: h,
+        nets: z,
+        allocated: t,
+        borders: b,
+        rows: c,
+        factors: f,
+    };
+    coded::code_extracted(doors::extract(&view, p, atc, left))
 }
 
 // Capacities and margins where only the marked borders may rise.
@@ -126,7 +143,15 @@ pub fn keravnoth_1_extract_marked(
 ) -> KeravnothExtracted
     ensures { extract_found result p.new atc.new left.new ≡ extract_coded (extract_marked_left (lent h z.now t.now b.now c.now f.now) marks.now p.old atc.old left.old) }
 {
-    coded::code_extracted(doors::extract_marked(h, z, t, b, c, f, p, marks, atc, left))
+    let view = TableView {
+        header: h,
+        nets: z,
+        allocated: t,
+        borders: b,
+        rows: c,
+        factors: f,
+    };
+    coded::code_extracted(doors::extract_marked(&view, p, marks, atc, left))
 }
 
 // The extraction as text.
@@ -141,7 +166,15 @@ pub fn keravnoth_1_result_text(
 ) -> KeravnothWritten
     ensures { text_found result out.new ≡ text_coded (result_text_left (lent h z.now t.now b.now c.now f.now) out.old) }
 {
-    coded::code_written(answer::result_text(h, z, t, b, c, f, out))
+    let view = TableView {
+        header: h,
+        nets: z,
+        allocated: t,
+        borders: b,
+        rows: c,
+        factors: f,
+    };
+    coded::code_written(answer::result_text(&view, out))
 }
 
 // The extraction as text, where only the marked borders may rise.
@@ -157,7 +190,15 @@ pub fn keravnoth_1_result_text_marked(
 ) -> KeravnothWritten
     ensures { text_found result out.new ≡ text_coded (result_text_marked_left (lent h z.now t.now b.now c.now f.now) marks.now out.old) }
 {
-    coded::code_written(answer::result_text_marked(h, z, t, b, c, f, marks, out))
+    let view = TableView {
+        header: h,
+        nets: z,
+        allocated: t,
+        borders: b,
+        rows: c,
+        factors: f,
+    };
+    coded::code_written(answer::result_text_marked(&view, marks, out))
 }
 
 // From text to text: the result text, or the E line; and which of them it is.
@@ -198,7 +239,15 @@ pub fn keravnoth_1_corner_flows(
 ) -> KeravnothFlows
     ensures { flows_found result out.new ≡ flows_coded (corners_left (lent h z.now t.now b.now c.now f.now) row out.old) }
 {
-    coded::code_flows(corners::corner_flows(h, z, t, b, c, f, row, out))
+    let view = TableView {
+        header: h,
+        nets: z,
+        allocated: t,
+        borders: b,
+        rows: c,
+        factors: f,
+    };
+    coded::code_flows(corners::corner_flows(&view, row, out))
 }
 
 // The flows of all corners on one row, as text.
@@ -214,7 +263,15 @@ pub fn keravnoth_1_corner_text(
 ) -> KeravnothWritten
     ensures { text_found result out.new ≡ text_coded (corner_text_left (lent h z.now t.now b.now c.now f.now) row out.old) }
 {
-    coded::code_written(cornertext::corner_text(h, z, t, b, c, f, row, out))
+    let view = TableView {
+        header: h,
+        nets: z,
+        allocated: t,
+        borders: b,
+        rows: c,
+        factors: f,
+    };
+    coded::code_written(cornertext::corner_text(&view, row, out))
 }
 
 // Whether each claim is well formed and borne out.
@@ -229,7 +286,15 @@ pub fn keravnoth_1_claims(
 ) -> KeravnothJudged
     ensures { result ≡ coded_judged (claims_answer (lent h z.now t.now b.now c.now f.now) claims.now) }
 {
-    coded::code_judged(claims::judge_claims(h, z, t, b, c, f, claims))
+    let view = TableView {
+        header: h,
+        nets: z,
+        allocated: t,
+        borders: b,
+        rows: c,
+        factors: f,
+    };
+    coded::code_judged(claims::judge_claims(&view, claims))
 }
 
 // The published list of the claims that a text holds.
@@ -245,7 +310,15 @@ pub fn keravnoth_1_published_text(
 ) -> KeravnothWritten
     ensures { text_found result out.new ≡ text_coded (published_left (lent h z.now t.now b.now c.now f.now) list.now out.old) }
 {
-    coded::code_written(claimtext::published_text(h, z, t, b, c, f, list, out))
+    let view = TableView {
+        header: h,
+        nets: z,
+        allocated: t,
+        borders: b,
+        rows: c,
+        factors: f,
+    };
+    coded::code_written(claimtext::published_text(&view, list, out))
 }
 
 // Reads the rows of the planners' sheet into c and f.
@@ -283,7 +356,15 @@ pub fn keravnoth_1_bound(
 ) -> KeravnothBounded
     ensures { result ≡ coded_bounded (bound_for true [] (lent h z.now t.now b.now c.now f.now)) }
 {
-    coded::code_bounded(doors::bound(h, z, t, b, c, f))
+    let view = TableView {
+        header: h,
+        nets: z,
+        allocated: t,
+        borders: b,
+        rows: c,
+        factors: f,
+    };
+    coded::code_bounded(doors::bound(&view))
 }
 
 // How many rounds the tables can take at most where only the marked borders rise.
@@ -298,7 +379,15 @@ pub fn keravnoth_1_bound_marked(
 ) -> KeravnothBounded
     ensures { result ≡ coded_bounded (bound_for false marks.now (lent h z.now t.now b.now c.now f.now)) }
 {
-    coded::code_bounded(doors::bound_marked(h, z, t, b, c, f, marks))
+    let view = TableView {
+        header: h,
+        nets: z,
+        allocated: t,
+        borders: b,
+        rows: c,
+        factors: f,
+    };
+    coded::code_bounded(doors::bound_marked(&view, marks))
 }
 
 // What the margin of each row is made of.
@@ -313,7 +402,15 @@ pub fn keravnoth_1_margins(
 ) -> KeravnothJudged
     ensures { margins_found result out.new ≡ margins_coded (margins_left (lent h z.now t.now b.now c.now f.now) out.old) }
 {
-    coded::code_judged(parts::margins(h, z, t, b, c, f, out))
+    let view = TableView {
+        header: h,
+        nets: z,
+        allocated: t,
+        borders: b,
+        rows: c,
+        factors: f,
+    };
+    coded::code_judged(parts::margins(&view, out))
 }
 
 // Why a border got no more, and p of each row at each border.
@@ -331,7 +428,15 @@ pub fn keravnoth_1_why(
 ) -> KeravnothExplained
     ensures { explained_found result p.new ends.new rows.new ≡ explained_coded (why_left (lent h z.now t.now b.now c.now f.now) border p.old ends.old rows.old) }
 {
-    coded::code_explained(doors::reasons::why(h, z, t, b, c, f, border, p, ends, rows))
+    let view = TableView {
+        header: h,
+        nets: z,
+        allocated: t,
+        borders: b,
+        rows: c,
+        factors: f,
+    };
+    coded::code_explained(doors::reasons::why(&view, border, p, ends, rows))
 }
 
 // The same where only marked borders rise.
@@ -350,9 +455,15 @@ pub fn keravnoth_1_why_marked(
 ) -> KeravnothExplained
     ensures { explained_found result p.new ends.new rows.new ≡ explained_coded (why_marked_left (lent h z.now t.now b.now c.now f.now) marks.now border p.old ends.old rows.old) }
 {
-    coded::code_explained(doors::reasons::why_marked(
-        h, z, t, b, c, f, marks, border, p, ends, rows,
-    ))
+    let view = TableView {
+        header: h,
+        nets: z,
+        allocated: t,
+        borders: b,
+        rows: c,
+        factors: f,
+    };
+    coded::code_explained(doors::reasons::why_marked(&view, marks, border, p, ends, rows))
 }
 
 // What a refusal's number means, in words.

@@ -1,7 +1,7 @@
 -- The laws of `specs/Tight.antt`: a cap and a row's share. No contract cites this file.
 use mathlib.Core.Path.{◌≡◌, refl, sym}
-use Prim.Native.Nat.{ℕ, zero, suc, ◌*◌, ◌-◌, ◌/◌, ◌^◌, ◌≤◌, ◌<◌}
-use native.Mathlib.Nat.{zero-lt-suc, le_trans, le_antisymm, le_refl, mul-zero, mul-le-mul, le-min, min-le_left, min-le_right, min-eq_right, le-div_iff_mul-le, div-lt_iff_lt-mul}
+use Prim.Native.Nat.{ℕ, zero, suc, ◌*◌, ◌-◌, ◌/◌, ◌^◌, ◌≤◌, ◌<◌, min}
+use native.Mathlib.Nat.{not-suc-le-zero, zero-lt-suc, le_trans, le_antisymm, le_refl, mul-zero, mul-le-mul, le-min, min-le_left, min-le_right, min-eq_right, le-div_iff_mul-le, div-lt_iff_lt-mul}
 use native.Mathlib.Omega.{arith}
 use Rattle.numbers.specs.Below.{if_zero}
 use Rattle.caps.specs.Tight.{tight}
@@ -37,13 +37,11 @@ pub tight_zero : (f share a : ℕ) → f ≡ 0 → a ≡ tight f share a
 unfolding tight if_zero
 tight_zero f share a e = rw e refl
 
--- whether the cap stays or falls, by the quotient
-module _ (f share a : ℕ) (z : 0 < f) where
-  pub tight_low : share / f < a → share / f ≡ tight f share a
-  tight_low l = (tight_less f share a ((div-lt_iff_lt-mul z).0 l)).1
-
-  pub tight_high : a ≤ share / f → a ≡ tight f share a
-  tight_high l = tight_same f share a ((le-div_iff_mul-le z).0 l)
+-- the lesser of cap and quotient
+pub tight_pos : (f share a : ℕ) → 0 < f → min a (share / f) ≡ tight f share a
+unfolding tight if_zero
+tight_pos zero share a z = absurd (not-suc-le-zero z)
+tight_pos (suc f) share a z = refl
 
 -- to tighten again changes nothing
 pub tight_again : (f share a u : ℕ) → tight f share a ≤ u → u ≤ a → tight f share u ≡ tight f share a

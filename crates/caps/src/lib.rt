@@ -23,6 +23,5 @@ pub fn tighten(f: u64, share: u64, cap: u64) -> u64
     if f == 0 {
         return cap;
     }
-    let allowed = share / f;
-    if allowed < cap { allowed } else { cap }
+    cap.min(share / f)
 }

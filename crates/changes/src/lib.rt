@@ -3,71 +3,76 @@
 
 mod fields;
 
-use arguments::{Piece, whole};
-use command::options::Command;
-use command::{input, options};
+use arguments::Piece;
+use command::input;
+use command::options::{Command, OptionName};
+use messages::{Fault, Misuse};
 use output::Ended;
-use refusals::Written;
 use system::System;
 
 // The tables that two arguments name; where the second is not there, the first as it is corrected.
-pub fn obey(sys: &System, old: usize, new: usize, command: Command) -> Ended {
-    if !options::only(sys, command, true, false, false)
-        || !options::can_read(sys, command, 0, old)
-        || !options::can_read(sys, command, 0, new)
-    {
-        return Ended::Failed;
-    }
-    if new == 0 && command.corrections.at == 0 {
-        messages::misuse(sys, command.plain.word, whole(0), messages::TABLE_MISSING);
-        return Ended::Failed;
-    }
-    if new > 0 && is_standard_input(sys, old) && is_standard_input(sys, new) {
-        messages::misuse(sys, command.plain.word, whole(new), messages::TWICE);
-        return Ended::Failed;
+pub fn obey(
+    sys: &System,
+    command: &Command,
+    old: usize,
+    new: Option<usize>,
+) -> Result<Ended, Misuse> {
+    command.check_names(sys, None, Some(old))?;
+    command.check_names(sys, None, new)?;
+    let corrections = command.value(OptionName::Corrections);
+    let about = command.plain.word;
+    match new.map(Piece::whole) {
+        None if corrections.is_none() => {
+            return Err(Misuse {
+                about,
+                wrong: None,
+                fault: Fault::TableMissing,
+            });
+        }
+        Some(second) if Piece::whole(old).is_standard_input(sys) && second.is_standard_input(sys) =>
+            {
+                return Err(Misuse {
+                    about,
+                    wrong: Some(second),
+                    fault: Fault::Twice,
+                });
+            }
+        _ => {}
     }
     let mut rows = input::room();
     let mut before = input::room();
     let mut after = input::room();
-    obey_in(
+    Ok(obey_in(
         sys,
         old,
         new,
-        command.corrections,
+        corrections,
         &mut rows,
         &mut before,
         &mut after,
-    )
-}
-
-fn is_standard_input(sys: &System, i: usize) -> bool {
-    arguments::which(sys, whole(i), b"-\n") == 0
+    ))
 }
 
 fn obey_in(
     sys: &System,
     old: usize,
-    new: usize,
-    corrections: Piece,
+    new: Option<usize>,
+    corrections: Option<Piece>,
     rows: &mut [u8],
     before: &mut [u8],
     after: &mut [u8],
 ) -> Ended {
     let sheet = input::named(sys, corrections, rows);
-    let first = input::table(sys, old, before);
-    if sheet.failed || first.failed {
+    let first = input::table(sys, Some(old), before);
+    let (Some(k), Some(n)) = (sheet, first) else {
         return Ended::Failed;
-    }
-    let k = sheet.count;
-    let n = first.count;
-    if new == 0 {
+    };
+    if new.is_none() {
         return compare_corrected(sys, &before[..n], &rows[..k]);
     }
-    let second = input::table(sys, new, after);
-    if second.failed {
+    let Some(m) = input::table(sys, new, after) else {
         return Ended::Failed;
-    }
-    let m = second.count;
+    };
     compare(
         sys,
         b"the first table",
@@ -97,8 +102,8 @@ fn compare<'a>(
 ) -> Ended {
     let mut out = [0u8; ROOM];
     match rewriting::rewrite_corrected(before, b"", &mut out) {
-        Written::Bytes(_) => compare_good(sys, second, before, after, sheet),
-        Written::Refused(w) => telling::refuse(sys, first, w, before, b""),
+        Ok(_) => compare_good(sys, second, before, after, sheet),
+        Err(w) => telling::refuse(sys, first, w, before, b""),
     }
 }
 
@@ -112,10 +117,10 @@ fn compare_good<'a>(
 ) -> Ended {
     let mut out = [0u8; ROOM];
     match rewriting::rewrite_corrected(after, sheet, &mut out) {
-        Written::Bytes(k) => {
+        Ok(k) => {
             let m = output::cut(k, &out);
             telling::told(sys, fields::print(sys, before, &out[..m]), Ended::Answered)
         }
-        Written::Refused(w) => telling::refuse(sys, second, w, after, sheet),
+        Err(w) => telling::refuse(sys, second, w, after, sheet),
     }
 }

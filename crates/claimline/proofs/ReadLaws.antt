@@ -1,5 +1,5 @@
 -- The laws of `specs/ClaimText.antt`: the columns of a line, the claim of a line, and a list that is read line by line. No contract cites this file.
-use mathlib.Core.Path.{◌≡◌, refl, sym, ap, subst, ◌∙◌}
+use mathlib.Core.Path.{◌≡◌, refl, sym, ap, ◌∙◌}
 use mathlib.Core.Bool.{Bool, true, false, cond}
 use mathlib.Core.List.{List, [], ◌∷◌}
 use Prim.Native.Char.{code}
@@ -16,14 +16,9 @@ use Rattle.numbers.specs.Below.{at, sum}
 use Rattle.numbers.proofs.SumLaws.{sum_most}
 use Rattle.types.specs.LineColumns.{Column, number, columns_of}
 use Rattle.types.specs.Ranges.{at_ℤ}
-use Rattle.text.specs.declared.Signed.{Signed}
-use Rattle.text.specs.declared.Signed.TheVariants.{Whole, Wrong}
-use Rattle.text.specs.Fields.{tab, feed}
+use Rattle.text.specs.Fields.{Parsed, tab, feed}
 use Rattle.text.specs.Line.{line_at, after, headed}
 use Rattle.text.proofs.LineLaws.{line_le_length}
-use Rattle.text.specs.declared.Number.TheVariants.{Value, Bad}
-use Rattle.columns.specs.declared.Fields.{Fields}
-use Rattle.columns.specs.declared.Fields.TheVariants as fields
 use Rattle.columns.specs.declared.Head.TheVariants.{Lettered}
 use Rattle.columns.specs.Columns.{Values, values, wrong, push, onward, stop_of, field_at, fields_at, stored}
 use Rattle.columns.specs.ColumnLine.{to_end, rest_at, head_at, after_number, columns_line}
@@ -32,6 +27,7 @@ use Rattle.corrections.proofs.PieceLaws.{pieces_at, line_some}
 use Rattle.claimrules.specs.Claims.{pairs_most}
 use Rattle.claimline.specs.ClaimText.{fields_of, number_columns, claim_item, claim_record, no_claim, crowded, record_of, claim_with, is_tab, pairs_in, claim_line, claim_lines, claims_in}
 use Rattle.claimline.specs.Good.{are_good}
+use Rattle.std.specs.Prelude.{Result, Ok, Err}
 
 -- ---- the columns of a line, as the code has them
 abbrev repeated : (n b : ℕ) → List ℕ
@@ -58,18 +54,18 @@ module _ (pairs : ℕ) (fields : List ℤ) (k : ℕ) where
   item_rest h n = rw (le-ltb k 2 h, ne_eqb k 2 n)
 
 -- ---- the claim of a line with so many pairs, 16 at most
-module _ (line : List ℕ) (pairs : ℕ) {columns : List Column} (are : columns ≡ number_columns (fields_of pairs)) (f : Fields) (zs : List ℤ) (said : stored f zs ≡ columns_line tab (Lettered (code "Q")) columns line) where
+module _ (line : List ℕ) (pairs : ℕ) {columns : List Column} (are : columns ≡ number_columns (fields_of pairs)) (f : Result ℕ ℕ) (zs : List ℤ) (said : stored f zs ≡ columns_line tab (Lettered (code "Q")) columns line) where
   read_is : record_of pairs (stored f zs) ≡ claim_with line pairs
   unfolding claim_with
   read_is = ap (record_of pairs) (said ∙ ap (λ (l : List Column). columns_line tab (Lettered (code "Q")) l line) are)
 
-  pub with_bad : (place : ℕ) → f ≡ fields.Bad place → no_claim ≡ claim_with line pairs
-  with_bad place e = ap (λ (g : Fields). record_of pairs (stored g zs)) (sym e) ∙ read_is
+  pub with_bad : (place : ℕ) → f ≡ Err place → no_claim ≡ claim_with line pairs
+  with_bad place e = ap (λ (g : Result ℕ ℕ). record_of pairs (stored g zs)) (sym e) ∙ read_is
 
-  pub with_fields : pairs ≤ pairs_most → (next : ℕ) → f ≡ fields.End next → claim_record pairs zs ≡ claim_with line pairs
+  pub with_fields : pairs ≤ pairs_most → (next : ℕ) → f ≡ Ok next → claim_record pairs zs ≡ claim_with line pairs
   with_fields few next e =
       sym (ap (λ (v : Bool). cond v (claim_record pairs zs) (crowded (at_ℤ zs 0))) (le-leb pairs pairs_most few))
-      ∙ ap (λ (g : Fields). record_of pairs (stored g zs)) (sym e)
+      ∙ ap (λ (g : Result ℕ ℕ). record_of pairs (stored g zs)) (sym e)
       ∙ read_is
 
 -- ---- the claim of a line with more than 16 pairs
@@ -87,7 +83,7 @@ module _ (line : List ℕ) (pairs : ℕ) (many : pairs_most < pairs) where
       ∙ ap (record_of pairs) (lettered (headed (code "Q") tab line))
       ∙ ap (λ (n : ℕ). record_of pairs (cond (headed (code "Q") tab line) (to_end line (onward (field_at number line 2 tab) (λ next. fields_at tab feed (number_columns n) line next))) (wrong 0))) (sym but-row)
     where
-      lettered : (t : Bool) → after_number (cond t (Value 0 2) (Bad 0)) (λ at. rest_at tab (number_columns (suc (suc (2 * pairs)))) line at) ≡ cond t (rest_at tab (number_columns (suc (suc (2 * pairs)))) line 2) (wrong 0)
+      lettered : (t : Bool) → after_number (cond t (Ok (0, 2)) (Err 0)) (λ at. rest_at tab (number_columns (suc (suc (2 * pairs)))) line at) ≡ cond t (rest_at tab (number_columns (suc (suc (2 * pairs)))) line 2) (wrong 0)
       lettered true = refl
       lettered false = refl
 
@@ -102,22 +98,22 @@ module _ (line : List ℕ) (pairs : ℕ) (many : pairs_most < pairs) where
   pub crowded_unheaded : headed (code "Q") tab line ≡ false → no_claim ≡ claim_with line pairs
   crowded_unheaded e = sym (begun ∙ ap (λ (t : Bool). record_of pairs (cond t (to_end line (onward (field_at number line 2 tab) others)) (wrong 0))) e)
 
-  module _ (e : headed (code "Q") tab line ≡ true) (s : Signed) (q : s ≡ field_at number line 2 tab) where
+  module _ (e : headed (code "Q") tab line ≡ true) (s : Parsed ℤ) (q : s ≡ field_at number line 2 tab) where
     headed-on : claim_with line pairs ≡ record_of pairs (to_end line (onward s others))
     headed-on =
         begun
         ∙ ap (λ (t : Bool). record_of pairs (cond t (to_end line (onward (field_at number line 2 tab) others)) (wrong 0))) e
-        ∙ ap (λ (r : Signed). record_of pairs (to_end line (onward r others))) (sym q)
+        ∙ ap (λ (r : Parsed ℤ). record_of pairs (to_end line (onward r others))) (sym q)
 
-    pub crowded_rowless : (place : ℕ) → s ≡ Wrong place → no_claim ≡ claim_with line pairs
-    crowded_rowless place d = sym (headed-on ∙ ap (λ (r : Signed). record_of pairs (to_end line (onward r others))) d)
+    pub crowded_rowless : (place : ℕ) → s ≡ Err place → no_claim ≡ claim_with line pairs
+    crowded_rowless place d = sym (headed-on ∙ ap (λ (r : Parsed ℤ). record_of pairs (to_end line (onward r others))) d)
 
-    module _ (row : ℤ) (next : ℕ) (d : s ≡ Whole row next) {good : Bool} (told : good ≡ are_good (rest_at tab (number_columns (1 + 2 * pairs)) line next)) where
+    module _ (row : ℤ) (next : ℕ) (d : s ≡ Ok (row, next)) {good : Bool} (told : good ≡ are_good (rest_at tab (number_columns (1 + 2 * pairs)) line next)) where
       row_on : claim_with line pairs ≡ cond good (crowded row) no_claim
       unfolding rest_at
       row_on =
           headed-on
-          ∙ ap (λ (r : Signed). record_of pairs (to_end line (onward r others))) d
+          ∙ ap (λ (r : Parsed ℤ). record_of pairs (to_end line (onward r others))) d
           ∙ row-and-others row (others next)
           ∙ ap (λ (v : Bool). cond v (crowded row) no_claim) (sym told)
 
@@ -147,7 +143,7 @@ module _ (line : List ℕ) (at n : ℕ) where
         go true = refl
         go false = refl
 
-    module _ (h : k < n) (stop : ℕ) (is : stop ≡ cond (leb (n - k) 1) feed tab) (s : Signed) (q : s ≡ field_at number line p stop) where
+    module _ (h : k < n) (stop : ℕ) (is : stop ≡ cond (leb (n - k) 1) feed tab) (s : Parsed ℤ) (q : s ≡ field_at number line p stop) where
       -- the byte that ends the next number
       stop-next : (m : ℕ) → stop_of tab feed (number_columns m) ≡ cond (leb (suc m) 1) feed tab
       stop-next zero = refl
@@ -157,21 +153,21 @@ module _ (line : List ℕ) (at n : ℕ) where
       unfolding rest_at fields_at
       step =
           let left : n - k ≡ suc (n - (k + 1)) = omega arith in
-          ap (λ (r : Signed). are_good (to_end line (onward r (λ next. fields_at tab feed (number_columns (n - (k + 1))) line next))))
+          ap (λ (r : Parsed ℤ). are_good (to_end line (onward r (λ next. fields_at tab feed (number_columns (n - (k + 1))) line next))))
           (q ∙ ap (field_at number line p) (is ∙ ap (λ (m : ℕ). cond (leb m 1) feed tab) left ∙ sym (stop-next (n - (k + 1)))))
           ∙ sym (ap (λ (m : ℕ). are_good (rest_at tab (number_columns m) line p)) left)
           ∙ u.rest
 
-      pub numbers_bad : (place : ℕ) → s ≡ Wrong place → false ≡ are_good (rest_at tab (number_columns n) line at)
-      numbers_bad place d = sym (ap (λ (r : Signed). are_good (to_end line (onward r (λ next. fields_at tab feed (number_columns (n - (k + 1))) line next)))) d) ∙ step
+      pub numbers_bad : (place : ℕ) → s ≡ Err place → false ≡ are_good (rest_at tab (number_columns n) line at)
+      numbers_bad place d = sym (ap (λ (r : Parsed ℤ). are_good (to_end line (onward r (λ next. fields_at tab feed (number_columns (n - (k + 1))) line next)))) d) ∙ step
 
-      pub numbers_more : (z : ℤ) (next : ℕ) → s ≡ Whole z next → NumbersTo line at n next (k + 1)
+      pub numbers_more : (z : ℤ) (next : ℕ) → s ≡ Ok (z, next) → NumbersTo line at n next (k + 1)
       unfolding rest_at
       numbers_more z next d =
           record {
             high = omega arith;
             rest = sym (pushed (fields_at tab feed (number_columns (n - (k + 1))) line next))
-                ∙ sym (ap (λ (r : Signed). are_good (to_end line (onward r (λ next. fields_at tab feed (number_columns (n - (k + 1))) line next)))) d)
+                ∙ sym (ap (λ (r : Parsed ℤ). are_good (to_end line (onward r (λ next. fields_at tab feed (number_columns (n - (k + 1))) line next)))) d)
                 ∙ step;
           }
         where
@@ -192,10 +188,6 @@ tabs_le line k = omega (arith, sum_most {m = 1} k (is_tab line) (λ i h. one (eq
     one false = omega arith
 
 module _ (line : List ℕ) {tabs : ℕ} (are : tabs ≡ sum (length line) (is_tab line)) where
-  pub pairs_none : tabs < 2 → 0 ≡ pairs_in line
-  unfolding pairs_in
-  pairs_none h = let none : sum (length line) (is_tab line) - fields_of 0 ≡ 0 = omega arith in sym (ap (λ (n : ℕ). n / 2) none)
-
   pub pairs_some : (tabs - 2) / 2 ≡ pairs_in line
   unfolding pairs_in
   pairs_some = ap (λ (n : ℕ). (n - 2) / 2) are

@@ -11,8 +11,6 @@ ghost use Rattle.claimline.specs.ClaimText.{claim_items, number_columns, claim_i
 ghost use Rattle.claimline.specs.Good.{are_good};
 
 use claims::{CLAIM_ITEMS, ClaimRecord};
-use columns::Fields;
-use text::Signed;
 
 // The fields of a line with the most pairs: all numbers of a record but the count of its pairs.
 const FIELDS_MOST: usize = CLAIM_ITEMS - 1;
@@ -40,11 +38,7 @@ pub fn claim_line(line: &[u8]) -> ClaimRecord
 fn pairs_in(line: &[u8]) -> usize
     ensures { result ≡ pairs_in line.now }
 {
-    let tabs = tabs_in(line);
-    if tabs < 2 {
-        return 0;
-    }
-    (tabs - 2) / 2
+    tabs_in(line).saturating_sub(2) / 2
 }
 
 fn tabs_in(line: &[u8]) -> usize
@@ -60,7 +54,7 @@ fn tabs_in(line: &[u8]) -> usize
 fn is_tab(byte: u8) -> usize
     ensures { result ≡ cond (eqb byte tab) 1 0 }
 {
-    if byte == b'\t' { 1 } else { 0 }
+    (byte == b'\t') as usize
 }
 
 // The claim of a line with more pairs than a claim may have: no record has room for them, but its row is named.
@@ -71,7 +65,7 @@ fn crowded_line(line: &[u8], pairs: usize) -> ClaimRecord
     if !text::line::headed(line, b'Q', b'\t') {
         return no_claim();
     }
-    let Signed::Whole(row, next) = columns::read::field_at(b'n', line, 2, b'\t') else {
+    let Ok((row, next)) = columns::read::field_at(b'n', line, 2, b'\t') else {
         return no_claim();
     };
     if !are_numbers(line, next, 1 + 2 * pairs) {
@@ -87,7 +81,7 @@ fn are_numbers(line: &[u8], at: usize, n: usize) -> bool
     let mut p = at;
     for k in 0..n {
         let stop = columns::read::stop_of(n - k, b'\t', b'\n');
-        let Signed::Whole(_, next) = columns::read::field_at(b'n', line, p, stop) else {
+        let Ok((_, next)) = columns::read::field_at(b'n', line, p, stop) else {
             return false;
         };
         p = next;
@@ -110,14 +104,13 @@ fn claim_in(line: &[u8], pairs: usize, fields: &mut [i64]) -> ClaimRecord
     ensures { result ≡ claim_with line.now pairs }
 {
     let n = 2 + 2 * pairs;
-    let found = columns::read::line_at(
+    let Ok(_) = columns::read::line_at(
         b'\t',
         columns::Head::Lettered(b'Q'),
         &COLUMNS[..n],
         line,
         &mut fields[..n],
-    );
-    let Fields::End(_) = found else {
+    ) else {
         return no_claim();
     };
     claim_record(pairs, &fields[..n])
@@ -132,8 +125,7 @@ fn no_claim() -> ClaimRecord
 fn crowded(row: i64) -> ClaimRecord
     ensures { result ≡ crowded row }
 {
-    let fields: [i64; 1] = [row];
-    claim_record(CROWDED, &fields)
+    claim_record(CROWDED, &[row])
 }
 
 // The record of a claim with these fields.
@@ -172,8 +164,5 @@ fn claim_item(pairs: usize, fields: &[i64], k: usize) -> i64
 fn field(fields: &[i64], k: usize) -> i64
     ensures { result ≡ at_ℤ fields.now k }
 {
-    if k < fields.len() {
-        return fields[k];
-    }
-    0
+    fields.get(k).copied().unwrap_or(0)
 }

@@ -1,11 +1,11 @@
 -- Claims that kept rows can go from the domain list (02, E10): how a list of claims is judged, and which rows remain.
 -- A claim is lent as a raw record: the claimed row, its denominator D, how many pairs it has, then the pairs, each a cited row and its multiplier.
 -- What stands beyond its pairs is not looked at. It serves the published list only: no ATC is computed from it.
-use Rattle.std.specs.Prelude.{Bool, cond, not, ◌&&◌, List, [], ℕ, ◌+◌, ◌*◌, ℤ, pos, nat_abs, ◌-ℤ◌, ◌*ℤ◌, length, get_or}
+use Rattle.std.specs.Prelude.{Bool, cond, not, ◌&&◌, List, [], ℕ, ◌+◌, ◌*◌, ℤ, pos, nat_abs, ◌-ℤ◌, ◌*ℤ◌, length, get_or, Ok}
 use Rattle.std.specs.Int.Signed.{lt_z}
 use Rattle.numbers.specs.Ints.{same_ℤ, inside, sum_ℤ}
 use Rattle.numbers.specs.Below.{some_below, all_below}
-use Rattle.refusals.specs.Refusals.{Judged, passed, then, refuse_first, malformed_claim, not_borne_out}
+use Rattle.refusals.specs.Refusals.{Judged, then, refuse_first, malformed_claim, not_borne_out}
 use Rattle.types.specs.Ranges.{at_ℤ, exists}
 use Rattle.tablerules.specs.Table.{Table, stretch, judge_lent}
 use Rattle.staterules.specs.Standings.{Standings, standings_of}
@@ -101,7 +101,7 @@ judge_claims zones factors m claims =
     refuse_first (length claims)
     (λ k. not (formed m.states claims k && borne_out zones factors m.rams (get_or claims k [])))
     (λ k. cond (formed m.states claims k) (not_borne_out k) (malformed_claim k))
-    (passed m)
+    (Ok m)
 
 -- the claims judged on a judged table
 unfoldable pub claims_of : Table → (claims : List (List ℤ)) → Judged Standings

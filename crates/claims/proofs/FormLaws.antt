@@ -1,7 +1,7 @@
 -- The laws of the tests of form (claimrules: `specs/Claims.antt`), and of values lent among others (`specs/Magnitudes.antt`). No contract cites this file.
 use mathlib.Core.Path.{◌≡◌, refl, sym, ap, ap₂, ◌∙◌}
 use mathlib.Core.Bool.{Bool, true, false, not}
-use mathlib.Core.List.{List, []}
+use mathlib.Core.List.{List}
 use Prim.Native.Nat.{ℕ, ◌+◌, ◌*◌, ◌<◌, ◌≤◌}
 use native.Mathlib.Nat.{le_refl, mul-le-mul, mul-le-mul_right, suc-mul}
 use native.Mathlib.Numerals.{add-one}
@@ -9,7 +9,7 @@ use native.Mathlib.Omega.{arith}
 use borrow.Author.Tests.{not-true, lt-ltb, le-ltb}
 use lib.Dec.{T, eqb, ltb}
 use lib.IntN.{ℤ, pos, nat_abs, ◌+ℤ◌, ◌-ℤ◌, ◌*ℤ◌}
-use lib.ListN.{length, get_or}
+use lib.ListN.{length}
 use lib.Signed.{lt_z, le_z, le_z_yes, clash_ℤ, ◌≤ℤ◌}
 use Rattle.numbers.specs.Ints.{Within, inside, sum_ℤ}
 use Rattle.numbers.specs.Below.{at, all_below}

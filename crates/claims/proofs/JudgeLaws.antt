@@ -1,4 +1,5 @@
 -- The laws of `judge_claims` that a loop over claims asks for (`Judging`), what a judged table gives it, and the answer of the open call. No contract cites this file.
+use Rattle.std.specs.Prelude.{Err, Ok, None}
 use mathlib.Core.Path.{◌≡◌, refl, sym, ap, ap₂, subst, ◌∙◌}
 use mathlib.Core.Bool.{Bool, true, false, cond, not, ◌&&◌}
 use mathlib.Core.List.{List, []}
@@ -11,13 +12,10 @@ use Rattle.numbers.proofs.BelowLaws.{Looked, looked_none, looked_all, looked_her
 use Rattle.numbers.proofs.IntLaws.{within_le}
 use Rattle.limits.specs.Limits.{rows_most}
 use Rattle.refusals.specs.declared.Refusal.{Refusal}
-use Rattle.refusals.specs.declared.Judgement.{Judgement}
-use Rattle.refusals.specs.declared.Judgement.TheVariants.{Passed, Refused}
 use Rattle.refusals.specs.Answers.{said_judgement}
-use Rattle.refusals.specs.Refusals.{passed, refused, unless, refuse_first, malformed_claim, not_borne_out}
+use Rattle.refusals.specs.Refusals.{unless, refuse_first, malformed_claim, not_borne_out, Ruling}
 use Rattle.refusals.proofs.RefusalLaws.{not_passed, first_found, first_none_next, then_refused, then_next}
 use Rattle.types.specs.Ranges.{at_ℤ}
-use Rattle.tablerules.specs.declared.Room.TheVariants.{None}
 use Rattle.tablerules.specs.Table.{Table, front, judge_lent}
 use Rattle.tablerules.specs.Good.{Good}
 use Rattle.tablerules.proofs.GoodLaws.{told_judged}
@@ -57,43 +55,43 @@ module _ (zones : ℕ) (f rams : List ℤ) (states : List ℕ) (claims : List (L
     pub judging_long : length before ≡ rows_most
     judging_long = ap length u.flags ∙ named_long claims k
 
-    pub judging_all : length claims ≤ k → passed m ≡ judge_claims zones f m claims
+    pub judging_all : length claims ≤ k → Ok m ≡ judge_claims zones f m claims
     unfolding judge_claims
-    judging_all h = sym (first_none_next (passed m) (length claims) found why (sym (looked_all _ _ k u.looked h)))
+    judging_all h = sym (first_none_next (Ok m) (length claims) found why (sym (looked_all _ _ k u.looked h)))
 
     -- claim k, judged by flags
     module _ (h : k < length claims) (few : length states ≤ rows_most) {named : List Bool} (all : named ≡ named_rows claims (length claims)) {claim : List ℤ} (is : claim ≡ get_or claims k [])
-        (r : Judgement) (said : said_judgement r m ≡ judge_claim zones f m (flagged named) (flagged before) claim k) where
-      told : said_judgement r m ≡ cond (found k) (refused (why k)) (passed m)
+        (r : Ruling) (said : said_judgement r m ≡ judge_claim zones f m (flagged named) (flagged before) claim k) where
+      told : said_judgement r m ≡ cond (found k) (Err (why k)) (Ok m)
       unfolding judge_claim unless
       told =
           said
-          ∙ ap₂ (λ (v w : Bool). cond v (cond w (passed m) (refused (not_borne_out k))) (refused (malformed_claim k)))
+          ∙ ap₂ (λ (v w : Bool). cond v (cond w (Ok m) (Err (not_borne_out k))) (Err (malformed_claim k)))
           (ap₂ (λ (n b : List Bool). formed_by states (flagged n) (flagged b) claim) all u.flags ∙ formed_flags states few claims k is)
           (ap (borne_out zones f rams) is)
           ∙ cases (formed states claims k) (borne_out zones f rams (get_or claims k []))
         where
-          cases : (v w : Bool) → cond v (cond w (passed m) (refused (not_borne_out k))) (refused (malformed_claim k)) ≡ cond (not (v && w)) (refused (cond v (not_borne_out k) (malformed_claim k))) (passed m)
+          cases : (v w : Bool) → cond v (cond w (Ok m) (Err (not_borne_out k))) (Err (malformed_claim k)) ≡ cond (not (v && w)) (Err (cond v (not_borne_out k) (malformed_claim k))) (Ok m)
           cases true true = refl
           cases true false = refl
           cases false w = refl
 
-      pub judging_refused : (w : Refusal) → r ≡ Refused w → said_judgement r m ≡ judge_claims zones f m claims
+      pub judging_refused : (w : Refusal) → r ≡ Err w → Err w ≡ judge_claims zones f m claims
       unfolding judge_claims
       judging_refused w e = go (found k) refl
         where
-          is-refused : said_judgement r m ≡ refused w
-          is-refused = ap (λ (j : Judgement). said_judgement j m) e
+          is-refused : said_judgement r m ≡ Err w
+          is-refused = ap (λ (j : Ruling). said_judgement j m) e
 
-          go : (v : Bool) → found k ≡ v → said_judgement r m ≡ refuse_first (length claims) found why (passed m)
-          go true q = told ∙ ap (λ (v : Bool). cond v (refused (why k)) (passed m)) q ∙ sym (first_found (passed m) (length claims) found why (sym (looked_here _ _ k u.looked h q)))
-          go false q = absurd (not_passed w m (sym is-refused ∙ told ∙ ap (λ (v : Bool). cond v (refused (why k)) (passed m)) q))
+          go : (v : Bool) → found k ≡ v → Err w ≡ refuse_first (length claims) found why (Ok m)
+          go true q = sym is-refused ∙ told ∙ ap (λ (v : Bool). cond v (Err (why k)) (Ok m)) q ∙ sym (first_found (Ok m) (length claims) found why (sym (looked_here _ _ k u.looked h q)))
+          go false q = absurd (not_passed w m (sym is-refused ∙ told ∙ ap (λ (v : Bool). cond v (Err (why k)) (Ok m)) q))
 
-      pub judging_more : r ≡ Passed → {row : ℤ} → row ≡ claimed_row claim → {more : List Bool} → more ≡ name_row row before → Judging zones f rams states claims more (k + 1)
+      pub judging_more : r ≡ (Ok tt) → {row : ℤ} → row ≡ claimed_row claim → {more : List Bool} → more ≡ name_row row before → Judging zones f rams states claims more (k + 1)
       judging_more e {row} own q = record { looked = looked_more _ _ k u.looked h (go (found k) refl); flags = q ∙ ap (name_row row) u.flags ∙ name_more claims k (own ∙ ap claimed_row is) }
         where
           go : (v : Bool) → found k ≡ v → found k ≡ false
-          go true q = absurd (not_passed (why k) m (sym (told ∙ ap (λ (v : Bool). cond v (refused (why k)) (passed m)) q) ∙ ap (λ (j : Judgement). said_judgement j m) e))
+          go true q = absurd (not_passed (why k) m (sym (told ∙ ap (λ (v : Bool). cond v (Err (why k)) (Ok m)) q) ∙ ap (λ (j : Ruling). said_judgement j m) e))
           go false q = q
 
 -- ---- a judged table's factors and RAMs, as the functions on a claim ask for them
@@ -118,18 +116,16 @@ module _ {t : Table} (good : Good t) (m : Standings) (e : m ≡ standings_of t) 
   pub states_lent : length m.states ≡ t.header.rows
   states_lent = (rows_in_lem t m e).states_long
 
-  pub known_claims : (claims : List (List ℤ)) (r : Judgement) → said_judgement r m ≡ judge_claims t.header.zones t.factors m claims → said_judgement r (standings_of t) ≡ claims_of t claims
+  pub known_claims : (claims : List (List ℤ)) (r : Ruling) → said_judgement r m ≡ judge_claims t.header.zones t.factors m claims → said_judgement r (standings_of t) ≡ claims_of t claims
   unfolding claims_of
   known_claims claims r h = subst (λ (n : Standings). said_judgement r n ≡ judge_claims t.header.zones t.factors n claims) e h
 
 -- ---- the open call
-module _ (given : Table) (claims : List (List ℤ)) (r : Judgement) (said : said_judgement r (front given) ≡ judge_lent given) where
-  pub answer_refused : (w : Refusal) → r ≡ Refused w → said_judgement r (standings_of (front given)) ≡ claims_answer given claims
+module _ (given : Table) (claims : List (List ℤ)) (r : Ruling) (said : said_judgement r (front given) ≡ judge_lent given) where
+  pub answer_refused : (w : Refusal) → r ≡ Err w → Err w ≡ claims_answer given claims
   unfolding claims_answer
-  answer_refused w e =
-      ap (λ (j : Judgement). said_judgement j (standings_of (front given))) e
-      ∙ sym (then_refused _ (sym said ∙ ap (λ (j : Judgement). said_judgement j (front given)) e))
+  answer_refused w e = sym (then_refused _ (sym said ∙ ap (λ (j : Ruling). said_judgement j (front given)) e))
 
-  pub answer_judged : r ≡ Passed → claims_of (front given) claims ≡ claims_answer given claims
+  pub answer_judged : r ≡ (Ok tt) → claims_of (front given) claims ≡ claims_answer given claims
   unfolding claims_answer
   answer_judged e = sym (then_next _ (told_judged None given r said e))

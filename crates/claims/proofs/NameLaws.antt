@@ -1,9 +1,9 @@
 -- The laws of `specs/Named.antt`: flags say of a row that exists what the list says, and a claim judged by them is judged by the list. No contract cites this file.
-use mathlib.Core.Path.{◌≡◌, refl, sym, ap, ap₂, subst, ◌∙◌}
+use Rattle.std.specs.Prelude.{Option}
+use mathlib.Core.Path.{◌≡◌, refl, sym, ap, ap₂, ◌∙◌}
 use mathlib.Core.Bool.{Bool, true, false, not, cond, ◌&&◌, ◌||◌, false≢true}
 use mathlib.Core.List.{List, []}
 use mathlib.Core.Logic.{⊎_elim}
-use mathlib.Core.Option.{Option}
 use Prim.Native.Nat.{ℕ, ◌+◌, ◌<◌, ◌≤◌}
 use native.Mathlib.Omega.{arith}
 use borrow.Author.Tests.{lt-ltb, le-ltb, eqb-true, eqb-false}
@@ -12,7 +12,7 @@ use lib.IntN.{ℤ, pos, nat_abs}
 use lib.ListN.{length, get_or, set, length-set}
 use lib.Seq.{get_or-set_same, get_or-set_other}
 use lib.Signed.{lt_z}
-use Rattle.numbers.specs.Below.{table, some_below, all_below, given}
+use Rattle.numbers.specs.Below.{some_below, all_below, given}
 use Rattle.numbers.specs.Ints.{same_ℤ, inside}
 use Rattle.numbers.proofs.BelowLaws.{lt_suc_cases, first_cong, table_long, table_get, table_cong, table_of}
 use Rattle.numbers.proofs.FirstLaws.{some_has}

@@ -1,9 +1,9 @@
 -- What the code keeps of a list of claims while it judges them one by one: a flag for each row that a table can have, whether a claim names it.
 -- A list of any length is judged so, lent as records or as text; that flags say what the list says is proved (`proofs/NameLaws.antt`).
-use Rattle.std.specs.Prelude.{Bool, true, false, cond, ◌&&◌, List, ℕ, ℤ, pos, nat_abs, length, get_or, set}
+use Rattle.std.specs.Prelude.{Bool, true, false, cond, ◌&&◌, List, ℕ, ℤ, pos, nat_abs, length, get_or, set, Ok}
 use Rattle.numbers.specs.Below.{table}
 use Rattle.limits.specs.Limits.{rows_most}
-use Rattle.refusals.specs.Refusals.{Judged, passed, unless, malformed_claim, not_borne_out}
+use Rattle.refusals.specs.Refusals.{Judged, unless, malformed_claim, not_borne_out}
 use Rattle.types.specs.Ranges.{exists}
 use Rattle.staterules.specs.Standings.{Standings}
 use Rattle.claimrules.specs.Claims.{claimed_in, formed_by, borne_out}
@@ -29,4 +29,4 @@ unfoldable pub judge_claim : (zones : ℕ) → (factors : List ℤ) → Standing
 judge_claim zones factors m named before claim k =
     unless (formed_by m.states named before claim) (malformed_claim k)
     (unless (borne_out zones factors m.rams claim) (not_borne_out k)
-    (passed m))
+    (Ok m))

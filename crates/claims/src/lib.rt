@@ -6,7 +6,7 @@ ghost use Rattle.numbers.specs.Below.{all_below};
 ghost use Rattle.limits.specs.Limits.{rows_most};
 ghost use Rattle.refusals.specs.Answers.{said_judgement};
 ghost use Rattle.types.specs.Ranges.{exists};
-ghost use Rattle.tablerules.specs.Table.{lent, front};
+ghost use Rattle.tablerules.specs.Table.{lent, front, lent_view};
 ghost use Rattle.tablerules.specs.Good.{Good};
 ghost use Rattle.staterules.specs.Standings.{standings_of, standings_with};
 ghost use Rattle.claimrules.specs.Claims.{pairs_most, cited_row, multiplier, pairs, kept_row, cited_before, pair_good, formed_by, cited_sum, excess, level, borne_out, judge_claims, claims_of, claims_answer};
@@ -14,8 +14,9 @@ ghost use Rattle.claims.specs.Named.{named_rows, none_named, flagged, name_row, 
 ghost use Rattle.claims.specs.Unflagged.{unflagged};
 ghost use Rattle.claims.specs.Magnitudes.{ClaimInRange, Lent, value_of};
 
-use refusals::{Judgement, Refusal};
-use types::{BorderRecord, Header, RowRecord};
+use refusals::Refusal;
+use tablerules::TableView;
+use types::Header;
 
 // A lent claim: the claimed row, the denominator D, how many pairs there are; then the pairs, each a cited row and its multiplier.
 pub const CLAIM_ITEMS: usize = 35;
@@ -242,19 +243,19 @@ pub fn judge_claim(
     earlier: &[bool],
     claim: ClaimRecord,
     k: usize,
-) -> Judgement
+) -> Result<(), Refusal>
     requires lent { Lent h.rows h.zones 0 f.now }
     requires lent_2 { Lent h.rows 1 0 rams.now }
     requires states_len { length states.now ≡ h.rows }
     ensures { said_judgement result (standings_with rams.now states.now) ≡ judge_claim h.zones f.now (standings_with rams.now states.now) (flagged named.now) (flagged earlier.now) claim k }
 {
     if !is_formed(states, named, earlier, claim) {
-        return Judgement::Refused(Refusal::malformed_claim(k));
+        return Err(Refusal::MalformedClaim(k));
     }
     if !is_borne_out(h.rows, h.zones, f, rams, claim) {
-        return Judgement::Refused(Refusal::not_borne_out(k));
+        return Err(Refusal::NotBorneOut(k));
     }
-    Judgement::Passed
+    Ok(())
 }
 
 // Flags the rows that the claims name.
@@ -277,7 +278,7 @@ fn judge_each(
     named: &[bool],
     earlier: &mut [bool],
     claims: &[ClaimRecord],
-) -> Judgement
+) -> Result<(), Refusal>
     requires lent { Lent h.rows h.zones 0 f.now }
     requires lent_2 { Lent h.rows 1 0 rams.now }
     requires states_len { (length states.now ≡ h.rows) × (h.rows ≤ rows_most) }
@@ -286,87 +287,56 @@ fn judge_each(
 {
     for k in 0..claims.len() {
         let claim = claims[k];
-        let judged = judge_claim(h, f, rams, states, named, earlier, claim, k);
-        let Judgement::Passed = judged else {
-            return judged;
-        };
+        judge_claim(h, f, rams, states, named, earlier, claim, k)?;
         name_row(claim[0], earlier);
     }
-    Judgement::Passed
+    Ok(())
 }
 
 // The RAM and the state of each row, the rows that claims name, and then the claims.
 fn judge_in(
-    h: Header,
-    z: &[i64],
-    t: &[i64],
-    b: &[BorderRecord],
-    c: &[RowRecord],
-    f: &[i64],
+    view: &TableView,
     rams: &mut [i64],
     starts: &mut [i64],
     states: &mut [u64],
     named: &mut [bool],
     earlier: &mut [bool],
     claims: &[ClaimRecord],
-) -> Judgement
-    requires good { Good (front (lent h z.now t.now b.now c.now f.now)) }
-    requires rams_len { (length rams.old ≡ h.rows) × (length starts.old ≡ h.rows) }
-    requires states_len { length states.old ≡ h.rows }
+) -> Result<(), Refusal>
+    requires good { Good (front (lent_view view.now)) }
+    requires rams_len { (length rams.old ≡ view.now.header.rows) × (length starts.old ≡ view.now.header.rows) }
+    requires states_len { length states.old ≡ view.now.header.rows }
     requires named_value { (named.old ≡ none_named) × (earlier.old ≡ none_named) }
-    ensures { said_judgement result (standings_of (front (lent h z.now t.now b.now c.now f.now))) ≡ claims_of (front (lent h z.now t.now b.now c.now f.now)) claims.now }
+    ensures { said_judgement result (standings_of (front (lent_view view.now))) ≡ claims_of (front (lent_view view.now)) claims.now }
 {
-    states::fill_rows(h, z, t, b, c, f, rams, starts, states);
+    states::fill_rows(view, rams, starts, states);
     name_rows(claims, named);
-    let factors = h.rows * h.zones;
-    judge_each(h, &f[..factors], rams, states, named, earlier, claims)
+    let h = view.header;
+    let factors = &view.factors[..h.rows * h.zones];
+    judge_each(h, factors, rams, states, named, earlier, claims)
 }
 
 // Judges a list of claims on a lent table. Any input has an answer: there is no `requires`.
-pub fn judge_claims(
-    h: Header,
-    z: &[i64],
-    t: &[i64],
-    b: &[BorderRecord],
-    c: &[RowRecord],
-    f: &[i64],
-    claims: &[ClaimRecord],
-) -> Judgement
-    ensures { said_judgement result (standings_of (front (lent h z.now t.now b.now c.now f.now))) ≡ claims_answer (lent h z.now t.now b.now c.now f.now) claims.now }
+pub fn judge_claims(view: &TableView, claims: &[ClaimRecord]) -> Result<(), Refusal>
+    ensures { said_judgement result (standings_of (front (lent_view view.now))) ≡ claims_answer (lent_view view.now) claims.now }
 {
-    let judged = table::judge(h, z, t, b, c, f, tablerules::Room::None);
-    let Judgement::Passed = judged else {
-        return judged;
-    };
-    judge_claims_good(h, z, t, b, c, f, claims)
+    table::judge(view, None)?;
+    judge_claims_good(view, claims)
 }
 
 // Judges a list of claims on a good table. Allocates the arrays here so that the proof goals of `judge_in` do not contain them.
-pub fn judge_claims_good(
-    h: Header,
-    z: &[i64],
-    t: &[i64],
-    b: &[BorderRecord],
-    c: &[RowRecord],
-    f: &[i64],
-    claims: &[ClaimRecord],
-) -> Judgement
-    requires { Good (front (lent h z.now t.now b.now c.now f.now)) }
-    ensures { said_judgement result (standings_of (front (lent h z.now t.now b.now c.now f.now))) ≡ claims_of (front (lent h z.now t.now b.now c.now f.now)) claims.now }
+pub fn judge_claims_good(view: &TableView, claims: &[ClaimRecord]) -> Result<(), Refusal>
+    requires { Good (front (lent_view view.now)) }
+    ensures { said_judgement result (standings_of (front (lent_view view.now))) ≡ claims_of (front (lent_view view.now)) claims.now }
 {
-    let rows = h.rows;
+    let rows = view.header.rows;
     let mut rams: [i64; limits::ROWS_MOST] = [0; limits::ROWS_MOST];
     let mut starts: [i64; limits::ROWS_MOST] = [0; limits::ROWS_MOST];
     let mut states: [u64; limits::ROWS_MOST] = [0; limits::ROWS_MOST];
     let mut named: [bool; limits::ROWS_MOST] = [false; limits::ROWS_MOST];
     let mut earlier: [bool; limits::ROWS_MOST] = [false; limits::ROWS_MOST];
     judge_in(
-        h,
-        z,
-        t,
-        b,
-        c,
-        f,
+        view,
         &mut rams[..rows],
         &mut starts[..rows],
         &mut states[..rows],

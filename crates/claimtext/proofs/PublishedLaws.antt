@@ -1,5 +1,6 @@
 -- The laws of `specs/Published.antt`: a row's line and its length, and which judgement decides. No contract cites this file.
 -- `published-fits` is for a caller that lends room for the longest list.
+use Rattle.std.specs.Prelude.{Err, Ok, None}
 use mathlib.Core.Path.{◌≡◌, refl, sym, ap, ◌∙◌}
 use mathlib.Core.Bool.{Bool, true, false, cond, not, ◌&&◌}
 use mathlib.Core.List.{List, [], ◌∷◌}
@@ -16,11 +17,9 @@ use mir.Syntax.{w64}
 use mir.Val.{hbits}
 use Rattle.numbers.proofs.IntLaws.{within_fits}
 use Rattle.limits.specs.Limits.{rows_most, bytes_most}
-use Rattle.refusals.specs.declared.Judgement.{Judgement}
-use Rattle.refusals.specs.declared.Judgement.TheVariants.{Passed, Refused}
 use Rattle.refusals.specs.declared.Refusal.{Refusal}
 use Rattle.refusals.specs.Answers.{said_judgement}
-use Rattle.refusals.specs.Refusals.{Judged, passed, refused, then, too_long}
+use Rattle.refusals.specs.Refusals.{Judged, then, too_long, Ruling}
 use Rattle.refusals.proofs.RefusalLaws.{passed_is, none_passed, not_passed, then_passed, then_next, then_refused}
 use Rattle.types.specs.Ranges.{at_ℤ}
 use Rattle.types.proofs.RangeLaws.{header_in_lem}
@@ -32,7 +31,6 @@ use Rattle.text.proofs.PutLaws.{lines_most_lem, lines_cong}
 use Rattle.columns.specs.declared.Head.TheVariants.{Indexed}
 use Rattle.columns.specs.ColumnText.{field_text, fields_length, line_length}
 use Rattle.columns.proofs.ColumnPut.{line_long}
-use Rattle.tablerules.specs.declared.Room.TheVariants.{None}
 use Rattle.tablerules.specs.Table.{Table, front, judge_lent}
 use Rattle.tablerules.specs.Good.{Good}
 use Rattle.tablerules.proofs.GoodLaws.{judged_front, told_judged}
@@ -76,35 +74,35 @@ unflagged_text m claims {flags} few e =
     told j h = ap (λ (l : List Bool). flagged l (pos j)) e ∙ flagged_named claims (length claims) (length m.states) few (pos j) (exists_pos (length m.states) j h)
 
 -- ---- a good table, whose rows were filled in
-module _ {t : Table} (good : Good t) (m : Standings) (e : m ≡ standings_of t) (claims : List (List ℤ)) (out : List ℕ) (r : Judgement) (said : said_judgement r m ≡ judge_claims t.header.zones t.factors m claims) where
-  pub claims_refused : (w : Refusal) → r ≡ Refused w → ◌≡◌ {A = TextLeft} (record { answer = refused w; out = out }) (text_left (published_of t claims) out)
+module _ {t : Table} (good : Good t) (m : Standings) (e : m ≡ standings_of t) (claims : List (List ℤ)) (out : List ℕ) (r : Ruling) (said : said_judgement r m ≡ judge_claims t.header.zones t.factors m claims) where
+  pub claims_refused : (w : Refusal) → r ≡ Err w → ◌≡◌ {A = TextLeft} (record { answer = Err w; out = out }) (text_left (published_of t claims) out)
   unfolding published_of
-  claims_refused w q = text_refused out (then_refused _ (sym (known_claims good m e claims r said) ∙ ap (λ (j : Judgement). said_judgement j (standings_of t)) q))
+  claims_refused w q = text_refused out (then_refused _ (sym (known_claims good m e claims r said) ∙ ap (λ (j : Ruling). said_judgement j (standings_of t)) q))
 
-  pub claims_accepted : r ≡ Passed → {flags : List Bool} → flags ≡ named_rows claims (length claims)
-      → text_left (passed (published_text m (unflagged m.states flags))) out ≡ text_left (published_of t claims) out
+  pub claims_accepted : r ≡ (Ok tt) → {flags : List Bool} → flags ≡ named_rows claims (length claims)
+      → text_left (Ok (published_text m (unflagged m.states flags))) out ≡ text_left (published_of t claims) out
   unfolding published_of
   claims_accepted q flags =
       let few : length m.states ≤ rows_most = omega (arith, states_lent good m e, (header_in_lem t.header good.exact.header).rows_most_lem) in
-      ap (λ (text : List ℕ). text_left (passed text) out) (unflagged_text m claims few flags ∙ ap (λ (n : Standings). published_text n (remaining n.states claims)) e)
-      ∙ ap (λ (j : Judged (List ℕ)). text_left j out) (sym (then_next _ (sym (known_claims good m e claims r said) ∙ ap (λ (j : Judgement). said_judgement j (standings_of t)) q)))
+      ap (λ (text : List ℕ). text_left (Ok text) out) (unflagged_text m claims few flags ∙ ap (λ (n : Standings). published_text n (remaining n.states claims)) e)
+      ∙ ap (λ (j : Judged (List ℕ)). text_left j out) (sym (then_next _ (sym (known_claims good m e claims r said) ∙ ap (λ (j : Ruling). said_judgement j (standings_of t)) q)))
 
 -- ---- lent tables
 module _ (given : Table) (list out : List ℕ) where
-  pub list_long : bytes_most < length list → ◌≡◌ {A = TextLeft} (record { answer = refused too_long; out = out }) (published_left given list out)
+  pub list_long : bytes_most < length list → ◌≡◌ {A = TextLeft} (record { answer = Err too_long; out = out }) (published_left given list out)
   unfolding published_left published_answer
-  list_long h = text_refused out (ap (λ (b : Bool). cond b (refused too_long) (then (judge_lent given) (λ t. published_of t (claims_in list)))) (lt-ltb bytes_most (length list) h))
+  list_long h = text_refused out (ap (λ (b : Bool). cond b (Err too_long) (then (judge_lent given) (λ t. published_of t (claims_in list)))) (lt-ltb bytes_most (length list) h))
 
-  module _ (short : length list ≤ bytes_most) (r : Judgement) (said : said_judgement r (front given) ≡ judge_lent given) where
+  module _ (short : length list ≤ bytes_most) (r : Ruling) (said : said_judgement r (front given) ≡ judge_lent given) where
     past-length : published_answer given list ≡ then (judge_lent given) (λ t. published_of t (claims_in list))
     unfolding published_answer
-    past-length = ap (λ (b : Bool). cond b (refused too_long) (then (judge_lent given) (λ t. published_of t (claims_in list)))) (le-ltb bytes_most (length list) short)
+    past-length = ap (λ (b : Bool). cond b (Err too_long) (then (judge_lent given) (λ t. published_of t (claims_in list)))) (le-ltb bytes_most (length list) short)
 
-    pub table_refused : (w : Refusal) → r ≡ Refused w → ◌≡◌ {A = TextLeft} (record { answer = refused w; out = out }) (published_left given list out)
+    pub table_refused : (w : Refusal) → r ≡ Err w → ◌≡◌ {A = TextLeft} (record { answer = Err w; out = out }) (published_left given list out)
     unfolding published_left
-    table_refused w e = text_refused out (past-length ∙ then_refused _ (sym said ∙ ap (λ (j : Judgement). said_judgement j (front given)) e))
+    table_refused w e = text_refused out (past-length ∙ then_refused _ (sym said ∙ ap (λ (j : Ruling). said_judgement j (front given)) e))
 
-    pub table_judged : r ≡ Passed → text_left (published_of (front given) (claims_in list)) out ≡ published_left given list out
+    pub table_judged : r ≡ (Ok tt) → text_left (published_of (front given) (claims_in list)) out ≡ published_left given list out
     unfolding published_left
     table_judged e = ap (λ (j : Judged (List ℕ)). text_left j out) (sym (past-length ∙ then_next _ (told_judged None given r said e)))
 
@@ -144,22 +142,22 @@ module _ {t : Table} (good : Good t) (listed : ℕ → Bool) where
 
 -- ---- a list that is published: its claims were accepted
 pub record Publishes (t : Table) (claims : List (List ℤ)) (text : List ℕ) : Type 0 where
-  pub accepted : claims_of t claims ≡ passed (standings_of t)
+  pub accepted : claims_of t claims ≡ Ok (standings_of t)
   pub is : text ≡ published_text (standings_of t) (remaining (standings_of t).states claims)
 
 -- the rows whose claims were accepted are the table's
-pub claims_rows : (t : Table) (claims : List (List ℤ)) (m : Standings) → claims_of t claims ≡ passed m → m ≡ standings_of t
+pub claims_rows : (t : Table) (claims : List (List ℤ)) (m : Standings) → claims_of t claims ≡ Ok m → m ≡ standings_of t
 unfolding claims_of judge_claims
 claims_rows t claims m e = sym (passed_is _ _ (none_passed _ _ _ _ m e).1)
 
-module _ (t : Table) (claims : List (List ℤ)) (text : List ℕ) (e : published_of t claims ≡ passed text) where
+module _ (t : Table) (claims : List (List ℤ)) (text : List ℕ) (e : published_of t claims ≡ Ok text) where
   published : Publishes t claims text
   unfolding published_of
   published =
       let a = then_passed (claims_of t claims) _ text e in
       let rows : a.it ≡ standings_of t = claims_rows t claims a.it a.first in
       record {
-        accepted = a.first ∙ ap passed rows;
+        accepted = a.first ∙ ap Ok rows;
         is = sym (passed_is _ _ a.second) ∙ ap (λ (m : Standings). published_text m (remaining m.states claims)) rows;
       }
 
@@ -168,11 +166,11 @@ module _ (t : Table) (claims : List (List ℤ)) (text : List ℕ) (e : published
   published_fits good = omega (arith, ap length published.is, text_most good (remaining (standings_of t).states claims))
 
 -- what is published of lent tables
-pub publishes : (given : Table) (list text : List ℕ) → published_answer given list ≡ passed text → Publishes (front given) (claims_in list) text
+pub publishes : (given : Table) (list text : List ℕ) → published_answer given list ≡ Ok text → Publishes (front given) (claims_in list) text
 unfolding published_answer
 publishes given list text e = go (ltb bytes_most (length list)) e
   where
-    go : (v : Bool) → cond v (refused too_long) (then (judge_lent given) (λ t. published_of t (claims_in list))) ≡ passed text → Publishes (front given) (claims_in list) text
+    go : (v : Bool) → cond v (Err too_long) (then (judge_lent given) (λ t. published_of t (claims_in list))) ≡ Ok text → Publishes (front given) (claims_in list) text
     go true q = absurd (not_passed too_long text q)
     go false q =
         let a = then_passed (judge_lent given) _ text q in

@@ -1,8 +1,8 @@
 -- The published list as text (02, E10), and what the open call `published_text` leaves: D, row, RAM in grains as in the M line, for each kept row that is not claimed.
-use Rattle.std.specs.Prelude.{Bool, cond, List, [], ◌∷◌, ℕ, ◌+◌, ◌*◌, ltb, ℤ, length}
+use Rattle.std.specs.Prelude.{Bool, cond, List, [], ◌∷◌, ℕ, ◌+◌, ◌*◌, ltb, ℤ, length, Err, Ok}
 use Prim.Native.Char.{code}
 use Rattle.limits.specs.Limits.{rows_most, bytes_most}
-use Rattle.refusals.specs.Refusals.{Judged, passed, refused, then, too_long}
+use Rattle.refusals.specs.Refusals.{Judged, then, too_long}
 use Rattle.types.specs.LineColumns.{Column, signed}
 use Rattle.types.specs.Ranges.{at_ℤ}
 use Rattle.text.specs.Fields.{tab}
@@ -41,11 +41,11 @@ published_most = rows_most * line_most
 
 -- the published list of a judged table: 11 and 12 first, and then each kept row that no claim names
 unfoldable pub published_of : Table → (claims : List (List ℤ)) → Judged (List ℕ)
-published_of t claims = then (claims_of t claims) (λ m. passed (published_text m (remaining m.states claims)))
+published_of t claims = then (claims_of t claims) (λ m. Ok (published_text m (remaining m.states claims)))
 
 -- 1 of the list's text, then the lent tables as for every call on them, then 11 and 12
 unfoldable pub published_answer : (given : Table) → (list : List ℕ) → Judged (List ℕ)
-published_answer given list = cond (ltb bytes_most (length list)) (refused too_long) (then (judge_lent given) (λ t. published_of t (claims_in list)))
+published_answer given list = cond (ltb bytes_most (length list)) (Err too_long) (then (judge_lent given) (λ t. published_of t (claims_in list)))
 
 -- what `published_text` leaves: all refusals of the list, and then room for the bytes (8)
 unfoldable pub published_left : (given : Table) → (list out : List ℕ) → TextLeft

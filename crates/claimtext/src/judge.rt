@@ -8,7 +8,7 @@ ghost use Rattle.claims.specs.Named.{named_rows, none_named};
 ghost use Rattle.claims.specs.Magnitudes.{Lent};
 ghost use Rattle.claimline.specs.ClaimText.{claims_in};
 
-use refusals::Judgement;
+use refusals::Refusal;
 use types::Header;
 
 // Flags the rows that the lines name: every line, however many there are.
@@ -34,7 +34,7 @@ pub fn judge_lines(
     list: &[u8],
     named: &[bool],
     earlier: &mut [bool],
-) -> Judgement
+) -> Result<(), Refusal>
     requires lent { Lent h.rows h.zones 0 f.now }
     requires lent_2 { Lent h.rows 1 0 rams.now }
     requires states_len { (length states.now ≡ h.rows) × (h.rows ≤ rows_most) }
@@ -46,13 +46,10 @@ pub fn judge_lines(
     while p < list.len() {
         let line = text::line::line_at(list, p);
         let claim = claimline::claim_line(line);
-        let judged = claims::judge_claim(h, f, rams, states, named, earlier, claim, k);
-        let Judgement::Passed = judged else {
-            return judged;
-        };
+        claims::judge_claim(h, f, rams, states, named, earlier, claim, k)?;
         claims::name_row(claim[0], earlier);
         p += line.len();
         k += 1;
     }
-    Judgement::Passed
+    Ok(())
 }

@@ -6,67 +6,42 @@ mod published;
 
 ghost use Rattle.std.specs.Prelude.{◌≡◌, length};
 ghost use Rattle.text.specs.Left.{text_left, text_said};
-ghost use Rattle.tablerules.specs.Table.{lent, front};
+ghost use Rattle.tablerules.specs.Table.{front, lent_view};
 ghost use Rattle.tablerules.specs.Good.{Good};
 ghost use Rattle.claims.specs.Named.{none_named};
 ghost use Rattle.claimline.specs.ClaimText.{claims_in};
 ghost use Rattle.claimtext.specs.Published.{published_of, published_left};
 
-use refusals::{Judgement, Refusal, Written};
-use types::{BorderRecord, Header, RowRecord};
+use refusals::Refusal;
+use tablerules::TableView;
 
 // No published list has more bytes: so many suffice a caller that lends room for any.
 pub const PUBLISHED_MOST: usize = limits::ROWS_MOST * published::LINE_MOST;
 
 // The published list of a lent table, by the text of a list of claims. Any input has an answer: there is no `requires`.
-pub fn published_text(
-    h: Header,
-    z: &[i64],
-    t: &[i64],
-    b: &[BorderRecord],
-    c: &[RowRecord],
-    f: &[i64],
-    list: &[u8],
-    out: &mut [u8],
-) -> Written
-    ensures { text_said result out.new ≡ published_left (lent h z.now t.now b.now c.now f.now) list.now out.old }
+pub fn published_text(view: &TableView, list: &[u8], out: &mut [u8]) -> Result<usize, Refusal>
+    ensures { text_said result out.new ≡ published_left (lent_view view.now) list.now out.old }
 {
     if text::BYTES_MOST < list.len() {
-        return Written::Refused(Refusal::too_long());
+        return Err(Refusal::TooLong);
     }
-    if let Judgement::Refused(w) = table::judge(h, z, t, b, c, f, tablerules::Room::None) {
-        return Written::Refused(w);
-    }
-    published_text_good(h, z, t, b, c, f, list, out)
+    table::judge(view, None)?;
+    published_text_good(view, list, out)
 }
 
 // The published list of a good table. Allocates the arrays here so that the proof goals of `publish_in` do not contain them.
-pub fn published_text_good(
-    h: Header,
-    z: &[i64],
-    t: &[i64],
-    b: &[BorderRecord],
-    c: &[RowRecord],
-    f: &[i64],
-    list: &[u8],
-    out: &mut [u8],
-) -> Written
-    requires { Good (front (lent h z.now t.now b.now c.now f.now)) }
-    ensures { text_said result out.new ≡ text_left (published_of (front (lent h z.now t.now b.now c.now f.now)) (claims_in list.now)) out.old }
+pub fn published_text_good(view: &TableView, list: &[u8], out: &mut [u8]) -> Result<usize, Refusal>
+    requires { Good (front (lent_view view.now)) }
+    ensures { text_said result out.new ≡ text_left (published_of (front (lent_view view.now)) (claims_in list.now)) out.old }
 {
-    let rows = h.rows;
+    let rows = view.header.rows;
     let mut rams: [i64; limits::ROWS_MOST] = [0; limits::ROWS_MOST];
     let mut starts: [i64; limits::ROWS_MOST] = [0; limits::ROWS_MOST];
     let mut states: [u64; limits::ROWS_MOST] = [0; limits::ROWS_MOST];
     let mut named: [bool; limits::ROWS_MOST] = [false; limits::ROWS_MOST];
     let mut earlier: [bool; limits::ROWS_MOST] = [false; limits::ROWS_MOST];
     publish_in(
-        h,
-        z,
-        t,
-        b,
-        c,
-        f,
+        view,
         list,
         &mut rams[..rows],
         &mut starts[..rows],
@@ -79,12 +54,7 @@ pub fn published_text_good(
 
 // The RAM and the state of each row, the rows that claims name, what the claims come to, and then the list.
 fn publish_in(
-    h: Header,
-    z: &[i64],
-    t: &[i64],
-    b: &[BorderRecord],
-    c: &[RowRecord],
-    f: &[i64],
+    view: &TableView,
     list: &[u8],
     rams: &mut [i64],
     starts: &mut [i64],
@@ -92,19 +62,17 @@ fn publish_in(
     named: &mut [bool],
     earlier: &mut [bool],
     out: &mut [u8],
-) -> Written
-    requires good { Good (front (lent h z.now t.now b.now c.now f.now)) }
-    requires rams_len { (length rams.old ≡ h.rows) × (length starts.old ≡ h.rows) }
-    requires states_len { length states.old ≡ h.rows }
+) -> Result<usize, Refusal>
+    requires good { Good (front (lent_view view.now)) }
+    requires rams_len { (length rams.old ≡ view.now.header.rows) × (length starts.old ≡ view.now.header.rows) }
+    requires states_len { length states.old ≡ view.now.header.rows }
     requires named_value { (named.old ≡ none_named) × (earlier.old ≡ none_named) }
-    ensures { text_said result out.new ≡ text_left (published_of (front (lent h z.now t.now b.now c.now f.now)) (claims_in list.now)) out.old }
+    ensures { text_said result out.new ≡ text_left (published_of (front (lent_view view.now)) (claims_in list.now)) out.old }
 {
-    states::fill_rows(h, z, t, b, c, f, rams, starts, states);
+    states::fill_rows(view, rams, starts, states);
     judge::name_lines(list, named);
-    let factors = h.rows * h.zones;
-    let judged = judge::judge_lines(h, &f[..factors], rams, states, list, named, earlier);
-    if let Judgement::Refused(w) = judged {
-        return Written::Refused(w);
-    }
+    let h = view.header;
+    let factors = &view.factors[..h.rows * h.zones];
+    judge::judge_lines(h, factors, rams, states, list, named, earlier)?;
     published::write_rows(rams, states, named, out)
 }

@@ -1,7 +1,6 @@
 // The published list as text: a D line for each kept row that no claim names. The rows that claims name are flagged.
-ghost use Rattle.std.specs.Prelude.{◌≡◌, ◌+◌, ◌<◌, ◌≤◌, length};
+ghost use Rattle.std.specs.Prelude.{◌≡◌, ◌+◌, ◌<◌, ◌≤◌, length, Ok};
 ghost use Rattle.limits.specs.Limits.{rows_most};
-ghost use Rattle.refusals.specs.Refusals.{passed};
 ghost use Rattle.text.specs.Left.{text_left, text_said};
 ghost use Rattle.text.specs.Put.{Put};
 ghost use Rattle.staterules.specs.Standings.{standings_with};
@@ -9,7 +8,7 @@ ghost use Rattle.claimtext.specs.Published.{row_line, line_most, published_line,
 ghost use Rattle.claims.specs.Unflagged.{unflagged};
 
 use columns::Head;
-use refusals::{Refusal, Written};
+use refusals::Refusal;
 
 // The columns of a D line after its row: the RAM.
 const COLUMNS: [u8; 1] = *b"s";
@@ -18,15 +17,20 @@ const COLUMNS: [u8; 1] = *b"s";
 pub const LINE_MOST: usize = 4 + 2 * 20;
 
 // Only the room for the text is left to judge.
-pub fn write_rows(rams: &[i64], states: &[u64], named: &[bool], out: &mut [u8]) -> Written
+pub fn write_rows(
+    rams: &[i64],
+    states: &[u64],
+    named: &[bool],
+    out: &mut [u8],
+) -> Result<usize, Refusal>
     requires { (length rams.now ≡ length states.now) × (length states.now ≤ rows_most) }
-    ensures { text_said result out.new ≡ text_left (passed (published_text (standings_with rams.now states.now) (unflagged states.now named.now))) out.old }
+    ensures { text_said result out.new ≡ text_left (Ok (published_text (standings_with rams.now states.now) (unflagged states.now named.now))) out.old }
 {
     let needed = text_length(rams, states, named);
     if out.len() < needed {
-        return Written::Refused(Refusal::too_short(needed));
+        return Err(Refusal::TooShort(needed));
     }
-    Written::Bytes(put_rows(rams, states, named, out))
+    Ok(put_rows(rams, states, named, out))
 }
 
 fn text_length(rams: &[i64], states: &[u64], named: &[bool]) -> usize

@@ -1,9 +1,7 @@
 -- What the C interface answers: number, place and byte of the refusal, all 0 where there is none, and then the values (0 where refused).
 -- `read_coded`, `text_coded`, `answered_coded`, `extract_coded`, `explained_coded`, `flows_coded`, `rows_coded`, `margins_coded`, `coded_judged` and `coded_bounded` are what contracts cite: a call's answer coded so, and each lent buffer as the call leaves it.
-use Rattle.std.specs.Prelude.{List, ℕ, ℤ, pos}
-use Rattle.refusals.specs.declared.Judgement.{Judgement}
-use Rattle.refusals.specs.declared.Judgement.TheVariants as judgement
-use Rattle.refusals.specs.Refusals.{Judged, passed, refused}
+use Rattle.std.specs.Prelude.{List, ℕ, ℤ, pos, Err, Ok}
+use Rattle.refusals.specs.Refusals.{Judged, Ruling, number_of, place_of, byte_of}
 use Rattle.types.specs.declared.Header.{Header}
 use Rattle.reading.specs.Reading.{ReadLeft}
 use Rattle.text.specs.Left.{TextLeft}
@@ -25,36 +23,36 @@ use Rattle.coded.specs.declared.KeravnothExplained.{KeravnothExplained}
 
 -- the header of the table that was read
 abbrev pub coded_read : Judged Header → KeravnothRead
-coded_read (passed h) = record { number = 0; place = 0; byte = 0; zones = h.zones; borders = h.borders; rows = h.rows; share = h.share; intraday = h.intraday }
-coded_read (refused w) = record { number = w.number; place = w.place; byte = w.byte; zones = 0; borders = 0; rows = 0; share = pos 0; intraday = 0 }
+coded_read (Ok h) = record { number = 0; place = 0; byte = 0; zones = h.zones; borders = h.borders; rows = h.rows; share = h.share; intraday = h.intraday }
+coded_read (Err w) = record { number = number_of w; place = place_of w; byte = byte_of w; zones = 0; borders = 0; rows = 0; share = pos 0; intraday = 0 }
 
 -- the bytes of the text that was written
 abbrev pub coded_written : Judged ℕ → KeravnothWritten
-coded_written (passed n) = record { number = 0; place = 0; byte = 0; bytes = n }
-coded_written (refused w) = record { number = w.number; place = w.place; byte = w.byte; bytes = 0 }
+coded_written (Ok n) = record { number = 0; place = 0; byte = 0; bytes = n }
+coded_written (Err w) = record { number = number_of w; place = place_of w; byte = byte_of w; bytes = 0 }
 
 -- the rounds
 abbrev pub coded_extracted : Judged ℕ → KeravnothExtracted
-coded_extracted (passed n) = record { number = 0; place = 0; byte = 0; rounds = n }
-coded_extracted (refused w) = record { number = w.number; place = w.place; byte = w.byte; rounds = 0 }
+coded_extracted (Ok n) = record { number = 0; place = 0; byte = 0; rounds = n }
+coded_extracted (Err w) = record { number = number_of w; place = place_of w; byte = byte_of w; rounds = 0 }
 
 -- the corners
 abbrev pub coded_flows : Judged ℕ → KeravnothFlows
-coded_flows (passed n) = record { number = 0; place = 0; byte = 0; corners = n }
-coded_flows (refused w) = record { number = w.number; place = w.place; byte = w.byte; corners = 0 }
+coded_flows (Ok n) = record { number = 0; place = 0; byte = 0; corners = n }
+coded_flows (Err w) = record { number = number_of w; place = place_of w; byte = byte_of w; corners = 0 }
 
 -- a judgement alone, by what was judged and as the code tells it
 abbrev pub coded_judged : {A : Type 0} → Judged A → KeravnothJudged
-coded_judged (passed a) = record { number = 0; place = 0; byte = 0 }
-coded_judged (refused w) = record { number = w.number; place = w.place; byte = w.byte }
+coded_judged (Ok a) = record { number = 0; place = 0; byte = 0 }
+coded_judged (Err w) = record { number = number_of w; place = place_of w; byte = byte_of w }
 
-abbrev pub coded_ruling : Judgement → KeravnothJudged
-coded_ruling judgement.Passed = record { number = 0; place = 0; byte = 0 }
-coded_ruling (judgement.Refused w) = record { number = w.number; place = w.place; byte = w.byte }
+abbrev pub coded_ruling : Ruling → KeravnothJudged
+coded_ruling (Ok tt) = record { number = 0; place = 0; byte = 0 }
+coded_ruling (Err w) = record { number = number_of w; place = place_of w; byte = byte_of w }
 
 -- an answer in text: the bytes that were written, and the number, place and byte that the text tells, all 0 where it is a result or was not written
-abbrev pub coded_answered : Judged ℕ → (told : Judgement) → KeravnothAnswered
-coded_answered (passed n) told =
+abbrev pub coded_answered : Judged ℕ → (told : Ruling) → KeravnothAnswered
+coded_answered (Ok n) told =
     record {
       number = 0;
       place = 0;
@@ -64,17 +62,17 @@ coded_answered (passed n) told =
       told_place = (coded_ruling told).place;
       told_byte = (coded_ruling told).byte;
     }
-coded_answered (refused w) told = record { number = w.number; place = w.place; byte = w.byte; bytes = 0; told_number = 0; told_place = 0; told_byte = 0 }
+coded_answered (Err w) told = record { number = number_of w; place = place_of w; byte = byte_of w; bytes = 0; told_number = 0; told_place = 0; told_byte = 0 }
 
 -- N, L, 2 x N x L and the sharper bound
 abbrev pub coded_bounded : Judged RoundsMost → KeravnothBounded
-coded_bounded (passed most) = record { number = 0; place = 0; byte = 0; sharers = most.sharers; bits = most.bits; rounds = most.rounds; sharp = most.sharp }
-coded_bounded (refused w) = record { number = w.number; place = w.place; byte = w.byte; sharers = 0; bits = 0; rounds = 0; sharp = 0 }
+coded_bounded (Ok most) = record { number = 0; place = 0; byte = 0; sharers = most.sharers; bits = most.bits; rounds = most.rounds; sharp = most.sharp }
+coded_bounded (Err w) = record { number = number_of w; place = place_of w; byte = byte_of w; sharers = 0; bits = 0; rounds = 0; sharp = 0 }
 
 -- a border's reasons: the rounds, the border's last, the row that the result names and the row that ended its rise
 abbrev pub coded_explained : Judged Reasons → KeravnothExplained
-coded_explained (passed r) = record { number = 0; place = 0; byte = 0; rounds = r.rounds; last = r.last; named = r.named; ended = r.ended }
-coded_explained (refused w) = record { number = w.number; place = w.place; byte = w.byte; rounds = 0; last = 0; named = pos 0; ended = pos 0 }
+coded_explained (Ok r) = record { number = 0; place = 0; byte = 0; rounds = r.rounds; last = r.last; named = r.named; ended = r.ended }
+coded_explained (Err w) = record { number = number_of w; place = place_of w; byte = byte_of w; rounds = 0; last = 0; named = pos 0; ended = pos 0 }
 
 -- what `keravnoth_read` leaves: its answer, and each lent table
 pub record ReadCoded : Type 0 where
@@ -110,7 +108,7 @@ text_coded l = text_found (coded_written l.answer) l.out
 abbrev pub answered_found : (answer : KeravnothAnswered) → (out : List ℕ) → OutCoded KeravnothAnswered ℕ
 answered_found answer out = out_found answer out
 
-abbrev pub answered_coded : TextLeft → (told : Judgement) → OutCoded KeravnothAnswered ℕ
+abbrev pub answered_coded : TextLeft → (told : Ruling) → OutCoded KeravnothAnswered ℕ
 answered_coded l told = answered_found (coded_answered l.answer told) l.out
 
 -- what `keravnoth_corner_flows` leaves: its answer, and the lent numbers

@@ -2,21 +2,13 @@
 #![tactic(auto)]
 
 ghost use Rattle.std.specs.Prelude.{◌≡◌};
-ghost use Rattle.refusals.specs.Answers.{said_written};
-ghost use Rattle.cornerrules.specs.Answers.{said_flows};
-ghost use Rattle.extractrules.specs.Answers.{said_extracted};
-ghost use Rattle.reading.specs.Answers.{said_read};
-ghost use Rattle.boundrules.specs.Bound.{said_bounded};
-ghost use Rattle.why.specs.Why.{said_explained};
 ghost use Rattle.coded.specs.Coded.{coded_read, coded_written, coded_answered, coded_extracted, coded_flows, coded_ruling, coded_bounded, coded_explained};
 
 use answer::Answered;
-use boundrules::Bounded;
-use cornerrules::Flows;
-use extractrules::Extracted;
-use reading::TableRead;
-use refusals::{Judgement, Written};
-use why::Explained;
+use holding::Reasons;
+use refusals::Refusal;
+use tightrules::RoundsMost;
+use types::Header;
 
 #[repr(C)]
 #[derive(Clone, Copy)]
@@ -103,27 +95,24 @@ pub struct KeravnothExplained {
     pub ended: i64,
 }
 
-pub fn code_read(said: TableRead) -> KeravnothRead
-    ensures { result ≡ coded_read (said_read said) }
+pub fn code_read(said: Result<Header, Refusal>) -> KeravnothRead
+    ensures { result ≡ coded_read said }
 {
     match said {
-        TableRead::Table(h) => {
-            let share = h.share;
-            KeravnothRead {
-                number: 0,
-                place: 0,
-                byte: 0,
-                zones: h.zones,
-                borders: h.borders,
-                rows: h.rows,
-                share: share,
-                intraday: h.intraday,
-            }
-        }
-        TableRead::Refused(w) => KeravnothRead {
-            number: w.number,
-            place: w.place,
-            byte: w.byte,
+        Ok(h) => KeravnothRead {
+            number: 0,
+            place: 0,
+            byte: 0,
+            zones: h.zones,
+            borders: h.borders,
+            rows: h.rows,
+            share: h.share,
+            intraday: h.intraday,
+        },
+        Err(w) => KeravnothRead {
+            number: w.number(),
+            place: w.place(),
+            byte: w.byte(),
             zones: 0,
             borders: 0,
             rows: 0,
@@ -133,45 +122,43 @@ pub fn code_read(said: TableRead) -> KeravnothRead
     }
 }
 
-pub fn code_written(said: Written) -> KeravnothWritten
-    ensures { result ≡ coded_written (said_written said) }
+pub fn code_written(said: Result<usize, Refusal>) -> KeravnothWritten
+    ensures { result ≡ coded_written said }
 {
     match said {
-        Written::Bytes(bytes) => KeravnothWritten {
+        Ok(bytes) => KeravnothWritten {
             number: 0,
             place: 0,
             byte: 0,
-            bytes: bytes,
+            bytes,
         },
-        Written::Refused(w) => KeravnothWritten {
-            number: w.number,
-            place: w.place,
-            byte: w.byte,
+        Err(w) => KeravnothWritten {
+            number: w.number(),
+            place: w.place(),
+            byte: w.byte(),
             bytes: 0,
         },
     }
 }
 
 pub fn code_answered(said: Answered) -> KeravnothAnswered
-    ensures { result ≡ coded_answered (said_written said.written) said.told }
+    ensures { result ≡ coded_answered said.written said.told }
 {
-    let ruling = said.told;
-    let told = code_judged(ruling);
-    let written = said.written;
-    match written {
-        Written::Bytes(bytes) => KeravnothAnswered {
+    let told = code_judged(said.told);
+    match said.written {
+        Ok(bytes) => KeravnothAnswered {
             number: 0,
             place: 0,
             byte: 0,
-            bytes: bytes,
+            bytes,
             told_number: told.number,
             told_place: told.place,
             told_byte: told.byte,
         },
-        Written::Refused(w) => KeravnothAnswered {
-            number: w.number,
-            place: w.place,
-            byte: w.byte,
+        Err(w) => KeravnothAnswered {
+            number: w.number(),
+            place: w.place(),
+            byte: w.byte(),
             bytes: 0,
             told_number: 0,
             told_place: 0,
@@ -180,66 +167,66 @@ pub fn code_answered(said: Answered) -> KeravnothAnswered
     }
 }
 
-pub fn code_extracted(said: Extracted) -> KeravnothExtracted
-    ensures { result ≡ coded_extracted (said_extracted said) }
+pub fn code_extracted(said: Result<u64, Refusal>) -> KeravnothExtracted
+    ensures { result ≡ coded_extracted said }
 {
     match said {
-        Extracted::Rounds(rounds) => KeravnothExtracted {
+        Ok(rounds) => KeravnothExtracted {
             number: 0,
             place: 0,
             byte: 0,
-            rounds: rounds,
+            rounds,
         },
-        Extracted::Refused(w) => KeravnothExtracted {
-            number: w.number,
-            place: w.place,
-            byte: w.byte,
+        Err(w) => KeravnothExtracted {
+            number: w.number(),
+            place: w.place(),
+            byte: w.byte(),
             rounds: 0,
         },
     }
 }
 
-pub fn code_flows(said: Flows) -> KeravnothFlows
-    ensures { result ≡ coded_flows (said_flows said) }
+pub fn code_flows(said: Result<usize, Refusal>) -> KeravnothFlows
+    ensures { result ≡ coded_flows said }
 {
     match said {
-        Flows::Corners(corners) => KeravnothFlows {
+        Ok(corners) => KeravnothFlows {
             number: 0,
             place: 0,
             byte: 0,
-            corners: corners,
+            corners,
         },
-        Flows::Refused(w) => KeravnothFlows {
-            number: w.number,
-            place: w.place,
-            byte: w.byte,
+        Err(w) => KeravnothFlows {
+            number: w.number(),
+            place: w.place(),
+            byte: w.byte(),
             corners: 0,
         },
     }
 }
 
-pub fn code_judged(said: Judgement) -> KeravnothJudged
+pub fn code_judged(said: Result<(), Refusal>) -> KeravnothJudged
     ensures { result ≡ coded_ruling said }
 {
     match said {
-        Judgement::Passed => KeravnothJudged {
+        Ok(()) => KeravnothJudged {
             number: 0,
             place: 0,
             byte: 0,
         },
-        Judgement::Refused(w) => KeravnothJudged {
-            number: w.number,
-            place: w.place,
-            byte: w.byte,
+        Err(w) => KeravnothJudged {
+            number: w.number(),
+            place: w.place(),
+            byte: w.byte(),
         },
     }
 }
 
-pub fn code_bounded(said: Bounded) -> KeravnothBounded
-    ensures { result ≡ coded_bounded (said_bounded said) }
+pub fn code_bounded(said: Result<RoundsMost, Refusal>) -> KeravnothBounded
+    ensures { result ≡ coded_bounded said }
 {
     match said {
-        Bounded::Rounds(most) => KeravnothBounded {
+        Ok(most) => KeravnothBounded {
             number: 0,
             place: 0,
             byte: 0,
@@ -248,10 +235,10 @@ pub fn code_bounded(said: Bounded) -> KeravnothBounded
             rounds: most.rounds,
             sharp: most.sharp,
         },
-        Bounded::Refused(w) => KeravnothBounded {
-            number: w.number,
-            place: w.place,
-            byte: w.byte,
+        Err(w) => KeravnothBounded {
+            number: w.number(),
+            place: w.place(),
+            byte: w.byte(),
             sharers: 0,
             bits: 0,
             rounds: 0,
@@ -260,11 +247,11 @@ pub fn code_bounded(said: Bounded) -> KeravnothBounded
     }
 }
 
-pub fn code_explained(said: Explained) -> KeravnothExplained
-    ensures { result ≡ coded_explained (said_explained said) }
+pub fn code_explained(said: Result<Reasons, Refusal>) -> KeravnothExplained
+    ensures { result ≡ coded_explained said }
 {
     match said {
-        Explained::Reasons(reasons) => KeravnothExplained {
+        Ok(reasons) => KeravnothExplained {
             number: 0,
             place: 0,
             byte: 0,
@@ -273,10 +260,10 @@ pub fn code_explained(said: Explained) -> KeravnothExplained
             named: reasons.named,
             ended: reasons.ended,
         },
-        Explained::Refused(w) => KeravnothExplained {
-            number: w.number,
-            place: w.place,
-            byte: w.byte,
+        Err(w) => KeravnothExplained {
+            number: w.number(),
+            place: w.place(),
+            byte: w.byte(),
             rounds: 0,
             last: 0,
             named: 0,

@@ -13,15 +13,11 @@ use lib.ListN.{length, get_or, take, drop, set, length-set, length-drop, drop_of
 use lib.Seq.{drop-cons, take-suc-set, take_all}
 use borrow.Author.Tests.{le-leb, lt-leb, eq-eqb, ne_eqb}
 use Rattle.types.specs.LineColumns.{Column, column_of, columns_of}
-use Rattle.text.specs.declared.Number.TheVariants.{Value, Bad}
-use Rattle.text.specs.declared.Signed.{Signed}
-use Rattle.text.specs.declared.Signed.TheVariants.{Whole, Wrong}
-use Rattle.text.specs.Fields.{feed}
+use Rattle.text.specs.Fields.{Parsed, feed}
 use Rattle.columns.specs.ColumnLine.{own_index, begun, numbered, head_at, to_end, rest_at, columns_line}
 use Rattle.columns.specs.declared.Head.{Head}
-use Rattle.columns.specs.declared.Fields.{Fields}
-use Rattle.columns.specs.declared.Fields.TheVariants as fields
 use Rattle.columns.specs.Columns.{stored, field_at, Values, values, wrong, push, onward, stop_of, fields_at}
+use Rattle.std.specs.Prelude.{Result, Ok, Err}
 
 -- ---- values put before others
 abbrev pub push_all : List ℤ → Values → Values
@@ -75,14 +71,14 @@ module _ (columns : List ℕ) (sep last : ℕ) (line : List ℕ) where
         ∙ u.so_far
 
     module _ (h : k < length columns) where
-      step : (s : Signed) → field_at (column_of (get_or columns k 0)) line p (stop_by_left sep last (length columns - k)) ≡ s
+      step : (s : Parsed ℤ) → field_at (column_of (get_or columns k 0)) line p (stop_by_left sep last (length columns - k)) ≡ s
           → push_all (take k out) (onward s (λ next. fields_at sep last (columns_of (drop (k + 1) columns)) line next)) ≡ fields_at sep last (columns_of columns) line at
       step s q = rw (← q, ← first k p h) u.so_far
 
-      pub fields_filled_bad : (place : ℕ) → field_at (column_of (get_or columns k 0)) line p (stop_by_left sep last (length columns - k)) ≡ Wrong place → wrong place ≡ fields_at sep last (columns_of columns) line at
-      fields_filled_bad place q = step (Wrong place) q
+      pub fields_filled_bad : (place : ℕ) → field_at (column_of (get_or columns k 0)) line p (stop_by_left sep last (length columns - k)) ≡ Err place → wrong place ≡ fields_at sep last (columns_of columns) line at
+      fields_filled_bad place q = step (Err place) q
 
-      pub fields_filled_more : (z : ℤ) (next : ℕ) → field_at (column_of (get_or columns k 0)) line p (stop_by_left sep last (length columns - k)) ≡ Whole z next → FieldsFilled at (set out k z) next (k + 1)
+      pub fields_filled_more : (z : ℤ) (next : ℕ) → field_at (column_of (get_or columns k 0)) line p (stop_by_left sep last (length columns - k)) ≡ Ok (z, next) → FieldsFilled at (set out k z) next (k + 1)
       fields_filled_more z next q =
           let rest = fields_at sep last (columns_of (drop (k + 1) columns)) line next in
           let l : k < length out = omega (arith, u.as_long) in
@@ -92,12 +88,12 @@ module _ (columns : List ℕ) (sep last : ℕ) (line : List ℕ) where
             so_far = ap (λ (m : ℕ). push_all (take m (set out k z)) rest) (add-one k)
                 ∙ ap (λ (m : List ℤ). push_all m rest) (take-suc-set out k z l)
                 ∙ push_last (take k out) z rest
-                ∙ step (Whole z next) q;
+                ∙ step (Ok (z, next)) q;
           }
 
 -- ---- a line's head
 module _ (sep : ℕ) (head : Head) (line : List ℕ) where
-  pub head_bad : begun sep head line ≡ false → Bad 0 ≡ head_at sep head line
+  pub head_bad : begun sep head line ≡ false → Err 0 ≡ head_at sep head line
   unfolding head_at
   head_bad e = rw e
 
@@ -107,10 +103,10 @@ module _ (sep : ℕ) (head : Head) (line : List ℕ) where
 
 -- an index as it was found
 module _ (first i index next : ℕ) where
-  pub index_own : index ≡ i → Value index next ≡ own_index first i (Value index next)
+  pub index_own : index ≡ i → Ok (index, next) ≡ own_index first i (Ok (index, next))
   index_own h = rw (eq-eqb index i h)
 
-  pub index_other : (index ≡ i → ⊥) → Bad first ≡ own_index first i (Value index next)
+  pub index_other : (index ≡ i → ⊥) → Err first ≡ own_index first i (Ok (index, next))
   index_other h = rw (ne_eqb index i h)
 
 -- ---- columns to the line's end, and a whole line
@@ -130,11 +126,11 @@ module _ (sep : ℕ) (columns : List Column) (line : List ℕ) where
       rest_end h = rw (← q, le-leb (length line) next h)
 
   module _ (head : Head) where
-    pub line_bad : (place : ℕ) → head_at sep head line ≡ Bad place → wrong place ≡ columns_line sep head columns line
+    pub line_bad : (place : ℕ) → head_at sep head line ≡ Err place → wrong place ≡ columns_line sep head columns line
     unfolding columns_line
     line_bad place q = rw q
 
-    pub line_goes : (index at : ℕ) (v : Values) → head_at sep head line ≡ Value index at → v ≡ rest_at sep columns line at → v ≡ columns_line sep head columns line
+    pub line_goes : (index at : ℕ) (v : Values) → head_at sep head line ≡ Ok (index, at) → v ≡ rest_at sep columns line at → v ≡ columns_line sep head columns line
     unfolding columns_line
     line_goes index at v q e = rw q e
 
@@ -165,9 +161,9 @@ module _ (sep last : ℕ) (line : List ℕ) (d : Column) (ds : List Column) wher
       rest next = fields_at sep last (d ∷ ds) line next
 
       go : ((next : ℕ) → fields_at sep last (cs ++ (d ∷ ds)) line next ≡ chain (fields_at sep sep cs line next) rest)
-          → (s : Signed) → onward s (λ next. fields_at sep last (cs ++ (d ∷ ds)) line next) ≡ chain (onward s (λ next. fields_at sep sep cs line next)) rest
-      go ih (Whole z next) = ap (push z) (ih next) ∙ push_chain z (fields_at sep sep cs line next) rest
-      go ih (Wrong place) = refl
+          → (s : Parsed ℤ) → onward s (λ next. fields_at sep last (cs ++ (d ∷ ds)) line next) ≡ chain (onward s (λ next. fields_at sep sep cs line next)) rest
+      go ih (Ok (z, next)) = ap (push z) (ih next) ∙ push_chain z (fields_at sep sep cs line next) rest
+      go ih (Err place) = refl
 
 module _ (sep : ℕ) (cs : List Column) (d : Column) (ds : List Column) (line : List ℕ) (at : ℕ) where
   -- the first part, and then the second to the line's end
@@ -194,9 +190,9 @@ module _ (sep : ℕ) (cs : List Column) (d : Column) (ds : List Column) (line : 
           sure false = refl
 
 -- what was stored of both parts
-stored_parts : (f : Fields) (zs ys : List ℤ) → push_all zs (stored f ys) ≡ stored f (zs ++ ys)
-stored_parts (fields.End next) zs ys = refl
-stored_parts (fields.Bad place) zs ys = refl
+stored_parts : (f : Result ℕ ℕ) (zs ys : List ℤ) → push_all zs (stored f ys) ≡ stored f (zs ++ ys)
+stored_parts (Ok next) zs ys = refl
+stored_parts (Err place) zs ys = refl
 
 -- columns in two parts, the second given as bytes of the code
 module _ (sep : ℕ) (cs : List Column) (line : List ℕ) (at : ℕ) where
@@ -204,7 +200,7 @@ module _ (sep : ℕ) (cs : List Column) (line : List ℕ) (at : ℕ) where
   part_bad [] some place e = absurd (not-suc-le-zero some)
   part_bad (b ∷ bs) some place e = parts-bad sep cs (column_of b) (columns_of bs) line at place e
 
-  pub part_more : (bs : List ℕ) → 0 < length bs → (zs ys : List ℤ) (next : ℕ) (f : Fields) → values zs next ≡ fields_at sep sep cs line at → stored f ys ≡ rest_at sep (columns_of bs) line next → stored f (zs ++ ys) ≡ rest_at sep (cs ++ columns_of bs) line at
+  pub part_more : (bs : List ℕ) → 0 < length bs → (zs ys : List ℤ) (next : ℕ) (f : Result ℕ ℕ) → values zs next ≡ fields_at sep sep cs line at → stored f ys ≡ rest_at sep (columns_of bs) line next → stored f (zs ++ ys) ≡ rest_at sep (cs ++ columns_of bs) line at
   part_more [] some zs ys next f e q = absurd (not-suc-le-zero some)
   part_more (b ∷ bs) some zs ys next f e q = sym (stored_parts f zs ys) ∙ parts_more sep cs (column_of b) (columns_of bs) line at zs next (stored f ys) e q
 

@@ -13,18 +13,14 @@ use lib.ListN.{length, get_or, drop, drop_of_length-le}
 use borrow.Author.Tests.{le-leb, leb-true, eqb-true, eq-eqb}
 use Rattle.numbers.specs.Ints.{minus}
 use Rattle.types.specs.LineColumns.{Column, number, signed, share, power, flow, factor}
-use Rattle.text.specs.declared.Number.{Number}
-use Rattle.text.specs.declared.Number.TheVariants.{Value, Bad}
-use Rattle.text.specs.declared.Signed.{Signed}
-use Rattle.text.specs.declared.Signed.TheVariants.{Whole, Wrong}
-use Rattle.text.specs.Fields.{tab, feed, is_digit, number_at, positive, share_at}
-use Rattle.text.specs.Line.{line_of, holds, range, plainly, headed, ended}
+use Rattle.text.specs.Fields.{Parsed, tab, feed, is_digit, number_at, positive, share_at}
+use Rattle.text.specs.Line.{line_of, plainly, headed, ended}
 use Rattle.text.specs.Written.{decimal, decimal_ℤ}
 use Rattle.text.specs.Point.{point_at, pointed, pointed_ℤ}
-use Rattle.text.proofs.NumberTrip.{zero_one, value_is, no_value, whole_is, no_whole, number_read, number_written, number_rest, signed_read, signed_written, signed_rest}
+use Rattle.text.proofs.NumberTrip.{zero_one, value_is, no_value, number_read, number_written, number_rest, signed_read, signed_written, signed_rest}
 use Rattle.text.proofs.FieldTrip.{ShareKept, share_read, share_written}
 use Rattle.text.proofs.PointTrip.{point_read, point_written, point_rest, signed_point_read, signed_point_written, signed_point_rest, pointed_ℤ_no_feed}
-use Rattle.text.proofs.ChainLaws.{holds_is, no_form, no_range, headed_line}
+use Rattle.text.proofs.ChainLaws.{holds_is, no_fault, headed_line}
 use Rattle.text.proofs.LineLaws.{HasNoFeed, line_past}
 use Rattle.text.proofs.WrittenLaws.{ended_text, decimal_no_feed, decimal_ℤ_no_feed, share_no_feed}
 use Rattle.columns.specs.declared.Head.{Head}
@@ -32,6 +28,8 @@ use Rattle.columns.specs.declared.Head.TheVariants.{Lettered, Indexed, Bare}
 use Rattle.columns.specs.Columns.{field_at, Values, values, wrong, push, onward, stop_of, fields_at}
 use Rattle.columns.specs.ColumnText.{field_text, fields_ended, index_text, head_text, columns_text}
 use Rattle.columns.specs.ColumnLine.{own_index, index_at, begun, numbered, head_at, to_end, rest_at, after_number, columns_line, judged}
+use Rattle.std.specs.Prelude.{Ok, Err}
+use Rattle.text.specs.declared.LineFault.TheVariants.{Form, Range}
 
 -- ---- what is kept of a column
 abbrev pub Kept : Column → ℤ → Type 0
@@ -61,41 +59,41 @@ pub record FieldRead (c : Column) (line : List ℕ) (at stop : ℕ) (z : ℤ) (n
   pub kept : Kept c z
 
 module _ (line : List ℕ) (at stop : ℕ) (z : ℤ) (next : ℕ) where
-  number-field : (n : Number) → number_at line at stop ≡ n → positive n ≡ Whole z next → FieldRead number line at stop z next
+  number-field : (n : Parsed ℕ) → number_at line at stop ≡ n → positive n ≡ Ok (z, next) → FieldRead number line at stop z next
   unfolding field_text decimal_ℤ
-  number-field (Bad place) q e = absurd (no_whole place z next e)
-  number-field (Value v m) q e =
-      let w = whole_is z (pos v) m next e in
+  number-field (Err place) q e = absurd (no_value place z next e)
+  number-field (Ok (v, m)) q e =
+      let w = value_is (pos v) z m next e in
       let r = number_read line at stop v m (sym q) in
       subst (λ (y : ℤ). FieldRead number line at stop y next) w.0
       (record { here = r.here ∙ ap (λ (y : ℕ). decimal v ++ (stop ∷ drop y line)) w.1; kept = (refl, r.small) })
 
-  power-field : 0 < stop → (n : Number) → point_at false 3 line at stop ≡ n → positive n ≡ Whole z next → FieldRead power line at stop z next
+  power-field : 0 < stop → (n : Parsed ℕ) → point_at false 3 line at stop ≡ n → positive n ≡ Ok (z, next) → FieldRead power line at stop z next
   unfolding field_text pointed_ℤ
-  power-field some (Bad place) q e = absurd (no_whole place z next e)
-  power-field some (Value v m) q e =
-      let w = whole_is z (pos v) m next e in
+  power-field some (Err place) q e = absurd (no_value place z next e)
+  power-field some (Ok (v, m)) q e =
+      let w = value_is (pos v) z m next e in
       let r = point_read false 3 (lit< tt) line at stop some v m q in
       subst (λ (y : ℤ). FieldRead power line at stop y next) w.0
       (record { here = r.here ∙ ap (λ (y : ℕ). pointed 3 v ++ (stop ∷ drop y line)) w.1; kept = (refl, r.small) })
 
-  number-kept : (n : Number) → number_at line at stop ≡ n → positive n ≡ Whole z next → ShareKept z
-  number-kept (Bad place) q e = absurd (no_whole place z next e)
-  number-kept (Value v m) q e = subst ShareKept (whole_is z (pos v) m next e).0 (number_read line at stop v m (sym q)).small
+  number-kept : (n : Parsed ℕ) → number_at line at stop ≡ n → positive n ≡ Ok (z, next) → ShareKept z
+  number-kept (Err place) q e = absurd (no_value place z next e)
+  number-kept (Ok (v, m)) q e = subst ShareKept (value_is (pos v) z m next e).0 (number_read line at stop v m (sym q)).small
 
-  share_kept : share_at line at stop ≡ Whole z next → ShareKept z
+  share_kept : share_at line at stop ≡ Ok (z, next) → ShareKept z
   unfolding share_at
   share_kept e = go (eqb (get_or line at 0) 45) e
     where
-      alone : (t : Bool) → cond t (Whole (minus 1) (at + 2)) (Wrong (at + 1)) ≡ Whole z next → ShareKept z
-      alone true e = subst ShareKept (whole_is z (minus 1) (at + 2) next e).0 refl
-      alone false e = absurd (no_whole (at + 1) z next e)
+      alone : (t : Bool) → ◌≡◌ {A = Parsed ℤ} (cond t (Ok (minus 1, at + 2)) (Err (at + 1))) (Ok (z, next)) → ShareKept z
+      alone true e = subst ShareKept (value_is (minus 1) z (at + 2) next e).0 refl
+      alone false e = absurd (no_value (at + 1) z next e)
 
-      go : (t : Bool) → cond t (cond (eqb (get_or line (at + 1) 0) stop) (Whole (minus 1) (at + 2)) (Wrong (at + 1))) (positive (number_at line at stop)) ≡ Whole z next → ShareKept z
+      go : (t : Bool) → ◌≡◌ {A = Parsed ℤ} (cond t (cond (eqb (get_or line (at + 1) 0) stop) (Ok (minus 1, at + 2)) (Err (at + 1))) (positive (number_at line at stop))) (Ok (z, next)) → ShareKept z
       go true e = alone (eqb (get_or line (at + 1) 0) stop) e
       go false e = number-kept (number_at line at stop) refl e
 
-  pub field_read : (c : Column) → 0 < stop → field_at c line at stop ≡ Whole z next → FieldRead c line at stop z next
+  pub field_read : (c : Column) → 0 < stop → field_at c line at stop ≡ Ok (z, next) → FieldRead c line at stop z next
   unfolding field_at field_text
   field_read number some e = number-field (number_at line at stop) refl e
   field_read signed some e = let r = signed_read line at stop z next e in record { here = r.here; kept = r.small }
@@ -107,7 +105,7 @@ module _ (line : List ℕ) (at stop : ℕ) (z : ℤ) (next : ℕ) where
 
 pub record FieldWritten (c : Column) (line : List ℕ) (at stop : ℕ) (z : ℤ) (rest : List ℕ) : Type 0 where
   pub next : ℕ
-  pub is : field_at c line at stop ≡ Whole z next
+  pub is : field_at c line at stop ≡ Ok (z, next)
   pub then : drop next line ≡ rest
 
 module _ (line : List ℕ) (at stop : ℕ) (z : ℤ) (rest : List ℕ) (apart : is_digit stop ≡ false) where
@@ -118,7 +116,7 @@ module _ (line : List ℕ) (at stop : ℕ) (z : ℤ) (rest : List ℕ) (apart : 
       let t : drop at line ≡ decimal n ++ (stop ∷ rest) = here ∙ ap (λ (y : ℤ). decimal_ℤ y ++ (stop ∷ rest)) k.0 in
       record {
         next = at + length (decimal n) + 1;
-        is = ap positive (number_written line at stop n rest t k.1 apart) ∙ ap (λ (y : ℤ). Whole y (at + length (decimal n) + 1)) (sym k.0);
+        is = ap positive (number_written line at stop n rest t k.1 apart) ∙ ap (λ (y : ℤ). Ok (y, at + length (decimal n) + 1)) (sym k.0);
         then = number_rest line at stop n rest t;
       }
   field_written signed here k = record { next = at + length (decimal_ℤ z) + 1; is = signed_written line at stop z rest here k apart; then = signed_rest line at stop z rest here }
@@ -130,7 +128,7 @@ module _ (line : List ℕ) (at stop : ℕ) (z : ℤ) (rest : List ℕ) (apart : 
       let t : drop at line ≡ pointed 3 n ++ (stop ∷ rest) = here ∙ ap (λ (y : ℤ). pointed_ℤ 3 y ++ (stop ∷ rest)) k.0 in
       record {
         next = at + length (pointed 3 n) + 1;
-        is = ap positive (point_written false 3 (lit< tt) line at stop n rest t k.1 (λ e. absurd (false≢true e))) ∙ ap (λ (y : ℤ). Whole y (at + length (pointed 3 n) + 1)) (sym k.0);
+        is = ap positive (point_written false 3 (lit< tt) line at stop n rest t k.1 (λ e. absurd (false≢true e))) ∙ ap (λ (y : ℤ). Ok (y, at + length (pointed 3 n) + 1)) (sym k.0);
         then = point_rest false 3 (lit< tt) line at stop n rest t;
       }
   field_written flow here k = record { next = at + length (pointed_ℤ 3 z) + 1; is = signed_point_written 3 (lit< tt) line at stop z rest here k; then = signed_point_rest 3 line at stop z rest here }
@@ -176,7 +174,7 @@ module _ (sep last : ℕ) (s : Ends sep) (l : Ends last) where
       stop : ℕ
       stop = stop_of sep last cs
 
-      more : ((m : ℕ) (ys : List ℤ) → fields_at sep last cs line m ≡ values ys next → FieldsRead sep last cs line m ys next) → (z : ℤ) (m : ℕ) → field_at c line at stop ≡ Whole z m
+      more : ((m : ℕ) (ys : List ℤ) → fields_at sep last cs line m ≡ values ys next → FieldsRead sep last cs line m ys next) → (z : ℤ) (m : ℕ) → field_at c line at stop ≡ Ok (z, m)
           → (v : Values) → fields_at sep last cs line m ≡ v → push z v ≡ values zs next → FieldsRead sep last (c ∷ cs) line at zs next
       more ih z m q (wrong place) k e = absurd (no_values place zs next e)
       more ih z m q (values ys o) k e =
@@ -190,9 +188,9 @@ module _ (sep last : ℕ) (s : Ends sep) (l : Ends last) where
           })
 
       go : ((m : ℕ) (ys : List ℤ) → fields_at sep last cs line m ≡ values ys next → FieldsRead sep last cs line m ys next)
-          → (s : Signed) → field_at c line at stop ≡ s → onward s (λ m. fields_at sep last cs line m) ≡ values zs next → FieldsRead sep last (c ∷ cs) line at zs next
-      go ih (Wrong place) q e = absurd (no_values place zs next e)
-      go ih (Whole z m) q e = more ih z m q (fields_at sep last cs line m) refl e
+          → (s : Parsed ℤ) → field_at c line at stop ≡ s → onward s (λ m. fields_at sep last cs line m) ≡ values zs next → FieldsRead sep last (c ∷ cs) line at zs next
+      go ih (Err place) q e = absurd (no_values place zs next e)
+      go ih (Ok (z, m)) q e = more ih z m q (fields_at sep last cs line m) refl e
 
 pub record FieldsWritten (sep last : ℕ) (cs : List Column) (line : List ℕ) (at : ℕ) (zs : List ℤ) (rest : List ℕ) : Type 0 where
   pub next : ℕ
@@ -224,11 +222,11 @@ record IndexRead (sep : ℕ) (line : List ℕ) (i first at : ℕ) : Type 0 where
   here : drop first line ≡ index_text sep i ++ drop at line
   small : i < 10 ^ 10
 
-index_read : (sep first : ℕ) (line : List ℕ) (i v at : ℕ) → index_at sep first line i ≡ Value v at → IndexRead sep line i first at
+index_read : (sep first : ℕ) (line : List ℕ) (i v at : ℕ) → index_at sep first line i ≡ Ok (v, at) → IndexRead sep line i first at
 unfolding index_text
 index_read sep first line i v at e = numbered (number_at line first sep) refl e
   where
-    own : (index next : ℕ) → number_at line first sep ≡ Value index next → (t : Bool) → eqb index i ≡ t → cond t (Value index next) (Bad first) ≡ Value v at → IndexRead sep line i first at
+    own : (index next : ℕ) → number_at line first sep ≡ Ok (index, next) → (t : Bool) → eqb index i ≡ t → ◌≡◌ {A = Parsed ℕ} (cond t (Ok (index, next)) (Err first)) (Ok (v, at)) → IndexRead sep line i first at
     own index next q false k e = absurd (no_value first v at e)
     own index next q true k e =
         let r = number_read line first sep index next (sym q) in
@@ -239,9 +237,9 @@ index_read sep first line i v at e = numbered (number_at line first sep) refl e
           small = rw x at r.small;
         }
 
-    numbered : (n : Number) → number_at line first sep ≡ n → own_index first i n ≡ Value v at → IndexRead sep line i first at
-    numbered (Bad place) q e = absurd (no_value place v at e)
-    numbered (Value index next) q e = own index next q (eqb index i) refl e
+    numbered : (n : Parsed ℕ) → number_at line first sep ≡ n → own_index first i n ≡ Ok (v, at) → IndexRead sep line i first at
+    numbered (Err place) q e = absurd (no_value place v at e)
+    numbered (Ok (index, next)) q e = own index next q (eqb index i) refl e
 
 -- what is asked of a head to be read again: an index has ten digits at most
 abbrev pub Small : Head → Type 0
@@ -254,7 +252,7 @@ record HeadRead (sep : ℕ) (head : Head) (line : List ℕ) (at : ℕ) : Type 0 
   small : Small head
 
 module _ (sep : ℕ) (line : List ℕ) (v at : ℕ) where
-  numbered-read : (head : Head) → begun sep head line ≡ true → numbered sep head line ≡ Value v at → HeadRead sep head line at
+  numbered-read : (head : Head) → begun sep head line ≡ true → numbered sep head line ≡ Ok (v, at) → HeadRead sep head line at
   unfolding head_text
   numbered-read (Lettered letter) h e = record { here = headed_line letter sep line h ∙ ap (λ (n : ℕ). letter ∷ sep ∷ drop n line) (value_is 0 v 2 at e).1; small = tt }
   numbered-read (Indexed letter i) h e =
@@ -262,11 +260,11 @@ module _ (sep : ℕ) (line : List ℕ) (v at : ℕ) where
       record { here = headed_line letter sep line h ∙ ap (λ (l : List ℕ). letter ∷ sep ∷ l) r.here; small = r.small }
   numbered-read (Bare i) h e = let r = index_read sep 0 line i v at e in record { here = r.here; small = r.small }
 
-  head_read : (head : Head) → head_at sep head line ≡ Value v at → HeadRead sep head line at
+  head_read : (head : Head) → head_at sep head line ≡ Ok (v, at) → HeadRead sep head line at
   unfolding head_at
   head_read head e = go (begun sep head line) refl e
     where
-      go : (t : Bool) → begun sep head line ≡ t → cond t (numbered sep head line) (Bad 0) ≡ Value v at → HeadRead sep head line at
+      go : (t : Bool) → begun sep head line ≡ t → ◌≡◌ {A = Parsed ℕ} (cond t (numbered sep head line) (Err 0)) (Ok (v, at)) → HeadRead sep head line at
       go false h e = absurd (no_value 0 v at e)
       go true h e = numbered-read head h e
 
@@ -275,7 +273,7 @@ headed_is sep letter s = rw (le-leb 2 (suc (suc (length s))) (omega arith), eq-e
 
 record IndexWritten (sep first : ℕ) (line : List ℕ) (i : ℕ) (rest : List ℕ) : Type 0 where
   next : ℕ
-  is : index_at sep first line i ≡ Value i next
+  is : index_at sep first line i ≡ Ok (i, next)
   then : drop next line ≡ rest
 
 index_written : (sep first : ℕ) (line : List ℕ) (i : ℕ) (rest : List ℕ) → drop first line ≡ index_text sep i ++ rest → is_digit sep ≡ false → i < 10 ^ 10 → IndexWritten sep first line i rest
@@ -291,7 +289,7 @@ index_written sep first line i rest e apart small =
 record HeadWritten (sep : ℕ) (head : Head) (rest : List ℕ) : Type 0 where
   value : ℕ
   next : ℕ
-  is : head_at sep head (head_text sep head ++ rest) ≡ Value value next
+  is : head_at sep head (head_text sep head ++ rest) ≡ Ok (value, next)
   then : drop next (head_text sep head ++ rest) ≡ rest
 
 head_written : (sep : ℕ) (head : Head) (rest : List ℕ) → is_digit sep ≡ false → Small head → HeadWritten sep head rest
@@ -332,9 +330,9 @@ module _ (sep : ℕ) (parts : Ends sep) (head : Head) (cs : List Column) where
       fielded at r (wrong place) q e = absurd (no_values place zs next e)
       fielded at r (values ys m) q e = end at r ys m q (ended line m) refl e
 
-      headed-by : (n : Number) → head_at sep head line ≡ n → after_number n (λ at. rest_at sep cs line at) ≡ values zs next → LineRead sep head cs line zs
-      headed-by (Bad place) q e = absurd (no_values place zs next e)
-      headed-by (Value v at) q e = fielded at (head_read sep line v at head q) (fields_at sep feed cs line at) refl e
+      headed-by : (n : Parsed ℕ) → head_at sep head line ≡ n → after_number n (λ at. rest_at sep cs line at) ≡ values zs next → LineRead sep head cs line zs
+      headed-by (Err place) q e = absurd (no_values place zs next e)
+      headed-by (Ok (v, at)) q e = fielded at (head_read sep line v at head q) (fields_at sep feed cs line at) refl e
 
   pub record LineWritten (zs : List ℤ) : Type 0 where
     pub next : ℕ
@@ -398,12 +396,12 @@ pub record JudgedValues {A : Type 0} (fits : List ℤ → Bool) (make : List ℤ
   pub made : make zs ≡ a
 
 module _ {A : Type 0} (fits : List ℤ → Bool) (make : List ℤ → A) (bad : ℕ) (out : List ℤ → ℕ) where
-  pub judged_is : (a : A) (v : Values) → judged fits make bad out v ≡ holds a → JudgedValues fits make v a
-  judged_is a (wrong place) e = absurd (no_form bad a e)
+  pub judged_is : (a : A) (v : Values) → judged fits make bad out v ≡ Ok a → JudgedValues fits make v a
+  judged_is a (wrong place) e = absurd (no_fault (Form bad) a e)
   judged_is a (values zs next) e = go (fits zs) refl e
     where
-      go : (t : Bool) → fits zs ≡ t → cond t (holds (make zs)) (range (out zs)) ≡ holds a → JudgedValues fits make (values zs next) a
-      go false q e = absurd (no_range (out zs) a e)
+      go : (t : Bool) → fits zs ≡ t → cond t (Ok (make zs)) (Err (Range (out zs))) ≡ Ok a → JudgedValues fits make (values zs next) a
+      go false q e = absurd (no_fault (Range (out zs)) a e)
       go true q e = record { zs = zs; next = next; is = refl; fit = q; made = holds_is (make zs) a e }
 
   -- the bytes to blame change nothing else (02, E5: numbers and order are unchanged): what a line comes to is the same without them
@@ -411,7 +409,7 @@ module _ {A : Type 0} (fits : List ℤ → Bool) (make : List ℤ → A) (bad : 
   judged_plainly (wrong place) = refl
   judged_plainly (values zs next) = go (fits zs)
     where
-      go : (t : Bool) → plainly (cond t (holds (make zs)) (range (out zs))) ≡ cond t (holds (make zs)) (range 0)
+      go : (t : Bool) → plainly (cond t (Ok (make zs)) (Err (Range (out zs)))) ≡ cond t (Ok (make zs)) (Err (Range 0))
       go true = refl
       go false = refl
 
@@ -423,13 +421,13 @@ module _ {A : Type 0} (fits : List ℤ → Bool) (make : List ℤ → A) (bad : 
       pub fit : fits zs ≡ true
       pub made : make zs ≡ a
 
-    pub judged_read : (line : List ℕ) (a : A) → judged fits make bad out (columns_line sep head cs line) ≡ holds a → Holding line a
+    pub judged_read : (line : List ℕ) (a : A) → judged fits make bad out (columns_line sep head cs line) ≡ Ok a → Holding line a
     judged_read line a e =
         let j = judged_is a (columns_line sep head cs line) e in
         record { zs = j.zs; read = line_read sep parts head cs line j.zs j.next j.is; fit = j.fit; made = j.made }
 
     -- the text of values holds what they make
-    pub judged_written : (zs : List ℤ) → Small head → AllKept cs zs → fits zs ≡ true → judged fits make bad out (columns_line sep head cs (columns_text sep head cs zs)) ≡ holds (make zs)
+    pub judged_written : (zs : List ℤ) → Small head → AllKept cs zs → fits zs ≡ true → judged fits make bad out (columns_line sep head cs (columns_text sep head cs zs)) ≡ Ok (make zs)
     judged_written zs small k f = rw ((line_written sep parts head cs zs small k).is, f)
 
 -- ---- two parts

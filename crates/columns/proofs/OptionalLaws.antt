@@ -1,16 +1,14 @@
 -- The laws of `specs/Optional.antt` that the reader and the writer of columns that may be left out cite. No contract cites this file.
--- In order: the marks of what was left out, `Marked`; a line read; the columns by which values are written.
+-- In order: a line read; the columns by which values are written.
 use mathlib.Core.Path.{◌≡◌, refl, sym, ap, ap₂, ◌∙◌}
 use mathlib.Core.Bool.{Bool, true, false, cond}
-use mathlib.Core.List.{List, [], ◌∷◌, ◌++◌, append_assoc, append-nil}
-use Prim.Native.Nat.{ℕ, zero, suc, ◌+◌, ◌-◌, ◌≤◌, ◌<◌}
-use native.Mathlib.Numerals.{add-one}
+use mathlib.Core.List.{List, [], ◌∷◌, ◌++◌}
+use Prim.Native.Nat.{ℕ, ◌+◌, ◌-◌, ◌≤◌, ◌<◌}
 use native.Mathlib.Omega.{arith}
 use lib.IntN.{ℤ, pos}
-use lib.ListN.{length, get_or, take, drop, set, length-set, length-append, take-append-drop}
-use lib.Seq.{take_at, take-suc-set, take_all, length-take-le}
+use lib.ListN.{length, get_or, take, drop, length-append, take-append-drop}
+use lib.Seq.{take_at, take_all, length-take-le}
 use lib.Signed.{lt_z}
-use Rattle.numbers.specs.Ints.{minus}
 use Rattle.types.specs.LineColumns.{Column, column_of, columns_of}
 use Rattle.text.specs.Fields.{feed}
 use Rattle.columns.specs.declared.Head.{Head}
@@ -19,47 +17,6 @@ use Rattle.columns.specs.ColumnLine.{columns_line}
 use Rattle.columns.specs.ColumnText.{field_text, fields_ended, fields_length, head_text, head_length, columns_text, line_length}
 use Rattle.columns.specs.Optional.{left_out, optional_line, written_by}
 use Rattle.columns.proofs.ColumnPut.{columns_long}
-
--- ---- the marks of what was left out
-left_out_last : (k : ℕ) → left_out k ++ (minus 1 ∷ []) ≡ left_out (suc k)
-left_out_last zero = refl
-left_out_last (suc k) = ap (λ (l : List ℤ). minus 1 ∷ l) (left_out_last k)
-
-pub left_out_long : (k : ℕ) → length (left_out k) ≡ k
-left_out_long zero = refl
-left_out_long (suc k) = ap suc (left_out_long k)
-
--- the loop: the first n items stand, and those after them, up to item k, are marks
-pub record Marked (n : ℕ) (out₀ out : List ℤ) (k : ℕ) : Type 0 where
-  pub as_long : length out ≡ length out₀
-  pub low : n ≤ k
-  pub high : k ≤ length out₀
-  pub so_far : take k out ≡ take n out₀ ++ left_out (k - n)
-
-pub marked_none : (n : ℕ) (out₀ : List ℤ) → n ≤ length out₀ → Marked n out₀ out₀ n
-marked_none n out₀ h =
-    let none : n - n ≡ 0 = omega arith in
-    record { as_long = refl; low = omega arith; high = h; so_far = sym (ap (λ (m : ℕ). take n out₀ ++ left_out m) none ∙ append-nil (take n out₀)) }
-
-module _ (n : ℕ) (out₀ out : List ℤ) (k : ℕ) (u : Marked n out₀ out k) where
-  pub marked_more : k < length out₀ → Marked n out₀ (set out k (minus 1)) (k + 1)
-  marked_more h =
-      let one : k + 1 - n ≡ suc (k - n) = omega (arith, u.low) in
-      record {
-        as_long = length-set out k (minus 1) ∙ u.as_long;
-        low = omega (arith, u.low);
-        high = omega arith;
-        so_far = ap (λ (m : ℕ). take m (set out k (minus 1))) (add-one k)
-            ∙ take-suc-set out k (minus 1) (omega (arith, u.as_long))
-            ∙ ap (λ (l : List ℤ). l ++ (minus 1 ∷ [])) u.so_far
-            ∙ append_assoc (take n out₀) (left_out (k - n)) (minus 1 ∷ [])
-            ∙ ap (λ (l : List ℤ). take n out₀ ++ l) (left_out_last (k - n) ∙ ap left_out (sym one));
-      }
-
-  pub marked_all : length out₀ ≤ k → out ≡ take n out₀ ++ left_out (length out₀ - n)
-  marked_all h =
-      let end : k ≡ length out₀ = omega (arith, u.high) in
-      sym (take_all k out (omega (arith, u.as_long))) ∙ u.so_far ∙ ap (λ (m : ℕ). take n out₀ ++ left_out (m - n)) end
 
 left_is : (n : ℕ) (zs rest : List ℤ) (k : ℕ) → length zs ≡ n → length rest ≡ k → take n (zs ++ rest) ++ left_out (length (zs ++ rest) - n) ≡ zs ++ left_out k
 left_is n zs rest k long more =

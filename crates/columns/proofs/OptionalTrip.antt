@@ -7,22 +7,22 @@ use Prim.Native.Nat.{ℕ, ◌+◌}
 use native.Mathlib.Omega.{arith}
 use lib.Dec.{eqb}
 use lib.IntN.{ℤ, pos, nat_abs}
-use lib.ListN.{length, get_or, take, length-append}
+use lib.ListN.{length-replicate, length, get_or, take, length-append}
 use lib.Seq.{take_at, get_or_at}
 use lib.Signed.{lt_z}
 use borrow.Author.Tests.{le-ltb}
 use Rattle.numbers.specs.Ints.{minus}
 use Rattle.types.specs.LineColumns.{Column, number}
 use Rattle.text.specs.Fields.{feed}
-use Rattle.text.specs.Line.{holds}
 use Rattle.columns.specs.declared.Head.{Head}
 use Rattle.columns.specs.Columns.{Values, values, wrong}
 use Rattle.columns.specs.ColumnText.{fields_ended, head_text, columns_text}
 use Rattle.columns.specs.ColumnLine.{columns_line, judged}
 use Rattle.columns.specs.Optional.{left_out, or_longer, optional_line, written_by, optional_text}
 use Rattle.columns.proofs.ColumnTrip.{AllKept, kept_long, Ends, Small, line_read, line_written, judged_is}
-use Rattle.columns.proofs.OptionalLaws.{left_out_long, text_front}
+use Rattle.columns.proofs.OptionalLaws.{text_front}
 use Rattle.columns.proofs.FieldEnd.{line_shorter}
+use Rattle.std.specs.Prelude.{Ok}
 
 -- ---- what is kept: the values of all columns; or of those that are always there, and marks
 pub data OptionalKept (cs ds : List Column) (zs : List ℤ) : Type 0 where
@@ -30,7 +30,7 @@ pub data OptionalKept (cs ds : List Column) (zs : List ℤ) : Type 0 where
   given : AllKept (cs ++ ds) zs → OptionalKept cs ds zs
 
 pub kept_many : (cs ds : List Column) (zs : List ℤ) → OptionalKept cs ds zs → length zs ≡ length cs + length ds
-kept_many cs ds zs (left ys e k) = ap length e ∙ omega (arith, length-append ys (left_out (length ds)), left_out_long (length ds), kept_long cs ys k)
+kept_many cs ds zs (left ys e k) = ap length e ∙ omega (arith, length-append ys (left_out (length ds)), length-replicate (length ds) (minus 1), kept_long cs ys k)
 kept_many cs ds zs (given k) = kept_long (cs ++ ds) zs k ∙ columns_many cs ds
   where
     columns_many : (bs es : List Column) → length (bs ++ es) ≡ length bs + length es
@@ -117,11 +117,11 @@ module _ (sep : ℕ) (ends : Ends sep) (other : eqb sep feed ≡ false) (head : 
       pub fit : fits zs ≡ true
       pub made : make zs ≡ a
 
-    pub optional_judged : (line : List ℕ) (a : A) → judged fits make bad out (optional_line sep head cs ds line) ≡ holds a → OptionalHolding line a
+    pub optional_judged : (line : List ℕ) (a : A) → judged fits make bad out (optional_line sep head cs ds line) ≡ Ok a → OptionalHolding line a
     optional_judged line a e =
         let j = judged_is fits make bad out a (optional_line sep head cs ds line) e in
         record { zs = j.zs; read = optional_read line j.zs j.next j.is; fit = j.fit; made = j.made }
 
     -- the text of values holds what they make
-    pub optional_written : (zs : List ℤ) → Small head → OptionalKept cs ds zs → fits zs ≡ true → judged fits make bad out (optional_line sep head cs ds (optional_text sep head cs ds zs)) ≡ holds (make zs)
+    pub optional_written : (zs : List ℤ) → Small head → OptionalKept cs ds zs → fits zs ≡ true → judged fits make bad out (optional_line sep head cs ds (optional_text sep head cs ds zs)) ≡ Ok (make zs)
     optional_written zs small k f = rw ((again small zs k).is, f)

@@ -1,7 +1,7 @@
 -- Lines whose last columns may be left out, all of them or none: the fields that such a line may carry beyond those it always has.
 -- Where they are left out their values are -1, which no unsigned field can be, so that the line is written again as it was.
 -- `columns` are the columns that are always there, `more` those that may be left out; the first of `more` is a number.
-use Rattle.std.specs.Prelude.{cond, List, [], ◌∷◌, ◌++◌, ℕ, zero, suc, ℤ, pos, length, get_or}
+use Rattle.std.specs.Prelude.{cond, List, ◌++◌, ℕ, ℤ, pos, length, get_or, replicate}
 use Rattle.std.specs.Int.Signed.{lt_z}
 use Rattle.numbers.specs.Ints.{minus}
 use Rattle.types.specs.LineColumns.{Column}
@@ -12,8 +12,7 @@ use Rattle.columns.specs.ColumnText.{columns_text}
 
 -- the values of k columns that were left out
 abbrev pub left_out : (k : ℕ) → List ℤ
-left_out zero = []
-left_out (suc k) = minus 1 ∷ left_out k
+left_out k = replicate k (minus 1)
 
 -- what was read by the shorter list, k columns left out; where that is wrong, what was read by the longer list, and its bad place
 abbrev pub or_longer : (k : ℕ) → (shorter longer : Values) → Values

@@ -4,16 +4,12 @@
 // The byte that parts the fields is an argument, `sep`; a line ends in an LF.
 #![tactic(auto)]
 
+ghost use Rattle.std.specs.Prelude.{◌≡◌};
+ghost use Rattle.columns.specs.ColumnLine.{begun};
+
 pub mod optional;
 pub mod read;
 pub mod write;
-
-// What fields come to: the place after them, or the first place that no good line could have.
-#[derive(Clone, Copy)]
-pub enum Fields {
-    End(usize),
-    Bad(usize),
-}
 
 // What stands before a line's columns: its letter, its letter and its index, or its index alone.
 #[derive(Clone, Copy)]
@@ -21,4 +17,17 @@ pub enum Head {
     Lettered(u8),
     Indexed(u8, usize),
     Bare(usize),
+}
+
+impl Head {
+    // Whether a line begins with the head's letter, where the head has one.
+    pub fn begins(self, sep: u8, line: &[u8]) -> bool
+        ensures { result ≡ begun sep self line.now }
+    {
+        match self {
+            Head::Lettered(letter) => text::line::headed(line, letter, sep),
+            Head::Indexed(letter, _) => text::line::headed(line, letter, sep),
+            Head::Bare(_) => true,
+        }
+    }
 }

@@ -9,9 +9,9 @@ ghost use Rattle.columns.specs.Columns.{stored};
 ghost use Rattle.columns.specs.ColumnText.{line_length};
 ghost use Rattle.columns.specs.Optional.{left_out, optional_line, written_by, optional_text};
 
+use crate::Head;
 use crate::read::line_at;
 use crate::write::{line_length, put_line};
-use crate::{Fields, Head};
 use types::NOT_WRITTEN;
 
 // Head and columns of a line, to its end: the columns' values into `out`.
@@ -22,17 +22,15 @@ pub fn optional_at(
     n: usize,
     line: &[u8],
     out: &mut [i64],
-) -> Fields
+) -> Result<usize, usize>
     requires { (n < length columns.now) × (length columns.now ≡ length out.old) }
     ensures { stored result out.new ≡ optional_line sep head (columns_of (take n columns.now)) (columns_of (drop n columns.now)) line.now }
 {
-    match line_at(sep, head, &columns[..n], line, &mut out[..n]) {
-        Fields::End(next) => {
-            leave_out(n, out);
-            Fields::End(next)
-        }
-        Fields::Bad(_) => line_at(sep, head, columns, line, out),
-    }
+    let Ok(next) = line_at(sep, head, &columns[..n], line, &mut out[..n]) else {
+        return line_at(sep, head, columns, line, out);
+    };
+    leave_out(n, out);
+    Ok(next)
 }
 
 // The values after the first n are those of columns that were left out.
@@ -40,9 +38,7 @@ fn leave_out(n: usize, out: &mut [i64])
     requires { n ≤ length out.old }
     ensures { out.new ≡ take n out.old ++ left_out (length out.old - n) }
 {
-    for k in n..out.len() {
-        out[k] = NOT_WRITTEN;
-    }
+    out[n..].fill(NOT_WRITTEN);
 }
 
 // Writes a line: its head and its columns.

@@ -133,8 +133,7 @@ pub fn line_length(head: Head, columns: &[u8], values: &[i64]) -> usize
     requires { (length columns.now ≡ length values.now) × (line_length head (columns_of columns.now) values.now ≤ bytes_most) }
     ensures { result ≡ line_length head (columns_of columns.now) values.now }
 {
-    let first = head_length(head);
-    first + fields_length(columns, values)
+    head_length(head) + fields_length(columns, values)
 }
 
 // How many bytes a line has whose columns and values are given in two parts.
@@ -142,8 +141,7 @@ pub fn parts_length(head: Head, first: &[u8], second: &[u8], values: &[i64], mor
     requires { (length first.now ≡ length values.now) × (length second.now ≡ length more.now) × (line_length head (columns_of first.now ++ columns_of second.now) (values.now ++ more.now) ≤ bytes_most) }
     ensures { result ≡ line_length head (columns_of first.now ++ columns_of second.now) (values.now ++ more.now) }
 {
-    let front = line_length(head, first, values);
-    front + fields_length(second, more)
+    line_length(head, first, values) + fields_length(second, more)
 }
 
 fn head_length(head: Head) -> usize
@@ -161,9 +159,8 @@ pub fn head_seps(head: Head) -> usize
     ensures { result ≡ head_seps head }
 {
     match head {
-        Head::Lettered(_) => 1,
+        Head::Lettered(_) | Head::Bare(_) => 1,
         Head::Indexed(_, _) => 2,
-        Head::Bare(_) => 1,
     }
 }
 

@@ -1,8 +1,9 @@
 // What a program is given to read, each read whole: standard input, or a file that an argument names. That one cannot be read is said on standard error.
-ghost use Rattle.std.specs.Prelude.{◌≡◌, length};
+ghost use Rattle.std.specs.Prelude.{◌≡◌, length, IfSome};
 ghost use Rattle.io.specs.Counts.{IsPrefixLen};
 
-use arguments::{Piece, whole};
+use arguments::Piece;
+use std::io::Read;
 use system::System;
 
 // Room for a text, one byte more than it may have, so that a longer one is seen.
@@ -15,111 +16,63 @@ pub fn room() -> [u8; ROOM]
     [0; ROOM]
 }
 
-// What came of reading: so many bytes at the front, or an error, and then none. No contract can say which bytes are read.
-#[derive(Clone, Copy)]
-pub struct Read {
-    pub count: usize,
-    pub failed: bool,
-}
-
-// The table: the file that an argument names, or standard input, whose name is -, where none does.
-pub fn table(sys: &System, at: usize, text: &mut [u8]) -> Read
-    ensures { IsPrefixLen result.count text.new }
+// The table: the file that an argument names, or standard input, whose name is -, where none does. How many bytes stand at the front of the text then; none
+// where it cannot be read. No contract can say which bytes are read.
+pub fn table(sys: &System, at: Option<usize>, text: &mut [u8]) -> Option<usize>
+    ensures { IfSome result (λ n. IsPrefixLen n text.new) }
 {
-    if at == 0 || arguments::which(sys, whole(at), b"-\n") == 0 {
-        return standard(sys, text);
+    match at.map(Piece::whole) {
+        Some(name) if !name.is_standard_input(sys) => named(sys, Some(name), text),
+        _ => standard(sys, text),
     }
-    named(sys, whole(at), text)
 }
 
-fn standard(sys: &System, text: &mut [u8]) -> Read
-    ensures { IsPrefixLen result.count text.new }
+fn standard(sys: &System, text: &mut [u8]) -> Option<usize>
+    ensures { IfSome result (λ n. IsPrefixLen n text.new) }
 {
     let mut input = sys.stdin();
     let read = read_text(sys, &mut input, text);
-    if read.failed {
+    if read.is_none() {
         sys.fail(b"keravnoth: reading");
     }
     read
 }
 
 // The file that a piece of an argument names, or nothing where none is given. An argument that cannot be read names none.
-pub fn named(sys: &System, piece: Piece, text: &mut [u8]) -> Read
-    ensures { IsPrefixLen result.count text.new }
+pub fn named(sys: &System, piece: Option<Piece>, text: &mut [u8]) -> Option<usize>
+    ensures { IfSome result (λ n. IsPrefixLen n text.new) }
 {
-    if piece.at == 0 {
-        return Read {
-            count: 0,
-            failed: false,
-        };
-    }
-    let mut name = arguments::room();
-    let n = sys.arg(piece.at, &mut name);
-    read_file(sys, arguments::tail(&name[..n], piece.from), text)
-}
-
-fn read_file(sys: &System, name: &[u8], text: &mut [u8]) -> Read
-    ensures { IsPrefixLen result.count text.new }
-{
+    let Some(piece) = piece else {
+        return Some(0);
+    };
+    let mut own = arguments::room();
+    let name = piece.read(sys, &mut own);
     let read = read_by_name(sys, name, text);
-    if read.failed {
+    if read.is_none() {
         messages::unread(sys, name);
     }
     read
 }
 
 // Reads a file, and says nothing where it cannot be read.
-pub fn read_by_name(sys: &System, name: &[u8], text: &mut [u8]) -> Read
-    ensures { IsPrefixLen result.count text.new }
+pub fn read_by_name(sys: &System, name: &[u8], text: &mut [u8]) -> Option<usize>
+    ensures { IfSome result (λ n. IsPrefixLen n text.new) }
 {
-    match sys.open(name) {
-        Some(file) => {
-            let mut file = file;
-            read_text(sys, &mut file, text)
-        }
-        None => failed(),
-    }
+    let mut file = sys.open(name)?;
+    read_text(sys, &mut file, text)
 }
 
 // Reads until the input ends or the text is full.
-fn read_text<R: std::io::Read>(sys: &System, from: &mut R, text: &mut [u8]) -> Read
-    ensures { IsPrefixLen result.count text.new }
+fn read_text<R: Read>(sys: &System, from: &mut R, text: &mut [u8]) -> Option<usize>
+    ensures { IfSome result (λ n. IsPrefixLen n text.new) }
 {
-    let mut done: usize = 0;
+    let mut done = 0;
     while done < text.len() {
-        let more = read_some(sys, from, &mut text[done..]);
-        if more.failed {
-            return failed();
-        }
-        if more.count == 0 {
+        let more = sys.read(from, &mut text[done..])?;
+        if more == 0 {
             break;
         }
-        done += more.count;
+        done += more;
     }
-    Read {
-        count: done,
-        failed: false,
-    }
-}
-
-// Reads once: no bytes at the end of the input.
-fn read_some<R: std::io::Read>(sys: &System, from: &mut R, text: &mut [u8]) -> Read
-    ensures { IsPrefixLen result.count text.new }
-{
-    match sys.read(from, text) {
-        Some(count) => Read {
-            count: count,
-            failed: false,
-        },
-        None => failed(),
-    }
-}
-
-fn failed() -> Read
-    ensures { result.count ≡ 0 }
-{
-    Read {
-        count: 0,
-        failed: true,
-    }
+    Some(done)
 }

@@ -1,9 +1,9 @@
 -- The corner sheet (02, E1): every corner's flow on one row, in grains, as summed for S, and what the open call `corner_flows` leaves.
 -- `flows_of`, `judge_corner_sheet`, `sheet_left` and `corners_left` are what contracts cite; `Stands` and `Largest` are what the theorems say of a sheet.
-use Rattle.std.specs.Prelude.{◌≡◌, Bool, cond, List, [], ◌∷◌, ◌++◌, ℕ, zero, suc, ◌/◌, ◌%◌, ◌^◌, ◌<◌, eqb, leb, ltb, ℤ, pos, ◌+ℤ◌, ◌*ℤ◌, length, get_or, ◌≤ℤ◌}
+use Rattle.std.specs.Prelude.{◌≡◌, Bool, cond, List, [], ◌∷◌, ◌++◌, ℕ, zero, suc, ◌/◌, ◌%◌, ◌^◌, ◌<◌, eqb, leb, ltb, ℤ, pos, ◌+ℤ◌, ◌*ℤ◌, length, get_or, ◌≤ℤ◌, Err, Ok}
 use Rattle.numbers.specs.Ints.{sum_ℤ}
 use Rattle.numbers.specs.Below.{over}
-use Rattle.refusals.specs.Refusals.{Judged, passed, refused, then, either, unless, need, no_corners}
+use Rattle.refusals.specs.Refusals.{Judged, then, either, unless, need, no_corners}
 use Rattle.types.specs.Ranges.{at_ℤ, border_of}
 use Rattle.tablerules.specs.Table.{Table, factors_at, judge_lent}
 use Rattle.marginrules.specs.Margin.{signed_factor, lta_kw, corner_part}
@@ -35,7 +35,7 @@ abbrev pub judge_corner_sheet : Table → (row : ℕ) → Judged Table
 judge_corner_sheet t row =
     unless (leb t.header.borders sheet_borders_most) (no_corners t.header.borders)
     (unless (ltb row t.header.rows) (no_corners row)
-    (passed t))
+    (Ok t))
 
 -- lent tables are judged as for every call on them, and then whether there is a sheet (9)
 unfoldable pub judge_corners : (given : Table) → (row : ℕ) → Judged Table
@@ -55,9 +55,9 @@ sheet_left judged row out =
     either
     (then judged (λ t.
     let flows = flows_of (factors_at t row) t.borders in
-    need (length flows) (length out) (passed flows)))
-    (λ flows. flows_left (passed (length flows)) (over flows out))
-    (λ w. flows_left (refused w) out)
+    need (length flows) (length out) (Ok flows)))
+    (λ flows. flows_left (Ok (length flows)) (over flows out))
+    (λ w. flows_left (Err w) out)
 
 unfoldable pub corners_left : (given : Table) → (row : ℕ) → (out : List ℤ) → FlowsLeft
 corners_left given row out = sheet_left (judge_corners given row) row out

@@ -5,64 +5,49 @@
 ghost use Rattle.std.specs.Prelude.{◌≡◌, true, ◌++◌, ◌+◌, ◌^◌, ◌<◌, ◌≤◌, length, take};
 ghost use Rattle.numbers.specs.Ints.{Within, AllWithin};
 ghost use Rattle.types.specs.Ranges.{border_fits, border_of};
-ghost use Rattle.tablerules.specs.Table.{lent, front, stretch};
+ghost use Rattle.tablerules.specs.Table.{front, stretch, lent_view};
 ghost use Rattle.tablerules.specs.Good.{Good};
 ghost use Rattle.marginrules.specs.Magnitudes.{FactorsInRange, TableFactorsInRange, BordersInRange};
 ghost use Rattle.marginrules.specs.Margin.{corner_part};
 ghost use Rattle.cornerrules.specs.Corners.{sheet_borders_most, raised_by, flows_of, judge_corner_sheet, flows_left, sheet_left, corners_left};
 ghost use Rattle.cornerrules.specs.Listed.{part_most, corner_flow_most, FlowsListed};
-ghost use Rattle.cornerrules.specs.Answers.{said_flows};
 
-use cornerrules::Flows;
-use refusals::{Judgement, Refusal};
-use types::{BorderRecord, Header, RowRecord};
+use refusals::Refusal;
+use tablerules::TableView;
+use types::{BorderRecord, Header};
 
 // The flows of all corners on one row, by the corner's number. Any input has an answer: there is no `requires`.
-pub fn corner_flows(
-    h: Header,
-    z: &[i64],
-    t: &[i64],
-    b: &[BorderRecord],
-    c: &[RowRecord],
-    f: &[i64],
-    row: usize,
-    out: &mut [i64],
-) -> Flows
-    ensures { flows_left (said_flows result) out.new ≡ corners_left (lent h z.now t.now b.now c.now f.now) row out.old }
+pub fn corner_flows(view: &TableView, row: usize, out: &mut [i64]) -> Result<usize, Refusal>
+    ensures { flows_left result out.new ≡ corners_left (lent_view view.now) row out.old }
 {
-    if let Judgement::Refused(w) = table::judge(h, z, t, b, c, f, tablerules::Room::None) {
-        return Flows::Refused(w);
-    }
-    corner_flows_good(h, z, t, b, c, f, row, out)
+    table::judge(view, None)?;
+    corner_flows_good(view, row, out)
 }
 
 // The corner flows of a good table: refuses if there is no sheet for this row, then if the room is too small, and then stores the flows.
-pub fn corner_flows_good(
-    h: Header,
-    z: &[i64],
-    t: &[i64],
-    b: &[BorderRecord],
-    c: &[RowRecord],
-    f: &[i64],
-    row: usize,
-    out: &mut [i64],
-) -> Flows
-    requires { Good (front (lent h z.now t.now b.now c.now f.now)) }
-    ensures { flows_left (said_flows result) out.new ≡ sheet_left (judge_corner_sheet (front (lent h z.now t.now b.now c.now f.now)) row) row out.old }
+pub fn corner_flows_good(view: &TableView, row: usize, out: &mut [i64]) -> Result<usize, Refusal>
+    requires { Good (front (lent_view view.now)) }
+    ensures { flows_left result out.new ≡ sheet_left (judge_corner_sheet (front (lent_view view.now)) row) row out.old }
 {
-    let borders = h.borders;
-    if cornerrules::BORDERS_MOST < borders {
-        return Flows::Refused(Refusal::no_corners(borders));
+    let h = view.header;
+    if cornerrules::BORDERS_MOST < h.borders {
+        return Err(Refusal::NoCorners(h.borders));
     }
     if h.rows <= row {
-        return Flows::Refused(Refusal::no_corners(row));
+        return Err(Refusal::NoCorners(row));
     }
-    let needed = corner_count(borders);
+    let needed = corner_count(h.borders);
     if out.len() < needed {
-        return Flows::Refused(Refusal::too_short(needed));
+        return Err(Refusal::TooShort(needed));
     }
     let factors = h.rows * h.zones;
-    Flows::Corners(list_row(h, &b[..borders], &f[..factors], row, out))
+    Ok(list_row(
+        h,
+        &view.borders[..h.borders],
+        &view.factors[..factors],
+        row,
+        out,
+    ))
 }
 
 fn corner_count(borders: usize) -> usize

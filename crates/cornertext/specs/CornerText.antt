@@ -1,7 +1,7 @@
 -- One row's corner sheet as text (02, E1), and what the open call `corner_text` leaves.
-use Rattle.std.specs.Prelude.{List, [], ◌∷◌, ℕ, ◌+◌, ◌*◌, ◌^◌, ℤ, pos, length}
+use Rattle.std.specs.Prelude.{List, [], ◌∷◌, ℕ, ◌+◌, ◌*◌, ◌^◌, ℤ, pos, length, Ok}
 use Prim.Native.Char.{code}
-use Rattle.refusals.specs.Refusals.{Judged, passed, then}
+use Rattle.refusals.specs.Refusals.{Judged, then}
 use Rattle.types.specs.LineColumns.{Column, number, signed}
 use Rattle.types.specs.Ranges.{at_ℤ}
 use Rattle.text.specs.Fields.{tab}
@@ -44,7 +44,7 @@ sheet_text t row = corners_text row (flows_of (factors_at t row) t.borders)
 
 -- a row's sheet as text, where the table was judged to have one
 abbrev pub sheet_text_of : (judged : Judged Table) → (row : ℕ) → Judged (List ℕ)
-sheet_text_of judged row = then judged (λ t. passed (sheet_text t row))
+sheet_text_of judged row = then judged (λ t. Ok (sheet_text t row))
 
 -- refusals as for the flows, then room for the bytes of the text
 unfoldable pub corner_text_left : (given : Table) → (row : ℕ) → (out : List ℕ) → TextLeft

@@ -1,13 +1,14 @@
 -- Correction sheets judged and merged, computed on examples (02, E2). Nobody cites it: it refuses a definition that slipped.
 -- A blank stands for a tab, / for an LF. The table has 2 zones and 3 rows; `judge` is what a sheet comes to, and 10 is told with its line and its byte.
+use Rattle.std.specs.Prelude.{Err, Ok}
 use mathlib.Core.Path.{refl}
-use mathlib.Core.List.{List, [], ◌∷◌}
+use mathlib.Core.List.{[], ◌∷◌}
 use Prim.Native.Nat.{ℕ}
 use Prim.Native.String.{String}
 use Rattle.numbers.specs.Below.{first_from, given}
 use Rattle.numbers.specs.Ints.{inside}
 use Rattle.numbers.specs.Computed.{◌is◌, Hold}
-use Rattle.refusals.specs.Refusals.{Judged, passed, refused, refusal}
+use Rattle.refusals.specs.Refusals.{Judged, wrong_correction}
 use Rattle.types.specs.Ranges.{share_of, row_of, row_fits, factor_fits}
 use Rattle.text.specs.Fields.{number_at, signed_at, share_at}
 use Rattle.text.specs.Point.{decimals_at, point_at, signed_point_at}
@@ -28,10 +29,10 @@ abbrev handed : (corrections day : String) → (i : ℕ) → Piece
 handed corrections day i = handed_by (shown corrections) (piece Table (shown day)) i
 
 abbrev good : Judged (Unit {0})
-good = passed tt
+good = Ok tt
 
 abbrev bad : (line byte : ℕ) → Judged (Unit {0})
-bad line byte = refused (refusal 10 line byte)
+bad line byte = Err (wrong_correction line byte)
 
 unfoldable computing : Unit {0}
 unfolding first_from given inside share_of row_of row_fits factor_fits number_at signed_at share_at decimals_at point_at signed_point_at field_at fields_at head_at rest_at columns_line good_at byte_at fields_byte line_byte past_seps range_byte row_line sheet_line sheet_kind of_row ended_index given_index due_index

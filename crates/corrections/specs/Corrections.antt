@@ -1,11 +1,11 @@
 -- A correction sheet over the day's text (02, E2): rows with rising indices, nothing else. Its lines are C lines, or lines of the planners' semicolon sheet (02, E11): all
 -- of one kind, which is seen from the sheet's first byte (`sheet_kind`). For each row the line handed on is the piece of the sheet that holds it, or else the piece of the
 -- day's text; its kind goes with it. `handed_by` and `judge_corrections` are what reading is defined by.
-use Rattle.std.specs.Prelude.{Bool, false, cond, ◌&&◌, List, [], ◌∷◌, ℕ, ◌+◌, eqb, leb, ltb}
+use Rattle.std.specs.Prelude.{Bool, false, cond, ◌&&◌, List, [], ◌∷◌, ℕ, ◌+◌, eqb, leb, ltb, Ok, Err}
 use Rattle.numbers.specs.Below.{at}
-use Rattle.refusals.specs.Refusals.{Judged, passed, refused, wrong_correction}
+use Rattle.refusals.specs.Refusals.{Judged, wrong_correction}
 use Rattle.text.specs.Fields.{feed, is_digit, number_at, with_number}
-use Rattle.text.specs.Line.{Line, holds, form, range}
+use Rattle.text.specs.Line.{Line, byte_of}
 use Rattle.lines.specs.Lines.{RowLine}
 use Rattle.lines.specs.RowKinds.{sep_by}
 use Rattle.lines.specs.SaidRow.{line_by}
@@ -71,13 +71,12 @@ due_index kind rows least line = let given = given_index kind line in cond (leb 
 
 -- 10, by the line's number in the sheet; a good line goes on
 abbrev pub on_correction : Line RowLine → (number : ℕ) → Judged (Unit {0}) → Judged (Unit {0})
-on_correction (holds c) number rest = rest
-on_correction (form byte) number rest = refused (wrong_correction number byte)
-on_correction (range byte) number rest = refused (wrong_correction number byte)
+on_correction (Ok c) number rest = rest
+on_correction (Err bad) number rest = Err (wrong_correction number (byte_of bad))
 
 -- lines of a sheet, the first of them of row `least` or later; the first faulty line decides
 abbrev pub judge_from : (kind : RowKind) → (zones rows least number : ℕ) → (sheet : List (List ℕ)) → Judged (Unit {0})
-judge_from kind zones rows least number [] = passed tt
+judge_from kind zones rows least number [] = Ok tt
 judge_from kind zones rows least number (line ∷ rest) =
     let i = due_index kind rows least line in
     on_correction (line_by kind zones line i) number (judge_from kind zones rows (i + 1) (number + 1) rest)

@@ -5,16 +5,12 @@ ghost use Rattle.corrections.specs.Alongside.{line_for, sheet_after};
 
 use crate::kind::index_at;
 use lines::row::RowKind;
-use text::Number;
 
 // Row i's line, as the piece of the sheet that holds it, or else the piece of the day's text. `next` is the sheet's next line, `day` the day's; `kind` is the sheet's.
 pub fn row_line<'a>(kind: RowKind, next: &'a [u8], day: &'a [u8], i: usize) -> &'a [u8]
     ensures { result.now ≡ line_for kind next.now day.now i }
 {
-    if of_row(kind, next, i) {
-        return next;
-    }
-    day
+    if of_row(kind, next, i) { next } else { day }
 }
 
 // The place of the sheet's next line after row i; before, it is `next`, at place s.
@@ -23,16 +19,17 @@ pub fn sheet_after(kind: RowKind, next: &[u8], s: usize, i: usize) -> usize
     ensures { result ≡ sheet_after kind next.now s i }
 {
     if of_row(kind, next, i) {
-        return s + next.len();
+        s + next.len()
+    } else {
+        s
     }
-    s
 }
 
 // Whether a line gives itself the index i.
 pub fn of_row(kind: RowKind, line: &[u8], i: usize) -> bool
     ensures { result ≡ of_row kind line.now i }
 {
-    let Number::Value(index, _) = index_at(kind, line, lines::row::sep_of(kind)) else {
+    let Ok((index, _)) = index_at(kind, line, lines::row::sep_of(kind)) else {
         return false;
     };
     index == i as u64

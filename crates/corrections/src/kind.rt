@@ -4,24 +4,22 @@ ghost use Rattle.text.specs.Fields.{number_at};
 ghost use Rattle.corrections.specs.Corrections.{sheet_kind, index_place};
 
 use lines::row::RowKind;
-use text::Number;
+use text::Parsed;
 
 // By the sheet's first byte: a digit begins a line of the planners' sheet; any other byte, or none, a sheet of C lines.
 pub fn sheet_kind(sheet: &[u8]) -> RowKind
     ensures { result ≡ sheet_kind sheet.now }
 {
     let first = text::field::byte_at(sheet, 0);
-    if first < b'0' {
-        return RowKind::Table;
+    if first.is_ascii_digit() {
+        RowKind::Sheet
+    } else {
+        RowKind::Table
     }
-    if first <= b'9' {
-        return RowKind::Sheet;
-    }
-    RowKind::Table
 }
 
 // The index that a line gives itself, ended by `stop`: after its letter and a tab, or at once.
-pub fn index_at(kind: RowKind, line: &[u8], stop: u8) -> Number
+pub fn index_at(kind: RowKind, line: &[u8], stop: u8) -> Parsed<u64>
     ensures { result ≡ number_at line.now (index_place kind) stop }
 {
     match kind {

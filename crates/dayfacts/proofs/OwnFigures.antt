@@ -1,8 +1,8 @@
 -- Each item of a day's tables is its own hour's, whatever the tables held before: `own-figures`. Nobody cites it: it is the product.
+use Rattle.std.specs.Prelude.{Err, None, Ok, Option, Some}
 use mathlib.Core.Path.{◌≡◌, refl, sym, ap, subst, ◌∙◌}
 use mathlib.Core.Bool.{Bool}
 use mathlib.Core.List.{List, [], ◌∷◌, ◌++◌, map, append_assoc}
-use mathlib.Core.Option.{Option, none, some}
 use Prim.Native.Nat.{ℕ, zero, suc, ◌+◌, ◌*◌, ◌≤◌, ◌<◌}
 use native.Mathlib.Nat.{not-suc-le-zero}
 use native.Mathlib.Omega.{arith}
@@ -11,7 +11,7 @@ use lib.Seq.{length-take-le, take-length, get_or-append-add, get_or-take, length
 use Rattle.limits.specs.Limits.{borders_most}
 use Rattle.numbers.specs.Below.{at}
 use Rattle.numbers.proofs.BelowLaws.{table_long}
-use Rattle.refusals.specs.Refusals.{Judged, passed, refused, then, either}
+use Rattle.refusals.specs.Refusals.{Judged, then, either}
 use Rattle.types.specs.declared.Header.{Header}
 use Rattle.types.proofs.RangeLaws.{header_in_lem}
 use Rattle.marks.specs.Marks.{may_rise}
@@ -92,10 +92,10 @@ module _ (all : Bool) (marks : List ℕ) where
   Short f = (length f.ways ≤ borders_most) × (length f.atcs ≤ borders_most)
 
   table-short : (t : Table) → length t.borders ≤ borders_most → t.header.borders ≤ borders_most → (o : Judged Result) → outcome_for all marks t ≡ o
-      → Short (figures_by t.header t.borders (then o (λ r. passed (found_of r))))
+      → Short (figures_by t.header t.borders (then o (λ r. Ok (found_of r))))
   unfolding figures_by either then result_marked
-  table-short t b h (refused w) e = (omega arith, omega arith)
-  table-short t b h (passed r) e =
+  table-short t b h (Err w) e = (omega arith, omega arith)
+  table-short t b h (Ok r) e =
       let same : r.header ≡ t.header = sym (ap (λ (v : Result). v.header) (accepted (may_rise all marks) t r (for_is all marks t r e)).is) in
       (omega (arith, ways_long t.borders), omega (arith, table_long r.header.borders (atc_of r), ap (λ (x : Header). x.borders) same))
 
@@ -103,16 +103,16 @@ module _ (all : Bool) (marks : List ℕ) where
   unfolding hour_of either
   hour-short text = go (read_text text) refl
     where
-      go : (j : Judged Table) → read_text text ≡ j → Short (either j (λ t. figures_by t.header t.borders (then (outcome_for all marks t) (λ r. passed (found_of r)))) refused_hour)
-      go (refused w) e = (omega arith, omega arith)
-      go (passed t) e =
+      go : (j : Judged Table) → read_text text ≡ j → Short (either j (λ t. figures_by t.header t.borders (then (outcome_for all marks t) (λ r. Ok (found_of r)))) refused_hour)
+      go (Err w) e = (omega arith, omega arith)
+      go (Ok t) e =
           let good = corrected_good text [] t (empty_sheet text ∙ e) in
           let h = header_in_lem t.header good.exact.header in
           table-short t (omega (arith, good.exact.borders_long, h.borders_most_lem)) h.borders_most_lem (outcome_for all marks t) refl
 
   came-short : (came : Option (List ℕ)) → Short (came_of all marks came)
-  came-short none = (omega arith, omega arith)
-  came-short (some text) = hour-short text
+  came-short None = (omega arith, omega arith)
+  came-short (Some text) = hour-short text
 
   abbrev day : List (Option (List ℕ)) → List Figures
   day cames = map (came_of all marks) cames
@@ -125,15 +125,15 @@ module _ (all : Bool) (marks : List ℕ) where
   atcs-few [] = tt
   atcs-few (came ∷ cames) = ((came-short came).1, atcs-few cames)
 
-  day-at : (cames : List (Option (List ℕ))) (k : ℕ) → get_or (day cames) k unread_hour ≡ came_of all marks (get_or cames k none)
+  day-at : (cames : List (Option (List ℕ))) (k : ℕ) → get_or (day cames) k unread_hour ≡ came_of all marks (get_or cames k None)
   day-at [] k = refl
   day-at (came ∷ cames) zero = refl
   day-at (came ∷ cames) (suc k) = day-at cames k
 
   -- hour k's way and ATC of border b, as they stand in the day's tables, are those of the text that came as hour k
   pub record Own (cames : List (Option (List ℕ))) (ways atcs : List ℕ) (k b : ℕ) : Type 0 where
-    pub way : b < length (came_of all marks (get_or cames k none)).ways → at ways (place k b) ≡ at (came_of all marks (get_or cames k none)).ways b
-    pub atc : b < length (came_of all marks (get_or cames k none)).atcs → at atcs (place k b) ≡ at (came_of all marks (get_or cames k none)).atcs b
+    pub way : b < length (came_of all marks (get_or cames k None)).ways → at ways (place k b) ≡ at (came_of all marks (get_or cames k None)).ways b
+    pub atc : b < length (came_of all marks (get_or cames k None)).atcs → at atcs (place k b) ≡ at (came_of all marks (get_or cames k None)).atcs b
 
   -- whatever the tables held before
   pub own_figures : (cames : List (Option (List ℕ))) (ways atcs : List ℕ) → length cames * borders_most ≤ length ways → length cames * borders_most ≤ length atcs → (k b : ℕ) → k < length cames

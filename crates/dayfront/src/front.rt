@@ -2,46 +2,49 @@
 ghost use Rattle.std.specs.Prelude.{◌≤◌, length};
 ghost use Rattle.daysheet.specs.Sheet.{hours_most};
 
-use daysheet::HourRecord;
+use daysheet::Sheet;
 use pageform::Figures;
 use pagesheet::strip;
 use system::System;
 
-pub fn print(
-    sys: &System,
-    day: &[Figures],
-    hours: &[HourRecord],
-    ways: &[u64],
-    atcs: &[u64],
-) -> bool
-    requires { length hours.now ≤ hours_most }
+pub fn print(sys: &System, day: &[Figures], sheet: Sheet) -> bool
+    requires { length sheet.hours.now ≤ hours_most }
 {
     pageframe::plain(sys, pageframe::TITLE)
         && print_name(sys, day)
         && pageframe::plain(sys, pageframe::STYLE)
-        && plain(sys, 0)
+        && plain(sys, Piece::Style)
         && pageframe::plain(sys, pageframe::BODY)
-        && plain(sys, 1)
+        && plain(sys, Piece::Begin)
         && print_name(sys, day)
-        && plain(sys, 2)
-        && pagesheet::print(sys, day, hours, ways, atcs)
-        && plain(sys, 3)
+        && plain(sys, Piece::NameEnd)
+        && pagesheet::print(sys, day, sheet)
+        && plain(sys, Piece::End)
 }
 
 // A day is called by the labels of its first and its last hour.
 fn print_name(sys: &System, day: &[Figures]) -> bool {
-    let n = day.len();
-    if n == 0 {
-        return true;
+    match day {
+        [] => true,
+        [only] => strip::say_label(sys, only),
+        [first, .., last] => {
+            strip::say_label(sys, first) && plain(sys, Piece::To) && strip::say_label(sys, last)
+        }
     }
-    if !strip::say_label(sys, day[0]) {
-        return false;
-    }
-    n == 1 || plain(sys, 4) && strip::say_label(sys, day[n - 1])
+}
+
+// What every day has, in the order of its lines.
+#[derive(Clone, Copy)]
+enum Piece {
+    Style,
+    Begin,
+    NameEnd,
+    End,
+    To,
 }
 
 // Prints a line of what every day has.
-fn plain(sys: &System, k: usize) -> bool {
+fn plain(sys: &System, piece: Piece) -> bool {
     sys.print(arguments::lists::line(
         b"h1,.hr{overflow-wrap:anywhere}.strip{display:flex;flex-wrap:wrap;gap:6px;margin:8px 0}\
         .hb{display:block;width:104px;border:1px solid #b8c0c8;border-radius:4px;padding:2px 6px 3px;color:#1b1b1b;text-decoration:none;overflow-wrap:anywhere}\
@@ -58,6 +61,6 @@ fn plain(sys: &System, k: usize) -> bool {
         </h1>\n\
         </div>\n\
         \x20to \n",
-        k,
+        piece as usize,
     ))
 }

@@ -1,8 +1,8 @@
 -- Labelled lines, a day of three hours, and labels, computed. Nobody cites it: it refuses a definition that slipped.
+use Rattle.std.specs.Prelude.{None, Some}
 use mathlib.Core.Path.{◌≡◌, refl}
 use mathlib.Core.Bool.{true}
 use mathlib.Core.List.{List, [], ◌∷◌}
-use mathlib.Core.Option.{none, some}
 use Prim.Native.Char.{code}
 use Rattle.numbers.specs.Computed.{◌is◌, Hold}
 use Rattle.text.specs.Shown.{shown}
@@ -13,9 +13,9 @@ use Rattle.daylines.specs.Day.{Hour, day_text, day_lines}
 -- h1's answer, h2, which cannot be read, and h12, whose label begins as h1's does
 abbrev hours : List Hour
 hours =
-    record { label = shown "h1"; came = some (shown "A 0 7 1 0/R 1/") }
-    ∷ record { label = shown "h2"; came = none }
-    ∷ record { label = shown "h12"; came = some (shown "E 2 1 8/") }
+    record { label = shown "h1"; came = Some (shown "A 0 7 1 0/R 1/") }
+    ∷ record { label = shown "h2"; came = None }
+    ∷ record { label = shown "h12"; came = Some (shown "E 2 1 8/") }
     ∷ []
 
 pub anchors : Hold (

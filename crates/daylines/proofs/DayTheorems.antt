@@ -1,10 +1,10 @@
 -- What a day's text is to whoever reads it. Nobody cites it: it is the product.
 -- (1) its lines are the hours' lines in order, each a label, a tab, and a line of that hour's answer; (2) what stands under a label is that hour's answer, all of it
 -- and nothing else, where labels differ: no figure can be taken for another hour's.
+use Rattle.std.specs.Prelude.{None, Option, Some}
 use mathlib.Core.Path.{◌≡◌, refl, ap, ap₂, ◌∙◌}
 use mathlib.Core.Bool.{true}
 use mathlib.Core.List.{List, [], ◌∷◌, ◌++◌, map, append-nil}
-use mathlib.Core.Option.{Option, none, some}
 use Prim.Native.Nat.{ℕ}
 use Rattle.text.specs.Fields.{tab}
 use Rattle.text.proofs.LineLaws.{HasNoFeed}
@@ -26,8 +26,8 @@ Others label (h ∷ hours) = (label ≡ h.label → ⊥) × Others label hours
 
 module _ (answer : List ℕ → List ℕ) (ended : (text : List ℕ) → Ended true (answer text)) where
   said-ended : (came : Option (List ℕ)) → Ended true (hour_text answer came)
-  said-ended none = refl
-  said-ended (some text) = ended text
+  said-ended None = refl
+  said-ended (Some text) = ended text
 
   -- (1) every line of the day's text is a label, a tab, and a line of that hour's answer; the hours in order, each once
   pub day_lines_lem : (hours : List Hour) → Plain hours → pieces (day_text answer hours) ≡ day_lines answer hours

@@ -1,7 +1,6 @@
 -- A day: its hours one after another, each line of each hour's answer behind the hour's label.
 -- `day_text` is what the program prints for the texts that it read; `answer` is what an hour's table is answered with.
-use Rattle.std.specs.Prelude.{List, [], ◌∷◌, ◌++◌, map, ℕ}
-use Rattle.std.proofs.Math.Option.{Option, none, some}
+use Rattle.std.specs.Prelude.{List, [], ◌∷◌, ◌++◌, map, ℕ, None, Option, Some}
 use Prim.Native.Char.{code}
 use Rattle.text.specs.Fields.{tab, feed}
 use Rattle.corrections.specs.Corrections.{pieces}
@@ -18,8 +17,8 @@ unread_text = code "X" ∷ feed ∷ []
 
 -- what is said of an hour: the answer to its table's text, or X
 abbrev pub hour_text : (answer : List ℕ → List ℕ) → Option (List ℕ) → List ℕ
-hour_text answer none = unread_text
-hour_text answer (some text) = answer text
+hour_text answer None = unread_text
+hour_text answer (Some text) = answer text
 
 -- the hours in order, each once
 abbrev pub day_text : (answer : List ℕ → List ℕ) → List Hour → List ℕ

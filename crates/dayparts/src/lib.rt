@@ -12,39 +12,31 @@ use system::System;
 use telling::told;
 
 // What was printed before an error stays printed.
-pub fn print(sys: &System, all: bool, marks: &[u64], day: &[Figures]) -> Ended {
-    let mut refused = false;
-    for k in 0..day.len() {
-        let ended = print_hour(sys, all, marks, day[k]);
-        match ended {
+pub fn print(sys: &System, marks: Option<&[u64]>, day: &[Figures]) -> Ended {
+    let mut ended = Ended::Answered;
+    for r in day {
+        match print_hour(sys, marks, r) {
             Ended::Answered => {}
-            Ended::Refused(_, _, _) => refused = true,
-            Ended::Failed => return ended,
+            Ended::Refused(_, _, _) => ended = Ended::Refused(0, 0, 0),
+            Ended::Failed => return Ended::Failed,
         }
     }
-    told(
-        sys,
-        print_end(sys),
-        if refused {
-            Ended::Refused(0, 0, 0)
-        } else {
-            Ended::Answered
-        },
-    )
+    let written = page::hours::print_day_foot(sys) && pageframe::plain(sys, pageframe::END);
+    told(sys, written, ended)
 }
 
-fn print_hour(sys: &System, all: bool, marks: &[u64], r: Figures) -> Ended {
-    if !piece(sys, 0) {
+fn print_hour(sys: &System, marks: Option<&[u64]>, r: &Figures) -> Ended {
+    if !say(sys, Piece::Begin) {
         return told(sys, false, Ended::Failed);
     }
-    let ended = print_part(sys, all, marks, r);
+    let ended = print_part(sys, marks, r);
     if let Ended::Failed = ended {
         return ended;
     }
-    told(sys, piece(sys, 1), ended)
+    told(sys, say(sys, Piece::End), ended)
 }
 
-fn print_part(sys: &System, all: bool, marks: &[u64], r: Figures) -> Ended {
+fn print_part(sys: &System, marks: Option<&[u64]>, r: &Figures) -> Ended {
     let mut name = arguments::room();
     let n = sys.arg(r[facts::ARGUMENT] as usize, &mut name);
     if r[facts::UNREAD] != 0 {
@@ -55,59 +47,41 @@ fn print_part(sys: &System, all: bool, marks: &[u64], r: Figures) -> Ended {
         );
     }
     let mut text = input::room();
-    let read = input::read_by_name(sys, &name[..n], &mut text);
-    let m = read.count;
-    print_read(sys, &name[..n], all, marks, r, &text[..m])
+    let m = input::read_by_name(sys, &name[..n], &mut text).unwrap_or(0);
+    print_read(sys, &name[..n], marks, r, &text[..m])
 }
 
-fn print_read(
-    sys: &System,
-    name: &[u8],
-    all: bool,
-    marks: &[u64],
-    r: Figures,
-    text: &[u8],
-) -> Ended {
+fn print_read(sys: &System, name: &[u8], marks: Option<&[u64]>, r: &Figures, text: &[u8]) -> Ended {
     if sums::sum(text) != r[facts::SUM] {
         day::changed(label::label_of(name), name);
         return Ended::Failed;
     }
-    let ended = page::hours::print(
-        sys,
-        r[hour::HOUR],
-        label::label_of(name),
-        all,
-        marks,
-        text,
-        b"",
-    );
+    let ended = page::hours::print(sys, r[hour::HOUR], label::label_of(name), marks, text, b"");
     if let Ended::Failed = ended {
         telling::unwritten(sys);
     }
     ended
 }
 
-fn print_unread(sys: &System, r: Figures, label: &[u8]) -> bool {
-    page::hours::print_heading(sys, r[hour::HOUR], label) && piece(sys, 2)
+fn print_unread(sys: &System, r: &Figures, label: &[u8]) -> bool {
+    page::hours::print_heading(sys, r[hour::HOUR], label) && say(sys, Piece::Unread)
 }
 
-fn piece(sys: &System, line: usize) -> bool {
-    let none = [0u64; 1];
+// The pieces, in the order of their lines.
+#[derive(Clone, Copy)]
+enum Piece {
+    Begin,
+    End,
+    Unread,
+}
+
+fn say(sys: &System, piece: Piece) -> bool {
     pageform::say(
         sys,
         b"<section>`\n\
         </section>`\n\
         <div class=\"no\"><h3>Not read: this hour has no ATCs</h3>`<p>Its table cannot be read.</p></div>`\n",
-        line,
-        &none,
+        piece as usize,
+        &[],
     )
-}
-
-// The foot speaks of what an answered hour shows.
-fn print_end(sys: &System) -> bool {
-    let mut r = pagefacts::blank();
-    r[hour::ANSWERED] = 1;
-    r[hour::KEPT] = 1;
-    r[page::hours::DAY] = 1;
-    page::hours::piece(sys, page::hours::FOOT, &r) && pageframe::plain(sys, pageframe::END)
 }

@@ -3,22 +3,41 @@
 #![tactic(auto)]
 
 ghost use Rattle.std.specs.Prelude.{◌≡◌, ◌∷◌, ◌+◌, ◌<◌, ◌≤◌, length};
+ghost use Rattle.std.specs.List.{position};
 ghost use Rattle.limits.specs.Limits.{borders_most};
 ghost use Rattle.numbers.specs.Below.{at};
 ghost use Rattle.text.specs.Put.{Put};
 ghost use Rattle.text.specs.Written.{decimal};
 ghost use Rattle.output.specs.Buffer.{Printed};
-ghost use Rattle.daysheet.specs.Cell.{refused_cell, own_text, cell_text};
-ghost use Rattle.daysheet.specs.Sheet.{hours_most, place, border_of, name_of, cell_at, line_cell, hub_field, border_front, front_text, has_border, first_with};
+ghost use Rattle.daysheet.specs.Cell.{refused_cell, own_text};
+ghost use Rattle.daysheet.specs.Sheet.{hours_most, place, border_of, name_of, cell_at, own_of, line_cell, hub_field, border_front, front_text, has_border};
 
-// What came of an hour and three numbers: answered, and its rounds, its borders, and 1 where it is intraday; refused, and number, place, byte; not read.
-pub type HourRecord = [u64; 4];
+use refusals::Refusal;
 
-pub const ANSWERED: u64 = 0;
+// What an hour that is answered came to.
+#[derive(Clone, Copy)]
+pub struct Answer {
+    pub rounds: u64,
+    pub borders: usize,
+    pub intraday: bool,
+}
 
-pub const REFUSED: u64 = 1;
+// What came of an hour, whose table may be one that cannot be read.
+#[derive(Clone, Copy)]
+pub enum Hour {
+    Answered(Answer),
+    Refused(Refusal),
+    Unread,
+}
 
-pub const UNREAD: u64 = 2;
+impl Hour {
+    // Whether it is answered, and has border b.
+    pub fn has_border(&self, b: usize) -> bool
+        ensures { result ≡ has_border b self.now }
+    {
+        matches!(self, Hour::Answered(answer) if b < answer.borders)
+    }
+}
 
 // A day has at most 100 quarter-hours.
 pub const HOURS_MOST: usize = 100;
@@ -34,7 +53,7 @@ pub enum Line {
 // What an hour that is answered has in a line.
 #[derive(Clone, Copy)]
 pub enum Own {
-    Number,
+    Number(u64),
     DayAhead,
     Intraday,
     Absent,
@@ -43,6 +62,44 @@ pub enum Own {
 
 // Room for a cell.
 pub const ROOM: usize = 128;
+
+// The hours of a day, and the tables of their items: for each hour as many as a table may have borders, where each border goes, and its ATC.
+#[derive(Clone, Copy)]
+pub struct Sheet<'a> {
+    pub hours: &'a [Hour],
+    pub ways: &'a [u64],
+    pub atcs: &'a [u64],
+}
+
+impl Sheet<'_> {
+    // The cell of hour k in a line.
+    pub fn cell_at(&self, line: Line, k: usize, out: &mut [u8]) -> usize
+        requires { (k < length self.now.hours.now) × (length self.now.hours.now ≤ hours_most) × (border_of line < borders_most) × (128 ≤ length out.old) }
+        ensures { Printed result (cell_at line self.now.hours.now self.now.ways.now self.now.atcs.now k) out.new }
+    {
+        let b = border_of(line);
+        let name = self.name_of(b);
+        let way = item(self.ways, k, b);
+        let atc = item(self.atcs, k, b);
+        put_line_cell(line, self.hours[k], way, name, atc, out)
+    }
+
+    // Where the border goes that a line names: as in the first hour that has it.
+    pub fn name_of(&self, b: usize) -> u64
+        requires { (length self.now.hours.now ≤ hours_most) × (b < borders_most) }
+        ensures { result ≡ name_of b self.now.hours.now self.now.ways.now }
+    {
+        let first = self.first_with(b).unwrap_or(self.hours.len());
+        item(self.ways, first, b)
+    }
+
+    // The first hour that has border b.
+    pub fn first_with(&self, b: usize) -> Option<usize>
+        ensures { result ≡ position (has_border b) self.now.hours.now }
+    {
+        self.hours.iter().position(|hour| hour.has_border(b))
+    }
+}
 
 // A line's first fields: what it is of, and for a border its index and its name.
 pub fn put_front(line: Line, name: u64, out: &mut [u8]) -> usize
@@ -78,62 +135,12 @@ fn put_hub(hub: u64, out: &mut [u8], at: usize) -> usize
     put_behind(b';', hub - 1, out, at)
 }
 
-// The first hour that has border b; as many as there are hours where none has.
-pub fn first_with(b: usize, hours: &[HourRecord]) -> usize
-    ensures { result ≡ first_with b hours.now }
-{
-    for k in 0..hours.len() {
-        if has_border(b, hours[k]) {
-            return k;
-        }
-    }
-    hours.len()
-}
-
-fn has_border(b: usize, hour: HourRecord) -> bool
-    ensures { result ≡ has_border b hour }
-{
-    if hour[0] == ANSWERED {
-        return (b as u64) < hour[2];
-    }
-    false
-}
-
-// The cell of hour k in a line, of lent tables.
-pub fn cell_at(
-    line: Line,
-    k: usize,
-    hours: &[HourRecord],
-    ways: &[u64],
-    atcs: &[u64],
-    out: &mut [u8],
-) -> usize
-    requires { (k < length hours.now) × (length hours.now ≤ hours_most) × (border_of line < borders_most) × (128 ≤ length out.old) }
-    ensures { Printed result (cell_at line hours.now ways.now atcs.now k) out.new }
-{
-    let b = border_of(line);
-    let name = name_of(b, hours, ways);
-    let way = item(ways, k, b);
-    let atc = item(atcs, k, b);
-    put_line_cell(line, hours[k], way, name, atc, out)
-}
-
-// Where the border goes that a line names: as in the first hour that has it.
-pub fn name_of(b: usize, hours: &[HourRecord], ways: &[u64]) -> u64
-    requires { (length hours.now ≤ hours_most) × (b < borders_most) }
-    ensures { result ≡ name_of b hours.now ways.now }
-{
-    let first = first_with(b, hours);
-    item(ways, first, b)
-}
-
 // The border that a line is of, 0 for one that is of none.
 pub fn border_of(line: Line) -> usize
     ensures { result ≡ border_of line }
 {
     match line {
-        Line::Rounds => 0,
-        Line::Profile => 0,
+        Line::Rounds | Line::Profile => 0,
         Line::Border(b) => b,
     }
 }
@@ -143,66 +150,44 @@ pub fn item(items: &[u64], k: usize, b: usize) -> u64
     requires { (k ≤ hours_most) × (b < borders_most) }
     ensures { result ≡ at items.now (place k b) }
 {
-    let i = k * limits::BORDERS_MOST + b;
-    if i < items.len() {
-        return items[i];
-    }
-    0
+    items
+        .get(k * limits::BORDERS_MOST + b)
+        .copied()
+        .unwrap_or(0)
 }
 
 // The cell of an hour in a line, behind its semicolon: `way` is where the hour's border goes, `name` where the border goes that the line names.
-fn put_line_cell(
-    line: Line,
-    hour: HourRecord,
-    way: u64,
-    name: u64,
-    atc: u64,
-    out: &mut [u8],
-) -> usize
+fn put_line_cell(line: Line, hour: Hour, way: u64, name: u64, atc: u64, out: &mut [u8]) -> usize
     requires { 128 ≤ length out.old }
     ensures { Printed result (line_cell line hour way name atc) out.new }
 {
-    match line {
-        Line::Rounds => put_cell(hour, Own::Number, hour[1], out),
-        Line::Profile => {
-            if hour[3] == 0 {
-                return put_cell(hour, Own::DayAhead, 0, out);
-            }
-            put_cell(hour, Own::Intraday, 0, out)
-        }
-        Line::Border(b) => {
-            if hour[2] <= b as u64 {
-                return put_cell(hour, Own::Absent, 0, out);
-            }
-            if way == name {
-                return put_cell(hour, Own::Number, atc, out);
-            }
-            put_cell(hour, Own::Other, 0, out)
-        }
-    }
-}
-
-// A cell: a refused hour has its E line in every one, and an unread one X.
-fn put_cell(hour: HourRecord, own: Own, number: u64, out: &mut [u8]) -> usize
-    requires { 128 ≤ length out.old }
-    ensures { Printed result (cell_text hour own number) out.new }
-{
     let at = text::put::put_byte(b';', out, 0);
-    if hour[0] == ANSWERED {
-        return put_own(own, number, out, at);
+    match hour {
+        Hour::Answered(answer) => put_own(own_of(line, answer, way, name, atc), out, at),
+        Hour::Refused(w) => put_refused(w, out, at),
+        Hour::Unread => text::put::put_byte(b'X', out, at),
     }
-    if hour[0] == REFUSED {
-        return put_refused(hour[1], hour[2], hour[3], out, at);
-    }
-    text::put::put_byte(b'X', out, at)
 }
 
-fn put_own(own: Own, number: u64, out: &mut [u8], at: usize) -> usize
+fn own_of(line: Line, answer: Answer, way: u64, name: u64, atc: u64) -> Own
+    ensures { result ≡ own_of line answer way name atc }
+{
+    match line {
+        Line::Rounds => Own::Number(answer.rounds),
+        Line::Profile if answer.intraday => Own::Intraday,
+        Line::Profile => Own::DayAhead,
+        Line::Border(b) if answer.borders <= b => Own::Absent,
+        Line::Border(_) if way == name => Own::Number(atc),
+        Line::Border(_) => Own::Other,
+    }
+}
+
+fn put_own(own: Own, out: &mut [u8], at: usize) -> usize
     requires { at + 20 ≤ length out.old }
-    ensures { Put (own_text own number) at out.old result out.new }
+    ensures { Put (own_text own) at out.old result out.new }
 {
     match own {
-        Own::Number => text::put::put_number(number, out, at),
+        Own::Number(number) => text::put::put_number(number, out, at),
         Own::DayAhead => output::put_bytes(b"day-ahead", out, at),
         Own::Intraday => output::put_bytes(b"intraday", out, at),
         Own::Absent => output::put_bytes(b"-", out, at),
@@ -211,14 +196,14 @@ fn put_own(own: Own, number: u64, out: &mut [u8], at: usize) -> usize
 }
 
 // An E line, with blanks for tabs.
-fn put_refused(number: u64, place: u64, byte: u64, out: &mut [u8], at: usize) -> usize
+fn put_refused(w: Refusal, out: &mut [u8], at: usize) -> usize
     requires { at + 64 ≤ length out.old }
-    ensures { Put (refused_cell number place byte) at out.old result out.new }
+    ensures { Put (refused_cell w) at out.old result out.new }
 {
     let next = text::put::put_byte(b'E', out, at);
-    let next = put_behind(b' ', number, out, next);
-    let next = put_behind(b' ', place, out, next);
-    put_behind(b' ', byte, out, next)
+    let next = put_behind(b' ', w.number() as u64, out, next);
+    let next = put_behind(b' ', w.place() as u64, out, next);
+    put_behind(b' ', w.byte() as u64, out, next)
 }
 
 // A number behind the byte that parts it from what stands before.

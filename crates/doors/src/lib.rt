@@ -4,124 +4,74 @@
 pub mod reasons;
 
 ghost use Rattle.std.specs.Prelude.{◌≡◌, true, false, []};
-ghost use Rattle.tablerules.specs.Table.{lent};
+ghost use Rattle.marks.specs.Marks.{every, listed};
+ghost use Rattle.tablerules.specs.Table.{lent_view};
 ghost use Rattle.extractrules.specs.Extraction.{leaves, extract_for, extract_left, extract_marked_left};
-ghost use Rattle.extractrules.specs.Answers.{said_extracted};
-ghost use Rattle.boundrules.specs.Bound.{bound_for, said_bounded};
+ghost use Rattle.boundrules.specs.Bound.{bound_for};
 
-use boundrules::Bounded;
-use extractrules::Extracted;
 use outcome::{AtcRecord, LeftRecord};
-use refusals::Judgement;
-use tablerules::Room;
-use types::{BorderRecord, Header, RowRecord};
+use refusals::Refusal;
+use tablerules::TableView;
+use tightrules::RoundsMost;
 
 // ATCs, states, RAMs and margins left of a lent table, and p of each row at each border.
 // Any input has an answer; where that is a refusal, nothing is written.
 pub fn extract(
-    h: Header,
-    z: &[i64],
-    t: &[i64],
-    b: &[BorderRecord],
-    c: &[RowRecord],
-    f: &[i64],
+    view: &TableView,
     p: &mut [u64],
     atc: &mut [AtcRecord],
     left: &mut [LeftRecord],
-) -> Extracted
-    ensures { leaves (said_extracted result) p.new atc.new left.new ≡ extract_left (lent h z.now t.now b.now c.now f.now) p.old atc.old left.old }
+) -> Result<u64, Refusal>
+    ensures { leaves result p.new atc.new left.new ≡ extract_left (lent_view view.now) p.old atc.old left.old }
 {
-    // No marks are looked at.
-    let marks: [u64; 1] = [0];
-    extract_for(h, z, t, b, c, f, true, &marks, p, atc, left)
+    extract_for(view, None, p, atc, left)
 }
 
 // The extraction where only the borders of a list of marks rise (02, E13).
 pub fn extract_marked(
-    h: Header,
-    z: &[i64],
-    t: &[i64],
-    b: &[BorderRecord],
-    c: &[RowRecord],
-    f: &[i64],
+    view: &TableView,
     p: &mut [u64],
     marks: &[u64],
     atc: &mut [AtcRecord],
     left: &mut [LeftRecord],
-) -> Extracted
-    ensures { leaves (said_extracted result) p.new atc.new left.new ≡ extract_marked_left (lent h z.now t.now b.now c.now f.now) marks.now p.old atc.old left.old }
+) -> Result<u64, Refusal>
+    ensures { leaves result p.new atc.new left.new ≡ extract_marked_left (lent_view view.now) marks.now p.old atc.old left.old }
 {
-    extract_for(h, z, t, b, c, f, false, marks, p, atc, left)
+    extract_for(view, Some(marks), p, atc, left)
 }
 
 // The extraction for every border, or with marks. Room for p is judged with the table, before any record.
 pub fn extract_for(
-    h: Header,
-    z: &[i64],
-    t: &[i64],
-    b: &[BorderRecord],
-    c: &[RowRecord],
-    f: &[i64],
-    all: bool,
-    marks: &[u64],
+    view: &TableView,
+    marks: Option<&[u64]>,
     p: &mut [u64],
     atc: &mut [AtcRecord],
     left: &mut [LeftRecord],
-) -> Extracted
-    ensures { leaves (said_extracted result) p.new atc.new left.new ≡ extract_for all marks.now (lent h z.now t.now b.now c.now f.now) p.old atc.old left.old }
+) -> Result<u64, Refusal>
+    ensures { leaves result p.new atc.new left.new ≡ extract_for (every marks.entry) (listed marks.entry) (lent_view view.now) p.old atc.old left.old }
 {
-    if let Judgement::Refused(w) = table::judge(h, z, t, b, c, f, Room::P(p.len())) {
-        return Extracted::Refused(w);
-    }
-    extraction::extract_good(h, z, t, b, c, f, all, marks, p, atc, left)
+    table::judge(view, Some(p.len()))?;
+    extraction::extract_good(view, marks, p, atc, left)
 }
 
 // The bound of a lent table. Any input has an answer: there is no `requires`.
-pub fn bound(
-    h: Header,
-    z: &[i64],
-    t: &[i64],
-    b: &[BorderRecord],
-    c: &[RowRecord],
-    f: &[i64],
-) -> Bounded
-    ensures { said_bounded result ≡ bound_for true [] (lent h z.now t.now b.now c.now f.now) }
+pub fn bound(view: &TableView) -> Result<RoundsMost, Refusal>
+    ensures { result ≡ bound_for true [] (lent_view view.now) }
 {
-    // No marks are looked at.
-    let marks: [u64; 1] = [0];
-    bound_for(h, z, t, b, c, f, true, &marks)
+    bound_for(view, None)
 }
 
 // The bound where only the borders of a list of marks rise (02, E13).
-pub fn bound_marked(
-    h: Header,
-    z: &[i64],
-    t: &[i64],
-    b: &[BorderRecord],
-    c: &[RowRecord],
-    f: &[i64],
-    marks: &[u64],
-) -> Bounded
-    ensures { said_bounded result ≡ bound_for false marks.now (lent h z.now t.now b.now c.now f.now) }
+pub fn bound_marked(view: &TableView, marks: &[u64]) -> Result<RoundsMost, Refusal>
+    ensures { result ≡ bound_for false marks.now (lent_view view.now) }
 {
-    bound_for(h, z, t, b, c, f, false, marks)
+    bound_for(view, Some(marks))
 }
 
 // The bound for every border, or with marks.
-pub fn bound_for(
-    h: Header,
-    z: &[i64],
-    t: &[i64],
-    b: &[BorderRecord],
-    c: &[RowRecord],
-    f: &[i64],
-    all: bool,
-    marks: &[u64],
-) -> Bounded
-    ensures { said_bounded result ≡ bound_for all marks.now (lent h z.now t.now b.now c.now f.now) }
+pub fn bound_for(view: &TableView, marks: Option<&[u64]>) -> Result<RoundsMost, Refusal>
+    ensures { result ≡ bound_for (every marks.entry) (listed marks.entry) (lent_view view.now) }
 {
-    if let Judgement::Refused(w) = table::judge(h, z, t, b, c, f, Room::None) {
-        return Bounded::Refused(w);
-    }
-    bound::bound_good(h, z, t, b, c, f, all, marks)
+    table::judge(view, None)?;
+    bound::bound_good(view, marks)
 }

@@ -1,4 +1,5 @@
 -- What an accepted table has, and what its rounds start from: margins and exchanges, and how large they are. No contract cites this file.
+use Rattle.std.specs.Prelude.{Ok}
 use mathlib.Core.Path.{◌≡◌, sym, ap, ◌∙◌}
 use mathlib.Core.Bool.{Bool, true, false, cond, not, ◌&&◌}
 use mathlib.Core.List.{List}
@@ -12,7 +13,6 @@ use lib.Signed.{lt_z}
 use Rattle.numbers.specs.Ints.{positive_part}
 use Rattle.numbers.specs.Below.{at, sum, some_below}
 use Rattle.numbers.proofs.BelowLaws.{sum_mono, table_get}
-use Rattle.refusals.specs.Refusals.{passed}
 use Rattle.refusals.proofs.RefusalLaws.{passed_is, unless_passed, none_passed, then_passed}
 use Rattle.types.specs.declared.Border.{Border}
 use Rattle.types.specs.Ranges.{at_ℤ, is_intraday}
@@ -34,10 +34,10 @@ pub record Accepted (marked : ℕ → Bool) (t : Table) (r : Result) : Type 0 wh
   pub loaded : (b : ℕ) → b < t.header.borders → (marked b && not (some_below t.header.rows (λ i. ltb 0 ((grid_marked marked t).p i b)))) ≡ false
   pub above : (i : ℕ) → i < t.header.rows → (kept (standings_of t).states i && (not (is_intraday t.header) && lt_z (margin_of t i) (pos 0))) ≡ false
 
-pub accepted : (marked : ℕ → Bool) (t : Table) (r : Result) → outcome_marked marked t ≡ passed r → Accepted marked t r
+pub accepted : (marked : ℕ → Bool) (t : Table) (r : Result) → outcome_marked marked t ≡ Ok r → Accepted marked t r
 unfolding outcome_marked judge_by grid_by setup_with
 accepted marked t r e =
-    let w = then_passed (judge_marked marked t) (λ states. passed (result_marked marked t)) r e in
+    let w = then_passed (judge_marked marked t) (λ states. Ok (result_marked marked t)) r e in
     let a = unless_passed w.it _ _ _ w.first in
     let b = none_passed _ _ _ _ w.it a.1 in
     let c = none_passed _ _ _ _ w.it b.1 in

@@ -1,10 +1,11 @@
 -- A small table to which both 6 and 7 apply. Nobody cites it: it refuses a definition that slipped.
+use Rattle.std.specs.Prelude.{Err}
 use mathlib.Core.Path.{◌≡◌, refl}
 use mathlib.Core.List.{[], ◌∷◌}
 use lib.IntN.{pos}
 use Rattle.numbers.specs.Below.{if_zero, sum, table, first_from, given}
 use Rattle.numbers.specs.Ints.{minus, max_ℤ, min_ℤ, positive_part, same_ℤ, sum_ℤ}
-use Rattle.refusals.specs.Refusals.{refused, then, unless, refuse_at, refuse_first, unlimited}
+use Rattle.refusals.specs.Refusals.{then, unless, refuse_at, refuse_first, unlimited}
 use Rattle.types.specs.Ranges.{hubs_of, border_of, share_of, row_of, worth, default_of}
 use Rattle.tablerules.specs.Table.{Table, stretch}
 use Rattle.marginrules.specs.Margin.{grains, f0core_of, fuaf_of, base_of, amr_of, signed_factor, p_of, lta_kw, s_of, lta_margin_of, ram_of, ram_at}
@@ -26,6 +27,6 @@ six_and_seven =
       factors = pos 20000 ∷ pos 0 ∷ [];
     }
 
-pub six_before_seven : outcome_of six_and_seven ≡ refused (unlimited 1)
+pub six_before_seven : outcome_of six_and_seven ≡ Err (unlimited 1)
 unfolding outcome_marked if_zero sum table first_from given max_ℤ min_ℤ positive_part same_ℤ sum_ℤ hubs_of border_of share_of row_of worth default_of then unless refuse_at refuse_first stretch grains f0core_of fuaf_of base_of amr_of signed_factor p_of lta_kw s_of lta_margin_of ram_of ram_at highest lowest spread_of shifted below state_of standings_of kept outcome_of grid_by setup_with judge_by
 six_before_seven = refl

@@ -1,8 +1,8 @@
 -- The laws behind `extract`: what the rounds of the code come to, what is stored, and which judgement decides of a judged table. No contract cites this file.
+use Rattle.std.specs.Prelude.{Err, None, Ok, Option}
 use mathlib.Core.Path.{◌≡◌, refl, sym, ap, ap₂, ◌∙◌}
 use mathlib.Core.Bool.{Bool}
 use mathlib.Core.List.{List, [], ◌++◌, append-nil}
-use mathlib.Core.Option.{Option, none}
 use Prim.Native.Nat.{ℕ, ◌+◌, ◌*◌, ◌/◌, ◌^◌, ◌≤◌, ◌<◌}
 use native.Mathlib.Omega.{arith}
 use lib.IntN.{ℤ}
@@ -11,11 +11,9 @@ use lib.Seq.{length-take-le, take_at}
 use Rattle.numbers.specs.Below.{at, table, over}
 use Rattle.numbers.proofs.BelowLaws.{sum_cong, table_long, table_get, table_cong}
 use Rattle.limits.specs.Limits.{borders_most}
-use Rattle.refusals.specs.declared.Judgement.{Judgement}
-use Rattle.refusals.specs.declared.Judgement.TheVariants.{Passed, Refused}
 use Rattle.refusals.specs.declared.Refusal.{Refusal}
 use Rattle.refusals.specs.Answers.{said_judgement}
-use Rattle.refusals.specs.Refusals.{Judged, passed, refused, then, either, too_short}
+use Rattle.refusals.specs.Refusals.{Judged, then, either, too_short, Ruling}
 use Rattle.refusals.proofs.RefusalLaws.{passed_is, then_passed, then_next, then_refused, either_passed, either_refused, need_passed, need_enough, need_short}
 use Rattle.types.specs.declared.Header.{Header}
 use Rattle.types.specs.Ranges.{at_ℤ, is_intraday, border_of}
@@ -122,7 +120,7 @@ module _ {h : Header} {b : List (List ℤ)} {m : Standings} {p margins : List �
 
   module _ (atcs lefts : List (List ℤ)) where
     abbrev atcs_of : (xs ms : List ℕ) → List (List ℤ)
-    atcs_of xs ms = over (table h.borders (λ k. border_left (at xs k) (at (last_rounds (grid_with h p) (start_with h b margins)) k) (get_or (stop_rows (grid_with h p) ms) k none))) atcs
+    atcs_of xs ms = over (table h.borders (λ k. border_left (at xs k) (at (last_rounds (grid_with h p) (start_with h b margins)) k) (get_or (stop_rows (grid_with h p) ms) k None))) atcs
 
     abbrev lefts_of : ℕ → List ℕ → List (List ℤ)
     lefts_of n ms = over (table n (λ i. left_of_row (at m.states i) (at_ℤ m.rams i) (at ms i))) lefts
@@ -130,29 +128,29 @@ module _ {h : Header} {b : List (List ℤ)} {m : Standings} {p margins : List �
     pub finished_is : {atcs' lefts' : List (List ℤ)}
         → atcs' ≡ over (table h.borders (λ k. border_left (at (take h.borders end.x) k) (at lasts k) (stop_by (grid_with h p) shares k))) atcs
         → lefts' ≡ lefts_of (length m.states) ends
-        → leaves (passed end.rounds) p atcs' lefts' ≡ finished atcs lefts (result_with h b m p margins)
+        → leaves (Ok end.rounds) p atcs' lefts' ≡ finished atcs lefts (result_with h b m p margins)
     unfolding atc_record row_record left_of last_of stop_of
     finished_is a l =
-        ap₂ (leaves (passed end.rounds) p)
+        ap₂ (leaves (Ok end.rounds) p)
         (a ∙ ap (λ (t : List (List ℤ)). over t atcs) (table_cong h.borders _ _ border-is))
         (l ∙ ap (λ (n : ℕ). lefts_of n ends) u.states_long)
-        ∙ ap (λ (o : Outcome). leaves (passed o.rounds) p (atcs_of o.state.x o.state.margins) (lefts_of h.rows o.state.margins)) ran.ended
+        ∙ ap (λ (o : Outcome). leaves (Ok o.rounds) p (atcs_of o.state.x o.state.margins) (lefts_of h.rows o.state.margins)) ran.ended
       where
         border-is : (k : ℕ) → k < h.borders
             → border_left (at (take h.borders end.x) k) (at lasts k) (stop_by (grid_with h p) shares k)
-            ≡ border_left (at (take h.borders end.x) k) (at (last_rounds (grid_with h p) (start_with h b margins)) k) (get_or (stop_rows (grid_with h p) ends) k none)
+            ≡ border_left (at (take h.borders end.x) k) (at (last_rounds (grid_with h p) (start_with h b margins)) k) (get_or (stop_rows (grid_with h p) ends) k None)
         border-is k hk =
             ap₂ (border_left (at (take h.borders end.x) k))
             (ap (λ (v : List ℕ). at v k) ran.last_rounds_lem)
-            (stop_by_lem (grid_with h p) ends k ran.shared ∙ sym (table_get h.borders (stop_row (grid_with h p) ends) k none hk))
+            (stop_by_lem (grid_with h p) ends k ran.shared ∙ sym (table_get h.borders (stop_row (grid_with h p) ends) k None hk))
 
 -- ---- a prepared table
-module _ {marked : ℕ → Bool} {t : Table} {r : Judgement} {rams starts : List ℤ} {states : List ℕ} (q : PreparedAs marked t r rams starts states) where
-  pub start_turned : {w : Refusal} → r ≡ Refused w → judge_marked marked t ≡ refused w
-  start_turned e = sym q.judged ∙ ap (λ (j : Judgement). said_judgement j states) e
+module _ {marked : ℕ → Bool} {t : Table} {r : Ruling} {rams starts : List ℤ} {states : List ℕ} (q : PreparedAs marked t r rams starts states) where
+  pub start_turned : {w : Refusal} → r ≡ Err w → judge_marked marked t ≡ Err w
+  start_turned e = sym q.judged ∙ ap (λ (j : Ruling). said_judgement j states) e
 
-  pub start_passed : r ≡ Passed → judge_marked marked t ≡ passed (standings_of t).states
-  start_passed e = sym q.judged ∙ ap (λ (j : Judgement). said_judgement j states) e ∙ ap (λ (n : Standings). passed n.states) q.rows
+  pub start_passed : r ≡ (Ok tt) → judge_marked marked t ≡ Ok (standings_of t).states
+  start_passed e = sym q.judged ∙ ap (λ (j : Ruling). said_judgement j states) e ∙ ap (λ (n : Standings). Ok n.states) q.rows
 
 -- ---- a prepared table whose p at the marked borders and whose margins are laid out
 module _ (marked : ℕ → Bool) {t : Table} (good : Good t) {m : Standings} (rows_are : m ≡ standings_of t) {p margins : List ℕ} (p-is : p ≡ cells (grid_marked marked t)) (margins_are : margins ≡ (table_start t).margins) where
@@ -215,12 +213,12 @@ module _ (marked : ℕ → Bool) {t : Table} (good : Good t) {m : Standings} (ro
 
   -- with p of every border the result is the table's; a lent table of p of just that length is filled
   pub stored_is : (ps : List ℕ) → length ps ≡ h.rows * h.borders → (atcs lefts : List (List ℤ)) {atcs' lefts' : List (List ℤ)} (k : ℕ)
-      → leaves (passed k) p atcs' lefts' ≡ finished atcs lefts (result_with h t.borders m p margins)
-      → {whole : List ℕ} → whole ≡ cells (table_grid t) → leaves (passed k) whole atcs' lefts' ≡ result_stored ps atcs lefts (result_marked marked t)
+      → leaves (Ok k) p atcs' lefts' ≡ finished atcs lefts (result_with h t.borders m p margins)
+      → {whole : List ℕ} → whole ≡ cells (table_grid t) → leaves (Ok k) whole atcs' lefts' ≡ result_stored ps atcs lefts (result_marked marked t)
   unfolding result_marked atc_record row_record left_of last_of stop_of
   stored_is ps long atcs lefts k e {whole} whole_is =
       let stored : Result → List ℕ → ExtractLeft =
-      λ r v. leaves (passed r.outcome.rounds) v (over (table r.header.borders (atc_record r)) atcs) (over (table r.header.rows (row_record r)) lefts) in
+      λ r v. leaves (Ok r.outcome.rounds) v (over (table r.header.borders (atc_record r)) atcs) (over (table r.header.rows (row_record r)) lefts) in
       ap (λ (l : ExtractLeft). leaves l.answer whole l.atcs l.lefts) e
       ∙ ap (λ (r : Result). stored r whole) result-is
       ∙ ap (stored (result_marked marked t)) (whole_is ∙ sym (ap (λ (old : List ℕ). cells (table_grid t) ++ old) (drop_of_length-le ps {i = length (cells (table_grid t))} (omega (arith, long, whole_long))) ∙ append-nil _))
@@ -230,11 +228,11 @@ module _ (marked : ℕ → Bool) {t : Table} (good : Good t) {m : Standings} (ro
 
 -- ---- which judgement decides, of a judged table
 module _ (marked : ℕ → Bool) (t : Table) (ps : List ℕ) (atcs lefts : List (List ℤ)) where
-  pub start_refused : {w : Refusal} → judge_marked marked t ≡ refused w → leaves (refused w) ps atcs lefts ≡ outcome_left (outcome_marked marked t) ps atcs lefts
+  pub start_refused : {w : Refusal} → judge_marked marked t ≡ Err w → leaves (Err w) ps atcs lefts ≡ outcome_left (outcome_marked marked t) ps atcs lefts
   unfolding outcome_left outcome_marked
   start_refused e = sym (either_refused _ _ (then_refused _ (then_refused _ e)))
 
-  module _ (e : judge_marked marked t ≡ passed (standings_of t).states) where
+  module _ (e : judge_marked marked t ≡ Ok (standings_of t).states) where
     abbrev result : Result
     result = result_marked marked t
 
@@ -242,12 +240,12 @@ module _ (marked : ℕ → Bool) (t : Table) (ps : List ℕ) (atcs lefts : List 
     unfolding outcome_marked
     past-start = then_next _ (then_next _ e)
 
-    pub short_borders : length atcs < t.header.borders → leaves (refused (too_short t.header.borders)) ps atcs lefts ≡ outcome_left (outcome_marked marked t) ps atcs lefts
+    pub short_borders : length atcs < t.header.borders → leaves (Err (too_short t.header.borders)) ps atcs lefts ≡ outcome_left (outcome_marked marked t) ps atcs lefts
     unfolding outcome_left result_marked
     short_borders l = sym (either_refused _ _ (past-start ∙ need_short _ _ _ l))
 
     module _ (hb : t.header.borders ≤ length atcs) where
-      pub short_rows : length lefts < t.header.rows → leaves (refused (too_short t.header.rows)) ps atcs lefts ≡ outcome_left (outcome_marked marked t) ps atcs lefts
+      pub short_rows : length lefts < t.header.rows → leaves (Err (too_short t.header.rows)) ps atcs lefts ≡ outcome_left (outcome_marked marked t) ps atcs lefts
       unfolding outcome_left result_marked
       short_rows l = sym (either_refused _ _ (past-start ∙ need_enough _ _ _ hb ∙ need_short _ _ _ l))
 
@@ -268,15 +266,15 @@ module _ (marked : ℕ → Bool) (t : Table) (n : ℕ) (is : n ≡ t.header.rows
   longer l = leaves l.answer (l.p ++ drop n ps) l.atcs l.lefts
 
   longer-is : (j : Judged Result) → then (outcome_marked marked t) (result_room atcs lefts) ≡ j
-      → longer (either j (result_stored (take n ps) atcs lefts) (λ w. leaves (refused w) (take n ps) atcs lefts)) ≡ either j (result_stored ps atcs lefts) (λ w. leaves (refused w) ps atcs lefts)
+      → longer (either j (result_stored (take n ps) atcs lefts) (λ w. leaves (Err w) (take n ps) atcs lefts)) ≡ either j (result_stored ps atcs lefts) (λ w. leaves (Err w) ps atcs lefts)
   unfolding either result_marked
-  longer-is (refused w) e = ap (λ (v : List ℕ). leaves (refused w) v atcs lefts) (take-append-drop n ps)
-  longer-is (passed r) e =
+  longer-is (Err w) e = ap (λ (v : List ℕ). leaves (Err w) v atcs lefts) (take-append-drop n ps)
+  longer-is (Ok r) e =
       let o = then_passed (outcome_marked marked t) (result_room atcs lefts) r e in
       let b = need_passed r _ _ _ o.second in
       let c = need_passed r _ _ _ b.1 in
       let k : result_marked marked t ≡ r = (accepted marked t o.it o.first).is ∙ passed_is _ _ c.1 in
-      ap (λ (v : List ℕ). leaves (passed r.outcome.rounds) v (result_stored ps atcs lefts r).atcs (result_stored ps atcs lefts r).lefts)
+      ap (λ (v : List ℕ). leaves (Ok r.outcome.rounds) v (result_stored ps atcs lefts r).atcs (result_stored ps atcs lefts r).lefts)
       (over_taken n ps enough r.p (sym (ap (λ (v : Result). length v.p) k) ∙ grid_long every t refl ∙ sym is))
 
   pub front_left : {l : ExtractLeft} → l ≡ outcome_left (outcome_marked marked t) (take n ps) atcs lefts → longer l ≡ outcome_left (outcome_marked marked t) ps atcs lefts

@@ -3,7 +3,6 @@ pub mod StartLaws
 pub mod SameMarks
 pub mod Anchors
 pub mod AnchorsLent
-pub mod AnswerLaws
 pub mod AcceptedLaws
 pub mod MarkedLaws
 pub mod ExtractLaws

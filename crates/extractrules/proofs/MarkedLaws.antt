@@ -1,15 +1,13 @@
 -- Which borders rise (02, E13): marks that agree below the number of borders give one outcome, and what an outcome that was asked for comes to.
 -- No contract cites this file.
+use Rattle.std.specs.Prelude.{Err, Ok, Option}
 use mathlib.Core.Path.{◌≡◌, sym, ap, ap₂, ◌∙◌}
 use mathlib.Core.Bool.{Bool}
 use mathlib.Core.List.{List}
-use mathlib.Core.Option.{Option}
 use Prim.Native.Nat.{ℕ, ◌<◌}
-use Rattle.refusals.specs.declared.Judgement.{Judgement}
-use Rattle.refusals.specs.declared.Judgement.TheVariants.{Passed, Refused}
 use Rattle.refusals.specs.declared.Refusal.{Refusal}
 use Rattle.refusals.specs.Answers.{said_judgement}
-use Rattle.refusals.specs.Refusals.{Judged, passed, refused, then}
+use Rattle.refusals.specs.Refusals.{Judged, then, Ruling}
 use Rattle.refusals.proofs.RefusalLaws.{then_next, then_refused}
 use Rattle.marks.specs.Marks.{judge_asked, may_rise}
 use Rattle.marks.proofs.MarkLaws.{asked_then, asked_passed}
@@ -54,20 +52,20 @@ module _ (m m' : ℕ → Bool) (t : Table) (e : (b : ℕ) → b < t.header.borde
 
   pub outcome_agree : outcome_marked m t ≡ outcome_marked m' t
   unfolding outcome_marked
-  outcome_agree = ap₂ (λ (j : Judged (List ℕ)) (r : Result). then j (λ states. passed r)) judge-agree result_agree
+  outcome_agree = ap₂ (λ (j : Judged (List ℕ)) (r : Result). then j (λ states. Ok r)) judge-agree result_agree
 
 -- ---- an outcome that was asked for
 module _ (all : Bool) (marks : List ℕ) (t : Table) where
-  module _ (j : Judgement) (said : said_judgement j marks ≡ judge_asked all t.header.borders marks (passed marks)) where
-    pub for_refused : (w : Refusal) → j ≡ Refused w → outcome_for all marks t ≡ refused w
+  module _ (j : Ruling) (said : said_judgement j marks ≡ judge_asked all t.header.borders marks (Ok marks)) where
+    pub for_refused : (w : Refusal) → j ≡ Err w → outcome_for all marks t ≡ Err w
     unfolding outcome_for
-    for_refused w e = sym (asked_then all t.header.borders marks marks _) ∙ then_refused _ (sym said ∙ ap (λ (v : Judgement). said_judgement v marks) e)
+    for_refused w e = sym (asked_then all t.header.borders marks marks _) ∙ then_refused _ (sym said ∙ ap (λ (v : Ruling). said_judgement v marks) e)
 
-    pub for_passed : j ≡ Passed → outcome_for all marks t ≡ outcome_marked (may_rise all marks) t
+    pub for_passed : j ≡ (Ok tt) → outcome_for all marks t ≡ outcome_marked (may_rise all marks) t
     unfolding outcome_for
-    for_passed e = sym (asked_then all t.header.borders marks marks _) ∙ then_next _ (sym said ∙ ap (λ (v : Judgement). said_judgement v marks) e)
+    for_passed e = sym (asked_then all t.header.borders marks marks _) ∙ then_next _ (sym said ∙ ap (λ (v : Ruling). said_judgement v marks) e)
 
   -- an outcome that passed is that of the marked borders
-  pub for_is : (r : Result) → outcome_for all marks t ≡ passed r → outcome_marked (may_rise all marks) t ≡ passed r
+  pub for_is : (r : Result) → outcome_for all marks t ≡ Ok r → outcome_marked (may_rise all marks) t ≡ Ok r
   unfolding outcome_for
   for_is r e = asked_passed all t.header.borders marks _ r e

@@ -1,8 +1,8 @@
 -- Marks that agree below the number of borders (02, E13) make the same grid, judgement and cells. No contract cites this file.
+use Rattle.std.specs.Prelude.{Ok, Option}
 use mathlib.Core.Path.{◌≡◌, ap, ap₂}
 use mathlib.Core.Bool.{Bool, true, cond, not, ◌&&◌}
 use mathlib.Core.List.{List, []}
-use mathlib.Core.Option.{Option}
 use Prim.Native.Nat.{ℕ, ◌≤◌, ◌<◌}
 use native.Mathlib.Omega.{arith}
 use lib.Dec.{ltb}
@@ -12,7 +12,7 @@ use Rattle.numbers.specs.Below.{first_from, given, some_below, all_below}
 use Rattle.numbers.proofs.BelowLaws.{first_cong}
 use Rattle.numbers.proofs.TestLaws.{all_true_lem}
 use Rattle.limits.specs.Limits.{borders_most}
-use Rattle.refusals.specs.Refusals.{passed, unless, refuse_at, refuse_first, no_row, unlimited, below_zero}
+use Rattle.refusals.specs.Refusals.{unless, refuse_at, refuse_first, no_row, unlimited, below_zero}
 use Rattle.types.specs.declared.Header.{Header}
 use Rattle.marks.specs.Marks.{flags_of, flagged}
 use Rattle.marks.proofs.MarkLaws.{flags_tell}
@@ -44,7 +44,7 @@ module _ (s : Setup) (f : ℕ → Bool) (e : (b : ℕ) → b < s.borders → f b
   pub judge_marks_lem : {A : Type 0} (a : A) → judge_by (marking s f) a ≡ judge_by s a
   unfolding judge_by refuse_first
   judge_marks_lem {A} a =
-      ap (λ (o : Option ℕ). unless (some_below s.rows s.takes) no_row (refuse_at o unlimited (refuse_first s.rows (low_by s) below_zero (passed a)))) free-marks
+      ap (λ (o : Option ℕ). unless (some_below s.rows s.takes) no_row (refuse_at o unlimited (refuse_first s.rows (low_by s) below_zero (Ok a)))) free-marks
 
 -- ---- the cells of a table with flags
 module _ (h : Header) (b : List (List ℤ)) (f : List ℤ) (states : List ℕ) where

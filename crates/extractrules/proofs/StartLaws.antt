@@ -1,9 +1,9 @@
 -- The laws of `specs/Start.antt` and `specs/Filled.antt`: a grid in one list, which of 5, 6 and 7 decides, and that what the code fills in is what the definitions say.
 -- No contract cites this file.
+use Rattle.std.specs.Prelude.{Err, None, Ok, Some}
 use mathlib.Core.Path.{◌≡◌, sym, ap, ap₂, subst, ◌∙◌}
 use mathlib.Core.Bool.{Bool, true, false, cond, not, ◌&&◌}
 use mathlib.Core.List.{List, [], ◌++◌}
-use mathlib.Core.Option.{none, some}
 use mathlib.Core.Logic.{⊎_elim}
 use Prim.Native.Nat.{ℕ, zero, suc, ◌+◌, ◌*◌, ◌/◌, ◌%◌, ◌≤◌, ◌<◌}
 use native.Mathlib.Nat.{le_refl, not-suc-le-zero, zero-mul, mul-zero, div-lt_iff_lt-mul, mod-lt, add-zero, suc-mul, div-eq_of_lt, mod-eq_of_lt, mul-add-div_right, mul-add-mod_self_right}
@@ -17,9 +17,8 @@ use Rattle.numbers.specs.Ints.{positive_part}
 use Rattle.numbers.specs.Below.{at, table, first_from, some_below}
 use Rattle.numbers.proofs.BelowLaws.{lt_suc_cases, table_long, table_get, table_cong, table_of}
 use Rattle.limits.specs.Limits.{borders_most}
-use Rattle.refusals.specs.declared.Judgement.{Judgement}
 use Rattle.refusals.specs.Answers.{said_judgement}
-use Rattle.refusals.specs.Refusals.{Judged, passed, refused, refuse_first, no_row, unlimited, below_zero}
+use Rattle.refusals.specs.Refusals.{Judged, refuse_first, no_row, unlimited, below_zero, Ruling}
 use Rattle.refusals.proofs.RefusalLaws.{unless_ok, unless_refused, first_found, first_none_next}
 use Rattle.types.specs.declared.Header.{Header}
 use Rattle.types.specs.Ranges.{at_ℤ, is_intraday, border_of}
@@ -107,33 +106,33 @@ module _ (marked : ℕ → Bool) (h : Header) (borders : List (List ℤ)) (facto
   low i = kept states i && (not (is_intraday h) && lt_z (at_ℤ starts i) (pos 0))
 
   module _ (long : length states ≡ h.rows) where
-    pub none_kept : some_below (length states) (kept states) ≡ false → refused no_row ≡ judge_start marked h borders factors states starts
+    pub none_kept : some_below (length states) (kept states) ≡ false → Err no_row ≡ judge_start marked h borders factors states starts
     unfolding judge_start judge_by grid_of grid_by setup_with
     none_kept e = sym (unless_refused _ _ (subst (λ (n : ℕ). some_below n (kept states) ≡ false) long e))
 
     module _ (k : some_below (length states) (kept states) ≡ true) where
-      past-kept : judge_start marked h borders factors states starts ≡ refuse_first h.borders free unlimited (refuse_first h.rows low below_zero (passed states))
+      past-kept : judge_start marked h borders factors states starts ≡ refuse_first h.borders free unlimited (refuse_first h.rows low below_zero (Ok states))
       unfolding judge_start judge_by grid_of grid_by setup_with
       past-kept = unless_ok _ _ (subst (λ (n : ℕ). some_below n (kept states) ≡ true) long k)
 
-      pub border_free : (b : ℕ) → some b ≡ first_from h.borders 0 free → refused (unlimited b) ≡ judge_start marked h borders factors states starts
+      pub border_free : (b : ℕ) → Some b ≡ first_from h.borders 0 free → Err (unlimited b) ≡ judge_start marked h borders factors states starts
       border_free b e = sym (past-kept ∙ first_found _ _ _ _ (sym e))
 
-      module _ (u : none ≡ first_from h.borders 0 free) where
-        past-free : judge_start marked h borders factors states starts ≡ refuse_first h.rows low below_zero (passed states)
+      module _ (u : None ≡ first_from h.borders 0 free) where
+        past-free : judge_start marked h borders factors states starts ≡ refuse_first h.rows low below_zero (Ok states)
         past-free = past-kept ∙ first_none_next _ _ _ _ (sym u)
 
         of-rows : first_from (length states) 0 low ≡ first_from h.rows 0 low
         of-rows = ap (λ (n : ℕ). first_from n 0 low) long
 
-        pub row_below : (i : ℕ) → some i ≡ first_from (length states) 0 low → refused (below_zero i) ≡ judge_start marked h borders factors states starts
+        pub row_below : (i : ℕ) → Some i ≡ first_from (length states) 0 low → Err (below_zero i) ≡ judge_start marked h borders factors states starts
         row_below i e = sym (past-free ∙ first_found _ _ _ _ (sym (e ∙ of-rows)))
 
-        pub may_start : none ≡ first_from (length states) 0 low → passed states ≡ judge_start marked h borders factors states starts
+        pub may_start : None ≡ first_from (length states) 0 low → Ok states ≡ judge_start marked h borders factors states starts
         may_start e = sym (past-free ∙ first_none_next _ _ _ _ (sym (e ∙ of-rows)))
 
 -- ---- what was filled in is what the definitions say
-pub prepared_by : (marked : ℕ → Bool) (t : Table) (r : Judgement) {rams starts : List ℤ} {states : List ℕ} → standings_with rams states ≡ standings_of t → starts ≡ starts_of t
+pub prepared_by : (marked : ℕ → Bool) (t : Table) (r : Ruling) {rams starts : List ℤ} {states : List ℕ} → standings_with rams states ≡ standings_of t → starts ≡ starts_of t
     → said_judgement r states ≡ judge_start marked t.header t.borders t.factors states starts → prepared r rams starts states ≡ prepared_of marked t
 unfolding prepared_of judge_start
 prepared_by marked t r {rams} {starts} {states} m s w =
@@ -143,12 +142,12 @@ prepared_by marked t r {rams} {starts} {states} m s w =
     ∙ ap {B = Prepared} (λ (ms : List ℤ). record { judged = judge_marked marked t; rows = standings_of t; starts = ms }) s
 
 -- what `prepare` left is what the definitions say, part by part
-pub record PreparedAs (marked : ℕ → Bool) (t : Table) (r : Judgement) (rams starts : List ℤ) (states : List ℕ) : Type 0 where
+pub record PreparedAs (marked : ℕ → Bool) (t : Table) (r : Ruling) (rams starts : List ℤ) (states : List ℕ) : Type 0 where
   pub judged : said_judgement r states ≡ judge_marked marked t
   pub rows : standings_with rams states ≡ standings_of t
   pub starts_are : starts ≡ starts_of t
 
-pub prepared_as : {marked : ℕ → Bool} {t : Table} (r : Judgement) {rams starts : List ℤ} {states : List ℕ} → prepared r rams starts states ≡ prepared_of marked t → PreparedAs marked t r rams starts states
+pub prepared_as : {marked : ℕ → Bool} {t : Table} (r : Ruling) {rams starts : List ℤ} {states : List ℕ} → prepared r rams starts states ≡ prepared_of marked t → PreparedAs marked t r rams starts states
 unfolding prepared_of
 prepared_as r e =
     record {

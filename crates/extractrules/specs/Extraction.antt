@@ -1,13 +1,11 @@
 -- From a table to its result (01, "Extraction"), with every border free to rise or only those that are marked (02, E13), and what the open calls `extract` and
 -- `extract_marked` leave. What the rounds start from is in `Start.antt`.
-use Rattle.std.specs.Prelude.{Bool, true, false, List, [], ℕ, ℤ, length, get_or}
-use Rattle.std.proofs.Math.Option.{Option, none}
+use Rattle.std.specs.Prelude.{Bool, true, false, List, [], ℕ, ℤ, length, get_or, Err, None, Ok, Option, Some}
 use Rattle.numbers.specs.Below.{at, table, over}
-use Rattle.refusals.specs.Refusals.{Judged, passed, refused, then, either, need}
+use Rattle.refusals.specs.Refusals.{Judged, then, either, need}
 use Rattle.types.specs.declared.Header.{Header}
 use Rattle.types.specs.Ranges.{at_ℤ}
 use Rattle.marks.specs.Marks.{judge_asked, may_rise}
-use Rattle.tablerules.specs.declared.Room.TheVariants.{P}
 use Rattle.tablerules.specs.Table.{Table, judge_for}
 use Rattle.rounds.specs.Rounds.{Grid, State, Outcome, extract, most_sharers, alone_bits}
 use Rattle.rounds.specs.Last.{last_rounds}
@@ -58,11 +56,11 @@ unfoldable pub last_of : Result → (b : ℕ) → ℕ
 last_of r b = at r.lasts b
 
 unfoldable pub stop_of : Result → (b : ℕ) → Option ℕ
-stop_of r b = get_or r.stops b none
+stop_of r b = get_or r.stops b None
 
 -- the outcome of a judged table: 5, 6, 7, and then the rounds
 unfoldable pub outcome_marked : (marked : ℕ → Bool) → Table → Judged Result
-outcome_marked marked t = then (judge_marked marked t) (λ states. passed (result_marked marked t))
+outcome_marked marked t = then (judge_marked marked t) (λ states. Ok (result_marked marked t))
 
 unfoldable pub outcome_of : Table → Judged Result
 outcome_of t = outcome_marked every t
@@ -87,7 +85,7 @@ row_record r i = left_of_row (at r.rows.states i) (at_ℤ r.rows.rams i) (left_o
 
 -- lent tables, and room for so many p
 abbrev pub judge_extract : (given : Table) → (items : ℕ) → Judged Table
-judge_extract given items = judge_for (P items) given
+judge_extract given items = judge_for (Some items) given
 
 -- what `extract` leaves: its answer, the lent table of p, and the lent results; last comes room for results, border results before row results
 pub record ExtractLeft : Type 0 where
@@ -100,15 +98,15 @@ abbrev pub leaves : Judged ℕ → (ps : List ℕ) → (atcs lefts : List (List 
 leaves answer ps atcs lefts = record { answer = answer; p = ps; atcs = atcs; lefts = lefts }
 
 abbrev pub result_room : (atcs lefts : List (List ℤ)) → Result → Judged Result
-result_room atcs lefts r = need r.header.borders (length atcs) (need r.header.rows (length lefts) (passed r))
+result_room atcs lefts r = need r.header.borders (length atcs) (need r.header.rows (length lefts) (Ok r))
 
 abbrev pub result_stored : (ps : List ℕ) → (atcs lefts : List (List ℤ)) → Result → ExtractLeft
 result_stored ps atcs lefts r =
-    leaves (passed r.outcome.rounds) (over r.p ps) (over (table r.header.borders (atc_record r)) atcs) (over (table r.header.rows (row_record r)) lefts)
+    leaves (Ok r.outcome.rounds) (over r.p ps) (over (table r.header.borders (atc_record r)) atcs) (over (table r.header.rows (row_record r)) lefts)
 
 unfoldable pub extract_for : (all : Bool) → (marks : List ℕ) → (lent : Table) → (ps : List ℕ) → (atcs lefts : List (List ℤ)) → ExtractLeft
 extract_for all marks lent ps atcs lefts =
-    either (then (judge_extract lent (length ps)) (λ t. then (outcome_for all marks t) (result_room atcs lefts))) (result_stored ps atcs lefts) (λ w. leaves (refused w) ps atcs lefts)
+    either (then (judge_extract lent (length ps)) (λ t. then (outcome_for all marks t) (result_room atcs lefts))) (result_stored ps atcs lefts) (λ w. leaves (Err w) ps atcs lefts)
 
 -- the open call `extract`
 unfoldable pub extract_left : (lent : Table) → (ps : List ℕ) → (atcs lefts : List (List ℤ)) → ExtractLeft

@@ -2,9 +2,8 @@
 use Rattle.std.specs.Prelude.{Bool, not, ◌&&◌, List, [], ℕ, ◌*◌, ◌/◌, ◌%◌, ltb, ℤ, length, get_or}
 use Rattle.numbers.specs.Below.{table, over, some_below}
 use Rattle.limits.specs.Limits.{borders_most}
-use Rattle.refusals.specs.declared.Judgement.{Judgement}
 use Rattle.refusals.specs.Answers.{said_judgement}
-use Rattle.refusals.specs.Refusals.{Judged}
+use Rattle.refusals.specs.Refusals.{Judged, Ruling}
 use Rattle.types.specs.declared.Header.{Header}
 use Rattle.types.specs.Ranges.{border_of}
 use Rattle.tablerules.specs.Table.{Table}
@@ -35,7 +34,7 @@ pub record Prepared : Type 0 where
   pub rows : Standings
   pub starts : List ℤ
 
-abbrev pub prepared : Judgement → (rams starts : List ℤ) → (states : List ℕ) → Prepared
+abbrev pub prepared : Ruling → (rams starts : List ℤ) → (states : List ℕ) → Prepared
 prepared r rams starts states = record { judged = said_judgement r states; rows = standings_with rams states; starts = starts }
 
 unfoldable pub prepared_of : (marked : ℕ → Bool) → Table → Prepared

@@ -1,7 +1,7 @@
 -- What the inner functions of crate extraction ask and leave, on the lists that crate start fills in, and what an outcome leaves.
-use Rattle.std.specs.Prelude.{◌≡◌, true, List, ℕ, ◌+◌, ◌*◌, ◌^◌, ◌<◌, ◌≤◌, ℤ, length, take}
+use Rattle.std.specs.Prelude.{◌≡◌, true, List, ℕ, ◌+◌, ◌*◌, ◌^◌, ◌<◌, ◌≤◌, ℤ, length, take, Err, Ok}
 use Rattle.numbers.specs.Below.{at, table, over}
-use Rattle.refusals.specs.Refusals.{Judged, passed, refused, then, either}
+use Rattle.refusals.specs.Refusals.{Judged, then, either}
 use Rattle.types.specs.declared.Header.{Header}
 use Rattle.types.specs.Ranges.{header_fits, is_intraday}
 use Rattle.rounds.specs.declared.Final.{Final}
@@ -57,8 +57,8 @@ result_with h b m p margins = result_by h m p (grid_with h p) (start_with h b ma
 -- what is left of a result whose p stands in the lent table already, and fills it
 abbrev pub finished : (atcs lefts : List (List ℤ)) → Result → ExtractLeft
 finished atcs lefts r =
-    leaves (passed r.outcome.rounds) r.p (over (table r.header.borders (atc_record r)) atcs) (over (table r.header.rows (row_record r)) lefts)
+    leaves (Ok r.outcome.rounds) r.p (over (table r.header.borders (atc_record r)) atcs) (over (table r.header.rows (row_record r)) lefts)
 
 -- what is left of an outcome: last comes room for results
 unfoldable pub outcome_left : Judged Result → (ps : List ℕ) → (atcs lefts : List (List ℤ)) → ExtractLeft
-outcome_left o ps atcs lefts = either (then o (result_room atcs lefts)) (result_stored ps atcs lefts) (λ w. leaves (refused w) ps atcs lefts)
+outcome_left o ps atcs lefts = either (then o (result_room atcs lefts)) (result_stored ps atcs lefts) (λ w. leaves (Err w) ps atcs lefts)

@@ -2,10 +2,3 @@
 #![tactic(auto)]
 
 use refusals::Refusal;
-
-// What an extraction answers: the rounds done, or why the table is turned away.
-#[derive(Clone, Copy)]
-pub enum Extracted {
-    Rounds(u64),
-    Refused(Refusal),
-}

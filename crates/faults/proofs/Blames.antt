@@ -1,5 +1,6 @@
 -- The byte named for a field is the first that no good field could have there (02, E5), for a number, a signed number and R: `blames`. There is no second
 -- such byte: `blames-only`; so 0 is said exactly where there is none. Nothing is asked of the byte that parts the fields.
+use lib.IntN.{ℤ}
 use mathlib.Core.Path.{◌≡◌, refl, sym, ap, subst, ◌∙◌}
 use mathlib.Core.Bool.{Bool, true, false, ◌||◌, false≢true}
 use mathlib.Core.Logic.{◌⊎◌, ⊎_elim}
@@ -10,15 +11,14 @@ use lib.ListN.{length}
 use Rattle.numbers.proofs.BelowLaws.{le_or_lt}
 use Rattle.numbers.proofs.TestLaws.{or_neither}
 use Rattle.types.specs.LineColumns.{Column}
-use Rattle.text.specs.declared.Signed.{Signed}
-use Rattle.text.specs.declared.Signed.TheVariants.{Whole, Wrong}
-use Rattle.text.specs.Fields.{feed}
+use Rattle.text.specs.Fields.{Parsed, feed}
 use Rattle.columns.specs.Columns.{field_at}
-use Rattle.blame.specs.Blame.{is_whole, good_at, byte_at, blamed}
+use Rattle.blame.specs.Blame.{good_at, byte_at, blamed}
 use Rattle.faults.specs.FirstBad.{Could, FirstBad, Blames}
 use Rattle.blame.proofs.BlameLaws.{good_sep, good_feed, byte_good, byte_here, byte_end}
 use Rattle.faults.proofs.AgreeLaws.{agree_less}
 use Rattle.faults.proofs.FieldBad.{field_no, field_could}
+use Rattle.std.specs.Prelude.{Ok, Err, is_ok}
 
 or_none : (t u : Bool) → t ≡ false → u ≡ false → (t || u) ≡ false
 or_none t u p q = rw (p, q)
@@ -30,10 +30,10 @@ module _ (sep : ℕ) (c : Column) (line : List ℕ) (at : ℕ) where
   itself : (n : ℕ) → good_at sep c line at ≡ true → Could sep c line at n
   itself n e = record { other = line; agrees = refl; good = e }
 
-  bad-there : (first place : ℕ) → at ≤ length line → field_at c line at first ≡ Wrong place → good_at sep c line at ≡ false → place < length line → FirstBad sep c line at place
+  bad-there : (first place : ℕ) → at ≤ length line → field_at c line at first ≡ Err place → good_at sep c line at ≡ false → place < length line → FirstBad sep c line at place
   unfolding good_at
   bad-there first place l e g h =
-      let o = or_neither (is_whole (field_at c line at sep)) (is_whole (field_at c line at feed)) g in
+      let o = or_neither (is_ok (field_at c line at sep)) (is_ok (field_at c line at feed)) g in
       record {
         within = h;
         before = field_could sep line at first place l c e;
@@ -48,23 +48,23 @@ module _ (sep : ℕ) (c : Column) (line : List ℕ) (at : ℕ) where
       zero-no : (place : ℕ) → 0 ≡ place + 1 → ⊥
       zero-no place e = omega arith
 
-      whole-good : is_whole (field_at c line at stop) ≡ true → good_at sep c line at ≡ true
+      whole-good : is_ok (field_at c line at stop) ≡ true → good_at sep c line at ≡ true
       whole-good w =
           ⊎_elim
-          (λ (e : stop ≡ sep). sym (good_sep sep c line at (ap (λ (x : ℕ). is_whole (field_at c line at x)) (sym e) ∙ w)))
-          (λ (e : stop ≡ feed). fed (is_whole (field_at c line at sep)) refl (ap (λ (x : ℕ). is_whole (field_at c line at x)) (sym e) ∙ w))
+          (λ (e : stop ≡ sep). sym (good_sep sep c line at (ap (λ (x : ℕ). is_ok (field_at c line at x)) (sym e) ∙ w)))
+          (λ (e : stop ≡ feed). fed (is_ok (field_at c line at sep)) refl (ap (λ (x : ℕ). is_ok (field_at c line at x)) (sym e) ∙ w))
           s
         where
-          fed : (t : Bool) → is_whole (field_at c line at sep) ≡ t → is_whole (field_at c line at feed) ≡ true → good_at sep c line at ≡ true
+          fed : (t : Bool) → is_ok (field_at c line at sep) ≡ t → is_ok (field_at c line at feed) ≡ true → good_at sep c line at ≡ true
           fed true q w = sym (good_sep sep c line at q)
           fed false q w = sym (good_feed sep c line at q) ∙ w
 
       none_named : (byte : ℕ) → 0 ≡ byte → Could sep c line at (length line) → Blames sep c line at byte
       none_named byte z k = record { named = λ place e. absurd (zero-no place (z ∙ e)); none = λ e. k }
 
-      go : (f : Signed) → field_at c line at stop ≡ f → Blames sep c line at (blamed sep c line at f)
-      go (Whole z next) e = none_named 0 refl (itself (length line) (whole-good (ap is_whole e)))
-      go (Wrong place) e = by (good_at sep c line at) refl
+      go : (f : Parsed ℤ) → field_at c line at stop ≡ f → Blames sep c line at (blamed sep c line at f)
+      go (Ok (z, next)) e = none_named 0 refl (itself (length line) (whole-good (ap is_ok e)))
+      go (Err place) e = by (good_at sep c line at) refl
         where
           by : (t : Bool) → good_at sep c line at ≡ t → Blames sep c line at (byte_at sep c line at place)
           by true g = none_named _ (byte_good sep c line at place g) (itself (length line) g)

@@ -16,14 +16,10 @@ use borrow.Author.Tests.{eqb-true, eqb-false, eq-eqb, ne_eqb, leb-true, not-true
 use Rattle.numbers.specs.Ints.{minus}
 use Rattle.numbers.proofs.TestLaws.{zero_one, and_both}
 use Rattle.types.specs.LineColumns.{Column, number, signed, share, power, flow, factor}
-use Rattle.text.specs.declared.Number.{Number}
-use Rattle.text.specs.declared.Number.TheVariants.{Value, Bad}
-use Rattle.text.specs.declared.Signed.{Signed}
-use Rattle.text.specs.declared.Signed.TheVariants.{Whole, Wrong}
-use Rattle.text.specs.Fields.{feed, digits, value, plain, first_bad, number_at, positive, share_at}
+use Rattle.text.specs.Fields.{Parsed, feed, digits, value, plain, first_bad, number_at, positive, share_at}
 use Rattle.text.specs.Line.{headed}
 use Rattle.text.specs.Point.{point_at}
-use Rattle.text.proofs.NumberTrip.{number_read, signed_read, no_whole, whole_is}
+use Rattle.text.proofs.NumberTrip.{number_read, signed_read, no_value, value_is}
 use Rattle.text.proofs.FieldLaws.{some_within, share_plus}
 use Rattle.text.proofs.PointTrip.{plus_read, signed_point_read}
 use Rattle.columns.specs.declared.Head.{Head}
@@ -35,25 +31,26 @@ use Rattle.faults.specs.FirstBad.{FirstBad, Found, here, later, Fault, index, ot
 use Rattle.blame.proofs.BlameLaws.{line_other}
 use Rattle.faults.proofs.FieldBad.{share_dash}
 use Rattle.faults.proofs.Blames.{blames, blames_only}
+use Rattle.std.specs.Prelude.{Ok, Err}
 
 -- ---- a good field ends in the line
 module _ (line : List ℕ) (at stop : ℕ) (some : 0 < stop) (z : ℤ) (next : ℕ) where
-  plus-within : (n : Number) → number_at line at stop ≡ n → positive n ≡ Whole z next → next ≤ length line
-  plus-within (Bad place) q e = absurd (no_whole place z next e)
-  plus-within (Value v m) q e = omega (arith, (number_read line at stop v m (sym q)).within, (whole_is z _ m next e).1)
+  plus-within : (n : Parsed ℕ) → number_at line at stop ≡ n → positive n ≡ Ok (z, next) → next ≤ length line
+  plus-within (Err place) q e = absurd (no_value place z next e)
+  plus-within (Ok (v, m)) q e = omega (arith, (number_read line at stop v m (sym q)).within, (value_is _ z m next e).1)
 
-  share-within : share_at line at stop ≡ Whole z next → next ≤ length line
+  share-within : share_at line at stop ≡ Ok (z, next) → next ≤ length line
   share-within e = go (eqb (get_or line at 0) 45) refl
     where
-      lone : (t : Bool) → eqb (get_or line (at + 1) 0) stop ≡ t → cond t (Whole (minus 1) (at + 2)) (Wrong (at + 1)) ≡ Whole z next → next ≤ length line
-      lone true q e = omega (arith, some_within line (at + 1) (omega (arith, eqb-true (get_or line (at + 1) 0) stop q, some)), (whole_is z _ (at + 2) next e).1)
-      lone false q e = absurd (no_whole (at + 1) z next e)
+      lone : (t : Bool) → eqb (get_or line (at + 1) 0) stop ≡ t → ◌≡◌ {A = Parsed ℤ} (cond t (Ok (minus 1, at + 2)) (Err (at + 1))) (Ok (z, next)) → next ≤ length line
+      lone true q e = omega (arith, some_within line (at + 1) (omega (arith, eqb-true (get_or line (at + 1) 0) stop q, some)), (value_is _ z (at + 2) next e).1)
+      lone false q e = absurd (no_value (at + 1) z next e)
 
       go : (t : Bool) → eqb (get_or line at 0) 45 ≡ t → next ≤ length line
       go true d = lone (eqb (get_or line (at + 1) 0) stop) refl (share_dash line at stop (eqb-true _ _ d) ∙ e)
       go false d = plus-within (number_at line at stop) refl (share_plus line at stop d ∙ e)
 
-  field-within : (c : Column) → field_at c line at stop ≡ Whole z next → next ≤ length line
+  field-within : (c : Column) → field_at c line at stop ≡ Ok (z, next) → next ≤ length line
   unfolding field_at
   field-within number e = plus-within (number_at line at stop) refl e
   field-within signed e = (signed_read line at stop z next e).within
@@ -78,9 +75,9 @@ module _ (sep : ℕ) (some : 0 < sep) where
   fields-found (c ∷ cs) line at place l e = go (λ next h q. fields-found cs line next place h q) (field_at c line at (stop_of sep feed cs)) refl e
     where
       go : ((next : ℕ) → next ≤ length line → fields_byte sep cs line next ≡ place + 1 → Found sep line cs next place)
-          → (f : Signed) → field_at c line at (stop_of sep feed cs) ≡ f → or_later f (blamed sep c line at f) (λ (next : ℕ). fields_byte sep cs line next) ≡ place + 1 → Found sep line (c ∷ cs) at place
-      go ih (Whole z next) q e = later q (ih next (field-within line at (stop_of sep feed cs) (stop-some cs) z next c q) e)
-      go ih (Wrong p) q e = here ((blames sep c line at (stop_of sep feed cs) (stop-either cs) l).named place (ap (blamed sep c line at) q ∙ e))
+          → (f : Parsed ℤ) → field_at c line at (stop_of sep feed cs) ≡ f → or_later f (blamed sep c line at f) (λ (next : ℕ). fields_byte sep cs line next) ≡ place + 1 → Found sep line (c ∷ cs) at place
+      go ih (Ok (z, next)) q e = later q (ih next (field-within line at (stop_of sep feed cs) (stop-some cs) z next c q) e)
+      go ih (Err p) q e = here ((blames sep c line at (stop_of sep feed cs) (stop-either cs) l).named place (ap (blamed sep c line at) q ∙ e))
 
   -- ---- a line
   headed-long : (letter : ℕ) (line : List ℕ) → headed letter sep line ≡ true → 2 ≤ length line
@@ -90,22 +87,22 @@ module _ (sep : ℕ) (some : 0 < sep) where
   unfolding field_at
   index-fault at columns line i place l e = indexed (number_at line at sep) refl e
     where
-      valued : (v next : ℕ) → number_at line at sep ≡ Value v next → (t : Bool) → eqb v i ≡ t → cond t (fields_byte sep columns line next) (at + 1) ≡ place + 1 → Fault sep at columns line i place
+      valued : (v next : ℕ) → number_at line at sep ≡ Ok (v, next) → (t : Bool) → eqb v i ≡ t → cond t (fields_byte sep columns line next) (at + 1) ≡ place + 1 → Fault sep at columns line i place
       valued v next q true s e =
           let same : v ≡ i = eqb-true v i s in
-          field next (q ∙ ap (λ (x : ℕ). Value x next) same) (fields-found columns line next place (number_read line at sep v next (sym q)).within e)
+          field next (q ∙ ap (λ (x : ℕ). Ok (x, next)) same) (fields-found columns line next place (number_read line at sep v next (sym q)).within e)
       valued v next q false s e = other v next (inl q) (eqb-false v i s) (omega arith)
 
       -- the index that `sep` does not end, by what it is before an LF
-      ended : (p : ℕ) → number_at line at sep ≡ Bad p → (n : Number) → number_at line at feed ≡ n → (t : Bool) → other_index i n ≡ t
+      ended : (p : ℕ) → number_at line at sep ≡ Err p → (n : Parsed ℕ) → number_at line at feed ≡ n → (t : Bool) → other_index i n ≡ t
           → cond t (at + 1) (byte_at sep number line at p) ≡ place + 1 → Fault sep at columns line i place
-      ended p q (Value v next) r true s e = other v next (inr r) (eqb-false v i (not-true _ s)) (omega arith)
-      ended p q (Bad m) r true s e = absurd (false≢true s)
+      ended p q (Ok (v, next)) r true s e = other v next (inr r) (eqb-false v i (not-true _ s)) (omega arith)
+      ended p q (Err m) r true s e = absurd (false≢true s)
       ended p q n r false s e = index ((blames sep number line at sep (inl refl) l).named place (ap (blamed sep number line at) (ap positive q) ∙ e))
 
-      indexed : (n : Number) → number_at line at sep ≡ n → index_byte sep at columns line i n ≡ place + 1 → Fault sep at columns line i place
-      indexed (Value v next) q e = valued v next q (eqb v i) refl e
-      indexed (Bad p) q e = ended p q (number_at line at feed) refl (other_index i (number_at line at feed)) refl e
+      indexed : (n : Parsed ℕ) → number_at line at sep ≡ n → index_byte sep at columns line i n ≡ place + 1 → Fault sep at columns line i place
+      indexed (Ok (v, next)) q e = valued v next q (eqb v i) refl e
+      indexed (Err p) q e = ended p q (number_at line at feed) refl (other_index i (number_at line at feed)) refl e
 
   pub line_fault : (head : Head) (columns : List Column) (line : List ℕ) (place : ℕ) → line_byte sep head columns line ≡ place + 1 → LineFault sep head columns line place
   unfolding line_byte
@@ -131,21 +128,21 @@ module _ (sep : ℕ) (some : 0 < sep) where
   found-fields [] line at place l f = elim f [ ]
   found-fields (c ∷ cs) line at place l (here f) = go (field_at c line at (stop_of sep feed cs)) (bad-named c cs line at place l f)
     where
-      go : (r : Signed) → blamed sep c line at r ≡ place + 1 → or_later r (blamed sep c line at r) (λ (next : ℕ). fields_byte sep cs line next) ≡ place + 1
-      go (Whole z next) e = absurd (omega arith)
-      go (Wrong p) e = e
+      go : (r : Parsed ℤ) → blamed sep c line at r ≡ place + 1 → or_later r (blamed sep c line at r) (λ (next : ℕ). fields_byte sep cs line next) ≡ place + 1
+      go (Ok (z, next)) e = absurd (omega arith)
+      go (Err p) e = e
   found-fields (c ∷ cs) line at place l (later {next} {z} q f) = rw q (found-fields cs line next place (field-within line at (stop_of sep feed cs) (stop-some cs) z next c q) f)
 
   -- ---- a line with a bad byte: it is named
   -- an index is worth the same whatever ends it
-  worth : (line : List ℕ) (at stop v next : ℕ) → number_at line at stop ≡ Value v next → v ≡ value 0 (digits (drop at line))
+  worth : (line : List ℕ) (at stop v next : ℕ) → number_at line at stop ≡ Ok (v, next) → v ≡ value 0 (digits (drop at line))
   unfolding number_at
   worth line at stop v next e =
       let d = digits (drop at line) in
       go (plain d && (ltb (length d) (length (drop at line)) && eqb (get_or (drop at line) (length d) 0) stop)) (at + length d + 1) (first_bad d at) e
     where
-      go : (t : Bool) (m b : ℕ) → cond t (Value (value 0 (digits (drop at line))) m) (Bad b) ≡ Value v next → v ≡ value 0 (digits (drop at line))
-      go true m b e = cc
+      go : (t : Bool) (m b : ℕ) → ◌≡◌ {A = Parsed ℕ} (cond t (Ok (value 0 (digits (drop at line)), m)) (Err b)) (Ok (v, next)) → v ≡ value 0 (digits (drop at line))
+      go true m b e = sym (value_is (value 0 (digits (drop at line))) v m next e).0
       go false m b e = let z : ◌≡◌ {A = ℕ} 0 1 = cc in absurd (zero_one z)
 
   -- an index and the fields after it: the index's form, then its value, then the fields
@@ -156,18 +153,18 @@ module _ (sep : ℕ) (some : 0 < sep) where
       named : (stop : ℕ) → (stop ≡ sep) ⊎ (stop ≡ feed) → blamed sep number line at (positive (number_at line at stop)) ≡ place + 1
       named stop s = blames_only sep number line at _ place (blames sep number line at stop s l) f
 
-      go : (n : Number) → number_at line at sep ≡ n → (m : Number) → number_at line at feed ≡ m → index_byte sep at columns line i n ≡ place + 1
-      go (Value v next) q m r = absurd (omega (arith, ap (λ (n : Number). blamed sep number line at (positive n)) (sym q) ∙ named sep (inl refl)))
-      go (Bad p) q (Value v next) r = absurd (omega (arith, ap (λ (n : Number). blamed sep number line at (positive n)) (sym r) ∙ named feed (inr refl)))
-      go (Bad p) q (Bad b) r = rw r (ap (λ (n : Number). blamed sep number line at (positive n)) (sym q) ∙ named sep (inl refl))
+      go : (n : Parsed ℕ) → number_at line at sep ≡ n → (m : Parsed ℕ) → number_at line at feed ≡ m → index_byte sep at columns line i n ≡ place + 1
+      go (Ok (v, next)) q m r = absurd (omega (arith, ap (λ (n : Parsed ℕ). blamed sep number line at (positive n)) (sym q) ∙ named sep (inl refl)))
+      go (Err p) q (Ok (v, next)) r = absurd (omega (arith, ap (λ (n : Parsed ℕ). blamed sep number line at (positive n)) (sym r) ∙ named feed (inr refl)))
+      go (Err p) q (Err b) r = rw r (ap (λ (n : Parsed ℕ). blamed sep number line at (positive n)) (sym q) ∙ named sep (inl refl))
   fault-index at columns line i place l (other v next (inl q) n e) = rw (q, ne_eqb v i n) (omega arith)
   fault-index at columns line i place l (other v next (inr q) n e) = go (number_at line at sep) refl
     where
-      go : (m : Number) → number_at line at sep ≡ m → index_byte sep at columns line i m ≡ place + 1
-      go (Value w k) r =
+      go : (m : Parsed ℕ) → number_at line at sep ≡ m → index_byte sep at columns line i m ≡ place + 1
+      go (Ok (w, k)) r =
           let same : w ≡ v = worth line at sep w k r ∙ sym (worth line at feed v next q) in
           rw (ne_eqb w i (λ x. n (sym same ∙ x))) (omega arith)
-      go (Bad p) r = rw (q, ne_eqb v i n) (omega arith)
+      go (Err p) r = rw (q, ne_eqb v i n) (omega arith)
   fault-index at columns line i place l (field next q f) = rw (q, eq-eqb i i refl) (found-fields columns line next place (number_read line at sep i next (sym q)).within f)
 
   -- a line that begins with its letter, where its head has one

@@ -11,14 +11,12 @@ use lib.Dec.{ltb, eqb}
 use lib.ListN.{length, get_or, take, drop, length-append, length-drop, length-take}
 use lib.Seq.{get_or-take, get_or-append_seam, take-take, length-take-le}
 use borrow.Author.Tests.{ltb-true, ltb-false, eqb-true, eqb-false, lt-ltb, eq-eqb}
-use Rattle.text.specs.declared.Number.TheVariants.{Value, Bad}
-use Rattle.text.specs.declared.Signed.TheVariants.{Wrong}
 use Rattle.text.specs.Fields.{is_digit, digits, value, plain, first_bad, number_at, positive}
 use Rattle.numbers.proofs.BelowLaws.{le_or_lt}
-use Rattle.text.proofs.NumberTrip.{plain_true, digits_app, digits_twice, no_whole}
+use Rattle.text.proofs.NumberTrip.{plain_true, digits_app, digits_twice, no_value}
 use Rattle.text.proofs.NumberLaws.{plain_none, plain_long, plain_zero}
-use Rattle.blame.specs.Blame.{is_whole}
 use Rattle.faults.proofs.AgreeLaws.{agree_drop}
+use Rattle.std.specs.Prelude.{Ok, Err, is_ok}
 
 -- s begins with a number that `stop` ends
 abbrev pub num : (s : List ℕ) → (stop : ℕ) → Bool
@@ -150,20 +148,20 @@ grown s = go (off s) (ends s)
         (le_or_lt k 0)
 
 -- ---- a number at a place of a line
-pub whole_number : (line : List ℕ) (at stop : ℕ) → is_whole (positive (number_at line at stop)) ≡ num (drop at line) stop
+pub whole_number : (line : List ℕ) (at stop : ℕ) → is_ok (positive (number_at line at stop)) ≡ num (drop at line) stop
 unfolding number_at
 whole_number line at stop = go (num (drop at line) stop)
   where
-    go : (t : Bool) → is_whole (positive (cond t (Value (value 0 (digits (drop at line))) (at + length (digits (drop at line)) + 1)) (Bad (first_bad (digits (drop at line)) at)))) ≡ t
+    go : (t : Bool) → is_ok (positive (cond t (Ok (value 0 (digits (drop at line)), at + length (digits (drop at line)) + 1)) (Err (first_bad (digits (drop at line)) at)))) ≡ t
     go true = refl
     go false = refl
 
-pub place_number : (line : List ℕ) (at stop place : ℕ) → positive (number_at line at stop) ≡ Wrong place → place ≡ at + off (drop at line)
+pub place_number : (line : List ℕ) (at stop place : ℕ) → positive (number_at line at stop) ≡ Err place → place ≡ at + off (drop at line)
 unfolding number_at
 place_number line at stop place e = go (num (drop at line) stop) e
   where
-    go : (t : Bool) → positive (cond t (Value (value 0 (digits (drop at line))) (at + length (digits (drop at line)) + 1)) (Bad (first_bad (digits (drop at line)) at))) ≡ Wrong place → place ≡ at + off (drop at line)
-    go true e = absurd (no_whole place _ _ (sym e))
+    go : (t : Bool) → positive (cond t (Ok (value 0 (digits (drop at line)), at + length (digits (drop at line)) + 1)) (Err (first_bad (digits (drop at line)) at))) ≡ Err place → place ≡ at + off (drop at line)
+    go true e = absurd (no_value place _ _ (sym e))
     go false e = cc
 
 -- a number is bad by its bytes up to its bad place, whatever follows

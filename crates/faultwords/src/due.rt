@@ -2,15 +2,15 @@
 ghost use Rattle.std.specs.Prelude.{◌≤◌};
 ghost use Rattle.io.specs.Counts.{IsPrefixLen};
 
-use crate::words::put_words;
-use crate::{found, words};
+use crate::Blamed;
+use crate::words::{self, Words};
 use arguments::lists;
-use text::Number;
+use fieldnames::LineKind;
 
-// The letter of the line that is due, 0 where none is; the index it has; how many lines there are.
+// The kind of the line that is due, where one is; the index it has; how many lines there are.
 #[derive(Clone, Copy)]
 pub struct Due {
-    pub letter: u8,
+    pub kind: Option<LineKind>,
     pub index: u64,
     pub lines: u64,
     pub zones: u64,
@@ -22,39 +22,37 @@ fn count_at(header: &[u8], field: usize, most: usize) -> u64
 {
     let at = lists::begin(header, field, b'\t');
     let v = match text::field::number_at(header, at, b'\t') {
-        Number::Value(v, _) => v,
-        Number::Bad(_) => last_number(header, at),
+        Ok((v, _)) => v,
+        Err(_) => last_number(header, at),
     };
     if v <= most as u64 { v } else { 0 }
 }
 
 // The last number of a line ends with it.
 fn last_number(line: &[u8], at: usize) -> u64 {
-    match text::field::number_at(line, at, b'\n') {
-        Number::Value(v, _) => v,
-        Number::Bad(_) => 0,
-    }
+    text::field::number_at(line, at, b'\n').map_or(0, |(v, _)| v)
 }
 
 // The line that is due at a place of the table, or of a sheet that goes with it; lines are counted from 0.
-pub fn at(of: usize, line: u64, table: &[u8]) -> Due {
+pub fn at(of: Blamed, line: u64, table: &[u8]) -> Due {
     let header = text::line::line_at(table, 0);
     let zones = count_at(header, 1, limits::ZONES_MOST);
     let borders = count_at(header, 2, limits::BORDERS_MOST);
     let rows = count_at(header, 3, limits::ROWS_MOST);
-    if of == crate::TABLE {
-        return of_table(line, zones, allocated(table, zones), borders, rows);
-    }
-    let letter = if line < rows || of != crate::SHEET {
-        b'C'
-    } else {
-        0
-    };
-    Due {
-        letter: letter,
-        index: line,
-        lines: rows,
-        zones: zones,
+    match of {
+        Blamed::Table => of_table(line, zones, allocated(table, zones), borders, rows),
+        Blamed::Sheet if rows <= line => Due {
+            kind: None,
+            index: line,
+            lines: rows,
+            zones,
+        },
+        _ => Due {
+            kind: Some(LineKind::Row),
+            index: line,
+            lines: rows,
+            zones,
+        },
     }
 }
 
@@ -65,146 +63,145 @@ fn allocated(table: &[u8], zones: u64) -> u64
 {
     let first = lists::begin(table, zones as usize + 1, b'\n');
     if text::field::byte_at(table, first) == b'T' {
-        return zones;
+        zones
+    } else {
+        0
     }
-    0
 }
 
 fn of_table(line: u64, zones: u64, allocated: u64, borders: u64, rows: u64) -> Due
     requires { (zones ≤ 16) × (allocated ≤ 16) × (borders ≤ 64) × (rows ≤ 200) }
 {
     let lines = 1 + zones + allocated + borders + rows;
-    let t = 1 + zones;
-    let b = t + allocated;
-    let c = b + borders;
-    let mut letter = b'C';
-    let mut from = c;
-    if line < c {
-        letter = b'B';
-        from = b;
+    let before_rows = [
+        (LineKind::Header, 1),
+        (LineKind::Zone, zones),
+        (LineKind::Allocated, allocated),
+        (LineKind::Border, borders),
+    ];
+    let mut index = line;
+    for (kind, count) in before_rows {
+        if index < count {
+            return Due {
+                kind: Some(kind),
+                index,
+                lines,
+                zones,
+            };
+        }
+        index -= count;
     }
-    if line < b {
-        letter = b'T';
-        from = t;
-    }
-    if line < t {
-        letter = b'Z';
-        from = 1;
-    }
-    if line < 1 {
-        letter = b'H';
-        from = 0;
-    }
-    if lines <= line {
-        letter = 0;
-    }
-    let index = if from <= line { line - from } else { 0 };
     Due {
-        letter: letter,
-        index: index,
-        lines: lines,
-        zones: zones,
+        kind: if index < rows {
+            Some(LineKind::Row)
+        } else {
+            None
+        },
+        index,
+        lines,
+        zones,
     }
 }
 
 // What is wrong with a line as a whole.
-pub fn put(of: usize, number: u64, table: &[u8], text: &[u8], out: &mut [u8], at: usize) -> usize
+pub fn put(of: Blamed, number: u64, table: &[u8], text: &[u8], out: &mut [u8], at: usize) -> usize
     ensures { IsPrefixLen result out.new }
 {
-    let line = crate::before(number);
+    let line = number.saturating_sub(1);
     let due = crate::due::at(of, line, table);
-    if text.len() == 0 {
-        return put_words(words::EMPTY, 0, 0, out, at);
+    if text.is_empty() {
+        return words::put(Words::Empty, &[], out, at);
     }
     let from = lists::begin(text, line as usize, b'\n');
     if from == text.len() {
-        return put_words(words::MISSING + of_sheet(of), number, due.lines, out, at);
+        return words::put(missing(of), &[number, due.lines], out, at);
     }
-    if due.letter == 0 {
-        return put_words(words::EXTRA + of_sheet(of), number, due.lines, out, at);
-    }
+    let Some(kind) = due.kind else {
+        return words::put(extra(of), &[number, due.lines], out, at);
+    };
     let row = lists::piece(text, line as usize, b'\n');
-    let wrong = shape(of, due.letter, row);
-    if wrong == words::LETTER_DUE {
-        let next = put_words(wrong, number, 0, out, at);
-        return forms::put_byte(due.letter, out, next);
-    }
-    if 0 < wrong {
-        return put_words(wrong, number, 0, out, at);
+    if let Some(wrong) = shape(of, kind.letter(), row) {
+        let next = words::put(wrong, &[number], out, at);
+        return if wrong == Words::LetterDue {
+            forms::put_byte(kind.letter(), out, next)
+        } else {
+            next
+        };
     }
     if lists::find(text, from, b'\n') == text.len() {
-        return put_words(words::NO_LF, number, 0, out, at);
+        return words::put(Words::NoLf, &[number], out, at);
     }
-    put_count(due, number, out, at)
+    put_count(kind, due.zones, number, out, at)
 }
 
-// The words for a sheet of rows stand two lines behind those for a table.
-fn of_sheet(of: usize) -> usize
-    ensures { result ≤ 2 }
-{
-    if of == crate::TABLE { 0 } else { 2 }
+fn missing(of: Blamed) -> Words {
+    match of {
+        Blamed::Table => Words::Missing,
+        _ => Words::RowMissing,
+    }
 }
 
-// The words for a line whose begin or separators are wrong, or 0.
-fn shape(of: usize, letter: u8, row: &[u8]) -> usize {
+fn extra(of: Blamed) -> Words {
+    match of {
+        Blamed::Table => Words::Extra,
+        _ => Words::RowExtra,
+    }
+}
+
+// The words for a line whose begin or separators are wrong.
+fn shape(of: Blamed, letter: u8, row: &[u8]) -> Option<Words> {
     let first = text::field::byte_at(row, 0);
     let second = text::field::byte_at(row, 1);
     if first == b'"' {
-        return words::QUOTED;
+        return Some(Words::Quoted);
     }
-    if found::separator(of) == b';' {
-        return unparted(row, b';', b'\t', words::TABS);
+    if !of.is_lettered() {
+        return if is_unparted(row, b';', b'\t') {
+            Some(Words::Tabs)
+        } else {
+            None
+        };
     }
     if first != letter {
-        if found::is_letter(first) && found::is_letter(second) {
-            return words::HEADINGS;
-        }
-        return words::LETTER_DUE;
+        return if first.is_ascii_alphabetic() && second.is_ascii_alphabetic() {
+            Some(Words::Headings)
+        } else {
+            Some(Words::LetterDue)
+        };
     }
-    if second == b'\t' {
-        return 0;
+    match second {
+        b'\t' => None,
+        _ if is_unparted(row, b'\t', b';') => Some(Words::Semicolons),
+        b' ' => Some(Words::Blanks),
+        _ => Some(Words::NoTab),
     }
-    let semicolons = unparted(row, b'\t', b';', words::SEMICOLONS);
-    if 0 < semicolons {
-        return semicolons;
-    }
-    if second == b' ' {
-        return words::BLANKS;
-    }
-    words::NO_TAB
 }
 
-// The words where the line has the other separator and not its own, else 0.
-fn unparted(row: &[u8], own: u8, other: u8, way: usize) -> usize {
-    if lists::find(row, 0, own) == row.len() && lists::find(row, 0, other) < row.len() {
-        return way;
-    }
-    0
+// Whether the line has the other separator and not its own.
+fn is_unparted(row: &[u8], own: u8, other: u8) -> bool {
+    !row.contains(&own) && row.contains(&other)
 }
 
 // How many fields are due behind the letter of a line.
-fn put_count(due: Due, number: u64, out: &mut [u8], at: usize) -> usize
+fn put_count(kind: LineKind, zones: u64, number: u64, out: &mut [u8], at: usize) -> usize
     ensures { IsPrefixLen result out.new }
 {
-    let letter = due.letter;
-    match letter {
-        b'H' => put_either(b"3, or 4 with the default of R", number, out, at),
-        b'B' => put_either(b"4, or 6 with hubs", number, out, at),
-        b'C' => put_words(
-            words::FIELDS_DUE,
-            number,
-            std::num::wrapping_add_u64(due.zones, 8),
+    match kind {
+        LineKind::Header => put_either(b"3, or 4 with the default of R", number, out, at),
+        LineKind::Border => put_either(b"4, or 6 with hubs", number, out, at),
+        LineKind::Row => words::put(
+            Words::FieldsDue,
+            &[number, zones.saturating_add(8)],
             out,
             at,
         ),
-        _ => put_words(words::FIELDS_DUE, number, 2, out, at),
+        _ => words::put(Words::FieldsDue, &[number, 2], out, at),
     }
 }
 
 fn put_either(counts: &[u8], number: u64, out: &mut [u8], at: usize) -> usize
     ensures { IsPrefixLen result out.new }
 {
-    let next = put_words(words::FIELDS_OR, number, 0, out, at);
-    let figures = [0u64; 1];
-    forms::put_form(counts, &figures, out, next)
+    let next = words::put(Words::FieldsOr, &[number], out, at);
+    forms::put_form(counts, &[], out, next)
 }

@@ -9,20 +9,42 @@ mod words;
 ghost use Rattle.io.specs.Counts.{IsPrefixLen};
 
 use arguments::lists;
-use words::put_words;
+use words::Words;
 
 // The texts that can be blamed: the table; a correction sheet of C lines, and one of semicolon rows; the sheet of all rows.
-pub const TABLE: usize = 0;
+#[derive(Clone, Copy, PartialEq, Eq)]
+pub enum Blamed {
+    Table,
+    Corrections,
+    Rows,
+    Sheet,
+}
 
-pub const CORRECTIONS: usize = 1;
+impl Blamed {
+    // Whether lines have a letter: those of a sheet of semicolons have none.
+    fn is_lettered(self) -> bool {
+        matches!(self, Blamed::Table | Blamed::Corrections)
+    }
 
-pub const ROWS: usize = 2;
+    // The byte that parts fields.
+    fn separator(self) -> u8 {
+        if self.is_lettered() { b'\t' } else { b';' }
+    }
 
-pub const SHEET: usize = 3;
+    // The words that begin with the text.
+    fn words(self) -> Words {
+        match self {
+            Blamed::Table => Words::TheTable,
+            Blamed::Corrections => Words::TheCorrections,
+            Blamed::Rows => Words::TheRows,
+            Blamed::Sheet => Words::TheSheet,
+        }
+    }
+}
 
 // Writes the words for a refusal by form or range, with its number, place and byte, of a text that goes with a table. The place behind them.
 pub fn put(
-    of: usize,
+    of: Blamed,
     number: u64,
     place: u64,
     byte: u64,
@@ -32,15 +54,17 @@ pub fn put(
 ) -> usize
     ensures { IsPrefixLen result out.new }
 {
-    let at = put_words(words::PREFIX + of, 0, 0, out, 0);
-    let coded = encoding(text);
-    if place == 1 && 0 < coded {
-        return put_words(coded, 0, 0, out, at);
+    let at = words::put(of.words(), &[], out, 0);
+    if place == 1
+        && let Some(encoding) = encoding(text)
+    {
+        return words::put(encoding, &[], out, at);
     }
     if byte == 0 {
         return due::put(of, place, table, text, out, at);
     }
-    let line = before(place);
+    // Lines and bytes are counted from 1 where they are told, and from 0 where they are looked up.
+    let line = place.saturating_sub(1);
     let row = lists::piece(text, line as usize, b'\n');
     found::put(
         of,
@@ -54,26 +78,11 @@ pub fn put(
     )
 }
 
-// Lines and bytes are counted from 1 where they are told, and from 0 where they are looked up.
-pub fn before(n: u64) -> u64 {
-    if n == 0 {
-        return 0;
+// Whether the text begins as UTF-16 does, or with a BOM: the words for it.
+fn encoding(text: &[u8]) -> Option<Words> {
+    match text {
+        [254..=255, 254..=255, ..] | [0, _, ..] | [_, 0, ..] => Some(Words::Utf16),
+        [239, 187, ..] => Some(Words::Bom),
+        _ => None,
     }
-    n - 1
-}
-
-// Whether the text begins as UTF-16 does, or with a BOM: the words for it, or 0.
-fn encoding(text: &[u8]) -> usize {
-    let first = text::field::byte_at(text, 0);
-    let second = text::field::byte_at(text, 1);
-    if first >= 254 && second >= 254 {
-        return words::UTF_16;
-    }
-    if 2 <= text.len() && (first == 0 || second == 0) {
-        return words::UTF_16;
-    }
-    if first == 239 && second == 187 {
-        return words::BOM;
-    }
-    0
 }

@@ -1,67 +1,64 @@
 // All words of a fault as one list: a function with many literals is slow to check, one with a long literal is not.
 ghost use Rattle.io.specs.Counts.{IsPrefixLen};
 
-pub const PREFIX: usize = 0;
+use fieldnames::Name;
 
-pub const UTF_16: usize = 4;
+// The words, in the order of the list in `put`.
+#[derive(Clone, Copy, PartialEq, Eq)]
+pub enum Words {
+    TheTable,
+    TheCorrections,
+    TheRows,
+    TheSheet,
+    Utf16,
+    Bom,
+    Empty,
+    Missing,
+    Extra,
+    RowMissing,
+    RowExtra,
+    NoLf,
+    Headings,
+    Quoted,
+    Semicolons,
+    Blanks,
+    Tabs,
+    LetterDue,
+    NoTab,
+    FieldsDue,
+    FieldsOr,
+    Line,
+    Byte,
+    IndexDue,
+    IndexRises,
+    Range,
+    // what was found
+    Blank,
+    Cr,
+    Comma,
+    Point,
+    Semicolon,
+    Quote,
+    Plus,
+    Minus,
+    FieldEnd,
+    Digit,
+    Shown,
+    Hidden,
+    // what is wanted
+    Digits,
+    SignedDigits,
+    ROrNone,
+    Power,
+    Factor,
+    Tidy,
+    WritePoint,
+}
 
-pub const BOM: usize = 5;
-
-pub const EMPTY: usize = 6;
-
-pub const MISSING: usize = 7;
-
-pub const EXTRA: usize = 8;
-
-pub const ROW_MISSING: usize = 9;
-
-pub const ROW_EXTRA: usize = 10;
-
-pub const NO_LF: usize = 11;
-
-pub const HEADINGS: usize = 12;
-
-pub const QUOTED: usize = 13;
-
-pub const SEMICOLONS: usize = 14;
-
-pub const BLANKS: usize = 15;
-
-pub const TABS: usize = 16;
-
-pub const LETTER_DUE: usize = 17;
-
-pub const NO_TAB: usize = 18;
-
-pub const FIELDS_DUE: usize = 19;
-
-pub const FIELDS_OR: usize = 20;
-
-pub const LINE: usize = 21;
-
-pub const BYTE: usize = 22;
-
-pub const INDEX_DUE: usize = 23;
-
-pub const INDEX_RISES: usize = 24;
-
-pub const RANGE: usize = 25;
-
-// What was found, from here on.
-pub const FOUND: usize = 26;
-
-// What is wanted, from here on.
-pub const WANTED: usize = 38;
-
-pub const TIDY: usize = 43;
-
-pub const A_POINT: usize = 44;
-
-// Line k of the words, with two figures.
-pub fn put_words(k: usize, first: u64, second: u64, out: &mut [u8], at: usize) -> usize
+// The words, with their figures.
+pub fn put(words: Words, figures: &[u64], out: &mut [u8], at: usize) -> usize
     ensures { IsPrefixLen result out.new }
 {
-    let figures = [first, second];
     forms::put(
         b"\n\
         the correction sheet: \n\
@@ -108,18 +105,17 @@ pub fn put_words(k: usize, first: u64, second: u64, out: &mut [u8], at: usize) -
         ; a factor has a point and five decimals\n\
         : keravnoth tidy takes it out\n\
         : write a point\n",
-        k,
-        &figures,
+        words as usize,
+        figures,
         out,
         at,
     )
 }
 
 // The range of a field, by its name (crate fieldnames); in the planners' sheet powers are in MW and factors have a point.
-pub fn put_range(name: usize, sheet: bool, out: &mut [u8], at: usize) -> usize
+pub fn put_range(name: Name, sheet: bool, out: &mut [u8], at: usize) -> usize
     ensures { IsPrefixLen result out.new }
 {
-    let figures = [0u64; 1];
     forms::put(
         b"\n\
         2 to 16\n\
@@ -149,17 +145,25 @@ pub fn put_range(name: usize, sheet: bool, out: &mut [u8], at: usize) -> usize
         0.000 to 10000.000 MW\n\
         0.000 to 10000.000 MW\n\
         -1.00000 to 1.00000\n",
-        range_of(name, sheet),
-        &figures,
+        line_of(name, sheet),
+        &[],
         out,
         at,
     )
 }
 
 // The ranges of the sheet's own units stand behind those of the table.
-fn range_of(name: usize, sheet: bool) -> usize {
+fn line_of(name: Name, sheet: bool) -> usize {
     match name {
-        12..=fieldnames::FACTOR => { if sheet { name + 8 } else { name } }
-        _ => name,
+        Name::Fmax
+        | Name::Frm
+        | Name::Fref
+        | Name::F0all
+        | Name::R
+        | Name::Cva
+        | Name::Iva
+        | Name::Factor
+            if sheet => { name as usize + 8 }
+        _ => name as usize,
     }
 }

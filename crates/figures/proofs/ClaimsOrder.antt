@@ -1,11 +1,12 @@
 -- What a call with claims (02, E10) judges of the tables before the claims, computed: 4, and none of 5 to 7. Nobody cites it: it refuses an order that slipped.
+use Rattle.std.specs.Prelude.{Err, Ok}
 use mathlib.Core.Path.{◌≡◌, refl}
 use mathlib.Core.List.{List, [], ◌∷◌}
 use Prim.Native.Nat.{ℕ}
 use lib.IntN.{ℤ, pos}
 use Rattle.numbers.specs.Below.{if_zero, sum, table, first_from, given}
 use Rattle.numbers.specs.Ints.{minus, max_ℤ, min_ℤ, positive_part, same_ℤ, inside, sum_ℤ}
-use Rattle.refusals.specs.Refusals.{Judged, passed, refused, refusal, then, unless, refuse_at, refuse_first, need}
+use Rattle.refusals.specs.Refusals.{Judged, then, unless, refuse_at, refuse_first, need, below_zero, given_twice, no_row, unlimited}
 use Rattle.types.specs.Ranges.{header_fits, allocated_items, zone_fits, exists, hubs_fit, hubs_of, border_fits, border_of, share_of, row_of, row_fits, factor_fits, worth, default_of}
 use Rattle.tablerules.specs.Table.{Table, stretch, balanced, twice, room_for, judge_shape, judge_for}
 use Rattle.marginrules.specs.Margin.{grains, f0core_of, fuaf_of, base_of, amr_of, signed_factor, p_of, lta_kw, s_of, lta_margin_of, ram_of, ram_at}
@@ -41,14 +42,14 @@ starts t = judge_marked every t
 
 pub record OrderAnchors : Type 0 where
   -- a border given twice and a malformed claim: 4, place 1
-  pub twice_first : claims_answer (hour 2 0 (pos 20000 ∷ pos 0 ∷ [])) (malformed ∷ []) ≡ refused (refusal 4 1 0)
+  pub twice_first : claims_answer (hour 2 0 (pos 20000 ∷ pos 0 ∷ [])) (malformed ∷ []) ≡ Err (given_twice 1)
   -- tables that the extraction refuses by 5, 6 and 7: with no claims each is passed
-  pub five : starts (hour 1 0 (pos 4999 ∷ pos 0 ∷ [])) ≡ refused (refusal 5 0 0)
-  pub not_five : claims_answer (hour 1 0 (pos 4999 ∷ pos 0 ∷ [])) [] ≡ passed (row 1000000000 1)
-  pub six : starts (hour 1 0 (pos 0 ∷ pos 20000 ∷ [])) ≡ refused (refusal 6 0 0)
-  pub not_six : claims_answer (hour 1 0 (pos 0 ∷ pos 20000 ∷ [])) [] ≡ passed (row 1000000000 0)
-  pub seven : starts (hour 1 1 (pos 20000 ∷ pos 0 ∷ [])) ≡ refused (refusal 7 0 0)
-  pub not_seven : claims_answer (hour 1 1 (pos 20000 ∷ pos 0 ∷ [])) [] ≡ passed (row 1999900000 0)
+  pub five : starts (hour 1 0 (pos 4999 ∷ pos 0 ∷ [])) ≡ Err (no_row)
+  pub not_five : claims_answer (hour 1 0 (pos 4999 ∷ pos 0 ∷ [])) [] ≡ Ok (row 1000000000 1)
+  pub six : starts (hour 1 0 (pos 0 ∷ pos 20000 ∷ [])) ≡ Err (unlimited 0)
+  pub not_six : claims_answer (hour 1 0 (pos 0 ∷ pos 20000 ∷ [])) [] ≡ Ok (row 1000000000 0)
+  pub seven : starts (hour 1 1 (pos 20000 ∷ pos 0 ∷ [])) ≡ Err (below_zero 0)
+  pub not_seven : claims_answer (hour 1 1 (pos 20000 ∷ pos 0 ∷ [])) [] ≡ Ok (row 1999900000 0)
 
 pub order_anchors : OrderAnchors
 unfolding if_zero sum table first_from given max_ℤ min_ℤ positive_part same_ℤ inside sum_ℤ header_fits allocated_items zone_fits exists hubs_fit hubs_of border_fits border_of share_of row_of row_fits factor_fits worth default_of then unless refuse_at refuse_first need stretch balanced twice room_for judge_shape judge_for grains f0core_of fuaf_of base_of amr_of signed_factor p_of lta_kw s_of lta_margin_of ram_of ram_at highest lowest spread_of shifted below state_of grid_by judge_by standings_of kept setup_with judge_claims claims_of claims_answer

@@ -1,11 +1,12 @@
 -- The corner sheet (02, E1) of the worked hour, and who has none, by computation.
+use Rattle.std.specs.Prelude.{Err, Ok}
 use mathlib.Core.Path.{refl}
 use mathlib.Core.List.{List, [], ◌∷◌, ◌++◌}
 use Prim.Native.Nat.{ℕ}
 use lib.IntN.{ℤ, pos}
 use lib.ListN.{replicate, take}
 use Rattle.numbers.specs.Ints.{minus}
-use Rattle.refusals.specs.Refusals.{passed, refused, out_of_range, given_twice, no_corners, too_short}
+use Rattle.refusals.specs.Refusals.{out_of_range, given_twice, no_corners, too_short}
 use Rattle.tablerules.specs.Table.{Table, lent}
 use Rattle.marginrules.specs.Margin.{s_of}
 use Rattle.cornerrules.specs.Corners.{judge_corners, corners_left}
@@ -44,23 +45,23 @@ every_row =
 
 pub corners : Hold (
     -- the flows in front, the rest as it was; S of row 0 is 4,000,000,000, which is also the largest flow
-    corners_left hour_table 0 (nines 5) is record { answer = passed 4; out = pos 0 ∷ pos 2000000000 ∷ pos 2000000000 ∷ pos 4000000000 ∷ pos 9 ∷ [] }
+    corners_left hour_table 0 (nines 5) is record { answer = Ok 4; out = pos 0 ∷ pos 2000000000 ∷ pos 2000000000 ∷ pos 4000000000 ∷ pos 9 ∷ [] }
     ∷ s_of (take 3 hour_table.factors) hour_table.borders is 4000000000
     -- a border that relieves the row, and the largest flow at neither end; the extraction would refuse this table (6)
-    ∷ corners_left (with_borders b_back) 0 (nines 4) is record { answer = passed 4; out = pos 0 ∷ pos 2000000000 ∷ minus 2000000000 ∷ pos 0 ∷ [] }
+    ∷ corners_left (with_borders b_back) 0 (nines 4) is record { answer = Ok 4; out = pos 0 ∷ pos 2000000000 ∷ minus 2000000000 ∷ pos 0 ∷ [] }
     -- 9 for the borders, or else for the row
-    ∷ judge_corners (many 12 (take 12 borders13)) 0 is passed (many 12 (take 12 borders13))
-    ∷ corners_left (many 13 borders13) 0 [] is record { answer = refused (no_corners 13); out = [] }
-    ∷ corners_left (many 13 borders13) 7 [] is record { answer = refused (no_corners 13); out = [] }
-    ∷ corners_left hour_table 4 [] is record { answer = refused (no_corners 4); out = [] }
+    ∷ judge_corners (many 12 (take 12 borders13)) 0 is Ok (many 12 (take 12 borders13))
+    ∷ corners_left (many 13 borders13) 0 [] is record { answer = Err (no_corners 13); out = [] }
+    ∷ corners_left (many 13 borders13) 7 [] is record { answer = Err (no_corners 13); out = [] }
+    ∷ corners_left hour_table 4 [] is record { answer = Err (no_corners 4); out = [] }
     -- 9 comes after 3 and 4, and before room for the flows
-    ∷ corners_left (many 13 (plain_border 0 0 1 ∷ borders13)) 7 [] is record { answer = refused (out_of_range 7); out = [] }
-    ∷ corners_left (with_borders b_twice) 4 [] is record { answer = refused (given_twice 1); out = [] }
-    ∷ corners_left hour_table 0 (nines 3) is record { answer = refused (too_short 4); out = nines 3 }
+    ∷ corners_left (many 13 (plain_border 0 0 1 ∷ borders13)) 7 [] is record { answer = Err (out_of_range 7); out = [] }
+    ∷ corners_left (with_borders b_twice) 4 [] is record { answer = Err (given_twice 1); out = [] }
+    ∷ corners_left hour_table 0 (nines 3) is record { answer = Err (too_short 4); out = nines 3 }
     -- the text
-    ∷ corner_text_left hour_table 1 (replicate 51 7) is record { answer = passed 50; out = shown "K 1 0 0/K 1 1 0/K 1 2 1000000000/K 1 3 1000000000/" ++ (7 ∷ []) }
-    ∷ corner_text_left hour_table 1 (replicate 49 7) is record { answer = refused (too_short 50); out = replicate 49 7 }
-    ∷ corner_text_left (with_borders b_back) 0 (replicate 51 7) is record { answer = passed 51; out = shown "K 0 0 0/K 0 1 2000000000/K 0 2 -2000000000/K 0 3 0/" }
+    ∷ corner_text_left hour_table 1 (replicate 51 7) is record { answer = Ok 50; out = shown "K 1 0 0/K 1 1 0/K 1 2 1000000000/K 1 3 1000000000/" ++ (7 ∷ []) }
+    ∷ corner_text_left hour_table 1 (replicate 49 7) is record { answer = Err (too_short 50); out = replicate 49 7 }
+    ∷ corner_text_left (with_borders b_back) 0 (replicate 51 7) is record { answer = Ok 51; out = shown "K 0 0 0/K 0 1 2000000000/K 0 2 -2000000000/K 0 3 0/" }
     -- what the program prints
     ∷ one_sheet hour_text [] 1 is shown "K 1 0 0/K 1 1 0/K 1 2 1000000000/K 1 3 1000000000/"
     ∷ one_sheet hour_text [] 4 is shown "E 9 4 0/"

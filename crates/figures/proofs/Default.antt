@@ -1,9 +1,9 @@
 -- The H line's fourth field (02, E6), by computation: what "-" is worth, what is written again, and what is refused.
+use Rattle.std.specs.Prelude.{Ok}
 use mathlib.Core.Path.{refl}
 use mathlib.Core.List.{[], ◌∷◌}
 use lib.IntN.{ℤ, pos}
 use Rattle.numbers.specs.Ints.{minus}
-use Rattle.refusals.specs.Refusals.{passed}
 use Rattle.tablerules.specs.Table.{Table}
 use Rattle.reading.specs.Reading.{read_text}
 use Rattle.writing.specs.Writing.{table_text}
@@ -34,9 +34,9 @@ pub defaults : Hold (
     ∷ answer_text (shown "H 2 1 1 0/Z 0 0/Z 1 0/B 0 0 1 100/C 0 100000 50000 0 0 7000 0 0 20000 0/") is shown "A 0 350 1 0/M 0 0 7000000000 0/R 1/"
     ∷ answer_text (shown "H 2 1 1 0/Z 0 0/Z 1 0/B 0 0 1 100/C 0 100000 50000 0 0 - 0 0 20000 0/") is shown "A 0 250 1 0/M 0 0 5000000000 0/R 1/"
     -- a written 7000 is known from none, and each is written again as it was
-    ∷ read_text (shown "H 2 1 1 7000/Z 0 0/Z 1 0/B 0 0 1 100/C 0 100000 50000 0 0 - 0 0 20000 0/") is passed (table_with (pos 7000) (minus 1))
+    ∷ read_text (shown "H 2 1 1 7000/Z 0 0/Z 1 0/B 0 0 1 100/C 0 100000 50000 0 0 - 0 0 20000 0/") is Ok (table_with (pos 7000) (minus 1))
     ∷ table_text (table_with (pos 7000) (minus 1)) is shown "H 2 1 1 7000/Z 0 0/Z 1 0/B 0 0 1 100/C 0 100000 50000 0 0 - 0 0 20000 0/"
-    ∷ read_text (shown "H 2 1 1/Z 0 0/Z 1 0/B 0 0 1 100/C 0 100000 50000 0 0 - 0 0 20000 0/") is passed (table_with (minus 1) (minus 1))
+    ∷ read_text (shown "H 2 1 1/Z 0 0/Z 1 0/B 0 0 1 100/C 0 100000 50000 0 0 - 0 0 20000 0/") is Ok (table_with (minus 1) (minus 1))
     ∷ table_text (table_with (minus 1) (minus 1)) is shown "H 2 1 1/Z 0 0/Z 1 0/B 0 0 1 100/C 0 100000 50000 0 0 - 0 0 20000 0/"
     -- 10000 is the last value inside (line 2 is missing); 3 for one more, and 2 for "-", an empty field, a fifth field
     ∷ answer_text (shown "H 2 1 1 10000/") is shown "E 2 2 0/"

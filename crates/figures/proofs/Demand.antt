@@ -1,13 +1,12 @@
 -- Demand 3 on the worked hour (01): it is true of its result, says what it should at the capacities, and rejects a result left at LTA and one after the first round only.
+use Rattle.std.specs.Prelude.{Ok, Some}
 use mathlib.Core.Path.{◌≡◌, refl}
 use mathlib.Core.List.{List, [], ◌∷◌}
-use mathlib.Core.Option.{some}
 use Prim.Native.Nat.{ℕ, zero, suc, ◌≤◌, ◌<◌}
 use native.Mathlib.Omega.{arith}
 use lib.Dec.{lit≤, lit<}
 use lib.IntN.{pos, ◌-ℤ◌}
 use lib.Signed.{◌≤ℤ◌}
-use Rattle.refusals.specs.Refusals.{passed}
 use Rattle.tablerules.specs.Table.{judge_lent}
 use Rattle.tablerules.proofs.GoodLaws.{judged_good}
 use Rattle.rounds.specs.Rounds.{State, next}
@@ -28,7 +27,7 @@ ended rounds s =
       p = 20000 ∷ 10000 ∷ 0 ∷ 5000 ∷ 0 ∷ 0 ∷ 0 ∷ 0 ∷ [];
       outcome = record { rounds = rounds; state = s };
       lasts = 21 ∷ 1 ∷ [];
-      stops = some 0 ∷ some 1 ∷ [];
+      stops = Some 0 ∷ Some 1 ∷ [];
     }
 
 abbrev state : (margins x : List ℕ) → State
@@ -47,7 +46,7 @@ both f g x y (suc zero) h = y
 both f g x y (suc (suc b)) h = absurd (omega arith)
 
 pub record HourDemand : Type 0 where
-  pub result : outcome_of hour_table ≡ passed hour_end
+  pub result : outcome_of hour_table ≡ Ok hour_end
   -- demand 3 of the hour's result
   pub holds : ResultDemand3 hour_table every hour_end
   -- at 2,599,000 and 1,800,000 kW row 0 carries 69,980,000,000 grains of 70,000,000,000, and row 1 all of its 9,000,000,000
@@ -64,11 +63,11 @@ pub record HourDemand : Type 0 where
   pub at_lta : ResultDemand3 hour_table every (ended 0 hour_start) → ⊥
   pub one_round : ResultDemand3 hour_table every (ended 1 (next (table_grid hour_table) hour_start)) → ⊥
 
-hour_end_lem : outcome_of hour_table ≡ passed hour_end
+hour_end_lem : outcome_of hour_table ≡ Ok hour_end
 unfolding computing
 hour_end_lem = refl
 
-pub hour_judged : judge_lent hour_table ≡ passed hour_table
+pub hour_judged : judge_lent hour_table ≡ Ok hour_table
 unfolding computing
 hour_judged = refl
 

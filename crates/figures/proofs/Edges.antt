@@ -1,11 +1,11 @@
 -- The edge figures of 01 that are not marked [p], "-" for R, and the two hours that show what the worked hour does not, by computation.
+use Rattle.std.specs.Prelude.{Ok}
 use mathlib.Core.Path.{refl}
 use mathlib.Core.List.{[], ◌∷◌}
 use Prim.Native.Nat.{◌+◌, ◌*◌, ◌/◌, ◌%◌}
 use lib.IntN.{pos}
 use Rattle.numbers.specs.Ints.{minus}
 use Rattle.numbers.specs.Below.{table}
-use Rattle.refusals.specs.Refusals.{passed}
 use Rattle.tablerules.specs.Table.{Table}
 use Rattle.reading.specs.Reading.{read_text}
 use Rattle.writing.specs.Writing.{table_text}
@@ -35,7 +35,7 @@ pub edges : Hold (
     ∷ answer_text [] is shown "E 2 1 0/"
     ∷ with_zone "Z 1 -0/" is shown "E 2 3 6/"
     -- Zones 16 pass, 17: 3, line 1. Borders 64 pass, 65: 3 (02, E8)
-    ∷ read_text (table_text full) is passed full
+    ∷ read_text (table_text full) is Ok full
     ∷ answer_text (shown "H 17 64 3/") is shown "E 3 1 3/"
     ∷ answer_text (shown "H 16 65 3/") is shown "E 3 1 6/"
     -- "-" in R means 7000: AMR is 1 kW, as in the figures, and RAM 70000 kW

@@ -1,4 +1,5 @@
 -- The laws behind those figures of 01 that stand for every table (`Figures.antt` lists them). No contract cites this file.
+use Rattle.std.specs.Prelude.{Ok}
 use mathlib.Core.Path.{◌≡◌, refl, sym, ap, ap₂, subst, ◌∙◌}
 use mathlib.Core.Bool.{Bool, true, false, cond, ◌&&◌, true≢false, and-false}
 use mathlib.Core.List.{List, []}
@@ -14,7 +15,6 @@ use Rattle.numbers.specs.Ints.{same_ℤ}
 use Rattle.numbers.proofs.IntLaws.{le_lt_z, same_self}
 use Rattle.numbers.proofs.BelowLaws.{table_get}
 use Rattle.numbers.proofs.TestLaws.{some_false}
-use Rattle.refusals.specs.Refusals.{passed}
 use Rattle.types.specs.Ranges.{at_ℤ, row_of, default_of}
 use Rattle.rounds.specs.Rounds.{Grid, sharers, raise}
 use Rattle.rounds.proofs.LeastLaws.{div_swap}
@@ -77,7 +77,7 @@ module _ (t : Table) (i j : ℕ) (before : i < j) (h : j < t.header.rows) (value
       (rw (below_tie (rams_of t) i j ram-tie before, factors) (shifted_self (factors_at t j)))))
 
 -- ---- one border
-pub one_border_alone : (t : Table) (r : Result) → outcome_of t ≡ passed r → t.header.borders ≡ 1 → r.outcome.rounds ≤ 1
+pub one_border_alone : (t : Table) (r : Result) → outcome_of t ≡ Ok r → t.header.borders ≡ 1 → r.outcome.rounds ≤ 1
 unfolding outcome_of result_marked grid_by setup_with
 one_border_alone t r e one =
     subst (λ (r : Result). r.outcome.rounds ≤ 1) (accepted every t r e).is

@@ -1,8 +1,9 @@
 -- The hour that is checked whole (01), as one theorem, by computation.
+use Rattle.std.specs.Prelude.{Ok}
 use mathlib.Core.Path.{refl}
 use mathlib.Core.List.{[], ◌∷◌}
 use Prim.Native.Nat.{◌*◌}
-use Rattle.refusals.specs.Refusals.{passed, either}
+use Rattle.refusals.specs.Refusals.{either}
 use Rattle.reading.specs.Reading.{read_text}
 use Rattle.writing.specs.Writing.{table_text}
 use Rattle.extractrules.specs.Start.{every}
@@ -16,7 +17,7 @@ pub hour : Hold (
     -- from text to text, byte for byte
     answer_text hour_text is hour_result
     -- the text read, and written again
-    ∷ read_text hour_text is passed hour_table
+    ∷ read_text hour_text is Ok hour_table
     ∷ table_text hour_table is hour_text
     -- N = 2, L = 22, bound 88
     ∷ n_of every hour_table is 2

@@ -1,4 +1,5 @@
 -- 02, E12: the worked intraday hour (hours/intraday.tsv), one row of which has a negative remainder, from text to text; and what T lines are refused for. By computation.
+use Rattle.std.specs.Prelude.{Err, Ok}
 use mathlib.Core.Path.{◌≡◌, refl}
 use mathlib.Core.List.{List, [], ◌∷◌, ◌++◌}
 use Prim.Native.Nat.{ℕ, ◌+◌}
@@ -7,7 +8,7 @@ use lib.IntN.{pos}
 use lib.ListN.{length}
 use Rattle.numbers.specs.Below.{table}
 use Rattle.numbers.specs.Ints.{minus}
-use Rattle.refusals.specs.Refusals.{passed, refused, refusal, either}
+use Rattle.refusals.specs.Refusals.{either, out_of_range_at, wrong_form_at}
 use Rattle.text.specs.Shown.{shown}
 use Rattle.text.specs.Written.{decimal}
 use Rattle.tablerules.specs.Table.{Table, judge_lent}
@@ -62,29 +63,29 @@ mark t = either (read_text t) (λ u. u.header.intraday) (λ w. 9)
 
 pub intraday : Hold (
     answer_text text is result
-    ∷ read_text text is passed hour
+    ∷ read_text text is Ok hour
     ∷ table_text hour is text
     -- no T line, and T all zero: another profile
     ∷ mark (with_t "") is 0
     ∷ mark (with_t "T 0 0/T 1 0/T 2 0/") is 1
     -- a T line too few, and one too many, which is a B line of another letter
-    ∷ read_text (with_t "T 0 0/T 1 0/") is refused (refusal 2 7 0)
-    ∷ read_text (with_t "T 0 0/T 1 0/T 2 0/T 3 0/") is refused (refusal 2 8 0)
+    ∷ read_text (with_t "T 0 0/T 1 0/") is Err (wrong_form_at 7 0)
+    ∷ read_text (with_t "T 0 0/T 1 0/T 2 0/T 3 0/") is Err (wrong_form_at 8 0)
     -- the sum, at the last T line; its own form and range come first
-    ∷ read_text (with_t "T 0 600000/T 1 200000/T 2 -799999/") is refused (refusal 3 7 5)
-    ∷ read_text (with_t "T 0 600000/T 1 200000/T 2 -799999x/") is refused (refusal 2 7 12)
-    ∷ read_text (with_t "T 0 600000/T 1 100000001/T 2 0/") is refused (refusal 3 6 5)
+    ∷ read_text (with_t "T 0 600000/T 1 200000/T 2 -799999/") is Err (out_of_range_at 7 5)
+    ∷ read_text (with_t "T 0 600000/T 1 200000/T 2 -799999x/") is Err (wrong_form_at 7 12)
+    ∷ read_text (with_t "T 0 600000/T 1 100000001/T 2 0/") is Err (out_of_range_at 6 5)
     -- the byte of the last position, at 2 to 16 zones: after the letter, a tab, the index and a tab
     ∷ table 15 (λ k. balance_byte (k + 2)) is table 15 (λ k. 4 + length (decimal (k + 1)))
     ∷ [])
 unfolding computing
 intraday = refl
 
-hour_end_lem : outcome_of hour ≡ passed (result_of hour)
+hour_end_lem : outcome_of hour ≡ Ok (result_of hour)
 unfolding computing
 hour_end_lem = refl
 
-hour_judged : judge_lent hour ≡ passed hour
+hour_judged : judge_lent hour ≡ Ok hour
 unfolding computing
 hour_judged = refl
 

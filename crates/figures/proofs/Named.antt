@@ -1,5 +1,6 @@
 -- Theorems of the crates below, applied to the worked hour (01), each sentence of them at a number: the values named in 01 ("Margin of a row"), S and its corners (02, E1),
 -- the row kept of two alike, and "-" replaced by the default (02, E6). It refuses a theorem that says less.
+use Rattle.std.specs.Prelude.{Ok}
 use mathlib.Core.Path.{◌≡◌, refl, sym, ap}
 use mathlib.Core.Bool.{Bool, true, false, false≢true}
 use mathlib.Core.List.{List, [], ◌∷◌}
@@ -10,7 +11,6 @@ use lib.IntN.{ℤ, pos, nat_abs}
 use lib.ListN.{drop}
 use lib.Signed.{lt_z, ◌≤ℤ◌}
 use Rattle.numbers.specs.Ints.{minus}
-use Rattle.refusals.specs.Refusals.{passed}
 use Rattle.types.specs.Ranges.{at_ℤ}
 use Rattle.tablerules.specs.Table.{Table, lent, factors_at}
 use Rattle.tablerules.specs.Good.{Good}
@@ -86,7 +86,7 @@ pub record HourNamed : Type 0 where
   pub ram_dashed : pos 70000000000 ≡ ram_at dashed 0
   pub rams_dashed : pos 70000000000 ∷ pos 9000000000 ∷ pos 12499500000 ∷ pos 100000000000 ∷ [] ≡ rams_of dashed
   pub rows_dashed : hour_end.rows ≡ standings_of dashed
-  pub outcome_dashed : passed hour_end ≡ outcome_for true [] dashed
+  pub outcome_dashed : Ok hour_end ≡ outcome_for true [] dashed
   pub outcome_marked_lem : outcome_for false (1 ∷ []) hour_table ≡ outcome_for false (1 ∷ []) dashed
 
 hour_good : Good hour_table

@@ -1,11 +1,12 @@
 -- A correction sheet at noon (02, E2), by computation: a day that it cures, one that it spoils, its refusals, and the merged table written again.
+use Rattle.std.specs.Prelude.{Err, Ok}
 use mathlib.Core.Path.{refl}
 use mathlib.Core.Bool.{true, false}
 use mathlib.Core.List.{List, [], ◌∷◌, ◌++◌}
 use Prim.Native.Nat.{ℕ}
 use Prim.Native.String.{String}
 use lib.ListN.{replicate}
-use Rattle.refusals.specs.Refusals.{passed, refused, either, wrong_form, wrong_correction, too_short}
+use Rattle.refusals.specs.Refusals.{either, wrong_form, wrong_correction, too_short}
 use Rattle.reading.specs.Reading.{read_corrected}
 use Rattle.writing.specs.Writing.{table_text}
 use Rattle.rewriting.specs.Rewriting.{rewrite_corrected_left}
@@ -50,12 +51,12 @@ pub noon : Hold (
     ∷ rewritten "0;9.000;0.000;-0.001;0.000;-;0.000;0.000;0.20000;-0.00001/" is shown "H 2 1 1/Z 0 0/Z 1 0/B 0 0 1 100/C 0 9000 0 -1 0 - 0 0 20000 -1/"
     -- the open call `rewrite_corrected`: the merged table in front, the rest as it was; too little room; the sheet's refusal, and the day's before it
     ∷ rewrite_corrected_left morning (shown "C 0 9000 0 0 0 - 0 0 20000 0/") (replicate 62 7) is record {
-      answer = passed 61;
+      answer = Ok 61;
       out = shown "H 2 1 1/Z 0 0/Z 1 0/B 0 0 1 100/C 0 9000 0 0 0 - 0 0 20000 0/" ++ (7 ∷ []);
     }
-    ∷ rewrite_corrected_left morning (shown "C 0 9000 0 0 0 - 0 0 20000 0/") (replicate 60 7) is record { answer = refused (too_short 61); out = replicate 60 7 }
-    ∷ rewrite_corrected_left morning (shown "C 1 9000 0 0 0 - 0 0 20000 0/") [] is record { answer = refused (wrong_correction 1 3); out = [] }
-    ∷ rewrite_corrected_left [] (shown "x") [] is record { answer = refused (wrong_form 1); out = [] }
+    ∷ rewrite_corrected_left morning (shown "C 0 9000 0 0 0 - 0 0 20000 0/") (replicate 60 7) is record { answer = Err (too_short 61); out = replicate 60 7 }
+    ∷ rewrite_corrected_left morning (shown "C 1 9000 0 0 0 - 0 0 20000 0/") [] is record { answer = Err (wrong_correction 1 3); out = [] }
+    ∷ rewrite_corrected_left [] (shown "x") [] is record { answer = Err (wrong_form 1); out = [] }
     ∷ [])
 unfolding computing
 noon = refl

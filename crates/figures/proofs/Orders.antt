@@ -1,11 +1,12 @@
 -- Two faults in one table, for each order that 01 names ("When the table is turned away"), and refusal 8's own number, by computation.
 -- A text's two faults, and 5, 6 and 7, are in `Refusals.antt`; room for results last is in `Lent.antt`.
+use Rattle.std.specs.Prelude.{Err}
 use mathlib.Core.Path.{refl}
 use mathlib.Core.List.{List, [], ◌∷◌, ◌++◌}
 use Prim.Native.Nat.{ℕ}
 use lib.IntN.{ℤ, pos}
 use lib.ListN.{replicate, take}
-use Rattle.refusals.specs.Refusals.{Judged, refused, refusal}
+use Rattle.refusals.specs.Refusals.{Judged, given_twice, out_of_range_at, too_short}
 use Rattle.tablerules.specs.Table.{Table, lent, judge_lent}
 use Rattle.reading.specs.Reading.{read_left}
 use Rattle.writing.specs.Writing.{write_left}
@@ -50,26 +51,26 @@ twice_text =
 
 pub ordered : Hold (
     -- refusal 8 has the number 8, in reading, on lent tables, and for each result
-    (read_left hour_text [] [] [] [] []).answer is refused (refusal 8 3 0)
-    ∷ (write_left (lent hour_table.header [] [] [] [] []) []).answer is refused (refusal 8 3 0)
-    ∷ (write_left hour_table []).answer is refused (refusal 8 252 0)
-    ∷ (extract_left hour_table [] [] []).answer is refused (refusal 8 8 0)
-    ∷ (extract_left hour_table (replicate 8 7) [] []).answer is refused (refusal 8 2 0)
+    (read_left hour_text [] [] [] [] []).answer is Err (too_short 3)
+    ∷ (write_left (lent hour_table.header [] [] [] [] []) []).answer is Err (too_short 3)
+    ∷ (write_left hour_table []).answer is Err (too_short 252)
+    ∷ (extract_left hour_table [] [] []).answer is Err (too_short 8)
+    ∷ (extract_left hour_table (replicate 8 7) [] []).answer is Err (too_short 2)
     -- short tables in the order Z, B, C, factors, p
-    ∷ judged short_z short_b hour_table.rows hour_table.factors is refused (refusal 8 3 0)
-    ∷ judged hour_table.nets short_b short_c hour_table.factors is refused (refusal 8 2 0)
-    ∷ judged hour_table.nets hour_table.borders short_c short_f is refused (refusal 8 4 0)
-    ∷ (extract_left (lent hour_table.header hour_table.nets [] hour_table.borders hour_table.rows short_f) (replicate 7 7) [] []).answer is refused (refusal 8 12 0)
+    ∷ judged short_z short_b hour_table.rows hour_table.factors is Err (too_short 3)
+    ∷ judged hour_table.nets short_b short_c hour_table.factors is Err (too_short 2)
+    ∷ judged hour_table.nets hour_table.borders short_c short_f is Err (too_short 4)
+    ∷ (extract_left (lent hour_table.header hour_table.nets [] hour_table.borders hour_table.rows short_f) (replicate 7 7) [] []).answer is Err (too_short 12)
     -- lengths before ranges, whichever table it is
-    ∷ judged far_z far_b far_c short_f is refused (refusal 8 12 0)
-    ∷ (extract_left (lent hour_table.header far_z [] far_b far_c hour_table.factors) (replicate 7 7) [] []).answer is refused (refusal 8 8 0)
+    ∷ judged far_z far_b far_c short_f is Err (too_short 12)
+    ∷ (extract_left (lent hour_table.header far_z [] far_b far_c hour_table.factors) (replicate 7 7) [] []).answer is Err (too_short 8)
     -- records by the line they would have: Z lines 2 to 4, B lines 5 and 6, C lines 7 to 10
-    ∷ judged far_z far_b hour_table.rows hour_table.factors is refused (refusal 3 4 0)
-    ∷ judged hour_table.nets far_b far_c hour_table.factors is refused (refusal 3 6 0)
+    ∷ judged far_z far_b hour_table.rows hour_table.factors is Err (out_of_range_at 4 0)
+    ∷ judged hour_table.nets far_b far_c hour_table.factors is Err (out_of_range_at 6 0)
     -- 3 before 4, also where the border comes first
-    ∷ judged hour_table.nets b_twice far_c hour_table.factors is refused (refusal 3 10 0)
+    ∷ judged hour_table.nets b_twice far_c hour_table.factors is Err (out_of_range_at 10 0)
     -- reading: 4 before 8
-    ∷ (read_left twice_text [] [] [] [] []).answer is refused (refusal 4 1 0)
+    ∷ (read_left twice_text [] [] [] [] []).answer is Err (given_twice 1)
     ∷ [])
 unfolding computing
 ordered = refl

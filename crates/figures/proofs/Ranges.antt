@@ -1,11 +1,12 @@
 -- Both ends of every range of 01 ("The table as text"): the last value inside is taken, the first outside is refused (3, with its line), by computation.
 -- Zones 16 and 17 and borders 64 and 65 are in `Edges.antt`. Below 0 no text can give a field that has no sign, and a lent record is refused.
+use Rattle.std.specs.Prelude.{Err, Ok}
 use mathlib.Core.Path.{refl}
 use mathlib.Core.List.{List, [], ◌∷◌, ◌++◌}
 use Prim.Native.Nat.{ℕ}
 use lib.IntN.{pos}
 use Rattle.numbers.specs.Ints.{minus}
-use Rattle.refusals.specs.Refusals.{passed, refused, out_of_range}
+use Rattle.refusals.specs.Refusals.{out_of_range}
 use Rattle.tablerules.specs.Table.{Table}
 use Rattle.reading.specs.Reading.{read_text}
 use Rattle.writing.specs.Writing.{table_text}
@@ -41,7 +42,7 @@ ends_table =
 
 pub ranges : Hold (
     -- the ends are inside, and "-" is written again
-    read_text ends_text is passed ends_table
+    read_text ends_text is Ok ends_table
     ∷ table_text ends_table is ends_text
     -- H: zones 2..16, borders 1..64, rows 1..200 (a header with 200 rows passes: line 2 is missing)
     ∷ answer_text (shown "H 1 1 1/") is shown "E 3 1 3/"
@@ -53,17 +54,17 @@ pub ranges : Hold (
     ∷ with_zone "Z 1 -100000001/" is shown "E 3 3 5/"
     ∷ with_zone "Z 1 100000001/" is shown "E 3 3 5/"
     -- B: from zone, to zone (both exist, not equal), LTA 0..10000
-    ∷ lent_border (minus 1) (pos 1) (pos 0) is refused (out_of_range 4)
+    ∷ lent_border (minus 1) (pos 1) (pos 0) is Err (out_of_range 4)
     ∷ with_border "B 0 2 1 0/" is shown "E 3 4 5/"
-    ∷ lent_border (pos 0) (minus 1) (pos 0) is refused (out_of_range 4)
+    ∷ lent_border (pos 0) (minus 1) (pos 0) is Err (out_of_range 4)
     ∷ with_border "B 0 0 2 0/" is shown "E 3 4 7/"
     ∷ with_border "B 0 1 1 0/" is shown "E 3 4 7/"
-    ∷ lent_border (pos 0) (pos 1) (minus 1) is refused (out_of_range 4)
+    ∷ lent_border (pos 0) (pos 1) (minus 1) is Err (out_of_range 4)
     ∷ with_border "B 0 0 1 10001/" is shown "E 3 4 9/"
     -- C: Fmax 1..10000000, FRM 0..Fmax
     ∷ with_row "C 0 0 0 0 0 0 0 0 20000 0/" is shown "E 3 5 5/"
     ∷ with_row "C 0 10000001 0 0 0 0 0 0 20000 0/" is shown "E 3 5 5/"
-    ∷ lent_row (pos 10000) (minus 1) (pos 0) (pos 0) (pos 0) is refused (out_of_range 5)
+    ∷ lent_row (pos 10000) (minus 1) (pos 0) (pos 0) (pos 0) is Err (out_of_range 5)
     ∷ with_row "C 0 10000 10001 0 0 0 0 0 20000 0/" is shown "E 3 5 11/"
     -- C: Fref and F0all -20000000..20000000
     ∷ with_row "C 0 10000 0 -20000001 0 0 0 0 20000 0/" is shown "E 3 5 13/"
@@ -71,12 +72,12 @@ pub ranges : Hold (
     ∷ with_row "C 0 10000 0 0 -20000001 0 0 0 20000 0/" is shown "E 3 5 15/"
     ∷ with_row "C 0 10000 0 0 20000001 0 0 0 20000 0/" is shown "E 3 5 15/"
     -- C: R 0..10000 or "-" (-1 in a record)
-    ∷ lent_row (pos 10000) (pos 0) (minus 2) (pos 0) (pos 0) is refused (out_of_range 5)
+    ∷ lent_row (pos 10000) (pos 0) (minus 2) (pos 0) (pos 0) is Err (out_of_range 5)
     ∷ with_row "C 0 10000 0 0 0 10001 0 0 20000 0/" is shown "E 3 5 17/"
     -- C: CVA and IVA 0..10000000
-    ∷ lent_row (pos 10000) (pos 0) (pos 0) (minus 1) (pos 0) is refused (out_of_range 5)
+    ∷ lent_row (pos 10000) (pos 0) (pos 0) (minus 1) (pos 0) is Err (out_of_range 5)
     ∷ with_row "C 0 10000 0 0 0 0 10000001 0 20000 0/" is shown "E 3 5 19/"
-    ∷ lent_row (pos 10000) (pos 0) (pos 0) (pos 0) (minus 1) is refused (out_of_range 5)
+    ∷ lent_row (pos 10000) (pos 0) (pos 0) (pos 0) (minus 1) is Err (out_of_range 5)
     ∷ with_row "C 0 10000 0 0 0 0 0 10000001 20000 0/" is shown "E 3 5 21/"
     -- C: each factor -100000..100000
     ∷ with_row "C 0 10000 0 0 0 0 0 0 20000 -100001/" is shown "E 3 5 29/"

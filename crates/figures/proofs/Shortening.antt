@@ -1,9 +1,10 @@
 -- 02, E14 on the worked hour, by computation: row 3, which another stands for, takes part and costs nothing; and its rows in the other order come to the same.
+use Rattle.std.specs.Prelude.{Ok}
 use mathlib.Core.Path.{refl}
 use mathlib.Core.Bool.{true}
 use mathlib.Core.List.{List, [], ◌∷◌}
 use Prim.Native.Nat.{ℕ, ◌-◌}
-use Rattle.refusals.specs.Refusals.{Judged, passed, then}
+use Rattle.refusals.specs.Refusals.{Judged, then}
 use Rattle.tablerules.specs.Table.{Table}
 use Rattle.rounds.specs.Rounds.{Outcome}
 use Rattle.extractrules.specs.Extraction.{Result, outcome_of}
@@ -15,10 +16,10 @@ use Rattle.figures.specs.Hour.{hour_table}
 
 -- where an outcome ends: rounds, margins left, and exchanges in kW
 abbrev ends : Judged Result → Judged Outcome
-ends j = then j (λ r. passed r.outcome)
+ends j = then j (λ r. Ok r.outcome)
 
 abbrev end : (margins : List ℕ) → Judged Outcome
-end margins = passed (record { rounds = 21; state = record { margins = margins; x = 2599999 ∷ 1800000 ∷ [] } })
+end margins = Ok (record { rounds = 21; state = record { margins = margins; x = 2599999 ∷ 1800000 ∷ [] } })
 
 -- the last row first
 abbrev turned : Table

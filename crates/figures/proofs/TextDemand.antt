@@ -1,8 +1,8 @@
 -- Demand 3 and E7 of the text that answers the worked hour (01), of every border and with border 1 marked: what they say of it in numbers, and texts that they reject.
+use Rattle.std.specs.Prelude.{None, Some}
 use mathlib.Core.Path.{◌≡◌, refl, sym, ap, subst, ◌∙◌}
 use mathlib.Core.Bool.{Bool, true, false, false≢true}
 use mathlib.Core.List.{List, [], ◌∷◌, ◌++◌, append_assoc, append-nil}
-use mathlib.Core.Option.{none, some}
 use Prim.Native.Char.{code}
 use Prim.Native.Nat.{ℕ, zero, suc, ◌*◌, ◌≤◌, ◌<◌}
 use native.Mathlib.Nat.{div-mul-le_self}
@@ -52,10 +52,10 @@ pub record HourAnswered : Type 0 where
   -- whatever text answers it: it is the hour that was read, rounds are at most 88, and row 0 stopped border 0
   pub read : (text : List ℕ) (d : Answers text) → d.table ≡ hour_table
   pub rounds : (text : List ℕ) (d : Answers text) → d.result.outcome.rounds ≤ 88
-  pub stop : (text : List ℕ) (d : Answers text) → stop_of d.result 0 ≡ some 0
+  pub stop : (text : List ℕ) (d : Answers text) → stop_of d.result 0 ≡ Some 0
   -- with border 1 marked border 0 has no last round and no row
   pub unmarked_last : (text : List ℕ) (d : AnswersMarked text) → last_of d.result 0 ≡ 0
-  pub unmarked_stop : (text : List ℕ) (d : AnswersMarked text) → stop_of d.result 0 ≡ none
+  pub unmarked_stop : (text : List ℕ) (d : AnswersMarked text) → stop_of d.result 0 ≡ None
   -- 2,600 MW are not what the hour's result is printed as, and no result of the hour is printed with 3,501 MW
   pub not_more : (d : Answers one_more) → d.result ≡ hour_end → ⊥
   pub not_beyond : Answers beyond → ⊥
@@ -105,11 +105,11 @@ stopped_0 r (suc (suc (suc (suc i)))) s = let h : suc (suc (suc (suc i))) < 4 = 
 two_borders : (t : Table) → t ≡ hour_table → 0 < t.header.borders
 two_borders t e = subst (λ (u : Table). 0 < u.header.borders) (sym e) (lit< tt)
 
-hour_stop : (text : List ℕ) (d : Answers text) → stop_of d.result 0 ≡ some 0
+hour_stop : (text : List ℕ) (d : Answers text) → stop_of d.result 0 ≡ Some 0
 hour_stop text d =
     let e = hour_read _ text d in
     let s = d.stopped 0 (two_borders _ e) refl in
-    s.found ∙ ap some (stopped_0 d.result s.row (subst (λ (t : Table). StoppedBy t (may_rise true []) d.result 0 s.row) e s.stopped))
+    s.found ∙ ap Some (stopped_0 d.result s.row (subst (λ (t : Table). StoppedBy t (may_rise true []) d.result 0 s.row) e s.stopped))
 
 hour_rounds : (text : List ℕ) (d : Answers text) → d.result.outcome.rounds ≤ 88
 unfolding computing

@@ -1,9 +1,8 @@
 -- The figures that 01 marks [p] ("Edge figures"), as one list, each under the paper's words; of every table that has them, where they can be.
 -- That they hold is one theorem, `figures` of `proofs/Figures.antt`.
-use Rattle.std.specs.Prelude.{◌≡◌, List, [], ◌∷◌, ℕ, ◌*◌, ◌≤◌, ◌<◌, ℤ, pos, get_or}
+use Rattle.std.specs.Prelude.{◌≡◌, List, [], ◌∷◌, ℕ, ◌*◌, ◌≤◌, ◌<◌, ℤ, pos, get_or, Ok}
 use Rattle.numbers.specs.Below.{at, table}
 use Rattle.numbers.specs.Ints.{minus}
-use Rattle.refusals.specs.Refusals.{passed}
 use Rattle.types.specs.declared.Row.{Row}
 use Rattle.types.specs.declared.Share.TheVariants.{Written}
 use Rattle.rounds.specs.Rounds.{Grid, sharers, raise}
@@ -49,7 +48,7 @@ pub record Figures : Type 0 where
   pub at_lta : answer_text (shown "H 2 1 1/Z 0 0/Z 1 0/B 0 0 1 100/C 0 10000 0 0 0 0 0 0 20000 0/") ≡ shown "A 0 100 0 0/M 0 0 2000000000 0/R 0/"
   pub iva_1 : answer_text (shown "H 2 1 1/Z 0 0/Z 1 0/B 0 0 1 100/C 0 10000 0 0 0 0 0 1 20000 0/") ≡ shown "E 7 0 0/"
   -- One border, one kept row (any number of rows, indeed): rounds 0 (as just above) or 1
-  pub one_border : (t : Table) (r : Result) → outcome_of t ≡ passed r → t.header.borders ≡ 1 → r.outcome.rounds ≤ 1
+  pub one_border : (t : Table) (r : Result) → outcome_of t ≡ Ok r → t.header.borders ≡ 1 → r.outcome.rounds ≤ 1
   pub one_round : answer_text (shown "H 2 1 1/Z 0 0/Z 1 0/B 0 0 1 100/C 0 100000 0 0 0 0 0 0 20000 0/") ≡ shown "A 0 500 1 0/M 0 0 10000000000 0/R 1/"
   -- Two equal rows of spread 5000: the second is state 2 (of any table; and of two such rows alone the first is kept)
   pub second_equal : (t : Table) (i j : ℕ) → i < j → j < t.header.rows → get_or t.rows i [] ≡ get_or t.rows j [] → factors_at t i ≡ factors_at t j

@@ -27,93 +27,63 @@ pub fn put(list: &[u8], k: usize, figures: &[u64], out: &mut [u8], at: usize) ->
 pub fn put_form(form: &[u8], figures: &[u64], out: &mut [u8], at: usize) -> usize
     ensures { IsPrefixLen result out.new }
 {
-    let spot = put_from(form, figures, Spot { at: at, figure: 0 }, out);
-    spot.at
+    put_from(form, figures, Spot { at, figure: 0 }, out).at
 }
 
 // Writes several forms of a list, one behind the other: each takes the figures behind those of the one before it.
 pub fn put_all(list: &[u8], lines: &[usize], figures: &[u64], out: &mut [u8], at: usize) -> usize
     ensures { IsPrefixLen result out.new }
 {
-    let mut spot = put_from(b"", figures, Spot { at: at, figure: 0 }, out);
-    for i in 0..lines.len() {
-        spot = put_from(arguments::lists::line(list, lines[i]), figures, spot, out);
+    let mut spot = Spot { at, figure: 0 };
+    for &k in lines {
+        spot = put_from(arguments::lists::line(list, k), figures, spot, out);
     }
-    spot.at
+    spot.at.min(out.len())
 }
 
 fn put_from(form: &[u8], figures: &[u64], from: Spot, out: &mut [u8]) -> Spot
     ensures { IsPrefixLen result.at out.new }
 {
-    let mut next = from.at;
-    if out.len() < next {
-        next = out.len();
-    }
-    let mut before: u8 = 0;
-    let mut j = from.figure;
-    for k in 0..form.len() {
-        let byte = form[k];
-        next = put_part(before, byte, figure(figures, j), out, next);
-        j = after(before, j);
+    let Spot { at, mut figure } = from;
+    let mut at = at.min(out.len());
+    let mut before = 0;
+    for &byte in form {
+        let value = figures.get(figure).copied().unwrap_or(0);
+        at = put_part(before, byte, value, out, at);
+        if before == b'$' {
+            figure = figure.saturating_add(1);
+        }
         before = byte;
     }
-    Spot {
-        at: next,
-        figure: j,
-    }
-}
-
-fn figure(figures: &[u64], j: usize) -> u64 {
-    if j < figures.len() { figures[j] } else { 0 }
-}
-
-// Which figure is next behind a byte that came after `before`.
-fn after(before: u8, j: usize) -> usize {
-    if before == b'$' {
-        return std::num::wrapping_add_usize(j, 1);
-    }
-    j
+    Spot { at, figure }
 }
 
 // A byte of a form, which the byte before it may make a figure.
-fn put_part(before: u8, byte: u8, v: u64, out: &mut [u8], at: usize) -> usize
+fn put_part(before: u8, byte: u8, value: u64, out: &mut [u8], at: usize) -> usize
     requires { IsPrefixLen at out.old }
     ensures { IsPrefixLen result out.new }
 {
-    if before == b'$' {
-        if byte == b'-' {
-            return at;
-        }
-        return put_figure(byte, v, out, at);
-    }
-    match byte {
-        b'$' => at,
-        b'|' => put_byte(b'\n', out, at),
+    match (before, byte) {
+        (b'$', b'-') => at,
+        (b'$', kind) => put_figure(kind, value, out, at),
+        (_, b'$') => at,
+        (_, b'|') => put_byte(b'\n', out, at),
         _ => put_byte(byte, out, at),
     }
 }
 
-const BELOW_0: u64 = 9223372036854775808;
-
 // A number below 0 as a figure.
 pub fn signed(z: i64) -> u64 {
-    let size = text::put::magnitude(z);
-    if z < 0 {
-        return std::num::wrapping_sub_u64(0, size);
-    }
-    size
+    z.cast_unsigned()
 }
 
-fn put_figure(kind: u8, v: u64, out: &mut [u8], at: usize) -> usize
+fn put_figure(kind: u8, value: u64, out: &mut [u8], at: usize) -> usize
     requires { IsPrefixLen at out.old }
     ensures { IsPrefixLen result out.new }
 {
-    let next = put_if(BELOW_0 <= v, b'-', out, at);
-    let size = if BELOW_0 <= v {
-        std::num::wrapping_sub_u64(0, v)
-    } else {
-        v
-    };
+    let z = value.cast_signed();
+    let next = put_if(z < 0, b'-', out, at);
+    let size = z.unsigned_abs();
     let steps = size / step(kind);
     let cut = steps == 0 && 0 < size;
     let next = put_if(cut, b'<', out, next);
@@ -193,7 +163,8 @@ pub fn put_byte(byte: u8, out: &mut [u8], at: usize) -> usize
 {
     if at < out.len() {
         out[at] = byte;
-        return at + 1;
+        at + 1
+    } else {
+        out.len()
     }
-    out.len()
 }

@@ -3,67 +3,60 @@
 #![tactic(auto)]
 
 use command::asked::Asked;
-use command::options::Command;
-use command::{asked, input, options};
+use command::input;
+use command::options::{Command, OptionName};
+use messages::Misuse;
 use output::Ended;
 use pageform::Figures;
 use system::System;
+use telling::Status;
 
 fn main(rt: HostRuntime) {
     let sys = System::new(rt);
-    let command = options::read_arguments(&sys);
-    options::tell(&sys, command.status, obey(&sys, command))
+    let command = Command::read(&sys);
+    telling::finish(&sys, &command, obey(&sys, &command))
 }
 
-// The status, as a digit.
-fn obey(sys: &System, command: Command) -> u8 {
-    if command.wrong {
-        return telling::digit(Ended::Failed);
+fn obey(sys: &System, command: &Command) -> Result<Status, Misuse> {
+    let asked = command.asked(sys)?;
+    if let Asked::Task(_, _) | Asked::Help | Asked::Version = asked {
+        return telling::elsewhere(command);
     }
-    match asked::understand(sys, command.plain) {
-        Asked::Why(border, table) => telling::digit(obey_read(
-            sys,
-            Of::Border(border),
-            table,
-            command,
-        )),
-        Asked::Page(table) => telling::digit(obey_read(sys, Of::Table, table, command)),
-        Asked::Changes(old, new) => telling::digit(changes::obey(sys, old, new, command)),
-        Asked::Tidy(at) => telling::digit(tidywords::obey(sys, at, command)),
-        Asked::Day => telling::digit(obey_day(sys, command)),
-        _ => telling::elsewhere(sys, command),
-    }
+    command.check(asked)?;
+    let ended = match asked {
+        Asked::Why(border, table) => obey_read(sys, command, Of::Border(border), table)?,
+        Asked::Page(table) => obey_read(sys, command, Of::Table, table)?,
+        Asked::Changes(old, new) => changes::obey(sys, command, old, new)?,
+        Asked::Tidy(at) => tidywords::obey(sys, command, at)?,
+        _ => obey_day(sys, command),
+    };
+    Ok(Status::from(ended))
 }
 
-fn obey_day(sys: &System, command: Command) -> Ended {
+fn obey_day(sys: &System, command: &Command) -> Ended {
     if !daylabels::judged(sys, command) {
         return Ended::Failed;
     }
-    let listed = arguments::list(sys, command.marks);
-    let m = listed.count;
-    let marks = listed.numbers;
-    print_day(sys, command, &marks[..m])
-}
-
-// In the form that is asked for: as a page, as a sheet, or as lines.
-fn print_day(sys: &System, command: Command, marks: &[u64]) -> Ended {
-    if command.page.at > 0 {
-        return draw_day(sys, command, marks);
+    let listed = command.marks(sys);
+    let marks = listed.as_ref().map(|list| list.as_slice());
+    // In the form that is asked for: as a page, as a sheet, or as lines.
+    if command.option(OptionName::Page).is_some() {
+        draw_day(sys, command, marks)
+    } else if command.option(OptionName::Sheet).is_some() {
+        hoursheet::print(sys, command, marks)
+    } else {
+        hours::print(sys, command, marks)
     }
-    if command.sheet.at > 0 {
-        return hoursheet::print(sys, command, marks);
-    }
-    hours::print(sys, command, marks)
 }
 
 // The page of a day: its front, and from the records of the hours their parts.
-fn draw_day(sys: &System, command: Command, marks: &[u64]) -> Ended {
+fn draw_day(sys: &System, command: &Command, marks: Option<&[u64]>) -> Ended {
     let mut day: [Figures; daysheet::HOURS_MOST] = [pagefacts::blank(); daysheet::HOURS_MOST];
     let n = dayfront::print(sys, command, marks, &mut day);
     if n == 0 {
         return Ended::Failed;
     }
-    dayparts::print(sys, command.marks.at == 0, marks, &day[..n])
+    dayparts::print(sys, marks, &day[..n])
 }
 
 // What a table is read for, as a sheet corrects it: why a border of it got no more, or its page.
@@ -73,43 +66,38 @@ enum Of {
     Table,
 }
 
-fn obey_read(sys: &System, of: Of, at: usize, command: Command) -> Ended {
-    if !options::only(sys, command, true, true, false) || !options::can_read(sys, command, 0, at) {
-        return Ended::Failed;
-    }
+fn obey_read(sys: &System, command: &Command, of: Of, at: Option<usize>) -> Result<Ended, Misuse> {
+    command.check_names(sys, None, at)?;
     let mut sheet = input::room();
     let mut table = input::room();
-    read_both(sys, of, at, command, &mut sheet, &mut table)
+    Ok(read_both(sys, command, of, at, &mut sheet, &mut table))
 }
 
 // The corrections, and then the table. The label of a page is the one that is given, or the table's name.
 fn read_both(
     sys: &System,
+    command: &Command,
     of: Of,
-    at: usize,
-    command: Command,
+    at: Option<usize>,
     sheet: &mut [u8],
     table: &mut [u8],
 ) -> Ended {
-    let corrections = input::named(sys, command.corrections, sheet);
-    if corrections.failed {
+    let corrections = command.value(OptionName::Corrections);
+    let Some(k) = input::named(sys, corrections, sheet) else {
         return Ended::Failed;
-    }
-    let read = input::table(sys, at, table);
-    if read.failed {
+    };
+    let Some(n) = input::table(sys, at, table) else {
         return Ended::Failed;
-    }
-    let k = corrections.count;
-    let n = read.count;
+    };
+    let table = &table[..n];
+    let sheet = &sheet[..k];
+    let listed = command.marks(sys);
+    let marks = listed.as_ref().map(|list| list.as_slice());
     match of {
-        Of::Border(border) => whytext::print(sys, border, command.marks, &table[..n], &sheet[..k]),
-        Of::Table => page::word::print(
-            sys,
-            command.label,
-            at,
-            command.marks,
-            &table[..n],
-            &sheet[..k],
-        ),
+        Of::Border(border) => whytext::print(sys, border, marks, table, sheet),
+        Of::Table => {
+            let label = command.value(OptionName::Label);
+            page::word::print(sys, label, at, marks, table, sheet)
+        }
     }
 }

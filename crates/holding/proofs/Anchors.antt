@@ -1,7 +1,7 @@
 -- Small computed works: which row ended a border's rise, and what rows would still allow. Nobody cites them: they refuse a definition that slipped, by the number that comes out.
+use Rattle.std.specs.Prelude.{None, Some}
 use mathlib.Core.Path.{refl}
 use mathlib.Core.List.{List, [], ◌∷◌}
-use mathlib.Core.Option.{Option, none, some}
 use Prim.Native.Nat.{ℕ}
 use lib.IntN.{pos}
 use lib.ListN.{get_or}
@@ -31,11 +31,11 @@ lone = (0 ∷ 0 ∷ []) ∷ (2 ∷ 0 ∷ []) ∷ []
 
 pub anchors : Hold (
     -- of 40 and 3 grains border 0 rises by 20 and border 1 by 3, which empties row 1: it ends border 1's rise, though at the end row 0, which comes first, stops it too
-    end_row (two nested) (from (40 ∷ 3 ∷ [])) 1 is some 1  -- by-its-row
-    ∷ end_row (two nested) (from (40 ∷ 3 ∷ [])) 0 is some 0  -- by-its-one-row
+    end_row (two nested) (from (40 ∷ 3 ∷ [])) 1 is Some 1  -- by-its-row
+    ∷ end_row (two nested) (from (40 ∷ 3 ∷ [])) 0 is Some 0  -- by-its-one-row
     -- no round raises border 1: row 1 is empty from the start, and row 0 only at the end
-    ∷ end_row (two nested) (from (8 ∷ 0 ∷ [])) 1 is some 1  -- from-the-start
-    ∷ end_row (two lone) (from (0 ∷ 7 ∷ [])) 1 is none  -- unloaded
+    ∷ end_row (two nested) (from (8 ∷ 0 ∷ [])) 1 is Some 1  -- from-the-start
+    ∷ end_row (two lone) (from (0 ∷ 7 ∷ [])) 1 is None  -- unloaded
     -- an equal share of 40 grains among 2, by 3 a kW: 6 kW, where the whole margin would allow 13
     ∷ row_left 2 0 40 (allowed 2 40 3) is (pos 2 ∷ pos 40 ∷ pos 6 ∷ [])  -- by-its-share
     -- a row that takes no part has no margin, and one with p = 0 limits nothing

@@ -1,6 +1,5 @@
 -- What the rounds of a grid say of one border, and the records of it: the row that ended its rise, what each row would still allow it, where each border started and ended.
-use Rattle.std.specs.Prelude.{◌≡◌, cond, List, [], ◌∷◌, ℕ, ◌/◌, ltb, ℤ, pos}
-use Rattle.std.proofs.Math.Option.{Option, none, some}
+use Rattle.std.specs.Prelude.{◌≡◌, cond, List, [], ◌∷◌, ℕ, ◌/◌, ltb, ℤ, pos, None, Option, Some}
 use Rattle.numbers.specs.Ints.{minus}
 use Rattle.numbers.specs.Below.{at, table}
 use Rattle.rounds.specs.declared.Final.{Final}
@@ -17,7 +16,7 @@ end_row g s b = stop_row g (after g s (last_round g s b)).margins b
 
 -- what an equal share of a margin among n would still allow a border of factor p in one round, whole kW; none where p is 0, since the row does not limit it
 abbrev pub allowed : (n margin p : ℕ) → Option ℕ
-allowed n margin p = cond (ltb 0 p) (some (margin / n / p)) none
+allowed n margin p = cond (ltb 0 p) (Some (margin / n / p)) None
 
 -- what row i would still allow border b, of its margin left
 abbrev pub allowed_by : Grid → (left : List ℕ) → (b i : ℕ) → Option ℕ
@@ -30,8 +29,8 @@ ends_left from to = pos from ∷ pos to ∷ []
 
 -- a row's record: n; margin left, grains, or -1 where the state is not 0; what it would still allow the border, kW, or -1 where it does not limit it
 abbrev pub kw_or_dash : Option ℕ → ℤ
-kw_or_dash none = minus 1
-kw_or_dash (some kw) = pos kw
+kw_or_dash None = minus 1
+kw_or_dash (Some kw) = pos kw
 
 abbrev pub row_left : (n state margin : ℕ) → (allows : Option ℕ) → List ℤ
 row_left n state margin allows = pos n ∷ left_of_margin state margin ∷ kw_or_dash allows ∷ []

@@ -6,11 +6,13 @@ ghost use Rattle.std.specs.Prelude.{◌≡◌, ℕ, ◌*◌, ◌^◌, ◌<◌, �
 ghost use Rattle.numbers.specs.Below.{at, table, over};
 ghost use Rattle.limits.specs.Limits.{borders_most};
 ghost use Rattle.rounds.specs.Stopping.{stop_row};
-ghost use Rattle.rounds.specs.AllRounds.{flat, Ready, Startable};
+ghost use Rattle.rounds.specs.AllRounds.{Ready, Startable};
+ghost use Rattle.walk.specs.Flat.{flat_of};
 ghost use Rattle.outcome.specs.Outcome.{row_or_dash, left_of_margin};
 ghost use Rattle.holding.specs.Holding.{allowed, kw_or_dash, ends_left, row_left, counts_of, Worked};
 
 use rounds::Final;
+use walk::grid::{Grid, equal_share};
 
 // Stands for a row, a margin or kW where there is none.
 const DASH: i64 = -1;
@@ -36,15 +38,14 @@ pub struct Reasons {
 }
 
 // The first row whose equal share of these margins is less than p of border `b`, which is what one kW takes of it; or `DASH`.
-fn holder(rows: usize, borders: usize, p: &[u64], ns: &[u64], margins: &[u64], b: usize) -> i64
-    requires borders_in_bounds { (rows * borders ≤ length p.now) × (b < borders) × (rows < 2 ^ 63) }
-    requires ready { Ready (flat rows borders p.now) ns.now margins.now }
-    ensures { result ≡ row_or_dash (stop_row (flat rows borders p.now) margins.now b) }
+fn holder(grid: &Grid, ns: &[u64], margins: &[u64], b: usize) -> i64
+    requires borders_in_bounds { (b < grid.now.borders) × (grid.now.rows < 2 ^ 63) }
+    requires ready { Ready (flat_of grid.now) ns.now margins.now }
+    ensures { result ≡ row_or_dash (stop_row (flat_of grid.now) margins.now b) }
 {
-    for i in 0..rows {
-        let share = walk::grid::equal_share(margins[i], ns[i]);
-        let f = walk::grid::factor(rows, borders, p, i, b);
-        if share < f {
+    for i in 0..grid.rows {
+        let share = equal_share(margins[i], ns[i]);
+        if share < grid.factor(i, b) {
             return i as i64;
         }
     }
@@ -58,25 +59,14 @@ pub struct Stops {
     pub ended: i64,
 }
 
-pub fn find_stops(
-    rows: usize,
-    borders: usize,
-    p: &[u64],
-    ns: &[u64],
-    margins: &[u64],
-    stood: &[u64],
-    b: usize,
-) -> Stops
-    requires borders_in_bounds { (rows * borders ≤ length p.now) × (b < borders) × (rows < 2 ^ 63) }
-    requires ready { Ready (flat rows borders p.now) ns.now margins.now × Ready (flat rows borders p.now) ns.now stood.now }
-    ensures { (result.named ≡ row_or_dash (stop_row (flat rows borders p.now) margins.now b)) × (result.ended ≡ row_or_dash (stop_row (flat rows borders p.now) stood.now b)) }
+pub fn find_stops(grid: &Grid, ns: &[u64], margins: &[u64], stood: &[u64], b: usize) -> Stops
+    requires borders_in_bounds { (b < grid.now.borders) × (grid.now.rows < 2 ^ 63) }
+    requires ready { Ready (flat_of grid.now) ns.now margins.now × Ready (flat_of grid.now) ns.now stood.now }
+    ensures { (result.named ≡ row_or_dash (stop_row (flat_of grid.now) margins.now b)) × (result.ended ≡ row_or_dash (stop_row (flat_of grid.now) stood.now b)) }
 {
-    let named = holder(rows, borders, p, ns, margins, b);
-    let ended = holder(rows, borders, p, ns, stood, b);
-    Stops {
-        named: named,
-        ended: ended,
-    }
+    let named = holder(grid, ns, margins, b);
+    let ended = holder(grid, ns, stood, b);
+    Stops { named, ended }
 }
 
 // What an equal share of the margin would still allow a border of factor `f` in one round, kW, or `DASH` where the row does not limit it.
@@ -87,7 +77,7 @@ fn allow(n: u64, margin: u64, f: u64) -> i64
     if f == 0 {
         return DASH;
     }
-    (walk::grid::equal_share(margin, n) / f) as i64
+    (equal_share(margin, n) / f) as i64
 }
 
 // The margin left, or `DASH` where the row took no part.
@@ -102,29 +92,24 @@ fn hold(n: u64, state: u64, margin: u64, f: u64) -> HoldRecord
     requires { (n < 2 ^ 63) × (margin < 2 ^ 63) }
     ensures { result ≡ row_left n state margin (allowed n margin f) }
 {
-    let left = margin_left(state, margin);
-    let kw = allow(n, margin, f);
-    [n as i64, left, kw]
+    [n as i64, margin_left(state, margin), allow(n, margin, f)]
 }
 
 pub fn store_holds(
-    rows: usize,
-    borders: usize,
-    p: &[u64],
+    grid: &Grid,
     states: &[u64],
     ns: &[u64],
     margins: &[u64],
     b: usize,
     out: &mut [HoldRecord],
 )
-    requires borders_in_bounds { (rows * borders ≤ length p.now) × (b < borders) × (rows ≤ length out.old) }
-    requires states_len { (length states.now ≡ rows) × (length ns.now ≡ rows) × (length margins.now ≡ rows) }
-    requires by_index { (i : ℕ) → i < rows → (at ns.now i < 2 ^ 63) × (at margins.now i < 2 ^ 63) }
-    ensures { out.new ≡ over (table rows (λ i. row_left (at ns.now i) (at states.now i) (at margins.now i) (allowed (at ns.now i) (at margins.now i) ((flat rows borders p.now).p i b)))) out.old }
+    requires borders_in_bounds { (b < grid.now.borders) × (grid.now.rows ≤ length out.old) }
+    requires states_len { (length states.now ≡ grid.now.rows) × (length ns.now ≡ grid.now.rows) × (length margins.now ≡ grid.now.rows) }
+    requires by_index { (i : ℕ) → i < grid.now.rows → (at ns.now i < 2 ^ 63) × (at margins.now i < 2 ^ 63) }
+    ensures { out.new ≡ over (table grid.now.rows (λ i. row_left (at ns.now i) (at states.now i) (at margins.now i) (allowed (at ns.now i) (at margins.now i) ((flat_of grid.now).p i b)))) out.old }
 {
-    for i in 0..rows {
-        let f = walk::grid::factor(rows, borders, p, i, b);
-        out[i] = hold(ns[i], states[i], margins[i], f);
+    for i in 0..grid.rows {
+        out[i] = hold(ns[i], states[i], margins[i], grid.factor(i, b));
     }
 }
 
@@ -138,21 +123,10 @@ pub fn store_ends(from: &[u64], to: &[u64], out: &mut [EndRecord])
     }
 }
 
-fn copy(from: &[u64], to: &mut [u64])
-    requires { length to.old ≡ length from.now }
-    ensures { to.new ≡ from.now }
-{
-    for i in 0..from.len() {
-        to[i] = from[i];
-    }
-}
-
 // The rounds, and what the margins were after the last that raised border `b`: `margins` is left with those at the end, `stood` with those. The rounds keep none between, so
 // as many are done once more. `ns` and `lasts` are memory to work in, and are left with n of each row and each border's last round.
 pub fn work(
-    rows: usize,
-    borders: usize,
-    p: &[u64],
+    grid: &Grid,
     from: [u64; limits::BORDERS_MOST],
     b: usize,
     ns: &mut [u64],
@@ -160,14 +134,14 @@ pub fn work(
     margins: &mut [u64],
     stood: &mut [u64],
 ) -> Final
-    requires borders_in_bounds { (rows * borders ≤ length p.now) × (b < borders) × (borders ≤ borders_most) }
-    requires startable { Startable (flat rows borders p.now) (counts_of (flat rows borders p.now)) margins.old from }
-    requires ns_len { (length ns.old ≡ rows) × (length lasts.old ≡ borders) × (length stood.old ≡ rows) }
-    ensures { Worked (flat rows borders p.now) margins.old from b result margins.new lasts.new ns.new stood.new }
+    requires borders_in_bounds { (b < grid.now.borders) × (grid.now.borders ≤ borders_most) }
+    requires startable { Startable (flat_of grid.now) (counts_of (flat_of grid.now)) margins.old from }
+    requires ns_len { (length ns.old ≡ grid.now.rows) × (length lasts.old ≡ grid.now.borders) × (length stood.old ≡ grid.now.rows) }
+    ensures { Worked (flat_of grid.now) margins.old from b result margins.new lasts.new ns.new stood.new }
 {
-    copy(margins, stood);
-    walk::grid::count_sharers(rows, borders, p, ns);
-    let end = roundloop::extract_rounds(rows, borders, p, ns, margins, from, lasts);
-    replay::replay(rows, borders, p, ns, lasts[b], stood);
+    stood.copy_from_slice(margins);
+    grid.count_sharers(ns);
+    let end = roundloop::extract_rounds(grid, ns, margins, from, lasts);
+    replay::replay(grid, ns, lasts[b], stood);
     end
 }

@@ -1,18 +1,18 @@
 -- The laws of an hour's items: how a loop stores them, and how large a way's parts are. No contract cites this file.
+use Rattle.std.specs.Prelude.{Option, Some}
 use mathlib.Core.Path.{◌≡◌, refl, sym, ap, subst, ◌∙◌}
 use mathlib.Core.Bool.{true}
 use mathlib.Core.List.{List, []}
-use Prim.Native.Nat.{ℕ, suc, ◌+◌, ◌≤◌, ◌<◌}
+use Prim.Native.Nat.{ℕ, ◌+◌, ◌≤◌, ◌<◌}
 use native.Mathlib.Numerals.{add-one}
 use native.Mathlib.Omega.{arith}
 use lib.IntN.{ℤ, nat_abs}
 use lib.ListN.{length, get_or, set, length-set}
 use lib.Seq.{paste, paste-zero, paste-suc}
 use Rattle.limits.specs.Limits.{zones_most}
-use Rattle.numbers.specs.Below.{at, table}
+use Rattle.numbers.specs.Below.{at}
 use Rattle.numbers.proofs.BelowLaws.{table_long, table_get}
 use Rattle.types.specs.declared.Hubs.{Hubs}
-use Rattle.types.specs.declared.Hubs.TheVariants.{Without, Between}
 use Rattle.types.specs.declared.Border.{Border}
 use Rattle.types.specs.Ranges.{at_ℤ, border_fits, border_of}
 use Rattle.marginrules.specs.Magnitudes.{HubsWithin}
@@ -68,11 +68,11 @@ module _ (zones : ℕ) (raw : List ℤ) (few : zones ≤ zones_most) (fits : bor
       let r = border_judged zones raw fits is in
       (omega (arith, r.from_in), omega (arith, r.to_in))
 
-  pub hubs_few : {sending receiving : ℕ} → border.hubs ≡ Between sending receiving → (sending + 1 ≤ zones_most) × (receiving + 1 ≤ zones_most)
-  hubs_few {sending} {receiving} e =
-      let h : (sending < zones) × (receiving < zones) = subst (HubsWithin zones) e (border_judged zones raw fits is).hubs_in in
+  pub hubs_few : {hubs : Hubs} → border.hubs ≡ Some hubs → (hubs.sending + 1 ≤ zones_most) × (hubs.receiving + 1 ≤ zones_most)
+  hubs_few {hubs} e =
+      let h : (hubs.sending < zones) × (hubs.receiving < zones) = subst (HubsWithin zones) e (border_judged zones raw fits is).hubs_in in
       (omega (arith, h.0), omega (arith, h.1))
 
-  pub way_by : {hubs : Hubs} → border.hubs ≡ hubs → {v : ℕ} → v ≡ way_of border.from border.to (sending_of hubs) (receiving_of hubs) → v ≡ border_way (border_of raw)
+  pub way_by : {hubs : Option Hubs} → border.hubs ≡ hubs → {v : ℕ} → v ≡ way_of border.from border.to (sending_of hubs) (receiving_of hubs) → v ≡ border_way (border_of raw)
   unfolding border_way
-  way_by e q = q ∙ ap (λ (h : Hubs). way_of border.from border.to (sending_of h) (receiving_of h)) (sym e) ∙ ap (λ (b : Border). border_way b) is
+  way_by e q = q ∙ ap (λ (h : Option Hubs). way_of border.from border.to (sending_of h) (receiving_of h)) (sym e) ∙ ap (λ (b : Border). border_way b) is

@@ -1,21 +1,20 @@
 -- The items of an hour's borders: where each goes, and its ATC; and items at a place of a table. Contracts of `items` cite them.
-use Rattle.std.specs.Prelude.{List, [], ℕ, ◌+◌, ℤ, nat_abs, length, get_or}
+use Rattle.std.specs.Prelude.{List, [], ℕ, ◌+◌, ℤ, nat_abs, length, get_or, None, Option, Some}
 use Rattle.std.proofs.Math.Seq.{paste}
 use Rattle.numbers.specs.Below.{table}
 use Rattle.types.specs.declared.Hubs.{Hubs}
-use Rattle.types.specs.declared.Hubs.TheVariants.{Without, Between}
 use Rattle.types.specs.declared.Border.{Border}
 use Rattle.types.specs.Ranges.{at_ℤ, border_of}
 use Rattle.daysheet.specs.Sheet.{way_of}
 
 -- a hub in a way: one higher than its zone, and 0 where there is none
-abbrev pub sending_of : Hubs → ℕ
-sending_of Without = 0
-sending_of (Between sending receiving) = sending + 1
+abbrev pub sending_of : Option Hubs → ℕ
+sending_of None = 0
+sending_of (Some hubs) = hubs.sending + 1
 
-abbrev pub receiving_of : Hubs → ℕ
-receiving_of Without = 0
-receiving_of (Between sending receiving) = receiving + 1
+abbrev pub receiving_of : Option Hubs → ℕ
+receiving_of None = 0
+receiving_of (Some hubs) = hubs.receiving + 1
 
 -- where a border goes
 unfoldable pub border_way : Border → ℕ

@@ -7,15 +7,15 @@ ghost use Rattle.daysheet.specs.Sheet.{way_of};
 ghost use Rattle.hourfigures.specs.Items.{border_way, ways_of, atcs_of, pasted};
 
 use outcome::AtcRecord;
-use types::{Border, BorderRecord, Hubs};
+use types::{Border, BorderRecord};
 
 pub fn keep_ways(zones: usize, b: &[BorderRecord], place: usize, ways: &mut [u64])
     requires zones_le_zones_most { (zones ≤ zones_most) × BordersInRange zones b.now }
     requires borders_most_in_bounds { place + borders_most ≤ length ways.old }
     ensures { ways.new ≡ pasted place (ways_of b.now) ways.old }
 {
-    for i in 0..b.len() {
-        let way = way_of(zones, b[i]);
+    for (i, &raw) in b.iter().enumerate() {
+        let way = way_of(zones, raw);
         ways[place + i] = way;
     }
 }
@@ -26,12 +26,9 @@ fn way_of(zones: usize, raw: BorderRecord) -> u64
     ensures { result ≡ border_way (border_of raw) }
 {
     let border = Border::of_good(zones, raw);
-    let hubs = border.hubs;
-    match hubs {
-        Hubs::Without => numbered(border.from, border.to, 0, 0),
-        Hubs::Between(sending, receiving) => {
-            numbered(border.from, border.to, sending + 1, receiving + 1)
-        }
+    match border.hubs {
+        None => numbered(border.from, border.to, 0, 0),
+        Some(hubs) => numbered(border.from, border.to, hubs.sending + 1, hubs.receiving + 1),
     }
 }
 
@@ -46,8 +43,7 @@ pub fn keep_atcs(atc: &[AtcRecord], place: usize, atcs: &mut [u64])
     requires { (length atc.now ≤ borders_most) × (place + borders_most ≤ length atcs.old) }
     ensures { atcs.new ≡ pasted place (atcs_of atc.now) atcs.old }
 {
-    for i in 0..atc.len() {
-        let record = atc[i];
+    for (i, record) in atc.iter().enumerate() {
         atcs[place + i] = text::put::magnitude(record[0]);
     }
 }

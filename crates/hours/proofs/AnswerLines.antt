@@ -1,5 +1,6 @@
 -- The answer to an hour's table consists of whole lines, at most 265 of them: an A line for each border, an M line for each row, and the R line; or one E line.
 -- No contract cites this file.
+use Rattle.std.specs.Prelude.{Err, Ok}
 use mathlib.Core.Path.{◌≡◌, refl, sym, ap, subst, ◌∙◌}
 use mathlib.Core.Bool.{Bool, true}
 use mathlib.Core.List.{List, [], ◌∷◌, ◌++◌}
@@ -12,7 +13,7 @@ use Rattle.limits.specs.Limits.{borders_most, rows_most}
 use Rattle.numbers.specs.Below.{table}
 use Rattle.numbers.proofs.BelowLaws.{table_long}
 use Rattle.refusals.specs.declared.Refusal.{Refusal}
-use Rattle.refusals.specs.Refusals.{Judged, passed, refused, then, either}
+use Rattle.refusals.specs.Refusals.{Judged, then, either, number_of, place_of, byte_of}
 use Rattle.refusals.proofs.RefusalLaws.{passed_is, then_passed, either_passed, either_refused}
 use Rattle.types.specs.declared.Header.{Header}
 use Rattle.types.proofs.RangeLaws.{header_in_lem}
@@ -54,14 +55,14 @@ rounds_one rounds =
 refusal_one : (w : Refusal) → OneLine (refusal_text w)
 unfolding refusal_text tabbed
 refusal_one w =
-    let number = decimal w.number in
-    let place = decimal w.place in
-    let byte = decimal w.byte in
-    let last = no_feed_append byte [] (decimal_no_feed w.byte) tt in
-    let more = no_feed_append place (tab ∷ (byte ++ [])) (decimal_no_feed w.place) (refl, last) in
+    let number = decimal (number_of w) in
+    let place = decimal (place_of w) in
+    let byte = decimal (byte_of w) in
+    let last = no_feed_append byte [] (decimal_no_feed (byte_of w)) tt in
+    let more = no_feed_append place (tab ∷ (byte ++ [])) (decimal_no_feed (place_of w)) (refl, last) in
     record {
       front = code "E" ∷ tabbed (number ∷ place ∷ byte ∷ []);
-      plain = (refl, (refl, no_feed_append number (tab ∷ (place ++ (tab ∷ (byte ++ [])))) (decimal_no_feed w.number) (refl, more)));
+      plain = (refl, (refl, no_feed_append number (tab ∷ (place ++ (tab ∷ (byte ++ [])))) (decimal_no_feed (number_of w)) (refl, more)));
       is = line_tabbed (code "E") (number ∷ place ∷ byte ∷ []);
     }
 
@@ -94,10 +95,10 @@ records_lines atcs lefts rounds b r =
     }
 
 -- ---- the result of a good table
-result_header : (all : Bool) (marks : List ℕ) (t : Table) (r : Result) → outcome_for all marks t ≡ passed r → r.header ≡ t.header
+result_header : (all : Bool) (marks : List ℕ) (t : Table) (r : Result) → outcome_for all marks t ≡ Ok r → r.header ≡ t.header
 unfolding outcome_for outcome_marked result_marked
 result_header all marks t r e =
-    let a = then_passed (judge_asked all t.header.borders marks (passed marks)) _ r (asked_then all t.header.borders marks marks (outcome_marked (may_rise all marks) t) ∙ e) in
+    let a = then_passed (judge_asked all t.header.borders marks (Ok marks)) _ r (asked_then all t.header.borders marks marks (outcome_marked (may_rise all marks) t) ∙ e) in
     let b = then_passed (judge_marked (may_rise all marks) t) _ r a.second in
     ap (λ (x : Result). x.header) (sym (passed_is _ _ b.second))
 
@@ -115,8 +116,8 @@ unfolding answer_for
 answer_lines all marks text = go (then (read_text text) (outcome_for all marks)) refl
   where
     go : (j : Judged Result) → then (read_text text) (outcome_for all marks) ≡ j → Lines (either j result_text refusal_text)
-    go (passed r) e =
+    go (Ok r) e =
         let d = then_passed (read_text text) (outcome_for all marks) r e in
         subst (λ (s : List ℕ). Lines s) (sym (either_passed _ _ refl))
         (result_lines d.it (corrected_good text [] d.it (empty_sheet text ∙ d.first)) r (result_header all marks d.it r d.second))
-    go (refused w) e = subst (λ (s : List ℕ). Lines s) (sym (either_refused _ _ refl)) (one_lines (refusal_one w))
+    go (Err w) e = subst (λ (s : List ℕ). Lines s) (sym (either_refused _ _ refl)) (one_lines (refusal_one w))

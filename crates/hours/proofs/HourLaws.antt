@@ -1,4 +1,5 @@
 -- That what the calls leave is an hour's lines, and that no hour's lines are too long. No contract cites this file.
+use Rattle.std.specs.Prelude.{Ok}
 use mathlib.Core.Path.{◌≡◌, sym, ap, subst, ◌∙◌}
 use mathlib.Core.Bool.{Bool, true}
 use mathlib.Core.List.{List, []}
@@ -6,8 +7,7 @@ use Prim.Native.Nat.{ℕ, ◌≤◌}
 use native.Mathlib.Omega.{arith}
 use lib.ListN.{length, take}
 use Rattle.limits.specs.Limits.{bytes_most}
-use Rattle.refusals.specs.declared.Written.{Written}
-use Rattle.refusals.specs.Refusals.{passed, either}
+use Rattle.refusals.specs.Refusals.{either, Judged}
 use Rattle.refusals.proofs.RefusalLaws.{passed_is}
 use Rattle.text.specs.Left.{text_said}
 use Rattle.result.specs.Asked.{bytes_asked}
@@ -24,13 +24,13 @@ use Rattle.daylines.proofs.PutLaws.{hour_fits}
 use Rattle.hours.proofs.AnswerLines.{answer_lines}
 
 -- ---- what the call leaves is the answer: it asks for no more bytes than there are
-pub answer_left_lem : (all : Bool) (marks text out : List ℕ) (r : Written) {out' out'' : List ℕ} {n : ℕ} → text_said r out' ≡ answer_with_left all marks text [] out → bytes_asked r ≤ answer_most
+pub answer_left_lem : (all : Bool) (marks text out : List ℕ) (r : Judged ℕ) {out' out'' : List ℕ} {n : ℕ} → text_said r out' ≡ answer_with_left all marks text [] out → bytes_asked r ≤ answer_most
     → bytes_most ≤ length out → Told r out' n out'' → Printed n (answer_for all marks text) out''
 unfolding answer_for_left either
 answer_left_lem all marks text out r said few room told =
     let left = said ∙ empty_answer_left all marks text out in
     let fits = asked_fits (answer_for all marks text) out _ r left (omega (arith, few, room)) in
-    told_printed (passed (answer_for all marks text)) out r (λ s e. subst (λ (x : List ℕ). length x ≤ length out) (passed_is _ _ e) fits) left told
+    told_printed (Ok (answer_for all marks text)) out r (λ s e. subst (λ (x : List ℕ). length x ≤ length out) (passed_is _ _ e) fits) left told
 
 -- ---- no hour's lines are too long
 module _ (name : List ℕ) {label : List ℕ} (is : label ≡ label_of name) (short : length (label_of name) ≤ label_most) (out : List ℕ) (room : hour_room ≤ length out) where

@@ -3,6 +3,7 @@
 
 ghost use Rattle.std.specs.Prelude.{◌≡◌, ◌≤◌, length};
 ghost use Rattle.limits.specs.Limits.{bytes_most};
+ghost use Rattle.marks.specs.Marks.{every, listed};
 ghost use Rattle.answer.specs.Result.{answer_for};
 ghost use Rattle.output.specs.Buffer.{Printed};
 ghost use Rattle.daylines.specs.Label.{label_of};
@@ -10,8 +11,8 @@ ghost use Rattle.daylines.specs.Labelled.{labelled};
 ghost use Rattle.daylines.specs.Day.{unread_text};
 ghost use Rattle.daylines.specs.Room.{label_most, hour_room};
 
+use command::input;
 use command::options::Command;
-use command::{input, options};
 use daylines::label;
 use messages::day;
 use output::Ended;
@@ -35,7 +36,7 @@ fn lines_room() -> [u8; ROOM]
 }
 
 // Prints the lines of the files that the command names.
-pub fn print(sys: &System, command: Command, marks: &[u64]) -> Ended {
+pub fn print(sys: &System, command: &Command, marks: Option<&[u64]>) -> Ended {
     let mut name = arguments::room();
     let mut text = input::room();
     let mut answer = answer_room();
@@ -54,8 +55,8 @@ pub fn print(sys: &System, command: Command, marks: &[u64]) -> Ended {
 // One hour after another. What was printed before an error stays printed.
 fn print_hours(
     sys: &System,
-    command: Command,
-    marks: &[u64],
+    command: &Command,
+    marks: Option<&[u64]>,
     name: &mut [u8],
     text: &mut [u8],
     answer: &mut [u8],
@@ -63,19 +64,15 @@ fn print_hours(
 ) -> Ended
     requires { (length answer.old ≡ bytes_most) × (hour_room ≤ length out.old) }
 {
-    let all = command.marks.at == 0;
-    let count = sys.arg_count();
     let mut refused = false;
-    let mut i = options::next_file(command, 1, count);
-    while i < count {
+    for i in (1..sys.arg_count()).filter(|&i| command.is_file(i)) {
         let n = sys.arg(i, name);
-        let ended = print_hour(sys, &name[..n], all, marks, text, answer, out);
+        let ended = print_hour(sys, &name[..n], marks, text, answer, out);
         match ended {
             Ended::Answered => {}
             Ended::Refused(_, _, _) => refused = true,
             Ended::Failed => return ended,
         }
-        i = options::next_file(command, i + 1, count);
     }
     if refused {
         return Ended::Refused(0, 0, 0);
@@ -87,8 +84,7 @@ fn print_hours(
 fn print_hour(
     sys: &System,
     name: &[u8],
-    all: bool,
-    marks: &[u64],
+    marks: Option<&[u64]>,
     text: &mut [u8],
     answer: &mut [u8],
     out: &mut [u8],
@@ -99,12 +95,10 @@ fn print_hour(
     if daylines::LABEL_MOST < label.len() {
         return Ended::Failed;
     }
-    let read = input::read_by_name(sys, name, text);
-    if read.failed {
+    let Some(n) = input::read_by_name(sys, name, text) else {
         return print_unread(sys, name, out);
-    }
-    let n = read.count;
-    print_answer(sys, name, all, marks, &text[..n], answer, out)
+    };
+    print_answer(sys, name, marks, &text[..n], answer, out)
 }
 
 fn print_unread(sys: &System, name: &[u8], out: &mut [u8]) -> Ended
@@ -121,15 +115,14 @@ fn print_unread(sys: &System, name: &[u8], out: &mut [u8]) -> Ended
 fn print_answer(
     sys: &System,
     name: &[u8],
-    all: bool,
-    marks: &[u64],
+    marks: Option<&[u64]>,
     text: &[u8],
     answer: &mut [u8],
     out: &mut [u8],
 ) -> Ended
     requires { (length (label_of name.now) ≤ label_most) × (length answer.old ≡ bytes_most) × (hour_room ≤ length out.old) }
 {
-    let n = hour_lines(name, all, marks, text, answer, out);
+    let n = hour_lines(name, marks, text, answer, out);
     if !telling::written(sys, &out[..n]) {
         return Ended::Failed;
     }
@@ -150,25 +143,24 @@ fn heard(sys: &System, label: &[u8], lines: &[u8], text: &[u8]) -> Ended {
 // The lines of an hour whose table was read, under the label of its file.
 fn hour_lines(
     name: &[u8],
-    all: bool,
-    marks: &[u64],
+    marks: Option<&[u64]>,
     text: &[u8],
     answer: &mut [u8],
     out: &mut [u8],
 ) -> usize
     requires { (length (label_of name.now) ≤ label_most) × (length answer.old ≡ bytes_most) × (hour_room ≤ length out.old) }
-    ensures { Printed result (labelled (label_of name.now) (answer_for all marks.now text.now)) out.new }
+    ensures { Printed result (labelled (label_of name.now) (answer_for (every marks.entry) (listed marks.entry) text.now)) out.new }
 {
-    let n = put_answer(all, marks, text, answer);
+    let n = put_answer(marks, text, answer);
     daylines::put_labelled(label::label_of(name), &answer[..n], out)
 }
 
 // The answer to a table's text. There is room for every answer.
-fn put_answer(all: bool, marks: &[u64], text: &[u8], out: &mut [u8]) -> usize
+fn put_answer(marks: Option<&[u64]>, text: &[u8], out: &mut [u8]) -> usize
     requires { bytes_most ≤ length out.old }
-    ensures { Printed result (answer_for all marks.now text.now) out.new }
+    ensures { Printed result (answer_for (every marks.entry) (listed marks.entry) text.now) out.new }
 {
-    let answered = answer::answer_with(text, b"", all, marks, out);
+    let answered = answer::answer_with(text, b"", marks, out);
     let said = answered.written;
     output::told(said, out)
 }

@@ -1,8 +1,8 @@
 -- A day's tables, hour after hour: an hour that came or did not, and one more hour. No contract cites this file.
+use Rattle.std.specs.Prelude.{None, Some}
 use mathlib.Core.Path.{◌≡◌, refl, sym, ap, ap₂, subst, ◌∙◌}
 use mathlib.Core.Bool.{Bool}
 use mathlib.Core.List.{List, [], ◌∷◌, ◌++◌, map}
-use mathlib.Core.Option.{none, some}
 use Prim.Native.Nat.{ℕ, suc, ◌+◌, ◌*◌, ◌≤◌, ◌<◌}
 use native.Mathlib.Nat.{add-zero}
 use native.Mathlib.Numerals.{add-one}
@@ -10,6 +10,7 @@ use native.Mathlib.Omega.{arith}
 use lib.ListN.{length, set, take, length-append}
 use lib.Seq.{paste-zero, take-suc-set}
 use Rattle.limits.specs.Limits.{borders_most}
+use Rattle.daysheet.specs.declared.Hour.{Hour}
 use Rattle.hourfigures.specs.Items.{pasted}
 use Rattle.hourfigures.specs.Figures.{Figures, figures, unread_hour, kept_of}
 use Rattle.hourtables.specs.Hour.{hour_of}
@@ -38,20 +39,20 @@ module _ (all : Bool) (marks : List ℕ) where
   module _ (k : ℕ) (ways atcs : List ℕ) where
     pub came_none : Came all marks k unread_hour.hour ways atcs ways atcs
     came_none = record {
-      came = none;
+      came = None;
       is = ap₂ (figures unread_hour.hour) (paste-zero ways (k * borders_most) []) (paste-zero atcs (k * borders_most) []);
     }
 
-    pub came_some : (text : List ℕ) {hour ways' atcs' : List ℕ} → figures hour ways' atcs' ≡ kept_of (hour_of all marks text) k ways atcs → Came all marks k hour ways atcs ways' atcs'
-    came_some text e = record { came = some text; is = e }
+    pub came_some : (text : List ℕ) {hour : Hour} {ways' atcs' : List ℕ} → figures hour ways' atcs' ≡ kept_of (hour_of all marks text) k ways atcs → Came all marks k hour ways atcs ways' atcs'
+    came_some text e = record { came = Some text; is = e }
 
   -- ---- hour after hour
-  pub day_none : (hours : List (List ℕ)) (ways atcs : List ℕ) → Day all marks 0 hours ways atcs ways atcs
+  pub day_none : (hours : List Hour) (ways atcs : List ℕ) → Day all marks 0 hours ways atcs ways atcs
   unfolding filled_by
   day_none hours ways atcs = record { cames = []; many = refl; records = refl; ways_filled = refl; atcs_filled = refl }
 
-  pub day_more : {k : ℕ} {hours : List (List ℕ)} {ways₀ atcs₀ ways atcs : List ℕ} → Day all marks k hours ways₀ atcs₀ ways atcs → k < length hours
-      → {hour ways' atcs' : List ℕ} → Came all marks k hour ways atcs ways' atcs' → Day all marks (k + 1) (set hours k hour) ways₀ atcs₀ ways' atcs'
+  pub day_more : {k : ℕ} {hours : List Hour} {ways₀ atcs₀ ways atcs : List ℕ} → Day all marks k hours ways₀ atcs₀ ways atcs → k < length hours
+      → {hour : Hour} {ways' atcs' : List ℕ} → Came all marks k hour ways atcs ways' atcs' → Day all marks (k + 1) (set hours k hour) ways₀ atcs₀ ways' atcs'
   day_more {k} {hours} {ways₀} {atcs₀} {ways} {atcs} d h {hour} {ways'} {atcs'} c =
       let f = came_of all marks c.came in
       let day = map (came_of all marks) d.cames in
@@ -62,7 +63,7 @@ module _ (all : Bool) (marks : List ℕ) where
         records =
             ap (λ (n : ℕ). take n (set hours k hour)) (add-one k)
             ∙ take-suc-set hours k hour h
-            ∙ ap₂ (λ (x : List (List ℕ)) (y : List ℕ). x ++ (y ∷ [])) d.records (ap (λ (x : Figures). x.hour) c.is)
+            ∙ ap₂ (λ (x : List Hour) (y : Hour). x ++ (y ∷ [])) d.records (ap (λ (x : Figures). x.hour) c.is)
             ∙ sym (map_append (λ came. (came_of all marks came).hour) d.cames c.came);
         ways_filled =
             ap (λ (x : Figures). x.ways) c.is

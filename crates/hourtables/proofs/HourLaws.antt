@@ -1,4 +1,5 @@
 -- From what the calls answer to an hour's figures: the extraction (`found-is`), and the text. No contract cites this file.
+use Rattle.std.specs.Prelude.{Err, Ok}
 use mathlib.Core.Path.{◌≡◌, refl, sym, ap, ap₂, ◌∙◌}
 use mathlib.Core.Bool.{Bool}
 use mathlib.Core.List.{List, []}
@@ -11,16 +12,13 @@ use Rattle.limits.specs.Limits.{borders_most, rows_most}
 use Rattle.numbers.specs.Below.{table, over}
 use Rattle.numbers.proofs.BelowLaws.{table_long, table_get, table_cong}
 use Rattle.refusals.specs.declared.Refusal.{Refusal}
-use Rattle.refusals.specs.Refusals.{Judged, passed, refused, then, either}
+use Rattle.refusals.specs.Refusals.{Judged, then, either}
 use Rattle.refusals.proofs.RefusalLaws.{passed_is, refused_is, not_passed, either_passed, either_refused}
 use Rattle.types.specs.declared.Header.{Header}
 use Rattle.types.specs.Ranges.{at_ℤ}
 use Rattle.marks.specs.Marks.{may_rise}
 use Rattle.tablerules.specs.Table.{Table}
 use Rattle.tablerules.specs.Good.{Good}
-use Rattle.extractrules.specs.declared.Extracted.{Extracted}
-use Rattle.extractrules.specs.declared.Extracted.TheVariants.{Rounds, Refused}
-use Rattle.extractrules.specs.Answers.{said_extracted}
 use Rattle.extractrules.specs.Extraction.{Result, result_marked, outcome_for, atc_of, atc_record, ExtractLeft, leaves, result_stored}
 use Rattle.extractrules.specs.Inner.{outcome_left}
 use Rattle.extractrules.proofs.AcceptedLaws.{accepted}
@@ -48,32 +46,32 @@ found rounds atcs = record { rounds = rounds; atcs = atcs }
 
 -- ---- what the extraction of a good table tells, with room for the most results
 module _ (all : Bool) (marks : List ℕ) (t : Table) (good : Good t) (ps : List ℕ) (atcs lefts : List (List ℤ)) (hb : borders_most ≤ length atcs) (hr : rows_most ≤ length lefts) where
-  pub found_is : (e : Extracted) {ps' : List ℕ} {atcs' lefts' : List (List ℤ)} → leaves (said_extracted e) ps' atcs' lefts' ≡ outcome_left (outcome_for all marks t) ps atcs lefts
+  pub found_is : (e : Judged ℕ) {ps' : List ℕ} {atcs' lefts' : List (List ℤ)} → leaves e ps' atcs' lefts' ≡ outcome_left (outcome_for all marks t) ps atcs lefts
       → found_in t.header.borders e atcs' ≡ found_for all marks t
   unfolding result_marked either then
   found_is e {ps'} {atcs'} {lefts'} said = go e (outcome_for all marks t) refl (said ∙ outcome_roomy all marks ps atcs lefts hb hr t good)
     where
-      go : (e : Extracted) (o : Judged Result) → outcome_for all marks t ≡ o
-          → leaves (said_extracted e) ps' atcs' lefts' ≡ either o (result_stored ps atcs lefts) (λ w. leaves (refused w) ps atcs lefts)
-          → found_in t.header.borders e atcs' ≡ then o (λ r. passed (found_of r))
-      go (Rounds n) (passed r) is l =
+      go : (e : Judged ℕ) (o : Judged Result) → outcome_for all marks t ≡ o
+          → leaves e ps' atcs' lefts' ≡ either o (result_stored ps atcs lefts) (λ w. leaves (Err w) ps atcs lefts)
+          → found_in t.header.borders e atcs' ≡ then o (λ r. Ok (found_of r))
+      go (Ok n) (Ok r) is l =
           let h : r.header ≡ t.header = sym (ap (λ (v : Result). v.header) (accepted (may_rise all marks) t r (for_is all marks t r is)).is) in
-          ap₂ (λ (k : ℕ) (items : List ℕ). passed (found k items))
+          ap₂ (λ (k : ℕ) (items : List ℕ). Ok (found k items))
           (passed_is _ _ (ap (λ (x : ExtractLeft). x.answer) l))
           (stored_atcs r t.header.borders atcs' atcs (ap (λ (x : Header). x.borders) h) (ap (λ (x : ExtractLeft). x.atcs) l))
-      go (Rounds n) (refused w) is l = absurd (not_passed w n (sym (ap (λ (x : ExtractLeft). x.answer) l)))
-      go (Refused w) (passed r) is l = absurd (not_passed w r.outcome.rounds (ap (λ (x : ExtractLeft). x.answer) l))
-      go (Refused w) (refused v) is l = ap refused (refused_is {A = ℕ} w v (ap (λ (x : ExtractLeft). x.answer) l))
+      go (Ok n) (Err w) is l = absurd (not_passed w n (sym (ap (λ (x : ExtractLeft). x.answer) l)))
+      go (Err w) (Ok r) is l = absurd (not_passed w r.outcome.rounds (ap (λ (x : ExtractLeft). x.answer) l))
+      go (Err w) (Err v) is l = ap Err (refused_is {A = ℕ} w v (ap (λ (x : ExtractLeft). x.answer) l))
 
 -- ---- of a text that was read
 module _ (k : ℕ) (ways atcs : List ℕ) (all : Bool) (marks text : List ℕ) where
-  pub read_kept : (t : Table) → read_corrected text [] ≡ passed t → {found : Judged Found} → found ≡ found_for all marks t → {left : Figures}
+  pub read_kept : (t : Table) → read_corrected text [] ≡ Ok t → {found : Judged Found} → found ≡ found_for all marks t → {left : Figures}
       → left ≡ kept_of (figures_by t.header t.borders found) k ways atcs → left ≡ kept_of (hour_of all marks text) k ways atcs
   unfolding hour_of
   read_kept t e f l =
       l ∙ ap (λ (x : Judged Found). kept_of (figures_by t.header t.borders x) k ways atcs) f
       ∙ ap (λ (x : Figures). kept_of x k ways atcs) (sym (either_passed _ _ (sym (empty_sheet text) ∙ e)))
 
-  pub read_refused : (w : Refusal) → read_corrected text [] ≡ refused w → {hour : List ℕ} → hour ≡ (refused_hour w).hour → figures hour ways atcs ≡ kept_of (hour_of all marks text) k ways atcs
+  pub read_refused : (w : Refusal) → read_corrected text [] ≡ Err w → figures (refused_hour w).hour ways atcs ≡ kept_of (hour_of all marks text) k ways atcs
   unfolding hour_of
-  read_refused w e said = refused_kept k ways atcs w said ∙ ap (λ (x : Figures). kept_of x k ways atcs) (sym (either_refused _ _ (sym (empty_sheet text) ∙ e)))
+  read_refused w e = refused_kept k ways atcs w ∙ ap (λ (x : Figures). kept_of x k ways atcs) (sym (either_refused _ _ (sym (empty_sheet text) ∙ e)))

@@ -1,5 +1,6 @@
 -- What an answer in text for C tells of the bytes beside it (coded: specs/Coded, `answered_coded`): where told_number is 0 they are a result, and else the line E of
 -- told_number, told_place and told_byte. So told_number is 0 of no refusal.
+use Rattle.std.specs.Prelude.{Err, Ok}
 use mathlib.Core.Path.{◌≡◌, refl, sym, ap, subst, ◌∙◌}
 use mathlib.Core.Bool.{Bool, true, false, cond}
 use mathlib.Core.List.{List, [], ◌∷◌}
@@ -13,11 +14,12 @@ use lib.Seq.{take_at}
 use Rattle.numbers.specs.Below.{over}
 use Rattle.numbers.proofs.BelowLaws.{le_or_lt}
 use Rattle.limits.specs.Limits.{bytes_most}
-use Rattle.refusals.specs.declared.Judgement.{Judgement}
 use Rattle.refusals.specs.declared.Refusal.{Refusal}
-use Rattle.refusals.specs.Refusals.{Judged, passed, refused, then, either, unless, refusal, too_long, wrong_form, out_of_range_at}
+use Rattle.refusals.specs.Refusals.{Judged, then, either, unless, number_of, too_long, wrong_form, out_of_range_at, Ruling}
 use Rattle.text.specs.Left.{TextLeft, text_left}
-use Rattle.text.specs.Line.{line_at, after, Line, holds, form, range}
+use Rattle.text.specs.Line.{line_at, after, Line, refusal_of}
+use Rattle.text.specs.declared.LineFault.{LineFault}
+use Rattle.text.specs.declared.LineFault.TheVariants.{Form, Range}
 use Rattle.text.proofs.LeftLaws.{text_left_lem, text_short}
 use Rattle.types.specs.declared.Header.{Header}
 use Rattle.types.specs.Ranges.{allocated_items, profiled}
@@ -27,10 +29,10 @@ use Rattle.lines.specs.declared.row.RowKind.{RowKind}
 use Rattle.sections.specs.Section.{Section, read, fault, more, on_line, lines_at, with_lines}
 use Rattle.rowlines.specs.Rows.{values_of, factors_of, as_given, picked_row}
 use Rattle.corrections.specs.Corrections.{Piece, sheet_kind, pieces, handed_by, judge_from, judge_corrections, on_correction, due_index}
-use Rattle.tablerules.specs.Table.{Table, balanced, not_twice, zone_line_no, allocated_line_no, last_allocated_line_no, border_line_no, row_line_no, past_line_no}
+use Rattle.tablerules.specs.Table.{Table, balanced, not_twice, header_line_no, zone_line_no, allocated_line_no, last_allocated_line_no, border_line_no, row_line_no, past_line_no}
 use Rattle.reading.specs.Reading.{with_header, intraday_at, balance_byte, rows_from, borders_from, allocated_from, lines_by, lines_of, read_text, read_corrected}
 use Rattle.extractrules.specs.Extraction.{Result, outcome_for}
-use Rattle.result.specs.Refusal.{refusal_text}
+use Rattle.result.specs.Refusal.{refusal_line, refusal_text}
 use Rattle.answer.specs.Result.{result_text, answer_with, answer_with_left}
 use Rattle.answer.specs.Told.{told_of, told_with}
 use Rattle.theorems.proofs.ToldLaws.{Told, told_passed, told_then, told_unless, told_first}
@@ -42,28 +44,31 @@ use Rattle.coded.specs.Coded.{OutCoded, coded_answered, answered_found, answered
 abbrev Some : ℕ → Type 0
 Some n = 0 < n
 
-told_cond : {A : Type 0} (t : Bool) (w : Refusal) (next : Judged A) → Some w.number → Told Some next → Told Some (cond t (refused w) next)
+told_cond : {A : Type 0} (t : Bool) (w : Refusal) (next : Judged A) → Some (number_of w) → Told Some next → Told Some (cond t (Err w) next)
 told_cond true w next h n = record { says = h }
 told_cond false w next h n = n
 
+-- a faulty line is refused by 2 or 3
+some_fault : (bad : LineFault) (line : ℕ) → Some (number_of (refusal_of bad line))
+some_fault (Form byte) line = lit< tt
+some_fault (Range byte) line = lit< tt
+
 told_header : {A : Type 0} (l : Line Header) (next : Header → Judged A) → ((h : Header) → Told Some (next h)) → Told Some (with_header l next)
-told_header (holds h) next n = n h
-told_header (form byte) next n = record { says = lit< tt }
-told_header (range byte) next n = record { says = lit< tt }
+told_header (Ok h) next n = n h
+told_header (Err bad) next n = record { says = some_fault bad header_line_no }
 
 -- a section of lines is refused by 2 or 3
 abbrev Faults : {A : Type 0} → Section A → Type 0
 Faults (read xs next) = Unit {0}
-Faults (fault w) = Some w.number
+Faults (fault w) = Some (number_of w)
 
 faults_more : {A : Type 0} (a : A) (s : Section A) → Faults s → Faults (more a s)
 faults_more a (read xs next) f = tt
 faults_more a (fault w) f = f
 
 faults_line : {A : Type 0} (l : Line A) (number : ℕ) (rest : Section A) → Faults rest → Faults (on_line l number rest)
-faults_line (holds a) number rest f = faults_more a rest f
-faults_line (form byte) number rest f = lit< tt
-faults_line (range byte) number rest f = lit< tt
+faults_line (Ok a) number rest f = faults_more a rest f
+faults_line (Err bad) number rest f = some_fault bad number
 
 faults_lines : {A : Type 0} (judge : List ℕ → ℕ → Line A) (first left : ℕ) (text : List ℕ) (place i : ℕ) → Faults (lines_at judge first left text place i)
 unfolding lines_at
@@ -78,7 +83,7 @@ module _ (pick : Piece → ℕ → Piece) (text : List ℕ) where
   told-rows : (h : Header) (nets allocated : List ℤ) (borders : List (List ℤ)) (q : ℕ) → Told Some (rows_from pick text h nets allocated borders q)
   told-rows h nets allocated borders q =
       told_lines (lines_at (picked_row h.zones pick) (row_line_no h) h.rows text q 0)
-      (λ rows e. cond (ltb e (length text)) (refused (wrong_form (past_line_no h))) (passed (record { header = h; nets = nets; allocated = allocated; borders = borders; rows = values_of rows; factors = factors_of rows })))
+      (λ rows e. cond (ltb e (length text)) (Err (wrong_form (past_line_no h))) (Ok (record { header = h; nets = nets; allocated = allocated; borders = borders; rows = values_of rows; factors = factors_of rows })))
       (faults_lines (picked_row h.zones pick) (row_line_no h) h.rows text q 0) (λ rows e. told_cond (ltb e (length text)) (wrong_form (past_line_no h)) _ (lit< tt) (told_passed _))
 
   told-borders : (h : Header) (nets allocated : List ℤ) (o : ℕ) → Told Some (borders_from pick text h nets allocated o)
@@ -110,9 +115,8 @@ told_text_lem text =
 
 -- a correction sheet is refused by 10
 told_correction : (l : Line RowLine) (number : ℕ) (rest : Judged (Unit {0})) → Told Some rest → Told Some (on_correction l number rest)
-told_correction (holds c) number rest t = t
-told_correction (form byte) number rest t = record { says = lit< tt }
-told_correction (range byte) number rest t = record { says = lit< tt }
+told_correction (Ok c) number rest t = t
+told_correction (Err bad) number rest t = record { says = lit< tt }
 
 told_sheet : (kind : RowKind) (zones rows least number : ℕ) (sheet : List (List ℕ)) → Told Some (judge_from kind zones rows least number sheet)
 told_sheet kind zones rows least number [] = told_passed tt
@@ -137,8 +141,8 @@ late_some n (inr (inr (inl e))) = omega (arith, e)
 late_some n (inr (inr (inr e))) = omega (arith, e)
 
 late_told : {A : Type 0} (j : Judged A) → Told Late j → Told Some j
-late_told (passed a) t = told_passed a
-late_told (refused w) t = record { says = late_some w.number t.says }
+late_told (Ok a) t = told_passed a
+late_told (Err w) t = record { says = late_some (number_of w) t.says }
 
 told_answer : (all : Bool) (marks text sheet : List ℕ) → Told Some (then (read_corrected text sheet) (outcome_for all marks))
 told_answer all marks text sheet = told_then (read_corrected text sheet) (outcome_for all marks) (told_corrected text sheet) (λ t e. late_told (outcome_for all marks t) (outcome_late all marks t))
@@ -151,11 +155,11 @@ pub record IsResult (text : List ℕ) : Type 0 where
 
 pub record Tells (r : KeravnothAnswered) (text : List ℕ) : Type 0 where
   pub result : r.told_number ≡ 0 → IsResult text
-  pub line : (r.told_number ≡ 0 → ⊥) → text ≡ refusal_text (refusal r.told_number r.told_place r.told_byte)
+  pub line : (r.told_number ≡ 0 → ⊥) → text ≡ refusal_line r.told_number r.told_place r.told_byte
 
 -- where the call itself is not refused, the text was written
-written : (answer out : List ℕ) (told : Judgement) → (answered_coded (text_left (passed answer) out) told).answer.number ≡ 0
-    → answered_coded (text_left (passed answer) out) told ≡ answered_found (coded_answered (passed (length answer)) told) (over answer out)
+written : (answer out : List ℕ) (told : Ruling) → (answered_coded (text_left (Ok answer) out) told).answer.number ≡ 0
+    → answered_coded (text_left (Ok answer) out) told ≡ answered_found (coded_answered (Ok (length answer)) told) (over answer out)
 written answer out told none =
     ⊎_elim (λ (h : length answer ≤ length out). ap (λ (l : TextLeft). answered_coded l told) (text_left_lem answer out h))
     (λ short. let e : ◌≡◌ {A = ℕ} 8 0 = ap (λ (l : TextLeft). (answered_coded l told).answer.number) (text_short answer out (length answer) refl short) ∙ none in absurd (omega (arith, e)))
@@ -171,13 +175,13 @@ front answer out = take_at answer _ (length answer) refl
 -- of every answer to a text, with marks or a sheet or without (`keravnoth_answer`, `keravnoth_answer_marked`, `keravnoth_answer_corrected`)
 pub answer_tells : (all : Bool) (marks text sheet out : List ℕ) → let left = answered_coded (answer_with_left all marks text sheet out) (told_with all marks text sheet) in
     left.answer.number ≡ 0 → Tells left.answer (take left.answer.bytes left.out)
-unfolding answer_with_left answer_with told_with either
+unfolding answer_with_left answer_with told_with either refusal_text
 answer_tells all marks text sheet out = go (then (read_corrected text sheet) (outcome_for all marks)) (told_answer all marks text sheet)
   where
-    go : (j : Judged Result) → Told Some j → let left = answered_coded (text_left (passed (either j result_text refusal_text)) out) (told_of j) in left.answer.number ≡ 0 → Said left
-    go (passed r) t none =
-        subst Said (sym (written (result_text r) out (told_of (passed r)) none))
+    go : (j : Judged Result) → Told Some j → let left = answered_coded (text_left (Ok (either j result_text refusal_text)) out) (told_of j) in left.answer.number ≡ 0 → Said left
+    go (Ok r) t none =
+        subst Said (sym (written (result_text r) out (told_of (Ok r)) none))
         (record { result = λ zero. record { it = r; is = front (result_text r) out }; line = λ some. absurd (some refl) })
-    go (refused w) t none =
-        subst Said (sym (written (refusal_text w) out (told_of {A = Result} (refused w)) none))
+    go (Err w) t none =
+        subst Said (sym (written (refusal_text w) out (told_of {A = Result} (Err w)) none))
         (record { result = λ zero. absurd (omega (arith, zero, t.says)); line = λ some. front (refusal_text w) out })

@@ -5,134 +5,101 @@
 // `--proved TEXT` is what `--version` says that it was proved in.
 #![tactic(auto)]
 
-ghost use Rattle.io.specs.Counts.{IsPrefixLen};
-
-use arguments::{Piece, whole};
+use arguments::Piece;
 use command::asked::{Asked, Names, Task};
-use command::input::Read;
-use command::options::Command;
-use command::{asked, input, options};
-use messages::usage;
+use command::input;
+use command::options::{Command, OptionName};
+use messages::{Fault, Misuse, Texts, usage};
 use output::Ended;
 use printing::tasks;
-use refusals::Written;
 use system::System;
+use telling::Status;
 
 fn main(rt: HostRuntime) {
     let sys = System::new(rt);
-    let command = options::read_arguments(&sys);
-    options::tell(&sys, command.status, obey(&sys, command))
+    let command = Command::read(&sys);
+    telling::finish(&sys, &command, obey(&sys, &command))
 }
 
-// The status, as a digit.
-fn obey(sys: &System, command: Command) -> u8 {
-    if command.wrong {
-        return telling::digit(Ended::Failed);
-    }
-    match asked::understand(sys, command.plain) {
-        Asked::Task(task, names) => telling::digit(obey_task(sys, task, names, command)),
-        Asked::Help => telling::digit(about(sys, command, false)),
-        Asked::Version => telling::digit(about(sys, command, true)),
-        Asked::Wrong(of, wrong, way) => {
-            messages::misuse(sys, of, whole(wrong), way);
-            telling::digit(Ended::Failed)
+fn obey(sys: &System, command: &Command) -> Result<Status, Misuse> {
+    let asked = command.asked(sys)?;
+    let ended = match asked {
+        Asked::Task(task, names) => {
+            command.check(asked)?;
+            obey_task(sys, command, task, names)?
         }
-        _ => telling::elsewhere(sys, command),
-    }
+        Asked::Help => {
+            command.check(asked)?;
+            telling::told(sys, usage::usage(sys), Ended::Answered)
+        }
+        Asked::Version => {
+            command.check(asked)?;
+            let proved = command.value(OptionName::Proved);
+            telling::told(sys, usage::version(sys, proved), Ended::Answered)
+        }
+        _ => return telling::elsewhere(command),
+    };
+    Ok(Status::from(ended))
 }
 
-fn about(sys: &System, command: Command, version: bool) -> Ended {
-    if !options::only(sys, command, false, false, false) {
-        return Ended::Failed;
-    }
-    if version {
-        return telling::told(sys, usage::version(sys, command.proved), Ended::Answered);
-    }
-    telling::told(sys, usage::usage(sys), Ended::Answered)
-}
-
-fn obey_task(sys: &System, task: Task, names: Names, command: Command) -> Ended {
-    if !options::only(sys, command, true, asked::takes_marks(task), false)
-        || !options::can_read(sys, command, names.file, names.table)
-    {
-        return Ended::Failed;
-    }
+fn obey_task(sys: &System, command: &Command, task: Task, names: Names) -> Result<Ended, Misuse> {
+    command.check_names(sys, names.file, names.table)?;
     let mut sheet = input::room();
     let mut file = input::room();
     let mut table = input::room();
-    read_all(sys, task, names, command, &mut sheet, &mut file, &mut table)
+    read_all(sys, command, task, names, &mut sheet, &mut file, &mut table)
 }
 
 // First the files that arguments name are read, the corrections and what goes with the word, and then the table.
 fn read_all(
     sys: &System,
+    command: &Command,
     task: Task,
     names: Names,
-    command: Command,
     sheet: &mut [u8],
     file: &mut [u8],
     table: &mut [u8],
-) -> Ended {
-    let corrections = input::named(sys, command.corrections, sheet);
-    if corrections.failed {
-        return Ended::Failed;
-    }
-    let with = input::named(sys, whole(names.file), file);
-    if with.failed {
-        return Ended::Failed;
-    }
-    let read = read_table(sys, names.table, command, table);
-    if read.failed {
-        return Ended::Failed;
-    }
-    let k = corrections.count;
-    let m = with.count;
-    let n = read.count;
-    answer(
-        sys,
-        task,
-        names.file > 0,
-        command.marks,
-        &table[..n],
-        &sheet[..k],
-        &file[..m],
-    )
+) -> Result<Ended, Misuse> {
+    let corrections = command.value(OptionName::Corrections);
+    let Some(k) = input::named(sys, corrections, sheet) else {
+        return Ok(Ended::Failed);
+    };
+    let Some(m) = input::named(sys, names.file.map(Piece::whole), file) else {
+        return Ok(Ended::Failed);
+    };
+    let Some(n) = input::table(sys, names.table, table) else {
+        return unread(command, names.table);
+    };
+    let texts = Texts {
+        table: &table[..n],
+        sheet: &sheet[..k],
+        file: &file[..m],
+    };
+    Ok(answer(sys, command, task, names.file.is_some(), &texts))
 }
 
-// The table. What stands in a word's place and cannot be read may have been meant as a word.
-fn read_table(sys: &System, at: usize, command: Command, table: &mut [u8]) -> Read
-    ensures { IsPrefixLen result.count table.new }
-{
-    let read = input::table(sys, at, table);
-    if read.failed && at > 0 && at == command.plain.word {
-        messages::misuse(sys, 0, whole(at), messages::NO_WORD);
+// What stands in a word's place and cannot be read may have been meant as a word.
+fn unread(command: &Command, table: Option<usize>) -> Result<Ended, Misuse> {
+    match table {
+        Some(at) if table == command.plain.word => Err(Misuse::argument(at, Fault::NoWord)),
+        _ => Ok(Ended::Failed),
     }
-    read
 }
 
-fn answer<'a>(
-    sys: &System,
-    task: Task,
-    with_file: bool,
-    marks: Piece,
-    table: &'a [u8],
-    sheet: &'a [u8],
-    file: &'a [u8],
-) -> Ended {
-    let ended = tasks::print(sys, task, marks, table, sheet, file);
-    let of_file = with_file && blames_file(ended, table, sheet);
-    telling::explain_with(sys, b"", of_file, ended, table, sheet, file);
+fn answer(sys: &System, command: &Command, task: Task, with_file: bool, texts: &Texts) -> Ended {
+    let listed = command.marks(sys);
+    let marks = listed.as_ref().map(|list| list.as_slice());
+    let ended = tasks::print(sys, task, marks, texts.table, texts.sheet, texts.file);
+    let of_file = with_file && blames_file(ended, texts);
+    telling::explain_with(sys, b"", of_file, ended, texts);
     ended
 }
 
 // Whether a refusal is about the file after the word. The E line does not say so: it is where the table itself is good, as the sheet corrects it.
-fn blames_file<'a>(ended: Ended, table: &'a [u8], sheet: &'a [u8]) -> bool {
+fn blames_file(ended: Ended, texts: &Texts) -> bool {
     let Ended::Refused(_, _, _) = ended else {
         return false;
     };
     let mut out = input::room();
-    match rewriting::rewrite_corrected(table, sheet, &mut out) {
-        Written::Bytes(_) => true,
-        Written::Refused(_) => false,
-    }
+    rewriting::rewrite_corrected(texts.table, texts.sheet, &mut out).is_ok()
 }

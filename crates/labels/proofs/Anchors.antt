@@ -1,8 +1,8 @@
 -- Labels, judged. Nobody cites it: it refuses a definition that slipped.
-use mathlib.Core.Path.{◌≡◌, refl}
+use Rattle.std.specs.Prelude.{None}
+use mathlib.Core.Path.{refl}
 use mathlib.Core.Bool.{true, false}
 use mathlib.Core.List.{List, [], ◌∷◌, ◌++◌}
-use mathlib.Core.Option.{none}
 use Prim.Native.Nat.{ℕ}
 use Rattle.numbers.specs.Computed.{◌is◌, Hold}
 use Rattle.text.specs.Shown.{shown}
@@ -12,7 +12,7 @@ use Rattle.daylines.specs.Day.{Hour}
 use Rattle.labels.specs.Labels.{label_byte, label_bytes, label_text, is_label, name_good, labels_good, labels_apart}
 
 abbrev hour : List ℕ → Hour
-hour label = record { label = label; came = none }
+hour label = record { label = label; came = None }
 
 pub anchors : Hold (
     is_label false (shown "h06") is true

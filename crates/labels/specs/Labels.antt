@@ -1,5 +1,5 @@
 -- Which labels a day may have: `name_good` and what it is made of are what contracts cite; `labels_good` and `labels_apart` say it of all hours, as they are judged.
-use Rattle.std.specs.Prelude.{Bool, true, false, not, ◌&&◌, ◌||◌, List, [], ◌∷◌, ℕ, eqb, leb, ltb, length}
+use Rattle.std.specs.Prelude.{Bool, true, not, ◌&&◌, ◌||◌, List, [], ◌∷◌, ℕ, eqb, leb, ltb, length}
 use Prim.Native.Char.{code}
 use Rattle.arguments.specs.Same.{same_bytes}
 use Rattle.daylines.specs.Room.{label_most}

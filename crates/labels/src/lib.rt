@@ -8,18 +8,12 @@ ghost use Rattle.labels.specs.Labels.{label_byte, label_text};
 pub fn is_label(label: &[u8], sheet: bool) -> bool
     ensures { result ≡ label_text sheet label.now }
 {
-    let mut i: usize = 0;
-    while i < label.len() {
-        if !fits(label[i], sheet) {
-            return false;
-        }
-        i += 1;
-    }
-    i > 0
+    !label.is_empty() && label.iter().all(|&byte| fits(byte, sheet))
 }
 
+#[tactic(auto, unfolding(crate::specs::Labels::label_byte))]
 fn fits(byte: u8, sheet: bool) -> bool
     ensures { result ≡ label_byte sheet byte }
 {
-    (b' ' <= byte) & (byte != 127) & !(sheet & ((byte == b';') | (byte == b'"')))
+    b' ' <= byte && byte != 127 && !(sheet && matches!(byte, b';' | b'"'))
 }

@@ -13,8 +13,7 @@ pub fn header_length(h: Header) -> usize
     requires { (header_fits h ≡ true) × (length (header_text h) ≤ bytes_most) }
     ensures { result ≡ length (header_text h) }
 {
-    let share = h.share;
-    let raw = [h.zones as i64, h.borders as i64, h.rows as i64, share];
+    let raw = [h.zones as i64, h.borders as i64, h.rows as i64, h.share];
     columns::optional::optional_length(Head::Lettered(b'H'), &Header::COLUMNS, Header::ALWAYS, &raw)
 }
 
@@ -23,8 +22,7 @@ pub fn zone_length(i: usize, net: i64) -> usize
     requires { length (zone_text i net) ≤ bytes_most }
     ensures { result ≡ length (zone_text i net) }
 {
-    let raw = [net];
-    columns::write::line_length(Head::Indexed(b'Z', i), &Zone::COLUMNS, &raw)
+    columns::write::line_length(Head::Indexed(b'Z', i), &Zone::COLUMNS, &[net])
 }
 
 pub fn border_length(i: usize, raw: BorderRecord) -> usize

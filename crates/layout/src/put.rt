@@ -14,8 +14,7 @@ pub fn put_header(h: Header, out: &mut [u8], at: usize) -> usize
     requires { (header_fits h ≡ true) × (at + length (header_text h) ≤ length out.old) }
     ensures { Put (header_text h) at out.old result out.new }
 {
-    let share = h.share;
-    let raw = [h.zones as i64, h.borders as i64, h.rows as i64, share];
+    let raw = [h.zones as i64, h.borders as i64, h.rows as i64, h.share];
     columns::optional::put_optional(
         b'\t',
         Head::Lettered(b'H'),
@@ -32,12 +31,11 @@ pub fn put_zone(letter: u8, i: usize, net: i64, out: &mut [u8], at: usize) -> us
     requires { at + length (position_text letter i net) ≤ length out.old }
     ensures { Put (position_text letter i net) at out.old result out.new }
 {
-    let raw = [net];
     columns::write::put_line(
         b'\t',
         Head::Indexed(letter, i),
         &Zone::COLUMNS,
-        &raw,
+        &[net],
         out,
         at,
     )

@@ -2,16 +2,16 @@
 // anything written to them.
 #![tactic(auto)]
 
-ghost use Rattle.std.specs.Prelude.{◌≡◌, true, ◌*◌, ◌≤◌, length};
+ghost use Rattle.std.specs.Prelude.{◌≡◌, true, ◌*◌, ◌≤◌, length, Ok};
 ghost use Rattle.limits.specs.Limits.{zones_most, borders_most, rows_most};
-ghost use Rattle.refusals.specs.Refusals.{passed};
 ghost use Rattle.types.specs.Ranges.{header_fits};
-ghost use Rattle.tablerules.specs.Table.{lent, front};
+ghost use Rattle.tablerules.specs.Table.{lent_view, front};
 ghost use Rattle.reading.specs.Places.{Roomy, read_said};
 ghost use Rattle.reading.specs.Reading.{tables_left, read_left, read_corrected_left};
 
-use reading::TableRead;
-use refusals::Judgement;
+use refusals::Refusal;
+use sections::put::put_front;
+use tablerules::TableView;
 use types::{Border, BorderRecord, Header, Row, RowRecord};
 
 // Reads a table from its text into lent tables. Any input has an answer: there is no `requires`.
@@ -22,7 +22,7 @@ pub fn read(
     b: &mut [BorderRecord],
     c: &mut [RowRecord],
     f: &mut [i64],
-) -> TableRead
+) -> Result<Header, Refusal>
     ensures { read_said result z.new t.new b.new c.new f.new ≡ read_left text.now z.old t.old b.old c.old f.old }
 {
     read_corrected(text, b"", z, t, b, c, f)
@@ -37,7 +37,7 @@ pub fn read_corrected<'a>(
     b: &mut [BorderRecord],
     c: &mut [RowRecord],
     f: &mut [i64],
-) -> TableRead
+) -> Result<Header, Refusal>
     ensures { read_said result z.new t.new b.new c.new f.new ≡ read_corrected_left text.now sheet.now z.old t.old b.old c.old f.old }
 {
     let mut nets: [i64; limits::ZONES_MOST] = [0; limits::ZONES_MOST];
@@ -77,47 +77,41 @@ fn read_with<'a>(
     b: &mut [BorderRecord],
     c: &mut [RowRecord],
     f: &mut [i64],
-) -> TableRead
+) -> Result<Header, Refusal>
     requires { (zones_most ≤ length nets.old) × (zones_most ≤ length allocated.old) × (borders_most ≤ length borders.old) × (rows_most ≤ length rows.old) × (rows_most * zones_most ≤ length factors.old) }
     ensures { read_said result z.new t.new b.new c.new f.new ≡ read_corrected_left text.now sheet.now z.old t.old b.old c.old f.old }
 {
-    match reading::read_into(text, sheet, nets, allocated, borders, rows, factors) {
-        TableRead::Table(h) => put_table(h, nets, allocated, borders, rows, factors, z, t, b, c, f),
-        TableRead::Refused(w) => TableRead::Refused(w),
-    }
+    let header = reading::read_into(text, sheet, nets, allocated, borders, rows, factors)?;
+    let view = TableView {
+        header,
+        nets,
+        allocated,
+        borders,
+        rows,
+        factors,
+    };
+    put_table(&view, z, t, b, c, f)
 }
 
 // A table that was read: 8, and then it is put in front of the lent tables.
 fn put_table(
-    h: Header,
-    nets: &[i64],
-    allocated: &[i64],
-    borders: &[BorderRecord],
-    rows: &[RowRecord],
-    factors: &[i64],
+    view: &TableView,
     z: &mut [i64],
     t: &mut [i64],
     b: &mut [BorderRecord],
     c: &mut [RowRecord],
     f: &mut [i64],
-) -> TableRead
-    requires { (header_fits h ≡ true) × Roomy nets.now allocated.now borders.now rows.now factors.now }
-    ensures { read_said result z.new t.new b.new c.new f.new ≡ tables_left (passed (front (lent h nets.now allocated.now borders.now rows.now factors.now))) z.old t.old b.old c.old f.old }
+) -> Result<Header, Refusal>
+    requires fits { header_fits view.now.header ≡ true }
+    requires roomy { Roomy view.now.nets.now view.now.allocated.now view.now.borders.now view.now.rows.now view.now.factors.now }
+    ensures { read_said result z.new t.new b.new c.new f.new ≡ tables_left (Ok (front (lent_view view.now))) z.old t.old b.old c.old f.old }
 {
-    if let Judgement::Refused(w) = table::judge_room(
-        h,
-        z.len(),
-        t.len(),
-        b.len(),
-        c.len(),
-        f.len(),
-    ) {
-        return TableRead::Refused(w);
-    }
-    sections::put::put_numbers(h.zones, nets, z);
-    sections::put::put_numbers(h.allocated_items(), allocated, t);
-    sections::put::put_borders(h.borders, borders, b);
-    sections::put::put_rows(h.rows, rows, c);
-    sections::put::put_numbers(h.rows * h.zones, factors, f);
-    TableRead::Table(h)
+    let h = view.header;
+    table::judge_room(h, z.len(), t.len(), b.len(), c.len(), f.len())?;
+    put_front(h.zones, view.nets, z);
+    put_front(h.allocated_items(), view.allocated, t);
+    put_front(h.borders, view.borders, b);
+    put_front(h.rows, view.rows, c);
+    put_front(h.rows * h.zones, view.factors, f);
+    Ok(h)
 }

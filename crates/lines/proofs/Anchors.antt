@@ -10,7 +10,7 @@ use Rattle.numbers.specs.Computed.{◌is◌, Hold}
 use Rattle.types.specs.declared.Header.{Header}
 use Rattle.types.specs.Ranges.{header_fits, zone_fits, exists, hubs_fit, border_fits, share_of, row_of, row_fits, factor_fits}
 use Rattle.text.specs.Fields.{number_at, signed_at, share_at}
-use Rattle.text.specs.Line.{Line, holds, form, range}
+use Rattle.text.specs.Line.{Line}
 use Rattle.text.specs.Point.{decimals_at, point_at, signed_point_at}
 use Rattle.text.specs.Shown.{shown}
 use Rattle.columns.specs.Columns.{field_at, fields_at}
@@ -20,6 +20,8 @@ use Rattle.blame.specs.Blame.{good_at, byte_at, fields_byte, line_byte}
 use Rattle.blame.specs.RangeBlame.{past_seps, range_byte}
 use Rattle.lines.specs.Lines.{RowLine, row, header_line, position_line, zone_line, border_line, row_line}
 use Rattle.lines.specs.SheetLine.{sheet_line}
+use Rattle.std.specs.Prelude.{Ok, Err}
+use Rattle.text.specs.declared.LineFault.TheVariants.{Form, Range}
 
 unfoldable computing : Unit {0}
 unfolding first_from given inside same_ℤ header_fits zone_fits exists hubs_fit border_fits share_of row_of row_fits factor_fits number_at signed_at share_at field_at fields_at head_at rest_at columns_line optional_line good_at byte_at fields_byte line_byte past_seps range_byte header_line position_line border_line row_line decimals_at point_at signed_point_at sheet_line
@@ -42,32 +44,32 @@ abbrev p : String → Line RowLine
 p s = sheet_line 2 (shown s) 1
 
 pub lines : Hold (
-    h "H 3 2 4/" is holds (record { zones = 3; borders = 2; rows = 4; share = minus 1; intraday = 0 })  -- h-good
-    ∷ h "H 17 2 +4/" is form 8  -- h-form
+    h "H 3 2 4/" is Ok (record { zones = 3; borders = 2; rows = 4; share = minus 1; intraday = 0 })  -- h-good
+    ∷ h "H 17 2 +4/" is Err (Form 8)  -- h-form
     -- a wrong form by the longer list of columns: the fourth field, which the tab begins, is empty
-    ∷ h "H 17 2 4 /" is form 10  -- h-longer
-    ∷ h "H 17 2/" is form 0  -- h-few
-    ∷ h "H 3 65 201/" is range 5  -- h-range
-    ∷ z "Z 1 -5/" is holds (minus 5)  -- z-good
-    ∷ z "Z 1 1000000001x/" is form 15  -- z-form
-    ∷ z "Z 0 1000000001/" is form 3  -- z-index
-    ∷ z "B 1 1000000001/" is form 0  -- z-letter
-    ∷ z "Z 1 1000000001/" is range 5  -- z-range
-    ∷ b "B 1 0 1 5/" is holds (pos 0 ∷ pos 1 ∷ pos 5 ∷ minus 1 ∷ minus 1 ∷ [])  -- b-good
-    ∷ b "B 1 9 1 -5/" is form 9  -- b-form
-    ∷ b "B 1 9 1 5 /" is form 11  -- b-longer
-    ∷ b "B 1 1 1 10001/" is range 7  -- b-range
-    ∷ b "B 1 0 1 5 2 2/" is range 13  -- b-hubs
-    ∷ c "C 1 9 0 0 0 - 0 0 1 -2/" is holds (row (pos 9 ∷ pos 0 ∷ pos 0 ∷ pos 0 ∷ minus 1 ∷ pos 0 ∷ pos 0 ∷ []) (pos 1 ∷ minus 2 ∷ []))  -- c-good
-    ∷ c "C 1 9 10 0 0 - 0 0 1 -0/" is form 23  -- c-form
-    ∷ c "C 1 9 10 0 0 - 0 0 1 -2 0/" is form 0  -- c-many
-    ∷ c "C 1 9 10 0 0 - 0 0 1 100001/" is range 7  -- c-range
-    ∷ c "C 1 9 0 0 0 - 0 0 1 100001/" is range 21  -- c-factor
+    ∷ h "H 17 2 4 /" is Err (Form 10)  -- h-longer
+    ∷ h "H 17 2/" is Err (Form 0)  -- h-few
+    ∷ h "H 3 65 201/" is Err (Range 5)  -- h-range
+    ∷ z "Z 1 -5/" is Ok (minus 5)  -- z-good
+    ∷ z "Z 1 1000000001x/" is Err (Form 15)  -- z-form
+    ∷ z "Z 0 1000000001/" is Err (Form 3)  -- z-index
+    ∷ z "B 1 1000000001/" is Err (Form 0)  -- z-letter
+    ∷ z "Z 1 1000000001/" is Err (Range 5)  -- z-range
+    ∷ b "B 1 0 1 5/" is Ok (pos 0 ∷ pos 1 ∷ pos 5 ∷ minus 1 ∷ minus 1 ∷ [])  -- b-good
+    ∷ b "B 1 9 1 -5/" is Err (Form 9)  -- b-form
+    ∷ b "B 1 9 1 5 /" is Err (Form 11)  -- b-longer
+    ∷ b "B 1 1 1 10001/" is Err (Range 7)  -- b-range
+    ∷ b "B 1 0 1 5 2 2/" is Err (Range 13)  -- b-hubs
+    ∷ c "C 1 9 0 0 0 - 0 0 1 -2/" is Ok (row (pos 9 ∷ pos 0 ∷ pos 0 ∷ pos 0 ∷ minus 1 ∷ pos 0 ∷ pos 0 ∷ []) (pos 1 ∷ minus 2 ∷ []))  -- c-good
+    ∷ c "C 1 9 10 0 0 - 0 0 1 -0/" is Err (Form 23)  -- c-form
+    ∷ c "C 1 9 10 0 0 - 0 0 1 -2 0/" is Err (Form 0)  -- c-many
+    ∷ c "C 1 9 10 0 0 - 0 0 1 100001/" is Err (Range 7)  -- c-range
+    ∷ c "C 1 9 0 0 0 - 0 0 1 100001/" is Err (Range 21)  -- c-factor
     -- the same row in the sheet
-    ∷ p "1;0.009;0.000;0.000;0.000;-;0.000;0.000;0.00001;-0.00002/" is holds (row (pos 9 ∷ pos 0 ∷ pos 0 ∷ pos 0 ∷ minus 1 ∷ pos 0 ∷ pos 0 ∷ []) (pos 1 ∷ minus 2 ∷ []))  -- p-good
-    ∷ p "1;0.009;0.010;0.000;0.000;-;0.000;0.000;0.00001;-0,00002/" is form 51  -- p-form
-    ∷ p "1;0.009;0.010;0.000;0.000;-;0.000;0.000;0.00001;1.00001/" is range 9  -- p-range
-    ∷ p "1;0.009;0.000;0.000;0.000;-;0.000;0.000;0.00001;1.00001/" is range 49  -- p-factor
+    ∷ p "1;0.009;0.000;0.000;0.000;-;0.000;0.000;0.00001;-0.00002/" is Ok (row (pos 9 ∷ pos 0 ∷ pos 0 ∷ pos 0 ∷ minus 1 ∷ pos 0 ∷ pos 0 ∷ []) (pos 1 ∷ minus 2 ∷ []))  -- p-good
+    ∷ p "1;0.009;0.010;0.000;0.000;-;0.000;0.000;0.00001;-0,00002/" is Err (Form 51)  -- p-form
+    ∷ p "1;0.009;0.010;0.000;0.000;-;0.000;0.000;0.00001;1.00001/" is Err (Range 9)  -- p-range
+    ∷ p "1;0.009;0.000;0.000;0.000;-;0.000;0.000;0.00001;1.00001/" is Err (Range 49)  -- p-factor
     ∷ [])
 unfolding computing
 lines = refl

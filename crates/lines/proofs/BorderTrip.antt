@@ -13,13 +13,15 @@ use Rattle.types.specs.LineColumns.{number, border_columns, hub_columns, border_
 use Rattle.types.specs.Ranges.{border_fits, border_of}
 use Rattle.types.proofs.RangeLaws.{HubsIn, none, both, BorderIn, border_in}
 use Rattle.text.specs.Fields.{tab}
-use Rattle.text.specs.Line.{line_of, holds, form, range}
+use Rattle.text.specs.Line.{line_of}
 use Rattle.columns.specs.declared.Head.TheVariants.{Indexed}
 use Rattle.columns.specs.Columns.{values, wrong}
 use Rattle.columns.specs.Optional.{optional_line, written_by, optional_text}
 use Rattle.columns.proofs.ColumnTrip.{tab_ends, line_one}
 use Rattle.columns.proofs.OptionalTrip.{OptionalKept, left, given, kept_many, optional_judged, optional_written}
 use Rattle.lines.specs.Lines.{border_bad, border_out, border_line}
+use Rattle.std.specs.Prelude.{Ok, Err}
+use Rattle.text.specs.declared.LineFault.TheVariants.{Form, Range}
 
 -- what is known of a record that a B line holds
 pub record BorderHeld (zones : ℕ) (raw : List ℤ) : Type 0 where
@@ -59,7 +61,7 @@ border_kept zones (a ∷ b ∷ c ∷ d ∷ e ∷ []) held few =
         )
 
 module _ (zones : ℕ) (line : List ℕ) (i : ℕ) (raw : List ℤ) where
-  pub border_read_lem : border_line zones line i ≡ holds raw → (line ≡ optional_text tab (Indexed (code "B") i) border_columns hub_columns raw) × BorderHeld zones raw
+  pub border_read_lem : border_line zones line i ≡ Ok raw → (line ≡ optional_text tab (Indexed (code "B") i) border_columns hub_columns raw) × BorderHeld zones raw
   unfolding border_line
   border_read_lem e =
       let h = optional_judged tab tab_ends refl (Indexed (code "B") i) border_columns (number ∷ []) (border_fits zones) (λ raw. raw) (border_bad line i) (border_out zones line) line raw e in
@@ -68,20 +70,20 @@ module _ (zones : ℕ) (line : List ℕ) (i : ℕ) (raw : List ℤ) where
 
   -- the B line by what was read of it
   module _ (next : ℕ) (e : values raw next ≡ optional_line tab (Indexed (code "B") i) border_columns hub_columns line) where
-    pub border_holds : border_fits zones raw ≡ true → holds raw ≡ border_line zones line i
+    pub border_holds : border_fits zones raw ≡ true → Ok raw ≡ border_line zones line i
     unfolding border_line
     border_holds f = rw (← e, f)
 
-    pub border_range : border_fits zones raw ≡ false → range (border_out zones line raw) ≡ border_line zones line i
+    pub border_range : border_fits zones raw ≡ false → Err (Range (border_out zones line raw)) ≡ border_line zones line i
     unfolding border_line
     border_range f = rw (← e, f)
 
-pub border_form : (zones : ℕ) (line : List ℕ) (i place : ℕ) → wrong place ≡ optional_line tab (Indexed (code "B") i) border_columns hub_columns line → form (border_bad line i) ≡ border_line zones line i
+pub border_form : (zones : ℕ) (line : List ℕ) (i place : ℕ) → wrong place ≡ optional_line tab (Indexed (code "B") i) border_columns hub_columns line → Err (Form (border_bad line i)) ≡ border_line zones line i
 unfolding border_line
 border_form zones line i place e = rw (← e)
 
 module _ (zones i : ℕ) (raw : List ℤ) where
-  pub border_written : i < 10 ^ 10 → zones ≤ zones_most → BorderHeld zones raw → border_line zones (optional_text tab (Indexed (code "B") i) border_columns hub_columns raw) i ≡ holds raw
+  pub border_written : i < 10 ^ 10 → zones ≤ zones_most → BorderHeld zones raw → border_line zones (optional_text tab (Indexed (code "B") i) border_columns hub_columns raw) i ≡ Ok raw
   unfolding border_line
   border_written small few held =
       let line = optional_text tab (Indexed (code "B") i) border_columns hub_columns raw in

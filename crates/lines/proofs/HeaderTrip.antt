@@ -17,13 +17,15 @@ use Rattle.types.specs.LineColumns.{header_columns, default_columns}
 use Rattle.types.specs.Ranges.{at_ℤ, header_fits, profiled}
 use Rattle.types.proofs.RangeLaws.{HeaderIn, header_in_lem, profiled_fits, raw_share_in}
 use Rattle.text.specs.Fields.{tab}
-use Rattle.text.specs.Line.{line_of, holds, form, range}
+use Rattle.text.specs.Line.{line_of}
 use Rattle.columns.specs.declared.Head.TheVariants.{Lettered}
 use Rattle.columns.specs.Columns.{values, wrong}
 use Rattle.columns.specs.Optional.{left_out, optional_line, written_by, optional_text}
 use Rattle.columns.proofs.ColumnTrip.{tab_ends, AllKept, line_one}
 use Rattle.columns.proofs.OptionalTrip.{OptionalKept, left, given, optional_read, optional_judged, optional_written}
 use Rattle.lines.specs.Lines.{header_of, header_bad, header_out, header_line}
+use Rattle.std.specs.Prelude.{Ok, Err}
+use Rattle.text.specs.declared.LineFault.TheVariants.{Form, Range}
 
 -- the raw numbers of a header
 abbrev pub header_raw : Header → List ℤ
@@ -63,7 +65,7 @@ numbers_are zs k =
     let e = sym (raw_is zs k) in
     record { zones = ap (λ (l : List ℤ). at_ℤ l 0) e; borders = ap (λ (l : List ℤ). at_ℤ l 1) e; rows = ap (λ (l : List ℤ). at_ℤ l 2) e }
 
-pub header_read : (line : List ℕ) (h : Header) → header_line line ≡ holds h → (line ≡ header_text_of h) × (header_fits h ≡ true)
+pub header_read : (line : List ℕ) (h : Header) → header_line line ≡ Ok h → (line ≡ header_text_of h) × (header_fits h ≡ true)
 unfolding header_line
 header_read line h e =
     let j = optional_judged tab tab_ends refl (Lettered (code "H")) header_columns [] (λ zs. header_fits (header_of zs)) header_of (header_bad line) (header_out line) line h e in
@@ -71,7 +73,7 @@ header_read line h e =
     (j.read.here ∙ ap (optional_text tab (Lettered (code "H")) header_columns default_columns) (sym (raw_is j.zs j.read.kept)), j.fit)
 
 -- an H line does not say whether T lines follow
-pub header_plain : (line : List ℕ) (h : Header) → header_line line ≡ holds h → profiled h false ≡ h
+pub header_plain : (line : List ℕ) (h : Header) → header_line line ≡ Ok h → profiled h false ≡ h
 unfolding header_line
 header_plain line h e =
     let j = optional_judged tab tab_ends refl (Lettered (code "H")) header_columns [] (λ zs. header_fits (header_of zs)) header_of (header_bad line) (header_out line) line h e in
@@ -82,15 +84,15 @@ module _ (line : List ℕ) where
     pub header_numbers : Numbers zs
     header_numbers = numbers_are zs (optional_read tab tab_ends refl (Lettered (code "H")) header_columns [] line zs next (sym e)).kept
 
-    pub header_holds : header_fits (header_of zs) ≡ true → holds (header_of zs) ≡ header_line line
+    pub header_holds : header_fits (header_of zs) ≡ true → Ok (header_of zs) ≡ header_line line
     unfolding header_line
     header_holds f = rw (← e, f)
 
-    pub header_range : header_fits (header_of zs) ≡ false → range (header_out line zs) ≡ header_line line
+    pub header_range : header_fits (header_of zs) ≡ false → Err (Range (header_out line zs)) ≡ header_line line
     unfolding header_line
     header_range f = rw (← e, f)
 
-  pub header_form : (place : ℕ) → wrong place ≡ optional_line tab (Lettered (code "H")) header_columns default_columns line → form (header_bad line) ≡ header_line line
+  pub header_form : (place : ℕ) → wrong place ≡ optional_line tab (Lettered (code "H")) header_columns default_columns line → Err (Form (header_bad line)) ≡ header_line line
   unfolding header_line
   header_form place e = rw (← e)
 
@@ -102,7 +104,7 @@ module _ (h : Header) where
       left (pos h.zones ∷ pos h.borders ∷ pos h.rows ∷ []) (ap (λ (m : ℕ). pos h.zones ∷ pos h.borders ∷ pos h.rows ∷ negsuc m ∷ []) one)
       ((refl, omega (arith, i.zones_most_lem)), ((refl, omega (arith, i.borders_most_lem)), ((refl, omega (arith, i.rows_most_lem)), tt)))
 
-  pub header_written : header_fits h ≡ true → header_line (header_text_of h) ≡ holds (profiled h false)
+  pub header_written : header_fits h ≡ true → header_line (header_text_of h) ≡ Ok (profiled h false)
   unfolding header_line
   header_written f =
       let i = header_in_lem h f in

@@ -18,7 +18,7 @@ use Rattle.types.specs.LineColumns.{Column, row_columns, row_items}
 use Rattle.types.specs.Ranges.{at_ℤ, row_of, factor_fits}
 use Rattle.types.proofs.RangeLaws.{row_in, factor_in}
 use Rattle.text.specs.Fields.{feed}
-use Rattle.text.specs.Line.{line_of, holds}
+use Rattle.text.specs.Line.{line_of}
 use Rattle.text.proofs.FieldTrip.{ShareKept}
 use Rattle.columns.specs.ColumnText.{columns_text, numbers_of}
 use Rattle.columns.proofs.ColumnPut.{numbers_are}
@@ -32,6 +32,7 @@ use Rattle.lines.specs.declared.row.RowKind.{RowKind}
 use Rattle.lines.specs.declared.row.RowKind.TheVariants.{Table, Sheet}
 use Rattle.lines.proofs.RowJudge.{by_values}
 use Rattle.lines.proofs.RowKindLaws.{columns_many}
+use Rattle.std.specs.Prelude.{Ok}
 
 -- ---- a line's text
 abbrev fields_by : RowKind → List Column → (i : ℕ) → List ℤ → List ℕ
@@ -58,7 +59,7 @@ pub sep_ends : (kind : RowKind) → Ends (sep_by kind)
 sep_ends Table = tab_ends
 sep_ends Sheet = record { some = omega arith; apart = refl }
 
-pub row_read_lem : (kind : RowKind) (zones : ℕ) (line : List ℕ) (i : ℕ) (c : RowLine) → line_by kind zones line i ≡ holds c → RowIs kind zones line i c
+pub row_read_lem : (kind : RowKind) (zones : ℕ) (line : List ℕ) (i : ℕ) (c : RowLine) → line_by kind zones line i ≡ Ok c → RowIs kind zones line i c
 row_read_lem kind zones line i c e =
     let h = judged_is (λ zs. row_good (take row_items zs) (drop row_items zs)) (λ zs. row (take row_items zs) (drop row_items zs)) (bad_by kind zones line i) (λ zs. out_by kind line (take row_items zs) (drop row_items zs)) c (values_by kind zones line i) (sym (by_values kind zones line i) ∙ e) in
     let zs = h.zs in
@@ -116,7 +117,7 @@ module _ (zones : ℕ) (c : RowLine) (held : RowHeld zones c) where
       by Sheet = all
 
   module _ (kind : RowKind) (i : ℕ) (small : i < 10 ^ 10) where
-    by-numbers : line_by kind zones (fields_by kind (columns_by kind (length c.factors)) i (c.values ++ c.factors)) i ≡ holds c
+    by-numbers : line_by kind zones (fields_by kind (columns_by kind (length c.factors)) i (c.values ++ c.factors)) i ≡ Ok c
     by-numbers =
         let n = length c.factors in
         let zs = c.values ++ c.factors in
@@ -124,10 +125,10 @@ module _ (zones : ℕ) (c : RowLine) (held : RowHeld zones c) where
         let kept = kept_append (first_by kind) (factors_by kind n) c.values c.factors (values-kept kind) (factors_kept kind c.factors (row_good_lem c.values c.factors held.good).1) in
         let v : take row_items zs ≡ c.values = take_at c.values c.factors row_items held.wide in
         let f : drop row_items zs ≡ c.factors = drop_at c.values c.factors row_items held.wide in
-        subst (λ (m : ℕ). line_by kind m line i ≡ holds c) held.long
+        subst (λ (m : ℕ). line_by kind m line i ≡ Ok c) held.long
         (by_values kind n line i ∙ ap (row_by (bad_by kind n line i) (out_by kind line)) (line_written (sep_by kind) (sep_ends kind) (head_by kind i) (columns_by kind n) zs (head_small kind i small) kept).is ∙ rw (v, f, held.good))
 
-    pub row_written : line_by kind zones (text_by kind i c) i ≡ holds c
+    pub row_written : line_by kind zones (text_by kind i c) i ≡ Ok c
     row_written = ap (λ (v : List ℤ). line_by kind zones (fields_by kind (columns_by kind (length c.factors)) i (v ++ c.factors)) i) (numbers_are row_columns c.values held.wide) ∙ by-numbers
 
 -- ---- what is written is one line

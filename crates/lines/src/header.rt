@@ -1,19 +1,18 @@
 // The H line.
 ghost use Rattle.std.specs.Prelude.{◌≡◌};
 ghost use Rattle.lines.specs.Lines.{header_line};
-ghost use Rattle.lines.specs.Said.{said_header};
 
-use crate::HeaderLine;
-use columns::{Fields, Head};
+use columns::Head;
+use text::LineFault;
 use types::Header;
 
 // Zones, borders, rows, and the default of R, which may be left out; it has no index. Whether T lines follow the Z lines is seen later.
-pub fn header_line(line: &[u8]) -> HeaderLine
-    ensures { said_header result ≡ header_line line.now }
+pub fn header_line(line: &[u8]) -> Result<Header, LineFault>
+    ensures { result ≡ header_line line.now }
 {
     let head = Head::Lettered(b'H');
     let mut raw: [i64; Header::ITEMS] = [0; Header::ITEMS];
-    let Fields::End(_) = columns::optional::optional_at(
+    let Ok(_) = columns::optional::optional_at(
         b'\t',
         head,
         &Header::COLUMNS,
@@ -21,22 +20,22 @@ pub fn header_line(line: &[u8]) -> HeaderLine
         line,
         &mut raw,
     ) else {
-        return HeaderLine::Form(blame::line_byte(b'\t', head, &Header::COLUMNS, line));
+        return Err(LineFault::Form(blame::line_byte(b'\t', head, &Header::COLUMNS, line)));
     };
     let zones = raw[0] as usize;
     let borders = raw[1] as usize;
     let rows = raw[2] as usize;
     let share = raw[3];
     let h = Header {
-        zones: zones,
-        borders: borders,
-        rows: rows,
-        share: share,
+        zones,
+        borders,
+        rows,
+        share,
         intraday: Header::DAY_AHEAD,
     };
     if h.fits() {
-        return HeaderLine::Holds(h);
+        return Ok(h);
     }
     let tests = h.tests();
-    HeaderLine::Range(blame::range::range_byte(b'\t', &tests, 1, line))
+    Err(LineFault::Range(blame::range::range_byte(b'\t', &tests, 1, line)))
 }

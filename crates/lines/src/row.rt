@@ -7,7 +7,8 @@ ghost use Rattle.columns.specs.Columns.{stored};
 ghost use Rattle.lines.specs.RowKinds.{sep_by, head_by, columns_by, values_by, bad_by, out_by};
 ghost use Rattle.lines.specs.SaidRow.{judged_of, said_row, line_by};
 
-use columns::{Fields, Head};
+use columns::Head;
+use text::LineFault;
 use types::{Row, RowRecord};
 
 // The kinds of line that hold a row: the table's, which is a C line, and the planners' sheet's.
@@ -17,53 +18,30 @@ pub enum RowKind {
     Sheet,
 }
 
-// What a row's line comes to.
-#[derive(Clone, Copy)]
-pub enum RowJudged {
-    Holds,
-    Form(usize),
-    Range(usize),
-}
-
-// What a row's line was judged, and its raw record, which says nothing where the line is faulty: an enum holds no array.
-#[derive(Clone, Copy)]
-pub struct RowRead {
-    pub judged: RowJudged,
-    pub raw: RowRecord,
-}
-
 // Judges a row's line that is not kept.
-pub fn row_judged(kind: RowKind, zones: usize, line: &[u8], i: usize) -> RowJudged
+pub fn row_judged(kind: RowKind, zones: usize, line: &[u8], i: usize) -> Result<(), LineFault>
     requires { (0 < zones) × (zones ≤ zones_most) }
     ensures { result ≡ judged_of (line_by kind zones line.now i) }
 {
     let mut factors = [0i64; limits::ZONES_MOST];
-    let read = row_read(kind, line, i, &mut factors[..zones]);
-    read.judged
+    row_read(kind, line, i, &mut factors[..zones])?;
+    Ok(())
 }
 
 // Reads a row's line, its factors into f: the form of all fields, then the ranges.
-pub fn row_read(kind: RowKind, line: &[u8], i: usize, f: &mut [i64]) -> RowRead
+pub fn row_read(kind: RowKind, line: &[u8], i: usize, f: &mut [i64]) -> Result<RowRecord, LineFault>
     requires { (0 < length f.old) × (length f.old ≤ zones_most) }
-    ensures { said_row result.judged result.raw f.new ≡ line_by kind (length f.old) line.now i }
+    ensures { said_row result f.new ≡ line_by kind (length f.old) line.now i }
 {
     let zones = f.len();
     let mut raw: RowRecord = [0; Row::ITEMS];
-    let Fields::End(_) = row_at(kind, line, i, &mut raw, f) else {
-        return RowRead {
-            judged: RowJudged::Form(row_bad(kind, zones, line, i)),
-            raw: raw,
-        };
+    let Ok(_) = row_at(kind, line, i, &mut raw, f) else {
+        return Err(LineFault::Form(row_bad(kind, zones, line, i)));
     };
     if table::row_good(raw, f) {
-        return RowRead {
-            judged: RowJudged::Holds,
-            raw: raw,
-        };
-    }
-    RowRead {
-        judged: RowJudged::Range(row_out(kind, raw, f, line)),
-        raw: raw,
+        Ok(raw)
+    } else {
+        Err(LineFault::Range(row_out(kind, raw, f, line)))
     }
 }
 
@@ -86,7 +64,13 @@ fn row_out(kind: RowKind, raw: RowRecord, f: &[i64], line: &[u8]) -> usize
 }
 
 // The seven values, and one factor for each item of f.
-fn row_at(kind: RowKind, line: &[u8], i: usize, raw: &mut [i64], f: &mut [i64]) -> Fields
+fn row_at(
+    kind: RowKind,
+    line: &[u8],
+    i: usize,
+    raw: &mut [i64],
+    f: &mut [i64],
+) -> Result<usize, usize>
     requires { (length raw.old ≡ 7) × (0 < length f.old) × (length f.old ≤ zones_most) }
     ensures { stored result (raw.new ++ f.new) ≡ values_by kind (length f.old) line.now i }
 {

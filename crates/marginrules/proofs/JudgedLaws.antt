@@ -1,4 +1,5 @@
 -- What a judged record gives to the functions of this crate: its ranges; and the same of a judged table's parts. No contract cites this file.
+use Rattle.std.specs.Prelude.{None, Some}
 use mathlib.Core.Path.{◌≡◌, sym, ap, subst, ◌∙◌}
 use mathlib.Core.Bool.{Bool, true, false, cond}
 use mathlib.Core.List.{List, []}
@@ -12,7 +13,6 @@ use borrow.Author.Tests.{le-ltb}
 use Rattle.numbers.proofs.IntLaws.{within_le, all_part, between_within}
 use Rattle.limits.specs.Limits.{borders_most}
 use Rattle.types.specs.declared.Header.{Header}
-use Rattle.types.specs.declared.Hubs.TheVariants.{Without, Between}
 use Rattle.types.specs.declared.Border.{Border}
 use Rattle.types.specs.declared.Row.{Row}
 use Rattle.types.specs.Ranges.{at_ℤ, hubs_of, border_fits, border_of, row_fits, row_of}
@@ -27,10 +27,10 @@ use Rattle.marginrules.proofs.MagnitudeLaws.{s_most_lem}
 -- ---- hubs that fit are zones, where there are any
 hubs_within : (zones : ℕ) (sending receiving : ℤ) → HubsIn zones sending receiving → HubsWithin zones (hubs_of sending receiving)
 unfolding hubs_of
-hubs_within zones sending receiving (none s r) = subst (λ (z : ℤ). HubsWithin zones (cond (lt_z z (pos 0)) Without (Between (nat_abs z) (nat_abs receiving)))) (sym s) tt
+hubs_within zones sending receiving (none s r) = subst (λ (z : ℤ). HubsWithin zones (cond (lt_z z (pos 0)) None (Some (record { sending = nat_abs z; receiving = nat_abs receiving })))) (sym s) tt
 hubs_within zones sending receiving (both s r apart) =
     let low : lt_z sending (pos 0) ≡ false = ap (λ (z : ℤ). lt_z z (pos 0)) s.0 ∙ le-ltb (nat_abs sending) 0 (omega arith) in
-    subst (λ (t : Bool). HubsWithin zones (cond t Without (Between (nat_abs sending) (nat_abs receiving)))) (sym low) (s.1, r.1)
+    subst (λ (t : Bool). HubsWithin zones (cond t None (Some (record { sending = nat_abs sending; receiving = nat_abs receiving })))) (sym low) (s.1, r.1)
 
 -- ---- a border that fits, and a value that is this border
 module _ (zones : ℕ) (raw : List ℤ) (fits : border_fits zones raw ≡ true) where

@@ -1,5 +1,6 @@
 -- How large each value of 01's list ("Margin of a row") can be, in grains, with the limits of the ranges as variables; and steps of its sums.
 -- No contract cites this file; `Small.antt` puts 01's numbers for the variables.
+use Rattle.std.specs.Prelude.{None, Option, Some}
 use mathlib.Core.Path.{◌≡◌, refl, sym, ap, ap₂, ◌∙◌}
 use mathlib.Core.List.{List, []}
 use mathlib.Core.Logic.{◌⊎◌, inl, inr}
@@ -15,7 +16,6 @@ use Rattle.numbers.specs.Below.{sum}
 use Rattle.numbers.proofs.SumLaws.{sum_most}
 use Rattle.numbers.proofs.IntLaws.{diff, diffs, zarith, within_le, within_pos, within_mul, within_add, within_sum, within_max, max_above_left, max_above_right, max_or}
 use Rattle.types.specs.declared.Hubs.{Hubs}
-use Rattle.types.specs.declared.Hubs.TheVariants.{Without, Between}
 use Rattle.types.specs.declared.Border.{Border}
 use Rattle.types.specs.declared.Row.{Row}
 use Rattle.types.specs.Ranges.{at_ℤ, border_of, worth}
@@ -108,14 +108,14 @@ module _ {fmax flow share va m : ℕ} {row : Row} (within : RowWithin fmax flow 
 
 -- ---- a signed factor, without hubs and by hubs
 module _ (factors : List ℤ) (border : Border) where
-  pub signed_without : border.hubs ≡ Without → at_ℤ factors border.from -ℤ at_ℤ factors border.to ≡ signed_factor factors border
+  pub signed_without : border.hubs ≡ None → at_ℤ factors border.from -ℤ at_ℤ factors border.to ≡ signed_factor factors border
   unfolding signed_factor
   signed_without e = rw e
 
-  pub signed_between : (sending receiving : ℕ) → border.hubs ≡ Between sending receiving
-      → at_ℤ factors border.from -ℤ at_ℤ factors sending +ℤ at_ℤ factors receiving -ℤ at_ℤ factors border.to ≡ signed_factor factors border
+  pub signed_between : (hubs : Hubs) → border.hubs ≡ Some hubs
+      → at_ℤ factors border.from -ℤ at_ℤ factors hubs.sending +ℤ at_ℤ factors hubs.receiving -ℤ at_ℤ factors border.to ≡ signed_factor factors border
   unfolding signed_factor
-  signed_between sending receiving e = rw e
+  signed_between hubs e = rw e
 
 -- ---- S: a border factor, a border's part, the sum
 part_le : {m : ℕ} (z : ℤ) → Within m z → positive_part z ≤ m
@@ -129,11 +129,11 @@ module _ {factor lta : ℕ} {factors : List ℤ} (each : AllWithin factor factor
   unfolding signed_factor
   signed_within {border} h = go border.hubs h.hubs_in
     where
-      go : (hubs : Hubs) → HubsWithin (length factors) hubs → Within (4 * factor) (by_hubs factors hubs (at_ℤ factors border.from) (at_ℤ factors border.to))
-      go Without k = within_le (within_sub (each.at border.from h.from_in) (each.at border.to h.to_in)) (omega arith)
-      go (Between sending receiving) k =
+      go : (hubs : Option Hubs) → HubsWithin (length factors) hubs → Within (4 * factor) (by_hubs factors hubs (at_ℤ factors border.from) (at_ℤ factors border.to))
+      go None k = within_le (within_sub (each.at border.from h.from_in) (each.at border.to h.to_in)) (omega arith)
+      go (Some hubs) k =
           within_le
-          (within_sub (within_add (within_sub (each.at border.from h.from_in) (each.at sending k.0)) (each.at receiving k.1)) (each.at border.to h.to_in))
+          (within_sub (within_add (within_sub (each.at border.from h.from_in) (each.at hubs.sending k.0)) (each.at hubs.receiving k.1)) (each.at border.to h.to_in))
           (omega arith)
 
   pub p_most_lem : {border : Border} → BorderWithin lta (length factors) border → p_of factors border ≤ 4 * factor

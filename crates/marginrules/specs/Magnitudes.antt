@@ -1,11 +1,10 @@
 -- What a function on one row asks of the row's values, by 01's ranges, and how large F0core, AMR, S and RAM can then be, in grains.
 -- That a judged table gives all of it is proved (`MagnitudeLaws.antt`).
-use Rattle.std.specs.Prelude.{◌≡◌, true, List, [], ℕ, ◌+◌, ◌*◌, ◌≤◌, ◌<◌, ℤ, length, get_or}
+use Rattle.std.specs.Prelude.{◌≡◌, true, List, [], ℕ, ◌+◌, ◌*◌, ◌≤◌, ◌<◌, ℤ, length, get_or, None, Option, Some}
 use Rattle.numbers.specs.Ints.{Within, AllWithin}
 use Rattle.limits.specs.Limits.{zones_most, borders_most}
 use Rattle.types.specs.declared.Header.{Header}
 use Rattle.types.specs.declared.Hubs.{Hubs}
-use Rattle.types.specs.declared.Hubs.TheVariants.{Without, Between}
 use Rattle.types.specs.declared.Border.{Border}
 use Rattle.types.specs.declared.Row.{Row}
 use Rattle.types.specs.LineLimits.{net_most, lta_most, fmax_most, flow_most, share_most, va_most, factor_most}
@@ -43,9 +42,9 @@ pub record NetsInRange (zones : ℕ) (nets : List ℤ) : Type 0 where
   pub each : AllWithin net_most nets
 
 -- hubs that are zones
-abbrev pub HubsWithin : (zones : ℕ) → Hubs → Type 0
-HubsWithin zones Without = Unit {0}
-HubsWithin zones (Between sending receiving) = (sending < zones) × (receiving < zones)
+abbrev pub HubsWithin : (zones : ℕ) → Option Hubs → Type 0
+HubsWithin zones None = Unit {0}
+HubsWithin zones (Some hubs) = (hubs.sending < zones) × (hubs.receiving < zones)
 
 -- a border between two of the zones, of at most so much LTA in MW
 pub record BorderWithin (lta zones : ℕ) (border : Border) : Type 0 where

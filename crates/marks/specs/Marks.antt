@@ -1,8 +1,18 @@
 -- Marked borders (02, E13): a lent list of the borders that may rise, and when it is turned away (13).
 -- A call with no list asks for every border: `all` tells so, and the marks are then not looked at.
-use Rattle.std.specs.Prelude.{Bool, cond, not, ◌||◌, List, ℕ, ◌+◌, ltb, eqb, length}
+use Rattle.std.specs.Prelude.{Bool, true, false, cond, not, ◌||◌, Option, Some, None, List, [], ℕ, ◌+◌, ltb, eqb, length}
+use denote.Ref.{Bor}
 use Rattle.numbers.specs.Below.{at, table, some_below}
 use Rattle.refusals.specs.Refusals.{Judged, unless, refuse_first, bad_mark}
+
+-- a call's marks: none where every border may rise, and then the list that it is lent
+abbrev pub every : Option (Bor (List ℕ)) → Bool
+every None = true
+every (Some marks) = false
+
+abbrev pub listed : Option (Bor (List ℕ)) → List ℕ
+listed None = []
+listed (Some marks) = marks.now
 
 -- some mark is border b
 unfoldable pub marked_by : (marks : List ℕ) → (b : ℕ) → Bool

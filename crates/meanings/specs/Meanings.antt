@@ -1,9 +1,8 @@
 -- What each refusal means, in words (01, "When the table is turned away"; 02), as one list of lines: a line for each number, from 0 on, and one for every other.
 -- A # stands where the refusal's place belongs. `meaning_left` is what contracts cite.
-use Rattle.std.specs.Prelude.{cond, List, [] as nil, ◌∷◌ as ◌then◌, ℕ, zero, suc, ◌-◌, ltb, length, take}
+use Rattle.std.specs.Prelude.{cond, List, [] as nil, ◌∷◌ as ◌then◌, ℕ, zero, suc, ◌-◌, ltb, length, take, Ok}
 use Prim.Native.Char.{code}
 use Prim.Native.String.{String, [], ◌∷◌}
-use Rattle.refusals.specs.Refusals.{passed}
 use Rattle.text.specs.Fields.{feed}
 use Rattle.text.specs.Left.{TextLeft, text_left}
 use Rattle.text.specs.Line.{line_at, after}
@@ -64,4 +63,4 @@ meaning_of number = words_at (lines_of meanings) (line_for number)
 
 -- the open call `refusal_text`
 unfoldable pub meaning_left : (number : ℕ) → (out : List ℕ) → TextLeft
-meaning_left number out = text_left (passed (meaning_of number)) out
+meaning_left number out = text_left (Ok (meaning_of number)) out

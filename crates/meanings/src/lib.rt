@@ -2,13 +2,12 @@
 // A # stands where the refusal's place belongs.
 #![tactic(auto)]
 
-ghost use Rattle.std.specs.Prelude.{◌≡◌, ◌≤◌, ◌-◌, length, take};
+ghost use Rattle.std.specs.Prelude.{◌≡◌, ◌≤◌, ◌-◌, length, take, Ok};
 ghost use Rattle.numbers.specs.Below.{over};
-ghost use Rattle.refusals.specs.Refusals.{passed};
 ghost use Rattle.text.specs.Left.{text_left, text_said};
 ghost use Rattle.meanings.specs.Meanings.{line_begin, words_at, line_for, meaning_left};
 
-use refusals::{Refusal, Written};
+use refusals::Refusal;
 
 // A line for each number, from 0 on, and one for every other.
 pub const LINES: [u8; 1562] = *b"no refusal\n\
@@ -32,7 +31,7 @@ pub const LINES: [u8; 1562] = *b"no refusal\n\
 pub const LAST: u64 = 14;
 
 // The words for a number. Any input has an answer: there is no `requires`.
-pub fn refusal_text(number: u64, out: &mut [u8]) -> Written
+pub fn refusal_text(number: u64, out: &mut [u8]) -> Result<usize, Refusal>
     ensures { text_said result out.new ≡ meaning_left number out.old }
 {
     write_line(&LINES, line_for(number), out)
@@ -41,50 +40,29 @@ pub fn refusal_text(number: u64, out: &mut [u8]) -> Written
 fn line_for(number: u64) -> usize
     ensures { result ≡ line_for number }
 {
-    if LAST < number {
-        return LAST as usize + 1;
-    }
-    number as usize
+    number.min(LAST + 1) as usize
 }
 
 // Line k of a list, without its LF. Judges the room for it (8), and only then writes it.
-fn write_line(list: &[u8], k: usize, out: &mut [u8]) -> Written
-    ensures { text_said result out.new ≡ text_left (passed (words_at list.now k)) out.old }
+fn write_line(list: &[u8], k: usize, out: &mut [u8]) -> Result<usize, Refusal>
+    ensures { text_said result out.new ≡ text_left (Ok (words_at list.now k)) out.old }
 {
     let line = text::line::line_at(list, line_begin(list, k));
-    let n = less_one(line.len());
+    let n = line.len().saturating_sub(1);
     if out.len() < n {
-        return Written::Refused(Refusal::too_short(n));
+        return Err(Refusal::TooShort(n));
     }
-    put_words(n, line, out);
-    Written::Bytes(n)
-}
-
-fn less_one(n: usize) -> usize
-    ensures { result ≡ n - 1 }
-{
-    if n == 0 {
-        return 0;
-    }
-    n - 1
+    out[..n].copy_from_slice(&line[..n]);
+    Ok(n)
 }
 
 // The place where line k begins.
 fn line_begin(list: &[u8], k: usize) -> usize
     ensures { (result ≡ line_begin list.now k) × (result ≤ length list.now) }
 {
-    let mut at: usize = 0;
+    let mut at = 0;
     for _ in 0..k {
         at += text::line::line_at(list, at).len();
     }
     at
-}
-
-fn put_words(n: usize, words: &[u8], out: &mut [u8])
-    requires { (n ≤ length words.now) × (n ≤ length out.old) }
-    ensures { out.new ≡ over (take n words.now) out.old }
-{
-    for i in 0..n {
-        out[i] = words[i];
-    }
 }

@@ -1,13 +1,14 @@
 -- 02, E2: "Demands 2 and 3 then read of the merged table", of the answers. Where both texts are taken, answering them is answering the merged text
 -- (`merged-answer`), whose table demand 3 then speaks of (`merged-demand-3`); and the merged text is what `rewrite_corrected` leaves (`rewritten-is-merged`).
+use Rattle.std.specs.Prelude.{Err, Ok}
 use mathlib.Core.Path.{◌≡◌, refl, sym, ap, ◌∙◌}
-use mathlib.Core.Bool.{Bool, true}
-use mathlib.Core.List.{List, []}
+use mathlib.Core.Bool.{Bool}
+use mathlib.Core.List.{List}
 use Prim.Native.Char.{code}
 use Prim.Native.Nat.{ℕ}
 use lib.ListN.{take}
 use Rattle.numbers.specs.Below.{at}
-use Rattle.refusals.specs.Refusals.{Judged, passed, refused, then, either}
+use Rattle.refusals.specs.Refusals.{Judged, then, either}
 use Rattle.refusals.proofs.RefusalLaws.{not_passed, then_refused}
 use Rattle.marks.specs.Marks.{may_rise}
 use Rattle.text.specs.Left.{TextLeft, text_left}
@@ -30,7 +31,7 @@ unfolding answer_for answer_with
 same_answer all marks merged text sheet e = ap (λ (j : Judged Table). either (then j (outcome_for all marks)) result_text refusal_text) e
 
 -- answering both texts is answering the merged one
-pub merged_answer : (all : Bool) (marks text sheet : List ℕ) (t : Table) → read_corrected text sheet ≡ passed t → answer_for all marks (merged_text text sheet) ≡ answer_with all marks text sheet
+pub merged_answer : (all : Bool) (marks text sheet : List ℕ) (t : Table) → read_corrected text sheet ≡ Ok t → answer_for all marks (merged_text text sheet) ≡ answer_with all marks text sheet
 merged_answer all marks text sheet t e = same_answer all marks (merged_text text sheet) text sheet (merged_reads text sheet t e ∙ sym e)
 
 -- demand 3 of every answer to two texts that is no E line, said of the merged text
@@ -40,7 +41,7 @@ merged_demand_3 all marks text sheet h =
     record { table = d.table; result = d.result; is = merged_reads text sheet d.table d.is; printed = d.printed; outcome = d.outcome; demand = d.demand; stopped = d.stopped; unmarked = d.unmarked }
 
 -- ---- what `rewrite_corrected` leaves, where it took both texts
-module _ (text sheet out : List ℕ) (n : ℕ) (done : (rewrite_corrected_left text sheet out).answer ≡ passed n) where
+module _ (text sheet out : List ℕ) (n : ℕ) (done : (rewrite_corrected_left text sheet out).answer ≡ Ok n) where
   abbrev left : List ℕ
   left = take n (rewrite_corrected_left text sheet out).out
 
@@ -50,8 +51,8 @@ module _ (text sheet out : List ℕ) (n : ℕ) (done : (rewrite_corrected_left t
   rewritten_is_merged = go (read_corrected text sheet) refl
     where
       go : (j : Judged Table) → read_corrected text sheet ≡ j → left ≡ merged_text text sheet
-      go (passed t) q = sym (read_write left t (rewritten_reads_back text sheet out n done ∙ q)) ∙ merged_text_lem text sheet t q
-      go (refused w) q = absurd (not_passed w n (ap (λ (l : TextLeft). l.answer) (text_refused out (then_refused _ q)) ∙ done))
+      go (Ok t) q = sym (read_write left t (rewritten_reads_back text sheet out n done ∙ q)) ∙ merged_text_lem text sheet t q
+      go (Err w) q = absurd (not_passed w n (ap (λ (l : TextLeft). l.answer) (text_refused out (then_refused _ q)) ∙ done))
 
   -- answering it is answering both texts, of every border or with marks, byte for byte
   pub rewritten_answer : (all : Bool) (marks : List ℕ) → answer_for all marks left ≡ answer_with all marks text sheet
@@ -60,4 +61,4 @@ module _ (text sheet out : List ℕ) (n : ℕ) (done : (rewrite_corrected_left t
   -- the calls leave the same for it as for both texts
   pub rewritten_answer_left : (all : Bool) (marks room : List ℕ) → answer_for_left all marks left room ≡ answer_with_left all marks text sheet room
   unfolding answer_for_left answer_with_left
-  rewritten_answer_left all marks room = ap (λ (l : List ℕ). text_left (passed l) room) (rewritten_answer all marks)
+  rewritten_answer_left all marks room = ap (λ (l : List ℕ). text_left (Ok l) room) (rewritten_answer all marks)

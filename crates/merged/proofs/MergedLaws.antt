@@ -6,7 +6,7 @@ use mathlib.Core.List.{List, [], ◌∷◌, ◌++◌, append_assoc}
 use Prim.Native.Nat.{ℕ, zero, suc, ◌+◌, ◌≤◌, ◌<◌}
 use native.Mathlib.Omega.{arith}
 use lib.ListN.{length, drop, length-drop, drop_of_length-le}
-use Rattle.text.specs.Line.{line_at, after, Line, holds}
+use Rattle.text.specs.Line.{line_at, after, Line}
 use Rattle.text.proofs.LineLaws.{line_le_length}
 use Rattle.sections.specs.Section.{read, lines_at}
 use Rattle.sections.proofs.SectionLaws.{read_is, section_text}
@@ -22,6 +22,7 @@ use Rattle.rowlines.specs.Rows.{picked_row}
 use Rattle.trips.proofs.FirstLine.{first_line}
 use Rattle.trips.proofs.SectionTrip.{row_line_of}
 use Rattle.merged.specs.Merged.{is_row, as_row, merged_from}
+use Rattle.std.specs.Prelude.{Ok}
 
 -- a line that is not empty and no C line, and one that is
 abbrev pub Other : (line : List ℕ) → Type 0
@@ -35,7 +36,7 @@ unfolding columns_text head_text
 own_line i c = (omega arith, refl)
 
 -- ---- a row's line, whichever its kind, is the C line of what it holds
-as_row_lem : (kind : RowKind) (zones : ℕ) (line : List ℕ) (i : ℕ) (c : RowLine) → line_by kind zones line i ≡ holds c → as_row kind zones line i ≡ row_line_of i c
+as_row_lem : (kind : RowKind) (zones : ℕ) (line : List ℕ) (i : ℕ) (c : RowLine) → line_by kind zones line i ≡ Ok c → as_row kind zones line i ≡ row_line_of i c
 as_row_lem row_kind.Table zones line i c e = (row_read_lem row_kind.Table zones line i c e).0
 as_row_lem row_kind.Sheet zones line i c e = rw e
 
@@ -56,7 +57,7 @@ module _ (zones : ℕ) (pick : Piece → ℕ → Piece) (text : List ℕ) where
     handed_line line is o = line-here (rw is o.0) ∙ rw (is, o.1)
 
   -- ---- lines other than C lines are not changed
-  module _ {A : Type 0} (judge : List ℕ → ℕ → Line A) (first : ℕ) (text_of : ℕ → A → List ℕ) (Line-read : (line : List ℕ) (i : ℕ) (a : A) → judge line i ≡ holds a → line ≡ text_of i a)
+  module _ {A : Type 0} (judge : List ℕ → ℕ → Line A) (first : ℕ) (text_of : ℕ → A → List ℕ) (Line-read : (line : List ℕ) (i : ℕ) (a : A) → judge line i ≡ Ok a → line ≡ text_of i a)
       (other : (i : ℕ) (a : A) → Other (text_of i a)) (row : ℕ) where
     pub others_stay : (n p i : ℕ) (xs : List A) (e : ℕ) → lines_at judge first n text p i ≡ read xs e → merged_at p row ≡ section_text text_of i xs ++ merged_at e row
     unfolding lines_at

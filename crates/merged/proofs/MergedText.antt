@@ -1,11 +1,11 @@
 -- 02, E2: "Demands 2 and 3 then read of the merged table". The table that is read of two texts is the table of the merged text, byte for byte.
+use Rattle.std.specs.Prelude.{Ok}
 use mathlib.Core.Path.{◌≡◌, refl, sym, ap, ◌∙◌}
 use mathlib.Core.Bool.{false}
 use mathlib.Core.List.{List, ◌++◌}
 use Prim.Native.Nat.{ℕ}
 use native.Mathlib.Omega.{arith}
 use lib.IntN.{ℤ}
-use Rattle.refusals.specs.Refusals.{passed}
 use Rattle.types.specs.declared.Header.{Header}
 use Rattle.types.specs.Ranges.{allocated_items, profiled}
 use Rattle.text.specs.Line.{line_at, after, Line}
@@ -48,7 +48,7 @@ unfolding columns_text head_text
 border_other i raw = (omega arith, refl)
 
 -- ---- the table that was read with a sheet, by its lines
-module _ (text sheet : List ℕ) (t day : Table) (o : Opened (handed_by sheet) text t) (days : lines_of text ≡ passed day) where
+module _ (text sheet : List ℕ) (t day : Table) (o : Opened (handed_by sheet) text t) (days : lines_of text ≡ Ok day) where
   corrected-lined : Lined t o.lines
   corrected-lined = record {
     nets_long = (nets_held _ text t o).0;
@@ -82,7 +82,7 @@ module _ (text sheet : List ℕ) (t day : Table) (o : Opened (handed_by sheet) t
 
 -- ---- the theorem
 -- the table that two texts give, written, is the merged text, byte for byte
-pub merged_text_lem : (text sheet : List ℕ) (t : Table) → read_corrected text sheet ≡ passed t → table_text t ≡ merged_text text sheet
+pub merged_text_lem : (text sheet : List ℕ) (t : Table) → read_corrected text sheet ≡ Ok t → table_text t ≡ merged_text text sheet
 merged_text_lem text sheet t e =
     let c = corrected text sheet t e in
     let o = c.opened in
@@ -90,5 +90,5 @@ merged_text_lem text sheet t e =
     text_sections t o.lines (corrected-lined text sheet t c.day o days) ∙ sym (merged-sections text sheet t c.day o days)
 
 -- reading both texts is reading the merged one
-pub merged_reads : (text sheet : List ℕ) (t : Table) → read_corrected text sheet ≡ passed t → read_text (merged_text text sheet) ≡ passed t
+pub merged_reads : (text sheet : List ℕ) (t : Table) → read_corrected text sheet ≡ Ok t → read_text (merged_text text sheet) ≡ Ok t
 merged_reads text sheet t e = ap read_text (sym (merged_text_lem text sheet t e)) ∙ merged_reads_back text sheet t e

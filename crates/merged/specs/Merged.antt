@@ -1,11 +1,11 @@
 -- The merged text (02, E2: "for each row the line handed on is the piece of the sheet that holds it, or else the piece of the day's text"), said of the bytes
 -- of the two texts: each row stands there as a C line. A C line that is handed on is that very line; a line of the planners' sheet (02, E11) is its values written as a
 -- C line, for as many zones as the day's H line says.
-use Rattle.std.specs.Prelude.{Bool, cond, List, [], ◌∷◌, ◌++◌, ℕ, ◌+◌, eqb}
+use Rattle.std.specs.Prelude.{Bool, cond, List, [], ◌∷◌, ◌++◌, ℕ, ◌+◌, eqb, Ok, Err}
 use Prim.Native.Char.{code}
 use Rattle.numbers.specs.Below.{at}
 use Rattle.types.specs.declared.Header.{Header}
-use Rattle.text.specs.Line.{line_at, Line, holds, form, range}
+use Rattle.text.specs.Line.{line_at, Line}
 use Rattle.lines.specs.Lines.{RowLine, header_line}
 use Rattle.lines.specs.SheetLine.{sheet_line}
 use Rattle.lines.specs.declared.row.RowKind.{RowKind}
@@ -19,9 +19,8 @@ is_row line = eqb (at line 0) (code "C")
 
 -- what a line holds, written as the C line of row i; a line that holds no row stays
 abbrev pub held_text : Line RowLine → (line : List ℕ) → (i : ℕ) → List ℕ
-held_text (holds c) line i = row_text i c.values c.factors
-held_text (form byte) line i = line
-held_text (range byte) line i = line
+held_text (Ok c) line i = row_text i c.values c.factors
+held_text (Err bad) line i = line
 
 -- row i's line as a C line, by its kind
 abbrev pub as_row : RowKind → (zones : ℕ) → (line : List ℕ) → (i : ℕ) → List ℕ
@@ -37,9 +36,8 @@ merged_from zones pick i (line ∷ rest) =
 
 -- how many zones an H line says
 abbrev pub zones_in : Line Header → ℕ
-zones_in (holds h) = h.zones
-zones_in (form byte) = 0
-zones_in (range byte) = 0
+zones_in (Ok h) = h.zones
+zones_in (Err bad) = 0
 
 unfoldable pub merged_text : (text sheet : List ℕ) → List ℕ
 merged_text text sheet = merged_from (zones_in (header_line (line_at text 0))) (handed_by sheet) 0 (pieces text)

@@ -1,40 +1,14 @@
 // What is said of a day: what is wrong with the files that are named, and what became of an hour, whose label stands in front.
-ghost use Rattle.std.specs.Prelude.{◌≤◌, length};
-ghost use Rattle.io.specs.Counts.{IsPrefixLen};
+use system::{STDERR, say};
 
-use crate::say;
-use arguments::lists;
-use system::STDERR;
+// No file is named.
+pub fn no_file() {
+    say(b"keravnoth: day: no file is named\n");
+}
 
-// The ways in which the files can be wrong, by their lines in `misuse`.
-pub const NO_FILE: usize = 0;
-
-pub const TOO_MANY: usize = 1;
-
-pub const NO_LABEL: usize = 2;
-
-pub const NO_COLUMN: usize = 3;
-
-pub const LABEL_LONG: usize = 4;
-
-pub const STANDARD_INPUT: usize = 5;
-
-// A misuse: the name that is wrong, empty where it is no name, and in which way.
-pub fn misuse(name: &[u8], way: usize) {
-    say(b"keravnoth: day: ");
-    if way >= NO_LABEL {
-        quote(name);
-    }
-    say(lists::line(
-        b"no file is named\n\
-        more than 100 files for one sheet or page\n\
-        \x20gives no label: it is empty, or has a tab or another control byte\n\
-        \x20gives no label: it is empty, or has a tab or another control byte, or a semicolon or a quote\n\
-        \x20gives no label: it has more than 255 bytes\n\
-        \x20is standard input, which has no label\n",
-        way,
-    ));
-    say(b"\n");
+// More files are named than a sheet or a page has hours.
+pub fn too_many() {
+    say(b"keravnoth: day: more than 100 files for one sheet or page\n");
 }
 
 // Another number of files is named than was expected.
@@ -44,6 +18,40 @@ pub fn counted(expected: u64, named: u64) {
     say(b" tables were expected, and ");
     io::print_decimal(STDERR, named);
     say(b" are named\n");
+}
+
+// Why the name of a file gives no label.
+#[derive(Clone, Copy)]
+pub enum NoLabel {
+    StandardInput,
+    WrongByte,
+    // for a sheet
+    WrongByteOfSheet,
+    TooLong,
+}
+
+impl NoLabel {
+    fn words(self) -> &'static str {
+        match self {
+            NoLabel::StandardInput => "is standard input, which has no label",
+            NoLabel::WrongByte => {
+                "gives no label: it is empty, or has a tab or another control byte"
+            }
+            NoLabel::WrongByteOfSheet => {
+                "gives no label: it is empty, or has a tab or another control byte, or a semicolon or a quote"
+            }
+            NoLabel::TooLong => "gives no label: it has more than 255 bytes",
+        }
+    }
+}
+
+// The name of a file gives no label.
+pub fn unlabelled(name: &[u8], why: NoLabel) {
+    say(b"keravnoth: day: ");
+    quote(name);
+    say(b" ");
+    say(why.words().as_bytes());
+    say(b"\n");
 }
 
 // Two files have one label.
@@ -79,51 +87,25 @@ fn of_hour(label: &[u8]) {
 
 fn quote(text: &[u8]) {
     say(b"'");
-    say_plain(text);
+    for part in text.chunk_by(|&one, &next| is_plain(one) && is_plain(next)) {
+        say_plain(part);
+    }
     say(b"'");
 }
 
-// A text on one line: a byte that is no plain character is shown as two hex digits in brackets.
-fn say_plain(text: &[u8]) {
-    let mut from: usize = 0;
-    while from < text.len() {
-        let end = next_other(text, from);
-        say(&text[from..end]);
-        if end == text.len() {
-            return;
+fn is_plain(byte: u8) -> bool {
+    matches!(byte, b' '..=b'~')
+}
+
+// Plain characters, or one byte that is none, which is shown as two hex digits in brackets: all stands on one line.
+fn say_plain(part: &[u8]) {
+    match part {
+        [byte] if !is_plain(*byte) => {
+            let digits = b"0123456789ABCDEF";
+            let high = digits[*byte as usize / 16];
+            let low = digits[*byte as usize % 16];
+            say(&[b'[', high, low, b']']);
         }
-        say_hex(text[end]);
-        from = end + 1;
+        _ => say(part),
     }
-}
-
-// The first place from there on whose byte is no plain character, or the text's end.
-fn next_other(text: &[u8], from: usize) -> usize
-    requires { from ≤ length text.now }
-    ensures lower_bound { from ≤ result }
-    ensures prefix_len { IsPrefixLen result text.now }
-{
-    let mut i = from;
-    while i < text.len() {
-        if text[i] < b' ' || text[i] > b'~' {
-            return i;
-        }
-        i += 1;
-    }
-    i
-}
-
-fn say_hex(byte: u8) {
-    let line = [b'[', hex(byte / 16), hex(byte % 16), b']'];
-    say(&line);
-}
-
-fn hex(digit: u8) -> u8 {
-    if digit < 10 {
-        return b'0' + digit;
-    }
-    if digit < 16 {
-        return b'A' + (digit - 10);
-    }
-    b'?'
 }

@@ -8,84 +8,99 @@ pub mod usage;
 ghost use Rattle.io.specs.Counts.{IsPrefixLen};
 
 use arguments::{Piece, lists};
-use system::{STDERR, System};
-use text::Number;
+use system::{STDERR, System, say};
 
-// The ways in which arguments can be wrong, by their lines in `misuse`.
-pub const TOO_LONG: usize = 0;
+// The ways in which arguments can be wrong.
+#[derive(Clone, Copy)]
+pub enum Fault {
+    TooLong,
+    Unknown,
+    Twice,
+    NoList,
+    NoDescriptor,
+    OneTooMany,
+    NoNumber,
+    FileMissing,
+    ListMissing,
+    DescriptorMissing,
+    TextMissing,
+    NotWith,
+    NameEmpty,
+    StandardInput,
+    NoBorder,
+    BorderMissing,
+    NumberMissing,
+    NoWord,
+    TableMissing,
+    OtherProgram,
+}
 
-pub const UNKNOWN: usize = 1;
-
-pub const TWICE: usize = 2;
-
-pub const NO_LIST: usize = 3;
-
-pub const NO_DESCRIPTOR: usize = 4;
-
-pub const ONE_TOO_MANY: usize = 5;
-
-pub const NO_NUMBER: usize = 6;
-
-pub const FILE_MISSING: usize = 7;
-
-pub const LIST_MISSING: usize = 8;
-
-pub const DESCRIPTOR_MISSING: usize = 9;
-
-pub const TEXT_MISSING: usize = 10;
-
-pub const NOT_WITH: usize = 11;
-
-pub const NAME_EMPTY: usize = 12;
-
-pub const STANDARD_INPUT: usize = 13;
-
-pub const NO_BORDER: usize = 14;
-
-pub const BORDER_MISSING: usize = 15;
-
-pub const NUMBER_MISSING: usize = 16;
-
-pub const NO_WORD: usize = 17;
-
-pub const TABLE_MISSING: usize = 18;
-
-pub const OTHER_PROGRAM: usize = 19;
-
-// A misuse: the option or word that it is about, the piece of an argument that is wrong, 0 for each that there is none of, and in which way.
-pub fn misuse(sys: &System, of: usize, wrong: Piece, way: usize) {
-    say(b"keravnoth: ");
-    if of > 0 {
-        show(sys, arguments::whole(of), b'=');
-        say(b": ");
+impl Fault {
+    fn words(self) -> &'static str {
+        match self {
+            Fault::TooLong => "is too long to be read",
+            Fault::Unknown => "is not known",
+            Fault::Twice => "given twice",
+            Fault::NoList => "is no list of borders, as 0,3,7 is",
+            Fault::NoDescriptor => "is no descriptor",
+            Fault::OneTooMany => "is one word too many",
+            Fault::NoNumber => "is no number",
+            Fault::FileMissing => "the file is missing",
+            Fault::ListMissing => "the list is missing",
+            Fault::DescriptorMissing => "the descriptor is missing",
+            Fault::TextMissing => "the text is missing",
+            Fault::NotWith => "does not go with it",
+            Fault::NameEmpty => "the file's name is empty",
+            Fault::StandardInput => "is standard input, which is for the table alone",
+            Fault::NoBorder => "is no border",
+            Fault::BorderMissing => "the border is missing",
+            Fault::NumberMissing => "the number is missing",
+            Fault::NoWord => "is no word either",
+            Fault::TableMissing => "the second table is missing, or --corrections",
+            Fault::OtherProgram => "the program beside this one answers that",
+        }
     }
-    if wrong.at > 0 {
-        quote(sys, wrong);
+}
+
+// A misuse: the argument whose option or word it is about, the piece of an argument that is wrong, and in which way.
+#[derive(Clone, Copy)]
+pub struct Misuse {
+    pub about: Option<usize>,
+    pub wrong: Option<Piece>,
+    pub fault: Fault,
+}
+
+impl Misuse {
+    // An option or a word lacks something, or may not stand there.
+    pub fn about(argument: usize, fault: Fault) -> Misuse {
+        Misuse {
+            about: Some(argument),
+            wrong: None,
+            fault,
+        }
     }
-    say(lists::line(
-        b"is too long to be read\n\
-        is not known\n\
-        given twice\n\
-        is no list of borders, as 0,3,7 is\n\
-        is no descriptor\n\
-        is one word too many\n\
-        is no number\n\
-        the file is missing\n\
-        the list is missing\n\
-        the descriptor is missing\n\
-        the text is missing\n\
-        does not go with it\n\
-        the file's name is empty\n\
-        is standard input, which is for the table alone\n\
-        is no border\n\
-        the border is missing\n\
-        the number is missing\n\
-        is no word either\n\
-        the second table is missing, or --corrections\n\
-        the program beside this one answers that\n",
-        way,
-    ));
-    say(b"; see keravnoth --help\n");
+
+    // An argument is wrong by itself.
+    pub fn argument(at: usize, fault: Fault) -> Misuse {
+        Misuse {
+            about: None,
+            wrong: Some(Piece::whole(at)),
+            fault,
+        }
+    }
+
+    pub fn tell(self, sys: &System) {
+        say(b"keravnoth: ");
+        if let Some(at) = self.about {
+            show(sys, Piece::whole(at), b'=');
+            say(b": ");
+        }
+        if let Some(piece) = self.wrong {
+            quote(sys, piece);
+        }
+        say(self.fault.words().as_bytes());
+        say(b"; see keravnoth --help\n");
+    }
 }
 
 fn quote(sys: &System, piece: Piece) {
@@ -117,14 +132,9 @@ fn show_text(text: &[u8], stop: u8) {
 fn shown(text: &[u8], stop: u8) -> usize
     ensures { IsPrefixLen result text.now }
 {
-    let mut i: usize = 0;
-    while i < text.len() {
-        if i == SHOWN_MOST || text[i] < b' ' || text[i] == stop {
-            break;
-        }
-        i += 1;
-    }
-    i
+    let most = text.len().min(SHOWN_MOST);
+    let ends = |&byte: &u8| byte < b' ' || byte == stop;
+    text[..most].iter().position(ends).unwrap_or(most)
 }
 
 // Says that a file cannot be read, and why.
@@ -133,82 +143,66 @@ pub fn unread(sys: &System, name: &[u8]) {
     sys.fail(name);
 }
 
-// One line for a refusal, by its number, place and byte (01, "When the table is turned away"; 02, E2, E3, E5, E6, E10 and E13), the table's text and how long
-// those are that go with it: 1, 9 and 13 have more than one meaning. Before it stands what it is about where that is named.
-pub fn refusal(
-    of: &[u8],
-    number: u64,
-    place: u64,
-    byte: u64,
-    text: &[u8],
-    sheet: usize,
-    file: usize,
-) {
+// The texts that are answered together: a table, the sheet that corrects it, and the file that goes with a word; empty where there is none.
+#[derive(Clone, Copy)]
+pub struct Texts<'a> {
+    pub table: &'a [u8],
+    pub sheet: &'a [u8],
+    pub file: &'a [u8],
+}
+
+// One line for a refusal, by its number, place and byte (01, "When the table is turned away"; 02, E2, E3, E5, E6, E10 and E13), and the texts that were read:
+// 1, 9 and 13 have more than one meaning. Before it stands what it is about where that is named.
+pub fn refusal(of: &[u8], number: u64, place: u64, byte: u64, texts: &Texts) {
     begin(of);
-    let k = meaning(number, place, text, sheet, file);
-    if k < MEANINGS {
-        say_line(&meanings::LINES, k, place, byte);
-        return;
-    }
-    say_line(
-        b"the table is refused (#): see docs/REFUSALS.md\n\
-        the table has more than 65,536 bytes: send one hour alone\n\
-        the file has more than 65,536 bytes: give the rows, or the claims, of one hour alone\n\
-        the correction sheet has more than 65,536 bytes: give the changed rows of one hour alone\n\
-        no corner sheet: the table has no row #: ask for a row that it has, from 0 on\n\
-        no corner sheet: the table has # borders, and a sheet has 12 at most: take borders out\n\
-        no border is marked, so none may rise: name one at least after --marks, or leave the option out\n\
-        mark # of the list is no border of the table, or was given before: look at what follows --marks\n",
-        k - MEANINGS,
-        place,
-        byte,
-    )
+    say_line(meaning(number, place, texts), place, byte);
 }
 
-// So many numbers have a meaning in the list that C has too (crate meanings); the lines above come after them.
-const MEANINGS: usize = meanings::LAST as usize + 1;
-
-// Which of the lines says what a refusal means: the number's own, or one of those behind them where the number has more than one meaning.
-fn meaning(number: u64, place: u64, text: &[u8], sheet: usize, file: usize) -> usize {
+// What a refusal means: the words that C has too (crate meanings) where they say enough.
+fn meaning(number: u64, place: u64, texts: &Texts) -> &'static [u8] {
     match number {
-        1 => too_long(sheet, file),
-        2..=7 => number as usize,
-        9 => no_corners(text),
-        10..=12 => number as usize,
-        13 => {
-            if place == 0 {
-                MEANINGS + 6
-            } else {
-                MEANINGS + 7
-            }
-        }
-        _ => MEANINGS,
+        1 => too_long(texts).as_bytes(),
+        2..=7 | 10..=12 => lists::line(&meanings::LINES, number as usize),
+        9 => no_corners(texts.table).as_bytes(),
+        13 => bad_mark(place).as_bytes(),
+        _ => b"the table is refused (#): see docs/REFUSALS.md",
     }
 }
 
-// 1: which text is too long, by the bytes of those that go with the table. They are looked at before it.
-fn too_long(sheet: usize, file: usize) -> usize {
-    if file > text::BYTES_MOST {
-        return MEANINGS + 2;
+// 1: which text is too long. The others are looked at before the table.
+fn too_long(texts: &Texts) -> &'static str {
+    if texts.file.len() > text::BYTES_MOST {
+        "the file has more than 65,536 bytes: give the rows, or the claims, of one hour alone"
+    } else if texts.sheet.len() > text::BYTES_MOST {
+        "the correction sheet has more than 65,536 bytes: give the changed rows of one hour alone"
+    } else {
+        "the table has more than 65,536 bytes: send one hour alone"
     }
-    if sheet > text::BYTES_MOST {
-        return MEANINGS + 3;
-    }
-    MEANINGS + 1
 }
 
 // 9: which of its two causes it is (02, E1): whether the second number of a good table's first line is too large for a sheet.
-fn no_corners(text: &[u8]) -> usize {
-    let Number::Value(_, next) = text::field::number_at(text, 2, b'\t') else {
-        return MEANINGS + 4;
-    };
-    let Number::Value(borders, _) = text::field::number_at(text, next, b'\t') else {
-        return MEANINGS + 4;
-    };
-    if borders > cornerrules::BORDERS_MOST as u64 {
-        return MEANINGS + 5;
+fn no_corners(text: &[u8]) -> &'static str {
+    match borders_of(text) {
+        Some(borders) if borders > cornerrules::BORDERS_MOST as u64 => {
+            "no corner sheet: the table has # borders, and a sheet has 12 at most: take borders out"
+        }
+        _ => "no corner sheet: the table has no row #: ask for a row that it has, from 0 on",
     }
-    MEANINGS + 4
+}
+
+fn borders_of(text: &[u8]) -> Option<u64> {
+    let (_, next) = text::field::number_at(text, 2, b'\t').ok()?;
+    let (borders, _) = text::field::number_at(text, next, b'\t').ok()?;
+    Some(borders)
+}
+
+// 13: whether there is a mark to blame.
+fn bad_mark(place: u64) -> &'static str {
+    if place == 0 {
+        "no border is marked, so none may rise: name one at least after --marks, or leave the option out"
+    } else {
+        "mark # of the list is no border of the table, or was given before: look at what follows --marks"
+    }
 }
 
 // A table has not the border that is asked for, but so many.
@@ -216,16 +210,8 @@ pub fn no_border(border: u64, borders: usize) {
     say(b"keravnoth: there is no border ");
     io::print_decimal(STDERR, border);
     say(b": the table has borders 0 to ");
-    io::print_decimal(STDERR, last_of(borders));
+    io::print_decimal(STDERR, borders.saturating_sub(1) as u64);
     say(b"\n");
-}
-
-// The last index of so many.
-fn last_of(count: usize) -> u64 {
-    if count == 0 {
-        return 0;
-    }
-    count as u64 - 1
 }
 
 // Says words as a line, and before them what they are about where that is named.
@@ -237,24 +223,19 @@ pub fn line(of: &[u8], words: &[u8]) {
 
 fn begin(of: &[u8]) {
     say(b"keravnoth: ");
-    if of.len() > 0 {
+    if !of.is_empty() {
         say(of);
         say(b": ");
     }
 }
 
-fn say(words: &[u8]) {
-    io::write_all(STDERR, words);
-}
-
-// Line k of a list, with the place where it has a #, and the byte after the place where one is to blame.
-fn say_line(list: &[u8], k: usize, place: u64, byte: u64) {
-    let line = lists::line(list, k);
+// A line of words, with the place where it has a #, and the byte after the place where one is to blame.
+fn say_line(line: &[u8], place: u64, byte: u64) {
     let n = lists::find(line, 0, b'#');
     say(&line[..n]);
     if n < line.len() {
         say_place(place, byte);
-        say(arguments::tail(line, n + 1));
+        say(&line[n + 1..]);
     }
     say(b"\n");
 }

@@ -35,24 +35,16 @@ pub fn usage(sys: &System) -> bool {
 
 // The gate holds the first line to the notes of what was built and to the C header. The second says what whoever starts the program knows of its
 // proof: the program cannot know it itself, since it is built only when it is proved.
-pub fn version(sys: &System, proved: Piece) -> bool {
+pub fn version(sys: &System, proved: Option<Piece>) -> bool {
     sys.print(
         b"keravnoth: rules: document 01; requests of document 02: E1, E2, E3, E4, E5, E6, E7, E8, E9, E10, E11, E12, E13, E14; C interface: 1.0.0\nproved in",
     ) && logic(sys, proved)
 }
 
-fn logic(sys: &System, proved: Piece) -> bool {
-    if proved.at == 0 {
-        return named(sys, b"");
-    }
+fn logic(sys: &System, proved: Option<Piece>) -> bool {
     let mut own = arguments::room();
-    let n = sys.arg(proved.at, &mut own);
-    named(sys, arguments::tail(&own[..n], proved.from))
-}
-
-fn named(sys: &System, text: &[u8]) -> bool {
-    if text.len() == 0 {
-        return sys.print(b": not named by what started the program\n");
+    match proved.map(|piece| piece.read(sys, &mut own)) {
+        None | Some(b"") => sys.print(b": not named by what started the program\n"),
+        Some(text) => sys.print(b" ") && sys.print(text) && sys.print(b"\n"),
     }
-    sys.print(b" ") && sys.print(text) && sys.print(b"\n")
 }

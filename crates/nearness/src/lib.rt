@@ -5,80 +5,72 @@
 
 ghost use Rattle.std.specs.Prelude.{◌≡◌, true, ℕ, ◌*◌, ◌-◌, ◌/◌, ◌^◌, ◌<◌, ◌≤◌, ltb, length};
 ghost use Rattle.numbers.specs.Below.{at};
-ghost use Rattle.rounds.specs.AllRounds.{flat, Ready};
+ghost use Rattle.rounds.specs.AllRounds.{Ready};
+ghost use Rattle.walk.specs.Flat.{flat_of};
 ghost use Rattle.nearness.specs.Near.{Sortable, Yields, Placed, Sorted};
+
+use walk::Loads;
+use walk::grid::Grid;
 
 // Lists at the front of `near` the rows that each of the next 2^bits rounds looks at. Only rows for which `near` has a place are tried. Answers how many are listed.
 pub fn find_near(
-    rows: usize,
-    borders: usize,
-    p: &[u64],
+    grid: &Grid,
     ns: &[u64],
     margins: &[u64],
     caps: &[u64],
     rising: &[usize],
-    live: usize,
     bits: u64,
     near: &mut [usize],
 ) -> usize
-    requires borders_in_bounds { rows * borders ≤ length p.now }
-    requires sortable { Sortable (flat rows borders p.now) ns.now margins.now caps.now rising.now live }
-    requires near_len_bound { (length near.old ≤ rows) × (bits < 64) }
-    ensures { Sorted (flat rows borders p.now) margins.now caps.now rising.now live (2 ^ bits) near.new result (length near.new) }
+    requires sortable { Sortable (flat_of grid.now) ns.now margins.now caps.now rising.now }
+    requires near_len_bound { (length near.old ≤ grid.now.rows) × (bits < 64) }
+    ensures { Sorted (flat_of grid.now) margins.now caps.now rising.now (2 ^ bits) near.new result (length near.new) }
 {
     let mut count: usize = 0;
     for i in 0..near.len() {
-        let parts = walk::row_loads(rows, borders, p, i, caps, caps, rising, live);
-        let tight = is_near(margins[i], ns[i], parts.loss, parts.most, bits);
-        count = list_row(
-            rows, borders, p, ns, margins, rising, live, tight, i, near, count,
-        );
+        let loads = walk::row_loads(grid, i, caps, caps, rising);
+        if is_near(margins[i], ns[i], loads, bits) {
+            count = list_row(grid, ns, margins, rising, i, near, count);
+        }
     }
     count
 }
 
 // Whether 2^bits rounds, each with this round's loss, could leave less than n times the largest part: the row could then tighten a cap.
-fn is_near(margin: u64, n: u64, loss: u64, most: u64, bits: u64) -> bool
-    requires { (most * n ≤ margin) × (bits < 64) }
-    ensures { result ≡ ltb ((margin - most * n) / 2 ^ bits) loss }
+fn is_near(margin: u64, n: u64, loads: Loads, bits: u64) -> bool
+    requires { (loads.most * n ≤ margin) × (bits < 64) }
+    ensures { result ≡ ltb ((margin - loads.most * n) / 2 ^ bits) loads.loss }
 {
-    let slack = margin - most * n;
-    slack >> bits < loss
+    let slack = margin - loads.most * n;
+    slack >> bits < loads.loss
 }
 
-// Lists row `i`, if it is tight, after the first `count` of `near`. If it yields to the first of them, it is not listed; if the first yields to it, it takes that place.
+// Lists row `i` after the first `count` of `near`. If it yields to the first of them, it is not listed; if the first yields to it, it takes that place.
 // Answers how many are listed then.
 fn list_row(
-    rows: usize,
-    borders: usize,
-    p: &[u64],
+    grid: &Grid,
     ns: &[u64],
     margins: &[u64],
     rising: &[usize],
-    live: usize,
-    tight: bool,
     i: usize,
     near: &mut [usize],
     count: usize,
 ) -> usize
-    requires borders_in_bounds { (rows * borders ≤ length p.now) × (i < rows) }
-    requires ready { Ready (flat rows borders p.now) ns.now margins.now }
-    requires live_in_bounds { (live ≤ length rising.now) × ((j : ℕ) → j < live → at rising.now j < borders) }
+    requires row_in_bounds { i < grid.now.rows }
+    requires ready { Ready (flat_of grid.now) ns.now margins.now }
+    requires rising_in_bounds { (j : ℕ) → j < length rising.now → at rising.now j < grid.now.borders }
     requires count_le_i { (count ≤ i) × (i < length near.old) × ((j : ℕ) → j < count → at near.old j < i) }
-    ensures { Placed (flat rows borders p.now) margins.now rising.now live tight near.old count i near.new result }
+    ensures { Placed (flat_of grid.now) margins.now rising.now near.old count i near.new result }
 {
-    if !tight {
-        return count;
-    }
     if count == 0 {
         near[0] = i;
         return 1;
     }
     let first = near[0];
-    if yields(rows, borders, p, ns, margins, rising, live, first, i) {
+    if yields(grid, ns, margins, rising, first, i) {
         return count;
     }
-    if yields(rows, borders, p, ns, margins, rising, live, i, first) {
+    if yields(grid, ns, margins, rising, i, first) {
         near[0] = i;
         return count;
     }
@@ -87,32 +79,19 @@ fn list_row(
 }
 
 // Whether row `i` yields to row `t`: true only where it does.
-fn yields(
-    rows: usize,
-    borders: usize,
-    p: &[u64],
-    ns: &[u64],
-    margins: &[u64],
-    rising: &[usize],
-    live: usize,
-    t: usize,
-    i: usize,
-) -> bool
-    requires borders_in_bounds { (rows * borders ≤ length p.now) × (t < rows) × (i < rows) }
-    requires ready { Ready (flat rows borders p.now) ns.now margins.now }
-    requires live_in_bounds { (live ≤ length rising.now) × ((j : ℕ) → j < live → at rising.now j < borders) }
-    ensures { result ≡ true → Yields (flat rows borders p.now) margins.now rising.now live t i }
+fn yields(grid: &Grid, ns: &[u64], margins: &[u64], rising: &[usize], t: usize, i: usize) -> bool
+    requires rows_in_bounds { (t < grid.now.rows) × (i < grid.now.rows) }
+    requires ready { Ready (flat_of grid.now) ns.now margins.now }
+    requires rising_in_bounds { (j : ℕ) → j < length rising.now → at rising.now j < grid.now.borders }
+    ensures { result ≡ true → Yields (flat_of grid.now) margins.now rising.now t i }
 {
-    if margins[i] < margins[t] {
+    if margins[i] < margins[t] || ns[t] < ns[i] {
         return false;
     }
-    if ns[t] < ns[i] {
-        return false;
-    }
-    for j in 0..live {
-        let b = rising[j];
-        let f = walk::grid::factor(rows, borders, p, t, b);
-        if f < walk::grid::factor(rows, borders, p, i, b) {
+    let leading = grid.row(t);
+    let yielding = grid.row(i);
+    for &b in rising {
+        if leading[b] < yielding[b] {
             return false;
         }
     }

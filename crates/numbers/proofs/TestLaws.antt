@@ -1,8 +1,8 @@
 -- What tests tell: of two that hold together, and of a test that holds of every index below a bound. No contract cites this file.
 -- `zero_one` ends a case that cannot be: `cc` has two constructors that are equal give any equation, this one too.
+use Rattle.std.specs.Prelude.{None, Option, Some}
 use mathlib.Core.Path.{◌≡◌, refl, sym, ap, ◌∙◌}
 use mathlib.Core.Bool.{Bool, true, false, not, ◌&&◌, ◌||◌, false≢true}
-use mathlib.Core.Option.{Option, none, some}
 use Prim.Native.Nat.{ℕ, ◌<◌}
 use native.Mathlib.Omega.{arith}
 use borrow.Author.Tests.{not-true, not-false}
@@ -27,10 +27,10 @@ pub true_false : {A : Type 0} {t : Bool} → t ≡ true → t ≡ false → A
 true_false e q = absurd (false≢true (sym q ∙ e))
 
 -- ---- some_below
-given_not : (o : Option ℕ) → given o ≡ false → o ≡ none
+given_not : (o : Option ℕ) → given o ≡ false → o ≡ None
 unfolding given
-given_not none e = refl
-given_not (some i) e = absurd (false≢true (sym e))
+given_not None e = refl
+given_not (Some i) e = absurd (false≢true (sym e))
 
 module _ (n : ℕ) (test : ℕ → Bool) where
   pub some_false : some_below n test ≡ false → (k : ℕ) → k < n → test k ≡ false

@@ -1,10 +1,10 @@
 -- Reading by any limit of borders (02, E8: "Raise borders from 40 to 64. Old texts stay valid and mean the same."). The limit stands in the judgement of the H
 -- line alone: in its range, and in which of its bytes is to blame. At today's limit this is `read_text` (proofs/OldTexts: `read-now`), so that nothing of it can
 -- differ from how texts are read but the limit.
-use Rattle.std.specs.Prelude.{Bool, cond, List, ℕ, ltb, ℤ, length}
+use Rattle.std.specs.Prelude.{Bool, cond, List, ℕ, ltb, ℤ, length, Err}
 use Prim.Native.Char.{code}
 use Rattle.limits.specs.Limits.{bytes_most}
-use Rattle.refusals.specs.Refusals.{Judged, refused, then, either, too_long}
+use Rattle.refusals.specs.Refusals.{Judged, then, either, too_long}
 use Rattle.types.specs.declared.Header.{Header}
 use Rattle.types.specs.LineColumns.{header_columns, default_columns}
 use Rattle.types.specs.Ranges.{all_true, header_tests_by, profiled}
@@ -47,7 +47,7 @@ lines_within limit text =
     allocated_from as_given text (profiled counts (intraday_at text p)) nets p))
 
 unfoldable pub read_within : (limit : ℕ) → (text : List ℕ) → Judged Table
-read_within limit text = cond (ltb bytes_most (length text)) (refused too_long) (then (lines_within limit text) not_twice)
+read_within limit text = cond (ltb bytes_most (length text)) (Err too_long) (then (lines_within limit text) not_twice)
 
 -- the answer to it, of every border or with marks
 unfoldable pub answer_within : (limit : ℕ) → (all : Bool) → (marks text : List ℕ) → List ℕ

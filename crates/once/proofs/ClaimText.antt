@@ -10,7 +10,7 @@ use Rattle.claimtext.specs.contracts.published_text.{signature}
 use Rattle.claimtext.proofs.published_text.Kinds as kinds
 use Rattle.claimtext.proofs.published_text.Reads as reads
 
-pub published_text_once : (κs : Lfts 7) (x : ArgsD signature κs) (r r' : ResD signature κs) (s s' : AtExit (ended_of 7 kinds.ps kinds.r) κs)
+pub published_text_once : (κs : Lfts 4) (x : ArgsD signature κs) (r r' : ResD signature κs) (s s' : AtExit (ended_of 4 kinds.ps kinds.r) κs)
     → reads.Post κs x r s → reads.Post κs x r' s'
-    → (r ≡ r') × (s.1.1.1.1.1.1.1.0.now ≡ s'.1.1.1.1.1.1.1.0.now)
+    → (r ≡ r') × (s.1.1.0.now ≡ s'.1.1.0.now)
 published_text_once κs x r r' s s' p q = said_once _ _ _ _ _ p q

@@ -10,6 +10,6 @@ use Rattle.claims.specs.contracts.judge_claims.{signature}
 use Rattle.claims.proofs.judge_claims.Kinds as kinds
 use Rattle.claims.proofs.judge_claims.Reads as reads
 
-pub judge_claims_once : (κs : Lfts 6) (x : ArgsD signature κs) (r r' : ResD signature κs) (s s' : AtExit (ended_of 6 kinds.ps kinds.r) κs)
+pub judge_claims_once : (κs : Lfts 3) (x : ArgsD signature κs) (r r' : ResD signature κs) (s s' : AtExit (ended_of 3 kinds.ps kinds.r) κs)
     → reads.Post κs x r s → reads.Post κs x r' s' → r ≡ r'
 judge_claims_once κs x r r' s s' p q = said_judgement_injective _ r r' (p ∙ sym q)

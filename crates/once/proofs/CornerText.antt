@@ -10,7 +10,7 @@ use Rattle.cornertext.specs.contracts.corner_text.{signature}
 use Rattle.cornertext.proofs.corner_text.Kinds as kinds
 use Rattle.cornertext.proofs.corner_text.Reads as reads
 
-pub corner_text_once : (κs : Lfts 6) (x : ArgsD signature κs) (r r' : ResD signature κs) (s s' : AtExit (ended_of 6 kinds.ps kinds.r) κs)
+pub corner_text_once : (κs : Lfts 3) (x : ArgsD signature κs) (r r' : ResD signature κs) (s s' : AtExit (ended_of 3 kinds.ps kinds.r) κs)
     → reads.Post κs x r s → reads.Post κs x r' s'
-    → (r ≡ r') × (s.1.1.1.1.1.1.1.0.now ≡ s'.1.1.1.1.1.1.1.0.now)
+    → (r ≡ r') × (s.1.1.0.now ≡ s'.1.1.0.now)
 corner_text_once κs x r r' s s' p q = said_once _ _ _ _ _ p q

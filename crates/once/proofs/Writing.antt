@@ -13,9 +13,9 @@ use Rattle.rewriting.specs.contracts.rewrite_corrected as rewrite
 use Rattle.rewriting.proofs.rewrite_corrected.Kinds as rewrite-kinds
 use Rattle.rewriting.proofs.rewrite_corrected.Reads as rewrite-reads
 
--- `out` is the call's seventh argument
-pub write_once : (κs : Lfts 6) (x : ArgsD signature κs) (r r' : ResD signature κs) (s s' : AtExit (ended_of 6 kinds.ps kinds.r) κs)
-    → reads.Post κs x r s → reads.Post κs x r' s' → (r ≡ r') × (s.1.1.1.1.1.1.0.now ≡ s'.1.1.1.1.1.1.0.now)
+-- `out` is the call's second argument
+pub write_once : (κs : Lfts 3) (x : ArgsD signature κs) (r r' : ResD signature κs) (s s' : AtExit (ended_of 3 kinds.ps kinds.r) κs)
+    → reads.Post κs x r s → reads.Post κs x r' s' → (r ≡ r') × (s.1.0.now ≡ s'.1.0.now)
 write_once κs x r r' s s' p q = said_once _ _ _ _ _ p q
 
 -- `out` is the call's third argument; both texts have one lifetime

@@ -3,19 +3,19 @@
 
 ghost use Rattle.std.specs.Prelude.{◌≡◌, ℕ, ◌*◌, ◌^◌, ◌<◌, ◌≤◌, length};
 ghost use Rattle.numbers.specs.Below.{at, table, over};
-ghost use Rattle.numbers.specs.First.{found};
 ghost use Rattle.types.specs.Ranges.{at_ℤ};
-ghost use Rattle.rounds.specs.AllRounds.{flat, stop_by};
+ghost use Rattle.rounds.specs.AllRounds.{stop_by};
+ghost use Rattle.walk.specs.Flat.{flat_of};
 ghost use Rattle.outcome.specs.Outcome.{StopFits, row_or_dash, border_left, left_of_margin, left_of_row};
 
-use numbers::First;
+use walk::grid::Grid;
 
 // A border at the end of the rounds: its exchange, kW, the last round that raised it, and the row that stopped it.
 #[derive(Clone, Copy)]
 pub struct BorderResult {
     pub kw: u64,
     pub last: u64,
-    pub stop: First,
+    pub stop: Option<usize>,
 }
 
 // A border's result: ATC, MW; last round; stopping row.
@@ -33,22 +33,20 @@ impl BorderResult {
     // The row, or `DASH`.
     fn stop_row(self) -> i64
         requires { StopFits self.stop }
-        ensures { result ≡ row_or_dash (found self.stop) }
+        ensures { result ≡ row_or_dash self.stop }
     {
-        let stop = self.stop;
-        match stop {
-            First::At(i) => i as i64,
-            First::Nothing => BorderResult::DASH,
+        match self.stop {
+            Some(i) => i as i64,
+            None => BorderResult::DASH,
         }
     }
 
     // The exchange is floored to whole MW, once, here.
     fn as_record(self) -> AtcRecord
         requires { (self.last < 2 ^ 63) × StopFits self.stop }
-        ensures { result ≡ border_left self.kw self.last (found self.stop) }
+        ensures { result ≡ border_left self.kw self.last self.stop }
     {
-        let row = self.stop_row();
-        [(self.kw / 1000) as i64, self.last as i64, row]
+        [(self.kw / 1000) as i64, self.last as i64, self.stop_row()]
     }
 }
 
@@ -88,32 +86,22 @@ impl RowResult {
         requires { (self.state ≤ 2) × (self.margin < 2 ^ 63) }
         ensures { result ≡ left_of_row self.state self.ram self.margin }
     {
-        let left = self.margin_left();
-        [self.state as i64, self.ram, left]
+        [self.state as i64, self.ram, self.margin_left()]
     }
 }
 
 // Stores the record of each border, whose stopping row is found here by the rows' equal shares of their margins left.
-pub fn store_atcs(
-    rows: usize,
-    borders: usize,
-    p: &[u64],
-    x: &[u64],
-    lasts: &[u64],
-    shares: &[u64],
-    atc: &mut [AtcRecord],
-)
-    requires borders_in_bounds { (rows * borders ≤ length p.now) × (length shares.now ≡ rows) × (rows < 2 ^ 63) }
-    requires x_len { (length x.now ≡ borders) × (length lasts.now ≡ borders) × (borders ≤ length atc.old) }
-    requires by_index { (b : ℕ) → b < borders → at lasts.now b < 2 ^ 63 }
-    ensures { atc.new ≡ over (table borders (λ b. border_left (at x.now b) (at lasts.now b) (stop_by (flat rows borders p.now) shares.now b))) atc.old }
+pub fn store_atcs(grid: &Grid, x: &[u64], lasts: &[u64], shares: &[u64], atc: &mut [AtcRecord])
+    requires shares_len { (length shares.now ≡ grid.now.rows) × (grid.now.rows < 2 ^ 63) }
+    requires x_len { (length x.now ≡ grid.now.borders) × (length lasts.now ≡ grid.now.borders) × (grid.now.borders ≤ length atc.old) }
+    requires by_index { (b : ℕ) → b < grid.now.borders → at lasts.now b < 2 ^ 63 }
+    ensures { atc.new ≡ over (table grid.now.borders (λ b. border_left (at x.now b) (at lasts.now b) (stop_by (flat_of grid.now) shares.now b))) atc.old }
 {
-    for b in 0..borders {
-        let stop = walk::stopping::stop_row(rows, borders, p, shares, b);
+    for b in 0..grid.borders {
         let result = BorderResult {
             kw: x[b],
             last: lasts[b],
-            stop: stop,
+            stop: walk::stopping::stop_row(grid, shares, b),
         };
         atc[b] = result.as_record();
     }

@@ -8,9 +8,8 @@ ghost use Rattle.result.specs.Refusal.{refusal_text, refusal_most};
 ghost use Rattle.output.specs.Buffer.{bytes_of, Printed, Told};
 ghost use Rattle.output.specs.Heard.{refusal_in, heard_of};
 
-use refusals::{Refusal, Written};
+use refusals::Refusal;
 use system::System;
-use text::Number;
 
 // What came of printing.
 #[derive(Clone, Copy)]
@@ -34,38 +33,35 @@ pub fn put(sys: &System, printed: &[u8]) -> Ended {
 pub fn heard(printed: &[u8]) -> Ended
     ensures { result ≡ heard_of printed.now }
 {
-    if printed.len() == 0 {
-        return Ended::Answered;
+    match printed {
+        [b'E', ..] => refusal_in(printed),
+        _ => Ended::Answered,
     }
-    if printed[0] == b'E' {
-        return refusal_in(printed);
-    }
-    Ended::Answered
 }
 
 fn refusal_in(line: &[u8]) -> Ended
     ensures { result ≡ refusal_in line.now }
 {
-    let Number::Value(number, at) = text::field::number_at(line, 2, b'\t') else {
+    let Ok((number, at)) = text::field::number_at(line, 2, b'\t') else {
         return Ended::Refused(0, 0, 0);
     };
-    let Number::Value(place, next) = text::field::number_at(line, at, b'\t') else {
+    let Ok((place, next)) = text::field::number_at(line, at, b'\t') else {
         return Ended::Refused(0, 0, 0);
     };
-    let Number::Value(byte, _) = text::field::number_at(line, next, b'\n') else {
+    let Ok((byte, _)) = text::field::number_at(line, next, b'\n') else {
         return Ended::Refused(0, 0, 0);
     };
     Ended::Refused(number, place, byte)
 }
 
 // How many bytes a call wrote, or if it was refused the E line, written here.
-pub fn told(said: Written, out: &mut [u8]) -> usize
+pub fn told(said: Result<usize, Refusal>, out: &mut [u8]) -> usize
     requires { refusal_most ≤ length out.old }
     ensures { Told said out.old result out.new }
 {
     match said {
-        Written::Bytes(n) => n,
-        Written::Refused(w) => refusal_line(w, out),
+        Ok(n) => n,
+        Err(w) => refusal_line(w, out),
     }
 }
 
@@ -77,12 +73,12 @@ pub fn refusal_line(w: Refusal, out: &mut [u8]) -> usize
     bytes_of(result::refusal::write_refusal(w, out))
 }
 
-fn bytes_of(said: Written) -> usize
+fn bytes_of(said: Result<usize, Refusal>) -> usize
     ensures { result ≡ bytes_of said }
 {
     match said {
-        Written::Bytes(n) => n,
-        Written::Refused(_) => 0,
+        Ok(n) => n,
+        Err(_) => 0,
     }
 }
 
@@ -91,19 +87,14 @@ pub fn put_bytes(bytes: &[u8], out: &mut [u8], at: usize) -> usize
     requires { at + length bytes.now ≤ length out.old }
     ensures { Put bytes.now at out.old result out.new }
 {
-    let mut next = at;
-    for k in 0..bytes.len() {
-        next = text::put::put_byte(bytes[k], out, next);
-    }
-    next
+    let end = at + bytes.len();
+    out[at..end].copy_from_slice(bytes);
+    end
 }
 
 // How many bytes of a text are printed of which a call says that it wrote so many. It never says more than it was lent: asking spares a proof of it.
 pub fn cut(n: usize, out: &[u8]) -> usize
     ensures { IsPrefixLen result out.now }
 {
-    if n <= out.len() {
-        return n;
-    }
-    out.len()
+    n.min(out.len())
 }

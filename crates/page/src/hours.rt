@@ -1,29 +1,27 @@
 // An hour's part of a page: its heading, and what is known of it.
 ghost use Rattle.std.specs.Prelude.{◌≡◌, ◌*◌, ◌≤◌, length};
 ghost use Rattle.limits.specs.Limits.{zones_most, borders_most, rows_most};
-ghost use Rattle.tablerules.specs.Table.{lent, front};
+ghost use Rattle.tablerules.specs.Table.{front, lent_view};
 ghost use Rattle.tablerules.specs.Good.{Good};
 
-use boundrules::Bounded;
 use output::Ended;
 use pagefacts::{RECORDS, hour};
 use pageform::Figures;
-use reading::TableRead;
 use system::System;
+use tablerules::TableView;
 use types::{Border, BorderRecord, Header, Row, RowRecord};
 
 // Room for the reasons of 64 borders, each of fewer than 4,096 bytes.
 const WHYS: usize = 262144;
 
 // Prints hour `number` of a page of several, or the only one, which is 0.
-pub fn print<'a>(
+pub fn print(
     sys: &System,
     number: u64,
     label: &[u8],
-    all: bool,
-    marks: &[u64],
-    text: &'a [u8],
-    sheet: &'a [u8],
+    marks: Option<&[u64]>,
+    text: &[u8],
+    sheet: &[u8],
 ) -> Ended {
     if !print_heading(sys, number, label) {
         return Ended::Failed;
@@ -39,7 +37,6 @@ pub fn print<'a>(
     let mut whys: [u8; WHYS] = [0; WHYS];
     print_in(
         sys,
-        all,
         marks,
         text,
         sheet,
@@ -55,16 +52,17 @@ pub fn print<'a>(
 
 pub fn print_heading(sys: &System, number: u64, label: &[u8]) -> bool {
     let r = hour::numbered(pagefacts::blank(), number);
-    piece(sys, 0, &r) && pageform::say_safe(sys, label) && piece(sys, 1, &r)
+    say(sys, Piece::Heading, &r)
+        && pageform::say_safe(sys, label)
+        && say(sys, Piece::HeadingEnd, &r)
 }
 
 // Apart from `print`, so that proof goals do not contain its arrays.
-fn print_in<'a>(
+fn print_in(
     sys: &System,
-    all: bool,
-    marks: &[u64],
-    text: &'a [u8],
-    sheet: &'a [u8],
+    marks: Option<&[u64]>,
+    text: &[u8],
+    sheet: &[u8],
     z: &mut [i64],
     t: &mut [i64],
     b: &mut [BorderRecord],
@@ -76,78 +74,65 @@ fn print_in<'a>(
     requires { (zones_most ≤ length z.old) × (zones_most ≤ length t.old) × (borders_most ≤ length b.old) × (rows_most ≤ length c.old) × (rows_most * zones_most ≤ length f.old) }
 {
     match reading::read_into(text, sheet, z, t, b, c, f) {
-        TableRead::Table(h) => print_table(
-            sys, all, marks, h, z, t, b, c, f, text, sheet, records, whys,
-        ),
-        TableRead::Refused(w) => print_unread(
-            sys,
-            hour::refused(first_of(records), w),
-            text,
-            sheet,
-        ),
+        Ok(h) => {
+            let view = TableView {
+                header: h,
+                nets: z,
+                allocated: t,
+                borders: b,
+                rows: c,
+                factors: f,
+            };
+            print_table(sys, marks, &view, text, sheet, records, whys)
+        }
+        Err(w) => print_unread(sys, hour::refused(first_of(records), w), text, sheet),
     }
 }
 
-fn print_table<'a>(
+fn print_table(
     sys: &System,
-    all: bool,
-    marks: &[u64],
-    h: Header,
-    z: &[i64],
-    t: &[i64],
-    b: &[BorderRecord],
-    c: &[RowRecord],
-    f: &[i64],
-    text: &'a [u8],
-    sheet: &'a [u8],
+    marks: Option<&[u64]>,
+    view: &TableView,
+    text: &[u8],
+    sheet: &[u8],
     records: &mut [Figures],
     whys: &mut [u8],
 ) -> Ended
-    requires { Good (front (lent h z.now t.now b.now c.now f.now)) }
+    requires { Good (front (lent_view view.now)) }
 {
-    let measured = measure(all, marks, h, z, t, b, c, f, records, whys);
-    pagesame::note(h.zones, f, records);
+    let measured = measure(marks, view, records, whys);
+    pagesame::note(view.header.zones, view.factors, records);
     let r = pagedraw::draw(measured, records);
     print_hour(sys, r, text, sheet, records, whys)
 }
 
 // The hour's record, with that of its borders and rows: what was surveyed, and the bound of the rounds.
 fn measure(
-    all: bool,
-    marks: &[u64],
-    h: Header,
-    z: &[i64],
-    t: &[i64],
-    b: &[BorderRecord],
-    c: &[RowRecord],
-    f: &[i64],
+    marks: Option<&[u64]>,
+    view: &TableView,
     records: &mut [Figures],
     whys: &mut [u8],
 ) -> Figures
-    requires { Good (front (lent h z.now t.now b.now c.now f.now)) }
+    requires { Good (front (lent_view view.now)) }
 {
-    let r = hour::headed(first_of(records), h, all);
-    let seen = pagelook::survey(all, marks, h, z, t, b, c, f, records, whys);
-    match bound::bound_good(h, z, t, b, c, f, all, marks) {
-        Bounded::Rounds(most) => hour::bounded(r, seen.rounds, most, seen.at),
-        Bounded::Refused(w) => hour::refused(r, w),
+    let r = hour::headed(first_of(records), view.header, marks.is_none());
+    let seen = pagelook::survey(marks, view, records, whys);
+    match bound::bound_good(view, marks) {
+        Ok(most) => hour::bounded(r, seen.rounds, most, seen.at),
+        Err(w) => hour::refused(r, w),
     }
 }
 
 fn first_of(records: &[Figures]) -> Figures {
-    if 0 < records.len() {
-        records[0]
-    } else {
-        pagefacts::blank()
-    }
+    records.first().copied().unwrap_or(pagefacts::blank())
 }
 
 // A table that was read: its capacities and reasons, or why it is refused; and its rows.
-fn print_hour<'a>(
+fn print_hour(
     sys: &System,
     r: Figures,
-    text: &'a [u8],
-    sheet: &'a [u8],
+    text: &[u8],
+    sheet: &[u8],
     records: &[Figures],
     whys: &[u8],
 ) -> Ended {
@@ -155,7 +140,7 @@ fn print_hour<'a>(
         let n = r[hour::WHYS] as usize;
         return written(
             pagehour::print_head(sys, r)
-                && pagehour::print(sys, r, records, front(whys, n))
+                && pagehour::print(sys, r, records, whys.get(..n).unwrap_or(whys))
                 && print_foot(sys, r, text),
             Ended::Answered,
         );
@@ -171,9 +156,11 @@ fn print_hour<'a>(
 }
 
 // A text that is no table.
-fn print_unread<'a>(sys: &System, r: Figures, text: &'a [u8], sheet: &'a [u8]) -> Ended {
+fn print_unread(sys: &System, r: Figures, text: &[u8], sheet: &[u8]) -> Ended {
     written(
-        piece(sys, 2, &r) && pagerefused::print(sys, r, r, text, sheet) && print_foot(sys, r, text),
+        say(sys, Piece::Unread, &r)
+            && pagerefused::print(sys, r, r, text, sheet)
+            && print_foot(sys, r, text),
         refusal(r),
     )
 }
@@ -187,48 +174,47 @@ fn refusal(r: Figures) -> Ended {
 }
 
 fn row_at(i: usize, records: &[Figures]) -> Figures {
-    let k = std::num::wrapping_add_usize(pagefacts::ROWS, i);
-    if k < records.len() {
-        return records[k];
+    let row = records.get(pagefacts::ROWS.saturating_add(i)).copied();
+    row.unwrap_or(pagefacts::blank())
+}
+
+// A longer text than a table may have is not read to its end, so its length is not known.
+fn print_foot(sys: &System, mut r: Figures, text: &[u8]) -> bool {
+    if text.len() <= text::BYTES_MOST {
+        r[hour::BYTES] = text.len() as u64;
     }
-    pagefacts::blank()
+    say(sys, Piece::Foot, &r)
 }
-
-// The first n bytes, or all.
-fn front<'a>(text: &'a [u8], n: usize) -> &'a [u8] {
-    if text.len() < n {
-        return text;
-    }
-    &text[0..n]
-}
-
-fn print_foot(sys: &System, r: Figures, text: &[u8]) -> bool {
-    let foot = sized(r, text.len());
-    piece(sys, FOOT, &foot)
-}
-
-// A longer text is not read to its end, so its length is not known.
-fn sized(mut r: Figures, bytes: usize) -> Figures {
-    if text::BYTES_MOST < bytes {
-        return r;
-    }
-    r[hour::BYTES] = bytes as u64;
-    r
-}
-
-pub const FOOT: usize = 3;
 
 // W: the foot is that of a day
-pub const DAY: usize = 48;
+const DAY: usize = 48;
 
-pub fn piece(sys: &System, line: usize, figures: &[u64]) -> bool {
+// The foot of a day's page, which speaks of what an answered hour shows.
+pub fn print_day_foot(sys: &System) -> bool {
+    let mut r = pagefacts::blank();
+    r[hour::ANSWERED] = 1;
+    r[hour::KEPT] = 1;
+    r[DAY] = 1;
+    say(sys, Piece::Foot, &r)
+}
+
+// The pieces, in the order of their lines.
+#[derive(Clone, Copy)]
+enum Piece {
+    Heading,
+    HeadingEnd,
+    Unread,
+    Foot,
+}
+
+fn say(sys: &System, piece: Piece, figures: &Figures) -> bool {
     pageform::say(
         sys,
         b"{H<h2 class=\"hr\" id=\"h$H\">|<h1>}\n\
         {H</h2>`<p class=\"screen\"><a href=\"#strip\">All hours</a></p>|</h1>}`\n\
         <p class=\"sub\">Capacities (ATCs) of one hour</p>`\n\
         {H{t<p class=\"foot\">From a table of $t bytes.</p>`}|<p class=\"foot\">{AA row stops a border when its equal share of what is left is under one kW for that border; the result names the first such row. Where the page says that another row was first, that row had nothing for the border in the round after its last. What a border uses of a row is its ATC times its factor on the row. }{kFigures in MW with decimals are cut after the last decimal, not rounded; &lt;0.1 is more than nothing and less than 0.1. }{ALong-term nominations are not taken off. Closed lists are not printed: open them first. }Made by keravnoth {Wday --page; the same tables give|page{t from a table of $t bytes}; the same table gives} the same page.</p>`}\n",
-        line,
+        piece as usize,
         figures,
     )
 }

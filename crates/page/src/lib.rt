@@ -10,18 +10,17 @@ use pageframe::{BODY, END, STYLE, TITLE, plain};
 use system::System;
 
 // Prints the page of the table that the text holds, as the sheet corrects it. Where `all` borders may rise, the marks are not looked at.
-pub fn print<'a>(
+pub fn print(
     sys: &System,
     label: &[u8],
-    all: bool,
-    marks: &[u64],
-    text: &'a [u8],
-    sheet: &'a [u8],
+    marks: Option<&[u64]>,
+    text: &[u8],
+    sheet: &[u8],
 ) -> Ended {
     if !begin(sys, label) {
         return Ended::Failed;
     }
-    let ended = hours::print(sys, 0, label, all, marks, text, sheet);
+    let ended = hours::print(sys, 0, label, marks, text, sheet);
     if !plain(sys, END) {
         return Ended::Failed;
     }

@@ -3,7 +3,7 @@
 
 pub mod scale;
 
-ghost use Rattle.std.specs.Prelude.{◌<◌, ◌≤◌};
+ghost use Rattle.std.specs.Prelude.{◌≤◌};
 
 use pageform::Figures;
 
@@ -17,33 +17,19 @@ const MOST: u64 = 18014398509481984;
 
 const UNITS_MOST: u64 = 512;
 
+pub const BELOW_0: u64 = 9223372036854775808;
+
 // Where a value stands on a bar of so many units, which is worth `end`: never behind its end, and at 0 where the value is below 0.
 pub fn place(v: u64, end: u64, units: u64) -> u64
     ensures { result ≤ units }
 {
     if BELOW_0 <= v {
-        return 0;
+        0
+    } else if end <= v {
+        units
+    } else {
+        v.min(MOST) * units.min(UNITS_MOST) / end
     }
-    if end <= v {
-        return units;
-    }
-    part(v, end, units)
-}
-
-pub const BELOW_0: u64 = 9223372036854775808;
-
-fn part(v: u64, end: u64, units: u64) -> u64
-    requires { v < end }
-    ensures { result ≤ units }
-{
-    under(v, MOST) * under(units, UNITS_MOST) / end
-}
-
-// The number, or 0 where it is above the limit.
-fn under(n: u64, limit: u64) -> u64
-    ensures { (result ≤ limit) × (result ≤ n) }
-{
-    if n <= limit { n } else { 0 }
 }
 
 // A figure that is below 0 counts as 0.
@@ -51,27 +37,15 @@ pub fn positive(v: u64) -> u64 {
     if BELOW_0 <= v { 0 } else { v }
 }
 
-pub fn smaller(a: u64, b: u64) -> u64 {
-    if a < b { a } else { b }
-}
-
-pub fn larger(a: u64, b: u64) -> u64 {
-    if a < b { b } else { a }
-}
-
 // The end of a scale in grains. No scale ends behind 32 x 10^10 MW, and none of rows behind 2^48 grains.
 pub fn grains(mw: u64) -> u64 {
-    if mw < 10000000000 {
-        mw * 100000000
-    } else {
-        1000000000000000000
-    }
+    mw.min(10000000000) * 100000000
 }
 
 // The places of figures b to j of a row's record, which are grains until then.
 pub fn places(mut row: Figures, end: u64) -> Figures {
-    for k in 1..10 {
-        row[k] = place(row[k], end, ROW_UNITS);
+    for value in &mut row[1..10] {
+        *value = place(*value, end, ROW_UNITS);
     }
     row
 }

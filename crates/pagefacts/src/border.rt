@@ -1,9 +1,6 @@
 // A border's record.
-use crate::one_if;
-use forms::signed;
 use holding::{EndRecord, Reasons};
 use pageform::Figures;
-use text::put::magnitude;
 use types::BorderRecord;
 
 // a
@@ -67,35 +64,30 @@ const KW: u64 = 1000;
 
 // From, to and hubs of the border, as it was read.
 pub fn placed(mut r: Figures, index: usize, raw: BorderRecord) -> Figures {
-    let from = raw[0];
-    let to = raw[1];
     let sending = raw[3];
-    let receiving = raw[4];
     r[INDEX] = index as u64;
-    r[FROM] = signed(from);
-    r[TO] = signed(to);
-    r[HUBS] = one_if(0 <= sending);
-    r[SENDING] = signed(sending);
-    r[RECEIVING] = signed(receiving);
+    r[FROM] = raw[0].cast_unsigned();
+    r[TO] = raw[1].cast_unsigned();
+    r[HUBS] = u64::from(0 <= sending);
+    r[SENDING] = sending.cast_unsigned();
+    r[RECEIVING] = raw[4].cast_unsigned();
     r
 }
 
 // Its rise, from kW, and the rows that stopped it.
 pub fn risen(mut r: Figures, end: EndRecord, reasons: Reasons, others: u64, other: u64) -> Figures {
-    let from = end[0];
-    let to = end[1];
-    let start = magnitude(from) / KW;
-    let atc = magnitude(to) / KW;
-    let named = signed(reasons.named);
-    let ended = signed(reasons.ended);
-    r[MARKED] = one_if(0 <= reasons.ended);
+    let start = end[0].unsigned_abs() / KW;
+    let atc = end[1].unsigned_abs() / KW;
+    let named = reasons.named.cast_unsigned();
+    let ended = reasons.ended.cast_unsigned();
+    r[MARKED] = u64::from(0 <= reasons.ended);
     r[START] = start;
     r[ATC] = atc;
-    r[RAISED] = std::num::wrapping_sub_u64(atc, start);
+    r[RAISED] = atc.wrapping_sub(start);
     r[LAST] = reasons.last;
     r[NAMED] = named;
     r[ENDED] = ended;
-    r[SOONER] = one_if(named < ended);
+    r[SOONER] = u64::from(named < ended);
     r[OTHERS] = others;
     r[OTHER] = other;
     r

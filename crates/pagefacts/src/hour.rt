@@ -1,8 +1,6 @@
 // The hour's record.
-use crate::one_if;
 use pageform::Figures;
 use refusals::Refusal;
-use std::num::{wrapping_add_u64, wrapping_sub_u64};
 use tightrules::RoundsMost;
 use types::Header;
 
@@ -103,8 +101,8 @@ pub fn headed(mut r: Figures, h: Header, all: bool) -> Figures {
     r[ZONES] = h.zones as u64;
     r[BORDERS] = h.borders as u64;
     r[ROWS] = h.rows as u64;
-    r[INTRADAY] = one_if(h.is_intraday());
-    r[MARKS] = one_if(!all);
+    r[INTRADAY] = u64::from(h.is_intraday());
+    r[MARKS] = u64::from(!all);
     r[ROWS_OPEN] = 25;
     r[WHYS_OPEN] = 13;
     r
@@ -122,9 +120,9 @@ pub fn bounded(mut r: Figures, rounds: u64, most: RoundsMost, whys: usize) -> Fi
 }
 
 pub fn refused(mut r: Figures, w: Refusal) -> Figures {
-    r[NUMBER] = w.number as u64;
-    r[PLACE] = w.place as u64;
-    r[BYTE] = w.byte as u64;
+    r[NUMBER] = w.number() as u64;
+    r[PLACE] = w.place() as u64;
+    r[BYTE] = w.byte() as u64;
     r
 }
 
@@ -132,11 +130,11 @@ pub fn refused(mut r: Figures, w: Refusal) -> Figures {
 pub fn sorted(mut r: Figures, stop: u64, other: u64, small: u64, same: u64) -> Figures {
     r[STOP] = stop;
     r[OTHER] = other;
-    r[KEPT] = wrapping_add_u64(stop, other);
-    r[MORE] = wrapping_sub_u64(stop, 8);
+    r[KEPT] = stop.wrapping_add(other);
+    r[MORE] = stop.wrapping_sub(8);
     r[SMALL] = small;
     r[SAME] = same;
-    r[NOT_KEPT] = wrapping_add_u64(small, same);
+    r[NOT_KEPT] = small.wrapping_add(same);
     r
 }
 
@@ -145,12 +143,12 @@ pub fn scaled(mut r: Figures, end: u64, row_end: u64) -> Figures {
     let step = end / 4;
     let row_step = row_end / 4;
     r[STEP] = step;
-    r[STEPS] = wrapping_add_u64(step, step);
-    r[STEPS + 1] = wrapping_sub_u64(end, step);
+    r[STEPS] = step.wrapping_add(step);
+    r[STEPS + 1] = end.wrapping_sub(step);
     r[STEPS + 2] = end;
     r[ROW_STEP] = row_step;
-    r[ROW_STEPS] = wrapping_add_u64(row_step, row_step);
-    r[ROW_STEPS + 1] = wrapping_sub_u64(row_end, row_step);
+    r[ROW_STEPS] = row_step.wrapping_add(row_step);
+    r[ROW_STEPS + 1] = row_end.wrapping_sub(row_step);
     r[ROW_STEPS + 2] = row_end;
     r
 }

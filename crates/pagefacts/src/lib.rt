@@ -2,6 +2,8 @@
 // the letter by which pieces name it (crate pageform); a figure from 2^63 on is below 0.
 #![tactic(auto)]
 
+ghost use Rattle.std.specs.Prelude.{◌<◌};
+
 pub mod border;
 pub mod hour;
 pub mod row;
@@ -18,7 +20,9 @@ pub fn blank() -> Figures {
     [0; pageform::NAMES]
 }
 
-// 1 where it is true.
-pub fn one_if(true_of_it: bool) -> u64 {
-    if true_of_it { 1 } else { 0 }
+// How many records have a figure that is not 0.
+pub fn count(name: usize, records: &[Figures]) -> u64
+    requires { name < 52 }
+{
+    records.iter().filter(|r| r[name] != 0).count() as u64
 }

@@ -1,11 +1,8 @@
 // A row's record. Powers in grains.
-use crate::one_if;
-use forms::signed;
 use holding::HoldRecord;
-use pagebars::{larger, positive, smaller};
+use pagebars::positive;
 use pageform::Figures;
 use partrules::PartsRecord;
-use std::num::{wrapping_add_u64, wrapping_sub_u64};
 
 // a
 pub const INDEX: usize = 0;
@@ -87,61 +84,57 @@ pub const INTRADAY: usize = 34;
 pub const HOUR: usize = 33;
 
 // Why a row is shown.
-pub const STOPS: u64 = 1;
+#[derive(Clone, Copy)]
+pub enum Kind {
+    Stops = 1,
+    Kept,
+    Small,
+    SaysTheSame,
+}
 
-pub const KEPT: u64 = 2;
+// Whether the row is shown for that reason.
+pub fn is(r: &Figures, kind: Kind) -> bool {
+    r[KIND] == kind as u64
+}
 
-pub const SMALL: u64 = 3;
-
-pub const SAYS_THE_SAME: u64 = 4;
+pub fn is_kept(r: &Figures) -> bool {
+    is(r, Kind::Stops) || is(r, Kind::Kept)
+}
 
 // What its RAM is made of, and where its margin starts: below 0 where more is taken than RAM.
 pub fn made(mut r: Figures, index: usize, margin: PartsRecord, start: i64) -> Figures {
     let state = margin[0];
-    let n = margin[1];
-    let base = margin[4];
-    let amr = margin[5];
-    let lta_margin = margin[7];
-    let cva = margin[8];
-    let iva = margin[9];
     let ram = margin[10];
-    let begin = margin[11];
     r[INDEX] = index as u64;
-    r[SHARERS] = signed(n);
-    r[BASE] = signed(base);
-    r[AMR] = signed(amr);
-    r[LTA_MARGIN] = signed(lta_margin);
-    r[CVA] = signed(cva);
-    r[IVA] = signed(iva);
-    r[RAM] = signed(ram);
-    r[START] = signed(begin);
-    r[TAKEN] = wrapping_sub_u64(signed(ram), signed(start));
-    r[SHORT] = wrapping_sub_u64(0, signed(start));
-    r[OVER] = one_if(start < 0 && state == 0);
-    r[KIND] = kind_of(signed(state));
+    r[SHARERS] = margin[1].cast_unsigned();
+    r[BASE] = margin[4].cast_unsigned();
+    r[AMR] = margin[5].cast_unsigned();
+    r[LTA_MARGIN] = margin[7].cast_unsigned();
+    r[CVA] = margin[8].cast_unsigned();
+    r[IVA] = margin[9].cast_unsigned();
+    r[RAM] = ram.cast_unsigned();
+    r[START] = margin[11].cast_unsigned();
+    r[TAKEN] = ram.wrapping_sub(start).cast_unsigned();
+    r[SHORT] = start.wrapping_neg().cast_unsigned();
+    r[OVER] = u64::from(start < 0 && state == 0);
+    r[KIND] = match state {
+        0 => Kind::Kept,
+        1 => Kind::Small,
+        _ => Kind::SaysTheSame,
+    } as u64;
     r
-}
-
-fn kind_of(state: u64) -> u64 {
-    match state {
-        0 => KEPT,
-        1 => SMALL,
-        _ => SAYS_THE_SAME,
-    }
 }
 
 // What a border's reasons tell of the row, which may be the only one that stops that border.
 pub fn counted(mut r: Figures, hold: HoldRecord, alone: bool) -> Figures {
-    let n = hold[0];
-    let left = hold[1];
-    let allows = hold[2];
+    let [sharers, left, allows] = hold;
     if allows == 0 {
-        r[STOPPED] = wrapping_add_u64(r[STOPPED], 1);
-        r[ALONE] = wrapping_add_u64(r[ALONE], one_if(alone));
-        r[KIND] = STOPS;
+        r[STOPPED] = r[STOPPED].wrapping_add(1);
+        r[ALONE] = r[ALONE].wrapping_add(u64::from(alone));
+        r[KIND] = Kind::Stops as u64;
     }
-    r[SHARERS] = signed(n);
-    r[LEFT] = signed(left);
+    r[SHARERS] = sharers.cast_unsigned();
+    r[LEFT] = left.cast_unsigned();
     r
 }
 
@@ -150,19 +143,18 @@ pub fn summed(mut r: Figures, answered: bool) -> Figures {
     let start = positive(r[START]);
     let left = if answered { r[LEFT] } else { start };
     let taken = positive(r[TAKEN]);
-    let shared = wrapping_sub_u64(start, left);
-    let used = wrapping_add_u64(taken, shared);
-    let all = wrapping_add_u64(used, left);
-    let base = positive(r[BASE]);
-    let floor = wrapping_add_u64(r[BASE], r[AMR]);
-    let made = wrapping_add_u64(floor, r[LTA_MARGIN]);
-    let reach = larger(all, made);
+    let shared = start.wrapping_sub(left);
+    let used = taken.wrapping_add(shared);
+    let all = used.wrapping_add(left);
+    let floor = r[BASE].wrapping_add(r[AMR]);
+    let made = floor.wrapping_add(r[LTA_MARGIN]);
+    let reach = all.max(made);
     r[SHARED] = shared;
-    r[WITHIN] = smaller(taken, positive(r[RAM]));
+    r[WITHIN] = taken.min(positive(r[RAM]));
     r[TAKEN_AT] = taken;
     r[SHARED_AT] = used;
     r[LEFT_AT] = all;
-    r[BASE_AT] = base;
+    r[BASE_AT] = positive(r[BASE]);
     r[AMR_AT] = floor;
     r[MADE_AT] = made;
     r[REACH_AT] = reach;

@@ -34,28 +34,11 @@ pub fn say(sys: &System, list: &[u8], k: usize, figures: &[u64]) -> bool {
 pub fn put(list: &[u8], k: usize, figures: &[u64], out: &mut [u8], at: usize) -> usize
     ensures { IsPrefixLen result out.new }
 {
-    let next = put_piece(arguments::lists::line(list, k), figures, out, at);
-    within(next, out)
-}
-
-// The place, which no writer leaves behind the end.
-fn within(at: usize, out: &[u8]) -> usize
-    ensures { IsPrefixLen result out.now }
-{
-    if at < out.len() { at } else { out.len() }
-}
-
-fn put_piece(piece: &[u8], figures: &[u64], out: &mut [u8], at: usize) -> usize {
-    let mut state = State {
-        at: at,
-        skip: 0,
-        sign: 0,
-        name: 0,
-    };
-    for k in 0..piece.len() {
-        state = step::take(piece[k], state, figures, out);
+    let mut state = State::new(at);
+    for &byte in arguments::lists::line(list, k) {
+        state = state.take(byte, figures, out);
     }
-    state.at
+    state.at.min(out.len())
 }
 
 // Prints a text from outside.
@@ -69,6 +52,5 @@ pub fn say_safe(sys: &System, text: &[u8]) -> bool {
 pub fn put_safe(text: &[u8], out: &mut [u8], at: usize) -> usize
     ensures { IsPrefixLen result out.new }
 {
-    let next = safe::put(text, out, at);
-    within(next, out)
+    safe::put(text, out, at).min(out.len())
 }

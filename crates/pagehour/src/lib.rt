@@ -1,109 +1,149 @@
-// The pieces of an hour, and their order. A script names the pieces by letters, A the first, and behind each what it is printed for:
-//   h  the hour                      s  each row that stops borders    u  each row under 5%
-//   b  each border                   k  each other kept row            d  each row that says the same as another
-//   w  the reasons, and no piece
-// A part that does not belong on a page is left out by the conditions of its piece. Every id begins with the hour, so that a page can have several.
+// The pieces of an hour, and their order. A part that does not belong on a page is left out by the conditions of its piece. Every id begins with the hour, so that a page can have
+// several.
 #![tactic(auto)]
 
+use pagefacts::row::Kind;
 use pagefacts::{ROWS, hour, row};
 use pageform::Figures;
 use system::System;
 
-// An hour that is answered.
-pub fn print(sys: &System, r: Figures, records: &[Figures], whys: &[u8]) -> bool {
-    play(sys, b"BhCsDhEhFbGhHhIhJhKhMhNsGh", r, records, whys)
-        && print_others(sys, r, records)
-        && play(sys, b"QhRuShTdUhVhZwWh", r, records, whys)
+// The pieces, in the order of their lines.
+#[derive(Clone, Copy)]
+enum Piece {
+    Head,
+    StopsSummary,
+    StopsSummaryRow,
+    StopsSummaryEnd,
+    Borders,
+    Border,
+    TableEnd,
+    Rows,
+    StopsHeading,
+    RowTable,
+    StopsColumns,
+    OtherColumns,
+    ScaleColumns,
+    Row,
+    Others,
+    OthersEnd,
+    Small,
+    SmallRow,
+    Same,
+    SameRow,
+    SameEnd,
+    Whys,
+    WhysEnd,
 }
 
-fn print_others(sys: &System, r: Figures, records: &[Figures]) -> bool {
-    if r[hour::OTHER] == 0 {
-        return true;
-    }
-    play(sys, b"OhJhLhMhNkGhPh", r, records, b"")
+// The hour's record, and those of its borders and rows.
+#[derive(Clone, Copy)]
+struct Page<'a> {
+    sys: &'a System,
+    hour: &'a Figures,
+    records: &'a [Figures],
+}
+
+// An hour that is answered.
+pub fn print(sys: &System, r: Figures, records: &[Figures], whys: &[u8]) -> bool {
+    let page = Page {
+        sys,
+        hour: &r,
+        records,
+    };
+    page.print_borders()
+        && page.print_stops()
+        && page.print_others()
+        && page.print_not_kept()
+        && page.say(Piece::Whys)
+        && sys.print(whys)
+        && page.say(Piece::WhysEnd)
 }
 
 // What is known of an hour that is refused, its rows: no capacity.
 pub fn print_rows(sys: &System, r: Figures, records: &[Figures]) -> bool {
-    play(sys, b"HhJhMhNkGhQhRuShTdUh", r, records, b"")
+    let page = Page {
+        sys,
+        hour: &r,
+        records,
+    };
+    page.say(Piece::Rows)
+        && page.say(Piece::RowTable)
+        && page.say(Piece::ScaleColumns)
+        && page.say_rows(Piece::Row, Kind::Kept)
+        && page.say(Piece::TableEnd)
+        && page.print_not_kept()
 }
 
 // Its headline.
 pub fn print_head(sys: &System, r: Figures) -> bool {
-    piece(sys, 0, &r)
+    say(sys, Piece::Head, &r)
 }
 
-fn play(sys: &System, script: &[u8], r: Figures, records: &[Figures], whys: &[u8]) -> bool {
-    let mut line: u8 = 0;
-    for k in 0..script.len() {
-        let byte = script[k];
-        match byte {
-            b'A'..=b'Z' => line = byte - b'A',
-            _ => {
-                if !print_for(sys, byte, line, r, records, whys) {
-                    return false;
-                }
-            }
-        }
+impl<'a> Page<'a> {
+    fn print_borders(&self) -> bool {
+        self.say(Piece::StopsSummary)
+            && self.say_rows(Piece::StopsSummaryRow, Kind::Stops)
+            && self.say(Piece::StopsSummaryEnd)
+            && self.say(Piece::Borders)
+            && self.say_borders(Piece::Border)
+            && self.say(Piece::TableEnd)
     }
-    true
-}
 
-fn print_for(
-    sys: &System,
-    whom: u8,
-    letter: u8,
-    r: Figures,
-    records: &[Figures],
-    whys: &[u8],
-) -> bool {
-    let line = letter as usize;
-    match whom {
-        b'h' => piece(sys, line, &r),
-        b'b' => each_border(sys, line, r[hour::BORDERS], records),
-        b's' => each_row(sys, line, row::STOPS, records),
-        b'k' => each_row(sys, line, row::KEPT, records),
-        b'u' => each_row(sys, line, row::SMALL, records),
-        b'd' => each_row(sys, line, row::SAYS_THE_SAME, records),
-        _ => sys.print(whys),
+    fn print_stops(&self) -> bool {
+        self.say(Piece::Rows)
+            && self.say(Piece::StopsHeading)
+            && self.say(Piece::RowTable)
+            && self.say(Piece::StopsColumns)
+            && self.say(Piece::ScaleColumns)
+            && self.say_rows(Piece::Row, Kind::Stops)
+            && self.say(Piece::TableEnd)
     }
-}
 
-fn each_border(sys: &System, line: usize, borders: u64, records: &[Figures]) -> bool {
-    for k in 0..records.len() {
-        if borders <= k as u64 {
-            return true;
-        }
-        if !one_border(sys, line, records[k]) {
-            return false;
-        }
+    fn print_others(&self) -> bool {
+        self.hour[hour::OTHER] == 0
+            || self.say(Piece::Others)
+                && self.say(Piece::RowTable)
+                && self.say(Piece::OtherColumns)
+                && self.say(Piece::ScaleColumns)
+                && self.say_rows(Piece::Row, Kind::Kept)
+                && self.say(Piece::TableEnd)
+                && self.say(Piece::OthersEnd)
     }
-    true
-}
 
-fn one_border(sys: &System, line: usize, r: Figures) -> bool {
-    piece(sys, line, &r)
-}
-
-// Rows of one kind.
-fn each_row(sys: &System, line: usize, kind: u64, records: &[Figures]) -> bool {
-    for k in ROWS..records.len() {
-        if !one_row(sys, line, kind, records[k]) {
-            return false;
-        }
+    fn print_not_kept(&self) -> bool {
+        self.say(Piece::Small)
+            && self.say_rows(Piece::SmallRow, Kind::Small)
+            && self.say(Piece::Same)
+            && self.say_rows(Piece::SameRow, Kind::SaysTheSame)
+            && self.say(Piece::SameEnd)
     }
-    true
-}
 
-fn one_row(sys: &System, line: usize, kind: u64, r: Figures) -> bool {
-    if r[row::KIND] != kind {
-        return true;
+    // Prints a piece once.
+    fn say(&self, piece: Piece) -> bool {
+        say(self.sys, piece, self.hour)
     }
-    piece(sys, line, &r)
+
+    // Prints it for each border.
+    fn say_borders(&self, piece: Piece) -> bool {
+        let count = self.hour[hour::BORDERS] as usize;
+        self.records
+            .iter()
+            .take(count)
+            .all(|r| say(self.sys, piece, r))
+    }
+
+    // Prints it for each row of a kind.
+    fn say_rows(&self, piece: Piece, kind: Kind) -> bool {
+        self.records
+            .iter()
+            .skip(ROWS)
+            .filter(|r| row::is(r, kind))
+            .all(|r| say(self.sys, piece, r))
+    }
 }
 
 // Prints a piece with its figures. One literal has them all: a function with many is slow to check.
-fn piece(sys: &System, line: usize, figures: &[u64]) -> bool {
+fn say(sys: &System, piece: Piece, figures: &Figures) -> bool {
     pageform::say(
         sys,
         b"<p class=\"sub\">Capacities (ATCs) of one hour, {Iintraday: what may be sold in addition to the allocated positions|day-ahead}</p>`<div class=\"tiles\"><div><b>$z</b><span>zones</span></div><div><b>$b</b><span>borders</span></div>{A{m<div><b>$n</b><span>of them marked</span></div>}}<div><b>$r</b><span>rows, $k kept</span></div>{A<div><b>$R</b><span>?R2{Rround|rounds}|rounds}</span></div><div><b>$S</b><span>rounds at most (2 &#215; $N &#215; $L gives $B)</span></div>}</div>`{A<p class=\"screen\"><a href=\"#{Hh$H}borders\">Borders</a> &#183; <a href=\"#{Hh$H}rows\">Rows</a> &#183; <a href=\"#{Hh$H}why\">Why a border got no more</a></p>`}\n\
@@ -129,7 +169,7 @@ fn piece(sys: &System, line: usize, figures: &[u64]) -> bool {
         {v.</p>`}\n\
         <h{H3|2} id=\"{Hh$H}why\">Why a border got no more</h{H3|2}>`<details?by open=\"open\"}><summary>One paragraph for each border</summary>`<div class=\"why\">`\n\
         </div></details>`\n",
-        line,
+        piece as usize,
         figures,
     )
 }

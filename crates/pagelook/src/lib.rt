@@ -5,51 +5,39 @@
 mod look;
 
 ghost use Rattle.std.specs.Prelude.{◌≡◌, ◌≤◌, length};
-ghost use Rattle.tablerules.specs.Table.{lent, front};
+ghost use Rattle.tablerules.specs.Table.{front, lent_view};
 ghost use Rattle.tablerules.specs.Good.{Good};
 
 use pageform::Figures;
 use partrules::PartsRecord;
+use tablerules::TableView;
 use types::{BorderRecord, Header, RowRecord};
 
-// Where the next words go, how many rounds there were, and whether the hour is refused.
+// Where the next words go, and how many rounds there were.
 #[derive(Clone, Copy)]
 pub struct Seen {
     pub at: usize,
     pub rounds: u64,
-    pub refused: bool,
 }
 
 // Fills the records of a good table's borders and rows, and writes the reasons of all borders, one paragraph each, to `whys`. Where the hour is refused, the rows are
 // filled all the same. The room to work in is made here, and not in `survey_with`, whose goals would spell it out.
 pub fn survey(
-    all: bool,
-    marks: &[u64],
-    h: Header,
-    z: &[i64],
-    t: &[i64],
-    b: &[BorderRecord],
-    c: &[RowRecord],
-    f: &[i64],
+    marks: Option<&[u64]>,
+    view: &TableView,
     records: &mut [Figures],
     whys: &mut [u8],
 ) -> Seen
-    requires { Good (front (lent h z.now t.now b.now c.now f.now)) }
+    requires { Good (front (lent_view view.now)) }
 {
-    let count = h.rows;
+    let count = view.header.rows;
     let mut rams: [i64; limits::ROWS_MOST] = [0; limits::ROWS_MOST];
     let mut starts: [i64; limits::ROWS_MOST] = [0; limits::ROWS_MOST];
     let mut states: [u64; limits::ROWS_MOST] = [0; limits::ROWS_MOST];
     let mut margins: [PartsRecord; limits::ROWS_MOST] = [[0; partrules::ITEMS]; limits::ROWS_MOST];
     survey_with(
-        all,
         marks,
-        h,
-        z,
-        t,
-        b,
-        c,
-        f,
+        view,
         &mut rams[..count],
         &mut starts[..count],
         &mut states[..count],
@@ -61,14 +49,8 @@ pub fn survey(
 
 // What the margins are made of, and then border by border.
 fn survey_with(
-    all: bool,
-    marks: &[u64],
-    h: Header,
-    z: &[i64],
-    t: &[i64],
-    b: &[BorderRecord],
-    c: &[RowRecord],
-    f: &[i64],
+    marks: Option<&[u64]>,
+    view: &TableView,
     rams: &mut [i64],
     starts: &mut [i64],
     states: &mut [u64],
@@ -76,44 +58,33 @@ fn survey_with(
     records: &mut [Figures],
     whys: &mut [u8],
 ) -> Seen
-    requires good { Good (front (lent h z.now t.now b.now c.now f.now)) }
-    requires rams_len { (length rams.old ≡ h.rows) × (length starts.old ≡ h.rows) }
-    requires states_len { (length states.old ≡ h.rows) × (h.rows ≤ length margins.old) }
+    requires good { Good (front (lent_view view.now)) }
+    requires rams_len { (length rams.old ≡ view.now.header.rows) × (length starts.old ≡ view.now.header.rows) }
+    requires states_len { (length states.old ≡ view.now.header.rows) × (view.now.header.rows ≤ length margins.old) }
 {
-    states::fill_rows(h, z, t, b, c, f, rams, starts, states);
-    parts::margins_good(h, z, t, b, c, f, margins);
+    states::fill_rows(view, rams, starts, states);
+    parts::margins_good(view, margins);
     look::fill_rows(margins, starts, records);
-    each_border(all, marks, h, z, t, b, c, f, margins, starts, records, whys)
+    each_border(marks, view, margins, starts, records, whys)
 }
 
 // A refusal is the same for every border.
 fn each_border(
-    all: bool,
-    marks: &[u64],
-    h: Header,
-    z: &[i64],
-    t: &[i64],
-    b: &[BorderRecord],
-    c: &[RowRecord],
-    f: &[i64],
+    marks: Option<&[u64]>,
+    view: &TableView,
     margins: &[PartsRecord],
     starts: &[i64],
     records: &mut [Figures],
     whys: &mut [u8],
 ) -> Seen
-    requires { Good (front (lent h z.now t.now b.now c.now f.now)) }
+    requires { Good (front (lent_view view.now)) }
 {
-    let mut seen = look::nothing();
-    for k in 0..limits::BORDERS_MOST {
-        if h.borders <= k {
-            return seen;
-        }
-        seen = look::look(
-            k, all, marks, h, z, t, b, c, f, margins, starts, records, whys, seen.at,
-        );
-        if seen.refused {
-            return seen;
-        }
+    let mut seen = Seen { at: 0, rounds: 0 };
+    for k in 0..view.header.borders {
+        let Some(next) = look::look(k, marks, view, margins, starts, records, whys, seen.at) else {
+            break;
+        };
+        seen = next;
     }
     seen
 }

@@ -3,46 +3,55 @@
 
 mod line;
 
+use faultwords::Blamed;
 use pagefacts::hour;
 use pageform::Figures;
 use system::System;
 
-// What a refused text is blamed for stands in the words of crate faultwords: 2, 3 and 10.
+// The numbers of refusals (01): of a text or a sheet that is too long, by form, range, twin, limit and margin, and of a sheet.
+const TOO_LONG: u64 = 1;
+
 const FORM: u64 = 2;
 
 const RANGE: u64 = 3;
 
+const GIVEN_TWICE: u64 = 4;
+
+const UNLIMITED: u64 = 6;
+
+const BELOW_0: u64 = 7;
+
 const CORRECTION: u64 = 10;
+
+// The pieces that are of no refusal, and the other one of a text that is too long.
+const BEGIN: usize = 0;
+
+const SHEET_TOO_LONG: usize = 14;
+
+const ANSWER: usize = 15;
+
+const WORDS_END: usize = 16;
 
 // The record of the hour; that of the row that is blamed, where one is; both texts.
 pub fn print(sys: &System, r: Figures, row: Figures, table: &[u8], sheet: &[u8]) -> bool {
-    piece(sys, 0, &r)
-        && print_words(sys, r, row, table, sheet)
-        && piece(sys, 16, &r)
-        && print_line(sys, r, table, sheet)
-        && piece(sys, 15, &r)
+    say(sys, BEGIN, &r)
+        && print_words(sys, &r, &row, table, sheet)
+        && say(sys, WORDS_END, &r)
+        && print_line(sys, &r, table, sheet)
+        && say(sys, ANSWER, &r)
 }
 
-fn print_words(sys: &System, r: Figures, row: Figures, table: &[u8], sheet: &[u8]) -> bool {
-    let number = r[hour::NUMBER];
-    match number {
-        FORM | RANGE => print_fault(sys, faultwords::TABLE, r, table, table),
-        CORRECTION => print_fault(sys, faultwords::CORRECTIONS, r, table, sheet),
-        1 => piece(
-            sys,
-            if text::BYTES_MOST < sheet.len() {
-                14
-            } else {
-                1
-            },
-            &r,
-        ),
-        7 => piece(sys, 7, &row),
-        _ => piece(sys, number as usize, &r),
+fn print_words(sys: &System, r: &Figures, row: &Figures, table: &[u8], sheet: &[u8]) -> bool {
+    match r[hour::NUMBER] {
+        FORM | RANGE => print_fault(sys, Blamed::Table, r, table, table),
+        CORRECTION => print_fault(sys, Blamed::Corrections, r, table, sheet),
+        TOO_LONG if text::BYTES_MOST < sheet.len() => say(sys, SHEET_TOO_LONG, r),
+        BELOW_0 => say(sys, BELOW_0 as usize, row),
+        number => say(sys, number as usize, r),
     }
 }
 
-fn print_fault(sys: &System, of: usize, r: Figures, table: &[u8], text: &[u8]) -> bool {
+fn print_fault(sys: &System, of: Blamed, r: &Figures, table: &[u8], text: &[u8]) -> bool {
     let mut out = io::buffer();
     let n = faultwords::put(
         of,
@@ -56,21 +65,22 @@ fn print_fault(sys: &System, of: usize, r: Figures, table: &[u8], text: &[u8]) -
     pageform::say_safe(sys, &out[..n])
 }
 
-// The line that the words are about.
-fn print_line(sys: &System, r: Figures, table: &[u8], sheet: &[u8]) -> bool {
+// The line that the words are about. Its number and the byte to blame are counted from 1 on; a border or a row is counted from 0.
+fn print_line(sys: &System, r: &Figures, table: &[u8], sheet: &[u8]) -> bool {
     let place = r[hour::PLACE];
-    let number = r[hour::NUMBER];
-    match number {
-        FORM | RANGE => line::print(sys, 0, line::before(place), r[hour::BYTE], table),
-        CORRECTION => line::print(sys, 0, line::before(place), r[hour::BYTE], sheet),
-        4 | 6 => line::print(sys, b'B', place, 0, table),
-        7 => line::print(sys, b'C', place, 0, table),
+    let line = place.saturating_sub(1);
+    let byte = r[hour::BYTE].checked_sub(1).map(|byte| byte as usize);
+    match r[hour::NUMBER] {
+        FORM | RANGE => line::print(sys, None, line, byte, table),
+        CORRECTION => line::print(sys, None, line, byte, sheet),
+        GIVEN_TWICE | UNLIMITED => line::print(sys, Some(b'B'), place, None, table),
+        BELOW_0 => line::print(sys, Some(b'C'), place, None, table),
         _ => true,
     }
 }
 
 // The pieces, by the number of the refusal where it has one.
-fn piece(sys: &System, line: usize, figures: &[u64]) -> bool {
+fn say(sys: &System, line: usize, figures: &Figures) -> bool {
     pageform::say(
         sys,
         b"<div class=\"no\"><h{H3|2}>Refused: this hour has no ATCs</h{H3|2}>`<p>\n\

@@ -1,7 +1,6 @@
 -- How bytes stand on a page, computed: each sign of HTML, its neighbours, and the ends of what is plain. Nobody cites it: it refuses a definition that slipped.
 use mathlib.Core.Path.{refl}
-use mathlib.Core.List.{List, [], ◌∷◌, map}
-use Prim.Native.Nat.{ℕ}
+use mathlib.Core.List.{[], ◌∷◌, map}
 use Rattle.numbers.specs.Computed.{◌is◌, Hold}
 use Rattle.pagesafe.specs.declared.Shown.TheVariants.{AsItIs, Numbered, Blank, Strange}
 use Rattle.pagesafe.specs.Shown.{shown_as}

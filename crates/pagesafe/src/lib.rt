@@ -2,7 +2,7 @@
 #![tactic(auto)]
 
 ghost use Rattle.std.specs.Prelude.{◌≡◌};
-ghost use Rattle.pagesafe.specs.Shown.{is_sign, shown_as};
+ghost use Rattle.pagesafe.specs.Shown.{shown_as};
 
 // As it is, by its number, as a blank, or in hexadecimal digits.
 #[derive(Clone, Copy)]
@@ -17,36 +17,10 @@ pub enum Shown {
 pub fn shown_as(byte: u8) -> Shown
     ensures { result ≡ shown_as byte }
 {
-    if is_sign(byte) {
-        return Shown::Numbered;
+    match byte {
+        b'&' | b'<' | b'>' | b'"' | b'\'' => Shown::Numbered,
+        b'\n' => Shown::Blank,
+        b' '..=b'~' => Shown::AsItIs,
+        _ => Shown::Strange,
     }
-    if byte == b'\n' {
-        return Shown::Blank;
-    }
-    if byte < b' ' {
-        return Shown::Strange;
-    }
-    if b'~' < byte {
-        return Shown::Strange;
-    }
-    Shown::AsItIs
-}
-
-// Whether a byte means something in HTML. Tests one after another, since a match of bytes is proved by more cases.
-fn is_sign(byte: u8) -> bool
-    ensures { result ≡ is_sign byte }
-{
-    if byte == b'&' {
-        return true;
-    }
-    if byte == b'<' {
-        return true;
-    }
-    if byte == b'>' {
-        return true;
-    }
-    if byte == b'"' {
-        return true;
-    }
-    byte == b'\''
 }

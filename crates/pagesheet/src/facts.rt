@@ -1,9 +1,7 @@
 // The record of an hour of a day. Its figures are those of the hour's own part (pagefacts::hour), and these.
-use daysheet::HourRecord;
-use pagebars::larger;
-use pagefacts::hour;
+use daysheet::Hour;
+use pagefacts::{count, hour};
 use pageform::Figures;
-use std::num::wrapping_add_u64;
 
 // i: which argument names its table; h: the check sum of the table's text
 pub const ARGUMENT: usize = 8;
@@ -29,53 +27,35 @@ pub const NOT_READ: usize = 16;
 const UNITS: u64 = 84;
 
 // What came of an hour: the bound is that of its rounds.
-pub fn heard(mut r: Figures, came: HourRecord, bound: u64) -> Figures {
-    match came[0] {
-        daysheet::ANSWERED => {
+pub fn heard(mut r: Figures, came: Hour, bound: u64) -> Figures {
+    match came {
+        Hour::Answered(answer) => {
             r[hour::ANSWERED] = 1;
-            r[hour::ROUNDS] = came[1];
-            r[hour::BORDERS] = came[2];
-            r[hour::INTRADAY] = came[3];
+            r[hour::ROUNDS] = answer.rounds;
+            r[hour::BORDERS] = answer.borders as u64;
+            r[hour::INTRADAY] = u64::from(answer.intraday);
             r[hour::SHARP] = bound;
-            r[ROUNDS_AT] = pagebars::place(came[1], larger(bound, 1), UNITS);
+            r[ROUNDS_AT] = pagebars::place(answer.rounds, bound.max(1), UNITS);
+            r
         }
-        daysheet::REFUSED => {
+        Hour::Refused(w) => {
             r[REFUSED] = 1;
-            r[hour::NUMBER] = came[1];
-            r[hour::PLACE] = came[2];
-            r[hour::BYTE] = came[3];
+            hour::refused(r, w)
         }
-        _ => r[UNREAD] = 1,
+        Hour::Unread => {
+            r[UNREAD] = 1;
+            r
+        }
     }
-    r
 }
 
 // The record of the day.
 pub fn counted(day: &[Figures]) -> Figures {
     let mut all = pagefacts::blank();
     all[HOURS] = day.len() as u64;
-    all[ANSWERED] = over(hour::ANSWERED, day);
-    all[REFUSED] = over(REFUSED, day);
-    all[NOT_READ] = over(UNREAD, day);
-    all[hour::BORDERS] = over(hour::BORDERS, day);
+    all[ANSWERED] = count(hour::ANSWERED, day);
+    all[REFUSED] = count(REFUSED, day);
+    all[NOT_READ] = count(UNREAD, day);
+    all[hour::BORDERS] = day.iter().map(|r| r[hour::BORDERS]).max().unwrap_or(0);
     all
-}
-
-// The most borders of an hour; of any other figure the sum.
-fn over(name: usize, day: &[Figures]) -> u64 {
-    let mut total: u64 = 0;
-    for k in 0..day.len() {
-        total = joined(total, name, day[k]);
-    }
-    total
-}
-
-fn joined(total: u64, name: usize, r: Figures) -> u64 {
-    if pageform::NAMES <= name {
-        return total;
-    }
-    if name == hour::BORDERS {
-        return larger(total, r[name]);
-    }
-    wrapping_add_u64(total, r[name])
 }

@@ -11,20 +11,14 @@ pub mod sums;
 ghost use Rattle.std.specs.Prelude.{◌≤◌, length};
 ghost use Rattle.daysheet.specs.Sheet.{hours_most};
 
-use daysheet::HourRecord;
+use daysheet::Sheet;
 use pageform::Figures;
 use system::System;
 
-// Prints the front of a day from the records of its hours, and the tables of its sheet.
-pub fn print(
-    sys: &System,
-    day: &[Figures],
-    hours: &[HourRecord],
-    ways: &[u64],
-    atcs: &[u64],
-) -> bool
-    requires { length hours.now ≤ hours_most }
+// Prints the front of a day from the records of its hours, and its sheet.
+pub fn print(sys: &System, day: &[Figures], sheet: Sheet) -> bool
+    requires { length sheet.hours.now ≤ hours_most }
 {
-    let all = sheet::with_hubs(facts::counted(day), ways);
-    strip::print(sys, all, day) && sheet::print(sys, all, day, hours, ways, atcs)
+    let all = sheet::with_hubs(facts::counted(day), sheet.ways);
+    strip::print(sys, &all, day) && sheet::print(sys, all, day, sheet)
 }

@@ -1,9 +1,9 @@
 -- What each row's margin is made of (01, "Margin of a row"; the method asks for these values to be published: 000, Article 25(2)(d)vii), and what the open call
 -- `margins` leaves. `parts_of`, `record_of` and `margins_left` are what contracts cite. Every value is by the definition that the extraction uses.
-use Rattle.std.specs.Prelude.{Bool, cond, List, [], ◌∷◌, ℕ, ℤ, pos, length, get_or}
+use Rattle.std.specs.Prelude.{Bool, cond, List, [], ◌∷◌, ℕ, ℤ, pos, length, get_or, Err, Ok}
 use Rattle.numbers.specs.Ints.{max_ℤ}
 use Rattle.numbers.specs.Below.{count, table, over}
-use Rattle.refusals.specs.Refusals.{Judged, passed, refused, then, either, need}
+use Rattle.refusals.specs.Refusals.{Judged, then, either, need}
 use Rattle.types.specs.Ranges.{is_intraday, border_of, default_of}
 use Rattle.tablerules.specs.Table.{Table, row_at, factors_at, judge_lent}
 use Rattle.marginrules.specs.Margin.{grains, fuaf_of, base_of, amr_of, p_of, lta_margin_of, s_at, ram_at, rams_of, margin_of}
@@ -75,6 +75,6 @@ leaves answer out = record { answer = answer; out = out }
 -- a lent table is judged as for writing: 5, 6 and 7 are not looked at; room for a record of each row comes last (8), and a refusal writes nothing
 unfoldable pub margins_left : (given : Table) → (out : List (List ℤ)) → MarginsLeft
 margins_left given out =
-    either (then (judge_lent given) (λ t. need t.header.rows (length out) (passed t)))
-    (λ t. leaves (passed tt) (over (records_of t) out))
-    (λ w. leaves (refused w) out)
+    either (then (judge_lent given) (λ t. need t.header.rows (length out) (Ok t)))
+    (λ t. leaves (Ok tt) (over (records_of t) out))
+    (λ w. leaves (Err w) out)

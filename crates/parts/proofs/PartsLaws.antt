@@ -1,4 +1,5 @@
 -- The laws of `specs/Parts.antt` and `specs/Stored.antt`: n, that what is stored is what the definitions say, and what a call leaves. No contract cites this file.
+use Rattle.std.specs.Prelude.{Err, Ok, None}
 use mathlib.Core.Path.{◌≡◌, sym, ap, ◌∙◌}
 use mathlib.Core.Bool.{Bool}
 use mathlib.Core.List.{List, []}
@@ -9,16 +10,13 @@ use lib.ListN.{length, get_or}
 use Rattle.numbers.specs.Below.{at, table, over}
 use Rattle.numbers.proofs.BelowLaws.{count_le, table_get, table_cong}
 use Rattle.limits.specs.Limits.{borders_most}
-use Rattle.refusals.specs.declared.Judgement.{Judgement}
-use Rattle.refusals.specs.declared.Judgement.TheVariants.{Passed, Refused}
 use Rattle.refusals.specs.declared.Refusal.{Refusal}
 use Rattle.refusals.specs.Answers.{said_judgement}
-use Rattle.refusals.specs.Refusals.{passed, refused, too_short}
+use Rattle.refusals.specs.Refusals.{too_short, Ruling}
 use Rattle.refusals.proofs.RefusalLaws.{then_next, then_refused, either_passed, either_refused, need_enough, need_short}
 use Rattle.types.specs.declared.Header.{Header}
 use Rattle.types.specs.declared.Row.{Row}
 use Rattle.types.specs.Ranges.{at_ℤ, is_intraday, border_of, row_of, default_of}
-use Rattle.tablerules.specs.declared.Room.TheVariants.{None}
 use Rattle.tablerules.specs.Table.{Table, front, stretch, judge_lent}
 use Rattle.tablerules.specs.Good.{Good}
 use Rattle.tablerules.proofs.GoodLaws.{told_judged}
@@ -77,18 +75,16 @@ module _ (t : Table) {rams starts : List ℤ} {states : List ℕ} (r : standings
       }
 
 -- ---- what is left
-module _ (given : Table) (r : Judgement) (said : said_judgement r (front given) ≡ judge_lent given) (out : List (List ℤ)) where
-  pub margins_refused : (w : Refusal) → r ≡ Refused w → leaves (said_judgement r tt) out ≡ margins_left given out
+module _ (given : Table) (r : Ruling) (said : said_judgement r (front given) ≡ judge_lent given) (out : List (List ℤ)) where
+  pub margins_refused : (w : Refusal) → r ≡ Err w → leaves (Err w) out ≡ margins_left given out
   unfolding margins_left
-  margins_refused w e =
-      ap (λ (j : Judgement). leaves (said_judgement j tt) out) e
-      ∙ sym (either_refused _ _ (then_refused _ (sym said ∙ ap (λ (j : Judgement). said_judgement j (front given)) e)))
+  margins_refused w e = sym (either_refused _ _ (then_refused _ (sym said ∙ ap (λ (j : Ruling). said_judgement j (front given)) e)))
 
-  module _ (e : r ≡ Passed) where
-    pub margins_short : length out < given.header.rows → leaves (refused (too_short given.header.rows)) out ≡ margins_left given out
+  module _ (e : r ≡ (Ok tt)) where
+    pub margins_short : length out < given.header.rows → leaves (Err (too_short given.header.rows)) out ≡ margins_left given out
     unfolding margins_left
     margins_short h = sym (either_refused _ _ (then_next _ (told_judged None given r said e) ∙ need_short _ _ _ h))
 
-    pub margins_stored : given.header.rows ≤ length out → {out' : List (List ℤ)} → out' ≡ over (records_of (front given)) out → leaves (passed tt) out' ≡ margins_left given out
+    pub margins_stored : given.header.rows ≤ length out → {out' : List (List ℤ)} → out' ≡ over (records_of (front given)) out → leaves (Ok tt) out' ≡ margins_left given out
     unfolding margins_left
-    margins_stored h q = ap (leaves (passed tt)) q ∙ sym (either_passed _ _ (then_next _ (told_judged None given r said e) ∙ need_enough _ _ _ h))
+    margins_stored h q = ap (leaves (Ok tt)) q ∙ sym (either_passed _ _ (then_next _ (told_judged None given r said e) ∙ need_enough _ _ _ h))

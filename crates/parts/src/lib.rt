@@ -7,64 +7,41 @@ mod row;
 ghost use Rattle.std.specs.Prelude.{◌≡◌, ◌≤◌, length};
 ghost use Rattle.numbers.specs.Below.{table, over};
 ghost use Rattle.refusals.specs.Answers.{said_judgement};
-ghost use Rattle.tablerules.specs.Table.{lent, front};
+ghost use Rattle.tablerules.specs.Table.{front, lent_view};
 ghost use Rattle.tablerules.specs.Good.{Good};
 ghost use Rattle.partrules.specs.Parts.{record_of, records_of, leaves, margins_left};
 ghost use Rattle.parts.specs.Stored.{parts_at, Storable};
 
 use partrules::PartsRecord;
-use refusals::{Judgement, Refusal};
+use refusals::Refusal;
+use tablerules::TableView;
 use types::{BorderRecord, Header, RowRecord};
 
 // The record of each row. Any input has an answer; where that is a refusal, nothing is written.
-pub fn margins(
-    h: Header,
-    z: &[i64],
-    t: &[i64],
-    b: &[BorderRecord],
-    c: &[RowRecord],
-    f: &[i64],
-    out: &mut [PartsRecord],
-) -> Judgement
-    ensures { leaves (said_judgement result tt) out.new ≡ margins_left (lent h z.now t.now b.now c.now f.now) out.old }
+pub fn margins(view: &TableView, out: &mut [PartsRecord]) -> Result<(), Refusal>
+    ensures { leaves (said_judgement result tt) out.new ≡ margins_left (lent_view view.now) out.old }
 {
-    let judged = table::judge(h, z, t, b, c, f, tablerules::Room::None);
-    let Judgement::Passed = judged else {
-        return judged;
-    };
-    let rows = h.rows;
+    table::judge(view, None)?;
+    let rows = view.header.rows;
     if out.len() < rows {
-        return Judgement::Refused(Refusal::too_short(rows));
+        return Err(Refusal::TooShort(rows));
     }
-    margins_good(h, z, t, b, c, f, out);
-    Judgement::Passed
+    margins_good(view, out);
+    Ok(())
 }
 
 // The records of a good table's rows. Allocates the arrays here so that the proof goals of `fill_parts` do not contain them.
-pub fn margins_good(
-    h: Header,
-    z: &[i64],
-    t: &[i64],
-    b: &[BorderRecord],
-    c: &[RowRecord],
-    f: &[i64],
-    out: &mut [PartsRecord],
-)
-    requires good { Good (front (lent h z.now t.now b.now c.now f.now)) }
-    requires rows_in_bounds { h.rows ≤ length out.old }
-    ensures { out.new ≡ over (records_of (front (lent h z.now t.now b.now c.now f.now))) out.old }
+pub fn margins_good(view: &TableView, out: &mut [PartsRecord])
+    requires good { Good (front (lent_view view.now)) }
+    requires rows_in_bounds { view.now.header.rows ≤ length out.old }
+    ensures { out.new ≡ over (records_of (front (lent_view view.now))) out.old }
 {
-    let rows = h.rows;
+    let rows = view.header.rows;
     let mut rams: [i64; limits::ROWS_MOST] = [0; limits::ROWS_MOST];
     let mut starts: [i64; limits::ROWS_MOST] = [0; limits::ROWS_MOST];
     let mut states: [u64; limits::ROWS_MOST] = [0; limits::ROWS_MOST];
     fill_parts(
-        h,
-        z,
-        t,
-        b,
-        c,
-        f,
+        view,
         &mut rams[..rows],
         &mut starts[..rows],
         &mut states[..rows],
@@ -74,32 +51,25 @@ pub fn margins_good(
 
 // RAMs, starting margins and states, by the functions that the extraction calls, and then the records.
 fn fill_parts(
-    h: Header,
-    z: &[i64],
-    t: &[i64],
-    b: &[BorderRecord],
-    c: &[RowRecord],
-    f: &[i64],
+    view: &TableView,
     rams: &mut [i64],
     starts: &mut [i64],
     states: &mut [u64],
     out: &mut [PartsRecord],
 )
-    requires good { Good (front (lent h z.now t.now b.now c.now f.now)) }
-    requires rams_len { (length rams.old ≡ h.rows) × (length starts.old ≡ h.rows) }
-    requires states_len { (length states.old ≡ h.rows) × (h.rows ≤ length out.old) }
-    ensures { out.new ≡ over (records_of (front (lent h z.now t.now b.now c.now f.now))) out.old }
+    requires good { Good (front (lent_view view.now)) }
+    requires rams_len { (length rams.old ≡ view.now.header.rows) × (length starts.old ≡ view.now.header.rows) }
+    requires states_len { (length states.old ≡ view.now.header.rows) × (view.now.header.rows ≤ length out.old) }
+    ensures { out.new ≡ over (records_of (front (lent_view view.now))) out.old }
 {
-    states::fill_rows(h, z, t, b, c, f, rams, starts, states);
-    let zones = h.zones;
-    let borders = h.borders;
-    let rows = h.rows;
+    states::fill_rows(view, rams, starts, states);
+    let h = view.header;
     store_parts(
         h,
-        &z[..zones],
-        &b[..borders],
-        &c[..rows],
-        &f[..rows * zones],
+        &view.nets[..h.zones],
+        &view.borders[..h.borders],
+        &view.rows[..h.rows],
+        &view.factors[..h.rows * h.zones],
         rams,
         starts,
         states,

@@ -2,20 +2,19 @@
 // The text's length is counted before the first byte is stored.
 #![tactic(auto)]
 
-ghost use Rattle.std.specs.Prelude.{◌≡◌, ℕ, ◌+◌, ◌<◌, ◌≤◌, length};
+ghost use Rattle.std.specs.Prelude.{◌≡◌, ℕ, ◌+◌, ◌<◌, ◌≤◌, length, Ok};
 ghost use Rattle.limits.specs.Limits.{rows_most};
-ghost use Rattle.refusals.specs.Refusals.{passed};
 ghost use Rattle.text.specs.Left.{text_left, text_said};
 ghost use Rattle.text.specs.Put.{Put};
-ghost use Rattle.tablerules.specs.Table.{lent, front};
+ghost use Rattle.tablerules.specs.Table.{front, lent_view};
 ghost use Rattle.tablerules.specs.Good.{Good};
 ghost use Rattle.partrules.specs.Parts.{records_of};
 ghost use Rattle.partstext.specs.PartsText.{parts_line, parts_line_at, parts_line_most, parts_text};
 
 use columns::Head;
 use partrules::PartsRecord;
-use refusals::{Refusal, Written};
-use types::{BorderRecord, Header, RowRecord};
+use refusals::Refusal;
+use tablerules::TableView;
 
 // The columns of a V line after its index: n a number, s a signed number.
 pub const COLUMNS: [u8; partrules::ITEMS] = *b"nnsssnnnnnss";
@@ -27,35 +26,26 @@ const LINE_MOST: usize = 2 + 4 + partrules::ITEMS * 17;
 pub const TEXT_MOST: usize = limits::ROWS_MOST * LINE_MOST;
 
 // What the margins of a good table's rows are made of, as text. The records stand in working memory, which has room for every table.
-pub fn margins_text_good(
-    h: Header,
-    z: &[i64],
-    t: &[i64],
-    b: &[BorderRecord],
-    c: &[RowRecord],
-    f: &[i64],
-    out: &mut [u8],
-) -> Written
-    requires { Good (front (lent h z.now t.now b.now c.now f.now)) }
-    ensures { text_said result out.new ≡ text_left (passed (parts_text (records_of (front (lent h z.now t.now b.now c.now f.now))))) out.old }
+pub fn margins_text_good(view: &TableView, out: &mut [u8]) -> Result<usize, Refusal>
+    requires { Good (front (lent_view view.now)) }
+    ensures { text_said result out.new ≡ text_left (Ok (parts_text (records_of (front (lent_view view.now))))) out.old }
 {
     let mut records = [[0i64; partrules::ITEMS]; limits::ROWS_MOST];
-    parts::margins_good(h, z, t, b, c, f, &mut records);
-    let rows = h.rows;
-    write_parts(&records[..rows], out)
+    parts::margins_good(view, &mut records);
+    write_parts(&records[..view.header.rows], out)
 }
 
 // Only the room for the text is left to judge.
-fn write_parts(records: &[PartsRecord], out: &mut [u8]) -> Written
+fn write_parts(records: &[PartsRecord], out: &mut [u8]) -> Result<usize, Refusal>
     requires records_len_bound { length records.now ≤ rows_most }
     requires by_index { (i : ℕ) → i < length records.now → length (parts_line_at records.now i) ≤ parts_line_most }
-    ensures { text_said result out.new ≡ text_left (passed (parts_text records.now)) out.old }
+    ensures { text_said result out.new ≡ text_left (Ok (parts_text records.now)) out.old }
 {
     let needed = text_length(records);
     if out.len() < needed {
-        return Written::Refused(Refusal::too_short(needed));
+        return Err(Refusal::TooShort(needed));
     }
-    Written::Bytes(put_parts(records, out))
+    Ok(put_parts(records, out))
 }
 
 fn text_length(records: &[PartsRecord]) -> usize

@@ -1,4 +1,5 @@
 -- That the text of the bound is not too long to be printed. No contract cites this file.
+use Rattle.std.specs.Prelude.{Ok}
 use mathlib.Core.Path.{◌≡◌, ap, subst, ◌∙◌}
 use mathlib.Core.Bool.{Bool}
 use mathlib.Core.List.{List}
@@ -7,7 +8,6 @@ use native.Mathlib.Nat.{mul-le-mul, le_refl}
 use native.Mathlib.Omega.{arith}
 use lib.ListN.{length}
 use Rattle.limits.specs.Limits.{borders_most, bytes_most}
-use Rattle.refusals.specs.Refusals.{passed}
 use Rattle.refusals.proofs.RefusalLaws.{passed_is, then_passed}
 use Rattle.types.proofs.RangeLaws.{header_in_lem}
 use Rattle.marks.specs.Marks.{judge_asked, may_rise}
@@ -63,11 +63,11 @@ module _ (marked : ℕ → Bool) {t : Table} (good : Good t) where
         decimal_long 3 sharp (omega (arith, rounds, tight_le grid (table_start t).margins)),
       )
 
-pub bound_fits : {t : Table} → Good t → (all : Bool) (marks text : List ℕ) → bound_text_of (bound_asked all marks t) ≡ passed text → length text ≤ bytes_most
+pub bound_fits : {t : Table} → Good t → (all : Bool) (marks text : List ℕ) → bound_text_of (bound_asked all marks t) ≡ Ok text → length text ≤ bytes_most
 unfolding bound_marked
 bound_fits {t} good all marks text e =
     let d = then_passed (bound_asked all marks t) _ text e in
-    let a = then_passed (judge_asked all t.header.borders marks (passed marks)) _ d.it (asked_then all t.header.borders marks marks (bound_marked (may_rise all marks) t) ∙ d.first) in
+    let a = then_passed (judge_asked all t.header.borders marks (Ok marks)) _ d.it (asked_then all t.header.borders marks marks (bound_marked (may_rise all marks) t) ∙ d.first) in
     let b = then_passed (judge_marked (may_rise all marks) t) _ d.it a.second in
     let is : bound_text (bound_of (may_rise all marks) t) ≡ text = ap (λ (m : RoundsMost). bound_text m) (passed_is _ _ b.second) ∙ passed_is _ _ d.second in
     subst (λ (s : List ℕ). length s ≤ bytes_most) is (bound-short (may_rise all marks) good)

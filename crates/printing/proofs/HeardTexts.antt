@@ -12,6 +12,7 @@ use borrow.Author.Tests.{ltb-true}
 use Rattle.numbers.specs.Below.{table}
 use Rattle.numbers.proofs.TestLaws.{and_both}
 use Rattle.refusals.specs.declared.Refusal.{Refusal}
+use Rattle.refusals.specs.Refusals.{number_of, place_of, byte_of}
 use Rattle.types.specs.Ranges.{at_ℤ}
 use Rattle.text.specs.Fields.{tab, feed, digits}
 use Rattle.text.specs.Written.{decimal, fields_text, line_text, lines_text}
@@ -57,9 +58,9 @@ refusal_in_written line number place byte here n p b =
     )
 
 -- a refusal is heard with its number, place and byte
-pub refusal_heard : (w : Refusal) → w.number < 10 ^ 10 → w.place < 10 ^ 10 → w.byte < 10 ^ 10 → heard_of (refusal_text w) ≡ Refused w.number w.place w.byte
+pub refusal_heard : (w : Refusal) → number_of w < 10 ^ 10 → place_of w < 10 ^ 10 → byte_of w < 10 ^ 10 → heard_of (refusal_text w) ≡ Refused (number_of w) (place_of w) (byte_of w)
 unfolding refusal_text line_text fields_text
-refusal_heard w n p b = sym (heard_refusal (refusal_text w) refl) ∙ refusal_in_written (refusal_text w) w.number w.place w.byte refl n p b
+refusal_heard w n p b = sym (heard_refusal (refusal_text w) refl) ∙ refusal_in_written (refusal_text w) (number_of w) (place_of w) (byte_of w) refl n p b
 
 -- a text that does not begin with E
 abbrev Other : List ℕ → Type 0

@@ -1,6 +1,7 @@
 -- That what the calls on rows (02, E11) leave is what a program is to print (specs/Printed.antt). No contract cites this file.
 -- In order: a table with the rows of a sheet is good; no rows as a sheet are too long; lent tables that hold a good one: their rows are judged good, and what is
 -- said where a sheet fills them.
+use Rattle.std.specs.Prelude.{Err, Ok}
 use mathlib.Core.Path.{◌≡◌, refl, sym, subst, ap, ◌∙◌}
 use mathlib.Core.Bool.{true, not}
 use mathlib.Core.List.{List, []}
@@ -11,13 +12,9 @@ use lib.ListN.{length, get_or, take, drop, length-append, take-append-drop}
 use lib.Seq.{take_at}
 use Rattle.numbers.specs.Below.{over}
 use Rattle.limits.specs.Limits.{bytes_most}
-use Rattle.refusals.specs.declared.Judgement.{Judgement}
-use Rattle.refusals.specs.declared.Judgement.TheVariants as judgement
 use Rattle.refusals.specs.declared.Refusal.{Refusal}
-use Rattle.refusals.specs.declared.Written.{Written}
-use Rattle.refusals.specs.declared.Written.TheVariants as written
 use Rattle.refusals.specs.Answers.{said_judgement}
-use Rattle.refusals.specs.Refusals.{Judged, passed, refused}
+use Rattle.refusals.specs.Refusals.{Judged, Ruling}
 use Rattle.refusals.proofs.RefusalLaws.{passed_is, refused_is, not_passed, then_passed, then_next, then_refused, either_passed, either_refused, unless_ok, none_next}
 use Rattle.types.specs.declared.Header.{Header}
 use Rattle.types.proofs.RangeLaws.{header_in_lem}
@@ -42,7 +39,7 @@ rows_good {t} g i l =
     (λ z m. row_fit h.zones h.rows t.factors g.exact.factors_long some g.factors_fit i l z
     (rw (stretch_long h.zones h.rows t.factors g.exact.factors_long i l) at m))
 
-filled_good : {t : Table} (g : Good t) (file : List ℕ) (r : Rows) → read_sheet t.header file ≡ passed r → Good (with_rows t r)
+filled_good : {t : Table} (g : Good t) (file : List ℕ) (r : Rows) → read_sheet t.header file ≡ Ok r → Good (with_rows t r)
 filled_good {t} g file r e =
     let h = t.header in
     let u = sheet_section h file r e in
@@ -68,7 +65,7 @@ filled_good {t} g file r e =
 
 -- ---- the rows as a sheet
 module _ (h : Header) (c : List (List ℤ)) (f : List ℤ) where
-  pub sheet_fits : (text : List ℕ) → sheet_said h c f ≡ passed text → length text ≤ bytes_most
+  pub sheet_fits : (text : List ℕ) → sheet_said h c f ≡ Ok text → length text ≤ bytes_most
   sheet_fits text e =
       let d = then_passed (judge_rows h c f) _ text e in
       let j = sheet.rows_judged h c f d.it d.first in
@@ -89,7 +86,7 @@ module _ (given : Table) (good : Good (front given)) where
   factors-enough = front_long (h.rows * h.zones) given.factors good.exact.factors_long
 
   -- ---- the rows of such tables are judged good
-  pub rows_pass : judge_rows h given.rows given.factors ≡ passed (rows_in (front given))
+  pub rows_pass : judge_rows h given.rows given.factors ≡ Ok (rows_in (front given))
   unfolding judge_rows rows_in_range
   rows_pass =
       unless_ok _ _ good.exact.header
@@ -97,22 +94,22 @@ module _ (given : Table) (good : Good (front given)) where
       ∙ none_next _ _ _ _ (λ i l. ap not (rows_good good i (omega (arith, good.exact.rows_long))))
 
   -- ---- the table with the rows of a sheet
-  module _ (file : List ℕ) (r : Judgement) (c' : List (List ℤ)) (f' : List ℤ) (said : rows_said r c' f' ≡ read_rows_left h file given.rows given.factors) where
+  module _ (file : List ℕ) (r : Ruling) (c' : List (List ℤ)) (f' : List ℤ) (said : rows_said r c' f' ≡ read_rows_left h file given.rows given.factors) where
     abbrev left : Table
     left = lent h given.nets given.allocated given.borders c' f'
 
     -- a sheet that was read: the front of the tables is the table with its rows
     record Filled : Type 0 where
       rows : Rows
-      read : read_sheet h file ≡ passed rows
+      read : read_sheet h file ≡ Ok rows
       is : front left ≡ with_rows (front given) rows
 
-    module _ (passes : r ≡ judgement.Passed) where
+    module _ (passes : r ≡ (Ok tt)) where
       filled : Filled
       filled =
-          let l : read_rows_left h file given.rows given.factors ≡ rows_said judgement.Passed c' f' = sym said ∙ ap (λ (j : Judgement). rows_said j c' f') passes in
+          let l : read_rows_left h file given.rows given.factors ≡ rows_said (Ok tt) c' f' = sym said ∙ ap (λ (j : Ruling). rows_said j c' f') passes in
           let d = sheet.rows_taken h file given.rows given.factors (ap (λ (x : RowsLeft). x.answer) l) in
-          let same : rows_said judgement.Passed c' f' ≡ record { answer = passed tt; c = over d.it.rows given.rows; f = over d.it.factors given.factors } = sym l ∙ d.left in
+          let same : rows_said (Ok tt) c' f' ≡ record { answer = Ok tt; c = over d.it.rows given.rows; f = over d.it.factors given.factors } = sym l ∙ d.left in
           let u = sheet_section h file d.it d.read in
           record {
             rows = d.it;
@@ -125,20 +122,20 @@ module _ (given : Table) (good : Good (front given)) where
       pub filled_front : Good (front left)
       filled_front = subst Good (sym filled.is) (filled_good good file filled.rows filled.read)
 
-      pub filled_said : (out : List ℕ) → bytes_most ≤ length out → (x : Written) {out' : List ℕ} → text_said x out' ≡ text_left (passed (table_text (front left))) out
+      pub filled_said : (out : List ℕ) → bytes_most ≤ length out → (x : Judged ℕ) {out' : List ℕ} → text_said x out' ≡ text_left (Ok (table_text (front left))) out
           → Said x (filled_by file (front given)) out out'
       unfolding filled_by
       filled_said out room x l =
-          said_as (ap (λ (t : Table). passed (table_text t)) filled.is ∙ sym (then_next _ filled.read))
+          said_as (ap (λ (t : Table). Ok (table_text t)) filled.is ∙ sym (then_next _ filled.read))
           (record { left = l; fits = λ text e. subst (λ (s : List ℕ). length s ≤ length out) (passed_is _ _ e) (omega (arith, never_too_long (front left) filled_front, room)) })
 
-    pub unfilled_said : (w : Refusal) → r ≡ judgement.Refused w → (out : List ℕ) → Said (written.Refused w) (filled_by file (front given)) out out
+    pub unfilled_said : (w : Refusal) → r ≡ Err w → (out : List ℕ) → Said (Err w) (filled_by file (front given)) out out
     unfolding filled_by read_rows_left
     unfilled_said w is out = said_refused _ w out (then_refused _ (go (read_sheet h file) refl))
       where
-        told : (x : RowsLeft) → read_rows_left h file given.rows given.factors ≡ x → refused w ≡ x.answer
-        told x q = ap (λ (j : Judgement). said_judgement j tt) (sym is) ∙ ap (λ (l : RowsLeft). l.answer) (said ∙ q)
+        told : (x : RowsLeft) → read_rows_left h file given.rows given.factors ≡ x → Err w ≡ x.answer
+        told x q = ap (λ (j : Ruling). said_judgement j tt) (sym is) ∙ ap (λ (l : RowsLeft). l.answer) (said ∙ q)
 
-        go : (j : Judged Rows) → read_sheet h file ≡ j → read_sheet h file ≡ refused w
-        go (passed t) q = absurd (not_passed w tt (told _ (either_passed _ _ (then_next _ q ∙ sym (room_enough h (length given.rows) (length given.factors) (passed t) rows-enough factors-enough)))))
-        go (refused v) q = q ∙ ap refused (sym (refused_is {A = Unit {0}} w v (told _ (either_refused _ _ (then_refused _ q)))))
+        go : (j : Judged Rows) → read_sheet h file ≡ j → read_sheet h file ≡ Err w
+        go (Ok t) q = absurd (not_passed w tt (told _ (either_passed _ _ (then_next _ q ∙ sym (room_enough h (length given.rows) (length given.factors) (Ok t) rows-enough factors-enough)))))
+        go (Err v) q = q ∙ ap Err (sym (refused_is {A = Unit {0}} w v (told _ (either_refused _ _ (then_refused _ q)))))

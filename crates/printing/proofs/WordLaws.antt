@@ -1,5 +1,6 @@
 -- That what each call tells of a good table is what its word says of it (specs/Printed.antt, `said_of`), and that there is room for it: a law for each word.
 -- No contract cites this file.
+use Rattle.std.specs.Prelude.{Ok}
 use mathlib.Core.Path.{◌≡◌, refl, ap, subst, ◌∙◌}
 use mathlib.Core.Bool.{Bool, false}
 use mathlib.Core.List.{List}
@@ -7,8 +8,7 @@ use Prim.Native.Nat.{ℕ, ◌≤◌}
 use native.Mathlib.Omega.{arith}
 use lib.ListN.{length}
 use Rattle.limits.specs.Limits.{bytes_most}
-use Rattle.refusals.specs.declared.Written.{Written}
-use Rattle.refusals.specs.Refusals.{Judged, passed}
+use Rattle.refusals.specs.Refusals.{Judged}
 use Rattle.refusals.proofs.RefusalLaws.{passed_is, then_next}
 use Rattle.text.specs.Left.{text_left, text_said}
 use Rattle.tablerules.specs.Table.{Table, front}
@@ -36,15 +36,15 @@ use Rattle.printing.proofs.PrintedLaws.{said_as}
 use Rattle.printing.proofs.RowsLaws.{rows_pass, sheet_fits}
 
 module _ (all : Bool) (marks file : List ℕ) where
-  module _ {t : Table} (good : Good t) (out : List ℕ) (room : bytes_most ≤ length out) (r : Written) {out' : List ℕ} where
-    pub answer_said : text_said r out' ≡ text_left (outcome_said false (outcome_for all marks t)) out → ((text : List ℕ) → outcome_said false (outcome_for all marks t) ≡ passed text → bytes_asked r ≤ answer_most)
+  module _ {t : Table} (good : Good t) (out : List ℕ) (room : bytes_most ≤ length out) (r : Judged ℕ) {out' : List ℕ} where
+    pub answer_said : text_said r out' ≡ text_left (outcome_said false (outcome_for all marks t)) out → ((text : List ℕ) → outcome_said false (outcome_for all marks t) ≡ Ok text → bytes_asked r ≤ answer_most)
         → Said r (said_of Answer all marks file t) out out'
     unfolding said_of
     answer_said left few =
         said_as (told_said (outcome_for all marks t))
         (record { left = left; fits = λ text e. asked_fits text out _ r (left ∙ ap (λ (j : Judged (List ℕ)). text_left j out) e) (omega (arith, few text e, room)) })
 
-    pub rewrite_said : text_said r out' ≡ text_left (passed (table_text t)) out → Said r (said_of Rewrite all marks file t) out out'
+    pub rewrite_said : text_said r out' ≡ text_left (Ok (table_text t)) out → Said r (said_of Rewrite all marks file t) out out'
     unfolding said_of
     rewrite_said left = record { left = left; fits = λ text e. subst (λ (s : List ℕ). length s ≤ length out) (passed_is _ _ e) (omega (arith, never_too_long t good, room)) }
 
@@ -56,12 +56,12 @@ module _ (all : Bool) (marks file : List ℕ) where
     unfolding said_of
     bound_said left = record { left = left; fits = λ text e. omega (arith, bound_fits good all marks text e, room) }
 
-    pub margins_said : text_said r out' ≡ text_left (passed (parts_text (records_of t))) out → Said r (said_of Margins all marks file t) out out'
+    pub margins_said : text_said r out' ≡ text_left (Ok (parts_text (records_of t))) out → Said r (said_of Margins all marks file t) out out'
     unfolding said_of
     margins_said left = record { left = left; fits = λ text e. subst (λ (s : List ℕ). length s ≤ length out) (passed_is _ _ e) (omega (arith, parts_text_most good, room)) }
 
   -- the call judges the lent rows again, which are good
-  pub rows_said_lem : (given : Table) → Good (front given) → (out : List ℕ) → bytes_most ≤ length out → (r : Written) {out' : List ℕ}
+  pub rows_said_lem : (given : Table) → Good (front given) → (out : List ℕ) → bytes_most ≤ length out → (r : Judged ℕ) {out' : List ℕ}
       → text_said r out' ≡ write_rows_left given.header given.rows given.factors out → Said r (said_of Rows all marks file (front given)) out out'
   unfolding said_of write_rows_left
   rows_said_lem given good out room r left =

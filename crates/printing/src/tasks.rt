@@ -1,6 +1,5 @@
 // What is printed for a task and the texts that were read: what a word says of the table, or its corner sheets.
 use crate::texts;
-use arguments::Piece;
 use command::asked::Task;
 use output::Ended;
 use system::System;
@@ -9,18 +8,15 @@ use system::System;
 pub fn print<'a>(
     sys: &System,
     task: Task,
-    list: Piece,
+    marks: Option<&[u64]>,
     text: &'a [u8],
     sheet: &'a [u8],
     file: &[u8],
 ) -> Ended {
-    let listed = arguments::list(sys, list);
-    let m = listed.count;
-    let marks = listed.numbers;
     let mut out = sheets::room();
     match task {
         Task::Text(word) => {
-            let n = texts::put(word, list.at == 0, &marks[..m], file, text, sheet, &mut out);
+            let n = texts::put(word, marks, file, text, sheet, &mut out);
             output::put(sys, &out[..n])
         }
         Task::Corners(rows) => sheets::print(sys, text, sheet, rows, &mut out),

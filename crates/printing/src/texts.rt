@@ -2,46 +2,45 @@
 // The lent buffer fits any output, so refusal 8 cannot occur.
 ghost use Rattle.std.specs.Prelude.{◌*◌, ◌≤◌, length};
 ghost use Rattle.limits.specs.Limits.{zones_most, borders_most, rows_most, bytes_most};
+ghost use Rattle.marks.specs.Marks.{every, listed};
 ghost use Rattle.tablerules.specs.Table.{lent, front};
 ghost use Rattle.tablerules.specs.Good.{Good};
 ghost use Rattle.output.specs.Buffer.{Printed};
 ghost use Rattle.printing.specs.Printed.{Said, filled_by, said_of, word_said, word_text};
 
 use command::asked::Word;
-use reading::TableRead;
-use refusals::{Judgement, Refusal, Written};
+use refusals::Refusal;
+use tablerules::TableView;
 use types::{Border, BorderRecord, Header, Row, RowRecord};
 
 pub fn put<'a>(
     word: Word,
-    all: bool,
-    marks: &[u64],
+    marks: Option<&[u64]>,
     file: &[u8],
     text: &'a [u8],
     sheet: &'a [u8],
     out: &mut [u8],
 ) -> usize
     requires { bytes_most ≤ length out.old }
-    ensures { Printed result (word_text word all marks.now file.now text.now sheet.now) out.new }
+    ensures { Printed result (word_text word (every marks.entry) (listed marks.entry) file.now text.now sheet.now) out.new }
 {
     if text::BYTES_MOST < file.len() {
-        return output::refusal_line(Refusal::too_long(), out);
+        return output::refusal_line(Refusal::TooLong, out);
     }
-    let said = read_and_write(word, all, marks, file, text, sheet, out);
+    let said = read_and_write(word, marks, file, text, sheet, out);
     output::told(said, out)
 }
 
 fn read_and_write<'a>(
     word: Word,
-    all: bool,
-    marks: &[u64],
+    marks: Option<&[u64]>,
     file: &[u8],
     text: &'a [u8],
     sheet: &'a [u8],
     out: &mut [u8],
-) -> Written
+) -> Result<usize, Refusal>
     requires { bytes_most ≤ length out.old }
-    ensures { Said result (word_said word all marks.now file.now text.now sheet.now) out.old out.new }
+    ensures { Said result (word_said word (every marks.entry) (listed marks.entry) file.now text.now sheet.now) out.old out.new }
 {
     let mut z: [i64; limits::ZONES_MOST] = [0; limits::ZONES_MOST];
     let mut t: [i64; limits::ZONES_MOST] = [0; limits::ZONES_MOST];
@@ -50,15 +49,14 @@ fn read_and_write<'a>(
     let mut f: [i64; limits::ROWS_MOST * limits::ZONES_MOST] = [0; limits::ROWS_MOST
         * limits::ZONES_MOST];
     write_in(
-        word, all, marks, file, text, sheet, &mut z, &mut t, &mut b, &mut c, &mut f, out,
+        word, marks, file, text, sheet, &mut z, &mut t, &mut b, &mut c, &mut f, out,
     )
 }
 
 // Reads into tables that were made in `read_and_write`, and not here, where goals would spell them out.
 fn write_in<'a>(
     word: Word,
-    all: bool,
-    marks: &[u64],
+    marks: Option<&[u64]>,
     file: &[u8],
     text: &'a [u8],
     sheet: &'a [u8],
@@ -68,21 +66,18 @@ fn write_in<'a>(
     c: &mut [RowRecord],
     f: &mut [i64],
     out: &mut [u8],
-) -> Written
+) -> Result<usize, Refusal>
     requires { (zones_most ≤ length z.old) × (zones_most ≤ length t.old) × (borders_most ≤ length b.old) × (rows_most ≤ length c.old) × (rows_most * zones_most ≤ length f.old) × (bytes_most ≤ length out.old) }
-    ensures { Said result (word_said word all marks.now file.now text.now sheet.now) out.old out.new }
+    ensures { Said result (word_said word (every marks.entry) (listed marks.entry) file.now text.now sheet.now) out.old out.new }
 {
-    match reading::read_into(text, sheet, z, t, b, c, f) {
-        TableRead::Table(h) => write_word(word, all, marks, file, h, z, t, b, c, f, out),
-        TableRead::Refused(w) => Written::Refused(w),
-    }
+    let h = reading::read_into(text, sheet, z, t, b, c, f)?;
+    write_word(word, marks, file, h, z, t, b, c, f, out)
 }
 
 // What the word says of lent tables that hold a good one.
 fn write_word(
     word: Word,
-    all: bool,
-    marks: &[u64],
+    marks: Option<&[u64]>,
     file: &[u8],
     h: Header,
     z: &[i64],
@@ -91,16 +86,24 @@ fn write_word(
     c: &mut [RowRecord],
     f: &mut [i64],
     out: &mut [u8],
-) -> Written
+) -> Result<usize, Refusal>
     requires { Good (front (lent h z.now t.now b.now c.old f.old)) × (bytes_most ≤ length out.old) }
-    ensures { Said result (said_of word all marks.now file.now (front (lent h z.now t.now b.now c.old f.old))) out.old out.new }
+    ensures { Said result (said_of word (every marks.entry) (listed marks.entry) file.now (front (lent h z.now t.now b.now c.old f.old))) out.old out.new }
 {
+    let view = TableView {
+        header: h,
+        nets: z,
+        allocated: t,
+        borders: b,
+        rows: c,
+        factors: f,
+    };
     match word {
-        Word::Answer => answer::answer_good(h, z, t, b, c, f, all, marks, false, out),
-        Word::Rewrite => writing::write_good(h, z, t, b, c, f, out),
-        Word::Claims => claimtext::published_text_good(h, z, t, b, c, f, file, out),
-        Word::Bound => boundtext::bound_text_good(h, z, t, b, c, f, all, marks, out),
-        Word::Margins => partstext::margins_text_good(h, z, t, b, c, f, out),
+        Word::Answer => answer::answer_good(&view, marks, false, out),
+        Word::Rewrite => writing::write_good(&view, out),
+        Word::Claims => claimtext::published_text_good(&view, file, out),
+        Word::Bound => boundtext::bound_text_good(&view, marks, out),
+        Word::Margins => partstext::margins_text_good(&view, out),
         Word::Rows => rowsheet::write_rows(h, c, f, out),
         Word::Filled => write_filled(file, h, z, t, b, c, f, out),
     }
@@ -116,12 +119,20 @@ fn write_filled(
     c: &mut [RowRecord],
     f: &mut [i64],
     out: &mut [u8],
-) -> Written
+) -> Result<usize, Refusal>
     requires { Good (front (lent h z.now t.now b.now c.old f.old)) × (bytes_most ≤ length out.old) }
     ensures { Said result (filled_by file.now (front (lent h z.now t.now b.now c.old f.old))) out.old out.new }
 {
-    match rowsheet::read_rows(h, file, c, f) {
-        Judgement::Passed => writing::write_good(h, z, t, b, c, f, out),
-        Judgement::Refused(w) => Written::Refused(w),
-    }
+    rowsheet::read_rows(h, file, c, f)?;
+    writing::write_good(
+        &TableView {
+            header: h,
+            nets: z,
+            allocated: t,
+            borders: b,
+            rows: c,
+            factors: f,
+        },
+        out,
+    )
 }

@@ -1,9 +1,9 @@
 -- A small hour, its result, and results and records that demand 3 and E7 reject, one at least for each of their sentences, with every border marked and with one; and
 -- what refusal 7 is about. Nobody cites them: they refuse a statement that slipped, by the number that comes out.
+use Rattle.std.specs.Prelude.{Err, None, Ok, Option, Some}
 use mathlib.Core.Path.{◌≡◌, refl, sym, ap, subst}
 use mathlib.Core.Bool.{Bool, false≢true}
 use mathlib.Core.List.{List, [], ◌∷◌, ◌++◌}
-use mathlib.Core.Option.{Option, none, some}
 use Prim.Native.Nat.{ℕ, zero, suc, ◌+◌, ◌*◌, ◌-◌, ◌/◌, ◌≤◌, ◌<◌}
 use native.Mathlib.Nat.{div-mul-le_self}
 use native.Mathlib.Omega.{arith}
@@ -13,7 +13,7 @@ use lib.ListN.{take}
 use lib.Signed.{lt_z_yes, clash_ℤ}
 use Rattle.numbers.specs.Below.{at, if_zero, sum, count, largest, lesser, least, or_zero, table, first_from, given}
 use Rattle.numbers.specs.Ints.{minus, max_ℤ, min_ℤ, positive_part, same_ℤ, sum_ℤ}
-use Rattle.refusals.specs.Refusals.{passed, refused, refusal, then, unless, refuse_at, refuse_first}
+use Rattle.refusals.specs.Refusals.{then, unless, refuse_at, refuse_first, below_zero, unlimited}
 use Rattle.types.specs.Ranges.{hubs_of, border_of, share_of, row_of, worth, default_of}
 use Rattle.tablerules.specs.Table.{Table, row_at, stretch}
 use Rattle.rounds.specs.Rounds.{sharers, raise, alone, raises, load, lowered, risen, apply, next, raised, counted, run, extract, most_sharers, bits_to, bits, alone_bits}
@@ -75,7 +75,7 @@ ended_by lasts stops rounds margins x =
     }
 
 abbrev ended : (rounds : ℕ) → (margins x : List ℕ) → Result
-ended rounds margins x = ended_by (9 ∷ 1 ∷ []) (some 0 ∷ some 0 ∷ []) rounds margins x
+ended rounds margins x = ended_by (9 ∷ 1 ∷ []) (Some 0 ∷ Some 0 ∷ []) rounds margins x
 
 abbrev hour : Result
 hour = ended 9 (10000 ∷ 0 ∷ []) (2379 ∷ 20 ∷ [])
@@ -122,7 +122,7 @@ under kw mw e = let q : mw ≡ kw / 1000 = ap nat_abs e in omega arith
 
 pub record Anchors : Type 0 where
   -- 200, 90, 45, 22, 11, 6, 3, 1 and 1 kW; border 1 rises in the first round alone. Row 0 stops both borders in the end, and so does row 1 border 1
-  pub outcome : outcome_marked every small ≡ passed hour
+  pub outcome : outcome_marked every small ≡ Ok hour
   pub n : n_of every small ≡ 2
   pub l : l_of every small ≡ 9
   -- N with border 1 alone marked
@@ -183,13 +183,13 @@ pub record Anchors : Type 0 where
   pub states : (standings_of doubled).states ≡ 0 ∷ 0 ∷ 2 ∷ []
   pub not_kept : StoppedBy doubled every (ended 9 (40000 ∷ 0 ∷ 0 ∷ []) (2379 ∷ 20 ∷ [])) 0 2 → ⊥
   -- E7: border 0 rose in round 9, and border 1 did not in round 2; no row given, and another row than the first
-  pub later : BorderStopped small every (told (8 ∷ 1 ∷ []) (some 0 ∷ some 0 ∷ [])) 0 → ⊥
-  pub earlier : BorderStopped small every (told (9 ∷ 2 ∷ []) (some 0 ∷ some 0 ∷ [])) 1 → ⊥
-  pub not_told : BorderStopped small every (told (9 ∷ 1 ∷ []) (none ∷ none ∷ [])) 0 → ⊥
-  pub other_told : BorderStopped small every (told (9 ∷ 1 ∷ []) (some 0 ∷ some 1 ∷ [])) 1 → ⊥
+  pub later : BorderStopped small every (told (8 ∷ 1 ∷ []) (Some 0 ∷ Some 0 ∷ [])) 0 → ⊥
+  pub earlier : BorderStopped small every (told (9 ∷ 2 ∷ []) (Some 0 ∷ Some 0 ∷ [])) 1 → ⊥
+  pub not_told : BorderStopped small every (told (9 ∷ 1 ∷ []) (None ∷ None ∷ [])) 0 → ⊥
+  pub other_told : BorderStopped small every (told (9 ∷ 1 ∷ []) (Some 0 ∷ Some 1 ∷ [])) 1 → ⊥
   -- E7: a border that is not marked has no last round and no row
-  pub raised_unmarked : Unmarked (told (9 ∷ 1 ∷ []) (none ∷ none ∷ [])) 0 → ⊥
-  pub stopped_unmarked : Unmarked (told (0 ∷ 1 ∷ []) (some 0 ∷ none ∷ [])) 0 → ⊥
+  pub raised_unmarked : Unmarked (told (9 ∷ 1 ∷ []) (None ∷ None ∷ [])) 0 → ⊥
+  pub stopped_unmarked : Unmarked (told (0 ∷ 1 ∷ []) (Some 0 ∷ None ∷ [])) 0 → ⊥
   -- E7 of records: another row than border 0's, another round; a row and a round of a border that is not marked
   pub left_row : LeftStopped small every (stop_left 9 (pos 1)) 0 → ⊥
   pub left_last : LeftStopped small every (stop_left 8 (pos 0)) 0 → ⊥
@@ -197,8 +197,8 @@ pub record Anchors : Type 0 where
   pub left_last_unmarked : LeftUnmarked (stop_left 1 (minus 1)) 0 → ⊥
   -- CVA and IVA are 0 in the hour's rows; 7 is what is not given, and 6 is another refusal
   pub no_reductions : NoReductions small
-  pub seven : NotSeven {A = ℕ} (refused (refusal 7 0 0)) → ⊥
-  pub six : NotSeven {A = ℕ} (refused (refusal 6 0 0))
+  pub seven : NotSeven {A = ℕ} (Err (below_zero 0)) → ⊥
+  pub six : NotSeven {A = ℕ} (Err (unlimited 0))
 
 pub anchors : Anchors
 unfolding if_zero sum count largest lesser least or_zero table first_from given max_ℤ min_ℤ positive_part same_ℤ sum_ℤ hubs_of border_of share_of row_of worth default_of then unless refuse_at refuse_first stretch sharers raise alone raises load lowered risen apply next raised counted run extract after raise_in last_to last_round stop_row most_sharers bits_to bits alone_bits grains f0core_of fuaf_of base_of amr_of signed_factor p_of lta_kw s_of lta_margin_of ram_of ram_at highest lowest spread_of shifted below state_of standings_of kept atc_of left_of last_of stop_of n_of l_of load_of grid_by setup_with begin_by judge_by result_marked outcome_marked

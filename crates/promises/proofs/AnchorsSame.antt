@@ -1,6 +1,7 @@
 -- What E6, E13 and E14 (02) mean by replaced, all borders and the same, by examples: an R replaced, a list that marks both of two borders, and results and refusals that
 -- are not the same.
 -- Nobody cites it: it refuses a statement that slipped.
+use Rattle.std.specs.Prelude.{Err, Ok}
 use mathlib.Core.Path.{◌≡◌, refl, ap, subst}
 use mathlib.Core.Bool.{Bool, true, false, false≢true}
 use mathlib.Core.List.{List, [], ◌∷◌}
@@ -11,7 +12,7 @@ use lib.IntN.{pos}
 use Rattle.numbers.specs.Below.{first_from, given}
 use Rattle.numbers.specs.Ints.{minus}
 use Rattle.refusals.specs.declared.Refusal.{Refusal}
-use Rattle.refusals.specs.Refusals.{Judged, passed, refused, refusal, unless, refuse_at, refuse_first}
+use Rattle.refusals.specs.Refusals.{Judged, number_of, unless, refuse_at, refuse_first, below_zero, unlimited}
 use Rattle.marks.specs.Marks.{faulty_mark, judge_marks}
 use Rattle.tablerules.specs.Table.{Table}
 use Rattle.tablerules.specs.Good.{Good}
@@ -21,7 +22,7 @@ use Rattle.promises.specs.Same.{SameEnd, SameResult, SameRefusal, Both}
 use Rattle.promises.specs.Taking.{outcome_taking, unshortened}
 use Rattle.promises.specs.Order.{Reordered}
 use Rattle.promises.specs.Replaced.{replaced_row}
-use Rattle.promises.specs.Shortening.{CostsNothing, AnyOrder, AcceptedToo, AcceptedInAnyOrder}
+use Rattle.promises.specs.Shortening.{CostsNothing, AnyOrder, AcceptedInAnyOrder}
 
 -- a result of one border, with these rounds and this exchange in kW
 abbrev ended : (rounds kw : ℕ) → Result
@@ -37,12 +38,12 @@ ended rounds kw =
 
 -- what came of a judgement: whether it passed, and a refusal's number
 abbrev is_passed : {A : Type 0} → Judged A → Bool
-is_passed (passed a) = true
-is_passed (refused w) = false
+is_passed (Ok a) = true
+is_passed (Err w) = false
 
-abbrev number_of : {A : Type 0} → Judged A → ℕ
-number_of (passed a) = 0
-number_of (refused w) = w.number
+abbrev number_told : {A : Type 0} → Judged A → ℕ
+number_told (Ok a) = 0
+number_told (Err w) = number_of w
 
 pub record Anchors : Type 0 where
   -- all of two borders, in any order; not one of them, nor one twice
@@ -56,12 +57,12 @@ pub record Anchors : Type 0 where
   pub other_kw : SameEnd 1 (ended 3 2000).outcome (ended 3 2001).outcome → ⊥
   pub other_end : SameEnd 1 (ended 3 2000).outcome (ended 4 2000).outcome → ⊥
   -- one number, and one place except for 7
-  pub other_number : SameRefusal (refusal 6 0 0) (refusal 7 0 0) → ⊥
-  pub other_place : SameRefusal (refusal 6 0 0) (refusal 6 1 0) → ⊥
-  pub place_of_7 : SameRefusal (refusal 7 0 0) (refusal 7 1 0)
+  pub other_number : SameRefusal (unlimited 0) (below_zero 0) → ⊥
+  pub other_place : SameRefusal (unlimited 0) (unlimited 1) → ⊥
+  pub place_of_7 : SameRefusal (below_zero 0) (below_zero 1)
   -- one passed and the other refused
-  pub refused_passed : Both (SameResult 1) (refused (refusal 7 0 0)) (passed (ended 3 2000)) → ⊥
-  pub passed_refused : Both (SameResult 1) (passed (ended 3 2000)) (refused (refusal 7 0 0)) → ⊥
+  pub refused_passed : Both (SameResult 1) (Err (below_zero 0)) (Ok (ended 3 2000)) → ⊥
+  pub passed_refused : Both (SameResult 1) (Ok (ended 3 2000)) (Err (below_zero 0)) → ⊥
   -- a table's own order is an order (E14)
   pub same_order : (t : Table) → Reordered t t
   -- "-" becomes the default, and an R that was written stays, 0 too (E6)
@@ -112,19 +113,19 @@ anchors =
 -- E14's statements ask nothing of the second outcome: whether it is a refusal, and with which number, follows from the first. From a statement that assumed it, this could
 -- not be proved
 pub record Asks : Type 0 where
-  pub long_refused : CostsNothing → (t : Table) → Good t → (all : Bool) (marks : List ℕ) (w : Refusal) → outcome_for all marks t ≡ refused w → number_of (outcome_taking unshortened all marks t) ≡ w.number
-  pub long_passed : CostsNothing → (t : Table) → Good t → (all : Bool) (marks : List ℕ) (r : Result) → outcome_for all marks t ≡ passed r → is_passed (outcome_taking unshortened all marks t) ≡ true
-  pub order_refused : AnyOrder → (t t' : Table) → Good t → Reordered t t' → (all : Bool) (marks : List ℕ) (w : Refusal) → outcome_for all marks t ≡ refused w → number_of (outcome_for all marks t') ≡ w.number
-  pub order_passed : AnyOrder → (t t' : Table) → Good t → Reordered t t' → (all : Bool) (marks : List ℕ) (r : Result) → outcome_for all marks t ≡ passed r → is_passed (outcome_for all marks t') ≡ true
-  pub accepted_too : AcceptedInAnyOrder → (t t' : Table) (r : Result) → Good t → Reordered t t' → (all : Bool) (marks : List ℕ) → outcome_for all marks t ≡ passed r → is_passed (outcome_for all marks t') ≡ true
+  pub long_refused : CostsNothing → (t : Table) → Good t → (all : Bool) (marks : List ℕ) (w : Refusal) → outcome_for all marks t ≡ Err w → number_told (outcome_taking unshortened all marks t) ≡ number_of w
+  pub long_passed : CostsNothing → (t : Table) → Good t → (all : Bool) (marks : List ℕ) (r : Result) → outcome_for all marks t ≡ Ok r → is_passed (outcome_taking unshortened all marks t) ≡ true
+  pub order_refused : AnyOrder → (t t' : Table) → Good t → Reordered t t' → (all : Bool) (marks : List ℕ) (w : Refusal) → outcome_for all marks t ≡ Err w → number_told (outcome_for all marks t') ≡ number_of w
+  pub order_passed : AnyOrder → (t t' : Table) → Good t → Reordered t t' → (all : Bool) (marks : List ℕ) (r : Result) → outcome_for all marks t ≡ Ok r → is_passed (outcome_for all marks t') ≡ true
+  pub accepted_too : AcceptedInAnyOrder → (t t' : Table) (r : Result) → Good t → Reordered t t' → (all : Bool) (marks : List ℕ) → outcome_for all marks t ≡ Ok r → is_passed (outcome_for all marks t') ≡ true
 
-refused_too : (n : ℕ) (j k : Judged Result) (w : Refusal) → Both (SameResult n) j k → j ≡ refused w → number_of k ≡ w.number
-refused_too n j (passed r) w b e = absurd (subst (λ (i : Judged Result). Both (SameResult n) i (passed r)) e b)
-refused_too n j (refused v) w b e = (subst (λ (i : Judged Result). Both (SameResult n) i (refused v)) e b).number
+refused_too : (n : ℕ) (j k : Judged Result) (w : Refusal) → Both (SameResult n) j k → j ≡ Err w → number_told k ≡ number_of w
+refused_too n j (Ok r) w b e = absurd (subst (λ (i : Judged Result). Both (SameResult n) i (Ok r)) e b)
+refused_too n j (Err v) w b e = (subst (λ (i : Judged Result). Both (SameResult n) i (Err v)) e b).number
 
-passed_too : (n : ℕ) (j k : Judged Result) (r : Result) → Both (SameResult n) j k → j ≡ passed r → is_passed k ≡ true
-passed_too n j (passed s) r b e = refl
-passed_too n j (refused v) r b e = absurd (subst (λ (i : Judged Result). Both (SameResult n) i (refused v)) e b)
+passed_too : (n : ℕ) (j k : Judged Result) (r : Result) → Both (SameResult n) j k → j ≡ Ok r → is_passed k ≡ true
+passed_too n j (Ok s) r b e = refl
+passed_too n j (Err v) r b e = absurd (subst (λ (i : Judged Result). Both (SameResult n) i (Err v)) e b)
 
 pub asks : Asks
 asks =

@@ -1,5 +1,6 @@
 -- A small hour in both profiles, with marks, and with its list not shortened; results and records that intraday demand 3 rejects, and tables of p that E9 rejects.
 -- Nobody cites it: it refuses a definition or a statement that slipped, by the number that comes out.
+use Rattle.std.specs.Prelude.{Err, Ok}
 use mathlib.Core.Path.{◌≡◌, refl, sym, ap, subst}
 use mathlib.Core.Bool.{Bool, true, false, false≢true}
 use mathlib.Core.List.{List, [], ◌∷◌}
@@ -11,7 +12,7 @@ use lib.IntN.{ℤ, pos, nat_abs}
 use lib.Signed.{lt_z_yes, lt_z_no, clash_ℤ}
 use Rattle.numbers.specs.Below.{at, if_zero, sum, count, largest, lesser, least, or_zero, table, first_from, given}
 use Rattle.numbers.specs.Ints.{minus, max_ℤ, min_ℤ, positive_part, same_ℤ, sum_ℤ}
-use Rattle.refusals.specs.Refusals.{Judged, passed, refused, refusal, then, unless, refuse_at, refuse_first}
+use Rattle.refusals.specs.Refusals.{Judged, then, unless, refuse_at, refuse_first, bad_mark, below_zero}
 use Rattle.types.specs.Ranges.{hubs_of, border_of, share_of, row_of, worth, default_of}
 use Rattle.marks.specs.Marks.{marked_by, faulty_mark, judge_marks}
 use Rattle.tablerules.specs.Table.{Table, factors_at, stretch}
@@ -79,7 +80,7 @@ one_kw = record { margins = 0 ∷ 30000 ∷ 0 ∷ 0 ∷ []; x = 0 ∷ 0 ∷ [] }
 
 -- where an outcome ends
 abbrev ends : Judged Result → Judged Outcome
-ends j = then j (λ r. passed r.outcome)
+ends j = then j (λ r. Ok r.outcome)
 
 -- the rows of the hour, with these rounds, margins left and exchanges
 abbrev ended : (rounds : ℕ) → (margins x : List ℕ) → Result
@@ -104,21 +105,21 @@ at_least kw mw e = subst (λ (v : ℕ). v * 1000 ≤ kw) (sym (ap nat_abs e)) (d
 
 pub record Anchors : Type 0 where
   -- day-ahead: borders start from 1,000 kW and 0, and border 0 takes what S leaves of row 0's RAM
-  pub day : ends (outcome_taking kept true [] (small 0)) ≡ passed (end 1 (0 ∷ 0 ∷ 0 ∷ 0 ∷ []) (12000 ∷ 1000 ∷ []))
+  pub day : ends (outcome_taking kept true [] (small 0)) ≡ Ok (end 1 (0 ∷ 0 ∷ 0 ∷ 0 ∷ []) (12000 ∷ 1000 ∷ []))
   -- day-ahead, not shortened: row 2 takes part and changes nothing, row 3 does not
-  pub day_long : ends (outcome_taking unshortened true [] (small 0)) ≡ passed (end 1 (0 ∷ 0 ∷ 260000000 ∷ 0 ∷ []) (12000 ∷ 1000 ∷ []))
+  pub day_long : ends (outcome_taking unshortened true [] (small 0)) ≡ Ok (end 1 (0 ∷ 0 ∷ 260000000 ∷ 0 ∷ []) (12000 ∷ 1000 ∷ []))
   -- day-ahead, with the second border marked: the first stays at its LTA; and with a mark beyond the borders
-  pub day_marked : ends (outcome_taking kept false (1 ∷ []) (small 0)) ≡ passed (end 1 (220000000 ∷ 0 ∷ 0 ∷ 0 ∷ []) (1000 ∷ 1000 ∷ []))
-  pub day_beyond : ends (outcome_taking unshortened false (2 ∷ []) (small 0)) ≡ refused (refusal 13 1 0)
+  pub day_marked : ends (outcome_taking kept false (1 ∷ []) (small 0)) ≡ Ok (end 1 (220000000 ∷ 0 ∷ 0 ∷ 0 ∷ []) (1000 ∷ 1000 ∷ []))
+  pub day_beyond : ends (outcome_taking unshortened false (2 ∷ []) (small 0)) ≡ Err (bad_mark 1)
   -- day-ahead, with IVA on row 0: RAM - S is below 0
-  pub day_seven : ends (outcome_taking kept true [] (small 2300)) ≡ refused (refusal 7 0 0)
+  pub day_seven : ends (outcome_taking kept true [] (small 2300)) ≡ Err (below_zero 0)
   -- intraday: from 0 kW, RAM and 60,000,000 grains more on row 0; row 1's remainder is negative and counts as 0
   pub flow : flow_of (factors_at (small 0) 0) taken ≡ minus 60000000
-  pub left : ends (outcome_taking kept true [] (late 0)) ≡ passed (end 1 (0 ∷ 0 ∷ 0 ∷ 0 ∷ []) (15000 ∷ 0 ∷ []))
-  pub left_long : ends (outcome_taking unshortened true [] (late 0)) ≡ passed (end 1 (0 ∷ 0 ∷ 260000000 ∷ 0 ∷ []) (15000 ∷ 0 ∷ []))
-  pub left_marked : ends (outcome_taking kept false (1 ∷ []) (late 0)) ≡ passed (end 0 (300000000 ∷ 0 ∷ 0 ∷ 0 ∷ []) (0 ∷ 0 ∷ []))
+  pub left : ends (outcome_taking kept true [] (late 0)) ≡ Ok (end 1 (0 ∷ 0 ∷ 0 ∷ 0 ∷ []) (15000 ∷ 0 ∷ []))
+  pub left_long : ends (outcome_taking unshortened true [] (late 0)) ≡ Ok (end 1 (0 ∷ 0 ∷ 260000000 ∷ 0 ∷ []) (15000 ∷ 0 ∷ []))
+  pub left_marked : ends (outcome_taking kept false (1 ∷ []) (late 0)) ≡ Ok (end 0 (300000000 ∷ 0 ∷ 0 ∷ 0 ∷ []) (0 ∷ 0 ∷ []))
   -- intraday, with IVA on row 0: S is not taken off, and 7 isn't given
-  pub left_iva : ends (outcome_taking kept true [] (late 2300)) ≡ passed (end 1 (0 ∷ 0 ∷ 0 ∷ 0 ∷ []) (3500 ∷ 0 ∷ []))
+  pub left_iva : ends (outcome_taking kept true [] (late 2300)) ≡ Ok (end 1 (0 ∷ 0 ∷ 0 ∷ 0 ∷ []) (3500 ∷ 0 ∷ []))
   -- where demand 3 has margins and borders start, in both profiles
   pub starts : start_margin (small 0) 0 ≡ pos 220000000
   pub starts_late : start_margin (late 0) 0 ≡ pos 300000000

@@ -1,8 +1,8 @@
 -- When two extractions come to the same (02, E14): one refusal number (the place of 7 may differ), or the same rounds and ATCs.
-use Rattle.std.specs.Prelude.{◌≡◌, ℕ, ◌<◌}
+use Rattle.std.specs.Prelude.{◌≡◌, ℕ, ◌<◌, Err, Ok}
 use Rattle.numbers.specs.Below.{at}
 use Rattle.refusals.specs.declared.Refusal.{Refusal}
-use Rattle.refusals.specs.Refusals.{Judged, passed, refused}
+use Rattle.refusals.specs.Refusals.{Judged, number_of, place_of}
 use Rattle.rounds.specs.Rounds.{Outcome}
 use Rattle.extractrules.specs.Extraction.{Result, atc_of}
 
@@ -18,12 +18,12 @@ pub record SameResult (borders : ℕ) (r r' : Result) : Type 0 where
 
 -- two refusals come to the same: one number, and one place except for 7
 pub record SameRefusal (w w' : Refusal) : Type 0 where
-  pub number : w'.number ≡ w.number
-  pub place : (w.number ≡ 7 → ⊥) → w'.place ≡ w.place
+  pub number : number_of w' ≡ number_of w
+  pub place : (number_of w ≡ 7 → ⊥) → place_of w' ≡ place_of w
 
 -- two judgements come to the same: both passed, with values alike, or both were refused, with refusals alike
 abbrev pub Both : {A : Type 0} → (A → A → Type 0) → Judged A → Judged A → Type 0
-Both like (passed a) (passed a') = like a a'
-Both like (passed a) (refused w') = ⊥
-Both like (refused w) (passed a') = ⊥
-Both like (refused w) (refused w') = SameRefusal w w'
+Both like (Ok a) (Ok a') = like a a'
+Both like (Ok a) (Err w') = ⊥
+Both like (Err w) (Ok a') = ⊥
+Both like (Err w) (Err w') = SameRefusal w w'

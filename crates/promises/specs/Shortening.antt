@@ -1,7 +1,6 @@
 -- 02, E14: does shortening the list cost capacity? The statements, of the calls' own outcome, of every border or with marks; each table is of its own profile. They are
 -- proved in crate theorems (proofs/Shortening).
-use Rattle.std.specs.Prelude.{◌≡◌, Bool, List, ℕ}
-use Rattle.refusals.specs.Refusals.{passed}
+use Rattle.std.specs.Prelude.{◌≡◌, Bool, List, ℕ, Ok}
 use Rattle.tablerules.specs.Table.{Table}
 use Rattle.tablerules.specs.Good.{Good}
 use Rattle.extractrules.specs.Extraction.{Result, outcome_for}
@@ -21,8 +20,8 @@ AnyOrder = (t t' : Table) → Good t → Reordered t t' → (all : Bool) (marks 
 -- So, for an accepted table of either profile, any order of its rows is accepted, with the same ATCs and rounds.
 pub record AcceptedToo (all : Bool) (marks : List ℕ) (t t' : Table) (r : Result) : Type 0 where
   pub result : Result
-  pub accepted : outcome_for all marks t' ≡ passed result
+  pub accepted : outcome_for all marks t' ≡ Ok result
   pub same : SameResult t.header.borders r result
 
 abbrev pub AcceptedInAnyOrder : Type 0
-AcceptedInAnyOrder = (t t' : Table) (r : Result) → Good t → Reordered t t' → (all : Bool) (marks : List ℕ) → outcome_for all marks t ≡ passed r → AcceptedToo all marks t t' r
+AcceptedInAnyOrder = (t t' : Table) (r : Result) → Good t → Reordered t t' → (all : Bool) (marks : List ℕ) → outcome_for all marks t ≡ Ok r → AcceptedToo all marks t t' r

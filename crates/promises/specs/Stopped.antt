@@ -1,7 +1,6 @@
 -- 02, E7: which row stopped a border, and which round raised it last, in the words of the table and of its result, with any borders marked (02, E13). The statements,
 -- proved of every accepted table (crate theorems, proofs/Stopped). Rows, states and factors are the table's own.
-use Rattle.std.specs.Prelude.{◌≡◌, Bool, true, List, [], ℕ, ◌/◌, ◌≤◌, ◌<◌, ℤ, pos, get_or}
-use Rattle.std.proofs.Math.Option.{none, some}
+use Rattle.std.specs.Prelude.{◌≡◌, Bool, true, List, [], ℕ, ◌/◌, ◌≤◌, ◌<◌, ℤ, pos, get_or, None, Some}
 use Rattle.numbers.specs.Ints.{minus}
 use Rattle.types.specs.Ranges.{at_ℤ}
 use Rattle.tablerules.specs.Table.{Table, border_at, factors_at}
@@ -29,7 +28,7 @@ pub record StoppedBy (t : Table) (marked : ℕ → Bool) (r : Result) (b i : ℕ
 pub record BorderStopped (t : Table) (marked : ℕ → Bool) (r : Result) (b : ℕ) : Type 0 where
   -- some row stopped it, and the result has this row
   pub row : ℕ
-  pub found : stop_of r b ≡ some row
+  pub found : stop_of r b ≡ Some row
   pub stopped : StoppedBy t marked r b row
   -- the result's last round is the last one in which the rules raise the border, or 0
   pub last : LastRaise (grid_marked marked t) (table_start t) b r.outcome.rounds (last_of r b)
@@ -37,7 +36,7 @@ pub record BorderStopped (t : Table) (marked : ℕ → Bool) (r : Result) (b : �
 -- a border that is not marked was never raised, and no row stopped it
 pub record Unmarked (r : Result) (b : ℕ) : Type 0 where
   pub last : last_of r b ≡ 0
-  pub stop : stop_of r b ≡ none
+  pub stop : stop_of r b ≡ None
 
 -- the last round and the row, as the lent results hold them
 abbrev pub last_in : (atcs : List (List ℤ)) → (b : ℕ) → ℤ

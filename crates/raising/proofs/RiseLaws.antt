@@ -7,11 +7,10 @@ use native.Mathlib.Nat.{le_antisymm, add-zero, add-suc}
 use native.Mathlib.Omega.{arith}
 use lib.ListN.{length, set, length-set}
 use lib.Seq.{get_or-set_same, get_or-set_other}
-use Rattle.numbers.specs.Below.{at, if_zero, table}
+use Rattle.numbers.specs.Below.{at, if_zero}
 use Rattle.numbers.proofs.BelowLaws.{le_or_lt, table_of}
 use Rattle.rounds.specs.Rounds.{risen}
 use Rattle.rounds.specs.AllRounds.{noted}
-use Rattle.walk.specs.Walk.{Listed}
 use Rattle.walk.proofs.ListedLaws.{taken, taken_none, taken_here, taken_there, taken_all, taken_under}
 use Rattle.raising.specs.Raising.{Fits, Risable, Rose}
 
@@ -53,8 +52,8 @@ module _ (v list : List ℕ) (j : ℕ) where
       (same_or_not b c)
 
 -- the first j listed borders rose
-pub record Rising (v list : List ℕ) (live round : ℕ) (d₀ x₀ lasts₀ d x lasts : List ℕ) (j : ℕ) : Type 0 where
-  pub high : j ≤ live
+pub record Rising (v list : List ℕ) (round : ℕ) (d₀ x₀ lasts₀ d x lasts : List ℕ) (j : ℕ) : Type 0 where
+  pub high : j ≤ length list
   pub gained_long : length d ≡ length d₀
   pub x_long : length x ≡ length x₀
   pub lasts_long : length lasts ≡ length lasts₀
@@ -62,9 +61,9 @@ pub record Rising (v list : List ℕ) (live round : ℕ) (d₀ x₀ lasts₀ d x
   pub exchanges : (b : ℕ) → at x b ≡ at x₀ b + taken v list j b
   pub last_rounds_lem : (b : ℕ) → at lasts b ≡ if_zero (taken v list j b) (at lasts₀ b) round
 
-pub rising_none : (v list : List ℕ) (live round : ℕ) (d x lasts : List ℕ) → Rising v list live round d x lasts d x lasts 0
+pub rising_none : (v list : List ℕ) (round : ℕ) (d x lasts : List ℕ) → Rising v list round d x lasts d x lasts 0
 unfolding if_zero
-rising_none v list live round d x lasts =
+rising_none v list round d x lasts =
     record {
       high = omega arith;
       gained_long = refl;
@@ -75,8 +74,8 @@ rising_none v list live round d x lasts =
       last_rounds_lem = λ b. rw (taken_none v list b) refl;
     }
 
-module _ {v list : List ℕ} {live round : ℕ} {d₀ x₀ lasts₀ d x lasts : List ℕ} {j : ℕ} (q : Risable v list live d₀ x₀ lasts₀) (u : Rising v list live round d₀ x₀ lasts₀ d x lasts j) where
-  module _ (hj : j < live) where
+module _ {v list : List ℕ} {round : ℕ} {d₀ x₀ lasts₀ d x lasts : List ℕ} {j : ℕ} (q : Risable v list d₀ x₀ lasts₀) (u : Rising v list round d₀ x₀ lasts₀ d x lasts j) where
+  module _ (hj : j < length list) where
     pub rising_here : at list j < length v
     rising_here = q.listed.inside j hj
 
@@ -94,7 +93,7 @@ module _ {v list : List ℕ} {live round : ℕ} {d₀ x₀ lasts₀ d x lasts : 
     pub x_fits : at x (at list j) < 2 ^ 64 → at x (at list j) + at v (at list j) < 2 ^ 64
     x_fits = fits-here x₀ x q.exchanges (u.exchanges (at list j))
 
-    pub rising_more : (r : ℕ) → r ≡ if_zero (at v (at list j)) (at lasts (at list j)) round → Rising v list live round d₀ x₀ lasts₀ (set d (at list j) (at d (at list j) + at v (at list j))) (set x (at list j) (at x (at list j) + at v (at list j))) (set lasts (at list j) r) (j + 1)
+    pub rising_more : (r : ℕ) → r ≡ if_zero (at v (at list j)) (at lasts (at list j)) round → Rising v list round d₀ x₀ lasts₀ (set d (at list j) (at d (at list j) + at v (at list j))) (set x (at list j) (at x (at list j) + at v (at list j))) (set lasts (at list j) r) (j + 1)
     rising_more r er =
         record {
           high = omega arith;
@@ -106,10 +105,10 @@ module _ {v list : List ℕ} {live round : ℕ} {d₀ x₀ lasts₀ d x lasts : 
           last_rounds_lem = noted_more v list j round lasts₀ lasts u.last_rounds_lem (omega (arith, rising_here, u.lasts_long, q.notes)) r er;
         }
 
-  pub rising_all : live ≤ j → Rose v d₀ x₀ lasts₀ round d x lasts
+  pub rising_all : length list ≤ j → Rose v d₀ x₀ lasts₀ round d x lasts
   unfolding risen noted
   rising_all h =
-      let e : j ≡ live = omega (arith, u.high) in
+      let e : j ≡ length list = omega (arith, u.high) in
       let all : (b : ℕ) → b < length v → taken v list j b ≡ at v b = λ b hb. ap (λ (k : ℕ). taken v list k b) e ∙ taken_all q.listed b hb in
       record {
         gained = table_of (length v) (risen v d₀) d 0 (u.gained_long ∙ q.gains.long) (λ b hb. omega (arith, u.gained b, all b hb));

@@ -9,28 +9,29 @@ use native.Mathlib.Numerals.{add-one}
 use native.Mathlib.Omega.{arith}
 use borrow.Author.Tests.{lt-ltb, le-ltb}
 use lib.Dec.{ltb}
+use lib.ListN.{length}
 use Rattle.numbers.specs.Below.{at, count}
 use Rattle.numbers.proofs.BelowLaws.{lt_suc_cases, le_or_lt, count_pos, count_some}
 use Rattle.walk.specs.Walk.{Listed}
 use Rattle.walk.proofs.ListedLaws.{listed_has}
 
 -- of the first j listed borders none rises
-pub record Still (v list : List ℕ) (live j : ℕ) : Type 0 where
-  pub high : j ≤ live
+pub record Still (v list : List ℕ) (j : ℕ) : Type 0 where
+  pub high : j ≤ length list
   pub none : (j' : ℕ) → j' < j → at v (at list j') ≤ 0
 
-pub still_none : (v list : List ℕ) (live : ℕ) → Still v list live 0
-still_none v list live = record { high = omega arith; none = λ j' h. absurd (not-suc-le-zero h) }
+pub still_none : (v list : List ℕ) → Still v list 0
+still_none v list = record { high = omega arith; none = λ j' h. absurd (not-suc-le-zero h) }
 
-pub still_more : {v list : List ℕ} {live j : ℕ} → Still v list live j → j < live → at v (at list j) ≤ 0 → Still v list live (j + 1)
-still_more {v} {list} {live} {j} u hj z =
+pub still_more : {v list : List ℕ} {j : ℕ} → Still v list j → j < length list → at v (at list j) ≤ 0 → Still v list (j + 1)
+still_more {v} {list} {j} u hj z =
     record { high = omega arith; none = λ j' h. ⊎_elim (λ a. u.none j' a) (λ y. rw y z) (lt_suc_cases j' j (rw add-one at h)) }
 
-module _ {borders : ℕ} {v list : List ℕ} {live j : ℕ} (q : Listed borders v list live) where
-  pub still_some : j < live → 0 < at v (at list j) → true ≡ ltb 0 (count borders (at v))
+module _ {borders : ℕ} {v list : List ℕ} {j : ℕ} (q : Listed borders v list) where
+  pub still_some : j < length list → 0 < at v (at list j) → true ≡ ltb 0 (count borders (at v))
   still_some hj z = sym (lt-ltb 0 (count borders (at v)) (count_pos borders (at v) (at list j) (q.inside j hj) z))
 
-  pub still_all : Still v list live j → live ≤ j → false ≡ ltb 0 (count borders (at v))
+  pub still_all : Still v list j → length list ≤ j → false ≡ ltb 0 (count borders (at v))
   still_all u h =
       sym
       (le-ltb 0 (count borders (at v))

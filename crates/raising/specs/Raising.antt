@@ -11,8 +11,8 @@ pub record Fits (v x : List ℕ) : Type 0 where
   pub fits : (b : ℕ) → b < length v → 0 < at v b → at x b + at v b < 2 ^ 64
 
 -- what raising by v asks: the list holds the borders with a raise; what was gained (d) and the exchanges (x) still fit a u64; each border has a last round
-pub record Risable (v list : List ℕ) (live : ℕ) (d x lasts : List ℕ) : Type 0 where
-  pub listed : Listed (length v) v list live
+pub record Risable (v list : List ℕ) (d x lasts : List ℕ) : Type 0 where
+  pub listed : Listed (length v) v list
   pub gains : Fits v d
   pub exchanges : Fits v x
   pub notes : length lasts ≡ length v

@@ -1,5 +1,5 @@
-// What a round does to the borders: whether it raises one, and the raises themselves (01, "Extraction"; 02, E7), of the borders that `rising` lists in its first
-// `live` places. A border's cap is its raise, in kW.
+// What a round does to the borders: whether it raises one, and the raises themselves (01, "Extraction"; 02, E7), of the borders that `rising` lists.
+// A border's cap is its raise, in kW.
 #![tactic(auto)]
 
 ghost use Rattle.std.specs.Prelude.{◌≡◌, ltb, length};
@@ -8,14 +8,12 @@ ghost use Rattle.walk.specs.Walk.{Listed};
 ghost use Rattle.raising.specs.Raising.{Risable, Rose};
 
 // Whether the round raises a border.
-pub fn rises(caps: &[u64], rising: &[usize], live: usize) -> bool
-    requires { Listed (length caps.now) caps.now rising.now live }
+pub fn rises(caps: &[u64], rising: &[usize]) -> bool
+    requires { Listed (length caps.now) caps.now rising.now }
     ensures { result ≡ ltb 0 (count (length caps.now) (at caps.now)) }
 {
-    for j in 0..live {
-        let b = rising[j];
-        let raise = caps[b];
-        if raise > 0 {
+    for &b in rising {
+        if caps[b] > 0 {
             return true;
         }
     }
@@ -26,23 +24,20 @@ pub fn rises(caps: &[u64], rising: &[usize], live: usize) -> bool
 pub fn rise(
     caps: &[u64],
     rising: &[usize],
-    live: usize,
     round: u64,
     gained: &mut [u64],
     x: &mut [u64],
     lasts: &mut [u64],
 )
-    requires { Risable caps.now rising.now live gained.old x.old lasts.old }
+    requires { Risable caps.now rising.now gained.old x.old lasts.old }
     ensures { Rose caps.now gained.old x.old lasts.old round gained.new x.new lasts.new }
 {
-    for j in 0..live {
-        let b = rising[j];
+    for &b in rising {
         let raise = caps[b];
         gained[b] += raise;
         x[b] += raise;
         // Always written, which is cheaper than a test.
-        let last = lasts[b];
-        lasts[b] = later(raise, last, round);
+        lasts[b] = later(raise, lasts[b], round);
     }
 }
 

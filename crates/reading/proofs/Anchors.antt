@@ -1,5 +1,6 @@
 -- Reading with a correction sheet, computed on a small day (02, E2). Nobody cites it: it refuses a definition that slipped.
 -- A blank stands for a tab, / for an LF. The day has 2 zones, one border and 2 rows, of which a sheet corrects the second.
+use Rattle.std.specs.Prelude.{Err, Ok}
 use mathlib.Core.Path.{refl}
 use mathlib.Core.List.{List, [], ◌∷◌, ◌++◌}
 use Prim.Native.Nat.{ℕ}
@@ -8,7 +9,7 @@ use lib.IntN.{ℤ, pos}
 use Rattle.numbers.specs.Below.{first_from, given}
 use Rattle.numbers.specs.Ints.{minus, inside, same_ℤ, sum_ℤ}
 use Rattle.numbers.specs.Computed.{◌is◌, Hold}
-use Rattle.refusals.specs.Refusals.{Judged, passed, refused, refusal, then, either, unless, refuse_at, refuse_first, need}
+use Rattle.refusals.specs.Refusals.{Judged, wrong_form_at, out_of_range_at, given_twice, too_short, wrong_correction, then, either, unless, refuse_at, refuse_first, need}
 use Rattle.types.specs.declared.Header.{Header}
 use Rattle.types.specs.Ranges.{header_fits, allocated_items, zone_fits, exists, hubs_fit, border_fits, share_of, row_of, row_fits, factor_fits}
 use Rattle.text.specs.Fields.{number_at, signed_at, share_at}
@@ -53,28 +54,25 @@ merged share intraday allocated =
     ((pos 100 ∷ pos 0 ∷ pos 0 ∷ pos 0 ∷ pos 7000 ∷ pos 0 ∷ pos 0 ∷ []) ∷ (pos 90 ∷ pos 1 ∷ pos 2 ∷ pos 3 ∷ minus 1 ∷ pos 4 ∷ pos 5 ∷ []) ∷ [])
     (pos 20000 ∷ pos 0 ∷ minus 6 ∷ pos 7 ∷ [])
 
-abbrev bad : (number place byte : ℕ) → Judged Table
-bad number place byte = refused (refusal number place byte)
-
 abbrev answered : (text corrections : List ℕ) → Judged Header
 answered text corrections = (read_corrected_left text corrections [] [] [] [] []).answer
 
 pub noons : Hold (
     -- the sheet's row where it has one, and else the day's
-    read_corrected plain noon is passed (merged (minus 1) 0 [])  -- one
-    ∷ read_corrected plain semicolons is passed (merged (minus 1) 0 [])  -- semicolons
+    read_corrected plain noon is Ok (merged (minus 1) 0 [])  -- one
+    ∷ read_corrected plain semicolons is Ok (merged (minus 1) 0 [])  -- semicolons
     -- all but the rows is the day's: the default of R, and the profile
-    ∷ read_corrected (day "H 2 1 2 6000/Z 0 5/Z 1 -5/B 0 0 1 100/") noon is passed (merged (pos 6000) 0 [])  -- default
-    ∷ read_corrected (day "H 2 1 2/Z 0 5/Z 1 -5/T 0 3/T 1 -3/B 0 0 1 100/") noon is passed (merged (minus 1) 1 (pos 3 ∷ minus 3 ∷ []))  -- intraday
+    ∷ read_corrected (day "H 2 1 2 6000/Z 0 5/Z 1 -5/B 0 0 1 100/") noon is Ok (merged (pos 6000) 0 [])  -- default
+    ∷ read_corrected (day "H 2 1 2/Z 0 5/Z 1 -5/T 0 3/T 1 -3/B 0 0 1 100/") noon is Ok (merged (minus 1) 1 (pos 3 ∷ minus 3 ∷ []))  -- intraday
     -- 10, the sheet's line and its byte
-    ∷ read_corrected plain (shown "C 1 90 1 2 3 - 4 5 -6 7/C 1 90 1 2 3 - 4 5 -6 7/") is bad 10 2 3  -- faulty
-    ∷ read_corrected plain (semicolons ++ noon) is bad 10 2 1  -- another-kind
+    ∷ read_corrected plain (shown "C 1 90 1 2 3 - 4 5 -6 7/C 1 90 1 2 3 - 4 5 -6 7/") is Err (wrong_correction 2 3)  -- faulty
+    ∷ read_corrected plain (semicolons ++ noon) is Err (wrong_correction 2 1)  -- another-kind
     -- after 2, 3 and 4 of the day's text, and before 8
-    ∷ read_corrected (day "H 2 1 2/Z 0 5/Z 1 -5/B 0 0 1 +1/") (shown "x") is bad 2 4 9  -- after-2
-    ∷ read_corrected (day "H 2 1 2/Z 0 5/Z 1 -5/B 0 0 0 100/") (shown "x") is bad 3 4 7  -- after-3
-    ∷ read_corrected (day "H 2 2 2/Z 0 5/Z 1 -5/B 0 0 1 100/B 1 0 1 100/") (shown "x") is bad 4 1 0  -- after-4
-    ∷ answered plain (shown "x") is refused (refusal 10 1 0)  -- before-8
-    ∷ answered plain noon is refused (refusal 8 2 0)  -- then-8
+    ∷ read_corrected (day "H 2 1 2/Z 0 5/Z 1 -5/B 0 0 1 +1/") (shown "x") is Err (wrong_form_at 4 9)  -- after-2
+    ∷ read_corrected (day "H 2 1 2/Z 0 5/Z 1 -5/B 0 0 0 100/") (shown "x") is Err (out_of_range_at 4 7)  -- after-3
+    ∷ read_corrected (day "H 2 2 2/Z 0 5/Z 1 -5/B 0 0 1 100/B 1 0 1 100/") (shown "x") is Err (given_twice 1)  -- after-4
+    ∷ answered plain (shown "x") is Err (wrong_correction 1 0)  -- before-8
+    ∷ answered plain noon is Err (too_short 2)  -- then-8
     ∷ [])
 unfolding computing
 noons = refl

@@ -1,5 +1,4 @@
 pub mod Anchors
-pub mod AnswerLaws
 pub mod ReadLaws
 pub mod JudgedTextLaws
 pub mod LeftLaws

@@ -1,4 +1,5 @@
 -- What is known of a table that was read: its header and sections of lines (`opened`), and that it is good (`read-good`, `read-shaped`). No contract cites this file.
+use Rattle.std.specs.Prelude.{Err, Ok}
 use mathlib.Core.Path.{◌≡◌, refl, sym, ap, subst, ◌∙◌}
 use mathlib.Core.Bool.{Bool, true, false, cond}
 use mathlib.Core.List.{List, []}
@@ -10,12 +11,12 @@ use lib.ListN.{length, get_or}
 use borrow.Author.Tests.{ltb-false}
 use Rattle.limits.specs.Limits.{bytes_most}
 use Rattle.refusals.specs.declared.Refusal.{Refusal}
-use Rattle.refusals.specs.Refusals.{Judged, passed, refused, unless, too_long, wrong_form_at, wrong_form, out_of_range_at}
+use Rattle.refusals.specs.Refusals.{Judged, unless, too_long, wrong_form}
 use Rattle.refusals.proofs.RefusalLaws.{passed_is, not_passed, unless_passed, none_passed, then_passed}
 use Rattle.types.specs.declared.Header.{Header}
 use Rattle.types.specs.Ranges.{header_fits, is_intraday, allocated_items, profiled, zone_fits, row_fits, factor_fits, at_ℤ}
 use Rattle.types.proofs.RangeLaws.{header_in_lem, profiled_fits}
-use Rattle.text.specs.Line.{line_at, after, Line, holds, form, range}
+use Rattle.text.specs.Line.{line_at, after, Line, refusal_of}
 use Rattle.sections.specs.Section.{read, lines_at}
 use Rattle.sections.proofs.SectionLaws.{AllFit}
 use Rattle.sections.proofs.SectionRecords.{section_fits, fits_at, lines_then}
@@ -32,6 +33,7 @@ use Rattle.lines.proofs.ZoneTrip.{zone_read_lem}
 use Rattle.lines.proofs.BorderTrip.{BorderHeld, border_read_lem}
 use Rattle.lines.specs.declared.row.RowKind.TheVariants as row_kind
 use Rattle.lines.proofs.RowTrip.{RowHeld, RowHeldAt, row_read_lem}
+use Rattle.std.specs.Prelude.{Ok, Err}
 
 -- ---- the profile that a header is given
 profile_given : (h : Header) (intraday : Bool) → is_intraday (profiled h intraday) ≡ intraday
@@ -45,7 +47,7 @@ pub record Opened (pick : Piece → ℕ → Piece) (text : List ℕ) (t : Table)
   pub o : ℕ
   pub q : ℕ
   pub e : ℕ
-  pub header_is : header_line (line_at text 0) ≡ holds (profiled t.header false)
+  pub header_is : header_line (line_at text 0) ≡ Ok (profiled t.header false)
   pub header_fits_lem : header_fits t.header ≡ true
   pub profile_is : is_intraday t.header ≡ intraday_at text p
   pub nets_are : lines_at zone_line zone_line_no t.header.zones text (after text 0) 0 ≡ read t.nets p
@@ -58,22 +60,21 @@ pub record Opened (pick : Piece → ℕ → Piece) (text : List ℕ) (t : Table)
   pub factors_are : factors_of lines ≡ t.factors
   pub left : (other : Piece → ℕ → Piece) → lines_by other text ≡ rows_from other text t.header t.nets t.allocated t.borders q
 
-header_then : {P : Type 0} (t : Table) (l : Line Header) (next : Header → Judged Table) → with_header l next ≡ passed t → ((h : Header) → l ≡ holds h → next h ≡ passed t → P) → P
-header_then t (holds h) next e k = k h refl e
-header_then t (form byte) next e k = absurd (not_passed (wrong_form_at header_line_no byte) t e)
-header_then t (range byte) next e k = absurd (not_passed (out_of_range_at header_line_no byte) t e)
+header_then : {P : Type 0} (t : Table) (l : Line Header) (next : Header → Judged Table) → with_header l next ≡ Ok t → ((h : Header) → l ≡ Ok h → next h ≡ Ok t → P) → P
+header_then t (Ok h) next e k = k h refl e
+header_then t (Err bad) next e k = absurd (not_passed (refusal_of bad header_line_no) t e)
 
 -- a refusal where a test holds, and none was given
-pub cond_passed : (a b : ℕ) (w : Refusal) (x : Judged Table) (t : Table) → cond (ltb a b) (refused w) x ≡ passed t → (b ≤ a) × (x ≡ passed t)
+pub cond_passed : (a b : ℕ) (w : Refusal) (x : Judged Table) (t : Table) → cond (ltb a b) (Err w) x ≡ Ok t → (b ≤ a) × (x ≡ Ok t)
 cond_passed a b w x t e = go (ltb a b) refl e
   where
-    go : (s : Bool) → ltb a b ≡ s → cond s (refused w) x ≡ passed t → (b ≤ a) × (x ≡ passed t)
+    go : (s : Bool) → ltb a b ≡ s → cond s (Err w) x ≡ Ok t → (b ≤ a) × (x ≡ Ok t)
     go true q e = absurd (not_passed w t e)
     go false q e = (ltb-false a b q, e)
 
 rows_left : (pick : Piece → ℕ → Piece) (text : List ℕ) (counts : Header) (nets : List ℤ) (p : ℕ) (allocated : List ℤ) (o : ℕ) (borders : List (List ℤ)) (q : ℕ)
     → let h = profiled counts (intraday_at text p) in
-    header_line (line_at text 0) ≡ holds counts
+    header_line (line_at text 0) ≡ Ok counts
     → lines_at zone_line zone_line_no counts.zones text (after text 0) 0 ≡ read nets p
     → lines_at allocated_line (allocated_line_no h) (allocated_items h) text p 0 ≡ read allocated o
     → balanced allocated ≡ true
@@ -82,7 +83,7 @@ rows_left : (pick : Piece → ℕ → Piece) (text : List ℕ) (counts : Header)
 unfolding lines_by unless
 rows_left pick text counts nets p allocated o borders q eh en ea eb ec = rw (eh, en, ea, eb, ec)
 
-pub opened : (pick : Piece → ℕ → Piece) (text : List ℕ) (t : Table) → lines_by pick text ≡ passed t → Opened pick text t
+pub opened : (pick : Piece → ℕ → Piece) (text : List ℕ) (t : Table) → lines_by pick text ≡ Ok t → Opened pick text t
 unfolding lines_by
 opened pick text t e =
     header_then t (header_line (line_at text 0)) _ e (λ counts header_is e1.
@@ -100,7 +101,7 @@ opened pick text t e =
       o = o;
       q = q;
       e = e;
-      header_is = header_is ∙ ap holds (sym (header_plain (line_at text 0) counts header_is));
+      header_is = header_is ∙ ap Ok (sym (header_plain (line_at text 0) counts header_is));
       header_fits_lem = profiled_fits counts (intraday_at text p) (header_read (line_at text 0) counts header_is).1;
       profile_is = profile_given counts (intraday_at text p);
       nets_are = nets_are;
@@ -116,17 +117,17 @@ opened pick text t e =
 
 pub record Reading (text : List ℕ) (t : Table) : Type 0 where
   pub short : length text ≤ bytes_most
-  pub lines : lines_of text ≡ passed t
+  pub lines : lines_of text ≡ Ok t
   pub once : (b : ℕ) → b < t.header.borders → twice t.borders b ≡ false
 
-pub reading : (text : List ℕ) (t : Table) → read_text text ≡ passed t → Reading text t
+pub reading : (text : List ℕ) (t : Table) → read_text text ≡ Ok t → Reading text t
 unfolding read_text
 reading text t e =
     let a = cond_passed bytes_most (length text) too_long _ t e in
     let w = then_passed (lines_of text) not_twice t a.1 in
     let f = none_passed _ _ _ _ t w.second in
     let u : w.it ≡ t = passed_is _ _ f.1 in
-    record { short = a.0; lines = w.first ∙ ap passed u; once = subst (λ (x : Table). (b : ℕ) → b < x.header.borders → twice x.borders b ≡ false) u f.0 }
+    record { short = a.0; lines = w.first ∙ ap Ok u; once = subst (λ (x : Table). (b : ℕ) → b < x.header.borders → twice x.borders b ≡ false) u f.0 }
 
 -- ---- a table that was read is good
 module _ (pick : Piece → ℕ → Piece) (text : List ℕ) (t : Table) (o : Opened pick text t) where
@@ -199,8 +200,8 @@ module _ (pick : Piece → ℕ → Piece) (text : List ℕ) (t : Table) (o : Ope
     rows_wide = λ i h. ap length (values_is i) ∙ (row_at i h).wide;
   }
 
-pub read_good : (text : List ℕ) (t : Table) → read_text text ≡ passed t → Good t
+pub read_good : (text : List ℕ) (t : Table) → read_text text ≡ Ok t → Good t
 read_good text t e = let r = reading text t e in opened_good as_given text t (opened as_given text t r.lines) r.once
 
-pub read_shaped : (text : List ℕ) (t : Table) → read_text text ≡ passed t → Shaped t
+pub read_shaped : (text : List ℕ) (t : Table) → read_text text ≡ Ok t → Shaped t
 read_shaped text t e = opened_shaped as_given text t (opened as_given text t (reading text t e).lines)

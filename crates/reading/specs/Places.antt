@@ -1,20 +1,16 @@
 -- A text as far as it was read: what is known before each kind of line (01, "When the table is turned away"). Promises are stated through these.
 -- What was read stands in front of tables that have room for the largest table.
-use Rattle.std.specs.Prelude.{◌≡◌, true, List, [], ℕ, ◌*◌, ◌≤◌, ℤ, length, take}
+use Rattle.std.specs.Prelude.{◌≡◌, true, List, [], ℕ, ◌*◌, ◌≤◌, ℤ, length, take, Ok, Err}
 use Rattle.limits.specs.Limits.{zones_most, borders_most, rows_most}
-use Rattle.refusals.specs.declared.Judgement.{Judgement}
-use Rattle.refusals.specs.declared.Judgement.TheVariants.{Passed, Refused}
 use Rattle.refusals.specs.Answers.{said_judgement}
-use Rattle.refusals.specs.Refusals.{Judged, then, refuse_first, given_twice}
+use Rattle.refusals.specs.Refusals.{Judged, then, refuse_first, given_twice, Ruling}
 use Rattle.types.specs.declared.Header.{Header}
 use Rattle.types.specs.Ranges.{header_fits, allocated_items}
-use Rattle.text.specs.Line.{line_at, after, holds}
+use Rattle.text.specs.Line.{line_at, after}
 use Rattle.tablerules.specs.Table.{Table, twice, not_twice}
 use Rattle.lines.specs.Lines.{header_line}
 use Rattle.corrections.specs.Corrections.{Piece, handed_by, judge_corrections}
-use Rattle.reading.specs.declared.TableRead.{TableRead}
 use Rattle.reading.specs.Reading.{allocated_from, borders_from, rows_from, lines_by, lines_of, ReadLeft}
-use Rattle.reading.specs.Answers.{said_read}
 
 -- room for the largest table
 pub record Roomy (z t : List ℤ) (b c : List (List ℤ)) (f : List ℤ) : Type 0 where
@@ -26,7 +22,7 @@ pub record Roomy (z t : List ℤ) (b c : List (List ℤ)) (f : List ℤ) : Type 
 
 -- the H line of a text holds h, and the next line begins at place `at`
 pub record Headed (text : List ℕ) (h : Header) (at : ℕ) : Type 0 where
-  pub header_is : header_line (line_at text 0) ≡ holds h
+  pub header_is : header_line (line_at text 0) ≡ Ok h
   pub at_is : at ≡ after text 0
 
 -- the Z lines are read, and what is left to read begins at place `at`
@@ -55,14 +51,14 @@ read_short text sheet =
     lines_by (handed_by sheet) text))
 
 -- the sheet whose lines are handed on while its judgement is held back: where it is refused, none of them is
-abbrev pub used_of : (held : Judgement) → (sheet : List ℕ) → List ℕ
-used_of Passed sheet = sheet
-used_of (Refused w) sheet = []
+abbrev pub used_of : (held : Ruling) → (sheet : List ℕ) → List ℕ
+used_of (Ok tt) sheet = sheet
+used_of (Err w) sheet = []
 
 -- what is judged after the last line: borders given twice, and then what was held back
-abbrev pub judged_last : Header → (held : Judgement) → (borders : List (List ℤ)) → Judged Header
+abbrev pub judged_last : Header → (held : Ruling) → (borders : List (List ℤ)) → Judged Header
 judged_last h held borders = refuse_first h.borders (twice borders) given_twice (said_judgement held h)
 
 -- an answer, with each lent table as it stands
-abbrev pub read_said : TableRead → (z t : List ℤ) → (b c : List (List ℤ)) → (f : List ℤ) → ReadLeft
-read_said r z t b c f = record { answer = said_read r; z = z; t = t; b = b; c = c; f = f }
+abbrev pub read_said : Judged Header → (z t : List ℤ) → (b c : List (List ℤ)) → (f : List ℤ) → ReadLeft
+read_said r z t b c f = record { answer = r; z = z; t = t; b = b; c = c; f = f }

@@ -1,7 +1,6 @@
 -- What a border's reasons say, in the words of the table and of its result: the statements, proved of every accepted table (theorems: proofs/Explained). Rows, states, factors, RAM
 -- and S are the table's own, so that no wrong record makes a statement weaker.
-use Rattle.std.specs.Prelude.{◌≡◌, Bool, true, false, ℕ, ◌+◌, ◌*◌, ◌-◌, ◌/◌, ◌≤◌, ◌<◌, pos, ◌+ℤ◌, get_or}
-use Rattle.std.proofs.Math.Option.{none, some}
+use Rattle.std.specs.Prelude.{◌≡◌, Bool, true, false, ℕ, ◌+◌, ◌*◌, ◌-◌, ◌/◌, ◌≤◌, ◌<◌, pos, ◌+ℤ◌, get_or, None, Some}
 use Rattle.numbers.specs.Ints.{positive_part}
 use Rattle.numbers.specs.Below.{at, sum}
 use Rattle.types.specs.Ranges.{is_intraday}
@@ -32,17 +31,17 @@ pub record EndedBy (t : Table) (marked : ℕ → Bool) (last b i : ℕ) : Type 0
 -- of a marked border: there is such a row, and the reasons have it; the round is the last in which the rules raise the border
 pub record BorderEnded (t : Table) (marked : ℕ → Bool) (w : Why) (b : ℕ) : Type 0 where
   pub row : ℕ
-  pub found : w.ended ≡ some row
+  pub found : w.ended ≡ Some row
   pub ended : EndedBy t marked w.last b row
   pub last : LastRaise (grid_marked marked t) (table_start t) b w.outcome.rounds w.last
   -- it holds the border at the end too
-  pub still_holds : get_or w.allows row none ≡ some 0
+  pub still_holds : get_or w.allows row None ≡ Some 0
 
 -- a border that is not marked: no round raised it, and no row is named
 pub record NotEnded (w : Why) : Type 0 where
   pub last : w.last ≡ 0
-  pub named : w.named ≡ none
-  pub ended : w.ended ≡ none
+  pub named : w.named ≡ None
+  pub ended : w.ended ≡ None
 
 -- ---- what the reasons share with the result
 pub record AsResult (r : Result) (w : Why) (b : ℕ) : Type 0 where
@@ -68,9 +67,9 @@ share_at_end t marked w b i = at w.outcome.state.margins i / sharers (grid_marke
 
 -- of a marked border and any row: what is said to be allowed is the share of a kept row that loads it, and is said of each such row; so the rows that hold it are those with 0 kW
 pub record Allows (t : Table) (marked : ℕ → Bool) (w : Why) (b i : ℕ) : Type 0 where
-  pub said : (kw : ℕ) → get_or w.allows i none ≡ some kw → (kept (standings_of t).states i ≡ true) × (0 < p_of (factors_at t i) (border_at t b)) × (kw ≡ share_at_end t marked w b i)
-  pub each : kept (standings_of t).states i ≡ true → 0 < p_of (factors_at t i) (border_at t b) → get_or w.allows i none ≡ some (share_at_end t marked w b i)
+  pub said : (kw : ℕ) → get_or w.allows i None ≡ Some kw → (kept (standings_of t).states i ≡ true) × (0 < p_of (factors_at t i) (border_at t b)) × (kw ≡ share_at_end t marked w b i)
+  pub each : kept (standings_of t).states i ≡ true → 0 < p_of (factors_at t i) (border_at t b) → get_or w.allows i None ≡ Some (share_at_end t marked w b i)
 
 -- the row that the result names is among those that hold the border
 abbrev pub NamedHolds : Why → Type 0
-NamedHolds w = (i : ℕ) → w.named ≡ some i → get_or w.allows i none ≡ some 0
+NamedHolds w = (i : ℕ) → w.named ≡ Some i → get_or w.allows i None ≡ Some 0

@@ -46,7 +46,7 @@ module _ {g : Grid} {m₀ : List ℕ} {n : ℕ} {m rising v : List ℕ} {k : ℕ
 
   -- a round: its raises are found, with a list of all borders ..
   module _ {rising' v' : List ℕ} (l : rising' ≡ table g.borders (λ b. b)) (e : v' ≡ raises g m) where
-    pub round_settles : Settleable g m v' rising' g.borders
+    pub round_settles : Settleable g m v' rising'
     round_settles =
         record {
           margins = u.long;

@@ -7,7 +7,7 @@ use mathlib.Core.Logic.{inl, inr, ⊎_elim}
 use Prim.Native.Nat.{ℕ, ◌+◌, ◌*◌, ◌-◌, ◌/◌, ◌^◌, ◌≤◌, ◌<◌}
 use native.Mathlib.Nat.{le_trans, le_refl, mul-le-mul, mul-le-mul_left, mul-le-mul_right, add-mul, one-mul, div-mul-le_self}
 use native.Mathlib.Omega.{arith}
-use lib.ListN.{length, set}
+use lib.ListN.{length, set, replicate, length-replicate, get_or-replicate}
 use Rattle.numbers.specs.Below.{at, table}
 use Rattle.numbers.proofs.BelowLaws.{table_long, table_get}
 use Rattle.numbers.proofs.ListLaws.{Filled, filled_rest, filled_more}
@@ -22,7 +22,7 @@ use Rattle.walk.proofs.CapLaws.{Capped, capped_none, capped_less, capped_more, c
 use Rattle.nearness.specs.Near.{Yields, Sortable, Sorted}
 use Rattle.nearness.proofs.RaiseLaws.{raises_within, most_within}
 use Rattle.nearness.proofs.YieldLaws.{load_yields, most_yields}
-use Rattle.resting.specs.Resting.{left_to, Settleable, near_row, near_rows, Waiting, Renewed, Walkable}
+use Rattle.resting.specs.Resting.{left_to, Settleable, near_row, near_rows, Waiting, Renewed, Walkable, Steppable, stepped}
 use Rattle.resting.proofs.LoadLaws.{load_add, load_none, load_less, most_less, left_at, left_step, left_none, raises_less, raises_cap}
 use Rattle.resting.proofs.WatchLaws.{near_inside, watched_block, watched_none}
 
@@ -33,7 +33,7 @@ pub record Walking (g : Grid) (s d near : List ℕ) (count : ℕ) (w₀ w : List
   pub capped : Capped g (left_to g d s) w (near_row near count) (near_rows g near count) k
   pub lower : (b : ℕ) → b < g.borders → at w b ≤ at w₀ b
 
-module _ {g : Grid} {ns s d w₀ list : List ℕ} {live : ℕ} {near : List ℕ} {count : ℕ} (q : Walkable g ns s d w₀ list live near count) where
+module _ {g : Grid} {ns s d w₀ list : List ℕ} {near : List ℕ} {count : ℕ} (q : Walkable g ns s d w₀ list near count) where
   -- the margins before the round, and after it
   unfoldable old : List ℕ
   old = left_to g q.before s
@@ -64,7 +64,7 @@ module _ {g : Grid} {ns s d w₀ list : List ℕ} {live : ℕ} {near : List ℕ}
   pub gained_within : (i : ℕ) → i < g.rows → load g i d ≤ at s i
   gained_within i hi = omega (arith, gained-load i, old-at i hi, raises_within g old old-found i hi, q.waiting.within i hi)
 
-  gained-listed : Listed g.borders d list live
+  gained-listed : Listed g.borders d list
   gained-listed = rw q.gained q.waiting.listed
 
   pub walk_long : length w₀ ≡ g.borders
@@ -81,50 +81,45 @@ module _ {g : Grid} {ns s d w₀ list : List ℕ} {live : ℕ} {near : List ℕ}
     walk-lower : (b : ℕ) → b < g.borders → at w b ≤ at d b
     walk-lower b hb = omega (arith, u.lower b hb, gained-at b hb)
 
-    pub walk_listed : Listed g.borders w list live
+    walk_listed : Listed g.borders w list
     walk_listed = listed_less gained-listed w walk-lower
 
     module _ (hk : k < near_rows g near count) (i : ℕ) (ei : i ≡ near_row near count k) where
       pub walk_row : i < g.rows
       walk_row = omega (arith, near_inside q.waiting.watched k hk)
 
-      pub walk_loadable : Loadable g i d w list live
-      walk_loadable =
+      -- n times the most part is within the margin before the round
+      pub walk_step : Steppable g ns s d w list i
+      walk_step =
           record {
-            raises = gained_long;
-            caps = u.capped.long;
-            listed = gained-listed;
-            lower = walk-lower;
-            fits = omega (arith, gained_within i walk_row, q.waiting.fits i walk_row);
+            ready = q.waiting.ready;
+            row = walk_row;
+            loadable =
+                record {
+                  raises = gained_long;
+                  caps = u.capped.long;
+                  listed = gained-listed;
+                  lower = walk-lower;
+                  fits = omega (arith, gained_within i walk_row, q.waiting.fits i walk_row);
+                };
+            listed = walk_listed;
+            within = gained_within i walk_row;
+            product =
+                omega (
+                  arith,
+                  mul-le-mul_right (sharers g i) (most_less g i w w₀ u.lower),
+                  most_within g old old-found i walk_row,
+                  old-at i walk_row,
+                  q.waiting.fits i walk_row,
+                );
           }
 
-      pub walk_loss : (loss : ℕ) → loss ≡ load g i d → loss ≤ at s i
-      walk_loss loss e = omega (arith, gained_within i walk_row)
-
-      pub walk_n : at ns i ≡ sharers g i
-      walk_n = ready_at q.waiting.ready i walk_row
-
-      -- n times the most part is within the margin before the round
-      pub walk_most : (most : ℕ) → most ≡ most_load g i w → most * at ns i < 2 ^ 64
-      walk_most most e =
-          rw (walk_n, e)
-          (omega (
-            arith,
-            mul-le-mul_right (sharers g i) (most_less g i w w₀ u.lower),
-            most_within g old old-found i walk_row,
-            old-at i walk_row,
-            q.waiting.fits i walk_row,
-          ))
-
-      module _ (margin loss : ℕ) (em : margin ≡ at s i - loss) (el : loss ≡ load g i d) (w' : List ℕ) (ew : w' ≡ table g.borders (tightened g i (margin / at ns i) w)) where
-        walk-share : margin / at ns i ≡ at (left_to g d s) i / sharers g i
-        walk-share = ap₂ ◌/◌ (em ∙ ap (λ (l : ℕ). at s i - l) el ∙ sym (left_at g d s i walk_row)) walk_n
-
+      module _ (w' : List ℕ) (ew : w' ≡ stepped g s d w i) where
         pub walking_more : Walking g s d near count w₀ w' (k + 1)
         walking_more =
             record {
-              capped = capped_more u.capped hk i ei walk_row (margin / at ns i) walk-share w' ew;
-              lower = λ b hb. le_trans (capped_less u.capped hk i ei walk_row (margin / at ns i) walk-share w' ew b hb) (u.lower b hb);
+              capped = capped_more u.capped hk i ei walk_row (at (left_to g d s) i / sharers g i) refl w' ew;
+              lower = λ b hb. le_trans (capped_less u.capped hk i ei walk_row (at (left_to g d s) i / sharers g i) refl w' ew b hb) (u.lower b hb);
             }
 
     -- a resting row allows no less
@@ -140,7 +135,7 @@ module _ {g : Grid} {ns s d w₀ list : List ℕ} {live : ℕ} {near : List ℕ}
         )
 
     -- a row that yields to a row that was looked at allows no less
-    led-slack : (i : ℕ) → i < g.rows → (j : ℕ) → j < near_rows g near count → Yields g s list live (near_row near count j) i → ((b : ℕ) → b < g.borders → at w b * g.p (near_row near count j) b ≤ at (left_to g d s) (near_row near count j) / sharers g (near_row near count j)) → most_load g i w * sharers g i ≤ at (left_to g d s) i
+    led-slack : (i : ℕ) → i < g.rows → (j : ℕ) → j < near_rows g near count → Yields g s list (near_row near count j) i → ((b : ℕ) → b < g.borders → at w b * g.p (near_row near count j) b ≤ at (left_to g d s) (near_row near count j) / sharers g (near_row near count j)) → most_load g i w * sharers g i ≤ at (left_to g d s) i
     led-slack i hi j hj y h =
         let t : ℕ = near_row near count j in
         let ht : t < g.rows = near_inside q.waiting.watched j hj in
@@ -187,7 +182,7 @@ module _ {g : Grid} {ns s d w₀ list : List ℕ} {live : ℕ} {near : List ℕ}
           gained-load i,
         )
 
-    pub waiting_next : (wait : ℕ) → q.wait ≡ wait + 1 → Waiting g ns s d w list live near count wait
+    pub waiting_next : (wait : ℕ) → q.wait ≡ wait + 1 → Waiting g ns s d w list near count wait
     unfolding risen
     waiting_next wait y =
         record {
@@ -208,14 +203,20 @@ module _ {g : Grid} {ns s d w₀ list : List ℕ} {live : ℕ} {near : List ℕ}
               };
         }
 
+-- what walking row i leaves, by the loss and the n that the code finds
+pub step_left : {g : Grid} {ns s d w list : List ℕ} {i : ℕ} → Steppable g ns s d w list i → (loss : ℕ) → loss ≡ load g i d → table g.borders (tightened g i ((at s i - loss) / at ns i) w) ≡ stepped g s d w i
+step_left {g} {ns} {s} {d} {w} {list} {i} q loss e =
+    ap (λ (share : ℕ). table g.borders (tightened g i share w))
+    (ap₂ ◌/◌ (ap (λ (l : ℕ). at s i - l) e ∙ sym (left_at g d s i q.row)) (ready_at q.ready i q.row))
+
 -- ---- taking the losses
 
 -- a row of `settle`
-module _ {g : Grid} {s₀ d list : List ℕ} {live : ℕ} (q : Settleable g s₀ d list live) {s : List ℕ} {i : ℕ} (u : Filled (lowered g d s₀) g.rows s₀ s i) (hi : i < g.rows) where
+module _ {g : Grid} {s₀ d list : List ℕ} (q : Settleable g s₀ d list) {s : List ℕ} {i : ℕ} (u : Filled (lowered g d s₀) g.rows s₀ s i) (hi : i < g.rows) where
   settle-old : at s i ≡ at s₀ i
   settle-old = filled_rest u 0 (omega (arith, q.margins))
 
-  pub settle_loadable : at s i < 2 ^ 64 → Loadable g i d d list live
+  pub settle_loadable : at s i < 2 ^ 64 → Loadable g i d d list
   settle_loadable h =
       record {
         raises = q.gained;
@@ -234,7 +235,7 @@ module _ {g : Grid} {s₀ d list : List ℕ} {live : ℕ} (q : Settleable g s₀
     settle_more = filled_more u (at s i - loss) hi (omega (arith, q.margins)) (ap₂ ◌-◌ settle-old el)
 
 -- at the start nothing is gained, all borders are listed, and no row
-pub waiting_start : {g : Grid} {ns s d w list near : List ℕ} → Ready g ns s → ((i : ℕ) → i < g.rows → at s i < 2 ^ 64) → length d ≡ g.borders → ((b : ℕ) → b < g.borders → at d b ≡ 0) → w ≡ raises g (left_to g d s) → list ≡ table g.borders (λ b. b) → length near ≤ g.rows → Waiting g ns s d w list g.borders near 0 0
+pub waiting_start : {g : Grid} {ns s d w list near : List ℕ} → Ready g ns s → ((i : ℕ) → i < g.rows → at s i < 2 ^ 64) → length d ≡ g.borders → ((b : ℕ) → b < g.borders → at d b ≡ 0) → w ≡ raises g (left_to g d s) → list ≡ table g.borders (λ b. b) → length near ≤ g.rows → Waiting g ns s d w list near 0 0
 waiting_start {g} {ns} {s} {d} {w} {list} {near} r f ld z ew el l =
     let within : (i : ℕ) → i < g.rows → load g i d ≤ at s i = λ i hi. omega (arith, load_none g i d z) in
     record {
@@ -245,16 +246,16 @@ waiting_start {g} {ns} {s} {d} {w} {list} {near} r f ld z ew el l =
       found = ew;
       listed = listed_all g.borders (table g.borders (risen w d)) list el;
       room = l;
-      watched = watched_none g s d w list g.borders near ew within;
+      watched = watched_none g s d w list near ew within;
     }
 
 -- a block later
-module _ {g : Grid} {ns s d w list : List ℕ} {live : ℕ} {near : List ℕ} {count wait : ℕ} (u : Waiting g ns s d w list live near count wait) where
+module _ {g : Grid} {ns s d w list : List ℕ} {near : List ℕ} {count wait : ℕ} (u : Waiting g ns s d w list near count wait) where
   gaining-at : (b : ℕ) → b < g.borders → at (table g.borders (risen w d)) b ≡ at d b + at w b
   unfolding risen
   gaining-at b hb = table_get g.borders (risen w d) b 0 hb
 
-  pub waiting_settleable : Settleable g s d list live
+  pub waiting_settleable : Settleable g s d list
   waiting_settleable =
       record {
         margins = u.ready.margins;
@@ -267,14 +268,14 @@ module _ {g : Grid} {ns s d w list : List ℕ} {live : ℕ} {near : List ℕ} {c
   caps-long = raises_long g (left_to g d s) u.found
 
   -- the list holds the borders whose cap is above 0
-  pub waiting_caps : Listed (length w) w list live
+  pub waiting_caps : Listed (length w) w list
   waiting_caps = rw caps-long (listed_less u.listed w (λ b hb. omega (arith, gaining-at b hb)))
 
-  module _ {s' : List ℕ} (es : s' ≡ left_to g d s) {list' : List ℕ} {live' : ℕ} (k : Listed (length w) w list' live') where
-    kept-caps : Listed g.borders w list' live'
+  module _ {s' : List ℕ} (es : s' ≡ left_to g d s) {list' : List ℕ} (k : Listed (length w) w list') where
+    kept-caps : Listed g.borders w list'
     kept-caps = rw caps-long at k
 
-    pub block_sortable : Sortable g ns s' w list' live'
+    pub block_sortable : Sortable g ns s' w list'
     block_sortable =
         record {
           ready = record { counts = u.ready.counts; margins = ap length es ∙ table_long g.rows (lowered g d s) };
@@ -283,21 +284,21 @@ module _ {g : Grid} {ns s d w list : List ℕ} {live : ℕ} {near : List ℕ} {c
           listed = kept-caps;
         }
 
-    module _ {d' : List ℕ} (ed : d' ≡ table (length d) (λ b. 0)) where
+    module _ {d' : List ℕ} (ed : d' ≡ replicate (length d) 0) where
       cleared : (b : ℕ) → b < g.borders → at d' b ≡ 0
-      cleared b hb = ap (λ (l : List ℕ). at l b) ed ∙ table_get (length d) (λ b. 0) b 0 (omega (arith, u.gained))
+      cleared b hb = ap (λ (l : List ℕ). at l b) ed ∙ get_or-replicate (length d) b 0 0 (omega (arith, u.gained))
 
       block_same : left_to g d' s' ≡ left_to g d s
       block_same = left_none g d' s' cleared block_sortable.ready.margins ∙ es
 
-      waiting-block : {near' : List ℕ} {count' wait' : ℕ} → length near' ≡ length near → Sorted g s' w list' live' wait' near' count' (length near') → Waiting g ns s' d' w list' live' near' count' wait'
+      waiting-block : {near' : List ℕ} {count' wait' : ℕ} → length near' ≡ length near → Sorted g s' w list' wait' near' count' (length near') → Waiting g ns s' d' w list' near' count' wait'
       unfolding risen
       waiting-block {near'} {count'} {wait'} el a =
           let l : length near' ≤ g.rows = omega (arith, u.room) in
           record {
             ready = block_sortable.ready;
             fits = block_sortable.fits;
-            gained = ap length ed ∙ table_long (length d) (λ b. 0) ∙ u.gained;
+            gained = ap length ed ∙ length-replicate (length d) 0 ∙ u.gained;
             within = λ i hi. omega (arith, load_none g i d' cleared);
             found = u.found ∙ ap (raises g) (sym block_same);
             listed = listed_less kept-caps (table g.borders (risen w d')) (λ b hb. omega (arith, table_get g.borders (risen w d') b 0 hb, cleared b hb));
@@ -305,5 +306,5 @@ module _ {g : Grid} {ns s d w list : List ℕ} {live : ℕ} {near : List ℕ} {c
             watched = watched_block a l d' cleared;
           }
 
-      pub block_renewed : {near' : List ℕ} {count' wait' : ℕ} → length list' ≡ length list → length near' ≡ length near → Sorted g s' w list' live' wait' near' count' (length near') → 0 < wait' → (wait'' : ℕ) → wait'' ≡ wait' → Renewed g ns s d list near s' d' w list' live' near' count' wait''
-      block_renewed el en a z wait'' e = rw e (record { waiting = waiting-block en a; some = z; same = block_same; room = el; places = en })
+      pub block_renewed : {near' : List ℕ} {count' wait' : ℕ} → length near' ≡ length near → Sorted g s' w list' wait' near' count' (length near') → 0 < wait' → (wait'' : ℕ) → wait'' ≡ wait' → Renewed g ns s d near s' d' w list' near' count' wait''
+      block_renewed en a z wait'' e = rw e (record { waiting = waiting-block en a; some = z; same = block_same; places = en })

@@ -2,14 +2,15 @@
 // During a block the margins (grains) do not change, and `gained` holds what each border rose by since the block began (kW).
 #![tactic(auto)]
 
-ghost use Rattle.std.specs.Prelude.{◌≡◌, ◌+◌, ◌*◌, ◌-◌, ◌^◌, ◌<◌, ◌≤◌, length};
-ghost use Rattle.numbers.specs.Below.{table};
+ghost use Rattle.std.specs.Prelude.{◌≡◌, ◌+◌, ◌*◌, ◌-◌, ◌^◌, ◌<◌, ◌≤◌, length, take};
 ghost use Rattle.rounds.specs.Rounds.{raises};
-ghost use Rattle.rounds.specs.AllRounds.{flat};
+ghost use Rattle.walk.specs.Flat.{flat_of};
 ghost use Rattle.walk.specs.Walk.{Listed};
-ghost use Rattle.resting.specs.Resting.{left_to, near_row, Settleable, Waiting, Renewed, Walkable};
+ghost use Rattle.resting.specs.Resting.{left_to, Settleable, Waiting, Renewed, Walkable, Steppable, stepped};
 
-// A block of rounds: the borders and the rows that its rounds look at, and the rounds that are left of it.
+use walk::grid::Grid;
+
+// A block of rounds: how many borders and how many rows its rounds look at, and the rounds that are left of it.
 #[derive(Clone, Copy)]
 pub struct Block {
     pub live: usize,
@@ -19,41 +20,32 @@ pub struct Block {
 
 // Begins the next block where this one is over: all rows lose what was gained, borders whose cap is 0 leave the list, and the rows are sorted again.
 pub fn renew(
-    rows: usize,
-    borders: usize,
-    p: &[u64],
+    grid: &Grid,
     ns: &[u64],
     caps: &[u64],
     done: u64,
-    live: usize,
-    count: usize,
-    wait: u64,
+    block: Block,
     margins: &mut [u64],
     gained: &mut [u64],
     rising: &mut [usize],
     near: &mut [usize],
 ) -> Block
-    requires borders_in_bounds { rows * borders ≤ length p.now }
-    requires waiting { Waiting (flat rows borders p.now) ns.now margins.old gained.old caps.now rising.old live near.old count wait }
-    ensures { Renewed (flat rows borders p.now) ns.now margins.old gained.old rising.old near.old margins.new gained.new caps.now rising.new result.live near.new result.count result.wait }
+    requires live_in_bounds { block.live ≤ length rising.old }
+    requires waiting { Waiting (flat_of grid.now) ns.now margins.old gained.old caps.now (take block.live rising.old) near.old block.count block.wait }
+    ensures live_in_bounds { result.live ≤ length rising.new }
+    ensures renewed { Renewed (flat_of grid.now) ns.now margins.old gained.old near.old margins.new gained.new caps.now (take result.live rising.new) near.new result.count result.wait }
 {
-    if wait > 0 {
-        return Block {
-            live: live,
-            count: count,
-            wait: wait,
-        };
+    if block.wait > 0 {
+        return block;
     }
-    settle(rows, borders, p, gained, rising, live, margins);
-    clear(gained);
-    let kept = keep_rising(caps, rising, live);
+    settle(grid, gained, &rising[..block.live], margins);
+    gained.fill(0);
+    let live = keep_rising(caps, &mut rising[..block.live]);
     let bits = block_bits(done);
-    let found = nearness::find_near(
-        rows, borders, p, ns, margins, caps, rising, kept, bits, near,
-    );
+    let count = nearness::find_near(grid, ns, margins, caps, &rising[..live], bits, near);
     Block {
-        live: kept,
-        count: found,
+        live,
+        count,
         wait: 1 << bits,
     }
 }
@@ -63,59 +55,35 @@ pub fn renew(
 fn block_bits(done: u64) -> u64
     ensures { result < 64 }
 {
-    if done < 8 {
-        return 2;
+    match done {
+        0..8 => 2,
+        8..16 => 3,
+        16..32 => 4,
+        32..64 => 5,
+        64..128 => 6,
+        _ => 7,
     }
-    if done < 16 {
-        return 3;
-    }
-    if done < 32 {
-        return 4;
-    }
-    if done < 64 {
-        return 5;
-    }
-    if done < 128 { 6 } else { 7 }
 }
 
 // Every row loses the sum of p times what was gained.
-pub fn settle(
-    rows: usize,
-    borders: usize,
-    p: &[u64],
-    gained: &[u64],
-    rising: &[usize],
-    live: usize,
-    margins: &mut [u64],
-)
-    requires borders_in_bounds { rows * borders ≤ length p.now }
-    requires settleable { Settleable (flat rows borders p.now) margins.old gained.now rising.now live }
-    ensures { margins.new ≡ left_to (flat rows borders p.now) gained.now margins.old }
+pub fn settle(grid: &Grid, gained: &[u64], rising: &[usize], margins: &mut [u64])
+    requires { Settleable (flat_of grid.now) margins.old gained.now rising.now }
+    ensures { margins.new ≡ left_to (flat_of grid.now) gained.now margins.old }
 {
-    for i in 0..rows {
+    for i in 0..grid.rows {
         // Read here, where it is known to fit.
         let old = margins[i];
-        let parts = walk::row_loads(rows, borders, p, i, gained, gained, rising, live);
-        margins[i] = old - parts.loss;
+        margins[i] = old - walk::row_loads(grid, i, gained, gained, rising).loss;
     }
 }
 
-// Sets what was gained to 0.
-pub fn clear(gained: &mut [u64])
-    ensures { gained.new ≡ table (length gained.old) (λ b. 0) }
-{
-    for b in 0..gained.len() {
-        gained[b] = 0;
-    }
-}
-
-// Moves the borders whose cap is above 0, of the first `live` of `rising`, to the front. Answers how many they are. A border whose cap is 0 never rises again.
-fn keep_rising(caps: &[u64], rising: &mut [usize], live: usize) -> usize
-    requires { Listed (length caps.now) caps.now rising.old live }
-    ensures { Listed (length caps.now) caps.now rising.new result }
+// Moves the borders of `rising` whose cap is above 0 to the front. Answers how many they are. A border whose cap is 0 never rises again.
+fn keep_rising(caps: &[u64], rising: &mut [usize]) -> usize
+    requires { Listed (length caps.now) caps.now rising.old }
+    ensures { Listed (length caps.now) caps.now (take result rising.new) × (result ≤ length rising.new) }
 {
     let mut kept: usize = 0;
-    for j in 0..live {
+    for j in 0..rising.len() {
         let b = rising[j];
         // Always written: after a border whose cap is 0, the next one is written over it.
         rising[kept] = b;
@@ -128,39 +96,41 @@ fn keep_rising(caps: &[u64], rising: &mut [usize], live: usize) -> usize
 
 // The near rows tighten the caps by the margin that is left to them: the caps become the raises of the next round. A resting row would tighten none.
 pub fn walk_near(
-    rows: usize,
-    borders: usize,
-    p: &[u64],
+    grid: &Grid,
     ns: &[u64],
     margins: &[u64],
     gained: &[u64],
     rising: &[usize],
-    live: usize,
     near: &[usize],
     count: usize,
     caps: &mut [u64],
 )
-    requires borders_in_bounds { rows * borders ≤ length p.now }
-    requires walkable { Walkable (flat rows borders p.now) ns.now margins.now gained.now caps.old rising.now live near.now count }
-    ensures { caps.new ≡ raises (flat rows borders p.now) (left_to (flat rows borders p.now) gained.now margins.now) }
+    requires { Walkable (flat_of grid.now) ns.now margins.now gained.now caps.old rising.now near.now count }
+    ensures { caps.new ≡ raises (flat_of grid.now) (left_to (flat_of grid.now) gained.now margins.now) }
 {
-    for j in 0..count + (rows - near.len()) {
-        let i = near_row(near, count, j);
-        let parts = walk::row_loads(rows, borders, p, i, gained, caps, rising, live);
-        let margin = margins[i] - parts.loss;
-        walk::lower_if_tight(
-            rows, borders, p, i, ns[i], margin, parts.most, rising, live, caps,
-        );
+    for &i in &near[..count] {
+        walk_row(grid, ns, margins, gained, rising, i, caps);
+    }
+    // Rows that have no place in the list. (For a table of 01 every row has a place.)
+    for i in near.len()..grid.rows {
+        walk_row(grid, ns, margins, gained, rising, i, caps);
     }
 }
 
-// Near row `j`: a listed row, or beyond the list a row that has no place in it. (For a table of 01 every row has a place.)
-fn near_row(near: &[usize], count: usize, j: usize) -> usize
-    requires { (count ≤ length near.now) × (length near.now + (j - count) < 2 ^ 64) }
-    ensures { result ≡ near_row near.now count j }
+// Row `i` tightens the caps by the margin that is left to it.
+fn walk_row(
+    grid: &Grid,
+    ns: &[u64],
+    margins: &[u64],
+    gained: &[u64],
+    rising: &[usize],
+    i: usize,
+    caps: &mut [u64],
+)
+    requires { Steppable (flat_of grid.now) ns.now margins.now gained.now caps.old rising.now i }
+    ensures { caps.new ≡ stepped (flat_of grid.now) margins.now gained.now caps.old i }
 {
-    if j < count {
-        return near[j];
-    }
-    near.len() + (j - count)
+    let loads = walk::row_loads(grid, i, gained, caps, rising);
+    let margin = margins[i] - loads.loss;
+    walk::lower_if_tight(grid, i, ns[i], margin, loads.most, rising, caps);
 }

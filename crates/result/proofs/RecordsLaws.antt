@@ -11,6 +11,7 @@ use lib.Signed.{mag}
 use mir.Syntax.{w64}
 use mir.Val.{hbits}
 use Rattle.refusals.specs.declared.Refusal.{Refusal}
+use Rattle.refusals.specs.Refusals.{number_of, place_of, byte_of}
 use Rattle.types.specs.LineColumns.{Column, number, signed, share}
 use Rattle.types.specs.Ranges.{at_ℤ}
 use Rattle.text.specs.Put.{Put}
@@ -35,12 +36,12 @@ pub rounds_length : (rounds : ℕ) → 3 + length (decimal rounds) ≡ length (r
 rounds_length rounds = one-length 82 (decimal rounds)
 
 -- ---- the E line
-pub refusal_length : (w : Refusal) → 5 + length (decimal w.number) + length (decimal w.place) + length (decimal w.byte) ≡ length (refusal_text w)
+pub refusal_length : (w : Refusal) → 5 + length (decimal (number_of w)) + length (decimal (place_of w)) + length (decimal (byte_of w)) ≡ length (refusal_text w)
 unfolding refusal_text
-refusal_length w = three-length 69 (decimal w.number) (decimal w.place) (decimal w.byte)
+refusal_length w = three-length 69 (decimal (number_of w)) (decimal (place_of w)) (decimal (byte_of w))
 
-pub refusal_most_lem : (w : Refusal) → w.number < 2 ^ 32 → w.place < 2 ^ 64 → w.byte < 2 ^ 64 → length (refusal_text w) ≤ refusal_most
-refusal_most_lem w h k l = omega (arith, refusal_length w, decimal_long 9 w.number (omega (arith, h)), decimal_u64 w.place k, decimal_u64 w.byte l)
+pub refusal_most_lem : (w : Refusal) → number_of w < 2 ^ 32 → place_of w < 2 ^ 64 → byte_of w < 2 ^ 64 → length (refusal_text w) ≤ refusal_most
+refusal_most_lem w h k l = omega (arith, refusal_length w, decimal_long 9 (number_of w) (omega (arith, h)), decimal_u64 (place_of w) k, decimal_u64 (byte_of w) l)
 
 -- ---- lines of 64-bit numbers
 -- three columns look at three numbers

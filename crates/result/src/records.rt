@@ -1,10 +1,9 @@
 // The result text from result records: A lines, M lines, and the R line (01, "Result text").
 // A border record is its ATC in MW, last round and stopping row (02, E7); a row record is state, RAM and margin left, the last two in grains.
 // A writer answers the place after what it wrote, and leaves all other bytes as they were.
-ghost use Rattle.std.specs.Prelude.{◌≡◌, [], ◌∷◌, ℕ, ◌+◌, ◌*◌, ◌≤◌, length};
+ghost use Rattle.std.specs.Prelude.{◌≡◌, [], ◌∷◌, ℕ, ◌+◌, ◌*◌, ◌≤◌, length, Ok};
 ghost use Rattle.numbers.specs.Below.{over};
 ghost use Rattle.limits.specs.Limits.{borders_most, rows_most};
-ghost use Rattle.refusals.specs.Refusals.{passed};
 ghost use Rattle.types.specs.LineColumns.{columns_of};
 ghost use Rattle.text.specs.Fields.{tab};
 ghost use Rattle.text.specs.Left.{text_left, text_said};
@@ -16,21 +15,26 @@ ghost use Rattle.result.specs.Records.{ResultColumns, record_length, record_line
 
 use columns::Head;
 use outcome::{AtcRecord, BorderResult, LeftRecord, RowResult};
-use refusals::{Refusal, Written};
+use refusals::Refusal;
 
 // What a border's record and a row's have in common: three numbers.
 type ResultRecord = [i64; 3];
 
 // Judges the room for the result text (8), and only then writes it.
-pub fn write_records(atc: &[AtcRecord], left: &[LeftRecord], rounds: u64, out: &mut [u8]) -> Written
+pub fn write_records(
+    atc: &[AtcRecord],
+    left: &[LeftRecord],
+    rounds: u64,
+    out: &mut [u8],
+) -> Result<usize, Refusal>
     requires { (length atc.now ≤ borders_most) × (length left.now ≤ rows_most) }
-    ensures { (text_said result out.new ≡ text_left (passed (records_text atc.now left.now rounds)) out.old) × (bytes_asked result ≤ records_most) }
+    ensures { (text_said result out.new ≡ text_left (Ok (records_text atc.now left.now rounds)) out.old) × (bytes_asked result ≤ records_most) }
 {
     let needed = records_length(atc, left, rounds);
     if out.len() < needed {
-        return Written::Refused(Refusal::too_short(needed));
+        return Err(Refusal::TooShort(needed));
     }
-    Written::Bytes(put_records(atc, left, rounds, out))
+    Ok(put_records(atc, left, rounds, out))
 }
 
 // How many bytes the result text has.

@@ -7,11 +7,15 @@ ghost use Rattle.std.specs.Prelude.{◌≡◌};
 ghost use Rattle.text.specs.Left.{text_said};
 ghost use Rattle.rewriting.specs.Rewriting.{rewrite_corrected_left};
 
-use refusals::Written;
+use refusals::Refusal;
 use types::{Border, BorderRecord, Row, RowRecord};
 
 // The table of a text as a correction sheet corrects it (02, E2), written again. Any input has an answer: there is no `requires`.
-pub fn rewrite_corrected<'a>(text: &'a [u8], sheet: &'a [u8], out: &mut [u8]) -> Written
+pub fn rewrite_corrected<'a>(
+    text: &'a [u8],
+    sheet: &'a [u8],
+    out: &mut [u8],
+) -> Result<usize, Refusal>
     ensures { text_said result out.new ≡ rewrite_corrected_left text.now sheet.now out.old }
 {
     let mut z: [i64; limits::ZONES_MOST] = [0; limits::ZONES_MOST];

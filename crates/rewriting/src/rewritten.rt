@@ -4,8 +4,8 @@ ghost use Rattle.limits.specs.Limits.{zones_most, borders_most, rows_most};
 ghost use Rattle.text.specs.Left.{text_said};
 ghost use Rattle.rewriting.specs.Rewriting.{rewrite_corrected_left};
 
-use reading::TableRead;
-use refusals::Written;
+use refusals::Refusal;
+use tablerules::TableView;
 use types::{BorderRecord, RowRecord};
 
 // The tables are allocated in `rewrite_corrected` so that the proof goals here do not contain them.
@@ -18,12 +18,18 @@ pub fn rewrite_in<'a>(
     c: &mut [RowRecord],
     f: &mut [i64],
     out: &mut [u8],
-) -> Written
+) -> Result<usize, Refusal>
     requires { (zones_most ≤ length z.old) × (zones_most ≤ length t.old) × (borders_most ≤ length b.old) × (rows_most ≤ length c.old) × (rows_most * zones_most ≤ length f.old) }
     ensures { text_said result out.new ≡ rewrite_corrected_left text.now sheet.now out.old }
 {
-    match reading::read_into(text, sheet, z, t, b, c, f) {
-        TableRead::Table(h) => writing::write_good(h, z, t, b, c, f, out),
-        TableRead::Refused(w) => Written::Refused(w),
-    }
+    let header = reading::read_into(text, sheet, z, t, b, c, f)?;
+    let view = TableView {
+        header,
+        nets: z,
+        allocated: t,
+        borders: b,
+        rows: c,
+        factors: f,
+    };
+    writing::write_good(&view, out)
 }

@@ -8,9 +8,9 @@ use Prim.Native.Nat.{ℕ, ◌+◌, ◌≤◌, ◌<◌}
 use native.Mathlib.Omega.{arith}
 use borrow.Author.Tests.{ltb-true, ltb-false, not-true}
 use lib.Dec.{ltb}
-use lib.ListN.{length, take, drop}
+use lib.ListN.{length, take, drop, replicate, length-replicate, get_or-replicate}
 use Rattle.numbers.specs.Below.{at, sum, count, table}
-use Rattle.numbers.proofs.BelowLaws.{count_cong, table_long, table_get}
+use Rattle.numbers.proofs.BelowLaws.{count_cong, table_long, table_get, table_of}
 use Rattle.rounds.specs.Rounds.{Grid, raise, raises, risen}
 use Rattle.rounds.specs.AllRounds.{Startable, noted, work_left, work_of}
 use Rattle.rounds.proofs.Round.{raises_long, raises_are, raiser}
@@ -23,21 +23,19 @@ use Rattle.raising.specs.Raising.{Fits, Risable, Rose}
 use Rattle.roundloop.proofs.RoundLoop.{x_le_load, Head, head_start, Turn, turn_fits, turn_next, turn_sum, turn_end}
 
 -- m₀, x₀ and near₀ where the loop begins; s, x, lasts, d, w, list and near at its head after k rounds
-pub record Found (g : Grid) (ns m₀ x₀ near₀ s x lasts d w list : List ℕ) (live : ℕ) (near : List ℕ) (count wait k : ℕ) : Type 0 where
+pub record Found (g : Grid) (ns m₀ x₀ near₀ s x lasts d w list near : List ℕ) (count wait k : ℕ) : Type 0 where
   pub head : Head g m₀ x₀ (left_to g d s) x lasts k
-  pub waiting : Waiting g ns s d w list live near count wait
-  pub room : length list ≡ g.borders
+  pub waiting : Waiting g ns s d w list near count wait
   pub places : length near ≡ length near₀
 
-pub found_start : {g : Grid} {ns m x lasts d w list near : List ℕ} → Startable g ns m x → length near ≤ g.rows → (k : ℕ) → k ≡ g.borders → lasts ≡ table k (λ b. 0) → (n : ℕ) → n ≡ g.borders → d ≡ table n (λ b. 0) → list ≡ table g.borders (λ b. b) → w ≡ raises g m → Found g ns m x near m x lasts d w list g.borders near 0 0 0
+pub found_start : {g : Grid} {ns m x lasts d w list near : List ℕ} → Startable g ns m x → length near ≤ g.rows → (k : ℕ) → k ≡ g.borders → lasts ≡ replicate k 0 → (n : ℕ) → n ≡ g.borders → d ≡ replicate n 0 → list ≡ table g.borders (λ b. b) → w ≡ raises g m → Found g ns m x near m x lasts d w list near 0 0 0
 found_start {g} {ns} {m} {x} {lasts} {d} {w} {list} {near} q l k lk ek n ld ed el ew =
-    let z : (b : ℕ) → b < g.borders → at d b ≡ 0 = λ b hb. ap (λ (t : List ℕ). at t b) ed ∙ table_get n (λ b. 0) b 0 (omega arith) in
+    let z : (b : ℕ) → b < g.borders → at d b ≡ 0 = λ b hb. ap (λ (t : List ℕ). at t b) ed ∙ get_or-replicate n b 0 0 (omega arith) in
     let same : left_to g d m ≡ m = left_none g d m z q.ready.margins in
     record {
-      head = rw same (head_start g ns m x lasts q (ek ∙ ap (λ (j : ℕ). table j (λ b. 0)) lk));
+      head = rw same (head_start g ns m x lasts q (table_of g.borders (λ b. 0) lasts 0 (ap length ek ∙ length-replicate k 0 ∙ lk) (λ b hb. ap (λ (t : List ℕ). at t b) ek ∙ get_or-replicate k b 0 0 (omega arith))));
       waiting =
-          waiting_start q.ready (λ i hi. omega (arith, q.fits i hi)) (ap length ed ∙ table_long n (λ b. 0) ∙ ld) z (ew ∙ ap (raises g) (sym same)) el l;
-      room = ap length el ∙ table_long g.borders (λ b. b);
+          waiting_start q.ready (λ i hi. omega (arith, q.fits i hi)) (ap length ed ∙ length-replicate n 0 ∙ ld) z (ew ∙ ap (raises g) (sym same)) el l;
       places = refl;
     }
 
@@ -46,14 +44,13 @@ pub past : (r test : Bool) → (r ≡ false → test ≡ true) → test ≡ fals
 past true test h t = refl
 past false test h t = absurd (false≢true (sym t ∙ h refl))
 
-module _ {g : Grid} {ns m₀ x₀ near₀ s x lasts d w list : List ℕ} {live : ℕ} {near : List ℕ} {count' wait k : ℕ} (u : Found g ns m₀ x₀ near₀ s x lasts d w list live near count' wait k) where
+module _ {g : Grid} {ns m₀ x₀ near₀ s x lasts d w list near : List ℕ} {count' wait k : ℕ} (u : Found g ns m₀ x₀ near₀ s x lasts d w list near count' wait k) where
   -- the block goes on, or a new one begins
-  pub found_renewed : {s' d' list' : List ℕ} {live' : ℕ} {near' : List ℕ} {count'' wait' : ℕ} → Renewed g ns s d list near s' d' w list' live' near' count'' wait' → Found g ns m₀ x₀ near₀ s' x lasts d' w list' live' near' count'' wait' k
+  pub found_renewed : {s' d' list' : List ℕ} {near' : List ℕ} {count'' wait' : ℕ} → Renewed g ns s d near s' d' w list' near' count'' wait' → Found g ns m₀ x₀ near₀ s' x lasts d' w list' near' count'' wait' k
   found_renewed r =
       record {
         head = rw r.same u.head;
         waiting = r.waiting;
-        room = r.room ∙ u.room;
         places = r.places ∙ u.places;
       }
 
@@ -64,7 +61,7 @@ module _ {g : Grid} {ns m₀ x₀ near₀ s x lasts d w list : List ℕ} {live :
   found_noted = ap length u.head.last_rounds_lem ∙ table_long g.borders _
 
   -- the list as `keep_rising` and `rises` ask for it
-  pub found_listed : Listed (length w) w list live
+  pub found_listed : Listed (length w) w list
   found_listed = waiting_caps u.waiting
 
   module _ {r : Bool} (e : r ≡ ltb 0 (count (length w) (at w))) where
@@ -112,7 +109,7 @@ module _ {g : Grid} {ns m₀ x₀ near₀ s x lasts d w list : List ℕ} {live :
             );
       }
 
-  pub found_risable : Startable g ns m₀ x₀ → Risable w list live d (take g.borders x) lasts
+  pub found_risable : Startable g ns m₀ x₀ → Risable w list d (take g.borders x) lasts
   found_risable q =
       record {
         listed = found_listed;
@@ -125,7 +122,7 @@ module _ {g : Grid} {ns m₀ x₀ near₀ s x lasts d w list : List ℕ} {live :
     for-each : (f : ℕ → ℕ) {l : List ℕ} → l ≡ table (length w) f → l ≡ table g.borders f
     for-each f e = e ∙ ap (λ (n : ℕ). table n f) found_long
 
-    pub found_walkable : Walkable g ns s d' w list live near count'
+    pub found_walkable : Walkable g ns s d' w list near count'
     found_walkable = record { before = d; wait = wait; some = some; waiting = u.waiting; gained = for-each (risen w d) r.gained }
 
     found_left : left_to g d' s ≡ left_to g w (left_to g d s)
@@ -135,13 +132,12 @@ module _ {g : Grid} {ns m₀ x₀ near₀ s x lasts d w list : List ℕ} {live :
       ey : y ≡ table g.borders (risen w (take g.borders x))
       ey = for-each (risen w (take g.borders x)) r.exchanges
 
-      pub found_next : {w' : List ℕ} → w' ≡ raises g (left_to g d' s) → (wait' : ℕ) → wait ≡ wait' + 1 → Found g ns m₀ x₀ near₀ s (y ++ drop g.borders x) lasts' d' w' list live near count' wait' (k + 1)
+      pub found_next : {w' : List ℕ} → w' ≡ raises g (left_to g d' s) → (wait' : ℕ) → wait ≡ wait' + 1 → Found g ns m₀ x₀ near₀ s (y ++ drop g.borders x) lasts' d' w' list near count' wait' (k + 1)
       unfolding found_walkable
       found_next ew wait' e =
           record {
             head = turn_next (found_turn q) (λ z. omega arith) (left_to g d' s) y found_left ey (for-each (noted (k + 1) w lasts) r.last_rounds_lem);
             waiting = waiting_next found_walkable ew wait' e;
-            room = u.room;
             places = u.places;
           }
 

@@ -1,7 +1,7 @@
 -- Small computed works with the last round and the stopping row of each border (02, E7). Nobody cites them: they refuse a definition that slipped, by the number that comes out.
+use Rattle.std.specs.Prelude.{None, Option, Some}
 use mathlib.Core.Path.{refl}
 use mathlib.Core.List.{List, [], ◌∷◌}
-use mathlib.Core.Option.{Option, none, some}
 use Prim.Native.Nat.{ℕ}
 use lib.ListN.{get_or}
 use Rattle.numbers.specs.Below.{at, if_zero, sum, count, lesser, least, or_zero, table, first_from}
@@ -44,17 +44,17 @@ pub anchors_stopped : Hold (
     -- border 1 never rises, though three rounds are counted
     ∷ lasts three (0 ∷ 8 ∷ 8 ∷ []) is (3 ∷ 0 ∷ [])  -- never
     -- at the end rows 0, 1 and 2 hold 0, 1 and 1 grains, shares 0: row 0 is the first for border 1, and row 1 for border 0, which row 0 does not load
-    ∷ stops three (0 ∷ 8 ∷ 8 ∷ []) is (some 1 ∷ some 0 ∷ [])  -- first-rows
+    ∷ stops three (0 ∷ 8 ∷ 8 ∷ []) is (Some 1 ∷ Some 0 ∷ [])  -- first-rows
     -- a row whose share holds one kW stops nothing: from row 0's 3 grains border 1 rises by 3, then row 1 has 2, row 2 has 1
-    ∷ stop_row three (1 ∷ 2 ∷ 1 ∷ []) 1 is some 2  -- share-of-one
+    ∷ stop_row three (1 ∷ 2 ∷ 1 ∷ []) 1 is Some 2  -- share-of-one
     -- 1 grain among one border that takes 2 a kW: under one kW, and 2 grains are one kW
-    ∷ stop_row lone (9 ∷ 1 ∷ []) 0 is some 1  -- under-one
-    ∷ stop_row lone (9 ∷ 2 ∷ []) 0 is none  -- one
+    ∷ stop_row lone (9 ∷ 1 ∷ []) 0 is Some 1  -- under-one
+    ∷ stop_row lone (9 ∷ 2 ∷ []) 0 is None  -- one
     -- a border that no row loads: never raised, stopped by no row
     ∷ lasts lone (0 ∷ 7 ∷ []) is (1 ∷ 0 ∷ [])  -- unloaded
-    ∷ stops lone (0 ∷ 7 ∷ []) is (some 1 ∷ none ∷ [])  -- unstopped
+    ∷ stops lone (0 ∷ 7 ∷ []) is (Some 1 ∷ None ∷ [])  -- unstopped
     -- by the shares alone
-    ∷ stop_by three (1 ∷ 1 ∷ 0 ∷ []) 0 is some 2  -- by-shares
+    ∷ stop_by three (1 ∷ 1 ∷ 0 ∷ []) 0 is Some 2  -- by-shares
     ∷ [])
 unfolding if_zero sum count lesser least or_zero table first_from sharers raise raises load lowered risen apply next raised counted run extract after raise_in last_to last_round stop_row stop_by
 anchors_stopped = refl

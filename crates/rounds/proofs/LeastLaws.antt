@@ -1,6 +1,6 @@
 -- The laws of `least`, and of division, that the rounds cite.
+use Rattle.std.specs.Prelude.{None, Option, Some}
 use mathlib.Core.Path.{◌≡◌, refl, sym, ap, ◌∙◌, subst}
-use mathlib.Core.Option.{Option, none, some}
 use mathlib.Core.Logic.{⊎_elim}
 use Prim.Native.Nat.{ℕ, zero, suc, ◌/◌, ◌≤◌, ◌<◌, min}
 use native.Mathlib.Nat.{not-suc-le-zero, le_trans, zero-lt-suc, mul_comm, mul-le-mul_left, div-zero, le-div_iff_mul-le, div-mul-le_self, div-div-eq-div-mul}
@@ -17,8 +17,8 @@ pub record Smallest (k : ℕ) (w f : ℕ → ℕ) (u : ℕ) : Type 0 where
   pub lowest : (j : ℕ) → j < k → 0 < w j → u ≤ f j
 
 abbrev pub Least : ℕ → (ℕ → ℕ) → (ℕ → ℕ) → Option ℕ → Type 0
-Least k w f none = (i : ℕ) → i < k → w i ≡ 0
-Least k w f (some u) = Smallest k w f u
+Least k w f None = (i : ℕ) → i < k → w i ≡ 0
+Least k w f (Some u) = Smallest k w f u
 
 smaller : (k : ℕ) (w f : ℕ → ℕ) (u : ℕ) → Smallest k w f u → 0 < w k → Smallest (suc k) w f (min u (f k))
 smaller k w f u s m =
@@ -43,9 +43,9 @@ unfolding least if_zero lesser
 least_is zero w f = λ i l. absurd (not-suc-le-zero l)
 least_is (suc k) w f = go (least k w f) (least_is k w f) (w k) refl
   where
-    go : (o : Option ℕ) → Least k w f o → (v : ℕ) → w k ≡ v → Least (suc k) w f (if_zero v o (some (lesser o (f k))))
-    go none n zero e = λ i l. ⊎_elim (λ a. n i a) (λ d. omega (arith, ap w d)) (lt_suc_cases i k l)
-    go none n (suc v) e =
+    go : (o : Option ℕ) → Least k w f o → (v : ℕ) → w k ≡ v → Least (suc k) w f (if_zero v o (Some (lesser o (f k))))
+    go None n zero e = λ i l. ⊎_elim (λ a. n i a) (λ d. omega (arith, ap w d)) (lt_suc_cases i k l)
+    go None n (suc v) e =
         record {
           i = k;
           below = omega arith;
@@ -53,7 +53,7 @@ least_is (suc k) w f = go (least k w f) (least_is k w f) (w k) refl
           is = refl;
           lowest = λ j l m. ⊎_elim (λ a. omega (arith, n j a)) (λ d. omega (arith, ap f d)) (lt_suc_cases j k l);
         }
-    go (some u) s zero e =
+    go (Some u) s zero e =
         record {
           i = s.i;
           below = omega (arith, s.below);
@@ -61,7 +61,7 @@ least_is (suc k) w f = go (least k w f) (least_is k w f) (w k) refl
           is = s.is;
           lowest = λ j l m. ⊎_elim (λ a. s.lowest j a m) (λ d. omega (arith, ap w d)) (lt_suc_cases j k l);
         }
-    go (some u) s (suc v) e = smaller k w f u s (omega arith)
+    go (Some u) s (suc v) e = smaller k w f u s (omega arith)
 
 -- The smallest is at most each that counts. (This and `least-some` are the two laws that the rest uses.)
 pub least_le : (k : ℕ) (w f : ℕ → ℕ) (j : ℕ) → j < k → 0 < w j → or_zero (least k w f) ≤ f j
@@ -69,8 +69,8 @@ unfolding or_zero
 least_le k w f j l m = go (least k w f) (least_is k w f)
   where
     go : (o : Option ℕ) → Least k w f o → or_zero o ≤ f j
-    go none n = omega (arith, n j l)
-    go (some u) s = s.lowest j l m
+    go None n = omega (arith, n j l)
+    go (Some u) s = s.lowest j l m
 
 -- Where one counts, the smallest is one that counts.
 pub least_some : (k : ℕ) (w f : ℕ → ℕ) (j : ℕ) → j < k → 0 < w j → Smallest k w f (or_zero (least k w f))
@@ -78,8 +78,8 @@ unfolding or_zero
 least_some k w f j l m = go (least k w f) (least_is k w f)
   where
     go : (o : Option ℕ) → Least k w f o → Smallest k w f (or_zero o)
-    go none n = absurd (not-suc-le-zero (subst (λ (v : ℕ). 0 < v) (n j l) m))
-    go (some u) s = s
+    go None n = absurd (not-suc-le-zero (subst (λ (v : ℕ). 0 < v) (n j l) m))
+    go (Some u) s = s
 
 -- A smallest above 0 is one that counts.
 pub least_one : (k : ℕ) (w f : ℕ → ℕ) → 0 < or_zero (least k w f) → Smallest k w f (or_zero (least k w f))
@@ -87,8 +87,8 @@ unfolding or_zero
 least_one k w f = go (least k w f) (least_is k w f)
   where
     go : (o : Option ℕ) → Least k w f o → 0 < or_zero o → Smallest k w f (or_zero o)
-    go none n l = absurd (not-suc-le-zero l)
-    go (some u) s l = s
+    go None n l = absurd (not-suc-le-zero l)
+    go (Some u) s l = s
 
 -- Of two families, the first's smallest is at most the second's where each of the second that counts has one of the first at or below it,
 -- and the second has one that counts where the first has.
@@ -97,11 +97,11 @@ unfolding or_zero
 least_below k w f k' w' f' a b = go (least k w f) (least_is k w f) (least k' w' f') (least_is k' w' f')
   where
     go : (o : Option ℕ) → Least k w f o → (o' : Option ℕ) → Least k' w' f' o' → or_zero o ≤ or_zero o'
-    go none n o' s' = omega arith
-    go (some u) s none n' =
+    go None n o' s' = omega arith
+    go (Some u) s None n' =
         let j : (j : ℕ) × (j < k') × (0 < w' j) = b s.i s.below s.counts in
         omega (arith, n' j.0 j.1)
-    go (some u) s (some u') s' =
+    go (Some u) s (Some u') s' =
         let i : (i : ℕ) × (i < k) × (0 < w i) × (f i ≤ f' s'.i) = a s'.i s'.below s'.counts in
         omega (arith, s.lowest i.0 i.1 i.2, s'.is)
 

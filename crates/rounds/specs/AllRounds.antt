@@ -1,6 +1,5 @@
 -- What the functions of crate grid ask, and what the whole work (`roundloop::extract_rounds`) asks and leaves, over a grid g. What it leaves is `work_of`, by `extract` of Rounds.antt.
-use Rattle.std.specs.Prelude.{◌≡◌, List, ℕ, ◌+◌, ◌*◌, ◌^◌, ◌≤◌, ◌<◌, ltb, length, take}
-use Rattle.std.proofs.Math.Option.{Option}
+use Rattle.std.specs.Prelude.{◌≡◌, List, ℕ, ◌+◌, ◌*◌, ◌^◌, ◌≤◌, ◌<◌, ltb, length, take, Option}
 use Rattle.numbers.specs.Below.{at, if_zero, first_from, table, over}
 use Rattle.rounds.specs.declared.Final.{Final}
 use Rattle.rounds.specs.Rounds.{Grid, State, sharers, load, Outcome, extract}

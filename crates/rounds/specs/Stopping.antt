@@ -1,8 +1,7 @@
 -- Which row stopped a border (02, E7): the first with p > 0 whose equal share of its margin left is under one kW for that border.
 -- A row that takes no part has p = 0 at every border, so it stops none; a border with p = 0 at every row was stopped by none.
 -- `stop_rows` and `equal_share` are what contracts cite; `Stops` says what the row is, and is proved of every work (crate theorems, `stop-row`).
-use Rattle.std.specs.Prelude.{Bool, ◌&&◌, List, ℕ, ◌/◌, ◌≤◌, ◌<◌, ltb}
-use Rattle.std.proofs.Math.Option.{Option}
+use Rattle.std.specs.Prelude.{Bool, ◌&&◌, List, ℕ, ◌/◌, ◌≤◌, ◌<◌, ltb, Option}
 use Rattle.numbers.specs.Below.{at, first_from, table}
 use Rattle.rounds.specs.Rounds.{Grid, sharers}
 

@@ -1,11 +1,11 @@
 -- C lines with a good correction sheet of either kind (02, E2): as the day's text has them, as they are handed on, and as they are read (`corrected_by`): the day's fault, or else
 -- what is handed on. No contract cites this file.
+use Rattle.std.specs.Prelude.{Ok}
 use mathlib.Core.Path.{◌≡◌, refl, sym, ap, ◌∙◌}
 use mathlib.Core.List.{List, [], ◌∷◌}
 use Prim.Native.Nat.{ℕ, zero, suc, ◌+◌}
 use Rattle.refusals.specs.declared.Refusal.{Refusal}
-use Rattle.refusals.specs.Refusals.{passed, wrong_form_at, out_of_range_at}
-use Rattle.text.specs.Line.{line_at, after, Line, holds, form, range}
+use Rattle.text.specs.Line.{line_at, after, Line, refusal_of}
 use Rattle.sections.specs.Section.{Section, read, fault, more, on_line, lines_at}
 use Rattle.sections.proofs.SectionLaws.{no_read, read_is}
 use Rattle.lines.specs.Lines.{RowLine, row_line}
@@ -13,6 +13,7 @@ use Rattle.lines.specs.declared.row.RowKind.TheVariants.{Table}
 use Rattle.corrections.specs.Corrections.{pieces, sheet_kind, piece, handed_by, judge_corrections}
 use Rattle.corrections.proofs.SheetLaws.{handed_good}
 use Rattle.rowlines.specs.Rows.{picked_row, instead, corrected_by}
+use Rattle.std.specs.Prelude.{Ok, Err}
 
 -- a section that was read, and ended at place e
 pub record SectionRead {A : Type 0} (b : Section A) (e : ℕ) : Type 0 where
@@ -28,7 +29,7 @@ more_follows : (a b : RowLine) (x y : Section RowLine) → more b (follows x y) 
 more_follows a b (read xs next) y = refl
 more_follows a b (fault w) y = refl
 
-module _ (zones rows : ℕ) (sheet : List ℕ) (good : judge_corrections zones rows sheet ≡ passed tt) (first : ℕ) (text : List ℕ) where
+module _ (zones rows : ℕ) (sheet : List ℕ) (good : judge_corrections zones rows sheet ≡ Ok tt) (first : ℕ) (text : List ℕ) where
   abbrev merged : List ℕ → ℕ → Line RowLine
   merged = picked_row zones (handed_by sheet)
 
@@ -49,16 +50,15 @@ module _ (zones rows : ℕ) (sheet : List ℕ) (good : judge_corrections zones r
     where
       go : (l : Line RowLine) → row_line zones (line_at text p) i ≡ l → (x y : Section RowLine) → ((ys : List RowLine) (d : ℕ) → x ≡ read ys d → SectionRead y d)
           → on_line l (first + i) x ≡ read xs e → SectionRead (on_line (merged (line_at text p) i) (first + i) y) e
-      go (holds a) k (read ys d) y ih q =
+      go (Ok a) k (read ys d) y ih q =
           let h = handed_good (sheet_kind sheet) zones rows 0 1 (pieces sheet) good (piece Table (line_at text p)) i (record { it = a; is = k }) in
           let r = ih ys d refl in
           record {
             held = h.it ∷ r.held;
             is = ap (λ (m : Line RowLine). on_line m (first + i) y) h.is ∙ ap (more h.it) r.is ∙ ap (read (h.it ∷ r.held)) (read_is (a ∷ ys) xs d e q).1;
           }
-      go (holds a) k (fault w) y ih q = absurd (no_read w xs e q)
-      go (form byte) k x y ih q = absurd (no_read (wrong_form_at (first + i) byte) xs e q)
-      go (range byte) k x y ih q = absurd (no_read (out_of_range_at (first + i) byte) xs e q)
+      go (Ok a) k (fault w) y ih q = absurd (no_read w xs e q)
+      go (Err bad) k x y ih q = absurd (no_read (refusal_of bad (first + i)) xs e q)
 
   both-follows : (n p i : ℕ) → both n p i ≡ follows (day n p i) (handed n p i)
   unfolding lines_at
@@ -67,14 +67,13 @@ module _ (zones rows : ℕ) (sheet : List ℕ) (good : judge_corrections zones r
     where
       go : (l : Line RowLine) → row_line zones (line_at text p) i ≡ l → (b x y : Section RowLine) → b ≡ follows x y
           → on_line (instead l (merged (line_at text p) i)) (first + i) b ≡ follows (on_line l (first + i) x) (on_line (merged (line_at text p) i) (first + i) y)
-      go (holds a) k b x y ih =
+      go (Ok a) k b x y ih =
           let h = handed_good (sheet_kind sheet) zones rows 0 1 (pieces sheet) good (piece Table (line_at text p)) i (record { it = a; is = k }) in
           ap (on_line (merged (line_at text p) i) (first + i)) ih
           ∙ ap (λ (m : Line RowLine). on_line m (first + i) (follows x y)) h.is
           ∙ more_follows a h.it x y
           ∙ ap (λ (m : Line RowLine). follows (more a x) (on_line m (first + i) y)) (sym h.is)
-      go (form byte) k b x y ih = refl
-      go (range byte) k b x y ih = refl
+      go (Err bad) k b x y ih = refl
 
   -- what reading them says of the day's lines, and of those handed on
   pub both_fault : (n p i : ℕ) (w : Refusal) → both n p i ≡ fault w → day n p i ≡ fault w

@@ -8,7 +8,7 @@ use native.Mathlib.Omega.{arith}
 use lib.IntN.{ℤ}
 use lib.ListN.{length, get_or, set, take, drop, length-append, length-drop, take-append-drop}
 use lib.Seq.{length-take-le, take_at, drop_at, take-add, drop-drop}
-use Rattle.text.specs.Line.{Line, holds, form, range}
+use Rattle.text.specs.Line.{Line}
 use Rattle.sections.specs.Section.{lines_at}
 use Rattle.sections.proofs.SectionLaws.{AllFit}
 use Rattle.sections.proofs.SectionRecords.{section_same}
@@ -16,12 +16,12 @@ use Rattle.tablerules.specs.Table.{stretch}
 use Rattle.lines.specs.Lines.{RowLine, row}
 use Rattle.lines.specs.SaidRow.{said_row, line_by}
 use Rattle.lines.specs.declared.row.RowKind.{RowKind}
-use Rattle.lines.specs.declared.row.RowJudged.{RowJudged}
-use Rattle.lines.specs.declared.row.RowJudged.TheVariants.{Holds, Form, Range}
 use Rattle.corrections.specs.Corrections.{piece, row_in, of_row, handed_by}
 use Rattle.corrections.specs.Alongside.{line_for, piece_for}
 use Rattle.rowlines.specs.Rows.{values_of, factors_of, cut, instead, corrected_by}
 use Rattle.lines.proofs.RowTrip.{RowHeldAt}
+use Rattle.std.specs.Prelude.{Ok, Err, Result}
+use Rattle.text.specs.declared.LineFault.{LineFault}
 
 -- no row
 abbrev pub empty_row : RowLine
@@ -29,9 +29,8 @@ empty_row = record { values = []; factors = [] }
 
 -- ---- a line's own fault, or else what the line comes to that is handed on
 own_instead : {A : Type 0} (l : Line A) → l ≡ instead l l
-own_instead (holds a) = refl
-own_instead (form byte) = refl
-own_instead (range byte) = refl
+own_instead (Ok a) = refl
+own_instead (Err bad) = refl
 
 module _ (kind by : RowKind) (n : ℕ) (next day : List ℕ) (i : ℕ) where
   abbrev handed : Line RowLine
@@ -41,16 +40,13 @@ module _ (kind by : RowKind) (n : ℕ) (next day : List ℕ) (i : ℕ) where
   pub own_handed : of_row by next i ≡ false → line_by kind n (line_for by next day i) i ≡ instead (line_by kind n day i) handed
   own_handed q = rw q (own_instead (line_by kind n day i))
 
-  module _ (judged : RowJudged) (raw f : List ℤ) (said : said_row judged raw f ≡ line_by kind n day i) where
+  module _ (r : Result (List ℤ) LineFault) (f : List ℤ) (said : said_row r f ≡ line_by kind n day i) where
     -- it has one, and the day's is good
-    pub handed_holds : of_row by next i ≡ true → judged ≡ Holds → line_by by n (line_for by next day i) i ≡ instead (line_by kind n day i) handed
+    pub handed_holds : {raw : List ℤ} → of_row by next i ≡ true → r ≡ Ok raw → line_by by n (line_for by next day i) i ≡ instead (line_by kind n day i) handed
     handed_holds q e = rw (q, ← said, e)
 
-    pub handed_form : {byte : ℕ} → judged ≡ Form byte → said_row judged raw f ≡ instead (line_by kind n day i) handed
-    handed_form e = rw (← said, e)
-
-    pub handed_range : {byte : ℕ} → judged ≡ Range byte → said_row judged raw f ≡ instead (line_by kind n day i) handed
-    handed_range e = rw (← said, e)
+    pub handed_bad : {bad : LineFault} → r ≡ Err bad → Err bad ≡ instead (line_by kind n day i) handed
+    handed_bad e = rw (← said, e)
 
 -- with no sheet's line, rows are read as their own lines
 pub own_section : (kind : RowKind) (zones first n : ℕ) (text : List ℕ) (p i : ℕ) → lines_at (corrected_by kind zones (handed_by [])) first n text p i ≡ lines_at (line_by kind zones) first n text p i

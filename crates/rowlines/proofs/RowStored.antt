@@ -7,14 +7,15 @@ use lib.IntN.{ℤ}
 use lib.ListN.{length, set, take, drop, length-set}
 use lib.Seq.{length-paste}
 use Rattle.numbers.proofs.ListLaws.{stretch_left}
-use Rattle.refusals.specs.Refusals.{wrong_form_at, out_of_range_at}
-use Rattle.text.specs.Line.{line_at, after, Line, holds, form, range}
+use Rattle.text.specs.Line.{line_at, after, Line, refusal_of}
 use Rattle.tablerules.proofs.StretchLaws.{stretch_end}
 use Rattle.lines.specs.Lines.{RowLine, row}
 use Rattle.sections.specs.Section.{Section, read, fault, lines_at}
 use Rattle.rowlines.specs.Rows.{cut}
 use Rattle.rowlines.proofs.RowLaws.{cut_long, cut_set}
-use Rattle.sections.proofs.StoredLaws.{Stored, stored_none, stored_all, stored_form, stored_range, stored_more}
+use Rattle.sections.proofs.StoredLaws.{Stored, stored_none, stored_all, stored_bad, stored_more}
+use Rattle.std.specs.Prelude.{Ok, Err}
+use Rattle.text.specs.declared.LineFault.{LineFault}
 
 -- n items of f from s on are lent, and come back as ys
 abbrev back : (f ys : List ℤ) (s n : ℕ) → List ℤ
@@ -50,13 +51,10 @@ module _ (judge : List ℕ → ℕ → Line RowLine) (first : ℕ) (text : List 
       pub rows_stored_back : (part : List ℤ) → length part ≡ zones → length (back f part (i * zones) zones) ≡ length c₀ * zones
       rows_stored_back part wide = ap length (stretch_left f part (i * zones) zones (i * zones + zones - i * zones) (omega arith) wide) ∙ length-paste f (i * zones) part zones rows_stored_room (omega arith) ∙ u.factors_long
 
-      pub rows_stored_form : (byte : ℕ) → judge (line_at text p) i ≡ form byte → fault (wrong_form_at (first + i) byte) ≡ section
-      rows_stored_form byte q = same _ (stored_form judge first text at (cut zones c₀ f₀) (length c₀) (cut zones c f) i p u.stored h byte q)
+      pub rows_stored_bad : (bad : LineFault) → judge (line_at text p) i ≡ Err bad → fault (refusal_of bad (first + i)) ≡ section
+      rows_stored_bad bad q = same _ (stored_bad judge first text at (cut zones c₀ f₀) (length c₀) (cut zones c f) i p u.stored h bad q)
 
-      pub rows_stored_range : (byte : ℕ) → judge (line_at text p) i ≡ range byte → fault (out_of_range_at (first + i) byte) ≡ section
-      rows_stored_range byte q = same _ (stored_range judge first text at (cut zones c₀ f₀) (length c₀) (cut zones c f) i p u.stored h byte q)
-
-      pub rows_stored_more : (r part : List ℤ) → length part ≡ zones → judge (line_at text p) i ≡ holds (row r part) → RowsStored (set c i r) (back f part (i * zones) zones) (i + 1) (after text p)
+      pub rows_stored_more : (r part : List ℤ) → length part ≡ zones → judge (line_at text p) i ≡ Ok (row r part) → RowsStored (set c i r) (back f part (i * zones) zones) (i + 1) (after text p)
       rows_stored_more r part wide q =
           let s = i * zones in
           let k : s + zones - s ≡ zones = omega arith in

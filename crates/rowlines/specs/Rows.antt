@@ -1,7 +1,7 @@
 -- The rows that a section of lines holds: their raw records and factors (01, "The table as text").
 -- Which line is handed on for a row, the day's or another (02, E2), is said by `pick`, of the day's line and the row's index; its kind goes with it.
-use Rattle.std.specs.Prelude.{List, [], ◌∷◌, ◌++◌, ℕ, ℤ, take, drop}
-use Rattle.text.specs.Line.{Line, holds, form, range}
+use Rattle.std.specs.Prelude.{List, [], ◌∷◌, ◌++◌, ℕ, ℤ, take, drop, Ok, Err}
+use Rattle.text.specs.Line.{Line}
 use Rattle.lines.specs.Lines.{RowLine, row}
 use Rattle.lines.specs.SaidRow.{line_by}
 use Rattle.lines.specs.declared.row.RowKind.{RowKind}
@@ -36,9 +36,8 @@ picked_row = picked_by Table
 
 -- a line's own fault, or else what another comes to
 abbrev pub instead : {A : Type 0} → (own other : Line A) → Line A
-instead (holds a) other = other
-instead (form byte) other = form byte
-instead (range byte) other = range byte
+instead (Ok a) other = other
+instead (Err bad) other = Err bad
 
 -- a row's line is judged, and then what the line holds that is picked for its row
 abbrev pub corrected_by : RowKind → (zones : ℕ) → (pick : Piece → ℕ → Piece) → (line : List ℕ) → (i : ℕ) → Line RowLine

@@ -1,4 +1,5 @@
 -- What is known of rows that were judged, and of a sheet that was read: lengths, ranges, and that their text has no more than 60,200 bytes. No contract cites this file.
+use Rattle.std.specs.Prelude.{Ok}
 use mathlib.Core.Path.{◌≡◌, refl, sym, ap, subst, ◌∙◌}
 use mathlib.Core.Bool.{true}
 use mathlib.Core.List.{List, []}
@@ -12,7 +13,6 @@ use lib.ListN.{length, get_or, take}
 use lib.Seq.{length-take-le}
 use Rattle.numbers.specs.Below.{over}
 use Rattle.limits.specs.Limits.{bytes_most}
-use Rattle.refusals.specs.Refusals.{passed}
 use Rattle.refusals.proofs.RefusalLaws.{passed_is, then_next, then_passed, either_passed, answer_passed, unless_passed, none_passed}
 use Rattle.types.specs.declared.Header.{Header}
 use Rattle.types.specs.Ranges.{header_fits}
@@ -35,7 +35,7 @@ pub record RowsJudged (h : Header) (c : List (List ℤ)) (f : List ℤ) (t : Row
   pub factors_long : length t.factors ≡ h.rows * h.zones
   pub good : (i : ℕ) → i < h.rows → row_good (get_or t.rows i []) (stretch h.zones t.factors i) ≡ true
 
-pub rows_judged : (h : Header) (c : List (List ℤ)) (f : List ℤ) (t : Rows) → judge_rows h c f ≡ passed t → RowsJudged h c f t
+pub rows_judged : (h : Header) (c : List (List ℤ)) (f : List ℤ) (t : Rows) → judge_rows h c f ≡ Ok t → RowsJudged h c f t
 unfolding judge_rows rows_in_range
 rows_judged h c f t e =
     let a = unless_passed t _ _ _ e in
@@ -72,19 +72,19 @@ module _ (h : Header) (t : Rows) (fits : header_fits h ≡ true) (rows_long : le
 -- ---- what reading gives
 pub record RowsTaken (h : Header) (sheet : List ℕ) (c : List (List ℤ)) (f : List ℤ) : Type 0 where
   pub it : Rows
-  pub read : read_sheet h sheet ≡ passed it
-  pub left : read_rows_left h sheet c f ≡ record { answer = passed tt; c = over it.rows c; f = over it.factors f }
+  pub read : read_sheet h sheet ≡ Ok it
+  pub left : read_rows_left h sheet c f ≡ record { answer = Ok tt; c = over it.rows c; f = over it.factors f }
 
-pub rows_taken : (h : Header) (sheet : List ℕ) (c : List (List ℤ)) (f : List ℤ) → (read_rows_left h sheet c f).answer ≡ passed tt → RowsTaken h sheet c f
+pub rows_taken : (h : Header) (sheet : List ℕ) (c : List (List ℤ)) (f : List ℤ) → (read_rows_left h sheet c f).answer ≡ Ok tt → RowsTaken h sheet c f
 unfolding read_rows_left
 rows_taken h sheet c f e =
     let d = answer_passed _ _ _ (λ (l : RowsLeft). l.answer) tt (λ w. refl) e in
     let r = then_passed (read_sheet h sheet) _ d.0 d.1 in
     let n = room_passed h (length c) (length f) _ d.0 r.second in
-    record { it = r.it; read = r.first; left = either_passed _ _ (then_next _ r.first ∙ sym (room_enough h (length c) (length f) (passed r.it) n.0 n.1)) }
+    record { it = r.it; read = r.first; left = either_passed _ _ (then_next _ r.first ∙ sym (room_enough h (length c) (length f) (Ok r.it) n.0 n.1)) }
 
 -- rows that were read are in range
-pub read_good : (h : Header) (sheet : List ℕ) (t : Rows) → read_sheet h sheet ≡ passed t → (i : ℕ) → i < h.rows → row_good (get_or t.rows i []) (stretch h.zones t.factors i) ≡ true
+pub read_good : (h : Header) (sheet : List ℕ) (t : Rows) → read_sheet h sheet ≡ Ok t → (i : ℕ) → i < h.rows → row_good (get_or t.rows i []) (stretch h.zones t.factors i) ≡ true
 read_good h sheet t e i l =
     let u = sheet_section h sheet t e in
     let row = fits_at (RowHeldAt h.zones) empty_row u.lines 0 u.held i (omega (arith, u.many)) in

@@ -3,7 +3,7 @@
 use mathlib.Core.Path.{◌≡◌, refl}
 use mathlib.Core.Bool.{true}
 use mathlib.Core.List.{List, [], ◌∷◌, ◌++◌}
-use Prim.Native.Nat.{ℕ, suc, ◌+◌, ◌*◌, ◌/◌, ◌^◌, ◌≤◌, ◌<◌}
+use Prim.Native.Nat.{ℕ, suc, ◌*◌, ◌/◌, ◌^◌, ◌≤◌, ◌<◌}
 use native.Mathlib.Nat.{le_trans, mul-le-mul_right}
 use native.Mathlib.Omega.{arith}
 use lib.Dec.{lit≤}
@@ -13,8 +13,8 @@ use Rattle.limits.specs.Limits.{zones_most, rows_most, bytes_most}
 use Rattle.types.specs.LineColumns.{sheet_columns, sheet_factors}
 use Rattle.types.specs.Ranges.{at_ℤ, row_of, row_fits, factor_fits}
 use Rattle.types.proofs.RangeLaws.{row_in, factor_in}
-use Rattle.text.specs.Written.{decimal, share_text}
-use Rattle.text.specs.Point.{pointed, pointed_ℤ}
+use Rattle.text.specs.Written.{share_text}
+use Rattle.text.specs.Point.{pointed_ℤ}
 use Rattle.text.proofs.FieldTrip.{ShareKept}
 use Rattle.text.proofs.WrittenLaws.{decimal_long}
 use Rattle.text.proofs.PutLaws.{lines_most_lem}

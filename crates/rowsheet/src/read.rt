@@ -6,39 +6,37 @@ ghost use Rattle.rowsheet.specs.RowSheet.{front_rows, read_sheet};
 
 use crate::FIRST_LINE_NO;
 use lines::row::RowKind;
-use refusals::{Judgement, Refusal};
-use sections::End;
+use refusals::Refusal;
 use types::{Header, RowRecord};
 
 // Its length, the header, the lines one by one; nothing follows them. Where it is refused, nothing is said of the records and factors.
-pub fn read_sheet(h: Header, sheet: &[u8], c: &mut [RowRecord], f: &mut [i64]) -> Judgement
+pub fn read_sheet(
+    h: Header,
+    sheet: &[u8],
+    c: &mut [RowRecord],
+    f: &mut [i64],
+) -> Result<(), Refusal>
     requires { (rows_most ≤ length c.old) × (rows_most * zones_most ≤ length f.old) }
     ensures { said_judgement result (front_rows h c.new f.new) ≡ read_sheet h sheet.now }
 {
     if text::BYTES_MOST < sheet.len() {
-        return Judgement::Refused(Refusal::too_long());
+        return Err(Refusal::TooLong);
     }
     if !h.fits() {
-        return Judgement::Refused(Refusal::out_of_range(table::HEADER_LINE_NO));
+        return Err(Refusal::OutOfRange(table::HEADER_LINE_NO, 0));
     }
-    let zones = h.zones;
-    let rows = h.rows;
-    match rowlines::rows_read(
+    let end = rowlines::rows_read(
         RowKind::Sheet,
         sheet,
         b"",
         0,
-        zones,
+        h.zones,
         FIRST_LINE_NO,
-        &mut c[..rows],
-        &mut f[..rows * zones],
-    ) {
-        End::At(next) => {
-            if next < sheet.len() {
-                return Judgement::Refused(Refusal::wrong_form(FIRST_LINE_NO + rows));
-            }
-            Judgement::Passed
-        }
-        End::Refused(w) => Judgement::Refused(w),
+        &mut c[..h.rows],
+        &mut f[..h.rows * h.zones],
+    )?;
+    if end < sheet.len() {
+        return Err(Refusal::WrongForm(FIRST_LINE_NO + h.rows, 0));
     }
+    Ok(())
 }

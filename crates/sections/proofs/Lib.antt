@@ -1,4 +1,3 @@
 pub mod SectionLaws
 pub mod SectionRecords
 pub mod StoredLaws
-pub mod PutLaws

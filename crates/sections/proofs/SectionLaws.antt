@@ -7,10 +7,10 @@ use native.Mathlib.Omega.{arith}
 use lib.ListN.{length, drop, length-append}
 use lib.Seq.{drop-drop, drop-append_seam}
 use Rattle.refusals.specs.declared.Refusal.{Refusal}
-use Rattle.refusals.specs.Refusals.{wrong_form_at, out_of_range_at}
-use Rattle.text.specs.Line.{line_of, Line, holds, form, range}
+use Rattle.text.specs.Line.{line_of, Line, refusal_of}
 use Rattle.text.proofs.LineLaws.{line_split}
 use Rattle.sections.specs.Section.{Section, read, fault, on_line, lines_at}
+use Rattle.std.specs.Prelude.{Ok, Err}
 
 -- ---- round trips
 pub read_is : {A : Type 0} (ws ys : List A) (m n : ℕ) → read ws m ≡ read ys n → (ws ≡ ys) × (m ≡ n)
@@ -28,7 +28,7 @@ module _ {A : Type 0} (text_of : ℕ → A → List ℕ) where
   section_text i [] = []
   section_text i (a ∷ xs) = text_of i a ++ section_text (i + 1) xs
 
-module _ {A : Type 0} (judge : List ℕ → ℕ → Line A) (first : ℕ) (text_of : ℕ → A → List ℕ) (Line-read : (line : List ℕ) (i : ℕ) (a : A) → judge line i ≡ holds a → line ≡ text_of i a) where
+module _ {A : Type 0} (judge : List ℕ → ℕ → Line A) (first : ℕ) (text_of : ℕ → A → List ℕ) (Line-read : (line : List ℕ) (i : ℕ) (a : A) → judge line i ≡ Ok a → line ≡ text_of i a) where
   -- what was read is what stands there
   pub section_read : (n : ℕ) (text : List ℕ) (p i : ℕ) (xs : List A) (e : ℕ) → lines_at judge first n text p i ≡ read xs e → (drop p text ≡ section_text text_of i xs ++ drop e text) × (length xs ≡ n)
   unfolding lines_at
@@ -41,7 +41,7 @@ module _ {A : Type 0} (judge : List ℕ → ℕ → Line A) (first : ℕ) (text_
       go : ((ys : List A) → lines_at judge first n text (p + length (line_of (drop p text))) (i + 1) ≡ read ys e → (drop (p + length (line_of (drop p text))) text ≡ section_text text_of (i + 1) ys ++ drop e text) × (length ys ≡ n))
           → (r : Line A) → judge (line_of (drop p text)) i ≡ r → (x : Section A) → lines_at judge first n text (p + length (line_of (drop p text))) (i + 1) ≡ x → on_line r (first + i) x ≡ read xs e
           → (drop p text ≡ section_text text_of i xs ++ drop e text) × (length xs ≡ suc n)
-      go ih (holds a) h (read ys m) k q =
+      go ih (Ok a) h (read ys m) k q =
           let w = read_is (a ∷ ys) xs m e q in
           let f = ih ys (k ∙ ap (read ys) w.1) in
           subst (λ (l : List A). (drop p text ≡ section_text text_of i l ++ drop e text) × (length l ≡ suc n)) w.0 (
@@ -49,9 +49,8 @@ module _ {A : Type 0} (judge : List ℕ → ℕ → Line A) (first : ℕ) (text_
                 ∙ ap₂ (λ (x y : List ℕ). x ++ y) (Line-read (line_of (drop p text)) i a h) f.0 ∙ sym (append_assoc (text_of i a) (section_text text_of (i + 1) ys) (drop e text)),
             ap suc f.1,
           )
-      go ih (holds a) h (fault w) k q = absurd (no_read w xs e q)
-      go ih (form byte) h x k q = absurd (no_read (wrong_form_at (first + i) byte) xs e q)
-      go ih (range byte) h x k q = absurd (no_read (out_of_range_at (first + i) byte) xs e q)
+      go ih (Ok a) h (fault w) k q = absurd (no_read w xs e q)
+      go ih (Err bad) h x k q = absurd (no_read (refusal_of bad (first + i)) xs e q)
 
 module _ {A : Type 0} (Fits : ℕ → A → Type 0) where
   abbrev pub AllFit : ℕ → List A → Type 0
@@ -59,7 +58,7 @@ module _ {A : Type 0} (Fits : ℕ → A → Type 0) where
   AllFit i (a ∷ xs) = Fits i a × AllFit (i + 1) xs
 
 module _ {A : Type 0} (judge : List ℕ → ℕ → Line A) (first : ℕ) (text_of : ℕ → A → List ℕ) (Fits : ℕ → A → Type 0)
-    (line_written : (i : ℕ) (a : A) → Fits i a → judge (text_of i a) i ≡ holds a)
+    (line_written : (i : ℕ) (a : A) → Fits i a → judge (text_of i a) i ≡ Ok a)
     (one_line : (i : ℕ) (a : A) (r : List ℕ) → line_of (text_of i a ++ r) ≡ text_of i a) where
   -- what is written reads back as it was
   pub section_written : (xs : List A) (text : List ℕ) (p i : ℕ) (r : List ℕ) → drop p text ≡ section_text text_of i xs ++ r → AllFit Fits i xs

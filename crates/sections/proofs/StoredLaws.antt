@@ -9,10 +9,11 @@ use native.Mathlib.Omega.{arith}
 use lib.ListN.{length, drop, take, set, length-set, length-drop}
 use lib.Seq.{take-suc-set, take_all}
 use Rattle.refusals.specs.declared.Refusal.{Refusal}
-use Rattle.refusals.specs.Refusals.{wrong_form_at, out_of_range_at}
-use Rattle.text.specs.Line.{line_at, after, Line, holds, form, range}
+use Rattle.text.specs.Line.{line_at, after, Line, refusal_of}
 use Rattle.text.proofs.LineLaws.{line_le_length}
 use Rattle.sections.specs.Section.{Section, read, fault, more, on_line, lines_at}
+use Rattle.std.specs.Prelude.{Ok, Err}
+use Rattle.text.specs.declared.LineFault.{LineFault}
 
 -- ---- lines put before a section
 abbrev pub more_all : {A : Type 0} → List A → Section A → Section A
@@ -73,13 +74,10 @@ module _ {A : Type 0} (judge : List ℕ → ℕ → Line A) (first : ℕ) (text 
         stored-line r q =
             rw (← q, ← lines_first (n - i) (n - (i + 1)) p i (omega arith)) u.so_far
 
-        pub stored_form : (byte : ℕ) → judge (line_at text p) i ≡ form byte → fault (wrong_form_at (first + i) byte) ≡ lines_at judge first (length out₀) text at 0
-        stored_form byte q = rw (← u.all) (sym (more-fault (take i out) (wrong_form_at (first + i) byte)) ∙ stored-line (form byte) q)
+        pub stored_bad : (bad : LineFault) → judge (line_at text p) i ≡ Err bad → fault (refusal_of bad (first + i)) ≡ lines_at judge first (length out₀) text at 0
+        stored_bad bad q = rw (← u.all) (sym (more-fault (take i out) (refusal_of bad (first + i))) ∙ stored-line (Err bad) q)
 
-        pub stored_range : (byte : ℕ) → judge (line_at text p) i ≡ range byte → fault (out_of_range_at (first + i) byte) ≡ lines_at judge first (length out₀) text at 0
-        stored_range byte q = rw (← u.all) (sym (more-fault (take i out) (out_of_range_at (first + i) byte)) ∙ stored-line (range byte) q)
-
-        pub stored_more : (a : A) → judge (line_at text p) i ≡ holds a → Stored at out₀ n (set out i a) (i + 1) (after text p)
+        pub stored_more : (a : A) → judge (line_at text p) i ≡ Ok a → Stored at out₀ n (set out i a) (i + 1) (after text p)
         stored_more a q =
             let rest = lines_at judge first (n - (i + 1)) text (after text p) (i + 1) in
             let l : i < length out = omega (arith, u.all, u.as_long) in
@@ -91,5 +89,5 @@ module _ {A : Type 0} (judge : List ℕ → ℕ → Line A) (first : ℕ) (text 
               so_far = ap (λ (m : ℕ). more_all (take m (set out i a)) rest) (add-one i)
                   ∙ ap (λ (l : List A). more_all l rest) (take-suc-set out i a l)
                   ∙ more-last (take i out) a rest
-                  ∙ stored-line (holds a) q;
+                  ∙ stored-line (Ok a) q;
             }

@@ -4,8 +4,6 @@ ghost use Rattle.sections.specs.Section.{lines_at};
 ghost use Rattle.lines.specs.Lines.{border_line};
 ghost use Rattle.sections.specs.Stored.{stored_section};
 
-use crate::End;
-use lines::BorderLine;
 use refusals::Refusal;
 use types::{Border, BorderRecord};
 
@@ -17,28 +15,19 @@ pub fn borders_read(
     zones: usize,
     first: usize,
     b: &mut [BorderRecord],
-) -> End
+) -> Result<usize, Refusal>
     requires { (at ≤ length text.now) × (first + length b.old < 2 ^ 64) }
     ensures { stored_section result b.new ≡ lines_at (border_line zones) first (length b.old) text.now at 0 }
 {
-    let n = b.len();
-    let mut i = 0;
     let mut p = at;
-    while i < n {
+    for i in 0..b.len() {
         let line = text::line::line_at(text, p);
         let mut raw: BorderRecord = [0; Border::ITEMS];
         match lines::border::border_line(zones, line, i, &mut raw) {
-            BorderLine::Holds => {
-                b[i] = raw;
-            }
-            BorderLine::Form(byte) => return End::Refused(Refusal::wrong_form_at(first + i, byte)),
-            BorderLine::Range(byte) => return End::Refused(Refusal::out_of_range_at(
-                first + i,
-                byte,
-            )),
+            Ok(()) => b[i] = raw,
+            Err(fault) => return Err(fault.refusal(first + i)),
         }
         p += line.len();
-        i += 1;
     }
-    End::At(p)
+    Ok(p)
 }

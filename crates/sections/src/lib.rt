@@ -4,12 +4,3 @@
 pub mod borders;
 pub mod put;
 pub mod zones;
-
-use refusals::Refusal;
-
-// Where a section of lines ends in the text, or why its first faulty line is turned away.
-#[derive(Clone, Copy)]
-pub enum End {
-    At(usize),
-    Refused(Refusal),
-}

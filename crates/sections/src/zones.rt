@@ -4,28 +4,28 @@ ghost use Rattle.sections.specs.Section.{lines_at};
 ghost use Rattle.lines.specs.Lines.{position_line};
 ghost use Rattle.sections.specs.Stored.{stored_section};
 
-use crate::End;
-use lines::ZoneLine;
 use refusals::Refusal;
 
 // Reads the lines of this letter that begin at place `at`, one for each item of z: their positions and where they end, or the first refusal.
 // The line of index 0 is line `first` of the text.
-pub fn zones_read(letter: u8, text: &[u8], at: usize, first: usize, z: &mut [i64]) -> End
+pub fn zones_read(
+    letter: u8,
+    text: &[u8],
+    at: usize,
+    first: usize,
+    z: &mut [i64],
+) -> Result<usize, Refusal>
     requires { (at ≤ length text.now) × (first + length z.old < 2 ^ 64) }
     ensures { stored_section result z.new ≡ lines_at (position_line letter) first (length z.old) text.now at 0 }
 {
-    let n = z.len();
-    let mut i = 0;
     let mut p = at;
-    while i < n {
+    for i in 0..z.len() {
         let line = text::line::line_at(text, p);
         match lines::zone::zone_line(letter, line, i) {
-            ZoneLine::Holds(net) => z[i] = net,
-            ZoneLine::Form(byte) => return End::Refused(Refusal::wrong_form_at(first + i, byte)),
-            ZoneLine::Range(byte) => return End::Refused(Refusal::out_of_range_at(first + i, byte)),
+            Ok(net) => z[i] = net,
+            Err(fault) => return Err(fault.refusal(first + i)),
         }
         p += line.len();
-        i += 1;
     }
-    End::At(p)
+    Ok(p)
 }

@@ -1,4 +1,5 @@
 -- A small setup, with this border or that marked: what the rounds come to. Nobody cites it: it refuses a definition that slipped, by the number that comes out.
+use Rattle.std.specs.Prelude.{Err, Ok}
 use mathlib.Core.Path.{refl}
 use mathlib.Core.Bool.{Bool, true, false, cond}
 use mathlib.Core.List.{List, [], ◌∷◌}
@@ -8,7 +9,7 @@ use lib.IntN.{ℤ, pos}
 use Rattle.numbers.specs.Ints.{minus, positive_part}
 use Rattle.numbers.specs.Below.{if_zero, sum, count, least, lesser, or_zero, table, first_from, given}
 use Rattle.numbers.specs.Computed.{◌is◌, Hold}
-use Rattle.refusals.specs.Refusals.{Judged, passed, refused, refusal, unless, refuse_at, refuse_first}
+use Rattle.refusals.specs.Refusals.{Judged, unless, refuse_at, refuse_first, below_zero, no_row, unlimited}
 use Rattle.marks.specs.Marks.{marked_by}
 use Rattle.rounds.specs.Rounds.{Outcome, sharers, raise, raises, load, lowered, risen, apply, next, raised, counted, run, extract}
 use Rattle.setup.specs.Setup.{Setup, grid_by, begin_by, judge_by, end_by, outcome_by}
@@ -34,7 +35,7 @@ abbrev only : (k i : ℕ) → Bool
 only k i = eqb i k
 
 abbrev end : (rounds : ℕ) → (margins x : List ℕ) → Judged Outcome
-end rounds margins x = passed (record { rounds = rounds; state = record { margins = margins; x = x } })
+end rounds margins x = Ok (record { rounds = rounds; state = record { margins = margins; x = x } })
 
 abbrev marked : (marks : List ℕ) → Judged Outcome
 marked marks = outcome_by (small both (marked_by marks) (pos 47) (pos 60) true)
@@ -47,14 +48,14 @@ pub anchors : Hold (
     -- n counts marked borders alone, and border 0 stays
     ∷ marked (1 ∷ []) is end 1 (2 ∷ 15 ∷ []) (7 ∷ 16 ∷ 7 ∷ [])  -- one
     -- 6 looks at marked borders
-    ∷ marked (1 ∷ 2 ∷ []) is refused (refusal 6 2 0)  -- six
+    ∷ marked (1 ∷ 2 ∷ []) is Err (unlimited 2)  -- six
     -- 6 comes before 7
-    ∷ outcome_by (small both (marked_by (1 ∷ 2 ∷ [])) (minus 1) (minus 3) true) is refused (refusal 6 2 0)  -- six-first
+    ∷ outcome_by (small both (marked_by (1 ∷ 2 ∷ [])) (minus 1) (minus 3) true) is Err (unlimited 2)  -- six-first
     -- no row takes part
-    ∷ outcome_by (small (only 2) both (pos 47) (pos 60) true) is refused (refusal 5 0 0)  -- five
+    ∷ outcome_by (small (only 2) both (pos 47) (pos 60) true) is Err (no_row)  -- five
     -- a margin below 0: refused, at a row that takes part, or else counted as 0
-    ∷ outcome_by (small both (marked_by (1 ∷ [])) (minus 1) (minus 3) true) is refused (refusal 7 0 0)  -- seven
-    ∷ outcome_by (small (only 1) (marked_by (1 ∷ [])) (minus 1) (minus 3) true) is refused (refusal 7 1 0)  -- seven-second
+    ∷ outcome_by (small both (marked_by (1 ∷ [])) (minus 1) (minus 3) true) is Err (below_zero 0)  -- seven
+    ∷ outcome_by (small (only 1) (marked_by (1 ∷ [])) (minus 1) (minus 3) true) is Err (below_zero 1)  -- seven-second
     ∷ outcome_by (small both (marked_by (1 ∷ [])) (minus 1) (pos 60) false) is end 0 (0 ∷ 60 ∷ []) (7 ∷ 7 ∷ 7 ∷ [])  -- not-seven
     ∷ [])
 unfolding marked_by outcome_by judge_by end_by grid_by begin_by unless refuse_at refuse_first first_from given positive_part table extract run counted next apply raises raised raise load lowered risen sharers count sum least lesser or_zero if_zero

@@ -1,10 +1,10 @@
 -- What an extraction is of, without its table: which rows take part, which borders may rise, the factors p, each row's margin and each border's exchange at the start.
 -- The grid, the start, refusals 5, 6, 7 and where the rounds end are said here once, for any choice of rows and borders and for margins of any kind. How a table becomes one is crate extractrules'.
-use Rattle.std.specs.Prelude.{Bool, cond, not, ◌&&◌, ℕ, ltb, ℤ, pos}
+use Rattle.std.specs.Prelude.{Bool, cond, not, ◌&&◌, ℕ, ltb, ℤ, pos, Ok}
 use Rattle.std.specs.Int.Signed.{lt_z}
 use Rattle.numbers.specs.Ints.{positive_part}
 use Rattle.numbers.specs.Below.{table, some_below}
-use Rattle.refusals.specs.Refusals.{Judged, passed, unless, refuse_first, no_row, unlimited, below_zero}
+use Rattle.refusals.specs.Refusals.{Judged, unless, refuse_first, no_row, unlimited, below_zero}
 use Rattle.rounds.specs.Rounds.{Grid, State, Outcome, extract}
 
 pub record Setup : Type 0 where
@@ -49,7 +49,7 @@ judge_by s a =
     unless (some_below s.rows s.takes) no_row
     (refuse_first s.borders (free_by s) unlimited
     (refuse_first s.rows (low_by s) below_zero
-    (passed a)))
+    (Ok a)))
 
 -- where the rounds end; and their end, or the refusal where they may not start
 unfoldable pub end_by : Setup → Outcome

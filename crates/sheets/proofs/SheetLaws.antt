@@ -1,6 +1,7 @@
 -- That what `sheet_row` prints, row by row, is a table's corner sheets (specs/Sheets.antt). No contract cites this file.
 -- In order: how long a row's sheet is; what `corner_text_good` leaves, with room for the longest; all rows of a table;
 -- and the theorems on a text: its table's rows, printed one by one, are `one_sheet` and `every_sheet` of it, and so is its refusal.
+use Rattle.std.specs.Prelude.{Err, Ok}
 use mathlib.Core.Path.{◌≡◌, sym, ap, subst, ◌∙◌}
 use mathlib.Core.Bool.{Bool, cond}
 use mathlib.Core.List.{List, append-nil}
@@ -16,8 +17,7 @@ use Rattle.numbers.specs.Ints.{Within}
 use Rattle.numbers.proofs.BelowLaws.{le_or_lt}
 use Rattle.numbers.proofs.IntLaws.{within_le}
 use Rattle.refusals.specs.declared.Refusal.{Refusal}
-use Rattle.refusals.specs.declared.Written.{Written}
-use Rattle.refusals.specs.Refusals.{Judged, passed, refused, then, no_corners}
+use Rattle.refusals.specs.Refusals.{Judged, then, no_corners}
 use Rattle.refusals.proofs.RefusalLaws.{passed_is, then_passed, then_next, then_refused, either_passed, either_refused, unless_ok, unless_refused}
 use Rattle.types.specs.declared.Header.{Header}
 use Rattle.types.specs.Ranges.{at_ℤ}
@@ -28,8 +28,6 @@ use Rattle.text.proofs.WrittenLaws.{decimal_long, decimal_ℤ_long}
 use Rattle.text.proofs.PutLaws.{lines_most_lem, lines_cong}
 use Rattle.tablerules.specs.Table.{Table, lent, front, factors_at}
 use Rattle.tablerules.specs.Good.{Good}
-use Rattle.reading.specs.declared.TableRead.{TableRead}
-use Rattle.reading.specs.declared.TableRead.TheVariants as read
 use Rattle.reading.specs.Reading.{read_corrected, read_into}
 use Rattle.reading.proofs.IntoLaws.{into_refused, into_read, into_good}
 use Rattle.marginrules.specs.Magnitudes.{BordersInRange}
@@ -82,25 +80,25 @@ module _ {t : Table} {row : ℕ} (s : Sheet t row) where
 
 -- ---- a row's sheet, or its refusal, with room for the longest
 module _ {t : Table} (good : Good t) (row : ℕ) where
-  sheet_fits : (text : List ℕ) → sheet_text_of (judge_corner_sheet t row) row ≡ passed text → length text ≤ sheet_room
+  sheet_fits : (text : List ℕ) → sheet_text_of (judge_corner_sheet t row) row ≡ Ok text → length text ≤ sheet_room
   sheet_fits text e =
       let d = then_passed (judge_corner_sheet t row) _ text e in
       subst (λ (s : List ℕ). length s ≤ sheet_room) (passed_is _ _ d.second) (sheet_short (passed_sheet t row good d.it d.first))
 
-  pub sheet_printed : (out : List ℕ) {out' out'' : List ℕ} (r : Written) {n : ℕ} → sheet_room ≤ length out → text_said r out' ≡ text_left (sheet_text_of (judge_corner_sheet t row) row) out → Told r out' n out'' → Printed n (sheet_at t row) out''
+  pub sheet_printed : (out : List ℕ) {out' out'' : List ℕ} (r : Judged ℕ) {n : ℕ} → sheet_room ≤ length out → text_said r out' ≡ text_left (sheet_text_of (judge_corner_sheet t row) row) out → Told r out' n out'' → Printed n (sheet_at t row) out''
   unfolding sheet_at
   sheet_printed out r room said told = told_printed (sheet_text_of (judge_corner_sheet t row) row) out r (λ text e. omega (arith, sheet_fits text e, room)) said told
 
 -- ---- all rows of a table: each has its sheet, or none has and the first refusal stands for all
 module _ (t : Table) where
-  has-sheet : t.header.borders ≤ sheet_borders_most → (row : ℕ) → row < t.header.rows → judge_corner_sheet t row ≡ passed t
+  has-sheet : t.header.borders ≤ sheet_borders_most → (row : ℕ) → row < t.header.rows → judge_corner_sheet t row ≡ Ok t
   has-sheet few row h = unless_ok _ _ (le-leb _ _ few) ∙ unless_ok _ _ (lt-ltb _ _ h)
 
-  no-sheet : sheet_borders_most < t.header.borders → (row : ℕ) → judge_corner_sheet t row ≡ refused (no_corners t.header.borders)
+  no-sheet : sheet_borders_most < t.header.borders → (row : ℕ) → judge_corner_sheet t row ≡ Err (no_corners t.header.borders)
   no-sheet many row = unless_refused _ _ (lt-leb _ _ many)
 
   rows-printed : 0 < t.header.rows
-      → lines_text (sheet_rows t.header) 0 (sheet_at t) ≡ told_text (then (judge_corner_sheet t 0) (λ t. passed (lines_text t.header.rows 0 (sheet_text t))))
+      → lines_text (sheet_rows t.header) 0 (sheet_at t) ≡ told_text (then (judge_corner_sheet t 0) (λ t. Ok (lines_text t.header.rows 0 (sheet_text t))))
   unfolding sheet_at lines_text
   rows-printed some =
       ⊎_elim
@@ -114,13 +112,13 @@ module _ (t : Table) where
       (le_or_lt t.header.borders sheet_borders_most)
 
 -- ---- a text
-module _ (text sheet : List ℕ) (r : TableRead) (z a : List ℤ) (b c : List (List ℤ)) (f : List ℤ) (said : read_into r z a b c f ≡ read_corrected text sheet) where
+module _ (text sheet : List ℕ) (r : Judged Header) (z a : List ℤ) (b c : List (List ℤ)) (f : List ℤ) (said : read_into r z a b c f ≡ read_corrected text sheet) where
   -- the text's table was read
-  module _ {h : Header} (is : r ≡ read.Table h) where
+  module _ {h : Header} (is : r ≡ Ok h) where
     abbrev t : Table
     t = front (lent h z a b c f)
 
-    is_read : read_corrected text sheet ≡ passed t
+    is_read : read_corrected text sheet ≡ Ok t
     is_read = into_read text sheet r z a b c f said is
 
     pub one_sheet_lem : (row : ℕ) → sheet_at t row ≡ one_sheet text sheet row
@@ -134,8 +132,8 @@ module _ (text sheet : List ℕ) (r : TableRead) (z a : List ℤ) (b c : List (L
         ∙ ap (λ (j : Judged (List ℕ)). told_text j) (sym (then_next _ is_read))
 
   -- the text was refused
-  module _ {w : Refusal} (is : r ≡ read.Refused w) where
-    none_read : (next : Table → Judged (List ℕ)) → then (read_corrected text sheet) next ≡ refused w
+  module _ {w : Refusal} (is : r ≡ Err w) where
+    none_read : (next : Table → Judged (List ℕ)) → then (read_corrected text sheet) next ≡ Err w
     none_read next = then_refused next (into_refused text sheet r z a b c f said is)
 
     pub one_refused : (row : ℕ) → refusal_text w ≡ one_sheet text sheet row

@@ -1,6 +1,6 @@
 -- The corner sheets that a program prints for a table's text and a correction sheet (02, E1, E2), row by row.
-use Rattle.std.specs.Prelude.{cond, List, ℕ, leb}
-use Rattle.refusals.specs.Refusals.{passed, then}
+use Rattle.std.specs.Prelude.{cond, List, ℕ, leb, Ok}
+use Rattle.refusals.specs.Refusals.{then}
 use Rattle.types.specs.declared.Header.{Header}
 use Rattle.text.specs.Written.{lines_text}
 use Rattle.tablerules.specs.Table.{Table}
@@ -23,4 +23,4 @@ one_sheet text sheet row = told_text (then (read_corrected text sheet) (λ t. sh
 
 -- what `corners` prints for all rows, one after another: each table has a row 0, so that only its border count can be refused
 unfoldable pub every_sheet : (text sheet : List ℕ) → List ℕ
-every_sheet text sheet = told_text (then (read_corrected text sheet) (λ t. then (judge_corner_sheet t 0) (λ t. passed (lines_text t.header.rows 0 (sheet_text t)))))
+every_sheet text sheet = told_text (then (read_corrected text sheet) (λ t. then (judge_corner_sheet t 0) (λ t. Ok (lines_text t.header.rows 0 (sheet_text t)))))

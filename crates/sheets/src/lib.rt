@@ -4,16 +4,15 @@
 
 ghost use Rattle.std.specs.Prelude.{◌≡◌, ◌*◌, ◌≤◌, length};
 ghost use Rattle.limits.specs.Limits.{zones_most, borders_most, rows_most};
-ghost use Rattle.tablerules.specs.Table.{lent, front};
+ghost use Rattle.tablerules.specs.Table.{front, lent_view};
 ghost use Rattle.tablerules.specs.Good.{Good};
 ghost use Rattle.output.specs.Buffer.{Printed};
 ghost use Rattle.sheets.specs.Sheets.{sheet_at, sheet_rows};
 ghost use Rattle.sheets.specs.Room.{sheet_room};
 
-use command::asked::Whose;
 use output::Ended;
-use reading::TableRead;
 use system::System;
+use tablerules::TableView;
 use types::{Border, BorderRecord, Header, Row, RowRecord};
 
 // The letter, the three tabs and the LF of a sheet's line.
@@ -51,23 +50,11 @@ pub fn sheet_rows(h: Header) -> usize
 }
 
 // One row's corner sheet, or the E line.
-pub fn sheet_row(
-    h: Header,
-    z: &[i64],
-    t: &[i64],
-    b: &[BorderRecord],
-    c: &[RowRecord],
-    f: &[i64],
-    row: usize,
-    out: &mut [u8],
-) -> usize
-    requires { Good (front (lent h z.now t.now b.now c.now f.now)) × (sheet_room ≤ length out.old) }
-    ensures { Printed result (sheet_at (front (lent h z.now t.now b.now c.now f.now)) row) out.new }
+pub fn sheet_row(view: &TableView, row: usize, out: &mut [u8]) -> usize
+    requires { Good (front (lent_view view.now)) × (sheet_room ≤ length out.old) }
+    ensures { Printed result (sheet_at (front (lent_view view.now)) row) out.new }
 {
-    output::told(
-        cornertext::corner_text_good(h, z, t, b, c, f, row, out),
-        out,
-    )
+    output::told(cornertext::corner_text_good(view, row, out), out)
 }
 
 // The sheets of the table that the text holds, as the correction sheet corrects it, or the E line.
@@ -75,7 +62,7 @@ pub fn print<'a>(
     sys: &System,
     text: &'a [u8],
     sheet: &'a [u8],
-    rows: Whose,
+    row: Option<usize>,
     out: &mut [u8],
 ) -> Ended
     requires { sheet_room ≤ length out.old }
@@ -87,7 +74,7 @@ pub fn print<'a>(
     let mut f: [i64; limits::ROWS_MOST * limits::ZONES_MOST] = [0; limits::ROWS_MOST
         * limits::ZONES_MOST];
     print_in(
-        sys, text, sheet, rows, &mut z, &mut t, &mut b, &mut c, &mut f, out,
+        sys, text, sheet, row, &mut z, &mut t, &mut b, &mut c, &mut f, out,
     )
 }
 
@@ -96,7 +83,7 @@ fn print_in<'a>(
     sys: &System,
     text: &'a [u8],
     sheet: &'a [u8],
-    rows: Whose,
+    row: Option<usize>,
     z: &mut [i64],
     t: &mut [i64],
     b: &mut [BorderRecord],
@@ -107,41 +94,37 @@ fn print_in<'a>(
     requires { (zones_most ≤ length z.old) × (zones_most ≤ length t.old) × (borders_most ≤ length b.old) × (rows_most ≤ length c.old) × (rows_most * zones_most ≤ length f.old) × (sheet_room ≤ length out.old) }
 {
     match reading::read_into(text, sheet, z, t, b, c, f) {
-        TableRead::Table(h) => print_rows(sys, h, z, t, b, c, f, rows, out),
-        TableRead::Refused(w) => {
+        Ok(h) => print_rows(
+            sys,
+            &TableView {
+                header: h,
+                nets: z,
+                allocated: t,
+                borders: b,
+                rows: c,
+                factors: f,
+            },
+            row,
+            out,
+        ),
+        Err(w) => {
             let n = output::refusal_line(w, out);
             output::put(sys, &out[..n])
         }
     }
 }
 
-fn rows_asked(h: Header, rows: Whose) -> usize {
-    match rows {
-        Whose::Every => sheet_rows(h),
-        Whose::One(_) => 1,
-    }
-}
-
 // From row 0 on, or the row that is asked for.
-fn print_rows(
-    sys: &System,
-    h: Header,
-    z: &[i64],
-    t: &[i64],
-    b: &[BorderRecord],
-    c: &[RowRecord],
-    f: &[i64],
-    rows: Whose,
-    out: &mut [u8],
-) -> Ended
-    requires { Good (front (lent h z.now t.now b.now c.now f.now)) × (sheet_room ≤ length out.old) }
+fn print_rows(sys: &System, view: &TableView, row: Option<usize>, out: &mut [u8]) -> Ended
+    requires { Good (front (lent_view view.now)) × (sheet_room ≤ length out.old) }
 {
-    for k in 0..rows_asked(h, rows) {
-        let row = match rows {
-            Whose::Every => k,
-            Whose::One(row) => row,
-        };
-        let n = sheet_row(h, z, t, b, c, f, row, out);
+    let count = if row.is_some() {
+        1
+    } else {
+        sheet_rows(view.header)
+    };
+    for k in 0..count {
+        let n = sheet_row(view, row.unwrap_or(k), out);
         let ended = output::put(sys, &out[..n]);
         let Ended::Answered = ended else {
             return ended;

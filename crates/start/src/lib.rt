@@ -5,12 +5,11 @@ ghost use Rattle.std.specs.Prelude.{◌≡◌, true, cond, not, ◌&&◌, ◌*�
 ghost use Rattle.std.specs.Int.Signed.{lt_z};
 ghost use Rattle.numbers.specs.Ints.{positive_part};
 ghost use Rattle.numbers.specs.Below.{table, first_from, some_below, all_below};
-ghost use Rattle.numbers.specs.First.{found};
 ghost use Rattle.limits.specs.Limits.{borders_most};
 ghost use Rattle.refusals.specs.Answers.{said_judgement};
 ghost use Rattle.types.specs.Ranges.{at_ℤ, is_intraday, border_fits, border_of};
 ghost use Rattle.marks.specs.Marks.{flagged};
-ghost use Rattle.tablerules.specs.Table.{lent, front};
+ghost use Rattle.tablerules.specs.Table.{front, lent_view};
 ghost use Rattle.tablerules.specs.Good.{Good};
 ghost use Rattle.marginrules.specs.Magnitudes.{FactorsInRange, TableFactorsInRange, BordersInRange};
 ghost use Rattle.marginrules.specs.Margin.{p_of};
@@ -18,9 +17,9 @@ ghost use Rattle.staterules.specs.States.{kept};
 ghost use Rattle.extractrules.specs.Start.{every, from_by, grid_of, start_of, judge_start};
 ghost use Rattle.extractrules.specs.Filled.{froms, exchanges_of, free_of, cells, prepared, prepared_of};
 
-use numbers::First;
-use refusals::{Judgement, Refusal};
-use types::{BorderRecord, Header, RowRecord};
+use refusals::Refusal;
+use tablerules::TableView;
+use types::{BorderRecord, Header};
 
 // p of a row at a border, which is 0 where the border is not marked or the row takes no part.
 fn cell(flag: u64, state: u64, factors: &[i64], raw: BorderRecord) -> u64
@@ -62,12 +61,7 @@ fn fill_grid(h: Header, b: &[BorderRecord], f: &[i64], flags: &[u64], states: &[
 fn some_kept(states: &[u64]) -> bool
     ensures { result ≡ some_below (length states.now) (kept states.now) }
 {
-    for i in 0..states.len() {
-        if states[i] == 0 {
-            return true;
-        }
-    }
-    false
+    states.contains(&0)
 }
 
 // Whether some row has p > 0 at border k. Computed afresh from the factors: a refusal (6) must not touch the caller's p.
@@ -116,34 +110,40 @@ fn is_unlimited(
 }
 
 // 6: the first marked border that no row limits.
-fn first_unlimited(h: Header, b: &[BorderRecord], f: &[i64], flags: &[u64], states: &[u64]) -> First
+fn first_unlimited(
+    h: Header,
+    b: &[BorderRecord],
+    f: &[i64],
+    flags: &[u64],
+    states: &[u64],
+) -> Option<usize>
     requires table_factors_in_range { TableFactorsInRange h f.now }
     requires borders_in_range { BordersInRange h.zones b.now }
     requires b_len { (length b.now ≡ h.borders) × (length flags.now ≡ h.borders) }
     requires states_len { length states.now ≡ h.rows }
-    ensures { found result ≡ first_from h.borders 0 (free_of (flagged flags.now) h b.now f.now states.now) }
+    ensures { result ≡ first_from h.borders 0 (free_of (flagged flags.now) h b.now f.now states.now) }
 {
     for k in 0..h.borders {
         if is_unlimited(h, b, f, flags, states, k) {
-            return First::At(k);
+            return Some(k);
         }
     }
-    First::Nothing
+    None
 }
 
 // 7: the first row that takes part and starts below 0, where that is refused.
-fn first_below(strict: bool, states: &[u64], starts: &[i64]) -> First
+fn first_below(strict: bool, states: &[u64], starts: &[i64]) -> Option<usize>
     requires { length starts.now ≡ length states.now }
-    ensures { found result ≡ first_from (length states.now) 0 (λ i. kept states.now i && (strict && lt_z (at_ℤ starts.now i) (pos 0))) }
+    ensures { result ≡ first_from (length states.now) 0 (λ i. kept states.now i && (strict && lt_z (at_ℤ starts.now i) (pos 0))) }
 {
     for i in 0..states.len() {
         let state = states[i];
         let start = starts[i];
         if (state == 0) & (strict & (start < 0)) {
-            return First::At(i);
+            return Some(i);
         }
     }
-    First::Nothing
+    None
 }
 
 // 5, 6, 7, in that order; 7 is not given in the intraday profile.
@@ -154,7 +154,7 @@ fn judge_start(
     flags: &[u64],
     states: &[u64],
     starts: &[i64],
-) -> Judgement
+) -> Result<(), Refusal>
     requires table_factors_in_range { TableFactorsInRange h f.now }
     requires borders_in_range { BordersInRange h.zones b.now }
     requires b_len { (length b.now ≡ h.borders) × (length flags.now ≡ h.borders) }
@@ -162,15 +162,15 @@ fn judge_start(
     ensures { said_judgement result states.now ≡ judge_start (flagged flags.now) h b.now f.now states.now starts.now }
 {
     if !some_kept(states) {
-        return Judgement::Refused(Refusal::no_row());
+        return Err(Refusal::NoRow);
     }
-    if let First::At(b) = first_unlimited(h, b, f, flags, states) {
-        return Judgement::Refused(Refusal::unlimited(b));
+    if let Some(b) = first_unlimited(h, b, f, flags, states) {
+        return Err(Refusal::Unlimited(b));
     }
-    if let First::At(i) = first_below(!h.is_intraday(), states, starts) {
-        return Judgement::Refused(Refusal::below_zero(i));
+    if let Some(i) = first_below(!h.is_intraday(), states, starts) {
+        return Err(Refusal::BelowZero(i));
     }
-    Judgement::Passed
+    Ok(())
 }
 
 // The margin that a row starts from, which is 0 where the row takes no part.
@@ -198,27 +198,29 @@ fn fill_margins(states: &[u64], starts: &[i64], margins: &mut [u64])
 
 // RAM of each row, where its margin starts, and its state, and whether the rounds may start. The tables may hold more than their header says.
 pub fn prepare(
-    h: Header,
-    z: &[i64],
-    t: &[i64],
-    b: &[BorderRecord],
-    c: &[RowRecord],
-    f: &[i64],
+    view: &TableView,
     flags: &[u64],
     rams: &mut [i64],
     starts: &mut [i64],
     states: &mut [u64],
-) -> Judgement
-    requires good { Good (front (lent h z.now t.now b.now c.now f.now)) }
-    requires flags_len { length flags.now ≡ h.borders }
-    requires rams_len { (length rams.old ≡ h.rows) × (length starts.old ≡ h.rows) }
-    requires states_len { length states.old ≡ h.rows }
-    ensures { prepared result rams.new starts.new states.new ≡ prepared_of (flagged flags.now) (front (lent h z.now t.now b.now c.now f.now)) }
+) -> Result<(), Refusal>
+    requires good { Good (front (lent_view view.now)) }
+    requires flags_len { length flags.now ≡ view.now.header.borders }
+    requires rams_len { (length rams.old ≡ view.now.header.rows) × (length starts.old ≡ view.now.header.rows) }
+    requires states_len { length states.old ≡ view.now.header.rows }
+    ensures { prepared result rams.new starts.new states.new ≡ prepared_of (flagged flags.now) (front (lent_view view.now)) }
 {
-    states::fill_rows(h, z, t, b, c, f, rams, starts, states);
-    let borders = h.borders;
-    let factors = h.rows * h.zones;
-    judge_start(h, &b[..borders], &f[..factors], flags, states, starts)
+    states::fill_rows(view, rams, starts, states);
+    let header = view.header;
+    let factors = header.rows * header.zones;
+    judge_start(
+        header,
+        &view.borders[..header.borders],
+        &view.factors[..factors],
+        flags,
+        states,
+        starts,
+    )
 }
 
 // p of each row at each marked border, and the margins that the rounds start from.
@@ -247,12 +249,7 @@ pub fn lay_out(
 fn all_marked(flags: &[u64]) -> bool
     ensures { result ≡ all_below (length flags.now) (flagged flags.now) }
 {
-    for k in 0..flags.len() {
-        if flags[k] == 0 {
-            return false;
-        }
-    }
-    true
+    !flags.contains(&0)
 }
 
 // p of each row at every border, marked or not (02, E9), written over what `lay_out` left. Where all borders are marked `lay_out` already wrote it.
@@ -276,8 +273,7 @@ pub fn complete(
         return;
     }
     let borders = h.borders;
-    // Every border: no marks are looked at.
-    let every = marks::chosen(true, flags);
+    let every = marks::chosen(None);
     fill_grid(h, b, f, &every[..borders], states, p);
 }
 

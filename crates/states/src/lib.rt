@@ -4,12 +4,14 @@
 ghost use Rattle.std.specs.Prelude.{◌≡◌, ◌&&◌, ◌<◌, pos, length};
 ghost use Rattle.std.specs.Int.Signed.{lt_z};
 ghost use Rattle.numbers.specs.Below.{some_below};
-ghost use Rattle.tablerules.specs.Table.{lent, front, stretch};
+ghost use Rattle.tablerules.specs.Table.{front, stretch, lent_view};
 ghost use Rattle.tablerules.specs.Good.{Good};
 ghost use Rattle.marginrules.specs.Magnitudes.{FactorsInRange, TableFactorsInRange};
 ghost use Rattle.marginrules.specs.Margin.{starts_of};
 ghost use Rattle.staterules.specs.States.{spread_of, spread_least, shifted, below, state_of, states_of};
 ghost use Rattle.staterules.specs.Standings.{standings_of, standings_with};
+
+use tablerules::TableView;
 
 // The 5% test: rows of a smaller spread, in hundred-thousandths, take no part.
 const SPREAD_LEAST: i64 = 5000;
@@ -21,12 +23,10 @@ pub fn spread_small(factors: &[i64]) -> bool
 {
     let mut high = factors[0];
     let mut low = high;
-    let mut z = 1;
-    while z < factors.len() {
+    for z in 1..factors.len() {
         let factor = factors[z];
         high = numbers::larger(high, factor);
         low = numbers::smaller(low, factor);
-        z += 1;
     }
     high - low < SPREAD_LEAST
 }
@@ -41,14 +41,12 @@ pub fn shifted(fs: &[i64], gs: &[i64]) -> bool
     let f0 = fs[0];
     let g0 = gs[0];
     let d = f0 - g0;
-    let mut z = 1;
-    while z < fs.len() {
+    for z in 1..fs.len() {
         let f = fs[z];
         let g = gs[z];
         if !numbers::same(f - g, d) {
             return false;
         }
-        z += 1;
     }
     true
 }
@@ -82,12 +80,10 @@ fn stood_for(h: types::Header, f: &[i64], rams: &[i64], i: usize) -> bool
     ensures { result ≡ some_below h.rows (λ j. below rams.now j i && shifted (stretch h.zones f.now j) (stretch h.zones f.now i)) }
 {
     let rows = h.rows;
-    let mut j = 0;
-    while j < rows {
+    for j in 0..rows {
         if stands_for(h, f, rams, j, i) {
             return true;
         }
-        j += 1;
     }
     false
 }
@@ -121,36 +117,23 @@ pub fn fill_states(h: types::Header, f: &[i64], rams: &[i64], states: &mut [u64]
 }
 
 // RAM of each row, where its margin starts, and its state. The tables may hold more than their header says.
-pub fn fill_rows(
-    h: types::Header,
-    z: &[i64],
-    t: &[i64],
-    b: &[types::BorderRecord],
-    c: &[types::RowRecord],
-    f: &[i64],
-    rams: &mut [i64],
-    starts: &mut [i64],
-    states: &mut [u64],
-)
-    requires good { Good (front (lent h z.now t.now b.now c.now f.now)) }
-    requires rams_len { (length rams.old ≡ h.rows) × (length starts.old ≡ h.rows) }
-    requires states_len { length states.old ≡ h.rows }
-    ensures { (standings_with rams.new states.new ≡ standings_of (front (lent h z.now t.now b.now c.now f.now))) × (starts.new ≡ starts_of (front (lent h z.now t.now b.now c.now f.now))) }
+pub fn fill_rows(view: &TableView, rams: &mut [i64], starts: &mut [i64], states: &mut [u64])
+    requires good { Good (front (lent_view view.now)) }
+    requires rams_len { (length rams.old ≡ view.now.header.rows) × (length starts.old ≡ view.now.header.rows) }
+    requires states_len { length states.old ≡ view.now.header.rows }
+    ensures { (standings_with rams.new states.new ≡ standings_of (front (lent_view view.now))) × (starts.new ≡ starts_of (front (lent_view view.now))) }
 {
-    let zones = h.zones;
-    let allocated = h.allocated_items();
-    let borders = h.borders;
-    let rows = h.rows;
-    let factors = &f[..rows * zones];
-    margin::fill_rams(
-        h,
-        &z[..zones],
-        &t[..allocated],
-        &b[..borders],
-        &c[..rows],
+    let header = view.header;
+    let rows = header.rows;
+    let factors = &view.factors[..rows * header.zones];
+    let front = TableView {
+        header,
+        nets: &view.nets[..header.zones],
+        allocated: &view.allocated[..header.allocated_items()],
+        borders: &view.borders[..header.borders],
+        rows: &view.rows[..rows],
         factors,
-        rams,
-        starts,
-    );
-    fill_states(h, factors, rams, states);
+    };
+    margin::fill_rams(&front, rams, starts);
+    fill_states(header, factors, rams, states);
 }

@@ -1,7 +1,8 @@
 // What the program asks of the system, over the handle that `main` is given: arguments, files, standard input and output; and why the last call that failed did.
 #![tactic(auto)]
 
-ghost use Rattle.std.specs.Prelude.{IfSome};
+ghost use Rattle.std.specs.Prelude.{◌≡◌, IfSome};
+ghost use Rattle.std.specs.Result.{result_ok};
 ghost use Rattle.io.specs.Counts.{IsPrefixLen};
 
 use std::cell::Cell;
@@ -11,9 +12,7 @@ use std::fs::File;
 use std::io::{Error, Read, Stdin, Write};
 use std::os::unix::fs::FileTypeExt;
 
-// The descriptors of the standard streams.
-pub const STDOUT: i32 = 1;
-
+// The descriptor of standard error.
 pub const STDERR: i32 = 2;
 
 // The numbers of the system's errors: none; a descriptor that is not open for it; an argument that is missing; a full disk; a pipe that nobody reads; an argument
@@ -42,7 +41,7 @@ pub struct System {
 impl System {
     pub fn new(rt: HostRuntime) -> System {
         System {
-            rt: rt,
+            rt,
             error: Cell::new(NONE),
         }
     }
@@ -57,29 +56,24 @@ impl System {
         usize::MAX
     }
 
-    // Puts argument i at the start of the buffer: its length, or 0 where it is missing or too long. Of one that is too long the first bytes are there.
+    // Puts argument i at the start of the buffer: its length, or 0 where it is missing or too long.
     pub fn arg(&self, i: usize, buf: &mut [u8]) -> usize
         ensures { IsPrefixLen result buf.new }
     {
-        match self.rt.arg(i, buf) {
-            Ok(n) => {
-                self.error.set(NONE);
-                n
-            }
-            Err(FillError::TooLong) => {
-                self.error.set(TOO_LONG);
-                0
-            }
-            Err(FillError::NotPresent) => {
-                self.error.set(MISSING);
-                0
-            }
-        }
+        self.try_arg(i, buf).unwrap_or(0)
     }
 
-    // Whether the last call that says so failed.
-    pub fn has_failed(&self) -> bool {
-        self.error.get() != NONE
+    // The same, and whether it is all there. Of one that is too long the first bytes are put.
+    pub fn try_arg(&self, i: usize, buf: &mut [u8]) -> Option<usize>
+        ensures { IfSome result (λ n. IsPrefixLen n buf.new) }
+    {
+        let filled = self.rt.arg(i, buf);
+        self.error.set(match filled {
+            Ok(_) => NONE,
+            Err(FillError::TooLong) => TOO_LONG,
+            Err(FillError::NotPresent) => MISSING,
+        });
+        filled.ok()
     }
 
     // Opens a file for reading.
@@ -88,13 +82,7 @@ impl System {
             self.error.set(NO_TEXT);
             return None;
         };
-        match File::open(&self.rt, path) {
-            Ok(file) => Some(file),
-            Err(e) => {
-                self.note(e);
-                None
-            }
-        }
+        self.noted(File::open(&self.rt, path))
     }
 
     pub fn stdin(&self) -> Stdin {
@@ -105,30 +93,12 @@ impl System {
     pub fn read<R: Read>(&self, from: &mut R, buf: &mut [u8]) -> Option<usize>
         ensures { IfSome result (λ n. IsPrefixLen n buf.new) }
     {
-        match from.read(buf) {
-            Ok(n) => Some(n),
-            Err(e) => {
-                self.note(e);
-                None
-            }
-        }
+        self.noted(from.read(buf))
     }
 
     // Writes a text to standard output: false where not all could be written.
     pub fn print(&self, text: &[u8]) -> bool {
-        let mut out = self.rt.stdout();
-        let mut done = 0;
-        while done < text.len() {
-            match out.write(&text[done..]) {
-                Ok(0) => return false,
-                Ok(n) => done += n,
-                Err(e) => {
-                    self.note(e);
-                    return false;
-                }
-            }
-        }
-        true
+        self.noted(self.rt.stdout().write_all(text)).is_some()
     }
 
     // Writes a text to a descriptor: false where not all could be written.
@@ -155,11 +125,17 @@ impl System {
         }
     }
 
-    fn note(&self, e: Error) {
-        self.error.set(match e.raw_os_error() {
-            Some(code) => code,
-            None => NONE,
-        });
+    // What a call gave. Why it failed is kept.
+    fn noted<T>(&self, done: Result<T, Error>) -> Option<T>
+        ensures { result ≡ result_ok done }
+    {
+        match done {
+            Ok(value) => Some(value),
+            Err(e) => {
+                self.error.set(e.raw_os_error().unwrap_or(NONE));
+                None
+            }
+        }
     }
 
     // Says on standard error what failed, and why.

@@ -1,4 +1,5 @@
 -- A small lent table, judged. Nobody cites it: it refuses a definition that slipped.
+use Rattle.std.specs.Prelude.{Err}
 use mathlib.Core.Path.{◌≡◌, refl}
 use mathlib.Core.Bool.{Bool, true, false}
 use mathlib.Core.List.{List, [], ◌∷◌}
@@ -8,7 +9,7 @@ use lib.IntN.{ℤ, pos}
 use Rattle.numbers.specs.Below.{first_from, given}
 use Rattle.numbers.specs.Ints.{minus, same_ℤ, sum_ℤ, inside}
 use Rattle.numbers.specs.Computed.{◌is◌, Hold}
-use Rattle.refusals.specs.Refusals.{refused, then, unless, refuse_at, refuse_first, need, out_of_range, too_short}
+use Rattle.refusals.specs.Refusals.{then, unless, refuse_at, refuse_first, need, out_of_range, too_short}
 use Rattle.types.specs.Ranges.{header_fits, allocated_items, zone_fits, exists, hubs_fit, border_fits, share_of, row_of, row_fits, factor_fits}
 use Rattle.tablerules.specs.Table.{Table, stretch, balanced, same_ends, twice, room_for, judge_shape, judge_for, judge_lent}
 use Rattle.tablerules.specs.Good.{Good}
@@ -38,16 +39,16 @@ with_t mark allocated =
     }
 
 pub allocated : Hold (
-    judge_lent frm_above is refused (out_of_range 6)  -- row-line
-    ∷ judge_lent (with_t 1 (pos 5 ∷ minus 5 ∷ [])) is refused (out_of_range 8)  -- later
+    judge_lent frm_above is Err (out_of_range 6)  -- row-line
+    ∷ judge_lent (with_t 1 (pos 5 ∷ minus 5 ∷ [])) is Err (out_of_range 8)  -- later
     -- T positions that do not sum to zero: the last T line; one out of range: its own line, and first
-    ∷ judge_lent (with_t 1 (pos 5 ∷ minus 4 ∷ [])) is refused (out_of_range 5)  -- sum
-    ∷ judge_lent (with_t 1 (pos 100000001 ∷ minus 4 ∷ [])) is refused (out_of_range 4)  -- range
+    ∷ judge_lent (with_t 1 (pos 5 ∷ minus 4 ∷ [])) is Err (out_of_range 5)  -- sum
+    ∷ judge_lent (with_t 1 (pos 100000001 ∷ minus 4 ∷ [])) is Err (out_of_range 4)  -- range
     -- too few T records, which is 8; where the header says that there are none, lent T records are not looked at
-    ∷ judge_lent (with_t 1 (pos 0 ∷ [])) is refused (too_short 2)  -- few
-    ∷ judge_lent (with_t 0 (pos 1 ∷ [])) is refused (out_of_range 6)  -- without
+    ∷ judge_lent (with_t 1 (pos 0 ∷ [])) is Err (too_short 2)  -- few
+    ∷ judge_lent (with_t 0 (pos 1 ∷ [])) is Err (out_of_range 6)  -- without
     -- no text gives another mark than 0 and 1
-    ∷ judge_lent (with_t 2 (pos 0 ∷ pos 0 ∷ [])) is refused (out_of_range 1)  -- mark
+    ∷ judge_lent (with_t 2 (pos 0 ∷ pos 0 ∷ [])) is Err (out_of_range 1)  -- mark
     ∷ [])
 unfolding first_from given same_ℤ sum_ℤ inside header_fits allocated_items zone_fits exists hubs_fit border_fits share_of row_of row_fits factor_fits then unless refuse_at refuse_first need stretch balanced room_for judge_shape judge_for
 allocated = refl

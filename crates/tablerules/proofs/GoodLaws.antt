@@ -1,6 +1,8 @@
 -- The laws of `specs/Good.antt`: what judging lent tables gives (`judged-front`, `judged-good`, `told-judged`, `told-good`), and that a good table in front of lent tables is what they are judged to be
 -- (`front-judged`, `good-judged`, `over-judged`).
 -- Row i's factors are its stretch, so factor k of the whole table is factor k % zones of row k / zones. No contract cites this file.
+use Rattle.std.specs.Prelude.{Err, Ok, None, Option}
+use Rattle.refusals.specs.Refusals.{Ruling}
 use mathlib.Core.Path.{◌≡◌, sym, ap, subst, ◌∙◌}
 use mathlib.Core.Bool.{true, false, not, and-eq-true_iff}
 use mathlib.Core.List.{List, []}
@@ -12,9 +14,6 @@ use lib.ListN.{length, get_or, drop, length-append, length-drop}
 use lib.Seq.{length-take-le, take_all, take_at, get_or-take, get_or-drop}
 use borrow.Author.Tests.{not-false}
 use Rattle.numbers.specs.Below.{over}
-use Rattle.refusals.specs.Refusals.{passed}
-use Rattle.refusals.specs.declared.Judgement.{Judgement}
-use Rattle.refusals.specs.declared.Judgement.TheVariants.{Passed, Refused}
 use Rattle.refusals.specs.declared.Refusal.{Refusal}
 use Rattle.refusals.specs.Answers.{said_judgement}
 use Rattle.refusals.proofs.RefusalLaws.{passed_is, none_passed, then_passed, unless_passed, unless_ok, none_next, then_next}
@@ -22,8 +21,6 @@ use Rattle.types.specs.Ranges.{at_ℤ, header_fits, allocated_items, row_tests, 
 use Rattle.types.specs.declared.Header.{Header}
 use Rattle.types.proofs.AllLaws.{all_join, factors_each, factors_all}
 use Rattle.types.proofs.RangeLaws.{header_in_lem}
-use Rattle.tablerules.specs.declared.Room.{Room}
-use Rattle.tablerules.specs.declared.Room.TheVariants.{None}
 use Rattle.tablerules.specs.Table.{Table, lent, stretch, factors_at, twice, not_twice, row_good, front, in_range, judge_shape, room_for_p, judge_records, judge_for, judge_lent}
 use Rattle.tablerules.specs.Good.{Exact, Good, GoodIn}
 use Rattle.tablerules.proofs.RoomLaws.{Enough, room_enough, p_room_left}
@@ -67,7 +64,7 @@ module _ (zones rows : ℕ) (factors : List ℤ) (long : length factors ≡ rows
       rw (stretch_at zones factors i z m) (h (i * zones + z) (omega (arith, suc-mul i zones, mul-le-mul_right {m = suc i} {n = rows} zones l)))
 
 -- ---- judging gives a good table, the front of what was lent
-pub records_good : (u t : Table) → Exact u → judge_records u ≡ passed t → (t ≡ u) × Good u
+pub records_good : (u t : Table) → Exact u → judge_records u ≡ Ok t → (t ≡ u) × Good u
 records_good u t exact e =
     let w = then_passed (in_range u) not_twice t e in
     let z = none_passed _ _ _ _ w.it w.first in
@@ -92,34 +89,34 @@ records_good u t exact e =
       },
     )
 
-judged : (room : Room) (given t : Table) → judge_for room given ≡ passed t → (t ≡ front given) × Good (front given)
+judged : (room : Option ℕ) (given t : Table) → judge_for room given ≡ Ok t → (t ≡ front given) × Good (front given)
 unfolding judge_for
 judged room given t e =
     let w = then_passed (judge_shape given) _ t e in
     let s = shape_front given w.it w.first in
-    let r : room_for_p room given.header (judge_records (front given)) ≡ passed t = ap (λ (u : Table). room_for_p room u.header (judge_records u)) (sym s.0) ∙ w.second in
+    let r : room_for_p room given.header (judge_records (front given)) ≡ Ok t = ap (λ (u : Table). room_for_p room u.header (judge_records u)) (sym s.0) ∙ w.second in
     records_good (front given) t s.1 (p_room_left room given.header _ t r)
 
-pub judged_front : (given t : Table) → judge_lent given ≡ passed t → t ≡ front given
+pub judged_front : (given t : Table) → judge_lent given ≡ Ok t → t ≡ front given
 judged_front given t e = (judged None given t e).0
 
-pub judged_good : (given t : Table) → judge_lent given ≡ passed t → Good t
+pub judged_good : (given t : Table) → judge_lent given ≡ Ok t → Good t
 judged_good given t e = let j = judged None given t e in subst Good (sym j.0) j.1
 
 -- the front is good, from the answer of a call that judged the tables
-pub told_judged : (room : Room) (given : Table) (r : Judgement) → said_judgement r (front given) ≡ judge_for room given → r ≡ Passed → judge_for room given ≡ passed (front given)
-told_judged room given r said e = sym said ∙ ap (λ (j : Judgement). said_judgement j (front given)) e
+pub told_judged : (room : Option ℕ) (given : Table) (r : Ruling) → said_judgement r (front given) ≡ judge_for room given → r ≡ (Ok tt) → judge_for room given ≡ Ok (front given)
+told_judged room given r said e = sym said ∙ ap (λ (j : Ruling). said_judgement j (front given)) e
 
-pub told_good : (given : Table) {r : Judgement} → GoodIn r given → r ≡ Passed → Good (front given)
-told_good given g e = subst (λ (j : Judgement). GoodIn j given) e g
+pub told_good : (given : Table) {r : Ruling} → GoodIn r given → r ≡ (Ok tt) → Good (front given)
+told_good given g e = subst (λ (j : Ruling). GoodIn j given) e g
 
 -- what `judge` promises of its own answers
-pub refused_in : (given : Table) {r : Judgement} (w : Refusal) → r ≡ Refused w → GoodIn r given
-refused_in given w e = subst (λ (j : Judgement). GoodIn j given) (sym e) tt
+pub refused_in : (given : Table) {r : Ruling} (w : Refusal) → r ≡ Err w → GoodIn r given
+refused_in given w e = subst (λ (j : Ruling). GoodIn j given) (sym e) tt
 
-pub records_in : (given : Table) → Exact (front given) → (r : Judgement) → said_judgement r (front given) ≡ judge_records (front given) → GoodIn r given
-records_in given exact Passed said = (records_good (front given) (front given) exact (sym said)).1
-records_in given exact (Refused w) said = tt
+pub records_in : (given : Table) → Exact (front given) → (r : Ruling) → said_judgement r (front given) ≡ judge_records (front given) → GoodIn r given
+records_in given exact (Ok tt) said = (records_good (front given) (front given) exact (sym said)).1
+records_in given exact (Err w) said = tt
 
 -- ---- a good table is judged to be itself
 lent_is : (h : Header) (z z' t t' : List ℤ) (b b' c c' : List (List ℤ)) (f f' : List ℤ) → z ≡ z' → t ≡ t' → b ≡ b' → c ≡ c' → f ≡ f' → lent h z t b c f ≡ lent h z' t' b' c' f'
@@ -138,7 +135,7 @@ module _ (t : Table) (g : Good t) where
       (take_all t.header.rows t.rows (omega (arith, g.exact.rows_long)))
       (take_all (t.header.rows * t.header.zones) t.factors (omega (arith, g.exact.factors_long)))
 
-  in_range_lem : in_range t ≡ passed t
+  in_range_lem : in_range t ≡ Ok t
   in_range_lem =
       let h = header_in_lem t.header g.exact.header in
       none_next _ _ _ _ (λ i l. ap not (g.nets_fit i l))
@@ -150,17 +147,17 @@ module _ (t : Table) (g : Good t) where
       (rw (stretch_long t.header.zones t.header.rows t.factors g.exact.factors_long i l) at m))))
 
   -- lent tables whose front is a good table are judged to be it
-  pub front_judged : (given : Table) → front given ≡ t → Enough given.header (length given.nets) (length given.allocated) (length given.borders) (length given.rows) (length given.factors) → judge_lent given ≡ passed t
+  pub front_judged : (given : Table) → front given ≡ t → Enough given.header (length given.nets) (length given.allocated) (length given.borders) (length given.rows) (length given.factors) → judge_lent given ≡ Ok t
   unfolding judge_for judge_shape
   front_judged given is n =
       then_next judge_records
       (unless_ok _ _ (subst (λ (u : Table). header_fits u.header ≡ true) (sym is) g.exact.header)
       ∙ sym (room_enough _ _ _ _ _ _ _ n.zones n.allocated n.borders n.rows n.factors)
-      ∙ ap passed is)
+      ∙ ap Ok is)
       ∙ then_next not_twice in_range_lem
       ∙ none_next _ _ _ _ g.once
 
-  pub good_judged : judge_lent t ≡ passed t
+  pub good_judged : judge_lent t ≡ Ok t
   good_judged =
       front_judged t front_same
       (record {
@@ -172,7 +169,7 @@ module _ (t : Table) (g : Good t) where
       })
 
   -- a good table written over lent buffers is judged to be itself
-  pub over_judged : (z a : List ℤ) (b c : List (List ℤ)) (f : List ℤ) → judge_lent (lent t.header (over t.nets z) (over t.allocated a) (over t.borders b) (over t.rows c) (over t.factors f)) ≡ passed t
+  pub over_judged : (z a : List ℤ) (b c : List (List ℤ)) (f : List ℤ) → judge_lent (lent t.header (over t.nets z) (over t.allocated a) (over t.borders b) (over t.rows c) (over t.factors f)) ≡ Ok t
   over_judged z a b c f =
       front_judged (lent t.header (over t.nets z) (over t.allocated a) (over t.borders b) (over t.rows c) (over t.factors f))
       (lent_is t.header _ _ _ _ _ _ _ _ _ _

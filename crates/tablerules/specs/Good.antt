@@ -1,8 +1,7 @@
 -- What a table that was judged has: lengths as its header says, every record in range, T in balance, no border given twice.
 -- Functions on judged tables ask for `Good`; that judging and reading give it is proved (`GoodLaws.antt`).
-use Rattle.std.specs.Prelude.{◌≡◌, true, false, [], ℕ, ◌*◌, ◌<◌, length, get_or}
-use Rattle.refusals.specs.declared.Judgement.{Judgement}
-use Rattle.refusals.specs.declared.Judgement.TheVariants.{Passed, Refused}
+use Rattle.refusals.specs.Refusals.{Ruling}
+use Rattle.std.specs.Prelude.{◌≡◌, true, false, [], ℕ, ◌*◌, ◌<◌, length, get_or, Err, Ok}
 use Rattle.types.specs.LineColumns.{border_items, row_items}
 use Rattle.types.specs.Ranges.{at_ℤ, header_fits, allocated_items, zone_fits, border_fits, row_fits, factor_fits}
 use Rattle.tablerules.specs.Table.{Table, balanced, twice, front}
@@ -27,9 +26,9 @@ pub record Good (t : Table) : Type 0 where
   pub once : (b : ℕ) → b < t.header.borders → twice t.borders b ≡ false
 
 -- what judging lent tables gives: where they passed, their front is good
-abbrev pub GoodIn : Judgement → (given : Table) → Type 0
-GoodIn Passed given = Good (front given)
-GoodIn (Refused w) given = Unit {0}
+abbrev pub GoodIn : Ruling → (given : Table) → Type 0
+GoodIn (Ok tt) given = Good (front given)
+GoodIn (Err w) given = Unit {0}
 
 -- a raw border record has five numbers, a raw row record seven: what a lent record's type says of it
 pub record Shaped (t : Table) : Type 0 where

@@ -1,15 +1,14 @@
 -- The table as a value, and how lent tables are judged (01, "The table as text", "When the table is turned away").
 -- Every definition above this file speaks of a `Table`. Raw records hold no index.
-use Rattle.std.specs.Prelude.{Bool, not, ◌&&◌, List, [], ℕ, ◌+◌, ◌*◌, ℤ, pos, length, get_or, take, drop}
+use Rattle.std.specs.Prelude.{Bool, not, ◌&&◌, List, [], ℕ, ◌+◌, ◌*◌, ℤ, pos, length, get_or, take, drop, Ok, None, Option, Some}
 use Rattle.numbers.specs.Below.{some_below}
 use Rattle.numbers.specs.Ints.{same_ℤ, sum_ℤ}
-use Rattle.refusals.specs.Refusals.{Judged, passed, then, unless, refuse_first, need, out_of_range, given_twice}
+use Rattle.refusals.specs.Refusals.{Judged, then, unless, refuse_first, need, out_of_range, given_twice}
 use Rattle.types.specs.declared.Header.{Header}
 use Rattle.types.specs.declared.Border.{Border}
 use Rattle.types.specs.declared.Row.{Row}
 use Rattle.types.specs.Ranges.{at_ℤ, all_true, header_fits, allocated_items, zone_fits, border_fits, border_of, row_of, row_line_tests}
-use Rattle.tablerules.specs.declared.Room.{Room}
-use Rattle.tablerules.specs.declared.Room.TheVariants.{None, P}
+use Rattle.tablerules.specs.declared.TableView.{TableView}
 
 -- the header, and as many items as it says: net positions, allocated net positions (02, E12: one a zone, or none), raw border and row records, and the factors
 -- of all rows (lent tables may hold more)
@@ -24,6 +23,9 @@ pub record Table : Type 0 where
 -- lent tables, as a call takes them
 abbrev pub lent : Header → (z t : List ℤ) → (b c : List (List ℤ)) → (f : List ℤ) → Table
 lent h z t b c f = record { header = h; nets = z; allocated = t; borders = b; rows = c; factors = f }
+
+abbrev pub lent_view : TableView → Table
+lent_view v = lent v.header v.nets.now v.allocated.now v.borders.now v.rows.now v.factors.now
 
 -- row i's stretch of a table of factors starts at item i x zones
 unfoldable pub stretch : (zones : ℕ) → (factors : List ℤ) → (i : ℕ) → List ℤ
@@ -76,7 +78,7 @@ unfoldable pub twice : (borders : List (List ℤ)) → (b : ℕ) → Bool
 twice borders b = some_below b (λ e. same_ends (get_or borders e []) (get_or borders b []))
 
 abbrev pub not_twice : Table → Judged Table
-not_twice t = refuse_first t.header.borders (twice t.borders) given_twice (passed t)
+not_twice t = refuse_first t.header.borders (twice t.borders) given_twice (Ok t)
 
 -- a row record with its factors, all in range
 abbrev pub row_good : (values factors : List ℤ) → Bool
@@ -111,25 +113,25 @@ in_range t =
     (unless (balanced t.allocated) (out_of_range (last_allocated_line_no h))
     (refuse_first h.borders (λ i. not (border_fits h.zones (get_or t.borders i []))) (λ i. out_of_range (border_line_no h + i))
     (refuse_first h.rows (λ i. not (row_good (get_or t.rows i []) (factors_at t i))) (λ i. out_of_range (row_line_no h + i))
-    (passed t)))))
+    (Ok t)))))
 
 -- a call on lent tables judges the header (3, line 1) and then lengths (8); what passes is the front of them
 unfoldable pub judge_shape : (given : Table) → Judged Table
 judge_shape given =
     unless (header_fits given.header) (out_of_range header_line_no)
     (table_room given.header given
-    (passed (front given)))
+    (Ok (front given)))
 
 -- where a call is lent a table of p too, room in it for each row at each border (8)
-abbrev pub room_for_p : {A : Type 0} → Room → Header → Judged A → Judged A
+abbrev pub room_for_p : {A : Type 0} → Option ℕ → Header → Judged A → Judged A
 room_for_p None h next = next
-room_for_p (P items) h next = need (h.rows * h.borders) items next
+room_for_p (Some items) h next = need (h.rows * h.borders) items next
 
 -- the records: ranges (3), and then borders given twice (4). They are judged after all lengths
 abbrev pub judge_records : Table → Judged Table
 judge_records t = then (in_range t) not_twice
 
-unfoldable pub judge_for : Room → (given : Table) → Judged Table
+unfoldable pub judge_for : Option ℕ → (given : Table) → Judged Table
 judge_for room given = then (judge_shape given) (λ t. room_for_p room t.header (judge_records t))
 
 -- lent tables, for a call that is lent no table of p

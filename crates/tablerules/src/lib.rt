@@ -1,9 +1,15 @@
-// Definitions alone, and the type that they name: see specs/ and proofs/.
+// The definitions of tables that are lent, and the types that they name: see specs/ and proofs/.
 #![tactic(auto)]
 
-// Whether a call is lent a table of p beside the table that it judges, and of how many items.
+use types::{BorderRecord, Header, RowRecord};
+
+// A table as it is lent: the header, and lists that may hold more items than it asks for.
 #[derive(Clone, Copy)]
-pub enum Room {
-    None,
-    P(usize),
+pub struct TableView<'a> {
+    pub header: Header,
+    pub nets: &'a [i64],
+    pub allocated: &'a [i64],
+    pub borders: &'a [BorderRecord],
+    pub rows: &'a [RowRecord],
+    pub factors: &'a [i64],
 }

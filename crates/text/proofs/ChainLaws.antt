@@ -1,5 +1,5 @@
 -- What is known where a line of fields, read one after another, holds something. One law for each link of such a chain. No contract cites this file.
-use mathlib.Core.Path.{◌≡◌, sym, ap, ap₂, subst, ◌∙◌}
+use mathlib.Core.Path.{◌≡◌, ap, ap₂, ◌∙◌}
 use mathlib.Core.Bool.{true}
 use mathlib.Core.List.{List, ◌∷◌}
 use Prim.Native.Nat.{ℕ, ◌≤◌, ◌<◌}
@@ -8,22 +8,16 @@ use lib.Dec.{leb, eqb}
 use lib.ListN.{length, get_or, drop}
 use lib.Seq.{drop-cons}
 use borrow.Author.Tests.{leb-true, eqb-true}
-use Rattle.text.specs.Line.{Line, holds, form, range, headed}
-use Rattle.text.proofs.NumberTrip.{and_both}
+use Rattle.text.specs.Line.{Line, headed}
+use Rattle.text.proofs.NumberTrip.{and_both, zero_one}
+use Rattle.std.specs.Prelude.{Ok, Err}
+use Rattle.text.specs.declared.LineFault.{LineFault}
 
-pub holds_is : {A : Type 0} (a b : A) → holds a ≡ holds b → a ≡ b
+pub holds_is : {A : Type 0} (a b : A) → ◌≡◌ {A = Line A} (Ok a) (Ok b) → a ≡ b
 holds_is a b e = cc
 
-abbrev IsHolds : {A : Type 0} → Line A → Type 0
-IsHolds (holds a) = Unit {0}
-IsHolds (form byte) = ⊥
-IsHolds (range byte) = ⊥
-
-pub no_form : {A : Type 0} (byte : ℕ) (a : A) → form byte ≡ holds a → ⊥
-no_form {A} byte a e = subst (λ (l : Line A). IsHolds l) (sym e) tt
-
-pub no_range : {A : Type 0} (byte : ℕ) (a : A) → range byte ≡ holds a → ⊥
-no_range {A} byte a e = subst (λ (l : Line A). IsHolds l) (sym e) tt
+pub no_fault : {A : Type 0} (bad : LineFault) (a : A) → ◌≡◌ {A = Line A} (Err bad) (Ok a) → ⊥
+no_fault bad a e = let x : ◌≡◌ {A = ℕ} 0 1 = cc in zero_one x
 
 -- a line with its letter is the letter, the byte that parts its fields, and what stands after
 pub headed_line : (letter sep : ℕ) (line : List ℕ) → headed letter sep line ≡ true → line ≡ letter ∷ sep ∷ drop 2 line

@@ -3,11 +3,11 @@
 use mathlib.Core.Path.{◌≡◌, refl, sym, ap, ap₂, subst, ◌∙◌}
 use mathlib.Core.Bool.{true, false, false≢true}
 use mathlib.Core.List.{List, [], ◌∷◌, ◌++◌}
-use Prim.Native.Nat.{ℕ, zero, suc, ◌+◌, ◌-◌, ◌/◌, ◌%◌, ◌^◌, ◌≤◌, ◌<◌}
-use native.Mathlib.Nat.{lt_of_lt_of_le, not-suc-le-zero}
+use Prim.Native.Nat.{ℕ, zero, suc, ◌+◌, ◌-◌, ◌/◌, ◌%◌, ◌^◌, ◌≤◌, ◌<◌, ◌*◌, max}
+use native.Mathlib.Nat.{lt_of_lt_of_le, not-suc-le-zero, pow-suc, pow-le-pow_right}
 use native.Mathlib.Omega.{arith}
 use borrow.Author.Tests.{ltb-true}
-use lib.Dec.{lit≤}
+use lib.Dec.{lit≤, lit<}
 use lib.IntN.{ℤ, pos, negsuc, nat_abs}
 use lib.ListN.{length, set, length-append, length-set}
 use lib.Signed.{lt_z, mag}
@@ -39,22 +39,18 @@ decimal_longer n h = ap length (decimal_more n h) ∙ length-append (decimal (n 
 pub decimal_u64 : (n : ℕ) → n < 2 ^ 64 → length (decimal n) ≤ 20
 decimal_u64 n h = decimal_long 19 n (lt_of_lt_of_le h (lit≤ tt))
 
--- counting the digits from the last: `left` has the digits not counted yet; one digit is counted at the start
-pub record DigitsCounted (n left count : ℕ) : Type 0 where
-  pub so_far : length (decimal left) + count ≡ length (decimal n) + 1
+-- how many digits a number has, by the power of ten at or below it; 0 has as many as 1
+decimal_size : (k n : ℕ) → 10 ^ k ≤ n → n < 10 * 10 ^ k → length (decimal n) ≡ k + 1
+decimal_size zero n l h = ap length (decimal_one n h)
+decimal_size (suc k) n l h =
+    let p : 10 ^ suc k ≡ 10 ^ k * 10 = pow-suc 10 k in
+    let low : 0 ≤ k = omega arith in
+    let one : 1 ≤ 10 ^ k = pow-le-pow_right {n = 10} (lit< tt) low in
+    omega (arith, decimal_longer n (omega (arith, l, p, one)), decimal_size k (n / 10) (omega (arith, l, p)) (omega (arith, h, p)))
 
-pub digits_counted_none : (n : ℕ) → DigitsCounted n n 1
-digits_counted_none n = record { so_far = refl }
-
-module _ {n left count : ℕ} (u : DigitsCounted n left count) where
-  pub digits_counted_few : n < 2 ^ 64 → count ≤ 20
-  digits_counted_few h = omega (arith, u.so_far, decimal_some left, decimal_u64 n h)
-
-  pub digits_counted_more : 10 ≤ left → DigitsCounted n (left / 10) (count + 1)
-  digits_counted_more h = record { so_far = omega (arith, u.so_far, decimal_longer left h) }
-
-  pub digits_counted_all : left < 10 → count ≡ length (decimal n)
-  digits_counted_all h = omega (arith, u.so_far, ap length (decimal_one left h))
+pub decimal_count : (n k : ℕ) → 10 ^ k ≤ max n 1 → max n 1 < 10 * 10 ^ k → k + 1 ≡ length (decimal n)
+decimal_count zero k l h = sym (decimal_size k 1 l h) ∙ ap length (decimal_one 1 (lit< tt)) ∙ sym (ap length (decimal_one 0 (lit< tt)))
+decimal_count (suc n) k l h = let m : max (suc n) 1 ≡ suc n = omega arith in sym (decimal_size k (suc n) (rw m at l) (rw m at h))
 
 -- writing the digits, the last first: what is left, written before place i, gives the whole
 pub record DigitsPut (n at : ℕ) (out₀ out : List ℕ) (left i : ℕ) : Type 0 where

@@ -15,11 +15,9 @@ use mir.Facts.{to_z_pos}
 use borrow.Author.Tests.{eqb-true, eq-eqb, ne_eqb}
 use Rattle.numbers.specs.Ints.{minus}
 use Rattle.numbers.proofs.BelowLaws.{le_or_lt}
-use Rattle.text.specs.declared.Number.{Number}
-use Rattle.text.specs.declared.Number.TheVariants.{Value, Bad}
-use Rattle.text.specs.declared.Signed.TheVariants.{Whole, Wrong}
-use Rattle.text.specs.Fields.{positive, with_number, number_at, share_at}
+use Rattle.text.specs.Fields.{Parsed, positive, with_number, number_at, share_at}
 use Rattle.text.proofs.NumberTrip.{number_read}
+use Rattle.std.specs.Prelude.{Ok, Err}
 
 -- a byte that is not 0 stands in the line, not past its end
 pub some_within : (line : List ℕ) (at : ℕ) → 0 < get_or line at 0 → at < length line
@@ -35,7 +33,7 @@ dash_within line at e = some_within line at (omega (arith, eqb-true (get_or line
 
 -- ---- how large a number that was read is
 module _ (line : List ℕ) (at stop : ℕ) where
-  module _ (v next : ℕ) (is : number_at line at stop ≡ Value v next) where
+  module _ (v next : ℕ) (is : number_at line at stop ≡ Ok (v, next)) where
     pub number_lt : v < 10 ^ 10
     number_lt = (number_read line at stop v next (sym is)).small
 
@@ -43,20 +41,20 @@ module _ (line : List ℕ) (at stop : ℕ) where
   pub value_lt : with_number (number_at line at stop) 0 (λ v next. v) < 10 ^ 10
   value_lt = go (number_at line at stop) refl
     where
-      go : (n : Number) → number_at line at stop ≡ n → with_number n 0 (λ v next. v) < 10 ^ 10
-      go (Value v next) e = number_lt v next e
-      go (Bad place) e = lit< tt
+      go : (n : Parsed ℕ) → number_at line at stop ≡ n → with_number n 0 (λ v next. v) < 10 ^ 10
+      go (Ok (v, next)) e = number_lt v next e
+      go (Err place) e = lit< tt
 
   -- ---- a field by its first byte
   pub share_plus : eqb (get_or line at 0) 45 ≡ false → positive (number_at line at stop) ≡ share_at line at stop
   unfolding share_at
   share_plus e = rw e
 
-  pub share_alone : eqb (get_or line at 0) 45 ≡ true → get_or line (at + 1) 0 ≡ stop → Whole (minus 1) (at + 2) ≡ share_at line at stop
+  pub share_alone : eqb (get_or line at 0) 45 ≡ true → get_or line (at + 1) 0 ≡ stop → Ok (minus 1, at + 2) ≡ share_at line at stop
   unfolding share_at
   share_alone e f = rw (e, eq-eqb (get_or line (at + 1) 0) stop f)
 
-  pub share_other : eqb (get_or line at 0) 45 ≡ true → (get_or line (at + 1) 0 ≡ stop → ⊥) → Wrong (at + 1) ≡ share_at line at stop
+  pub share_other : eqb (get_or line at 0) 45 ≡ true → (get_or line (at + 1) 0 ≡ stop → ⊥) → Err (at + 1) ≡ share_at line at stop
   unfolding share_at
   share_other e f = rw (e, ne_eqb (get_or line (at + 1) 0) stop f)
 

@@ -14,9 +14,9 @@ use lib.Seq.{drop-cons, get_or-drop}
 use borrow.Author.Tests.{leb-true, leb-false, ltb-true, eqb-true, eqb-false, lt-leb, lt-ltb, le-ltb, eq-eqb, ne_eqb}
 use Rattle.numbers.proofs.BelowLaws.{le_or_lt}
 use Rattle.numbers.proofs.TestLaws.{or_neither}
-use Rattle.text.specs.declared.Number.TheVariants.{Value, Bad}
 use Rattle.text.specs.Fields.{is_digit, digits, value, plain, first_bad, number_at}
 use Rattle.text.proofs.NumberTrip.{and_both, digit_range, more_digits, plain_true}
+use Rattle.std.specs.Prelude.{Ok, Err}
 
 -- ---- digits
 module _ (line : List ℕ) (i : ℕ) where
@@ -56,11 +56,11 @@ module _ (ds : List ℕ) where
 
 -- ---- number_at, by what stands after the digits
 module _ (line : List ℕ) (at stop : ℕ) where
-  number-not : (i : ℕ) → plain (digits (drop at line)) ≡ false → first_bad (digits (drop at line)) at ≡ i → Bad i ≡ number_at line at stop
+  number-not : (i : ℕ) → plain (digits (drop at line)) ≡ false → first_bad (digits (drop at line)) at ≡ i → Err i ≡ number_at line at stop
   unfolding number_at
-  number-not i e f = rw e (ap Bad (sym f))
+  number-not i e f = rw e (ap Err (sym f))
 
-  number_cut : length line ≤ at + length (digits (drop at line)) → Bad (first_bad (digits (drop at line)) at) ≡ number_at line at stop
+  number_cut : length line ≤ at + length (digits (drop at line)) → Err (first_bad (digits (drop at line)) at) ≡ number_at line at stop
   unfolding number_at
   number_cut h =
       let k : length (drop at line) ≤ length (digits (drop at line)) = simp length-drop (omega arith) in
@@ -70,11 +70,11 @@ module _ (line : List ℕ) (at stop : ℕ) where
     within : length (digits (drop at line)) < length (drop at line)
     within = simp length-drop (omega arith)
 
-    number-other : (get_or line (at + length (digits (drop at line))) 0 ≡ stop → ⊥) → Bad (first_bad (digits (drop at line)) at) ≡ number_at line at stop
+    number-other : (get_or line (at + length (digits (drop at line))) 0 ≡ stop → ⊥) → Err (first_bad (digits (drop at line)) at) ≡ number_at line at stop
     unfolding number_at
     number-other e = rw (p, lt-ltb _ _ within, get_or-drop at line (length (digits (drop at line))) 0, ne_eqb _ _ e)
 
-    number-good : get_or line (at + length (digits (drop at line))) 0 ≡ stop → Value (value 0 (digits (drop at line))) (at + length (digits (drop at line)) + 1) ≡ number_at line at stop
+    number-good : get_or line (at + length (digits (drop at line))) 0 ≡ stop → Ok (value 0 (digits (drop at line)), at + length (digits (drop at line)) + 1) ≡ number_at line at stop
     unfolding number_at
     number-good e = rw (p, lt-ltb _ _ within, get_or-drop at line (length (digits (drop at line))) 0, eq-eqb _ _ e)
 
@@ -158,7 +158,7 @@ module _ (line : List ℕ) (at : ℕ) where
           none_yet b = let g : i - at ≡ 0 = omega arith in omega (arith, (rw g at u.small))
 
       -- a digit that no good number could have
-      pub upto_full : (stop : ℕ) → (leb 10 (i - at) || (ltb 0 (i - at) && eqb v 0)) ≡ true → Bad i ≡ number_at line at stop
+      pub upto_full : (stop : ℕ) → (leb 10 (i - at) || (ltb 0 (i - at) && eqb v 0)) ≡ true → Err i ≡ number_at line at stop
       upto_full stop q =
           let ds = digits (drop at line) in
           let n = ap length (digits_more line i h e) in
@@ -179,7 +179,7 @@ module _ (line : List ℕ) (at : ℕ) where
       long : length (digits (drop at line)) ≡ i - at
       long = omega (arith, u.count, ap length none)
 
-      pub upto_empty : (stop : ℕ) → i ≤ at → Bad i ≡ number_at line at stop
+      pub upto_empty : (stop : ℕ) → i ≤ at → Err i ≡ number_at line at stop
       upto_empty stop h =
           let n = long in
           let l = u.low in
@@ -198,14 +198,14 @@ module _ (line : List ℕ) (at : ℕ) where
         ended : at + length (digits (drop at line)) ≡ i
         ended = omega (arith, long)
 
-        pub upto_other : (stop : ℕ) → i < length line → (get_or line i 0 ≡ stop → ⊥) → Bad i ≡ number_at line at stop
-        upto_other stop k e = ap Bad (sym bad) ∙ number-other line at stop good (omega (arith, ended)) (λ x. e (ap (λ (j : ℕ). get_or line j 0) (sym ended) ∙ x))
+        pub upto_other : (stop : ℕ) → i < length line → (get_or line i 0 ≡ stop → ⊥) → Err i ≡ number_at line at stop
+        upto_other stop k e = ap Err (sym bad) ∙ number-other line at stop good (omega (arith, ended)) (λ x. e (ap (λ (j : ℕ). get_or line j 0) (sym ended) ∙ x))
 
-        pub upto_stop : (stop : ℕ) → i < length line → get_or line i 0 ≡ stop → Value v (i + 1) ≡ number_at line at stop
+        pub upto_stop : (stop : ℕ) → i < length line → get_or line i 0 ≡ stop → Ok (v, i + 1) ≡ number_at line at stop
         upto_stop stop k e =
-            ap₂ Value (sym (u.worth ∙ ap (value v) none)) (ap (λ (j : ℕ). j + 1) (sym ended))
+            ap₂ (λ (v next : ℕ). Ok (v, next)) (sym (u.worth ∙ ap (value v) none)) (ap (λ (j : ℕ). j + 1) (sym ended))
             ∙ number-good line at stop good (omega (arith, ended)) (ap (λ (j : ℕ). get_or line j 0) ended ∙ e)
 
-      pub upto_cut : (stop : ℕ) → length line ≤ i → Bad i ≡ number_at line at stop
+      pub upto_cut : (stop : ℕ) → length line ≤ i → Err i ≡ number_at line at stop
       upto_cut stop k =
-          ⊎_elim (λ (h : i ≤ at). upto_empty stop h) (λ (h : at < i). ap Bad (sym (bad h)) ∙ number_cut line at stop (omega (arith, ended h))) (le_or_lt i at)
+          ⊎_elim (λ (h : i ≤ at). upto_empty stop h) (λ (h : at < i). ap Err (sym (bad h)) ∙ number_cut line at stop (omega (arith, ended h))) (le_or_lt i at)

@@ -14,11 +14,9 @@ use lib.ListN.{length, get_or, drop, length-append, length-drop, get_or-append}
 use lib.Seq.{drop-append-add, drop-cons, get_or-drop, drop-drop, get_or-append_seam}
 use borrow.Author.Tests.{leb-true, ltb-true, ltb-false, eqb-true, eqb-false, le-leb, lt-ltb, le-ltb, eq-eqb, ne_eqb}
 pub use Rattle.numbers.proofs.TestLaws.{zero_one, and_both}
-use Rattle.text.specs.declared.Number.{Number}
-use Rattle.text.specs.declared.Number.TheVariants.{Value, Bad}
-use Rattle.text.specs.declared.Signed.TheVariants.{Whole, Wrong}
-use Rattle.text.specs.Fields.{is_digit, digits, value, plain, number_at, positive, negative, signed_at}
+use Rattle.text.specs.Fields.{Parsed, is_digit, digits, value, plain, number_at, positive, negative, signed_at}
 use Rattle.text.specs.Written.{text_of, decimal, decimal_ℤ}
+use Rattle.std.specs.Prelude.{Ok, Err}
 
 pub digit_range : (b : ℕ) → is_digit b ≡ true → (48 ≤ b) × (b < 58)
 digit_range b e = (leb-true 48 b (and_both (leb 48 b) (ltb b 58) e).0, ltb-true b 58 (and_both (leb 48 b) (ltb b 58) e).1)
@@ -180,7 +178,7 @@ module _ (line : List ℕ) (at stop n : ℕ) (r : List ℕ) (here : drop at line
   unfolding decimal
   written-digits e = rw (here, digits_app (text_of (suc n) n) (stop ∷ r) (text_digits (suc n) n), e) (append-nil (text_of (suc n) n))
 
-  pub number_written : n < 10 ^ 10 → is_digit stop ≡ false → number_at line at stop ≡ Value n (at + length (decimal n) + 1)
+  pub number_written : n < 10 ^ 10 → is_digit stop ≡ false → number_at line at stop ≡ Ok (n, at + length (decimal n) + 1)
   unfolding number_at
   number_written h e =
       let w : value 0 (decimal n) ≡ n = ap (value 0) (decimal_ten n h) ∙ text_value 10 n h in
@@ -261,11 +259,18 @@ pub record Read (line : List ℕ) (at stop v next : ℕ) : Type 0 where
   pub after : next ≡ at + length (decimal v) + 1
   pub within : next ≤ length line
 
-good_only : (v n w m b : ℕ) (t : Bool) → Value v n ≡ cond t (Value w m) (Bad b) → (t ≡ true) × (w ≡ v) × (m ≡ n)
-good_only v n w m b true p = (refl, cc, cc)
+-- two fields that were read are the same only where values and places are, and none is a place that no good field could have
+pub value_is : {A : Type 0} (v w : A) (m n : ℕ) → ◌≡◌ {A = Parsed A} (Ok (v, m)) (Ok (w, n)) → (v ≡ w) × (m ≡ n)
+value_is {A} v w m n e = let p : ◌≡◌ {A = A × ℕ} (v, m) (w, n) = cc in (ap (λ (q : A × ℕ). q.0) p, ap (λ (q : A × ℕ). q.1) p)
+
+pub no_value : {A : Type 0} (place : ℕ) (v : A) (n : ℕ) → ◌≡◌ {A = Parsed A} (Err place) (Ok (v, n)) → ⊥
+no_value place v n e = let x : ◌≡◌ {A = ℕ} 0 1 = cc in zero_one x
+
+good_only : (v n w m b : ℕ) (t : Bool) → ◌≡◌ {A = Parsed ℕ} (Ok (v, n)) (cond t (Ok (w, m)) (Err b)) → (t ≡ true) × (w ≡ v) × (m ≡ n)
+good_only v n w m b true p = let e = value_is w v m n (sym p) in (refl, e.0, e.1)
 good_only v n w m b false p = let z : ◌≡◌ {A = ℕ} 0 1 = cc in absurd (zero_one z)
 
-pub number_read : (line : List ℕ) (at stop v next : ℕ) → Value v next ≡ number_at line at stop → Read line at stop v next
+pub number_read : (line : List ℕ) (at stop v next : ℕ) → Ok (v, next) ≡ number_at line at stop → Read line at stop v next
 unfolding number_at
 number_read line at stop v next p =
     let s = drop at line in
@@ -310,35 +315,23 @@ pub record ReadZ (line : List ℕ) (at stop : ℕ) (z : ℤ) (next : ℕ) : Type
   pub small : nat_abs z < 10 ^ 10
   pub within : next ≤ length line
 
-pub value_is : (v w m n : ℕ) → ◌≡◌ {A = Number} (Value v m) (Value w n) → (v ≡ w) × (m ≡ n)
-value_is v w m n e = (cc, cc)
-
-pub no_value : (place v n : ℕ) → ◌≡◌ {A = Number} (Bad place) (Value v n) → ⊥
-no_value place v n e = let x : ◌≡◌ {A = ℕ} 0 1 = cc in zero_one x
-
-pub whole_is : (z w : ℤ) (m n : ℕ) → Whole w m ≡ Whole z n → (w ≡ z) × (m ≡ n)
-whole_is z w m n e = (cc, cc)
-
-pub no_whole : (place : ℕ) (z : ℤ) (n : ℕ) → Wrong place ≡ Whole z n → ⊥
-no_whole place z n e = let x : ◌≡◌ {A = ℕ} 0 1 = cc in zero_one x
-
 module _ (line : List ℕ) (at stop : ℕ) (z : ℤ) (next : ℕ) where
-  plus : (n : Number) → n ≡ number_at line at stop → positive n ≡ Whole z next → ReadZ line at stop z next
+  plus : (n : Parsed ℕ) → n ≡ number_at line at stop → positive n ≡ Ok (z, next) → ReadZ line at stop z next
   unfolding decimal_ℤ
-  plus (Bad place) q e = absurd (no_whole place z next e)
-  plus (Value v m) q e =
-      let w = whole_is z (pos v) m next e in
+  plus (Err place) q e = absurd (no_value place z next e)
+  plus (Ok (v, m)) q e =
+      let w = value_is (pos v) z m next e in
       let r = number_read line at stop v m q in
       subst (λ (y : ℤ). ReadZ line at stop y next) w.0
       (record { here = r.here ∙ ap (λ (y : ℕ). decimal v ++ (stop ∷ drop y line)) w.1; small = r.small; within = omega (arith, r.within, w.1) })
 
-  minus : get_or line at 0 ≡ 45 → (n : Number) → n ≡ number_at line (at + 1) stop → negative (get_or line (at + 1) 0) (at + 1) n ≡ Whole z next → ReadZ line at stop z next
+  minus : get_or line at 0 ≡ 45 → (n : Parsed ℕ) → n ≡ number_at line (at + 1) stop → negative (get_or line (at + 1) 0) (at + 1) n ≡ Ok (z, next) → ReadZ line at stop z next
   unfolding decimal_ℤ
-  minus h (Bad place) q e = absurd (no_whole _ z next e)
-  minus h (Value zero m) q e = absurd (no_whole (at + 1) z next e)
-  minus h (Value (suc v) m) q e =
+  minus h (Err place) q e = absurd (no_value _ z next e)
+  minus h (Ok (zero, m)) q e = absurd (no_value (at + 1) z next e)
+  minus h (Ok (suc v, m)) q e =
       let t : eqb (suc v) 0 ≡ false = ne_eqb (suc v) 0 (λ x. omega arith) in
-      let w = whole_is z (negsuc v) m next (rw t at e) in
+      let w = value_is (negsuc v) z m next (rw t at e) in
       let r = number_read line (at + 1) stop (suc v) m q in
       let l : at < length line = omega (arith, r.within, r.after) in
       subst (λ (y : ℤ). ReadZ line at stop y next) w.0
@@ -348,7 +341,7 @@ module _ (line : List ℕ) (at stop : ℕ) (z : ℤ) (next : ℕ) where
         within = omega (arith, r.within, w.1);
       })
 
-  pub signed_read : signed_at line at stop ≡ Whole z next → ReadZ line at stop z next
+  pub signed_read : signed_at line at stop ≡ Ok (z, next) → ReadZ line at stop z next
   signed_read e = go (eqb (get_or line at 0) 45) refl
     where
       go : (t : Bool) → eqb (get_or line at 0) 45 ≡ t → ReadZ line at stop z next
@@ -364,7 +357,7 @@ pub first_at : (line : List ℕ) (at : ℕ) (s : List ℕ) → drop at line ≡ 
 first_at line at s e = ap (λ (k : ℕ). get_or line k 0) (sym (add-zero at)) ∙ sym (get_or-drop at line 0 0) ∙ ap (λ (s : List ℕ). get_or s 0 0) e
 
 pub signed_written : (line : List ℕ) (at stop : ℕ) (z : ℤ) (r : List ℕ) → drop at line ≡ decimal_ℤ z ++ (stop ∷ r) → nat_abs z < 10 ^ 10 → is_digit stop ≡ false
-    → signed_at line at stop ≡ Whole z (at + length (decimal_ℤ z) + 1)
+    → signed_at line at stop ≡ Ok (z, at + length (decimal_ℤ z) + 1)
 unfolding decimal_ℤ
 signed_written line at stop (pos n) r here h e =
     let f : get_or line at 0 ≡ get_or (decimal n ++ (stop ∷ r)) 0 0 = first_at line at _ here in
@@ -375,7 +368,7 @@ signed_written line at stop (negsuc n) r here h e =
     let t : drop (at + 1) line ≡ decimal (suc n) ++ (stop ∷ r) = sym (drop-drop 1 at line) ∙ ap (drop 1) here in
     let m : at + 1 + length (decimal (suc n)) + 1 ≡ at + suc (length (decimal (suc n))) + 1 = omega arith in
     let u : eqb (suc n) 0 ≡ false = ne_eqb (suc n) 0 (λ x. omega arith) in
-    sym (signed_minus line at stop (eq-eqb _ _ f)) ∙ ap (negative (get_or line (at + 1) 0) (at + 1)) (number_written line (at + 1) stop (suc n) r t h e) ∙ rw u (ap (Whole (negsuc n)) m)
+    sym (signed_minus line at stop (eq-eqb _ _ f)) ∙ ap (negative (get_or line (at + 1) 0) (at + 1)) (number_written line (at + 1) stop (suc n) r t h e) ∙ rw u (ap (λ (next : ℕ). Ok (negsuc n, next)) m)
 
 pub signed_rest : (line : List ℕ) (at stop : ℕ) (z : ℤ) (r : List ℕ) → drop at line ≡ decimal_ℤ z ++ (stop ∷ r) → drop (at + length (decimal_ℤ z) + 1) line ≡ r
 signed_rest line at stop z r here = rw (add_assoc at (length (decimal_ℤ z)) 1, ← drop-drop (length (decimal_ℤ z) + 1) at line, here) (drop-append-add (decimal_ℤ z) (stop ∷ r) 1)

@@ -12,29 +12,28 @@ use lib.IntN.{ℤ, pos, negsuc, nat_abs}
 use lib.ListN.{length, get_or, drop, length-append}
 use lib.Signed.{lt_z}
 use borrow.Author.Tests.{leb-true, ltb-true, le-leb, lt-leb, eq-eqb, ne_eqb}
-use Rattle.text.specs.declared.Number.{Number}
-use Rattle.text.specs.declared.Number.TheVariants.{Value, Bad}
-use Rattle.text.specs.Fields.{dash, is_digit, digits, value, plain, digits_most, number_at, positive, with_number}
+use Rattle.text.specs.Fields.{Parsed, dash, is_digit, digits, value, plain, digits_most, number_at, positive, with_number}
 use Rattle.text.specs.Written.{decimal}
 use Rattle.text.specs.Point.{point, decimals_at, whole_most, after_whole, point_at, negated, signed_point_at, last_digits, pointed, pointed_ℤ}
 use Rattle.text.specs.Put.{Put}
 use Rattle.text.proofs.NumberTrip.{zero_one, digit_range, more_digits, number_read, decimal_ten, decimal_digits, text_value, value_small}
 use Rattle.text.proofs.FieldLaws.{some_within}
 use Rattle.text.proofs.PutLaws.{put_none, put_more, put_room}
+use Rattle.std.specs.Prelude.{Ok, Err}
 
 -- ---- decimals, one by one
 module _ (minus : Bool) (line : List ℕ) (stop : ℕ) where
   module _ (at v : ℕ) where
-    pub decimals_zero : (minus && eqb v 0) ≡ true → Bad (at - 1) ≡ decimals_at minus 0 line at v stop
+    pub decimals_zero : (minus && eqb v 0) ≡ true → Err (at - 1) ≡ decimals_at minus 0 line at v stop
     unfolding decimals_at
     decimals_zero e = rw e
 
     module _ (e : (minus && eqb v 0) ≡ false) where
-      pub decimals_stop : get_or line at 0 ≡ stop → Value v (at + 1) ≡ decimals_at minus 0 line at v stop
+      pub decimals_stop : get_or line at 0 ≡ stop → Ok (v, at + 1) ≡ decimals_at minus 0 line at v stop
       unfolding decimals_at
       decimals_stop q = rw (e, eq-eqb (get_or line at 0) stop q)
 
-      pub decimals_other : (get_or line at 0 ≡ stop → ⊥) → Bad at ≡ decimals_at minus 0 line at v stop
+      pub decimals_other : (get_or line at 0 ≡ stop → ⊥) → Err at ≡ decimals_at minus 0 line at v stop
       unfolding decimals_at
       decimals_other q = rw (e, ne_eqb (get_or line at 0) stop q)
 
@@ -42,7 +41,7 @@ module _ (minus : Bool) (line : List ℕ) (stop : ℕ) where
     unfolding decimals_at
     decimals_digit k e = rw e
 
-    pub decimals_none : (k : ℕ) → is_digit (get_or line at 0) ≡ false → decimals_at minus (suc k) line at v stop ≡ Bad at
+    pub decimals_none : (k : ℕ) → is_digit (get_or line at 0) ≡ false → decimals_at minus (suc k) line at v stop ≡ Err at
     unfolding decimals_at
     decimals_none k e = rw e
 
@@ -66,7 +65,7 @@ module _ (minus : Bool) (line : List ℕ) (stop : ℕ) where
         again : decimals_at minus (suc (left - 1)) line p worth stop ≡ decimals_at minus k line at v stop
         again = subst (λ (j : ℕ). decimals_at minus j line p worth stop ≡ decimals_at minus k line at v stop) (omega arith) u.rest
 
-        pub decimals_bad : is_digit (get_or line p 0) ≡ false → Bad p ≡ decimals_at minus k line at v stop
+        pub decimals_bad : is_digit (get_or line p 0) ≡ false → Err p ≡ decimals_at minus k line at v stop
         decimals_bad e = sym (decimals_none p worth (left - 1) e) ∙ again
 
         -- what was read before fits nine digits
@@ -97,14 +96,14 @@ module _ (minus : Bool) (line : List ℕ) (stop : ℕ) where
   unfolding decimals_at
   decimals_lt zero at v h s = go (minus && eqb v 0) (eqb (get_or line at 0) stop)
     where
-      go : (t u : Bool) → with_number (cond t (Bad (at - 1)) (cond u (Value v (at + 1)) (Bad at))) 0 (λ w next. w) < 10 ^ 10
+      go : (t u : Bool) → with_number (cond t (Err (at - 1)) (cond u (Ok (v, at + 1)) (Err at))) 0 (λ w next. w) < 10 ^ 10
       go true u = lit< tt
       go false true = s
       go false false = lit< tt
   decimals_lt (suc k) at v h s = go (decimals_lt k (at + 1) (v * 10 + (get_or line at 0 - 48))) (is_digit (get_or line at 0)) refl
     where
       go : (k ≤ 10 → v * 10 + (get_or line at 0 - 48) < 10 ^ (10 - k) → with_number (decimals_at minus k line (at + 1) (v * 10 + (get_or line at 0 - 48)) stop) 0 (λ w next. w) < 10 ^ 10)
-          → (t : Bool) → is_digit (get_or line at 0) ≡ t → with_number (cond t (decimals_at minus k line (at + 1) (v * 10 + (get_or line at 0 - 48)) stop) (Bad at)) 0 (λ w next. w) < 10 ^ 10
+          → (t : Bool) → is_digit (get_or line at 0) ≡ t → with_number (cond t (decimals_at minus k line (at + 1) (v * 10 + (get_or line at 0 - 48)) stop) (Err at)) 0 (λ w next. w) < 10 ^ 10
       go ih false e = lit< tt
       go ih true e =
           let r = digit_range (get_or line at 0) e in
@@ -121,24 +120,24 @@ decimal_under v h =
     let n : 0 + length (decimal v) ≡ length (decimal v) = omega arith in
     subst (λ (x : ℕ). x < 10 ^ length (decimal v)) w (subst (λ (x : ℕ). value 0 (decimal v) < 10 ^ x) n s)
 
-pub bad_after : (line : List ℕ) (at stop place : ℕ) → number_at line at stop ≡ Bad place → at ≤ place
+pub bad_after : (line : List ℕ) (at stop place : ℕ) → number_at line at stop ≡ Err place → at ≤ place
 unfolding number_at
 bad_after line at stop place e = let d = digits (drop at line) in go (plain d && (ltb (length d) (length (drop at line)) && eqb (get_or (drop at line) (length d) 0) stop)) (value 0 d) (at + length d + 1) (cond (ltb 1 (length d) && eqb (get_or d 0 0) 48) 1 (min (length d) digits_most)) e
   where
-    go : (t : Bool) (v n m : ℕ) → cond t (Value v n) (Bad (at + m)) ≡ Bad place → at ≤ place
+    go : (t : Bool) (v n m : ℕ) → ◌≡◌ {A = Parsed ℕ} (cond t (Ok (v, n)) (Err (at + m))) (Err place) → at ≤ place
     go true v n m e = absurd (zero_one cc)
     go false v n m e = let q : at + m ≡ place = cc in omega arith
 
 module _ (minus : Bool) (k : ℕ) (line : List ℕ) (at stop : ℕ) where
-  pub point_bad : (place : ℕ) → number_at line at point ≡ Bad place → Bad (min place (at + whole_most k)) ≡ point_at minus k line at stop
+  pub point_bad : (place : ℕ) → number_at line at point ≡ Err place → Err (min place (at + whole_most k)) ≡ point_at minus k line at stop
   unfolding point_at
   point_bad place q = rw q
 
-  module _ (v next : ℕ) (q : number_at line at point ≡ Value v next) where
+  module _ (v next : ℕ) (q : number_at line at point ≡ Ok (v, next)) where
     pub whole_after : (at < next) × (next ≤ length line)
     whole_after = let r = number_read line at point v next (sym q) in (omega (arith, r.after), r.within)
 
-    pub point_long : whole_most k + 1 < next - at → Bad (at + whole_most k) ≡ point_at minus k line at stop
+    pub point_long : whole_most k + 1 < next - at → Err (at + whole_most k) ≡ point_at minus k line at stop
     unfolding point_at
     point_long h = rw (q, lt-leb (next - at) (whole_most k + 1) h)
 
@@ -158,14 +157,14 @@ module _ (minus : Bool) (k : ℕ) (line : List ℕ) (at stop : ℕ) where
   unfolding point_at
   point_lt h = go (number_at line at point) refl
     where
-      by : (v next : ℕ) → number_at line at point ≡ Value v next → (t : Bool) → leb (next - at) (whole_most k + 1) ≡ t
-          → with_number (cond t (decimals_at minus k line next v stop) (Bad (at + whole_most k))) 0 (λ v next. v) < 10 ^ 10
+      by : (v next : ℕ) → number_at line at point ≡ Ok (v, next) → (t : Bool) → leb (next - at) (whole_most k + 1) ≡ t
+          → with_number (cond t (decimals_at minus k line next v stop) (Err (at + whole_most k))) 0 (λ v next. v) < 10 ^ 10
       by v next q false e = lit< tt
       by v next q true e = decimals_lt minus line stop k next v (omega arith) (whole_small v next q (leb-true (next - at) (whole_most k + 1) e))
 
-      go : (n : Number) → number_at line at point ≡ n → with_number (after_whole minus k line at stop n) 0 (λ v next. v) < 10 ^ 10
-      go (Bad place) q = lit< tt
-      go (Value v next) q = by v next q (leb (next - at) (whole_most k + 1)) refl
+      go : (n : Parsed ℕ) → number_at line at point ≡ n → with_number (after_whole minus k line at stop n) 0 (λ v next. v) < 10 ^ 10
+      go (Err place) q = lit< tt
+      go (Ok (v, next)) q = by v next q (leb (next - at) (whole_most k + 1)) refl
 
 module _ (k : ℕ) (line : List ℕ) (at stop : ℕ) where
   pub signed_point_plus : eqb (get_or line at 0) 45 ≡ false → positive (point_at false k line at stop) ≡ signed_point_at k line at stop

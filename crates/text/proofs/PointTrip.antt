@@ -13,17 +13,15 @@ use lib.IntN.{ℤ, pos, negsuc, nat_abs}
 use lib.ListN.{length, get_or, drop}
 use lib.Seq.{drop-cons, drop-drop, drop-append-add}
 use borrow.Author.Tests.{leb-true, eqb-true, eqb-false, eq-eqb, ne_eqb}
-use Rattle.text.specs.declared.Number.{Number}
-use Rattle.text.specs.declared.Number.TheVariants.{Value, Bad}
-use Rattle.text.specs.declared.Signed.TheVariants.{Whole}
-use Rattle.text.specs.Fields.{is_digit, number_at, positive}
+use Rattle.text.specs.Fields.{Parsed, is_digit, number_at, positive}
 use Rattle.text.specs.Written.{decimal}
 use Rattle.text.specs.Point.{point, decimals_at, whole_most, after_whole, point_at, negated, signed_point_at, last_digits, pointed, pointed_ℤ}
-use Rattle.text.proofs.NumberTrip.{zero_one, digit_range, number_read, number_written, number_rest, value_is, no_value, whole_is, no_whole, first_digit, first_at, decimal_digits, decimal_some, is_digit_lem}
+use Rattle.text.proofs.NumberTrip.{zero_one, digit_range, number_read, number_written, number_rest, value_is, no_value, first_digit, first_at, decimal_digits, decimal_some, is_digit_lem}
 use Rattle.text.proofs.FieldLaws.{some_within}
 use Rattle.text.proofs.LineLaws.{HasNoFeed}
 use Rattle.text.proofs.WrittenLaws.{decimal_no_feed, decimal_long}
 use Rattle.text.proofs.PointLaws.{decimals_lt, whole_small, point_goes, signed_point_plus, signed_point_minus, shift_none, shift_one, pointed_long}
+use Rattle.std.specs.Prelude.{Ok, Err}
 
 -- ---- the decimals
 -- k decimals that were read after digits worth w
@@ -35,11 +33,11 @@ pub record DecimalsRead (minus : Bool) (k : ℕ) (line : List ℕ) (at w stop v 
   pub after : next ≡ at + k + 1
 
 module _ (minus : Bool) (line : List ℕ) (stop : ℕ) (some : 0 < stop) where
-  pub decimals_read : (k at w v next : ℕ) → decimals_at minus k line at w stop ≡ Value v next → DecimalsRead minus k line at w stop v next
+  pub decimals_read : (k at w v next : ℕ) → decimals_at minus k line at w stop ≡ Ok (v, next) → DecimalsRead minus k line at w stop v next
   unfolding decimals_at last_digits
   decimals_read zero at w v next e = go (minus && eqb w 0) refl (eqb (get_or line at 0) stop) refl e
     where
-      go : (t : Bool) → (minus && eqb w 0) ≡ t → (u : Bool) → eqb (get_or line at 0) stop ≡ u → cond t (Bad (at - 1)) (cond u (Value w (at + 1)) (Bad at)) ≡ Value v next → DecimalsRead minus zero line at w stop v next
+      go : (t : Bool) → (minus && eqb w 0) ≡ t → (u : Bool) → eqb (get_or line at 0) stop ≡ u → ◌≡◌ {A = Parsed ℕ} (cond t (Err (at - 1)) (cond u (Ok (w, at + 1)) (Err at))) (Ok (v, next)) → DecimalsRead minus zero line at w stop v next
       go true q u r e = absurd (no_value (at - 1) v next e)
       go false q false r e = absurd (no_value at v next e)
       go false q true r e =
@@ -67,8 +65,8 @@ module _ (minus : Bool) (line : List ℕ) (stop : ℕ) (some : 0 < stop) where
               positive_of (suc x) n = omega arith
   decimals_read (suc k) at w v next e = go (decimals_read k (at + 1) (w * 10 + (get_or line at 0 - 48)) v next) (is_digit (get_or line at 0)) refl e
     where
-      go : (decimals_at minus k line (at + 1) (w * 10 + (get_or line at 0 - 48)) stop ≡ Value v next → DecimalsRead minus k line (at + 1) (w * 10 + (get_or line at 0 - 48)) stop v next)
-          → (t : Bool) → is_digit (get_or line at 0) ≡ t → cond t (decimals_at minus k line (at + 1) (w * 10 + (get_or line at 0 - 48)) stop) (Bad at) ≡ Value v next → DecimalsRead minus (suc k) line at w stop v next
+      go : (decimals_at minus k line (at + 1) (w * 10 + (get_or line at 0 - 48)) stop ≡ Ok (v, next) → DecimalsRead minus k line (at + 1) (w * 10 + (get_or line at 0 - 48)) stop v next)
+          → (t : Bool) → is_digit (get_or line at 0) ≡ t → cond t (decimals_at minus k line (at + 1) (w * 10 + (get_or line at 0 - 48)) stop) (Err at) ≡ Ok (v, next) → DecimalsRead minus (suc k) line at w stop v next
       go ih false q e = absurd (no_value at v next e)
       go ih true q e =
           let r = ih e in
@@ -94,13 +92,13 @@ module _ (minus : Bool) (line : List ℕ) (stop n : ℕ) (above : minus ≡ true
       go true h = ne_eqb n 0 (λ e. omega (arith, h refl))
       go false h = refl
 
-  pub decimals_written : (k at : ℕ) → drop at line ≡ last_digits k n ++ (stop ∷ r) → decimals_at minus k line at (n / 10 ^ k) stop ≡ Value n (at + k + 1)
+  pub decimals_written : (k at : ℕ) → drop at line ≡ last_digits k n ++ (stop ∷ r) → decimals_at minus k line at (n / 10 ^ k) stop ≡ Ok (n, at + k + 1)
   unfolding decimals_at last_digits
   decimals_written zero at here =
       let w = sym (shift_none n) in
       let b : get_or line at 0 ≡ stop = first_at line at _ here in
       let m : at + 1 ≡ at + 0 + 1 = omega arith in
-      rw (w, sure, eq-eqb (get_or line at 0) stop b) (ap (Value n) m)
+      rw (w, sure, eq-eqb (get_or line at 0) stop b) (ap (λ (next : ℕ). Ok (n, next)) m)
   decimals_written (suc k) at here =
       let d = n / 10 ^ k % 10 in
       let small : n / 10 ^ k % 10 < 10 = omega arith in
@@ -109,7 +107,7 @@ module _ (minus : Bool) (line : List ℕ) (stop n : ℕ) (above : minus ≡ true
       let rest : drop (at + 1) line ≡ last_digits k n ++ (stop ∷ r) = sym (drop-drop 1 at line) ∙ ap (drop 1) here in
       let w : n / 10 ^ suc k * 10 + (get_or line at 0 - 48) ≡ n / 10 ^ k = ap₂ (λ (x y : ℕ). x * 10 + (y - 48)) (sym (shift_one n k)) b ∙ omega arith in
       let m : at + 1 + k + 1 ≡ at + suc k + 1 = omega arith in
-      rw (digit, w) (decimals_written k (at + 1) rest ∙ ap (Value n) m)
+      rw (digit, w) (decimals_written k (at + 1) rest ∙ ap (λ (next : ℕ). Ok (n, next)) m)
 
 -- ---- the whole number
 pub record PointRead (minus : Bool) (k : ℕ) (line : List ℕ) (at stop v next : ℕ) : Type 0 where
@@ -119,11 +117,11 @@ pub record PointRead (minus : Bool) (k : ℕ) (line : List ℕ) (at stop v next 
   pub within : next ≤ length line
 
 module _ (minus : Bool) (k : ℕ) (few : k < 10) (line : List ℕ) (at stop : ℕ) (some : 0 < stop) (v next : ℕ) where
-  pub point_read : point_at minus k line at stop ≡ Value v next → PointRead minus k line at stop v next
+  pub point_read : point_at minus k line at stop ≡ Ok (v, next) → PointRead minus k line at stop v next
   unfolding point_at pointed
   point_read e = go (number_at line at point) refl e
     where
-      by : (w m : ℕ) → number_at line at point ≡ Value w m → (t : Bool) → leb (m - at) (whole_most k + 1) ≡ t → cond t (decimals_at minus k line m w stop) (Bad (at + whole_most k)) ≡ Value v next → PointRead minus k line at stop v next
+      by : (w m : ℕ) → number_at line at point ≡ Ok (w, m) → (t : Bool) → leb (m - at) (whole_most k + 1) ≡ t → cond t (decimals_at minus k line m w stop) (Err (at + whole_most k)) ≡ Ok (v, next) → PointRead minus k line at stop v next
       by w m q false h e = absurd (no_value (at + whole_most k) v next e)
       by w m q true h e =
           let fits = whole_small minus k line at stop w m q (leb-true _ _ h) in
@@ -137,9 +135,9 @@ module _ (minus : Bool) (k : ℕ) (few : k < 10) (line : List ℕ) (at stop : �
             within = d.within;
           }
 
-      go : (n : Number) → number_at line at point ≡ n → after_whole minus k line at stop n ≡ Value v next → PointRead minus k line at stop v next
-      go (Bad place) q e = absurd (no_value _ v next e)
-      go (Value w m) q e = by w m q (leb (m - at) (whole_most k + 1)) refl e
+      go : (n : Parsed ℕ) → number_at line at point ≡ n → after_whole minus k line at stop n ≡ Ok (v, next) → PointRead minus k line at stop v next
+      go (Err place) q e = absurd (no_value _ v next e)
+      go (Ok (w, m)) q e = by w m q (leb (m - at) (whole_most k + 1)) refl e
 
 -- a number has no more digits before the point than there may be
 whole_few : (k n : ℕ) → k < 10 → n < 10 ^ 10 → length (decimal (n / 10 ^ k)) ≤ whole_most k
@@ -157,16 +155,16 @@ module _ (minus : Bool) (k : ℕ) (few : k < 10) (line : List ℕ) (at stop n : 
   unfolding pointed
   apart = here ∙ append_assoc (decimal (n / 10 ^ k)) (point ∷ last_digits k n) (stop ∷ r)
 
-  pub point_written : n < 10 ^ 10 → (minus ≡ true → 0 < n) → point_at minus k line at stop ≡ Value n (at + length (pointed k n) + 1)
+  pub point_written : n < 10 ^ 10 → (minus ≡ true → 0 < n) → point_at minus k line at stop ≡ Ok (n, at + length (pointed k n) + 1)
   point_written small above =
       let w = n / 10 ^ k in
       let le : w ≤ n = div-le_self n (10 ^ k) in
       let m = at + length (decimal w) + 1 in
-      let q : number_at line at point ≡ Value w m = number_written line at point w (last_digits k n ++ (stop ∷ r)) apart (omega arith) refl in
+      let q : number_at line at point ≡ Ok (w, m) = number_written line at point w (last_digits k n ++ (stop ∷ r)) apart (omega arith) refl in
       let rest : drop m line ≡ last_digits k n ++ (stop ∷ r) = number_rest line at point w (last_digits k n ++ (stop ∷ r)) apart in
       let long : m - at ≤ whole_most k + 1 = omega (arith, whole_few k n few small) in
       let end : m + k + 1 ≡ at + length (pointed k n) + 1 = omega (arith, pointed_long k n) in
-      sym (point_goes minus k line at stop w m q long) ∙ decimals_written minus line stop n above r k m rest ∙ ap (Value n) end
+      sym (point_goes minus k line at stop w m q long) ∙ decimals_written minus line stop n above r k m rest ∙ ap (λ (next : ℕ). Ok (n, next)) end
 
   pub point_rest : drop (at + length (pointed k n) + 1) line ≡ r
   point_rest = rw (add_assoc at (length (pointed k n)) 1, ← drop-drop (length (pointed k n) + 1) at line, here) (drop-append-add (pointed k n) (stop ∷ r) 1)
@@ -178,21 +176,21 @@ pub record PointReadZ (k : ℕ) (line : List ℕ) (at stop : ℕ) (z : ℤ) (nex
   pub within : next ≤ length line
 
 module _ (k : ℕ) (few : k < 10) (line : List ℕ) (at stop : ℕ) (some : 0 < stop) (z : ℤ) (next : ℕ) where
-  pub plus_read : (n : Number) → point_at false k line at stop ≡ n → positive n ≡ Whole z next → PointReadZ k line at stop z next
+  pub plus_read : (n : Parsed ℕ) → point_at false k line at stop ≡ n → positive n ≡ Ok (z, next) → PointReadZ k line at stop z next
   unfolding pointed_ℤ
-  plus_read (Bad place) q e = absurd (no_whole place z next e)
-  plus_read (Value v m) q e =
-      let w = whole_is z (pos v) m next e in
+  plus_read (Err place) q e = absurd (no_value place z next e)
+  plus_read (Ok (v, m)) q e =
+      let w = value_is (pos v) z m next e in
       let r = point_read false k few line at stop some v m q in
       subst (λ (y : ℤ). PointReadZ k line at stop y next) w.0
       (record { here = r.here ∙ ap (λ (y : ℕ). pointed k v ++ (stop ∷ drop y line)) w.1; small = r.small; within = omega (arith, r.within, w.1) })
 
-  minus-read : get_or line at 0 ≡ 45 → (n : Number) → point_at true k line (at + 1) stop ≡ n → negated n ≡ Whole z next → PointReadZ k line at stop z next
+  minus-read : get_or line at 0 ≡ 45 → (n : Parsed ℕ) → point_at true k line (at + 1) stop ≡ n → negated n ≡ Ok (z, next) → PointReadZ k line at stop z next
   unfolding pointed_ℤ
-  minus-read h (Bad place) q e = absurd (no_whole place z next e)
-  minus-read h (Value zero m) q e = absurd (zero_one (omega (arith, (point_read true k few line (at + 1) stop some zero m q).above refl)))
-  minus-read h (Value (suc v) m) q e =
-      let w = whole_is z (negsuc v) m next e in
+  minus-read h (Err place) q e = absurd (no_value place z next e)
+  minus-read h (Ok (zero, m)) q e = absurd (zero_one (omega (arith, (point_read true k few line (at + 1) stop some zero m q).above refl)))
+  minus-read h (Ok (suc v, m)) q e =
+      let w = value_is (negsuc v) z m next e in
       let r = point_read true k few line (at + 1) stop some (suc v) m q in
       let l : at < length line = some_within line at (omega arith) in
       subst (λ (y : ℤ). PointReadZ k line at stop y next) w.0
@@ -202,7 +200,7 @@ module _ (k : ℕ) (few : k < 10) (line : List ℕ) (at stop : ℕ) (some : 0 < 
         within = omega (arith, r.within, w.1);
       })
 
-  pub signed_point_read : signed_point_at k line at stop ≡ Whole z next → PointReadZ k line at stop z next
+  pub signed_point_read : signed_point_at k line at stop ≡ Ok (z, next) → PointReadZ k line at stop z next
   signed_point_read e = go (eqb (get_or line at 0) 45) refl
     where
       go : (t : Bool) → eqb (get_or line at 0) 45 ≡ t → PointReadZ k line at stop z next
@@ -217,7 +215,7 @@ pointed_first k n r =
     ∙ first_digit (decimal (n / 10 ^ k)) (point ∷ (last_digits k n ++ r)) (decimal_digits (n / 10 ^ k)) (decimal_some (n / 10 ^ k))
 
 pub signed_point_written : (k : ℕ) → k < 10 → (line : List ℕ) (at stop : ℕ) (z : ℤ) (r : List ℕ) → drop at line ≡ pointed_ℤ k z ++ (stop ∷ r) → nat_abs z < 10 ^ 10
-    → signed_point_at k line at stop ≡ Whole z (at + length (pointed_ℤ k z) + 1)
+    → signed_point_at k line at stop ≡ Ok (z, at + length (pointed_ℤ k z) + 1)
 unfolding pointed_ℤ
 signed_point_written k few line at stop (pos n) r here h =
     let g : eqb (get_or line at 0) 45 ≡ false = ap (λ (b : ℕ). eqb b 45) (first_at line at _ here) ∙ pointed_first k n (stop ∷ r) in
@@ -226,7 +224,7 @@ signed_point_written k few line at stop (negsuc n) r here h =
     let f : get_or line at 0 ≡ 45 = first_at line at _ here in
     let t : drop (at + 1) line ≡ pointed k (suc n) ++ (stop ∷ r) = sym (drop-drop 1 at line) ∙ ap (drop 1) here in
     let m : at + 1 + length (pointed k (suc n)) + 1 ≡ at + suc (length (pointed k (suc n))) + 1 = omega arith in
-    sym (signed_point_minus k line at stop (eq-eqb _ _ f)) ∙ ap negated (point_written true k few line (at + 1) stop (suc n) r t h (λ e. omega arith)) ∙ ap (Whole (negsuc n)) m
+    sym (signed_point_minus k line at stop (eq-eqb _ _ f)) ∙ ap negated (point_written true k few line (at + 1) stop (suc n) r t h (λ e. omega arith)) ∙ ap (λ (next : ℕ). Ok (negsuc n, next)) m
 
 pub signed_point_rest : (k : ℕ) (line : List ℕ) (at stop : ℕ) (z : ℤ) (r : List ℕ) → drop at line ≡ pointed_ℤ k z ++ (stop ∷ r) → drop (at + length (pointed_ℤ k z) + 1) line ≡ r
 signed_point_rest k line at stop z r here = rw (add_assoc at (length (pointed_ℤ k z)) 1, ← drop-drop (length (pointed_ℤ k z) + 1) at line, here) (drop-append-add (pointed_ℤ k z) (stop ∷ r) 1)

@@ -3,7 +3,7 @@ ghost use Rattle.std.specs.Prelude.{◌≡◌, ◌&&◌, ◌||◌, ◌<◌, ◌^
 ghost use Rattle.text.specs.Class.{class_of};
 ghost use Rattle.text.specs.Fields.{dash, digits_most, with_number, positive, negative, number_at, signed_at, share_at};
 
-use crate::{Class, Number, Signed};
+use crate::{Class, Parsed};
 
 // What a byte of a field is.
 pub fn class_of(byte: u8) -> Class
@@ -19,44 +19,34 @@ pub fn class_of(byte: u8) -> Class
 }
 
 // The number at a place, ended by `stop`: 1 to 10 digits, no leading zero except "0" itself.
-pub fn number_at(line: &[u8], at: usize, stop: u8) -> Number
+pub fn number_at(line: &[u8], at: usize, stop: u8) -> Parsed<u64>
     ensures { result ≡ number_at line.now at stop }
 {
-    let mut i = at;
     let mut v: u64 = 0;
-    while i < line.len() {
+    for i in at..line.len() {
         let Class::Digit(d) = class_of(line[i]) else {
-            if at < i {
-                if line[i] == stop {
-                    return Number::Value(v, i + 1);
-                }
+            if at < i && line[i] == stop {
+                return Ok((v, i + 1));
             }
-            return Number::Bad(i);
+            return Err(i);
         };
         if full(i - at, v) {
-            return Number::Bad(i);
+            return Err(i);
         }
         v = v * 10 + d;
-        i += 1;
     }
-    Number::Bad(i)
+    Err(at.max(line.len()))
 }
 
 // No digit may follow those that were read: they are ten, or "0".
 fn full(read: usize, v: u64) -> bool
     ensures { result ≡ (leb digits_most read || (ltb 0 read && eqb v 0)) }
 {
-    if 10 <= read {
-        return true;
-    }
-    if 0 < read {
-        return v == 0;
-    }
-    false
+    10 <= read || (0 < read && v == 0)
 }
 
 // The signed number at a place: a number, or a minus before a number that is not 0.
-pub fn signed_at(line: &[u8], at: usize, stop: u8) -> Signed
+pub fn signed_at(line: &[u8], at: usize, stop: u8) -> Parsed<i64>
     ensures { result ≡ signed_at line.now at stop }
 {
     if has_minus(line, at) {
@@ -66,14 +56,14 @@ pub fn signed_at(line: &[u8], at: usize, stop: u8) -> Signed
 }
 
 // R at a place: a number, or "-" alone, which is kept as -1.
-pub fn share_at(line: &[u8], at: usize, stop: u8) -> Signed
+pub fn share_at(line: &[u8], at: usize, stop: u8) -> Parsed<i64>
     ensures { result ≡ share_at line.now at stop }
 {
     if has_minus(line, at) {
         if byte_at(line, at + 1) == stop {
-            return Signed::Whole(-1, at + 2);
+            return Ok((-1, at + 2));
         }
-        return Signed::Wrong(at + 1);
+        return Err(at + 1);
     }
     plus(number_at(line, at, stop))
 }
@@ -81,47 +71,33 @@ pub fn share_at(line: &[u8], at: usize, stop: u8) -> Signed
 pub fn has_minus(line: &[u8], at: usize) -> bool
     ensures { result ≡ eqb (get_or line.now at 0) dash }
 {
-    let Class::Minus = class_of(byte_at(line, at)) else {
-        return false;
-    };
-    true
+    byte_at(line, at) == b'-'
 }
 
 // The byte at a place, 0 past the line's end.
 pub fn byte_at(line: &[u8], at: usize) -> u8
     ensures { result ≡ get_or line.now at 0 }
 {
-    if at < line.len() { line[at] } else { 0 }
+    line.get(at).copied().unwrap_or(0)
 }
 
 // A number as a signed one. One that was read is below 10^10.
-pub fn plus(number: Number) -> Signed
+pub fn plus(number: Parsed<u64>) -> Parsed<i64>
     requires { with_number number 0 (λ v next. v) < 10 ^ 10 }
     ensures { result ≡ positive number }
 {
-    match number {
-        Number::Value(v, next) => Signed::Whole(v as i64, next),
-        Number::Bad(place) => Signed::Wrong(place),
-    }
+    let (v, next) = number?;
+    Ok((v as i64, next))
 }
 
 // What a minus makes of the number after it, which begins at place `at` with the byte `first`: a zero there is itself the bad byte.
-fn minus(first: u8, at: usize, number: Number) -> Signed
+fn minus(first: u8, at: usize, number: Parsed<u64>) -> Parsed<i64>
     requires { with_number number 0 (λ v next. v) < 10 ^ 10 }
     ensures { result ≡ negative first at number }
 {
     match number {
-        Number::Value(v, next) => {
-            if v == 0 {
-                return Signed::Wrong(at);
-            }
-            Signed::Whole(0 - v as i64, next)
-        }
-        Number::Bad(place) => {
-            if first == b'0' {
-                return Signed::Wrong(at);
-            }
-            Signed::Wrong(place)
-        }
+        Ok((0, _)) => Err(at),
+        Ok((v, next)) => Ok((-(v as i64), next)),
+        Err(place) => Err(if first == b'0' { at } else { place }),
     }
 }

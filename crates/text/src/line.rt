@@ -16,25 +16,17 @@ fn line_end(text: &[u8], p: usize) -> usize
     requires { p ≤ length text.now }
     ensures { result ≡ after text.now p }
 {
-    let mut i = p;
-    while i < text.len() {
+    for i in p..text.len() {
         if text[i] == b'\n' {
             return i + 1;
         }
-        i += 1;
     }
-    i
+    text.len()
 }
 
 // Whether a line begins with its letter and the byte that parts its fields.
 pub fn headed(line: &[u8], letter: u8, sep: u8) -> bool
     ensures { result ≡ headed letter sep line.now }
 {
-    if line.len() < 2 {
-        return false;
-    }
-    if line[0] == letter {
-        return line[1] == sep;
-    }
-    false
+    line.starts_with(&[letter, sep])
 }

@@ -6,10 +6,10 @@ ghost use Rattle.text.specs.Put.{Put};
 
 use crate::field::{byte_at, class_of, has_minus, number_at, plus};
 use crate::put::{digit, digit_count, magnitude, put_byte, put_number};
-use crate::{Class, Number, Signed};
+use crate::{Class, Parsed};
 
 // The signed number at a place, ended by `stop`.
-pub fn signed_point_at(k: usize, line: &[u8], at: usize, stop: u8) -> Signed
+pub fn signed_point_at(k: usize, line: &[u8], at: usize, stop: u8) -> Parsed<i64>
     requires { k < digits_most }
     ensures { result ≡ signed_point_at k line.now at stop }
 {
@@ -20,72 +20,54 @@ pub fn signed_point_at(k: usize, line: &[u8], at: usize, stop: u8) -> Signed
 }
 
 // A number as the one below 0. One that was read is below 10^10.
-fn negated(number: Number) -> Signed
+fn negated(number: Parsed<u64>) -> Parsed<i64>
     requires { with_number number 0 (λ v next. v) < 10 ^ 10 }
     ensures { result ≡ negated number }
 {
-    match number {
-        Number::Value(v, next) => Signed::Whole(0 - v as i64, next),
-        Number::Bad(place) => Signed::Wrong(place),
-    }
+    let (v, next) = number?;
+    Ok((-(v as i64), next))
 }
 
 // The number at a place, ended by `stop`; where a minus stands before it, it is not 0.
-pub fn point_at(minus: bool, k: usize, line: &[u8], at: usize, stop: u8) -> Number
+pub fn point_at(minus: bool, k: usize, line: &[u8], at: usize, stop: u8) -> Parsed<u64>
     requires { k < digits_most }
     ensures { result ≡ point_at minus k line.now at stop }
 {
     let most = 10 - k;
     match number_at(line, at, b'.') {
-        Number::Value(v, next) => {
-            if next - at <= most + 1 {
-                return decimals_at(minus, k, line, next, v, stop);
-            }
-            Number::Bad(at + most)
-        }
-        Number::Bad(place) => Number::Bad(capped(at, most, place)),
+        Ok((v, next)) if next - at <= most + 1 => decimals_at(minus, k, line, next, v, stop),
+        Ok(_) => Err(at + most),
+        Err(place) => Err(at + most.min(place - at)),
     }
-}
-
-// A place, or the one after `most` digits where that comes first.
-fn capped(at: usize, most: usize, place: usize) -> usize
-    requires { at ≤ place }
-    ensures { result ≡ min place (at + most) }
-{
-    if place - at <= most { place } else { at + most }
 }
 
 // Exactly k decimals from a place on, after digits worth v, and then `stop`.
-fn decimals_at(minus: bool, k: usize, line: &[u8], at: usize, v: u64, stop: u8) -> Number
+fn decimals_at(minus: bool, k: usize, line: &[u8], at: usize, v: u64, stop: u8) -> Parsed<u64>
     requires { (k < digits_most) × (v < 10 ^ (digits_most - k)) × (0 < at) × (at ≤ length line.now) }
     ensures { result ≡ decimals_at minus k line.now at v stop }
 {
-    let mut p = at;
     let mut worth = v;
-    let mut left = k;
-    while 0 < left {
+    for p in at..at + k {
         let Class::Digit(d) = class_of(byte_at(line, p)) else {
-            return Number::Bad(p);
+            return Err(p);
         };
         worth = worth * 10 + d;
-        p += 1;
-        left -= 1;
     }
-    ended(minus, line, p, worth, stop)
+    ended(minus, line, at + k, worth, stop)
 }
 
 // What follows the last decimal.
-fn ended(minus: bool, line: &[u8], at: usize, v: u64, stop: u8) -> Number
+fn ended(minus: bool, line: &[u8], at: usize, v: u64, stop: u8) -> Parsed<u64>
     requires { (0 < at) × (at ≤ length line.now) }
     ensures { result ≡ decimals_at minus 0 line.now at v stop }
 {
     if minus & (v == 0) {
-        return Number::Bad(at - 1);
+        return Err(at - 1);
     }
     if byte_at(line, at) == stop {
-        return Number::Value(v, at + 1);
+        return Ok((v, at + 1));
     }
-    Number::Bad(at)
+    Err(at)
 }
 
 // Writes z with its point.
@@ -117,9 +99,7 @@ fn put_decimals(k: usize, n: u64, out: &mut [u8], at: usize) -> usize
     ensures { Put (last_digits k n) at out.old result out.new }
 {
     let mut next = at;
-    let mut after = k;
-    while 0 < after {
-        after -= 1;
+    for after in (0..k).rev() {
         next = put_byte(digit(shifted(n, after) % 10), out, next);
     }
     next
@@ -130,7 +110,7 @@ fn shifted(n: u64, k: usize) -> u64
     ensures { result ≡ n / 10 ^ k }
 {
     let mut rest = n;
-    for _j in 0..k {
+    for _ in 0..k {
         rest /= 10;
     }
     rest

@@ -9,13 +9,7 @@ ghost use Rattle.text.specs.Put.{Put};
 pub fn digit_count(n: u64) -> usize
     ensures { result ≡ length (decimal n) }
 {
-    let mut rest = n;
-    let mut count: usize = 1;
-    while 10 <= rest {
-        rest /= 10;
-        count += 1;
-    }
-    count
+    n.max(1).ilog10() as usize + 1
 }
 
 // How many bytes z has, its minus among them.
@@ -26,16 +20,11 @@ pub fn signed_length(z: i64) -> usize
     if z < 0 { count + 1 } else { count }
 }
 
-// z without its sign. It is brought one nearer to 0 before the sign is turned: the smallest i64 has no opposite.
+// z without its sign.
 pub fn magnitude(z: i64) -> u64
     ensures { result ≡ nat_abs z }
 {
-    if z < 0 {
-        let less_one = -(z + 1);
-        less_one as u64 + 1
-    } else {
-        z as u64
-    }
+    z.unsigned_abs()
 }
 
 pub fn put_byte(b: u8, out: &mut [u8], at: usize) -> usize

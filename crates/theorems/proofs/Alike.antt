@@ -1,9 +1,9 @@
 -- Two setups come to the same (`same_outcome`) where each row that takes part in one is covered by a row that takes part in the other: the same factors, and a margin no
 -- higher.
 -- It knows of no tables, profiles or states: what E14 says of them is an instance (`Shortening.antt`).
+use Rattle.std.specs.Prelude.{None, Ok, Option, Some}
 use mathlib.Core.Path.{◌≡◌, refl, sym, ap, ap₂, subst, ◌∙◌}
 use mathlib.Core.Bool.{Bool, true, false, not, ◌&&◌, true≢false, false≢true}
-use mathlib.Core.Option.{Option, none, some}
 use Prim.Native.Nat.{ℕ, ◌≤◌, ◌<◌}
 use native.Mathlib.Omega.{arith}
 use lib.Dec.{ltb}
@@ -15,7 +15,7 @@ use Rattle.numbers.specs.Below.{first_from, given, some_below}
 use Rattle.numbers.proofs.IntLaws.{diff, diffs, zarith, lt_z_true, lt_lt_z}
 use Rattle.numbers.proofs.BelowLaws.{first_cong}
 use Rattle.numbers.proofs.TestLaws.{and_both, both_and, true_false, some_false, false_some}
-use Rattle.refusals.specs.Refusals.{Judged, passed, unless, refuse_at, refuse_first, no_row, unlimited, below_zero}
+use Rattle.refusals.specs.Refusals.{Judged, unless, refuse_at, refuse_first, no_row, unlimited, below_zero}
 use Rattle.rounds.proofs.Rounds.{extracts}
 use Rattle.theorems.proofs.SameRounds as rows
 use Rattle.setup.specs.Setup.{Setup, grid_by, begin_by, free_by, low_by, judge_by, end_by, outcome_by}
@@ -183,16 +183,16 @@ module _ (s s' : Setup) (a : Alike s s') where
   -- the judgements, by the three tests
   module _ {A : Type 0} (like : A → A → Type 0) (x x' : A) (l : like x x') where
     abbrev chain : Bool → (o q : Option ℕ) → A → Judged A
-    chain k o q x = unless k no_row (refuse_at o unlimited (refuse_at q below_zero (passed x)))
+    chain k o q x = unless k no_row (refuse_at o unlimited (refuse_at q below_zero (Ok x)))
 
     both : (k : Bool) (o q q' : Option ℕ) → given q' ≡ given q → Both like (chain k o q x) (chain k o q' x')
     unfolding unless refuse_at given
     both false o q q' e = record { number = refl; place = λ n. refl }
-    both true (some b) q q' e = record { number = refl; place = λ n. refl }
-    both true none none none e = l
-    both true none none (some j) e = absurd (true≢false e)
-    both true none (some i) none e = absurd (false≢true e)
-    both true none (some i) (some j) e = record { number = refl; place = λ n. absurd (n refl) }
+    both true (Some b) q q' e = record { number = refl; place = λ n. refl }
+    both true None None None e = l
+    both true None None (Some j) e = absurd (true≢false e)
+    both true None (Some i) None e = absurd (false≢true e)
+    both true None (Some i) (Some j) e = record { number = refl; place = λ n. absurd (n refl) }
 
     pub same_judged : Both like (judge_by s x) (judge_by s' x')
     unfolding judge_by refuse_first

@@ -1,5 +1,6 @@
 -- Both layouts of the factors, by zone and by border, give equal p, raises, margins and rounds (promises: specs/ByBorder), in the table of p that `extract` and
 -- `extract_marked` leave of every lent input that they answer with rounds.
+use Rattle.std.specs.Prelude.{Ok}
 use mathlib.Core.Path.{◌≡◌, refl, ap, ◌∙◌}
 use mathlib.Core.Bool.{Bool, true, false, cond, ◌&&◌}
 use mathlib.Core.List.{List}
@@ -8,7 +9,6 @@ use native.Mathlib.Omega.{arith}
 use lib.IntN.{ℤ}
 use lib.ListN.{get_or-append}
 use Rattle.numbers.specs.Below.{at, over}
-use Rattle.refusals.specs.Refusals.{passed}
 use Rattle.marks.specs.Marks.{may_rise}
 use Rattle.tablerules.specs.Table.{Table, border_at, factors_at, front}
 use Rattle.rounds.proofs.Laid.{laid_raise, laid_next}
@@ -56,7 +56,7 @@ module _ (t : Table) (marked : ℕ → Bool) (ps : List ℕ) {p : List ℕ} (e :
       }
 
 pub extract_by_border : (all : Bool) (marks : List ℕ) (given : Table) (ps : List ℕ) (atcs lefts : List (List ℤ)) (k : ℕ) → let e = extract_for all marks given ps atcs lefts in
-    e.answer ≡ passed k → ByBorder (front given) (may_rise all marks) e.p
+    e.answer ≡ Ok k → ByBorder (front given) (may_rise all marks) e.p
 unfolding result_marked
 extract_by_border all marks given ps atcs lefts k e =
     by-border (front given) (may_rise all marks) ps (ap (λ (l : ExtractLeft). l.p) (accepted_for all marks given ps atcs lefts k e).left)

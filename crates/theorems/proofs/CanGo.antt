@@ -1,6 +1,7 @@
 -- 02, E10: taking all claimed rows of an accepted list out leaves the same set of allowed net positions among those that sum to zero, whole or not: each is
 -- q / k for a k above 0 (`claimed-rows-can-go`). Of whole kW it is the same without the k (`whole_same`).
 -- No contract cites this file.
+use Rattle.std.specs.Prelude.{Ok}
 use mathlib.Core.Path.{◌≡◌, refl, sym, ap, subst, ◌∙◌}
 use mathlib.Core.Bool.{Bool, true, false, not}
 use mathlib.Core.List.{List, []}
@@ -17,7 +18,6 @@ use Rattle.numbers.proofs.BelowLaws.{sum_ℤ_cong}
 use Rattle.theorems.proofs.SignedSums.{mul_assoc_ℤ, sum_ℤ_left, times_le_ℤ}
 use Rattle.numbers.proofs.FirstLaws.{some_has}
 use Rattle.numbers.proofs.TestLaws.{and_both, both_and, all_true_lem}
-use Rattle.refusals.specs.Refusals.{passed}
 use Rattle.refusals.proofs.RefusalLaws.{none_passed, then_passed}
 use Rattle.types.specs.Ranges.{at_ℤ, exists}
 use Rattle.types.proofs.RangeLaws.{exists_in}
@@ -76,7 +76,7 @@ claim_of claims row e =
     let k = some_has (length claims) (λ e. same_ℤ (claimed_row (get_or claims e [])) row) e in
     record { at = k.0; within = k.1; is = same_true _ row k.2 }
 
-module _ (t : Table) (claims : List (List ℤ)) (accepted : claims_of t claims ≡ passed (standings_of t)) where
+module _ (t : Table) (claims : List (List ℤ)) (accepted : claims_of t claims ≡ Ok (standings_of t)) where
   abbrev states : List ℕ
   states = (standings_of t).states
 
@@ -163,13 +163,13 @@ module _ (t : Table) (q : ℕ → ℤ) where
       ((λ a. whole-allowed listed' (both.0 (allowed-whole listed a))), (λ a. whole-allowed listed (both.1 (allowed-whole listed' a))))
 
 -- claimed rows can go, in lent tables whose claims the open call accepts
-pub accepted_rows_can_go : (given : Table) (claims : List (List ℤ)) (m : Standings) → claims_answer given claims ≡ passed m
+pub accepted_rows_can_go : (given : Table) (claims : List (List ℤ)) (m : Standings) → claims_answer given claims ≡ Ok m
     → Same (front given) (kept m.states) (remaining m.states claims)
 unfolding claims_answer
 accepted_rows_can_go given claims m e =
     let a = then_passed (judge_lent given) (λ t. claims_of t claims) m e in
     let same-table : a.it ≡ front given = judged_front given a.it a.first in
-    let judged : claims_of (front given) claims ≡ passed m = subst (λ (t : Table). claims_of t claims ≡ passed m) same-table a.second in
+    let judged : claims_of (front given) claims ≡ Ok m = subst (λ (t : Table). claims_of t claims ≡ Ok m) same-table a.second in
     let is : m ≡ standings_of (front given) = claims_rows (front given) claims m judged in
     subst (λ (n : Standings). Same (front given) (kept n.states) (remaining n.states claims)) (sym is)
-    (claimed_rows_can_go (front given) claims (judged ∙ ap passed is))
+    (claimed_rows_can_go (front given) claims (judged ∙ ap Ok is))

@@ -1,5 +1,6 @@
 -- Rows whose factors differ by one and the same number in every zone: the same p, S and flow of positions that sum to zero, so that their margins differ as their RAMs do.
 -- No contract cites this file.
+use Rattle.std.specs.Prelude.{None, Option, Some}
 use mathlib.Core.Path.{◌≡◌, refl, sym, ap, subst, ◌∙◌}
 use mathlib.Core.Bool.{Bool, true, false, cond, not, ◌&&◌, false≢true}
 use mathlib.Core.List.{List, []}
@@ -14,7 +15,6 @@ use Rattle.numbers.proofs.IntLaws.{diff, diffs, zarith, same_true}
 use Rattle.numbers.proofs.BelowLaws.{sum_cong, sum_ℤ_cong}
 use Rattle.theorems.proofs.SignedSums.{add_mul_ℤ, sum_ℤ_add, sum_ℤ_left}
 use Rattle.types.specs.declared.Hubs.{Hubs}
-use Rattle.types.specs.declared.Hubs.TheVariants.{Without, Between}
 use Rattle.types.specs.declared.Border.{Border}
 use Rattle.types.specs.Ranges.{is_intraday, at_ℤ}
 use Rattle.types.proofs.RangeLaws.{allocated_most}
@@ -59,13 +59,13 @@ cross_hubs a b c d a' b' c' d' k p q r s =
     rw (diff a, diff b, diff c, diff d, diff a', diff b', diff c', diff d') (simp diffs (omega (zarith, p', q', r', s')))
 
 module _ (fs gs : List ℤ) (e : shifted fs gs ≡ true) where
-  hubs-same : (from to : ℕ) (hubs : Hubs) → from < length fs → to < length fs → HubsWithin (length fs) hubs
+  hubs-same : (from to : ℕ) (hubs : Option Hubs) → from < length fs → to < length fs → HubsWithin (length fs) hubs
       → by_hubs fs hubs (at_ℤ fs from) (at_ℤ fs to) ≡ by_hubs gs hubs (at_ℤ gs from) (at_ℤ gs to)
-  hubs-same from to Without h k w =
+  hubs-same from to None h k w =
       cross (at_ℤ fs from) (at_ℤ fs to) (at_ℤ gs from) (at_ℤ gs to) (at_ℤ fs 0 -ℤ at_ℤ gs 0) (shifted_alike fs gs e from h) (shifted_alike fs gs e to k)
-  hubs-same from to (Between sending receiving) h k w =
-      cross_hubs (at_ℤ fs from) (at_ℤ fs sending) (at_ℤ fs receiving) (at_ℤ fs to) (at_ℤ gs from) (at_ℤ gs sending) (at_ℤ gs receiving) (at_ℤ gs to) (at_ℤ fs 0 -ℤ at_ℤ gs 0)
-      (shifted_alike fs gs e from h) (shifted_alike fs gs e sending w.0) (shifted_alike fs gs e receiving w.1) (shifted_alike fs gs e to k)
+  hubs-same from to (Some hubs) h k w =
+      cross_hubs (at_ℤ fs from) (at_ℤ fs hubs.sending) (at_ℤ fs hubs.receiving) (at_ℤ fs to) (at_ℤ gs from) (at_ℤ gs hubs.sending) (at_ℤ gs hubs.receiving) (at_ℤ gs to) (at_ℤ fs 0 -ℤ at_ℤ gs 0)
+      (shifted_alike fs gs e from h) (shifted_alike fs gs e hubs.sending w.0) (shifted_alike fs gs e hubs.receiving w.1) (shifted_alike fs gs e to k)
 
   p-same : (border : Border) → BorderInRange (length fs) border → p_of fs border ≡ p_of gs border
   unfolding p_of signed_factor

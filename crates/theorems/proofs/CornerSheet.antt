@@ -1,4 +1,5 @@
 -- The corner sheet (02, E1): every corner stands there, each once, and the largest flow is S; for any number of borders. No contract cites this file.
+use Rattle.std.specs.Prelude.{Err, Ok}
 use mathlib.Core.Path.{◌≡◌, refl, sym, ap, subst, ◌∙◌}
 use mathlib.Core.Bool.{Bool, cond}
 use mathlib.Core.List.{List}
@@ -9,7 +10,7 @@ use lib.ListN.{length}
 use lib.Signed.{◌≤ℤ◌}
 use Rattle.numbers.specs.Below.{over}
 use Rattle.numbers.proofs.BelowLaws.{sum_ℤ_cong}
-use Rattle.refusals.specs.Refusals.{passed, refused, too_short}
+use Rattle.refusals.specs.Refusals.{too_short}
 use Rattle.types.specs.Ranges.{at_ℤ}
 use Rattle.tablerules.specs.Table.{Table, factors_at}
 use Rattle.marginrules.specs.Margin.{corner_part, corner_sum, s_of}
@@ -62,15 +63,15 @@ module _ (factors : List ℤ) (borders : List (List ℤ)) where
       }
 
 -- a call for a row of an accepted table leaves that sheet in front of what was there, and asks for one number for each corner
-module _ (given : Table) (row : ℕ) (t : Table) (judged : judge_corners given row ≡ passed t) (old : List ℤ) where
+module _ (given : Table) (row : ℕ) (t : Table) (judged : judge_corners given row ≡ Ok t) (old : List ℤ) where
   pub sheet_filled : 2 ^ t.header.borders ≤ length old
-      → corners_left given row old ≡ flows_left (passed (2 ^ t.header.borders)) (over (flows_of (factors_at t row) t.borders) old)
+      → corners_left given row old ≡ flows_left (Ok (2 ^ t.header.borders)) (over (flows_of (factors_at t row) t.borders) old)
   unfolding corners_left
   sheet_filled h =
       let s = judged_sheet given row t judged in
       sheet_all (judge_corners given row) row old t judged s h
-      ∙ ap (λ (n : ℕ). flows_left (passed n) (over (flows_of (factors_at t row) t.borders) old)) (flows_long s)
+      ∙ ap (λ (n : ℕ). flows_left (Ok n) (over (flows_of (factors_at t row) t.borders) old)) (flows_long s)
 
-  pub sheet_no_room : length old < 2 ^ t.header.borders → corners_left given row old ≡ flows_left (refused (too_short (2 ^ t.header.borders))) old
+  pub sheet_no_room : length old < 2 ^ t.header.borders → corners_left given row old ≡ flows_left (Err (too_short (2 ^ t.header.borders))) old
   unfolding corners_left
   sheet_no_room h = sheet_short (judge_corners given row) row old t judged (judged_sheet given row t judged) _ refl h

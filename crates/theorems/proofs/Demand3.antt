@@ -1,6 +1,7 @@
 -- Demand 3 of every accepted table (promises: specs/Demand), in its own profile and with any borders marked; that N, L and the figures of 6,144 and 6,272 are 01's and 02's;
 -- and that exchanges within the ATCs are up to the final ones.
 -- Day-ahead, margin and load at the start make RAM; intraday the load at the start is 0 and the margin is the remainder.
+use Rattle.std.specs.Prelude.{Ok}
 use mathlib.Core.Path.{◌≡◌, refl, sym, ap, subst, ◌∙◌}
 use mathlib.Core.Bool.{Bool, true, false, cond, not, ◌&&◌}
 use mathlib.Core.List.{List}
@@ -14,7 +15,6 @@ use Rattle.numbers.specs.Below.{at, sum, table}
 use Rattle.numbers.proofs.IntLaws.{le_lt_z}
 use Rattle.numbers.proofs.BelowLaws.{largest_le, largest_under, table_get}
 use Rattle.limits.specs.Limits.{borders_most}
-use Rattle.refusals.specs.Refusals.{passed}
 use Rattle.types.specs.Ranges.{is_intraday}
 use Rattle.types.proofs.RangeLaws.{header_in_lem}
 use Rattle.tablerules.specs.Table.{Table, border_at, factors_at}
@@ -160,7 +160,7 @@ module _ (marked : ℕ → Bool) (t : Table) (good : Good t)
         }
 
 -- demand 3 of every good table that the extraction accepts
-pub accepted_demand_3 : (marked : ℕ → Bool) (t : Table) (r : Result) → Good t → outcome_marked marked t ≡ passed r → ResultDemand3 t marked r
+pub accepted_demand_3 : (marked : ℕ → Bool) (t : Table) (r : Result) → Good t → outcome_marked marked t ≡ Ok r → ResultDemand3 t marked r
 unfolding result_marked end_by begin_by setup_with left_of positive_part
 accepted_demand_3 marked t r good e =
     let a = accepted marked t r e in

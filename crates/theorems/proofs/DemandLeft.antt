@@ -1,4 +1,5 @@
 -- Demand 3 of what the calls leave (promises: specs/DemandLeft), for every lent input that they answer with rounds, of every border or with marks.
+use Rattle.std.specs.Prelude.{Ok}
 use mathlib.Core.Path.{◌≡◌, sym, ap, subst, ◌∙◌}
 use mathlib.Core.Bool.{Bool, true, false, cond}
 use mathlib.Core.List.{List, []}
@@ -9,7 +10,6 @@ use lib.ListN.{get_or, get_or-append}
 use Rattle.numbers.specs.Ints.{minus, positive_part}
 use Rattle.numbers.specs.Below.{table, over}
 use Rattle.numbers.proofs.BelowLaws.{table_long, table_get}
-use Rattle.refusals.specs.Refusals.{passed}
 use Rattle.types.specs.Ranges.{at_ℤ}
 use Rattle.marks.specs.Marks.{may_rise}
 use Rattle.tablerules.specs.Table.{Table, front}
@@ -53,7 +53,7 @@ module _ (marked : ℕ → Bool) (t : Table) (atcs lefts : List (List ℤ)) wher
       go true = omega arith
       go false = omega arith
 
-  left-demand-3 : Good t → outcome_marked marked t ≡ passed its → LeftDemand3 t marked its.outcome.rounds (over (table t.header.borders (atc_record its)) atcs) lefts_left
+  left-demand-3 : Good t → outcome_marked marked t ≡ Ok its → LeftDemand3 t marked its.outcome.rounds (over (table t.header.borders (atc_record its)) atcs) lefts_left
   unfolding atc_record result_marked end_by begin_by setup_with left_of
   left-demand-3 good e =
       record {
@@ -64,7 +64,7 @@ module _ (marked : ℕ → Bool) (t : Table) (atcs lefts : List (List ℤ)) wher
 
 -- ---- demand 3 of the calls: `extract` asks for every border, `extract_marked` for those of its list
 pub extract_demand_3 : (all : Bool) (marks : List ℕ) (given : Table) (ps : List ℕ) (atcs lefts : List (List ℤ)) (k : ℕ) → let e = extract_for all marks given ps atcs lefts in
-    e.answer ≡ passed k → LeftDemand3 (front given) (may_rise all marks) k e.atcs e.lefts
+    e.answer ≡ Ok k → LeftDemand3 (front given) (may_rise all marks) k e.atcs e.lefts
 unfolding result_marked
 extract_demand_3 all marks given ps atcs lefts k e =
     let a = accepted_for all marks given ps atcs lefts k e in

@@ -1,5 +1,6 @@
 -- With all borders marked, in any order, the answer is the ordinary one (02, E13): a good list of as many marks as there are borders marks each of them, since no two
 -- of its marks are the same.
+use Rattle.std.specs.Prelude.{Err, Ok}
 use mathlib.Core.Path.{◌≡◌, refl, sym, ap, subst, ◌∙◌}
 use mathlib.Core.Bool.{Bool, true, false, cond, not, false≢true}
 use mathlib.Core.List.{List, []}
@@ -12,7 +13,7 @@ use lib.ListN.{length}
 use Rattle.numbers.specs.Below.{at, sum, some_below}
 use Rattle.numbers.proofs.BelowLaws.{sum_cong, sum_strict}
 use Rattle.numbers.proofs.TestLaws.{or_neither, some_false}
-use Rattle.refusals.specs.Refusals.{Judged, passed, refused, then, either}
+use Rattle.refusals.specs.Refusals.{Judged, then, either}
 use Rattle.refusals.proofs.RefusalLaws.{then_next}
 use Rattle.marks.specs.Marks.{marked_by, faulty_mark}
 use Rattle.marks.proofs.MarkLaws.{asked_then, marks_passed}
@@ -81,7 +82,7 @@ unfolding outcome_for outcome_of
 all_marked_outcome marks t all =
     let borders = t.header.borders in
     sym (asked_then false borders marks marks (outcome_marked (marked_by marks) t)) ∙ then_next _ all.good
-    ∙ outcome_agree (marked_by marks) every t (every-mark borders marks (marks_passed borders marks (passed marks) marks all.good).0 all.long)
+    ∙ outcome_agree (marked_by marks) every t (every-mark borders marks (marks_passed borders marks (Ok marks) marks all.good).0 all.long)
 
 -- every border, with no list
 pub ordinary_outcome : (t : Table) → outcome_for true [] t ≡ outcome_of t
@@ -92,10 +93,10 @@ pub all_marked : (given : Table) (marks : List ℕ) → AllMarked given.header.b
     → extract_marked_left given marks ps atcs lefts ≡ extract_left given ps atcs lefts
 unfolding extract_marked_left extract_left extract_for then
 all_marked given marks all ps atcs lefts =
-    ap (λ (j : Judged Result). either j (result_stored ps atcs lefts) (λ w. leaves (refused w) ps atcs lefts)) (go (judge_extract given (length ps)) refl)
+    ap (λ (j : Judged Result). either j (result_stored ps atcs lefts) (λ w. leaves (Err w) ps atcs lefts)) (go (judge_extract given (length ps)) refl)
   where
     go : (j : Judged Table) → judge_extract given (length ps) ≡ j → then j (λ t. then (outcome_for false marks t) (result_room atcs lefts)) ≡ then j (λ t. then (outcome_for true [] t) (result_room atcs lefts))
-    go (refused w) e = refl
-    go (passed t) e =
+    go (Err w) e = refl
+    go (Ok t) e =
         let front = judged_front given t (judged_lent given t (length ps) e) in
         ap (λ (o : Judged Result). then o (result_room atcs lefts)) (all_marked_outcome marks t (subst (λ (u : Table). AllMarked u.header.borders marks) (sym front) all) ∙ sym (ordinary_outcome t))

@@ -1,10 +1,10 @@
 -- What a border's reasons say (crate reasoned), of every accepted table: there is a row that ended the rise of each marked border, the explanation adds up to the grain, what each row
 -- would allow is as said, and the row that the result names holds the border. From the rounds' own theorems, by what p of the grid is.
+use Rattle.std.specs.Prelude.{None, Ok, Some}
 use mathlib.Core.Path.{◌≡◌, refl, sym, ap, subst, ◌∙◌}
 use mathlib.Core.Bool.{Bool, true, false, cond}
 use mathlib.Core.List.{List}
 use mathlib.Core.Logic.{⊎_elim}
-use mathlib.Core.Option.{none, some, some-injective}
 use Prim.Native.Nat.{ℕ, zero, suc, ◌+◌, ◌*◌, ◌-◌, ◌/◌, ◌≤◌, ◌<◌}
 use native.Mathlib.Nat.{le_refl, le_trans}
 use native.Mathlib.Omega.{arith}
@@ -16,7 +16,6 @@ use Rattle.numbers.specs.Ints.{positive_part}
 use Rattle.numbers.specs.Below.{at}
 use Rattle.numbers.proofs.BelowLaws.{some_none, lt_suc_cases, le_or_lt, sum_cong, table_get}
 use Rattle.numbers.proofs.IntLaws.{diff, diffs, zarith}
-use Rattle.refusals.specs.Refusals.{passed}
 use Rattle.refusals.proofs.RefusalLaws.{passed_is, then_passed, then_next}
 use Rattle.tablerules.specs.Table.{Table, border_at, factors_at}
 use Rattle.tablerules.specs.Good.{Good}
@@ -41,6 +40,9 @@ use Rattle.holding.specs.Holding.{end_row, allowed_by}
 use Rattle.why.specs.Why.{Why, why_marked, reasons_marked}
 use Rattle.reasoned.specs.Reasoned.{EndedBy, BorderEnded, NotEnded, AsResult, used_of, AddsUp, Allows, NamedHolds}
 
+some_is : {a b : ℕ} → Some a ≡ Some b → a ≡ b
+some_is e = cc
+
 -- ---- of rounds on a grid
 -- after its last round the rules raise a border no more
 rests : {g : Grid} {s t : State} {k : ℕ} → Rounds g s k t → (b : ℕ) → b < g.borders → raise g (after g s (last_round g s b)).margins b ≡ 0
@@ -56,7 +58,7 @@ rests {g} {s} {t} {k} w b hb =
 
 -- so that some row holds it, and there is a first
 pub ended_some : {g : Grid} {s t : State} {k : ℕ} → Rounds g s k t → (i b : ℕ) → i < g.rows → b < g.borders → 0 < g.p i b
-    → (r : ℕ) × (some r ≡ end_row g s b) × Stops g (after g s (last_round g s b)).margins b r
+    → (r : ℕ) × (Some r ≡ end_row g s b) × Stops g (after g s (last_round g s b)).margins b r
 unfolding end_row raise
 ended_some {g} {s} w i b hi hb hp =
     let left : List ℕ = (after g s (last_round g s b)).margins in
@@ -104,18 +106,18 @@ module _ (marked : ℕ → Bool) (t : Table) (b : ℕ) (hb : b < t.header.border
         outcome = refl;
         p = refl;
         last = sym (table_get t.header.borders (last_round g (table_start t)) b 0 hb);
-        named = sym (table_get t.header.borders (stop_row g left) b none hb);
+        named = sym (table_get t.header.borders (stop_row g left) b None hb);
       }
 
-  allows-at : (i : ℕ) → i < t.header.rows → get_or its.allows i none ≡ allowed_by g left b i
+  allows-at : (i : ℕ) → i < t.header.rows → get_or its.allows i None ≡ allowed_by g left b i
   unfolding why_marked
-  allows-at i h = table_get t.header.rows (allowed_by g left b) i none h
+  allows-at i h = table_get t.header.rows (allowed_by g left b) i None h
 
   -- a row that stops the border at the end allows it nothing
-  holds : (i : ℕ) → i < t.header.rows → 0 < g.p i b → equal_share_kw g left b i < 1 → get_or its.allows i none ≡ some 0
+  holds : (i : ℕ) → i < t.header.rows → 0 < g.p i b → equal_share_kw g left b i < 1 → get_or its.allows i None ≡ Some 0
   holds i h l u =
       let z : equal_share_kw g left b i ≡ 0 = omega arith in
-      allows-at i h ∙ ap (λ (v : Bool). cond v (some (equal_share_kw g left b i)) none) (lt-ltb 0 (g.p i b) l) ∙ ap some z
+      allows-at i h ∙ ap (λ (v : Bool). cond v (Some (equal_share_kw g left b i)) None) (lt-ltb 0 (g.p i b) l) ∙ ap Some z
 
   pub named_holds : NamedHolds its
   unfolding why_marked grid_by setup_with
@@ -171,16 +173,16 @@ module _ (marked : ℕ → Bool) (t : Table) (b : ℕ) (hb : b < t.header.border
           said = λ kw e. go (ltb 0 (g.p i b)) refl kw (sym (allows-at i h) ∙ e);
           each = λ k l.
               allows-at i h
-              ∙ ap (λ (v : Bool). cond v (some (equal_share_kw g left b i)) none) (lt-ltb 0 (g.p i b) (subst (λ (v : ℕ). 0 < v) (sym (kept-p i k)) l))
-              ∙ ap (λ (v : ℕ). some (at left i / sharers g i / v)) (kept-p i k);
+              ∙ ap (λ (v : Bool). cond v (Some (equal_share_kw g left b i)) None) (lt-ltb 0 (g.p i b) (subst (λ (v : ℕ). 0 < v) (sym (kept-p i k)) l))
+              ∙ ap (λ (v : ℕ). Some (at left i / sharers g i / v)) (kept-p i k);
         }
       where
-        go : (v : Bool) → ltb 0 (g.p i b) ≡ v → (kw : ℕ) → cond v (some (equal_share_kw g left b i)) none ≡ some kw
+        go : (v : Bool) → ltb 0 (g.p i b) ≡ v → (kw : ℕ) → cond v (Some (equal_share_kw g left b i)) None ≡ Some kw
             → (kept (standings_of t).states i ≡ true) × (0 < p_of (factors_at t i) (border_at t b)) × (kw ≡ at left i / sharers g i / p_of (factors_at t i) (border_at t b))
         go true e kw q =
             let l : 0 < g.p i b = ltb-true 0 (g.p i b) e in
             let k = loads_takes s i b l in
-            (k, subst (λ (v : ℕ). 0 < v) (kept-p i k) l, sym (some-injective _ _ q) ∙ ap (λ (v : ℕ). at left i / sharers g i / v) (kept-p i k))
+            (k, subst (λ (v : ℕ). 0 < v) (kept-p i k) l, sym (some_is q) ∙ ap (λ (v : ℕ). at left i / sharers g i / v) (kept-p i k))
         go false e kw q = absurd (some_none (sym q))
 
 -- ---- every border of every accepted table
@@ -190,16 +192,16 @@ pos_is a b e = cc
 less_is : (r s l u : ℤ) → r -ℤ s ≡ l +ℤ u → r ≡ s +ℤ u +ℤ l
 less_is r s l u e = let h' = simp diffs at (rw (diff r, diff s, diff l, diff u) at e) in rw (diff r, diff s, diff l, diff u) (simp diffs (omega (zarith, h')))
 
-module _ (marked : ℕ → Bool) (t : Table) (b : ℕ) (hb : b < t.header.borders) (w : Why) (e : reasons_marked marked t b ≡ passed w) where
+module _ (marked : ℕ → Bool) (t : Table) (b : ℕ) (hb : b < t.header.borders) (w : Why) (e : reasons_marked marked t b ≡ Ok w) where
   is : why_marked marked t b ≡ w
   unfolding reasons_marked
-  is = passed_is _ _ (then_passed (judge_marked marked t) (λ states. passed (why_marked marked t b)) w e).second
+  is = passed_is _ _ (then_passed (judge_marked marked t) (λ states. Ok (why_marked marked t b)) w e).second
 
   -- there always is a row that ended the rise of a marked border
   pub accepted_ended : marked b ≡ true → BorderEnded t marked w b
   unfolding reasons_marked setup_with
   accepted_ended m =
-      let j = then_passed (judge_marked marked t) (λ states. passed (why_marked marked t b)) w e in
+      let j = then_passed (judge_marked marked t) (λ states. Ok (why_marked marked t b)) w e in
       let i = marked_loaded (setup_of kept marked t) (standings_of t).states j.it j.first b hb m in
       subst (λ (v : Why). BorderEnded t marked v b) is (border-ended marked t b hb m i.0 i.1 i.2)
 
@@ -213,11 +215,11 @@ module _ (marked : ℕ → Bool) (t : Table) (b : ℕ) (hb : b < t.header.border
   accepted_named = subst NamedHolds is (named_holds marked t b hb)
 
   -- the extraction accepts the table too, and its result is as the reasons say
-  accepts : outcome_marked marked t ≡ passed (result_marked marked t)
+  accepts : outcome_marked marked t ≡ Ok (result_marked marked t)
   unfolding reasons_marked outcome_marked
-  accepts = then_next _ (then_passed (judge_marked marked t) (λ states. passed (why_marked marked t b)) w e).first
+  accepts = then_next _ (then_passed (judge_marked marked t) (λ states. Ok (why_marked marked t b)) w e).first
 
-  pub accepted_as_result : (outcome_marked marked t ≡ passed (result_marked marked t)) × AsResult (result_marked marked t) w b
+  pub accepted_as_result : (outcome_marked marked t ≡ Ok (result_marked marked t)) × AsResult (result_marked marked t) w b
   accepted_as_result = (accepts, subst (λ (v : Why). AsResult (result_marked marked t) v b) is (as_result marked t b hb))
 
   -- the explanation of each kept row adds up

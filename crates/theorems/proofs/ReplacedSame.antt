@@ -1,5 +1,6 @@
 -- Replacing every "-" by the default in force changes no margin (promises: specs/Replaced): a "-" is worth what it is replaced by, and R enters RAM by its worth
 -- alone. No contract cites this file.
+use Rattle.std.specs.Prelude.{Ok}
 use mathlib.Core.Path.{◌≡◌, refl, sym, ap, ap₂, ◌∙◌}
 use mathlib.Core.Bool.{Bool, true, false, cond}
 use mathlib.Core.List.{List, [], ◌∷◌}
@@ -10,7 +11,7 @@ use lib.ListN.{length, get_or}
 use lib.Signed.{lt_z}
 use Rattle.numbers.specs.Ints.{minus, inside}
 use Rattle.numbers.proofs.BelowLaws.{table_cong}
-use Rattle.refusals.specs.Refusals.{passed, then}
+use Rattle.refusals.specs.Refusals.{then}
 use Rattle.types.specs.declared.Share.TheVariants.{Standard, Written}
 use Rattle.types.specs.LineLimits.{share_most}
 use Rattle.types.specs.Ranges.{is_intraday, at_ℤ, share_of, row_of, row_fits, worth, default_of}
@@ -107,7 +108,7 @@ module _ (t : Table) where
       let setup : (ℕ → Bool) → Setup = λ marked. setup_with (kept rows.states) marked t.header t.borders t.factors starts in
       let marked = may_rise all marks in
       judge_asked all t.header.borders marks
-      (then (judge_by (setup marked) rows.states) (λ states. passed (result_by t.header rows (cells (grid_by (setup every))) (grid_by (setup marked)) (begin_by (setup every))))))
+      (then (judge_by (setup marked) rows.states) (λ states. Ok (result_by t.header rows (cells (grid_by (setup every))) (grid_by (setup marked)) (begin_by (setup every))))))
       same_rows same-starts
 
   stays-good : Good t → Good (replaced t)

@@ -1,10 +1,10 @@
 -- 02, E7: which row stopped a border, and which round raised it last. Of any work of the rules: `Rounds g s k t` says that its k rounds lead from s to t.
 -- The table's own words for it, kept rows and factors, are in crate promises (`StoppedBy`).
+use Rattle.std.specs.Prelude.{None, Option, Some}
 use mathlib.Core.Path.{◌≡◌, refl, sym, ap, subst, ◌∙◌}
 use mathlib.Core.Bool.{Bool, true, false, ◌&&◌, true≢false}
 use mathlib.Core.List.{List}
 use mathlib.Core.Logic.{⊎_elim}
-use mathlib.Core.Option.{Option, none, some}
 use Prim.Native.Nat.{ℕ, zero, suc, ◌≤◌, ◌<◌}
 use native.Mathlib.Nat.{le_trans, not-suc-le-zero}
 use native.Mathlib.Omega.{arith}
@@ -77,7 +77,7 @@ rest_false false u e h = absurd (true≢false (sym e))
 
 module _ (g : Grid) (left : List ℕ) (b : ℕ) where
   -- the row that the definition finds is the row of the statement
-  pub stop_row_is : {i : ℕ} → some i ≡ stop_row g left b → Stops g left b i
+  pub stop_row_is : {i : ℕ} → Some i ≡ stop_row g left b → Stops g left b i
   unfolding stop_row
   stop_row_is {i} e =
       let t = and_both (ltb 0 (g.p i b)) (ltb (equal_share_kw g left b i) 1) (first_holds g.rows (stopping g left b) e) in
@@ -99,25 +99,25 @@ module _ (g : Grid) (left : List ℕ) (b : ℕ) where
       (le_or_lt i' i)
 
   -- the definition finds a row where there is one
-  pub stop_row_found : (i : ℕ) → i < g.rows → 0 < g.p i b → equal_share_kw g left b i < 1 → (r : ℕ) × (some r ≡ stop_row g left b)
+  pub stop_row_found : (i : ℕ) → i < g.rows → 0 < g.p i b → equal_share_kw g left b i < 1 → (r : ℕ) × (Some r ≡ stop_row g left b)
   unfolding stop_row
   stop_row_found i h p l = go (first_from g.rows 0 (stopping g left b)) refl
     where
-      go : (o : Option ℕ) → o ≡ first_from g.rows 0 (stopping g left b) → (r : ℕ) × (some r ≡ first_from g.rows 0 (stopping g left b))
-      go none e =
+      go : (o : Option ℕ) → o ≡ first_from g.rows 0 (stopping g left b) → (r : ℕ) × (Some r ≡ first_from g.rows 0 (stopping g left b))
+      go None e =
           absurd (true≢false
           (sym (both_and (ltb 0 (g.p i b)) (ltb (equal_share_kw g left b i) 1) (lt-ltb 0 (g.p i b) p) (lt-ltb (equal_share_kw g left b i) 1 l))
           ∙ first_none g.rows (stopping g left b) (sym e) i h))
-      go (some r) e = (r, e)
+      go (Some r) e = (r, e)
 
-  pub unloaded_stop : ((i : ℕ) → i < g.rows → g.p i b ≡ 0) → stop_row g left b ≡ none
+  pub unloaded_stop : ((i : ℕ) → i < g.rows → g.p i b ≡ 0) → stop_row g left b ≡ None
   unfolding stop_row
   unloaded_stop h = first_nothing g.rows (stopping g left b) (λ i hi. rw (h i hi, le-ltb 0 0 (omega arith)) refl)
 
 -- ---- the row
 
 -- each border that some row loads has a row that stopped it: the first with p > 0 whose equal share at the end is under one kW for it
-pub stop_row_lem : {g : Grid} {s t : State} {k : ℕ} → Rounds g s k t → (i b : ℕ) → i < g.rows → b < g.borders → 0 < g.p i b → (r : ℕ) × (some r ≡ stop_row g t.margins b) × Stops g t.margins b r
+pub stop_row_lem : {g : Grid} {s t : State} {k : ℕ} → Rounds g s k t → (i b : ℕ) → i < g.rows → b < g.borders → 0 < g.p i b → (r : ℕ) × (Some r ≡ stop_row g t.margins b) × Stops g t.margins b r
 stop_row_lem {g} {s} {t} w i b hi hb hp =
     let u = stopped w i b hi hb hp in
     let f = stop_row_found g t.margins b u.i u.below u.counts (omega (arith, u.is)) in
@@ -143,5 +143,5 @@ pub never_raised : (g : Grid) (s : State) (b : ℕ) → ((i : ℕ) → i < g.row
 unfolding last_round
 never_raised g s b h = unloaded_last g s b h (extract g s).rounds
 
-pub never_stopped : (g : Grid) (left : List ℕ) (b : ℕ) → ((i : ℕ) → i < g.rows → g.p i b ≡ 0) → stop_row g left b ≡ none
+pub never_stopped : (g : Grid) (left : List ℕ) (b : ℕ) → ((i : ℕ) → i < g.rows → g.p i b ≡ 0) → stop_row g left b ≡ None
 never_stopped = unloaded_stop

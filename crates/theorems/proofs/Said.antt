@@ -1,9 +1,9 @@
 -- What the A line and the M line of a result's records say, field by field (01, "Result text"; 02, E7): "-" stands where no row stopped the border, and where the state isn't 0.
 -- Nobody cites it: it says that -1 in a record, which a column writes as "-", stands there and nowhere else.
+use Rattle.std.specs.Prelude.{None, Option, Some}
 use mathlib.Core.Path.{◌≡◌, refl, ap, ◌∙◌}
 use mathlib.Core.Bool.{Bool, true, false, cond}
 use mathlib.Core.List.{List, [], ◌∷◌, append_assoc}
-use mathlib.Core.Option.{Option, none, some}
 use Prim.Native.Char.{code}
 use Prim.Native.Nat.{ℕ}
 use lib.Dec.{eqb}
@@ -24,15 +24,15 @@ unfolding columns_text head_text index_text fields_ended line_text fields_text
 three_said letter c d e i x y z = ap (λ (l : List ℕ). letter ∷ tab ∷ l) (append_assoc (decimal i) (tab ∷ []) _)
 
 abbrev pub stop_text : Option ℕ → List ℕ
-stop_text none = dash ∷ []
-stop_text (some row) = decimal row
+stop_text None = dash ∷ []
+stop_text (Some row) = decimal row
 
 -- A, border, ATC in MW, last round, and the row that stopped it or "-"
 pub atc_said : (b kw last : ℕ) (stop : Option ℕ)
     → columns_text tab (Indexed (code "A") b) atc_columns (border_left kw last stop) ≡ line_text (code "A") (decimal b ∷ decimal (in_mw kw) ∷ decimal last ∷ stop_text stop ∷ [])
 unfolding field_text decimal_ℤ
-atc_said b kw last none = three_said (code "A") number number share b (pos (in_mw kw)) (pos last) (minus 1)
-atc_said b kw last (some row) = three_said (code "A") number number share b (pos (in_mw kw)) (pos last) (pos row)
+atc_said b kw last None = three_said (code "A") number number share b (pos (in_mw kw)) (pos last) (minus 1)
+atc_said b kw last (Some row) = three_said (code "A") number number share b (pos (in_mw kw)) (pos last) (pos row)
 
 -- M, row, state, RAM in grains, and margin left in grains, or "-" where the state isn't 0
 pub margin_said : (i state : ℕ) (ram : ℤ) (margin : ℕ)

@@ -1,8 +1,8 @@
 -- The published list allows the same net positions as all kept rows, among those that sum to zero (02, E10). No contract cites this file.
+use Rattle.std.specs.Prelude.{Ok}
 use mathlib.Core.Path.{◌≡◌}
 use mathlib.Core.List.{List}
 use Prim.Native.Nat.{ℕ}
-use Rattle.refusals.specs.Refusals.{passed}
 use Rattle.tablerules.specs.Table.{Table, front}
 use Rattle.staterules.specs.Standings.{standings_of}
 use Rattle.staterules.specs.States.{kept}
@@ -18,7 +18,7 @@ pub record AllowsTheSame (t : Table) (list text : List ℕ) : Type 0 where
   pub is : text ≡ published_text (standings_of t) (remaining (standings_of t).states (claims_in list))
   pub same : Same t (kept (standings_of t).states) (remaining (standings_of t).states (claims_in list))
 
-pub published_allows_the_same : (given : Table) (list text : List ℕ) → published_answer given list ≡ passed text → AllowsTheSame (front given) list text
+pub published_allows_the_same : (given : Table) (list text : List ℕ) → published_answer given list ≡ Ok text → AllowsTheSame (front given) list text
 published_allows_the_same given list text e =
     let p = publishes given list text e in
     record { is = p.is; same = claimed_rows_can_go (front given) (claims_in list) p.accepted }

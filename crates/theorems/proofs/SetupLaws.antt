@@ -1,9 +1,9 @@
 -- The laws of a setup (setup: specs/Setup.antt): its grid and its start, its judgement, a border that no row loads, and that N and L are over the marked borders.
 -- No contract cites this file.
+use Rattle.std.specs.Prelude.{None, Ok, Option, Some}
 use mathlib.Core.Path.{◌≡◌, refl, ◌∙◌}
 use mathlib.Core.Bool.{Bool, true, false, cond, not, ◌&&◌, false≢true}
 use mathlib.Core.List.{List}
-use mathlib.Core.Option.{Option, none, some}
 use Prim.Native.Nat.{ℕ, zero, suc, ◌/◌, ◌<◌}
 use native.Mathlib.Omega.{arith}
 use borrow.Author.Tests.{ltb-true, not-false}
@@ -12,7 +12,7 @@ use Rattle.numbers.specs.Ints.{positive_part}
 use Rattle.numbers.specs.Below.{at, if_zero, count, least, or_zero, first_from, some_below}
 use Rattle.numbers.proofs.BelowLaws.{count_cong, table_get}
 use Rattle.numbers.proofs.FirstLaws.{some_has}
-use Rattle.refusals.specs.Refusals.{passed, then, unless, refuse_at, refuse_first, no_row, unlimited, below_zero}
+use Rattle.refusals.specs.Refusals.{then, unless, refuse_at, refuse_first, no_row, unlimited, below_zero}
 use Rattle.refusals.proofs.RefusalLaws.{unless_passed, none_passed}
 use Rattle.rounds.specs.Rounds.{Grid, State, sharers, raise, alone, Rounds, done, more}
 use Rattle.rounds.proofs.LeastLaws.{Least, least_is}
@@ -48,22 +48,22 @@ module _ (s : Setup) where
   p_unmarked i b m = rw m
 
 -- ---- its judgement hands on what it is given
-pub then_judged : {A B : Type 0} (s : Setup) (a : A) (f : A → B) → then (judge_by s a) (λ a. passed (f a)) ≡ judge_by s (f a)
+pub then_judged : {A B : Type 0} (s : Setup) (a : A) (f : A → B) → then (judge_by s a) (λ a. Ok (f a)) ≡ judge_by s (f a)
 unfolding judge_by refuse_first then unless refuse_at
 then_judged {A} {B} s a f = go (some_below s.rows s.takes) (first_from s.borders 0 (free_by s)) (first_from s.rows 0 (low_by s))
   where
-    go : (k : Bool) (o q : Option ℕ) → then (unless k no_row (refuse_at o unlimited (refuse_at q below_zero (passed a)))) (λ a. passed (f a)) ≡ unless k no_row (refuse_at o unlimited (refuse_at q below_zero (passed (f a))))
+    go : (k : Bool) (o q : Option ℕ) → then (unless k no_row (refuse_at o unlimited (refuse_at q below_zero (Ok a)))) (λ a. Ok (f a)) ≡ unless k no_row (refuse_at o unlimited (refuse_at q below_zero (Ok (f a))))
     go false o q = refl
-    go true (some b) q = refl
-    go true none (some i) = refl
-    go true none none = refl
+    go true (Some b) q = refl
+    go true None (Some i) = refl
+    go true None None = refl
 
 -- ---- of an accepted setup each marked border is loaded by some row that takes part
 and_not : (m f : Bool) → (m && not f) ≡ false → m ≡ true → f ≡ true
 and_not true f e k = not-false f e
 and_not false f e k = absurd (false≢true k)
 
-pub marked_loaded : {A : Type 0} (s : Setup) (a r : A) → judge_by s a ≡ passed r → (b : ℕ) → b < s.borders → s.marked b ≡ true → (i : ℕ) × (i < s.rows) × (0 < (grid_by s).p i b)
+pub marked_loaded : {A : Type 0} (s : Setup) (a r : A) → judge_by s a ≡ Ok r → (b : ℕ) → b < s.borders → s.marked b ≡ true → (i : ℕ) × (i < s.rows) × (0 < (grid_by s).p i b)
 unfolding judge_by
 marked_loaded s a r e b h m =
     let free = (none_passed _ _ _ _ r (unless_passed r _ _ _ e).1).0 b h in
@@ -76,8 +76,8 @@ unfolding raise or_zero
 unloaded_raise g m b z = go (λ r. at m r / sharers g r / g.p r b) (least g.rows (λ r. g.p r b) (λ r. at m r / sharers g r / g.p r b)) (least_is g.rows (λ r. g.p r b) (λ r. at m r / sharers g r / g.p r b))
   where
     go : (f : ℕ → ℕ) (o : Option ℕ) → Least g.rows (λ r. g.p r b) f o → or_zero o ≡ 0
-    go f none n = refl
-    go f (some u) s = absurd (omega (arith, s.counts, z s.i s.below))
+    go f None n = refl
+    go f (Some u) s = absurd (omega (arith, s.counts, z s.i s.below))
 
 pub unloaded_stays : {g : Grid} {s t : State} {k : ℕ} → Rounds g s k t → (b : ℕ) → b < g.borders → ((r : ℕ) → r < g.rows → g.p r b ≡ 0) → at t.x b ≡ at s.x b
 unloaded_stays (done e) b h z = refl
@@ -114,5 +114,5 @@ module _ (s : Setup) where
   alone_unmarked m b q = go (λ r. at m r / (grid_by s).p r b) (least (grid_by s).rows (λ r. (grid_by s).p r b) (λ r. at m r / (grid_by s).p r b)) (least_is (grid_by s).rows (λ r. (grid_by s).p r b) (λ r. at m r / (grid_by s).p r b))
     where
       go : (f : ℕ → ℕ) (o : Option ℕ) → Least (grid_by s).rows (λ r. (grid_by s).p r b) f o → or_zero o ≡ 0
-      go f none n = refl
-      go f (some u) w = absurd (omega (arith, w.counts, p_unmarked s w.i b q))
+      go f None n = refl
+      go f (Some u) w = absurd (omega (arith, w.counts, p_unmarked s w.i b q))

@@ -1,9 +1,9 @@
 -- 01: if CVA and IVA are 0 in every row, refusal 7 isn't given; 02, E12: nor of any intraday table. Of the judgement of a table, of its outcome, and of what the calls
 -- on lent tables answer, of every border or with marks.
+use Rattle.std.specs.Prelude.{Err, None, Ok, Option, Some}
 use mathlib.Core.Path.{◌≡◌, refl, sym, ap, subst, ◌∙◌}
 use mathlib.Core.Bool.{Bool, true, false, ◌&&◌, not}
 use mathlib.Core.List.{List, []}
-use mathlib.Core.Option.{Option, none, some}
 use Prim.Native.Nat.{ℕ, ◌<◌}
 use native.Mathlib.Omega.{arith}
 use lib.IntN.{ℤ, pos}
@@ -12,7 +12,7 @@ use lib.Seq.{get_or-take}
 use lib.Signed.{lt_z}
 use Rattle.numbers.specs.Below.{first_from, some_below}
 use Rattle.numbers.proofs.BelowLaws.{first_nothing, table_get}
-use Rattle.refusals.specs.Refusals.{Judged, passed, refused, then, either, unless, refuse_at, refuse_first, no_row, unlimited, below_zero}
+use Rattle.refusals.specs.Refusals.{Judged, then, either, unless, refuse_at, refuse_first, no_row, unlimited, below_zero}
 use Rattle.types.specs.Ranges.{is_intraday, default_of, row_of}
 use Rattle.marks.specs.Marks.{judge_marks, judge_asked, may_rise}
 use Rattle.tablerules.specs.Table.{Table, row_at, factors_at, front, room_for, in_range, not_twice, judge_shape, judge_records, judge_for, judge_lent}
@@ -33,18 +33,18 @@ abbrev pub Other : ℕ → Type 0
 Other n = n ≡ 7 → ⊥
 
 told_other : {A : Type 0} (j : Judged A) → NotSeven j → Told Other j
-told_other (passed a) n = record { says = tt }
-told_other (refused w) n = record { says = n }
+told_other (Ok a) n = record { says = tt }
+told_other (Err w) n = record { says = n }
 
 pub not_seven : {A : Type 0} (j : Judged A) → Told Other j → NotSeven j
-not_seven (passed a) n = tt
-not_seven (refused w) n = n.says
+not_seven (Ok a) n = tt
+not_seven (Err w) n = n.says
 
 -- ---- a setup in which no row that takes part starts below 0, or where that is not refused
 none_low : {A : Type 0} (s : Setup) (a : A) → ((i : ℕ) → i < s.rows → (s.strict && lt_z (s.margin i) (pos 0)) ≡ false) → NotSeven (judge_by s a)
 unfolding judge_by refuse_first unless refuse_at
 none_low {A} s a h =
-    subst (λ (o : Option ℕ). NotSeven (unless (some_below s.rows s.takes) no_row (refuse_at (first_from s.borders 0 (free_by s)) unlimited (refuse_at o below_zero (passed a)))))
+    subst (λ (o : Option ℕ). NotSeven (unless (some_below s.rows s.takes) no_row (refuse_at (first_from s.borders 0 (free_by s)) unlimited (refuse_at o below_zero (Ok a)))))
     (sym (first_nothing s.rows (low_by s) (λ i l. and_right (s.takes i) _ (h i l))))
     (go (some_below s.rows s.takes) (first_from s.borders 0 (free_by s)))
   where
@@ -52,9 +52,9 @@ none_low {A} s a h =
     and_right true d e = e
     and_right false d e = refl
 
-    go : (k : Bool) (o : Option ℕ) → NotSeven (unless k no_row (refuse_at o unlimited (refuse_at none below_zero (passed a))))
-    go true none = tt
-    go true (some b) = λ e. omega arith
+    go : (k : Bool) (o : Option ℕ) → NotSeven (unless k no_row (refuse_at o unlimited (refuse_at None below_zero (Ok a))))
+    go true None = tt
+    go true (Some b) = λ e. omega arith
     go false o = λ e. omega arith
 
 -- a table in which no row starts below 0, or whose profile allows that, whichever rows take part and whichever borders are marked
@@ -141,6 +141,6 @@ extract_not_7 all marks given ps atcs lefts none-taken =
     (asked_outcome all marks t (subst NoReductions (sym (judged_front given t (judged_lent given t (length ps) e))) (front_reductions given none-taken)))
     (λ r q. told_need _ _ _ (λ e. omega arith) (told_need _ _ _ (λ e. omega arith) (told_passed r)))))
   where
-    go : (j : Judged Result) → Told Other j → NotSeven (either j (result_stored ps atcs lefts) (λ w. leaves (refused w) ps atcs lefts)).answer
-    go (passed r) n = tt
-    go (refused w) n = n.says
+    go : (j : Judged Result) → Told Other j → NotSeven (either j (result_stored ps atcs lefts) (λ w. leaves (Err w) ps atcs lefts)).answer
+    go (Ok r) n = tt
+    go (Err w) n = n.says

@@ -1,6 +1,7 @@
 -- 02, E14: does shortening the list cost capacity? It does not (promises: specs/Shortening).
+use Rattle.std.specs.Prelude.{Err, Ok}
 use mathlib.Core.Path.{◌≡◌, refl, ap, subst}
-use Rattle.refusals.specs.Refusals.{Judged, passed, refused}
+use Rattle.refusals.specs.Refusals.{Judged}
 use Rattle.types.specs.declared.Header.{Header}
 use Rattle.marks.specs.Marks.{may_rise}
 use Rattle.staterules.specs.States.{kept}
@@ -29,6 +30,6 @@ pub accepted_in_any_order : AcceptedInAnyOrder
 accepted_in_any_order t t' r good o all marks e =
     go (outcome_for all marks t') (subst (λ (j : Judged Result). Both (SameResult t.header.borders) j (outcome_for all marks t')) e (any_order t t' good o all marks)) refl
   where
-    go : (j : Judged Result) → Both (SameResult t.header.borders) (passed r) j → outcome_for all marks t' ≡ j → AcceptedToo all marks t t' r
-    go (passed r') b q = record { result = r'; accepted = q; same = b }
-    go (refused w) b q = absurd b
+    go : (j : Judged Result) → Both (SameResult t.header.borders) (Ok r) j → outcome_for all marks t' ≡ j → AcceptedToo all marks t t' r
+    go (Ok r') b q = record { result = r'; accepted = q; same = b }
+    go (Err w) b q = absurd b

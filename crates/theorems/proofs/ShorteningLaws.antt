@@ -1,10 +1,10 @@
 -- What `Shortening.antt` cites: which setups of a table are alike, of states 0 and 2 against state 0, and of the rows in another order. No contract cites this file.
 -- Each row of states 0 and 2 is covered by the kept row of its class, which has the lowest RAM. State 1 depends on the spread alone, so that states 0 and 2 together do not
 -- depend on the order of the rows; which row of a class is kept does not matter.
+use Rattle.std.specs.Prelude.{None, Option, Some}
 use mathlib.Core.Path.{◌≡◌, refl, sym, ap, subst, ◌∙◌}
 use mathlib.Core.Bool.{Bool, true, false, cond, not, ◌||◌}
 use mathlib.Core.List.{List}
-use mathlib.Core.Option.{Option, none, some}
 use Prim.Native.Nat.{ℕ, ◌+◌, ◌<◌}
 use native.Mathlib.Omega.{arith}
 use lib.Dec.{ltb, eqb}
@@ -63,8 +63,8 @@ asked_both {A} like all borders marks j j' both = go all (ltb 0 (length marks)) 
         → Both like (cond all j (unless some-mark (bad_mark 0) (refuse_at o (λ k. bad_mark (k + 1)) j))) (cond all j' (unless some-mark (bad_mark 0) (refuse_at o (λ k. bad_mark (k + 1)) j')))
     go true m o = both
     go false false o = record { number = refl; place = λ n. refl }
-    go false true (some k) = record { number = refl; place = λ n. refl }
-    go false true none = both
+    go false true (Some k) = record { number = refl; place = λ n. refl }
+    go false true None = both
 
 pub alike_outcomes : (takes takes' : List ℕ → ℕ → Bool) (all : Bool) (marks : List ℕ) (t t' : Table) → t'.header.borders ≡ t.header.borders
     → Alike (setup_of takes (may_rise all marks) t) (setup_of takes' (may_rise all marks) t') → Both (SameResult t.header.borders) (outcome_taking takes all marks t) (outcome_taking takes' all marks t')

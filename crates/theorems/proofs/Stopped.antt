@@ -1,15 +1,14 @@
 -- 02, E7, of every accepted table (promises: specs/Stopped): each marked border has a row that stopped it, the first such, and its last round is the rules'; a border that
 -- is not marked has neither (02, E13).
 -- From the rounds' own theorems (`RoundStops.antt`) by what p of the grid is: the table's factor at a kept row and a marked border, and 0 at all others.
+use Rattle.std.specs.Prelude.{None, Ok}
 use mathlib.Core.Path.{◌≡◌, sym, ap, subst, ◌∙◌}
 use mathlib.Core.Bool.{Bool, true, false}
 use mathlib.Core.List.{List, []}
-use mathlib.Core.Option.{none}
 use Prim.Native.Nat.{ℕ, ◌/◌, ◌≤◌, ◌<◌}
 use lib.IntN.{ℤ, pos}
 use lib.ListN.{get_or}
 use Rattle.numbers.proofs.BelowLaws.{table_get}
-use Rattle.refusals.specs.Refusals.{passed}
 use Rattle.refusals.proofs.RefusalLaws.{then_passed}
 use Rattle.types.specs.Ranges.{at_ℤ}
 use Rattle.marks.specs.Marks.{may_rise}
@@ -70,7 +69,7 @@ module _ (marked : ℕ → Bool) (t : Table) (b : ℕ) where
         let r = rules.stop_row_lem w i b hi hb hp in
         record {
           row = r.0;
-          found = table_get t.header.borders (stop_row g (extract g (table_start t)).state.margins) b none hb ∙ sym r.1;
+          found = table_get t.header.borders (stop_row g (extract g (table_start t)).state.margins) b None hb ∙ sym r.1;
           stopped = stopped_by r.2;
           last =
               subst (LastRaise g (table_start t) b (extract g (table_start t)).rounds)
@@ -85,16 +84,16 @@ module _ (marked : ℕ → Bool) (t : Table) (b : ℕ) where
       record {
         last = table_get t.header.borders (last_round g (table_start t)) b 0 h ∙ rules.never_raised g (table_start t) b none-loads;
         stop =
-            table_get t.header.borders (stop_row g (extract g (table_start t)).state.margins) b none h
+            table_get t.header.borders (stop_row g (extract g (table_start t)).state.margins) b None h
             ∙ rules.never_stopped g (extract g (table_start t)).state.margins b none-loads;
       }
 
 -- ---- every border of every accepted table
-module _ (marked : ℕ → Bool) (t : Table) (r : Result) (e : outcome_marked marked t ≡ passed r) (b : ℕ) (hb : b < t.header.borders) where
+module _ (marked : ℕ → Bool) (t : Table) (r : Result) (e : outcome_marked marked t ≡ Ok r) (b : ℕ) (hb : b < t.header.borders) where
   pub accepted_stopped : marked b ≡ true → BorderStopped t marked r b
   unfolding outcome_marked setup_with
   accepted_stopped m =
-      let w = then_passed (judge_marked marked t) (λ states. passed (result_marked marked t)) r e in
+      let w = then_passed (judge_marked marked t) (λ states. Ok (result_marked marked t)) r e in
       let i = marked_loaded (setup_of kept marked t) (standings_of t).states w.it w.first b hb m in
       subst (λ (v : Result). BorderStopped t marked v b) (accepted marked t r e).is (border-stopped marked t b m hb i.0 i.1 i.2)
 
@@ -102,7 +101,7 @@ module _ (marked : ℕ → Bool) (t : Table) (r : Result) (e : outcome_marked ma
   accepted_unmarked m = subst (λ (v : Result). Unmarked v b) (accepted marked t r e).is (never-rises marked t b hb m)
 
 -- ---- every border, as a caller of `extract` or `extract_marked` finds it in lent memory
-module _ (all : Bool) (marks : List ℕ) (given : Table) (ps : List ℕ) (atcs lefts : List (List ℤ)) (k : ℕ) (e : (extract_for all marks given ps atcs lefts).answer ≡ passed k)
+module _ (all : Bool) (marks : List ℕ) (given : Table) (ps : List ℕ) (atcs lefts : List (List ℤ)) (k : ℕ) (e : (extract_for all marks given ps atcs lefts).answer ≡ Ok k)
     (b : ℕ) (hb : b < given.header.borders) where
   abbrev left : Result
   left = result_marked (may_rise all marks) (front given)

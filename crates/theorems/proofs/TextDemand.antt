@@ -1,6 +1,7 @@
 -- Demand 3, which row stopped a border (02, E7), and that refusal 7 isn't given where CVA and IVA are 0, of the text that a call leaves: said of its bytes, for every text
 -- and correction sheet that is answered, of every border or with marks, and for lent tables. With a sheet the theorems speak of the merged table (02, E2).
 -- `answer_corrected` is of every border; `answer` and `answer_marked` are of an empty sheet (`empty-answer`).
+use Rattle.std.specs.Prelude.{Err, Ok}
 use mathlib.Core.Path.{◌≡◌, refl, sym, ap, subst, ◌∙◌}
 use mathlib.Core.Bool.{Bool, true, false}
 use mathlib.Core.List.{List, [], ◌∷◌, ◌++◌}
@@ -13,7 +14,7 @@ use lib.ListN.{length, take}
 use lib.Seq.{take_at}
 use Rattle.numbers.specs.Below.{at, table, over}
 use Rattle.refusals.specs.declared.Refusal.{Refusal}
-use Rattle.refusals.specs.Refusals.{Judged, passed, refused, then, either, need}
+use Rattle.refusals.specs.Refusals.{Judged, number_of, place_of, byte_of, then, either, need}
 use Rattle.refusals.proofs.RefusalLaws.{passed_is, answer_passed, then_passed, then_next, either_passed, need_passed}
 use Rattle.marks.specs.Marks.{judge_marks, judge_asked, may_rise}
 use Rattle.text.specs.Left.{TextLeft, text_left}
@@ -44,15 +45,15 @@ use Rattle.answer.specs.Result.{result_text, result_text_for, answer_with}
 pub record TextDemand3 (marked : ℕ → Bool) (read : Judged Table) (answered : List ℕ) : Type 0 where
   pub table : Table
   pub result : Result
-  pub is : read ≡ passed table
+  pub is : read ≡ Ok table
   pub printed : answered ≡ result_text result
-  pub outcome : outcome_marked marked table ≡ passed result
+  pub outcome : outcome_marked marked table ≡ Ok result
   pub demand : ResultDemand3 table marked result
   pub stopped : (b : ℕ) → b < table.header.borders → marked b ≡ true → BorderStopped table marked result b
   pub unmarked : (b : ℕ) → b < table.header.borders → marked b ≡ false → Unmarked result b
 
 -- the text of a table that was read and accepted
-module _ (all : Bool) (marks : List ℕ) (read : Judged Table) (good : (t : Table) → read ≡ passed t → Good t) (r : Result) (e : then read (outcome_for all marks) ≡ passed r) where
+module _ (all : Bool) (marks : List ℕ) (read : Judged Table) (good : (t : Table) → read ≡ Ok t → Good t) (r : Result) (e : then read (outcome_for all marks) ≡ Ok r) where
   result-demand-3 : (answered : List ℕ) → answered ≡ result_text r → TextDemand3 (may_rise all marks) read answered
   result-demand-3 answered printed =
       let a = then_passed read (outcome_for all marks) r e in
@@ -77,20 +78,20 @@ answer_demand_3 all marks text sheet = go (then (read_corrected text sheet) (out
   where
     go : (j : Judged Result) → then (read_corrected text sheet) (outcome_for all marks) ≡ j → (at (either j result_text refusal_text) 0 ≡ code "E" → ⊥)
         → TextDemand3 (may_rise all marks) (read_corrected text sheet) (answer_with all marks text sheet)
-    go (refused w) q h = absurd (h refl)
-    go (passed r) q h = result-demand-3 all marks (read_corrected text sheet) (corrected_good text sheet) r q _ (either_passed result_text refusal_text q)
+    go (Err w) q h = absurd (h refl)
+    go (Ok r) q h = result-demand-3 all marks (read_corrected text sheet) (corrected_good text sheet) r q _ (either_passed result_text refusal_text q)
 
 -- demand 3 of every text that `result_text` and `result_text_marked` leave of lent tables: of the bytes that they say they wrote
-text_taken : (j : Judged (List ℕ)) (out : List ℕ) (n : ℕ) → (text_left j out).answer ≡ passed n → j ≡ passed (take n (text_left j out).out)
+text_taken : (j : Judged (List ℕ)) (out : List ℕ) (n : ℕ) → (text_left j out).answer ≡ Ok n → j ≡ Ok (take n (text_left j out).out)
 unfolding text_left
 text_taken j out n e =
-    let p = answer_passed (then j (λ text. need (length text) (length out) (passed text))) _ _ (λ (l : TextLeft). l.answer) n (λ w. refl) e in
+    let p = answer_passed (then j (λ text. need (length text) (length out) (Ok text))) _ _ (λ (l : TextLeft). l.answer) n (λ w. refl) e in
     let w = then_passed j _ p.0 p.1 in
     let written = ap (λ (l : TextLeft). take n l.out) (either_passed _ _ p.1) ∙ take_at p.0 _ n (passed_is _ _ p.2) in
-    w.first ∙ (need_passed p.0 _ _ _ w.second).1 ∙ ap passed (sym written)
+    w.first ∙ (need_passed p.0 _ _ _ w.second).1 ∙ ap Ok (sym written)
 
 pub result_text_demand_3 : (all : Bool) (marks : List ℕ) (given : Table) (out : List ℕ) (n : ℕ) → let left = result_text_for all marks given out in
-    left.answer ≡ passed n → TextDemand3 (may_rise all marks) (judge_lent given) (take n left.out)
+    left.answer ≡ Ok n → TextDemand3 (may_rise all marks) (judge_lent given) (take n left.out)
 unfolding result_text_for
 result_text_demand_3 all marks given out n e =
     let text = take n (result_text_for all marks given out).out in
@@ -103,7 +104,7 @@ result_text_demand_3 all marks given out n e =
 pub result_text_not_7 : (all : Bool) (marks : List ℕ) (given : Table) (out : List ℕ) → NoReductions given → NotSeven (result_text_for all marks given out).answer
 unfolding result_text_for text_left either
 result_text_not_7 all marks given out none-taken =
-    go (then (then (judge_lent given) (λ t. then (outcome_for all marks t) (λ r. passed (result_text r)))) (λ text. need (length text) (length out) (passed text)))
+    go (then (then (judge_lent given) (λ t. then (outcome_for all marks t) (λ r. Ok (result_text r)))) (λ text. need (length text) (length out) (Ok text)))
     (told_then _ _
     (told_then (judge_lent given) _ (lent_not_7 given)
     (λ t e.
@@ -111,9 +112,9 @@ result_text_not_7 all marks given out none-taken =
     (λ text e. told_need _ _ _ (λ q. omega arith) (told_passed _)))
   where
     go : (j : Judged (List ℕ)) → Told Other j
-        → NotSeven (either {B = TextLeft} j (λ text. record { answer = passed (length text); out = over text out }) (λ w. record { answer = refused w; out = out })).answer
-    go (passed text) n = tt
-    go (refused w) n = n.says
+        → NotSeven (either {B = TextLeft} j (λ text. record { answer = Ok (length text); out = over text out }) (λ w. record { answer = Err w; out = out })).answer
+    go (Ok text) n = tt
+    go (Err w) n = n.says
 
 -- `answer`, `answer_marked` and `answer_corrected` print a refusal.
 -- The outcome of a table is refused by 5, 6, 7 or 13 alone
@@ -147,7 +148,7 @@ result_letter r =
     go atcs lefts zero (suc rows) fields e = let z : ◌≡◌ {A = ℕ} 77 69 = e in omega arith
     go atcs lefts zero zero fields e = let z : ◌≡◌ {A = ℕ} 82 69 = e in omega arith
 
-pub answer_not_7 : (all : Bool) (marks text sheet : List ℕ) (t : Table) → read_corrected text sheet ≡ passed t → NoReductions t
+pub answer_not_7 : (all : Bool) (marks text sheet : List ℕ) (t : Table) → read_corrected text sheet ≡ Ok t → NoReductions t
     → at (answer_with all marks text sheet) 0 ≡ code "E" → at (answer_with all marks text sheet) 2 ≡ code "7" → ⊥
 unfolding answer_with either refusal_text line_text fields_text decimal text_of
 answer_not_7 all marks text sheet t read none-taken e k =
@@ -157,12 +158,12 @@ answer_not_7 all marks text sheet t read none-taken e k =
     byte i = ap (λ (j : Judged Result). at (either j result_text refusal_text) i) (sym (then_next (outcome_for all marks) read))
 
     -- an E line's third byte is its number's first digit
-    digit : (w : Refusal) (n : ℕ) → w.number ≡ n → at (refusal_text w) 2 ≡ at (decimal n ++ fields_text (decimal w.place ∷ decimal w.byte ∷ [])) 0
-    digit w n q = ap (λ (m : ℕ). at (decimal m ++ fields_text (decimal w.place ∷ decimal w.byte ∷ [])) 0) q
+    digit : (w : Refusal) (n : ℕ) → number_of w ≡ n → at (refusal_text w) 2 ≡ at (decimal n ++ fields_text (decimal (place_of w) ∷ decimal (byte_of w) ∷ [])) 0
+    digit w n q = ap (λ (m : ℕ). at (decimal m ++ fields_text (decimal (place_of w) ∷ decimal (byte_of w) ∷ [])) 0) q
 
     go : (o : Judged Result) → Says Late o → NotSeven o → at (either o result_text refusal_text) 0 ≡ code "E" → at (either o result_text refusal_text) 2 ≡ code "7" → ⊥
-    go (passed r) late n e k = result_letter r e
-    go (refused w) (inl five) n e k = let z : ◌≡◌ {A = ℕ} 53 55 = sym (digit w 5 five) ∙ k in omega arith
-    go (refused w) (inr (inl six)) n e k = let z : ◌≡◌ {A = ℕ} 54 55 = sym (digit w 6 six) ∙ k in omega arith
-    go (refused w) (inr (inr (inl seven))) n e k = n seven
-    go (refused w) (inr (inr (inr thirteen))) n e k = let z : ◌≡◌ {A = ℕ} 49 55 = sym (digit w 13 thirteen) ∙ k in omega arith
+    go (Ok r) late n e k = result_letter r e
+    go (Err w) (inl five) n e k = let z : ◌≡◌ {A = ℕ} 53 55 = sym (digit w 5 five) ∙ k in omega arith
+    go (Err w) (inr (inl six)) n e k = let z : ◌≡◌ {A = ℕ} 54 55 = sym (digit w 6 six) ∙ k in omega arith
+    go (Err w) (inr (inr (inl seven))) n e k = n seven
+    go (Err w) (inr (inr (inr thirteen))) n e k = let z : ◌≡◌ {A = ℕ} 49 55 = sym (digit w 13 thirteen) ∙ k in omega arith

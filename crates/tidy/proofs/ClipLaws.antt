@@ -1,12 +1,14 @@
 -- The laws of `specs/Clip.antt`: bytes stored one text after another, and what is left to store. No contract cites this file.
 use mathlib.Core.Path.{◌≡◌, refl, sym, ap, ap₂, subst, ◌∙◌}
 use mathlib.Core.List.{List, [], ◌∷◌, ◌++◌, append_assoc, append-nil}
-use Prim.Native.Nat.{ℕ, zero, suc, ◌+◌, ◌-◌, ◌≤◌, ◌<◌}
-use native.Mathlib.Nat.{not-suc-le-zero, add-zero, zero-add}
-use native.Mathlib.Numerals.{add-one}
+use mathlib.Core.Logic.{⊎_elim}
+use Prim.Native.Nat.{ℕ, suc, ◌+◌, ◌-◌, ◌≤◌, ◌<◌, min}
+use native.Mathlib.Nat.{not-suc-le-zero, add-zero}
 use native.Mathlib.Omega.{arith}
-use lib.ListN.{length, get_or, take, drop, set, replicate, length-append, length-drop, length-replicate, drop_of_length-le}
-use lib.Seq.{sets, length-sets, drop-cons, set_out, set-append_seam, take_all, length-take-le}
+use lib.ListN.{length, take, drop, set, replicate, length-append, length-replicate, take-append-drop}
+use lib.Seq.{sets, sets-eq, length-sets, set_out, set-append_seam, take_all, drop-drop, length-take-le}
+use Rattle.std.proofs.lemmas.List.{take-replicate}
+use Rattle.numbers.proofs.BelowLaws.{le_or_lt}
 use Rattle.tidy.specs.Clip.{Clip}
 
 -- ---- sets
@@ -35,12 +37,47 @@ pub sets_cover : (vs l : List ℕ) → length l ≤ length vs → sets l 0 vs �
 sets_cover vs l h = cover vs [] l h
 
 -- ---- Clip
-module _ (b at : ℕ) (out : List ℕ) where
-  pub clip_byte : Clip (b ∷ []) at out (at + 1) (set out at b)
-  clip_byte = record { after = refl; wrote = refl }
+-- the front of a text, where what follows it is past the room
+sets-front : (l vs : List ℕ) (at n : ℕ) → n ≤ length vs → length l ≤ at + n → sets l at (take n vs) ≡ sets l at vs
+sets-front l vs at n h past =
+    let m = sets l at (take n vs) in
+    let long : length (take n vs) ≡ n = length-take-le n vs h in
+    sym (sets_past m (at + length (take n vs)) (drop n vs) (omega (arith, length-sets l at (take n vs))))
+    ∙ sym (sets_append l at (take n vs) (drop n vs))
+    ∙ ap (sets l at) (take-append-drop n vs)
 
-  pub clip_past : length out ≤ at → Clip (b ∷ []) at out (at + 1) out
-  clip_past h = record { after = refl; wrote = sym (set_out out at b h) }
+-- the part of a text that there is room for, stored at once
+pub clip_part : (vs l part : List ℕ) (at from until : ℕ) → from ≡ min at (length l) → until ≡ min (at + length vs) (length l) → part ≡ take (until - from) vs
+    → Clip vs at l (at + length vs) (take from l ++ (part ++ drop (until - from) (drop from l)))
+clip_part vs l part at from until f u e = record { after = refl; wrote = ⊎_elim past within (le_or_lt (length l) at) }
+  where
+    past : length l ≤ at → take from l ++ (part ++ drop (until - from) (drop from l)) ≡ sets l at vs
+    past h =
+        let none : until - from ≡ 0 = omega arith in
+        rw (e, none) (take-append-drop from l ∙ sym (sets_past l at vs h))
+
+    within : at < length l → take from l ++ (part ++ drop (until - from) (drop from l)) ≡ sets l at vs
+    within h =
+        let n = until - from in
+        let here : from ≡ at = omega arith in
+        let fits : n ≤ length vs = omega arith in
+        let long : length (take n vs) ≡ n = length-take-le n vs fits in
+        let front : take at l ++ (take n vs ++ drop n (drop at l)) ≡ sets l at (take n vs) =
+        ap (λ (t : List ℕ). take at l ++ (take n vs ++ t)) (drop-drop n at l ∙ ap (λ (k : ℕ). drop (at + k) l) (sym long)) ∙ sym (append_assoc (take at l) (take n vs) (drop (at + length (take n vs)) l)) ∙ sym (sets-eq (take n vs) l at (omega arith)) in
+        ap₂ (λ (k : ℕ) (p : List ℕ). take k l ++ (p ++ drop n (drop k l))) here e
+        ∙ front
+        ∙ ⊎_elim (λ (all : length vs ≤ n). ap (sets l at) (take_all n vs all)) (λ (more : n < length vs). sets-front l vs at n fits (omega arith)) (le_or_lt (length vs) n)
+
+-- the same of zeros
+pub clip_zeros : (n : ℕ) (l part : List ℕ) (at from until : ℕ) → from ≡ min at (length l) → until ≡ min (at + n) (length l) → part ≡ replicate (until - from) 48
+    → Clip (replicate n 48) at l (at + n) (take from l ++ (part ++ drop (until - from) (drop from l)))
+clip_zeros n l part at from until f u e =
+    let long : length (replicate {A = ℕ} n 48) ≡ n = length-replicate n 48 in
+    let fits : until - from ≤ n = omega arith in
+    record {
+      after = ap (λ (k : ℕ). at + k) (sym long);
+      wrote = (clip_part (replicate n 48) l part at from until f (u ∙ ap (λ (k : ℕ). min (at + k) (length l)) (sym long)) (e ∙ sym (take-replicate (until - from) n 48 fits))).wrote;
+    }
 
 pub clip_more : {x y : List ℕ} {at m n : ℕ} {out mid out' : List ℕ} → Clip x at out m mid → Clip y m mid n out' → Clip (x ++ y) at out n out'
 clip_more {x} {y} {at} {m} {n} {out} p q = record {
@@ -81,29 +118,3 @@ module _ {whole : List ℕ} {at next : ℕ} {out₀ out : List ℕ} where
 
   pub left_last : {x : List ℕ} {n : ℕ} {out' : List ℕ} → Left whole x at next out₀ out → Clip x next out n out' → Clip whole at out₀ n out'
   left_last {x} u p = record { after = omega (arith, u.place, p.after); wrote = p.wrote ∙ u.same }
-
--- ---- a copy
-module _ {s : List ℕ} {at next i : ℕ} {out₀ out : List ℕ} (u : Left s (drop i s) at next out₀ out) where
-  pub copy_more : {n : ℕ} {out' : List ℕ} (b : ℕ) → i < length s → b ≡ get_or s i 0 → Clip (b ∷ []) next out n out' → Left s (drop (i + 1) s) at n out₀ out'
-  copy_more b h e p = left_more (left_is (drop-cons s i 0 h ∙ ap₂ (λ (a : ℕ) (k : ℕ). a ∷ drop k s) (sym e) (sym (add-one i))) u) p
-
-  pub copy_room : {most : ℕ} → i < length s → at + length s ≤ most → next < most
-  copy_room h l = omega (arith, u.place, length-drop i s)
-
-  pub copy_all : length s ≤ i → Clip s at out₀ next out
-  copy_all h = left_all (left_is (drop_of_length-le s h) u)
-
--- ---- zeros
-zeros_cons : (n : ℕ) → 0 < n → replicate {A = ℕ} n 48 ≡ 48 ∷ replicate (n - 1) 48
-zeros_cons zero h = absurd (not-suc-le-zero {n = 0} (omega arith))
-zeros_cons (suc n) h = let e : n ≡ suc n - 1 = omega arith in ap (λ (k : ℕ). 48 ∷ replicate k 48) e
-
-module _ (n left : ℕ) {at next : ℕ} {out₀ out : List ℕ} (u : Left (replicate n 48) (replicate left 48) at next out₀ out) where
-  pub zeros_more : {m : ℕ} {out' : List ℕ} → 0 < left → Clip (48 ∷ []) next out m out' → Left (replicate n 48) (replicate (left - 1) 48) at m out₀ out'
-  zeros_more h p = left_more (left_is (zeros_cons left h) u) p
-
-  pub zeros_room : {most : ℕ} → 0 < left → at + n ≤ most → next < most
-  zeros_room h l = omega (arith, u.place, length-replicate {A = ℕ} left 48, length-replicate {A = ℕ} n 48)
-
-  pub zeros_all : left ≡ 0 → Clip (replicate n 48) at out₀ next out
-  zeros_all e = left_all (left_is (ap (λ (k : ℕ). replicate k 48) e) u)

@@ -1,26 +1,25 @@
 -- A line written field by field: the loop's invariant, its steps, and that a line has a byte but tabs and semicolons where it is longer than it has fields to part.
 -- No contract cites this file.
 use mathlib.Core.Path.{◌≡◌, refl, sym, ap, ap₂, subst, ◌∙◌}
-use mathlib.Core.Bool.{Bool, true, false, cond, not, ◌&&◌, ◌||◌, false≢true}
+use mathlib.Core.Bool.{Bool, true, false, cond, not, ◌||◌, false≢true}
 use mathlib.Core.List.{List, [], ◌∷◌, ◌++◌, append_assoc}
-use Prim.Native.Nat.{ℕ, zero, suc, ◌+◌, ◌-◌, ◌≤◌, ◌<◌}
+use Prim.Native.Nat.{ℕ, suc, ◌+◌, ◌-◌, ◌≤◌, ◌<◌}
 use native.Mathlib.Nat.{not-suc-le-zero, zero-add}
 use native.Mathlib.Omega.{arith}
 use borrow.Author.Tests.{eqb-true, ltb-true, ltb-false, lt-ltb, le-ltb}
 use lib.Dec.{ltb, eqb}
-use lib.ListN.{length, get_or, take, drop, length-append, length-drop, drop_of_length-le}
+use lib.ListN.{length, get_or, take, drop, length-append, length-drop}
 use lib.Seq.{get_or-drop, drop-drop}
+use Rattle.std.specs.List.{list_any}
 use Rattle.text.specs.Fields.{tab}
-use Rattle.tidyrules.specs.Cut.{Cut, lastly, ended, one_of, onto, cut, joined, ended_by}
+use Rattle.tidyrules.specs.Cut.{Cut, lastly, ended, onto, cut, joined, ended_by}
 use Rattle.tidyrules.specs.Fields.{repaired}
 use Rattle.tidyrules.specs.Tidied.{semicolon, is_row, wanted, repairs, line_tidied, bare}
 use Rattle.tidyrules.proofs.CutLaws.{Free, Parted, cut_parted}
 use Rattle.tidyrules.proofs.LineLaws.{parts, repairs_parted}
 use Rattle.tidyfields.specs.Pieces.{leading}
 use Rattle.tidyfields.proofs.PieceLaws.{leading_take, leading_le, cut_lastly, cut_ended}
-use Rattle.tidy.specs.declared.line.Placed.{Placed}
 use Rattle.tidy.specs.Clip.{Clip, LinePut}
-use Rattle.tidy.specs.Lines.{held}
 use Rattle.tidy.proofs.ClipLaws.{Left, left_is, left_start, left_more, left_last}
 
 -- ---- a piece at a place
@@ -171,10 +170,10 @@ other b c h e = go (eqb c b) refl
     go true q = absurd (false≢true (sym e ∙ ap parts (eqb-true c b q) ∙ h))
     go false q = refl
 
-pub held_ended : (b : ℕ) → parts b ≡ true → (s : List ℕ) → ended_by b (cut tab semicolon s) ≡ held b s
-held_ended b h [] = refl
-held_ended b h (c ∷ s) = go (parts c) refl (held_ended b h s)
+pub any_ended : (b : ℕ) → parts b ≡ true → (s : List ℕ) → ended_by b (cut tab semicolon s) ≡ list_any (λ c. eqb c b) s
+any_ended b h [] = refl
+any_ended b h (c ∷ s) = go (parts c) refl (any_ended b h s)
   where
-    go : (t : Bool) → parts c ≡ t → ended_by b (cut tab semicolon s) ≡ held b s → ended_by b (cond t (ended [] c (cut tab semicolon s)) (onto c (cut tab semicolon s))) ≡ (eqb c b || held b s)
+    go : (t : Bool) → parts c ≡ t → ended_by b (cut tab semicolon s) ≡ list_any (λ c. eqb c b) s → ended_by b (cond t (ended [] c (cut tab semicolon s)) (onto c (cut tab semicolon s))) ≡ (eqb c b || list_any (λ a. eqb a b) s)
     go true e ih = ap (λ (v : Bool). eqb c b || v) ih
-    go false e ih = onto_ended b c (cut tab semicolon s) ∙ ih ∙ sym (ap (λ (v : Bool). v || held b s) (other b c h e))
+    go false e ih = onto_ended b c (cut tab semicolon s) ∙ ih ∙ sym (ap (λ (v : Bool). v || list_any (λ a. eqb a b) s) (other b c h e))

@@ -1,6 +1,5 @@
 pub mod ClipLaws
 pub mod FieldsLeft
-pub mod HeldLaws
 pub mod LinesLeft
 pub mod BeginLaws
 pub mod TidyLaws

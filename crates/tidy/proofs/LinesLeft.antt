@@ -1,16 +1,14 @@
 -- A text written line by line: the loop's invariant and its steps, and that the lines that stay are the front of all lines. No contract cites this file.
-use mathlib.Core.Path.{◌≡◌, refl, sym, ap, ap₂, subst, ◌∙◌}
+use mathlib.Core.Path.{◌≡◌, refl, sym, ap, ap₂, ◌∙◌}
 use mathlib.Core.Bool.{Bool, true, false, cond, not, ◌&&◌}
 use mathlib.Core.Logic.{⊎_elim}
 use mathlib.Core.List.{List, [], ◌∷◌, ◌++◌, append_assoc, append-nil}
-use Prim.Native.Nat.{ℕ, zero, suc, ◌+◌, ◌*◌, ◌-◌, ◌≤◌, ◌<◌}
-use native.Mathlib.Nat.{not-suc-le-zero, zero-add}
+use Prim.Native.Nat.{ℕ, suc, ◌+◌, ◌*◌, ◌-◌, ◌≤◌, ◌<◌}
+use native.Mathlib.Nat.{not-suc-le-zero}
 use native.Mathlib.Omega.{arith}
 use lib.ListN.{length, get_or, take, drop, length-append, length-drop, length-take, drop_of_length-le}
-use lib.Seq.{sets, take-append-add, take-length}
+use lib.Seq.{sets, take-append-add}
 use Rattle.numbers.proofs.BelowLaws.{le_or_lt}
-use Rattle.numbers.specs.Below.{over}
-use Rattle.numbers.proofs.ListLaws.{over_front}
 use Rattle.text.specs.Fields.{feed}
 use Rattle.tidyrules.specs.Cut.{Cut, lastly, ended, cut, joined}
 use Rattle.tidyrules.specs.Fields.{empty}
@@ -23,7 +21,7 @@ use Rattle.tidy.specs.declared.line.Placed.{Placed}
 use Rattle.tidy.specs.Clip.{Clip, LinePut}
 use Rattle.tidy.specs.Lines.{lines_all}
 use Rattle.tidy.proofs.ClipLaws.{Left, left_is, left_start, left_more, left_all, clip_more, sets_cover}
-use Rattle.tidy.proofs.FieldsLeft.{piece_ended, piece_lastly, piece_le}
+use Rattle.tidy.proofs.FieldsLeft.{piece_ended, piece_lastly}
 
 -- ---- where the last line that stays ends
 -- of lines that begin at `at`, where `kept` is the end of the last one before them that stays
@@ -98,14 +96,14 @@ pub all_most : (s : List ℕ) → length (lines_all (cut feed feed s)) ≤ 2 * l
 all_most s = omega (arith, all_long (cut feed feed s), ap length (cut_joins feed feed s))
 
 -- ---- the loop over lines
-pub record LinesLeft (text : List ℕ) (from : ℕ) (out₀ : List ℕ) (p at kept : ℕ) (out : List ℕ) : Type 0 where
-  pub left : Left (lines_all (cut feed feed (drop from text))) (lines_all (cut feed feed (drop p text))) 0 at out₀ out
-  pub until : kept_from at kept (cut feed feed (drop p text)) ≡ length (lines_tidied (cut feed feed (drop from text)))
+pub record LinesLeft (text out₀ : List ℕ) (p at kept : ℕ) (out : List ℕ) : Type 0 where
+  pub left : Left (lines_all (cut feed feed text)) (lines_all (cut feed feed (drop p text))) 0 at out₀ out
+  pub until : kept_from at kept (cut feed feed (drop p text)) ≡ length (lines_tidied (cut feed feed text))
 
-pub lines_none : (text : List ℕ) (from : ℕ) (out : List ℕ) → LinesLeft text from out from 0 0 out
-lines_none text from out = record { left = left_start (lines_all (cut feed feed (drop from text))) 0 out; until = kept_all (cut feed feed (drop from text)) }
+pub lines_none : (text out : List ℕ) → LinesLeft text out 0 0 0 out
+lines_none text out = record { left = left_start (lines_all (cut feed feed text)) 0 out; until = kept_all (cut feed feed text) }
 
-module _ {text : List ℕ} {from : ℕ} {out₀ : List ℕ} {p at kept : ℕ} {out : List ℕ} (u : LinesLeft text from out₀ p at kept out) where
+module _ {text out₀ : List ℕ} {p at kept : ℕ} {out : List ℕ} (u : LinesLeft text out₀ p at kept out) where
   module _ (e : ℕ) (h : p < length text) (end : e ≡ p + length (leading feed feed (drop p text))) where
     pub lines_room : {most : ℕ} → length text ≤ most → at + (length (line_tidied (take (e - p) (drop p text))) + 1) ≤ 2 * most + 1
     lines_room l =
@@ -113,15 +111,14 @@ module _ {text : List ℕ} {from : ℕ} {out₀ : List ℕ} {p at kept : ℕ} {o
         omega (
           arith,
           u.left.place,
-          all_most (drop from text),
-          length-drop from text,
+          all_most text,
           ap length (all-step text p e h end),
           length-append (here ++ (feed ∷ [])) (lines_all (cut feed feed (drop (e + 1) text))),
           length-append here (feed ∷ []),
         )
 
     pub lines_more : (w : Placed) (mid : List ℕ) (at' kept' : ℕ) (out' : List ℕ) → LinePut (take (e - p) (drop p text)) at out w mid → Clip (feed ∷ []) w.next mid at' out' → kept' ≡ cond w.some at' kept
-        → LinesLeft text from out₀ (e + 1) at' kept' out'
+        → LinesLeft text out₀ (e + 1) at' kept' out'
     lines_more w mid at' kept' out' put line_end k =
         let l = line_tidied (take (e - p) (drop p text)) in
         let both = clip_more put.put line_end in
@@ -136,7 +133,7 @@ module _ {text : List ℕ} {from : ℕ} {out₀ : List ℕ} {p at kept : ℕ} {o
         turned true m n = refl
         turned false m n = refl
 
-  pub lines_all_lem : length text ≤ p → (kept ≡ length (lines_tidied (cut feed feed (drop from text)))) × (out ≡ sets out₀ 0 (lines_all (cut feed feed (drop from text))))
+  pub lines_all_lem : length text ≤ p → (kept ≡ length (lines_tidied (cut feed feed text))) × (out ≡ sets out₀ 0 (lines_all (cut feed feed text)))
   lines_all_lem h =
       let none : drop p text ≡ [] = drop_of_length-le text h in
       let last : kept_from at kept (lastly []) ≡ kept = rw line_empty in (

@@ -1,5 +1,5 @@
--- What the code writes, which keeps all lines until it knows where the last one that stays ends. `lines_all` and `held` are what contracts cite.
-use Rattle.std.specs.Prelude.{Bool, false, cond, ◌||◌, List, [], ◌∷◌, ◌++◌, ℕ, eqb}
+-- What the code writes, which keeps all lines until it knows where the last one that stays ends. `lines_all` is what contracts cite.
+use Rattle.std.specs.Prelude.{cond, List, [], ◌∷◌, ◌++◌, ℕ}
 use Rattle.text.specs.Fields.{feed}
 use Rattle.tidyrules.specs.Cut.{Cut, lastly, ended}
 use Rattle.tidyrules.specs.Fields.{empty}
@@ -9,8 +9,3 @@ use Rattle.tidyrules.specs.Tidied.{line_tidied}
 abbrev pub lines_all : Cut → List ℕ
 lines_all (lastly line) = cond (empty line) [] (line_tidied line ++ (feed ∷ []))
 lines_all (ended line stop rest) = line_tidied line ++ (feed ∷ lines_all rest)
-
--- the line has this byte
-abbrev pub held : ℕ → (line : List ℕ) → Bool
-held b [] = false
-held b (c ∷ s) = eqb c b || held b s

@@ -1,11 +1,10 @@
 // One line, repaired field by field.
-ghost use Rattle.std.specs.Prelude.{◌≡◌, false, [], ◌∷◌, ◌++◌, ◌+◌, ◌-◌, ◌<◌, ◌≤◌, length, get_or, take, drop};
+ghost use Rattle.std.specs.Prelude.{◌≡◌, ◌+◌, ◌≤◌, length};
 ghost use Rattle.text.specs.Fields.{tab};
 ghost use Rattle.tidyrules.specs.Cut.{cut};
 ghost use Rattle.tidyrules.specs.Fields.{repaired};
 ghost use Rattle.tidyrules.specs.Tidied.{semicolon, is_row, line_tidied};
 ghost use Rattle.tidy.specs.Clip.{places_most, Clip, LinePut};
-ghost use Rattle.tidy.specs.Lines.{held};
 
 use crate::put::{copy, put, zeros};
 use tidyfields::{bared, lacking, piece_end, wanted};
@@ -22,12 +21,13 @@ pub fn write_line(line: &[u8], out: &mut [u8], at: usize) -> Placed
     ensures { LinePut line.now at out.old result out.new }
 {
     let row = is_row(line);
-    let mut p: usize = 0;
-    let mut k: usize = 0;
+    let mut p = 0;
+    let mut k = 0;
     let mut next = at;
     let mut e = piece_end(line, 0, b'\t', b';');
     while e < line.len() {
-        next = write_piece(line, p, e, wanted(row, k), out, next);
+        next = write_field(&line[p..e], false, wanted(row, k), out, next);
+        next = put(line[e], out, next);
         p = e + 1;
         k += 1;
         e = piece_end(line, p, b'\t', b';');
@@ -44,32 +44,7 @@ pub fn write_line(line: &[u8], out: &mut [u8], at: usize) -> Placed
 pub fn is_row(line: &[u8]) -> bool
     ensures { result ≡ is_row (cut tab semicolon line.now) }
 {
-    if has(line, b'\t') {
-        return false;
-    }
-    has(line, b';')
-}
-
-fn has(line: &[u8], b: u8) -> bool
-    ensures { result ≡ held b line.now }
-{
-    let mut i: usize = 0;
-    while i < line.len() {
-        if line[i] == b {
-            return true;
-        }
-        i += 1;
-    }
-    false
-}
-
-// The field at p, and the byte at e that ends it.
-fn write_piece(line: &[u8], p: usize, e: usize, want: usize, out: &mut [u8], at: usize) -> usize
-    requires { (p ≤ e) × (e < length line.now) × (at + (length (repaired false want (take (e - p) (drop p line.now))) + 1) ≤ places_most) }
-    ensures { Clip (repaired false want (take (e - p) (drop p line.now)) ++ (get_or line.now e 0 ∷ [])) at out.old result out.new }
-{
-    let next = write_field(&line[p..e], false, want, out, at);
-    put(line[e], out, next)
+    line.contains(&b';') && !line.contains(&b'\t')
 }
 
 // A field, repaired; `want` decimals are wanted of it where it is a number with a point.

@@ -6,23 +6,17 @@ pub fn put(b: u8, out: &mut [u8], at: usize) -> usize
     requires { at < places_most }
     ensures { Clip (b ∷ []) at out.old result out.new }
 {
-    if at < out.len() {
-        out[at] = b;
-        return at + 1;
-    }
-    at + 1
+    copy(&[b], out, at)
 }
 
 pub fn copy(s: &[u8], out: &mut [u8], at: usize) -> usize
     requires { at + length s.now ≤ places_most }
     ensures { Clip s.now at out.old result out.new }
 {
-    let mut next = at;
-    let mut i: usize = 0;
-    while i < s.len() {
-        next = put(s[i], out, next);
-        i += 1;
-    }
+    let next = at + s.len();
+    let from = at.min(out.len());
+    let until = next.min(out.len());
+    out[from..until].copy_from_slice(&s[..until - from]);
     next
 }
 
@@ -30,11 +24,9 @@ pub fn zeros(n: usize, out: &mut [u8], at: usize) -> usize
     requires { at + n ≤ places_most }
     ensures { Clip (replicate n 48) at out.old result out.new }
 {
-    let mut next = at;
-    let mut left = n;
-    while 0 < left {
-        next = put(b'0', out, next);
-        left -= 1;
-    }
+    let next = at + n;
+    let from = at.min(out.len());
+    let until = next.min(out.len());
+    out[from..until].fill(b'0');
     next
 }

@@ -1,23 +1,23 @@
--- The laws that the loops over a field ask for: each definition at a place of a text, at the text's end, and one byte further. No contract cites this file.
--- In order: the first piece; a field's end; its begin; quotes; decimals.
-use mathlib.Core.Path.{◌≡◌, refl, sym, ap, subst, ◌∙◌}
-use mathlib.Core.Bool.{Bool, true, false, cond, ◌&&◌, ◌||◌, false≢true}
+-- The laws that the code over a field asks for: each definition by what a library's count or test of bytes says, or by a text's first and last byte. No contract cites this file.
+-- In order: the first piece; a field's end; quotes; decimals.
+use mathlib.Core.Path.{◌≡◌, refl, sym, ap, ◌∙◌}
+use mathlib.Core.Bool.{Bool, true, false, cond, not, ◌&&◌, ◌||◌, false≢true}
 use mathlib.Core.List.{List, [], ◌∷◌, ◌++◌}
-use Prim.Native.Nat.{ℕ, zero, suc, ◌+◌, ◌-◌, ◌≤◌, ◌<◌}
-use native.Mathlib.Nat.{not-suc-le-zero, zero-add, suc-add, add-zero}
-use native.Mathlib.Numerals.{add-one}
+use Prim.Native.Nat.{ℕ, suc, ◌+◌, ◌-◌, ◌≤◌, ◌<◌}
+use native.Mathlib.Nat.{not-suc-le-zero}
 use native.Mathlib.Omega.{arith}
-use borrow.Author.Tests.{ne_eqb, eq-eqb, eqb-true, eqb-false}
-use lib.Dec.{leb, ltb, eqb}
-use lib.ListN.{length, get_or, take, drop, length-drop, length-take, length-append, drop_of_length-le, take-append-drop}
-use lib.Seq.{drop-cons, take-suc, take_at, take_all, take-nil, length-take-le}
-use Rattle.numbers.proofs.TestLaws.{and_both, zero_one}
-use Rattle.text.specs.Fields.{is_digit, dash}
+use borrow.Author.Tests.{lt-ltb, ne_eqb}
+use lib.Dec.{leb, ltb, eqb, eqb-suc-suc}
+use lib.ListN.{length, get_or, take, drop, length-take}
+use lib.Seq.{take-suc, take-length}
+use Rattle.std.specs.List.{prefix_len, list_all}
+use Rattle.numbers.proofs.TestLaws.{and_both}
+use Rattle.text.specs.Fields.{is_digit}
 use Rattle.text.specs.Point.{point}
-use Rattle.tidyrules.specs.Cut.{Cut, lastly, ended, one_of, onto, cut}
-use Rattle.tidyrules.specs.Fields.{blank, quote, empty, edge, unled, untrailed, trimmed, closes, within, quoted, unquoted, digits_only, decimals_past, decimals_of}
+use Rattle.tidyrules.specs.Cut.{lastly, ended, one_of, onto, cut}
+use Rattle.tidyrules.specs.Fields.{quote, empty, edge, untrailed, trimmed, closes, within, quoted, unquoted, digits_only, decimals_past}
 use Rattle.tidyrules.proofs.RepairLaws.{untrailed_before}
-use Rattle.tidyfields.specs.Pieces.{leading, decimals_behind}
+use Rattle.tidyfields.specs.Pieces.{leading}
 
 -- ---- the first piece
 module _ (stop other : ℕ) where
@@ -54,15 +54,15 @@ module _ (stop other : ℕ) where
       go true ih k = refl
       go false ih k = ap (onto b) (ih (omega arith))
 
-  module _ (text : List ℕ) (i : ℕ) where
-    pub leading_step : i < length text → one_of stop other (get_or text i 0) ≡ false → length (leading stop other (drop i text)) ≡ suc (length (leading stop other (drop (i + 1) text)))
-    leading_step h e = rw (add-one, drop-cons text i 0 h, e)
-
-    pub leading_here : i < length text → one_of stop other (get_or text i 0) ≡ true → length (leading stop other (drop i text)) ≡ 0
-    leading_here h e = rw (drop-cons text i 0 h, e)
-
-    pub leading_end : length text ≤ i → length (leading stop other (drop i text)) ≡ 0
-    leading_end h = rw (drop_of_length-le text h)
+  -- what `take_while` counts
+  pub leading_length : (s : List ℕ) → prefix_len (λ b. not (eqb b stop) && not (eqb b other)) s ≡ length (leading stop other s)
+  leading_length [] = refl
+  leading_length (b ∷ s) = go (eqb b stop) (eqb b other) (leading_length s)
+    where
+      go : (t u : Bool) → prefix_len (λ b. not (eqb b stop) && not (eqb b other)) s ≡ length (leading stop other s) → cond (not t && not u) (1 + prefix_len (λ b. not (eqb b stop) && not (eqb b other)) s) 0 ≡ length (cond (t || u) [] (b ∷ leading stop other s))
+      go true u ih = refl
+      go false true ih = refl
+      go false false ih = omega (arith, ih)
 
 -- ---- a field's end
 module _ (last : Bool) where
@@ -73,86 +73,60 @@ module _ (last : Bool) where
   untrailed-keeps : (p : List ℕ) (b : ℕ) → edge last b ≡ false → untrailed last (p ++ (b ∷ [])) ≡ p ++ (b ∷ [])
   untrailed-keeps p b h = untrailed_before last p b [] (rw h)
 
-  pub untrailed_take : (s : List ℕ) → take (length (untrailed last s)) s ≡ untrailed last s
-  untrailed_take [] = refl
-  untrailed_take (b ∷ s) = go (edge last b && empty (untrailed last s)) (untrailed_take s)
-    where
-      go : (t : Bool) → take (length (untrailed last s)) s ≡ untrailed last s → take (length (cond t [] (b ∷ untrailed last s))) (b ∷ s) ≡ cond t [] (b ∷ untrailed last s)
-      go true ih = refl
-      go false ih = ap (λ (l : List ℕ). b ∷ l) ih
+  pub end_none : (s : List ℕ) → length s < 1 → untrailed last s ≡ s
+  end_none [] h = refl
+  end_none (b ∷ s) h = absurd (not-suc-le-zero {n = 0} (omega arith))
 
-  pub untrailed_le : (s : List ℕ) → length (untrailed last s) ≤ length s
-  untrailed_le s = omega (arith, ap length (untrailed_take s), length-take (length (untrailed last s)) s)
-
-  module _ (f : List ℕ) (e : ℕ) (h : 0 < e) (l : e ≤ length f) where
-    front : take e f ≡ take (e - 1) f ++ (get_or f (e - 1) 0 ∷ [])
+  -- the last byte of a text, and those before it
+  module _ (f : List ℕ) (h : 1 ≤ length f) where
+    front : f ≡ take (length f - 1) f ++ (get_or f (length f - 1) 0 ∷ [])
     front =
-        let k : suc (e - 1) ≡ e = omega arith in
-        ap (λ (n : ℕ). take n f) (sym k) ∙ take-suc f (e - 1) 0 (omega arith)
+        let k : suc (length f - 1) ≡ length f = omega arith in
+        sym (take-length f) ∙ ap (λ (n : ℕ). take n f) (sym k) ∙ take-suc f (length f - 1) 0 (omega arith)
 
-    pub end_drops : edge last (get_or f (e - 1) 0) ≡ true → untrailed last (take e f) ≡ untrailed last (take (e - 1) f)
-    end_drops q = ap (untrailed last) front ∙ untrailed-drops (take (e - 1) f) (get_or f (e - 1) 0) q
+    pub end_drops : edge last (get_or f (length f - 1) 0) ≡ true → untrailed last (take (length f - 1) f) ≡ untrailed last f
+    end_drops q = sym (ap (untrailed last) front ∙ untrailed-drops (take (length f - 1) f) (get_or f (length f - 1) 0) q)
 
-    pub end_keeps : edge last (get_or f (e - 1) 0) ≡ false → length (untrailed last (take e f)) ≡ e
-    end_keeps q = ap length (ap (untrailed last) front ∙ untrailed-keeps (take (e - 1) f) (get_or f (e - 1) 0) q ∙ sym front) ∙ length-take-le e f l
-
--- ---- its begin
-module _ (f : List ℕ) (i : ℕ) where
-  pub unled_here : i < length f → (get_or f i 0 ≡ 32 → ⊥) → unled (drop i f) ≡ drop i f
-  unled_here h e = rw (drop-cons f i 0 h, ne_eqb (get_or f i 0) 32 e)
-
-  pub unled_step : i < length f → get_or f i 0 ≡ 32 → unled (drop i f) ≡ unled (drop (i + 1) f)
-  unled_step h e = rw (add-one, drop-cons f i 0 h, e)
-
-  pub unled_end : length f ≤ i → unled (drop i f) ≡ drop i f
-  unled_end h = rw (drop_of_length-le f h)
-
--- a part of a part
-pub drop_take : (b n : ℕ) (s : List ℕ) → drop b (take (b + n) s) ≡ take n (drop b s)
-drop_take zero n s = ap (λ (k : ℕ). take k s) (zero-add n)
-drop_take (suc b) n [] = ap (drop (suc b)) (take-nil (suc b + n)) ∙ sym (take-nil n)
-drop_take (suc b) n (x ∷ s) = ap (λ (k : ℕ). drop (suc b) (take k (x ∷ s))) (suc-add b n) ∙ drop_take b n s
-
-pub part_trimmed : (last : Bool) (f : List ℕ) (e b : ℕ) → e ≡ length (untrailed last f) → b ≤ length (take e f) → drop b (take e f) ≡ unled (take e f) → take (e - b) (drop b f) ≡ trimmed last f
-part_trimmed last f e b is l q =
-    let within : b + (e - b) ≡ e = omega (arith, length-take e f) in
-    sym (drop_take b (e - b) f) ∙ ap (λ (k : ℕ). drop b (take k f)) within ∙ q ∙ ap unled (ap (λ (k : ℕ). take k f) is ∙ untrailed_take last f)
+    pub end_keeps : edge last (get_or f (length f - 1) 0) ≡ false → untrailed last f ≡ f
+    end_keeps q = ap (untrailed last) front ∙ untrailed-keeps (take (length f - 1) f) (get_or f (length f - 1) 0) q ∙ sym front
 
 -- ---- quotes
-module _ (f : List ℕ) (i : ℕ) where
-  pub closes_end : length f ≤ i → false ≡ closes (drop i f)
-  closes_end h = rw (drop_of_length-le f h)
+-- a byte that stands between quotes
+abbrev pub inside : ℕ → Bool
+inside b = not (eqb b quote) && (leb 32 b && ltb b 127)
 
-  module _ (h : i < length f) where
-    pub closes_here : get_or f i 0 ≡ 34 → eqb (i + 1) (length f) ≡ closes (drop i f)
-    closes_here e = rw (drop-cons f i 0 h, e) (go (drop (suc i) f) (length-drop (suc i) f))
-      where
-        go : (s : List ℕ) → length s ≡ length f - suc i → eqb (i + 1) (length f) ≡ empty s
-        go [] q = eq-eqb (i + 1) (length f) (omega arith)
-        go (b ∷ s) q = ne_eqb (i + 1) (length f) (λ z. not-suc-le-zero {n = 0} (omega arith))
+closes_last : (w : List ℕ) (q : ℕ) → closes (w ++ (q ∷ [])) ≡ (eqb q quote && list_all inside w)
+closes_last [] q = go (eqb q quote) (leb 32 q) (ltb q 127)
+  where
+    go : (t u v : Bool) → cond t true (u && (v && false)) ≡ (t && true)
+    go true u v = refl
+    go false true true = refl
+    go false true false = refl
+    go false false v = refl
+closes_last (b ∷ w) q = go w (eqb b quote) (leb 32 b) (ltb b 127) (eqb q quote) (list_all inside w) (closes_last w q)
+  where
+    no : (w : List ℕ) → empty (w ++ (q ∷ [])) ≡ false
+    no [] = refl
+    no (a ∷ w) = refl
 
-    pub closes_bad : (get_or f i 0 ≡ 34 → ⊥) → (leb 32 (get_or f i 0) && ltb (get_or f i 0) 127) ≡ false → false ≡ closes (drop i f)
-    closes_bad e q = rw (drop-cons f i 0 h, ne_eqb (get_or f i 0) 34 e) (go (leb 32 (get_or f i 0)) (ltb (get_or f i 0) 127) (closes (drop (suc i) f)) q)
-      where
-        go : (t u v : Bool) → (t && u) ≡ false → false ≡ (t && (u && v))
-        go true true v z = absurd (false≢true (sym z))
-        go true false v z = refl
-        go false u v z = refl
+    both : (t : Bool) → false ≡ (t && false)
+    both true = refl
+    both false = refl
 
-    pub closes_step : (get_or f i 0 ≡ 34 → ⊥) → (leb 32 (get_or f i 0) && ltb (get_or f i 0) 127) ≡ true → closes (drop i f) ≡ closes (drop (i + 1) f)
-    closes_step e q = rw (add-one, drop-cons f i 0 h, ne_eqb (get_or f i 0) 34 e, (and_both (leb 32 (get_or f i 0)) (ltb (get_or f i 0) 127) q).0, (and_both (leb 32 (get_or f i 0)) (ltb (get_or f i 0) 127) q).1)
+    go : (w : List ℕ) (t u v x y : Bool) → closes (w ++ (q ∷ [])) ≡ (x && y) → cond t (empty (w ++ (q ∷ []))) (u && (v && closes (w ++ (q ∷ [])))) ≡ (x && ((not t && (u && v)) && y))
+    go w true u v x y ih = no w ∙ both x
+    go w false true true x y ih = ih
+    go w false true false x y ih = both x
+    go w false false v x y ih = both x
 
-pub quoted_empty : (f : List ℕ) → length f ≡ 0 → false ≡ quoted f
-quoted_empty [] e = refl
-quoted_empty (b ∷ s) e = absurd (not-suc-le-zero {n = 0} (omega arith))
-
-pub quoted_some : (f : List ℕ) (v : Bool) → 0 < length f → get_or f 0 0 ≡ 34 → v ≡ closes (drop 1 f) → v ≡ quoted f
-quoted_some [] v h e q = absurd (not-suc-le-zero {n = 0} (omega arith))
-quoted_some (b ∷ s) v h e q = rw e q
-
-pub quoted_not : (f : List ℕ) → (get_or f 0 0 ≡ 34 → ⊥) → false ≡ quoted f
-quoted_not [] e = refl
-quoted_not (b ∷ s) e = rw (ne_eqb b 34 e)
+-- a text of two bytes and more, by its first and last byte and those between
+pub quoted_ends : (f : List ℕ) → 2 ≤ length f → (eqb (get_or f 0 0) quote && (eqb (get_or f (length f - 1) 0) quote && list_all inside (take (length f - 1 - 1) (drop 1 f)))) ≡ quoted f
+quoted_ends [] h = absurd (not-suc-le-zero {n = 0} (omega arith))
+quoted_ends (b ∷ []) h = absurd (not-suc-le-zero {n = 0} (omega arith))
+quoted_ends (b ∷ (a ∷ s)) h =
+    let n : length (b ∷ (a ∷ s)) - 1 ≡ suc (length (a ∷ s) - 1) = omega arith in
+    let m : length (b ∷ (a ∷ s)) - 1 - 1 ≡ length (a ∷ s) - 1 = omega arith in
+    rw (m, n) (ap (λ (t : Bool). eqb b quote && t) (sym (ap closes (front true (a ∷ s) (omega arith)) ∙ closes_last (take (length (a ∷ s) - 1) (a ∷ s)) (get_or (a ∷ s) (length (a ∷ s) - 1) 0))))
 
 -- what stands between the quotes: all but the last byte
 closes_within : (s : List ℕ) → closes s ≡ true → (0 < length s) × (take (length s - 1) s ≡ within s)
@@ -175,10 +149,6 @@ closes_within (b ∷ s) h = go (eqb b quote) (λ k. closes_within s k) h
         let w = (and_both (leb 32 b) (ltb b 127 && closes s) e).1 in
         (omega arith, more (ih (and_both (ltb b 127) (closes s) w).1))
 
-pub quoted_long : (f : List ℕ) → quoted f ≡ true → 2 ≤ length f
-quoted_long [] e = absurd (false≢true e)
-quoted_long (b ∷ s) e = omega (arith, (closes_within s (and_both (eqb b quote) (closes s) e).1).0)
-
 pub unquoted_part : (last : Bool) (f : List ℕ) → quoted f ≡ true → trimmed last (take (length f - 1 - 1) (drop 1 f)) ≡ unquoted last f
 unquoted_part last [] e = absurd (false≢true e)
 unquoted_part last (b ∷ s) e =
@@ -190,31 +160,39 @@ unquoted_not last [] e = refl
 unquoted_not last (b ∷ s) e = rw e
 
 -- ---- decimals
-module _ (f : List ℕ) (i : ℕ) where
-  pub only_end : length f ≤ i → true ≡ digits_only (drop i f)
-  only_end h = rw (drop_of_length-le f h)
+digits-all : (s : List ℕ) → eqb (prefix_len is_digit s) (length s) ≡ digits_only s
+digits-all [] = refl
+digits-all (b ∷ s) = go (is_digit b) (digits-all s)
+  where
+    go : (t : Bool) → eqb (prefix_len is_digit s) (length s) ≡ digits_only s → eqb (cond t (1 + prefix_len is_digit s) 0) (length (b ∷ s)) ≡ (t && digits_only s)
+    go true ih =
+        let e : 1 + prefix_len is_digit s ≡ suc (prefix_len is_digit s) = omega arith in
+        rw (e, eqb-suc-suc) ih
+    go false ih = ne_eqb 0 (length (b ∷ s)) (λ z. not-suc-le-zero {n = 0} (omega arith))
 
-  pub past_end : (some : Bool) → length f ≤ i → 0 ≡ decimals_past some (drop i f)
-  past_end some h = rw (drop_of_length-le f h)
+-- what a text says from the byte on that stands behind its first digits
+abbrev pub behind : (some : Bool) → List ℕ → ℕ
+behind some rest = cond (some && (eqb (get_or rest 0 0) point && eqb (prefix_len is_digit (drop 1 rest)) (length (drop 1 rest)))) (length (drop 1 rest)) 0
 
-  module _ (h : i < length f) where
-    pub only_step : is_digit (get_or f i 0) ≡ true → digits_only (drop i f) ≡ digits_only (drop (i + 1) f)
-    only_step e = rw (add-one, drop-cons f i 0 h, e)
+past-behind : (some : Bool) (s : List ℕ) → behind (ltb 0 (prefix_len is_digit s) || some) (drop (prefix_len is_digit s) s) ≡ decimals_past some s
+past-behind true [] = refl
+past-behind false [] = refl
+past-behind some (b ∷ s) = go (is_digit b) (past-behind true s)
+  where
+    or-true : (t : Bool) → (t || true) ≡ true
+    or-true true = refl
+    or-true false = refl
 
-    pub only_bad : is_digit (get_or f i 0) ≡ false → false ≡ digits_only (drop i f)
-    only_bad e = rw (drop-cons f i 0 h, e)
+    go : (t : Bool) → behind (ltb 0 (prefix_len is_digit s) || true) (drop (prefix_len is_digit s) s) ≡ decimals_past true s
+        → behind (ltb 0 (cond t (1 + prefix_len is_digit s) 0) || some) (drop (cond t (1 + prefix_len is_digit s) 0) (b ∷ s)) ≡ cond t (decimals_past true s) (cond (some && (eqb b point && digits_only s)) (length s) 0)
+    go true ih =
+        let e : 1 + prefix_len is_digit s ≡ suc (prefix_len is_digit s) = omega arith in
+        rw (e, lt-ltb 0 (suc (prefix_len is_digit s)) (omega arith)) (rw (or-true (ltb 0 (prefix_len is_digit s))) at ih)
+    go false ih = rw digits-all
 
-    pub past_step : (some : Bool) → is_digit (get_or f i 0) ≡ true → decimals_past some (drop i f) ≡ decimals_past true (drop (i + 1) f)
-    past_step some e = rw (add-one, drop-cons f i 0 h, e)
-
-    pub past_stop : (some : Bool) → is_digit (get_or f i 0) ≡ false → decimals_behind some f i ≡ decimals_past some (drop i f)
-    unfolding decimals_behind
-    past_stop some e = rw (add-one, drop-cons f i 0 h, e)
-
-pub of_minus : (f : List ℕ) (v : ℕ) → eqb (get_or f 0 0) dash ≡ true → v ≡ decimals_past false (drop 1 f) → v ≡ decimals_of f
-of_minus [] v e q = absurd (false≢true e)
-of_minus (b ∷ s) v e q = rw e q
-
-pub of_plain : (f : List ℕ) (v : ℕ) → eqb (get_or f 0 0) dash ≡ false → v ≡ decimals_past false (drop 0 f) → v ≡ decimals_of f
-of_plain [] v e q = q
-of_plain (b ∷ s) v e q = rw e q
+pub past_behind : (f rest : List ℕ) → rest ≡ drop (prefix_len is_digit f) f → behind (ltb 0 (prefix_len is_digit f)) rest ≡ decimals_past false f
+past_behind f rest e = rw e (ap (λ (t : Bool). behind t (drop (prefix_len is_digit f) f)) (sym (or-false (ltb 0 (prefix_len is_digit f)))) ∙ past-behind false f)
+  where
+    or-false : (t : Bool) → (t || false) ≡ t
+    or-false true = refl
+    or-false false = refl

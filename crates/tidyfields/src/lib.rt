@@ -1,132 +1,83 @@
 // One field as `tidy` repairs it: where it ends, what is left of it when its ends and its quotes are off, how many decimals it wants, and how many it lacks.
 #![tactic(auto)]
 
-ghost use Rattle.std.specs.Prelude.{◌≡◌, false, ◌&&◌, ◌+◌, ◌≤◌, ◌<◌, leb, ltb, length, drop};
+ghost use Rattle.std.specs.Prelude.{◌≡◌, false, not, ◌&&◌, eqb, leb, ltb, ◌+◌, length, drop};
+ghost use Rattle.std.specs.List.{prefix_len, list_all};
 ghost use Rattle.text.specs.Fields.{is_digit};
-ghost use Rattle.tidyrules.specs.Cut.{one_of};
-ghost use Rattle.tidyrules.specs.Fields.{edge, unled, untrailed, trimmed, closes, quoted, digits_only, decimals_past, decimals_of, short, lacking, bared};
+ghost use Rattle.tidyrules.specs.Fields.{edge, trimmed, quoted, decimals_past, decimals_of, lacking, bared};
 ghost use Rattle.tidyrules.specs.Tidied.{wanted};
-ghost use Rattle.tidyfields.specs.Pieces.{leading, decimals_behind};
+ghost use Rattle.tidyfields.specs.Pieces.{leading};
 
 // Where the piece ends that begins at place `at`: at the first of two bytes, or at the text's end.
 pub fn piece_end(text: &[u8], at: usize, stop: u8, other: u8) -> usize
     ensures { result ≡ at + length (leading stop other (drop at text.now)) }
 {
-    let mut i = at;
-    while i < text.len() {
-        if one_of(text[i], stop, other) {
-            return i;
-        }
-        i += 1;
+    match text.get(at..) {
+        Some(rest) => at + count_before(rest, stop, other),
+        None => at,
     }
-    i
 }
 
-fn one_of(b: u8, stop: u8, other: u8) -> bool
-    ensures { result ≡ one_of stop other b }
+// How many bytes a text has before the first of two.
+fn count_before(text: &[u8], stop: u8, other: u8) -> usize
+    ensures { result ≡ prefix_len (λ b. not (eqb b stop) && not (eqb b other)) text.now }
 {
-    if b == stop {
-        return true;
-    }
-    b == other
+    text.iter()
+        .take_while(|&&b| b != stop && b != other)
+        .count()
 }
 
 // ---- ends and quotes
 
 // What a field holds: no blanks at its ends, no quotes around it. A CR at its end goes too where it is its line's last field.
-pub fn bared<'a>(f: &'a [u8], last: bool) -> &'a [u8]
+pub fn bared(f: &[u8], last: bool) -> &[u8]
     ensures { result.now ≡ bared last f.now }
 {
     let t = trimmed(f, last);
     if quoted(t) {
-        return trimmed(&t[1..t.len() - 1], last);
+        trimmed(&t[1..t.len() - 1], last)
+    } else {
+        t
     }
-    t
 }
 
-pub fn trimmed<'a>(f: &'a [u8], last: bool) -> &'a [u8]
+pub fn trimmed(f: &[u8], last: bool) -> &[u8]
     ensures { result.now ≡ trimmed last f.now }
 {
-    let e = end_of(f, last);
-    let b = begin_of(&f[..e]);
-    &f[b..e]
-}
-
-fn end_of(f: &[u8], last: bool) -> usize
-    ensures { result ≡ length (untrailed last f.now) }
-{
-    let mut e = f.len();
-    while 0 < e {
-        if !edge(f[e - 1], last) {
-            return e;
+    let mut rest = f;
+    while let [before @ .., end] = rest {
+        if !edge(*end, last) {
+            break;
         }
-        e -= 1;
+        rest = before;
     }
-    e
+    while let [b' ', after @ ..] = rest {
+        rest = after;
+    }
+    rest
 }
 
 fn edge(b: u8, last: bool) -> bool
     ensures { result ≡ edge last b }
 {
-    if b == b' ' {
-        return true;
-    }
-    if last {
-        return b == b'\r';
-    }
-    false
+    b == b' ' || last && b == b'\r'
 }
 
-fn begin_of(f: &[u8]) -> usize
-    ensures { (result ≤ length f.now) × (drop result f.now ≡ unled f.now) }
-{
-    let mut i = 0;
-    while i < f.len() {
-        if f[i] != b' ' {
-            return i;
-        }
-        i += 1;
-    }
-    i
-}
-
+// Whether a field stands between two quotes, with only bytes 32..126 and no quote within.
 pub fn quoted(f: &[u8]) -> bool
     ensures { result ≡ quoted f.now }
 {
-    if f.len() == 0 {
-        return false;
+    match f {
+        [b'"', within @ .., b'"'] => is_plain(within),
+        _ => false,
     }
-    if f[0] == b'"' {
-        return closes(f, 1);
-    }
-    false
 }
 
-// Whether the text from a place on ends at its first quote, and has only bytes 32..126 before it.
-fn closes(f: &[u8], at: usize) -> bool
-    ensures { result ≡ closes (drop at f.now) }
+// Whether a text has only bytes 32..126, and no quote.
+fn is_plain(text: &[u8]) -> bool
+    ensures { result ≡ list_all (λ b. not (eqb b 34) && (leb 32 b && ltb b 127)) text.now }
 {
-    let mut i = at;
-    while i < f.len() {
-        if f[i] == b'"' {
-            return i + 1 == f.len();
-        }
-        if !between(f[i], 32, 127) {
-            return false;
-        }
-        i += 1;
-    }
-    false
-}
-
-// least <= b < past
-fn between(b: u8, least: u8, past: u8) -> bool
-    ensures { result ≡ (leb least b && ltb b past) }
-{
-    if b < least {
-        return false;
-    }
-    b < past
+    text.iter().all(|&b| b != b'"' && (32..127).contains(&b))
 }
 
 // ---- decimals
@@ -135,89 +86,49 @@ fn between(b: u8, least: u8, past: u8) -> bool
 pub fn lacking(wanted: usize, f: &[u8]) -> usize
     ensures { result ≡ lacking wanted f.now }
 {
-    short(wanted, decimals_of(f))
-}
-
-fn short(wanted: usize, has: usize) -> usize
-    ensures { result ≡ short wanted has }
-{
-    if has == 0 {
-        return 0;
+    match decimals_of(f) {
+        0 => 0,
+        has => wanted.saturating_sub(has),
     }
-    if wanted < has {
-        return 0;
-    }
-    wanted - has
 }
 
 fn decimals_of(f: &[u8]) -> usize
     ensures { result ≡ decimals_of f.now }
 {
-    if text::field::has_minus(f, 0) {
-        return decimals_past(f, 1);
+    match f {
+        [b'-', number @ ..] => decimals_past(number),
+        _ => decimals_past(f),
     }
-    decimals_past(f, 0)
 }
 
-// The digits behind the point, in a text that from a place on has digits, a point and digits.
-fn decimals_past(f: &[u8], at: usize) -> usize
-    ensures { result ≡ decimals_past false (drop at f.now) }
+// The digits behind the point, in a text that has digits, a point and digits.
+fn decimals_past(f: &[u8]) -> usize
+    ensures { result ≡ decimals_past false f.now }
 {
-    let mut i = at;
-    while i < f.len() {
-        if !between(f[i], b'0', b':') {
-            return decimals_behind(f, i, at < i);
+    let (whole, rest) = f.split_at(count_digits(f));
+    match rest {
+        [b'.', decimals @ ..] if !whole.is_empty() && count_digits(decimals) == decimals.len() => {
+            decimals.len()
         }
-        i += 1;
+        _ => 0,
     }
-    0
 }
 
-// The digits behind a byte that is no digit: where it is a point with a digit before it and digits alone behind it.
-fn decimals_behind(f: &[u8], i: usize, some: bool) -> usize
-    requires { i < length f.now }
-    ensures { result ≡ decimals_behind some f.now i }
+// How many digits a text begins with.
+fn count_digits(text: &[u8]) -> usize
+    ensures { result ≡ prefix_len is_digit text.now }
 {
-    if !some {
-        return 0;
-    }
-    if f[i] != b'.' {
-        return 0;
-    }
-    if digits_only(f, i + 1) {
-        return f.len() - (i + 1);
-    }
-    0
-}
-
-fn digits_only(f: &[u8], at: usize) -> bool
-    ensures { result ≡ digits_only (drop at f.now) }
-{
-    let mut i = at;
-    while i < f.len() {
-        if !between(f[i], b'0', b':') {
-            return false;
-        }
-        i += 1;
-    }
-    true
+    text.iter().take_while(|b| b.is_ascii_digit()).count()
 }
 
 // How many decimals field k wants: a power three, a factor five; index and R none.
 pub fn wanted(row: bool, k: usize) -> usize
     ensures { result ≡ wanted row k }
 {
-    if !row {
-        return 0;
+    match k {
+        _ if !row => 0,
+        0 | 5 => 0,
+        1..=7 => 3,
+        _ => 5,
     }
-    if k == 0 {
-        return 0;
-    }
-    if k == 5 {
-        return 0;
-    }
-    if k < 8 {
-        return 3;
-    }
-    5
 }

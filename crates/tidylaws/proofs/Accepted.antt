@@ -1,6 +1,6 @@
 -- What the calculator accepts, `tidy` does not change: a table, a correction sheet of either kind, the planners' sheet of a header.
 -- An accepted text is the text that the calculator writes of what it read (crate trips), and what it writes stays as it is, line by line.
-use mathlib.Core.Path.{◌≡◌, refl, sym, ap, subst, ◌∙◌}
+use mathlib.Core.Path.{◌≡◌, refl, sym, ap, ◌∙◌}
 use mathlib.Core.Bool.{Bool, true, false, cond}
 use mathlib.Core.List.{List, [], ◌∷◌, ◌++◌}
 use Prim.Native.Char.{code}
@@ -8,19 +8,18 @@ use Prim.Native.Nat.{ℕ, zero, suc, ◌+◌, ◌≤◌}
 use native.Mathlib.Nat.{not-suc-le-zero}
 use native.Mathlib.Omega.{arith}
 use borrow.Author.Tests.{ne_eqb, le-ltb}
-use lib.Dec.{ltb, eqb}
+use lib.Dec.{eqb}
 use lib.IntN.{ℤ, pos}
 use lib.ListN.{length, get_or}
 use lib.Signed.{lt_z}
-use Rattle.refusals.specs.Refusals.{Judged, passed, refused, wrong_correction}
+use Rattle.refusals.specs.Refusals.{wrong_correction}
 use Rattle.refusals.proofs.RefusalLaws.{not_passed}
 use Rattle.types.specs.declared.Header.{Header}
-use Rattle.types.specs.LineColumns.{Column, header_columns, default_columns, zone_columns, border_columns, hub_columns, row_columns, factor_columns, sheet_factors}
+use Rattle.types.specs.LineColumns.{header_columns, default_columns, border_columns, hub_columns, row_columns, factor_columns, sheet_factors}
 use Rattle.types.specs.Ranges.{at_ℤ, allocated_items}
 use Rattle.text.specs.Fields.{tab, feed}
-use Rattle.text.specs.Line.{Line, holds, form, range}
+use Rattle.text.specs.Line.{Line, byte_of}
 use Rattle.text.specs.Written.{lines_text}
-use Rattle.columns.specs.declared.Head.{Head}
 use Rattle.columns.specs.declared.Head.TheVariants.{Lettered, Indexed, Bare}
 use Rattle.columns.specs.ColumnText.{columns_text, numbers_of}
 use Rattle.tablerules.specs.Table.{Table, stretch, factors_at}
@@ -31,7 +30,7 @@ use Rattle.lines.specs.declared.row.RowKind.{RowKind}
 use Rattle.lines.specs.declared.row.RowKind.TheVariants.{Table as TableKind, Sheet}
 use Rattle.lines.proofs.RowTrip.{row_read_lem}
 use Rattle.layout.specs.Layout.{header_text, position_text, border_text, row_text_in}
-use Rattle.corrections.specs.Corrections.{joined, pieces, sheet_kind, due_index, on_correction, judge_from, judge_corrections}
+use Rattle.corrections.specs.Corrections.{joined, pieces, sheet_kind, due_index, on_correction, judge_from}
 use Rattle.reading.specs.Reading.{read_text, read_corrected}
 use Rattle.reading.proofs.CorrectedLaws.{corrected}
 use Rattle.rowsheet.specs.RowSheet.{Rows, read_sheet, sheet_of}
@@ -41,6 +40,7 @@ use Rattle.trips.proofs.SheetTrip as sheet
 use Rattle.tidyrules.specs.Tidied.{wanted, tidied}
 use Rattle.tidyrules.proofs.StaysLaws.{Stays, nothing, stays_append, stays_is, stays_tidied}
 use Rattle.tidylaws.proofs.ColumnStays.{Suits, columns_stay}
+use Rattle.std.specs.Prelude.{Ok, Err}
 
 -- ---- rows, of either kind
 factors_suit : (zones k : ℕ) → Suits false k (factor_columns zones)
@@ -100,12 +100,12 @@ table_stays t =
     (lines_stay t.header.rows 0 _ (λ i. row_stays TableKind i (get_or t.rows i []) (factors_at t i)))
 
 -- a table that `read` accepts
-pub table_unchanged : (text : List ℕ) (t : Table) → read_text text ≡ passed t → tidied text ≡ text
+pub table_unchanged : (text : List ℕ) (t : Table) → read_text text ≡ Ok t → tidied text ≡ text
 table_unchanged text t e = stays_tidied (stays_is (read_write text t e) (table_stays t))
 
 -- ---- the planners' sheet
 -- a sheet that `read_rows` accepts with its header
-pub rows_unchanged : (h : Header) (text : List ℕ) (t : Rows) → read_sheet h text ≡ passed t → tidied text ≡ text
+pub rows_unchanged : (h : Header) (text : List ℕ) (t : Rows) → read_sheet h text ≡ Ok t → tidied text ≡ text
 unfolding sheet_of
 rows_unchanged h text t e =
     stays_tidied (stays_is (sheet.read_write h text t e) (lines_stay (length t.rows) 0 (row_text_in Sheet h.zones t.rows t.factors) (λ i. row_stays Sheet i (get_or t.rows i []) (stretch h.zones t.factors i))))
@@ -129,22 +129,21 @@ flat_pieces (b ∷ s) = go (eqb b feed) (flat_pieces s)
     go false ih = flat_joined b (pieces s) ∙ ap (λ (l : List ℕ). b ∷ l) ih
 
 -- a line that holds a row
-held_stays : (kind : RowKind) (zones : ℕ) (text : List ℕ) (i : ℕ) (c : RowLine) → line_by kind zones text i ≡ holds c → Stays text
+held_stays : (kind : RowKind) (zones : ℕ) (text : List ℕ) (i : ℕ) (c : RowLine) → line_by kind zones text i ≡ Ok c → Stays text
 held_stays kind zones text i c e = stays_is (sym (row_read_lem kind zones text i c e).0) (row_stays kind i c.values c.factors)
 
 module _ (kind : RowKind) (zones rows : ℕ) where
-  judged-stays : (least number : ℕ) (ls : List (List ℕ)) → judge_from kind zones rows least number ls ≡ passed tt → Stays (flat ls)
+  judged-stays : (least number : ℕ) (ls : List (List ℕ)) → judge_from kind zones rows least number ls ≡ Ok tt → Stays (flat ls)
   judged-stays least number [] e = nothing
   judged-stays least number (l ∷ ls) e = go (line_by kind zones l (due_index kind rows least l)) refl (λ q. judged-stays (due_index kind rows least l + 1) (number + 1) ls q) e
     where
-      go : (r : Line RowLine) → line_by kind zones l (due_index kind rows least l) ≡ r → (judge_from kind zones rows (due_index kind rows least l + 1) (number + 1) ls ≡ passed tt → Stays (flat ls))
-          → on_correction r number (judge_from kind zones rows (due_index kind rows least l + 1) (number + 1) ls) ≡ passed tt → Stays (l ++ flat ls)
-      go (holds c) h ih q = stays_append (held_stays kind zones l (due_index kind rows least l) c h) (ih q)
-      go (form byte) h ih q = absurd (not_passed (wrong_correction number byte) tt q)
-      go (range byte) h ih q = absurd (not_passed (wrong_correction number byte) tt q)
+      go : (r : Line RowLine) → line_by kind zones l (due_index kind rows least l) ≡ r → (judge_from kind zones rows (due_index kind rows least l + 1) (number + 1) ls ≡ Ok tt → Stays (flat ls))
+          → on_correction r number (judge_from kind zones rows (due_index kind rows least l + 1) (number + 1) ls) ≡ Ok tt → Stays (l ++ flat ls)
+      go (Ok c) h ih q = stays_append (held_stays kind zones l (due_index kind rows least l) c h) (ih q)
+      go (Err bad) h ih q = absurd (not_passed (wrong_correction number (byte_of bad)) tt q)
 
 -- a correction sheet that is accepted with its table, of C lines or of semicolon rows
-pub corrections_unchanged : (text corrections : List ℕ) (t : Table) → read_corrected text corrections ≡ passed t → tidied corrections ≡ corrections
+pub corrections_unchanged : (text corrections : List ℕ) (t : Table) → read_corrected text corrections ≡ Ok t → tidied corrections ≡ corrections
 corrections_unchanged text corrections t e =
     let c = corrected text corrections t e in
     stays_tidied (stays_is (flat_pieces corrections) (judged-stays (sheet_kind corrections) c.day.header.zones c.day.header.rows 0 1 (pieces corrections) c.good))

@@ -1,13 +1,13 @@
 -- A line as the calculator writes it, by its head and its columns, is one that `tidy` leaves as it is: its fields have digits, signs and points only, and no
 -- decimals are missing. No contract cites this file. In order: a field's bytes; its decimals; the fields of a line; the line.
-use mathlib.Core.Path.{◌≡◌, refl, sym, ap, ap₂, subst, ◌∙◌}
-use mathlib.Core.Bool.{Bool, true, false, cond, not, ◌&&◌, ◌||◌}
+use mathlib.Core.Path.{◌≡◌, refl, sym, ap, subst, ◌∙◌}
+use mathlib.Core.Bool.{Bool, true, false, cond, not}
 use mathlib.Core.List.{List, [], ◌∷◌, ◌++◌, append_assoc}
-use Prim.Native.Nat.{ℕ, zero, suc, ◌+◌, ◌/◌, ◌%◌, ◌^◌, ◌-◌, ◌≤◌, ◌<◌}
+use Prim.Native.Nat.{ℕ, zero, suc, ◌+◌, ◌/◌, ◌%◌, ◌^◌, ◌-◌, ◌<◌}
 use native.Mathlib.Nat.{not-suc-le-zero}
 use native.Mathlib.Omega.{arith}
 use borrow.Author.Tests.{ne_eqb, lt-ltb}
-use lib.Dec.{ltb, eqb}
+use lib.Dec.{eqb}
 use lib.IntN.{ℤ, pos, negsuc}
 use lib.ListN.{length, get_or, drop}
 use Rattle.types.specs.LineColumns.{Column, number, signed, share, power, flow, factor}
@@ -18,14 +18,14 @@ use Rattle.text.proofs.NumberTrip.{digit_range, digits_cons, is_digit_lem, decim
 use Rattle.text.proofs.PointLaws.{last_long}
 use Rattle.columns.specs.declared.Head.{Head}
 use Rattle.columns.specs.declared.Head.TheVariants.{Lettered, Indexed, Bare}
-use Rattle.columns.specs.Columns.{power_decimals, factor_decimals, stop_of}
+use Rattle.columns.specs.Columns.{power_decimals, factor_decimals}
 use Rattle.columns.specs.ColumnText.{field_text, fields_ended, index_text, head_text, columns_text}
 use Rattle.tidyrules.specs.Cut.{Cut, lastly, ended, joined, ended_by}
 use Rattle.tidyrules.specs.Fields.{digits_only, decimals_past, decimals_of, short, lacking}
 use Rattle.tidyrules.specs.Tidied.{semicolon, is_row, wanted}
 use Rattle.tidyrules.proofs.CutLaws.{Free, free_append}
 use Rattle.tidyrules.proofs.LineLaws.{parts}
-use Rattle.tidyrules.proofs.StaysLaws.{odd, Steady, Stays, nothing, line, stays_is, Even, first, even_steady}
+use Rattle.tidyrules.proofs.StaysLaws.{odd, Stays, nothing, line, stays_is, Even, first, even_steady}
 
 -- ---- a field's bytes
 digit_even : (b : ℕ) → is_digit b ≡ true → odd b ≡ false

@@ -1,9 +1,9 @@
 -- What `tidy` makes of a text: only what is certain is repaired, and all else stays. `tidied` and `tidy_left` are what contracts cite.
 -- BOMs and blanks at the text's begin go; in each line CR and blanks at its end, in each field blanks at its ends and quotes around it; trimmed decimals of a
 -- semicolon row come back; lines at the text's end without a byte but tabs and semicolons go; each line ends in one LF.
-use Rattle.std.specs.Prelude.{Bool, true, false, cond, not, ◌&&◌, ◌||◌, List, [], ◌∷◌, ◌++◌, ℕ, zero, suc, ◌+◌, ltb, eqb, length, get_or, drop}
+use Rattle.std.specs.Prelude.{Bool, true, false, cond, not, ◌&&◌, ◌||◌, List, [], ◌∷◌, ◌++◌, ℕ, zero, suc, ◌+◌, ltb, eqb, length, get_or, drop, Err, Ok}
 use Rattle.limits.specs.Limits.{bytes_most}
-use Rattle.refusals.specs.Refusals.{passed, refused, too_long}
+use Rattle.refusals.specs.Refusals.{too_long}
 use Rattle.text.specs.Fields.{tab, feed}
 use Rattle.text.specs.Left.{TextLeft, text_left}
 use Rattle.columns.specs.Columns.{power_decimals, factor_decimals}
@@ -64,4 +64,4 @@ tidied text = lines_tidied (cut feed feed (unmarked text))
 
 -- what the open call leaves: 1 for a text that is too long, 8 where the room is too short
 unfoldable pub tidy_left : (text out : List ℕ) → TextLeft
-tidy_left text out = text_left (cond (ltb bytes_most (length text)) (refused too_long) (passed (tidied text))) out
+tidy_left text out = text_left (cond (ltb bytes_most (length text)) (Err too_long) (Ok (tidied text))) out

@@ -5,14 +5,11 @@
 mod field;
 mod words;
 
-ghost use Rattle.io.specs.Counts.{IsPrefixLen};
-
-use crate::words::{next, tell_text};
-use arguments::lists;
+use crate::words::{Teller, Words};
+use command::input;
 use command::options::Command;
-use command::{input, options};
+use messages::Misuse;
 use output::Ended;
-use refusals::Written;
 use system::System;
 use tidyfields::trimmed;
 
@@ -20,29 +17,23 @@ use tidyfields::trimmed;
 const ROOM: usize = tidy::BYTES_MOST;
 
 // Obeys the word `tidy`: the text that an argument names, where no table has to stand.
-pub fn obey(sys: &System, at: usize, command: Command) -> Ended {
-    if !options::only(sys, command, false, false, false)
-        || !options::can_read(sys, command, 0, at)
-    {
-        return Ended::Failed;
-    }
+pub fn obey(sys: &System, command: &Command, at: Option<usize>) -> Result<Ended, Misuse> {
+    command.check_names(sys, None, at)?;
     let mut text = input::room();
     let mut out = [0u8; ROOM];
-    print(sys, at, &mut text, &mut out)
+    Ok(print(sys, at, &mut text, &mut out))
 }
 
-fn print(sys: &System, at: usize, text: &mut [u8], out: &mut [u8]) -> Ended {
-    let read = input::table(sys, at, text);
-    if read.failed {
-        return Ended::Failed;
+fn print(sys: &System, at: Option<usize>, text: &mut [u8], out: &mut [u8]) -> Ended {
+    match input::table(sys, at, text) {
+        Some(n) => print_tidy(sys, &text[..n], out),
+        None => Ended::Failed,
     }
-    let n = read.count;
-    print_tidy(sys, &text[..n], out)
 }
 
 fn print_tidy(sys: &System, text: &[u8], out: &mut [u8]) -> Ended {
     match tidy::tidy(text, out) {
-        Written::Bytes(k) => {
+        Ok(k) => {
             let n = output::cut(k, out);
             if !telling::written(sys, &out[..n]) {
                 return Ended::Failed;
@@ -50,7 +41,7 @@ fn print_tidy(sys: &System, text: &[u8], out: &mut [u8]) -> Ended {
             tell(text, &out[..n]);
             Ended::Answered
         }
-        Written::Refused(w) => telling::refuse(sys, b"", w, text, b""),
+        Err(w) => telling::refuse(sys, b"", w, text, b""),
     }
 }
 
@@ -60,131 +51,98 @@ const LINES_MOST: usize = 512;
 const FIELDS_MOST: usize = 32;
 
 fn tell(text: &[u8], tidied: &[u8]) {
+    let mut teller = Teller { told: 0 };
     if is_utf16(text) {
-        tell_text(words::UTF16, 0, 0);
+        teller.tell_words(Words::Utf16, &[]);
         return;
     }
-    let rest = arguments::tail(text, tidy::begin(text));
-    let told = tell_whole(text, rest, tidied);
-    words::tell_more(tell_lines(rest, told));
+    let rest = tidy::unmarked(text);
+    tell_whole(&mut teller, text, rest, tidied);
+    tell_lines(&mut teller, rest);
+    teller.end()
 }
 
 // Two bytes for each character: a mark of that at the begin, or zeros between bytes.
 fn is_utf16(text: &[u8]) -> bool {
-    let first = text::field::byte_at(text, 0);
-    let second = text::field::byte_at(text, 1);
-    if first == 0xFF {
-        return second == 0xFE;
+    match text {
+        [0xFF, 0xFE, ..] | [0xFE, 0xFF, ..] => true,
+        [0xFE..=0xFF, ..] => false,
+        [0, _, ..] | [_, 0, ..] => true,
+        _ => false,
     }
-    if first == 0xFE {
-        return second == 0xFF;
-    }
-    1 < text.len() && (first == 0 || second == 0)
 }
 
-// What was changed in the text as a whole: at its begin, in CR, at its end. The answer counts what was told.
-fn tell_whole(text: &[u8], rest: &[u8], tidied: &[u8]) -> usize {
-    let mut told: usize = 0;
-    if count(rest, 0xEF, 0xF0) < count(text, 0xEF, 0xF0) {
-        told = tell_text(words::BOM, 0, told);
+// What was changed in the text as a whole: at its begin, in CR, at its end.
+fn tell_whole(teller: &mut Teller, text: &[u8], rest: &[u8], tidied: &[u8]) {
+    if count(rest, 0xEF) < count(text, 0xEF) {
+        teller.tell_words(Words::Bom, &[]);
     }
     let returns = lines_with_cr(rest);
     if 0 < returns {
-        told = tell_text(words::CR, returns, told);
+        teller.tell_words(Words::Cr, &[returns as u64]);
     }
-    tell_end(rest, count(tidied, b'\n', 11), told)
-}
-
-// Lines that went at the text's end, or an LF that came there.
-fn tell_end(text: &[u8], kept: usize, told: usize) -> usize {
-    let lines = line_count(text);
+    // Lines that went at the text's end, or an LF that came there.
+    let lines = line_count(rest);
+    let kept = count(tidied, b'\n');
     if kept < lines {
-        return tell_text(words::EMPTY, lines - kept, told);
+        teller.tell_words(Words::Empty, &[(lines - kept) as u64]);
+    } else if count(rest, b'\n') < lines {
+        teller.tell_words(Words::NoLf, &[]);
     }
-    if count(text, b'\n', 11) < lines {
-        return tell_text(words::NO_LF, 0, told);
-    }
-    told
 }
 
 // How many lines a text has: what follows the last LF is one where it is not empty.
 fn line_count(text: &[u8]) -> usize {
-    let feeds = count(text, b'\n', 11);
-    if text.len() == 0 {
-        return feeds;
+    let feeds = count(text, b'\n');
+    match text {
+        [] | [.., b'\n'] => feeds,
+        _ => feeds.saturating_add(1),
     }
-    if text[text.len() - 1] == b'\n' {
-        return feeds;
-    }
-    next(feeds)
 }
 
 // How many of them are looked at.
 fn looked_at(text: &[u8]) -> usize {
-    let lines = line_count(text);
-    if lines < LINES_MOST {
-        lines
-    } else {
-        LINES_MOST
-    }
+    line_count(text).min(LINES_MOST)
 }
 
 fn lines_with_cr(text: &[u8]) -> usize {
-    let mut n: usize = 0;
-    for k in 0..looked_at(text) {
-        let line = lists::line(text, k);
-        if count(trimmed(line, true), b'\r', 14) < count(line, b'\r', 14) {
-            n = next(n);
-        }
-    }
-    n
+    text.split(|&b| b == b'\n')
+        .take(looked_at(text))
+        .filter(|line| count(trimmed(line, true), b'\r') < count(line, b'\r'))
+        .count()
 }
 
-// How many bytes of a text are at least the one and below the other.
-pub fn count(s: &[u8], least: u8, past: u8) -> usize {
-    let mut n: usize = 0;
-    for i in 0..s.len() {
-        if least <= s[i] && s[i] < past {
-            n = next(n);
-        }
-    }
-    n
+// How many of a text's bytes are this one.
+fn count(text: &[u8], byte: u8) -> usize {
+    text.iter().filter(|b| **b == byte).count()
 }
 
 // What was changed field by field, and what is left of it.
-fn tell_lines(text: &[u8], told: usize) -> usize {
-    let doubt = 0 < count(text, b',', 45) || 0 < count(text, b'"', 35);
-    let mut n = told;
-    for k in 0..looked_at(text) {
-        n = tell_line(lists::line(text, k), k, doubt, n);
+fn tell_lines(teller: &mut Teller, text: &[u8]) {
+    let doubt = text.contains(&b',') || text.contains(&b'"');
+    for (k, line) in text
+        .split(|&b| b == b'\n')
+        .take(looked_at(text))
+        .enumerate()
+    {
+        tell_line(teller, line, k, doubt);
     }
-    n
-}
-
-// How many bytes part the fields of a line.
-fn seps(line: &[u8], row: bool) -> usize {
-    if row {
-        return count(line, b';', b'<');
-    }
-    count(line, b'\t', b'\n')
 }
 
 // Line k, counted from 0: its fields end at semicolons where it is a row of the planners' sheet, else at tabs.
-fn tell_line(line: &[u8], k: usize, doubt: bool, told: usize) -> usize {
+fn tell_line(teller: &mut Teller, line: &[u8], k: usize, doubt: bool) {
     let row = tidy::line::is_row(line);
+    let kind = field::kind_of(line, row);
     let sep = if row { b';' } else { b'\t' };
-    let letter = field::letter_of(line, row);
-    let last = seps(line, row);
-    let mut n = told;
-    for i in 0..FIELDS_MOST {
+    let last = count(line, sep);
+    for (i, f) in line.split(|&b| b == sep).take(FIELDS_MOST).enumerate() {
         let at = field::At {
             line: k,
-            letter: letter,
+            kind,
             field: i,
-            row: row,
-            doubt: doubt,
+            row,
+            doubt,
         };
-        n = field::tell(lists::piece(line, i, sep), i == last, at, n);
+        field::tell(teller, f, i == last, at);
     }
-    n
 }

@@ -3,53 +3,46 @@ ghost use Rattle.io.specs.Counts.{IsPrefixLen};
 
 use system::STDERR;
 
-// The forms, by their lines in `put`.
-pub const UTF16: usize = 0;
+// The words, in the order of the list in `put`.
+#[derive(Clone, Copy)]
+pub enum Words {
+    Utf16,
+    Bom,
+    Cr,
+    Empty,
+    NoLf,
+    More,
+    Line,
+    Field,
+    Blanks,
+    Quotes,
+    Value,
+    Written,
+    Comma,
+    Points,
+    Thousands,
+    Headings,
+    OneZero,
+    TwoZeros,
+    ThreeZeros,
+    FourZeros,
+}
 
-pub const BOM: usize = 1;
-
-pub const CR: usize = 2;
-
-pub const EMPTY: usize = 3;
-
-pub const NO_LF: usize = 4;
-
-pub const MORE: usize = 5;
-
-pub const LINE: usize = 6;
-
-pub const FIELD: usize = 7;
-
-pub const BLANKS: usize = 8;
-
-pub const QUOTES: usize = 9;
-
-pub const VALUE: usize = 10;
-
-pub const WRITTEN: usize = 11;
-
-pub const COMMA: usize = 12;
-
-pub const POINTS: usize = 13;
-
-pub const THOUSANDS: usize = 14;
-
-pub const HEADINGS: usize = 15;
-
-// So many zeros: no number lacks more than four.
-pub fn zeros(n: usize) -> usize {
-    match n {
-        1 => 16,
-        2 => 17,
-        3 => 18,
-        _ => 19,
+impl Words {
+    // So many zeros: no number lacks more than four.
+    pub fn zeros(n: usize) -> Words {
+        match n {
+            1 => Words::OneZero,
+            2 => Words::TwoZeros,
+            3 => Words::ThreeZeros,
+            _ => Words::FourZeros,
+        }
     }
 }
 
-pub fn put(k: usize, figure: usize, out: &mut [u8], at: usize) -> usize
+pub fn put(words: Words, figures: &[u64], out: &mut [u8], at: usize) -> usize
     ensures { IsPrefixLen result out.new }
 {
-    let figures = [figure as u64];
     forms::put(
         b"keravnoth: left: the text looks like UTF-16: save it as UTF-8 and give it again|\n\
         keravnoth: a BOM at the begin taken off|\n\
@@ -71,8 +64,8 @@ pub fn put(k: usize, figure: usize, out: &mut [u8], at: usize) -> usize
         00|\n\
         000|\n\
         0000|\n",
-        k,
-        &figures,
+        words as usize,
+        figures,
         out,
         at,
     )
@@ -81,35 +74,34 @@ pub fn put(k: usize, figure: usize, out: &mut [u8], at: usize) -> usize
 // So many lines are told; the last says how many more there are.
 const TOLD_MOST: usize = 200;
 
-// Tells a line where not too many were told. The answer counts it.
-pub fn tell(words: &[u8], told: usize) -> usize {
-    if told < TOLD_MOST {
-        io::write_all(STDERR, words);
-    }
-    next(told)
-}
-
-pub fn tell_text(k: usize, figure: usize, told: usize) -> usize {
-    let mut out = [0u8; ROOM];
-    let n = put(k, figure, &mut out, 0);
-    tell(&out[..n], told)
-}
-
-pub fn tell_more(told: usize) {
-    if TOLD_MOST < told {
-        tell_text(MORE, told - TOLD_MOST, 0);
-    }
-}
-
 // Room for a line of words.
 pub const ROOM: usize = 256;
 
-// A text that is read has fewer bytes, so that nothing here is counted further.
-const COUNT_MOST: usize = 1000000;
+// Tells lines on standard error, as long as not too many were told.
+#[derive(Clone, Copy)]
+pub struct Teller {
+    pub told: usize,
+}
 
-pub fn next(n: usize) -> usize {
-    if n < COUNT_MOST {
-        return n + 1;
+impl Teller {
+    pub fn tell(&mut self, line: &[u8]) {
+        if self.told < TOLD_MOST {
+            io::write_all(STDERR, line);
+        }
+        self.told = self.told.saturating_add(1);
     }
-    n
+
+    pub fn tell_words(&mut self, words: Words, figures: &[u64]) {
+        let mut out = [0u8; ROOM];
+        let n = put(words, figures, &mut out, 0);
+        self.tell(&out[..n])
+    }
+
+    // How many more there were.
+    pub fn end(self) {
+        if TOLD_MOST < self.told {
+            let mut last = Teller { told: 0 };
+            last.tell_words(Words::More, &[(self.told - TOLD_MOST) as u64]);
+        }
+    }
 }

@@ -6,36 +6,30 @@ mod pass;
 ghost use Rattle.std.specs.Prelude.{◌≡◌, ◌*◌, ◌≤◌, length};
 ghost use Rattle.limits.specs.Limits.{borders_most};
 ghost use Rattle.rounds.specs.Rounds.{bits};
-ghost use Rattle.rounds.specs.AllRounds.{flat};
+ghost use Rattle.walk.specs.Flat.{flat_of};
 ghost use Rattle.tightrules.specs.Tight.{steps};
 ghost use Rattle.tightrules.specs.Measure.{bound_by};
 ghost use Rattle.tightrules.specs.Pass.{Small};
 
 use tightrules::RoundsMost;
+use walk::grid::Grid;
 
 // Measures a flat table of factors p and the margins that the rounds start from; `ns` is working memory.
-pub fn measure(
-    rows: usize,
-    borders: usize,
-    p: &[u64],
-    margins: &[u64],
-    ns: &mut [u64],
-) -> RoundsMost
-    requires borders_in_bounds { (rows * borders ≤ length p.now) × (borders ≤ borders_most) }
-    requires margins_len { (length margins.now ≡ rows) × (length ns.old ≡ rows) }
+pub fn measure(grid: &Grid, margins: &[u64], ns: &mut [u64]) -> RoundsMost
+    requires borders_few { grid.now.borders ≤ borders_most }
+    requires margins_len { (length margins.now ≡ grid.now.rows) × (length ns.old ≡ grid.now.rows) }
     requires small { Small margins.now }
-    ensures { result ≡ bound_by (flat rows borders p.now) margins.now }
+    ensures { result ≡ bound_by (flat_of grid.now) margins.now }
 {
-    walk::grid::count_sharers(rows, borders, p, ns);
+    grid.count_sharers(ns);
     let n = pass::most(ns);
-    let kws = pass::highest(rows, borders, p, margins, ns, n);
-    let l = bits(kws.alone);
-    let sharp = steps(n, kws.reach);
+    let kws = pass::highest(grid, margins, ns, n);
+    let bits = bits(kws.alone);
     RoundsMost {
         sharers: n,
-        bits: l,
-        rounds: 2 * n * l,
-        sharp: sharp,
+        bits,
+        rounds: 2 * n * bits,
+        sharp: steps(n, kws.reach),
     }
 }
 
@@ -62,7 +56,7 @@ fn steps(n: u64, u: u64) -> u64
     let mut rest = u;
     let mut count: u64 = 0;
     while 0 < rest {
-        rest = (rest - 1) - (rest - 1) / n;
+        rest -= rest.div_ceil(n);
         count += 1;
     }
     count

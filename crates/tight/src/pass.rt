@@ -3,69 +3,58 @@ ghost use Rattle.std.specs.Prelude.{◌≡◌, ◌+◌, ◌*◌, ◌-◌, ◌^�
 ghost use Rattle.numbers.specs.Below.{at, largest, table};
 ghost use Rattle.limits.specs.Limits.{borders_most};
 ghost use Rattle.rounds.specs.Rounds.{sharers, most_sharers};
-ghost use Rattle.rounds.specs.AllRounds.{flat};
+ghost use Rattle.walk.specs.Flat.{flat_of};
 ghost use Rattle.tightrules.specs.Pass.{Small, Highest, Higher, Lowered};
 
 use tightrules::Kws;
+use walk::grid::Grid;
 
 // The largest of a list, 0 where it is empty.
 pub fn most(list: &[u64]) -> u64
     ensures { result ≡ largest (length list.now) (at list.now) }
 {
     let mut most: u64 = 0;
-    for i in 0..list.len() {
-        most = walk::larger(most, list[i]);
+    for &item in list {
+        most = most.max(item);
     }
     most
 }
 
 // The most that any border could take alone, and U, the largest reach of any border. `n` is N.
-pub fn highest(rows: usize, borders: usize, p: &[u64], margins: &[u64], ns: &[u64], n: u64) -> Kws
-    requires borders_in_bounds { (rows * borders ≤ length p.now) × (length margins.now ≡ rows) × (borders ≤ borders_most) }
-    requires ns_value { (ns.now ≡ table rows (sharers (flat rows borders p.now))) × (n ≡ most_sharers (flat rows borders p.now)) }
+pub fn highest(grid: &Grid, margins: &[u64], ns: &[u64], n: u64) -> Kws
+    requires margins_len { (length margins.now ≡ grid.now.rows) × (grid.now.borders ≤ borders_most) }
+    requires ns_value { (ns.now ≡ table grid.now.rows (sharers (flat_of grid.now))) × (n ≡ most_sharers (flat_of grid.now)) }
     requires small { Small margins.now }
-    ensures { Highest (flat rows borders p.now) margins.now borders result }
+    ensures { Highest (flat_of grid.now) margins.now grid.now.borders result }
 {
     let mut most = Kws { alone: 0, reach: 0 };
-    for b in 0..borders {
-        most = higher(rows, borders, p, margins, ns, n, b, most);
+    for b in 0..grid.borders {
+        most = higher(grid, margins, ns, n, b, most);
     }
     most
 }
 
 // `most`, raised to the values of border `b`. Both values of `low` start at or above the border's and fall row by row; where neither exceeds `most`, no further row is tried.
-fn higher(
-    rows: usize,
-    borders: usize,
-    p: &[u64],
-    margins: &[u64],
-    ns: &[u64],
-    n: u64,
-    b: usize,
-    most: Kws,
-) -> Kws
-    requires borders_in_bounds { (rows * borders ≤ length p.now) × (length margins.now ≡ rows) × (borders ≤ borders_most) × (b < borders) }
-    requires ns_value { (ns.now ≡ table rows (sharers (flat rows borders p.now))) × (n ≡ most_sharers (flat rows borders p.now)) }
+fn higher(grid: &Grid, margins: &[u64], ns: &[u64], n: u64, b: usize, most: Kws) -> Kws
+    requires margins_len { (length margins.now ≡ grid.now.rows) × (grid.now.borders ≤ borders_most) × (b < grid.now.borders) }
+    requires ns_value { (ns.now ≡ table grid.now.rows (sharers (flat_of grid.now))) × (n ≡ most_sharers (flat_of grid.now)) }
     requires small { Small margins.now }
-    ensures { Higher (flat rows borders p.now) margins.now b most result }
+    ensures { Higher (flat_of grid.now) margins.now b most result }
 {
-    let first = walk::first_cap(rows, borders, p, margins, b);
+    let first = walk::first_cap(grid, margins, b);
     let mut low = Kws {
         alone: first,
         reach: first,
     };
-    for i in 0..rows {
+    for i in 0..grid.rows {
         if low.alone <= most.alone && low.reach <= most.reach {
             return most;
         }
-        let f = walk::grid::factor(rows, borders, p, i, b);
-        low = lower(f, ns[i], n, margins[i], low);
+        low = lower(grid.factor(i, b), ns[i], n, margins[i], low);
     }
-    let alone = walk::larger(most.alone, low.alone);
-    let reach = walk::larger(most.reach, low.reach);
     Kws {
-        alone: alone,
-        reach: reach,
+        alone: most.alone.max(low.alone),
+        reach: most.reach.max(low.reach),
     }
 }
 
@@ -80,24 +69,8 @@ fn lower(f: u64, n: u64, most: u64, margin: u64, low: Kws) -> Kws
     if taken == room {
         return low;
     }
-    let alone = smaller(low.alone, taken);
-    let reach = smaller(low.reach, less(taken, less(n, 1)));
     Kws {
-        alone: alone,
-        reach: reach,
+        alone: low.alone.min(taken),
+        reach: low.reach.min(taken.saturating_sub(n.saturating_sub(1))),
     }
-}
-
-// The difference, or 0.
-fn less(a: u64, b: u64) -> u64
-    ensures { result ≡ a - b }
-{
-    if a < b { 0 } else { a - b }
-}
-
-// The smaller of two.
-fn smaller(a: u64, b: u64) -> u64
-    ensures { result ≡ min a b }
-{
-    if a < b { a } else { b }
 }

@@ -3,7 +3,7 @@ use mathlib.Core.Path.{◌≡◌, refl, ap, ap₂}
 use mathlib.Core.List.{List}
 use Prim.Native.Nat.{ℕ, zero, suc, ◌-◌, ◌/◌, ◌<◌}
 use native.Mathlib.Omega.{arith}
-use Rattle.numbers.specs.Below.{at, count, largest, least, or_zero}
+use Rattle.numbers.specs.Below.{at, least, or_zero}
 use Rattle.numbers.proofs.BelowLaws.{count_cong}
 use Rattle.rounds.specs.Rounds.{sharers, alone, most_sharers, bits, alone_bits}
 use Rattle.rounds.proofs.Laid.{grid}

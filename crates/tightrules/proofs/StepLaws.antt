@@ -1,8 +1,10 @@
 -- The laws of `equal_share_up`, `cut` and `steps` that code needs: steps from under 2^L are at most 2 N L, and how they are taken one by one. No contract cites this file.
 use mathlib.Core.Path.{◌≡◌, refl, sym, ap, subst}
 use Prim.Native.Nat.{ℕ, zero, suc, ◌+◌, ◌*◌, ◌-◌, ◌/◌, ◌^◌, ◌≤◌, ◌<◌}
-use native.Mathlib.Nat.{le_refl, le_antisymm, div-zero, div-le_self, add-div_right}
+use native.Mathlib.Nat.{le_refl, le_antisymm, div-zero, div-le_self, add-div_right, suc-mul, le-div_iff_mul-le, div-lt_iff_lt-mul}
 use native.Mathlib.Omega.{arith}
+use Rattle.std.specs.Int.{div_ceil}
+use Rattle.std.proofs.lemmas.Grind.{div_ceil_times}
 use Rattle.rounds.proofs.LeastLaws.{div_mono}
 use Rattle.rounds.proofs.Halving.{Falls, stop, step, falls_bound}
 use Rattle.tightrules.specs.Tight.{equal_share_up, cut, steps_within, steps}
@@ -17,6 +19,17 @@ equal_share_up_suc u {n} z = let e : suc u + (n - 1) ≡ u + n = omega arith in 
 pub cut_suc : (u : ℕ) {n : ℕ} → 0 < n → u - u / n ≡ cut n (suc u)
 unfolding cut
 cut_suc u {n} z = omega (arith, equal_share_up_suc u z)
+
+-- the share of rest, rounded up as code does
+pub ceil_suc : (rest n : ℕ) → 0 < n → 0 < rest → div_ceil rest n ≡ (rest - 1) / n + 1
+ceil_suc rest n z y =
+    let q : ℕ = div_ceil rest n in
+    let p : ℕ = q - 1 in
+    let within = div_ceil_times rest n z in
+    let low : (rest - 1) / n < q = (div-lt_iff_lt-mul z).1 (omega (arith, within.0)) in
+    let e : q ≡ suc p = omega arith in
+    let high : p ≤ (rest - 1) / n = (le-div_iff_mul-le z).1 (omega (arith, within.1, ap (λ (k : ℕ). k * n) e, suc-mul p n)) in
+    omega arith
 
 -- ---- steps
 -- where n is 0 a cut takes nothing away, and the fuel is the number of steps
@@ -88,8 +101,10 @@ module _ {n u rest count : ℕ} (s : Stepped n u rest count) where
     step-here : steps n rest ≡ suc (steps n (rest - 1 - (rest - 1) / n))
     step-here = let e : suc (rest - 1) ≡ rest = omega arith in subst (λ (v : ℕ). steps n v ≡ suc (steps n (rest - 1 - (rest - 1) / n))) e (steps_suc (rest - 1) z)
 
-    pub stepped_more : Stepped n u (rest - 1 - (rest - 1) / n) (count + 1)
-    stepped_more = record { sum = omega (arith, s.sum, step-here) }
+    pub stepped_more : Stepped n u (rest - div_ceil rest n) (count + 1)
+    stepped_more =
+        let e : rest - div_ceil rest n ≡ rest - 1 - (rest - 1) / n = omega (arith, ceil_suc rest n z y) in
+        rw e (record { sum = omega (arith, s.sum, step-here) })
 
     pub stepped_few : count < u
     stepped_few = omega (arith, s.sum, step-here, steps_le n u)

@@ -1,4 +1,5 @@
 -- Correction sheets and the table's text (02, E2): demand 2 of the merged table, and that the day's own rows change nothing.
+use Rattle.std.specs.Prelude.{Ok}
 use mathlib.Core.Path.{◌≡◌, refl, sym, ap, subst, ◌∙◌}
 use mathlib.Core.List.{List}
 use Prim.Native.Nat.{ℕ, ◌≤◌}
@@ -7,7 +8,7 @@ use lib.ListN.{length, take, length-drop}
 use lib.Seq.{take_at}
 use Rattle.numbers.specs.Below.{over}
 use Rattle.limits.specs.Limits.{bytes_most}
-use Rattle.refusals.specs.Refusals.{Judged, passed}
+use Rattle.refusals.specs.Refusals.{Judged}
 use Rattle.refusals.proofs.RefusalLaws.{passed_is, then_passed, then_next, answer_passed, need_passed}
 use Rattle.text.specs.Left.{TextLeft, text_left}
 use Rattle.text.proofs.LeftLaws.{text_left_lem}
@@ -30,11 +31,11 @@ use Rattle.trips.proofs.TableTrip.{rows_text_lem, rows_good}
 use Rattle.trips.proofs.RoundTrip.{write_read}
 
 -- the merged table, written, reads back as itself without a sheet
-pub merged_reads_back : (text sheet : List ℕ) (t : Table) → read_corrected text sheet ≡ passed t → read_text (table_text t) ≡ passed t
+pub merged_reads_back : (text sheet : List ℕ) (t : Table) → read_corrected text sheet ≡ Ok t → read_text (table_text t) ≡ Ok t
 merged_reads_back text sheet t e = write_read t (corrected_good text sheet t e) (corrected_shaped text sheet t e)
 
 -- what `rewrite_corrected` leaves reads back as the merged table
-pub rewritten_reads_back : (text sheet out : List ℕ) (n : ℕ) → (rewrite_corrected_left text sheet out).answer ≡ passed n → read_text (take n (rewrite_corrected_left text sheet out).out) ≡ read_corrected text sheet
+pub rewritten_reads_back : (text sheet out : List ℕ) (n : ℕ) → (rewrite_corrected_left text sheet out).answer ≡ Ok n → read_text (take n (rewrite_corrected_left text sheet out).out) ≡ read_corrected text sheet
 unfolding rewrite_corrected_left text_left
 rewritten_reads_back text sheet out n e =
     let a = answer_passed _ _ _ (λ (l : TextLeft). l.answer) n (λ w. refl) e in
@@ -49,7 +50,7 @@ rewritten_reads_back text sheet out n e =
     ap read_text (ap (take n) left ∙ take_at (table_text t) _ n bytes) ∙ merged_reads_back text sheet t m.first ∙ sym m.first
 
 -- a sheet of all the day's own rows changes nothing, of either kind: C lines, or lines of the planners' sheet
-pub own_lines_change_nothing : (kind : RowKind) (text : List ℕ) (t : Table) → read_text text ≡ passed t → read_corrected text (rows_text_by kind t.header.zones t.rows t.factors) ≡ read_text text
+pub own_lines_change_nothing : (kind : RowKind) (text : List ℕ) (t : Table) → read_text text ≡ Ok t → read_corrected text (rows_text_by kind t.header.zones t.rows t.factors) ≡ read_text text
 unfolding sheet_of
 own_lines_change_nothing kind text t e =
     let rows = rows_section_lem kind t.header.zones t.rows t.factors o.lines o.values_are o.factors_are (rows_held as_given text t o).1 in

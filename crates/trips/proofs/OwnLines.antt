@@ -1,5 +1,6 @@
 -- 02, E2: a correction sheet of all the day's own rows changes nothing, as C lines or as lines of the planners' sheet (02, E11).
 -- In order: the line written of a row; the lines of rows are a good sheet; each is handed on for its own row; the sheet's kind; the day with its own rows.
+use Rattle.std.specs.Prelude.{Err, Ok}
 use mathlib.Core.Path.{◌≡◌, refl, sym, ap, ap₂, subst, ◌∙◌}
 use mathlib.Core.Bool.{Bool, cond}
 use mathlib.Core.List.{List, [], ◌∷◌, ◌++◌}
@@ -12,11 +13,10 @@ use lib.IntN.{ℤ}
 use lib.ListN.{length, drop, length-append}
 use lib.Seq.{drop-append_seam}
 use Rattle.limits.specs.Limits.{bytes_most}
-use Rattle.refusals.specs.Refusals.{Judged, passed, refused, wrong_form}
+use Rattle.refusals.specs.Refusals.{Judged, wrong_form}
 use Rattle.types.proofs.RangeLaws.{header_in_lem}
-use Rattle.text.specs.declared.Number.TheVariants.{Value}
 use Rattle.text.specs.Fields.{number_at}
-use Rattle.text.specs.Line.{line_at, after, Line, holds}
+use Rattle.text.specs.Line.{line_at, after, Line}
 use Rattle.text.specs.Written.{text_of, decimal}
 use Rattle.text.proofs.NumberTrip.{number_read}
 use Rattle.columns.specs.ColumnText.{index_text, head_text, columns_text}
@@ -40,6 +40,7 @@ use Rattle.reading.proofs.ReadLaws.{Opened, rows_held}
 use Rattle.reading.proofs.JudgedTextLaws.{with_read}
 use Rattle.reading.proofs.CorrectedLaws.{sheet_passes}
 use Rattle.trips.proofs.FirstLine.{first_line}
+use Rattle.std.specs.Prelude.{Ok, Err}
 
 module _ (kind : RowKind) (zones : ℕ) where
   -- ---- the line written of row i
@@ -50,10 +51,10 @@ module _ (kind : RowKind) (zones : ℕ) where
     abbrev line : List ℕ
     line = text_by kind i c
 
-    own-holds : line_by kind zones line i ≡ holds c
+    own-holds : line_by kind zones line i ≡ Ok c
     own-holds = row_written zones c fit.1 kind i fit.0
 
-    own-index : number_at line (index_place kind) (sep_by kind) ≡ Value i (index_place kind + length (decimal i) + 1)
+    own-index : number_at line (index_place kind) (sep_by kind) ≡ Ok (i, index_place kind + length (decimal i) + 1)
     own-index = row_index kind zones line i c own-holds
 
     own_row : (j : ℕ) → of_row kind line j ≡ eqb i j
@@ -82,7 +83,7 @@ module _ (kind : RowKind) (zones : ℕ) where
   written-pieces i [] f = refl
   written-pieces i (c ∷ xs) f = own-pieces i c f.0 (section_text (text_by kind) (i + 1) xs) ∙ ap (λ (ls : List (List ℕ)). text_by kind i c ∷ ls) (written-pieces (i + 1) xs f.1)
 
-  written-good : (rows i number : ℕ) (xs : List RowLine) → AllFit Fits i xs → i + length xs ≤ rows → judge_from kind zones rows i number (written i xs) ≡ passed tt
+  written-good : (rows i number : ℕ) (xs : List RowLine) → AllFit Fits i xs → i + length xs ≤ rows → judge_from kind zones rows i number (written i xs) ≡ Ok tt
   written-good rows i number [] f h = refl
   written-good rows i number (c ∷ xs) f h = rw (own-due i c f.0 rows (omega arith), own-holds i c f.0) (written-good rows (i + 1) (number + 1) xs f.1 (omega arith))
 
@@ -105,7 +106,7 @@ module _ (kind : RowKind) (zones : ℕ) where
         let fit : AllFit Fits i (c ∷ ys) = subst (AllFit Fits i) (sym f.is) fits in
         let day = piece row_kind.Table (line_at text p) in
         let rest = written (i + 1) ys in
-        let here : judge (line_at text p) i ≡ holds c =
+        let here : judge (line_at text p) i ≡ Ok c =
         ap (λ (x : Piece). row_in zones x i)
         (own day i (omega arith) ∙ ap (λ (v : Bool). cond v (piece kind (text_by kind i c)) (handed_on kind rest day i)) (own_row i c fit.0 i ∙ eq-eqb i i refl))
         ∙ own-holds i c fit.0 in
@@ -126,8 +127,8 @@ kind_of kind [] h = absurd (not-suc-le-zero h)
 kind_of kind (c ∷ xs) h = own_kind kind c (section_text (text_by kind) 1 xs)
 
 -- ---- the day with its own rows
-pub own_lines : (kind : RowKind) (text : List ℕ) (t : Table) → read_text text ≡ passed t → (o : Opened as_given text t) → let sheet = section_text (text_by kind) 0 o.lines in
-    length sheet ≤ bytes_most → read_corrected text sheet ≡ passed t
+pub own_lines : (kind : RowKind) (text : List ℕ) (t : Table) → read_text text ≡ Ok t → (o : Opened as_given text t) → let sheet = section_text (text_by kind) 0 o.lines in
+    length sheet ≤ bytes_most → read_corrected text sheet ≡ Ok t
 own_lines kind text t e o short =
     let h = t.header in
     let xs = o.lines in
@@ -137,14 +138,14 @@ own_lines kind text t e o short =
     let fits : AllFit (Fits kind h.zones) 0 xs = fits_all (Fits kind h.zones) empty_row xs 0 (λ k l. (omega (arith, held.0, many.rows_most_lem), fits_at (RowHeldAt h.zones) empty_row xs 0 held.1 k l)) in
     let is = kind_of kind xs (omega (arith, held.0, many.rows_least_lem)) in
     let lines = written-pieces kind h.zones 0 xs fits in
-    let good : judge_corrections h.zones h.rows sheet ≡ passed tt =
+    let good : judge_corrections h.zones h.rows sheet ≡ Ok tt =
     ap₂ (λ (k : RowKind) (ls : List (List ℕ)). judge_from k h.zones h.rows 0 1 ls) is lines ∙ written-good kind h.zones h.rows 0 1 xs fits (omega (arith, held.0)) in
     let handed : lines_at (picked_row h.zones (handed_by sheet)) (row_line_no h) h.rows text o.q 0 ≡ read xs o.e =
     ap₂ (λ (k : RowKind) (ls : List (List ℕ)). lines_at (picked_row h.zones (handed_on k ls)) (row_line_no h) h.rows text o.q 0) is lines
     ∙ own_same kind h.zones (row_line_no h) text (written kind h.zones 0 xs) h.rows o.q 0 xs o.e (λ d j l. refl) fits o.rows_are in
     let after-rows : List RowLine → ℕ → Judged Table = λ rows e.
-    cond (ltb e (length text)) (refused (wrong_form (past_line_no h))) (passed (lent h t.nets t.allocated t.borders (values_of rows) (factors_of rows))) in
+    cond (ltb e (length text)) (Err (wrong_form (past_line_no h))) (Ok (lent h t.nets t.allocated t.borders (values_of rows) (factors_of rows))) in
     sheet_passes text sheet short t (sym e) (sym good)
     ∙ o.left (handed_by sheet)
     ∙ with_read _ after-rows xs o.e handed
-    ∙ rw (le-ltb o.e (length text) o.whole) (ap₂ (λ (v : List (List ℤ)) (f : List ℤ). passed (lent h t.nets t.allocated t.borders v f)) o.values_are o.factors_are)
+    ∙ rw (le-ltb o.e (length text) o.whole) (ap₂ (λ (v : List (List ℤ)) (f : List ℤ). Ok (lent h t.nets t.allocated t.borders v f)) o.values_are o.factors_are)

@@ -1,6 +1,7 @@
 -- The round trip of the planners' sheet (02, E11), both ways: rows that were read and are written again give the same text (`read-write`), and rows that are
 -- written read back as themselves (`write_read`); the same of what the calls leave is `read-then-write` and `write-then-read`.
 -- What is written has no more than 60,200 bytes (of the call `written-most`; of rows `sheet-length` in crate rowsheet).
+use Rattle.std.specs.Prelude.{Err, Ok}
 use mathlib.Core.Path.{◌≡◌, refl, sym, ap, ap₂, subst, ◌∙◌}
 use mathlib.Core.Bool.{true, not, cond}
 use mathlib.Core.Logic.{⊎_elim}
@@ -15,7 +16,7 @@ use lib.Seq.{take_at}
 use Rattle.numbers.specs.Below.{over}
 use Rattle.numbers.proofs.BelowLaws.{le_or_lt}
 use Rattle.limits.specs.Limits.{bytes_most}
-use Rattle.refusals.specs.Refusals.{Judged, passed, refused, too_short, wrong_form}
+use Rattle.refusals.specs.Refusals.{Judged, too_short, wrong_form}
 use Rattle.refusals.proofs.RefusalLaws.{passed_is, not_passed, then_next, then_refused, either_passed, unless_ok, none_next}
 use Rattle.types.specs.declared.Header.{Header}
 use Rattle.types.specs.LineColumns.{row_items}
@@ -23,7 +24,6 @@ use Rattle.types.specs.Ranges.{header_fits}
 use Rattle.types.proofs.RangeLaws.{header_in_lem}
 use Rattle.text.specs.Left.{TextLeft, text_left}
 use Rattle.text.proofs.LeftLaws.{text_refused, text_short, text_left_lem}
-use Rattle.sections.specs.Section.{read}
 use Rattle.sections.proofs.SectionLaws.{section_text, AllFit, section_read}
 use Rattle.sections.proofs.SectionRecords.{fits_all, lines_goes}
 use Rattle.tablerules.specs.Table.{row_good, stretch}
@@ -49,7 +49,7 @@ unfolding sheet_of
 sheet_lines zones t lines values_are factors_are held = rows_section_lem row_kind.Sheet zones t.rows t.factors lines values_are factors_are held
 
 -- ---- read, and written again
-pub read_write : (h : Header) (sheet : List ℕ) (t : Rows) → read_sheet h sheet ≡ passed t → sheet_of h.zones t ≡ sheet
+pub read_write : (h : Header) (sheet : List ℕ) (t : Rows) → read_sheet h sheet ≡ Ok t → sheet_of h.zones t ≡ sheet
 read_write h sheet t e =
     let u = sheet_section h sheet t e in
     let b = (section_read (sheet_line h.zones) first_line_no line_text_of (λ line i c q. (row_read_lem row_kind.Sheet h.zones line i c q).0) h.rows sheet 0 0 u.lines u.end u.section).0 in
@@ -100,25 +100,25 @@ module _ (h : Header) (t : Rows) (fits : header_fits h ≡ true) (rows_long : le
     held : AllFit (RowHeldAt h.zones) 0 lines
     held = fits_all (RowHeldAt h.zones) empty_row lines 0 (λ k l. row-held k (omega (arith, lines_long)))
 
-    back : sheet_rows h (sheet_of h.zones t) ≡ passed t
+    back : sheet_rows h (sheet_of h.zones t) ≡ Ok t
     back =
         let sheet = sheet_of h.zones t in
         let here : drop 0 sheet ≡ section_text line_text_of 0 lines ++ [] = sheet_lines h.zones t lines values_are factors_are held ∙ sym (append-nil (section_text line_text_of 0 lines)) in
         lines_goes (sheet_line h.zones) first_line_no line_text_of Fits (λ i c q. row_written h.zones c q.1 row_kind.Sheet i q.0) (row_one row_kind.Sheet)
-        (λ xs e. cond (ltb e (length sheet)) (refused (wrong_form (first_line_no + h.rows))) (passed (rows_of xs))) (passed t) lines h.rows sheet 0 [] lines_long here fit (λ next none. ended next none)
+        (λ xs e. cond (ltb e (length sheet)) (Err (wrong_form (first_line_no + h.rows))) (Ok (rows_of xs))) (Ok t) lines h.rows sheet 0 [] lines_long here fit (λ next none. ended next none)
       where
-        ended : (next : ℕ) → drop next (sheet_of h.zones t) ≡ [] → cond (ltb next (length (sheet_of h.zones t))) (refused (wrong_form (first_line_no + h.rows))) (passed (rows_of lines)) ≡ passed t
+        ended : (next : ℕ) → drop next (sheet_of h.zones t) ≡ [] → cond (ltb next (length (sheet_of h.zones t))) (Err (wrong_form (first_line_no + h.rows))) (Ok (rows_of lines)) ≡ Ok t
         ended next none =
             let past : length (sheet_of h.zones t) ≤ next = omega (arith, length-drop next (sheet_of h.zones t), ap length none) in
-            rw (le-ltb next (length (sheet_of h.zones t)) past) (ap passed (ap₂ {C = Rows} (λ (r : List (List ℤ)) (f : List ℤ). record { rows = r; factors = f }) values_are factors_are))
+            rw (le-ltb next (length (sheet_of h.zones t)) past) (ap Ok (ap₂ {C = Rows} (λ (r : List (List ℤ)) (f : List ℤ). record { rows = r; factors = f }) values_are factors_are))
 
-    pub write_read : read_sheet h (sheet_of h.zones t) ≡ passed t
+    pub write_read : read_sheet h (sheet_of h.zones t) ≡ Ok t
     unfolding read_sheet
     write_read = rw (le-ltb bytes_most (length (sheet_of h.zones t)) (never_too_long h t fits rows_long factors_long good)) (unless_ok _ _ fits ∙ back)
 
 -- ---- the same of the calls
 -- rows that were read are judged good, whatever stands behind them
-read_judged : (h : Header) (sheet : List ℕ) (t : Rows) (c : List (List ℤ)) (f : List ℤ) → read_sheet h sheet ≡ passed t → judge_rows h (over t.rows c) (over t.factors f) ≡ passed t
+read_judged : (h : Header) (sheet : List ℕ) (t : Rows) (c : List (List ℤ)) (f : List ℤ) → read_sheet h sheet ≡ Ok t → judge_rows h (over t.rows c) (over t.factors f) ≡ Ok t
 unfolding judge_rows rows_in_range
 read_judged h sheet t c f e =
     let u = sheet_section h sheet t e in
@@ -131,14 +131,14 @@ read_judged h sheet t c f e =
     ∙ rw (rows, factors) (none_next _ _ _ _ (λ i l. ap not (read_good h sheet t e i (omega (arith, n)))))
 
 -- what `read_rows` left, `write_rows` writes again as the very sheet it was read from
-pub read_then_write : (h : Header) (sheet : List ℕ) (c : List (List ℤ)) (f : List ℤ) (out : List ℕ) → let r = read_rows_left h sheet c f in r.answer ≡ passed tt → length sheet ≤ length out
-    → write_rows_left h r.c r.f out ≡ record { answer = passed (length sheet); out = over sheet out }
+pub read_then_write : (h : Header) (sheet : List ℕ) (c : List (List ℤ)) (f : List ℤ) (out : List ℕ) → let r = read_rows_left h sheet c f in r.answer ≡ Ok tt → length sheet ≤ length out
+    → write_rows_left h r.c r.f out ≡ record { answer = Ok (length sheet); out = over sheet out }
 unfolding write_rows_left
 read_then_write h sheet c f out e room =
     let u = rows_taken h sheet c f e in
     let t = u.it in
     ap (λ (l : RowsLeft). write_rows_left h l.c l.f out) u.left
-    ∙ ap (λ (j : Judged (List ℕ)). text_left j out) (then_next _ (read_judged h sheet t c f u.read) ∙ ap passed (read_write h sheet t u.read))
+    ∙ ap (λ (j : Judged (List ℕ)). text_left j out) (then_next _ (read_judged h sheet t c f u.read) ∙ ap Ok (read_write h sheet t u.read))
     ∙ text_left_lem sheet out room
 
 -- the rows that a call looks at: the front of what it was lent
@@ -147,23 +147,23 @@ front_rows h c f = record { rows = take h.rows c; factors = take (h.rows * h.zon
 
 -- what `write_rows` wrote is the sheet of the front of what was lent
 pub record RowsWritten (h : Header) (c : List (List ℤ)) (f : List ℤ) (out : List ℕ) (n : ℕ) : Type 0 where
-  pub judged : judge_rows h c f ≡ passed (front_rows h c f)
+  pub judged : judge_rows h c f ≡ Ok (front_rows h c f)
   pub bytes : length (sheet_of h.zones (front_rows h c f)) ≡ n
   pub left : (write_rows_left h c f out).out ≡ over (sheet_of h.zones (front_rows h c f)) out
 
-pub rows_written : (h : Header) (c : List (List ℤ)) (f : List ℤ) (out : List ℕ) (n : ℕ) → (write_rows_left h c f out).answer ≡ passed n → RowsWritten h c f out n
+pub rows_written : (h : Header) (c : List (List ℤ)) (f : List ℤ) (out : List ℕ) (n : ℕ) → (write_rows_left h c f out).answer ≡ Ok n → RowsWritten h c f out n
 unfolding write_rows_left
 rows_written h c f out n e = go (judge_rows h c f) refl
   where
     go : (j : Judged Rows) → judge_rows h c f ≡ j → RowsWritten h c f out n
-    go (refused w) q = absurd (not_passed w n (ap (λ (l : TextLeft). l.answer) (text_refused out (then_refused _ q)) ∙ e))
-    go (passed t) q =
+    go (Err w) q = absurd (not_passed w n (ap (λ (l : TextLeft). l.answer) (text_refused out (then_refused _ q)) ∙ e))
+    go (Ok t) q =
         let sheet = sheet_of h.zones t in
-        let call : write_rows_left h c f out ≡ text_left (passed sheet) out = ap (λ (j : Judged (List ℕ)). text_left j out) (then_next _ q) in
+        let call : write_rows_left h c f out ≡ text_left (Ok sheet) out = ap (λ (j : Judged (List ℕ)). text_left j out) (then_next _ q) in
         ⊎_elim
         (λ (room : length sheet ≤ length out).
         let done = call ∙ text_left_lem sheet out room in
-        subst (λ (u : Rows). judge_rows h c f ≡ passed u → length (sheet_of h.zones u) ≡ n → (write_rows_left h c f out).out ≡ over (sheet_of h.zones u) out → RowsWritten h c f out n)
+        subst (λ (u : Rows). judge_rows h c f ≡ Ok u → length (sheet_of h.zones u) ≡ n → (write_rows_left h c f out).out ≡ over (sheet_of h.zones u) out → RowsWritten h c f out n)
         (sym (rows_judged h c f t q).is) (λ judged bytes left. record { judged = judged; bytes = bytes; left = left })
         q (passed_is _ _ (sym (ap (λ (l : TextLeft). l.answer) done) ∙ e)) (ap (λ (l : TextLeft). l.out) done))
         (λ (short : length out < length sheet).
@@ -171,7 +171,7 @@ rows_written h c f out n e = go (judge_rows h c f) refl
         (le_or_lt (length sheet) (length out))
 
 -- the call asks for no more than 60,200 bytes
-pub written_most : (h : Header) (c : List (List ℤ)) (f : List ℤ) (out : List ℕ) (n : ℕ) → (write_rows_left h c f out).answer ≡ passed n → n ≤ sheet_most
+pub written_most : (h : Header) (c : List (List ℤ)) (f : List ℤ) (out : List ℕ) (n : ℕ) → (write_rows_left h c f out).answer ≡ Ok n → n ≤ sheet_most
 written_most h c f out n e =
     let w = rows_written h c f out n e in
     let t = front_rows h c f in
@@ -180,8 +180,8 @@ written_most h c f out n e =
 
 -- what `write_rows` wrote, `read_rows` reads back into tables with room for it: the records and factors that were lent, as many as the header says
 pub write_then_read : (h : Header) (c : List (List ℤ)) (f : List ℤ) (out : List ℕ) (n : ℕ) (c' : List (List ℤ)) (f' : List ℤ) → let t = front_rows h c f in let w = write_rows_left h c f out in
-    Wide h t → w.answer ≡ passed n → h.rows ≤ length c' → h.rows * h.zones ≤ length f'
-    → read_rows_left h (take n w.out) c' f' ≡ record { answer = passed tt; c = over t.rows c'; f = over t.factors f' }
+    Wide h t → w.answer ≡ Ok n → h.rows ≤ length c' → h.rows * h.zones ≤ length f'
+    → read_rows_left h (take n w.out) c' f' ≡ record { answer = Ok tt; c = over t.rows c'; f = over t.factors f' }
 unfolding read_rows_left
 write_then_read h c f out n c' f' wide e hc hf =
     let t = front_rows h c f in
@@ -189,4 +189,4 @@ write_then_read h c f out n c' f' wide e hc hf =
     let j = rows_judged h c f t w.judged in
     let sheet : take n (write_rows_left h c f out).out ≡ sheet_of h.zones t = ap (take n) w.left ∙ take_at (sheet_of h.zones t) _ n w.bytes in
     ap (λ (s : List ℕ). read_rows_left h s c' f') sheet
-    ∙ either_passed _ _ (then_next _ (write_read h t j.fits j.rows_long j.factors_long j.good wide) ∙ sym (room_enough h (length c') (length f') (passed t) hc hf))
+    ∙ either_passed _ _ (then_next _ (write_read h t j.fits j.rows_long j.factors_long j.good wide) ∙ sym (room_enough h (length c') (length f') (Ok t) hc hf))

@@ -1,4 +1,5 @@
 -- The chain of H, Z, T, B and C lines, both ways: a text that was read is the text of its sections of lines, and that text reads as the table. No contract cites this file.
+use Rattle.std.specs.Prelude.{Err, Ok}
 use mathlib.Core.Path.{◌≡◌, refl, sym, ap, ap₂, subst, ◌∙◌}
 use mathlib.Core.Bool.{Bool, true, false, cond}
 use mathlib.Core.List.{List, [], ◌∷◌, ◌++◌, append-nil}
@@ -13,12 +14,12 @@ use lib.Seq.{drop-append_seam, get_or-drop}
 use borrow.Author.Tests.{le-ltb}
 use Rattle.numbers.specs.Below.{at}
 use Rattle.limits.specs.Limits.{bytes_most}
-use Rattle.refusals.specs.Refusals.{Judged, passed, refused, wrong_form}
+use Rattle.refusals.specs.Refusals.{Judged, wrong_form}
 use Rattle.refusals.proofs.RefusalLaws.{unless_ok, none_next, then_next}
 use Rattle.types.specs.declared.Header.{Header}
 use Rattle.types.specs.Ranges.{header_fits, is_intraday, allocated_items, profiled, zone_fits}
 use Rattle.types.proofs.RangeLaws.{header_in_lem, allocated_most, allocated_all, allocated_none}
-use Rattle.text.specs.Line.{line_of, line_at, after, holds}
+use Rattle.text.specs.Line.{line_of, line_at, after}
 use Rattle.text.proofs.LineLaws.{line_split}
 use Rattle.columns.specs.ColumnText.{columns_text, head_text}
 use Rattle.sections.proofs.SectionLaws.{section_text, AllFit, section_read}
@@ -35,11 +36,12 @@ use Rattle.lines.proofs.ZoneTrip.{zone_read_lem, zone_written, zone_one}
 use Rattle.lines.proofs.BorderTrip.{BorderHeld, border_read_lem, border_written, border_one}
 use Rattle.lines.specs.declared.row.RowKind.TheVariants as row_kind
 use Rattle.lines.proofs.RowTrip.{RowHeld, RowHeldAt, row_read_lem, row_written, row_one}
-use Rattle.rowlines.proofs.RowLaws.{empty_row, values_long, values_at, cut_long, cut_values, cut_factors, cut_at}
+use Rattle.rowlines.proofs.RowLaws.{empty_row, values_at, cut_long, cut_values, cut_factors, cut_at}
 use Rattle.reading.proofs.ReadLaws.{Opened, nets_held, allocated_held, borders_held, rows_held}
 use Rattle.layout.specs.Layout.{header_text, zone_text, allocated_text, border_text}
 use Rattle.writing.specs.Writing.{table_text, rows_text}
 use Rattle.trips.proofs.SectionTrip.{row_line_of, rows_section_lem, Lined, sections, text_sections}
+use Rattle.std.specs.Prelude.{Ok, Err}
 
 -- ---- what was read
 module _ (text : List ℕ) (t : Table) (o : Opened as_given text t) where
@@ -200,31 +202,31 @@ module _ (t : Table) (g : Good t) (s : Shaped t) where
         ap (λ (k : Bool). profiled t.header k) (letter-seen t.header g.exact.header t.allocated t.borders (section_text row_line_of 0 lines) text p g.exact.allocated_long g.exact.borders_long here)
         ∙ profile_kept t.header g.exact.header
 
-    sections-read : lines_of text ≡ passed t
+    sections-read : lines_of text ≡ Ok t
     unfolding lines_by
     sections-read =
         let h = t.header in
         let done : List RowLine → ℕ → Judged Table = λ rows e.
-        cond (ltb e (length text)) (refused (wrong_form (past_line_no h))) (passed (record { header = h; nets = t.nets; allocated = t.allocated; borders = t.borders; rows = values_of rows; factors = factors_of rows })) in
-        let first : header_line (line_at text 0) ≡ holds (profiled h false) = ap header_line first_line ∙ header_written h g.exact.header in
+        cond (ltb e (length text)) (Err (wrong_form (past_line_no h))) (Ok (record { header = h; nets = t.nets; allocated = t.allocated; borders = t.borders; rows = values_of rows; factors = factors_of rows })) in
+        let first : header_line (line_at text 0) ≡ Ok (profiled h false) = ap header_line first_line ∙ header_written h g.exact.header in
         rw first
         (lines_goes zone_line zone_line_no zone_text ZoneFits (λ i net f. zone_written _ i net f.0 f.1) (λ i net r. zone_one _ i net refl r)
-        _ (passed t) t.nets h.zones text (after text 0) _ g.exact.nets_long past_first zones-fit (λ p h0.
-        subst (λ (k : Header). allocated_from as_given text k t.nets p ≡ passed t) (sym (seen p h0))
+        _ (Ok t) t.nets h.zones text (after text 0) _ g.exact.nets_long past_first zones-fit (λ p h0.
+        subst (λ (k : Header). allocated_from as_given text k t.nets p ≡ Ok t) (sym (seen p h0))
         (lines_goes allocated_line (allocated_line_no h) allocated_text ZoneFits (λ i net f. zone_written _ i net f.0 f.1) (λ i net r. zone_one _ i net refl r)
-        _ (passed t) t.allocated (allocated_items h) text p (section_text border_text 0 t.borders ++ section_text row_line_of 0 lines) g.exact.allocated_long h0 allocated_fit (λ o h1.
+        _ (Ok t) t.allocated (allocated_items h) text p (section_text border_text 0 t.borders ++ section_text row_line_of 0 lines) g.exact.allocated_long h0 allocated_fit (λ o h1.
         unless_ok _ _ g.in_balance
         ∙ lines_goes (border_line h.zones) (border_line_no h) border_text (BorderFits h.zones)
         (λ i raw f. border_written h.zones i raw f.0 (header_in_lem h g.exact.header).zones_most_lem f.1) (λ i raw r. border_one h.zones i raw r)
-        _ (passed t) t.borders h.borders text o (section_text row_line_of 0 lines) g.exact.borders_long h1 borders_fit (λ q h2.
+        _ (Ok t) t.borders h.borders text o (section_text row_line_of 0 lines) g.exact.borders_long h1 borders_fit (λ q h2.
         lines_goes (row_line h.zones) (row_line_no h) row_line_of (RowFits h.zones) (λ i c f. row_written h.zones c f.1 row_kind.Table i f.0) (row_one row_kind.Table)
-        done (passed t) lines h.rows text q [] lines_long (h2 ∙ sym (append-nil _)) rows_fit (λ e h3.
+        done (Ok t) lines h.rows text q [] lines_long (h2 ∙ sym (append-nil _)) rows_fit (λ e h3.
         rw (le-ltb e (length text) (omega (arith, length-drop e text, ap length h3)))
-        (ap passed (table_is h t.nets t.allocated t.borders _ _ _ _ values_are factors_are))))))))
+        (ap Ok (table_is h t.nets t.allocated t.borders _ _ _ _ values_are factors_are))))))))
 
-  pub lines_read : lines_of (table_text t) ≡ passed t
+  pub lines_read : lines_of (table_text t) ≡ Ok t
   lines_read = sections-read (table_text t) (text_sections t lines written-lined)
 
-  pub text_read : length (table_text t) ≤ bytes_most → read_text (table_text t) ≡ passed t
+  pub text_read : length (table_text t) ≤ bytes_most → read_text (table_text t) ≡ Ok t
   unfolding read_text
   text_read short = rw (le-ltb bytes_most (length (table_text t)) short) (then_next not_twice lines_read ∙ none_next _ _ _ _ g.once)

@@ -2,13 +2,12 @@
 -- A raw record is the list of numbers of a line, without letter and index. Judging text and judging lent tables both cite these.
 -- A range is a list of tests, `..Tests`: one for each field from the left, and a test of two fields stands at the later. `..Fits` says that all hold; the
 -- first that fails names the byte to blame in a line (02, E5; crate blame).
-use Rattle.std.specs.Prelude.{Bool, true, cond, not, ◌&&◌, ◌||◌, List, [], ◌∷◌, ◌++◌, ℕ, leb, eqb, ℤ, pos, nat_abs, get_or}
+use Rattle.std.specs.Prelude.{Bool, true, cond, not, ◌&&◌, ◌||◌, List, [], ◌∷◌, ◌++◌, ℕ, leb, eqb, ℤ, pos, nat_abs, get_or, None, Option, Some}
 use Rattle.std.specs.Int.Signed.{lt_z}
 use Rattle.numbers.specs.Ints.{minus, inside, same_ℤ}
 use Rattle.limits.specs.Limits.{zones_least, zones_most, borders_least, borders_most, rows_least, rows_most}
 use Rattle.types.specs.declared.Header.{Header}
 use Rattle.types.specs.declared.Hubs.{Hubs}
-use Rattle.types.specs.declared.Hubs.TheVariants.{Without, Between}
 use Rattle.types.specs.declared.Border.{Border}
 use Rattle.types.specs.declared.Share.{Share}
 use Rattle.types.specs.declared.Share.TheVariants.{Standard, Written}
@@ -76,8 +75,8 @@ hub_tests zones sending receiving =
 unfoldable pub hubs_fit : (zones : ℕ) → (sending receiving : ℤ) → Bool
 hubs_fit zones sending receiving = all_true (hub_tests zones sending receiving)
 
-unfoldable pub hubs_of : (sending receiving : ℤ) → Hubs
-hubs_of sending receiving = cond (lt_z sending (pos 0)) Without (Between (nat_abs sending) (nat_abs receiving))
+unfoldable pub hubs_of : (sending receiving : ℤ) → Option Hubs
+hubs_of sending receiving = cond (lt_z sending (pos 0)) None (Some (record { sending = nat_abs sending; receiving = nat_abs receiving }))
 
 abbrev pub border_tests : (zones : ℕ) → (raw : List ℤ) → List Bool
 border_tests zones raw =

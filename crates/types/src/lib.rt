@@ -112,12 +112,6 @@ pub struct Zone {
     pub net: i64,
 }
 
-#[derive(Clone, Copy)]
-pub enum ZoneRead {
-    Good(Zone),
-    Out,
-}
-
 impl Zone {
     // Net position.
     pub const COLUMNS: [u8; 1] = *b"s";
@@ -126,13 +120,13 @@ impl Zone {
 
     pub const HIGHEST: i64 = 100000000;
 
-    pub fn of(raw: i64) -> ZoneRead
+    pub fn of(raw: i64) -> Option<Zone>
         ensures { result ≡ zone_read raw }
     {
         if Zone::fits(raw) {
-            ZoneRead::Good(Zone { net: raw })
+            Some(Zone { net: raw })
         } else {
-            ZoneRead::Out
+            None
         }
     }
 
@@ -153,21 +147,24 @@ impl Zone {
 // The hubs of a cable that is modelled by two (02, E3): sending and receiving, both zones. The exchange goes from the from zone to the sending hub,
 // and from the receiving hub to the to zone.
 #[derive(Clone, Copy)]
-pub enum Hubs {
-    Without,
-    Between(usize, usize),
+pub struct Hubs {
+    pub sending: usize,
+    pub receiving: usize,
 }
 
 impl Hubs {
-    // The hubs of a judged record.
-    fn of_good(zones: usize, sending: i64, receiving: i64) -> Hubs
+    // The hubs of a judged record, where it has any.
+    fn of_good(zones: usize, sending: i64, receiving: i64) -> Option<Hubs>
         requires { hubs_fit zones sending receiving ≡ true }
         ensures { result ≡ hubs_of sending receiving }
     {
         if sending < 0 {
-            return Hubs::Without;
+            return None;
         }
-        Hubs::Between(sending as usize, receiving as usize)
+        Some(Hubs {
+            sending: sending as usize,
+            receiving: receiving as usize,
+        })
     }
 
     // Hubs that were left out.
@@ -184,17 +181,11 @@ pub struct Border {
     pub from: usize,
     pub to: usize,
     pub lta: u64,
-    pub hubs: Hubs,
+    pub hubs: Option<Hubs>,
 }
 
 // A lent border: from, to, LTA, sending hub, receiving hub.
 pub type BorderRecord = [i64; Border::ITEMS];
-
-#[derive(Clone, Copy)]
-pub enum BorderRead {
-    Good(Border),
-    Out,
-}
 
 impl Border {
     pub const ITEMS: usize = 5;
@@ -210,13 +201,13 @@ impl Border {
 
     pub const LTA_MOST: i64 = 10000;
 
-    pub fn of(zones: usize, raw: BorderRecord) -> BorderRead
+    pub fn of(zones: usize, raw: BorderRecord) -> Option<Border>
         ensures { result ≡ border_read zones raw }
     {
         if Border::fits(zones, &raw) {
-            BorderRead::Good(Border::of_good(zones, raw))
+            Some(Border::of_good(zones, raw))
         } else {
-            BorderRead::Out
+            None
         }
     }
 
@@ -323,12 +314,6 @@ pub struct Row {
 // A lent row: Fmax, FRM, Fref, F0all, R, CVA, IVA.
 pub type RowRecord = [i64; Row::ITEMS];
 
-#[derive(Clone, Copy)]
-pub enum RowRead {
-    Good(Row),
-    Out,
-}
-
 impl Row {
     pub const ITEMS: usize = 7;
 
@@ -366,13 +351,13 @@ impl Row {
 
     pub const FACTOR_HIGHEST: i64 = 100000;
 
-    pub fn of(raw: RowRecord) -> RowRead
+    pub fn of(raw: RowRecord) -> Option<Row>
         ensures { result ≡ row_read raw }
     {
         if Row::fits(&raw) {
-            RowRead::Good(Row::of_good(raw))
+            Some(Row::of_good(raw))
         } else {
-            RowRead::Out
+            None
         }
     }
 

@@ -38,30 +38,30 @@ only_pos a b c = go (b - c + (c - b)) refl
     go (suc d) e h = absurd (not-suc-le-zero h)
 
 -- all borders
-pub listed_all : (borders : ℕ) (v list : List ℕ) → list ≡ table borders (λ b. b) → Listed borders v list borders
+pub listed_all : (borders : ℕ) (v list : List ℕ) → list ≡ table borders (λ b. b) → Listed borders v list
 listed_all borders v list e =
+    let long : length list ≡ borders = ap length e ∙ table_long borders (λ (b : ℕ). b) in
     let here : (j : ℕ) → j < borders → at list j ≡ j = λ j h. ap (λ (l : List ℕ). at l j) e ∙ table_get borders (λ b. b) j 0 h in
     record {
-      room = omega (arith, ap length e, table_long borders (λ (b : ℕ). b));
-      inside = λ j h. omega (arith, here j h);
-      adds = λ w z. sum_cong borders (λ j. w (at list j)) w (λ j h. ap w (here j h));
+      inside = λ j h. omega (arith, long, here j (omega arith));
+      adds = λ w z. rw long (sum_cong borders (λ j. w (at list j)) w (λ j h. ap w (here j h)));
     }
 
-module _ {borders : ℕ} {v list : List ℕ} {live : ℕ} (q : Listed borders v list live) where
+module _ {borders : ℕ} {v list : List ℕ} (q : Listed borders v list) where
   -- a border above 0 is listed
-  pub listed_has : (b : ℕ) → b < borders → 0 < at v b → (j : ℕ) × (j < live) × (at list j ≡ b)
+  pub listed_has : (b : ℕ) → b < borders → 0 < at v b → (j : ℕ) × (j < length list) × (at list j ≡ b)
   listed_has b hb h =
       let w : ℕ → ℕ = only (at v b) b in
-      let e : sum live (λ j. w (at list j)) ≡ sum borders w = q.adds w (λ c hc z. only_zero (at v b) b c (λ y. ap (at v) y ∙ z)) in
+      let e : sum (length list) (λ j. w (at list j)) ≡ sum borders w = q.adds w (λ c hc z. only_zero (at v b) b c (λ y. ap (at v) y ∙ z)) in
       let t : w b ≤ sum borders w = sum_term borders w b hb in
-      let s = sum_some live (λ j. w (at list j)) (omega (arith, only_here (at v b) b)) in
+      let s = sum_some (length list) (λ j. w (at list j)) (omega (arith, only_here (at v b) b)) in
       (s.0, s.1, only_pos (at v b) b (at list s.0) s.2)
 
   -- the list also serves caps that are 0 wherever v is
-  pub listed_zero : (v' : List ℕ) → ((b : ℕ) → b < borders → at v b ≡ 0 → at v' b ≡ 0) → Listed borders v' list live
-  listed_zero v' h = record { room = q.room; inside = q.inside; adds = λ w z. q.adds w (λ b hb e. z b hb (h b hb e)) }
+  pub listed_zero : (v' : List ℕ) → ((b : ℕ) → b < borders → at v b ≡ 0 → at v' b ≡ 0) → Listed borders v' list
+  listed_zero v' h = record { inside = q.inside; adds = λ w z. q.adds w (λ b hb e. z b hb (h b hb e)) }
 
-  pub listed_less : (v' : List ℕ) → ((b : ℕ) → b < borders → at v' b ≤ at v b) → Listed borders v' list live
+  pub listed_less : (v' : List ℕ) → ((b : ℕ) → b < borders → at v' b ≤ at v b) → Listed borders v' list
   listed_less v' h = listed_zero v' (λ b hb e. omega (arith, h b hb))
 
 -- ---- raising the listed borders
@@ -101,13 +101,13 @@ taken_here v list j b e = taken_next v list j b ∙ ap (λ (k : ℕ). taken v li
 pub taken_there : (v list : List ℕ) (j b : ℕ) → (b ≡ at list j → ⊥) → taken v list (j + 1) b ≡ taken v list j b
 taken_there v list j b other = omega (arith, taken_next v list j b, only_zero (at v b) b (at list j) (λ e. absurd (other e)))
 
-module _ {borders : ℕ} {v list : List ℕ} {live : ℕ} (q : Listed borders v list live) (b : ℕ) (hb : b < borders) where
+module _ {borders : ℕ} {v list : List ℕ} (q : Listed borders v list) (b : ℕ) (hb : b < borders) where
   -- at the end of the list each border has taken v
-  pub taken_all : taken v list live b ≡ at v b
+  pub taken_all : taken v list (length list) b ≡ at v b
   unfolding taken
   taken_all = q.adds (only (at v b) b) (λ c hc z. only_zero (at v b) b c (λ y. ap (at v) y ∙ z)) ∙ sum_only borders (at v b) b hb
 
   -- no border takes more than v on the way
-  pub taken_under : (j : ℕ) → j < live → taken v list (j + 1) b ≤ at v b
+  pub taken_under : (j : ℕ) → j < length list → taken v list (j + 1) b ≤ at v b
   unfolding taken
-  taken_under j hj = omega (arith, taken_all, taken_next v list j b, sum_part live (λ j'. only (at v b) b (at list j')) j hj)
+  taken_under j hj = omega (arith, taken_all, taken_next v list j b, sum_part (length list) (λ j'. only (at v b) b (at list j')) j hj)

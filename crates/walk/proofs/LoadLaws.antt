@@ -18,21 +18,21 @@ use Rattle.caps.proofs.TightLaws.{tight_same}
 -- ---- a row's parts
 
 -- the loss and the most part of the first j listed borders
-pub record Parting (g : Grid) (i : ℕ) (v w list : List ℕ) (live j loss most : ℕ) : Type 0 where
-  pub summed : Summed (λ j'. part g i v (at list j')) live j loss
+pub record Parting (g : Grid) (i : ℕ) (v w list : List ℕ) (j loss most : ℕ) : Type 0 where
+  pub summed : Summed (λ j'. part g i v (at list j')) (length list) j loss
   pub over : (j' : ℕ) → j' < j → part g i w (at list j') ≤ most
   pub under : most ≤ most_load g i w
 
-pub parting_none : (g : Grid) (i : ℕ) (v w list : List ℕ) (live : ℕ) → Parting g i v w list live 0 0 0
-parting_none g i v w list live = record { summed = summed_none _ live; over = λ j' h. absurd (not-suc-le-zero h); under = omega arith }
+pub parting_none : (g : Grid) (i : ℕ) (v w list : List ℕ) → Parting g i v w list 0 0 0
+parting_none g i v w list = record { summed = summed_none _ (length list); over = λ j' h. absurd (not-suc-le-zero h); under = omega arith }
 
-module _ {g : Grid} {i : ℕ} {v w list : List ℕ} {live : ℕ} (q : Loadable g i v w list live) where
-  parts-load : sum live (λ j'. part g i v (at list j')) ≡ load g i v
+module _ {g : Grid} {i : ℕ} {v w list : List ℕ} (q : Loadable g i v w list) where
+  parts-load : sum (length list) (λ j'. part g i v (at list j')) ≡ load g i v
   unfolding part load
   parts-load = q.listed.adds (λ b. g.p i b * at v b) (λ b hb z. ap (λ (k : ℕ). g.p i b * k) z ∙ mul-zero (g.p i b))
 
-  module _ {j loss most : ℕ} (u : Parting g i v w list live j loss most) where
-    module _ (hj : j < live) (f : ℕ) (e : f ≡ g.p i (at list j)) where
+  module _ {j loss most : ℕ} (u : Parting g i v w list j loss most) where
+    module _ (hj : j < length list) (f : ℕ) (e : f ≡ g.p i (at list j)) where
       part-here : at list j < g.borders
       part-here = q.listed.inside j hj
 
@@ -40,14 +40,14 @@ module _ {g : Grid} {i : ℕ} {v w list : List ℕ} {live : ℕ} (q : Loadable g
       pub part_fits : loss + f * at v (at list j) < 2 ^ 64
       unfolding part
       part_fits =
-          let t : sum j (λ j'. part g i v (at list j')) + part g i v (at list j) ≤ sum live (λ j'. part g i v (at list j')) = sum_part live (λ j'. part g i v (at list j')) j hj in
+          let t : sum j (λ j'. part g i v (at list j')) + part g i v (at list j) ≤ sum (length list) (λ j'. part g i v (at list j')) = sum_part (length list) (λ j'. part g i v (at list j')) j hj in
           rw e (omega (arith, u.summed.total, parts-load, q.fits))
 
       -- the part by the cap is within that by the raise
       pub cap_fits : f * at w (at list j) < 2 ^ 64
       cap_fits = omega (arith, part_fits, mul-le-mul_left f (q.lower (at list j) part-here))
 
-      pub parting_more : (most' : ℕ) → most' ≡ max most (f * at w (at list j)) → Parting g i v w list live (j + 1) (loss + f * at v (at list j)) most'
+      pub parting_more : (most' : ℕ) → most' ≡ max most (f * at w (at list j)) → Parting g i v w list (j + 1) (loss + f * at v (at list j)) most'
       unfolding part most_load
       parting_more most' d =
           record {
@@ -61,7 +61,7 @@ module _ {g : Grid} {i : ℕ} {v w list : List ℕ} {live : ℕ} (q : Loadable g
             under = rw d (max-le u.under (le_trans (le_of_eq (ap (λ (k : ℕ). k * at w (at list j)) e)) (largest_le g.borders (part g i w) (at list j) part-here)));
           }
 
-    module _ (h : live ≤ j) where
+    module _ (h : length list ≤ j) where
       pub parting_loss : loss ≡ load g i v
       parting_loss = summed_all u.summed h ∙ parts-load
 

@@ -17,16 +17,16 @@ use Rattle.walk.specs.Walk.{Listed, tightened}
 use Rattle.walk.proofs.ListedLaws.{listed_has}
 
 -- each cap lies between its old and its final value, and the first j listed caps are final
-pub record Lowering (g : Grid) (i share : ℕ) (list : List ℕ) (live : ℕ) (v₀ v : List ℕ) (j : ℕ) : Type 0 where
-  pub high : j ≤ live
+pub record Lowering (g : Grid) (i share : ℕ) (list : List ℕ) (v₀ v : List ℕ) (j : ℕ) : Type 0 where
+  pub high : j ≤ length list
   pub long : length v ≡ length v₀
   pub over : (b : ℕ) → tightened g i share v₀ b ≤ at v b
   pub under : (b : ℕ) → at v b ≤ at v₀ b
   pub done : (j' : ℕ) → j' < j → at v (at list j') ≡ tightened g i share v₀ (at list j')
 
-pub lowering_none : (g : Grid) (i share : ℕ) (list : List ℕ) (live : ℕ) (v : List ℕ) → Lowering g i share list live v v 0
+pub lowering_none : (g : Grid) (i share : ℕ) (list : List ℕ) (v : List ℕ) → Lowering g i share list v v 0
 unfolding tightened
-lowering_none g i share list live v =
+lowering_none g i share list v =
     record {
       high = omega arith;
       long = refl;
@@ -35,12 +35,12 @@ lowering_none g i share list live v =
       done = λ j' h. absurd (not-suc-le-zero h);
     }
 
-module _ {g : Grid} {i share : ℕ} {list : List ℕ} {live : ℕ} {v₀ v : List ℕ} {j : ℕ} (q : Listed g.borders v₀ list live) (l : length v₀ ≡ g.borders) (u : Lowering g i share list live v₀ v j) where
-  module _ (hj : j < live) where
+module _ {g : Grid} {i share : ℕ} {list : List ℕ} {v₀ v : List ℕ} {j : ℕ} (q : Listed g.borders v₀ list) (l : length v₀ ≡ g.borders) (u : Lowering g i share list v₀ v j) where
+  module _ (hj : j < length list) where
     pub lowering_here : at list j < length v
     lowering_here = omega (arith, q.inside j hj, u.long)
 
-    pub lowering_more : (f w : ℕ) → f ≡ g.p i (at list j) → w ≡ tight f share (at v (at list j)) → Lowering g i share list live v₀ (set v (at list j) w) (j + 1)
+    pub lowering_more : (f w : ℕ) → f ≡ g.p i (at list j) → w ≡ tight f share (at v (at list j)) → Lowering g i share list v₀ (set v (at list j) w) (j + 1)
     unfolding tightened
     lowering_more f w e ew =
         let b : ℕ = at list j in
@@ -62,7 +62,7 @@ module _ {g : Grid} {i share : ℕ} {list : List ℕ} {live : ℕ} {v₀ v : Lis
         cases : {A : Type 0} (c b : ℕ) → (c ≡ b → A) → ((c ≡ b → ⊥) → A) → A
         cases c b same other = ⊎_elim (λ h. ⊎_elim (λ k. same (le_antisymm h k)) (λ k. other (λ y. omega arith)) (le_or_lt b c)) (λ k. other (λ y. omega arith)) (le_or_lt c b)
 
-  pub lowering_all : live ≤ j → v ≡ table g.borders (tightened g i share v₀)
+  pub lowering_all : length list ≤ j → v ≡ table g.borders (tightened g i share v₀)
   unfolding tightened
   lowering_all h =
       table_of g.borders (tightened g i share v₀) v 0 (u.long ∙ l)

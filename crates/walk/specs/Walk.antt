@@ -6,12 +6,10 @@ use Rattle.numbers.specs.Below.{at, sum, largest}
 use Rattle.caps.specs.Tight.{tight}
 use Rattle.rounds.specs.Rounds.{Grid, raise, alone, load}
 
--- The first `live` of the list are borders, and they hold each border where v is above 0, once. Said by sums: what is 0 where v is 0 sums over
--- the list to what it sums to over all borders.
-pub record Listed (borders : ℕ) (v list : List ℕ) (live : ℕ) : Type 0 where
-  pub room : live ≤ length list
-  pub inside : (j : ℕ) → j < live → at list j < borders
-  pub adds : (w : ℕ → ℕ) → ((b : ℕ) → b < borders → at v b ≡ 0 → w b ≡ 0) → sum live (λ j. w (at list j)) ≡ sum borders w
+-- The list holds borders, and each border where v is above 0, once. Said by sums: what is 0 where v is 0 sums over the list to what it sums to over all borders.
+pub record Listed (borders : ℕ) (v list : List ℕ) : Type 0 where
+  pub inside : (j : ℕ) → j < length list → at list j < borders
+  pub adds : (w : ℕ → ℕ) → ((b : ℕ) → b < borders → at v b ≡ 0 → w b ≡ 0) → sum (length list) (λ j. w (at list j)) ≡ sum borders w
 
 -- v is not below what border b could take alone, and where it is above 0 some row loads b and has as large a margin
 pub record First (g : Grid) (m : List ℕ) (b v : ℕ) : Type 0 where
@@ -42,9 +40,9 @@ unfoldable pub most_load : Grid → (i : ℕ) (v : List ℕ) → ℕ
 most_load g i v = largest g.borders (part g i v)
 
 -- what finding row i's loads asks: the list holds the borders with raises v (of one round or of several), the caps w are not above v, and the row's loss fits a u64
-pub record Loadable (g : Grid) (i : ℕ) (v w list : List ℕ) (live : ℕ) : Type 0 where
+pub record Loadable (g : Grid) (i : ℕ) (v w list : List ℕ) : Type 0 where
   pub raises : length v ≡ g.borders
   pub caps : length w ≡ g.borders
-  pub listed : Listed g.borders v list live
+  pub listed : Listed g.borders v list
   pub lower : (b : ℕ) → b < g.borders → at w b ≤ at v b
   pub fits : load g i v < 2 ^ 64

@@ -1,67 +1,60 @@
 // The raises of the first round, and one row's work in the others, which divides little (02, E4). Margins are in grains, caps and raises in kW.
 // A border's cap is what it may rise by at most. Raises never grow from round to round, so the last raise caps the next one, and a border at 0 is
-// done with: `rising` lists the others in its first `live` places. A row is tried by products with the caps, and divides its margin by n, once, only
+// done with: `rising` lists the others. A row is tried by products with the caps, and divides its margin by n, once, only
 // where a cap is too high. A factor of 0 makes a product of 0 and so never divides.
 #![tactic(auto)]
 
 pub mod grid;
 pub mod stopping;
 
-ghost use Rattle.std.specs.Prelude.{◌≡◌, ◌*◌, ◌/◌, ◌^◌, ◌<◌, ◌≤◌, max, length};
+ghost use Rattle.std.specs.Prelude.{◌≡◌, ◌*◌, ◌/◌, ◌^◌, ◌<◌, length};
 ghost use Rattle.numbers.specs.Below.{table};
 ghost use Rattle.rounds.specs.Rounds.{sharers, raises, load};
-ghost use Rattle.rounds.specs.AllRounds.{flat, Ready};
+ghost use Rattle.rounds.specs.AllRounds.{Ready};
+ghost use Rattle.walk.specs.Flat.{flat_of};
 ghost use Rattle.walk.specs.Walk.{Listed, First, Caps, tightened, most_load, Loadable};
 
+use grid::Grid;
+
 // The list of all borders, and the raises of the first round.
-pub fn begin(
-    rows: usize,
-    borders: usize,
-    p: &[u64],
-    ns: &[u64],
-    margins: &[u64],
-    rising: &mut [usize],
-    caps: &mut [u64],
-)
-    requires borders_in_bounds { rows * borders ≤ length p.now }
-    requires ready { Ready (flat rows borders p.now) ns.now margins.now }
-    requires rising_len { (length rising.old ≡ borders) × (length caps.old ≡ borders) }
-    ensures { (rising.new ≡ table borders (λ b. b)) × (caps.new ≡ raises (flat rows borders p.now) margins.now) }
+pub fn begin(grid: &Grid, ns: &[u64], margins: &[u64], rising: &mut [usize], caps: &mut [u64])
+    requires ready { Ready (flat_of grid.now) ns.now margins.now }
+    requires rising_len { (length rising.old ≡ grid.now.borders) × (length caps.old ≡ grid.now.borders) }
+    ensures { (rising.new ≡ table grid.now.borders (λ b. b)) × (caps.new ≡ raises (flat_of grid.now) margins.now) }
 {
     list_all(rising);
-    first_caps(rows, borders, p, margins, caps);
-    first_raises(rows, borders, p, ns, margins, rising, caps);
+    first_caps(grid, margins, caps);
+    first_raises(grid, ns, margins, rising, caps);
 }
 
 // Every border is listed.
 fn list_all(rising: &mut [usize])
     ensures { rising.new ≡ table (length rising.old) (λ b. b) }
 {
-    for b in 0..rising.len() {
-        rising[b] = b;
+    for (b, place) in rising.iter_mut().enumerate() {
+        *place = b;
     }
 }
 
 // A first cap for each border.
-fn first_caps(rows: usize, borders: usize, p: &[u64], margins: &[u64], caps: &mut [u64])
-    requires borders_in_bounds { rows * borders ≤ length p.now }
-    requires margins_len { length margins.now ≡ rows }
-    requires caps_len { length caps.old ≡ borders }
-    ensures { Caps (flat rows borders p.now) margins.now caps.new }
+fn first_caps(grid: &Grid, margins: &[u64], caps: &mut [u64])
+    requires margins_len { length margins.now ≡ grid.now.rows }
+    requires caps_len { length caps.old ≡ grid.now.borders }
+    ensures { Caps (flat_of grid.now) margins.now caps.new }
 {
-    for b in 0..borders {
-        caps[b] = first_cap(rows, borders, p, margins, b);
+    for (b, cap) in caps.iter_mut().enumerate() {
+        *cap = first_cap(grid, margins, b);
     }
 }
 
 // The first cap of border `b`: the margin of the first row that loads it, or 0. No row allows more than its margin, even to a border alone. This needs no division.
-pub fn first_cap(rows: usize, borders: usize, p: &[u64], margins: &[u64], b: usize) -> u64
-    requires borders_in_bounds { (rows * borders ≤ length p.now) × (b < borders) }
-    requires margins_len { length margins.now ≡ rows }
-    ensures { First (flat rows borders p.now) margins.now b result }
+pub fn first_cap(grid: &Grid, margins: &[u64], b: usize) -> u64
+    requires border_in_bounds { b < grid.now.borders }
+    requires margins_len { length margins.now ≡ grid.now.rows }
+    ensures { First (flat_of grid.now) margins.now b result }
 {
-    for i in 0..rows {
-        if grid::factor(rows, borders, p, i, b) > 0 {
+    for i in 0..grid.rows {
+        if grid.factor(i, b) > 0 {
             return margins[i];
         }
     }
@@ -69,49 +62,29 @@ pub fn first_cap(rows: usize, borders: usize, p: &[u64], margins: &[u64], b: usi
 }
 
 // The raises of the first round: each row in turn divides its margin by n, once, and tightens all caps.
-fn first_raises(
-    rows: usize,
-    borders: usize,
-    p: &[u64],
-    ns: &[u64],
-    margins: &[u64],
-    rising: &[usize],
-    caps: &mut [u64],
-)
-    requires borders_in_bounds { rows * borders ≤ length p.now }
-    requires ready { Ready (flat rows borders p.now) ns.now margins.now }
-    requires rising_value { rising.now ≡ table borders (λ b. b) }
-    requires caps_len { length caps.old ≡ borders }
-    requires caps { Caps (flat rows borders p.now) margins.now caps.old }
-    ensures { caps.new ≡ raises (flat rows borders p.now) margins.now }
+fn first_raises(grid: &Grid, ns: &[u64], margins: &[u64], rising: &[usize], caps: &mut [u64])
+    requires ready { Ready (flat_of grid.now) ns.now margins.now }
+    requires rising_value { rising.now ≡ table grid.now.borders (λ b. b) }
+    requires caps_len { length caps.old ≡ grid.now.borders }
+    requires caps { Caps (flat_of grid.now) margins.now caps.old }
+    ensures { caps.new ≡ raises (flat_of grid.now) margins.now }
 {
-    for i in 0..rows {
+    for i in 0..grid.rows {
         let share = grid::equal_share(margins[i], ns[i]);
-        lower_caps(rows, borders, p, i, share, rising, borders, caps);
+        lower_caps(grid, i, share, rising, caps);
     }
 }
 
 // Row `i`, whose equal share is `share`, tightens the cap of each border that still rises.
-fn lower_caps(
-    rows: usize,
-    borders: usize,
-    p: &[u64],
-    i: usize,
-    share: u64,
-    rising: &[usize],
-    live: usize,
-    caps: &mut [u64],
-)
-    requires borders_in_bounds { (rows * borders ≤ length p.now) × (i < rows) }
-    requires listed { Listed borders caps.old rising.now live }
-    requires caps_len { length caps.old ≡ borders }
-    ensures { caps.new ≡ table borders (tightened (flat rows borders p.now) i share caps.old) }
+fn lower_caps(grid: &Grid, i: usize, share: u64, rising: &[usize], caps: &mut [u64])
+    requires row_in_bounds { i < grid.now.rows }
+    requires listed { Listed grid.now.borders caps.old rising.now }
+    requires caps_len { length caps.old ≡ grid.now.borders }
+    ensures { caps.new ≡ table grid.now.borders (tightened (flat_of grid.now) i share caps.old) }
 {
-    for j in 0..live {
-        let b = rising[j];
-        let f = grid::factor(rows, borders, p, i, b);
-        let cap = caps[b];
-        caps[b] = caps::tighten(f, share, cap);
+    let factors = grid.row(i);
+    for &b in rising {
+        caps[b] = caps::tighten(factors[b], share, caps[b]);
     }
 }
 
@@ -122,63 +95,40 @@ pub struct Loads {
     pub most: u64,
 }
 
-pub fn row_loads(
-    rows: usize,
-    borders: usize,
-    p: &[u64],
-    i: usize,
-    raises: &[u64],
-    caps: &[u64],
-    rising: &[usize],
-    live: usize,
-) -> Loads
-    requires borders_in_bounds { (rows * borders ≤ length p.now) × (i < rows) }
-    requires loadable { Loadable (flat rows borders p.now) i raises.now caps.now rising.now live }
-    ensures { (result.loss ≡ load (flat rows borders p.now) i raises.now) × (result.most ≡ most_load (flat rows borders p.now) i caps.now) }
+pub fn row_loads(grid: &Grid, i: usize, raises: &[u64], caps: &[u64], rising: &[usize]) -> Loads
+    requires row_in_bounds { i < grid.now.rows }
+    requires loadable { Loadable (flat_of grid.now) i raises.now caps.now rising.now }
+    ensures { (result.loss ≡ load (flat_of grid.now) i raises.now) × (result.most ≡ most_load (flat_of grid.now) i caps.now) }
 {
+    let factors = grid.row(i);
     let mut loss: u64 = 0;
     let mut most: u64 = 0;
-    for j in 0..live {
-        let b = rising[j];
-        let f = grid::factor(rows, borders, p, i, b);
-        loss += f * raises[b];
-        most = larger(most, f * caps[b]);
+    for &b in rising {
+        loss += factors[b] * raises[b];
+        most = most.max(factors[b] * caps[b]);
     }
-    Loads {
-        loss: loss,
-        most: most,
-    }
-}
-
-// The larger of two.
-pub fn larger(a: u64, b: u64) -> u64
-    ensures { result ≡ max a b }
-{
-    if a < b { b } else { a }
+    Loads { loss, most }
 }
 
 // Row `i` tightens the caps where one of them asks for more than its equal share: most > margin / n, tried as most x n > margin. The product fits, since
 // n times the most part is within the margin before the loss. Only where the row is tight its margin is divided.
 pub fn lower_if_tight(
-    rows: usize,
-    borders: usize,
-    p: &[u64],
+    grid: &Grid,
     i: usize,
     n: u64,
     margin: u64,
     most: u64,
     rising: &[usize],
-    live: usize,
     caps: &mut [u64],
 )
-    requires borders_in_bounds { (rows * borders ≤ length p.now) × (i < rows) }
-    requires listed { Listed borders caps.old rising.now live }
-    requires caps_len { length caps.old ≡ borders }
-    requires n_value { n ≡ sharers (flat rows borders p.now) i }
-    requires most_value { (most ≡ most_load (flat rows borders p.now) i caps.old) × (most * n < 2 ^ 64) }
-    ensures { caps.new ≡ table borders (tightened (flat rows borders p.now) i (margin / n) caps.old) }
+    requires row_in_bounds { i < grid.now.rows }
+    requires listed { Listed grid.now.borders caps.old rising.now }
+    requires caps_len { length caps.old ≡ grid.now.borders }
+    requires n_value { n ≡ sharers (flat_of grid.now) i }
+    requires most_value { (most ≡ most_load (flat_of grid.now) i caps.old) × (most * n < 2 ^ 64) }
+    ensures { caps.new ≡ table grid.now.borders (tightened (flat_of grid.now) i (margin / n) caps.old) }
 {
     if margin < most * n {
-        lower_caps(rows, borders, p, i, margin / n, rising, live, caps);
+        lower_caps(grid, i, margin / n, rising, caps);
     }
 }

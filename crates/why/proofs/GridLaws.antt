@@ -1,7 +1,7 @@
 -- Two grids that agree give the same reasons. No contract cites this file.
+use Rattle.std.specs.Prelude.{None, Option}
 use mathlib.Core.Path.{◌≡◌, refl, sym, ap, ap₂, ◌∙◌}
 use mathlib.Core.List.{List}
-use mathlib.Core.Option.{Option, none}
 use Prim.Native.Nat.{ℕ, zero, suc, ◌<◌}
 use lib.ListN.{get_or}
 use Rattle.numbers.specs.Below.{at, table}
@@ -40,9 +40,9 @@ module _ (h : Header) (p p' : ℕ → ℕ → ℕ) (e : (i b : ℕ) → i < h.ro
 
     same_stop : (left : List ℕ) → stop_row g left b ≡ stop_row g' left b
     same_stop left =
-        sym (table_get h.borders (stop_row g left) b none hb)
-        ∙ ap (λ (l : List (Option ℕ)). get_or l b none) (same_stops h.rows h.borders p p' e left)
-        ∙ table_get h.borders (stop_row g' left) b none hb
+        sym (table_get h.borders (stop_row g left) b None hb)
+        ∙ ap (λ (l : List (Option ℕ)). get_or l b None) (same_stops h.rows h.borders p p' e left)
+        ∙ table_get h.borders (stop_row g' left) b None hb
 
     same_end : (s : State) → end_row g s b ≡ end_row g' s b
     unfolding end_row

@@ -1,8 +1,8 @@
 -- The laws behind `tell`: what the rounds of the code come to. No contract cites this file.
+use Rattle.std.specs.Prelude.{None, Ok}
 use mathlib.Core.Path.{◌≡◌, refl, sym, ap, ap₂, ◌∙◌}
 use mathlib.Core.Bool.{Bool, true, false}
 use mathlib.Core.List.{List, []}
-use mathlib.Core.Option.{none}
 use Prim.Native.Nat.{ℕ, ◌/◌, ◌^◌, ◌≤◌, ◌<◌}
 use native.Mathlib.Omega.{arith}
 use lib.IntN.{ℤ}
@@ -10,7 +10,6 @@ use lib.ListN.{length, get_or, take, length-take}
 use lib.Seq.{take_at}
 use Rattle.numbers.specs.Below.{at, table, over}
 use Rattle.numbers.proofs.BelowLaws.{count_le, table_long, table_get, table_cong}
-use Rattle.refusals.specs.Refusals.{passed}
 use Rattle.types.specs.declared.Border.{Border}
 use Rattle.types.specs.declared.Header.{Header}
 use Rattle.types.specs.LineLimits.{lta_most}
@@ -145,12 +144,12 @@ module _ {h : Header} {b : List (List ℤ)} {p m x : List ℕ} (u : Runnable h b
             ap₂ (λ (v y : List ℕ). row_left (at v i) (at states i) (at y i) (allowed (at v i) (at y i) (grid.p i border))) w.counts margins_are
             ∙ ap (row_left (at (counts_of grid) i) (at states i) (at outcome.state.margins i))
             (ap (λ (n : ℕ). allowed n (at outcome.state.margins i) (grid.p i border)) (table_get h.rows (sharers grid) i 0 l)
-            ∙ sym (table_get h.rows (allowed_by grid outcome.state.margins border) i none l))
+            ∙ sym (table_get h.rows (allowed_by grid outcome.state.margins border) i None l))
 
         pub told_is : {named ended : ℤ} → named ≡ row_or_dash (stop_row grid margins border) → ended ≡ row_or_dash (stop_row grid stood border) → {ends' rows' : List (List ℤ)}
             → ends' ≡ over (table (length (take h.borders x)) (λ c. ends_left (at (take h.borders x) c) (at (take h.borders end.x) c))) ends
             → rows' ≡ over (table h.rows (λ i. row_left (at ns i) (at states i) (at margins i) (allowed (at ns i) (at margins i) (grid.p i border)))) rows
-            → leaves (passed (record { rounds = end.rounds; last = at lasts border; named = named; ended = ended })) p ends' rows' ≡ told ends rows its
+            → leaves (Ok (record { rounds = end.rounds; last = at lasts border; named = named; ended = ended })) p ends' rows' ≡ told ends rows its
         told_is n d {ends'} {rows'} a r =
-            ap₂ (λ (q : Reasons) (v : List (List ℤ)). leaves (passed q) p v rows') (answer-is n d states) (a ∙ ends-are)
-            ∙ ap (leaves (passed (reasons_of its)) p (over (table h.borders (end_record its)) ends)) (r ∙ ap (λ (t : List (List ℤ)). over t rows) (table_cong h.rows _ _ row_is))
+            ap₂ (λ (q : Reasons) (v : List (List ℤ)). leaves (Ok q) p v rows') (answer-is n d states) (a ∙ ends-are)
+            ∙ ap (leaves (Ok (reasons_of its)) p (over (table h.borders (end_record its)) ends)) (r ∙ ap (λ (t : List (List ℤ)). over t rows) (table_cong h.rows _ _ row_is))

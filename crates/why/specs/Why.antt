@@ -1,10 +1,10 @@
 -- Why a border got no more: the record of its reasons, a definition over the rules' rounds (01, "Extraction"; 02, E7), with every border free to rise or only those that
 -- are marked (02, E13), and what the open calls `why` and `why_marked` leave. What each part of it means in the words of the table: crate reasoned.
-use Rattle.std.specs.Prelude.{Bool, true, false, List, [], ℕ, ltb, ℤ, length, get_or}
-use Rattle.std.proofs.Math.Option.{Option, none}
+use Rattle.std.specs.Prelude.{Bool, true, false, List, [], ℕ, ltb, ℤ, length, get_or, Err, None, Ok, Option}
 use Rattle.numbers.specs.Below.{at, table, over}
 use Rattle.refusals.specs.declared.Refusal.{Refusal}
-use Rattle.refusals.specs.Refusals.{Judged, passed, refused, refusal, then, either, unless, need}
+use Rattle.refusals.specs.declared.Refusal.TheVariants.{NoBorder}
+use Rattle.refusals.specs.Refusals.{Judged, then, either, unless, need}
 use Rattle.types.specs.declared.Header.{Header}
 use Rattle.marks.specs.Marks.{judge_asked, may_rise}
 use Rattle.tablerules.specs.Table.{Table}
@@ -18,8 +18,6 @@ use Rattle.outcome.specs.Outcome.{row_or_dash}
 use Rattle.extractrules.specs.Extraction.{judge_extract}
 use Rattle.holding.specs.Holding.{end_row, allowed_by, ends_left, row_left}
 use Rattle.holding.specs.declared.Reasons.{Reasons}
-use Rattle.why.specs.declared.Explained.{Explained}
-use Rattle.why.specs.declared.Explained.TheVariants as explained
 
 -- ---- a border's reasons
 -- p of each row at each border, where the rounds started and ended, of each row its state, n, and what it would still allow border b; b's last round, the row that the
@@ -61,7 +59,7 @@ unfoldable pub end_record : Why → (c : ℕ) → List ℤ
 end_record w c = ends_left (at w.start.x c) (at w.outcome.state.x c)
 
 unfoldable pub row_record : Why → (i : ℕ) → List ℤ
-row_record w i = row_left (at w.ns i) (at w.states i) (at w.outcome.state.margins i) (get_or w.allows i none)
+row_record w i = row_left (at w.ns i) (at w.states i) (at w.outcome.state.margins i) (get_or w.allows i None)
 
 -- the answer: the number of rounds, the border's last, and both rows, -1 where there is none
 unfoldable pub reasons_of : Why → Reasons
@@ -70,20 +68,15 @@ reasons_of w = record { rounds = w.outcome.rounds; last = w.last; named = row_or
 -- ---- judged
 -- 14: a border that the table does not have; the place is how many it has
 abbrev pub no_border : (borders : ℕ) → Refusal
-no_border borders = refusal 14 borders 0
+no_border borders = NoBorder borders
 
 -- of a judged table: 5, 6, 7
 unfoldable pub reasons_marked : (marked : ℕ → Bool) → Table → (b : ℕ) → Judged Why
-reasons_marked marked t b = then (judge_marked marked t) (λ states. passed (why_marked marked t b))
+reasons_marked marked t b = then (judge_marked marked t) (λ states. Ok (why_marked marked t b))
 
 -- a border's reasons as they were asked for: 13, and then 14, come first
 unfoldable pub reasons_for : (all : Bool) → (marks : List ℕ) → Table → (b : ℕ) → Judged Why
 reasons_for all marks t b = judge_asked all t.header.borders marks (unless (ltb b t.header.borders) (no_border t.header.borders) (reasons_marked (may_rise all marks) t b))
-
--- what each case of the answer says
-abbrev pub said_explained : Explained → Judged Reasons
-said_explained (explained.Reasons r) = passed r
-said_explained (explained.Refused w) = refused w
 
 -- ---- what a call leaves: its answer, the lent table of p, and the lent records; last comes room for these, borders before rows
 pub record WhyLeft : Type 0 where
@@ -96,15 +89,15 @@ abbrev pub leaves : Judged Reasons → (ps : List ℕ) → (ends rows : List (Li
 leaves answer ps ends rows = record { answer = answer; p = ps; ends = ends; rows = rows }
 
 abbrev pub why_room : (ends rows : List (List ℤ)) → Why → Judged Why
-why_room ends rows w = need w.header.borders (length ends) (need w.header.rows (length rows) (passed w))
+why_room ends rows w = need w.header.borders (length ends) (need w.header.rows (length rows) (Ok w))
 
 abbrev pub why_stored : (ps : List ℕ) → (ends rows : List (List ℤ)) → Why → WhyLeft
 why_stored ps ends rows w =
-    leaves (passed (reasons_of w)) (over w.p ps) (over (table w.header.borders (end_record w)) ends) (over (table w.header.rows (row_record w)) rows)
+    leaves (Ok (reasons_of w)) (over w.p ps) (over (table w.header.borders (end_record w)) ends) (over (table w.header.rows (row_record w)) rows)
 
 -- of what was judged
 unfoldable pub judged_left : Judged Why → (ps : List ℕ) → (ends rows : List (List ℤ)) → WhyLeft
-judged_left j ps ends rows = either (then j (why_room ends rows)) (why_stored ps ends rows) (λ w. leaves (refused w) ps ends rows)
+judged_left j ps ends rows = either (then j (why_room ends rows)) (why_stored ps ends rows) (λ w. leaves (Err w) ps ends rows)
 
 -- of lent tables, which are judged as for the extraction: header, lengths with that of p, records
 unfoldable pub why_for : (all : Bool) → (marks : List ℕ) → (lent : Table) → (b : ℕ) → (ps : List ℕ) → (ends rows : List (List ℤ)) → WhyLeft

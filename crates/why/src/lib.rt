@@ -5,40 +5,18 @@
 pub mod tell;
 
 ghost use Rattle.std.specs.Prelude.{◌≡◌, ◌*◌, ◌<◌, ◌≤◌, length};
-ghost use Rattle.marks.specs.Marks.{flagged};
-ghost use Rattle.tablerules.specs.Table.{lent, front};
+ghost use Rattle.marks.specs.Marks.{flagged, every, listed};
+ghost use Rattle.tablerules.specs.Table.{front, lent_view};
 ghost use Rattle.tablerules.specs.Good.{Good};
-ghost use Rattle.why.specs.Why.{no_border, reasons_marked, reasons_for, said_explained, leaves, judged_left};
+ghost use Rattle.why.specs.Why.{reasons_marked, reasons_for, leaves, judged_left};
 
 use holding::{EndRecord, HoldRecord, Reasons};
-use refusals::{Judgement, Refusal};
-use types::{BorderRecord, Header, RowRecord};
-
-#[derive(Clone, Copy)]
-pub enum Explained {
-    Reasons(Reasons),
-    Refused(Refusal),
-}
-
-// 14: the table has no such border. The place is how many borders it has.
-fn no_border(borders: usize) -> Refusal
-    ensures { result ≡ no_border borders }
-{
-    Refusal {
-        number: 14,
-        place: borders,
-        byte: 0,
-    }
-}
+use refusals::Refusal;
+use tablerules::TableView;
 
 // A good table, with room to work in: 5, 6, 7, room for the records, and only then p of the marked borders, the rounds, what is stored, and p of the others.
 fn why_in(
-    h: Header,
-    z: &[i64],
-    t: &[i64],
-    b: &[BorderRecord],
-    c: &[RowRecord],
-    f: &[i64],
+    view: &TableView,
     flags: &[u64],
     border: usize,
     rams: &mut [i64],
@@ -48,71 +26,57 @@ fn why_in(
     p: &mut [u64],
     ends: &mut [EndRecord],
     rows: &mut [HoldRecord],
-) -> Explained
-    requires good { Good (front (lent h z.now t.now b.now c.now f.now)) }
-    requires flags_len { (length flags.now ≡ h.borders) × (border < h.borders) }
-    requires rams_len { (length rams.old ≡ h.rows) × (length starts.old ≡ h.rows) }
-    requires states_len { (length states.old ≡ h.rows) × (length margins.old ≡ h.rows) }
-    requires p_len { length p.old ≡ h.rows * h.borders }
-    ensures { leaves (said_explained result) p.new ends.new rows.new ≡ judged_left (reasons_marked (flagged flags.now) (front (lent h z.now t.now b.now c.now f.now)) border) p.old ends.old rows.old }
+) -> Result<Reasons, Refusal>
+    requires good { Good (front (lent_view view.now)) }
+    requires flags_len { (length flags.now ≡ view.now.header.borders) × (border < view.now.header.borders) }
+    requires rams_len { (length rams.old ≡ view.now.header.rows) × (length starts.old ≡ view.now.header.rows) }
+    requires states_len { (length states.old ≡ view.now.header.rows) × (length margins.old ≡ view.now.header.rows) }
+    requires p_len { length p.old ≡ view.now.header.rows * view.now.header.borders }
+    ensures { leaves result p.new ends.new rows.new ≡ judged_left (reasons_marked (flagged flags.now) (front (lent_view view.now)) border) p.old ends.old rows.old }
 {
-    if let Judgement::Refused(w) = start::prepare(h, z, t, b, c, f, flags, rams, starts, states) {
-        return Explained::Refused(w);
+    start::prepare(view, flags, rams, starts, states)?;
+    let header = view.header;
+    if ends.len() < header.borders {
+        return Err(Refusal::TooShort(header.borders));
     }
-    if ends.len() < h.borders {
-        return Explained::Refused(Refusal::too_short(h.borders));
+    if rows.len() < header.rows {
+        return Err(Refusal::TooShort(header.rows));
     }
-    if rows.len() < h.rows {
-        return Explained::Refused(Refusal::too_short(h.rows));
-    }
-    let given = &b[..h.borders];
-    let factors = &f[..h.rows * h.zones];
-    start::lay_out(h, given, factors, flags, starts, states, p, margins);
-    let reasons = tell::explain(h, given, states, p, border, margins, ends, rows);
-    start::complete(h, given, factors, flags, states, p);
-    Explained::Reasons(reasons)
+    let given = &view.borders[..header.borders];
+    let factors = &view.factors[..header.rows * header.zones];
+    start::lay_out(header, given, factors, flags, starts, states, p, margins);
+    let reasons = tell::explain(header, given, states, p, border, margins, ends, rows);
+    start::complete(header, given, factors, flags, states, p);
+    Ok(reasons)
 }
 
 // A good table, as it was lent: 13, 14, and then the reasons. The room to work in is made here, and not in `why_in`, whose goals would spell it out.
 pub fn why_good(
-    h: Header,
-    z: &[i64],
-    t: &[i64],
-    b: &[BorderRecord],
-    c: &[RowRecord],
-    f: &[i64],
-    all: bool,
-    marks: &[u64],
+    view: &TableView,
+    marks: Option<&[u64]>,
     border: u64,
     p: &mut [u64],
     ends: &mut [EndRecord],
     rows: &mut [HoldRecord],
-) -> Explained
-    requires good { Good (front (lent h z.now t.now b.now c.now f.now)) }
-    requires borders_in_bounds { h.rows * h.borders ≤ length p.old }
-    ensures { leaves (said_explained result) p.new ends.new rows.new ≡ judged_left (reasons_for all marks.now (front (lent h z.now t.now b.now c.now f.now)) border) p.old ends.old rows.old }
+) -> Result<Reasons, Refusal>
+    requires good { Good (front (lent_view view.now)) }
+    requires borders_in_bounds { view.now.header.rows * view.now.header.borders ≤ length p.old }
+    ensures { leaves result p.new ends.new rows.new ≡ judged_left (reasons_for (every marks.entry) (listed marks.entry) (front (lent_view view.now)) border) p.old ends.old rows.old }
 {
-    let borders = h.borders;
-    if let Judgement::Refused(w) = marks::judge_asked(all, borders, marks) {
-        return Explained::Refused(w);
-    }
+    let borders = view.header.borders;
+    marks::judge_asked(borders, marks)?;
     if borders as u64 <= border {
-        return Explained::Refused(no_border(borders));
+        return Err(Refusal::NoBorder(borders));
     }
-    let flags = marks::chosen(all, marks);
-    let n = h.rows;
+    let flags = marks::chosen(marks);
+    let n = view.header.rows;
     let cells = n * borders;
     let mut rams: [i64; limits::ROWS_MOST] = [0; limits::ROWS_MOST];
     let mut starts: [i64; limits::ROWS_MOST] = [0; limits::ROWS_MOST];
     let mut states: [u64; limits::ROWS_MOST] = [0; limits::ROWS_MOST];
     let mut margins: [u64; limits::ROWS_MOST] = [0; limits::ROWS_MOST];
     why_in(
-        h,
-        z,
-        t,
-        b,
-        c,
-        f,
+        view,
         &flags[..borders],
         border as usize,
         &mut rams[..n],

@@ -1,12 +1,12 @@
 // The rounds of a table that may start, and what they tell of one border.
-ghost use Rattle.std.specs.Prelude.{◌≡◌, ◌<◌, ◌≤◌, length};
-ghost use Rattle.refusals.specs.Refusals.{passed};
+ghost use Rattle.std.specs.Prelude.{◌≡◌, ◌<◌, ◌≤◌, length, Ok};
 ghost use Rattle.extractrules.specs.Inner.{Runnable, grid_with, start_with};
 ghost use Rattle.why.specs.Why.{why_by, leaves};
 ghost use Rattle.why.specs.Told.{told};
 
 use holding::{EndRecord, HoldRecord, Reasons};
 use types::{BorderRecord, Header};
+use walk::grid::Grid;
 
 // The reasons of border `border`, its records stored. The room is made here, and not in `explain_in`, whose goals would spell it out.
 pub fn explain(
@@ -22,7 +22,7 @@ pub fn explain(
     requires runnable { Runnable h b.now p.now margins.old }
     requires states_len { (length states.now ≡ h.rows) × (border < h.borders) }
     requires borders_in_bounds { (h.borders ≤ length ends.old) × (h.rows ≤ length out.old) }
-    ensures { leaves (passed result) p.now ends.new out.new ≡ told ends.old out.old (why_by h states.now p.now (grid_with h p.now) (start_with h b.now margins.old) border) }
+    ensures { leaves (Ok result) p.now ends.new out.new ≡ told ends.old out.old (why_by h states.now p.now (grid_with h p.now) (start_with h b.now margins.old) border) }
 {
     let rows = h.rows;
     let borders = h.borders;
@@ -61,16 +61,20 @@ fn explain_in(
     requires states_len { (length states.now ≡ h.rows) × (border < h.borders) }
     requires ns_len { (length ns.old ≡ h.rows) × (length lasts.old ≡ h.borders) × (length stood.old ≡ h.rows) }
     requires borders_in_bounds { (h.borders ≤ length ends.old) × (h.rows ≤ length out.old) }
-    ensures { leaves (passed result) p.now ends.new out.new ≡ told ends.old out.old (why_by h states.now p.now (grid_with h p.now) (start_with h b.now margins.old) border) }
+    ensures { leaves (Ok result) p.now ends.new out.new ≡ told ends.old out.old (why_by h states.now p.now (grid_with h p.now) (start_with h b.now margins.old) border) }
 {
-    let rows = h.rows;
     let borders = h.borders;
+    let grid = Grid {
+        rows: h.rows,
+        borders,
+        p,
+    };
     let from = start::exchanges(h, b);
-    let end = holding::work(rows, borders, p, from, border, ns, lasts, margins, stood);
+    let end = holding::work(&grid, from, border, ns, lasts, margins, stood);
     let to = end.x;
     holding::store_ends(&from[..borders], &to[..borders], ends);
-    holding::store_holds(rows, borders, p, states, ns, margins, border, out);
-    let stops = holding::find_stops(rows, borders, p, ns, margins, stood, border);
+    holding::store_holds(&grid, states, ns, margins, border, out);
+    let stops = holding::find_stops(&grid, ns, margins, stood, border);
     Reasons {
         rounds: end.rounds,
         last: lasts[border],

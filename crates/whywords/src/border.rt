@@ -1,9 +1,7 @@
 // The first two lines: the border, and how far it rose.
 ghost use Rattle.io.specs.Counts.{IsPrefixLen};
 
-use crate::records;
 use holding::{EndRecord, Reasons};
-use text::put::magnitude;
 use types::BorderRecord;
 
 pub fn put(
@@ -16,24 +14,22 @@ pub fn put(
 ) -> usize
     ensures { IsPrefixLen result out.new }
 {
-    let start = magnitude(end[0]) / 1000;
-    let atc = magnitude(end[1]) / 1000;
-    let raised = if start < atc { atc - start } else { 0 };
+    let start = end[0].unsigned_abs() / 1000;
+    let atc = end[1].unsigned_abs() / 1000;
+    let raised = atc.saturating_sub(start);
     let lines = lines(raw[3] < 0, intraday, start == 0, rose(reasons, raised));
-    let mut figures = [
+    let figures = [
         border,
-        0,
-        0,
-        0,
-        0,
+        raw[0].cast_unsigned(),
+        raw[1].cast_unsigned(),
+        raw[3].cast_unsigned(),
+        raw[4].cast_unsigned(),
         atc,
         start,
         raised,
         reasons.last,
         reasons.rounds,
     ];
-    let ends = [0, 1, 3, 4];
-    records::pick(&raw, &ends, &mut figures, 1);
     let list = b"Border $0, zone $0 to zone $0\n\
         \x20(hubs $0 and $0)\n\
         $-$-\n\
@@ -56,15 +52,16 @@ const UNMARKED: usize = 9;
 // Which form says what the rounds raised it by, MW.
 fn rose(reasons: Reasons, raised: u64) -> usize {
     if reasons.ended < 0 {
-        return UNMARKED;
+        UNMARKED
+    } else if reasons.rounds == 0 {
+        10
+    } else if reasons.last == 0 {
+        11
+    } else if raised == 0 {
+        12
+    } else {
+        13
     }
-    if reasons.rounds == 0 {
-        return 10;
-    }
-    if reasons.last == 0 {
-        return 11;
-    }
-    if raised == 0 { 12 } else { 13 }
 }
 
 // Which forms make up the two lines. Rights are named where there are some.

@@ -3,7 +3,6 @@
 #![tactic(auto)]
 
 mod border;
-mod records;
 pub mod rows;
 mod users;
 
@@ -13,8 +12,8 @@ ghost use Rattle.io.specs.Counts.{IsPrefixLen};
 use crate::users::Users;
 use holding::{EndRecord, HoldRecord, Reasons};
 use partrules::PartsRecord;
-use text::put::magnitude;
 use types::{BorderRecord, Header};
+use walk::grid::Grid;
 
 // All sentences about a border, one after the other. `margin` is what the margin of the row that ended its rise is made of (`margin_of`).
 pub fn put(
@@ -31,46 +30,45 @@ pub fn put(
     requires { h.rows * h.borders ≤ length p.now }
     ensures { IsPrefixLen result out.new }
 {
-    if b.len() <= border {
+    let (Some(raw), Some(end)) = (b.get(border), ends.get(border)) else {
         return 0;
-    }
-    if ends.len() <= border {
-        return 0;
-    }
-    let end = ends[border];
-    let next = border::put(border as u64, b[border], end, reasons, h.is_intraday(), out);
+    };
+    let next = border::put(border as u64, *raw, *end, reasons, h.is_intraday(), out);
     if reasons.ended < 0 {
         return next;
     }
-    let i = magnitude(reasons.ended) as usize;
+    let grid = Grid {
+        rows: h.rows,
+        borders: h.borders,
+        p,
+    };
+    let row = reasons.ended.unsigned_abs() as usize;
     let case = Case {
-        border: border as u64,
-        row: i,
+        border,
+        row,
         intraday: h.is_intraday(),
-        factor: users::factor_at(h, p, i, border),
+        factor: users::factor_at(&grid, row, border),
         atc: users::atc_at(ends, border),
     };
-    let users = users::users_of(h, p, ends, i);
+    let users = users::users_of(&grid, ends, row);
     put_row(case, reasons, margin, users, b, rows, out, next)
 }
 
 // What the margin of a row is made of. Where it starts is not taken as 0 where the allocated positions take more than RAM, since the words say how much.
 pub fn margin_of(row: i64, margins: &[PartsRecord], starts: &[i64]) -> PartsRecord {
-    let i = magnitude(row) as usize;
-    if i < margins.len() {
-        if i < starts.len() {
-            let mut margin = margins[i];
-            margin[partrules::ITEMS - 1] = starts[i];
-            return margin;
-        }
-    }
-    [0; partrules::ITEMS]
+    let i = row.unsigned_abs() as usize;
+    let (Some(margin), Some(start)) = (margins.get(i), starts.get(i)) else {
+        return [0; partrules::ITEMS];
+    };
+    let mut margin = *margin;
+    margin[partrules::ITEMS - 1] = *start;
+    margin
 }
 
 // A border, the row that ended its rise, p of it there, and its capacity, MW.
 #[derive(Clone, Copy)]
 pub struct Case {
-    pub border: u64,
+    pub border: usize,
     pub row: usize,
     pub intraday: bool,
     pub factor: u64,
@@ -89,15 +87,13 @@ fn put_row(
 ) -> usize
     ensures { IsPrefixLen result out.new }
 {
-    let i = case.row;
-    if rows.len() <= i {
+    let Some(hold) = rows.get(case.row) else {
         return rows::put_next(case.border, rows, out, at);
-    }
-    let hold = rows[i];
+    };
     let next = rows::put_stop(case, reasons, rows, out, at);
     let next = rows::put_ram(case, margin, out, next);
     let next = rows::put_taken(case, margin, out, next);
-    let next = rows::put_left(case, margin[11], hold, out, next);
+    let next = rows::put_left(case, margin[11], *hold, out, next);
     let next = users::put(case, users, b, out, next);
     rows::put_next(case.border, rows, out, next)
 }

@@ -1,51 +1,36 @@
 // The sentences about the rows that hold a border at the end, and about the margin of the one that ended its reasons.
 ghost use Rattle.io.specs.Counts.{IsPrefixLen};
 
-use crate::{Case, records};
+use crate::Case;
 use holding::{HoldRecord, Reasons};
 use partrules::PartsRecord;
-use text::put::magnitude;
+use walk::grid;
 
 // The first three rows that allow the border no kW more, and how many there are.
 #[derive(Clone, Copy)]
 pub struct Held {
-    pub first: u64,
-    pub second: u64,
-    pub third: u64,
+    pub first: [u64; 3],
     pub count: u64,
 }
 
 // Those of all rows but one.
-pub fn holders(rows: &[HoldRecord], but: usize) -> Held {
-    let mut found = Held {
-        first: 0,
-        second: 0,
-        third: 0,
-        count: 0,
-    };
-    for i in 0..rows.len() {
-        let row = rows[i];
-        let kw = row[2];
-        if i != but && kw == 0 {
-            found = with_holder(found, i as u64);
+pub fn holders(rows: &[HoldRecord], but: Option<usize>) -> Held {
+    let mut first = [0; 3];
+    let mut count: u64 = 0;
+    for (i, row) in rows.iter().enumerate() {
+        if row[2] == 0 && Some(i) != but {
+            if let Some(place) = first.get_mut(count as usize) {
+                *place = i as u64;
+            }
+            count = count.saturating_add(1);
         }
     }
-    found
-}
-
-fn with_holder(found: Held, i: u64) -> Held {
-    let count = found.count;
-    Held {
-        first: if count == 0 { i } else { found.first },
-        second: if count == 1 { i } else { found.second },
-        third: if count == 2 { i } else { found.third },
-        count: std::num::wrapping_add_u64(count, 1),
-    }
+    Held { first, count }
 }
 
 // How many are named by their count only.
 fn more(count: u64) -> u64 {
-    if 3 < count { count - 3 } else { 0 }
+    count.saturating_sub(3)
 }
 
 // Which row stopped the border. At the end others may stop it too, and the result names the first of all by its number.
@@ -58,29 +43,27 @@ pub fn put_stop(
 ) -> usize
     ensures { IsPrefixLen result out.new }
 {
-    let row = case.row;
-    let named = magnitude(reasons.named);
-    let is_named = row as u64 == named;
-    let others = holders(rows, row);
-    let count = others.count;
+    let row = case.row as u64;
+    let named = reasons.named.unsigned_abs();
+    let others = holders(rows, Some(case.row));
     let figures = [
-        row as u64,
-        std::num::wrapping_add_u64(reasons.last, 1),
-        others.first,
-        others.second,
-        others.third,
-        more(count),
+        row,
+        reasons.last.saturating_add(1),
+        others.first[0],
+        others.first[1],
+        others.first[2],
+        more(others.count),
         named,
     ];
-    let stopped = if is_named { 0 } else { 1 };
-    let too = match count {
+    let stopped = if row == named { 0 } else { 1 };
+    let too = match others.count {
         0 => 2,
         1 => 3,
         2 => 4,
         3 => 5,
         _ => 6,
     };
-    let lines = [stopped, too, naming(count, is_named)];
+    let lines = [stopped, too, naming(others.count, row == named)];
     let list = b"Row $0 stopped it.$-\n\
         Row $0 stopped it, from round $0 on.\n\
         |$-$-$-$-\n\
@@ -97,40 +80,38 @@ pub fn put_stop(
 
 // Which form says that the result names another row.
 fn naming(others: u64, is_named: bool) -> usize {
-    if others == 0 {
-        return 7;
+    match others {
+        0 => 7,
+        _ if is_named => 8,
+        1 => 9,
+        _ => 10,
     }
-    if is_named {
-        return 8;
-    }
-    if others == 1 { 9 } else { 10 }
 }
 
 // What would hold the border if the rows that hold it did not.
-pub fn put_next(border: u64, rows: &[HoldRecord], out: &mut [u8], at: usize) -> usize
+pub fn put_next(border: usize, rows: &[HoldRecord], out: &mut [u8], at: usize) -> usize
     ensures { IsPrefixLen result out.new }
 {
-    let held = holders(rows, rows.len());
+    let held = holders(rows, None);
     let behind = next_behind(rows);
-    let count = held.count;
-    let kw = behind[1];
+    let (row, kw) = behind.unwrap_or((0, 0));
     let figures = [
-        held.first,
-        held.second,
-        held.third,
-        more(count),
-        behind[0],
-        border,
+        held.first[0],
+        held.first[1],
+        held.first[2],
+        more(held.count),
+        row,
+        border as u64,
         kw,
     ];
-    let begins = if kw == 0 { 1 } else { 0 };
-    let names = match count {
+    let begins = if behind.is_none() { 1 } else { 0 };
+    let names = match held.count {
         1 => 2,
         2 => 3,
         3 => 4,
         _ => 5,
     };
-    let limits = if kw == 0 { 7 } else { 6 };
+    let limits = if behind.is_none() { 7 } else { 6 };
     let lines = [begins, names, limits];
     let list = b"Next behind \n\
         Behind \n\
@@ -143,28 +124,28 @@ pub fn put_next(border: u64, rows: &[HoldRecord], out: &mut [u8], at: usize) -> 
     forms::put_all(list, &lines, &figures, out, at)
 }
 
-// The row that would allow the least of those that allow some, and what it would allow, kW: 0 where none limits the border.
-fn next_behind(rows: &[HoldRecord]) -> [u64; 2] {
-    let mut best: usize = 0;
-    let mut least: i64 = 0;
-    for i in 0..rows.len() {
-        let row = rows[i];
-        let kw = row[2];
-        if 0 < kw && (least == 0 || kw < least) {
-            best = i;
-            least = kw;
-        }
-    }
-    [best as u64, magnitude(least)]
+// The row that would allow the least of those that allow some, and what it would allow, kW; none where none limits the border.
+fn next_behind(rows: &[HoldRecord]) -> Option<(u64, u64)> {
+    rows.iter()
+        .enumerate()
+        .filter(|(_, row)| 0 < row[2])
+        .min_by_key(|(_, row)| row[2])
+        .map(|(i, row)| (i as u64, row[2].unsigned_abs()))
 }
 
 // What a row's RAM is made of: parts that are 0 are left out.
 pub fn put_ram(case: Case, margin: PartsRecord, out: &mut [u8], at: usize) -> usize
     ensures { IsPrefixLen result out.new }
 {
-    let mut figures = [case.row as u64, 0, 0, 0, 0, 0, 0];
-    let shown = [10, 4, 5, 7, 8, 9];
-    records::pick(&margin, &shown, &mut figures, 1);
+    let figures = [
+        case.row as u64,
+        margin[10].cast_unsigned(),
+        margin[4].cast_unsigned(),
+        margin[5].cast_unsigned(),
+        margin[7].cast_unsigned(),
+        margin[8].cast_unsigned(),
+        margin[9].cast_unsigned(),
+    ];
     let lines = [
         0,
         unless_0(figures[3], 1),
@@ -195,9 +176,13 @@ pub fn put_taken(case: Case, margin: PartsRecord, out: &mut [u8], at: usize) -> 
     let rights = margin[6];
     let ram = margin[10];
     let start = margin[11];
-    let loaded = std::num::wrapping_sub_u64(forms::signed(ram), forms::signed(start));
-    let relieved = std::num::wrapping_sub_u64(0, loaded);
-    let figures = [magnitude(rights), loaded, relieved, magnitude(start)];
+    let loaded = ram.wrapping_sub(start).cast_unsigned();
+    let figures = [
+        rights.unsigned_abs(),
+        loaded,
+        loaded.wrapping_neg(),
+        start.unsigned_abs(),
+    ];
     let line = taking(case.intraday, rights, ram, start);
     let list = b"No rights load it\n\
         The rights of all borders take $m MW of it\n\
@@ -223,12 +208,18 @@ fn taking(intraday: bool, rights: i64, ram: i64, start: i64) -> usize {
 pub fn put_left(case: Case, start: i64, hold: HoldRecord, out: &mut [u8], at: usize) -> usize
     ensures { IsPrefixLen result out.new }
 {
-    let given = magnitude(start);
-    let n = magnitude(hold[0]);
-    let left = magnitude(hold[1]);
-    let shared = if left < given { given - left } else { 0 };
-    let share = if n == 0 { 0 } else { left / n };
-    let figures = [shared, left, left, n, share, case.border, case.factor];
+    let n = hold[0].unsigned_abs();
+    let left = hold[1].unsigned_abs();
+    let shared = start.unsigned_abs().saturating_sub(left);
+    let figures = [
+        shared,
+        left,
+        left,
+        n,
+        grid::equal_share(left, n),
+        case.border as u64,
+        case.factor,
+    ];
     let lines = leaving(start < 0, shared, left, n);
     let list = b"\n\
         ; nothing was shared out in the rounds, and $-\n\

@@ -1,150 +1,105 @@
 // The borders that use a row most. Of two that use it alike the one of the lower index comes first.
-ghost use Rattle.std.specs.Prelude.{◌*◌, ◌≤◌, length};
 ghost use Rattle.io.specs.Counts.{IsPrefixLen};
 
 use crate::Case;
 use holding::EndRecord;
-use text::put::magnitude;
-use types::{BorderRecord, Header};
+use types::BorderRecord;
+use walk::grid::Grid;
 
 // p of row i at border b.
-pub fn factor_at(h: Header, p: &[u64], i: usize, b: usize) -> u64
-    requires { h.rows * h.borders ≤ length p.now }
-{
-    if i < h.rows {
-        if b < h.borders {
-            return walk::grid::factor(h.rows, h.borders, p, i, b);
-        }
+pub fn factor_at(grid: &Grid, i: usize, b: usize) -> u64 {
+    if i < grid.rows && b < grid.borders {
+        grid.factor(i, b)
+    } else {
+        0
     }
-    0
 }
 
 // A border's capacity, MW.
 pub fn atc_at(ends: &[EndRecord], b: usize) -> u64 {
-    if b < ends.len() {
-        let end = ends[b];
-        let kw = end[1];
-        return magnitude(kw) / 1000;
-    }
-    0
+    ends.get(b).map_or(0, |end| end[1].unsigned_abs() / 1000)
 }
 
-// What a border of that capacity puts on a row at that factor, grains: p for each kW. A row's margin is under 2^48 grains, so no product is near the limit;
-// asking spares a proof of it.
+// What a border of that capacity puts on a row at that factor, grains: p for each kW. A row's margin is under 2^48 grains, so no product is near the limit.
 fn load(factor: u64, mw: u64) -> u64 {
-    if factor == 0 {
-        return 0;
-    }
-    if MOST / factor / 1000 < mw {
-        return 0;
-    }
-    factor * (mw * 1000)
+    mw.checked_mul(1000)
+        .and_then(|kw| factor.checked_mul(kw))
+        .unwrap_or(0)
 }
 
-const MOST: u64 = 18446744073709551615;
-
-// The three borders that use a row most, and what each uses, grains: 0 where there are fewer, and `MOST` for the border.
+// A border that uses a row, and what it uses, grains.
 #[derive(Clone, Copy)]
-pub struct Users {
-    pub first: u64,
-    pub first_use: u64,
-    pub second: u64,
-    pub second_use: u64,
-    pub third: u64,
-    pub third_use: u64,
+pub struct User {
+    border: usize,
+    used: u64,
 }
+
+// The three borders that use a row most, fewer where no more use it.
+pub type Users = [Option<User>; 3];
 
 // Those of row i.
-pub fn users_of(h: Header, p: &[u64], ends: &[EndRecord], i: usize) -> Users
-    requires { h.rows * h.borders ≤ length p.now }
-{
-    let mut users = Users {
-        first: MOST,
-        first_use: 0,
-        second: MOST,
-        second_use: 0,
-        third: MOST,
-        third_use: 0,
-    };
-    for b in 0..h.borders {
-        users = with_user(
-            users,
-            b as u64,
-            load(factor_at(h, p, i, b), atc_at(ends, b)),
-        );
+pub fn users_of(grid: &Grid, ends: &[EndRecord], i: usize) -> Users {
+    let mut users = [None; 3];
+    for border in 0..grid.borders {
+        let used = load(factor_at(grid, i, border), atc_at(ends, border));
+        if 0 < used {
+            add(&mut users, User { border, used });
+        }
     }
     users
 }
 
 // One more border, at its place among them.
-fn with_user(u: Users, border: u64, used: u64) -> Users {
-    if u.third_use >= used {
-        return u;
-    }
-    if u.second_use >= used {
-        return Users {
-            first: u.first,
-            first_use: u.first_use,
-            second: u.second,
-            second_use: u.second_use,
-            third: border,
-            third_use: used,
-        };
-    }
-    if u.first_use >= used {
-        return Users {
-            first: u.first,
-            first_use: u.first_use,
-            second: border,
-            second_use: used,
-            third: u.second,
-            third_use: u.second_use,
-        };
-    }
-    Users {
-        first: border,
-        first_use: used,
-        second: u.first,
-        second_use: u.first_use,
-        third: u.second,
-        third_use: u.second_use,
+fn add(users: &mut Users, user: User) {
+    let [first, second, third] = *users;
+    if uses_less(first, user) {
+        *users = [Some(user), first, second];
+    } else if uses_less(second, user) {
+        *users = [first, Some(user), second];
+    } else if uses_less(third, user) {
+        *users = [first, second, Some(user)];
     }
 }
 
-// A border's zones.
-fn zones(b: &[BorderRecord], k: u64) -> [u64; 2] {
-    let k = k as usize;
-    if k < b.len() {
-        let raw = b[k];
-        return [magnitude(raw[0]), magnitude(raw[1])];
-    }
-    [0; 2]
+fn uses_less(other: Option<User>, user: User) -> bool {
+    other.is_none_or(|other| other.used < user.used)
+}
+
+// A user's border, its zones, and what it uses.
+fn figures_of(user: Option<User>, b: &[BorderRecord]) -> [u64; 4] {
+    let Some(User { border, used }) = user else {
+        return [0; 4];
+    };
+    let zones = b.get(border).map_or([0; 2], |raw| {
+        [raw[0].unsigned_abs(), raw[1].unsigned_abs()]
+    });
+    [border as u64, zones[0], zones[1], used]
 }
 
 // Who uses the row: three borders at most, and the border itself where it is none of them.
 pub fn put(case: Case, users: Users, b: &[BorderRecord], out: &mut [u8], at: usize) -> usize
     ensures { IsPrefixLen result out.new }
 {
-    let lines = who(users, case.border, case.atc);
-    let first = zones(b, users.first);
-    let second = zones(b, users.second);
-    let third = zones(b, users.third);
+    let lines = who(users, case);
+    let first = figures_of(users[0], b);
+    let second = figures_of(users[1], b);
+    let third = figures_of(users[2], b);
     let figures = [
         case.row as u64,
-        users.first,
         first[0],
         first[1],
-        users.first_use,
-        users.second,
+        first[2],
+        first[3],
         second[0],
         second[1],
-        users.second_use,
-        users.third,
+        second[2],
+        second[3],
         third[0],
         third[1],
-        users.third_use,
+        third[2],
+        third[3],
         case.row as u64,
-        case.border,
+        case.border as u64,
         load(case.factor, case.atc),
         case.atc,
         case.factor,
@@ -162,20 +117,15 @@ pub fn put(case: Case, users: Users, b: &[BorderRecord], out: &mut [u8], at: usi
 }
 
 // Which forms say so.
-fn who(u: Users, border: u64, atc: u64) -> [usize; 5] {
-    let own = if border == u.first || border == u.second || border == u.third || atc == 0 {
-        0
-    } else {
-        8
-    };
-    if u.first_use == 0 {
-        return [0; 5];
+fn who(users: Users, case: Case) -> [usize; 5] {
+    let is_named = users
+        .iter()
+        .any(|user| user.is_some_and(|user| user.border == case.border));
+    let own = if is_named || case.atc == 0 { 0 } else { 8 };
+    match users {
+        [None, _, _] => [0; 5],
+        [_, None, _] => [1, 3, 3, 6, own],
+        [_, _, None] => [2, 5, 3, 7, own],
+        _ => [2, 4, 5, 7, own],
     }
-    if u.second_use == 0 {
-        return [1, 3, 3, 6, own];
-    }
-    if u.third_use == 0 {
-        return [2, 5, 3, 7, own];
-    }
-    [2, 4, 5, 7, own]
 }

@@ -1,5 +1,6 @@
 -- The rounds that a call answers are known beforehand (`specs/Worst.antt`), in both profiles, of every border or with marks: of `extract` and `extract_marked` in lent memory,
 -- and of the texts of the `answer` and `result_text` calls.
+use Rattle.std.specs.Prelude.{Ok}
 use mathlib.Core.Path.{◌≡◌, subst}
 use mathlib.Core.Bool.{Bool}
 use mathlib.Core.List.{List}
@@ -8,7 +9,7 @@ use Prim.Native.Nat.{ℕ}
 use lib.IntN.{ℤ}
 use lib.ListN.{take}
 use Rattle.numbers.specs.Below.{at}
-use Rattle.refusals.specs.Refusals.{Judged, passed}
+use Rattle.refusals.specs.Refusals.{Judged}
 use Rattle.marks.specs.Marks.{may_rise}
 use Rattle.tablerules.specs.Table.{Table, front, judge_lent}
 use Rattle.tablerules.specs.Good.{Good}
@@ -23,14 +24,14 @@ use Rattle.worst.specs.Worst.{Known, TextKnown}
 use Rattle.worst.proofs.Worst.{table_known, accepted_known}
 
 -- `extract` asks for every border, `extract_marked` for those of its list
-pub extract_known : (all : Bool) (marks : List ℕ) (given : Table) (ps : List ℕ) (atcs lefts : List (List ℤ)) (k : ℕ) → (extract_for all marks given ps atcs lefts).answer ≡ passed k
+pub extract_known : (all : Bool) (marks : List ℕ) (given : Table) (ps : List ℕ) (atcs lefts : List (List ℤ)) (k : ℕ) → (extract_for all marks given ps atcs lefts).answer ≡ Ok k
     → Known (may_rise all marks) (front given) k
 extract_known all marks given ps atcs lefts k e =
     let a = accepted_for all marks given ps atcs lefts k e in
     subst (Known (may_rise all marks) (front given)) a.rounds (table_known (may_rise all marks) (judged_good given (front given) a.judged))
 
 -- a text for which demand 3 holds
-text_known : {marked : ℕ → Bool} {read : Judged Table} {answered : List ℕ} → ((t : Table) → read ≡ passed t → Good t) → TextDemand3 marked read answered → TextKnown marked read answered
+text_known : {marked : ℕ → Bool} {read : Judged Table} {answered : List ℕ} → ((t : Table) → read ≡ Ok t → Good t) → TextDemand3 marked read answered → TextKnown marked read answered
 text_known {marked} good d =
     record {
       table = d.table;
@@ -47,5 +48,5 @@ answer_known all marks text sheet h = text_known (corrected_good text sheet) (an
 
 -- every text that `result_text` and `result_text_marked` leave of lent tables
 pub result_text_known : (all : Bool) (marks : List ℕ) (given : Table) (out : List ℕ) (n : ℕ) → let left = result_text_for all marks given out in
-    left.answer ≡ passed n → TextKnown (may_rise all marks) (judge_lent given) (take n left.out)
+    left.answer ≡ Ok n → TextKnown (may_rise all marks) (judge_lent given) (take n left.out)
 result_text_known all marks given out n e = text_known (judged_good given) (result_text_demand_3 all marks given out n e)

@@ -1,5 +1,6 @@
 -- No judged table has more than 1,852 rounds, or more than 1,910 where it has T lines, whatever is marked; 01's demand 3 has 6,144 and 6,272 there. By the sharper bound of
 -- crate tightrules, which is never above these, from the largest margin that a row can start with.
+use Rattle.std.specs.Prelude.{Ok}
 use mathlib.Core.Path.{◌≡◌, refl, ap, subst}
 use mathlib.Core.Bool.{Bool, true, false, cond, ◌&&◌}
 use mathlib.Core.List.{List}
@@ -11,7 +12,6 @@ use Rattle.numbers.specs.Below.{at}
 use Rattle.numbers.specs.Ints.{positive_part}
 use Rattle.numbers.proofs.BelowLaws.{table_get}
 use Rattle.limits.specs.Limits.{borders_most}
-use Rattle.refusals.specs.Refusals.{passed}
 use Rattle.types.specs.Ranges.{at_ℤ, is_intraday}
 use Rattle.types.proofs.RangeLaws.{header_in_lem}
 use Rattle.tablerules.specs.Table.{Table, border_at, factors_at}
@@ -90,5 +90,5 @@ module _ (marked : ℕ → Bool) {t : Table} (good : Good t) where
   pub table_known : Known marked t (result_marked marked t).outcome.rounds
   table_known = record { sharp = table_sharp marked t; sharper = table_sharper marked t; worst = worst_bound; most = worst_rounds }
 
-  pub accepted_known : (r : Result) → outcome_marked marked t ≡ passed r → Known marked t r.outcome.rounds
+  pub accepted_known : (r : Result) → outcome_marked marked t ≡ Ok r → Known marked t r.outcome.rounds
   accepted_known r e = subst (λ (v : Result). Known marked t v.outcome.rounds) (accepted marked t r e).is table_known

@@ -1,8 +1,8 @@
 -- How large a starting margin, and how many rounds, can get: of any table that is accepted (`proofs/Worst.antt`); and what is known of a call's rounds beforehand
 -- (`proofs/Calls.antt`).
-use Rattle.std.specs.Prelude.{◌≡◌, Bool, cond, List, ℕ, ◌+◌, ◌*◌, ◌-◌, ◌≤◌}
+use Rattle.std.specs.Prelude.{◌≡◌, Bool, cond, List, ℕ, ◌+◌, ◌*◌, ◌-◌, ◌≤◌, Ok}
 use Rattle.limits.specs.Limits.{borders_most}
-use Rattle.refusals.specs.Refusals.{Judged, passed}
+use Rattle.refusals.specs.Refusals.{Judged}
 use Rattle.types.specs.LineLimits.{fmax_most, flow_most, share_most, lta_most}
 use Rattle.types.specs.Ranges.{is_intraday}
 use Rattle.tablerules.specs.Table.{Table}
@@ -39,6 +39,6 @@ pub record Known (marked : ℕ → Bool) (t : Table) (k : ℕ) : Type 0 where
 pub record TextKnown (marked : ℕ → Bool) (read : Judged Table) (answered : List ℕ) : Type 0 where
   pub table : Table
   pub result : Result
-  pub is : read ≡ passed table
+  pub is : read ≡ Ok table
   pub printed : answered ≡ result_text result
   pub known : Known marked table result.outcome.rounds

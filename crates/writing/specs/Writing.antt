@@ -1,7 +1,7 @@
 -- Writing the table (01, "The table as text"), and what the open call `write` leaves.
-use Rattle.std.specs.Prelude.{List, [], ◌++◌, ℕ, ℤ, length, get_or}
+use Rattle.std.specs.Prelude.{List, [], ◌++◌, ℕ, ℤ, length, get_or, Ok}
 use Prim.Native.Char.{code}
-use Rattle.refusals.specs.Refusals.{passed, then}
+use Rattle.refusals.specs.Refusals.{then}
 use Rattle.types.specs.Ranges.{at_ℤ, allocated_items}
 use Rattle.text.specs.Left.{TextLeft, text_left}
 use Rattle.text.specs.Written.{lines_text}
@@ -19,7 +19,7 @@ table_text t =
 
 -- the open call `write`
 unfoldable pub write_left : (lent : Table) → (out : List ℕ) → TextLeft
-write_left lent out = text_left (then (judge_lent lent) (λ t. passed (table_text t))) out
+write_left lent out = text_left (then (judge_lent lent) (λ t. Ok (table_text t))) out
 
 -- one line of each kind, by the lent records
 abbrev pub position_text_at : (letter : ℕ) → (nets : List ℤ) → (i : ℕ) → List ℕ

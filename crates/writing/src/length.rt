@@ -1,12 +1,13 @@
 // How many bytes the text of a table has, before one is written.
 ghost use Rattle.std.specs.Prelude.{◌≡◌, ◌≤◌, length};
 ghost use Rattle.limits.specs.Limits.{bytes_most};
-ghost use Rattle.tablerules.specs.Table.{lent};
+ghost use Rattle.tablerules.specs.Table.{lent_view};
 ghost use Rattle.tablerules.specs.Good.{Good};
 ghost use Rattle.writing.specs.Writing.{table_text, zones_text, borders_text};
 
 use lines::row::RowKind;
-use types::{BorderRecord, Header, RowRecord};
+use tablerules::TableView;
+use types::BorderRecord;
 
 // The Z lines; T lines of the same positions are as long.
 fn zones_length(z: &[i64]) -> usize
@@ -31,21 +32,19 @@ fn borders_length(b: &[BorderRecord]) -> usize
     sum
 }
 
-pub fn text_length(
-    h: Header,
-    z: &[i64],
-    t: &[i64],
-    b: &[BorderRecord],
-    c: &[RowRecord],
-    f: &[i64],
-) -> usize
-    requires { Good (lent h z.now t.now b.now c.now f.now) }
-    ensures { result ≡ length (table_text (lent h z.now t.now b.now c.now f.now)) }
+pub fn text_length(view: &TableView) -> usize
+    requires { Good (lent_view view.now) }
+    ensures { result ≡ length (table_text (lent_view view.now)) }
 {
-    let header = layout::length::header_length(h);
-    let zones = zones_length(z);
-    let allocated = zones_length(t);
-    let borders = borders_length(b);
-    let rows = layout::length::rows_length(RowKind::Table, h.zones, c, f);
+    let header = layout::length::header_length(view.header);
+    let zones = zones_length(view.nets);
+    let allocated = zones_length(view.allocated);
+    let borders = borders_length(view.borders);
+    let rows = layout::length::rows_length(
+        RowKind::Table,
+        view.header.zones,
+        view.rows,
+        view.factors,
+    );
     header + zones + allocated + borders + rows
 }

@@ -1,12 +1,13 @@
 // Writes the lines of a table into lent bytes, each kind at a place, and then all kinds from the start.
 ghost use Rattle.std.specs.Prelude.{◌+◌, ◌≤◌, length};
 ghost use Rattle.text.specs.Put.{Put};
-ghost use Rattle.tablerules.specs.Table.{lent};
+ghost use Rattle.tablerules.specs.Table.{lent_view};
 ghost use Rattle.tablerules.specs.Good.{Good};
 ghost use Rattle.writing.specs.Writing.{table_text, positions_text, borders_text};
 
 use lines::row::RowKind;
-use types::{BorderRecord, Header, RowRecord};
+use tablerules::TableView;
+use types::BorderRecord;
 
 // The Z lines, or the T lines, by their letter.
 fn put_zones(letter: u8, z: &[i64], out: &mut [u8], at: usize) -> usize
@@ -31,21 +32,20 @@ fn put_borders(b: &[BorderRecord], out: &mut [u8], at: usize) -> usize
     next
 }
 
-pub fn put_table(
-    h: Header,
-    z: &[i64],
-    t: &[i64],
-    b: &[BorderRecord],
-    c: &[RowRecord],
-    f: &[i64],
-    out: &mut [u8],
-) -> usize
-    requires { Good (lent h z.now t.now b.now c.now f.now) × (length (table_text (lent h z.now t.now b.now c.now f.now)) ≤ length out.old) }
-    ensures { Put (table_text (lent h z.now t.now b.now c.now f.now)) 0 out.old result out.new }
+pub fn put_table(view: &TableView, out: &mut [u8]) -> usize
+    requires { Good (lent_view view.now) × (length (table_text (lent_view view.now)) ≤ length out.old) }
+    ensures { Put (table_text (lent_view view.now)) 0 out.old result out.new }
 {
-    let next = layout::put::put_header(h, out, 0);
-    let next = put_zones(b'Z', z, out, next);
-    let next = put_zones(b'T', t, out, next);
-    let next = put_borders(b, out, next);
-    layout::put::put_rows(RowKind::Table, h.zones, c, f, out, next)
+    let next = layout::put::put_header(view.header, out, 0);
+    let next = put_zones(b'Z', view.nets, out, next);
+    let next = put_zones(b'T', view.allocated, out, next);
+    let next = put_borders(view.borders, out, next);
+    layout::put::put_rows(
+        RowKind::Table,
+        view.header.zones,
+        view.rows,
+        view.factors,
+        out,
+        next,
+    )
 }

@@ -1,9 +1,9 @@
 -- `cabi::keravnoth_1_answer_corrected` meets its contract: what `answer_corrected` leaves and tells, coded.
+use Rattle.refusals.specs.Refusals.{Ruling}
 use mathlib.Core.Path.{ap₂}
-use Rattle.refusals.specs.declared.Judgement.{Judgement}
 use Rattle.text.specs.Left.{TextLeft}
 use Rattle.coded.specs.Coded.{answered_coded}
 use Rattle.cabi.proofs.keravnoth_1_answer_corrected.Goals as goal
 
 pub returns : goal.returns
-returns c = rw c.code_answered.ensures (ap₂ (λ (l : TextLeft) (told : Judgement). answered_coded l told) c.answer_corrected.ensures.out_after c.answer_corrected.ensures.told_value)
+returns c = rw c.code_answered.ensures (ap₂ (λ (l : TextLeft) (told : Ruling). answered_coded l told) c.answer_corrected.ensures.out_after c.answer_corrected.ensures.told_value)

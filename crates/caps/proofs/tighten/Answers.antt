@@ -1,7 +1,8 @@
 -- `caps::tighten` meets its contract: a product tells whether the cap stays (`tight-same`) or falls (`tight-less`), and a quotient where the product may not fit.
+use mathlib.Core.Path.{◌∙◌}
 use native.Mathlib.Omega.{arith}
 use borrow.Author.Tests.{ltb-true}
-use Rattle.caps.proofs.TightLaws.{tight_same, tight_less, tight_zero, tight_low, tight_high, product_fits}
+use Rattle.caps.proofs.TightLaws.{tight_same, tight_less, tight_zero, tight_pos, product_fits}
 use Rattle.caps.proofs.tighten.Goals as goal
 
 pub overflow_mul-cap : goal.overflow_mul-cap
@@ -19,8 +20,5 @@ returns-then-f-lt-FACTOR_BELOW c = (tight_less c.args.f c.args.share c.args.cap 
 pub returns-then-f-eq0 : goal.returns-then-f-eq0
 returns-then-f-eq0 c = tight_zero c.args.f c.args.share c.args.cap c.if-f-eq0.true
 
-pub returns-then-allowed-cap : goal.returns-then-allowed-cap
-returns-then-allowed-cap c = tight_low c.args.f c.args.share c.args.cap (omega arith) c.if-allowed-cap.true
-
-pub returns-else-allowed-cap : goal.returns-else-allowed-cap
-returns-else-allowed-cap c = tight_high c.args.f c.args.share c.args.cap (omega arith) c.if-allowed-cap.false
+pub returns : goal.returns
+returns c = c.min.ensures ∙ tight_pos c.args.f c.args.share c.args.cap (omega arith)

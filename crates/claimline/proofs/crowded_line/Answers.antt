@@ -23,9 +23,9 @@ overflow_add-pairs c = omega (arith, c.requires.1)
 
 pub returns-then-not-are_numbers : goal.returns-then-not-are_numbers
 returns-then-not-are_numbers c = c.no_claim-then-not-are_numbers.ensures
-    ∙ crowded_bad _ _ c.requires.0 (sym c.headed.ensures ∙ not-false _ c.if-not-headed.false-raw) _ c.field_at.ensures _ _ c.in-Whole.is c.are_numbers.ensures (not-true _ c.if-not-are_numbers.true-raw)
+    ∙ crowded_bad _ _ c.requires.0 (sym c.headed.ensures ∙ not-false _ c.if-not-headed.false-raw) _ c.field_at.ensures _ _ c.in-Ok.is c.are_numbers.ensures (not-true _ c.if-not-are_numbers.true-raw)
 
 pub returns : goal.returns
-returns c = let e : to_z w64 (of_z w64 c.in-Whole.row) ≡ c.in-Whole.row = search rules in
+returns c = let e : to_z w64 (of_z w64 c.in-Ok.row) ≡ c.in-Ok.row = search rules in
     c.crowded.ensures ∙ ap crowded e
-    ∙ crowded_row _ _ c.requires.0 (sym c.headed.ensures ∙ not-false _ c.if-not-headed.false-raw) _ c.field_at.ensures _ _ c.in-Whole.is c.are_numbers.ensures (not-false _ c.if-not-are_numbers.false-raw)
+    ∙ crowded_row _ _ c.requires.0 (sym c.headed.ensures ∙ not-false _ c.if-not-headed.false-raw) _ c.field_at.ensures _ _ c.in-Ok.is c.are_numbers.ensures (not-false _ c.if-not-are_numbers.false-raw)

@@ -4,7 +4,7 @@ use native.Mathlib.Omega.{arith}
 use borrow.Author.Rules.{sfits_of}
 use mir.Facts.{to_z-of_z}
 use Rattle.numbers.proofs.ListLaws.{filled_none, filled_more, filled_all}
-use Rattle.claimline.specs.ClaimText.{claim_item, claim_record}
+use Rattle.claimline.specs.ClaimText.{claim_record}
 use Rattle.claimline.proofs.fill_record.Goals as goal
 
 pub loop-k-init : goal.loop-k-init

@@ -1,11 +1,10 @@
+use Rattle.std.specs.Prelude.{Option}
 use mathlib.Core.Path.{sym, ap, ◌∙◌}
 use mathlib.Core.Bool.{not}
-use mathlib.Core.Option.{Option}
 use Prim.Native.Nat.{ℕ}
 use native.Mathlib.Omega.{arith}
 use Rattle.numbers.specs.Below.{given}
 use Rattle.numbers.proofs.BelowLaws.{looked_none, looked_all, looked_here, looked_more}
-use Rattle.claimrules.specs.Claims.{pair_good}
 use Rattle.claims.proofs.pairs_good.Goals as goal
 
 pub loop-j-init : goal.loop-j-init

@@ -1,5 +1,6 @@
 -- `claimtext::publish_in` meets its contract: the rows that were filled in are the table's, the flags are those of the list's claims, and what the claims come to decides
 -- (`claims-refused`, `claims-accepted`).
+use Rattle.std.proofs.lemmas.Result.{err_from_is_err_and}
 use mathlib.Core.Path.{sym, ◌∙◌}
 use native.Mathlib.Omega.{arith}
 use Rattle.types.proofs.RangeLaws.{header_in_lem}
@@ -12,11 +13,13 @@ use Rattle.claimtext.proofs.publish_in.Goals as goal
 pub overflow_mul-factors : goal.overflow_mul-factors
 overflow_mul-factors c = omega (arith, factors_most _ c.requires.good.exact.header)
 
-pub judge_lines-judged-requires : goal.judge_lines-judged-requires
-judge_lines-judged-requires c = record { lent = factors_lent c.requires.good _ c.fill_rows.ensures.0; lent_2 = rams_lent c.requires.good _ c.fill_rows.ensures.0; states_len = (states_lent c.requires.good _ c.fill_rows.ensures.0, (header_in_lem _ c.requires.good.exact.header).rows_most_lem); named_value = (c.name_lines.ensures, c.requires.named_value.1) }
+pub judge_lines-requires : goal.judge_lines-requires
+judge_lines-requires c = record { lent = factors_lent c.requires.good _ c.fill_rows.ensures.0; lent_2 = rams_lent c.requires.good _ c.fill_rows.ensures.0; states_len = (states_lent c.requires.good _ c.fill_rows.ensures.0, (header_in_lem _ c.requires.good.exact.header).rows_most_lem); named_value = (c.name_lines.ensures, c.requires.named_value.1) }
 
-pub returns-in-Refused : goal.returns-in-Refused
-returns-in-Refused c = claims_refused c.requires.good _ c.fill_rows.ensures.0 _ _ _ c.judge_lines-judged.ensures _ c.in-Refused.is
+pub returns-in_err-judge_lines : goal.returns-in_err-judge_lines
+returns-in_err-judge_lines c =
+    let p = err_from_is_err_and c.from_residual.result c.from_residual.ensures.1 in
+    rw (p.1, p.2) (claims_refused c.requires.good _ c.fill_rows.ensures.0 _ _ _ c.judge_lines.ensures _ c.in_err-judge_lines.was)
 
 pub write_rows-requires : goal.write_rows-requires
 write_rows-requires c = let m = rows_in_lem _ _ c.fill_rows.ensures.0 in
@@ -24,4 +27,4 @@ write_rows-requires c = let m = rows_in_lem _ _ c.fill_rows.ensures.0 in
 
 pub returns : goal.returns
 returns c = c.write_rows.ensures
-    ∙ claims_accepted c.requires.good _ c.fill_rows.ensures.0 _ _ _ c.judge_lines-judged.ensures c.in_default.is c.name_lines.ensures
+    ∙ claims_accepted c.requires.good _ c.fill_rows.ensures.0 _ _ _ c.judge_lines.ensures c.in_ok-judge_lines.was c.name_lines.ensures

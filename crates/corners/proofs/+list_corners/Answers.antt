@@ -1,4 +1,3 @@
-use Prim.Native.Nat.{◌<◌}
 use native.Mathlib.Omega.{arith}
 use lib.ListN.{length}
 use lib.Pow.{pow_pos}
@@ -8,7 +7,7 @@ use mir.Val.{SFits}
 use Rattle.numbers.specs.Ints.{Within}
 use Rattle.numbers.proofs.IntLaws.{within_fits}
 use Rattle.cornerrules.specs.Listed.{part_most}
-use Rattle.cornerrules.proofs.ListedLaws.{list_none, part_of_within, shorter_long, shorter_ranges, shorter_room, room_used, within_used, list_more}
+use Rattle.cornerrules.proofs.ListedLaws.{list_none, part_of_within, room_used, within_used, list_more}
 use Rattle.corners.proofs.+list_corners.Goals as goal
 
 pub returns-then-left-eq0 : goal.returns-then-left-eq0

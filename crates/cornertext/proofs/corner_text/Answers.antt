@@ -1,15 +1,18 @@
 -- `cornertext::corner_text` meets its contract: what judging refuses is refused, and else the front of the lent tables is a good table.
+use Rattle.std.proofs.lemmas.Result.{err_from_is_err_and}
 use mathlib.Core.Path.{◌∙◌}
-use Rattle.tablerules.specs.Table.{lent}
+use Rattle.tablerules.specs.Table.{lent_view}
 use Rattle.tablerules.proofs.GoodLaws.{told_good}
 use Rattle.cornertext.proofs.CornerTextLaws.{text_judged_not, text_judged}
 use Rattle.cornertext.proofs.corner_text.Goals as goal
 
-pub returns-in-Refused : goal.returns-in-Refused
-returns-in-Refused c = text_judged_not _ _ _ c.judge.ensures.f_value _ _ c.in-Refused.is
+pub returns-in_err-judge : goal.returns-in_err-judge
+returns-in_err-judge c =
+    let p = err_from_is_err_and c.from_residual.result c.from_residual.ensures.1 in
+    rw (p.1, p.2) (text_judged_not _ _ _ c.judge.ensures.f_value _ _ c.in_err-judge.was)
 
 pub corner_text_good-requires : goal.corner_text_good-requires
-corner_text_good-requires c = told_good (lent c.args.h c.args.z.now c.args.t.now c.args.b.now c.args.c.now c.args.f.now) c.judge.ensures.good_in c.in_default.is
+corner_text_good-requires c = told_good (lent_view c.args.view.now) c.judge.ensures.good_in c.in_ok-judge.was
 
 pub returns : goal.returns
-returns c = c.corner_text_good.ensures ∙ text_judged _ _ _ c.judge.ensures.f_value _ c.in_default.is
+returns c = c.corner_text_good.ensures ∙ text_judged _ _ _ c.judge.ensures.f_value _ c.in_ok-judge.was

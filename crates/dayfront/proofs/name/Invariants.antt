@@ -1,6 +1,6 @@
--- `dayfront::name` meets its contract. The invariant: the day keeps its number of hours. The measure is what is left of them.
-use Rattle.std.proofs.Common.{◌≡◌, length}
+-- `dayfront::name` meets its contract. The invariant: so many hours stand at the front of the day, which keeps its number of hours.
+use Rattle.std.proofs.Common.{◌≡◌, ◌≤◌, length}
 use Rattle.dayfront.proofs.name.Given as goal
 
-abbrev pub invariant-loop-k : goal.invariant-loop-k
-invariant-loop-k l = length l.day ≡ length l.initial.day
+abbrev pub invariant-loop-i : goal.invariant-loop-i
+invariant-loop-i l = (l.named ≤ length l.day) × (length l.day ≡ length l.initial.day)

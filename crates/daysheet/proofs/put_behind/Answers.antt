@@ -5,7 +5,7 @@ use Rattle.text.proofs.PutLaws.{put_more}
 use Rattle.daysheet.proofs.put_behind.Goals as goal
 
 pub put_number-requires : goal.put_number-requires
-put_number-requires c = omega (arith, c.requires, c.put_byte-next.ensures.after, c.put_byte-next.auto.out, decimal_u64 c.args.n (omega (arith, c.ranges.n)))
+put_number-requires c = omega (arith, decimal_u64 c.args.n (omega arith))
 
 pub returns : goal.returns
-returns c = record { put = put_more c.put_byte-next.ensures (omega (arith, c.requires)) c.put_number.ensures; upper_bound = omega (arith, c.put_number.ensures.after, c.put_byte-next.ensures.after, decimal_u64 c.args.n (omega (arith, c.ranges.n))) }
+returns c = record { put = put_more c.put_byte-next.ensures (omega arith) c.put_number.ensures; upper_bound = omega (arith, decimal_u64 c.args.n (omega arith)) }

@@ -5,19 +5,19 @@ use Rattle.text.proofs.PutLaws.{put_more}
 use Rattle.daysheet.proofs.put_border.Goals as goal
 
 pub put_number-next-requires : goal.put_number-next-requires
-put_number-next-requires c = omega (arith, c.requires, decimal_u64 c.args.b (omega (arith, c.ranges.b)))
+put_number-next-requires c = omega (arith, decimal_u64 c.args.b (omega arith))
 
 pub put_behind-next-requires : goal.put_behind-next-requires
-put_behind-next-requires c = omega (arith, c.requires, decimal_u64 c.args.b (omega (arith, c.ranges.b)), c.put_number-next.ensures.after, c.put_number-next.auto.out)
+put_behind-next-requires c = omega (arith, decimal_u64 c.args.b (omega arith))
 
 pub put_behind-next-requires-2 : goal.put_behind-next-requires-2
-put_behind-next-requires-2 c = omega (arith, c.requires, decimal_u64 c.args.b (omega (arith, c.ranges.b)), c.put_number-next.ensures.after, c.put_number-next.auto.out, c.put_behind-next.ensures.upper_bound, c.put_behind-next.auto.out)
+put_behind-next-requires-2 c = omega (arith, decimal_u64 c.args.b (omega arith))
 
 pub put_hub-next-requires : goal.put_hub-next-requires
-put_hub-next-requires c = omega (arith, c.requires, decimal_u64 c.args.b (omega (arith, c.ranges.b)), c.put_number-next.ensures.after, c.put_number-next.auto.out, c.put_behind-next.ensures.upper_bound, c.put_behind-next.auto.out, c.put_behind-next-2.ensures.upper_bound, c.put_behind-next-2.auto.out)
+put_hub-next-requires c = omega (arith, decimal_u64 c.args.b (omega arith))
 
 pub put_hub-requires : goal.put_hub-requires
-put_hub-requires c = omega (arith, c.requires, decimal_u64 c.args.b (omega (arith, c.ranges.b)), c.put_number-next.ensures.after, c.put_number-next.auto.out, c.put_behind-next.ensures.upper_bound, c.put_behind-next.auto.out, c.put_behind-next-2.ensures.upper_bound, c.put_behind-next-2.auto.out, c.put_hub-next.ensures.upper_bound, c.put_hub-next.auto.out)
+put_hub-requires c = omega (arith, decimal_u64 c.args.b (omega arith))
 
 pub returns : goal.returns
 returns c = put_more (put_more (put_more (put_more c.put_number-next.ensures (omega arith) c.put_behind-next.ensures.put) (omega arith) c.put_behind-next-2.ensures.put) (omega arith) c.put_hub-next.ensures.put) (omega arith) c.put_hub.ensures.put

@@ -1,14 +1,15 @@
 -- `extraction::extract_in` meets its contract: a return for each judgement that may decide, and the last for what is stored.
+use Rattle.std.specs.Prelude.{Err, Ok}
 use mathlib.Core.Path.{◌≡◌, sym, ap, ◌∙◌}
 use mathlib.Core.Bool.{Bool}
 use Prim.Native.Nat.{ℕ}
 use native.Mathlib.Omega.{arith}
+use borrow.Author.Rules.{rules}
 use lib.ListN.{length}
 use Rattle.numbers.proofs.BelowLaws.{table_long}
-use Rattle.refusals.specs.Refusals.{passed}
 use Rattle.types.proofs.RangeLaws.{header_in_lem}
 use Rattle.marks.specs.Marks.{flagged}
-use Rattle.tablerules.specs.Table.{Table, lent, front}
+use Rattle.tablerules.specs.Table.{Table, lent_view, front}
 use Rattle.tablerules.proofs.RoomLaws.{factors_most}
 use Rattle.marginrules.proofs.JudgedLaws.{good_factors, good_borders}
 use Rattle.staterules.specs.Standings.{standings_of}
@@ -21,25 +22,26 @@ use Rattle.extraction.proofs.extract_in.Goals as goal
 pub prepare-requires : goal.prepare-requires
 prepare-requires c = record { good = c.requires.good; flags_len = c.requires.flags_len; rams_len = c.requires.rams_len; states_len = c.requires.states_len.0 }
 
-pub returns-in-Refused : goal.returns-in-Refused
-returns-in-Refused c = let given : Table = front (lent c.args.h c.args.z.now c.args.t.now c.args.b.now c.args.c.now c.args.f.now) in
+pub returns-in_err-prepare : goal.returns-in_err-prepare
+returns-in_err-prepare c = let given : Table = front (lent_view c.args.view.now) in
     let marked : ℕ → Bool = flagged c.args.flags.now in
     let as_said : PreparedAs (marked) (given) c.prepare.result c.prepare.new.rams c.prepare.new.starts c.prepare.new.states = prepared_as c.prepare.result c.prepare.ensures in
-    start_refused _ _ _ _ _ (start_turned (as_said) c.in-Refused.is)
+    let told : c.from_residual.result ≡ Err c.in_err-prepare.field-0.0 = search rules in
+    rw told (start_refused _ _ _ _ _ (start_turned as_said c.in_err-prepare.was))
 
 pub returns-then-atc-borders : goal.returns-then-atc-borders
-returns-then-atc-borders c = let given : Table = front (lent c.args.h c.args.z.now c.args.t.now c.args.b.now c.args.c.now c.args.f.now) in
+returns-then-atc-borders c = let given : Table = front (lent_view c.args.view.now) in
     let marked : ℕ → Bool = flagged c.args.flags.now in
     let as_said : PreparedAs (marked) (given) c.prepare.result c.prepare.new.rams c.prepare.new.starts c.prepare.new.states = prepared_as c.prepare.result c.prepare.ensures in
-    let passes : judge_marked (marked) (given) ≡ passed (standings_of (given)).states = start_passed (as_said) c.in_default.is in
-    rw c.too_short.ensures (short_borders _ _ _ _ _ (passes) c.if-atc-borders.true)
+    let passes : judge_marked (marked) (given) ≡ Ok (standings_of (given)).states = start_passed (as_said) c.in_ok-prepare.was in
+    short_borders _ _ _ _ _ passes c.if-atc-borders.true
 
 pub returns-then-left-rows : goal.returns-then-left-rows
-returns-then-left-rows c = let given : Table = front (lent c.args.h c.args.z.now c.args.t.now c.args.b.now c.args.c.now c.args.f.now) in
+returns-then-left-rows c = let given : Table = front (lent_view c.args.view.now) in
     let marked : ℕ → Bool = flagged c.args.flags.now in
     let as_said : PreparedAs (marked) (given) c.prepare.result c.prepare.new.rams c.prepare.new.starts c.prepare.new.states = prepared_as c.prepare.result c.prepare.ensures in
-    let passes : judge_marked (marked) (given) ≡ passed (standings_of (given)).states = start_passed (as_said) c.in_default.is in
-    rw c.too_short-then-left-rows.ensures (short_rows _ _ _ _ _ (passes) c.if-atc-borders.false c.if-left-rows.true)
+    let passes : judge_marked (marked) (given) ≡ Ok (standings_of (given)).states = start_passed (as_said) c.in_ok-prepare.was in
+    short_rows _ _ _ _ _ passes c.if-atc-borders.false c.if-left-rows.true
 
 pub slice_bounds-ends-end : goal.slice_bounds-ends-end
 slice_bounds-ends-end c = sym c.requires.good.exact.borders_long
@@ -51,20 +53,20 @@ pub slice_bounds-factors-end : goal.slice_bounds-factors-end
 slice_bounds-factors-end c = sym c.requires.good.exact.factors_long
 
 pub lay_out-requires : goal.lay_out-requires
-lay_out-requires c = let given : Table = front (lent c.args.h c.args.z.now c.args.t.now c.args.b.now c.args.c.now c.args.f.now) in
+lay_out-requires c = let given : Table = front (lent_view c.args.view.now) in
     let marked : ℕ → Bool = flagged c.args.flags.now in
     let as_said : PreparedAs (marked) (given) c.prepare.result c.prepare.new.rams c.prepare.new.starts c.prepare.new.states = prepared_as c.prepare.result c.prepare.ensures in
     let said = as_said in record { table_factors_in_range = good_factors c.requires.good; borders_in_range = good_borders c.requires.good; b_len = (c.requires.good.exact.borders_long, c.requires.flags_len); starts_len = (ap length said.starts_are ∙ table_long _ _, (rows_in_lem _ _ said.rows).states_long); p_len = (c.requires.p_len, c.requires.states_len.1) }
 
 pub finish-rounds-requires : goal.finish-rounds-requires
-finish-rounds-requires c = let given : Table = front (lent c.args.h c.args.z.now c.args.t.now c.args.b.now c.args.c.now c.args.f.now) in
+finish-rounds-requires c = let given : Table = front (lent_view c.args.view.now) in
     let marked : ℕ → Bool = flagged c.args.flags.now in
     let as_said : PreparedAs (marked) (given) c.prepare.result c.prepare.new.rams c.prepare.new.starts c.prepare.new.states = prepared_as c.prepare.result c.prepare.ensures in
     let said = as_said in
     let t = given in record { finishable = finishable (marked) c.requires.good said.rows (laid_grid (marked) t said.rows c.lay_out.ensures.0) (laid_margins t said.rows said.starts_are c.lay_out.ensures.1); ns_len = c.requires.ns_len; borders_in_bounds = (c.if-atc-borders.false, c.if-left-rows.false) }
 
 pub complete-requires : goal.complete-requires
-complete-requires c = let given : Table = front (lent c.args.h c.args.z.now c.args.t.now c.args.b.now c.args.c.now c.args.f.now) in
+complete-requires c = let given : Table = front (lent_view c.args.view.now) in
     let marked : ℕ → Bool = flagged c.args.flags.now in
     let as_said : PreparedAs (marked) (given) c.prepare.result c.prepare.new.rams c.prepare.new.starts c.prepare.new.states = prepared_as c.prepare.result c.prepare.ensures in
     record { table_factors_in_range = good_factors c.requires.good; borders_in_range = good_borders c.requires.good; b_len = (c.requires.good.exact.borders_long, c.requires.flags_len); states_len = (rows_in_lem _ _ (as_said).rows).states_long; borders_le_borders_most = (header_in_lem _ c.requires.good.exact.header).borders_most_lem; p_value = c.lay_out.ensures.0 }
@@ -97,10 +99,10 @@ pub shape_of-left : goal.shape_of-left
 shape_of-left c = c.finish-rounds.auto.left
 
 pub returns : goal.returns
-returns c = let given : Table = front (lent c.args.h c.args.z.now c.args.t.now c.args.b.now c.args.c.now c.args.f.now) in
+returns c = let given : Table = front (lent_view c.args.view.now) in
     let marked : ℕ → Bool = flagged c.args.flags.now in
     let as_said : PreparedAs (marked) (given) c.prepare.result c.prepare.new.rams c.prepare.new.starts c.prepare.new.states = prepared_as c.prepare.result c.prepare.ensures in
-    let passes : judge_marked (marked) (given) ≡ passed (standings_of (given)).states = start_passed (as_said) c.in_default.is in
+    let passes : judge_marked (marked) (given) ≡ Ok (standings_of (given)).states = start_passed (as_said) c.in_ok-prepare.was in
     let said = as_said in
     let t = given in
     stored_is (marked) c.requires.good said.rows (laid_grid (marked) t said.rows c.lay_out.ensures.0) (laid_margins t said.rows said.starts_are c.lay_out.ensures.1) c.args.p.now c.requires.p_len _ _ _

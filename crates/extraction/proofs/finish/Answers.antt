@@ -16,9 +16,12 @@ pub slice_bounds-store_atcs-end : goal.slice_bounds-store_atcs-end
 slice_bounds-store_atcs-end c = let front : length (take c.args.h.borders c.run-end.result.x) ≡ c.args.h.borders = front_long c.requires.finishable c.run-end.result c.run-end.ensures in
     sym (front)
 
+pub invariant_of-grid : goal.invariant_of-grid
+invariant_of-grid c = omega (arith, c.requires.finishable.run.p_long)
+
 pub store_atcs-requires : goal.store_atcs-requires
 store_atcs-requires c = let front : length (take c.args.h.borders c.run-end.result.x) ≡ c.args.h.borders = front_long c.requires.finishable c.run-end.result c.run-end.ensures in
-    record { borders_in_bounds = (omega (arith, c.requires.finishable.run.p_long), shares_long c.requires.finishable c.run-end.result c.run-end.ensures, omega (arith, (header_in_lem _ c.requires.finishable.run.header).rows_most_lem)); x_len = (front, lasts_long c.requires.finishable c.run-end.result c.run-end.ensures, c.requires.borders_in_bounds.0); by_index = lasts_fit c.requires.finishable c.run-end.result c.run-end.ensures }
+    record { shares_len = (shares_long c.requires.finishable c.run-end.result c.run-end.ensures, omega (arith, (header_in_lem _ c.requires.finishable.run.header).rows_most_lem)); x_len = (front, lasts_long c.requires.finishable c.run-end.result c.run-end.ensures, c.requires.borders_in_bounds.0); by_index = lasts_fit c.requires.finishable c.run-end.result c.run-end.ensures }
 
 pub store_lefts-requires : goal.store_lefts-requires
 store_lefts-requires c = record {

@@ -1,7 +1,6 @@
--- `forms::put_from` meets its contract. The invariant: the buffer keeps its length, and the place is in it. The measure is what is left of the form.
-use Rattle.std.proofs.Common.{◌≡◌, length}
+-- `forms::put_from` meets its contract. The invariant: the place is in the buffer.
 use Rattle.io.specs.Counts.{IsPrefixLen}
 use Rattle.forms.proofs.put_from.Given as goal
 
-abbrev pub invariant-loop-k : goal.invariant-loop-k
-invariant-loop-k l = (length l.out ≡ length l.initial.out) × (IsPrefixLen l.next l.out)
+abbrev pub invariant-loop-byte : goal.invariant-loop-byte
+invariant-loop-byte l = IsPrefixLen l.at l.out

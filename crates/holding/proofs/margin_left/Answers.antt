@@ -1,5 +1,4 @@
 -- `holding::margin_left` meets its contract.
-use borrow.Author.Rules.{rules}
 use borrow.Author.Tests.{eq-eqb, ne_eqb}
 use mir.Facts.{to_z_pos}
 use mir.Syntax.{w64}

@@ -13,26 +13,11 @@ loop-c-init c = filled_none _ _ _
 pub overflow_cast-out : goal.overflow_cast-out
 overflow_cast-out c = record { sfits = (c.requires.by_index c.loop-c.c (omega arith)).0 }
 
-pub offset_bounds-to-c : goal.offset_bounds-to-c
-offset_bounds-to-c c = omega (arith, c.requires.to_len)
-
-pub bounds-to-c : goal.bounds-to-c
-bounds-to-c c = omega (arith, c.requires.to_len)
-
 pub overflow_cast-out-in-loop-c : goal.overflow_cast-out-in-loop-c
 overflow_cast-out-in-loop-c c = record { sfits = (c.requires.by_index c.loop-c.c (omega arith)).1 }
 
-pub offset_bounds-out-c : goal.offset_bounds-out-c
-offset_bounds-out-c c = omega (arith, c.loop-c.invariant.as_long, c.requires.to_len)
-
-pub bounds-out-c : goal.bounds-out-c
-bounds-out-c c = omega (arith, c.loop-c.invariant.as_long, c.requires.to_len)
-
 pub loop-c-preserved : goal.loop-c-preserved
 loop-c-preserved c = filled_more c.loop-c.invariant _ (omega arith) (omega (arith, c.requires.to_len)) (ap₂ (λ (x y : ℤ). x ∷ y ∷ []) (to_z_pos w64 (c.requires.by_index c.loop-c.c (omega arith)).0) (to_z_pos w64 (c.requires.by_index c.loop-c.c (omega arith)).1))
-
-pub shape_of-out : goal.shape_of-out
-shape_of-out c = c.loop-c.invariant.as_long
 
 pub returns : goal.returns
 returns c = filled_over c.loop-c.invariant (omega arith)

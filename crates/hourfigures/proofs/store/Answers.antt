@@ -22,10 +22,9 @@ keep_atcs-requires c = let few = (header_in_lem _ c.requires.h_value.0).borders_
     let within : c.args.h.borders ≤ length c.args.atc.now = omega (arith, few, c.requires.borders_most_in_bounds.1) in
     (omega (arith, few, length-take-le c.args.h.borders c.args.atc.now within), omega (arith, c.requires.k_lt_hours_most.0, c.requires.k_lt_hours_most.2))
 
-pub returns-in-Rounds : goal.returns-in-Rounds
-returns-in-Rounds c = store_answered c.args.k c.args.ways.now c.args.atcs.now c.args.h _ c.args.extracted c.args.atc.now _
-    c.in-Rounds.is c.keep_ways.ensures c.keep_atcs.ensures
+pub returns-in-Ok : goal.returns-in-Ok
+returns-in-Ok c = store_answered c.args.k c.args.ways.now c.args.atcs.now c.args.h _ c.args.extracted c.args.atc.now _
+    c.in-Ok.is c.is_intraday.ensures c.keep_ways.ensures c.keep_atcs.ensures
 
-pub returns-in-Refused : goal.returns-in-Refused
-returns-in-Refused c = store_refused c.args.k c.args.ways.now c.args.atcs.now c.args.h _ c.args.extracted c.args.atc.now _
-    c.in-Refused.is c.refused.ensures
+pub returns-in-Err : goal.returns-in-Err
+returns-in-Err c = store_refused c.args.k c.args.ways.now c.args.atcs.now c.args.h _ c.args.extracted c.args.atc.now _ c.in-Err.is

@@ -1,6 +1,7 @@
 use mathlib.Core.Path.{refl, ◌∙◌}
 use native.Mathlib.Omega.{arith}
 use lib.ListN.{length-set}
+use Rattle.marks.specs.Marks.{every, listed}
 use Rattle.hourtables.proofs.DayLaws.{day_none, day_more}
 use Rattle.hoursheet.proofs.read_hours.Goals as goal
 
@@ -45,7 +46,7 @@ loop-i-preserved c = record {
   hours_long = simp length-set c.loop-i.invariant.hours_long;
   ways_long = c.read_hour-hour.auto.ways ∙ c.loop-i.invariant.ways_long;
   atcs_long = c.read_hour-hour.auto.atcs ∙ c.loop-i.invariant.atcs_long;
-  day = day_more c.args.all c.args.marks.now c.loop-i.invariant.day (omega (arith, c.loop-i.invariant.hours_long, c.requires.0, c.if-k-ge-HOURS_MOST.false)) c.read_hour-hour.ensures;
+  day = day_more (every c.args.marks) (listed c.args.marks) c.loop-i.invariant.day (omega (arith, c.loop-i.invariant.hours_long, c.requires.0, c.if-k-ge-HOURS_MOST.false)) c.read_hour-hour.ensures;
 }
 
 pub shape_of-name : goal.shape_of-name

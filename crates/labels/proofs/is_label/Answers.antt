@@ -1,17 +1,24 @@
-use mathlib.Core.Path.{sym, ◌∙◌}
-use borrow.Author.Tests.{not-true, not-false}
-use Rattle.labels.proofs.LabelLaws.{judging_none, judging_more, judging_bad, judging_all}
-use native.Mathlib.Omega.{arith}
+-- `labels::is_label` meets its contract: what the library's `all` says of its bytes, where there are any.
+use mathlib.Core.Path.{◌≡◌, ◌∙◌}
+use mathlib.Core.Bool.{true, false}
+use borrow.Author.Tests.{tests}
+use lib.Dec.{ltb}
+use lib.ListN.{length}
+use Rattle.std.proofs.Common.{rules}
+use Rattle.std.proofs.lemmas.Iterator.{YieldsList-from_slice}
+use Rattle.std.proofs.lemmas.Iterator.Search.{all_from_yields_List}
+use Rattle.labels.specs.Labels.{label_byte, label_text}
+use Rattle.labels.proofs.LabelLaws.{list_all-label_byte}
 use Rattle.labels.proofs.is_label.Goals as goal
 
-pub loop-i-init : goal.loop-i-init
-loop-i-init c = judging_none _ _
+pub returns-then-not-is_empty : goal.returns-then-not-is_empty
+unfolding label_text
+returns-then-not-is_empty c =
+    let some : ltb 0 (length c.args.label.now) ≡ true = search (rules, tests) in
+    rw some (all_from_yields_List (label_byte c.args.sheet) _ _ _ c.all.ensures.ran (YieldsList-from_slice c.args.label.now cc) (λ x b q k. search (rules, tests)) ∙ list_all-label_byte _ _)
 
-pub returns-then-not-fits : goal.returns-then-not-fits
-returns-then-not-fits c = judging_bad _ _ _ c.loop-i.invariant c.loop-i-test.true (sym c.fits.ensures ∙ not-true _ c.if-not-fits.true-raw)
-
-pub loop-i-preserved : goal.loop-i-preserved
-loop-i-preserved c = judging_more _ _ _ c.loop-i.invariant c.loop-i-test.true (sym c.fits.ensures ∙ not-false _ c.if-not-fits.false-raw)
-
-pub returns : goal.returns
-returns c = judging_all _ _ _ c.loop-i.invariant (omega arith)
+pub returns-else-not-is_empty : goal.returns-else-not-is_empty
+unfolding label_text
+returns-else-not-is_empty c =
+    let none : ltb 0 (length c.args.label.now) ≡ false = search (rules, tests) in
+    rw (none, c.if-not-is_empty.false)

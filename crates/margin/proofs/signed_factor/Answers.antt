@@ -23,36 +23,36 @@ overflow_sub-result c = let from : ℤ = at_ℤ c.args.factors.now c.args.border
     let apart : SFits w64 (from -ℤ to) = within_fits (within_sub from_in to_in) tt in
     simp (to_z-of_z, within_fits from_in tt, within_fits to_in tt) apart
 
-pub offset_bounds-factors-sending : goal.offset_bounds-factors-sending
-offset_bounds-factors-sending c = let sending : ℕ = c.in-Between.sending in
-    let receiving : ℕ = c.in-Between.receiving in
-    let zones : (sending < length c.args.factors.now) × (receiving < length c.args.factors.now) = subst (HubsWithin (length c.args.factors.now)) c.in-Between.is c.requires.border_in_range.hubs_in in
+pub offset_bounds-factors-hubs : goal.offset_bounds-factors-hubs
+offset_bounds-factors-hubs c = let sending : ℕ = c.in-Some.hubs.sending in
+    let receiving : ℕ = c.in-Some.hubs.receiving in
+    let zones : (sending < length c.args.factors.now) × (receiving < length c.args.factors.now) = subst (HubsWithin (length c.args.factors.now)) c.in-Some.is c.requires.border_in_range.hubs_in in
     omega (arith, zones.0, c.requires.factors_in_range.few)
 
-pub bounds-factors-sending : goal.bounds-factors-sending
-bounds-factors-sending c = let sending : ℕ = c.in-Between.sending in
-    let receiving : ℕ = c.in-Between.receiving in
-    let zones : (sending < length c.args.factors.now) × (receiving < length c.args.factors.now) = subst (HubsWithin (length c.args.factors.now)) c.in-Between.is c.requires.border_in_range.hubs_in in
+pub bounds-factors-hubs : goal.bounds-factors-hubs
+bounds-factors-hubs c = let sending : ℕ = c.in-Some.hubs.sending in
+    let receiving : ℕ = c.in-Some.hubs.receiving in
+    let zones : (sending < length c.args.factors.now) × (receiving < length c.args.factors.now) = subst (HubsWithin (length c.args.factors.now)) c.in-Some.is c.requires.border_in_range.hubs_in in
     zones.0
 
-pub offset_bounds-factors-receiving : goal.offset_bounds-factors-receiving
-offset_bounds-factors-receiving c = let sending : ℕ = c.in-Between.sending in
-    let receiving : ℕ = c.in-Between.receiving in
-    let zones : (sending < length c.args.factors.now) × (receiving < length c.args.factors.now) = subst (HubsWithin (length c.args.factors.now)) c.in-Between.is c.requires.border_in_range.hubs_in in
+pub offset_bounds-factors-hubs-in-Some : goal.offset_bounds-factors-hubs-in-Some
+offset_bounds-factors-hubs-in-Some c = let sending : ℕ = c.in-Some.hubs.sending in
+    let receiving : ℕ = c.in-Some.hubs.receiving in
+    let zones : (sending < length c.args.factors.now) × (receiving < length c.args.factors.now) = subst (HubsWithin (length c.args.factors.now)) c.in-Some.is c.requires.border_in_range.hubs_in in
     omega (arith, zones.1, c.requires.factors_in_range.few)
 
-pub bounds-factors-receiving : goal.bounds-factors-receiving
-bounds-factors-receiving c = let sending : ℕ = c.in-Between.sending in
-    let receiving : ℕ = c.in-Between.receiving in
-    let zones : (sending < length c.args.factors.now) × (receiving < length c.args.factors.now) = subst (HubsWithin (length c.args.factors.now)) c.in-Between.is c.requires.border_in_range.hubs_in in
+pub bounds-factors-hubs-in-Some : goal.bounds-factors-hubs-in-Some
+bounds-factors-hubs-in-Some c = let sending : ℕ = c.in-Some.hubs.sending in
+    let receiving : ℕ = c.in-Some.hubs.receiving in
+    let zones : (sending < length c.args.factors.now) × (receiving < length c.args.factors.now) = subst (HubsWithin (length c.args.factors.now)) c.in-Some.is c.requires.border_in_range.hubs_in in
     zones.1
 
-pub overflow_sub-result-in-Between : goal.overflow_sub-result-in-Between
-overflow_sub-result-in-Between c = let from : ℤ = at_ℤ c.args.factors.now c.args.border.from in
+pub overflow_sub-result-in-Some : goal.overflow_sub-result-in-Some
+overflow_sub-result-in-Some c = let from : ℤ = at_ℤ c.args.factors.now c.args.border.from in
     let from_in : Within factor_most from = c.requires.factors_in_range.each.at c.args.border.from c.requires.border_in_range.from_in in
-    let sending : ℕ = c.in-Between.sending in
-    let receiving : ℕ = c.in-Between.receiving in
-    let zones : (sending < length c.args.factors.now) × (receiving < length c.args.factors.now) = subst (HubsWithin (length c.args.factors.now)) c.in-Between.is c.requires.border_in_range.hubs_in in
+    let sending : ℕ = c.in-Some.hubs.sending in
+    let receiving : ℕ = c.in-Some.hubs.receiving in
+    let zones : (sending < length c.args.factors.now) × (receiving < length c.args.factors.now) = subst (HubsWithin (length c.args.factors.now)) c.in-Some.is c.requires.border_in_range.hubs_in in
     let sent : ℤ = at_ℤ c.args.factors.now sending in
     let sent-in : Within factor_most sent = c.requires.factors_in_range.each.at sending zones.0 in
     let first : SFits w64 (from -ℤ sent) = within_fits (within_sub from_in sent-in) tt in
@@ -61,9 +61,9 @@ overflow_sub-result-in-Between c = let from : ℤ = at_ℤ c.args.factors.now c.
 pub overflow_add-result : goal.overflow_add-result
 overflow_add-result c = let from : ℤ = at_ℤ c.args.factors.now c.args.border.from in
     let from_in : Within factor_most from = c.requires.factors_in_range.each.at c.args.border.from c.requires.border_in_range.from_in in
-    let sending : ℕ = c.in-Between.sending in
-    let receiving : ℕ = c.in-Between.receiving in
-    let zones : (sending < length c.args.factors.now) × (receiving < length c.args.factors.now) = subst (HubsWithin (length c.args.factors.now)) c.in-Between.is c.requires.border_in_range.hubs_in in
+    let sending : ℕ = c.in-Some.hubs.sending in
+    let receiving : ℕ = c.in-Some.hubs.receiving in
+    let zones : (sending < length c.args.factors.now) × (receiving < length c.args.factors.now) = subst (HubsWithin (length c.args.factors.now)) c.in-Some.is c.requires.border_in_range.hubs_in in
     let sent : ℤ = at_ℤ c.args.factors.now sending in
     let sent-in : Within factor_most sent = c.requires.factors_in_range.each.at sending zones.0 in
     let received : ℤ = at_ℤ c.args.factors.now receiving in
@@ -72,14 +72,14 @@ overflow_add-result c = let from : ℤ = at_ℤ c.args.factors.now c.args.border
     let second : SFits w64 (from -ℤ sent +ℤ received) = within_fits (within_add (within_sub from_in sent-in) received-in) tt in
     simp (to_z-of_z, within_fits from_in tt, within_fits sent-in tt, within_fits received-in tt, first) second
 
-pub overflow_sub-result-in-Between-2 : goal.overflow_sub-result-in-Between-2
-overflow_sub-result-in-Between-2 c = let from : ℤ = at_ℤ c.args.factors.now c.args.border.from in
+pub overflow_sub-result-in-Some-2 : goal.overflow_sub-result-in-Some-2
+overflow_sub-result-in-Some-2 c = let from : ℤ = at_ℤ c.args.factors.now c.args.border.from in
     let from_in : Within factor_most from = c.requires.factors_in_range.each.at c.args.border.from c.requires.border_in_range.from_in in
     let to : ℤ = at_ℤ c.args.factors.now c.args.border.to in
     let to_in : Within factor_most to = c.requires.factors_in_range.each.at c.args.border.to c.requires.border_in_range.to_in in
-    let sending : ℕ = c.in-Between.sending in
-    let receiving : ℕ = c.in-Between.receiving in
-    let zones : (sending < length c.args.factors.now) × (receiving < length c.args.factors.now) = subst (HubsWithin (length c.args.factors.now)) c.in-Between.is c.requires.border_in_range.hubs_in in
+    let sending : ℕ = c.in-Some.hubs.sending in
+    let receiving : ℕ = c.in-Some.hubs.receiving in
+    let zones : (sending < length c.args.factors.now) × (receiving < length c.args.factors.now) = subst (HubsWithin (length c.args.factors.now)) c.in-Some.is c.requires.border_in_range.hubs_in in
     let sent : ℤ = at_ℤ c.args.factors.now sending in
     let sent-in : Within factor_most sent = c.requires.factors_in_range.each.at sending zones.0 in
     let received : ℤ = at_ℤ c.args.factors.now receiving in
@@ -89,22 +89,22 @@ overflow_sub-result-in-Between-2 c = let from : ℤ = at_ℤ c.args.factors.now 
     let third : SFits w64 (from -ℤ sent +ℤ received -ℤ to) = within_fits (within_sub (within_add (within_sub from_in sent-in) received-in) to_in) tt in
     simp (to_z-of_z, within_fits from_in tt, within_fits sent-in tt, within_fits received-in tt, within_fits to_in tt, first, second) third
 
-pub returns-in-Without : goal.returns-in-Without
-returns-in-Without c = let from : ℤ = at_ℤ c.args.factors.now c.args.border.from in
+pub returns-in-None : goal.returns-in-None
+returns-in-None c = let from : ℤ = at_ℤ c.args.factors.now c.args.border.from in
     let from_in : Within factor_most from = c.requires.factors_in_range.each.at c.args.border.from c.requires.border_in_range.from_in in
     let to : ℤ = at_ℤ c.args.factors.now c.args.border.to in
     let to_in : Within factor_most to = c.requires.factors_in_range.each.at c.args.border.to c.requires.border_in_range.to_in in
     let apart : SFits w64 (from -ℤ to) = within_fits (within_sub from_in to_in) tt in
-    simp (to_z-of_z, within_fits from_in tt, within_fits to_in tt, apart) (signed_without _ _ c.in-Without.is)
+    simp (to_z-of_z, within_fits from_in tt, within_fits to_in tt, apart) (signed_without _ _ c.in-None.is)
 
-pub returns-in-Between : goal.returns-in-Between
-returns-in-Between c = let from : ℤ = at_ℤ c.args.factors.now c.args.border.from in
+pub returns-in-Some : goal.returns-in-Some
+returns-in-Some c = let from : ℤ = at_ℤ c.args.factors.now c.args.border.from in
     let from_in : Within factor_most from = c.requires.factors_in_range.each.at c.args.border.from c.requires.border_in_range.from_in in
     let to : ℤ = at_ℤ c.args.factors.now c.args.border.to in
     let to_in : Within factor_most to = c.requires.factors_in_range.each.at c.args.border.to c.requires.border_in_range.to_in in
-    let sending : ℕ = c.in-Between.sending in
-    let receiving : ℕ = c.in-Between.receiving in
-    let zones : (sending < length c.args.factors.now) × (receiving < length c.args.factors.now) = subst (HubsWithin (length c.args.factors.now)) c.in-Between.is c.requires.border_in_range.hubs_in in
+    let sending : ℕ = c.in-Some.hubs.sending in
+    let receiving : ℕ = c.in-Some.hubs.receiving in
+    let zones : (sending < length c.args.factors.now) × (receiving < length c.args.factors.now) = subst (HubsWithin (length c.args.factors.now)) c.in-Some.is c.requires.border_in_range.hubs_in in
     let sent : ℤ = at_ℤ c.args.factors.now sending in
     let sent-in : Within factor_most sent = c.requires.factors_in_range.each.at sending zones.0 in
     let received : ℤ = at_ℤ c.args.factors.now receiving in
@@ -113,4 +113,4 @@ returns-in-Between c = let from : ℤ = at_ℤ c.args.factors.now c.args.border.
     let second : SFits w64 (from -ℤ sent +ℤ received) = within_fits (within_add (within_sub from_in sent-in) received-in) tt in
     let third : SFits w64 (from -ℤ sent +ℤ received -ℤ to) = within_fits (within_sub (within_add (within_sub from_in sent-in) received-in) to_in) tt in
     simp (to_z-of_z, within_fits from_in tt, within_fits sent-in tt, within_fits received-in tt, within_fits to_in tt, first, second, third)
-    (signed_between _ _ _ _ c.in-Between.is)
+    (signed_between _ _ _ c.in-Some.is)

@@ -1,20 +1,18 @@
--- `marks::judge` meets its contract: no mark (`none-given`), the first faulty one (`mark-faulty`), or neither (`marks-good`).
-use mathlib.Core.Path.{sym, ap, ◌∙◌}
+-- `marks::judge` meets its contract: no mark (`none_given`), the first faulty one (`mark_faulty`), or neither (`marks_good`).
+use mathlib.Core.Path.{sym, ◌∙◌}
 use native.Mathlib.Omega.{arith}
-use Rattle.numbers.specs.First.{found}
 use Rattle.numbers.proofs.FirstLaws.{first_within}
-use Rattle.refusals.specs.Refusals.{refused}
 use Rattle.marks.proofs.MarkLaws.{none_given, mark_faulty, marks_good}
 use Rattle.marks.proofs.judge.Goals as goal
 
-pub returns-then-marks-eq0 : goal.returns-then-marks-eq0
-returns-then-marks-eq0 c = ap refused c.bad_mark.ensures ∙ none_given _ _ _ c.if-marks-eq0.true
+pub returns-then-is_empty : goal.returns-then-is_empty
+returns-then-is_empty c = none_given _ _ _ (grind (arith, c.if-is_empty.true, c.is_empty.ensures))
 
-pub overflow_add-k : goal.overflow_add-k
-overflow_add-k c = omega (arith, first_within _ _ (sym (ap found c.in-At.is) ∙ c.first_faulty.ensures))
+pub overflow_add-result : goal.overflow_add-result
+overflow_add-result c = omega (arith, first_within _ _ (sym c.in-Some.is ∙ c.first_faulty.ensures))
 
-pub returns-in-At : goal.returns-in-At
-returns-in-At c = ap refused c.bad_mark-in-At.ensures ∙ mark_faulty _ _ _ (omega (arith, c.if-marks-eq0.false)) (sym (ap found c.in-At.is) ∙ c.first_faulty.ensures)
+pub returns-in-Some : goal.returns-in-Some
+returns-in-Some c = mark_faulty _ _ _ (grind (arith, c.if-is_empty.false, c.is_empty.ensures)) (sym c.in-Some.is ∙ c.first_faulty.ensures)
 
-pub returns : goal.returns
-returns c = marks_good _ _ _ (omega (arith, c.if-marks-eq0.false)) (sym (ap found c.in_default.is) ∙ c.first_faulty.ensures)
+pub returns-in-None : goal.returns-in-None
+returns-in-None c = marks_good _ _ _ (grind (arith, c.if-is_empty.false, c.is_empty.ensures)) (sym c.in-None.is ∙ c.first_faulty.ensures)

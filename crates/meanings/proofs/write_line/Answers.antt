@@ -1,12 +1,11 @@
 -- `meanings::write_line` meets its contract: too short (`text-short`), or the words and then what stood there (`text_out`).
 use mathlib.Core.Path.{◌≡◌, sym, ap, ◌∙◌}
-use mathlib.Core.List.{List}
+use mathlib.Core.List.{List, ◌++◌}
 use Prim.Native.Nat.{ℕ, ◌-◌}
 use native.Mathlib.Omega.{arith}
-use lib.ListN.{length, take}
+use lib.ListN.{length, take, drop}
 use lib.Seq.{length-take-le}
 use Rattle.text.specs.Line.{line_at}
-use Rattle.numbers.specs.Below.{over}
 use Rattle.text.proofs.LeftLaws.{text_short, text_out}
 use Rattle.meanings.specs.Meanings.{line_begin, words_at}
 use Rattle.meanings.proofs.write_line.Goals as goal
@@ -22,16 +21,13 @@ module _ (list line : List ℕ) (k at n : ℕ) (begin : at ≡ line_begin list k
   long : n ≡ length (words_at list k)
   long = sym (length-take-le n line (omega arith)) ∙ ap length words
 
-pub line_at-line-requires : goal.line_at-line-requires
-line_at-line-requires c = c.line_begin.ensures.1
-
 pub returns-then-out-n : goal.returns-then-out-n
-returns-then-out-n c = let e = long c.args.list.now _ c.args.k _ _ c.line_begin.ensures.0 c.line_at-line.ensures c.less_one-n.ensures in
-    rw c.too_short.ensures (text_short (words_at c.args.list.now c.args.k) c.args.out.now _ e (omega arith))
-
-pub put_words-requires : goal.put_words-requires
-put_words-requires c = (omega (arith, c.less_one-n.ensures), omega (arith, c.if-out-n.false))
+returns-then-out-n c = let e = long c.args.list.now _ c.args.k _ _ c.line_begin.ensures.0 c.line_at-line.ensures c.saturating_sub-n.ensures in
+    text_short (words_at c.args.list.now c.args.k) c.args.out.now _ e (omega arith)
 
 pub returns : goal.returns
-returns c = let e = long c.args.list.now _ c.args.k _ _ c.line_begin.ensures.0 c.line_at-line.ensures c.less_one-n.ensures in
-    text_out (words_at c.args.list.now c.args.k) c.args.out.now (omega (arith, e)) (e, c.put_words.ensures ∙ ap (λ (w : List ℕ). over w c.args.out.now) (words c.args.list.now _ c.args.k _ _ c.line_begin.ensures.0 c.line_at-line.ensures c.less_one-n.ensures))
+returns c =
+    let less : c.saturating_sub-n.result ≡ length c.line_at-line.result.now - 1 = c.saturating_sub-n.ensures in
+    let e = long c.args.list.now _ c.args.k _ _ c.line_begin.ensures.0 c.line_at-line.ensures less in
+    let put : c.copy_from_slice.new.self ≡ words_at c.args.list.now c.args.k = c.copy_from_slice.ensures.after ∙ words c.args.list.now _ c.args.k _ _ c.line_begin.ensures.0 c.line_at-line.ensures less in
+    text_out (words_at c.args.list.now c.args.k) c.args.out.now (omega (arith, e)) (e, ap (λ (l : List ℕ). l ++ drop c.saturating_sub-n.result c.args.out.now) put ∙ ap (λ (j : ℕ). words_at c.args.list.now c.args.k ++ drop j c.args.out.now) e)

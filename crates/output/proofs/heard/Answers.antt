@@ -1,13 +1,13 @@
--- `output::heard` meets its contract: a law for each of its three ends.
 use mathlib.Core.Path.{◌∙◌}
+use native.Mathlib.Omega.{arith}
 use Rattle.output.proofs.HeardLaws.{heard_none, heard_refusal, heard_other}
 use Rattle.output.proofs.heard.Goals as goal
 
-pub returns-then-printed-eq0 : goal.returns-then-printed-eq0
-returns-then-printed-eq0 c = heard_none _ c.if-printed-eq0.true
+pub returns-in-69 : goal.returns-in-69
+returns-in-69 c = c.refusal_in.ensures ∙ heard_refusal _ (omega arith)
 
-pub returns-then-printed-eq69 : goal.returns-then-printed-eq69
-returns-then-printed-eq69 c = c.refusal_in.ensures ∙ heard_refusal _ c.if-printed-eq69.true
+pub returns-in_default : goal.returns-in_default
+returns-in_default c = heard_none _ (omega arith)
 
-pub returns : goal.returns
-returns c = heard_other _ c.if-printed-eq69.false
+pub returns-in_default-2 : goal.returns-in_default-2
+returns-in_default-2 c = heard_other _ (λ e. omega arith)

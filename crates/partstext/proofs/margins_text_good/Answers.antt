@@ -1,9 +1,9 @@
 -- `partstext::margins_text_good` meets its contract: the records stand in front of the working memory, which has room for every table, and then their text.
+use Rattle.std.specs.Prelude.{Ok}
 use mathlib.Core.Path.{sym, ap, ◌∙◌}
 use mathlib.Core.List.{List}
 use lib.IntN.{ℤ}
 use lib.Seq.{length-take-le}
-use Rattle.refusals.specs.Refusals.{passed}
 use Rattle.types.proofs.RangeLaws.{header_in_lem}
 use Rattle.text.specs.Left.{text_left}
 use Rattle.partstext.specs.PartsText.{parts_text}
@@ -24,4 +24,4 @@ write_parts-requires c = let short = records_short c.requires _ c.margins_good.e
 
 pub returns : goal.returns
 returns c = c.write_parts.ensures
-    ∙ ap (λ (rs : List (List ℤ)). text_left (passed (parts_text rs)) c.args.out.now) (records_first c.requires _ c.margins_good.ensures)
+    ∙ ap (λ (rs : List (List ℤ)). text_left (Ok (parts_text rs)) c.args.out.now) (records_first c.requires _ c.margins_good.ensures)

@@ -7,7 +7,7 @@ pub text_length-needed-requires : goal.text_length-needed-requires
 text_length-needed-requires c = c.requires
 
 pub returns-then-out-needed : goal.returns-then-out-needed
-returns-then-out-needed c = rw c.too_short.ensures (text_short _ _ _ c.text_length-needed.ensures (omega arith))
+returns-then-out-needed c = text_short _ _ _ c.text_length-needed.ensures (omega arith)
 
 pub put_parts-requires : goal.put_parts-requires
 put_parts-requires c = omega (arith, c.text_length-needed.ensures)

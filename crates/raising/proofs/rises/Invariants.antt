@@ -1,10 +1,6 @@
--- `raising::rises` meets its contract: none of the first j listed borders rises (`Still`), and where one does, it counts.
-use Prim.Native.Nat.{◌-◌}
+-- `raising::rises` meets its contract: none of the first listed borders rises (`Still`), and where one does, it counts.
 use Rattle.raising.proofs.StillLaws.{Still}
 use Rattle.raising.proofs.rises.Given as goal
 
-abbrev pub invariant-loop-j : goal.invariant-loop-j
-invariant-loop-j l = Still l.caps l.rising l.live l.j
-
-abbrev pub decreases-loop-j : goal.decreases-loop-j
-decreases-loop-j l = l.live - l.j
+abbrev pub invariant-loop-b : goal.invariant-loop-b
+invariant-loop-b l = Still l.caps l.rising l.b-index

@@ -2,11 +2,11 @@
 use Prim.Native.Nat.{◌-◌}
 use Rattle.numbers.proofs.ListLaws.{Filled}
 use Rattle.rounds.specs.Rounds.{lowered}
-use Rattle.rounds.specs.AllRounds.{flat}
+use Rattle.walk.specs.Flat.{flat_of}
 use Rattle.resting.proofs.settle.Given as goal
 
 abbrev pub invariant-loop-i : goal.invariant-loop-i
-invariant-loop-i l = Filled (lowered (flat l.rows l.borders l.p) l.gained l.initial.margins) l.rows l.initial.margins l.margins l.i
+invariant-loop-i l = Filled (lowered (flat_of l.grid) l.gained l.initial.margins) l.grid.rows l.initial.margins l.margins l.i
 
 abbrev pub decreases-loop-i : goal.decreases-loop-i
-decreases-loop-i l = l.rows - l.i
+decreases-loop-i l = l.grid.rows - l.i

@@ -1,25 +1,25 @@
-use mathlib.Core.Path.{ap}
-use mathlib.Core.Bool.{Bool, not}
-use mathlib.Core.Option.{Option}
-use Prim.Native.Nat.{ℕ}
-use native.Mathlib.Omega.{arith}
-use borrow.Author.Tests.{eq-eqb, ne_eqb}
-use Rattle.numbers.specs.Below.{given}
-use Rattle.numbers.proofs.BelowLaws.{looked_none, looked_all, looked_here, looked_more}
+-- `start::all_marked` meets its contract.
+use Rattle.std.specs.Prelude.{IsTrue, ◌↔◌}
+use Rattle.std.specs.List.{Contains}
+use mathlib.Core.Path.{◌≡◌, refl, ap, ◌∙◌}
+use mathlib.Core.Bool.{Bool, true, false, not}
+use borrow.Author.Rules.{rules}
+use lib.Dec.{eqb}
+use lib.ListN.{length}
+use Rattle.numbers.specs.Below.{at, given}
+use Rattle.numbers.proofs.BelowLaws.{first_cong}
 use Rattle.marks.specs.Marks.{flagged}
+use Rattle.marks.proofs.MarkLaws.{contained}
 use Rattle.start.proofs.all_marked.Goals as goal
 
-pub loop-k-init : goal.loop-k-init
-loop-k-init c = looked_none _ _
-
-pub returns-then-flags-k-eq0 : goal.returns-then-flags-k-eq0
-unfolding given flagged
-returns-then-flags-k-eq0 c = ap (λ (o : Option ℕ). not (given o)) (looked_here _ _ _ c.loop-k.invariant (omega arith) (ap (λ (t : Bool). not (not t)) (eq-eqb _ _ c.if-flags-k-eq0.true)))
-
-pub loop-k-preserved : goal.loop-k-preserved
-unfolding flagged
-loop-k-preserved c = looked_more _ _ _ c.loop-k.invariant (omega arith) (ap (λ (t : Bool). not (not t)) (ne_eqb _ _ c.if-flags-k-eq0.false))
+twice : (t : Bool) → t ≡ not (not t)
+twice true = refl
+twice false = refl
 
 pub returns : goal.returns
-unfolding given
-returns c = ap (λ (o : Option ℕ). not (given o)) (looked_all _ _ _ c.loop-k.invariant (omega arith))
+unfolding flagged
+returns c =
+    let has : IsTrue c.contains.result ↔ Contains c.args.flags.now 0 = search rules in
+    ap not
+    (contained c.args.flags.now 0 _ has
+    ∙ ap given (first_cong (length c.args.flags.now) (λ k. eqb (at c.args.flags.now k) 0) (λ k. not (flagged c.args.flags.now k)) (λ k l. twice (eqb (at c.args.flags.now k) 0))))

@@ -1,6 +1,5 @@
 use native.Mathlib.Omega.{arith}
 use Rattle.numbers.proofs.ListLaws.{filled_none, filled_more, filled_all}
-use Rattle.staterules.specs.States.{state_of}
 use Rattle.states.proofs.fill_states.Goals as goal
 
 pub loop-i-init : goal.loop-i-init

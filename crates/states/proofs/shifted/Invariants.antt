@@ -1,7 +1,5 @@
 -- `states::shifted` meets its contract. The loop's invariant: searching from zone z on finds what the whole search finds. Zone 0 differs as itself.
--- The measure is the zones that are left.
 use mathlib.Core.Bool.{not}
-use Prim.Native.Nat.{◌-◌}
 use lib.IntN.{◌-ℤ◌}
 use lib.ListN.{length}
 use Rattle.numbers.specs.Ints.{same_ℤ}
@@ -11,6 +9,3 @@ use Rattle.states.proofs.shifted.Given as goal
 
 abbrev pub invariant-loop-z : goal.invariant-loop-z
 invariant-loop-z l = Looked (length l.fs) (λ z. not (same_ℤ (at_ℤ l.fs z -ℤ at_ℤ l.gs z) (at_ℤ l.fs 0 -ℤ at_ℤ l.gs 0))) l.z
-
-abbrev pub decreases-loop-z : goal.decreases-loop-z
-decreases-loop-z l = length l.fs - l.z

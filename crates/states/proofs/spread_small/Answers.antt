@@ -8,9 +8,8 @@ use lib.ListN.{length, drop}
 use mir.Facts.{to_z-of_z}
 use mir.Syntax.{w64}
 use mir.Val.{SFits, to_z}
-use Rattle.numbers.specs.Ints.{Within, max_ℤ, min_ℤ}
+use Rattle.numbers.specs.Ints.{max_ℤ, min_ℤ}
 use Rattle.numbers.proofs.IntLaws.{within_fits, within_max, within_min}
-use Rattle.types.specs.LineLimits.{factor_most}
 use Rattle.types.specs.Ranges.{at_ℤ}
 use Rattle.staterules.specs.States.{highest, lowest}
 use Rattle.marginrules.specs.Magnitudes.{FactorsInRange}

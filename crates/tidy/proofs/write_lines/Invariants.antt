@@ -6,7 +6,7 @@ use Rattle.tidy.proofs.LinesLeft.{LinesLeft}
 use Rattle.tidy.proofs.write_lines.Given as goal
 
 abbrev pub invariant-loop-p : goal.invariant-loop-p
-invariant-loop-p l = LinesLeft l.text l.from l.initial.out l.p l.at l.kept l.out
+invariant-loop-p l = LinesLeft l.text l.initial.out l.p l.at l.kept l.out
 
 abbrev pub decreases-loop-p : goal.decreases-loop-p
 decreases-loop-p l = length l.text - l.p

@@ -1,19 +1,30 @@
-use Prim.Native.Nat.{◌+◌}
-use mathlib.Core.Path.{sym, ◌∙◌}
+-- `tidyfields::decimals_past` meets its contract: what is behind the first digits says how many decimals there are (`past_behind`).
+use mathlib.Core.Path.{◌≡◌}
 use native.Mathlib.Omega.{arith}
-use borrow.Author.Tests.{lt-ltb, le-ltb, not-true, not-false}
-use lib.Dec.{ltb}
-use Rattle.tidyfields.proofs.PieceLaws.{past_end, past_step, past_stop}
+use lib.ListN.{drop}
+use Rattle.std.proofs.Common.{rules}
+use Rattle.std.proofs.lemmas.Grind.{common_steps}
+use Rattle.std.specs.List.{prefix_len}
+use Rattle.std.proofs.lemmas.List.Sums.{prefix_len-le-length}
+use Rattle.text.specs.Fields.{is_digit}
+use Rattle.tidyfields.proofs.PieceLaws.{past_behind}
 use Rattle.tidyfields.proofs.decimals_past.Goals as goal
 
-pub loop-i-init : goal.loop-i-init
-loop-i-init c = (omega arith, rw (le-ltb c.args.at c.args.at (omega arith)))
+pub split_at-requires : goal.split_at-requires
+split_at-requires c = search (rules, prefix_len-le-length)
 
-pub returns-then-not-between : goal.returns-then-not-between
-returns-then-not-between c = c.decimals_behind.ensures ∙ past_stop c.args.f.now c.loop-i.i c.loop-i-test.true (ltb c.args.at c.loop-i.i) (sym c.between.ensures ∙ not-true c.between.result c.if-not-between.true-raw) ∙ c.loop-i.invariant.1
+pub returns-in-46 : goal.returns-in-46
+returns-in-46 c = let e : c.split_at.result.1.now ≡ drop (prefix_len is_digit c.args.f.now) c.args.f.now = search rules in
+    rw (← past_behind c.args.f.now c.split_at.result.1.now e) (grind (arith, common_steps))
 
-pub loop-i-preserved : goal.loop-i-preserved
-loop-i-preserved c = (omega arith, rw (lt-ltb c.args.at (c.loop-i.i + 1) (omega arith)) (sym (past_step c.args.f.now c.loop-i.i c.loop-i-test.true (ltb c.args.at c.loop-i.i) (sym c.between.ensures ∙ not-false c.between.result c.if-not-between.false-raw)) ∙ c.loop-i.invariant.1))
+pub returns-in_default : goal.returns-in_default
+returns-in_default c = let e : c.split_at.result.1.now ≡ drop (prefix_len is_digit c.args.f.now) c.args.f.now = search rules in
+    rw (← past_behind c.args.f.now c.split_at.result.1.now e) (search rules)
 
-pub returns : goal.returns
-returns c = past_end c.args.f.now c.loop-i.i (ltb c.args.at c.loop-i.i) (omega arith) ∙ c.loop-i.invariant.1
+pub returns-in_default-2 : goal.returns-in_default-2
+returns-in_default-2 c = let e : c.split_at.result.1.now ≡ drop (prefix_len is_digit c.args.f.now) c.args.f.now = search rules in
+    rw (← past_behind c.args.f.now c.split_at.result.1.now e) (grind (arith, common_steps))
+
+pub returns-in_default-4 : goal.returns-in_default-4
+returns-in_default-4 c = let e : c.split_at.result.1.now ≡ drop (prefix_len is_digit c.args.f.now) c.args.f.now = search rules in
+    rw (← past_behind c.args.f.now c.split_at.result.1.now e) (search rules)

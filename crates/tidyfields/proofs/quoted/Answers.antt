@@ -1,14 +1,9 @@
--- `tidyfields::quoted` meets its contract.
-use native.Mathlib.Omega.{arith}
-use Rattle.tidyrules.specs.Fields.{closes}
-use Rattle.tidyfields.proofs.PieceLaws.{quoted_empty, quoted_some, quoted_not}
+use Rattle.std.proofs.Common.{rules}
+use Rattle.tidyfields.proofs.PieceLaws.{quoted_ends}
 use Rattle.tidyfields.proofs.quoted.Goals as goal
 
-pub returns-then-f-eq0 : goal.returns-then-f-eq0
-returns-then-f-eq0 c = quoted_empty c.args.f.now c.if-f-eq0.true
+pub returns-in-34 : goal.returns-in-34
+returns-in-34 c = rw (← quoted_ends c.args.f.now c.in-34.len_at_least) (search rules)
 
-pub returns-then-f-eq34 : goal.returns-then-f-eq34
-returns-then-f-eq34 c = quoted_some c.args.f.now c.closes.result (omega arith) c.if-f-eq34.true c.closes.ensures
-
-pub returns : goal.returns
-returns c = quoted_not c.args.f.now c.if-f-eq34.false
+pub returns-in_default-2 : goal.returns-in_default-2
+returns-in_default-2 c = rw (← quoted_ends c.args.f.now c.in_default.len_at_least) (search rules)

@@ -1,26 +1,14 @@
--- `tidyfields::trimmed` meets its contract: the part between begin and end is what is left (`part-trimmed`).
-use Prim.Native.Nat.{◌≤◌}
-use mathlib.Core.Path.{◌≡◌, sym}
-use native.Mathlib.Omega.{arith}
-use lib.ListN.{length, take, length-take}
-use lib.Seq.{length-take-le}
-use Rattle.tidyrules.specs.Fields.{untrailed}
-use Rattle.tidyfields.proofs.PieceLaws.{untrailed_le, part_trimmed}
+use mathlib.Core.Path.{sym, ap, ◌∙◌}
+use Rattle.tidyrules.specs.Fields.{unled}
+use Rattle.tidyfields.proofs.PieceLaws.{end_none, end_drops, end_keeps}
+use Rattle.tidyfields.proofs.trimmed.Goals.{in_default, in-len1-up+then-not-edge}
 use Rattle.tidyfields.proofs.trimmed.Goals as goal
 
-pub slice_bounds-begin_of-end : goal.slice_bounds-begin_of-end
-slice_bounds-begin_of-end c = let is : c.end_of-e.result ≡ length (untrailed c.args.last c.args.f.now) = c.end_of-e.ensures in
-    sym (length-take-le c.end_of-e.result c.args.f.now (omega (arith, untrailed_le c.args.last c.args.f.now)))
+pub loop-rest-preserved : goal.loop-rest-preserved
+loop-rest-preserved c = end_drops c.args.last c.loop-rest.rest.now c.in-len1-up.len_at_least (sym c.edge.ensures ∙ c.if-not-edge.false) ∙ c.loop-rest.invariant
 
-pub slice_bounds-result-count : goal.slice_bounds-result-count
-slice_bounds-result-count c = let low : c.begin_of-b.result ≤ length (take c.end_of-e.result c.args.f.now) = c.begin_of-b.ensures.0 in omega (arith, length-take c.end_of-e.result c.args.f.now)
-
-pub slice_bounds-result-start : goal.slice_bounds-result-start
-slice_bounds-result-start c = let low : c.begin_of-b.result ≤ length (take c.end_of-e.result c.args.f.now) = c.begin_of-b.ensures.0 in omega (arith, length-take c.end_of-e.result c.args.f.now)
-
-pub slice_bounds-result-end : goal.slice_bounds-result-end
-slice_bounds-result-end c = let is : c.end_of-e.result ≡ length (untrailed c.args.last c.args.f.now) = c.end_of-e.ensures in
-    omega (arith, untrailed_le c.args.last c.args.f.now)
-
-pub returns : goal.returns
-returns c = part_trimmed c.args.last c.args.f.now c.end_of-e.result c.begin_of-b.result c.end_of-e.ensures c.begin_of-b.ensures.0 c.begin_of-b.ensures.1
+pub loop-rest-2-init : goal.loop-rest-2-init
+loop-rest-2-init c = ap unled (sym (elim c.if-rest-lt1.branch [
+  | in_default w ↦ end_none c.args.last c.loop-rest.rest.now w.in_default.len_below
+  | in-len1-up+then-not-edge w ↦ end_keeps c.args.last c.loop-rest.rest.now w.in-len1-up.len_at_least (sym w.edge.ensures ∙ w.if-not-edge.true)
+]) ∙ c.loop-rest.invariant)

@@ -5,16 +5,10 @@ use Rattle.numbers.specs.Below.{table}
 use Rattle.walk.proofs.begin.Goals as goal
 
 pub first_caps-requires : goal.first_caps-requires
-first_caps-requires c = record { borders_in_bounds = c.requires.borders_in_bounds; margins_len = c.requires.ready.margins; caps_len = c.requires.rising_len.1 }
+first_caps-requires c = record { margins_len = c.requires.ready.margins; caps_len = c.requires.rising_len.1 }
 
 pub first_raises-requires : goal.first_raises-requires
-first_raises-requires c = record { borders_in_bounds = c.requires.borders_in_bounds; ready = c.requires.ready; rising_value = c.list_all.ensures ∙ ap (λ (k : ℕ). table k (λ (b : ℕ). b)) c.requires.rising_len.0; caps_len = c.first_caps.auto.caps ∙ c.requires.rising_len.1; caps = c.first_caps.ensures }
-
-pub shape_of-rising : goal.shape_of-rising
-shape_of-rising c = c.list_all.auto.rising
-
-pub shape_of-caps : goal.shape_of-caps
-shape_of-caps c = c.first_raises.auto.caps ∙ c.first_caps.auto.caps
+first_raises-requires c = record { ready = c.requires.ready; rising_value = c.list_all.ensures ∙ ap (λ (k : ℕ). table k (λ (b : ℕ). b)) c.requires.rising_len.0; caps_len = c.first_caps.auto.caps ∙ c.requires.rising_len.1; caps = c.first_caps.ensures }
 
 pub returns : goal.returns
 returns c = (c.list_all.ensures ∙ ap (λ (k : ℕ). table k (λ (b : ℕ). b)) c.requires.rising_len.0, c.first_raises.ensures)

@@ -6,10 +6,7 @@ pub loop-i-init : goal.loop-i-init
 loop-i-init c = unloaded_none _ _
 
 pub factor-requires : goal.factor-requires
-factor-requires c = (c.requires.borders_in_bounds.0, omega arith, c.requires.borders_in_bounds.1)
-
-pub bounds-margins-i : goal.bounds-margins-i
-bounds-margins-i c = omega (arith, c.requires.margins_len)
+factor-requires c = (omega arith, c.requires.border_in_bounds)
 
 pub returns-then-factor-gt0 : goal.returns-then-factor-gt0
 returns-then-factor-gt0 c = margin_first _ _ _ _ _ (omega arith) c.factor.ensures c.if-factor-gt0.true

@@ -6,14 +6,8 @@ use Rattle.walk.proofs.list_all.Goals as goal
 pub loop-b-init : goal.loop-b-init
 loop-b-init c = filled_none _ _ _
 
-pub bounds-rising-b : goal.bounds-rising-b
-bounds-rising-b c = omega (arith, c.loop-b.invariant.as_long)
-
 pub loop-b-preserved : goal.loop-b-preserved
 loop-b-preserved c = filled_more c.loop-b.invariant _ (omega arith) (omega arith) refl
-
-pub shape_of-rising : goal.shape_of-rising
-shape_of-rising c = c.loop-b.invariant.as_long
 
 pub returns : goal.returns
 returns c = filled_all c.loop-b.invariant (omega arith) refl

@@ -10,10 +10,7 @@ pub nonzero_div-margin : goal.nonzero_div-margin
 nonzero_div-margin c = tight_n _ _ _ c.if-margin-most.true
 
 pub lower_caps-requires : goal.lower_caps-requires
-lower_caps-requires c = record { borders_in_bounds = c.requires.borders_in_bounds; listed = c.requires.listed; caps_len = c.requires.caps_len }
-
-pub shape_of-caps : goal.shape_of-caps
-shape_of-caps c = c.lower_caps.auto.caps
+lower_caps-requires c = record { row_in_bounds = c.requires.row_in_bounds; listed = c.requires.listed; caps_len = c.requires.caps_len }
 
 pub returns-then-margin-most : goal.returns-then-margin-most
 returns-then-margin-most c = c.lower_caps.ensures

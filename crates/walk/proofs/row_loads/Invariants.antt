@@ -1,11 +1,7 @@
--- `walk::row_loads` meets its contract: the loss and the most part of the first j listed borders (`Parting`). Each partial sum is within the row's margin, and so fits.
-use Prim.Native.Nat.{◌-◌}
-use Rattle.rounds.specs.AllRounds.{flat}
+-- `walk::row_loads` meets its contract: the loss and the most part of the first listed borders (`Parting`). Each partial sum is within the row's margin, and so fits.
+use Rattle.walk.specs.Flat.{flat_of}
 use Rattle.walk.proofs.LoadLaws.{Parting}
 use Rattle.walk.proofs.row_loads.Given as goal
 
-abbrev pub invariant-loop-j : goal.invariant-loop-j
-invariant-loop-j l = Parting (flat l.rows l.borders l.p) l.i l.raises l.caps l.rising l.live l.j l.loss l.most
-
-abbrev pub decreases-loop-j : goal.decreases-loop-j
-decreases-loop-j l = l.live - l.j
+abbrev pub invariant-loop-b : goal.invariant-loop-b
+invariant-loop-b l = Parting (flat_of l.grid) l.i l.raises l.caps l.rising l.b-index l.loss l.most

@@ -1,10 +1,6 @@
 -- `columns::write::put_fields` meets its contract.
-use Prim.Native.Nat.{◌-◌}
 use Rattle.columns.proofs.ColumnPut.{Writing}
 use Rattle.columns.proofs.write.put_fields.Given as goal
 
 abbrev pub invariant-loop-k : goal.invariant-loop-k
 invariant-loop-k l = Writing l.columns l.values l.sep l.last l.at l.initial.out l.out l.next l.k
-
-abbrev pub decreases-loop-k : goal.decreases-loop-k
-decreases-loop-k l = l.n - l.k

@@ -8,7 +8,6 @@ use Rattle.text.specs.Put.{Put}
 use Rattle.text.proofs.PutLaws.{put_more, put_room}
 use Rattle.columns.specs.declared.Head.{Head}
 use Rattle.columns.specs.ColumnText.{index_text, head_text}
-use Rattle.columns.proofs.write.put_head.Given as x
 use Rattle.columns.proofs.write.put_head.Goals as goal
 
 pub put_letter-requires : goal.put_letter-requires

@@ -13,4 +13,4 @@ returns-in_default c = let field : c.index_at.result ≡ number_at c.args.line.n
 pub returns : goal.returns
 unfolding of_row
 returns c = let field : c.index_at.result ≡ number_at c.args.line.now (index_place c.args.kind) (sep_by c.args.kind) = c.index_at.ensures ∙ ap (number_at c.args.line.now (index_place c.args.kind)) c.sep_of.ensures in
-    rw (sym (field) ∙ c.in-Value.is)
+    rw (sym (field) ∙ c.in-Ok.is)

@@ -5,5 +5,5 @@ use Rattle.corrections.proofs.handed.row_line.Goals as goal
 pub returns-then-of_row : goal.returns-then-of_row
 returns-then-of_row c = rw (sym c.of_row.ensures ∙ c.if-of_row.true) refl
 
-pub returns : goal.returns
-returns c = rw (sym c.of_row.ensures ∙ c.if-of_row.false) refl
+pub returns-else-of_row : goal.returns-else-of_row
+returns-else-of_row c = rw (sym c.of_row.ensures ∙ c.if-of_row.false) refl

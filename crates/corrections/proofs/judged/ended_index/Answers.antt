@@ -3,10 +3,10 @@ use mathlib.Core.Path.{sym, ◌∙◌}
 use Rattle.corrections.specs.Corrections.{ended_index}
 use Rattle.corrections.proofs.judged.ended_index.Goals as goal
 
-pub returns-in-Value : goal.returns-in-Value
+pub returns-in-Ok : goal.returns-in-Ok
 unfolding ended_index
-returns-in-Value c = rw (sym c.index_at.ensures ∙ c.in-Value.is)
+returns-in-Ok c = rw (sym c.index_at.ensures ∙ c.in-Ok.is)
 
-pub returns-in-Bad : goal.returns-in-Bad
+pub returns-in-Err : goal.returns-in-Err
 unfolding ended_index
-returns-in-Bad c = rw (sym c.index_at.ensures ∙ c.in-Bad.is)
+returns-in-Err c = rw (sym c.index_at.ensures ∙ c.in-Err.is)

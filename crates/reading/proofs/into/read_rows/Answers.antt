@@ -1,14 +1,15 @@
 -- `reading::into::read_rows` meets its contract: a refused C line decides, or what follows the last one, or what is judged after it; one law of `JudgedTextLaws` for each.
+use Rattle.std.specs.Prelude.{Err}
 use mathlib.Core.Path.{◌≡◌, sym, ap, ap₂, ◌∙◌}
 use mathlib.Core.List.{List}
 use Prim.Native.Nat.{ℕ, ◌+◌, ◌*◌, ◌≤◌}
 use native.Mathlib.Omega.{arith}
+use Rattle.std.proofs.lemmas.Result.{err_from_is_err_and}
 use lib.ListN.{length, drop}
 use lib.Seq.{length-take-le}
-use Rattle.refusals.specs.Refusals.{refused, wrong_form}
+use Rattle.refusals.specs.Refusals.{wrong_form, Judged}
 use Rattle.types.proofs.RangeLaws.{header_in_lem, allocated_most}
 use Rattle.corrections.specs.Corrections.{judge_corrections}
-use Rattle.sections.specs.declared.End.{End}
 use Rattle.rowlines.specs.Rows.{cut}
 use Rattle.sections.specs.Stored.{stored_section}
 use Rattle.tablerules.specs.Table.{zone_line_no}
@@ -36,8 +37,8 @@ pub slice_bounds-rows_read-end-2 : goal.slice_bounds-rows_read-end-2
 slice_bounds-rows_read-end-2 c = let room-c : c.args.h.rows ≤ length c.args.c.now = omega (arith, (header_in_lem _ c.requires.bordered.fits).rows_most_lem, c.requires.roomy.rows) in
     sym (length-take-le _ _ (room-c))
 
-pub overflow_mul-rows : goal.overflow_mul-rows
-overflow_mul-rows c = omega (arith, factors_most _ c.requires.bordered.fits)
+pub overflow_mul-h : goal.overflow_mul-h
+overflow_mul-h c = omega (arith, factors_most _ c.requires.bordered.fits)
 
 pub slice_bounds-rows_read-end-3 : goal.slice_bounds-rows_read-end-3
 slice_bounds-rows_read-end-3 c = let room-f : c.args.h.rows * c.args.h.zones ≤ length c.args.f.now = omega (arith, factors_most _ c.requires.bordered.fits, c.requires.roomy.factors) in
@@ -53,35 +54,36 @@ rows_read-requires c = let room-c : c.args.h.rows ≤ length c.args.c.now = omeg
     let h = header_in_lem _ c.requires.bordered.fits in
     let long = length-take-le c.args.h.rows c.args.c.now (room-c) in record { at_in_bounds = (c.requires.bordered.within, omega (arith, h, c.allocated_items.ensures, allocated_most c.args.h, long), length-take-le _ c.args.f.now (room-f) ∙ ap (λ (n : ℕ). n * c.args.h.zones) (sym long), omega (arith, h.zones_least_lem), h.zones_most_lem); sheet_value = ap₂ (λ (n : ℕ) (l : List ℕ). judge_corrections c.args.h.zones n l) long c.used_of-used.ensures ∙ used_good c.args.h.zones c.args.h.rows c.args.sheet.now c.sheet_judged-held.result c.sheet_judged-held.ensures }
 
-pub overflow_add-first-then-end-text : goal.overflow_add-first-then-end-text
-overflow_add-first-then-end-text c = omega (arith, header_in_lem _ c.requires.bordered.fits, c.allocated_items.ensures, allocated_most c.args.h)
+pub overflow_add-result : goal.overflow_add-result
+overflow_add-result c = omega (arith, header_in_lem _ c.requires.bordered.fits, c.allocated_items.ensures, allocated_most c.args.h)
 
 pub returns-then-end-text : goal.returns-then-end-text
 returns-then-end-text c = let room-c : c.args.h.rows ≤ length c.args.c.now = omega (arith, (header_in_lem _ c.requires.bordered.fits).rows_most_lem, c.requires.roomy.rows) in
     let section : stored_section c.rows_read.result (cut c.args.h.zones c.rows_read.new.c c.rows_read.new.f) ≡ rows_section c.requires.bordered c.args.sheet.now c.sheet_judged-held.result c.sheet_judged-held.ensures = c.rows_read.ensures
     ∙ rows_lent c.requires.bordered c.args.sheet.now c.sheet_judged-held.result c.sheet_judged-held.ensures _ _ _
     (ap (λ (n : ℕ). zone_line_no + c.args.h.zones + n + c.args.h.borders) c.allocated_items.ensures) (length-take-le c.args.h.rows c.args.c.now (room-c)) c.used_of-used.ensures in
-    ap refused (c.wrong_form.ensures ∙ ap (λ (n : ℕ). wrong_form (zone_line_no + c.args.h.zones + n + c.args.h.borders + c.args.h.rows)) c.allocated_items.ensures)
+    ap Err (ap (λ (n : ℕ). wrong_form (zone_line_no + c.args.h.zones + n + c.args.h.borders + c.args.h.rows)) c.allocated_items.ensures)
     ∙ more_follows c.requires.bordered c.args.sheet.now c.sheet_judged-held.result c.sheet_judged-held.ensures c.rows_read.new.c c.rows_read.new.f _
-    (sym (ap (λ (r : End). stored_section r (cut c.args.h.zones c.rows_read.new.c c.rows_read.new.f)) c.in-At.is) ∙ section) c.if-end-text.true
+    (sym (ap (λ (r : Judged ℕ). stored_section r (cut c.args.h.zones c.rows_read.new.c c.rows_read.new.f)) c.in_ok-end.was) ∙ section) c.if-end-text.true
 
 pub judged_last-requires : goal.judged_last-requires
 judged_last-requires c = (c.requires.bordered.fits, c.requires.roomy.borders)
 
-pub returns-else-end-text : goal.returns-else-end-text
-returns-else-end-text c = let room-f : c.args.h.rows * c.args.h.zones ≤ length c.args.f.now = omega (arith, factors_most _ c.requires.bordered.fits, c.requires.roomy.factors) in
+pub returns : goal.returns
+returns c = let room-f : c.args.h.rows * c.args.h.zones ≤ length c.args.f.now = omega (arith, factors_most _ c.requires.bordered.fits, c.requires.roomy.factors) in
     let room-c : c.args.h.rows ≤ length c.args.c.now = omega (arith, (header_in_lem _ c.requires.bordered.fits).rows_most_lem, c.requires.roomy.rows) in
     let section : stored_section c.rows_read.result (cut c.args.h.zones c.rows_read.new.c c.rows_read.new.f) ≡ rows_section c.requires.bordered c.args.sheet.now c.sheet_judged-held.result c.sheet_judged-held.ensures = c.rows_read.ensures
     ∙ rows_lent c.requires.bordered c.args.sheet.now c.sheet_judged-held.result c.sheet_judged-held.ensures _ _ _
     (ap (λ (n : ℕ). zone_line_no + c.args.h.zones + n + c.args.h.borders) c.allocated_items.ensures) (length-take-le c.args.h.rows c.args.c.now (room-c)) c.used_of-used.ensures in
     lines_done c.requires.bordered c.args.sheet.now c.sheet_judged-held.result c.sheet_judged-held.ensures c.rows_read.new.c c.rows_read.new.f _
-    (sym (ap (λ (r : End). stored_section r (cut c.args.h.zones c.rows_read.new.c c.rows_read.new.f)) c.in-At.is) ∙ section) c.if-end-text.false
+    (sym (ap (λ (r : Judged ℕ). stored_section r (cut c.args.h.zones c.rows_read.new.c c.rows_read.new.f)) c.in_ok-end.was) ∙ section) c.if-end-text.false
     (c.rows_read.auto.f ∙ length-take-le _ c.args.f.now (room-f)) c.judged_last.result (drop c.args.h.rows c.args.c.now) (drop (c.args.h.rows * c.args.h.zones) c.args.f.now) c.judged_last.ensures
 
-pub returns-in-Refused : goal.returns-in-Refused
-returns-in-Refused c = let room-c : c.args.h.rows ≤ length c.args.c.now = omega (arith, (header_in_lem _ c.requires.bordered.fits).rows_most_lem, c.requires.roomy.rows) in
+pub returns-in_err-end : goal.returns-in_err-end
+returns-in_err-end c = let room-c : c.args.h.rows ≤ length c.args.c.now = omega (arith, (header_in_lem _ c.requires.bordered.fits).rows_most_lem, c.requires.roomy.rows) in
     let section : stored_section c.rows_read.result (cut c.args.h.zones c.rows_read.new.c c.rows_read.new.f) ≡ rows_section c.requires.bordered c.args.sheet.now c.sheet_judged-held.result c.sheet_judged-held.ensures = c.rows_read.ensures
     ∙ rows_lent c.requires.bordered c.args.sheet.now c.sheet_judged-held.result c.sheet_judged-held.ensures _ _ _
     (ap (λ (n : ℕ). zone_line_no + c.args.h.zones + n + c.args.h.borders) c.allocated_items.ensures) (length-take-le c.args.h.rows c.args.c.now (room-c)) c.used_of-used.ensures in
-    rows_refused c.requires.bordered c.args.sheet.now c.sheet_judged-held.result c.sheet_judged-held.ensures _
-    (sym (ap (λ (r : End). stored_section r (cut c.args.h.zones c.rows_read.new.c c.rows_read.new.f)) c.in-Refused.is) ∙ section)
+    let p = err_from_is_err_and c.from_residual.result c.from_residual.ensures.1 in
+    rw (p.1, p.2) (rows_refused c.requires.bordered c.args.sheet.now c.sheet_judged-held.result c.sheet_judged-held.ensures _
+    (sym (ap (λ (r : Judged ℕ). stored_section r (cut c.args.h.zones c.rows_read.new.c c.rows_read.new.f)) c.in_err-end.was) ∙ section))

@@ -1,13 +1,11 @@
 -- `result::records::write_records` meets its contract: too short (`text-short`), or the text and then what stood there (`text_out`).
-use mathlib.Core.Path.{ap}
 use native.Mathlib.Omega.{arith}
-use Rattle.refusals.specs.declared.Refusal.{Refusal}
 use Rattle.text.proofs.LeftLaws.{text_short, text_out}
 use Rattle.result.specs.Records.{records_text}
 use Rattle.result.proofs.records.write_records.Goals as goal
 
 pub returns-then-out-needed : goal.returns-then-out-needed
-returns-then-out-needed c = (rw c.too_short.ensures (text_short (records_text c.args.atc.now c.args.left.now c.args.rounds) c.args.out.now _ c.records_length-needed.ensures.0 (omega arith)), omega (arith, ap (λ (w : Refusal). w.place) c.too_short.ensures, c.records_length-needed.ensures.1))
+returns-then-out-needed c = (text_short (records_text c.args.atc.now c.args.left.now c.args.rounds) c.args.out.now _ c.records_length-needed.ensures.0 (omega arith), omega (arith, c.records_length-needed.ensures.1))
 
 pub put_records-requires : goal.put_records-requires
 put_records-requires c = omega (arith, c.records_length-needed.ensures.0)

@@ -1,4 +1,4 @@
--- `result::refusal::refusal_length` meets its contract (`refusal-length`): a number has at most 20 digits, so the sums fit.
+-- `result::refusal::refusal_length` meets its contract (`refusal_length`): a number has at most 20 digits, so the sums fit.
 use mathlib.Core.Path.{◌≡◌}
 use Prim.Native.Nat.{◌+◌}
 use native.Mathlib.Omega.{arith}
@@ -9,15 +9,15 @@ use Rattle.result.proofs.RecordsLaws.{refusal_length, refusal_most_lem}
 use Rattle.result.proofs.refusal.refusal_length.Goals as goal
 
 pub overflow_add-result : goal.overflow_add-result
-overflow_add-result c = omega (arith, c.digit_count.ensures, decimal_u64 c.args.w.number (omega (arith, c.struct_known-1.given)))
+overflow_add-result c = omega (arith, c.digit_count.ensures, decimal_u64 c.number.result (omega arith))
 
 pub overflow_add-result-2 : goal.overflow_add-result-2
 overflow_add-result-2 c = omega (
   arith,
   c.digit_count.ensures,
   c.digit_count-2.ensures,
-  decimal_u64 c.args.w.number (omega (arith, c.struct_known-1.given)),
-  decimal_u64 c.args.w.place (omega (arith, c.struct_known-1.given)),
+  decimal_u64 c.number.result (omega arith),
+  decimal_u64 c.place.result (omega arith),
 )
 
 pub overflow_add-result-3 : goal.overflow_add-result-3
@@ -26,12 +26,18 @@ overflow_add-result-3 c = omega (
   c.digit_count.ensures,
   c.digit_count-2.ensures,
   c.digit_count-3.ensures,
-  decimal_u64 c.args.w.number (omega (arith, c.struct_known-1.given)),
-  decimal_u64 c.args.w.place (omega (arith, c.struct_known-1.given)),
-  decimal_u64 c.args.w.byte (omega (arith, c.struct_known-1.given)),
+  decimal_u64 c.number.result (omega arith),
+  decimal_u64 c.place.result (omega arith),
+  decimal_u64 c.byte.result (omega arith),
 )
 
 pub returns : goal.returns
 returns c = let sum : 5 + c.digit_count.result + c.digit_count-2.result + c.digit_count-3.result ≡ length (refusal_text c.args.w) =
-    omega (arith, c.digit_count.ensures, c.digit_count-2.ensures, c.digit_count-3.ensures, refusal_length c.args.w) in
-    (sum, omega (arith, sum, refusal_most_lem c.args.w (omega (arith, c.struct_known-1.given)) (omega (arith, c.struct_known-1.given)) (omega (arith, c.struct_known-1.given))))
+    omega (
+      arith,
+      rw c.number.ensures at c.digit_count.ensures,
+      rw c.place.ensures at c.digit_count-2.ensures,
+      rw c.byte.ensures at c.digit_count-3.ensures,
+      refusal_length c.args.w,
+    ) in
+    (sum, omega (arith, sum, refusal_most_lem c.args.w (omega (arith, c.number.ensures)) (omega (arith, c.place.ensures)) (omega (arith, c.byte.ensures))))

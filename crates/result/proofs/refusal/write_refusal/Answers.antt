@@ -1,13 +1,11 @@
 -- `result::refusal::write_refusal` meets its contract: too short (`text-short`), or the E line and then what stood there (`text_out`).
-use mathlib.Core.Path.{ap}
 use native.Mathlib.Omega.{arith}
-use Rattle.refusals.specs.declared.Refusal.{Refusal}
 use Rattle.text.proofs.LeftLaws.{text_short, text_out}
 use Rattle.result.specs.Refusal.{refusal_text}
 use Rattle.result.proofs.refusal.write_refusal.Goals as goal
 
 pub returns-then-out-needed : goal.returns-then-out-needed
-returns-then-out-needed c = (rw c.too_short.ensures (text_short (refusal_text c.args.w) c.args.out.now _ c.refusal_length-needed.ensures.0 (omega arith)), omega (arith, ap (λ (w : Refusal). w.place) c.too_short.ensures, c.refusal_length-needed.ensures.1))
+returns-then-out-needed c = (text_short (refusal_text c.args.w) c.args.out.now _ c.refusal_length-needed.ensures.0 (omega arith), omega (arith, c.refusal_length-needed.ensures.1))
 
 pub put_refusal-requires : goal.put_refusal-requires
 put_refusal-requires c = omega (arith, c.refusal_length-needed.ensures.0)

@@ -10,8 +10,7 @@ rows_length-needed-requires c = (c.requires.0, c.requires.1, c.requires.2, sheet
 
 pub returns-then-out-needed : goal.returns-then-out-needed
 unfolding sheet_of
-returns-then-out-needed c = rw c.too_short.ensures
-    (text_short (sheet_of c.args.zones (record { rows = c.args.c.now; factors = c.args.f.now })) c.args.out.now _ c.rows_length-needed.ensures (omega arith))
+returns-then-out-needed c = (text_short (sheet_of c.args.zones (record { rows = c.args.c.now; factors = c.args.f.now })) c.args.out.now _ c.rows_length-needed.ensures (omega arith))
 
 pub put_rows-requires : goal.put_rows-requires
 put_rows-requires c = (c.requires.0, c.requires.1, c.requires.2, omega (arith, c.rows_length-needed.ensures))

@@ -8,8 +8,7 @@ use mir.Val.{to_z, of_z}
 use Rattle.text.specs.Line.{line_at}
 use Rattle.sections.specs.Section.{fault}
 use Rattle.lines.specs.Lines.{position_line}
-use Rattle.lines.specs.Said.{said_zone}
-use Rattle.sections.proofs.StoredLaws.{after_within, stored_none, stored_all, stored_form, stored_range, stored_more}
+use Rattle.sections.proofs.StoredLaws.{after_within, stored_none, stored_all, stored_bad, stored_more}
 use Rattle.sections.proofs.zones.zones_read.Goals as goal
 
 pub loop-i-init : goal.loop-i-init
@@ -27,31 +26,21 @@ bounds-z-i c = omega (arith, c.loop-i.invariant)
 pub overflow_add-first : goal.overflow_add-first
 overflow_add-first c = omega (arith, c.loop-i.invariant.high, c.loop-i.invariant.all, c.requires.1)
 
-pub shape_of-z-in-Form : goal.shape_of-z-in-Form
-shape_of-z-in-Form c = c.loop-i.invariant.as_long
+pub shape_of-z-in-Err : goal.shape_of-z-in-Err
+shape_of-z-in-Err c = c.loop-i.invariant.as_long
 
-pub returns-in-Form : goal.returns-in-Form
-returns-in-Form c = let line_said : position_line c.args.letter (line_at c.args.text.now c.loop-i.p) c.loop-i.i ≡ said_zone c.zone_line.result = ap (λ (line : List ℕ). position_line c.args.letter line c.loop-i.i) (sym c.line_at-line.ensures) ∙ sym c.zone_line.ensures in
-    ap fault c.wrong_form_at.ensures ∙ stored_form (position_line _) _ _ _ _ _ _ _ _ c.loop-i.invariant c.loop-i-test.true _ (line_said ∙ ap said_zone c.in-Form.is)
-
-pub overflow_add-first-in-Range : goal.overflow_add-first-in-Range
-overflow_add-first-in-Range c = omega (arith, c.loop-i.invariant.high, c.loop-i.invariant.all, c.requires.1)
-
-pub shape_of-z-in-Range : goal.shape_of-z-in-Range
-shape_of-z-in-Range c = c.loop-i.invariant.as_long
-
-pub returns-in-Range : goal.returns-in-Range
-returns-in-Range c = let line_said : position_line c.args.letter (line_at c.args.text.now c.loop-i.p) c.loop-i.i ≡ said_zone c.zone_line.result = ap (λ (line : List ℕ). position_line c.args.letter line c.loop-i.i) (sym c.line_at-line.ensures) ∙ sym c.zone_line.ensures in
-    ap fault c.out_of_range_at.ensures ∙ stored_range (position_line _) _ _ _ _ _ _ _ _ c.loop-i.invariant c.loop-i-test.true _ (line_said ∙ ap said_zone c.in-Range.is)
+pub returns-in-Err : goal.returns-in-Err
+returns-in-Err c = let line_said : position_line c.args.letter (line_at c.args.text.now c.loop-i.p) c.loop-i.i ≡ c.zone_line.result = ap (λ (line : List ℕ). position_line c.args.letter line c.loop-i.i) (sym c.line_at-line.ensures) ∙ sym c.zone_line.ensures in
+    ap fault c.refusal.ensures ∙ stored_bad (position_line _) _ _ _ _ _ _ _ _ c.loop-i.invariant c.loop-i-test.true _ (line_said ∙ c.in-Err.is)
 
 pub overflow_add-p : goal.overflow_add-p
 overflow_add-p c = rw c.line_at-line.ensures (omega (arith, after_within c.args.text.now c.loop-i.p c.loop-i.invariant.within))
 
 pub loop-i-preserved : goal.loop-i-preserved
-loop-i-preserved c = let line_said : position_line c.args.letter (line_at c.args.text.now c.loop-i.p) c.loop-i.i ≡ said_zone c.zone_line.result = ap (λ (line : List ℕ). position_line c.args.letter line c.loop-i.i) (sym c.line_at-line.ensures) ∙ sym c.zone_line.ensures in
-    let plain-net : to_z w64 (of_z w64 c.in-Holds.net) ≡ c.in-Holds.net = search rules in
+loop-i-preserved c = let line_said : position_line c.args.letter (line_at c.args.text.now c.loop-i.p) c.loop-i.i ≡ c.zone_line.result = ap (λ (line : List ℕ). position_line c.args.letter line c.loop-i.i) (sym c.line_at-line.ensures) ∙ sym c.zone_line.ensures in
+    let plain-net : to_z w64 (of_z w64 c.in-Ok.net) ≡ c.in-Ok.net = search rules in
     rw (plain-net, c.line_at-line.ensures)
-    (stored_more (position_line _) _ _ _ _ _ _ _ _ c.loop-i.invariant c.loop-i-test.true c.in-Holds.net (line_said ∙ ap said_zone c.in-Holds.is))
+    (stored_more (position_line _) _ _ _ _ _ _ _ _ c.loop-i.invariant c.loop-i-test.true c.in-Ok.net (line_said ∙ c.in-Ok.is))
 
 pub shape_of-z : goal.shape_of-z
 shape_of-z c = c.loop-i.invariant.as_long

@@ -1,12 +1,9 @@
 -- `sections::zones::zones_read` meets its contract. The invariant: the first i items are what the lines passed hold (`Stored`).
--- The measure is the number of lines less i. A turn is the law `stored_more`.
-use Prim.Native.Nat.{◌-◌}
+-- A turn is the law `stored_more`.
+use lib.ListN.{length}
 use Rattle.lines.specs.Lines.{position_line}
 use Rattle.sections.proofs.StoredLaws.{Stored}
 use Rattle.sections.proofs.zones.zones_read.Given as goal
 
 abbrev pub invariant-loop-i : goal.invariant-loop-i
-invariant-loop-i l = Stored (position_line l.letter) l.first l.text l.at l.initial.z l.n l.z l.i l.p
-
-abbrev pub decreases-loop-i : goal.decreases-loop-i
-decreases-loop-i l = l.n - l.i
+invariant-loop-i l = Stored (position_line l.letter) l.first l.text l.at l.initial.z (length l.initial.z) l.z l.i l.p

@@ -1,14 +1,16 @@
-use Prim.Native.Nat.{◌-◌, ◌<◌, ◌^◌}
-use mathlib.Core.Path.{◌≡◌, sym, ◌∙◌}
+use Prim.Native.Nat.{◌-◌, ◌<◌, ◌≤◌, ◌^◌}
+use mathlib.Core.Path.{◌≡◌, sym, ap, ◌∙◌}
+use Rattle.std.specs.Prelude.{Err}
 use mathlib.Core.Bool.{true}
 use mathlib.Core.List.{[]}
 use native.Mathlib.Omega.{arith}
-use lib.ListN.{get_or, drop}
+use lib.ListN.{length, get_or, drop}
 use Rattle.text.specs.Fields.{is_digit, digits}
 use Rattle.text.proofs.NumberTrip.{digit_range}
 use Rattle.text.proofs.ClassLaws.{class_digit, class_not_digit}
 use Rattle.text.proofs.NumberLaws.{upto_none, upto_small, upto_more, upto_full, upto_empty, upto_other, upto_stop, upto_cut, digits_none, digits_end}
 use Rattle.text.proofs.field.number_at.Goals as goal
+use Rattle.text.proofs.field.number_at.Goals.{else-at-i-via-then-at-i+else-line-i, else-at-i-via-else-at-i}
 
 small : (c : goal.Else-full) → c.loop-i.v < 10 ^ 9
 small c = upto_small c.args.line.now c.args.at c.loop-i.i c.loop-i.v c.loop-i.invariant (sym c.full.ensures ∙ c.if-full.false)
@@ -21,26 +23,16 @@ returns-then-line-i c = let no_digit : digits (drop c.loop-i.i c.args.line.now) 
     upto_stop c.args.line.now c.args.at c.loop-i.i c.loop-i.v c.loop-i.invariant (no_digit) c.if-at-i.true c.args.stop
     c.loop-i-test.true c.if-line-i.true
 
-pub returns-else-line-i : goal.returns-else-line-i
-returns-else-line-i c = let no_digit : digits (drop c.loop-i.i c.args.line.now) ≡ [] = digits_none c.args.line.now c.loop-i.i c.loop-i-test.true (class_not_digit (get_or c.args.line.now c.loop-i.i 0) c.class_of.result c.class_of.ensures c.in_default.not-Digit) in
-    upto_other c.args.line.now c.args.at c.loop-i.i c.loop-i.v c.loop-i.invariant (no_digit) c.if-at-i.true c.args.stop
-    c.loop-i-test.true c.if-line-i.false
-
-pub returns-else-at-i : goal.returns-else-at-i
-returns-else-at-i c = let no_digit : digits (drop c.loop-i.i c.args.line.now) ≡ [] = digits_none c.args.line.now c.loop-i.i c.loop-i-test.true (class_not_digit (get_or c.args.line.now c.loop-i.i 0) c.class_of.result c.class_of.ensures c.in_default.not-Digit) in
-    upto_empty c.args.line.now c.args.at c.loop-i.i c.loop-i.v c.loop-i.invariant (no_digit) c.args.stop c.if-at-i.false
-
-pub overflow_sub-i : goal.overflow_sub-i
-overflow_sub-i c = omega (arith, c.loop-i.invariant.low)
+pub returns-in_default : goal.returns-in_default
+returns-in_default c =
+    let no_digit : digits (drop c.loop-i.i c.args.line.now) ≡ [] = digits_none c.args.line.now c.loop-i.i c.loop-i-test.true (class_not_digit (get_or c.args.line.now c.loop-i.i 0) c.class_of.result c.class_of.ensures c.in_default.not-Digit) in
+    elim c.else-at-i.branch [ else-at-i-via-then-at-i+else-line-i w ↦ upto_other c.args.line.now c.args.at c.loop-i.i c.loop-i.v c.loop-i.invariant no_digit w.if-at-i.true c.args.stop c.loop-i-test.true w.if-line-i.false | else-at-i-via-else-at-i w ↦ upto_empty c.args.line.now c.args.at c.loop-i.i c.loop-i.v c.loop-i.invariant no_digit c.args.stop w.if-at-i.false ]
 
 pub returns-then-full : goal.returns-then-full
 returns-then-full c =
     let digit : let b = get_or c.args.line.now c.loop-i.i 0 in (is_digit b ≡ true) × (c.in-Digit.d ≡ b - 48) = class_digit (get_or c.args.line.now c.loop-i.i 0) c.class_of.result c.class_of.ensures c.in-Digit.d c.in-Digit.is in
     upto_full c.args.line.now c.args.at c.loop-i.i c.loop-i.v c.loop-i.invariant c.loop-i-test.true (digit).0 c.args.stop
     (sym c.full.ensures ∙ c.if-full.true)
-
-pub overflow_mul-v : goal.overflow_mul-v
-overflow_mul-v c = omega (arith, small c)
 
 pub overflow_add-v : goal.overflow_add-v
 overflow_add-v c =
@@ -56,4 +48,6 @@ loop-i-preserved c =
     c.in-Digit.d d.1 (sym c.full.ensures ∙ c.if-full.false)
 
 pub returns : goal.returns
-returns c = upto_cut c.args.line.now c.args.at c.loop-i.i c.loop-i.v c.loop-i.invariant (digits_end c.args.line.now c.loop-i.i c.loop-i-test.false) c.args.stop c.loop-i-test.false
+returns c =
+    let none : length c.args.line.now ≤ c.args.at → length (digits (drop c.args.at c.args.line.now)) ≡ 0 = λ h. ap length (digits_end c.args.line.now c.args.at h) in
+    ap Err (c.max.ensures ∙ grind (arith, none, c.loop-i.invariant)) ∙ upto_cut c.args.line.now c.args.at c.loop-i.i c.loop-i.v c.loop-i.invariant (digits_end c.args.line.now c.loop-i.i c.loop-i-test.false) c.args.stop c.loop-i-test.false

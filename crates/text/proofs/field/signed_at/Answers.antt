@@ -6,8 +6,7 @@ use Prim.Native.Nat.{ℕ, ◌+◌}
 use native.Mathlib.Omega.{arith}
 use lib.Dec.{eqb}
 use lib.ListN.{get_or}
-use Rattle.text.specs.declared.Number.{Number}
-use Rattle.text.specs.Fields.{positive, negative}
+use Rattle.text.specs.Fields.{Parsed, positive, negative}
 use Rattle.text.proofs.NumberTrip.{signed_plus, signed_minus}
 use Rattle.text.proofs.FieldLaws.{value_lt, dash_within}
 use Rattle.text.proofs.field.signed_at.Goals as goal
@@ -35,7 +34,7 @@ pub returns-then-has_minus : goal.returns-then-has_minus
 returns-then-has_minus c =
     let dash : eqb (get_or c.args.line.now c.args.at 0) 45 ≡ true = sym c.has_minus.ensures ∙ c.if-has_minus.true in
     c.minus.ensures
-    ∙ ap₂ (λ (first : ℕ) (n : Number). negative first (c.args.at + 1) n) c.byte_at.ensures c.number_at.ensures
+    ∙ ap₂ (λ (first : ℕ) (n : Parsed ℕ). negative first (c.args.at + 1) n) c.byte_at.ensures c.number_at.ensures
     ∙ signed_minus c.args.line.now c.args.at c.args.stop (dash)
 
 pub plus-requires : goal.plus-requires

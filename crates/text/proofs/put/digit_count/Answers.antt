@@ -1,15 +1,6 @@
-use native.Mathlib.Omega.{arith}
-use Rattle.text.proofs.DigitLaws.{digits_counted_none, digits_counted_few, digits_counted_more, digits_counted_all}
+-- `text::put::digit_count` meets its contract: the power of ten at or below n says how many digits it has (`decimal_count`).
+use Rattle.text.proofs.DigitLaws.{decimal_count}
 use Rattle.text.proofs.put.digit_count.Goals as goal
 
-pub loop-rest-init : goal.loop-rest-init
-loop-rest-init c = digits_counted_none _
-
-pub overflow_add-count : goal.overflow_add-count
-overflow_add-count c = omega (arith, digits_counted_few c.loop-rest.invariant (omega (arith, c.ranges.n)))
-
-pub loop-rest-preserved : goal.loop-rest-preserved
-loop-rest-preserved c = digits_counted_more c.loop-rest.invariant (omega arith)
-
 pub returns : goal.returns
-returns c = digits_counted_all c.loop-rest.invariant (omega arith)
+returns c = decimal_count c.args.n _ (rw (← c.max.ensures) c.ilog10.ensures.power_le) (rw (← c.max.ensures) c.ilog10.ensures.next_power_gt)

@@ -3,35 +3,32 @@ use native.Mathlib.Omega.{arith}
 use borrow.Author.Tests.{leb-true}
 use lib.ListN.{length}
 use Rattle.numbers.proofs.BelowLaws.{table_long}
-use Rattle.rounds.specs.AllRounds.{flat}
+use Rattle.walk.specs.Flat.{flat_of}
 use Rattle.tightrules.proofs.PassLaws.{walked_none, walked_fits, walked_more, walked_under, walked_all, counted_at, counted_few}
 use Rattle.tight.proofs.pass.higher.Goals as goal
 
 pub first_cap-first-requires : goal.first_cap-first-requires
-first_cap-first-requires c = record { borders_in_bounds = (c.requires.borders_in_bounds.0, c.requires.borders_in_bounds.3); margins_len = c.requires.borders_in_bounds.1 }
+first_cap-first-requires c = record { border_in_bounds = c.requires.margins_len.2; margins_len = c.requires.margins_len.0 }
 
 pub loop-i-init : goal.loop-i-init
-loop-i-init c = walked_none c.requires.borders_in_bounds.1 c.requires.small c.first_cap-first.ensures
+loop-i-init c = walked_none c.requires.margins_len.0 c.requires.small c.first_cap-first.ensures
 
 pub returns-then-low-most-2 : goal.returns-then-low-most-2
 returns-then-low-most-2 c = walked_under c.loop-i.invariant c.if-low-most.true (leb-true _ _ c.if-low-most-2.true-raw)
 
-pub factor-f-requires : goal.factor-f-requires
-factor-f-requires c = (c.requires.borders_in_bounds.0, omega arith, c.requires.borders_in_bounds.3)
+pub factor-requires : goal.factor-requires
+factor-requires c = (omega arith, c.requires.margins_len.2)
 
 pub bounds-ns-i : goal.bounds-ns-i
 bounds-ns-i c = omega (arith, ap length c.requires.ns_value.0 ∙ table_long _ _)
 
-pub bounds-margins-i : goal.bounds-margins-i
-bounds-margins-i c = omega (arith, c.requires.borders_in_bounds.1)
-
 pub lower-low-requires : goal.lower-low-requires
-lower-low-requires c = let g = flat c.args.rows c.args.borders c.args.p.now in
-    (counted_few g c.requires.ns_value.0 c.requires.ns_value.1 _ (omega arith), c.loop-i.invariant.below, walked_fits c.loop-i.invariant c.requires.ns_value.1 c.requires.borders_in_bounds.2)
+lower-low-requires c = let g = flat_of c.args.grid.now in
+    (counted_few g c.requires.ns_value.0 c.requires.ns_value.1 _ (omega arith), c.loop-i.invariant.below, walked_fits c.loop-i.invariant c.requires.ns_value.1 c.requires.margins_len.1)
 
 pub loop-i-preserved : goal.loop-i-preserved
-loop-i-preserved c = walked_more c.loop-i.invariant (omega arith) c.factor-f.ensures
-    (counted_at (flat c.args.rows c.args.borders c.args.p.now) c.requires.ns_value.0 _ (omega arith)) c.lower-low.ensures
+loop-i-preserved c = walked_more c.loop-i.invariant (omega arith) c.factor.ensures
+    (counted_at (flat_of c.args.grid.now) c.requires.ns_value.0 _ (omega arith)) c.lower-low.ensures
 
 pub returns : goal.returns
-returns c = walked_all c.loop-i.invariant (omega arith) c.larger-alone.ensures c.larger-reach.ensures
+returns c = walked_all c.loop-i.invariant (omega arith) c.max.ensures c.max-2.ensures

@@ -11,4 +11,4 @@ pub returns-then-taken-room : goal.returns-then-taken-room
 returns-then-taken-room c = lowered_same c.requires.0 c.requires.1 (sym c.if-taken-room.true ∙ c.tighten-taken.ensures)
 
 pub returns : goal.returns
-returns c = lowered_fell c.tighten-taken.ensures (λ y. omega arith) c.smaller-alone.ensures c.less.ensures c.less-2.ensures c.smaller-reach.ensures
+returns c = lowered_fell c.tighten-taken.ensures (λ y. omega arith) c.min.ensures c.saturating_sub.ensures c.saturating_sub-2.ensures c.min-2.ensures

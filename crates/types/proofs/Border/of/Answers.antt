@@ -1,6 +1,6 @@
 -- `types::Border::of` meets its contract.
+use Rattle.std.specs.Prelude.{None, Some}
 use mathlib.Core.Path.{sym, ap, ◌∙◌}
-use Rattle.types.specs.declared.BorderRead.TheVariants as border
 use Rattle.types.specs.Constructors.{border_read}
 use Rattle.types.proofs.Border.of.Goals as goal
 
@@ -9,7 +9,7 @@ of_good-requires c = sym c.fits.ensures ∙ c.if-fits.true
 
 pub returns-then-fits : goal.returns-then-fits
 unfolding border_read
-returns-then-fits c = rw (sym c.fits.ensures ∙ c.if-fits.true) (ap border.Good c.of_good.ensures)
+returns-then-fits c = rw (sym c.fits.ensures ∙ c.if-fits.true) (ap Some c.of_good.ensures)
 
 pub returns-else-fits : goal.returns-else-fits
 unfolding border_read

@@ -8,19 +8,10 @@ use Rattle.walk.proofs.stopping.share_out.Goals as goal
 pub loop-i-init : goal.loop-i-init
 loop-i-init c = filled_none _ _ _
 
-pub bounds-ns-i : goal.bounds-ns-i
-bounds-ns-i c = omega (arith, c.loop-i.invariant.as_long, c.requires)
-
-pub bounds-ns-i-in-loop-i : goal.bounds-ns-i-in-loop-i
-bounds-ns-i-in-loop-i c = omega (arith, c.loop-i.invariant.as_long, c.requires)
-
 pub loop-i-preserved : goal.loop-i-preserved
 loop-i-preserved c = let margin = at c.args.margins.now c.loop-i.i in
-    filled_more c.loop-i.invariant _ (omega arith) (omega (arith, c.requires))
-    (c.equal_share.ensures ∙ ap (λ (n : ℕ). margin / n) (filled_rest c.loop-i.invariant 0 (omega (arith, c.requires))))
-
-pub shape_of-ns : goal.shape_of-ns
-shape_of-ns c = c.loop-i.invariant.as_long
+    filled_more c.loop-i.invariant _ (omega arith) (omega arith)
+    (c.equal_share.ensures ∙ ap (λ (n : ℕ). margin / n) (filled_rest c.loop-i.invariant 0 c.loop-i-test.true))
 
 pub returns : goal.returns
 returns c = filled_all c.loop-i.invariant (omega arith) c.requires

@@ -3,11 +3,11 @@ use Prim.Native.Nat.{◌-◌}
 use lib.Dec.{ltb}
 use Rattle.numbers.specs.Below.{at}
 use Rattle.numbers.proofs.BelowLaws.{Looked}
-use Rattle.rounds.specs.AllRounds.{flat}
+use Rattle.walk.specs.Flat.{flat_of}
 use Rattle.walk.proofs.stopping.stop_row.Given as goal
 
 abbrev pub invariant-loop-i : goal.invariant-loop-i
-invariant-loop-i l = Looked l.rows (λ i. ltb (at l.shares i) ((flat l.rows l.borders l.p).p i l.b)) l.i
+invariant-loop-i l = Looked l.grid.rows (λ i. ltb (at l.shares i) ((flat_of l.grid).p i l.b)) l.i
 
 abbrev pub decreases-loop-i : goal.decreases-loop-i
-decreases-loop-i l = l.rows - l.i
+decreases-loop-i l = l.grid.rows - l.i

@@ -1,7 +1,0 @@
--- `hoursheet::print_line` is safe and ends. The invariant: the buffer is as long as it came. The measure is the number of hours left.
-use mathlib.Core.Path.{◌≡◌}
-use lib.ListN.{length}
-use Rattle.hoursheet.proofs.print_line.Given as goal
-
-abbrev pub invariant-loop-k : goal.invariant-loop-k
-invariant-loop-k l = length l.out ≡ length l.initial.out

@@ -1,4 +1,0 @@
-use Rattle.pagedraw.proofs.place_all.Goals as goal
-
-pub shape_of-records : goal.shape_of-records
-shape_of-records c = c.loop-k.invariant

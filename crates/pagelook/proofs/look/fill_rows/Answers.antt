@@ -1,4 +1,0 @@
-use Rattle.pagelook.proofs.look.fill_rows.Goals as goal
-
-pub shape_of-records : goal.shape_of-records
-shape_of-records c = c.loop-i.invariant

@@ -1,5 +1,0 @@
--- `pagesheet::facts::over` meets its contract. The measure is what is left of the hours.
-use Rattle.pagesheet.proofs.facts.over.Given as goal
-
-abbrev pub invariant-loop-k : goal.invariant-loop-k
-invariant-loop-k l = Unit {0}

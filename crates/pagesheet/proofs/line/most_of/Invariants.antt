@@ -1,5 +1,0 @@
--- `pagesheet::line::most_of` meets its contract. The measure is what is left of the cells.
-use Rattle.pagesheet.proofs.line.most_of.Given as goal
-
-abbrev pub invariant-loop-k : goal.invariant-loop-k
-invariant-loop-k l = Unit {0}

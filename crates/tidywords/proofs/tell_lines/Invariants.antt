@@ -1,5 +1,0 @@
--- `tidywords::tell_lines` is safe and ends. The measure is the number of lines left.
-use Rattle.tidywords.proofs.tell_lines.Given as goal
-
-abbrev pub invariant-loop-k : goal.invariant-loop-k
-invariant-loop-k l = Unit {0}

@@ -1,5 +1,0 @@
--- `whywords::rows::holders` is safe and ends. The measure is what is left of the rows.
-use Rattle.whywords.proofs.rows.holders.Given as goal
-
-abbrev pub invariant-loop-i : goal.invariant-loop-i
-invariant-loop-i l = Unit {0}
