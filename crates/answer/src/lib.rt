@@ -19,7 +19,7 @@ ghost use Rattle.answer.specs.Told.{told_of, told_for, told_with};
 use outcome::{AtcRecord, BorderResult, LeftRecord, RowResult};
 use refusals::Refusal;
 use tablerules::TableView;
-use types::{Border, BorderRecord, Header, Row, RowRecord};
+use types::{Border, BorderRecord, Row, RowRecord};
 
 // What an answer in text comes to: the bytes that were written, or that there was no room for them; and what the text tells, a result or why there is none.
 #[derive(Clone, Copy)]

@@ -206,12 +206,18 @@ impl Command {
         self.value(OptionName::Marks)?.list(sys)
     }
 
-    // What is asked for, where the arguments are good and each option that is given goes with it.
-    pub fn asked(&self, sys: &System) -> Result<Asked, Misuse> {
+    // The first misuse of an argument by itself, where there is one.
+    pub fn judged(&self) -> Result<(), Misuse> {
         match self.misuse {
             Some(misuse) => Err(misuse),
-            None => crate::asked::understand(sys, self.plain),
+            None => Ok(()),
         }
+    }
+
+    // What is asked for, where the arguments are good. Whether the options go with it, `check` says.
+    pub fn asked(&self, sys: &System) -> Result<Asked, Misuse> {
+        self.judged()?;
+        crate::asked::understand(sys, self.plain)
     }
 
     // Whether each option that is given goes with what is asked for.

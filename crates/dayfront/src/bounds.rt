@@ -5,7 +5,7 @@ ghost use Rattle.tablerules.specs.Table.{front, lent_view};
 ghost use Rattle.tablerules.specs.Good.{Good};
 
 use tablerules::TableView;
-use types::{Border, BorderRecord, Header, Row, RowRecord};
+use types::{Border, BorderRecord, Row, RowRecord};
 
 // Of the table that the text holds; 0 where it is refused. The tables are made here, and not where goals would spell them out.
 pub fn most(marks: Option<&[u64]>, text: &[u8]) -> u64 {

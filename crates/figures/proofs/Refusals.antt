@@ -1,5 +1,5 @@
 -- Each refusal that a text can meet, with its place and its turn (01, "When the table is turned away"), by computation.
--- 8 is in `Lent.antt`, both ends of every range (3) in `Ranges.antt`, 4 and 7 in `Figures.antt` too.
+-- The numbers of 8 and of 9 to 14 are in `RefusalTable.antt`, both ends of every range (3) in `Ranges.antt`, 4 and 7 in `Figures.antt` too.
 use mathlib.Core.Path.{refl}
 use mathlib.Core.List.{[], ◌∷◌, ◌++◌}
 use lib.ListN.{replicate}

@@ -72,11 +72,6 @@ fn put_part(before: u8, byte: u8, value: u64, out: &mut [u8], at: usize) -> usiz
     }
 }
 
-// A number below 0 as a figure.
-pub fn signed(z: i64) -> u64 {
-    z.cast_unsigned()
-}
-
 fn put_figure(kind: u8, value: u64, out: &mut [u8], at: usize) -> usize
     requires { IsPrefixLen at out.old }
     ensures { IsPrefixLen result out.new }

@@ -18,7 +18,11 @@ fn main(rt: HostRuntime) {
 }
 
 fn obey(sys: &System, command: &Command) -> Result<Status, Misuse> {
-    let asked = command.asked(sys)?;
+    command.judged()?;
+    // What it does not understand is for the program that answers, which tells it.
+    let Ok(asked) = command.asked(sys) else {
+        return telling::elsewhere(command);
+    };
     if let Asked::Task(_, _) | Asked::Help | Asked::Version = asked {
         return telling::elsewhere(command);
     }

@@ -14,7 +14,7 @@ use daysheet::Hour;
 use outcome::{AtcRecord, BorderResult, LeftRecord, RowResult};
 use refusals::Refusal;
 use tablerules::TableView;
-use types::{Border, BorderRecord, Header, Row, RowRecord};
+use types::{Border, BorderRecord, Row, RowRecord};
 
 // Keeps the figures of a table's text as those of hour k. A text that is refused has no items.
 pub fn keep(

@@ -9,7 +9,7 @@ use pagefacts::{RECORDS, hour};
 use pageform::Figures;
 use system::System;
 use tablerules::TableView;
-use types::{Border, BorderRecord, Header, Row, RowRecord};
+use types::{Border, BorderRecord, Row, RowRecord};
 
 // Room for the reasons of 64 borders, each of fewer than 4,096 bytes.
 const WHYS: usize = 262144;

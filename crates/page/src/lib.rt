@@ -9,7 +9,7 @@ use output::Ended;
 use pageframe::{BODY, END, STYLE, TITLE, plain};
 use system::System;
 
-// Prints the page of the table that the text holds, as the sheet corrects it. Where `all` borders may rise, the marks are not looked at.
+// Prints the page of the table that the text holds, as the sheet corrects it. Where no marks are given, every border may rise.
 pub fn print(
     sys: &System,
     label: &[u8],

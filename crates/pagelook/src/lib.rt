@@ -11,7 +11,6 @@ ghost use Rattle.tablerules.specs.Good.{Good};
 use pageform::Figures;
 use partrules::PartsRecord;
 use tablerules::TableView;
-use types::{BorderRecord, Header, RowRecord};
 
 // Where the next words go, and how many rounds there were.
 #[derive(Clone, Copy)]

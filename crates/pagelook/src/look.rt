@@ -9,7 +9,7 @@ use pagefacts::{ROWS, border, row};
 use pageform::Figures;
 use partrules::PartsRecord;
 use tablerules::TableView;
-use types::{BorderRecord, Header, RowRecord};
+use types::{BorderRecord, Header};
 use whywords::rows::Held;
 
 // The records of the rows, before any border is looked at.

@@ -11,8 +11,6 @@ use lib.ListN.{length, get_or, drop}
 use borrow.Author.Tests.{ltb-true}
 use Rattle.numbers.specs.Below.{table}
 use Rattle.numbers.proofs.TestLaws.{and_both}
-use Rattle.refusals.specs.declared.Refusal.{Refusal}
-use Rattle.refusals.specs.Refusals.{number_of, place_of, byte_of}
 use Rattle.types.specs.Ranges.{at_ℤ}
 use Rattle.text.specs.Fields.{tab, feed, digits}
 use Rattle.text.specs.Written.{decimal, fields_text, line_text, lines_text}
@@ -36,7 +34,7 @@ use Rattle.boundtext.specs.BoundText.{bound_text}
 use Rattle.partstext.specs.PartsText.{parts_line_at, parts_text}
 use Rattle.extractrules.specs.Extraction.{Result, atc_record, row_record}
 use Rattle.result.specs.Records.{atc_at, margin_at, rounds_line, records_text}
-use Rattle.result.specs.Refusal.{refusal_text}
+use Rattle.result.specs.Refusal.{refusal_line}
 use Rattle.answer.specs.Result.{result_text}
 use Rattle.output.specs.declared.Ended.TheVariants.{Answered, Refused}
 use Rattle.output.specs.Heard.{letter_e, refusal_in, heard_of}
@@ -58,9 +56,11 @@ refusal_in_written line number place byte here n p b =
     )
 
 -- a refusal is heard with its number, place and byte
-pub refusal_heard : (w : Refusal) → number_of w < 10 ^ 10 → place_of w < 10 ^ 10 → byte_of w < 10 ^ 10 → heard_of (refusal_text w) ≡ Refused (number_of w) (place_of w) (byte_of w)
-unfolding refusal_text line_text fields_text
-refusal_heard w n p b = sym (heard_refusal (refusal_text w) refl) ∙ refusal_in_written (refusal_text w) (number_of w) (place_of w) (byte_of w) refl n p b
+pub refusal_heard : (number place byte : ℕ) → number < 10 ^ 10 → place < 10 ^ 10 → byte < 10 ^ 10 → heard_of (refusal_line number place byte) ≡ Refused number place byte
+unfolding line_text fields_text
+refusal_heard number place byte n p b =
+    let line = refusal_line number place byte in
+    sym (heard_refusal line refl) ∙ refusal_in_written line number place byte refl n p b
 
 -- a text that does not begin with E
 abbrev Other : List ℕ → Type 0

@@ -26,7 +26,7 @@ pub fn print<'a>(
     print_lent(sys, border, marks, text, sheet, &mut out)
 }
 
-// The number of the refusal of a border that is not there (crate why), which is no fault of the table.
+// Apart from `print`, so that goals do not contain its room. A border that is not there (`NoBorder`) is no fault of the table.
 fn print_lent<'a>(
     sys: &System,
     border: u64,

@@ -9,7 +9,7 @@ use holding::{EndRecord, HoldRecord};
 use partrules::PartsRecord;
 use refusals::Refusal;
 use tablerules::TableView;
-use types::{Border, BorderRecord, Header, Row, RowRecord};
+use types::{Border, BorderRecord, Row, RowRecord};
 
 // Tells of a border of a text's table, as the sheet corrects it. Where no marks are given, all borders may rise.
 pub fn put<'a>(
