@@ -3,7 +3,7 @@
 
 pub mod lists;
 
-ghost use Rattle.std.specs.Prelude.{◌≡◌, ◌≤◌, length, IfSome};
+ghost use Rattle.std.specs.Prelude.{◌≡◌, length, take, IfSome};
 ghost use Rattle.io.specs.Counts.{IsPrefixLen};
 
 use system::System;
@@ -84,7 +84,9 @@ pub struct List {
 }
 
 impl List {
-    pub fn as_slice(&self) -> &[u64] {
+    pub fn as_slice(&self) -> &[u64]
+        ensures { result.now ≡ take self.now.count self.now.numbers }
+    {
         &self.numbers[..self.count]
     }
 }
