@@ -210,7 +210,7 @@ fn tell_refusal(w: Refusal, out: &mut [u8]) -> Answered
     ensures written_bound { (bytes_asked result.written ≤ refusal_most) × (result.told ≡ Err w) }
 {
     Answered {
-        written: result::refusal::write_refusal(w, out),
+        written: result::refusal::write_refusal(w.number(), w.place(), w.byte(), out),
         told: Err(w),
     }
 }

@@ -7,7 +7,6 @@ use Prim.Native.Nat.{ℕ}
 use lib.ListN.{replicate}
 use Rattle.numbers.specs.Computed.{◌is◌, Hold}
 use Rattle.text.specs.Shown.{shown}
-use Rattle.refusals.specs.Refusals.{bad_mark}
 use Rattle.daysheet.specs.declared.Hour.TheVariants.{Answered, Refused}
 use Rattle.daysheet.specs.Cell.{bytes}
 use Rattle.daysheet.specs.Sheet.{way_of, line_cell, front_text, line_of, most_borders, sheet_text}
@@ -34,7 +33,7 @@ cable = shown "H 2 2 1/Z 0 0/Z 1 0/T 0 0/T 1 0/B 0 0 1 0 1 0/B 1 0 1 0/C 0 10000
 pub anchors : Hold (
     hour_of true [] hour_text is figures (Answered (record { rounds = 21; borders = 2; intraday = false })) (way_of 0 1 0 0 ∷ way_of 1 2 0 0 ∷ []) (2599 ∷ 1800 ∷ [])
     ∷ hour_of false (1 ∷ []) hour_text is figures (Answered (record { rounds = 1; borders = 2; intraday = false })) (way_of 0 1 0 0 ∷ way_of 1 2 0 0 ∷ []) (100 ∷ 1800 ∷ [])
-    ∷ hour_of false [] hour_text is figures (Refused (bad_mark 0)) [] []
+    ∷ hour_of false [] hour_text is figures (Refused 13 0 0) [] []
     ∷ hour_of true [] cable is figures (Answered (record { rounds = 1; borders = 2; intraday = true })) (way_of 0 1 2 1 ∷ way_of 0 1 0 0 ∷ []) (1250 ∷ 2500 ∷ [])
     ∷ day_sheet true [] (replicate 192 7) labels cames is
     (line (bytes "border;from;to;sending hub;receiving hub;h1;h2;h3") ++ line (bytes "rounds;;;;;X;21;E 2 1 0") ++ line (bytes "profile;;;;;X;day-ahead;E 2 1 0")

@@ -143,8 +143,13 @@ fn answered(
     requires { (k < hours_most) × (length ways.old ≡ hours_most * borders_most) × (length atcs.old ≡ hours_most * borders_most) }
 {
     let hour = hourtables::keep(marks, text, k, ways, atcs);
-    if let Hour::Refused(w) = hour {
-        let ended = Ended::Refused(w.number() as u64, w.place() as u64, w.byte() as u64);
+    if let Hour::Refused {
+        number,
+        place,
+        byte,
+    } = hour
+    {
+        let ended = Ended::Refused(number, place, byte);
         telling::explain(sys, label::label_of(name), ended, text, b"");
     }
     Came {

@@ -5,7 +5,6 @@ use mathlib.Core.List.{List, [], ◌∷◌, ◌++◌}
 use Prim.Native.Nat.{ℕ, zero, suc}
 use Rattle.numbers.specs.Computed.{◌is◌, Hold}
 use Rattle.text.specs.Written.{text_of, decimal, lines_text}
-use Rattle.refusals.specs.Refusals.{wrong_form_at}
 use Rattle.daysheet.specs.declared.Hour.{Hour}
 use Rattle.daysheet.specs.declared.Hour.TheVariants.{Answered, Refused, Unread}
 use Rattle.daysheet.specs.Cell.{bytes}
@@ -35,7 +34,7 @@ atcs = filled 64 (3233 ∷ 1424 ∷ 2007 ∷ 4088 ∷ 1629 ∷ [])
 
 -- h07 has a cable from zone 0's hub to zone 1's, and another border; h08 is intraday; h09 is refused
 abbrev mixed : List Hour
-mixed = h06 ∷ answered 22 2 false ∷ answered 1 3 true ∷ Refused (wrong_form_at 1 0) ∷ []
+mixed = h06 ∷ answered 22 2 false ∷ answered 1 3 true ∷ Refused 2 1 0 ∷ []
 
 abbrev cable : List ℕ
 cable = filled 64 (way_of 0 1 1 2 ∷ way_of 1 2 0 0 ∷ [])

@@ -3,8 +3,6 @@ use Rattle.std.specs.Prelude.{List, [] as nil, ◌∷◌ as ◌then◌, ◌++◌
 use Prim.Native.Char.{code}
 use Prim.Native.String.{String, [], ◌∷◌}
 use Rattle.text.specs.Written.{decimal}
-use Rattle.refusals.specs.declared.Refusal.{Refusal}
-use Rattle.refusals.specs.Refusals.{number_of, place_of, byte_of}
 use Rattle.daysheet.specs.declared.Own.{Own}
 use Rattle.daysheet.specs.declared.Own.TheVariants.{Number, DayAhead, Intraday, Absent, Other}
 
@@ -21,8 +19,8 @@ abbrev pub spaced : (n : ℕ) → List ℕ
 spaced n = blank then decimal n
 
 -- an E line: number, place and byte, with blanks for tabs
-abbrev pub refused_cell : Refusal → List ℕ
-refused_cell w = (code "E" then spaced (number_of w)) ++ spaced (place_of w) ++ spaced (byte_of w)
+abbrev pub refused_cell : (number place byte : ℕ) → List ℕ
+refused_cell number place byte = (code "E" then spaced number) ++ spaced place ++ spaced byte
 
 -- what an hour that is answered has there: a number, its profile, no such border, or a border between other zones or hubs
 abbrev pub own_text : Own → List ℕ

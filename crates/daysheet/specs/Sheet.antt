@@ -1,6 +1,6 @@
 -- A day as one sheet: semicolons, one line for each border, one column for each hour, whole MW. Contracts cite `cell_at` and `frontAt`; `sheet_text` is the whole.
 -- `ways` and `atcs` hold for each hour as many items as a table may have borders.
-use Rattle.std.specs.Prelude.{Bool, cond, List, [], ◌∷◌, ◌++◌, ℕ, ◌+◌, ◌*◌, ◌-◌, ◌/◌, ◌%◌, max, eqb, leb, ltb, length, get_or}
+use Rattle.std.specs.Prelude.{Bool, false, cond, List, [], ◌∷◌, ◌++◌, ℕ, ◌+◌, ◌*◌, ◌-◌, ◌/◌, ◌%◌, max, eqb, leb, ltb, length, get_or}
 use Rattle.std.specs.Option.{unwrap_or}
 use Rattle.std.specs.List.{position}
 use Prim.Native.Char.{code}
@@ -35,7 +35,7 @@ own_of (Border b) answer way name atc = cond (leb answer.borders b) Absent (cond
 -- the cell of an hour in a line, behind its semicolon: a refused hour has its E line in every one, an unread one X
 unfoldable pub line_cell : Line → Hour → (way name atc : ℕ) → List ℕ
 line_cell line (Answered answer) way name atc = code ";" ∷ own_text (own_of line answer way name atc)
-line_cell line (Refused w) way name atc = code ";" ∷ refused_cell w
+line_cell line (Refused number place byte) way name atc = code ";" ∷ refused_cell number place byte
 line_cell line Unread way name atc = code ";" ∷ bytes "X"
 
 -- the border that a line is of; those above are of none, and look at border 0's items for nothing
@@ -51,7 +51,7 @@ place k b = k * borders_most + b
 -- how many borders an hour has that is answered
 abbrev pub borders_of : Hour → ℕ
 borders_of (Answered answer) = answer.borders
-borders_of (Refused w) = 0
+borders_of (Refused number place byte) = 0
 borders_of Unread = 0
 
 -- an hour is answered, and has a border of that index
@@ -66,10 +66,14 @@ first_with b hours = unwrap_or (position (has_border b) hours) (length hours)
 abbrev pub name_of : (b : ℕ) → (hours : List Hour) → (ways : List ℕ) → ℕ
 name_of b hours ways = at ways (place (first_with b hours) b)
 
+-- what stands past the last hour: an answered one without rounds and borders, day-ahead
+abbrev pub past : Hour
+past = Answered (record { rounds = 0; borders = 0; intraday = false })
+
 -- the cell of hour k
 abbrev pub cell_at : Line → (hours : List Hour) → (ways atcs : List ℕ) → (k : ℕ) → List ℕ
 cell_at line hours ways atcs k =
-    line_cell line (get_or hours k Unread) (at ways (place k (border_of line))) (name_of (border_of line) hours ways) (at atcs (place k (border_of line)))
+    line_cell line (get_or hours k past) (at ways (place k (border_of line))) (name_of (border_of line) hours ways) (at atcs (place k (border_of line)))
 
 -- a field of a line's front; a hub's is empty where there is none
 abbrev pub field : (n : ℕ) → List ℕ

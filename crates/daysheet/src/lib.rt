@@ -12,8 +12,6 @@ ghost use Rattle.output.specs.Buffer.{Printed};
 ghost use Rattle.daysheet.specs.Cell.{refused_cell, own_text};
 ghost use Rattle.daysheet.specs.Sheet.{hours_most, place, border_of, name_of, cell_at, own_of, line_cell, hub_field, border_front, front_text, has_border};
 
-use refusals::Refusal;
-
 // What an hour that is answered came to.
 #[derive(Clone, Copy)]
 pub struct Answer {
@@ -26,7 +24,7 @@ pub struct Answer {
 #[derive(Clone, Copy)]
 pub enum Hour {
     Answered(Answer),
-    Refused(Refusal),
+    Refused { number: u64, place: u64, byte: u64 },
     Unread,
 }
 
@@ -164,7 +162,11 @@ fn put_line_cell(line: Line, hour: Hour, way: u64, name: u64, atc: u64, out: &mu
     let at = text::put::put_byte(b';', out, 0);
     match hour {
         Hour::Answered(answer) => put_own(own_of(line, answer, way, name, atc), out, at),
-        Hour::Refused(w) => put_refused(w, out, at),
+        Hour::Refused {
+            number,
+            place,
+            byte,
+        } => put_refused(number, place, byte, out, at),
         Hour::Unread => text::put::put_byte(b'X', out, at),
     }
 }
@@ -196,14 +198,14 @@ fn put_own(own: Own, out: &mut [u8], at: usize) -> usize
 }
 
 // An E line, with blanks for tabs.
-fn put_refused(w: Refusal, out: &mut [u8], at: usize) -> usize
+fn put_refused(number: u64, place: u64, byte: u64, out: &mut [u8], at: usize) -> usize
     requires { at + 64 ≤ length out.old }
-    ensures { Put (refused_cell w) at out.old result out.new }
+    ensures { Put (refused_cell number place byte) at out.old result out.new }
 {
     let next = text::put::put_byte(b'E', out, at);
-    let next = put_behind(b' ', w.number() as u64, out, next);
-    let next = put_behind(b' ', w.place() as u64, out, next);
-    put_behind(b' ', w.byte() as u64, out, next)
+    let next = put_behind(b' ', number, out, next);
+    let next = put_behind(b' ', place, out, next);
+    put_behind(b' ', byte, out, next)
 }
 
 // A number behind the byte that parts it from what stands before.

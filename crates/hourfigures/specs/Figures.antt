@@ -1,10 +1,9 @@
 -- The figures of an hour for a day's sheet: what came of it, where each of its borders goes, and each ATC. `found_in`, `figures_by` and `kept_of` are what contracts cite.
-use Rattle.std.specs.Prelude.{List, [], ℕ, ◌*◌, ℤ, take, Err, Ok}
+use Rattle.std.specs.Prelude.{not, List, [], ℕ, ◌*◌, ℤ, eqb, take, Err, Ok}
 use Rattle.limits.specs.Limits.{borders_most}
 use Rattle.refusals.specs.declared.Refusal.{Refusal}
-use Rattle.refusals.specs.Refusals.{Judged, either}
+use Rattle.refusals.specs.Refusals.{Judged, either, number_of, place_of, byte_of}
 use Rattle.types.specs.declared.Header.{Header}
-use Rattle.types.specs.Ranges.{is_intraday}
 use Rattle.daysheet.specs.declared.Hour.{Hour}
 use Rattle.daysheet.specs.declared.Hour.TheVariants.{Answered, Refused, Unread}
 use Rattle.hourfigures.specs.Items.{ways_of, atcs_of, pasted}
@@ -28,12 +27,12 @@ pub record Figures : Type 0 where
 abbrev pub figures : Hour → (ways atcs : List ℕ) → Figures
 figures hour ways atcs = record { hour = hour; ways = ways; atcs = atcs }
 
--- only an hour that is answered has items
+-- only an hour that is answered has items; it is intraday where its header's mark is not 0
 abbrev pub answered_hour : Header → (borders : List (List ℤ)) → Found → Figures
-answered_hour h borders found = figures (Answered (record { rounds = found.rounds; borders = h.borders; intraday = is_intraday h })) (ways_of borders) found.atcs
+answered_hour h borders found = figures (Answered (record { rounds = found.rounds; borders = h.borders; intraday = not (eqb h.intraday 0) })) (ways_of borders) found.atcs
 
 abbrev pub refused_hour : Refusal → Figures
-refused_hour w = figures (Refused w) [] []
+refused_hour w = figures (Refused (number_of w) (place_of w) (byte_of w)) [] []
 
 abbrev pub unread_hour : Figures
 unread_hour = figures Unread [] []

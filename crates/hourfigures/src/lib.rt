@@ -40,9 +40,13 @@ pub fn store(
             Hour::Answered(Answer {
                 rounds,
                 borders,
-                intraday: h.is_intraday(),
+                intraday: h.intraday != 0,
             })
         }
-        Err(w) => Hour::Refused(w),
+        Err(w) => Hour::Refused {
+            number: w.number() as u64,
+            place: w.place() as u64,
+            byte: w.byte() as u64,
+        },
     }
 }

@@ -120,8 +120,13 @@ fn keep_hour(
     ensures { figures result ways.new atcs.new ≡ kept_of (hour_of (every marks.entry) (listed marks.entry) text.now) k ways.old atcs.old }
 {
     let hour = hourtables::keep(marks, text, k, ways, atcs);
-    if let Hour::Refused(w) = hour {
-        let ended = Ended::Refused(w.number() as u64, w.place() as u64, w.byte() as u64);
+    if let Hour::Refused {
+        number,
+        place,
+        byte,
+    } = hour
+    {
+        let ended = Ended::Refused(number, place, byte);
         telling::explain(sys, label::label_of(name), ended, text, b"");
     }
     hour

@@ -75,7 +75,11 @@ fn keep_in(
             );
             hourfigures::store(h, b, extracted, atc, k, ways, atcs)
         }
-        Err(w) => Hour::Refused(w),
+        Err(w) => Hour::Refused {
+            number: w.number() as u64,
+            place: w.place() as u64,
+            byte: w.byte() as u64,
+        },
     }
 }
 

@@ -70,7 +70,7 @@ pub fn refusal_line(w: Refusal, out: &mut [u8]) -> usize
     requires { refusal_most ≤ length out.old }
     ensures { Printed result (refusal_text w) out.new }
 {
-    bytes_of(result::refusal::write_refusal(w, out))
+    bytes_of(result::refusal::write_refusal(w.number(), w.place(), w.byte(), out))
 }
 
 fn bytes_of(said: Result<usize, Refusal>) -> usize

@@ -38,9 +38,16 @@ pub fn heard(mut r: Figures, came: Hour, bound: u64) -> Figures {
             r[ROUNDS_AT] = pagebars::place(answer.rounds, bound.max(1), UNITS);
             r
         }
-        Hour::Refused(w) => {
+        Hour::Refused {
+            number,
+            place,
+            byte,
+        } => {
             r[REFUSED] = 1;
-            hour::refused(r, w)
+            r[hour::NUMBER] = number;
+            r[hour::PLACE] = place;
+            r[hour::BYTE] = byte;
+            r
         }
         Hour::Unread => {
             r[UNREAD] = 1;

@@ -21,7 +21,7 @@ use Rattle.text.proofs.WrittenLaws.{decimal_long}
 use Rattle.text.proofs.PutLaws.{tabbed_length, tabbed_empty, line_length_lem, put_more}
 use Rattle.columns.specs.declared.Head.{Head}
 use Rattle.columns.specs.ColumnText.{field_text, fields_length, line_length}
-use Rattle.result.specs.Refusal.{refusal_text, refusal_most}
+use Rattle.result.specs.Refusal.{refusal_line, refusal_text, refusal_most}
 use Rattle.result.specs.Records.{atc_columns, margin_columns, ResultColumns, record_length, rounds_line, atc_lines, margin_lines, records_text, result_line_most}
 
 -- ---- the lengths of lines
@@ -36,12 +36,16 @@ pub rounds_length : (rounds : ℕ) → 3 + length (decimal rounds) ≡ length (r
 rounds_length rounds = one-length 82 (decimal rounds)
 
 -- ---- the E line
-pub refusal_length : (w : Refusal) → 5 + length (decimal (number_of w)) + length (decimal (place_of w)) + length (decimal (byte_of w)) ≡ length (refusal_text w)
-unfolding refusal_text
-refusal_length w = three-length 69 (decimal (number_of w)) (decimal (place_of w)) (decimal (byte_of w))
+pub refusal_length : (n place byte : ℕ) → 5 + length (decimal n) + length (decimal place) + length (decimal byte) ≡ length (refusal_line n place byte)
+refusal_length n place byte = three-length 69 (decimal n) (decimal place) (decimal byte)
 
-pub refusal_most_lem : (w : Refusal) → number_of w < 2 ^ 32 → place_of w < 2 ^ 64 → byte_of w < 2 ^ 64 → length (refusal_text w) ≤ refusal_most
-refusal_most_lem w h k l = omega (arith, refusal_length w, decimal_long 9 (number_of w) (omega (arith, h)), decimal_u64 (place_of w) k, decimal_u64 (byte_of w) l)
+pub refusal_most_lem : (n place byte : ℕ) → n < 2 ^ 32 → place < 2 ^ 64 → byte < 2 ^ 64 → length (refusal_line n place byte) ≤ refusal_most
+refusal_most_lem n place byte h k l = omega (arith, refusal_length n place byte, decimal_long 9 n (omega (arith, h)), decimal_u64 place k, decimal_u64 byte l)
+
+-- the line of a refusal's three numbers is its text
+pub refusal_as : (w : Refusal) {n place byte : ℕ} → n ≡ number_of w → place ≡ place_of w → byte ≡ byte_of w → refusal_line n place byte ≡ refusal_text w
+unfolding refusal_text
+refusal_as w h k l = rw (h, k, l)
 
 -- ---- lines of 64-bit numbers
 -- three columns look at three numbers

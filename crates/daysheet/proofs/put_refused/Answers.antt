@@ -4,4 +4,4 @@ use Rattle.text.proofs.PutLaws.{put_more}
 use Rattle.daysheet.proofs.put_refused.Goals as goal
 
 pub returns : goal.returns
-returns c = put_more (put_more (put_more c.put_byte-next.ensures (omega (arith, c.requires)) (rw c.number.ensures at c.put_behind-next.ensures.put)) (omega (arith, c.requires)) (rw c.place.ensures at c.put_behind-next-2.ensures.put)) (omega (arith, c.requires)) (rw c.byte.ensures at c.put_behind.ensures.put)
+returns c = put_more (put_more (put_more c.put_byte-next.ensures (omega (arith, c.requires)) c.put_behind-next.ensures.put) (omega (arith, c.requires)) c.put_behind-next-2.ensures.put) (omega (arith, c.requires)) c.put_behind.ensures.put

@@ -1,5 +1,5 @@
 -- `hourfigures::store` meets its contract: the laws `store-answered` and `store-refused`.
-use mathlib.Core.Path.{sym}
+use mathlib.Core.Path.{refl, sym}
 use Prim.Native.Nat.{◌≤◌}
 use native.Mathlib.Omega.{arith}
 use lib.ListN.{length}
@@ -24,7 +24,7 @@ keep_atcs-requires c = let few = (header_in_lem _ c.requires.h_value.0).borders_
 
 pub returns-in-Ok : goal.returns-in-Ok
 returns-in-Ok c = store_answered c.args.k c.args.ways.now c.args.atcs.now c.args.h _ c.args.extracted c.args.atc.now _
-    c.in-Ok.is c.is_intraday.ensures c.keep_ways.ensures c.keep_atcs.ensures
+    c.in-Ok.is refl c.keep_ways.ensures c.keep_atcs.ensures
 
 pub returns-in-Err : goal.returns-in-Err
-returns-in-Err c = store_refused c.args.k c.args.ways.now c.args.atcs.now c.args.h _ c.args.extracted c.args.atc.now _ c.in-Err.is
+returns-in-Err c = rw (c.number.ensures, c.place.ensures, c.byte.ensures) (store_refused c.args.k c.args.ways.now c.args.atcs.now c.args.h _ c.args.extracted c.args.atc.now _ c.in-Err.is)

@@ -19,5 +19,5 @@ returns-in-Ok c = read_kept c.args.k c.args.ways.now c.args.atcs.now (every c.ar
     c.extract-extracted.ensures c.store.ensures
 
 pub returns-in-Err : goal.returns-in-Err
-returns-in-Err c = read_refused c.args.k c.args.ways.now c.args.atcs.now (every c.args.marks) (listed c.args.marks) c.args.text.now _
-    (into_refused c.args.text.now [] c.read_into.result _ _ _ _ _ c.read_into.ensures c.in-Err.is)
+returns-in-Err c = rw (c.number.ensures, c.place.ensures, c.byte.ensures) (read_refused c.args.k c.args.ways.now c.args.atcs.now (every c.args.marks) (listed c.args.marks) c.args.text.now _
+    (into_refused c.args.text.now [] c.read_into.result _ _ _ _ _ c.read_into.ensures c.in-Err.is))
