@@ -124,21 +124,31 @@ fn compare(sys: &System, was: Lines, is: Lines) -> bool {
     let Some(kind) = is.kind() else {
         return true;
     };
+    // Each is looked for once, and not for each field.
+    let was_line = was.line();
+    let is_line = is.line();
     let mut good = true;
     for j in 1..FIELDS_MOST {
-        good &= compare_field(sys, was, is, kind, j);
+        good &= compare_field(sys, was_line, is_line, is, kind, j);
     }
     good
 }
 
 // Where one table has more zones, its rows have more factors: the first line tells that.
-fn compare_field(sys: &System, was: Lines, is: Lines, kind: LineKind, j: usize) -> bool {
+fn compare_field(
+    sys: &System,
+    was_line: &[u8],
+    is_line: &[u8],
+    is: Lines,
+    kind: LineKind,
+    j: usize,
+) -> bool {
     if kind == LineKind::Border && HUBS < j {
         return true;
     }
     let hubs = kind == LineKind::Border && j == HUBS;
-    let a = field(was.line(), j, hubs);
-    let b = field(is.line(), j, hubs);
+    let a = field(was_line, j, hubs);
+    let b = field(is_line, j, hubs);
     if a == b || kind == LineKind::Row && (a.is_empty() || b.is_empty()) {
         return true;
     }

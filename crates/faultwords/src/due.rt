@@ -3,7 +3,7 @@ ghost use Rattle.std.specs.Prelude.{◌≤◌};
 ghost use Rattle.io.specs.Counts.{IsPrefixLen};
 
 use crate::Blamed;
-use crate::words::{self, Words};
+use crate::words::{self, Count, Words};
 use arguments::lists;
 use fieldnames::LineKind;
 
@@ -114,10 +114,10 @@ pub fn put(of: Blamed, number: u64, table: &[u8], text: &[u8], out: &mut [u8], a
     }
     let from = lists::begin(text, line as usize, b'\n');
     if from == text.len() {
-        return words::put(missing(of), &[number, due.lines], out, at);
+        return words::put_count(missing(of), number, due.lines, out, at);
     }
     let Some(kind) = due.kind else {
-        return words::put(extra(of), &[number, due.lines], out, at);
+        return words::put_count(extra(of), number, due.lines, out, at);
     };
     let row = lists::piece(text, line as usize, b'\n');
     if let Some(wrong) = shape(of, kind.letter(), row) {
@@ -134,17 +134,17 @@ pub fn put(of: Blamed, number: u64, table: &[u8], text: &[u8], out: &mut [u8], a
     put_count(kind, due.zones, number, out, at)
 }
 
-fn missing(of: Blamed) -> Words {
+fn missing(of: Blamed) -> Count {
     match of {
-        Blamed::Table => Words::Missing,
-        _ => Words::RowMissing,
+        Blamed::Table => Count::Missing,
+        _ => Count::RowMissing,
     }
 }
 
-fn extra(of: Blamed) -> Words {
+fn extra(of: Blamed) -> Count {
     match of {
-        Blamed::Table => Words::Extra,
-        _ => Words::RowExtra,
+        Blamed::Table => Count::Extra,
+        _ => Count::RowExtra,
     }
 }
 

@@ -1,14 +1,17 @@
 // A byte that is blamed: the field that it stands in, what it is, and what is wanted there.
+ghost use Rattle.std.specs.Prelude.{◌≤◌, length};
 ghost use Rattle.io.specs.Counts.{IsPrefixLen};
 
 use crate::Blamed;
 use crate::due::Due;
-use crate::words::{self, Words};
+use crate::words::{self, Found, Wanted, Words};
 use arguments::lists;
 use fieldnames::{Field, Name};
 
 // Which field of the line the byte stands in.
-fn field_of(line: &[u8], stop: u8, place: usize) -> usize {
+fn field_of(line: &[u8], stop: u8, place: usize) -> usize
+    ensures { result ≤ length line.now }
+{
     line.iter().take(place).filter(|b| **b == stop).count()
 }
 
@@ -84,7 +87,7 @@ fn put_form(of: Blamed, name: Name, byte: u8, out: &mut [u8], at: usize) -> usiz
 {
     let whole = of.is_lettered();
     let next = put_found(byte, of.separator(), out, at);
-    let next = words::put(wanted(name, whole), &[], out, next);
+    let next = words::put_wanted(wanted(name, whole), out, next);
     match byte {
         b' ' | b'\r' | b'"' => words::put(Words::Tidy, &[], out, next),
         // A comma is written for a point where numbers have one.
@@ -97,8 +100,8 @@ fn put_found(byte: u8, stop: u8, out: &mut [u8], at: usize) -> usize
     ensures { IsPrefixLen result out.new }
 {
     let found = found(byte, stop);
-    let next = words::put(found, &[byte as u64], out, at);
-    if found == Words::Shown {
+    let next = words::put_found(found, byte, out, at);
+    if found == Found::Shown {
         let next = forms::put_byte(byte, out, next);
         return forms::put_byte(b'\'', out, next);
     }
@@ -106,33 +109,33 @@ fn put_found(byte: u8, stop: u8, out: &mut [u8], at: usize) -> usize
 }
 
 // Which of the words say what a byte is. A line without its LF ends with none: 0 stands for that.
-fn found(byte: u8, stop: u8) -> Words {
+fn found(byte: u8, stop: u8) -> Found {
     match byte {
-        _ if byte == stop => Words::FieldEnd,
-        b' ' => Words::Blank,
-        b'\r' => Words::Cr,
-        b',' => Words::Comma,
-        b'.' => Words::Point,
-        b';' => Words::Semicolon,
-        b'"' => Words::Quote,
-        b'+' => Words::Plus,
-        b'-' => Words::Minus,
-        0 | b'\n' => Words::FieldEnd,
-        b'0'..=b'9' => Words::Digit,
-        33..=126 => Words::Shown,
-        _ => Words::Hidden,
+        _ if byte == stop => Found::FieldEnd,
+        b' ' => Found::Blank,
+        b'\r' => Found::Cr,
+        b',' => Found::Comma,
+        b'.' => Found::Point,
+        b';' => Found::Semicolon,
+        b'"' => Found::Quote,
+        b'+' => Found::Plus,
+        b'-' => Found::Minus,
+        0 | b'\n' => Found::FieldEnd,
+        b'0'..=b'9' => Found::Digit,
+        33..=126 => Found::Shown,
+        _ => Found::Hidden,
     }
 }
 
 // Which of the words say what a field holds.
-fn wanted(name: Name, whole: bool) -> Words {
+fn wanted(name: Name, whole: bool) -> Wanted {
     match name {
-        Name::R => Words::ROrNone,
-        Name::Factor if !whole => Words::Factor,
+        Name::R => Wanted::ROrNone,
+        Name::Factor if !whole => Wanted::Factor,
         Name::Fmax | Name::Frm | Name::Fref | Name::F0all | Name::Cva | Name::Iva if !whole => {
-            Words::Power
+            Wanted::Power
         }
-        _ if is_signed(name) => Words::SignedDigits,
-        _ => Words::Digits,
+        _ if is_signed(name) => Wanted::SignedDigits,
+        _ => Wanted::Digits,
     }
 }

@@ -13,10 +13,6 @@ pub enum Words {
     Utf16,
     Bom,
     Empty,
-    Missing,
-    Extra,
-    RowMissing,
-    RowExtra,
     NoLf,
     Headings,
     Quoted,
@@ -32,7 +28,22 @@ pub enum Words {
     IndexDue,
     IndexRises,
     Range,
-    // what was found
+    Tidy,
+    WritePoint,
+}
+
+// What is wrong with the number of lines, in the order of the list in `put_count`.
+#[derive(Clone, Copy)]
+pub enum Count {
+    Missing,
+    Extra,
+    RowMissing,
+    RowExtra,
+}
+
+// What a byte is, in the order of the list in `put_found`.
+#[derive(Clone, Copy, PartialEq, Eq)]
+pub enum Found {
     Blank,
     Cr,
     Comma,
@@ -45,14 +56,16 @@ pub enum Words {
     Digit,
     Shown,
     Hidden,
-    // what is wanted
+}
+
+// What a field holds, in the order of the list in `put_wanted`.
+#[derive(Clone, Copy)]
+pub enum Wanted {
     Digits,
     SignedDigits,
     ROrNone,
     Power,
     Factor,
-    Tidy,
-    WritePoint,
 }
 
 // The words, with their figures.
@@ -67,10 +80,6 @@ pub fn put(words: Words, figures: &[u64], out: &mut [u8], at: usize) -> usize
         the text is UTF-16: save it as plain text (UTF-8)\n\
         line 1 begins with a BOM, three bytes that an editor put there: keravnoth tidy takes them out\n\
         the text is empty\n\
-        line $0 is missing: by its H line the table has $0 lines, and the text ends before\n\
-        this is line $0 of a table of $0, by its H line: nothing may follow\n\
-        line $0 is missing: the table has $0 rows, and so has its sheet\n\
-        this is line $0 of a sheet for $0 rows: nothing may follow\n\
         line $0, the last, does not end with LF: keravnoth tidy puts it there\n\
         line $0 is a row of headings: take it out\n\
         line $0 begins with a quote: keravnoth tidy takes quotes out\n\
@@ -86,7 +95,37 @@ pub fn put(words: Words, figures: &[u64], out: &mut [u8], at: usize) -> usize
         $0 is due here, the line's own index\n\
         an index is due that is above the one before, and that a row of the table has\n\
         outside its range, which is \n\
-        a blank\n\
+        : keravnoth tidy takes it out\n\
+        : write a point\n",
+        words as usize,
+        figures,
+        out,
+        at,
+    )
+}
+
+// A line that is missing or extra, of so many.
+pub fn put_count(count: Count, line: u64, lines: u64, out: &mut [u8], at: usize) -> usize
+    ensures { IsPrefixLen result out.new }
+{
+    forms::put(
+        b"line $0 is missing: by its H line the table has $0 lines, and the text ends before\n\
+        this is line $0 of a table of $0, by its H line: nothing may follow\n\
+        line $0 is missing: the table has $0 rows, and so has its sheet\n\
+        this is line $0 of a sheet for $0 rows: nothing may follow\n",
+        count as usize,
+        &[line, lines],
+        out,
+        at,
+    )
+}
+
+// What a byte is; one that no text has by its number.
+pub fn put_found(found: Found, byte: u8, out: &mut [u8], at: usize) -> usize
+    ensures { IsPrefixLen result out.new }
+{
+    forms::put(
+        b"a blank\n\
         a CR\n\
         a comma\n\
         a point\n\
@@ -97,16 +136,25 @@ pub fn put(words: Words, figures: &[u64], out: &mut [u8], at: usize) -> usize
         the field ends\n\
         a digit too many, or one behind a leading zero\n\
         '\n\
-        byte $0, which no text has\n\
-        ; a number is digits only\n\
+        byte $0, which no text has\n",
+        found as usize,
+        &[byte as u64],
+        out,
+        at,
+    )
+}
+
+pub fn put_wanted(wanted: Wanted, out: &mut [u8], at: usize) -> usize
+    ensures { IsPrefixLen result out.new }
+{
+    forms::put(
+        b"; a number is digits only\n\
         ; a number is digits only, with a minus before one below 0\n\
         ; R is a number, or - alone\n\
         ; a power is in MW, with a point and three decimals\n\
-        ; a factor has a point and five decimals\n\
-        : keravnoth tidy takes it out\n\
-        : write a point\n",
-        words as usize,
-        figures,
+        ; a factor has a point and five decimals\n",
+        wanted as usize,
+        &[],
         out,
         at,
     )
