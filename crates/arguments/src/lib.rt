@@ -42,7 +42,8 @@ impl Piece {
         tail(&room[..n], self.from)
     }
 
-    // Whether it is the name of standard input.
+    // Whether it is the name of standard input. Not taken into its caller, whose stack would have the room for an argument beside its own while it runs on.
+    #[inline(never)]
     pub fn is_standard_input(self, sys: &System) -> bool {
         let mut own = room();
         matches!(self.read(sys, &mut own), b"-")

@@ -273,7 +273,8 @@ pub fn complete(
         return;
     }
     let borders = h.borders;
-    let every = marks::chosen(None);
+    // Made here, and not by `marks::chosen`, whose copy of it would stand on this call's stack too.
+    let every: [u64; limits::BORDERS_MOST] = [1; limits::BORDERS_MOST];
     fill_grid(h, b, f, &every[..borders], states, p);
 }
 
