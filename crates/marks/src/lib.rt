@@ -72,7 +72,8 @@ pub fn chosen(marks: Option<&[u64]>) -> [u64; limits::BORDERS_MOST]
     flags
 }
 
-fn choose(marks: Option<&[u64]>, flags: &mut [u64])
+// The same into what is lent: a caller that makes room for it spares the copy of an answer.
+pub fn choose(marks: Option<&[u64]>, flags: &mut [u64])
     ensures { flags.new ≡ flags_of (length flags.old) (every marks.entry) (listed marks.entry) }
 {
     for b in 0..flags.len() {

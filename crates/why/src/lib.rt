@@ -68,7 +68,8 @@ pub fn why_good(
     if borders as u64 <= border {
         return Err(Refusal::NoBorder(borders));
     }
-    let flags = marks::chosen(marks);
+    let mut flags: [u64; limits::BORDERS_MOST] = [0; limits::BORDERS_MOST];
+    marks::choose(marks, &mut flags);
     let n = view.header.rows;
     let cells = n * borders;
     let mut rams: [i64; limits::ROWS_MOST] = [0; limits::ROWS_MOST];

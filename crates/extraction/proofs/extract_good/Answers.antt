@@ -5,11 +5,9 @@ use mathlib.Core.Path.{◌≡◌, refl, sym, ◌∙◌}
 use Prim.Native.Nat.{◌*◌}
 use native.Mathlib.Omega.{arith}
 use borrow.Author.Rules.{rules}
-use lib.ListN.{take}
 use lib.Seq.{length-take-le}
 use Rattle.marks.specs.Marks.{every, listed}
 use Rattle.types.proofs.RangeLaws.{header_in_lem}
-use Rattle.marks.specs.Marks.{flagged}
 use Rattle.tablerules.specs.Table.{Table, lent_view, front}
 use Rattle.extractrules.proofs.ExtractLaws.{front_left}
 use Rattle.extractrules.proofs.LentLaws.{marks_refused, marks_passed}
@@ -73,5 +71,5 @@ extract_in-requires c = let rows = (header_in_lem _ c.requires.good.exact.header
 
 pub returns : goal.returns
 returns c = let whole : Table = front (lent_view c.args.view.now) in
-    front_left (flagged (take c.args.view.now.header.borders c.chosen-flags.result)) (whole) (c.args.view.now.header.rows * c.args.view.now.header.borders) refl c.args.p.now c.requires.borders_in_bounds c.args.atc.now c.args.left.now c.extract_in.ensures
-    ∙ marks_passed (every c.args.marks) (listed c.args.marks) (whole) c.args.p.now c.args.atc.now c.args.left.now _ c.judge_asked.ensures c.in_ok-judge_asked.was (header_in_lem _ c.requires.good.exact.header).borders_most_lem c.chosen-flags.ensures
+    front_left _ (whole) (c.args.view.now.header.rows * c.args.view.now.header.borders) refl c.args.p.now c.requires.borders_in_bounds c.args.atc.now c.args.left.now c.extract_in.ensures
+    ∙ marks_passed (every c.args.marks) (listed c.args.marks) (whole) c.args.p.now c.args.atc.now c.args.left.now _ c.judge_asked.ensures c.in_ok-judge_asked.was (header_in_lem _ c.requires.good.exact.header).borders_most_lem c.choose.ensures

@@ -69,4 +69,4 @@ pub returns : goal.returns
 returns c = let whole : Table = front (lent_view c.args.view.now) in
     front_left _ _ _ _ refl c.args.p.now c.requires.borders_in_bounds _ _ c.why_in.ensures
     ∙ ap (λ (j : Judged Why). judged_left j c.args.p.now c.args.ends.now c.args.rows.now)
-    (for_passed (every c.args.marks) (listed c.args.marks) (whole) c.args.border _ c.judge_asked.ensures c.in_ok-judge_asked.was c.if-borders-border.false (header_in_lem _ c.requires.good.exact.header).borders_most_lem c.chosen-flags.ensures)
+    (for_passed (every c.args.marks) (listed c.args.marks) (whole) c.args.border _ c.judge_asked.ensures c.in_ok-judge_asked.was c.if-borders-border.false (header_in_lem _ c.requires.good.exact.header).borders_most_lem c.choose.ensures)
